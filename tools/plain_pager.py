@@ -541,7 +541,8 @@ class Pager(Loads):
         return self.storage.store(blob)
 
     def flush(self):
-        """The storage has nothing to do."""
+        """The storage has nothing to do, but it is called."""
+        self.storage.called()
 
     def reserve(self, count):
         """There is room for any number."""

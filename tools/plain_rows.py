@@ -15,7 +15,7 @@ sys.dont_write_bytecode = True
 from plain_pager import CALLER, LOOSE_UNPINNED, Begun, Blob, Needs, Pager, Refused, Storage, Value, mode_of, modes_of, type_of
 
 
-# The type of lists of references, beside the two of texts.
+# The first type of lists of references, beside the two of texts.
 GROUPS = 2
 
 
@@ -64,7 +64,7 @@ class Rows:
         return others + [self.value(node_type, words[numbers])]
 
     def value(self, node_type, content):
-        if node_type != GROUPS:
+        if node_type < GROUPS:
             return Value(node_type, content)
         return Value(node_type, "references", [self.reference(*map(int, word.split(":"))) for word in content.split(",") if word])
 

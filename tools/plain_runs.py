@@ -1,7 +1,8 @@
 #!/usr/bin/env python3
 """Runs of calls over values with references, each with the answers of another model, held against a plain pager.
 
-    plain_runs.py FILE     tells the first difference of each run, how many runs and steps were alike, and of which calls
+    plain_runs.py FILE           tells the first difference of each run, how many runs and steps were alike, and of which calls
+    plain_runs.py FILE rows N..  prints the calls that the runs of these numbers come to as rows for plain_rows.py, each with a look at its end
 
 Each line of the file is a run: a JSON object with steps, and what each step answers and leaves. Handles have names there. Page-out
 is no call of the pager's; it is done here, by one walk, so that what comes after it stands over the same store.
@@ -146,11 +147,53 @@ def page_out_pending(machine):
             walk.node(kind, entry, 0)
 
 
+class Told:
+    """A pager that keeps what it is called for as calls of rows. Types have other numbers there; all but texts are lists of references.
+    Keys are told, but no blob: what is stored and read is not in the rows."""
+
+    TYPES = {RunTypes.TEXT: 0, RunTypes.LINK: 2, RunTypes.MIXED: 3, RunTypes.ARC_LINK: 4}
+    OF_KIND = {"cache_get": 0, "on_arc_deserialized": 0, "load_fetch": 1, "load_adopt": 1, "load_lazy": 1}
+    CALLS = (*OF_KIND, "new_loose", "new_pinned", "new_shared", "new_paged_out", "clone", "pin", "unpin", "release", "into_pagable", "set_data_key",
+             "schedule_for_paging", "take_pending", "cache_clear", "load_begin", "load_key", "load_end", "load_take", "close_load")
+
+    def __init__(self, pager):
+        self.pager, self.calls = pager, []
+
+    def __getattr__(self, name):
+        found = getattr(self.pager, name)
+        if name not in self.CALLS:
+            return found
+        def call(*words):
+            if name != "load_fetch" or len(words) > 1:
+                self.calls.append(" ".join([name.replace("close_load", "load_drop"), *self.spelled(name, list(words))]))
+            return found(*words)
+        return call
+
+    def spelled_kind(self, kind):
+        return 3 * self.TYPES[type_of(kind)] + kind % 3
+
+    def spelled(self, name, words):
+        if name in self.OF_KIND:
+            words[self.OF_KIND[name]] = self.spelled_kind(words[self.OF_KIND[name]])
+        if name == "new_paged_out":
+            words[0] = self.TYPES[words[0]]
+        if name == "load_key":
+            words = words[:1]
+        return [self.spelled_value(word) if isinstance(word, Value) else str(word) for word in words]
+
+    def spelled_value(self, value):
+        if value.node_type == RunTypes.TEXT:
+            return "0 " + "".join(filter(str.isalnum, value.content))
+        handles = self.pager.handles
+        references = [f"{self.spelled_kind(kind)}:{handles[n].node if n in handles else 0}:{n}" for kind, n in value.references]
+        return f"{self.TYPES[value.node_type]} {','.join(references)}".strip()
+
+
 class Run:
     """Answers the steps of one run. `numbers` has the handle of each name."""
 
     def __init__(self):
-        self.pager = Pager(Storage(key_of=sha_key))
+        self.pager = Told(Pager(Storage(key_of=sha_key)))
         self.machine, self.numbers = Machine(self.pager, RunTypes), {}
 
     def answer(self, step):
@@ -232,7 +275,28 @@ def first_difference(steps, alike):
     return None
 
 
+def rows_of(steps):
+    """The calls of a run's steps, some steps in a row, and a look at what they left."""
+    run, row = Run(), []
+    yield "machine"
+    for step in steps:
+        run.answer(step)
+        row += run.pager.calls
+        run.pager.calls = []
+        if len(row) > 9:
+            yield "; ".join(row)
+            row = []
+    if row:
+        yield "; ".join(row)
+    yield f"look {run.pager.last_handle}"
+
+
 def main(words):
+    if len(words) > 2 and words[1] == "rows":
+        with open(words[0], encoding="utf-8") as lines:
+            runs = [json.loads(line)["steps"] for line in lines]
+        print("\n".join(row for number in words[2:] for row in rows_of(runs[int(number) - 1])))
+        return
     if len(words) != 1:
         sys.exit(__doc__)
     alike, differ, runs = Counter(), 0, 0

@@ -34,7 +34,8 @@ while :; do
         tail -n 1 "$work/said" >>"$work/texts"
     else
         other=$((other + 1))
-        echo "request $number: status $status"
+        echo "request $number: status $status, and in place of what it prints else:"
+        diff <(echo "$wanted") <(echo "$found") | grep '^>'
     fi
     number=$((number + 1))
 done

@@ -8,8 +8,12 @@
 pub mod laws;
 pub mod paging;
 
-/// The numbers of cells and handles, and the references that values hold.
+/// The numbers of cells and handles, the references that values hold, and what the sorts of these have in common.
 pub mod arc_erase {
+    pub use pagable_arcs::{
+        ArcErase, ArcEraseType, OfKind, Refers, StdArcEraseType, deserialize_arc, read_reference,
+        references_of, write_reference,
+    };
     pub use pagable_model::{ArcRef, HandleNumber, Identity, Kind, NodeNumber};
 }
 
@@ -28,7 +32,7 @@ pub mod flavors {
 
 /// The carried types that aren't std's or those of a crate below.
 pub mod impls {
-    pub use pagable_patterns::SavedRegex;
+    pub use pagable_registries::SavedRegex;
     pub use pagable_registries::static_value::{
         HasStaticValueRegistry, StaticBytes, StaticStr, StaticValue, StaticValueEntry,
         StaticValueRegistry,
@@ -37,14 +41,18 @@ pub mod impls {
     pub use pagable_traits::{PathText, Thin, serialize_slice, serialize_str};
 }
 
-/// The pager, and the machine that takes lists of its calls.
+/// The pager, the machine that takes lists of events, and the references to shared values.
 pub mod pagable_arc {
     pub use crate::paging::read_value;
+    pub use pagable_arcs::{Arc, HoldingArc, PagableArc, PinnedPagableArc, PinnedPagableArcBorrow};
     pub use pagable_machine::Machine;
     pub use pagable_model::{LoadNumber, WorkerNumber};
     pub use pagable_pager::{ArcCell, DeserializedArcCache, Pager};
     pub use pagable_world::handles::Owner;
-    pub use pagable_world::{Beginning, Call, Found, Mode, Pinning, Reply, Want};
+    pub use pagable_world::{
+        Beginning, Call, Event, EventReply, Found, LoadAnswer, LoadReply, Mode, Pinning, Reply,
+        Want,
+    };
 }
 
 /// The parts of which the bodies of a caller's own types are made.
@@ -99,6 +107,11 @@ pub mod typetag {
 /// What a call of this crate answers: what it gives, or why it is refused.
 pub type Result<O> = std::result::Result<O, Error>;
 
+pub use pagable_arcs::{
+    Arc, ArcErase, ArcEraseType, HoldingArc, OfKind, PagableArc, PinnedPagableArc,
+    PinnedPagableArcBorrow, Refers, StdArcEraseType, deserialize_arc, read_reference,
+    references_of, write_reference,
+};
 pub use pagable_core::{
     InMemoryBlobs, NoReferences, PagableData, PagableDeserializerImpl, PagableKeys,
     PagableSerializerImpl, PagableStorage, References, SerializedData, SerializerForPaging,
@@ -110,11 +123,10 @@ pub use pagable_model::{
     ArcRef, HandleNumber, Identity, Kind, LoadNumber, NodeNumber, PagableCursor, WorkerNumber,
 };
 pub use pagable_pager::{ArcCell, DeserializedArcCache, Pager};
-pub use pagable_patterns::SavedRegex;
 pub use pagable_registries::{
     ForTag, HasStaticValueRegistry, HasTypetagRegistry, PagableRegisteredFor, PagableTagged,
-    StaticBytes, StaticStr, StaticValue, StaticValueEntry, StaticValueRegistry, TagReader,
-    TypetagRegistration, TypetagRegistry, deserialize_tagged,
+    SavedRegex, StaticBytes, StaticStr, StaticValue, StaticValueEntry, StaticValueRegistry,
+    TagReader, TypetagRegistration, TypetagRegistry, deserialize_tagged,
 };
 pub use pagable_traits::{
     Canonical, Carried, EagerlyCarried, Env, InNode, KeyHash, NodeSet, OfNode, OneMeaning, Pagable,
@@ -124,5 +136,7 @@ pub use pagable_traits::{
     serialize_slice, serialize_str,
 };
 pub use pagable_world::handles::Owner;
-pub use pagable_world::{Beginning, Call, Found, Mode, Pinning, Reply, Want};
+pub use pagable_world::{
+    Beginning, Call, Event, EventReply, Found, LoadAnswer, LoadReply, Mode, Pinning, Reply, Want,
+};
 pub use paging::read_value;

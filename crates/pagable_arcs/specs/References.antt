@@ -1,13 +1,20 @@
 -- References as values hold them: what they mean, and why they are read again and have one form.
-use Rattle.std.specs.Prelude.{ℕ, ◌*◌, ◌+◌}
+use Rattle.std.proofs.Common.{inl, inr, subst, sym}
+use Rattle.std.specs.Global.{Global}
+use Rattle.std.specs.Prelude.{◌≡◌, ◌⊎◌, String, refl, Bool, true, false, ℕ, ◌*◌, ◌+◌, List, codes}
 use Rattle.pagable_model.specs.Canonical.{IsCanonical, IsReadable, LiesIn}
+use Rattle.pagable_model.specs.Causes.{memory_is_own_reading}
 use Rattle.pagable_model.specs.Keyed.{throughout-alone}
 use Rattle.pagable_model.specs.Meaning.{Meaning}
 use Rattle.pagable_model.specs.Meaning as meanings
 use Rattle.pagable_model.specs.OneForm.{HasOneFormThroughout}
+use Rattle.pagable_model.specs.Refusals.{is_own_reading}
 use Rattle.pagable_model.specs.Shape.{Shape, reference}
+use Rattle.pagable_model.specs.declared.error.Error.{Error}
+use Rattle.pagable_model.specs.declared.error.Error.TheVariants as errors
 use Rattle.pagable_model.specs.declared.numbers.ArcRef.{ArcRef}
 use Rattle.pagable_traits.specs.ReadBack.{IsReadThroughout}
+use Rattle.pagable_arcs.specs.declared.holding.HoldingArc.{HoldingArc}
 use Rattle.pagable_arcs.specs.declared.loose.PagableArc.{PagableArc}
 
 -- the kind of loose references to values of the type number t
@@ -20,6 +27,29 @@ loose t a = record { kind = record { 0 = loose_kind t }; node = a.node; handle =
 
 abbrev pub loose_means : {T : Type 0} → ℕ → PagableArc T → Meaning ArcRef
 loose_means t a = meanings.reference (loose t a)
+
+-- and those that hold the value, of pins or of shared ones
+abbrev pub holding_kind : ℕ → Bool → ℕ
+holding_kind t true = 3 * t + 2
+holding_kind t false = 3 * t
+
+abbrev pub holding : {T : Type 0} {sort : ℕ} → ℕ → Bool → HoldingArc T sort → ArcRef
+holding t pins a = record { kind = record { 0 = holding_kind t pins }; node = a.node; handle = a.handle }
+
+abbrev pub holding_means : {T : Type 0} {sort : ℕ} → ℕ → Bool → HoldingArc T sort → Meaning ArcRef
+holding_means t pins a = meanings.reference (holding t pins a)
+
+abbrev pub holding_name : Bool → List ℕ
+holding_name true = codes "PinnedPagableArc"
+holding_name false = codes "Arc"
+
+-- a reference that holds its value may be refused for want of memory, and in words where no value of its type is lent
+abbrev pub unlent : Error → Type 0
+unlent e = (e ≡ errors.OutOfMemory) ⊎ ((text : String Global) × (e ≡ errors.Custom text))
+
+pub unlent_is_own : (e : Error) → unlent e → is_own_reading e ≡ true
+unlent_is_own e (inl h) = memory_is_own_reading e h
+unlent_is_own e (inr (text, h)) = let P : Error → Type 0 = λ x. is_own_reading x ≡ true in subst P (sym h) refl
 
 pub reference_is_read : (parts : ℕ → Shape) (kind : ℕ) → IsReadThroughout parts (reference kind)
 unfolding IsReadable LiesIn

@@ -7,9 +7,8 @@ ghost use Rattle.pagable_model.specs.Shape.{reference as reference_shape};
 ghost use Rattle.pagable_model.specs.Standing.{Is};
 ghost use Rattle.pagable_arcs.specs.References.{loose, loose_kind, loose_means, reference_is_read, reference_has_one_form};
 
-use crate::value_type::ValueType;
 use pagable_codec::{
-    ArcRef, Env, HandleNumber, Kind, NodeNumber, PagableDeserializer, PagableSerializer,
+    ArcRef, Env, HandleNumber, Kind, NodeNumber, OfNode, PagableDeserializer, PagableSerializer,
 };
 use pagable_flavors::Error;
 use pagable_traits::{
@@ -28,19 +27,19 @@ pub struct PagableArc<T> {
 }
 
 /// The kind of loose references to values of type `T`.
-pub fn loose_kind_of<E: Env, T: ValueType<E>>() -> Kind
-    ensures { result.0 ≡ loose_kind T.NUMBER }
+pub fn loose_kind_of<E: Env, T: OfNode<E>>() -> Kind
+    ensures { result.0 ≡ loose_kind T.TYPE }
 {
-    Kind(3 * T::NUMBER + 1)
+    Kind(3 * T::TYPE + 1)
 }
 
 impl<T> PagableArc<T> {
     /// The loose reference that this is, or None where it is of another kind.
     pub fn from_reference<E: Env>(reference: ArcRef) -> Option<PagableArc<T>>
     where
-        T: ValueType<E>,
-        ensures some { IfSome result (λ a. loose T.NUMBER a ≡ reference) }
-        ensures none { IfNone result (reference.kind.0 ≢ loose_kind T.NUMBER) }
+        T: OfNode<E>,
+        ensures some { IfSome result (λ a. loose T.TYPE a ≡ reference) }
+        ensures none { IfNone result (reference.kind.0 ≢ loose_kind T.TYPE) }
     {
         if reference.kind != loose_kind_of::<E, T>() {
             return None;
@@ -55,8 +54,8 @@ impl<T> PagableArc<T> {
     /// The reference as values hold it.
     pub fn reference<E: Env>(&self) -> ArcRef
     where
-        T: ValueType<E>,
-        ensures { result ≡ loose T.NUMBER self.now }
+        T: OfNode<E>,
+        ensures { result ≡ loose T.TYPE self.now }
     {
         ArcRef {
             kind: loose_kind_of::<E, T>(),
@@ -73,31 +72,31 @@ impl<T> PagableArc<T> {
     }
 }
 
-impl<E: Env, T: ValueType<E>> Carried<E> for PagableArc<T> {
-    ghost shape = { λ e. reference_shape (loose_kind T.NUMBER) };
+impl<E: Env, T: OfNode<E>> Carried<E> for PagableArc<T> {
+    ghost shape = { λ e. reference_shape (loose_kind T.TYPE) };
 
-    ghost means = { Is (loose_means T.NUMBER) };
+    ghost means = { Is (loose_means T.TYPE) };
 
-    ghost has_meaning = { λ a. (loose_means T.NUMBER a, refl) };
+    ghost has_meaning = { λ a. (loose_means T.TYPE a, refl) };
 }
 
-impl<E: Env, T: ValueType<E>> OneMeaning<E> for PagableArc<T> {
-    ghost meaning = { loose_means T.NUMBER };
+impl<E: Env, T: OfNode<E>> OneMeaning<E> for PagableArc<T> {
+    ghost meaning = { loose_means T.TYPE };
 
     ghost is_meaning = { λ a. refl };
 
     ghost single = { λ a m is. is };
 }
 
-impl<E: Env, T: ValueType<E>> Canonical<E> for PagableArc<T> {
-    ghost one_form = { λ e. reference_has_one_form (E.parts e) (loose_kind T.NUMBER) };
+impl<E: Env, T: OfNode<E>> Canonical<E> for PagableArc<T> {
+    ghost one_form = { λ e. reference_has_one_form (E.parts e) (loose_kind T.TYPE) };
 }
 
-impl<E: Env, T: ValueType<E>> ReadBack<E> for PagableArc<T> {
-    ghost is_read = { λ e. reference_is_read (E.parts e) (loose_kind T.NUMBER) };
+impl<E: Env, T: OfNode<E>> ReadBack<E> for PagableArc<T> {
+    ghost is_read = { λ e. reference_is_read (E.parts e) (loose_kind T.TYPE) };
 }
 
-impl<E: Env, T: ValueType<E>> PagableSerialize<E> for PagableArc<T> {
+impl<E: Env, T: OfNode<E>> PagableSerialize<E> for PagableArc<T> {
     ghost write_causes = { memory };
 
     ghost write_causes_may_refuse = { memory_may_refuse_writing };
@@ -108,7 +107,7 @@ impl<E: Env, T: ValueType<E>> PagableSerialize<E> for PagableArc<T> {
     }
 }
 
-impl<'de, E: Env, T: ValueType<E>> PagableDeserialize<'de, E> for PagableArc<T> {
+impl<'de, E: Env, T: OfNode<E>> PagableDeserialize<'de, E> for PagableArc<T> {
     ghost read_causes = { never };
 
     ghost read_causes_are_own = { never_is_own_reading };

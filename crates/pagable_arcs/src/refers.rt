@@ -4,13 +4,13 @@ ghost use Rattle.std.specs.Prelude.{◌≡◌, ◌++◌, map, OnOk, IfOk, IfErr}
 ghost use Rattle.pagable_model.specs.Gives.{memory};
 ghost use Rattle.pagable_model.specs.Meaning.{sequence};
 ghost use Rattle.pagable_model.specs.References.{references_in};
-ghost use Rattle.pagable_arcs.specs.References.{loose_kind};
+ghost use Rattle.pagable_arcs.specs.References.{holding_kind, loose_kind};
 ghost use Rattle.pagable_arcs.specs.Refers.{ListsInOrder, both_in_order, list_in_order, optional_in_order, reference_in_order, text_in_order};
 
+use crate::holding::HoldingArc;
 use crate::loose::PagableArc;
 use crate::plain::OfKind;
-use crate::value_type::ValueType;
-use pagable_codec::{ArcRef, Env};
+use pagable_codec::{ArcRef, Env, OfNode};
 use pagable_flavors::Error;
 use pagable_traits::OneMeaning;
 use std::alloc::Global;
@@ -28,14 +28,24 @@ pub trait Refers<E: Env>: OneMeaning<E> {
     ghost in_order: { (e : E) → ListsInOrder (E.parts e) (Self.Carried.shape e) };
 }
 
-impl<E: Env, T: ValueType<E>> Refers<E> for PagableArc<T> {
+impl<E: Env, T: OfNode<E>> Refers<E> for PagableArc<T> {
     #[tactic(auto, using(crate::proofs::Listed::parts))]
     fn list_references(&self, list: &mut Vec<ArcRef>) -> Result<(), Error> {
         list.push(self.reference::<E>())?;
         Ok(())
     }
 
-    ghost in_order = { λ e. reference_in_order (E.parts e) (loose_kind T.NUMBER) };
+    ghost in_order = { λ e. reference_in_order (E.parts e) (loose_kind T.TYPE) };
+}
+
+impl<E: Env, T: OfNode<E>, const PINS: bool> Refers<E> for HoldingArc<T, PINS> {
+    #[tactic(auto, using(crate::proofs::Listed::parts))]
+    fn list_references(&self, list: &mut Vec<ArcRef>) -> Result<(), Error> {
+        list.push(self.reference::<E>())?;
+        Ok(())
+    }
+
+    ghost in_order = { λ e. reference_in_order (E.parts e) (holding_kind T.TYPE PINS) };
 }
 
 impl<E: Env, const KIND: u32> Refers<E> for OfKind<KIND> {
@@ -46,6 +56,14 @@ impl<E: Env, const KIND: u32> Refers<E> for OfKind<KIND> {
     }
 
     ghost in_order = { λ e. reference_in_order (E.parts e) KIND };
+}
+
+impl<'a, E: Env, T: Refers<E>> Refers<E> for &'a T {
+    fn list_references(&self, list: &mut Vec<ArcRef>) -> Result<(), Error> {
+        T::list_references(*self, list)
+    }
+
+    ghost in_order = { T.in_order };
 }
 
 impl<E: Env> Refers<E> for String {

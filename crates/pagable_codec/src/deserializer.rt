@@ -1,18 +1,23 @@
 //! What values are read from.
 
-ghost use Rattle.std.specs.Prelude.{◌≡◌, ◌≤◌, ◌<◌, ◌+◌, ◌-◌, ℕ, drop, OnOk, IfOk, IfErr};
+ghost use Rattle.std.specs.Prelude.{◌≡◌, ◌≤◌, ◌<◌, ◌+◌, ◌-◌, ℕ, Option, drop, option_and_then, option_map, OnOk, IfOk, IfErr};
+ghost use Rattle.std.specs.Arc.{arc_value};
 ghost use Rattle.std.specs.Borrow.{Lends, sem};
 ghost use Rattle.pagable_model.specs.Track.{left, GoesOn};
-ghost use Rattle.pagable_model.specs.Gives.{Gives, never};
+ghost use Rattle.pagable_model.specs.Gives.{Gives, memory, never};
 ghost use Rattle.pagable_model.specs.Meaning.{reference as meaning_of};
 ghost use Rattle.pagable_model.specs.Reading.{Rest, reference_at, deepest};
 ghost use Rattle.pagable_model.specs.Standing.{Answer, Standing, rest_at, answer_at, IsWithin, MovesOn};
+ghost use Rattle.pagable_model.specs.declared.numbers.ArcRef.{ArcRef as Reference};
 
 use crate::env::Env;
+use crate::of_node::OfNode;
 use crate::reader::Reader;
 use crate::session::SessionContext;
 use pagable_flavors::Error;
 use pagable_model::{ArcRef, Kind, PagableCursor};
+use std::alloc::Global;
+use std::sync::Arc;
 
 /// What values are read from: bytes, and a list of keys of references, each with what it is answered as.
 pub trait PagableDeserializer<E: Env> {
@@ -31,6 +36,9 @@ pub trait PagableDeserializer<E: Env> {
 
     ghost reader: { Self → Self.Reader };
 
+    // The nodes that it lends by the references that it read.
+    ghost lends: { Self → Reference → Option E.Node };
+
     // The deserializer with another reader.
     ghost with_reader: { Self → Self.Reader → Self };
 
@@ -48,6 +56,16 @@ pub trait PagableDeserializer<E: Env> {
         ensures moves { MovesOn (standing self.old) (standing self.new) }
         ensures same_env { environment self.new ≡ environment self.old }
         ensures same_levels { levels self.new ≡ levels self.old };
+
+    /// The value of a reference that was read together with its value, shared; or None where none of this type is lent. Refused
+    /// by want of memory alone.
+    fn shared<T: OfNode<E>>(
+        &self,
+        alloc: Global,
+        reference: ArcRef,
+    ) -> Result<Option<Arc<T>>, Error>
+        ensures value { IfOk result (λ found. option_map arc_value found ≡ option_and_then T.held (lends self.now reference)) }
+        ensures only { IfErr result memory };
 
     /// How many bytes and references were read.
     fn position(&self) -> PagableCursor

@@ -6,6 +6,7 @@ pub mod deserializer;
 pub mod env;
 pub mod hash;
 pub mod nodes;
+pub mod of_node;
 pub mod parts;
 pub mod reader;
 pub mod serializer;
@@ -14,7 +15,8 @@ pub mod session;
 pub use deserializer::PagableDeserializer;
 pub use env::Env;
 pub use hash::KeyHash;
-pub use nodes::{NodeSet, OfNode};
+pub use nodes::NodeSet;
+pub use of_node::OfNode;
 pub use pagable_model::{
     ArcRef, HandleNumber, Identity, Kind, LoadNumber, NodeNumber, PagableCursor, WorkerNumber,
 };

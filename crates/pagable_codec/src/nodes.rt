@@ -1,7 +1,6 @@
-//! The values of nodes: one case for each value type of an environment, and how a type's values stand in them.
+//! The values of nodes: one case for each value type of an environment.
 
-ghost use Rattle.std.specs.Prelude.{◌≡◌, ◌≢◌, ◌<◌, ◌^◌, ◌++◌, ℕ, List, Option, Some, None, OnOk, IfOk, IfErr, option_map, true};
-ghost use Rattle.std.specs.Arc.{arc_value};
+ghost use Rattle.std.specs.Prelude.{◌≡◌, ◌<◌, ◌^◌, ◌++◌, ℕ, List, Option, Some, OnOk, IfOk, IfErr, true};
 ghost use Rattle.pagable_model.specs.Refusals.{is_own_reading, may_refuse_writing};
 ghost use Rattle.pagable_model.specs.Shape.{Shape};
 ghost use Rattle.pagable_model.specs.Meaning.{Meaning};
@@ -18,7 +17,6 @@ use crate::serializer::PagableSerializer;
 use pagable_flavors::Error;
 use pagable_model::ArcRef;
 use std::alloc::Global;
-use std::sync::Arc;
 
 /// A type with one case for each value type of an environment.
 pub trait NodeSet<E: Env>: Sized {
@@ -87,33 +85,4 @@ pub trait NodeSet<E: Env>: Sized {
 
     // A node's own type is there.
     ghost has_shape: { (e : E) (n : Self) → shape_of e (type_of n) ≡ Some (own_shape e n) };
-}
-
-/// A value type of an environment: its number, and how its values are put into nodes and taken out of them.
-pub trait OfNode<E: Env>: Sized
-where
-    E::Node: NodeSet<E>,
-{
-    ghost TYPE: { ℕ };
-
-    // The value in a node of this type.
-    ghost held: { E.Node → Option Self };
-
-    /// The number of the type, below 2^30.
-    const TYPE: u32;
-
-    /// The node that holds the value.
-    fn into_node(value: Arc<Self>) -> E::Node
-        ensures { held result ≡ Some (arc_value value) };
-
-    /// The value that the node holds, or None where the node is of another type. Refused by want of memory alone.
-    fn from_node(alloc: Global, node: &E::Node) -> Result<Option<Arc<Self>>, Error>
-        ensures value { IfOk result (λ found. option_map arc_value found ≡ held node.now) }
-        ensures only { IfErr result (λ e. e ≡ Error.OutOfMemory) };
-
-    ghost small: { TYPE < 2 ^ 30 };
-
-    ghost in_type: { (n : E.Node) (v : Self) → held n ≡ Some v → E.Node.type_of n ≡ TYPE };
-
-    ghost other_type: { (n : E.Node) → held n ≡ None → E.Node.type_of n ≢ TYPE };
 }

@@ -1,5 +1,5 @@
 -- What a dish means: its name and its weight, one after the other. So it means one thing, and may be a key.
-use Rattle.std.specs.Prelude.{◌≡◌, ◌&&◌, ℕ, nat_eq, refl}
+use Rattle.std.specs.Prelude.{◌≡◌, ◌&&◌, nat_eq, refl}
 use Rattle.std.specs.String.{string_bytes, string_eq}
 use Rattle.pagable.specs.ArcRef.{ArcRef}
 use Rattle.pagable.specs.Keyed.{number_is_same, text_is_same}

@@ -112,7 +112,7 @@ impl<H: KeyHash> NodeSet<Menu<H>> for MenuNode {
 impl<H: KeyHash> OfNode<Menu<H>> for Dish {
     ghost use Rattle.std.specs.Prelude.{◌≡◌, Some};
     ghost use Rattle.std.specs.Arc.{arc_value};
-    ghost use Rattle.pagable_examples.specs.Menus.{dish_in, dish_number_is_small, dish_type, no_dish_type};
+    ghost use Rattle.pagable_examples.specs.Menus.{dish_in, dish_number_is_small};
 
     ghost TYPE = { 0 };
 
@@ -134,16 +134,16 @@ impl<H: KeyHash> OfNode<Menu<H>> for Dish {
     }
 
     ghost small = { dish_number_is_small };
-
-    ghost in_type = { dish_type };
-
-    ghost other_type = { no_dish_type };
 }
 
 impl<H: KeyHash> InNode<Menu<H>> for Dish {
     ghost use Rattle.std.specs.Prelude.{refl};
     ghost use Rattle.std.proofs.Common.{inr};
-    ghost use Rattle.pagable_examples.specs.Menus.{dish_meaning, dish_meaning_back};
+    ghost use Rattle.pagable_examples.specs.Menus.{no_dish_type, dish_meaning, dish_meaning_back, dish_type};
+
+    ghost in_type = { dish_type };
+
+    ghost other_type = { no_dish_type };
 
     ghost shape_is = { λ e. refl };
 
@@ -159,7 +159,7 @@ impl<H: KeyHash> InNode<Menu<H>> for Dish {
 impl<H: KeyHash> OfNode<Menu<H>> for Size {
     ghost use Rattle.std.specs.Prelude.{◌≡◌, Some};
     ghost use Rattle.std.specs.Arc.{arc_value};
-    ghost use Rattle.pagable_examples.specs.Menus.{size_in, size_number_is_small, size_type, no_size_type};
+    ghost use Rattle.pagable_examples.specs.Menus.{size_in, size_number_is_small};
 
     ghost TYPE = { 1 };
 
@@ -181,16 +181,16 @@ impl<H: KeyHash> OfNode<Menu<H>> for Size {
     }
 
     ghost small = { size_number_is_small };
-
-    ghost in_type = { size_type };
-
-    ghost other_type = { no_size_type };
 }
 
 impl<H: KeyHash> InNode<Menu<H>> for Size {
     ghost use Rattle.std.specs.Prelude.{refl};
     ghost use Rattle.std.proofs.Common.{inl};
-    ghost use Rattle.pagable_examples.specs.Menus.{size_meaning, size_meaning_back};
+    ghost use Rattle.pagable_examples.specs.Menus.{no_size_type, size_meaning, size_meaning_back, size_type};
+
+    ghost in_type = { size_type };
+
+    ghost other_type = { no_size_type };
 
     ghost shape_is = { λ e. refl };
 

@@ -1,23 +1,17 @@
 -- A form is read again, whatever follows it.
-use Rattle.std.proofs.Common.{◌≡◌, ℕ, List, [], ◌∷◌, ◌++◌, length, Ok, refl, ap, inl, inr, append_assoc}
+use Rattle.pagable_laws.proofs.Words.{◌≡◌, ℕ, List, [], ◌∷◌, ◌++◌, length, Ok, refl, ap, inl, inr, append_assoc, varint_at, bool_at, Meaning, Entry, text_order, Shape, Look, Gets, items, two}
+use Rattle.pagable_laws.proofs.Words.{read_with, below, read, Form, Forms, Entries, unsigned-form, signed-form, flag-form, text-form, letter-form, duration-form, pattern-form}
+use Rattle.pagable_laws.proofs.Words.{some-form, err-form, ok-form, list-form, run-form, array-form, both-form, sorted-map-form, placed-map-form, hash-map-form, sorted-set-form}
+use Rattle.pagable_laws.proofs.Words.{placed-set-form, static-form, tagged-form, case-form, reference-form, nested-form, json-flag-form, json-number-form, json-text-form}
+use Rattle.pagable_laws.proofs.Words.{json-array-form, json-object-form, no-forms, more-forms, no-entries, more-entries, IsReadable, HasNoCase, Throughout, IsReadAgain, rest, LooksUp}
+use Rattle.pagable_laws.proofs.Words.{no-references, more-references}
 use Rattle.std.specs.Int.{w32, w64}
-use Rattle.pagable_model.specs.Numbers.{varint_at}
-use Rattle.pagable_model.specs.Basic.{bool_at}
-use Rattle.pagable_model.specs.Meaning.{Meaning}
-use Rattle.pagable_model.specs.Keys.{Entry, text_order}
-use Rattle.pagable_model.specs.Shape.{Shape}
-use Rattle.pagable_model.specs.Reading.{Look, Gets, items, two, read_with, below, read}
-use Rattle.pagable_model.specs.Form.{Form, Forms, Entries}
-use Rattle.pagable_model.specs.Form.{nothing-form, unsigned-form, signed-form, flag-form, text-form, letter-form, duration-form, pattern-form, none-form, some-form, err-form, ok-form, list-form, run-form, array-form, both-form}
-use Rattle.pagable_model.specs.Form.{sorted-map-form, placed-map-form, hash-map-form, sorted-set-form, placed-set-form, static-form, tagged-form, case-form, reference-form, nested-form}
-use Rattle.pagable_model.specs.Form.{json-null-form, json-flag-form, json-number-form, json-text-form, json-array-form, json-object-form, no-forms, more-forms, no-entries, more-entries}
-use Rattle.pagable_model.specs.Canonical.{IsReadable, HasNoCase, Throughout}
-use Rattle.pagable_laws.specs.FormLaws.{IsReadAgain, rest, LooksUp, no-references, more-references}
 use Rattle.pagable_laws.proofs.Wholes.{unsigned-again, signed-again}
 use Rattle.pagable_laws.proofs.Basic.{bool-again, length-again, text-again, char-again, duration-again}
 use Rattle.pagable_laws.proofs.Putting.{ascending-kept, ascending_items-kept, differing-kept, differing_items-kept}
 use Rattle.pagable_laws.proofs.Within.{here, part_of, of_json, of_text}
-use Rattle.pagable_laws.proofs.Readable.{in_optional, in_ok, in_err, in_list, in_array, in_first, in_second, in_sorted_key, in_sorted_value, in_placed_key, in_placed_value, in_hash_key, in_hash_value, in_sorted_item, in_placed_item, in_written, in_case}
+use Rattle.pagable_laws.proofs.Readable.{in_optional, in_ok, in_err, in_list, in_array, in_first, in_second, in_sorted_key, in_sorted_value, in_placed_key, in_placed_value, in_hash_key}
+use Rattle.pagable_laws.proofs.Readable.{in_hash_value, in_sorted_item, in_placed_item, in_written, in_case}
 
 -- nothing that is written has a shape without cases
 pub no_case-form : {A : Type 0} {kind_of : A → ℕ} {parts : ℕ → Shape} {left : ℕ} {s : Shape} {m : Meaning A} {b : List ℕ} {k : List A} → Form A kind_of parts left s m b k → HasNoCase s → ⊥
@@ -53,9 +47,9 @@ module _ {A B : Type 0} {look : Look A B} {kind_of : B → ℕ} {parts : ℕ →
   mutual
     unfolding read_with below items IsReadable varint_at bool_at
 
-    pub form-again : (x : List ℕ) (r y : List A) {left : ℕ} {s : Shape} {m : Meaning B} {b : List ℕ} {k : List B} → Form B kind_of parts left s m b k → LooksUp look kind_of r k → Throughout IsReadable parts s
+    pub form-again : (x : List ℕ) (r y : List A) {left : ℕ} {s : Shape} {m : Meaning B} {b : List ℕ} {k : List B} → Form B kind_of parts left s m b k → LooksUp look kind_of r k
+        → Throughout IsReadable parts s
         → read_at look parts left s (rest (b ++ x) (r ++ y)) ≡ Ok (m, rest x y)
-    form-again x r y (nothing-form left) u t = rw (no_refs u) refl
     form-again x r y (unsigned-form left w n h) u t = rw (no_refs u, unsigned-again w n x h) refl
     form-again x r y (signed-form left w z h) u t = rw (no_refs u, signed-again w z x h) refl
     form-again x r y (flag-form left b) u t = rw (no_refs u, bool-again b x) refl
@@ -63,7 +57,6 @@ module _ {A B : Type 0} {look : Look A B} {kind_of : B → ℕ} {parts : ℕ →
     form-again x r y (letter-form left c h) u t = rw (no_refs u, char-again c x h) refl
     form-again x r y (duration-form left seconds nanos h l) u t = rw (no_refs u, duration-again seconds nanos x h l) refl
     form-again x r y (pattern-form left b h le) u t = rw (no_refs u, text-again b x h le) refl
-    form-again x r y (none-form left s) u t = rw (no_refs u) refl
     form-again x r y (some-form left s m b k h) u t = rw (form-again x r y h u (in_optional t)) refl
     form-again x r y (err-form left s s2 m b k h) u t = rw (form-again x r y h u (in_err t)) refl
     form-again x r y (ok-form left s s2 m b k h) u t = rw (form-again x r y h u (in_ok t)) refl
@@ -90,22 +83,24 @@ module _ {A B : Type 0} {look : Look A B} {kind_of : B → ℕ} {parts : ℕ →
     form-again x r y (case-form left w known part n m b k lt is f) u t = rw (append_assoc, unsigned-again w n (b ++ x) lt, is, form-again x r y f u (in_case w known part n is t)) refl
     form-again x r y (reference-form left kind a e) u t = let p = one_ref u in rw (p.1, ← e, p.2) refl
     form-again x r y (nested-form left less n m b k e h) u t = rw (e, form-again x r y h u (part_of t)) refl
-    form-again x r y (json-null-form left) u t = rw (no_refs u) refl
     form-again x r y (json-flag-form left b) u t = rw (no_refs u, bool-again b x) refl
     form-again x r y (json-number-form left z h) u t = rw (no_refs u, signed-again w64 z x h) refl
     form-again x r y (json-text-form left b h le) u t = rw (no_refs u, text-again b x h le) refl
     form-again x r y (json-array-form left less ms b k e le h) u t = rw (e, append_assoc, length-again (length ms) (b ++ x) le, forms-again x r y h u (of_json tt)) refl
     form-again x r y (json-object-form left less es b k e le up h) u t =
         rw (e, append_assoc, length-again (length es) (b ++ x) le, entries-again x r y h u (of_text tt) (of_json tt), ascending-kept text_order es up) refl
+    form-again x r y _ u t = rw (no_refs u) refl
 
-    pub forms-again : (x : List ℕ) (r y : List A) {left : ℕ} {s : Shape} {ms : List (Meaning B)} {b : List ℕ} {k : List B} → Forms B kind_of parts left s ms b k → LooksUp look kind_of r k → Throughout IsReadable parts s
+    pub forms-again : (x : List ℕ) (r y : List A) {left : ℕ} {s : Shape} {ms : List (Meaning B)} {b : List ℕ} {k : List B} → Forms B kind_of parts left s ms b k
+        → LooksUp look kind_of r k → Throughout IsReadable parts s
         → items (read_at look parts left s) (length ms) (rest (b ++ x) (r ++ y)) ≡ Ok (ms, rest x y)
     forms-again x r y (no-forms left s) u t = rw (no_refs u) refl
     forms-again x r y (more-forms left s m ms b c k l h g) u t =
         let p = split k l u in
         rw (p.whole, append_assoc, append_assoc, form-again (c ++ x) p.front (p.back ++ y) h p.first t, forms-again x p.back y g p.second t) refl
 
-    pub entries-again : (x : List ℕ) (r y : List A) {left : ℕ} {s s2 : Shape} {es : List (Entry B)} {b : List ℕ} {k : List B} → Entries B kind_of parts left s s2 es b k → LooksUp look kind_of r k → Throughout IsReadable parts s → Throughout IsReadable parts s2
+    pub entries-again : (x : List ℕ) (r y : List A) {left : ℕ} {s s2 : Shape} {es : List (Entry B)} {b : List ℕ} {k : List B} → Entries B kind_of parts left s s2 es b k
+        → LooksUp look kind_of r k → Throughout IsReadable parts s → Throughout IsReadable parts s2
         → items (two (read_at look parts left s) (read_at look parts left s2)) (length es) (rest (b ++ x) (r ++ y)) ≡ Ok (es, rest x y)
     entries-again x r y (no-entries left s s2) u t v = rw (no_refs u) refl
     entries-again x r y (more-entries left s s2 m n es b c d j k l h g f) u t v =

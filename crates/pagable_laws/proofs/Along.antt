@@ -1,20 +1,15 @@
 -- A form goes along: where each reference is replaced by one of the same kind, the bytes are a form of what results.
-use Rattle.std.proofs.Common.{◌≡◌, ℕ, ℤ, Bool, true, false, List, [], ◌∷◌, ◌++◌, length, ◌⊎◌, inl, inr, refl, sym, ap, ◌∙◌, arith}
+use Rattle.pagable_laws.proofs.Words.{◌≡◌, ℕ, ℤ, Bool, true, false, List, [], ◌∷◌, ◌++◌, length, ◌⊎◌, inl, inr, refl, sym, ap, ◌∙◌, arith, Ordering, is_eq-slice_cmp, Meaning, number, integer}
+use Rattle.pagable_laws.proofs.Words.{text, pattern, none, pair, variant, reference, followed, sequence, plain, lifted, rename, Entry, KeyOrder, ordered, same_key, code, code_order, text_order}
+use Rattle.pagable_laws.proofs.Words.{put_all, put_sorted, Apart, AllAfter, Ascends, ItemsAscend, Differ, ItemsDiffer, of_entries, of_hash_map, Shape, Form, Forms, Entries, nothing-form}
+use Rattle.pagable_laws.proofs.Words.{unsigned-form, signed-form, flag-form, text-form, letter-form, duration-form, pattern-form, none-form, some-form, err-form, ok-form, list-form, run-form}
+use Rattle.pagable_laws.proofs.Words.{array-form, both-form, sorted-map-form, placed-map-form, hash-map-form, sorted-set-form, placed-set-form, static-form, tagged-form, case-form}
+use Rattle.pagable_laws.proofs.Words.{reference-form, nested-form, json-null-form, json-flag-form, json-number-form, json-text-form, json-array-form, json-object-form, no-forms, more-forms}
+use Rattle.pagable_laws.proofs.Words.{no-entries, more-entries, HasNoReference}
 use Rattle.std.specs.declared.cmp.Ordering.{Ordering}
-use Rattle.std.specs.declared.cmp.Ordering.TheVariants as answers
 use Rattle.std.specs.Ordering.{match_ordering, eq_by_cmp}
-use Rattle.std.proofs.lemmas.Map.Text.{is_eq-slice_cmp}
-use Rattle.pagable_model.specs.Meaning.{Meaning, number, integer, text, pattern, none, pair, variant, reference, followed, sequence, plain, lifted, rename}
 use Rattle.pagable_model.specs.Meaning as meanings
-use Rattle.pagable_model.specs.Keys.{Entry, KeyOrder, ordered, same_key, code, code_order, text_order, put_all, put_sorted, Apart, AllAfter, Ascends, ItemsAscend, Differ, ItemsDiffer}
-use Rattle.pagable_model.specs.Carried.{of_entries, of_hash_map}
-use Rattle.pagable_model.specs.Shape.{Shape}
-use Rattle.pagable_model.specs.Form.{Form, Forms, Entries}
-use Rattle.pagable_model.specs.Form.{nothing-form, unsigned-form, signed-form, flag-form, text-form, letter-form, duration-form, pattern-form, none-form, some-form, err-form, ok-form, list-form, run-form, array-form, both-form}
-use Rattle.pagable_model.specs.Form.{sorted-map-form, placed-map-form, hash-map-form, sorted-set-form, placed-set-form, static-form, tagged-form, case-form, reference-form, nested-form}
-use Rattle.pagable_model.specs.Form.{json-null-form, json-flag-form, json-number-form, json-text-form, json-array-form, json-object-form, no-forms, more-forms, no-entries, more-entries}
 use Rattle.pagable_laws.proofs.Putting.{After, AllAfterThose, after_none}
-use Rattle.pagable_model.specs.Canonical.{HasNoReference}
 
 -- the same meaning but for its references, which are as R says; references that are followed already stand in it only if F
 pub data Along {A B : Type 0} (F : Type 0) (R : A → B → Type 0) : Meaning A → Meaning B → Type 0 where
@@ -42,7 +37,8 @@ append-two no-two g = g
 append-two (more-two x y xs ys r h) g = more-two x y _ _ r (append-two h g)
 
 -- a relation of items goes over to those that they are along with
-pub apart-two : {X Y : Type 0} {V : X → Y → Type 0} (R : X → X → Type 0) (S : Y → Y → Type 0) → ((x x2 : X) (y y2 : Y) → V x y → V x2 y2 → R x x2 → S y y2) → {xs : List X} {ys : List Y} → AllTwo V xs ys → Apart R xs → Apart S ys
+pub apart-two : {X Y : Type 0} {V : X → Y → Type 0} (R : X → X → Type 0) (S : Y → Y → Type 0) → ((x x2 : X) (y y2 : Y) → V x y → V x2 y2 → R x x2 → S y y2) → {xs : List X} {ys : List Y}
+    → AllTwo V xs ys → Apart R xs → Apart S ys
 unfolding Apart AllAfter
 apart-two R S k no-two a = tt
 apart-two {X} {Y} {V} R S k (more-two x y xs ys v h) a = (each h a.0, apart-two R S k h a.1)
@@ -54,15 +50,10 @@ apart-two {X} {Y} {V} R S k (more-two x y xs ys v h) a = (each h a.0, apart-two 
 module _ {A B : Type 0} {F : Type 0} {R : A → B → Type 0} where
   pub plain-along : {m : Meaning A} {n : Meaning B} → Along F R m n → plain m ≡ plain n
   unfolding plain
-  plain-along (number-along n) = refl
-  plain-along (integer-along z) = refl
-  plain-along (text-along t) = refl
-  plain-along (pattern-along t) = refl
-  plain-along none-along = refl
   plain-along (pair-along x y a b h g) = rw (plain-along h, plain-along g) refl
   plain-along (variant-along n x a h) = rw (plain-along h) refl
-  plain-along (reference-along a b r) = refl
   plain-along (followed-along kind x a f h) = rw (plain-along h) refl
+  plain-along _ = refl
 
   pub lifted-along : (m : Meaning ⊥) → F ⊎ HasNoReference m → Along F R (lifted m) (lifted m)
   unfolding rename HasNoReference
@@ -113,7 +104,7 @@ module _ {A B : Type 0} {F : Type 0} {R : A → B → Type 0} where
 abbrev pub apart : {A : Type 0} → Entry A → Entry A → Type 0
 apart e f = same_key e.0 f.0 ≡ false
 
-not_equal : {A : Type 0} (a b : Meaning A) → same_key a b ≡ false → ordered code_order a b ≡ answers.Equal → ⊥
+not_equal : {A : Type 0} (a b : Meaning A) → same_key a b ≡ false → ordered code_order a b ≡ Ordering.Equal → ⊥
 not_equal a b h e =
     let test : eq_by_cmp code_order (plain a) (plain b) ≡ true = rw e refl in
     let same = is_eq-slice_cmp (code (plain a)) (code (plain b)) in
@@ -126,9 +117,9 @@ after_put x e [] h d = (d, tt)
 after_put {A} x e (f ∷ acc) h d = at (ordered code_order e.0 f.0) (after_put x e acc h.1 d)
   where
     at : (o : Ordering) → After apart x (put_sorted code_order acc e) → After apart x (match_ordering o (e ∷ f ∷ acc) ((f.0, e.1) ∷ acc) (f ∷ put_sorted code_order acc e))
-    at answers.Less rest = (d, h)
-    at answers.Equal rest = h
-    at answers.Greater rest = (h.0, rest)
+    at Ordering.Less rest = (d, h)
+    at Ordering.Equal rest = h
+    at Ordering.Greater rest = (h.0, rest)
 
 those_put : {A : Type 0} (e : Entry A) (acc es : List (Entry A)) → AllAfterThose apart acc es → AllAfter apart e es → AllAfterThose apart (put_sorted code_order acc e) es
 unfolding AllAfterThose AllAfter
@@ -160,15 +151,17 @@ module _ {A B : Type 0} {F : Type 0} {R : A → B → Type 0} where
   unput [] e h (more-two x f xs ys r no-two) = record { before = []; entry = f; each = no-two; one = r; put = refl }
   unput (x ∷ acc) e h a = at (λ gs g. unput acc e {fs = gs} h.1 g) (ordered code_order e.0 x.0) refl a
     where
-      at : ((gs : List (Entry B)) → AllTwo (EntryAlong F R) (put_sorted code_order acc e) gs → Unput F R acc e gs) → (o : Ordering) → ordered code_order e.0 x.0 ≡ o → {fs : List (Entry B)} → AllTwo (EntryAlong F R) (match_ordering o (e ∷ x ∷ acc) ((x.0, e.1) ∷ acc) (x ∷ put_sorted code_order acc e)) fs → Unput F R (x ∷ acc) e fs
-      at back answers.Less q (more-two u f us vs r (more-two w y ws ys s g)) =
+      at : ((gs : List (Entry B)) → AllTwo (EntryAlong F R) (put_sorted code_order acc e) gs → Unput F R acc e gs) → (o : Ordering) → ordered code_order e.0 x.0 ≡ o
+          → {fs : List (Entry B)} → AllTwo (EntryAlong F R) (match_ordering o (e ∷ x ∷ acc) ((x.0, e.1) ∷ acc) (x ∷ put_sorted code_order acc e)) fs → Unput F R (x ∷ acc) e fs
+      at back Ordering.Less q (more-two u f us vs r (more-two w y ws ys s g)) =
           record { before = y ∷ ys; entry = f; each = more-two x y acc ys s g; one = r; put = rw (same_order r s q) refl }
-      at back answers.Equal q b = absurd (not_equal e.0 x.0 h.0 q)
-      at back answers.Greater q (more-two u y us ys s g) =
+      at back Ordering.Equal q b = absurd (not_equal e.0 x.0 h.0 q)
+      at back Ordering.Greater q (more-two u y us ys s g) =
           let rest = back ys g in
           record { before = y ∷ rest.before; entry = rest.entry; each = more-two x y acc rest.before s rest.each; one = rest.one; put = rw (same_order rest.one s q) (ap (λ (z : List (Entry B)). y ∷ z) rest.put) }
 
-  unput_all : (es acc : List (Entry A)) {fs : List (Entry B)} → AllAfterThose apart acc es → Apart apart es → AllTwo (EntryAlong F R) (put_all (put_sorted code_order) acc es) fs → UnputAll F R acc es fs
+  unput_all : (es acc : List (Entry A)) {fs : List (Entry B)} → AllAfterThose apart acc es → Apart apart es → AllTwo (EntryAlong F R) (put_all (put_sorted code_order) acc es) fs
+      → UnputAll F R acc es fs
   unfolding AllAfterThose Apart put_all
   unput_all [] acc {fs} h d a = record { before = fs; entries = []; first = a; each = no-two; put = refl }
   unput_all (e ∷ es) acc h d a =
@@ -188,7 +181,8 @@ pub record MapAlong {A B : Type 0} (F : Type 0) (R : A → B → Type 0) (es : L
   pub each : AllTwo (EntryAlong F R) es entries
   pub whole : n ≡ of_hash_map entries
 
-from_none : {A B : Type 0} {F : Type 0} {R : A → B → Type 0} {fs : List (Entry B)} (gs hs : List (Entry B)) → AllTwo (EntryAlong F R) [] fs → put_all (put_sorted code_order) fs gs ≡ hs → put_all (put_sorted code_order) [] gs ≡ hs
+from_none : {A B : Type 0} {F : Type 0} {R : A → B → Type 0} {fs : List (Entry B)} (gs hs : List (Entry B)) → AllTwo (EntryAlong F R) [] fs → put_all (put_sorted code_order) fs gs ≡ hs
+    → put_all (put_sorted code_order) [] gs ≡ hs
 from_none gs hs no-two p = p
 
 pub hash_map-along : {A B : Type 0} {F : Type 0} {R : A → B → Type 0} (es : List (Entry A)) {n : Meaning B} → Differ es → Along F R (of_hash_map es) n → MapAlong F R es n
@@ -215,7 +209,8 @@ pub record EntriesTo {A B : Type 0} (R : A → B → Type 0) (kind_of : B → �
   pub each : AllTwo R k refs
   pub form : Entries B kind_of parts left s t fs b refs
 
-to_nothing : {A B : Type 0} {R : A → B → Type 0} {kind_of : B → ℕ} {parts : ℕ → Shape} {left : ℕ} {s : Shape} {n : Meaning B} {b : List ℕ} → Form B kind_of parts left s n b [] → FormTo R kind_of parts left s n b []
+to_nothing : {A B : Type 0} {R : A → B → Type 0} {kind_of : B → ℕ} {parts : ℕ → Shape} {left : ℕ} {s : Shape} {n : Meaning B} {b : List ℕ} → Form B kind_of parts left s n b []
+    → FormTo R kind_of parts left s n b []
 to_nothing f = record { refs = []; each = no-two; form = f }
 
 module _ {A B : Type 0} {F : Type 0} {R : A → B → Type 0} where
@@ -326,14 +321,16 @@ module _ {A B : Type 0} {F : Type 0} {R : A → B → Type 0} {kind_of : A → �
         let long = length-two q.each in
         rw (q.whole, long) (record { refs = p.refs; each = p.each; form = json-object-form left less q.entries b p.refs e (rw long at le) (ascend-two text_order q.each up) p.form })
 
-    pub forms-along : {left : ℕ} {s : Shape} {ms : List (Meaning A)} {ns : List (Meaning B)} {b : List ℕ} {k : List A} → Forms A kind_of parts left s ms b k → AllTwo (Along F R) ms ns → FormsTo R kind_of2 parts left s ns b k
+    pub forms-along : {left : ℕ} {s : Shape} {ms : List (Meaning A)} {ns : List (Meaning B)} {b : List ℕ} {k : List A} → Forms A kind_of parts left s ms b k → AllTwo (Along F R) ms ns
+        → FormsTo R kind_of2 parts left s ns b k
     forms-along (no-forms left s) no-two = record { refs = []; each = no-two; form = no-forms left s }
     forms-along (more-forms left s m ms b c k l h g) (more-two x y xs ys a d) =
         let p = form-along h a in
         let q = forms-along g d in
         record { refs = p.refs ++ q.refs; each = append-two p.each q.each; form = more-forms left s y ys b c p.refs q.refs p.form q.form }
 
-    pub entries_form-along : {left : ℕ} {s t : Shape} {es : List (Entry A)} {fs : List (Entry B)} {b : List ℕ} {k : List A} → Entries A kind_of parts left s t es b k → AllTwo (EntryAlong F R) es fs → EntriesTo R kind_of2 parts left s t fs b k
+    pub entries_form-along : {left : ℕ} {s t : Shape} {es : List (Entry A)} {fs : List (Entry B)} {b : List ℕ} {k : List A} → Entries A kind_of parts left s t es b k
+        → AllTwo (EntryAlong F R) es fs → EntriesTo R kind_of2 parts left s t fs b k
     entries_form-along (no-entries left s t) no-two = record { refs = []; each = no-two; form = no-entries left s t }
     entries_form-along (more-entries left s t m n es b c d j k l h g f) (more-two x y xs ys a i) =
         let p = form-along h a.key in

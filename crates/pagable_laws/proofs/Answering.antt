@@ -1,28 +1,11 @@
 -- What follows for keys: each that is published is its tree's, each that is answered is its task's, and what a worker met that answers one is left paged out.
-use Rattle.std.proofs.Common.{◌≡◌, ℕ, true, List, [], ◌∷◌, Option, Some, None, Ok, Err, refl, sym, ap, subst, ◌∙◌}
-use Rattle.std.specs.Prelude.{is_some}
-use Rattle.pagable_model.specs.declared.data_key.OptionalDataKey.TheVariants as optional
-use Rattle.pagable_model.specs.Meaning.{number, integer, text, pattern, none, pair, variant, reference, followed}
-use Rattle.pagable_model.specs.Canonical.{EachType}
-use Rattle.pagable_model.specs.Merkle.{blob_of, KeyOf, KeyOfItem}
-use Rattle.pagable_world.specs.Plain.{OptionalDataKey, ArcRef, Identity, is_loose_kind, Meaning, Tree, HandleNumber, ReadsTree, WorkerNumber, type_of, if_there}
-use Rattle.pagable_world.specs.declared.events.Event.TheVariants as events
-use Rattle.pagable_world.specs.declared.events.Event.{Event}
-use Rattle.pagable_world.specs.declared.events.EventReply.TheVariants as answers
-use Rattle.pagable_world.specs.declared.events.EventReply.{EventReply}
-use Rattle.pagable_world.specs.declared.events.Took.TheVariants as took
-use Rattle.pagable_world.specs.declared.events.Took.{Took}
-use Rattle.pagable_world.specs.declared.events.WorkerAnswer.TheVariants as finals
-use Rattle.pagable_world.specs.declared.events.WorkerReply.{WorkerReply}
-use Rattle.pagable_world.specs.Kinds.{identity_of, has_key}
-use Rattle.pagable_world.specs.World.{Core, Cell, key_at, Shelf, Slot, Written, Fault, was_refused, was_failed, Todo, to_item, to_set, to_publish, to_release, to_fail, Task, of_item, of_entry, Walking, Values, Seen}
-use Rattle.pagable_world.specs.Workers.{Site, Does, IsPublished, answer_after}
-use Rattle.pagable_world.specs.Events.{WorkerSteps, Happens}
-use Rattle.pagable_world.specs.Pager.{PagerState, MachineState, world_of, kids_of, HandlesAreWhole, IsMachineWhole, KeyFits, NodeStands, here, away, Represents, StandsFor}
-use Rattle.pagable_world.specs.Runs.{ReadsItsTypes}
-use Rattle.pagable_world.specs.Headline.{Meets, meets-of-item, meets-entry, meets-below, AreKeysOf, IsLeftPagedOut, HasKeyOf, LeavesAll, IsKeyOfTask}
-use Rattle.pagable_laws.specs.PageOutLaws.{Ground, ground_of, IsOfEntry, Waits, Walks, WorkFits, IsDone}
-use Rattle.pagable_laws.specs.KeyRuns.{KeyIsSet, AllHold, HasHandle, KeysHeld, KeysAreRight}
+use Rattle.pagable_laws.proofs.Words.{◌≡◌, ℕ, true, List, [], ◌∷◌, Option, Some, None, Ok, Err, refl, sym, ap, subst, ◌∙◌, is_some, OptionalDataKey, pair}
+use Rattle.pagable_laws.proofs.Words.{variant, reference, followed, EachType, blob_of, KeyOf, KeyOfItem, ArcRef, Identity, is_loose_kind, Meaning, Tree, HandleNumber, ReadsTree, WorkerNumber}
+use Rattle.pagable_laws.proofs.Words.{type_of, if_there, Event, EventReply, Took, WorkerAnswer, WorkerReply, identity_of, has_key, Core, Cell, key_at, Shelf, Slot, Written, Fault, was_refused}
+use Rattle.pagable_laws.proofs.Words.{was_failed, Todo, to_item, to_set, to_publish, to_release, to_fail, Task, of_item, of_entry, Walking, Values, Seen, Site, Does, IsPublished, answer_after}
+use Rattle.pagable_laws.proofs.Words.{WorkerSteps, Happens, PagerState, MachineState, world_of, kids_of, HandlesAreWhole, IsMachineWhole, KeyFits, NodeStands, here, away, Represents, StandsFor}
+use Rattle.pagable_laws.proofs.Words.{ReadsItsTypes, Meets, meets-of-item, meets-entry, meets-below, AreKeysOf, IsLeftPagedOut, HasKeyOf, LeavesAll, IsKeyOfTask, Ground, ground_of, IsOfEntry}
+use Rattle.pagable_laws.proofs.Words.{Waits, Walks, WorkFits, IsDone, KeyIsSet, AllHold, HasHandle, KeysHeld, KeysAreRight}
 use Rattle.pagable_laws.proofs.Merkle.{one_key, one_item_key, tree_readable}
 use Rattle.pagable_laws.proofs.Trees.{same_some}
 use Rattle.pagable_laws.proofs.Following.{IdentityStands, known-of, keys-of, tree-form, held-of, cell-of}
@@ -34,10 +17,11 @@ use Rattle.pagable_laws.proofs.Stepping.{all-known, stands-for}
 -- ---- one step of a worker
 
 module _ {N B W : Type 0} (m : Seen N B W) (n : ℕ) (g : Ground) (task : Task) (s s' : Site) where
-  of-publish : (todo : List Todo) (i : Identity) (key height : ℕ) → Does m n s todo (took.Publish i key height) s' → Walks m.values g s.shelf task todo
+  of-publish : (todo : List Todo) (i : Identity) (key height : ℕ) → Does m n s todo (Took.Publish i key height) s' → Walks m.values g s.shelf task todo
       → KeyOf m.values.hash m.values.types (g.trees i.node.0) key
   of-publish (to_publish r k h ∷ below) i key height (is, same_key, same_height, t) (blob, above) =
-      subst (λ (j : Identity). KeyOf m.values.hash m.values.types (g.trees j.node.0) key) (sym is) (subst (λ q. KeyOf m.values.hash m.values.types (g.trees r.node.0) q) (sym same_key) blob.stands.right.is_key)
+      subst (λ (j : Identity). KeyOf m.values.hash m.values.types (g.trees j.node.0) key) (sym is)
+      (subst (λ q. KeyOf m.values.hash m.values.types (g.trees r.node.0) q) (sym same_key) blob.stands.right.is_key)
   of-publish todo i key height does walks = absurd does
 
   -- what the answer of a key comes from
@@ -45,29 +29,29 @@ module _ {N B W : Type 0} (m : Seen N B W) (n : ℕ) (g : Ground) (task : Task) 
     pub done : IsDone m.values s.shelf task key
     same : (i : Identity) → s'.shelf.slots i ≡ s.shelf.slots i
 
-  is-fault : (fault : Fault) (key : ℕ) → answer_after {W = W} (to_fail fault None ∷ []) took.Fail ≡ Some (finals.Key key) → ⊥
+  is-fault : (fault : Fault) (key : ℕ) → answer_after {W = W} (to_fail fault None ∷ []) Took.Fail ≡ Some (WorkerAnswer.Key key) → ⊥
   is-fault (was_refused f) key e = cc
   is-fault was_failed key e = cc
 
-  pub answered : (todo : List Todo) (step : Took W) → Does m n s todo step s' → Walks m.values g s.shelf task todo → (key : ℕ) → answer_after todo step ≡ Some (finals.Key key) → Answers key
+  pub answered : (todo : List Todo) (step : Took W) → Does m n s todo step s' → Walks m.values g s.shelf task todo → (key : ℕ) → answer_after todo step ≡ Some (WorkerAnswer.Key key) → Answers key
   unfolding Waits
-  answered (to_item written ks ∷ below) (took.Store i (Ok k)) (is, p) (of_it, known) key e =
+  answered (to_item written ks ∷ below) (Took.Store i (Ok k)) (is, p) (of_it, known) key e =
       let to : k ≡ key = cc in
       let b = p.stored.stores in
       record {
         done = subst (λ t. IsDone m.values s.shelf t key) (sym of_it) (ks, all-known s.shelf written.references ks p.all known, sym to ∙ b.0);
         same = let t = p.goes in t.table_stays.slots;
       }
-  answered (to_item written ks ∷ below) (took.Store i (Err f)) does walks key e = absurd (cc)
+  answered (to_item written ks ∷ below) (Took.Store i (Err f)) does walks key e = absurd (cc)
   answered (to_item written ks ∷ below) step does walks key e = absurd does
-  answered (to_release r k h ∷ []) (took.Release i) (is, falls, t) (p, (expects, waits)) key e =
+  answered (to_release r k h ∷ []) (Took.Release i) (is, falls, t) (p, (expects, waits)) key e =
       let to : k ≡ key = cc in record { done = of-entry task expects (subst (λ q. IsPublished s.shelf (identity_of r) q h) to p); same = t.table_stays.slots }
     where
       of-entry : (task : Task) → IsOfEntry task r → IsPublished s.shelf (identity_of r) key h → IsDone m.values s.shelf task key
       of-entry (of_entry q i) at p = (h, subst (λ j. IsPublished s.shelf j key h) at p)
       of-entry (of_item written) at p = absurd at
   answered (to_release r k h ∷ []) step does walks key e = absurd does
-  answered (to_fail fault back ∷ below) took.Fail does walks key e = absurd (is-fault fault key e)
+  answered (to_fail fault back ∷ below) Took.Fail does walks key e = absurd (is-fault fault key e)
   answered (to_fail fault back ∷ below) step does walks key e = absurd does
   answered todo step does walks key e = absurd (cc)
 
@@ -130,95 +114,101 @@ node-keyed (here n x own t held typed means stands fits) = fits
 node-keyed (away n key t none_there keyed fits) = fits
 
 -- a live cell whose key was set has one
-key-known : (w : Core) (n : ℕ) → KeyIsSet w n → is_some (w.cells n) ≡ true → (key : ℕ) × (key_at w n ≡ optional.Some key)
+key-known : (w : Core) (n : ℕ) → KeyIsSet w n → is_some (w.cells n) ≡ true → (key : ℕ) × (key_at w n ≡ OptionalDataKey.Some key)
 key-known w n set live = by (w.cells n) refl live
   where
-    of-key : (own : OptionalDataKey) → has_key own ≡ true → (key : ℕ) × (own ≡ optional.Some key)
-    of-key optional.None is = absurd (cc)
-    of-key (optional.Some key) is = (key, refl)
+    of-key : (own : OptionalDataKey) → has_key own ≡ true → (key : ℕ) × (own ≡ OptionalDataKey.Some key)
+    of-key OptionalDataKey.None is = absurd (cc)
+    of-key (OptionalDataKey.Some key) is = (key, refl)
 
-    by : (c : Option Cell) → w.cells n ≡ c → is_some c ≡ true → (key : ℕ) × (key_at w n ≡ optional.Some key)
+    by : (c : Option Cell) → w.cells n ≡ c → is_some c ≡ true → (key : ℕ) × (key_at w n ≡ OptionalDataKey.Some key)
     by None there is = absurd (cc)
-    by (Some cell) there is = let k = of-key cell.key (set.keyed cell there) in (k.0, ap (λ (c : Option Cell). if_there (λ (x : Cell). x.key) optional.None c) there ∙ k.1)
+    by (Some cell) there is = let k = of-key cell.key (set.keyed cell there) in (k.0, ap (λ (c : Option Cell). if_there (λ (x : Cell). x.key) OptionalDataKey.None c) there ∙ k.1)
 
-has-key-of : {N E : Type 0} (v : Values N) (s : PagerState N E) (trees : ℕ → Tree) (n : ℕ) → HandlesAreWhole s.core → Represents v s trees → KeyIsSet s.core n → is_some (s.core.cells n) ≡ true → HasKeyOf v s trees n
+has-key-of : {N E : Type 0} (v : Values N) (s : PagerState N E) (trees : ℕ → Tree) (n : ℕ) → HandlesAreWhole s.core → Represents v s trees → KeyIsSet s.core n
+    → is_some (s.core.cells n) ≡ true → HasKeyOf v s trees n
 has-key-of v s trees n whole stands set live = let k = key-known s.core n set live in record { key = k.0; set = k.1; reads = node-keyed (stands.stands n (held-of whole n live)) k.0 k.1 }
 
 -- a cell whose key is published has one by then
-set-by-then : {N B W : Type 0} (m : Seen N B W) (n : ℕ) (s s' : Site) (todo : List Todo) (i : Identity) (key height : ℕ) → Does m n s todo (took.Publish i key height) s' → AllHold s.core todo
-    → ((r : ArcRef) (k h : ℕ) (below : List Todo) → todo ≡ to_publish r k h ∷ below → is_some (s.core.cells r.node.0) ≡ true) → is_loose_kind i.kind.0 ≡ true → (set : ℕ) × (key_at s.core i.node.0 ≡ optional.Some set)
+set-by-then : {N B W : Type 0} (m : Seen N B W) (n : ℕ) (s s' : Site) (todo : List Todo) (i : Identity) (key height : ℕ) → Does m n s todo (Took.Publish i key height) s' → AllHold s.core todo
+    → ((r : ArcRef) (k h : ℕ) (below : List Todo) → todo ≡ to_publish r k h ∷ below → is_some (s.core.cells r.node.0) ≡ true) → is_loose_kind i.kind.0 ≡ true
+    → (set : ℕ) × (key_at s.core i.node.0 ≡ OptionalDataKey.Some set)
 unfolding AllHold
 set-by-then m n s s' (to_publish r k h ∷ below) i key height (is, same_key, same_height, t) all live kind =
-    subst (λ (j : Identity). (set : ℕ) × (key_at s.core j.node.0 ≡ optional.Some set)) (sym is) (key-known s.core r.node.0 (all.0 (ap (λ (j : Identity). is_loose_kind j.kind.0) (sym is) ∙ kind)) (live r k h below refl))
+    subst (λ (j : Identity). (set : ℕ) × (key_at s.core j.node.0 ≡ OptionalDataKey.Some set)) (sym is)
+    (key-known s.core r.node.0 (all.0 (ap (λ (j : Identity). is_loose_kind j.kind.0) (sym is) ∙ kind)) (live r k h below refl))
 set-by-then m n s s' todo i key height does all live kind = absurd does
 
-module _ {N B W E : Type 0} (m : Seen N B W) (s s' : MachineState N E) (trees trees' : ℕ → Tree) (before : WorkFits m.values s trees) (after : WorkFits m.values s' trees') (earlier : IsMachineWhole m.values s) (whole : IsMachineWhole m.values s')
+module _ {N B W E : Type 0} (m : Seen N B W) (s s' : MachineState N E) (trees trees' : ℕ → Tree) (before : WorkFits m.values s trees) (after : WorkFits m.values s' trees')
+    (earlier : IsMachineWhole m.values s) (whole : IsMachineWhole m.values s')
     (stands : StandsFor m.values s' trees') (held_before : KeysHeld (world_of s)) (held : KeysHeld (world_of s')) where
   module _ (n : WorkerNumber) (reply : WorkerReply W) (w : WorkerSteps m (world_of s) n reply (world_of s')) where
     abbrev site : Site
     site = record { core = s.pager.core; shelf = s.work.shelves w.walking.table; todo = w.walking.todo }
 
-    done : (key : ℕ) → reply.answer ≡ Some (finals.Key key) → IsDone m.values (s'.work.shelves w.walking.table) w.walking.task key
+    done : (key : ℕ) → reply.answer ≡ Some (WorkerAnswer.Key key) → IsDone m.values (s'.work.shelves w.walking.table) w.walking.task key
     done key is =
         let a = answered m n.0 (ground_of s trees) w.walking.task site w.after w.walking.todo reply.took w.does.does (before.walks n.0 w.walking w.at) key (sym w.answers ∙ is) in
         let table = w.work.same_shelves w.walking.table in
         done-on m.values (keys-same (λ i. table.slots i ∙ ap (λ (z : Shelf). z.slots i) (updated-at w.walking.table w.after.shelf s.work.shelves) ∙ a.same i)) w.walking.task key a.done
 
     -- the worker as it is afterwards
-    is-after : (P : Walking → Type 0) → P (record w.walking { todo = w.after.todo; steps = reply.steps; answer = reply.answer }) → (walking : Walking) → s'.work.walkings n.0 ≡ Some walking → P walking
+    is-after : (P : Walking → Type 0) → P (record w.walking { todo = w.after.todo; steps = reply.steps; answer = reply.answer }) → (walking : Walking)
+        → s'.work.walkings n.0 ≡ Some walking → P walking
     is-after P p walking there =
-        let same : record w.walking { todo = w.after.todo; steps = reply.steps; answer = reply.answer } ≡ walking = same_some _ _ (sym (updated-at n.0 (Some (record w.walking { todo = w.after.todo; steps = reply.steps; answer = reply.answer })) s.work.walkings) ∙ sym (w.work.same_walkings n.0) ∙ there) in
+        let same : record w.walking { todo = w.after.todo; steps = reply.steps; answer = reply.answer } ≡ walking = same_some _ _
+        (sym (updated-at n.0 (Some (record w.walking { todo = w.after.todo; steps = reply.steps; answer = reply.answer })) s.work.walkings) ∙ sym (w.work.same_walkings n.0) ∙ there) in
         subst P same p
 
   left-all : (t : ℕ) (task : Task) (key : ℕ) → IsDone m.values (s'.work.shelves t) task key → LeavesAll m.values s'.pager (s'.work.shelves t) trees' task
   left-all t task key done =
       record {
         blobs = λ i meets. let p = met m.values s' trees' after t task key done i meets in left-paged-out m.values s' trees' after t i p.0 p.1.0 p.1.1;
-        cells = λ i meets kind live. let p = met m.values s' trees' after t task key done i meets in has-key-of m.values s'.pager trees' i.node.0 whole.pager.whole.handles stands.pager (held.slots t i p.0 p.1.0 p.1.1 kind) live;
+        cells = λ i meets kind live. let p = met m.values s' trees' after t task key done i meets in
+            has-key-of m.values s'.pager trees' i.node.0 whole.pager.whole.handles stands.pager (held.slots t i p.0 p.1.0 p.1.1 kind) live;
       }
 
   lives : {n k : ℕ} → HasHandle s.pager.core n k → is_some (s.pager.core.cells k) ≡ true
   lives h = subst (λ k. is_some (s.pager.core.cells k) ≡ true) h.at (cell-of earlier.pager.whole.handles h.row.node.0 (row-held s.pager.core h.h h.row h.live))
 
   pub keys-right : (event : Event N B W) (reply : EventReply N B W) → Happens m (world_of s) event reply (world_of s') → KeysAreRight m.values s trees event reply s' trees'
-  keys-right (events.WorkerStep n) (answers.WorkerMoved (Ok reply)) is =
+  keys-right (Event.WorkerStep n) (EventReply.WorkerMoved (Ok reply)) is =
       let w = is.moves in
       record {
         publishes = λ i key height e.
             let does = subst (λ (k : Took W). Does m n.0 (site n reply w) w.walking.todo k w.after) e w.does.does in (
               of-publish m n.0 (ground_of s trees) w.walking.task (site n reply w) w.after w.walking.todo i key height does (before.walks n.0 w.walking w.at),
-              set-by-then m n.0 (site n reply w) w.after w.walking.todo i key height does (held_before.walks n.0 w.walking w.at) (λ r k h below is. lives (held_before.publishing n.0 w.walking r k h below w.at is)),
+              set-by-then m n.0 (site n reply w) w.after w.walking.todo i key height does (held_before.walks n.0 w.walking w.at)
+                  (λ r k h below is. lives (held_before.publishing n.0 w.walking r k h below w.at is)),
             );
-        key = λ walking key there e. is-after n reply w (λ x. IsKeyOfTask m.values trees' x.task key) (is-key m.values s' trees' after w.walking.table w.walking.task key (done n reply w key e)) walking there;
+        key = λ walking key there e. is-after n reply w (λ x. IsKeyOfTask m.values trees' x.task key)
+            (is-key m.values s' trees' after w.walking.table w.walking.task key (done n reply w key e)) walking there;
         leaves = λ walking key there e. is-after n reply w (λ x. LeavesAll m.values s'.pager (s'.work.shelves x.table) trees' x.task)
             (left-all w.walking.table w.walking.task key (done n reply w key e)) walking there;
       }
-  keys-right (events.WorkerStep n) (answers.WorkerMoved (Err e)) is = record { publishes = tt; key = tt; leaves = tt }
-  keys-right (events.WorkerStep n) reply is = absurd is
-  keys-right (events.Call call) reply is = record { publishes = tt; key = tt; leaves = tt }
-  keys-right (events.LoadStart h) reply is = record { publishes = tt; key = tt; leaves = tt }
-  keys-right (events.LoadKey key t) reply is = record { publishes = tt; key = tt; leaves = tt }
-  keys-right (events.LoadStep l) reply is = record { publishes = tt; key = tt; leaves = tt }
-  keys-right events.TableNew reply is = record { publishes = tt; key = tt; leaves = tt }
-  keys-right (events.WorkerItem t item) reply is = record { publishes = tt; key = tt; leaves = tt }
-  keys-right (events.WorkerListed t i) reply is = record { publishes = tt; key = tt; leaves = tt }
+  keys-right (Event.WorkerStep n) (EventReply.WorkerMoved (Err e)) is = record { publishes = tt; key = tt; leaves = tt }
+  keys-right (Event.WorkerStep n) reply is = absurd is
+  keys-right (Event.Call call) reply is = record { publishes = tt; key = tt; leaves = tt }
+  keys-right (Event.LoadStart h) reply is = record { publishes = tt; key = tt; leaves = tt }
+  keys-right (Event.LoadKey key t) reply is = record { publishes = tt; key = tt; leaves = tt }
+  keys-right (Event.LoadStep l) reply is = record { publishes = tt; key = tt; leaves = tt }
+  keys-right Event.TableNew reply is = record { publishes = tt; key = tt; leaves = tt }
+  keys-right (Event.WorkerItem t item) reply is = record { publishes = tt; key = tt; leaves = tt }
+  keys-right (Event.WorkerListed t i) reply is = record { publishes = tt; key = tt; leaves = tt }
 
 -- ---- what a worker is about to set
 
 each-type : {P : ℕ → Type 0} → ((t : ℕ) → P t) → (m : Meaning ⊥) → EachType P m
 unfolding EachType
-each-type all (number n) = tt
-each-type all (integer z) = tt
-each-type all (text t) = tt
-each-type all (pattern t) = tt
-each-type all none = tt
 each-type all (pair a b) = (each-type all a, each-type all b)
 each-type all (variant n a) = each-type all a
 each-type all (reference a) = absurd a
 each-type all (followed kind a) = (all (type_of kind), each-type all a)
+each-type all _ = tt
 
 -- a key that a worker is about to set reads as its node's tree
-pub sets-key : {N E : Type 0} (v : Values N) (s : MachineState N E) (trees : ℕ → Tree) → ReadsItsTypes v.types → WorkFits v s trees → (n : ℕ) (walking : Walking) (r : ArcRef) (through : HandleNumber) (key height : ℕ) (below : List Todo)
+pub sets-key : {N E : Type 0} (v : Values N) (s : MachineState N E) (trees : ℕ → Tree) → ReadsItsTypes v.types → WorkFits v s trees
+    → (n : ℕ) (walking : Walking) (r : ArcRef) (through : HandleNumber) (key height : ℕ) (below : List Todo)
     → s.work.walkings n ≡ Some walking → walking.todo ≡ to_set r through key height ∷ below → ReadsTree s.pager.core.stored v.types key (trees r.node.0)
 sets-key v s trees reads fit n walking r through key height below there is =
     let walks = subst (λ t. Walks v (ground_of s trees) (s.work.shelves walking.table) walking.task t) is (fit.walks n walking there) in

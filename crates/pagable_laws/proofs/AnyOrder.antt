@@ -1,38 +1,26 @@
 -- A hash map means the same in whatever order its entries come.
-use Rattle.std.proofs.Common.{◌≡◌, Bool, true, false, cond, List, [], ◌∷◌, map, Option, Some, None, refl, sym, ap, ◌∙◌}
+use Rattle.pagable_laws.proofs.Words.{◌≡◌, Bool, true, false, cond, List, [], ◌∷◌, map, Option, Some, None, refl, sym, ap, ◌∙◌, Ordering, T, bytes_eq-Decides, is_eq-slice_cmp, exact_bytes}
+use Rattle.pagable_laws.proofs.Words.{Meaning, pair, variant, reference, followed, plain, rename, lifted, Entry, code, code_order, put_all, put_sorted}
+use Rattle.pagable_laws.proofs.Words.{last_value, one-meaning, of_entries, IsOneKeyMeaning, IsAnyOrder}
 use Rattle.std.specs.Option.{option_or}
 use Rattle.std.specs.declared.cmp.Ordering.{Ordering}
-use Rattle.std.specs.declared.cmp.Ordering.TheVariants as answers
 use Rattle.std.specs.Ordering.{match_ordering, eq_by_cmp}
 use Rattle.std.specs.Cmp.{IsTotalOrder}
 use Rattle.std.specs.Cmp.Lexicographic.{on_texts}
-use Rattle.std.proofs.Math.Dec.{T}
-use Rattle.std.proofs.lemmas.Slice.Eq.{bytes_eq-Decides}
-use Rattle.std.proofs.lemmas.Map.Text.{is_eq-slice_cmp}
-use Rattle.std.proofs.lemmas.Map.Lookups.{exact_bytes}
 use Rattle.std.specs.FinMap.Entries.{by_order, put, find, is_sorted, is_sorted-put, find-put, same_entries}
-use Rattle.pagable_model.specs.Meaning.{Meaning, number, integer, text, pattern, none, pair, variant, reference, followed, plain, rename, lifted}
-use Rattle.pagable_model.specs.Keys.{Entry, code, code_order, put_all, put_sorted, last_value}
-use Rattle.pagable_model.specs.Codes.{one-meaning}
-use Rattle.pagable_model.specs.Carried.{of_entries}
-use Rattle.pagable_laws.specs.KeyLaws.{IsOneKeyMeaning, IsAnyOrder}
 
 plain_lifted : (A : Type 0) (m : Meaning ⊥) → plain (let x : Meaning A = lifted m in x) ≡ m
 unfolding plain rename
-plain_lifted A (number n) = refl
-plain_lifted A (integer z) = refl
-plain_lifted A (text t) = refl
-plain_lifted A (pattern t) = refl
-plain_lifted A none = refl
 plain_lifted A (pair a b) = rw (plain_lifted A a, plain_lifted A b) refl
 plain_lifted A (variant n a) = rw (plain_lifted A a) refl
 plain_lifted A (reference a) = absurd a
 plain_lifted A (followed kind a) = rw (plain_lifted A a) refl
+plain_lifted _ _ = refl
 
 order_total : IsTotalOrder code_order
 order_total = on_texts code
 
-order_exact : (a b : Meaning ⊥) → code_order a b ≡ answers.Equal → a ≡ b
+order_exact : (a b : Meaning ⊥) → code_order a b ≡ Ordering.Equal → a ≡ b
 order_exact a b e = one-meaning a b (exact_bytes (code a) (code b) e)
 
 module _ {X : Type 0} where
@@ -59,9 +47,11 @@ module _ {X : Type 0} where
       ∙ ap (λ (b : Bool). option_or (option_or (last_value q es) (cond b (Some e.1) None)) (find code_order q acc)) (is_eq-slice_cmp (code q) (code e.0))
 
   same_put : (es fs : List (Meaning ⊥ × X)) → ((q : Meaning ⊥) → last_value q es ≡ last_value q fs) → put_all put_in [] es ≡ put_all put_in [] fs
-  same_put es fs h = same_entries code_order order_total order_exact _ _ (all_sorted [] es tt) (all_sorted [] fs tt) (λ q. all_found q [] es ∙ ap (λ (o : Option X). option_or o None) (h q) ∙ sym (all_found q [] fs))
+  same_put es fs h = same_entries code_order order_total order_exact _ _ (all_sorted [] es tt) (all_sorted [] fs tt)
+      (λ q. all_found q [] es ∙ ap (λ (o : Option X). option_or o None) (h q) ∙ sym (all_found q [] fs))
 
-all_along : {X U : Type 0} (u : X → U) (put_x : List X → X → List X) (put_u : List U → U → List U) → ((acc : List X) (x : X) → put_u (map u acc) (u x) ≡ map u (put_x acc x)) → (acc xs : List X) → put_all put_u (map u acc) (map u xs) ≡ map u (put_all put_x acc xs)
+all_along : {X U : Type 0} (u : X → U) (put_x : List X → X → List X) (put_u : List U → U → List U) → ((acc : List X) (x : X) → put_u (map u acc) (u x) ≡ map u (put_x acc x))
+    → (acc xs : List X) → put_all put_u (map u acc) (map u xs) ≡ map u (put_all put_x acc xs)
 unfolding put_all
 all_along u put_x put_u h acc [] = refl
 all_along {X} {U} u put_x put_u h acc (x ∷ xs) = ap (λ (z : List U). put_all put_u z (map u xs)) (h acc x) ∙ all_along u put_x put_u h (put_x acc x) xs
@@ -71,9 +61,9 @@ module _ {A : Type 0} where
   one_key e = (lifted e.0, e.1)
 
   at_answer : (o : Ordering) (x y z : List (Meaning ⊥ × Meaning A)) → match_ordering o (map one_key x) (map one_key y) (map one_key z) ≡ map one_key (by_order o x y z)
-  at_answer answers.Less x y z = refl
-  at_answer answers.Equal x y z = refl
-  at_answer answers.Greater x y z = refl
+  at_answer Ordering.Less x y z = refl
+  at_answer Ordering.Equal x y z = refl
+  at_answer Ordering.Greater x y z = refl
 
   put_along : (acc : List (Meaning ⊥ × Meaning A)) (e : Meaning ⊥ × Meaning A) → put_sorted code_order (map one_key acc) (one_key e) ≡ map one_key (put_in acc e)
   unfolding one_key put_in

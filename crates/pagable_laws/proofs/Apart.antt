@@ -1,26 +1,12 @@
 -- A value that was read of a form names no handle twice, where the handles that were got are apart. So nothing is to be said against its references, where each is good.
-use Rattle.std.proofs.Common.{◌≡◌, ℕ, zero, suc, ◌+◌, ◌≤◌, ◌==◌, ◌||◌, Bool, true, false, List, [], ◌∷◌, length, Some, None, Result, Ok, Err, inr, refl, sym, ap, subst, ◌∙◌, arith, if◌then◌else◌}
-use Rattle.std.specs.Prelude.{slice_get, not}
-use Rattle.std.proofs.lemmas.List.{append-nil}
-use Rattle.std.proofs.lemmas.List.Sums.{sum_by-cons}
-use Rattle.pagable_model.specs.declared.error.Error.{Error}
-use Rattle.pagable_model.specs.declared.error.Error.TheVariants as errors
-use Rattle.pagable_model.specs.Meaning.{Meaning}
-use Rattle.pagable_model.specs.References.{references_in}
-use Rattle.pagable_model.specs.Reading.{Rest, read}
-use Rattle.pagable_model.specs.Writing.{kind_of_arc}
-use Rattle.pagable_model.specs.Standing.{Answer, answer_at, handles_at}
-use Rattle.pagable_world.specs.declared.handles.HandleRow.{HandleRow}
-use Rattle.pagable_world.specs.declared.handles.Owner.{Owner}
-use Rattle.pagable_world.specs.declared.handles.Owner.TheVariants as owners
-use Rattle.pagable_world.specs.Plain.{ArcRef, Blob, Types, type_of, Among, is_in, if_there, one, times}
-use Rattle.pagable_world.specs.Kinds.{is_owner}
-use Rattle.pagable_world.specs.World.{Core, type_at}
-use Rattle.pagable_world.specs.Loads.{answer_of, answers_from, read_with, reads, next_of}
-use Rattle.pagable_world.specs.Refusals.{refused_if, is_type, row_fault, reference_fault, references_fault, IsReference}
-use Rattle.pagable_laws.specs.FormLaws.{rest, LooksUp, no-references, more-references}
+use Rattle.pagable_laws.proofs.Words.{◌≡◌, ℕ, zero, suc, ◌+◌, ◌≤◌, ◌==◌, ◌||◌, Bool, true, false, List, [], ◌∷◌, length, Some, None, Result, Ok, Err, inr, refl, sym, ap, subst, ◌∙◌, arith}
+use Rattle.pagable_laws.proofs.Words.{if◌then◌else◌, slice_get, not, append-nil, sum_by-cons, Error, Meaning, references_in, Rest, read, kind_of_arc, Answer, answer_at, handles_at, HandleRow}
+use Rattle.pagable_laws.proofs.Words.{Owner, ArcRef, Blob, Types, type_of, Among, is_in, if_there, one, times, is_owner, Core, type_at, answer_of, answers_from, reads, next_of, refused_if}
+use Rattle.pagable_laws.proofs.Words.{is_type, row_fault, reference_fault, references_fault, IsReference, rest, LooksUp, no-references, more-references}
+use Rattle.pagable_world.specs.Loads.{read_with}
 use Rattle.pagable_laws.proofs.Again.{read_again}
-use Rattle.pagable_laws.proofs.Along.{Along, number-along, integer-along, text-along, pattern-along, none-along, pair-along, variant-along, reference-along, followed-along, AllTwo, no-two, more-two, append-two}
+use Rattle.pagable_laws.proofs.Along.{Along, pair-along, variant-along, reference-along, followed-along, AllTwo, no-two}
+use Rattle.pagable_laws.proofs.Along.{more-two, append-two}
 use Rattle.pagable_laws.proofs.Related.{Out, both-given, both-refused, first-refused, OutLook, both-looked-up, both-not, read_par}
 use Rattle.pagable_laws.proofs.Sums.{self-number, same-number, at-most-sum, counted, one-true}
 use Rattle.pagable_laws.proofs.Decoding.{read-gives}
@@ -43,7 +29,7 @@ record InPlace (got refs : List ArcRef) (g r : ArcRef) : Type 0 where
 
 -- a reference is read as its own kind
 own_look : ℕ → ArcRef → Result ArcRef Error
-own_look kind r = if r.kind.0 == kind then Ok r else Err errors.WrongKind
+own_look kind r = if r.kind.0 == kind then Ok r else Err Error.WrongKind
 
 looks-own : (rs : List ArcRef) → LooksUp own_look kind_of_arc rs rs
 unfolding own_look
@@ -64,9 +50,9 @@ module _ (types : Types) (t : ℕ) (blob : Blob) (refs got : List ArcRef) (f : I
   unfolding own_look
   answer-own g r place at there is kind = by (g.kind.0 == kind) refl
     where
-      by : (b : Bool) → (g.kind.0 == kind) ≡ b → OutLook no_cause (InPlace got refs) (if g.kind.0 == kind then Ok g else Err errors.WrongKind) (if r.kind.0 == kind then Ok r else Err errors.WrongKind)
+      by : (b : Bool) → (g.kind.0 == kind) ≡ b → OutLook no_cause (InPlace got refs) (if g.kind.0 == kind then Ok g else Err Error.WrongKind) (if r.kind.0 == kind then Ok r else Err Error.WrongKind)
       by true e = let d : (r.kind.0 == kind) ≡ true = ap (λ k. k == kind) (sym is) ∙ e in rw (e, d) (both-looked-up g r (record { place = place; of_got = at; of_refs = there }))
-      by false e = let d : (r.kind.0 == kind) ≡ false = ap (λ k. k == kind) (sym is) ∙ e in rw (e, d) (both-not errors.WrongKind)
+      by false e = let d : (r.kind.0 == kind) ≡ false = ap (λ k. k == kind) (sym is) ∙ e in rw (e, d) (both-not Error.WrongKind)
 
   all-answer : (place : ℕ) (rs : List ArcRef) (keys : List ℕ) → ((i : ℕ) → slice_get rs i ≡ slice_get refs (place + i)) → length keys ≡ length rs → AllTwo Answers (answers_from got place keys) rs
   unfolding answers_from
@@ -109,15 +95,11 @@ module _ (types : Types) (t : ℕ) (blob : Blob) (refs got : List ArcRef) (f : I
 
   refs-two : {m n : Meaning ArcRef} → Along ⊥ (InPlace got refs) m n → AllTwo (InPlace got refs) (references_in m) (references_in n)
   unfolding references_in
-  refs-two (number-along n) = no-two
-  refs-two (integer-along z) = no-two
-  refs-two (text-along t) = no-two
-  refs-two (pattern-along t) = no-two
-  refs-two none-along = no-two
   refs-two (pair-along x y a b h g) = append-two (refs-two h) (refs-two g)
   refs-two (variant-along n x a h) = refs-two h
   refs-two (reference-along g r h) = more-two g r [] [] h no-two
   refs-two (followed-along kind x a n h) = absurd n
+  refs-two _ = no-two
 
   each-other : {xs ys : List ArcRef} → AllTwo (InPlace got refs) xs ys → (x : ArcRef) → Among xs x → (y : ArcRef) × InPlace got refs x y
   each-other no-two x (i, e) = absurd (cc)
@@ -169,15 +151,15 @@ module _ (w : Core) (owner : Owner) where
       let own : is_owner owner is.row.owner ≡ true = ap (is_owner owner) is.owned ∙ self-owner owner in
       let typed : is_type (type_of r.kind.0) (type_at w r.node.0) ≡ true = ap (is_type (type_of r.kind.0)) is.typed ∙ self-number (type_of r.kind.0) in
       let fits = is.fits in
-      ap (λ found. if_there (λ (row : HandleRow). row_fault w r (refused_if (not (is_owner owner row.owner) || is_in seen r.handle.0) errors.NotYours) row) (Some errors.NoSuchHandle) found) is.live
+      ap (λ found. if_there (λ (row : HandleRow). row_fault w r (refused_if (not (is_owner owner row.owner) || is_in seen r.handle.0) Error.NotYours) row) (Some Error.NoSuchHandle) found) is.live
       ∙ rw (at, own, new, fits, typed) refl
     where
       self-owner : (o : Owner) → is_owner o o ≡ true
-      self-owner owners.Caller = refl
-      self-owner (owners.Value n) = self-number n.0
-      self-owner owners.List = refl
-      self-owner (owners.Load n) = self-number n.0
-      self-owner (owners.Worker n) = self-number n.0
+      self-owner Owner.Caller = refl
+      self-owner (Owner.Value n) = self-number n.0
+      self-owner Owner.List = refl
+      self-owner (Owner.Load n) = self-number n.0
+      self-owner (Owner.Worker n) = self-number n.0
 
   pub fine : (seen : List ℕ) (rs : List ArcRef) → ((r : ArcRef) → Among rs r → IsReference w owner r) → ((r : ArcRef) → Among rs r → is_in seen r.handle.0 ≡ false)
       → ((q : ℕ) → times (λ (r : ArcRef). r.handle.0 == q) rs ≤ 1) → references_fault w owner seen rs ≡ None

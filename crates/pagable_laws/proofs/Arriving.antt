@@ -1,22 +1,9 @@
 -- What each chain comes to: claims, workers and loads; and with trees, the headline.
-use Rattle.std.proofs.Common.{◌≡◌, ℕ, ◌+◌, ◌≤◌, ◌||◌, Bool, true, false, List, [], ◌∷◌, ◌++◌, refl, ap, sym, subst, ◌∙◌, arith, append-nil, append_assoc}
-use Rattle.std.specs.Prelude.{Option, Some, None, is_some, is_none}
-use Rattle.std.proofs.lemmas.Bool.Decides.{nat_tests}
-use Rattle.pagable_world.specs.Plain.{Identity, Among, one}
-use Rattle.pagable_world.specs.declared.events.Event.{Event}
-use Rattle.pagable_world.specs.declared.events.EventReply.{EventReply}
-use Rattle.pagable_world.specs.declared.events.Took.{Took}
-use Rattle.pagable_world.specs.declared.events.WorkerAnswer.{WorkerAnswer}
-use Rattle.pagable_world.specs.declared.handles.HandleRow.{HandleRow}
-use Rattle.pagable_world.specs.declared.handles.Owner.{Owner}
-use Rattle.pagable_world.specs.declared.handles.Owner.TheVariants as owners
-use Rattle.pagable_world.specs.Kinds.{owner_worker, is_owned_by, is_owner}
-use Rattle.pagable_world.specs.World.{OpenLoad, Slot, Walking, Seen}
-use Rattle.pagable_world.specs.Workers.{is_workers_load}
-use Rattle.pagable_world.specs.Pager.{MachineState, world_of, IsMachineWhole, IsIdle, MayOwnLoad}
-use Rattle.pagable_world.specs.Runs.{Moment, AreMoments, state_after, events_of, replies_of}
-use Rattle.pagable_world.specs.Order.{step_of, steps_of, InOrder}
-use Rattle.pagable_world.specs.Headline.{TableMeets, HasLetGo, claims_made, WorkerIsRight, LoadsHaveStepsLeft, WorkIsRight, HeadlineLaw}
+use Rattle.pagable_laws.proofs.Words.{◌≡◌, ℕ, ◌+◌, ◌≤◌, ◌||◌, Bool, true, false, List, [], ◌∷◌, ◌++◌, refl, ap, sym, subst, ◌∙◌, arith, append_assoc, Option, Some, None, is_some, is_none}
+use Rattle.pagable_laws.proofs.Words.{nat_tests, Identity, Among, one, Event, EventReply, Took, WorkerAnswer, HandleRow, Owner, owner_worker, is_owned_by, is_owner, OpenLoad, Slot, Walking, Seen}
+use Rattle.pagable_laws.proofs.Words.{is_workers_load, MachineState, world_of, IsMachineWhole, IsIdle, MayOwnLoad, Moment, AreMoments, state_after, events_of, replies_of, step_of, steps_of}
+use Rattle.pagable_laws.proofs.Words.{InOrder, TableMeets, HasLetGo, claims_made, WorkerIsRight, LoadsHaveStepsLeft, WorkIsRight, HeadlineLaw}
+use Rattle.std.proofs.Common.{append-nil}
 use Rattle.pagable_laws.proofs.Standing.{WalkingStands, is_failing, is_open_in}
 use Rattle.pagable_laws.proofs.Changing.{grows}
 use Rattle.pagable_laws.proofs.Holding.{Turned, KeepsTask, keeps-task}
@@ -81,11 +68,8 @@ module _ {N E B W : Type 0} (m : Seen N B W) where
           record { now = l.now; there = l.there; table = l.table ∙ k.table; task = l.task ∙ k.task }
 
 owner-is : (n : ℕ) (o : Owner) → is_owner (owner_worker n) o ≡ true → o ≡ owner_worker n
-owner-is n owners.Caller is = absurd (cc)
-owner-is n (owners.Value k) is = absurd (cc)
-owner-is n owners.List is = absurd (cc)
-owner-is n (owners.Load l) is = absurd (cc)
-owner-is n (owners.Worker v) is = let e : v.0 ≡ n = grind (arith, nat_tests) in ap (λ q. owners.Worker (record { 0 = q })) e
+owner-is n (Owner.Worker v) is = let e : v.0 ≡ n = grind (arith, nat_tests) in ap (λ q. Owner.Worker (record { 0 = q })) e
+owner-is n _ is = absurd (cc)
 
 not-both : {A : Type 0} {b : Bool} → b ≡ true → b ≡ false → A
 not-both is other = absurd (cc)
@@ -126,7 +110,8 @@ module _ {N E B W : Type 0} (m : Seen N B W) (s : MachineState N E) (work : Stan
           of false f = f
 
 -- all that steps have come to, where open loads have a step left
-work-right : {N E B W : Type 0} (m : Seen N B W) (s : MachineState N E) (moments : List (Moment N E B W)) → IsMachineWhole m.values s → IsIdle s → AreMoments m s moments → LoadsHaveStepsLeft m.values (world_of (state_after s moments))
+work-right : {N E B W : Type 0} (m : Seen N B W) (s : MachineState N E) (moments : List (Moment N E B W)) → IsMachineWhole m.values s → IsIdle s → AreMoments m s moments
+    → LoadsHaveStepsLeft m.values (world_of (state_after s moments))
     → WorkIsRight m (state_after s moments) (events_of moments) (replies_of moments)
 work-right {N} {E} {B} {W} m s moments whole idle chain loads = record { claims_right = record { distinct = distinct; met = is-met m end all.work all.whole }; workers = worker; loads = loads }
   where

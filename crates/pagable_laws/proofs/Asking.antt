@@ -1,27 +1,15 @@
 -- What a blob asks for that is a form of some value: one reference of the form after another, each as its own kind, and when all are got it is read.
-use Rattle.std.proofs.Common.{◌≡◌, ℕ, ◌+◌, ◌<◌, ◌≤◌, ◌==◌, true, List, [], ◌∷◌, ◌++◌, map, length, Option, Some, None, Result, Ok, Err, refl, sym, ap, subst, ◌∙◌, arith, append_assoc}
-use Rattle.std.specs.Prelude.{slice_get}
-use Rattle.std.proofs.lemmas.Option.{slice_get-get_or}
-use Rattle.std.proofs.lemmas.List.{append-nil}
-use Rattle.pagable_model.specs.declared.error.Error.{Error}
-use Rattle.pagable_model.specs.declared.error.Error.TheVariants as errors
-use Rattle.pagable_model.specs.Steps.{◌>>=◌}
-use Rattle.pagable_model.specs.Meaning.{Meaning, rename}
-use Rattle.pagable_model.specs.Reading.{Rest, read, deepest}
-use Rattle.pagable_model.specs.References.{references_in}
-use Rattle.pagable_model.specs.Form.{Form}
-use Rattle.pagable_model.specs.Writing.{kind_of_arc}
-use Rattle.pagable_model.specs.Standing.{Answer, answer_at, handles_at}
-use Rattle.pagable_model.specs.Canonical.{IsReadable, Throughout}
-use Rattle.pagable_world.specs.Plain.{ArcRef, Kind, Blob, Shape, Types, is_eager, times}
-use Rattle.pagable_world.specs.World.{Frame}
-use Rattle.pagable_world.specs.Loads.{answer_of, answers_from, read_with, Next, reads, asks, next_by, next_of, next_in}
-use Rattle.pagable_laws.specs.FormLaws.{rest, at, LooksUp, no-references, more-references}
+use Rattle.pagable_laws.proofs.Words.{◌≡◌, ℕ, ◌<◌, ◌≤◌, ◌==◌, true, List, [], ◌∷◌, ◌++◌, map, length, Option, Some, None, Result, Ok, Err, refl, sym, ap, subst, ◌∙◌, arith, append_assoc}
+use Rattle.pagable_laws.proofs.Words.{slice_get, slice_get-get_or, append-nil, Error, ◌>>=◌, Meaning, rename, Rest, read, deepest, references_in, Form, kind_of_arc, Answer, answer_at, handles_at}
+use Rattle.pagable_laws.proofs.Words.{IsReadable, Throughout, ArcRef, Kind, Blob, Shape, Types, is_eager, times, Frame, answer_of, answers_from, Next, reads, asks, next_by, next_of, next_in}
+use Rattle.pagable_laws.proofs.Words.{rest, at, LooksUp, no-references, more-references}
+use Rattle.pagable_world.specs.Loads.{read_with}
 use Rattle.pagable_laws.proofs.Again.{form-again}
 use Rattle.pagable_laws.proofs.Natural.{renamed, keeps_forms}
 use Rattle.pagable_laws.proofs.Sums.{self-number}
 use Rattle.pagable_laws.proofs.ReadingStepsKinds.{kinds_of, kinds-pushed}
 use Rattle.pagable_laws.proofs.Stopping.{Stops, stops-here, stops-later, form-stops}
+use Rattle.pagable_laws.proofs.Fitting.{longer}
 
 -- ---- what is answered
 
@@ -47,20 +35,16 @@ answered g o kind is same =
     let e : (g.kind.0 == kind) ≡ true = ap (λ k. k == kind) same ∙ self-number kind in
     rw (is, e) (ap (λ (k : ℕ). Ok k) same)
 
-unanswered : (o : Option ArcRef) (kind : ℕ) → o ≡ None → look_kind kind (answer_of o) ≡ Err (errors.Storage kind)
+unanswered : (o : Option ArcRef) (kind : ℕ) → o ≡ None → look_kind kind (answer_of o) ≡ Err (Error.Storage kind)
 unfolding look_kind
 unanswered o kind is = rw is refl
-
-longer : (front : List ArcRef) (g : ArcRef) → length (front ++ g ∷ []) ≡ length front + 1
-longer [] g = omega arith
-longer (x ∷ xs) g = let a = longer xs g in omega (arith, a)
 
 -- the references are these, and the first of them were got
 first-kind : (g d : ArcRef) (gs ds : List ArcRef) → kinds_of (g ∷ gs) ≡ kinds_of (d ∷ ds) → (g.kind.0 ≡ d.kind.0) × (kinds_of gs ≡ kinds_of ds)
 first-kind g d gs ds e = (cc, cc)
 
 stops-at : (front back done : List ArcRef) (q : ArcRef) (more : List ArcRef) (keys : List ℕ) → kinds_of back ≡ kinds_of done → length keys ≡ length (done ++ q ∷ more)
-    → Stops look_kind own_kind (errors.Storage q.kind.0) (answers_from (front ++ back) (length front) keys) (map kind_of_arc (done ++ q ∷ more))
+    → Stops look_kind own_kind (Error.Storage q.kind.0) (answers_from (front ++ back) (length front) keys) (map kind_of_arc (done ++ q ∷ more))
 unfolding answers_from
 stops-at front [] [] q more [] same few = absurd (omega arith)
 stops-at front [] [] q more (key ∷ keys) same few = stops-here _ _ _ _ (unanswered (slice_get (front ++ []) (length front)) q.kind.0 (behind-end front))
@@ -70,10 +54,10 @@ stops-at front (g ∷ back) (d ∷ done) q more [] same few = absurd (omega arit
 stops-at front (g ∷ back) (d ∷ done) q more (key ∷ keys) same few =
     let both = first-kind g d back done same in
     let tail = stops-at (front ++ g ∷ []) back done q more keys both.1 (omega arith) in
-    let moved = subst (λ gs. Stops look_kind own_kind (errors.Storage q.kind.0) (answers_from gs (length (front ++ g ∷ [])) keys) (map kind_of_arc (done ++ q ∷ more))) (append_assoc front
+    let moved = subst (λ gs. Stops look_kind own_kind (Error.Storage q.kind.0) (answers_from gs (length (front ++ g ∷ [])) keys) (map kind_of_arc (done ++ q ∷ more))) (append_assoc front
     (g ∷ []) back) tail in
     stops-later _ _ _ _ (answered g (slice_get (front ++ g ∷ back) (length front)) d.kind.0 (at-place front g back) both.0)
-    (subst (λ n. Stops look_kind own_kind (errors.Storage q.kind.0) (answers_from (front ++ g ∷ back) n keys) (map kind_of_arc (done ++ q ∷ more))) (longer front g) moved)
+    (subst (λ n. Stops look_kind own_kind (Error.Storage q.kind.0) (answers_from (front ++ g ∷ back) n keys) (map kind_of_arc (done ++ q ∷ more))) (longer front g) moved)
 
 looks-all : (front back done : List ArcRef) (keys : List ℕ) → kinds_of back ≡ kinds_of done → length keys ≡ length done
     → LooksUp look_kind own_kind (answers_from (front ++ back) (length front) keys) (map kind_of_arc done)
@@ -126,15 +110,15 @@ module _ (types : Types) (t : ℕ) (blob : Blob) (refs : List ArcRef) (f : IsFor
   unfolding read look_kind
   asks-next got done q more split same =
       let few : length blob.keys ≡ length (done ++ q ∷ more) = f.as_many ∙ ap length split in
-      let stops = subst (λ (rs : List ArcRef). Stops look_kind own_kind (errors.Storage q.kind.0) (answers_from got 0 blob.keys) (map kind_of_arc rs)) (sym split)
+      let stops = subst (λ (rs : List ArcRef). Stops look_kind own_kind (Error.Storage q.kind.0) (answers_from got 0 blob.keys) (map kind_of_arc rs)) (sym split)
       (stops-at [] got done q more blob.keys same few) in
       let stopped = form-stops [] (answers_from got 0 blob.keys) kinds-form stops f.can in
-      let refused : read (at 0 look_kind types.parts) f.shape (input got) ≡ Err (errors.Storage q.kind.0) = rw append-nil at stopped in
-      let first = err-of _ (read (handles_at 0 types.parts) f.shape (input got)) (errors.Storage q.kind.0) (sym (renamed kind_of_arc answer_at 0 types.parts f.shape (input got)) ∙ refused) in
+      let refused : read (at 0 look_kind types.parts) f.shape (input got) ≡ Err (Error.Storage q.kind.0) = rw append-nil at stopped in
+      let first = err-of _ (read (handles_at 0 types.parts) f.shape (input got)) (Error.Storage q.kind.0) (sym (renamed kind_of_arc answer_at 0 types.parts f.shape (input got)) ∙ refused) in
       let n = length done in
       let there = slice_get-get_or blob.keys n 0 (shorter done q more few) in
       let gotten : length got ≡ n = as-long got done same in
-      (_, there, ap (λ r. next_by (slice_get blob.keys (length got)) r) (by-shape got ∙ first) ∙ ap (λ o. next_by o (Err (errors.Storage q.kind.0))) (ap (slice_get blob.keys) gotten ∙ there))
+      (_, there, ap (λ r. next_by (slice_get blob.keys (length got)) r) (by-shape got ∙ first) ∙ ap (λ o. next_by o (Err (Error.Storage q.kind.0))) (ap (slice_get blob.keys) gotten ∙ there))
     where
       as-long : (xs ys : List ArcRef) → kinds_of xs ≡ kinds_of ys → length xs ≡ length ys
       as-long [] [] e = refl

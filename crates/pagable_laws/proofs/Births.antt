@@ -1,17 +1,9 @@
 -- The births of the chain of two levels, and the begin of its page-out.
-use Rattle.std.proofs.Common.{◌≡◌, ℕ, zero, suc, ◌<◌, [], ◌∷◌, refl, inl, inr, arith}
-use Rattle.std.specs.Prelude.{Option, Some, None, ◌⊎◌}
-use Rattle.pagable_world.specs.Plain.{is_in}
-use Rattle.pagable_world.specs.Kinds.{find_row}
-use Rattle.pagable_world.specs.World.{Core, Reading, Work, to_start}
-use Rattle.pagable_world.specs.Refusals.{references_fault}
-use Rattle.pagable_world.specs.Calls.{is_named_by}
-use Rattle.pagable_world.specs.Events.{no_shelf, WorkStays, OnlyCore}
-use Rattle.pagable_world.specs.Runs.{AreMoments}
-use Rattle.pagable_laws.specs.SmallWorlds.{no_work}
+use Rattle.pagable_laws.proofs.Words.{◌≡◌, ℕ, zero, suc, ◌<◌, [], ◌∷◌, refl, inl, inr, arith, Option, Some, None, ◌⊎◌, is_in, find_row, Core, Reading, Work, to_start, references_fault}
+use Rattle.pagable_laws.proofs.Words.{is_named_by, no_shelf, WorkStays, OnlyCore, AreMoments, no_work}
 use Rattle.pagable_laws.specs.TwoLevels as two
 use Rattle.pagable_laws.proofs.Tested.{alike-self}
-use Rattle.pagable_laws.proofs.Walked.{same-shelf, none-there}
+use Rattle.pagable_laws.proofs.Walked.{◌⨾◌, same-shelf, none-there}
 use Rattle.pagable_laws.proofs.States.{child-passes, both-passes, begun-passes, idle-whole, work-whole, reads-none}
 
 -- tables and workers stay
@@ -40,19 +32,18 @@ only-pager core core' work does step = record { step = step; readings = λ l. no
 
 pub bears : AreMoments two.sample_seen two.new_one two.births
 unfolding find_row is_named_by is_in references_fault two.value_at
-bears = (
-  record {
-    step = record {
-      happens = only-pager two.new_core two.child_born no_work _ (record {
-        does = record { made = (refl, omega arith, record { above = refl; is_left = omega arith }, alike-self two.child_born); refused = tt };
-      });
-    };
-    moves = record { each = leaf-comes; environment = refl };
-    writes = tt;
-    whole = idle-whole two.child_born two.one_value (λ t. no_shelf) 0 child-passes refl;
-  },
-  (
+bears =
     record {
+      step = record {
+        happens = only-pager two.new_core two.child_born no_work _ (record {
+          does = record { made = (refl, omega arith, record { above = refl; is_left = omega arith }, alike-self two.child_born); refused = tt };
+        });
+      };
+      moves = record { each = leaf-comes; environment = refl };
+      writes = tt;
+      whole = idle-whole two.child_born two.one_value (λ t. no_shelf) 0 child-passes refl;
+    }
+    ⨾ record {
       step = record {
         happens = only-pager two.child_born two.both_born no_work _ (record {
           does = record { made = (refl, omega arith, record { above = refl; is_left = omega arith }, alike-self two.both_born); refused = tt };
@@ -61,40 +52,34 @@ bears = (
       moves = record { each = parent-comes; environment = refl };
       writes = tt;
       whole = idle-whole two.both_born two.two_values (λ t. no_shelf) 0 both-passes refl;
-    },
-    (
-      record {
-        step = record {
-          happens = record {
-            made = (refl, alike-self two.both_born, λ l. none-there (two.both_born.loads l) None refl, record { same_shelves = λ t. same-shelf _; last_is = refl; same_walkings = λ v. refl });
-            refused = tt;
-          };
+    }
+    ⨾ record {
+      step = record {
+        happens = record {
+          made = (refl, alike-self two.both_born, λ l. none-there (two.both_born.loads l) None refl, record { same_shelves = λ t. same-shelf _; last_is = refl; same_walkings = λ v. refl });
+          refused = tt;
         };
-        moves = record { each = λ n x is. inl is; environment = refl };
-        writes = tt;
-        whole = idle-whole two.both_born two.two_values (two.table_work no_shelf).shelves 1 both-passes refl;
-      },
-      (
-        record {
-          step = record {
-            happens = record {
-              starts = record {
-                table = (omega arith, omega arith);
-                next = refl;
-                pager = alike-self two.begun;
-                readings = λ l. none-there (two.begun.loads l) None refl;
-                work = record { same_shelves = λ t. same-shelf _; last_is = refl; same_walkings = λ v. refl };
-              };
-              refused = tt;
-            };
+      };
+      moves = record { each = λ n x is. inl is; environment = refl };
+      writes = tt;
+      whole = idle-whole two.both_born two.two_values (two.table_work no_shelf).shelves 1 both-passes refl;
+    }
+    ⨾ record {
+      step = record {
+        happens = record {
+          starts = record {
+            table = (omega arith, omega arith);
+            next = refl;
+            pager = alike-self two.begun;
+            readings = λ l. none-there (two.begun.loads l) None refl;
+            work = record { same_shelves = λ t. same-shelf _; last_is = refl; same_walkings = λ v. refl };
           };
-          moves = record { each = λ n x is. inl is; environment = refl };
-          writes = tt;
-          whole = work-whole two.begun two.two_values no_shelf (two.walking (to_start two.to_parent 0 ∷ two.item_waits []) 0 None)
-              (λ l. None) begun-passes refl refl refl (λ l r is. reads-none two.begun l r is);
-        },
-        tt,
-      ),
-    ),
-  ),
-)
+          refused = tt;
+        };
+      };
+      moves = record { each = λ n x is. inl is; environment = refl };
+      writes = tt;
+      whole = work-whole two.begun two.two_values no_shelf (two.walking (to_start two.to_parent 0 ∷ two.item_waits []) 0 None)
+          (λ l. None) begun-passes refl refl refl (λ l r is. reads-none two.begun l r is);
+    }
+    ⨾ tt

@@ -1,17 +1,9 @@
 -- Bounded steps: what a worker has counted, with what it still has to do, is at most what its claims and references allow.
-use Rattle.std.proofs.Common.{◌≡◌, ℕ, ◌+◌, ◌*◌, ◌-◌, ◌≤◌, List, [], ◌∷◌, ◌++◌, refl, ap, ◌∙◌, arith, Ok, Err, length-append}
-use Rattle.std.specs.Prelude.{Some, None, drop, length, max}
-use Rattle.std.proofs.lemmas.List.{length-drop}
-use Rattle.std.proofs.lemmas.List.Sums.{sum_by-cons, sum_by-append}
+use Rattle.pagable_laws.proofs.Words.{◌≡◌, ℕ, ◌+◌, ◌*◌, ◌-◌, ◌≤◌, List, [], ◌∷◌, ◌++◌, refl, ap, ◌∙◌, arith, Ok, Err, Some, None, drop, length, max, length-drop, sum_by-cons, sum_by-append}
+use Rattle.pagable_laws.proofs.Words.{ArcRef, one, times, above, Claim, PinStep, Took, Open, Todo, to_start, to_pin, to_load, to_write, to_finish, to_item, to_set, to_publish, to_release}
+use Rattle.pagable_laws.proofs.Words.{to_fail, Task, of_item, of_entry, Written, next_start, give, first_todo, is_counted, Follows, is_claim, references_written, own_references}
+use Rattle.std.proofs.Common.{length-append}
 use Rattle.std.specs.List.{sum_by}
-use Rattle.pagable_world.specs.Plain.{ArcRef, one, times, above}
-use Rattle.pagable_world.specs.declared.events.Claim.TheVariants as claims
-use Rattle.pagable_world.specs.declared.events.PinStep.TheVariants as pinsteps
-use Rattle.pagable_world.specs.declared.events.Took.TheVariants as took
-use Rattle.pagable_world.specs.declared.events.Took.{Took}
-use Rattle.pagable_world.specs.World.{Open, Todo, to_start, to_pin, to_load, to_write, to_finish, to_item, to_set, to_publish, to_release, to_fail, Task, of_item, of_entry, Written}
-use Rattle.pagable_world.specs.Workers.{next_start, give, first_todo, is_counted}
-use Rattle.pagable_world.specs.Order.{Follows, is_claim, references_written, own_references}
 
 -- how many counted steps are to be done for this at most, with those of references that aren't started yet
 abbrev due : Todo → List Todo → ℕ
@@ -35,16 +27,7 @@ all-due (x ∷ below) = due x below + all-due below
 some-due : (x : Todo) (below : List Todo) → 1 ≤ all-due (x ∷ below)
 unfolding all-due
 some-due (to_start r place) [] = omega arith
-some-due (to_start r place) (x ∷ below) = omega arith
-some-due (to_pin r place) below = omega arith
-some-due (to_load r place through reading) below = omega arith
-some-due (to_write r place through) below = omega arith
-some-due (to_finish o) below = omega arith
-some-due (to_item written keys) below = omega arith
-some-due (to_set r through key height) below = omega arith
-some-due (to_publish r key height) below = omega arith
-some-due (to_release r key height) below = omega arith
-some-due (to_fail fault back) below = omega arith
+some-due _ _ = omega arith
 
 -- what waits starts the first of the references that are left, if there is one
 started : (place : ℕ) (rs : List ArcRef) (x : Todo) (below : List Todo) → all-due (next_start place rs ++ x ∷ below) + (length rs - 1) ≤ length rs + all-due (x ∷ below)
@@ -89,49 +72,38 @@ module _ {W : Type 0} (f : W → Written) where
 
   pub pays : (todo : List Todo) (step : Took W) (next : List Todo) → Follows f todo step next → Pays todo step next
   unfolding all-due
-  pays (to_start r place ∷ []) (took.Claim j (Ok claims.Claimed)) next (is, e) = rw e (omega arith)
-  pays (to_start r place ∷ []) (took.Claim j (Ok (claims.Known key height))) next (is, e) = rw e (omega arith)
-  pays (to_start r place ∷ []) (took.Claim j (Ok claims.Waiting)) next (is, e) = rw e (omega arith)
-  pays (to_start r place ∷ []) (took.Claim j (Ok claims.AlreadyFailed)) next (is, e) = rw e (omega arith)
-  pays (to_start r place ∷ []) (took.Claim j (Err fault)) next (is, e) = rw e (omega arith)
-  pays (to_start r place ∷ []) step next follows = absurd follows
-  pays (to_start r place ∷ x ∷ xs) (took.Claim j (Ok claims.Claimed)) next (is, e) = rw e (omega arith)
-  pays (to_start r place ∷ x ∷ xs) (took.Claim j (Ok (claims.Known key height))) next (is, e) = rw e (known 0 _ _ (given r key height (x ∷ xs)))
-  pays (to_start r place ∷ x ∷ xs) (took.Claim j (Ok claims.Waiting)) next (is, e) = rw e (omega arith)
-  pays (to_start r place ∷ x ∷ xs) (took.Claim j (Ok claims.AlreadyFailed)) next (is, e) = rw e (ends _ (some-due x xs))
-  pays (to_start r place ∷ x ∷ xs) (took.Claim j (Err fault)) next (is, e) = rw e (ends _ (some-due x xs))
-  pays (to_start r place ∷ x ∷ xs) step next follows = absurd follows
-  pays (to_pin r place ∷ below) (took.Pin j (Ok (pinsteps.Held h))) next (is, (through, e)) = rw e (omega arith)
-  pays (to_pin r place ∷ below) (took.Pin j (Ok (pinsteps.LoadBegun l))) next (is, (through, e)) = rw e (omega arith)
-  pays (to_pin r place ∷ below) (took.Pin j (Err fault)) next (is, e) = rw e (omega arith)
-  pays (to_pin r place ∷ below) step next follows = absurd follows
-  pays (to_load r place through reading ∷ below) (took.Pin j (Ok pinsteps.LoadWent)) next (is, (frames, e)) = rw e (omega arith)
-  pays (to_load r place through reading ∷ below) (took.Pin j (Ok (pinsteps.Held h))) next (is, e) = rw e (omega arith)
-  pays (to_load r place through reading ∷ below) (took.Pin j (Err fault)) next (is, e) = rw e (omega arith)
-  pays (to_load r place through reading ∷ below) step next follows = absurd follows
-  pays (to_write r place through ∷ below) (took.Write j (Ok out)) next (is, e) =
+  pays (to_start r place ∷ []) (Took.Claim j (Ok Claim.Claimed)) next (is, e) = rw e (omega arith)
+  pays (to_start r place ∷ []) (Took.Claim j (Ok (Claim.Known key height))) next (is, e) = rw e (omega arith)
+  pays (to_start r place ∷ []) (Took.Claim j (Ok Claim.Waiting)) next (is, e) = rw e (omega arith)
+  pays (to_start r place ∷ []) (Took.Claim j (Ok Claim.AlreadyFailed)) next (is, e) = rw e (omega arith)
+  pays (to_start r place ∷ []) (Took.Claim j (Err fault)) next (is, e) = rw e (omega arith)
+  pays (to_start r place ∷ x ∷ xs) (Took.Claim j (Ok Claim.Claimed)) next (is, e) = rw e (omega arith)
+  pays (to_start r place ∷ x ∷ xs) (Took.Claim j (Ok (Claim.Known key height))) next (is, e) = rw e (known 0 _ _ (given r key height (x ∷ xs)))
+  pays (to_start r place ∷ x ∷ xs) (Took.Claim j (Ok Claim.Waiting)) next (is, e) = rw e (omega arith)
+  pays (to_start r place ∷ x ∷ xs) (Took.Claim j (Ok Claim.AlreadyFailed)) next (is, e) = rw e (ends _ (some-due x xs))
+  pays (to_start r place ∷ x ∷ xs) (Took.Claim j (Err fault)) next (is, e) = rw e (ends _ (some-due x xs))
+  pays (to_pin r place ∷ below) (Took.Pin j (Ok (PinStep.Held h))) next (is, (through, e)) = rw e (omega arith)
+  pays (to_pin r place ∷ below) (Took.Pin j (Ok (PinStep.LoadBegun l))) next (is, (through, e)) = rw e (omega arith)
+  pays (to_pin r place ∷ below) (Took.Pin j (Err fault)) next (is, e) = rw e (omega arith)
+  pays (to_load r place through reading ∷ below) (Took.Pin j (Ok PinStep.LoadWent)) next (is, (frames, e)) = rw e (omega arith)
+  pays (to_load r place through reading ∷ below) (Took.Pin j (Ok (PinStep.Held h))) next (is, e) = rw e (omega arith)
+  pays (to_load r place through reading ∷ below) (Took.Pin j (Err fault)) next (is, e) = rw e (omega arith)
+  pays (to_write r place through ∷ below) (Took.Write j (Ok out)) next (is, e) =
       rw e (wrote _ _ _ (settled-node (record { reference = r; place = place; through = through; written = f out; keys = []; height = 0 }) 0 below refl))
     where
       wrote : (d n b : ℕ) → d ≤ 4 + (n - 0) + b → 1 + d ≤ 8 * 0 + n + (5 + b)
       wrote d n b le = omega arith
-  pays (to_write r place through ∷ below) (took.Write j (Err fault)) next (is, e) = rw e (omega arith)
-  pays (to_write r place through ∷ below) step next follows = absurd follows
-  pays (to_finish o ∷ below) (took.Store (Some j) (Ok key)) next (is, e) = rw e (omega arith)
-  pays (to_finish o ∷ below) (took.Store (Some j) (Err fault)) next (is, e) = rw e (omega arith)
-  pays (to_finish o ∷ below) step next follows = absurd follows
-  pays (to_item written keys ∷ below) (took.Store None (Ok key)) next e = rw e (omega arith)
-  pays (to_item written keys ∷ below) (took.Store None (Err fault)) next e = rw e (omega arith)
-  pays (to_item written keys ∷ below) step next follows = absurd follows
-  pays (to_set r through key height ∷ below) (took.SetKey j (Ok u)) next (is, e) = rw e (omega arith)
-  pays (to_set r through key height ∷ below) (took.SetKey j (Err fault)) next (is, e) = rw e (omega arith)
-  pays (to_set r through key height ∷ below) step next follows = absurd follows
-  pays (to_publish r key height ∷ below) (took.Publish j k h) next (is, same_key, same_height, e) = rw e (omega arith)
-  pays (to_publish r key height ∷ below) step next follows = absurd follows
-  pays (to_release r key height ∷ below) (took.Release j) next (is, e) = rw e (known 0 _ _ (given r key height below))
-  pays (to_release r key height ∷ below) step next follows = absurd follows
-  pays (to_fail fault back ∷ below) took.Fail next e = rw e (omega arith)
-  pays (to_fail fault back ∷ below) step next follows = absurd follows
-  pays [] step next follows = absurd follows
+  pays (to_write r place through ∷ below) (Took.Write j (Err fault)) next (is, e) = rw e (omega arith)
+  pays (to_finish o ∷ below) (Took.Store (Some j) (Ok key)) next (is, e) = rw e (omega arith)
+  pays (to_finish o ∷ below) (Took.Store (Some j) (Err fault)) next (is, e) = rw e (omega arith)
+  pays (to_item written keys ∷ below) (Took.Store None (Ok key)) next e = rw e (omega arith)
+  pays (to_item written keys ∷ below) (Took.Store None (Err fault)) next e = rw e (omega arith)
+  pays (to_set r through key height ∷ below) (Took.SetKey j (Ok u)) next (is, e) = rw e (omega arith)
+  pays (to_set r through key height ∷ below) (Took.SetKey j (Err fault)) next (is, e) = rw e (omega arith)
+  pays (to_publish r key height ∷ below) (Took.Publish j k h) next (is, same_key, same_height, e) = rw e (omega arith)
+  pays (to_release r key height ∷ below) (Took.Release j) next (is, e) = rw e (known 0 _ _ (given r key height below))
+  pays (to_fail fault back ∷ below) Took.Fail next e = rw e (omega arith)
+  pays _ step next follows = absurd follows
 
   -- the steps that were counted, with those that are due, are within the bound
   abbrev pub IsWithin : Task → List Todo → ℕ → List (Took W) → Type 0

@@ -1,16 +1,8 @@
 -- What a load's step brings fits some trees afterwards: the value of a node that is born leads to the tree that its key reads as, and that of a root to its cell's.
-use Rattle.std.proofs.Common.{◌≡◌, ℕ, zero, ◌+◌, ◌≤◌, List, [], ◌∷◌, Option, Some, None, inl, inr, refl, sym, ap, ◌∙◌, subst}
-use Rattle.pagable_model.specs.declared.data_key.OptionalDataKey.TheVariants as optional
-use Rattle.pagable_world.specs.declared.events.LoadAnswer.{LoadAnswer}
-use Rattle.pagable_world.specs.Plain.{ArcRef, Kind, Tree, ReadsTree, Among, updated, is_pinned_kind}
-use Rattle.pagable_world.specs.World.{OpenLoad, Reading, Frame, Values, IsLawful}
-use Rattle.pagable_world.specs.LoadCalls.{first_key}
-use Rattle.pagable_world.specs.Loads.{ReadsRoot, Need, to_adopt, needs_lazy}
-use Rattle.pagable_world.specs.Pager.{PagerState, WellFormed, Represents, ReadingBrings, IsCellOf, FramesFit, ReadingFits}
-use Rattle.pagable_world.specs.Runs.{HoldsSettled, ReadsItsTypes, TakesWell}
-use Rattle.pagable_laws.specs.ReadLaws.{ValueLeads, FramesGiven}
-use Rattle.pagable_laws.specs.TreeSteps.{Change, CoreGoes, nothing_felt, ReadingFeels, reads-root, reads-blob, gets-known, gets-lazy, makes-known, makes-node, reading-ends}
-use Rattle.pagable_laws.specs.TreeRuns.{ChangeFits}
+use Rattle.pagable_laws.proofs.Words.{◌≡◌, ℕ, zero, ◌+◌, ◌≤◌, List, [], ◌∷◌, Option, Some, None, inl, inr, refl, sym, ap, ◌∙◌, subst, OptionalDataKey, LoadAnswer, ArcRef, Kind, Tree, ReadsTree}
+use Rattle.pagable_laws.proofs.Words.{Among, updated, is_pinned_kind, OpenLoad, Reading, Frame, Values, IsLawful, first_key, ReadsRoot, Need, to_adopt, needs_lazy, PagerState, WellFormed}
+use Rattle.pagable_laws.proofs.Words.{Represents, ReadingBrings, IsCellOf, FramesFit, ReadingFits, HoldsSettled, ReadsItsTypes, TakesWell, ValueLeads, FramesGiven, Change, CoreGoes, nothing_felt}
+use Rattle.pagable_laws.proofs.Words.{ReadingFeels, gets-lazy, makes-node, ChangeFits}
 use Rattle.pagable_laws.proofs.Trees.{same_some, one_tree}
 use Rattle.pagable_laws.proofs.Following.{held-of}
 use Rattle.pagable_laws.proofs.Fitting.{tree-stays, first-fits}
@@ -28,7 +20,8 @@ same-top frames a b xs ys e f = cc
 at-front : (frames : List Frame) (a : Frame) (xs : List Frame) → frames ≡ a ∷ xs → Among frames a
 at-front frames a xs e = subst (λ fs. Among fs a) (sym e) (zero, refl)
 
-module _ {N E : Type 0} {v : Values N} {s s' : PagerState N E} {trees : ℕ → Tree} (lawful : IsLawful v) (readable : ReadsItsTypes v.types) (settled : HoldsSettled v s) (well : WellFormed v s) (well' : WellFormed v s') (stands : Represents v s trees)
+module _ {N E : Type 0} {v : Values N} {s s' : PagerState N E} {trees : ℕ → Tree} (lawful : IsLawful v) (readable : ReadsItsTypes v.types) (settled : HoldsSettled v s) (well : WellFormed v s)
+    (well' : WellFormed v s') (stands : Represents v s trees)
     (reading : Reading) (fits : ReadingFits v s trees reading) (given : FramesGiven s.core.last.node reading.frames) {c : Change} (goes : CoreGoes c s.core s'.core) where
   pub record RootLeads (n : ℕ) (x : N) : Type 0 where
     pub within : n ≤ s.core.last.node
@@ -45,7 +38,8 @@ module _ {N E : Type 0} {v : Values N} {s s' : PagerState N E} {trees : ℕ → 
       let within : n ≤ s.core.last.node = subst (λ m. m ≤ s.core.last.node) cell.is (well.whole.loads.roots reading.load.0 cell.load cell.node cell.t cell.h cell.open_load cell.root).given.1 in
       let old = goes.old n within (live-after lawful settled well well' stands n x is) in
       let typed : (trees n).type ≡ v.node_type x = same_some _ _ (sym (stands.typed n (held-of well.whole.handles n old.was)) ∙ sym old.typed ∙ well'.typed n x is) in
-      let cells : ReadsTree s.core.stored v.types cell.load.key (trees n) = subst (λ m. ReadsTree s.core.stored v.types cell.load.key (trees m)) cell.is (stands.loads reading.load.0 cell.load cell.node cell.t cell.h cell.open_load cell.root).reads in
+      let cells : ReadsTree s.core.stored v.types cell.load.key (trees n) = subst (λ m. ReadsTree s.core.stored v.types cell.load.key (trees m)) cell.is
+      (stands.loads reading.load.0 cell.load cell.node cell.t cell.h cell.open_load cell.root).reads in
       let same : d.t ≡ trees n = one_tree s.core.stored v.types cell.load.key d.t (trees n) (sym d.leads.typed ∙ sym typed) under cells in
       record { within = within; leads = subst (λ z. ValueLeads v trees x z) same d.leads; few = λ r among. given root.root r (at-front reading.frames root.root [] root.frames) (d.got r among) }
 
@@ -57,28 +51,26 @@ module _ {N E : Type 0} {v : Values N} {s s' : PagerState N E} {trees : ℕ → 
   quiet n x nothing (inr (root, cell)) is = (root-leads n x is root cell).leads
 
   -- a node is born, and the root's value comes to an old one
-  root-on : (t0 : Tree) (n : ℕ) (x : N) → s'.values n ≡ Some x → ReadsRoot v reading x → IsCellOf s.core reading.load n → ValueLeads v (updated (s.core.last.node + 1) t0 trees) x (updated (s.core.last.node + 1) t0 trees n)
+  root-on : (t0 : Tree) (n : ℕ) (x : N) → s'.values n ≡ Some x → ReadsRoot v reading x → IsCellOf s.core reading.load n
+      → ValueLeads v (updated (s.core.last.node + 1) t0 trees) x (updated (s.core.last.node + 1) t0 trees n)
   root-on t0 n x is root cell =
       let r = root-leads n x is root cell in
       let led = value-on lawful settled well well' stands (with-below s.core.last.node t0 trees) r.few r.leads in
       subst (λ z. ValueLeads v (updated (s.core.last.node + 1) t0 trees) x z) (sym (with-below s.core.last.node t0 trees n r.within)) led
 
-module _ {N E : Type 0} {v : Values N} {s s' : PagerState N E} {trees : ℕ → Tree} (lawful : IsLawful v) (readable : ReadsItsTypes v.types) (settled : HoldsSettled v s) (well : WellFormed v s) (well' : WellFormed v s') (stands : Represents v s trees)
+module _ {N E : Type 0} {v : Values N} {s s' : PagerState N E} {trees : ℕ → Tree} (lawful : IsLawful v) (readable : ReadsItsTypes v.types) (settled : HoldsSettled v s) (well : WellFormed v s)
+    (well' : WellFormed v s') (stands : Represents v s trees)
     (reading : Reading) (fits : ReadingFits v s trees reading) (given : FramesGiven s.core.last.node reading.frames) where
   still : CoreGoes nothing_felt s.core s'.core → (after : ℕ → Tree) × ChangeFits v nothing_felt (ReadingBrings v s.core reading) s s' trees after
   still goes = (trees, fits-nothing lawful settled well well' stands _ (λ n x brings none is. quiet lawful readable settled well well' stands reading fits given goes n x refl brings is))
 
-  pub reading-fits : {c : Change} {answer : Option (LoadAnswer N)} {frames : List Frame} → CoreGoes c s.core s'.core → TakesWell v s reading → (answer ≡ None → (load : OpenLoad) × (s.core.loads reading.load.0 ≡ Some load))
+  pub reading-fits : {c : Change} {answer : Option (LoadAnswer N)} {frames : List Frame} → CoreGoes c s.core s'.core → TakesWell v s reading
+      → (answer ≡ None → (load : OpenLoad) × (s.core.loads reading.load.0 ≡ Some load))
       → ReadingFeels v s.core reading answer frames s'.core c → (after : ℕ → Tree) × ChangeFits v c (ReadingBrings v s.core reading) s s' trees after
-  reading-fits goes takes opens (reads-root load blob none_read at stored answer is) = still goes
-  reading-fits goes takes opens (reads-blob kind key blob needs stored answer is) = still goes
-  reading-fits goes takes opens (gets-known kind key n row needs known got answer is) = still goes
-  reading-fits goes takes opens (makes-known x reads n row known got answer is) = still goes
-  reading-fits goes takes opens (reading-ends end answer is) = still goes
   reading-fits goes takes opens (gets-lazy kind key row needs got answer is) =
       let asked = takes kind key needs in (
         updated (s.core.last.node + 1) asked.read trees,
-        fits-born-known lawful settled well well' stands asked.read _ kind.0 key (optional.Some key) asked.typed (λ q e. cc) (tree-stays goes.stored asked.reads)
+        fits-born-known lawful settled well well' stands asked.read _ kind.0 key (OptionalDataKey.Some key) asked.typed (λ q e. cc) (tree-stays goes.stored asked.reads)
             (λ n x brings none at. elim brings [
               | inl (reads, new) ↦ two-needs kind key _ reads.needs needs
               | inr (root, cell) ↦ root-on lawful readable settled well well' stands reading fits given goes asked.read n x at root cell
@@ -103,3 +95,4 @@ module _ {N E : Type 0} {v : Values N} {s s' : PagerState N E} {trees : ℕ → 
               | inr (root, cell) ↦ root-on lawful readable settled well well' stands reading fits given goes t0 n y at root cell
             ]),
       )
+  reading-fits goes takes opens _ = still goes

@@ -1,31 +1,14 @@
 -- What trees feel of each call that doesn't close the storage, by the call and its reply.
-use Rattle.std.proofs.Common.{◌≡◌, ℕ, Bool, true, false, List, [], refl, ap, sym, subst, ◌∙◌, inl, inr}
-use Rattle.std.specs.Prelude.{Option, Some, None, ◌⊎◌, Result, Ok, Err}
-use Rattle.pagable_world.specs.Plain.{Error, Kind, ArcRef, HandleNumber, LoadNumber, NodeNumber}
-use Rattle.pagable_world.specs.declared.handles.Owner.{Owner}
-use Rattle.pagable_world.specs.declared.handles.HandleRow.{HandleRow}
-use Rattle.pagable_world.specs.declared.rows.Mode.{Mode}
-use Rattle.pagable_world.specs.declared.calls.Call.{Call}
-use Rattle.pagable_world.specs.declared.calls.Reply.{Reply}
-use Rattle.pagable_world.specs.declared.events.Event.TheVariants as events
-use Rattle.pagable_world.specs.declared.handles.Owner.TheVariants as owners
-use Rattle.pagable_world.specs.declared.rows.Mode.TheVariants as modes
-use Rattle.pagable_world.specs.declared.calls.Call.TheVariants as calls
-use Rattle.pagable_world.specs.declared.calls.Reply.TheVariants as replies
-use Rattle.pagable_model.specs.declared.data_key.OptionalDataKey.TheVariants as optional
-use Rattle.pagable_world.specs.Kinds.{find_row, is_loose, is_pinned, owner_value}
-use Rattle.pagable_world.specs.World.{Core, Seen, Values}
-use Rattle.pagable_world.specs.Refusals.{Owns}
-use Rattle.pagable_world.specs.Cascade.{only_handle}
-use Rattle.pagable_world.specs.Calls.{with_mode, next_node, moved, is_named_by, BirthCall, UnpinCall, ReleaseCall, SetKeyCall, ScheduleCall, TakeCall, RecallCall, OfferCall, IsRefused, ClearCall}
-use Rattle.pagable_world.specs.LoadCalls.{AdoptCall, LazyCall, EndCall, Installs, HandOverCall, DropCall, with_pin, without_load, first_key}
+use Rattle.pagable_laws.proofs.Words.{◌≡◌, ℕ, Bool, true, false, List, [], refl, ap, sym, subst, ◌∙◌, inl, inr, Option, Some, None, ◌⊎◌, Result, Ok, Err, Error, Kind, ArcRef, HandleNumber}
+use Rattle.pagable_laws.proofs.Words.{LoadNumber, NodeNumber, Owner, HandleRow, Mode, Call, Reply, Event, OptionalDataKey, find_row, is_loose, is_pinned, owner_value, Core, Seen, Values, Owns}
+use Rattle.pagable_laws.proofs.Words.{only_handle, with_mode, next_node, moved, is_named_by, BirthCall, UnpinCall, ReleaseCall, SetKeyCall, ScheduleCall, TakeCall, RecallCall, OfferCall}
+use Rattle.pagable_laws.proofs.Words.{IsRefused, ClearCall, AdoptCall, LazyCall, EndCall, Installs, HandOverCall, DropCall, with_pin, without_load, first_key, CallBrings, IsNewNode, KeepsOpen}
+use Rattle.pagable_laws.proofs.Words.{LeavesCache, Change, nothing_felt, sets_key, knows_node, bears_node, bears_known, CallFeels, feels-nothing, feels-birth, feels-away, feels-key, feels-known}
+use Rattle.pagable_laws.proofs.Words.{feels-adopted, feels-lazy, feels-end, StaysAway}
 use Rattle.pagable_world.specs.Events.{Does}
-use Rattle.pagable_world.specs.Pager.{CallBrings, IsNewNode}
-use Rattle.pagable_world.specs.Runs.{KeepsOpen}
-use Rattle.pagable_world.specs.OneWorker.{LeavesCache}
-use Rattle.pagable_laws.specs.TreeSteps.{Change, nothing_felt, sets_key, knows_node, bears_node, bears_known, CallFeels, feels-nothing, feels-birth, feels-away, feels-key, feels-known, feels-adopted, feels-lazy, feels-end, StaysAway}
 use Rattle.pagable_laws.proofs.Trees.{same_some}
-use Rattle.pagable_laws.proofs.Goes.{le-self, Quiet, Goes, NotLoads, rows-self, rows-mode, Changed, found-changed, quiet-then, alike, only-rows, fell, fell-anyhow, a-handle, quiet-goes, goes-quiet, born, keyed, goes-known, adopts, KnowsNext}
+use Rattle.pagable_laws.proofs.Goes.{parts, quiet-self, le-self, Quiet, Goes, NotLoads, rows-self, rows-mode, Changed, found-changed, quiet-then, alike, only-rows, fell, fell-anyhow, a-handle, quiet-goes}
+use Rattle.pagable_laws.proofs.Goes.{goes-quiet, born, keyed, goes-known, adopts, KnowsNext}
 use Rattle.pagable_laws.proofs.GoodReferences.{good, alike-away, fell-away}
 use Rattle.pagable_laws.proofs.Calling.{own-mode, made-handle, some-moved, closed-load, was-asked, stores, clones, pins, begins, begins-key, gets-known, asks, closes}
 
@@ -37,7 +20,7 @@ module _ {w w' : Core} {me : Owner} (free : NotLoads me) where
   unpins h r c = elim c.does [
     | inl refused ↦ refused-call r refused
     | inr (row, owns, inl (mode, told, a)) ↦ alike a
-    | inr (row, owns, inr (mode, f)) ↦ quiet-then (own-mode w me h is_loose row modes.LooseUnpinned refl free owns) (fell f)
+    | inr (row, owns, inr (mode, f)) ↦ quiet-then (own-mode w me h is_loose row Mode.LooseUnpinned refl free owns) (fell f)
   ]
 
   pub releases : (h : HandleNumber) (r : Result (Unit {0}) Error) → ReleaseCall w me h r w' → Quiet w w'
@@ -48,7 +31,7 @@ module _ {w w' : Core} {me : Owner} (free : NotLoads me) where
 
   pub schedules : (h : HandleNumber) (r : Result (Unit {0}) Error) → ScheduleCall w me h r w' → Quiet w w'
   schedules h (Ok u) c = elim c.moves.2 [
-    | inl (open_still, a) ↦ quiet-then (some-moved w (only_handle h) owners.List _ (λ l is. absurd (cc))) (alike a)
+    | inl (open_still, a) ↦ quiet-then (some-moved w (only_handle h) Owner.List _ (λ l is. absurd (cc))) (alike a)
     | inr (closed, f) ↦ fell-anyhow f
   ]
   schedules h (Err e) c = alike c.refused.stays
@@ -76,19 +59,7 @@ pub cleared : {w w' : Core} (r : Result (Unit {0}) Error) → ClearCall w r w' �
 cleared {w} r c = quiet-then none-known (alike c.leaves)
   where
     none-known : Quiet w (record w { cache = λ kind key. None })
-    none-known =
-        record {
-          nodes = le-self _;
-          handles = le-self _;
-          loads_last = le-self _;
-          workers_last = le-self _;
-          cells = λ n cell is. is;
-          stored = λ q blob is. is;
-          loads = λ l load is. is;
-          cache = λ kind key n is. absurd (cc);
-          rows = rows-self w.last.handle w.rows w.rows refl;
-          shut = λ is. is;
-        }
+    none-known = parts (le-self _) (le-self _) (λ n cell is. is) (λ l load is. is) (λ kind key n is. absurd (cc)) (rows-self w.last.handle w.rows w.rows refl)
 
 -- a change, with what it does and how it is felt
 pub record CallGoes {N B : Type 0} (v : Values N) (w : Core) (me : Owner) (call : Call N B) (reply : Reply N B) (w' : Core) : Type 0 where
@@ -104,18 +75,19 @@ module _ {N B W : Type 0} (m : Seen N B W) (w : Core) (me : Owner) (free : NotLo
   quiet : {call : Call N B} {reply : Reply N B} → ((n : ℕ) (x : N) → CallBrings w call n x → IsNewNode w n ⊎ StaysAway w w' n) → Quiet w w' → CG call reply
   quiet brings q = record { change = nothing_felt; goes = quiet-goes nothing_felt q; feels = feels-nothing brings }
 
-  pub births : (call : Call N B) (x : N) (mode : Mode) → ((n : ℕ) (y : N) → CallBrings w call n y → (y ≡ x) × IsNewNode w n) → (r : Result HandleNumber (Error × N)) → BirthCall w me x (m.values.node_type x) (m.values.references x) mode r w' → CG call (replies.Made r)
+  pub births : (call : Call N B) (x : N) (mode : Mode) → ((n : ℕ) (y : N) → CallBrings w call n y → (y ≡ x) × IsNewNode w n) → (r : Result HandleNumber (Error × N))
+      → BirthCall w me x (m.values.node_type x) (m.values.references x) mode r w' → CG call (Reply.Made r)
   births call x mode brings (Ok k) c =
       let references = m.values.references x in
       let t = m.values.node_type x in
       record {
-        change = bears_node t optional.None;
-        goes = goes-quiet (born (bears_node t optional.None) w t optional.None references (refl, refl)) (made-handle (next_node w) mode me c.made.3);
+        change = bears_node t OptionalDataKey.None;
+        goes = goes-quiet (born (bears_node t OptionalDataKey.None) w t OptionalDataKey.None references (refl, refl)) (made-handle (next_node w) mode me c.made.3);
         feels = feels-birth x brings (good w me [] references c.made.0);
       }
   births call x mode brings (Err e) c = quiet (λ n y b. inl (brings n y b).1) (alike c.refused.1.stays)
 
-  pub sets : (h : HandleNumber) (key : ℕ) (r : Result (Unit {0}) Error) → SetKeyCall w me h key r w' → CG (calls.SetDataKey h key) (replies.Done r)
+  pub sets : (h : HandleNumber) (key : ℕ) (r : Result (Unit {0}) Error) → SetKeyCall w me h key r w' → CG (Call.SetDataKey h key) (Reply.Done r)
   sets h key r c = elim c.does [
     | inl refused ↦ quiet (λ n x b. absurd b) (refused-call r refused)
     | inr (row, owns, inl (mode, told, a)) ↦ quiet (λ n x b. absurd b) (alike a)
@@ -126,41 +98,39 @@ module _ {N B W : Type 0} (m : Seen N B W) (w : Core) (me : Owner) (free : NotLo
     }
   ]
 
-  offers : (kind : Kind) (key : ℕ) (h : HandleNumber) (r : Result (Option HandleNumber) Error) → OfferCall w me kind key h r w' → CG (calls.OnArcDeserialized kind key h) (replies.FromCache r)
+  offers : (kind : Kind) (key : ℕ) (h : HandleNumber) (r : Result (Option HandleNumber) Error) → OfferCall w me kind key h r w' → CG (Call.OnArcDeserialized kind key h) (Reply.FromCache r)
   offers kind key h (Ok None) c =
       let row : HandleRow = c.answers.0 in
       let owns = c.answers.1 in
       record {
         change = knows_node kind.0 key row.node.0;
-        goes = goes-quiet (goes-known (quiet-goes (knows_node kind.0 key row.node.0) (alike-self w)) kind key row.node (refl, refl, refl)) (alike c.answers.3.2);
+        goes = goes-quiet (goes-known (quiet-goes (knows_node kind.0 key row.node.0) (quiet-self w)) kind key row.node (refl, refl, refl)) (alike c.answers.3.2);
         feels = feels-known kind key h row refl refl (record { live = owns.live; own = owns.own; as_asked = refl }) c.answers.2;
       }
-    where
-      alike-self : (w : Core) → Quiet w w
-      alike-self w = only-rows {list = w.list} (rows-self w.last.handle w.rows w.rows refl) (le-self _)
   offers kind key h (Ok (Some k)) c = elim c.answers.3 [
     | inl (closed, same, a) ↦ quiet (λ n x b. absurd b) (alike a)
     | inr (open_still, (n, usable, next, f)) ↦ quiet (λ n x b. absurd b) (quiet-then (a-handle w _ _ me) (fell-anyhow f))
   ]
   offers kind key h (Err e) c = quiet (λ n x b. absurd b) (alike c.refused.stays)
 
-  pub adopting : (l : LoadNumber) (kind : Kind) (key : ℕ) (x : N) (r : Result HandleNumber (Error × N)) → AdoptCall w me l kind key x (m.values.node_type x) (m.values.references x) r w' → CG (calls.LoadAdopt l kind key x) (replies.Made r)
+  pub adopting : (l : LoadNumber) (kind : Kind) (key : ℕ) (x : N) (r : Result HandleNumber (Error × N)) → AdoptCall w me l kind key x (m.values.node_type x) (m.values.references x) r w'
+      → CG (Call.LoadAdopt l kind key x) (Reply.Made r)
   adopting l kind key x (Ok k) c = elim c.adopts.makes [
-    | inl (n, usable, f) ↦ quiet (λ n y b. inl b.1) (quiet-then (a-handle w _ _ (owners.Load l)) (fell-anyhow f))
+    | inl (n, usable, f) ↦ quiet (λ n y b. inl b.1) (quiet-then (a-handle w _ _ (Owner.Load l)) (fell-anyhow f))
     | inr (none, few, a) ↦ record {
       change = bears_known kind.0 key (first_key kind.0 key);
       goes = goes-quiet (adopts w l kind key (first_key kind.0 key) (m.values.references x)) (alike a);
-      feels = feels-adopted l kind key x k refl refl c.adopts.typed (good w (owners.Load l) [] (m.values.references x) c.adopts.good);
+      feels = feels-adopted l kind key x k refl refl c.adopts.typed (good w (Owner.Load l) [] (m.values.references x) c.adopts.good);
     }
   ]
   adopting l kind key x (Err e) c = quiet (λ n y b. inl b.1) (alike c.refused.1.stays)
 
-  pub lazily : (l : LoadNumber) (kind : Kind) (key : ℕ) (r : Result HandleNumber Error) → LazyCall w me l kind key r w' → CG (calls.LoadLazy l kind key) (replies.Handle r)
+  pub lazily : (l : LoadNumber) (kind : Kind) (key : ℕ) (r : Result HandleNumber Error) → LazyCall w me l kind key r w' → CG (Call.LoadLazy l kind key) (Reply.Handle r)
   lazily l kind key (Ok k) c = elim c.makes.3 [
     | inl known ↦ quiet (λ n x b. absurd b) (gets-known known)
     | inr (none, few, next, a) ↦ record {
-      change = bears_known kind.0 key (optional.Some key);
-      goes = goes-quiet (adopts w l kind key (optional.Some key) []) (alike a);
+      change = bears_known kind.0 key (OptionalDataKey.Some key);
+      goes = goes-quiet (adopts w l kind key (OptionalDataKey.Some key) []) (alike a);
       feels = feels-lazy l kind key k refl refl;
     }
   ]
@@ -182,7 +152,7 @@ module _ {N B W : Type 0} (m : Seen N B W) (w : Core) (me : Owner) (free : NotLo
   pub ends-quiet : (l : LoadNumber) (x : N) (r : Result HandleNumber (Error × Option N)) → EndCall w me l x (m.values.node_type x) (m.values.references x) r w' → Quiet w w'
   ends-quiet l x (Ok k) c = elim i.falls [
     | inl (away, f) ↦ quiet-then (quiet-then (quiet-then (closed-load w l) (some-moved (without_load w l) (is_named_by references) (owner_value node.0) w.list (λ l is. absurd (cc)))) (pin-of (record (without_load w l) { rows = moved (is_named_by references) (owner_value node.0) w.rows }) h node (pinned-free h (is_named_by references) node.0 i.row i.owned))) (fell-anyhow f)
-    | inr (there, f) ↦ quiet-then (quiet-then (closed-load w l) (quiet-then (own-mode (without_load w l) me h is_loose i.row modes.LoosePinned refl free (record { live = i.owned.live; own = i.owned.own; as_asked = i.owned.as_asked })) (a-handle _ node modes.Pinned me))) (fell-anyhow f)
+    | inr (there, f) ↦ quiet-then (quiet-then (closed-load w l) (quiet-then (own-mode (without_load w l) me h is_loose i.row Mode.LoosePinned refl free (record { live = i.owned.live; own = i.owned.own; as_asked = i.owned.as_asked })) (a-handle _ node Mode.Pinned me))) (fell-anyhow f)
   ]
     where
       node : NodeNumber
@@ -198,97 +168,65 @@ module _ {N B W : Type 0} (m : Seen N B W) (w : Core) (me : Owner) (free : NotLo
       i = c.installs.3
 
       pin-of : (u : Core) (h : HandleNumber) (node : NodeNumber) → ((r : HandleRow) → find_row h.0 u.rows ≡ Some r → NotLoads r.owner) → Quiet u (with_pin u h node me)
-      pin-of u h node safe = quiet-then (only-rows (rows-mode u.last.handle u.rows h modes.LoosePinned refl safe) (le-self _)) (a-handle (with_mode u h modes.LoosePinned) node modes.Pinned me)
+      pin-of u h node safe = quiet-then (only-rows (rows-mode u.last.handle u.rows h Mode.LoosePinned refl safe) (le-self _)) (a-handle (with_mode u h Mode.LoosePinned) node Mode.Pinned me)
   ends-quiet l x (Err (e, Some y)) c = alike c.refused.1.stays
   ends-quiet l x (Err (e, None)) c = closes l c.refused.closes
 
-  ends-load : (l : LoadNumber) (x : N) (r : Result HandleNumber (Error × Option N)) → EndCall w me l x (m.values.node_type x) (m.values.references x) r w' → CG (calls.LoadEnd l x) (replies.LoadEnded r)
+  ends-load : (l : LoadNumber) (x : N) (r : Result HandleNumber (Error × Option N)) → EndCall w me l x (m.values.node_type x) (m.values.references x) r w' → CG (Call.LoadEnd l x) (Reply.LoadEnded r)
   ends-load l x (Ok k) c =
-      record { change = nothing_felt; goes = quiet-goes nothing_felt (ends-quiet l x (Ok k) c); feels = feels-end l x k refl refl (good w (owners.Load l) [] (m.values.references x) c.installs.2.good) }
+      record { change = nothing_felt; goes = quiet-goes nothing_felt (ends-quiet l x (Ok k) c); feels = feels-end l x k refl refl (good w (Owner.Load l) [] (m.values.references x) c.installs.2.good) }
   ends-load l x (Err (e, Some y)) c = quiet (λ n z b. inr (alike-away c.refused.1.stays n)) (alike c.refused.1.stays)
   ends-load l x (Err (e, None)) c = quiet (λ n z b. inr (fell-away c.refused.closes n)) (closes l c.refused.closes)
 
-  pub calls-go : (call : Call N B) (reply : Reply N B) → KeepsOpen {N = N} {B = B} {W = W} (events.Call call) → Does m w me call reply w' → CG call reply
-  calls-go (calls.NewPinned x) (replies.Made r) stays c = births (calls.NewPinned x) x modes.Pinned (λ n y b. b) r c
-  calls-go (calls.NewPinned x) reply stays c = absurd c
-  calls-go (calls.NewLoose x) (replies.Made r) stays c = births (calls.NewLoose x) x modes.LoosePinned (λ n y b. b) r c
-  calls-go (calls.NewLoose x) reply stays c = absurd c
-  calls-go (calls.NewShared x) (replies.Made r) stays c = births (calls.NewShared x) x modes.Shared (λ n y b. b) r c
-  calls-go (calls.NewShared x) reply stays c = absurd c
-  calls-go (calls.NewPagedOut t key) (replies.Handle (Ok k)) stays c =
+  pub calls-go : (call : Call N B) (reply : Reply N B) → KeepsOpen {N = N} {B = B} {W = W} (Event.Call call) → Does m w me call reply w' → CG call reply
+  calls-go (Call.NewPinned x) (Reply.Made r) stays c = births (Call.NewPinned x) x Mode.Pinned (λ n y b. b) r c
+  calls-go (Call.NewLoose x) (Reply.Made r) stays c = births (Call.NewLoose x) x Mode.LoosePinned (λ n y b. b) r c
+  calls-go (Call.NewShared x) (Reply.Made r) stays c = births (Call.NewShared x) x Mode.Shared (λ n y b. b) r c
+  calls-go (Call.NewPagedOut t key) (Reply.Handle (Ok k)) stays c =
       record {
-        change = bears_node t (optional.Some key);
-        goes = goes-quiet (born (bears_node t (optional.Some key)) w t (optional.Some key) [] (refl, refl)) (made-handle (next_node w) modes.LooseUnpinned me c.made.2);
+        change = bears_node t (OptionalDataKey.Some key);
+        goes = goes-quiet (born (bears_node t (OptionalDataKey.Some key)) w t (OptionalDataKey.Some key) [] (refl, refl)) (made-handle (next_node w) Mode.LooseUnpinned me c.made.2);
         feels = feels-away t key k refl refl;
       }
-  calls-go (calls.NewPagedOut t key) (replies.Handle (Err e)) stays c = quiet (λ n x b. absurd b) (alike c.refused.stays)
-  calls-go (calls.NewPagedOut t key) reply stays c = absurd c
-  calls-go (calls.Clone h) (replies.Handle r) stays c = quiet (λ n x b. absurd b) (clones r c)
-  calls-go (calls.Clone h) reply stays c = absurd c
-  calls-go (calls.Pin h) (replies.Pin r) stays c = quiet (λ n x b. absurd b) (pins free r c)
-  calls-go (calls.Pin h) reply stays c = absurd c
-  calls-go (calls.Unpin h) (replies.Done r) stays c = quiet (λ n x b. absurd b) (unpins free h r c)
-  calls-go (calls.Unpin h) reply stays c = absurd c
-  calls-go (calls.Release h) (replies.Done r) stays c = quiet (λ n x b. absurd b) (releases free h r c)
-  calls-go (calls.Release h) reply stays c = absurd c
-  calls-go (calls.IntoPagable h) (replies.Handle (Ok k)) stays c = quiet (λ n x b. absurd b) (quiet-then (own-mode w me h is_pinned c.turned.0 modes.LoosePinned refl free c.turned.1) (alike c.turned.3))
-  calls-go (calls.IntoPagable h) (replies.Handle (Err e)) stays c = quiet (λ n x b. absurd b) (alike c.refused.1)
-  calls-go (calls.IntoPagable h) reply stays c = absurd c
-  calls-go (calls.SetDataKey h key) (replies.Done r) stays c = sets h key r c
-  calls-go (calls.SetDataKey h key) reply stays c = absurd c
-  calls-go (calls.Count h) (replies.Count r) stays c = quiet (λ n x b. absurd b) (alike c.1)
-  calls-go (calls.Count h) reply stays c = absurd c
-  calls-go (calls.Key h) (replies.KeyFound r) stays c = quiet (λ n x b. absurd b) (alike c.1)
-  calls-go (calls.Key h) reply stays c = absurd c
-  calls-go (calls.IsPagedOut h) (replies.Away r) stays c = quiet (λ n x b. absurd b) (alike c.1)
-  calls-go (calls.IsPagedOut h) reply stays c = absurd c
-  calls-go (calls.NodeOf h) (replies.Node r) stays c = quiet (λ n x b. absurd b) (alike c.1)
-  calls-go (calls.NodeOf h) reply stays c = absurd c
-  calls-go (calls.NodeLive k) (replies.NodeType t) stays c = quiet (λ n x b. absurd b) (alike c.1)
-  calls-go (calls.NodeLive k) reply stays c = absurd c
-  calls-go (calls.ScheduleForPaging h) (replies.Done r) stays c = quiet (λ n x b. absurd b) (schedules free h r c)
-  calls-go (calls.ScheduleForPaging h) reply stays c = absurd c
-  calls-go calls.Pending (replies.Length n) stays c = quiet (λ n x b. absurd b) (alike c.1)
-  calls-go calls.Pending reply stays c = absurd c
-  calls-go (calls.TakePending i) (replies.Taken h) stays c = quiet (λ n x b. absurd b) (takes free i h c)
-  calls-go (calls.TakePending i) reply stays c = absurd c
-  calls-go (calls.CacheGet kind key) (replies.FromCache r) stays c = quiet (λ n x b. absurd b) (recalls free kind key r c)
-  calls-go (calls.CacheGet kind key) reply stays c = absurd c
-  calls-go (calls.OnArcDeserialized kind key h) (replies.FromCache r) stays c = offers kind key h r c
-  calls-go (calls.OnArcDeserialized kind key h) reply stays c = absurd c
-  calls-go calls.CacheClear (replies.Done r) stays c = quiet (λ n x b. absurd b) (cleared r c)
-  calls-go calls.CacheClear reply stays c = absurd c
-  calls-go (calls.Fetch key) (replies.Fetched r) stays c = quiet (λ n x b. absurd b) (was-asked c.asked)
-  calls-go (calls.Fetch key) reply stays c = absurd c
-  calls-go (calls.Store b) (replies.Stored r) stays c = quiet (λ n x b. absurd b) (stores r c)
-  calls-go (calls.Store b) reply stays c = absurd c
-  calls-go calls.Flush (replies.Done r) stays c = quiet (λ n x b. absurd b) (was-asked c.asked)
-  calls-go calls.Flush reply stays c = absurd c
-  calls-go (calls.LoadBegin h) (replies.Begun r) stays c = record { change = nothing_felt; goes = begins r c; feels = feels-nothing (λ n x b. absurd b) }
-  calls-go (calls.LoadBegin h) reply stays c = absurd c
-  calls-go (calls.LoadKey key) (replies.Begun r) stays c = record { change = nothing_felt; goes = begins-key r c; feels = feels-nothing (λ n x b. absurd b) }
-  calls-go (calls.LoadKey key) reply stays c = absurd c
-  calls-go (calls.LoadFetch l want) (replies.LoadFound r) stays c = quiet (λ n x b. absurd b) (asks _ c)
-  calls-go (calls.LoadFetch l want) reply stays c = absurd c
-  calls-go (calls.LoadAdopt l kind key x) (replies.Made r) stays c = adopting l kind key x r c
-  calls-go (calls.LoadAdopt l kind key x) reply stays c = absurd c
-  calls-go (calls.LoadLazy l kind key) (replies.Handle r) stays c = lazily l kind key r c
-  calls-go (calls.LoadLazy l kind key) reply stays c = absurd c
-  calls-go (calls.LoadEnd l x) (replies.LoadEnded r) stays c = ends-load l x r c
-  calls-go (calls.LoadEnd l x) reply stays c = absurd c
-  calls-go (calls.LoadTake l hs) (replies.Done r) stays c = quiet (λ n x b. absurd b) (hands-over free l hs.items r c)
-  calls-go (calls.LoadTake l hs) reply stays c = absurd c
-  calls-go (calls.LoadDrop l) (replies.Done r) stays c = quiet (λ n x b. absurd b) (drops free l r c)
-  calls-go (calls.LoadDrop l) reply stays c = absurd c
-  calls-go (calls.Reserve k) (replies.Done r) stays c = quiet (λ n x b. absurd b) (alike c.stays)
-  calls-go (calls.Reserve k) reply stays c = absurd c
-  calls-go calls.Room (replies.Length n) stays c = quiet (λ n x b. absurd b) (alike c.1)
-  calls-go calls.Room reply stays c = absurd c
-  calls-go calls.Close reply stays c = absurd stays
+  calls-go (Call.NewPagedOut t key) (Reply.Handle (Err e)) stays c = quiet (λ n x b. absurd b) (alike c.refused.stays)
+  calls-go (Call.Clone h) (Reply.Handle r) stays c = quiet (λ n x b. absurd b) (clones r c)
+  calls-go (Call.Pin h) (Reply.Pin r) stays c = quiet (λ n x b. absurd b) (pins free r c)
+  calls-go (Call.Unpin h) (Reply.Done r) stays c = quiet (λ n x b. absurd b) (unpins free h r c)
+  calls-go (Call.Release h) (Reply.Done r) stays c = quiet (λ n x b. absurd b) (releases free h r c)
+  calls-go (Call.IntoPagable h) (Reply.Handle (Ok k)) stays c = quiet (λ n x b. absurd b) (quiet-then (own-mode w me h is_pinned c.turned.0 Mode.LoosePinned refl free c.turned.1) (alike c.turned.3))
+  calls-go (Call.IntoPagable h) (Reply.Handle (Err e)) stays c = quiet (λ n x b. absurd b) (alike c.refused.1)
+  calls-go (Call.SetDataKey h key) (Reply.Done r) stays c = sets h key r c
+  calls-go (Call.Count h) (Reply.Count r) stays c = quiet (λ n x b. absurd b) (alike c.1)
+  calls-go (Call.Key h) (Reply.KeyFound r) stays c = quiet (λ n x b. absurd b) (alike c.1)
+  calls-go (Call.IsPagedOut h) (Reply.Away r) stays c = quiet (λ n x b. absurd b) (alike c.1)
+  calls-go (Call.NodeOf h) (Reply.Node r) stays c = quiet (λ n x b. absurd b) (alike c.1)
+  calls-go (Call.NodeLive k) (Reply.NodeType t) stays c = quiet (λ n x b. absurd b) (alike c.1)
+  calls-go (Call.ScheduleForPaging h) (Reply.Done r) stays c = quiet (λ n x b. absurd b) (schedules free h r c)
+  calls-go Call.Pending (Reply.Length n) stays c = quiet (λ n x b. absurd b) (alike c.1)
+  calls-go (Call.TakePending i) (Reply.Taken h) stays c = quiet (λ n x b. absurd b) (takes free i h c)
+  calls-go (Call.CacheGet kind key) (Reply.FromCache r) stays c = quiet (λ n x b. absurd b) (recalls free kind key r c)
+  calls-go (Call.OnArcDeserialized kind key h) (Reply.FromCache r) stays c = offers kind key h r c
+  calls-go Call.CacheClear (Reply.Done r) stays c = quiet (λ n x b. absurd b) (cleared r c)
+  calls-go (Call.Fetch key) (Reply.Fetched r) stays c = quiet (λ n x b. absurd b) (was-asked c.asked)
+  calls-go (Call.Store b) (Reply.Stored r) stays c = quiet (λ n x b. absurd b) (stores r c)
+  calls-go Call.Flush (Reply.Done r) stays c = quiet (λ n x b. absurd b) (was-asked c.asked)
+  calls-go (Call.LoadBegin h) (Reply.Begun r) stays c = record { change = nothing_felt; goes = begins r c; feels = feels-nothing (λ n x b. absurd b) }
+  calls-go (Call.LoadKey key) (Reply.Begun r) stays c = record { change = nothing_felt; goes = begins-key r c; feels = feels-nothing (λ n x b. absurd b) }
+  calls-go (Call.LoadFetch l want) (Reply.LoadFound r) stays c = quiet (λ n x b. absurd b) (asks _ c)
+  calls-go (Call.LoadAdopt l kind key x) (Reply.Made r) stays c = adopting l kind key x r c
+  calls-go (Call.LoadLazy l kind key) (Reply.Handle r) stays c = lazily l kind key r c
+  calls-go (Call.LoadEnd l x) (Reply.LoadEnded r) stays c = ends-load l x r c
+  calls-go (Call.LoadTake l hs) (Reply.Done r) stays c = quiet (λ n x b. absurd b) (hands-over free l hs.items r c)
+  calls-go (Call.LoadDrop l) (Reply.Done r) stays c = quiet (λ n x b. absurd b) (drops free l r c)
+  calls-go (Call.Reserve k) (Reply.Done r) stays c = quiet (λ n x b. absurd b) (alike c.stays)
+  calls-go Call.Room (Reply.Length n) stays c = quiet (λ n x b. absurd b) (alike c.1)
+  calls-go Call.Close reply stays c = absurd stays
+  calls-go _ reply stays c = absurd c
 
 -- the cache gets to know an old node only where the caller puts it there
-pub call-knows : (W : Type 0) {N B : Type 0} {v : Values N} {w w' : Core} {me : Owner} {call : Call N B} {reply : Reply N B} {c : Change} → CallFeels v w me call reply w' c → LeavesCache {N = N} {B = B} {W = W} (events.Call call) → KnowsNext c w
-call-knows W {N} {B} (feels-known kind key h row called replied owns typed) leaves = absurd (subst (λ x. LeavesCache {N = N} {B = B} {W = W} (events.Call x)) called leaves)
+pub call-knows : (W : Type 0) {N B : Type 0} {v : Values N} {w w' : Core} {me : Owner} {call : Call N B} {reply : Reply N B} {c : Change} → CallFeels v w me call reply w' c
+    → LeavesCache {N = N} {B = B} {W = W} (Event.Call call) → KnowsNext c w
+call-knows W {N} {B} (feels-known kind key h row called replied owns typed) leaves = absurd (subst (λ x. LeavesCache {N = N} {B = B} {W = W} (Event.Call x)) called leaves)
 call-knows W (feels-adopted l kind key x k called replied typed are) leaves = λ k2 q n known. known.2
 call-knows W (feels-lazy l kind key k called replied) leaves = λ k2 q n known. known.2
 call-knows W feels leaves = λ k q n known. absurd known

@@ -1,33 +1,16 @@
 -- What trees feel of each call, by the call and its reply.
-use Rattle.std.proofs.Common.{◌≡◌, ℕ, ◌==◌, Bool, true, false, List, refl, ap, sym, subst, ◌∙◌, inl, inr}
-use Rattle.std.specs.Prelude.{Option, Some, None, Result, Ok, Err, if◌then◌else◌}
-use Rattle.pagable_model.specs.Stored.{Adds}
-use Rattle.pagable_world.specs.Plain.{Error, Kind, Blob, HandleNumber, LoadNumber, NodeNumber}
-use Rattle.pagable_world.specs.declared.handles.Owner.{Owner}
-use Rattle.pagable_world.specs.declared.handles.HandleRow.{HandleRow}
-use Rattle.pagable_world.specs.declared.rows.Mode.{Mode}
-use Rattle.pagable_world.specs.declared.calls.Want.{Want}
-use Rattle.pagable_world.specs.declared.answers.Pinning.{Pinning}
-use Rattle.pagable_world.specs.declared.answers.Beginning.{Beginning}
-use Rattle.pagable_world.specs.declared.handles.Owner.TheVariants as owners
-use Rattle.pagable_world.specs.declared.rows.Mode.TheVariants as modes
-use Rattle.pagable_world.specs.declared.calls.Want.TheVariants as wants
-use Rattle.pagable_world.specs.declared.answers.Pinning.TheVariants as pinnings
-use Rattle.pagable_world.specs.declared.answers.Beginning.TheVariants as beginnings
-use Rattle.pagable_model.specs.declared.data_key.OptionalDataKey.TheVariants as optional
-use Rattle.pagable_world.specs.Kinds.{is_loose}
-use Rattle.pagable_world.specs.World.{Core, OpenLoad, of_cell, of_key, type_at, key_at, Alike}
-use Rattle.pagable_world.specs.Refusals.{Owns}
-use Rattle.pagable_world.specs.Calls.{with_handle, with_mode, moved, CloneCall, PinCall, Asked, StoreCall}
-use Rattle.pagable_world.specs.LoadCalls.{without_load, BeginCall, BeginKeyCall, Given, from_cache, from_store, AskCall, AsksInVain, GetsKnown, LoadCloses}
-use Rattle.pagable_laws.specs.TreeSteps.{nothing_felt, BeginsWell}
+use Rattle.pagable_laws.proofs.Words.{◌≡◌, ℕ, ◌==◌, Bool, true, false, List, refl, ap, sym, subst, ◌∙◌, inl, inr, Option, Some, None, Result, Ok, Err, if◌then◌else◌, Adds, Error, Kind, Blob}
+use Rattle.pagable_laws.proofs.Words.{HandleNumber, LoadNumber, NodeNumber, Owner, HandleRow, Mode, Want, Pinning, Beginning, OptionalDataKey, is_loose, Core, OpenLoad, of_cell, of_key, type_at}
+use Rattle.pagable_laws.proofs.Words.{key_at, Alike, Owns, with_handle, with_mode, moved, CloneCall, PinCall, Asked, StoreCall, without_load, BeginCall, BeginKeyCall, Given, from_cache}
+use Rattle.pagable_laws.proofs.Words.{from_store, AskCall, AsksInVain, GetsKnown, LoadCloses, nothing_felt, BeginsWell}
 use Rattle.pagable_laws.proofs.Trees.{same_some}
 use Rattle.pagable_laws.proofs.Sums.{same-number}
-use Rattle.pagable_laws.proofs.Goes.{le-self, Quiet, Goes, NotLoads, rows-self, rows-mode, rows-moved, quiet-then, alike, only-rows, fell, a-handle, quiet-goes, quiet-begins, goes-quiet, begun}
+use Rattle.pagable_laws.proofs.Goes.{parts, le-self, Quiet, Goes, NotLoads, rows-self, rows-mode, rows-moved, quiet-then, alike, only-rows, fell, a-handle, quiet-goes, quiet-begins, goes-quiet, begun}
 
 -- ---- what is done to an own handle
 
-pub own-mode : (w : Core) (me : Owner) (h : HandleNumber) (fits : Mode → Bool) (row : HandleRow) (mode : Mode) → is_loose mode ≡ true → NotLoads me → Owns w me h fits row → Quiet w (with_mode w h mode)
+pub own-mode : (w : Core) (me : Owner) (h : HandleNumber) (fits : Mode → Bool) (row : HandleRow) (mode : Mode) → is_loose mode ≡ true → NotLoads me → Owns w me h fits row
+    → Quiet w (with_mode w h mode)
 own-mode w me h fits row mode is_so free owns =
     only-rows (rows-mode w.last.handle w.rows h mode is_so (λ r live l is. let e : row ≡ r = same_some _ _ (sym owns.live ∙ live) in free l (sym owns.own ∙ (ap (λ (x : HandleRow). x.owner) e ∙ is)))) (le-self _)
 
@@ -39,29 +22,20 @@ some-moved w s owner list free = only-rows (rows-moved w.last.handle w.rows s ow
 
 -- the load isn't there any more
 pub closed-load : (w : Core) (l : LoadNumber) → Quiet w (without_load w l)
-closed-load w l =
-    record {
-      nodes = le-self _;
-      handles = le-self _;
-      loads_last = le-self _;
-      workers_last = le-self _;
-      cells = λ n cell is. is;
-      stored = λ q blob is. is;
-      loads = λ n load is. other (n == l.0) (w.loads n) load is;
-      cache = λ kind key n is. is;
-      rows = rows-self w.last.handle w.rows w.rows refl;
-      shut = λ is. is;
-    }
+closed-load w l = parts (le-self _) (le-self _) (λ n cell is. is) (λ n load is. other (n == l.0) (w.loads n) load is) (λ kind key n is. is) (rows-self w.last.handle w.rows w.rows refl)
   where
     other : {X : Type 0} (b : Bool) (x : Option X) (y : X) → (if b then None else x) ≡ Some y → x ≡ Some y
     other true x y is = absurd (cc)
     other false x y is = is
 
--- the storage was asked
-pub was-asked : {w w' : Core} → Asked w w' → Quiet w w'
-was-asked {w} {w'} a =
-    let q = alike a.leaves in
+-- at most a failure of the storage was noted
+pub noted : {w w' : Core} (failures : ℕ) → Alike (record w { failures = failures }) w' → Quiet w w'
+noted failures a =
+    let q = alike a in
     record { nodes = q.nodes; handles = q.handles; loads_last = q.loads_last; workers_last = q.workers_last; cells = q.cells; stored = q.stored; loads = q.loads; cache = q.cache; rows = q.rows; shut = λ is. q.shut (is.0, is.1) }
+
+pub was-asked : {w w' : Core} → Asked w w' → Quiet w w'
+was-asked a = noted _ a.leaves
 
 was-stored : (key : ℕ) (blob : Blob) (old : ℕ → Option Blob) (new : ℕ → Option Blob) → Adds key blob old new → (q : ℕ) (b : Blob) → old q ≡ Some b → new q ≡ Some b
 was-stored key blob old new adds q b is = at (q == key) refl
@@ -83,7 +57,18 @@ pub stores : {digest : Blob → ℕ} {w w' : Core} {blob : Blob} → (r : Result
 stores {digest} {w} {w'} {blob} (Ok key) c =
     let s = c.stores.1 in
     let q = alike s.leaves in
-    record { nodes = q.nodes; handles = q.handles; loads_last = q.loads_last; workers_last = q.workers_last; cells = q.cells; stored = was-stored key blob w.stored w'.stored s.adds; loads = q.loads; cache = q.cache; rows = q.rows; shut = λ is. absurd (stays-open s.stands_open is.0) }
+    record {
+      nodes = q.nodes;
+      handles = q.handles;
+      loads_last = q.loads_last;
+      workers_last = q.workers_last;
+      cells = q.cells;
+      stored = was-stored key blob w.stored w'.stored s.adds;
+      loads = q.loads;
+      cache = q.cache;
+      rows = q.rows;
+      shut = λ is. absurd (stays-open s.stands_open is.0);
+    }
 stores (Err e) c = was-asked c.refused.0
 
 pub clones : {w w' : Core} {me : Owner} {h : HandleNumber} (r : Result HandleNumber Error) → CloneCall w me h r w' → Quiet w w'
@@ -91,8 +76,8 @@ clones (Ok k) c = made-handle _ _ _ c.made.3
 clones (Err e) c = alike c.refused.stays
 
 pub pins : {w w' : Core} {me : Owner} {h : HandleNumber} (free : NotLoads me) (r : Result Pinning Error) → PinCall w me h r w' → Quiet w w'
-pins {w} {w'} {me} {h} free (Ok (pinnings.Pinned k)) c = quiet-then (own-mode w me h is_loose c.pins.0 modes.LoosePinned refl free c.pins.1) (made-handle _ _ _ c.pins.2.2)
-pins free (Ok (pinnings.NeedsLoad key)) c = alike c.pins.2.2
+pins {w} {w'} {me} {h} free (Ok (Pinning.Pinned k)) c = quiet-then (own-mode w me h is_loose c.pins.0 Mode.LoosePinned refl free c.pins.1) (made-handle _ _ _ c.pins.2.2)
+pins free (Ok (Pinning.NeedsLoad key)) c = alike c.pins.2.2
 pins free (Err e) c = alike c.refused.stays
 
 node-is : {a b : NodeNumber} {t u : ℕ} {h k : HandleNumber} → of_cell a t h ≡ of_cell b u k → a ≡ b
@@ -101,42 +86,44 @@ node-is is = cc
 type-is : {a b : NodeNumber} {t u : ℕ} {h k : HandleNumber} → of_cell a t h ≡ of_cell b u k → t ≡ u
 type-is is = cc
 
-begun-well : (w : Core) (me : Owner) (node : NodeNumber) (t : ℕ) (h : HandleNumber) (key : ℕ) → type_at w node.0 ≡ Some t → key_at w node.0 ≡ optional.Some key → BeginsWell w (record { owner = me; key = key; root = of_cell node t h })
+begun-well : (w : Core) (me : Owner) (node : NodeNumber) (t : ℕ) (h : HandleNumber) (key : ℕ) → type_at w node.0 ≡ Some t → key_at w node.0 ≡ OptionalDataKey.Some key
+    → BeginsWell w (record { owner = me; key = key; root = of_cell node t h })
 begun-well w me node t h key typed own a u k root =
     let e : node ≡ a = node-is root in
     let f : t ≡ u = type-is root in
-    (subst (λ (x : NodeNumber). type_at w x.0 ≡ Some u) e (subst (λ x. type_at w node.0 ≡ Some x) f typed), subst (λ (x : NodeNumber). key_at w x.0 ≡ optional.Some key) e own)
+    (subst (λ (x : NodeNumber). type_at w x.0 ≡ Some u) e (subst (λ x. type_at w node.0 ≡ Some x) f typed), subst (λ (x : NodeNumber). key_at w x.0 ≡ OptionalDataKey.Some key) e own)
 
 pub begins : {w w' : Core} {me : Owner} {h : HandleNumber} (r : Result Beginning Error) → BeginCall w me h r w' → Goes nothing_felt w w'
-begins (Ok beginnings.InMemory) c = quiet-goes nothing_felt (alike c.begins.2.1)
-begins {w} {w'} {me} {h} (Ok (beginnings.Load l key)) c =
+begins (Ok Beginning.InMemory) c = quiet-goes nothing_felt (alike c.begins.2.1)
+begins {w} {w'} {me} {h} (Ok (Beginning.Load l key)) c =
     let row : HandleRow = c.begins.0 in
     let a = c.begins.2 in
-    let made = with_handle w row.node modes.LooseUnpinned (owners.Load l) in
-    goes-quiet (quiet-begins (a-handle w row.node modes.LooseUnpinned (owners.Load l)) (begun nothing_felt made key (of_cell row.node a.4.0 h) me (begun-well made me row.node a.4.0 h key a.4.1 a.1))) (alike a.4.2)
+    let made = with_handle w row.node Mode.LooseUnpinned (Owner.Load l) in
+    goes-quiet (quiet-begins (a-handle w row.node Mode.LooseUnpinned (Owner.Load l))
+    (begun nothing_felt made key (of_cell row.node a.4.0 h) me (begun-well made me row.node a.4.0 h key a.4.1 a.1))) (alike a.4.2)
 begins (Err e) c = quiet-goes nothing_felt (alike c.refused.stays)
 
 pub begins-key : {w w' : Core} {me : Owner} {key : ℕ} (r : Result Beginning Error) → BeginKeyCall w me key r w' → Goes nothing_felt w w'
-begins-key (Ok beginnings.InMemory) c = absurd c.begins
-begins-key {w} {w'} {me} {key} (Ok (beginnings.Load l k)) c = goes-quiet (begun nothing_felt w key of_key me (λ node t h root. absurd (cc))) (alike c.begins.2)
+begins-key (Ok Beginning.InMemory) c = absurd c.begins
+begins-key {w} {w'} {me} {key} (Ok (Beginning.Load l k)) c = goes-quiet (begun nothing_felt w key of_key me (λ node t h root. absurd (cc))) (alike c.begins.2)
 begins-key (Err e) c = quiet-goes nothing_felt (alike c.refused.stays)
 
 pub gets-known : {w w' : Core} {l : LoadNumber} {kind : Kind} {key : ℕ} {k : HandleNumber} → GetsKnown w l kind key k w' → Quiet w w'
 gets-known g = made-handle _ _ _ g.leaves
 
 pub asks : {w w' : Core} {me : Owner} {l : LoadNumber} {want : Want} (r : Result Given Error) → AskCall w me l want r w' → Quiet w w'
-asks {want = wants.Root} (Ok (from_store blob)) c = was-asked c.gives.2.asked
-asks {want = wants.Root} (Ok (from_cache k)) c = absurd c.gives.2
-asks {want = wants.Nested kind key} (Ok (from_cache k)) c = gets-known c.gives.2
-asks {want = wants.Nested kind key} (Ok (from_store blob)) c = was-asked c.gives.2.1.asked
+asks {want = Want.Root} (Ok (from_store blob)) c = was-asked c.gives.2.asked
+asks {want = Want.Root} (Ok (from_cache k)) c = absurd c.gives.2
+asks {want = Want.Nested kind key} (Ok (from_cache k)) c = gets-known c.gives.2
+asks {want = Want.Nested kind key} (Ok (from_store blob)) c = was-asked c.gives.2.1.asked
 asks {w} {w'} {me} {l} {want} (Err e) c = elim c.refused [
   | inl refused ↦ alike refused.stays
   | inr (load, owned, vain) ↦ in-vain want load vain
 ]
   where
     in-vain : (want : Want) (load : OpenLoad) → AsksInVain w load want e w' → Quiet w w'
-    in-vain wants.Root load vain = was-asked vain.asked
-    in-vain (wants.Nested kind key) load vain = was-asked vain.1.asked
+    in-vain Want.Root load vain = was-asked vain.asked
+    in-vain (Want.Nested kind key) load vain = was-asked vain.1.asked
 
 pub closes : {w w' : Core} (l : LoadNumber) {r : Result (Unit {0}) Error} → LoadCloses w l r w' → Quiet w w'
 closes {w} {w'} l c = quiet-then (closed-load w l) (fell c)

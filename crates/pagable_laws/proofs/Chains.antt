@@ -1,22 +1,8 @@
 -- Trees stay along chains, pins and reads give them, and keys are right.
-use Rattle.std.proofs.Common.{ℕ, List, [], ◌∷◌, Ok}
-use Rattle.pagable_world.specs.declared.events.Event.{Event}
-use Rattle.pagable_world.specs.declared.events.Event.TheVariants as events
-use Rattle.pagable_world.specs.declared.events.EventReply.{EventReply}
-use Rattle.pagable_world.specs.declared.events.EventReply.TheVariants as answers
-use Rattle.pagable_world.specs.declared.calls.Call.TheVariants as calls
-use Rattle.pagable_world.specs.declared.calls.Reply.TheVariants as replies
-use Rattle.pagable_world.specs.declared.answers.Pinning.TheVariants as pinnings
-use Rattle.pagable_world.specs.Plain.{HandleNumber, Tree}
-use Rattle.pagable_world.specs.World.{Reading, Values, Seen, IsLawful}
-use Rattle.pagable_world.specs.Pager.{MachineState, world_of, IsMachineWhole, IsIdle, StandsFor, IsReadingOf, of_caller, of_worker}
-use Rattle.pagable_world.specs.Runs.{HoldsSettled, ReadsItsTypes, IsPremised, Moment, Does, AreMoments, TreesAfter, TreesAlong}
-use Rattle.pagable_world.specs.Headline.{GivesTree, PinGives, IsRight}
-use Rattle.pagable_laws.specs.TreeSteps.{HasPin, PinHolds}
-use Rattle.pagable_laws.specs.TreeRuns.{ReadingsGiven}
-use Rattle.pagable_laws.specs.PageOutLaws.{WorkFits}
-use Rattle.pagable_laws.specs.KeyRuns.{KeysHeld}
-use Rattle.pagable_laws.specs.ReadRuns.{ReadingsHeld}
+use Rattle.pagable_laws.proofs.Words.{ℕ, List, [], ◌∷◌, Ok, Event, EventReply, Call, Reply, Pinning, HandleNumber, Tree, Reading, Values, Seen, IsLawful, MachineState, world_of, IsMachineWhole}
+use Rattle.pagable_laws.proofs.Words.{IsIdle, StandsFor, IsReadingOf, of_caller, of_worker, HoldsSettled, ReadsItsTypes, IsPremised, Moment, AreMoments, TreesAfter, TreesAlong, GivesTree}
+use Rattle.pagable_laws.proofs.Words.{PinGives, IsRight, HasPin, PinHolds, ReadingsGiven, WorkFits, KeysHeld, ReadingsHeld}
+use Rattle.pagable_world.specs.Runs.{Does}
 use Rattle.pagable_laws.proofs.Taking.{pin_stands}
 use Rattle.pagable_laws.proofs.Coming.{StandsIn, event-turns, turns-stand, idle-stands}
 use Rattle.pagable_laws.proofs.Lasting.{keeps-trees}
@@ -34,10 +20,10 @@ module _ {N E B W : Type 0} (m : Seen N B W) (s s' : MachineState N E) (trees tr
   given-tree k h = pin_stands s'.pager trees' k h.row whole.pager stands.pager h.live h.is
 
   pin-gives : (event : Event N B W) (reply : EventReply N B W) → PinHolds event reply s'.pager.core → PinGives m.values s trees event reply s' trees'
-  pin-gives (events.Call (calls.Pin h)) (answers.CallReply (replies.Pin (Ok (pinnings.Pinned k)))) pinned = given-tree k pinned
-  pin-gives (events.LoadStep l) (answers.LoadMoved (Ok reply)) pinned = λ k is. given-tree k (pinned k is)
-  pin-gives (events.Call (calls.LoadEnd l x)) (answers.CallReply (replies.LoadEnded (Ok k))) pinned = given-tree k pinned
-  pin-gives (events.WorkerStep n) (answers.WorkerMoved (Ok reply)) pinned = λ i k is. given-tree k (pinned i k is)
+  pin-gives (Event.Call (Call.Pin h)) (EventReply.CallReply (Reply.Pin (Ok (Pinning.Pinned k)))) pinned = given-tree k pinned
+  pin-gives (Event.LoadStep l) (EventReply.LoadMoved (Ok reply)) pinned = λ k is. given-tree k (pinned k is)
+  pin-gives (Event.Call (Call.LoadEnd l x)) (EventReply.CallReply (Reply.LoadEnded (Ok k))) pinned = given-tree k pinned
+  pin-gives (Event.WorkerStep n) (EventReply.WorkerMoved (Ok reply)) pinned = λ i k is. given-tree k (pinned i k is)
   pin-gives event reply pinned = tt
 
 -- what holds of a machine and its trees along a chain
@@ -66,7 +52,8 @@ module _ {N E B W : Type 0} (m : Seen N B W) (lawful : IsLawful m.values) (reada
     pub after : TreesAfter m (IsRight m.values) s trees x.event x.reply x.after trees'
     pub on : IsGoingOn m.values x.after trees'
 
-  pub goes : (s : MachineState N E) (trees : ℕ → Tree) (x : Moment N E B W) → IsGoingOn m.values s trees → Does m s x.event x.reply x.after → IsPremised m.values s trees x.event x.reply x.after → Goes s trees x
+  pub goes : (s : MachineState N E) (trees : ℕ → Tree) (x : Moment N E B W) → IsGoingOn m.values s trees → Does m s x.event x.reply x.after
+      → IsPremised m.values s trees x.event x.reply x.after → Goes s trees x
   goes s trees x on does premised =
       let feels = does-feels m s x.after trees x.event x.reply on.whole on.fits premised.stays_open does in
       let ready = keys-ready m.values s trees readable on.fits on.held in
@@ -89,6 +76,7 @@ module _ {N E B W : Type 0} (m : Seen N B W) (lawful : IsLawful m.values) (reada
   stay s trees (x ∷ xs) on (does, more) = λ premised. let g = goes s trees x on does premised in (g.trees', g.after, stay x.after g.trees' xs g.on more)
 
 -- Along each chain that begins where nobody works yet, each node keeps its tree, each pin that succeeds gives the tree that its handle's node was made with, each reading that of its key, and keys are right.
-pub trees_stay : {N B W E : Type 0} (m : Seen N B W) → IsLawful m.values → ReadsItsTypes m.values.types → (s : MachineState N E) (trees : ℕ → Tree) (moments : List (Moment N E B W)) → IsMachineWhole m.values s → IsIdle s
+pub trees_stay : {N B W E : Type 0} (m : Seen N B W) → IsLawful m.values → ReadsItsTypes m.values.types → (s : MachineState N E) (trees : ℕ → Tree) (moments : List (Moment N E B W))
+    → IsMachineWhole m.values s → IsIdle s
     → HoldsSettled m.values s.pager → StandsFor m.values s trees → AreMoments m s moments → TreesAlong m (IsRight m.values) s trees moments
 trees_stay m lawful readable s trees moments whole idle settled stands does = stay m lawful readable s trees moments (idle-goes m lawful readable s trees whole idle settled stands) does

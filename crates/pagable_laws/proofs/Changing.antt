@@ -1,12 +1,7 @@
 -- What a worker's step does to the slots of its table: each grows, and only those of the worker change.
-use Rattle.std.proofs.Common.{◌≡◌, ℕ, ◌==◌, ◌⊎◌, Bool, true, false, refl, ap, sym, subst, ◌∙◌, inl, inr, arith}
-use Rattle.std.specs.Prelude.{Option, Some, None, nat_eq, if◌then◌else◌}
-use Rattle.std.proofs.lemmas.Bool.Decides.{nat_tests}
-use Rattle.std.proofs.lemmas.Bool.{and_parts}
-use Rattle.pagable_world.specs.Plain.{Identity, if_there}
-use Rattle.pagable_world.specs.World.{Shelf, Slot, Outcome, failed, Written, Task, is_identity, SameShelf}
-use Rattle.pagable_world.specs.Workers.{with_slot, with_changed_slot, with_outcome, with_failed, is_open_outcome, IsPublished}
-use Rattle.pagable_world.specs.Headline.{Meets, meets-of-item, meets-entry, meets-below}
+use Rattle.pagable_laws.proofs.Words.{◌≡◌, ℕ, ◌==◌, ◌⊎◌, Bool, true, false, refl, ap, sym, subst, ◌∙◌, inl, inr, arith, Option, Some, None, nat_eq, if◌then◌else◌, nat_tests, and_parts, Identity}
+use Rattle.pagable_laws.proofs.Words.{if_there, Shelf, Slot, Outcome, failed, Written, Task, is_identity, SameShelf, with_slot, with_changed_slot, with_outcome, with_failed, is_open_outcome}
+use Rattle.pagable_laws.proofs.Words.{IsPublished, Meets, meets-of-item, meets-entry, meets-below}
 use Rattle.pagable_laws.proofs.Sums.{same-number}
 
 -- the slot has the same worker, and what was written and the result stay
@@ -45,7 +40,8 @@ grows v shelf shelf' changes i slot there = elim (changes i) [
 ]
 
 -- what another claimed stays as it is
-pub others-stay : (v u : ℕ) (shelf shelf' : Shelf) → Changes v shelf shelf' → nat_eq u v ≡ false → (i : Identity) (slot : Slot) → shelf.slots i ≡ Some slot → slot.worker ≡ u → shelf'.slots i ≡ Some slot
+pub others-stay : (v u : ℕ) (shelf shelf' : Shelf) → Changes v shelf shelf' → nat_eq u v ≡ false → (i : Identity) (slot : Slot) → shelf.slots i ≡ Some slot → slot.worker ≡ u
+    → shelf'.slots i ≡ Some slot
 others-stay v u shelf shelf' changes other i slot there of_it = elim (changes i) [
   | stays same ↦ same ∙ there
   | is-new new none is own ↦ some-none there none
@@ -53,7 +49,8 @@ others-stay v u shelf shelf' changes other i slot there of_it = elim (changes i)
 ]
 
 -- and what is another's was so
-pub others-were : (v u : ℕ) (shelf shelf' : Shelf) → Changes v shelf shelf' → nat_eq u v ≡ false → (i : Identity) (slot : Slot) → shelf'.slots i ≡ Some slot → slot.worker ≡ u → shelf.slots i ≡ Some slot
+pub others-were : (v u : ℕ) (shelf shelf' : Shelf) → Changes v shelf shelf' → nat_eq u v ≡ false → (i : Identity) (slot : Slot) → shelf'.slots i ≡ Some slot → slot.worker ≡ u
+    → shelf.slots i ≡ Some slot
 others-were v u shelf shelf' changes other i slot there of_it = elim (changes i) [
   | stays same ↦ sym same ∙ there
   | is-new new none is own ↦ let e : new ≡ slot = some-same is there in let f : u ≡ v = sym of_it ∙ (sym (ap (λ (s : Slot). s.worker) e) ∙ own) in absurd (grind (arith, nat_tests))
@@ -100,13 +97,15 @@ puts-slot shelf shelf' i slot same =
       elsewhere = λ j other. same.slots j ∙ ap (λ b. if b then Some slot else shelf.slots j) other;
     }
 
-pub changes-slot : (shelf shelf' : Shelf) (i : Identity) (slot : Slot) (f : Slot → Slot) → shelf.slots i ≡ Some slot → SameShelf (with_changed_slot shelf i f) shelf' → PutsSlot shelf.slots shelf'.slots i (f slot)
+pub changes-slot : (shelf shelf' : Shelf) (i : Identity) (slot : Slot) (f : Slot → Slot) → shelf.slots i ≡ Some slot → SameShelf (with_changed_slot shelf i f) shelf'
+    → PutsSlot shelf.slots shelf'.slots i (f slot)
 changes-slot shelf shelf' i slot f there same =
     let e : if_there (λ s. Some (f s)) None (shelf.slots i) ≡ Some (f slot) = ap (λ o. if_there (λ s. Some (f s)) None o) there in
     puts-slot shelf shelf' i (f slot) (subst (λ o. SameShelf (with_slot shelf i o) shelf') e same)
 
 -- what stands there afterwards is this, or stood there
-pub put-cases : (slots slots' : Identity → Option Slot) (i : Identity) (new : Slot) → PutsSlot slots slots' i new → (j : Identity) (slot : Slot) → slots' j ≡ Some slot → ((j ≡ i) × (slot ≡ new)) ⊎ ((is_identity i j ≡ false) × (slots j ≡ Some slot))
+pub put-cases : (slots slots' : Identity → Option Slot) (i : Identity) (new : Slot) → PutsSlot slots slots' i new → (j : Identity) (slot : Slot) → slots' j ≡ Some slot
+    → ((j ≡ i) × (slot ≡ new)) ⊎ ((is_identity i j ≡ false) × (slots j ≡ Some slot))
 put-cases slots slots' i new puts j slot there = by (is_identity i j) refl
   where
     by : (b : Bool) → is_identity i j ≡ b → ((j ≡ i) × (slot ≡ new)) ⊎ ((is_identity i j ≡ false) × (slots j ≡ Some slot))
@@ -123,7 +122,8 @@ put-by v shelf shelf' i slot puts at j = by (is_identity i j) refl
 pub puts-new : (v : ℕ) (shelf shelf' : Shelf) (i : Identity) (slot : Slot) → PutsSlot shelf.slots shelf'.slots i slot → shelf.slots i ≡ None → slot.worker ≡ v → Changes v shelf shelf'
 puts-new v shelf shelf' i slot puts none of_it = put-by v shelf shelf' i slot puts (is-new slot none refl of_it)
 
-pub puts-own : (v : ℕ) (shelf shelf' : Shelf) (i : Identity) (old slot : Slot) → PutsSlot shelf.slots shelf'.slots i slot → shelf.slots i ≡ Some old → old.worker ≡ v → SlotGrows old slot → Changes v shelf shelf'
+pub puts-own : (v : ℕ) (shelf shelf' : Shelf) (i : Identity) (old slot : Slot) → PutsSlot shelf.slots shelf'.slots i slot → shelf.slots i ≡ Some old → old.worker ≡ v
+    → SlotGrows old slot → Changes v shelf shelf'
 puts-own v shelf shelf' i old slot puts there of_it more = put-by v shelf shelf' i slot puts (is-changed old slot there of_it refl more)
 
 -- a first result stays
@@ -142,7 +142,8 @@ failed-slot slot = by (is_open_outcome slot.outcome) refl
     by true e = refl
     by false e = e
 
-pub all-failed : (v : ℕ) (shelf shelf' : Shelf) → SameShelf (with_failed shelf v) shelf' → (i : Identity) (slot : Slot) → shelf'.slots i ≡ Some slot → slot.worker ≡ v → is_open_outcome slot.outcome ≡ false
+pub all-failed : (v : ℕ) (shelf shelf' : Shelf) → SameShelf (with_failed shelf v) shelf' → (i : Identity) (slot : Slot) → shelf'.slots i ≡ Some slot → slot.worker ≡ v
+    → is_open_outcome slot.outcome ≡ false
 all-failed v shelf shelf' same i slot there own = by (shelf.slots i) (sym (same.slots i) ∙ there)
   where
     of-slot : (old : Slot) (b : Bool) → nat_eq old.worker v ≡ b → Some (if b then with_outcome failed old else old) ≡ Some slot → is_open_outcome slot.outcome ≡ false
@@ -160,10 +161,12 @@ none-fails v shelf shelf' same i none = same.slots i ∙ ap (λ o. if_there (λ 
 pub fails-own : (v : ℕ) (shelf shelf' : Shelf) → SameShelf (with_failed shelf v) shelf' → Changes v shelf shelf'
 fails-own v shelf shelf' same i = by (shelf.slots i) refl (same.slots i)
   where
-    of-slot : (slot : Slot) → shelf.slots i ≡ Some slot → (b : Bool) → nat_eq slot.worker v ≡ b → shelf'.slots i ≡ Some (if b then with_outcome failed slot else slot) → SlotChanges v (shelf.slots i) (shelf'.slots i)
+    of-slot : (slot : Slot) → shelf.slots i ≡ Some slot → (b : Bool) → nat_eq slot.worker v ≡ b → shelf'.slots i ≡ Some (if b then with_outcome failed slot else slot)
+        → SlotChanges v (shelf.slots i) (shelf'.slots i)
     of-slot slot there true own is = is-changed slot (with_outcome failed slot) there (grind (arith, nat_tests)) is (outcome-grows failed slot)
     of-slot slot there false own is = stays (is ∙ sym there)
 
-    by : (o : Option Slot) → shelf.slots i ≡ o → shelf'.slots i ≡ if_there (λ (slot : Slot). Some (if nat_eq slot.worker v then with_outcome failed slot else slot)) None o → SlotChanges v (shelf.slots i) (shelf'.slots i)
+    by : (o : Option Slot) → shelf.slots i ≡ o → shelf'.slots i ≡ if_there (λ (slot : Slot). Some (if nat_eq slot.worker v then with_outcome failed slot else slot)) None o
+        → SlotChanges v (shelf.slots i) (shelf'.slots i)
     by None none is = stays (is ∙ sym none)
     by (Some slot) there is = of-slot slot there (nat_eq slot.worker v) refl is

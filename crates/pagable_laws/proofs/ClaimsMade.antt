@@ -1,23 +1,7 @@
 -- Claims: each event claims on a table only what wasn't claimed there, and what one worker claimed is among its table's claims.
-use Rattle.std.proofs.Common.{◌≡◌, ℕ, ◌+◌, ◌≤◌, ◌==◌, ◌&&◌, Bool, true, false, List, [], ◌∷◌, refl, ap, sym, subst, ◌∙◌, arith, Ok}
-use Rattle.std.specs.Prelude.{Option, Some, None, is_some, if◌then◌else◌}
-use Rattle.std.proofs.lemmas.Bool.Decides.{nat_tests}
-use Rattle.std.proofs.lemmas.List.Sums.{sum_by-append, sum_by-cons}
-use Rattle.pagable_world.specs.Plain.{Identity, WorkerNumber, one, times}
-use Rattle.pagable_world.specs.declared.events.Event.{Event}
-use Rattle.pagable_world.specs.declared.events.EventReply.{EventReply}
-use Rattle.pagable_world.specs.declared.events.Took.{Took}
-use Rattle.pagable_world.specs.declared.events.WorkerReply.{WorkerReply}
-use Rattle.pagable_world.specs.declared.events.Claim.TheVariants as claims
-use Rattle.pagable_world.specs.declared.events.Took.TheVariants as took
-use Rattle.pagable_world.specs.declared.events.Event.TheVariants as events
-use Rattle.pagable_world.specs.declared.events.EventReply.TheVariants as answers
-use Rattle.pagable_world.specs.Kinds.{identity_of}
-use Rattle.pagable_world.specs.World.{Shelf, Slot, no_result, Todo, to_start, Walking, World, Seen, is_identity}
-use Rattle.pagable_world.specs.Workers.{Site, Does, with_wait}
-use Rattle.pagable_world.specs.Events.{Happens, WorkerSteps}
-use Rattle.pagable_world.specs.Order.{step_of, steps_of, is_claim_of}
-use Rattle.pagable_world.specs.Headline.{is_on_table, claims_made}
+use Rattle.pagable_laws.proofs.Words.{◌≡◌, ℕ, ◌+◌, ◌≤◌, ◌==◌, ◌&&◌, Bool, true, false, List, [], ◌∷◌, refl, ap, sym, subst, ◌∙◌, arith, Ok, Option, Some, None, is_some, if◌then◌else◌, nat_tests}
+use Rattle.pagable_laws.proofs.Words.{sum_by-append, sum_by-cons, Identity, WorkerNumber, one, times, Event, EventReply, Took, WorkerReply, Claim, identity_of, Shelf, Slot, no_result, Todo}
+use Rattle.pagable_laws.proofs.Words.{to_start, Walking, World, Seen, is_identity, Site, Does, with_wait, Happens, WorkerSteps, step_of, steps_of, is_claim_of, is_on_table, claims_made}
 use Rattle.pagable_laws.proofs.Changing.{ShelfGrows, is-same, PutsSlot, puts-slot}
 use Rattle.pagable_laws.proofs.Holding.{KeepsTask}
 use Rattle.pagable_laws.proofs.Coming.{updated-at}
@@ -40,7 +24,7 @@ none-more a b le = omega arith
 claim-comes : {N B W : Type 0} (m : Seen N B W) (v : ℕ) (s s' : Site) (i : Identity) (todo : List Todo) (step : Took W) → Does m v s todo step s'
     → one (is_some (s.shelf.slots i)) ≤ one (is_some (s'.shelf.slots i))
     → one (is_some (s.shelf.slots i)) + one (is_claim_of i step) ≤ one (is_some (s'.shelf.slots i))
-claim-comes m v s s' i (to_start r place ∷ below) (took.Claim j (Ok claims.Claimed)) (is, c) more = by (is_identity i j) refl
+claim-comes m v s s' i (to_start r place ∷ below) (Took.Claim j (Ok Claim.Claimed)) (is, c) more = by (is_identity i j) refl
   where
     puts : PutsSlot s.shelf.slots s'.shelf.slots (identity_of r) (record { worker = v; written = None; outcome = no_result })
     puts = puts-slot (with_wait s.shelf v None) s'.shelf (identity_of r) (record { worker = v; written = None; outcome = no_result }) c.finds.1.2.table_is
@@ -52,19 +36,19 @@ claim-comes m v s s' i (to_start r place ∷ below) (took.Claim j (Ok claims.Cla
         let none = ap (λ o. one (is_some o)) (sym (ap s.shelf.slots at) ∙ c.finds.1.1) in
         let there = ap (λ o. one (is_some o)) (sym (ap s'.shelf.slots at) ∙ puts.at) in
         rw (none, there) (omega arith)
-claim-comes m v s s' i todo (took.Claim j (Ok claims.Claimed)) does more = absurd does
+claim-comes m v s s' i todo (Took.Claim j (Ok Claim.Claimed)) does more = absurd does
 claim-comes m v s s' i todo step does more = none-more _ _ more
 
 -- the claims of one event
 abbrev pub claim_made : {N B W : Type 0} → (ℕ → Option Walking) → ℕ → Identity → Event N B W → EventReply N B W → ℕ
-claim_made walkings t i (events.WorkerStep v) (answers.WorkerMoved (Ok reply)) = one (is_on_table t (walkings v.0) && is_claim_of i reply.took)
+claim_made walkings t i (Event.WorkerStep v) (EventReply.WorkerMoved (Ok reply)) = one (is_on_table t (walkings v.0) && is_claim_of i reply.took)
 claim_made walkings t i event reply = 0
 
 module _ {N B W : Type 0} (walkings : ℕ → Option Walking) (t : ℕ) (i : Identity) where
   pub claims-cons : (event : Event N B W) (reply : EventReply N B W) (more : List (Event N B W)) (rest : List (EventReply N B W))
       → claims_made walkings t i (event ∷ more) (reply ∷ rest) ≡ claim_made walkings t i event reply + claims_made walkings t i more rest
   unfolding claims_made
-  claims-cons (events.WorkerStep v) (answers.WorkerMoved (Ok reply)) more rest = refl
+  claims-cons (Event.WorkerStep v) (EventReply.WorkerMoved (Ok reply)) more rest = refl
   claims-cons event reply more rest = sym (plus-none _)
 
   -- what one worker of the table claimed is among them
@@ -92,7 +76,7 @@ module _ {N B W : Type 0} (walkings : ℕ → Option Walking) (t : ℕ) (i : Ide
           le-of is = omega arith
 
       own : (event : Event N B W) (reply : EventReply N B W) → times (is_claim_of {W = W} i) (step_of n event reply) ≤ claim_made walkings t i event reply
-      own (events.WorkerStep v) (answers.WorkerMoved (Ok reply)) = one-at-once v.0 reply.took (v.0 == n) refl
+      own (Event.WorkerStep v) (EventReply.WorkerMoved (Ok reply)) = one-at-once v.0 reply.took (v.0 == n) refl
       own event reply = omega arith
 
   -- each event claims what wasn't claimed, where workers keep their tables
@@ -114,7 +98,8 @@ module _ {N B W : Type 0} (walkings : ℕ → Option Walking) (t : ℕ) (i : Ide
         after : (u'.work.shelves w.table).slots i ≡ s.after.shelf.slots i
         after = (s.work.same_shelves w.table).slots i ∙ ap (λ (x : Shelf). x.slots i) (updated-at w.table s.after.shelf u.work.shelves)
 
-        by : (b : Bool) → (w.table == t) ≡ b → one (is_some ((u.work.shelves t).slots i)) + one (is_on_table t (walkings v.0) && is_claim_of i reply.took) ≤ one (is_some ((u'.work.shelves t).slots i))
+        by : (b : Bool) → (w.table == t) ≡ b
+            → one (is_some ((u.work.shelves t).slots i)) + one (is_on_table t (walkings v.0) && is_claim_of i reply.took) ≤ one (is_some ((u'.work.shelves t).slots i))
         by false e = let f = on false e in rw f (none-more _ _ stay)
         by true e =
             let is : w.table ≡ t = grind (arith, nat_tests) in
@@ -127,5 +112,5 @@ module _ {N B W : Type 0} (walkings : ℕ → Option Walking) (t : ℕ) (i : Ide
 
     pub event-claims : (event : Event N B W) (reply : EventReply N B W) → Happens m u event reply u'
         → one (is_some ((u.work.shelves t).slots i)) + claim_made walkings t i event reply ≤ one (is_some ((u'.work.shelves t).slots i))
-    event-claims (events.WorkerStep v) (answers.WorkerMoved (Ok reply)) h = step-claims reply h.moves
+    event-claims (Event.WorkerStep v) (EventReply.WorkerMoved (Ok reply)) h = step-claims reply h.moves
     event-claims event reply h = none-more _ _ stay

@@ -1,25 +1,16 @@
 -- Heights that are known are those of trees; so where a place and a height pass the limit, the task leads down too long a path.
-use Rattle.std.proofs.Common.{◌≡◌, ℕ, zero, suc, ◌+◌, ◌<◌, ◌≤◌, ◌==◌, ◌||◌, Bool, true, false, not, List, [], ◌∷◌, ◌⊎◌, inl, inr, if◌then◌else◌, refl, sym, ap, subst, arith}
-use Rattle.std.specs.Prelude.{max, Some, None, Option, Err}
-use Rattle.pagable_model.specs.Meaning.{number, integer, text, pattern, none, pair, variant, reference, followed}
-use Rattle.pagable_model.specs.Deep.{is_eager, longest_path, above, height, deepest_path}
-use Rattle.pagable_model.specs.Writing.{kind_of_arc}
-use Rattle.pagable_model.specs.declared.error.Error.TheVariants as errors
-use Rattle.pagable_world.specs.declared.handles.HandleRow.{HandleRow}
-use Rattle.pagable_world.specs.Plain.{ArcRef, Identity, Meaning, Tree, Types, Among, type_of, if_there, or_else}
-use Rattle.pagable_world.specs.Kinds.{identity_of, fits_mode}
-use Rattle.pagable_world.specs.World.{Core, Shelf, Written, Todo, to_start, to_finish, to_item, Task, of_item, of_entry, Values, is_identity, row_at, type_at}
-use Rattle.pagable_world.specs.Refusals.{row_fault, is_type, refused_if}
-use Rattle.pagable_world.specs.Workers.{Site, Claims, IsPublished, IsTooDeep, claim_fault}
-use Rattle.pagable_world.specs.Pager.{MachineState, world_of}
-use Rattle.pagable_world.specs.OneWorker.{IsTooDeepTask}
-use Rattle.pagable_laws.specs.DeepLaws.{WaitsForAsker}
-use Rattle.pagable_laws.specs.PageOutLaws.{Ground, ground_of, FollowsTo, number-follows, integer-follows, text-follows, pattern-follows, none-follows, pair-follows, variant-follows, reference-follows, WroteTree, Expects, Waits, WorkFits}
+use Rattle.pagable_laws.proofs.Words.{◌≡◌, ℕ, zero, suc, ◌+◌, ◌<◌, ◌≤◌, ◌==◌, Bool, true, false, not, List, [], ◌∷◌, ◌⊎◌, inl, inr, if◌then◌else◌, refl, sym, ap, subst, arith, max, Some}
+use Rattle.pagable_laws.proofs.Words.{None, Option, Err, pair, variant, reference, followed, is_eager, longest_path, above, height, deepest_path}
+use Rattle.pagable_laws.proofs.Words.{kind_of_arc, Error, HandleRow, ArcRef, Identity, Meaning, Tree, Types, Among, type_of, if_there, or_else, identity_of, fits_mode, Core, Shelf, Written, Todo}
+use Rattle.pagable_laws.proofs.Words.{to_start, to_finish, to_item, Task, of_item, of_entry, Values, is_identity, row_at, type_at, row_fault, is_type, refused_if, Site, Claims, IsPublished}
+use Rattle.pagable_laws.proofs.Words.{IsTooDeep, claim_fault, MachineState, world_of, IsTooDeepTask, WaitsForAsker, Ground, ground_of, FollowsTo, number-follows, integer-follows, text-follows}
+use Rattle.pagable_laws.proofs.Words.{pattern-follows, none-follows, pair-follows, variant-follows, reference-follows, WroteTree, Expects, Waits, WorkFits}
 use Rattle.pagable_laws.proofs.Along.{Along, number-along, integer-along, text-along, pattern-along, none-along, pair-along, variant-along, reference-along, AllTwo, no-two, more-two, form-along}
 use Rattle.pagable_laws.proofs.Standing.{AllStand, Covers, is_open_in}
 use Rattle.pagable_laws.proofs.Changing.{is-same}
 use Rattle.pagable_laws.proofs.Heights.{IsAttained, place_over, WaitsLow, next-among}
 use Rattle.pagable_laws.proofs.HeightSteps.{HeightsIn}
+use Rattle.pagable_laws.proofs.Going.{or-cases}
 
 -- ---- what a tree's references lead to is part of it
 
@@ -32,15 +23,10 @@ size _ = 0
 
 height-within : (m : Meaning ⊥) → height m ≤ deepest_path m
 unfolding height deepest_path
-height-within (number i) = omega arith
-height-within (integer z) = omega arith
-height-within (text t) = omega arith
-height-within (pattern t) = omega arith
-height-within none = omega arith
 height-within (pair a b) = let p = height-within a in let q = height-within b in omega arith
 height-within (variant n a) = height-within a
 height-within (reference a) = absurd a
-height-within (followed kind a) = omega arith
+height-within _ = omega arith
 
 -- what the reference leads to is part of what the meaning says
 record Part (trees : ℕ → Tree) (m : Meaning ⊥) (r : ArcRef) : Type 0 where
@@ -104,28 +90,24 @@ climbs-entry : (h d : ℕ) → h ≤ d → longest_path < max (0 + h) d → long
 climbs-entry h d within long = omega arith
 
 -- no reference is refused as too deep before its place is looked at
-no-claim-deep : (w : Core) (r : ArcRef) → claim_fault w r ≡ Some errors.TooDeep → ⊥
+no-claim-deep : (w : Core) (r : ArcRef) → claim_fault w r ≡ Some Error.TooDeep → ⊥
 no-claim-deep w r is = by (row_at w r.handle) is
   where
-    kind : (b : Bool) → refused_if b errors.WrongKind ≡ Some errors.TooDeep → ⊥
+    kind : (b : Bool) → refused_if b Error.WrongKind ≡ Some Error.TooDeep → ⊥
     kind true e = cc
     kind false e = cc
 
-    fits : (a b : Bool) → or_else None (if a then Some errors.WrongMode else refused_if b errors.WrongKind) ≡ Some errors.TooDeep → ⊥
+    fits : (a b : Bool) → or_else None (if a then Some Error.WrongMode else refused_if b Error.WrongKind) ≡ Some Error.TooDeep → ⊥
     fits true b e = cc
     fits false b e = kind b e
 
-    row : (a b c : Bool) → (if a then Some errors.NoSuchHandle else or_else None (if b then Some errors.WrongMode else refused_if c errors.WrongKind)) ≡ Some errors.TooDeep → ⊥
+    row : (a b c : Bool) → (if a then Some Error.NoSuchHandle else or_else None (if b then Some Error.WrongMode else refused_if c Error.WrongKind)) ≡ Some Error.TooDeep → ⊥
     row true b c e = cc
     row false b c e = fits b c e
 
-    by : (o : Option HandleRow) → if_there (row_fault w r None) (Some errors.NoSuchHandle) o ≡ Some errors.TooDeep → ⊥
+    by : (o : Option HandleRow) → if_there (row_fault w r None) (Some Error.NoSuchHandle) o ≡ Some Error.TooDeep → ⊥
     by None e = cc
     by (Some h) e = row (not (h.node.0 == r.node.0)) (not (fits_mode r.kind.0 h.mode)) (not (is_type (type_of r.kind.0) (type_at w r.node.0))) e
-
-either : (a b : Bool) → (a || b) ≡ true → (a ≡ true) ⊎ (b ≡ true)
-either true b is = inl refl
-either false b is = inr is
 
 less-still : {a b c : ℕ} → suc a ≤ b → c ≤ a → b ≡ c → ⊥
 less-still lt le e = absurd (omega arith)
@@ -190,7 +172,7 @@ module _ {N E : Type 0} (v : Values N) (s : MachineState N E) (trees : ℕ → T
       let f = fit.slots t (identity_of o.reference) claim.slot claim.claimed in
       let part = part-of (f.writes o.written claim.written_so) r (next-among shelf o.written.references o.keys r more e) in
       let small = part.small in
-      elim (either (is_identity q (identity_of o.reference)) (is_open_in q below) is) [
+      elim (or-cases (is_identity q (identity_of o.reference)) (is_open_in q below) is) [
         | inl same ↦ less-still small few (ap (λ (j : Identity). size (trees j.node.0).meaning) (is-same q (identity_of o.reference) same))
         | inr rest ↦ not-below n task q o.reference below (omega arith) expects waits all rest
       ]
@@ -199,7 +181,7 @@ module _ {N E : Type 0} (v : Values N) (s : MachineState N E) (trees : ℕ → T
 
   -- a claim that is too deep is so by a path of the task's, or another is at it that waits for the asker
   pub claim-deep : (n : ℕ) (task : Task) (core : Core) (todo : List Todo) (r : ArcRef) (place : ℕ) (below : List Todo) (s' : Site)
-      → Claims n (record { core = core; shelf = shelf; todo = todo }) r place below (Err errors.TooDeep) s'
+      → Claims n (record { core = core; shelf = shelf; todo = todo }) r place below (Err Error.TooDeep) s'
       → Expects task r below → Waits shelf task below → AllStand shelf n task below → Covers shelf n (to_start r place ∷ below) → place ≡ place_over r below
       → WaitsLow shelf below
       → IsTooDeepTask trees task ⊎ WaitsForAsker shelf n (identity_of r)

@@ -1,26 +1,8 @@
 -- What each event does to workers and tables: it touches one worker, and claims of its own.
-use Rattle.std.proofs.Common.{◌≡◌, ℕ, ◌+◌, ◌<◌, ◌≤◌, ◌==◌, Bool, true, false, List, [], ◌∷◌, refl, ap, sym, subst, ◌∙◌, arith, Ok, Err}
-use Rattle.std.specs.Prelude.{Option, Some, None, nat_eq, if◌then◌else◌}
-use Rattle.std.proofs.lemmas.Bool.Decides.{nat_tests}
-use Rattle.pagable_world.specs.Plain.{Identity, WorkerNumber, updated}
-use Rattle.pagable_world.specs.declared.calls.Call.{Call}
-use Rattle.pagable_world.specs.declared.calls.Reply.{Reply}
-use Rattle.pagable_world.specs.declared.calls.Call.TheVariants as calls
-use Rattle.pagable_world.specs.declared.calls.Reply.TheVariants as replies
-use Rattle.pagable_world.specs.declared.events.Event.{Event}
-use Rattle.pagable_world.specs.declared.events.EventReply.{EventReply}
-use Rattle.pagable_world.specs.declared.events.TableNumber.{TableNumber}
-use Rattle.pagable_world.specs.declared.events.Took.{Took}
-use Rattle.pagable_world.specs.declared.events.WorkerReply.{WorkerReply}
-use Rattle.pagable_world.specs.declared.events.WorkerAnswer.{WorkerAnswer}
-use Rattle.pagable_world.specs.declared.handles.Owner.TheVariants as owners
-use Rattle.pagable_world.specs.declared.events.Event.TheVariants as events
-use Rattle.pagable_world.specs.declared.events.EventReply.TheVariants as answers
-use Rattle.pagable_world.specs.World.{Core, Alike, Shelf, Slot, Todo, Task, Walking, World, Seen}
-use Rattle.pagable_world.specs.Workers.{Site, answer_after}
-use Rattle.pagable_world.specs.Events.{CallStep, Happens, Stays, WorkStays, WorkIs, Starts, no_shelf, new_walking, WorkerSteps, Ends}
-use Rattle.pagable_world.specs.Pager.{MachineState, world_of, IsIdle}
-use Rattle.pagable_world.specs.Order.{step_of}
+use Rattle.pagable_laws.proofs.Words.{◌≡◌, ℕ, ◌+◌, ◌<◌, ◌≤◌, ◌==◌, Bool, true, false, List, [], ◌∷◌, refl, ap, sym, subst, ◌∙◌, arith, Ok, Err, Option, Some, None, nat_eq, if◌then◌else◌}
+use Rattle.pagable_laws.proofs.Words.{nat_tests, Identity, WorkerNumber, updated, Call, Reply, Event, EventReply, TableNumber, Took, WorkerReply, WorkerAnswer, Owner, Core, Alike, Shelf, Slot}
+use Rattle.pagable_laws.proofs.Words.{Todo, Task, Walking, World, Seen, Site, answer_after, CallStep, Happens, Stays, WorkStays, WorkIs, Starts, no_shelf, new_walking, WorkerSteps, Ends}
+use Rattle.pagable_laws.proofs.Words.{MachineState, world_of, IsIdle, step_of}
 use Rattle.pagable_laws.proofs.Standing.{WorkStands}
 use Rattle.pagable_laws.proofs.Changing.{SlotChanges, ShelfGrows, some-none, grows, same-slots, meets-grow}
 use Rattle.pagable_laws.proofs.Claiming.{stands-on}
@@ -140,19 +122,19 @@ module _ {N B W : Type 0} (m : Seen N B W) (u u' : World) (work : StandsIn u) wh
             ((w.same_shelves t.0).slots i ∙ (ap (λ (s : Shelf). s.slots i) (updated-at t.0 no_shelf u.work.shelves) ∙ nothing i ((u.work.shelves t.0).slots i) refl))
         same q i false e = (w.same_shelves q).slots i ∙ ap (λ (s : Shelf). s.slots i) (updated-off t.0 no_shelf u.work.shelves q e)
 
-  caller-free : NotLoads owners.Caller
+  caller-free : NotLoads Owner.Caller
   caller-free l is = absurd (cc)
 
   ends-last : (answer : Option WorkerAnswer) (v : ℕ) (w w' : Core) → Ends answer v w w' → w'.last.worker ≡ w.last.worker
   ends-last None v w w' e = ap (λ l. l.worker) e.last
   ends-last (Some a) v w w' e = ap (λ l. l.worker) e.falls.leaves.last
 
-  call-last : (call : Call N B) (r : Reply N B) → CallStep m u.core owners.Caller call r u'.core → NoFewer u.core u'.core
-  call-last calls.Close (replies.Done r) c = le-of (ap (λ l. l.worker) c.does.falls.falls.leaves.last)
-  call-last calls.Close r c = absurd c.does
-  call-last call r c = (calls-go m u.core owners.Caller caller-free u'.core call r tt c.does).goes.workers_last
+  call-last : (call : Call N B) (r : Reply N B) → CallStep m u.core Owner.Caller call r u'.core → NoFewer u.core u'.core
+  call-last Call.Close (Reply.Done r) c = le-of (ap (λ l. l.worker) c.does.falls.falls.leaves.last)
+  call-last Call.Close r c = absurd c.does
+  call-last call r c = (calls-go m u.core Owner.Caller caller-free u'.core call r tt c.does).goes.workers_last
 
-  stepped : (v : WorkerNumber) (reply : WorkerReply W) → WorkerSteps m u v reply u' → EventTurns m u (events.WorkerStep v) (answers.WorkerMoved (Ok reply)) u'
+  stepped : (v : WorkerNumber) (reply : WorkerReply W) → WorkerSteps m u v reply u' → EventTurns m u (Event.WorkerStep v) (EventReply.WorkerMoved (Ok reply)) u'
   stepped v reply s =
       let w = s.walking in
       let now : Walking = record w { todo = s.after.todo; steps = reply.steps; answer = reply.answer } in
@@ -179,20 +161,20 @@ module _ {N B W : Type 0} (m : Seen N B W) (u u' : World) (work : StandsIn u) wh
       }
 
   pub event-turns : KnowsTables u → (event : Event N B W) (reply : EventReply N B W) → Happens m u event reply u' → EventTurns m u event reply u'
-  event-turns tables (events.Call call) (answers.CallReply r) h = by-work _ _ (λ n. refl) (call-last call r h.step) h.work
-  event-turns tables (events.LoadStart q) (answers.Started r) h = by-work _ _ (λ n. refl) (calling.begins r h.step).workers_last h.work
-  event-turns tables (events.LoadKey key t) (answers.Started r) h = by-work _ _ (λ n. refl) (calling.begins-key r h.step).workers_last h.work
-  event-turns tables (events.LoadStep l) (answers.LoadMoved (Ok r)) h =
-      by-work _ _ (λ n. refl) (reading-feels m u.core owners.Caller caller-free u'.core h.moves.reading r.ended h.moves.frames h.moves.does).goes.workers_last h.moves.work
-  event-turns tables (events.LoadStep l) (answers.LoadMoved (Err e)) h = unchanged _ _ (λ n. refl) h.refused.1
-  event-turns tables events.TableNew (answers.TableMade (Ok t)) h = tabled _ _ (λ n. refl) tables t h.made.0 h.made.1 h.made.3
-  event-turns tables events.TableNew (answers.TableMade (Err e)) h = unchanged _ _ (λ n. refl) h.refused.1
-  event-turns tables (events.WorkerItem t item) (answers.WorkerMade (Ok v)) h = starts _ _ (λ n. refl) t _ u.core v refl h.starts
-  event-turns tables (events.WorkerItem t item) (answers.WorkerMade (Err e)) h = unchanged _ _ (λ n. refl) h.refused.1
-  event-turns tables (events.WorkerListed t i) (answers.WorkerMade (Ok v)) h = starts _ _ (λ n. refl) t _ _ v refl h.starts.5
-  event-turns tables (events.WorkerListed t i) (answers.WorkerMade (Err e)) h = unchanged _ _ (λ n. refl) h.refused.1
-  event-turns tables (events.WorkerStep v) (answers.WorkerMoved (Ok reply)) h = stepped v reply h.moves
-  event-turns tables (events.WorkerStep v) (answers.WorkerMoved (Err e)) h = unchanged _ _ (λ n. refl) h.refused.2
+  event-turns tables (Event.Call call) (EventReply.CallReply r) h = by-work _ _ (λ n. refl) (call-last call r h.step) h.work
+  event-turns tables (Event.LoadStart q) (EventReply.Started r) h = by-work _ _ (λ n. refl) (calling.begins r h.step).workers_last h.work
+  event-turns tables (Event.LoadKey key t) (EventReply.Started r) h = by-work _ _ (λ n. refl) (calling.begins-key r h.step).workers_last h.work
+  event-turns tables (Event.LoadStep l) (EventReply.LoadMoved (Ok r)) h =
+      by-work _ _ (λ n. refl) (reading-feels m u.core Owner.Caller caller-free u'.core h.moves.reading r.ended h.moves.frames h.moves.does).goes.workers_last h.moves.work
+  event-turns tables (Event.LoadStep l) (EventReply.LoadMoved (Err e)) h = unchanged _ _ (λ n. refl) h.refused.1
+  event-turns tables Event.TableNew (EventReply.TableMade (Ok t)) h = tabled _ _ (λ n. refl) tables t h.made.0 h.made.1 h.made.3
+  event-turns tables Event.TableNew (EventReply.TableMade (Err e)) h = unchanged _ _ (λ n. refl) h.refused.1
+  event-turns tables (Event.WorkerItem t item) (EventReply.WorkerMade (Ok v)) h = starts _ _ (λ n. refl) t _ u.core v refl h.starts
+  event-turns tables (Event.WorkerItem t item) (EventReply.WorkerMade (Err e)) h = unchanged _ _ (λ n. refl) h.refused.1
+  event-turns tables (Event.WorkerListed t i) (EventReply.WorkerMade (Ok v)) h = starts _ _ (λ n. refl) t _ _ v refl h.starts.5
+  event-turns tables (Event.WorkerListed t i) (EventReply.WorkerMade (Err e)) h = unchanged _ _ (λ n. refl) h.refused.1
+  event-turns tables (Event.WorkerStep v) (EventReply.WorkerMoved (Ok reply)) h = stepped v reply h.moves
+  event-turns tables (Event.WorkerStep v) (EventReply.WorkerMoved (Err e)) h = unchanged _ _ (λ n. refl) h.refused.2
   event-turns tables event reply h = absurd h
 
 -- what stands goes on to stand

@@ -1,22 +1,13 @@
 -- The worked examples, by computation.
-use Rattle.std.proofs.Common.{◌≡◌, ℕ, Bool, true, false, cond, if◌then◌else◌, refl, lit<, lit≤, pos, negsuc, [], ◌∷◌, List, codes, ◌⊎◌, inl, inr}
-use Rattle.std.proofs.lemmas.Str.{IsUtf8-from_is_utf8}
+use Rattle.pagable_laws.proofs.Words.{◌≡◌, ℕ, Bool, true, false, cond, if◌then◌else◌, refl, lit<, lit≤, pos, negsuc, [], ◌∷◌, List, codes, ◌⊎◌, inl, inr, IsUtf8-from_is_utf8, varint, varint_at}
+use Rattle.pagable_laws.proofs.Words.{length_at, text_at, bool_at, char_at, duration_at, integer, text, absent, rename, plain, nothing, nested, tagged_by, is_registered, body_of, code, put_all}
+use Rattle.pagable_laws.proofs.Words.{items, read_with, below, read, nothing-form, unsigned-form, signed-form, none-form, some-form, list-form, run-form, no-forms, more-forms, json-number-form}
+use Rattle.pagable_laws.proofs.Words.{static-form, tagged-form, reference-form, preimage, weight, kid, unfolded, key-of, no-keys, more-keys, IsReadable, IsCanonical, HasNoCase, LiesIn, unwritten}
+use Rattle.pagable_laws.proofs.Words.{throughout-in, NumbersAreSpelled, NumbersAreRead, CasesAreSpelled, ListsAreSpelled, MapsAreRead, JsonIsRead, KeysAreWeighed, TextsAreRead, DurationsAreRead}
+use Rattle.pagable_laws.proofs.Words.{NamedTypesAreRead, RegistriesAreRead, ReferencesTakeKeys, UnknownTagsAreWritten, TreesHaveKeys, ShapesAreMet, only_cat, chain, no_parts, cats}
 use Rattle.std.specs.Int.{w8, w32}
 use Rattle.std.specs.Str.{is_utf8, chars, bytes_eq}
 use Rattle.std.specs.Char.{encode_utf8}
-use Rattle.pagable_model.specs.Numbers.{varint, varint_at}
-use Rattle.pagable_model.specs.Basic.{length_at, text_at, bool_at, char_at, duration_at}
-use Rattle.pagable_model.specs.Meaning.{integer, text, absent, rename, plain}
-use Rattle.pagable_model.specs.Shape.{nothing, nested}
-use Rattle.pagable_model.specs.Carried.{tagged_by, is_registered, body_of}
-use Rattle.pagable_model.specs.Keys.{code, put_all}
-use Rattle.pagable_model.specs.Reading.{items, read_with, below, read}
-use Rattle.pagable_model.specs.Form.{nothing-form, unsigned-form, signed-form, none-form, some-form, list-form, run-form, no-forms, more-forms, json-number-form, static-form, tagged-form, reference-form}
-use Rattle.pagable_model.specs.Blob.{preimage, weight}
-use Rattle.pagable_model.specs.Deep.{kid}
-use Rattle.pagable_model.specs.Merkle.{unfolded, key-of, no-keys, more-keys}
-use Rattle.pagable_model.specs.Canonical.{IsReadable, IsCanonical, HasNoCase, LiesIn, unwritten, throughout-in}
-use Rattle.pagable_laws.specs.Rows.{NumbersAreSpelled, NumbersAreRead, CasesAreSpelled, ListsAreSpelled, MapsAreRead, JsonIsRead, KeysAreWeighed, TextsAreRead, DurationsAreRead, NamedTypesAreRead, RegistriesAreRead, ReferencesTakeKeys, UnknownTagsAreWritten, TreesHaveKeys, ShapesAreMet, only_cat, chain, no_parts, cats}
 
 pub numbers_spelled : NumbersAreSpelled
 unfolding varint
@@ -33,8 +24,10 @@ cases_spelled = (some-form _ _ _ _ _ (unsigned-form _ w8 7 (lit< tt)), none-form
 pub lists_spelled : ListsAreSpelled
 unfolding read read_with varint varint_at length_at items
 lists_spelled = (
-  list-form _ _ (integer (negsuc 0) ∷ integer (pos 1) ∷ []) _ _ (lit≤ tt) (more-forms _ _ _ _ _ _ _ _ (signed-form _ w32 (negsuc 0) (lit< tt)) (more-forms _ _ _ _ _ _ _ _ (signed-form _ w32 (pos 1) (lit< tt)) (no-forms _ _))),
-  run-form _ _ (integer (negsuc 0) ∷ integer (pos 1) ∷ []) _ _ (lit≤ tt) (more-forms _ _ _ _ _ _ _ _ (signed-form _ w32 (negsuc 0) (lit< tt)) (more-forms _ _ _ _ _ _ _ _ (signed-form _ w32 (pos 1) (lit< tt)) (no-forms _ _))),
+  list-form _ _ (integer (negsuc 0) ∷ integer (pos 1) ∷ []) _ _ (lit≤ tt)
+      (more-forms _ _ _ _ _ _ _ _ (signed-form _ w32 (negsuc 0) (lit< tt)) (more-forms _ _ _ _ _ _ _ _ (signed-form _ w32 (pos 1) (lit< tt)) (no-forms _ _))),
+  run-form _ _ (integer (negsuc 0) ∷ integer (pos 1) ∷ []) _ _ (lit≤ tt)
+      (more-forms _ _ _ _ _ _ _ _ (signed-form _ w32 (negsuc 0) (lit< tt)) (more-forms _ _ _ _ _ _ _ _ (signed-form _ w32 (pos 1) (lit< tt)) (no-forms _ _))),
   refl,
   refl,
   refl,
@@ -68,7 +61,15 @@ named_read = (refl, refl, refl, refl, refl, refl, refl, refl, refl, refl)
 
 pub registries_read : RegistriesAreRead
 unfolding read read_with varint varint_at length_at text_at is_utf8 rename chars encode_utf8
-registries_read = (static-form _ _ 1 (text (codes "hello")) (lit< tt) refl, static-form _ _ 2 (text (codes "world")) (lit< tt) refl, static-form _ _ 0 (text []) (lit< tt) refl, refl, refl, refl, refl)
+registries_read = (
+  static-form _ _ 1 (text (codes "hello")) (lit< tt) refl,
+  static-form _ _ 2 (text (codes "world")) (lit< tt) refl,
+  static-form _ _ 0 (text []) (lit< tt) refl,
+  refl,
+  refl,
+  refl,
+  refl,
+)
 
 pub references_take : ReferencesTakeKeys
 unfolding read read_with bool_at
@@ -80,7 +81,8 @@ unknown_tags = (tagged-form _ _ _ _ (codes "Dog") _ [] [] (IsUtf8-from_is_utf8 (
 
 pub trees_keyed : TreesHaveKeys
 unfolding unfolded preimage weight
-trees_keyed = key-of _ _ (0x01 ∷ []) (kid 4 absent ∷ []) (1 ∷ []) refl (some-form _ _ _ [] _ (reference-form _ 4 (kid 4 absent) refl)) (more-keys _ _ _ _ (key-of _ _ (0x00 ∷ []) [] [] refl (none-form _ _) no-keys) no-keys)
+trees_keyed = key-of _ _ (0x01 ∷ []) (kid 4 absent ∷ []) (1 ∷ []) refl (some-form _ _ _ [] _ (reference-form _ 4 (kid 4 absent) refl))
+    (more-keys _ _ _ _ (key-of _ _ (0x00 ∷ []) [] [] refl (none-form _ _) no-keys) no-keys)
 
 cat_written : (tag : List ℕ) → HasNoCase (only_cat tag) ⊎ ((is_registered cats tag ≡ true) × (body_of cats tag ≡ only_cat tag))
 cat_written tag = at (bytes_eq tag (codes "Cat"))

@@ -1,21 +1,15 @@
 -- A value that was read of a blob leads to what the blob's key reads as: reading the blob with the references that were got runs along the reading of
 -- its bare keys, and each of these reads as the tree of the node that was got for it.
-use Rattle.std.proofs.Common.{◌≡◌, ℕ, zero, suc, ◌+◌, ◌≤◌, ◌==◌, ◌&&◌, Bool, true, false, List, [], ◌∷◌, ◌++◌, Option, Some, None, Result, Ok, Err, if◌then◌else◌, ◌⊎◌, inl, inr, refl, sym, ap, ◌∙◌, subst, arith, sum_by}
-use Rattle.std.specs.Prelude.{slice_get, length}
-use Rattle.std.proofs.lemmas.Bool.{and_parts}
-use Rattle.pagable_model.specs.declared.error.Error.TheVariants as errors
-use Rattle.pagable_model.specs.Meaning.{number, integer, text, pattern, none, pair, variant, reference, followed}
-use Rattle.pagable_model.specs.References.{references_in, SameReferences}
-use Rattle.pagable_model.specs.Reading.{Rest, read_typed}
-use Rattle.pagable_model.specs.Standing.{Answer, answer_at, handles_at}
-use Rattle.pagable_model.specs.Trees.{KeyRef, key_ref, ReadsAs, blob_context, rest_of, IsFollowed, number-followed, integer-followed, text-followed, pattern-followed, none-followed, pair-followed, variant-followed, reference-followed}
-use Rattle.pagable_world.specs.Plain.{Error, ArcRef, Kind, Blob, Shape, Types, Tree, ReadsTree, tree, type_of, Meaning, Among, one}
-use Rattle.pagable_world.specs.World.{Frame, Values, IsLawful}
-use Rattle.pagable_world.specs.Loads.{answer_of, answers_from, reads, asks, next_by, next_in, IsDecoded}
-use Rattle.pagable_world.specs.Pager.{PagerState, NodeStands, ValueStands, MeaningStands, number-stands, integer-stands, text-stands, pattern-stands, none-stands, pair-stands, variant-stands, followed-stands, reference-stands, ReadsNodeTree, FrameFits}
-use Rattle.pagable_world.specs.Runs.{ReadsItsTypes}
-use Rattle.pagable_laws.specs.ReadLaws.{LeadsTo, number-leads, integer-leads, text-leads, pattern-leads, none-leads, pair-leads, variant-leads, followed-leads, reference-leads, Decoded}
-use Rattle.pagable_laws.proofs.Along.{Along, number-along, integer-along, text-along, pattern-along, none-along, pair-along, variant-along, reference-along, followed-along, AllTwo, no-two, more-two}
+use Rattle.pagable_laws.proofs.Words.{◌≡◌, ℕ, zero, suc, ◌+◌, ◌≤◌, ◌==◌, ◌&&◌, Bool, true, false, List, [], ◌∷◌, ◌++◌, Option, Some, None, Result, Ok, Err, if◌then◌else◌, ◌⊎◌, inl, inr, refl}
+use Rattle.pagable_laws.proofs.Words.{sym, ap, ◌∙◌, subst, arith, sum_by, slice_get, length, and_parts, Error, number, integer, text, pattern, none, pair, variant, reference, followed}
+use Rattle.pagable_laws.proofs.Words.{references_in, SameReferences, Rest, read_typed, Answer, answer_at, handles_at, KeyRef, key_ref, ReadsAs, blob_context, rest_of, IsFollowed, number-followed}
+use Rattle.pagable_laws.proofs.Words.{integer-followed, text-followed, pattern-followed, none-followed, pair-followed, variant-followed, reference-followed, ArcRef, Kind, Blob, Shape, Types}
+use Rattle.pagable_laws.proofs.Words.{Tree, ReadsTree, tree, type_of, Meaning, Among, one, Frame, Values, IsLawful, answer_of, answers_from, reads, asks, next_by, next_in, IsDecoded, PagerState}
+use Rattle.pagable_laws.proofs.Words.{NodeStands, ValueStands, MeaningStands, number-stands, integer-stands, text-stands, pattern-stands, none-stands, pair-stands, variant-stands}
+use Rattle.pagable_laws.proofs.Words.{followed-stands, reference-stands, ReadsNodeTree, FrameFits, ReadsItsTypes, LeadsTo, number-leads, integer-leads, text-leads, pattern-leads, none-leads}
+use Rattle.pagable_laws.proofs.Words.{pair-leads, variant-leads, followed-leads, reference-leads, Decoded}
+use Rattle.pagable_laws.proofs.Along.{Along, number-along, integer-along, text-along, pattern-along, none-along, pair-along, variant-along, reference-along, followed-along, AllTwo, no-two}
+use Rattle.pagable_laws.proofs.Along.{more-two}
 use Rattle.pagable_laws.proofs.Related.{Out, both-given, both-refused, first-refused, OutLook, both-looked-up, first-not, read_par}
 use Rattle.pagable_laws.proofs.Trees.{tree_is, one_tree}
 use Rattle.pagable_laws.proofs.Sums.{same-number, one-true, self-number, at-most-sum, counted}
@@ -27,8 +21,8 @@ any_cause e = Unit {0}
 -- ---- what is read or asked
 
 not-read : (key : Option ℕ) (e : Error) (own : Meaning ArcRef) → next_by key (Err e) ≡ reads own → ⊥
-not-read None (errors.Storage kind) own is = cc
-not-read (Some k) (errors.Storage kind) own is = cc
+not-read None (Error.Storage kind) own is = cc
+not-read (Some k) (Error.Storage kind) own is = cc
 not-read key e own is = cc
 
 pub read-gives : (key : Option ℕ) (r : Result (Meaning ArcRef × Rest Answer) Error) (own : Meaning ArcRef) → next_by key r ≡ reads own → (after : Rest Answer) × (r ≡ Ok (own, after))
@@ -37,8 +31,8 @@ read-gives key (Err e) own is = absurd (not-read key e own is)
 
 next-key : (key : Option ℕ) (r : Result (Meaning ArcRef × Rest Answer) Error) (kind : Kind) (k : ℕ) → next_by key r ≡ asks kind k → key ≡ Some k
 next-key key (Ok (m, after)) kind k is = absurd (cc)
-next-key None (Err (errors.Storage n)) kind k is = absurd (cc)
-next-key (Some q) (Err (errors.Storage n)) kind k is = let same : q ≡ k = cc in ap Some same
+next-key None (Err (Error.Storage n)) kind k is = absurd (cc)
+next-key (Some q) (Err (Error.Storage n)) kind k is = let same : q ≡ k = cc in ap Some same
 next-key key (Err e) kind k is = absurd (cc)
 
 -- the key that a blob asks for next is the next of its keys
@@ -68,13 +62,13 @@ among-either {X} (x ∷ xs) ys (suc i) r is = later (among-either xs ys i r is)
 
 module _ {types : Types} {stored : ℕ → Option Blob} {trees : ℕ → Tree} {got : List ArcRef} where
   answer-by : (t : Bool) (r : ArcRef) (kind key : ℕ) → (r.kind.0 == kind) ≡ t → Among got r → ReadsNodeTree types stored trees key (type_of r.kind.0) r.node.0
-      → OutLook any_cause (Found types stored trees got) (if t then Ok r else Err errors.WrongKind) (Ok (key_ref kind key))
+      → OutLook any_cause (Found types stored trees got) (if t then Ok r else Err Error.WrongKind) (Ok (key_ref kind key))
   answer-by true r kind key is among tree_read = both-looked-up r (key_ref kind key) (record { kind = sym (same-number _ _ is); among = among; tree_read = tree_read })
-  answer-by false r kind key is among tree_read = first-not errors.WrongKind _ tt
+  answer-by false r kind key is among tree_read = first-not Error.WrongKind _ tt
 
   answer-of : (o : Option ArcRef) (key : ℕ) → ((r : ArcRef) → o ≡ Some r → Among got r × ReadsNodeTree types stored trees key (type_of r.kind.0) r.node.0)
       → AnswersFor types stored trees got (answer_of o) key
-  answer-of None key h kind = first-not (errors.Storage kind) _ tt
+  answer-of None key h kind = first-not (Error.Storage kind) _ tt
   answer-of (Some r) key h kind = let p = h r refl in answer-by (r.kind.0 == kind) r kind key refl p.0 p.1
 
   answers : (place : ℕ) (keys : List ℕ)
@@ -164,10 +158,12 @@ meant-refs rs ss same r among =
 module _ {N : Type 0} {v : Values N} (lawful : IsLawful v) (readable : ReadsItsTypes v.types) {stored : ℕ → Option Blob} {trees : ℕ → Tree} where
   typed-along : (frame : Frame) (o : Option Shape) (blob : Blob) (got : List ArcRef) → v.types.nodes frame.node_type ≡ o
       → AllTwo (AnswersFor v.types stored trees got) (answers_from got 0 blob.keys) blob.keys
-      → Out any_cause (AnswersFor v.types stored trees got) (Along ⊥ (Found v.types stored trees got)) (read_typed (handles_at 0 v.types.parts) o (record { bytes = blob.bytes; refs = answers_from got 0 blob.keys })) (read_typed (blob_context v.types) o (rest_of blob))
-  typed-along frame None blob got is all = both-refused errors.WrongKind
+      → Out any_cause (AnswersFor v.types stored trees got) (Along ⊥ (Found v.types stored trees got))
+      (read_typed (handles_at 0 v.types.parts) o (record { bytes = blob.bytes; refs = answers_from got 0 blob.keys })) (read_typed (blob_context v.types) o (rest_of blob))
+  typed-along frame None blob got is all = both-refused Error.WrongKind
   typed-along frame (Some s) blob got is all =
-      let par = read_par {E = any_cause} {F = ⊥} {S = AnswersFor v.types stored trees got} {R = Found v.types stored trees got} answer_at (λ kind key. Ok (key_ref kind key)) (λ kind a key h. h kind) 0 s (inr (readable frame.node_type s is)) in
+      let par = read_par {E = any_cause} {F = ⊥} {S = AnswersFor v.types stored trees got} {R = Found v.types stored trees got} answer_at (λ kind key. Ok (key_ref kind key))
+      (λ kind a key h. h kind) 0 s (inr (readable frame.node_type s is)) in
       par.out _ _ (record { bytes = refl; refs = all })
 
   pub decodes : (frame : Frame) (x : N) → FrameFits v.types stored trees frame → IsDecoded v frame x → Decoded v stored trees frame x

@@ -1,31 +1,13 @@
 -- A load is refused as too deep only where the reading of its key comes to a blob that lies too deep, or to one that enters a level too many.
-use Rattle.std.proofs.Common.{◌≡◌, ℕ, ◌+◌, ◌<◌, ◌==◌, ◌||◌, Bool, true, false, List, [], ◌∷◌, length, Option, Some, None, Ok, Err, inl, inr, if◌then◌else◌, refl, sym, ap, subst, ◌∙◌, arith}
-use Rattle.std.specs.Prelude.{not}
-use Rattle.pagable_model.specs.declared.error.Error.TheVariants as errors
-use Rattle.pagable_world.specs.declared.calls.Want.{Want}
-use Rattle.pagable_world.specs.declared.calls.Want.TheVariants as wants
-use Rattle.pagable_world.specs.declared.handles.HandleRow.{HandleRow}
-use Rattle.pagable_world.specs.declared.handles.Owner.{Owner}
-use Rattle.pagable_world.specs.declared.handles.Owner.TheVariants as owners
-use Rattle.pagable_world.specs.declared.events.Took.TheVariants as took
-use Rattle.pagable_world.specs.declared.events.Took.{Took}
-use Rattle.pagable_world.specs.declared.events.Event.{Event}
-use Rattle.pagable_world.specs.declared.events.Event.TheVariants as events
-use Rattle.pagable_world.specs.declared.events.EventReply.{EventReply}
-use Rattle.pagable_world.specs.declared.events.EventReply.TheVariants as answers
-use Rattle.pagable_world.specs.Plain.{Error, Kind, HandleNumber, LoadNumber, Blob, Tree, Types, type_of, is_eager, is_in, is_loose_kind, longest_path, if_there}
-use Rattle.pagable_world.specs.Kinds.{any_mode, is_owner, owner_worker}
-use Rattle.pagable_world.specs.World.{Core, OpenLoad, Root, of_cell, of_key, Frame, Reading, Todo, Walking, Seen, IsLawful, row_at}
-use Rattle.pagable_world.specs.Refusals.{earlier, where_so, refused_if, spent, load_fault, named_fault, Refused}
-use Rattle.pagable_world.specs.Calls.{birth_fault, is_usable}
-use Rattle.pagable_world.specs.LoadCalls.{AskCall, AsksInVain, node_fault, root_fault, cell_fault, is_owned_in, is_known}
-use Rattle.pagable_world.specs.Loads.{Next, reads, asks, is_faulty, next_in, need_at, need_of, needs_nested, needs_lazy, is_broken, RefusesBlob, RefusesNested, RefusesRoot, Fails, Does, handles_of}
-use Rattle.pagable_world.specs.Workers.{Site}
+use Rattle.pagable_laws.proofs.Words.{◌≡◌, ℕ, ◌+◌, ◌<◌, ◌==◌, ◌||◌, Bool, true, false, List, [], ◌∷◌, length, Option, Some, None, Ok, Err, inl, inr, if◌then◌else◌, refl, sym, ap, subst, ◌∙◌}
+use Rattle.pagable_laws.proofs.Words.{arith, not, Error, Want, HandleRow, Owner, Took, Event, EventReply, Kind, HandleNumber, LoadNumber, Blob, Tree, Types, type_of, is_eager, is_in}
+use Rattle.pagable_laws.proofs.Words.{is_loose_kind, longest_path, if_there, any_mode, is_owner, owner_worker, Core, OpenLoad, Root, of_cell, of_key, Frame, Reading, Todo, Walking, Seen}
+use Rattle.pagable_laws.proofs.Words.{IsLawful, row_at, earlier, where_so, refused_if, spent, load_fault, named_fault, Refused, birth_fault, is_usable, AskCall, AsksInVain, node_fault}
+use Rattle.pagable_laws.proofs.Words.{root_fault, cell_fault, is_owned_in, is_known, Next, reads, asks, is_faulty, next_in, need_at, need_of, needs_nested, needs_lazy, is_broken, RefusesBlob}
+use Rattle.pagable_laws.proofs.Words.{RefusesNested, RefusesRoot, Fails, handles_of, Happens, after_kinds, LeadsDown, is-there, goes-down, ReadsTooDeep, MachineState, world_of, FramesFit}
+use Rattle.pagable_laws.proofs.Words.{IsReadingOf, of_caller, of_worker, LoadIsDeep, DeepLoadLaw}
+use Rattle.pagable_world.specs.Loads.{Does}
 use Rattle.pagable_world.specs.Workers as workers
-use Rattle.pagable_world.specs.Events.{Happens}
-use Rattle.pagable_world.specs.Order.{after_kinds, LeadsDown, is-there, goes-down, ReadsTooDeep}
-use Rattle.pagable_world.specs.Pager.{MachineState, world_of, FramesFit, IsReadingOf, of_caller, of_worker}
-use Rattle.pagable_laws.specs.DeepLaws.{LoadIsDeep, DeepLoadLaw}
 use Rattle.pagable_laws.proofs.Trees.{same_some}
 use Rattle.pagable_laws.proofs.Fitting.{asked}
 use Rattle.pagable_laws.proofs.Chains.{IsGoingOn}
@@ -40,12 +22,12 @@ use Rattle.pagable_laws.proofs.Soundly.{by-all, by-handle-row}
 -- ---- what isn't refused as too deep
 
 abbrev No : Option Error → Type 0
-No c = c ≡ Some errors.TooDeep → ⊥
+No c = c ≡ Some Error.TooDeep → ⊥
 
 no-earlier : (a b : Option Error) → No a → No b → No (earlier a b)
-no-earlier a b x y is = elim (either a b errors.TooDeep is) [ inl p ↦ x p | inr q ↦ y q ]
+no-earlier a b x y is = elim (either a b Error.TooDeep is) [ inl p ↦ x p | inr q ↦ y q ]
 
-no-test : (b : Bool) (f : Error) → (Some f ≡ Some errors.TooDeep → ⊥) → No (refused_if b f)
+no-test : (b : Bool) (f : Error) → (Some f ≡ Some Error.TooDeep → ⊥) → No (refused_if b f)
 no-test true f x is = x is
 no-test false f x is = cc
 
@@ -54,14 +36,14 @@ no-where true c x is = x is
 no-where false c x is = cc
 
 no-spent : (n : ℕ) → No (spent n)
-no-spent n = no-test _ errors.NumbersSpent (λ e. cc)
+no-spent n = no-test _ Error.NumbersSpent (λ e. cc)
 
 no-load : (w : Core) (me : Owner) (l : LoadNumber) → No (load_fault w me l)
 no-load w me l is = at (w.loads l.0) is
   where
-    at : (found : Option OpenLoad) → No (if_there (λ (load : OpenLoad). refused_if (not (is_owner me load.owner)) errors.NotYours) (Some errors.NoSuchHandle) found)
+    at : (found : Option OpenLoad) → No (if_there (λ (load : OpenLoad). refused_if (not (is_owner me load.owner)) Error.NotYours) (Some Error.NoSuchHandle) found)
     at None is = cc
-    at (Some load) is = no-test (not (is_owner me load.owner)) errors.NotYours (λ e. cc) is
+    at (Some load) is = no-test (not (is_owner me load.owner)) Error.NotYours (λ e. cc) is
 
 no-node : (w : Core) (kind : Kind) (key : ℕ) → No (node_fault w kind key)
 no-node w kind key is = at (is_usable w kind key) is
@@ -75,16 +57,16 @@ unfolding named_fault
 no-named w owner seen [] is = cc
 no-named w owner seen (h ∷ hs) is = no-earlier _ _ (λ e. at (row_at w h) e) (no-named w owner (h.0 ∷ seen) hs) is
   where
-    at : (found : Option HandleRow) → No (if_there (λ (row : HandleRow). refused_if (not (is_owner owner row.owner) || is_in seen h.0) errors.NotYours) (Some errors.NoSuchHandle) found)
+    at : (found : Option HandleRow) → No (if_there (λ (row : HandleRow). refused_if (not (is_owner owner row.owner) || is_in seen h.0) Error.NotYours) (Some Error.NoSuchHandle) found)
     at None e = cc
-    at (Some row) e = no-test (not (is_owner owner row.owner) || is_in seen h.0) errors.NotYours (λ f. cc) e
+    at (Some row) e = no-test (not (is_owner owner row.owner) || is_in seen h.0) Error.NotYours (λ f. cc) e
 
 no-root : (w : Core) (me : Owner) (t : ℕ) (found : Option OpenLoad) → No (if_there (λ (load : OpenLoad). root_fault w me t load.root) None found)
 no-root w me t None is = cc
 no-root w me t (Some load) is = at load.root is
   where
     at : (root : Root) → No (root_fault w me t root)
-    at (of_cell node u h) e = no-earlier (refused_if (not (t == u)) errors.WrongKind) (where_so (is_owned_in w me h.0) (spent w.last.handle)) (no-test (not (t == u)) errors.WrongKind
+    at (of_cell node u h) e = no-earlier (refused_if (not (t == u)) Error.WrongKind) (where_so (is_owned_in w me h.0) (spent w.last.handle)) (no-test (not (t == u)) Error.WrongKind
         (λ f. cc)) (no-where (is_owned_in w me h.0) (spent w.last.handle) (no-spent w.last.handle)) e
     at of_key e = cc
 
@@ -96,7 +78,7 @@ no-cell (Some load) is = at load.root is
     at (of_cell node u h) e = cc
     at of_key e = cc
 
-not-refused : {cause before : Option Error} {full : Type 0} {w w' : Core} → Refused cause before full w errors.TooDeep w' → No cause → ⊥
+not-refused : {cause before : Option Error} {full : Type 0} {w w' : Core} → Refused cause before full w Error.TooDeep w' → No cause → ⊥
 not-refused r none = elim r.why [ inl is ↦ none is | inr memory ↦ absurd (let e = memory.0 in cc) ]
 
 -- ---- a path down
@@ -145,7 +127,7 @@ module _ (types : Types) (stored : ℕ → Option Blob) where
         at true f = cc
         at false f = cc
 
-    of-blob : (frames : List Frame) → FramesFit types stored trees root_key root_type frames → FramesAsked types frames → need_of types frames ≡ is_broken errors.TooDeep
+    of-blob : (frames : List Frame) → FramesFit types stored trees root_key root_type frames → FramesAsked types frames → need_of types frames ≡ is_broken Error.TooDeep
         → ReadsTooDeep types stored root_type root_key
     of-blob [] fits got is = absurd (cc)
     of-blob (top ∷ below) fits got is =
@@ -158,7 +140,7 @@ module _ (types : Types) (stored : ℕ → Option Blob) where
           down = d.down;
           is = d.is;
           deep = inr
-              (kinds_of top.got, faulty-by-kinds types top.node_type top.blob top.got errors.TooDeep (broken-is below (next_in types top) errors.TooDeep is));
+              (kinds_of top.got, faulty-by-kinds types top.node_type top.blob top.got Error.TooDeep (broken-is below (next_in types top) Error.TooDeep is));
         }
 
     of-path : (frames : List Frame) → FramesFit types stored trees root_key root_type frames → FramesAsked types frames → (kind : Kind) (key : ℕ) (blob : Blob)
@@ -179,44 +161,44 @@ module _ {N B W : Type 0} (m : Seen N B W) (lawful : IsLawful m.values) (w : Cor
   abbrev Deep : Type 0
   Deep = ReadsTooDeep m.values.types w.stored root_type root_key
 
-  blob-deep : RefusesBlob m.values reading errors.TooDeep → Deep
+  blob-deep : RefusesBlob m.values reading Error.TooDeep → Deep
   blob-deep (inl is) = of-blob m.values.types w.stored trees root_key root_type reading.frames fits got is
-  blob-deep (inr (inl (top, below, is, causes))) = absurd (let f = lawful.own_reading top.node_type errors.TooDeep causes in cc)
+  blob-deep (inr (inl (top, below, is, causes))) = absurd (let f = lawful.own_reading top.node_type Error.TooDeep causes in cc)
   blob-deep (inr (inr memory)) = absurd (cc)
 
-  not-vain : (want : Want) (load : OpenLoad) (u : Core) → AsksInVain w load want errors.TooDeep u → ⊥
-  not-vain wants.Root load u f = f.refused
-  not-vain (wants.Nested kind key) load u f = f.1.refused
+  not-vain : (want : Want) (load : OpenLoad) (u : Core) → AsksInVain w load want Error.TooDeep u → ⊥
+  not-vain Want.Root load u f = f.refused
+  not-vain (Want.Nested kind key) load u f = f.1.refused
 
-  not-asked : (want : Want) (u : Core) → AskCall w me reading.load want (Err errors.TooDeep) u → ⊥
+  not-asked : (want : Want) (u : Core) → AskCall w me reading.load want (Err Error.TooDeep) u → ⊥
   not-asked want u c = elim c.refused [
     | inl r ↦ not-refused r (no-earlier _ _ (no-load w me reading.load) (no-where (is_known w want) (spent w.last.handle) (no-spent w.last.handle)))
     | inr (load, owned, vain) ↦ not-vain want load u vain
   ]
 
-  nested-deep : (u : Core) → RefusesNested m.values.types w me reading errors.TooDeep u → Deep
-  nested-deep u (kind, key, needs, inl c) = absurd (not-asked (wants.Nested kind key) u c)
+  nested-deep : (u : Core) → RefusesNested m.values.types w me reading Error.TooDeep u → Deep
+  nested-deep u (kind, key, needs, inl c) = absurd (not-asked (Want.Nested kind key) u c)
   nested-deep u (kind, key, needs, inr (blob, is, long, c)) = of-path m.values.types w.stored trees root_key root_type reading.frames fits got kind key blob needs c.gives.2.1.found long
 
-  root-not : (u : Core) → RefusesRoot m.values w me reading errors.TooDeep u → ⊥
+  root-not : (u : Core) → RefusesRoot m.values w me reading Error.TooDeep u → ⊥
   root-not u r = elim r.refuses [
     | inl (is, ended) ↦ not-refused ended.refused.1 (no-earlier _ _ (no-load w me reading.load) (no-earlier _ _ (no-root w me _ (w.loads reading.load.0)) (λ f. by-all w
-        (owners.Load reading.load) [] (m.values.references r.x) errors.TooDeep f)))
-    | inr (is, handed) ↦ no-earlier _ _ (no-load w me reading.load) (no-earlier _ _ (no-cell (w.loads reading.load.0)) (no-named w (owners.Load reading.load) [] (handles_of
+        (Owner.Load reading.load) [] (m.values.references r.x) Error.TooDeep f)))
+    | inr (is, handed) ↦ no-earlier _ _ (no-load w me reading.load) (no-earlier _ _ (no-cell (w.loads reading.load.0)) (no-named w (Owner.Load reading.load) [] (handles_of
         (m.values.references r.x)))) handed.refused.0
   ]
 
-  pub fails-deep : (w' : Core) → Fails m.values w me reading errors.TooDeep w' → Deep
-  fails-deep w' (inr ended) = absurd (by-handle-row w me ended.ended.refused.h any_mode errors.TooDeep ended.ended.refused.why)
+  pub fails-deep : (w' : Core) → Fails m.values w me reading Error.TooDeep w' → Deep
+  fails-deep w' (inr ended) = absurd (by-handle-row w me ended.ended.refused.h any_mode Error.TooDeep ended.ended.refused.why)
   fails-deep w' (inl gives) = elim gives.meets [
     | inl (refuses, a) ↦ blob-deep refuses
-    | inr (inl (first, c)) ↦ absurd (not-asked wants.Root gives.mid c)
+    | inr (inl (first, c)) ↦ absurd (not-asked Want.Root gives.mid c)
     | inr (inr (inl nested)) ↦ nested-deep gives.mid nested
     | inr (inr (inr (inl (kind, key, needs, c)))) ↦
-        absurd (not-refused c.refused (no-earlier _ _ (no-load w me reading.load) (no-earlier _ _ (no-test (not (is_loose_kind kind.0)) errors.WrongKind (λ e. cc)) (no-node w kind key))))
+        absurd (not-refused c.refused (no-earlier _ _ (no-load w me reading.load) (no-earlier _ _ (no-test (not (is_loose_kind kind.0)) Error.WrongKind (λ e. cc)) (no-node w kind key))))
     | inr (inr (inr (inr (inl node)))) ↦
-        absurd (not-refused node.adopted.refused.1 (no-earlier _ _ (no-load w me reading.load) (no-earlier _ _ (no-test _ errors.WrongMode (λ e. cc))
-        (no-earlier _ _ (no-test _ errors.WrongKind (λ e. cc)) (no-earlier _ _ (λ f. by-all w (owners.Load reading.load) [] (m.values.references node.x) errors.TooDeep f)
+        absurd (not-refused node.adopted.refused.1 (no-earlier _ _ (no-load w me reading.load) (no-earlier _ _ (no-test _ Error.WrongMode (λ e. cc))
+        (no-earlier _ _ (no-test _ Error.WrongKind (λ e. cc)) (no-earlier _ _ (λ f. by-all w (Owner.Load reading.load) [] (m.values.references node.x) Error.TooDeep f)
         (no-node w node.reads_node.top.kind node.reads_node.top.key))))))
     | inr (inr (inr (inr (inr root)))) ↦ absurd (root-not gives.mid root)
   ]
@@ -225,12 +207,12 @@ module _ {N B W : Type 0} (m : Seen N B W) (lawful : IsLawful m.values) (w : Cor
 
 module _ {N B W E : Type 0} (m : Seen N B W) (lawful : IsLawful m.values) (s s' : MachineState N E) (trees trees' : ℕ → Tree) (on : IsGoingOn m.values s trees) where
   by-reading : (me : Owner) (reading : Reading) (load : OpenLoad) → IsReadingOf s.work reading → s.pager.core.loads reading.load.0 ≡ Some load → (w' : Core)
-      → Fails m.values s.pager.core me reading errors.TooDeep w'
+      → Fails m.values s.pager.core me reading Error.TooDeep w'
       → ReadsTooDeep m.values.types s.pager.core.stored reading.node_type load.key
   by-reading me reading load is open_load w' fails =
       fails-deep m lawful s.pager.core me reading trees load.key reading.node_type (on.stands.readings reading is load open_load) (on.asked reading is) w' fails
 
-  by-first : (me : Owner) (reading : Reading) (load : OpenLoad) → reading.frames ≡ [] → (w' : Core) → Fails m.values s.pager.core me reading errors.TooDeep w'
+  by-first : (me : Owner) (reading : Reading) (load : OpenLoad) → reading.frames ≡ [] → (w' : Core) → Fails m.values s.pager.core me reading Error.TooDeep w'
       → ReadsTooDeep m.values.types s.pager.core.stored reading.node_type load.key
   unfolding FramesFit FramesAsked
   by-first me reading load none w' fails =
@@ -238,33 +220,33 @@ module _ {N B W E : Type 0} (m : Seen N B W) (lawful : IsLawful m.values) (s s' 
       (subst (λ fs. FramesAsked m.values.types fs) (sym none) tt) w' fails
 
   load-deep : (event : Event N B W) (reply : EventReply N B W) → Happens m (world_of s) event reply (world_of s') → LoadIsDeep m.values s trees event reply s' trees'
-  load-deep (events.LoadStep l) (answers.LoadMoved (Ok reply)) is = λ reading load at open_load ended.
+  load-deep (Event.LoadStep l) (EventReply.LoadMoved (Ok reply)) is = λ reading load at open_load ended.
       let x = is.moves in
       let same : x.reading ≡ reading = same_some _ _ (sym x.at ∙ at) in
-      let fails = subst (λ a. Does m.values s.pager.core owners.Caller x.reading a x.frames s'.pager.core) ended x.does.does in
+      let fails = subst (λ a. Does m.values s.pager.core Owner.Caller x.reading a x.frames s'.pager.core) ended x.does.does in
       subst (λ (r : Reading). ReadsTooDeep m.values.types s.pager.core.stored r.node_type load.key) same (elim (reading-stands (world_of s) on.whole.pager.whole l x.reading x.at) [
-        | inl there ↦ by-reading owners.Caller x.reading load (of_caller l.0 there) (ap s.pager.core.loads (on.whole.readings l.0 x.reading there).number ∙ open_load) s'.pager.core fails.0
-        | inr begun ↦ by-first owners.Caller x.reading load begun.0 s'.pager.core fails.0
+        | inl there ↦ by-reading Owner.Caller x.reading load (of_caller l.0 there) (ap s.pager.core.loads (on.whole.readings l.0 x.reading there).number ∙ open_load) s'.pager.core fails.0
+        | inr begun ↦ by-first Owner.Caller x.reading load begun.0 s'.pager.core fails.0
       ])
-  load-deep (events.WorkerStep n) (answers.WorkerMoved (Ok reply)) is = λ walking r place through reading below load i there todo open_load taken.
+  load-deep (Event.WorkerStep n) (EventReply.WorkerMoved (Ok reply)) is = λ walking r place through reading below load i there todo open_load taken.
       let x = is.moves in
       let same : x.walking ≡ walking = same_some _ _ (sym x.at ∙ there) in
       let front = ap (λ (y : Walking). y.todo) same ∙ todo in
       let does =
       subst (λ (k : Took W). workers.Does m n.0 (record { core = s.pager.core; shelf = s.work.shelves x.walking.table; todo = x.walking.todo }) x.walking.todo k x.after) taken x.does.does in
-      let step = subst (λ (t : List Todo). workers.Does m n.0 (record { core = s.pager.core; shelf = s.work.shelves x.walking.table; todo = x.walking.todo }) t (took.Pin i
-      (Err errors.TooDeep)) x.after) front does in
+      let step = subst (λ (t : List Todo). workers.Does m n.0 (record { core = s.pager.core; shelf = s.work.shelves x.walking.table; todo = x.walking.todo }) t (Took.Pin i
+      (Err Error.TooDeep)) x.after) front does in
       by-reading (owner_worker n.0) reading load (of_worker n.0 place walking r through below there todo) open_load x.after.core step.1.refused.0.does.0
-  load-deep (events.LoadStep l) (answers.LoadMoved (Err e)) is = tt
-  load-deep (events.LoadStep l) reply is = absurd is
-  load-deep (events.WorkerStep n) (answers.WorkerMoved (Err e)) is = tt
-  load-deep (events.WorkerStep n) reply is = absurd is
-  load-deep (events.Call call) reply is = tt
-  load-deep (events.LoadStart h) reply is = tt
-  load-deep (events.LoadKey key t) reply is = tt
-  load-deep events.TableNew reply is = tt
-  load-deep (events.WorkerItem t item) reply is = tt
-  load-deep (events.WorkerListed t i) reply is = tt
+  load-deep (Event.LoadStep l) (EventReply.LoadMoved (Err e)) is = tt
+  load-deep (Event.LoadStep l) reply is = absurd is
+  load-deep (Event.WorkerStep n) (EventReply.WorkerMoved (Err e)) is = tt
+  load-deep (Event.WorkerStep n) reply is = absurd is
+  load-deep (Event.Call call) reply is = tt
+  load-deep (Event.LoadStart h) reply is = tt
+  load-deep (Event.LoadKey key t) reply is = tt
+  load-deep Event.TableNew reply is = tt
+  load-deep (Event.WorkerItem t item) reply is = tt
+  load-deep (Event.WorkerListed t i) reply is = tt
 
 pub deep_load_law : {N B W : Type 0} (E : Type 0) (m : Seen N B W) → DeepLoadLaw E m
 deep_load_law E m start moments trees whole idle chain stands lawful readable settled =

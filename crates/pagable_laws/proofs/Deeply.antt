@@ -1,24 +1,8 @@
 -- No key is answered of what leads down too long a path, or to a value that has no form; and why a claim is too deep.
-use Rattle.std.proofs.Common.{◌≡◌, ℕ, ◌⊎◌, inl, inr, List, [], ◌∷◌, Some, Ok, Err, sym, subst, ap, ◌∙◌}
-use Rattle.pagable_world.specs.Plain.{Identity, Tree}
-use Rattle.pagable_world.specs.declared.events.WorkerAnswer.{WorkerAnswer}
-use Rattle.pagable_world.specs.declared.events.WorkerAnswer.TheVariants as finals
-use Rattle.pagable_world.specs.declared.events.Event.{Event}
-use Rattle.pagable_world.specs.declared.events.Event.TheVariants as events
-use Rattle.pagable_world.specs.declared.events.EventReply.{EventReply}
-use Rattle.pagable_world.specs.declared.events.EventReply.TheVariants as answers
-use Rattle.pagable_model.specs.declared.error.Error.TheVariants as errors
-use Rattle.pagable_world.specs.declared.events.Took.TheVariants as took
-use Rattle.pagable_world.specs.declared.events.Took.{Took}
-use Rattle.pagable_world.specs.World.{Shelf, Todo, to_start, Walking, Seen, IsLawful}
-use Rattle.pagable_world.specs.Workers.{Site, Does}
-use Rattle.pagable_world.specs.Events.{Happens}
-use Rattle.pagable_world.specs.Headline.{IsMetFailure}
-use Rattle.pagable_world.specs.Pager.{MachineState, world_of, IsMachineWhole, IsIdle, StandsFor}
-use Rattle.pagable_world.specs.Runs.{ReadsItsTypes, HoldsSettled, Moment, AreMoments, Fact, TreesAlong}
-use Rattle.pagable_world.specs.OneWorker.{IsTooDeepTask, IsFormlessTask, KeyIsShallow}
-use Rattle.pagable_laws.specs.DeepLaws.{ShallowLaw, MetDepthAlone, DepthIsTold, ToldDepthLaw, WaitsForAsker, ClaimIsDeep, DeepClaimLaw}
-use Rattle.pagable_laws.specs.PageOutLaws.{ground_of, Walks, WorkFits}
+use Rattle.pagable_laws.proofs.Words.{◌≡◌, ℕ, ◌⊎◌, inl, inr, List, [], ◌∷◌, Some, Ok, Err, sym, subst, ap, ◌∙◌, Identity, Tree, WorkerAnswer, Event, EventReply, Error, Took, Shelf, Todo}
+use Rattle.pagable_laws.proofs.Words.{to_start, Walking, Seen, IsLawful, Site, Does, Happens, IsMetFailure, MachineState, world_of, IsMachineWhole, IsIdle, StandsFor, ReadsItsTypes, HoldsSettled}
+use Rattle.pagable_laws.proofs.Words.{Moment, AreMoments, Fact, TreesAlong, IsTooDeepTask, IsFormlessTask, KeyIsShallow, ShallowLaw, MetDepthAlone, DepthIsTold, ToldDepthLaw, WaitsForAsker}
+use Rattle.pagable_laws.proofs.Words.{ClaimIsDeep, DeepClaimLaw, ground_of, Walks, WorkFits}
 use Rattle.pagable_laws.proofs.Trees.{same_some}
 use Rattle.pagable_laws.proofs.Coming.{StandsIn, event-turns, updated-at}
 use Rattle.pagable_laws.proofs.Answering.{answered}
@@ -33,7 +17,7 @@ use Rattle.pagable_laws.proofs.Shallow.{task-not-deep, answered-low}
 
 module _ {N B W E : Type 0} (m : Seen N B W) (s s' : MachineState N E) (trees trees' : ℕ → Tree) (fit : WorkFits m.values s trees) (low : HeightsIn (world_of s)) where
   key-is-shallow : (event : Event N B W) (reply : EventReply N B W) → Happens m (world_of s) event reply (world_of s') → KeyIsShallow m.values s trees event reply s' trees'
-  key-is-shallow (events.WorkerStep n) (answers.WorkerMoved (Ok reply)) is = λ walking key there e.
+  key-is-shallow (Event.WorkerStep n) (EventReply.WorkerMoved (Ok reply)) is = λ walking key there e.
       let w = is.moves in
       let same : w.walking ≡ walking = same_some _ _ (sym w.at ∙ there) in
       let site : Site = record { core = s.pager.core; shelf = s.work.shelves w.walking.table; todo = w.walking.todo } in
@@ -44,20 +28,21 @@ module _ {N B W E : Type 0} (m : Seen N B W) (s s' : MachineState N E) (trees tr
         task-not-deep m.values s trees fit low w.walking.table w.walking.task l,
         task-has-forms m.values s trees fit w.walking.table w.walking.task key a.done,
       )
-  key-is-shallow (events.WorkerStep n) (answers.WorkerMoved (Err e)) is = tt
-  key-is-shallow (events.WorkerStep n) reply is = absurd is
-  key-is-shallow (events.Call call) reply is = tt
-  key-is-shallow (events.LoadStart h) reply is = tt
-  key-is-shallow (events.LoadKey key t) reply is = tt
-  key-is-shallow (events.LoadStep l) reply is = tt
-  key-is-shallow events.TableNew reply is = tt
-  key-is-shallow (events.WorkerItem t item) reply is = tt
-  key-is-shallow (events.WorkerListed t i) reply is = tt
+  key-is-shallow (Event.WorkerStep n) (EventReply.WorkerMoved (Err e)) is = tt
+  key-is-shallow (Event.WorkerStep n) reply is = absurd is
+  key-is-shallow (Event.Call call) reply is = tt
+  key-is-shallow (Event.LoadStart h) reply is = tt
+  key-is-shallow (Event.LoadKey key t) reply is = tt
+  key-is-shallow (Event.LoadStep l) reply is = tt
+  key-is-shallow Event.TableNew reply is = tt
+  key-is-shallow (Event.WorkerItem t item) reply is = tt
+  key-is-shallow (Event.WorkerListed t i) reply is = tt
 
 -- what a worker answers that leads down so, and met no other refusal
 module _ {N B W E : Type 0} (m : Seen N B W) (s s' : MachineState N E) (trees trees' : ℕ → Tree) where
-  depth-is-told : (event : Event N B W) (reply : EventReply N B W) → Happens m (world_of s) event reply (world_of s') → KeyIsShallow m.values s trees event reply s' trees' → DepthIsTold m s trees event reply s' trees'
-  depth-is-told (events.WorkerStep n) (answers.WorkerMoved (Ok reply)) is shallow = λ start moments walking answer whole idle chain ends there e alone deep.
+  depth-is-told : (event : Event N B W) (reply : EventReply N B W) → Happens m (world_of s) event reply (world_of s') → KeyIsShallow m.values s trees event reply s' trees'
+      → DepthIsTold m s trees event reply s' trees'
+  depth-is-told (Event.WorkerStep n) (EventReply.WorkerMoved (Ok reply)) is shallow = λ start moments walking answer whole idle chain ends there e alone deep.
       let w = is.moves in
       let now : Walking = record w.walking { todo = w.after.todo; steps = reply.steps; answer = reply.answer } in
       let at : s'.work.walkings n.0 ≡ Some now = w.work.same_walkings n.0 ∙ updated-at n.0 (Some now) s.work.walkings in
@@ -65,23 +50,25 @@ module _ {N B W E : Type 0} (m : Seen N B W) (s s' : MachineState N E) (trees tr
       let met = (right.work.workers n.0 now (ap (λ (x : MachineState N E). x.work.walkings n.0) ends ∙ at)).met answer e in
       of _ _ answer alone e met (not-key walking there deep)
     where
-      not-key : (walking : Walking) → s.work.walkings n.0 ≡ Some walking → IsTooDeepTask trees walking.task ⊎ IsFormlessTask m.values.types trees walking.task → (key : ℕ) → ¬ (reply.answer ≡ Some (finals.Key key))
+      not-key : (walking : Walking) → s.work.walkings n.0 ≡ Some walking → IsTooDeepTask trees walking.task ⊎ IsFormlessTask m.values.types trees walking.task → (key : ℕ)
+          → ¬ (reply.answer ≡ Some (WorkerAnswer.Key key))
       not-key walking there (inl long) key e = (shallow walking key there e).0 long
       not-key walking there (inr formless) key e = (shallow walking key there e).1 formless
 
-      of : (shelf : Shelf) (steps : List (Took W)) (answer : WorkerAnswer) → MetDepthAlone steps → reply.answer ≡ Some answer → IsMetFailure shelf n.0 steps answer → ((key : ℕ) → ¬ (reply.answer ≡ Some (finals.Key key))) → answer ≡ finals.Failed errors.TooDeep
-      of shelf steps (finals.Key key) alone e met none = absurd (none key e)
-      of shelf steps (finals.Failed f) alone e (step, among, is) none = ap finals.Failed (alone.0 step f among is)
-      of shelf steps finals.AlreadyFailed alone e (i, among, elsewhere) none = absurd (alone.1 i among)
-  depth-is-told (events.WorkerStep n) (answers.WorkerMoved (Err e)) is shallow = tt
-  depth-is-told (events.WorkerStep n) reply is shallow = absurd is
-  depth-is-told (events.Call call) reply is shallow = tt
-  depth-is-told (events.LoadStart h) reply is shallow = tt
-  depth-is-told (events.LoadKey key t) reply is shallow = tt
-  depth-is-told (events.LoadStep l) reply is shallow = tt
-  depth-is-told events.TableNew reply is shallow = tt
-  depth-is-told (events.WorkerItem t item) reply is shallow = tt
-  depth-is-told (events.WorkerListed t i) reply is shallow = tt
+      of : (shelf : Shelf) (steps : List (Took W)) (answer : WorkerAnswer) → MetDepthAlone steps → reply.answer ≡ Some answer → IsMetFailure shelf n.0 steps answer
+          → ((key : ℕ) → ¬ (reply.answer ≡ Some (WorkerAnswer.Key key))) → answer ≡ WorkerAnswer.Failed Error.TooDeep
+      of shelf steps (WorkerAnswer.Key key) alone e met none = absurd (none key e)
+      of shelf steps (WorkerAnswer.Failed f) alone e (step, among, is) none = ap WorkerAnswer.Failed (alone.0 step f among is)
+      of shelf steps WorkerAnswer.AlreadyFailed alone e (i, among, elsewhere) none = absurd (alone.1 i among)
+  depth-is-told (Event.WorkerStep n) (EventReply.WorkerMoved (Err e)) is shallow = tt
+  depth-is-told (Event.WorkerStep n) reply is shallow = absurd is
+  depth-is-told (Event.Call call) reply is shallow = tt
+  depth-is-told (Event.LoadStart h) reply is shallow = tt
+  depth-is-told (Event.LoadKey key t) reply is shallow = tt
+  depth-is-told (Event.LoadStep l) reply is shallow = tt
+  depth-is-told Event.TableNew reply is shallow = tt
+  depth-is-told (Event.WorkerItem t item) reply is shallow = tt
+  depth-is-told (Event.WorkerListed t i) reply is shallow = tt
 
 -- a claim that is refused as too deep
 module _ {N B W E : Type 0} (m : Seen N B W) (s s' : MachineState N E) (trees trees' : ℕ → Tree) (fit : WorkFits m.values s trees) (low : HeightsIn (world_of s)) (work : StandsIn (world_of s)) where
@@ -89,7 +76,7 @@ module _ {N B W E : Type 0} (m : Seen N B W) (s s' : MachineState N E) (trees tr
     abbrev site : Site
     site = record { core = s.pager.core; shelf = s.work.shelves walking.table; todo = walking.todo }
 
-    of-claim : (after : Site) (todo : List Todo) (i : Identity) → Does m n site todo (took.Claim i (Err errors.TooDeep)) after → AllStand site.shelf n walking.task todo → Covers site.shelf n todo
+    of-claim : (after : Site) (todo : List Todo) (i : Identity) → Does m n site todo (Took.Claim i (Err Error.TooDeep)) after → AllStand site.shelf n walking.task todo → Covers site.shelf n todo
         → Walks m.values (ground_of s trees) site.shelf walking.task todo → TodoLow site.shelf todo → IsTooDeepTask trees walking.task ⊎ WaitsForAsker site.shelf n i
     unfolding AllStand
     of-claim after (to_start r place ∷ below) i (is, c) (stands, apart, all) covers (expects, waits) (at, lows) =
@@ -98,22 +85,22 @@ module _ {N B W E : Type 0} (m : Seen N B W) (s s' : MachineState N E) (trees tr
     of-claim after todo i does all covers walks lows = absurd does
 
   claim-is-deep : (event : Event N B W) (reply : EventReply N B W) → Happens m (world_of s) event reply (world_of s') → ClaimIsDeep s trees event reply s' trees'
-  claim-is-deep (events.WorkerStep n) (answers.WorkerMoved (Ok reply)) is = λ walking i there e.
+  claim-is-deep (Event.WorkerStep n) (EventReply.WorkerMoved (Ok reply)) is = λ walking i there e.
       let w = is.moves in
       let same : w.walking ≡ walking = same_some _ _ (sym w.at ∙ there) in
       let at = w.at in
       let does = subst (λ (k : Took W). Does m n.0 (site n.0 w.walking at) w.walking.todo k w.after) e w.does.does in
       subst (λ (x : Walking). IsTooDeepTask trees x.task ⊎ WaitsForAsker (s.work.shelves x.table) n.0 i) same
       (of-claim n.0 w.walking at w.after w.walking.todo i does (work.workers n.0 w.walking at).all (work.workers n.0 w.walking at).covers (fit.walks n.0 w.walking at) (low.todos n.0 w.walking at))
-  claim-is-deep (events.WorkerStep n) (answers.WorkerMoved (Err e)) is = tt
-  claim-is-deep (events.WorkerStep n) reply is = absurd is
-  claim-is-deep (events.Call call) reply is = tt
-  claim-is-deep (events.LoadStart h) reply is = tt
-  claim-is-deep (events.LoadKey key t) reply is = tt
-  claim-is-deep (events.LoadStep l) reply is = tt
-  claim-is-deep events.TableNew reply is = tt
-  claim-is-deep (events.WorkerItem t item) reply is = tt
-  claim-is-deep (events.WorkerListed t i) reply is = tt
+  claim-is-deep (Event.WorkerStep n) (EventReply.WorkerMoved (Err e)) is = tt
+  claim-is-deep (Event.WorkerStep n) reply is = absurd is
+  claim-is-deep (Event.Call call) reply is = tt
+  claim-is-deep (Event.LoadStart h) reply is = tt
+  claim-is-deep (Event.LoadKey key t) reply is = tt
+  claim-is-deep (Event.LoadStep l) reply is = tt
+  claim-is-deep Event.TableNew reply is = tt
+  claim-is-deep (Event.WorkerItem t item) reply is = tt
+  claim-is-deep (Event.WorkerListed t i) reply is = tt
 
 -- what follows of each moment where heights are low holds along each chain
 module _ {N B W E : Type 0} (m : Seen N B W) (lawful : IsLawful m.values) (readable : ReadsItsTypes m.values.types) (P : Fact N E B W) where
@@ -148,7 +135,8 @@ shallow_law E m start moments trees whole idle chain stands lawful readable sett
 pub told_depth_law : {N B W : Type 0} (E : Type 0) (m : Seen N B W) → ToldDepthLaw E m
 told_depth_law E m start moments trees whole idle chain stands lawful readable settled =
     along-first m lawful readable (DepthIsTold m)
-    (λ s s' trees trees' event reply on low is. depth-is-told m s s' trees trees' event reply is (key-is-shallow m s s' trees trees' on.fits low event reply is)) start moments trees whole idle chain stands settled
+    (λ s s' trees trees' event reply on low is. depth-is-told m s s' trees trees' event reply is
+    (key-is-shallow m s s' trees trees' on.fits low event reply is)) start moments trees whole idle chain stands settled
 
 pub deep_claim_law : {N B W : Type 0} (E : Type 0) (m : Seen N B W) → DeepClaimLaw E m
 deep_claim_law E m start moments trees whole idle chain stands lawful readable settled =

@@ -1,31 +1,15 @@
 -- What trees feel of each event that doesn't close the storage.
-use Rattle.std.proofs.Common.{◌≡◌, ℕ, ◌+◌, ◌<◌, ◌≤◌, Bool, true, false, List, [], ◌∷◌, refl, sym, ap, subst, ◌∙◌, inl, inr, arith}
-use Rattle.std.specs.Prelude.{Option, Some, None, ◌⊎◌, Ok, Err, Result, is_some, if◌then◌else◌}
-use Rattle.pagable_model.specs.declared.data_key.OptionalDataKey.TheVariants as optional
-use Rattle.pagable_world.specs.Plain.{Error, HandleNumber, LoadNumber, WorkerNumber, Tree, updated, if_there}
-use Rattle.pagable_world.specs.declared.handles.Owner.TheVariants as owners
-use Rattle.pagable_world.specs.declared.answers.Beginning.{Beginning}
-use Rattle.pagable_world.specs.declared.answers.Beginning.TheVariants as beginnings
-use Rattle.pagable_world.specs.declared.events.Event.{Event}
-use Rattle.pagable_world.specs.declared.events.Event.TheVariants as events
-use Rattle.pagable_world.specs.declared.events.EventReply.{EventReply}
-use Rattle.pagable_world.specs.declared.events.EventReply.TheVariants as answers
-use Rattle.pagable_world.specs.declared.events.LoadReply.{LoadReply}
-use Rattle.pagable_world.specs.declared.events.TableNumber.{TableNumber}
-use Rattle.pagable_world.specs.declared.events.WorkerAnswer.{WorkerAnswer}
-use Rattle.pagable_world.specs.declared.events.WorkerReply.{WorkerReply}
-use Rattle.pagable_world.specs.Cascade.{only_handle}
-use Rattle.pagable_world.specs.World.{Core, Cell, Last, OpenLoad, Reading, Shelf, Todo, to_start, to_finish, to_item, to_release, Task, of_item, of_entry, Walking, World, Alike, Seen, Values, type_at, key_at}
-use Rattle.pagable_world.specs.Workers.{Site, first_todo, fresh, without_worker, WorkerEnds, is_workers_load, answer_after}
-use Rattle.pagable_world.specs.LoadCalls.{BeginsKey}
-use Rattle.pagable_world.specs.Events.{ReadingsAre, Stays, begun_readings, KeyStarted, Starts, new_walking, Ends, WorkerSteps, Happens, with_worker}
-use Rattle.pagable_world.specs.Pager.{MachineState, world_of, IsWhole, HandlesAreWhole, IsMachineWhole, IsNewNode, EventBrings, TodoBrings, IsReadingOf, of_caller, of_worker}
-use Rattle.pagable_world.specs.Runs.{KeepsOpen, Does}
-use Rattle.pagable_world.specs.OneWorker.{LeavesCache}
-use Rattle.pagable_laws.specs.TreeSteps.{Change, nothing_felt, CoreGoes, SameNode, NewNode, StaysAway, KeepsReadings, EventFeels, by-call, by-reading, by-key, by-nothing, StepFeels, IsFresh}
-use Rattle.pagable_laws.specs.PageOutLaws.{WorkFits, Waits, Walks, Ground}
+use Rattle.pagable_laws.proofs.Words.{◌≡◌, ℕ, ◌+◌, ◌<◌, ◌≤◌, Bool, true, false, List, [], ◌∷◌, refl, sym, ap, subst, ◌∙◌, inl, inr, arith, Option, Some, None, ◌⊎◌, Ok, Err, Result, is_some}
+use Rattle.pagable_laws.proofs.Words.{if◌then◌else◌, OptionalDataKey, Error, HandleNumber, LoadNumber, WorkerNumber, Tree, updated, if_there, Owner, Beginning, Event, EventReply, LoadReply}
+use Rattle.pagable_laws.proofs.Words.{TableNumber, WorkerAnswer, WorkerReply, only_handle, Core, Cell, Last, OpenLoad, Reading, Shelf, Todo, to_start, to_finish, to_item, to_release, Task}
+use Rattle.pagable_laws.proofs.Words.{of_item, of_entry, Walking, World, Alike, Seen, Values, type_at, key_at, Site, first_todo, fresh, without_worker, WorkerEnds, is_workers_load, answer_after}
+use Rattle.pagable_laws.proofs.Words.{BeginsKey, ReadingsAre, Stays, begun_readings, KeyStarted, Starts, new_walking, Ends, WorkerSteps, Happens, with_worker, MachineState, world_of, IsWhole}
+use Rattle.pagable_laws.proofs.Words.{HandlesAreWhole, IsMachineWhole, IsNewNode, EventBrings, TodoBrings, IsReadingOf, of_caller, of_worker, KeepsOpen, LeavesCache, Change, nothing_felt}
+use Rattle.pagable_laws.proofs.Words.{CoreGoes, SameNode, NewNode, StaysAway, KeepsReadings, EventFeels, by-call, by-reading, by-key, by-nothing, StepFeels, IsFresh, WorkFits, Waits, Walks}
+use Rattle.pagable_laws.proofs.Words.{Ground}
+use Rattle.pagable_world.specs.Runs.{Does}
 use Rattle.pagable_laws.proofs.Trees.{same_some}
-use Rattle.pagable_laws.proofs.Goes.{Quiet, Goes, Kept, NotLoads, rows-self, quiet-then, quiet-goes, goes-quiet, alike, fell-anyhow, at-updated, KnowsNext}
+use Rattle.pagable_laws.proofs.Goes.{parts, le-self, Quiet, Goes, Kept, NotLoads, rows-self, quiet-then, quiet-goes, goes-quiet, alike, fell-anyhow, at-updated, KnowsNext}
 use Rattle.pagable_laws.proofs.GoodReferences.{alike-away}
 use Rattle.pagable_laws.proofs.Calling.{some-moved, begins, begins-key}
 use Rattle.pagable_laws.proofs.Called.{calls-go, call-knows}
@@ -33,7 +17,7 @@ use Rattle.pagable_laws.proofs.ReadingSteps.{reading-feels, feels-alike, reading
 use Rattle.pagable_laws.proofs.ReadingStepsMachine.{reading-was, steps-load, stepped-load, steps-worker, stepped-worker}
 use Rattle.pagable_laws.proofs.WalkSteps.{NoLoad, WaitsWell, front_reading, LoadsAnew, started, WalkFeels, walk-loads, walk-sets, walk-rests, walk-goes}
 
-caller-free : NotLoads owners.Caller
+caller-free : NotLoads Owner.Caller
 caller-free l is = absurd (cc)
 
 -- ---- workers that come and go
@@ -41,22 +25,7 @@ caller-free l is = absurd (cc)
 -- workers come and go, and loads go
 others-work : (w : Core) (loads : ℕ → Option OpenLoad) (workers : ℕ → Bool) (worker : ℕ) → w.last.worker ≤ worker → ((l : ℕ) (load : OpenLoad) → loads l ≡ Some load → w.loads l ≡ Some load)
     → Quiet w (record w { loads = loads; workers = workers; last = record w.last { worker = worker } })
-others-work w loads workers worker more fewer =
-    record {
-      nodes = le-self _;
-      handles = le-self _;
-      loads_last = le-self _;
-      workers_last = more;
-      cells = λ n cell is. is;
-      stored = λ q blob is. is;
-      loads = fewer;
-      cache = λ kind key n is. is;
-      rows = rows-self w.last.handle w.rows w.rows refl;
-      shut = λ is. is;
-    }
-  where
-    le-self : (n : ℕ) → n ≤ n
-    le-self n = omega arith
+others-work w loads workers worker more fewer = parts (le-self _) more (λ n cell is. is) fewer (λ kind key n is. is) (rows-self w.last.handle w.rows w.rows refl)
 
 worker-ends : {w w' : Core} (v : ℕ) → WorkerEnds w v w' → Quiet w w'
 worker-ends {w} {w'} v f = quiet-then (others-work w (without_worker w v).loads (without_worker w v).workers w.last.worker (omega arith) (λ l load is. left (is_workers_load v (w.loads l)) (w.loads l) load is)) (fell-anyhow f)
@@ -91,14 +60,15 @@ module _ (u u' : World) where
     | inr old ↦ inl (of_worker n place walking r through below old todo)
   ]
 
-  keeps-begun : (t : ℕ) (b : Beginning) → ReadingsAre (begun_readings b t u.work.readings) u' → ((l : LoadNumber) (k : ℕ) → b ≡ beginnings.Load l k → l.0 ≤ u'.core.last.load)
+  keeps-begun : (t : ℕ) (b : Beginning) → ReadingsAre (begun_readings b t u.work.readings) u' → ((l : LoadNumber) (k : ℕ) → b ≡ Beginning.Load l k → l.0 ≤ u'.core.last.load)
       → ((n : ℕ) → u'.work.walkings n ≡ u.work.walkings n) → KeepsReadings u u'
-  keeps-begun t beginnings.InMemory are within same reading is = keeps-all are same reading is
-  keeps-begun t (beginnings.Load l k) are within same reading (of_worker n place walking r through below there todo) = inl (of_worker n place walking r through below (sym (same n) ∙ there) todo)
-  keeps-begun t (beginnings.Load l k) are within same reading (of_caller q is) = elim (at-updated l.0 (Some (fresh l t)) u.work.readings q reading (reading-was (updated l.0 (Some (fresh l t)) u.work.readings) u' are q reading is).0) [
-    | inl (here, e) ↦ let f : fresh l t ≡ reading = same_some _ _ e in inr (subst (λ x. IsFresh u'.core x) f (refl, refl, within l k refl))
-    | inr old ↦ inl (of_caller q old)
-  ]
+  keeps-begun t Beginning.InMemory are within same reading is = keeps-all are same reading is
+  keeps-begun t (Beginning.Load l k) are within same reading (of_worker n place walking r through below there todo) = inl (of_worker n place walking r through below (sym (same n) ∙ there) todo)
+  keeps-begun t (Beginning.Load l k) are within same reading (of_caller q is) = elim
+      (at-updated l.0 (Some (fresh l t)) u.work.readings q reading (reading-was (updated l.0 (Some (fresh l t)) u.work.readings) u' are q reading is).0) [
+        | inl (here, e) ↦ let f : fresh l t ≡ reading = same_some _ _ e in inr (subst (λ x. IsFresh u'.core x) f (refl, refl, within l k refl))
+        | inr old ↦ inl (of_caller q old)
+      ]
 
 -- a new worker has no load
 first-no-load : (task : Task) → front_reading (first_todo task) ≡ None
@@ -135,29 +105,29 @@ module _ {N B W : Type 0} (m : Seen N B W) (u u' : World) where
       rests (λ n x b. absurd (none n x b)) (keeps-but u u' s.readings v.0 (new_walking t task) s.work.same_walkings (λ reading is. let first = first-no-load task in absurd (cc)))
       (starts-quiet u u' t task core v q s)
 
-  load-starts : (h : HandleNumber) (r : Result Beginning Error) → Happens m u (events.LoadStart h) (answers.Started r) u' → EG (events.LoadStart h) (answers.Started r)
+  load-starts : (h : HandleNumber) (r : Result Beginning Error) → Happens m u (Event.LoadStart h) (EventReply.Started r) u' → EG (Event.LoadStart h) (EventReply.Started r)
   load-starts h r is = record { change = nothing_felt; goes = begins r is.step; feels = λ whole well. by-nothing (λ n x b. absurd b) (keeps-all u u' is.readings is.work.walkings); knows = λ whole leaves k q n known. absurd known }
 
-  key-starts : (key t : ℕ) (r : Result Beginning Error) → KeyStarted u key t r u' → EG (events.LoadKey key t) (answers.Started r)
+  key-starts : (key t : ℕ) (r : Result Beginning Error) → KeyStarted u key t r u' → EG (Event.LoadKey key t) (EventReply.Started r)
   key-starts key t (Err e) is = record { change = nothing_felt; goes = begins-key (Err e) is.step; feels = λ whole well. by-nothing (λ n x b. absurd b) (keeps-all u u' is.refused is.work.walkings); knows = λ whole leaves k q n known. absurd known }
   key-starts key t (Ok b) is = record { change = nothing_felt; goes = begins-key (Ok b) is.step; feels = λ whole well. by-nothing (λ n x b. absurd b) (keeps-begun u u' t b is.begun (within b is.step.begins) is.work.walkings); knows = λ whole leaves k q n known. absurd known }
     where
-      within : (b : Beginning) → BeginsKey u.core owners.Caller key b u'.core → (l : LoadNumber) (k : ℕ) → b ≡ beginnings.Load l k → l.0 ≤ u'.core.last.load
-      within beginnings.InMemory does l k is = absurd does
-      within (beginnings.Load l2 k2) does l k is =
+      within : (b : Beginning) → BeginsKey u.core Owner.Caller key b u'.core → (l : LoadNumber) (k : ℕ) → b ≡ Beginning.Load l k → l.0 ≤ u'.core.last.load
+      within Beginning.InMemory does l k is = absurd does
+      within (Beginning.Load l2 k2) does l k is =
           let same : l2 ≡ l = cc in
           let above = does.1.above in
           let last : u'.core.last.load ≡ u.core.last.load + 1 = ap (λ (x : Last). x.load) does.2.last in
           subst (λ (x : LoadNumber). x.0 ≤ u'.core.last.load) same (omega (arith, above, last))
 
-  load-steps : (l : LoadNumber) (reply : LoadReply N) → Happens m u (events.LoadStep l) (answers.LoadMoved (Ok reply)) u' → EG (events.LoadStep l) (answers.LoadMoved (Ok reply))
+  load-steps : (l : LoadNumber) (reply : LoadReply N) → Happens m u (Event.LoadStep l) (EventReply.LoadMoved (Ok reply)) u' → EG (Event.LoadStep l) (EventReply.LoadMoved (Ok reply))
   load-steps l reply is =
       let x = is.moves in
-      let f = reading-feels m u.core owners.Caller caller-free u'.core x.reading reply.ended x.frames x.does in
+      let f = reading-feels m u.core Owner.Caller caller-free u'.core x.reading reply.ended x.frames x.does in
       record {
         change = f.change;
         goes = f.goes;
-        feels = λ whole well. by-reading f.change x.reading reply.ended x.frames (stepped-load x {B = B} {W = W} whole (events.LoadStep l) refl) f.opens (f.feels whole.handles) (steps-load x);
+        feels = λ whole well. by-reading f.change x.reading reply.ended x.frames (stepped-load x {B = B} {W = W} whole (Event.LoadStep l) refl) f.opens (f.feels whole.handles) (steps-load x);
         knows = λ whole leaves. reading-knows (f.feels whole.handles);
       }
 
@@ -172,42 +142,44 @@ module _ {N B W : Type 0} (m : Seen N B W) (u u' : World) where
         keeps-but u u' s.readings k.0 (record s.walking { todo = s.after.todo; steps = reply.steps; answer = reply.answer }) s.work.same_walkings
         (λ reading is. let a = anew reading is in let b = a.2 in (a.0, a.1, omega (arith, b, le)))
 
-    worker-feels : (c : Change) → WalkFeels m k.0 site s.after s.walking.todo c → IsWhole u.core → EventFeels {B = B} m.values u (events.WorkerStep k) (answers.WorkerMoved (Ok reply)) u' c
+    worker-feels : (c : Change) → WalkFeels m k.0 site s.after s.walking.todo c → IsWhole u.core → EventFeels {B = B} m.values u (Event.WorkerStep k) (EventReply.WorkerMoved (Ok reply)) u' c
     worker-feels c (walk-loads c2 r place through reading below todo t opens feels) whole =
         let none : reply.answer ≡ None = s.answers ∙ ap (λ x. answer_after x reply.took) todo in
         let last : Alike s.after.core u'.core = subst (λ a. Ends a k.0 s.after.core u'.core) none s.ends in
-        by-reading c reading t.answer t.frames (stepped-worker s (events.WorkerStep k) refl r place through reading below todo) opens (feels-alike (feels whole.handles) last) (steps-worker s t)
+        by-reading c reading t.answer t.frames (stepped-worker s (Event.WorkerStep k) refl r place through reading below todo) opens (feels-alike (feels whole.handles) last) (steps-worker s t)
     worker-feels c (walk-sets r through key height below row todo live own loose anew) whole =
         by-key k key row refl (record { walking = s.walking; r = r; through = through; height = height; below = below; there = s.at; sets = todo; live = live; own = own; loose = loose }) (now anew)
     worker-feels c (walk-rests none anew) whole =
         by-nothing (λ n x (walking, at, brings). absurd (none n x (subst (λ (z : Walking). TodoBrings m.values u.core z.todo n x) (same_some _ _ (sym at ∙ s.at)) brings))) (now anew)
 
-    worker-steps : EG (events.WorkerStep k) (answers.WorkerMoved (Ok reply))
+    worker-steps : EG (Event.WorkerStep k) (EventReply.WorkerMoved (Ok reply))
     worker-steps =
         let f = walk-goes m k.0 site s.after s.walking.todo reply.took s.does.does in
         record { change = f.change; goes = goes-quiet f.goes (ends-quiet reply.answer k.0 s.ends); feels = λ whole well. worker-feels f.change (f.feels refl (well k.0 s.walking s.at)) whole; knows = λ whole leaves. f.knows whole.handles }
 
   pub event-goes : (event : Event N B W) (reply : EventReply N B W) → KeepsOpen event → Happens m u event reply u' → EG event reply
-  event-goes (events.Call call) (answers.CallReply r) open_still is =
-      let g = calls-go m u.core owners.Caller caller-free u'.core call r open_still is.step.does in
+  event-goes (Event.Call call) (EventReply.CallReply r) open_still is =
+      let g = calls-go m u.core Owner.Caller caller-free u'.core call r open_still is.step.does in
       record { change = g.change; goes = g.goes; feels = λ whole well. by-call g.change call r refl refl g.feels (keeps-all u u' is.readings is.work.walkings); knows = λ whole leaves. call-knows W g.feels leaves }
-  event-goes (events.LoadStart h) (answers.Started r) open_still is = load-starts h r is
-  event-goes (events.LoadKey key t) (answers.Started r) open_still is = key-starts key t r is
-  event-goes (events.LoadStep l) (answers.LoadMoved (Ok reply)) open_still is = load-steps l reply is
-  event-goes (events.LoadStep l) (answers.LoadMoved (Err e)) open_still is = stays is.refused.1
-  event-goes events.TableNew (answers.TableMade (Ok t)) open_still is = let x = is.made in rests (λ n x b. absurd b) (keeps-all u u' x.2 x.3.same_walkings) (alike x.1)
-  event-goes events.TableNew (answers.TableMade (Err e)) open_still is = stays is.refused.1
-  event-goes (events.WorkerItem t item) (answers.WorkerMade (Ok v)) open_still is = starts (λ n x b. b) t _ u.core v (others-work u.core u.core.loads u.core.workers u.core.last.worker (omega arith) (λ l load is. is)) is.starts
-  event-goes (events.WorkerItem t item) (answers.WorkerMade (Err e)) open_still is = stays is.refused.1
-  event-goes (events.WorkerListed t i) (answers.WorkerMade (Ok v)) open_still is = let x = is.starts in starts (λ n x b. b) t _ _ v (some-moved u.core (only_handle x.0) (owners.Worker v) _ (λ l is. absurd (cc))) x.5
-  event-goes (events.WorkerListed t i) (answers.WorkerMade (Err e)) open_still is = stays is.refused.1
-  event-goes (events.WorkerStep v) (answers.WorkerMoved (Ok reply)) open_still is = worker-steps v reply is.moves
-  event-goes (events.WorkerStep v) (answers.WorkerMoved (Err e)) open_still is = stays is.refused.2
+  event-goes (Event.LoadStart h) (EventReply.Started r) open_still is = load-starts h r is
+  event-goes (Event.LoadKey key t) (EventReply.Started r) open_still is = key-starts key t r is
+  event-goes (Event.LoadStep l) (EventReply.LoadMoved (Ok reply)) open_still is = load-steps l reply is
+  event-goes (Event.LoadStep l) (EventReply.LoadMoved (Err e)) open_still is = stays is.refused.1
+  event-goes Event.TableNew (EventReply.TableMade (Ok t)) open_still is = let x = is.made in rests (λ n x b. absurd b) (keeps-all u u' x.2 x.3.same_walkings) (alike x.1)
+  event-goes Event.TableNew (EventReply.TableMade (Err e)) open_still is = stays is.refused.1
+  event-goes (Event.WorkerItem t item) (EventReply.WorkerMade (Ok v)) open_still is = starts (λ n x b. b) t _ u.core v
+      (others-work u.core u.core.loads u.core.workers u.core.last.worker (omega arith) (λ l load is. is)) is.starts
+  event-goes (Event.WorkerItem t item) (EventReply.WorkerMade (Err e)) open_still is = stays is.refused.1
+  event-goes (Event.WorkerListed t i) (EventReply.WorkerMade (Ok v)) open_still is = let x = is.starts in
+      starts (λ n x b. b) t _ _ v (some-moved u.core (only_handle x.0) (Owner.Worker v) _ (λ l is. absurd (cc))) x.5
+  event-goes (Event.WorkerListed t i) (EventReply.WorkerMade (Err e)) open_still is = stays is.refused.1
+  event-goes (Event.WorkerStep v) (EventReply.WorkerMoved (Ok reply)) open_still is = worker-steps v reply is.moves
+  event-goes (Event.WorkerStep v) (EventReply.WorkerMoved (Err e)) open_still is = stays is.refused.2
   event-goes event reply open_still is = absurd is
 
 -- ---- the plain world, as trees feel it
 
-core-goes : {w w' : Core} (c : Change) → HandlesAreWhole w → Goes c w w' → CoreGoes c w w'
+pub core-goes : {w w' : Core} (c : Change) → HandlesAreWhole w → Goes c w w' → CoreGoes c w w'
 core-goes {w} {w'} c whole g =
     record {
       nodes = g.nodes;
@@ -226,7 +198,7 @@ core-goes {w} {w'} c whole g =
     type-is x n cell is = ap (λ (y : Option Cell). if_there (λ (z : Cell). Some z.node_type) None y) is
 
     key-is : (x : Core) (n : ℕ) (cell : Cell) → x.cells n ≡ Some cell → key_at x n ≡ cell.key
-    key-is x n cell is = ap (λ (y : Option Cell). if_there (λ (z : Cell). z.key) optional.None y) is
+    key-is x n cell is = ap (λ (y : Option Cell). if_there (λ (z : Cell). z.key) OptionalDataKey.None y) is
 
     same : (n : ℕ) (cell : Cell) → w'.cells n ≡ Some cell → Kept c w n cell → SameNode c w w' n
     same n cell is k =

@@ -1,15 +1,7 @@
 -- The least set of handles that fall.
-use Rattle.std.proofs.Common.{◌≡◌, ℕ, suc, zero, ◌+◌, ◌<◌, ◌≤◌, ◌==◌, ◌&&◌, ◌||◌, Bool, true, false, List, sum_by, refl, ap, sym, ◌∙◌, arith}
-use Rattle.std.specs.Prelude.{nat_lt, nat_eq, not, if◌then◌else◌}
-use Rattle.std.proofs.lemmas.Bool.Decides.{nat_tests}
-use Rattle.std.proofs.lemmas.Bool.{and_parts}
-use Rattle.pagable_world.specs.Plain.{one, Among}
-use Rattle.pagable_world.specs.declared.handles.Owner.TheVariants as owners
-use Rattle.pagable_world.specs.declared.handles.Owner.{Owner}
-use Rattle.pagable_world.specs.declared.handles.HandleRow.{HandleRow}
-use Rattle.pagable_world.specs.Kinds.{is_owner, is_owned_by, owner_value, is_at, is_pin, held}
-use Rattle.pagable_world.specs.Cascade.{is_outside, held_outside, pins_outside, loses_value, IsClosed, IsWithin, IsLeast}
-use Rattle.pagable_laws.specs.FallLaws.{OwnsNothing, IsGivenAlone}
+use Rattle.pagable_laws.proofs.Words.{◌≡◌, ℕ, suc, zero, ◌+◌, ◌<◌, ◌≤◌, ◌==◌, ◌&&◌, ◌||◌, Bool, true, false, List, sum_by, refl, ap, sym, ◌∙◌, arith, nat_lt, nat_eq, not, if◌then◌else◌}
+use Rattle.pagable_laws.proofs.Words.{nat_tests, and_parts, one, Among, Owner, HandleRow, is_owner, is_owned_by, owner_value, is_at, is_pin, held, is_outside, held_outside, pins_outside}
+use Rattle.pagable_laws.proofs.Words.{loses_value, IsClosed, IsWithin, IsLeast, OwnsNothing, IsGivenAlone}
 use Rattle.pagable_laws.proofs.Sums.{same-number, self-number, one-true, sum-le, at-most-sum, sum-plus, sum-zero, counted}
 
 -- 1 for a handle outside the set; one of the node, one that pins it, one that its value owns; and one of the one set and not of the other
@@ -30,11 +22,8 @@ only_in s t h = one (s h.number.0 && not (t h.number.0))
 
 -- whether the owner is a value that goes
 abbrev owner_goes : (ℕ → Bool) → Owner → Bool
-owner_goes lost owners.Caller = false
-owner_goes lost (owners.Value m) = lost m.0
-owner_goes lost owners.List = false
-owner_goes lost (owners.Load l) = false
-owner_goes lost (owners.Worker v) = false
+owner_goes lost (Owner.Value m) = lost m.0
+owner_goes lost _ = false
 
 -- 1 for a handle with the number q that such a value owns
 abbrev follows : (ℕ → Bool) → ℕ → HandleRow → ℕ
@@ -45,18 +34,12 @@ abbrev grown : List HandleRow → (ℕ → Bool) → List HandleRow → (ℕ →
 grown rows keyed entries s q = s q || nat_lt 0 (sum_by (follows (loses_value rows keyed entries s) q) rows)
 
 owned-by : (lost : ℕ → Bool) (n : ℕ) (o : Owner) → is_owner (owner_value n) o ≡ true → lost n ≡ true → owner_goes lost o ≡ true
-owned-by lost n owners.Caller is goes = absurd (grind (arith, nat_tests))
-owned-by lost n (owners.Value m) is goes = let e : m.0 ≡ n = grind (arith, nat_tests) in ap lost e ∙ goes
-owned-by lost n owners.List is goes = absurd (grind (arith, nat_tests))
-owned-by lost n (owners.Load l) is goes = absurd (grind (arith, nat_tests))
-owned-by lost n (owners.Worker v) is goes = absurd (grind (arith, nat_tests))
+owned-by lost n (Owner.Value m) is goes = let e : m.0 ≡ n = grind (arith, nat_tests) in ap lost e ∙ goes
+owned-by lost n _ is goes = absurd (grind (arith, nat_tests))
 
 owner-of : (lost : ℕ → Bool) (o : Owner) → owner_goes lost o ≡ true → (n : ℕ) × (is_owner (owner_value n) o ≡ true) × (lost n ≡ true)
-owner-of lost owners.Caller goes = absurd (grind (arith, nat_tests))
-owner-of lost (owners.Value m) goes = (m.0, grind (arith, nat_tests), goes)
-owner-of lost owners.List goes = absurd (grind (arith, nat_tests))
-owner-of lost (owners.Load l) goes = absurd (grind (arith, nat_tests))
-owner-of lost (owners.Worker v) goes = absurd (grind (arith, nat_tests))
+owner-of lost (Owner.Value m) goes = (m.0, grind (arith, nat_tests), goes)
+owner-of lost _ goes = absurd (grind (arith, nat_tests))
 
 -- fewer pins or handles are outside the greater set
 wider-by : (b : Bool) (came p q h k : ℕ) → q ≤ p → k ≤ h → (if b then nat_eq p 0 else nat_eq came 0 && nat_eq h 0) ≡ true → (if b then nat_eq q 0 else nat_eq came 0 && nat_eq k 0) ≡ true
@@ -149,7 +132,8 @@ module _ (rows : List HandleRow) (keyed : ℕ → Bool) (entries : List HandleRo
       → (s : ℕ → Bool) × IsLeast rows keyed entries given s
   grows given zero s few holds least = decide given s holds least (λ fewer. absurd (omega arith)) (nat_lt (sum_by (outside (more s)) rows) (sum_by (outside s) rows)) refl
   grows given (suc k) s few holds least =
-      decide given s holds least (λ fewer. grows given k (more s) (omega arith) (wider-given given s holds) (λ t h c. stays s t (least t h c) c)) (nat_lt (sum_by (outside (more s)) rows) (sum_by (outside s) rows)) refl
+      decide given s holds least (λ fewer. grows given k (more s) (omega arith) (wider-given given s holds) (λ t h c. stays s t (least t h c) c))
+      (nat_lt (sum_by (outside (more s)) rows) (sum_by (outside s) rows)) refl
 
   within-self : (given : ℕ → Bool) → IsWithin rows given given
   within-self given = sum-zero (only_in given given) rows (λ h among. grind (arith, nat_tests))
@@ -170,7 +154,8 @@ module _ (rows : List HandleRow) (keyed : ℕ → Bool) (entries : List HandleRo
 closed-alone : (rows : List HandleRow) (keyed : ℕ → Bool) (entries : List HandleRow) (s : ℕ → Bool) → OwnsNothing rows → IsClosed rows keyed entries s
 closed-alone rows keyed entries s nothing n goes =
     let none : sum_by (λ h. one (is_owner (owner_value n) h.owner)) rows ≡ 0 = nothing n in
-    let few : sum_by (owned_out s n) rows ≤ sum_by (λ h. one (is_owner (owner_value n) h.owner)) rows = sum-le (owned_out s n) (λ h. one (is_owner (owner_value n) h.owner)) rows (λ h among. grind (arith, nat_tests)) in
+    let few : sum_by (owned_out s n) rows ≤ sum_by (λ h. one (is_owner (owner_value n) h.owner)) rows = sum-le (owned_out s n) (λ h. one (is_owner (owner_value n) h.owner)) rows
+    (λ h among. grind (arith, nat_tests)) in
     omega arith
 
 -- so the given handles are the least set, and no more fall

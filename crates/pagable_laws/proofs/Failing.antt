@@ -1,17 +1,7 @@
 -- What a worker fails with: a refusal that a step of its own met, or that another's claim has failed where its walk came.
-use Rattle.std.proofs.Common.{◌≡◌, ℕ, zero, suc, ◌==◌, List, [], ◌∷◌, ◌++◌, refl, ap, subst, ◌∙◌, Ok, Err}
-use Rattle.std.specs.Prelude.{Some, None, drop, length}
-use Rattle.pagable_world.specs.Plain.{Error, ArcRef, Identity, Among}
-use Rattle.pagable_world.specs.declared.events.WorkerAnswer.{WorkerAnswer}
-use Rattle.pagable_world.specs.declared.events.WorkerAnswer.TheVariants as finals
-use Rattle.pagable_world.specs.declared.events.Claim.TheVariants as claims
-use Rattle.pagable_world.specs.declared.events.PinStep.TheVariants as pinsteps
-use Rattle.pagable_world.specs.declared.events.Took.TheVariants as took
-use Rattle.pagable_world.specs.declared.events.Took.{Took}
-use Rattle.pagable_world.specs.World.{Shelf, answer_of_fault, Todo, to_start, to_pin, to_load, to_write, to_finish, to_item, to_set, to_publish, to_release, to_fail, Task, of_item, of_entry, Written}
-use Rattle.pagable_world.specs.Workers.{next_start, give, first_todo, answer_after, is_open_outcome}
-use Rattle.pagable_world.specs.Order.{Follows, MetError}
-use Rattle.pagable_world.specs.Headline.{FailedElsewhere, IsMetFailure}
+use Rattle.pagable_laws.proofs.Words.{◌≡◌, ℕ, zero, suc, ◌==◌, List, [], ◌∷◌, ◌++◌, refl, ap, subst, ◌∙◌, Ok, Err, Some, None, drop, length, Error, ArcRef, Identity, Among, WorkerAnswer, Claim}
+use Rattle.pagable_laws.proofs.Words.{PinStep, Took, Shelf, answer_of_fault, Todo, to_start, to_pin, to_load, to_write, to_finish, to_item, to_set, to_publish, to_release, to_fail, Task, of_item}
+use Rattle.pagable_laws.proofs.Words.{of_entry, Written, next_start, give, first_todo, answer_after, is_open_outcome, Follows, MetError, FailedElsewhere, IsMetFailure}
 use Rattle.pagable_laws.proofs.Changing.{ShelfGrows}
 
 among-left : {X : Type 0} (xs ys : List X) (x : X) → Among xs x → Among (xs ++ ys) x
@@ -31,9 +21,9 @@ failed-stays n shelf shelf' i more was =
 
 module _ {W : Type 0} (n : ℕ) where
   pub met-stays : (shelf shelf' : Shelf) (past more : List (Took W)) (answer : WorkerAnswer) → ShelfGrows shelf shelf' → IsMetFailure shelf n past answer → IsMetFailure shelf' n (past ++ more) answer
-  met-stays shelf shelf' past more (finals.Key key) grown met = tt
-  met-stays shelf shelf' past more (finals.Failed e) grown (step, among, met) = (step, among-left past more step among, met)
-  met-stays shelf shelf' past more finals.AlreadyFailed grown (i, among, was) = (i, among-left past more (took.Claim i (Ok claims.AlreadyFailed)) among, failed-stays n shelf shelf' i grown was)
+  met-stays shelf shelf' past more (WorkerAnswer.Key key) grown met = tt
+  met-stays shelf shelf' past more (WorkerAnswer.Failed e) grown (step, among, met) = (step, among-left past more step among, met)
+  met-stays shelf shelf' past more WorkerAnswer.AlreadyFailed grown (i, among, was) = (i, among-left past more (Took.Claim i (Ok Claim.AlreadyFailed)) among, failed-stays n shelf shelf' i grown was)
 
   -- ---- what is to be done
 
@@ -71,53 +61,43 @@ module _ {W : Type 0} (n : ℕ) where
     first-met (of_entry h i) = tt
 
     -- the last step was refused
-    refused : (step : Took W) (e : Error) → Among past step → MetError step e → IsMetFailure shelf n past (finals.Failed e) × Unit {0}
+    refused : (step : Took W) (e : Error) → Among past step → MetError step e → IsMetFailure shelf n past (WorkerAnswer.Failed e) × Unit {0}
     refused step e among met = ((step, among, met), tt)
 
     -- what follows a step, where the other's claim has failed if that is what was found
     pub follows-met : (f : W → Written) (todo : List Todo) (step : Took W) (next : List Todo) → Follows f todo step next → Among past step
-        → ((i : Identity) → step ≡ took.Claim i (Ok claims.AlreadyFailed) → FailedElsewhere shelf n i) → FailsMet shelf past todo → FailsMet shelf past next
+        → ((i : Identity) → step ≡ Took.Claim i (Ok Claim.AlreadyFailed) → FailedElsewhere shelf n i) → FailsMet shelf past todo → FailsMet shelf past next
     unfolding FailsMet
-    follows-met f (to_start r place ∷ below) (took.Claim j (Ok claims.Claimed)) next (is, e) among already met = rw e met
-    follows-met f (to_start r place ∷ []) (took.Claim j (Ok (claims.Known key height))) next (is, e) among already met = rw e met
-    follows-met f (to_start r place ∷ x ∷ below) (took.Claim j (Ok (claims.Known key height))) next (is, e) among already met = rw e (given r key height (x ∷ below) met)
-    follows-met f (to_start r place ∷ below) (took.Claim j (Ok claims.Waiting)) next (is, e) among already met = rw e met
-    follows-met f (to_start r place ∷ below) (took.Claim j (Ok claims.AlreadyFailed)) next (is, e) among already met = rw e ((j, among, already j refl), tt)
-    follows-met f (to_start r place ∷ below) (took.Claim j (Err fault)) next (is, e) among already met = rw e (refused _ fault among refl)
-    follows-met f (to_start r place ∷ below) step next follows among already met = absurd follows
-    follows-met f (to_pin r place ∷ below) (took.Pin j (Ok (pinsteps.Held h))) next (is, (through, e)) among already met = rw e met
-    follows-met f (to_pin r place ∷ below) (took.Pin j (Ok (pinsteps.LoadBegun l))) next (is, (through, e)) among already met = rw e met
-    follows-met f (to_pin r place ∷ below) (took.Pin j (Err fault)) next (is, e) among already met = rw e (refused _ fault among refl)
-    follows-met f (to_pin r place ∷ below) step next follows among already met = absurd follows
-    follows-met f (to_load r place through reading ∷ below) (took.Pin j (Ok pinsteps.LoadWent)) next (is, (frames, e)) among already met = rw e met
-    follows-met f (to_load r place through reading ∷ below) (took.Pin j (Ok (pinsteps.Held h))) next (is, e) among already met = rw e met
-    follows-met f (to_load r place through reading ∷ below) (took.Pin j (Err fault)) next (is, e) among already met = rw e (refused _ fault among refl)
-    follows-met f (to_load r place through reading ∷ below) step next follows among already met = absurd follows
-    follows-met f (to_write r place through ∷ below) (took.Write j (Ok out)) next (is, e) among already met = rw e (started place (drop 0 (f out).references) _ met)
-    follows-met f (to_write r place through ∷ below) (took.Write j (Err fault)) next (is, e) among already met = rw e (refused _ fault among refl)
-    follows-met f (to_write r place through ∷ below) step next follows among already met = absurd follows
-    follows-met f (to_finish o ∷ below) (took.Store (Some j) (Ok key)) next (is, e) among already met = rw e met
-    follows-met f (to_finish o ∷ below) (took.Store (Some j) (Err fault)) next (is, e) among already met = rw e (refused _ fault among refl)
-    follows-met f (to_finish o ∷ below) step next follows among already met = absurd follows
-    follows-met f (to_item written keys ∷ below) (took.Store None (Ok key)) next e among already met = rw e tt
-    follows-met f (to_item written keys ∷ below) (took.Store None (Err fault)) next e among already met = rw e (refused _ fault among refl)
-    follows-met f (to_item written keys ∷ below) step next follows among already met = absurd follows
-    follows-met f (to_set r through key height ∷ below) (took.SetKey j (Ok u)) next (is, e) among already met = rw e met
-    follows-met f (to_set r through key height ∷ below) (took.SetKey j (Err fault)) next (is, e) among already met = rw e (refused _ fault among refl)
-    follows-met f (to_set r through key height ∷ below) step next follows among already met = absurd follows
-    follows-met f (to_publish r key height ∷ below) (took.Publish j k h) next (is, same_key, same_height, e) among already met = rw e met
-    follows-met f (to_publish r key height ∷ below) step next follows among already met = absurd follows
-    follows-met f (to_release r key height ∷ below) (took.Release j) next (is, e) among already met = rw e (given r key height below met)
-    follows-met f (to_release r key height ∷ below) step next follows among already met = absurd follows
-    follows-met f (to_fail fault back ∷ below) took.Fail next e among already met = rw e tt
-    follows-met f (to_fail fault back ∷ below) step next follows among already met = absurd follows
-    follows-met f [] step next follows among already met = absurd follows
+    follows-met f (to_start r place ∷ below) (Took.Claim j (Ok Claim.Claimed)) next (is, e) among already met = rw e met
+    follows-met f (to_start r place ∷ []) (Took.Claim j (Ok (Claim.Known key height))) next (is, e) among already met = rw e met
+    follows-met f (to_start r place ∷ x ∷ below) (Took.Claim j (Ok (Claim.Known key height))) next (is, e) among already met = rw e (given r key height (x ∷ below) met)
+    follows-met f (to_start r place ∷ below) (Took.Claim j (Ok Claim.Waiting)) next (is, e) among already met = rw e met
+    follows-met f (to_start r place ∷ below) (Took.Claim j (Ok Claim.AlreadyFailed)) next (is, e) among already met = rw e ((j, among, already j refl), tt)
+    follows-met f (to_start r place ∷ below) (Took.Claim j (Err fault)) next (is, e) among already met = rw e (refused _ fault among refl)
+    follows-met f (to_pin r place ∷ below) (Took.Pin j (Ok (PinStep.Held h))) next (is, (through, e)) among already met = rw e met
+    follows-met f (to_pin r place ∷ below) (Took.Pin j (Ok (PinStep.LoadBegun l))) next (is, (through, e)) among already met = rw e met
+    follows-met f (to_pin r place ∷ below) (Took.Pin j (Err fault)) next (is, e) among already met = rw e (refused _ fault among refl)
+    follows-met f (to_load r place through reading ∷ below) (Took.Pin j (Ok PinStep.LoadWent)) next (is, (frames, e)) among already met = rw e met
+    follows-met f (to_load r place through reading ∷ below) (Took.Pin j (Ok (PinStep.Held h))) next (is, e) among already met = rw e met
+    follows-met f (to_load r place through reading ∷ below) (Took.Pin j (Err fault)) next (is, e) among already met = rw e (refused _ fault among refl)
+    follows-met f (to_write r place through ∷ below) (Took.Write j (Ok out)) next (is, e) among already met = rw e (started place (drop 0 (f out).references) _ met)
+    follows-met f (to_write r place through ∷ below) (Took.Write j (Err fault)) next (is, e) among already met = rw e (refused _ fault among refl)
+    follows-met f (to_finish o ∷ below) (Took.Store (Some j) (Ok key)) next (is, e) among already met = rw e met
+    follows-met f (to_finish o ∷ below) (Took.Store (Some j) (Err fault)) next (is, e) among already met = rw e (refused _ fault among refl)
+    follows-met f (to_item written keys ∷ below) (Took.Store None (Ok key)) next e among already met = rw e tt
+    follows-met f (to_item written keys ∷ below) (Took.Store None (Err fault)) next e among already met = rw e (refused _ fault among refl)
+    follows-met f (to_set r through key height ∷ below) (Took.SetKey j (Ok u)) next (is, e) among already met = rw e met
+    follows-met f (to_set r through key height ∷ below) (Took.SetKey j (Err fault)) next (is, e) among already met = rw e (refused _ fault among refl)
+    follows-met f (to_publish r key height ∷ below) (Took.Publish j k h) next (is, same_key, same_height, e) among already met = rw e met
+    follows-met f (to_release r key height ∷ below) (Took.Release j) next (is, e) among already met = rw e (given r key height below met)
+    follows-met f (to_fail fault back ∷ below) Took.Fail next e among already met = rw e tt
+    follows-met f _ step next follows among already met = absurd follows
 
     -- the answer is what the list was about to fail with, or a key
     pub answered : (todo : List Todo) (step : Took W) (answer : WorkerAnswer) → answer_after todo step ≡ Some answer → FailsMet shelf past todo → IsMetFailure shelf n past answer
     unfolding FailsMet
     answered (to_fail fault back ∷ below) step answer is (met, rest) = let e : answer_of_fault fault ≡ answer = cc in subst (λ a. IsMetFailure shelf n past a) e met
-    answered (to_item written keys ∷ below) (took.Store i (Ok key)) answer is met = let e : finals.Key key ≡ answer = cc in subst (λ a. IsMetFailure shelf n past a) e tt
-    answered (to_item written keys ∷ below) (took.Store i (Err fault)) answer is met = absurd (cc)
-    answered (to_release r key height ∷ []) step answer is met = let e : finals.Key key ≡ answer = cc in subst (λ a. IsMetFailure shelf n past a) e tt
+    answered (to_item written keys ∷ below) (Took.Store i (Ok key)) answer is met = let e : WorkerAnswer.Key key ≡ answer = cc in subst (λ a. IsMetFailure shelf n past a) e tt
+    answered (to_item written keys ∷ below) (Took.Store i (Err fault)) answer is met = absurd (cc)
+    answered (to_release r key height ∷ []) step answer is met = let e : WorkerAnswer.Key key ≡ answer = cc in subst (λ a. IsMetFailure shelf n past a) e tt
     answered todo step answer is met = absurd (cc)

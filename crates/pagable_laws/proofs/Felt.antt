@@ -1,24 +1,9 @@
 -- What each sort of step brings fits trees: which trees the nodes have afterwards, and that values, keys and what becomes known fit them.
-use Rattle.std.proofs.Common.{◌≡◌, ℕ, ◌+◌, ◌≤◌, ◌==◌, ◌&&◌, Bool, true, false, Some, None, ◌⊎◌, inl, inr, refl, sym, ap, ◌∙◌, subst, arith, if◌then◌else◌}
-use Rattle.std.specs.Prelude.{is_some}
-use Rattle.std.proofs.lemmas.Bool.Decides.{nat_tests}
-use Rattle.pagable_model.specs.declared.data_key.OptionalDataKey.TheVariants as optional
-use Rattle.pagable_world.specs.declared.handles.Owner.{Owner}
-use Rattle.pagable_world.specs.declared.handles.Owner.TheVariants as owners
-use Rattle.pagable_world.specs.declared.handles.HandleRow.{HandleRow}
-use Rattle.pagable_world.specs.declared.calls.Call.{Call}
-use Rattle.pagable_world.specs.declared.calls.Call.TheVariants as calls
-use Rattle.pagable_world.specs.declared.calls.Reply.{Reply}
-use Rattle.pagable_world.specs.Plain.{OptionalDataKey, ArcRef, Tree, tree, ReadsTree, type_of, Among, updated, is_pinned_kind}
-use Rattle.pagable_world.specs.Kinds.{any_mode, is_loose}
-use Rattle.pagable_world.specs.World.{Values, IsLawful, is_here}
-use Rattle.pagable_world.specs.Refusals.{Owns}
-use Rattle.pagable_world.specs.LoadCalls.{first_key}
-use Rattle.pagable_world.specs.Pager.{PagerState, WellFormed, Represents, ReadsNodeTree, SameTrees, CallBrings, IsNewNode, IsCellOf, ValueStands}
-use Rattle.pagable_world.specs.Runs.{HoldsSettled, AsksWell, ReadsAsType, ReadsAsValue}
-use Rattle.pagable_laws.specs.ReadLaws.{ValueLeads}
-use Rattle.pagable_laws.specs.TreeSteps.{Change, nothing_felt, sets_key, knows_node, bears_node, bears_known, CoreGoes, StaysAway, AreGood, CallFeels, feels-nothing, feels-birth, feels-away, feels-key, feels-known, feels-adopted, feels-lazy, feels-end}
-use Rattle.pagable_laws.specs.TreeRuns.{ChangeFits}
+use Rattle.pagable_laws.proofs.Words.{◌≡◌, ℕ, ◌+◌, ◌≤◌, ◌==◌, ◌&&◌, Bool, true, false, Some, None, ◌⊎◌, inl, inr, refl, sym, ap, ◌∙◌, subst, arith, if◌then◌else◌, is_some, nat_tests}
+use Rattle.pagable_laws.proofs.Words.{OptionalDataKey, Owner, HandleRow, Call, Reply, ArcRef, Tree, tree, ReadsTree, type_of, Among, updated, is_pinned_kind, any_mode, is_loose, Values, IsLawful}
+use Rattle.pagable_laws.proofs.Words.{is_here, Owns, first_key, PagerState, WellFormed, Represents, ReadsNodeTree, SameTrees, CallBrings, IsNewNode, IsCellOf, ValueStands, HoldsSettled, AsksWell}
+use Rattle.pagable_laws.proofs.Words.{ReadsAsType, ReadsAsValue, ValueLeads, Change, nothing_felt, sets_key, knows_node, bears_node, bears_known, CoreGoes, StaysAway, AreGood, CallFeels}
+use Rattle.pagable_laws.proofs.Words.{feels-nothing, feels-birth, feels-away, feels-key, feels-known, feels-adopted, feels-lazy, feels-end, ChangeFits}
 use Rattle.pagable_laws.proofs.Trees.{same_some}
 use Rattle.pagable_laws.proofs.Following.{given-of, cell-of}
 use Rattle.pagable_laws.proofs.Fitting.{tree-stays}
@@ -37,11 +22,12 @@ both-true : (a b : Bool) → a ≡ true → false ≡ (a && b) → b ≡ false
 both-true true b e f = sym f
 both-true false b e f = absurd (cc)
 
-pub first-of : (b : Bool) (key k : ℕ) → (if b then optional.Some key else optional.None) ≡ optional.Some k → k ≡ key
+pub first-of : (b : Bool) (key k : ℕ) → (if b then OptionalDataKey.Some key else OptionalDataKey.None) ≡ OptionalDataKey.Some k → k ≡ key
 first-of true key k e = cc
 first-of false key k e = absurd (cc)
 
-module _ {N E : Type 0} {v : Values N} {s s' : PagerState N E} {trees : ℕ → Tree} (lawful : IsLawful v) (settled : HoldsSettled v s) (well : WellFormed v s) (well' : WellFormed v s') (stands : Represents v s trees) where
+module _ {N E : Type 0} {v : Values N} {s s' : PagerState N E} {trees : ℕ → Tree} (lawful : IsLawful v) (settled : HoldsSettled v s) (well : WellFormed v s) (well' : WellFormed v s')
+    (stands : Represents v s trees) where
   abbrev last : ℕ
   last = s.core.last.node
 
@@ -82,7 +68,8 @@ module _ {N E : Type 0} {v : Values N} {s s' : PagerState N E} {trees : ℕ → 
   ]
 
   -- nothing is felt, and what comes to an old node fits
-  pub fits-nothing : (comes : ℕ → N → Type 0) → ((n : ℕ) (x : N) → comes n x → s.values n ≡ None → s'.values n ≡ Some x → ValueLeads v trees x (trees n)) → ChangeFits v nothing_felt comes s s' trees trees
+  pub fits-nothing : (comes : ℕ → N → Type 0) → ((n : ℕ) (x : N) → comes n x → s.values n ≡ None → s'.values n ≡ Some x → ValueLeads v trees x (trees n))
+      → ChangeFits v nothing_felt comes s s' trees trees
   fits-nothing comes fit = record { same = λ n within. refl; sets = λ n key is. absurd is; born = λ t own is. absurd is; keyed = λ t key is. absurd is; knows = λ kind key n is. absurd is; comes_well = fit }
 
   pub fits-key : (comes : ℕ → N → Type 0) (m k : ℕ) → ((n : ℕ) (x : N) → comes n x → ⊥) → ReadsTree s'.core.stored v.types k (trees m) → ChangeFits v (sets_key m k) comes s s' trees trees
@@ -96,7 +83,8 @@ module _ {N E : Type 0} {v : Values N} {s s' : PagerState N E} {trees : ℕ → 
         comes_well = λ n x is. absurd (none n x is);
       }
 
-  pub fits-known : (comes : ℕ → N → Type 0) (k q m : ℕ) → ((n : ℕ) (x : N) → comes n x → ⊥) → ReadsNodeTree v.types s'.core.stored trees q (type_of k) m → ChangeFits v (knows_node k q m) comes s s' trees trees
+  pub fits-known : (comes : ℕ → N → Type 0) (k q m : ℕ) → ((n : ℕ) (x : N) → comes n x → ⊥) → ReadsNodeTree v.types s'.core.stored trees q (type_of k) m
+      → ChangeFits v (knows_node k q m) comes s s' trees trees
   fits-known comes k q m none reads =
       record {
         same = λ n within. refl;
@@ -118,7 +106,7 @@ module _ {N E : Type 0} {v : Values N} {s s' : PagerState N E} {trees : ℕ → 
     more-at = with-at (last + 1) t0 trees
 
     -- a node is born of this type and key, of a tree as which the key reads if it has one
-    pub fits-born : (comes : ℕ → N → Type 0) (own : OptionalDataKey) → ((key : ℕ) → own ≡ optional.Some key → ReadsTree s'.core.stored v.types key t0)
+    pub fits-born : (comes : ℕ → N → Type 0) (own : OptionalDataKey) → ((key : ℕ) → own ≡ OptionalDataKey.Some key → ReadsTree s'.core.stored v.types key t0)
         → ((n : ℕ) (x : N) → comes n x → s.values n ≡ None → s'.values n ≡ Some x → ValueLeads v more x (more n)) → ChangeFits v (bears_node t0.type own) comes s s' trees more
     fits-born comes own reads fit =
         record {
@@ -130,7 +118,8 @@ module _ {N E : Type 0} {v : Values N} {s s' : PagerState N E} {trees : ℕ → 
           comes_well = fit;
         }
 
-    pub fits-born-known : (comes : ℕ → N → Type 0) (k q : ℕ) (own : OptionalDataKey) → t0.type ≡ type_of k → ((key : ℕ) → own ≡ optional.Some key → key ≡ q) → ReadsTree s'.core.stored v.types q t0
+    pub fits-born-known : (comes : ℕ → N → Type 0) (k q : ℕ) (own : OptionalDataKey) → t0.type ≡ type_of k → ((key : ℕ) → own ≡ OptionalDataKey.Some key → key ≡ q)
+        → ReadsTree s'.core.stored v.types q t0
         → ((n : ℕ) (x : N) → comes n x → s.values n ≡ None → s'.values n ≡ Some x → ValueLeads v more x (more n)) → ChangeFits v (bears_known k q own) comes s s' trees more
     fits-born-known comes k q own typed same_key reads fit =
         record {
@@ -151,7 +140,8 @@ module _ {N E : Type 0} {v : Values N} {s s' : PagerState N E} {trees : ℕ → 
             rw (e1, e2, e3) here
 
     -- the value of the node that is born leads to that tree
-    pub value-born : (c : Change) (n : ℕ) (x y : N) → CoreGoes c s.core s'.core → s'.values n ≡ Some x → x ≡ y → IsNewNode s.core n → ((r : ArcRef) → Among (v.references y) r → r.node.0 ≤ last) → ValueLeads v trees y t0 → ValueLeads v more x (more n)
+    pub value-born : (c : Change) (n : ℕ) (x y : N) → CoreGoes c s.core s'.core → s'.values n ≡ Some x → x ≡ y → IsNewNode s.core n
+        → ((r : ArcRef) → Among (v.references y) r → r.node.0 ≤ last) → ValueLeads v trees y t0 → ValueLeads v more x (more n)
     value-born c n x y goes is same new few l =
         let next : n ≡ last + 1 = (goes.new n new (live-after n x is)).next in
         let led_to : ValueLeads v more y t0 = value-on (with-below last t0 trees) few l in
@@ -179,62 +169,67 @@ module _ {N E : Type 0} {v : Values N} {s s' : PagerState N E} {trees : ℕ → 
   nothing-brought : {B : Type 0} (call other : Call N B) (n : ℕ) (x : N) → call ≡ other → (CallBrings s.core other n x → ⊥) → CallBrings s.core call n x → ⊥
   nothing-brought call other n x same none is = none (subst (λ z. CallBrings s.core z n x) same is)
 
-  pub call-fits : {B : Type 0} (c : Change) (call : Call N B) (reply : Reply N B) → CoreGoes c s.core s'.core → AsksWell v s trees call reply → CallFeels v s.core owners.Caller call reply s'.core c → Fits c (CallBrings s.core call)
+  pub call-fits : {B : Type 0} (c : Change) (call : Call N B) (reply : Reply N B) → CoreGoes c s.core s'.core → AsksWell v s trees call reply
+      → CallFeels v s.core Owner.Caller call reply s'.core c → Fits c (CallBrings s.core call)
   call-fits {B} c call reply goes well_asked (feels-nothing stays) = record { after = trees; fits = fits-nothing _ (λ n x brings none is. absurd (none-comes n x goes none is (stays n x brings))) }
   call-fits {B} c call reply goes well_asked (feels-birth x brought good) =
-      let born = birth-tree x owners.Caller good in
+      let born = birth-tree x Owner.Caller good in
       record {
         after = updated (last + 1) born.0 trees;
         fits =
-            subst (λ t. ChangeFits v (bears_node t optional.None) (CallBrings s.core call) s s' trees (updated (last + 1) born.0 trees)) born.1 (fits-born born.0 _ optional.None (λ key is. absurd (cc))
-            (λ n y brings none is. value-born born.0 _ n y x goes is (brought n y brings).0 (brought n y brings).1 (good-given owners.Caller x good) born.2));
+            subst (λ t. ChangeFits v (bears_node t OptionalDataKey.None) (CallBrings s.core call) s s' trees (updated (last + 1) born.0 trees)) born.1
+            (fits-born born.0 _ OptionalDataKey.None (λ key is. absurd (cc))
+            (λ n y brings none is. value-born born.0 _ n y x goes is (brought n y brings).0 (brought n y brings).1 (good-given Owner.Caller x good) born.2));
       }
   call-fits {B} c call reply goes well_asked (feels-away t key k called replied) =
       let P : Call N B → Reply N B → Type 0 = λ a b. AsksWell v s trees a b in
-      let asked : ReadsAsType v s t key = subst (λ b. P (calls.NewPagedOut t key) b) replied (subst (λ a. P a reply) called well_asked) in
+      let asked : ReadsAsType v s t key = subst (λ b. P (Call.NewPagedOut t key) b) replied (subst (λ a. P a reply) called well_asked) in
       record {
         after = updated (last + 1) asked.read trees;
         fits =
-            subst (λ z. ChangeFits v (bears_node z (optional.Some key)) (CallBrings s.core call) s s' trees (updated (last + 1) asked.read trees)) asked.typed (fits-born asked.read _ (optional.Some key)
+            subst (λ z. ChangeFits v (bears_node z (OptionalDataKey.Some key)) (CallBrings s.core call) s s' trees (updated (last + 1) asked.read trees)) asked.typed
+            (fits-born asked.read _ (OptionalDataKey.Some key)
             (λ q is. let e : key ≡ q = cc in subst (λ z. ReadsTree s'.core.stored v.types z asked.read) e (tree-stays goes.stored asked.reads))
-            (λ n y brings none is. absurd (nothing-brought call (calls.NewPagedOut t key) n y called (λ b. b) brings)));
+            (λ n y brings none is. absurd (nothing-brought call (Call.NewPagedOut t key) n y called (λ b. b) brings)));
       }
   call-fits {B} c call reply goes well_asked (feels-key h key row called owns) =
-      let asked : (z : HandleRow) → Owns s.core owners.Caller h is_loose z → ReadsTree s.core.stored v.types key (trees z.node.0) = subst (λ a. AsksWell v s trees a reply) called well_asked in
-      record { after = trees; fits = fits-key _ row.node.0 key (λ n y brings. nothing-brought call (calls.SetDataKey h key) n y called (λ b. b) brings) (tree-stays goes.stored (asked row owns)) }
+      let asked : (z : HandleRow) → Owns s.core Owner.Caller h is_loose z → ReadsTree s.core.stored v.types key (trees z.node.0) = subst (λ a. AsksWell v s trees a reply) called well_asked in
+      record { after = trees; fits = fits-key _ row.node.0 key (λ n y brings. nothing-brought call (Call.SetDataKey h key) n y called (λ b. b) brings) (tree-stays goes.stored (asked row owns)) }
   call-fits {B} c call reply goes well_asked (feels-known kind key h row called replied owns typed) =
       let P : Call N B → Reply N B → Type 0 = λ a b. AsksWell v s trees a b in
-      let asked : (z : HandleRow) → Owns s.core owners.Caller h any_mode z → ReadsTree s.core.stored v.types key (trees z.node.0) = subst (λ b. P (calls.OnArcDeserialized kind key h) b) replied (subst (λ a. P a reply) called well_asked) in
+      let asked : (z : HandleRow) → Owns s.core Owner.Caller h any_mode z
+      → ReadsTree s.core.stored v.types key (trees z.node.0) = subst (λ b. P (Call.OnArcDeserialized kind key h) b) replied (subst (λ a. P a reply) called well_asked) in
       let live = given-of well.whole.handles row.node.0 typed in
       let is_typed : (trees row.node.0).type ≡ type_of kind.0 = same_some _ _ (sym (stands.typed row.node.0 live.0) ∙ typed) in
-      record { after = trees; fits = fits-known _ kind.0 key row.node.0 (λ n y brings. nothing-brought call (calls.OnArcDeserialized kind key h) n y called (λ b. b) brings) (record { typed = is_typed; reads = tree-stays goes.stored (asked row owns) }) }
+      record { after = trees; fits = fits-known _ kind.0 key row.node.0 (λ n y brings. nothing-brought call (Call.OnArcDeserialized kind key h) n y called (λ b. b) brings) (record { typed = is_typed; reads = tree-stays goes.stored (asked row owns) }) }
   call-fits {B} c call reply goes well_asked (feels-adopted l kind key x k called replied typed good) =
       let P : Call N B → Reply N B → Type 0 = λ a b. AsksWell v s trees a b in
-      let asked : ReadsAsValue v s x key = subst (λ b. P (calls.LoadAdopt l kind key x) b) replied (subst (λ a. P a reply) called well_asked) in
-      let leads = value-leads lawful settled well stands x asked.stands.own asked.read (owners.Load l) asked.stands.typed asked.stands.means asked.stands.stands good in
+      let asked : ReadsAsValue v s x key = subst (λ b. P (Call.LoadAdopt l kind key x) b) replied (subst (λ a. P a reply) called well_asked) in
+      let leads = value-leads lawful settled well stands x asked.stands.own asked.read (Owner.Load l) asked.stands.typed asked.stands.means asked.stands.stands good in
       record {
         after = updated (last + 1) asked.read trees;
         fits =
             fits-born-known asked.read _ kind.0 key (first_key kind.0 key) (sym asked.stands.typed ∙ typed) (λ q is. first-of (is_pinned_kind kind.0) key q is) (tree-stays goes.stored asked.reads)
-            (λ n y brings none is. let b : (y ≡ x) × IsNewNode s.core n = subst (λ a. CallBrings s.core a n y) called brings in value-born asked.read _ n y x goes is b.0 b.1 (good-given (owners.Load l) x good) leads);
+            (λ n y brings none is. let b : (y ≡ x) × IsNewNode s.core n = subst (λ a. CallBrings s.core a n y) called brings in
+            value-born asked.read _ n y x goes is b.0 b.1 (good-given (Owner.Load l) x good) leads);
       }
   call-fits {B} c call reply goes well_asked (feels-lazy l kind key k called replied) =
       let P : Call N B → Reply N B → Type 0 = λ a b. AsksWell v s trees a b in
-      let asked : ReadsAsType v s (type_of kind.0) key = subst (λ b. P (calls.LoadLazy l kind key) b) replied (subst (λ a. P a reply) called well_asked) in
+      let asked : ReadsAsType v s (type_of kind.0) key = subst (λ b. P (Call.LoadLazy l kind key) b) replied (subst (λ a. P a reply) called well_asked) in
       record {
         after = updated (last + 1) asked.read trees;
         fits =
-            fits-born-known asked.read _ kind.0 key (optional.Some key) asked.typed (λ q is. cc) (tree-stays goes.stored asked.reads)
-            (λ n y brings none is. absurd (nothing-brought call (calls.LoadLazy l kind key) n y called (λ b. b) brings));
+            fits-born-known asked.read _ kind.0 key (OptionalDataKey.Some key) asked.typed (λ q is. cc) (tree-stays goes.stored asked.reads)
+            (λ n y brings none is. absurd (nothing-brought call (Call.LoadLazy l kind key) n y called (λ b. b) brings));
       }
   call-fits {B} c call reply goes well_asked (feels-end l x k called replied good) =
       let P : Call N B → Reply N B → Type 0 = λ a b. AsksWell v s trees a b in
-      let asked : (n : ℕ) → IsCellOf s.core l n → ValueStands v s x (trees n) = subst (λ b. P (calls.LoadEnd l x) b) replied (subst (λ a. P a reply) called well_asked) in
+      let asked : (n : ℕ) → IsCellOf s.core l n → ValueStands v s x (trees n) = subst (λ b. P (Call.LoadEnd l x) b) replied (subst (λ a. P a reply) called well_asked) in
       record {
         after = trees;
         fits = fits-nothing _ (λ n y brings none is.
             let b : (y ≡ x) × IsCellOf s.core l n = subst (λ a. CallBrings s.core a n y) called brings in
             let meant = asked n b.1 in
-            let leads = value-leads lawful settled well stands x meant.own (trees n) (owners.Load l) meant.typed meant.means meant.stands good in
+            let leads = value-leads lawful settled well stands x meant.own (trees n) (Owner.Load l) meant.typed meant.means meant.stands good in
             subst (λ z. ValueLeads v trees z (trees n)) (sym b.0) leads);
       }

@@ -1,13 +1,9 @@
 -- What a load reads goes on fitting, whatever it gets.
-use Rattle.std.proofs.Common.{◌≡◌, ℕ, zero, suc, ◌+◌, ◌<◌, ◌≤◌, Bool, true, false, List, [], ◌∷◌, ◌++◌, Option, Some, if◌then◌else◌, ◌⊎◌, inl, inr, refl, sym, ap, ◌∙◌, subst, arith}
-use Rattle.std.specs.Prelude.{slice_get, length}
-use Rattle.pagable_model.specs.Trees.{KeyRef, ReadsAs, IsFollowed, number-followed, integer-followed, text-followed, pattern-followed, none-followed, pair-followed, variant-followed, reference-followed}
-use Rattle.pagable_world.specs.declared.handles.HandleRow.{HandleRow}
-use Rattle.pagable_world.specs.Plain.{ArcRef, Kind, Blob, Types, Tree, type_of, ReadsTree, Meaning, Among, is_eager}
-use Rattle.pagable_world.specs.World.{Frame}
-use Rattle.pagable_world.specs.Loads.{Next, reads, asks, is_faulty, next_in, need_at, need_of, needs_nested, needs_lazy, root_frame, nested_frame, with_got}
-use Rattle.pagable_world.specs.Pager.{ReadsNodeTree, FrameFits, FramesFit, SameTrees}
-use Rattle.pagable_laws.specs.ReadLaws.{Needs, KeepsStored, FramesGiven}
+use Rattle.pagable_laws.proofs.Words.{◌≡◌, ℕ, zero, suc, ◌+◌, ◌<◌, ◌≤◌, Bool, true, false, List, [], ◌∷◌, ◌++◌, Option, Some, if◌then◌else◌, ◌⊎◌, inl, inr, refl, sym, ap, ◌∙◌, subst, arith}
+use Rattle.pagable_laws.proofs.Words.{slice_get, length, KeyRef, ReadsAs, IsFollowed, number-followed, integer-followed, text-followed, pattern-followed, none-followed, pair-followed}
+use Rattle.pagable_laws.proofs.Words.{variant-followed, reference-followed, HandleRow, ArcRef, Kind, Blob, Types, Tree, type_of, ReadsTree, Meaning, Among, is_eager, Frame, Next, reads, asks}
+use Rattle.pagable_laws.proofs.Words.{is_faulty, next_in, need_at, need_of, needs_nested, needs_lazy, root_frame, nested_frame, with_got, ReadsNodeTree, FrameFits, FramesFit, SameTrees, Needs}
+use Rattle.pagable_laws.proofs.Words.{KeepsStored, FramesGiven}
 use Rattle.pagable_laws.proofs.Decoding.{asks_next}
 
 -- ---- what is asked
@@ -36,7 +32,7 @@ pushed [] y (suc i) x is = absurd (cc)
 pushed (z ∷ xs) y zero x is = inl is
 pushed (z ∷ xs) y (suc i) x is = elim (pushed xs y i x is) [ inl old ↦ inl old | inr new ↦ inr (let n = new.0 in omega (arith, n), new.1) ]
 
-longer : {X : Type 0} (xs : List X) (y : X) → length (xs ++ y ∷ []) ≡ length xs + 1
+pub longer : {X : Type 0} (xs : List X) (y : X) → length (xs ++ y ∷ []) ≡ length xs + 1
 longer [] y = omega arith
 longer (x ∷ xs) y = let a = longer xs y in omega (arith, a)
 

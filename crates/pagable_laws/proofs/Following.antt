@@ -1,30 +1,14 @@
 -- A form of a node's value is one of its tree: over its references it is followed to their nodes' trees, and with their keys it stands under the tree's own.
-use Rattle.std.proofs.Common.{◌≡◌, ℕ, zero, suc, ◌+◌, ◌<◌, ◌≤◌, ◌==◌, ◌&&◌, Bool, true, false, List, [], ◌∷◌, map, Option, Some, None, Result, Ok, refl, sym, ap, subst, ◌∙◌, inr, arith}
-use Rattle.std.specs.Prelude.{is_some, nat_lt, slice_get}
-use Rattle.std.proofs.lemmas.Bool.Decides.{nat_tests}
-use Rattle.std.proofs.lemmas.List.{append-nil}
-use Rattle.std.proofs.lemmas.List.Sums.{sum_by-cons}
-use Rattle.std.proofs.lemmas.Option.{get_or_from_slice_get, slice_get_within}
-use Rattle.pagable_model.specs.declared.error.Error.{Error}
-use Rattle.pagable_model.specs.Meaning.{reference, rename}
-use Rattle.pagable_model.specs.References.{references_in}
-use Rattle.pagable_model.specs.Reading.{Rest, deepest}
-use Rattle.pagable_model.specs.Form.{Form}
-use Rattle.pagable_model.specs.Writing.{kind_of_arc}
-use Rattle.pagable_model.specs.Canonical.{IsReadable, Throughout}
-use Rattle.pagable_model.specs.Deep.{Kid, kid, kind_of_kid}
-use Rattle.pagable_model.specs.Trees.{KeyRef, key_ref, IsFollowed, number-followed, integer-followed, text-followed, pattern-followed, none-followed, pair-followed, variant-followed, reference-followed}
-use Rattle.pagable_model.specs.Merkle.{unfolded, TreeForm, blob_of, KeyOf, key-of, KeysOf, no-keys, more-keys, kind_of_ref, key_of_ref, StoredAs}
-use Rattle.pagable_world.specs.Plain.{ArcRef, Identity, Meaning, Shape, Tree, tree, Types, type_of, Among, if_there, one, times}
-use Rattle.pagable_world.specs.declared.handles.HandleRow.{HandleRow}
-use Rattle.pagable_world.specs.Kinds.{identity_of, held, is_handle, is_owned_by, owner_value}
-use Rattle.pagable_world.specs.World.{Core, Cell, Shelf, Slot, Outcome, published, Written, Values, IsLawful, digest, type_at}
-use Rattle.pagable_world.specs.Workers.{IsPublished}
-use Rattle.pagable_world.specs.Pager.{PagerState, WellFormed, HandlesAreWhole, NodeStands, here, away, MeaningStands, number-stands, integer-stands, text-stands, pattern-stands, none-stands, pair-stands, variant-stands, followed-stands, reference-stands, Represents, IsWrittenOf, kids_of}
-use Rattle.pagable_world.specs.Runs.{HoldsSettled, ReadsItsTypes}
-use Rattle.pagable_world.specs.Headline.{AreKeysOf}
-use Rattle.pagable_laws.specs.FormLaws.{rest, LooksUp, no-references, more-references}
-use Rattle.pagable_laws.specs.PageOutLaws.{Ground, FollowsTo, number-follows, integer-follows, text-follows, pattern-follows, none-follows, pair-follows, variant-follows, reference-follows, WroteTree, KeyStands}
+use Rattle.pagable_laws.proofs.Words.{◌≡◌, ℕ, zero, suc, ◌+◌, ◌<◌, ◌≤◌, ◌==◌, ◌&&◌, Bool, true, false, List, [], ◌∷◌, map, Option, Some, None, Result, Ok, refl, sym, ap, subst, ◌∙◌, inr, arith}
+use Rattle.pagable_laws.proofs.Words.{is_some, nat_lt, slice_get, nat_tests, append-nil, sum_by-cons, get_or_from_slice_get, slice_get_within, Error, reference, rename, references_in, Rest}
+use Rattle.pagable_laws.proofs.Words.{deepest, Form, kind_of_arc, IsReadable, Throughout, Kid, kid, kind_of_kid, KeyRef, key_ref, IsFollowed, number-followed, integer-followed, text-followed}
+use Rattle.pagable_laws.proofs.Words.{pattern-followed, none-followed, pair-followed, variant-followed, reference-followed, unfolded, TreeForm, blob_of, KeyOf, key-of, KeysOf, no-keys, more-keys}
+use Rattle.pagable_laws.proofs.Words.{kind_of_ref, key_of_ref, StoredAs, ArcRef, Identity, Meaning, Shape, Tree, tree, Types, type_of, Among, if_there, one, times, HandleRow, identity_of, held}
+use Rattle.pagable_laws.proofs.Words.{is_handle, is_owned_by, owner_value, Core, Cell, Shelf, Slot, Outcome, published, Written, Values, IsLawful, digest, type_at, IsPublished, PagerState}
+use Rattle.pagable_laws.proofs.Words.{WellFormed, HandlesAreWhole, NodeStands, here, away, MeaningStands, number-stands, integer-stands, text-stands, pattern-stands, none-stands, pair-stands}
+use Rattle.pagable_laws.proofs.Words.{variant-stands, followed-stands, reference-stands, Represents, IsWrittenOf, kids_of, HoldsSettled, ReadsItsTypes, AreKeysOf, rest, LooksUp, no-references}
+use Rattle.pagable_laws.proofs.Words.{more-references, Ground, FollowsTo, number-follows, integer-follows, text-follows, pattern-follows, none-follows, pair-follows, variant-follows}
+use Rattle.pagable_laws.proofs.Words.{reference-follows, WroteTree, KeyStands}
 use Rattle.pagable_laws.proofs.Again.{read_again}
 use Rattle.pagable_laws.proofs.Along.{Along, pair-along, variant-along, reference-along, followed-along, AllTwo, no-two, more-two}
 use Rattle.pagable_laws.proofs.Related.{Out, both-given, both-refused, first-refused, both-looked-up, read_par}
@@ -47,12 +31,14 @@ module _ {A : Type 0} where
   each-among P [] h = no-two
   each-among P (a ∷ k) h = more-two a a k k (h a (0, refl)) (each-among P k (λ b among. h b (suc among.0, among.1)))
 
-  along-out : {S : A → A → Type 0} {R : A → A → Type 0} {m : Meaning A} {after : Rest A} {first second : Result (Meaning A × Rest A) Error} → Out no_cause S (Along ⊥ R) first second → first ≡ Ok (m, after) → (n : Meaning A) × Along ⊥ R m n
+  along-out : {S : A → A → Type 0} {R : A → A → Type 0} {m : Meaning A} {after : Rest A} {first second : Result (Meaning A × Rest A) Error} → Out no_cause S (Along ⊥ R) first second
+      → first ≡ Ok (m, after) → (n : Meaning A) × Along ⊥ R m n
   along-out {R = R} {m} {after} (both-given p q v s) e = let same : p ≡ (m, after) = cc in (q.0, subst (λ (x : Meaning A × Rest A). Along ⊥ R x.0 q.0) same v)
   along-out (both-refused x) e = absurd (cc)
   along-out (first-refused x r c) e = absurd c
 
-  pub references-among : {kind_of : A → ℕ} {parts : ℕ → Shape} {s : Shape} {m : Meaning A} {b : List ℕ} {k : List A} → Throughout IsReadable parts s → Form A kind_of parts deepest s m b k → (n : Meaning A) × Along ⊥ (λ a c. Among k a) m n
+  pub references-among : {kind_of : A → ℕ} {parts : ℕ → Shape} {s : Shape} {m : Meaning A} {b : List ℕ} {k : List A} → Throughout IsReadable parts s
+      → Form A kind_of parts deepest s m b k → (n : Meaning A) × Along ⊥ (λ a c. Among k a) m n
   references-among {kind_of} {parts} {s} {m} {b} {k} can f =
       let whole = read_again parts s can 0 (λ kind a. Ok a) kind_of m b [] k k [] (itself kind_of k) f in
       let par = read_par {E = no_cause} {F = ⊥} {S = λ a c. Among k a} {R = λ a c. Among k a} (λ kind a. Ok a) (λ kind a. Ok a) (λ kind a c s. both-looked-up a c s) 0 s (inr can) in
@@ -155,29 +141,34 @@ module _ {N E : Type 0} {v : Values N} {s : PagerState N E} {trees : ℕ → Tre
   follows-to (followed-stands i x a h) (followed-along j x2 a2 f k) = absurd f
   follows-to (reference-stands r a h) (reference-along r2 c among) = reference-follows r a among (heads r a among h)
 
-module _ {N E : Type 0} {v : Values N} {s : PagerState N E} {trees : ℕ → Tree} (represents : Represents v s trees) (whole : WellFormed v s) (settled : HoldsSettled v s) (reads : ReadsItsTypes v.types) (lawful : IsLawful v) where
+module _ {N E : Type 0} {v : Values N} {s : PagerState N E} {trees : ℕ → Tree} (represents : Represents v s trees) (whole : WellFormed v s) (settled : HoldsSettled v s)
+    (reads : ReadsItsTypes v.types) (lawful : IsLawful v) where
   -- a value names no handle twice
   names-once : (n : ℕ) (x : N) (own : Meaning ArcRef) → s.values n ≡ Some x → v.means x own → (q : ℕ) → times (λ (r : ArcRef). r.handle.0 == q) (references_in own) ≤ 1
   names-once n x own there means q =
       let a = lawful.refers x own means (λ r. r.handle.0 == q) in
       let b = whole.inside n x q there in
-      let c = sum-le (λ (h : HandleRow). one (is_handle q h && is_owned_by (owner_value n) h)) (λ (h : HandleRow). one (is_handle q h)) s.core.rows (λ h among. one-less (is_handle q h) (is_owned_by (owner_value n) h)) in
+      let c = sum-le (λ (h : HandleRow). one (is_handle q h && is_owned_by (owner_value n) h)) (λ (h : HandleRow). one (is_handle q h)) s.core.rows
+      (λ h among. one-less (is_handle q h) (is_owned_by (owner_value n) h)) in
       let d = handles-once whole.whole.handles q in
       omega (arith, a, b, c, d)
 
-  refers : (n : ℕ) (x : N) (r : ArcRef) → s.values n ≡ Some x → Among (v.references x) r → (r.node.0 ≤ s.core.last.node) × ((b : Meaning ⊥) → NodeStands v s r.node.0 (tree (type_of r.kind.0) b) → (trees r.node.0).meaning ≡ b)
+  refers : (n : ℕ) (x : N) (r : ArcRef) → s.values n ≡ Some x → Among (v.references x) r
+      → (r.node.0 ≤ s.core.last.node) × ((b : Meaning ⊥) → NodeStands v s r.node.0 (tree (type_of r.kind.0) b) → (trees r.node.0).meaning ≡ b)
   refers n x r there among =
       let is = whole.references n x r there among in
       let given = given-of whole.whole.handles r.node.0 is.typed in
       let types : (trees r.node.0).type ≡ type_of r.kind.0 = same_some _ _ (sym (represents.typed r.node.0 given.0) ∙ is.typed) in
       (given.1, λ b stands. one-node settled (represents.stands r.node.0 given.0) stands types)
 
-  wrote-of : (n : ℕ) (written : Written) (t : Tree) → t ≡ trees n → NodeStands v s n t → IsWrittenOf v s n written → WroteTree v.types (record { stored = s.core.stored; last = s.core.last.node; trees = trees }) n written
+  wrote-of : (n : ℕ) (written : Written) (t : Tree) → t ≡ trees n → NodeStands v s n t → IsWrittenOf v s n written
+      → WroteTree v.types (record { stored = s.core.stored; last = s.core.last.node; trees = trees }) n written
   wrote-of n written t is (here n2 x own t2 there typed means stands fits) w =
       let same : w.x ≡ x = same_some _ _ (sym w.held ∙ there) in
       let own_is : own ≡ w.form.own = settled n w.x w.held w.form.own own w.form.means (subst (λ z. v.means z own) (sym same) means) in
       let meant : MeaningStands v s w.form.own (trees n).meaning = subst (λ (z : Tree). MeaningStands v s w.form.own z.meaning) is (subst (λ m. MeaningStands v s m t.meaning) own_is stands) in
-      let shape_is : v.types.nodes (trees n).type ≡ Some w.form.shape = ap (λ (z : Tree). v.types.nodes z.type) (sym is) ∙ ap v.types.nodes (sym typed) ∙ ap (λ z. v.types.nodes (v.node_type z)) (sym same) ∙ w.form.is in
+      let shape_is : v.types.nodes (trees n).type ≡ Some w.form.shape = ap (λ (z : Tree). v.types.nodes z.type) (sym is) ∙ ap v.types.nodes (sym typed)
+      ∙ ap (λ z. v.types.nodes (v.node_type z)) (sym same) ∙ w.form.is in
       let of-value : (r : ArcRef) → Among written.references r → Among (v.references w.x) r = λ r among. subst (λ (rs : List ArcRef). Among rs r) w.listed among in
       let alone = references-among (reads (trees n).type w.form.shape shape_is) w.form.form in
       record {
@@ -241,7 +232,8 @@ module _ {N : Type 0} {v : Values N} {g : Ground} {shelf : Shelf} (right : (i : 
   keys-of (r ∷ rs) [] known = absurd known
   keys-of (r ∷ rs) (k ∷ ks) ((h, p), known) = more-keys _ _ k ks (kid-key r k h p) (keys-of rs ks known)
 
-  follows-keys : (rs : List ArcRef) (keys : List ℕ) → AreKeysOf shelf rs keys → {x : Meaning ArcRef} {a : Meaning ⊥} → FollowsTo g.trees rs x a → IsFollowed (StoredAs g.stored v.types) (rename (keyed_by shelf) x) a
+  follows-keys : (rs : List ArcRef) (keys : List ℕ) → AreKeysOf shelf rs keys → {x : Meaning ArcRef} {a : Meaning ⊥} → FollowsTo g.trees rs x a
+      → IsFollowed (StoredAs g.stored v.types) (rename (keyed_by shelf) x) a
   unfolding rename
   follows-keys rs keys known (number-follows i) = number-followed i
   follows-keys rs keys known (integer-follows i) = integer-followed i
@@ -254,32 +246,33 @@ module _ {N : Type 0} {v : Values N} {g : Ground} {shelf : Shelf} (right : (i : 
       let p = known-of shelf rs keys known r among in
       let stands = right (identity_of r) p.0 p.1.0 p.1.1 in
       let P : ℕ → ℕ → Type 0 = λ t k. StoredAs g.stored v.types t k stands.right.stands.own in
-      reference-followed (keyed_by shelf r) stands.right.stands.own a (subst (λ k. P (type_of r.kind.0) k) (sym (known-key shelf r p.0 p.1.0 p.1.1)) (subst (λ t. P t p.0) stands.typed stands.right.stands.stands))
+      reference-followed (keyed_by shelf r) stands.right.stands.own a
+      (subst (λ k. P (type_of r.kind.0) k) (sym (known-key shelf r p.0 p.1.0 p.1.1)) (subst (λ t. P t p.0) stands.typed stands.right.stands.stands))
       (subst (λ m. IsFollowed (StoredAs g.stored v.types) stands.right.stands.own m) is stands.right.stands.follows)
 
 renamed-kids : (trees : ℕ → Tree) (rs : List ArcRef) {x : Meaning ArcRef} {a : Meaning ⊥} → FollowsTo trees rs x a → rename (λ (r : ArcRef). kid r.kind.0 (trees r.node.0).meaning) x ≡ unfolded a
 unfolding rename unfolded
-renamed-kids trees rs (number-follows i) = refl
-renamed-kids trees rs (integer-follows i) = refl
-renamed-kids trees rs (text-follows i) = refl
-renamed-kids trees rs (pattern-follows i) = refl
-renamed-kids trees rs none-follows = refl
 renamed-kids trees rs (pair-follows x y a b h k) = rw (renamed-kids trees rs h, renamed-kids trees rs k) refl
 renamed-kids trees rs (variant-follows i x a h) = rw (renamed-kids trees rs h) refl
 renamed-kids trees rs (reference-follows r a among is) = ap (λ (m : Meaning ⊥). let z : Meaning Kid = reference (kid r.kind.0 m) in z) is
+renamed-kids trees rs _ = refl
 
 -- what was written is a form of the node's tree
-pub tree-form : {types : Types} {g : Ground} {n : ℕ} {written : Written} → (w : WroteTree types g n written) → TreeForm types w.shape (g.trees n).meaning written.bytes (kids_of g.trees written.references)
+pub tree-form : {types : Types} {g : Ground} {n : ℕ} {written : Written} → (w : WroteTree types g n written)
+    → TreeForm types w.shape (g.trees n).meaning written.bytes (kids_of g.trees written.references)
 tree-form {types} {g} {n} {written} w =
     let f = keeps_forms (λ (r : ArcRef). kid r.kind.0 (g.trees r.node.0).meaning) kind_of_arc kind_of_kid types.parts deepest w.shape w.own written.bytes written.references (λ r. refl) w.form in
     subst (λ m. Form Kid kind_of_kid types.parts deepest w.shape m written.bytes (kids_of g.trees written.references)) (renamed-kids g.trees written.references w.follows) f
 
 -- its blob is of the tree's key, under which the tree is stored
-pub key-stands : {N : Type 0} {v : Values N} {g : Ground} {shelf : Shelf} {n key : ℕ} {written : Written} (keys : List ℕ) → ((i : Identity) (k h : ℕ) → IsPublished shelf i k h → IdentityStands v g i k)
-    → WroteTree v.types g n written → AreKeysOf shelf written.references keys → g.stored key ≡ Some (blob_of written.bytes keys) → key ≡ digest v (blob_of written.bytes keys) → KeyStands v g.stored (g.trees n) key
+pub key-stands : {N : Type 0} {v : Values N} {g : Ground} {shelf : Shelf} {n key : ℕ} {written : Written} (keys : List ℕ)
+    → ((i : Identity) (k h : ℕ) → IsPublished shelf i k h → IdentityStands v g i k)
+    → WroteTree v.types g n written → AreKeysOf shelf written.references keys → g.stored key ≡ Some (blob_of written.bytes keys) → key ≡ digest v (blob_of written.bytes keys)
+    → KeyStands v g.stored (g.trees n) key
 key-stands {v = v} {g} {shelf} {n} {key} {written} keys right w known is_stored is =
     record {
-      is_key = subst (λ k. KeyOf v.hash v.types (g.trees n) k) (sym is) (key-of (g.trees n) w.shape written.bytes (kids_of g.trees written.references) keys w.is (tree-form w) (keys-of right written.references keys known));
+      is_key = subst (λ k. KeyOf v.hash v.types (g.trees n) k) (sym is)
+          (key-of (g.trees n) w.shape written.bytes (kids_of g.trees written.references) keys w.is (tree-form w) (keys-of right written.references keys known));
       stands = record {
         own = rename (keyed_by shelf) w.own;
         stands = record {

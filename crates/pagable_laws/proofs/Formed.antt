@@ -1,14 +1,8 @@
 -- Where a key is known, the tree has a form, and so has each that it reaches.
-use Rattle.std.proofs.Common.{◌≡◌, ℕ, Bool, true, false, List, refl, sym, ap, subst, ◌∙◌, inl, inr}
-use Rattle.pagable_model.specs.Meaning.{pair, variant, followed}
-use Rattle.pagable_model.specs.Merkle.{TreeForm}
-use Rattle.pagable_world.specs.Plain.{ArcRef, Identity, Meaning, Tree, tree, type_of, Among}
-use Rattle.pagable_world.specs.Kinds.{identity_of}
-use Rattle.pagable_world.specs.World.{Shelf, Written, Task, of_item, of_entry, Values}
-use Rattle.pagable_world.specs.Workers.{IsPublished}
-use Rattle.pagable_world.specs.Pager.{MachineState, kids_of}
-use Rattle.pagable_world.specs.OneWorker.{Reaches, refers, refers-on, in-first, in-rest, in-part, HasNoForm, LeadsToNoForm, IsFormlessTask}
-use Rattle.pagable_laws.specs.PageOutLaws.{ground_of, FollowsTo, number-follows, integer-follows, text-follows, pattern-follows, none-follows, pair-follows, variant-follows, reference-follows, WroteTree, WorkFits, IsDone}
+use Rattle.pagable_laws.proofs.Words.{◌≡◌, ℕ, Bool, true, false, List, refl, sym, ap, subst, ◌∙◌, inl, inr, pair, variant, followed, TreeForm, ArcRef, Identity, Meaning, Tree, tree, type_of}
+use Rattle.pagable_laws.proofs.Words.{Among, identity_of, Shelf, Written, Task, of_item, of_entry, Values, IsPublished, MachineState, kids_of, Reaches, refers, refers-on, in-first, in-rest}
+use Rattle.pagable_laws.proofs.Words.{in-part, HasNoForm, LeadsToNoForm, IsFormlessTask, ground_of, FollowsTo, number-follows, integer-follows, text-follows, pattern-follows, none-follows}
+use Rattle.pagable_laws.proofs.Words.{pair-follows, variant-follows, reference-follows, WroteTree, WorkFits, IsDone}
 use Rattle.pagable_laws.proofs.Trees.{same_some, tree_is}
 use Rattle.pagable_laws.proofs.Following.{known-of, tree-form}
 

@@ -1,27 +1,17 @@
 -- What a step does to the plain world as far as trees feel it, with no premise: the parts of which the summary of each call is made.
-use Rattle.std.proofs.Common.{◌≡◌, ℕ, ◌+◌, ◌<◌, ◌≤◌, ◌==◌, ◌&&◌, Bool, true, false, List, [], ◌∷◌, ◌++◌, refl, ap, sym, subst, ◌∙◌, inl, inr, arith}
-use Rattle.std.specs.Prelude.{Option, Some, None, ◌⊎◌, if◌then◌else◌}
-use Rattle.std.proofs.lemmas.Bool.Decides.{nat_tests}
-use Rattle.pagable_world.specs.Plain.{Blob, ArcRef, Kind, type_of, HandleNumber, LoadNumber, NodeNumber, OptionalDataKey, changed, updated, if_there}
-use Rattle.pagable_world.specs.declared.handles.HandleRow.{HandleRow}
-use Rattle.pagable_world.specs.declared.handles.Owner.{Owner}
-use Rattle.pagable_world.specs.declared.rows.Mode.{Mode}
-use Rattle.pagable_world.specs.declared.handles.Owner.TheVariants as owners
-use Rattle.pagable_model.specs.declared.data_key.OptionalDataKey.TheVariants as optional
-use Rattle.pagable_world.specs.Kinds.{find_row, is_handle, mode_of, is_loose}
-use Rattle.pagable_world.specs.World.{Core, Cell, OpenLoad, Root, Last, Alike, type_at, key_at}
-use Rattle.pagable_world.specs.Cascade.{AreNewEntries, Falls, FallsAnyhow, fallen, left_rows}
-use Rattle.pagable_world.specs.Calls.{row_of, with_handle, with_node, with_key, with_cached, next_node, moved}
-use Rattle.pagable_world.specs.LoadCalls.{with_load, adopted}
+use Rattle.pagable_laws.proofs.Words.{◌≡◌, ℕ, ◌+◌, ◌<◌, ◌≤◌, ◌==◌, ◌&&◌, Bool, true, false, List, [], ◌∷◌, ◌++◌, refl, ap, sym, subst, ◌∙◌, inl, inr, arith, Option, Some, None, ◌⊎◌}
+use Rattle.pagable_laws.proofs.Words.{if◌then◌else◌, nat_tests, Blob, ArcRef, Kind, type_of, HandleNumber, LoadNumber, NodeNumber, OptionalDataKey, changed, updated, if_there, HandleRow, Owner}
+use Rattle.pagable_laws.proofs.Words.{Mode, find_row, is_handle, mode_of, is_loose, Core, Cell, OpenLoad, Root, Last, Alike, type_at, key_at, AreNewEntries, Falls, FallsAnyhow, fallen, left_rows}
+use Rattle.pagable_laws.proofs.Words.{row_of, with_handle, with_node, with_key, with_cached, next_node, moved, with_load, adopted, Change, nothing_felt, sets_key, bears_known, Sets, Knows, Bears}
+use Rattle.pagable_laws.proofs.Words.{BeginsWell}
 use Rattle.pagable_laws.proofs.Sums.{same-number}
-use Rattle.pagable_laws.specs.TreeSteps.{Change, nothing_felt, sets_key, bears_known, Sets, Knows, Bears, BeginsWell}
 
 -- the row of a handle before: at the same node, and the same if it is a load's now; a loose handle stays loose
 pub record Was (rows : List HandleRow) (q : ℕ) (row : HandleRow) : Type 0 where
   pub was : HandleRow
   pub live : find_row q rows ≡ Some was
   pub at : was.node ≡ row.node
-  pub mine : (l : LoadNumber) → row.owner ≡ owners.Load l → was ≡ row
+  pub mine : (l : LoadNumber) → row.owner ≡ Owner.Load l → was ≡ row
   pub loose : is_loose was.mode ≡ true → is_loose row.mode ≡ true
 
 -- each handle up to this number was there
@@ -50,7 +40,7 @@ pub record Kept (c : Change) (w : Core) (n : ℕ) (cell : Cell) : Type 0 where
   pub was : Cell
   pub live : w.cells n ≡ Some was
   pub typed : cell.node_type ≡ was.node_type
-  pub key : (cell.key ≡ was.key) ⊎ ((key : ℕ) × Sets c n key × (cell.key ≡ optional.Some key))
+  pub key : (cell.key ≡ was.key) ⊎ ((key : ℕ) × Sets c n key × (cell.key ≡ OptionalDataKey.Some key))
 
 pub record Goes (c : Change) (w w' : Core) : Type 0 where
   pub nodes : w.last.node ≤ w'.last.node
@@ -101,7 +91,8 @@ pub record Changed (test : HandleRow → Bool) (f : HandleRow → HandleRow) (ro
   pub live : find_row q rows ≡ Some was
   pub is : row ≡ (if test was then f was else was)
 
-pub found-changed : (test : HandleRow → Bool) (f : HandleRow → HandleRow) → ((h : HandleRow) → (f h).number ≡ h.number) → (q : ℕ) (rows : List HandleRow) (row : HandleRow) → find_row q (changed test f rows) ≡ Some row → Changed test f rows q row
+pub found-changed : (test : HandleRow → Bool) (f : HandleRow → HandleRow) → ((h : HandleRow) → (f h).number ≡ h.number) → (q : ℕ) (rows : List HandleRow) (row : HandleRow)
+    → find_row q (changed test f rows) ≡ Some row → Changed test f rows q row
 unfolding find_row
 found-changed test f same q [] row found = absurd (cc)
 found-changed test f same q (h ∷ hs) row found = at (λ e. found-changed test f same q hs row e) (is_handle q h) refl
@@ -124,9 +115,10 @@ found-changed test f same q (h ∷ hs) row found = at (λ e. found-changed test 
         rest (back found') is
 
 abbrev pub NotLoads : Owner → Type 0
-NotLoads o = (l : LoadNumber) → o ≡ owners.Load l → ⊥
+NotLoads o = (l : LoadNumber) → o ≡ Owner.Load l → ⊥
 
-pub rows-mode : (last : ℕ) (rows : List HandleRow) (h : HandleNumber) (mode : Mode) → is_loose mode ≡ true → ((r : HandleRow) → find_row h.0 rows ≡ Some r → NotLoads r.owner) → RowsGo last rows (changed (is_handle h.0) (λ row. record row { mode = mode }) rows)
+pub rows-mode : (last : ℕ) (rows : List HandleRow) (h : HandleNumber) (mode : Mode) → is_loose mode ≡ true → ((r : HandleRow) → find_row h.0 rows ≡ Some r → NotLoads r.owner)
+    → RowsGo last rows (changed (is_handle h.0) (λ row. record row { mode = mode }) rows)
 rows-mode last rows h mode is_so free q row found few = let c = found-changed (is_handle h.0) (λ row. record row { mode = mode }) (λ r. refl) q rows row found in at c (is_handle h.0 c.was) refl
   where
     at : (c : Changed (is_handle h.0) (λ row. record row { mode = mode }) rows q row) → (b : Bool) → is_handle h.0 c.was ≡ b → Was rows q row
@@ -138,7 +130,8 @@ rows-mode last rows h mode is_so free q row found few = let c = found-changed (i
     at c false is = let e : row ≡ c.was = rw is at c.is in record { was = c.was; live = c.live; at = sym (ap (λ (r : HandleRow). r.node) e); mine = λ l mine. sym e; loose = λ was. ap is_loose (ap (λ (r : HandleRow). r.mode) e) ∙ was }
 
 pub rows-moved : (last : ℕ) (rows : List HandleRow) (s : ℕ → Bool) (owner : Owner) → NotLoads owner → RowsGo last rows (moved s owner rows)
-rows-moved last rows s owner free q row found few = let c = found-changed (λ (r : HandleRow). s r.number.0) (λ row. record row { owner = owner }) (λ r. refl) q rows row found in at c (s c.was.number.0) refl
+rows-moved last rows s owner free q row found few = let c = found-changed (λ (r : HandleRow). s r.number.0) (λ row. record row { owner = owner }) (λ r. refl) q rows row found in
+    at c (s c.was.number.0) refl
   where
     at : (c : Changed (λ (r : HandleRow). s r.number.0) (λ row. record row { owner = owner }) rows q row) → (b : Bool) → s c.was.number.0 ≡ b → Was rows q row
     at c true is =
@@ -174,15 +167,18 @@ unfolding find_row
 found-left gone q [] row found = absurd (cc)
 found-left gone q (h ∷ hs) row found = at (λ f. found-left gone q hs row f) (gone h.number.0) refl (is_handle q h) refl
   where
-    at : (find_row q (left_rows gone hs) ≡ Some row → (find_row q hs ≡ Some row) × (gone q ≡ false)) → (b : Bool) → gone h.number.0 ≡ b → (d : Bool) → is_handle q h ≡ d → (find_row q (h ∷ hs) ≡ Some row) × (gone q ≡ false)
+    at : (find_row q (left_rows gone hs) ≡ Some row → (find_row q hs ≡ Some row) × (gone q ≡ false)) → (b : Bool) → gone h.number.0 ≡ b → (d : Bool) → is_handle q h ≡ d
+        → (find_row q (h ∷ hs) ≡ Some row) × (gone q ≡ false)
     at back true goes true is =
         let f : find_row q (left_rows gone hs) ≡ Some row = rw goes at found in
         let b = back f in
         let e : gone q ≡ true = sym (ap gone (same-number _ _ is)) ∙ goes in
         absurd (cc)
     at back true goes false is = let f : find_row q (left_rows gone hs) ≡ Some row = rw goes at found in let b = back f in (rw is b.0, b.1)
-    at back false goes true is = let f : find_row q (h ∷ left_rows gone hs) ≡ Some row = rw goes at found in let g : Some h ≡ Some row = rw is at f in (rw is g, sym (ap gone (same-number _ _ is)) ∙ goes)
-    at back false goes false is = let f : find_row q (h ∷ left_rows gone hs) ≡ Some row = rw goes at found in let g : find_row q (left_rows gone hs) ≡ Some row = rw is at f in let b = back g in (rw is b.0, b.1)
+    at back false goes true is = let f : find_row q (h ∷ left_rows gone hs) ≡ Some row = rw goes at found in let g : Some h ≡ Some row = rw is at f in
+        (rw is g, sym (ap gone (same-number _ _ is)) ∙ goes)
+    at back false goes false is = let f : find_row q (h ∷ left_rows gone hs) ≡ Some row = rw goes at found in let g : find_row q (left_rows gone hs) ≡ Some row = rw is at f in let b = back g in
+        (rw is b.0, b.1)
 
 pub rows-left : (last : ℕ) (rows : List HandleRow) (gone : ℕ → Bool) → RowsGo last rows (left_rows gone rows)
 rows-left last rows gone q row found few = record { was = row; live = (found-left gone q rows row found).0; at = refl; mine = λ l is. refl; loose = λ is. is }
@@ -222,10 +218,31 @@ alike {w} {w'} a =
       shut = λ is. (a.closed ∙ is.0, λ q. a.stored q ∙ is.1 q);
     }
 
+-- nodes and what is stored stay, and what is said of the other parts is so
+pub parts : {w : Core} {rows : List HandleRow} {list : List HandleNumber} {cells : ℕ → Option Cell} {loads : ℕ → Option OpenLoad} {cache : ℕ → ℕ → Option ℕ} {workers : ℕ → Bool} {last worker : ℕ}
+    → w.last.handle ≤ last → w.last.worker ≤ worker → ((n : ℕ) (cell : Cell) → cells n ≡ Some cell → w.cells n ≡ Some cell) → ((l : ℕ) (load : OpenLoad) → loads l ≡ Some load → w.loads l ≡ Some load)
+    → ((kind key n : ℕ) → cache kind key ≡ Some n → w.cache kind key ≡ Some n) → RowsGo w.last.handle w.rows rows
+    → Quiet w (record w { rows = rows; list = list; cells = cells; loads = loads; cache = cache; workers = workers; last = record w.last { handle = last; worker = worker } })
+parts {w} handles workers cells loads cache go = record {
+  nodes = le-self w.last.node;
+  handles = handles;
+  loads_last = le-self w.last.load;
+  workers_last = workers;
+  cells = cells;
+  stored = λ q blob is. is;
+  loads = loads;
+  cache = cache;
+  rows = go;
+  shut = λ is. is;
+}
+
+pub quiet-self : (w : Core) → Quiet w w
+quiet-self w = parts (le-self _) (le-self _) (λ n cell is. is) (λ l load is. is) (λ kind key n is. is) (rows-self w.last.handle w.rows w.rows refl)
+
 -- rows and list alone change
-pub only-rows : {w : Core} {rows : List HandleRow} {list : List HandleNumber} {last : ℕ} → RowsGo w.last.handle w.rows rows → w.last.handle ≤ last → Quiet w (record w { rows = rows; list = list; last = record w.last { handle = last } })
-only-rows {w} go le =
-    record { nodes = le-self w.last.node; handles = le; loads_last = le-self w.last.load; workers_last = le-self w.last.worker; cells = λ n cell is. is; stored = λ q blob is. is; loads = λ l load is. is; cache = λ kind key n is. is; rows = go; shut = λ is. is }
+pub only-rows : {w : Core} {rows : List HandleRow} {list : List HandleNumber} {last : ℕ} → RowsGo w.last.handle w.rows rows → w.last.handle ≤ last
+    → Quiet w (record w { rows = rows; list = list; last = record w.last { handle = last } })
+only-rows go le = parts le (le-self _) (λ n cell is. is) (λ l load is. is) (λ kind key n is. is) go
 
 if-some : {X : Type 0} (b : Bool) (x : Option X) (y : X) → (if b then x else None) ≡ Some y → x ≡ Some y
 if-some true x y is = is
@@ -235,19 +252,9 @@ pub fell : {before w w' : Core} {given : ℕ → Bool} {r : _} → Falls before 
 fell {before} {w} {w'} f = quiet-then {m = fallen w f.gone f.entries} falls (alike f.leaves)
   where
     falls : Quiet w (fallen w f.gone f.entries)
-    falls =
-        record {
-          nodes = le-of _ _ refl;
-          handles = le-more _ _;
-          loads_last = le-of _ _ refl;
-          workers_last = le-of _ _ refl;
-          cells = λ n cell is. if-some _ (w.cells n) cell is;
-          stored = λ q blob is. is;
-          loads = λ l load is. is;
-          cache = λ kind key n is. is;
-          rows = rows-then w.last.handle w.last.handle w.rows (left_rows f.gone w.rows) _ (le-of _ _ refl) (rows-left w.last.handle w.rows f.gone) (rows-more w.last.handle (left_rows f.gone w.rows) f.entries (λ q few. none-in-new w.last.handle q f.entries f.new few));
-          shut = λ is. is;
-        }
+    falls = parts (le-more _ _) (le-self _) (λ n cell is. if-some _ (w.cells n) cell is) (λ l load is. is) (λ kind key n is. is)
+        (rows-then w.last.handle w.last.handle w.rows (left_rows f.gone w.rows) _ (le-of _ _ refl) (rows-left w.last.handle w.rows f.gone)
+        (rows-more w.last.handle (left_rows f.gone w.rows) f.entries (λ q few. none-in-new w.last.handle q f.entries f.new few)))
 
 pub fell-anyhow : {before w w' : Core} {given : ℕ → Bool} → FallsAnyhow before w given w' → Quiet w w'
 fell-anyhow f = fell f.falls
@@ -313,9 +320,11 @@ born c w t key references bears =
       shut = λ is. is;
     }
 
-keyed-cell : (w : Core) (m : ℕ) (key : ℕ) (cell : Cell) (found : Option Cell) → w.cells m ≡ found → if_there (λ (x : Cell). Some (record x { key = optional.Some key })) None found ≡ Some cell → Kept (sets_key m key) w m cell
+keyed-cell : (w : Core) (m : ℕ) (key : ℕ) (cell : Cell) (found : Option Cell) → w.cells m ≡ found
+    → if_there (λ (x : Cell). Some (record x { key = OptionalDataKey.Some key })) None found ≡ Some cell → Kept (sets_key m key) w m cell
 keyed-cell w m key cell None there is = absurd (cc)
-keyed-cell w m key cell (Some was) there is = let e : record was { key = optional.Some key } ≡ cell = cc in record { was = was; live = there; typed = sym (ap (λ (x : Cell). x.node_type) e); key = inr (key, (refl, refl), sym (ap (λ (x : Cell). x.key) e)) }
+keyed-cell w m key cell (Some was) there is = let e : record was { key = OptionalDataKey.Some key } ≡ cell = cc in
+    record { was = was; live = there; typed = sym (ap (λ (x : Cell). x.node_type) e); key = inr (key, (refl, refl), sym (ap (λ (x : Cell). x.key) e)) }
 
 pub keyed : (w : Core) (node : NodeNumber) (key : ℕ) → Goes (sets_key node.0 key) w (with_key w node key)
 keyed w node key =
@@ -381,17 +390,17 @@ quiet-begins {w} {m} {w'} a b =
       shut = λ is. b.shut (a.shut is);
     }
   where
-    kept-key : {n : ℕ} {cell : Cell} → (k : Kept nothing_felt m n cell) → (cell.key ≡ k.was.key) ⊎ ((key : ℕ) × Sets nothing_felt n key × (cell.key ≡ optional.Some key))
+    kept-key : {n : ℕ} {cell : Cell} → (k : Kept nothing_felt m n cell) → (cell.key ≡ k.was.key) ⊎ ((key : ℕ) × Sets nothing_felt n key × (cell.key ≡ OptionalDataKey.Some key))
     kept-key k = elim k.key [
       | inl same ↦ inl same
       | inr (key, none, is) ↦ absurd none
     ]
 
-    both : (n t key : ℕ) (found : Option Cell) → m.cells n ≡ found → type_at m n ≡ Some t → key_at m n ≡ optional.Some key → (type_at w n ≡ Some t) × (key_at w n ≡ optional.Some key)
+    both : (n t key : ℕ) (found : Option Cell) → m.cells n ≡ found → type_at m n ≡ Some t → key_at m n ≡ OptionalDataKey.Some key → (type_at w n ≡ Some t) × (key_at w n ≡ OptionalDataKey.Some key)
     both n t key None there typed own = let e : type_at m n ≡ None = rw there refl in absurd (cc)
     both n t key (Some cell) there typed own =
         let e : w.cells n ≡ m.cells n = a.cells n cell there ∙ sym there in
-        (ap (λ (x : Option Cell). if_there (λ (c : Cell). Some c.node_type) None x) e ∙ typed, ap (λ (x : Option Cell). if_there (λ (c : Cell). c.key) optional.None x) e ∙ own)
+        (ap (λ (x : Option Cell). if_there (λ (c : Cell). Some c.node_type) None x) e ∙ typed, ap (λ (x : Option Cell). if_there (λ (c : Cell). c.key) OptionalDataKey.None x) e ∙ own)
 
 at-cached : (k q m kind key n : ℕ) (old : Option ℕ) (b d : Bool) → (kind == k) ≡ b → (key == q) ≡ d → (if b && d then Some m else old) ≡ Some n → ((kind ≡ k) × (key ≡ q) × (n ≡ m)) ⊎ (old ≡ Some n)
 at-cached k q m kind key n old true true e f is = let g : m ≡ n = cc in inl (same-number _ _ e, same-number _ _ f, sym g)
@@ -425,4 +434,5 @@ goes-known-if a kind key n knows false = goes-known a kind key n knows
 
 pub adopts : (w : Core) (l : LoadNumber) (kind : Kind) (key : ℕ) (own : OptionalDataKey) (references : List ArcRef) → Goes (bears_known kind.0 key own) w (adopted w l kind key own references)
 adopts w l kind key own references =
-    goes-known-if (goes-quiet (born (bears_known kind.0 key own) w (type_of kind.0) own references (refl, refl)) (a-handle _ (next_node w) (mode_of kind.0) (owners.Load l))) kind key (next_node w) (refl, refl, refl) w.closed
+    goes-known-if (goes-quiet (born (bears_known kind.0 key own) w (type_of kind.0) own references (refl, refl)) (a-handle _ (next_node w) (mode_of kind.0) (Owner.Load l))) kind key
+    (next_node w) (refl, refl, refl) w.closed

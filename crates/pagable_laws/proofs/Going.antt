@@ -1,12 +1,7 @@
 -- A worker's step keeps what stands of its to-do list and of its table.
-use Rattle.std.proofs.Common.{◌≡◌, ℕ, zero, suc, ◌||◌, ◌⊎◌, Bool, true, false, List, [], ◌∷◌, ◌++◌, refl, ap, sym, ◌∙◌, inl, inr}
-use Rattle.std.specs.Prelude.{Option, Some, None, drop, length, max}
-use Rattle.pagable_world.specs.Plain.{ArcRef, Identity, HandleNumber, Among, above}
-use Rattle.pagable_world.specs.declared.events.WorkerAnswer.{WorkerAnswer}
-use Rattle.pagable_world.specs.Kinds.{identity_of}
-use Rattle.pagable_world.specs.World.{Shelf, Slot, no_result, Written, Open, Fault, Todo, to_start, to_pin, to_load, to_write, to_finish, to_item, to_set, to_publish, to_release, to_fail, Task, is_identity}
-use Rattle.pagable_world.specs.Workers.{next_start, settle, give}
-use Rattle.pagable_world.specs.Headline.{Meets, meets-of-item, meets-below}
+use Rattle.pagable_laws.proofs.Words.{◌≡◌, ℕ, zero, suc, ◌||◌, ◌⊎◌, Bool, true, false, List, [], ◌∷◌, ◌++◌, refl, ap, sym, ◌∙◌, inl, inr, Option, Some, None, drop, length, max, ArcRef, Identity}
+use Rattle.pagable_laws.proofs.Words.{HandleNumber, Among, above, WorkerAnswer, identity_of, Shelf, Slot, no_result, Written, Open, Fault, Todo, to_start, to_pin, to_load, to_write, to_finish}
+use Rattle.pagable_laws.proofs.Words.{to_item, to_set, to_publish, to_release, to_fail, Task, is_identity, next_start, settle, give, Meets, meets-of-item, meets-below}
 use Rattle.pagable_laws.proofs.Standing.{is_open_of, is_open_in, is_failing, HasClaim, IsMetClaim, Stands, AllStand, Covers, HasNoFailed}
 use Rattle.pagable_laws.proofs.Changing.{Changes, ShelfGrows, some-none, grows, meets-grow, published-stays, same-slots, is-self, is-same}
 
@@ -34,8 +29,12 @@ not-true false never = refl
 -- ---- what stands goes on to stand
 
 module _ (u : ℕ) (task : Task) (shelf shelf' : Shelf) (more : ShelfGrows shelf shelf') where
-  claim-stays : (i : Identity) {so : Option Written → Type 0} → ((slot : Slot) → shelf.slots i ≡ Some slot → slot.worker ≡ u → shelf'.slots i ≡ Some slot) → IsMetClaim shelf u task i so → IsMetClaim shelf' u task i so
-  claim-stays i keeps (meets, c) = (meets-grow shelf shelf' task i more meets, record { slot = c.slot; claimed = keeps c.slot c.claimed c.own; own = c.own; no_result_yet = c.no_result_yet; written_so = c.written_so })
+  claim-stays : (i : Identity) {so : Option Written → Type 0} → ((slot : Slot) → shelf.slots i ≡ Some slot → slot.worker ≡ u → shelf'.slots i ≡ Some slot) → IsMetClaim shelf u task i so
+      → IsMetClaim shelf' u task i so
+  claim-stays i keeps (meets, c) = (
+    meets-grow shelf shelf' task i more meets,
+    record { slot = c.slot; claimed = keeps c.slot c.claimed c.own; own = c.own; no_result_yet = c.no_result_yet; written_so = c.written_so },
+  )
 
   -- each claim that this is about is kept
   abbrev pub KeepsOf : (Identity → Bool) → Type 0
@@ -105,7 +104,8 @@ module _ (v : ℕ) (task : Task) where
 
   -- the same slots
   module _ (shelf shelf' : Shelf) (same : (i : Identity) → shelf'.slots i ≡ shelf.slots i) (clean : HasNoFailed shelf v) where
-    pub plain : (answer : Option WorkerAnswer) (todo : List Todo) → ((a : WorkerAnswer) → answer ≡ Some a → todo ≡ []) → AllStand shelf v task todo → CoversBy shelf todo → Goes shelf answer shelf' todo
+    pub plain : (answer : Option WorkerAnswer) (todo : List Todo) → ((a : WorkerAnswer) → answer ≡ Some a → todo ≡ []) → AllStand shelf v task todo → CoversBy shelf todo
+        → Goes shelf answer shelf' todo
     plain answer todo done all covers =
         record {
           changes = same-slots v shelf shelf' same;
@@ -129,10 +129,12 @@ module _ (v : ℕ) (task : Task) where
         }
 
     -- what stands at the front becomes something else about the same claim
-    pub swaps : (x y : Todo) (below : List Todo) → AllStand shelf v task (x ∷ below) → CoversBy shelf (x ∷ below) → ((i : Identity) → is_open_of i y ≡ is_open_of i x) → (Stands shelf v task x below → Stands shelf v task y below) → Goes shelf None shelf' (y ∷ below)
+    pub swaps : (x y : Todo) (below : List Todo) → AllStand shelf v task (x ∷ below) → CoversBy shelf (x ∷ below) → ((i : Identity) → is_open_of i y ≡ is_open_of i x)
+        → (Stands shelf v task x below → Stands shelf v task y below) → Goes shelf None shelf' (y ∷ below)
     unfolding AllStand is_open_in
     swaps x y below (stands, apart, rest) covers about goes =
-        plain None (y ∷ below) (λ a is. absurd (cc)) (goes stands, (λ i is. apart i (sym (about i) ∙ is)), rest) (λ i slot there own still. ap (λ b. b || is_open_in i below) (about i) ∙ covers i slot there own still)
+        plain None (y ∷ below) (λ a is. absurd (cc)) (goes stands, (λ i is. apart i (sym (about i) ∙ is)), rest)
+        (λ i slot there own still. ap (λ b. b || is_open_in i below) (about i) ∙ covers i slot there own still)
 
   -- ---- references are started
 
@@ -142,7 +144,8 @@ module _ (v : ℕ) (task : Task) where
   among-drop (suc k) (x ∷ rs) r among = let a = among-drop k rs r among in (suc a.0, a.1)
 
   module _ (shelf : Shelf) where
-    started : (place : ℕ) (rs : List ArcRef) (todo : List Todo) → ((r : ArcRef) → Among rs r → Meets shelf task (identity_of r)) → AllStand shelf v task todo → AllStand shelf v task (next_start place rs ++ todo)
+    started : (place : ℕ) (rs : List ArcRef) (todo : List Todo) → ((r : ArcRef) → Among rs r → Meets shelf task (identity_of r)) → AllStand shelf v task todo
+        → AllStand shelf v task (next_start place rs ++ todo)
     unfolding AllStand
     started place [] todo meets all = all
     started place (r ∷ rs) todo meets all = (meets r (zero, refl), (λ i is. absurd (cc)), all)
@@ -161,7 +164,8 @@ module _ (v : ℕ) (task : Task) where
     pub item-settles : (written : Written) (keys : List ℕ) (below : List Todo) → AllStand shelf v task (to_item written keys ∷ below) → AllStand shelf v task (settle (to_item written keys ∷ below))
     unfolding AllStand
     item-settles written keys below ((is, last), apart, rest) =
-        started 0 (drop (length keys) written.references) (to_item written keys ∷ below) (λ r among. meets-of-item written r is (among-drop (length keys) written.references r among)) ((is, last), apart, rest)
+        started 0 (drop (length keys) written.references) (to_item written keys ∷ below) (λ r among. meets-of-item written r is (among-drop (length keys) written.references r among))
+        ((is, last), apart, rest)
 
     pub gives : (r : ArcRef) (key height : ℕ) (todo : List Todo) → AllStand shelf v task todo → AllStand shelf v task (give r key height todo)
     unfolding AllStand

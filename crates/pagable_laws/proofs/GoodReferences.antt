@@ -1,19 +1,8 @@
 -- References that nothing is to be said against name handles of their owner, as they should. A handle that is given up doesn't bring a value back.
-use Rattle.std.proofs.Common.{◌≡◌, ℕ, zero, suc, ◌+◌, ◌≤◌, ◌==◌, ◌&&◌, ◌||◌, Bool, true, false, List, [], ◌∷◌, ◌++◌, cond, refl, ap, sym, subst, ◌∙◌, arith}
-use Rattle.std.specs.Prelude.{Option, Some, None, not, nat_lt, is_some}
-use Rattle.std.proofs.lemmas.Bool.Decides.{nat_tests}
-use Rattle.std.proofs.lemmas.List.Sums.{sum_by-cons}
-use Rattle.pagable_world.specs.Plain.{ArcRef, type_of, OptionalDataKey, is_in, or_else, if_there, one}
-use Rattle.pagable_world.specs.declared.handles.Owner.{Owner}
-use Rattle.pagable_world.specs.declared.handles.HandleRow.{HandleRow}
-use Rattle.pagable_world.specs.declared.handles.Owner.TheVariants as owners
-use Rattle.pagable_model.specs.declared.data_key.OptionalDataKey.TheVariants as optional
-use Rattle.pagable_model.specs.declared.error.Error.TheVariants as errors
-use Rattle.pagable_world.specs.Kinds.{is_owner, fits_mode, pins, is_pin, is_in_memory, has_key}
-use Rattle.pagable_world.specs.World.{Core, Cell, row_at, type_at, key_at, is_here, Alike}
-use Rattle.pagable_world.specs.Cascade.{AreNewEntries, Falls, left_rows}
-use Rattle.pagable_world.specs.Refusals.{refused_if, is_type, row_fault, reference_fault, references_fault, IsReference}
-use Rattle.pagable_laws.specs.TreeSteps.{AreGood, StaysAway}
+use Rattle.pagable_laws.proofs.Words.{◌≡◌, ℕ, zero, suc, ◌+◌, ◌≤◌, ◌==◌, ◌&&◌, ◌||◌, Bool, true, false, List, [], ◌∷◌, ◌++◌, cond, refl, ap, sym, subst, ◌∙◌, arith, Option, Some, None, not}
+use Rattle.pagable_laws.proofs.Words.{nat_lt, is_some, nat_tests, sum_by-cons, ArcRef, type_of, OptionalDataKey, is_in, or_else, if_there, one, Owner, HandleRow, Error, is_owner, fits_mode, pins}
+use Rattle.pagable_laws.proofs.Words.{is_pin, is_in_memory, has_key, Core, Cell, row_at, type_at, key_at, is_here, Alike, AreNewEntries, Falls, left_rows, refused_if, is_type, row_fault}
+use Rattle.pagable_laws.proofs.Words.{reference_fault, references_fault, IsReference, AreGood, StaysAway}
 use Rattle.pagable_laws.proofs.Sums.{same-number}
 use Rattle.pagable_laws.proofs.Goes.{Quiet, alike, fell}
 
@@ -22,18 +11,14 @@ or-none None b is = (refl, is)
 or-none (Some x) b is = absurd (cc)
 
 pub same-owner : (o p : Owner) → is_owner o p ≡ true → p ≡ o
-same-owner owners.Caller owners.Caller is = refl
-same-owner owners.List owners.List is = refl
-same-owner (owners.Value n) (owners.Value k) is = ap (λ x. owners.Value (record { 0 = x })) (same-number k.0 n.0 is)
-same-owner (owners.Load n) (owners.Load k) is = ap (λ x. owners.Load (record { 0 = x })) (same-number k.0 n.0 is)
-same-owner (owners.Worker n) (owners.Worker k) is = ap (λ x. owners.Worker (record { 0 = x })) (same-number k.0 n.0 is)
-same-owner owners.Caller p is = absurd (cc)
-same-owner owners.List p is = absurd (cc)
-same-owner (owners.Value n) p is = absurd (cc)
-same-owner (owners.Load n) p is = absurd (cc)
-same-owner (owners.Worker n) p is = absurd (cc)
+same-owner Owner.Caller Owner.Caller is = refl
+same-owner Owner.List Owner.List is = refl
+same-owner (Owner.Value n) (Owner.Value k) is = ap (λ x. Owner.Value (record { 0 = x })) (same-number k.0 n.0 is)
+same-owner (Owner.Load n) (Owner.Load k) is = ap (λ x. Owner.Load (record { 0 = x })) (same-number k.0 n.0 is)
+same-owner (Owner.Worker n) (Owner.Worker k) is = ap (λ x. Owner.Worker (record { 0 = x })) (same-number k.0 n.0 is)
+same-owner _ p is = absurd (cc)
 
-typed-by : (t : ℕ) (found : Option ℕ) → is_type t found ≡ true → found ≡ Some t
+pub typed-by : (t : ℕ) (found : Option ℕ) → is_type t found ≡ true → found ≡ Some t
 typed-by t None is = absurd (cc)
 typed-by t (Some u) is = ap (λ (x : ℕ). Some x) (same-number u t is)
 
@@ -41,16 +26,20 @@ module _ (w : Core) (owner : Owner) where
   good-one : (seen : List ℕ) (r : ArcRef) → reference_fault w owner seen r ≡ None → IsReference w owner r
   good-one seen r none = by-row (row_at w r.handle) refl none
     where
-      by-row : (found : Option HandleRow) → row_at w r.handle ≡ found → if_there (λ (row : HandleRow). row_fault w r (refused_if (not (is_owner owner row.owner) || is_in seen r.handle.0) errors.NotYours) row) (Some errors.NoSuchHandle) found ≡ None → IsReference w owner r
+      by-row : (found : Option HandleRow) → row_at w r.handle ≡ found
+          → if_there (λ (row : HandleRow). row_fault w r (refused_if (not (is_owner owner row.owner) || is_in seen r.handle.0) Error.NotYours) row) (Some Error.NoSuchHandle) found ≡ None
+          → IsReference w owner r
       by-row None live none = absurd (cc)
-      by-row (Some row) live none = at (row.node.0 == r.node.0) refl (is_owner owner row.owner) refl (is_in seen r.handle.0) refl (fits_mode r.kind.0 row.mode) refl (is_type (type_of r.kind.0) (type_at w r.node.0)) refl
+      by-row (Some row) live none = at (row.node.0 == r.node.0) refl (is_owner owner row.owner) refl (is_in seen r.handle.0) refl (fits_mode r.kind.0 row.mode) refl
+          (is_type (type_of r.kind.0) (type_at w r.node.0)) refl
         where
-          at : (a : Bool) → (row.node.0 == r.node.0) ≡ a → (b : Bool) → is_owner owner row.owner ≡ b → (c : Bool) → is_in seen r.handle.0 ≡ c → (d : Bool) → fits_mode r.kind.0 row.mode ≡ d → (e : Bool) → is_type (type_of r.kind.0) (type_at w r.node.0) ≡ e → IsReference w owner r
-          at false p b q c s d t e u = let f : Some errors.NoSuchHandle ≡ None = rw p at none in absurd (cc)
-          at true p false q c s d t e u = let f : Some errors.NotYours ≡ None = rw (p, q) at none in absurd (cc)
-          at true p true q true s d t e u = let f : Some errors.NotYours ≡ None = rw (p, q, s) at none in absurd (cc)
-          at true p true q false s false t e u = let f : Some errors.WrongMode ≡ None = rw (p, q, s, t) at none in absurd (cc)
-          at true p true q false s true t false u = let f : Some errors.WrongKind ≡ None = rw (p, q, s, t, u) at none in absurd (cc)
+          at : (a : Bool) → (row.node.0 == r.node.0) ≡ a → (b : Bool) → is_owner owner row.owner ≡ b → (c : Bool) → is_in seen r.handle.0 ≡ c → (d : Bool)
+              → fits_mode r.kind.0 row.mode ≡ d → (e : Bool) → is_type (type_of r.kind.0) (type_at w r.node.0) ≡ e → IsReference w owner r
+          at false p b q c s d t e u = let f : Some Error.NoSuchHandle ≡ None = rw p at none in absurd (cc)
+          at true p false q c s d t e u = let f : Some Error.NotYours ≡ None = rw (p, q) at none in absurd (cc)
+          at true p true q true s d t e u = let f : Some Error.NotYours ≡ None = rw (p, q, s) at none in absurd (cc)
+          at true p true q false s false t e u = let f : Some Error.WrongMode ≡ None = rw (p, q, s, t) at none in absurd (cc)
+          at true p true q false s true t false u = let f : Some Error.WrongKind ≡ None = rw (p, q, s, t, u) at none in absurd (cc)
           at true p true q false s true t true u =
               record { row = row; live = live; at = ap (λ x. record { 0 = x }) (same-number row.node.0 r.node.0 p); owned = same-owner owner row.owner q; fits = t; typed = typed-by (type_of r.kind.0) (type_at w r.node.0) u }
 
@@ -76,7 +65,7 @@ still-away w w' q fewer n away there = at (w'.cells n) refl there
     at : (found : Option Cell) → w'.cells n ≡ found → is_some found ≡ true → is_here w' n ≡ false
     at None e is = absurd (cc)
     at (Some cell) e is =
-        let same : key_at w' n ≡ key_at w n = ap (λ (x : Option Cell). if_there (λ (c : Cell). c.key) optional.None x) (e ∙ sym (q.cells n cell e)) in
+        let same : key_at w' n ≡ key_at w n = ap (λ (x : Option Cell). if_there (λ (c : Cell). c.key) OptionalDataKey.None x) (e ∙ sym (q.cells n cell e)) in
         subst (λ k. is_in_memory (pins n w'.rows) k ≡ false) (sym same) (away-by (pins n w.rows) (pins n w'.rows) (key_at w n) (fewer n) away)
 
 pub alike-away : {w w' : Core} → Alike w w' → (n : ℕ) → StaysAway w w' n
@@ -93,9 +82,11 @@ pins-left n gone [] more k none = le-of _ none
   where
     le-of : (b : ℕ) → b ≡ 0 → b ≤ 0
     le-of b is = omega arith
-pins-left n gone (h ∷ hs) more k none = at (gone h.number.0) (pins-left n gone hs more k none) (sum_by-cons (λ x. one (is_pin n x)) h hs) (sum_by-cons (λ x. one (is_pin n x)) h (left_rows gone hs ++ more))
+pins-left n gone (h ∷ hs) more k none = at (gone h.number.0) (pins-left n gone hs more k none) (sum_by-cons (λ x. one (is_pin n x)) h hs)
+    (sum_by-cons (λ x. one (is_pin n x)) h (left_rows gone hs ++ more))
   where
-    at : (b : Bool) → pins n (left_rows gone hs ++ more) ≤ pins n hs → pins n (h ∷ hs) ≡ one (is_pin n h) + pins n hs → pins n (h ∷ left_rows gone hs ++ more) ≡ one (is_pin n h) + pins n (left_rows gone hs ++ more)
+    at : (b : Bool) → pins n (left_rows gone hs ++ more) ≤ pins n hs → pins n (h ∷ hs) ≡ one (is_pin n h) + pins n hs
+        → pins n (h ∷ left_rows gone hs ++ more) ≡ one (is_pin n h) + pins n (left_rows gone hs ++ more)
         → pins n (cond (not b) (h ∷ left_rows gone hs) (left_rows gone hs) ++ more) ≤ pins n (h ∷ hs)
     at true le a b = omega arith
     at false le a b = omega arith

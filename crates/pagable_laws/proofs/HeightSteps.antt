@@ -1,22 +1,9 @@
 -- A worker's step keeps heights low, and so does each event.
-use Rattle.std.proofs.Common.{◌≡◌, ℕ, ◌+◌, ◌≤◌, Bool, true, false, List, [], ◌∷◌, length, Option, Some, None, Ok, Err, refl, sym, ap, subst, ◌∙◌, arith}
-use Rattle.std.specs.Prelude.{nat_eq}
-use Rattle.std.proofs.lemmas.Bool.Decides.{nat_tests}
-use Rattle.pagable_world.specs.Plain.{ArcRef, Identity, HandleNumber, Tree, WorkerNumber, Among, longest_path}
-use Rattle.pagable_world.specs.declared.events.Claim.TheVariants as claims
-use Rattle.pagable_world.specs.declared.events.PinStep.TheVariants as pinsteps
-use Rattle.pagable_world.specs.declared.events.Took.TheVariants as took
-use Rattle.pagable_world.specs.declared.events.Took.{Took}
-use Rattle.pagable_world.specs.declared.events.Event.{Event}
-use Rattle.pagable_world.specs.declared.events.EventReply.{EventReply}
-use Rattle.pagable_world.specs.declared.events.WorkerReply.{WorkerReply}
-use Rattle.pagable_world.specs.Kinds.{identity_of}
-use Rattle.pagable_world.specs.Order.{step_of}
-use Rattle.pagable_world.specs.World.{Shelf, Slot, no_result, published, Written, Open, Fault, was_failed, was_refused, Todo, to_start, to_pin, to_load, to_write, to_finish, to_item, to_set, to_publish, to_release, to_fail, Task, of_item, of_entry, Walking, World, Seen}
-use Rattle.pagable_world.specs.Workers.{Site, Does, give, give_known, open_node, with_outcome, with_wait, first_todo}
-use Rattle.pagable_world.specs.Events.{WorkerSteps}
-use Rattle.pagable_world.specs.Pager.{MachineState, world_of, IsIdle}
-use Rattle.pagable_laws.specs.PageOutLaws.{Ground, ground_of, Walks, WorkFits}
+use Rattle.pagable_laws.proofs.Words.{◌≡◌, ℕ, ◌+◌, ◌≤◌, Bool, true, false, List, [], ◌∷◌, length, Option, Some, None, Ok, Err, refl, sym, ap, subst, ◌∙◌, arith, nat_eq, nat_tests, ArcRef}
+use Rattle.pagable_laws.proofs.Words.{Identity, HandleNumber, Tree, WorkerNumber, Among, longest_path, Claim, PinStep, Took, Event, EventReply, WorkerReply, identity_of, step_of, Shelf, Slot}
+use Rattle.pagable_laws.proofs.Words.{no_result, published, Written, Open, Fault, was_failed, was_refused, Todo, to_start, to_pin, to_load, to_write, to_finish, to_item, to_set, to_publish}
+use Rattle.pagable_laws.proofs.Words.{to_release, to_fail, Task, of_item, of_entry, Walking, World, Seen, Site, Does, give, give_known, open_node, with_outcome, with_wait, first_todo}
+use Rattle.pagable_laws.proofs.Words.{WorkerSteps, MachineState, world_of, IsIdle, Ground, ground_of, Walks, WorkFits}
 use Rattle.pagable_laws.proofs.Trees.{same_some}
 use Rattle.pagable_laws.proofs.Standing.{AllStand, HasClaim}
 use Rattle.pagable_laws.proofs.Changing.{ShelfGrows, some-same, grows, same-slots, PutsSlot, puts-slot, changes-slot}
@@ -24,7 +11,8 @@ use Rattle.pagable_laws.proofs.Holding.{SameSlots}
 use Rattle.pagable_laws.proofs.Coming.{StandsIn, OwnTurn, rests, begins, steps, EventTurns, updated-at}
 use Rattle.pagable_laws.proofs.Shelves.{keys-grow}
 use Rattle.pagable_laws.proofs.Publishing.{at-number}
-use Rattle.pagable_laws.proofs.Heights.{IsLow, IsAttained, FirstLow, SlotLow, SlotsLow, place_over, WaitsLow, WroteLow, TodoLow, low-on, attained-on, slots-low-on, slots-low-but, slots-low-failed, todo-low-on, all-low, started-low, started-item-low, given-low, given-known-low, opened-low}
+use Rattle.pagable_laws.proofs.Heights.{IsLow, IsAttained, FirstLow, SlotLow, SlotsLow, place_over, WaitsLow, WroteLow, TodoLow, low-on, attained-on, slots-low-on, slots-low-but}
+use Rattle.pagable_laws.proofs.Heights.{slots-low-failed, todo-low-on, all-low, started-low, started-item-low, given-low, given-known-low, opened-low}
 
 -- what one step of a worker leaves
 record DidLow (shelf : Shelf) (todo : List Todo) : Type 0 where
@@ -77,33 +65,30 @@ module _ {N B W : Type 0} (m : Seen N B W) (n : ℕ) (g : Ground) (task : Task) 
 
   stepped : (todo : List Todo) → s.todo ≡ todo → (step : Took W) → Does m n s todo step s' → AllStand s.shelf n task todo → Walks m.values g s.shelf task todo → TodoLow s.shelf todo → Low
   unfolding AllStand
-  stepped (to_start r place ∷ below) e (took.Claim i (Ok claims.Claimed)) (is, c) all walks (at, low) =
+  stepped (to_start r place ∷ below) e (Took.Claim i (Ok Claim.Claimed)) (is, c) all walks (at, low) =
       let t = c.finds.1.2 in
       let puts = puts-slot (with_wait s.shelf n None) s'.shelf (identity_of r) (record { worker = n; written = None; outcome = no_result }) t.table_is in
       did (slots-low-but (keys-grow more) lows puts (no-key (record { worker = n; written = None; outcome = no_result }) refl)) (to_pin r place ∷ below) t.list_is (c.finds.1.0, at, low)
-  stepped (to_start r place ∷ below) e (took.Claim i (Ok (claims.Known key height))) (is, c) all walks (at, low) =
+  stepped (to_start r place ∷ below) e (Took.Claim i (Ok (Claim.Known key height))) (is, c) all walks (at, low) =
       let t = c.finds.1.2 in
       did (kept (λ j. t.table_is.slots j)) (give_known r key height below) t.list_is (given-known-low s.shelf task r key height c.finds.1.1 below walks.0 (
         subst
             (λ q. q + height ≤ longest_path) at c.finds.1.0,
         low,
       ))
-  stepped (to_start r place ∷ below) e (took.Claim i (Ok claims.Waiting)) (is, c) all walks low =
+  stepped (to_start r place ∷ below) e (Took.Claim i (Ok Claim.Waiting)) (is, c) all walks low =
       let t = c.finds.1.2 in did (kept (λ j. t.table_is.slots j)) (to_start r place ∷ below) (t.list_is ∙ e) low
-  stepped (to_start r place ∷ below) e (took.Claim i (Ok claims.AlreadyFailed)) (is, c) all walks low = let t = c.finds.1.2 in fails (λ j. t.table_is.slots j) was_failed t.list_is
-  stepped (to_start r place ∷ below) e (took.Claim i (Err f)) (is, c) all walks low = let t = c.refused.1 in fails (λ j. t.table_is.slots j) (was_refused f) t.list_is
-  stepped (to_start r place ∷ below) e step does all walks low = absurd does
-  stepped (to_pin r place ∷ below) e (took.Pin i (Ok (pinsteps.Held k))) (is, p) all walks low = let t = p.pins.2 in did (kept t.table_stays.slots) _ t.list_is low
-  stepped (to_pin r place ∷ below) e (took.Pin i (Ok (pinsteps.LoadBegun l))) (is, p) all walks low = let t = p.pins.2 in did (kept t.table_stays.slots) _ t.list_is low
-  stepped (to_pin r place ∷ below) e (took.Pin i (Ok pinsteps.LoadWent)) (is, p) all walks low = absurd p.pins
-  stepped (to_pin r place ∷ below) e (took.Pin i (Err f)) (is, p) all walks low = let t = p.refused.1 in fails t.table_stays.slots (was_refused f) t.list_is
-  stepped (to_pin r place ∷ below) e step does all walks low = absurd does
-  stepped (to_load r place through reading ∷ below) e (took.Pin i (Ok (pinsteps.Held k))) (is, p) all walks low = let t = p.goes.1 in did (kept t.table_stays.slots) _ t.list_is low
-  stepped (to_load r place through reading ∷ below) e (took.Pin i (Ok (pinsteps.LoadBegun l))) (is, p) all walks low = absurd p.goes
-  stepped (to_load r place through reading ∷ below) e (took.Pin i (Ok pinsteps.LoadWent)) (is, p) all walks low = let t = p.goes.2 in did (kept t.table_stays.slots) _ t.list_is low
-  stepped (to_load r place through reading ∷ below) e (took.Pin i (Err f)) (is, p) all walks low = let t = p.refused.1 in fails t.table_stays.slots (was_refused f) t.list_is
-  stepped (to_load r place through reading ∷ below) e step does all walks low = absurd does
-  stepped (to_write r place through ∷ below) e (took.Write i (Ok out)) (is, p) (stands, apart, all) walks low =
+  stepped (to_start r place ∷ below) e (Took.Claim i (Ok Claim.AlreadyFailed)) (is, c) all walks low = let t = c.finds.1.2 in fails (λ j. t.table_is.slots j) was_failed t.list_is
+  stepped (to_start r place ∷ below) e (Took.Claim i (Err f)) (is, c) all walks low = let t = c.refused.1 in fails (λ j. t.table_is.slots j) (was_refused f) t.list_is
+  stepped (to_pin r place ∷ below) e (Took.Pin i (Ok (PinStep.Held k))) (is, p) all walks low = let t = p.pins.2 in did (kept t.table_stays.slots) _ t.list_is low
+  stepped (to_pin r place ∷ below) e (Took.Pin i (Ok (PinStep.LoadBegun l))) (is, p) all walks low = let t = p.pins.2 in did (kept t.table_stays.slots) _ t.list_is low
+  stepped (to_pin r place ∷ below) e (Took.Pin i (Ok PinStep.LoadWent)) (is, p) all walks low = absurd p.pins
+  stepped (to_pin r place ∷ below) e (Took.Pin i (Err f)) (is, p) all walks low = let t = p.refused.1 in fails t.table_stays.slots (was_refused f) t.list_is
+  stepped (to_load r place through reading ∷ below) e (Took.Pin i (Ok (PinStep.Held k))) (is, p) all walks low = let t = p.goes.1 in did (kept t.table_stays.slots) _ t.list_is low
+  stepped (to_load r place through reading ∷ below) e (Took.Pin i (Ok (PinStep.LoadBegun l))) (is, p) all walks low = absurd p.goes
+  stepped (to_load r place through reading ∷ below) e (Took.Pin i (Ok PinStep.LoadWent)) (is, p) all walks low = let t = p.goes.2 in did (kept t.table_stays.slots) _ t.list_is low
+  stepped (to_load r place through reading ∷ below) e (Took.Pin i (Err f)) (is, p) all walks low = let t = p.refused.1 in fails t.table_stays.slots (was_refused f) t.list_is
+  stepped (to_write r place through ∷ below) e (Took.Write i (Ok out)) (is, p) (stands, apart, all) walks low =
       let t = p.writes in
       let claim = stands.1 in
       let o : Open = record { reference = r; place = place; through = through; written = m.written_of out; keys = []; height = 0 } in
@@ -111,28 +96,21 @@ module _ {N B W : Type 0} (m : Seen N B W) (n : ℕ) (g : Ground) (task : Task) 
       did (slots-low-but (keys-grow more) lows puts (no-key (record claim.slot { written = Some (m.written_of out) }) claim.no_result_yet)) (open_node r place through
       (m.written_of out) below) t.list_is
       (started-low s.shelf o below _ (opened-low s.shelf r place o below refl refl refl refl low))
-  stepped (to_write r place through ∷ below) e (took.Write i (Err f)) (is, p) all walks low = let t = p.refused.1 in fails t.table_is.slots (was_refused f) t.list_is
-  stepped (to_write r place through ∷ below) e step does all walks low = absurd does
-  stepped (to_finish o ∷ below) e (took.Store i (Ok key)) (is, p) (stands, apart, all) walks low =
+  stepped (to_write r place through ∷ below) e (Took.Write i (Err f)) (is, p) all walks low = let t = p.refused.1 in fails t.table_is.slots (was_refused f) t.list_is
+  stepped (to_finish o ∷ below) e (Took.Store i (Ok key)) (is, p) (stands, apart, all) walks low =
       let t = p.goes in did (kept t.table_stays.slots) _ t.list_is (finishes o below key stands.1 low p.all)
-  stepped (to_finish o ∷ below) e (took.Store i (Err f)) (is, p) all walks low = let t = p.refused in fails t.table_stays.slots (was_refused f) t.list_is
-  stepped (to_finish o ∷ below) e step does all walks low = absurd does
-  stepped (to_item written ks ∷ below) e (took.Store i (Ok key)) (is, p) all walks low = let t = p.goes in did (kept t.table_stays.slots) [] t.list_is tt
-  stepped (to_item written ks ∷ below) e (took.Store i (Err f)) (is, p) all walks low = let t = p.refused in fails t.table_stays.slots (was_refused f) t.list_is
-  stepped (to_item written ks ∷ below) e step does all walks low = absurd does
-  stepped (to_set r through key height ∷ below) e (took.SetKey i (Ok u)) (is, p) all walks low = let t = p.goes in did (kept t.table_stays.slots) _ t.list_is low
-  stepped (to_set r through key height ∷ below) e (took.SetKey i (Err f)) (is, p) all walks low = let t = p.refused in fails t.table_stays.slots (was_refused f) t.list_is
-  stepped (to_set r through key height ∷ below) e step does all walks low = absurd does
-  stepped (to_publish r key height ∷ below) e (took.Publish i k h) (is, same_key, same_height, t) (stands, apart, all) walks (wrote, (reach, low)) =
+  stepped (to_finish o ∷ below) e (Took.Store i (Err f)) (is, p) all walks low = let t = p.refused in fails t.table_stays.slots (was_refused f) t.list_is
+  stepped (to_item written ks ∷ below) e (Took.Store i (Ok key)) (is, p) all walks low = let t = p.goes in did (kept t.table_stays.slots) [] t.list_is tt
+  stepped (to_item written ks ∷ below) e (Took.Store i (Err f)) (is, p) all walks low = let t = p.refused in fails t.table_stays.slots (was_refused f) t.list_is
+  stepped (to_set r through key height ∷ below) e (Took.SetKey i (Ok u)) (is, p) all walks low = let t = p.goes in did (kept t.table_stays.slots) _ t.list_is low
+  stepped (to_set r through key height ∷ below) e (Took.SetKey i (Err f)) (is, p) all walks low = let t = p.refused in fails t.table_stays.slots (was_refused f) t.list_is
+  stepped (to_publish r key height ∷ below) e (Took.Publish i k h) (is, same_key, same_height, t) (stands, apart, all) walks (wrote, (reach, low)) =
       did (publishes r key height below stands.1 wrote reach (λ slot there. changes-slot s.shelf s'.shelf (identity_of r) slot (with_outcome
       (published key height)) there t.table_is)) (to_release r key height ∷ below) t.list_is (reach, low)
-  stepped (to_publish r key height ∷ below) e step does all walks low = absurd does
-  stepped (to_release r key height ∷ below) e (took.Release i) (is, falls, t) all (p, above) low =
+  stepped (to_release r key height ∷ below) e (Took.Release i) (is, falls, t) all (p, above) low =
       did (kept t.table_stays.slots) (give r key height below) t.list_is (given-low s.shelf task r key height p below above.0 low)
-  stepped (to_release r key height ∷ below) e step does all walks low = absurd does
-  stepped (to_fail fault back ∷ below) e took.Fail (back_is, table_is, list_is) all walks low = did (slots-low-failed (keys-grow more) lows n table_is.slots) [] list_is tt
-  stepped (to_fail fault back ∷ below) e step does all walks low = absurd does
-  stepped [] e step does all walks low = absurd does
+  stepped (to_fail fault back ∷ below) e Took.Fail (back_is, table_is, list_is) all walks low = did (slots-low-failed (keys-grow more) lows n table_is.slots) [] list_is tt
+  stepped _ e step does all walks low = absurd does
 
 -- ---- an event
 

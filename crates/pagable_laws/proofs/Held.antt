@@ -1,28 +1,14 @@
 -- What workers hold they hold after each event, and each cell whose key was published by a loose reference has a key.
-use Rattle.std.proofs.Common.{◌≡◌, ℕ, Bool, true, false, List, [], ◌∷◌, ◌++◌, ◌⊎◌, inl, inr, Option, Some, None, Ok, Err, refl, sym, ap, subst, ◌∙◌, if◌then◌else◌, arith}
-use Rattle.std.specs.Prelude.{drop, length, max, nat_eq}
-use Rattle.pagable_model.specs.declared.data_key.OptionalDataKey.TheVariants as optional
-use Rattle.pagable_world.specs.declared.answers.Pinning.TheVariants as pinnings
-use Rattle.pagable_world.specs.declared.answers.Beginning.TheVariants as beginnings
-use Rattle.pagable_world.specs.declared.events.Claim.TheVariants as claims
-use Rattle.pagable_world.specs.declared.events.PinStep.TheVariants as pinsteps
-use Rattle.pagable_world.specs.declared.events.Took.TheVariants as took
-use Rattle.pagable_world.specs.declared.events.Took.{Took}
-use Rattle.pagable_world.specs.Plain.{ArcRef, Identity, NodeNumber, HandleNumber, LoadNumber, is_loose_kind, above, if_there}
-use Rattle.pagable_world.specs.Kinds.{any_mode, identity_of, has_key, owner_worker}
-use Rattle.pagable_world.specs.World.{Core, Cell, Shelf, Slot, no_result, published, failed, Written, Open, Todo, to_start, to_pin, to_load, to_write, to_finish, to_item, to_set, to_publish, to_release, to_fail, Task, of_item, of_entry, is_identity, SameShelf, Seen}
-use Rattle.pagable_world.specs.Calls.{with_key, SetKeyCall}
-use Rattle.pagable_world.specs.Workers.{Site, GoesTo, first_todo, answer_after, Does, PinsAtOnce, PinsByLoad, IsPublished, next_start, settle, give, give_known, with_wait, with_changed_slot, with_outcome, with_failed, is_open_outcome}
-use Rattle.pagable_world.specs.Refusals.{Owns}
-use Rattle.pagable_world.specs.Pager.{HandlesAreWhole}
-use Rattle.pagable_world.specs.declared.events.WorkerAnswer.{WorkerAnswer}
-use Rattle.pagable_world.specs.declared.handles.Owner.TheVariants as owners
-use Rattle.pagable_world.specs.declared.handles.HandleRow.{HandleRow}
-use Rattle.pagable_laws.specs.KeyRuns.{StandsAt, KeyIsSet, is_publishing, AllHold, HasHandle}
+use Rattle.pagable_laws.proofs.Words.{◌≡◌, ℕ, Bool, true, false, List, [], ◌∷◌, ◌++◌, ◌⊎◌, inl, inr, Option, Some, None, Ok, Err, refl, sym, ap, subst, ◌∙◌, if◌then◌else◌, arith, drop, length}
+use Rattle.pagable_laws.proofs.Words.{max, nat_eq, OptionalDataKey, Pinning, Beginning, Claim, PinStep, Took, ArcRef, Identity, NodeNumber, HandleNumber, LoadNumber, is_loose_kind, above}
+use Rattle.pagable_laws.proofs.Words.{if_there, any_mode, identity_of, has_key, owner_worker, Core, Cell, Shelf, Slot, no_result, published, failed, Written, Open, Todo, to_start, to_pin}
+use Rattle.pagable_laws.proofs.Words.{to_load, to_write, to_finish, to_item, to_set, to_publish, to_release, to_fail, Task, of_item, of_entry, is_identity, SameShelf, Seen, with_key, SetKeyCall}
+use Rattle.pagable_laws.proofs.Words.{Site, GoesTo, first_todo, answer_after, Does, PinsAtOnce, PinsByLoad, IsPublished, next_start, settle, give, give_known, with_wait, with_changed_slot}
+use Rattle.pagable_laws.proofs.Words.{with_outcome, with_failed, is_open_outcome, Owns, HandlesAreWhole, WorkerAnswer, Owner, HandleRow, StandsAt, KeyIsSet, is_publishing, AllHold, HasHandle}
+use Rattle.pagable_laws.proofs.Words.{Change, nothing_felt}
 use Rattle.pagable_laws.proofs.Trees.{same_some}
 use Rattle.pagable_laws.proofs.Outlasting.{NotValues, Stands, stands-whole, stands-alike, stands-fell}
 use Rattle.pagable_laws.proofs.Goes.{Goes, fell, keyed, goes-quiet, quiet-goes}
-use Rattle.pagable_laws.specs.TreeSteps.{Change, nothing_felt}
 use Rattle.pagable_laws.proofs.Calling.{pins, begins}
 use Rattle.pagable_laws.proofs.WalkSteps.{works-free, walk-goes}
 use Rattle.pagable_laws.proofs.Changing.{PutsSlot, puts-slot, put-cases, is-same}
@@ -77,11 +63,12 @@ first-quiet (of_entry h i) = refl
 
 -- ---- keys that are set
 
-cell-keyed : (key : ℕ) (found : Option Cell) (cell : Cell) → if_there (λ (x : Cell). Some (record x { key = optional.Some key })) None found ≡ Some cell → has_key cell.key ≡ true
+cell-keyed : (key : ℕ) (found : Option Cell) (cell : Cell) → if_there (λ (x : Cell). Some (record x { key = OptionalDataKey.Some key })) None found ≡ Some cell → has_key cell.key ≡ true
 cell-keyed key None cell is = absurd (cc)
-cell-keyed key (Some was) cell is = let e : record was { key = optional.Some key } ≡ cell = cc in ap (λ (x : Cell). has_key x.key) (sym e)
+cell-keyed key (Some was) cell is = let e : record was { key = OptionalDataKey.Some key } ≡ cell = cc in ap (λ (x : Cell). has_key x.key) (sym e)
 
-key-set : {w w' : Core} (v : ℕ) (r : ArcRef) (through : HandleNumber) (key : ℕ) (u : Unit {0}) → StandsAt w r through → SetKeyCall w (owner_worker v) through key (Ok u) w' → is_loose_kind r.kind.0 ≡ true → KeyIsSet w' r.node.0
+key-set : {w w' : Core} (v : ℕ) (r : ArcRef) (through : HandleNumber) (key : ℕ) (u : Unit {0}) → StandsAt w r through → SetKeyCall w (owner_worker v) through key (Ok u) w'
+    → is_loose_kind r.kind.0 ≡ true → KeyIsSet w' r.node.0
 key-set {w} {w'} v r through key u s call kind = elim call.does [
   | inl refused ↦ let f = refused.told in absurd (cc)
   | inr (row, owns, inl (other, told, a)) ↦ let f = (s.is row owns.live).1 kind in absurd (cc)
@@ -91,20 +78,22 @@ key-set {w} {w'} v r through key u s call kind = elim call.does [
       record {
         given = let a = s.node_given in let b = goes.nodes in omega arith;
         keyed = λ cell live. let now = (fell f).cells row.node.0 cell (subst (λ n. w'.cells n.0 ≡ Some cell) (sym same) live) in
-            cell-keyed key (w.cells row.node.0) cell (sym (updated-at row.node.0 (if_there (λ (x : Cell). Some (record x { key = optional.Some key })) None (w.cells row.node.0)) w.cells) ∙ now);
+            cell-keyed key (w.cells row.node.0) cell (sym (updated-at row.node.0 (if_there (λ (x : Cell). Some (record x { key = OptionalDataKey.Some key })) None (w.cells row.node.0)) w.cells) ∙ now);
       }
 ]
 
 -- the worker has the handle still through which it has set a key
-still-held : {w w' : Core} (v : ℕ) (r : ArcRef) (through : HandleNumber) (key : ℕ) (u : Unit {0}) → HandlesAreWhole w → StandsAt w r through → SetKeyCall w (owner_worker v) through key (Ok u) w' → HasHandle w' v r.node.0
+still-held : {w w' : Core} (v : ℕ) (r : ArcRef) (through : HandleNumber) (key : ℕ) (u : Unit {0}) → HandlesAreWhole w → StandsAt w r through
+    → SetKeyCall w (owner_worker v) through key (Ok u) w' → HasHandle w' v r.node.0
 still-held {w} {w'} v r through key u whole s call = elim call.does [
   | inl refused ↦ let f = refused.told in absurd (cc)
   | inr (row, owns, inl (other, told, a)) ↦ held row owns (stands-alike a (stands-whole whole through.0 row owns.live))
-  | inr (row, owns, inr (loose, f)) ↦ let s : Stands (with_key w row.node key).last.handle (with_key w row.node key).rows through.0 row = stands-whole whole through.0 row owns.live in held row owns (stands-fell f (no-value row owns.own) refl s)
+  | inr (row, owns, inr (loose, f)) ↦ let s : Stands (with_key w row.node key).last.handle (with_key w row.node key).rows through.0 row = stands-whole whole through.0 row owns.live in
+      held row owns (stands-fell f (no-value row owns.own) refl s)
 ]
   where
     no-value : (row : HandleRow) → row.owner ≡ owner_worker v → NotValues row.owner
-    no-value row own n is = let f : owner_worker v ≡ owners.Value n = sym own ∙ is in absurd (cc)
+    no-value row own n is = let f : owner_worker v ≡ Owner.Value n = sym own ∙ is in absurd (cc)
 
     held : (row : HandleRow) → Owns w (owner_worker v) through any_mode row → Stands w'.last.handle w'.rows through.0 row → HasHandle w' v r.node.0
     held row owns stands = record { h = through; row = row; live = stands.live; own = owns.own; at = ap (λ (n : NodeNumber). n.0) (s.is row owns.live).0 }
@@ -131,7 +120,8 @@ module _ (shelf shelf' : Shelf) (P : Identity → Type 0) where
   of-some f (Some old) slot e = (old, refl, same_some _ _ e)
 
   -- one slot changes
-  changed-reveals : (i : Identity) (f : Slot → Slot) → SameShelf (with_changed_slot shelf i f) shelf' → ((old : Slot) (key height : ℕ) → (f old).outcome ≡ published key height → (old.outcome ≡ published key height) ⊎ P i) → Reveals shelf shelf' P
+  changed-reveals : (i : Identity) (f : Slot → Slot) → SameShelf (with_changed_slot shelf i f) shelf'
+      → ((old : Slot) (key height : ℕ) → (f old).outcome ≡ published key height → (old.outcome ≡ published key height) ⊎ P i) → Reveals shelf shelf' P
   changed-reveals i f same back j key height p = by (is_identity i j) refl
     where
       slots-by : (b : Bool) → is_identity i j ≡ b → (if b then if_there (λ (z : Slot). Some (f z)) None (shelf.slots i) else shelf.slots j) ≡ Some p.slot
@@ -179,13 +169,17 @@ module _ {N B W : Type 0} (m : Seen N B W) (v : ℕ) (s s' : Site) (whole : Hand
   stays same e quiet all = leaves e quiet all (same-reveals s.shelf s'.shelf KeyThere same)
 
   -- a key is set, and is published next
-  sets : (i : Identity) (u : Unit {0}) (r : ArcRef) (through : HandleNumber) (key height : ℕ) (below : List Todo) → s.todo ≡ to_set r through key height ∷ below → StandsAt s.core r through → SetKeyCall s.core (owner_worker v) through key (Ok u) s'.core
-      → GoesTo s (to_publish r key height ∷ below) s' → is_publishing below ≡ false → AllHold s'.core below → Leaves (took.SetKey i (Ok u))
+  sets : (i : Identity) (u : Unit {0}) (r : ArcRef) (through : HandleNumber) (key height : ℕ) (below : List Todo) → s.todo ≡ to_set r through key height ∷ below
+      → StandsAt s.core r through → SetKeyCall s.core (owner_worker v) through key (Ok u) s'.core
+      → GoesTo s (to_publish r key height ∷ below) s' → is_publishing below ≡ false → AllHold s'.core below → Leaves (Took.SetKey i (Ok u))
   unfolding AllHold
   sets i u r through key height below e stands call t quiet all =
       record {
         all = subst (λ x. AllHold s'.core x) (sym t.list_is) (key-set v r through key u stands call, quiet, all);
-        front = λ r2 k2 h2 b2 is. (subst (λ n. HasHandle s'.core v n) (same-front (sym t.list_is ∙ is)) (still-held v r through key u whole stands call), ap (λ x. let P : Took W → Option WorkerAnswer = answer_after x in P (took.SetKey i (Ok u))) e);
+        front = λ r2 k2 h2 b2 is. (
+          subst (λ n. HasHandle s'.core v n) (same-front (sym t.list_is ∙ is)) (still-held v r through key u whole stands call),
+          ap (λ x. let P : Took W → Option WorkerAnswer = answer_after x in P (Took.SetKey i (Ok u))) e,
+        );
         reveals = same-reveals s.shelf s'.shelf KeyThere t.table_stays.slots;
       }
     where
@@ -195,57 +189,54 @@ module _ {N B W : Type 0} (m : Seen N B W) (v : ℕ) (s s' : Site) (whole : Hand
   pinned-stands : (r : ArcRef) (through k : HandleNumber) → StandsAt s.core r r.handle → PinsAtOnce s.core (owner_worker v) r through k s'.core → StandsAt s'.core r through
   pinned-stands r through k stands does = elim does [
     | inl (row, same, clone) ↦ subst (λ h. StandsAt s'.core r h) (sym same) (clone-stands whole r k stands clone)
-    | inr (row, (mid, clone, pin)) ↦ stands-on (quiet-goes nothing_felt (pins (works-free v) (Ok (pinnings.Pinned k)) pin)) (clone-stands whole r through stands clone)
+    | inr (row, (mid, clone, pin)) ↦ stands-on (quiet-goes nothing_felt (pins (works-free v) (Ok (Pinning.Pinned k)) pin)) (clone-stands whole r through stands clone)
   ]
 
   begun-stands : (r : ArcRef) (through : HandleNumber) (l : LoadNumber) → StandsAt s.core r r.handle → PinsByLoad s.core (owner_worker v) r through l s'.core → StandsAt s'.core r through
-  begun-stands r through l stands (row, (mid, key, clone, begin)) = stands-on (begins (Ok (beginnings.Load l key)) begin) (clone-stands whole r through stands clone)
+  begun-stands r through l stands (row, (mid, key, clone, begin)) = stands-on (begins (Ok (Beginning.Load l key)) begin) (clone-stands whole r through stands clone)
 
   stepped : {c : Change} (todo : List Todo) (step : Took W) → s.todo ≡ todo → Does m v s todo step s' → Goes c s.core s'.core → AllHold s.core todo → Leaves step
   unfolding AllHold
-  stepped (to_start r place ∷ below) (took.Claim i (Ok claims.Claimed)) e (is, c) f (h, quiet, all) =
+  stepped (to_start r place ∷ below) (Took.Claim i (Ok Claim.Claimed)) e (is, c) f (h, quiet, all) =
       let t = c.finds.1.2 in
       let new : Slot = record { worker = v; written = None; outcome = no_result } in
       leaves t.list_is refl (stands-on f (claimed-stands whole r c.finds.0), quiet, all-on f below all)
       (new-reveals s.shelf s'.shelf KeyThere (identity_of r) new refl (puts-slot (with_wait s.shelf v None) s'.shelf (identity_of r) new t.table_is))
-  stepped (to_start r place ∷ below) (took.Claim i (Ok (claims.Known key height))) e (is, c) f (h, quiet, all) = let t = c.finds.1.2 in stays t.table_is.slots t.list_is (known-quiet r key height below quiet) (known s'.core r key height below (all-on f below all))
-  stepped (to_start r place ∷ below) (took.Claim i (Ok claims.Waiting)) e (is, c) f (h, quiet, all) = let t = c.finds.1.2 in stays t.table_is.slots (t.list_is ∙ e) refl (tt, quiet, all-on f below all)
-  stepped (to_start r place ∷ below) (took.Claim i (Ok claims.AlreadyFailed)) e (is, c) f all = let t = c.finds.1.2 in stays t.table_is.slots t.list_is refl (tt, refl, tt)
-  stepped (to_start r place ∷ below) (took.Claim i (Err x)) e (is, c) f all = let t = c.refused.1 in stays t.table_is.slots t.list_is refl (tt, refl, tt)
-  stepped (to_start r place ∷ below) step e does f all = absurd does
-  stepped (to_pin r place ∷ below) (took.Pin i (Ok (pinsteps.Held k))) e (is, p) f (h, quiet, all) = let t = p.pins.2 in stays t.table_stays.slots t.list_is refl (pinned-stands r p.pins.0 k h p.pins.1, quiet, all-on f below all)
-  stepped (to_pin r place ∷ below) (took.Pin i (Ok (pinsteps.LoadBegun l))) e (is, p) f (h, quiet, all) = let t = p.pins.2 in stays t.table_stays.slots t.list_is refl (begun-stands r p.pins.0 l h p.pins.1, quiet, all-on f below all)
-  stepped (to_pin r place ∷ below) (took.Pin i (Ok pinsteps.LoadWent)) e (is, p) f all = absurd p.pins
-  stepped (to_pin r place ∷ below) (took.Pin i (Err x)) e (is, p) f all = let t = p.refused.1 in stays t.table_stays.slots t.list_is refl (tt, refl, tt)
-  stepped (to_pin r place ∷ below) step e does f all = absurd does
-  stepped (to_load r place through reading ∷ below) (took.Pin i (Ok (pinsteps.Held k))) e (is, p) f (h, quiet, all) = let t = p.goes.1 in stays t.table_stays.slots t.list_is refl (stands-on f h, quiet, all-on f below all)
-  stepped (to_load r place through reading ∷ below) (took.Pin i (Ok (pinsteps.LoadBegun l))) e (is, p) f all = absurd p.goes
-  stepped (to_load r place through reading ∷ below) (took.Pin i (Ok pinsteps.LoadWent)) e (is, p) f (h, quiet, all) = let t = p.goes.2 in stays t.table_stays.slots t.list_is refl (stands-on f h, quiet, all-on f below all)
-  stepped (to_load r place through reading ∷ below) (took.Pin i (Err x)) e (is, p) f all = let t = p.refused.1 in stays t.table_stays.slots t.list_is refl (tt, refl, tt)
-  stepped (to_load r place through reading ∷ below) step e does f all = absurd does
-  stepped (to_write r place through ∷ below) (took.Write i (Ok out)) e (is, p) f (h, quiet, all) =
+  stepped (to_start r place ∷ below) (Took.Claim i (Ok (Claim.Known key height))) e (is, c) f (h, quiet, all) = let t = c.finds.1.2 in
+      stays t.table_is.slots t.list_is (known-quiet r key height below quiet) (known s'.core r key height below (all-on f below all))
+  stepped (to_start r place ∷ below) (Took.Claim i (Ok Claim.Waiting)) e (is, c) f (h, quiet, all) = let t = c.finds.1.2 in stays t.table_is.slots (t.list_is ∙ e) refl (tt, quiet, all-on f below all)
+  stepped (to_start r place ∷ below) (Took.Claim i (Ok Claim.AlreadyFailed)) e (is, c) f all = let t = c.finds.1.2 in stays t.table_is.slots t.list_is refl (tt, refl, tt)
+  stepped (to_start r place ∷ below) (Took.Claim i (Err x)) e (is, c) f all = let t = c.refused.1 in stays t.table_is.slots t.list_is refl (tt, refl, tt)
+  stepped (to_pin r place ∷ below) (Took.Pin i (Ok (PinStep.Held k))) e (is, p) f (h, quiet, all) = let t = p.pins.2 in
+      stays t.table_stays.slots t.list_is refl (pinned-stands r p.pins.0 k h p.pins.1, quiet, all-on f below all)
+  stepped (to_pin r place ∷ below) (Took.Pin i (Ok (PinStep.LoadBegun l))) e (is, p) f (h, quiet, all) = let t = p.pins.2 in
+      stays t.table_stays.slots t.list_is refl (begun-stands r p.pins.0 l h p.pins.1, quiet, all-on f below all)
+  stepped (to_pin r place ∷ below) (Took.Pin i (Ok PinStep.LoadWent)) e (is, p) f all = absurd p.pins
+  stepped (to_pin r place ∷ below) (Took.Pin i (Err x)) e (is, p) f all = let t = p.refused.1 in stays t.table_stays.slots t.list_is refl (tt, refl, tt)
+  stepped (to_load r place through reading ∷ below) (Took.Pin i (Ok (PinStep.Held k))) e (is, p) f (h, quiet, all) = let t = p.goes.1 in
+      stays t.table_stays.slots t.list_is refl (stands-on f h, quiet, all-on f below all)
+  stepped (to_load r place through reading ∷ below) (Took.Pin i (Ok (PinStep.LoadBegun l))) e (is, p) f all = absurd p.goes
+  stepped (to_load r place through reading ∷ below) (Took.Pin i (Ok PinStep.LoadWent)) e (is, p) f (h, quiet, all) = let t = p.goes.2 in
+      stays t.table_stays.slots t.list_is refl (stands-on f h, quiet, all-on f below all)
+  stepped (to_load r place through reading ∷ below) (Took.Pin i (Err x)) e (is, p) f all = let t = p.refused.1 in stays t.table_stays.slots t.list_is refl (tt, refl, tt)
+  stepped (to_write r place through ∷ below) (Took.Write i (Ok out)) e (is, p) f (h, quiet, all) =
       let t = p.writes in
-      leaves t.list_is (started-quiet place (m.written_of out).references _ refl) (settled s'.core (record { reference = r; place = place; through = through; written = m.written_of out; keys = []; height = 0 }) below (stands-on f h, quiet, all-on f below all))
+      leaves t.list_is (started-quiet place (m.written_of out).references _ refl)
+      (settled s'.core (record { reference = r; place = place; through = through; written = m.written_of out; keys = []; height = 0 }) below (stands-on f h, quiet, all-on f below all))
       (changed-reveals s.shelf s'.shelf KeyThere (identity_of r) (λ slot. record slot { written = Some (m.written_of out) }) t.table_is (λ old key height is. inl is))
-  stepped (to_write r place through ∷ below) (took.Write i (Err x)) e (is, p) f all = let t = p.refused.1 in stays t.table_is.slots t.list_is refl (tt, refl, tt)
-  stepped (to_write r place through ∷ below) step e does f all = absurd does
-  stepped (to_finish o ∷ below) (took.Store i (Ok key)) e (is, p) f (h, quiet, all) = let t = p.goes in stays t.table_stays.slots t.list_is refl (stands-on f h, quiet, all-on f below all)
-  stepped (to_finish o ∷ below) (took.Store i (Err x)) e (is, p) f all = let t = p.refused in stays t.table_stays.slots t.list_is refl (tt, refl, tt)
-  stepped (to_finish o ∷ below) step e does f all = absurd does
-  stepped (to_item written ks ∷ below) (took.Store i (Ok key)) e (is, p) f all = let t = p.goes in stays t.table_stays.slots t.list_is refl tt
-  stepped (to_item written ks ∷ below) (took.Store i (Err x)) e (is, p) f all = let t = p.refused in stays t.table_stays.slots t.list_is refl (tt, refl, tt)
-  stepped (to_item written ks ∷ below) step e does f all = absurd does
-  stepped (to_set r through key height ∷ below) (took.SetKey i (Ok u)) e (is, p) f (h, quiet, all) = sets i u r through key height below e h p.sets p.goes quiet (all-on f below all)
-  stepped (to_set r through key height ∷ below) (took.SetKey i (Err x)) e (is, p) f all = let t = p.refused in stays t.table_stays.slots t.list_is refl (tt, refl, tt)
-  stepped (to_set r through key height ∷ below) step e does f all = absurd does
-  stepped (to_publish r key height ∷ below) (took.Publish i k q) e (is, same_key, same_height, t) f (h, quiet, all) =
+  stepped (to_write r place through ∷ below) (Took.Write i (Err x)) e (is, p) f all = let t = p.refused.1 in stays t.table_is.slots t.list_is refl (tt, refl, tt)
+  stepped (to_finish o ∷ below) (Took.Store i (Ok key)) e (is, p) f (h, quiet, all) = let t = p.goes in stays t.table_stays.slots t.list_is refl (stands-on f h, quiet, all-on f below all)
+  stepped (to_finish o ∷ below) (Took.Store i (Err x)) e (is, p) f all = let t = p.refused in stays t.table_stays.slots t.list_is refl (tt, refl, tt)
+  stepped (to_item written ks ∷ below) (Took.Store i (Ok key)) e (is, p) f all = let t = p.goes in stays t.table_stays.slots t.list_is refl tt
+  stepped (to_item written ks ∷ below) (Took.Store i (Err x)) e (is, p) f all = let t = p.refused in stays t.table_stays.slots t.list_is refl (tt, refl, tt)
+  stepped (to_set r through key height ∷ below) (Took.SetKey i (Ok u)) e (is, p) f (h, quiet, all) = sets i u r through key height below e h p.sets p.goes quiet (all-on f below all)
+  stepped (to_set r through key height ∷ below) (Took.SetKey i (Err x)) e (is, p) f all = let t = p.refused in stays t.table_stays.slots t.list_is refl (tt, refl, tt)
+  stepped (to_publish r key height ∷ below) (Took.Publish i k q) e (is, same_key, same_height, t) f (h, quiet, all) =
       leaves t.list_is refl (tt, quiet, all-on f below all) (changed-reveals s.shelf s'.shelf KeyThere (identity_of r) (with_outcome (published key height)) t.table_is (λ old k2 h2 known. inr (λ kind. key-on f (h kind))))
-  stepped (to_publish r key height ∷ below) step e does f all = absurd does
-  stepped (to_release r key height ∷ below) (took.Release i) e (is, falls, t) f (h, quiet, all) = stays t.table_stays.slots t.list_is (given-quiet r key height below quiet) (given s'.core r key height below (all-on f below all))
-  stepped (to_release r key height ∷ below) step e does f all = absurd does
-  stepped (to_fail fault back ∷ below) took.Fail e (gives, same, list_is) f all = leaves list_is refl tt (failed-reveals s.shelf s'.shelf KeyThere v same)
-  stepped (to_fail fault back ∷ below) step e does f all = absurd does
-  stepped [] step e does f all = absurd does
+  stepped (to_release r key height ∷ below) (Took.Release i) e (is, falls, t) f (h, quiet, all) = stays t.table_stays.slots t.list_is (given-quiet r key height below quiet)
+      (given s'.core r key height below (all-on f below all))
+  stepped (to_fail fault back ∷ below) Took.Fail e (gives, same, list_is) f all = leaves list_is refl tt (failed-reveals s.shelf s'.shelf KeyThere v same)
+  stepped _ step e does f all = absurd does
 
   pub walk-leaves : (step : Took W) → Does m v s s.todo step s' → AllHold s.core s.todo → Leaves step
   walk-leaves step does all = stepped s.todo step refl does (walk-goes m v s s' s.todo step does).goes all

@@ -1,21 +1,8 @@
 -- A worker with all its steps so far: what an event adds to them keeps what they come to.
-use Rattle.std.proofs.Common.{◌≡◌, ℕ, ◌+◌, ◌≤◌, ◌==◌, Bool, true, false, List, [], ◌∷◌, ◌++◌, refl, ap, sym, subst, ◌∙◌, arith, Ok, append-nil}
-use Rattle.std.specs.Prelude.{Option, Some, None, nat_eq, min}
-use Rattle.std.proofs.lemmas.Bool.Decides.{nat_tests}
-use Rattle.pagable_world.specs.Plain.{Identity, WorkerNumber, one}
-use Rattle.pagable_world.specs.declared.events.Event.{Event}
-use Rattle.pagable_world.specs.declared.events.EventReply.{EventReply}
-use Rattle.pagable_world.specs.declared.events.TableNumber.{TableNumber}
-use Rattle.pagable_world.specs.declared.events.Took.{Took}
-use Rattle.pagable_world.specs.declared.events.WorkerReply.{WorkerReply}
-use Rattle.pagable_world.specs.declared.events.WorkerAnswer.{WorkerAnswer}
-use Rattle.pagable_world.specs.declared.events.Claim.TheVariants as claims
-use Rattle.pagable_world.specs.declared.events.Took.TheVariants as took
-use Rattle.pagable_world.specs.World.{Shelf, Written, Todo, to_start, Task, Walking, World, Seen, greatest}
-use Rattle.pagable_world.specs.Workers.{Site, Does, first_todo, is_counted}
-use Rattle.pagable_world.specs.Events.{new_walking, steps_after, WorkerSteps}
-use Rattle.pagable_world.specs.Order.{Follows, Leads, step_of}
-use Rattle.pagable_world.specs.Headline.{FailedElsewhere, IsMetFailure}
+use Rattle.pagable_laws.proofs.Words.{◌≡◌, ℕ, ◌+◌, ◌≤◌, ◌==◌, Bool, true, false, List, [], ◌∷◌, ◌++◌, refl, ap, sym, subst, ◌∙◌, arith, Ok, Option, Some, None, nat_eq, min, nat_tests, Identity}
+use Rattle.pagable_laws.proofs.Words.{WorkerNumber, one, Event, EventReply, TableNumber, Took, WorkerReply, WorkerAnswer, Claim, Shelf, Written, Todo, to_start, Task, Walking, World, Seen}
+use Rattle.pagable_laws.proofs.Words.{greatest, Site, Does, first_todo, is_counted, new_walking, steps_after, WorkerSteps, Follows, Leads, step_of, FailedElsewhere, IsMetFailure}
+use Rattle.std.proofs.Common.{append-nil}
 use Rattle.pagable_laws.proofs.Standing.{is_failed, HasNoFailed}
 use Rattle.pagable_laws.proofs.Changing.{ShelfGrows, grows}
 use Rattle.pagable_laws.proofs.Nexts.{steps_follow}
@@ -48,7 +35,7 @@ counted n true = at-most (n + 1) greatest
 counted n false = omega arith
 
 -- where a claim finds one that has failed, it is another's
-failed-elsewhere : {N B W : Type 0} (m : Seen N B W) (v : ℕ) (s s' : Site) (todo : List Todo) (i : Identity) → Does m v s todo (took.Claim i (Ok claims.AlreadyFailed)) s'
+failed-elsewhere : {N B W : Type 0} (m : Seen N B W) (v : ℕ) (s s' : Site) (todo : List Todo) (i : Identity) → Does m v s todo (Took.Claim i (Ok Claim.AlreadyFailed)) s'
     → HasNoFailed s.shelf v → FailedElsewhere s.shelf v i
 failed-elsewhere m v s s' (to_start r place ∷ below) i (is, c) clean =
     let found = c.finds.1.1 in
@@ -115,7 +102,7 @@ module _ {N B W : Type 0} (m : Seen N B W) (u u' : World) (grow : (t : ℕ) → 
       follows : Follows f w.todo reply.took s.after.todo
       follows = steps_follow m k.0 site s.after reply.took s.does
 
-      already : (i : Identity) → reply.took ≡ took.Claim i (Ok claims.AlreadyFailed) → FailedElsewhere shelf' k.0 i
+      already : (i : Identity) → reply.took ≡ Took.Claim i (Ok Claim.AlreadyFailed) → FailedElsewhere shelf' k.0 i
       already i is =
           failed-stays k.0 shelf shelf' i (grow w.table)
           (failed-elsewhere m k.0 site s.after w.todo i (subst (λ step. Does m k.0 site w.todo step s.after) is s.does.does) ((work.workers k.0 w s.at).unfailed s.at_work))

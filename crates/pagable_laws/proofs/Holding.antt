@@ -1,11 +1,6 @@
 -- What stands of all workers and tables goes on to stand, by what an event does to them.
-use Rattle.std.proofs.Common.{◌≡◌, ℕ, ◌<◌, ◌≤◌, Bool, true, false, [], refl, ap, sym, subst, ◌∙◌, arith}
-use Rattle.std.specs.Prelude.{Option, Some, None, nat_eq}
-use Rattle.std.proofs.lemmas.Bool.Decides.{nat_tests}
-use Rattle.pagable_world.specs.Plain.{Identity}
-use Rattle.pagable_world.specs.World.{Shelf, Slot, Task, of_item, of_entry, Walking}
-use Rattle.pagable_world.specs.Workers.{first_todo}
-use Rattle.pagable_world.specs.Headline.{Meets, meets-entry}
+use Rattle.pagable_laws.proofs.Words.{◌≡◌, ℕ, ◌<◌, ◌≤◌, Bool, true, false, [], refl, ap, sym, subst, ◌∙◌, arith, Option, Some, None, nat_eq, nat_tests, Identity, Shelf, Slot, Task, of_item}
+use Rattle.pagable_laws.proofs.Words.{of_entry, Walking, first_todo, Meets, meets-entry}
 use Rattle.pagable_laws.proofs.Standing.{AllStand, is_open_in, WalkingStands, SlotStands, WorkStands}
 use Rattle.pagable_laws.proofs.Changing.{Changes, ShelfGrows, stays, is-new, is-changed, some-same, some-none, grows, others-stay, others-were, meets-grow, same-slots}
 use Rattle.pagable_laws.proofs.Going.{Goes, all-stay, item-settles}
@@ -71,7 +66,8 @@ module _ (v : ℕ) (shelves shelves' : ℕ → Shelf) (walkings walkings' : ℕ 
       record {
         slots = λ t i slot there. elim (turned.changes t i) [
           | stays same ↦ slot-stays t i slot slot refl (work.slots t i slot (sym same ∙ there))
-          | is-new new none is of_it ↦ let m = turned.met t i slot none there in let e = ap (λ (s : Slot). s.worker) (some-same there is) ∙ of_it in record { walking = m.walking; there = ap walkings' e ∙ m.there; on_table = m.on_table; meets = m.meets }
+          | is-new new none is of_it ↦ let m = turned.met t i slot none there in let e = ap (λ (s : Slot). s.worker) (some-same there is) ∙ of_it in
+              record { walking = m.walking; there = ap walkings' e ∙ m.there; on_table = m.on_table; meets = m.meets }
           | is-changed old new was own is more ↦ slot-stays t i old slot (ap (λ (s : Slot). s.worker) (some-same there is) ∙ more.worker) (work.slots t i old was)
         ];
         workers = λ u w there. worker u w there (nat_eq u v) refl;
@@ -82,7 +78,8 @@ module _ (v : ℕ) (shelves shelves' : ℕ → Shelf) (walkings walkings' : ℕ 
       worker u w there true e = let is = same-number u v e in subst (λ n. WalkingStands (shelves' w.table) n w) (sym is) (turned.stands w (sym (ap walkings' is) ∙ there))
       worker u w there false e =
           let c = turned.changes w.table in
-          walking-stays u w (shelves w.table) (shelves' w.table) (grows v (shelves w.table) (shelves' w.table) c) (others-stay v u (shelves w.table) (shelves' w.table) c e) (others-were v u (shelves w.table) (shelves' w.table) c e)
+          walking-stays u w (shelves w.table) (shelves' w.table) (grows v (shelves w.table) (shelves' w.table) c) (others-stay v u (shelves w.table) (shelves' w.table) c e)
+          (others-were v u (shelves w.table) (shelves' w.table) c e)
           (work.workers u w (sym (turned.others u e) ∙ there))
 
       number : (u : ℕ) (w : Walking) → walkings' u ≡ Some w → (b : Bool) → nat_eq u v ≡ b → u ≤ last'
@@ -122,7 +119,8 @@ module _ (shelves shelves' : ℕ → Shelf) (walkings walkings' : ℕ → Option
   first-stands shelf v (of_entry h i) = (meets-entry h i refl, (λ j is. absurd (cc)), tt)
 
   -- a worker starts
-  pub is-started : (v : ℕ) (new : Walking) → last < v → new.todo ≡ first_todo new.task → new.answer ≡ None → walkings' v ≡ Some new → ((u : ℕ) → nat_eq u v ≡ false → walkings' u ≡ walkings u) → Turned v shelves shelves' walkings walkings'
+  pub is-started : (v : ℕ) (new : Walking) → last < v → new.todo ≡ first_todo new.task → new.answer ≡ None → walkings' v ≡ Some new
+      → ((u : ℕ) → nat_eq u v ≡ false → walkings' u ≡ walkings u) → Turned v shelves shelves' walkings walkings'
   is-started v new above first none at others =
       record {
         changes = λ t. same-slots v (shelves t) (shelves' t) (same t);
@@ -138,7 +136,8 @@ module _ (shelves shelves' : ℕ → Shelf) (walkings walkings' : ℕ → Option
       }
 
 -- a worker makes a step
-pub is-stepped : (v : ℕ) (shelves shelves' : ℕ → Shelf) (walkings walkings' : ℕ → Option Walking) (w now : Walking) → walkings v ≡ Some w → walkings' v ≡ Some now → now.table ≡ w.table → now.task ≡ w.task
+pub is-stepped : (v : ℕ) (shelves shelves' : ℕ → Shelf) (walkings walkings' : ℕ → Option Walking) (w now : Walking) → walkings v ≡ Some w → walkings' v ≡ Some now → now.table ≡ w.table
+    → now.task ≡ w.task
     → ((u : ℕ) → nat_eq u v ≡ false → walkings' u ≡ walkings u) → ((t : ℕ) → nat_eq t w.table ≡ false → (i : Identity) → (shelves' t).slots i ≡ (shelves t).slots i)
     → Goes v w.task (shelves w.table) now.answer (shelves' w.table) now.todo → Turned v shelves shelves' walkings walkings'
 is-stepped v shelves shelves' walkings walkings' w now at at_now same_table same_task others elsewhere goes =

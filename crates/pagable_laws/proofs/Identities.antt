@@ -1,22 +1,8 @@
 -- Two kinds or keys never get one identity through one cache, and one kind and key gets the same for as long as its node is held.
-use Rattle.std.proofs.Common.{◌≡◌, ℕ, zero, suc, ◌+◌, ◌≤◌, ◌==◌, Bool, true, false, List, [], ◌∷◌, Some, None, inl, inr, refl, sym, ap, subst, ◌∙◌, if◌then◌else◌, arith}
-use Rattle.std.proofs.lemmas.Bool.Decides.{nat_tests}
-use Rattle.pagable_model.specs.declared.data_key.OptionalDataKey.TheVariants as optional
-use Rattle.pagable_world.specs.declared.calls.Call.TheVariants as calls
-use Rattle.pagable_world.specs.declared.events.Event.TheVariants as events
-use Rattle.pagable_world.specs.declared.events.Event.{Event}
-use Rattle.pagable_world.specs.declared.handles.Owner.TheVariants as owners
-use Rattle.pagable_world.specs.declared.rows.Mode.TheVariants as modes
-use Rattle.pagable_world.specs.declared.rows.Mode.{Mode}
-use Rattle.pagable_world.specs.Plain.{OptionalDataKey, Kind, ArcRef, LoadNumber, type_of, Among, is_pinned_kind}
-use Rattle.pagable_world.specs.Kinds.{mode_of, fits_mode, is_pinning}
-use Rattle.pagable_world.specs.World.{Core, Last, Alike, Seen, usable}
-use Rattle.pagable_world.specs.Calls.{with_handle, with_node, with_cached, next_node}
-use Rattle.pagable_world.specs.LoadCalls.{GetsKnown, adopted, first_key}
-use Rattle.pagable_world.specs.Pager.{MachineState, world_of, IsWhole, IsMachineWhole}
-use Rattle.pagable_world.specs.Runs.{KeepsOpen, Moment, AreMoments, state_after}
-use Rattle.pagable_world.specs.OneWorker.{GetsReference, IsFilledByReading, LeavesCache, StaysAlive, OneIdentityLaw}
-use Rattle.pagable_laws.specs.TreeSteps.{Change, GetsRow, nothing_felt}
+use Rattle.pagable_laws.proofs.Words.{◌≡◌, ℕ, zero, suc, ◌+◌, ◌≤◌, ◌==◌, Bool, true, false, List, [], ◌∷◌, Some, None, inl, inr, refl, sym, ap, subst, ◌∙◌, if◌then◌else◌, arith, nat_tests}
+use Rattle.pagable_laws.proofs.Words.{OptionalDataKey, Call, Event, Owner, Mode, Kind, ArcRef, LoadNumber, type_of, Among, is_pinned_kind, mode_of, fits_mode, is_pinning, Core, Last, Alike, Seen}
+use Rattle.pagable_laws.proofs.Words.{usable, with_handle, with_node, with_cached, next_node, GetsKnown, adopted, first_key, MachineState, world_of, IsWhole, IsMachineWhole, KeepsOpen, Moment}
+use Rattle.pagable_laws.proofs.Words.{AreMoments, state_after, GetsReference, IsFilledByReading, LeavesCache, StaysAlive, OneIdentityLaw, Change, GetsRow, nothing_felt}
 use Rattle.pagable_laws.proofs.Goes.{Quiet, Goes, KnowsNext, quiet-then, quiet-goes, goes-quiet, alike, a-handle, fell-anyhow, adopts}
 use Rattle.pagable_laws.proofs.Calling.{gets-known}
 use Rattle.pagable_laws.proofs.Outlasting.{among-found}
@@ -40,10 +26,8 @@ data Got (w : Core) (kind : Kind) (key n : ℕ) (w' : Core) : Type 0 where
 
 -- a mode that fits a kind of pins is that of a pin
 pinning-by : (kind : ℕ) (mode : Mode) → fits_mode kind mode ≡ true → is_pinned_kind kind ≡ true → is_pinning mode ≡ true
-pinning-by kind modes.Pinned fits is = refl
-pinning-by kind modes.Shared fits is = refl
-pinning-by kind modes.LoosePinned fits is = refl
-pinning-by kind modes.LooseUnpinned fits is = absurd (grind (arith, nat_tests))
+pinning-by kind Mode.LooseUnpinned fits is = absurd (grind (arith, nat_tests))
+pinning-by kind _ fits is = refl
 
 held-by : {w w' : Core} {n : ℕ} {row : _} (kind : Kind) (key : ℕ) → GetsRow w w' kind n row → IsHeldFor kind.0 key n w'.rows
 held-by {w' = w'} {row = row} kind key g = record { row = row; live = among-found row.number.0 w'.rows row g.live; at = g.at; pins_it = pinning-by kind.0 row.mode g.fits }
@@ -58,7 +42,7 @@ module _ {w w' : Core} (whole : IsWhole w) (kind : Kind) (key n : ℕ) (g : Gets
   old m is gets q enters = subst (λ x. Gotten w kind key x w') (sym gets.at ∙ g.at) (record { held = held-by kind key gets; from = got-old is q (enters (entered-of kind.0 key m w is)) })
 
   known : GetsKnown w g.l kind key g.k w' → Gotten w kind key n w'
-  known c = old c.n c.known (got-known whole.handles kind g.k g.row g.made c.next.above c.n (owners.Load g.l) c.leaves) (gets-known c) (λ e h. stays-alike kind.0 key c.n c.leaves e h)
+  known c = old c.n c.known (got-known whole.handles kind g.k g.row g.made c.next.above c.n (Owner.Load g.l) c.leaves) (gets-known c) (λ e h. stays-alike kind.0 key c.n c.leaves e h)
 
   new : (own : OptionalDataKey) (references : List ArcRef) → g.k.0 ≡ w.last.handle + 1 → usable w kind.0 key ≡ None → Alike (adopted w g.l kind key own references) w' → Gotten w kind key n w'
   new own references above none a =
@@ -69,11 +53,11 @@ module _ {w w' : Core} (whole : IsWhole w) (kind : Kind) (key n : ℕ) (g : Gets
   got : Gotten w kind key n w'
   got = elim g.gets [
     | inl asked ↦ known asked.gives.2
-    | inr (inl lazy) ↦ elim lazy.makes.3 [ inl c ↦ known c | inr (none, few, next, a) ↦ new (optional.Some key) [] next.above none a ]
+    | inr (inl lazy) ↦ elim lazy.makes.3 [ inl c ↦ known c | inr (none, few, next, a) ↦ new (OptionalDataKey.Some key) [] next.above none a ]
     | inr (inr (t, references, c)) ↦ elim c.makes [
       | inl (m, is, f) ↦
-          let gets = got-fallen whole.handles kind g.k g.row g.made c.next.above m (owners.Load g.l) f in
-          old m is gets (quiet-then (a-handle w _ _ (owners.Load g.l)) (fell-anyhow f)) (λ e h. stays-fell kind.0 key m f.falls e h)
+          let gets = got-fallen whole.handles kind g.k g.row g.made c.next.above m (Owner.Load g.l) f in
+          old m is gets (quiet-then (a-handle w _ _ (Owner.Load g.l)) (fell-anyhow f)) (λ e h. stays-fell kind.0 key m f.falls e h)
       | inr (none, few, a) ↦ new (first_key kind.0 key) references c.next.above none a
     ]
   ]
@@ -103,7 +87,7 @@ once-got {w} kind key n whole filled (got-old is q enters) =
     once-goes kind.0 key n (quiet-goes nothing_felt q) (λ k q n known. absurd known) (record { given = (whole.cache kind.0 key n there).given; only = λ k q is. filled kind.0 key k q n there is })
 once-got {w} {w'} kind key n whole filled (got-new none next l own references a) =
     let g = goes-quiet (adopts w l kind key own references) (alike a) in
-    let made = with_handle (with_node w (type_of kind.0) own references) (next_node w) (mode_of kind.0) (owners.Load l) in
+    let made = with_handle (with_node w (type_of kind.0) own references) (next_node w) (mode_of kind.0) (Owner.Load l) in
     let last = ap (λ (x : Last). x.node) (a.last ∙ (cached-rows made kind key (next_node w)).1) in
     record {
       given = omega (arith, next, last);
@@ -120,7 +104,7 @@ entered-got kind key n opened (got-old is q enters) h = enters h
 entered-got {w} {w'} kind key n opened (got-new none next l own references a) h = stays-alike kind.0 key n a (entered w.closed opened) h
   where
     made : Core
-    made = with_handle (with_node w (type_of kind.0) own references) (next_node w) (mode_of kind.0) (owners.Load l)
+    made = with_handle (with_node w (type_of kind.0) own references) (next_node w) (mode_of kind.0) (Owner.Load l)
 
     entered : (b : Bool) → b ≡ false → let d = if b then made else with_cached made kind key (next_node w) in IsEntered kind.0 key n d.cache d.cells
     entered true is = absurd (cc)
@@ -132,7 +116,7 @@ entered-got {w} {w'} kind key n opened (got-new none next l own references a) h 
         record { entry = rw (k, q) (ap (λ (x : ℕ). Some x) (sym next)); there = rw e refl }
 
 keeps-open : {N B W : Type 0} (event : Event N B W) → LeavesCache event → KeepsOpen event
-keeps-open (events.Call calls.Close) leaves = leaves
+keeps-open (Event.Call Call.Close) leaves = leaves
 keeps-open event leaves = tt
 
 -- ---- along a chain

@@ -1,22 +1,16 @@
 -- A tree of a closed set of types reaches types of the set alone.
-use Rattle.std.proofs.Common.{◌≡◌, ℕ, true, false, List, [], ◌∷◌, ◌++◌}
+use Rattle.pagable_laws.proofs.Words.{◌≡◌, ℕ, true, false, List, [], ◌∷◌, ◌++◌, Ordering, Meaning, number, integer, text, pattern, none, pair, variant, reference, followed, sequence, lifted}
+use Rattle.pagable_laws.proofs.Words.{rename, Entry, code_order, ordered, put_all, put_sorted, of_entries, of_hash_map, Shape, Form, Forms, Entries, nothing-form, unsigned-form, signed-form}
+use Rattle.pagable_laws.proofs.Words.{flag-form, text-form, letter-form, duration-form, pattern-form, none-form, some-form, err-form, ok-form, list-form, run-form, array-form, both-form}
+use Rattle.pagable_laws.proofs.Words.{sorted-map-form, placed-map-form, hash-map-form, sorted-set-form, placed-set-form, static-form, tagged-form, case-form, reference-form, nested-form}
+use Rattle.pagable_laws.proofs.Words.{json-null-form, json-flag-form, json-number-form, json-text-form, json-array-form, json-object-form, no-forms, more-forms, no-entries, more-entries, Tree}
+use Rattle.pagable_laws.proofs.Words.{Types, type_of, Kid, unfolded, KeyOf, key-of, KeysOf, no-keys, more-keys, LiesIn, Throughout, EachType, StaysInside, IsCanonicalInside}
 use Rattle.std.specs.declared.cmp.Ordering.{Ordering}
-use Rattle.std.specs.declared.cmp.Ordering.TheVariants as answers
 use Rattle.std.specs.Ordering.{match_ordering}
-use Rattle.pagable_model.specs.Meaning.{Meaning, number, integer, text, pattern, none, pair, variant, reference, followed, sequence, lifted, rename}
-use Rattle.pagable_model.specs.Keys.{Entry, code_order, ordered, put_all, put_sorted}
-use Rattle.pagable_model.specs.Carried.{of_entries, of_hash_map}
-use Rattle.pagable_model.specs.Shape.{Shape}
-use Rattle.pagable_model.specs.Form.{Form, Forms, Entries}
-use Rattle.pagable_model.specs.Form.{nothing-form, unsigned-form, signed-form, flag-form, text-form, letter-form, duration-form, pattern-form, none-form, some-form, err-form, ok-form, list-form, run-form, array-form, both-form}
-use Rattle.pagable_model.specs.Form.{sorted-map-form, placed-map-form, hash-map-form, sorted-set-form, placed-set-form, static-form, tagged-form, case-form, reference-form, nested-form}
-use Rattle.pagable_model.specs.Form.{json-null-form, json-flag-form, json-number-form, json-text-form, json-array-form, json-object-form, no-forms, more-forms, no-entries, more-entries}
-use Rattle.pagable_model.specs.Trees.{Tree, Types, type_of}
-use Rattle.pagable_model.specs.Deep.{Kid}
-use Rattle.pagable_model.specs.Merkle.{unfolded, KeyOf, key-of, KeysOf, no-keys, more-keys}
-use Rattle.pagable_model.specs.Canonical.{LiesIn, Throughout, EachType, IsClosed}
-use Rattle.pagable_laws.specs.TreeLaws.{StaysInside, IsCanonicalInside}
-use Rattle.pagable_laws.proofs.Within.{here, lower, part_of, of_json, of_text, under_optional, under_ok, under_err, under_list, under_run, under_array, under_first, under_second, under_sorted_key, under_sorted_value, under_placed_key, under_placed_value, under_hash_key, under_hash_value, under_sorted_item, under_placed_item, under_written, under_case}
+use Rattle.pagable_model.specs.Canonical.{IsClosed}
+use Rattle.pagable_laws.proofs.Within.{here, lower, part_of, of_json, of_text, under_optional, under_ok, under_err, under_list, under_run, under_array, under_first, under_second}
+use Rattle.pagable_laws.proofs.Within.{under_sorted_key, under_sorted_value, under_placed_key, under_placed_value, under_hash_key, under_hash_value, under_sorted_item, under_placed_item}
+use Rattle.pagable_laws.proofs.Within.{under_written, under_case}
 
 -- P of each reference in the meaning
 EachRef : {A : Type 0} → (A → Type 0) → Meaning A → Type 0
@@ -77,9 +71,9 @@ module _ {A : Type 0} (P : A → Type 0) where
   put_refs (x ∷ acc) e h g = at (ordered code_order e.0 x.0) (put_refs acc e h.1 g)
     where
       at : (o : Ordering) → Each EachEntry (put_sorted code_order acc e) → Each EachEntry (match_ordering o (e ∷ x ∷ acc) ((x.0, e.1) ∷ acc) (x ∷ put_sorted code_order acc e))
-      at answers.Less rest = (g, h)
-      at answers.Equal rest = ((h.0.0, g.1), h.1)
-      at answers.Greater rest = (h.0, rest)
+      at Ordering.Less rest = (g, h)
+      at Ordering.Equal rest = ((h.0.0, g.1), h.1)
+      at Ordering.Greater rest = (h.0, rest)
 
   put_all_refs : (es acc : List (Entry A)) → Each EachEntry acc → Each EachEntry es → Each EachEntry (put_all (put_sorted code_order) acc es)
   unfolding Each put_all
@@ -140,7 +134,8 @@ module _ {A : Type 0} {kind_of : A → ℕ} {parts : ℕ → Shape} (nodes : ℕ
     forms-refs (no-forms left s) t h = tt
     forms-refs (more-forms left s m ms b c k l f g) t h = (form-refs f t (each_front P k l h), forms-refs g t (each_back P k l h))
 
-    entries_form-refs : {left : ℕ} {s s2 : Shape} {es : List (Entry A)} {b : List ℕ} {k : List A} → Entries A kind_of parts left s s2 es b k → Inside nodes parts s → Inside nodes parts s2 → Each P k → Each (EachEntry Q) es
+    entries_form-refs : {left : ℕ} {s s2 : Shape} {es : List (Entry A)} {b : List ℕ} {k : List A} → Entries A kind_of parts left s s2 es b k → Inside nodes parts s
+        → Inside nodes parts s2 → Each P k → Each (EachEntry Q) es
     entries_form-refs (no-entries left s s2) t u h = tt
     entries_form-refs (more-entries left s s2 m n es b c d j k l f g e) t u h =
         let rest = each_back P j (k ++ l) h in

@@ -1,13 +1,7 @@
 -- JSON numbers that have no form.
-use Rattle.std.proofs.Common.{◌≡◌, ℕ, ℤ, List, refl, subst}
+use Rattle.pagable_laws.proofs.Words.{◌≡◌, ℕ, ℤ, List, refl, subst, IsSigned, Meaning, Shape, json, Form, json-number-form, whole, float, of_json, FloatHasNoForm, WholeIsBounded}
 use Rattle.std.specs.Int.{w64}
 use Rattle.std.specs.Float.Ieee.{Float}
-use Rattle.pagable_model.specs.Numbers.{IsSigned}
-use Rattle.pagable_model.specs.Meaning.{Meaning}
-use Rattle.pagable_model.specs.Shape.{Shape, json}
-use Rattle.pagable_model.specs.Form.{Form, json-number-form}
-use Rattle.pagable_model.specs.Json.{whole, float, of_json}
-use Rattle.pagable_laws.specs.JsonLaws.{FloatHasNoForm, WholeIsBounded}
 
 module _ {A : Type 0} {kind_of : A → ℕ} {parts : ℕ → Shape} where
   no-float : (x : Float) {left : ℕ} {m : Meaning A} {b : List ℕ} {k : List A} → Form A kind_of parts left json m b k → m ≡ of_json (float x) → ⊥

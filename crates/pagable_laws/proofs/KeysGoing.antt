@@ -1,20 +1,9 @@
 -- Workers go on holding what they hold.
-use Rattle.std.proofs.Common.{◌≡◌, ℕ, Bool, true, false, List, [], ◌∷◌, arith, inl, inr, Some, None, refl, sym, ap, subst, ◌∙◌}
-use Rattle.std.specs.Prelude.{nat_eq}
-use Rattle.std.proofs.lemmas.Bool.Decides.{nat_tests}
-use Rattle.pagable_world.specs.Plain.{ArcRef, Identity, WorkerNumber, Tree, ReadsTree, is_loose_kind}
-use Rattle.pagable_world.specs.declared.events.Event.{Event}
-use Rattle.pagable_world.specs.declared.events.EventReply.{EventReply}
-use Rattle.pagable_world.specs.declared.events.WorkerReply.{WorkerReply}
-use Rattle.pagable_world.specs.Kinds.{find_row}
-use Rattle.pagable_world.specs.World.{Core, Alike, Shelf, Todo, to_publish, Task, of_item, of_entry, Walking, World, Values, Seen}
-use Rattle.pagable_world.specs.Workers.{Site, IsPublished, answer_after, first_todo}
-use Rattle.pagable_world.specs.Events.{Ends, WorkerSteps}
-use Rattle.pagable_world.specs.Pager.{MachineState, world_of, HandlesAreWhole, IsMachineWhole, IsIdle}
-use Rattle.pagable_world.specs.Runs.{ReadsItsTypes, KeepsOpen, Does}
-use Rattle.pagable_laws.specs.TreeSteps.{Change, nothing_felt, KeysAreReady}
-use Rattle.pagable_laws.specs.KeyRuns.{KeyIsSet, is_publishing, AllHold, HasHandle, KeysHeld}
-use Rattle.pagable_laws.specs.PageOutLaws.{WorkFits}
+use Rattle.pagable_laws.proofs.Words.{◌≡◌, ℕ, Bool, true, false, List, [], ◌∷◌, arith, inl, inr, Some, None, refl, sym, ap, subst, ◌∙◌, nat_eq, nat_tests, ArcRef, Identity, WorkerNumber, Tree}
+use Rattle.pagable_laws.proofs.Words.{ReadsTree, is_loose_kind, Event, EventReply, WorkerReply, find_row, Core, Alike, Shelf, Todo, to_publish, Task, of_item, of_entry, Walking, World, Values}
+use Rattle.pagable_laws.proofs.Words.{Seen, Site, IsPublished, answer_after, first_todo, Ends, WorkerSteps, MachineState, world_of, HandlesAreWhole, IsMachineWhole, IsIdle, ReadsItsTypes}
+use Rattle.pagable_laws.proofs.Words.{KeepsOpen, Change, nothing_felt, KeysAreReady, KeyIsSet, is_publishing, AllHold, HasHandle, KeysHeld, WorkFits, step_of}
+use Rattle.pagable_world.specs.Runs.{Does}
 use Rattle.pagable_laws.proofs.Trees.{same_some}
 use Rattle.pagable_laws.proofs.Goes.{Goes, quiet-goes}
 use Rattle.pagable_laws.proofs.EventSteps.{ends-quiet, event-goes}
@@ -27,7 +16,6 @@ use Rattle.pagable_laws.proofs.Outlasting.{stands-whole}
 use Rattle.pagable_laws.proofs.Sparing.{Spares}
 use Rattle.pagable_laws.proofs.SparingSteps.{event-spares}
 use Rattle.pagable_laws.proofs.Coming.{EventTurns, OwnTurn, rests, begins, steps, updated-at}
-use Rattle.pagable_world.specs.Order.{step_of}
 
 -- ---- what workers hold
 

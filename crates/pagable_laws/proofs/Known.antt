@@ -1,17 +1,8 @@
 -- What a load reads of a key that a page-out has published: each blob is a form of a tree, asks for references whose keys are known, and lies within the path's limit.
-use Rattle.std.proofs.Common.{◌≡◌, ℕ, zero, suc, ◌+◌, ◌≤◌, Bool, true, false, List, [], ◌∷◌, length, Option, Some, refl, sym, ap, subst, ◌∙◌, inl, inr, if◌then◌else◌, arith}
-use Rattle.std.specs.Prelude.{slice_get}
-use Rattle.pagable_model.specs.Merkle.{blob_of}
-use Rattle.pagable_world.specs.Plain.{Error, ArcRef, Kind, Identity, Blob, Meaning, Tree, type_of, is_eager, above, longest_path}
-use Rattle.pagable_world.specs.Kinds.{identity_of}
-use Rattle.pagable_world.specs.World.{Shelf, published, Written, Frame, Values}
-use Rattle.pagable_world.specs.Loads.{Next, reads, asks, is_faulty, next_in, need_at, need_of, needs_nested, needs_lazy, is_broken}
-use Rattle.pagable_world.specs.Workers.{IsPublished}
-use Rattle.pagable_world.specs.Pager.{MachineState, world_of, FramesFit}
-use Rattle.pagable_world.specs.Runs.{ReadsItsTypes}
-use Rattle.pagable_world.specs.Headline.{AreKeysOf}
-use Rattle.pagable_laws.specs.PageOutLaws.{WorkFits}
-use Rattle.pagable_laws.specs.ReadLaws.{Needs}
+use Rattle.pagable_laws.proofs.Words.{◌≡◌, ℕ, zero, suc, ◌+◌, ◌≤◌, Bool, true, false, List, [], ◌∷◌, length, Option, Some, refl, sym, ap, subst, ◌∙◌, inl, inr, if◌then◌else◌, arith, slice_get}
+use Rattle.pagable_laws.proofs.Words.{blob_of, Error, ArcRef, Kind, Identity, Blob, Meaning, Tree, type_of, is_eager, above, longest_path, identity_of, Shelf, published, Written, Frame, Values}
+use Rattle.pagable_laws.proofs.Words.{Next, reads, asks, is_faulty, next_in, need_at, need_of, needs_nested, needs_lazy, is_broken, IsPublished, MachineState, world_of, FramesFit, ReadsItsTypes}
+use Rattle.pagable_laws.proofs.Words.{AreKeysOf, WorkFits, Needs}
 use Rattle.pagable_laws.proofs.Trees.{same_some}
 use Rattle.pagable_laws.proofs.Fitting.{asked}
 use Rattle.pagable_laws.proofs.Heights.{AllLow}
@@ -67,7 +58,8 @@ module _ {N E : Type 0} (v : Values N) (s : MachineState N E) (trees : ℕ → T
     lows : AllLow shelf height refs
     small : height ≤ longest_path
 
-  known-frame : (frame : Frame) (i : Identity) (height : ℕ) → IsPublished shelf i frame.key height → frame.node_type ≡ (trees i.node.0).type → stored frame.key ≡ Some frame.blob → IsKnown frame height
+  known-frame : (frame : Frame) (i : Identity) (height : ℕ) → IsPublished shelf i frame.key height → frame.node_type ≡ (trees i.node.0).type → stored frame.key ≡ Some frame.blob
+      → IsKnown frame height
   known-frame frame i height p typed is =
       let f = fit.slots table i p.slot p.claimed in
       let b = f.publishes frame.key height p.known in

@@ -1,16 +1,8 @@
 -- What a load has got goes on to be what its blobs asked for, whatever happens.
-use Rattle.std.proofs.Common.{◌≡◌, ℕ, Bool, true, false, List, [], ◌∷◌, refl, sym, subst, inl, inr, if◌then◌else◌}
-use Rattle.std.specs.Prelude.{Option, Some, None}
-use Rattle.pagable_world.specs.Plain.{Kind, Types, is_eager}
-use Rattle.pagable_world.specs.declared.handles.HandleRow.{HandleRow}
-use Rattle.pagable_world.specs.declared.events.Event.{Event}
-use Rattle.pagable_world.specs.declared.events.EventReply.{EventReply}
-use Rattle.pagable_world.specs.declared.events.LoadAnswer.{LoadAnswer}
-use Rattle.pagable_world.specs.World.{Core, Frame, Reading, World, Values}
-use Rattle.pagable_world.specs.Loads.{Next, reads, asks, is_faulty, next_in, need_at, need_of, needs_nested, needs_lazy, nested_frame, with_got}
-use Rattle.pagable_world.specs.Pager.{IsReadingOf}
-use Rattle.pagable_laws.specs.TreeSteps.{Change, KeepsReadings, ReadingFeels, reads-root, reads-blob, gets-known, gets-lazy, makes-known, makes-node, reading-ends, EventFeels, by-call, by-reading, by-key, by-nothing}
-use Rattle.pagable_laws.specs.ReadLaws.{Needs}
+use Rattle.pagable_laws.proofs.Words.{◌≡◌, ℕ, Bool, true, false, List, [], ◌∷◌, refl, sym, subst, inl, inr, if◌then◌else◌, Option, Some, None, Kind, Types, is_eager, HandleRow, Event, EventReply}
+use Rattle.pagable_laws.proofs.Words.{LoadAnswer, Core, Frame, Reading, World, Values, Next, reads, asks, is_faulty, next_in, need_at, need_of, needs_nested, needs_lazy, nested_frame, with_got}
+use Rattle.pagable_laws.proofs.Words.{IsReadingOf, Change, KeepsReadings, ReadingFeels, reads-root, reads-blob, gets-known, gets-lazy, makes-known, makes-node, reading-ends, EventFeels, by-call}
+use Rattle.pagable_laws.proofs.Words.{by-reading, by-key, by-nothing, Needs}
 use Rattle.pagable_laws.proofs.Fitting.{asked}
 use Rattle.pagable_laws.proofs.ReadingStepsMachine.{is-reading-of}
 use Rattle.pagable_laws.proofs.Asking.{none-got, one-got, FramesAsked}
@@ -60,7 +52,8 @@ no-end : {X : Type 0} {answer : Option X} {x : X} → answer ≡ None → answer
 no-end none is = cc
 
 -- what a load's step leaves
-pub asked-after : {N : Type 0} {v : Values N} {w w' : Core} (reading : Reading) (answer : Option (LoadAnswer N)) (frames : List Frame) {c : Change} → answer ≡ None → FramesAsked v.types reading.frames
+pub asked-after : {N : Type 0} {v : Values N} {w w' : Core} (reading : Reading) (answer : Option (LoadAnswer N)) (frames : List Frame) {c : Change} → answer ≡ None
+    → FramesAsked v.types reading.frames
     → ReadingFeels v w reading answer frames w' c → FramesAsked v.types frames
 unfolding FramesAsked
 asked-after {v = v} reading answer frames none got (reads-root load blob none_read at stored a is) = subst (λ fs. FramesAsked v.types fs) (sym is) (none-got [] refl)

@@ -1,23 +1,16 @@
 -- A machine that stands for trees stands for them after each event, with all that its loads read.
-use Rattle.std.proofs.Common.{◌≡◌, ℕ, ◌+◌, ◌≤◌, List, [], Option, Some, None, ◌⊎◌, inl, inr, refl, sym, ◌∙◌, subst, arith}
-use Rattle.pagable_world.specs.declared.events.Event.{Event}
-use Rattle.pagable_world.specs.declared.events.EventReply.{EventReply}
-use Rattle.pagable_world.specs.declared.events.LoadAnswer.{LoadAnswer}
-use Rattle.pagable_world.specs.Plain.{Tree}
-use Rattle.pagable_world.specs.World.{OpenLoad, Reading, Frame, Seen, IsLawful}
-use Rattle.pagable_world.specs.Loads.{gone_on}
-use Rattle.pagable_world.specs.Pager.{MachineState, world_of, IsMachineWhole, StandsFor, FramesFit, ReadingFits, IsReadingOf, Moves, EventBrings}
-use Rattle.pagable_world.specs.Runs.{HoldsSettled, ReadsItsTypes, IsWellAsked}
-use Rattle.pagable_laws.specs.ReadLaws.{FramesGiven}
-use Rattle.pagable_laws.specs.TreeSteps.{Change, CoreGoes, ReadingFeels, EventFeels, by-call, by-reading, by-key, by-nothing, KeepsReadings, KeysAreReady, StepFeels, IsFresh}
-use Rattle.pagable_laws.specs.TreeRuns.{ChangeFits, ReadingsGiven, TreesAfterEvent}
+use Rattle.pagable_laws.proofs.Words.{◌≡◌, ℕ, ◌+◌, ◌≤◌, List, [], Option, Some, None, ◌⊎◌, inl, inr, refl, sym, ◌∙◌, subst, arith, Event, EventReply, LoadAnswer, Tree, OpenLoad, Reading, Frame}
+use Rattle.pagable_laws.proofs.Words.{Seen, IsLawful, gone_on, MachineState, world_of, IsMachineWhole, StandsFor, FramesFit, ReadingFits, IsReadingOf, Moves, EventBrings, HoldsSettled}
+use Rattle.pagable_laws.proofs.Words.{ReadsItsTypes, IsWellAsked, FramesGiven, Change, CoreGoes, ReadingFeels, EventFeels, by-call, by-reading, by-key, by-nothing, KeepsReadings, KeysAreReady}
+use Rattle.pagable_laws.proofs.Words.{StepFeels, IsFresh, ChangeFits, ReadingsGiven, TreesAfterEvent}
 use Rattle.pagable_laws.proofs.Trees.{same_some}
 use Rattle.pagable_laws.proofs.TreesGoing.{trees-go-on}
 use Rattle.pagable_laws.proofs.Taking.{AtStep, fit-still, fit-after}
 use Rattle.pagable_laws.proofs.ReadingStepsMachine.{is-reading-of}
 use Rattle.pagable_laws.proofs.Staying.{nothing-yet, none-given, fits-of, given-of, event-fits}
 
-module _ {N E B W : Type 0} (m : Seen N B W) (s s' : MachineState N E) (trees trees' : ℕ → Tree) (whole : IsMachineWhole m.values s) (whole' : IsMachineWhole m.values s') (stands : StandsFor m.values s trees) (given : ReadingsGiven s)
+module _ {N E B W : Type 0} (m : Seen N B W) (s s' : MachineState N E) (trees trees' : ℕ → Tree) (whole : IsMachineWhole m.values s) (whole' : IsMachineWhole m.values s')
+    (stands : StandsFor m.values s trees) (given : ReadingsGiven s)
     {comes : ℕ → N → Type 0} {c : Change} (goes : CoreGoes c s.pager.core s'.pager.core) (fits : ChangeFits m.values c comes s.pager s'.pager trees trees') where
   at-step : AtStep m.values c s.pager.core s'.pager.core trees trees'
   at-step =
@@ -35,7 +28,8 @@ module _ {N E B W : Type 0} (m : Seen N B W) (s s' : MachineState N E) (trees tr
   was-open l load within is = elim (goes.loads l load is) [ inl was ↦ was | inr (above, begins) ↦ absurd (omega (arith, within, above)) ]
 
   -- what a reading had read before fits still
-  kept : (reading : Reading) → reading.load.0 ≤ s.pager.core.last.load → ReadingFits m.values s.pager trees reading → FramesGiven s.pager.core.last.node reading.frames → ReadingFits m.values s'.pager trees' reading
+  kept : (reading : Reading) → reading.load.0 ≤ s.pager.core.last.load → ReadingFits m.values s.pager trees reading → FramesGiven s.pager.core.last.node reading.frames
+      → ReadingFits m.values s'.pager trees' reading
   kept reading within fit few load is = (fit-still at-step (record { fit = fit load (was-open reading.load.0 load within is); given = few })).fit
 
   few-still : (frames : List Frame) → FramesGiven s.pager.core.last.node frames → FramesGiven s'.pager.core.last.node frames
@@ -64,14 +58,19 @@ module _ {N E B W : Type 0} (m : Seen N B W) (s s' : MachineState N E) (trees tr
       let few = given-of m s trees stands given reading is in
       let after = fit-after reading load frames at-step opened (record { fit = fit load opened; given = few }) feels in
       let a = within is in
-      let b = goes.loads_last in
-      (λ other at. let same : load ≡ other = same_some _ _ (sym opened ∙ was-open reading.load.0 other a at) in subst (λ (z : OpenLoad). FramesFit m.values.types s'.pager.core.stored trees' z.key reading.node_type frames) same after.fit, omega (arith, a, b), after.given)
+      let b = goes.loads_last in (
+        λ other at. let same : load ≡ other = same_some _ _ (sym opened ∙ was-open reading.load.0 other a at) in
+            subst (λ (z : OpenLoad). FramesFit m.values.types s'.pager.core.stored trees' z.key reading.node_type frames) same after.fit,
+        omega (arith, a, b),
+        after.given,
+      )
     where
       within : IsReadingOf s.work reading ⊎ IsFresh s.pager.core reading → reading.load.0 ≤ s.pager.core.last.load
       within (inl was) = (given reading was).0
       within (inr new) = new.2
 
-  readings-on : {d : Change} (event : Event N B W) (reply : EventReply N B W) → d ≡ c → EventFeels m.values (world_of s) event reply (world_of s') d → (reading : Reading) → IsReadingOf s'.work reading → GoesOn reading
+  readings-on : {d : Change} (event : Event N B W) (reply : EventReply N B W) → d ≡ c → EventFeels m.values (world_of s) event reply (world_of s') d → (reading : Reading)
+      → IsReadingOf s'.work reading → GoesOn reading
   readings-on event reply e (by-call c2 call answer called replied feels keeps) reading is = either-goes keeps reading is
   readings-on event reply e (by-key k key row happened sets keeps) reading is = either-goes keeps reading is
   readings-on event reply e (by-nothing stays keeps) reading is = either-goes keeps reading is
@@ -79,13 +78,16 @@ module _ {N E B W : Type 0} (m : Seen N B W) (s s' : MachineState N E) (trees tr
     | inl old ↦ old-goes reading old
     | inr (none, gone) ↦
         let load = opens none in
-        let felt = subst (λ (o : Option (LoadAnswer N)). ReadingFeels m.values s.pager.core was o frames s'.pager.core c) none (subst (λ z. ReadingFeels m.values s.pager.core was answer frames s'.pager.core z) e feels) in
+        let felt = subst (λ (o : Option (LoadAnswer N)). ReadingFeels m.values s.pager.core was o frames s'.pager.core c) none
+        (subst (λ z. ReadingFeels m.values s.pager.core was answer frames s'.pager.core z) e feels) in
         subst GoesOn (sym gone) (stepped-goes was frames (is-reading-of (world_of s) event was stepped) load.0 load.1 felt)
   ]
 
 -- a machine that stands for trees does so after each event, as trees feel it
-pub keeps-trees : {N B W E : Type 0} (m : Seen N B W) → IsLawful m.values → ReadsItsTypes m.values.types → (s s' : MachineState N E) (trees : ℕ → Tree) (event : Event N B W) (reply : EventReply N B W) → StandsFor m.values s trees → ReadingsGiven s → HoldsSettled m.values s.pager
-    → IsMachineWhole m.values s → IsMachineWhole m.values s' → KeysAreReady m.values s trees → IsWellAsked m.values s trees event reply → Moves (EventBrings m.values (world_of s) event) s.pager s'.pager
+pub keeps-trees : {N B W E : Type 0} (m : Seen N B W) → IsLawful m.values → ReadsItsTypes m.values.types
+    → (s s' : MachineState N E) (trees : ℕ → Tree) (event : Event N B W) (reply : EventReply N B W) → StandsFor m.values s trees → ReadingsGiven s → HoldsSettled m.values s.pager
+    → IsMachineWhole m.values s → IsMachineWhole m.values s' → KeysAreReady m.values s trees → IsWellAsked m.values s trees event reply
+    → Moves (EventBrings m.values (world_of s) event) s.pager s'.pager
     → StepFeels m.values (world_of s) event reply (world_of s') → TreesAfterEvent m.values s s' trees
 keeps-trees m lawful readable s s' trees event reply stands given settled whole whole' ready well moves feels =
     let f = event-fits m s trees stands given lawful readable s' settled whole whole' ready event reply feels.core well feels.feels in

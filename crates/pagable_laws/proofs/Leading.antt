@@ -1,18 +1,10 @@
 -- Where a pager stands for trees, each value and key leads to its node's tree by its own references alone; and from this it stands for them again. So
 -- that a node keeps its tree is shown at each node by itself.
-use Rattle.std.proofs.Common.{◌≡◌, ℕ, zero, ◌<◌, ◌&&◌, Bool, true, false, Option, Some, None, refl, sym, ap, ◌∙◌, subst}
-use Rattle.std.specs.Prelude.{is_some, nat_lt, ◌||◌}
-use Rattle.pagable_model.specs.declared.data_key.OptionalDataKey.TheVariants as optional
-use Rattle.pagable_model.specs.Meaning.{number, integer, text, pattern, none, pair, variant, reference, followed}
-use Rattle.pagable_model.specs.References.{references_in}
-use Rattle.pagable_world.specs.Plain.{OptionalDataKey, ArcRef, Meaning, Tree, tree, type_of, ReadsTree, Among}
-use Rattle.pagable_world.specs.Kinds.{held, is_in_memory}
-use Rattle.pagable_world.specs.World.{Core, Values, IsLawful, key_at}
-use Rattle.pagable_world.specs.Refusals.{IsReference}
-use Rattle.pagable_world.specs.Pager.{PagerState, WellFormed, NodeStands, here, away, MeaningStands, number-stands, integer-stands, text-stands, pattern-stands, none-stands, pair-stands, variant-stands, followed-stands, reference-stands, Represents}
-use Rattle.pagable_world.specs.Runs.{HoldsSettled}
-use Rattle.pagable_laws.specs.ReadLaws.{LeadsTo, number-leads, integer-leads, text-leads, pattern-leads, none-leads, pair-leads, variant-leads, followed-leads, reference-leads, ValueLeads}
-use Rattle.pagable_laws.specs.TreeSteps.{NodeLeads}
+use Rattle.pagable_laws.proofs.Words.{◌≡◌, ℕ, zero, ◌<◌, ◌&&◌, Bool, true, false, Option, Some, None, refl, sym, ap, ◌∙◌, subst, is_some, nat_lt, ◌||◌, OptionalDataKey, number, integer, text}
+use Rattle.pagable_laws.proofs.Words.{pattern, none, pair, variant, reference, followed, references_in, ArcRef, Meaning, Tree, tree, type_of, ReadsTree, Among, held, is_in_memory, Core, Values}
+use Rattle.pagable_laws.proofs.Words.{IsLawful, key_at, IsReference, PagerState, WellFormed, NodeStands, here, away, MeaningStands, number-stands, integer-stands, text-stands, pattern-stands}
+use Rattle.pagable_laws.proofs.Words.{none-stands, pair-stands, variant-stands, followed-stands, reference-stands, Represents, HoldsSettled, LeadsTo, number-leads, integer-leads, text-leads}
+use Rattle.pagable_laws.proofs.Words.{pattern-leads, none-leads, pair-leads, variant-leads, followed-leads, reference-leads, ValueLeads, NodeLeads}
 use Rattle.pagable_laws.proofs.Trees.{same_some, tree_is}
 use Rattle.pagable_laws.proofs.Decoding.{among-left, among-right, meant-refs}
 use Rattle.pagable_laws.proofs.Following.{one-node, given-of, cell-of}
@@ -60,14 +52,16 @@ own-refs lawful x own means r among = meant-refs _ _ (λ is. sym (lawful.refers 
 module _ {N E : Type 0} {v : Values N} {s : PagerState N E} {trees : ℕ → Tree} (lawful : IsLawful v) where
   module _ (settled : HoldsSettled v s) (well : WellFormed v s) (stands : Represents v s trees) where
     -- what a good reference's node stands for, as one of the kind's type, is its tree
-    pub node-tree : (owner : _) (r : ArcRef) (b : Meaning ⊥) → IsReference s.core owner r → NodeStands v s r.node.0 (tree (type_of r.kind.0) b) → ((trees r.node.0).type ≡ type_of r.kind.0) × ((trees r.node.0).meaning ≡ b)
+    pub node-tree : (owner : _) (r : ArcRef) (b : Meaning ⊥) → IsReference s.core owner r → NodeStands v s r.node.0 (tree (type_of r.kind.0) b)
+        → ((trees r.node.0).type ≡ type_of r.kind.0) × ((trees r.node.0).meaning ≡ b)
     node-tree owner r b good node =
         let live = given-of well.whole.handles r.node.0 good.typed in
         let typed : (trees r.node.0).type ≡ type_of r.kind.0 = same_some _ _ (sym (stands.typed r.node.0 live.0) ∙ good.typed) in
         (typed, one-node settled (stands.stands r.node.0 live.0) node typed)
 
     stands-leads : {x : Meaning ArcRef} {a : Meaning ⊥} → MeaningStands v s x a
-        → ((r : ArcRef) (b : Meaning ⊥) → Among (references_in x) r → NodeStands v s r.node.0 (tree (type_of r.kind.0) b) → ((trees r.node.0).type ≡ type_of r.kind.0) × ((trees r.node.0).meaning ≡ b)) → LeadsTo trees x a
+        → ((r : ArcRef) (b : Meaning ⊥) → Among (references_in x) r → NodeStands v s r.node.0 (tree (type_of r.kind.0) b)
+        → ((trees r.node.0).type ≡ type_of r.kind.0) × ((trees r.node.0).meaning ≡ b)) → LeadsTo trees x a
     unfolding references_in
     stands-leads (number-stands i) h = number-leads i
     stands-leads (integer-stands i) h = integer-leads i
@@ -83,7 +77,8 @@ module _ {N E : Type 0} {v : Values N} {s : PagerState N E} {trees : ℕ → Tre
     stands-leads (reference-stands r a node) h = let is = h r a (zero, refl) node in reference-leads r a is.0 is.1
 
     -- a value whose references are good, and which stands for a tree, leads to it
-    pub value-leads : (x : N) (own : Meaning ArcRef) (t : Tree) (owner : _) → v.node_type x ≡ t.type → v.means x own → MeaningStands v s own t.meaning → ((r : ArcRef) → Among (v.references x) r → IsReference s.core owner r) → ValueLeads v trees x t
+    pub value-leads : (x : N) (own : Meaning ArcRef) (t : Tree) (owner : _) → v.node_type x ≡ t.type → v.means x own → MeaningStands v s own t.meaning
+        → ((r : ArcRef) → Among (v.references x) r → IsReference s.core owner r) → ValueLeads v trees x t
     value-leads x own t owner typed means meant good =
         record { own = own; typed = typed; means = means; leads = stands-leads meant (λ r b among node. node-tree owner r b (good r (own-refs lawful x own means r among)) node) }
 
@@ -92,24 +87,24 @@ module _ {N E : Type 0} {v : Values N} {s : PagerState N E} {trees : ℕ → Tre
     node-leads (here n x own t is typed means meant fits) e =
         let leads = value-leads x own t _ typed means meant (λ r among. well.references n x r is among) in
         record {
-          keyed = subst (λ z. (key : ℕ) → key_at s.core n ≡ optional.Some key → ReadsTree s.core.stored v.types key z) e fits;
+          keyed = subst (λ z. (key : ℕ) → key_at s.core n ≡ OptionalDataKey.Some key → ReadsTree s.core.stored v.types key z) e fits;
           valued = λ y at. let same : x ≡ y = same_some _ _ (sym is ∙ at) in subst (λ z. ValueLeads v trees z (trees n)) same (subst (λ z. ValueLeads v trees x z) e leads);
         }
     node-leads (away n key t nothing_there keyed fits) e =
-        record { keyed = subst (λ z. (k : ℕ) → key_at s.core n ≡ optional.Some k → ReadsTree s.core.stored v.types k z) e fits; valued = λ y at. absurd (cc) }
+        record { keyed = subst (λ z. (k : ℕ) → key_at s.core n ≡ OptionalDataKey.Some k → ReadsTree s.core.stored v.types k z) e fits; valued = λ y at. absurd (cc) }
 
     pub leads-all : (n : ℕ) → 0 < held n s.core.rows → NodeLeads v s trees n
     leads-all n live = node-leads (stands.stands n live) refl
 
 -- ---- and back
 
-key-of-away : (pinned : ℕ) (key : OptionalDataKey) → is_in_memory pinned key ≡ false → (k : ℕ) × (key ≡ optional.Some k)
-key-of-away pinned optional.None is = either (nat_lt 0 pinned) is
+key-of-away : (pinned : ℕ) (key : OptionalDataKey) → is_in_memory pinned key ≡ false → (k : ℕ) × (key ≡ OptionalDataKey.Some k)
+key-of-away pinned OptionalDataKey.None is = either (nat_lt 0 pinned) is
   where
-    either : (b : Bool) → (b || true) ≡ false → (k : ℕ) × (optional.None ≡ optional.Some k)
+    either : (b : Bool) → (b || true) ≡ false → (k : ℕ) × (OptionalDataKey.None ≡ OptionalDataKey.Some k)
     either true e = absurd (cc)
     either false e = absurd (cc)
-key-of-away pinned (optional.Some k) is = (k, refl)
+key-of-away pinned (OptionalDataKey.Some k) is = (k, refl)
 
 both-false : (a b : Bool) → a ≡ true → false ≡ (a && b) → b ≡ false
 both-false true b e f = sym f
@@ -120,7 +115,8 @@ abbrev pub AreLive : Core → Meaning ArcRef → Type 0
 AreLive w x = (r : ArcRef) → Among (references_in x) r → 0 < held r.node.0 w.rows
 
 module _ {N E : Type 0} {v : Values N} {s : PagerState N E} {trees : ℕ → Tree} (lawful : IsLawful v) (well : WellFormed v s) (all : (n : ℕ) → 0 < held n s.core.rows → NodeLeads v s trees n) where
-  node-by : (n : ℕ) → 0 < held n s.core.rows → ((own : Meaning ArcRef) → LeadsTo trees own (trees n).meaning → AreLive s.core own → MeaningStands v s own (trees n).meaning) → NodeStands v s n (trees n)
+  node-by : (n : ℕ) → 0 < held n s.core.rows → ((own : Meaning ArcRef) → LeadsTo trees own (trees n).meaning → AreLive s.core own → MeaningStands v s own (trees n).meaning)
+      → NodeStands v s n (trees n)
   node-by n live follow = at (s.values n) refl
     where
       at : (o : Option N) → s.values n ≡ o → NodeStands v s n (trees n)

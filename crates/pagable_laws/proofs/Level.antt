@@ -1,15 +1,7 @@
 -- The chain of two levels is one of the machine, and meets the headline with all that it asks.
-use Rattle.std.proofs.Common.{◌≡◌, ℕ, List, [], ◌∷◌, ◌++◌, refl, inl, subst, ◌∙◌}
-use Rattle.std.specs.Prelude.{Some}
-use Rattle.pagable_world.specs.Plain.{is_in}
-use Rattle.pagable_world.specs.declared.handles.HandleRow.{HandleRow}
-use Rattle.pagable_world.specs.declared.handles.Owner.TheVariants as owners
-use Rattle.pagable_world.specs.declared.rows.Mode.TheVariants as modes
-use Rattle.pagable_world.specs.Kinds.{find_row, pins}
-use Rattle.pagable_world.specs.Calls.{row_of, is_named_by}
-use Rattle.pagable_world.specs.Runs.{AreMoments, state_after}
+use Rattle.pagable_laws.proofs.Words.{◌≡◌, ℕ, List, [], ◌∷◌, ◌++◌, refl, inl, subst, ◌∙◌, Some, is_in, HandleRow, Owner, Mode, find_row, pins, row_of, is_named_by, AreMoments, state_after}
+use Rattle.pagable_laws.proofs.Words.{ArePremised, TwoLevelsMeetTheHeadline}
 use Rattle.pagable_laws.specs.TwoLevels as two
-use Rattle.pagable_laws.specs.LevelLaws.{ArePremised, TwoLevelsMeetTheHeadline}
 use Rattle.pagable_laws.proofs.Tested.{alike-self}
 use Rattle.pagable_laws.proofs.States.{read-back-passes}
 use Rattle.pagable_laws.proofs.Joining.{chains_join, new_whole}
@@ -20,21 +12,21 @@ use Rattle.pagable_laws.proofs.Loading.{done-whole}
 use Rattle.pagable_laws.proofs.Loaded.{loads-parent, loads-child, loads-key}
 use Rattle.pagable_laws.proofs.Premised.{State, lawful, reads-types, settled, ask-on}
 use Rattle.pagable_laws.proofs.Asked.{births-asked, steps-asked, parent-asked, child-asked, key-asked}
+use Rattle.pagable_laws.proofs.Walked.{◌⨾◌}
 
 counts-two : AreMoments two.sample_seen (two.machine two.read_back two.last_values two.done_work) (two.counts 2)
 unfolding find_row is_named_by is_in two.value_at
-counts-two = (
-  record {
-    step = record {
-      happens = only-pager two.read_back two.read_back two.done_work _
-          (record { does = (record { found = (row_of 10 (two.node 3) modes.LoosePinned owners.Caller, refl, refl); refused = tt }, alike-self two.read_back) });
-    };
-    moves = record { each = λ n x is. inl is; environment = refl };
-    writes = tt;
-    whole = done-whole two.read_back two.last_values read-back-passes refl refl;
-  },
-  tt,
-)
+counts-two =
+    record {
+      step = record {
+        happens = only-pager two.read_back two.read_back two.done_work _
+            (record { does = (record { found = (row_of 10 (two.node 3) Mode.LoosePinned Owner.Caller, refl, refl); refused = tt }, alike-self two.read_back) });
+      };
+      moves = record { each = λ n x is. inl is; environment = refl };
+      writes = tt;
+      whole = done-whole two.read_back two.last_values read-back-passes refl refl;
+    }
+    ⨾ tt
 
 runs : AreMoments two.sample_seen two.new_one (two.moments 2)
 unfolding state_after
@@ -58,10 +50,10 @@ unfolding state_after
 later s [] ys all = all
 later s (x ∷ xs) ys (does, rest) = later x.after xs ys rest
 
-pins-two : (n : ℕ) (row : HandleRow) → Some (row_of 10 (two.node 3) modes.LoosePinned owners.Caller) ≡ Some row → n ≡ pins row.node.0 two.read_back.rows → n ≡ 2
+pins-two : (n : ℕ) (row : HandleRow) → Some (row_of 10 (two.node 3) Mode.LoosePinned Owner.Caller) ≡ Some row → n ≡ pins row.node.0 two.read_back.rows → n ≡ 2
 unfolding find_row is_named_by is_in
 pins-two n row is counted =
-    let e : row_of 10 (two.node 3) modes.LoosePinned owners.Caller ≡ row = cc in
+    let e : row_of 10 (two.node 3) Mode.LoosePinned Owner.Caller ≡ row = cc in
     counted ∙ subst (λ (h : HandleRow). pins h.node.0 two.read_back.rows ≡ 2) e refl
 
 no-other : (n : ℕ) → AreMoments two.sample_seen two.new_one (two.moments n) → n ≡ 2

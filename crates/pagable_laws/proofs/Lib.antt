@@ -1,3 +1,4 @@
+mod Words
 mod Wholes
 mod Basic
 mod Putting
@@ -111,3 +112,4 @@ mod LoadsLive
 mod LoadsReady
 mod OnePiece
 mod DeepLoads
+mod LoadRuns

@@ -1,18 +1,8 @@
 -- Machines of the chain of two levels that read, and what their loads bring.
-use Rattle.std.proofs.Common.{◌≡◌, ℕ, zero, suc, false, List, [], ◌∷◌, refl, inl, inr, arith}
-use Rattle.std.specs.Prelude.{Option, Some, None, Ok, ◌⊎◌}
+use Rattle.pagable_laws.proofs.Words.{◌≡◌, ℕ, zero, suc, false, List, [], ◌∷◌, refl, inl, inr, arith, Option, Some, None, Ok, ◌⊎◌, is_in, Owner, LoadAnswer, Mode, WorkerAnswer, find_row, Core}
+use Rattle.pagable_laws.proofs.Words.{OpenLoad, of_key, Reading, Walking, named_fault, row_of, is_named_by, ReadingDoes, answers_from, root_frame, ReadsRoot, FitsRoot, IsReadingWhole}
+use Rattle.pagable_laws.proofs.Words.{IsMachineWhole, IsCellOf}
 use Rattle.pagable_model.specs.Reading as grammar
-use Rattle.pagable_world.specs.Plain.{is_in}
-use Rattle.pagable_world.specs.declared.handles.Owner.TheVariants as owners
-use Rattle.pagable_world.specs.declared.events.LoadAnswer.TheVariants as ends
-use Rattle.pagable_world.specs.declared.rows.Mode.TheVariants as modes
-use Rattle.pagable_world.specs.declared.events.WorkerAnswer.TheVariants as finals
-use Rattle.pagable_world.specs.Kinds.{find_row}
-use Rattle.pagable_world.specs.World.{Core, OpenLoad, of_key, Reading, Walking}
-use Rattle.pagable_world.specs.Refusals.{named_fault}
-use Rattle.pagable_world.specs.Calls.{row_of, is_named_by}
-use Rattle.pagable_world.specs.Loads.{ReadingDoes, answers_from, root_frame, ReadsRoot}
-use Rattle.pagable_world.specs.Pager.{FitsRoot, IsReadingWhole, IsMachineWhole, IsCellOf}
 use Rattle.pagable_laws.specs.TwoLevels as two
 use Rattle.pagable_laws.proofs.Tested.{alike-self, falls-alone}
 use Rattle.pagable_laws.proofs.Whole.{Passes}
@@ -21,20 +11,20 @@ use Rattle.pagable_laws.proofs.States.{work-whole, reads-none, only-at}
 
 -- the worker has answered
 abbrev done : Walking
-done = two.walking [] 15 (Some (finals.Key 25))
+done = two.walking [] 15 (Some (WorkerAnswer.Key 25))
 
 -- machines after it: no load is read by the machine, or one is
 pub done-whole : (core : Core) (vs : List (Option two.Sample)) → Passes core vs → core.workers 0 ≡ false → core.workers 1 ≡ false → IsMachineWhole two.sample (two.machine core vs two.done_work)
 done-whole core vs passes none gone = work-whole core vs two.both_shown done (λ l. None) passes refl none gone (λ l r is. reads-none core l r is)
 
 pub read-whole : (core : Core) (vs : List (Option two.Sample)) (l : ℕ) (load : OpenLoad) (r : Reading) → Passes core vs → core.workers 0 ≡ false → core.workers 1 ≡ false
-    → core.loads l ≡ Some load → load.owner ≡ owners.Caller → r.load.0 ≡ l → FitsRoot load.root r → IsMachineWhole two.sample (two.machine core vs (two.read_work l r))
+    → core.loads l ≡ Some load → load.owner ≡ Owner.Caller → r.load.0 ≡ l → FitsRoot load.root r → IsMachineWhole two.sample (two.machine core vs (two.read_work l r))
 read-whole core vs l load r passes none gone stands_open own number typed =
     work-whole core vs two.both_shown done (two.only l r) passes refl none gone
     (only-at l r (λ q x. IsReadingWhole core q x) (record { number = number; load = load; open_load = stands_open; owned = own; typed = typed }))
 
 -- the child's cell is made with its key, and nothing is read of it
-pub gets-child : ReadingDoes two.sample two.parent_loading owners.Caller two.parent_fetched None two.parent_read.frames two.child_got
+pub gets-child : ReadingDoes two.sample two.parent_loading Owner.Caller two.parent_fetched None two.parent_read.frames two.child_got
 unfolding find_row is_named_by grammar.read grammar.read_with answers_from
 gets-child =
     record {
@@ -42,7 +32,7 @@ gets-child =
         kind = record { 0 = 4 };
         key = 8;
         k = two.handle 8;
-        row = row_of 8 (two.node 3) modes.LooseUnpinned (owners.Load (two.load_number 1));
+        row = row_of 8 (two.node 3) Mode.LooseUnpinned (Owner.Load (two.load_number 1));
         needs = refl;
         asked = record {
           makes = (cell_load 2 0 2 24, record { stands_open = refl; own = refl }, refl, inr (refl, omega arith, record { above = refl; is_left = omega arith }, alike-self two.child_got));
@@ -55,10 +45,10 @@ gets-child =
 
 -- the caller's load of a key
 abbrev pub key_load : OpenLoad
-key_load = record { owner = owners.Caller; key = 24; root = of_key }
+key_load = record { owner = Owner.Caller; key = 24; root = of_key }
 
 -- the cache knows the child
-pub gets-known : ReadingDoes two.sample two.key_loading owners.Caller two.key_fetched None two.key_read.frames two.child_known
+pub gets-known : ReadingDoes two.sample two.key_loading Owner.Caller two.key_fetched None two.key_read.frames two.child_known
 unfolding find_row is_named_by grammar.read grammar.read_with answers_from
 gets-known =
     record {
@@ -66,7 +56,7 @@ gets-known =
         kind = record { 0 = 4 };
         key = 8;
         k = two.handle 13;
-        row = row_of 13 (two.node 3) modes.LooseUnpinned (owners.Load (two.load_number 3));
+        row = row_of 13 (two.node 3) Mode.LooseUnpinned (Owner.Load (two.load_number 3));
         needs = refl;
         asked = record {
           makes = (
@@ -83,7 +73,7 @@ gets-known =
     }
 
 -- the caller gets the parent's value, and a handle of its child
-pub reads-out : ReadingDoes two.sample two.child_known owners.Caller two.key_read (Some (ends.Read (two.parent (two.to_leaf 3 13)))) [] two.read_back
+pub reads-out : ReadingDoes two.sample two.child_known Owner.Caller two.key_read (Some (LoadAnswer.Read (two.parent (two.to_leaf 3 13)))) [] two.read_back
 unfolding find_row is_named_by is_in named_fault grammar.read grammar.read_with answers_from
 reads-out =
     record {
@@ -117,19 +107,15 @@ reads-child = record { root = root_frame 8 1 two.leaf_blob; frames = refl; decod
 
 pub parent-back : (n : ℕ) (x : two.Sample) → two.value_at two.parent_value n ≡ Some x → (n ≡ 2) × (x ≡ two.parent (two.to_leaf 3 8))
 unfolding two.value_at
-parent-back zero x is = absurd (cc)
-parent-back (suc zero) x is = absurd (cc)
 parent-back (suc (suc zero)) x is = (refl, cc)
-parent-back (suc (suc (suc n))) x is = absurd (cc)
+parent-back _ x is = absurd (cc)
 
 pub child-back : (n : ℕ) (x : two.Sample) → two.value_at two.last_values n ≡ Some x
     → (two.value_at two.parent_value n ≡ Some x) ⊎ ((two.value_at two.parent_value n ≡ None) × (n ≡ 3) × (x ≡ two.leaf))
 unfolding two.value_at
-child-back zero x is = absurd (cc)
-child-back (suc zero) x is = absurd (cc)
 child-back (suc (suc zero)) x is = inl is
 child-back (suc (suc (suc zero))) x is = inr (refl, refl, cc)
-child-back (suc (suc (suc (suc n)))) x is = absurd (cc)
+child-back _ x is = absurd (cc)
 
 pub of-parent : IsCellOf two.child_got (two.load_number 1) 2
 unfolding find_row is_named_by

@@ -1,18 +1,8 @@
 -- What a load has got stays live and the load's own, each handle once, as long as the load makes its own steps; and so does the handle that began it.
-use Rattle.std.proofs.Common.{◌≡◌, ℕ, zero, suc, ◌+◌, ◌<◌, ◌≤◌, ◌==◌, ◌||◌, Bool, true, false, List, [], ◌∷◌, ◌++◌, Some, inl, inr, refl, sym, ap, subst, ◌∙◌, if◌then◌else◌, arith}
-use Rattle.std.specs.Prelude.{slice_get, sum_by}
-use Rattle.std.proofs.lemmas.List.Sums.{sum_by-cons, sum_by_push}
-use Rattle.pagable_world.specs.declared.handles.HandleRow.{HandleRow}
-use Rattle.pagable_world.specs.declared.handles.Owner.{Owner}
-use Rattle.pagable_world.specs.declared.handles.Owner.TheVariants as owners
-use Rattle.pagable_world.specs.declared.rows.Mode.{Mode}
-use Rattle.pagable_world.specs.Plain.{ArcRef, Kind, HandleNumber, LoadNumber, NodeNumber, OptionalDataKey, Among, type_of, one, times}
-use Rattle.pagable_world.specs.Kinds.{mode_of}
-use Rattle.pagable_world.specs.World.{Core, Last, OpenLoad, of_cell, Frame, Alike, row_at}
-use Rattle.pagable_world.specs.Calls.{row_of, with_handle, with_node, next_node, is_named_by, Asked}
-use Rattle.pagable_world.specs.LoadCalls.{adopted, GetsKnown}
-use Rattle.pagable_world.specs.Loads.{with_got}
-use Rattle.pagable_world.specs.Pager.{HandlesAreWhole}
+use Rattle.pagable_laws.proofs.Words.{◌≡◌, ℕ, zero, suc, ◌+◌, ◌<◌, ◌≤◌, ◌==◌, ◌||◌, Bool, true, false, List, [], ◌∷◌, ◌++◌, Some, inl, inr, refl, sym, ap, subst, ◌∙◌, if◌then◌else◌, arith}
+use Rattle.pagable_laws.proofs.Words.{slice_get, sum_by, sum_by-cons, sum_by_push, HandleRow, Owner, Mode, ArcRef, Kind, HandleNumber, LoadNumber, NodeNumber, OptionalDataKey, Among, type_of}
+use Rattle.pagable_laws.proofs.Words.{one, times, mode_of, Core, Last, OpenLoad, of_cell, Frame, Alike, row_at, row_of, with_handle, with_node, next_node, is_named_by, Asked, adopted, GetsKnown}
+use Rattle.pagable_laws.proofs.Words.{with_got, HandlesAreWhole}
 use Rattle.pagable_laws.proofs.Sums.{self-number, same-number, at-most-sum, sum-zero}
 use Rattle.pagable_laws.proofs.Goes.{found-number, none-in-next}
 use Rattle.pagable_laws.proofs.Outlasting.{Stands, AreUpTo, stands-alike, stands-changed, stands-more, stands-new, among-changed}
@@ -116,7 +106,7 @@ module _ (w w' : Core) where
 
   pub known-keeps : {l : LoadNumber} {kind : Kind} {key : ℕ} {k : HandleNumber} {q : ℕ} {row : HandleRow} → GetsKnown w l kind key k w' → Stands w.last.handle w.rows q row
       → Stands w'.last.handle w'.rows q row
-  known-keeps {l} {kind} c s = stands-alike c.leaves (with-one w (record { 0 = c.n }) (mode_of kind.0) (owners.Load l) s)
+  known-keeps {l} {kind} c s = stands-alike c.leaves (with-one w (record { 0 = c.n }) (mode_of kind.0) (Owner.Load l) s)
 
   -- where values' references move and a handle comes
   module _ (l : LoadNumber) (kind : Kind) (key : ℕ) (own : OptionalDataKey) (references : List ArcRef) where
@@ -124,7 +114,7 @@ module _ (w w' : Core) where
     born = with_node w (type_of kind.0) own references
 
     abbrev pub made : Core
-    made = with_handle born (next_node w) (mode_of kind.0) (owners.Load l)
+    made = with_handle born (next_node w) (mode_of kind.0) (Owner.Load l)
 
     abbrev pub known : Core
     known = adopted w l kind key own references
@@ -137,24 +127,24 @@ module _ (w w' : Core) where
     pub adopted-keeps : {q : ℕ} {row : HandleRow} → Alike known w' → is_named_by references q ≡ false → Stands w.last.handle w.rows q row → Stands w'.last.handle w'.rows q row
     adopted-keeps {q} {row} a free s =
         let number = found-number q w.rows row s.live in
-        let turned = stands-changed (λ h. is_named_by references h.number.0) (λ h. record h { owner = owners.Value (next_node w) }) (λ h. refl) s in
+        let turned = stands-changed (λ h. is_named_by references h.number.0) (λ h. record h { owner = Owner.Value (next_node w) }) (λ h. refl) s in
         let off : is_named_by references row.number.0 ≡ false = ap (is_named_by references) number ∙ free in
         let still : Stands w.last.handle born.rows q row =
-        subst (λ r. Stands w.last.handle born.rows q r) (ap (λ (b : Bool). if b then record row { owner = owners.Value (next_node w) } else row) off) turned in
-        stands-alike a (to-known (with-one born (next_node w) (mode_of kind.0) (owners.Load l) still))
+        subst (λ r. Stands w.last.handle born.rows q r) (ap (λ (b : Bool). if b then record row { owner = Owner.Value (next_node w) } else row) off) turned in
+        stands-alike a (to-known (with-one born (next_node w) (mode_of kind.0) (Owner.Load l) still))
 
-    pub adopted-new : HandlesAreWhole w → Alike known w' → Stands w'.last.handle w'.rows (w.last.handle + 1) (row_of (w.last.handle + 1) (next_node w) (mode_of kind.0) (owners.Load l))
+    pub adopted-new : HandlesAreWhole w → Alike known w' → Stands w'.last.handle w'.rows (w.last.handle + 1) (row_of (w.last.handle + 1) (next_node w) (mode_of kind.0) (Owner.Load l))
     adopted-new whole a =
-        stands-alike a (to-known (stands-new w.last.handle born.rows (row_of (w.last.handle + 1) (next_node w) (mode_of kind.0) (owners.Load l)) few refl))
+        stands-alike a (to-known (stands-new w.last.handle born.rows (row_of (w.last.handle + 1) (next_node w) (mode_of kind.0) (Owner.Load l)) few refl))
       where
         few : AreUpTo w.last.handle born.rows
         few h among =
-            let a = among-changed (λ (x : HandleRow). if is_named_by references x.number.0 then record x { owner = owners.Value (next_node w) } else x) w.rows h among in
+            let a = among-changed (λ (x : HandleRow). if is_named_by references x.number.0 then record x { owner = Owner.Value (next_node w) } else x) w.rows h among in
             let n : h.number.0 ≡ a.0.number.0 = ap (λ (x : HandleRow). x.number.0) a.2 ∙ number a.0 (is_named_by references a.0.number.0) in
             let le = (whole.numbered a.0 a.1).1 in
             omega (arith, n, le)
           where
-            number : (x : HandleRow) (b : Bool) → (if b then record x { owner = owners.Value (next_node w) } else x).number.0 ≡ x.number.0
+            number : (x : HandleRow) (b : Bool) → (if b then record x { owner = Owner.Value (next_node w) } else x).number.0 ≡ x.number.0
             number x true = refl
             number x false = refl
 
@@ -171,11 +161,11 @@ not-named (r ∷ rs) q none = at (r.handle.0 == q) refl (not-named rs q (λ g am
 
 -- each handle that was got is live, and the load's
 abbrev pub Live : Core → LoadNumber → List Frame → Type 0
-Live w l frames = (frame : Frame) (r : ArcRef) → Among frames frame → Among frame.got r → (row : HandleRow) × (row_at w r.handle ≡ Some row) × (row.owner ≡ owners.Load l)
+Live w l frames = (frame : Frame) (r : ArcRef) → Among frames frame → Among frame.got r → (row : HandleRow) × (row_at w r.handle ≡ Some row) × (row.owner ≡ Owner.Load l)
 
 -- The load's handles are its own, each got once; and the handle that began it is the caller's.
 pub record LoadReady (w : Core) (l : LoadNumber) (load : OpenLoad) (frames : List Frame) : Type 0 where
-  pub begun : (node : NodeNumber) (t : ℕ) (h : HandleNumber) → load.root ≡ of_cell node t h → (row : HandleRow) × (row_at w h ≡ Some row) × (row.owner ≡ owners.Caller)
+  pub begun : (node : NodeNumber) (t : ℕ) (h : HandleNumber) → load.root ≡ of_cell node t h → (row : HandleRow) × (row_at w h ≡ Some row) × (row.owner ≡ Owner.Caller)
   pub live : Live w l frames
   pub once : GotOnce frames
 
@@ -186,7 +176,7 @@ live-new w l frame frames none live f r (zero, is) (place, there) =
     absurd (cc)
 live-new w l frame frames none live f r (suc i, is) among = live f r (i, is) among
 
-pub live-got : (w : Core) (l : LoadNumber) (frames : List Frame) (kind : Kind) (row : HandleRow) → row_at w row.number ≡ Some row → row.owner ≡ owners.Load l → Live w l frames
+pub live-got : (w : Core) (l : LoadNumber) (frames : List Frame) (kind : Kind) (row : HandleRow) → row_at w row.number ≡ Some row → row.owner ≡ Owner.Load l → Live w l frames
     → Live w l (with_got kind row frames)
 live-got w l [] kind row there own live f r (i, is) among = absurd (cc)
 live-got w l (top ∷ below) kind row there own live f r (zero, is) (place, at) =

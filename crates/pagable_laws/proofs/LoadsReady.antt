@@ -1,17 +1,7 @@
 -- A load's own step leaves it ready: what it has got is its own, and the caller has the handle that began it.
-use Rattle.std.proofs.Common.{◌≡◌, ℕ, zero, suc, ◌+◌, ◌==◌, false, List, [], ◌∷◌, Some, inl, inr, refl, sym, ap, subst, ◌∙◌, arith}
-use Rattle.pagable_model.specs.declared.data_key.OptionalDataKey.TheVariants as optional
-use Rattle.pagable_world.specs.declared.handles.HandleRow.{HandleRow}
-use Rattle.pagable_world.specs.declared.handles.Owner.TheVariants as owners
-use Rattle.pagable_world.specs.Plain.{ArcRef, Kind, HandleNumber, LoadNumber, NodeNumber, Tree, Among, times, one}
-use Rattle.pagable_world.specs.Kinds.{find_row, mode_of}
-use Rattle.pagable_world.specs.World.{Core, OpenLoad, of_cell, Frame, Reading, Values, IsLawful, row_at}
-use Rattle.pagable_world.specs.Calls.{is_named_by}
-use Rattle.pagable_world.specs.Loads.{with_got, root_frame, nested_frame, GoesOn, GetsLazy, MakesNode}
-use Rattle.pagable_world.specs.LoadCalls.{GetsKnown}
-use Rattle.pagable_world.specs.Pager.{HandlesAreWhole, FramesFit}
-use Rattle.pagable_world.specs.Runs.{ReadsItsTypes}
-use Rattle.pagable_laws.specs.ReadRuns.{FramesHeld}
+use Rattle.pagable_laws.proofs.Words.{◌≡◌, ℕ, zero, suc, ◌+◌, ◌==◌, false, List, [], ◌∷◌, Some, inl, inr, refl, sym, ap, subst, ◌∙◌, arith, OptionalDataKey, HandleRow, Owner, ArcRef, Kind}
+use Rattle.pagable_laws.proofs.Words.{HandleNumber, LoadNumber, NodeNumber, Tree, Among, times, one, find_row, mode_of, Core, OpenLoad, of_cell, Frame, Reading, Values, IsLawful, row_at}
+use Rattle.pagable_laws.proofs.Words.{is_named_by, with_got, root_frame, nested_frame, GoesOn, GetsLazy, MakesNode, GetsKnown, HandlesAreWhole, FramesFit, ReadsItsTypes, FramesHeld}
 use Rattle.pagable_laws.proofs.Trees.{same_some}
 use Rattle.pagable_laws.proofs.Sums.{self-number, at-most-sum}
 use Rattle.pagable_laws.proofs.Goes.{found-number}
@@ -19,7 +9,8 @@ use Rattle.pagable_laws.proofs.GoodReferences.{good}
 use Rattle.pagable_laws.proofs.Outlasting.{NotValues, Stands, stands-whole, stands-alike, stands-fell}
 use Rattle.pagable_laws.proofs.Fitting.{first-fits}
 use Rattle.pagable_laws.proofs.Decoding.{decodes}
-use Rattle.pagable_laws.proofs.LoadsLive.{GotOnce, AllBelow, got-cons, once-new, once-below, once-none, once-got, with-one, new-one, asked-keeps, known-keeps, adopted-keeps, adopted-new, not-named, Live, LoadReady, live-new, live-got}
+use Rattle.pagable_laws.proofs.LoadsLive.{GotOnce, AllBelow, got-cons, once-new, once-below, once-none, once-got, with-one, new-one, asked-keeps, known-keeps, adopted-keeps, adopted-new}
+use Rattle.pagable_laws.proofs.LoadsLive.{not-named, Live, LoadReady, live-new, live-got}
 
 module _ {N : Type 0} (v : Values N) (lawful : IsLawful v) (readable : ReadsItsTypes v.types) (w w' : Core) (reading : Reading) (load : OpenLoad) (trees : ℕ → Tree) (root_key root_type : ℕ)
     (whole : HandlesAreWhole w)
@@ -32,18 +23,18 @@ module _ {N : Type 0} (v : Values N) (lawful : IsLawful v) (readable : ReadsItsT
   Keeps q = (row : HandleRow) → NotValues row.owner → Stands w.last.handle w.rows q row → Stands w'.last.handle w'.rows q row
 
   abbrev CallersKept : Type 0
-  CallersKept = (h : HandleNumber) (row : HandleRow) → row_at w h ≡ Some row → row.owner ≡ owners.Caller → Keeps h.0
+  CallersKept = (h : HandleNumber) (row : HandleRow) → row_at w h ≡ Some row → row.owner ≡ Owner.Caller → Keeps h.0
 
   abbrev LivesKept : List Frame → Type 0
   LivesKept fs = (frame : Frame) (r : ArcRef) → Among fs frame → Among frame.got r → Keeps r.handle.0
 
-  no-value-caller : (row : HandleRow) → row.owner ≡ owners.Caller → NotValues row.owner
-  no-value-caller row own n is = let e : owners.Caller ≡ owners.Value n = sym own ∙ is in absurd (cc)
+  no-value-caller : (row : HandleRow) → row.owner ≡ Owner.Caller → NotValues row.owner
+  no-value-caller row own n is = let e : Owner.Caller ≡ Owner.Value n = sym own ∙ is in absurd (cc)
 
-  no-value-load : (row : HandleRow) → row.owner ≡ owners.Load l → NotValues row.owner
-  no-value-load row own n is = let e : owners.Load l ≡ owners.Value n = sym own ∙ is in absurd (cc)
+  no-value-load : (row : HandleRow) → row.owner ≡ Owner.Load l → NotValues row.owner
+  no-value-load row own n is = let e : Owner.Load l ≡ Owner.Value n = sym own ∙ is in absurd (cc)
 
-  begun-on : CallersKept → (node : NodeNumber) (t : ℕ) (h : HandleNumber) → load.root ≡ of_cell node t h → (row : HandleRow) × (row_at w' h ≡ Some row) × (row.owner ≡ owners.Caller)
+  begun-on : CallersKept → (node : NodeNumber) (t : ℕ) (h : HandleNumber) → load.root ≡ of_cell node t h → (row : HandleRow) × (row_at w' h ≡ Some row) × (row.owner ≡ Owner.Caller)
   begun-on kept node t h root =
       let b = ready.begun node t h root in
       let s = kept h b.0 b.1 b.2 b.0 (no-value-caller b.0 b.2) (stands-whole whole h.0 b.0 b.1) in
@@ -60,13 +51,13 @@ module _ {N : Type 0} (v : Values N) (lawful : IsLawful v) (readable : ReadsItsT
 
   -- a handle was got
   got-ready : (fs : List Frame) (kind : Kind) (row : HandleRow) (k : HandleNumber) (new : HandleRow) → row_at w' k ≡ Some row → k.0 ≡ w.last.handle + 1
-      → Stands w'.last.handle w'.rows (w.last.handle + 1) new → new.owner ≡ owners.Load l
+      → Stands w'.last.handle w'.rows (w.last.handle + 1) new → new.owner ≡ Owner.Load l
       → LivesKept fs → CallersKept → Live w l fs → GotOnce fs → AllBelow (w.last.handle + 1) fs → LoadReady w' l load (with_got kind row fs)
   got-ready fs kind row k new made next s own kept callers live once below =
       let same : row ≡ new = same_some _ _ (sym made ∙ ap (λ n. find_row n w'.rows) next ∙ s.live) in
       let number = found-number k.0 w'.rows row made in
       let there : row_at w' row.number ≡ Some row = ap (λ n. find_row n w'.rows) number ∙ made in
-      let owned : row.owner ≡ owners.Load l = ap (λ (x : HandleRow). x.owner) same ∙ own in
+      let owned : row.owner ≡ Owner.Load l = ap (λ (x : HandleRow). x.owner) same ∙ own in
       record {
         begun = begun-on callers;
         live = live-got w' l fs kind row there owned (live-on fs kept live);
@@ -75,16 +66,17 @@ module _ {N : Type 0} (v : Values N) (lawful : IsLawful v) (readable : ReadsItsT
 
   known-ready : (kind : Kind) (key : ℕ) (k : HandleNumber) (row : HandleRow) → GetsKnown w l kind key k w' → row_at w' k ≡ Some row → LoadReady w' l load (with_got kind row reading.frames)
   known-ready kind key k row c made =
-      let new = stands-alike c.leaves (new-one w (record { 0 = c.n }) (mode_of kind.0) (owners.Load l) whole) in
-      got-ready reading.frames kind row k _ made c.next.above new refl (λ frame r among got x free s. known-keeps w w' c s) (λ h x there own y free s. known-keeps w w' c s) ready.live ready.once small
+      let new = stands-alike c.leaves (new-one w (record { 0 = c.n }) (mode_of kind.0) (Owner.Load l) whole) in
+      got-ready reading.frames kind row k _ made c.next.above new refl (λ frame r among got x free s. known-keeps w w' c s)
+      (λ h x there own y free s. known-keeps w w' c s) ready.live ready.once small
 
-  lazy-ready : (frames : List Frame) (g : GetsLazy v.types w owners.Caller reading frames w') → LoadReady w' l load (with_got g.kind g.row reading.frames)
+  lazy-ready : (frames : List Frame) (g : GetsLazy v.types w Owner.Caller reading frames w') → LoadReady w' l load (with_got g.kind g.row reading.frames)
   lazy-ready frames g = elim g.asked.makes.3 [
     | inl c ↦ known-ready g.kind g.key g.k g.row c g.made
     | inr (none, few, next, a) ↦
-        got-ready reading.frames g.kind g.row g.k _ g.made next.above (adopted-new w w' l g.kind g.key (optional.Some g.key) [] whole a) refl
-        (λ frame r among got x free s. adopted-keeps w w' l g.kind g.key (optional.Some g.key) [] a (nothing r.handle.0) s)
-        (λ h x there own y free s. adopted-keeps w w' l g.kind g.key (optional.Some g.key) [] a (nothing h.0) s)
+        got-ready reading.frames g.kind g.row g.k _ g.made next.above (adopted-new w w' l g.kind g.key (OptionalDataKey.Some g.key) [] whole a) refl
+        (λ frame r among got x free s. adopted-keeps w w' l g.kind g.key (OptionalDataKey.Some g.key) [] a (nothing r.handle.0) s)
+        (λ h x there own y free s. adopted-keeps w w' l g.kind g.key (OptionalDataKey.Some g.key) [] a (nothing h.0) s)
         ready.live ready.once small
   ]
     where
@@ -92,12 +84,12 @@ module _ {N : Type 0} (v : Values N) (lawful : IsLawful v) (readable : ReadsItsT
       nothing q = not-named [] q (λ g among is. let e = among.1 in cc)
 
   -- what was read became a node: its references go, and what was got for the blobs below stays
-  node-ready : (frames : List Frame) (g : MakesNode v w owners.Caller reading frames w') → LoadReady w' l load (with_got g.reads_node.top.kind g.row g.reads_node.below)
+  node-ready : (frames : List Frame) (g : MakesNode v w Owner.Caller reading frames w') → LoadReady w' l load (with_got g.reads_node.top.kind g.row g.reads_node.below)
   node-ready frames g = elim c.makes [
     | inl (n, usable, f) ↦
-        got-ready below top.kind g.row g.k _ g.made c.next.above (stands-fell f.falls (λ m e. cc) new-free (new-one w (record { 0 = n }) (mode_of top.kind.0) (owners.Load l) whole)) refl
-        (λ frame r among got x free s. stands-fell f.falls free (below-free frame r among got) (with-one w (record { 0 = n }) (mode_of top.kind.0) (owners.Load l) s))
-        (λ h x there own y free s. stands-fell f.falls free (caller-free h x there own) (with-one w (record { 0 = n }) (mode_of top.kind.0) (owners.Load l) s)) live_below once_below small_below
+        got-ready below top.kind g.row g.k _ g.made c.next.above (stands-fell f.falls (λ m e. cc) new-free (new-one w (record { 0 = n }) (mode_of top.kind.0) (Owner.Load l) whole)) refl
+        (λ frame r among got x free s. stands-fell f.falls free (below-free frame r among got) (with-one w (record { 0 = n }) (mode_of top.kind.0) (Owner.Load l) s))
+        (λ h x there own y free s. stands-fell f.falls free (caller-free h x there own) (with-one w (record { 0 = n }) (mode_of top.kind.0) (Owner.Load l) s)) live_below once_below small_below
     | inr (none, few, a) ↦
         got-ready below top.kind g.row g.k _ g.made c.next.above (adopted-new w w' l top.kind top.key _ (v.references g.x) whole a) refl
         (λ frame r among got x free s. adopted-keeps w w' l top.kind top.key _ (v.references g.x) a (below-free frame r among got) s)
@@ -144,11 +136,11 @@ module _ {N : Type 0} (v : Values N) (lawful : IsLawful v) (readable : ReadsItsT
       below-free : (frame : Frame) (r : ArcRef) → Among below frame → Among frame.got r → is_named_by (v.references g.x) r.handle.0 ≡ false
       below-free frame r among got = not-named (v.references g.x) r.handle.0 (λ x named same. twice frame r x among got (was_got x named) same)
 
-      caller-free : (h : HandleNumber) (row : HandleRow) → row_at w h ≡ Some row → row.owner ≡ owners.Caller → is_named_by (v.references g.x) h.0 ≡ false
+      caller-free : (h : HandleNumber) (row : HandleRow) → row_at w h ≡ Some row → row.owner ≡ Owner.Caller → is_named_by (v.references g.x) h.0 ≡ false
       caller-free h row there own = not-named (v.references g.x) h.0 (λ x named same.
-          let a = good w (owners.Load l) [] (v.references g.x) c.good x named in
+          let a = good w (Owner.Load l) [] (v.references g.x) c.good x named in
           let same_row : a.row ≡ row = same_some _ _ (sym a.live ∙ ap (λ n. find_row n w.rows) same ∙ there) in
-          let e : owners.Load l ≡ owners.Caller = sym a.owned ∙ ap (λ (y : HandleRow). y.owner) same_row ∙ own in cc)
+          let e : Owner.Load l ≡ Owner.Caller = sym a.owned ∙ ap (λ (y : HandleRow). y.owner) same_row ∙ own in cc)
 
       -- no reference names the handle that comes
       new-free : is_named_by (v.references g.x) (w.last.handle + 1) ≡ false
@@ -159,9 +151,9 @@ module _ {N : Type 0} (v : Values N) (lawful : IsLawful v) (readable : ReadsItsT
 
   -- ---- all steps
 
-  pub goes-ready : (frames : List Frame) → GoesOn v w owners.Caller reading frames w' → LoadReady w' l load frames
+  pub goes-ready : (frames : List Frame) → GoesOn v w Owner.Caller reading frames w' → LoadReady w' l load frames
   goes-ready frames (inl root) =
-      let kept = λ (h : HandleNumber) (x : HandleRow) (there : row_at w h ≡ Some x) (own : x.owner ≡ owners.Caller) (y : HandleRow) (free : NotValues y.owner)
+      let kept = λ (h : HandleNumber) (x : HandleRow) (there : row_at w h ≡ Some x) (own : x.owner ≡ Owner.Caller) (y : HandleRow) (free : NotValues y.owner)
       (s : Stands w.last.handle w.rows h.0 y). asked-keeps w w' root.asked.gives.2.asked s in
       subst (λ fs. LoadReady w' l load fs) (sym root.goes) (record {
         begun = begun-on kept;

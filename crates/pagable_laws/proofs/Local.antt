@@ -1,20 +1,16 @@
 -- Reading is local: what is read of a front is read of the whole, a fault stays, and what was used reads alone.
-use Rattle.std.proofs.Common.{◌≡◌, ℕ, zero, suc, ◌-◌, Bool, true, false, List, [], ◌∷◌, ◌++◌, Some, None, Result, Ok, Err, inl, inr, refl, ap, ◌∙◌, subst, append_assoc}
+use Rattle.pagable_laws.proofs.Words.{◌≡◌, ℕ, zero, suc, ◌-◌, Bool, true, false, List, [], ◌∷◌, ◌++◌, Some, None, Result, Ok, Err, inl, inr, refl, ap, ◌∙◌, subst, append_assoc, Error, ◌>>=◌}
+use Rattle.pagable_laws.proofs.Words.{Read, unsigned_at, signed_at, length_at, text_at, bool_at, char_at, duration_at, Meaning, number, integer, none, variant, sequence, entry, absent, present}
+use Rattle.pagable_laws.proofs.Words.{success, failure, lifted, text_order, put_all, put_sorted, put_placed, put_sorted_item, put_placed_item, of_entries, of_duration, of_tagged, of_hash_map}
+use Rattle.pagable_laws.proofs.Words.{Shape, nothing, unsigned, signed, flag, letter, duration, json, optional, outcome, list, run, array, both, sorted_map, placed_map, hash_map, sorted_set}
+use Rattle.pagable_laws.proofs.Words.{placed_set, static_value, tagged, cases, nested, Rest, Look, Gets, bytes_of, reference_at, seen, two, choose, items, counted, registered, Deeper, enter}
+use Rattle.pagable_laws.proofs.Words.{JsonCase, null_case, flag_case, number_case, text_case, array_case, object_case, json_case, json_part, read_with, below, deepest, Context, read, rest}
+use Rattle.pagable_laws.proofs.Words.{with_more, IsLocal, IsUsed, IsLasting}
 use Rattle.std.specs.Int.{w32, w64}
-use Rattle.pagable_model.specs.declared.error.Error.{Error}
-use Rattle.pagable_model.specs.declared.error.Error.TheVariants as errors
-use Rattle.pagable_model.specs.Steps.{◌>>=◌}
-use Rattle.pagable_model.specs.Numbers.{Read, unsigned_at, signed_at}
-use Rattle.pagable_model.specs.Basic.{length_at, text_at, bool_at, char_at, duration_at}
-use Rattle.pagable_model.specs.Meaning.{Meaning, number, integer, none, variant, sequence, entry, absent, present, success, failure, lifted}
 use Rattle.pagable_model.specs.Meaning as meanings
-use Rattle.pagable_model.specs.Keys.{text_order, put_all, put_sorted, put_placed, put_sorted_item, put_placed_item}
-use Rattle.pagable_model.specs.Carried.{of_entries, of_duration, of_tagged, of_hash_map}
-use Rattle.pagable_model.specs.Shape.{Shape, nothing, unsigned, signed, flag, letter, duration, json, optional, outcome, list, run, array, both, sorted_map, placed_map, hash_map, sorted_set, placed_set, static_value, tagged, cases, nested}
 use Rattle.pagable_model.specs.Shape as shapes
-use Rattle.pagable_model.specs.Reading.{Rest, Look, Gets, bytes_of, reference_at, seen, two, choose, items, counted, registered, Deeper, enter, JsonCase, null_case, flag_case, number_case, text_case, array_case, object_case, json_case, json_part, read_with, below, deepest, Context, read}
-use Rattle.pagable_laws.specs.FormLaws.{rest, with_more, IsLocal, IsUsed, IsLasting}
-use Rattle.pagable_laws.proofs.Tame.{Goes, Uses, Tame, Joins, gives, refuses, and_then, more_bytes, TameBytes, unsigned_tame, signed_tame, bool_tame, length_tame, text_tame, char_tame, duration_tame}
+use Rattle.pagable_laws.proofs.Tame.{Goes, Uses, Tame, Joins, gives, refuses, and_then, more_bytes, TameBytes, unsigned_tame, signed_tame, bool_tame, length_tame, text_tame, char_tame}
+use Rattle.pagable_laws.proofs.Tame.{duration_tame}
 
 module _ {A : Type 0} where
   abbrev pub more : Rest A → Rest A → Rest A
@@ -41,7 +37,8 @@ module _ {A X : Type 0} {get get2 : Gets A X} (h : TameGets get) (is : (i : Rest
 
 module _ {A X Y : Type 0} (read : List ℕ → Read X) (view : X → Y) (h : TameBytes read) where
   bytes_go : (i x : Rest A) (first second : Read X) → Goes more_bytes x.bytes first second
-      → Goes more x (first >>= λ p. let z : Result (Y × Rest A) Error = Ok (view p.0, record i { bytes = p.1 }) in z) (second >>= λ p. let z : Result (Y × Rest A) Error = Ok (view p.0, record (more i x) { bytes = p.1 }) in z)
+      → Goes more x (first >>= λ p. let z : Result (Y × Rest A) Error = Ok (view p.0, record i { bytes = p.1 }) in z)
+      (second >>= λ p. let z : Result (Y × Rest A) Error = Ok (view p.0, record (more i x) { bytes = p.1 }) in z)
   unfolding Goes
   bytes_go i x (Ok p) second g = rw g refl
   bytes_go i x (Err e) second (inl g) = inl g
@@ -60,7 +57,8 @@ module _ {A : Type 0} where
   seen_tame view h = and_then joins (λ v i. Ok (view v, i)) _ (λ i. refl) h (λ v. gives joins (view v))
 
   pub two_tame : {X Y : Type 0} {first : Gets A X} {second : Gets A Y} → TameGets first → TameGets second → TameGets (two first second)
-  two_tame {X} {Y} {first} {second} h g = and_then joins (λ v i. second i >>= λ y. Ok ((v, y.0), y.1)) _ (λ i. refl) h (λ v. and_then joins (λ w i. Ok ((v, w), i)) _ (λ i. refl) g (λ w. gives joins (v, w)))
+  two_tame {X} {Y} {first} {second} h g = and_then joins (λ v i. second i >>= λ y. Ok ((v, y.0), y.1)) _ (λ i. refl) h
+      (λ v. and_then joins (λ w i. Ok ((v, w), i)) _ (λ i. refl) g (λ w. gives joins (v, w)))
 
   pub choose_tame : {X : Type 0} (t : Bool) {get other : Gets A X} → TameGets get → TameGets other → TameGets (choose t get other)
   choose_tame true h g = record { goes = λ i x. h.goes i x; uses = λ i. h.uses i }
@@ -69,7 +67,8 @@ module _ {A : Type 0} where
   pub items_tame : {X : Type 0} {get : Gets A X} → TameGets get → (n : ℕ) → TameGets (items get n)
   unfolding items
   items_tame h zero = gives joins []
-  items_tame {X} {get} h (suc n) = and_then joins (λ v i. items get n i >>= λ others. Ok (v ∷ others.0, others.1)) _ (λ i. refl) h (λ v. and_then joins (λ others i. Ok (v ∷ others, i)) _ (λ i. refl) (items_tame h n) (λ others. gives joins (v ∷ others)))
+  items_tame {X} {get} h (suc n) = and_then joins (λ v i. items get n i >>= λ others. Ok (v ∷ others.0, others.1)) _ (λ i. refl) h
+      (λ v. and_then joins (λ others i. Ok (v ∷ others, i)) _ (λ i. refl) (items_tame h n) (λ others. gives joins (v ∷ others)))
 
   pub counted_tame : {X : Type 0} {get : Gets A X} → TameGets get → TameGets (counted get)
   counted_tame {X} {get} h = and_then joins (λ n i. items get n i) _ (λ i. refl) (of_bytes length_at (λ n. n) length_tame) (λ n. items_tame h n)
@@ -80,7 +79,8 @@ module _ {A B : Type 0} where
   TameDeeper None = Unit {0}
   TameDeeper (Some get) = (s : Shape) → TameGets (get s)
 
-  enter_tame : {X : Type 0} (d : Deeper A B) (part : (Shape → Gets A (Meaning B)) → Gets A X) → TameDeeper d → ((get : Shape → Gets A (Meaning B)) → ((s : Shape) → TameGets (get s)) → TameGets (part get)) → TameGets (enter d part)
+  enter_tame : {X : Type 0} (d : Deeper A B) (part : (Shape → Gets A (Meaning B)) → Gets A X) → TameDeeper d
+      → ((get : Shape → Gets A (Meaning B)) → ((s : Shape) → TameGets (get s)) → TameGets (part get)) → TameGets (enter d part)
   unfolding TameDeeper Goes Uses
   enter_tame None part h k = record { goes = λ i x. inr refl; uses = λ i. tt }
   enter_tame (Some get) part h k = let g = k get h in record { goes = λ i x. g.goes i x; uses = λ i. g.uses i }
@@ -89,14 +89,15 @@ module _ {A B : Type 0} where
   json_tame d h null_case = likewise (gives joins (variant 0 none)) (λ i. refl)
   json_tame d h flag_case = likewise (of_bytes bool_at (λ b. variant 1 (meanings.flag b)) bool_tame) (λ i. refl)
   json_tame d h number_case =
-      and_then joins (λ float i. choose float (λ r. Err errors.JsonNumber) (bytes_of (signed_at w64) (λ z. variant 2 (meanings.integer z))) i) _ (λ i. refl) (of_bytes bool_at (λ b. b) bool_tame)
-      (λ float. choose_tame float (refuses joins (Meaning B) errors.JsonNumber) (of_bytes (signed_at w64) (λ z. variant 2 (meanings.integer z)) (signed_tame w64)))
+      and_then joins (λ float i. choose float (λ r. Err Error.JsonNumber) (bytes_of (signed_at w64) (λ z. variant 2 (meanings.integer z))) i) _ (λ i. refl) (of_bytes bool_at (λ b. b) bool_tame)
+      (λ float. choose_tame float (refuses joins (Meaning B) Error.JsonNumber) (of_bytes (signed_at w64) (λ z. variant 2 (meanings.integer z)) (signed_tame w64)))
   json_tame d h text_case = likewise (of_bytes text_at (λ t. variant 3 (meanings.text t)) text_tame) (λ i. refl)
   json_tame d h array_case =
       and_then joins (λ count i. enter d (λ get. seen (λ ms. variant 4 (sequence ms)) (items (get json) count)) i) _ (λ i. refl) (of_bytes length_at (λ n. n) length_tame)
       (λ count. enter_tame d _ h (λ get g. seen_tame _ (items_tame (g json) count)))
   json_tame d h object_case =
-      and_then joins (λ count i. enter d (λ get. seen (λ es. variant 5 (of_entries (put_all (put_sorted text_order) [] es))) (items (two (get shapes.text) (get json)) count)) i) _ (λ i. refl) (of_bytes length_at (λ n. n) length_tame)
+      and_then joins (λ count i. enter d (λ get. seen (λ es. variant 5 (of_entries (put_all (put_sorted text_order) [] es))) (items (two (get shapes.text) (get json)) count)) i) _ (λ i. refl)
+      (of_bytes length_at (λ n. n) length_tame)
       (λ count. enter_tame d _ h (λ get g. seen_tame _ (items_tame (two_tame (g shapes.text) (g json)) count)))
 
   json_cases : (d : Deeper A B) → TameDeeper d → (c : Result JsonCase Error) → TameGets (λ i. c >>= λ case. json_part d case i)
@@ -109,12 +110,14 @@ module _ {A B : Type 0} where
 
   module _ (look : Look A B) (parts : ℕ → Shape) where
     look_goes : (kind : ℕ) (a : A) (bytes : List ℕ) (refs : List A) (x : Rest A) (r : Result B Error)
-        → Goes more x (r >>= λ b. let z : Result (Meaning B × Rest A) Error = Ok (meanings.reference b, rest bytes refs) in z) (r >>= λ b. let z : Result (Meaning B × Rest A) Error = Ok (meanings.reference b, rest (bytes ++ x.bytes) (refs ++ x.refs)) in z)
+        → Goes more x (r >>= λ b. let z : Result (Meaning B × Rest A) Error = Ok (meanings.reference b, rest bytes refs) in z)
+        (r >>= λ b. let z : Result (Meaning B × Rest A) Error = Ok (meanings.reference b, rest (bytes ++ x.bytes) (refs ++ x.refs)) in z)
     unfolding Goes
     look_goes kind a bytes refs x (Ok b) = refl
     look_goes kind a bytes refs x (Err e) = inr refl
 
-    reference_goes : (kind : ℕ) (bytes : List ℕ) (refs : List A) (x : Rest A) → Goes more x (reference_at look kind refs (rest bytes refs)) (reference_at look kind (refs ++ x.refs) (more (rest bytes refs) x))
+    reference_goes : (kind : ℕ) (bytes : List ℕ) (refs : List A) (x : Rest A)
+        → Goes more x (reference_at look kind refs (rest bytes refs)) (reference_at look kind (refs ++ x.refs) (more (rest bytes refs) x))
     unfolding Goes
     reference_goes kind bytes [] x = inl (inr refl)
     reference_goes kind bytes (a ∷ refs) x = look_goes kind a bytes refs x (look kind a)
@@ -124,7 +127,8 @@ module _ {A B : Type 0} where
     reference_uses kind bytes [] = tt
     reference_uses kind bytes (a ∷ refs) = used (look kind a) refl
       where
-        used : (r : Result B Error) → look kind a ≡ r → Uses more ended (λ i. reference_at look kind i.refs i) (rest bytes (a ∷ refs)) (r >>= λ b. let z : Result (Meaning B × Rest A) Error = Ok (meanings.reference b, rest bytes refs) in z)
+        used : (r : Result B Error) → look kind a ≡ r
+            → Uses more ended (λ i. reference_at look kind i.refs i) (rest bytes (a ∷ refs)) (r >>= λ b. let z : Result (Meaning B × Rest A) Error = Ok (meanings.reference b, rest bytes refs) in z)
         used (Ok b) e = record { used = rest [] (a ∷ []); whole = refl; alone = rw e refl }
         used (Err f) e = tt
 
@@ -143,12 +147,13 @@ module _ {A B : Type 0} where
     with_tame d h shapes.pattern = likewise (of_bytes text_at meanings.pattern text_tame) (λ i. refl)
     with_tame d h json = and_then joins (λ n i. json_case n >>= λ case. json_part d case i) _ (λ i. refl) (of_bytes (unsigned_at w64) (λ n. n) (unsigned_tame w64)) (λ n. json_cases d h (json_case n))
     with_tame d h (optional s) =
-        and_then joins (λ some i. choose some (seen present (read_with look parts d s)) (λ r. Ok (absent, r)) i) _ (λ i. refl) (of_bytes bool_at (λ b. b) bool_tame) (λ some. choose_tame some (seen_tame present (with_tame d h s)) (gives joins absent))
+        and_then joins (λ some i. choose some (seen present (read_with look parts d s)) (λ r. Ok (absent, r)) i) _ (λ i. refl) (of_bytes bool_at (λ b. b) bool_tame)
+        (λ some. choose_tame some (seen_tame present (with_tame d h s)) (gives joins absent))
     with_tame d h (outcome s t) =
         and_then joins (λ ok i. choose ok (seen success (read_with look parts d s)) (seen failure (read_with look parts d t)) i) _ (λ i. refl) (of_bytes bool_at (λ b. b) bool_tame)
         (λ ok. choose_tame ok (seen_tame success (with_tame d h s)) (seen_tame failure (with_tame d h t)))
     with_tame d h (list s) = likewise (seen_tame sequence (counted_tame (with_tame d h s))) (λ i. refl)
-    with_tame d h (run s) = likewise (refuses joins (Meaning B) errors.WrongKind) (λ i. refl)
+    with_tame d h (run s) = likewise (refuses joins (Meaning B) Error.WrongKind) (λ i. refl)
     with_tame d h (array n s) = likewise (seen_tame sequence (items_tame (with_tame d h s) n)) (λ i. refl)
     with_tame d h (both s t) = likewise (seen_tame entry (two_tame (with_tame d h s) (with_tame d h t))) (λ i. refl)
     with_tame d h (sorted_map order s t) = likewise (seen_tame (λ es. of_entries (put_all (put_sorted order) [] es)) (counted_tame (two_tame (with_tame d h s) (with_tame d h t)))) (λ i. refl)
@@ -159,11 +164,11 @@ module _ {A B : Type 0} where
     with_tame d h (static_value registry) =
         and_then joins (λ n i. registered registry n >>= λ m. Ok (lifted m, i)) _ (λ i. refl) (of_bytes (unsigned_at w32) (λ n. n) (unsigned_tame w32)) (λ n. registered_cases (registered registry n))
     with_tame d h (tagged written known body) =
-        and_then joins (λ tag i. choose (known tag) (seen (of_tagged tag) (read_with look parts d (body tag))) (λ r. Err errors.UnknownTag) i) _ (λ i. refl) (of_bytes text_at (λ t. t) text_tame)
-        (λ tag. choose_tame (known tag) (seen_tame (of_tagged tag) (with_tame d h (body tag))) (refuses joins (Meaning B) errors.UnknownTag))
+        and_then joins (λ tag i. choose (known tag) (seen (of_tagged tag) (read_with look parts d (body tag))) (λ r. Err Error.UnknownTag) i) _ (λ i. refl) (of_bytes text_at (λ t. t) text_tame)
+        (λ tag. choose_tame (known tag) (seen_tame (of_tagged tag) (with_tame d h (body tag))) (refuses joins (Meaning B) Error.UnknownTag))
     with_tame d h (cases w known part) =
-        and_then joins (λ n i. choose (known n) (seen (variant n) (read_with look parts d (part n))) (λ r. Err errors.UnknownTag) i) _ (λ i. refl) (of_bytes (unsigned_at w) (λ n. n) (unsigned_tame w))
-        (λ n. choose_tame (known n) (seen_tame (variant n) (with_tame d h (part n))) (refuses joins (Meaning B) errors.UnknownTag))
+        and_then joins (λ n i. choose (known n) (seen (variant n) (read_with look parts d (part n))) (λ r. Err Error.UnknownTag) i) _ (λ i. refl) (of_bytes (unsigned_at w) (λ n. n) (unsigned_tame w))
+        (λ n. choose_tame (known n) (seen_tame (variant n) (with_tame d h (part n))) (refuses joins (Meaning B) Error.UnknownTag))
     with_tame d h (shapes.reference kind) = likewise (reference_tame kind) (λ i. refl)
     with_tame d h (nested n) = likewise (enter_tame d (λ get. get (parts n)) h (λ get g. g (parts n))) (λ i. refl)
 

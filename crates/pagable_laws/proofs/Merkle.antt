@@ -1,16 +1,10 @@
 -- A tree of canonical types has one key, a stored tree has the key that it stands under, and keys tell trees apart.
-use Rattle.std.proofs.Common.{◌≡◌, ℕ, List, [], ◌∷◌, map, Option, Ok, refl, sym, ap, ◌∙◌, subst}
-use Rattle.std.proofs.lemmas.List.{append-nil}
-use Rattle.pagable_model.specs.Meaning.{Meaning, number, integer, text, pattern, none, pair, variant, reference, followed}
-use Rattle.pagable_model.specs.Shape.{Shape}
-use Rattle.pagable_model.specs.Reading.{read, read_typed}
-use Rattle.pagable_model.specs.Blob.{Blob, key_of}
-use Rattle.pagable_model.specs.Trees.{Tree, KeyRef, Types, tree, key_ref, type_of, ReadsAs, IsFollowed, number-followed, integer-followed, text-followed, pattern-followed, none-followed, pair-followed, variant-followed, reference-followed, blob_context, rest_of}
-use Rattle.pagable_model.specs.Deep.{Kid, kind_of_kid, tree_of_kid}
-use Rattle.pagable_model.specs.Merkle.{unfolded, TreeForm, blob_of, KeyOf, key-of, KeysOf, no-keys, more-keys, kind_of_ref, key_of_ref, StoredAs, HasOwnKeys, SharesNoKey}
-use Rattle.pagable_model.specs.Canonical.{EachType, IsCanonicalType, IsCanonicalTree, IsReadableType}
-use Rattle.pagable_laws.specs.FormLaws.{rest, LooksUp, no-references, more-references}
-use Rattle.pagable_laws.specs.TreeLaws.{IsOneKey, IsOneItemKey, IsStoredKey, IsTreeReadable, IsKeyOfOneTree}
+use Rattle.pagable_laws.proofs.Words.{◌≡◌, ℕ, List, [], ◌∷◌, map, Option, Ok, refl, sym, ap, ◌∙◌, subst, append-nil, Meaning, number, integer, text, pattern, none, pair, variant, reference}
+use Rattle.pagable_laws.proofs.Words.{followed, Shape, read, read_typed, Blob, key_of, Tree, KeyRef, Types, tree, key_ref, type_of, ReadsAs, IsFollowed, number-followed, integer-followed}
+use Rattle.pagable_laws.proofs.Words.{text-followed, pattern-followed, none-followed, pair-followed, variant-followed, reference-followed, blob_context, rest_of, Kid, kind_of_kid, tree_of_kid}
+use Rattle.pagable_laws.proofs.Words.{unfolded, TreeForm, blob_of, KeyOf, key-of, KeysOf, no-keys, more-keys, kind_of_ref, key_of_ref, StoredAs, HasOwnKeys, SharesNoKey, EachType}
+use Rattle.pagable_laws.proofs.Words.{IsCanonicalType, IsCanonicalTree, IsReadableType, rest, LooksUp, no-references, more-references, IsOneKey, IsOneItemKey, IsStoredKey, IsTreeReadable}
+use Rattle.pagable_laws.proofs.Words.{IsKeyOfOneTree}
 use Rattle.pagable_laws.proofs.Again.{form-again}
 use Rattle.pagable_laws.proofs.OneForm.{one-form}
 use Rattle.pagable_laws.proofs.Along.{Along, number-along, integer-along, text-along, pattern-along, none-along, pair-along, variant-along, reference-along, AllTwo, no-two, more-two, form-along}
@@ -40,7 +34,8 @@ module _ {types : Types} where
   same_kind x y h = ap kind_of_kid (sym h.same)
 
   -- the references in a form of a tree's value are of canonical types where the tree's are
-  canonical-kids : (s : Shape) (m : Meaning ⊥) (bytes : List ℕ) (kids : List Kid) → EachType (IsCanonicalType types) m → TreeForm types s m bytes kids → (others : List Kid) × AllTwo (CanonicalKid types) kids others
+  canonical-kids : (s : Shape) (m : Meaning ⊥) (bytes : List ℕ) (kids : List Kid) → EachType (IsCanonicalType types) m → TreeForm types s m bytes kids
+      → (others : List Kid) × AllTwo (CanonicalKid types) kids others
   canonical-kids s m bytes kids h f = let p = form-along same_kind f (canonical-along m h) in (p.refs, p.each)
 
 -- ---- one key
@@ -57,7 +52,8 @@ module _ {hash : List ℕ → List ℕ} {types : Types} where
         let forms = one-form f g2 (can.0 s is) refl in
         key_is hash _ _ _ _ forms.0 (same-keys h h2 (canonical-kids s t.meaning b kids can.1 f).1 forms.1)
 
-    same-keys : {kids kids2 others : List Kid} {keys keys2 : List ℕ} → KeysOf hash types kids keys → KeysOf hash types kids2 keys2 → AllTwo (CanonicalKid types) kids others → kids ≡ kids2 → keys ≡ keys2
+    same-keys : {kids kids2 others : List Kid} {keys keys2 : List ℕ} → KeysOf hash types kids keys → KeysOf hash types kids2 keys2 → AllTwo (CanonicalKid types) kids others
+        → kids ≡ kids2 → keys ≡ keys2
     same-keys no-keys no-keys can e = refl
     same-keys no-keys (more-keys x2 xs2 k2 ks2 h2 g2) can e = cc
     same-keys (more-keys x xs k ks h g) no-keys can e = cc

@@ -1,25 +1,11 @@
 -- A handle that stands for a reference goes on to stand for it, and so does a clone of it; a key that was set stays.
-use Rattle.std.proofs.Common.{◌≡◌, ℕ, ◌+◌, ◌≤◌, ◌==◌, Bool, true, false, List, [], ◌∷◌, ◌++◌, inl, inr, Option, Some, None, Ok, refl, sym, ap, subst, ◌∙◌, if◌then◌else◌, arith}
-use Rattle.std.specs.Prelude.{not}
-use Rattle.std.proofs.lemmas.Bool.Decides.{nat_tests}
-use Rattle.pagable_model.specs.declared.error.Error.TheVariants as errors
-use Rattle.pagable_world.specs.Plain.{ArcRef, HandleNumber, type_of, is_loose_kind, if_there, or_else}
-use Rattle.pagable_world.specs.declared.handles.HandleRow.{HandleRow}
-use Rattle.pagable_world.specs.declared.handles.Owner.{Owner}
-use Rattle.pagable_world.specs.declared.rows.Mode.{Mode}
-use Rattle.pagable_world.specs.declared.rows.Mode.TheVariants as modes
-use Rattle.pagable_world.specs.Kinds.{find_row, is_loose, fits_mode, has_key}
-use Rattle.pagable_world.specs.World.{Core, Cell, Todo, to_start, to_pin, to_load, to_write, to_finish, to_item, to_set, to_publish, to_release, to_fail, row_at, type_at}
-use Rattle.pagable_world.specs.Refusals.{refused_if, is_type, row_fault}
-use Rattle.pagable_world.specs.Calls.{row_of, CloneCall}
-use Rattle.pagable_world.specs.Workers.{claim_fault}
-use Rattle.pagable_world.specs.Pager.{HandlesAreWhole}
-use Rattle.pagable_laws.specs.TreeSteps.{Change}
-use Rattle.pagable_laws.specs.KeyRuns.{StandsAt, KeyIsSet, Holds, AllHold}
+use Rattle.pagable_laws.proofs.Words.{◌≡◌, ℕ, ◌+◌, ◌≤◌, ◌==◌, Bool, true, List, [], ◌∷◌, ◌++◌, inl, inr, Option, Some, None, Ok, refl, sym, ap, subst, ◌∙◌, if◌then◌else◌, arith, not}
+use Rattle.pagable_laws.proofs.Words.{nat_tests, Error, ArcRef, HandleNumber, type_of, is_loose_kind, if_there, or_else, HandleRow, Owner, Mode, find_row, is_loose, fits_mode, has_key, Core}
+use Rattle.pagable_laws.proofs.Words.{Cell, Todo, to_start, to_item, to_publish, to_release, to_fail, row_at, type_at, refused_if, is_type}
+use Rattle.pagable_laws.proofs.Words.{row_fault, row_of, CloneCall, claim_fault, HandlesAreWhole, Change, StandsAt, KeyIsSet, Holds, AllHold}
 use Rattle.pagable_laws.proofs.Trees.{same_some}
 use Rattle.pagable_laws.proofs.Goes.{Goes, Kept, found-number}
-use Rattle.pagable_laws.proofs.Outlasting.{stands-new}
-use Rattle.pagable_laws.proofs.Taking.{found-among}
+use Rattle.pagable_laws.proofs.Outlasting.{stands-new, among-found}
 use Rattle.pagable_laws.proofs.Following.{given-of}
 
 -- ---- what stays
@@ -48,15 +34,11 @@ module _ {c : Change} {w w' : Core} (goes : Goes c w w') where
 
   holds-on : (x : Todo) → Holds w x → Holds w' x
   holds-on (to_start r place) h = tt
-  holds-on (to_pin r place) h = stands-on h
-  holds-on (to_load r place through reading) h = stands-on h
-  holds-on (to_write r place through) h = stands-on h
-  holds-on (to_finish o) h = stands-on h
   holds-on (to_item written keys) h = tt
-  holds-on (to_set r through key height) h = stands-on h
   holds-on (to_publish r key height) h = λ kind. key-on (h kind)
   holds-on (to_release r key height) h = tt
   holds-on (to_fail fault back) h = tt
+  holds-on _ h = stands-on h
 
   pub all-on : (todo : List Todo) → AllHold w todo → AllHold w' todo
   unfolding AllHold
@@ -66,10 +48,10 @@ module _ {c : Change} {w w' : Core} (goes : Goes c w w') where
 -- ---- what is claimed
 
 loose-by : (kind : ℕ) (mode : Mode) → fits_mode kind mode ≡ true → is_loose_kind kind ≡ true → is_loose mode ≡ true
-loose-by kind modes.Pinned fits is = absurd (grind (arith, nat_tests))
-loose-by kind modes.Shared fits is = absurd (grind (arith, nat_tests))
-loose-by kind modes.LoosePinned fits is = refl
-loose-by kind modes.LooseUnpinned fits is = refl
+loose-by kind Mode.Pinned fits is = absurd (grind (arith, nat_tests))
+loose-by kind Mode.Shared fits is = absurd (grind (arith, nat_tests))
+loose-by kind Mode.LoosePinned fits is = refl
+loose-by kind Mode.LooseUnpinned fits is = refl
 
 -- nothing is to be said against a claim: the reference's handle is of its node and fits its kind, and the node is there
 pub record IsClaimable (w : Core) (r : ArcRef) : Type 0 where
@@ -86,13 +68,12 @@ may-claim w r may = by-row (row_at w r.handle) refl may
     of-type t None e = absurd (cc)
     of-type t (Some u) e = let f : (u == t) ≡ true = e in let same : u ≡ t = grind (arith, nat_tests) in ap (λ z. Some z) same
 
-    all-so : (a b c : Bool) → (if not a then Some errors.NoSuchHandle else or_else None (if not b then Some errors.WrongMode else refused_if (not c) errors.WrongKind)) ≡ None → (a ≡ true) × (b ≡ true) × (c ≡ true)
+    all-so : (a b c : Bool) → (if not a then Some Error.NoSuchHandle else or_else None (if not b then Some Error.WrongMode else refused_if (not c) Error.WrongKind)) ≡ None
+        → (a ≡ true) × (b ≡ true) × (c ≡ true)
     all-so true true true e = (refl, refl, refl)
-    all-so true true false e = absurd (cc)
-    all-so true false c e = absurd (cc)
-    all-so false b c e = absurd (cc)
+    all-so _ _ _ e = absurd (cc)
 
-    by-row : (found : Option HandleRow) → row_at w r.handle ≡ found → if_there (row_fault w r None) (Some errors.NoSuchHandle) found ≡ None → IsClaimable w r
+    by-row : (found : Option HandleRow) → row_at w r.handle ≡ found → if_there (row_fault w r None) (Some Error.NoSuchHandle) found ≡ None → IsClaimable w r
     by-row None live e = absurd (cc)
     by-row (Some row) live e =
         let so = all-so (row.node.0 == r.node.0) (fits_mode r.kind.0 row.mode) (is_type (type_of r.kind.0) (type_at w r.node.0)) e in
@@ -103,7 +84,7 @@ may-claim w r may = by-row (row_at w r.handle) refl may
 module _ {w : Core} (whole : HandlesAreWhole w) where
   pub handle-given : (h : HandleNumber) (row : HandleRow) → row_at w h ≡ Some row → h.0 ≤ w.last.handle
   handle-given h row live =
-      let a = (whole.numbered row (found-among h.0 w.rows row live)).1 in
+      let a = (whole.numbered row (among-found h.0 w.rows row live)).1 in
       let b = found-number h.0 w.rows row live in
       omega arith
 
@@ -133,6 +114,6 @@ module _ {w : Core} (whole : HandlesAreWhole w) where
         given = omega arith;
         is = λ x live.
             let found : find_row k.0 (w.rows ++ made ∷ []) ≡ Some x = subst (λ rows. find_row k.0 rows ≡ Some x) a.rows live in
-            let new : x ≡ made = s_made.only x (found-among k.0 (w.rows ++ made ∷ []) x found) (found-number k.0 (w.rows ++ made ∷ []) x found ∙ above) in
+            let new : x ≡ made = s_made.only x (among-found k.0 (w.rows ++ made ∷ []) x found) (found-number k.0 (w.rows ++ made ∷ []) x found ∙ above) in
             (ap (λ (y : HandleRow). y.node) new ∙ old.0, λ kind. ap (λ (y : HandleRow). is_loose y.mode) new ∙ old.1 kind);
       }

@@ -1,12 +1,8 @@
 -- Reading is natural in what stands for references, and forms are.
-use Rattle.std.proofs.Common.{◌≡◌, ℕ, List, [], ◌∷◌, map, Result, Ok, Err, refl, sym, ap, ◌∙◌, inl, subst}
-use Rattle.pagable_model.specs.declared.error.Error.{Error}
-use Rattle.pagable_model.specs.Steps.{◌>>=◌}
-use Rattle.pagable_model.specs.Meaning.{Meaning, number, integer, text, pattern, none, pair, variant, reference, followed, rename}
-use Rattle.pagable_model.specs.Reading.{Rest, read}
-use Rattle.pagable_model.specs.Form.{Form}
-use Rattle.pagable_laws.specs.FormLaws.{rest, at, IsNatural, IsReadOver, IsRenamed, IsReadThrough, KeepsForms}
-use Rattle.pagable_laws.proofs.Along.{Along, number-along, integer-along, text-along, pattern-along, none-along, pair-along, variant-along, reference-along, followed-along, AllTwo, no-two, more-two, form-along}
+use Rattle.pagable_laws.proofs.Words.{◌≡◌, ℕ, List, [], ◌∷◌, map, Result, Ok, Err, refl, sym, ap, ◌∙◌, inl, subst, Error, ◌>>=◌, Meaning, number, integer, text, pattern, none, pair, variant}
+use Rattle.pagable_laws.proofs.Words.{reference, followed, rename, Rest, read, Form, rest, at, IsNatural, IsReadOver, IsRenamed, IsReadThrough, KeepsForms}
+use Rattle.pagable_laws.proofs.Along.{Along, number-along, integer-along, text-along, pattern-along, none-along, pair-along, variant-along, reference-along, followed-along, AllTwo, no-two}
+use Rattle.pagable_laws.proofs.Along.{more-two, form-along}
 use Rattle.pagable_laws.proofs.Related.{Out, both-given, both-refused, first-refused, OutLook, both-looked-up, both-not, first-not, read_par}
 
 -- no cause
@@ -28,15 +24,11 @@ module _ {A C : Type 0} (f : A → C) where
 
   pub rename-along : {F : Type 0} {m : Meaning A} {n : Meaning C} → Along F (Leads f) m n → n ≡ rename f m
   unfolding rename
-  rename-along (number-along n) = refl
-  rename-along (integer-along z) = refl
-  rename-along (text-along t) = refl
-  rename-along (pattern-along t) = refl
-  rename-along none-along = refl
   rename-along (pair-along x y a b h g) = rw (rename-along h, rename-along g) refl
   rename-along (variant-along n x a h) = rw (rename-along h) refl
   rename-along (reference-along a b r) = rw r refl
   rename-along (followed-along kind x a w h) = rw (rename-along h) refl
+  rename-along _ = refl
 
   pub along-rename : (m : Meaning A) → Along (Unit {0}) (Leads f) m (rename f m)
   unfolding rename
@@ -50,10 +42,12 @@ module _ {A C : Type 0} (f : A → C) where
   along-rename (reference a) = reference-along _ _ refl
   along-rename (followed kind a) = followed-along _ _ _ tt (along-rename a)
 
-given_is : {C D : Type 0} (m n : Meaning D) (q : Rest C) (bytes : List ℕ) (refs : List C) → m ≡ n → q.bytes ≡ bytes → q.refs ≡ refs → (let r : Result (Meaning D × Rest C) Error = Ok (m, q) in r) ≡ Ok (n, rest bytes refs)
+given_is : {C D : Type 0} (m n : Meaning D) (q : Rest C) (bytes : List ℕ) (refs : List C) → m ≡ n → q.bytes ≡ bytes → q.refs ≡ refs
+    → (let r : Result (Meaning D × Rest C) Error = Ok (m, q) in r) ≡ Ok (n, rest bytes refs)
 given_is m n q bytes refs e h g = rw (e, ← h, ← g) refl
 
-natural-out : {A B C D : Type 0} (f : A → C) (g : B → D) {first : Result (Meaning B × Rest A) Error} {second : Result (Meaning D × Rest C) Error} → Out no_cause (Leads f) (Along (Unit {0}) (Leads g)) first second
+natural-out : {A B C D : Type 0} (f : A → C) (g : B → D) {first : Result (Meaning B × Rest A) Error} {second : Result (Meaning D × Rest C) Error}
+    → Out no_cause (Leads f) (Along (Unit {0}) (Leads g)) first second
     → second ≡ (first >>= λ x. Ok (rename g x.0, rest x.1.bytes (map f x.1.refs)))
 natural-out f g (both-given p q v s) = given_is q.0 _ q.1 _ _ (rename-along g v) s.bytes (map-all f s.refs)
 natural-out f g (both-refused e) = refl
@@ -74,26 +68,23 @@ same b = b
 
 rename_same : {B : Type 0} (m : Meaning B) → rename same m ≡ m
 unfolding rename same
-rename_same (number n) = refl
-rename_same (integer z) = refl
-rename_same (text t) = refl
-rename_same (pattern t) = refl
-rename_same none = refl
 rename_same (pair a b) = rw (rename_same a, rename_same b) refl
 rename_same (variant n a) = rw (rename_same a) refl
-rename_same (reference a) = refl
 rename_same (followed kind a) = rw (rename_same a) refl
+rename_same _ = refl
 
 map_same : {A : Type 0} (k : List A) → map same k ≡ k
 unfolding same
 map_same [] = refl
 map_same (a ∷ k) = rw (map_same k) refl
 
-unsame : {A B C : Type 0} (f : A → C) (r : Result (Meaning B × Rest A) Error) → (r >>= λ x. let z : Result (Meaning B × Rest C) Error = Ok (rename same x.0, rest x.1.bytes (map f x.1.refs)) in z) ≡ (r >>= λ x. Ok (x.0, rest x.1.bytes (map f x.1.refs)))
+unsame : {A B C : Type 0} (f : A → C) (r : Result (Meaning B × Rest A) Error)
+    → (r >>= λ x. let z : Result (Meaning B × Rest C) Error = Ok (rename same x.0, rest x.1.bytes (map f x.1.refs)) in z) ≡ (r >>= λ x. Ok (x.0, rest x.1.bytes (map f x.1.refs)))
 unsame f (Ok x) = rw (rename_same x.0) refl
 unsame f (Err e) = refl
 
-unmapped : {A B D : Type 0} (g : B → D) (r : Result (Meaning B × Rest A) Error) → (r >>= λ x. let z : Result (Meaning D × Rest A) Error = Ok (rename g x.0, rest x.1.bytes (map same x.1.refs)) in z) ≡ (r >>= λ x. Ok (rename g x.0, x.1))
+unmapped : {A B D : Type 0} (g : B → D) (r : Result (Meaning B × Rest A) Error)
+    → (r >>= λ x. let z : Result (Meaning D × Rest A) Error = Ok (rename g x.0, rest x.1.bytes (map same x.1.refs)) in z) ≡ (r >>= λ x. Ok (rename g x.0, x.1))
 unmapped g (Ok x) = rw (map_same x.1.refs) refl
 unmapped g (Err e) = refl
 
@@ -122,7 +113,8 @@ keeps_forms {A} {B} f kind_of kind_of2 parts left s m b k kinds h =
 abbrev any_cause : Error → Type 0
 any_cause e = Unit {0}
 
-through-out : {A B C D : Type 0} (f : A → C) (g : B → D) (m : Meaning B) (after : Rest A) {first : Result (Meaning B × Rest A) Error} {second : Result (Meaning D × Rest C) Error} → Out any_cause (Leads f) (Along (Unit {0}) (Leads g)) first second
+through-out : {A B C D : Type 0} (f : A → C) (g : B → D) (m : Meaning B) (after : Rest A) {first : Result (Meaning B × Rest A) Error} {second : Result (Meaning D × Rest C) Error}
+    → Out any_cause (Leads f) (Along (Unit {0}) (Leads g)) first second
     → first ≡ Ok (m, after) → second ≡ Ok (rename g m, rest after.bytes (map f after.refs))
 through-out {A} {B} {C} {D} f g m after (both-given p q v s) e =
     let same : p ≡ (m, after) = cc in

@@ -1,18 +1,8 @@
 -- Each stage once: what is still to be done of it, with what was done, is at most what was claimed.
-use Rattle.std.proofs.Common.{◌≡◌, ℕ, ◌+◌, ◌≤◌, ◌<◌, ◌==◌, ◌&&◌, Bool, true, false, List, [], ◌∷◌, ◌++◌, refl, sym, subst, ◌∙◌, inl, inr, arith, Ok, Err}
-use Rattle.std.specs.Prelude.{Some, None, nat_le, drop, length}
-use Rattle.std.proofs.lemmas.Bool.{cases_lt}
-use Rattle.std.proofs.lemmas.Bool.Decides.{nat_tests}
-use Rattle.std.proofs.lemmas.List.Sums.{sum_by-cons}
-use Rattle.pagable_world.specs.Plain.{ArcRef, Identity, one, times}
-use Rattle.pagable_world.specs.declared.events.Claim.TheVariants as claims
-use Rattle.pagable_world.specs.declared.events.PinStep.TheVariants as pinsteps
-use Rattle.pagable_world.specs.declared.events.Took.TheVariants as took
-use Rattle.pagable_world.specs.declared.events.Took.{Took}
-use Rattle.pagable_world.specs.Kinds.{identity_of}
-use Rattle.pagable_world.specs.World.{Open, Todo, was_failed, to_start, to_pin, to_load, to_write, to_finish, to_item, to_set, to_publish, to_release, to_fail, Task, of_item, of_entry, Written, is_identity}
-use Rattle.pagable_world.specs.Workers.{next_start, give, first_todo, failing, failing_by}
-use Rattle.pagable_world.specs.Order.{Follows, Leads, InOrder, OnceEach, is_claim_of, is_later_of}
+use Rattle.pagable_laws.proofs.Words.{◌≡◌, ℕ, ◌+◌, ◌≤◌, ◌<◌, ◌==◌, ◌&&◌, Bool, true, false, List, [], ◌∷◌, ◌++◌, refl, sym, subst, ◌∙◌, inl, inr, arith, Ok, Err, Some, None, nat_le, drop, length}
+use Rattle.pagable_laws.proofs.Words.{cases_lt, nat_tests, sum_by-cons, ArcRef, Identity, one, times, Claim, PinStep, Took, identity_of, Open, Todo, was_failed, to_start, to_pin, to_load}
+use Rattle.pagable_laws.proofs.Words.{to_write, to_finish, to_item, to_set, to_publish, to_release, to_fail, Task, of_item, of_entry, Written, is_identity, next_start, give, first_todo, failing}
+use Rattle.pagable_laws.proofs.Words.{failing_by, Follows, Leads, InOrder, OnceEach, is_claim_of, is_later_of}
 
 -- ---- numbers
 
@@ -35,13 +25,16 @@ stage-step k p false = le-false (k == p) (nat_le (p + 1) k) (nat_le p k)
 stage-step k p true = elim (cases_lt k p) [ inl lt ↦ before lt | inr le ↦ elim (cases_lt p k) [ inl lt ↦ after lt | inr ge ↦ at (omega arith) ] ]
   where
     before : k < p → one (k == p && true) + from k (p + 1) true ≤ from k p true
-    before lt = let a : (k == p) ≡ false = grind (arith, nat_tests) in let b : nat_le (p + 1) k ≡ false = grind (arith, nat_tests) in let c : nat_le p k ≡ false = grind (arith, nat_tests) in rw (a, b, c) (omega arith)
+    before lt = let a : (k == p) ≡ false = grind (arith, nat_tests) in let b : nat_le (p + 1) k ≡ false = grind (arith, nat_tests) in let c : nat_le p k ≡ false = grind (arith, nat_tests) in
+        rw (a, b, c) (omega arith)
 
     after : p < k → one (k == p && true) + from k (p + 1) true ≤ from k p true
-    after lt = let a : (k == p) ≡ false = grind (arith, nat_tests) in let b : nat_le (p + 1) k ≡ true = grind (arith, nat_tests) in let c : nat_le p k ≡ true = grind (arith, nat_tests) in rw (a, b, c) (omega arith)
+    after lt = let a : (k == p) ≡ false = grind (arith, nat_tests) in let b : nat_le (p + 1) k ≡ true = grind (arith, nat_tests) in let c : nat_le p k ≡ true = grind (arith, nat_tests) in
+        rw (a, b, c) (omega arith)
 
     at : k ≡ p → one (k == p && true) + from k (p + 1) true ≤ from k p true
-    at is = let a : (k == p) ≡ true = grind (arith, nat_tests) in let b : nat_le (p + 1) k ≡ false = grind (arith, nat_tests) in let c : nat_le p k ≡ true = grind (arith, nat_tests) in rw (a, b, c) (omega arith)
+    at is = let a : (k == p) ≡ true = grind (arith, nat_tests) in let b : nat_le (p + 1) k ≡ false = grind (arith, nat_tests) in let c : nat_le p k ≡ true = grind (arith, nat_tests) in
+        rw (a, b, c) (omega arith)
 
 at-most : (x b : Bool) → one (x && b) ≤ one b
 at-most true b = omega arith
@@ -96,7 +89,8 @@ module _ (k : ℕ) (i : Identity) where
   started-node place [] o below more = record { same = refl; way = more }
   started-node place (r ∷ rs) o below more = record { same = plus-none _; way = more }
 
-  started-item : (place : ℕ) (rs : List ArcRef) (written : Written) (keys : List ℕ) (below : List Todo) → OnlyWaits below → Keeps (all-left below) (next_start place rs ++ to_item written keys ∷ below)
+  started-item : (place : ℕ) (rs : List ArcRef) (written : Written) (keys : List ℕ) (below : List Todo) → OnlyWaits below
+      → Keeps (all-left below) (next_start place rs ++ to_item written keys ∷ below)
   unfolding OnlyWaits all-left
   started-item place [] written keys below more = record { same = plus-none _; way = more }
   started-item place (r ∷ rs) written keys below more = record { same = plus-none _ ∙ plus-none _; way = more }
@@ -157,41 +151,33 @@ module _ (k : ℕ) (i : Identity) where
     goes : (todo : List Todo) (step : Took W) (next : List Todo) → IsWay todo → Follows f todo step next → Goes (is_later_of k i step) (is_claim_of i step) todo next
     unfolding OnlyWaits all-left
     goes (to_start r place ∷ []) step next way follows = absurd way
-    goes (to_start r place ∷ x ∷ xs) (took.Claim j (Ok claims.Claimed)) next way (is, e) = rw (is, e) (record { less = claims-it r (all-left (x ∷ xs)); way = way })
-    goes (to_start r place ∷ x ∷ xs) (took.Claim j (Ok (claims.Known key height))) next way (is, e) = let g = given r key height (x ∷ xs) way in rw e (record { less = gives _ _ g.same; way = g.way })
-    goes (to_start r place ∷ x ∷ xs) (took.Claim j (Ok claims.Waiting)) next way (is, e) = rw e (record { less = stays (all-left (to_start r place ∷ x ∷ xs)); way = way })
-    goes (to_start r place ∷ x ∷ xs) (took.Claim j (Ok claims.AlreadyFailed)) next way (is, e) = rw e (record { less = fails _; way = tt })
-    goes (to_start r place ∷ x ∷ xs) (took.Claim j (Err fault)) next way (is, e) = rw e (record { less = fails _; way = tt })
-    goes (to_start r place ∷ x ∷ xs) step next way follows = absurd follows
-    goes (to_pin r place ∷ below) (took.Pin j (Ok (pinsteps.Held h))) next way (is, (through, e)) = rw (is, e) (record { less = skips r (all-left below); way = way })
-    goes (to_pin r place ∷ below) (took.Pin j (Ok (pinsteps.LoadBegun l))) next way (is, (through, e)) = rw (is, e) (record { less = goes-up 0 r _ (all-left below) refl; way = way })
-    goes (to_pin r place ∷ below) (took.Pin j (Err fault)) next way (is, e) = rw e (record { less = fails _; way = tt })
-    goes (to_pin r place ∷ below) step next way follows = absurd follows
-    goes (to_load r place through reading ∷ below) (took.Pin j (Ok pinsteps.LoadWent)) next way (is, (frames, e)) = rw e (record { less = stays (all-left (to_load r place through reading ∷ below)); way = way })
-    goes (to_load r place through reading ∷ below) (took.Pin j (Ok (pinsteps.Held h))) next way (is, e) = rw (is, e) (record { less = goes-up 1 r _ (all-left below) refl; way = way })
-    goes (to_load r place through reading ∷ below) (took.Pin j (Err fault)) next way (is, e) = rw e (record { less = fails _; way = tt })
-    goes (to_load r place through reading ∷ below) step next way follows = absurd follows
-    goes (to_write r place through ∷ below) (took.Write j (Ok out)) next way (is, e) =
+    goes (to_start r place ∷ x ∷ xs) (Took.Claim j (Ok Claim.Claimed)) next way (is, e) = rw (is, e) (record { less = claims-it r (all-left (x ∷ xs)); way = way })
+    goes (to_start r place ∷ x ∷ xs) (Took.Claim j (Ok (Claim.Known key height))) next way (is, e) = let g = given r key height (x ∷ xs) way in rw e (record { less = gives _ _ g.same; way = g.way })
+    goes (to_start r place ∷ x ∷ xs) (Took.Claim j (Ok Claim.Waiting)) next way (is, e) = rw e (record { less = stays (all-left (to_start r place ∷ x ∷ xs)); way = way })
+    goes (to_start r place ∷ x ∷ xs) (Took.Claim j (Ok Claim.AlreadyFailed)) next way (is, e) = rw e (record { less = fails _; way = tt })
+    goes (to_start r place ∷ x ∷ xs) (Took.Claim j (Err fault)) next way (is, e) = rw e (record { less = fails _; way = tt })
+    goes (to_pin r place ∷ below) (Took.Pin j (Ok (PinStep.Held h))) next way (is, (through, e)) = rw (is, e) (record { less = skips r (all-left below); way = way })
+    goes (to_pin r place ∷ below) (Took.Pin j (Ok (PinStep.LoadBegun l))) next way (is, (through, e)) = rw (is, e) (record { less = goes-up 0 r _ (all-left below) refl; way = way })
+    goes (to_pin r place ∷ below) (Took.Pin j (Err fault)) next way (is, e) = rw e (record { less = fails _; way = tt })
+    goes (to_load r place through reading ∷ below) (Took.Pin j (Ok PinStep.LoadWent)) next way (is, (frames, e)) = rw e
+        (record { less = stays (all-left (to_load r place through reading ∷ below)); way = way })
+    goes (to_load r place through reading ∷ below) (Took.Pin j (Ok (PinStep.Held h))) next way (is, e) = rw (is, e) (record { less = goes-up 1 r _ (all-left below) refl; way = way })
+    goes (to_load r place through reading ∷ below) (Took.Pin j (Err fault)) next way (is, e) = rw e (record { less = fails _; way = tt })
+    goes (to_write r place through ∷ below) (Took.Write j (Ok out)) next way (is, e) =
         let g = started-node place (drop 0 (f out).references) (record { reference = r; place = place; through = through; written = f out; keys = []; height = 0 }) below way in
         rw (is, e) (record { less = goes-up 2 r _ (all-left below) g.same; way = g.way })
-    goes (to_write r place through ∷ below) (took.Write j (Err fault)) next way (is, e) = rw (is, e) (record { less = ends 2 r 0 (all-left below) (omega arith); way = tt })
-    goes (to_write r place through ∷ below) step next way follows = absurd follows
-    goes (to_finish o ∷ below) (took.Store (Some j) (Ok key)) next way (is, e) = rw (is, e) (record { less = goes-up 3 o.reference _ (all-left below) refl; way = way })
-    goes (to_finish o ∷ below) (took.Store (Some j) (Err fault)) next way (is, e) = rw (is, e) (record { less = ends 3 o.reference 0 (all-left below) (omega arith); way = tt })
-    goes (to_finish o ∷ below) step next way follows = absurd follows
-    goes (to_item written keys ∷ below) (took.Store None (Ok key)) next way e = rw e (record { less = fails _; way = tt })
-    goes (to_item written keys ∷ below) (took.Store None (Err fault)) next way e = rw e (record { less = fails _; way = tt })
-    goes (to_item written keys ∷ below) step next way follows = absurd follows
-    goes (to_set r through key height ∷ below) (took.SetKey j (Ok u)) next way (is, e) = rw (is, e) (record { less = goes-up 4 r _ (all-left below) refl; way = way })
-    goes (to_set r through key height ∷ below) (took.SetKey j (Err fault)) next way (is, e) = rw (is, e) (record { less = ends 4 r 0 (all-left below) (omega arith); way = tt })
-    goes (to_set r through key height ∷ below) step next way follows = absurd follows
-    goes (to_publish r key height ∷ below) (took.Publish j q h) next way (is, same_key, same_height, e) = rw (is, e) (record { less = goes-up 5 r _ (all-left below) refl; way = way })
-    goes (to_publish r key height ∷ below) step next way follows = absurd follows
-    goes (to_release r key height ∷ below) (took.Release j) next way (is, e) = let g = given r key height below way in let same = g.same in rw (is, e) (record { less = ends 6 r _ (all-left below) (omega arith); way = g.way })
-    goes (to_release r key height ∷ below) step next way follows = absurd follows
-    goes (to_fail fault back ∷ below) took.Fail next way e = rw e (record { less = fails _; way = tt })
-    goes (to_fail fault back ∷ below) step next way follows = absurd follows
-    goes [] step next way follows = absurd follows
+    goes (to_write r place through ∷ below) (Took.Write j (Err fault)) next way (is, e) = rw (is, e) (record { less = ends 2 r 0 (all-left below) (omega arith); way = tt })
+    goes (to_finish o ∷ below) (Took.Store (Some j) (Ok key)) next way (is, e) = rw (is, e) (record { less = goes-up 3 o.reference _ (all-left below) refl; way = way })
+    goes (to_finish o ∷ below) (Took.Store (Some j) (Err fault)) next way (is, e) = rw (is, e) (record { less = ends 3 o.reference 0 (all-left below) (omega arith); way = tt })
+    goes (to_item written keys ∷ below) (Took.Store None (Ok key)) next way e = rw e (record { less = fails _; way = tt })
+    goes (to_item written keys ∷ below) (Took.Store None (Err fault)) next way e = rw e (record { less = fails _; way = tt })
+    goes (to_set r through key height ∷ below) (Took.SetKey j (Ok u)) next way (is, e) = rw (is, e) (record { less = goes-up 4 r _ (all-left below) refl; way = way })
+    goes (to_set r through key height ∷ below) (Took.SetKey j (Err fault)) next way (is, e) = rw (is, e) (record { less = ends 4 r 0 (all-left below) (omega arith); way = tt })
+    goes (to_publish r key height ∷ below) (Took.Publish j q h) next way (is, same_key, same_height, e) = rw (is, e) (record { less = goes-up 5 r _ (all-left below) refl; way = way })
+    goes (to_release r key height ∷ below) (Took.Release j) next way (is, e) = let g = given r key height below way in let same = g.same in
+        rw (is, e) (record { less = ends 6 r _ (all-left below) (omega arith); way = g.way })
+    goes (to_fail fault back ∷ below) Took.Fail next way e = rw e (record { less = fails _; way = tt })
+    goes _ step next way follows = absurd follows
 
     later-cons : (step : Took W) (steps : List (Took W)) → times (is_later_of k i) (step ∷ steps) ≡ one (is_later_of k i step) + times (is_later_of k i) steps
     later-cons step steps = sum_by-cons (λ s. one (is_later_of k i s)) step steps
@@ -199,20 +185,22 @@ module _ (k : ℕ) (i : Identity) where
     claim-cons : (step : Took W) (steps : List (Took W)) → times (is_claim_of i) (step ∷ steps) ≡ one (is_claim_of i step) + times (is_claim_of i) steps
     claim-cons step steps = sum_by-cons (λ s. one (is_claim_of i s)) step steps
 
-    along : (todo : List Todo) (steps : List (Took W)) (last : List Todo) → IsWay todo → Leads f todo steps last → times (is_later_of k i) steps + all-left last ≤ times (is_claim_of i) steps + all-left todo
+    along : (todo : List Todo) (steps : List (Took W)) (last : List Todo) → IsWay todo → Leads f todo steps last
+        → times (is_later_of k i) steps + all-left last ≤ times (is_claim_of i) steps + all-left todo
     along todo [] last way is = subst (λ t. 0 + all-left t ≤ 0 + all-left todo) (sym is) (stays (all-left todo))
-    along todo (step ∷ steps) last way (mid, follows, leads) = let a = goes todo step mid way follows in sum _ _ _ _ _ _ _ _ _ (later-cons step steps) (claim-cons step steps) a.less (along mid steps last a.way leads)
+    along todo (step ∷ steps) last way (mid, follows, leads) = let a = goes todo step mid way follows in
+        sum _ _ _ _ _ _ _ _ _ (later-cons step steps) (claim-cons step steps) a.less (along mid steps last a.way leads)
       where
         sum : (l t m c s n d t' s' : ℕ) → t' ≡ l + t → s' ≡ c + s → l + m ≤ c + n → t + d ≤ s + m → t' + d ≤ s' + n
         sum l t m c s n d t' s' is_later is_claim first more = omega arith
 
     after-release : (r : ArcRef) (key height : ℕ) (steps : List (Took W)) (last : List Todo) → Leads f (to_release r key height ∷ []) steps last → times (is_later_of k i) steps ≤ 1
     after-release r key height [] last leads = omega arith
-    after-release r key height (took.Release j ∷ []) last leads = sum _ _ (later-cons (took.Release j) []) (one-least (k == 6 && is_identity i j))
+    after-release r key height (Took.Release j ∷ []) last leads = sum _ _ (later-cons (Took.Release j) []) (one-least (k == 6 && is_identity i j))
       where
         sum : (b t : ℕ) → t ≡ b + 0 → b ≤ 1 → t ≤ 1
         sum b t is few = omega arith
-    after-release r key height (took.Release j ∷ x ∷ more) last (mid, (is, e), (after, follows, leads)) = absurd (subst (λ m. Follows f m x after) e follows)
+    after-release r key height (Took.Release j ∷ x ∷ more) last (mid, (is, e), (after, follows, leads)) = absurd (subst (λ m. Follows f m x after) e follows)
     after-release r key height (step ∷ more) last (mid, follows, leads) = absurd follows
 
     -- a step that neither claims nor is of the stage
@@ -236,23 +224,30 @@ module _ (k : ℕ) (i : Identity) where
     entry : (r : ArcRef) (place : ℕ) (steps : List (Took W)) (last : List Todo) → Leads f (to_start r place ∷ []) steps last → times (is_claim_of i) steps ≤ 1 → times (is_later_of k i) steps ≤ 1
     unfolding OnlyWaits all-left
     entry r place [] last leads few = omega arith
-    entry r place (took.Claim j (Ok claims.Claimed) ∷ steps) last (mid, (is, e), leads) few =
-        let few_left : one (at r) + times (is_claim_of i) steps ≤ 1 = subst (λ j. one (is_identity i j) + times (is_claim_of i) steps ≤ 1) is (few-claims (took.Claim j (Ok claims.Claimed)) steps few) in
-        once-more (took.Claim j (Ok claims.Claimed)) steps refl (bounded _ _ _ _ _ (along (to_pin r place ∷ []) steps last tt (subst (λ m. Leads f m steps last) e leads)) (least (at-most (nat_le 0 k) (at r))) few_left)
+    entry r place (Took.Claim j (Ok Claim.Claimed) ∷ steps) last (mid, (is, e), leads) few =
+        let few_left : one (at r) + times (is_claim_of i) steps ≤ 1 = subst (λ j. one (is_identity i j) + times (is_claim_of i) steps ≤ 1) is
+        (few-claims (Took.Claim j (Ok Claim.Claimed)) steps few) in
+        once-more (Took.Claim j (Ok Claim.Claimed)) steps refl
+        (bounded _ _ _ _ _ (along (to_pin r place ∷ []) steps last tt (subst (λ m. Leads f m steps last) e leads)) (least (at-most (nat_le 0 k) (at r))) few_left)
       where
         least : {a b : ℕ} → a ≤ b → a + 0 ≤ b
         least le = omega arith
-    entry r place (took.Claim j (Ok (claims.Known key height)) ∷ steps) last (mid, (is, e), leads) few = once-more (took.Claim j (Ok (claims.Known key height))) steps refl (after-release r key height steps last (subst (λ m. Leads f m steps last) e leads))
-    entry r place (took.Claim j (Ok claims.Waiting) ∷ steps) last (mid, (is, e), leads) few = once-more (took.Claim j (Ok claims.Waiting)) steps refl (entry r place steps last (subst (λ m. Leads f m steps last) e leads) (fewer _ (few-claims (took.Claim j (Ok claims.Waiting)) steps few)))
-    entry r place (took.Claim j (Ok claims.AlreadyFailed) ∷ steps) last (mid, (is, e), leads) few =
-        once-more (took.Claim j (Ok claims.AlreadyFailed)) steps refl (bounded _ _ _ _ 0 (along (failing was_failed (to_start r place ∷ [])) steps last tt (subst (λ m. Leads f m steps last) e leads)) (omega arith) (few-claims (took.Claim j (Ok claims.AlreadyFailed)) steps few))
-    entry r place (took.Claim j (Err fault) ∷ steps) last (mid, (is, e), leads) few =
-        once-more (took.Claim j (Err fault)) steps refl (bounded _ _ _ _ 0 (along (failing_by fault (to_start r place ∷ [])) steps last tt (subst (λ m. Leads f m steps last) e leads)) (omega arith) (few-claims (took.Claim j (Err fault)) steps few))
+    entry r place (Took.Claim j (Ok (Claim.Known key height)) ∷ steps) last (mid, (is, e), leads) few = once-more (Took.Claim j (Ok (Claim.Known key height))) steps refl
+        (after-release r key height steps last (subst (λ m. Leads f m steps last) e leads))
+    entry r place (Took.Claim j (Ok Claim.Waiting) ∷ steps) last (mid, (is, e), leads) few = once-more (Took.Claim j (Ok Claim.Waiting)) steps refl
+        (entry r place steps last (subst (λ m. Leads f m steps last) e leads) (fewer _ (few-claims (Took.Claim j (Ok Claim.Waiting)) steps few)))
+    entry r place (Took.Claim j (Ok Claim.AlreadyFailed) ∷ steps) last (mid, (is, e), leads) few =
+        once-more (Took.Claim j (Ok Claim.AlreadyFailed)) steps refl
+        (bounded _ _ _ _ 0 (along (failing was_failed (to_start r place ∷ [])) steps last tt (subst (λ m. Leads f m steps last) e leads)) (omega arith)
+        (few-claims (Took.Claim j (Ok Claim.AlreadyFailed)) steps few))
+    entry r place (Took.Claim j (Err fault) ∷ steps) last (mid, (is, e), leads) few =
+        once-more (Took.Claim j (Err fault)) steps refl (bounded _ _ _ _ 0 (along (failing_by fault (to_start r place ∷ [])) steps last tt (subst (λ m. Leads f m steps last) e leads)) (omega arith) (few-claims (Took.Claim j (Err fault)) steps few))
     entry r place (step ∷ steps) last (mid, follows, leads) few = absurd follows
 
     at-once : (task : Task) (steps : List (Took W)) (last : List Todo) → Leads f (first_todo task) steps last → times (is_claim_of i) steps ≤ 1 → times (is_later_of k i) steps ≤ 1
     unfolding OnlyWaits all-left
-    at-once (of_item written) steps last leads few = let g = started-item 0 (drop 0 written.references) written [] [] tt in bounded _ _ _ _ 0 (along (first_todo (of_item written)) steps last g.way leads) (le-of g.same) (subst (λ n. n ≤ 1) (sym (plus-none _)) few)
+    at-once (of_item written) steps last leads few = let g = started-item 0 (drop 0 written.references) written [] [] tt in
+        bounded _ _ _ _ 0 (along (first_todo (of_item written)) steps last g.way leads) (le-of g.same) (subst (λ n. n ≤ 1) (sym (plus-none _)) few)
       where
         le-of : {n : ℕ} → n ≡ 0 → n ≤ 0
         le-of is = omega arith

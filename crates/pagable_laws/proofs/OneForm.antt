@@ -1,21 +1,15 @@
 -- A meaning of a canonical shape has at most one form.
-use Rattle.std.proofs.Common.{◌≡◌, ℕ, suc, Bool, true, false, List, [], ◌∷◌, ◌++◌, length, refl, sym, ap, ◌∙◌, subst}
+use Rattle.pagable_laws.proofs.Words.{◌≡◌, ℕ, suc, Bool, true, false, List, [], ◌∷◌, ◌++◌, length, refl, sym, ap, ◌∙◌, subst, unsigned_form, signed_form, bool_form, length_form, text_form}
+use Rattle.pagable_laws.proofs.Words.{char_form, Meaning, sequence, Entry, KeyOrder, of_entries, Shape, Form, Forms, Entries, nothing-form, unsigned-form, signed-form}
+use Rattle.pagable_laws.proofs.Words.{flag-form, text-form, letter-form, duration-form, pattern-form, none-form, some-form, err-form, ok-form, list-form, run-form, array-form, both-form}
+use Rattle.pagable_laws.proofs.Words.{sorted-map-form, placed-map-form, hash-map-form, sorted-set-form, placed-set-form, static-form, tagged-form, case-form, reference-form, nested-form}
+use Rattle.pagable_laws.proofs.Words.{json-null-form, json-flag-form, json-number-form, json-text-form, json-array-form, json-object-form, no-forms, more-forms, no-entries, more-entries}
+use Rattle.pagable_laws.proofs.Words.{IsCanonical, Throughout, CanonicalHasOneForm}
 use Rattle.std.specs.Int.{Width}
-use Rattle.pagable_model.specs.Numbers.{unsigned_form, signed_form}
-use Rattle.pagable_model.specs.Basic.{bool_form, length_form, text_form, char_form}
-use Rattle.pagable_model.specs.Meaning.{Meaning, number, text, none, pair, sequence}
 use Rattle.pagable_model.specs.Meaning as meanings
-use Rattle.pagable_model.specs.Keys.{Entry, KeyOrder}
-use Rattle.pagable_model.specs.Carried.{of_entries}
-use Rattle.pagable_model.specs.Shape.{Shape}
 use Rattle.pagable_model.specs.Shape as shapes
-use Rattle.pagable_model.specs.Form.{Form, Forms, Entries}
-use Rattle.pagable_model.specs.Form.{nothing-form, unsigned-form, signed-form, flag-form, text-form, letter-form, duration-form, pattern-form, none-form, some-form, err-form, ok-form, list-form, run-form, array-form, both-form}
-use Rattle.pagable_model.specs.Form.{sorted-map-form, placed-map-form, hash-map-form, sorted-set-form, placed-set-form, static-form, tagged-form, case-form, reference-form, nested-form}
-use Rattle.pagable_model.specs.Form.{json-null-form, json-flag-form, json-number-form, json-text-form, json-array-form, json-object-form, no-forms, more-forms, no-entries, more-entries}
-use Rattle.pagable_model.specs.Canonical.{IsCanonical, Throughout}
-use Rattle.pagable_laws.specs.FormLaws.{CanonicalHasOneForm}
-use Rattle.pagable_laws.proofs.Within.{here, narrowed, part_of, of_json, of_text, under_optional, under_ok, under_err, under_list, under_run, under_array, under_first, under_second, under_sorted_key, under_sorted_value, under_placed_key, under_placed_value, under_sorted_item, under_placed_item, under_written, under_case}
+use Rattle.pagable_laws.proofs.Within.{here, narrowed, part_of, of_json, of_text, under_optional, under_ok, under_err, under_list, under_run, under_array, under_first, under_second}
+use Rattle.pagable_laws.proofs.Within.{under_sorted_key, under_sorted_value, under_placed_key, under_placed_value, under_sorted_item, under_placed_item, under_written, under_case}
 
 pub same-items : {A : Type 0} (xs ys : List (Meaning A)) → sequence xs ≡ sequence ys → xs ≡ ys
 same-items [] [] e = refl
@@ -116,7 +110,8 @@ module _ {parts : ℕ → Shape} where
   unfolding IsCanonical
   in_placed_item {s} h = narrowed h (λ p. p) (under_placed_item s)
 
-  in_written : (written : List ℕ → Shape) (known : List ℕ → Bool) (body : List ℕ → Shape) (tag : List ℕ) → Throughout IsCanonical parts (shapes.tagged written known body) → Throughout IsCanonical parts (written tag)
+  in_written : (written : List ℕ → Shape) (known : List ℕ → Bool) (body : List ℕ → Shape) (tag : List ℕ) → Throughout IsCanonical parts (shapes.tagged written known body)
+      → Throughout IsCanonical parts (written tag)
   unfolding IsCanonical
   in_written written known body tag h = narrowed h (λ p. p.0 tag) (under_written written known body tag)
 
@@ -142,7 +137,8 @@ module _ {A : Type 0} {kind_of : A → ℕ} {parts : ℕ → Shape} where
   mutual
     unfolding IsCanonical
 
-    pub one-form : {left : ℕ} {s : Shape} {m n : Meaning A} {b c : List ℕ} {k l : List A} → Form A kind_of parts left s m b k → Form A kind_of parts left s n c l → Throughout IsCanonical parts s → m ≡ n → (b ≡ c) × (k ≡ l)
+    pub one-form : {left : ℕ} {s : Shape} {m n : Meaning A} {b c : List ℕ} {k l : List A} → Form A kind_of parts left s m b k → Form A kind_of parts left s n c l
+        → Throughout IsCanonical parts s → m ≡ n → (b ≡ c) × (k ≡ l)
     one-form (nothing-form left) (nothing-form left2) r e = (refl, refl)
     one-form (unsigned-form left w n h) (unsigned-form left2 w2 n2 h2) r e = let same : n ≡ n2 = cc in (ap (unsigned_form w) same, refl)
     one-form (signed-form left w z h) (signed-form left2 w2 z2 h2) r e = let same : z ≡ z2 = cc in (ap (signed_form w) same, refl)
@@ -159,11 +155,15 @@ module _ {A : Type 0} {kind_of : A → ℕ} {parts : ℕ → Shape} where
     one-form (run-form left s ms b k le h) (run-form left2 s2 ms2 b2 k2 le2 h2) r e = one-forms h h2 (in_run r) (same-items ms ms2 e)
     one-form (array-form left n s ms b k q h) (array-form left2 n2 s2 ms2 b2 k2 q2 h2) r e = one-forms h h2 (in_array r) (same-items ms ms2 e)
     one-form (both-form left s t m n b c k l h g) (both-form left2 s2 t2 m2 n2 b2 c2 k2 l2 h2 g2) r e = joined _ _ _ _ _ _ _ _ (one-form h h2 (in_first r) cc) (one-form g g2 (in_second r) cc)
-    one-form (sorted-map-form left o s t es b k le up h) (sorted-map-form left2 o2 s2 t2 es2 b2 k2 le2 up2 h2) r e = let same = same-entries es es2 e in counted _ _ _ _ _ _ same (one-entries h h2 (in_sorted_key r) (in_sorted_value r) same)
-    one-form (placed-map-form left s t es b k le up h) (placed-map-form left2 s2 t2 es2 b2 k2 le2 up2 h2) r e = let same = same-entries es es2 e in counted _ _ _ _ _ _ same (one-entries h h2 (in_placed_key r) (in_placed_value r) same)
+    one-form (sorted-map-form left o s t es b k le up h) (sorted-map-form left2 o2 s2 t2 es2 b2 k2 le2 up2 h2) r e = let same = same-entries es es2 e in
+        counted _ _ _ _ _ _ same (one-entries h h2 (in_sorted_key r) (in_sorted_value r) same)
+    one-form (placed-map-form left s t es b k le up h) (placed-map-form left2 s2 t2 es2 b2 k2 le2 up2 h2) r e = let same = same-entries es es2 e in
+        counted _ _ _ _ _ _ same (one-entries h h2 (in_placed_key r) (in_placed_value r) same)
     one-form (hash-map-form left s t es b k le up h) g r e = absurd (here r)
-    one-form (sorted-set-form left o s ms b k le up h) (sorted-set-form left2 o2 s2 ms2 b2 k2 le2 up2 h2) r e = let same = same-items ms ms2 e in counted _ _ _ _ _ _ same (one-forms h h2 (in_sorted_item r) same)
-    one-form (placed-set-form left s ms b k le up h) (placed-set-form left2 s2 ms2 b2 k2 le2 up2 h2) r e = let same = same-items ms ms2 e in counted _ _ _ _ _ _ same (one-forms h h2 (in_placed_item r) same)
+    one-form (sorted-set-form left o s ms b k le up h) (sorted-set-form left2 o2 s2 ms2 b2 k2 le2 up2 h2) r e = let same = same-items ms ms2 e in
+        counted _ _ _ _ _ _ same (one-forms h h2 (in_sorted_item r) same)
+    one-form (placed-set-form left s ms b k le up h) (placed-set-form left2 s2 ms2 b2 k2 le2 up2 h2) r e = let same = same-items ms ms2 e in
+        counted _ _ _ _ _ _ same (one-forms h h2 (in_placed_item r) same)
     one-form (static-form left registry i m h q) g r e = absurd (here r)
     one-form (tagged-form left written known body tag m b k u h f) (tagged-form left2 written2 known2 body2 tag2 m2 b2 k2 u2 h2 f2) r e =
         let tags : tag ≡ tag2 = cc in
@@ -178,7 +178,8 @@ module _ {A : Type 0} {kind_of : A → ℕ} {parts : ℕ → Shape} where
     one-form (reference-form left kind a q) (reference-form left2 kind2 a2 q2) r e = let same : a ≡ a2 = cc in (refl, ap (λ (x : A). x ∷ []) same)
     one-form (nested-form left less n m b k p h) (nested-form left2 less2 n2 m2 b2 k2 p2 h2) r e = one-form h (lowered p p2 h2) (part_of r) e
     one-form (json-null-form left) (json-null-form left2) r e = (refl, refl)
-    one-form (json-flag-form left b) (json-flag-form left2 b2) r e = let part : (let m : Meaning A = meanings.flag b in m) ≡ meanings.flag b2 = cc in (ap (λ x. 1 ∷ bool_form x) (same-flag b b2 part), refl)
+    one-form (json-flag-form left b) (json-flag-form left2 b2) r e = let part : (let m : Meaning A = meanings.flag b in m) ≡ meanings.flag b2 = cc in
+        (ap (λ x. 1 ∷ bool_form x) (same-flag b b2 part), refl)
     one-form (json-number-form left z h) (json-number-form left2 z2 h2) r e = let same : z ≡ z2 = cc in (rw same refl, refl)
     one-form (json-text-form left t u h) (json-text-form left2 t2 u2 h2) r e = let same : t ≡ t2 = cc in (rw same refl, refl)
     one-form (json-array-form left less ms b k p le h) (json-array-form left2 less2 ms2 b2 k2 p2 le2 h2) r e =
@@ -191,13 +192,15 @@ module _ {A : Type 0} {kind_of : A → ℕ} {parts : ℕ → Shape} where
         grown (5 ∷ []) _ _ _ _ (counted _ _ _ _ _ _ same (one-entries h (lowered_entries p p2 h2) (of_text tt) (of_json tt) same))
     one-form f g r e = absurd cc
 
-    pub one-forms : {left : ℕ} {s : Shape} {ms ns : List (Meaning A)} {b c : List ℕ} {k l : List A} → Forms A kind_of parts left s ms b k → Forms A kind_of parts left s ns c l → Throughout IsCanonical parts s → ms ≡ ns → (b ≡ c) × (k ≡ l)
+    pub one-forms : {left : ℕ} {s : Shape} {ms ns : List (Meaning A)} {b c : List ℕ} {k l : List A} → Forms A kind_of parts left s ms b k → Forms A kind_of parts left s ns c l
+        → Throughout IsCanonical parts s → ms ≡ ns → (b ≡ c) × (k ≡ l)
     one-forms (no-forms left s) (no-forms left2 s2) r e = (refl, refl)
     one-forms (no-forms left s) (more-forms left2 s2 m2 ms2 b2 c2 k2 l2 h2 g2) r e = absurd cc
     one-forms (more-forms left s m ms b c k l h g) (no-forms left2 s2) r e = absurd cc
     one-forms (more-forms left s m ms b c k l h g) (more-forms left2 s2 m2 ms2 b2 c2 k2 l2 h2 g2) r e = joined _ _ _ _ _ _ _ _ (one-form h h2 r cc) (one-forms g g2 r cc)
 
-    pub one-entries : {left : ℕ} {s t : Shape} {es fs : List (Entry A)} {b c : List ℕ} {k l : List A} → Entries A kind_of parts left s t es b k → Entries A kind_of parts left s t fs c l → Throughout IsCanonical parts s → Throughout IsCanonical parts t → es ≡ fs → (b ≡ c) × (k ≡ l)
+    pub one-entries : {left : ℕ} {s t : Shape} {es fs : List (Entry A)} {b c : List ℕ} {k l : List A} → Entries A kind_of parts left s t es b k → Entries A kind_of parts left s t fs c l
+        → Throughout IsCanonical parts s → Throughout IsCanonical parts t → es ≡ fs → (b ≡ c) × (k ≡ l)
     one-entries (no-entries left s t) (no-entries left2 s2 t2) r q e = (refl, refl)
     one-entries (no-entries left s t) (more-entries left2 s2 t2 m2 n2 es2 b2 c2 d2 j2 k2 l2 h2 g2 f2) r q e = absurd cc
     one-entries (more-entries left s t m n es b c d j k l h g f) (no-entries left2 s2 t2) r q e = absurd cc

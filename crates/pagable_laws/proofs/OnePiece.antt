@@ -1,33 +1,12 @@
 -- Where each load is done in one piece, one of a cell whose key a page-out set is refused by chance alone.
-use Rattle.std.proofs.Common.{◌≡◌, ℕ, zero, suc, ◌+◌, ◌<◌, ◌≤◌, ◌==◌, Bool, true, false, List, [], ◌∷◌, Option, Some, None, Ok, Err, ◌⊎◌, inl, inr, if◌then◌else◌, refl, sym, ap, subst, ◌∙◌, arith}
-use Rattle.std.specs.Prelude.{slice_get, not, is_some}
-use Rattle.pagable_model.specs.declared.error.Error.TheVariants as errors
-use Rattle.pagable_world.specs.declared.handles.HandleRow.{HandleRow}
-use Rattle.pagable_world.specs.declared.handles.Owner.TheVariants as owners
-use Rattle.pagable_world.specs.declared.rows.Mode.TheVariants as modes
-use Rattle.pagable_world.specs.declared.answers.Beginning.TheVariants as beginnings
-use Rattle.pagable_world.specs.declared.calls.Call.TheVariants as calls
-use Rattle.pagable_world.specs.declared.calls.Reply.TheVariants as replies
-use Rattle.pagable_world.specs.declared.events.LoadAnswer.{LoadAnswer}
-use Rattle.pagable_world.specs.declared.events.LoadAnswer.TheVariants as ends
-use Rattle.pagable_world.specs.declared.events.LoadReply.{LoadReply}
-use Rattle.pagable_world.specs.declared.events.Event.{Event}
-use Rattle.pagable_world.specs.declared.events.Event.TheVariants as events
-use Rattle.pagable_world.specs.declared.events.EventReply.{EventReply}
-use Rattle.pagable_world.specs.declared.events.EventReply.TheVariants as answers
-use Rattle.pagable_world.specs.Plain.{Error, ArcRef, HandleNumber, LoadNumber, NodeNumber, Tree, Among, if_there, is_in, times, updated}
-use Rattle.pagable_world.specs.Kinds.{any_mode, is_owner, held, find_row}
-use Rattle.pagable_world.specs.World.{Core, OpenLoad, of_cell, of_key, Frame, Reading, Seen, IsLawful, row_at}
-use Rattle.pagable_world.specs.Refusals.{IsReference, refused_if, references_fault, handle_fault}
-use Rattle.pagable_world.specs.LoadCalls.{BeginCall, BeginKeyCall}
-use Rattle.pagable_world.specs.Loads.{Does, IsDecoded, gone_on}
-use Rattle.pagable_world.specs.Workers.{fresh}
-use Rattle.pagable_world.specs.Events.{ReadingsAre, reading_at, reading_after, LoadSteps, Stays, Happens}
-use Rattle.pagable_world.specs.Pager.{MachineState, world_of, IsMachineWhole, of_caller, FrameFits, FramesFit}
-use Rattle.pagable_world.specs.Runs.{ReadsItsTypes, Moment, AreMoments, TreesAlong}
-use Rattle.pagable_world.specs.OneWorker.{Turn, of_load, of_worker, of_nobody, turn_of, StandTogether, IsOfChance, IsLoadOfPagedOut, LoadIsSound}
-use Rattle.pagable_laws.specs.LoadLaws.{IsBeginOf, HasBegun, SoundLaw}
-use Rattle.pagable_laws.specs.ReadRuns.{FramesHeld}
+use Rattle.pagable_laws.proofs.Words.{◌≡◌, ℕ, zero, suc, ◌+◌, ◌<◌, ◌≤◌, ◌==◌, Bool, true, false, List, [], ◌∷◌, Option, Some, None, Ok, Err, ◌⊎◌, inl, inr, if◌then◌else◌, refl, sym, ap, subst}
+use Rattle.pagable_laws.proofs.Words.{◌∙◌, arith, slice_get, not, is_some, Error, HandleRow, Owner, Mode, Beginning, Call, Reply, LoadAnswer, LoadReply, Event, EventReply, ArcRef, HandleNumber}
+use Rattle.pagable_laws.proofs.Words.{LoadNumber, NodeNumber, Tree, Among, if_there, is_in, times, updated, any_mode, is_owner, held, find_row, Core, OpenLoad, of_cell, of_key, Frame, Reading}
+use Rattle.pagable_laws.proofs.Words.{Seen, IsLawful, row_at, IsReference, refused_if, references_fault, handle_fault, BeginCall, BeginKeyCall, IsDecoded, gone_on, fresh, ReadingsAre, reading_at}
+use Rattle.pagable_laws.proofs.Words.{reading_after, LoadSteps, Stays, Happens, MachineState, world_of, IsMachineWhole, of_caller, FrameFits, FramesFit, ReadsItsTypes, Moment, AreMoments}
+use Rattle.pagable_laws.proofs.Words.{TreesAlong, Turn, of_load, of_nobody, turn_of, StandTogether, IsOfChance, IsLoadOfPagedOut, LoadIsSound, IsBeginOf, HasBegun, SoundLaw, FramesHeld}
+use Rattle.pagable_world.specs.Loads.{Does}
+use Rattle.pagable_world.specs.OneWorker.{of_worker}
 use Rattle.pagable_laws.proofs.Trees.{same_some}
 use Rattle.pagable_laws.proofs.Sums.{self-number, same-number}
 use Rattle.pagable_laws.proofs.Goes.{at-updated}
@@ -73,25 +52,25 @@ number-or a n = at (a == n) refl
 
 module _ {N B W : Type 0} where
   -- a load's turn is its begin, or a step
-  pub turn-cases : (n : ℕ) (event : Event N B W) (reply : EventReply N B W) → turn_of event reply ≡ of_load n → IsBeginOf n event reply ⊎ ((l : LoadNumber) × (l.0 ≡ n) × (event ≡ events.LoadStep l))
-  turn-cases n (events.LoadStep l) reply is = inr (l, cc, refl)
-  turn-cases n (events.LoadStart h) (answers.Started (Ok (beginnings.Load l key))) is = inl (cc)
-  turn-cases n (events.Call (calls.LoadBegin h)) (answers.CallReply (replies.Begun (Ok (beginnings.Load l key)))) is = inl (cc)
-  turn-cases n (events.LoadKey k t) (answers.Started (Ok (beginnings.Load l key))) is = inl (cc)
-  turn-cases n (events.WorkerItem t item) (answers.WorkerMade (Ok v)) is = absurd (cc)
-  turn-cases n (events.WorkerListed t i) (answers.WorkerMade (Ok v)) is = absurd (cc)
+  pub turn-cases : (n : ℕ) (event : Event N B W) (reply : EventReply N B W) → turn_of event reply ≡ of_load n → IsBeginOf n event reply ⊎ ((l : LoadNumber) × (l.0 ≡ n) × (event ≡ Event.LoadStep l))
+  turn-cases n (Event.LoadStep l) reply is = inr (l, cc, refl)
+  turn-cases n (Event.LoadStart h) (EventReply.Started (Ok (Beginning.Load l key))) is = inl (cc)
+  turn-cases n (Event.Call (Call.LoadBegin h)) (EventReply.CallReply (Reply.Begun (Ok (Beginning.Load l key)))) is = inl (cc)
+  turn-cases n (Event.LoadKey k t) (EventReply.Started (Ok (Beginning.Load l key))) is = inl (cc)
+  turn-cases n (Event.WorkerItem t item) (EventReply.WorkerMade (Ok v)) is = absurd (cc)
+  turn-cases n (Event.WorkerListed t i) (EventReply.WorkerMade (Ok v)) is = absurd (cc)
   turn-cases n event reply is = absurd (cc)
 
   begin-turn : (n : ℕ) (event : Event N B W) (reply : EventReply N B W) → IsBeginOf n event reply → turn_of event reply ≡ of_load n
-  begin-turn n (events.LoadStart h) (answers.Started (Ok (beginnings.Load l key))) is = ap of_load is
-  begin-turn n (events.Call (calls.LoadBegin h)) (answers.CallReply (replies.Begun (Ok (beginnings.Load l key)))) is = ap of_load is
-  begin-turn n (events.LoadKey k t) (answers.Started (Ok (beginnings.Load l key))) is = ap of_load is
+  begin-turn n (Event.LoadStart h) (EventReply.Started (Ok (Beginning.Load l key))) is = ap of_load is
+  begin-turn n (Event.Call (Call.LoadBegin h)) (EventReply.CallReply (Reply.Begun (Ok (Beginning.Load l key)))) is = ap of_load is
+  begin-turn n (Event.LoadKey k t) (EventReply.Started (Ok (Beginning.Load l key))) is = ap of_load is
   begin-turn n event reply is = absurd is
 
   begin-or : (n : ℕ) (event : Event N B W) (reply : EventReply N B W) → IsBeginOf n event reply ⊎ (IsBeginOf n event reply → ⊥)
-  begin-or n (events.LoadStart h) (answers.Started (Ok (beginnings.Load l key))) = number-or l.0 n
-  begin-or n (events.Call (calls.LoadBegin h)) (answers.CallReply (replies.Begun (Ok (beginnings.Load l key)))) = number-or l.0 n
-  begin-or n (events.LoadKey k t) (answers.Started (Ok (beginnings.Load l key))) = number-or l.0 n
+  begin-or n (Event.LoadStart h) (EventReply.Started (Ok (Beginning.Load l key))) = number-or l.0 n
+  begin-or n (Event.Call (Call.LoadBegin h)) (EventReply.CallReply (Reply.Begun (Ok (Beginning.Load l key)))) = number-or l.0 n
+  begin-or n (Event.LoadKey k t) (EventReply.Started (Ok (Beginning.Load l key))) = number-or l.0 n
   begin-or n event reply = inr (λ b. b)
 
 -- ---- ready
@@ -118,7 +97,7 @@ module _ {N B W E : Type 0} (m : Seen N B W) (s s' : MachineState N E) (whole : 
       omega (arith, above, few)
 
   nothing-ready : (l : LoadNumber) (load : OpenLoad) (frames : List Frame) → frames ≡ []
-      → ((node : NodeNumber) (t : ℕ) (h : HandleNumber) → load.root ≡ of_cell node t h → (row : HandleRow) × (row_at w' h ≡ Some row) × (row.owner ≡ owners.Caller)) → LoadReady w' l load frames
+      → ((node : NodeNumber) (t : ℕ) (h : HandleNumber) → load.root ≡ of_cell node t h → (row : HandleRow) × (row_at w' h ≡ Some row) × (row.owner ≡ Owner.Caller)) → LoadReady w' l load frames
   nothing-ready l load frames none begun =
       record { begun = begun; live = λ frame r among got. absurd (let there = subst (λ fs. Among fs frame) none among in let e = there.1 in cc); once = once-none frames none }
 
@@ -130,30 +109,30 @@ module _ {N B W E : Type 0} (m : Seen N B W) (s s' : MachineState N E) (whole : 
     | inr begun ↦ begun.0
   ]
 
-  by-call : (h : HandleNumber) (k l : LoadNumber) (key : ℕ) → BeginCall w owners.Caller h (Ok (beginnings.Load k key)) w' → ReadingsAre s.work.readings (world_of s') → k.0 ≡ l.0 → Ready s' l
+  by-call : (h : HandleNumber) (k l : LoadNumber) (key : ℕ) → BeginCall w Owner.Caller h (Ok (Beginning.Load k key)) w' → ReadingsAre s.work.readings (world_of s') → k.0 ≡ l.0 → Ready s' l
   by-call h k l key b are same = λ reading load at open_load.
       let g = b.begins in
       let row : HandleRow = g.0 in
       let next = g.2.2.above in
       let a = g.2.4.2 in
-      let there : w'.loads l.0 ≡ Some (record { owner = owners.Caller; key = key; root = of_cell row.node g.2.4.0 h }) =
+      let there : w'.loads l.0 ≡ Some (record { owner = Owner.Caller; key = key; root = of_cell row.node g.2.4.0 h }) =
       ap w'.loads (sym same ∙ next) ∙ a.loads (w.last.load + 1) ∙ updated-at (w.last.load + 1) _ w.loads in
-      let is : record { owner = owners.Caller; key = key; root = of_cell row.node g.2.4.0 h } ≡ load = same_some _ _ (sym there ∙ open_load) in
-      let st = stands-alike a (with-one w row.node modes.LooseUnpinned (owners.Load k) (stands-whole whole.pager.whole.handles h.0 row g.1.live)) in
+      let is : record { owner = Owner.Caller; key = key; root = of_cell row.node g.2.4.0 h } ≡ load = same_some _ _ (sym there ∙ open_load) in
+      let st = stands-alike a (with-one w row.node Mode.LooseUnpinned (Owner.Load k) (stands-whole whole.pager.whole.handles h.0 row g.1.live)) in
       nothing-ready l load reading.frames (begun-empty l reading s.work.readings are (λ r e. absurd (unread l r (omega (arith, same, next)) e)) at)
       (λ node t q root.
       let e : of_cell row.node g.2.4.0 h ≡ of_cell node t q = ap (λ (x : OpenLoad). x.root) is ∙ root in
       let hs : h ≡ q = cc in
       (row, subst (λ (x : HandleNumber). row_at w' x ≡ Some row) hs st.live, g.1.own))
 
-  by-key : (k l : LoadNumber) (key t : ℕ) (b : BeginKeyCall w owners.Caller key (Ok (beginnings.Load k key)) w') → ReadingsAre (updated k.0 (Some (fresh k t)) s.work.readings) (world_of s')
+  by-key : (k l : LoadNumber) (key t : ℕ) (b : BeginKeyCall w Owner.Caller key (Ok (Beginning.Load k key)) w') → ReadingsAre (updated k.0 (Some (fresh k t)) s.work.readings) (world_of s')
       → k.0 ≡ l.0 → Ready s' l
   by-key k l key t b are same = λ reading load at open_load.
       let g = b.begins in
       let next = g.1.above in
-      let there : w'.loads l.0 ≡ Some (record { owner = owners.Caller; key = key; root = of_key }) =
+      let there : w'.loads l.0 ≡ Some (record { owner = Owner.Caller; key = key; root = of_key }) =
       ap w'.loads (sym same ∙ next) ∙ g.2.loads (w.last.load + 1) ∙ updated-at (w.last.load + 1) _ w.loads in
-      let is : record { owner = owners.Caller; key = key; root = of_key } ≡ load = same_some _ _ (sym there ∙ open_load) in
+      let is : record { owner = Owner.Caller; key = key; root = of_key } ≡ load = same_some _ _ (sym there ∙ open_load) in
       nothing-ready l load reading.frames
       (begun-empty l reading (updated k.0 (Some (fresh k t)) s.work.readings) are (λ r e. elim (at-updated k.0 (Some (fresh k t)) s.work.readings l.0 r e) [
         | inl (here, f) ↦ ap (λ (x : Reading). x.frames) (sym (same_some _ _ f))
@@ -162,23 +141,23 @@ module _ {N B W E : Type 0} (m : Seen N B W) (s s' : MachineState N E) (whole : 
       (λ node q h root. let e : of_key ≡ of_cell node q h = ap (λ (x : OpenLoad). x.root) is ∙ root in absurd (cc))
 
   begin-ready : (l : LoadNumber) (event : Event N B W) (reply : EventReply N B W) → IsBeginOf l.0 event reply → Happens m (world_of s) event reply (world_of s') → Ready s' l
-  begin-ready l (events.LoadStart h) (answers.Started (Ok (beginnings.Load k key))) is x = by-call h k l key x.step x.readings is
-  begin-ready l (events.Call (calls.LoadBegin h)) (answers.CallReply (replies.Begun (Ok (beginnings.Load k key)))) is x = by-call h k l key x.step.does x.readings is
-  begin-ready l (events.LoadKey q t) (answers.Started (Ok (beginnings.Load k key))) is x =
+  begin-ready l (Event.LoadStart h) (EventReply.Started (Ok (Beginning.Load k key))) is x = by-call h k l key x.step x.readings is
+  begin-ready l (Event.Call (Call.LoadBegin h)) (EventReply.CallReply (Reply.Begun (Ok (Beginning.Load k key)))) is x = by-call h k l key x.step.does x.readings is
+  begin-ready l (Event.LoadKey q t) (EventReply.Started (Ok (Beginning.Load k key))) is x =
       let same : key ≡ q = x.step.begins.0 in
-      by-key k l q t (subst (λ y. BeginKeyCall w owners.Caller q (Ok (beginnings.Load k y)) w') same x.step) x.begun is
+      by-key k l q t (subst (λ y. BeginKeyCall w Owner.Caller q (Ok (Beginning.Load k y)) w') same x.step) x.begun is
   begin-ready l event reply is x = absurd is
 
   -- ---- steps
 
   -- a step that ends closes the load
-  closes : (reading : Reading) (end : LoadAnswer N) (frames : List Frame) → Does m.values w owners.Caller reading (Some end) frames w' → w'.loads reading.load.0 ≡ None
-  closes reading (ends.Pinned k) frames does = elim does.0.ended.installs.3.falls [
+  closes : (reading : Reading) (end : LoadAnswer N) (frames : List Frame) → Does m.values w Owner.Caller reading (Some end) frames w' → w'.loads reading.load.0 ≡ None
+  closes reading (LoadAnswer.Pinned k) frames does = elim does.0.ended.installs.3.falls [
     | inl (away, f) ↦ f.falls.leaves.loads reading.load.0 ∙ updated-at reading.load.0 None w.loads
     | inr (here, f) ↦ f.falls.leaves.loads reading.load.0 ∙ updated-at reading.load.0 None w.loads
   ]
-  closes reading (ends.Read x) frames does = does.0.handed.hands.1.falls.leaves.loads reading.load.0 ∙ updated-at reading.load.0 None w.loads
-  closes reading (ends.Refused e) frames does = elim does.0 [
+  closes reading (LoadAnswer.Read x) frames does = does.0.handed.hands.1.falls.leaves.loads reading.load.0 ∙ updated-at reading.load.0 None w.loads
+  closes reading (LoadAnswer.Refused e) frames does = elim does.0 [
     | inl gives ↦ gives.closes.leaves.loads reading.load.0 ∙ updated-at reading.load.0 None gives.mid.loads
     | inr ended ↦ ended.ended.refused.closes.leaves.loads reading.load.0 ∙ updated-at reading.load.0 None w.loads
   ]
@@ -219,7 +198,7 @@ module _ {N B W E : Type 0} (m : Seen N B W) (lawful : IsLawful m.values) (reada
   -- the load was open, and is the same
   was-open : (l : LoadNumber) (reply : LoadReply N) → LoadSteps m.values (world_of s) l reply (world_of s') → (load : OpenLoad) → s'.pager.core.loads l.0 ≡ Some load → core.loads l.0 ≡ Some load
   was-open l reply x load open_load =
-      let f = reading-feels m core owners.Caller caller-free s'.pager.core x.reading reply.ended x.frames x.does in
+      let f = reading-feels m core Owner.Caller caller-free s'.pager.core x.reading reply.ended x.frames x.does in
       let few : l.0 ≤ core.last.load = elim (reading-stands (world_of s) on.whole.pager.whole l x.reading x.at) [
         | inl there ↦ let a = on.whole.readings l.0 x.reading there in (on.whole.pager.whole.loads.numbered l.0 (ap is_some a.open_load)).1
         | inr begun ↦ begun.3
@@ -240,11 +219,11 @@ module _ {N B W E : Type 0} (m : Seen N B W) (lawful : IsLawful m.values) (reada
 
       by : (answer : Option (LoadAnswer N)) → reply.ended ≡ answer → LoadReady s'.pager.core l load reading.frames
       by (Some end) e =
-          let shut = closes m s s' on.whole whole' x.reading end x.frames (subst (λ o. Does m.values core owners.Caller x.reading o x.frames s'.pager.core) e x.does.does) in
+          let shut = closes m s s' on.whole whole' x.reading end x.frames (subst (λ o. Does m.values core Owner.Caller x.reading o x.frames s'.pager.core) e x.does.does) in
           let f : s'.pager.core.loads l.0 ≡ None = ap (λ (k : LoadNumber). s'.pager.core.loads k.0) (sym a.number) ∙ shut in
           absurd (cc)
       by None e =
-          let go = subst (λ o. Does m.values core owners.Caller x.reading o x.frames s'.pager.core) e x.does.does in
+          let go = subst (λ o. Does m.values core Owner.Caller x.reading o x.frames s'.pager.core) e x.does.does in
           let after = goes-ready m.values lawful readable core s'.pager.core x.reading load trees load.key x.reading.node_type on.whole.pager.whole.handles before a.got a.fits x.frames go in
           let now : s'.work.readings l.0 ≡ Some (gone_on x.reading x.frames) =
           x.readings l.0 ∙ ap (λ (o : Option OpenLoad). if_there (λ (z : OpenLoad). updated l.0 (reading_after reply.ended x.reading x.frames) s.work.readings l.0) None o) open_load
@@ -269,10 +248,10 @@ module _ {N B W E : Type 0} (m : Seen N B W) (lawful : IsLawful m.values) (reada
 
   references-fine : (l : LoadNumber) (reading : Reading) (load : OpenLoad) → IsAt l reading load → LoadReady core l load reading.frames → (frame : Frame) (below : List Frame) (x : N)
       → reading.frames ≡ frame ∷ below
-      → (decoded : IsDecoded m.values frame x) → IsForm m.values frame → references_fault core (owners.Load reading.load) [] (m.values.references x) ≡ None
+      → (decoded : IsDecoded m.values frame x) → IsForm m.values frame → references_fault core (Owner.Load reading.load) [] (m.values.references x) ≡ None
   unfolding is_in
   references-fine l reading load a ready frame below x is decoded form =
-      fine core (owners.Load reading.load) [] (m.values.references x) good-one (λ r among. refl) once
+      fine core (Owner.Load reading.load) [] (m.values.references x) good-one (λ r among. refl) once
     where
       here : FramesFit m.values.types core.stored trees load.key reading.node_type (frame ∷ below)
       here = subst (λ fs. FramesFit m.values.types core.stored trees load.key reading.node_type fs) is a.fits
@@ -283,11 +262,11 @@ module _ {N B W E : Type 0} (m : Seen N B W) (lawful : IsLawful m.values) (reada
       front : Among reading.frames frame
       front = subst (λ fs. Among fs frame) (sym is) (zero, refl)
 
-      good-one : (r : ArcRef) → Among (m.values.references x) r → IsReference core (owners.Load reading.load) r
+      good-one : (r : ArcRef) → Among (m.values.references x) r → IsReference core (Owner.Load reading.load) r
       good-one r among =
           let got = (decodes lawful readable frame x fits decoded).got r among in
           let b = ready.live frame r front got in
-          let own : b.0.owner ≡ owners.Load reading.load = b.2 ∙ ap (λ (k : LoadNumber). owners.Load k) (sym a.number) in
+          let own : b.0.owner ≡ Owner.Load reading.load = b.2 ∙ ap (λ (k : LoadNumber). Owner.Load k) (sym a.number) in
           let stood = (a.got frame r front got).is b.0 b.1 own in
           let live = subst (λ (n : NodeNumber). 0 < held n.0 core.rows) stood.0 (row-held core r.handle b.0 b.1) in
           record { row = b.0; live = b.1; at = stood.0; owned = own; fits = stood.1; typed = on.stands.pager.typed r.node.0 live ∙ ap (λ (n : ℕ). Some n) (got-typed frame fits r got) }
@@ -305,18 +284,18 @@ module _ {N B W E : Type 0} (m : Seen N B W) (lawful : IsLawful m.values) (reada
           omega (arith, named, few)
 
   callers-handle : (l : LoadNumber) (load : OpenLoad) (frames : List Frame) (node : NodeNumber) (t : ℕ) (h : HandleNumber) (e : Error) → LoadReady core l load frames
-      → load.root ≡ of_cell node t h → handle_fault core owners.Caller h any_mode ≡ Some e → ⊥
+      → load.root ≡ of_cell node t h → handle_fault core Owner.Caller h any_mode ≡ Some e → ⊥
   callers-handle l load frames node t h e ready root fault =
       let b = ready.begun node t h root in
-      let own : is_owner owners.Caller b.0.owner ≡ true = ap (is_owner owners.Caller) b.2 in
-      let f : handle_fault core owners.Caller h any_mode ≡ None =
-      ap (λ found. if_there (λ (row : HandleRow). if not (is_owner owners.Caller row.owner) then Some errors.NotYours else refused_if (not (any_mode row.mode)) errors.WrongMode)
-      (Some errors.NoSuchHandle) found) b.1 ∙ rw own refl in
+      let own : is_owner Owner.Caller b.0.owner ≡ true = ap (is_owner Owner.Caller) b.2 in
+      let f : handle_fault core Owner.Caller h any_mode ≡ None =
+      ap (λ found. if_there (λ (row : HandleRow). if not (is_owner Owner.Caller row.owner) then Some Error.NotYours else refused_if (not (any_mode row.mode)) Error.WrongMode)
+      (Some Error.NoSuchHandle) found) b.1 ∙ rw own refl in
       cc
 
   sound : (low : HeightsIn (world_of s)) (l : LoadNumber) (reply : LoadReply N) → LoadSteps m.values (world_of s) l reply (world_of s') → Ready s l → (load : OpenLoad) (e : Error)
       → core.loads l.0 ≡ Some load → IsLoadOfPagedOut s load
-      → reply.ended ≡ Some (ends.Refused e)
+      → reply.ended ≡ Some (LoadAnswer.Refused e)
       → IsOfChance e
   sound low l reply x ready load e open_load paged ended =
       let r = ready x.reading load x.at open_load in
@@ -327,16 +306,16 @@ module _ {N B W E : Type 0} (m : Seen N B W) (lawful : IsLawful m.values) (reada
         | by-handle node t h root fault ↦ absurd (callers-handle l load x.reading.frames node t h e r root fault)
       ]
 
-  load-step-ready : (l : LoadNumber) (reply : EventReply N B W) → Happens m (world_of s) (events.LoadStep l) reply (world_of s') → Ready s l → Ready s' l
-  load-step-ready l (answers.LoadMoved (Ok reply)) is ready = step-ready l reply is.moves ready
-  load-step-ready l (answers.LoadMoved (Err e)) is ready = stays-ready l is.refused.1 ready
+  load-step-ready : (l : LoadNumber) (reply : EventReply N B W) → Happens m (world_of s) (Event.LoadStep l) reply (world_of s') → Ready s l → Ready s' l
+  load-step-ready l (EventReply.LoadMoved (Ok reply)) is ready = step-ready l reply is.moves ready
+  load-step-ready l (EventReply.LoadMoved (Err e)) is ready = stays-ready l is.refused.1 ready
   load-step-ready l reply is ready = absurd is
 
   turn-ready : (l : LoadNumber) (event : Event N B W) (reply : EventReply N B W) → Happens m (world_of s) event reply (world_of s') → turn_of event reply ≡ of_load l.0 → Ready s l → Ready s' l
   turn-ready l event reply is turn ready = elim (turn-cases l.0 event reply turn) [
     | inl begins ↦ begin-ready m s s' on.whole whole' l event reply begins is
     | inr (k, same, e) ↦
-        let own : event ≡ events.LoadStep l = e ∙ ap (λ (q : LoadNumber). events.LoadStep q) (same-load k l same) in
+        let own : event ≡ Event.LoadStep l = e ∙ ap (λ (q : LoadNumber). Event.LoadStep q) (same-load k l same) in
         load-step-ready l reply (subst (λ (x : Event N B W). Happens m (world_of s) x reply (world_of s')) own is) ready
   ]
 
@@ -352,7 +331,7 @@ module _ {N B W E : Type 0} (m : Seen N B W) where
   NoTurns l xs = (i : ℕ) (a : Moment N E B W) → slice_get xs i ≡ Some a → turn_of a.event a.reply ≡ of_load l.0 → ⊥
 
   abbrev BegunFirst : LoadNumber → List (Moment N E B W) → Type 0
-  BegunFirst l xs = (k : ℕ) (c : Moment N E B W) → slice_get xs k ≡ Some c → c.event ≡ events.LoadStep l → HasBegun xs l.0 k
+  BegunFirst l xs = (k : ℕ) (c : Moment N E B W) → slice_get xs k ≡ Some c → c.event ≡ Event.LoadStep l → HasBegun xs l.0 k
 
   -- a load goes on in one piece, or has no turn any more, or hasn't begun
   data Stage (s : MachineState N E) (l : LoadNumber) (xs : List (Moment N E B W)) : Type 0 where
@@ -392,21 +371,21 @@ module _ {N B W E : Type 0} (m : Seen N B W) where
 
       load-sound : (low : HeightsIn (world_of s)) → ((l : LoadNumber) → Stage s l (x ∷ xs)) → (trees' : ℕ → Tree) (event : Event N B W) (reply : EventReply N B W) → x.event ≡ event
           → Happens m (world_of s) event reply (world_of x.after) → LoadIsSound s trees event reply x.after trees'
-      load-sound low stage trees' (events.LoadStep l) (answers.LoadMoved (Ok reply)) same h = λ load e open_load paged ended. by load e open_load paged ended (stage l)
+      load-sound low stage trees' (Event.LoadStep l) (EventReply.LoadMoved (Ok reply)) same h = λ load e open_load paged ended. by load e open_load paged ended (stage l)
         where
-          by : (load : OpenLoad) (e : Error) → s.pager.core.loads l.0 ≡ Some load → IsLoadOfPagedOut s load → reply.ended ≡ Some (ends.Refused e) → Stage s l (x ∷ xs) → IsOfChance e
+          by : (load : OpenLoad) (e : Error) → s.pager.core.loads l.0 ≡ Some load → IsLoadOfPagedOut s load → reply.ended ≡ Some (LoadAnswer.Refused e) → Stage s l (x ∷ xs) → IsOfChance e
           by load e open_load paged ended (going ready turns) = sound m lawful readable s x.after trees on whole' low l reply h.moves ready load e open_load paged ended
           by load e open_load paged ended (off none) = absurd (none 0 x refl (ap (λ (v : Event N B W). turn_of v x.reply) same))
           by load e open_load paged ended (ahead first) = absurd (let b = first 0 x refl same in let lt = b.before in omega (arith, lt))
-      load-sound low stage trees' (events.LoadStep l) (answers.LoadMoved (Err e)) same h = tt
-      load-sound low stage trees' (events.LoadStep l) reply same h = absurd h
-      load-sound low stage trees' (events.Call call) reply same h = tt
-      load-sound low stage trees' (events.LoadStart k) reply same h = tt
-      load-sound low stage trees' (events.LoadKey key t) reply same h = tt
-      load-sound low stage trees' (events.WorkerStep n) reply same h = tt
-      load-sound low stage trees' events.TableNew reply same h = tt
-      load-sound low stage trees' (events.WorkerItem t item) reply same h = tt
-      load-sound low stage trees' (events.WorkerListed t i) reply same h = tt
+      load-sound low stage trees' (Event.LoadStep l) (EventReply.LoadMoved (Err e)) same h = tt
+      load-sound low stage trees' (Event.LoadStep l) reply same h = absurd h
+      load-sound low stage trees' (Event.Call call) reply same h = tt
+      load-sound low stage trees' (Event.LoadStart k) reply same h = tt
+      load-sound low stage trees' (Event.LoadKey key t) reply same h = tt
+      load-sound low stage trees' (Event.WorkerStep n) reply same h = tt
+      load-sound low stage trees' Event.TableNew reply same h = tt
+      load-sound low stage trees' (Event.WorkerItem t item) reply same h = tt
+      load-sound low stage trees' (Event.WorkerListed t i) reply same h = tt
 
     sound-along : (s : MachineState N E) (trees : ℕ → Tree) (xs : List (Moment N E B W)) → IsGoingOn m.values s trees → HeightsIn (world_of s) → StandTogether xs
         → ((l : LoadNumber) → Stage s l xs) → AreMoments m s xs

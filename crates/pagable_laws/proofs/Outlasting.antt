@@ -1,18 +1,9 @@
 -- A handle that is live, that no value owns and that isn't given up outlasts a cascade, with its row.
-use Rattle.std.proofs.Common.{◌≡◌, ℕ, zero, suc, ◌+◌, ◌<◌, ◌≤◌, ◌==◌, ◌&&◌, Bool, true, false, List, [], ◌∷◌, ◌++◌, cond, refl, ap, sym, subst, ◌∙◌, inl, inr, arith}
-use Rattle.std.specs.Prelude.{Option, Some, None, not, if◌then◌else◌, filter, map, slice_get}
+use Rattle.pagable_laws.proofs.Words.{◌≡◌, ℕ, zero, suc, ◌+◌, ◌<◌, ◌≤◌, ◌==◌, ◌&&◌, Bool, true, false, List, [], ◌∷◌, ◌++◌, cond, refl, ap, sym, subst, ◌∙◌, inl, inr, arith, Option, Some, None}
+use Rattle.pagable_laws.proofs.Words.{not, if◌then◌else◌, filter, map, slice_get, cases_order, nat_tests, get_or_from_slice_get, slice_get_within, HandleNumber, NodeNumber, Among, changed, one}
+use Rattle.pagable_laws.proofs.Words.{or_else, Owner, HandleRow, find_row, is_handle, is_owner, is_owned_by, owner_value, Core, Last, Alike, IsWithin, IsClosed, IsLeast, is_keyed, Falls}
+use Rattle.pagable_laws.proofs.Words.{left_rows, fallen, owned_outside, IsHandleBefore, HandlesAreWhole}
 use Rattle.std.specs.List.{AllPairs}
-use Rattle.std.proofs.lemmas.Bool.{cases_order}
-use Rattle.std.proofs.lemmas.Bool.Decides.{nat_tests}
-use Rattle.std.proofs.lemmas.Option.{get_or_from_slice_get, slice_get_within}
-use Rattle.pagable_world.specs.Plain.{HandleNumber, NodeNumber, Among, changed, one, or_else}
-use Rattle.pagable_world.specs.declared.handles.Owner.{Owner}
-use Rattle.pagable_world.specs.declared.handles.HandleRow.{HandleRow}
-use Rattle.pagable_world.specs.declared.handles.Owner.TheVariants as owners
-use Rattle.pagable_world.specs.Kinds.{find_row, is_handle, is_owner, is_owned_by, owner_value}
-use Rattle.pagable_world.specs.World.{Core, Last, Alike}
-use Rattle.pagable_world.specs.Cascade.{IsWithin, IsClosed, IsLeast, is_keyed, Falls, left_rows, fallen, owned_outside}
-use Rattle.pagable_world.specs.Pager.{IsHandleBefore, HandlesAreWhole}
 use Rattle.pagable_laws.proofs.Sums.{same-number, self-number, sum-zero, at-most-sum}
 use Rattle.pagable_laws.proofs.Existing.{inside, wider}
 use Rattle.pagable_laws.proofs.Decoding.{among-either}
@@ -21,14 +12,11 @@ use Rattle.pagable_laws.proofs.Goes.{le-more, found-number, none-in-new}
 
 -- no value's
 abbrev pub NotValues : Owner → Type 0
-NotValues o = (n : NodeNumber) → o ≡ owners.Value n → ⊥
+NotValues o = (n : NodeNumber) → o ≡ Owner.Value n → ⊥
 
 pub not-owned : (n : ℕ) (o : Owner) → NotValues o → is_owner (owner_value n) o ≡ false
-not-owned n owners.Caller free = refl
-not-owned n (owners.Value m) free = absurd (free m refl)
-not-owned n owners.List free = refl
-not-owned n (owners.Load l) free = refl
-not-owned n (owners.Worker v) free = refl
+not-owned n (Owner.Value m) free = absurd (free m refl)
+not-owned n _ free = refl
 
 -- ---- what doesn't fall
 
@@ -86,7 +74,8 @@ unfolding find_row
 find-later q h hs is = rw is refl
 
 -- what holds where the row stands in front, and goes over to longer lists
-found-by : (q : ℕ) (row : HandleRow) (P : List HandleRow → Type 0) → ((h : HandleRow) (hs : List HandleRow) → is_handle q h ≡ true → h ≡ row → P (h ∷ hs)) → ((h : HandleRow) (hs : List HandleRow) → is_handle q h ≡ false → P hs → P (h ∷ hs))
+found-by : (q : ℕ) (row : HandleRow) (P : List HandleRow → Type 0) → ((h : HandleRow) (hs : List HandleRow) → is_handle q h ≡ true → h ≡ row → P (h ∷ hs))
+    → ((h : HandleRow) (hs : List HandleRow) → is_handle q h ≡ false → P hs → P (h ∷ hs))
     → (rows : List HandleRow) → find_row q rows ≡ Some row → P rows
 unfolding find_row
 found-by q row P front later [] found = absurd (cc)
@@ -176,7 +165,8 @@ module _ (test : HandleRow → Bool) (f : HandleRow → HandleRow) (same : (h : 
 
   pub found-after : (q : ℕ) (rows : List HandleRow) (row : HandleRow) → find_row q rows ≡ Some row → find_row q (changed test f rows) ≡ Some (after row)
   found-after q rows row found =
-      found-by q row (λ xs. find_row q (changed test f xs) ≡ Some (after row)) (λ h hs is e. find-front q (after h) _ (still h is) ∙ ap (λ (x : HandleRow). Some (after x)) e) (λ h hs is a. find-later q (after h) _ (still h is) ∙ a) rows found
+      found-by q row (λ xs. find_row q (changed test f xs) ≡ Some (after row)) (λ h hs is e. find-front q (after h) _ (still h is) ∙ ap (λ (x : HandleRow). Some (after x)) e)
+      (λ h hs is a. find-later q (after h) _ (still h is) ∙ a) rows found
     where
       still : {b : Bool} (h : HandleRow) → is_handle q h ≡ b → is_handle q (after h) ≡ b
       still h is = ap (λ (k : HandleNumber). k.0 == q) (after-number h) ∙ is
@@ -223,7 +213,8 @@ found-kept gone q rows row kept found = found-by q row (λ xs. find_row q (left_
     front : (h : HandleRow) (hs : List HandleRow) → is_handle q h ≡ true → h ≡ row → find_row q (left_rows gone (h ∷ hs)) ≡ Some row
     front h hs is e = let stays : gone h.number.0 ≡ false = ap gone (same-number _ _ is) ∙ kept in rw stays (find-front q h _ is ∙ ap (λ (x : HandleRow). Some x) e)
 
-    later : (h : HandleRow) (hs : List HandleRow) → is_handle q h ≡ false → find_row q (left_rows gone hs) ≡ Some row → (b : Bool) → gone h.number.0 ≡ b → find_row q (left_rows gone (h ∷ hs)) ≡ Some row
+    later : (h : HandleRow) (hs : List HandleRow) → is_handle q h ≡ false → find_row q (left_rows gone hs) ≡ Some row → (b : Bool) → gone h.number.0 ≡ b
+        → find_row q (left_rows gone (h ∷ hs)) ≡ Some row
     later h hs is a true goes = rw goes a
     later h hs is a false goes = rw goes (find-later q h _ is ∙ a)
 

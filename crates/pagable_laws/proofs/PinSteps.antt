@@ -1,35 +1,12 @@
 -- What is answered as pinned is a handle that pins: of a call, of a load's last step and of a worker's pin.
-use Rattle.std.proofs.Common.{◌≡◌, ℕ, zero, suc, ◌+◌, ◌≤◌, ◌&&◌, Bool, true, false, List, [], ◌∷◌, ◌++◌, refl, ap, sym, subst, ◌∙◌, inl, inr, arith}
-use Rattle.std.specs.Prelude.{Option, Some, None, not, if◌then◌else◌, Ok}
-use Rattle.pagable_world.specs.Plain.{ArcRef, Identity, HandleNumber, LoadNumber, NodeNumber, Among, changed}
-use Rattle.pagable_world.specs.declared.handles.Owner.{Owner}
-use Rattle.pagable_world.specs.declared.handles.HandleRow.{HandleRow}
-use Rattle.pagable_world.specs.declared.rows.Mode.{Mode}
-use Rattle.pagable_world.specs.declared.events.Event.{Event}
-use Rattle.pagable_world.specs.declared.events.EventReply.{EventReply}
-use Rattle.pagable_world.specs.declared.events.LoadAnswer.{LoadAnswer}
-use Rattle.pagable_world.specs.declared.events.WorkerAnswer.{WorkerAnswer}
-use Rattle.pagable_world.specs.declared.events.Took.{Took}
-use Rattle.pagable_world.specs.declared.rows.Mode.TheVariants as modes
-use Rattle.pagable_world.specs.declared.handles.Owner.TheVariants as owners
-use Rattle.pagable_world.specs.declared.calls.Call.TheVariants as calls
-use Rattle.pagable_world.specs.declared.calls.Reply.TheVariants as replies
-use Rattle.pagable_world.specs.declared.answers.Pinning.TheVariants as pinnings
-use Rattle.pagable_world.specs.declared.events.Event.TheVariants as events
-use Rattle.pagable_world.specs.declared.events.EventReply.TheVariants as answers
-use Rattle.pagable_world.specs.declared.events.PinStep.TheVariants as pinsteps
-use Rattle.pagable_world.specs.declared.events.Took.TheVariants as took
-use Rattle.pagable_world.specs.Kinds.{find_row, is_handle, is_pinning, is_loose, owner_worker}
-use Rattle.pagable_world.specs.World.{Core, Last, World, Seen, Todo, to_start, to_pin, to_load, to_write, to_finish, to_item, to_set, to_publish, to_release, to_fail, row_at, Alike}
-use Rattle.pagable_world.specs.Cascade.{FallsAnyhow}
-use Rattle.pagable_world.specs.Calls.{row_of, with_handle, with_mode, moved, is_named_by, CloneCall, PinCall}
-use Rattle.pagable_world.specs.LoadCalls.{with_pin, without_load, is_owned_in, EndCall}
+use Rattle.pagable_laws.proofs.Words.{◌≡◌, ℕ, zero, suc, ◌+◌, ◌≤◌, ◌&&◌, Bool, true, false, List, [], ◌∷◌, ◌++◌, refl, ap, sym, subst, ◌∙◌, inl, inr, arith, Option, Some, None, not}
+use Rattle.pagable_laws.proofs.Words.{if◌then◌else◌, Ok, ArcRef, Identity, HandleNumber, LoadNumber, NodeNumber, Among, changed, Owner, HandleRow, Mode, Event, EventReply, LoadAnswer}
+use Rattle.pagable_laws.proofs.Words.{WorkerAnswer, Took, Call, Reply, Pinning, PinStep, find_row, is_handle, is_pinning, is_loose, owner_worker, Core, Last, World, Seen, Todo, to_pin}
+use Rattle.pagable_laws.proofs.Words.{to_load, row_at, Alike, FallsAnyhow, row_of, with_handle, with_mode, moved}
+use Rattle.pagable_laws.proofs.Words.{is_named_by, CloneCall, PinCall, with_pin, without_load, is_owned_in, EndCall, Site, PinsAtOnce, answer_after, Ends, Happens, HandlesAreWhole, HasPin}
+use Rattle.pagable_laws.proofs.Words.{PinHolds}
 use Rattle.pagable_world.specs.Loads.{Does}
 use Rattle.pagable_world.specs.Workers as workers
-use Rattle.pagable_world.specs.Workers.{Site, PinsAtOnce, answer_after}
-use Rattle.pagable_world.specs.Events.{Ends, Happens}
-use Rattle.pagable_world.specs.Pager.{HandlesAreWhole}
-use Rattle.pagable_laws.specs.TreeSteps.{HasPin, PinHolds}
 use Rattle.pagable_laws.proofs.Trees.{same_some}
 use Rattle.pagable_laws.proofs.Outlasting.{AreUpTo, after-number, NotValues, Stands, stands-new, stands-alike, stands-fell, among-changed, none-above}
 use Rattle.pagable_laws.proofs.Decoding.{among-either}
@@ -48,7 +25,8 @@ low-changed last rows test f same low h among =
     subst (λ (k : HandleNumber). k.0 ≤ last) (sym (ap (λ (r : HandleRow). r.number) a.2 ∙ after-number test f same a.0)) (low a.0 a.1)
 
 -- the handle that was made last
-pub new-handle : (w : Core) (node : NodeNumber) (mode : Mode) (owner : Owner) → AreLow w → Stands (w.last.handle + 1) (w.rows ++ row_of (w.last.handle + 1) node mode owner ∷ []) (w.last.handle + 1) (row_of (w.last.handle + 1) node mode owner)
+pub new-handle : (w : Core) (node : NodeNumber) (mode : Mode) (owner : Owner) → AreLow w
+    → Stands (w.last.handle + 1) (w.rows ++ row_of (w.last.handle + 1) node mode owner ∷ []) (w.last.handle + 1) (row_of (w.last.handle + 1) node mode owner)
 new-handle w node mode owner low = stands-new w.last.handle w.rows (row_of (w.last.handle + 1) node mode owner) low refl
 
 pins-by : {last : ℕ} (w : Core) {row : HandleRow} (k : HandleNumber) (q : ℕ) → k.0 ≡ q → Stands last w.rows q row → is_pinning row.mode ≡ true → HasPin w k
@@ -58,27 +36,29 @@ has-pin-alike : {w w' : Core} (k : HandleNumber) → Alike w w' → HasPin w k �
 has-pin-alike k a h = record { row = h.row; live = subst (λ rows. find_row k.0 rows ≡ Some h.row) (sym a.rows) h.live; is = h.is }
 
 module _ (w w' : Core) (low : AreLow w) where
-  pin-call : (me : Owner) (h k : HandleNumber) → PinCall w me h (Ok (pinnings.Pinned k)) w' → HasPin w' k
+  pin-call : (me : Owner) (h k : HandleNumber) → PinCall w me h (Ok (Pinning.Pinned k)) w' → HasPin w' k
   pin-call me h k c =
       let row : HandleRow = c.pins.0 in
-      let low' = low-changed w.last.handle w.rows (is_handle h.0) (λ r. record r { mode = modes.LoosePinned }) (λ r. refl) low in
-      let s = new-handle (with_mode w h modes.LoosePinned) row.node modes.Pinned me low' in
-      pins-by w' k (w.last.handle + 1) c.pins.2.1.above (stands-alike {w = with_handle (with_mode w h modes.LoosePinned) row.node modes.Pinned me} c.pins.2.2 s) refl
+      let low' = low-changed w.last.handle w.rows (is_handle h.0) (λ r. record r { mode = Mode.LoosePinned }) (λ r. refl) low in
+      let s = new-handle (with_mode w h Mode.LoosePinned) row.node Mode.Pinned me low' in
+      pins-by w' k (w.last.handle + 1) c.pins.2.1.above (stands-alike {w = with_handle (with_mode w h Mode.LoosePinned) row.node Mode.Pinned me} c.pins.2.2 s) refl
 
-  pub clone-call : (me : Owner) (h k : HandleNumber) → CloneCall w me h (Ok k) w' → (row : HandleRow) × (row_at w h ≡ Some row) × Stands w'.last.handle w'.rows (w.last.handle + 1) (row_of (w.last.handle + 1) row.node row.mode me)
+  pub clone-call : (me : Owner) (h k : HandleNumber) → CloneCall w me h (Ok k) w'
+      → (row : HandleRow) × (row_at w h ≡ Some row) × Stands w'.last.handle w'.rows (w.last.handle + 1) (row_of (w.last.handle + 1) row.node row.mode me)
   clone-call me h k c =
       let row : HandleRow = c.made.0 in
       (row, c.made.1, stands-alike {w = with_handle w row.node row.mode me} c.made.3 (new-handle w row.node row.mode me low))
 
   -- what the load owned goes, and not the pin
-  pub owned-none : (l : LoadNumber) → is_owned_in w (owners.Load l) (w.last.handle + 1) ≡ false
+  pub owned-none : (l : LoadNumber) → is_owned_in w (Owner.Load l) (w.last.handle + 1) ≡ false
   owned-none l = let none = none-above w.last.handle (w.last.handle + 1) w.rows low (omega arith) in rw none refl
 
-  pin-stays : (u : Core) (h : HandleNumber) (node : NodeNumber) (me : Owner) (k : HandleNumber) (given : ℕ → Bool) → NotValues me → AreLow u → u.last.handle ≡ w.last.handle → k.0 ≡ w.last.handle + 1 → given (w.last.handle + 1) ≡ false
+  pin-stays : (u : Core) (h : HandleNumber) (node : NodeNumber) (me : Owner) (k : HandleNumber) (given : ℕ → Bool) → NotValues me → AreLow u → u.last.handle ≡ w.last.handle
+      → k.0 ≡ w.last.handle + 1 → given (w.last.handle + 1) ≡ false
       → FallsAnyhow w (with_pin u h node me) given w' → HasPin w' k
   pin-stays u h node me k given free low' same next kept f =
-      let low'' = low-changed u.last.handle u.rows (is_handle h.0) (λ r. record r { mode = modes.LoosePinned }) (λ r. refl) low' in
-      let s = new-handle (with_mode u h modes.LoosePinned) node modes.Pinned me low'' in
+      let low'' = low-changed u.last.handle u.rows (is_handle h.0) (λ r. record r { mode = Mode.LoosePinned }) (λ r. refl) low' in
+      let s = new-handle (with_mode u h Mode.LoosePinned) node Mode.Pinned me low'' in
       let q : u.last.handle + 1 ≡ w.last.handle + 1 = ap (λ n. n + 1) same in
       pins-by w' k (u.last.handle + 1) (next ∙ sym q) (stands-fell f.falls free (ap given q ∙ kept) s) refl
 
@@ -88,16 +68,17 @@ module _ (w w' : Core) (low : AreLow w) where
       let h : HandleNumber = c.installs.1 in
       let i = c.installs.3 in
       elim i.falls [
-        | inl (away, f) ↦ pin-stays (record (without_load w l) { rows = moved (is_named_by references) (owners.Value node) w.rows }) h node me k _ free
-            (low-changed w.last.handle w.rows (λ r. is_named_by references r.number.0) (λ r. record r { owner = owners.Value node }) (λ r. refl) low) refl i.next.above (ap (λ b. b && not (is_named_by references (w.last.handle + 1))) (owned-none l)) f
-        | inr (there, f) ↦ pin-stays (without_load w l) h node me k (is_owned_in w (owners.Load l)) free low refl i.next.above (owned-none l) f
+        | inl (away, f) ↦ pin-stays (record (without_load w l) { rows = moved (is_named_by references) (Owner.Value node) w.rows }) h node me k _ free
+            (low-changed w.last.handle w.rows (λ r. is_named_by references r.number.0) (λ r. record r { owner = Owner.Value node }) (λ r. refl) low) refl i.next.above
+            (ap (λ b. b && not (is_named_by references (w.last.handle + 1))) (owned-none l)) f
+        | inr (there, f) ↦ pin-stays (without_load w l) h node me k (is_owned_in w (Owner.Load l)) free low refl i.next.above (owned-none l) f
       ]
 
 pub not-loose : (mode : Mode) → is_loose mode ≡ false → is_pinning mode ≡ true
-not-loose modes.LoosePinned is = absurd (cc)
-not-loose modes.LooseUnpinned is = absurd (cc)
-not-loose modes.Pinned is = refl
-not-loose modes.Shared is = refl
+not-loose Mode.LoosePinned is = absurd (cc)
+not-loose Mode.LooseUnpinned is = absurd (cc)
+not-loose Mode.Pinned is = refl
+not-loose Mode.Shared is = refl
 
 pub low-handle : (w m : Core) (node : NodeNumber) (mode : Mode) (owner : Owner) → AreLow w → Alike (with_handle w node mode owner) m → AreLow m
 low-handle w m node mode owner low a h among =
@@ -123,31 +104,25 @@ module _ {N B W : Type 0} (m : Seen N B W) (v : ℕ) (s s' : Site) (low : AreLow
     | inr (is, (mid, clone, pin)) ↦ pin-call mid s'.core (low-handle s.core mid _ _ _ low clone.made.3) (owner_worker v) through k pin
   ]
 
-  held : (todo : List Todo) (i : Identity) (k : HandleNumber) → workers.Does m v s todo (took.Pin i (Ok (pinsteps.Held k))) s' → HasPin s'.core k × (answer_after {W = W} todo (took.Pin i (Ok (pinsteps.Held k))) ≡ None)
+  held : (todo : List Todo) (i : Identity) (k : HandleNumber) → workers.Does m v s todo (Took.Pin i (Ok (PinStep.Held k))) s'
+      → HasPin s'.core k × (answer_after {W = W} todo (Took.Pin i (Ok (PinStep.Held k))) ≡ None)
   held (to_pin r place ∷ below) i k (is, p) = (at-once r p.pins.0 k p.pins.1, refl)
   held (to_load r place through reading ∷ below) i k (is, p) = let e = p.goes.0.does.0 in (end-call s.core s'.core low (owner_worker v) reading.load e.x _ _ k (λ n is. absurd (cc)) e.ended, refl)
-  held (to_start r place ∷ below) i k does = absurd does
-  held (to_write r place through ∷ below) i k does = absurd does
-  held (to_finish o ∷ below) i k does = absurd does
-  held (to_item written keys ∷ below) i k does = absurd does
-  held (to_set r through key height ∷ below) i k does = absurd does
-  held (to_publish r key height ∷ below) i k does = absurd does
-  held (to_release r key height ∷ below) i k does = absurd does
-  held (to_fail fault back ∷ below) i k does = absurd does
-  held [] i k does = absurd does
+  held _ i k does = absurd does
 
 ends-alike : (v : ℕ) (w w' : Core) (answer : Option WorkerAnswer) → answer ≡ None → Ends answer v w w' → Alike w w'
 ends-alike v w w' answer is e = subst (λ a. Ends a v w w') is e
 
 -- each pin of an event that answers one
 pub pins-hold : {N B W : Type 0} (m : Seen N B W) (u u' : World) (event : Event N B W) (reply : EventReply N B W) → HandlesAreWhole u.core → Happens m u event reply u' → PinHolds event reply u'.core
-pins-hold m u u' (events.Call (calls.Pin h)) (answers.CallReply (replies.Pin (Ok (pinnings.Pinned k)))) whole happens = pin-call u.core u'.core (low-whole whole) owners.Caller h k happens.step.does
-pins-hold {N} m u u' (events.LoadStep l) (answers.LoadMoved (Ok reply)) whole happens = λ k is.
+pins-hold m u u' (Event.Call (Call.Pin h)) (EventReply.CallReply (Reply.Pin (Ok (Pinning.Pinned k)))) whole happens = pin-call u.core u'.core (low-whole whole) Owner.Caller h k happens.step.does
+pins-hold {N} m u u' (Event.LoadStep l) (EventReply.LoadMoved (Ok reply)) whole happens = λ k is.
     let steps = happens.moves in
-    let e = subst (λ (a : Option (LoadAnswer N)). Does m.values u.core owners.Caller steps.reading a steps.frames u'.core) is steps.does.does in
-    end-call u.core u'.core (low-whole whole) owners.Caller steps.reading.load e.0.x _ _ k (λ n is. absurd (cc)) e.0.ended
-pins-hold m u u' (events.Call (calls.LoadEnd l x)) (answers.CallReply (replies.LoadEnded (Ok k))) whole happens = end-call u.core u'.core (low-whole whole) owners.Caller l x _ _ k (λ n is. absurd (cc)) happens.step.does
-pins-hold {W = W} m u u' (events.WorkerStep n) (answers.WorkerMoved (Ok reply)) whole happens = λ i k is.
+    let e = subst (λ (a : Option (LoadAnswer N)). Does m.values u.core Owner.Caller steps.reading a steps.frames u'.core) is steps.does.does in
+    end-call u.core u'.core (low-whole whole) Owner.Caller steps.reading.load e.0.x _ _ k (λ n is. absurd (cc)) e.0.ended
+pins-hold m u u' (Event.Call (Call.LoadEnd l x)) (EventReply.CallReply (Reply.LoadEnded (Ok k))) whole happens = end-call u.core u'.core (low-whole whole) Owner.Caller l x _ _ k
+    (λ n is. absurd (cc)) happens.step.does
+pins-hold {W = W} m u u' (Event.WorkerStep n) (EventReply.WorkerMoved (Ok reply)) whole happens = λ i k is.
     let steps = happens.moves in
     let site : Site = record { core = u.core; shelf = u.work.shelves steps.walking.table; todo = steps.walking.todo } in
     let h = held m n.0 site steps.after (low-whole whole) steps.walking.todo i k (subst (λ (t : Took W). workers.Does m n.0 site steps.walking.todo t steps.after) is steps.does.does) in

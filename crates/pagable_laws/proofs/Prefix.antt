@@ -1,11 +1,6 @@
 -- No form of one meaning begins a form of another.
-use Rattle.std.proofs.Common.{◌≡◌, ℕ, List, [], ◌∷◌, ◌++◌, Result, Ok, refl, sym, ap, ◌∙◌}
-use Rattle.std.proofs.lemmas.List.{append_cancel_right}
-use Rattle.pagable_model.specs.Canonical.{IsReadable, Throughout}
-use Rattle.pagable_model.specs.Meaning.{Meaning}
-use Rattle.pagable_model.specs.Shape.{Shape}
-use Rattle.pagable_model.specs.Reading.{Rest, Look}
-use Rattle.pagable_laws.specs.FormLaws.{rest, LooksUp, no-references, more-references, IsPrefixFree}
+use Rattle.pagable_laws.proofs.Words.{◌≡◌, ℕ, List, [], ◌∷◌, ◌++◌, Result, Ok, refl, sym, ap, ◌∙◌, append_cancel_right, IsReadable, Throughout, Meaning, Shape, Rest, Look, rest, LooksUp}
+use Rattle.pagable_laws.proofs.Words.{no-references, more-references, IsPrefixFree}
 use Rattle.pagable_laws.proofs.Again.{read_at, form-again}
 
 same_ok : {X E : Type 0} (x y : X) → (let r : Result X E = Ok x in r) ≡ Ok y → x ≡ y

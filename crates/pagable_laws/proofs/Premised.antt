@@ -1,24 +1,11 @@
 -- What the headline asks of values and moments is so along the chain of two levels.
-use Rattle.std.proofs.Common.{◌≡◌, ℕ, zero, suc, List, [], ◌∷◌, ◌++◌, refl, sym, subst, ◌∙◌}
-use Rattle.std.specs.Prelude.{Option, Some, Ok}
-use Rattle.pagable_model.specs.Meaning.{none}
+use Rattle.pagable_laws.proofs.Words.{◌≡◌, ℕ, zero, suc, List, [], ◌∷◌, ◌++◌, refl, sym, subst, ◌∙◌, Option, Some, Ok, none, references_in, SameReferences, IsReadable, LiesIn, Throughout}
+use Rattle.pagable_laws.proofs.Words.{throughout-in, none-followed, rest_of, Kind, Tree, tree, type_of, Event, EventReply, WorkerReply, LoadReply, Core, Shelf, Written, Reading, Walking}
+use Rattle.pagable_laws.proofs.Words.{IsLawful, IsSettled, needs_lazy, need_of, reading_at, PagerState, MachineState, world_of, ReadsItsTypes, KeepsOpen, ReadsAsType, TakesWell, TodoTakesWell}
+use Rattle.pagable_laws.proofs.Words.{IsWellAsked, IsPremised, state_after, ArePremised}
 use Rattle.pagable_model.specs.Reading as grammar
-use Rattle.pagable_model.specs.References.{references_in, SameReferences}
-use Rattle.pagable_model.specs.Canonical.{IsReadable, LiesIn, Throughout, throughout-in}
-use Rattle.pagable_model.specs.Trees.{none-followed, rest_of}
 use Rattle.pagable_model.specs.Shape as shapes
-use Rattle.pagable_world.specs.Plain.{Kind, Tree, tree, type_of}
-use Rattle.pagable_world.specs.declared.events.Event.TheVariants as events
-use Rattle.pagable_world.specs.declared.events.EventReply.TheVariants as answers
-use Rattle.pagable_world.specs.declared.events.WorkerReply.{WorkerReply}
-use Rattle.pagable_world.specs.declared.events.LoadReply.{LoadReply}
-use Rattle.pagable_world.specs.World.{Core, Shelf, Written, Reading, Walking, IsLawful, IsSettled}
-use Rattle.pagable_world.specs.Loads.{needs_lazy, need_of}
-use Rattle.pagable_world.specs.Events.{reading_at}
-use Rattle.pagable_world.specs.Pager.{PagerState, MachineState, world_of}
-use Rattle.pagable_world.specs.Runs.{ReadsItsTypes, KeepsOpen, ReadsAsType, TakesWell, TodoTakesWell, IsWellAsked, IsPremised, state_after}
 use Rattle.pagable_laws.specs.TwoLevels as two
-use Rattle.pagable_laws.specs.LevelLaws.{ArePremised}
 use Rattle.pagable_laws.proofs.States.{only-at}
 
 -- ---- values
@@ -72,13 +59,13 @@ asked s x open_still well trees = record { settled = λ n x is. settled x; reads
 -- a worker's step asks something only at a load
 pub step-asked : {core : Core} {reply : WorkerReply Written} {after : State} (vs : List (Option two.Sample)) (shelf : Shelf) (w : Walking)
     → TodoTakesWell two.sample (two.machine core vs (two.walk_work shelf w)).pager w.todo
-    → IsAsked (two.machine core vs (two.walk_work shelf w)) (two.moment (events.WorkerStep (record { 0 = 1 })) (answers.WorkerMoved (Ok reply)) after)
+    → IsAsked (two.machine core vs (two.walk_work shelf w)) (two.moment (Event.WorkerStep (record { 0 = 1 })) (EventReply.WorkerMoved (Ok reply)) after)
 step-asked {core} {reply} {after} vs shelf w well =
     asked _ _ tt (λ trees walking is. only-at 1 w (λ n x. TodoTakesWell two.sample (two.machine core vs (two.walk_work shelf w)).pager x.todo) well 1 walking is)
 
 -- a load's step asks something where a reference is taken of which nothing is read
 pub load-asked : (s : State) (l : ℕ) (r : Reading) (reply : LoadReply two.Sample) (after : State) → reading_at (world_of s) (two.load_number l) ≡ Some r → TakesWell two.sample s.pager r
-    → IsAsked s (two.moment (events.LoadStep (two.load_number l)) (answers.LoadMoved (Ok reply)) after)
+    → IsAsked s (two.moment (Event.LoadStep (two.load_number l)) (EventReply.LoadMoved (Ok reply)) after)
 load-asked s l r reply after at well = asked _ _ tt (λ trees reading is. let e : r ≡ reading = some-same (sym at ∙ is) in subst (λ x. TakesWell two.sample s.pager x) e well)
   where
     some-same : {X : Type 0} {x y : X} → Some x ≡ Some y → x ≡ y

@@ -1,22 +1,8 @@
 -- Page-outs by trees: what tables and workers hold fits at first and after each event.
-use Rattle.std.specs.Prelude.{nat_eq}
-use Rattle.std.proofs.Common.{◌≡◌, ℕ, ◌≤◌, ◌==◌, Bool, true, false, [], ◌∷◌, ap, Some, None, Ok, refl, sym, subst, ◌∙◌, if◌then◌else◌, arith}
-use Rattle.std.proofs.lemmas.Bool.Decides.{nat_tests}
-use Rattle.pagable_world.specs.Plain.{ArcRef, Identity, Blob, Tree, WorkerNumber, type_of, updated}
-use Rattle.pagable_world.specs.declared.events.Event.TheVariants as events
-use Rattle.pagable_world.specs.declared.events.Event.{Event}
-use Rattle.pagable_world.specs.declared.events.EventReply.TheVariants as answers
-use Rattle.pagable_world.specs.declared.events.EventReply.{EventReply}
-use Rattle.pagable_world.specs.declared.events.Took.TheVariants as took
-use Rattle.pagable_world.specs.declared.events.Took.{Took}
-use Rattle.pagable_world.specs.declared.events.WorkerReply.{WorkerReply}
-use Rattle.pagable_world.specs.World.{Shelf, Task, of_item, of_entry, Walking, Values, Seen, IsLawful}
-use Rattle.pagable_world.specs.Workers.{Site, claim_fault, first_todo, answer_after}
-use Rattle.pagable_world.specs.Events.{Ends, WorkerSteps}
-use Rattle.pagable_world.specs.Order.{step_of}
-use Rattle.pagable_world.specs.Pager.{PagerState, MachineState, world_of, IsMachineWhole, IsIdle, Represents, TookWrites, ReplyWrites}
-use Rattle.pagable_world.specs.Runs.{HoldsSettled, ReadsItsTypes}
-use Rattle.pagable_laws.specs.PageOutLaws.{Ground, ground_of, WroteTree, KeysSoFar, Waits, Walks, SlotsFit, WorkFits}
+use Rattle.pagable_laws.proofs.Words.{nat_eq, ◌≡◌, ℕ, ◌≤◌, ◌==◌, Bool, true, false, [], ◌∷◌, ap, Some, None, Ok, refl, sym, subst, ◌∙◌, if◌then◌else◌, arith, nat_tests, ArcRef, Identity, Blob}
+use Rattle.pagable_laws.proofs.Words.{Tree, WorkerNumber, type_of, updated, Event, EventReply, Took, WorkerReply, Shelf, Task, of_item, of_entry, Walking, Values, Seen, IsLawful, Site}
+use Rattle.pagable_laws.proofs.Words.{claim_fault, first_todo, answer_after, Ends, WorkerSteps, step_of, PagerState, MachineState, world_of, IsMachineWhole, IsIdle, Represents, TookWrites}
+use Rattle.pagable_laws.proofs.Words.{ReplyWrites, HoldsSettled, ReadsItsTypes, Ground, ground_of, WroteTree, KeysSoFar, Waits, Walks, SlotsFit, WorkFits}
 use Rattle.pagable_laws.proofs.Trees.{same_some}
 use Rattle.pagable_laws.proofs.Following.{given-of, wrote}
 use Rattle.pagable_laws.proofs.Naming.{may-claim}
@@ -47,7 +33,7 @@ at-number P k x f q here there = of (q == k) refl
 took-writes : {N B W E : Type 0} (m : Seen N B W) (s : PagerState N E) (n : ℕ) (event : Event N B W) (reply : EventReply N B W) (taken : Took W) → step_of n event reply ≡ taken ∷ []
     → ReplyWrites m s reply
     → TookWrites m.values m.written_of s taken
-took-writes {W = W} m s n (events.WorkerStep u) (answers.WorkerMoved (Ok r)) taken is writes = of (u.0 == n) is
+took-writes {W = W} m s n (Event.WorkerStep u) (EventReply.WorkerMoved (Ok r)) taken is writes = of (u.0 == n) is
   where
     of : (b : Bool) → (if b then r.took ∷ [] else []) ≡ taken ∷ [] → TookWrites m.values m.written_of s taken
     of true e = let same : r.took ≡ taken = cc in subst (λ (t : Took W). TookWrites m.values m.written_of s t) same writes
@@ -55,7 +41,8 @@ took-writes {W = W} m s n (events.WorkerStep u) (answers.WorkerMoved (Ok r)) tak
 took-writes m s n event reply taken is writes = absurd (cc)
 
 module _ {N B W E : Type 0} (m : Seen N B W) (s s' : MachineState N E) (trees trees' : ℕ → Tree) (goes : GroundGoes (ground_of s trees) (ground_of s' trees')) (fit : WorkFits m.values s trees)
-    (whole : IsMachineWhole m.values s) (represents : Represents m.values s.pager trees) (settled : HoldsSettled m.values s.pager) (reads : ReadsItsTypes m.values.types) (lawful : IsLawful m.values) where
+    (whole : IsMachineWhole m.values s) (represents : Represents m.values s.pager trees) (settled : HoldsSettled m.values s.pager) (reads : ReadsItsTypes m.values.types)
+    (lawful : IsLawful m.values) where
   abbrev g' : Ground
   g' = ground_of s' trees'
 
@@ -65,7 +52,8 @@ module _ {N B W E : Type 0} (m : Seen N B W) (s s' : MachineState N E) (trees tr
       let live = given-of whole.pager.whole.handles r.node.0 typed in
       (live.1, same_some _ _ (sym (represents.typed r.node.0 live.0) ∙ typed))
 
-  wrote-it : (taken : Took W) → TookWrites m.values m.written_of s.pager taken → (i : Identity) (out : W) → taken ≡ took.Write i (Ok out) → WroteTree m.values.types (ground_of s trees) i.node.0 (m.written_of out)
+  wrote-it : (taken : Took W) → TookWrites m.values m.written_of s.pager taken → (i : Identity) (out : W) → taken ≡ Took.Write i (Ok out)
+      → WroteTree m.values.types (ground_of s trees) i.node.0 (m.written_of out)
   wrote-it taken writes i out is = wrote represents whole.pager settled reads lawful i.node.0 (m.written_of out) (subst (λ (t : Took W). TookWrites m.values m.written_of s.pager t) is writes)
 
   starts-well : (shelf : Shelf) (task : Task) → Walks m.values g' shelf task (first_todo task)
@@ -121,7 +109,8 @@ module _ {N B W E : Type 0} (m : Seen N B W) (s s' : MachineState N E) (trees tr
         ends none key b is = let e = subst (λ a. Ends a k.0 w.after.core s'.pager.core) (w.answers ∙ none) w.ends in e.stored key ∙ is
 
         d : Did m.values g' w.walking.task w.after.shelf w.after.todo
-        d = walk-steps m k.0 w.walking.task site w.after goes more (fit.slots w.walking.table) claimable r.took w.does.does (wrote-it r.took wrote_so) ends (work.workers k.0 w.walking w.at).all (fit.walks k.0 w.walking w.at)
+        d = walk-steps m k.0 w.walking.task site w.after goes more (fit.slots w.walking.table) claimable r.took w.does.does (wrote-it r.took wrote_so) ends (work.workers k.0 w.walking w.at).all
+            (fit.walks k.0 w.walking w.at)
 
         slots : (t : ℕ) → SlotsFit m.values g' (s'.work.shelves t)
         slots t = at-number (λ old. ((j : Identity) → (s'.work.shelves t).slots j ≡ old.slots j) → SlotsFit m.values g' (s'.work.shelves t)) w.walking.table w.after.shelf s.work.shelves t

@@ -1,9 +1,6 @@
 -- Items that are apart are put in at the end, one after another.
-use Rattle.std.proofs.Common.{◌≡◌, false, List, [], ◌∷◌, ◌++◌, refl, sym, ap, ◌∙◌, append_assoc}
-use Rattle.std.specs.declared.cmp.Ordering.TheVariants as answers
-use Rattle.std.proofs.lemmas.List.{append-nil}
-use Rattle.pagable_model.specs.Meaning.{Meaning}
-use Rattle.pagable_model.specs.Keys.{KeyOrder, Entry, ordered, same_key, put_all, put_sorted, put_placed, put_sorted_item, put_placed_item, AllAfter, Apart, Ascends, ItemsAscend, Differ, ItemsDiffer}
+use Rattle.pagable_laws.proofs.Words.{◌≡◌, false, List, [], ◌∷◌, ◌++◌, refl, sym, ap, ◌∙◌, append_assoc, Ordering, append-nil, Meaning, KeyOrder, Entry, ordered, same_key, put_all, put_sorted}
+use Rattle.pagable_laws.proofs.Words.{put_placed, put_sorted_item, put_placed_item, AllAfter, Apart, Ascends, ItemsAscend, Differ, ItemsDiffer}
 
 -- x comes after each of acc
 unfoldable pub After : {X : Type 0} → (X → X → Type 0) → X → List X → Type 0
@@ -29,7 +26,8 @@ unfolding AllAfterThose After
 after_none R [] = tt
 after_none R (x ∷ xs) = (tt, after_none R xs)
 
-put_on : {X : Type 0} (put : List X → X → List X) (R : X → X → Type 0) → ((acc : List X) (x : X) → After R x acc → put acc x ≡ acc ++ x ∷ []) → (acc xs : List X) → AllAfterThose R acc xs → Apart R xs → put_all put acc xs ≡ acc ++ xs
+put_on : {X : Type 0} (put : List X → X → List X) (R : X → X → Type 0) → ((acc : List X) (x : X) → After R x acc → put acc x ≡ acc ++ x ∷ []) → (acc xs : List X)
+    → AllAfterThose R acc xs → Apart R xs → put_all put acc xs ≡ acc ++ xs
 unfolding put_all AllAfterThose Apart
 put_on put R one acc [] h g = sym (append-nil acc)
 put_on put R one acc (x ∷ xs) h g =
@@ -39,7 +37,7 @@ put_apart : {X : Type 0} (put : List X → X → List X) (R : X → X → Type 0
 put_apart put R one xs h = put_on put R one [] xs (after_none R xs) h
 
 module _ {A : Type 0} (order : KeyOrder) where
-  sorted_end : (acc : List (Entry A)) (e : Entry A) → After (λ e f. ordered order e.0 f.0 ≡ answers.Greater) e acc → put_sorted order acc e ≡ acc ++ e ∷ []
+  sorted_end : (acc : List (Entry A)) (e : Entry A) → After (λ e f. ordered order e.0 f.0 ≡ Ordering.Greater) e acc → put_sorted order acc e ≡ acc ++ e ∷ []
   unfolding After
   sorted_end [] e h = refl
   sorted_end (f ∷ acc) e h = rw (h.0) (ap (λ (x : List (Entry A)). f ∷ x) (sorted_end acc e h.1))
@@ -47,7 +45,7 @@ module _ {A : Type 0} (order : KeyOrder) where
   pub ascending-kept : (es : List (Entry A)) → Ascends order es → put_all (put_sorted order) [] es ≡ es
   ascending-kept es h = put_apart _ _ sorted_end es h
 
-  sorted_item_end : (acc : List (Meaning A)) (m : Meaning A) → After (λ m n. ordered order m n ≡ answers.Greater) m acc → put_sorted_item order acc m ≡ acc ++ m ∷ []
+  sorted_item_end : (acc : List (Meaning A)) (m : Meaning A) → After (λ m n. ordered order m n ≡ Ordering.Greater) m acc → put_sorted_item order acc m ≡ acc ++ m ∷ []
   unfolding After
   sorted_item_end [] m h = refl
   sorted_item_end (n ∷ acc) m h = rw (h.0) (ap (λ (x : List (Meaning A)). n ∷ x) (sorted_item_end acc m h.1))

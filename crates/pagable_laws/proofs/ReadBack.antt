@@ -1,20 +1,7 @@
 -- The steps of the loads of the chain of two levels: how each begins, fetches and ends, over any of its pagers.
-use Rattle.std.proofs.Common.{◌≡◌, ℕ, ◌+◌, ◌≤◌, ◌==◌, Bool, true, false, [], ◌∷◌, refl, ap, inl, arith, ◌∙◌}
-use Rattle.std.specs.Prelude.{Option, Some, None, Ok, is_some, nat_le}
-use Rattle.std.proofs.lemmas.Bool.{agree_below}
-use Rattle.std.proofs.lemmas.Bool.Decides.{nat_tests}
-use Rattle.pagable_world.specs.Plain.{Blob, updated, if_there}
-use Rattle.pagable_model.specs.declared.data_key.OptionalDataKey.TheVariants as optional
-use Rattle.pagable_world.specs.declared.handles.Owner.TheVariants as owners
-use Rattle.pagable_world.specs.declared.rows.Mode.TheVariants as modes
-use Rattle.pagable_world.specs.declared.answers.Beginning.TheVariants as beginnings
-use Rattle.pagable_world.specs.declared.events.LoadAnswer.TheVariants as ends
-use Rattle.pagable_world.specs.World.{Core, OpenLoad, of_cell, Frame, Reading, row_at, type_at, key_at, is_here}
-use Rattle.pagable_world.specs.Refusals.{references_fault}
-use Rattle.pagable_world.specs.Calls.{row_of}
-use Rattle.pagable_world.specs.LoadCalls.{BeginCall}
-use Rattle.pagable_world.specs.Loads.{ReadingDoes, root_frame, next_in, reads}
-use Rattle.pagable_world.specs.Workers.{fresh}
+use Rattle.pagable_laws.proofs.Words.{◌≡◌, ℕ, ◌+◌, ◌≤◌, ◌==◌, Bool, true, false, [], ◌∷◌, refl, ap, inl, arith, ◌∙◌, Option, Some, None, Ok, is_some, nat_le, agree_below, nat_tests, Blob}
+use Rattle.pagable_laws.proofs.Words.{updated, if_there, OptionalDataKey, Owner, Mode, Beginning, LoadAnswer, Core, OpenLoad, of_cell, Frame, Reading, row_at, type_at, key_at, is_here}
+use Rattle.pagable_laws.proofs.Words.{references_fault, row_of, BeginCall, ReadingDoes, root_frame, next_in, reads, fresh}
 use Rattle.pagable_laws.specs.TwoLevels as two
 use Rattle.pagable_laws.proofs.Tested.{alike-self, falls-alone, is_low, never, lists_none, takes_more}
 use Rattle.pagable_laws.proofs.Walked.{none-there}
@@ -49,19 +36,19 @@ reads-over core n r l = part (l == n) refl
 
 -- a load of the caller's by the handle of a cell
 abbrev pub cell_load : ℕ → ℕ → ℕ → ℕ → OpenLoad
-cell_load n t h key = record { owner = owners.Caller; key = key; root = of_cell (two.node n) t (two.handle h) }
+cell_load n t h key = record { owner = Owner.Caller; key = key; root = of_cell (two.node n) t (two.handle h) }
 
 -- a load of a cell without a value begins by the caller's handle
 pub begins-it : (core : Core) (n t h key : ℕ) → let l = core.last.load + 1 in
-    row_at core (two.handle h) ≡ Some (row_of h (two.node n) modes.LooseUnpinned owners.Caller) → is_here core n ≡ false
-    → key_at core n ≡ optional.Some key → type_at core n ≡ Some t → nat_le core.last.load 2 ≡ true → nat_le core.last.handle 12 ≡ true
-    → BeginCall core owners.Caller (two.handle h) (Ok (beginnings.Load (two.load_number l) key)) (two.load_of core n t h key)
+    row_at core (two.handle h) ≡ Some (row_of h (two.node n) Mode.LooseUnpinned Owner.Caller) → is_here core n ≡ false
+    → key_at core n ≡ OptionalDataKey.Some key → type_at core n ≡ Some t → nat_le core.last.load 2 ≡ true → nat_le core.last.handle 12 ≡ true
+    → BeginCall core Owner.Caller (two.handle h) (Ok (Beginning.Load (two.load_number l) key)) (two.load_of core n t h key)
 begins-it core n t h key live away keyed typed few_loads few =
     let a : core.last.load ≤ 2 = grind (arith, nat_tests) in
     let b : core.last.handle ≤ 12 = grind (arith, nat_tests) in
     record {
       begins = (
-        row_of h (two.node n) modes.LooseUnpinned owners.Caller,
+        row_of h (two.node n) Mode.LooseUnpinned Owner.Caller,
         record { live = live; own = refl; as_asked = refl },
         (away, keyed, record { above = refl; is_left = omega arith }, omega arith, (t, typed, alike-self (two.load_of core n t h key))),
       );
@@ -69,8 +56,8 @@ begins-it core n t h key live away keyed typed few_loads few =
     }
 
 -- it fetches the blob of its own key
-pub fetches-it : (core : Core) (l t : ℕ) (load : OpenLoad) (blob : Blob) → core.loads l ≡ Some load → load.owner ≡ owners.Caller → core.stored load.key ≡ Some blob
-    → ReadingDoes two.sample core owners.Caller (fresh (two.load_number l) t) None (root_frame load.key t blob ∷ []) core
+pub fetches-it : (core : Core) (l t : ℕ) (load : OpenLoad) (blob : Blob) → core.loads l ≡ Some load → load.owner ≡ Owner.Caller → core.stored load.key ≡ Some blob
+    → ReadingDoes two.sample core Owner.Caller (fresh (two.load_number l) t) None (root_frame load.key t blob ∷ []) core
 fetches-it core l t load blob stands_open own stored =
     record {
       does = inl (record {
@@ -90,11 +77,11 @@ fetches-it core l t load blob stands_open own stored =
 pub ends-it : (core : Core) (l n h key steps : ℕ) (x : two.Sample) (root : Frame)
     → let references = two.sample_references x in let w = two.ended core l n h references in let given = two.gives_up core l references in
     core.loads l ≡ Some (cell_load n (two.sample_type x) h key)
-    → two.sample_type x ≡ root.node_type → next_in two.sample_types root ≡ reads (two.sample_meaning x) → references_fault core (owners.Load (two.load_number l)) [] references ≡ None
-    → row_at core (two.handle h) ≡ Some (row_of h (two.node n) modes.LooseUnpinned owners.Caller) → is_here core n ≡ false → nat_le core.last.handle 11 ≡ true
+    → two.sample_type x ≡ root.node_type → next_in two.sample_types root ≡ reads (two.sample_meaning x) → references_fault core (Owner.Load (two.load_number l)) [] references ≡ None
+    → row_at core (two.handle h) ≡ Some (row_of h (two.node n) Mode.LooseUnpinned Owner.Caller) → is_here core n ≡ false → nat_le core.last.handle 11 ≡ true
     → is_low core ≡ true → is_low w ≡ true → nat_le w.last.handle 13 ≡ true → agree_below (lists_none core w given) never 4 ≡ true → agree_below (takes_more w given) never 4 ≡ true
-    → ReadingDoes two.sample core owners.Caller (record { load = two.load_number l; node_type = two.sample_type x; frames = root ∷ []; steps = steps })
-    (Some (ends.Pinned (two.handle (core.last.handle + 1)))) [] (two.end_of core l n h references)
+    → ReadingDoes two.sample core Owner.Caller (record { load = two.load_number l; node_type = two.sample_type x; frames = root ∷ []; steps = steps })
+    (Some (LoadAnswer.Pinned (two.handle (core.last.handle + 1)))) [] (two.end_of core l n h references)
 ends-it core l n h key steps x root stands_open typed read good live away left low low_then few none ok =
     let a : core.last.handle ≤ 11 = grind (arith, nat_tests) in
     let references = two.sample_references x in
@@ -111,7 +98,7 @@ ends-it core l n h key steps x root stands_open typed read good live away left l
               two.handle h,
               record { load = load; owned = record { stands_open = stands_open; own = refl }; of_node = refl; good = good },
               record {
-                row = row_of h (two.node n) modes.LooseUnpinned owners.Caller;
+                row = row_of h (two.node n) Mode.LooseUnpinned Owner.Caller;
                 owned = record { live = live; own = refl; as_asked = refl };
                 at = refl;
                 next = record { above = refl; is_left = omega arith };

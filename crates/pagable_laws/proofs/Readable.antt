@@ -1,11 +1,9 @@
 -- What is read throughout a shape is read throughout the shapes in it.
-use Rattle.std.proofs.Common.{◌≡◌, ℕ, Bool, true, List, subst}
+use Rattle.pagable_laws.proofs.Words.{◌≡◌, ℕ, Bool, true, List, subst, KeyOrder, Shape, IsReadable, Throughout}
 use Rattle.std.specs.Int.{Width}
-use Rattle.pagable_model.specs.Keys.{KeyOrder}
-use Rattle.pagable_model.specs.Shape.{Shape}
 use Rattle.pagable_model.specs.Shape as shapes
-use Rattle.pagable_model.specs.Canonical.{IsReadable, Throughout}
-use Rattle.pagable_laws.proofs.Within.{narrowed, under_optional, under_ok, under_err, under_list, under_array, under_first, under_second, under_sorted_key, under_sorted_value, under_placed_key, under_placed_value, under_hash_key, under_hash_value, under_sorted_item, under_placed_item, under_written, under_case, under_body}
+use Rattle.pagable_laws.proofs.Within.{narrowed, under_optional, under_ok, under_err, under_list, under_array, under_first, under_second, under_sorted_key, under_sorted_value, under_placed_key}
+use Rattle.pagable_laws.proofs.Within.{under_placed_value, under_hash_key, under_hash_value, under_sorted_item, under_placed_item, under_written, under_case, under_body}
 
 -- what is read in a shape that is read
 module _ {parts : ℕ → Shape} where
@@ -69,7 +67,8 @@ module _ {parts : ℕ → Shape} where
   unfolding IsReadable
   in_placed_item {s} h = narrowed h (λ p. p) (under_placed_item s)
 
-  pub in_written : (written : List ℕ → Shape) (known : List ℕ → Bool) (body : List ℕ → Shape) (tag : List ℕ) → Throughout IsReadable parts (shapes.tagged written known body) → (known tag ≡ true) × (body tag ≡ written tag)
+  pub in_written : (written : List ℕ → Shape) (known : List ℕ → Bool) (body : List ℕ → Shape) (tag : List ℕ) → Throughout IsReadable parts (shapes.tagged written known body)
+      → (known tag ≡ true) × (body tag ≡ written tag)
       → Throughout IsReadable parts (written tag)
   unfolding IsReadable
   in_written written known body tag t h = narrowed t (λ p. subst IsReadable h.1 (p.1 tag h.0)) (under_written written known body tag)
@@ -78,6 +77,7 @@ module _ {parts : ℕ → Shape} where
   unfolding IsReadable
   in_case w known part n e t = narrowed t (λ p. p n e) (under_case w known part n e)
 
-  pub in_body : (written : List ℕ → Shape) (known : List ℕ → Bool) (body : List ℕ → Shape) (tag : List ℕ) → known tag ≡ true → Throughout IsReadable parts (shapes.tagged written known body) → Throughout IsReadable parts (body tag)
+  pub in_body : (written : List ℕ → Shape) (known : List ℕ → Bool) (body : List ℕ → Shape) (tag : List ℕ) → known tag ≡ true
+      → Throughout IsReadable parts (shapes.tagged written known body) → Throughout IsReadable parts (body tag)
   unfolding IsReadable
   in_body written known body tag e h = narrowed h (λ p. p.1 tag e) (under_body written known body tag e)

@@ -1,20 +1,12 @@
 -- A load's step, as trees feel it: one change, what it does to the plain world with it, and how the load's own blobs grow.
-use Rattle.std.proofs.Common.{◌≡◌, List, [], refl, sym, subst, ◌∙◌, inl, inr}
-use Rattle.std.specs.Prelude.{Option, Some, None, ◌⊎◌, Ok, Err}
-use Rattle.pagable_model.specs.declared.data_key.OptionalDataKey.TheVariants as optional
-use Rattle.pagable_world.specs.Plain.{Error}
-use Rattle.pagable_world.specs.declared.handles.Owner.{Owner}
-use Rattle.pagable_world.specs.declared.handles.Owner.TheVariants as owners
-use Rattle.pagable_world.specs.declared.events.LoadAnswer.{LoadAnswer}
-use Rattle.pagable_world.specs.declared.events.LoadAnswer.TheVariants as ends
-use Rattle.pagable_world.specs.World.{Core, OpenLoad, Frame, Reading, Alike, Seen, Values}
-use Rattle.pagable_world.specs.LoadCalls.{EndCall, HandOverCall, first_key}
-use Rattle.pagable_world.specs.Loads.{Does, Meets, Fails, RefusesRoot, LoadIs, IsOfCell, IsOfKey, handles_of, GetsRoot, GetsCached, GetsBlob, GetsLazy, MakesNode, ReadingDoes}
-use Rattle.pagable_world.specs.Pager.{HandlesAreWhole}
-use Rattle.pagable_laws.specs.TreeSteps.{Change, nothing_felt, bears_known, ReadingFeels, reads-root, reads-blob, gets-known, gets-lazy, makes-known, makes-node, reading-ends}
+use Rattle.pagable_laws.proofs.Words.{◌≡◌, List, [], refl, sym, subst, ◌∙◌, inl, inr, Option, Some, None, ◌⊎◌, Ok, Err, OptionalDataKey, Error, Owner, LoadAnswer, Core, OpenLoad, Frame, Reading}
+use Rattle.pagable_laws.proofs.Words.{Alike, Seen, Values, EndCall, HandOverCall, first_key, Fails, RefusesRoot, LoadIs, IsOfCell, IsOfKey, handles_of, GetsRoot, GetsCached, GetsBlob, GetsLazy}
+use Rattle.pagable_laws.proofs.Words.{MakesNode, ReadingDoes, HandlesAreWhole, Change, nothing_felt, bears_known, ReadingFeels, reads-root, reads-blob, gets-known, gets-lazy, makes-known}
+use Rattle.pagable_laws.proofs.Words.{makes-node, reading-ends, ℕ, Want, AskCall, AsksInVain}
+use Rattle.pagable_world.specs.Loads.{Does, Meets}
 use Rattle.pagable_laws.proofs.Trees.{same_some}
 use Rattle.pagable_laws.proofs.Goes.{Quiet, Goes, NotLoads, quiet-then, quiet-goes, goes-quiet, alike, a-handle, fell-anyhow, adopts, KnowsNext}
-use Rattle.pagable_laws.proofs.Calling.{asks, closes, gets-known as was-known}
+use Rattle.pagable_laws.proofs.Calling.{noted, asks, closes, gets-known as was-known}
 use Rattle.pagable_laws.proofs.Called.{hands-over, ends-quiet}
 use Rattle.pagable_laws.proofs.ReadingStepsRows.{got-known, got-fallen, got-born, gets-alike, is-cached}
 
@@ -25,8 +17,37 @@ pub record ReadingFelt {N : Type 0} (v : Values N) (w : Core) (reading : Reading
   pub opens : answer ≡ None → (load : OpenLoad) × (w.loads reading.load.0 ≡ Some load)
   pub feels : HandlesAreWhole w → ReadingFeels v w reading answer frames w' change
 
-pub caller-free : NotLoads owners.Caller
+pub caller-free : NotLoads Owner.Caller
 caller-free l is = absurd (cc)
+
+-- a refusal that a load meets changes nothing, but that a failure of the storage may be noted
+module _ {N : Type 0} (v : Values N) (w : Core) (me : Owner) (reading : Reading) (u : Core) (e : Error) where
+  abbrev Notes : Type 0
+  Notes = (f : ℕ) × Alike (record w { failures = f }) u
+
+  asks-in-vain : (want : Want) (load : OpenLoad) → AsksInVain w load want e u → Notes
+  asks-in-vain Want.Root load vain = (u.failures, vain.asked.leaves)
+  asks-in-vain (Want.Nested k q) load vain = (u.failures, vain.1.asked.leaves)
+
+  ask-refused : (want : Want) → AskCall w me reading.load want (Err e) u → Notes
+  ask-refused want c = elim c.refused [ inl refused ↦ (w.failures, refused.stays) | inr (load, owned, vain) ↦ asks-in-vain want load vain ]
+
+  refused-root : (root : RefusesRoot v w me reading e u)
+      → (LoadIs w reading IsOfCell × EndCall w me reading.load root.x (v.node_type root.x) (v.references root.x) (Err (e, Some root.x)) u)
+      ⊎ (LoadIs w reading IsOfKey × HandOverCall w me reading.load (handles_of (v.references root.x)) (Err e) u) → Notes
+  refused-root root (inl (is, ended)) = (w.failures, ended.refused.1.stays)
+  refused-root root (inr (is, handed)) = (w.failures, handed.refused.1)
+
+  pub meets : Meets v w me reading e u → Notes
+  meets does = elim does [
+    | inl (refuses, a) ↦ (w.failures, a)
+    | inr (inl (first, asked)) ↦ ask-refused Want.Root asked
+    | inr (inr (inl (k, q, needs, inl asked))) ↦ ask-refused (Want.Nested k q) asked
+    | inr (inr (inl (k, q, needs, inr (blob, is, deep, asked)))) ↦ (u.failures, asked.gives.2.1.asked.leaves)
+    | inr (inr (inr (inl (k, q, needs, asked)))) ↦ (w.failures, asked.refused.stays)
+    | inr (inr (inr (inr (inl node)))) ↦ (w.failures, node.adopted.refused.1.stays)
+    | inr (inr (inr (inr (inr root)))) ↦ refused-root root root.refuses
+  ]
 
 module _ {N B W : Type 0} (m : Seen N B W) (w : Core) (me : Owner) (free : NotLoads me) (w' : Core) (reading : Reading) where
   abbrev RF : Option (LoadAnswer N) → List Frame → Type 0
@@ -50,7 +71,8 @@ module _ {N B W : Type 0} (m : Seen N B W) (w : Core) (me : Owner) (free : NotLo
         change = nothing_felt;
         goes = quiet-goes nothing_felt (asks _ g.asked);
         opens = λ none. (g.asked.gives.0, g.asked.gives.1.stands_open);
-        feels = λ whole. gets-known g.kind g.key k.n g.row (inl g.needs) (is-cached w g.kind.0 g.key k.n k.known) (got-known whole g.kind g.k g.row g.made k.next.above k.n (owners.Load reading.load) k.leaves) refl g.goes;
+        feels = λ whole. gets-known g.kind g.key k.n g.row (inl g.needs) (is-cached w g.kind.0 g.key k.n k.known)
+            (got-known whole g.kind g.k g.row g.made k.next.above k.n (Owner.Load reading.load) k.leaves) refl g.goes;
       }
 
   gets-blob : (frames : List Frame) → GetsBlob m.values.types w me reading frames w' → RF None frames
@@ -68,13 +90,14 @@ module _ {N B W : Type 0} (m : Seen N B W) (w : Core) (me : Owner) (free : NotLo
       change = nothing_felt;
       goes = quiet-goes nothing_felt (was-known k);
       opens = λ none. (g.asked.makes.0, g.asked.makes.1.stands_open);
-      feels = λ whole. gets-known g.kind g.key k.n g.row (inr g.needs) (is-cached w g.kind.0 g.key k.n k.known) (got-known whole g.kind g.k g.row g.made k.next.above k.n (owners.Load reading.load) k.leaves) refl g.goes;
+      feels = λ whole. gets-known g.kind g.key k.n g.row (inr g.needs) (is-cached w g.kind.0 g.key k.n k.known)
+          (got-known whole g.kind g.k g.row g.made k.next.above k.n (Owner.Load reading.load) k.leaves) refl g.goes;
     }
     | inr (none, few, next, a) ↦ record {
-      change = bears_known g.kind.0 g.key (optional.Some g.key);
-      goes = goes-quiet (adopts w reading.load g.kind g.key (optional.Some g.key) []) (alike a);
+      change = bears_known g.kind.0 g.key (OptionalDataKey.Some g.key);
+      goes = goes-quiet (adopts w reading.load g.kind g.key (OptionalDataKey.Some g.key) []) (alike a);
       opens = λ none. (g.asked.makes.0, g.asked.makes.1.stands_open);
-      feels = λ whole. gets-lazy g.kind g.key g.row g.needs (got-born whole g.kind g.k g.row g.made next.above reading.load g.key (optional.Some g.key) [] a) refl g.goes;
+      feels = λ whole. gets-lazy g.kind g.key g.row g.needs (got-born whole g.kind g.k g.row g.made next.above reading.load g.key (OptionalDataKey.Some g.key) [] a) refl g.goes;
     }
   ]
 
@@ -82,9 +105,9 @@ module _ {N B W : Type 0} (m : Seen N B W) (w : Core) (me : Owner) (free : NotLo
   makes frames g = elim c.makes [
     | inl (n, usable, f) ↦ record {
       change = nothing_felt;
-      goes = quiet-goes nothing_felt (quiet-then (a-handle w _ _ (owners.Load reading.load)) (fell-anyhow f));
+      goes = quiet-goes nothing_felt (quiet-then (a-handle w _ _ (Owner.Load reading.load)) (fell-anyhow f));
       opens = λ none. (c.load, c.owned.stands_open);
-      feels = λ whole. makes-known g.x r n g.row (is-cached w r.top.kind.0 r.top.key n usable) (got-fallen whole r.top.kind g.k g.row g.made c.next.above n (owners.Load reading.load) f) refl g.goes;
+      feels = λ whole. makes-known g.x r n g.row (is-cached w r.top.kind.0 r.top.key n usable) (got-fallen whole r.top.kind g.k g.row g.made c.next.above n (Owner.Load reading.load) f) refl g.goes;
     }
     | inr (none, few, a) ↦ record {
       change = bears_known r.top.kind.0 r.top.key (first_key r.top.kind.0 r.top.key);
@@ -97,26 +120,9 @@ module _ {N B W : Type 0} (m : Seen N B W) (w : Core) (me : Owner) (free : NotLo
       open g use {reads_node as r}
       open g.adopted use {adopts as c}
 
-  meets : (u : Core) (e : Error) → Meets m.values w me reading e u → Quiet w u
-  meets u e does = elim does [
-    | inl (refuses, a) ↦ alike a
-    | inr (inl (first, asked)) ↦ asks _ asked
-    | inr (inr (inl (kind, key, needs, inl asked))) ↦ asks _ asked
-    | inr (inr (inl (kind, key, needs, inr (blob, is, deep, asked)))) ↦ asks _ asked
-    | inr (inr (inr (inl (kind, key, needs, asked)))) ↦ alike asked.refused.stays
-    | inr (inr (inr (inr (inl node)))) ↦ alike node.adopted.refused.1.stays
-    | inr (inr (inr (inr (inr root)))) ↦ refused-root root root.refuses
-  ]
-    where
-      refused-root : (root : RefusesRoot m.values w me reading e u)
-          → (LoadIs w reading IsOfCell × EndCall w me reading.load root.x (m.values.node_type root.x) (m.values.references root.x) (Err (e, Some root.x)) u)
-          ⊎ (LoadIs w reading IsOfKey × HandOverCall w me reading.load (handles_of (m.values.references root.x)) (Err e) u) → Quiet w u
-      refused-root root (inl (is, ended)) = ends-quiet m w me free u reading.load root.x (Err (e, Some root.x)) ended
-      refused-root root (inr (is, handed)) = hands-over free reading.load _ (Err e) handed
-
   fails : (e : Error) → Fails m.values w me reading e w' → Quiet w w'
   fails e does = elim does [
-    | inl gives ↦ quiet-then (meets gives.mid e gives.meets) (closes reading.load gives.closes)
+    | inl gives ↦ let a = meets m.values w me reading gives.mid e gives.meets in quiet-then (noted a.0 a.1) (closes reading.load gives.closes)
     | inr ended ↦ ends-quiet m w me free w' reading.load ended.x (Err (e, None)) ended.ended
   ]
 
@@ -131,15 +137,16 @@ module _ {N B W : Type 0} (m : Seen N B W) (w : Core) (me : Owner) (free : NotLo
     | inr (inr (inr (inl lazy))) ↦ gets-unread frames lazy
     | inr (inr (inr (inr made))) ↦ makes frames made
   ]
-  by-does (Some (ends.Pinned k)) frames does = ended (ends.Pinned k) frames does.1 (ends-quiet m w me free w' reading.load does.0.x (Ok k) does.0.ended)
-  by-does (Some (ends.Read x)) frames does = ended (ends.Read x) frames does.1 (hands-over free reading.load _ (Ok tt) does.0.handed)
-  by-does (Some (ends.Refused e)) frames does = ended (ends.Refused e) frames does.1 (fails e does.0)
+  by-does (Some (LoadAnswer.Pinned k)) frames does = ended (LoadAnswer.Pinned k) frames does.1 (ends-quiet m w me free w' reading.load does.0.x (Ok k) does.0.ended)
+  by-does (Some (LoadAnswer.Read x)) frames does = ended (LoadAnswer.Read x) frames does.1 (hands-over free reading.load _ (Ok tt) does.0.handed)
+  by-does (Some (LoadAnswer.Refused e)) frames does = ended (LoadAnswer.Refused e) frames does.1 (fails e does.0)
 
   pub reading-feels : (answer : Option (LoadAnswer N)) (frames : List Frame) → ReadingDoes m.values w me reading answer frames w' → RF answer frames
   reading-feels answer frames does = by-does answer frames does.does
 
 -- it is felt so in a world that is alike
-pub feels-alike : {N : Type 0} {v : Values N} {w u w' : Core} {reading : Reading} {answer : Option (LoadAnswer N)} {frames : List Frame} {c : Change} → ReadingFeels v w reading answer frames u c → Alike u w' → ReadingFeels v w reading answer frames w' c
+pub feels-alike : {N : Type 0} {v : Values N} {w u w' : Core} {reading : Reading} {answer : Option (LoadAnswer N)} {frames : List Frame} {c : Change}
+    → ReadingFeels v w reading answer frames u c → Alike u w' → ReadingFeels v w reading answer frames w' c
 feels-alike (reads-root load blob none_read at stored answer is) a = reads-root load blob none_read at stored answer is
 feels-alike (reads-blob kind key blob needs stored answer is) a = reads-blob kind key blob needs stored answer is
 feels-alike (gets-known kind key n row needs known got answer is) a = gets-known kind key n row needs known (gets-alike got a) answer is
@@ -148,7 +155,8 @@ feels-alike (makes-known x reads n row known got answer is) a = makes-known x re
 feels-alike (makes-node x reads row got answer is) a = makes-node x reads row (gets-alike got a) answer is
 feels-alike (reading-ends end answer is) a = reading-ends end answer is
 
-pub reading-knows : {N : Type 0} {v : Values N} {w w' : Core} {reading : Reading} {answer : Option (LoadAnswer N)} {frames : List Frame} {c : Change} → ReadingFeels v w reading answer frames w' c → KnowsNext c w
+pub reading-knows : {N : Type 0} {v : Values N} {w w' : Core} {reading : Reading} {answer : Option (LoadAnswer N)} {frames : List Frame} {c : Change}
+    → ReadingFeels v w reading answer frames w' c → KnowsNext c w
 reading-knows (gets-lazy kind key row needs got answer is) = λ k q n known. known.2
 reading-knows (makes-node x reads row got answer is) = λ k q n known. known.2
 reading-knows feels = λ k q n known. absurd known

@@ -1,21 +1,18 @@
 -- How many steps an open load still needs: at most two for each reference that its blobs still take, with all that it leads to, and one for each of its blobs.
-use Rattle.std.proofs.Common.{◌≡◌, ℕ, ◌+◌, ◌*◌, ◌≤◌, ◌⊎◌, Bool, true, false, List, [], ◌∷◌, ◌++◌, refl, sym, ap, subst, ◌∙◌, inl, inr, arith, if◌then◌else◌}
-use Rattle.std.specs.Prelude.{Option, Some, None}
-use Rattle.pagable_world.specs.Plain.{Kind, Blob, Types, type_of, is_eager}
-use Rattle.pagable_world.specs.declared.handles.HandleRow.{HandleRow}
-use Rattle.pagable_world.specs.World.{Core, OpenLoad, Frame, Reading, Values}
-use Rattle.pagable_world.specs.Loads.{Next, reads, asks, is_faulty, next_in, need_at, need_of, needs_nested, needs_lazy, to_adopt, root_frame, nested_frame, with_got}
-use Rattle.pagable_world.specs.Order.{after_kinds, Unfolds, unfolds, UnfoldsFrom, ends-here, takes-next, leaves-next}
-use Rattle.pagable_laws.specs.ReadLaws.{KeepsStored}
-use Rattle.pagable_laws.specs.TreeSteps.{Change, ReadingFeels, reads-root, reads-blob, gets-known, gets-lazy, makes-known, makes-node, reading-ends}
+use Rattle.pagable_laws.proofs.Words.{◌≡◌, ℕ, ◌+◌, ◌*◌, ◌≤◌, ◌⊎◌, true, false, List, [], ◌∷◌, ◌++◌, refl, sym, ap, subst, ◌∙◌, inl, inr, arith, Option, Some, None, Kind}
+use Rattle.pagable_laws.proofs.Words.{Blob, Types, type_of, is_eager, HandleRow, Core, OpenLoad, Frame, Reading, Values, asks, next_in, need_of, needs_nested}
+use Rattle.pagable_laws.proofs.Words.{needs_lazy, to_adopt, root_frame, nested_frame, with_got, after_kinds, Unfolds, unfolds, UnfoldsFrom, ends-here, takes-next, leaves-next, KeepsStored}
+use Rattle.pagable_laws.proofs.Words.{Change, ReadingFeels, reads-root, reads-blob, gets-known, gets-lazy, makes-known, makes-node, reading-ends}
 use Rattle.pagable_laws.proofs.Trees.{same_some}
 use Rattle.pagable_laws.proofs.Fitting.{asked}
 use Rattle.pagable_laws.proofs.Taking.{adopted-over}
 use Rattle.pagable_laws.proofs.ReadingStepsKinds.{kinds_of, asks-by-kinds, kinds-pushed}
+use Rattle.pagable_laws.proofs.KnownSteps.{eager-nested}
 
 -- ---- what a blob still takes
 
-root-unfolds : {types : Types} {store : ℕ → Option Blob} {t key many longest : ℕ} → Unfolds types store t key many longest → (blob : Blob) → store key ≡ Some blob → UnfoldsFrom types store t blob [] many longest
+root-unfolds : {types : Types} {store : ℕ → Option Blob} {t key many longest : ℕ} → Unfolds types store t key many longest → (blob : Blob) → store key ≡ Some blob
+    → UnfoldsFrom types store t blob [] many longest
 root-unfolds {types} {store} (unfolds t key many longest other there from) blob is = subst (λ b. UnfoldsFrom types store t b [] many longest) (same_some _ _ (sym there ∙ is)) from
 
 -- it takes a reference of this kind under this key, and then the rest
@@ -32,7 +29,8 @@ more-rest below rest = omega arith
 one-rest : (rest : ℕ) → rest + 1 ≤ 1 + rest
 one-rest rest = omega arith
 
-takes : {types : Types} {store : ℕ → Option Blob} {t many longest : ℕ} {blob : Blob} {kinds : List ℕ} → UnfoldsFrom types store t blob kinds many longest → (kind : Kind) (key : ℕ) → after_kinds types t blob kinds ≡ asks kind key → Takes types store t blob kinds many kind key
+takes : {types : Types} {store : ℕ → Option Blob} {t many longest : ℕ} {blob : Blob} {kinds : List ℕ} → UnfoldsFrom types store t blob kinds many longest → (kind : Kind) (key : ℕ)
+    → after_kinds types t blob kinds ≡ asks kind key → Takes types store t blob kinds many kind key
 takes (ends-here t blob kinds own is) kind key asked_is = absurd (cc)
 takes {types} {store} (takes-next t child below rest deep longest blob kinds k is eager under from) kind key asked_is =
     let both : asks k child ≡ asks kind key = sym is ∙ asked_is in
@@ -86,16 +84,6 @@ unfolding Owes
 owes-some types store many [] owed is = omega arith
 owes-some types store many (frame ∷ below) owed o = let e = o.sum in omega (arith, e)
 
-eager-of : (below : List Frame) (next : Next) (kind : Kind) (key : ℕ) → need_at below next ≡ needs_nested kind key → is_eager kind.0 ≡ true
-eager-of below (asks k q) kind key is = by (is_eager k.0) refl is
-  where
-    by : (b : Bool) → is_eager k.0 ≡ b → (if b then needs_nested k q else needs_lazy k q) ≡ needs_nested kind key → is_eager kind.0 ≡ true
-    by true e f = let same : k ≡ kind = cc in subst (λ (z : Kind). is_eager z.0 ≡ true) same e
-    by false e f = absurd (cc)
-eager-of [] (reads own) kind key is = absurd (cc)
-eager-of (frame ∷ below) (reads own) kind key is = absurd (cc)
-eager-of below (is_faulty e) kind key is = absurd (cc)
-
 -- it needs less afterwards
 pub record OwesLess (types : Types) (store : ℕ → Option Blob) (many : ℕ) (frames : List Frame) (owed : ℕ) : Type 0 where
   pub now : ℕ
@@ -103,22 +91,25 @@ pub record OwesLess (types : Types) (store : ℕ → Option Blob) (many : ℕ) (
   pub less : now + 1 ≤ owed
 
 module _ (types : Types) (store : ℕ → Option Blob) (many : ℕ) where
-  owes-root : (t key longest owed : ℕ) (blob : Blob) → Unfolds types store t key many longest → store key ≡ Some blob → Owes types store many [] owed → OwesLess types store many (root_frame key t blob ∷ []) owed
+  owes-root : (t key longest owed : ℕ) (blob : Blob) → Unfolds types store t key many longest → store key ≡ Some blob → Owes types store many [] owed
+      → OwesLess types store many (root_frame key t blob ∷ []) owed
   unfolding Owes Waits
   owes-root t key longest owed blob under is o = record { now = 2 * many + 1 + 0; owes = record { many = many; longest = longest; more = 0; from = root-unfolds under blob is; below = refl; sum = refl }; less = omega arith }
 
-  owes-blob : (frames : List Frame) (kind : Kind) (key owed : ℕ) (blob : Blob) → need_of types frames ≡ needs_nested kind key → store key ≡ Some blob → Owes types store many frames owed → OwesLess types store many (nested_frame kind key blob ∷ frames) owed
+  owes-blob : (frames : List Frame) (kind : Kind) (key owed : ℕ) (blob : Blob) → need_of types frames ≡ needs_nested kind key → store key ≡ Some blob → Owes types store many frames owed
+      → OwesLess types store many (nested_frame kind key blob ∷ frames) owed
   unfolding Owes Waits
   owes-blob [] kind key owed blob needs is o = absurd (cc)
   owes-blob (top ∷ below) kind key owed blob needs is o =
       let t = takes o.from kind key (asks-by-kinds types top.node_type top.blob top.got kind key (asked below (next_in types top) kind key (inl needs))) in
-      let a = t.all (eager-of below (next_in types top) kind key needs) in
+      let a = t.all (eager-nested below (next_in types top) kind key needs) in
       let under : Waits types store kind (top ∷ below) (2 * t.rest + 1 + o.more) = record { many = t.rest; longest = t.longest; more = o.more; from = t.from; below = o.below; sum = refl } in
       let s = o.sum in
       let e = a.3 in
       record { now = 2 * a.0 + 1 + (2 * t.rest + 1 + o.more); owes = record { many = a.0; longest = a.1; more = 2 * t.rest + 1 + o.more; from = root-unfolds a.2 blob is; below = under; sum = refl }; less = omega (arith, s, e) }
 
-  owes-got : (frames : List Frame) (kind : Kind) (key owed : ℕ) (row : HandleRow) → (need_of types frames ≡ needs_nested kind key) ⊎ (need_of types frames ≡ needs_lazy kind key) → Owes types store many frames owed → OwesLess types store many (with_got kind row frames) owed
+  owes-got : (frames : List Frame) (kind : Kind) (key owed : ℕ) (row : HandleRow) → (need_of types frames ≡ needs_nested kind key) ⊎ (need_of types frames ≡ needs_lazy kind key)
+      → Owes types store many frames owed → OwesLess types store many (with_got kind row frames) owed
   unfolding Owes Waits
   owes-got [] kind key owed row (inl needs) o = absurd (cc)
   owes-got [] kind key owed row (inr needs) o = absurd (cc)
@@ -132,7 +123,8 @@ module _ (types : Types) (store : ℕ → Option Blob) (many : ℕ) where
         less = omega (arith, s, f);
       }
 
-  owes-made : (top : Frame) (below : List Frame) (owed : ℕ) (row : HandleRow) → need_of types (top ∷ below) ≡ to_adopt → Owes types store many (top ∷ below) owed → OwesLess types store many (with_got top.kind row below) owed
+  owes-made : (top : Frame) (below : List Frame) (owed : ℕ) (row : HandleRow) → need_of types (top ∷ below) ≡ to_adopt → Owes types store many (top ∷ below) owed
+      → OwesLess types store many (with_got top.kind row below) owed
   unfolding Owes Waits
   owes-made top [] owed row needs o = let over = adopted-over [] (next_in types top) needs in absurd (let e = over.2 in cc)
   owes-made top (frame ∷ below) owed row needs o =
@@ -145,7 +137,8 @@ module _ (types : Types) (store : ℕ → Option Blob) (many : ℕ) where
       }
 
 -- a load's step, where what was stored is still
-pub owes-less : {N : Type 0} {v : Values N} {w w' : Core} (store : ℕ → Option Blob) → KeepsStored w.stored store → (reading : Reading) (load : OpenLoad) (frames : List Frame) (many longest owed : ℕ) {c : Change} → w.loads reading.load.0 ≡ Some load
+pub owes-less : {N : Type 0} {v : Values N} {w w' : Core} (store : ℕ → Option Blob) → KeepsStored w.stored store
+    → (reading : Reading) (load : OpenLoad) (frames : List Frame) (many longest owed : ℕ) {c : Change} → w.loads reading.load.0 ≡ Some load
     → Unfolds v.types store reading.node_type load.key many longest → Owes v.types store many reading.frames owed → ReadingFeels v w reading None frames w' c → OwesLess v.types store many frames owed
 owes-less {v = v} {w} store kept reading load frames many longest owed open_load under o (reads-root l blob none_read at stored answer is) =
     let same : l ≡ load = same_some _ _ (sym at ∙ open_load) in
@@ -159,7 +152,9 @@ owes-less {v = v} store kept reading load frames many longest owed open_load und
 owes-less {v = v} store kept reading load frames many longest owed open_load under o (gets-lazy kind key row needs got answer is) =
     subst (λ fs. OwesLess v.types store many fs owed) (sym is) (owes-got v.types store many reading.frames kind key owed row (inr needs) o)
 owes-less {v = v} store kept reading load frames many longest owed open_load under o (makes-known x r n row known got answer is) =
-    subst (λ fs. OwesLess v.types store many fs owed) (sym is) (owes-made v.types store many r.top r.below owed row (sym (ap (need_of v.types) r.frames) ∙ r.needs) (subst (λ fs. Owes v.types store many fs owed) r.frames o))
+    subst (λ fs. OwesLess v.types store many fs owed) (sym is)
+    (owes-made v.types store many r.top r.below owed row (sym (ap (need_of v.types) r.frames) ∙ r.needs) (subst (λ fs. Owes v.types store many fs owed) r.frames o))
 owes-less {v = v} store kept reading load frames many longest owed open_load under o (makes-node x r row got answer is) =
-    subst (λ fs. OwesLess v.types store many fs owed) (sym is) (owes-made v.types store many r.top r.below owed row (sym (ap (need_of v.types) r.frames) ∙ r.needs) (subst (λ fs. Owes v.types store many fs owed) r.frames o))
+    subst (λ fs. OwesLess v.types store many fs owed) (sym is)
+    (owes-made v.types store many r.top r.below owed row (sym (ap (need_of v.types) r.frames) ∙ r.needs) (subst (λ fs. Owes v.types store many fs owed) r.frames o))
 owes-less store kept reading load frames many longest owed open_load under o (reading-ends end answer is) = absurd (cc)

@@ -1,26 +1,9 @@
 -- A load of a key that answers a value hands over the value's references: each was the load's, and is the caller's then.
-use Rattle.std.proofs.Common.{◌≡◌, ℕ, zero, suc, ◌==◌, ◌&&◌, ◌||◌, Bool, true, false, List, [], ◌∷◌, map, Ok, refl, ap, subst, ◌∙◌, if◌then◌else◌}
-use Rattle.std.specs.Prelude.{Option, Some, None, not, nat_lt}
-use Rattle.pagable_model.specs.declared.error.Error.TheVariants as errors
-use Rattle.pagable_world.specs.Plain.{Error, ArcRef, HandleNumber, LoadNumber, Among, is_in, if_there}
-use Rattle.pagable_world.specs.declared.handles.HandleRow.{HandleRow}
-use Rattle.pagable_world.specs.declared.handles.Owner.{Owner}
-use Rattle.pagable_world.specs.declared.handles.Owner.TheVariants as owners
-use Rattle.pagable_world.specs.declared.events.Event.{Event}
-use Rattle.pagable_world.specs.declared.events.Event.TheVariants as events
-use Rattle.pagable_world.specs.declared.events.EventReply.{EventReply}
-use Rattle.pagable_world.specs.declared.events.EventReply.TheVariants as answers
-use Rattle.pagable_world.specs.declared.events.LoadAnswer.{LoadAnswer}
-use Rattle.pagable_world.specs.declared.events.LoadAnswer.TheVariants as ends
-use Rattle.pagable_world.specs.Kinds.{is_owner}
-use Rattle.pagable_world.specs.World.{Core, OpenLoad, World, Reading, row_at, Seen}
-use Rattle.pagable_world.specs.Refusals.{rank, earlier, refused_if, load_fault, named_fault}
-use Rattle.pagable_world.specs.Calls.{moved}
-use Rattle.pagable_world.specs.LoadCalls.{numbers_of, HandOverCall, hand_over_fault, cell_fault, is_owned_in}
-use Rattle.pagable_world.specs.Loads.{Does, EndsRead, handles_of}
-use Rattle.pagable_world.specs.Events.{Happens}
-use Rattle.pagable_world.specs.Pager.{HandlesAreWhole}
-use Rattle.pagable_laws.specs.TreeSteps.{HandsOver, ReadHolds}
+use Rattle.pagable_laws.proofs.Words.{◌≡◌, ℕ, zero, suc, ◌==◌, ◌&&◌, ◌||◌, Bool, true, false, List, [], ◌∷◌, map, Ok, refl, ap, subst, ◌∙◌, if◌then◌else◌, Option, Some, None, not, nat_lt, Error}
+use Rattle.pagable_laws.proofs.Words.{ArcRef, HandleNumber, LoadNumber, Among, is_in, if_there, HandleRow, Owner, Event, EventReply, LoadAnswer, is_owner, Core, OpenLoad, World, Reading, row_at}
+use Rattle.pagable_laws.proofs.Words.{Seen, rank, earlier, refused_if, load_fault, named_fault, moved, numbers_of, HandOverCall, hand_over_fault, cell_fault, is_owned_in, EndsRead, handles_of}
+use Rattle.pagable_laws.proofs.Words.{Happens, HandlesAreWhole, HandsOver, ReadHolds}
+use Rattle.pagable_world.specs.Loads.{Does}
 use Rattle.pagable_laws.proofs.Goes.{found-number}
 use Rattle.pagable_laws.proofs.GoodReferences.{same-owner}
 use Rattle.pagable_laws.proofs.Outlasting.{Stands, stands-whole, stands-changed, stands-fell}
@@ -44,16 +27,18 @@ record IsNamed (w : Core) (owner : Owner) (h : HandleNumber) : Type 0 where
   own : row.owner ≡ owner
 
 module _ (w : Core) (owner : Owner) where
-  named-one : (seen : List ℕ) (h : HandleNumber) → if_there (λ (row : HandleRow). refused_if (not (is_owner owner row.owner) || is_in seen h.0) errors.NotYours) (Some errors.NoSuchHandle) (row_at w h) ≡ None → IsNamed w owner h
+  named-one : (seen : List ℕ) (h : HandleNumber)
+      → if_there (λ (row : HandleRow). refused_if (not (is_owner owner row.owner) || is_in seen h.0) Error.NotYours) (Some Error.NoSuchHandle) (row_at w h) ≡ None → IsNamed w owner h
   named-one seen h none = by (row_at w h) refl none
     where
-      by : (found : Option HandleRow) → row_at w h ≡ found → if_there (λ (row : HandleRow). refused_if (not (is_owner owner row.owner) || is_in seen h.0) errors.NotYours) (Some errors.NoSuchHandle) found ≡ None → IsNamed w owner h
+      by : (found : Option HandleRow) → row_at w h ≡ found
+          → if_there (λ (row : HandleRow). refused_if (not (is_owner owner row.owner) || is_in seen h.0) Error.NotYours) (Some Error.NoSuchHandle) found ≡ None → IsNamed w owner h
       by None live none = absurd (cc)
       by (Some row) live none = at (is_owner owner row.owner) refl
         where
           at : (b : Bool) → is_owner owner row.owner ≡ b → IsNamed w owner h
           at true e = record { row = row; live = live; own = same-owner owner row.owner e }
-          at false e = let f : Some errors.NotYours ≡ None = rw e at none in absurd (cc)
+          at false e = let f : Some Error.NotYours ≡ None = rw e at none in absurd (cc)
 
   named : (seen : List ℕ) (hs : List HandleNumber) → named_fault w owner seen hs ≡ None → (h : HandleNumber) → Among hs h → IsNamed w owner h
   unfolding named_fault
@@ -61,8 +46,9 @@ module _ (w : Core) (owner : Owner) where
   named seen (x ∷ hs) none h (zero, is) = let same : x ≡ h = cc in subst (λ z. IsNamed w owner z) same (named-one seen x (neither _ _ none).0)
   named seen (x ∷ hs) none h (suc i, is) = named (x.0 ∷ seen) hs (neither _ _ none).1 h (i, is)
 
-named-none : (w : Core) (l : LoadNumber) (hs : List HandleNumber) → hand_over_fault w owners.Caller l hs ≡ None → named_fault w (owners.Load l) [] hs ≡ None
-named-none w l hs none = let a = neither (load_fault w owners.Caller l) _ none in (neither (if_there (λ (load : OpenLoad). cell_fault load.root) None (w.loads l.0)) (named_fault w (owners.Load l) [] hs) a.1).1
+named-none : (w : Core) (l : LoadNumber) (hs : List HandleNumber) → hand_over_fault w Owner.Caller l hs ≡ None → named_fault w (Owner.Load l) [] hs ≡ None
+named-none w l hs none = let a = neither (load_fault w Owner.Caller l) _ none in
+    (neither (if_there (λ (load : OpenLoad). cell_fault load.root) None (w.loads l.0)) (named_fault w (Owner.Load l) [] hs) a.1).1
 
 among-map : {X Y : Type 0} (f : X → Y) (xs : List X) (x : X) → Among xs x → Among (map f xs) (f x)
 among-map f [] x (i, is) = absurd (cc)
@@ -83,32 +69,33 @@ not-given : (a b : Bool) → b ≡ true → (a && not b) ≡ false
 not-given true b is = rw is refl
 not-given false b is = refl
 
-caller-free : (n : _) → owners.Caller ≡ owners.Value n → ⊥
+caller-free : (n : _) → Owner.Caller ≡ Owner.Value n → ⊥
 caller-free n is = cc
 
 -- ---- what is handed over
 
-pub hands : {w w' : Core} (l : LoadNumber) (references : List ArcRef) → HandlesAreWhole w → HandOverCall w owners.Caller l (handles_of references) (Ok tt) w' → HandsOver w l references w'
+pub hands : {w w' : Core} (l : LoadNumber) (references : List ArcRef) → HandlesAreWhole w → HandOverCall w Owner.Caller l (handles_of references) (Ok tt) w' → HandsOver w l references w'
 hands {w} {w'} l references whole c =
     record {
       each = λ r among.
           let hs = handles_of references in
           let there = among-map (λ (x : ArcRef). x.handle) references r among in
-          let n = named w (owners.Load l) [] hs (named-none w l hs c.hands.0) r.handle there in
+          let n = named w (Owner.Load l) [] hs (named-none w l hs c.hands.0) r.handle there in
           let numbered = in-numbers hs r.handle there in
-          let stood = stands-changed (λ (row : HandleRow). is_in (numbers_of hs) row.number.0) (λ row. record row { owner = owners.Caller }) (λ h. refl) (stands-whole whole r.handle.0 n.row n.live) in
+          let stood = stands-changed (λ (row : HandleRow). is_in (numbers_of hs) row.number.0) (λ row. record row { owner = Owner.Caller }) (λ h. refl) (stands-whole whole r.handle.0 n.row n.live) in
           let moves : is_in (numbers_of hs) n.row.number.0 ≡ true = ap (is_in (numbers_of hs)) (found-number r.handle.0 w.rows n.row n.live) ∙ numbered in
-          let now : Stands w.last.handle (moved (is_in (numbers_of hs)) owners.Caller w.rows) r.handle.0 (record n.row { owner = owners.Caller }) = rw moves at stood in
-          let after = stands-fell c.hands.1.falls caller-free (not-given (is_owned_in w (owners.Load l) r.handle.0) (is_in (numbers_of hs) r.handle.0) numbered) now in
+          let now : Stands w.last.handle (moved (is_in (numbers_of hs)) Owner.Caller w.rows) r.handle.0 (record n.row { owner = Owner.Caller }) = rw moves at stood in
+          let after = stands-fell c.hands.1.falls caller-free (not-given (is_owned_in w (Owner.Load l) r.handle.0) (is_in (numbers_of hs) r.handle.0) numbered) now in
           (n.row, n.live, n.own, after.live);
     }
 
 module _ {N B W : Type 0} (m : Seen N B W) (u u' : World) (whole : HandlesAreWhole u.core) where
-  read-ends : (reading : Reading) (answer : Option (LoadAnswer N)) (frames : _) → Does m.values u.core owners.Caller reading answer frames u'.core → (x : N) → answer ≡ Some (ends.Read x) → EndsRead m.values u.core owners.Caller reading x u'.core
-  read-ends reading answer frames does x is = (let P : Option (LoadAnswer N) → Type 0 = λ a. Does m.values u.core owners.Caller reading a frames u'.core in subst P is does).0
+  read-ends : (reading : Reading) (answer : Option (LoadAnswer N)) (frames : _) → Does m.values u.core Owner.Caller reading answer frames u'.core → (x : N)
+      → answer ≡ Some (LoadAnswer.Read x) → EndsRead m.values u.core Owner.Caller reading x u'.core
+  read-ends reading answer frames does x is = (let P : Option (LoadAnswer N) → Type 0 = λ a. Does m.values u.core Owner.Caller reading a frames u'.core in subst P is does).0
 
   pub reads-hold : (event : Event N B W) (reply : EventReply N B W) → Happens m u event reply u' → ReadHolds m.values u event reply u'
-  reads-hold (events.LoadStep l) (answers.LoadMoved (Ok reply)) h = λ x is.
+  reads-hold (Event.LoadStep l) (EventReply.LoadMoved (Ok reply)) h = λ x is.
       let s = h.moves in
       let e = read-ends s.reading reply.ended s.frames s.does.does x is in
       (s.reading, s.at, e.reads_root, hands s.reading.load (m.values.references x) whole e.handed)

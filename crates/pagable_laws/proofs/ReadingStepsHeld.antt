@@ -1,16 +1,8 @@
 -- What loads got goes on naming nodes as it should, whatever happens.
-use Rattle.std.proofs.Common.{◌≡◌, ℕ, zero, suc, true, List, [], ◌∷◌, ◌++◌, refl, sym, ap, subst, ◌∙◌, inl, inr, arith}
-use Rattle.std.specs.Prelude.{Option, Some, None, slice_get}
-use Rattle.pagable_world.specs.Plain.{ArcRef, Kind, LoadNumber, Among}
-use Rattle.pagable_world.specs.declared.handles.HandleRow.{HandleRow}
-use Rattle.pagable_world.specs.declared.events.Event.{Event}
-use Rattle.pagable_world.specs.declared.events.EventReply.{EventReply}
-use Rattle.pagable_world.specs.declared.events.LoadAnswer.{LoadAnswer}
-use Rattle.pagable_world.specs.Kinds.{fits_mode}
-use Rattle.pagable_world.specs.World.{Core, Frame, Reading, World, Values}
-use Rattle.pagable_world.specs.Loads.{with_got, root_frame, nested_frame}
-use Rattle.pagable_laws.specs.TreeSteps.{Change, CoreGoes, GetsRow, KeepsReadings, ReadingFeels, reads-root, reads-blob, gets-known, gets-lazy, makes-known, makes-node, reading-ends, EventFeels, by-call, by-reading, by-key, by-nothing}
-use Rattle.pagable_laws.specs.ReadRuns.{GotStands, FramesHeld, ReadingsHeld}
+use Rattle.pagable_laws.proofs.Words.{◌≡◌, ℕ, zero, suc, true, List, [], ◌∷◌, ◌++◌, refl, sym, ap, subst, ◌∙◌, inl, inr, arith, Option, Some, None, slice_get, ArcRef, Kind, LoadNumber, Among}
+use Rattle.pagable_laws.proofs.Words.{HandleRow, Event, EventReply, LoadAnswer, fits_mode, Core, Frame, Reading, World, Values, with_got, root_frame, nested_frame, Change, CoreGoes, GetsRow}
+use Rattle.pagable_laws.proofs.Words.{KeepsReadings, ReadingFeels, reads-root, reads-blob, gets-known, gets-lazy, makes-known, makes-node, reading-ends, EventFeels, by-call, by-reading, by-key}
+use Rattle.pagable_laws.proofs.Words.{by-nothing, GotStands, FramesHeld, ReadingsHeld}
 use Rattle.pagable_laws.proofs.Trees.{same_some}
 use Rattle.pagable_laws.proofs.Fitting.{pushed}
 use Rattle.pagable_laws.proofs.ReadingStepsMachine.{is-reading-of}
@@ -37,7 +29,8 @@ module _ {c : Change} {w w' : Core} (goes : CoreGoes c w w') (l : LoadNumber) wh
   got-new kind n row g =
       record {
         given = g.given;
-        is = λ other live own. let same : row ≡ other = same_some _ _ (sym g.live ∙ live) in (ap (λ (h : HandleRow). h.node) (sym same), subst (λ (h : HandleRow). fits_mode kind.0 h.mode ≡ true) same g.fits);
+        is = λ other live own. let same : row ≡ other = same_some _ _ (sym g.live ∙ live) in
+            (ap (λ (h : HandleRow). h.node) (sym same), subst (λ (h : HandleRow). fits_mode kind.0 h.mode ≡ true) same g.fits);
       }
 
   with-held : (frames : List Frame) (kind : Kind) (n : ℕ) (row : HandleRow) → FramesHeld w l frames → GetsRow w w' kind n row → FramesHeld w' l (with_got kind row frames)
@@ -57,7 +50,8 @@ no-end : {X : Type 0} {answer : Option X} {x : X} → answer ≡ None → answer
 no-end none is = let e = sym none ∙ is in cc
 
 -- what a load's step leaves
-held-after : {N : Type 0} {v : Values N} {w w' : Core} (reading : Reading) (answer : Option (LoadAnswer N)) (frames : List Frame) {c : Change} → CoreGoes c w w' → answer ≡ None → FramesHeld w reading.load reading.frames → ReadingFeels v w reading answer frames w' c → FramesHeld w' reading.load frames
+pub held-after : {N : Type 0} {v : Values N} {w w' : Core} (reading : Reading) (answer : Option (LoadAnswer N)) (frames : List Frame) {c : Change} → CoreGoes c w w' → answer ≡ None
+    → FramesHeld w reading.load reading.frames → ReadingFeels v w reading answer frames w' c → FramesHeld w' reading.load frames
 held-after {w' = w'} reading answer frames goes none held (reads-root load blob none_read at stored a is) =
     subst (λ fs. FramesHeld w' reading.load fs) (sym is) (new-held (root_frame load.key reading.node_type blob) [] refl (none-held w' reading.load [] refl))
 held-after {w' = w'} reading answer frames goes none held (reads-blob kind key blob needs stored a is) =
@@ -87,6 +81,7 @@ module _ {N B W : Type 0} (v : Values N) {u u' : World} (held : ReadingsHeld u) 
   event-held event reply goes (by-reading c reading answer frames stepped opens feels steps) = λ after is. elim (steps after is) [
     | inl old ↦ frames-on goes after.load after.frames (held after old)
     | inr (none, same) ↦
-        let before : FramesHeld u.core reading.load reading.frames = elim (is-reading-of u event reading stepped) [ inl there ↦ held reading there | inr begun ↦ none-held u.core reading.load reading.frames begun.0 ] in
+        let before : FramesHeld u.core reading.load reading.frames = elim
+        (is-reading-of u event reading stepped) [ inl there ↦ held reading there | inr begun ↦ none-held u.core reading.load reading.frames begun.0 ] in
         subst (λ (r : Reading). FramesHeld u'.core r.load r.frames) (sym same) (held-after reading answer frames goes none before feels)
   ]

@@ -1,12 +1,8 @@
 -- What a blob asks for next depends on no more of the references that were got than their kinds.
-use Rattle.std.proofs.Common.{◌≡◌, ℕ, zero, suc, ◌+◌, ◌==◌, Bool, true, false, List, [], ◌∷◌, ◌++◌, map, length, Result, Ok, Err, refl, sym, ap, subst, inl, arith, if◌then◌else◌}
-use Rattle.std.specs.Prelude.{Option, Some, None, slice_get}
-use Rattle.pagable_model.specs.declared.error.Error.TheVariants as errors
-use Rattle.pagable_model.specs.Reading.{Rest, read_typed}
-use Rattle.pagable_model.specs.Standing.{Answer, answer_at, handles_at}
-use Rattle.pagable_world.specs.Plain.{Error, ArcRef, Kind, Blob, Shape, Types, Meaning}
-use Rattle.pagable_world.specs.Loads.{answer_of, answers_from, read_with, Next, reads, asks, is_faulty, next_by, next_of}
-use Rattle.pagable_world.specs.Order.{some_of, after_kinds}
+use Rattle.pagable_laws.proofs.Words.{◌≡◌, ℕ, zero, suc, ◌+◌, ◌==◌, Bool, true, false, List, [], ◌∷◌, ◌++◌, map, length, Result, Ok, Err, refl, sym, ap, subst, inl, arith, if◌then◌else◌, Option}
+use Rattle.pagable_laws.proofs.Words.{Some, None, slice_get, Error, Rest, read_typed, Answer, answer_at, handles_at, ArcRef, Kind, Blob, Shape, Types, Meaning, answer_of, answers_from, Next}
+use Rattle.pagable_laws.proofs.Words.{reads, asks, is_faulty, next_by, next_of, some_of, after_kinds}
+use Rattle.pagable_world.specs.Loads.{read_with}
 use Rattle.pagable_laws.proofs.Along.{Along, AllTwo, no-two, more-two}
 use Rattle.pagable_laws.proofs.Related.{Out, both-given, both-refused, first-refused, OutLook, both-looked-up, both-not, read_par}
 
@@ -34,12 +30,12 @@ AnyTwo r q = Unit {0}
 abbrev AnswersAlike : Answer → Answer → Type 0
 AnswersAlike a b = (kind : ℕ) → OutLook no_cause AnyTwo (a kind) (b kind)
 
-as-kind : (t : Bool) (r q : ArcRef) → OutLook no_cause AnyTwo (if t then Ok r else Err errors.WrongKind) (if t then Ok q else Err errors.WrongKind)
+as-kind : (t : Bool) (r q : ArcRef) → OutLook no_cause AnyTwo (if t then Ok r else Err Error.WrongKind) (if t then Ok q else Err Error.WrongKind)
 as-kind true r q = both-looked-up r q tt
-as-kind false r q = both-not errors.WrongKind
+as-kind false r q = both-not Error.WrongKind
 
 got-alike : (got : List ArcRef) (place : ℕ) → AnswersAlike (answer_of (slice_get got place)) (answer_of (slice_get (some_of (kinds_of got)) place))
-got-alike [] place kind = both-not (errors.Storage kind)
+got-alike [] place kind = both-not (Error.Storage kind)
 got-alike (r ∷ rs) zero kind = as-kind (r.kind.0 == kind) r (record { kind = record { 0 = r.kind.0 }; node = record { 0 = 0 }; handle = record { 0 = 0 } })
 got-alike (r ∷ rs) (suc place) kind = got-alike rs place kind
 
@@ -51,12 +47,13 @@ answers-alike got place (key ∷ keys) = more-two _ _ _ _ (got-alike got place) 
 read-alike : (types : Types) (blob : Blob) (got : List ArcRef) (shape : Option Shape)
     → Out no_cause AnswersAlike (Along (Unit {0}) AnyTwo) (read_typed (handles_at 0 types.parts) shape (record { bytes = blob.bytes; refs = answers_from got 0 blob.keys }))
     (read_typed (handles_at 0 types.parts) shape (record { bytes = blob.bytes; refs = answers_from (some_of (kinds_of got)) 0 blob.keys }))
-read-alike types blob got None = both-refused errors.WrongKind
+read-alike types blob got None = both-refused Error.WrongKind
 read-alike types blob got (Some s) =
     let par = read_par {E = no_cause} {F = Unit {0}} {S = AnswersAlike} {R = AnyTwo} answer_at answer_at (λ kind a b h. h kind) 0 s (inl tt) in
     par.out _ _ (record { bytes = refl; refs = answers-alike got 0 blob.keys })
 
-by-alike : (key : Option ℕ) {first second : Result (Meaning ArcRef × Rest Answer) Error} → Out no_cause AnswersAlike (Along (Unit {0}) AnyTwo) first second → SameNext (next_by key first) (next_by key second)
+by-alike : (key : Option ℕ) {first second : Result (Meaning ArcRef × Rest Answer) Error} → Out no_cause AnswersAlike (Along (Unit {0}) AnyTwo) first second
+    → SameNext (next_by key first) (next_by key second)
 by-alike key (both-given p q v s) = both-read p.0 q.0
 by-alike key (both-refused e) = itself _
 by-alike key (first-refused e r c) = absurd c
@@ -75,7 +72,8 @@ ask-alike kind key (both-read a b) is = absurd (cc)
 ask-alike kind key (both-ask k q) is = is
 ask-alike kind key (both-faulty e) is = absurd (cc)
 
-pub asks-by-kinds : (types : Types) (t : ℕ) (blob : Blob) (got : List ArcRef) (kind : Kind) (key : ℕ) → next_of types t blob got ≡ asks kind key → after_kinds types t blob (kinds_of got) ≡ asks kind key
+pub asks-by-kinds : (types : Types) (t : ℕ) (blob : Blob) (got : List ArcRef) (kind : Kind) (key : ℕ) → next_of types t blob got ≡ asks kind key
+    → after_kinds types t blob (kinds_of got) ≡ asks kind key
 asks-by-kinds types t blob got kind key is = ask-alike kind key (next-alike types t blob got) is
 
 faulty-alike : {a b : Next} (e : Error) → SameNext a b → a ≡ is_faulty e → b ≡ is_faulty e

@@ -1,30 +1,15 @@
 -- A load's step in the machine: which reading makes it, and that no other goes on by it.
-use Rattle.std.proofs.Common.{◌≡◌, ℕ, ◌≤◌, true, List, [], ◌∷◌, refl, sym, ap, subst, ◌∙◌, inl, inr}
-use Rattle.std.specs.Prelude.{Option, Some, None, ◌⊎◌, Ok, Err, is_some}
-use Rattle.pagable_world.specs.Plain.{ArcRef, HandleNumber, LoadNumber, WorkerNumber, updated, if_there}
-use Rattle.pagable_world.specs.declared.handles.Owner.{Owner}
-use Rattle.pagable_world.specs.declared.events.LoadAnswer.{LoadAnswer}
-use Rattle.pagable_world.specs.declared.events.LoadAnswer.TheVariants as ends
-use Rattle.pagable_world.specs.declared.events.LoadReply.{LoadReply}
-use Rattle.pagable_world.specs.declared.events.WorkerReply.{WorkerReply}
-use Rattle.pagable_world.specs.declared.events.PinStep.TheVariants as pinsteps
-use Rattle.pagable_world.specs.declared.events.Took.TheVariants as took
-use Rattle.pagable_world.specs.declared.events.Took.{Took}
-use Rattle.pagable_world.specs.declared.events.Event.TheVariants as events
-use Rattle.pagable_world.specs.declared.events.Event.{Event}
-use Rattle.pagable_world.specs.Kinds.{owner_worker}
-use Rattle.pagable_world.specs.World.{OpenLoad, Root, of_cell, of_key, Frame, Reading, Todo, to_load, to_write, Walking, World, Seen, Values}
-use Rattle.pagable_world.specs.Loads.{ReadingDoes, gone_on}
+use Rattle.pagable_laws.proofs.Words.{◌≡◌, ℕ, ◌≤◌, true, List, [], ◌∷◌, refl, sym, ap, subst, ◌∙◌, inl, inr, Option, Some, None, ◌⊎◌, Ok, Err, is_some, ArcRef, HandleNumber, LoadNumber}
+use Rattle.pagable_laws.proofs.Words.{WorkerNumber, updated, if_there, Owner, LoadAnswer, LoadReply, WorkerReply, PinStep, Took, Event, owner_worker, OpenLoad, Root, of_cell, of_key, Frame}
+use Rattle.pagable_laws.proofs.Words.{Reading, Todo, to_load, to_write, Walking, World, Seen, Values, ReadingDoes, gone_on, Site, fresh, ReadingsAre, reading_of_root, reading_of_load, reading_at}
+use Rattle.pagable_laws.proofs.Words.{reading_after, LoadSteps, WorkerSteps, IsWhole, IsReadingOf, of_caller, of_worker, IsSteppedReading, StepsReading, IsFresh}
 use Rattle.pagable_world.specs.Workers as workers
-use Rattle.pagable_world.specs.Workers.{Site, fresh}
-use Rattle.pagable_world.specs.Events.{ReadingsAre, reading_of_root, reading_of_load, reading_at, reading_after, LoadSteps, WorkerSteps}
-use Rattle.pagable_world.specs.Pager.{IsWhole, IsReadingOf, of_caller, of_worker}
-use Rattle.pagable_laws.specs.TreeSteps.{IsSteppedReading, StepsReading, IsFresh}
 use Rattle.pagable_laws.proofs.Trees.{same_some}
 use Rattle.pagable_laws.proofs.Goes.{at-updated}
 
 -- what stands among the readings afterwards
-pub reading-was : (readings : ℕ → Option Reading) (u' : World) → ReadingsAre readings u' → (q : ℕ) (after : Reading) → u'.work.readings q ≡ Some after → (readings q ≡ Some after) × (is_some (u'.core.loads q) ≡ true)
+pub reading-was : (readings : ℕ → Option Reading) (u' : World) → ReadingsAre readings u' → (q : ℕ) (after : Reading) → u'.work.readings q ≡ Some after
+    → (readings q ≡ Some after) × (is_some (u'.core.loads q) ≡ true)
 reading-was readings u' are q after is = of (u'.core.loads q) refl (sym (are q) ∙ is)
   where
     of : (found : Option OpenLoad) → u'.core.loads q ≡ found → if_there (λ load. readings q) None found ≡ Some after → (readings q ≡ Some after) × (is_some (u'.core.loads q) ≡ true)
@@ -32,21 +17,25 @@ reading-was readings u' are q after is = of (u'.core.loads q) refl (sym (are q) 
     of (Some load) e f = (f, ap is_some e)
 
 -- a reading that makes a step is the machine's, or has just begun at an open load
-pub reading-stands : (u : World) → IsWhole u.core → (l : LoadNumber) (reading : Reading) → reading_at u l ≡ Some reading → (u.work.readings l.0 ≡ Some reading) ⊎ ((reading.frames ≡ []) × (reading.steps ≡ 0) × (reading.load ≡ l) × (l.0 ≤ u.core.last.load))
+pub reading-stands : (u : World) → IsWhole u.core → (l : LoadNumber) (reading : Reading) → reading_at u l ≡ Some reading
+    → (u.work.readings l.0 ≡ Some reading) ⊎ ((reading.frames ≡ []) × (reading.steps ≡ 0) × (reading.load ≡ l) × (l.0 ≤ u.core.last.load))
 reading-stands u whole l reading at = by (u.work.readings l.0) refl at
   where
-    begun : (load : OpenLoad) (root : Root) → u.core.loads l.0 ≡ Some load → reading_of_root l root ≡ Some reading → (reading.frames ≡ []) × (reading.steps ≡ 0) × (reading.load ≡ l) × (l.0 ≤ u.core.last.load)
+    begun : (load : OpenLoad) (root : Root) → u.core.loads l.0 ≡ Some load → reading_of_root l root ≡ Some reading
+        → (reading.frames ≡ []) × (reading.steps ≡ 0) × (reading.load ≡ l) × (l.0 ≤ u.core.last.load)
     begun load (of_cell node t h) there e =
         let same : fresh l t ≡ reading = same_some _ _ e in
         let few = (whole.loads.numbered l.0 (ap is_some there)).1 in
         (ap (λ (r : Reading). r.frames) (sym same), ap (λ (r : Reading). r.steps) (sym same), ap (λ (r : Reading). r.load) (sym same), few)
     begun load of_key there e = absurd (cc)
 
-    opened : (found : Option OpenLoad) → u.core.loads l.0 ≡ found → reading_of_load l found ≡ Some reading → (reading.frames ≡ []) × (reading.steps ≡ 0) × (reading.load ≡ l) × (l.0 ≤ u.core.last.load)
+    opened : (found : Option OpenLoad) → u.core.loads l.0 ≡ found → reading_of_load l found ≡ Some reading
+        → (reading.frames ≡ []) × (reading.steps ≡ 0) × (reading.load ≡ l) × (l.0 ≤ u.core.last.load)
     opened None there e = absurd (cc)
     opened (Some load) there e = begun load load.root there e
 
-    by : (found : Option Reading) → u.work.readings l.0 ≡ found → reading_at u l ≡ Some reading → (u.work.readings l.0 ≡ Some reading) ⊎ ((reading.frames ≡ []) × (reading.steps ≡ 0) × (reading.load ≡ l) × (l.0 ≤ u.core.last.load))
+    by : (found : Option Reading) → u.work.readings l.0 ≡ found → reading_at u l ≡ Some reading
+        → (u.work.readings l.0 ≡ Some reading) ⊎ ((reading.frames ≡ []) × (reading.steps ≡ 0) × (reading.load ≡ l) × (l.0 ≤ u.core.last.load))
     by (Some r) e f = inl (let g : Some r ≡ Some reading = rw e at f in e ∙ g)
     by None e f = inr (opened (u.core.loads l.0) refl (rw e at f))
 
@@ -68,7 +57,7 @@ module _ {N : Type 0} {v : Values N} {u u' : World} {l : LoadNumber} {reply : Lo
   steps-load after (of_caller q is) = elim (caller-was q after is) [ inl old ↦ inl (of_caller q old) | inr new ↦ inr (new.1, new.2) ]
   steps-load after (of_worker n place walking r through below there todo) = inl (of_worker n place walking r through below (sym (s.work.walkings n) ∙ there) todo)
 
-  pub stepped-load : {B W : Type 0} → IsWhole u.core → (event : Event N B W) → event ≡ events.LoadStep l → IsSteppedReading u event s.reading
+  pub stepped-load : {B W : Type 0} → IsWhole u.core → (event : Event N B W) → event ≡ Event.LoadStep l → IsSteppedReading u event s.reading
   stepped-load {B} {W} whole event is =
       let P : Event N B W → Type 0 = λ e. IsSteppedReading u e s.reading in
       let stands = reading-stands u whole l s.reading s.at in
@@ -81,22 +70,24 @@ pub record LoadsTodo {N : Type 0} (v : Values N) (me : Owner) (s s' : Site) (rea
   pub answer : Option (LoadAnswer N)
   pub frames : List Frame
   pub does : ReadingDoes v s.core me reading answer frames s'.core
-  pub next : (r : ArcRef) (place : ℕ) (through : HandleNumber) (after : Reading) (below : List Todo) → s'.todo ≡ to_load r place through after ∷ below → (answer ≡ None) × (after ≡ gone_on reading frames)
+  pub next : (r : ArcRef) (place : ℕ) (through : HandleNumber) (after : Reading) (below : List Todo) → s'.todo ≡ to_load r place through after ∷ below
+      → (answer ≡ None) × (after ≡ gone_on reading frames)
 
 module _ {N B W : Type 0} (m : Seen N B W) (v : ℕ) (s s' : Site) where
-  pub loads-todo : (r : ArcRef) (place : ℕ) (through : HandleNumber) (reading : Reading) (below : List Todo) (step : Took W) → workers.Does m v s (to_load r place through reading ∷ below) step s' → LoadsTodo m.values (owner_worker v) s s' reading
-  loads-todo r place through reading below (took.Pin i (Ok (pinsteps.Held k))) (is, p) =
-      record { answer = Some (ends.Pinned k); frames = []; does = p.goes.0; next = λ q at h after rest e. let f : to_write r place through ∷ below ≡ to_load q at h after ∷ rest = sym p.goes.1.list_is ∙ e in absurd (cc) }
-  loads-todo r place through reading below (took.Pin i (Ok (pinsteps.LoadBegun l))) (is, p) = absurd p.goes
-  loads-todo r place through reading below (took.Pin i (Ok pinsteps.LoadWent)) (is, p) =
+  pub loads-todo : (r : ArcRef) (place : ℕ) (through : HandleNumber) (reading : Reading) (below : List Todo) (step : Took W)
+      → workers.Does m v s (to_load r place through reading ∷ below) step s' → LoadsTodo m.values (owner_worker v) s s' reading
+  loads-todo r place through reading below (Took.Pin i (Ok (PinStep.Held k))) (is, p) =
+      record { answer = Some (LoadAnswer.Pinned k); frames = []; does = p.goes.0; next = λ q at h after rest e. let f : to_write r place through ∷ below ≡ to_load q at h after ∷ rest = sym p.goes.1.list_is ∙ e in absurd (cc) }
+  loads-todo r place through reading below (Took.Pin i (Ok (PinStep.LoadBegun l))) (is, p) = absurd p.goes
+  loads-todo r place through reading below (Took.Pin i (Ok PinStep.LoadWent)) (is, p) =
       record {
         answer = None;
         frames = p.goes.0;
         does = p.goes.1;
         next = λ q at h after rest e. let f : to_load r place through (gone_on reading p.goes.0) ∷ below ≡ to_load q at h after ∷ rest = sym p.goes.2.list_is ∙ e in (refl, cc);
       }
-  loads-todo r place through reading below (took.Pin i (Err e)) (is, p) =
-      record { answer = Some (ends.Refused e); frames = []; does = p.refused.0; next = λ q at h after rest f. let g : workers.failing_by e s.todo ≡ to_load q at h after ∷ rest = sym p.refused.1.list_is ∙ f in absurd (cc) }
+  loads-todo r place through reading below (Took.Pin i (Err e)) (is, p) =
+      record { answer = Some (LoadAnswer.Refused e); frames = []; does = p.refused.0; next = λ q at h after rest f. let g : workers.failing_by e s.todo ≡ to_load q at h after ∷ rest = sym p.refused.1.list_is ∙ f in absurd (cc) }
   loads-todo r place through reading below step does = absurd does
 
 module _ {N B W : Type 0} {m : Seen N B W} {u u' : World} {k : WorkerNumber} {reply : WorkerReply W} (s : WorkerSteps m u k reply u') where
@@ -105,18 +96,20 @@ module _ {N B W : Type 0} {m : Seen N B W} {u u' : World} {k : WorkerNumber} {re
 
   pub steps-worker : {me : Owner} {reading : Reading} (t : LoadsTodo m.values me before s.after reading) → StepsReading u reading t.answer t.frames u'
   steps-worker t after (of_caller q is) = inl (of_caller q (reading-was u.work.readings u' s.readings q after is).0)
-  steps-worker t after (of_worker n place walking r through below there todo) = elim (at-updated k.0 (Some (record s.walking { todo = s.after.todo; steps = reply.steps; answer = reply.answer })) u.work.walkings n walking (sym (s.work.same_walkings n) ∙ there)) [
-    | inl (here, e) ↦ inr (t.next r place through after below (ap (λ (w : Walking). w.todo) (same_some _ _ e) ∙ todo))
-    | inr old ↦ inl (of_worker n place walking r through below old todo)
-  ]
+  steps-worker t after (of_worker n place walking r through below there todo) = elim
+      (at-updated k.0 (Some (record s.walking { todo = s.after.todo; steps = reply.steps; answer = reply.answer })) u.work.walkings n walking (sym (s.work.same_walkings n) ∙ there)) [
+        | inl (here, e) ↦ inr (t.next r place through after below (ap (λ (w : Walking). w.todo) (same_some _ _ e) ∙ todo))
+        | inr old ↦ inl (of_worker n place walking r through below old todo)
+      ]
 
-  pub stepped-worker : (event : Event N B W) → event ≡ events.WorkerStep k → (r : ArcRef) (place : ℕ) (through : HandleNumber) (reading : Reading) (below : List Todo) → s.walking.todo ≡ to_load r place through reading ∷ below → IsSteppedReading u event reading
+  pub stepped-worker : (event : Event N B W) → event ≡ Event.WorkerStep k → (r : ArcRef) (place : ℕ) (through : HandleNumber) (reading : Reading) (below : List Todo)
+      → s.walking.todo ≡ to_load r place through reading ∷ below → IsSteppedReading u event reading
   stepped-worker event is r place through reading below todo =
       let P : Event N B W → Type 0 = λ e. IsSteppedReading u e reading in
       subst P (sym is) (s.walking, r, place, through, below, s.at, todo)
 
 -- the reading that makes the step is the machine's, or has just begun
 pub is-reading-of : {N B W : Type 0} (u : World) (event : Event N B W) (reading : Reading) → IsSteppedReading u event reading → IsReadingOf u.work reading ⊎ IsFresh u.core reading
-is-reading-of u (events.LoadStep l) reading stepped = stepped.1
-is-reading-of u (events.WorkerStep k) reading (walking, r, place, through, below, there, todo) = inl (of_worker k.0 place walking r through below there todo)
+is-reading-of u (Event.LoadStep l) reading stepped = stepped.1
+is-reading-of u (Event.WorkerStep k) reading (walking, r, place, through, below, there, todo) = inl (of_worker k.0 place walking r through below there todo)
 is-reading-of u event reading stepped = absurd stepped

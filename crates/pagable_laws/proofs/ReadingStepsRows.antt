@@ -1,21 +1,11 @@
 -- The row of a handle that a load has got: it is new, of its node, and its mode fits the kind.
-use Rattle.std.proofs.Common.{◌≡◌, ℕ, ◌+◌, ◌<◌, ◌≤◌, ◌==◌, ◌%◌, Bool, true, false, List, [], ◌∷◌, ◌++◌, refl, ap, sym, subst, ◌∙◌, inl, inr, arith}
-use Rattle.std.specs.Prelude.{Option, Some, None, ◌⊎◌, ◌&&◌, not, if◌then◌else◌}
-use Rattle.std.proofs.lemmas.Bool.Decides.{nat_tests}
-use Rattle.pagable_world.specs.Plain.{ArcRef, Kind, HandleNumber, LoadNumber, NodeNumber, OptionalDataKey, is_shared_kind, is_loose_kind, is_pinned_kind, type_of, if_there}
-use Rattle.pagable_world.specs.declared.handles.HandleRow.{HandleRow}
-use Rattle.pagable_world.specs.declared.handles.Owner.{Owner}
-use Rattle.pagable_world.specs.declared.handles.Owner.TheVariants as owners
-use Rattle.pagable_world.specs.declared.rows.Mode.TheVariants as modes
-use Rattle.pagable_world.specs.Kinds.{find_row, is_handle, mode_of, fits_mode, owner_value, pins, is_in_memory}
-use Rattle.pagable_world.specs.World.{Core, Cell, Last, Alike, row_at, usable}
-use Rattle.pagable_world.specs.Cascade.{FallsAnyhow, left_rows}
-use Rattle.pagable_world.specs.Calls.{row_of, with_handle, with_node, with_cached, with_cached_if_open, with_known, next_node, is_named_by, moved}
-use Rattle.pagable_world.specs.LoadCalls.{adopted}
-use Rattle.pagable_world.specs.Pager.{HandlesAreWhole}
-use Rattle.pagable_laws.specs.TreeSteps.{GetsRow}
+use Rattle.pagable_laws.proofs.Words.{◌≡◌, ℕ, ◌+◌, ◌<◌, ◌≤◌, ◌==◌, ◌%◌, Bool, true, false, List, [], ◌∷◌, ◌++◌, refl, ap, sym, subst, ◌∙◌, inl, inr, arith, Option, Some, None, ◌⊎◌, ◌&&◌, not}
+use Rattle.pagable_laws.proofs.Words.{if◌then◌else◌, nat_tests, ArcRef, Kind, HandleNumber, LoadNumber, NodeNumber, OptionalDataKey, is_shared_kind, is_loose_kind, is_pinned_kind, type_of}
+use Rattle.pagable_laws.proofs.Words.{if_there, HandleRow, Owner, Mode, find_row, is_handle, mode_of, fits_mode, owner_value, pins, is_in_memory, Core, Cell, Last, Alike, row_at, usable}
+use Rattle.pagable_laws.proofs.Words.{FallsAnyhow, left_rows, row_of, with_handle, with_node, with_cached, with_cached_if_open, with_known, next_node, is_named_by, moved, adopted}
+use Rattle.pagable_laws.proofs.Words.{HandlesAreWhole, GetsRow}
 use Rattle.pagable_laws.proofs.Goes.{found-number, found-changed, found-left, none-in-new}
-use Rattle.pagable_laws.proofs.Taking.{found-among}
+use Rattle.pagable_laws.proofs.Outlasting.{among-found}
 
 pub fits-kind : (kind : ℕ) → fits_mode kind (mode_of kind) ≡ true
 fits-kind kind = at (is_shared_kind kind) refl (is_loose_kind kind) refl
@@ -23,7 +13,7 @@ fits-kind kind = at (is_shared_kind kind) refl (is_loose_kind kind) refl
     pinned : (kind % 3 == 0) ≡ false → (kind % 3 == 1) ≡ false → (kind % 3 == 2) ≡ true
     pinned a b = grind (arith, nat_tests)
 
-    at : (a : Bool) → is_shared_kind kind ≡ a → (b : Bool) → is_loose_kind kind ≡ b → fits_mode kind (if a then modes.Shared else if b then modes.LooseUnpinned else modes.Pinned) ≡ true
+    at : (a : Bool) → is_shared_kind kind ≡ a → (b : Bool) → is_loose_kind kind ≡ b → fits_mode kind (if a then Mode.Shared else if b then Mode.LooseUnpinned else Mode.Pinned) ≡ true
     at true e b f = e
     at false e true f = f
     at false e false f = pinned e f
@@ -35,7 +25,8 @@ unfolding find_row
 found-append q [] ys row found = inr found
 found-append q (h ∷ hs) ys row found = at (λ f. found-append q hs ys row f) (is_handle q h) found
   where
-    at : (find_row q (hs ++ ys) ≡ Some row → (find_row q hs ≡ Some row) ⊎ (find_row q ys ≡ Some row)) → (b : Bool) → (if b then Some h else find_row q (hs ++ ys)) ≡ Some row → ((if b then Some h else find_row q hs) ≡ Some row) ⊎ (find_row q ys ≡ Some row)
+    at : (find_row q (hs ++ ys) ≡ Some row → (find_row q hs ≡ Some row) ⊎ (find_row q ys ≡ Some row)) → (b : Bool) → (if b then Some h else find_row q (hs ++ ys)) ≡ Some row
+        → ((if b then Some h else find_row q hs) ≡ Some row) ⊎ (find_row q ys ≡ Some row)
     at rest true f = inl f
     at rest false f = rest f
 
@@ -50,7 +41,7 @@ found-alone q h row found = at (is_handle q h) found
 -- no handle has a number above the last one given
 pub none-above : {w : Core} → HandlesAreWhole w → (q : ℕ) (row : HandleRow) → w.last.handle < q → find_row q w.rows ≡ Some row → ⊥
 none-above {w} whole q row above found =
-    let few = (whole.numbered row (found-among q w.rows row found)).1 in
+    let few = (whole.numbered row (among-found q w.rows row found)).1 in
     let same = found-number q w.rows row found in
     absurd (omega (arith, few, same, above))
 
@@ -67,7 +58,8 @@ next-above : (q last : ℕ) → q ≡ last + 1 → last < q
 next-above q last next = omega arith
 
 module _ {w w' : Core} (whole : HandlesAreWhole w) (kind : Kind) (k : HandleNumber) (row : HandleRow) (made : row_at w' k ≡ Some row) (next : k.0 ≡ w.last.handle + 1) where
-  gets : (rows : List HandleRow) (node : NodeNumber) (owner : Owner) → w.last.handle + 1 ≤ w'.last.handle → ((r : HandleRow) → find_row k.0 rows ≡ Some r → ⊥) → find_row k.0 (rows ++ row_of (w.last.handle + 1) node (mode_of kind.0) owner ∷ []) ≡ Some row → GetsRow w w' kind node.0 row
+  gets : (rows : List HandleRow) (node : NodeNumber) (owner : Owner) → w.last.handle + 1 ≤ w'.last.handle → ((r : HandleRow) → find_row k.0 rows ≡ Some r → ⊥)
+      → find_row k.0 (rows ++ row_of (w.last.handle + 1) node (mode_of kind.0) owner ∷ []) ≡ Some row → GetsRow w w' kind node.0 row
   gets rows node owner few unseen found = elim (found-append k.0 rows (row_of (w.last.handle + 1) node (mode_of kind.0) owner ∷ []) row found) [
     | inl old ↦ absurd (unseen row old)
     | inr new ↦
@@ -86,7 +78,8 @@ module _ {w w' : Core} (whole : HandlesAreWhole w) (kind : Kind) (k : HandleNumb
   pub got-known : (n : ℕ) (owner : Owner) → Alike (with_known w kind n owner) w' → GetsRow w w' kind n row
   got-known n owner a =
       let few = ap (λ (l : Last). l.handle) a.last in
-      gets w.rows (record { 0 = n }) owner (omega (arith, few)) (λ r found. none-above whole k.0 r (next-above k.0 w.last.handle next) found) (subst (λ rows. find_row k.0 rows ≡ Some row) a.rows made)
+      gets w.rows (record { 0 = n }) owner (omega (arith, few)) (λ r found. none-above whole k.0 r (next-above k.0 w.last.handle next) found)
+      (subst (λ rows. find_row k.0 rows ≡ Some row) a.rows made)
 
   -- of such a one, where others were given up then
   pub got-fallen : (n : ℕ) (owner : Owner) {before : Core} {given : ℕ → Bool} → FallsAnyhow before (with_known w kind n owner) given w' → GetsRow w w' kind n row
@@ -95,18 +88,20 @@ module _ {w w' : Core} (whole : HandlesAreWhole w) (kind : Kind) (k : HandleNumb
       let made_here = w.rows ++ row_of (w.last.handle + 1) (record { 0 = n }) (mode_of kind.0) owner ∷ [] in
       let few = ap (λ (l : Last). l.handle) a.last in
       elim (found-append k.0 (left_rows f.falls.gone made_here) f.falls.entries row (subst (λ rows. find_row k.0 rows ≡ Some row) a.rows made)) [
-        | inl left ↦ gets w.rows (record { 0 = n }) owner (omega (arith, few)) (λ r found. none-above whole k.0 r (next-above k.0 w.last.handle next) found) (found-left f.falls.gone k.0 made_here row left).0
+        | inl left ↦ gets w.rows (record { 0 = n }) owner (omega (arith, few)) (λ r found. none-above whole k.0 r (next-above k.0 w.last.handle next) found)
+            (found-left f.falls.gone k.0 made_here row left).0
         | inr new ↦ let none = none-in-new (w.last.handle + 1) k.0 f.falls.entries f.falls.new (omega (arith, next)) in absurd (cc)
       ]
 
   -- of the next node
   pub got-born : (l : LoadNumber) (key : ℕ) (own : OptionalDataKey) (references : List ArcRef) → Alike (adopted w l kind key own references) w' → GetsRow w w' kind (w.last.node + 1) row
   got-born l key own references a =
-      let born = with_handle (with_node w (type_of kind.0) own references) (next_node w) (mode_of kind.0) (owners.Load l) in
+      let born = with_handle (with_node w (type_of kind.0) own references) (next_node w) (mode_of kind.0) (Owner.Load l) in
       let rows = cached-rows born kind key (next_node w) in
       let few = ap (λ (l : Last). l.handle) (a.last ∙ rows.1) in
-      gets (moved (is_named_by references) (owner_value (w.last.node + 1)) w.rows) (next_node w) (owners.Load l) (omega (arith, few))
-      (λ r found. let c = found-changed (λ (h : HandleRow). is_named_by references h.number.0) (λ h. record h { owner = owner_value (w.last.node + 1) }) (λ h. refl) k.0 w.rows r found in none-above whole k.0 c.was (next-above k.0 w.last.handle next) c.live)
+      gets (moved (is_named_by references) (owner_value (w.last.node + 1)) w.rows) (next_node w) (Owner.Load l) (omega (arith, few))
+      (λ r found. let c = found-changed (λ (h : HandleRow). is_named_by references h.number.0) (λ h. record h { owner = owner_value (w.last.node + 1) }) (λ h. refl) k.0 w.rows r found in
+      none-above whole k.0 c.was (next-above k.0 w.last.handle next) c.live)
       (subst (λ rows. find_row k.0 rows ≡ Some row) (a.rows ∙ rows.0) made)
 
 -- it is so in a world that is alike
@@ -128,6 +123,8 @@ is-cached w kind key n is = at (w.cache kind key) is
     cell m None e = absurd (cc)
     cell m (Some x) e = pick (is_pinned_kind kind && not (is_in_memory (pins m w.rows) x.key)) m e
 
-    at : (o : Option ℕ) → if_there (λ m. if_there (λ (x : Cell). if is_pinned_kind kind && not (is_in_memory (pins m w.rows) x.key) then None else Some m) None (w.cells m)) None o ≡ Some n → o ≡ Some n
+    at : (o : Option ℕ)
+        → if_there (λ m. if_there (λ (x : Cell). if is_pinned_kind kind && not (is_in_memory (pins m w.rows) x.key) then None else Some m) None (w.cells m)) None o ≡ Some n
+        → o ≡ Some n
     at None e = absurd (cc)
     at (Some m) e = cell m (w.cells m) e

@@ -1,19 +1,7 @@
 -- Below what a worker does next only written nodes and an item wait: no load.
-use Rattle.std.proofs.Common.{◌≡◌, ℕ, List, [], ◌∷◌, ◌++◌, sym, subst, inl, inr, ◌∙◌, Ok, Err}
-use Rattle.std.specs.Prelude.{Some, None, drop, length, max}
-use Rattle.pagable_world.specs.Plain.{ArcRef, updated, above}
-use Rattle.pagable_world.specs.declared.events.Claim.TheVariants as claims
-use Rattle.pagable_world.specs.declared.events.PinStep.TheVariants as pinsteps
-use Rattle.pagable_world.specs.declared.events.Took.TheVariants as took
-use Rattle.pagable_world.specs.declared.events.Took.{Took}
-use Rattle.pagable_world.specs.declared.events.Event.{Event}
-use Rattle.pagable_world.specs.declared.events.Event.TheVariants as events
-use Rattle.pagable_world.specs.declared.events.EventReply.{EventReply}
-use Rattle.pagable_world.specs.declared.events.EventReply.TheVariants as answers
-use Rattle.pagable_world.specs.World.{Written, Todo, to_start, to_pin, to_load, to_write, to_finish, to_item, to_set, to_publish, to_release, to_fail, Task, of_item, of_entry, Walking, World, Seen}
-use Rattle.pagable_world.specs.Workers.{next_start, settle, give, first_todo}
-use Rattle.pagable_world.specs.Events.{Happens, entry_task, new_walking}
-use Rattle.pagable_world.specs.Order.{Follows}
+use Rattle.pagable_laws.proofs.Words.{◌≡◌, ℕ, List, [], ◌∷◌, ◌++◌, sym, subst, inl, inr, ◌∙◌, Ok, Err, Some, None, drop, length, max, ArcRef, updated, above, Claim, PinStep, Took, Event}
+use Rattle.pagable_laws.proofs.Words.{EventReply, Written, Todo, to_start, to_pin, to_load, to_write, to_finish, to_item, to_set, to_publish, to_release, to_fail, Task, of_item, of_entry}
+use Rattle.pagable_laws.proofs.Words.{Walking, World, Seen, next_start, settle, give, first_todo, Happens, entry_task, new_walking, Follows}
 use Rattle.pagable_laws.proofs.Trees.{same_some}
 use Rattle.pagable_laws.proofs.Goes.{at-updated}
 use Rattle.pagable_laws.proofs.Nexts.{steps_follow}
@@ -68,40 +56,31 @@ now is waits = subst (λ t. BelowWaits t) (sym is) waits
 
 follows-waits : {W : Type 0} (f : W → Written) (todo : List Todo) (step : Took W) (next : List Todo) → Follows f todo step next → BelowWaits todo → BelowWaits next
 unfolding AllWait
-follows-waits f (to_start r place ∷ below) (took.Claim i (Ok claims.Claimed)) next (is, e) waits = now e waits
-follows-waits f (to_start r place ∷ []) (took.Claim i (Ok (claims.Known key height))) next (is, e) waits = now e tt
-follows-waits f (to_start r place ∷ x ∷ below) (took.Claim i (Ok (claims.Known key height))) next (is, e) waits = now e (give-waits r key height (x ∷ below) waits)
-follows-waits f (to_start r place ∷ below) (took.Claim i (Ok claims.Waiting)) next (is, e) waits = now e waits
-follows-waits f (to_start r place ∷ below) (took.Claim i (Ok claims.AlreadyFailed)) next (is, e) waits = now e tt
-follows-waits f (to_start r place ∷ below) (took.Claim i (Err x)) next (is, e) waits = now e tt
-follows-waits f (to_start r place ∷ below) step next does waits = absurd does
-follows-waits f (to_pin r place ∷ below) (took.Pin i (Ok (pinsteps.Held k))) next (is, (through, e)) waits = now e waits
-follows-waits f (to_pin r place ∷ below) (took.Pin i (Ok (pinsteps.LoadBegun l))) next (is, (through, e)) waits = now e waits
-follows-waits f (to_pin r place ∷ below) (took.Pin i (Err x)) next (is, e) waits = now e tt
-follows-waits f (to_pin r place ∷ below) step next does waits = absurd does
-follows-waits f (to_load r place through reading ∷ below) (took.Pin i (Ok pinsteps.LoadWent)) next (is, (frames, e)) waits = now e waits
-follows-waits f (to_load r place through reading ∷ below) (took.Pin i (Ok (pinsteps.Held k))) next (is, e) waits = now e waits
-follows-waits f (to_load r place through reading ∷ below) (took.Pin i (Err x)) next (is, e) waits = now e tt
-follows-waits f (to_load r place through reading ∷ below) step next does waits = absurd does
-follows-waits f (to_write r place through ∷ below) (took.Write i (Ok out)) next (is, e) waits = now e (settle-waits (to_finish (record { reference = r; place = place; through = through; written = f out; keys = []; height = 0 }) ∷ below) waits)
-follows-waits f (to_write r place through ∷ below) (took.Write i (Err x)) next (is, e) waits = now e tt
-follows-waits f (to_write r place through ∷ below) step next does waits = absurd does
-follows-waits f (to_finish o ∷ below) (took.Store (Some i) (Ok key)) next (is, e) waits = now e waits
-follows-waits f (to_finish o ∷ below) (took.Store (Some i) (Err x)) next (is, e) waits = now e tt
-follows-waits f (to_finish o ∷ below) step next does waits = absurd does
-follows-waits f (to_item written keys ∷ below) (took.Store None (Ok key)) next e waits = now e tt
-follows-waits f (to_item written keys ∷ below) (took.Store None (Err x)) next e waits = now e tt
-follows-waits f (to_item written keys ∷ below) step next does waits = absurd does
-follows-waits f (to_set r through key height ∷ below) (took.SetKey i (Ok u)) next (is, e) waits = now e waits
-follows-waits f (to_set r through key height ∷ below) (took.SetKey i (Err x)) next (is, e) waits = now e tt
-follows-waits f (to_set r through key height ∷ below) step next does waits = absurd does
-follows-waits f (to_publish r key height ∷ below) (took.Publish i k h) next (is, same_key, same_height, e) waits = now e waits
-follows-waits f (to_publish r key height ∷ below) step next does waits = absurd does
-follows-waits f (to_release r key height ∷ below) (took.Release i) next (is, e) waits = now e (give-waits r key height below waits)
-follows-waits f (to_release r key height ∷ below) step next does waits = absurd does
-follows-waits f (to_fail fault back ∷ below) took.Fail next e waits = now e tt
-follows-waits f (to_fail fault back ∷ below) step next does waits = absurd does
-follows-waits f [] step next does waits = absurd does
+follows-waits f (to_start r place ∷ below) (Took.Claim i (Ok Claim.Claimed)) next (is, e) waits = now e waits
+follows-waits f (to_start r place ∷ []) (Took.Claim i (Ok (Claim.Known key height))) next (is, e) waits = now e tt
+follows-waits f (to_start r place ∷ x ∷ below) (Took.Claim i (Ok (Claim.Known key height))) next (is, e) waits = now e (give-waits r key height (x ∷ below) waits)
+follows-waits f (to_start r place ∷ below) (Took.Claim i (Ok Claim.Waiting)) next (is, e) waits = now e waits
+follows-waits f (to_start r place ∷ below) (Took.Claim i (Ok Claim.AlreadyFailed)) next (is, e) waits = now e tt
+follows-waits f (to_start r place ∷ below) (Took.Claim i (Err x)) next (is, e) waits = now e tt
+follows-waits f (to_pin r place ∷ below) (Took.Pin i (Ok (PinStep.Held k))) next (is, (through, e)) waits = now e waits
+follows-waits f (to_pin r place ∷ below) (Took.Pin i (Ok (PinStep.LoadBegun l))) next (is, (through, e)) waits = now e waits
+follows-waits f (to_pin r place ∷ below) (Took.Pin i (Err x)) next (is, e) waits = now e tt
+follows-waits f (to_load r place through reading ∷ below) (Took.Pin i (Ok PinStep.LoadWent)) next (is, (frames, e)) waits = now e waits
+follows-waits f (to_load r place through reading ∷ below) (Took.Pin i (Ok (PinStep.Held k))) next (is, e) waits = now e waits
+follows-waits f (to_load r place through reading ∷ below) (Took.Pin i (Err x)) next (is, e) waits = now e tt
+follows-waits f (to_write r place through ∷ below) (Took.Write i (Ok out)) next (is, e) waits = now e
+    (settle-waits (to_finish (record { reference = r; place = place; through = through; written = f out; keys = []; height = 0 }) ∷ below) waits)
+follows-waits f (to_write r place through ∷ below) (Took.Write i (Err x)) next (is, e) waits = now e tt
+follows-waits f (to_finish o ∷ below) (Took.Store (Some i) (Ok key)) next (is, e) waits = now e waits
+follows-waits f (to_finish o ∷ below) (Took.Store (Some i) (Err x)) next (is, e) waits = now e tt
+follows-waits f (to_item written keys ∷ below) (Took.Store None (Ok key)) next e waits = now e tt
+follows-waits f (to_item written keys ∷ below) (Took.Store None (Err x)) next e waits = now e tt
+follows-waits f (to_set r through key height ∷ below) (Took.SetKey i (Ok u)) next (is, e) waits = now e waits
+follows-waits f (to_set r through key height ∷ below) (Took.SetKey i (Err x)) next (is, e) waits = now e tt
+follows-waits f (to_publish r key height ∷ below) (Took.Publish i k h) next (is, same_key, same_height, e) waits = now e waits
+follows-waits f (to_release r key height ∷ below) (Took.Release i) next (is, e) waits = now e (give-waits r key height below waits)
+follows-waits f (to_fail fault back ∷ below) Took.Fail next e waits = now e tt
+follows-waits f _ step next does waits = absurd does
 
 first-waits : (task : Task) → BelowWaits (first_todo task)
 unfolding AllWait
@@ -124,20 +103,21 @@ module _ {N B W : Type 0} (m : Seen N B W) (u u' : World) (waits : AllBelowWait 
   ]
 
   pub event-waits : (event : Event N B W) (reply : EventReply N B W) → Happens m u event reply u' → AllBelowWait u'
-  event-waits (events.Call call) (answers.CallReply r) h = same h.work.walkings
-  event-waits (events.LoadStart k) (answers.Started r) h = same h.work.walkings
-  event-waits (events.LoadKey key t) (answers.Started r) h = same h.work.walkings
-  event-waits (events.LoadStep l) (answers.LoadMoved (Ok reply)) h = same h.moves.work.walkings
-  event-waits (events.LoadStep l) (answers.LoadMoved (Err e)) h = same h.refused.1.work.walkings
-  event-waits events.TableNew (answers.TableMade (Ok t)) h = same h.made.3.same_walkings
-  event-waits events.TableNew (answers.TableMade (Err e)) h = same h.refused.1.work.walkings
-  event-waits (events.WorkerItem t item) (answers.WorkerMade (Ok v)) h = but v.0 (new_walking t _) h.starts.work.same_walkings (first-waits (of_item (m.written_of item)))
-  event-waits (events.WorkerItem t item) (answers.WorkerMade (Err e)) h = same h.refused.1.work.walkings
-  event-waits (events.WorkerListed t i) (answers.WorkerMade (Ok v)) h = but v.0 (new_walking t _) h.starts.5.work.same_walkings (first-waits (entry_task h.starts.0 h.starts.1 h.starts.2))
-  event-waits (events.WorkerListed t i) (answers.WorkerMade (Err e)) h = same h.refused.1.work.walkings
-  event-waits (events.WorkerStep v) (answers.WorkerMoved (Ok reply)) h =
+  event-waits (Event.Call call) (EventReply.CallReply r) h = same h.work.walkings
+  event-waits (Event.LoadStart k) (EventReply.Started r) h = same h.work.walkings
+  event-waits (Event.LoadKey key t) (EventReply.Started r) h = same h.work.walkings
+  event-waits (Event.LoadStep l) (EventReply.LoadMoved (Ok reply)) h = same h.moves.work.walkings
+  event-waits (Event.LoadStep l) (EventReply.LoadMoved (Err e)) h = same h.refused.1.work.walkings
+  event-waits Event.TableNew (EventReply.TableMade (Ok t)) h = same h.made.3.same_walkings
+  event-waits Event.TableNew (EventReply.TableMade (Err e)) h = same h.refused.1.work.walkings
+  event-waits (Event.WorkerItem t item) (EventReply.WorkerMade (Ok v)) h = but v.0 (new_walking t _) h.starts.work.same_walkings (first-waits (of_item (m.written_of item)))
+  event-waits (Event.WorkerItem t item) (EventReply.WorkerMade (Err e)) h = same h.refused.1.work.walkings
+  event-waits (Event.WorkerListed t i) (EventReply.WorkerMade (Ok v)) h = but v.0 (new_walking t _) h.starts.5.work.same_walkings (first-waits (entry_task h.starts.0 h.starts.1 h.starts.2))
+  event-waits (Event.WorkerListed t i) (EventReply.WorkerMade (Err e)) h = same h.refused.1.work.walkings
+  event-waits (Event.WorkerStep v) (EventReply.WorkerMoved (Ok reply)) h =
       let s = h.moves in
       but v.0 (record s.walking { todo = s.after.todo; steps = reply.steps; answer = reply.answer }) s.work.same_walkings
-      (follows-waits m.written_of s.walking.todo reply.took s.after.todo (steps_follow m v.0 (record { core = u.core; shelf = u.work.shelves s.walking.table; todo = s.walking.todo }) s.after reply.took s.does) (waits v.0 s.walking s.at))
-  event-waits (events.WorkerStep v) (answers.WorkerMoved (Err e)) h = same h.refused.2.work.walkings
+      (follows-waits m.written_of s.walking.todo reply.took s.after.todo
+      (steps_follow m v.0 (record { core = u.core; shelf = u.work.shelves s.walking.table; todo = s.walking.todo }) s.after reply.took s.does) (waits v.0 s.walking s.at))
+  event-waits (Event.WorkerStep v) (EventReply.WorkerMoved (Err e)) h = same h.refused.2.work.walkings
   event-waits event reply h = absurd h

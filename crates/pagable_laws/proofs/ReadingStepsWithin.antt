@@ -1,25 +1,9 @@
 -- Each step of a load of the caller's is within its bound, and one that is open has a step left, along every chain.
-use Rattle.std.proofs.Common.{◌≡◌, ℕ, ◌+◌, ◌*◌, ◌≤◌, ◌⊎◌, List, [], ◌∷◌, Ok, refl, sym, ap, subst, ◌∙◌, inl, inr, arith}
-use Rattle.std.specs.Prelude.{Option, Some, None, IsSome}
-use Rattle.pagable_world.specs.Plain.{Blob, Types, LoadNumber}
-use Rattle.pagable_world.specs.declared.calls.Call.TheVariants as calls
-use Rattle.pagable_world.specs.declared.calls.Reply.TheVariants as replies
-use Rattle.pagable_world.specs.declared.handles.Owner.TheVariants as owners
-use Rattle.pagable_world.specs.declared.events.Event.{Event}
-use Rattle.pagable_world.specs.declared.events.Event.TheVariants as events
-use Rattle.pagable_world.specs.declared.events.EventReply.{EventReply}
-use Rattle.pagable_world.specs.declared.events.EventReply.TheVariants as answers
-use Rattle.pagable_world.specs.declared.events.LoadReply.{LoadReply}
-use Rattle.pagable_world.specs.World.{Core, OpenLoad, Reading, Frame, World, Values, Seen, one_more}
-use Rattle.pagable_world.specs.Loads.{gone_on}
-use Rattle.pagable_world.specs.Calls.{CloseCall}
-use Rattle.pagable_world.specs.Events.{Happens, LoadSteps}
-use Rattle.pagable_world.specs.Pager.{MachineState, world_of, IsReadingOf, of_caller, of_worker, IsMachineWhole, IsIdle}
-use Rattle.pagable_world.specs.Runs.{KeepsOpen, Moment, AreMoments, state_after}
-use Rattle.pagable_world.specs.Order.{Unfolds, unfolds, HasStepLeft, IsWithinBound}
-use Rattle.pagable_world.specs.Headline.{StepIsWithin, StepsAreWithin, LoadsHaveStepsLeft}
-use Rattle.pagable_laws.specs.ReadLaws.{KeepsStored}
-use Rattle.pagable_laws.specs.TreeSteps.{Change, IsFresh, KeepsReadings, ReadingFeels, EventFeels, by-call, by-reading, by-key, by-nothing}
+use Rattle.pagable_laws.proofs.Words.{◌≡◌, ℕ, ◌+◌, ◌*◌, ◌≤◌, ◌⊎◌, List, [], ◌∷◌, Ok, refl, sym, ap, subst, ◌∙◌, inl, inr, arith, Option, Some, None, IsSome, Blob, Types, LoadNumber, Call, Reply}
+use Rattle.pagable_laws.proofs.Words.{Owner, Event, EventReply, LoadReply, Core, OpenLoad, Reading, Frame, World, Values, Seen, one_more, gone_on, CloseCall, Happens, LoadSteps, MachineState}
+use Rattle.pagable_laws.proofs.Words.{world_of, IsReadingOf, of_caller, of_worker, IsMachineWhole, IsIdle, KeepsOpen, Moment, AreMoments, state_after, Unfolds, unfolds, HasStepLeft}
+use Rattle.pagable_laws.proofs.Words.{IsWithinBound, StepIsWithin, StepsAreWithin, LoadsHaveStepsLeft, KeepsStored, Change, IsFresh, KeepsReadings, ReadingFeels, EventFeels, by-call, by-reading}
+use Rattle.pagable_laws.proofs.Words.{by-key, by-nothing}
 use Rattle.pagable_laws.proofs.Trees.{same_some}
 use Rattle.pagable_laws.proofs.Goes.{IsShut, Goes}
 use Rattle.pagable_laws.proofs.EventSteps.{EventGoes, event-goes}
@@ -32,7 +16,8 @@ use Rattle.pagable_laws.proofs.ReadingStepsBound.{Owes, owes-first, owes-some, o
 
 -- its steps so far, with those that it still needs, are within the bound, whatever is stored yet
 abbrev pub Bounded : Types → (ℕ → Option Blob) → ℕ → Reading → Type 0
-Bounded types store key reading = (more : ℕ → Option Blob) → KeepsStored store more → (many longest : ℕ) → Unfolds types more reading.node_type key many longest → (owed : ℕ) × Owes types more many reading.frames owed × (reading.steps + owed ≤ 2 * many + 2)
+Bounded types store key reading = (more : ℕ → Option Blob) → KeepsStored store more → (many longest : ℕ) → Unfolds types more reading.node_type key many longest
+    → (owed : ℕ) × Owes types more many reading.frames owed × (reading.steps + owed ≤ 2 * many + 2)
 
 bounded-on : {types : Types} {store later : ℕ → Option Blob} {key : ℕ} (reading : Reading) → KeepsStored store later → Bounded types store key reading → Bounded types later key reading
 bounded-on reading kept b more after many longest under = b more (λ q x is. after q x (kept q x is)) many longest under
@@ -43,7 +28,8 @@ bounded-new types store key reading none no_steps more kept many longest under =
 few-more : (n : ℕ) → one_more n ≤ n + 1
 few-more n = omega arith
 
-bounded-step : {N : Type 0} {v : Values N} {w w' : Core} {c : Change} (reading : Reading) (load : OpenLoad) (frames : List Frame) → w.loads reading.load.0 ≡ Some load → Bounded v.types w.stored load.key reading → ReadingFeels v w reading None frames w' c → Bounded v.types w.stored load.key (gone_on reading frames)
+bounded-step : {N : Type 0} {v : Values N} {w w' : Core} {c : Change} (reading : Reading) (load : OpenLoad) (frames : List Frame) → w.loads reading.load.0 ≡ Some load
+    → Bounded v.types w.stored load.key reading → ReadingFeels v w reading None frames w' c → Bounded v.types w.stored load.key (gone_on reading frames)
 bounded-step reading load frames open_load b feels more kept many longest under =
     let o = b more kept many longest under in
     let l = owes-less more kept reading load frames many longest o.0 open_load under o.1 feels in
@@ -63,7 +49,8 @@ ended-some : {X : Type 0} (answer : Option X) → (answer ≡ None → ⊥) → 
 ended-some None none = absurd (none refl)
 ended-some (Some x) none = refl
 
-is-within : {N : Type 0} {types : Types} {store : ℕ → Option Blob} {key : ℕ} (reading : Reading) (frames : List Frame) (reply : LoadReply N) → Bounded types store key reading → (reply.ended ≡ None → Bounded types store key (gone_on reading frames)) → reply.steps ≡ one_more reading.steps
+is-within : {N : Type 0} {types : Types} {store : ℕ → Option Blob} {key : ℕ} (reading : Reading) (frames : List Frame) (reply : LoadReply N) → Bounded types store key reading
+    → (reply.ended ≡ None → Bounded types store key (gone_on reading frames)) → reply.steps ≡ one_more reading.steps
     → IsWithinBound types store reading.node_type key reply
 is-within {types = types} {store} {key} reading frames reply b after counts many longest under =
     let o = b store (λ q x is. is) many longest under in
@@ -85,7 +72,8 @@ nothing-unfolds none (unfolds t key many longest blob there from) = let e = none
 
 -- each load, of the caller's or of a worker's, was given its number and is bounded
 abbrev AllBounded : Types → World → Type 0
-AllBounded types u = (reading : Reading) → IsReadingOf u.work reading → (reading.load.0 ≤ u.core.last.load) × ((load : OpenLoad) → u.core.loads reading.load.0 ≡ Some load → Bounded types u.core.stored load.key reading)
+AllBounded types u = (reading : Reading) → IsReadingOf u.work reading
+    → (reading.load.0 ≤ u.core.last.load) × ((load : OpenLoad) → u.core.loads reading.load.0 ≡ Some load → Bounded types u.core.stored load.key reading)
 
 -- so it is, or nothing is stored any more
 abbrev LoadsStand : Types → World → Type 0
@@ -94,8 +82,8 @@ LoadsStand types u = AllBelowWait u × (IsShut u.core ⊎ AllBounded types u)
 closed-shut : {w w' : Core} {r : _} → CloseCall w r w' → IsShut w'
 closed-shut c = (c.falls.falls.leaves.closed, c.falls.falls.leaves.stored)
 
-keeps-open : {N B W : Type 0} (event : Event N B W) → KeepsOpen event ⊎ (event ≡ events.Call calls.Close)
-keeps-open (events.Call calls.Close) = inr refl
+keeps-open : {N B W : Type 0} (event : Event N B W) → KeepsOpen event ⊎ (event ≡ Event.Call Call.Close)
+keeps-open (Event.Call Call.Close) = inr refl
 keeps-open event = inl tt
 
 module _ {N E B W : Type 0} (m : Seen N B W) (s s' : MachineState N E) (whole : IsMachineWhole m.values s) where
@@ -110,7 +98,8 @@ module _ {N E B W : Type 0} (m : Seen N B W) (s s' : MachineState N E) (whole : 
   were-open goes q load few is = elim (goes.loads q load is) [ inl same ↦ same | inr new ↦ absurd (let above = new.0 in omega (arith, few, above)) ]
 
   module _ {c : Change} (goes : Goes c u.core u'.core) (all : AllBounded m.values.types u) where
-    old-bounded : (reading : Reading) → IsReadingOf u.work reading → (reading.load.0 ≤ u'.core.last.load) × ((load : OpenLoad) → u'.core.loads reading.load.0 ≡ Some load → Bounded m.values.types u'.core.stored load.key reading)
+    old-bounded : (reading : Reading) → IsReadingOf u.work reading
+        → (reading.load.0 ≤ u'.core.last.load) × ((load : OpenLoad) → u'.core.loads reading.load.0 ≡ Some load → Bounded m.values.types u'.core.stored load.key reading)
     old-bounded reading is =
         let b = all reading is in
         let few = b.0 in
@@ -166,7 +155,7 @@ module _ {N E B W : Type 0} (m : Seen N B W) (s s' : MachineState N E) (whole : 
 
     now-bounded : reply.ended ≡ None → Bounded m.values.types u.core.stored load.key (gone_on x.reading x.frames)
     now-bounded none =
-        let felt = reading-feels m u.core owners.Caller caller-free u'.core x.reading reply.ended x.frames x.does in
+        let felt = reading-feels m u.core Owner.Caller caller-free u'.core x.reading reply.ended x.frames x.does in
         let feels = subst (λ a. ReadingFeels m.values u.core x.reading a x.frames u'.core felt.change) none (felt.feels whole.pager.whole.handles) in
         bounded-step x.reading load x.frames (ap u.core.loads number-is ∙ open_load) was-bounded feels
 
@@ -179,9 +168,9 @@ module _ {N E B W : Type 0} (m : Seen N B W) (s s' : MachineState N E) (whole : 
     ],
   )
     where
-      shut-by : (r : EventReply N B W) → Happens m u (let e : Event N B W = events.Call calls.Close in e) r u' → IsShut u'.core
-      shut-by (answers.CallReply (replies.Done r)) c = closed-shut c.step.does
-      shut-by (answers.CallReply r) c = absurd c.step.does
+      shut-by : (r : EventReply N B W) → Happens m u (let e : Event N B W = Event.Call Call.Close in e) r u' → IsShut u'.core
+      shut-by (EventReply.CallReply (Reply.Done r)) c = closed-shut c.step.does
+      shut-by (EventReply.CallReply r) c = absurd c.step.does
       shut-by r c = absurd c
 
       on : EventGoes m u event reply u' → IsShut u.core ⊎ AllBounded m.values.types u → IsShut u'.core ⊎ AllBounded m.values.types u'
@@ -189,8 +178,8 @@ module _ {N E B W : Type 0} (m : Seen N B W) (s s' : MachineState N E) (whole : 
       on g (inr all) = inr (all-on event reply g.goes all (g.feels whole.pager.whole (λ n walking is. waits-well walking.todo (waits n walking is))))
 
   step-within : LoadsStand m.values.types u → (event : Event N B W) (reply : EventReply N B W) → Happens m u event reply u' → StepIsWithin m.values s event reply
-  step-within (waits, inl shut) (events.LoadStep l) (answers.LoadMoved (Ok reply)) h = λ reading load at open_load many longest under. absurd (nothing-unfolds shut.1 under)
-  step-within (waits, inr all) (events.LoadStep l) (answers.LoadMoved (Ok reply)) h = λ reading load at open_load.
+  step-within (waits, inl shut) (Event.LoadStep l) (EventReply.LoadMoved (Ok reply)) h = λ reading load at open_load many longest under. absurd (nothing-unfolds shut.1 under)
+  step-within (waits, inr all) (Event.LoadStep l) (EventReply.LoadMoved (Ok reply)) h = λ reading load at open_load.
       let same : h.moves.reading ≡ reading = same_some _ _ (sym h.moves.at ∙ at) in
       subst (λ (r : Reading). IsWithinBound m.values.types u.core.stored r.node_type load.key reply) same
       (is-within h.moves.reading h.moves.frames reply (was-bounded all h.moves load open_load) (now-bounded all h.moves load open_load) h.moves.counts)
@@ -225,4 +214,5 @@ module _ {N E B W : Type 0} (m : Seen N B W) where
 -- of a chain from where nobody works: each step of a load is within its bound, and an open load has a step left
 pub loads-bounded : {N E B W : Type 0} (m : Seen N B W) (start : MachineState N E) (moments : List (Moment N E B W)) → IsMachineWhole m.values start → IsIdle start → AreMoments m start moments
     → StepsAreWithin m.values start moments × LoadsHaveStepsLeft m.values (world_of (state_after start moments))
-loads-bounded m start moments whole idle chain = let a = along m start moments chain (record { whole = whole; stands = idle-stands m start idle }) in (a.0, steps-left m (state_after start moments) a.1.stands)
+loads-bounded m start moments whole idle chain = let a = along m start moments chain (record { whole = whole; stands = idle-stands m start idle }) in
+    (a.0, steps-left m (state_after start moments) a.1.stands)

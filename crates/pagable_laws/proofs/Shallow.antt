@@ -1,18 +1,9 @@
 -- Where heights are low, no path from a tree whose key is known is too long.
-use Rattle.std.proofs.Common.{◌≡◌, ℕ, ◌+◌, ◌<◌, ◌≤◌, Bool, true, false, List, [], ◌∷◌, if◌then◌else◌, refl, sym, subst, ◌∙◌, arith}
-use Rattle.std.specs.Prelude.{max, Some, None, Ok, Err}
-use Rattle.pagable_model.specs.Meaning.{number, integer, text, pattern, none, pair, variant, reference, followed}
-use Rattle.pagable_model.specs.Deep.{is_eager, longest_path, above, height, deepest_path}
-use Rattle.pagable_world.specs.Plain.{ArcRef, Identity, Meaning, Tree}
-use Rattle.pagable_world.specs.declared.events.Took.TheVariants as took
-use Rattle.pagable_world.specs.declared.events.Took.{Took}
-use Rattle.pagable_world.specs.declared.events.WorkerAnswer.TheVariants as finals
-use Rattle.pagable_world.specs.Kinds.{identity_of}
-use Rattle.pagable_world.specs.World.{Shelf, Fault, was_refused, was_failed, Todo, to_item, to_release, to_fail, Task, of_item, of_entry, Values, Seen}
-use Rattle.pagable_world.specs.Workers.{Site, Does, IsPublished, answer_after}
-use Rattle.pagable_world.specs.Pager.{MachineState, world_of}
-use Rattle.pagable_world.specs.OneWorker.{IsLongBelow, IsTooDeepTask}
-use Rattle.pagable_laws.specs.PageOutLaws.{Ground, FollowsTo, pair-follows, variant-follows, reference-follows, Waits, Walks, IsOfEntry, WorkFits}
+use Rattle.pagable_laws.proofs.Words.{◌≡◌, ℕ, ◌+◌, ◌<◌, ◌≤◌, Bool, true, false, List, [], ◌∷◌, if◌then◌else◌, refl, sym, subst, ◌∙◌, arith, max, Some, None, Ok, Err}
+use Rattle.pagable_laws.proofs.Words.{pair, variant, reference, followed, is_eager, longest_path, above, height, deepest_path, ArcRef, Identity, Meaning, Tree, Took, WorkerAnswer}
+use Rattle.pagable_laws.proofs.Words.{identity_of, Shelf, Fault, was_refused, was_failed, Todo, to_item, to_release, to_fail, Task, of_item, of_entry, Values, Seen, Site, Does, IsPublished}
+use Rattle.pagable_laws.proofs.Words.{answer_after, MachineState, world_of, IsLongBelow, IsTooDeepTask, Ground, FollowsTo, pair-follows, variant-follows, reference-follows, Waits, Walks}
+use Rattle.pagable_laws.proofs.Words.{IsOfEntry, WorkFits}
 use Rattle.pagable_laws.proofs.Heights.{IsLow, AllLow, WaitsLow, TodoLow, all-low}
 use Rattle.pagable_laws.proofs.HeightSteps.{HeightsIn}
 
@@ -41,11 +32,6 @@ module _ {N E : Type 0} (v : Values N) (s : MachineState N E) (trees : ℕ → T
   shallow : (limit : ℕ) (rs : List ArcRef) → limit ≤ longest_path → AllLow shelf limit rs → {own : Meaning ArcRef} {n : Meaning ⊥} → FollowsTo trees rs own n → (m : Meaning ⊥) → n ≡ m
       → IsShallow limit m
   unfolding height deepest_path
-  shallow limit rs le lows follows (number i) e = record { top = omega arith; deepest = omega arith }
-  shallow limit rs le lows follows (integer z) e = record { top = omega arith; deepest = omega arith }
-  shallow limit rs le lows follows (text x) e = record { top = omega arith; deepest = omega arith }
-  shallow limit rs le lows follows (pattern x) e = record { top = omega arith; deepest = omega arith }
-  shallow limit rs le lows follows none e = record { top = omega arith; deepest = omega arith }
   shallow limit rs le lows follows (reference a) e = absurd a
   shallow limit rs le lows (pair-follows x y a b h g) (pair c d) e =
       let p = shallow limit rs le lows h c (cc) in
@@ -71,6 +57,7 @@ module _ {N E : Type 0} (v : Values N) (s : MachineState N E) (trees : ℕ → T
       less : {a b c : ℕ} → a ≤ b → b ≤ c → a ≤ c
       less le more = omega arith
   shallow limit rs le lows follows (followed kind c) e = absurd (cc)
+  shallow limit rs le lows follows _ e = record { top = omega arith; deepest = omega arith }
 
   -- so is the tree of an identity whose key is known
   shallow-tree : (i : Identity) (key h : ℕ) → IsPublished shelf i key h → IsShallow h (trees i.node.0).meaning
@@ -103,20 +90,20 @@ module _ {N E : Type 0} (v : Values N) (s : MachineState N E) (trees : ℕ → T
 
 module _ {N B W : Type 0} (m : Seen N B W) (n : ℕ) (g : Ground) (task : Task) (s s' : Site) where
   pub answered-low : (todo : List Todo) (step : Took W) → Does m n s todo step s' → Walks m.values g s.shelf task todo → TodoLow s.shelf todo → (key : ℕ)
-      → answer_after todo step ≡ Some (finals.Key key) → TaskLow s.shelf task
+      → answer_after todo step ≡ Some (WorkerAnswer.Key key) → TaskLow s.shelf task
   unfolding WaitsLow Waits
-  answered-low (to_item written ks ∷ below) (took.Store i (Ok k)) (is, p) (of_it, known) low key e =
+  answered-low (to_item written ks ∷ below) (Took.Store i (Ok k)) (is, p) (of_it, known) low key e =
       subst (λ t. TaskLow s.shelf t) (sym of_it) (all-low s.shelf longest_path written.references ks p.all low)
-  answered-low (to_item written ks ∷ below) (took.Store i (Err f)) does walks low key e = absurd (cc)
+  answered-low (to_item written ks ∷ below) (Took.Store i (Err f)) does walks low key e = absurd (cc)
   answered-low (to_item written ks ∷ below) step does walks low key e = absurd does
   answered-low (to_release r k h ∷ []) step does (p, (expects, waits)) low key e = of-entry task expects
     where
       of-entry : (task : Task) → IsOfEntry task r → TaskLow s.shelf task
       of-entry (of_entry q i) at = (k, (h, subst (λ j. IsPublished s.shelf j k h) at p))
       of-entry (of_item written) at = absurd at
-  answered-low (to_fail fault back ∷ below) took.Fail does walks low key e = absurd (is-fault fault e)
+  answered-low (to_fail fault back ∷ below) Took.Fail does walks low key e = absurd (is-fault fault e)
     where
-      is-fault : (fault : Fault) → answer_after {W = W} (to_fail fault None ∷ []) took.Fail ≡ Some (finals.Key key) → ⊥
+      is-fault : (fault : Fault) → answer_after {W = W} (to_fail fault None ∷ []) Took.Fail ≡ Some (WorkerAnswer.Key key) → ⊥
       is-fault (was_refused f) is = cc
       is-fault was_failed is = cc
   answered-low (to_fail fault back ∷ below) step does walks low key e = absurd does

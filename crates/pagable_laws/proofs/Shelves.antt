@@ -1,14 +1,10 @@
 -- What tables and to-do lists hold of trees goes on as long as what is stored and each node's tree stay; and what a change of a table comes to.
-use Rattle.std.proofs.Common.{◌≡◌, ℕ, ◌≤◌, Bool, true, false, List, [], ◌∷◌, inl, inr, Option, Some, None, if◌then◌else◌, refl, sym, ap, subst, ◌∙◌, arith}
-use Rattle.std.specs.Prelude.{nat_eq}
-use Rattle.pagable_model.specs.Trees.{KeyRef, IsFollowed, number-followed, integer-followed, text-followed, pattern-followed, none-followed, pair-followed, variant-followed, reference-followed}
-use Rattle.pagable_model.specs.Merkle.{StoredAs}
-use Rattle.pagable_world.specs.Plain.{ArcRef, Identity, Blob, Meaning, Tree, Among, if_there}
-use Rattle.pagable_world.specs.Kinds.{identity_of}
-use Rattle.pagable_world.specs.World.{Shelf, Slot, published, failed, Written, Todo, to_start, to_pin, to_load, to_write, to_finish, to_item, to_set, to_publish, to_release, to_fail, Task, Values}
-use Rattle.pagable_world.specs.Workers.{IsPublished, is_open_outcome, with_outcome, with_failed}
-use Rattle.pagable_world.specs.Headline.{AreKeysOf}
-use Rattle.pagable_laws.specs.PageOutLaws.{Ground, FollowsTo, number-follows, integer-follows, text-follows, pattern-follows, none-follows, pair-follows, variant-follows, reference-follows, WroteTree, KeyStands, BlobStands, SlotFits, KeysSoFar, Waits, Above, HasBlob, Walks, SlotsFit}
+use Rattle.pagable_laws.proofs.Words.{◌≡◌, ℕ, ◌≤◌, Bool, true, false, List, [], ◌∷◌, inl, inr, Option, Some, None, if◌then◌else◌, refl, sym, ap, subst, ◌∙◌, arith, nat_eq, KeyRef, IsFollowed}
+use Rattle.pagable_laws.proofs.Words.{number-followed, integer-followed, text-followed, pattern-followed, none-followed, pair-followed, variant-followed, reference-followed, StoredAs, ArcRef}
+use Rattle.pagable_laws.proofs.Words.{Identity, Blob, Meaning, Tree, Among, if_there, identity_of, Shelf, Slot, published, failed, Written, Todo, to_start, to_pin, to_load, to_write, to_finish}
+use Rattle.pagable_laws.proofs.Words.{to_item, to_set, to_publish, to_release, to_fail, Task, Values, IsPublished, is_open_outcome, with_outcome, with_failed, AreKeysOf, Ground, FollowsTo}
+use Rattle.pagable_laws.proofs.Words.{number-follows, integer-follows, text-follows, pattern-follows, none-follows, pair-follows, variant-follows, reference-follows, WroteTree, KeyStands}
+use Rattle.pagable_laws.proofs.Words.{BlobStands, SlotFits, KeysSoFar, Waits, Above, HasBlob, Walks, SlotsFit}
 use Rattle.pagable_laws.proofs.Changing.{ShelfGrows, some-same, published-stays, PutsSlot, put-cases}
 
 -- ---- what is stored stays, and each node keeps its tree
@@ -32,7 +28,8 @@ followed-on to (pair-followed x y a b h g) = pair-followed x y a b (followed-on 
 followed-on to (variant-followed n x a h) = variant-followed n x a (followed-on to h)
 followed-on to (reference-followed r x a p h) = reference-followed r x a (to _ _ x p) (followed-on to h)
 
-follows-on : {trees trees' : ℕ → Tree} {rs : List ArcRef} → ((r : ArcRef) → Among rs r → trees' r.node.0 ≡ trees r.node.0) → {x : Meaning ArcRef} {a : Meaning ⊥} → FollowsTo trees rs x a → FollowsTo trees' rs x a
+follows-on : {trees trees' : ℕ → Tree} {rs : List ArcRef} → ((r : ArcRef) → Among rs r → trees' r.node.0 ≡ trees r.node.0) → {x : Meaning ArcRef} {a : Meaning ⊥}
+    → FollowsTo trees rs x a → FollowsTo trees' rs x a
 follows-on same (number-follows i) = number-follows i
 follows-on same (integer-follows z) = integer-follows z
 follows-on same (text-follows t) = text-follows t
@@ -58,7 +55,8 @@ module _ {shelf shelf' : Shelf} (keys : KeepsKeys shelf shelf') where
 module _ {N : Type 0} (v : Values N) {g g' : Ground} (goes : GroundGoes g g') where
   stands-on : {t : Tree} {key : ℕ} → KeyStands v g.stored t key → KeyStands v g'.stored t key
   stands-on {t} {key} h =
-      let to : (type k : ℕ) (m : Meaning KeyRef) → StoredAs g.stored v.types type k m → StoredAs g'.stored v.types type k m = λ type k m p. record { shape = p.shape; is = p.is; bytes = p.bytes; refs = p.refs; form = p.form; stored = goes.kept k _ p.stored } in
+      let to : (type k : ℕ) (m : Meaning KeyRef) → StoredAs g.stored v.types type k m
+      → StoredAs g'.stored v.types type k m = λ type k m p. record { shape = p.shape; is = p.is; bytes = p.bytes; refs = p.refs; form = p.form; stored = goes.kept k _ p.stored } in
       record { is_key = h.is_key; stands = record { own = h.stands.own; stands = to t.type key h.stands.own h.stands.stands; follows = followed-on to h.stands.follows } }
 
   pub wrote-on : {n : ℕ} {written : Written} → n ≤ g.last → WroteTree v.types g n written → WroteTree v.types g' n written

@@ -1,25 +1,11 @@
 -- Why a load is refused whose key a page-out has published: by chance, or by a handle.
-use Rattle.std.proofs.Common.{◌≡◌, ℕ, ◌≤◌, ◌==◌, Bool, true, false, List, [], ◌∷◌, length, ◌⊎◌, inl, inr, Option, Some, None, Err, refl, sym, ap, subst, ◌∙◌, if◌then◌else◌, arith}
-use Rattle.std.specs.Prelude.{Result, not, nat_lt, nat_le}
-use Rattle.pagable_model.specs.Refusals.{is_own_reading}
-use Rattle.pagable_model.specs.Stored.{RefusesFetch}
-use Rattle.pagable_model.specs.declared.error.Error.TheVariants as errors
-use Rattle.pagable_world.specs.declared.calls.Want.{Want}
-use Rattle.pagable_world.specs.declared.calls.Want.TheVariants as wants
-use Rattle.pagable_world.specs.declared.handles.Owner.TheVariants as owners
-use Rattle.pagable_world.specs.Plain.{Error, Kind, HandleNumber, LoadNumber, NodeNumber, Blob, Tree, Types, type_of, is_eager, is_loose_kind, longest_path, if_there}
-use Rattle.pagable_world.specs.Kinds.{any_mode}
-use Rattle.pagable_world.specs.World.{Core, OpenLoad, of_cell, Frame, Reading, Seen, Values, IsLawful}
-use Rattle.pagable_world.specs.Refusals.{rank, earlier, where_so, refused_if, spent, handle_fault, references_fault, load_fault, AreHandlesFull, Refused}
-use Rattle.pagable_world.specs.Calls.{FetchCall, birth_fault, is_usable}
-use Rattle.pagable_world.specs.LoadCalls.{AskCall, LazyCall, ask_fault, is_known, node_fault, root_fault, is_owned_in}
-use Rattle.pagable_world.specs.Loads.{Next, reads, asks, is_faulty, need_of, needs_nested, needs_lazy, to_adopt, need_at, next_in, is_broken, IsDecoded, RefusesBlob, RefusesNested, RefusesNode, RefusesRoot, IsOfKey, EndsClosed, Fails}
-use Rattle.pagable_world.specs.Workers.{fresh}
-use Rattle.pagable_world.specs.Events.{reading_at, reading_of_load, reading_of_root}
-use Rattle.pagable_world.specs.Pager.{MachineState, world_of, IsMachineWhole, StandsFor, FitsRoot, FramesFit, of_caller}
-use Rattle.pagable_world.specs.Runs.{ReadsItsTypes}
-use Rattle.pagable_world.specs.OneWorker.{IsOfChance, IsPagedOutAs, IsLoadOfPagedOut}
-use Rattle.pagable_laws.specs.PageOutLaws.{WorkFits}
+use Rattle.pagable_laws.proofs.Words.{◌≡◌, ℕ, ◌≤◌, ◌==◌, Bool, true, false, List, [], ◌∷◌, length, ◌⊎◌, inl, inr, Option, Some, None, Err, refl, sym, ap, subst, ◌∙◌, if◌then◌else◌, arith, Result}
+use Rattle.pagable_laws.proofs.Words.{not, nat_lt, nat_le, is_own_reading, RefusesFetch, Error, Want, Owner, Kind, HandleNumber, LoadNumber, NodeNumber, Blob, Tree, Types, type_of, is_eager}
+use Rattle.pagable_laws.proofs.Words.{is_loose_kind, longest_path, if_there, any_mode, Core, OpenLoad, of_cell, Frame, Reading, Seen, Values, IsLawful, rank, earlier, where_so, refused_if, spent}
+use Rattle.pagable_laws.proofs.Words.{handle_fault, references_fault, load_fault, AreHandlesFull, Refused, FetchCall, birth_fault, is_usable, AskCall, LazyCall, ask_fault, is_known, node_fault}
+use Rattle.pagable_laws.proofs.Words.{root_fault, is_owned_in, Next, reads, asks, is_faulty, need_of, needs_nested, needs_lazy, to_adopt, need_at, next_in, is_broken, IsDecoded, RefusesBlob}
+use Rattle.pagable_laws.proofs.Words.{RefusesNested, RefusesNode, RefusesRoot, IsOfKey, EndsClosed, Fails, fresh, reading_at, reading_of_load, reading_of_root, MachineState, world_of}
+use Rattle.pagable_laws.proofs.Words.{IsMachineWhole, StandsFor, FitsRoot, FramesFit, of_caller, ReadsItsTypes, IsOfChance, IsPagedOutAs, IsLoadOfPagedOut, WorkFits}
 use Rattle.pagable_laws.proofs.Trees.{same_some}
 use Rattle.pagable_laws.proofs.Sums.{self-number}
 use Rattle.pagable_laws.proofs.Taking.{adopted-over}
@@ -40,8 +26,8 @@ either (Some x) (Some y) e is = by (nat_lt (rank y) (rank x)) is
     by true is = inr is
     by false is = inl is
 
-chance-if : (b : Bool) (e : Error) → refused_if b errors.NumbersSpent ≡ Some e → IsOfChance e
-chance-if true e is = let same : errors.NumbersSpent ≡ e = cc in subst IsOfChance same tt
+chance-if : (b : Bool) (e : Error) → refused_if b Error.NumbersSpent ≡ Some e → IsOfChance e
+chance-if true e is = let same : Error.NumbersSpent ≡ e = cc in subst IsOfChance same tt
 chance-if false e is = absurd (cc)
 
 where-chance : (b : Bool) (n : ℕ) (e : Error) → where_so b (spent n) ≡ Some e → IsOfChance e
@@ -62,19 +48,19 @@ never : (b : Bool) (f e : Error) → b ≡ false → refused_if b f ≡ Some e �
 never true f e is so = cc
 never false f e is so = cc
 
-memory-chance : (e : Error) → e ≡ errors.OutOfMemory → IsOfChance e
+memory-chance : (e : Error) → e ≡ Error.OutOfMemory → IsOfChance e
 memory-chance e is = subst IsOfChance (sym is) tt
 
 reading-chance : (e : Error) → is_own_reading e ≡ true → IsOfChance e
-reading-chance errors.RegexRefused is = tt
-reading-chance errors.OutOfMemory is = tt
-reading-chance (errors.Custom text) is = tt
+reading-chance Error.RegexRefused is = tt
+reading-chance Error.OutOfMemory is = tt
+reading-chance (Error.Custom text) is = tt
 reading-chance e is = absurd (cc)
 
 fetch-chance : (key : ℕ) (found : Option Blob) (blob : Blob) (before after : ℕ) (e : Error) → found ≡ Some blob → RefusesFetch key found before after e → IsOfChance e
-fetch-chance key found blob before after (errors.NoData k) is why = absurd (let a = why.1 in cc)
-fetch-chance key found blob before after errors.OutOfMemory is why = tt
-fetch-chance key found blob before after (errors.Storage code) is why = tt
+fetch-chance key found blob before after (Error.NoData k) is why = absurd (let a = why.1 in cc)
+fetch-chance key found blob before after Error.OutOfMemory is why = tt
+fetch-chance key found blob before after (Error.Storage code) is why = tt
 fetch-chance key found blob before after e is why = absurd why
 
 loose-not : (kind : ℕ) → is_eager kind ≡ true → is_loose_kind kind ≡ false
@@ -112,8 +98,8 @@ same-type a b is = ap (λ x. not (x == b)) is ∙ ap not (self-number b)
 pub data Cause {N : Type 0} (v : Values N) (w : Core) (load : OpenLoad) (reading : Reading) (e : Error) : Type 0 where
   by-chance : IsOfChance e → Cause v w load reading e
   by-references : (frame : Frame) (below : List Frame) (x : N) → reading.frames ≡ frame ∷ below → (decoded : IsDecoded v frame x) → IsForm v frame
-      → references_fault w (owners.Load reading.load) [] (v.references x) ≡ Some e → Cause v w load reading e
-  by-handle : (node : NodeNumber) (t : ℕ) (h : HandleNumber) → load.root ≡ of_cell node t h → handle_fault w owners.Caller h any_mode ≡ Some e → Cause v w load reading e
+      → references_fault w (Owner.Load reading.load) [] (v.references x) ≡ Some e → Cause v w load reading e
+  by-handle : (node : NodeNumber) (t : ℕ) (h : HandleNumber) → load.root ≡ of_cell node t h → handle_fault w Owner.Caller h any_mode ≡ Some e → Cause v w load reading e
 
 module _ {N B W E : Type 0} (m : Seen N B W) (s : MachineState N E) (trees : ℕ → Tree) (whole : IsMachineWhole m.values s) (stands : StandsFor m.values s trees) (lawful : IsLawful m.values)
     (readable : ReadsItsTypes m.values.types)
@@ -124,7 +110,7 @@ module _ {N B W E : Type 0} (m : Seen N B W) (s : MachineState N E) (trees : ℕ
   abbrev w : Core
   w = s.pager.core
 
-  module _ (l : LoadNumber) (reading : Reading) (load : OpenLoad) (at : reading_at (world_of s) l ≡ Some reading) (may : load_fault w owners.Caller l ≡ None)
+  module _ (l : LoadNumber) (reading : Reading) (load : OpenLoad) (at : reading_at (world_of s) l ≡ Some reading) (may : load_fault w Owner.Caller l ≡ None)
       (open_load : w.loads l.0 ≡ Some load) (paged : IsLoadOfPagedOut s load) where
     abbrev node : NodeNumber
     node = paged.0
@@ -186,8 +172,8 @@ module _ {N B W E : Type 0} (m : Seen N B W) (s : MachineState N E) (trees : ℕ
     abbrev C : Error → Type 0
     C e = Cause v w load reading e
 
-    no-load-fault : (e : Error) → load_fault w owners.Caller reading.load ≡ Some e → ⊥
-    no-load-fault e is = let f = ap (load_fault w owners.Caller) is-read.number ∙ may in cc
+    no-load-fault : (e : Error) → load_fault w Owner.Caller reading.load ≡ Some e → ⊥
+    no-load-fault e is = let f = ap (load_fault w Owner.Caller) is-read.number ∙ may in cc
 
     not-faulty : (e : Error) → need_of v.types reading.frames ≡ is_broken e → ⊥
     not-faulty = not-broken v s trees fit low readable out.t load.key reading.node_type out.i out.height out.known typed reading.frames is-read.fits is-read.asked
@@ -218,9 +204,9 @@ module _ {N B W E : Type 0} (m : Seen N B W) (s : MachineState N E) (trees : ℕ
     vain-chance want key blob mid e is f = fetch-chance key (w.stored key) blob w.failures mid.failures e is f.refused
 
     ask-chance : (want : Want) (mid : Core) (e : Error)
-        → Refused (ask_fault w owners.Caller reading.load want) (ask_fault w owners.Caller reading.load want) ((is_known w want ≡ true) × AreHandlesFull w) w e mid → IsOfChance e
+        → Refused (ask_fault w Owner.Caller reading.load want) (ask_fault w Owner.Caller reading.load want) ((is_known w want ≡ true) × AreHandlesFull w) w e mid → IsOfChance e
     ask-chance want mid e r = elim r.why [
-      | inl is ↦ elim (either (load_fault w owners.Caller reading.load) (where_so (is_known w want) (spent w.last.handle)) e is) [
+      | inl is ↦ elim (either (load_fault w Owner.Caller reading.load) (where_so (is_known w want) (spent w.last.handle)) e is) [
         | inl a ↦ absurd (no-load-fault e a)
         | inr b ↦ where-chance
             (is_known w want) w.last.handle e b
@@ -228,18 +214,18 @@ module _ {N B W E : Type 0} (m : Seen N B W) (s : MachineState N E) (trees : ℕ
       | inr memory ↦ memory-chance e memory.0
     ]
 
-    root-asked : (mid : Core) (e : Error) → AskCall w owners.Caller reading.load wants.Root (Err e) mid → IsOfChance e
+    root-asked : (mid : Core) (e : Error) → AskCall w Owner.Caller reading.load Want.Root (Err e) mid → IsOfChance e
     root-asked mid e c = elim c.refused [
-      | inl r ↦ ask-chance wants.Root mid e r
+      | inl r ↦ ask-chance Want.Root mid e r
       | inr (other, owned, vain) ↦
           let same : other ≡ load = same_some _ _ (sym owned.stands_open ∙ (ap (λ (x : LoadNumber). w.loads x.0) is-read.number ∙ open_load)) in
-          vain-chance wants.Root other.key found.0 mid e (ap (λ (x : OpenLoad). w.stored x.key) same ∙ found.1) vain
+          vain-chance Want.Root other.key found.0 mid e (ap (λ (x : OpenLoad). w.stored x.key) same ∙ found.1) vain
     ]
 
-    nested-asked : (kind : Kind) (key : ℕ) (blob : Blob) (mid : Core) (e : Error) → w.stored key ≡ Some blob → AskCall w owners.Caller reading.load (wants.Nested kind key) (Err e) mid → IsOfChance e
+    nested-asked : (kind : Kind) (key : ℕ) (blob : Blob) (mid : Core) (e : Error) → w.stored key ≡ Some blob → AskCall w Owner.Caller reading.load (Want.Nested kind key) (Err e) mid → IsOfChance e
     nested-asked kind key blob mid e is c = elim c.refused [
-      | inl r ↦ ask-chance (wants.Nested kind key) mid e r
-      | inr (other, owned, vain) ↦ vain-chance (wants.Nested kind key) key blob mid e is vain.1
+      | inl r ↦ ask-chance (Want.Nested kind key) mid e r
+      | inr (other, owned, vain) ↦ vain-chance (Want.Nested kind key) key blob mid e is vain.1
     ]
 
     -- ---- the causes
@@ -249,17 +235,17 @@ module _ {N B W E : Type 0} (m : Seen N B W) (s : MachineState N E) (trees : ℕ
     of-blob e (inr (inl (top, below, is, causes))) = reading-chance e (lawful.own_reading top.node_type e causes)
     of-blob e (inr (inr memory)) = memory-chance e memory
 
-    of-nested : (mid : Core) (e : Error) → RefusesNested v.types w owners.Caller reading e mid → IsOfChance e
+    of-nested : (mid : Core) (e : Error) → RefusesNested v.types w Owner.Caller reading e mid → IsOfChance e
     of-nested mid e (kind, key, needs, inl asked) = let n = need-there kind key (inl needs) in nested-asked kind key n.0 mid e n.1 asked
     of-nested mid e (kind, key, needs, inr (blob, is, deep, asked)) = absurd (let n = (need-there kind key (inl needs)).2 (front reading.frames kind key needs) in omega arith)
 
-    of-lazy : (mid : Core) (e : Error) (kind : Kind) (key : ℕ) → need_of v.types reading.frames ≡ needs_lazy kind key → LazyCall w owners.Caller reading.load kind key (Err e) mid → IsOfChance e
+    of-lazy : (mid : Core) (e : Error) (kind : Kind) (key : ℕ) → need_of v.types reading.frames ≡ needs_lazy kind key → LazyCall w Owner.Caller reading.load kind key (Err e) mid → IsOfChance e
     of-lazy mid e kind key needs c = elim c.refused.why [
       | inr memory ↦ memory-chance e memory.0
-      | inl is ↦ elim (either (load_fault w owners.Caller reading.load) _ e is) [
+      | inl is ↦ elim (either (load_fault w Owner.Caller reading.load) _ e is) [
         | inl a ↦ absurd (no-load-fault e a)
-        | inr b ↦ elim (either (refused_if (not (is_loose_kind kind.0)) errors.WrongKind) (node_fault w kind key) e b) [
-          | inl a ↦ absurd (never (not (is_loose_kind kind.0)) errors.WrongKind e (front-lazy reading.frames kind key needs) a)
+        | inr b ↦ elim (either (refused_if (not (is_loose_kind kind.0)) Error.WrongKind) (node_fault w kind key) e b) [
+          | inl a ↦ absurd (never (not (is_loose_kind kind.0)) Error.WrongKind e (front-lazy reading.frames kind key needs) a)
           | inr b ↦ node-chance w kind key e b
         ]
       ]
@@ -275,19 +261,19 @@ module _ {N B W E : Type 0} (m : Seen N B W) (s : MachineState N E) (trees : ℕ
         by [] fits asked adopts = let o = adopted-over [] (next_in v.types top) adopts in absurd (let e = o.2 in cc)
         by (under ∷ rest) fits asked adopts = (second-eager v.types top under rest asked, first-typed v.types load.key reading.node_type w.stored trees top under rest fits)
 
-    of-node : (mid : Core) (e : Error) → RefusesNode v w owners.Caller reading e mid → C e
+    of-node : (mid : Core) (e : Error) → RefusesNode v w Owner.Caller reading e mid → C e
     of-node mid e r =
         let n = r.reads_node in
         let right = node-right n.top n.below n.frames n.needs in
         elim r.adopted.refused.1.why [
           | inr memory ↦ by-chance (memory-chance e memory.0)
-          | inl is ↦ elim (either (load_fault w owners.Caller reading.load) _ e is) [
+          | inl is ↦ elim (either (load_fault w Owner.Caller reading.load) _ e is) [
             | inl a ↦ absurd (no-load-fault e a)
-            | inr b ↦ elim (either (refused_if (is_loose_kind n.top.kind.0) errors.WrongMode) _ e b) [
-              | inl a ↦ absurd (never (is_loose_kind n.top.kind.0) errors.WrongMode e (loose-not n.top.kind.0 right.0) a)
-              | inr c ↦ elim (either (refused_if (not (v.node_type r.x == type_of n.top.kind.0)) errors.WrongKind) _ e c) [
-                | inl a ↦ absurd (never (not (v.node_type r.x == type_of n.top.kind.0)) errors.WrongKind e (same-type (v.node_type r.x) (type_of n.top.kind.0) (n.decoded.typed ∙ right.1)) a)
-                | inr d ↦ elim (either (references_fault w (owners.Load reading.load) [] (v.references r.x)) (node_fault w n.top.kind n.top.key) e d) [
+            | inr b ↦ elim (either (refused_if (is_loose_kind n.top.kind.0) Error.WrongMode) _ e b) [
+              | inl a ↦ absurd (never (is_loose_kind n.top.kind.0) Error.WrongMode e (loose-not n.top.kind.0 right.0) a)
+              | inr c ↦ elim (either (refused_if (not (v.node_type r.x == type_of n.top.kind.0)) Error.WrongKind) _ e c) [
+                | inl a ↦ absurd (never (not (v.node_type r.x == type_of n.top.kind.0)) Error.WrongKind e (same-type (v.node_type r.x) (type_of n.top.kind.0) (n.decoded.typed ∙ right.1)) a)
+                | inr d ↦ elim (either (references_fault w (Owner.Load reading.load) [] (v.references r.x)) (node_fault w n.top.kind n.top.key) e d) [
                   | inl a ↦ by-references n.top n.below r.x n.frames n.decoded (form-of n.top n.below n.frames r.x n.decoded) a
                   | inr f ↦ by-chance (node-chance w n.top.kind n.top.key e f)
                 ]
@@ -300,17 +286,17 @@ module _ {N B W E : Type 0} (m : Seen N B W) (s : MachineState N E) (trees : ℕ
     root-type root is =
         last-type v.types w.stored trees load.key reading.node_type root (subst (λ fs. FramesFit v.types w.stored trees load.key reading.node_type fs) is is-read.fits) ∙ is-read.of_type
 
-    of-root : (mid : Core) (e : Error) → RefusesRoot v w owners.Caller reading e mid → C e
+    of-root : (mid : Core) (e : Error) → RefusesRoot v w Owner.Caller reading e mid → C e
     of-root mid e r = elim r.refuses [
       | inr (is, handed) ↦
           let same : is.load ≡ load = same_some _ _ (sym is.open_load ∙ (ap (λ (x : LoadNumber). w.loads x.0) is-read.number ∙ open_load)) in
           absurd (subst IsOfKey (ap (λ (x : OpenLoad). x.root) same ∙ paged.3) is.sort)
       | inl (is, ended) ↦ elim ended.refused.1.why [
         | inr memory ↦ by-chance (memory-chance e memory.0)
-        | inl why ↦ elim (either (load_fault w owners.Caller reading.load) _ e why) [
+        | inl why ↦ elim (either (load_fault w Owner.Caller reading.load) _ e why) [
           | inl a ↦ absurd (no-load-fault e a)
-          | inr b ↦ elim (either (if_there (λ (x : OpenLoad). root_fault w owners.Caller (v.node_type r.x) x.root) None (w.loads reading.load.0)) (references_fault w
-              (owners.Load reading.load) [] (v.references r.x)) e b) [
+          | inr b ↦ elim (either (if_there (λ (x : OpenLoad). root_fault w Owner.Caller (v.node_type r.x) x.root) None (w.loads reading.load.0)) (references_fault w
+              (Owner.Load reading.load) [] (v.references r.x)) e b) [
                 | inl a ↦ by-chance (root-chance r a)
                 | inr f ↦ by-references r.reads_root.root [] r.x r.reads_root.frames r.reads_root.decoded (form-of r.reads_root.root [] r.reads_root.frames r.x r.reads_root.decoded) f
               ]
@@ -318,24 +304,24 @@ module _ {N B W E : Type 0} (m : Seen N B W) (s : MachineState N E) (trees : ℕ
       ]
     ]
       where
-        root-chance : (r : RefusesRoot v w owners.Caller reading e mid) → if_there (λ (x : OpenLoad). root_fault w owners.Caller (v.node_type r.x) x.root) None (w.loads reading.load.0) ≡ Some e
+        root-chance : (r : RefusesRoot v w Owner.Caller reading e mid) → if_there (λ (x : OpenLoad). root_fault w Owner.Caller (v.node_type r.x) x.root) None (w.loads reading.load.0) ≡ Some e
             → IsOfChance e
         root-chance r is =
             let there : w.loads reading.load.0 ≡ Some load = ap (λ (x : LoadNumber). w.loads x.0) is-read.number ∙ open_load in
-            let at_root : root_fault w owners.Caller (v.node_type r.x) (of_cell node t paged.2) ≡ Some e =
-            ap (root_fault w owners.Caller (v.node_type r.x)) (sym paged.3) ∙ (sym (ap (λ o. if_there (λ (x : OpenLoad). root_fault w owners.Caller (v.node_type r.x) x.root) None o) there) ∙ is) in
-            elim (either (refused_if (not (v.node_type r.x == t)) errors.WrongKind) (where_so (is_owned_in w owners.Caller paged.2.0) (spent w.last.handle)) e at_root) [
-              | inl a ↦ absurd (never (not (v.node_type r.x == t)) errors.WrongKind e (same-type (v.node_type r.x) t (r.reads_root.decoded.typed ∙ root-type r.reads_root.root r.reads_root.frames)) a)
-              | inr b ↦ where-chance (is_owned_in w owners.Caller paged.2.0) w.last.handle e b
+            let at_root : root_fault w Owner.Caller (v.node_type r.x) (of_cell node t paged.2) ≡ Some e =
+            ap (root_fault w Owner.Caller (v.node_type r.x)) (sym paged.3) ∙ (sym (ap (λ o. if_there (λ (x : OpenLoad). root_fault w Owner.Caller (v.node_type r.x) x.root) None o) there) ∙ is) in
+            elim (either (refused_if (not (v.node_type r.x == t)) Error.WrongKind) (where_so (is_owned_in w Owner.Caller paged.2.0) (spent w.last.handle)) e at_root) [
+              | inl a ↦ absurd (never (not (v.node_type r.x == t)) Error.WrongKind e (same-type (v.node_type r.x) t (r.reads_root.decoded.typed ∙ root-type r.reads_root.root r.reads_root.frames)) a)
+              | inr b ↦ where-chance (is_owned_in w Owner.Caller paged.2.0) w.last.handle e b
             ]
 
-    of-end : (w' : Core) (e : Error) → EndsClosed v w owners.Caller reading e w' → C e
+    of-end : (w' : Core) (e : Error) → EndsClosed v w Owner.Caller reading e w' → C e
     of-end w' e r =
         let c = r.ended.refused in
         let same : c.may.load ≡ load = same_some _ _ (sym c.may.owned.stands_open ∙ (ap (λ (x : LoadNumber). w.loads x.0) is-read.number ∙ open_load)) in
         by-handle c.node (v.node_type r.x) c.h (ap (λ (x : OpenLoad). x.root) (sym same) ∙ c.may.of_node) c.why
 
-    pub cause : (w' : Core) (e : Error) → Fails v w owners.Caller reading e w' → C e
+    pub cause : (w' : Core) (e : Error) → Fails v w Owner.Caller reading e w' → C e
     cause w' e (inr ended) = of-end w' e ended
     cause w' e (inl gives) = elim gives.meets [
       | inl (refuses, a) ↦ by-chance (of-blob e refuses)

@@ -1,27 +1,9 @@
 -- A load of a cell whose key a page-out set is refused by chance or by a handle alone.
-use Rattle.std.proofs.Common.{◌≡◌, ℕ, ◌==◌, ◌||◌, Bool, true, false, List, [], ◌∷◌, Option, Some, None, Ok, Err, inl, inr, if◌then◌else◌, refl, subst, ◌∙◌}
-use Rattle.std.specs.Prelude.{not}
-use Rattle.pagable_model.specs.declared.error.Error.TheVariants as errors
-use Rattle.pagable_world.specs.declared.handles.HandleRow.{HandleRow}
-use Rattle.pagable_world.specs.declared.handles.Owner.{Owner}
-use Rattle.pagable_world.specs.declared.handles.Owner.TheVariants as owners
-use Rattle.pagable_world.specs.declared.rows.Mode.{Mode}
-use Rattle.pagable_world.specs.declared.events.LoadAnswer.TheVariants as ends
-use Rattle.pagable_world.specs.declared.events.LoadReply.{LoadReply}
-use Rattle.pagable_world.specs.declared.events.Event.{Event}
-use Rattle.pagable_world.specs.declared.events.Event.TheVariants as events
-use Rattle.pagable_world.specs.declared.events.EventReply.{EventReply}
-use Rattle.pagable_world.specs.declared.events.EventReply.TheVariants as answers
-use Rattle.pagable_world.specs.Plain.{Error, ArcRef, HandleNumber, LoadNumber, Tree, type_of, is_in, if_there, or_else}
-use Rattle.pagable_world.specs.Kinds.{any_mode, is_owner, fits_mode}
-use Rattle.pagable_world.specs.World.{Core, OpenLoad, Seen, IsLawful, row_at, type_at}
-use Rattle.pagable_world.specs.Refusals.{refused_if, is_type, row_fault, reference_fault, references_fault, handle_fault}
+use Rattle.pagable_laws.proofs.Words.{◌≡◌, ℕ, ◌==◌, ◌||◌, Bool, true, false, List, [], ◌∷◌, Option, Some, None, Ok, Err, inl, inr, if◌then◌else◌, refl, subst, ◌∙◌, not, Error, HandleRow, Owner}
+use Rattle.pagable_laws.proofs.Words.{Mode, LoadAnswer, LoadReply, Event, EventReply, ArcRef, HandleNumber, LoadNumber, Tree, type_of, is_in, if_there, or_else, any_mode, is_owner, fits_mode}
+use Rattle.pagable_laws.proofs.Words.{Core, OpenLoad, Seen, IsLawful, row_at, type_at, refused_if, is_type, row_fault, reference_fault, references_fault, handle_fault, LoadSteps, Happens}
+use Rattle.pagable_laws.proofs.Words.{MachineState, world_of, ReadsItsTypes, IsLoadOfPagedOut, IsOfHandles, LoadIsFaultless, FaultlessLaw}
 use Rattle.pagable_world.specs.Loads.{Does}
-use Rattle.pagable_world.specs.Events.{LoadSteps, Happens}
-use Rattle.pagable_world.specs.Pager.{MachineState, world_of}
-use Rattle.pagable_world.specs.Runs.{ReadsItsTypes}
-use Rattle.pagable_world.specs.OneWorker.{IsLoadOfPagedOut}
-use Rattle.pagable_laws.specs.DeepLaws.{IsOfHandles, LoadIsFaultless, FaultlessLaw}
 use Rattle.pagable_laws.proofs.Chains.{IsGoingOn}
 use Rattle.pagable_laws.proofs.HeightSteps.{HeightsIn}
 use Rattle.pagable_laws.proofs.Deeply.{along-first}
@@ -36,25 +18,25 @@ by-test : (b : Bool) (f e : Error) → IsOfHandles f → refused_if b f ≡ Some
 by-test true f e is same = of-handles f e is same
 by-test false f e is same = absurd (cc)
 
-by-row : (w : Core) (r : ArcRef) (b : Bool) (row : HandleRow) (e : Error) → row_fault w r (refused_if b errors.NotYours) row ≡ Some e → IsOfHandles e
+by-row : (w : Core) (r : ArcRef) (b : Bool) (row : HandleRow) (e : Error) → row_fault w r (refused_if b Error.NotYours) row ≡ Some e → IsOfHandles e
 by-row w r b row e is = at (not (row.node.0 == r.node.0)) b (not (fits_mode r.kind.0 row.mode)) is
   where
     at : (a b c : Bool)
-        → (if a then Some errors.NoSuchHandle else or_else (refused_if b errors.NotYours) (if c then Some errors.WrongMode else refused_if (not (is_type (type_of r.kind.0)
-        (type_at w r.node.0))) errors.WrongKind)) ≡ Some e
+        → (if a then Some Error.NoSuchHandle else or_else (refused_if b Error.NotYours) (if c then Some Error.WrongMode else refused_if (not (is_type (type_of r.kind.0)
+        (type_at w r.node.0))) Error.WrongKind)) ≡ Some e
         → IsOfHandles e
-    at true b c is = of-handles errors.NoSuchHandle e tt is
-    at false true c is = of-handles errors.NotYours e tt is
-    at false false true is = of-handles errors.WrongMode e tt is
-    at false false false is = by-test (not (is_type (type_of r.kind.0) (type_at w r.node.0))) errors.WrongKind e tt is
+    at true b c is = of-handles Error.NoSuchHandle e tt is
+    at false true c is = of-handles Error.NotYours e tt is
+    at false false true is = of-handles Error.WrongMode e tt is
+    at false false false is = by-test (not (is_type (type_of r.kind.0) (type_at w r.node.0))) Error.WrongKind e tt is
 
 by-one : (w : Core) (owner : Owner) (seen : List ℕ) (r : ArcRef) (e : Error) → reference_fault w owner seen r ≡ Some e → IsOfHandles e
 by-one w owner seen r e is = at (row_at w r.handle) is
   where
     at : (found : Option HandleRow)
-        → if_there (λ (row : HandleRow). row_fault w r (refused_if (not (is_owner owner row.owner) || is_in seen r.handle.0) errors.NotYours) row)
-        (Some errors.NoSuchHandle) found ≡ Some e → IsOfHandles e
-    at None is = of-handles errors.NoSuchHandle e tt is
+        → if_there (λ (row : HandleRow). row_fault w r (refused_if (not (is_owner owner row.owner) || is_in seen r.handle.0) Error.NotYours) row)
+        (Some Error.NoSuchHandle) found ≡ Some e → IsOfHandles e
+    at None is = of-handles Error.NoSuchHandle e tt is
     at (Some row) is = by-row w r (not (is_owner owner row.owner) || is_in seen r.handle.0) row e is
 
 pub by-all : (w : Core) (owner : Owner) (seen : List ℕ) (rs : List ArcRef) (e : Error) → references_fault w owner seen rs ≡ Some e → IsOfHandles e
@@ -70,14 +52,14 @@ by-all w owner seen (r ∷ rs) e is = at (λ f. by-all w owner (r.handle.0 ∷ s
 pub by-handle-row : (w : Core) (me : Owner) (h : HandleNumber) (fits : Mode → Bool) (e : Error) → handle_fault w me h fits ≡ Some e → IsOfHandles e
 by-handle-row w me h fits e is = at (row_at w h) is
   where
-    row : (HandleRow) → (a b : Bool) → (if a then Some errors.NotYours else refused_if b errors.WrongMode) ≡ Some e → IsOfHandles e
-    row r true b is = of-handles errors.NotYours e tt is
-    row r false b is = by-test b errors.WrongMode e tt is
+    row : (HandleRow) → (a b : Bool) → (if a then Some Error.NotYours else refused_if b Error.WrongMode) ≡ Some e → IsOfHandles e
+    row r true b is = of-handles Error.NotYours e tt is
+    row r false b is = by-test b Error.WrongMode e tt is
 
     at : (found : Option HandleRow)
-        → if_there (λ (row : HandleRow). if not (is_owner me row.owner) then Some errors.NotYours else refused_if (not (fits row.mode)) errors.WrongMode)
-        (Some errors.NoSuchHandle) found ≡ Some e → IsOfHandles e
-    at None is = of-handles errors.NoSuchHandle e tt is
+        → if_there (λ (row : HandleRow). if not (is_owner me row.owner) then Some Error.NotYours else refused_if (not (fits row.mode)) Error.WrongMode)
+        (Some Error.NoSuchHandle) found ≡ Some e → IsOfHandles e
+    at None is = of-handles Error.NoSuchHandle e tt is
     at (Some r) is = row r (not (is_owner me r.owner)) (not (fits r.mode)) is
 
 -- ---- a load's step
@@ -85,27 +67,27 @@ by-handle-row w me h fits e is = at (row_at w h) is
 module _ {N B W E : Type 0} (m : Seen N B W) (lawful : IsLawful m.values) (readable : ReadsItsTypes m.values.types) (s s' : MachineState N E) (trees trees' : ℕ → Tree)
     (on : IsGoingOn m.values s trees) (low : HeightsIn (world_of s)) where
   pub load-cause : (l : LoadNumber) (reply : LoadReply N) (x : LoadSteps m.values (world_of s) l reply (world_of s')) (load : OpenLoad) (e : Error) → s.pager.core.loads l.0 ≡ Some load
-      → IsLoadOfPagedOut s load → reply.ended ≡ Some (ends.Refused e)
+      → IsLoadOfPagedOut s load → reply.ended ≡ Some (LoadAnswer.Refused e)
       → Cause m.values s.pager.core load x.reading e
   load-cause l reply x load e open_load paged is =
-      let fails = subst (λ a. Does m.values s.pager.core owners.Caller x.reading a x.frames s'.pager.core) is x.does.does in
+      let fails = subst (λ a. Does m.values s.pager.core Owner.Caller x.reading a x.frames s'.pager.core) is x.does.does in
       cause m s trees on.whole on.stands lawful readable on.fits low on.asked l x.reading load x.at x.may open_load paged s'.pager.core e fails.0
 
   load-faultless : (event : Event N B W) (reply : EventReply N B W) → Happens m (world_of s) event reply (world_of s') → LoadIsFaultless s trees event reply s' trees'
-  load-faultless (events.LoadStep l) (answers.LoadMoved (Ok reply)) is = λ load e open_load paged ended. elim (load-cause l reply is.moves load e open_load paged ended) [
+  load-faultless (Event.LoadStep l) (EventReply.LoadMoved (Ok reply)) is = λ load e open_load paged ended. elim (load-cause l reply is.moves load e open_load paged ended) [
     | by-chance chance ↦ inl chance
     | by-references frame below x frames decoded form fault ↦ inr (by-all s.pager.core _ [] (m.values.references x) e fault)
-    | by-handle node t h root fault ↦ inr (by-handle-row s.pager.core owners.Caller h any_mode e fault)
+    | by-handle node t h root fault ↦ inr (by-handle-row s.pager.core Owner.Caller h any_mode e fault)
   ]
-  load-faultless (events.LoadStep l) (answers.LoadMoved (Err e)) is = tt
-  load-faultless (events.LoadStep l) reply is = absurd is
-  load-faultless (events.Call call) reply is = tt
-  load-faultless (events.LoadStart h) reply is = tt
-  load-faultless (events.LoadKey key t) reply is = tt
-  load-faultless (events.WorkerStep n) reply is = tt
-  load-faultless events.TableNew reply is = tt
-  load-faultless (events.WorkerItem t item) reply is = tt
-  load-faultless (events.WorkerListed t i) reply is = tt
+  load-faultless (Event.LoadStep l) (EventReply.LoadMoved (Err e)) is = tt
+  load-faultless (Event.LoadStep l) reply is = absurd is
+  load-faultless (Event.Call call) reply is = tt
+  load-faultless (Event.LoadStart h) reply is = tt
+  load-faultless (Event.LoadKey key t) reply is = tt
+  load-faultless (Event.WorkerStep n) reply is = tt
+  load-faultless Event.TableNew reply is = tt
+  load-faultless (Event.WorkerItem t item) reply is = tt
+  load-faultless (Event.WorkerListed t i) reply is = tt
 
 pub faultless_law : {N B W : Type 0} (E : Type 0) (m : Seen N B W) → FaultlessLaw E m
 faultless_law E m start moments trees whole idle chain stands lawful readable settled =

@@ -1,23 +1,10 @@
 -- A call leaves each handle of a worker as it is that doesn't ask: it is there afterwards, with its row.
-use Rattle.std.proofs.Common.{◌≡◌, ℕ, suc, zero, ◌+◌, ◌<◌, ◌≤◌, ◌==◌, ◌&&◌, ◌||◌, Bool, true, false, List, [], ◌∷◌, Option, Some, refl, sym, ap, subst, ◌∙◌, if◌then◌else◌, arith}
-use Rattle.std.specs.Prelude.{not, slice_get}
-use Rattle.std.proofs.lemmas.Bool.{and_parts}
-use Rattle.std.proofs.lemmas.Bool.Decides.{nat_tests}
-use Rattle.pagable_world.specs.declared.handles.HandleRow.{HandleRow}
-use Rattle.pagable_world.specs.declared.handles.Owner.TheVariants as owners
-use Rattle.pagable_world.specs.declared.handles.Owner.{Owner}
-use Rattle.pagable_world.specs.declared.rows.Mode.{Mode}
-use Rattle.pagable_world.specs.Plain.{ArcRef, HandleNumber, LoadNumber, NodeNumber, Among, changed, if_there, one}
-use Rattle.pagable_world.specs.Kinds.{find_row, is_handle, is_owner, is_owned_by, owner_worker}
-use Rattle.pagable_world.specs.World.{Core, Alike}
-use Rattle.pagable_world.specs.Cascade.{Falls, nobody, only_handle}
-use Rattle.pagable_world.specs.Refusals.{Owns}
-use Rattle.pagable_world.specs.Calls.{row_of, with_handle, with_mode, moved, is_named_by}
-use Rattle.pagable_world.specs.LoadCalls.{is_owned_in}
-use Rattle.pagable_world.specs.Pager.{OwnersAreThere}
-use Rattle.pagable_laws.specs.TreeSteps.{AreGood}
+use Rattle.pagable_laws.proofs.Words.{◌≡◌, ℕ, suc, zero, ◌+◌, ◌<◌, ◌≤◌, ◌==◌, ◌&&◌, ◌||◌, Bool, true, false, List, [], ◌∷◌, Option, Some, refl, sym, ap, subst, ◌∙◌, if◌then◌else◌, arith, not}
+use Rattle.pagable_laws.proofs.Words.{slice_get, and_parts, nat_tests, HandleRow, Owner, Mode, ArcRef, HandleNumber, LoadNumber, NodeNumber, Among, changed, if_there, one, find_row, is_handle}
+use Rattle.pagable_laws.proofs.Words.{is_owner, is_owned_by, owner_worker, Core, Alike, Falls, nobody, only_handle, Owns, row_of, with_handle, with_mode, moved, is_named_by, is_owned_in}
+use Rattle.pagable_laws.proofs.Words.{OwnersAreThere, AreGood}
 use Rattle.pagable_laws.proofs.Trees.{same_some}
-use Rattle.pagable_laws.proofs.Sums.{self-number, at-most-sum, counted, one-true}
+use Rattle.pagable_laws.proofs.Sums.{same-number, self-number, at-most-sum, counted, one-true}
 use Rattle.pagable_laws.proofs.Goes.{found-number, none-in-next}
 use Rattle.pagable_laws.proofs.Outlasting.{NotValues, Stands, stands-alike, stands-changed, stands-more, stands-fell}
 
@@ -41,7 +28,7 @@ module _ (v : ℕ) where
   then-alike a b = spares-then b (spares-alike a)
 
   no-value : (row : HandleRow) → row.owner ≡ owner_worker v → NotValues row.owner
-  no-value row own n is = let f : owner_worker v ≡ owners.Value n = sym own ∙ is in absurd (cc)
+  no-value row own n is = let f : owner_worker v ≡ Owner.Value n = sym own ∙ is in absurd (cc)
 
   pub then-fell : {before w m w' : Core} {given : ℕ → Bool} {r : _} → Falls before m given r w' → Spares w m → Free w given → Spares w w'
   then-fell f a free = record { each = λ q row own s. stands-fell f (no-value row own) (free.each q row own s) (a.each q row own s) }
@@ -60,17 +47,20 @@ module _ (v : ℕ) where
   pub spares-made : {w w' : Core} (node : NodeNumber) (mode : Mode) (owner : Owner) → Alike (with_handle w node mode owner) w' → Spares w w'
   spares-made {w} node mode owner a = then-alike a (spares-handle w node mode owner)
 
-  unchanged : {last : ℕ} {rows : List HandleRow} {q : ℕ} {row : HandleRow} (test : HandleRow → Bool) (f : HandleRow → HandleRow) → ((h : HandleRow) → (f h).number ≡ h.number) → test row ≡ false → Stands last rows q row → Stands last (changed test f rows) q row
+  unchanged : {last : ℕ} {rows : List HandleRow} {q : ℕ} {row : HandleRow} (test : HandleRow → Bool) (f : HandleRow → HandleRow) → ((h : HandleRow) → (f h).number ≡ h.number)
+      → test row ≡ false → Stands last rows q row → Stands last (changed test f rows) q row
   unchanged {last} {rows} {q} {row} test f same e s = subst (λ r. Stands last (changed test f rows) q r) (ap (λ b. if b then f row else row) e) (stands-changed test f same s)
 
   row-number : {last : ℕ} {rows : List HandleRow} {q : ℕ} {row : HandleRow} → Stands last rows q row → row.number.0 ≡ q
   row-number {rows = rows} {q} {row} s = found-number q rows row s.live
 
   -- handles of a set move that aren't the worker's
-  pub moved-free : {w : Core} {set : ℕ → Bool} (owner : Owner) → Free w set → (q : ℕ) (row : HandleRow) → row.owner ≡ owner_worker v → Stands w.last.handle w.rows q row → Stands w.last.handle (moved set owner w.rows) q row
+  pub moved-free : {w : Core} {set : ℕ → Bool} (owner : Owner) → Free w set → (q : ℕ) (row : HandleRow) → row.owner ≡ owner_worker v → Stands w.last.handle w.rows q row
+      → Stands w.last.handle (moved set owner w.rows) q row
   moved-free {w} {set} owner free q row own s = unchanged (λ h. set h.number.0) (λ h. record h { owner = owner }) (λ h. refl) (ap set (row-number s) ∙ free.each q row own s) s
 
-  pub mode-free : {last : ℕ} {rows : List HandleRow} {q : ℕ} {row : HandleRow} (h : HandleNumber) (mode : Mode) → only_handle h q ≡ false → Stands last rows q row → Stands last (changed (is_handle h.0) (λ x. record x { mode = mode }) rows) q row
+  pub mode-free : {last : ℕ} {rows : List HandleRow} {q : ℕ} {row : HandleRow} (h : HandleNumber) (mode : Mode) → only_handle h q ≡ false → Stands last rows q row
+      → Stands last (changed (is_handle h.0) (λ x. record x { mode = mode }) rows) q row
   mode-free h mode free s = unchanged (is_handle h.0) (λ x. record x { mode = mode }) (λ x. refl) (ap (λ n. n == h.0) (row-number s) ∙ free) s
 
   -- two rows of one number
@@ -94,7 +84,8 @@ module _ (v : ℕ) where
   named-among [] q is = absurd (cc)
   named-among (r ∷ rs) q is = by (λ e. named-among rs q e) (r.handle.0 == q) refl is
     where
-      by : (is_named_by rs q ≡ true → (x : ArcRef) × Among rs x × (x.handle.0 ≡ q)) → (b : Bool) → (r.handle.0 == q) ≡ b → (b || is_named_by rs q) ≡ true → (x : ArcRef) × Among (r ∷ rs) x × (x.handle.0 ≡ q)
+      by : (is_named_by rs q ≡ true → (x : ArcRef) × Among rs x × (x.handle.0 ≡ q)) → (b : Bool) → (r.handle.0 == q) ≡ b → (b || is_named_by rs q) ≡ true
+          → (x : ArcRef) × Among (r ∷ rs) x × (x.handle.0 ≡ q)
       by rest true e is = let same : r.handle.0 ≡ q = grind (arith, nat_tests) in (r, (zero, refl), same)
       by rest false e is = let a = rest is in (a.0, (suc a.1.0, a.1.1), a.2)
 
@@ -109,8 +100,8 @@ module _ (v : ℕ) where
           absurd (other (sym is.owned ∙ (sym (same-row is.row s is.live (sym a.2)) ∙ own)))
 
   -- what a load owns isn't the worker's
-  pub load-free : (w : Core) (l : LoadNumber) → Free w (is_owned_in w (owners.Load l))
-  load-free w l = record { each = λ q row own s. ap (λ (f : Option HandleRow). if_there (is_owned_by (owners.Load l)) false f) s.live ∙ ap (is_owner (owners.Load l)) own }
+  pub load-free : (w : Core) (l : LoadNumber) → Free w (is_owned_in w (Owner.Load l))
+  load-free w l = record { each = λ q row own s. ap (λ (f : Option HandleRow). if_there (is_owned_by (Owner.Load l)) false f) s.live ∙ ap (is_owner (Owner.Load l)) own }
 
   pub both-free : {w : Core} (f g : ℕ → Bool) → Free w f → Free w (λ q. f q && not (g q))
   both-free f g free = record { each = λ q row own s. ap (λ b. b && not (g q)) (free.each q row own s) }
@@ -122,9 +113,6 @@ module _ (v : ℕ) where
   pub listed-free : {w : Core} → OwnersAreThere w → (i : ℕ) (h : HandleNumber) → slice_get w.list i ≡ Some h → Free w (only_handle h)
   listed-free {w} there i h at = record { each = λ q row own s. by q row own s (q == h.0) refl }
     where
-      same-number : (a b : ℕ) → (a == b) ≡ true → a ≡ b
-      same-number a b e = grind (arith, nat_tests)
-
       above : (a b c : ℕ) → a ≡ 1 → a ≤ b → b ≡ c → 0 < c
       above a b c e le same = omega arith
 
@@ -133,8 +121,9 @@ module _ (v : ℕ) where
       by q row own s true e =
           let same : h.0 ≡ q = sym (same-number q h.0 e) in
           let here : one (h.0 == q) ≡ 1 = ap (λ n. one (n == q)) same ∙ ap one (self-number q) in
-          let owned = counted (λ (x : HandleRow). one (is_handle q x && is_owned_by owners.List x)) w.rows (above _ _ _ here (at-most-sum (λ (x : HandleNumber). one (x.0 == q)) w.list h (i, at)) (there.listed q)) in
-          let both = and_parts (is_handle q owned.0) (is_owned_by owners.List owned.0) (one-true _ owned.2) in
+          let owned = counted (λ (x : HandleRow). one (is_handle q x && is_owned_by Owner.List x)) w.rows
+          (above _ _ _ here (at-most-sum (λ (x : HandleNumber). one (x.0 == q)) w.list h (i, at)) (there.listed q)) in
+          let both = and_parts (is_handle q owned.0) (is_owned_by Owner.List owned.0) (one-true _ owned.2) in
           let it = s.only owned.0 owned.1 (same-number _ _ both.0) in
-          let f : is_owner owners.List (owner_worker v) ≡ true = sym (ap (λ (x : HandleRow). is_owner owners.List x.owner) it ∙ ap (is_owner owners.List) own) ∙ both.1 in
+          let f : is_owner Owner.List (owner_worker v) ≡ true = sym (ap (λ (x : HandleRow). is_owner Owner.List x.owner) it ∙ ap (is_owner Owner.List) own) ∙ both.1 in
           absurd (cc)

@@ -1,12 +1,7 @@
 -- What stands of each worker's to-do list and of the slots of its table after each event, without trees: the invariant of chains.
-use Rattle.std.proofs.Common.{◌≡◌, ℕ, ◌≤◌, ◌||◌, Bool, true, false, List, [], ◌∷◌}
-use Rattle.std.specs.Prelude.{Option, Some, None, is_some}
-use Rattle.pagable_world.specs.Plain.{Identity}
-use Rattle.pagable_world.specs.declared.events.WorkerAnswer.{WorkerAnswer}
-use Rattle.pagable_world.specs.Kinds.{identity_of}
-use Rattle.pagable_world.specs.World.{Shelf, Slot, Outcome, no_result, failed, Written, Todo, to_start, to_pin, to_load, to_write, to_finish, to_item, to_set, to_publish, to_release, to_fail, Task, of_item, Walking, is_identity}
-use Rattle.pagable_world.specs.Workers.{IsPublished}
-use Rattle.pagable_world.specs.Headline.{Meets}
+use Rattle.pagable_laws.proofs.Words.{◌≡◌, ℕ, ◌≤◌, ◌||◌, Bool, true, false, List, [], ◌∷◌, Option, Some, None, is_some, Identity, WorkerAnswer, identity_of, Shelf, Slot, Outcome, no_result}
+use Rattle.pagable_laws.proofs.Words.{failed, Written, Todo, to_start, to_pin, to_load, to_write, to_finish, to_item, to_set, to_publish, to_release, to_fail, Task, of_item, Walking, is_identity}
+use Rattle.pagable_laws.proofs.Words.{IsPublished, Meets}
 
 -- whether this is to be done about a claim of the identity that has no result yet
 abbrev pub is_open_of : Identity → Todo → Bool

@@ -1,17 +1,7 @@
 -- Each pager and each machine of the chain of two levels is whole.
-use Rattle.std.proofs.Common.{◌≡◌, ℕ, zero, suc, ◌<◌, ◌≤◌, ◌==◌, Bool, true, false, List, [], ◌∷◌, refl, ap, sym, subst, ◌∙◌, arith}
-use Rattle.std.specs.Prelude.{Option, Some, None, is_some, is_none}
-use Rattle.std.proofs.lemmas.Bool.Decides.{nat_tests}
-use Rattle.pagable_world.specs.Plain.{is_in}
-use Rattle.pagable_world.specs.declared.rows.Mode.TheVariants as modes
-use Rattle.pagable_world.specs.World.{Core, Shelf, Reading, Walking}
-use Rattle.pagable_world.specs.Cascade.{fallen, nobody}
-use Rattle.pagable_world.specs.Calls.{with_mode, with_key, is_named_by}
-use Rattle.pagable_world.specs.Workers.{without_worker, is_workers, is_workers_at}
-use Rattle.pagable_world.specs.Pager.{IsMachineWhole, IsReadingWhole, IsWalkingWhole}
-use Rattle.pagable_world.specs.Kinds.{find_row}
-use Rattle.pagable_laws.specs.SmallWorlds.{no_work}
-use Rattle.pagable_laws.specs.TwoLevels.{value_at, ended, gives_up}
+use Rattle.pagable_laws.proofs.Words.{◌≡◌, ℕ, zero, suc, ◌<◌, ◌≤◌, ◌==◌, Bool, true, false, List, [], ◌∷◌, refl, ap, sym, subst, ◌∙◌, arith, Option, Some, None, is_some, is_none, nat_tests}
+use Rattle.pagable_laws.proofs.Words.{is_in, Mode, Core, Shelf, Reading, Walking, fallen, nobody, with_mode, with_key, is_named_by, without_worker, is_workers, is_workers_at, IsMachineWhole}
+use Rattle.pagable_laws.proofs.Words.{IsReadingWhole, IsWalkingWhole, find_row, no_work, value_at, ended, gives_up}
 use Rattle.pagable_laws.specs.TwoLevels as two
 use Rattle.pagable_laws.proofs.Tested.{all_pass, is_low, held-past, updated-past, IsFew}
 use Rattle.pagable_laws.proofs.Whole.{Passes, passes, tests, whole-so, KnowsThird}
@@ -61,7 +51,7 @@ few-answered = few-fallen (without_worker two.item_stored 1) (is_workers two.ite
 few-parent-loading : IsFew two.parent_loading
 unfolding is_named_by find_row
 few-parent-loading =
-    let few : IsFew two.evicted = few-fallen (with_mode two.answered (two.handle 2) modes.LooseUnpinned) two.child_handle refl (λ l lt. refl) few-answered.workers in
+    let few : IsFew two.evicted = few-fallen (with_mode two.answered (two.handle 2) Mode.LooseUnpinned) two.child_handle refl (λ l lt. refl) few-answered.workers in
     record { cells = few.cells; loads = updated-past 3 1 _ None (λ l. None) (omega arith) (λ l lt. refl); workers = few.workers }
 
 few-got : IsFew two.child_got
@@ -69,7 +59,8 @@ few-got = record { cells = updated-past 3 3 _ None two.parent_loading.cells (ome
 
 few-loaded : IsFew two.parent_loaded
 unfolding is_named_by find_row
-few-loaded = few-fallen (ended two.child_got 1 2 2 (two.to_leaf 3 8 ∷ [])) (gives_up two.child_got 1 (two.to_leaf 3 8 ∷ [])) refl (updated-past 3 1 None None two.parent_loading.loads (omega arith) few-parent-loading.loads) few-got.workers
+few-loaded = few-fallen (ended two.child_got 1 2 2 (two.to_leaf 3 8 ∷ [])) (gives_up two.child_got 1 (two.to_leaf 3 8 ∷ [])) refl
+    (updated-past 3 1 None None two.parent_loading.loads (omega arith) few-parent-loading.loads) few-got.workers
 
 few-child-loading : IsFew two.child_loading
 few-child-loading = record { cells = few-loaded.cells; loads = updated-past 3 2 _ None two.parent_loaded.loads (omega arith) few-loaded.loads; workers = few-loaded.workers }
@@ -88,7 +79,8 @@ begun-passes = passes two.begun two.two_values few-begun (knows-none two.begun (
 
 pub parent-pinned-passes : Passes two.parent_pinned two.two_values
 unfolding value_at is_named_by find_row
-parent-pinned-passes = passes two.parent_pinned two.two_values (few-as two.begun two.parent_pinned refl refl refl few-begun) (knows-none two.parent_pinned (λ kind key. refl)) (omega arith) refl refl refl
+parent-pinned-passes = passes two.parent_pinned two.two_values (few-as two.begun two.parent_pinned refl refl refl few-begun) (knows-none two.parent_pinned (λ kind key. refl))
+    (omega arith) refl refl refl
 
 pub both-pinned-passes : Passes two.both_pinned two.two_values
 unfolding value_at is_named_by find_row
@@ -99,10 +91,12 @@ unfolding value_at is_named_by find_row
 child-stored-passes = passes two.child_stored two.two_values (few-as two.begun two.child_stored refl refl refl few-begun) (knows-none two.child_stored (λ kind key. refl)) (omega arith) refl refl refl
 
 -- after a fall of a pager with the worker at work
-fallen-passes : (w : Core) (gone : ℕ → Bool) → let w' = fallen w gone [] in is_low w' ≡ true → w.loads ≡ (λ l. None) → w.workers ≡ two.begun.workers → ((kind key : ℕ) → w.cache kind key ≡ None) → w'.list ≡ [] → w.closed ≡ false
+fallen-passes : (w : Core) (gone : ℕ → Bool) → let w' = fallen w gone [] in is_low w' ≡ true → w.loads ≡ (λ l. None) → w.workers ≡ two.begun.workers
+    → ((kind key : ℕ) → w.cache kind key ≡ None) → w'.list ≡ [] → w.closed ≡ false
     → all_pass (λ b. b) (tests w' two.two_values) ≡ true → Passes w' two.two_values
 fallen-passes w gone low loads workers cache list closed ok =
-    passes (fallen w gone []) two.two_values (few-fallen w gone low (λ l lt. ap (λ f. f l) loads) (λ v lt. ap (λ f. f v) workers ∙ few-begun.workers v lt)) (knows-none (fallen w gone []) cache) (omega arith) list closed ok
+    passes (fallen w gone []) two.two_values (few-fallen w gone low (λ l lt. ap (λ f. f l) loads) (λ v lt. ap (λ f. f v) workers ∙ few-begun.workers v lt)) (knows-none (fallen w gone []) cache)
+    (omega arith) list closed ok
 
 pub child-keyed-passes : Passes two.child_keyed two.two_values
 unfolding value_at is_named_by find_row
@@ -114,7 +108,8 @@ child-released-passes = fallen-passes two.child_keyed (is_workers_at two.child_k
 
 pub parent-stored-passes : Passes two.parent_stored two.two_values
 unfolding value_at is_named_by find_row
-parent-stored-passes = passes two.parent_stored two.two_values (few-as two.child_released two.parent_stored refl refl refl child-released-passes.few) (knows-none two.parent_stored (λ kind key. refl)) (omega arith) refl refl refl
+parent-stored-passes = passes two.parent_stored two.two_values (few-as two.child_released two.parent_stored refl refl refl child-released-passes.few)
+    (knows-none two.parent_stored (λ kind key. refl)) (omega arith) refl refl refl
 
 pub parent-keyed-passes : Passes two.parent_keyed two.two_values
 unfolding value_at is_named_by find_row
@@ -130,7 +125,8 @@ answered-passes = passes two.answered two.two_values few-answered (knows-none tw
 
 pub evicted-passes : Passes two.evicted []
 unfolding value_at is_named_by find_row
-evicted-passes = passes two.evicted [] (few-fallen (with_mode two.answered (two.handle 2) modes.LooseUnpinned) two.child_handle refl (λ l lt. refl) few-answered.workers) (knows-none two.evicted (λ kind key. refl)) (omega arith) refl refl refl
+evicted-passes = passes two.evicted [] (few-fallen (with_mode two.answered (two.handle 2) Mode.LooseUnpinned) two.child_handle refl (λ l lt. refl) few-answered.workers)
+    (knows-none two.evicted (λ kind key. refl)) (omega arith) refl refl refl
 
 pub parent-loading-passes : Passes two.parent_loading []
 unfolding value_at is_named_by find_row
@@ -146,7 +142,8 @@ parent-loaded-passes = passes two.parent_loaded two.parent_value few-loaded (kno
 
 pub child-cloned-passes : Passes two.child_cloned two.parent_value
 unfolding value_at is_named_by find_row
-child-cloned-passes = passes two.child_cloned two.parent_value (few-as two.parent_loaded two.child_cloned refl refl refl few-loaded) (knows-third two.child_cloned (λ kind key. refl) (omega arith)) (omega arith) refl refl refl
+child-cloned-passes = passes two.child_cloned two.parent_value (few-as two.parent_loaded two.child_cloned refl refl refl few-loaded)
+    (knows-third two.child_cloned (λ kind key. refl) (omega arith)) (omega arith) refl refl refl
 
 pub child-loading-passes : Passes two.child_loading two.parent_value
 unfolding value_at is_named_by find_row
@@ -154,24 +151,30 @@ child-loading-passes = passes two.child_loading two.parent_value few-child-loadi
 
 pub child-loaded-passes : Passes two.child_loaded two.last_values
 unfolding value_at is_named_by find_row
-child-loaded-passes = passes two.child_loaded two.last_values (few-fallen (ended two.child_loading 2 3 10 []) (gives_up two.child_loading 2 []) refl (updated-past 3 2 None None two.child_loading.loads (omega arith) few-child-loading.loads) few-child-loading.workers) (knows-third two.child_loaded (λ kind key. refl) (omega arith)) (omega arith) refl refl refl
+child-loaded-passes = passes two.child_loaded two.last_values
+    (few-fallen (ended two.child_loading 2 3 10 []) (gives_up two.child_loading 2 []) refl
+    (updated-past 3 2 None None two.child_loading.loads (omega arith) few-child-loading.loads) few-child-loading.workers) (knows-third two.child_loaded (λ kind key. refl) (omega arith))
+    (omega arith) refl refl refl
 
 few-read-back : IsFew two.read_back
 unfolding is_named_by find_row is_in
 few-read-back =
     few-fallen two.handed two.not_handed refl
-    (updated-past 3 3 None None two.key_loading.loads (omega arith) (updated-past 3 3 _ None two.child_loaded.loads (omega arith) (updated-past 3 2 None None two.child_loading.loads (omega arith) few-child-loading.loads)))
+    (updated-past 3 3 None None two.key_loading.loads (omega arith)
+    (updated-past 3 3 _ None two.child_loaded.loads (omega arith) (updated-past 3 2 None None two.child_loading.loads (omega arith) few-child-loading.loads)))
     few-child-loading.workers
 
 pub key-loading-passes : Passes two.key_loading two.last_values
 unfolding value_at is_named_by find_row
 key-loading-passes =
     let few = child-loaded-passes.few in
-    passes two.key_loading two.last_values (record { cells = few.cells; loads = updated-past 3 3 _ None two.child_loaded.loads (omega arith) few.loads; workers = few.workers }) (knows-third two.key_loading (λ kind key. refl) (omega arith)) (omega arith) refl refl refl
+    passes two.key_loading two.last_values (record { cells = few.cells; loads = updated-past 3 3 _ None two.child_loaded.loads (omega arith) few.loads; workers = few.workers })
+    (knows-third two.key_loading (λ kind key. refl) (omega arith)) (omega arith) refl refl refl
 
 pub child-known-passes : Passes two.child_known two.last_values
 unfolding value_at is_named_by find_row
-child-known-passes = passes two.child_known two.last_values (few-as two.key_loading two.child_known refl refl refl key-loading-passes.few) (knows-third two.child_known (λ kind key. refl) (omega arith)) (omega arith) refl refl refl
+child-known-passes = passes two.child_known two.last_values (few-as two.key_loading two.child_known refl refl refl key-loading-passes.few)
+    (knows-third two.child_known (λ kind key. refl) (omega arith)) (omega arith) refl refl refl
 
 pub read-back-passes : Passes two.read_back two.last_values
 unfolding value_at is_named_by find_row is_in
@@ -192,7 +195,8 @@ only-at m x P holds n y is = part (n == m) refl
     part false e = let a : two.only m x n ≡ None = rw e refl in absurd (cc)
 
 -- nobody works
-pub idle-whole : (w : Core) (vs : List (Option two.Sample)) (shelves : ℕ → Shelf) (last : ℕ) → Passes w vs → w.workers ≡ (λ v. false) → IsMachineWhole two.sample (two.machine w vs (record no_work { shelves = shelves; last_table = last }))
+pub idle-whole : (w : Core) (vs : List (Option two.Sample)) (shelves : ℕ → Shelf) (last : ℕ) → Passes w vs → w.workers ≡ (λ v. false)
+    → IsMachineWhole two.sample (two.machine w vs (record no_work { shelves = shelves; last_table = last }))
 idle-whole w vs shelves last p none =
     record {
       pager = whole-so w vs p;
@@ -202,7 +206,8 @@ idle-whole w vs shelves last p none =
     }
 
 -- the worker is at work, or has answered; and this load is read, or none
-pub work-whole : (w : Core) (vs : List (Option two.Sample)) (shelf : Shelf) (walking : Walking) (readings : ℕ → Option Reading) → Passes w vs → walking.table ≡ 1 → w.workers 0 ≡ false → w.workers 1 ≡ is_none walking.answer
+pub work-whole : (w : Core) (vs : List (Option two.Sample)) (shelf : Shelf) (walking : Walking) (readings : ℕ → Option Reading) → Passes w vs → walking.table ≡ 1 → w.workers 0 ≡ false
+    → w.workers 1 ≡ is_none walking.answer
     → ((l : ℕ) (r : Reading) → readings l ≡ Some r → IsReadingWhole w l r) → IsMachineWhole two.sample (two.machine w vs (record (two.walk_work shelf walking) { readings = readings }))
 work-whole w vs shelf walking readings p first none at_work reads =
     record {

@@ -1,16 +1,8 @@
 -- Each event keeps trees: what it brings fits some trees afterwards, for which the machine stands then, with all that its loads read.
-use Rattle.std.proofs.Common.{◌≡◌, ℕ, List, [], ◌∷◌, inl, inr, sym, ap, ◌∙◌, subst}
-use Rattle.std.specs.Prelude.{◌⊎◌}
-use Rattle.pagable_world.specs.declared.events.Event.{Event}
-use Rattle.pagable_world.specs.declared.events.Event.TheVariants as events
-use Rattle.pagable_world.specs.declared.events.EventReply.{EventReply}
-use Rattle.pagable_world.specs.Plain.{Tree, Among}
-use Rattle.pagable_world.specs.World.{Reading, Frame, to_load, Walking, Values, Seen, IsLawful}
-use Rattle.pagable_world.specs.Pager.{MachineState, PagerState, world_of, IsMachineWhole, StandsFor, FramesFit, ReadingFits, ReadingBrings, TodoBrings, EventBrings, IsReadingOf}
-use Rattle.pagable_world.specs.Runs.{HoldsSettled, ReadsItsTypes, TakesWell, TodoTakesWell, AsksWell, IsWellAsked}
-use Rattle.pagable_laws.specs.ReadLaws.{FramesGiven}
-use Rattle.pagable_laws.specs.TreeSteps.{Change, CoreGoes, IsSteppedReading, EventFeels, by-call, by-reading, by-key, by-nothing, KeysAreReady, IsFresh}
-use Rattle.pagable_laws.specs.TreeRuns.{ChangeFits, ReadingsGiven}
+use Rattle.pagable_laws.proofs.Words.{◌≡◌, ℕ, List, [], ◌∷◌, inl, inr, sym, ap, ◌∙◌, subst, ◌⊎◌, Event, EventReply, Tree, Among, Reading, Frame, to_load, Walking, Values, Seen, IsLawful}
+use Rattle.pagable_laws.proofs.Words.{MachineState, PagerState, world_of, IsMachineWhole, StandsFor, FramesFit, ReadingFits, ReadingBrings, TodoBrings, EventBrings, IsReadingOf, HoldsSettled}
+use Rattle.pagable_laws.proofs.Words.{ReadsItsTypes, TakesWell, TodoTakesWell, AsksWell, IsWellAsked, FramesGiven, Change, CoreGoes, IsSteppedReading, EventFeels, by-call, by-reading, by-key}
+use Rattle.pagable_laws.proofs.Words.{by-nothing, KeysAreReady, IsFresh, ChangeFits, ReadingsGiven}
 use Rattle.pagable_laws.proofs.Trees.{same_some}
 use Rattle.pagable_laws.proofs.Fitting.{tree-stays}
 use Rattle.pagable_laws.proofs.Felt.{none-comes, fits-nothing, fits-key, call-fits}
@@ -25,19 +17,21 @@ module _ {N E : Type 0} {v : Values N} {c : Change} {s s' : PagerState N E} {tre
 
 module _ {N E B W : Type 0} (m : Seen N B W) (s : MachineState N E) (trees : ℕ → Tree) where
   -- the reading that makes the step is what brings values
-  reading-brings : (event : Event N B W) (reading : Reading) (n : ℕ) (x : N) → IsSteppedReading (world_of s) event reading → EventBrings m.values (world_of s) event n x → ReadingBrings m.values s.pager.core reading n x
-  reading-brings (events.LoadStep l) reading n x stepped (other, at, brings) =
+  reading-brings : (event : Event N B W) (reading : Reading) (n : ℕ) (x : N) → IsSteppedReading (world_of s) event reading → EventBrings m.values (world_of s) event n x
+      → ReadingBrings m.values s.pager.core reading n x
+  reading-brings (Event.LoadStep l) reading n x stepped (other, at, brings) =
       let same : other ≡ reading = same_some _ _ (sym at ∙ stepped.0) in
       subst (λ z. ReadingBrings m.values s.pager.core z n x) same brings
-  reading-brings (events.WorkerStep k) reading n x (walking, r, place, through, below, there, todo) (other, at, brings) =
+  reading-brings (Event.WorkerStep k) reading n x (walking, r, place, through, below, there, todo) (other, at, brings) =
       let same : other ≡ walking = same_some _ _ (sym at ∙ there) in
       let front : other.todo ≡ to_load r place through reading ∷ below = ap (λ (z : Walking). z.todo) same ∙ todo in
       subst (λ z. TodoBrings m.values s.pager.core z n x) front brings
   reading-brings event reading n x stepped brings = absurd stepped
 
-  reading-takes : (event : Event N B W) (reply : EventReply N B W) (reading : Reading) → IsSteppedReading (world_of s) event reading → IsWellAsked m.values s trees event reply → TakesWell m.values s.pager reading
-  reading-takes (events.LoadStep l) reply reading stepped well = well reading stepped.0
-  reading-takes (events.WorkerStep k) reply reading (walking, r, place, through, below, there, todo) well = subst (λ z. TodoTakesWell m.values s.pager z) todo (well walking there)
+  reading-takes : (event : Event N B W) (reply : EventReply N B W) (reading : Reading) → IsSteppedReading (world_of s) event reading → IsWellAsked m.values s trees event reply
+      → TakesWell m.values s.pager reading
+  reading-takes (Event.LoadStep l) reply reading stepped well = well reading stepped.0
+  reading-takes (Event.WorkerStep k) reply reading (walking, r, place, through, below, there, todo) well = subst (λ z. TodoTakesWell m.values s.pager z) todo (well walking there)
   reading-takes event reply reading stepped well = absurd stepped
 
   pub nothing-yet : (reading : Reading) → reading.frames ≡ [] → ReadingFits m.values s.pager trees reading
@@ -56,24 +50,33 @@ module _ {N E B W : Type 0} (m : Seen N B W) (s : MachineState N E) (trees : ℕ
     given-of reading (inl is) = (given reading is).1
     given-of reading (inr is) = none-given s.pager.core.last.node reading.frames is.0
 
-    pub event-fits : (lawful : IsLawful m.values) (readable : ReadsItsTypes m.values.types) (s' : MachineState N E) → HoldsSettled m.values s.pager → IsMachineWhole m.values s → IsMachineWhole m.values s' → KeysAreReady m.values s trees
-        → (event : Event N B W) (reply : EventReply N B W) {c : Change} → CoreGoes c s.pager.core s'.pager.core → IsWellAsked m.values s trees event reply → EventFeels m.values (world_of s) event reply (world_of s') c
+    pub event-fits : (lawful : IsLawful m.values) (readable : ReadsItsTypes m.values.types) (s' : MachineState N E) → HoldsSettled m.values s.pager → IsMachineWhole m.values s
+        → IsMachineWhole m.values s' → KeysAreReady m.values s trees
+        → (event : Event N B W) (reply : EventReply N B W) {c : Change} → CoreGoes c s.pager.core s'.pager.core → IsWellAsked m.values s trees event reply
+        → EventFeels m.values (world_of s) event reply (world_of s') c
         → (trees' : ℕ → Tree) × ChangeFits m.values c (EventBrings m.values (world_of s) event) s.pager s'.pager trees trees'
     event-fits lawful readable s' settled whole whole' ready event reply goes well (by-call c call answer called replied feels keeps) =
         let P : Event N B W → EventReply N B W → Type 0 = λ e r. IsWellAsked m.values s trees e r in
-        let asked : AsksWell m.values s.pager trees call answer = subst (λ r. P (events.Call call) r) replied (subst (λ e. P e reply) called well) in
+        let asked : AsksWell m.values s.pager trees call answer = subst (λ r. P (Event.Call call) r) replied (subst (λ e. P e reply) called well) in
         let f = call-fits lawful settled whole.pager whole'.pager stands.pager c call answer goes asked feels in
         (f.after, subst (λ e. ChangeFits m.values c (EventBrings m.values (world_of s) e) s.pager s'.pager trees f.after) (sym called) f.fits)
     event-fits lawful readable s' settled whole whole' ready event reply goes well (by-reading c reading answer frames stepped opens feels steps) =
         let is = is-reading-of (world_of s) event reading stepped in
-        let f = reading-fits lawful readable settled whole.pager whole'.pager stands.pager reading (fits-of reading is) (given-of reading is) goes (reading-takes event reply reading stepped well) opens feels in
+        let f = reading-fits lawful readable settled whole.pager whole'.pager stands.pager reading (fits-of reading is) (given-of reading is) goes
+        (reading-takes event reply reading stepped well) opens feels in
         (f.0, comes-from _ _ (λ n x brings. reading-brings event reading n x stepped brings) f.1)
-    event-fits lawful readable s' settled whole whole' ready event reply goes well (by-key k key row is sets keeps) =
-        (trees, fits-key lawful settled whole.pager whole'.pager stands.pager _ row.node.0 key (λ n x brings. no-value n x (subst (λ e. EventBrings m.values (world_of s) e n x) is brings)) (tree-stays goes.stored (ready k key row sets)))
+    event-fits lawful readable s' settled whole whole' ready event reply goes well (by-key k key row is sets keeps) = (
+      trees,
+      fits-key lawful settled whole.pager whole'.pager stands.pager _ row.node.0 key (λ n x brings. no-value n x (subst (λ e. EventBrings m.values (world_of s) e n x) is brings))
+          (tree-stays goes.stored (ready k key row sets)),
+    )
       where
-        no-value : (n : ℕ) (x : N) → EventBrings m.values (world_of s) (let e : Event N B W = events.WorkerStep k in e) n x → ⊥
+        no-value : (n : ℕ) (x : N) → EventBrings m.values (world_of s) (let e : Event N B W = Event.WorkerStep k in e) n x → ⊥
         no-value n x (other, at, brings) =
             let same : other ≡ sets.walking = same_some _ _ (sym at ∙ sets.there) in
             subst (λ z. TodoBrings m.values s.pager.core z n x) (ap (λ (z : Walking). z.todo) same ∙ sets.sets) brings
-    event-fits lawful readable s' settled whole whole' ready event reply goes well (by-nothing stays keeps) =
-        (trees, fits-nothing lawful settled whole.pager whole'.pager stands.pager _ (λ n x brings none is. absurd (none-comes lawful settled whole.pager whole'.pager stands.pager n x goes none is (stays n x brings))))
+    event-fits lawful readable s' settled whole whole' ready event reply goes well (by-nothing stays keeps) = (
+      trees,
+      fits-nothing lawful settled whole.pager whole'.pager stands.pager _
+          (λ n x brings none is. absurd (none-comes lawful settled whole.pager whole'.pager stands.pager n x goes none is (stays n x brings))),
+    )

@@ -1,19 +1,9 @@
 -- A worker's step, case by case: its table and its to-do list fit afterwards.
-use Rattle.std.proofs.Common.{◌≡◌, ℕ, ◌≤◌, ◌==◌, true, List, [], ◌∷◌, ◌++◌, length, Option, Some, None, Ok, Err, if◌then◌else◌, refl, sym, ap, subst, ◌∙◌, arith}
-use Rattle.std.specs.Prelude.{drop}
-use Rattle.std.proofs.lemmas.Bool.Decides.{nat_tests}
-use Rattle.pagable_model.specs.Merkle.{blob_of}
-use Rattle.pagable_world.specs.Plain.{ArcRef, Identity, Blob, HandleNumber, Tree, type_of}
-use Rattle.pagable_world.specs.declared.events.Claim.TheVariants as claims
-use Rattle.pagable_world.specs.declared.events.PinStep.TheVariants as pinsteps
-use Rattle.pagable_world.specs.declared.events.Took.TheVariants as took
-use Rattle.pagable_world.specs.declared.events.Took.{Took}
-use Rattle.pagable_world.specs.Kinds.{identity_of}
-use Rattle.pagable_world.specs.World.{Shelf, Slot, no_result, published, Written, Open, Fault, Todo, was_failed, was_refused, to_start, to_pin, to_load, to_write, to_finish, to_item, to_set, to_publish, to_release, to_fail, Task, Values, Seen, digest}
-use Rattle.pagable_world.specs.Calls.{Stores}
-use Rattle.pagable_world.specs.Workers.{Site, Does, IsPublished, claim_fault, next_start, give, give_known, open_node, with_outcome, with_wait, answer_after}
-use Rattle.pagable_world.specs.Headline.{AreKeysOf}
-use Rattle.pagable_laws.specs.PageOutLaws.{Ground, WroteTree, BlobStands, SlotFits, KeysSoFar, Expects, Waits, Above, HasBlob, Walks, SlotsFit}
+use Rattle.pagable_laws.proofs.Words.{◌≡◌, ℕ, ◌≤◌, ◌==◌, true, List, [], ◌∷◌, ◌++◌, length, Option, Some, None, Ok, Err, if◌then◌else◌, refl, sym, ap, subst, ◌∙◌, arith, drop, nat_tests, blob_of}
+use Rattle.pagable_laws.proofs.Words.{ArcRef, Identity, Blob, HandleNumber, Tree, type_of, Claim, PinStep, Took, identity_of, Shelf, Slot, no_result, published, Written, Open, Fault, Todo}
+use Rattle.pagable_laws.proofs.Words.{was_failed, was_refused, to_start, to_pin, to_load, to_write, to_finish, to_item, to_set, to_publish, to_release, to_fail, Task, Values, Seen, digest}
+use Rattle.pagable_laws.proofs.Words.{Stores, Site, Does, IsPublished, claim_fault, next_start, give, give_known, open_node, with_outcome, with_wait, answer_after, AreKeysOf, Ground, WroteTree}
+use Rattle.pagable_laws.proofs.Words.{BlobStands, SlotFits, KeysSoFar, Expects, Waits, Above, HasBlob, Walks, SlotsFit}
 use Rattle.pagable_laws.proofs.Standing.{HasClaim, AllStand}
 use Rattle.pagable_laws.proofs.Changing.{ShelfGrows, some-same, PutsSlot, puts-slot, changes-slot}
 use Rattle.pagable_laws.proofs.Following.{IdentityStands, key-stands}
@@ -23,7 +13,8 @@ use Rattle.pagable_laws.proofs.Shelves.{GroundGoes, so-far-on, wrote-on, blob-on
 
 module _ (shelf : Shelf) where
   -- one more key is known
-  so-far-more : (rs : List ArcRef) (ks : List ℕ) (r : ArcRef) (more : List ArcRef) (key height : ℕ) → drop (length ks) rs ≡ r ∷ more → KeysSoFar shelf rs ks → IsPublished shelf (identity_of r) key height → KeysSoFar shelf rs (ks ++ key ∷ [])
+  so-far-more : (rs : List ArcRef) (ks : List ℕ) (r : ArcRef) (more : List ArcRef) (key height : ℕ) → drop (length ks) rs ≡ r ∷ more → KeysSoFar shelf rs ks
+      → IsPublished shelf (identity_of r) key height → KeysSoFar shelf rs (ks ++ key ∷ [])
   unfolding KeysSoFar
   so-far-more [] [] r more key height e known p = absurd (cc)
   so-far-more [] (k ∷ ks) r more key height e known p = absurd known
@@ -94,7 +85,8 @@ module _ {N B W : Type 0} (m : Seen N B W) (n : ℕ) {g g' : Ground} (task : Tas
 
     finishes : (o : Open) (below : List Todo) (key : ℕ) → HasClaim s.shelf n (identity_of o.reference) (λ w. w ≡ Some o.written) → Waits s.shelf task (to_finish o ∷ below)
         → length o.keys ≡ length o.written.references
-        → key ≡ digest m.values (blob_of o.written.bytes o.keys) → g'.stored key ≡ Some (blob_of o.written.bytes o.keys) → Walks m.values g' s'.shelf task (to_set o.reference o.through key o.height ∷ below)
+        → key ≡ digest m.values (blob_of o.written.bytes o.keys) → g'.stored key ≡ Some (blob_of o.written.bytes o.keys)
+        → Walks m.values g' s'.shelf task (to_set o.reference o.through key o.height ∷ below)
     unfolding Waits
     finishes o below key claim (known, expects, waits) all is there =
         let a = more (identity_of o.reference) claim.slot claim.claimed in
@@ -114,7 +106,8 @@ module _ {N B W : Type 0} (m : Seen N B W) (n : ℕ) {g g' : Ground} (task : Tas
   abbrev Puts : ArcRef → Slot → Type 0
   Puts r slot = PutsSlot s.shelf.slots s'.shelf.slots (identity_of r) slot
 
-  claimed : (r : ArcRef) (place : ℕ) (below : List Todo) → claim_fault s.core r ≡ None → Puts r (record { worker = n; written = None; outcome = no_result }) → Above s.shelf task r below → s'.todo ≡ to_pin r place ∷ below → Fits
+  claimed : (r : ArcRef) (place : ℕ) (below : List Todo) → claim_fault s.core r ≡ None → Puts r (record { worker = n; written = None; outcome = no_result }) → Above s.shelf task r below
+      → s'.todo ≡ to_pin r place ∷ below → Fits
   claimed r place below may puts above e =
       let ok = claimable r may in
       let fits_new : SlotFits m.values g' s'.shelf (identity_of r) (record { worker = n; written = None; outcome = no_result }) =
@@ -161,64 +154,56 @@ module _ {N B W : Type 0} (m : Seen N B W) (n : ℕ) {g g' : Ground} (task : Tas
   stored-so : (key : ℕ) (b : Blob) → Stores s.core key b s'.core → s'.core.stored key ≡ Some b
   stored-so key b h = let e : (key == key) ≡ true = grind (arith, nat_tests) in h.adds.each key ∙ ap (λ t. if t then Some b else s.core.stored key) e
 
-  module _ (step : Took W) (wrote : (i : Identity) (out : W) → step ≡ took.Write i (Ok out) → WroteTree m.values.types g i.node.0 (m.written_of out))
+  module _ (step : Took W) (wrote : (i : Identity) (out : W) → step ≡ Took.Write i (Ok out) → WroteTree m.values.types g i.node.0 (m.written_of out))
       (ends : answer_after s.todo step ≡ None → (key : ℕ) (b : Blob) → s'.core.stored key ≡ Some b → g'.stored key ≡ Some b) where
     stepped : (todo : List Todo) → s.todo ≡ todo → (took : Took W) → step ≡ took → Does m n s todo took s' → AllStand s.shelf n task todo → Walks m.values g s.shelf task todo → Fits
     unfolding AllStand
-    stepped (to_start r place ∷ below) e (took.Claim i (Ok claims.Claimed)) st (is, c) all above =
+    stepped (to_start r place ∷ below) e (Took.Claim i (Ok Claim.Claimed)) st (is, c) all above =
         let t = c.finds.1.2 in claimed r place below c.finds.0 (puts-slot (with_wait s.shelf n None) s'.shelf (identity_of r) (record { worker = n; written = None; outcome = no_result }) t.table_is) above t.list_is
-    stepped (to_start r place ∷ below) e (took.Claim i (Ok (claims.Known key height))) st (is, c) all above =
-        let t = c.finds.1.2 in let a = still r below above in did (kept (λ j. t.table_is.slots j)) t.list_is (given-known m.values g' s'.shelf task r key height (keys-grow more _ _ _ c.finds.1.1) below a.0 a.1)
-    stepped (to_start r place ∷ below) e (took.Claim i (Ok claims.Waiting)) st (is, c) all above = let t = c.finds.1.2 in did (kept (λ j. t.table_is.slots j)) (t.list_is ∙ e) (still r below above)
-    stepped (to_start r place ∷ below) e (took.Claim i (Ok claims.AlreadyFailed)) st (is, c) all walks = let t = c.finds.1.2 in fails (λ j. t.table_is.slots j) was_failed t.list_is
-    stepped (to_start r place ∷ below) e (took.Claim i (Err f)) st (is, c) all walks = let t = c.refused.1 in fails (λ j. t.table_is.slots j) (was_refused f) t.list_is
-    stepped (to_start r place ∷ below) e step st does all walks = absurd does
-    stepped (to_pin r place ∷ below) e (took.Pin i (Ok (pinsteps.Held k))) st (is, p) all above = let t = p.pins.2 in did (kept t.table_stays.slots) t.list_is (still r below above)
-    stepped (to_pin r place ∷ below) e (took.Pin i (Ok (pinsteps.LoadBegun l))) st (is, p) all above = let t = p.pins.2 in did (kept t.table_stays.slots) t.list_is (still r below above)
-    stepped (to_pin r place ∷ below) e (took.Pin i (Ok pinsteps.LoadWent)) st (is, p) all walks = absurd p.pins
-    stepped (to_pin r place ∷ below) e (took.Pin i (Err f)) st (is, p) all walks = let t = p.refused.1 in fails t.table_stays.slots (was_refused f) t.list_is
-    stepped (to_pin r place ∷ below) e step st does all walks = absurd does
-    stepped (to_load r place through reading ∷ below) e (took.Pin i (Ok (pinsteps.Held k))) st (is, p) all above = let t = p.goes.1 in did (kept t.table_stays.slots) t.list_is (still r below above)
-    stepped (to_load r place through reading ∷ below) e (took.Pin i (Ok (pinsteps.LoadBegun l))) st (is, p) all walks = absurd p.goes
-    stepped (to_load r place through reading ∷ below) e (took.Pin i (Ok pinsteps.LoadWent)) st (is, p) all above = let t = p.goes.2 in did (kept t.table_stays.slots) t.list_is (still r below above)
-    stepped (to_load r place through reading ∷ below) e (took.Pin i (Err f)) st (is, p) all walks = let t = p.refused.1 in fails t.table_stays.slots (was_refused f) t.list_is
-    stepped (to_load r place through reading ∷ below) e step st does all walks = absurd does
-    stepped (to_write r place through ∷ below) e (took.Write i (Ok out)) st (is, p) (stands, apart, all) above =
+    stepped (to_start r place ∷ below) e (Took.Claim i (Ok (Claim.Known key height))) st (is, c) all above =
+        let t = c.finds.1.2 in let a = still r below above in
+        did (kept (λ j. t.table_is.slots j)) t.list_is (given-known m.values g' s'.shelf task r key height (keys-grow more _ _ _ c.finds.1.1) below a.0 a.1)
+    stepped (to_start r place ∷ below) e (Took.Claim i (Ok Claim.Waiting)) st (is, c) all above = let t = c.finds.1.2 in did (kept (λ j. t.table_is.slots j)) (t.list_is ∙ e) (still r below above)
+    stepped (to_start r place ∷ below) e (Took.Claim i (Ok Claim.AlreadyFailed)) st (is, c) all walks = let t = c.finds.1.2 in fails (λ j. t.table_is.slots j) was_failed t.list_is
+    stepped (to_start r place ∷ below) e (Took.Claim i (Err f)) st (is, c) all walks = let t = c.refused.1 in fails (λ j. t.table_is.slots j) (was_refused f) t.list_is
+    stepped (to_pin r place ∷ below) e (Took.Pin i (Ok (PinStep.Held k))) st (is, p) all above = let t = p.pins.2 in did (kept t.table_stays.slots) t.list_is (still r below above)
+    stepped (to_pin r place ∷ below) e (Took.Pin i (Ok (PinStep.LoadBegun l))) st (is, p) all above = let t = p.pins.2 in did (kept t.table_stays.slots) t.list_is (still r below above)
+    stepped (to_pin r place ∷ below) e (Took.Pin i (Ok PinStep.LoadWent)) st (is, p) all walks = absurd p.pins
+    stepped (to_pin r place ∷ below) e (Took.Pin i (Err f)) st (is, p) all walks = let t = p.refused.1 in fails t.table_stays.slots (was_refused f) t.list_is
+    stepped (to_load r place through reading ∷ below) e (Took.Pin i (Ok (PinStep.Held k))) st (is, p) all above = let t = p.goes.1 in did (kept t.table_stays.slots) t.list_is (still r below above)
+    stepped (to_load r place through reading ∷ below) e (Took.Pin i (Ok (PinStep.LoadBegun l))) st (is, p) all walks = absurd p.goes
+    stepped (to_load r place through reading ∷ below) e (Took.Pin i (Ok PinStep.LoadWent)) st (is, p) all above = let t = p.goes.2 in did (kept t.table_stays.slots) t.list_is (still r below above)
+    stepped (to_load r place through reading ∷ below) e (Took.Pin i (Err f)) st (is, p) all walks = let t = p.refused.1 in fails t.table_stays.slots (was_refused f) t.list_is
+    stepped (to_write r place through ∷ below) e (Took.Write i (Ok out)) st (is, p) (stands, apart, all) above =
         let t = p.writes in
         let w = subst (λ (j : Identity). WroteTree m.values.types g j.node.0 (m.written_of out)) is (wrote i out st) in
         let claim = stands.1 in
-        writes r place through below (m.written_of out) claim w (changes-slot s.shelf s'.shelf (identity_of r) claim.slot (λ slot. record slot { written = Some (m.written_of out) }) claim.claimed t.table_is) above t.list_is
-    stepped (to_write r place through ∷ below) e (took.Write i (Err f)) st (is, p) all walks = let t = p.refused.1 in fails t.table_is.slots (was_refused f) t.list_is
-    stepped (to_write r place through ∷ below) e step st does all walks = absurd does
-    stepped (to_finish o ∷ below) e (took.Store i (Ok key)) st (is, p) (stands, apart, all) waits =
+        writes r place through below (m.written_of out) claim w
+        (changes-slot s.shelf s'.shelf (identity_of r) claim.slot (λ slot. record slot { written = Some (m.written_of out) }) claim.claimed t.table_is) above t.list_is
+    stepped (to_write r place through ∷ below) e (Took.Write i (Err f)) st (is, p) all walks = let t = p.refused.1 in fails t.table_is.slots (was_refused f) t.list_is
+    stepped (to_finish o ∷ below) e (Took.Store i (Ok key)) st (is, p) (stands, apart, all) waits =
         let t = p.goes in
         let b = p.stored.stores in
         let goes_on = let P : List Todo → Took W → Type 0 = λ x k. answer_after x k ≡ None in subst (λ x. P x step) (sym e) (subst (λ k. P (to_finish o ∷ below) k) (sym st) refl) in
         did (kept t.table_stays.slots) t.list_is (finishes t.table_stays.slots o below key stands.1 waits p.all b.0 (ends goes_on key _ (stored-so key _ b.1)))
-    stepped (to_finish o ∷ below) e (took.Store i (Err f)) st (is, p) all walks = let t = p.refused in fails t.table_stays.slots (was_refused f) t.list_is
-    stepped (to_finish o ∷ below) e step st does all walks = absurd does
-    stepped (to_item written ks ∷ below) e (took.Store i (Ok key)) st (is, p) all walks = let t = p.goes in did (kept t.table_stays.slots) t.list_is tt
-    stepped (to_item written ks ∷ below) e (took.Store i (Err f)) st (is, p) all walks = let t = p.refused in fails t.table_stays.slots (was_refused f) t.list_is
-    stepped (to_item written ks ∷ below) e step st does all walks = absurd does
-    stepped (to_set r through key height ∷ below) e (took.SetKey i (Ok u)) st (is, p) all (blob, above) =
+    stepped (to_finish o ∷ below) e (Took.Store i (Err f)) st (is, p) all walks = let t = p.refused in fails t.table_stays.slots (was_refused f) t.list_is
+    stepped (to_item written ks ∷ below) e (Took.Store i (Ok key)) st (is, p) all walks = let t = p.goes in did (kept t.table_stays.slots) t.list_is tt
+    stepped (to_item written ks ∷ below) e (Took.Store i (Err f)) st (is, p) all walks = let t = p.refused in fails t.table_stays.slots (was_refused f) t.list_is
+    stepped (to_set r through key height ∷ below) e (Took.SetKey i (Ok u)) st (is, p) all (blob, above) =
         let t = p.goes in did (kept t.table_stays.slots) t.list_is (has-blob-on goes more fits blob, still r below above)
-    stepped (to_set r through key height ∷ below) e (took.SetKey i (Err f)) st (is, p) all walks = let t = p.refused in fails t.table_stays.slots (was_refused f) t.list_is
-    stepped (to_set r through key height ∷ below) e step st does all walks = absurd does
-    stepped (to_publish r key height ∷ below) e (took.Publish i k h) st (is, same_key, same_height, t) (stands, apart, all) (blob, above) =
+    stepped (to_set r through key height ∷ below) e (Took.SetKey i (Err f)) st (is, p) all walks = let t = p.refused in fails t.table_stays.slots (was_refused f) t.list_is
+    stepped (to_publish r key height ∷ below) e (Took.Publish i k h) st (is, same_key, same_height, t) (stands, apart, all) (blob, above) =
         let claim = stands.1 in
         let still : blob.slot.outcome ≡ no_result = ap (λ (z : Slot). z.outcome) (some-same blob.claimed claim.claimed) ∙ claim.no_result_yet in
         let new : with_outcome (published key height) blob.slot ≡ record blob.slot { outcome = published key height } = rw still refl in
         let puts = changes-slot s.shelf s'.shelf (identity_of r) blob.slot (with_outcome (published key height)) blob.claimed t.table_is in
         publishes r key height below blob (subst (λ z. Puts r z) new puts) above t.list_is
-    stepped (to_publish r key height ∷ below) e step st does all walks = absurd does
-    stepped (to_release r key height ∷ below) e (took.Release i) st (is, falls, t) all (p, above) =
+    stepped (to_release r key height ∷ below) e (Took.Release i) st (is, falls, t) all (p, above) =
         let a = still r below above in did (kept t.table_stays.slots) t.list_is (given m.values g' s'.shelf task r key height (keys-grow more _ _ _ p) below a.0 a.1)
-    stepped (to_release r key height ∷ below) e step st does all walks = absurd does
-    stepped (to_fail fault back ∷ below) e took.Fail st (gives, same, list_is) all walks = did (slots-failed goes more fits n same.slots) list_is tt
-    stepped (to_fail fault back ∷ below) e step st does all walks = absurd does
-    stepped [] e step st does all walks = absurd does
+    stepped (to_fail fault back ∷ below) e Took.Fail st (gives, same, list_is) all walks = did (slots-failed goes more fits n same.slots) list_is tt
+    stepped _ e step st does all walks = absurd does
 
   -- a step leaves what fits
-  pub walk-steps : (step : Took W) → Does m n s s.todo step s' → ((i : Identity) (out : W) → step ≡ took.Write i (Ok out) → WroteTree m.values.types g i.node.0 (m.written_of out))
+  pub walk-steps : (step : Took W) → Does m n s s.todo step s' → ((i : Identity) (out : W) → step ≡ Took.Write i (Ok out) → WroteTree m.values.types g i.node.0 (m.written_of out))
       → (answer_after s.todo step ≡ None → (key : ℕ) (b : Blob) → s'.core.stored key ≡ Some b → g'.stored key ≡ Some b) → AllStand s.shelf n task s.todo → Walks m.values g s.shelf task s.todo → Fits
   walk-steps step does wrote ends all walks = stepped step wrote ends s.todo refl step refl does all walks

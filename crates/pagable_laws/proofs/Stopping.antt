@@ -1,22 +1,14 @@
 -- A form is read up to a reference that is refused, and is refused so.
-use Rattle.std.proofs.Common.{◌≡◌, ℕ, List, [], ◌∷◌, ◌++◌, length, Ok, Err, refl, ap, inl, inr, append_assoc}
-use Rattle.pagable_model.specs.declared.error.Error.{Error}
-use Rattle.pagable_model.specs.Numbers.{varint_at}
-use Rattle.pagable_model.specs.Basic.{bool_at}
-use Rattle.pagable_model.specs.Meaning.{Meaning}
-use Rattle.pagable_model.specs.Keys.{Entry}
-use Rattle.pagable_model.specs.Shape.{Shape}
-use Rattle.pagable_model.specs.Reading.{Look, items, two, read_with, below}
-use Rattle.pagable_model.specs.Form.{Form, Forms, Entries}
-use Rattle.pagable_model.specs.Form.{nothing-form, unsigned-form, signed-form, flag-form, text-form, letter-form, duration-form, pattern-form, none-form, some-form, err-form, ok-form, list-form, run-form, array-form, both-form}
-use Rattle.pagable_model.specs.Form.{sorted-map-form, placed-map-form, hash-map-form, sorted-set-form, placed-set-form, static-form, tagged-form, case-form, reference-form, nested-form}
-use Rattle.pagable_model.specs.Form.{json-null-form, json-flag-form, json-number-form, json-text-form, json-array-form, json-object-form, no-forms, more-forms, no-entries, more-entries}
-use Rattle.pagable_model.specs.Canonical.{IsReadable, Throughout}
-use Rattle.pagable_laws.specs.FormLaws.{rest, LooksUp, no-references, more-references}
+use Rattle.pagable_laws.proofs.Words.{◌≡◌, ℕ, List, [], ◌∷◌, ◌++◌, length, Ok, Err, refl, ap, inl, inr, append_assoc, Error, varint_at, bool_at, Meaning, Entry, Shape, Look, items, two}
+use Rattle.pagable_laws.proofs.Words.{read_with, below, Form, Forms, Entries}
+use Rattle.pagable_laws.proofs.Words.{some-form, err-form, ok-form, list-form, run-form, array-form, both-form, sorted-map-form, placed-map-form, hash-map-form, sorted-set-form, placed-set-form}
+use Rattle.pagable_laws.proofs.Words.{tagged-form, case-form, reference-form, nested-form, json-array-form}
+use Rattle.pagable_laws.proofs.Words.{json-object-form, no-forms, more-forms, no-entries, more-entries, IsReadable, Throughout, rest, LooksUp, no-references, more-references}
 use Rattle.pagable_laws.proofs.Basic.{length-again, text-again}
 use Rattle.pagable_laws.proofs.Wholes.{unsigned-again}
 use Rattle.pagable_laws.proofs.Within.{here, part_of, of_json, of_text}
-use Rattle.pagable_laws.proofs.Readable.{in_optional, in_ok, in_err, in_list, in_array, in_first, in_second, in_sorted_key, in_sorted_value, in_placed_key, in_placed_value, in_hash_key, in_hash_value, in_sorted_item, in_placed_item, in_written, in_case}
+use Rattle.pagable_laws.proofs.Readable.{in_optional, in_ok, in_err, in_list, in_array, in_first, in_second, in_sorted_key, in_sorted_value, in_placed_key, in_placed_value, in_hash_key}
+use Rattle.pagable_laws.proofs.Readable.{in_hash_value, in_sorted_item, in_placed_item, in_written, in_case}
 use Rattle.pagable_laws.proofs.Again.{no_case-form, read_at, form-again}
 
 -- What stands for references is looked up, one after another, up to one that is refused.
@@ -57,15 +49,6 @@ module _ {A B : Type 0} {look : Look A B} {kind_of : B → ℕ} {parts : ℕ →
     pub form-stops : (x : List ℕ) (r : List A) {left : ℕ} {s : Shape} {m : Meaning B} {b : List ℕ} {k : List B} → Form B kind_of parts left s m b k → Stops look kind_of e r k
         → Throughout IsReadable parts s
         → read_at look parts left s (rest (b ++ x) r) ≡ Err e
-    form-stops x r (nothing-form left) u t = none-stops u
-    form-stops x r (unsigned-form left w n h) u t = none-stops u
-    form-stops x r (signed-form left w z h) u t = none-stops u
-    form-stops x r (flag-form left b) u t = none-stops u
-    form-stops x r (text-form left b h le) u t = none-stops u
-    form-stops x r (letter-form left c h) u t = none-stops u
-    form-stops x r (duration-form left seconds nanos h l) u t = none-stops u
-    form-stops x r (pattern-form left b h le) u t = none-stops u
-    form-stops x r (none-form left s) u t = none-stops u
     form-stops x r (some-form left s m b k h) u t = rw (form-stops x r h u (in_optional t)) refl
     form-stops x r (err-form left s s2 m b k h) u t = rw (form-stops x r h u (in_err t)) refl
     form-stops x r (ok-form left s s2 m b k h) u t = rw (form-stops x r h u (in_ok t)) refl
@@ -83,7 +66,6 @@ module _ {A B : Type 0} {look : Look A B} {kind_of : B → ℕ} {parts : ℕ →
     form-stops x r (hash-map-form left s s2 es b k le up h) u t = rw (append_assoc, length-again (length es) (b ++ x) le, entries-stop x r h u (in_hash_key t) (in_hash_value t)) refl
     form-stops x r (sorted-set-form left order s ms b k le up h) u t = rw (append_assoc, length-again (length ms) (b ++ x) le, forms-stop x r h u (in_sorted_item t)) refl
     form-stops x r (placed-set-form left s ms b k le up h) u t = rw (append_assoc, length-again (length ms) (b ++ x) le, forms-stop x r h u (in_placed_item t)) refl
-    form-stops x r (static-form left registry i m lt is) u t = none-stops u
     form-stops x r (tagged-form left written known body tag m b k utf8 le f) u t = elim ((here t).0 tag) [
       | inl h ↦ absurd (no_case-form f h)
       | inr h ↦ rw (append_assoc, text-again tag (b ++ x) utf8 le, h.0, h.1, form-stops x r f u (in_written written known body tag t h)) refl
@@ -91,12 +73,9 @@ module _ {A B : Type 0} {look : Look A B} {kind_of : B → ℕ} {parts : ℕ →
     form-stops x r (case-form left w known part n m b k lt is f) u t = rw (append_assoc, unsigned-again w n (b ++ x) lt, is, form-stops x r f u (in_case w known part n is t)) refl
     form-stops x r (reference-form left kind a is) u t = let p = one-stop u in rw (p.2, ← is, p.3) refl
     form-stops x r (nested-form left less n m b k is h) u t = rw (is, form-stops x r h u (part_of t)) refl
-    form-stops x r (json-null-form left) u t = none-stops u
-    form-stops x r (json-flag-form left b) u t = none-stops u
-    form-stops x r (json-number-form left z h) u t = none-stops u
-    form-stops x r (json-text-form left b h le) u t = none-stops u
     form-stops x r (json-array-form left less ms b k is le h) u t = rw (is, append_assoc, length-again (length ms) (b ++ x) le, forms-stop x r h u (of_json tt)) refl
     form-stops x r (json-object-form left less es b k is le up h) u t = rw (is, append_assoc, length-again (length es) (b ++ x) le, entries-stop x r h u (of_text tt) (of_json tt)) refl
+    form-stops x r _ u t = none-stops u
 
     forms-stop : (x : List ℕ) (r : List A) {left : ℕ} {s : Shape} {ms : List (Meaning B)} {b : List ℕ} {k : List B} → Forms B kind_of parts left s ms b k → Stops look kind_of e r k
         → Throughout IsReadable parts s
@@ -116,6 +95,14 @@ module _ {A B : Type 0} {look : Look A B} {kind_of : B → ℕ} {parts : ℕ →
       | behind front back whole looks i ↦ elim (split-stop k l i) [
         | in-front q ↦ rw (whole, append_assoc, append_assoc, form-again (c ++ (d ++ x)) front back h looks t, form-stops (d ++ x) back g q v) refl
         | behind front2 back2 whole2 looks2 q ↦
-            rw (whole, whole2, append_assoc, append_assoc, form-again (c ++ (d ++ x)) front (front2 ++ back2) h looks t, form-again (d ++ x) front2 back2 g looks2 v, entries-stop x back2 f q t v) refl
+            rw (
+              whole,
+              whole2,
+              append_assoc,
+              append_assoc,
+              form-again (c ++ (d ++ x)) front (front2 ++ back2) h looks t,
+              form-again (d ++ x) front2 back2 g looks2 v,
+              entries-stop x back2 f q t v,
+            ) refl
       ]
     ]

@@ -1,10 +1,6 @@
 -- Sums over the elements of a list, and what they count.
-use Rattle.std.proofs.Common.{◌≡◌, ℕ, suc, zero, ◌+◌, ◌<◌, ◌≤◌, ◌==◌, Bool, true, false, List, [], ◌∷◌, sum_by, cond, refl, ap, ◌∙◌, arith}
-use Rattle.std.specs.Prelude.{filter, length}
-use Rattle.std.proofs.lemmas.Bool.Decides.{nat_tests}
-use Rattle.std.proofs.lemmas.List.Sums.{sum_by-cons}
-use Rattle.pagable_world.specs.Plain.{one, Among, times}
-use Rattle.pagable_laws.specs.FallLaws.{PinsAreAFilter}
+use Rattle.pagable_laws.proofs.Words.{◌≡◌, ℕ, suc, zero, ◌+◌, ◌<◌, ◌≤◌, ◌==◌, Bool, true, false, List, [], ◌∷◌, sum_by, cond, refl, ap, ◌∙◌, arith, filter, length, nat_tests, sum_by-cons, one}
+use Rattle.pagable_laws.proofs.Words.{Among, times, PinsAreAFilter}
 
 -- a number is itself by the test too
 pub self-number : (a : ℕ) → (a == a) ≡ true

@@ -1,45 +1,29 @@
 -- What a load has read fits after its step; and a node whose value is in memory gives its tree, as does what a load of a key answers.
-use Rattle.std.proofs.Common.{◌≡◌, ℕ, zero, suc, ◌+◌, ◌<◌, ◌≤◌, Bool, true, false, List, [], ◌∷◌, Option, Some, None, if◌then◌else◌, inr, refl, sym, ap, ◌∙◌, subst, arith}
-use Rattle.std.specs.Prelude.{is_some, nat_lt, slice_get}
-use Rattle.std.proofs.lemmas.Bool.Decides.{nat_tests}
-use Rattle.pagable_world.specs.declared.handles.HandleRow.{HandleRow}
-use Rattle.pagable_world.specs.declared.handles.Owner.TheVariants as owners
-use Rattle.pagable_world.specs.Plain.{OptionalDataKey, ArcRef, Kind, HandleNumber, Blob, Types, Tree, ReadsTree, type_of, Among, one, is_eager}
-use Rattle.pagable_world.specs.Kinds.{find_row, is_handle, is_at, is_pin, is_pinning, held, pins}
-use Rattle.pagable_world.specs.World.{Core, OpenLoad, Frame, Reading, row_at, Values, IsLawful}
-use Rattle.pagable_world.specs.Refusals.{IsReference}
-use Rattle.pagable_world.specs.Loads.{Next, reads, asks, is_faulty, next_in, need_at, need_of, needs_nested, needs_lazy, to_adopt, ReadsRoot, ReadsNode, root_frame, nested_frame, with_got}
-use Rattle.pagable_world.specs.Pager.{PagerState, HandlesAreWhole, IsWhole, WellFormed, NodeStands, here, away, ValueStands, ReadsNodeTree, FramesFit, SameTrees, Represents}
-use Rattle.pagable_world.specs.Runs.{ReadsItsTypes}
-use Rattle.pagable_world.specs.Headline.{GivesTree, ReadIsRight}
-use Rattle.pagable_laws.specs.TreeSteps.{Change, bears_known, CoreGoes, ReadingFeels, reads-root, reads-blob, gets-known, gets-lazy, makes-known, makes-node, reading-ends}
-use Rattle.pagable_laws.specs.ReadLaws.{Decoded, FramesGiven}
+use Rattle.pagable_laws.proofs.Words.{◌≡◌, ℕ, zero, suc, ◌+◌, ◌<◌, ◌≤◌, Bool, true, false, List, [], ◌∷◌, Option, Some, None, if◌then◌else◌, inr, refl, sym, ap, ◌∙◌, subst, arith, is_some}
+use Rattle.pagable_laws.proofs.Words.{nat_lt, slice_get, nat_tests, HandleRow, Owner, OptionalDataKey, ArcRef, Kind, HandleNumber, Blob, Types, Tree, ReadsTree, type_of, Among, one, is_eager}
+use Rattle.pagable_laws.proofs.Words.{is_at, is_pin, is_pinning, held, pins, Core, OpenLoad, Frame, Reading, row_at, Values, IsLawful, IsReference, Next, reads, asks}
+use Rattle.pagable_laws.proofs.Words.{is_faulty, next_in, need_at, need_of, needs_nested, needs_lazy, to_adopt, ReadsRoot, ReadsNode, root_frame, nested_frame, with_got, PagerState}
+use Rattle.pagable_laws.proofs.Words.{HandlesAreWhole, IsWhole, WellFormed, NodeStands, here, away, ValueStands, ReadsNodeTree, FramesFit, SameTrees, Represents, ReadsItsTypes, GivesTree}
+use Rattle.pagable_laws.proofs.Words.{ReadIsRight, Change, bears_known, CoreGoes, ReadingFeels, reads-root, reads-blob, gets-known, gets-lazy, makes-known, makes-node, reading-ends, Decoded}
+use Rattle.pagable_laws.proofs.Words.{FramesGiven}
 use Rattle.pagable_laws.proofs.Sums.{at-most-sum, self-number}
 use Rattle.pagable_laws.proofs.Trees.{same_some}
 use Rattle.pagable_laws.proofs.Following.{cell-of, given-of}
 use Rattle.pagable_laws.proofs.Decoding.{decodes, read_stands}
 use Rattle.pagable_laws.proofs.Fitting.{node-stays, first-fits, first-typed, frames-stay, got-given, made-fits, needed-fits, nested-fits, root-fits}
+use Rattle.pagable_laws.proofs.Outlasting.{among-found}
 
 -- ---- a live handle's node
 
-pub found-among : (q : ℕ) (rows : List HandleRow) (row : HandleRow) → find_row q rows ≡ Some row → Among rows row
-unfolding find_row
-found-among q [] row is = absurd (cc)
-found-among q (h ∷ hs) row is = at (λ e. found-among q hs row e) (is_handle q h) is
-  where
-    at : (find_row q hs ≡ Some row → Among hs row) → (t : Bool) → (if t then Some h else find_row q hs) ≡ Some row → Among (h ∷ hs) row
-    at rest true e = (zero, e)
-    at rest false e = let a = rest e in (suc a.0, a.1)
-
 pub row-held : (w : Core) (k : HandleNumber) (row : HandleRow) → row_at w k ≡ Some row → 0 < held row.node.0 w.rows
 row-held w k row is =
-    let a = at-most-sum (λ h. one (is_at row.node.0 h)) w.rows row (found-among k.0 w.rows row is) in
+    let a = at-most-sum (λ h. one (is_at row.node.0 h)) w.rows row (among-found k.0 w.rows row is) in
     let b : one (is_at row.node.0 row) ≡ 1 = rw (self-number row.node.0) refl in
     omega (arith, a, b)
 
 pub row-pins : (w : Core) (k : HandleNumber) (row : HandleRow) → row_at w k ≡ Some row → is_pinning row.mode ≡ true → 0 < pins row.node.0 w.rows
 row-pins w k row is pinning =
-    let a = at-most-sum (λ h. one (is_pin row.node.0 h)) w.rows row (found-among k.0 w.rows row is) in
+    let a = at-most-sum (λ h. one (is_pin row.node.0 h)) w.rows row (among-found k.0 w.rows row is) in
     let b : one (is_pin row.node.0 row) ≡ 1 = rw (self-number row.node.0, pinning) refl in
     omega (arith, a, b)
 
@@ -53,7 +37,7 @@ some-value None is = absurd (cc)
 some-value (Some x) is = (x, refl)
 
 module _ {N E : Type 0} {v : Values N} {s : PagerState N E} where
-  stands-here : {n : ℕ} {t : Tree} {x : N} → NodeStands v s n t → s.values n ≡ Some x → ValueStands v s x t
+  pub stands-here : {n : ℕ} {t : Tree} {x : N} → NodeStands v s n t → s.values n ≡ Some x → ValueStands v s x t
   stands-here (here n y own t held typed means stands fits) is =
       let same : y ≡ _ = same_some _ _ (sym held ∙ is) in
       subst (λ z. ValueStands v s z t) same (record { own = own; typed = typed; means = means; stands = stands })
@@ -137,7 +121,8 @@ module _ {N : Type 0} {v : Values N} {w w' : Core} {trees trees' : ℕ → Tree}
       let frame = root_frame load.key reading.node_type blob in
       let is2 : frames ≡ frame ∷ [] = is ∙ ap (λ (z : OpenLoad). root_frame z.key reading.node_type blob ∷ []) same_load in
       let fit = root-fits v.types load.key reading.node_type w'.stored trees' blob there in
-      subst (λ fs. FitAfter v w' trees' load.key reading.node_type fs) (sym is2) (record { fit = fit; given = new-given w'.last.node frame [] refl (λ fr r among got. absurd (let a = among.1 in cc)) })
+      subst (λ fs. FitAfter v w' trees' load.key reading.node_type fs) (sym is2)
+      (record { fit = fit; given = new-given w'.last.node frame [] refl (λ fr r among got. absurd (let a = among.1 in cc)) })
   fit-after reading load frames h open_load f (reads-blob kind key blob needs stored answer is) =
       let g = fit-still h f in
       let fit = nested-fits v.types load.key reading.node_type w'.stored trees' reading.frames kind key blob g.fit needs (h.goes.stored key blob stored) in
@@ -187,7 +172,7 @@ module _ {N : Type 0} {v : Values N} (lawful : IsLawful v) (readable : ReadsItsT
   -- what a load of a key answers stands for the tree that the key reads as
   pub root-right : {E : Type 0} (s : PagerState N E) (trees : ℕ → Tree) (reading : Reading) (x : N) (key : ℕ) → WellFormed v s → Represents v s trees
       → FramesFit v.types s.core.stored trees key reading.node_type reading.frames
-      → ReadsRoot v reading x → ((r : ArcRef) → Among (v.references x) r → IsReference s.core owners.Caller r) → ReadIsRight v s key x
+      → ReadsRoot v reading x → ((r : ArcRef) → Among (v.references x) r → IsReference s.core Owner.Caller r) → ReadIsRight v s key x
   root-right s trees reading x key whole represents fit root own =
       let here = subst (λ fs. FramesFit v.types s.core.stored trees key reading.node_type fs) root.frames fit in
       let fits = first-fits v.types key reading.node_type s.core.stored trees root.root [] here in

@@ -1,21 +1,15 @@
 -- Readers of which a fault stays whatever follows, what is read of a front is read of the whole, and what was used reads
 -- alone. First for any input that has an end, then for bytes.
-use Rattle.std.proofs.Common.{◌≡◌, ℕ, zero, suc, ◌+◌, ◌-◌, ◌*◌, ◌/◌, ◌%◌, ◌^◌, Bool, true, false, List, [], ◌∷◌, ◌++◌, length, take, Result, Ok, Err, ◌⊎◌, if◌then◌else◌, inl, inr, refl, sym, ap, ◌∙◌, subst, arith, append_assoc}
-use Rattle.std.proofs.lemmas.Bool.{cases_lt, le-ltb, lt-ltb}
-use Rattle.std.proofs.lemmas.List.{take-append-le, drop-append-le, length-append, take-append-drop, length-take-le}
-use Rattle.std.proofs.Math.Seq.{take-length, drop-length}
+use Rattle.pagable_laws.proofs.Words.{◌≡◌, ℕ, zero, suc, ◌+◌, ◌-◌, ◌*◌, ◌/◌, ◌%◌, ◌^◌, Bool, true, false, List, [], ◌∷◌, ◌++◌, length, take, Result, Ok, Err, ◌⊎◌, if◌then◌else◌, inl, inr, refl}
+use Rattle.pagable_laws.proofs.Words.{sym, ap, ◌∙◌, subst, arith, append_assoc, cases_lt, le-ltb, lt-ltb, take-append-le, drop-append-le, length-append, take-append-drop, length-take-le}
+use Rattle.pagable_laws.proofs.Words.{take-length, drop-length, nat_le, nat_lt, Error, ◌>>=◌, Read, byte_at, varint_at, unsigned_at, signed_from, signed_at, longest, length_at, bytes_at, text_at}
+use Rattle.pagable_laws.proofs.Words.{bool_at, one_char, char_at, carried, duration_at, nanos_of_second}
 use Rattle.std.specs.Int.{Width, w8, w16, w32, w64, w128}
 use Rattle.std.specs.Str.{is_utf8, chars}
-use Rattle.std.specs.Prelude.{nat_le, nat_lt}
-use Rattle.pagable_model.specs.declared.error.Error.{Error}
-use Rattle.pagable_model.specs.declared.error.Error.TheVariants as errors
-use Rattle.pagable_model.specs.Steps.{◌>>=◌}
-use Rattle.pagable_model.specs.Numbers.{Read, byte_at, varint_at, unsigned_at, signed_from, signed_at}
-use Rattle.pagable_model.specs.Basic.{longest, length_at, bytes_at, text_at, bool_at, one_char, char_at, carried, duration_at, nanos_of_second}
 
 -- the input ends
 abbrev pub IsEnd : Error → Type 0
-IsEnd e = (e ≡ errors.UnexpectedEnd) ⊎ (e ≡ errors.NoMoreKeys)
+IsEnd e = (e ≡ Error.UnexpectedEnd) ⊎ (e ≡ Error.NoMoreKeys)
 
 -- where the first reads something, the second reads it with x after it; where the first is refused for another cause
 -- than the end, so is the second
@@ -58,7 +52,8 @@ module _ {I : Type 0} {plus : I → I → I} {end : I} (joins : Joins plus end) 
   either false h g = record { goes = λ i x. g.goes i x; uses = λ i. g.uses i }
 
   -- one after the other
-  module _ {A B : Type 0} {get : I → Result (A × I) Error} (f : A → I → Result (B × I) Error) (whole : I → Result (B × I) Error) (is : (i : I) → whole i ≡ (get i >>= λ p. f p.0 p.1)) (h : Tame plus end get) (g : (v : A) → Tame plus end (f v)) where
+  module _ {A B : Type 0} {get : I → Result (A × I) Error} (f : A → I → Result (B × I) Error) (whole : I → Result (B × I) Error) (is : (i : I) → whole i ≡ (get i >>= λ p. f p.0 p.1))
+      (h : Tame plus end get) (g : (v : A) → Tame plus end (f v)) where
     goes_on : (x : I) (first second : Result (A × I) Error) → Goes plus x first second → Goes plus x (first >>= λ p. f p.0 p.1) (second >>= λ p. f p.0 p.1)
     unfolding Goes
     goes_on x (Ok p) second k = rw k ((g p.0).goes p.1 x)
@@ -137,21 +132,24 @@ bytes_uses n bs = elim (cases_lt (length bs) n) [
 pub bytes_tame : (n : ℕ) → TameBytes (bytes_at n)
 bytes_tame n = record { goes = bytes_goes n; uses = bytes_uses n }
 
-last_is : (last : ℕ) (bs : List ℕ) → varint_at zero last bs ≡ (byte_at bs >>= λ p. if nat_le p.0 last then Ok p else Err errors.BadVarint)
+last_is : (last : ℕ) (bs : List ℕ) → varint_at zero last bs ≡ (byte_at bs >>= λ p. if nat_le p.0 last then Ok p else Err Error.BadVarint)
 unfolding varint_at
 last_is last [] = refl
 last_is last (b ∷ bs) = refl
 
-more_is : (more last : ℕ) (bs : List ℕ) → varint_at (suc more) last bs ≡ (byte_at bs >>= λ p. if nat_lt p.0 128 then Ok p else (varint_at more last p.1 >>= λ high. Ok (p.0 - 128 + 128 * high.0, high.1)))
+more_is : (more last : ℕ) (bs : List ℕ)
+    → varint_at (suc more) last bs ≡ (byte_at bs >>= λ p. if nat_lt p.0 128 then Ok p else (varint_at more last p.1 >>= λ high. Ok (p.0 - 128 + 128 * high.0, high.1)))
 unfolding varint_at
 more_is more last [] = refl
 more_is more last (b ∷ bs) = refl
 
 varint_tame : (more last : ℕ) → TameBytes (varint_at more last)
-varint_tame zero last = and_then bytes_join (λ b bs. if nat_le b last then Ok (b, bs) else Err errors.BadVarint) _ (last_is last) byte_tame (λ b. either bytes_join (nat_le b last) (gives bytes_join b) (refuses bytes_join ℕ errors.BadVarint))
+varint_tame zero last = and_then bytes_join (λ b bs. if nat_le b last then Ok (b, bs) else Err Error.BadVarint) _ (last_is last) byte_tame
+    (λ b. either bytes_join (nat_le b last) (gives bytes_join b) (refuses bytes_join ℕ Error.BadVarint))
 varint_tame (suc more) last =
     and_then bytes_join (λ b bs. if nat_lt b 128 then Ok (b, bs) else (varint_at more last bs >>= λ high. Ok (b - 128 + 128 * high.0, high.1))) _ (more_is more last) byte_tame
-    (λ b. either bytes_join (nat_lt b 128) (gives bytes_join b) (and_then bytes_join (λ high bs. Ok (b - 128 + 128 * high, bs)) _ (λ bs. refl) (varint_tame more last) (λ high. gives bytes_join (b - 128 + 128 * high))))
+    (λ b. either bytes_join (nat_lt b 128) (gives bytes_join b)
+    (and_then bytes_join (λ high bs. Ok (b - 128 + 128 * high, bs)) _ (λ bs. refl) (varint_tame more last) (λ high. gives bytes_join (b - 128 + 128 * high))))
 
 pub unsigned_tame : (w : Width) → TameBytes (unsigned_at w)
 unsigned_tame w8 = byte_tame
@@ -166,38 +164,38 @@ signed_tame w = and_then bytes_join (λ n bs. Ok (signed_from w n, bs)) _ (λ bs
 flag_of : ℕ → List ℕ → Read Bool
 flag_of zero bs = Ok (false, bs)
 flag_of (suc zero) bs = Ok (true, bs)
-flag_of (suc (suc n)) bs = Err errors.BadBool
+flag_of (suc (suc n)) bs = Err Error.BadBool
 
 bool_is : (bs : List ℕ) → bool_at bs ≡ (byte_at bs >>= λ p. flag_of p.0 p.1)
 unfolding bool_at flag_of
 bool_is [] = refl
-bool_is (zero ∷ bs) = refl
-bool_is (suc zero ∷ bs) = refl
-bool_is (suc (suc b) ∷ bs) = refl
+bool_is _ = refl
 
 flag_tame : (n : ℕ) → TameBytes (flag_of n)
 unfolding flag_of
 flag_tame zero = gives bytes_join false
 flag_tame (suc zero) = gives bytes_join true
-flag_tame (suc (suc n)) = refuses bytes_join Bool errors.BadBool
+flag_tame (suc (suc n)) = refuses bytes_join Bool Error.BadBool
 
 pub bool_tame : TameBytes bool_at
 bool_tame = and_then bytes_join flag_of _ bool_is byte_tame flag_tame
 
 pub length_tame : TameBytes length_at
 unfolding length_at
-length_tame = and_then bytes_join (λ n bs. if nat_le n longest then Ok (n, bs) else Err errors.TooLong) _ (λ bs. refl) (unsigned_tame w64) (λ n. either bytes_join (nat_le n longest) (gives bytes_join n) (refuses bytes_join ℕ errors.TooLong))
+length_tame = and_then bytes_join (λ n bs. if nat_le n longest then Ok (n, bs) else Err Error.TooLong) _ (λ bs. refl) (unsigned_tame w64)
+    (λ n. either bytes_join (nat_le n longest) (gives bytes_join n) (refuses bytes_join ℕ Error.TooLong))
 
 pub text_tame : TameBytes text_at
 unfolding text_at
 text_tame =
-    and_then bytes_join (λ n bs. bytes_at n bs >>= λ t. if is_utf8 t.0 then Ok t else Err errors.BadUtf8) _ (λ bs. refl) length_tame
-    (λ n. and_then bytes_join (λ t bs. if is_utf8 t then Ok (t, bs) else Err errors.BadUtf8) _ (λ bs. refl) (bytes_tame n) (λ t. either bytes_join (is_utf8 t) (gives bytes_join t) (refuses bytes_join (List ℕ) errors.BadUtf8)))
+    and_then bytes_join (λ n bs. bytes_at n bs >>= λ t. if is_utf8 t.0 then Ok t else Err Error.BadUtf8) _ (λ bs. refl) length_tame
+    (λ n. and_then bytes_join (λ t bs. if is_utf8 t then Ok (t, bs) else Err Error.BadUtf8) _ (λ bs. refl) (bytes_tame n)
+    (λ t. either bytes_join (is_utf8 t) (gives bytes_join t) (refuses bytes_join (List ℕ) Error.BadUtf8)))
 
 one_tame : (cs : List ℕ) → TameBytes (one_char cs)
-one_tame [] = refuses bytes_join ℕ errors.BadChar
+one_tame [] = refuses bytes_join ℕ Error.BadChar
 one_tame (c ∷ []) = gives bytes_join c
-one_tame (c ∷ d ∷ cs) = refuses bytes_join ℕ errors.BadChar
+one_tame (c ∷ d ∷ cs) = refuses bytes_join ℕ Error.BadChar
 
 pub char_tame : TameBytes char_at
 unfolding char_at
@@ -207,4 +205,5 @@ pub duration_tame : TameBytes duration_at
 unfolding duration_at
 duration_tame =
     and_then bytes_join (λ s bs. unsigned_at w32 bs >>= λ n. carried s n.0 n.1) _ (λ bs. refl) (unsigned_tame w64)
-    (λ s. and_then bytes_join (λ n bs. carried s n bs) _ (λ bs. refl) (unsigned_tame w32) (λ n. either bytes_join (nat_lt (s + n / nanos_of_second) (2 ^ 64)) (gives bytes_join (s + n / nanos_of_second, n % nanos_of_second)) (refuses bytes_join (ℕ × ℕ) errors.BadDuration)))
+    (λ s. and_then bytes_join (λ n bs. carried s n bs) _ (λ bs. refl) (unsigned_tame w32)
+    (λ n. either bytes_join (nat_lt (s + n / nanos_of_second) (2 ^ 64)) (gives bytes_join (s + n / nanos_of_second, n % nanos_of_second)) (refuses bytes_join (ℕ × ℕ) Error.BadDuration)))

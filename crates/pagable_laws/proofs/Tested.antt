@@ -1,18 +1,9 @@
 -- A world of few nodes, handles and loads is whole if tests of these say so; and handles fall alone if tests do.
-use Rattle.std.proofs.Common.{◌≡◌, ℕ, zero, suc, ◌<◌, ◌≤◌, ◌==◌, ◌&&◌, Bool, true, false, List, [], ◌∷◌, refl, ap, sym, subst, arith, All, not, Ok}
-use Rattle.std.specs.Prelude.{None, is_some, nat_lt, nat_le, nat_eq}
+use Rattle.pagable_laws.proofs.Words.{◌≡◌, ℕ, zero, suc, ◌<◌, ◌≤◌, ◌==◌, ◌&&◌, Bool, true, false, List, [], ◌∷◌, refl, ap, sym, subst, arith, All, not, Ok, None, is_some, nat_lt, nat_le, nat_eq}
+use Rattle.pagable_laws.proofs.Words.{and_parts, agree_below, agree_below_at, nat_tests, AllPairs-cons, Among, times, one, updated, if_there, Owner, HandleRow, is_shared, is_loose, is_owner}
+use Rattle.pagable_laws.proofs.Words.{is_owned_by, owner_value, is_at, is_pin, is_share, held, pins, sharing, Core, OpenLoad, Root, of_cell, of_key, row_at, type_at, Alike, loses_value}
+use Rattle.pagable_laws.proofs.Words.{owned_outside, is_outside, is_keyed, IsLeast, MustList, Falls, fallen, IsHandleBefore}
 use Rattle.std.specs.List.{AllPairs}
-use Rattle.std.proofs.lemmas.Bool.{and_parts, agree_below, agree_below_at}
-use Rattle.std.proofs.lemmas.Bool.Decides.{nat_tests}
-use Rattle.std.proofs.lemmas.List.Kept.{AllPairs-cons}
-use Rattle.pagable_world.specs.Plain.{Among, times, one, updated, if_there}
-use Rattle.pagable_world.specs.declared.handles.Owner.TheVariants as owners
-use Rattle.pagable_world.specs.declared.handles.Owner.{Owner}
-use Rattle.pagable_world.specs.declared.handles.HandleRow.{HandleRow}
-use Rattle.pagable_world.specs.Kinds.{is_shared, is_loose, is_owner, is_owned_by, owner_value, is_at, is_pin, is_share, held, pins, sharing}
-use Rattle.pagable_world.specs.World.{Core, OpenLoad, Root, of_cell, of_key, row_at, type_at, Alike}
-use Rattle.pagable_world.specs.Cascade.{loses_value, owned_outside, is_outside, is_keyed, IsLeast, MustList, Falls, fallen}
-use Rattle.pagable_world.specs.Pager.{IsHandleBefore}
 use Rattle.pagable_laws.proofs.Sums.{sum-zero}
 
 -- ---- lists and numbers
@@ -43,8 +34,8 @@ updated-past k m x d f le past n lt = let a : (n == m) ≡ false = grind (arith,
 -- ---- rows
 
 abbrev pub owner_low : Owner → Bool
-owner_low (owners.Value n) = nat_le n.0 3
-owner_low owners.List = false
+owner_low (Owner.Value n) = nat_le n.0 3
+owner_low Owner.List = false
 owner_low owner = true
 
 -- of the nodes up to 3, and owned by these or by one who isn't the list
@@ -73,11 +64,8 @@ module _ (rows : List HandleRow) (low : all_pass row_low rows ≡ true) where
       and-not false b e = refl
 
   owner-past : (n : ℕ) → 3 < n → (o : Owner) → owner_low o ≡ true → is_owner (owner_value n) o ≡ false
-  owner-past n lt owners.Caller ok = refl
-  owner-past n lt (owners.Value m) ok = grind (arith, nat_tests)
-  owner-past n lt owners.List ok = refl
-  owner-past n lt (owners.Load l) ok = refl
-  owner-past n lt (owners.Worker v) ok = refl
+  owner-past n lt (Owner.Value m) ok = grind (arith, nat_tests)
+  owner-past n lt _ ok = refl
 
   pub owned-past : (n : ℕ) → 3 < n → (more : HandleRow → Bool) → times (λ h. is_owned_by (owner_value n) h && more h) rows ≡ 0
   owned-past n lt more = none-pass row_low (λ h. is_owned_by (owner_value n) h && more h) rows low (λ h ok. let a = owner-past n lt h.owner (low-parts h ok).2 in rw a refl)
@@ -117,7 +105,8 @@ never n = false
 abbrev pub is_low : Core → Bool
 is_low w = all_pass row_low w.rows
 
-pub falls-so : (before w : Core) (given gone : ℕ → Bool) → is_low before ≡ true → nat_le w.last.handle 13 ≡ true → agree_below (lists_none before w gone) never 4 ≡ true → IsLeast w.rows (is_keyed w) [] given gone → Falls before w given (Ok tt) (fallen w gone [])
+pub falls-so : (before w : Core) (given gone : ℕ → Bool) → is_low before ≡ true → nat_le w.last.handle 13 ≡ true → agree_below (lists_none before w gone) never 4 ≡ true
+    → IsLeast w.rows (is_keyed w) [] given gone → Falls before w given (Ok tt) (fallen w gone [])
 falls-so before w given gone low few none least =
     record {
       gone = gone;
@@ -137,12 +126,14 @@ falls-so before w given gone low few none least =
         let a = must.pinned in let b = must.unpinned in let c = must.unkeyed in grind (arith, nat_tests)
 
 -- the given handles fall alone, if no value that goes owns another
-pub falls-alone : (before w : Core) (given : ℕ → Bool) → is_low before ≡ true → is_low w ≡ true → nat_le w.last.handle 13 ≡ true → agree_below (lists_none before w given) never 4 ≡ true → agree_below (takes_more w given) never 4 ≡ true
+pub falls-alone : (before w : Core) (given : ℕ → Bool) → is_low before ≡ true → is_low w ≡ true → nat_le w.last.handle 13 ≡ true → agree_below (lists_none before w given) never 4 ≡ true
+    → agree_below (takes_more w given) never 4 ≡ true
     → Falls before w given (Ok tt) (fallen w given [])
 falls-alone before w given low_before low few none ok =
     falls-so before w given given low_before few none (record {
       holds = sum-zero (λ h. one (given h.number.0 && not (given h.number.0))) w.rows (λ h among. self (given h.number.0));
-      closed = λ n goes. let a = by-number 3 (takes_more w given) never ok (λ n lt. past (loses_value w.rows (is_keyed w) [] given n) (owned-past w.rows low n lt (is_outside given))) n in grind (arith, nat_tests);
+      closed = λ n goes. let a = by-number 3 (takes_more w given) never ok (λ n lt. past (loses_value w.rows (is_keyed w) [] given n) (owned-past w.rows low n lt (is_outside given))) n in
+          grind (arith, nat_tests);
       least = λ t holds closed. holds;
     })
   where
@@ -179,8 +170,8 @@ ordered low (h ∷ hs) ok =
     at first others (suc j) d within = let a = others j d (omega arith) in omega arith
 
 abbrev pub owner_there : Core → Owner → Bool
-owner_there w (owners.Load l) = is_some (w.loads l.0)
-owner_there w (owners.Worker v) = w.workers v.0
+owner_there w (Owner.Load l) = is_some (w.loads l.0)
+owner_there w (Owner.Worker v) = w.workers v.0
 owner_there w owner = true
 
 abbrev pub row_there : Core → HandleRow → Bool
@@ -192,4 +183,4 @@ root_fits w (of_cell node t h) =
 root_fits w of_key = true
 
 abbrev pub load_fits : Core → ℕ → Bool
-load_fits w l = if_there (λ (load : OpenLoad). nat_lt 0 l && (nat_le l w.last.load && (is_owner owners.Caller load.owner && root_fits w load.root))) true (w.loads l)
+load_fits w l = if_there (λ (load : OpenLoad). nat_lt 0 l && (nat_le l w.last.load && (is_owner Owner.Caller load.owner && root_fits w load.root))) true (w.loads l)

@@ -1,11 +1,7 @@
 -- One key spells one tree, and one tree of canonical types has one key.
-use Rattle.std.proofs.Common.{◌≡◌, ℕ, Option, Some, Result, Ok, refl, sym, ap, ◌∙◌, subst}
-use Rattle.pagable_model.specs.declared.error.Error.{Error}
-use Rattle.pagable_model.specs.Meaning.{Meaning}
-use Rattle.pagable_model.specs.Reading.{Rest, read_typed}
-use Rattle.pagable_model.specs.Blob.{Blob}
-use Rattle.pagable_model.specs.Trees.{KeyRef, Types, tree, type_of, ReadsAs, IsFollowed, number-followed, integer-followed, text-followed, pattern-followed, none-followed, pair-followed, variant-followed, reference-followed, blob_context, rest_of}
-use Rattle.pagable_laws.specs.TreeLaws.{IsOneTree}
+use Rattle.pagable_laws.proofs.Words.{◌≡◌, ℕ, Option, Some, Result, Ok, refl, sym, ap, ◌∙◌, subst, Error, Meaning, Rest, read_typed, Blob, KeyRef, Types, tree, type_of, ReadsAs, IsFollowed}
+use Rattle.pagable_laws.proofs.Words.{number-followed, integer-followed, text-followed, pattern-followed, none-followed, pair-followed, variant-followed, reference-followed, blob_context}
+use Rattle.pagable_laws.proofs.Words.{rest_of, IsOneTree}
 
 pub same_some : {X : Type 0} (x y : X) → Some x ≡ Some y → x ≡ y
 same_some x y e = cc

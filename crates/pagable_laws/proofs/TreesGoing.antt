@@ -1,16 +1,7 @@
 -- Each node keeps its tree in a step whose change fits.
-use Rattle.std.proofs.Common.{◌≡◌, ℕ, ◌<◌, ◌≤◌, Bool, true, false, Some, ◌⊎◌, inl, inr, refl, sym, ap, ◌∙◌, subst, arith}
-use Rattle.std.specs.Prelude.{nat_lt}
-use Rattle.std.proofs.lemmas.Bool.Decides.{nat_tests}
-use Rattle.pagable_model.specs.declared.data_key.OptionalDataKey.TheVariants as optional
-use Rattle.pagable_world.specs.Plain.{NodeNumber, HandleNumber, Tree, ReadsTree, type_of}
-use Rattle.pagable_world.specs.Kinds.{held}
-use Rattle.pagable_world.specs.World.{OpenLoad, of_cell, Values, IsLawful, type_at}
-use Rattle.pagable_world.specs.Pager.{PagerState, WellFormed, Moves, Represents, ReadsNodeTree, KeyFits}
-use Rattle.pagable_world.specs.Runs.{HoldsSettled}
-use Rattle.pagable_laws.specs.ReadLaws.{LeadsTo, ValueLeads}
-use Rattle.pagable_laws.specs.TreeSteps.{Change, Bears, CoreGoes, SameNode, NewNode, NodeLeads}
-use Rattle.pagable_laws.specs.TreeRuns.{ChangeFits}
+use Rattle.pagable_laws.proofs.Words.{◌≡◌, ℕ, ◌<◌, ◌≤◌, Bool, true, false, Some, ◌⊎◌, inl, inr, refl, sym, ap, ◌∙◌, subst, arith, nat_lt, nat_tests, OptionalDataKey, NodeNumber, HandleNumber}
+use Rattle.pagable_laws.proofs.Words.{Tree, ReadsTree, type_of, held, OpenLoad, of_cell, Values, IsLawful, type_at, PagerState, WellFormed, Moves, Represents, ReadsNodeTree, KeyFits}
+use Rattle.pagable_laws.proofs.Words.{HoldsSettled, LeadsTo, ValueLeads, Change, Bears, CoreGoes, SameNode, NewNode, NodeLeads, ChangeFits}
 use Rattle.pagable_laws.proofs.Trees.{same_some}
 use Rattle.pagable_laws.proofs.Following.{given-of, held-of, cell-of}
 use Rattle.pagable_laws.proofs.Fitting.{tree-stays}
@@ -23,11 +14,12 @@ either-side n last = at (nat_lt last n) refl
     at true e = inr (grind (arith, nat_tests))
     at false e = inl (grind (arith, nat_tests))
 
-some-key : {a b : ℕ} → optional.Some a ≡ optional.Some b → a ≡ b
+some-key : {a b : ℕ} → OptionalDataKey.Some a ≡ OptionalDataKey.Some b → a ≡ b
 some-key e = cc
 
 module _ {N E : Type 0} {v : Values N} {c : Change} {comes : ℕ → N → Type 0} {s s' : PagerState N E} {trees trees' : ℕ → Tree} (lawful : IsLawful v)
-    (settled : HoldsSettled v s) (well : WellFormed v s) (well' : WellFormed v s') (stands : Represents v s trees) (moves : Moves comes s s') (goes : CoreGoes c s.core s'.core) (fits : ChangeFits v c comes s s' trees trees') where
+    (settled : HoldsSettled v s) (well : WellFormed v s) (well' : WellFormed v s') (stands : Represents v s trees) (moves : Moves comes s s') (goes : CoreGoes c s.core s'.core)
+    (fits : ChangeFits v c comes s s' trees trees') where
   was : (n : ℕ) → 0 < held n s.core.rows → NodeLeads v s trees n
   was n live = leads-all lawful settled well stands n live
 
@@ -46,7 +38,8 @@ module _ {N E : Type 0} {v : Values N} {c : Change} {comes : ℕ → N → Type 
         own = l.own;
         typed = l.typed ∙ ap (λ (z : Tree). z.type) same;
         means = l.means;
-        leads = subst (λ (z : Tree). LeadsTo trees' l.own z.meaning) same (leads-on l.leads (λ r among. fits.same r.node.0 (given-of well.whole.handles r.node.0 (well.references n x r is (own-refs lawful x l.own l.means r among)).typed).1));
+        leads = subst (λ (z : Tree). LeadsTo trees' l.own z.meaning) same
+            (leads-on l.leads (λ r among. fits.same r.node.0 (given-of well.whole.handles r.node.0 (well.references n x r is (own-refs lawful x l.own l.means r among)).typed).1));
       }
 
   keyed-old : (n : ℕ) → n ≤ s.core.last.node → SameNode c s.core s'.core n → KeyFits v s' n (trees' n)
@@ -57,7 +50,7 @@ module _ {N E : Type 0} {v : Values N} {c : Change} {comes : ℕ → N → Type 
 
   keyed-new : (n : ℕ) → NewNode c s.core s'.core n → KeyFits v s' n (trees' n)
   keyed-new n new key is =
-      let own : new.own ≡ optional.Some key = sym new.key ∙ is in
+      let own : new.own ≡ OptionalDataKey.Some key = sym new.key ∙ is in
       let reads = fits.keyed new.t key (subst (λ o. Bears c new.t o) own new.born) in
       subst (λ m. ReadsTree s'.core.stored v.types key (trees' m)) (sym new.next) reads
 
@@ -77,7 +70,8 @@ module _ {N E : Type 0} {v : Values N} {c : Change} {comes : ℕ → N → Type 
         | inr above ↦ let new = goes.new n above there in new.typed ∙ ap Some (sym (fits.born new.t new.own new.born)) ∙ ap (λ m. Some (trees' m).type) (sym new.next)
       ]
 
-  loads-again : (l : ℕ) (load : OpenLoad) (node : NodeNumber) (t : ℕ) (h : HandleNumber) → s'.core.loads l ≡ Some load → load.root ≡ of_cell node t h → ReadsNodeTree v.types s'.core.stored trees' load.key t node.0
+  loads-again : (l : ℕ) (load : OpenLoad) (node : NodeNumber) (t : ℕ) (h : HandleNumber) → s'.core.loads l ≡ Some load → load.root ≡ of_cell node t h
+      → ReadsNodeTree v.types s'.core.stored trees' load.key t node.0
   loads-again l load node t h is root = elim (goes.loads l load is) [
     | inl stays ↦ moved-node node.0 t (well.whole.loads.roots l load node t h stays root).given.1 (stands.loads l load node t h stays root)
     | inr (above, begins) ↦

@@ -1,14 +1,10 @@
 -- Each kind of a worker's step: what it does to its list and to the slots.
-use Rattle.std.proofs.Common.{◌≡◌, ℕ, ◌||◌, Bool, true, false, List, [], ◌∷◌, refl, ap, sym, subst, ◌∙◌, inl, inr}
-use Rattle.std.specs.Prelude.{Some, None, drop}
-use Rattle.pagable_world.specs.Plain.{ArcRef, Identity, HandleNumber}
-use Rattle.pagable_world.specs.declared.events.WorkerAnswer.{WorkerAnswer}
-use Rattle.pagable_world.specs.Kinds.{identity_of}
-use Rattle.pagable_world.specs.World.{Shelf, Slot, no_result, published, Written, Open, Todo, to_start, to_pin, to_write, to_finish, to_publish, to_release, Task, is_identity, SameShelf}
-use Rattle.pagable_world.specs.Workers.{open_node, with_changed_slot, with_failed, with_outcome, is_open_outcome}
-use Rattle.pagable_world.specs.Headline.{Meets}
+use Rattle.pagable_laws.proofs.Words.{◌≡◌, ℕ, ◌||◌, Bool, true, false, List, [], ◌∷◌, refl, ap, sym, subst, ◌∙◌, inl, inr, Some, None, drop, ArcRef, Identity, HandleNumber, WorkerAnswer}
+use Rattle.pagable_laws.proofs.Words.{identity_of, Shelf, Slot, no_result, published, Written, Open, Todo, to_start, to_pin, to_write, to_finish, to_publish, to_release, Task, is_identity}
+use Rattle.pagable_laws.proofs.Words.{SameShelf, open_node, with_changed_slot, with_failed, with_outcome, is_open_outcome, Meets}
 use Rattle.pagable_laws.proofs.Standing.{is_open_in, is_failing, is_failed, AllStand, HasNoFailed}
-use Rattle.pagable_laws.proofs.Changing.{SlotGrows, ShelfGrows, Changes, some-none, grows, meets-grow, is-self, is-same, PutsSlot, changes-slot, put-cases, puts-new, puts-own, outcome-grows, all-failed, none-fails, fails-own}
+use Rattle.pagable_laws.proofs.Changing.{SlotGrows, ShelfGrows, Changes, some-none, grows, meets-grow, is-self, is-same, PutsSlot, changes-slot, put-cases, puts-new, puts-own, outcome-grows}
+use Rattle.pagable_laws.proofs.Changing.{all-failed, none-fails, fails-own}
 use Rattle.pagable_laws.proofs.Going.{or-left, or-right, true-false, not-true, all-stay, open-slot, CoversBy, Goes, settles, started-open}
 
 -- what is open about the identity itself
@@ -17,7 +13,8 @@ open-self i j rest is = subst (λ k. (is_identity k i || rest) ≡ true) (sym is
 
 module _ (v : ℕ) (task : Task) (shelf shelf' : Shelf) (clean : HasNoFailed shelf v) where
   -- what is to be done below stands where the slot of another claim changes
-  below-stays : (i : Identity) (slot : Slot) (below : List Todo) → PutsSlot shelf.slots shelf'.slots i slot → Changes v shelf shelf' → is_open_in i below ≡ false → AllStand shelf v task below → AllStand shelf' v task below
+  below-stays : (i : Identity) (slot : Slot) (below : List Todo) → PutsSlot shelf.slots shelf'.slots i slot → Changes v shelf shelf' → is_open_in i below ≡ false
+      → AllStand shelf v task below → AllStand shelf' v task below
   below-stays i slot below puts changes apart all =
       all-stay v task shelf shelf' (grows v shelf shelf' changes) below
       (λ j is old there own. puts.elsewhere j (not-true (is_identity i j) (λ e. true-false (subst (λ k. is_open_in k below ≡ true) (is-same i j e) is) apart)) ∙ there) all
@@ -58,7 +55,8 @@ module _ (v : ℕ) (task : Task) (shelf shelf' : Shelf) (clean : HasNoFailed she
       }
 
   -- an own slot changes: nothing comes that isn't met
-  none-comes : (i : Identity) (old new : Slot) → PutsSlot shelf.slots shelf'.slots i new → shelf.slots i ≡ Some old → (j : Identity) (slot : Slot) → shelf.slots j ≡ None → shelf'.slots j ≡ Some slot → Meets shelf' task j
+  none-comes : (i : Identity) (old new : Slot) → PutsSlot shelf.slots shelf'.slots i new → shelf.slots i ≡ Some old → (j : Identity) (slot : Slot) → shelf.slots j ≡ None
+      → shelf'.slots j ≡ Some slot → Meets shelf' task j
   none-comes i old new puts was j slot none there = elim (put-cases shelf.slots shelf'.slots i new puts j slot there) [
     | inl e ↦ some-none was (sym (ap shelf.slots e.0) ∙ none)
     | inr e ↦ some-none e.1 none
@@ -72,7 +70,8 @@ module _ (v : ℕ) (task : Task) (shelf shelf' : Shelf) (clean : HasNoFailed she
   wrote-grows slot written none = record { worker = refl; written = λ w is. some-none is none; outcome = λ closed. refl }
 
   -- the value is written
-  pub written-goes : (r : ArcRef) (place : ℕ) (through : HandleNumber) (written : Written) (below : List Todo) → AllStand shelf v task (to_write r place through ∷ below) → CoversBy v task shelf (to_write r place through ∷ below)
+  pub written-goes : (r : ArcRef) (place : ℕ) (through : HandleNumber) (written : Written) (below : List Todo) → AllStand shelf v task (to_write r place through ∷ below)
+      → CoversBy v task shelf (to_write r place through ∷ below)
       → SameShelf (with_changed_slot shelf (identity_of r) (λ slot. record slot { written = Some written })) shelf' → Goes v task shelf None shelf' (open_node r place through written below)
   unfolding AllStand is_open_in
   written-goes r place through written below ((meets, c), apart, rest) covers same =
@@ -89,13 +88,15 @@ module _ (v : ℕ) (task : Task) (shelf shelf' : Shelf) (clean : HasNoFailed she
           apart,
           below-stays (identity_of r) new below puts changes free rest,
         );
-        covers = λ i slot there own still. or-right (is_failing (open_node r place through written below)) (is_open_in i (open_node r place through written below)) (started-open v task shelf' i place (drop 0 written.references) (to_finish o ∷ below) ∙ covered puts covers i slot there own still);
+        covers = λ i slot there own still. or-right (is_failing (open_node r place through written below)) (is_open_in i (open_node r place through written below))
+            (started-open v task shelf' i place (drop 0 written.references) (to_finish o ∷ below) ∙ covered puts covers i slot there own still);
         unfailed = λ nothing. clean-still (identity_of r) new puts (ap is_failed c.no_result_yet);
         done = λ a is. absurd (cc);
         met = none-comes (identity_of r) c.slot new puts c.claimed;
       }
     where
-      covered : {new : Slot} → PutsSlot shelf.slots shelf'.slots (identity_of r) new → CoversBy v task shelf (to_write r place through ∷ below) → (i : Identity) (slot : Slot) → shelf'.slots i ≡ Some slot → slot.worker ≡ v → slot.outcome ≡ no_result
+      covered : {new : Slot} → PutsSlot shelf.slots shelf'.slots (identity_of r) new → CoversBy v task shelf (to_write r place through ∷ below) → (i : Identity) (slot : Slot)
+          → shelf'.slots i ≡ Some slot → slot.worker ≡ v → slot.outcome ≡ no_result
           → (is_identity i (identity_of r) || is_open_in i below) ≡ true
       covered {new = new} puts covers i slot there own still = elim (put-cases shelf.slots shelf'.slots (identity_of r) new puts i slot there) [
         | inl e ↦ open-self (identity_of r) i (is_open_in i below) e.0

@@ -1,18 +1,9 @@
 -- What falls of a value of two levels; and a lone cell that is unpinned.
-use Rattle.std.proofs.Common.{◌≡◌, ℕ, ◌+◌, ◌<◌, ◌≤◌, ◌==◌, ◌&&◌, Bool, true, false, List, [], ◌∷◌, length, refl, ap, inl, inr, subst, arith}
-use Rattle.std.specs.Prelude.{not, Option, Ok}
-use Rattle.std.proofs.lemmas.List.Sums.{sum_by-cons}
-use Rattle.std.proofs.lemmas.Bool.Decides.{nat_tests}
-use Rattle.pagable_world.specs.Plain.{Blob, one}
-use Rattle.pagable_world.specs.declared.handles.Owner.TheVariants as owners
-use Rattle.pagable_world.specs.declared.rows.Mode.TheVariants as modes
-use Rattle.pagable_world.specs.declared.handles.HandleRow.{HandleRow}
-use Rattle.pagable_world.specs.Kinds.{pins, held, is_at, find_row}
-use Rattle.pagable_world.specs.World.{Last}
-use Rattle.pagable_world.specs.Cascade.{is_keyed, owned_outside, loses_value, IsClosed, IsWithin, IsLeast, MustList, Falls, fallen, nobody}
-use Rattle.pagable_world.specs.Calls.{row_of, with_mode, UnpinCall}
-use Rattle.pagable_laws.specs.SmallWorlds.{two_rows, are_two, outer, both, first, first_node, lone, lone_listed, lone_unlisted}
-use Rattle.pagable_laws.specs.FallLaws.{OwnsNothing, TwoLevelsFall, LoneIsListed}
+use Rattle.pagable_laws.proofs.Words.{◌≡◌, ℕ, ◌+◌, ◌<◌, ◌≤◌, ◌==◌, ◌&&◌, Bool, true, false, List, [], ◌∷◌, length, refl, ap, inl, inr, subst, arith, not, Option, Ok, sum_by-cons, nat_tests, Blob}
+use Rattle.pagable_laws.proofs.Words.{one, Owner, Mode, HandleRow, pins, held, is_at, find_row, Last, is_keyed, owned_outside, loses_value, IsClosed, IsWithin, IsLeast, MustList, Falls, fallen}
+use Rattle.pagable_laws.proofs.Words.{nobody, row_of, with_mode, UnpinCall, two_rows, are_two, outer, first, first_node, lone, lone_listed, lone_unlisted, OwnsNothing, TwoLevelsFall}
+use Rattle.pagable_laws.proofs.Words.{LoneIsListed}
+use Rattle.pagable_laws.specs.SmallWorlds.{both}
 use Rattle.pagable_laws.proofs.Existing.{given-least}
 use Rattle.pagable_laws.proofs.Sums.{one-small}
 
@@ -44,29 +35,31 @@ held-length : (n : ℕ) (rows : List HandleRow) → held n rows ≤ length rows
 held-length n [] = omega arith
 held-length n (h ∷ hs) = let a = held-length n hs in let b = sum_by-cons (λ x. one (is_at n x)) h hs in let c = one-small (is_at n h) in omega arith
 
-lone-nothing : OwnsNothing (row_of 1 first_node modes.LooseUnpinned owners.Caller ∷ [])
+lone-nothing : OwnsNothing (row_of 1 first_node Mode.LooseUnpinned Owner.Caller ∷ [])
 lone-nothing n = refl
 
-lone-must : (stored : ℕ → Option Blob) (n : ℕ) → 0 < held n (row_of 2 first_node modes.LooseUnpinned owners.List ∷ []) → MustList (lone stored) (with_mode (lone stored) first modes.LooseUnpinned) (lone_listed stored) n
+lone-must : (stored : ℕ → Option Blob) (n : ℕ) → 0 < held n (row_of 2 first_node Mode.LooseUnpinned Owner.List ∷ [])
+    → MustList (lone stored) (with_mode (lone stored) first Mode.LooseUnpinned) (lone_listed stored) n
 lone-must stored n some =
     record {
       pinned = grind (arith, nat_tests);
       unpinned = grind (arith, nat_tests);
-      unkeyed = let e : n ≡ 1 = grind (arith, nat_tests) in ap (λ q. is_keyed (with_mode (lone stored) first modes.LooseUnpinned) q) e;
+      unkeyed = let e : n ≡ 1 = grind (arith, nat_tests) in ap (λ q. is_keyed (with_mode (lone stored) first Mode.LooseUnpinned) q) e;
       unshared = grind (arith, nat_tests);
       stands_open = refl;
     }
 
-lone-each : (stored : ℕ → Option Blob) (n : ℕ) → MustList (lone stored) (with_mode (lone stored) first modes.LooseUnpinned) (lone_listed stored) n → held n (row_of 2 first_node modes.LooseUnpinned owners.List ∷ []) ≡ 1
+lone-each : (stored : ℕ → Option Blob) (n : ℕ) → MustList (lone stored) (with_mode (lone stored) first Mode.LooseUnpinned) (lone_listed stored) n
+    → held n (row_of 2 first_node Mode.LooseUnpinned Owner.List ∷ []) ≡ 1
 lone-each stored n must = let a = must.pinned in grind (arith, nat_tests)
 
 -- ---- a lone cell is listed
 
 -- the entry that comes
 abbrev came : List HandleRow
-came = row_of 2 first_node modes.LooseUnpinned owners.List ∷ []
+came = row_of 2 first_node Mode.LooseUnpinned Owner.List ∷ []
 
-fell : (stored : ℕ → Option Blob) → Falls (lone stored) (with_mode (lone stored) first modes.LooseUnpinned) nobody (Ok tt) (lone_listed stored)
+fell : (stored : ℕ → Option Blob) → Falls (lone stored) (with_mode (lone stored) first Mode.LooseUnpinned) nobody (Ok tt) (lone_listed stored)
 fell stored =
     record {
       gone = nobody;
@@ -92,25 +85,26 @@ fell stored =
       };
     }
   where
-    same-cells : (n : ℕ) (b : Bool) → (1 == n) ≡ b → (lone_listed stored).cells n ≡ (fallen (with_mode (lone stored) first modes.LooseUnpinned) nobody came).cells n
-    same-cells n true is = let e : 1 ≡ n = grind (arith, nat_tests) in subst (λ q. (lone_listed stored).cells q ≡ (fallen (with_mode (lone stored) first modes.LooseUnpinned) nobody came).cells q) e refl
+    same-cells : (n : ℕ) (b : Bool) → (1 == n) ≡ b → (lone_listed stored).cells n ≡ (fallen (with_mode (lone stored) first Mode.LooseUnpinned) nobody came).cells n
+    same-cells n true is = let e : 1 ≡ n = grind (arith, nat_tests) in
+        subst (λ q. (lone_listed stored).cells q ≡ (fallen (with_mode (lone stored) first Mode.LooseUnpinned) nobody came).cells q) e refl
     same-cells n false is = let a : (n == 1) ≡ false = grind (arith, nat_tests) in rw (a, is) refl
 
-lone-unpinned : (stored : ℕ → Option Blob) → UnpinCall (lone stored) owners.Caller first (Ok tt) (lone_listed stored)
+lone-unpinned : (stored : ℕ → Option Blob) → UnpinCall (lone stored) Owner.Caller first (Ok tt) (lone_listed stored)
 unfolding find_row
-lone-unpinned stored = record { does = inr (row_of 1 first_node modes.LoosePinned owners.Caller, record { live = refl; own = refl; as_asked = refl }, inr (refl, fell stored)) }
+lone-unpinned stored = record { does = inr (row_of 1 first_node Mode.LoosePinned Owner.Caller, record { live = refl; own = refl; as_asked = refl }, inr (refl, fell stored)) }
 
-lone-must-unlisted : (stored : ℕ → Option Blob) → MustList (lone stored) (with_mode (lone stored) first modes.LooseUnpinned) (lone_unlisted stored) 1
+lone-must-unlisted : (stored : ℕ → Option Blob) → MustList (lone stored) (with_mode (lone stored) first Mode.LooseUnpinned) (lone_unlisted stored) 1
 lone-must-unlisted stored = record { pinned = omega arith; unpinned = refl; unkeyed = refl; unshared = refl; stands_open = refl }
 
-not-unlisted : (stored : ℕ → Option Blob) → ¬ UnpinCall (lone stored) owners.Caller first (Ok tt) (lone_unlisted stored)
+not-unlisted : (stored : ℕ → Option Blob) → ¬ UnpinCall (lone stored) Owner.Caller first (Ok tt) (lone_unlisted stored)
 not-unlisted stored call = elim call.does [
   | inl refused ↦ absurd (cc)
   | inr (row, own, inl (is, told, alike)) ↦ let pins_are : pins 1 (lone_unlisted stored).rows ≡ pins 1 (lone stored).rows = ap (pins 1) alike.rows in absurd (omega arith)
   | inr (row, own, inr (is, falls)) ↦ unlisted falls
 ]
   where
-    unlisted : Falls (lone stored) (with_mode (lone stored) first modes.LooseUnpinned) nobody (Ok tt) (lone_unlisted stored) → ⊥
+    unlisted : Falls (lone stored) (with_mode (lone stored) first Mode.LooseUnpinned) nobody (Ok tt) (lone_unlisted stored) → ⊥
     unlisted falls =
         let listed : held 1 falls.entries ≡ 1 = falls.tells.all 1 (lone-must-unlisted stored) in
         let last : 1 ≡ 1 + length falls.entries = ap (λ (l : Last). l.handle) falls.leaves.last in

@@ -1,14 +1,7 @@
 -- What the cache gives for a kind and a key it goes on to give, as long as the node is held as the kind asks: one part of an event after another.
-use Rattle.std.proofs.Common.{◌≡◌, ℕ, ◌<◌, ◌≤◌, ◌==◌, ◌&&◌, Bool, true, false, List, ◌++◌, Option, Some, None, inl, inr, refl, sym, ap, subst, ◌∙◌, if◌then◌else◌, arith}
-use Rattle.std.specs.Prelude.{Result, not, nat_lt, is_some}
-use Rattle.std.proofs.lemmas.Bool.{and_parts}
-use Rattle.std.proofs.lemmas.Bool.Decides.{nat_tests}
-use Rattle.pagable_model.specs.declared.data_key.OptionalDataKey.TheVariants as optional
-use Rattle.pagable_world.specs.declared.handles.HandleRow.{HandleRow}
-use Rattle.pagable_world.specs.Plain.{Error, Among, updated, if_there, one, is_pinned_kind}
-use Rattle.pagable_world.specs.Kinds.{is_pinning, is_pin, is_at, is_in_memory, pins, held}
-use Rattle.pagable_world.specs.World.{Core, Cell, Alike, usable}
-use Rattle.pagable_world.specs.Cascade.{Falls, left_rows, fallen}
+use Rattle.pagable_laws.proofs.Words.{◌≡◌, ℕ, ◌<◌, ◌≤◌, ◌==◌, ◌&&◌, Bool, true, false, List, ◌++◌, Option, Some, None, inl, inr, refl, sym, ap, subst, ◌∙◌, if◌then◌else◌, arith, Result, not}
+use Rattle.pagable_laws.proofs.Words.{nat_lt, is_some, and_parts, nat_tests, OptionalDataKey, HandleRow, Error, Among, updated, if_there, one, is_pinned_kind, is_pinning, is_pin, is_at}
+use Rattle.pagable_laws.proofs.Words.{is_in_memory, pins, held, Core, Cell, Alike, usable, Falls, left_rows, fallen}
 use Rattle.pagable_laws.proofs.Sums.{same-number, self-number, at-most-sum, counted, one-true}
 use Rattle.pagable_laws.proofs.Decoding.{among-either}
 use Rattle.pagable_laws.proofs.Outlasting.{among-kept}
@@ -137,13 +130,13 @@ module _ (kind key n : ℕ) where
       by false = e.there
 
   pub keyed : {cache : ℕ → ℕ → Option ℕ} {cells : ℕ → Option Cell} (p k : ℕ) → IsEntered cache cells
-      → IsEntered cache (updated p (if_there (λ (x : Cell). Some (record x { key = optional.Some k })) None (cells p)) cells)
+      → IsEntered cache (updated p (if_there (λ (x : Cell). Some (record x { key = OptionalDataKey.Some k })) None (cells p)) cells)
   keyed {cache} {cells} p k e = record { entry = e.entry; there = by (n == p) refl }
     where
-      some : (c : Option Cell) → is_some c ≡ true → is_some (if_there (λ (x : Cell). Some (record x { key = optional.Some k })) None c) ≡ true
+      some : (c : Option Cell) → is_some c ≡ true → is_some (if_there (λ (x : Cell). Some (record x { key = OptionalDataKey.Some k })) None c) ≡ true
       some None is = absurd (cc)
       some (Some x) is = refl
 
-      by : (b : Bool) → (n == p) ≡ b → is_some (if b then if_there (λ (x : Cell). Some (record x { key = optional.Some k })) None (cells p) else cells n) ≡ true
+      by : (b : Bool) → (n == p) ≡ b → is_some (if b then if_there (λ (x : Cell). Some (record x { key = OptionalDataKey.Some k })) None (cells p) else cells n) ≡ true
       by true is = some (cells p) (ap (λ m. is_some (cells m)) (sym (same-number n p is)) ∙ e.there)
       by false is = e.there

@@ -1,26 +1,9 @@
 -- A call leaves what the cache gives for a kind and a key, where the node is held before and after.
-use Rattle.std.proofs.Common.{◌≡◌, ℕ, ◌+◌, ◌==◌, ◌&&◌, Bool, true, false, List, [], Option, Some, None, Ok, Err, inl, inr, refl, subst, if◌then◌else◌}
-use Rattle.std.specs.Prelude.{Result}
-use Rattle.pagable_world.specs.declared.answers.Beginning.TheVariants as beginnings
-use Rattle.pagable_world.specs.declared.answers.Beginning.{Beginning}
-use Rattle.pagable_world.specs.declared.answers.Pinning.TheVariants as pinnings
-use Rattle.pagable_world.specs.declared.answers.Pinning.{Pinning}
-use Rattle.pagable_world.specs.declared.calls.Call.TheVariants as calls
-use Rattle.pagable_world.specs.declared.calls.Call.{Call}
-use Rattle.pagable_world.specs.declared.calls.Reply.TheVariants as replies
-use Rattle.pagable_world.specs.declared.calls.Reply.{Reply}
-use Rattle.pagable_world.specs.declared.calls.Want.TheVariants as wants
-use Rattle.pagable_world.specs.declared.calls.Want.{Want}
-use Rattle.pagable_world.specs.declared.events.Event.TheVariants as events
-use Rattle.pagable_world.specs.declared.handles.Owner.{Owner}
-use Rattle.pagable_world.specs.declared.handles.Owner.TheVariants as owners
-use Rattle.pagable_world.specs.declared.rows.Mode.{Mode}
-use Rattle.pagable_world.specs.Plain.{Error, OptionalDataKey, Blob, ArcRef, Kind, type_of, HandleNumber, LoadNumber}
-use Rattle.pagable_world.specs.Kinds.{mode_of}
-use Rattle.pagable_world.specs.World.{Core, OpenLoad, Alike, Seen, usable}
-use Rattle.pagable_world.specs.Calls.{with_handle, with_node, with_cached, next_node, BirthCall, CloneCall, PinCall, UnpinCall, ReleaseCall, SetKeyCall, ScheduleCall, TakeCall, RecallCall, Asked, StoreCall}
-use Rattle.pagable_world.specs.LoadCalls.{adopted, BeginCall, BeginKeyCall, AskCall, AsksInVain, Given, from_cache, from_store, AdoptCall, LazyCall, EndCall, HandOverCall, DropCall, LoadCloses}
-use Rattle.pagable_world.specs.OneWorker.{LeavesCache}
+use Rattle.pagable_laws.proofs.Words.{◌≡◌, ℕ, ◌+◌, ◌==◌, ◌&&◌, Bool, true, false, List, [], Option, Some, None, Ok, Err, inl, inr, refl, subst, if◌then◌else◌, Result, Beginning, Pinning, Call}
+use Rattle.pagable_laws.proofs.Words.{Reply, Want, Event, Owner, Mode, Error, OptionalDataKey, Blob, ArcRef, Kind, type_of, HandleNumber, LoadNumber, mode_of, Core, OpenLoad, Alike, Seen, usable}
+use Rattle.pagable_laws.proofs.Words.{with_handle, with_node, with_cached, next_node, BirthCall, CloneCall, PinCall, UnpinCall, ReleaseCall, SetKeyCall, ScheduleCall, TakeCall, RecallCall, Asked}
+use Rattle.pagable_laws.proofs.Words.{StoreCall, adopted, BeginCall, BeginKeyCall, AskCall, AsksInVain, Given, from_cache, from_store, AdoptCall, LazyCall, EndCall, HandOverCall, DropCall}
+use Rattle.pagable_laws.proofs.Words.{LoadCloses, LeavesCache}
 use Rattle.pagable_world.specs.Events.{Does}
 use Rattle.pagable_laws.proofs.Sums.{same-number}
 use Rattle.pagable_laws.proofs.Usable.{IsEntered, IsHeldFor, Lasts, can-use, stays-alike, by-alike, by-fell, born, keyed}
@@ -42,18 +25,18 @@ module _ (kind key n : ℕ) (w w' : Core) where
   stores (Err e) c = asked c.refused.0
 
   pub asks : {me : Owner} {l : LoadNumber} {want : Want} (r : Result Given Error) → AskCall w me l want r w' → L
-  asks {want = wants.Root} (Ok (from_store blob)) c = asked c.gives.2.asked
-  asks {want = wants.Root} (Ok (from_cache k)) c = absurd c.gives.2
-  asks {want = wants.Nested k q} (Ok (from_cache h)) c = by-alike kind key n c.gives.2.leaves (λ e. e)
-  asks {want = wants.Nested k q} (Ok (from_store blob)) c = asked c.gives.2.1.asked
+  asks {want = Want.Root} (Ok (from_store blob)) c = asked c.gives.2.asked
+  asks {want = Want.Root} (Ok (from_cache k)) c = absurd c.gives.2
+  asks {want = Want.Nested k q} (Ok (from_cache h)) c = by-alike kind key n c.gives.2.leaves (λ e. e)
+  asks {want = Want.Nested k q} (Ok (from_store blob)) c = asked c.gives.2.1.asked
   asks {me} {l} {want} (Err e) c = elim c.refused [
     | inl refused ↦ stays refused.stays
     | inr (load, owned, vain) ↦ in-vain want load vain
   ]
     where
       in-vain : (want : Want) (load : OpenLoad) → AsksInVain w load want e w' → L
-      in-vain wants.Root load vain = asked vain.asked
-      in-vain (wants.Nested k q) load vain = asked vain.1.asked
+      in-vain Want.Root load vain = asked vain.asked
+      in-vain (Want.Nested k q) load vain = asked vain.1.asked
 
   recalls : {me : Owner} {k : Kind} {q : ℕ} (r : Result (Option HandleNumber) Error) → RecallCall w me k q r w' → L
   recalls (Ok (Some h)) c = by-alike kind key n c.answers.3 (λ e. e)
@@ -71,8 +54,8 @@ module _ (kind key n : ℕ) (w w' : Core) where
   clones (Err e) c = stays c.refused.stays
 
   pub pins : {me : Owner} {h : HandleNumber} (r : Result Pinning Error) → PinCall w me h r w' → L
-  pins (Ok (pinnings.Pinned k)) c = by-alike kind key n c.pins.2.2 (λ e. e)
-  pins (Ok (pinnings.NeedsLoad q)) c = stays c.pins.2.2
+  pins (Ok (Pinning.Pinned k)) c = by-alike kind key n c.pins.2.2 (λ e. e)
+  pins (Ok (Pinning.NeedsLoad q)) c = stays c.pins.2.2
   pins (Err e) c = stays c.refused.stays
 
   unpins : {me : Owner} {h : HandleNumber} (r : Result (Unit {0}) Error) → UnpinCall w me h r w' → L
@@ -103,13 +86,13 @@ module _ (kind key n : ℕ) (w w' : Core) where
   -- ---- loads
 
   pub begins : {me : Owner} {h : HandleNumber} (r : Result Beginning Error) → BeginCall w me h r w' → L
-  begins (Ok beginnings.InMemory) c = stays c.begins.2.1
-  begins (Ok (beginnings.Load l q)) c = by-alike kind key n c.begins.2.4.2 (λ e. e)
+  begins (Ok Beginning.InMemory) c = stays c.begins.2.1
+  begins (Ok (Beginning.Load l q)) c = by-alike kind key n c.begins.2.4.2 (λ e. e)
   begins (Err e) c = stays c.refused.stays
 
   pub begins-key : {me : Owner} {q : ℕ} (r : Result Beginning Error) → BeginKeyCall w me q r w' → L
-  begins-key (Ok beginnings.InMemory) c = absurd c.begins
-  begins-key (Ok (beginnings.Load l q)) c = by-alike kind key n c.begins.2 (λ e. e)
+  begins-key (Ok Beginning.InMemory) c = absurd c.begins
+  begins-key (Ok (Beginning.Load l q)) c = by-alike kind key n c.begins.2 (λ e. e)
   begins-key (Err e) c = stays c.refused.stays
 
   -- a new node is known where the cache gives none, and so not under this kind and key
@@ -117,7 +100,7 @@ module _ (kind key n : ℕ) (w w' : Core) where
   adopts l k q own references none a = record { lasts = λ e h h'. stays-alike kind key n a (known-too e h w.closed) h' }
     where
       made : Core
-      made = with_handle (with_node w (type_of k.0) own references) (next_node w) (mode_of k.0) (owners.Load l)
+      made = with_handle (with_node w (type_of k.0) own references) (next_node w) (mode_of k.0) (Owner.Load l)
 
       other : IsEntered kind key n w.cache w.cells → IsHeldFor kind key n w.rows → (b d : Bool) → (kind == k.0) ≡ b → (key == q) ≡ d
           → (if b && d then Some (next_node w).0 else w.cache kind key) ≡ Some n
@@ -166,42 +149,42 @@ module _ (kind key n : ℕ) (w w' : Core) where
   -- ---- each call
 
   module _ {N B W : Type 0} (m : Seen N B W) (me : Owner) where
-    pub calls-last : (call : Call N B) (reply : Reply N B) → LeavesCache {N = N} {B = B} {W = W} (events.Call call) → Does m w me call reply w' → L
-    calls-last (calls.NewPinned x) (replies.Made r) leaves c = births _ r c
-    calls-last (calls.NewLoose x) (replies.Made r) leaves c = births _ r c
-    calls-last (calls.NewShared x) (replies.Made r) leaves c = births _ r c
-    calls-last (calls.NewPagedOut t q) (replies.Handle (Ok k)) leaves c = by-alike kind key n c.made.2 (born kind key n _ _)
-    calls-last (calls.NewPagedOut t q) (replies.Handle (Err e)) leaves c = stays c.refused.stays
-    calls-last (calls.Clone h) (replies.Handle r) leaves c = clones r c
-    calls-last (calls.Pin h) (replies.Pin r) leaves c = pins r c
-    calls-last (calls.Unpin h) (replies.Done r) leaves c = unpins r c
-    calls-last (calls.Release h) (replies.Done r) leaves c = releases r c
-    calls-last (calls.IntoPagable h) (replies.Handle (Ok k)) leaves c = by-alike kind key n c.turned.3 (λ e. e)
-    calls-last (calls.IntoPagable h) (replies.Handle (Err e)) leaves c = stays c.refused.1
-    calls-last (calls.SetDataKey h q) (replies.Done r) leaves c = sets r c
-    calls-last (calls.Count h) (replies.Count r) leaves c = stays c.1
-    calls-last (calls.Key h) (replies.KeyFound r) leaves c = stays c.1
-    calls-last (calls.IsPagedOut h) (replies.Away r) leaves c = stays c.1
-    calls-last (calls.NodeOf h) (replies.Node r) leaves c = stays c.1
-    calls-last (calls.NodeLive k) (replies.NodeType t) leaves c = stays c.1
-    calls-last (calls.ScheduleForPaging h) (replies.Done r) leaves c = schedules r c
-    calls-last calls.Pending (replies.Length k) leaves c = stays c.1
-    calls-last (calls.TakePending i) (replies.Taken h) leaves c = takes me i h c
-    calls-last (calls.CacheGet k q) (replies.FromCache r) leaves c = recalls r c
-    calls-last (calls.OnArcDeserialized k q h) reply leaves c = absurd leaves
-    calls-last calls.CacheClear reply leaves c = absurd leaves
-    calls-last (calls.Fetch q) (replies.Fetched r) leaves c = asked c.asked
-    calls-last (calls.Store b) (replies.Stored r) leaves c = stores r c
-    calls-last calls.Flush (replies.Done r) leaves c = asked c.asked
-    calls-last (calls.LoadBegin h) (replies.Begun r) leaves c = begins r c
-    calls-last (calls.LoadKey q) (replies.Begun r) leaves c = begins-key r c
-    calls-last (calls.LoadFetch l want) (replies.LoadFound r) leaves c = asks _ c
-    calls-last (calls.LoadAdopt l k q x) (replies.Made r) leaves c = adopting r c
-    calls-last (calls.LoadLazy l k q) (replies.Handle r) leaves c = lazily r c
-    calls-last (calls.LoadEnd l x) (replies.LoadEnded r) leaves c = ends-load l r c
-    calls-last (calls.LoadTake l hs) (replies.Done r) leaves c = hands-over r c
-    calls-last (calls.LoadDrop l) (replies.Done r) leaves c = drops l r c
-    calls-last (calls.Reserve k) (replies.Done r) leaves c = stays c.stays
-    calls-last calls.Room (replies.Length k) leaves c = stays c.1
-    calls-last calls.Close reply leaves c = absurd leaves
+    pub calls-last : (call : Call N B) (reply : Reply N B) → LeavesCache {N = N} {B = B} {W = W} (Event.Call call) → Does m w me call reply w' → L
+    calls-last (Call.NewPinned x) (Reply.Made r) leaves c = births _ r c
+    calls-last (Call.NewLoose x) (Reply.Made r) leaves c = births _ r c
+    calls-last (Call.NewShared x) (Reply.Made r) leaves c = births _ r c
+    calls-last (Call.NewPagedOut t q) (Reply.Handle (Ok k)) leaves c = by-alike kind key n c.made.2 (born kind key n _ _)
+    calls-last (Call.NewPagedOut t q) (Reply.Handle (Err e)) leaves c = stays c.refused.stays
+    calls-last (Call.Clone h) (Reply.Handle r) leaves c = clones r c
+    calls-last (Call.Pin h) (Reply.Pin r) leaves c = pins r c
+    calls-last (Call.Unpin h) (Reply.Done r) leaves c = unpins r c
+    calls-last (Call.Release h) (Reply.Done r) leaves c = releases r c
+    calls-last (Call.IntoPagable h) (Reply.Handle (Ok k)) leaves c = by-alike kind key n c.turned.3 (λ e. e)
+    calls-last (Call.IntoPagable h) (Reply.Handle (Err e)) leaves c = stays c.refused.1
+    calls-last (Call.SetDataKey h q) (Reply.Done r) leaves c = sets r c
+    calls-last (Call.Count h) (Reply.Count r) leaves c = stays c.1
+    calls-last (Call.Key h) (Reply.KeyFound r) leaves c = stays c.1
+    calls-last (Call.IsPagedOut h) (Reply.Away r) leaves c = stays c.1
+    calls-last (Call.NodeOf h) (Reply.Node r) leaves c = stays c.1
+    calls-last (Call.NodeLive k) (Reply.NodeType t) leaves c = stays c.1
+    calls-last (Call.ScheduleForPaging h) (Reply.Done r) leaves c = schedules r c
+    calls-last Call.Pending (Reply.Length k) leaves c = stays c.1
+    calls-last (Call.TakePending i) (Reply.Taken h) leaves c = takes me i h c
+    calls-last (Call.CacheGet k q) (Reply.FromCache r) leaves c = recalls r c
+    calls-last (Call.OnArcDeserialized k q h) reply leaves c = absurd leaves
+    calls-last Call.CacheClear reply leaves c = absurd leaves
+    calls-last (Call.Fetch q) (Reply.Fetched r) leaves c = asked c.asked
+    calls-last (Call.Store b) (Reply.Stored r) leaves c = stores r c
+    calls-last Call.Flush (Reply.Done r) leaves c = asked c.asked
+    calls-last (Call.LoadBegin h) (Reply.Begun r) leaves c = begins r c
+    calls-last (Call.LoadKey q) (Reply.Begun r) leaves c = begins-key r c
+    calls-last (Call.LoadFetch l want) (Reply.LoadFound r) leaves c = asks _ c
+    calls-last (Call.LoadAdopt l k q x) (Reply.Made r) leaves c = adopting r c
+    calls-last (Call.LoadLazy l k q) (Reply.Handle r) leaves c = lazily r c
+    calls-last (Call.LoadEnd l x) (Reply.LoadEnded r) leaves c = ends-load l r c
+    calls-last (Call.LoadTake l hs) (Reply.Done r) leaves c = hands-over r c
+    calls-last (Call.LoadDrop l) (Reply.Done r) leaves c = drops l r c
+    calls-last (Call.Reserve k) (Reply.Done r) leaves c = stays c.stays
+    calls-last Call.Room (Reply.Length k) leaves c = stays c.1
+    calls-last Call.Close reply leaves c = absurd leaves
     calls-last call reply leaves c = absurd c

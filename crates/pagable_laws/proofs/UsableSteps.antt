@@ -1,30 +1,10 @@
 -- Each event leaves what the cache gives for a kind and a key, where the node is held before and after.
-use Rattle.std.proofs.Common.{ℕ, List, ◌∷◌, Option, Some, None, Ok, Err, ◌⊎◌, inl, inr, refl, sym, subst}
-use Rattle.pagable_world.specs.declared.calls.Want.TheVariants as wants
-use Rattle.pagable_world.specs.declared.calls.Want.{Want}
-use Rattle.pagable_world.specs.declared.events.Claim.TheVariants as claims
-use Rattle.pagable_world.specs.declared.events.LoadAnswer.TheVariants as ends
-use Rattle.pagable_world.specs.declared.events.LoadAnswer.{LoadAnswer}
-use Rattle.pagable_world.specs.declared.events.PinStep.TheVariants as pinsteps
-use Rattle.pagable_world.specs.declared.events.Took.TheVariants as took
-use Rattle.pagable_world.specs.declared.events.Took.{Took}
-use Rattle.pagable_world.specs.declared.events.WorkerAnswer.{WorkerAnswer}
-use Rattle.pagable_world.specs.declared.events.Event.TheVariants as events
-use Rattle.pagable_world.specs.declared.events.Event.{Event}
-use Rattle.pagable_world.specs.declared.events.EventReply.TheVariants as answers
-use Rattle.pagable_world.specs.declared.events.EventReply.{EventReply}
-use Rattle.pagable_world.specs.declared.handles.Owner.TheVariants as owners
-use Rattle.pagable_world.specs.declared.handles.Owner.{Owner}
-use Rattle.pagable_world.specs.Plain.{Error, ArcRef, HandleNumber, LoadNumber, Among}
-use Rattle.pagable_world.specs.Kinds.{owner_worker}
-use Rattle.pagable_world.specs.World.{Core, OpenLoad, Frame, Reading, Todo, to_start, to_pin, to_load, to_write, to_finish, to_item, to_set, to_publish, to_release, to_fail, World, Alike, Values, Seen}
-use Rattle.pagable_world.specs.Calls.{CloneCall}
-use Rattle.pagable_world.specs.LoadCalls.{AskCall, AsksInVain, EndCall, HandOverCall}
+use Rattle.pagable_laws.proofs.Words.{ℕ, List, ◌∷◌, Option, Some, None, Ok, Err, ◌⊎◌, inl, inr, refl, sym, subst, Want, Claim, LoadAnswer, PinStep, Took, WorkerAnswer, Event, EventReply, Owner}
+use Rattle.pagable_laws.proofs.Words.{Error, ArcRef, HandleNumber, LoadNumber, Among, owner_worker, Core, OpenLoad, Frame, Reading, Todo, to_start, to_pin, to_load, to_write, to_finish, to_item}
+use Rattle.pagable_laws.proofs.Words.{to_set, to_publish, to_release, to_fail, World, Alike, Values, Seen, CloneCall, AskCall, AsksInVain, EndCall, HandOverCall, ReadingDoes, GoesOn, Fails}
+use Rattle.pagable_laws.proofs.Words.{RefusesRoot, LoadIs, IsOfCell, IsOfKey, handles_of, Site, Does, PinsAtOnce, PinsByLoad, PinRefused, GivesBack, Ends, Happens, LeavesCache}
 use Rattle.pagable_world.specs.Loads as loads
-use Rattle.pagable_world.specs.Loads.{ReadingDoes, GoesOn, Meets, Fails, RefusesRoot, LoadIs, IsOfCell, IsOfKey, handles_of}
-use Rattle.pagable_world.specs.Workers.{Site, Does, PinsAtOnce, PinsByLoad, PinRefused, GivesBack}
-use Rattle.pagable_world.specs.Events.{Ends, Happens}
-use Rattle.pagable_world.specs.OneWorker.{LeavesCache}
+use Rattle.pagable_laws.proofs.ReadingSteps.{meets}
 use Rattle.pagable_laws.proofs.Decoding.{among-left}
 use Rattle.pagable_laws.proofs.Usable.{IsHeldFor, Lasts, by-alike, by-fell, up-then, then-down, held-fell}
 use Rattle.pagable_laws.proofs.UsableCalls.{stays, stores, asks, clones, pins, sets, schedules, begins, begins-key, adopting, lazily, closes, ends-load, hands-over, calls-last}
@@ -36,34 +16,6 @@ module _ (kind key n : ℕ) where
   -- ---- loads
 
   module _ {N : Type 0} (v : Values N) (w : Core) (me : Owner) (reading : Reading) where
-    -- at most a failure of the storage was noted
-    abbrev Notes : Core → Type 0
-    Notes u = (f : ℕ) × Alike (record w { failures = f }) u
-
-    asks-in-vain : (u : Core) (e : Error) (want : Want) (load : OpenLoad) → AsksInVain w load want e u → Notes u
-    asks-in-vain u e wants.Root load vain = (u.failures, vain.asked.leaves)
-    asks-in-vain u e (wants.Nested k q) load vain = (u.failures, vain.1.asked.leaves)
-
-    ask-refused : (u : Core) (e : Error) (want : Want) → AskCall w me reading.load want (Err e) u → Notes u
-    ask-refused u e want c = elim c.refused [ inl refused ↦ (w.failures, refused.stays) | inr (load, owned, vain) ↦ asks-in-vain u e want load vain ]
-
-    meets : (u : Core) (e : Error) → Meets v w me reading e u → Notes u
-    meets u e does = elim does [
-      | inl (refuses, a) ↦ (w.failures, a)
-      | inr (inl (first, asked)) ↦ ask-refused u e wants.Root asked
-      | inr (inr (inl (k, q, needs, inl asked))) ↦ ask-refused u e (wants.Nested k q) asked
-      | inr (inr (inl (k, q, needs, inr (blob, is, deep, asked)))) ↦ (u.failures, asked.gives.2.1.asked.leaves)
-      | inr (inr (inr (inl (k, q, needs, asked)))) ↦ (w.failures, asked.refused.stays)
-      | inr (inr (inr (inr (inl node)))) ↦ (w.failures, node.adopted.refused.1.stays)
-      | inr (inr (inr (inr (inr root)))) ↦ refused-root root root.refuses
-    ]
-      where
-        refused-root : (root : RefusesRoot v w me reading e u)
-            → (LoadIs w reading IsOfCell × EndCall w me reading.load root.x (v.node_type root.x) (v.references root.x) (Err (e, Some root.x)) u)
-            ⊎ (LoadIs w reading IsOfKey × HandOverCall w me reading.load (handles_of (v.references root.x)) (Err e) u) → Notes u
-        refused-root root (inl (is, ended)) = (w.failures, ended.refused.1.stays)
-        refused-root root (inr (is, handed)) = (w.failures, handed.refused.1)
-
     goes-on : (w' : Core) (frames : List Frame) → GoesOn v w me reading frames w' → L w w'
     goes-on w' frames does = elim does [
       | inl root ↦ asks kind key n w w' _ root.asked
@@ -75,16 +27,16 @@ module _ (kind key n : ℕ) where
 
     fails : (w' : Core) (e : Error) → Fails v w me reading e w' → L w w'
     fails w' e does = elim does [
-      | inl gives ↦ let a = meets gives.mid e gives.meets in
+      | inl gives ↦ let a = meets v w me reading gives.mid e gives.meets in
           up-then kind key n (λ h. subst (IsHeldFor kind key n) (sym a.1.rows) h) (by-alike kind key n a.1 (λ e. e)) (closes kind key n gives.mid w' reading.load gives.closes)
       | inr ended ↦ ends-load kind key n w w' reading.load _ ended.ended
     ]
 
     by-answer : (w' : Core) (answer : Option (LoadAnswer N)) (frames : List Frame) → loads.Does v w me reading answer frames w' → L w w'
     by-answer w' None frames does = goes-on w' frames does
-    by-answer w' (Some (ends.Pinned k)) frames does = ends-load kind key n w w' reading.load _ does.0.ended
-    by-answer w' (Some (ends.Read x)) frames does = hands-over kind key n w w' _ does.0.handed
-    by-answer w' (Some (ends.Refused e)) frames does = fails w' e does.0
+    by-answer w' (Some (LoadAnswer.Pinned k)) frames does = ends-load kind key n w w' reading.load _ does.0.ended
+    by-answer w' (Some (LoadAnswer.Read x)) frames does = hands-over kind key n w w' _ does.0.handed
+    by-answer w' (Some (LoadAnswer.Refused e)) frames does = fails w' e does.0
 
     reading-lasts : {w' : Core} {answer : Option (LoadAnswer N)} {frames : List Frame} → ReadingDoes v w me reading answer frames w' → L w w'
     reading-lasts {w'} {answer} {frames} d = by-answer w' answer frames d.does
@@ -126,45 +78,45 @@ module _ (kind key n : ℕ) where
 
   module _ {N B W : Type 0} (m : Seen N B W) where
     walk-lasts : (u : ℕ) (s s' : Site) (todo : List Todo) (step : Took W) → Does m u s todo step s' → L s.core s'.core
-    walk-lasts u s s' (to_start r place ∷ below) (took.Claim i (Ok claims.Claimed)) (is, c) = stays kind key n s.core s'.core c.finds.1.2.pager_stays
-    walk-lasts u s s' (to_start r place ∷ below) (took.Claim i (Ok (claims.Known k h))) (is, c) = stays kind key n s.core s'.core c.finds.1.2.pager_stays
-    walk-lasts u s s' (to_start r place ∷ below) (took.Claim i (Ok claims.Waiting)) (is, c) = stays kind key n s.core s'.core c.finds.1.2.pager_stays
-    walk-lasts u s s' (to_start r place ∷ below) (took.Claim i (Ok claims.AlreadyFailed)) (is, c) = stays kind key n s.core s'.core c.finds.1.2.pager_stays
-    walk-lasts u s s' (to_start r place ∷ below) (took.Claim i (Err f)) (is, c) = stays kind key n s.core s'.core c.refused.1.pager_stays
-    walk-lasts u s s' (to_pin r place ∷ below) (took.Pin i (Ok (pinsteps.Held k))) (is, p) = at-once s.core s'.core (owner_worker u) r p.pins.0 k p.pins.1
-    walk-lasts u s s' (to_pin r place ∷ below) (took.Pin i (Ok (pinsteps.LoadBegun l))) (is, p) = by-load s.core s'.core (owner_worker u) r p.pins.0 l p.pins.1
-    walk-lasts u s s' (to_pin r place ∷ below) (took.Pin i (Ok pinsteps.LoadWent)) (is, p) = absurd p.pins
-    walk-lasts u s s' (to_pin r place ∷ below) (took.Pin i (Err f)) (is, p) = pin-refused s.core s'.core (owner_worker u) r f p.refused.0
-    walk-lasts u s s' (to_load r place through reading ∷ below) (took.Pin i (Ok (pinsteps.Held k))) (is, p) = reading-lasts m.values s.core (owner_worker u) reading p.goes.0
-    walk-lasts u s s' (to_load r place through reading ∷ below) (took.Pin i (Ok (pinsteps.LoadBegun l))) (is, p) = absurd p.goes
-    walk-lasts u s s' (to_load r place through reading ∷ below) (took.Pin i (Ok pinsteps.LoadWent)) (is, p) = reading-lasts m.values s.core (owner_worker u) reading p.goes.1
-    walk-lasts u s s' (to_load r place through reading ∷ below) (took.Pin i (Err f)) (is, p) = reading-lasts m.values s.core (owner_worker u) reading p.refused.0
-    walk-lasts u s s' (to_write r place through ∷ below) (took.Write i (Ok out)) (is, p) = stays kind key n s.core s'.core p.writes.pager_stays
-    walk-lasts u s s' (to_write r place through ∷ below) (took.Write i (Err f)) (is, p) = stays kind key n s.core s'.core p.refused.1.pager_stays
-    walk-lasts u s s' (to_finish o ∷ below) (took.Store i k) (is, p) = stores kind key n s.core s'.core k p.stored
-    walk-lasts u s s' (to_item written keys ∷ below) (took.Store i k) (is, p) = stores kind key n s.core s'.core k p.stored
-    walk-lasts u s s' (to_set r through k h ∷ below) (took.SetKey i done) (is, p) = sets kind key n s.core s'.core done p.sets
-    walk-lasts u s s' (to_publish r k h ∷ below) (took.Publish i k2 h2) (is, same_key, same_height, t) = stays kind key n s.core s'.core t.pager_stays
-    walk-lasts u s s' (to_release r k h ∷ below) (took.Release i) (is, f, g) = by-fell kind key n f.falls (λ e. e)
-    walk-lasts u s s' (to_fail fault back ∷ below) took.Fail (gives, shelf, list_is) = gives-back u back gives
+    walk-lasts u s s' (to_start r place ∷ below) (Took.Claim i (Ok Claim.Claimed)) (is, c) = stays kind key n s.core s'.core c.finds.1.2.pager_stays
+    walk-lasts u s s' (to_start r place ∷ below) (Took.Claim i (Ok (Claim.Known k h))) (is, c) = stays kind key n s.core s'.core c.finds.1.2.pager_stays
+    walk-lasts u s s' (to_start r place ∷ below) (Took.Claim i (Ok Claim.Waiting)) (is, c) = stays kind key n s.core s'.core c.finds.1.2.pager_stays
+    walk-lasts u s s' (to_start r place ∷ below) (Took.Claim i (Ok Claim.AlreadyFailed)) (is, c) = stays kind key n s.core s'.core c.finds.1.2.pager_stays
+    walk-lasts u s s' (to_start r place ∷ below) (Took.Claim i (Err f)) (is, c) = stays kind key n s.core s'.core c.refused.1.pager_stays
+    walk-lasts u s s' (to_pin r place ∷ below) (Took.Pin i (Ok (PinStep.Held k))) (is, p) = at-once s.core s'.core (owner_worker u) r p.pins.0 k p.pins.1
+    walk-lasts u s s' (to_pin r place ∷ below) (Took.Pin i (Ok (PinStep.LoadBegun l))) (is, p) = by-load s.core s'.core (owner_worker u) r p.pins.0 l p.pins.1
+    walk-lasts u s s' (to_pin r place ∷ below) (Took.Pin i (Ok PinStep.LoadWent)) (is, p) = absurd p.pins
+    walk-lasts u s s' (to_pin r place ∷ below) (Took.Pin i (Err f)) (is, p) = pin-refused s.core s'.core (owner_worker u) r f p.refused.0
+    walk-lasts u s s' (to_load r place through reading ∷ below) (Took.Pin i (Ok (PinStep.Held k))) (is, p) = reading-lasts m.values s.core (owner_worker u) reading p.goes.0
+    walk-lasts u s s' (to_load r place through reading ∷ below) (Took.Pin i (Ok (PinStep.LoadBegun l))) (is, p) = absurd p.goes
+    walk-lasts u s s' (to_load r place through reading ∷ below) (Took.Pin i (Ok PinStep.LoadWent)) (is, p) = reading-lasts m.values s.core (owner_worker u) reading p.goes.1
+    walk-lasts u s s' (to_load r place through reading ∷ below) (Took.Pin i (Err f)) (is, p) = reading-lasts m.values s.core (owner_worker u) reading p.refused.0
+    walk-lasts u s s' (to_write r place through ∷ below) (Took.Write i (Ok out)) (is, p) = stays kind key n s.core s'.core p.writes.pager_stays
+    walk-lasts u s s' (to_write r place through ∷ below) (Took.Write i (Err f)) (is, p) = stays kind key n s.core s'.core p.refused.1.pager_stays
+    walk-lasts u s s' (to_finish o ∷ below) (Took.Store i k) (is, p) = stores kind key n s.core s'.core k p.stored
+    walk-lasts u s s' (to_item written keys ∷ below) (Took.Store i k) (is, p) = stores kind key n s.core s'.core k p.stored
+    walk-lasts u s s' (to_set r through k h ∷ below) (Took.SetKey i done) (is, p) = sets kind key n s.core s'.core done p.sets
+    walk-lasts u s s' (to_publish r k h ∷ below) (Took.Publish i k2 h2) (is, same_key, same_height, t) = stays kind key n s.core s'.core t.pager_stays
+    walk-lasts u s s' (to_release r k h ∷ below) (Took.Release i) (is, f, g) = by-fell kind key n f.falls (λ e. e)
+    walk-lasts u s s' (to_fail fault back ∷ below) Took.Fail (gives, shelf, list_is) = gives-back u back gives
     walk-lasts u s s' todo step does = absurd does
 
     -- ---- events
 
     pub event-lasts : (u u' : World) (event : Event N B W) (reply : EventReply N B W) → LeavesCache event → Happens m u event reply u' → L u.core u'.core
-    event-lasts u u' (events.Call call) (answers.CallReply r) leaves h = calls-last kind key n u.core u'.core m owners.Caller call r leaves h.step.does
-    event-lasts u u' (events.LoadStart k) (answers.Started r) leaves h = begins kind key n u.core u'.core r h.step
-    event-lasts u u' (events.LoadKey k t) (answers.Started r) leaves h = begins-key kind key n u.core u'.core r h.step
-    event-lasts u u' (events.LoadStep l) (answers.LoadMoved (Ok reply)) leaves h = let x = h.moves in reading-lasts m.values u.core owners.Caller x.reading x.does
-    event-lasts u u' (events.LoadStep l) (answers.LoadMoved (Err e)) leaves h = stays kind key n u.core u'.core h.refused.1.core
-    event-lasts u u' events.TableNew (answers.TableMade (Ok t)) leaves h = stays kind key n u.core u'.core h.made.1
-    event-lasts u u' events.TableNew (answers.TableMade (Err e)) leaves h = stays kind key n u.core u'.core h.refused.1.core
-    event-lasts u u' (events.WorkerItem t item) (answers.WorkerMade (Ok k)) leaves h = by-alike kind key n h.starts.pager (λ e. e)
-    event-lasts u u' (events.WorkerItem t item) (answers.WorkerMade (Err e)) leaves h = stays kind key n u.core u'.core h.refused.1.core
-    event-lasts u u' (events.WorkerListed t i) (answers.WorkerMade (Ok k)) leaves h = by-alike kind key n h.starts.5.pager (λ e. e)
-    event-lasts u u' (events.WorkerListed t i) (answers.WorkerMade (Err e)) leaves h = stays kind key n u.core u'.core h.refused.1.core
-    event-lasts u u' (events.WorkerStep k) (answers.WorkerMoved (Ok reply)) leaves h =
+    event-lasts u u' (Event.Call call) (EventReply.CallReply r) leaves h = calls-last kind key n u.core u'.core m Owner.Caller call r leaves h.step.does
+    event-lasts u u' (Event.LoadStart k) (EventReply.Started r) leaves h = begins kind key n u.core u'.core r h.step
+    event-lasts u u' (Event.LoadKey k t) (EventReply.Started r) leaves h = begins-key kind key n u.core u'.core r h.step
+    event-lasts u u' (Event.LoadStep l) (EventReply.LoadMoved (Ok reply)) leaves h = let x = h.moves in reading-lasts m.values u.core Owner.Caller x.reading x.does
+    event-lasts u u' (Event.LoadStep l) (EventReply.LoadMoved (Err e)) leaves h = stays kind key n u.core u'.core h.refused.1.core
+    event-lasts u u' Event.TableNew (EventReply.TableMade (Ok t)) leaves h = stays kind key n u.core u'.core h.made.1
+    event-lasts u u' Event.TableNew (EventReply.TableMade (Err e)) leaves h = stays kind key n u.core u'.core h.refused.1.core
+    event-lasts u u' (Event.WorkerItem t item) (EventReply.WorkerMade (Ok k)) leaves h = by-alike kind key n h.starts.pager (λ e. e)
+    event-lasts u u' (Event.WorkerItem t item) (EventReply.WorkerMade (Err e)) leaves h = stays kind key n u.core u'.core h.refused.1.core
+    event-lasts u u' (Event.WorkerListed t i) (EventReply.WorkerMade (Ok k)) leaves h = by-alike kind key n h.starts.5.pager (λ e. e)
+    event-lasts u u' (Event.WorkerListed t i) (EventReply.WorkerMade (Err e)) leaves h = stays kind key n u.core u'.core h.refused.1.core
+    event-lasts u u' (Event.WorkerStep k) (EventReply.WorkerMoved (Ok reply)) leaves h =
         let x = h.moves in
         then-ends k.0 reply.answer (walk-lasts k.0 (record { core = u.core; shelf = u.work.shelves x.walking.table; todo = x.walking.todo }) x.after x.walking.todo reply.took x.does.does) x.ends
-    event-lasts u u' (events.WorkerStep k) (answers.WorkerMoved (Err e)) leaves h = stays kind key n u.core u'.core h.refused.2.core
+    event-lasts u u' (Event.WorkerStep k) (EventReply.WorkerMoved (Err e)) leaves h = stays kind key n u.core u'.core h.refused.2.core
     event-lasts u u' event reply leaves h = absurd h

@@ -1,20 +1,8 @@
 -- What a worker's step does to the plain world, as trees feel it, and which loads it begins.
-use Rattle.std.proofs.Common.{◌≡◌, ℕ, ◌+◌, ◌≤◌, true, List, [], ◌∷◌, ◌++◌, refl, sym, ap, subst, ◌∙◌, inl, inr, arith}
-use Rattle.std.specs.Prelude.{Option, Some, None, Ok, Err, Result}
-use Rattle.pagable_world.specs.Plain.{Error, ArcRef, HandleNumber, LoadNumber}
-use Rattle.pagable_world.specs.declared.handles.HandleRow.{HandleRow}
-use Rattle.pagable_world.specs.declared.answers.Pinning.TheVariants as pinnings
-use Rattle.pagable_world.specs.declared.answers.Beginning.TheVariants as beginnings
-use Rattle.pagable_world.specs.declared.events.Claim.TheVariants as claims
-use Rattle.pagable_world.specs.declared.events.PinStep.TheVariants as pinsteps
-use Rattle.pagable_world.specs.declared.events.Took.TheVariants as took
-use Rattle.pagable_world.specs.declared.events.Took.{Took}
-use Rattle.pagable_world.specs.Kinds.{owner_worker, is_loose}
-use Rattle.pagable_world.specs.World.{Core, Last, OpenLoad, Reading, Todo, to_start, to_pin, to_load, to_write, to_finish, to_item, to_set, to_publish, to_release, to_fail, row_at, Seen}
-use Rattle.pagable_world.specs.Calls.{SetKeyCall}
-use Rattle.pagable_world.specs.Workers.{Site, Does, PinsAtOnce, PinsByLoad, PinRefused, GivesBack, next_start, give, give_known, fresh}
-use Rattle.pagable_world.specs.Pager.{HandlesAreWhole, TodoBrings}
-use Rattle.pagable_laws.specs.TreeSteps.{Change, nothing_felt, sets_key, ReadingFeels, IsFresh}
+use Rattle.pagable_laws.proofs.Words.{◌≡◌, ℕ, ◌+◌, ◌≤◌, true, List, [], ◌∷◌, ◌++◌, refl, sym, ap, subst, ◌∙◌, inl, inr, arith, Option, Some, None, Ok, Err, Result, Error, ArcRef, HandleNumber}
+use Rattle.pagable_laws.proofs.Words.{LoadNumber, HandleRow, Pinning, Beginning, Claim, PinStep, Took, owner_worker, is_loose, Core, Last, OpenLoad, Reading, Todo, to_start, to_pin, to_load}
+use Rattle.pagable_laws.proofs.Words.{to_write, to_finish, to_item, to_set, to_publish, to_release, to_fail, row_at, Seen, SetKeyCall, Site, Does, PinsAtOnce, PinsByLoad, PinRefused, GivesBack}
+use Rattle.pagable_laws.proofs.Words.{next_start, give, give_known, fresh, HandlesAreWhole, TodoBrings, Change, nothing_felt, sets_key, ReadingFeels, IsFresh}
 use Rattle.pagable_laws.proofs.Trees.{same_some}
 use Rattle.pagable_laws.proofs.Goes.{Quiet, Goes, NotLoads, quiet-then, quiet-goes, quiet-begins, goes-quiet, alike, fell, fell-anyhow, keyed, KnowsNext}
 use Rattle.pagable_laws.proofs.Calling.{clones, pins, begins, stores}
@@ -59,14 +47,7 @@ given : (r : ArcRef) (key height : ℕ) (below : List Todo) → NoLoad below →
 given r key height [] well = refl
 given r key height (to_finish o ∷ below) well = started o.place _ _ below refl
 given r key height (to_item written keys ∷ below) well = started 0 _ _ below refl
-given r key height (to_start q place ∷ below) well = absurd well
-given r key height (to_pin q place ∷ below) well = absurd well
-given r key height (to_load q place through reading ∷ below) well = absurd well
-given r key height (to_write q place through ∷ below) well = absurd well
-given r key height (to_set q through k h ∷ below) well = absurd well
-given r key height (to_publish q k h ∷ below) well = absurd well
-given r key height (to_release q k h ∷ below) well = absurd well
-given r key height (to_fail fault back ∷ below) well = absurd well
+given r key height _ well = absurd well
 
 given-known : (r : ArcRef) (key height : ℕ) (below : List Todo) → NoLoad below → front_reading (give_known r key height below) ≡ None
 given-known r key height [] well = refl
@@ -100,11 +81,11 @@ module _ {w w' : Core} (v : ℕ) (r : ArcRef) where
   at-once : (through k : HandleNumber) → PinsAtOnce w (owner_worker v) r through k w' → Quiet w w'
   at-once through k does = elim does [
     | inl (row, is, clone) ↦ clones (Ok k) clone
-    | inr (row, (mid, clone, pin)) ↦ quiet-then (clones (Ok through) clone) (pins (works-free v) (Ok (pinnings.Pinned k)) pin)
+    | inr (row, (mid, clone, pin)) ↦ quiet-then (clones (Ok through) clone) (pins (works-free v) (Ok (Pinning.Pinned k)) pin)
   ]
 
   by-load : (through : HandleNumber) (l : LoadNumber) → PinsByLoad w (owner_worker v) r through l w' → Goes nothing_felt w w'
-  by-load through l (row, (mid, key, clone, begin)) = quiet-begins (clones (Ok through) clone) (begins (Ok (beginnings.Load l key)) begin)
+  by-load through l (row, (mid, key, clone, begin)) = quiet-begins (clones (Ok through) clone) (begins (Ok (Beginning.Load l key)) begin)
 
   begun-number : (through : HandleNumber) (l : LoadNumber) → PinsByLoad w (owner_worker v) r through l w' → l.0 ≤ w'.last.load
   begun-number through l (row, (mid, key, clone, begin)) =
@@ -167,36 +148,28 @@ module _ {N B W : Type 0} (m : Seen N B W) (v : ℕ) (s s' : Site) where
       }
 
   pub walk-goes : (todo : List Todo) (step : Took W) → Does m v s todo step s' → WF todo
-  walk-goes (to_start r place ∷ below) (took.Claim i (Ok claims.Claimed)) (is, c) = let t = c.finds.1.2 in rests _ (λ n x b. b) t.list_is (λ well. refl) (alike t.pager_stays)
-  walk-goes (to_start r place ∷ below) (took.Claim i (Ok (claims.Known key height))) (is, c) = let t = c.finds.1.2 in rests _ (λ n x b. b) t.list_is (given-known r key height below) (alike t.pager_stays)
-  walk-goes (to_start r place ∷ below) (took.Claim i (Ok claims.Waiting)) (is, c) =
+  walk-goes (to_start r place ∷ below) (Took.Claim i (Ok Claim.Claimed)) (is, c) = let t = c.finds.1.2 in rests _ (λ n x b. b) t.list_is (λ well. refl) (alike t.pager_stays)
+  walk-goes (to_start r place ∷ below) (Took.Claim i (Ok (Claim.Known key height))) (is, c) = let t = c.finds.1.2 in
+      rests _ (λ n x b. b) t.list_is (given-known r key height below) (alike t.pager_stays)
+  walk-goes (to_start r place ∷ below) (Took.Claim i (Ok Claim.Waiting)) (is, c) =
       let t = c.finds.1.2 in
       record { change = nothing_felt; goes = quiet-goes nothing_felt (alike t.pager_stays); feels = λ front well. walk-rests (λ n x b. b) (no-load s' _ (t.list_is ∙ front) refl); knows = λ whole k q n known. absurd known }
-  walk-goes (to_start r place ∷ below) (took.Claim i (Ok claims.AlreadyFailed)) (is, c) = let t = c.finds.1.2 in rests _ (λ n x b. b) t.list_is (λ well. refl) (alike t.pager_stays)
-  walk-goes (to_start r place ∷ below) (took.Claim i (Err f)) (is, c) = let t = c.refused.1 in rests _ (λ n x b. b) t.list_is (λ well. refl) (alike t.pager_stays)
-  walk-goes (to_start r place ∷ below) step does = absurd does
-  walk-goes (to_pin r place ∷ below) (took.Pin i (Ok (pinsteps.Held k))) (is, p) = rests _ (λ n x b. b) p.pins.2.list_is (λ well. refl) (at-once v r p.pins.0 k p.pins.1)
-  walk-goes (to_pin r place ∷ below) (took.Pin i (Ok (pinsteps.LoadBegun l))) (is, p) = load-begins r place _ below p.pins.0 l p.pins.1 p.pins.2.list_is
-  walk-goes (to_pin r place ∷ below) (took.Pin i (Ok pinsteps.LoadWent)) (is, p) = absurd p.pins
-  walk-goes (to_pin r place ∷ below) (took.Pin i (Err f)) (is, p) = begun _ (λ n x b. b) p.refused.1.list_is (λ well. refl) (pin-refused v r f p.refused.0)
-  walk-goes (to_pin r place ∷ below) step does = absurd does
+  walk-goes (to_start r place ∷ below) (Took.Claim i (Ok Claim.AlreadyFailed)) (is, c) = let t = c.finds.1.2 in rests _ (λ n x b. b) t.list_is (λ well. refl) (alike t.pager_stays)
+  walk-goes (to_start r place ∷ below) (Took.Claim i (Err f)) (is, c) = let t = c.refused.1 in rests _ (λ n x b. b) t.list_is (λ well. refl) (alike t.pager_stays)
+  walk-goes (to_pin r place ∷ below) (Took.Pin i (Ok (PinStep.Held k))) (is, p) = rests _ (λ n x b. b) p.pins.2.list_is (λ well. refl) (at-once v r p.pins.0 k p.pins.1)
+  walk-goes (to_pin r place ∷ below) (Took.Pin i (Ok (PinStep.LoadBegun l))) (is, p) = load-begins r place _ below p.pins.0 l p.pins.1 p.pins.2.list_is
+  walk-goes (to_pin r place ∷ below) (Took.Pin i (Ok PinStep.LoadWent)) (is, p) = absurd p.pins
+  walk-goes (to_pin r place ∷ below) (Took.Pin i (Err f)) (is, p) = begun _ (λ n x b. b) p.refused.1.list_is (λ well. refl) (pin-refused v r f p.refused.0)
   walk-goes (to_load r place through reading ∷ below) step does = loads-on r place through reading below step does
-  walk-goes (to_write r place through ∷ below) (took.Write i (Ok out)) (is, p) = rests _ (λ n x b. b) p.writes.list_is (λ well. started place _ _ below refl) (alike p.writes.pager_stays)
-  walk-goes (to_write r place through ∷ below) (took.Write i (Err f)) (is, p) = rests _ (λ n x b. b) p.refused.1.list_is (λ well. refl) (alike p.refused.1.pager_stays)
-  walk-goes (to_write r place through ∷ below) step does = absurd does
-  walk-goes (to_finish o ∷ below) (took.Store i (Ok key)) (is, p) = rests _ (λ n x b. b) p.goes.list_is (λ well. refl) (stores (Ok key) p.stored)
-  walk-goes (to_finish o ∷ below) (took.Store i (Err f)) (is, p) = rests _ (λ n x b. b) p.refused.list_is (λ well. refl) (stores (Err f) p.stored)
-  walk-goes (to_finish o ∷ below) step does = absurd does
-  walk-goes (to_item written keys ∷ below) (took.Store i (Ok key)) (is, p) = rests _ (λ n x b. b) p.goes.list_is (λ well. refl) (stores (Ok key) p.stored)
-  walk-goes (to_item written keys ∷ below) (took.Store i (Err f)) (is, p) = rests _ (λ n x b. b) p.refused.list_is (λ well. refl) (stores (Err f) p.stored)
-  walk-goes (to_item written keys ∷ below) step does = absurd does
-  walk-goes (to_set r through key height ∷ below) (took.SetKey i (Ok u)) (is, p) = sets r through key height below _ (Ok u) p.sets p.goes.list_is refl
-  walk-goes (to_set r through key height ∷ below) (took.SetKey i (Err f)) (is, p) = sets r through key height below _ (Err f) p.sets p.refused.list_is refl
-  walk-goes (to_set r through key height ∷ below) step does = absurd does
-  walk-goes (to_publish r key height ∷ below) (took.Publish i k h) (is, same_key, same_height, t) = rests _ (λ n x b. b) t.list_is (λ well. refl) (alike t.pager_stays)
-  walk-goes (to_publish r key height ∷ below) step does = absurd does
-  walk-goes (to_release r key height ∷ below) (took.Release i) (is, falls, g) = rests _ (λ n x b. b) g.list_is (given r key height below) (fell-anyhow falls)
-  walk-goes (to_release r key height ∷ below) step does = absurd does
-  walk-goes (to_fail fault back ∷ below) took.Fail (gives, shelf, list_is) = rests _ (λ n x b. b) list_is (λ well. refl) (gives-back v back gives)
-  walk-goes (to_fail fault back ∷ below) step does = absurd does
-  walk-goes [] step does = absurd does
+  walk-goes (to_write r place through ∷ below) (Took.Write i (Ok out)) (is, p) = rests _ (λ n x b. b) p.writes.list_is (λ well. started place _ _ below refl) (alike p.writes.pager_stays)
+  walk-goes (to_write r place through ∷ below) (Took.Write i (Err f)) (is, p) = rests _ (λ n x b. b) p.refused.1.list_is (λ well. refl) (alike p.refused.1.pager_stays)
+  walk-goes (to_finish o ∷ below) (Took.Store i (Ok key)) (is, p) = rests _ (λ n x b. b) p.goes.list_is (λ well. refl) (stores (Ok key) p.stored)
+  walk-goes (to_finish o ∷ below) (Took.Store i (Err f)) (is, p) = rests _ (λ n x b. b) p.refused.list_is (λ well. refl) (stores (Err f) p.stored)
+  walk-goes (to_item written keys ∷ below) (Took.Store i (Ok key)) (is, p) = rests _ (λ n x b. b) p.goes.list_is (λ well. refl) (stores (Ok key) p.stored)
+  walk-goes (to_item written keys ∷ below) (Took.Store i (Err f)) (is, p) = rests _ (λ n x b. b) p.refused.list_is (λ well. refl) (stores (Err f) p.stored)
+  walk-goes (to_set r through key height ∷ below) (Took.SetKey i (Ok u)) (is, p) = sets r through key height below _ (Ok u) p.sets p.goes.list_is refl
+  walk-goes (to_set r through key height ∷ below) (Took.SetKey i (Err f)) (is, p) = sets r through key height below _ (Err f) p.sets p.refused.list_is refl
+  walk-goes (to_publish r key height ∷ below) (Took.Publish i k h) (is, same_key, same_height, t) = rests _ (λ n x b. b) t.list_is (λ well. refl) (alike t.pager_stays)
+  walk-goes (to_release r key height ∷ below) (Took.Release i) (is, falls, g) = rests _ (λ n x b. b) g.list_is (given r key height below) (fell-anyhow falls)
+  walk-goes (to_fail fault back ∷ below) Took.Fail (gives, shelf, list_is) = rests _ (λ n x b. b) list_is (λ well. refl) (gives-back v back gives)
+  walk-goes _ step does = absurd does

@@ -1,19 +1,15 @@
 -- A worker's step of the chain of two levels is one of the machine, if the walk does it.
-use Rattle.std.proofs.Common.{◌≡◌, ℕ, ◌==◌, Bool, true, false, List, refl, inl}
-use Rattle.std.specs.Prelude.{Option, Some, None, Ok, is_none}
-use Rattle.pagable_world.specs.Plain.{updated, if_there}
-use Rattle.pagable_world.specs.declared.events.Took.{Took}
-use Rattle.pagable_world.specs.declared.events.WorkerAnswer.{WorkerAnswer}
-use Rattle.pagable_world.specs.declared.events.Event.TheVariants as events
-use Rattle.pagable_world.specs.declared.events.EventReply.TheVariants as answers
-use Rattle.pagable_world.specs.World.{Core, Shelf, Written, Todo, SameShelf}
-use Rattle.pagable_world.specs.Workers.{WalkDoes, answer_after, is_counted}
-use Rattle.pagable_world.specs.Events.{no_shelf, steps_after, Ends}
-use Rattle.pagable_world.specs.Pager.{TookWrites}
+use Rattle.pagable_laws.proofs.Words.{◌≡◌, ℕ, ◌==◌, Bool, true, false, List, refl, inl, Option, Some, None, Ok, is_none, updated, if_there, Took, WorkerAnswer, Event, EventReply, Core, Shelf}
+use Rattle.pagable_laws.proofs.Words.{Written, Todo, SameShelf, WalkDoes, answer_after, is_counted, no_shelf, steps_after, Ends, TookWrites, sample, sample_seen, two_values, machine, walking}
+use Rattle.pagable_laws.proofs.Words.{table_work, walk_work}
 use Rattle.pagable_world.specs.Runs.{Does}
-use Rattle.pagable_laws.specs.TwoLevels.{sample, sample_seen, two_values, machine, walking, table_work, walk_work}
 use Rattle.pagable_laws.proofs.Whole.{Passes}
 use Rattle.pagable_laws.proofs.States.{work-whole, reads-none}
+
+infixr 3 ◌⨾◌
+-- one moment, and those after it
+pub ◌⨾◌ : {A B : Type 0} → A → B → A × B
+a ⨾ b = (a, b)
 
 pub same-shelf : (s : Shelf) → SameShelf s s
 same-shelf s = record { slots = λ i. refl; waits = λ v. refl }
@@ -44,7 +40,7 @@ pub worker-does : {core mid core' : Core} {shelf shelf' : Shelf} {todo todo' : L
     → TookWrites sample (λ w. w) (machine core two_values (table_work shelf)).pager step
     → Passes core' two_values → core'.workers 0 ≡ false → core'.workers 1 ≡ is_none answer
     → Does sample_seen (machine core two_values (walk_work shelf (walking todo steps None)))
-    (events.WorkerStep (record { 0 = 1 })) (answers.WorkerMoved (Ok (record { took = step; answer = answer; steps = steps' })))
+    (Event.WorkerStep (record { 0 = 1 })) (EventReply.WorkerMoved (Ok (record { took = step; answer = answer; steps = steps' })))
     (machine core' two_values (walk_work shelf' (walking todo' steps' answer)))
 worker-does {core} {mid} {core'} {shelf} {shelf'} {todo} {todo'} {step} {steps'} {answer} steps does answers counts ends writes passes none at_work =
     record {

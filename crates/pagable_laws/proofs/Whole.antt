@@ -1,19 +1,11 @@
 -- A pager of few nodes, handles and loads is whole, if tests of these say so.
-use Rattle.std.proofs.Common.{◌≡◌, ℕ, zero, suc, ◌<◌, ◌≤◌, ◌==◌, ◌&&◌, Bool, true, false, List, [], ◌∷◌, length, refl, ap, sym, subst, ◌∙◌, inl, arith, not}
-use Rattle.std.specs.Prelude.{slice_get, Option, Some, None, is_some, nat_lt, nat_le, nat_eq}
-use Rattle.std.proofs.lemmas.Bool.{and_parts, agree_below}
-use Rattle.std.proofs.lemmas.Bool.Decides.{nat_tests}
-use Rattle.pagable_world.specs.Plain.{ArcRef, Among, times, if_there, type_of, is_shared_kind}
-use Rattle.pagable_world.specs.declared.handles.Owner.TheVariants as owners
-use Rattle.pagable_world.specs.declared.handles.Owner.{Owner}
-use Rattle.pagable_world.specs.declared.handles.HandleRow.{HandleRow}
-use Rattle.pagable_world.specs.Kinds.{is_shared, is_loose, is_owner, is_owned_by, owner_value, is_handle, held, fits_mode}
-use Rattle.pagable_world.specs.World.{Core, OpenLoad, of_cell, row_at, type_at, is_here}
-use Rattle.pagable_world.specs.Refusals.{is_type, IsReference}
-use Rattle.pagable_world.specs.Pager.{WellFormed, MayOwnLoad, IsRootWhole}
-use Rattle.pagable_laws.specs.SmallWorlds.{no_work}
-use Rattle.pagable_laws.specs.TwoLevels.{Sample, sample, sample_type, sample_references, value_at, machine}
-use Rattle.pagable_laws.proofs.Tested.{all_pass, all-among, none-pass, by-number, is_low, low-parts, row_low, owner_low, never, held-past, unshared, owns-past, IsFew, numbers_rise, ordered, owner_there, row_there, root_fits, load_fits}
+use Rattle.pagable_laws.proofs.Words.{◌≡◌, ℕ, zero, suc, ◌<◌, ◌≤◌, ◌==◌, ◌&&◌, Bool, true, false, List, [], ◌∷◌, length, refl, ap, sym, subst, ◌∙◌, inl, arith, not, slice_get, Option, Some, None}
+use Rattle.pagable_laws.proofs.Words.{is_some, nat_lt, nat_le, nat_eq, and_parts, agree_below, nat_tests, ArcRef, Among, times, if_there, type_of, is_shared_kind, Owner, HandleRow, is_shared}
+use Rattle.pagable_laws.proofs.Words.{is_loose, is_owner, is_owned_by, owner_value, is_handle, held, fits_mode, Core, OpenLoad, of_cell, row_at, type_at, is_here, is_type, IsReference}
+use Rattle.pagable_laws.proofs.Words.{WellFormed, MayOwnLoad, IsRootWhole, no_work, Sample, sample, sample_type, sample_references, value_at, machine}
+use Rattle.pagable_laws.proofs.Tested.{all_pass, all-among, none-pass, by-number, is_low, low-parts, row_low, owner_low, never, held-past, unshared, owns-past, IsFew, numbers_rise, ordered}
+use Rattle.pagable_laws.proofs.Tested.{owner_there, row_there, root_fits, load_fits}
+use Rattle.pagable_laws.proofs.GoodReferences.{typed-by}
 
 -- ---- tests of nodes
 
@@ -69,23 +61,13 @@ some-of : {X : Type 0} (test : X → Bool) (x : Option X) (y : X) → if_there t
 some-of test (Some x) y ok is = let e : x ≡ y = cc in subst (λ z. test z ≡ true) e ok
 some-of test None y ok is = absurd (cc)
 
-is-type : (t : ℕ) (found : Option ℕ) → is_type t found ≡ true → found ≡ Some t
-is-type t (Some u) ok = let e : u ≡ t = grind (arith, nat_tests) in ap Some e
-is-type t None ok = absurd (cc)
-
-is-caller : (o : Owner) → is_owner owners.Caller o ≡ true → o ≡ owners.Caller
-is-caller owners.Caller ok = refl
-is-caller (owners.Value m) ok = absurd (cc)
-is-caller owners.List ok = absurd (cc)
-is-caller (owners.Load l) ok = absurd (cc)
-is-caller (owners.Worker v) ok = absurd (cc)
+is-caller : (o : Owner) → is_owner Owner.Caller o ≡ true → o ≡ Owner.Caller
+is-caller Owner.Caller ok = refl
+is-caller _ ok = absurd (cc)
 
 is-value : (n : ℕ) (o : Owner) → is_owner (owner_value n) o ≡ true → o ≡ owner_value n
-is-value n owners.Caller ok = absurd (cc)
-is-value n (owners.Value m) ok = let e : m.0 ≡ n = grind (arith, nat_tests) in ap owner_value e
-is-value n owners.List ok = absurd (cc)
-is-value n (owners.Load l) ok = absurd (cc)
-is-value n (owners.Worker v) ok = absurd (cc)
+is-value n (Owner.Value m) ok = let e : m.0 ≡ n = grind (arith, nat_tests) in ap owner_value e
+is-value n _ ok = absurd (cc)
 
 found-of : (test : HandleRow → Bool) (found : Option HandleRow) → if_there test false found ≡ true → (row : HandleRow) × (found ≡ Some row) × (test row ≡ true)
 found-of test (Some row) ok = (row, refl, ok)
@@ -110,19 +92,20 @@ module _ (w : Core) (vs : List (Option Sample)) (p : Passes w vs) where
   live : (n : ℕ) → is_some (w.cells n) ≡ nat_lt 0 (held n w.rows)
   live = by-number 3 (λ n. is_some (w.cells n)) (λ n. nat_lt 0 (held n w.rows)) p.live (λ n lt. let e = p.few.cells n lt in let f = held-past w.rows p.low n lt in rw (e, f) refl)
 
-  load-parts : (l : ℕ) (load : OpenLoad) → w.loads l ≡ Some load → (0 < l) × (l ≤ w.last.load) × (load.owner ≡ owners.Caller) × (root_fits w load.root ≡ true)
+  load-parts : (l : ℕ) (load : OpenLoad) → w.loads l ≡ Some load → (0 < l) × (l ≤ w.last.load) × (load.owner ≡ Owner.Caller) × (root_fits w load.root ≡ true)
   load-parts l load is =
       let test = by-number 3 (load_fits w) (λ l. true) p.loads (λ l lt. let e = p.few.loads l lt in rw e refl) l in
-      let a = some-of (λ (load : OpenLoad). nat_lt 0 l && (nat_le l w.last.load && (is_owner owners.Caller load.owner && root_fits w load.root))) (w.loads l) load test is in
-      let b = and_parts (nat_lt 0 l) (nat_le l w.last.load && (is_owner owners.Caller load.owner && root_fits w load.root)) a in
-      let c = and_parts (nat_le l w.last.load) (is_owner owners.Caller load.owner && root_fits w load.root) b.1 in
-      let d = and_parts (is_owner owners.Caller load.owner) (root_fits w load.root) c.1 in
+      let a = some-of (λ (load : OpenLoad). nat_lt 0 l && (nat_le l w.last.load && (is_owner Owner.Caller load.owner && root_fits w load.root))) (w.loads l) load test is in
+      let b = and_parts (nat_lt 0 l) (nat_le l w.last.load && (is_owner Owner.Caller load.owner && root_fits w load.root)) a in
+      let c = and_parts (nat_le l w.last.load) (is_owner Owner.Caller load.owner && root_fits w load.root) b.1 in
+      let d = and_parts (is_owner Owner.Caller load.owner) (root_fits w load.root) c.1 in
       let e = b.0 in let f = c.0 in
       (grind (arith, nat_tests), grind (arith, nat_tests), is-caller load.owner d.0, d.1)
 
   root-whole : (node : _) (t : ℕ) (h : _) → root_fits w (of_cell node t h) ≡ true → IsRootWhole w node t h
   root-whole node t h ok =
-      let a = and_parts (if_there (λ u. u == t) true (type_at w node.0)) (if_there (λ (row : HandleRow). row.node.0 == node.0 && is_loose row.mode) true (row_at w h) && (nat_le h.0 w.last.handle && nat_le node.0 w.last.node)) ok in
+      let a = and_parts (if_there (λ u. u == t) true (type_at w node.0))
+      (if_there (λ (row : HandleRow). row.node.0 == node.0 && is_loose row.mode) true (row_at w h) && (nat_le h.0 w.last.handle && nat_le node.0 w.last.node)) ok in
       let b = and_parts (if_there (λ (row : HandleRow). row.node.0 == node.0 && is_loose row.mode) true (row_at w h)) (nat_le h.0 w.last.handle && nat_le node.0 w.last.node) a.1 in
       let c = and_parts (nat_le h.0 w.last.handle) (nat_le node.0 w.last.node) b.1 in
       let d = c.0 in let e = c.1 in
@@ -143,8 +126,10 @@ module _ (w : Core) (vs : List (Option Sample)) (p : Passes w vs) where
   refers-to : (n : ℕ) (x : Sample) → value_at vs n ≡ Some x → all_pass (reference_stands w n) (sample_references x) ≡ true
   refers-to = of-value (λ n x. all_pass (reference_stands w n) (sample_references x)) p.references
 
-  own-test : (n : ℕ) (found : Option Sample) → value_at vs n ≡ found → if_there (λ x. agree_below (λ q. nat_eq (refers x q) (owns w n q)) (λ q. true) 14) (nat_eq (times (is_owned_by (owner_value n)) w.rows) 0) found ≡ true
-  own-test n found is = subst (λ f. if_there (λ x. agree_below (λ q. nat_eq (refers x q) (owns w n q)) (λ q. true) 14) (nat_eq (times (is_owned_by (owner_value n)) w.rows) 0) f ≡ true) is (by-number 3 (refers_to_own w vs) (λ n. true) p.inside past n)
+  own-test : (n : ℕ) (found : Option Sample) → value_at vs n ≡ found
+      → if_there (λ x. agree_below (λ q. nat_eq (refers x q) (owns w n q)) (λ q. true) 14) (nat_eq (times (is_owned_by (owner_value n)) w.rows) 0) found ≡ true
+  own-test n found is = subst (λ f. if_there (λ x. agree_below (λ q. nat_eq (refers x q) (owns w n q)) (λ q. true) 14) (nat_eq (times (is_owned_by (owner_value n)) w.rows) 0) f ≡ true) is
+      (by-number 3 (refers_to_own w vs) (λ n. true) p.inside past n)
     where
       past : (n : ℕ) → 3 < n → refers_to_own w vs n ≡ true
       past n lt = let e = p.short n lt in let f = owns-past w.rows p.low n lt in rw (e, f) refl
@@ -160,9 +145,11 @@ module _ (w : Core) (vs : List (Option Sample)) (p : Passes w vs) where
       past q lt =
           let few = p.room.0 in
           let a : refers x q ≡ 0 = none-pass (reference_stands w n) (λ (r : ArcRef). r.handle.0 == q) (sample_references x) (refers-to n x is)
-          (λ r ok. let b = (and_parts (nat_le r.handle.0 13) (if_there (row_refers n r) false (row_at w r.handle) && is_type (type_of r.kind.0) (type_at w r.node.0)) ok).0 in grind (arith, nat_tests)) in
+          (λ r ok. let b = (and_parts (nat_le r.handle.0 13) (if_there (row_refers n r) false (row_at w r.handle) && is_type (type_of r.kind.0) (type_at w r.node.0)) ok).0 in
+          grind (arith, nat_tests)) in
           let c : owns w n q ≡ 0 = none-pass (row_there w) (λ h. is_handle q h && is_owned_by (owner_value n) h) w.rows p.rows
-          (λ h ok. let b = and_parts (nat_lt 0 h.number.0) (nat_le h.number.0 w.last.handle && owner_there w h.owner) ok in let d = (and_parts (nat_le h.number.0 w.last.handle) (owner_there w h.owner) b.1).0 in and-false (is_handle q h) (is_owned_by (owner_value n) h) (grind (arith, nat_tests))) in
+          (λ h ok. let b = and_parts (nat_lt 0 h.number.0) (nat_le h.number.0 w.last.handle && owner_there w h.owner) ok in
+          let d = (and_parts (nat_le h.number.0 w.last.handle) (owner_there w h.owner) b.1).0 in and-false (is_handle q h) (is_owned_by (owner_value n) h) (grind (arith, nat_tests))) in
           rw (a, c) refl
 
   refers-well : (n : ℕ) (r : ArcRef) → reference_stands w n r ≡ true → IsReference w (owner_value n) r
@@ -173,7 +160,7 @@ module _ (w : Core) (vs : List (Option Sample)) (p : Passes w vs) where
       let c = and_parts (nat_eq found.0.node.0 r.node.0) (is_owner (owner_value n) found.0.owner && fits_mode r.kind.0 found.0.mode) found.2 in
       let d = and_parts (is_owner (owner_value n) found.0.owner) (fits_mode r.kind.0 found.0.mode) c.1 in
       let same : found.0.node.0 ≡ r.node.0 = let e = c.0 in grind (arith, nat_tests) in
-      record { row = found.0; live = found.1; at = ap (λ k. record { 0 = k }) same; owned = is-value n found.0.owner d.0; fits = d.1; typed = is-type (type_of r.kind.0) (type_at w r.node.0) b.1 }
+      record { row = found.0; live = found.1; at = ap (λ k. record { 0 = k }) same; owned = is-value n found.0.owner d.0; fits = d.1; typed = typed-by (type_of r.kind.0) (type_at w r.node.0) b.1 }
 
   entry-shares : (h : HandleRow) → Among w.rows h → is_shared h.mode ≡ false
   entry-shares h among = not-true (is_shared h.mode) (low-parts h (all-among row_low w.rows h p.low among)).1
@@ -182,24 +169,21 @@ module _ (w : Core) (vs : List (Option Sample)) (p : Passes w vs) where
       not-true true e = sym e
       not-true false e = refl
 
-  load-there : (o : Owner) (l : _) → owner_there w o ≡ true → o ≡ owners.Load l → is_some (w.loads l.0) ≡ true
+  load-there : (o : Owner) (l : _) → owner_there w o ≡ true → o ≡ Owner.Load l → is_some (w.loads l.0) ≡ true
   load-there o l ok is = subst (λ o. owner_there w o ≡ true) is ok
 
-  worker-there : (o : Owner) (v : ℕ) → owner_there w o ≡ true → o ≡ owners.Worker (record { 0 = v }) → w.workers v ≡ true
+  worker-there : (o : Owner) (v : ℕ) → owner_there w o ≡ true → o ≡ Owner.Worker (record { 0 = v }) → w.workers v ≡ true
   worker-there o v ok is = subst (λ o. owner_there w o ≡ true) is ok
 
-  no-list : (o : Owner) → owner_low o ≡ true → o ≡ owners.List → ⊥
-  no-list o ok is = let a : owner_low owners.List ≡ true = subst (λ o. owner_low o ≡ true) is ok in absurd (cc)
+  no-list : (o : Owner) → owner_low o ≡ true → o ≡ Owner.List → ⊥
+  no-list o ok is = let a : owner_low Owner.List ≡ true = subst (λ o. owner_low o ≡ true) is ok in absurd (cc)
 
-  list-owns-none : (q : ℕ) → times (λ h. is_handle q h && is_owned_by owners.List h) w.rows ≡ 0
-  list-owns-none q = none-pass row_low (λ h. is_handle q h && is_owned_by owners.List h) w.rows p.low (λ h ok. let a = not-lists h.owner (low-parts h ok).2 in rw a (and-false (is_handle q h)))
+  list-owns-none : (q : ℕ) → times (λ h. is_handle q h && is_owned_by Owner.List h) w.rows ≡ 0
+  list-owns-none q = none-pass row_low (λ h. is_handle q h && is_owned_by Owner.List h) w.rows p.low (λ h ok. let a = not-lists h.owner (low-parts h ok).2 in rw a (and-false (is_handle q h)))
     where
-      not-lists : (o : Owner) → owner_low o ≡ true → is_owner owners.List o ≡ false
-      not-lists owners.Caller ok = refl
-      not-lists (owners.Value m) ok = refl
-      not-lists owners.List ok = absurd (cc)
-      not-lists (owners.Load l) ok = refl
-      not-lists (owners.Worker v) ok = refl
+      not-lists : (o : Owner) → owner_low o ≡ true → is_owner Owner.List o ≡ false
+      not-lists Owner.List ok = absurd (cc)
+      not-lists _ ok = refl
 
       and-false : (b : Bool) → (b && false) ≡ false
       and-false true = refl
@@ -214,14 +198,15 @@ module _ (w : Core) (vs : List (Option Sample)) (p : Passes w vs) where
             ordered = (ordered 0 w.rows p.rise).0;
             numbered = λ h among. let a = row-parts h among in (a.0, a.1);
             nodes_numbered = node-given;
-            within = let a : w.last.handle ≤ 13 = grind (arith, nat_tests) in let b : w.last.node ≤ 3 = grind (arith, nat_tests) in let c : w.last.load ≤ 3 = grind (arith, nat_tests) in (omega arith, omega arith, omega arith);
+            within = let a : w.last.handle ≤ 13 = grind (arith, nat_tests) in let b : w.last.node ≤ 3 = grind (arith, nat_tests) in let c : w.last.load ≤ 3 = grind (arith, nat_tests) in
+                (omega arith, omega arith, omega arith);
             live = live;
             uniform = λ n. inl (unshared w.rows p.low n);
             unkeyed = λ n some. let a = unshared w.rows p.low n in absurd (omega arith);
             places = (grind (arith, nat_tests), let e : length w.list ≡ 0 = ap length p.list in omega arith);
           };
           owners_there = record {
-            listed = λ q. subst (λ hs. times (λ h. h.0 == q) hs ≡ times (λ h. is_handle q h && is_owned_by owners.List h) w.rows) (sym p.list) (sym (list-owns-none q));
+            listed = λ q. subst (λ hs. times (λ h. h.0 == q) hs ≡ times (λ h. is_handle q h && is_owned_by Owner.List h) w.rows) (sym p.list) (sym (list-owns-none q));
             waiting = λ h among is. absurd (no-list h.owner (owner-low h among) is);
             loads = λ h l among is. load-there h.owner l (row-parts h among).2 is;
             workers = λ h v among is. worker-there h.owner v (row-parts h among).2 is;
@@ -234,15 +219,17 @@ module _ (w : Core) (vs : List (Option Sample)) (p : Passes w vs) where
           cache = λ kind key n is. let (four, three, given) = p.cache kind key n is in
               record {
                 given = omega arith;
-                typed = λ t at. let a : type_at w 3 ≡ Some t = subst (λ k. type_at w k ≡ Some t) three at in let b = some-of (λ t. t == 1) (type_at w 3) t p.third a in let c : t ≡ 1 = grind (arith, nat_tests) in c ∙ ap type_of (sym four);
+                typed = λ t at. let a : type_at w 3 ≡ Some t = subst (λ k. type_at w k ≡ Some t) three at in let b = some-of (λ t. t == 1) (type_at w 3) t p.third a in
+                    let c : t ≡ 1 = grind (arith, nat_tests) in c ∙ ap type_of (sym four);
                 shares = λ h among at. entry-shares h among ∙ ap is_shared_kind (sym four);
               };
-          workers_numbered = λ v is. let a = by-number 1 (λ v. w.workers v && not (nat_le v w.last.worker)) never p.workers (λ v lt. let e = p.few.workers v lt in rw e refl) v in grind (arith, nat_tests);
+          workers_numbered = λ v is. let a = by-number 1 (λ v. w.workers v && not (nat_le v w.last.worker)) never p.workers (λ v lt. let e = p.few.workers v lt in rw e refl) v in
+              grind (arith, nat_tests);
           shut = λ closed. let e = p.stands_open in absurd (cc);
         };
         counted = λ n. refl;
         valued = by-number 3 (λ n. is_some (value_at vs n)) (λ n. is_some (w.cells n) && is_here w n) p.valued (λ n lt. let e = p.short n lt in let f = p.few.cells n lt in rw (e, f) refl);
-        typed = λ n x is. is-type (sample_type x) (type_at w n) (of-value (λ n x. is_type (sample_type x) (type_at w n)) p.typed n x is);
+        typed = λ n x is. typed-by (sample_type x) (type_at w n) (of-value (λ n x. is_type (sample_type x) (type_at w n)) p.typed n x is);
         inside = λ n x q is. inside n x q is;
         bare = λ n is. let a = own-test n None is in grind (arith, nat_tests);
         references = λ n x r is among. refers-well n r (all-among (reference_stands w n) (sample_references x) r (refers-to n x is) among);

@@ -1,9 +1,8 @@
 -- Whole numbers are read again.
-use Rattle.std.proofs.Common.{◌≡◌, ℕ, zero, suc, ◌+◌, ◌-◌, ◌*◌, ◌/◌, ◌%◌, ◌^◌, ◌<◌, refl, arith, Ok, inl, inr, List, ◌++◌, ℤ, pos, negsuc}
-use Rattle.std.proofs.lemmas.Bool.{cases_lt, le-ltb, lt-ltb, le-leb}
+use Rattle.pagable_laws.proofs.Words.{◌≡◌, ℕ, zero, suc, ◌+◌, ◌-◌, ◌*◌, ◌/◌, ◌%◌, ◌^◌, ◌<◌, refl, arith, Ok, inl, inr, List, ◌++◌, ℤ, pos, negsuc, cases_lt, le-ltb, lt-ltb, le-leb, varint}
+use Rattle.pagable_laws.proofs.Words.{varint_at, varint_limit, bound, unsigned_form, unsigned_at, signed_byte, from_signed_byte, unsigned_of, signed_from, IsSigned, signed_form, signed_at}
+use Rattle.pagable_laws.proofs.Words.{zigzag-again}
 use Rattle.std.specs.Int.{Width, w8, w16, w32, w64, w128}
-use Rattle.pagable_model.specs.Numbers.{varint, varint_at, varint_limit, bound, unsigned_form, unsigned_at, signed_byte, from_signed_byte, unsigned_of, signed_from, IsSigned, signed_form, signed_at}
-use Rattle.pagable_model.specs.Codes.{zigzag-again}
 
 -- what is written is read again, whatever follows
 pub varint-again : (more last n : ℕ) (rest : List ℕ) → n < varint_limit more last → last < 128 → varint_at more last (varint more n ++ rest) ≡ Ok (n, rest)

@@ -1,9 +1,8 @@
 -- From what holds throughout a shape to what holds throughout the shapes in it.
-use Rattle.std.proofs.Common.{◌≡◌, ℕ, zero, suc, Bool, true, List}
+use Rattle.pagable_laws.proofs.Words.{◌≡◌, ℕ, zero, suc, Bool, true, List, KeyOrder, Shape, json, optional, outcome, list, run, array, both, sorted_map, placed_map, hash_map, sorted_set}
+use Rattle.pagable_laws.proofs.Words.{placed_set, tagged, cases, nested, LiesIn, Within, Throughout}
 use Rattle.std.specs.Int.{Width}
-use Rattle.pagable_model.specs.Keys.{KeyOrder}
-use Rattle.pagable_model.specs.Shape.{Shape, json, text, optional, outcome, list, run, array, both, sorted_map, placed_map, hash_map, sorted_set, placed_set, tagged, cases, nested}
-use Rattle.pagable_model.specs.Canonical.{LiesIn, Within, Throughout}
+use Rattle.pagable_model.specs.Shape.{text}
 
 -- what t refers to and its numbered parts are among those of s
 abbrev pub Under : Shape → Shape → Type 1

@@ -1,13 +1,10 @@
 -- The laws of paths that are too long and of values that have no form.
 use Rattle.std.specs.Prelude.{ℕ, ◌≡◌, ◌≢◌, ◌⊎◌, List, ◌∷◌, Some, Ok, Err}
-use Rattle.pagable_world.specs.declared.events.Claim.TheVariants as claims
-use Rattle.pagable_world.specs.declared.events.WorkerAnswer.TheVariants as finals
-use Rattle.pagable_model.specs.declared.error.Error.TheVariants as errors
-use Rattle.pagable_world.specs.declared.events.Event.TheVariants as events
-use Rattle.pagable_world.specs.declared.events.EventReply.TheVariants as answers
-use Rattle.pagable_world.specs.declared.events.LoadAnswer.TheVariants as ends
-use Rattle.pagable_world.specs.declared.events.Took.TheVariants as took
 use Rattle.pagable_world.specs.Plain.{Error, ArcRef, HandleNumber, Identity, Tree, Among}
+use Rattle.pagable_world.specs.declared.events.Claim.{Claim}
+use Rattle.pagable_world.specs.declared.events.Event.{Event}
+use Rattle.pagable_world.specs.declared.events.EventReply.{EventReply}
+use Rattle.pagable_world.specs.declared.events.LoadAnswer.{LoadAnswer}
 use Rattle.pagable_world.specs.declared.events.Took.{Took}
 use Rattle.pagable_world.specs.declared.events.WorkerAnswer.{WorkerAnswer}
 use Rattle.pagable_world.specs.World.{Shelf, Slot, Reading, Todo, to_load, Walking, OpenLoad, Values, Seen, IsLawful}
@@ -44,10 +41,10 @@ pub record WaitsForAsker (shelf : Shelf) (n : ℕ) (i : Identity) : Type 0 where
 
 -- a claim is refused as too deep only where the worker's task leads down too long a path, or another worker is at it and waits for this one
 abbrev pub ClaimIsDeep : {N E B W : Type 0} → Fact N E B W
-ClaimIsDeep s trees (events.WorkerStep n) (answers.WorkerMoved (Ok reply)) s' trees' =
+ClaimIsDeep s trees (Event.WorkerStep n) (EventReply.WorkerMoved (Ok reply)) s' trees' =
     (walking : Walking) (i : Identity)
     → s.work.walkings n.0 ≡ Some walking
-    → reply.took ≡ took.Claim i (Err errors.TooDeep)
+    → reply.took ≡ Took.Claim i (Err Error.TooDeep)
     → IsTooDeepTask trees walking.task ⊎ WaitsForAsker (s.work.shelves walking.table) n.0 i
 ClaimIsDeep s trees event reply s' trees' = Unit {0}
 
@@ -57,16 +54,16 @@ DeepClaimLaw E m = HoldsAlong E m ClaimIsDeep
 
 -- what is told of a handle: it is gone, another's, or of another mode or type
 abbrev pub IsOfHandles : Error → Type 0
-IsOfHandles errors.NoSuchHandle = Unit {0}
-IsOfHandles errors.NotYours = Unit {0}
-IsOfHandles errors.WrongMode = Unit {0}
-IsOfHandles errors.WrongKind = Unit {0}
+IsOfHandles Error.NoSuchHandle = Unit {0}
+IsOfHandles Error.NotYours = Unit {0}
+IsOfHandles Error.WrongMode = Unit {0}
+IsOfHandles Error.WrongKind = Unit {0}
 IsOfHandles e = ⊥
 
 -- A load of a cell whose key a page-out set is refused by chance, or since a handle of its own or the caller's isn't as it was: never by a blob, a key or a path.
 abbrev pub LoadIsFaultless : {N E B W : Type 0} → Fact N E B W
-LoadIsFaultless s trees (events.LoadStep l) (answers.LoadMoved (Ok reply)) s' trees' =
-    (load : OpenLoad) (e : Error) → s.pager.core.loads l.0 ≡ Some load → IsLoadOfPagedOut s load → reply.ended ≡ Some (ends.Refused e) → IsOfChance e ⊎ IsOfHandles e
+LoadIsFaultless s trees (Event.LoadStep l) (EventReply.LoadMoved (Ok reply)) s' trees' =
+    (load : OpenLoad) (e : Error) → s.pager.core.loads l.0 ≡ Some load → IsLoadOfPagedOut s load → reply.ended ≡ Some (LoadAnswer.Refused e) → IsOfChance e ⊎ IsOfHandles e
 LoadIsFaultless s trees event reply s' trees' = Unit {0}
 
 -- So it is along every chain, however loads and workers take turns.
@@ -75,18 +72,18 @@ FaultlessLaw E m = HoldsAlong E m LoadIsFaultless
 
 -- A load of the caller's or of a worker's is refused as too deep only where the reading of its key comes to a blob that lies too deep, or to one that enters a level too many.
 abbrev pub LoadIsDeep : {N E B W : Type 0} → Values N → Fact N E B W
-LoadIsDeep v s trees (events.LoadStep l) (answers.LoadMoved (Ok reply)) s' trees' =
+LoadIsDeep v s trees (Event.LoadStep l) (EventReply.LoadMoved (Ok reply)) s' trees' =
     (reading : Reading) (load : OpenLoad)
     → reading_at (world_of s) l ≡ Some reading
     → s.pager.core.loads l.0 ≡ Some load
-    → reply.ended ≡ Some (ends.Refused errors.TooDeep)
+    → reply.ended ≡ Some (LoadAnswer.Refused Error.TooDeep)
     → ReadsTooDeep v.types s.pager.core.stored reading.node_type load.key
-LoadIsDeep v s trees (events.WorkerStep n) (answers.WorkerMoved (Ok reply)) s' trees' =
+LoadIsDeep v s trees (Event.WorkerStep n) (EventReply.WorkerMoved (Ok reply)) s' trees' =
     (walking : Walking) (r : ArcRef) (place : ℕ) (through : HandleNumber) (reading : Reading) (below : List Todo) (load : OpenLoad) (i : Identity)
     → s.work.walkings n.0 ≡ Some walking
     → walking.todo ≡ to_load r place through reading ∷ below
     → s.pager.core.loads reading.load.0 ≡ Some load
-    → reply.took ≡ took.Pin i (Err errors.TooDeep)
+    → reply.took ≡ Took.Pin i (Err Error.TooDeep)
     → ReadsTooDeep v.types s.pager.core.stored reading.node_type load.key
 LoadIsDeep v s trees event reply s' trees' = Unit {0}
 
@@ -97,12 +94,12 @@ DeepLoadLaw E m = HoldsAlong E m (LoadIsDeep m.values)
 -- the worker was refused nothing but for depth, and nobody had failed where it came
 abbrev pub MetDepthAlone : {W : Type 0} → List (Took W) → Type 0
 MetDepthAlone {W} steps =
-    ((step : Took W) (e : Error) → Among steps step → MetError step e → e ≡ errors.TooDeep)
-    × ((i : Identity) → ¬ Among steps (took.Claim i (Ok claims.AlreadyFailed)))
+    ((step : Took W) (e : Error) → Among steps step → MetError step e → e ≡ Error.TooDeep)
+    × ((i : Identity) → ¬ Among steps (Took.Claim i (Ok Claim.AlreadyFailed)))
 
 -- A worker whose item or cell leads down too long a path, or to a value that has no form, answers TooDeep, if it met no other refusal on its way, by whatever chain the machine came there.
 abbrev pub DepthIsTold : {N E B W : Type 0} → Seen N B W → Fact N E B W
-DepthIsTold {N} {E} {B} {W} m s trees (events.WorkerStep n) (answers.WorkerMoved (Ok reply)) s' trees' =
+DepthIsTold {N} {E} {B} {W} m s trees (Event.WorkerStep n) (EventReply.WorkerMoved (Ok reply)) s' trees' =
     (start : MachineState N E) (moments : List (Moment N E B W)) (walking : Walking) (answer : WorkerAnswer)
     → IsMachineWhole m.values start
     → IsIdle start
@@ -112,7 +109,7 @@ DepthIsTold {N} {E} {B} {W} m s trees (events.WorkerStep n) (answers.WorkerMoved
     → reply.answer ≡ Some answer
     → MetDepthAlone (steps_of n.0 (events_of moments) (replies_of moments))
     → IsTooDeepTask trees walking.task ⊎ IsFormlessTask m.values.types trees walking.task
-    → answer ≡ finals.Failed errors.TooDeep
+    → answer ≡ WorkerAnswer.Failed Error.TooDeep
 DepthIsTold m s trees event reply s' trees' = Unit {0}
 
 -- So it is along every chain, however loads and workers take turns.

@@ -1,7 +1,7 @@
 -- The laws of what falls when handles are given up.
 use Rattle.std.specs.Prelude.{ℕ, ◌≡◌, ◌==◌, ◌&&◌, Bool, List, [], filter, length, Ok, Option}
 use Rattle.pagable_world.specs.Plain.{Blob, Among, times}
-use Rattle.pagable_world.specs.declared.handles.Owner.TheVariants as owners
+use Rattle.pagable_world.specs.declared.handles.Owner.{Owner}
 use Rattle.pagable_world.specs.declared.handles.HandleRow.{HandleRow}
 use Rattle.pagable_world.specs.Kinds.{is_pinning, is_owned_by, owner_value, pins}
 use Rattle.pagable_world.specs.Cascade.{IsLeast}
@@ -37,5 +37,5 @@ pub record TwoLevelsFall : Type 0 where
 
 -- Unpinning a lone cell without a key lists it; to leave the entry out, where places and numbers are left, is no such step.
 pub record LoneIsListed : Type 0 where
-  pub listed : (stored : ℕ → Option Blob) → UnpinCall (lone stored) owners.Caller first (Ok tt) (lone_listed stored)
-  pub not_unlisted : (stored : ℕ → Option Blob) → ¬ UnpinCall (lone stored) owners.Caller first (Ok tt) (lone_unlisted stored)
+  pub listed : (stored : ℕ → Option Blob) → UnpinCall (lone stored) Owner.Caller first (Ok tt) (lone_listed stored)
+  pub not_unlisted : (stored : ℕ → Option Blob) → ¬ UnpinCall (lone stored) Owner.Caller first (Ok tt) (lone_unlisted stored)

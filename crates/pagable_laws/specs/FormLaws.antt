@@ -1,13 +1,12 @@
 -- The laws of forms and of reading, for anything that stands for references.
 use Rattle.std.specs.Prelude.{◌≡◌, ℕ, ◌-◌, List, [], ◌∷◌, ◌++◌, map, Ok, Err}
-use Rattle.pagable_model.specs.declared.error.Error.{Error}
-use Rattle.pagable_model.specs.declared.error.Error.TheVariants as errors
+use Rattle.pagable_world.specs.Plain.{Error, Meaning, Blob}
 use Rattle.pagable_model.specs.Steps.{◌>>=◌}
-use Rattle.pagable_model.specs.Meaning.{Meaning, rename}
+use Rattle.pagable_model.specs.Meaning.{rename}
 use Rattle.pagable_model.specs.Shape.{Shape}
 use Rattle.pagable_model.specs.Reading.{Rest, Look, Context, read, deepest}
 use Rattle.pagable_model.specs.Form.{Form}
-use Rattle.pagable_model.specs.Blob.{Blob, IsBlob, preimage}
+use Rattle.pagable_model.specs.Blob.{IsBlob, preimage}
 use Rattle.pagable_model.specs.Canonical.{IsCanonical, Throughout, HasOneForm}
 
 -- what is left to be read: these bytes, and these references
@@ -64,7 +63,7 @@ IsUsed A B = (context : Context A B) (s : Shape) (input after : Rest A) (m : Mea
 -- A fault stays the first fault whatever follows, unless it is that the bytes or the references end.
 abbrev pub IsLasting : Type 0 → Type 0 → Type 0
 IsLasting A B = (context : Context A B) (s : Shape) (front : Rest A) (x : List ℕ) (y : List A) (e : Error)
-    → read context s front ≡ Err e → (e ≡ errors.UnexpectedEnd → ⊥) → (e ≡ errors.NoMoreKeys → ⊥) → read context s (with_more front x y) ≡ Err e
+    → read context s front ≡ Err e → (e ≡ Error.UnexpectedEnd → ⊥) → (e ≡ Error.NoMoreKeys → ⊥) → read context s (with_more front x y) ≡ Err e
 
 -- Reading does the same whatever stands for references: over other references, of which others are looked up, the same
 -- is read, with the others in it.

@@ -55,11 +55,13 @@ pub record HasHandle (w : Core) (v n : ℕ) : Type 0 where
 -- So do all workers, one that is about to publish a key has a handle of its node, and each cell whose key was published by a loose reference has a key.
 pub record KeysHeld (u : World) : Type 0 where
   pub walks : (n : ℕ) (walking : Walking) → u.work.walkings n ≡ Some walking → AllHold u.core walking.todo
-  pub publishing : (n : ℕ) (walking : Walking) (r : ArcRef) (key height : ℕ) (below : List Todo) → u.work.walkings n ≡ Some walking → walking.todo ≡ to_publish r key height ∷ below → HasHandle u.core n r.node.0
+  pub publishing : (n : ℕ) (walking : Walking) (r : ArcRef) (key height : ℕ) (below : List Todo) → u.work.walkings n ≡ Some walking → walking.todo ≡ to_publish r key height ∷ below
+      → HasHandle u.core n r.node.0
   pub slots : (t : ℕ) (i : Identity) (key height : ℕ) → IsPublished (u.work.shelves t) i key height → is_loose_kind i.kind.0 ≡ true → KeyIsSet u.core i.node.0
 
 -- What keys are of one event: each that is published is its tree's, and a cell had one by then; each that is answered is its task's, and what was met then is left paged out, with keys of its cells.
-pub record KeysAreRight {N E B W : Type 0} (v : Values N) (s : MachineState N E) (trees : ℕ → Tree) (event : Event N B W) (reply : EventReply N B W) (s' : MachineState N E) (trees' : ℕ → Tree) : Type 0 where
+pub record KeysAreRight {N E B W : Type 0} (v : Values N) (s : MachineState N E) (trees : ℕ → Tree) (event : Event N B W) (reply : EventReply N B W) (s' : MachineState N E)
+    (trees' : ℕ → Tree) : Type 0 where
   pub publishes : PublishIsKey v s trees event reply s' trees'
   pub key : AnswerIsKey v s trees event reply s' trees'
   pub leaves : AnswerLeavesAll v s trees event reply s' trees'

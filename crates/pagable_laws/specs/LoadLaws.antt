@@ -1,13 +1,11 @@
 -- The law of loads that are each done in one piece.
 use Rattle.std.specs.Prelude.{ℕ, ◌≡◌, ◌<◌, List, Some, Ok, slice_get}
-use Rattle.pagable_world.specs.declared.answers.Beginning.TheVariants as beginnings
-use Rattle.pagable_world.specs.declared.calls.Call.TheVariants as calls
-use Rattle.pagable_world.specs.declared.calls.Reply.TheVariants as replies
-use Rattle.pagable_world.specs.declared.events.Event.TheVariants as events
-use Rattle.pagable_world.specs.declared.events.EventReply.TheVariants as answers
 use Rattle.pagable_world.specs.declared.events.Event.{Event}
 use Rattle.pagable_world.specs.declared.events.EventReply.{EventReply}
 use Rattle.pagable_world.specs.Plain.{LoadNumber, Tree}
+use Rattle.pagable_world.specs.declared.answers.Beginning.{Beginning}
+use Rattle.pagable_world.specs.declared.calls.Call.{Call}
+use Rattle.pagable_world.specs.declared.calls.Reply.{Reply}
 use Rattle.pagable_world.specs.World.{Seen, IsLawful}
 use Rattle.pagable_world.specs.Pager.{MachineState, IsMachineWhole, IsIdle, StandsFor}
 use Rattle.pagable_world.specs.Runs.{ReadsItsTypes, HoldsSettled, Moment, AreMoments, TreesAlong}
@@ -15,9 +13,9 @@ use Rattle.pagable_world.specs.OneWorker.{StandTogether, LoadIsSound}
 
 -- the load of this number begins
 abbrev pub IsBeginOf : {N B W : Type 0} → ℕ → Event N B W → EventReply N B W → Type 0
-IsBeginOf n (events.LoadStart h) (answers.Started (Ok (beginnings.Load l key))) = l.0 ≡ n
-IsBeginOf n (events.Call (calls.LoadBegin h)) (answers.CallReply (replies.Begun (Ok (beginnings.Load l key)))) = l.0 ≡ n
-IsBeginOf n (events.LoadKey k t) (answers.Started (Ok (beginnings.Load l key))) = l.0 ≡ n
+IsBeginOf n (Event.LoadStart h) (EventReply.Started (Ok (Beginning.Load l key))) = l.0 ≡ n
+IsBeginOf n (Event.Call (Call.LoadBegin h)) (EventReply.CallReply (Reply.Begun (Ok (Beginning.Load l key)))) = l.0 ≡ n
+IsBeginOf n (Event.LoadKey k t) (EventReply.Started (Ok (Beginning.Load l key))) = l.0 ≡ n
 IsBeginOf n event reply = ⊥
 
 -- it has begun before this place of the chain
@@ -30,7 +28,7 @@ pub record HasBegun {N E B W : Type 0} (moments : List (Moment N E B W)) (n k : 
 
 -- each load that makes a step has begun in the chain, before that
 abbrev pub AllHaveBegun : {N E B W : Type 0} → List (Moment N E B W) → Type 0
-AllHaveBegun {N} {E} {B} {W} moments = (k : ℕ) (c : Moment N E B W) (l : LoadNumber) → slice_get moments k ≡ Some c → c.event ≡ events.LoadStep l → HasBegun moments l.0 k
+AllHaveBegun {N} {E} {B} {W} moments = (k : ℕ) (c : Moment N E B W) (l : LoadNumber) → slice_get moments k ≡ Some c → c.event ≡ Event.LoadStep l → HasBegun moments l.0 k
 
 -- A load of a cell whose key a page-out set is refused by chance alone, where each load begins in the chain and is done in one piece.
 abbrev pub SoundLaw : {N B W : Type 0} → (E : Type 0) → Seen N B W → Type 0

@@ -1,8 +1,8 @@
 -- What loads got, and still have, names nodes as it should: an invariant of runs.
 use Rattle.std.specs.Prelude.{◌≡◌, ◌≤◌, true, List, Some}
 use Rattle.pagable_world.specs.Plain.{ArcRef, LoadNumber, Among}
+use Rattle.pagable_world.specs.declared.handles.Owner.{Owner}
 use Rattle.pagable_world.specs.declared.handles.HandleRow.{HandleRow}
-use Rattle.pagable_world.specs.declared.handles.Owner.TheVariants as owners
 use Rattle.pagable_world.specs.Kinds.{fits_mode}
 use Rattle.pagable_world.specs.World.{Core, Frame, Reading, World, row_at}
 use Rattle.pagable_world.specs.Pager.{IsReadingOf}
@@ -10,7 +10,7 @@ use Rattle.pagable_world.specs.Pager.{IsReadingOf}
 -- A handle that a load got was given; and while the load has it, it is of the reference's node, in a mode that fits the kind.
 pub record GotStands (w : Core) (l : LoadNumber) (r : ArcRef) : Type 0 where
   pub given : r.handle.0 ≤ w.last.handle
-  pub is : (row : HandleRow) → row_at w r.handle ≡ Some row → row.owner ≡ owners.Load l → (row.node ≡ r.node) × (fits_mode r.kind.0 row.mode ≡ true)
+  pub is : (row : HandleRow) → row_at w r.handle ≡ Some row → row.owner ≡ Owner.Load l → (row.node ≡ r.node) × (fits_mode r.kind.0 row.mode ≡ true)
 
 abbrev pub FramesHeld : Core → LoadNumber → List Frame → Type 0
 FramesHeld w l frames = (frame : Frame) (r : ArcRef) → Among frames frame → Among frame.got r → GotStands w l r

@@ -1,23 +1,23 @@
 -- Worked examples: bytes and keys that were worked out elsewhere, and what the definitions make of them.
 use Rattle.std.specs.Prelude.{◌≡◌, ℕ, zero, suc, ◌-◌, ◌^◌, ◌==◌, if◌then◌else◌, List, [], ◌∷◌, false, Option, Some, None, Result, Ok, Err, pos, negsuc, codes}
-use Rattle.std.specs.Int.{w8, w16, w32, w64, w128}
-use Rattle.std.specs.Str.{bytes_eq}
-use Rattle.pagable_model.specs.declared.error.Error.{Error}
-use Rattle.pagable_model.specs.declared.error.Error.TheVariants as errors
+use Rattle.pagable_world.specs.Plain.{Error, Meaning, Types}
 use Rattle.pagable_model.specs.Numbers.{unsigned_form, signed_form}
 use Rattle.pagable_model.specs.Basic.{duration_form, char_form, text_form}
-use Rattle.pagable_model.specs.Meaning.{Meaning, number, integer, text, none, pair, variant, followed, sequence, absent, present, success}
-use Rattle.pagable_model.specs.Meaning as meanings
+use Rattle.pagable_model.specs.Meaning.{number, integer, text, none, pair, variant, followed, sequence, absent, present, success}
 use Rattle.pagable_model.specs.Keys.{number_order, integer_order}
-use Rattle.pagable_model.specs.Shape.{Shape, nothing, unsigned, signed, letter, duration, json, optional, outcome, list, run, array, sorted_map, placed_map, static_value, cases, reference, nested}
-use Rattle.pagable_model.specs.Shape as shapes
+use Rattle.pagable_model.specs.Shape.{Shape, nothing, unsigned, signed, letter, duration, json, optional, outcome, list, run, array, sorted_map, placed_map, static_value, cases, nested}
 use Rattle.pagable_model.specs.Carried.{path_text, thin, atomic_i64, once_lock, triple, tagged_by, of_list, of_duration, of_tagged}
 use Rattle.pagable_model.specs.Reading.{Rest, read, deepest}
 use Rattle.pagable_model.specs.Form.{Form}
 use Rattle.pagable_model.specs.Blob.{preimage, key_of, weigh_hash}
-use Rattle.pagable_model.specs.Trees.{KeyRef, Types, tree, key_ref, blob_context}
+use Rattle.pagable_model.specs.Trees.{KeyRef, tree, key_ref, blob_context}
 use Rattle.pagable_model.specs.Merkle.{blob_of, KeyOf, kind_of_ref}
 use Rattle.pagable_model.specs.Canonical.{IsCanonical, IsReadable, Throughout, unwritten}
+use Rattle.std.specs.Int.{w8, w16, w32, w64, w128}
+use Rattle.std.specs.Str.{bytes_eq}
+use Rattle.pagable_model.specs.Meaning as meanings
+use Rattle.pagable_model.specs.Shape.{reference}
+use Rattle.pagable_model.specs.Shape as shapes
 use Rattle.pagable_laws.specs.FormLaws.{rest, at}
 
 -- an environment without numbered parts
@@ -68,18 +68,18 @@ abbrev pub NumbersAreRead : Type 0
 NumbersAreRead =
     Means (unsigned w16) (0x80 ∷ 0x80 ∷ 0x00 ∷ []) (number 0) []
     × Means (unsigned w16) (0xFF ∷ 0xFF ∷ 0x03 ∷ []) (number 65535) []
-    × IsRefused (unsigned w16) (0xFF ∷ 0xFF ∷ 0x04 ∷ []) errors.BadVarint
-    × IsRefused (unsigned w16) (0x80 ∷ 0x80 ∷ 0x80 ∷ []) errors.BadVarint
-    × IsRefused (unsigned w16) (0x80 ∷ []) errors.UnexpectedEnd
-    × IsRefused (unsigned w64) (0xFF ∷ 0xFF ∷ 0xFF ∷ 0xFF ∷ 0xFF ∷ 0xFF ∷ 0xFF ∷ 0xFF ∷ 0xFF ∷ 0x02 ∷ []) errors.BadVarint
+    × IsRefused (unsigned w16) (0xFF ∷ 0xFF ∷ 0x04 ∷ []) Error.BadVarint
+    × IsRefused (unsigned w16) (0x80 ∷ 0x80 ∷ 0x80 ∷ []) Error.BadVarint
+    × IsRefused (unsigned w16) (0x80 ∷ []) Error.UnexpectedEnd
+    × IsRefused (unsigned w64) (0xFF ∷ 0xFF ∷ 0xFF ∷ 0xFF ∷ 0xFF ∷ 0xFF ∷ 0xFF ∷ 0xFF ∷ 0xFF ∷ 0x02 ∷ []) Error.BadVarint
     × Means (unsigned w128) (0xFF ∷ 0xFF ∷ 0xFF ∷ 0xFF ∷ 0xFF ∷ 0xFF ∷ 0xFF ∷ 0xFF ∷ 0xFF ∷ 0xFF ∷ 0xFF ∷ 0xFF ∷ 0xFF ∷ 0xFF ∷ 0xFF ∷ 0xFF ∷ 0xFF ∷ 0xFF ∷ 0x03 ∷ []) (number (2 ^ 128 - 1)) []
-    × IsRefused (unsigned w128) (0xFF ∷ 0xFF ∷ 0xFF ∷ 0xFF ∷ 0xFF ∷ 0xFF ∷ 0xFF ∷ 0xFF ∷ 0xFF ∷ 0xFF ∷ 0xFF ∷ 0xFF ∷ 0xFF ∷ 0xFF ∷ 0xFF ∷ 0xFF ∷ 0xFF ∷ 0xFF ∷ 0x04 ∷ []) errors.BadVarint
+    × IsRefused (unsigned w128) (0xFF ∷ 0xFF ∷ 0xFF ∷ 0xFF ∷ 0xFF ∷ 0xFF ∷ 0xFF ∷ 0xFF ∷ 0xFF ∷ 0xFF ∷ 0xFF ∷ 0xFF ∷ 0xFF ∷ 0xFF ∷ 0xFF ∷ 0xFF ∷ 0xFF ∷ 0xFF ∷ 0x04 ∷ []) Error.BadVarint
 
 abbrev pub CasesAreSpelled : Type 0
 CasesAreSpelled =
     Spells (optional (unsigned w8)) (present (number 7)) (0x01 ∷ 0x07 ∷ [])
     × Spells (optional (unsigned w8)) absent (0x00 ∷ [])
-    × IsRefused (optional (unsigned w8)) (0x02 ∷ []) errors.BadBool
+    × IsRefused (optional (unsigned w8)) (0x02 ∷ []) Error.BadBool
     × Means (outcome shapes.text shapes.text) (0x01 ∷ 0x07 ∷ codes "success") (success (text (codes "success"))) []
 
 abbrev pub ListsAreSpelled : Type 0
@@ -88,8 +88,8 @@ ListsAreSpelled =
     × Spells (run (signed w32)) (sequence (integer (negsuc 0) ∷ integer (pos 1) ∷ [])) (0x01 ∷ 0x02 ∷ [])
     × Means (array 2 (unsigned w8)) (0x02 ∷ 0x61 ∷ 0x61 ∷ []) (sequence (number 2 ∷ number 97 ∷ [])) (0x61 ∷ [])
     × Means (thin (unsigned w8) (unsigned w8)) (0x07 ∷ 0x02 ∷ 0x01 ∷ 0x02 ∷ []) (pair (number 7) (sequence (number 1 ∷ number 2 ∷ []))) []
-    × IsRefused (list (unsigned w8)) (0xFF ∷ 0xFF ∷ 0xFF ∷ 0xFF ∷ 0x0F ∷ []) errors.UnexpectedEnd
-    × IsRefused (list nothing) (0x80 ∷ 0x80 ∷ 0x80 ∷ 0x80 ∷ 0x10 ∷ []) errors.TooLong
+    × IsRefused (list (unsigned w8)) (0xFF ∷ 0xFF ∷ 0xFF ∷ 0xFF ∷ 0x0F ∷ []) Error.UnexpectedEnd
+    × IsRefused (list nothing) (0x80 ∷ 0x80 ∷ 0x80 ∷ 0x80 ∷ 0x10 ∷ []) Error.TooLong
     × Means (list nothing) (0x03 ∷ []) (sequence (none ∷ none ∷ none ∷ [])) []
 
 abbrev pub MapsAreRead : Type 0
@@ -110,10 +110,10 @@ nested_value (suc n) = variant 4 (pair (nested_value n) none)
 abbrev pub JsonIsRead : Type 0
 JsonIsRead =
     Spells json (variant 2 (integer (negsuc 0))) (0x02 ∷ 0x00 ∷ 0x01 ∷ [])
-    × IsRefused json (0x02 ∷ 0x01 ∷ []) errors.JsonNumber
-    × IsRefused json (0x06 ∷ []) errors.JsonCase
+    × IsRefused json (0x02 ∷ 0x01 ∷ []) Error.JsonNumber
+    × IsRefused json (0x06 ∷ []) Error.JsonCase
     × Means json (nest 127) (nested_value 127) []
-    × IsRefused json (nest 128) errors.TooDeep
+    × IsRefused json (nest 128) Error.TooDeep
 
 abbrev pub weighed : List ℕ → List ℕ → ℕ
 weighed bytes keys = key_of weigh_hash (blob_of bytes keys)
@@ -133,31 +133,31 @@ KeysAreWeighed =
 
 abbrev pub TextsAreRead : Type 0
 TextsAreRead =
-    IsRefused shapes.text (0x02 ∷ 0x61 ∷ []) errors.UnexpectedEnd
-    × IsRefused shapes.text (0x01 ∷ 0xFF ∷ []) errors.BadUtf8
-    × IsRefused shapes.text (0x80 ∷ 0x80 ∷ 0x80 ∷ 0x80 ∷ 0x10 ∷ []) errors.TooLong
+    IsRefused shapes.text (0x02 ∷ 0x61 ∷ []) Error.UnexpectedEnd
+    × IsRefused shapes.text (0x01 ∷ 0xFF ∷ []) Error.BadUtf8
+    × IsRefused shapes.text (0x80 ∷ 0x80 ∷ 0x80 ∷ 0x80 ∷ 0x10 ∷ []) Error.TooLong
     × Means shapes.text (0x83 ∷ 0x00 ∷ 0x61 ∷ 0x62 ∷ 0x63 ∷ []) (text (codes "abc")) []
     × (char_form 0xE9 ≡ 0x02 ∷ 0xC3 ∷ 0xA9 ∷ [])
     × Means letter (0x02 ∷ 0xC3 ∷ 0xA9 ∷ []) (number 0xE9) []
-    × IsRefused letter (0x02 ∷ 0x61 ∷ 0x62 ∷ []) errors.BadChar
-    × IsRefused letter (0x05 ∷ 0x61 ∷ []) errors.UnexpectedEnd
+    × IsRefused letter (0x02 ∷ 0x61 ∷ 0x62 ∷ []) Error.BadChar
+    × IsRefused letter (0x05 ∷ 0x61 ∷ []) Error.UnexpectedEnd
 
 abbrev pub DurationsAreRead : Type 0
 DurationsAreRead =
     Means duration (0x01 ∷ 0x80 ∷ 0x94 ∷ 0xEB ∷ 0xDC ∷ 0x03 ∷ []) (of_duration 2 0) []
-    × IsRefused duration (0xFF ∷ 0xFF ∷ 0xFF ∷ 0xFF ∷ 0xFF ∷ 0xFF ∷ 0xFF ∷ 0xFF ∷ 0xFF ∷ 0x01 ∷ 0x80 ∷ 0x94 ∷ 0xEB ∷ 0xDC ∷ 0x03 ∷ []) errors.BadDuration
+    × IsRefused duration (0xFF ∷ 0xFF ∷ 0xFF ∷ 0xFF ∷ 0xFF ∷ 0xFF ∷ 0xFF ∷ 0xFF ∷ 0xFF ∷ 0x01 ∷ 0x80 ∷ 0x94 ∷ 0xEB ∷ 0xDC ∷ 0x03 ∷ []) Error.BadDuration
 
 -- types that are spelled as others are, three numbers in turn, and a map whose keys have a sign
 abbrev pub NamedTypesAreRead : Type 0
 NamedTypesAreRead =
     Means path_text (0x01 ∷ 0x61 ∷ []) (text (codes "a")) []
-    × IsRefused path_text (0x01 ∷ 0xFF ∷ []) errors.BadUtf8
+    × IsRefused path_text (0x01 ∷ 0xFF ∷ []) Error.BadUtf8
     × Means atomic_i64 (0x01 ∷ []) (integer (negsuc 0)) []
-    × IsRefused atomic_i64 [] errors.UnexpectedEnd
+    × IsRefused atomic_i64 [] Error.UnexpectedEnd
     × Means (once_lock (unsigned w16)) (0x01 ∷ 0xAC ∷ 0x02 ∷ []) (present (number 300)) []
-    × IsRefused (once_lock (unsigned w16)) (0x02 ∷ []) errors.BadBool
+    × IsRefused (once_lock (unsigned w16)) (0x02 ∷ []) Error.BadBool
     × Means (triple (unsigned w8) (unsigned w8) (unsigned w8)) (0x01 ∷ 0x02 ∷ 0x03 ∷ []) (pair (number 1) (pair (number 2) (number 3))) []
-    × IsRefused (triple (unsigned w8) (unsigned w8) (unsigned w8)) (0x01 ∷ 0x02 ∷ []) errors.UnexpectedEnd
+    × IsRefused (triple (unsigned w8) (unsigned w8) (unsigned w8)) (0x01 ∷ 0x02 ∷ []) Error.UnexpectedEnd
     × Means (list (unsigned w8)) (0x02 ∷ 0x01 ∷ 0x02 ∷ []) (of_list number (1 ∷ 2 ∷ [])) []
     × Means (sorted_map integer_order (signed w16) (unsigned w8)) (0x02 ∷ 0x02 ∷ 0x05 ∷ 0x01 ∷ 0x06 ∷ []) (sequence (pair (integer (negsuc 0)) (number 6) ∷ pair (integer (pos 1)) (number 5) ∷ [])) []
 
@@ -166,14 +166,14 @@ RegistriesAreRead =
     Spells (static_value words) (text (codes "hello")) (0x01 ∷ [])
     × Spells (static_value words) (text (codes "world")) (0x02 ∷ [])
     × Spells (static_value words) (text []) (0x00 ∷ [])
-    × IsRefused (static_value words) (0x03 ∷ []) errors.BadStaticIndex
+    × IsRefused (static_value words) (0x03 ∷ []) Error.BadStaticIndex
     × Means (tagged_by only_cat cats) (0x03 ∷ 0x43 ∷ 0x61 ∷ 0x74 ∷ []) (of_tagged (codes "Cat") none) []
-    × IsRefused (tagged_by only_cat cats) (0x03 ∷ 0x44 ∷ 0x6F ∷ 0x67 ∷ []) errors.UnknownTag
+    × IsRefused (tagged_by only_cat cats) (0x03 ∷ 0x44 ∷ 0x6F ∷ 0x67 ∷ []) Error.UnknownTag
     × Means (tagged_by only_cat ((codes "Cat", nothing) ∷ (codes "Cat", unsigned w8) ∷ [])) (0x03 ∷ 0x43 ∷ 0x61 ∷ 0x74 ∷ 0x05 ∷ []) (of_tagged (codes "Cat") (number 5)) []
 
 abbrev pub ReferencesTakeKeys : Type 0
 ReferencesTakeKeys =
-    IsRefused (optional (reference 1)) (0x01 ∷ []) errors.NoMoreKeys
+    IsRefused (optional (reference 1)) (0x01 ∷ []) Error.NoMoreKeys
     × Means (optional (reference 1)) (0x00 ∷ 0xFF ∷ []) absent (0xFF ∷ [])
     × (read (blob_context (types_of no_nodes)) (optional (reference 1)) (rest (0x01 ∷ []) (5 ∷ 6 ∷ [])) ≡ Ok (present (meanings.reference (key_ref 1 5)), rest [] (6 ∷ [])))
 
@@ -181,9 +181,9 @@ ReferencesTakeKeys =
 abbrev pub UnknownTagsAreWritten : Type 0
 UnknownTagsAreWritten =
     Spells (shapes.tagged (λ tag. nothing) (λ tag. false) (λ tag. nothing)) (of_tagged (codes "Dog") none) (0x03 ∷ 0x44 ∷ 0x6F ∷ 0x67 ∷ [])
-    × IsRefused (shapes.tagged (λ tag. nothing) (λ tag. false) (λ tag. nothing)) (0x03 ∷ 0x44 ∷ 0x6F ∷ 0x67 ∷ []) errors.UnknownTag
+    × IsRefused (shapes.tagged (λ tag. nothing) (λ tag. false) (λ tag. nothing)) (0x03 ∷ 0x44 ∷ 0x6F ∷ 0x67 ∷ []) Error.UnknownTag
     × Means (cases w8 (λ n. n == 2) (λ n. unsigned w8)) (0x02 ∷ 0x09 ∷ []) (variant 2 (number 9)) []
-    × IsRefused (cases w8 (λ n. n == 2) (λ n. unsigned w8)) (0x03 ∷ 0x09 ∷ []) errors.UnknownTag
+    × IsRefused (cases w8 (λ n. n == 2) (λ n. unsigned w8)) (0x03 ∷ 0x09 ∷ []) Error.UnknownTag
 
 -- texts of type 0, and links of type 1, which may refer to a link
 abbrev pub links : Types

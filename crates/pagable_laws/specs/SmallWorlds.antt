@@ -1,9 +1,8 @@
 -- Small worlds over any storage, to see that the definitions are met, and what they refuse.
 use Rattle.std.specs.Prelude.{ℕ, ◌==◌, ◌||◌, Bool, false, List, [], ◌∷◌, Option, Some, None}
-use Rattle.pagable_world.specs.Plain.{HandleNumber, NodeNumber, Blob, updated}
-use Rattle.pagable_model.specs.declared.data_key.OptionalDataKey.TheVariants as optional
-use Rattle.pagable_world.specs.declared.rows.Mode.TheVariants as modes
-use Rattle.pagable_world.specs.declared.handles.Owner.TheVariants as owners
+use Rattle.pagable_world.specs.Plain.{HandleNumber, NodeNumber, Blob, updated, OptionalDataKey}
+use Rattle.pagable_world.specs.declared.rows.Mode.{Mode}
+use Rattle.pagable_world.specs.declared.handles.Owner.{Owner}
 use Rattle.pagable_world.specs.declared.handles.HandleRow.{HandleRow}
 use Rattle.pagable_world.specs.World.{Core, Places, Work}
 use Rattle.pagable_world.specs.Calls.{row_of}
@@ -45,7 +44,7 @@ first_node = record { 0 = 1 }
 
 -- the caller's cell 1 has a value that refers to the cell 2, through a loose pinned handle; both have keys
 abbrev pub two_rows : List HandleRow
-two_rows = row_of 1 first_node modes.LoosePinned owners.Caller ∷ row_of 2 (record { 0 = 2 }) modes.LoosePinned (owners.Value first_node) ∷ []
+two_rows = row_of 1 first_node Mode.LoosePinned Owner.Caller ∷ row_of 2 (record { 0 = 2 }) Mode.LoosePinned (Owner.Value first_node) ∷ []
 
 abbrev pub are_two : ℕ → Bool
 are_two n = (n == 1) || (n == 2)
@@ -64,19 +63,19 @@ some_places = record { handles = 2; entries = 1 }
 -- the caller's pinned cell of type 0, with no key and nothing in it
 abbrev pub lone : (ℕ → Option Blob) → Core
 lone stored = record (empty stored some_places) {
-  rows = row_of 1 first_node modes.LoosePinned owners.Caller ∷ [];
-  cells = updated 1 (Some (record { node_type = 0; key = optional.None })) (λ n. None);
+  rows = row_of 1 first_node Mode.LoosePinned Owner.Caller ∷ [];
+  cells = updated 1 (Some (record { node_type = 0; key = OptionalDataKey.None })) (λ n. None);
   last = record { node = 1; handle = 1; load = 0; worker = 0 };
 }
 
 -- unpinned, and listed
 abbrev pub lone_listed : (ℕ → Option Blob) → Core
 lone_listed stored = record (lone stored) {
-  rows = row_of 1 first_node modes.LooseUnpinned owners.Caller ∷ row_of 2 first_node modes.LooseUnpinned owners.List ∷ [];
+  rows = row_of 1 first_node Mode.LooseUnpinned Owner.Caller ∷ row_of 2 first_node Mode.LooseUnpinned Owner.List ∷ [];
   list = record { 0 = 2 } ∷ [];
   last = record { node = 1; handle = 2; load = 0; worker = 0 };
 }
 
 -- unpinned, and not listed
 abbrev pub lone_unlisted : (ℕ → Option Blob) → Core
-lone_unlisted stored = record (lone stored) { rows = row_of 1 first_node modes.LooseUnpinned owners.Caller ∷ [] }
+lone_unlisted stored = record (lone stored) { rows = row_of 1 first_node Mode.LooseUnpinned Owner.Caller ∷ [] }

@@ -1,8 +1,6 @@
 -- The laws of trees, of their keys and of the store.
 use Rattle.std.specs.Prelude.{◌≡◌, ℕ, ◌≤◌, List, Bool, true, Option, ◌↔◌}
-use Rattle.pagable_model.specs.Meaning.{Meaning}
-use Rattle.pagable_model.specs.Blob.{Blob}
-use Rattle.pagable_model.specs.Trees.{Tree, Types, ReadsTree}
+use Rattle.pagable_world.specs.Plain.{Meaning, Blob, Tree, Types, ReadsTree}
 use Rattle.pagable_model.specs.Deep.{Kid, height, HasPath}
 use Rattle.pagable_model.specs.Merkle.{KeyOf, KeyOfItem, IsCanonicalItem, StoredTree, HasOwnKeys, SharesNoKey}
 use Rattle.pagable_model.specs.Canonical.{EachType, IsCanonicalType, IsCanonicalTree, IsReadableTree, IsClosed}
@@ -17,7 +15,8 @@ IsOneKey = (hash : List ℕ → List ℕ) (types : Types) (t : Tree) (k l : ℕ)
 
 -- A canonical item has at most one key.
 abbrev pub IsOneItemKey : Type 0
-IsOneItemKey = (hash : List ℕ → List ℕ) (types : Types) (bytes : List ℕ) (kids : List Kid) (k l : ℕ) → IsCanonicalItem types bytes kids → KeyOfItem hash types bytes kids k → KeyOfItem hash types bytes kids l → k ≡ l
+IsOneItemKey = (hash : List ℕ → List ℕ) (types : Types) (bytes : List ℕ) (kids : List Kid) (k l : ℕ) → IsCanonicalItem types bytes kids → KeyOfItem hash types bytes kids k
+    → KeyOfItem hash types bytes kids l → k ≡ l
 
 -- A tree that is stored has the key that it is stored under, where each blob stands under its own key.
 abbrev pub IsStoredKey : Type 0
@@ -40,7 +39,9 @@ IsLongestPath = (m : Meaning ⊥) (n : ℕ) → HasPath n m ↔ (n ≤ height m)
 -- Where a set of node types is closed, a tree of one of them that has a key reaches types of the set alone. So it is
 -- canonical, if the types of the set are.
 abbrev pub StaysInside : Type 0
-StaysInside = (hash : List ℕ → List ℕ) (types : Types) (nodes : ℕ → Bool) (t : Tree) (key : ℕ) → IsClosed types (λ n. nodes n ≡ true) → nodes t.type ≡ true → KeyOf hash types t key → EachType (λ n. nodes n ≡ true) t.meaning
+StaysInside = (hash : List ℕ → List ℕ) (types : Types) (nodes : ℕ → Bool) (t : Tree) (key : ℕ) → IsClosed types (λ n. nodes n ≡ true) → nodes t.type ≡ true → KeyOf hash types t key
+    → EachType (λ n. nodes n ≡ true) t.meaning
 
 abbrev pub IsCanonicalInside : Type 0
-IsCanonicalInside = (hash : List ℕ → List ℕ) (types : Types) (nodes : ℕ → Bool) (t : Tree) (key : ℕ) → IsClosed types (λ n. nodes n ≡ true) → ((n : ℕ) → nodes n ≡ true → IsCanonicalType types n) → nodes t.type ≡ true → KeyOf hash types t key → IsCanonicalTree types t
+IsCanonicalInside = (hash : List ℕ → List ℕ) (types : Types) (nodes : ℕ → Bool) (t : Tree) (key : ℕ) → IsClosed types (λ n. nodes n ≡ true) → ((n : ℕ) → nodes n ≡ true → IsCanonicalType types n)
+    → nodes t.type ≡ true → KeyOf hash types t key → IsCanonicalTree types t

@@ -1,16 +1,9 @@
 -- What trees feel of a step: which node gets a key, becomes known or is born, which values come, and how blobs that loads read grow.
 use Rattle.std.specs.Prelude.{ℕ, ◌≡◌, ◌<◌, ◌≤◌, ◌+◌, ◌⊎◌, true, false, List, [], ◌∷◌, Option, Some, None, is_some, Ok}
-use Rattle.pagable_model.specs.declared.data_key.OptionalDataKey.TheVariants as optional
-use Rattle.pagable_world.specs.declared.handles.Owner.TheVariants as owners
-use Rattle.pagable_world.specs.declared.calls.Call.TheVariants as calls
-use Rattle.pagable_world.specs.declared.calls.Reply.TheVariants as replies
-use Rattle.pagable_world.specs.declared.answers.Pinning.TheVariants as pinnings
-use Rattle.pagable_world.specs.declared.events.LoadAnswer.TheVariants as ends
-use Rattle.pagable_world.specs.declared.events.PinStep.TheVariants as pinsteps
-use Rattle.pagable_world.specs.declared.events.Took.TheVariants as took
-use Rattle.pagable_world.specs.declared.events.Event.TheVariants as events
-use Rattle.pagable_world.specs.declared.events.EventReply.TheVariants as answers
 use Rattle.pagable_world.specs.Plain.{OptionalDataKey, ArcRef, Kind, HandleNumber, LoadNumber, NodeNumber, WorkerNumber, Identity, Blob, Tree, ReadsTree, type_of, Among}
+use Rattle.pagable_world.specs.declared.answers.Pinning.{Pinning}
+use Rattle.pagable_world.specs.declared.events.PinStep.{PinStep}
+use Rattle.pagable_world.specs.declared.events.Took.{Took}
 use Rattle.pagable_world.specs.declared.handles.Owner.{Owner}
 use Rattle.pagable_world.specs.declared.handles.HandleRow.{HandleRow}
 use Rattle.pagable_world.specs.declared.calls.Call.{Call}
@@ -60,13 +53,13 @@ Bears change type key = ⊥
 
 -- a load that has begun of a cell reads the key that its cell has, and is of its type
 abbrev pub BeginsWell : Core → OpenLoad → Type 0
-BeginsWell w load = (node : NodeNumber) (t : ℕ) (h : HandleNumber) → load.root ≡ of_cell node t h → (type_at w node.0 ≡ Some t) × (key_at w node.0 ≡ optional.Some load.key)
+BeginsWell w load = (node : NodeNumber) (t : ℕ) (h : HandleNumber) → load.root ≡ of_cell node t h → (type_at w node.0 ≡ Some t) × (key_at w node.0 ≡ OptionalDataKey.Some load.key)
 
 -- a node that was there is the same, but for a key that it may get
 pub record SameNode (c : Change) (w w' : Core) (n : ℕ) : Type 0 where
   pub was : is_some (w.cells n) ≡ true
   pub typed : type_at w' n ≡ type_at w n
-  pub key : (key_at w' n ≡ key_at w n) ⊎ ((key : ℕ) × Sets c n key × (key_at w' n ≡ optional.Some key))
+  pub key : (key_at w' n ≡ key_at w n) ⊎ ((key : ℕ) × Sets c n key × (key_at w' n ≡ OptionalDataKey.Some key))
 
 -- a node that wasn't there is the next one
 pub record NewNode (c : Change) (w w' : Core) (n : ℕ) : Type 0 where
@@ -89,7 +82,7 @@ pub record CoreGoes (c : Change) (w w' : Core) : Type 0 where
   pub cache : (kind key n : ℕ) → w'.cache kind key ≡ Some n → (w.cache kind key ≡ Some n) ⊎ Knows c w kind key n
   -- a handle stays at its node, and one that a load owns is as it was
   pub rows : (h : HandleNumber) (row : HandleRow) → row_at w' h ≡ Some row → h.0 ≤ w.last.handle → (was : HandleRow) × (row_at w h ≡ Some was) × (was.node ≡ row.node)
-  pub load_rows : (h : HandleNumber) (row : HandleRow) (l : LoadNumber) → row_at w' h ≡ Some row → row.owner ≡ owners.Load l → h.0 ≤ w.last.handle → row_at w h ≡ Some row
+  pub load_rows : (h : HandleNumber) (row : HandleRow) (l : LoadNumber) → row_at w' h ≡ Some row → row.owner ≡ Owner.Load l → h.0 ≤ w.last.handle → row_at w h ≡ Some row
 
 -- each of these references names a handle of the owner's, as it should
 abbrev pub AreGood : Core → Owner → List ArcRef → Type 0
@@ -102,15 +95,18 @@ StaysAway w w' n = is_here w n ≡ false → is_some (w'.cells n) ≡ true → i
 -- What trees feel of a call. A value comes to a new node only where one is born, and to an old one only by the end of a load.
 pub data CallFeels {N B : Type 0} (v : Values N) (w : Core) (me : Owner) (call : Call N B) (reply : Reply N B) (w' : Core) : Change → Type 0 where
   feels-nothing : ((n : ℕ) (x : N) → CallBrings w call n x → IsNewNode w n ⊎ StaysAway w w' n) → CallFeels v w me call reply w' nothing_felt
-  feels-birth : (x : N) → ((n : ℕ) (y : N) → CallBrings w call n y → (y ≡ x) × IsNewNode w n) → AreGood w me (v.references x) → CallFeels v w me call reply w' (bears_node (v.node_type x) optional.None)
-  feels-away : (t key : ℕ) (k : HandleNumber) → call ≡ calls.NewPagedOut t key → reply ≡ replies.Handle (Ok k) → CallFeels v w me call reply w' (bears_node t (optional.Some key))
-  feels-key : (h : HandleNumber) (key : ℕ) (row : HandleRow) → call ≡ calls.SetDataKey h key → Owns w me h is_loose row → CallFeels v w me call reply w' (sets_key row.node.0 key)
-  feels-known : (kind : Kind) (key : ℕ) (h : HandleNumber) (row : HandleRow) → call ≡ calls.OnArcDeserialized kind key h → reply ≡ replies.FromCache (Ok None) → Owns w me h any_mode row
+  feels-birth : (x : N) → ((n : ℕ) (y : N) → CallBrings w call n y → (y ≡ x) × IsNewNode w n) → AreGood w me (v.references x)
+      → CallFeels v w me call reply w' (bears_node (v.node_type x) OptionalDataKey.None)
+  feels-away : (t key : ℕ) (k : HandleNumber) → call ≡ Call.NewPagedOut t key → reply ≡ Reply.Handle (Ok k) → CallFeels v w me call reply w' (bears_node t (OptionalDataKey.Some key))
+  feels-key : (h : HandleNumber) (key : ℕ) (row : HandleRow) → call ≡ Call.SetDataKey h key → Owns w me h is_loose row → CallFeels v w me call reply w' (sets_key row.node.0 key)
+  feels-known : (kind : Kind) (key : ℕ) (h : HandleNumber) (row : HandleRow) → call ≡ Call.OnArcDeserialized kind key h → reply ≡ Reply.FromCache (Ok None) → Owns w me h any_mode row
       → type_at w row.node.0 ≡ Some (type_of kind.0) → CallFeels v w me call reply w' (knows_node kind.0 key row.node.0)
-  feels-adopted : (l : LoadNumber) (kind : Kind) (key : ℕ) (x : N) (k : HandleNumber) → call ≡ calls.LoadAdopt l kind key x → reply ≡ replies.Made (Ok k) → v.node_type x ≡ type_of kind.0
-      → AreGood w (owners.Load l) (v.references x) → CallFeels v w me call reply w' (bears_known kind.0 key (first_key kind.0 key))
-  feels-lazy : (l : LoadNumber) (kind : Kind) (key : ℕ) (k : HandleNumber) → call ≡ calls.LoadLazy l kind key → reply ≡ replies.Handle (Ok k) → CallFeels v w me call reply w' (bears_known kind.0 key (optional.Some key))
-  feels-end : (l : LoadNumber) (x : N) (k : HandleNumber) → call ≡ calls.LoadEnd l x → reply ≡ replies.LoadEnded (Ok k) → AreGood w (owners.Load l) (v.references x) → CallFeels v w me call reply w' nothing_felt
+  feels-adopted : (l : LoadNumber) (kind : Kind) (key : ℕ) (x : N) (k : HandleNumber) → call ≡ Call.LoadAdopt l kind key x → reply ≡ Reply.Made (Ok k) → v.node_type x ≡ type_of kind.0
+      → AreGood w (Owner.Load l) (v.references x) → CallFeels v w me call reply w' (bears_known kind.0 key (first_key kind.0 key))
+  feels-lazy : (l : LoadNumber) (kind : Kind) (key : ℕ) (k : HandleNumber) → call ≡ Call.LoadLazy l kind key → reply ≡ Reply.Handle (Ok k)
+      → CallFeels v w me call reply w' (bears_known kind.0 key (OptionalDataKey.Some key))
+  feels-end : (l : LoadNumber) (x : N) (k : HandleNumber) → call ≡ Call.LoadEnd l x → reply ≡ Reply.LoadEnded (Ok k) → AreGood w (Owner.Load l) (v.references x)
+      → CallFeels v w me call reply w' nothing_felt
 
 -- the row of a handle that a load has got now, of this node
 pub record GetsRow (w w' : Core) (kind : Kind) (n : ℕ) (row : HandleRow) : Type 0 where
@@ -122,18 +118,23 @@ pub record GetsRow (w w' : Core) (kind : Kind) (n : ℕ) (row : HandleRow) : Typ
 
 -- What trees feel of a load's step.
 pub data ReadingFeels {N : Type 0} (v : Values N) (w : Core) (reading : Reading) (answer : Option (LoadAnswer N)) (frames : List Frame) (w' : Core) : Change → Type 0 where
-  reads-root : (load : OpenLoad) (blob : Blob) → reading.frames ≡ [] → w.loads reading.load.0 ≡ Some load → w.stored load.key ≡ Some blob → answer ≡ None → frames ≡ root_frame load.key reading.node_type blob ∷ []
+  reads-root : (load : OpenLoad) (blob : Blob) → reading.frames ≡ [] → w.loads reading.load.0 ≡ Some load → w.stored load.key ≡ Some blob → answer ≡ None
+      → frames ≡ root_frame load.key reading.node_type blob ∷ []
       → ReadingFeels v w reading answer frames w' nothing_felt
-  reads-blob : (kind : Kind) (key : ℕ) (blob : Blob) → need_of v.types reading.frames ≡ needs_nested kind key → w.stored key ≡ Some blob → answer ≡ None → frames ≡ nested_frame kind key blob ∷ reading.frames
+  reads-blob : (kind : Kind) (key : ℕ) (blob : Blob) → need_of v.types reading.frames ≡ needs_nested kind key → w.stored key ≡ Some blob → answer ≡ None
+      → frames ≡ nested_frame kind key blob ∷ reading.frames
       → ReadingFeels v w reading answer frames w' nothing_felt
-  gets-known : (kind : Kind) (key n : ℕ) (row : HandleRow) → (need_of v.types reading.frames ≡ needs_nested kind key) ⊎ (need_of v.types reading.frames ≡ needs_lazy kind key) → w.cache kind.0 key ≡ Some n → GetsRow w w' kind n row
+  gets-known : (kind : Kind) (key n : ℕ) (row : HandleRow) → (need_of v.types reading.frames ≡ needs_nested kind key) ⊎ (need_of v.types reading.frames ≡ needs_lazy kind key)
+      → w.cache kind.0 key ≡ Some n → GetsRow w w' kind n row
       → answer ≡ None → frames ≡ with_got kind row reading.frames → ReadingFeels v w reading answer frames w' nothing_felt
-  gets-lazy : (kind : Kind) (key : ℕ) (row : HandleRow) → need_of v.types reading.frames ≡ needs_lazy kind key → GetsRow w w' kind (w.last.node + 1) row → answer ≡ None → frames ≡ with_got kind row reading.frames
-      → ReadingFeels v w reading answer frames w' (bears_known kind.0 key (optional.Some key))
+  gets-lazy : (kind : Kind) (key : ℕ) (row : HandleRow) → need_of v.types reading.frames ≡ needs_lazy kind key → GetsRow w w' kind (w.last.node + 1) row → answer ≡ None
+      → frames ≡ with_got kind row reading.frames
+      → ReadingFeels v w reading answer frames w' (bears_known kind.0 key (OptionalDataKey.Some key))
   makes-known : (x : N) (reads : ReadsNode v reading x) (n : ℕ) (row : HandleRow) → w.cache reads.top.kind.0 reads.top.key ≡ Some n → GetsRow w w' reads.top.kind n row
       → answer ≡ None → frames ≡ with_got reads.top.kind row reads.below → ReadingFeels v w reading answer frames w' nothing_felt
   makes-node : (x : N) (reads : ReadsNode v reading x) (row : HandleRow) → GetsRow w w' reads.top.kind (w.last.node + 1) row
-      → answer ≡ None → frames ≡ with_got reads.top.kind row reads.below → ReadingFeels v w reading answer frames w' (bears_known reads.top.kind.0 reads.top.key (first_key reads.top.kind.0 reads.top.key))
+      → answer ≡ None → frames ≡ with_got reads.top.kind row reads.below
+      → ReadingFeels v w reading answer frames w' (bears_known reads.top.kind.0 reads.top.key (first_key reads.top.kind.0 reads.top.key))
   reading-ends : (end : LoadAnswer N) → answer ≡ Some end → frames ≡ [] → ReadingFeels v w reading answer frames w' nothing_felt
 
 -- it has just begun
@@ -150,8 +151,8 @@ StepsReading u reading answer frames u' = (after : Reading) → IsReadingOf u'.w
 
 -- the reading that makes the event's step: it is one of the machine's, or has just begun at an open load
 abbrev pub IsSteppedReading : {N B W : Type 0} → World → Event N B W → Reading → Type 0
-IsSteppedReading u (events.LoadStep l) reading = (reading_at u l ≡ Some reading) × (IsReadingOf u.work reading ⊎ IsFresh u.core reading)
-IsSteppedReading u (events.WorkerStep k) reading =
+IsSteppedReading u (Event.LoadStep l) reading = (reading_at u l ≡ Some reading) × (IsReadingOf u.work reading ⊎ IsFresh u.core reading)
+IsSteppedReading u (Event.WorkerStep k) reading =
     (walking : Walking) × (r : ArcRef) × (place : ℕ) × (through : HandleNumber) × (below : List Todo) × (u.work.walkings k.0 ≡ Some walking) × (walking.todo ≡ to_load r place through reading ∷ below)
 IsSteppedReading u event reading = ⊥
 
@@ -170,10 +171,13 @@ pub record SetsThrough (u : World) (k : WorkerNumber) (key : ℕ) (row : HandleR
 
 -- What trees feel of an event. The values of a step that isn't a call or a load's come to no node.
 pub data EventFeels {N B W : Type 0} (v : Values N) (u : World) (event : Event N B W) (reply : EventReply N B W) (u' : World) : Change → Type 0 where
-  by-call : (c : Change) (call : Call N B) (answer : Reply N B) → event ≡ events.Call call → reply ≡ answers.CallReply answer → CallFeels v u.core owners.Caller call answer u'.core c → KeepsReadings u u' → EventFeels v u event reply u' c
-  by-reading : (c : Change) (reading : Reading) (answer : Option (LoadAnswer N)) (frames : List Frame) → IsSteppedReading u event reading → (answer ≡ None → (load : OpenLoad) × (u.core.loads reading.load.0 ≡ Some load)) → ReadingFeels v u.core reading answer frames u'.core c → StepsReading u reading answer frames u'
+  by-call : (c : Change) (call : Call N B) (answer : Reply N B) → event ≡ Event.Call call → reply ≡ EventReply.CallReply answer → CallFeels v u.core Owner.Caller call answer u'.core c
+      → KeepsReadings u u' → EventFeels v u event reply u' c
+  by-reading : (c : Change) (reading : Reading) (answer : Option (LoadAnswer N)) (frames : List Frame) → IsSteppedReading u event reading
+      → (answer ≡ None → (load : OpenLoad) × (u.core.loads reading.load.0 ≡ Some load)) → ReadingFeels v u.core reading answer frames u'.core c
+      → StepsReading u reading answer frames u'
       → EventFeels v u event reply u' c
-  by-key : (k : WorkerNumber) (key : ℕ) (row : HandleRow) → event ≡ events.WorkerStep k → SetsThrough u k key row → KeepsReadings u u' → EventFeels v u event reply u' (sets_key row.node.0 key)
+  by-key : (k : WorkerNumber) (key : ℕ) (row : HandleRow) → event ≡ Event.WorkerStep k → SetsThrough u k key row → KeepsReadings u u' → EventFeels v u event reply u' (sets_key row.node.0 key)
   by-nothing : ((n : ℕ) (x : N) → EventBrings v u event n x → IsNewNode u.core n ⊎ StaysAway u.core u'.core n) → KeepsReadings u u' → EventFeels v u event reply u' nothing_felt
 
 -- some change, and how it is felt
@@ -189,17 +193,18 @@ pub record HasPin (w : Core) (k : HandleNumber) : Type 0 where
   pub is : is_pinning row.mode ≡ true
 
 pub record HandsOver (w : Core) (l : LoadNumber) (references : List ArcRef) (w' : Core) : Type 0 where
-  pub each : (r : ArcRef) → Among references r → (row : HandleRow) × (row_at w r.handle ≡ Some row) × (row.owner ≡ owners.Load l) × (row_at w' r.handle ≡ Some (record row { owner = owners.Caller }))
+  pub each : (r : ArcRef) → Among references r → (row : HandleRow) × (row_at w r.handle ≡ Some row) × (row.owner ≡ Owner.Load l) × (row_at w' r.handle ≡ Some (record row { owner = Owner.Caller }))
 
 abbrev pub PinHolds : {N B W : Type 0} → Event N B W → EventReply N B W → Core → Type 0
-PinHolds (events.Call (calls.Pin h)) (answers.CallReply (replies.Pin (Ok (pinnings.Pinned k)))) w' = HasPin w' k
-PinHolds (events.LoadStep l) (answers.LoadMoved (Ok reply)) w' = (k : HandleNumber) → reply.ended ≡ Some (ends.Pinned k) → HasPin w' k
-PinHolds (events.Call (calls.LoadEnd l x)) (answers.CallReply (replies.LoadEnded (Ok k))) w' = HasPin w' k
-PinHolds (events.WorkerStep n) (answers.WorkerMoved (Ok reply)) w' = (i : Identity) (k : HandleNumber) → reply.took ≡ took.Pin i (Ok (pinsteps.Held k)) → HasPin w' k
+PinHolds (Event.Call (Call.Pin h)) (EventReply.CallReply (Reply.Pin (Ok (Pinning.Pinned k)))) w' = HasPin w' k
+PinHolds (Event.LoadStep l) (EventReply.LoadMoved (Ok reply)) w' = (k : HandleNumber) → reply.ended ≡ Some (LoadAnswer.Pinned k) → HasPin w' k
+PinHolds (Event.Call (Call.LoadEnd l x)) (EventReply.CallReply (Reply.LoadEnded (Ok k))) w' = HasPin w' k
+PinHolds (Event.WorkerStep n) (EventReply.WorkerMoved (Ok reply)) w' = (i : Identity) (k : HandleNumber) → reply.took ≡ Took.Pin i (Ok (PinStep.Held k)) → HasPin w' k
 PinHolds event reply w' = Unit {0}
 
 abbrev pub ReadHolds : {N B W : Type 0} → Values N → World → Event N B W → EventReply N B W → World → Type 0
-ReadHolds {N} v u (events.LoadStep l) (answers.LoadMoved (Ok reply)) u' = (x : N) → reply.ended ≡ Some (ends.Read x) → (reading : Reading) × (reading_at u l ≡ Some reading) × ReadsRoot v reading x × HandsOver u.core reading.load (v.references x) u'.core
+ReadHolds {N} v u (Event.LoadStep l) (EventReply.LoadMoved (Ok reply)) u' = (x : N) → reply.ended ≡ Some (LoadAnswer.Read x)
+    → (reading : Reading) × (reading_at u l ≡ Some reading) × ReadsRoot v reading x × HandsOver u.core reading.load (v.references x) u'.core
 ReadHolds v u event reply u' = Unit {0}
 
 -- the key that a worker is about to set reads as the tree of its handle's node.

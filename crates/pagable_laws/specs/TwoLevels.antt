@@ -3,29 +3,22 @@
 -- parent's key is read.
 use Rattle.std.specs.Prelude.{ℕ, zero, suc, ◌≡◌, ◌+◌, ◌==◌, ◌&&◌, not, if◌then◌else◌, Bool, [], ◌∷◌, List, ◌++◌, length, Option, Some, None, Ok}
 use Rattle.pagable_model.specs.Meaning.{none, reference}
-use Rattle.pagable_world.specs.Plain.{ArcRef, HandleNumber, LoadNumber, NodeNumber, Identity, Blob, Meaning, Types, is_in, updated}
+use Rattle.pagable_world.specs.Plain.{ArcRef, HandleNumber, LoadNumber, NodeNumber, Identity, Blob, Meaning, Types, is_in, updated, OptionalDataKey}
+use Rattle.pagable_world.specs.declared.rows.Mode.{Mode}
+use Rattle.pagable_world.specs.declared.answers.Beginning.{Beginning}
+use Rattle.pagable_world.specs.declared.calls.Call.{Call}
+use Rattle.pagable_world.specs.declared.calls.Reply.{Reply}
+use Rattle.pagable_world.specs.declared.events.Claim.{Claim}
+use Rattle.pagable_world.specs.declared.events.PinStep.{PinStep}
 use Rattle.pagable_world.specs.declared.handles.Owner.{Owner}
 use Rattle.pagable_world.specs.declared.events.Took.{Took}
 use Rattle.pagable_world.specs.declared.events.WorkerAnswer.{WorkerAnswer}
 use Rattle.pagable_world.specs.declared.events.LoadAnswer.{LoadAnswer}
 use Rattle.pagable_world.specs.declared.events.Event.{Event}
 use Rattle.pagable_world.specs.declared.events.EventReply.{EventReply}
-use Rattle.pagable_model.specs.declared.data_key.OptionalDataKey.TheVariants as optional
-use Rattle.pagable_model.specs.Shape as shapes
-use Rattle.pagable_world.specs.declared.rows.Mode.TheVariants as modes
-use Rattle.pagable_world.specs.declared.handles.Owner.TheVariants as owners
-use Rattle.pagable_world.specs.declared.answers.Beginning.TheVariants as beginnings
-use Rattle.pagable_world.specs.declared.calls.Call.TheVariants as calls
-use Rattle.pagable_world.specs.declared.calls.Reply.TheVariants as replies
-use Rattle.pagable_world.specs.declared.events.Claim.TheVariants as claims
-use Rattle.pagable_world.specs.declared.events.PinStep.TheVariants as pinsteps
-use Rattle.pagable_world.specs.declared.events.Took.TheVariants as took
-use Rattle.pagable_world.specs.declared.events.WorkerAnswer.TheVariants as finals
-use Rattle.pagable_world.specs.declared.events.LoadAnswer.TheVariants as ends
-use Rattle.pagable_world.specs.declared.events.Event.TheVariants as events
-use Rattle.pagable_world.specs.declared.events.EventReply.TheVariants as answers
 use Rattle.pagable_world.specs.Kinds.{pins, identity_of}
-use Rattle.pagable_world.specs.World.{Core, Written, Values, Seen, Shelf, no_result, published, Todo, to_start, to_pin, to_write, to_finish, to_item, to_set, to_publish, to_release, of_item, of_cell, of_key, Walking, Work, Reading}
+use Rattle.pagable_world.specs.World.{Core, Written, Values, Seen, Shelf, no_result, published, Todo, to_start, to_pin, to_write, to_finish, to_item, to_set, to_publish, to_release}
+use Rattle.pagable_world.specs.World.{of_item, of_cell, of_key, Walking, Work, Reading}
 use Rattle.pagable_world.specs.Cascade.{fallen, nobody}
 use Rattle.pagable_world.specs.Calls.{with_handle, with_mode, with_key, with_node, next_node, moved, is_named_by}
 use Rattle.pagable_world.specs.LoadCalls.{with_load, without_load, with_pin, is_owned_in, adopted}
@@ -34,6 +27,7 @@ use Rattle.pagable_world.specs.Workers.{with_slot, with_wait, with_changed_slot,
 use Rattle.pagable_world.specs.Events.{no_shelf, with_worker}
 use Rattle.pagable_world.specs.Pager.{MachineState}
 use Rattle.pagable_world.specs.Runs.{Moment}
+use Rattle.pagable_model.specs.Shape as shapes
 use Rattle.pagable_laws.specs.SmallWorlds.{empty, no_work}
 
 -- ---- values
@@ -103,20 +97,20 @@ item_blob = record { bytes = 0 ∷ []; keys = 24 ∷ [] }
 -- ---- the pager's plain world, moment by moment
 
 abbrev pub worker : Owner
-worker = owners.Worker (record { 0 = 1 })
+worker = Owner.Worker (record { 0 = 1 })
 
 abbrev pub load_number : ℕ → LoadNumber
 load_number n = record { 0 = n }
 
 -- a node is born; pinned by the worker, through a clone; and a blob is stored
 abbrev pub born : Core → ℕ → List ArcRef → Core
-born w t references = with_handle (with_node w t optional.None references) (next_node w) modes.LoosePinned owners.Caller
+born w t references = with_handle (with_node w t OptionalDataKey.None references) (next_node w) Mode.LoosePinned Owner.Caller
 
 abbrev pub cloned : Core → ℕ → Core
-cloned w n = with_handle w (node n) modes.LoosePinned worker
+cloned w n = with_handle w (node n) Mode.LoosePinned worker
 
 abbrev pub pinned_at : Core → ℕ → Core
-pinned_at w n = with_handle (with_mode (cloned w n) (handle (w.last.handle + 1)) modes.LoosePinned) (node n) modes.Pinned worker
+pinned_at w n = with_handle (with_mode (cloned w n) (handle (w.last.handle + 1)) Mode.LoosePinned) (node n) Mode.Pinned worker
 
 abbrev pub with_blob : Core → ℕ → Blob → Core
 with_blob w key blob = record w { stored = λ q. if q == key then Some blob else w.stored q }
@@ -174,24 +168,24 @@ abbrev pub child_handle : ℕ → Bool
 child_handle q = q == 1
 
 abbrev pub evicted : Core
-evicted = fallen (with_mode answered (handle 2) modes.LooseUnpinned) child_handle []
+evicted = fallen (with_mode answered (handle 2) Mode.LooseUnpinned) child_handle []
 
 -- a load of the cell begins by the caller's handle
 abbrev pub load_of : Core → ℕ → ℕ → ℕ → ℕ → Core
-load_of w n t h key = with_load (with_handle w (node n) modes.LooseUnpinned (owners.Load (load_number (w.last.load + 1)))) key (of_cell (node n) t (handle h)) owners.Caller
+load_of w n t h key = with_load (with_handle w (node n) Mode.LooseUnpinned (Owner.Load (load_number (w.last.load + 1)))) key (of_cell (node n) t (handle h)) Owner.Caller
 
 abbrev pub parent_loading : Core
 parent_loading = load_of evicted 2 0 2 24
 
 abbrev pub child_got : Core
-child_got = adopted parent_loading (load_number 1) (record { 0 = 4 }) 8 (optional.Some 8) []
+child_got = adopted parent_loading (load_number 1) (record { 0 = 4 }) 8 (OptionalDataKey.Some 8) []
 
 -- the load ends with a pin by that handle, its value gets what it refers to, and it gives up its own handle
 abbrev pub ended : Core → ℕ → ℕ → ℕ → List ArcRef → Core
-ended w l n h references = with_pin (record (without_load w (load_number l)) { rows = moved (is_named_by references) (owners.Value (node n)) w.rows }) (handle h) (node n) owners.Caller
+ended w l n h references = with_pin (record (without_load w (load_number l)) { rows = moved (is_named_by references) (Owner.Value (node n)) w.rows }) (handle h) (node n) Owner.Caller
 
 abbrev pub gives_up : Core → ℕ → List ArcRef → ℕ → Bool
-gives_up w l references q = is_owned_in w (owners.Load (load_number l)) q && not (is_named_by references q)
+gives_up w l references q = is_owned_in w (Owner.Load (load_number l)) q && not (is_named_by references q)
 
 abbrev pub end_of : Core → ℕ → ℕ → ℕ → List ArcRef → Core
 end_of w l n h references = fallen (ended w l n h references) (gives_up w l references) []
@@ -201,7 +195,7 @@ parent_loaded = end_of child_got 1 2 2 (to_leaf 3 8 ∷ [])
 
 -- the caller gets a handle of the child, which is loaded by it
 abbrev pub child_cloned : Core
-child_cloned = with_handle parent_loaded (node 3) modes.LooseUnpinned owners.Caller
+child_cloned = with_handle parent_loaded (node 3) Mode.LooseUnpinned Owner.Caller
 
 abbrev pub child_loading : Core
 child_loading = load_of child_cloned 3 1 10 8
@@ -211,16 +205,16 @@ child_loaded = end_of child_loading 2 3 10 []
 
 -- the caller reads the parent's key: its child is known, and the caller gets a handle of it
 abbrev pub key_loading : Core
-key_loading = with_load child_loaded 24 of_key owners.Caller
+key_loading = with_load child_loaded 24 of_key Owner.Caller
 
 abbrev pub child_known : Core
-child_known = with_handle key_loading (node 3) modes.LooseUnpinned (owners.Load (load_number 3))
+child_known = with_handle key_loading (node 3) Mode.LooseUnpinned (Owner.Load (load_number 3))
 
 abbrev pub handed : Core
-handed = record (without_load child_known (load_number 3)) { rows = moved (is_in (13 ∷ [])) owners.Caller child_known.rows }
+handed = record (without_load child_known (load_number 3)) { rows = moved (is_in (13 ∷ [])) Owner.Caller child_known.rows }
 
 abbrev pub not_handed : ℕ → Bool
-not_handed q = is_owned_in child_known (owners.Load (load_number 3)) q && not (is_in (13 ∷ []) q)
+not_handed q = is_owned_in child_known (Owner.Load (load_number 3)) q && not (is_in (13 ∷ []) q)
 
 abbrev pub read_back : Core
 read_back = fallen handed not_handed []
@@ -281,7 +275,7 @@ walk_work shelf w = record (table_work shelf) { walkings = only 1 w }
 
 -- the worker has answered, and the caller's load is so far
 abbrev pub done_work : Work
-done_work = walk_work both_shown (walking [] 15 (Some (finals.Key 25)))
+done_work = walk_work both_shown (walking [] 15 (Some (WorkerAnswer.Key 25)))
 
 abbrev pub read_work : ℕ → Reading → Work
 read_work l r = record done_work { readings = only l r }
@@ -339,14 +333,15 @@ moment event reply after = record { event = event; reply = reply; after = after 
 -- the worker made its next step
 abbrev pub took_step : Took Written → Core → Shelf → List Todo → ℕ → Option WorkerAnswer → Happening
 took_step step core shelf todo steps answer =
-    moment (events.WorkerStep (record { 0 = 1 })) (answers.WorkerMoved (Ok (record { took = step; answer = answer; steps = steps }))) (machine core two_values (walk_work shelf (walking todo steps answer)))
+    moment (Event.WorkerStep (record { 0 = 1 })) (EventReply.WorkerMoved (Ok (record { took = step; answer = answer; steps = steps })))
+    (machine core two_values (walk_work shelf (walking todo steps answer)))
 
 -- the load's next step was made
 abbrev pub read_step : ℕ → Option (LoadAnswer Sample) → ℕ → MachineState Sample (Unit {0}) → Happening
-read_step l ended steps after = moment (events.LoadStep (load_number l)) (answers.LoadMoved (Ok (record { ended = ended; steps = steps }))) after
+read_step l ended steps after = moment (Event.LoadStep (load_number l)) (EventReply.LoadMoved (Ok (record { ended = ended; steps = steps }))) after
 
 abbrev pub load_begun : ℕ → ℕ → ℕ → MachineState Sample (Unit {0}) → Happening
-load_begun h l key after = moment (events.LoadStart (handle h)) (answers.Started (Ok (beginnings.Load (load_number l) key))) after
+load_begun h l key after = moment (Event.LoadStart (handle h)) (EventReply.Started (Ok (Beginning.Load (load_number l) key))) after
 
 abbrev pub the_parent : Identity
 the_parent = identity_of to_parent
@@ -356,60 +351,61 @@ the_child = identity_of to_child
 
 abbrev pub births : List Happening
 births =
-    moment (events.Call (calls.NewLoose leaf)) (answers.CallReply (replies.Made (Ok (handle 1)))) (machine child_born one_value no_work)
-    ∷ moment (events.Call (calls.NewLoose (parent to_child))) (answers.CallReply (replies.Made (Ok (handle 2)))) (machine both_born two_values no_work)
-    ∷ moment events.TableNew (answers.TableMade (Ok (record { 0 = 1 }))) (machine both_born two_values (table_work no_shelf))
-    ∷ moment (events.WorkerItem (record { 0 = 1 }) item) (answers.WorkerMade (Ok (record { 0 = 1 }))) (machine begun two_values (walk_work no_shelf (walking (to_start to_parent 0 ∷ item_waits []) 0 None)))
+    moment (Event.Call (Call.NewLoose leaf)) (EventReply.CallReply (Reply.Made (Ok (handle 1)))) (machine child_born one_value no_work)
+    ∷ moment (Event.Call (Call.NewLoose (parent to_child))) (EventReply.CallReply (Reply.Made (Ok (handle 2)))) (machine both_born two_values no_work)
+    ∷ moment Event.TableNew (EventReply.TableMade (Ok (record { 0 = 1 }))) (machine both_born two_values (table_work no_shelf))
+    ∷ moment (Event.WorkerItem (record { 0 = 1 }) item) (EventReply.WorkerMade (Ok (record { 0 = 1 })))
+    (machine begun two_values (walk_work no_shelf (walking (to_start to_parent 0 ∷ item_waits []) 0 None)))
     ∷ []
 
 abbrev pub page_out : List Happening
 page_out =
-    took_step (took.Claim the_parent (Ok claims.Claimed)) begun parent_claimed (to_pin to_parent 0 ∷ item_waits []) 1 None
-    ∷ took_step (took.Pin the_parent (Ok (pinsteps.Held (handle 4)))) parent_pinned parent_claimed (to_write to_parent 0 (handle 3) ∷ item_waits []) 2 None
-    ∷ took_step (took.Write the_parent (Ok parent_written)) parent_pinned parent_wrote (to_start to_child 0 ∷ parent_waits []) 3 None
-    ∷ took_step (took.Claim the_child (Ok claims.Claimed)) parent_pinned child_claimed (to_pin to_child 0 ∷ parent_waits []) 4 None
-    ∷ took_step (took.Pin the_child (Ok (pinsteps.Held (handle 6)))) both_pinned child_claimed (to_write to_child 0 (handle 5) ∷ parent_waits []) 5 None
-    ∷ took_step (took.Write the_child (Ok leaf_written)) both_pinned child_wrote (waiting to_child 5 leaf_written [] ∷ parent_waits []) 6 None
-    ∷ took_step (took.Store (Some the_child) (Ok 8)) child_stored child_wrote (to_set to_child (handle 5) 8 0 ∷ parent_waits []) 7 None
-    ∷ took_step (took.SetKey the_child (Ok tt)) child_keyed child_wrote (to_publish to_child 8 0 ∷ parent_waits []) 8 None
-    ∷ took_step (took.Publish the_child 8 0) child_keyed child_shown (to_release to_child 8 0 ∷ parent_waits []) 9 None
-    ∷ took_step (took.Release the_child) child_released child_shown (parent_waits (8 ∷ [])) 10 None
-    ∷ took_step (took.Store (Some the_parent) (Ok 24)) parent_stored child_shown (to_set to_parent (handle 3) 24 0 ∷ item_waits []) 11 None
-    ∷ took_step (took.SetKey the_parent (Ok tt)) parent_keyed child_shown (to_publish to_parent 24 0 ∷ item_waits []) 12 None
-    ∷ took_step (took.Publish the_parent 24 0) parent_keyed both_shown (to_release to_parent 24 0 ∷ item_waits []) 13 None
-    ∷ took_step (took.Release the_parent) parent_released both_shown (item_waits (24 ∷ [])) 14 None
-    ∷ took_step (took.Store None (Ok 25)) answered both_shown [] 15 (Some (finals.Key 25))
+    took_step (Took.Claim the_parent (Ok Claim.Claimed)) begun parent_claimed (to_pin to_parent 0 ∷ item_waits []) 1 None
+    ∷ took_step (Took.Pin the_parent (Ok (PinStep.Held (handle 4)))) parent_pinned parent_claimed (to_write to_parent 0 (handle 3) ∷ item_waits []) 2 None
+    ∷ took_step (Took.Write the_parent (Ok parent_written)) parent_pinned parent_wrote (to_start to_child 0 ∷ parent_waits []) 3 None
+    ∷ took_step (Took.Claim the_child (Ok Claim.Claimed)) parent_pinned child_claimed (to_pin to_child 0 ∷ parent_waits []) 4 None
+    ∷ took_step (Took.Pin the_child (Ok (PinStep.Held (handle 6)))) both_pinned child_claimed (to_write to_child 0 (handle 5) ∷ parent_waits []) 5 None
+    ∷ took_step (Took.Write the_child (Ok leaf_written)) both_pinned child_wrote (waiting to_child 5 leaf_written [] ∷ parent_waits []) 6 None
+    ∷ took_step (Took.Store (Some the_child) (Ok 8)) child_stored child_wrote (to_set to_child (handle 5) 8 0 ∷ parent_waits []) 7 None
+    ∷ took_step (Took.SetKey the_child (Ok tt)) child_keyed child_wrote (to_publish to_child 8 0 ∷ parent_waits []) 8 None
+    ∷ took_step (Took.Publish the_child 8 0) child_keyed child_shown (to_release to_child 8 0 ∷ parent_waits []) 9 None
+    ∷ took_step (Took.Release the_child) child_released child_shown (parent_waits (8 ∷ [])) 10 None
+    ∷ took_step (Took.Store (Some the_parent) (Ok 24)) parent_stored child_shown (to_set to_parent (handle 3) 24 0 ∷ item_waits []) 11 None
+    ∷ took_step (Took.SetKey the_parent (Ok tt)) parent_keyed child_shown (to_publish to_parent 24 0 ∷ item_waits []) 12 None
+    ∷ took_step (Took.Publish the_parent 24 0) parent_keyed both_shown (to_release to_parent 24 0 ∷ item_waits []) 13 None
+    ∷ took_step (Took.Release the_parent) parent_released both_shown (item_waits (24 ∷ [])) 14 None
+    ∷ took_step (Took.Store None (Ok 25)) answered both_shown [] 15 (Some (WorkerAnswer.Key 25))
     ∷ []
 
 -- the eviction, and the load of the parent; a handle of its child, and the load of this
 abbrev pub parent_loads : List Happening
 parent_loads =
-    moment (events.Call (calls.Unpin (handle 2))) (answers.CallReply (replies.Done (Ok tt))) (machine evicted [] done_work)
+    moment (Event.Call (Call.Unpin (handle 2))) (EventReply.CallReply (Reply.Done (Ok tt))) (machine evicted [] done_work)
     ∷ load_begun 2 1 24 (machine parent_loading [] done_work)
     ∷ read_step 1 None 1 (machine parent_loading [] (read_work 1 parent_fetched))
     ∷ read_step 1 None 2 (machine child_got [] (read_work 1 parent_read))
-    ∷ read_step 1 (Some (ends.Pinned (handle 9))) 3 (machine parent_loaded parent_value done_work)
+    ∷ read_step 1 (Some (LoadAnswer.Pinned (handle 9))) 3 (machine parent_loaded parent_value done_work)
     ∷ []
 
 abbrev pub child_loads : List Happening
 child_loads =
-    moment (events.Call (calls.Clone (handle 8))) (answers.CallReply (replies.Handle (Ok (handle 10)))) (machine child_cloned parent_value done_work)
+    moment (Event.Call (Call.Clone (handle 8))) (EventReply.CallReply (Reply.Handle (Ok (handle 10)))) (machine child_cloned parent_value done_work)
     ∷ load_begun 10 2 8 (machine child_loading parent_value done_work)
     ∷ read_step 2 None 1 (machine child_loading parent_value (read_work 2 child_fetched))
-    ∷ read_step 2 (Some (ends.Pinned (handle 12))) 2 (machine child_loaded last_values done_work)
+    ∷ read_step 2 (Some (LoadAnswer.Pinned (handle 12))) 2 (machine child_loaded last_values done_work)
     ∷ []
 
 -- the caller's load of a key; and how many pin the child
 abbrev pub key_loads : List Happening
 key_loads =
-    moment (events.LoadKey 24 0) (answers.Started (Ok (beginnings.Load (load_number 3) 24))) (machine key_loading last_values (read_work 3 key_begun))
+    moment (Event.LoadKey 24 0) (EventReply.Started (Ok (Beginning.Load (load_number 3) 24))) (machine key_loading last_values (read_work 3 key_begun))
     ∷ read_step 3 None 1 (machine key_loading last_values (read_work 3 key_fetched))
     ∷ read_step 3 None 2 (machine child_known last_values (read_work 3 key_read))
-    ∷ read_step 3 (Some (ends.Read (parent (to_leaf 3 13)))) 3 (machine read_back last_values done_work)
+    ∷ read_step 3 (Some (LoadAnswer.Read (parent (to_leaf 3 13)))) 3 (machine read_back last_values done_work)
     ∷ []
 
 abbrev pub counts : ℕ → List Happening
-counts n = moment (events.Call (calls.Count (handle 10))) (answers.CallReply (replies.Count (Ok n))) (machine read_back last_values done_work) ∷ []
+counts n = moment (Event.Call (Call.Count (handle 10))) (EventReply.CallReply (Reply.Count (Ok n))) (machine read_back last_values done_work) ∷ []
 
 abbrev pub moments : ℕ → List Happening
 moments n = births ++ page_out ++ parent_loads ++ child_loads ++ key_loads ++ counts n

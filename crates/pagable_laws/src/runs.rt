@@ -1,5 +1,6 @@
 //! The laws of runs: what holds of every chain of moments, however loads and workers take turns.
 
+ghost use Rattle.pagable_world.specs.Access.{PinLaw, ReadLaw};
 ghost use Rattle.pagable_world.specs.Headline.{HeadlineLaw};
 ghost use Rattle.pagable_world.specs.OneWorker.{OneIdentityLaw};
 ghost use Rattle.pagable_laws.specs.DeepLaws.{ShallowLaw, ToldDepthLaw, DeepClaimLaw, DeepLoadLaw, FaultlessLaw};
@@ -51,4 +52,15 @@ pub fn loads_are_sound<N: SeenAs<B, W>, B, W, E>()
 /// Two references that are got through one cache, which reading alone fills, have one identity only if kind and key are the same, and then always while the node is held.
 pub fn one_identity<N: SeenAs<B, W>, B, W, E>()
     ensures { OneIdentityLaw E N.seen }
+{}
+
+/// The value that a load of a cell pins stands for its node's tree.
+pub fn pins_stand<N: SeenAs<B, W>, B, W, E>()
+    ensures { PinLaw E N.seen.values }
+{}
+
+/// The value that a load of a key reads stands for the tree that the key reads as, and its references are the caller's.
+#[tactic(auto, using(crate::proofs::LoadRuns::read_law))]
+pub fn readings_stand<N: SeenAs<B, W>, B, W, E>()
+    ensures { ReadLaw E N.seen.values }
 {}

@@ -12,7 +12,7 @@ use Rattle.pagable_world.specs.Loads.{GoesOn, Does, gone_on}
 use Rattle.pagable_world.specs.Pager.{PagerState}
 use Rattle.pagable_world.specs.Access.{Told, ReadingStep, LoadRun, load-ends, load-goes-on}
 use Rattle.pagable_loads.specs.declared.reading.Reading.{Reading as Own}
-use Rattle.pagable_loads.specs.Frames.{IsLoadOf, frames_of, reading_of, is_cell}
+use Rattle.pagable_loads.specs.Frames.{IsLoadOf, frames_of, reading_of}
 use Rattle.pagable_loads.specs.Stepping.{Steps}
 use Rattle.pagable_loads.specs.Running.{Runs, HasGone}
 

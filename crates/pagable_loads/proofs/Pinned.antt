@@ -1,8 +1,7 @@
 -- A pin with its loads, and how it is taken back; and the reading of a key.
-use Rattle.std.proofs.Common.{◌≡◌, ℕ, ◌+◌, ◌==◌, ◌≤◌, Bool, true, false, [], Option, Some, None, Result, Ok, Err, inl, inr, refl, ap, sym, subst, ◌∙◌, arith}
+use Rattle.std.proofs.Common.{◌≡◌, ℕ, ◌+◌, ◌==◌, Bool, true, false, Option, Some, None, Result, Ok, Err, inl, inr, refl, ap, sym, subst, ◌∙◌, arith}
 use Rattle.std.proofs.lemmas.Bool.Decides.{nat_tests}
 use Rattle.std.specs.Prelude.{if◌then◌else◌}
-use Rattle.std.specs.Option.{option_map}
 use Rattle.pagable_model.specs.declared.error.Error.{Error}
 use Rattle.pagable_model.specs.declared.error.Error.TheVariants as errors
 use Rattle.pagable_model.specs.declared.numbers.HandleNumber.{HandleNumber}
@@ -16,7 +15,7 @@ use Rattle.pagable_world.specs.declared.handles.Owner.{Owner}
 use Rattle.pagable_world.specs.declared.handles.Owner.TheVariants as owners
 use Rattle.pagable_world.specs.declared.rows.Mode.{Mode}
 use Rattle.pagable_world.specs.declared.rows.Mode.TheVariants as modes
-use Rattle.pagable_world.specs.Plain.{updated, if_there}
+use Rattle.pagable_world.specs.Plain.{if_there}
 use Rattle.pagable_world.specs.Kinds.{is_loose, is_unpinned}
 use Rattle.pagable_world.specs.World.{Core, OpenLoad, Reading, Root, of_cell, of_key, Values, Alike, row_at}
 use Rattle.pagable_world.specs.Calls.{PinCall, ReleaseCall, with_handle}
@@ -28,7 +27,7 @@ use Rattle.pagable_loads.specs.declared.reading.Reading.{Reading as Own}
 use Rattle.pagable_loads.specs.declared.starting.PinStart.TheVariants as starts
 use Rattle.pagable_loads.specs.Frames.{IsLoadOf, reading_of, is_cell}
 use Rattle.pagable_loads.specs.Running.{Runs}
-use Rattle.pagable_loads.specs.Starting.{is_unpinned_at, StartsPin, Shares, PinsFirst, Unpins, TakesBack}
+use Rattle.pagable_loads.specs.Starting.{StartsPin, Shares, PinsFirst, Unpins, TakesBack}
 use Rattle.pagable_loads.specs.Telling.{holds_of, Tells, begun_as}
 
 -- what is told of a state, beside what led to it

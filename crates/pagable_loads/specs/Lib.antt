@@ -4,7 +4,7 @@ pub mod Decoding
 pub mod Frames
 pub mod Needing
 pub mod Stepping
+pub mod Working
 pub mod Ending
 pub mod Starting
 pub mod Running
-pub mod Working

@@ -1,5 +1,4 @@
 -- A load from its first step to its end.
-use Rattle.std.specs.Prelude.{◌≡◌}
 use Rattle.pagable_world.specs.declared.events.LoadAnswer.{LoadAnswer}
 use Rattle.pagable_world.specs.declared.handles.Owner.{Owner}
 use Rattle.pagable_world.specs.World.{Values}

@@ -1,5 +1,5 @@
 -- A pin that begins, and one that was begun and is taken back.
-use Rattle.std.specs.Prelude.{ℕ, ◌≡◌, ◌⊎◌, Bool, true, false, Option, Some, Result, Ok, Err, IfOk, IfErr}
+use Rattle.std.specs.Prelude.{◌≡◌, ◌⊎◌, Bool, true, false, Option, Some, Result, Ok, Err, IfOk, IfErr}
 use Rattle.std.specs.Option.{option_map}
 use Rattle.pagable_model.specs.declared.error.Error.{Error}
 use Rattle.pagable_model.specs.declared.error.Error.TheVariants as errors
@@ -11,7 +11,7 @@ use Rattle.pagable_world.specs.declared.handles.Owner.{Owner}
 use Rattle.pagable_world.specs.declared.handles.Owner.TheVariants as owners
 use Rattle.pagable_world.specs.Plain.{if_there}
 use Rattle.pagable_world.specs.Kinds.{is_unpinned}
-use Rattle.pagable_world.specs.World.{Core, Values, row_at, Alike}
+use Rattle.pagable_world.specs.World.{Core, Values, row_at}
 use Rattle.pagable_world.specs.Refusals.{live_fault}
 use Rattle.pagable_world.specs.Calls.{PinCall, UnpinCall, ReleaseCall}
 use Rattle.pagable_world.specs.LoadCalls.{BeginCall}

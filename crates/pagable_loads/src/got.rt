@@ -31,12 +31,14 @@ impl<'g, E: Env> GotReferences<'g, E> {
 }
 
 impl<'g, E: Env> References<E> for GotReferences<'g, E> {
-    ghost use Rattle.std.specs.Prelude.{slice_get};
+    ghost use Rattle.std.specs.Prelude.{None, slice_get};
     ghost use Rattle.pagable_loads.specs.Got.{environment_of, got_of, answer_at, may_refuse};
 
     ghost environment = { environment_of };
 
     ghost answer = { λ s place key kind. answer_at (got_of s) place key kind };
+
+    ghost lends = { λ s reference. None };
 
     ghost refusals = { λ s place key kind e is. may_refuse (slice_get (got_of s) place) kind e is };
 
@@ -59,5 +61,9 @@ impl<'g, E: Env> References<E> for GotReferences<'g, E> {
         } else {
             Err(Error::WrongKind)
         }
+    }
+
+    fn shared(&self, _reference: ArcRef) -> Option<&E::Node> {
+        None
     }
 }

@@ -1,2 +1,4 @@
-pub mod Nobody
+pub mod Leaving
+pub mod Keeping
 pub mod Running
+pub mod Happening

@@ -1,2 +1,4 @@
 pub mod Serving
+pub mod Keeping
 pub mod Driving
+pub mod Unread

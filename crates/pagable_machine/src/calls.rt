@@ -1,15 +1,59 @@
 //! Each call of the pager as the machine makes it: a step of the plain world, with a reply of the call's type.
 
-ghost use Rattle.pagable_machine.specs.Serving.{Serves};
-ghost use Rattle.pagable_pager.specs.View.{spelling, telling};
+ghost use Rattle.std.specs.Prelude.{◌≡◌};
+ghost use Rattle.pagable_world.specs.declared.calls.Call.TheVariants as calls;
+ghost use Rattle.pagable_world.specs.declared.calls.Reply.TheVariants as replies;
+ghost use Rattle.pagable_world.specs.Events.{given_of};
+ghost use Rattle.pagable_world.specs.World.{seen_as};
+ghost use Rattle.pagable_loads.specs.Telling.{values_at};
+ghost use Rattle.pagable_pager.specs.View.{telling, given_as};
+ghost use Rattle.pagable_machine.specs.Serving.{Serves, plain_blob};
 
-use crate::{births, handles, loads, looks, stores};
+use either::Either;
 use pagable_codec::{Env, NodeSet};
 use pagable_core::{PagableData, PagableStorage};
+use pagable_model::{DataKey, Error, HandleNumber};
 use pagable_pager::Pager;
-use pagable_world::{Call, Reply};
+use pagable_world::{Beginning, Call, Found, Reply};
 use std::alloc::Global;
 use std::sync::Arc;
+
+// What was found, as the reply has it.
+fn found(
+    given: Result<Either<HandleNumber, Arc<PagableData>>, Error>,
+) -> Result<Found<Arc<PagableData>>, Error>
+    ensures { seen_as (given_of plain_blob) result ≡ seen_as (given_as plain_blob) given }
+{
+    match given {
+        Ok(Either::Left(known)) => Ok(Found::Cached(known)),
+        Ok(Either::Right(blob)) => Ok(Found::Blob(blob)),
+        Err(e) => Err(e),
+    }
+}
+
+/// A load of a loose handle's cell begins.
+pub fn begin<E: Env, S: PagableStorage<E>>(
+    pager: &mut Pager<E, S>,
+    handle: HandleNumber,
+) -> Result<Beginning, Error>
+where
+    E::Node: NodeSet<E>,
+    ensures { Serves (values_at E.Node.NodeSet E.Env E.Hash.KeyHash pager.old.environment) (telling S.stored S.is_closed S.failed) pager.old (calls.LoadBegin handle) (replies.Begun result) pager.new }
+{
+    pager.load_begin(handle)
+}
+
+/// A load of a key begins.
+pub fn begin_key<E: Env, S: PagableStorage<E>>(
+    pager: &mut Pager<E, S>,
+    key: DataKey,
+) -> Result<Beginning, Error>
+where
+    E::Node: NodeSet<E>,
+    ensures { Serves (values_at E.Node.NodeSet E.Env E.Hash.KeyHash pager.old.environment) (telling S.stored S.is_closed S.failed) pager.old (calls.LoadKey key) (replies.Begun result) pager.new }
+{
+    pager.load_key(key)
+}
 
 /// Makes the call, and answers what the pager answers.
 pub fn serve<E: Env, S: PagableStorage<E>>(
@@ -19,45 +63,49 @@ pub fn serve<E: Env, S: PagableStorage<E>>(
 ) -> Reply<E::Node, Arc<PagableData>>
 where
     E::Node: NodeSet<E>,
-    ensures { Serves (telling S.stored S.is_closed S.failed) (spelling E.Node.type_of E.Node.refs_of E.Node.means E.Node.read_causes E.Node.write_causes E.Node.shape_of E.parts E.Hash.digest) pager.old call result pager.new }
+    ensures { Serves (values_at E.Node.NodeSet E.Env E.Hash.KeyHash pager.old.environment) (telling S.stored S.is_closed S.failed) pager.old call result pager.new }
 {
     match call {
-        Call::NewPinned(node) => births::new_pinned(pager, alloc, node),
-        Call::NewLoose(node) => births::new_loose(pager, alloc, node),
-        Call::NewShared(node) => births::new_shared(pager, alloc, node),
-        Call::NewPagedOut(node_type, key) => births::new_paged_out(pager, alloc, node_type, key),
-        Call::Clone(handle) => handles::clone(pager, handle),
-        Call::Pin(handle) => handles::pin(pager, handle),
-        Call::Unpin(handle) => handles::unpin(pager, handle),
-        Call::Release(handle) => handles::release(pager, handle),
-        Call::IntoPagable(handle) => handles::into_pagable(pager, handle),
-        Call::SetDataKey(handle, key) => handles::set_data_key(pager, handle, key),
-        Call::Count(handle) => looks::count(pager, handle),
-        Call::Key(handle) => looks::key(pager, handle),
-        Call::IsPagedOut(handle) => looks::is_paged_out(pager, handle),
-        Call::NodeOf(handle) => looks::node_of(pager, handle),
-        Call::NodeLive(node) => looks::node_live(pager, node),
-        Call::ScheduleForPaging(handle) => handles::schedule_for_paging(pager, handle),
-        Call::Pending => looks::pending(pager),
-        Call::TakePending(place) => handles::take_pending(pager, place),
-        Call::CacheGet(kind, key) => stores::cache_get(pager, kind, key),
-        Call::OnArcDeserialized(kind, key, handle) => stores::offer(pager, kind, key, handle),
-        Call::CacheClear => stores::cache_clear(pager),
-        Call::Fetch(key) => stores::fetch(pager, alloc, key),
-        Call::Store(blob) => stores::store(pager, alloc, blob),
-        Call::Flush => stores::flush(pager),
-        Call::LoadBegin(handle) => loads::load_begin(pager, handle),
-        Call::LoadKey(key) => loads::load_key(pager, key),
-        Call::LoadFetch(load, want) => loads::load_fetch(pager, alloc, load, want),
-        Call::LoadAdopt(load, kind, key, node) => births::load_adopt(
-            pager, alloc, load, kind, key, node,
-        ),
-        Call::LoadLazy(load, kind, key) => loads::load_lazy(pager, alloc, load, kind, key),
-        Call::LoadEnd(load, node) => births::load_end(pager, alloc, load, node),
-        Call::LoadTake(load, named) => loads::load_take(pager, load, named),
-        Call::LoadDrop(load) => loads::load_drop(pager, load),
-        Call::Reserve(more) => stores::reserve(pager, more),
-        Call::Room => looks::room(pager),
-        Call::Close => stores::close(pager),
+        Call::NewPinned(node) => Reply::Made(pager.new_pinned(alloc, node)),
+        Call::NewLoose(node) => Reply::Made(pager.new_loose(alloc, node)),
+        Call::NewShared(node) => Reply::Made(pager.new_shared(alloc, node)),
+        Call::NewPagedOut(node_type, key) => {
+            Reply::Handle(pager.new_paged_out(alloc, node_type, key))
+        }
+        Call::Clone(handle) => Reply::Handle(pager.clone(handle)),
+        Call::Pin(handle) => Reply::Pin(pager.pin(handle)),
+        Call::Unpin(handle) => Reply::Done(pager.unpin(handle)),
+        Call::Release(handle) => Reply::Done(pager.release(handle)),
+        Call::IntoPagable(handle) => Reply::Handle(pager.into_pagable(handle)),
+        Call::SetDataKey(handle, key) => Reply::Done(pager.set_data_key(handle, key)),
+        Call::Count(handle) => Reply::Count(pager.count(handle)),
+        Call::Key(handle) => Reply::KeyFound(pager.key(handle)),
+        Call::IsPagedOut(handle) => Reply::Away(pager.is_paged_out(handle)),
+        Call::NodeOf(handle) => Reply::Node(pager.node_of(handle)),
+        Call::NodeLive(node) => Reply::NodeType(pager.node_live(node)),
+        Call::ScheduleForPaging(handle) => Reply::Done(pager.schedule_for_paging(handle)),
+        Call::Pending => Reply::Length(pager.pending() as u64),
+        Call::TakePending(place) => Reply::Taken(pager.take_pending(place as usize)),
+        Call::CacheGet(kind, key) => Reply::FromCache(pager.cache_get(kind, key)),
+        Call::OnArcDeserialized(kind, key, handle) => {
+            Reply::FromCache(pager.on_arc_deserialized(kind, key, handle))
+        }
+        Call::CacheClear => Reply::Done(pager.cache_clear()),
+        Call::Fetch(key) => Reply::Fetched(pager.fetch(alloc, key)),
+        Call::Store(blob) => Reply::Stored(pager.store(alloc, blob)),
+        Call::Flush => Reply::Done(pager.flush()),
+        Call::LoadBegin(handle) => Reply::Begun(begin(pager, handle)),
+        Call::LoadKey(key) => Reply::Begun(begin_key(pager, key)),
+        Call::LoadFetch(load, want) => Reply::LoadFound(found(pager.load_fetch(alloc, load, want))),
+        Call::LoadAdopt(load, kind, key, node) => {
+            Reply::Made(pager.load_adopt(alloc, load, kind, key, node))
+        }
+        Call::LoadLazy(load, kind, key) => Reply::Handle(pager.load_lazy(alloc, load, kind, key)),
+        Call::LoadEnd(load, node) => Reply::LoadEnded(pager.load_end(alloc, load, node)),
+        Call::LoadTake(load, named) => Reply::Done(pager.load_take(load, &named)),
+        Call::LoadDrop(load) => Reply::Done(pager.load_drop(load)),
+        Call::Reserve(more) => Reply::Done(pager.reserve(more as usize)),
+        Call::Room => Reply::Length(pager.room() as u64),
+        Call::Close => Reply::Done(pager.close()),
     }
 }

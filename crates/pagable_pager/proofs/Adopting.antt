@@ -67,20 +67,20 @@ module _ {N S E : Type 0} (tells : Telling S) (g : Spelling N E) (p : PagerView 
   found-so me l kind key u rs cause before (Err e) known given same refused = stays-so refused.stays
 
 -- why what a load has read becomes no node, where its references weren't had
-pub unlisted-gone : (w : Core) (l : LoadNumber) (kind : Kind) (key u : ℕ) (rs : List ArcRef) → w.loads l.0 ≡ None → Refused (adopt_fault w owners.Caller l kind key u rs) (closed_fault w l) (Unit {0}) w errors.NoSuchHandle w
-unlisted-gone w l kind key u rs gone =
-    let is : load_fault w owners.Caller l ≡ Some errors.NoSuchHandle = ap (if_there (λ (load : OpenLoad). refused_if (not (is_owner owners.Caller load.owner)) errors.NotYours) (Some errors.NoSuchHandle)) gone in
-    record { why = inl (earlier-first (load_fault w owners.Caller l) _ errors.NoSuchHandle is (λ f late. omega (arith))); stays = still w }
+pub unlisted-gone : (w : Core) (me : Owner) (l : LoadNumber) (kind : Kind) (key u : ℕ) (rs : List ArcRef) → w.loads l.0 ≡ None → Refused (adopt_fault w me l kind key u rs) (closed_fault w l) (Unit {0}) w errors.NoSuchHandle w
+unlisted-gone w me l kind key u rs gone =
+    let is : load_fault w me l ≡ Some errors.NoSuchHandle = ap (if_there (λ (load : OpenLoad). refused_if (not (is_owner me load.owner)) errors.NotYours) (Some errors.NoSuchHandle)) gone in
+    record { why = inl (earlier-first (load_fault w me l) _ errors.NoSuchHandle is (λ f late. omega (arith))); stays = still w }
 
 -- the value of a load is read as a node that the cache gives
-pub known-call : {N : Type 0} (w w' : Core) (x : N) (l : LoadNumber) (kind : Kind) (key u v : ℕ) (rs qs : List ArcRef) (k : HandleNumber) → u ≡ v → rs ≡ qs → Adopts w owners.Caller l kind key u rs k w' → AdoptCall w owners.Caller l kind key x v qs (Ok k) w'
-known-call w w' x l kind key u v rs qs k typed listed a = record { adopts = subst (λ t. Adopts w owners.Caller l kind key t qs k w') typed (subst (λ z. Adopts w owners.Caller l kind key u z k w') listed a); refused = tt }
+pub known-call : {N : Type 0} (w w' : Core) (x : N) (me : Owner) (l : LoadNumber) (kind : Kind) (key u v : ℕ) (rs qs : List ArcRef) (k : HandleNumber) → u ≡ v → rs ≡ qs → Adopts w me l kind key u rs k w' → AdoptCall w me l kind key x v qs (Ok k) w'
+known-call w w' x me l kind key u v rs qs k typed listed a = record { adopts = subst (λ t. Adopts w me l kind key t qs k w') typed (subst (λ z. Adopts w me l kind key u z k w') listed a); refused = tt }
 
 -- or it is refused
-pub refused-call : {N : Type 0} (w w' : Core) (x y : N) (l : LoadNumber) (kind : Kind) (key u v : ℕ) (rs qs : List ArcRef) (e : Error) → y ≡ x → u ≡ v → rs ≡ qs
-    → Refused (adopt_fault w owners.Caller l kind key u rs) (load_fault w owners.Caller l) (Unit {0}) w e w' → AdoptCall w owners.Caller l kind key x v qs (Err (e, y)) w'
-refused-call w w' x y l kind key u v rs qs e back typed listed r =
-    record { adopts = tt; refused = (back, told-later owners.Caller l (subst (λ t. Refused (adopt_fault w owners.Caller l kind key t qs) (load_fault w owners.Caller l) (Unit {0}) w e w') typed (subst (λ z. Refused (adopt_fault w owners.Caller l kind key u z) (load_fault w owners.Caller l) (Unit {0}) w e w') listed r))) }
+pub refused-call : {N : Type 0} (w w' : Core) (x y : N) (me : Owner) (l : LoadNumber) (kind : Kind) (key u v : ℕ) (rs qs : List ArcRef) (e : Error) → y ≡ x → u ≡ v → rs ≡ qs
+    → Refused (adopt_fault w me l kind key u rs) (load_fault w me l) (Unit {0}) w e w' → AdoptCall w me l kind key x v qs (Err (e, y)) w'
+refused-call w w' x y me l kind key u v rs qs e back typed listed r =
+    record { adopts = tt; refused = (back, told-later me l (subst (λ t. Refused (adopt_fault w me l kind key t qs) (load_fault w me l) (Unit {0}) w e w') typed (subst (λ z. Refused (adopt_fault w me l kind key u z) (load_fault w me l) (Unit {0}) w e w') listed r))) }
 
 -- fewer values are there, and no other
 pub less-moves : {N S E : Type 0} (tells : Telling S) {comes : ℕ → N → Type 0} (p q : PagerView N S E) → OnlyLess p q → Moves comes (state_in tells p) (state_in tells q)
@@ -97,7 +97,7 @@ pub same-moves : {N S E : Type 0} (tells : Telling S) (p q r : PagerView N S E) 
 same-moves tells p q r x same moves = subst (λ u. Moves (λ n y. (y ≡ x) × IsNewNode (core_in tells u) n) (state_in tells u) (state_in tells r)) same moves
 
 module _ {N S E : Type 0} (tells : Telling S) (g : Spelling N E) (p : PagerView N S E) (is : IsPager tells g p) (t : Tables) (values : ValuesByNode N) (whole : IsWhole t) (later : AreLater t)
-    (l : LoadNumber) (kind : Kind) (key u : ℕ) (rs : List ArcRef) (x : N) (typed : u ≡ g.type_of x) (listed : rs ≡ g.refs_of x) (unknown : usable (core_in tells p) kind.0 key ≡ None) where
+    (me : Owner) (l : LoadNumber) (kind : Kind) (key u : ℕ) (rs : List ArcRef) (x : N) (typed : u ≡ g.type_of x) (listed : rs ≡ g.refs_of x) (unknown : usable (core_in tells p) kind.0 key ≡ None) where
   abbrev afterwards : PagerView N S E
   afterwards = record p { tables = t; values = values }
 
@@ -105,7 +105,7 @@ module _ {N S E : Type 0} (tells : Telling S) (g : Spelling N E) (p : PagerView 
   next = p.tables.last_node + 1
 
   abbrev Adopted : Result HandleNumber (Error × N) → Type 0
-  Adopted r = IfOk r (λ k. Adopts (core_in tells p) owners.Caller l kind key u rs k (core_in tells afterwards))
+  Adopted r = IfOk r (λ k. Adopts (core_in tells p) me l kind key u rs k (core_in tells afterwards))
 
   abbrev Room : Result HandleNumber (Error × N) → Type 0
   Room r = OnErr r (OnlyRoom (core_in tells p) (core_in tells afterwards))
@@ -122,8 +122,8 @@ module _ {N S E : Type 0} (tells : Telling S) (g : Spelling N E) (p : PagerView 
   -- the pager is in step
   pub new-so : (r : Result HandleNumber (Error × N)) → Adopted r → Room r → Here r → Others r → Kept r → IsPager tells g afterwards
   new-so (Ok k) adopts room here others kept =
-      let a : Adopts (core_in tells p) owners.Caller l kind key (g.type_of x) (g.refs_of x) k (core_in tells afterwards) =
-      subst (λ v. Adopts (core_in tells p) owners.Caller l kind key v (g.refs_of x) k (core_in tells afterwards)) typed (subst (λ z. Adopts (core_in tells p) owners.Caller l kind key u z k (core_in tells afterwards)) listed adopts) in
+      let a : Adopts (core_in tells p) me l kind key (g.type_of x) (g.refs_of x) k (core_in tells afterwards) =
+      subst (λ v. Adopts (core_in tells p) me l kind key v (g.refs_of x) k (core_in tells afterwards)) typed (subst (λ z. Adopts (core_in tells p) me l kind key u z k (core_in tells afterwards)) listed adopts) in
       let core = whole-over t (tells.stored p.storage) (tells.closed p.storage) (tells.failed p.storage) whole (λ shut. adopts-bare shut (is.state.whole.shut shut) a) in
       record { tables = whole; later = later; state = adopts-new {v = values_of g p.environment} {s = state_in tells p} {s' = state_in tells afterwards} is.state a unknown (told tells g p is t values x here others) whole.steady.fits.pinned core }
   new-so (Err (e, y)) adopts room here others kept = roomier tells g p is t values whole later room kept
@@ -132,7 +132,7 @@ module _ {N S E : Type 0} (tells : Telling S) (g : Spelling N E) (p : PagerView 
   new-moves (Ok k) here others kept = moved-in tells g p is t values x here others
   new-moves (Err (e, y)) here others kept = unmoved tells g p is t values kept
 
-  pub new-call : (r : Result HandleNumber (Error × N)) → Adopted r → IfErr r (λ e. Refused (adopt_fault (core_in tells p) owners.Caller l kind key u rs) (load_fault (core_in tells p) owners.Caller l) (Unit {0}) (core_in tells p) e.0 (core_in tells afterwards)) → IfErr r (λ e. e.1 ≡ x)
-      → AdoptCall (core_in tells p) owners.Caller l kind key x (g.type_of x) (g.refs_of x) r (core_in tells afterwards)
-  new-call (Ok k) adopts refused back = known-call (core_in tells p) (core_in tells afterwards) x l kind key u (g.type_of x) rs (g.refs_of x) k typed listed adopts
-  new-call (Err (e, y)) adopts refused back = refused-call (core_in tells p) (core_in tells afterwards) x y l kind key u (g.type_of x) rs (g.refs_of x) e back typed listed refused
+  pub new-call : (r : Result HandleNumber (Error × N)) → Adopted r → IfErr r (λ e. Refused (adopt_fault (core_in tells p) me l kind key u rs) (load_fault (core_in tells p) me l) (Unit {0}) (core_in tells p) e.0 (core_in tells afterwards)) → IfErr r (λ e. e.1 ≡ x)
+      → AdoptCall (core_in tells p) me l kind key x (g.type_of x) (g.refs_of x) r (core_in tells afterwards)
+  new-call (Ok k) adopts refused back = known-call (core_in tells p) (core_in tells afterwards) x me l kind key u (g.type_of x) rs (g.refs_of x) k typed listed adopts
+  new-call (Err (e, y)) adopts refused back = refused-call (core_in tells p) (core_in tells afterwards) x y me l kind key u (g.type_of x) rs (g.refs_of x) e back typed listed refused

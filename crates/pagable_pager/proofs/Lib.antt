@@ -1,3 +1,4 @@
+mod AtWork
 pub mod Spared
 pub mod Stored
 pub mod Shed
@@ -9,3 +10,5 @@ pub mod Asking
 pub mod Putting
 pub mod Births
 pub mod Adopting
+mod Working
+pub mod Lending

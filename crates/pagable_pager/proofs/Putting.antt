@@ -7,6 +7,7 @@ use Rattle.std.proofs.lemmas.Bool.{cases_eq}
 use Rattle.std.proofs.lemmas.Bool.Decides.{nat_tests}
 use Rattle.pagable_model.specs.declared.numbers.ArcRef.{ArcRef}
 use Rattle.pagable_model.specs.declared.numbers.NodeNumber.{NodeNumber}
+use Rattle.pagable_world.specs.declared.handles.Owner.{Owner}
 use Rattle.pagable_world.specs.declared.handles.Owner.TheVariants as owners
 use Rattle.pagable_model.specs.declared.error.Error.TheVariants as errors
 use Rattle.pagable_world.specs.Plain.{HandleNumber, LoadNumber, Error, if_there, updated}
@@ -76,9 +77,9 @@ drops t t' old new node x there sheds =
     by m false e = refl
 
 -- a node that has its value by the world has it by its counts
-pub beside-there : (t : Tables) (l : LoadNumber) (node_type : ℕ) (refs : List ArcRef) (r : Ending) → IsWhole t → IsReady (plain_of t) owners.Caller l node_type refs r → r.is_away ≡ false
+pub beside-there : (t : Tables) (me : Owner) (l : LoadNumber) (node_type : ℕ) (refs : List ArcRef) (r : Ending) → IsWhole t → IsReady (plain_of t) me l node_type refs r → r.is_away ≡ false
     → has_value (counts_at t.holdings.nodes r.row.node.0) ≡ true
-beside-there t l node_type refs r whole ready here =
+beside-there t me l node_type refs r whole ready here =
     let n = r.row.node.0 in
     let p = plain_of t in
     let some = row-held p r.row.number r.row ready.owned.live in
@@ -87,10 +88,10 @@ beside-there t l node_type refs r whole ready here =
     sym (here-told (counts_at t.holdings.nodes n) p n refl (sym (whole.steady.fits.pinned n))) ∙ ap (λ b. b && is_here p n) (whole.core.handles.live n ∙ yes) ∙ is
 
 -- the pager after a load has ended with a pin
-module _ {N S E : Type 0} (tells : Telling S) (g : Spelling N E) (p : PagerView N S E) (is : IsPager tells g p) (l : LoadNumber) (x : N) (t1 t2 : Tables) (values : ValuesByNode N) (r : Ending) (k : HandleNumber)
+module _ {N S E : Type 0} (tells : Telling S) (g : Spelling N E) (p : PagerView N S E) (is : IsPager tells g p) (me : Owner) (l : LoadNumber) (x : N) (t1 t2 : Tables) (values : ValuesByNode N) (r : Ending) (k : HandleNumber)
     (wider : IsWider (core_in tells p) (core_in tells (record p { tables = t1 }))) (nodes : t1.holdings.nodes ≡ p.tables.holdings.nodes)
-    (ready : IsReady (core_in tells (record p { tables = t1 })) owners.Caller l (g.type_of x) (g.refs_of x) r)
-    (installs : Installs (core_in tells (record p { tables = t1 })) owners.Caller l r.row.node r.row.number k (g.refs_of x) (core_in tells (record p { tables = t2; values = values })))
+    (ready : IsReady (core_in tells (record p { tables = t1 })) me l (g.type_of x) (g.refs_of x) r)
+    (installs : Installs (core_in tells (record p { tables = t1 })) me l r.row.node r.row.number k (g.refs_of x) (core_in tells (record p { tables = t2; values = values })))
     (whole2 : IsWhole t2) (later2 : AreLater t2) (puts : PutsIn r.is_away r.row.node.0 x t1 p.values t2 values) where
   abbrev w : Core
   w = core_in tells p
@@ -101,13 +102,13 @@ module _ {N S E : Type 0} (tells : Telling S) (g : Spelling N E) (p : PagerView 
   abbrev w' : Core
   w' = core_in tells p'
 
-  may : MayEnd w owners.Caller l r.row.node r.row.number (g.type_of x) (g.refs_of x)
+  may : MayEnd w me l r.row.node r.row.number (g.type_of x) (g.refs_of x)
   may = may-wider wider ready.may
 
-  was : Installs w owners.Caller l r.row.node r.row.number k (g.refs_of x) w'
+  was : Installs w me l r.row.node r.row.number k (g.refs_of x) w'
   was = installs-wider wider installs
 
-  pub end-call : EndCall w owners.Caller l x (g.type_of x) (g.refs_of x) (Ok k) w'
+  pub end-call : EndCall w me l x (g.type_of x) (g.refs_of x) (Ok k) w'
   end-call = record { installs = (r.row.node, r.row.number, may, was); refused = tt }
 
   whole' : pager.IsWhole w'
@@ -167,31 +168,38 @@ module _ {N S E : Type 0} (tells : Telling S) (g : Spelling N E) (p : PagerView 
       by n y true e true some = comes n y e (n == r.row.node.0) refl some
       by n y false e true some = inl some
 
-pub caller-owns : {w : Core} {l : LoadNumber} {load : OpenLoad} → OwnsLoad w owners.Caller l load → load_fault w owners.Caller l ≡ None
-caller-owns o =
-    ap (if_there (λ (load : OpenLoad). refused_if (not (is_owner owners.Caller load.owner)) errors.NotYours) (Some errors.NoSuchHandle)) o.stands_open
-    ∙ ap (λ owner. refused_if (not (is_owner owners.Caller owner)) errors.NotYours) o.own
+own-self : (o : Owner) → is_owner o o ≡ true
+own-self owners.Caller = refl
+own-self (owners.Value n) = grind (arith, nat_tests)
+own-self owners.List = refl
+own-self (owners.Load l) = grind (arith, nat_tests)
+own-self (owners.Worker v) = grind (arith, nat_tests)
+
+pub owner-owns : {w : Core} {me : Owner} {l : LoadNumber} {load : OpenLoad} → OwnsLoad w me l load → load_fault w me l ≡ None
+owner-owns {me = me} o =
+    ap (if_there (λ (load : OpenLoad). refused_if (not (is_owner me load.owner)) errors.NotYours) (Some errors.NoSuchHandle)) o.stands_open
+    ∙ ap (λ owner. refused_if (not (is_owner me owner)) errors.NotYours) o.own ∙ ap (λ b. refused_if (not b) errors.NotYours) (own-self me)
 
 -- an own load is open
-pub owned-open : {w : Core} {l : LoadNumber} {load : OpenLoad} → OwnsLoad w owners.Caller l load → closed_fault w l ≡ None
+pub owned-open : {w : Core} {me : Owner} {l : LoadNumber} {load : OpenLoad} → OwnsLoad w me l load → closed_fault w l ≡ None
 owned-open o = ap (if_there (λ (load : OpenLoad). None) (Some errors.NoSuchHandle)) o.stands_open
 
 -- why a load doesn't end with a value whose references weren't had
-pub unread-gone : (w : Core) (l : LoadNumber) (t : ℕ) (refs : List ArcRef) → w.loads l.0 ≡ None → Refused (end_fault w owners.Caller l t refs) (closed_fault w l) (Unit {0}) w errors.NoSuchHandle w
-unread-gone w l t refs gone =
-    let is : load_fault w owners.Caller l ≡ Some errors.NoSuchHandle = ap (if_there (λ (load : OpenLoad). refused_if (not (is_owner owners.Caller load.owner)) errors.NotYours) (Some errors.NoSuchHandle)) gone in
-    record { why = inl (earlier-first (load_fault w owners.Caller l) _ errors.NoSuchHandle is (λ f late. omega (arith))); stays = still w }
+pub unread-gone : (w : Core) (me : Owner) (l : LoadNumber) (t : ℕ) (refs : List ArcRef) → w.loads l.0 ≡ None → Refused (end_fault w me l t refs) (closed_fault w l) (Unit {0}) w errors.NoSuchHandle w
+unread-gone w me l t refs gone =
+    let is : load_fault w me l ≡ Some errors.NoSuchHandle = ap (if_there (λ (load : OpenLoad). refused_if (not (is_owner me load.owner)) errors.NotYours) (Some errors.NoSuchHandle)) gone in
+    record { why = inl (earlier-first (load_fault w me l) _ errors.NoSuchHandle is (λ f late. omega (arith))); stays = still w }
 
 pub unread-open : (w : Core) (l : LoadNumber) (load : OpenLoad) (cause : Option Error) → w.loads l.0 ≡ Some load → Refused cause (closed_fault w l) (Unit {0}) w errors.OutOfMemory w
 unread-open w l load cause is = record { why = inr (refl, ap (if_there (λ (load : OpenLoad). None) (Some errors.NoSuchHandle)) is, tt); stays = still w }
 
 -- a load whose end is in vain is closed
-pub vain : {N : Type 0} {w v w' : Core} {l : LoadNumber} {t : ℕ} {refs : List ArcRef} {e : Error} (x : N) (r : Result (Unit {0}) Error) → IsVain w owners.Caller l t refs e × (v ≡ w) → DropCall v owners.Caller l r w'
-    → EndRefused w owners.Caller l x t refs e None w'
-vain {w = w} {v} {w'} {l} x r (is, same) drop =
-    let d : DropCall w owners.Caller l r w' = subst (λ u. DropCall u owners.Caller l r w') same drop in
+pub vain : {N : Type 0} {w v w' : Core} {me : Owner} {l : LoadNumber} {t : ℕ} {refs : List ArcRef} {e : Error} (x : N) (r : Result (Unit {0}) Error) → IsVain w me l t refs e × (v ≡ w) → DropCall v me l r w'
+    → EndRefused w me l x t refs e None w'
+vain {w = w} {v} {w'} {me} {l} x r (is, same) drop =
+    let d : DropCall w me l r w' = subst (λ u. DropCall u me l r w') same drop in
     elim d.does [
-      | inl refused ↦ absurd (let a = sym refused.why ∙ caller-owns is.may.owned in cc)
+      | inl refused ↦ absurd (let a = sym refused.why ∙ owner-owns is.may.owned in cc)
       | inr (load, own, falls) ↦ record { node = is.node; h = is.h; may = is.may; why = is.why; told = r; closes = falls }
     ]
 
@@ -229,11 +237,11 @@ module _ {N S E : Type 0} (tells : Telling S) (g : Spelling N E) (p : PagerView 
       }
 
 -- types and references as they are told
-pub unends-told : (w v : Core) (l : LoadNumber) (u : Unended) (t t' : ℕ) (refs refs' : List ArcRef) → t ≡ t' → refs ≡ refs' → Unends w owners.Caller l t refs u v → Unends w owners.Caller l t' refs' u v
-unends-told w v l u t t' refs refs' typed named is = subst (λ k. Unends w owners.Caller l k refs' u v) typed (subst (λ k. Unends w owners.Caller l t k u v) named is)
+pub unends-told : (w v : Core) (me : Owner) (l : LoadNumber) (u : Unended) (t t' : ℕ) (refs refs' : List ArcRef) → t ≡ t' → refs ≡ refs' → Unends w me l t refs u v → Unends w me l t' refs' u v
+unends-told w v me l u t t' refs refs' typed named is = subst (λ k. Unends w me l k refs' u v) typed (subst (λ k. Unends w me l t k u v) named is)
 
-pub ready-told : {w : Core} {l : LoadNumber} {t t' : ℕ} {refs refs' : List ArcRef} {r : Ending} → t ≡ t' → refs ≡ refs' → IsReady w owners.Caller l t refs r → IsReady w owners.Caller l t' refs' r
-ready-told {w} {l} {t} {t'} {refs} {refs'} {r} typed named is = subst (λ k. IsReady w owners.Caller l k refs' r) typed (subst (λ k. IsReady w owners.Caller l t k r) named is)
+pub ready-told : {w : Core} {me : Owner} {l : LoadNumber} {t t' : ℕ} {refs refs' : List ArcRef} {r : Ending} → t ≡ t' → refs ≡ refs' → IsReady w me l t refs r → IsReady w me l t' refs' r
+ready-told {w} {me} {l} {t} {t'} {refs} {refs'} {r} typed named is = subst (λ k. IsReady w me l k refs' r) typed (subst (λ k. IsReady w me l t k r) named is)
 
 -- the load doesn't end with the value
 module _ {N S E : Type 0} (tells : Telling S) (g : Spelling N E) (p : PagerView N S E) (is : IsPager tells g p) (t1 t2 : Tables) (values : ValuesByNode N) (nodes : t1.holdings.nodes ≡ p.tables.holdings.nodes)
@@ -241,9 +249,9 @@ module _ {N S E : Type 0} (tells : Telling S) (g : Spelling N E) (p : PagerView 
   gone : Sheds (counts_at p.tables.holdings.nodes) (get nat_eq p.values) (counts_at t2.holdings.nodes) (get nat_eq values)
   gone = subst (λ ns. Sheds (counts_at ns) (get nat_eq p.values) (counts_at t2.holdings.nodes) (get nat_eq values)) nodes sheds
 
-  pub refused-so : (l : LoadNumber) (x : N) (t : ℕ) (refs : List ArcRef) (e : Error) (back : Option N) → IsWhole t2 → AreLater t2
-      → EndCall (core_in tells p) owners.Caller l x t refs (Err (e, back)) (core_in tells (record p { tables = t2; values = values })) → IsPager tells g (record p { tables = t2; values = values })
-  refused-so l x t refs e back whole2 later2 call =
+  pub refused-so : (me : Owner) (l : LoadNumber) (x : N) (t : ℕ) (refs : List ArcRef) (e : Error) (back : Option N) → IsWhole t2 → AreLater t2
+      → EndCall (core_in tells p) me l x t refs (Err (e, back)) (core_in tells (record p { tables = t2; values = values })) → IsPager tells g (record p { tables = t2; values = values })
+  refused-so me l x t refs e back whole2 later2 call =
       shed tells g p is t2 values whole2 later2 gone (λ shut. end-refused-bare shut (is.state.whole.shut shut) e back call) (λ left. end_refused is.state left e back call)
 
   pub refused-moves : (comes : ℕ → N → Type 0) → Moves comes (state_in tells p) (state_in tells (record p { tables = t2; values = values }))

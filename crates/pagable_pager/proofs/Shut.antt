@@ -1,8 +1,6 @@
 -- Once the storage is closed nothing comes to the list or the cache.
-use Rattle.std.proofs.Common.{◌≡◌, ℕ, ◌<◌, Bool, true, false, if◌then◌else◌, Ok, Err, List, [], ◌∷◌, ◌++◌, refl, ap, sym, ◌∙◌, Some, None, inl, inr, arith}
+use Rattle.std.proofs.Common.{◌≡◌, ℕ, Bool, true, false, if◌then◌else◌, Ok, Err, List, [], ◌++◌, refl, ap, sym, ◌∙◌, Some, None, inl, inr}
 use Rattle.std.specs.Prelude.{Option, Result, map, filter, not}
-use Rattle.std.proofs.lemmas.Bool.Decides.{nat_tests}
-use Rattle.std.proofs.lemmas.List.Sums.{sum_by-cons}
 use Rattle.pagable_model.specs.declared.data_key.OptionalDataKey.TheVariants as optional
 use Rattle.pagable_model.specs.declared.numbers.ArcRef.{ArcRef}
 use Rattle.pagable_model.specs.declared.numbers.HandleNumber.{HandleNumber}
@@ -12,11 +10,12 @@ use Rattle.pagable_model.specs.declared.numbers.NodeNumber.{NodeNumber}
 use Rattle.pagable_world.specs.declared.handles.Owner.TheVariants as owners
 use Rattle.pagable_world.specs.declared.handles.HandleRow.{HandleRow}
 use Rattle.pagable_world.specs.declared.handles.Owner.{Owner}
-use Rattle.pagable_world.specs.Plain.{Error, one, type_of}
-use Rattle.pagable_world.specs.Kinds.{is_at, held, mode_of}
+use Rattle.pagable_world.specs.Plain.{Error, type_of}
+use Rattle.pagable_world.specs.Kinds.{mode_of}
 use Rattle.pagable_world.specs.World.{Core, Alike}
 use Rattle.pagable_world.specs.Cascade.{Falls}
 use Rattle.pagable_world.specs.Calls.{with_cached, with_cached_if_open, with_handle, with_node, next_node, ReleaseCall, UnpinCall, SetKeyCall, ScheduleCall, OfferCall}
+use Rattle.pagable_tables.proofs.Entries.{no-entries}
 use Rattle.pagable_world.specs.LoadCalls.{Adopts, first_key, LazyCall, DropCall, HandOverCall, EndCall, Installs}
 
 -- nothing is listed or known
@@ -29,10 +28,6 @@ none-known (Some n) h = let e = h n refl in absurd (cc)
 
 pub bare-alike : {w w' : Core} → Alike w w' → IsBare w → IsBare w'
 bare-alike {w} {w'} a b = (a.list ∙ b.0, λ kind key. none-known (w'.cache kind key) (λ n is. sym (b.1 kind key) ∙ a.cache.only kind key n is))
-
-no-entries : (es : List HandleRow) → ((n : ℕ) → 0 < held n es → ⊥) → es ≡ []
-no-entries [] none = refl
-no-entries (h ∷ hs) none = absurd (none h.node.0 (let a = sum_by-cons (λ x. one (is_at h.node.0 x)) h hs in grind (arith, nat_tests)))
 
 pub bare-fell : {before u w' : Core} {given : ℕ → Bool} {r : Result (Unit {0}) Error} → Falls before u given r w' → u.closed ≡ true → IsBare u → IsBare w'
 bare-fell {u = u} {w'} f closed b =

@@ -1,18 +1,60 @@
 -- A step by which no value comes or goes leaves the pager in step.
-use Rattle.std.proofs.Common.{refl}
+use Rattle.std.proofs.Common.{◌≡◌, true, false, refl, subst, sym}
+use Rattle.pagable_model.specs.declared.numbers.LoadNumber.{LoadNumber}
+use Rattle.pagable_world.specs.Kinds.{is_owner}
 use Rattle.pagable_world.specs.Pager as pager
+use Rattle.pagable_world.specs.Pager.{MayOwnLoad}
+use Rattle.pagable_world.specs.declared.handles.Owner.{Owner}
 use Rattle.pagable_world.specs.declared.handles.Owner.TheVariants as owners
 use Rattle.pagable_laws.proofs.Outlasting.{NotValues}
 use Rattle.pagable_steps.proofs.Spared.{Spares, spared}
 use Rattle.pagable_tables.specs.declared.tables.Tables.{Tables}
-use Rattle.pagable_tables.specs.Core.{IsWhole, ArePlaced}
+use Rattle.pagable_tables.specs.Core.{IsWhole, ArePlaced, MayHold, plain_of}
 use Rattle.pagable_tables.specs.Later.{AreLater}
+use Rattle.pagable_tables.specs.Falling.{is_valued}
+use Rattle.pagable_tables.proofs.keeps.Comes.{not-a-value, not-list}
+use Rattle.pagable_tables.proofs.keeps.LoadCalls.{may-hold}
 use Rattle.pagable_tables.proofs.keeps.Placed.{placed}
-use Rattle.pagable_pager.specs.View.{PagerView, Telling, Spelling, IsPager, core_in, state_in, values_of}
+use Rattle.pagable_tables.proofs.keeps.Told.{may-own}
+use Rattle.pagable_pager.proofs.AtWork.{may-begin}
+use Rattle.pagable_pager.specs.View.{PagerView, Telling, Spelling, IsPager, core_in, state_in, values_of, is_at_work}
 
 -- the caller is no value
 pub caller-free : NotValues owners.Caller
 caller-free n is = absurd (cc)
+
+-- nor is who is at work, and it may hold handles and begin loads
+module _ {N S E : Type 0} (tells : Telling S) (p q : PagerView N S E) (me : Owner) (same : p ≡ q) (works : is_at_work (core_in tells q) me ≡ true) where
+  pub owner-may : MayOwnLoad (core_in tells p) me
+  owner-may = may-begin (core_in tells p) me (subst (λ (v : PagerView N S E). is_at_work (core_in tells v) me ≡ true) (sym same) works)
+
+  pub owner-begins : MayOwnLoad (plain_of p.tables) me
+  owner-begins = may-own (core_in tells p) (plain_of p.tables) (λ v at. at) me owner-may
+
+  pub owner-held : MayHold (core_in tells p) me
+  owner-held = may-hold (core_in tells p) me owner-may
+
+  pub owner-holds : MayHold (plain_of p.tables) me
+  owner-holds = may-hold (plain_of p.tables) me owner-begins
+
+  pub owner-plain : is_valued me ≡ false
+  owner-plain = not-a-value (plain_of p.tables) me owner-holds
+
+  pub owner-unlisted : is_owner owners.List me ≡ false
+  owner-unlisted = not-list (plain_of p.tables) me owner-holds
+
+  pub owner-free : NotValues me
+  owner-free n is = subst (MayOwnLoad (core_in tells p)) is owner-may
+
+  pub owner-loads : (m : LoadNumber) → is_owner (owners.Load m) me ≡ false
+  owner-loads m = not-load me owner-may
+    where
+      not-load : (o : Owner) → MayOwnLoad (core_in tells p) o → is_owner (owners.Load m) o ≡ false
+      not-load owners.Caller may = refl
+      not-load (owners.Worker v) may = refl
+      not-load (owners.Value n) may = absurd may
+      not-load owners.List may = absurd may
+      not-load (owners.Load l) may = absurd may
 
 module _ {N S E : Type 0} (tells : Telling S) (g : Spelling N E) (p : PagerView N S E) (is : IsPager tells g p) where
   -- other tables

@@ -6,11 +6,13 @@ use Rattle.std.specs.declared.hash.FoldHasher.{FoldHasher}
 use Rattle.std.specs.declared.hash.BuildHasherDefault.{BuildHasherDefault}
 use Rattle.std.specs.HashMap.{HashMap, get}
 use Rattle.std.specs.Option.{option_map}
-use Rattle.std.specs.Prelude.{ℕ, ◌≡◌, Bool, List, Option, Some, nat_eq}
+use Rattle.std.specs.Prelude.{ℕ, ◌≡◌, Bool, true, false, List, Option, Some, nat_eq}
 use Rattle.either.specs.declared.Either.{Either}
 use Rattle.either.specs.declared.Either.TheVariants as eithers
 use Rattle.pagable_model.specs.declared.numbers.ArcRef.{ArcRef}
 use Rattle.pagable_model.specs.declared.numbers.HandleNumber.{HandleNumber}
+use Rattle.pagable_world.specs.declared.handles.Owner.{Owner}
+use Rattle.pagable_world.specs.declared.handles.Owner.TheVariants as owners
 use Rattle.pagable_world.specs.Plain.{Blob, Error, Meaning, Shape}
 use Rattle.pagable_world.specs.World.{Core, Values}
 use Rattle.pagable_world.specs.LoadCalls.{Given, from_cache, from_store}
@@ -117,3 +119,9 @@ pub record SameValues {N S E : Type 0} (old new : PagerView N S E) : Type 0 wher
 abbrev pub given_as : {B : Type 0} → (B → Blob) → Either HandleNumber B → Given
 given_as see (eithers.Left k) = from_cache k
 given_as see (eithers.Right blob) = from_store (see blob)
+
+-- whether the owner is the caller, or a worker at work
+abbrev pub is_at_work : Core → Owner → Bool
+is_at_work w owners.Caller = true
+is_at_work w (owners.Worker v) = w.workers v.0
+is_at_work w _ = false

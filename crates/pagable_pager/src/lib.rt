@@ -2,7 +2,9 @@
 #![tactic(auto)]
 
 pub mod cache;
+pub mod lent;
 pub mod pager;
 
 pub use cache::{ArcCell, DeserializedArcCache};
+pub use lent::Lent;
 pub use pager::Pager;

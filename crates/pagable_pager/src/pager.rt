@@ -1,9 +1,11 @@
 //! The pager: values in memory, in step with tables of who holds them, over a storage of blobs.
 
 ghost use Rattle.std.specs.Prelude.{◌≡◌};
+ghost use Rattle.std.specs.Arc.{arc_value};
 ghost use Rattle.std.specs.Option.{option_map};
 ghost use Rattle.pagable_world.specs.World.{seen_as};
 ghost use Rattle.pagable_world.specs.Pager.{IsNew, ValueCall, WellFormed};
+ghost use Rattle.pagable_loads.specs.Starting.{Shares};
 ghost use Rattle.pagable_pager.specs.View.{state_in, telling, spelling, values_of};
 
 pub mod adopts;
@@ -15,9 +17,12 @@ pub mod installs;
 pub mod known;
 pub mod lists;
 pub mod loads;
+pub mod opened;
+pub mod pins;
 pub mod places;
 pub mod releases;
 pub mod stores;
+pub mod workers;
 
 use indexmap::IndexMap;
 use pagable_codec::{Env, NodeSet};
@@ -78,16 +83,41 @@ where
         }
     }
 
-    /// The value of a handle's node, where the handle pins it, and else None. Refused with NoSuchHandle.
-    pub fn value(&self, handle: HandleNumber) -> Result<Option<&E::Node>, Error>
-        ensures { ValueCall (state_in (telling S.stored S.is_closed S.failed) self.now) handle (seen_as (option_map (λ x. x.now)) result) }
+    /// The value of a handle's node, where the handle pins it.
+    fn held(&self, handle: HandleNumber) -> Result<Option<&Arc<E::Node>>, Error>
+        ensures { ValueCall (state_in (telling S.stored S.is_closed S.failed) self.now) handle (seen_as (option_map (λ x. arc_value x.now)) result) }
     {
         let Some(node) = lookups::pinned_node(&self.tables, handle)? else {
             return Ok(None);
         };
         match self.values.get(&node.0) {
-            Some(value) => Ok(Some(value.as_ref())),
+            Some(value) => Ok(Some(value)),
             None => unreachable!(),
+        }
+    }
+
+    /// The value of a handle's node, where the handle pins it, and else None. Refused with NoSuchHandle.
+    pub fn value(&self, handle: HandleNumber) -> Result<Option<&E::Node>, Error>
+        ensures { ValueCall (state_in (telling S.stored S.is_closed S.failed) self.now) handle (seen_as (option_map (λ x. x.now)) result) }
+    {
+        match self.held(handle) {
+            Ok(Some(value)) => Ok(Some(value.as_ref())),
+            Ok(None) => Ok(None),
+            Err(e) => Err(e),
+        }
+    }
+
+    /// The same value, shared. Refused with NoSuchHandle, and with OutOfMemory where the value can't be shared once more.
+    pub fn share(&self, handle: HandleNumber) -> Result<Option<Arc<E::Node>>, Error>
+        ensures { Shares arc_value (state_in (telling S.stored S.is_closed S.failed) self.now) handle result }
+    {
+        match self.held(handle) {
+            Ok(Some(value)) => match value.clone() {
+                Ok(shared) => Ok(Some(shared)),
+                Err(_) => Err(Error::OutOfMemory),
+            },
+            Ok(None) => Ok(None),
+            Err(e) => Err(e),
         }
     }
 

@@ -17,7 +17,7 @@ use Rattle.pagable_model.specs.Reading.{Rest, Context, registered, read, read_wi
 use Rattle.pagable_model.specs.Form.{static-form}
 use Rattle.pagable_model.specs.Standing.{Is, Gave}
 use Rattle.pagable_model.specs.Writing.{Out, Nesting, WritesSome}
-use Rattle.pagable_model.specs.Statics.{HasEqual, NoEqualBelow, meanings_of}
+use Rattle.pagable_model.specs.Statics.{HasEqual, NoEqualBelow}
 use Rattle.pagable_codec.proofs.Writing.{writes_bytes}
 
 -- ---- the values of entries

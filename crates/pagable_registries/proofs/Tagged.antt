@@ -83,6 +83,12 @@ at_place view xs i x lt e = slice_get-map view xs i ∙ rw (slice_get_read xs (l
 some-same : {X : Type 0} {x y : X} → Some x ≡ Some y → x ≡ y
 some-same e = cc
 
+pub none_past : {R F : Type 0} (view : R → List ℕ × F) (tag : List ℕ) (xs : List R) (i : ℕ) → length xs ≤ i → NoneFrom tag (map view xs) i
+none_past view tag [] i le j r past stands = absurd (some-none (sym stands))
+none_past view tag (x ∷ xs) zero le j r past stands = absurd (omega (arith, le))
+none_past view tag (x ∷ xs) (suc i) le zero r past stands = absurd (omega (arith, past))
+none_past view tag (x ∷ xs) (suc i) le (suc j) r past stands = none_past view tag xs i (omega (arith, le)) j r (omega (arith, past)) stands
+
 pub none_from_less : {R F : Type 0} (view : R → List ℕ × F) (tag : List ℕ) (xs : List R) (i k : ℕ) (x : R) → k + 1 ≡ i → k < length xs → x ≡ get_or xs k x → bytes_eq tag (view x).0 ≡ false → NoneFrom tag (map view xs) i → NoneFrom tag (map view xs) k
 none_from_less {R} {F} view tag xs i k x s lt e differs from j r le stands = go (cases_lt k j)
   where

@@ -1,7 +1,6 @@
 -- Why static values may be keys, and why their forms are read again: each index of a registered value as that value, in which
 -- nothing is referred to.
 use Rattle.std.specs.Prelude.{◌≡◌, ℕ, List, [], ◌∷◌, Bool, IsTrue, refl}
-use Rattle.std.proofs.Common.{sym, ◌∙◌}
 use Rattle.std.specs.List.{AllByRecursion}
 use Rattle.pagable_model.specs.declared.numbers.ArcRef.{ArcRef}
 use Rattle.pagable_model.specs.Canonical.{HasNoReference, IsReadable, LiesIn}

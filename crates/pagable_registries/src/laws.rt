@@ -1,19 +1,23 @@
-//! What static and tagged values mean and how they are spelled, as laws that callers can cite: each is a function that does
+//! What static and tagged values and saved regular expressions mean and how they are spelled, as laws that callers can cite: each is a function that does
 //! nothing, whose contract holds for every environment and every value.
 
-ghost use Rattle.std.specs.Prelude.{◌≡◌, ◌↔◌, ℕ, Some, Ok};
+ghost use Rattle.std.specs.Prelude.{◌≡◌, ◌↔◌, ◌⊎◌, ℕ, List, Some, Ok};
 ghost use Rattle.std.specs.List.{slice_get};
-ghost use Rattle.pagable_model.specs.Gives.{never, memory_or};
+ghost use Rattle.pagable_model.specs.Gives.{never, memory, memory_or, long_or};
 ghost use Rattle.pagable_model.specs.Meaning.{Meaning, lifted};
+ghost use Rattle.pagable_model.specs.Meaning as meanings;
 ghost use Rattle.pagable_model.specs.Reading.{registered};
 ghost use Rattle.pagable_model.specs.Shape.{static_value};
+ghost use Rattle.pagable_model.specs.Shape as shapes;
 ghost use Rattle.pagable_model.specs.Standing.{SomeMeaning};
 ghost use Rattle.pagable_model.specs.Statics.{meanings_of, unregistered};
 ghost use Rattle.pagable_model.specs.Tagged.{MeansTagged};
 ghost use Rattle.pagable_model.specs.declared.error.Error.{Error as Refusal};
+ghost use Rattle.pagable_model.specs.declared.error.Error.TheVariants as refusals;
 ghost use Rattle.pagable_model.specs.declared.numbers.ArcRef.{ArcRef as Reference};
 ghost use Rattle.pagable_registries.specs.declared.static_value.StaticValue.{StaticValue as Static};
 
+use crate::saved_regex::SavedRegex;
 use crate::static_value::{HasStaticValueRegistry, StaticValue};
 use crate::typetag::PagableTagged;
 use pagable_codec::Env;
@@ -36,4 +40,13 @@ pub fn static_values_are_read_again<E: Env, T: HasStaticValueRegistry<E>>()
 /// A tagged value means its tag with something that its body means: what its type owes as the law `has_meaning` of `Carried`.
 pub fn tagged_has_meaning<E: Env, T: PagableTagged<E>>()
     ensures { (x : T) → SomeMeaning (MeansTagged (T.tag x) (T.body_means x)) }
+{}
+
+/// A regular expression is spelled as a pattern and means its text. Writing is refused as too long or by want of memory;
+/// reading may want memory, or the text is refused.
+pub fn saved_regex_is_carried<E: Env>()
+    ensures shape { (e : E) → ⟦<SavedRegex as Carried<E>>⟧.shape e ≡ shapes.pattern }
+    ensures means { (t : List ℕ) (m : Meaning Reference) → ⟦<SavedRegex as Carried<E>>⟧.means t m ↔ (m ≡ meanings.pattern t) }
+    ensures writes { (e : Refusal) → ⟦<SavedRegex as PagableSerialize<E>>⟧.write_causes e ↔ long_or memory e }
+    ensures reads { (e : Refusal) → ⟦<SavedRegex as PagableDeserialize<'static, E>>⟧.read_causes e ↔ ((e ≡ refusals.OutOfMemory) ⊎ (e ≡ refusals.RegexRefused)) }
 {}

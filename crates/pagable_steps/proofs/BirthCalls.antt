@@ -1,21 +1,9 @@
 -- Calls by which a node comes.
-use Rattle.std.proofs.Common.{◌≡◌, ℕ, ◌==◌, ◌%◌, Bool, true, false, List, [], Some, None, Ok, Err, inl, inr, refl, sym, ◌∙◌, if◌then◌else◌, arith}
-use Rattle.std.specs.Prelude.{Result}
-use Rattle.std.proofs.lemmas.Bool.Decides.{nat_tests}
-use Rattle.pagable_model.specs.declared.data_key.OptionalDataKey.TheVariants as optional
-use Rattle.pagable_world.specs.declared.handles.Owner.{Owner}
-use Rattle.pagable_world.specs.declared.handles.Owner.TheVariants as owners
-use Rattle.pagable_world.specs.declared.rows.Mode.{Mode}
-use Rattle.pagable_world.specs.declared.rows.Mode.TheVariants as modes
-use Rattle.pagable_world.specs.Plain.{Error, OptionalDataKey, ArcRef, Kind, HandleNumber, LoadNumber, type_of, is_shared_kind, is_loose_kind}
-use Rattle.pagable_world.specs.Kinds.{is_pinning, mode_of, pins}
-use Rattle.pagable_world.specs.World.{Core, Alike, Values, usable}
-use Rattle.pagable_world.specs.Refusals.{references_fault}
-use Rattle.pagable_world.specs.Calls.{with_handle, with_node, next_node, with_cached, BirthCall, AwayBirthCall}
-use Rattle.pagable_world.specs.LoadCalls.{adopted, Adopts, AdoptCall, LazyCall}
-use Rattle.pagable_world.specs.Pager.{PagerState, IsWhole, WellFormed}
-use Rattle.pagable_laws.proofs.Outlasting.{NotValues}
-use Rattle.pagable_steps.proofs.Spared.{Spares, spared}
+use Rattle.pagable_steps.proofs.Words.{◌≡◌, ℕ, ◌==◌, ◌%◌, Bool, true, false, List, [], Some, None, Ok, Err, inl, inr, refl, sym, ◌∙◌, if◌then◌else◌, arith, Result, nat_tests, OptionalDataKey}
+use Rattle.pagable_steps.proofs.Words.{Owner, Mode, Error, ArcRef, Kind, HandleNumber, LoadNumber, type_of, is_shared_kind, is_loose_kind, is_pinning, mode_of, pins, Core, Alike, Values, usable}
+use Rattle.pagable_steps.proofs.Words.{references_fault, with_handle, with_node, next_node, with_cached, BirthCall, AwayBirthCall, adopted, Adopts, LazyCall, PagerState, IsWhole}
+use Rattle.pagable_steps.proofs.Words.{WellFormed, NotValues}
+use Rattle.pagable_steps.proofs.Spared.{spared}
 use Rattle.pagable_steps.proofs.SparedParts.{spares-alike}
 use Rattle.pagable_steps.proofs.SparedLoads.{not-load, gets-known}
 use Rattle.pagable_steps.proofs.Coming.{Comes}
@@ -28,11 +16,11 @@ unfolding references_fault
 none-named w owner = refl
 
 comes-adopted : {w w' : Core} (l : LoadNumber) (kind : Kind) (key : ℕ) (own : OptionalDataKey) (references : List ArcRef)
-    → references_fault w (owners.Load l) [] references ≡ None → Alike (adopted w l kind key own references) w' → Comes w w' (owners.Load l) (type_of kind.0) own references (mode_of kind.0)
+    → references_fault w (Owner.Load l) [] references ≡ None → Alike (adopted w l kind key own references) w' → Comes w w' (Owner.Load l) (type_of kind.0) own references (mode_of kind.0)
 comes-adopted {w} l kind key own references good a = record { good = good; rows = a.rows ∙ (same w.closed).0; cells = λ n. a.cells n ∙ (same w.closed).1 n }
   where
     made : Core
-    made = with_handle (with_node w (type_of kind.0) own references) (next_node w) (mode_of kind.0) (owners.Load l)
+    made = with_handle (with_node w (type_of kind.0) own references) (next_node w) (mode_of kind.0) (Owner.Load l)
 
     same : (b : Bool) → let known = if b then made else with_cached made kind key (next_node w) in (known.rows ≡ made.rows) × ((n : ℕ) → known.cells n ≡ made.cells n)
     same true = (refl, λ n. refl)
@@ -46,20 +34,13 @@ mode-pins kind b loose = at (is_shared_kind kind) refl b loose
     either-one a b = absurd (grind (arith, nat_tests))
 
     at : (a : Bool) → is_shared_kind kind ≡ a → (b : Bool) → is_loose_kind kind ≡ b
-        → is_pinning (if a then modes.Shared else if is_loose_kind kind then modes.LooseUnpinned else modes.Pinned) ≡ (if b then false else true)
+        → is_pinning (if a then Mode.Shared else if is_loose_kind kind then Mode.LooseUnpinned else Mode.Pinned) ≡ (if b then false else true)
     at true e true f = absurd (either-one e f)
     at true e false f = refl
     at false e true f = rw f refl
     at false e false f = rw f refl
 
 -- ---- the calls
-
-pub refuses-birth : {N : Type 0} {w w' : Core} {me : Owner} {x : N} {t : ℕ} {references : List ArcRef} {mode : Mode} {e : Error × N} → BirthCall w me x t references mode (Err e) w' → Spares w w'
-refuses-birth c = spares-alike c.refused.1.stays
-
-pub refuses-adopting : {N : Type 0} {w w' : Core} {me : Owner} {l : LoadNumber} {kind : Kind} {key : ℕ} {x : N} {t : ℕ} {references : List ArcRef} {e : Error × N}
-    → AdoptCall w me l kind key x t references (Err e) w' → Spares w w'
-refuses-adopting c = spares-alike c.refused.1.stays
 
 module _ {N E : Type 0} {v : Values N} {s s' : PagerState N E} (is : WellFormed v s) where
   pub born : {me : Owner} {x : N} {mode : Mode} {k : HandleNumber} → NotValues me → is_pinning mode ≡ true → BirthCall s.core me x (v.node_type x) (v.references x) mode (Ok k) s'.core
@@ -86,6 +67,7 @@ module _ {N E : Type 0} {v : Values N} {s s' : PagerState N E} (is : WellFormed 
   lazily {l = l} {kind} {key} (Ok k) c values counted whole = elim c.makes.3 [
     | inl g ↦ spared v s s' is (gets-known is.whole g) values counted whole
     | inr (none, few, next, a) ↦
-        comes-away s' is (not-load l) (comes-adopted l kind key (optional.Some key) [] (none-named s.core (owners.Load l)) a) key refl refl (mode-pins kind.0 true c.makes.2) values counted whole
+        comes-away s' is (not-load l) (comes-adopted l kind key (OptionalDataKey.Some key) [] (none-named s.core (Owner.Load l)) a) key refl refl
+        (mode-pins kind.0 true c.makes.2) values counted whole
   ]
   lazily (Err e) c values counted whole = spared v s s' is (spares-alike c.refused.stays) values counted whole

@@ -1,19 +1,8 @@
 -- A node that comes, with its value or without one, leaves a pager in step.
-use Rattle.std.proofs.Common.{◌≡◌, ℕ, ◌+◌, ◌<◌, ◌≤◌, ◌==◌, ◌&&◌, Bool, true, false, List, [], Option, Some, None, refl, ap, sym, subst, ◌∙◌, if◌then◌else◌, arith}
-use Rattle.std.specs.Prelude.{nat_lt, is_some}
-use Rattle.std.proofs.lemmas.Bool.Decides.{nat_tests}
-use Rattle.pagable_model.specs.declared.data_key.OptionalDataKey.TheVariants as optional
-use Rattle.pagable_world.specs.declared.handles.Owner.{Owner}
-use Rattle.pagable_world.specs.declared.rows.Mode.{Mode}
-use Rattle.pagable_world.specs.Plain.{OptionalDataKey, ArcRef, Among, one, times, if_there}
-use Rattle.pagable_world.specs.Kinds.{is_owned_by, is_pinning, is_pin, is_at, owner_value, pins, is_in_memory}
-use Rattle.pagable_world.specs.World.{Core, Cell, Values, key_at, is_here, type_at}
-use Rattle.pagable_world.specs.Refusals.{IsReference}
-use Rattle.pagable_world.specs.Calls.{is_named_by}
-use Rattle.pagable_world.specs.Pager.{PagerState, IsWhole, WellFormed}
-use Rattle.pagable_laws.proofs.Sums.{self-number, same-number, sum-le}
-use Rattle.pagable_laws.proofs.Trees.{same_some}
-use Rattle.pagable_laws.proofs.Outlasting.{NotValues, not-owned}
+use Rattle.pagable_steps.proofs.Words.{◌≡◌, ℕ, ◌+◌, ◌<◌, ◌≤◌, ◌==◌, ◌&&◌, Bool, true, false, List, [], Option, Some, None, refl, ap, sym, subst, ◌∙◌, if◌then◌else◌, arith, nat_lt, is_some}
+use Rattle.pagable_steps.proofs.Words.{nat_tests, OptionalDataKey, Owner, Mode, ArcRef, Among, one, times, if_there, is_owned_by, is_pinning, is_pin, is_at, owner_value, pins, is_in_memory, Core}
+use Rattle.pagable_steps.proofs.Words.{Cell, Values, key_at, is_here, type_at, IsReference, is_named_by, PagerState, IsWhole, WellFormed, self-number, same-number, sum-le, same_some, NotValues}
+use Rattle.pagable_steps.proofs.Words.{not-owned}
 use Rattle.pagable_steps.proofs.Spared.{owns, owns_any}
 use Rattle.pagable_steps.proofs.SparedParts.{and-false}
 use Rattle.pagable_steps.proofs.SparedHandles.{pinned-here}
@@ -103,7 +92,7 @@ module _ {N E : Type 0} {v : Values N} {s : PagerState N E} (s' : PagerState N E
     pub comes-with : ((n : ℕ) → s'.counts n ≡ pins n s'.core.rows) → IsWhole s'.core → WellFormed v s'
     comes-with = by-each (by-node (λ n. IsInStep v s' n) new-with (λ n other. as-before n other (values n ∙ ap (λ b. if b then Some x else s.values n) other)))
 
-  module _ (key : ℕ) (keyed : own ≡ optional.Some key) (nothing : references ≡ []) (unpinned : is_pinning mode ≡ false) (values : (n : ℕ) → s'.values n ≡ s.values n) where
+  module _ (key : ℕ) (keyed : own ≡ OptionalDataKey.Some key) (nothing : references ≡ []) (unpinned : is_pinning mode ≡ false) (values : (n : ℕ) → s'.values n ≡ s.values n) where
     still-none : s'.values (next_of s.core) ≡ None
     still-none = values (next_of s.core) ∙ no-value
 
@@ -123,7 +112,7 @@ module _ {N E : Type 0} {v : Values N} {s : PagerState N E} (s' : PagerState N E
     away-new : is_here s'.core (next_of s.core) ≡ false
     away-new =
         ap (λ p. is_in_memory p (key_at s'.core (next_of s.core))) none
-        ∙ (ap (λ o. is_in_memory 0 (if_there (λ (cell : Cell). cell.key) optional.None o)) (new-cell is.whole free c) ∙ ap (is_in_memory 0) keyed)
+        ∙ (ap (λ o. is_in_memory 0 (if_there (λ (cell : Cell). cell.key) OptionalDataKey.None o)) (new-cell is.whole free c) ∙ ap (is_in_memory 0) keyed)
       where
         its : Bool
         its = next_of s.core == next_of s.core

@@ -1,19 +1,7 @@
 -- What the new node owns.
-use Rattle.std.proofs.Common.{◌≡◌, ℕ, ◌+◌, ◌≤◌, ◌==◌, ◌&&◌, Bool, true, false, List, [], refl, ap, sym, ◌∙◌, if◌then◌else◌, arith}
-use Rattle.pagable_world.specs.declared.handles.HandleRow.{HandleRow}
-use Rattle.pagable_world.specs.declared.handles.Owner.{Owner}
-use Rattle.pagable_world.specs.declared.rows.Mode.{Mode}
-use Rattle.pagable_world.specs.Plain.{OptionalDataKey, ArcRef, Among, one, times}
-use Rattle.pagable_world.specs.Kinds.{find_row, is_handle, is_owned_by, owner_value}
-use Rattle.pagable_world.specs.World.{Core}
-use Rattle.pagable_world.specs.Refusals.{IsReference}
-use Rattle.pagable_world.specs.Calls.{is_named_by}
-use Rattle.pagable_world.specs.Pager.{IsWhole}
-use Rattle.pagable_laws.proofs.Sums.{self-number, same-number, at-most-sum, sum-zero}
-use Rattle.pagable_laws.proofs.Goes.{found-number}
-use Rattle.pagable_laws.proofs.GoodReferences.{good}
-use Rattle.pagable_laws.proofs.Sparing.{named-among}
-use Rattle.pagable_laws.proofs.Outlasting.{NotValues}
+use Rattle.pagable_steps.proofs.Words.{◌≡◌, ℕ, ◌+◌, ◌≤◌, ◌==◌, ◌&&◌, Bool, true, false, List, [], refl, ap, sym, ◌∙◌, if◌then◌else◌, arith, HandleRow, Owner, Mode, OptionalDataKey, ArcRef, Among}
+use Rattle.pagable_steps.proofs.Words.{one, times, find_row, is_handle, is_owned_by, owner_value, Core, IsReference, is_named_by, IsWhole, self-number, same-number, at-most-sum, sum-zero}
+use Rattle.pagable_steps.proofs.Words.{found-number, good, named-among, NotValues}
 use Rattle.pagable_steps.proofs.Spared.{owns, owns_any}
 use Rattle.pagable_steps.proofs.SparedParts.{and-false}
 use Rattle.pagable_steps.proofs.Naming.{one-row, among-named, named-once}

@@ -1,22 +1,9 @@
 -- A node comes with a handle, and the handles that its value names move to it: what stays of other nodes.
-use Rattle.std.proofs.Common.{◌≡◌, ℕ, ◌+◌, ◌≤◌, ◌==◌, ◌&&◌, Bool, true, false, List, [], ◌∷◌, sum_by, refl, ap, sym, subst, ◌∙◌, if◌then◌else◌, arith}
-use Rattle.std.specs.Prelude.{Option, Some, None, is_some}
-use Rattle.std.proofs.lemmas.Bool.Decides.{nat_tests}
-use Rattle.std.proofs.lemmas.List.Sums.{sum_by_push}
-use Rattle.pagable_model.specs.declared.data_key.OptionalDataKey.TheVariants as optional
-use Rattle.pagable_world.specs.declared.handles.HandleRow.{HandleRow}
-use Rattle.pagable_world.specs.declared.handles.Owner.{Owner}
-use Rattle.pagable_world.specs.declared.rows.Mode.{Mode}
-use Rattle.pagable_world.specs.Plain.{OptionalDataKey, ArcRef, SameAt, Among, one, times, if_there, or_else}
-use Rattle.pagable_world.specs.Kinds.{find_row, is_handle, is_owned_by, owner_value, is_pin, is_pinning, pins, is_in_memory}
-use Rattle.pagable_world.specs.World.{Core, Cell, type_at, key_at, is_here}
-use Rattle.pagable_world.specs.Refusals.{references_fault, IsReference}
-use Rattle.pagable_world.specs.Calls.{row_of, moved, is_named_by, with_node, next_node, with_handle}
-use Rattle.pagable_world.specs.Pager.{IsWhole}
-use Rattle.pagable_laws.proofs.Sums.{self-number, same-number}
-use Rattle.pagable_laws.proofs.GoodReferences.{good}
-use Rattle.pagable_laws.proofs.Sparing.{named-among}
-use Rattle.pagable_laws.proofs.Outlasting.{NotValues, not-owned, find-both, found-after, among-found, stands-whole}
+use Rattle.pagable_steps.proofs.Words.{◌≡◌, ℕ, ◌+◌, ◌≤◌, ◌==◌, ◌&&◌, Bool, true, false, List, [], ◌∷◌, sum_by, refl, ap, sym, subst, ◌∙◌, if◌then◌else◌, arith, Option, Some, None, is_some}
+use Rattle.pagable_steps.proofs.Words.{nat_tests, sum_by_push, OptionalDataKey, HandleRow, Owner, Mode, ArcRef, SameAt, Among, one, times, if_there, or_else, find_row, is_handle, is_owned_by}
+use Rattle.pagable_steps.proofs.Words.{owner_value, is_pin, is_pinning, pins, is_in_memory, Core, Cell, type_at, key_at, is_here, references_fault, IsReference, row_of, moved, is_named_by}
+use Rattle.pagable_steps.proofs.Words.{with_node, next_node, with_handle, IsWhole, self-number, same-number, good, named-among, NotValues, not-owned, find-both, found-after, among-found}
+use Rattle.pagable_steps.proofs.Words.{stands-whole}
 use Rattle.pagable_steps.proofs.Spared.{owns, owns_any}
 use Rattle.pagable_steps.proofs.SparedParts.{push-none, sum-mapped, and-false}
 
@@ -82,7 +69,7 @@ module _ {w w' : Core} {me : Owner} {t : ℕ} {own : OptionalDataKey} {reference
   pub other-here : (n : ℕ) → (n == next) ≡ false → is_here w' n ≡ is_here w n
   other-here n is =
       ap (λ p. is_in_memory p (key_at w' n)) (pins-now n ∙ (ap (λ b. pins n w.rows + one (b && is_pinning mode)) (turned-round n is) ∙ plus-none (pins n w.rows)))
-      ∙ ap (λ o. is_in_memory (pins n w.rows) (if_there (λ (cell : Cell). cell.key) optional.None o)) (other-cell n is)
+      ∙ ap (λ o. is_in_memory (pins n w.rows) (if_there (λ (cell : Cell). cell.key) OptionalDataKey.None o)) (other-cell n is)
     where
       plus-none : (p : ℕ) → p + 0 ≡ p
       plus-none p = omega arith

@@ -1,22 +1,8 @@
 -- Values go with a cascade: where they stand in the world that a call has made directly, those that are left stand afterwards.
-use Rattle.std.proofs.Common.{◌≡◌, ℕ, ◌<◌, ◌≤◌, ◌==◌, ◌&&◌, Bool, true, false, ◌++◌, refl, ap, sym, subst, ◌∙◌, if◌then◌else◌, arith}
-use Rattle.std.specs.Prelude.{Option, Some, None, is_some, not, nat_lt}
-use Rattle.std.proofs.lemmas.Bool.{and_parts}
-use Rattle.std.proofs.lemmas.Bool.Decides.{nat_tests}
-use Rattle.pagable_model.specs.declared.numbers.ArcRef.{ArcRef}
-use Rattle.pagable_world.specs.declared.handles.HandleRow.{HandleRow}
-use Rattle.pagable_world.specs.declared.handles.Owner.TheVariants as owners
-use Rattle.pagable_world.specs.Plain.{NodeNumber, Among, one, times, if_there, or_else}
-use Rattle.pagable_world.specs.Kinds.{find_row, is_handle, is_owner, is_owned_by, owner_value, held, pins}
-use Rattle.pagable_world.specs.World.{Core, Cell, Values, type_at, is_here}
-use Rattle.pagable_world.specs.Cascade.{is_outside, owned_outside, loses_value, is_keyed, left_rows, Falls}
-use Rattle.pagable_world.specs.Refusals.{IsReference}
-use Rattle.pagable_world.specs.Pager.{PagerState, IsWhole, WellFormed}
-use Rattle.pagable_laws.proofs.Sums.{self-number, sum-le, counted}
-use Rattle.pagable_laws.proofs.Goes.{found-number}
-use Rattle.pagable_laws.proofs.Outlasting.{found-kept, find-both}
-use Rattle.pagable_laws.proofs.Taking.{found-among, row-held}
-use Rattle.pagable_laws.proofs.GoodReferences.{fell-away}
+use Rattle.pagable_steps.proofs.Words.{◌≡◌, ℕ, ◌<◌, ◌≤◌, ◌==◌, ◌&&◌, Bool, true, false, ◌++◌, refl, ap, sym, subst, ◌∙◌, if◌then◌else◌, arith, Option, Some, None, is_some, not, nat_lt, and_parts, among-found}
+use Rattle.pagable_steps.proofs.Words.{nat_tests, ArcRef, HandleRow, Owner, NodeNumber, Among, one, times, if_there, or_else, find_row, is_handle, is_owner, is_owned_by, owner_value, held, pins}
+use Rattle.pagable_steps.proofs.Words.{Core, Cell, Values, type_at, is_here, is_outside, owned_outside, loses_value, is_keyed, left_rows, Falls, IsReference, PagerState, IsWhole, WellFormed}
+use Rattle.pagable_steps.proofs.Words.{self-number, sum-le, counted, found-number, found-kept, find-both, row-held, fell-away}
 use Rattle.pagable_steps.proofs.Spared.{owns, owns_any}
 use Rattle.pagable_steps.proofs.SparedParts.{and-false}
 use Rattle.pagable_steps.proofs.Staying.{owned-some, keeps, sum-same, counts-left, loses}
@@ -96,7 +82,7 @@ module _ {N E : Type 0} {v : Values N} {w : Core} {values : ℕ → Option N} (s
       let none : loses_value w.rows (is_keyed w) f.entries f.gone n ≡ false = loses f n cell.0 cell.1 ∙ ap not s.in_memory in
       keeps w.rows (is_keyed w) f.entries given f.gone f.set free sits.single n none q some
 
-  entry-unowned : (n : ℕ) (h : HandleRow) → h.owner ≡ owners.List → is_owned_by (owner_value n) h ≡ false
+  entry-unowned : (n : ℕ) (h : HandleRow) → h.owner ≡ Owner.List → is_owned_by (owner_value n) h ≡ false
   entry-unowned n h owner = ap (is_owner (owner_value n)) owner
 
   inside-still : (n : ℕ) (x : N) (q : ℕ) → s'.values n ≡ Some x → times (λ (r : ArcRef). r.handle.0 == q) (v.references x) ≡ owns n q s'.core.rows
@@ -138,7 +124,7 @@ module _ {N E : Type 0} {v : Values N} {w : Core} {values : ℕ → Option N} (s
       let is = sits.references n x r s.had among in
       let number = found-number r.handle.0 w.rows is.row is.live in
       let own : is_owned_by (owner_value n) is.row ≡ true = ap (is_owner (owner_value n)) is.owned ∙ self-number n in
-      let some = subst (λ q. 0 < owns n q w.rows) number (owned-some n w.rows is.row (found-among r.handle.0 w.rows is.row is.live) own) in
+      let some = subst (λ q. 0 < owns n q w.rows) number (owned-some n w.rows is.row (among-found r.handle.0 w.rows is.row is.live) own) in
       let kept = found-kept f.gone r.handle.0 w.rows is.row (left n x r.handle.0 s some) is.live in
       let live : find_row r.handle.0 s'.core.rows ≡ Some is.row =
       ap (find_row r.handle.0) f.leaves.rows ∙ (find-both r.handle.0 (left_rows f.gone w.rows) f.entries ∙ ap (λ o. or_else o (find_row r.handle.0 f.entries)) kept) in

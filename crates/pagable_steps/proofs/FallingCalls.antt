@@ -1,56 +1,37 @@
 -- Calls by which handles go, and values with them, leave a pager in step.
-use Rattle.std.proofs.Common.{◌≡◌, ℕ, ◌<◌, ◌==◌, ◌&&◌, ◌||◌, Bool, true, false, List, [], ◌∷◌, Option, Some, None, Ok, Err, inl, inr, refl, ap, sym, ◌∙◌, arith}
-use Rattle.std.specs.Prelude.{Result, not}
-use Rattle.std.proofs.lemmas.Bool.{and_parts}
-use Rattle.std.proofs.lemmas.Bool.Decides.{nat_tests}
-use Rattle.pagable_model.specs.declared.error.Error.TheVariants as errors
-use Rattle.pagable_world.specs.declared.handles.HandleRow.{HandleRow}
-use Rattle.pagable_world.specs.declared.handles.Owner.TheVariants as owners
-use Rattle.pagable_world.specs.declared.handles.Owner.{Owner}
-use Rattle.pagable_world.specs.Plain.{Error, ArcRef, Kind, HandleNumber, LoadNumber, NodeNumber, Among, is_in, one, times, if_there}
-use Rattle.pagable_world.specs.Kinds.{find_row, is_owner, is_owned_by, owner_worker, is_at, pins}
-use Rattle.pagable_world.specs.World.{Core, Values, Alike, row_at, usable}
-use Rattle.pagable_world.specs.Cascade.{FallsAnyhow}
-use Rattle.pagable_world.specs.Refusals.{refused_if, named_fault}
-use Rattle.pagable_world.specs.Calls.{is_named_by, is_listed, UnpinCall, ReleaseCall, SetKeyCall, ScheduleCall, OfferCall, CloseCall}
-use Rattle.pagable_world.specs.LoadCalls.{is_owned_in, numbers_of, Adopts, EndCall, HandOverCall, DropCall, LoadCloses}
-use Rattle.pagable_world.specs.Workers.{is_workers_at, is_load_of, WorkerEnds}
-use Rattle.pagable_world.specs.Pager.{PagerState, IsWhole, WellFormed}
-use Rattle.pagable_laws.specs.TreeSteps.{AreGood}
-use Rattle.pagable_laws.proofs.Sums.{same-number, one-true, counted}
-use Rattle.pagable_laws.proofs.GoodReferences.{same-owner, good}
-use Rattle.pagable_laws.proofs.Outlasting.{NotValues, stands-whole}
-use Rattle.pagable_laws.proofs.Sparing.{named-among}
-use Rattle.pagable_laws.proofs.ReadingStepsHanding.{neither}
+use Rattle.pagable_steps.proofs.Words.{◌≡◌, ℕ, ◌<◌, ◌==◌, ◌&&◌, ◌||◌, Bool, true, false, List, [], ◌∷◌, Option, Some, None, Ok, Err, inl, inr, refl, ap, sym, ◌∙◌, arith, Result, not, and_parts}
+use Rattle.pagable_steps.proofs.Words.{nat_tests, Error, HandleRow, Owner, ArcRef, Kind, HandleNumber, LoadNumber, NodeNumber, Among, is_in, one, times, if_there, find_row, is_owner, is_owned_by}
+use Rattle.pagable_steps.proofs.Words.{owner_worker, is_at, Core, Values, Alike, row_at, usable, FallsAnyhow, refused_if, named_fault, is_named_by, is_listed, UnpinCall, ReleaseCall}
+use Rattle.pagable_steps.proofs.Words.{SetKeyCall, ScheduleCall, OfferCall, CloseCall, is_owned_in, numbers_of, Adopts, EndCall, HandOverCall, DropCall, LoadCloses, is_workers_at, is_load_of}
+use Rattle.pagable_steps.proofs.Words.{WorkerEnds, PagerState, IsWhole, WellFormed, AreGood, same-number, one-true, counted, same-owner, good, NotValues, stands-whole, named-among, neither}
 use Rattle.pagable_steps.proofs.Spared.{Spares}
 use Rattle.pagable_steps.proofs.SparedParts.{spares-then, spares-same, spares-alike, spares-moved}
 use Rattle.pagable_steps.proofs.SparedLists.{own-free, listed-free, schedules, offers, spares-known}
 use Rattle.pagable_steps.proofs.SparedLoads.{not-load}
-use Rattle.pagable_steps.proofs.Falling.{Sweeps}
 use Rattle.pagable_steps.proofs.Keeping.{AreFree, Leaves, found-whole, fell, stayed, spares-keeps, unpin-keeps, keyed-keeps}
 
 -- ---- what no value owns
 
 module _ {w : Core} (whole : IsWhole w) where
-  not-loads : (l : LoadNumber) (o : Owner) → o ≡ owners.Load l → NotValues o
+  not-loads : (l : LoadNumber) (o : Owner) → o ≡ Owner.Load l → NotValues o
   not-loads l o is n own = not-load l n (sym is ∙ own)
 
   -- handles whose rows pass a test that no value's passes
-  by-row : (test : HandleRow → Bool) → ((h : HandleRow) (n : NodeNumber) → h.owner ≡ owners.Value n → test h ≡ false) → AreFree w (λ q. if_there test false (find_row q w.rows))
+  by-row : (test : HandleRow → Bool) → ((h : HandleRow) (n : NodeNumber) → h.owner ≡ Owner.Value n → test h ≡ false) → AreFree w (λ q. if_there test false (find_row q w.rows))
   by-row test none h among is n own =
       let f : true ≡ false = sym is ∙ (ap (if_there test false) (found-whole whole.handles h among) ∙ none h n own) in
       absurd (cc)
 
   -- what a load owns
-  pub load-free : (l : LoadNumber) → AreFree w (is_owned_in w (owners.Load l))
-  load-free l = by-row (is_owned_by (owners.Load l)) (λ h n own. ap (is_owner (owners.Load l)) own)
+  pub load-free : (l : LoadNumber) → AreFree w (is_owned_in w (Owner.Load l))
+  load-free l = by-row (is_owned_by (Owner.Load l)) (λ h n own. ap (is_owner (Owner.Load l)) own)
 
   -- what else is asked of it
   both-free : (f g : ℕ → Bool) → AreFree w f → AreFree w (λ q. f q && g q)
   both-free f g free h among is = free h among (and_parts (f h.number.0) (g h.number.0) is).0
 
   -- what good references name
-  pub named-owner : (l : LoadNumber) (rs : List ArcRef) → AreGood w (owners.Load l) rs → (h : HandleRow) → Among w.rows h → is_named_by rs h.number.0 ≡ true → h.owner ≡ owners.Load l
+  pub named-owner : (l : LoadNumber) (rs : List ArcRef) → AreGood w (Owner.Load l) rs → (h : HandleRow) → Among w.rows h → is_named_by rs h.number.0 ≡ true → h.owner ≡ Owner.Load l
   named-owner l rs right h among is =
       let a = named-among 0 rs h.number.0 is in
       let r = right a.0 a.1 in
@@ -65,22 +46,22 @@ module _ {w : Core} (whole : IsWhole w) where
       listed-free whole c.1.0 c.0 c.1.1 h among (let e : (h.number.0 == c.0.0) ≡ true = grind (arith, nat_tests) in e)
 
   -- what a load hands over
-  handed-free : (l : LoadNumber) (hs : List HandleNumber) (seen : List ℕ) → named_fault w (owners.Load l) seen hs ≡ None → AreFree w (is_in (numbers_of hs))
+  handed-free : (l : LoadNumber) (hs : List HandleNumber) (seen : List ℕ) → named_fault w (Owner.Load l) seen hs ≡ None → AreFree w (is_in (numbers_of hs))
   unfolding named_fault is_in
   handed-free l [] seen none h among is = absurd (cc)
   handed-free l (x ∷ hs) seen none h among is = by (λ rest more. handed-free l hs (x.0 ∷ seen) rest h among more) (x.0 == h.number.0) refl (neither _ _ none) is
     where
-      by : (named_fault w (owners.Load l) (x.0 ∷ seen) hs ≡ None → is_in (numbers_of hs) h.number.0 ≡ true → NotValues h.owner) → (b : Bool) → (x.0 == h.number.0) ≡ b
-          → (if_there (λ (row : HandleRow). refused_if (not (is_owner (owners.Load l) row.owner) || is_in seen x.0) errors.NotYours) (Some errors.NoSuchHandle) (row_at w x) ≡ None)
-          × (named_fault w (owners.Load l) (x.0 ∷ seen) hs ≡ None)
+      by : (named_fault w (Owner.Load l) (x.0 ∷ seen) hs ≡ None → is_in (numbers_of hs) h.number.0 ≡ true → NotValues h.owner) → (b : Bool) → (x.0 == h.number.0) ≡ b
+          → (if_there (λ (row : HandleRow). refused_if (not (is_owner (Owner.Load l) row.owner) || is_in seen x.0) Error.NotYours) (Some Error.NoSuchHandle) (row_at w x) ≡ None)
+          × (named_fault w (Owner.Load l) (x.0 ∷ seen) hs ≡ None)
           → (b || is_in (numbers_of hs) h.number.0) ≡ true → NotValues h.owner
       by more false e (first, rest) is = more rest is
       by more true e (first, rest) is =
           let found : row_at w x ≡ Some h = ap (λ n. find_row n w.rows) (same-number _ _ e) ∙ found-whole whole.handles h among in
-          let f : refused_if (not (is_owner (owners.Load l) h.owner) || is_in seen x.0) errors.NotYours ≡ None = rw found at first in
-          not-loads l h.owner (same-owner (owners.Load l) h.owner (owned (is_owner (owners.Load l) h.owner) f))
+          let f : refused_if (not (is_owner (Owner.Load l) h.owner) || is_in seen x.0) Error.NotYours ≡ None = rw found at first in
+          not-loads l h.owner (same-owner (Owner.Load l) h.owner (owned (is_owner (Owner.Load l) h.owner) f))
         where
-          owned : (b : Bool) → refused_if (not b || is_in seen x.0) errors.NotYours ≡ None → b ≡ true
+          owned : (b : Bool) → refused_if (not b || is_in seen x.0) Error.NotYours ≡ None → b ≡ true
           owned true e = refl
           owned false e = absurd (cc)
 
@@ -110,7 +91,7 @@ module _ {N E : Type 0} {v : Values N} {s s' : PagerState N E} (is : WellFormed 
       → usable s.core kind.0 key ≡ Some n → WellFormed v s'
   adopted_known {l = l} {kind} {key} {references = references} a known = elim a.makes [
     | inl (n, usable, f) ↦
-        let right = good s.core (owners.Load l) [] references a.good in
+        let right = good s.core (Owner.Load l) [] references a.good in
         fell is (spares-keeps (spares-known is.whole kind key n (not-load l) usable)) f.falls (λ h among e. not-loads is.whole l h.owner (named-owner is.whole l references right h among e)) left
     | inr (none, few, alike) ↦ absurd (let e : None ≡ Some _ = sym none ∙ known in cc)
   ]
@@ -167,5 +148,5 @@ module _ {N E : Type 0} {v : Values N} {s s' : PagerState N E} (is : WellFormed 
         let named = (neither _ _ (neither _ _ c.hands.0).1).1 in
         let moves = spares-moved s.core (is_in (numbers_of hs)) me none (handed-free is.whole l hs [] named) in
         fell is (spares-keeps (spares-then moves (spares-same refl (λ n. refl)))) c.hands.1.falls
-        (both-free is.whole (is_owned_in s.core (owners.Load l)) (λ q. not (is_in (numbers_of hs) q)) (load-free is.whole l)) left
+        (both-free is.whole (is_owned_in s.core (Owner.Load l)) (λ q. not (is_in (numbers_of hs) q)) (load-free is.whole l)) left
     handed_over (Err e) c = stays c.refused.1

@@ -1,22 +1,9 @@
 -- A load of a cell ends with a pin: where the cell has no value, what was read comes into it; else it is dropped. What the load still owns goes.
-use Rattle.std.proofs.Common.{◌≡◌, ℕ, ◌<◌, ◌==◌, ◌&&◌, Bool, true, false, refl, ap, sym, subst, ◌∙◌, inl, inr, if◌then◌else◌, arith}
-use Rattle.std.specs.Prelude.{Option, Some, None, is_some, not, nat_lt}
-use Rattle.std.proofs.lemmas.Bool.Decides.{nat_tests}
-use Rattle.pagable_world.specs.declared.handles.HandleRow.{HandleRow}
-use Rattle.pagable_world.specs.declared.handles.Owner.TheVariants as owners
-use Rattle.pagable_world.specs.declared.handles.Owner.{Owner}
-use Rattle.pagable_world.specs.declared.rows.Mode.TheVariants as modes
-use Rattle.pagable_world.specs.Plain.{HandleNumber, LoadNumber, NodeNumber, if_there, updated}
-use Rattle.pagable_world.specs.Kinds.{find_row, is_handle, is_owner, is_owned_by, owner_value, is_loose, is_in_memory, held, pins}
-use Rattle.pagable_world.specs.World.{Core, Cell, Values, row_at, type_at, key_at, is_here}
-use Rattle.pagable_world.specs.Refusals.{Owns}
-use Rattle.pagable_world.specs.Calls.{is_named_by, with_mode}
-use Rattle.pagable_world.specs.LoadCalls.{without_load, is_owned_in, with_pin, MayEnd, Installs}
-use Rattle.pagable_world.specs.Pager.{PagerState, MayOwnLoad, IsWhole, WellFormed}
-use Rattle.pagable_laws.proofs.Sums.{self-number}
-use Rattle.pagable_laws.proofs.Goes.{NotLoads, found-number}
-use Rattle.pagable_laws.proofs.Taking.{row-held, row-pins}
-use Rattle.pagable_laws.proofs.Outlasting.{NotValues, Stands, among-found, found-after, stands-whole, stands-changed}
+use Rattle.pagable_steps.proofs.Words.{◌≡◌, ℕ, ◌<◌, ◌==◌, ◌&&◌, Bool, true, false, refl, ap, sym, subst, ◌∙◌, inl, inr, if◌then◌else◌, arith, Option, Some, None, is_some, not, nat_lt, nat_tests}
+use Rattle.pagable_steps.proofs.Words.{HandleRow, Owner, Mode, HandleNumber, LoadNumber, NodeNumber, if_there, updated, find_row, is_handle, is_owner, is_owned_by, owner_value, is_loose}
+use Rattle.pagable_steps.proofs.Words.{is_in_memory, held, pins, Core, Cell, Values, row_at, type_at, key_at, is_here, Owns, is_named_by, with_mode, without_load, is_owned_in, with_pin, MayEnd}
+use Rattle.pagable_steps.proofs.Words.{Installs, PagerState, MayOwnLoad, IsWhole, WellFormed, self-number, NotLoads, found-number, row-held, row-pins, NotValues, Stands, among-found, found-after}
+use Rattle.pagable_steps.proofs.Words.{stands-whole, stands-changed}
 use Rattle.pagable_steps.proofs.Spared.{owns, Spares}
 use Rattle.pagable_steps.proofs.SparedParts.{and-false, spares-then, spares-same, spares-handle}
 use Rattle.pagable_steps.proofs.SparedHandles.{pinned-here, turned}
@@ -27,11 +14,9 @@ use Rattle.pagable_steps.proofs.Moving as moving
 
 -- who begins a load is no value, and no load
 asker-free : (w : Core) (o : Owner) → MayOwnLoad w o → NotValues o × NotLoads o
-asker-free w owners.Caller may = (λ n e. absurd (cc), λ l e. absurd (cc))
-asker-free w (owners.Worker v) may = (λ n e. absurd (cc), λ l e. absurd (cc))
-asker-free w (owners.Value n) may = absurd may
-asker-free w owners.List may = absurd may
-asker-free w (owners.Load l) may = absurd may
+asker-free w Owner.Caller may = (λ n e. absurd (cc), λ l e. absurd (cc))
+asker-free w (Owner.Worker v) may = (λ n e. absurd (cc), λ l e. absurd (cc))
+asker-free w _ may = absurd may
 
 live-type : (w : Core) (n : ℕ) → is_some (w.cells n) ≡ true → (t : ℕ) × (type_at w n ≡ Some t)
 live-type w n is = at (w.cells n) is
@@ -59,7 +44,7 @@ module _ {N E : Type 0} {v : Values N} {s : PagerState N E} (is : WellFormed v s
   there-keeps : is_here w node.0 ≡ true → Keeps w (with_pin (without_load w l) h node me)
   there-keeps there =
       let first = turned is.whole free.0 h row own (subst (λ (m : NodeNumber). is_here w m.0 ≡ true) (sym at_node) there) in
-      let more = spares-handle (with_mode w h modes.LoosePinned) node modes.Pinned me free.0 (λ e. first.here node.0 ∙ there) in
+      let more = spares-handle (with_mode w h Mode.LoosePinned) node Mode.Pinned me free.0 (λ e. first.here node.0 ∙ there) in
       spares-keeps (spares-then first (spares-then more (spares-same refl (λ n. refl))))
 
   -- ---- the cell has no value
@@ -72,7 +57,7 @@ module _ {N E : Type 0} {v : Values N} {s : PagerState N E} (is : WellFormed v s
     named r = is_named_by (v.references x) r.number.0
 
     abbrev pinned : Core
-    pinned = with_mode given_to h modes.LoosePinned
+    pinned = with_mode given_to h Mode.LoosePinned
 
     unnamed : (b : Bool) → named row ≡ b → named row ≡ false
     unnamed false e = e
@@ -91,22 +76,22 @@ module _ {N E : Type 0} {v : Values N} {s : PagerState N E} (is : WellFormed v s
     pins-cell : is_here pinned node.0 ≡ true
     pins-cell =
         let number : is_handle h.0 row ≡ true = ap (λ n. n == h.0) (found-number h.0 w.rows row own.live) ∙ self-number h.0 in
-        let live : row_at pinned h ≡ Some (record row { mode = modes.LoosePinned }) =
-        found-after (is_handle h.0) (λ r. record r { mode = modes.LoosePinned }) (λ r. refl) h.0 given_to.rows row stands.live
-        ∙ ap (λ b. Some (if b then record row { mode = modes.LoosePinned } else row)) number in
-        subst (λ (m : NodeNumber). is_here pinned m.0 ≡ true) at_node (pinned-here pinned row.node.0 (row-pins pinned h (record row { mode = modes.LoosePinned }) live refl))
+        let live : row_at pinned h ≡ Some (record row { mode = Mode.LoosePinned }) =
+        found-after (is_handle h.0) (λ r. record r { mode = Mode.LoosePinned }) (λ r. refl) h.0 given_to.rows row stands.live
+        ∙ ap (λ b. Some (if b then record row { mode = Mode.LoosePinned } else row)) number in
+        subst (λ (m : NodeNumber). is_here pinned m.0 ≡ true) at_node (pinned-here pinned row.node.0 (row-pins pinned h (record row { mode = Mode.LoosePinned }) live refl))
 
     more : Spares pinned (with_pin given_to h node me)
-    more = spares-handle pinned node modes.Pinned me free.0 (λ e. pins-cell)
+    more = spares-handle pinned node Mode.Pinned me free.0 (λ e. pins-cell)
 
     owned : OwnsAlike given_to (with_pin given_to h node me)
-    owned = owns-then (mode-owned given_to h modes.LoosePinned row stands row-free) (spares-owned more)
+    owned = owns-then (mode-owned given_to h Mode.LoosePinned row stands row-free) (spares-owned more)
 
     -- other nodes that are in memory were so
     was-here : (n : ℕ) → is_here (with_pin given_to h node me) n ≡ true → (n == node.0) ≡ false → is_here w n ≡ true
     was-here n here other =
         let away_from : (row.node.0 == n) ≡ false = ap (λ (m : NodeNumber). m.0 == n) at_node ∙ turned-round n other in
-        let same = mode-others given_to h modes.LoosePinned row stands n away_from ∙ moving.same-pins is l node x may.good cell-typed away n in
+        let same = mode-others given_to h Mode.LoosePinned row stands n away_from ∙ moving.same-pins is l node x may.good cell-typed away n in
         sym (ap (λ p. is_in_memory p (key_at w n)) same) ∙ (sym (more.here n) ∙ here)
       where
         turned-round : (n : ℕ) → (n == node.0) ≡ false → (node.0 == n) ≡ false
@@ -118,19 +103,19 @@ module _ {N E : Type 0} {v : Values N} {s : PagerState N E} (is : WellFormed v s
         (λ n live here. moving.there-at is l node x may.good cell-typed away n live (was-here n here))
 
     -- what goes is no value's
-    none-goes : (n q : ℕ) → 0 < owns n q (with_pin given_to h node me).rows → (is_owned_in w (owners.Load l) q && not (is_named_by (v.references x) q)) ≡ false
+    none-goes : (n q : ℕ) → 0 < owns n q (with_pin given_to h node me).rows → (is_owned_in w (Owner.Load l) q && not (is_named_by (v.references x) q)) ≡ false
     none-goes n q some =
         let was = moving.owned-was is l node x may.good cell-typed away n q (subst (λ j. 0 < j) (owned.owned n q) some) in
         at was.row was.live was.own (named was.row) refl
       where
         at : (row : HandleRow) → find_row q w.rows ≡ Some row → (if named row then record row { owner = owner_value node.0 } else row).owner ≡ owner_value n → (b : Bool) → named row ≡ b
-            → (is_owned_in w (owners.Load l) q && not (is_named_by (v.references x) q)) ≡ false
+            → (is_owned_in w (Owner.Load l) q && not (is_named_by (v.references x) q)) ≡ false
         at row live own true e =
             let f : is_named_by (v.references x) q ≡ true = sym (ap (is_named_by (v.references x)) (found-number q w.rows row live)) ∙ e in
-            ap (λ b. is_owned_in w (owners.Load l) q && not b) f ∙ and-false (is_owned_in w (owners.Load l) q)
+            ap (λ b. is_owned_in w (Owner.Load l) q && not b) f ∙ and-false (is_owned_in w (Owner.Load l) q)
         at row live own false e =
             let f : row.owner ≡ owner_value n = sym (ap (λ b. (if b then record row { owner = owner_value node.0 } else row).owner) e) ∙ own in
-            let g : is_owned_in w (owners.Load l) q ≡ false = ap (if_there (is_owned_by (owners.Load l)) false) live ∙ ap (is_owner (owners.Load l)) f in
+            let g : is_owned_in w (Owner.Load l) q ≡ false = ap (if_there (is_owned_by (Owner.Load l)) false) live ∙ ap (is_owner (Owner.Load l)) f in
             ap (λ b. b && not (is_named_by (v.references x) q)) g
 
 -- ---- the law

@@ -1,24 +1,9 @@
 -- What a call does directly before handles go: nodes and values stay as they are, but that a node may get a key and lose a pin.
-use Rattle.std.proofs.Common.{◌≡◌, ℕ, suc, zero, ◌<◌, ◌≤◌, ◌==◌, ◌&&◌, ◌||◌, Bool, true, false, List, refl, ap, sym, subst, ◌∙◌, if◌then◌else◌, arith}
-use Rattle.std.specs.Prelude.{Option, Some, None, is_some, not, nat_lt, sum_by}
-use Rattle.std.proofs.lemmas.Bool.{and_parts}
-use Rattle.pagable_model.specs.declared.data_key.OptionalDataKey.TheVariants as optional
-use Rattle.pagable_world.specs.declared.handles.HandleRow.{HandleRow}
-use Rattle.pagable_world.specs.declared.handles.Owner.{Owner}
-use Rattle.pagable_world.specs.declared.rows.Mode.{Mode}
-use Rattle.pagable_world.specs.declared.rows.Mode.TheVariants as modes
-use Rattle.pagable_world.specs.Plain.{OptionalDataKey, HandleNumber, NodeNumber, Among, one, if_there}
-use Rattle.pagable_world.specs.Kinds.{find_row, is_handle, is_owner, is_owned_by, owner_value, is_pin, is_pinning, pins, is_in_memory, has_key}
-use Rattle.pagable_world.specs.World.{Core, Cell, Values, type_at, key_at, is_here}
-use Rattle.pagable_world.specs.Cascade.{Falls}
-use Rattle.pagable_world.specs.Refusals.{Owns}
-use Rattle.pagable_world.specs.Calls.{with_mode, with_key}
-use Rattle.pagable_world.specs.Pager.{PagerState, HandlesAreWhole, IsWhole, WellFormed}
-use Rattle.pagable_laws.proofs.Trees.{same_some}
-use Rattle.pagable_laws.proofs.Sums.{same-number, self-number, one-true, sum-le, counted}
-use Rattle.pagable_laws.proofs.Goes.{found-number}
-use Rattle.pagable_laws.proofs.GoodReferences.{same-owner}
-use Rattle.pagable_laws.proofs.Outlasting.{NotValues, Stands, among-found, none-found, once, found-after, stands-whole}
+use Rattle.pagable_steps.proofs.Words.{◌≡◌, ℕ, suc, zero, ◌<◌, ◌≤◌, ◌==◌, ◌&&◌, ◌||◌, Bool, true, false, List, refl, ap, sym, subst, ◌∙◌, if◌then◌else◌, arith, Option, Some, None, is_some, not}
+use Rattle.pagable_steps.proofs.Words.{nat_lt, sum_by, and_parts, OptionalDataKey, HandleRow, Owner, Mode, HandleNumber, NodeNumber, Among, one, if_there, find_row, is_handle, is_owner}
+use Rattle.pagable_steps.proofs.Words.{is_owned_by, owner_value, is_pin, is_pinning, pins, is_in_memory, has_key, Core, Cell, Values, type_at, key_at, is_here, Falls, Owns, with_mode, with_key}
+use Rattle.pagable_steps.proofs.Words.{PagerState, HandlesAreWhole, IsWhole, WellFormed, same_some, same-number, self-number, one-true, sum-le, counted, found-number, same-owner, NotValues}
+use Rattle.pagable_steps.proofs.Words.{Stands, among-found, none-found, once, found-after, stands-whole}
 use Rattle.pagable_steps.proofs.Spared.{owns, owns_any, Spares, spared}
 use Rattle.pagable_steps.proofs.SparedParts.{sum-mapped, here-by}
 use Rattle.pagable_steps.proofs.Staying.{owned-some}
@@ -222,12 +207,12 @@ module _ (w : Core) (h : HandleNumber) (mode : Mode) (row : HandleRow) (stands :
       less x false = omega arith
 
 -- an own handle pins no more
-pub unpin-keeps : {w : Core} {me : Owner} {fits : Mode → Bool} → IsWhole w → (h : HandleNumber) (row : HandleRow) → NotValues me → Owns w me h fits row → Keeps w (with_mode w h modes.LooseUnpinned)
+pub unpin-keeps : {w : Core} {me : Owner} {fits : Mode → Bool} → IsWhole w → (h : HandleNumber) (row : HandleRow) → NotValues me → Owns w me h fits row → Keeps w (with_mode w h Mode.LooseUnpinned)
 unpin-keeps {w} whole h row none owns =
     let stands = stands-whole whole.handles h.0 row owns.live in
     record {
-      owned = mode-owned w h modes.LooseUnpinned row stands (subst NotValues (sym owns.own) none);
-      here = λ n is. here-by (pins n (with_mode w h modes.LooseUnpinned).rows) (pins n w.rows) (key_at w n) (mode-fewer w h modes.LooseUnpinned row stands refl n) is;
+      owned = mode-owned w h Mode.LooseUnpinned row stands (subst NotValues (sym owns.own) none);
+      here = λ n is. here-by (pins n (with_mode w h Mode.LooseUnpinned).rows) (pins n w.rows) (key_at w n) (mode-fewer w h Mode.LooseUnpinned row stands refl n) is;
     }
 
 -- a node gets a key
@@ -236,7 +221,7 @@ keyed-keeps w node key =
     record { owned = record { typed = λ n. typed-at n (n == node.0) refl; owned = λ n q. refl; rows = λ n q row live own. live }; here = λ n is. here-at n (n == node.0) refl is }
   where
     keyed : Option Cell → Option Cell
-    keyed c = if_there (λ (cell : Cell). Some (record cell { key = optional.Some key })) None c
+    keyed c = if_there (λ (cell : Cell). Some (record cell { key = OptionalDataKey.Some key })) None c
 
     typed : (c : Option Cell) → if_there (λ (cell : Cell). Some cell.node_type) None (keyed c) ≡ if_there (λ (cell : Cell). Some cell.node_type) None c
     typed None = refl
@@ -247,7 +232,7 @@ keyed-keeps w node key =
     typed-at n false e = refl
 
     key-of : Option Cell → OptionalDataKey
-    key-of c = if_there (λ (cell : Cell). cell.key) optional.None c
+    key-of c = if_there (λ (cell : Cell). cell.key) OptionalDataKey.None c
 
     here-at : (n : ℕ) (b : Bool) → (n == node.0) ≡ b → is_in_memory (pins n w.rows) (key-of (if b then keyed (w.cells node.0) else w.cells n)) ≡ true → is_here w n ≡ true
     here-at n false e is = is

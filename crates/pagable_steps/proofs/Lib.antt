@@ -1,3 +1,4 @@
+mod Words
 pub mod Spared
 pub mod SparedParts
 pub mod SparedHandles

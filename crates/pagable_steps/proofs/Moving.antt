@@ -1,23 +1,9 @@
 -- What is read comes into its cell: the handles that it names move to it from the load, and values stand again.
-use Rattle.std.proofs.Common.{◌≡◌, ℕ, ◌<◌, ◌≤◌, ◌==◌, ◌&&◌, Bool, true, false, [], refl, ap, sym, subst, ◌∙◌, if◌then◌else◌, arith}
-use Rattle.std.specs.Prelude.{Option, Some, None, is_some, sum_by}
-use Rattle.std.proofs.lemmas.Bool.{and_parts}
-use Rattle.std.proofs.lemmas.Bool.Decides.{nat_tests}
-use Rattle.pagable_world.specs.declared.handles.HandleRow.{HandleRow}
-use Rattle.pagable_world.specs.declared.handles.Owner.TheVariants as owners
-use Rattle.pagable_world.specs.Plain.{ArcRef, LoadNumber, NodeNumber, Among, one, times, updated}
-use Rattle.pagable_world.specs.Kinds.{find_row, is_handle, is_owner, is_owned_by, owner_value, is_pin, pins, is_in_memory}
-use Rattle.pagable_world.specs.World.{Core, Values, type_at, key_at, is_here}
-use Rattle.pagable_world.specs.Refusals.{references_fault, IsReference}
-use Rattle.pagable_world.specs.Calls.{moved, is_named_by}
-use Rattle.pagable_world.specs.LoadCalls.{without_load}
-use Rattle.pagable_world.specs.Pager.{PagerState, WellFormed}
-use Rattle.pagable_laws.proofs.Trees.{same_some}
-use Rattle.pagable_laws.proofs.Sums.{same-number, self-number, one-true, sum-zero, at-most-sum, counted}
-use Rattle.pagable_laws.proofs.Goes.{found-number}
-use Rattle.pagable_laws.proofs.GoodReferences.{same-owner, good}
-use Rattle.pagable_laws.proofs.Sparing.{named-among}
-use Rattle.pagable_laws.proofs.Outlasting.{among-found, among-changed, after-number, found-after}
+use Rattle.pagable_steps.proofs.Words.{◌≡◌, ℕ, ◌<◌, ◌≤◌, ◌==◌, ◌&&◌, Bool, true, false, [], refl, ap, sym, subst, ◌∙◌, if◌then◌else◌, arith, Option, Some, None, is_some, sum_by, and_parts}
+use Rattle.pagable_steps.proofs.Words.{nat_tests, HandleRow, Owner, ArcRef, LoadNumber, NodeNumber, Among, one, times, updated, find_row, is_handle, is_owner, is_owned_by, owner_value, is_pin}
+use Rattle.pagable_steps.proofs.Words.{pins, is_in_memory, Core, Values, type_at, key_at, is_here, references_fault, IsReference, moved, is_named_by, without_load, PagerState, WellFormed}
+use Rattle.pagable_steps.proofs.Words.{same_some, same-number, self-number, one-true, sum-zero, at-most-sum, counted, found-number, same-owner, good, named-among, among-found, among-changed}
+use Rattle.pagable_steps.proofs.Words.{after-number, found-after}
 use Rattle.pagable_steps.proofs.Spared.{owns, owns_any}
 use Rattle.pagable_steps.proofs.SparedParts.{sum-mapped, and-false}
 use Rattle.pagable_steps.proofs.SparedLoads.{not-load}
@@ -27,7 +13,7 @@ use Rattle.pagable_steps.proofs.Keeping.{found-whole, one-value, none-owned, val
 use Rattle.pagable_steps.proofs.FallingCalls.{named-owner}
 
 module _ {N E : Type 0} {v : Values N} {s : PagerState N E} (is : WellFormed v s) (l : LoadNumber) (node : NodeNumber) (x : N)
-    (fine : references_fault s.core (owners.Load l) [] (v.references x) ≡ None) (typed : type_at s.core node.0 ≡ Some (v.node_type x)) (away : is_here s.core node.0 ≡ false) where
+    (fine : references_fault s.core (Owner.Load l) [] (v.references x) ≡ None) (typed : type_at s.core node.0 ≡ Some (v.node_type x)) (away : is_here s.core node.0 ≡ false) where
   abbrev w : Core
   w = s.core
 
@@ -49,8 +35,8 @@ module _ {N E : Type 0} {v : Values N} {s : PagerState N E} (is : WellFormed v s
 
   -- ---- rows
 
-  pub was-load : (h : HandleRow) → Among w.rows h → named h ≡ true → h.owner ≡ owners.Load l
-  was-load = named-owner is.whole l (v.references x) (good w (owners.Load l) [] (v.references x) fine)
+  pub was-load : (h : HandleRow) → Among w.rows h → named h ≡ true → h.owner ≡ Owner.Load l
+  was-load = named-owner is.whole l (v.references x) (good w (Owner.Load l) [] (v.references x) fine)
 
   found : (q : ℕ) (row : HandleRow) (b : Bool) → find_row q w.rows ≡ Some row → named row ≡ b → find_row q given_to.rows ≡ Some (after row b)
   found q row b live e = found-after named to (λ h. refl) q w.rows row live ∙ ap (λ b. Some (after row b)) e
@@ -119,7 +105,7 @@ module _ {N E : Type 0} {v : Values N} {s : PagerState N E} (is : WellFormed v s
   named-by q h b e false i = refl
 
   its-owned : (q : ℕ) → times (λ (r : ArcRef). r.handle.0 == q) (v.references x) ≡ owns node.0 q given_to.rows
-  its-owned q = named-once w (owners.Load l) [] (v.references x) q fine ∙ sym (at (is_named_by (v.references x) q) refl)
+  its-owned q = named-once w (Owner.Load l) [] (v.references x) q fine ∙ sym (at (is_named_by (v.references x) q) refl)
     where
       and-true : (b : Bool) → one (b && true) ≡ one b
       and-true true = refl
@@ -133,7 +119,7 @@ module _ {N E : Type 0} {v : Values N} {s : PagerState N E} (is : WellFormed v s
       at : (b : Bool) → is_named_by (v.references x) q ≡ b → owns node.0 q given_to.rows ≡ one b
       at true e =
           let a = named-among 0 (v.references x) q e in
-          let r = good w (owners.Load l) [] (v.references x) fine a.0 a.1 in
+          let r = good w (Owner.Load l) [] (v.references x) fine a.0 a.1 in
           counts (λ h. one (is_handle q h)) true e (λ h. and-true (is_handle q h)) ∙ one-row q w.rows r.row is.whole.handles.ordered (ap (λ p. find_row p w.rows) (sym a.2) ∙ r.live)
       at false e = counts (λ h. 0) false e (λ h. ap one (and-false (is_handle q h))) ∙ sum-zero (λ (h : HandleRow). 0) w.rows (λ h among. refl)
 
@@ -158,7 +144,7 @@ module _ {N E : Type 0} {v : Values N} {s : PagerState N E} (is : WellFormed v s
   refers-at : (n : ℕ) (y : N) (r : ArcRef) (b : Bool) → (n == node.0) ≡ b → (if b then Some x else s.values n) ≡ Some y → Among (v.references y) r → IsReference given_to (owner_value n) r
   refers-at n y r true e had among =
       let its = subst (λ z. Among (v.references z) r) (sym (same_some x y had)) among in
-      let old = good w (owners.Load l) [] (v.references x) fine r its in
+      let old = good w (Owner.Load l) [] (v.references x) fine r its in
       let is_named : named old.row ≡ true = ap (is_named_by (v.references x)) (found-number r.handle.0 w.rows old.row old.live) ∙ among-named (v.references x) r its in
       record { row = to old.row; live = found r.handle.0 old.row true old.live is_named; at = old.at; owned = ap owner_value (sym (same-number n node.0 e)); fits = old.fits; typed = old.typed }
   refers-at n y r false e had among =

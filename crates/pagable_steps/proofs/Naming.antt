@@ -1,21 +1,9 @@
 -- References that nothing is to be said against name each handle once.
-use Rattle.std.proofs.Common.{◌≡◌, ℕ, suc, zero, ◌+◌, ◌<◌, ◌==◌, ◌||◌, Bool, true, false, List, [], ◌∷◌, get_or, length, refl, ap, subst, ◌∙◌, if◌then◌else◌, arith}
-use Rattle.std.specs.Prelude.{Option, Some, None, not}
+use Rattle.pagable_steps.proofs.Words.{◌≡◌, ℕ, suc, zero, ◌+◌, ◌<◌, ◌==◌, ◌||◌, Bool, true, false, List, [], ◌∷◌, get_or, length, refl, ap, subst, ◌∙◌, if◌then◌else◌, arith, Option, Some, None}
+use Rattle.pagable_steps.proofs.Words.{not, nat_tests, sum_by-cons, get_or_from_slice_get, slice_get_within, Error, HandleRow, Owner, ArcRef, Among, is_in, one, times, if_there, or_else}
+use Rattle.pagable_steps.proofs.Words.{find_row, is_handle, is_owner, Core, row_at, refused_if, row_fault, reference_fault, references_fault, is_named_by, IsHandleBefore, self-number}
+use Rattle.pagable_steps.proofs.Words.{same-number, sum-zero, or-none}
 use Rattle.std.specs.List.{AllPairs}
-use Rattle.std.proofs.lemmas.Bool.Decides.{nat_tests}
-use Rattle.std.proofs.lemmas.List.Sums.{sum_by-cons}
-use Rattle.std.proofs.lemmas.Option.{get_or_from_slice_get, slice_get_within}
-use Rattle.pagable_model.specs.declared.error.Error.TheVariants as errors
-use Rattle.pagable_world.specs.declared.handles.HandleRow.{HandleRow}
-use Rattle.pagable_world.specs.declared.handles.Owner.{Owner}
-use Rattle.pagable_world.specs.Plain.{Error, ArcRef, Among, is_in, one, times, if_there, or_else}
-use Rattle.pagable_world.specs.Kinds.{find_row, is_handle, is_owner}
-use Rattle.pagable_world.specs.World.{Core, row_at}
-use Rattle.pagable_world.specs.Refusals.{refused_if, row_fault, reference_fault, references_fault}
-use Rattle.pagable_world.specs.Calls.{is_named_by}
-use Rattle.pagable_world.specs.Pager.{IsHandleBefore}
-use Rattle.pagable_laws.proofs.Sums.{self-number, same-number, sum-zero}
-use Rattle.pagable_laws.proofs.GoodReferences.{or-none}
 
 -- a handle that is found has one row
 pub one-row : (q : ℕ) (rows : List HandleRow) (row : HandleRow) → AllPairs IsHandleBefore rows → find_row q rows ≡ Some row → times (is_handle q) rows ≡ 1
@@ -60,14 +48,14 @@ module _ (w : Core) (owner : Owner) where
   unseen : (seen : List ℕ) (r : ArcRef) → reference_fault w owner seen r ≡ None → is_in seen r.handle.0 ≡ false
   unseen seen r none = by-row (row_at w r.handle) none
     where
-      at : (a b c : Bool) (rest : Option Error) → (if not a then Some errors.NoSuchHandle else or_else (refused_if (not b || c) errors.NotYours) rest) ≡ None → c ≡ false
+      at : (a b c : Bool) (rest : Option Error) → (if not a then Some Error.NoSuchHandle else or_else (refused_if (not b || c) Error.NotYours) rest) ≡ None → c ≡ false
       at a b false rest none = refl
       at false b true rest none = absurd (cc)
       at true true true rest none = absurd (cc)
       at true false true rest none = absurd (cc)
 
       by-row : (found : Option HandleRow)
-          → if_there (λ (row : HandleRow). row_fault w r (refused_if (not (is_owner owner row.owner) || is_in seen r.handle.0) errors.NotYours) row) (Some errors.NoSuchHandle) found ≡ None
+          → if_there (λ (row : HandleRow). row_fault w r (refused_if (not (is_owner owner row.owner) || is_in seen r.handle.0) Error.NotYours) row) (Some Error.NoSuchHandle) found ≡ None
           → is_in seen r.handle.0 ≡ false
       by-row None none = absurd (cc)
       by-row (Some row) none = at (row.node.0 == r.node.0) (is_owner owner row.owner) (is_in seen r.handle.0) _ none

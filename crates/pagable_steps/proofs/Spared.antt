@@ -1,13 +1,6 @@
 -- A step by which no value comes or goes leaves a pager in step.
-use Rattle.std.proofs.Common.{◌≡◌, ℕ, ◌&&◌, List, ap, sym, ◌∙◌}
-use Rattle.std.specs.Prelude.{Some, None, is_some}
-use Rattle.pagable_model.specs.declared.numbers.ArcRef.{ArcRef}
-use Rattle.pagable_world.specs.declared.handles.HandleRow.{HandleRow}
-use Rattle.pagable_world.specs.Plain.{SameAt, times, if_there}
-use Rattle.pagable_world.specs.Kinds.{find_row, is_handle, is_owned_by, owner_value, pins}
-use Rattle.pagable_world.specs.World.{Core, Cell, Values, type_at, is_here}
-use Rattle.pagable_world.specs.Refusals.{IsReference}
-use Rattle.pagable_world.specs.Pager.{PagerState, IsWhole, WellFormed}
+use Rattle.pagable_steps.proofs.Words.{◌≡◌, ℕ, ◌&&◌, List, ap, sym, ◌∙◌, Some, None, is_some, ArcRef, HandleRow, SameAt, times, if_there, find_row, is_handle, is_owned_by, owner_value, pins}
+use Rattle.pagable_steps.proofs.Words.{Core, Cell, Values, type_at, is_here, IsReference, PagerState, IsWhole, WellFormed}
 
 -- how often the value of the node owns the handle, and how many it owns
 abbrev pub owns : ℕ → ℕ → List HandleRow → ℕ
@@ -31,7 +24,8 @@ refers-still : (w w' : Core) (n : ℕ) (r : ArcRef) → Spares w w' → IsRefere
 refers-still w w' n r s is =
     record { row = is.row; live = s.rows n r.handle.0 is.row is.live is.owned; at = is.at; owned = is.owned; fits = is.fits; typed = same-type w w' r.node.0 (s.cells r.node.0) ∙ is.typed }
 
-pub spared : {N E : Type 0} (v : Values N) (s s' : PagerState N E) → WellFormed v s → Spares s.core s'.core → ((n : ℕ) → s'.values n ≡ s.values n) → ((n : ℕ) → s'.counts n ≡ pins n s'.core.rows) → IsWhole s'.core → WellFormed v s'
+pub spared : {N E : Type 0} (v : Values N) (s s' : PagerState N E) → WellFormed v s → Spares s.core s'.core → ((n : ℕ) → s'.values n ≡ s.values n)
+    → ((n : ℕ) → s'.counts n ≡ pins n s'.core.rows) → IsWhole s'.core → WellFormed v s'
 spared v s s' is spares values counted whole =
     record {
       whole = whole;

@@ -1,29 +1,14 @@
 -- Calls on the list, the cache and the storage, by which no value comes or goes.
-use Rattle.std.proofs.Common.{◌≡◌, ℕ, ◌+◌, ◌<◌, ◌≤◌, ◌==◌, ◌&&◌, ◌||◌, ◌%◌, Bool, true, false, Option, Some, None, Ok, Err, inl, inr, refl, ap, sym, subst, ◌∙◌, if◌then◌else◌, arith}
-use Rattle.std.specs.Prelude.{Result, not, nat_lt, is_some, slice_get}
-use Rattle.std.proofs.lemmas.Bool.{and_parts}
-use Rattle.std.proofs.lemmas.Bool.Decides.{nat_tests}
-use Rattle.pagable_model.specs.declared.data_key.OptionalDataKey.TheVariants as optional
-use Rattle.pagable_world.specs.declared.handles.HandleRow.{HandleRow}
-use Rattle.pagable_world.specs.declared.handles.Owner.{Owner}
-use Rattle.pagable_world.specs.declared.handles.Owner.TheVariants as owners
-use Rattle.pagable_world.specs.declared.rows.Mode.{Mode}
-use Rattle.pagable_world.specs.declared.rows.Mode.TheVariants as modes
-use Rattle.pagable_world.specs.Plain.{Error, Blob, Kind, HandleNumber, WorkerNumber, Among, one, if_there, is_shared_kind, is_loose_kind, is_pinned_kind}
-use Rattle.pagable_world.specs.Kinds.{is_handle, is_at, is_owner, is_owned_by, is_pinning, is_shared, is_share, mode_of, held, pins, is_in_memory}
-use Rattle.pagable_world.specs.World.{Core, Cell, Alike, usable, is_here}
-use Rattle.pagable_world.specs.Cascade.{only_handle}
-use Rattle.pagable_world.specs.Refusals.{Owns}
-use Rattle.pagable_world.specs.Calls.{with_known, ScheduleCall, TakeCall, ReserveCall, RecallCall, OfferCall, ClearCall, Asked, FetchCall, StoreCall, FlushCall}
-use Rattle.pagable_world.specs.Events.{with_worker, with_entry_taken}
-use Rattle.pagable_world.specs.Pager.{IsWhole}
-use Rattle.pagable_laws.proofs.Sums.{self-number, same-number, at-most-sum, counted, one-true}
-use Rattle.pagable_laws.proofs.Outlasting.{NotValues, stands-whole, once}
-use Rattle.pagable_laws.proofs.Usable.{IsEntered, entered-of}
+use Rattle.pagable_steps.proofs.Words.{◌≡◌, ℕ, ◌+◌, ◌<◌, ◌≤◌, ◌==◌, ◌&&◌, ◌||◌, ◌%◌, Bool, true, false, Option, Some, None, Ok, Err, inl, inr, refl, ap, sym, subst, ◌∙◌, if◌then◌else◌, arith}
+use Rattle.pagable_steps.proofs.Words.{Result, not, nat_lt, is_some, slice_get, and_parts, nat_tests, OptionalDataKey, HandleRow, Owner, Mode, Error, Blob, Kind, HandleNumber, WorkerNumber}
+use Rattle.pagable_steps.proofs.Words.{Among, one, if_there, is_shared_kind, is_loose_kind, is_pinned_kind, is_handle, is_at, is_owner, is_owned_by, is_pinning, is_shared, is_share, mode_of}
+use Rattle.pagable_steps.proofs.Words.{held, pins, is_in_memory, Core, Cell, Alike, usable, is_here, only_handle, Owns, with_known, ScheduleCall, TakeCall, ReserveCall, RecallCall, OfferCall}
+use Rattle.pagable_steps.proofs.Words.{ClearCall, Asked, FetchCall, StoreCall, with_worker, with_entry_taken, IsWhole, self-number, same-number, at-most-sum, counted, one-true}
+use Rattle.pagable_steps.proofs.Words.{NotValues, stands-whole, once, IsEntered, entered-of}
 use Rattle.pagable_steps.proofs.Spared.{Spares}
 use Rattle.pagable_steps.proofs.SparedParts.{spares-then, spares-same, spares-alike, spares-handle, spares-moved}
 
-not-list : NotValues owners.List
+not-list : NotValues Owner.List
 not-list n e = cc
 
 -- a worker comes
@@ -48,9 +33,6 @@ pub stores : {digest : Blob → ℕ} {w w' : Core} {blob : Blob} (r : Result ℕ
 stores (Ok key) c = let a = c.stores.1.leaves in spares-same a.rows a.cells
 stores (Err e) c = asked c.refused.0
 
-pub flushes : {w w' : Core} {r : Result (Unit {0}) Error} → FlushCall w r w' → Spares w w'
-flushes c = asked c.asked
-
 module _ {w : Core} (whole : IsWhole w) where
   -- ---- the list
 
@@ -63,10 +45,10 @@ module _ {w : Core} (whole : IsWhole w) where
   listed-free i h at x among is n own =
       let here : one (h.0 == h.0) ≡ 1 = ap one (self-number h.0) in
       let some = above _ _ _ here (at-most-sum (λ (q : HandleNumber). one (q.0 == h.0)) w.list h (i, at)) (whole.owners_there.listed h.0) in
-      let entry = counted (λ (y : HandleRow). one (is_handle h.0 y && is_owned_by owners.List y)) w.rows some in
-      let both = and_parts (is_handle h.0 entry.0) (is_owned_by owners.List entry.0) (one-true _ entry.2) in
+      let entry = counted (λ (y : HandleRow). one (is_handle h.0 y && is_owned_by Owner.List y)) w.rows some in
+      let both = and_parts (is_handle h.0 entry.0) (is_owned_by Owner.List entry.0) (one-true _ entry.2) in
       let same = once w.rows whole.handles.ordered entry.0 x entry.1 among (same-number _ _ both.0 ∙ sym (same-number _ _ is)) in
-      let f : is_owner owners.List (owners.Value n) ≡ true = sym (ap (λ (y : HandleRow). is_owner owners.List y.owner) same ∙ ap (is_owner owners.List) own) ∙ both.1 in
+      let f : is_owner Owner.List (Owner.Value n) ≡ true = sym (ap (λ (y : HandleRow). is_owner Owner.List y.owner) same ∙ ap (is_owner Owner.List) own) ∙ both.1 in
       absurd (cc)
     where
       above : (a b c : ℕ) → a ≡ 1 → a ≤ b → b ≡ c → 0 < c
@@ -74,7 +56,7 @@ module _ {w : Core} (whole : IsWhole w) where
 
   pub schedules : {w' : Core} {me : Owner} {h : HandleNumber} → NotValues me → w.closed ≡ false → (r : Result (Unit {0}) Error) → ScheduleCall w me h r w' → Spares w w'
   schedules {h = h} free open_still (Ok u) c = elim c.moves.2 [
-    | inl (is, a) ↦ spares-then (spares-moved w (only_handle h) owners.List not-list (own-free h c.moves.0 free c.moves.1)) (spares-same a.rows a.cells)
+    | inl (is, a) ↦ spares-then (spares-moved w (only_handle h) Owner.List not-list (own-free h c.moves.0 free c.moves.1)) (spares-same a.rows a.cells)
     | inr (closed, f) ↦ absurd (let e : true ≡ false = sym closed ∙ open_still in cc)
   ]
   schedules free open_still (Err e) c = spares-alike c.refused.stays
@@ -85,7 +67,7 @@ module _ {w : Core} (whole : IsWhole w) where
 
   -- a worker comes for an entry, which moves to it
   pub starts-listed : {w' : Core} (i : ℕ) (h : HandleNumber) (v : WorkerNumber) → slice_get w.list i ≡ Some h → Alike (with_worker (with_entry_taken w i h v)) w' → Spares w w'
-  starts-listed i h v at a = spares-then (spares-moved w (only_handle h) (owners.Worker v) (λ n e. cc) (listed-free i h at)) (spares-same a.rows a.cells)
+  starts-listed i h v at a = spares-then (spares-moved w (only_handle h) (Owner.Worker v) (λ n e. cc) (listed-free i h at)) (spares-same a.rows a.cells)
 
   -- ---- nodes that the cache gives
 
@@ -126,13 +108,13 @@ module _ {w : Core} (whole : IsWhole w) where
           cell None e there = let f : false ≡ true = sym (ap is_some e) ∙ there in absurd (cc)
           cell (Some x) e there =
               let f : usable w kind key ≡ (if not (is_in_memory (pins n w.rows) x.key) then None else Some n) = rw (entered.entry, e, is) refl in
-              ap (λ c. is_in_memory (pins n w.rows) (if_there (λ (y : Cell). y.key) optional.None c)) e ∙ in-memory _ (sym f ∙ known)
+              ap (λ c. is_in_memory (pins n w.rows) (if_there (λ (y : Cell). y.key) OptionalDataKey.None c)) e ∙ in-memory _ (sym f ∙ known)
 
       third : (kind % 3 == 0) ≡ false → (kind % 3 == 1) ≡ false → (kind % 3 == 2) ≡ true
       third a b = grind (arith, nat_tests)
 
       by : (a : Bool) → is_shared_kind kind ≡ a → (b : Bool) → is_loose_kind kind ≡ b
-          → is_pinning (if a then modes.Shared else if b then modes.LooseUnpinned else modes.Pinned) ≡ true → is_here w n ≡ true
+          → is_pinning (if a then Mode.Shared else if b then Mode.LooseUnpinned else Mode.Pinned) ≡ true → is_here w n ≡ true
       by true e b f pinning = shared e
       by false e true f pinning = absurd (cc)
       by false e false f pinning = pinned (third e f)

@@ -1,38 +1,25 @@
 -- Calls on loads, by which no value comes or goes.
-use Rattle.std.proofs.Common.{◌≡◌, ℕ, true, false, Ok, Err, inl, inr}
-use Rattle.std.specs.Prelude.{Result}
-use Rattle.pagable_world.specs.declared.answers.Beginning.{Beginning}
-use Rattle.pagable_world.specs.declared.answers.Beginning.TheVariants as beginnings
-use Rattle.pagable_world.specs.declared.calls.Want.{Want}
-use Rattle.pagable_world.specs.declared.calls.Want.TheVariants as wants
-use Rattle.pagable_world.specs.declared.handles.HandleRow.{HandleRow}
-use Rattle.pagable_world.specs.declared.handles.Owner.{Owner}
-use Rattle.pagable_world.specs.declared.handles.Owner.TheVariants as owners
-use Rattle.pagable_world.specs.declared.rows.Mode.TheVariants as modes
-use Rattle.pagable_world.specs.Plain.{Error, Kind, HandleNumber, LoadNumber}
-use Rattle.pagable_world.specs.World.{Core, OpenLoad}
-use Rattle.pagable_world.specs.LoadCalls.{BeginCall, BeginKeyCall, GetsKnown, Given, from_cache, from_store, AskCall, AsksInVain}
-use Rattle.pagable_world.specs.Pager.{IsWhole}
-use Rattle.pagable_laws.proofs.Outlasting.{NotValues}
+use Rattle.pagable_steps.proofs.Words.{◌≡◌, ℕ, true, false, Ok, Err, inl, inr, Result, Beginning, Want, HandleRow, Owner, Mode, Error, Kind, HandleNumber, LoadNumber, Core, OpenLoad, BeginCall}
+use Rattle.pagable_steps.proofs.Words.{BeginKeyCall, GetsKnown, Given, from_cache, from_store, AskCall, AsksInVain, IsWhole, NotValues}
 use Rattle.pagable_steps.proofs.Spared.{Spares}
 use Rattle.pagable_steps.proofs.SparedParts.{spares-then, spares-same, spares-alike, spares-handle}
 use Rattle.pagable_steps.proofs.SparedLists.{asked, spares-known}
 
-pub not-load : (l : LoadNumber) → NotValues (owners.Load l)
+pub not-load : (l : LoadNumber) → NotValues (Owner.Load l)
 not-load l n e = cc
 
 module _ {w w' : Core} where
   pub begins : {me : Owner} {h : HandleNumber} (r : Result Beginning Error) → BeginCall w me h r w' → Spares w w'
-  begins (Ok beginnings.InMemory) c = spares-alike c.begins.2.1
-  begins (Ok (beginnings.Load l key)) c =
+  begins (Ok Beginning.InMemory) c = spares-alike c.begins.2.1
+  begins (Ok (Beginning.Load l key)) c =
       let row : HandleRow = c.begins.0 in
       let a = c.begins.2.4.2 in
-      spares-then (spares-handle w row.node modes.LooseUnpinned (owners.Load l) (not-load l) (λ is. absurd (let e : false ≡ true = is in cc))) (spares-same a.rows a.cells)
+      spares-then (spares-handle w row.node Mode.LooseUnpinned (Owner.Load l) (not-load l) (λ is. absurd (let e : false ≡ true = is in cc))) (spares-same a.rows a.cells)
   begins (Err e) c = spares-alike c.refused.stays
 
   pub begins-key : {me : Owner} {key : ℕ} (r : Result Beginning Error) → BeginKeyCall w me key r w' → Spares w w'
-  begins-key (Ok beginnings.InMemory) c = absurd c.begins
-  begins-key (Ok (beginnings.Load l k)) c = let a = c.begins.2 in spares-same a.rows a.cells
+  begins-key (Ok Beginning.InMemory) c = absurd c.begins
+  begins-key (Ok (Beginning.Load l k)) c = let a = c.begins.2 in spares-same a.rows a.cells
   begins-key (Err e) c = spares-alike c.refused.stays
 
   module _ (whole : IsWhole w) where
@@ -40,15 +27,15 @@ module _ {w w' : Core} where
     gets-known {l} {kind} {key} g = spares-then (spares-known whole kind key g.n (not-load l) g.known) (spares-alike g.leaves)
 
     pub asks : {me : Owner} {l : LoadNumber} {want : Want} (r : Result Given Error) → AskCall w me l want r w' → Spares w w'
-    asks {want = wants.Root} (Ok (from_store blob)) c = asked c.gives.2.asked
-    asks {want = wants.Root} (Ok (from_cache k)) c = absurd c.gives.2
-    asks {want = wants.Nested kind key} (Ok (from_cache k)) c = gets-known c.gives.2
-    asks {want = wants.Nested kind key} (Ok (from_store blob)) c = asked c.gives.2.1.asked
+    asks {want = Want.Root} (Ok (from_store blob)) c = asked c.gives.2.asked
+    asks {want = Want.Root} (Ok (from_cache k)) c = absurd c.gives.2
+    asks {want = Want.Nested kind key} (Ok (from_cache k)) c = gets-known c.gives.2
+    asks {want = Want.Nested kind key} (Ok (from_store blob)) c = asked c.gives.2.1.asked
     asks {me} {l} {want} (Err e) c = elim c.refused [
       | inl refused ↦ spares-alike refused.stays
       | inr (load, owned, vain) ↦ in-vain want load vain
     ]
       where
         in-vain : (want : Want) (load : OpenLoad) → AsksInVain w load want e w' → Spares w w'
-        in-vain wants.Root load vain = asked vain.asked
-        in-vain (wants.Nested kind key) load vain = asked vain.1.asked
+        in-vain Want.Root load vain = asked vain.asked
+        in-vain (Want.Nested kind key) load vain = asked vain.1.asked

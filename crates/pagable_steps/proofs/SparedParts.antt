@@ -1,19 +1,8 @@
 -- Parts of steps by which no value comes or goes: one more handle, a handle in another mode, handles that move.
-use Rattle.std.proofs.Common.{◌≡◌, ℕ, suc, zero, ◌+◌, ◌≤◌, ◌==◌, ◌&&◌, ◌||◌, Bool, true, false, List, [], ◌∷◌, ◌++◌, sum_by, map, refl, ap, sym, subst, ◌∙◌, if◌then◌else◌, arith}
-use Rattle.std.specs.Prelude.{Some, not, nat_lt}
-use Rattle.std.proofs.lemmas.Bool.{and_parts}
-use Rattle.std.proofs.lemmas.Bool.Decides.{nat_tests}
-use Rattle.std.proofs.lemmas.List.Sums.{sum_by-cons, sum_by_push}
-use Rattle.pagable_model.specs.declared.data_key.OptionalDataKey.TheVariants as optional
-use Rattle.pagable_world.specs.declared.handles.HandleRow.{HandleRow}
-use Rattle.pagable_world.specs.declared.handles.Owner.{Owner}
-use Rattle.pagable_world.specs.declared.rows.Mode.{Mode}
-use Rattle.pagable_world.specs.Plain.{OptionalDataKey, HandleNumber, NodeNumber, SameAt, Among, changed, one, if_there, or_else}
-use Rattle.pagable_world.specs.Kinds.{find_row, is_handle, is_owned_by, owner_value, is_pin, is_pinning, pins, is_in_memory, has_key}
-use Rattle.pagable_world.specs.World.{Core, Cell, Alike, key_at, is_here}
-use Rattle.pagable_world.specs.Calls.{row_of, with_handle, with_mode, moved}
-use Rattle.pagable_laws.proofs.Sums.{same-number, sum-le}
-use Rattle.pagable_laws.proofs.Outlasting.{NotValues, not-owned, find-both, found-after, among-found}
+use Rattle.pagable_steps.proofs.Words.{◌≡◌, ℕ, suc, zero, ◌+◌, ◌≤◌, ◌==◌, ◌&&◌, ◌||◌, Bool, true, false, List, [], ◌∷◌, ◌++◌, sum_by, map, refl, ap, sym, subst, ◌∙◌, if◌then◌else◌, arith, Some}
+use Rattle.pagable_steps.proofs.Words.{not, nat_lt, and_parts, nat_tests, sum_by-cons, sum_by_push, OptionalDataKey, HandleRow, Owner, Mode, HandleNumber, NodeNumber, SameAt, Among, changed, one}
+use Rattle.pagable_steps.proofs.Words.{if_there, or_else, find_row, is_handle, is_owned_by, owner_value, is_pin, is_pinning, pins, is_in_memory, has_key, Core, Cell, Alike, key_at, is_here}
+use Rattle.pagable_steps.proofs.Words.{row_of, with_handle, with_mode, moved, same-number, sum-le, NotValues, not-owned, find-both, found-after, among-found}
 use Rattle.pagable_steps.proofs.Spared.{owns, owns_any, Spares}
 
 pub spares-then : {w m w' : Core} → Spares w m → Spares m w' → Spares w w'
@@ -31,7 +20,7 @@ pub spares-same : {w w' : Core} → w'.rows ≡ w.rows → SameAt w.cells w'.cel
 spares-same {w} {w'} rows cells =
     record {
       cells = cells;
-      here = λ n. ap (λ r. is_in_memory (pins n r) (key_at w' n)) rows ∙ ap (λ c. is_in_memory (pins n w.rows) (if_there (λ (cell : Cell). cell.key) optional.None c)) (cells n);
+      here = λ n. ap (λ r. is_in_memory (pins n r) (key_at w' n)) rows ∙ ap (λ c. is_in_memory (pins n w.rows) (if_there (λ (cell : Cell). cell.key) OptionalDataKey.None c)) (cells n);
       owned = λ n q. ap (owns n q) rows;
       bare = λ n. ap (owns_any n) rows;
       rows = λ n q row live own. ap (find_row q) rows ∙ live;
@@ -74,7 +63,8 @@ pub spares-handle : (w : Core) (node : NodeNumber) (mode : Mode) (me : Owner) �
 spares-handle w node mode me free may =
     record {
       cells = λ n. refl;
-      here = λ n. ap (λ p. is_in_memory p (key_at w n)) (sum_by_push (λ h. one (is_pin n h)) w.rows new) ∙ pinned-more (pins n w.rows) (key_at w n) (is_pin n new) (λ is. here-at n (and_parts _ _ is));
+      here = λ n. ap (λ p. is_in_memory p (key_at w n)) (sum_by_push (λ h. one (is_pin n h)) w.rows new)
+          ∙ pinned-more (pins n w.rows) (key_at w n) (is_pin n new) (λ is. here-at n (and_parts _ _ is));
       owned = λ n q. push-none (λ h. is_handle q h && is_owned_by (owner_value n) h) w.rows new (ap (λ b. is_handle q new && b) (not-owned n me free) ∙ and-false _);
       bare = λ n. push-none (λ h. is_owned_by (owner_value n) h) w.rows new (not-owned n me free);
       rows = λ n q row live own. find-both q w.rows (new ∷ []) ∙ ap (λ o. or_else o (find_row q (new ∷ []))) live;
@@ -86,7 +76,8 @@ spares-handle w node mode me free may =
     here-at : (n : ℕ) → ((node.0 == n) ≡ true) × (is_pinning mode ≡ true) → is_here w n ≡ true
     here-at n (same, pinning) = subst (λ m. is_here w m ≡ true) (same-number _ _ same) (may pinning)
 
-pub spares-made : {w w' : Core} (node : NodeNumber) (mode : Mode) (me : Owner) → NotValues me → (is_pinning mode ≡ true → is_here w node.0 ≡ true) → Alike (with_handle w node mode me) w' → Spares w w'
+pub spares-made : {w w' : Core} (node : NodeNumber) (mode : Mode) (me : Owner) → NotValues me → (is_pinning mode ≡ true → is_here w node.0 ≡ true)
+    → Alike (with_handle w node mode me) w' → Spares w w'
 spares-made {w} node mode me free may a = spares-then (spares-handle w node mode me free may) (spares-alike a)
 
 -- ---- rows that change

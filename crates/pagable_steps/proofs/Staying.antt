@@ -1,19 +1,9 @@
 -- A cascade takes no handle of a value that stays, and a value stays exactly where its node is in memory afterwards.
-use Rattle.std.proofs.Common.{◌≡◌, ℕ, ◌+◌, ◌<◌, ◌≤◌, ◌==◌, ◌&&◌, Bool, true, false, List, [], ◌∷◌, refl, ap, sym, subst, ◌∙◌, if◌then◌else◌, arith}
-use Rattle.std.specs.Prelude.{Some, None, is_some, not, nat_lt, nat_eq, cond, sum_by}
-use Rattle.std.proofs.lemmas.Bool.{and_parts}
-use Rattle.std.proofs.lemmas.Bool.Decides.{nat_tests}
-use Rattle.std.proofs.lemmas.List.Sums.{sum_by-cons, sum_by-append}
-use Rattle.pagable_model.specs.declared.data_key.OptionalDataKey.TheVariants as optional
-use Rattle.pagable_world.specs.declared.handles.HandleRow.{HandleRow}
-use Rattle.pagable_world.specs.declared.handles.Owner.TheVariants as owners
-use Rattle.pagable_world.specs.declared.rows.Mode.TheVariants as modes
-use Rattle.pagable_world.specs.Plain.{Among, one, times, if_there}
-use Rattle.pagable_world.specs.Kinds.{is_handle, is_at, is_pin, is_owned_by, owner_value, held, has_key, is_in_memory}
-use Rattle.pagable_world.specs.World.{Core, Cell, is_here}
-use Rattle.pagable_world.specs.Cascade.{is_outside, held_outside, pins_outside, owned_outside, loses_value, IsClosed, IsWithin, IsLeast, AreNewEntries, is_keyed, left_rows, Falls}
-use Rattle.pagable_laws.proofs.Sums.{same-number, self-number, one-true, sum-le, sum-zero, at-most-sum, counted}
-use Rattle.pagable_laws.proofs.Existing.{inside, wider}
+use Rattle.pagable_steps.proofs.Words.{◌≡◌, ℕ, ◌+◌, ◌<◌, ◌≤◌, ◌==◌, ◌&&◌, Bool, true, false, List, [], ◌∷◌, refl, ap, sym, subst, ◌∙◌, if◌then◌else◌, arith, Some, None, is_some, not, nat_lt}
+use Rattle.pagable_steps.proofs.Words.{nat_eq, cond, sum_by, and_parts, nat_tests, sum_by-cons, sum_by-append, OptionalDataKey, HandleRow, Owner, Mode, Among, one, times, if_there, is_handle}
+use Rattle.pagable_steps.proofs.Words.{is_at, is_pin, is_owned_by, owner_value, held, has_key, is_in_memory, Core, Cell, is_here, is_outside, held_outside, pins_outside, owned_outside}
+use Rattle.pagable_steps.proofs.Words.{loses_value, IsClosed, IsWithin, IsLeast, AreNewEntries, is_keyed, left_rows, Falls, same-number, self-number, one-true, sum-le, sum-zero, at-most-sum}
+use Rattle.pagable_steps.proofs.Words.{counted, inside, wider}
 use Rattle.pagable_steps.proofs.Spared.{owns}
 use Rattle.pagable_steps.proofs.SparedParts.{and-false}
 
@@ -116,7 +106,7 @@ times-left t gone (x ∷ xs) = at (gone x.number.0) (times-left t gone xs) ∙ s
     at false same = sum_by-cons (λ h. one (t h)) x (left_rows gone xs) ∙ (ap (λ n. one (t x) + n) same ∙ ap (λ n. n + rest) (sym (and-true (t x))))
 
 -- new entries pin nothing, and only the list owns them
-entries-none : (t : HandleRow → Bool) → ((h : HandleRow) → h.mode ≡ modes.LooseUnpinned → h.owner ≡ owners.List → t h ≡ false) → (last : ℕ) (entries : List HandleRow)
+entries-none : (t : HandleRow → Bool) → ((h : HandleRow) → h.mode ≡ Mode.LooseUnpinned → h.owner ≡ Owner.List → t h ≡ false) → (last : ℕ) (entries : List HandleRow)
     → AreNewEntries last entries → times t entries ≡ 0
 entries-none t none last [] new = refl
 entries-none t none last (x ∷ xs) (number, mode, owner, new) =
@@ -131,10 +121,10 @@ module _ {before w w' : Core} {given : ℕ → Bool} {r : _} (f : Falls before w
   counts t = ap (times t) f.leaves.rows ∙ (sum_by-append (λ h. one (t h)) (left_rows f.gone w.rows) f.entries ∙ ap (λ n. n + times t f.entries) (times-left t f.gone w.rows))
 
   -- the same, where no entry counts
-  pub counts-left : (t : HandleRow → Bool) → ((h : HandleRow) → h.mode ≡ modes.LooseUnpinned → h.owner ≡ owners.List → t h ≡ false) → times t w'.rows ≡ times (λ h. t h && is_outside f.gone h) w.rows
+  pub counts-left : (t : HandleRow → Bool) → ((h : HandleRow) → h.mode ≡ Mode.LooseUnpinned → h.owner ≡ Owner.List → t h ≡ false) → times t w'.rows ≡ times (λ h. t h && is_outside f.gone h) w.rows
   counts-left t none = let a = counts t in let b = entries-none t none w.last.handle f.entries f.new in omega (arith, a, b)
 
-  entry-unpinned : (n : ℕ) (h : HandleRow) → h.mode ≡ modes.LooseUnpinned → h.owner ≡ owners.List → is_pin n h ≡ false
+  entry-unpinned : (n : ℕ) (h : HandleRow) → h.mode ≡ Mode.LooseUnpinned → h.owner ≡ Owner.List → is_pin n h ≡ false
   entry-unpinned n h mode owner = rw mode (and-false (h.node.0 == n))
 
   -- a node has lost its value exactly where it isn't in memory any more
@@ -148,7 +138,7 @@ module _ {before w w' : Core} {given : ℕ → Bool} {r : _} (f : Falls before w
       let fewer : po ≤ ho = sum-le (λ h. one (is_pin n h && is_outside f.gone h)) (λ h. one (is_at n h && is_outside f.gone h)) w.rows (λ h among. pin-at (is_at n h) _ (is_outside f.gone h)) in
       let cells : w'.cells n ≡ (if nat_lt 0 (ho + he) then Some cell else None) =
       f.leaves.cells n ∙ (ap (λ k. if nat_lt 0 k then w.cells n else None) (sym (ap (held n) f.leaves.rows) ∙ c) ∙ ap (λ o. if nat_lt 0 (ho + he) then o else None) live) in
-      let keyed : is_keyed w n ≡ has_key cell.key = ap (λ o. has_key (if_there (λ (x : Cell). x.key) optional.None o)) live in
+      let keyed : is_keyed w n ≡ has_key cell.key = ap (λ o. has_key (if_there (λ (x : Cell). x.key) OptionalDataKey.None o)) live in
       rw (keyed, cells, p) (by-number ho po he fewer (nat_lt 0 (ho + he)) refl (has_key cell.key) refl)
     where
       pin-at : (a b c : Bool) → one ((a && b) && c) ≤ one (a && c)
@@ -159,7 +149,7 @@ module _ {before w w' : Core} {given : ℕ → Bool} {r : _} (f : Falls before w
 
       by-number : (ho po he : ℕ) → po ≤ ho → (b : Bool) → nat_lt 0 (ho + he) ≡ b → (k : Bool) → has_key cell.key ≡ k
           → (if k then nat_eq po 0 else nat_eq he 0 && nat_eq ho 0)
-          ≡ not (is_some (if b then Some cell else None) && is_in_memory po (if_there (λ (x : Cell). x.key) optional.None (if b then Some cell else None)))
+          ≡ not (is_some (if b then Some cell else None) && is_in_memory po (if_there (λ (x : Cell). x.key) OptionalDataKey.None (if b then Some cell else None)))
       by-number ho po he fewer true e true k = rw k (grind (arith, nat_tests))
       by-number ho po he fewer true e false k = rw k (grind (arith, nat_tests))
       by-number ho po he fewer false e true k = grind (arith, nat_tests)

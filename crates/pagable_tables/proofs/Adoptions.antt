@@ -1,33 +1,15 @@
 -- Why what a load has read can't become a node, and what becomes of it.
-use Rattle.std.proofs.Common.{◌≡◌, ℕ, ◌<◌, ◌≤◌, ◌==◌, ◌||◌, Bool, true, false, if◌then◌else◌, List, [], ◌∷◌, refl, ap, sym, ◌∙◌, arith, Ok, Option, Some, None, inl, inr}
-use Rattle.std.specs.Prelude.{not, nat_lt, is_some}
-use Rattle.std.proofs.lemmas.Bool.Decides.{nat_tests}
-use Rattle.pagable_model.specs.declared.error.Error.{Error}
-use Rattle.pagable_model.specs.declared.error.Error.TheVariants as errors
-use Rattle.pagable_model.specs.declared.numbers.ArcRef.{ArcRef}
-use Rattle.pagable_model.specs.declared.numbers.HandleNumber.{HandleNumber}
-use Rattle.pagable_model.specs.declared.numbers.LoadNumber.{LoadNumber}
-use Rattle.pagable_model.specs.declared.numbers.NodeNumber.{NodeNumber}
-use Rattle.pagable_model.specs.declared.numbers.Kind.{Kind}
-use Rattle.pagable_world.specs.declared.handles.HandleRow.{HandleRow}
-use Rattle.pagable_world.specs.declared.handles.Owner.{Owner}
-use Rattle.pagable_world.specs.declared.handles.Owner.TheVariants as owners
-use Rattle.pagable_world.specs.Plain.{Blob, is_loose_kind, type_of, if_there, or_else, is_in}
-use Rattle.pagable_world.specs.Kinds.{is_owner, fits_mode, mode_of}
-use Rattle.pagable_world.specs.World.{Core, OpenLoad, greatest, row_at, type_at, usable, Alike}
-use Rattle.pagable_world.specs.Refusals.{rank, earlier, refused_if, spent, is_type, load_fault, reference_fault, references_fault, row_fault, OwnsLoad, Refused, AreHandlesFull}
-use Rattle.pagable_world.specs.Cascade.{FallsAnyhow}
-use Rattle.pagable_world.specs.Calls.{IsNext, with_handle, is_named_by, birth_fault}
-use Rattle.pagable_world.specs.LoadCalls.{node_fault, adopt_fault, adopted, first_key, Adopts}
-use Rattle.pagable_tables.specs.Asking.{early_fault}
-use Rattle.pagable_tables.specs.Bearing.{OnlyRoom}
+use Rattle.pagable_tables.proofs.Words.{◌≡◌, ℕ, ◌<◌, ◌≤◌, ◌==◌, ◌||◌, Bool, true, false, if◌then◌else◌, List, [], ◌∷◌, refl, ap, sym, ◌∙◌, arith, Ok, Option, Some, None, inl, inr, not, nat_lt}
+use Rattle.pagable_tables.proofs.Words.{is_some, nat_tests, Error, ArcRef, HandleNumber, LoadNumber, NodeNumber, Kind, HandleRow, Owner, Blob, is_loose_kind, type_of, if_there, or_else, is_in}
+use Rattle.pagable_tables.proofs.Words.{is_owner, fits_mode, mode_of, Core, OpenLoad, greatest, row_at, type_at, usable, Alike, rank, earlier, refused_if, spent, is_type, load_fault}
+use Rattle.pagable_tables.proofs.Words.{reference_fault, references_fault, row_fault, OwnsLoad, Refused, AreHandlesFull, FallsAnyhow, with_handle, is_named_by, birth_fault, node_fault}
+use Rattle.pagable_tables.proofs.Words.{adopt_fault, adopted, first_key, Adopts, early_fault, OnlyRoom, Tables, ArePlaced, core_of, plain_of}
+use Rattle.pagable_world.specs.Calls.{IsNext}
 use Rattle.pagable_tables.proofs.Lazily.{node-late}
 use Rattle.pagable_tables.proofs.Readied.{fault-by, room-alike}
 use Rattle.pagable_tables.proofs.Opened.{load-low}
 use Rattle.pagable_tables.proofs.Worlds.{still, owner-same}
 use Rattle.pagable_world.specs.Pager as pager
-use Rattle.pagable_tables.specs.declared.tables.Tables.{Tables}
-use Rattle.pagable_tables.specs.Core.{ArePlaced, core_of, plain_of}
 use Rattle.pagable_tables.proofs.keeps.AdoptCalls.{adopt-whole}
 use Rattle.pagable_tables.proofs.keeps.Opened.{opened}
 use Rattle.pagable_tables.proofs.keeps.EndCalls.{both-none}
@@ -67,16 +49,16 @@ or-early (Some x) b ea eb = ea
 one-early : (w : Core) (o : Owner) (seen : List ℕ) (r : ArcRef) → Early (reference_fault w o seen r)
 one-early w o seen r e is = split (row_at w r.handle) is
   where
-    rest : (fits typed : Bool) → Early (if not fits then Some errors.WrongMode else refused_if (not typed) errors.WrongKind)
-    rest false typed e is = let a : rank errors.WrongMode ≡ rank e = ap (if_there rank 0) is in omega arith
-    rest true typed e is = let a = named (not typed) errors.WrongKind e is in omega arith
+    rest : (fits typed : Bool) → Early (if not fits then Some Error.WrongMode else refused_if (not typed) Error.WrongKind)
+    rest false typed e is = let a : rank Error.WrongMode ≡ rank e = ap (if_there rank 0) is in omega arith
+    rest true typed e is = let a = named (not typed) Error.WrongKind e is in omega arith
 
-    of : (at mine : Bool) (more : Option Error) → Early more → Early (if not at then Some errors.NoSuchHandle else or_else (refused_if mine errors.NotYours) more)
-    of false mine more early e is = let a : rank errors.NoSuchHandle ≡ rank e = ap (if_there rank 0) is in omega arith
-    of true mine more early e is = or-early (refused_if mine errors.NotYours) more (λ g s. let a = named mine errors.NotYours g s in omega arith) early e is
+    of : (at mine : Bool) (more : Option Error) → Early more → Early (if not at then Some Error.NoSuchHandle else or_else (refused_if mine Error.NotYours) more)
+    of false mine more early e is = let a : rank Error.NoSuchHandle ≡ rank e = ap (if_there rank 0) is in omega arith
+    of true mine more early e is = or-early (refused_if mine Error.NotYours) more (λ g s. let a = named mine Error.NotYours g s in omega arith) early e is
 
-    split : (o' : Option HandleRow) → if_there (λ (row : HandleRow). row_fault w r (refused_if (not (is_owner o row.owner) || is_in seen r.handle.0) errors.NotYours) row) (Some errors.NoSuchHandle) o' ≡ Some e → rank e ≤ 3
-    split None is = let a : rank errors.NoSuchHandle ≡ rank e = ap (if_there rank 0) is in omega arith
+    split : (o' : Option HandleRow) → if_there (λ (row : HandleRow). row_fault w r (refused_if (not (is_owner o row.owner) || is_in seen r.handle.0) Error.NotYours) row) (Some Error.NoSuchHandle) o' ≡ Some e → rank e ≤ 3
+    split None is = let a : rank Error.NoSuchHandle ≡ rank e = ap (if_there rank 0) is in omega arith
     split (Some row) is = of (row.node.0 == r.node.0) (not (is_owner o row.owner) || is_in seen r.handle.0) _ (rest (fits_mode r.kind.0 row.mode) (is_type (type_of r.kind.0) (type_at w r.node.0))) e is
 
 fit-early : (w : Core) (o : Owner) (seen : List ℕ) (refs : List ArcRef) → Early (references_fault w o seen refs)
@@ -88,11 +70,11 @@ fit-early w o seen (r ∷ rs) e is = or-early (reference_fault w o seen r) (refe
 owns-then : (w : Core) (me : Owner) (l : LoadNumber) → load_fault w me l ≡ None → (load : OpenLoad) × OwnsLoad w me l load
 owns-then w me l none = split (w.loads l.0) refl none
   where
-    own : (b : Bool) → refused_if (not b) errors.NotYours ≡ None → b ≡ true
+    own : (b : Bool) → refused_if (not b) Error.NotYours ≡ None → b ≡ true
     own true e = refl
     own false e = absurd (cc)
 
-    split : (o : Option OpenLoad) → w.loads l.0 ≡ o → if_there (λ (load : OpenLoad). refused_if (not (is_owner me load.owner)) errors.NotYours) (Some errors.NoSuchHandle) o ≡ None → (load : OpenLoad) × OwnsLoad w me l load
+    split : (o : Option OpenLoad) → w.loads l.0 ≡ o → if_there (λ (load : OpenLoad). refused_if (not (is_owner me load.owner)) Error.NotYours) (Some Error.NoSuchHandle) o ≡ None → (load : OpenLoad) × OwnsLoad w me l load
     split None e none = absurd (cc)
     split (Some load) e none = (load, record { stands_open = e; own = owner-same me load.owner (own (is_owner me load.owner) none) })
 
@@ -106,43 +88,43 @@ module _ (w : Core) (me : Owner) (l : LoadNumber) (kind : Kind) (key node_type :
 
   cause : adopt_fault w me l kind key node_type refs ≡ or_else early (node_fault w kind key)
   cause =
-      last-of (load_fault w me l) (refused_if (is_loose_kind kind.0) errors.WrongMode) (refused_if (not (node_type == type_of kind.0)) errors.WrongKind) (references_fault w (owners.Load l) [] refs) (node_fault w kind key)
-      (λ e is. let a = load-low w me l e is in omega arith) (λ e is. let a = named (is_loose_kind kind.0) errors.WrongMode e is in omega arith) (λ e is. let a = named (not (node_type == type_of kind.0)) errors.WrongKind e is in omega arith)
-      (fit-early w (owners.Load l) [] refs) (node-late w kind key)
+      last-of (load_fault w me l) (refused_if (is_loose_kind kind.0) Error.WrongMode) (refused_if (not (node_type == type_of kind.0)) Error.WrongKind) (references_fault w (Owner.Load l) [] refs) (node_fault w kind key)
+      (λ e is. let a = load-low w me l e is in omega arith) (λ e is. let a = named (is_loose_kind kind.0) Error.WrongMode e is in omega arith) (λ e is. let a = named (not (node_type == type_of kind.0)) Error.WrongKind e is in omega arith)
+      (fit-early w (Owner.Load l) [] refs) (node-late w kind key)
 
   -- one of the causes that come first
   pub not-adopted : (e : Error) → early ≡ Some e → Refused (adopt_fault w me l kind key node_type refs) (load_fault w me l) (Unit {0}) w e w
   not-adopted e is = record { why = inl (cause ∙ ap (λ f. or_else f (node_fault w kind key)) is); stays = still w }
 
   module _ (good : early ≡ None) where
-    parts : (load_fault w me l ≡ None) × (refused_if (is_loose_kind kind.0) errors.WrongMode ≡ None) × (refused_if (not (node_type == type_of kind.0)) errors.WrongKind ≡ None) × (references_fault w (owners.Load l) [] refs ≡ None)
+    parts : (load_fault w me l ≡ None) × (refused_if (is_loose_kind kind.0) Error.WrongMode ≡ None) × (refused_if (not (node_type == type_of kind.0)) Error.WrongKind ≡ None) × (references_fault w (Owner.Load l) [] refs ≡ None)
     parts =
         let a = both-none (load_fault w me l) _ good in
-        let b = both-none (refused_if (is_loose_kind kind.0) errors.WrongMode) _ a.1 in
-        let c = both-none (refused_if (not (node_type == type_of kind.0)) errors.WrongKind) _ b.1 in
+        let b = both-none (refused_if (is_loose_kind kind.0) Error.WrongMode) _ a.1 in
+        let c = both-none (refused_if (not (node_type == type_of kind.0)) Error.WrongKind) _ b.1 in
         (a.0, b.0, c.0, c.1)
 
-    pub fitting : references_fault w (owners.Load l) [] refs ≡ None
+    pub fitting : references_fault w (Owner.Load l) [] refs ≡ None
     fitting = parts.3
 
     pub eager : is_loose_kind kind.0 ≡ false
-    eager = not-so (is_loose_kind kind.0) errors.WrongMode parts.1
+    eager = not-so (is_loose_kind kind.0) Error.WrongMode parts.1
 
     pub owner-of : (load : OpenLoad) × OwnsLoad w me l load
     owner-of = owns-then w me l parts.0
 
     -- memory is wanting
-    pub refused-memory : {w' : Core} → OnlyRoom w w' → Refused (adopt_fault w me l kind key node_type refs) (load_fault w me l) (Unit {0}) w errors.OutOfMemory w'
+    pub refused-memory : {w' : Core} → OnlyRoom w w' → Refused (adopt_fault w me l kind key node_type refs) (load_fault w me l) (Unit {0}) w Error.OutOfMemory w'
     refused-memory room = record { why = inr (refl, parts.0, tt); stays = room-alike room }
 
     typed : node_type ≡ type_of kind.0
-    typed = let a = not-so (not (node_type == type_of kind.0)) errors.WrongKind parts.2 in grind (arith, nat_tests)
+    typed = let a = not-so (not (node_type == type_of kind.0)) Error.WrongKind parts.2 in grind (arith, nat_tests)
 
     left : adopt_fault w me l kind key node_type refs ≡ node_fault w kind key
     left = cause ∙ ap (λ f. or_else f (node_fault w kind key)) good
 
     -- the cache gives a node
-    pub adopts-known : (node : NodeNumber) (k : HandleNumber) {w' : Core} → usable w kind.0 key ≡ Some node.0 → IsNext k w → FallsAnyhow w (with_handle w node (mode_of kind.0) (owners.Load l)) (is_named_by refs) w'
+    pub adopts-known : (node : NodeNumber) (k : HandleNumber) {w' : Core} → usable w kind.0 key ≡ Some node.0 → IsNext k w → FallsAnyhow w (with_handle w node (mode_of kind.0) (Owner.Load l)) (is_named_by refs) w'
         → Adopts w me l kind key node_type refs k w'
     adopts-known node k is next falls = record { load = owner-of.0; owned = owner-of.1; eager = eager; typed = typed; good = fitting; next = next; makes = inl (node.0, is, falls) }
 
@@ -166,15 +148,15 @@ module _ (w : Core) (me : Owner) (l : LoadNumber) (kind : Kind) (key node_type :
 pub early-past : {w w' : Core} (me : Owner) (l : LoadNumber) (kind : Kind) (node_type : ℕ) (refs : List ArcRef) → OnlyRoom w w' → early_fault w' me l kind node_type refs ≡ early_fault w me l kind node_type refs
 early-past {w} {w'} me l kind node_type refs o =
     ap (λ (u : Core). early_fault u me l kind node_type refs) o.same
-    ∙ ap (λ x. earlier (load_fault w me l) (earlier (refused_if (is_loose_kind kind.0) errors.WrongMode) (earlier (refused_if (not (node_type == type_of kind.0)) errors.WrongKind) x)))
-    (fault-by w (record w { places = w'.places }) (owners.Load l) [] refs)
+    ∙ ap (λ x. earlier (load_fault w me l) (earlier (refused_if (is_loose_kind kind.0) Error.WrongMode) (earlier (refused_if (not (node_type == type_of kind.0)) Error.WrongKind) x)))
+    (fault-by w (record w { places = w'.places }) (Owner.Load l) [] refs)
 
 -- nor is the storage
 pub early-stored : (t : Tables) (stored : ℕ → Option Blob) (closed : Bool) (failures : ℕ) (me : Owner) (l : LoadNumber) (kind : Kind) (node_type : ℕ) (refs : List ArcRef)
     → early_fault (core_of t stored closed failures) me l kind node_type refs ≡ early_fault (plain_of t) me l kind node_type refs
 early-stored t stored closed failures me l kind node_type refs =
-    ap (λ x. earlier (load_fault (plain_of t) me l) (earlier (refused_if (is_loose_kind kind.0) errors.WrongMode) (earlier (refused_if (not (node_type == type_of kind.0)) errors.WrongKind) x)))
-    (fault-by (plain_of t) (core_of t stored closed failures) (owners.Load l) [] refs)
+    ap (λ x. earlier (load_fault (plain_of t) me l) (earlier (refused_if (is_loose_kind kind.0) Error.WrongMode) (earlier (refused_if (not (node_type == type_of kind.0)) Error.WrongKind) x)))
+    (fault-by (plain_of t) (core_of t stored closed failures) (Owner.Load l) [] refs)
 
 -- it keeps the world whole
 pub adopts-whole : {w w' : Core} (me : Owner) (l : LoadNumber) (kind : Kind) (key node_type : ℕ) (refs : List ArcRef) (k : HandleNumber) → pager.IsWhole (opened w) → Adopts w me l kind key node_type refs k w' → ArePlaced (opened w') → pager.IsWhole (opened w')

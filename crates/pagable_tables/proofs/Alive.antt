@@ -1,22 +1,9 @@
 -- The live rows after a place changes.
-use Rattle.std.proofs.Common.{◌≡◌, ℕ, ◌+◌, ◌<◌, ◌≤◌, ◌==◌, Bool, true, false, not, if◌then◌else◌, List, [], ◌∷◌, ◌++◌, length, get_or, set, suc, zero, sum_by, All, filter, refl, ap, sym, subst, ◌∙◌, arith, Some, None, slice_get, cond}
+use Rattle.pagable_tables.proofs.Words.{◌≡◌, ℕ, ◌+◌, ◌<◌, ◌≤◌, ◌==◌, Bool, true, false, not, if◌then◌else◌, List, [], ◌∷◌, ◌++◌, length, get_or, set, suc, zero, sum_by, All, filter, refl, ap}
+use Rattle.pagable_tables.proofs.Words.{sym, subst, ◌∙◌, arith, Some, None, slice_get, cond, nat_tests, sum_by-cons, All-tail, All-set, ◌≢◌, ◌⊎◌, inl, inr, true≢false, cases_eq, get_or_default}
+use Rattle.pagable_tables.proofs.Words.{get_or_from_slice_get, slice_get_within, sum_by-set, get_or-le-sum_by, sum_by-le-sum_by, HandleRow, one, changed, find_row, is_handle, left_rows, IsNext}
+use Rattle.pagable_tables.proofs.Words.{live, alive, is_live_place, IsBefore, Place}
 use Rattle.std.specs.List.{AllPairs}
-use Rattle.std.proofs.lemmas.Bool.Decides.{nat_tests}
-use Rattle.std.proofs.lemmas.List.Sums.{sum_by-cons}
-use Rattle.std.proofs.lemmas.List.Elements.{All-tail, All-set}
-use Rattle.std.specs.Prelude.{◌≢◌, ◌⊎◌}
-use Rattle.std.proofs.Common.{inl, inr, true≢false}
-use Rattle.std.proofs.lemmas.Bool.{cases_eq}
-use Rattle.std.proofs.lemmas.List.{get_or_default}
-use Rattle.std.proofs.lemmas.Option.{get_or_from_slice_get, slice_get_within}
-use Rattle.std.proofs.lemmas.List.Sums.{sum_by-set, get_or-le-sum_by, sum_by-le-sum_by}
-use Rattle.pagable_world.specs.declared.handles.HandleRow.{HandleRow}
-use Rattle.pagable_world.specs.Plain.{one}
-use Rattle.pagable_world.specs.Plain.{changed}
-use Rattle.pagable_world.specs.Kinds.{find_row, is_handle}
-use Rattle.pagable_world.specs.Cascade.{left_rows}
-use Rattle.pagable_tables.specs.Live.{IsNext, live, alive, is_live_place, IsBefore}
-use Rattle.pagable_tables.specs.declared.rows.Place.{Place}
 
 -- the rows but for one number, and with another row in its place
 abbrev without : ℕ → List HandleRow → List HandleRow

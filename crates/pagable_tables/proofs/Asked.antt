@@ -1,20 +1,10 @@
 -- What a load asks of the tables.
-use Rattle.std.proofs.Common.{◌≡◌, ℕ, true, ap, sym, subst, arith, Ok, Err, Option, Some, inl}
-use Rattle.std.specs.Prelude.{Result}
-use Rattle.pagable_model.specs.declared.error.Error.{Error}
-use Rattle.pagable_model.specs.declared.numbers.HandleNumber.{HandleNumber}
-use Rattle.pagable_model.specs.declared.numbers.LoadNumber.{LoadNumber}
-use Rattle.pagable_model.specs.declared.numbers.Kind.{Kind}
-use Rattle.pagable_world.specs.declared.handles.Owner.{Owner}
-use Rattle.pagable_world.specs.declared.handles.Owner.TheVariants as owners
-use Rattle.pagable_world.specs.World.{Core, OpenLoad}
-use Rattle.pagable_world.specs.Refusals.{earlier, load_fault, OwnsLoad, Refused, AreHandlesFull}
-use Rattle.pagable_world.specs.Calls.{is_usable, recall_fault, RecallCall}
-use Rattle.pagable_tables.specs.Asking.{AsksKnown}
+use Rattle.pagable_tables.proofs.Words.{◌≡◌, ℕ, true, ap, sym, subst, arith, Ok, Err, Option, Some, inl, Result, Error, HandleNumber, LoadNumber, Kind, Owner, Core, OpenLoad, earlier, load_fault}
+use Rattle.pagable_tables.proofs.Words.{OwnsLoad, Refused, AreHandlesFull, is_usable, recall_fault, RecallCall, AsksKnown}
 use Rattle.pagable_tables.proofs.Opened.{earlier-first, load-low, no-load-fault, number-late}
 use Rattle.pagable_tables.proofs.Worlds.{still}
 
-pub recalls-asked : (w : Core) (me : Owner) (l : LoadNumber) (load : OpenLoad) (kind : Kind) (key : ℕ) (r : Result (Option HandleNumber) Error) (w' : Core) → OwnsLoad w me l load → RecallCall w (owners.Load l) kind key r w' → AsksKnown w me l kind key r w'
+pub recalls-asked : (w : Core) (me : Owner) (l : LoadNumber) (load : OpenLoad) (kind : Kind) (key : ℕ) (r : Result (Option HandleNumber) Error) (w' : Core) → OwnsLoad w me l load → RecallCall w (Owner.Load l) kind key r w' → AsksKnown w me l kind key r w'
 recalls-asked w me l load kind key (Ok found) w' own call = record { gives = (load, own, call.answers); refused = tt }
 recalls-asked w me l load kind key (Err e) w' own call =
     record {

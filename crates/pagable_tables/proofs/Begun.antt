@@ -1,23 +1,9 @@
 -- Where handles begin to be given up: nothing has gone so far.
-use Rattle.std.proofs.Common.{◌≡◌, ℕ, ◌+◌, ◌≤◌, ◌&&◌, Bool, false, not, List, [], ◌∷◌, length, refl, ap, sym, ◌∙◌, subst, arith, inl, inr, Option, None, true}
-use Rattle.std.proofs.lemmas.Bool.Decides.{nat_tests}
-use Rattle.std.proofs.lemmas.List.{append-nil}
-use Rattle.std.proofs.lemmas.List.Sums.{sum_by-cons}
-use Rattle.pagable_model.specs.declared.error.Error.{Error}
-use Rattle.pagable_model.specs.declared.numbers.ArcRef.{ArcRef}
-use Rattle.pagable_world.specs.declared.handles.HandleRow.{HandleRow}
-use Rattle.pagable_world.specs.Plain.{Blob, one, times}
-use Rattle.pagable_world.specs.Kinds.{is_at, is_share, held, sharing}
-use Rattle.pagable_world.specs.World.{Core, greatest, HasRoom}
-use Rattle.pagable_world.specs.Cascade.{IsWithin, MustList, TellsListing, nobody}
-use Rattle.pagable_tables.specs.declared.tables.Tables.{Tables}
-use Rattle.pagable_tables.specs.declared.rows.Counts.{Counts}
-use Rattle.pagable_tables.specs.declared.holdings.Holdings.{Holdings}
-use Rattle.pagable_tables.specs.Live.{live}
-use Rattle.pagable_tables.specs.ByNumber.{counts_at, refs_at}
-use Rattle.pagable_tables.specs.Falling.{Fits, IsFalling, cell_in, is_valued, owns, owns_nothing}
-use Rattle.pagable_tables.specs.Onward.{with_tables, told_by, is_plain_pin, Begins, SoFar}
-use Rattle.pagable_tables.specs.Core.{core_of, IsWhole}
+use Rattle.pagable_tables.proofs.Words.{◌≡◌, ℕ, ◌+◌, ◌≤◌, ◌&&◌, Bool, false, not, List, [], ◌∷◌, length, refl, ap, sym, ◌∙◌, subst, arith, inl, inr, Option, None, true, nat_tests, append-nil}
+use Rattle.pagable_tables.proofs.Words.{sum_by-cons, Error, ArcRef, HandleRow, Blob, one, times, is_at, is_share, held, sharing, Core, greatest, HasRoom, IsWithin, MustList, TellsListing, nobody}
+use Rattle.pagable_tables.proofs.Words.{Tables, Counts, Holdings, live, counts_at, refs_at, Fits, IsFalling, cell_in, is_valued, owns, owns_nothing, with_tables, told_by, is_plain_pin, Begins}
+use Rattle.pagable_tables.proofs.Words.{SoFar, core_of}
+use Rattle.pagable_tables.specs.Core.{IsWhole}
 use Rattle.pagable_tables.proofs.Coming.{owned-by-none}
 use Rattle.pagable_tables.proofs.Left.{left-all, all-kept}
 

@@ -1,24 +1,12 @@
 -- A node comes, and the handles that its value refers to are the value's.
-use Rattle.std.proofs.Common.{◌≡◌, ℕ, ◌+◌, ◌<◌, ◌≤◌, ◌==◌, ◌&&◌, ◌||◌, Bool, true, false, List, [], ◌∷◌, ◌++◌, map, sum_by, refl, ap, sym, ◌∙◌, subst, arith, Option, Some, None, inl, inr, if◌then◌else◌}
-use Rattle.std.specs.Prelude.{◌≢◌, ◌⊎◌, not, nat_lt, is_some}
+use Rattle.pagable_tables.proofs.Words.{◌≡◌, ℕ, ◌+◌, ◌<◌, ◌≤◌, ◌==◌, ◌&&◌, ◌||◌, Bool, true, false, List, [], ◌∷◌, ◌++◌, map, sum_by, refl, ap, sym, ◌∙◌, subst, arith, Option, Some, None, inl}
+use Rattle.pagable_tables.proofs.Words.{inr, if◌then◌else◌, ◌≢◌, ◌⊎◌, not, nat_lt, is_some, cases_eq, nat_tests, sum_by_push, sum_by-cons, Error, ArcRef, HandleRow, Owner, Mode, Among, is_in}
+use Rattle.pagable_tables.proofs.Words.{one, or_else, if_there, find_row, held, pins, is_handle, is_owner, is_pinning, owner_value, IsHandleBefore, Core, row_at, reference_fault}
+use Rattle.pagable_tables.proofs.Words.{references_fault, row_fault, refused_if, moved, is_named_by, Counts, Fits, Right, is_right, is_bare, cell_in, pins_in, holds_in, falls_in, is_valued}
+use Rattle.pagable_tables.proofs.Words.{named, owns_nothing}
 use Rattle.std.specs.List.{AllPairs}
-use Rattle.std.proofs.lemmas.Bool.{cases_eq}
-use Rattle.std.proofs.lemmas.Bool.Decides.{nat_tests}
-use Rattle.std.proofs.lemmas.List.Sums.{sum_by_push, sum_by-cons}
-use Rattle.pagable_model.specs.declared.error.Error.{Error}
-use Rattle.pagable_model.specs.declared.error.Error.TheVariants as errors
-use Rattle.pagable_model.specs.declared.numbers.ArcRef.{ArcRef}
-use Rattle.pagable_world.specs.declared.handles.HandleRow.{HandleRow}
-use Rattle.pagable_world.specs.declared.handles.Owner.{Owner}
-use Rattle.pagable_world.specs.declared.rows.Mode.{Mode}
-use Rattle.pagable_world.specs.Plain.{Among, is_in, one, or_else, if_there}
-use Rattle.pagable_world.specs.Kinds.{find_row, held, pins, is_handle, is_owner, is_pinning, owner_value}
-use Rattle.pagable_world.specs.Pager.{IsHandleBefore}
-use Rattle.pagable_world.specs.World.{Core, row_at}
-use Rattle.pagable_world.specs.Refusals.{reference_fault, references_fault, row_fault, refused_if}
-use Rattle.pagable_world.specs.Calls.{moved, is_named_by}
-use Rattle.pagable_tables.specs.declared.rows.Counts.{Counts}
-use Rattle.pagable_tables.specs.Falling.{Fits, Right, is_right, is_bare, cell_in, pins_in, holds_in, falls_in, is_valued, named, owns_nothing}
+use Rattle.pagable_world.specs.Plain.{updated}
+use Rattle.pagable_tables.specs.Falling.{key_in}
 use Rattle.pagable_tables.proofs.Coming.{owned-by-none}
 use Rattle.pagable_tables.proofs.Fitting.{pin_of, handle_of, is_owned, pin-here, held-here, pin-other, held-other}
 use Rattle.pagable_tables.proofs.Owned.{owned-by}
@@ -30,7 +18,7 @@ or-none : (a b : Option Error) → or_else a b ≡ None → (a ≡ None) × (b �
 or-none None b e = (refl, e)
 or-none (Some x) b e = absurd (cc)
 
-unseen-first : (own seen : Bool) → refused_if (not own || seen) errors.NotYours ≡ None → seen ≡ false
+unseen-first : (own seen : Bool) → refused_if (not own || seen) Error.NotYours ≡ None → seen ≡ false
 unseen-first own false e = refl
 unseen-first false true e = absurd (cc)
 unseen-first true true e = absurd (cc)
@@ -38,12 +26,12 @@ unseen-first true true e = absurd (cc)
 unseen-one : (w : Core) (me : Owner) (seen : List ℕ) (r : ArcRef) → reference_fault w me seen r ≡ None → is_in seen r.handle.0 ≡ false
 unseen-one w me seen r none = by (row_at w r.handle) none
   where
-    here : (own b : Bool) (last : Option Error) → (if not b then Some errors.NoSuchHandle else or_else (refused_if (not own || is_in seen r.handle.0) errors.NotYours) last) ≡ None
+    here : (own b : Bool) (last : Option Error) → (if not b then Some Error.NoSuchHandle else or_else (refused_if (not own || is_in seen r.handle.0) Error.NotYours) last) ≡ None
         → is_in seen r.handle.0 ≡ false
     here own false last e = absurd (cc)
     here own true last e = unseen-first own (is_in seen r.handle.0) (or-none _ last e).0
 
-    by : (o : Option HandleRow) → if_there (λ (row : HandleRow). row_fault w r (refused_if (not (is_owner me row.owner) || is_in seen r.handle.0) errors.NotYours) row) (Some errors.NoSuchHandle) o ≡ None
+    by : (o : Option HandleRow) → if_there (λ (row : HandleRow). row_fault w r (refused_if (not (is_owner me row.owner) || is_in seen r.handle.0) Error.NotYours) row) (Some Error.NoSuchHandle) o ≡ None
         → is_in seen r.handle.0 ≡ false
     by None e = absurd (cc)
     by (Some row) e = here (is_owner me row.owner) (row.node.0 == r.node.0) _ e
@@ -253,3 +241,11 @@ module _ (w : Core) (me : Owner) (rs : List ArcRef) (ordered : AllPairs IsHandle
 pub no-node : (o : Option Counts) (last : ℕ) → (is_some (cell_in o) ≡ true → (0 < last + 1) × (last + 1 ≤ last)) → o ≡ None
 no-node None last h = refl
 no-node (Some c) last h = let a = (h refl).1 in absurd (omega arith)
+
+-- one cell more, and all others as before
+pub born-cells : (at at' : ℕ → Option Counts) (n : ℕ) (c : Counts) → at' n ≡ Some c → ((q : ℕ) → q ≢ n → at' q ≡ at q)
+    → (q : ℕ) → cell_in (at' q) ≡ updated n (Some (record { node_type = c.node_type; key = key_in c.key })) (λ m. cell_in (at m)) q
+born-cells at at' n c here others q = elim (cases_eq q n) [
+  | inl e ↦ let a : (q == n) ≡ true = grind (arith, nat_tests) in rw a (ap (λ m. cell_in (at' m)) e ∙ ap cell_in here)
+  | inr e ↦ let a : (q == n) ≡ false = grind (arith, nat_tests) in rw a (ap cell_in (others q e))
+]

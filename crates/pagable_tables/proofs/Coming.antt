@@ -1,18 +1,7 @@
 -- A handle comes to a live node, and nothing falls.
-use Rattle.std.proofs.Common.{sum_by, ◌≡◌, ℕ, ◌+◌, ◌<◌, ◌≤◌, ◌==◌, ◌&&◌, ◌||◌, Bool, true, false, if◌then◌else◌, List, [], ◌∷◌, ◌++◌, length, refl, ap, sym, ◌∙◌, subst, arith, Option, Some, None, inl, inr}
-use Rattle.std.specs.Prelude.{◌≢◌, not, nat_lt, IsSome}
-use Rattle.std.proofs.lemmas.Bool.Decides.{nat_tests}
-use Rattle.std.proofs.lemmas.Bool.{cases_eq}
-use Rattle.std.proofs.lemmas.List.Sums.{sum_by_push, sum_by-cons}
-use Rattle.pagable_model.specs.declared.numbers.ArcRef.{ArcRef}
-use Rattle.pagable_world.specs.declared.handles.HandleRow.{HandleRow}
-use Rattle.pagable_world.specs.declared.handles.Owner.{Owner}
-use Rattle.pagable_world.specs.declared.handles.Owner.TheVariants as owners
-use Rattle.pagable_world.specs.declared.rows.Mode.TheVariants as modes
-use Rattle.pagable_world.specs.Plain.{one, SameAt}
-use Rattle.pagable_world.specs.Kinds.{held, pins, is_pinning, is_owner, owner_value}
-use Rattle.pagable_tables.specs.declared.rows.Counts.{Counts}
-use Rattle.pagable_tables.specs.Falling.{pins_in, holds_in, falls_in, is_bare, is_right, Right, Fits, owns_nothing, named, is_valued, cell_in}
+use Rattle.pagable_tables.proofs.Words.{sum_by, ◌≡◌, ℕ, ◌+◌, ◌<◌, ◌≤◌, ◌==◌, ◌&&◌, ◌||◌, Bool, true, false, if◌then◌else◌, List, [], ◌∷◌, ◌++◌, length, refl, ap, sym, ◌∙◌, subst, arith, Option}
+use Rattle.pagable_tables.proofs.Words.{Some, None, inl, inr, ◌≢◌, not, nat_lt, IsSome, nat_tests, cases_eq, sum_by_push, sum_by-cons, ArcRef, HandleRow, Owner, Mode, one, SameAt, held, pins}
+use Rattle.pagable_tables.proofs.Words.{is_pinning, is_owner, owner_value, Counts, pins_in, holds_in, falls_in, is_bare, is_right, Right, Fits, owns_nothing, named, is_valued, cell_in}
 use Rattle.pagable_tables.proofs.Fitting.{pin_of, handle_of, is_owned, pin-here, held-here, pin-other, held-other}
 
 more-right : (w k bare : Bool) (p h p' h' : ℕ) → w ≡ false → p ≤ p' → h ≤ h' → (if w then h == 0 || (p == 0 && k) else nat_lt 0 h && (nat_lt 0 p || not k || bare)) ≡ true
@@ -21,11 +10,8 @@ more-right true k bare p h p' h' e a b r = absurd (cc)
 more-right false k bare p h p' h' e a b r = grind (arith, nat_tests)
 
 pub no-value : (n : ℕ) (o : Owner) → is_valued o ≡ false → is_owner (owner_value n) o ≡ false
-no-value n owners.Caller e = refl
-no-value n (owners.Value m) e = absurd (cc)
-no-value n owners.List e = refl
-no-value n (owners.Load l) e = refl
-no-value n (owners.Worker v) e = refl
+no-value n (Owner.Value m) e = absurd (cc)
+no-value n _ e = refl
 
 pub owned-by-none : (n q : ℕ) (x : HandleRow) → is_valued x.owner ≡ false → is_owned n q x ≡ 0
 owned-by-none n q x e = let a = no-value n x.owner e in grind (arith, nat_tests)
@@ -115,7 +101,7 @@ held-few n (x ∷ xs) = let a = held-few n xs in let l = sum_by-cons (handle_of 
 
 -- The handle of the row x is loose and pins its node from now on.
 abbrev pub turned : HandleRow → HandleRow
-turned x = record x { mode = modes.LoosePinned }
+turned x = record x { mode = Mode.LoosePinned }
 
 pin-turned : (x : HandleRow) → pin_of x.node.0 (turned x) ≡ 1
 pin-turned x = grind (arith, nat_tests)

@@ -1,23 +1,9 @@
 -- Where no node falls any more, all has gone that had to go, and no more.
-use Rattle.std.proofs.Common.{◌≡◌, ℕ, ◌+◌, ◌≤◌, ◌==◌, ◌&&◌, Bool, true, false, not, if◌then◌else◌, List, [], ◌∷◌, ◌++◌, sum_by, refl, ap, sym, ◌∙◌, subst, arith, inl, inr, Option, Some, None}
-use Rattle.std.specs.Prelude.{◌⊎◌, is_some, nat_lt, nat_eq, ◌||◌, Result, Ok, Err}
-use Rattle.std.proofs.lemmas.Bool.Decides.{nat_tests}
-use Rattle.std.proofs.lemmas.List.Sums.{sum_by-cons, sum_by-append}
-use Rattle.pagable_model.specs.declared.error.Error.{Error}
-use Rattle.pagable_model.specs.declared.error.Error.TheVariants as errors
-use Rattle.pagable_model.specs.declared.data_key.OptionalDataKey.TheVariants as optional
-use Rattle.pagable_model.specs.declared.numbers.ArcRef.{ArcRef}
-use Rattle.pagable_world.specs.declared.handles.HandleRow.{HandleRow}
-use Rattle.pagable_world.specs.Plain.{one, times, if_there, is_pinned_kind}
-use Rattle.pagable_world.specs.Kinds.{is_at, is_pin, is_owned_by, owner_value, held, pins, has_key, is_in_memory}
-use Rattle.pagable_world.specs.World.{Core, Cell, greatest, Alike}
-use Rattle.pagable_world.specs.Cascade.{left_rows, IsClosed, is_keyed, MustList, TellsListing, CannotList, IsListRefusal, Falls, fallen, pins_outside, held_outside}
-use Rattle.pagable_tables.specs.declared.rows.Counts.{Counts}
-use Rattle.pagable_tables.specs.declared.holdings.Holdings.{Holdings}
-use Rattle.pagable_tables.specs.Live.{live}
-use Rattle.pagable_tables.specs.ByNumber.{counts_at, refs_at}
-use Rattle.pagable_tables.specs.Falling.{Fits, IsFalling, Right, is_bare, pins_in, holds_in, falls_in, keyed_in, cell_in, HasFallen, owns, owns_nothing, named}
-use Rattle.pagable_tables.specs.Onward.{with_tables, told_by, SoFar}
+use Rattle.pagable_tables.proofs.Words.{◌≡◌, ℕ, ◌+◌, ◌≤◌, ◌==◌, ◌&&◌, Bool, true, false, not, if◌then◌else◌, List, [], ◌∷◌, ◌++◌, sum_by, refl, ap, sym, ◌∙◌, subst, arith, inl, inr, Option, Some}
+use Rattle.pagable_tables.proofs.Words.{None, ◌⊎◌, is_some, nat_lt, nat_eq, ◌||◌, Result, Ok, Err, nat_tests, sum_by-cons, sum_by-append, Error, OptionalDataKey, ArcRef, HandleRow, one, times}
+use Rattle.pagable_tables.proofs.Words.{if_there, is_pinned_kind, is_at, is_pin, is_owned_by, owner_value, held, pins, has_key, is_in_memory, Core, Cell, greatest, Alike, left_rows, IsClosed}
+use Rattle.pagable_tables.proofs.Words.{is_keyed, MustList, TellsListing, CannotList, IsListRefusal, Falls, fallen, pins_outside, held_outside, Counts, Holdings, live, counts_at, refs_at, Fits}
+use Rattle.pagable_tables.proofs.Words.{IsFalling, Right, is_bare, pins_in, holds_in, falls_in, keyed_in, cell_in, HasFallen, owns, owns_nothing, named, with_tables, told_by, SoFar}
 use Rattle.pagable_tables.proofs.Left.{times-left, entries-none}
 use Rattle.pagable_tables.proofs.Forced.{keyed-cell}
 
@@ -58,10 +44,10 @@ none-owned n (x ∷ xs) none =
     let here : one (is_owned_by (owner_value n) x) ≡ 0 = grind (arith, nat_tests) in
     omega arith
 
-down-keyed : (o : Option Counts) (cell : Option Cell) → (is_some o ≡ true → cell_in o ≡ cell) → has_key (if_there (λ (c : Cell). c.key) optional.None cell) ≡ true
+down-keyed : (o : Option Counts) (cell : Option Cell) → (is_some o ≡ true → cell_in o ≡ cell) → has_key (if_there (λ (c : Cell). c.key) OptionalDataKey.None cell) ≡ true
     → (holds_in o ≡ 0) ⊎ (keyed_in o ≡ true)
 down-keyed None cell same e = inl refl
-down-keyed (Some c) cell same e = inr (sym (keyed-cell c.key) ∙ ap (λ (o : Option Cell). has_key (if_there (λ (c : Cell). c.key) optional.None o)) (same refl) ∙ e)
+down-keyed (Some c) cell same e = inr (sym (keyed-cell c.key) ∙ ap (λ (o : Option Cell). has_key (if_there (λ (c : Cell). c.key) OptionalDataKey.None o)) (same refl) ∙ e)
 
 cell-kept : (o : Option Counts) (refs : List ArcRef) (h : ℕ) (cell : Option Cell) → falls_in o ≡ false → Right o refs → holds_in o ≡ h → (is_some o ≡ true → cell_in o ≡ cell)
     → cell_in o ≡ (if nat_lt 0 h then cell else None)
@@ -85,8 +71,8 @@ same-usable kind (Some n) rows rows' cells cells' e same =
     ∙ ap (λ c. if_there (λ (cell : Cell). if is_pinned_kind kind && not (is_in_memory (pins n rows) cell.key) then None else Some n) None c) (same n)
 
 refusal : (w w' : Core) (e : Error) → IsListRefusal w w' e → CannotList w w'
-refusal w w' errors.NumbersSpent r = inl r
-refusal w w' errors.OutOfMemory r = inr r.0
+refusal w w' Error.NumbersSpent r = inl r
+refusal w w' Error.OutOfMemory r = inr r.0
 refusal w w' _ r = absurd r
 
 each-listed : (before w w' : Core) (entries : List HandleRow) (r : Result (Unit {0}) Error) → TellsListing before w entries r w' → (n : ℕ) → MustList before w w' n

@@ -1,26 +1,11 @@
 -- The entries of the list are given up one after the other, while no cell is listed.
-use Rattle.std.proofs.Common.{◌≡◌, ℕ, ◌+◌, ◌<◌, ◌≤◌, ◌==◌, ◌&&◌, ◌||◌, Bool, true, false, not, if◌then◌else◌, List, [], ◌∷◌, ◌++◌, suc, zero, filter, length, map, Some, None, refl, ap, sym, ◌∙◌, subst, arith}
-use Rattle.std.specs.Prelude.{Option, Result, Ok, Err, nat_lt, vec_capacity}
-use Rattle.std.proofs.lemmas.Bool.Decides.{nat_tests}
-use Rattle.std.proofs.lemmas.List.{append-nil}
-use Rattle.std.proofs.lemmas.List.Sums.{sum_by-cons, sum_by-append, sum_by_push}
-use Rattle.pagable_model.specs.declared.error.Error.{Error}
-use Rattle.pagable_model.specs.declared.numbers.HandleNumber.{HandleNumber}
-use Rattle.pagable_world.specs.declared.handles.HandleRow.{HandleRow}
-use Rattle.pagable_world.specs.declared.handles.Owner.TheVariants as owners
-use Rattle.pagable_world.specs.Plain.{Blob, Among, one, times, if_there}
-use Rattle.pagable_world.specs.Kinds.{is_at, is_handle, is_owned_by, find_row, held}
-use Rattle.pagable_world.specs.World.{Core}
+use Rattle.pagable_tables.proofs.Words.{◌≡◌, ℕ, ◌+◌, ◌<◌, ◌≤◌, ◌==◌, ◌&&◌, ◌||◌, Bool, true, false, not, if◌then◌else◌, List, [], ◌∷◌, ◌++◌, suc, zero, filter, length, map, Some, None, refl, ap}
+use Rattle.pagable_tables.proofs.Words.{sym, ◌∙◌, subst, arith, Option, Result, Ok, Err, nat_lt, vec_capacity, nat_tests, append-nil, sum_by-cons, sum_by-append, sum_by_push, Error, HandleNumber}
+use Rattle.pagable_tables.proofs.Words.{HandleRow, Owner, Blob, Among, one, times, if_there, is_at, is_handle, is_owned_by, find_row, held, Core, FallsAnyhow, left_rows, nobody, TellsListing}
+use Rattle.pagable_tables.proofs.Words.{is_owned_in, Holdings, Tables, core_of, live, told_by, SoFar, entered, with_list, AreEntries}
 use Rattle.pagable_world.specs.Calls.{shut as shut_world}
-use Rattle.pagable_world.specs.Cascade.{FallsAnyhow, left_rows, nobody, TellsListing}
-use Rattle.pagable_world.specs.LoadCalls.{is_owned_in}
 use Rattle.pagable_world.specs.Pager as pager
-use Rattle.pagable_tables.specs.declared.holdings.Holdings.{Holdings}
-use Rattle.pagable_tables.specs.declared.tables.Tables.{Tables}
-use Rattle.pagable_tables.specs.Core.{core_of, IsWhole}
-use Rattle.pagable_tables.specs.Live.{live}
-use Rattle.pagable_tables.specs.Onward.{told_by, SoFar}
-use Rattle.pagable_tables.specs.Closing.{entered, with_list, AreEntries}
+use Rattle.pagable_tables.specs.Core.{IsWhole}
 use Rattle.pagable_tables.proofs.keeps.Rests.{found-so}
 use Rattle.pagable_tables.proofs.keeps.Rows.{counted, only-row}
 use Rattle.pagable_tables.proofs.Begun.{begins, begun, shut-then}
@@ -69,7 +54,7 @@ module _ {before w : Core} {given : ℕ → Bool} {t : Holdings} (f : SoFar befo
   none-came = no-entries f.entries (λ n some. let e : true ≡ false = sym shut ∙ (f.only n some).0.stands_open in absurd (cc))
 
   -- a handle that the list owned, and doesn't now, has gone
-  pub went : (q : ℕ) → is_owned_in w owners.List q ≡ true → if_there (is_owned_by owners.List) false (find_row q (live t.handles.places.items)) ≡ false → SoFar before w (and_one given q) false t
+  pub went : (q : ℕ) → is_owned_in w Owner.List q ≡ true → if_there (is_owned_by Owner.List) false (find_row q (live t.handles.places.items)) ≡ false → SoFar before w (and_one given q) false t
   went q owned none = regiven before w given (and_one given q) false t f less (λ r e. grind (arith, nat_tests))
     where
       gone : f.gone q ≡ true
@@ -80,7 +65,7 @@ module _ {before w : Core} {given : ℕ → Bool} {t : Holdings} (f : SoFar befo
           at false e =
               let a : find_row q (live t.handles.places.items) ≡ find_row q w.rows =
               ap (find_row q) (f.rows ∙ ap (λ es. left_rows f.gone w.rows ++ es) none-came ∙ append-nil (left_rows f.gone w.rows)) ∙ find-kept f.gone q w.rows e in
-              let g : true ≡ false = sym owned ∙ sym (ap (if_there (is_owned_by owners.List) false) a) ∙ none in
+              let g : true ≡ false = sym owned ∙ sym (ap (if_there (is_owned_by Owner.List) false) a) ∙ none in
               absurd (cc)
 
       less : (r : ℕ) → and_one given q r ≡ true → (given r || f.gone r) ≡ true
@@ -163,7 +148,7 @@ one-given-up before w t list left x le f = regiven before w (λ q. given_up list
 
 -- the list's handles of one number
 abbrev lists : ℕ → HandleRow → Bool
-lists q h = is_handle q h && is_owned_by owners.List h
+lists q h = is_handle q h && is_owned_by Owner.List h
 
 -- the list of a whole world has each of its entries once, and owns it
 pub are-entries : {w : Core} → pager.IsWhole w → AreEntries w
@@ -171,11 +156,11 @@ are-entries {w} whole =
     record {
       once = λ q. at q (times (lists q) w.rows) refl;
       owned = λ q is. let (x, among, number, own) = row q (let a = whole.owners_there.listed q in grind (arith, nat_tests)) in
-          ap (if_there (is_owned_by owners.List) false) (found-so q w.rows x whole.handles.ordered among number) ∙ own;
+          ap (if_there (is_owned_by Owner.List) false) (found-so q w.rows x whole.handles.ordered among number) ∙ own;
     }
   where
-    row : (q : ℕ) → 0 < times (lists q) w.rows → (x : HandleRow) × Among w.rows x × (x.number.0 ≡ q) × (is_owned_by owners.List x ≡ true)
-    row q some = let (x, among, counts) = counted (λ h. one (lists q h)) w.rows some in let (a, b) = both (is_handle q x) (is_owned_by owners.List x) counts in (x, among, grind (arith, nat_tests), b)
+    row : (q : ℕ) → 0 < times (lists q) w.rows → (x : HandleRow) × Among w.rows x × (x.number.0 ≡ q) × (is_owned_by Owner.List x ≡ true)
+    row q some = let (x, among, counts) = counted (λ h. one (lists q h)) w.rows some in let (a, b) = both (is_handle q x) (is_owned_by Owner.List x) counts in (x, among, grind (arith, nat_tests), b)
       where
         both : (a b : Bool) → 0 < one (a && b) → (a ≡ true) × (b ≡ true)
         both true true p = (refl, refl)
@@ -186,7 +171,7 @@ are-entries {w} whole =
     at q zero e = let a = whole.owners_there.listed q in omega arith
     at q (suc k) e =
         let (x, among, number, own) = row q (omega arith) in
-        let a = only-row (λ h. one (lists q h)) w.rows x whole.handles.ordered among (λ y other. let o : (y.number.0 == q) ≡ false = grind (arith, nat_tests) in ap (λ b. one (b && is_owned_by owners.List y)) o) in
+        let a = only-row (λ h. one (lists q h)) w.rows x whole.handles.ordered among (λ y other. let o : (y.number.0 == q) ≡ false = grind (arith, nat_tests) in ap (λ b. one (b && is_owned_by Owner.List y)) o) in
         let b = whole.owners_there.listed q in
         let c = small (lists q x) in
         omega arith

@@ -1,12 +1,6 @@
 -- Handles are no more after one is given up, and the list has no more entries where cells aren't listed.
-use Rattle.std.proofs.Common.{◌≡◌, ℕ, ◌≤◌, Bool, true, false, if◌then◌else◌, List, [], ◌∷◌, ◌++◌, length, ap, ◌∙◌, arith, inl, inr, refl, Option}
-use Rattle.std.proofs.lemmas.List.{append-nil}
-use Rattle.pagable_model.specs.declared.numbers.HandleNumber.{HandleNumber}
-use Rattle.pagable_model.specs.declared.numbers.NodeNumber.{NodeNumber}
-use Rattle.pagable_world.specs.declared.handles.HandleRow.{HandleRow}
-use Rattle.pagable_tables.specs.declared.holdings.Holdings.{Holdings}
-use Rattle.pagable_tables.specs.Live.{live}
-use Rattle.pagable_tables.specs.Falling.{GivesUp, Steps}
+use Rattle.pagable_tables.proofs.Words.{◌≡◌, ℕ, ◌≤◌, Bool, true, false, if◌then◌else◌, List, [], ◌∷◌, ◌++◌, length, ap, ◌∙◌, arith, inl, inr, refl, Option, append-nil, HandleNumber, NodeNumber}
+use Rattle.pagable_tables.proofs.Words.{HandleRow, Holdings, live, GivesUp, Steps}
 use Rattle.pagable_tables.proofs.Leaving.{leaves-sums}
 use Rattle.pagable_tables.proofs.Going.{ones}
 

@@ -1,18 +1,8 @@
 -- A handle is given up: handles and nodes fit again.
-use Rattle.std.proofs.Common.{◌≡◌, ℕ, ◌+◌, ◌-◌, ◌<◌, ◌≤◌, ◌==◌, ◌&&◌, ◌||◌, Bool, true, false, if◌then◌else◌, List, [], ◌∷◌, ◌++◌, length, sum_by, refl, ap, sym, ◌∙◌, subst, arith, Option, Some, None, suc, zero, inl, inr}
-use Rattle.std.specs.Prelude.{◌⊎◌, ◌≢◌, is_some, nat_lt, not}
-use Rattle.std.proofs.lemmas.Bool.Decides.{nat_tests}
-use Rattle.std.proofs.lemmas.Bool.{cases_eq}
-use Rattle.std.proofs.lemmas.List.Sums.{sum_by-cons, sum_by-le-sum_by, sum_by_push}
-use Rattle.pagable_model.specs.declared.numbers.ArcRef.{ArcRef}
-use Rattle.pagable_model.specs.declared.numbers.NodeNumber.{NodeNumber}
-use Rattle.pagable_world.specs.declared.handles.HandleRow.{HandleRow}
-use Rattle.pagable_world.specs.declared.handles.Owner.{Owner}
-use Rattle.pagable_world.specs.declared.handles.Owner.TheVariants as owners
-use Rattle.pagable_world.specs.Plain.{one}
-use Rattle.pagable_world.specs.Kinds.{held, pins, is_pin, is_at, is_pinning, is_handle, is_owner, owner_value}
-use Rattle.pagable_tables.specs.declared.rows.Counts.{Counts}
-use Rattle.pagable_tables.specs.Falling.{pins_in, holds_in, falls_in, next_in, keyed_in, Chain, is_bare, is_right, Right, is_fallen_by, after, is_new, Fits, entry, owns, owns_nothing, named, often, cell_in, CellsStay, HasFallen}
+use Rattle.pagable_tables.proofs.Words.{◌≡◌, ℕ, ◌+◌, ◌-◌, ◌<◌, ◌≤◌, ◌==◌, ◌&&◌, ◌||◌, Bool, true, false, if◌then◌else◌, List, [], ◌∷◌, ◌++◌, length, sum_by, refl, ap, sym, ◌∙◌, subst, arith}
+use Rattle.pagable_tables.proofs.Words.{Option, Some, None, suc, zero, inl, inr, ◌⊎◌, ◌≢◌, is_some, nat_lt, not, nat_tests, cases_eq, sum_by-cons, sum_by-le-sum_by, sum_by_push, ArcRef}
+use Rattle.pagable_tables.proofs.Words.{NodeNumber, HandleRow, Owner, one, held, pins, is_pin, is_at, is_pinning, is_handle, is_owner, owner_value, Counts, pins_in, holds_in, falls_in, next_in}
+use Rattle.pagable_tables.proofs.Words.{keyed_in, Chain, is_bare, is_right, Right, is_fallen_by, after, is_new, Fits, entry, owns, owns_nothing, named, often, cell_in, CellsStay, HasFallen}
 
 -- 1 for a handle that pins the node, for one of it, for the handle q that its value owns, and for the handle q
 abbrev pub pin_of : ℕ → HandleRow → ℕ
@@ -280,11 +270,8 @@ still-right true a b b' e h = h
 still-right false a b b' e h = absurd (cc)
 
 owner-value : (n : ℕ) (o : Owner) → is_owner (owner_value n) o ≡ true → o ≡ owner_value n
-owner-value n owners.Caller h = absurd (cc)
-owner-value n (owners.Value m) h = let same : m.0 ≡ n = grind (arith, nat_tests) in ap owner_value same
-owner-value n owners.List h = absurd (cc)
-owner-value n (owners.Load l) h = absurd (cc)
-owner-value n (owners.Worker v) h = absurd (cc)
+owner-value n (Owner.Value m) h = let same : m.0 ≡ n = grind (arith, nat_tests) in ap owner_value same
+owner-value n _ h = absurd (cc)
 
 -- what waits may lose references
 still : (o : Option Counts) (refs refs' : List ArcRef) → falls_in o ≡ true → Right o refs → Right o refs'

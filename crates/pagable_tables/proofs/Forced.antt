@@ -1,20 +1,8 @@
 -- A handle that a fallen value owned is in each closed set.
-use Rattle.std.proofs.Common.{◌≡◌, ℕ, ◌+◌, ◌≤◌, ◌&&◌, Bool, true, false, not, if◌then◌else◌, List, [], ◌∷◌, refl, ap, sym, ◌∙◌, arith, Option, Some, None, inl, inr, zero, suc}
-use Rattle.std.specs.Prelude.{is_some, nat_lt, nat_eq}
-use Rattle.std.proofs.lemmas.Bool.Decides.{nat_tests}
-use Rattle.std.proofs.lemmas.List.Sums.{sum_by-cons, sum_by-append, sum_by-le-sum_by}
-use Rattle.pagable_model.specs.declared.data_key.OptionalDataKey.TheVariants as optional
-use Rattle.pagable_world.specs.declared.handles.HandleRow.{HandleRow}
-use Rattle.pagable_world.specs.Plain.{one, times, if_there}
-use Rattle.pagable_world.specs.Kinds.{is_at, is_pin, is_owned_by, owner_value, held, pins, has_key}
-use Rattle.pagable_world.specs.World.{Core, Cell}
-use Rattle.pagable_world.specs.Cascade.{IsWithin, IsClosed, is_keyed, is_outside, left_rows, held_outside, pins_outside}
-use Rattle.pagable_tables.specs.declared.rows.Counts.{Counts}
-use Rattle.pagable_tables.specs.declared.holdings.Holdings.{Holdings}
-use Rattle.pagable_tables.specs.Live.{live}
-use Rattle.pagable_tables.specs.ByNumber.{counts_at}
-use Rattle.pagable_tables.specs.Falling.{keyed_in, key_in, cell_in, HasFallen}
-use Rattle.pagable_tables.specs.Onward.{SoFar}
+use Rattle.pagable_tables.proofs.Words.{◌≡◌, ℕ, ◌+◌, ◌≤◌, ◌&&◌, Bool, true, false, not, if◌then◌else◌, List, [], ◌∷◌, refl, ap, sym, ◌∙◌, arith, Option, Some, None, inl, inr, zero, suc, is_some}
+use Rattle.pagable_tables.proofs.Words.{nat_lt, nat_eq, nat_tests, sum_by-cons, sum_by-append, sum_by-le-sum_by, OptionalDataKey, HandleRow, one, times, if_there, is_at, is_pin, is_owned_by}
+use Rattle.pagable_tables.proofs.Words.{owner_value, held, pins, has_key, Core, Cell, IsWithin, IsClosed, is_keyed, is_outside, left_rows, held_outside, pins_outside, Counts, Holdings, live}
+use Rattle.pagable_tables.proofs.Words.{counts_at, keyed_in, key_in, cell_in, HasFallen, SoFar}
 use Rattle.pagable_tables.proofs.Left.{times-left, entries-none}
 
 -- what is outside the one set is outside the other, or between them
@@ -43,9 +31,9 @@ pub keyed-cell : (k : ℕ) → has_key (key_in k) ≡ nat_lt 0 k
 keyed-cell zero = refl
 keyed-cell (suc n) = let some : nat_lt 0 (suc n) ≡ true = grind (arith, nat_tests) in sym some
 
-up-keyed : (o : Option Counts) (cell : Option Cell) → (is_some o ≡ true → cell_in o ≡ cell) → keyed_in o ≡ true → has_key (if_there (λ (c : Cell). c.key) optional.None cell) ≡ true
+up-keyed : (o : Option Counts) (cell : Option Cell) → (is_some o ≡ true → cell_in o ≡ cell) → keyed_in o ≡ true → has_key (if_there (λ (c : Cell). c.key) OptionalDataKey.None cell) ≡ true
 up-keyed None cell same e = absurd (cc)
-up-keyed (Some c) cell same e = ap (λ (o : Option Cell). has_key (if_there (λ (c : Cell). c.key) optional.None o)) (sym (same refl)) ∙ keyed-cell c.key ∙ e
+up-keyed (Some c) cell same e = ap (λ (o : Option Cell). has_key (if_there (λ (c : Cell). c.key) OptionalDataKey.None o)) (sym (same refl)) ∙ keyed-cell c.key ∙ e
 
 module _ (before w : Core) (given : ℕ → Bool) (lists : Bool) (t : Holdings) (f : SoFar before w given lists t) (s : ℕ → Bool) (within : IsWithin w.rows f.gone s) where
   counted : (p : HandleRow → Bool) → times p (live t.handles.places.items) ≡ times (λ h. p h && not (f.gone h.number.0)) w.rows + times p f.entries

@@ -1,22 +1,12 @@
 -- The handles that references name are given up one after the other.
-use Rattle.std.proofs.Common.{◌≡◌, ℕ, ◌+◌, ◌<◌, ◌==◌, ◌&&◌, ◌||◌, Bool, true, false, List, [], ◌∷◌, ◌++◌, take, get_or, length, refl, ap, sym, ◌∙◌, arith, add-one}
-use Rattle.std.proofs.lemmas.Bool.Decides.{nat_tests}
-use Rattle.std.proofs.Math.Seq.{take-suc}
-use Rattle.pagable_model.specs.declared.numbers.ArcRef.{ArcRef}
-use Rattle.pagable_model.specs.declared.numbers.LoadNumber.{LoadNumber}
-use Rattle.pagable_world.specs.declared.handles.Owner.TheVariants as owners
-use Rattle.pagable_world.specs.World.{Core}
-use Rattle.pagable_world.specs.Cascade.{nobody}
-use Rattle.pagable_world.specs.Calls.{is_named_by}
-use Rattle.pagable_world.specs.LoadCalls.{is_owned_in}
-use Rattle.pagable_tables.specs.declared.holdings.Holdings.{Holdings}
-use Rattle.pagable_tables.specs.Onward.{SoFar}
+use Rattle.pagable_tables.proofs.Words.{◌≡◌, ℕ, ◌+◌, ◌<◌, ◌==◌, ◌&&◌, ◌||◌, Bool, true, false, List, [], ◌∷◌, ◌++◌, take, get_or, length, refl, ap, sym, ◌∙◌, arith, add-one, nat_tests, take-suc}
+use Rattle.pagable_tables.proofs.Words.{ArcRef, LoadNumber, Owner, Core, nobody, is_named_by, is_owned_in, Holdings, SoFar}
 use Rattle.pagable_tables.proofs.Named.{named-push}
 use Rattle.pagable_tables.proofs.Regiven.{regiven, and_owned}
 
 -- what the load owns of the handles that so many references name
 abbrev pub named_owned : Core → LoadNumber → List ArcRef → ℕ → ℕ → Bool
-named_owned w l rs i q = is_named_by (take i rs) q && is_owned_in w (owners.Load l) q
+named_owned w l rs i q = is_named_by (take i rs) q && is_owned_in w (Owner.Load l) q
 
 named-more : (rs : List ArcRef) (i : ℕ) (d : ArcRef) (q : ℕ) → i < length rs → is_named_by (take (i + 1) rs) q ≡ ((get_or rs i d).handle.0 == q || is_named_by (take i rs) q)
 named-more rs i d q lt =
@@ -42,7 +32,7 @@ module _ (before w : Core) (lists : Bool) (t : Holdings) (l : LoadNumber) (rs : 
       (λ r e. let p = named-more rs i d r lt in let s : ((get_or rs i d).handle.0 == r) ≡ (r == (get_or rs i d).handle.0) = grind (arith, nat_tests) in grind (arith, nat_tests))
       (λ r e. let p = named-more rs i d r lt in let s : ((get_or rs i d).handle.0 == r) ≡ (r == (get_or rs i d).handle.0) = grind (arith, nat_tests) in grind (arith, nat_tests))
 
-  pub all-given : (i : ℕ) → take i rs ≡ rs → ((q : ℕ) → is_named_by rs q ≡ true → is_owned_in w (owners.Load l) q ≡ true) → SoFar before w (named_owned w l rs i) lists t → SoFar before w (is_named_by rs) lists t
+  pub all-given : (i : ℕ) → take i rs ≡ rs → ((q : ℕ) → is_named_by rs q ≡ true → is_owned_in w (Owner.Load l) q ≡ true) → SoFar before w (named_owned w l rs i) lists t → SoFar before w (is_named_by rs) lists t
   all-given i all owned f =
       regiven before w (named_owned w l rs i) (is_named_by rs) lists t f
       (λ r e. let p = ap (λ l. is_named_by l r) all in let o = owned r e in grind (arith, nat_tests))

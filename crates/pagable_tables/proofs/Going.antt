@@ -1,24 +1,9 @@
 -- One handle more has gone, given up directly or by a value that has fallen: what has gone so far.
-use Rattle.std.proofs.Common.{◌≡◌, ℕ, ◌+◌, ◌<◌, ◌≤◌, ◌==◌, ◌&&◌, Bool, true, false, not, if◌then◌else◌, List, [], ◌∷◌, ◌++◌, length, filter, map, sum_by, refl, ap, sym, ◌∙◌, subst, arith, inl, inr}
-use Rattle.std.specs.Prelude.{is_some, vec_capacity}
-use Rattle.std.proofs.lemmas.Bool.{cases_Bool}
-use Rattle.std.proofs.lemmas.Bool.Decides.{nat_tests}
-use Rattle.std.proofs.lemmas.List.{append_assoc, append-nil, map-append, length-append}
-use Rattle.std.proofs.lemmas.List.Sums.{sum_by-cons, sum_by-append, sum_by-le-sum_by}
-use Rattle.pagable_model.specs.declared.error.Error.{Error}
-use Rattle.pagable_model.specs.declared.numbers.HandleNumber.{HandleNumber}
-use Rattle.pagable_model.specs.declared.numbers.NodeNumber.{NodeNumber}
-use Rattle.pagable_world.specs.declared.handles.HandleRow.{HandleRow}
-use Rattle.pagable_world.specs.declared.handles.Owner.TheVariants as owners
-use Rattle.pagable_world.specs.Plain.{one, times}
-use Rattle.pagable_world.specs.Kinds.{is_pin, is_handle, is_owned_by, held, pins}
-use Rattle.pagable_world.specs.World.{Core, greatest}
-use Rattle.pagable_world.specs.Cascade.{left_rows, IsWithin, IsClosed, AreNewEntries, TellsListing, IsListRefusal, is_keyed}
-use Rattle.pagable_tables.specs.declared.holdings.Holdings.{Holdings}
-use Rattle.pagable_tables.specs.Live.{live}
-use Rattle.pagable_tables.specs.ByNumber.{counts_at}
-use Rattle.pagable_tables.specs.Falling.{pins_in, entry, entries_of, is_listing, cell_in, first_cause, IsUnlisted, GivesUp, HasPlaces}
-use Rattle.pagable_tables.specs.Onward.{with_tables, told_by, SoFar}
+use Rattle.pagable_tables.proofs.Words.{◌≡◌, ℕ, ◌+◌, ◌<◌, ◌≤◌, ◌==◌, ◌&&◌, Bool, true, false, not, if◌then◌else◌, List, [], ◌∷◌, ◌++◌, length, filter, map, sum_by, refl, ap, sym, ◌∙◌, subst}
+use Rattle.pagable_tables.proofs.Words.{arith, inl, inr, is_some, vec_capacity, cases_Bool, nat_tests, append_assoc, append-nil, map-append, length-append, sum_by-cons, sum_by-append}
+use Rattle.pagable_tables.proofs.Words.{sum_by-le-sum_by, Error, HandleNumber, NodeNumber, HandleRow, Owner, one, times, is_pin, is_handle, is_owned_by, held, pins, Core, greatest, left_rows}
+use Rattle.pagable_tables.proofs.Words.{IsWithin, IsClosed, AreNewEntries, TellsListing, IsListRefusal, is_keyed, Holdings, live, counts_at, pins_in, entry, entries_of, is_listing, cell_in}
+use Rattle.pagable_tables.proofs.Words.{first_cause, IsUnlisted, GivesUp, HasPlaces, with_tables, told_by, SoFar}
 use Rattle.pagable_tables.proofs.Left.{and_one, kept-more, times-left, entries-more}
 use Rattle.pagable_tables.proofs.Leaving.{leaves-sums}
 use Rattle.pagable_tables.proofs.Wanted.{entry-pins}
@@ -93,7 +78,7 @@ pub record IsApart (before w : Core) (given : ℕ → Bool) (lists : Bool) (t : 
 
 -- so may one that the list doesn't own
 pub unlisted-apart : (before w : Core) (given : ℕ → Bool) (lists : Bool) (t popped new : Holdings) (stack : List ℕ) (x : HandleRow) (f : SoFar before w given lists t) → GivesUp popped stack x lists new
-    → popped ≡ record t { nodes = popped.nodes } → is_owned_by owners.List x ≡ false → IsApart before w given lists t f x.number.0
+    → popped ≡ record t { nodes = popped.nodes } → is_owned_by Owner.List x ≡ false → IsApart before w given lists t f x.number.0
 unlisted-apart before w given lists t popped new stack x f g same owner =
     let q = x.number.0 in
     let rows : live popped.handles.places.items ≡ live t.handles.places.items = ap (λ (h : Holdings). live h.handles.places.items) same in

@@ -1,17 +1,7 @@
 -- Handles that are named come to another owner, one after the other.
-use Rattle.std.proofs.Common.{◌≡◌, ℕ, ◌+◌, ◌≤◌, ◌==◌, ◌||◌, Bool, true, false, if◌then◌else◌, List, [], ◌∷◌, length, get_or, drop, map, refl, ap, sym, ◌∙◌, arith, suc, zero, Some}
-use Rattle.std.proofs.lemmas.Bool.Decides.{nat_tests}
-use Rattle.std.proofs.lemmas.List.{at_drop_more, at_drop_all}
-use Rattle.pagable_model.specs.declared.numbers.HandleNumber.{HandleNumber}
-use Rattle.pagable_world.specs.declared.handles.HandleRow.{HandleRow}
-use Rattle.pagable_world.specs.declared.handles.Owner.{Owner}
-use Rattle.pagable_world.specs.Plain.{is_in}
-use Rattle.pagable_world.specs.Kinds.{is_handle, find_row}
-use Rattle.pagable_world.specs.Cascade.{only_handle}
-use Rattle.pagable_world.specs.Calls.{moved}
-use Rattle.pagable_world.specs.LoadCalls.{numbers_of}
-use Rattle.pagable_tables.specs.Falling.{is_valued}
-use Rattle.pagable_tables.specs.Named.{seen, named_at, IsNamed}
+use Rattle.pagable_tables.proofs.Words.{◌≡◌, ℕ, ◌+◌, ◌≤◌, ◌==◌, ◌||◌, Bool, true, false, if◌then◌else◌, List, [], ◌∷◌, length, get_or, drop, map, refl, ap, sym, ◌∙◌, arith, suc, zero, Some}
+use Rattle.pagable_tables.proofs.Words.{nat_tests, at_drop_more, at_drop_all, HandleNumber, HandleRow, Owner, is_in, is_handle, find_row, only_handle, moved, numbers_of, is_valued, seen}
+use Rattle.pagable_tables.proofs.Words.{named_at, IsNamed}
 use Rattle.pagable_tables.proofs.Seen.{in-none, in-more}
 
 -- the set is told by another test

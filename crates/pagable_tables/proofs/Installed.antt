@@ -39,7 +39,7 @@ use Rattle.pagable_tables.proofs.Dropped.{load-closed, owned-given}
 use Rattle.pagable_tables.proofs.Joined.{moved-turned, turned-sum}
 use Rattle.pagable_tables.proofs.Named.{moved-nobody, named-none}
 use Rattle.pagable_tables.proofs.Newer.{OnlyNewer, loaded-mode, newer-then, newer-moved, newer-mode, newer-handle, newer-falls}
-use Rattle.pagable_tables.proofs.Regiven.{loaded, loaded-here, loaded-none}
+use Rattle.pagable_tables.proofs.Regiven.{loaded, passes-here, passes-none}
 use Rattle.pagable_tables.proofs.Stays.{seen-before, stays-pinned, not-named}
 use Rattle.pagable_tables.proofs.Swapped.{same-value}
 use Rattle.pagable_tables.proofs.Taken.{moved-times, loaded-moved, no-load}
@@ -70,13 +70,13 @@ module _ (h : HandleNumber) (node : NodeNumber) (rows : List HandleRow) (of : (y
       by y among false e = refl
 
 loaded-beside : (l : LoadNumber) (q : ℕ) (rows : List HandleRow) (x : HandleRow) → is_owner (owners.Load l) x.owner ≡ false → loaded l q (rows ++ x ∷ []) ≡ loaded l q rows
-loaded-beside l q [] x other = loaded-here l q x [] ∙ by (is_handle q x) ∙ sym (loaded-none l q)
+loaded-beside l q [] x other = passes-here (is_owned_by (owners.Load l)) q x [] ∙ by (is_handle q x) ∙ sym (passes-none (is_owned_by (owners.Load l)) q)
   where
     by : (b : Bool) → (if b then is_owner (owners.Load l) x.owner else loaded l q []) ≡ false
     by true = other
-    by false = loaded-none l q
+    by false = passes-none (is_owned_by (owners.Load l)) q
 loaded-beside l q (y ∷ ys) x other =
-    loaded-here l q y (ys ++ x ∷ []) ∙ ap (λ b. if is_handle q y then is_owner (owners.Load l) y.owner else b) (loaded-beside l q ys x other) ∙ sym (loaded-here l q y ys)
+    passes-here (is_owned_by (owners.Load l)) q y (ys ++ x ∷ []) ∙ ap (λ b. if is_handle q y then is_owner (owners.Load l) y.owner else b) (loaded-beside l q ys x other) ∙ sym (passes-here (is_owned_by (owners.Load l)) q y ys)
 
 and-none : (b : Bool) → one (b && false) ≡ 0
 and-none true = refl

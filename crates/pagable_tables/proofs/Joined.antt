@@ -1,23 +1,9 @@
 -- What a value refers to comes with it to a node that is there, has no value and is pinned.
-use Rattle.std.proofs.Common.{◌≡◌, ℕ, ◌+◌, ◌<◌, ◌==◌, Bool, true, false, List, [], ◌∷◌, ◌++◌, sum_by, refl, ap, sym, ◌∙◌, subst, arith, Option, Some, None, inl, inr, if◌then◌else◌}
-use Rattle.std.specs.Prelude.{◌≢◌}
+use Rattle.pagable_tables.proofs.Words.{◌≡◌, ℕ, ◌+◌, ◌<◌, ◌==◌, Bool, true, false, List, [], ◌∷◌, ◌++◌, sum_by, refl, ap, sym, ◌∙◌, subst, arith, Option, Some, None, inl, inr, if◌then◌else◌, ◌≢◌}
+use Rattle.pagable_tables.proofs.Words.{cases_eq, nat_tests, sum_by_push, OptionalDataKey, ArcRef, HandleNumber, HandleRow, Owner, changed, if_there, pins, is_at, is_pin, is_handle, is_in_memory}
+use Rattle.pagable_tables.proofs.Words.{owner_value, IsHandleBefore, Cell, Core, references_fault, moved, is_named_by, Counts, Fits, Right, is_right, is_bare, cell_in, pins_in, falls_in}
+use Rattle.pagable_tables.proofs.Words.{is_valued, named, owns_nothing}
 use Rattle.std.specs.List.{AllPairs}
-use Rattle.std.proofs.lemmas.Bool.{cases_eq}
-use Rattle.std.proofs.lemmas.Bool.Decides.{nat_tests}
-use Rattle.std.proofs.lemmas.List.Sums.{sum_by_push}
-use Rattle.pagable_model.specs.declared.data_key.OptionalDataKey.TheVariants as optional
-use Rattle.pagable_model.specs.declared.numbers.ArcRef.{ArcRef}
-use Rattle.pagable_model.specs.declared.numbers.HandleNumber.{HandleNumber}
-use Rattle.pagable_world.specs.declared.handles.HandleRow.{HandleRow}
-use Rattle.pagable_world.specs.declared.handles.Owner.{Owner}
-use Rattle.pagable_world.specs.Plain.{changed, if_there}
-use Rattle.pagable_world.specs.Kinds.{pins, is_at, is_pin, is_handle, is_in_memory, owner_value}
-use Rattle.pagable_world.specs.Pager.{IsHandleBefore}
-use Rattle.pagable_world.specs.World.{Cell, Core}
-use Rattle.pagable_world.specs.Refusals.{references_fault}
-use Rattle.pagable_world.specs.Calls.{moved, is_named_by}
-use Rattle.pagable_tables.specs.declared.rows.Counts.{Counts}
-use Rattle.pagable_tables.specs.Falling.{Fits, Right, is_right, is_bare, cell_in, pins_in, falls_in, is_valued, named, owns_nothing}
 use Rattle.pagable_tables.proofs.Born.{others-own, own-own}
 use Rattle.pagable_tables.proofs.Coming.{turned, owned-by-none}
 use Rattle.pagable_tables.proofs.Fitting.{is_owned}
@@ -34,7 +20,7 @@ right-pinned (Some c) refs refs' some stands right = by (is_bare refs) (is_bare 
 
 -- a node whose value isn't in memory refers to nothing
 away-bare : (o : Option Counts) (refs : List ArcRef) (p : ℕ) → pins_in o ≡ p → falls_in o ≡ false → Right o refs
-    → is_in_memory p (if_there (λ (cell : Cell). cell.key) optional.None (cell_in o)) ≡ false → refs ≡ []
+    → is_in_memory p (if_there (λ (cell : Cell). cell.key) OptionalDataKey.None (cell_in o)) ≡ false → refs ≡ []
 away-bare None refs p pinned stands right away = right
 away-bare (Some c) refs p pinned stands right away =
     bare refs (by (is_bare refs) right)
@@ -48,7 +34,7 @@ away-bare (Some c) refs p pinned stands right away =
 
 -- so its value owns nothing
 pub owns-none : (at : ℕ → Option Counts) (refs : ℕ → List ArcRef) (rows : List HandleRow) (top n : ℕ) → Fits at refs rows top [] owns_nothing
-    → is_in_memory (pins n rows) (if_there (λ (cell : Cell). cell.key) optional.None (cell_in (at n))) ≡ false → (q : ℕ) → sum_by (is_owned n q) rows ≡ 0
+    → is_in_memory (pins n rows) (if_there (λ (cell : Cell). cell.key) OptionalDataKey.None (cell_in (at n))) ≡ false → (q : ℕ) → sum_by (is_owned n q) rows ≡ 0
 owns-none at refs rows top n fits away q =
     let m = fits.marked n in
     let stands : falls_in (at n) ≡ false = grind (arith, nat_tests) in
@@ -86,9 +72,7 @@ moved-turned s o q x (y ∷ ys) spared =
 
     both : (a b : Bool) → (if b then record (pinned a) { owner = o } else pinned a) ≡ (if a then turned (given b) else given b)
     both true true = refl
-    both true false = refl
-    both false true = refl
-    both false false = refl
+    both _ _ = refl
 
 -- what is counted whether handles are pinned or not
 pub turned-sum : (f : HandleRow → ℕ) (q : ℕ) (rows : List HandleRow) → ((x : HandleRow) → f (turned x) ≡ f x) → sum_by f (changed (is_handle q) turned rows) ≡ sum_by f rows

@@ -1,17 +1,7 @@
 -- A node gets a key: handles and nodes fit again.
-use Rattle.std.proofs.Common.{◌≡◌, ℕ, ◌+◌, ◌<◌, ◌==◌, ◌&&◌, ◌||◌, Bool, true, false, if◌then◌else◌, List, [], ◌∷◌, refl, ap, sym, ◌∙◌, subst, arith, inl, inr, Option, Some, None, zero, suc}
-use Rattle.std.specs.Prelude.{◌≢◌, nat_lt, not}
-use Rattle.std.proofs.lemmas.Bool.{cases_eq}
-use Rattle.std.proofs.lemmas.Bool.Decides.{nat_tests}
-use Rattle.std.proofs.lemmas.List.Sums.{sum_by-cons}
-use Rattle.pagable_model.specs.declared.data_key.OptionalDataKey.TheVariants as optional
-use Rattle.pagable_model.specs.declared.numbers.ArcRef.{ArcRef}
-use Rattle.pagable_world.specs.declared.handles.HandleRow.{HandleRow}
-use Rattle.pagable_world.specs.Plain.{one, updated, if_there}
-use Rattle.pagable_world.specs.World.{Cell}
-use Rattle.pagable_tables.specs.declared.rows.Counts.{Counts}
-use Rattle.pagable_tables.specs.Falling.{Fits, Chain, Right, is_right, is_bare, is_new, pins_in, holds_in, falls_in, next_in, key_in, cell_in, often, named, owns_nothing}
-use Rattle.pagable_tables.specs.Keyed.{keyed, GetsKey}
+use Rattle.pagable_tables.proofs.Words.{◌≡◌, ℕ, ◌+◌, ◌<◌, ◌==◌, ◌&&◌, ◌||◌, Bool, true, false, if◌then◌else◌, List, [], ◌∷◌, refl, ap, sym, ◌∙◌, subst, arith, inl, inr, Option, Some, None, zero}
+use Rattle.pagable_tables.proofs.Words.{suc, ◌≢◌, nat_lt, not, cases_eq, nat_tests, sum_by-cons, OptionalDataKey, ArcRef, HandleRow, one, updated, if_there, Cell, Counts, Fits, Chain, Right}
+use Rattle.pagable_tables.proofs.Words.{is_right, is_bare, is_new, pins_in, holds_in, falls_in, next_in, key_in, cell_in, often, named, owns_nothing, keyed, GetsKey}
 use Rattle.pagable_tables.proofs.Coming.{is-free}
 use Rattle.pagable_tables.proofs.Lowered.{updated-here, updated-other}
 
@@ -21,7 +11,7 @@ keyed-right true bare p h k key e some r = absurd (cc)
 keyed-right false bare zero h k key e some r = grind (arith, nat_tests)
 keyed-right false bare (suc p) h k key e some r = grind (arith, nat_tests)
 
-key-some : (key : ℕ) → 0 < key → key_in key ≡ optional.Some key
+key-some : (key : ℕ) → 0 < key → key_in key ≡ OptionalDataKey.Some key
 key-some zero some = absurd (omega arith)
 key-some (suc n) some = refl
 
@@ -80,10 +70,10 @@ module _ (at at' : ℕ → Option Counts) (refs refs' : ℕ → List ArcRef) (ro
   pub key-cells : GetsKey at at' n key
   key-cells m = elim (cases_eq m n) [
     | inl eq ↦
-        let g : cell_in (at' n) ≡ updated n (if_there (λ (cell : Cell). Some (record cell { key = optional.Some key })) None (cell_in (at n))) (λ k. cell_in (at k)) n =
+        let g : cell_in (at' n) ≡ updated n (if_there (λ (cell : Cell). Some (record cell { key = OptionalDataKey.Some key })) None (cell_in (at n))) (λ k. cell_in (at k)) n =
         ap cell_in here ∙ ap (λ k. Some (record { node_type = c.node_type; key = k })) (key-some key some)
-        ∙ sym (updated-here n (if_there (λ (cell : Cell). Some (record cell { key = optional.Some key })) None (cell_in (at n))) (λ k. cell_in (at k))
-        ∙ ap (λ o. if_there (λ (cell : Cell). Some (record cell { key = optional.Some key })) None (cell_in o)) is) in
-        subst (λ k. cell_in (at' k) ≡ updated n (if_there (λ (cell : Cell). Some (record cell { key = optional.Some key })) None (cell_in (at n))) (λ k. cell_in (at k)) k) (sym eq) g
-    | inr other ↦ ap cell_in (others m other) ∙ sym (updated-other n (if_there (λ (cell : Cell). Some (record cell { key = optional.Some key })) None (cell_in (at n))) (λ k. cell_in (at k)) m other)
+        ∙ sym (updated-here n (if_there (λ (cell : Cell). Some (record cell { key = OptionalDataKey.Some key })) None (cell_in (at n))) (λ k. cell_in (at k))
+        ∙ ap (λ o. if_there (λ (cell : Cell). Some (record cell { key = OptionalDataKey.Some key })) None (cell_in o)) is) in
+        subst (λ k. cell_in (at' k) ≡ updated n (if_there (λ (cell : Cell). Some (record cell { key = OptionalDataKey.Some key })) None (cell_in (at n))) (λ k. cell_in (at k)) k) (sym eq) g
+    | inr other ↦ ap cell_in (others m other) ∙ sym (updated-other n (if_there (λ (cell : Cell). Some (record cell { key = OptionalDataKey.Some key })) None (cell_in (at n))) (λ k. cell_in (at k)) m other)
   ]

@@ -1,16 +1,7 @@
 -- A cell has got a key: nothing else has gone or come so far.
-use Rattle.std.proofs.Common.{◌≡◌, ℕ, Bool, not, refl, sym, subst, arith, Option, None}
-use Rattle.pagable_model.specs.declared.numbers.NodeNumber.{NodeNumber}
-use Rattle.pagable_world.specs.Plain.{Blob}
-use Rattle.pagable_world.specs.Calls.{with_key}
-use Rattle.pagable_world.specs.World.{Core}
-use Rattle.pagable_world.specs.Cascade.{nobody}
-use Rattle.pagable_tables.specs.declared.tables.Tables.{Tables}
-use Rattle.pagable_tables.specs.declared.holdings.Holdings.{Holdings}
-use Rattle.pagable_tables.specs.ByNumber.{counts_at}
-use Rattle.pagable_tables.specs.Keyed.{GetsKey}
-use Rattle.pagable_tables.specs.Onward.{Begins, SoFar}
-use Rattle.pagable_tables.specs.Core.{core_of, IsWhole}
+use Rattle.pagable_tables.proofs.Words.{◌≡◌, ℕ, Bool, not, refl, sym, subst, arith, Option, None, NodeNumber, Blob, with_key, Core, nobody, Tables, Holdings, counts_at, GetsKey, Begins, SoFar}
+use Rattle.pagable_tables.proofs.Words.{core_of}
+use Rattle.pagable_tables.specs.Core.{IsWhole}
 use Rattle.pagable_tables.proofs.Begun.{begins, begun}
 
 keyed-begins : (before w : Core) (node : NodeNumber) (key : ℕ) (lists : Bool) → Begins before w lists → Begins before (with_key w node key) lists

@@ -1,24 +1,9 @@
 -- Why a load can't make a node, and what it gets.
-use Rattle.std.proofs.Common.{◌≡◌, ℕ, ◌<◌, ◌≤◌, Bool, true, false, if◌then◌else◌, refl, ap, ◌∙◌, subst, arith, Ok, Err, Option, Some, None, inl, inr}
-use Rattle.std.specs.Prelude.{not, nat_lt, is_some, Result, [], zero, suc}
-use Rattle.pagable_model.specs.declared.error.Error.{Error}
-use Rattle.pagable_model.specs.declared.error.Error.TheVariants as errors
-use Rattle.pagable_model.specs.declared.numbers.HandleNumber.{HandleNumber}
-use Rattle.pagable_model.specs.declared.numbers.LoadNumber.{LoadNumber}
-use Rattle.pagable_model.specs.declared.numbers.NodeNumber.{NodeNumber}
-use Rattle.pagable_model.specs.declared.numbers.Kind.{Kind}
-use Rattle.pagable_world.specs.declared.handles.Owner.{Owner}
-use Rattle.pagable_world.specs.declared.handles.Owner.TheVariants as owners
-use Rattle.pagable_world.specs.declared.rows.Mode.{Mode}
-use Rattle.pagable_world.specs.Plain.{is_loose_kind, if_there}
-use Rattle.pagable_world.specs.Kinds.{mode_of}
-use Rattle.pagable_world.specs.World.{Core, OpenLoad, greatest, usable, Alike}
-use Rattle.pagable_world.specs.Refusals.{rank, earlier, refused_if, spent, load_fault, OwnsLoad, Refused}
-use Rattle.pagable_world.specs.Calls.{with_handle, is_usable, birth_fault, IsNext}
-use Rattle.pagable_world.specs.LoadCalls.{node_fault, lazy_fault, adopted, LazyCall}
-use Rattle.pagable_model.specs.declared.data_key.OptionalDataKey.TheVariants as optional
-use Rattle.pagable_tables.specs.Falling.{key_in}
-use Rattle.pagable_tables.specs.Core.{Makes}
+use Rattle.pagable_tables.proofs.Words.{◌≡◌, ℕ, ◌<◌, ◌≤◌, Bool, true, false, if◌then◌else◌, refl, ap, ◌∙◌, subst, arith, Ok, Err, Option, Some, None, inl, inr, not, nat_lt, is_some, Result, []}
+use Rattle.pagable_tables.proofs.Words.{zero, suc, Error, HandleNumber, LoadNumber, NodeNumber, Kind, Owner, Mode, is_loose_kind, if_there, mode_of, Core, OpenLoad, greatest, usable, Alike, rank}
+use Rattle.pagable_tables.proofs.Words.{earlier, refused_if, spent, load_fault, OwnsLoad, Refused, with_handle, is_usable, birth_fault, node_fault, lazy_fault, adopted, LazyCall, OptionalDataKey}
+use Rattle.pagable_tables.proofs.Words.{key_in, Makes}
+use Rattle.pagable_world.specs.Calls.{IsNext}
 use Rattle.pagable_tables.proofs.Opened.{earlier-first, load-low, no-load-fault, number-late}
 use Rattle.pagable_tables.proofs.Worlds.{still}
 
@@ -32,8 +17,8 @@ earlier-late (Some x) (Some y) f n first second is = split (nat_lt (rank y) (ran
     split true is = second f is
     split false is = first f is
 
-pub kind-late : (b : Bool) (f : Error) → refused_if b errors.WrongKind ≡ Some f → 3 ≤ rank f
-kind-late true f is = let a : rank errors.WrongKind ≡ rank f = ap (if_there rank 0) is in omega arith
+pub kind-late : (b : Bool) (f : Error) → refused_if b Error.WrongKind ≡ Some f → 3 ≤ rank f
+kind-late true f is = let a : rank Error.WrongKind ≡ rank f = ap (if_there rank 0) is in omega arith
 kind-late false f is = absurd (cc)
 
 birth-late : (w : Core) (f : Error) → birth_fault w ≡ Some f → 4 ≤ rank f
@@ -46,27 +31,27 @@ node-late w kind key f is = split (is_usable w kind key) is
     split true is = number-late true w.last.handle f is
     split false is = birth-late w f is
 
-pub kind-or-node-late : (w : Core) (b : Bool) (kind : Kind) (key : ℕ) (f : Error) → earlier (refused_if b errors.WrongKind) (node_fault w kind key) ≡ Some f → 3 ≤ rank f
-kind-or-node-late w b kind key f is = earlier-late (refused_if b errors.WrongKind) (node_fault w kind key) f 3 (kind-late b) (λ g e. let a = node-late w kind key g e in omega arith) is
+pub kind-or-node-late : (w : Core) (b : Bool) (kind : Kind) (key : ℕ) (f : Error) → earlier (refused_if b Error.WrongKind) (node_fault w kind key) ≡ Some f → 3 ≤ rank f
+kind-or-node-late w b kind key f is = earlier-late (refused_if b Error.WrongKind) (node_fault w kind key) f 3 (kind-late b) (λ g e. let a = node-late w kind key g e in omega arith) is
 
 pub lazy-not-own : (w : Core) (me : Owner) (l : LoadNumber) (kind : Kind) (key : ℕ) (e : Error) → load_fault w me l ≡ Some e → LazyCall w me l kind key (Err e) w
 lazy-not-own w me l kind key e is =
     record {
       makes = tt;
       refused = record {
-        why = inl (earlier-first (load_fault w me l) (earlier (refused_if (not (is_loose_kind kind.0)) errors.WrongKind) (node_fault w kind key)) e is (λ f late. let a = load-low w me l e is in let b = kind-or-node-late w (not (is_loose_kind kind.0)) kind key f late in omega arith));
+        why = inl (earlier-first (load_fault w me l) (earlier (refused_if (not (is_loose_kind kind.0)) Error.WrongKind) (node_fault w kind key)) e is (λ f late. let a = load-low w me l e is in let b = kind-or-node-late w (not (is_loose_kind kind.0)) kind key f late in omega arith));
         stays = still w;
       };
     }
 
 module _ (w : Core) (me : Owner) (l : LoadNumber) (load : OpenLoad) (kind : Kind) (key : ℕ) (own : OwnsLoad w me l load) where
-  pub lazy-not-loose : is_loose_kind kind.0 ≡ false → LazyCall w me l kind key (Err errors.WrongKind) w
+  pub lazy-not-loose : is_loose_kind kind.0 ≡ false → LazyCall w me l kind key (Err Error.WrongKind) w
   lazy-not-loose tight =
       record {
         makes = tt;
         refused = record {
-          why = inl (ap (λ f. earlier f (earlier (refused_if (not (is_loose_kind kind.0)) errors.WrongKind) (node_fault w kind key))) (no-load-fault w me l load own)
-              ∙ earlier-first (refused_if (not (is_loose_kind kind.0)) errors.WrongKind) (node_fault w kind key) errors.WrongKind (ap (λ b. refused_if (not b) errors.WrongKind) tight) (λ f late. let a = node-late w kind key f late in omega arith));
+          why = inl (ap (λ f. earlier f (earlier (refused_if (not (is_loose_kind kind.0)) Error.WrongKind) (node_fault w kind key))) (no-load-fault w me l load own)
+              ∙ earlier-first (refused_if (not (is_loose_kind kind.0)) Error.WrongKind) (node_fault w kind key) Error.WrongKind (ap (λ b. refused_if (not b) Error.WrongKind) tight) (λ f late. let a = node-late w kind key f late in omega arith));
           stays = still w;
         };
       }
@@ -74,14 +59,14 @@ module _ (w : Core) (me : Owner) (l : LoadNumber) (load : OpenLoad) (kind : Kind
   module _ (loose : is_loose_kind kind.0 ≡ true) where
     cause : lazy_fault w me l kind key ≡ node_fault w kind key
     cause =
-        ap (λ f. earlier f (earlier (refused_if (not (is_loose_kind kind.0)) errors.WrongKind) (node_fault w kind key))) (no-load-fault w me l load own)
-        ∙ ap (λ b. earlier (refused_if (not b) errors.WrongKind) (node_fault w kind key)) loose
+        ap (λ f. earlier f (earlier (refused_if (not (is_loose_kind kind.0)) Error.WrongKind) (node_fault w kind key))) (no-load-fault w me l load own)
+        ∙ ap (λ b. earlier (refused_if (not b) Error.WrongKind) (node_fault w kind key)) loose
 
     -- a handle of the node that the cache gives
-    pub lazy-known : (node : NodeNumber) (mode : Mode) (r : Result HandleNumber Error) (w' : Core) → usable w kind.0 key ≡ Some node.0 → mode ≡ mode_of kind.0 → Makes w node mode (owners.Load l) r w' → LazyCall w me l kind key r w'
+    pub lazy-known : (node : NodeNumber) (mode : Mode) (r : Result HandleNumber Error) (w' : Core) → usable w kind.0 key ≡ Some node.0 → mode ≡ mode_of kind.0 → Makes w node mode (Owner.Load l) r w' → LazyCall w me l kind key r w'
     lazy-known node mode (Ok k) w' is fits m =
         record {
-          makes = (load, own, loose, inl (record { n = node.0; known = is; next = m.made.0; leaves = subst (λ mode. Alike (with_handle w node mode (owners.Load l)) w') fits m.made.1 }));
+          makes = (load, own, loose, inl (record { n = node.0; known = is; next = m.made.0; leaves = subst (λ mode. Alike (with_handle w node mode (Owner.Load l)) w') fits m.made.1 }));
           refused = tt;
         }
     lazy-known node mode (Err e) w' is fits m =
@@ -101,10 +86,10 @@ module _ (w : Core) (me : Owner) (l : LoadNumber) (load : OpenLoad) (kind : Kind
       pub lazy-not-new : {e : Error} {w' : Core} → Refused (birth_fault w) (birth_fault w) (Unit {0}) w e w' → LazyCall w me l kind key (Err e) w'
       lazy-not-new r = record { makes = tt; refused = record { why = elim r.why [ inl a ↦ inl (fresh ∙ a) | inr b ↦ inr (b.0, fresh ∙ b.1, inl none) ]; stays = r.stays } }
 
-      pub lazy-new : (k : HandleNumber) {w' : Core} → w.last.node < greatest → IsNext k w → Alike (adopted w l kind key (optional.Some key) []) w' → LazyCall w me l kind key (Ok k) w'
+      pub lazy-new : (k : HandleNumber) {w' : Core} → w.last.node < greatest → IsNext k w → Alike (adopted w l kind key (OptionalDataKey.Some key) []) w' → LazyCall w me l kind key (Ok k) w'
       lazy-new k node_left next made = record { makes = (load, own, loose, inr (none, node_left, next, made)); refused = tt }
 
 -- the number of a key
-pub key-there : (n : ℕ) → 0 < n → key_in n ≡ optional.Some n
+pub key-there : (n : ℕ) → 0 < n → key_in n ≡ OptionalDataKey.Some n
 key-there zero lt = absurd (omega arith)
 key-there (suc n) lt = refl

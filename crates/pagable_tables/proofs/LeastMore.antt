@@ -1,17 +1,6 @@
 -- One handle more has gone, which a fallen value owned: each closed set has it.
-use Rattle.std.proofs.Common.{◌≡◌, ℕ, ◌≤◌, ◌==◌, ◌&&◌, ◌||◌, Bool, true, false, not, List, ap, ◌∙◌, arith}
-use Rattle.std.proofs.lemmas.Bool.Decides.{nat_tests}
-use Rattle.std.proofs.lemmas.List.Sums.{sum_by-le-sum_by}
-use Rattle.pagable_world.specs.declared.handles.HandleRow.{HandleRow}
-use Rattle.pagable_world.specs.Plain.{one, times}
-use Rattle.pagable_world.specs.Kinds.{is_at, is_owned_by, is_owner, owner_value, held}
-use Rattle.pagable_world.specs.World.{Core}
-use Rattle.pagable_world.specs.Cascade.{IsWithin, IsClosed, is_keyed, is_outside}
-use Rattle.pagable_tables.specs.declared.holdings.Holdings.{Holdings}
-use Rattle.pagable_tables.specs.Live.{live}
-use Rattle.pagable_tables.specs.ByNumber.{counts_at}
-use Rattle.pagable_tables.specs.Falling.{is_listing, HasFallen, Leaves, FallsBy}
-use Rattle.pagable_tables.specs.Onward.{SoFar}
+use Rattle.pagable_tables.proofs.Words.{◌≡◌, ℕ, ◌≤◌, ◌==◌, ◌&&◌, ◌||◌, Bool, true, false, not, List, ap, ◌∙◌, arith, nat_tests, sum_by-le-sum_by, HandleRow, one, times, is_at, is_owned_by}
+use Rattle.pagable_tables.proofs.Words.{is_owner, owner_value, held, Core, IsWithin, IsClosed, is_keyed, is_outside, Holdings, live, counts_at, is_listing, HasFallen, Leaves, FallsBy, SoFar}
 use Rattle.pagable_tables.proofs.Left.{and_one}
 use Rattle.pagable_tables.proofs.Leaving.{leaves-sums}
 use Rattle.pagable_tables.proofs.Forced.{forced}

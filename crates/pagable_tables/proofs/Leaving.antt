@@ -1,12 +1,6 @@
 -- A handle leaves, and an entry may come: what is counted of rows.
-use Rattle.std.proofs.Common.{◌≡◌, ℕ, ◌+◌, Bool, true, false, if◌then◌else◌, List, ◌++◌, sum_by, ap, arith}
-use Rattle.std.proofs.lemmas.List.{append-nil}
-use Rattle.std.proofs.lemmas.List.Sums.{sum_by_push}
-use Rattle.pagable_model.specs.declared.numbers.NodeNumber.{NodeNumber}
-use Rattle.pagable_world.specs.declared.handles.HandleRow.{HandleRow}
-use Rattle.pagable_tables.specs.declared.holdings.Holdings.{Holdings}
-use Rattle.pagable_tables.specs.Live.{live}
-use Rattle.pagable_tables.specs.Falling.{entry, entries_of, Leaves}
+use Rattle.pagable_tables.proofs.Words.{◌≡◌, ℕ, ◌+◌, Bool, true, false, if◌then◌else◌, List, ◌++◌, sum_by, ap, arith, append-nil, sum_by_push, NodeNumber, HandleRow, Holdings, live, entry}
+use Rattle.pagable_tables.proofs.Words.{entries_of, Leaves}
 
 pub with-entry : (f : HandleRow → ℕ) (rows : List HandleRow) (listed : Bool) (k : ℕ) (node : NodeNumber)
     → sum_by f (rows ++ entries_of listed k node) ≡ sum_by f rows + (if listed then f (entry k node) else 0)

@@ -1,14 +1,6 @@
 -- Rows that are left when a set of handles goes, counted and listed.
-use Rattle.std.proofs.Common.{◌≡◌, ℕ, ◌+◌, ◌≤◌, ◌==◌, ◌&&◌, ◌||◌, Bool, true, false, not, if◌then◌else◌, List, [], ◌∷◌, ◌++◌, length, filter, refl, ap, sym, ◌∙◌, arith}
-use Rattle.std.proofs.lemmas.Bool.Decides.{nat_tests}
-use Rattle.std.proofs.lemmas.List.Sums.{sum_by-cons, sum_by-le-sum_by}
-use Rattle.pagable_model.specs.declared.numbers.HandleNumber.{HandleNumber}
-use Rattle.pagable_world.specs.declared.handles.HandleRow.{HandleRow}
-use Rattle.pagable_world.specs.declared.handles.Owner.TheVariants as owners
-use Rattle.pagable_world.specs.declared.rows.Mode.TheVariants as modes
-use Rattle.pagable_world.specs.Plain.{one, times}
-use Rattle.pagable_world.specs.Kinds.{is_handle}
-use Rattle.pagable_world.specs.Cascade.{left_rows, AreNewEntries}
+use Rattle.pagable_tables.proofs.Words.{◌≡◌, ℕ, ◌+◌, ◌≤◌, ◌==◌, ◌&&◌, ◌||◌, Bool, true, false, not, if◌then◌else◌, List, [], ◌∷◌, ◌++◌, length, filter, refl, ap, sym, ◌∙◌, arith, nat_tests}
+use Rattle.pagable_tables.proofs.Words.{sum_by-cons, sum_by-le-sum_by, HandleNumber, HandleRow, Owner, Mode, one, times, is_handle, left_rows, AreNewEntries}
 
 -- one handle more is in the set
 abbrev pub and_one : (ℕ → Bool) → ℕ → ℕ → Bool
@@ -118,7 +110,7 @@ kept-more gone q (x ∷ xs) none =
     or-false false = refl
 
 -- new entries pin nothing, and only the list owns them
-pub entries-none : (f : HandleRow → Bool) → ((h : HandleRow) → h.mode ≡ modes.LooseUnpinned → h.owner ≡ owners.List → f h ≡ false) → (last : ℕ) (entries : List HandleRow)
+pub entries-none : (f : HandleRow → Bool) → ((h : HandleRow) → h.mode ≡ Mode.LooseUnpinned → h.owner ≡ Owner.List → f h ≡ false) → (last : ℕ) (entries : List HandleRow)
     → AreNewEntries last entries → times f entries ≡ 0
 entries-none f none last [] e = refl
 entries-none f none last (x ∷ xs) e =
@@ -127,7 +119,7 @@ entries-none f none last (x ∷ xs) e =
     let rest = entries-none f none (last + 1) xs e.3 in
     omega arith
 
-pub entries-more : (last : ℕ) (entries : List HandleRow) (x : HandleRow) → AreNewEntries last entries → x.number.0 ≡ last + length entries + 1 → x.mode ≡ modes.LooseUnpinned
-    → x.owner ≡ owners.List → AreNewEntries last (entries ++ x ∷ [])
+pub entries-more : (last : ℕ) (entries : List HandleRow) (x : HandleRow) → AreNewEntries last entries → x.number.0 ≡ last + length entries + 1 → x.mode ≡ Mode.LooseUnpinned
+    → x.owner ≡ Owner.List → AreNewEntries last (entries ++ x ∷ [])
 entries-more last [] x e number mode owner = (omega arith, mode, owner, tt)
 entries-more last (y ∷ ys) x e number mode owner = (e.0, e.1, e.2, entries-more (last + 1) ys x e.3 (omega arith) mode owner)

@@ -1,3 +1,4 @@
+mod Words
 mod Alive
 mod Order
 mod Fitting
@@ -5,7 +6,7 @@ mod Leaving
 mod Left
 mod Standing
 pub mod Worlds
-mod Entries
+pub mod Entries
 mod Coming
 mod Beginning
 mod Ended
@@ -53,3 +54,6 @@ pub mod Adoptions
 mod Joined
 mod Upheld
 pub mod Installed
+mod GivenAll
+mod LastGiven
+mod LeftWork

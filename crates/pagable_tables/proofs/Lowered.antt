@@ -1,16 +1,7 @@
 -- A handle lets its pin go: handles and nodes fit again, as if an unpinned handle came and then the pinned one left.
-use Rattle.std.proofs.Common.{None, ◌≡◌, ℕ, ◌+◌, ◌-◌, ◌≤◌, ◌==◌, Bool, true, false, if◌then◌else◌, List, [], ◌∷◌, ◌++◌, sum_by, refl, ap, sym, ◌∙◌, subst, arith, Option, Some}
-use Rattle.std.specs.Prelude.{is_some, ◌≢◌, nat_lt}
-use Rattle.std.proofs.lemmas.Bool.Decides.{nat_tests}
-use Rattle.std.proofs.lemmas.List.Sums.{sum_by_push}
-use Rattle.pagable_model.specs.declared.numbers.ArcRef.{ArcRef}
-use Rattle.pagable_world.specs.declared.handles.HandleRow.{HandleRow}
-use Rattle.pagable_world.specs.declared.rows.Mode.TheVariants as modes
-use Rattle.pagable_world.specs.Plain.{one, updated}
-use Rattle.pagable_world.specs.Kinds.{is_pinning}
-use Rattle.pagable_tables.specs.declared.rows.Counts.{Counts}
-use Rattle.pagable_tables.specs.Falling.{cell_in, Fits, entry, after, is_fallen_by, owns_nothing, is_valued, CellsStay}
-use Rattle.pagable_tables.specs.Lowering.{unpinned}
+use Rattle.pagable_tables.proofs.Words.{None, ◌≡◌, ℕ, ◌+◌, ◌-◌, ◌≤◌, ◌==◌, Bool, true, false, if◌then◌else◌, List, [], ◌∷◌, ◌++◌, sum_by, refl, ap, sym, ◌∙◌, subst, arith, Option, Some, is_some}
+use Rattle.pagable_tables.proofs.Words.{◌≢◌, nat_lt, nat_tests, sum_by_push, ArcRef, HandleRow, Mode, one, updated, is_pinning, Counts, cell_in, Fits, entry, after, is_fallen_by, owns_nothing}
+use Rattle.pagable_tables.proofs.Words.{is_valued, CellsStay, unpinned}
 use Rattle.pagable_tables.proofs.Begun.{fits-unowned}
 use Rattle.pagable_tables.proofs.Coming.{come-fits, come-cells}
 use Rattle.pagable_tables.proofs.Fitting.{given-fits, given-cells}
@@ -33,7 +24,7 @@ keyed-then c false some e = grind (arith, nat_tests)
 
 module _ (at at' : ℕ → Option Counts) (refs refs' : ℕ → List ArcRef) (rows rows' : List HandleRow) (top : ℕ) (x : HandleRow) (c : Counts) (listed : Bool) (k : ℕ)
     (fits : Fits at refs rows top [] owns_nothing) (is : at x.node.0 ≡ Some c)
-    (pinned : x.mode ≡ modes.LoosePinned) (plain : is_valued x.owner ≡ false) (sums : (f : HandleRow → ℕ)
+    (pinned : x.mode ≡ Mode.LoosePinned) (plain : is_valued x.owner ≡ false) (sums : (f : HandleRow → ℕ)
     → sum_by f rows' + f x ≡ sum_by f rows + f (unpinned x) + (if listed then f (entry k x.node) else 0))
     (here : at' x.node.0 ≡ Some (after (record c { holds = c.holds + 1 }) true listed top)) (others : (n : ℕ) → n ≢ x.node.0 → at' n ≡ at n) (same : (n : ℕ) → refs' n ≡ refs n)
     (some : 1 ≤ c.pins) where

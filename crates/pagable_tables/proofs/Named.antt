@@ -1,20 +1,7 @@
 -- Handles that references name come to another owner.
-use Rattle.std.proofs.Common.{◌≡◌, ℕ, ◌+◌, ◌<◌, ◌≤◌, ◌==◌, ◌||◌, Bool, true, false, List, [], ◌∷◌, ◌++◌, take, drop, drop-cons, get_or, length, add-one, refl, ap, sym, ◌∙◌, arith, Some, None, if◌then◌else◌}
-use Rattle.std.proofs.lemmas.Bool.Decides.{nat_tests}
-use Rattle.std.specs.Prelude.{◌≢◌}
-use Rattle.std.proofs.lemmas.List.{drop_all}
-use Rattle.std.proofs.Math.Seq.{take-suc}
-use Rattle.pagable_model.specs.declared.error.Error.{Error}
-use Rattle.pagable_model.specs.declared.numbers.ArcRef.{ArcRef}
-use Rattle.pagable_model.specs.declared.numbers.HandleNumber.{HandleNumber}
-use Rattle.pagable_world.specs.declared.handles.HandleRow.{HandleRow}
-use Rattle.pagable_world.specs.declared.handles.Owner.{Owner}
-use Rattle.pagable_world.specs.Plain.{is_in, or_else}
-use Rattle.pagable_world.specs.Kinds.{find_row, is_handle}
-use Rattle.pagable_world.specs.World.{Core}
-use Rattle.pagable_world.specs.Refusals.{reference_fault, references_fault}
-use Rattle.pagable_world.specs.Cascade.{only_handle}
-use Rattle.pagable_world.specs.Calls.{moved, is_named_by}
+use Rattle.pagable_tables.proofs.Words.{◌≡◌, ℕ, ◌+◌, ◌<◌, ◌≤◌, ◌==◌, ◌||◌, Bool, true, false, List, [], ◌∷◌, ◌++◌, take, drop, drop-cons, get_or, length, add-one, refl, ap, sym, ◌∙◌, arith, Some}
+use Rattle.pagable_tables.proofs.Words.{None, if◌then◌else◌, nat_tests, ◌≢◌, drop_all, take-suc, Error, ArcRef, HandleNumber, HandleRow, Owner, is_in, or_else, find_row, is_handle, Core}
+use Rattle.pagable_tables.proofs.Words.{reference_fault, references_fault, only_handle, moved, is_named_by}
 use Rattle.pagable_tables.proofs.Owned.{owned-by}
 
 -- no row has the number
@@ -39,9 +26,7 @@ named-push (x ∷ xs) r q = ap (λ b. (x.handle.0 == q) || b) (named-push xs r q
   where
     swap : (a b d : Bool) → (a || (b || d)) ≡ (b || (a || d))
     swap true true d = refl
-    swap true false d = refl
-    swap false true d = refl
-    swap false false d = refl
+    swap _ _ d = refl
 
 -- one more
 moved-push : (rs : List ArcRef) (r : ArcRef) (owner : Owner) (rows : List HandleRow) → moved (only_handle r.handle) owner (moved (is_named_by rs) owner rows) ≡ moved (is_named_by (rs ++ r ∷ [])) owner rows

@@ -1,27 +1,9 @@
 -- A birth, by what it is made of; and why references are refused before a number that is spent.
-use Rattle.std.proofs.Common.{◌≡◌, ℕ, ◌<◌, ◌≤◌, ◌==◌, ◌||◌, Bool, true, false, List, [], ◌∷◌, refl, ap, ◌∙◌, subst, arith, Ok, Option, Some, None, zero, suc, if◌then◌else◌}
-use Rattle.std.specs.Prelude.{not}
-use Rattle.pagable_model.specs.declared.data_key.OptionalDataKey.{OptionalDataKey}
-use Rattle.pagable_model.specs.declared.data_key.OptionalDataKey.TheVariants as optional
-use Rattle.pagable_model.specs.declared.error.Error.{Error}
-use Rattle.pagable_model.specs.declared.error.Error.TheVariants as errors
-use Rattle.pagable_model.specs.declared.numbers.ArcRef.{ArcRef}
-use Rattle.pagable_model.specs.declared.numbers.HandleNumber.{HandleNumber}
-use Rattle.pagable_world.specs.declared.handles.HandleRow.{HandleRow}
-use Rattle.pagable_world.specs.declared.handles.Owner.{Owner}
-use Rattle.pagable_world.specs.declared.rows.Mode.{Mode}
-use Rattle.pagable_world.specs.declared.rows.Mode.TheVariants as modes
-use Rattle.pagable_world.specs.Plain.{is_in, if_there, or_else, type_of}
-use Rattle.pagable_world.specs.Kinds.{is_owner, fits_mode}
-use Rattle.pagable_world.specs.World.{Core, Alike, greatest, row_at, type_at}
-use Rattle.pagable_world.specs.Refusals.{earlier, rank, refused_if, spent, reference_fault, references_fault, row_fault, is_type}
-use Rattle.pagable_world.specs.Calls.{birth_fault, with_handle, with_node, next_node, AwayBirthCall}
-use Rattle.pagable_world.specs.Pager.{IsWhole}
-use Rattle.pagable_tables.specs.Core.{ArePlaced, MayHold}
+use Rattle.pagable_tables.proofs.Words.{◌≡◌, ℕ, ◌<◌, ◌≤◌, ◌==◌, ◌||◌, Bool, true, false, List, [], ◌∷◌, refl, ap, ◌∙◌, subst, arith, Ok, Option, Some, None, zero, suc, if◌then◌else◌, not}
+use Rattle.pagable_tables.proofs.Words.{OptionalDataKey, Error, ArcRef, HandleNumber, HandleRow, Owner, Mode, is_in, if_there, or_else, type_of, is_owner, fits_mode, Core, Alike, greatest}
+use Rattle.pagable_tables.proofs.Words.{row_at, type_at, earlier, rank, refused_if, spent, reference_fault, references_fault, row_fault, is_type, birth_fault, with_handle, with_node, next_node}
+use Rattle.pagable_tables.proofs.Words.{AwayBirthCall, IsWhole, ArePlaced, MayHold, Counts, key_in, Bears, BearsValue, OnlyRoom}
 use Rattle.pagable_tables.proofs.keeps.BirthCalls.{birth-whole, no-references}
-use Rattle.pagable_tables.specs.declared.rows.Counts.{Counts}
-use Rattle.pagable_tables.specs.Falling.{key_in}
-use Rattle.pagable_tables.specs.Bearing.{Bears, BearsValue, OnlyRoom}
 use Rattle.pagable_tables.proofs.Newer.{OnlyNewer, newer-then, newer-alike, newer-node}
 use Rattle.pagable_tables.proofs.Readied.{next-past, born-past}
 use Rattle.pagable_tables.proofs.Pins.{earlier-first, spent-late}
@@ -42,16 +24,16 @@ low-row true f e rest low more is = let same : f ≡ e = cc in subst (λ x. rank
 reference-low : (w : Core) (me : Owner) (seen : List ℕ) (r : ArcRef) (e : Error) → reference_fault w me seen r ≡ Some e → rank e ≤ 3
 reference-low w me seen r e is = by (row_at w r.handle) is
   where
-    by : (o : Option HandleRow) → if_there (λ (row : HandleRow). row_fault w r (refused_if (not (is_owner me row.owner) || is_in seen r.handle.0) errors.NotYours) row) (Some errors.NoSuchHandle) o ≡ Some e → rank e ≤ 3
-    by None is = let same : errors.NoSuchHandle ≡ e = cc in subst (λ x. rank x ≤ 3) same (omega arith)
+    by : (o : Option HandleRow) → if_there (λ (row : HandleRow). row_fault w r (refused_if (not (is_owner me row.owner) || is_in seen r.handle.0) Error.NotYours) row) (Some Error.NoSuchHandle) o ≡ Some e → rank e ≤ 3
+    by None is = let same : Error.NoSuchHandle ≡ e = cc in subst (λ x. rank x ≤ 3) same (omega arith)
     by (Some row) is =
-        let seen-first : Option Error = refused_if (not (is_owner me row.owner) || is_in seen r.handle.0) errors.NotYours in
-        let kind-last : Option Error = refused_if (not (is_type (type_of r.kind.0) (type_at w r.node.0))) errors.WrongKind in
-        let mode-next : Option Error = if not (fits_mode r.kind.0 row.mode) then Some errors.WrongMode else kind-last in
-        let first = λ (f : Error). low-if (not (is_owner me row.owner) || is_in seen r.handle.0) errors.NotYours f (omega arith) in
-        let last = λ (f : Error). low-if (not (is_type (type_of r.kind.0) (type_at w r.node.0))) errors.WrongKind f (omega arith) in
-        let next = λ (f : Error). low-row (not (fits_mode r.kind.0 row.mode)) errors.WrongMode f kind-last (omega arith) last in
-        low-row (not (row.node.0 == r.node.0)) errors.NoSuchHandle e (or_else seen-first mode-next) (omega arith) (λ g. low-or seen-first mode-next g first next) is
+        let seen-first : Option Error = refused_if (not (is_owner me row.owner) || is_in seen r.handle.0) Error.NotYours in
+        let kind-last : Option Error = refused_if (not (is_type (type_of r.kind.0) (type_at w r.node.0))) Error.WrongKind in
+        let mode-next : Option Error = if not (fits_mode r.kind.0 row.mode) then Some Error.WrongMode else kind-last in
+        let first = λ (f : Error). low-if (not (is_owner me row.owner) || is_in seen r.handle.0) Error.NotYours f (omega arith) in
+        let last = λ (f : Error). low-if (not (is_type (type_of r.kind.0) (type_at w r.node.0))) Error.WrongKind f (omega arith) in
+        let next = λ (f : Error). low-row (not (fits_mode r.kind.0 row.mode)) Error.WrongMode f kind-last (omega arith) last in
+        low-row (not (row.node.0 == r.node.0)) Error.NoSuchHandle e (or_else seen-first mode-next) (omega arith) (λ g. low-or seen-first mode-next g first next) is
 
 references-low : (w : Core) (me : Owner) (seen : List ℕ) (rs : List ArcRef) (e : Error) → references_fault w me seen rs ≡ Some e → rank e ≤ 3
 unfolding references_fault
@@ -67,7 +49,7 @@ references-first w me rs e is =
 pub none-named : (w : Core) (me : Owner) (rs : List ArcRef) → rs ≡ [] → references_fault w me [] rs ≡ None
 none-named w me rs is = ap (references_fault w me []) is ∙ no-references w me
 
-key-is : (k : ℕ) → 0 < k → key_in k ≡ optional.Some k
+key-is : (k : ℕ) → 0 < k → key_in k ≡ OptionalDataKey.Some k
 key-is zero some = absurd (omega arith)
 key-is (suc k) some = refl
 
@@ -80,14 +62,14 @@ module _ (w : Core) (me : Owner) (node_type : ℕ) (c : Counts) (rs : List ArcRe
 
   -- of a value, with no key
   pub value-born : (k : HandleNumber) → c.key ≡ 0 → Bears w me c rs mode k w' → BearsValue w me node_type rs mode k w'
-  value-born k none b = record { next = record { above = b.next.above; is_left = b.next.is_left }; leaves = alike-as optional.None (ap key_in none) b.leaves }
+  value-born k none b = record { next = record { above = b.next.above; is_left = b.next.is_left }; leaves = alike-as OptionalDataKey.None (ap key_in none) b.leaves }
 
 -- of a cell that is away, where room was made before
 pub away-born : {w w1 : Core} (me : Owner) (node_type : ℕ) (c : Counts) (w' : Core) (key : ℕ) (k : HandleNumber) → OnlyRoom w w1 → w1.last.node < greatest → c.node_type ≡ node_type → c.key ≡ key → 0 < key
-    → Bears w1 me c [] modes.LooseUnpinned k w' → AwayBirthCall w me node_type key (Ok k) w'
+    → Bears w1 me c [] Mode.LooseUnpinned k w' → AwayBirthCall w me node_type key (Ok k) w'
 away-born {w} {w1} me node_type c w' key k room left typed is some b =
-    let leaves = alike-as w1 me node_type c [] modes.LooseUnpinned w' typed (optional.Some key) (ap key_in is ∙ key-is key some) b.leaves in
-    record { made = (subst (λ (u : Core). u.last.node < greatest) room.same left, next-past room b.next, born-past node_type (optional.Some key) [] modes.LooseUnpinned me room leaves); refused = tt }
+    let leaves = alike-as w1 me node_type c [] Mode.LooseUnpinned w' typed (OptionalDataKey.Some key) (ap key_in is ∙ key-is key some) b.leaves in
+    record { made = (subst (λ (u : Core). u.last.node < greatest) room.same left, next-past room b.next, born-past node_type (OptionalDataKey.Some key) [] Mode.LooseUnpinned me room leaves); refused = tt }
 
 pub value-whole : {w w' : Core} (me : Owner) (node_type : ℕ) (rs : List ArcRef) (mode : Mode) (k : HandleNumber) → IsWhole w → MayHold w me → references_fault w me [] rs ≡ None → w.last.node < greatest
     → BearsValue w me node_type rs mode k w' → ArePlaced w' → IsWhole w'

@@ -31,7 +31,7 @@ use Rattle.pagable_tables.specs.declared.tables.Tables.{Tables}
 use Rattle.pagable_tables.specs.ByNumber.{load_at}
 use Rattle.pagable_tables.specs.Core.{plain_of, load_in, Makes}
 use Rattle.pagable_tables.specs.Later.{AreLater}
-use Rattle.pagable_tables.proofs.Regiven.{loaded, loaded-here, loaded-left, no-entry}
+use Rattle.pagable_tables.proofs.Regiven.{loaded, passes-here, passes-left, no-entry, unlisting}
 use Rattle.pagable_tables.proofs.Taken.{loaded-moved, and-left}
 use Rattle.pagable_tables.proofs.Worlds.{owner-same}
 use Rattle.pagable_tables.proofs.keeps.Rows.{found-among, found-push}
@@ -66,14 +66,14 @@ newer-moved w s o other = record { last = omega arith; owned = λ l q own. inl (
 pub loaded-mode : (l : LoadNumber) (q : ℕ) (test : HandleRow → Bool) (mode : Mode) (rows : List HandleRow) → loaded l q (changed test (λ row. record row { mode = mode }) rows) ≡ loaded l q rows
 loaded-mode l q test mode [] = refl
 loaded-mode l q test mode (x ∷ xs) =
-    split (test x) ∙ ap (λ b. if is_handle q x then is_owner (owners.Load l) x.owner else b) (loaded-mode l q test mode xs) ∙ sym (loaded-here l q x xs)
+    split (test x) ∙ ap (λ b. if is_handle q x then is_owner (owners.Load l) x.owner else b) (loaded-mode l q test mode xs) ∙ sym (passes-here (is_owned_by (owners.Load l)) q x xs)
   where
     rest : List HandleRow
     rest = changed test (λ row. record row { mode = mode }) xs
 
     split : (b : Bool) → loaded l q ((if b then record x { mode = mode } else x) ∷ rest) ≡ (if is_handle q x then is_owner (owners.Load l) x.owner else loaded l q rest)
-    split true = loaded-here l q (record x { mode = mode }) rest
-    split false = loaded-here l q x rest
+    split true = passes-here (is_owned_by (owners.Load l)) q (record x { mode = mode }) rest
+    split false = passes-here (is_owned_by (owners.Load l)) q x rest
 
 pub newer-mode : (w : Core) (h : HandleNumber) (mode : Mode) → OnlyNewer w (with_mode w h mode)
 newer-mode w h mode = record { last = omega arith; owned = λ l q own. inl (sym (loaded-mode l q (is_handle h.0) mode w.rows) ∙ own) }
@@ -82,7 +82,7 @@ pub newer-falls : {before u w' : Core} {given : ℕ → Bool} {r : Result (Unit 
 newer-falls {before} {u} {w'} falls =
     record {
       last = (let e = ap (λ (l : Last). l.handle) falls.leaves.last in omega arith);
-      owned = λ l q own. inl (had (falls.gone q) (loaded l q u.rows) (sym (ap (loaded l q) falls.leaves.rows ∙ loaded-left falls.gone falls.entries l q u.rows (no-entry l q u.last.handle falls.entries falls.new)) ∙ own));
+      owned = λ l q own. inl (had (falls.gone q) (loaded l q u.rows) (sym (ap (loaded l q) falls.leaves.rows ∙ passes-left (is_owned_by (owners.Load l)) q falls.gone falls.entries u.rows (no-entry (is_owned_by (owners.Load l)) q (unlisting l) u.last.handle falls.entries falls.new)) ∙ own));
     }
   where
     had : (g o : Bool) → (not g && o) ≡ true → o ≡ true

@@ -1,21 +1,7 @@
 -- What has gone so far, after one step of a cascade, and after a handle that is given.
-use Rattle.std.proofs.Common.{◌≡◌, ℕ, ◌+◌, ◌≤◌, ◌==◌, ◌&&◌, ◌||◌, Bool, not, List, length, ap, ◌∙◌, arith, inl, inr}
-use Rattle.std.specs.Prelude.{◌≢◌, Option}
-use Rattle.std.proofs.lemmas.Bool.Decides.{nat_tests}
-use Rattle.std.proofs.lemmas.List.Sums.{sum_by-cons, sum_by-le-sum_by}
-use Rattle.std.proofs.Common.{false, [], ◌∷◌, refl}
-use Rattle.pagable_model.specs.declared.numbers.NodeNumber.{NodeNumber}
-use Rattle.pagable_world.specs.declared.handles.HandleRow.{HandleRow}
-use Rattle.pagable_world.specs.declared.handles.Owner.TheVariants as owners
-use Rattle.pagable_world.specs.Plain.{one}
-use Rattle.pagable_world.specs.Kinds.{is_owned_by, is_owner, held, pins}
-use Rattle.pagable_world.specs.World.{Core}
-use Rattle.pagable_world.specs.Cascade.{IsWithin}
-use Rattle.pagable_tables.specs.declared.holdings.Holdings.{Holdings}
-use Rattle.pagable_tables.specs.Live.{live}
-use Rattle.pagable_tables.specs.ByNumber.{counts_at}
-use Rattle.pagable_tables.specs.Falling.{pins_in, is_listing, IsFalling, GivesUp, Steps, FallsBy, owns_nothing}
-use Rattle.pagable_tables.specs.Onward.{SoFar}
+use Rattle.pagable_tables.proofs.Words.{◌≡◌, ℕ, ◌+◌, ◌≤◌, ◌==◌, ◌&&◌, ◌||◌, Bool, not, List, length, ap, ◌∙◌, arith, inl, inr, ◌≢◌, Option, nat_tests, sum_by-cons, sum_by-le-sum_by, false, []}
+use Rattle.pagable_tables.proofs.Words.{◌∷◌, refl, NodeNumber, HandleRow, Owner, one, is_owned_by, is_owner, held, pins, Core, IsWithin, Holdings, live, counts_at, pins_in, is_listing, IsFalling}
+use Rattle.pagable_tables.proofs.Words.{GivesUp, Steps, FallsBy, owns_nothing, SoFar}
 use Rattle.pagable_tables.proofs.Left.{and_one}
 use Rattle.pagable_tables.proofs.Kept.{settled}
 use Rattle.pagable_tables.proofs.LeastMore.{least-more, none-comes}
@@ -55,7 +41,7 @@ steps-on before w given lists t new stack r f falling some s =
     owned : (x : HandleRow) (n : ℕ) → FallsBy t x n lists new → SoFar before w given lists new
     owned x n by =
         one-goes before w given given lists t by.popped new by.stack x f by.gives by.same by.counts falling.fits.pinned (f.few some)
-        (unlisted-apart before w given lists t by.popped new by.stack x f by.gives by.same (ap (is_owner owners.List) by.owner))
+        (unlisted-apart before w given lists t by.popped new by.stack x f by.gives by.same (ap (is_owner Owner.List) by.owner))
         (within-less given (and_one f.gone x.number.0) given f.gone w.rows (λ r. bits (given r) (f.gone r) (r == x.number.0)) f.holds)
         (least-more before w given lists t new x n f by)
 
@@ -75,7 +61,7 @@ gives-apart before w given lists t new stack x f pinned apart few g =
 
 -- a handle is given that the list doesn't own
 pub gives-on : (before w : Core) (given : ℕ → Bool) (lists : Bool) (t new : Holdings) (stack : List ℕ) (x : HandleRow) → SoFar before w given lists t
-    → ((n : ℕ) → pins_in (counts_at t.nodes n) ≡ pins n (live t.handles.places.items)) → is_owned_by owners.List x ≡ false → length (live t.handles.places.items) ≤ length w.rows
+    → ((n : ℕ) → pins_in (counts_at t.nodes n) ≡ pins n (live t.handles.places.items)) → is_owned_by Owner.List x ≡ false → length (live t.handles.places.items) ≤ length w.rows
     → GivesUp t stack x lists new → SoFar before w (and_one given x.number.0) lists new
 gives-on before w given lists t new stack x f pinned owner few g =
     gives-apart before w given lists t new stack x f pinned (unlisted-apart before w given lists t t new stack x f g refl owner) few g

@@ -1,22 +1,13 @@
 -- A handle that the list doesn't own is no entry.
-use Rattle.std.proofs.Common.{◌≡◌, ℕ, ◌+◌, ◌==◌, ◌&&◌, Bool, true, false, not, List, [], ◌∷◌, ◌++◌, refl, ap, arith}
-use Rattle.std.proofs.lemmas.Bool.Decides.{nat_tests}
-use Rattle.std.proofs.lemmas.List.Sums.{sum_by-cons, sum_by-append}
-use Rattle.pagable_world.specs.declared.handles.HandleRow.{HandleRow}
-use Rattle.pagable_world.specs.declared.handles.Owner.TheVariants as owners
-use Rattle.pagable_world.specs.Plain.{one, times}
-use Rattle.pagable_world.specs.Kinds.{is_handle, is_owned_by, is_owner}
-use Rattle.pagable_world.specs.Cascade.{only_handle, AreNewEntries}
-use Rattle.pagable_tables.specs.declared.holdings.Holdings.{Holdings}
-use Rattle.pagable_tables.specs.Live.{live}
-use Rattle.pagable_tables.specs.Falling.{Leaves}
+use Rattle.pagable_tables.proofs.Words.{◌≡◌, ℕ, ◌+◌, ◌==◌, ◌&&◌, Bool, true, false, not, List, [], ◌∷◌, ◌++◌, refl, ap, arith, nat_tests, sum_by-cons, sum_by-append, HandleRow, Owner, one, times}
+use Rattle.pagable_tables.proofs.Words.{is_handle, is_owned_by, is_owner, only_handle, AreNewEntries, Holdings, live, Leaves}
 use Rattle.pagable_tables.proofs.Left.{times-left, entries-none}
 
 abbrev pub of_list : ℕ → HandleRow → Bool
-of_list q h = is_handle q h && is_owned_by owners.List h
+of_list q h = is_handle q h && is_owned_by Owner.List h
 
 abbrev of_other : ℕ → HandleRow → Bool
-of_other q h = is_handle q h && not (is_owned_by owners.List h)
+of_other q h = is_handle q h && not (is_owned_by Owner.List h)
 
 parts : (q : ℕ) (rows : List HandleRow) → times (is_handle q) rows ≡ times (of_list q) rows + times (of_other q) rows
 parts q [] = refl
@@ -25,7 +16,7 @@ parts q (x ∷ xs) =
     let b = sum_by-cons (λ h. one (of_list q h)) x xs in
     let d = sum_by-cons (λ h. one (of_other q h)) x xs in
     let rest = parts q xs in
-    let here = bits (is_handle q x) (is_owned_by owners.List x) in
+    let here = bits (is_handle q x) (is_owned_by Owner.List x) in
     omega arith
   where
     bits : (a b : Bool) → one a ≡ one (a && b) + one (a && not b)
@@ -46,13 +37,13 @@ none-of p q (x ∷ xs) =
     bits true false = refl
     bits false b = refl
 
-pub none-listed : (old new : Holdings) (x : HandleRow) (wanted listed : Bool) → Leaves old x wanted listed new → is_owned_by owners.List x ≡ false
+pub none-listed : (old new : Holdings) (x : HandleRow) (wanted listed : Bool) → Leaves old x wanted listed new → is_owned_by Owner.List x ≡ false
     → times (of_list x.number.0) (live old.handles.places.items) ≡ 0
 none-listed old new x wanted listed leaves owner =
     let a = leaves.sums (λ h. one (of_list x.number.0 h)) in
     let b = ap (times (of_list x.number.0)) leaves.rows in
     let d = times-left (of_list x.number.0) (only_handle x.number) (live old.handles.places.items) in
-    let e = none-of (is_owned_by owners.List) x.number.0 (live old.handles.places.items) in
+    let e = none-of (is_owned_by Owner.List) x.number.0 (live old.handles.places.items) in
     let z : one (of_list x.number.0 x) ≡ 0 = grind (arith, nat_tests) in
     omega arith
 
@@ -61,5 +52,5 @@ none-entered q last rows left entries is new none =
     let a = ap (times (of_list q)) is in
     let b = sum_by-append (λ h. one (of_list q h)) left entries in
     let d = parts q entries in
-    let e = entries-none (of_other q) (λ h mode owner. let l : is_owned_by owners.List h ≡ true = ap (is_owner owners.List) owner in grind (arith, nat_tests)) last entries new in
+    let e = entries-none (of_other q) (λ h mode owner. let l : is_owned_by Owner.List h ≡ true = ap (is_owner Owner.List) owner in grind (arith, nat_tests)) last entries new in
     omega arith

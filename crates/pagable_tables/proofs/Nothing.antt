@@ -1,19 +1,9 @@
 -- Tables of nothing are whole.
-use Rattle.std.proofs.Common.{◌≡◌, ℕ, true, false, [], length, refl, ap, sym, subst, ◌∙◌, arith, inl, Some, None, nat_eq}
-use Rattle.std.specs.Prelude.{is_some}
+use Rattle.pagable_tables.proofs.Words.{◌≡◌, ℕ, true, false, [], length, refl, ap, sym, subst, ◌∙◌, arith, inl, Some, None, nat_eq, is_some, get, NodeNumber, HandleRow, Among, is_in, pins, held}
+use Rattle.pagable_tables.proofs.Words.{sharing, Core, NodeRow, Tables, live, AreSound, counts_at, refs_at, load_at, known_at, pins_in, holds_in, cell_in, IsFalling, owns_nothing, plain_of}
+use Rattle.pagable_tables.proofs.Words.{load_in}
 use Rattle.std.specs.Option.{option_map, option_map_or}
-use Rattle.indexmap.specs.IndexMap.{get}
-use Rattle.pagable_model.specs.declared.numbers.NodeNumber.{NodeNumber}
-use Rattle.pagable_world.specs.declared.handles.HandleRow.{HandleRow}
-use Rattle.pagable_world.specs.Plain.{Among, is_in}
-use Rattle.pagable_world.specs.Kinds.{pins, held, sharing}
-use Rattle.pagable_world.specs.World.{Core}
-use Rattle.pagable_tables.specs.declared.rows.NodeRow.{NodeRow}
-use Rattle.pagable_tables.specs.declared.tables.Tables.{Tables}
-use Rattle.pagable_tables.specs.Live.{live, AreSound}
-use Rattle.pagable_tables.specs.ByNumber.{counts_at, refs_at, load_at, known_at}
-use Rattle.pagable_tables.specs.Falling.{pins_in, holds_in, cell_in, IsFalling, owns_nothing}
-use Rattle.pagable_tables.specs.Core.{IsWhole, plain_of, load_in}
+use Rattle.pagable_tables.specs.Core.{IsWhole}
 
 in-none : (v : ℕ) → is_in [] v ≡ false
 unfolding is_in

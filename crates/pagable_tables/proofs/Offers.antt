@@ -1,22 +1,13 @@
 -- A handle is offered to the cache: why it is refused, and what is known then.
-use Rattle.std.proofs.Common.{◌≡◌, ℕ, ◌<◌, ◌==◌, ◌&&◌, Bool, true, false, refl, ap, ◌∙◌, subst, arith, Option, Some, None, inl, inr, if◌then◌else◌}
-use Rattle.std.specs.Prelude.{◌≢◌, ◌⊎◌, not, nat_lt}
+use Rattle.pagable_tables.proofs.Words.{◌≡◌, ℕ, ◌<◌, ◌==◌, ◌&&◌, Bool, true, false, refl, ap, ◌∙◌, subst, arith, Option, Some, None, inl, inr, if◌then◌else◌, ◌≢◌, ◌⊎◌, not, nat_lt, cases_eq}
+use Rattle.pagable_tables.proofs.Words.{nat_tests, Error, HandleNumber, NodeNumber, Kind, HandleRow, Owner, if_there, type_of, fits_mode, Core, row_at, type_at, earlier, rank, refused_if, spent}
+use Rattle.pagable_tables.proofs.Words.{where_so, handle_fault, is_type, is_usable, offer_fault}
 use Rattle.std.specs.Option.{option_map}
-use Rattle.std.proofs.lemmas.Bool.{cases_eq}
-use Rattle.std.proofs.lemmas.Bool.Decides.{nat_tests}
-use Rattle.pagable_model.specs.declared.error.Error.{Error}
-use Rattle.pagable_model.specs.declared.error.Error.TheVariants as errors
-use Rattle.pagable_model.specs.declared.numbers.HandleNumber.{HandleNumber}
-use Rattle.pagable_model.specs.declared.numbers.NodeNumber.{NodeNumber}
-use Rattle.pagable_model.specs.declared.numbers.Kind.{Kind}
-use Rattle.pagable_world.specs.declared.handles.HandleRow.{HandleRow}
-use Rattle.pagable_world.specs.declared.handles.Owner.{Owner}
-use Rattle.pagable_world.specs.Plain.{if_there, type_of}
-use Rattle.pagable_world.specs.Kinds.{fits_mode}
-use Rattle.pagable_world.specs.World.{Core, row_at, type_at}
-use Rattle.pagable_world.specs.Refusals.{earlier, rank, refused_if, spent, where_so, handle_fault, is_type}
-use Rattle.pagable_world.specs.Calls.{is_usable, offer_fault}
 use Rattle.pagable_tables.proofs.Pins.{handle-first, spent-late}
+use Rattle.pagable_model.specs.declared.error.Error.TheVariants as errors
+use Rattle.pagable_world.specs.Kinds.{is_owner}
+use Rattle.pagable_tables.proofs.Opened.{no-fault}
+use Rattle.pagable_tables.proofs.Pins.{earlier-first}
 
 -- of two late causes any is late
 pub late : (a b : Option Error) (m : ℕ) → ((f : Error) → a ≡ Some f → m < rank f) → ((f : Error) → b ≡ Some f → m < rank f) → (f : Error) → earlier a b ≡ Some f → m < rank f
@@ -28,13 +19,13 @@ late (Some e) (Some g) m one two f is = by (nat_lt (rank g) (rank e)) is
     by true is = two f is
     by false is = one f is
 
-wrong-kind : (b : Bool) (f : Error) → refused_if b errors.WrongKind ≡ Some f → 2 < rank f
+wrong-kind : (b : Bool) (f : Error) → refused_if b Error.WrongKind ≡ Some f → 2 < rank f
 wrong-kind false f is = absurd (cc)
-wrong-kind true f is = let same : errors.WrongKind ≡ f = cc in subst (λ x. 2 < rank x) same (omega arith)
+wrong-kind true f is = let same : Error.WrongKind ≡ f = cc in subst (λ x. 2 < rank x) same (omega arith)
 
 module _ (w : Core) (me : Owner) (kind : Kind) (key : ℕ) (h : HandleNumber) where
   abbrev kind-fault : Option Error
-  kind-fault = refused_if (not (is_type (type_of kind.0) (if_there (λ (row : HandleRow). type_at w row.node.0) None (row_at w h)))) errors.WrongKind
+  kind-fault = refused_if (not (is_type (type_of kind.0) (if_there (λ (row : HandleRow). type_at w row.node.0) None (row_at w h)))) Error.WrongKind
 
   abbrev last-fault : Option Error
   last-fault = where_so (not w.closed && is_usable w kind key) (spent w.last.handle)
@@ -47,14 +38,23 @@ module _ (w : Core) (me : Owner) (kind : Kind) (key : ℕ) (h : HandleNumber) wh
   offer-first e is =
       handle-first w me h (fits_mode kind.0) e (earlier kind-fault last-fault) is (late kind-fault last-fault 2 (wrong-kind _) (λ f so. let a = last-late f so in omega arith))
 
+  -- a handle that can be used, of a node of another type
+  pub offer-kind : (row : HandleRow) → row_at w h ≡ Some row → is_owner me row.owner ≡ true → fits_mode kind.0 row.mode ≡ true → is_type (type_of kind.0) (type_at w row.node.0) ≡ false
+      → offer_fault w me kind key h ≡ Some errors.WrongKind
+  offer-kind row at own fits other =
+      let none = no-fault w me h (fits_mode kind.0) row at own fits in
+      let here = ap (λ o. refused_if (not (is_type (type_of kind.0) (if_there (λ (row : HandleRow). type_at w row.node.0) None o))) errors.WrongKind) at in
+      let a : kind-fault ≡ Some errors.WrongKind = here ∙ ap (λ b. refused_if (not b) errors.WrongKind) other in
+      ap (λ f. earlier f (earlier kind-fault last-fault)) none ∙ ap (λ f. earlier f last-fault) a ∙ earlier-first errors.WrongKind last-fault (λ f so. let a = last-late f so in omega arith)
+
   -- where handle and type are as asked, the last cause is left
   pub offer-last : (row : HandleRow) → handle_fault w me h (fits_mode kind.0) ≡ None → row_at w h ≡ Some row → type_at w row.node.0 ≡ Some (type_of kind.0) → offer_fault w me kind key h ≡ last-fault
   offer-last row none at typed =
-      let here = ap (λ o. refused_if (not (is_type (type_of kind.0) (if_there (λ (row : HandleRow). type_at w row.node.0) None o))) errors.WrongKind) at in
-      let a : kind-fault ≡ None = here ∙ ap (λ o. refused_if (not (is_type (type_of kind.0) o)) errors.WrongKind) typed ∙ same in
+      let here = ap (λ o. refused_if (not (is_type (type_of kind.0) (if_there (λ (row : HandleRow). type_at w row.node.0) None o))) Error.WrongKind) at in
+      let a : kind-fault ≡ None = here ∙ ap (λ o. refused_if (not (is_type (type_of kind.0) o)) Error.WrongKind) typed ∙ same in
       ap (λ f. earlier f (earlier kind-fault last-fault)) none ∙ ap (λ f. earlier f last-fault) a
     where
-      same : refused_if (not (is_type (type_of kind.0) (Some (type_of kind.0)))) errors.WrongKind ≡ None
+      same : refused_if (not (is_type (type_of kind.0) (Some (type_of kind.0)))) Error.WrongKind ≡ None
       same = let b : (type_of kind.0 == type_of kind.0) ≡ true = grind (arith, nat_tests) in rw b refl
 
 -- the cache knows the node under the kind and the key, and all else as before

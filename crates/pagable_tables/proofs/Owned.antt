@@ -1,20 +1,8 @@
 -- A handle comes to another owner. What the list has is there.
-use Rattle.std.proofs.Common.{◌≡◌, ℕ, ◌+◌, ◌<◌, ◌≤◌, ◌==◌, ◌&&◌, true, false, List, [], length, get_or, sum_by, slice_get, refl, ap, sym, arith, Some, None}
+use Rattle.pagable_tables.proofs.Words.{◌≡◌, ℕ, ◌+◌, ◌<◌, ◌≤◌, ◌==◌, ◌&&◌, true, false, List, [], length, get_or, sum_by, slice_get, refl, ap, sym, arith, Some, None, Option, nat_tests}
+use Rattle.pagable_tables.proofs.Words.{get_or-le-sum_by, sum_by-le-sum_by, ArcRef, HandleNumber, HandleRow, Owner, one, times, find_row, is_handle, is_owner, is_owned_by, Counts, Place, live}
+use Rattle.pagable_tables.proofs.Words.{alive, IsBefore, Fits, owns_nothing, is_valued}
 use Rattle.std.specs.List.{AllPairs}
-use Rattle.std.specs.Prelude.{Option}
-use Rattle.std.proofs.lemmas.Bool.Decides.{nat_tests}
-use Rattle.std.proofs.lemmas.List.Sums.{get_or-le-sum_by, sum_by-le-sum_by}
-use Rattle.pagable_model.specs.declared.numbers.ArcRef.{ArcRef}
-use Rattle.pagable_model.specs.declared.numbers.HandleNumber.{HandleNumber}
-use Rattle.pagable_world.specs.declared.handles.HandleRow.{HandleRow}
-use Rattle.pagable_world.specs.declared.handles.Owner.{Owner}
-use Rattle.pagable_world.specs.declared.handles.Owner.TheVariants as owners
-use Rattle.pagable_world.specs.Plain.{one, times}
-use Rattle.pagable_world.specs.Kinds.{find_row, is_handle, is_owner, is_owned_by}
-use Rattle.pagable_tables.specs.declared.rows.Counts.{Counts}
-use Rattle.pagable_tables.specs.declared.rows.Place.{Place}
-use Rattle.pagable_tables.specs.Live.{live, alive, IsBefore}
-use Rattle.pagable_tables.specs.Falling.{Fits, owns_nothing, is_valued}
 use Rattle.pagable_tables.proofs.Alive.{none-found, only-row}
 use Rattle.pagable_tables.proofs.Coming.{owned-by-none}
 use Rattle.pagable_tables.proofs.Fitting.{pin_of, handle_of, is_owned}
@@ -38,15 +26,12 @@ move-fits at refs rows rows' top x owner sums from into fits =
     }
 
 -- the list's owner is none, and what it has is there
-pub list-owner : (o : Owner) → is_owner owners.List o ≡ true → is_valued o ≡ false
-list-owner owners.Caller e = refl
-list-owner (owners.Value n) e = absurd (cc)
-list-owner owners.List e = refl
-list-owner (owners.Load l) e = refl
-list-owner (owners.Worker v) e = refl
+pub list-owner : (o : Owner) → is_owner Owner.List o ≡ true → is_valued o ≡ false
+list-owner (Owner.Value n) e = absurd (cc)
+list-owner _ e = refl
 
 abbrev entry-at : ℕ → HandleRow → ℕ
-entry-at q h = one (is_handle q h && is_owned_by owners.List h)
+entry-at q h = one (is_handle q h && is_owned_by Owner.List h)
 
 entry-less : (q : ℕ) (h : HandleRow) → entry-at q h ≤ one (is_handle q h)
 entry-less q h = grind (arith, nat_tests)

@@ -1,21 +1,7 @@
 -- A handle is pinned, by a Pinned one that is made and by itself. Why an own handle can't be used.
-use Rattle.std.proofs.Common.{◌≡◌, ℕ, ◌+◌, ◌<◌, ◌≤◌, Bool, true, false, List, [], ◌∷◌, ◌++◌, refl, ap, sym, ◌∙◌, subst, arith, Option, Some, None, if◌then◌else◌}
-use Rattle.std.specs.Prelude.{not, nat_lt, nat_le}
-use Rattle.std.proofs.lemmas.Bool.Decides.{nat_tests}
-use Rattle.pagable_model.specs.declared.error.Error.{Error}
-use Rattle.pagable_model.specs.declared.error.Error.TheVariants as errors
-use Rattle.pagable_model.specs.declared.numbers.HandleNumber.{HandleNumber}
-use Rattle.pagable_model.specs.declared.numbers.NodeNumber.{NodeNumber}
-use Rattle.pagable_world.specs.declared.handles.HandleRow.{HandleRow}
-use Rattle.pagable_world.specs.declared.handles.Owner.{Owner}
-use Rattle.pagable_world.specs.declared.handles.Owner.TheVariants as owners
-use Rattle.pagable_world.specs.declared.rows.Mode.{Mode}
-use Rattle.pagable_world.specs.declared.rows.Mode.TheVariants as modes
-use Rattle.pagable_world.specs.Plain.{changed, if_there}
-use Rattle.pagable_world.specs.Kinds.{find_row, is_handle, is_owner}
-use Rattle.pagable_world.specs.World.{Core, Alike, greatest, row_at}
-use Rattle.pagable_world.specs.Refusals.{earlier, rank, refused_if, spent, where_so, handle_fault, Owns}
-use Rattle.pagable_world.specs.Calls.{with_handle, with_mode, row_of}
+use Rattle.pagable_tables.proofs.Words.{◌≡◌, ℕ, ◌+◌, ◌<◌, ◌≤◌, Bool, true, false, List, [], ◌∷◌, ◌++◌, refl, ap, sym, ◌∙◌, subst, arith, Option, Some, None, if◌then◌else◌, not, nat_lt, nat_le}
+use Rattle.pagable_tables.proofs.Words.{nat_tests, Error, HandleNumber, NodeNumber, HandleRow, Owner, Mode, changed, if_there, find_row, is_handle, is_owner, Core, Alike, greatest, row_at}
+use Rattle.pagable_tables.proofs.Words.{earlier, rank, refused_if, spent, where_so, handle_fault, Owns, with_handle, with_mode, row_of}
 use Rattle.pagable_tables.proofs.Coming.{turned}
 use Rattle.pagable_tables.proofs.Worlds.{same-cache}
 
@@ -26,11 +12,11 @@ changed-push q f (y ∷ ys) x less = ap (λ l. (if is_handle q y then f y else y
 
 -- the tables' cache stays, and so what it gives is told of the whole
 pub pinned-alike : (w u w' : Core) (h : HandleNumber) (node : NodeNumber) (me : Owner) → h.0 ≤ w.last.handle → ((kind key : ℕ) → w'.cache kind key ≡ w.cache kind key)
-    → Alike (with_handle w node modes.Pinned me) u → Alike (with_mode u h modes.LoosePinned) w' → Alike (with_handle (with_mode w h modes.LoosePinned) node modes.Pinned me) w'
+    → Alike (with_handle w node Mode.Pinned me) u → Alike (with_mode u h Mode.LoosePinned) w' → Alike (with_handle (with_mode w h Mode.LoosePinned) node Mode.Pinned me) w'
 pinned-alike w u w' h node me given cache a b =
-    let x : HandleRow = row_of (w.last.handle + 1) node modes.Pinned me in
+    let x : HandleRow = row_of (w.last.handle + 1) node Mode.Pinned me in
     let rows = b.rows ∙ ap (changed (is_handle h.0) turned) a.rows ∙ changed-push h.0 turned w.rows x (omega arith) in
-    let v = with_handle (with_mode w h modes.LoosePinned) node modes.Pinned me in
+    let v = with_handle (with_mode w h Mode.LoosePinned) node Mode.Pinned me in
     record {
       rows = rows;
       cells = λ n. b.cells n ∙ a.cells n;
@@ -46,15 +32,15 @@ pinned-alike w u w' h node me given cache a b =
     }
 
 abbrev fault-of : Owner → (Mode → Bool) → Option HandleRow → Option Error
-fault-of me fits o = if_there (λ (row : HandleRow). if not (is_owner me row.owner) then Some errors.NotYours else refused_if (not (fits row.mode)) errors.WrongMode) (Some errors.NoSuchHandle) o
+fault-of me fits o = if_there (λ (row : HandleRow). if not (is_owner me row.owner) then Some Error.NotYours else refused_if (not (fits row.mode)) Error.WrongMode) (Some Error.NoSuchHandle) o
 
-fault-rank : (o : Option HandleRow) (me : Owner) (fits : Mode → Bool) (e : Error) → fault-of me fits o ≡ Some e → rank e ≤ 2
-fault-rank None me fits e is = let same : errors.NoSuchHandle ≡ e = cc in subst (λ x. rank x ≤ 2) same (omega arith)
+pub fault-rank : (o : Option HandleRow) (me : Owner) (fits : Mode → Bool) (e : Error) → fault-of me fits o ≡ Some e → rank e ≤ 2
+fault-rank None me fits e is = let same : Error.NoSuchHandle ≡ e = cc in subst (λ x. rank x ≤ 2) same (omega arith)
 fault-rank (Some row) me fits e is = by (is_owner me row.owner) (fits row.mode) is
   where
-    by : (own asked : Bool) → (if not own then Some errors.NotYours else refused_if (not asked) errors.WrongMode) ≡ Some e → rank e ≤ 2
-    by false asked is = let same : errors.NotYours ≡ e = cc in subst (λ x. rank x ≤ 2) same (omega arith)
-    by true false is = let same : errors.WrongMode ≡ e = cc in subst (λ x. rank x ≤ 2) same (omega arith)
+    by : (own asked : Bool) → (if not own then Some Error.NotYours else refused_if (not asked) Error.WrongMode) ≡ Some e → rank e ≤ 2
+    by false asked is = let same : Error.NotYours ≡ e = cc in subst (λ x. rank x ≤ 2) same (omega arith)
+    by true false is = let same : Error.WrongMode ≡ e = cc in subst (λ x. rank x ≤ 2) same (omega arith)
     by true true is = absurd (cc)
 
 -- a cause stands where no earlier one may come
@@ -69,11 +55,9 @@ handle-first w me h fits e later is late =
     ap (λ x. earlier x later) is ∙ earlier-first e later (λ f so. let a = fault-rank (row_at w h) me fits e is in let b = late f so in omega arith)
 
 pub owner-self : (o : Owner) → is_owner o o ≡ true
-owner-self owners.Caller = refl
-owner-self (owners.Value n) = grind (arith, nat_tests)
-owner-self owners.List = refl
-owner-self (owners.Load l) = grind (arith, nat_tests)
-owner-self (owners.Worker v) = grind (arith, nat_tests)
+owner-self Owner.Caller = refl
+owner-self Owner.List = refl
+owner-self _ = grind (arith, nat_tests)
 
 -- the handle can be used as is asked
 pub no-fault : (w : Core) (me : Owner) (h : HandleNumber) (fits : Mode → Bool) (row : HandleRow) → Owns w me h fits row → handle_fault w me h fits ≡ None
@@ -82,13 +66,18 @@ no-fault w me h fits row o =
     let asked = o.as_asked in
     ap (fault-of me fits) o.live ∙ rw (own, asked) refl
 
+-- the handle is an own one, of another mode
+pub wrong-mode : (w : Core) (me : Owner) (h : HandleNumber) (fits : Mode → Bool) (row : HandleRow) → row_at w h ≡ Some row → is_owner me row.owner ≡ true → fits row.mode ≡ false
+    → handle_fault w me h fits ≡ Some Error.WrongMode
+wrong-mode w me h fits row live own other = ap (fault-of me fits) live ∙ rw (own, other) refl
+
 pub spent-late : (l : ℕ) (b : Bool) (f : Error) → where_so b (spent l) ≡ Some f → 3 < rank f
 spent-late l false f is = absurd (cc)
 spent-late l true f is = by (nat_le greatest l) is
   where
-    by : (b : Bool) → refused_if b errors.NumbersSpent ≡ Some f → 3 < rank f
+    by : (b : Bool) → refused_if b Error.NumbersSpent ≡ Some f → 3 < rank f
     by false is = absurd (cc)
-    by true is = let same : errors.NumbersSpent ≡ f = cc in subst (λ x. 3 < rank x) same (omega arith)
+    by true is = let same : Error.NumbersSpent ≡ f = cc in subst (λ x. 3 < rank x) same (omega arith)
 
 -- who is found stays found when more rows come
 found-more : (q : ℕ) (rows more : List HandleRow) (row : HandleRow) → find_row q rows ≡ Some row → find_row q (rows ++ more) ≡ Some row

@@ -1,36 +1,13 @@
 -- A world with more room, and a node that is born in it.
-use Rattle.std.proofs.Common.{◌≡◌, ℕ, ◌+◌, ◌<◌, ◌≤◌, true, false, if◌then◌else◌, List, [], ◌∷◌, refl, ap, sym, ◌∙◌, subst, arith, Option, None, inl, inr}
-use Rattle.std.specs.Prelude.{Bool, nat_le, vec_capacity}
+use Rattle.pagable_tables.proofs.Words.{◌≡◌, ℕ, ◌+◌, ◌<◌, ◌≤◌, true, false, if◌then◌else◌, List, [], ◌∷◌, refl, ap, sym, ◌∙◌, subst, arith, Option, None, inl, inr, Bool, nat_le, vec_capacity}
+use Rattle.pagable_tables.proofs.Words.{nat_tests, IndexMap, OptionalDataKey, Error, ArcRef, HandleNumber, Kind, LoadNumber, NodeNumber, HandleRow, Owner, Mode, Blob, or_else, type_of, mode_of}
+use Rattle.pagable_tables.proofs.Words.{Core, Cell, Places, Alike, HasRoom, greatest, earlier, spent, reference_fault, references_fault, Refused, with_handle, with_node, with_cached, next_node}
+use Rattle.pagable_tables.proofs.Words.{adopted, LoadRow, Holdings, Tables, OnlyRoom, counts_at, refs_at, load_at, known_at, Fits, cell_in, owns_nothing, live, AreSound, core_of, plain_of}
+use Rattle.pagable_tables.proofs.Words.{MayHold, AreLater}
 use Rattle.std.specs.Option.{option_map}
-use Rattle.std.proofs.lemmas.Bool.Decides.{nat_tests}
-use Rattle.indexmap.specs.IndexMap.{IndexMap}
-use Rattle.pagable_model.specs.declared.data_key.OptionalDataKey.{OptionalDataKey}
-use Rattle.pagable_model.specs.declared.error.Error.{Error}
-use Rattle.pagable_model.specs.declared.numbers.ArcRef.{ArcRef}
-use Rattle.pagable_model.specs.declared.numbers.HandleNumber.{HandleNumber}
-use Rattle.pagable_model.specs.declared.numbers.Kind.{Kind}
-use Rattle.pagable_model.specs.declared.numbers.LoadNumber.{LoadNumber}
-use Rattle.pagable_model.specs.declared.numbers.NodeNumber.{NodeNumber}
-use Rattle.pagable_world.specs.declared.handles.HandleRow.{HandleRow}
-use Rattle.pagable_world.specs.declared.handles.Owner.{Owner}
-use Rattle.pagable_world.specs.declared.handles.Owner.TheVariants as owners
-use Rattle.pagable_world.specs.declared.rows.Mode.{Mode}
-use Rattle.pagable_world.specs.Plain.{Blob, or_else, type_of}
-use Rattle.pagable_world.specs.Kinds.{mode_of}
-use Rattle.pagable_world.specs.World.{Core, Cell, Places, Alike, HasRoom, greatest}
-use Rattle.pagable_world.specs.Refusals.{earlier, spent, reference_fault, references_fault, Refused}
-use Rattle.pagable_world.specs.Calls.{IsNext, with_handle, with_node, with_cached, next_node}
-use Rattle.pagable_world.specs.LoadCalls.{adopted}
-use Rattle.pagable_tables.specs.declared.rows.LoadRow.{LoadRow}
-use Rattle.pagable_tables.specs.declared.holdings.Holdings.{Holdings}
-use Rattle.pagable_tables.specs.declared.tables.Tables.{Tables}
-use Rattle.pagable_tables.specs.Bearing.{OnlyRoom}
-use Rattle.pagable_tables.specs.ByNumber.{counts_at, refs_at, load_at, known_at}
-use Rattle.pagable_tables.specs.Falling.{Fits, cell_in, owns_nothing}
-use Rattle.pagable_tables.specs.Live.{live, AreSound}
+use Rattle.pagable_world.specs.Calls.{IsNext}
 use Rattle.pagable_tables.specs.Live as places
-use Rattle.pagable_tables.specs.Core.{core_of, plain_of, IsWhole, MayHold}
-use Rattle.pagable_tables.specs.Later.{AreLater}
+use Rattle.pagable_tables.specs.Core.{IsWhole}
 use Rattle.pagable_tables.proofs.Newer.{newer-alike, later-so}
 use Rattle.pagable_tables.proofs.Worlds.{same-cache}
 use Rattle.pagable_tables.proofs.keeps.Told.{alike-whole}
@@ -145,11 +122,8 @@ room-whole t t' whole sound next rows counts refs top room =
         (subst (λ f. Fits (counts_at old.nodes) f (live old.handles.places.items) old.top [] owns_nothing) (λ i n. sym (refs n) i) whole.steady.fits)))
 
 holder-past : (w : Core) (p : Places) (me : Owner) → MayHold w me → MayHold (record w { places = p }) me
-holder-past w p owners.Caller h = h
-holder-past w p (owners.Worker v) h = h
-holder-past w p (owners.Load l) h = h
-holder-past w p (owners.Value n) h = h
-holder-past w p owners.List h = h
+holder-past w p Owner.Caller h = h
+holder-past w p _ h = h
 
 -- who may get a handle still may
 pub room-holder : {w w' : Core} (me : Owner) → OnlyRoom w w' → MayHold w me → MayHold w' me
@@ -163,7 +137,7 @@ pub adopted-past : {w w1 w' : Core} (l : LoadNumber) (kind : Kind) (key : ℕ) (
 adopted-past {w} {w1} {w'} l kind key own rs o a = split w.closed (subst (λ (u : Core). Alike (adopted u l kind key own rs) w') o.same a)
   where
     m : Core
-    m = with_handle (with_node w (type_of kind.0) own rs) (next_node w) (mode_of kind.0) (owners.Load l)
+    m = with_handle (with_node w (type_of kind.0) own rs) (next_node w) (mode_of kind.0) (Owner.Load l)
 
     split : (b : Bool) → Alike (if b then record m { places = w1.places } else with_cached (record m { places = w1.places }) kind key (next_node w)) w' → Alike (if b then m else with_cached m kind key (next_node w)) w'
     split true a = alike-past w1.places o.more a

@@ -1,17 +1,6 @@
 -- A handle is made of the node that the cache gives.
-use Rattle.std.proofs.Common.{◌≡◌, ℕ, true, ap, ◌∙◌, subst, Ok, Err, Some, inl, inr}
-use Rattle.std.specs.Prelude.{is_some}
-use Rattle.pagable_model.specs.declared.error.Error.{Error}
-use Rattle.pagable_model.specs.declared.numbers.HandleNumber.{HandleNumber}
-use Rattle.pagable_model.specs.declared.numbers.NodeNumber.{NodeNumber}
-use Rattle.pagable_model.specs.declared.numbers.Kind.{Kind}
-use Rattle.pagable_world.specs.declared.handles.Owner.{Owner}
-use Rattle.pagable_world.specs.declared.rows.Mode.{Mode}
-use Rattle.pagable_world.specs.Kinds.{mode_of}
-use Rattle.pagable_world.specs.World.{Core, usable, Alike}
-use Rattle.pagable_world.specs.Refusals.{where_so, spent}
-use Rattle.pagable_world.specs.Calls.{with_handle, is_usable, recall_fault, RecallCall}
-use Rattle.pagable_tables.specs.Core.{Makes}
+use Rattle.pagable_tables.proofs.Words.{◌≡◌, ℕ, true, ap, ◌∙◌, subst, Ok, Err, Some, inl, inr, is_some, Error, HandleNumber, NodeNumber, Kind, Owner, Mode, mode_of, Core, usable, Alike, where_so}
+use Rattle.pagable_tables.proofs.Words.{spent, with_handle, is_usable, recall_fault, RecallCall, Makes}
 
 module _ (w : Core) (me : Owner) (kind : Kind) (key : ℕ) (node : NodeNumber) (mode : Mode) (w' : Core)
     (is : usable w kind.0 key ≡ Some node.0) (fits : mode ≡ mode_of kind.0) where

@@ -1,16 +1,6 @@
 -- One handle more has gone: what rows are left, where no entry is that handle.
-use Rattle.std.proofs.Common.{◌≡◌, ℕ, ◌+◌, ◌&&◌, Bool, not, List, ◌++◌, ap, ◌∙◌}
-use Rattle.std.proofs.lemmas.List.{append_assoc}
-use Rattle.std.proofs.lemmas.List.Elements.{filter-append}
-use Rattle.pagable_world.specs.declared.handles.HandleRow.{HandleRow}
-use Rattle.pagable_world.specs.Plain.{times}
-use Rattle.pagable_world.specs.Kinds.{is_handle}
-use Rattle.pagable_world.specs.World.{Core}
-use Rattle.pagable_world.specs.Cascade.{left_rows, only_handle}
-use Rattle.pagable_tables.specs.declared.holdings.Holdings.{Holdings}
-use Rattle.pagable_tables.specs.Live.{live}
-use Rattle.pagable_tables.specs.Falling.{entries_of, is_listing, Leaves, GivesUp}
-use Rattle.pagable_tables.specs.Onward.{SoFar}
+use Rattle.pagable_tables.proofs.Words.{◌≡◌, ℕ, ◌+◌, ◌&&◌, Bool, not, List, ◌++◌, ap, ◌∙◌, append_assoc, filter-append, HandleRow, times, is_handle, Core, left_rows, only_handle, Holdings, live}
+use Rattle.pagable_tables.proofs.Words.{entries_of, is_listing, Leaves, GivesUp, SoFar}
 use Rattle.pagable_tables.proofs.Left.{and_one, left-more, left-none}
 
 rows-leaves : (rows entries : List HandleRow) (gone : ℕ → Bool) (old new : Holdings) (x : HandleRow) (wanted listed : Bool) → Leaves old x wanted listed new

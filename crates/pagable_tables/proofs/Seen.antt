@@ -1,18 +1,7 @@
 -- Handles that are named one after the other.
-use Rattle.std.proofs.Common.{◌≡◌, ℕ, ◌+◌, ◌<◌, ◌==◌, ◌||◌, Bool, true, false, List, [], ◌∷◌, length, get_or, drop, refl, ap, sym, ◌∙◌, arith, suc, zero, Option, Some, None}
-use Rattle.std.specs.Prelude.{not}
-use Rattle.std.proofs.lemmas.Bool.Decides.{nat_tests}
-use Rattle.pagable_model.specs.declared.numbers.HandleNumber.{HandleNumber}
-use Rattle.std.proofs.lemmas.List.{at_drop_more, at_drop_all}
-use Rattle.pagable_model.specs.declared.error.Error.{Error}
-use Rattle.pagable_model.specs.declared.error.Error.TheVariants as errors
-use Rattle.pagable_world.specs.declared.handles.HandleRow.{HandleRow}
-use Rattle.pagable_world.specs.declared.handles.Owner.{Owner}
-use Rattle.pagable_world.specs.Plain.{is_in, if_there}
-use Rattle.pagable_world.specs.Kinds.{is_owner, find_row}
-use Rattle.pagable_world.specs.World.{Core}
-use Rattle.pagable_world.specs.Refusals.{named_fault, refused_if, earlier}
-use Rattle.pagable_tables.specs.Named.{seen, named_at}
+use Rattle.pagable_tables.proofs.Words.{◌≡◌, ℕ, ◌+◌, ◌<◌, ◌==◌, ◌||◌, Bool, true, false, List, [], ◌∷◌, length, get_or, drop, refl, ap, sym, ◌∙◌, arith, suc, zero, Option, Some, None, not}
+use Rattle.pagable_tables.proofs.Words.{nat_tests, HandleNumber, at_drop_more, at_drop_all, Error, HandleRow, Owner, is_in, if_there, is_owner, find_row, Core, named_fault, refused_if, earlier}
+use Rattle.pagable_tables.proofs.Words.{seen, named_at}
 
 pub in-none : (hs : List HandleNumber) (q : ℕ) → is_in (seen hs 0) q ≡ false
 unfolding is_in seen
@@ -57,7 +46,7 @@ unfolding named_fault
 none-named w o before = refl
 
 abbrev pub one-fault : Core → Owner → List ℕ → HandleNumber → Option Error
-one-fault w o before h = if_there (λ (row : HandleRow). refused_if (not (is_owner o row.owner) || is_in before h.0) errors.NotYours) (Some errors.NoSuchHandle) (find_row h.0 w.rows)
+one-fault w o before h = if_there (λ (row : HandleRow). refused_if (not (is_owner o row.owner) || is_in before h.0) Error.NotYours) (Some Error.NoSuchHandle) (find_row h.0 w.rows)
 
 next-named : (w : Core) (o : Owner) (before : List ℕ) (h : HandleNumber) (hs : List HandleNumber) → named_fault w o before (h ∷ hs) ≡ earlier (one-fault w o before h) (named_fault w o (h.0 ∷ before) hs)
 unfolding named_fault

@@ -1,11 +1,6 @@
 -- Values that go as nodes fall.
-use Rattle.std.proofs.Common.{◌≡◌, ℕ, Bool, true, false, [], refl, ap, sym, ◌∙◌, arith, inl, inr, None, Option, if◌then◌else◌}
-use Rattle.std.specs.Prelude.{◌⊎◌, is_some}
-use Rattle.std.proofs.lemmas.Bool.Decides.{nat_tests}
-use Rattle.pagable_tables.specs.declared.rows.Counts.{Counts}
-use Rattle.pagable_tables.specs.declared.holdings.Holdings.{Holdings}
-use Rattle.pagable_tables.specs.ByNumber.{counts_at}
-use Rattle.pagable_tables.specs.Falling.{IsFalling, ValueStays, Sheds, falls_in, has_value, owns_nothing}
+use Rattle.pagable_tables.proofs.Words.{◌≡◌, ℕ, Bool, true, false, [], refl, ap, sym, ◌∙◌, arith, inl, inr, None, Option, if◌then◌else◌, ◌⊎◌, is_some, nat_tests, Counts, Holdings, counts_at}
+use Rattle.pagable_tables.proofs.Words.{IsFalling, ValueStays, Sheds, falls_in, has_value, owns_nothing}
 
 -- the value that a node had is there or gone, and it is there exactly where the node has it, unless the node falls
 abbrev pub Lasting : {X : Type 0} → Option Counts → Option X → Option X → Type 0

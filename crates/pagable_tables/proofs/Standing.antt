@@ -1,13 +1,6 @@
 -- How many steps are enough, and where no node falls.
-use Rattle.std.proofs.Common.{◌≡◌, ℕ, ◌≤◌, Bool, true, false, List, [], ◌∷◌, length, ap, sym, ◌∙◌, subst, arith}
-use Rattle.std.specs.Prelude.{◌≢◌}
-use Rattle.std.proofs.lemmas.List.Sums.{sum_by-cons}
-use Rattle.pagable_world.specs.declared.handles.HandleRow.{HandleRow}
-use Rattle.pagable_world.specs.Plain.{one}
-use Rattle.pagable_tables.specs.Live.{live}
-use Rattle.pagable_tables.specs.ByNumber.{counts_at, refs_at}
-use Rattle.pagable_tables.specs.Falling.{Fits, IsFalling, falls_in, is_valued, valued, owns_nothing}
-use Rattle.pagable_tables.specs.declared.holdings.Holdings.{Holdings}
+use Rattle.pagable_tables.proofs.Words.{◌≡◌, ℕ, ◌≤◌, Bool, true, false, List, [], ◌∷◌, length, ap, sym, ◌∙◌, subst, arith, ◌≢◌, sum_by-cons, HandleRow, one, live, counts_at, refs_at, Fits}
+use Rattle.pagable_tables.proofs.Words.{IsFalling, falls_in, is_valued, valued, owns_nothing, Holdings}
 use Rattle.pagable_tables.proofs.Fitting.{first-waits}
 
 pub valued-le : (rows : List HandleRow) → valued rows ≤ length rows

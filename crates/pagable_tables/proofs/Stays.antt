@@ -22,13 +22,13 @@ use Rattle.pagable_tables.proofs.Coming.{no-value}
 use Rattle.pagable_model.specs.declared.numbers.LoadNumber.{LoadNumber}
 use Rattle.pagable_world.specs.declared.handles.Owner.TheVariants as owners
 use Rattle.pagable_world.specs.declared.rows.Mode.TheVariants as modes
-use Rattle.pagable_tables.proofs.Regiven.{loaded, loaded-here, loaded-none}
+use Rattle.pagable_tables.proofs.Regiven.{loaded, passes-here, passes-none}
 use Rattle.pagable_tables.proofs.Left.{times-left}
 use Rattle.pagable_tables.proofs.Next.{within-less}
 use Rattle.pagable_tables.proofs.Dropped.{owned-given}
-use Rattle.pagable_tables.proofs.Opened.{same-owner}
 use Rattle.pagable_tables.proofs.keeps.BirthCalls.{named-mine}
 use Rattle.pagable_tables.proofs.keeps.Rows.{counted, at-most-sum, once, among-last}
+use Rattle.pagable_tables.proofs.Pins.{owner-self}
 
 zero-or : (n : ℕ) → (n ≡ 0) ⊎ (0 < n)
 zero-or n = elim (cases_eq n 0) [ inl e ↦ inl e | inr e ↦ inr (omega arith) ]
@@ -188,8 +188,8 @@ eager-pins kind eager = split (is_shared_kind kind) (is_loose_kind kind) eager
     split false true e = absurd (cc)
 
 pub loaded-append : (l : LoadNumber) (q : ℕ) (rows more : List HandleRow) → loaded l q rows ≡ true → loaded l q (rows ++ more) ≡ true
-loaded-append l q [] more own = absurd (let a = loaded-none l q in cc)
-loaded-append l q (x ∷ xs) more own = loaded-here l q x (xs ++ more) ∙ split (is_handle q x) (sym (loaded-here l q x xs) ∙ own) (loaded-append l q xs more)
+loaded-append l q [] more own = absurd (let a = passes-none (is_owned_by (owners.Load l)) q in cc)
+loaded-append l q (x ∷ xs) more own = passes-here (is_owned_by (owners.Load l)) q x (xs ++ more) ∙ split (is_handle q x) (sym (passes-here (is_owned_by (owners.Load l)) q x xs) ∙ own) (loaded-append l q xs more)
   where
     split : (b : Bool) → (if b then is_owner (owners.Load l) x.owner else loaded l q xs) ≡ true → (loaded l q xs ≡ true → loaded l q (xs ++ more) ≡ true) → (if b then is_owner (owners.Load l) x.owner else loaded l q (xs ++ more)) ≡ true
     split true own rest = own
@@ -199,7 +199,7 @@ loaded-append l q (x ∷ xs) more own = loaded-here l q x (xs ++ more) ∙ split
 pub named-loaded : (w : Core) (l : LoadNumber) (refs : List ArcRef) → references_fault w (owners.Load l) [] refs ≡ None → (q : ℕ) → is_named_by refs q ≡ true → is_owned_in w (owners.Load l) q ≡ true
 named-loaded w l refs good q named =
     let m = named-mine w (owners.Load l) [] refs good q named in
-    ap (if_there (is_owned_by (owners.Load l)) false) m.live ∙ ap (is_owner (owners.Load l)) m.own ∙ same-owner (owners.Load l)
+    ap (if_there (is_owned_by (owners.Load l)) false) m.live ∙ ap (is_owner (owners.Load l)) m.own ∙ owner-self (owners.Load l)
 
 pub not-named : (w : Core) (l : LoadNumber) (refs : List ArcRef) → HandlesAreWhole w → references_fault w (owners.Load l) [] refs ≡ None → (q : ℕ) → w.last.handle < q → is_named_by refs q ≡ false
 not-named w l refs whole good q above = split (is_named_by refs q) refl

@@ -1,29 +1,10 @@
 -- A handle comes, and then another is given up: the new one stays, so that cells are listed as of the world before it came.
-use Rattle.std.proofs.Common.{◌≡◌, ℕ, ◌+◌, ◌<◌, ◌≤◌, ◌==◌, ◌&&◌, Bool, true, false, [], ◌∷◌, refl, ap, sym, ◌∙◌, subst, arith, Ok, Err, Option, Some, None, inl, inr, if◌then◌else◌}
-use Rattle.std.specs.Prelude.{Result, not, nat_lt, nat_eq}
-use Rattle.std.proofs.lemmas.Bool.Decides.{nat_tests}
-use Rattle.std.proofs.lemmas.List.Sums.{sum_by_push, sum_by-append, sum_by-le-sum_by}
-use Rattle.pagable_model.specs.declared.error.Error.{Error}
-use Rattle.pagable_model.specs.declared.numbers.NodeNumber.{NodeNumber}
-use Rattle.pagable_world.specs.declared.handles.HandleRow.{HandleRow}
-use Rattle.pagable_world.specs.declared.handles.Owner.{Owner}
-use Rattle.pagable_world.specs.declared.handles.Owner.TheVariants as owners
-use Rattle.pagable_world.specs.declared.rows.Mode.{Mode}
-use Rattle.pagable_world.specs.declared.rows.Mode.TheVariants as modes
-use Rattle.pagable_world.specs.Plain.{Blob, Among, one, times, if_there}
-use Rattle.pagable_world.specs.Kinds.{is_handle, has_key, is_at, is_pin, is_share, is_pinning, is_shared, is_owner, is_owned_by, owner_value, held, pins, sharing}
-use Rattle.pagable_model.specs.declared.numbers.HandleNumber.{HandleNumber}
-use Rattle.pagable_model.specs.declared.data_key.OptionalDataKey.TheVariants as optional
-use Rattle.pagable_world.specs.World.{Core, Cell, Last, Alike}
-use Rattle.pagable_world.specs.Cascade.{Falls, IsClosed, IsWithin, MustList, TellsListing, is_keyed, nobody, pins_outside, held_outside, left_rows}
-use Rattle.pagable_world.specs.Calls.{row_of, with_handle}
-use Rattle.pagable_tables.specs.declared.rows.Counts.{Counts}
-use Rattle.pagable_tables.specs.declared.tables.Tables.{Tables}
-use Rattle.pagable_tables.specs.Live.{live}
-use Rattle.pagable_tables.specs.ByNumber.{counts_at}
-use Rattle.pagable_tables.specs.Falling.{ValueStays, cell_in, has_value, is_valued, pins_in}
-use Rattle.pagable_tables.specs.Onward.{SoFar, is_plain_pin}
-use Rattle.pagable_tables.specs.Core.{IsWhole, core_of}
+use Rattle.pagable_tables.proofs.Words.{◌≡◌, ℕ, ◌+◌, ◌<◌, ◌≤◌, ◌==◌, ◌&&◌, Bool, true, false, [], ◌∷◌, refl, ap, sym, ◌∙◌, subst, arith, Ok, Err, Option, Some, None, inl, inr, if◌then◌else◌}
+use Rattle.pagable_tables.proofs.Words.{Result, not, nat_lt, nat_eq, nat_tests, sum_by_push, sum_by-append, sum_by-le-sum_by, Error, NodeNumber, HandleRow, Owner, Mode, Blob, Among, one, times}
+use Rattle.pagable_tables.proofs.Words.{if_there, is_handle, has_key, is_at, is_pin, is_share, is_pinning, is_shared, is_owner, is_owned_by, owner_value, held, pins, sharing, HandleNumber}
+use Rattle.pagable_tables.proofs.Words.{OptionalDataKey, Core, Cell, Last, Alike, Falls, IsClosed, IsWithin, MustList, TellsListing, is_keyed, nobody, pins_outside, held_outside, left_rows}
+use Rattle.pagable_tables.proofs.Words.{row_of, with_handle, Counts, Tables, live, counts_at, ValueStays, cell_in, has_value, is_valued, pins_in, SoFar, is_plain_pin, core_of}
+use Rattle.pagable_tables.specs.Core.{IsWhole}
 use Rattle.pagable_tables.proofs.Begun.{begins, begun}
 use Rattle.pagable_tables.proofs.Forced.{keyed-cell}
 use Rattle.pagable_tables.proofs.Left.{times-left}
@@ -34,11 +15,8 @@ use Rattle.pagable_tables.proofs.keeps.Rows.{among-both, among-one, among-last, 
 
 -- a handle that doesn't pin isn't Shared
 unshared : (b : Bool) (mode : Mode) → (b && is_pinning mode) ≡ false → (b && is_shared mode) ≡ false
-unshared false mode e = refl
-unshared true modes.LooseUnpinned e = refl
-unshared true modes.LoosePinned e = refl
-unshared true modes.Pinned e = refl
-unshared true modes.Shared e = e
+unshared true Mode.Shared e = e
+unshared _ _ e = refl
 
 module _ (w : Core) (node : NodeNumber) (mode : Mode) (me : Owner) (numbered : (h : HandleRow) → Among w.rows h → h.number.0 ≤ w.last.handle) (plain : is_valued me ≡ false) where
   abbrev k : ℕ
@@ -92,11 +70,8 @@ module _ (w : Core) (node : NodeNumber) (mode : Mode) (me : Owner) (numbered : (
         old e o g is zero = grind (arith, nat_tests)
 
         no-value : (n : ℕ) (o : Owner) → is_valued o ≡ false → is_owner (owner_value n) o ≡ false
-        no-value n owners.Caller e = refl
-        no-value n (owners.Value m) e = absurd (cc)
-        no-value n owners.List e = refl
-        no-value n (owners.Load l) e = refl
-        no-value n (owners.Worker v) e = refl
+        no-value n (Owner.Value m) e = absurd (cc)
+        no-value n _ e = refl
 
     stays : f.gone k ≡ false
     stays = at (f.gone k) refl
@@ -171,7 +146,7 @@ same-value (Some c) None b cell pinned there = absurd (cc)
 same-value (Some c) (Some c') b cell pinned there = by b pinned there
   where
     keyed : nat_lt 0 c'.key ≡ nat_lt 0 c.key
-    keyed = sym (keyed-cell c'.key) ∙ ap (λ (o : Option Cell). has_key (if_there (λ (y : Cell). y.key) optional.None o)) cell ∙ keyed-cell c.key
+    keyed = sym (keyed-cell c'.key) ∙ ap (λ (o : Option Cell). has_key (if_there (λ (y : Cell). y.key) OptionalDataKey.None o)) cell ∙ keyed-cell c.key
 
     by : (b : Bool) → c'.pins ≡ c.pins + one b → (b ≡ true → has_value (Some c) ≡ true) → has_value (Some c') ≡ has_value (Some c)
     by true pinned there = let e = there refl in grind (arith, nat_tests)
@@ -203,7 +178,7 @@ module _ (t new : Tables) (stored : ℕ → Option Blob) (failures : ℕ) (node 
           | inl none ↦ inl (sym (ap (sharing n) a.rows) ∙ none)
           | inr none ↦ inr (sym (ap (times (is_plain_pin n)) a.rows) ∙ none)
         ];
-        listed = λ q. let d = ap (times (λ (h : HandleNumber). h.0 == q)) a.list in let e = ap (times (λ h. is_handle q h && is_owned_by owners.List h)) a.rows in let f = b.listed q in omega arith;
+        listed = λ q. let d = ap (times (λ (h : HandleNumber). h.0 == q)) a.list in let e = ap (times (λ h. is_handle q h && is_owned_by Owner.List h)) a.rows in let f = b.listed q in omega arith;
       })
       a.rows a.list (ap (λ (l : Last). l.handle) a.last) after.core.handles.within.0 (record { handles = a.places.handles; entries = a.places.entries }) a.cells refl
       (λ n must. let p = must.pinned in let z = must.unpinned in let s = ap (pins n) a.rows in absurd (omega arith))

@@ -1,28 +1,10 @@
 -- A load hands handles over, and gives up the rest.
-use Rattle.std.proofs.Common.{◌≡◌, ℕ, ◌<◌, ◌==◌, ◌&&◌, Bool, true, false, not, if◌then◌else◌, List, [], ◌∷◌, length, refl, ap, sym, ◌∙◌, subst, arith, Option, Some, None, inl, inr}
-use Rattle.std.proofs.lemmas.Bool.Decides.{nat_tests}
-use Rattle.std.proofs.lemmas.List.Sums.{sum_by-cons}
-use Rattle.pagable_model.specs.declared.numbers.HandleNumber.{HandleNumber}
-use Rattle.pagable_model.specs.declared.numbers.LoadNumber.{LoadNumber}
-use Rattle.pagable_world.specs.declared.handles.HandleRow.{HandleRow}
-use Rattle.pagable_world.specs.declared.handles.Owner.{Owner}
-use Rattle.pagable_world.specs.declared.handles.Owner.TheVariants as owners
-use Rattle.pagable_world.specs.Plain.{Blob, Among, one, times, if_there, is_in}
-use Rattle.pagable_world.specs.Kinds.{is_handle, is_owner, is_owned_by, is_pin, is_share, find_row, pins}
-use Rattle.pagable_world.specs.World.{Core, OpenLoad, HasRoom}
+use Rattle.pagable_tables.proofs.Words.{◌≡◌, ℕ, ◌<◌, ◌==◌, ◌&&◌, Bool, true, false, not, if◌then◌else◌, List, [], ◌∷◌, length, refl, ap, sym, ◌∙◌, subst, arith, Option, Some, None, inl, inr}
+use Rattle.pagable_tables.proofs.Words.{nat_tests, sum_by-cons, HandleNumber, LoadNumber, HandleRow, Owner, Blob, Among, one, times, if_there, is_in, is_handle, is_owner, is_owned_by, is_pin}
+use Rattle.pagable_tables.proofs.Words.{is_share, find_row, pins, Core, OpenLoad, HasRoom, MayOwnLoad, earlier, load_fault, named_fault, nobody, moved, without_load, numbers_of, cell_fault}
+use Rattle.pagable_tables.proofs.Words.{hand_over_fault, Tables, Holdings, live, is_valued, with_tables, is_plain_pin, SoFar, core_of, named_at, IsNamed}
 use Rattle.pagable_world.specs.Pager as pager
-use Rattle.pagable_world.specs.Pager.{MayOwnLoad}
-use Rattle.pagable_world.specs.Refusals.{earlier, load_fault, named_fault}
-use Rattle.pagable_world.specs.Cascade.{nobody}
-use Rattle.pagable_world.specs.Calls.{moved}
-use Rattle.pagable_world.specs.LoadCalls.{without_load, numbers_of, cell_fault, hand_over_fault}
-use Rattle.pagable_tables.specs.declared.tables.Tables.{Tables}
-use Rattle.pagable_tables.specs.declared.holdings.Holdings.{Holdings}
-use Rattle.pagable_tables.specs.Live.{live}
-use Rattle.pagable_tables.specs.Falling.{is_valued}
-use Rattle.pagable_tables.specs.Onward.{with_tables, is_plain_pin, SoFar}
-use Rattle.pagable_tables.specs.Core.{core_of, IsWhole}
-use Rattle.pagable_tables.specs.Named.{named_at, IsNamed}
+use Rattle.pagable_tables.specs.Core.{IsWhole}
 use Rattle.pagable_tables.proofs.Begun.{begins, begun}
 use Rattle.pagable_tables.proofs.Handed.{seen-all}
 use Rattle.pagable_tables.proofs.Regiven.{loaded}
@@ -48,7 +30,7 @@ moved-times f s o (x ∷ xs) same =
     split false = refl
 
 -- what a load owns once handles have moved from it
-pub loaded-moved : (s : ℕ → Bool) (o : Owner) (l : LoadNumber) (q : ℕ) (rows : List HandleRow) → is_owner (owners.Load l) o ≡ false → loaded l q (moved s o rows) ≡ (loaded l q rows && not (s q))
+pub loaded-moved : (s : ℕ → Bool) (o : Owner) (l : LoadNumber) (q : ℕ) (rows : List HandleRow) → is_owner (Owner.Load l) o ≡ false → loaded l q (moved s o rows) ≡ (loaded l q rows && not (s q))
 unfolding find_row
 loaded-moved s o l q [] other = refl
 loaded-moved s o l q (x ∷ xs) other = split (s x.number.0) (is_handle q x) refl refl (loaded-moved s o l q xs other)
@@ -66,25 +48,23 @@ loaded-moved s o l q (x ∷ xs) other = split (s x.number.0) (is_handle q x) ref
 
     split : (a b : Bool) → s x.number.0 ≡ a → is_handle q x ≡ b → loaded l q (moved s o xs) ≡ (loaded l q xs && not (s q)) → loaded l q (moved s o (x ∷ xs)) ≡ (loaded l q (x ∷ xs) && not (s q))
     split true true e f rest =
-        ap (λ a. loaded l q ((if a then record x { owner = o } else x) ∷ moved s o xs)) e ∙ ap (λ b. if_there (is_owned_by (owners.Load l)) false (if b then Some (record x { owner = o }) else find_row q (moved s o xs))) f ∙ other
+        ap (λ a. loaded l q ((if a then record x { owner = o } else x) ∷ moved s o xs)) e ∙ ap (λ b. if_there (is_owned_by (Owner.Load l)) false (if b then Some (record x { owner = o }) else find_row q (moved s o xs))) f ∙ other
         ∙ sym (ap (λ b. loaded l q (x ∷ xs) && not b) (same f ∙ e) ∙ and-none (loaded l q (x ∷ xs)))
     split true false e f rest =
-        ap (λ a. loaded l q ((if a then record x { owner = o } else x) ∷ moved s o xs)) e ∙ ap (λ b. if_there (is_owned_by (owners.Load l)) false (if b then Some (record x { owner = o }) else find_row q (moved s o xs))) f ∙ rest
-        ∙ sym (ap (λ b. if_there (is_owned_by (owners.Load l)) false (if b then Some x else find_row q xs) && not (s q)) f)
+        ap (λ a. loaded l q ((if a then record x { owner = o } else x) ∷ moved s o xs)) e ∙ ap (λ b. if_there (is_owned_by (Owner.Load l)) false (if b then Some (record x { owner = o }) else find_row q (moved s o xs))) f ∙ rest
+        ∙ sym (ap (λ b. if_there (is_owned_by (Owner.Load l)) false (if b then Some x else find_row q xs) && not (s q)) f)
     split false true e f rest =
-        ap (λ a. loaded l q ((if a then record x { owner = o } else x) ∷ moved s o xs)) e ∙ ap (λ b. if_there (is_owned_by (owners.Load l)) false (if b then Some x else find_row q (moved s o xs))) f
-        ∙ sym (ap (λ b. if_there (is_owned_by (owners.Load l)) false (if b then Some x else find_row q xs) && not (s q)) f ∙ ap (λ b. is_owner (owners.Load l) x.owner && not b) (same f ∙ e) ∙ and-all (is_owner (owners.Load l) x.owner))
+        ap (λ a. loaded l q ((if a then record x { owner = o } else x) ∷ moved s o xs)) e ∙ ap (λ b. if_there (is_owned_by (Owner.Load l)) false (if b then Some x else find_row q (moved s o xs))) f
+        ∙ sym (ap (λ b. if_there (is_owned_by (Owner.Load l)) false (if b then Some x else find_row q xs) && not (s q)) f ∙ ap (λ b. is_owner (Owner.Load l) x.owner && not b) (same f ∙ e) ∙ and-all (is_owner (Owner.Load l) x.owner))
     split false false e f rest =
-        ap (λ a. loaded l q ((if a then record x { owner = o } else x) ∷ moved s o xs)) e ∙ ap (λ b. if_there (is_owned_by (owners.Load l)) false (if b then Some x else find_row q (moved s o xs))) f ∙ rest
-        ∙ sym (ap (λ b. if_there (is_owned_by (owners.Load l)) false (if b then Some x else find_row q xs) && not (s q)) f)
+        ap (λ a. loaded l q ((if a then record x { owner = o } else x) ∷ moved s o xs)) e ∙ ap (λ b. if_there (is_owned_by (Owner.Load l)) false (if b then Some x else find_row q (moved s o xs))) f ∙ rest
+        ∙ sym (ap (λ b. if_there (is_owned_by (Owner.Load l)) false (if b then Some x else find_row q xs) && not (s q)) f)
 
 -- who began a load isn't one, nor a value
-pub no-load : (w : Core) (o : Owner) (l : LoadNumber) → MayOwnLoad w o → is_owner (owners.Load l) o ≡ false
-no-load w owners.Caller l may = refl
-no-load w (owners.Worker v) l may = refl
-no-load w (owners.Value n) l may = absurd may
-no-load w owners.List l may = absurd may
-no-load w (owners.Load m) l may = absurd may
+pub no-load : (w : Core) (o : Owner) (l : LoadNumber) → MayOwnLoad w o → is_owner (Owner.Load l) o ≡ false
+no-load w Owner.Caller l may = refl
+no-load w (Owner.Worker v) l may = refl
+no-load w _ l may = absurd may
 
 -- the world after handles have moved, without the load
 abbrev pub moved-less : Core → LoadNumber → (ℕ → Bool) → Owner → Core
@@ -93,7 +73,7 @@ moved-less w l s o = record (without_load w l) { rows = moved s o w.rows }
 -- nothing has gone of it
 pub begun-moved : (t : Tables) (h : Holdings) (l : LoadNumber) (s : ℕ → Bool) (o : Owner) (stored : ℕ → Option Blob) (closed lists : Bool) (failures : ℕ) → IsWhole t → lists ≡ not closed
     → h ≡ record t.holdings { handles = h.handles } → live h.handles.places.items ≡ moved s o (live t.holdings.handles.places.items) → HasRoom (core_of t stored closed failures).places (with_tables (core_of t stored closed failures) h).places
-    → ((q : ℕ) → times (λ (h : HandleNumber). h.0 == q) t.holdings.list.items ≡ times (λ h. is_handle q h && is_owned_by owners.List h) (moved s o (live t.holdings.handles.places.items)))
+    → ((q : ℕ) → times (λ (h : HandleNumber). h.0 == q) t.holdings.list.items ≡ times (λ h. is_handle q h && is_owned_by Owner.List h) (moved s o (live t.holdings.handles.places.items)))
     → SoFar (core_of t stored closed failures) (moved-less (core_of t stored closed failures) l s o) nobody lists (record h { unlisted = None })
 begun-moved t h l s o stored closed lists failures whole e same rows room listed =
     let w = core_of t stored closed failures in
@@ -115,32 +95,32 @@ begun-moved t h l s o stored closed lists failures whole e same rows room listed
 pub record MayHand (w : Core) (me : Owner) (l : LoadNumber) (hs : List HandleNumber) : Type 0 where
   pub own : load_fault w me l ≡ None
   pub may : MayOwnLoad w me
-  pub named : named_fault w (owners.Load l) [] hs ≡ None
+  pub named : named_fault w (Owner.Load l) [] hs ≡ None
 
 pub may-hand : {w : Core} → pager.IsWhole w → (me : Owner) (l : LoadNumber) (hs : List HandleNumber) → hand_over_fault w me l hs ≡ None → MayHand w me l hs
 may-hand {w} whole me l hs good =
-    let first = both-none (load_fault w me l) (earlier (if_there (λ (load : OpenLoad). cell_fault load.root) None (w.loads l.0)) (named_fault w (owners.Load l) [] hs)) good in
-    let second = both-none (if_there (λ (load : OpenLoad). cell_fault load.root) None (w.loads l.0)) (named_fault w (owners.Load l) [] hs) first.1 in
+    let first = both-none (load_fault w me l) (earlier (if_there (λ (load : OpenLoad). cell_fault load.root) None (w.loads l.0)) (named_fault w (Owner.Load l) [] hs)) good in
+    let second = both-none (if_there (λ (load : OpenLoad). cell_fault load.root) None (w.loads l.0)) (named_fault w (Owner.Load l) [] hs) first.1 in
     record { own = first.0; may = asker-owns whole me l first.0; named = second.1 }
 
-pub named-there : (w : Core) (l : LoadNumber) (hs : List HandleNumber) → named_fault w (owners.Load l) [] hs ≡ None → (place : ℕ) → place < length hs → IsNamed w.rows (named_at hs place)
+pub named-there : (w : Core) (l : LoadNumber) (hs : List HandleNumber) → named_fault w (Owner.Load l) [] hs ≡ None → (place : ℕ) → place < length hs → IsNamed w.rows (named_at hs place)
 named-there w l hs good place lt =
     let q = named_at hs place in
-    let m = handed-mine w (owners.Load l) [] hs good q (sym (seen-all hs q) ∙ in-there hs (length hs) place q lt refl) in
+    let m = handed-mine w (Owner.Load l) [] hs good q (sym (seen-all hs q) ∙ in-there hs (length hs) place q lt refl) in
     record { row = m.row; found = m.live; plain = ap is_valued m.own }
 
 -- the list has what it had
 pub still-listed : {w : Core} → pager.IsWhole w → (me : Owner) (l : LoadNumber) (hs : List HandleNumber) → MayHand w me l hs
-    → (q : ℕ) → times (λ (h : HandleNumber). h.0 == q) w.list ≡ times (λ h. is_handle q h && is_owned_by owners.List h) (moved (is_in (numbers_of hs)) me w.rows)
+    → (q : ℕ) → times (λ (h : HandleNumber). h.0 == q) w.list ≡ times (λ h. is_handle q h && is_owned_by Owner.List h) (moved (is_in (numbers_of hs)) me w.rows)
 still-listed {w} whole me l hs can =
     let holder = may-hold w me can.may in
     (moved-to-holder whole (is_in (numbers_of hs)) unlisted me (not-list w me holder) holder).owners_there.listed
   where
-    unlisted : (x : HandleRow) → Among w.rows x → is_in (numbers_of hs) x.number.0 ≡ true → is_owned_by owners.List x ≡ false
+    unlisted : (x : HandleRow) → Among w.rows x → is_in (numbers_of hs) x.number.0 ≡ true → is_owned_by Owner.List x ≡ false
     unlisted x among named =
-        let m = handed-mine w (owners.Load l) [] hs can.named x.number.0 named in
+        let m = handed-mine w (Owner.Load l) [] hs can.named x.number.0 named in
         let a = found-among x.number.0 w.rows m.row m.live in
-        ap (is_owned_by owners.List) (once w.rows whole.handles.ordered x m.row among a.0 (sym a.1)) ∙ ap (is_owner owners.List) m.own
+        ap (is_owned_by Owner.List) (once w.rows whole.handles.ordered x m.row among a.0 (sym a.1)) ∙ ap (is_owner Owner.List) m.own
 
 pub and-left : (a b : Bool) → (a && b) ≡ true → a ≡ true
 and-left true b e = refl

@@ -1,38 +1,24 @@
 -- A handle has gone and an entry may have come: entries stand for what must be listed, and the answer tells of it.
-use Rattle.std.proofs.Common.{◌≡◌, ℕ, ◌+◌, ◌<◌, ◌≤◌, ◌&&◌, Bool, true, false, if◌then◌else◌, ◌++◌, length, refl, ap, sym, ◌∙◌, subst, arith, inl, inr, Option, Some, None}
-use Rattle.std.specs.Prelude.{◌⊎◌, vec_capacity}
-use Rattle.std.proofs.lemmas.Bool.{cases_Bool, cases_eq, and_parts}
-use Rattle.std.proofs.lemmas.Bool.Decides.{nat_tests}
-use Rattle.pagable_model.specs.declared.error.Error.{Error}
-use Rattle.pagable_model.specs.declared.error.Error.TheVariants as errors
-use Rattle.pagable_model.specs.declared.numbers.NodeNumber.{NodeNumber}
-use Rattle.pagable_world.specs.declared.handles.HandleRow.{HandleRow}
-use Rattle.pagable_world.specs.Plain.{one, times}
-use Rattle.pagable_world.specs.Kinds.{is_at, is_pin, held, pins}
-use Rattle.pagable_world.specs.World.{Core}
-use Rattle.pagable_world.specs.Cascade.{MustList, TellsListing, IsListRefusal}
-use Rattle.pagable_tables.specs.declared.rows.Counts.{Counts}
-use Rattle.pagable_tables.specs.declared.holdings.Holdings.{Holdings}
-use Rattle.pagable_tables.specs.Live.{live}
-use Rattle.pagable_tables.specs.ByNumber.{counts_at}
-use Rattle.pagable_tables.specs.Falling.{pins_in, entry, entries_of, is_listing, IsUnlisted, first_cause}
-use Rattle.pagable_tables.specs.Onward.{with_tables, told_by, SoFar}
+use Rattle.pagable_tables.proofs.Words.{◌≡◌, ℕ, ◌+◌, ◌<◌, ◌≤◌, ◌&&◌, Bool, true, false, if◌then◌else◌, ◌++◌, length, refl, ap, sym, ◌∙◌, subst, arith, inl, inr, Option, Some, None, ◌⊎◌}
+use Rattle.pagable_tables.proofs.Words.{vec_capacity, cases_Bool, cases_eq, and_parts, nat_tests, Error, NodeNumber, HandleRow, one, times, is_at, is_pin, held, pins, Core, MustList}
+use Rattle.pagable_tables.proofs.Words.{TellsListing, IsListRefusal, Counts, Holdings, live, counts_at, pins_in, entry, entries_of, is_listing, IsUnlisted, first_cause, with_tables, told_by}
+use Rattle.pagable_tables.proofs.Words.{SoFar}
 use Rattle.pagable_tables.proofs.Leaving.{with-entry}
 use Rattle.pagable_tables.proofs.Wanted.{listing-is, must-now, must-before}
 
 -- a cause stays
 refusal-kept : (w : Core) (t new : Holdings) (e : Error) → IsListRefusal w (with_tables w t) e → t.last_handle ≤ new.last_handle → length t.list.items ≤ length new.list.items
     → IsListRefusal w (with_tables w new) e
-refusal-kept w t new errors.NumbersSpent r last list = omega arith
-refusal-kept w t new errors.OutOfMemory r last list = (elim r.0 [ inl rows ↦ inl rows | inr entries ↦ inr (omega arith) ], r.1)
+refusal-kept w t new Error.NumbersSpent r last list = omega arith
+refusal-kept w t new Error.OutOfMemory r last list = (elim r.0 [ inl rows ↦ inl rows | inr entries ↦ inr (omega arith) ], r.1)
 refusal-kept w t new _ r last list = absurd r
 
 -- why an entry couldn't come now
 pub refusal-now : (w : Core) (b new : Holdings) (e : Error) → IsUnlisted b e → new.last_handle ≡ b.last_handle → length b.list.items ≤ length new.list.items
     → w.last.handle ≤ b.last_handle → w.places.handles ≤ vec_capacity b.handles.places → w.places.entries ≤ vec_capacity b.list
     → length (live b.handles.places.items) ≤ length w.rows → IsListRefusal w (with_tables w new) e
-refusal-now w b new errors.NumbersSpent why last list since handles entries rows = omega arith
-refusal-now w b new errors.OutOfMemory why last list since handles entries rows = (elim why.1 [ inl full ↦ inl (omega arith) | inr full ↦ inr (omega arith) ], omega arith)
+refusal-now w b new Error.NumbersSpent why last list since handles entries rows = omega arith
+refusal-now w b new Error.OutOfMemory why last list since handles entries rows = (elim why.1 [ inl full ↦ inl (omega arith) | inr full ↦ inr (omega arith) ], omega arith)
 refusal-now w b new _ why last list since handles entries rows = absurd why
 
 came : (listed : Bool) (k n : ℕ) (node : NodeNumber) → 0 < (if listed then one (is_at n (entry k node)) else 0) → (listed ≡ true) × (n ≡ node.0)

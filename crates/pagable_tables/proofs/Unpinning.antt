@@ -1,27 +1,10 @@
 -- A handle has let its pin go and stays: what has gone and come so far.
-use Rattle.std.proofs.Common.{◌≡◌, ℕ, ◌+◌, ◌<◌, ◌≤◌, ◌&&◌, Bool, true, false, not, if◌then◌else◌, List, [], ◌∷◌, ◌++◌, length, filter, ap, sym, ◌∙◌, subst, arith, inl, inr, Option, Some, None, slice_get}
-use Rattle.std.specs.Prelude.{◌≢◌, Result, Ok, Err, vec_capacity}
-use Rattle.std.proofs.lemmas.Bool.{cases_Bool, and_parts}
-use Rattle.std.proofs.lemmas.Bool.Decides.{nat_tests}
-use Rattle.std.proofs.lemmas.List.{append-nil, length-append, length-map}
-use Rattle.pagable_model.specs.declared.error.Error.{Error}
-use Rattle.pagable_model.specs.declared.error.Error.TheVariants as errors
-use Rattle.pagable_model.specs.declared.numbers.HandleNumber.{HandleNumber}
-use Rattle.pagable_world.specs.declared.handles.HandleRow.{HandleRow}
-use Rattle.pagable_world.specs.declared.handles.Owner.TheVariants as owners
-use Rattle.pagable_world.specs.declared.rows.Mode.TheVariants as modes
-use Rattle.pagable_world.specs.Plain.{Blob, one, times}
-use Rattle.pagable_world.specs.Kinds.{is_pin, is_share, is_handle, is_owned_by, pins, sharing}
-use Rattle.pagable_world.specs.World.{Core, greatest}
-use Rattle.pagable_world.specs.Calls.{with_mode}
-use Rattle.pagable_world.specs.Cascade.{left_rows, MustList, TellsListing, IsListRefusal, nobody}
-use Rattle.pagable_tables.specs.declared.tables.Tables.{Tables}
-use Rattle.pagable_tables.specs.declared.holdings.Holdings.{Holdings}
-use Rattle.pagable_tables.specs.Live.{live, alive}
-use Rattle.pagable_tables.specs.Falling.{entries_of, is_listing, first_cause, IsUnlisted}
-use Rattle.pagable_tables.specs.Lowering.{unpinned, Lowers}
-use Rattle.pagable_tables.specs.Onward.{with_tables, told_by, is_plain_pin, Begins, SoFar}
-use Rattle.pagable_tables.specs.Core.{core_of, IsWhole}
+use Rattle.pagable_tables.proofs.Words.{◌≡◌, ℕ, ◌+◌, ◌<◌, ◌≤◌, ◌&&◌, Bool, true, false, not, if◌then◌else◌, List, [], ◌∷◌, ◌++◌, length, filter, ap, sym, ◌∙◌, subst, arith, inl, inr, Option}
+use Rattle.pagable_tables.proofs.Words.{Some, None, slice_get, ◌≢◌, Result, Ok, Err, vec_capacity, cases_Bool, and_parts, nat_tests, append-nil, length-append, length-map, Error, HandleNumber}
+use Rattle.pagable_tables.proofs.Words.{HandleRow, Owner, Mode, Blob, one, times, is_pin, is_share, is_handle, is_owned_by, pins, sharing, Core, greatest, with_mode, left_rows, MustList}
+use Rattle.pagable_tables.proofs.Words.{TellsListing, IsListRefusal, nobody, Tables, Holdings, live, alive, entries_of, is_listing, first_cause, IsUnlisted, unpinned, Lowers, with_tables}
+use Rattle.pagable_tables.proofs.Words.{told_by, is_plain_pin, Begins, SoFar, core_of}
+use Rattle.pagable_tables.specs.Core.{IsWhole}
 use Rattle.pagable_tables.proofs.Alive.{row-le-live}
 use Rattle.pagable_tables.proofs.Begun.{begun-whole, none-within}
 use Rattle.pagable_tables.proofs.Going.{entry-number, new-more, long-one, within-more, ones}
@@ -32,22 +15,22 @@ use Rattle.pagable_tables.proofs.Telling.{only-more, tells-more, refusal-now}
 
 -- what must be listed and what is told of it, where only a mode differs
 must-moded : (before w : Core) (h : HandleNumber) (new : Holdings) (n : ℕ) → MustList before w (with_tables w new) n
-    → MustList before (with_mode w h modes.LooseUnpinned) (with_tables (with_mode w h modes.LooseUnpinned) new) n
+    → MustList before (with_mode w h Mode.LooseUnpinned) (with_tables (with_mode w h Mode.LooseUnpinned) new) n
 must-moded before w h new n m = record { pinned = m.pinned; unpinned = m.unpinned; unkeyed = m.unkeyed; unshared = m.unshared; stands_open = m.stands_open }
 
-must-plain : (before w : Core) (h : HandleNumber) (new : Holdings) (n : ℕ) → MustList before (with_mode w h modes.LooseUnpinned)
-    (with_tables (with_mode w h modes.LooseUnpinned) new) n → MustList before w (with_tables w new) n
+must-plain : (before w : Core) (h : HandleNumber) (new : Holdings) (n : ℕ) → MustList before (with_mode w h Mode.LooseUnpinned)
+    (with_tables (with_mode w h Mode.LooseUnpinned) new) n → MustList before w (with_tables w new) n
 must-plain before w h new n m = record { pinned = m.pinned; unpinned = m.unpinned; unkeyed = m.unkeyed; unshared = m.unshared; stands_open = m.stands_open }
 
 refusal-moded : (w : Core) (h : HandleNumber) (new : Holdings) (e : Error) → IsListRefusal w (with_tables w new) e
-    → IsListRefusal (with_mode w h modes.LooseUnpinned) (with_tables (with_mode w h modes.LooseUnpinned) new) e
-refusal-moded w h new errors.NumbersSpent r = r
-refusal-moded w h new errors.OutOfMemory r =
-    (elim r.0 [ inl rows ↦ inl (let a = length-map w.rows (λ row. if is_handle h.0 row then record row { mode = modes.LooseUnpinned } else row) in omega arith) | inr entries ↦ inr entries ], r.1)
+    → IsListRefusal (with_mode w h Mode.LooseUnpinned) (with_tables (with_mode w h Mode.LooseUnpinned) new) e
+refusal-moded w h new Error.NumbersSpent r = r
+refusal-moded w h new Error.OutOfMemory r =
+    (elim r.0 [ inl rows ↦ inl (let a = length-map w.rows (λ row. if is_handle h.0 row then record row { mode = Mode.LooseUnpinned } else row) in omega arith) | inr entries ↦ inr entries ], r.1)
 refusal-moded w h new _ r = absurd r
 
 tells-moded : (before w : Core) (h : HandleNumber) (entries : List HandleRow) (new : Holdings) (r : Result (Unit {0}) Error) → TellsListing before w entries r (with_tables w new)
-    → TellsListing before (with_mode w h modes.LooseUnpinned) entries r (with_tables (with_mode w h modes.LooseUnpinned) new)
+    → TellsListing before (with_mode w h Mode.LooseUnpinned) entries r (with_tables (with_mode w h Mode.LooseUnpinned) new)
 tells-moded before w h entries new (Ok u) tells = record { all = λ n m. tells.all n (must-plain before w h new n m); not_all = tells.not_all }
 tells-moded before w h entries new (Err e) tells = record { all = tells.all; not_all = let a = tells.not_all in (a.0, must-moded before w h new a.0 a.1, a.2, refusal-moded w h new e a.3) }
 
@@ -57,7 +40,7 @@ module _ (T : Tables) (stored : ℕ → Option Blob) (closed lists : Bool) (fail
   old = core_of T stored closed failures
 
   abbrev now : Core
-  now = with_mode old x.number modes.LooseUnpinned
+  now = with_mode old x.number Mode.LooseUnpinned
 
   abbrev t : Holdings
   t = record T.holdings { unlisted = None }
@@ -76,8 +59,8 @@ module _ (T : Tables) (stored : ℕ → Option Blob) (closed lists : Bool) (fail
           | inr none ↦ inr (let a = l.sums (λ h. one (is_plain_pin n h)) in let b = ap (times (is_plain_pin n)) l.rows in
               let z : one (is_plain_pin n (unpinned x)) ≡ 0 = grind (arith, nat_tests) in omega arith)
         ];
-        listed = λ q. let a = l.sums (λ h. one (is_handle q h && is_owned_by owners.List h)) in
-            let b = ap (times (λ h. is_handle q h && is_owned_by owners.List h)) l.rows in let d = f.begins.listed q in omega arith;
+        listed = λ q. let a = l.sums (λ h. one (is_handle q h && is_owned_by Owner.List h)) in
+            let b = ap (times (λ h. is_handle q h && is_owned_by Owner.List h)) l.rows in let d = f.begins.listed q in omega arith;
       }
 
   after-rows : live new.handles.places.items ≡ live l.between.handles.places.items

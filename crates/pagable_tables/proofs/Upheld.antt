@@ -1,48 +1,27 @@
 -- Loads of cells that can end, and what is true once they do.
-use Rattle.std.proofs.Common.{◌≡◌, ℕ, ◌<◌, ◌==◌, Bool, true, false, List, [], ◌∷◌, refl, ap, sym, ◌∙◌, subst, arith, inl, inr, Option, Some, None}
-use Rattle.std.specs.Prelude.{◌⊎◌, ◌≤◌, ◌+◌, not, nat_le, vec_capacity}
-use Rattle.std.proofs.lemmas.Bool.Decides.{nat_tests}
-use Rattle.pagable_model.specs.declared.error.Error.{Error}
-use Rattle.pagable_model.specs.declared.error.Error.TheVariants as errors
-use Rattle.pagable_model.specs.declared.numbers.ArcRef.{ArcRef}
-use Rattle.pagable_model.specs.declared.numbers.HandleNumber.{HandleNumber}
-use Rattle.pagable_model.specs.declared.numbers.LoadNumber.{LoadNumber}
-use Rattle.pagable_model.specs.declared.numbers.NodeNumber.{NodeNumber}
-use Rattle.pagable_world.specs.declared.handles.HandleRow.{HandleRow}
-use Rattle.pagable_world.specs.declared.handles.Owner.{Owner}
-use Rattle.pagable_world.specs.declared.handles.Owner.TheVariants as owners
-use Rattle.pagable_world.specs.Plain.{if_there, or_else}
-use Rattle.pagable_world.specs.Kinds.{is_owner, is_owned_by}
-use Rattle.pagable_world.specs.World.{Core, OpenLoad, Places, of_cell, of_key, greatest, row_at}
-use Rattle.pagable_world.specs.Refusals.{OwnsLoad, AreHandlesFull, earlier, refused_if, where_so, spent, load_fault, reference_fault, references_fault}
-use Rattle.pagable_world.specs.Pager.{MayOwnLoad}
-use Rattle.pagable_world.specs.LoadCalls.{root_fault, end_fault, is_owned_in, MayEnd}
-use Rattle.pagable_tables.specs.declared.handles.Handles.{Handles}
-use Rattle.pagable_tables.specs.declared.tables.Tables.{Tables}
-use Rattle.pagable_tables.specs.Live.{live, room, AreSound, IsNext}
-use Rattle.pagable_tables.specs.ByNumber.{counts_at, refs_at}
-use Rattle.pagable_tables.specs.Core.{plain_of, IsWhole}
-use Rattle.pagable_tables.specs.declared.installing.Ending.{Ending}
-use Rattle.pagable_tables.specs.Ready.{IsReady}
+use Rattle.pagable_tables.proofs.Words.{◌≡◌, ℕ, ◌<◌, ◌==◌, Bool, true, false, List, [], ◌∷◌, refl, ap, sym, ◌∙◌, subst, arith, inl, inr, Option, Some, None, ◌⊎◌, ◌≤◌, ◌+◌, not, nat_le}
+use Rattle.pagable_tables.proofs.Words.{vec_capacity, nat_tests, Error, ArcRef, HandleNumber, LoadNumber, NodeNumber, HandleRow, Owner, if_there, or_else, is_owner, is_owned_by, Core, OpenLoad}
+use Rattle.pagable_tables.proofs.Words.{Places, of_cell, of_key, greatest, row_at, AreHandlesFull, earlier, refused_if, where_so, spent, load_fault, reference_fault, references_fault}
+use Rattle.pagable_tables.proofs.Words.{MayOwnLoad, root_fault, end_fault, is_owned_in, MayEnd, Handles, Tables, live, room, AreSound, IsNext, counts_at, refs_at, plain_of, Ending, IsReady}
+use Rattle.pagable_tables.specs.Core.{IsWhole}
 use Rattle.pagable_tables.proofs.Coming.{rows-told}
-use Rattle.pagable_tables.proofs.Pins.{owner-self}
 use Rattle.pagable_tables.proofs.Worlds.{alike, owner-same}
 use Rattle.pagable_tables.proofs.keeps.Told.{alike-whole}
 use Rattle.pagable_tables.proofs.keeps.Placed.{whole-so}
 use Rattle.pagable_tables.proofs.keeps.EndCalls.{both-none}
 
-typed-so : (a b : ℕ) → refused_if (not (a == b)) errors.WrongKind ≡ None → a ≡ b
+typed-so : (a b : ℕ) → refused_if (not (a == b)) Error.WrongKind ≡ None → a ≡ b
 typed-so a b e = at (a == b) refl e
   where
-    at : (c : Bool) → (a == b) ≡ c → refused_if (not c) errors.WrongKind ≡ None → a ≡ b
+    at : (c : Bool) → (a == b) ≡ c → refused_if (not c) Error.WrongKind ≡ None → a ≡ b
     at true same e = grind (arith, nat_tests)
     at false other e = absurd (cc)
 
 own-so : (w : Core) (me : Owner) (l : LoadNumber) (load : OpenLoad) → w.loads l.0 ≡ Some load → load_fault w me l ≡ None → load.owner ≡ me
 own-so w me l load is none =
-    at (is_owner me load.owner) refl (sym (ap (if_there (λ (load : OpenLoad). refused_if (not (is_owner me load.owner)) errors.NotYours) (Some errors.NoSuchHandle)) is) ∙ none)
+    at (is_owner me load.owner) refl (sym (ap (if_there (λ (load : OpenLoad). refused_if (not (is_owner me load.owner)) Error.NotYours) (Some Error.NoSuchHandle)) is) ∙ none)
   where
-    at : (b : Bool) → is_owner me load.owner ≡ b → refused_if (not b) errors.NotYours ≡ None → load.owner ≡ me
+    at : (b : Bool) → is_owner me load.owner ≡ b → refused_if (not b) Error.NotYours ≡ None → load.owner ≡ me
     at true e f = owner-same me load.owner e
     at false e f = absurd (cc)
 
@@ -50,16 +29,16 @@ module _ (w : Core) (me : Owner) (l : LoadNumber) (node_type : ℕ) (refs : List
   abbrev root : Option Error
   root = if_there (λ (load : OpenLoad). root_fault w me node_type load.root) None (w.loads l.0)
 
-  parts : (load_fault w me l ≡ None) × (root ≡ None) × (references_fault w (owners.Load l) [] refs ≡ None)
+  parts : (load_fault w me l ≡ None) × (root ≡ None) × (references_fault w (Owner.Load l) [] refs ≡ None)
   parts =
-      let first = both-none (load_fault w me l) (earlier root (references_fault w (owners.Load l) [] refs)) none in
-      let second = both-none root (references_fault w (owners.Load l) [] refs) first.1 in
+      let first = both-none (load_fault w me l) (earlier root (references_fault w (Owner.Load l) [] refs)) none in
+      let second = both-none root (references_fault w (Owner.Load l) [] refs) first.1 in
       (first.0, second.0, second.1)
 
   -- it is open
   pub opens : w.loads l.0 ≡ None → ⊥
   opens gone =
-      let a = sym (ap (if_there (λ (load : OpenLoad). refused_if (not (is_owner me load.owner)) errors.NotYours) (Some errors.NoSuchHandle)) gone) ∙ parts.0 in
+      let a = sym (ap (if_there (λ (load : OpenLoad). refused_if (not (is_owner me load.owner)) Error.NotYours) (Some Error.NoSuchHandle)) gone) ∙ parts.0 in
       cc
 
   module _ (load : OpenLoad) (is : w.loads l.0 ≡ Some load) where
@@ -68,11 +47,11 @@ module _ (w : Core) (me : Owner) (l : LoadNumber) (node_type : ℕ) (refs : List
 
     -- it is of a cell
     pub celled : load.root ≡ of_key → ⊥
-    celled key = let a : Some errors.WrongMode ≡ None = sym (ap (root_fault w me node_type) key) ∙ rooted in cc
+    celled key = let a : Some Error.WrongMode ≡ None = sym (ap (root_fault w me node_type) key) ∙ rooted in cc
 
     module _ (node : NodeNumber) (t : ℕ) (h : HandleNumber) (cell : load.root ≡ of_cell node t h) where
-      fits : (refused_if (not (node_type == t)) errors.WrongKind ≡ None) × (where_so (is_owned_in w me h.0) (spent w.last.handle) ≡ None)
-      fits = both-none (refused_if (not (node_type == t)) errors.WrongKind) (where_so (is_owned_in w me h.0) (spent w.last.handle)) (sym (ap (root_fault w me node_type) cell) ∙ rooted)
+      fits : (refused_if (not (node_type == t)) Error.WrongKind ≡ None) × (where_so (is_owned_in w me h.0) (spent w.last.handle) ≡ None)
+      fits = both-none (refused_if (not (node_type == t)) Error.WrongKind) (where_so (is_owned_in w me h.0) (spent w.last.handle)) (sym (ap (root_fault w me node_type) cell) ∙ rooted)
 
       pub may-end : MayEnd w me l node h node_type refs
       may-end =
@@ -89,7 +68,7 @@ module _ (w : Core) (me : Owner) (l : LoadNumber) (node_type : ℕ) (refs : List
           let so : is_owned_in w me h.0 ≡ true = ap (if_there (is_owned_by me) false) found ∙ own in
           at (nat_le greatest w.last.handle) refl (sym (ap (λ b. where_so b (spent w.last.handle)) so) ∙ fits.1)
         where
-          at : (b : Bool) → nat_le greatest w.last.handle ≡ b → refused_if b errors.NumbersSpent ≡ None → w.last.handle < greatest
+          at : (b : Bool) → nat_le greatest w.last.handle ≡ b → refused_if b Error.NumbersSpent ≡ None → w.last.handle < greatest
           at true e f = absurd (cc)
           at false e f = grind (arith, nat_tests)
 
@@ -98,11 +77,6 @@ pub references-placed : (w : Core) (places : Places) (owner : Owner) (seen : Lis
 unfolding references_fault
 references-placed w places owner seen [] = refl
 references-placed w places owner seen (r ∷ rs) = ap (or_else (reference_fault w owner seen r)) (references-placed w places owner (r.handle.0 ∷ seen) rs)
-
-pub owned-open : (w : Core) (me : Owner) (l : LoadNumber) (load : OpenLoad) → OwnsLoad w me l load → load_fault w me l ≡ None
-owned-open w me l load o =
-    ap (if_there (λ (load : OpenLoad). refused_if (not (is_owner me load.owner)) errors.NotYours) (Some errors.NoSuchHandle)) o.stands_open
-    ∙ ap (λ b. refused_if (not b) errors.NotYours) (ap (is_owner me) o.own ∙ owner-self me)
 
 -- more places, and all as it was
 pub placed-whole : (t : Tables) (h : Handles) → IsWhole t → AreSound h → ((q : ℕ) → IsNext q t.holdings.handles.places.items → IsNext q h.places.items)
@@ -115,10 +89,10 @@ placed-whole t h w sound next rows more =
 
 -- neither number nor place is wanting
 pub no-wanting : (t : Tables) (e : Error) → AreSound t.holdings.handles → t.holdings.last_handle < greatest → 1 ≤ room t.holdings.handles
-    → (spent t.holdings.last_handle ≡ Some e) ⊎ ((e ≡ errors.OutOfMemory) × (spent t.holdings.last_handle ≡ None) × AreHandlesFull (plain_of t)) → ⊥
+    → (spent t.holdings.last_handle ≡ Some e) ⊎ ((e ≡ Error.OutOfMemory) × (spent t.holdings.last_handle ≡ None) × AreHandlesFull (plain_of t)) → ⊥
 no-wanting t e sound left place (inl is) =
     let b : nat_le greatest t.holdings.last_handle ≡ false = grind (arith, nat_tests) in
-    let a : refused_if false errors.NumbersSpent ≡ Some e = sym (ap (λ b. refused_if b errors.NumbersSpent) b) ∙ is in
+    let a : refused_if false Error.NumbersSpent ≡ Some e = sym (ap (λ b. refused_if b Error.NumbersSpent) b) ∙ is in
     cc
 no-wanting t e sound left place (inr (is, none, full)) = let a = sound.counted in absurd (omega arith)
 
@@ -132,7 +106,7 @@ ready-placed w places rows me l node_type refs e same r =
         load = r.may.load;
         owned = record { stands_open = r.may.owned.stands_open; own = r.may.owned.own };
         of_node = r.may.of_node;
-        good = references-placed w places (owners.Load l) [] refs ∙ r.may.good;
+        good = references-placed w places (Owner.Load l) [] refs ∙ r.may.good;
       };
       owned = record { live = r.owned.live; own = r.owned.own; as_asked = r.owned.as_asked };
       away = r.away;

@@ -1,50 +1,33 @@
 -- A handle has gone and an entry may have come: which cells must be listed then, and what is told of it.
-use Rattle.std.proofs.Common.{◌≡◌, ℕ, ◌+◌, ◌≤◌, ◌&&◌, Bool, true, false, not, if◌then◌else◌, refl, ap, sym, ◌∙◌, arith, inl, inr, Option, Some}
-use Rattle.std.specs.Prelude.{◌⊎◌, is_some, nat_lt}
-use Rattle.std.proofs.lemmas.Bool.{cases_Bool, and_parts}
-use Rattle.std.proofs.lemmas.Bool.Decides.{nat_tests}
-use Rattle.std.proofs.lemmas.List.Sums.{sum_by-append}
-use Rattle.pagable_model.specs.declared.data_key.OptionalDataKey.TheVariants as optional
-use Rattle.pagable_model.specs.declared.numbers.NodeNumber.{NodeNumber}
-use Rattle.pagable_world.specs.declared.handles.HandleRow.{HandleRow}
-use Rattle.pagable_world.specs.declared.handles.Owner.TheVariants as owners
-use Rattle.pagable_world.specs.declared.rows.Mode.{Mode}
-use Rattle.pagable_world.specs.declared.rows.Mode.TheVariants as modes
-use Rattle.pagable_world.specs.Plain.{one, times, if_there}
-use Rattle.pagable_world.specs.Kinds.{is_pin, is_share, is_shared, is_pinning, pins, has_key}
-use Rattle.pagable_world.specs.World.{Core, Cell}
-use Rattle.pagable_world.specs.Cascade.{left_rows, is_keyed, MustList}
-use Rattle.pagable_tables.specs.declared.rows.Counts.{Counts}
-use Rattle.pagable_tables.specs.declared.holdings.Holdings.{Holdings}
-use Rattle.pagable_tables.specs.Live.{live}
-use Rattle.pagable_tables.specs.ByNumber.{counts_at}
-use Rattle.pagable_tables.specs.Falling.{pins_in, cell_in, entry, is_listing}
-use Rattle.pagable_tables.specs.Onward.{with_tables, is_plain_pin, SoFar}
+use Rattle.pagable_tables.proofs.Words.{◌≡◌, ℕ, ◌+◌, ◌≤◌, ◌&&◌, Bool, true, false, not, if◌then◌else◌, refl, ap, sym, ◌∙◌, arith, inl, inr, Option, Some, ◌⊎◌, is_some, nat_lt, cases_Bool}
+use Rattle.pagable_tables.proofs.Words.{and_parts, nat_tests, sum_by-append, OptionalDataKey, NodeNumber, HandleRow, Owner, Mode, one, times, if_there, is_pin, is_share, is_shared, is_pinning}
+use Rattle.pagable_tables.proofs.Words.{pins, has_key, Core, Cell, left_rows, is_keyed, MustList, Counts, Holdings, live, counts_at, pins_in, cell_in, entry, is_listing, with_tables}
+use Rattle.pagable_tables.proofs.Words.{is_plain_pin, SoFar}
 use Rattle.pagable_tables.proofs.Left.{left-le, entries-none}
 use Rattle.pagable_tables.proofs.Forced.{keyed-cell}
 
 -- what a listing handle is: the last pin of a cell without a key
 pub listing-is : (c : Counts) (m : Mode) → is_listing c m ≡ true → (is_pinning m ≡ true) × (is_shared m ≡ false) × (c.pins ≡ 1) × (nat_lt 0 c.key ≡ false)
-listing-is c modes.LoosePinned e = (refl, refl, grind (arith, nat_tests), grind (arith, nat_tests))
-listing-is c modes.LooseUnpinned e = absurd (cc)
-listing-is c modes.Pinned e = (refl, refl, grind (arith, nat_tests), grind (arith, nat_tests))
-listing-is c modes.Shared e = absurd (cc)
+listing-is c Mode.LoosePinned e = (refl, refl, grind (arith, nat_tests), grind (arith, nat_tests))
+listing-is c Mode.LooseUnpinned e = absurd (cc)
+listing-is c Mode.Pinned e = (refl, refl, grind (arith, nat_tests), grind (arith, nat_tests))
+listing-is c Mode.Shared e = absurd (cc)
 
 pub is-listing : (c : Counts) (m : Mode) → is_pinning m ≡ true → is_shared m ≡ false → c.pins ≡ 1 → nat_lt 0 c.key ≡ false → is_listing c m ≡ true
-is-listing c modes.LoosePinned p s one k = grind (arith, nat_tests)
-is-listing c modes.LooseUnpinned p s one k = absurd (cc)
-is-listing c modes.Pinned p s one k = grind (arith, nat_tests)
-is-listing c modes.Shared p s one k = absurd (cc)
+is-listing c Mode.LoosePinned p s one k = grind (arith, nat_tests)
+is-listing c Mode.LooseUnpinned p s one k = absurd (cc)
+is-listing c Mode.Pinned p s one k = grind (arith, nat_tests)
+is-listing c Mode.Shared p s one k = absurd (cc)
 
 -- a new entry pins nothing
 pub entry-pins : (listed : Bool) (k n : ℕ) (node : NodeNumber) → (if listed then one (is_pin n (entry k node)) else 0) ≡ 0
 entry-pins true k n node = grind (arith, nat_tests)
 entry-pins false k n node = refl
 
-cell-keyed : (o : Option Counts) (c : Counts) (cell : Option Cell) → o ≡ Some c → (is_some o ≡ true → cell_in o ≡ cell) → has_key (if_there (λ (c : Cell). c.key) optional.None cell) ≡ nat_lt 0 c.key
+cell-keyed : (o : Option Counts) (c : Counts) (cell : Option Cell) → o ≡ Some c → (is_some o ≡ true → cell_in o ≡ cell) → has_key (if_there (λ (c : Cell). c.key) OptionalDataKey.None cell) ≡ nat_lt 0 c.key
 cell-keyed o c cell is same =
     let there : cell_in o ≡ cell = same (ap is_some is) in
-    ap (λ (o : Option Cell). has_key (if_there (λ (c : Cell). c.key) optional.None o)) (sym there ∙ ap cell_in is) ∙ keyed-cell c.key
+    ap (λ (o : Option Cell). has_key (if_there (λ (c : Cell). c.key) OptionalDataKey.None o)) (sym there ∙ ap cell_in is) ∙ keyed-cell c.key
 
 not-closed : (lists closed : Bool) → lists ≡ not closed → lists ≡ true → closed ≡ false
 not-closed lists true e l = absurd (cc)
@@ -60,7 +43,7 @@ both false b e h = absurd (cc)
 
 module _ (before w : Core) (given : ℕ → Bool) (lists : Bool) (t : Holdings) (f : SoFar before w given lists t) where
   -- what no new entry is, is in the tables no more often than at first
-  pub no-more : (p : HandleRow → Bool) → ((h : HandleRow) → h.mode ≡ modes.LooseUnpinned → h.owner ≡ owners.List → p h ≡ false) → times p (live t.handles.places.items) ≤ times p w.rows
+  pub no-more : (p : HandleRow → Bool) → ((h : HandleRow) → h.mode ≡ Mode.LooseUnpinned → h.owner ≡ Owner.List → p h ≡ false) → times p (live t.handles.places.items) ≤ times p w.rows
   no-more p none =
       let a = ap (times p) f.rows in
       let b = sum_by-append (λ h. one (p h)) (left_rows f.gone w.rows) f.entries in

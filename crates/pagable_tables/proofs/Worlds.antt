@@ -1,18 +1,7 @@
 -- Two worlds that are told alike.
-use Rattle.std.proofs.Common.{true, Ok, Err, ◌≡◌, ℕ, ◌&&◌, List, refl, ap, sym, ◌∙◌, subst, arith, Option, Some, None, if◌then◌else◌}
-use Rattle.std.specs.Prelude.{not, Result}
-use Rattle.pagable_model.specs.declared.error.Error.{Error}
-use Rattle.pagable_model.specs.declared.numbers.HandleNumber.{HandleNumber}
-use Rattle.pagable_world.specs.declared.handles.Owner.{Owner}
-use Rattle.pagable_world.specs.declared.handles.Owner.TheVariants as owners
-use Rattle.std.proofs.lemmas.Bool.Decides.{nat_tests}
-use Rattle.pagable_world.specs.Calls.{CloneCall}
-use Rattle.pagable_world.specs.Refusals.{earlier, live_fault, spent, Refused, AreHandlesFull}
-use Rattle.pagable_tables.specs.Core.{Makes}
-use Rattle.pagable_world.specs.Plain.{is_pinned_kind, if_there, SameAt}
-use Rattle.pagable_world.specs.Kinds.{pins, is_in_memory, is_owner}
-use Rattle.pagable_world.specs.World.{Core, Cell, SameCache, Alike, HasRoom, row_at}
-use Rattle.pagable_world.specs.declared.handles.HandleRow.{HandleRow}
+use Rattle.pagable_tables.proofs.Words.{true, Ok, Err, ◌≡◌, ℕ, ◌&&◌, List, refl, ap, sym, ◌∙◌, subst, arith, Option, Some, None, if◌then◌else◌, not, Result, Error, HandleNumber, Owner, nat_tests}
+use Rattle.pagable_tables.proofs.Words.{CloneCall, earlier, live_fault, spent, Refused, AreHandlesFull, Makes, is_pinned_kind, if_there, SameAt, pins, is_in_memory, is_owner, Core, Cell}
+use Rattle.pagable_tables.proofs.Words.{SameCache, Alike, HasRoom, row_at, HandleRow}
 
 -- what an entry of the cache gives where its node is this cell
 abbrev pub use-of : List HandleRow → ℕ → ℕ → Option Cell → Option ℕ
@@ -77,28 +66,9 @@ clones w me h row (Err e) w' is m =
 
 -- who passes the test is the same owner
 pub owner-same : (a b : Owner) → is_owner a b ≡ true → b ≡ a
-owner-same owners.Caller owners.Caller h = refl
-owner-same owners.Caller (owners.Value m) h = absurd (cc)
-owner-same owners.Caller owners.List h = absurd (cc)
-owner-same owners.Caller (owners.Load m) h = absurd (cc)
-owner-same owners.Caller (owners.Worker m) h = absurd (cc)
-owner-same (owners.Value n) owners.Caller h = absurd (cc)
-owner-same (owners.Value n) (owners.Value m) h = let same : m.0 ≡ n.0 = grind (arith, nat_tests) in ap (λ q. owners.Value (record { 0 = q })) same
-owner-same (owners.Value n) owners.List h = absurd (cc)
-owner-same (owners.Value n) (owners.Load m) h = absurd (cc)
-owner-same (owners.Value n) (owners.Worker m) h = absurd (cc)
-owner-same owners.List owners.Caller h = absurd (cc)
-owner-same owners.List (owners.Value m) h = absurd (cc)
-owner-same owners.List owners.List h = refl
-owner-same owners.List (owners.Load m) h = absurd (cc)
-owner-same owners.List (owners.Worker m) h = absurd (cc)
-owner-same (owners.Load n) owners.Caller h = absurd (cc)
-owner-same (owners.Load n) (owners.Value m) h = absurd (cc)
-owner-same (owners.Load n) owners.List h = absurd (cc)
-owner-same (owners.Load n) (owners.Load m) h = let same : m.0 ≡ n.0 = grind (arith, nat_tests) in ap (λ q. owners.Load (record { 0 = q })) same
-owner-same (owners.Load n) (owners.Worker m) h = absurd (cc)
-owner-same (owners.Worker n) owners.Caller h = absurd (cc)
-owner-same (owners.Worker n) (owners.Value m) h = absurd (cc)
-owner-same (owners.Worker n) owners.List h = absurd (cc)
-owner-same (owners.Worker n) (owners.Load m) h = absurd (cc)
-owner-same (owners.Worker n) (owners.Worker m) h = let same : m.0 ≡ n.0 = grind (arith, nat_tests) in ap (λ q. owners.Worker (record { 0 = q })) same
+owner-same Owner.Caller Owner.Caller h = refl
+owner-same (Owner.Value n) (Owner.Value m) h = let same : m.0 ≡ n.0 = grind (arith, nat_tests) in ap (λ q. Owner.Value (record { 0 = q })) same
+owner-same Owner.List Owner.List h = refl
+owner-same (Owner.Load n) (Owner.Load m) h = let same : m.0 ≡ n.0 = grind (arith, nat_tests) in ap (λ q. Owner.Load (record { 0 = q })) same
+owner-same (Owner.Worker n) (Owner.Worker m) h = let same : m.0 ≡ n.0 = grind (arith, nat_tests) in ap (λ q. Owner.Worker (record { 0 = q })) same
+owner-same _ _ h = absurd (cc)

@@ -17,3 +17,4 @@ pub mod CacheCalls
 pub mod LoadCalls
 pub mod AdoptCalls
 pub mod EndCalls
+pub mod WorkerCalls

@@ -13,3 +13,4 @@ pub mod Offering
 pub mod Bearing
 pub mod Closing
 pub mod Ready
+pub mod Giving

@@ -1,10 +1,12 @@
 //! What follows when handles are given up, to its end.
 
-ghost use Rattle.std.specs.Prelude.{◌≡◌, ◌≢◌, ℕ, ◌+◌, ◌*◌, ◌≤◌, [], List, length, Bool, false, if◌then◌else◌, nat_eq, None, Option};
-ghost use Rattle.pagable_tables.specs.Live.{live, AreSound};
+ghost use Rattle.std.specs.Prelude.{◌≡◌, ◌≢◌, ℕ, ◌+◌, ◌*◌, ◌≤◌, ◌==◌, ◌||◌, [], List, length, Bool, false, if◌then◌else◌, nat_eq, None, Option, slice_get, Some};
+ghost use Rattle.pagable_world.specs.declared.handles.Owner.TheVariants as owners;
+ghost use Rattle.pagable_world.specs.Kinds.{is_owner};
+ghost use Rattle.pagable_tables.specs.Live.{live, alive, AreSound};
 ghost use Rattle.indexmap.specs.IndexMap.{get};
 ghost use Rattle.pagable_tables.specs.ByNumber.{counts_at};
-ghost use Rattle.pagable_tables.specs.Falling.{IsFalling, owns_nothing, Sheds, is_node};
+ghost use Rattle.pagable_tables.specs.Falling.{IsFalling, is_valued, owns_nothing, Sheds, is_node};
 ghost use Rattle.pagable_tables.specs.Onward.{with_tables, told_by, SoFar};
 ghost use Rattle.pagable_world.specs.World.{Core};
 ghost use Rattle.pagable_world.specs.Cascade.{Falls};
@@ -12,6 +14,7 @@ ghost use Rattle.pagable_world.specs.Cascade.{Falls};
 use crate::handles::Handles;
 use crate::holdings;
 use crate::holdings::Holdings;
+use crate::rows::HandleAt;
 use indexmap::IndexMap;
 use pagable_model::{Error, NodeNumber};
 use std::sync::Arc;
@@ -49,6 +52,26 @@ pub fn cascade<N: Drop>(t: &mut Holdings, values: &mut IndexMap<u64, Arc<N>>, li
         let done = holdings::step(t, lists);
         let_go(values, done);
     }
+}
+
+/// The handle at this place is given up, with all that goes with it.
+pub fn shed<N: Drop>(
+    t: &mut Holdings,
+    values: &mut IndexMap<u64, Arc<N>>,
+    at: HandleAt,
+    lists: bool,
+)
+    requires steady { IsFalling t.old [] owns_nothing }
+    requires place { slice_get t.old.handles.places.items at.place ≡ Some (alive at.row) }
+    requires plain { is_valued at.row.owner ≡ false }
+    ensures steady { IsFalling t.new [] owns_nothing }
+    ensures fewer { length (live t.new.handles.places.items) ≤ length (live t.old.handles.places.items) }
+    ensures so_far { (before w : Core) (given : ℕ → Bool) → SoFar before w given lists t.old → length (live t.old.handles.places.items) ≤ length w.rows → is_owner owners.List at.row.owner ≡ false
+        → SoFar before w (λ q. given q || q == at.row.number.0) lists t.new }
+    ensures sheds { Sheds (counts_at t.old.nodes) (get nat_eq values.old) (counts_at t.new.nodes) (get nat_eq values.new) }
+{
+    holdings::give_up(t, at, lists);
+    cascade(t, values, lists);
 }
 
 /// What came of the listing since handles began to be given up.

@@ -14,14 +14,16 @@ ghost use Rattle.pagable_tables.specs.Onward.{with_tables, SoFar};
 ghost use Rattle.pagable_tables.specs.Core.{core_of, IsWhole};
 ghost use Rattle.pagable_tables.specs.Later.{AreLater};
 
-use crate::cascade::{cascade, fall};
+use crate::cascade::shed;
 use crate::causes::{cell_fault, earlier, load_fault};
+use crate::giving::{Giving, give_all};
 use crate::handing::{hand_each, named_fault};
 use crate::holdings::Holdings;
 use crate::loading::load_row;
+use crate::rows::LoadRow;
 use crate::tables::Tables;
 use crate::turning::is_owner;
-use crate::{handles, holdings, loads};
+use crate::{handles, loads};
 use indexmap::IndexMap;
 use pagable_model::{Error, HandleNumber, LoadNumber};
 use pagable_world::handles::Owner;
@@ -47,32 +49,14 @@ pub fn give_next<N: Drop>(
     if !is_owner(Owner::Load(load), at.row.owner) {
         return;
     }
-    holdings::give_up(t, at, lists);
-    cascade(t, values, lists);
-}
-
-/// All handles that the load owns are given up in their order, with all that goes with them. Their numbers are above this one.
-fn give_each<N: Drop>(
-    t: &mut Holdings,
-    values: &mut IndexMap<u64, Arc<N>>,
-    load: LoadNumber,
-    since: u64,
-    lists: bool,
-)
-    requires { IsFalling t.old [] owns_nothing }
-    ensures steady { IsFalling t.new [] owns_nothing }
-    ensures so_far { (before w : Core) → SoFar before w nobody lists t.old → length (live t.old.handles.places.items) ≤ length w.rows → ((q : ℕ) → is_owned_in w (owners.Load load) q ≡ true → (since < q) × (q ≤ t.old.last_handle)) → SoFar before w (is_owned_in w (owners.Load load)) lists t.new }
-    ensures sheds { Sheds (counts_at t.old.nodes) (get nat_eq values.old) (counts_at t.new.nodes) (get nat_eq values.new) }
-{
-    for past in since..t.last_handle {
-        give_next(t, values, load, HandleNumber(past + 1), lists);
-    }
+    shed(t, values, at, lists);
 }
 
 /// All that the load owns is given up, with all that goes with it. NumbersSpent or OutOfMemory where a cell that had to be listed isn't.
 pub fn give_up_load<N: Drop>(
     t: &mut Holdings,
     values: &mut IndexMap<u64, Arc<N>>,
+    loads: &IndexMap<u64, LoadRow>,
     load: LoadNumber,
     since: u64,
     lists: bool,
@@ -82,9 +66,7 @@ pub fn give_up_load<N: Drop>(
     ensures falls { (before w : Core) → SoFar before w nobody lists (record t.old { unlisted = None }) → length (live t.old.handles.places.items) ≤ length w.rows → ((q : ℕ) → is_owned_in w (owners.Load load) q ≡ true → (since < q) × (q ≤ t.old.last_handle)) → Falls before w (is_owned_in w (owners.Load load)) result (with_tables w t.new) }
     ensures sheds { Sheds (counts_at t.old.nodes) (get nat_eq values.old) (counts_at t.new.nodes) (get nat_eq values.new) }
 {
-    t.unlisted = None;
-    give_each(t, values, load, since, lists);
-    fall(t, values, lists)
+    give_all(t, values, loads, Giving::Load(load), since, lists)
 }
 
 /// An open load is given up, with all that it owns. NoSuchHandle where none is open, NotYours where another began it. NumbersSpent or OutOfMemory where a cell that
@@ -108,7 +90,8 @@ pub fn load_drop<N: Drop>(
         Err(e) => return Err(e),
     };
     loads::close(&mut t.loads, load.0);
-    give_up_load(&mut t.holdings, values, load, row.since, lists)
+    let loads = &t.loads;
+    give_up_load(&mut t.holdings, values, loads, load, row.since, lists)
 }
 
 /// Why a load of a key can't hand over the handles that are named, if it can't.
@@ -147,6 +130,7 @@ pub fn load_take<N: Drop>(
     };
     loads::close(&mut t.loads, load.0);
     hand_each(&mut t.holdings, named, me);
-    let _ = give_up_load(&mut t.holdings, values, load, row.since, lists);
+    let loads = &t.loads;
+    let _ = give_up_load(&mut t.holdings, values, loads, load, row.since, lists);
     Ok(())
 }

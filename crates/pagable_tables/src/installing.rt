@@ -218,7 +218,8 @@ pub fn install<N: Drop>(
     nodes::set_references(&mut t.holdings.nodes, node.0, references);
     loads::close(&mut t.loads, load.0);
     let since = ending.load.since;
-    let _ = give_up_load(&mut t.holdings, values, load, since, lists);
+    let loads = &t.loads;
+    let _ = give_up_load(&mut t.holdings, values, loads, load, since, lists);
     handle
 }
 
@@ -247,6 +248,7 @@ pub fn end_beside<N: Drop>(
     let handle = pin_ready(t, me, ending.row);
     loads::close(&mut t.loads, load.0);
     let since = ending.load.since;
-    let _ = give_up_load(&mut t.holdings, values, load, since, lists);
+    let loads = &t.loads;
+    let _ = give_up_load(&mut t.holdings, values, loads, load, since, lists);
     handle
 }

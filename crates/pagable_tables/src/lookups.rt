@@ -1,12 +1,13 @@
 //! What is asked of handles and nodes. Nothing changes by that.
 
-ghost use Rattle.std.specs.Prelude.{◌≡◌, ℕ, Bool, Option, Some, None, IfNone, IfSome, if◌then◌else◌};
+ghost use Rattle.std.specs.Prelude.{◌≡◌, ℕ, ◌≤◌, length, Bool, Option, Some, None, IfNone, IfSome, if◌then◌else◌};
 ghost use Rattle.std.specs.Option.{option_map};
 ghost use Rattle.pagable_model.specs.declared.data_key.OptionalDataKey.{OptionalDataKey};
 ghost use Rattle.pagable_model.specs.declared.data_key.OptionalDataKey.TheVariants as optional;
 ghost use Rattle.pagable_world.specs.Plain.{Blob, if_there};
-ghost use Rattle.pagable_world.specs.Kinds.{is_in_memory, is_pinning};
-ghost use Rattle.pagable_world.specs.World.{Cell};
+ghost use Rattle.pagable_world.specs.Kinds.{is_in_memory, is_loose, is_pinning};
+ghost use Rattle.pagable_world.specs.World.{Cell, key_at};
+ghost use Rattle.pagable_world.specs.Events.{IsEntry};
 ghost use Rattle.pagable_world.specs.Calls.{Looks, CountCall, KeyCall, AwayCall, NodeCall, TypeCall};
 ghost use Rattle.pagable_tables.specs.ByNumber.{counts_at};
 ghost use Rattle.pagable_tables.specs.Falling.{pins_in, cell_in, key_in};
@@ -15,8 +16,9 @@ ghost use Rattle.pagable_tables.specs.Core.{core_of, IsWhole};
 use crate::holdings::pins;
 use crate::rows::Counts;
 use crate::tables::Tables;
-use crate::{handles, nodes};
+use crate::{handles, kinds, nodes};
 use pagable_model::{DataKey, Error, HandleNumber, NodeNumber, OptionalDataKey};
+use pagable_world::handles::HandleRow;
 
 /// The key of this number, if it is one.
 fn key_of_number(number: u128) -> OptionalDataKey
@@ -116,6 +118,17 @@ pub fn is_paged_out(t: &Tables, handle: HandleNumber) -> Result<bool, Error>
     }
 }
 
+/// Whether a handle is loose.
+pub fn is_loose(t: &Tables, handle: HandleNumber) -> Result<bool, Error>
+    requires { IsWhole t.now }
+    ensures { (stored : ℕ → Option Blob) (closed : Bool) (failures : ℕ) → Looks (core_of t.now stored closed failures) handle (λ loose row. loose ≡ is_loose row.mode) result }
+{
+    match handles::look(&t.holdings.handles, handle) {
+        Some(at) => Ok(kinds::is_loose(at.row.mode)),
+        None => Err(Error::NoSuchHandle),
+    }
+}
+
 /// The type of a node, or None where the node is gone.
 pub fn node_live(t: &Tables, node: NodeNumber) -> Option<u32>
     ensures { (stored : ℕ → Option Blob) (closed : Bool) (failures : ℕ) → TypeCall (core_of t.now stored closed failures) node result }
@@ -124,6 +137,26 @@ pub fn node_live(t: &Tables, node: NodeNumber) -> Option<u32>
         Some(counts) => Some(counts.node_type),
         None => None,
     }
+}
+
+/// The handle at this place of the list, with type and key of its cell. None past the end.
+pub fn entry(t: &Tables, place: usize) -> Option<(HandleRow, u32, OptionalDataKey)>
+    requires { IsWhole t.now }
+    ensures found { IfSome result (λ e. (stored : ℕ → Option Blob) (closed : Bool) (failures : ℕ) → IsEntry (core_of t.now stored closed failures) place e.0.number e.0 e.1) }
+    ensures keyed { IfSome result (λ e. (stored : ℕ → Option Blob) (closed : Bool) (failures : ℕ) → key_at (core_of t.now stored closed failures) e.0.node.0 ≡ e.2) }
+    ensures past { IfNone result (length t.now.holdings.list.items ≤ place) }
+{
+    if place >= t.holdings.list.len() {
+        return None;
+    }
+    let handle = t.holdings.list[place];
+    let Some(at) = handles::look(&t.holdings.handles, handle) else {
+        unreachable!();
+    };
+    let Some(counts) = nodes::counts_of(&t.holdings.nodes, at.row.node.0) else {
+        unreachable!();
+    };
+    Some((at.row, counts.node_type, key_of_number(counts.key)))
 }
 
 /// The cells that wait for page-out, by the handles that the list owns.

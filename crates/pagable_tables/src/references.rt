@@ -1,8 +1,11 @@
 //! Why the references of a value that is handed in are refused.
 
-ghost use Rattle.std.specs.Prelude.{◌≡◌, ℕ, Bool, List, Option, Some, None, OnOk, IfErr, [], ◌<◌, false};
+ghost use Rattle.std.specs.Prelude.{◌≡◌, ◌||◌, not, ℕ, Bool, List, Option, Some, None, OnOk, IfErr, [], ◌<◌, false};
 ghost use Rattle.pagable_world.specs.Plain.{Blob, is_in};
-ghost use Rattle.pagable_world.specs.Refusals.{reference_fault, references_fault};
+ghost use Rattle.pagable_world.specs.Kinds.{is_owner};
+ghost use Rattle.pagable_world.specs.Refusals.{refused_if, row_fault, reference_fault, references_fault};
+ghost use Rattle.pagable_world.specs.Workers.{claim_fault};
+ghost use Rattle.pagable_model.specs.declared.error.Error.TheVariants as errors;
 ghost use Rattle.pagable_world.specs.Calls.{is_named_by};
 ghost use Rattle.pagable_tables.specs.Core.{core_of, IsWhole};
 
@@ -11,7 +14,7 @@ use crate::tables::Tables;
 use crate::turning::is_owner;
 use crate::{handles, nodes};
 use pagable_model::{ArcRef, Error, HandleNumber};
-use pagable_world::handles::Owner;
+use pagable_world::handles::{HandleRow, Owner};
 
 /// Whether one of these references names the handle.
 fn is_named(references: &[ArcRef], handle: HandleNumber) -> bool
@@ -33,21 +36,17 @@ fn is_seen(references: &[ArcRef], highest: u64, handle: HandleNumber) -> bool
     handle.0 <= highest && is_named(references, handle)
 }
 
-/// Why a reference of a value is refused, where its handle was named before or wasn't.
-fn fault_of(t: &Tables, me: Owner, reference: ArcRef, is_seen: bool) -> Option<Error>
-    requires { IsWhole t.now }
-    ensures { (stored : ℕ → Option Blob) (closed : Bool) (failures : ℕ) (seen : List ℕ) → is_in seen reference.handle.0 ≡ is_seen → result ≡ reference_fault (core_of t.now stored closed failures) me seen reference }
+/// Why a reference is refused whose handle has this row, where another may have to be asked first.
+fn row_fault(t: &Tables, row: HandleRow, reference: ArcRef, is_anothers: bool) -> Option<Error>
+    ensures { (stored : ℕ → Option Blob) (closed : Bool) (failures : ℕ) → result ≡ row_fault (core_of t.now stored closed failures) reference (refused_if is_anothers errors.NotYours) row }
 {
-    let Some(at) = handles::look(&t.holdings.handles, reference.handle) else {
-        return Some(Error::NoSuchHandle);
-    };
-    if at.row.node.0 != reference.node.0 {
+    if row.node.0 != reference.node.0 {
         return Some(Error::NoSuchHandle);
     }
-    if !is_owner(me, at.row.owner) || is_seen {
+    if is_anothers {
         return Some(Error::NotYours);
     }
-    if !fits_mode(reference.kind, at.row.mode) {
+    if !fits_mode(reference.kind, row.mode) {
         return Some(Error::WrongMode);
     }
     if !is_of(
@@ -57,6 +56,36 @@ fn fault_of(t: &Tables, me: Owner, reference: ArcRef, is_seen: bool) -> Option<E
         return Some(Error::WrongKind);
     }
     None
+}
+
+/// Whether a handle of this owner is another's, or was named before.
+fn is_anothers(me: Owner, owner: Owner, is_seen: bool) -> bool
+    ensures { result ≡ (not (is_owner me owner) || is_seen) }
+{
+    !is_owner(me, owner) || is_seen
+}
+
+/// Why a reference of a value is refused, where its handle was named before or wasn't.
+fn fault_of(t: &Tables, me: Owner, reference: ArcRef, is_seen: bool) -> Option<Error>
+    requires { IsWhole t.now }
+    ensures { (stored : ℕ → Option Blob) (closed : Bool) (failures : ℕ) (seen : List ℕ) → is_in seen reference.handle.0 ≡ is_seen → result ≡ reference_fault (core_of t.now stored closed failures) me seen reference }
+{
+    let Some(at) = handles::look(&t.holdings.handles, reference.handle) else {
+        return Some(Error::NoSuchHandle);
+    };
+    let is_anothers = is_anothers(me, at.row.owner, is_seen);
+    row_fault(t, at.row, reference, is_anothers)
+}
+
+/// Why what a reference names can't be claimed for page-out, whoever owns its handle.
+pub fn claim_fault(t: &Tables, reference: ArcRef) -> Option<Error>
+    requires { IsWhole t.now }
+    ensures { (stored : ℕ → Option Blob) (closed : Bool) (failures : ℕ) → result ≡ claim_fault (core_of t.now stored closed failures) reference }
+{
+    match handles::look(&t.holdings.handles, reference.handle) {
+        Some(at) => row_fault(t, at.row, reference, false),
+        None => Some(Error::NoSuchHandle),
+    }
 }
 
 /// Refuses the references of a value that is handed in by the cause of the first that has one.

@@ -1,6 +1,6 @@
 //! The value types that a node may hold.
 
-ghost use Rattle.std.specs.Prelude.{◌≡◌, Some};
+ghost use Rattle.std.specs.Prelude.{◌≡◌, ◌≢◌, Some, None};
 ghost use Rattle.pagable_model.specs.Gives.{memory_or};
 ghost use Rattle.pagable_model.specs.Meaning.{Meaning};
 ghost use Rattle.pagable_model.specs.declared.numbers.ArcRef.{ArcRef as Reference};
@@ -18,6 +18,11 @@ pub trait InNode<E: Env>: OfNode<E>
 where
     E::Node: NodeSet<E>,
 {
+    // The node of a value is of this type, and a node without one isn't.
+    ghost in_type: { (n : E.Node) (v : Self) → Self.OfNode.held n ≡ Some v → E.Node.type_of n ≡ Self.OfNode.TYPE };
+
+    ghost other_type: { (n : E.Node) → Self.OfNode.held n ≡ None → E.Node.type_of n ≢ Self.OfNode.TYPE };
+
     ghost shape_is: { (e : E) → E.Node.shape_of e Self.OfNode.TYPE ≡ Some (Self.Carried.shape e) };
 
     ghost same_meaning: { (n : E.Node) (v : Self) (m : Meaning Reference) → Self.OfNode.held n ≡ Some v → E.Node.means n m → Self.Carried.means v m };

@@ -24,7 +24,8 @@ module _ {N E X : Type 0} (hash : List ℕ → List ℕ) (values : E → Values 
       more-results r x.key refs (keys_of xs) (subst (λ i. ResultStands hash values i x.key) (sym same) (h x.identity x.key t)) ts))
 
   -- a form over the results of its references
-  pub node-stands : (i : Identity) (written : Written) (xs : List (SlotResult X g)) (key : ℕ) → ∥ HasFormOf values i written ∥₁ → map identity_of written.references ≡ ids_of xs → key ≡ key_of hash (blob_of written.bytes (keys_of xs))
+  pub node-stands : (i : Identity) (written : Written) (xs : List (SlotResult X g)) (key : ℕ) → ∥ HasFormOf values i written ∥₁ → map identity_of written.references ≡ ids_of xs
+      → key ≡ key_of hash (blob_of written.bytes (keys_of xs))
       → ∥ ResultStands hash values i key ∥₁
   node-stands i written xs key form each is =
       ∥∥₁_elim form ∥∥₁_prop (λ f. ∥∥₁_map (all-stand written.references xs each) (λ ts. subst (ResultStands hash values i) (sym is) (stands-over i written (keys_of xs) f ts)))

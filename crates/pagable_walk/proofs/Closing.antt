@@ -1,5 +1,5 @@
 -- A turn at what was written is the worker's.
-use Rattle.std.proofs.Common.{ℕ, ◌≡◌, ◌≤◌, List, [], ◌∷◌, length, Some, None, Result, Ok, Err, inl, refl, sym, ap, subst, ◌∙◌, arith}
+use Rattle.std.proofs.Common.{ℕ, ◌≡◌, List, [], ◌∷◌, length, Some, None, Result, Ok, Err, inl, refl, sym, ap, subst, ◌∙◌, arith}
 use Rattle.std.specs.Prelude.{Option}
 use Rattle.std.specs.Arc.{arc_value}
 use Rattle.std.proofs.lemmas.List.{length-map}
@@ -25,7 +25,6 @@ use Rattle.pagable_walk.specs.declared.tasks.Item.{Item}
 use Rattle.pagable_walk.specs.declared.tasks.Open.{Open}
 use Rattle.pagable_walk.specs.declared.tasks.Task.{Task}
 use Rattle.pagable_walk.specs.declared.tasks.Task.TheVariants as tasks
-use Rattle.pagable_walk.specs.declared.tasks.Turn.{Turn}
 use Rattle.pagable_walk.specs.declared.tasks.Turn.TheVariants as comes
 use Rattle.pagable_walk.specs.Ending.{Stores, GoesBack, Back}
 use Rattle.pagable_walk.specs.Failing.{back_of, fails}
@@ -52,7 +51,8 @@ module _ {N E : Type 0} (v : Values N) where
 
 module _ {X : Type 0} {g : Ghosts X} {N E : Type 0} (v : Values N) (me : Owner) (n : ℕ) (shelf : Shelf) (below : List Todo) where
   module _ (o : Open X g) (all : length o.children.items ≡ length (written_of (arc_value o.written)).references) where
-    pub finish-stores : (key : ℕ) (task : Task X g) → IsPlain task → todo_of task ≡ to_set o.reference o.through key o.height → (s t : PagerState N E) → Stores v s (blob_of (written_of (arc_value o.written)).bytes (keys_of o.children.items)) (Ok key) t
+    pub finish-stores : (key : ℕ) (task : Task X g) → IsPlain task → todo_of task ≡ to_set o.reference o.through key o.height → (s t : PagerState N E)
+        → Stores v s (blob_of (written_of (arc_value o.written)).bytes (keys_of o.children.items)) (Ok key) t
         → TurnsTo v me n shelf (tasks.Finish o) below shelf (comes.Goes task) (todo_of task ∷ below) s t
     finish-stores key task plain is s t call = record {
       turns = λ f. record {
@@ -66,7 +66,8 @@ module _ {X : Type 0} {g : Ghosts X} {N E : Type 0} (v : Values N) (me : Owner) 
       };
     }
 
-    pub finish-fails : (e : Error) (task : Task X g) (after : List Todo) → IsPlain task → after ≡ fails (was_refused e) (back_of None below) → (s t : PagerState N E) → Stores v s (blob_of (written_of (arc_value o.written)).bytes (keys_of o.children.items)) (Err e) t
+    pub finish-fails : (e : Error) (task : Task X g) (after : List Todo) → IsPlain task → after ≡ fails (was_refused e) (back_of None below) → (s t : PagerState N E)
+        → Stores v s (blob_of (written_of (arc_value o.written)).bytes (keys_of o.children.items)) (Err e) t
         → TurnsTo v me n shelf (tasks.Finish o) below shelf (comes.Goes task) after s t
     finish-fails e task after plain is s t call = record {
       turns = λ f. record {
@@ -81,7 +82,8 @@ module _ {X : Type 0} {g : Ghosts X} {N E : Type 0} (v : Values N) (me : Owner) 
     }
 
   module _ (i : Item X g) (all : length i.children.items ≡ length (written_of (arc_value i.written)).references) where
-    pub item-stores : (key : ℕ) (s t : PagerState N E) → Stores v s (blob_of (written_of (arc_value i.written)).bytes (keys_of i.children.items)) (Ok key) t → TurnsTo v me n shelf (tasks.Item i) below shelf (comes.Answers (finals.Key key)) [] s t
+    pub item-stores : (key : ℕ) (s t : PagerState N E) → Stores v s (blob_of (written_of (arc_value i.written)).bytes (keys_of i.children.items)) (Ok key) t
+        → TurnsTo v me n shelf (tasks.Item i) below shelf (comes.Answers (finals.Key key)) [] s t
     item-stores key s t call = record {
       turns = λ f. record {
         step = took.Store None (Ok key);
@@ -94,7 +96,8 @@ module _ {X : Type 0} {g : Ghosts X} {N E : Type 0} (v : Values N) (me : Owner) 
       };
     }
 
-    pub item-fails : (e : Error) (task : Task X g) (after : List Todo) → IsPlain task → after ≡ fails (was_refused e) (back_of None below) → (s t : PagerState N E) → Stores v s (blob_of (written_of (arc_value i.written)).bytes (keys_of i.children.items)) (Err e) t
+    pub item-fails : (e : Error) (task : Task X g) (after : List Todo) → IsPlain task → after ≡ fails (was_refused e) (back_of None below) → (s t : PagerState N E)
+        → Stores v s (blob_of (written_of (arc_value i.written)).bytes (keys_of i.children.items)) (Err e) t
         → TurnsTo v me n shelf (tasks.Item i) below shelf (comes.Goes task) after s t
     item-fails e task after plain is s t call = record {
       turns = λ f. record {
@@ -123,7 +126,8 @@ module _ {X : Type 0} {g : Ghosts X} {N E : Type 0} (v : Values N) (me : Owner) 
       };
     }
 
-    pub set-fails : (through : HandleNumber) (e : Error) (task : Task X g) (after : List Todo) → IsPlain task → after ≡ fails (was_refused e) (back_of None below) → (s t : PagerState N E) → Called v (λ w'. SetKeyCall s.core me through d.found.key (Err e) w') s t
+    pub set-fails : (through : HandleNumber) (e : Error) (task : Task X g) (after : List Todo) → IsPlain task → after ≡ fails (was_refused e) (back_of None below) → (s t : PagerState N E)
+        → Called v (λ w'. SetKeyCall s.core me through d.found.key (Err e) w') s t
         → TurnsTo v me n shelf (tasks.SetKey d through) below shelf (comes.Goes task) after s t
     set-fails through e task after plain is s t call = record {
       turns = λ f. record {
@@ -137,7 +141,8 @@ module _ {X : Type 0} {g : Ghosts X} {N E : Type 0} (v : Values N) (me : Owner) 
       };
     }
 
-    pub publishes : (shelf' : Shelf) (i : Identity) (key height : ℕ) → i ≡ identity_of d.reference → key ≡ d.found.key → height ≡ d.found.height → SameShelf (with_changed_slot shelf i (with_outcome (published key height))) shelf' → (s : PagerState N E)
+    pub publishes : (shelf' : Shelf) (i : Identity) (key height : ℕ) → i ≡ identity_of d.reference → key ≡ d.found.key → height ≡ d.found.height
+        → SameShelf (with_changed_slot shelf i (with_outcome (published key height))) shelf' → (s : PagerState N E)
         → TurnsTo {g = g} v me n shelf (tasks.Publish d) below shelf' (comes.Goes (tasks.Release d)) (to_release d.reference d.found.key d.found.height ∷ below) s s
     publishes shelf' i key height at same_key same_height same s =
         let same' = subst (λ j. SameShelf (with_changed_slot shelf j (with_outcome (published d.found.key d.found.height))) shelf') at
@@ -169,7 +174,8 @@ module _ {X : Type 0} {g : Ghosts X} {N E : Type 0} (v : Values N) (me : Owner) 
     };
   })
 
-  pub release-gives : (below : List Todo) (x : Todo) (rest : List Todo) (task : Task X g) (after : List Todo) → below ≡ x ∷ rest → IsPlain task → after ≡ give d.reference d.found.key d.found.height (x ∷ rest) → (s t : PagerState N E)
+  pub release-gives : (below : List Todo) (x : Todo) (rest : List Todo) (task : Task X g) (after : List Todo) → below ≡ x ∷ rest → IsPlain task
+      → after ≡ give d.reference d.found.key d.found.height (x ∷ rest) → (s t : PagerState N E)
       → Called v (λ w'. FallsAnyhow s.core s.core (is_workers_at s.core n d.reference.node.0) w') s t → TurnsTo v me n shelf (tasks.Release d) below shelf (comes.Goes task) after s t
   release-gives below x rest task after some plain is s t call = subst (λ b. TurnsTo v me n shelf (tasks.Release d) b shelf (comes.Goes task) after s t) (sym some) (record {
     turns = λ f. record {
@@ -208,5 +214,6 @@ module _ {N E : Type 0} (v : Values N) (me : Owner) where
   back-none None none s = record { goes = alike s.core; moves = record { each = λ q x is. inl is; environment = refl }; whole = λ is. is }
   back-none (Some h) none s = absurd (none h refl)
 
-  pub back-some : (back : Option HandleNumber) (h : HandleNumber) (r : Result (Unit {0}) Error) → back ≡ Some h → (s t : PagerState N E) → Called v (λ w'. ScheduleCall s.core me h r w') s t → GoesBack v me back s t
+  pub back-some : (back : Option HandleNumber) (h : HandleNumber) (r : Result (Unit {0}) Error) → back ≡ Some h → (s t : PagerState N E) → Called v (λ w'. ScheduleCall s.core me h r w') s t
+      → GoesBack v me back s t
   back-some back h r is s t call = subst (λ b. GoesBack v me b s t) (sym is) (record { goes = (r, call.step); moves = call.moves; whole = λ w. call.whole })

@@ -33,12 +33,13 @@ use Rattle.pagable_walk.specs.declared.tasks.Turn.TheVariants as comes
 use Rattle.pagable_walk.specs.Slots.{with_written}
 use Rattle.pagable_walk.specs.Failing.{back_of, fails}
 use Rattle.pagable_walk.specs.Tasks.{IsPlain}
-use Rattle.pagable_walk.specs.Turns.{Fits, Turned, TurnsTo}
+use Rattle.pagable_walk.specs.Turns.{Fits, TurnsTo}
 use Rattle.pagable_walk.specs.Writing.{IsForm, WriteRefused, IsPinned, Finds, Forms}
 use Rattle.pagable_walk.proofs.Turning.{alike, plain-fits}
 
 module _ {N E H K V : Type 0} (n : Nodes N E N H K V) (e : Environments E N H K V) (h : Hashes H) (env : E) (x : N) (shaped : n.shape_of env (n.type_of x) ≡ Some (n.own_shape env x)) where
-  pub is-form : (env' : E) (levels : ℕ) (old new : Out) (w : Written) → env' ≡ env → levels ≡ 0 → old ≡ nothing → WritesSome (n.means x) (nesting levels (e.parts env')) (n.own_shape env' x) old new → new.refs ≡ old.refs ++ n.refs_of x
+  pub is-form : (env' : E) (levels : ℕ) (old new : Out) (w : Written) → env' ≡ env → levels ≡ 0 → old ≡ nothing
+      → WritesSome (n.means x) (nesting levels (e.parts env')) (n.own_shape env' x) old new → new.refs ≡ old.refs ++ n.refs_of x
       → record { bytes = w.bytes; refs = w.references } ≡ new → IsForm (values_at n e h env) x w
   is-form env' levels old new w at zero start wrote listed is =
       let here = subst (λ (o : E). WritesSome (n.means x) (nesting levels (e.parts o)) (n.own_shape o x) old new) at wrote in
@@ -57,7 +58,8 @@ module _ {N E H K V : Type 0} (n : Nodes N E N H K V) (e : Environments E N H K 
         listed = ap (λ (o : Out). o.refs) is ∙ listed ∙ ap (λ (o : Out). o.refs ++ n.refs_of x) start;
       }
 
-  pub write-refused : (env' : E) (levels : ℕ) (err : Error) → env' ≡ env → levels ≡ 0 → Refused (n.means x) (nesting levels (e.parts env')) (n.own_shape env' x) err → n.write_causes (n.type_of x) err → WriteRefused (values_at n e h env) x err
+  pub write-refused : (env' : E) (levels : ℕ) (err : Error) → env' ≡ env → levels ≡ 0 → Refused (n.means x) (nesting levels (e.parts env')) (n.own_shape env' x) err
+      → n.write_causes (n.type_of x) err → WriteRefused (values_at n e h env) x err
   write-refused env' levels err at zero refused cause =
       let here = subst (λ (o : E). Refused (n.means x) (nesting levels (e.parts o)) (n.own_shape o x) err) at refused in
       let flat = subst (λ l. Refused (n.means x) (nesting l (e.parts env)) (n.own_shape env x) err) zero here in
@@ -149,7 +151,8 @@ module _ {X : Type 0} {g : Ghosts X} {N E : Type 0} (v : Values N) (me : Owner) 
     };
   }
 
-  pub write-fails : (e : Error) → Forms v s r pin (Err e) → SameShelf shelf shelf' → after ≡ fails (was_refused e) (back_of None below) → TurnsTo v me n shelf (tasks.Write r place through pin) below shelf' (comes.Goes task) after s s
+  pub write-fails : (e : Error) → Forms v s r pin (Err e) → SameShelf shelf shelf' → after ≡ fails (was_refused e) (back_of None below)
+      → TurnsTo v me n shelf (tasks.Write r place through pin) below shelf' (comes.Goes task) after s s
   write-fails e forms same is = record {
     turns = λ f.
         let why = forms.refused (is-pinned f) in

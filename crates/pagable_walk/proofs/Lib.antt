@@ -12,4 +12,3 @@ pub mod Forming
 pub mod Pinning
 pub mod Closing
 pub mod Stepping
-pub mod Joined

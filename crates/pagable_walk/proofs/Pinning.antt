@@ -1,5 +1,5 @@
 -- A turn that pins what was claimed, or loads it, is the worker's.
-use Rattle.std.proofs.Common.{ℕ, ◌≡◌, ◌+◌, ◌<◌, ◌≤◌, ◌==◌, ◌⊎◌, Bool, true, false, List, [], ◌∷◌, Some, None, Result, Ok, Err, inl, inr, refl, sym, ap, subst, ◌∙◌, arith}
+use Rattle.std.proofs.Common.{ℕ, ◌≡◌, ◌+◌, ◌==◌, Bool, true, false, List, [], ◌∷◌, Some, None, Ok, Err, inl, inr, refl, sym, ap, subst, ◌∙◌, arith}
 use Rattle.std.specs.Prelude.{Option, if◌then◌else◌, not, ◌&&◌}
 use Rattle.std.proofs.lemmas.Bool.Decides.{nat_tests}
 use Rattle.pagable_model.specs.declared.error.Error.{Error}
@@ -11,7 +11,6 @@ use Rattle.pagable_model.specs.declared.data_key.OptionalDataKey.TheVariants as 
 use Rattle.pagable_world.specs.declared.rows.Mode.TheVariants as modes
 use Rattle.pagable_world.specs.declared.handles.Owner.TheVariants as owners
 use Rattle.pagable_world.specs.declared.answers.Pinning.TheVariants as pinnings
-use Rattle.pagable_world.specs.declared.answers.Beginning.TheVariants as beginnings
 use Rattle.pagable_world.specs.declared.events.LoadAnswer.TheVariants as ends
 use Rattle.pagable_world.specs.declared.events.PinStep.TheVariants as pinsteps
 use Rattle.pagable_world.specs.declared.events.Took.TheVariants as took
@@ -27,7 +26,7 @@ use Rattle.pagable_world.specs.Access.{Called, ReadingStep}
 use Rattle.pagable_laws.specs.KeyRuns.{StandsAt}
 use Rattle.pagable_laws.specs.TreeSteps.{Change}
 use Rattle.pagable_laws.proofs.Trees.{same_some}
-use Rattle.pagable_laws.proofs.Goes.{Goes, Kept}
+use Rattle.pagable_laws.proofs.Goes.{Goes}
 use Rattle.pagable_laws.proofs.Outlasting.{NotValues, Stands, stands-alike, stands-fell}
 use Rattle.pagable_laws.proofs.PinSteps.{AreLow, low-whole, low-changed, low-handle, new-handle, clone-call, not-loose, owned-none}
 use Rattle.pagable_laws.proofs.Naming.{clone-stands}
@@ -67,7 +66,8 @@ module _ {c : Change} {w w' : Core} (goes : Goes c w w') where
 
 -- ---- the new pin
 
-pins-by : {last : ℕ} (w : Core) (r : ArcRef) {row : HandleRow} (k : HandleNumber) (q : ℕ) → k.0 ≡ q → Stands last w.rows q row → row.node ≡ r.node → is_pinning row.mode ≡ true → HoldsPin w row.owner r k
+pins-by : {last : ℕ} (w : Core) (r : ArcRef) {row : HandleRow} (k : HandleNumber) (q : ℕ) → k.0 ≡ q → Stands last w.rows q row → row.node ≡ r.node → is_pinning row.mode ≡ true
+    → HoldsPin w row.owner r k
 pins-by w r {row} k q is s at pins = record { pins = record { row = row; live = subst (λ n. find_row n w.rows ≡ Some row) (sym is) s.live; at = at; pins = pins }; own = refl }
 
 clone-pins : (w w' : Core) (me : Owner) (r : ArcRef) (k : HandleNumber) → HandlesAreWhole w → StandsAt w r r.handle → RowIs w r.handle false → CloneCall w me r.handle (Ok k) w' → HoldsPin w' me r k
@@ -95,7 +95,8 @@ at-once-pins w w' me r through k whole stands does = elim does [
 
 -- ---- a load that has begun
 
-pub begun-loads : (w w' : Core) (n : ℕ) (r : ArcRef) (through : HandleNumber) (l : LoadNumber) (key : ℕ) (own : Own) → HandlesAreWhole w → StandsAt w r r.handle → BeginsAt w (owner_worker n) r through l key w'
+pub begun-loads : (w w' : Core) (n : ℕ) (r : ArcRef) (through : HandleNumber) (l : LoadNumber) (key : ℕ) (own : Own) → HandlesAreWhole w → StandsAt w r r.handle
+    → BeginsAt w (owner_worker n) r through l key w'
     → own.load ≡ l → own.key ≡ key → own.for_cell ≡ true → IsLoading w' n r through own
 begun-loads w w' n r through l key own whole stands (is, (mid, clone, begin)) same_load same_key cell =
     let row : HandleRow = begin.begins.0 in
@@ -148,7 +149,8 @@ node-in other (of_cell node t h) = node
 node-in other of_key = other
 
 module _ (w w' : Core) (n : ℕ) (r : ArcRef) (whole : HandlesAreWhole w) where
-  stays-pinned : (u : Core) (h : HandleNumber) (node : NodeNumber) (k : HandleNumber) (given : ℕ → Bool) → AreLow u → u.last.handle ≡ w.last.handle → k.0 ≡ w.last.handle + 1 → given (w.last.handle + 1) ≡ false → node ≡ r.node
+  stays-pinned : (u : Core) (h : HandleNumber) (node : NodeNumber) (k : HandleNumber) (given : ℕ → Bool) → AreLow u → u.last.handle ≡ w.last.handle → k.0 ≡ w.last.handle + 1
+      → given (w.last.handle + 1) ≡ false → node ≡ r.node
       → FallsAnyhow w (with_pin u h node (owner_worker n)) given w' → HoldsPin w' (owner_worker n) r k
   stays-pinned u h node k given low same next kept at f =
       let low' = low-changed u.last.handle u.rows (is_handle h.0) (λ r. record r { mode = modes.LoosePinned }) (λ r. refl) low in
@@ -156,7 +158,8 @@ module _ (w w' : Core) (n : ℕ) (r : ArcRef) (whole : HandlesAreWhole w) where
       let q : u.last.handle + 1 ≡ w.last.handle + 1 = ap (λ n. n + 1) same in
       pins-by w' r k (u.last.handle + 1) (next ∙ sym q) (stands-fell f.falls (worker-free n) (ap given q ∙ kept) s) at refl
 
-  pub end-pins : {N : Type 0} (v : Values N) (through : HandleNumber) (own : Own) (k : HandleNumber) → IsLoading w n r through own → EndsPinned v w (owner_worker n) (reading_of own) k w' → HoldsPin w' (owner_worker n) r k
+  pub end-pins : {N : Type 0} (v : Values N) (through : HandleNumber) (own : Own) (k : HandleNumber) → IsLoading w n r through own → EndsPinned v w (owner_worker n) (reading_of own) k w'
+      → HoldsPin w' (owner_worker n) r k
   end-pins v through own k is e =
       let l = own.load in
       let node : NodeNumber = e.ended.installs.0 in
@@ -232,7 +235,8 @@ module _ {X : Type 0} {g : Ghosts X} {N E : Type 0} (v : Values N) (me : Owner) 
         };
   }
 
-  pub pin-fails : (e : Error) (task : Task X g) (after : List Todo) → IsPlain task → after ≡ fails (was_refused e) (back_of (Some r.handle) below) → (s t : PagerState N E) → Called v (λ w'. TakesReference s.core me r (Err e) w') s t
+  pub pin-fails : (e : Error) (task : Task X g) (after : List Todo) → IsPlain task → after ≡ fails (was_refused e) (back_of (Some r.handle) below) → (s t : PagerState N E)
+      → Called v (λ w'. TakesReference s.core me r (Err e) w') s t
       → TurnsTo v me n shelf (tasks.Pin r place) below shelf (comes.Goes task) after s t
   pin-fails e task after plain-task is s t call = record {
     turns = λ f. record {
@@ -247,10 +251,12 @@ module _ {X : Type 0} {g : Ghosts X} {N E : Type 0} (v : Values N) (me : Owner) 
   }
 
   module _ (through : HandleNumber) (own : Own) where
-    stepped : {s t : PagerState N E} {answer : Option (LoadAnswer N)} {frames : List Frame} → Fits {g = g} v me n (tasks.Load r place through own) s → Steps v me own s answer frames t → ReadingStep v (owner_worker n) (reading_of own) s answer frames t
+    stepped : {s t : PagerState N E} {answer : Option (LoadAnswer N)} {frames : List Frame} → Fits {g = g} v me n (tasks.Load r place through own) s → Steps v me own s answer frames t
+        → ReadingStep v (owner_worker n) (reading_of own) s answer frames t
     stepped {s} {t} {answer} {frames} f steps = subst (λ o. IsLoadOf s.core o own → ReadingStep v o (reading_of own) s answer frames t) f.me_is steps.does f.task_fits.1.is
 
-    pub load-goes : (new : Own) (frames : List Frame) → frames ≡ frames_of new.top new.below.items → new.load ≡ own.load → new.node_type ≡ own.node_type → new.steps ≡ one_more own.steps → new.key ≡ own.key → new.for_cell ≡ own.for_cell → (s t : PagerState N E)
+    pub load-goes : (new : Own) (frames : List Frame) → frames ≡ frames_of new.top new.below.items → new.load ≡ own.load → new.node_type ≡ own.node_type → new.steps ≡ one_more own.steps
+        → new.key ≡ own.key → new.for_cell ≡ own.for_cell → (s t : PagerState N E)
         → Steps v me own s None frames t → TurnsTo {g = g} v me n shelf (tasks.Load r place through own) below shelf (comes.Goes (tasks.Load r place through new)) (to_load r place through (reading_of new) ∷ below) s t
     load-goes new frames at load node_type steps key cell s t call = record {
       turns = λ f.
@@ -300,7 +306,8 @@ module _ {X : Type 0} {g : Ghosts X} {N E : Type 0} (v : Values N) (me : Owner) 
           };
     }
 
-    pub load-fails : (e : Error) (frames : List Frame) (task : Task X g) (after : List Todo) → IsPlain task → after ≡ fails (was_refused e) (back_of (Some r.handle) below) → (s t : PagerState N E) → Steps v me own s (Some (ends.Refused e)) frames t
+    pub load-fails : (e : Error) (frames : List Frame) (task : Task X g) (after : List Todo) → IsPlain task → after ≡ fails (was_refused e) (back_of (Some r.handle) below)
+        → (s t : PagerState N E) → Steps v me own s (Some (ends.Refused e)) frames t
         → TurnsTo v me n shelf (tasks.Load r place through own) below shelf (comes.Goes task) after s t
     load-fails e frames task after plain-task is s t call = record {
       turns = λ f.
@@ -318,7 +325,8 @@ module _ {X : Type 0} {g : Ghosts X} {N E : Type 0} (v : Values N) (me : Owner) 
     }
 
     -- a load of a cell reads out nothing
-    pub load-reads-none : (x : N) (frames : List Frame) (turn : Turn X g) (after : List Todo) (s t : PagerState N E) → Steps v me own s (Some (ends.Read x)) frames t → TurnsTo v me n shelf (tasks.Load r place through own) below shelf turn after s t
+    pub load-reads-none : (x : N) (frames : List Frame) (turn : Turn X g) (after : List Todo) (s t : PagerState N E) → Steps v me own s (Some (ends.Read x)) frames t
+        → TurnsTo v me n shelf (tasks.Load r place through own) below shelf turn after s t
     load-reads-none x frames turn after s t call = record {
       turns = λ f.
           let step = stepped f call in

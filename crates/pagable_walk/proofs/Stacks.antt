@@ -41,7 +41,8 @@ module _ {E : Type 0} {g : Ghosts E} where
   back-none (w ∷ ws) entry some = onto-some ws (waiting_todo w) [] entry
 
   -- the identities of one result more
-  pub ids-more : (refs : List ArcRef) (xs ys : List (SlotResult E g)) (r : ArcRef) (x : SlotResult E g) → ids_of xs ≡ map identity_of (take (length xs) refs) → slice_get refs (length xs) ≡ Some r → x.identity ≡ identity_of r → ys ≡ xs ++ x ∷ []
+  pub ids-more : (refs : List ArcRef) (xs ys : List (SlotResult E g)) (r : ArcRef) (x : SlotResult E g) → ids_of xs ≡ map identity_of (take (length xs) refs) → slice_get refs (length xs) ≡ Some r
+      → x.identity ≡ identity_of r → ys ≡ xs ++ x ∷ []
       → ids_of ys ≡ map identity_of (take (length ys) refs)
   ids-more refs xs ys r x each at own is =
       let lt = slice_get_within refs (length xs) r at in
@@ -55,7 +56,8 @@ module _ {E : Type 0} {g : Ghosts E} where
 pub none-next : (place m n : ℕ) (rs : List ArcRef) (todo : List Todo) → m ≡ n → length rs ≤ n → todo ≡ next_start place (drop m rs) ++ todo
 none-next place m n rs todo e all = sym (ap (λ k. next_start place (drop k rs) ++ todo) e ∙ at_drop_all (λ xs. next_start place xs ++ todo) rs n all)
 
-pub next-starts : (place m n p : ℕ) (rs : List ArcRef) (r : ArcRef) (todo : List Todo) → m ≡ n → n < length rs → r ≡ get_or rs n r → p ≡ place_below place r.kind.0 → to_start r p ∷ todo ≡ next_start place (drop m rs) ++ todo
+pub next-starts : (place m n p : ℕ) (rs : List ArcRef) (r : ArcRef) (todo : List Todo) → m ≡ n → n < length rs → r ≡ get_or rs n r → p ≡ place_below place r.kind.0
+    → to_start r p ∷ todo ≡ next_start place (drop m rs) ++ todo
 next-starts place m n p rs r todo e more is at =
     ap (λ q. to_start r q ∷ todo) at
     ∙ sym (ap (λ k. next_start place (drop k rs) ++ todo) e ∙ at_drop_more (λ xs. next_start place xs ++ todo) rs n r more ∙ ap (λ x. next_start place (x ∷ drop (n + 1) rs) ++ todo) (sym is))

@@ -1,5 +1,5 @@
 -- A turn with the worker's end is its step.
-use Rattle.std.proofs.Common.{ℕ, ◌≡◌, List, ◌∷◌, Some, None, inl, inr, refl, sym, subst, ◌∙◌}
+use Rattle.std.proofs.Common.{ℕ, ◌≡◌, List, inl, inr, refl, sym, subst, ◌∙◌}
 use Rattle.pagable_world.specs.declared.handles.Owner.{Owner}
 use Rattle.pagable_world.specs.World.{Shelf, Todo, Values}
 use Rattle.pagable_world.specs.Events.{Ends}
@@ -66,7 +66,8 @@ module _ {X : Type 0} {g : Ghosts X} where
   closes-none v n (comes.Goes t) none s = record { closes = refl }
   closes-none v n (comes.Answers a) none s = absurd (none a refl)
 
-  pub closes-ends : {N E : Type 0} (v : Values N) (n : ℕ) (turn : Turn X g) (a : WorkerAnswer) → turn ≡ comes.Answers a → (s t : PagerState N E) → Called v (λ w'. WorkerEnds s.core n w') s t → Closes v n turn s t
+  pub closes-ends : {N E : Type 0} (v : Values N) (n : ℕ) (turn : Turn X g) (a : WorkerAnswer) → turn ≡ comes.Answers a → (s t : PagerState N E) → Called v (λ w'. WorkerEnds s.core n w') s t
+      → Closes v n turn s t
   closes-ends v n turn a is s t call = subst (λ x. Closes v n x s t) (sym is) (record { closes = call })
 
   pub acts-on : {E : Type 0} (turn : Turn X g) → ((a : WorkerAnswer) → turn ≡ comes.Answers a → ⊥) → (acting : Acting E) → acting ≡ acting_then turn acting

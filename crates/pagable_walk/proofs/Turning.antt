@@ -24,7 +24,7 @@ use Rattle.pagable_walk.specs.declared.tasks.Task.TheVariants as tasks
 use Rattle.pagable_walk.specs.declared.tasks.Turn.TheVariants as comes
 use Rattle.pagable_walk.specs.Table.{found_as, IsFoundOf}
 use Rattle.pagable_walk.specs.Tasks.{IsPlain}
-use Rattle.pagable_walk.specs.Turns.{site, claim_todo, ClaimFits, ClaimLeaves, IsOfKind, TaskFits, Fits, Turned, TurnsTo}
+use Rattle.pagable_walk.specs.Turns.{site, claim_todo, ClaimFits, ClaimLeaves, IsOfKind, TaskFits, TurnsTo}
 
 pub alike : (w : Core) → Alike w w
 alike w =
@@ -75,7 +75,8 @@ kind-claimed w r whole may =
     record { given = (claimed-stands whole r may).node_given; typed = λ t is. same_some _ _ (sym is ∙ c.typed) }
 
 module _ {X : Type 0} {g : Ghosts X} where
-  pub claim-fits : (v : ℕ) (s s' : Shelf) (r : ArcRef) (place : ℕ) (claim : Result (Found X g) Error) → ClaimsThere v s (identity_of r) place (found_as claim) s' → IfOk claim (IsFoundOf (identity_of r)) → ClaimFits r place claim
+  pub claim-fits : (v : ℕ) (s s' : Shelf) (r : ArcRef) (place : ℕ) (claim : Result (Found X g) Error) → ClaimsThere v s (identity_of r) place (found_as claim) s'
+      → IfOk claim (IsFoundOf (identity_of r)) → ClaimFits r place claim
   claim-fits v s s' r place (Ok founds.Claimed) there own = there.finds.0.0
   claim-fits v s s' r place (Ok (founds.Known found)) there own = (own, there.finds.0.0)
   claim-fits v s s' r place (Ok founds.Waiting) there own = tt
@@ -95,7 +96,8 @@ module _ {X : Type 0} {g : Ghosts X} where
   plain-fits n w (tasks.Release d) plain = tt
   plain-fits n w (tasks.Fail e back) plain = tt
 
-  claim-leaves : (n : ℕ) (w : Core) (shelf : Shelf) (s' : Site) (r : ArcRef) (place : ℕ) (below : List Todo) (claim : Result (Found X g) Error) (task : Task X g) → HandlesAreWhole w → ClaimLeaves r place claim task
+  claim-leaves : (n : ℕ) (w : Core) (shelf : Shelf) (s' : Site) (r : ArcRef) (place : ℕ) (below : List Todo) (claim : Result (Found X g) Error) (task : Task X g) → HandlesAreWhole w
+      → ClaimLeaves r place claim task
       → Claims n (site w shelf (to_start r place ∷ below)) r place below (found_as claim) s' → TaskFits n w task
   claim-leaves n w shelf s' r place below (Ok founds.Claimed) task whole leaves c = subst (TaskFits n w) (sym leaves) (claimed-stands whole r c.finds.0, kind-claimed w r whole c.finds.0)
   claim-leaves n w shelf s' r place below (Ok (founds.Known found)) task whole leaves c = plain-fits n w task leaves

@@ -1,5 +1,5 @@
 -- A path that leads to what is done next goes on so.
-use Rattle.std.proofs.Common.{ℕ, zero, suc, ◌≡◌, ◌≤◌, ◌<◌, ◌+◌, Bool, true, false, List, [], ◌∷◌, ◌++◌, length, drop, refl, sym, ap, ◌∙◌, subst, arith, Some, slice_get, if◌then◌else◌}
+use Rattle.std.proofs.Common.{ℕ, zero, suc, ◌≡◌, ◌≤◌, ◌+◌, Bool, true, false, List, [], ◌∷◌, ◌++◌, length, drop, refl, sym, ap, subst, arith, Some, slice_get, if◌then◌else◌}
 use Rattle.std.specs.Prelude.{max}
 use Rattle.std.proofs.lemmas.List.{length-append}
 use Rattle.std.proofs.lemmas.Option.{slice_get_within}
@@ -10,13 +10,15 @@ use Rattle.pagable_world.specs.Workers.{give, give_known, next_start, settle}
 use Rattle.pagable_walk.specs.Tasks.{Awaits, AwaitsLow, IsWay, with_child}
 
 -- what is left of references after so many, in both cases
-left-by : (Q : List ArcRef → Type 0) (n : ℕ) (refs : List ArcRef) → n ≤ length refs → (n ≡ length refs → Q []) → ((r : ArcRef) (rest : List ArcRef) → slice_get refs n ≡ Some r → Q (r ∷ rest)) → Q (drop n refs)
+left-by : (Q : List ArcRef → Type 0) (n : ℕ) (refs : List ArcRef) → n ≤ length refs → (n ≡ length refs → Q []) → ((r : ArcRef) (rest : List ArcRef) → slice_get refs n ≡ Some r → Q (r ∷ rest))
+    → Q (drop n refs)
 left-by Q zero [] few none more = none refl
 left-by Q zero (r ∷ rs) few none more = more r rs refl
 left-by Q (suc n) [] few none more = absurd (omega arith)
 left-by Q (suc n) (r ∷ rs) few none more = left-by Q n rs (omega arith) (λ e. none (ap suc e)) more
 
-pub settle-way : (o : Open) (below : List Todo) → length o.keys ≤ length o.written.references → Awaits below o.reference o.place → o.place + o.height ≤ longest_path → IsWay (settle (to_finish o ∷ below))
+pub settle-way : (o : Open) (below : List Todo) → length o.keys ≤ length o.written.references → Awaits below o.reference o.place → o.place + o.height ≤ longest_path
+    → IsWay (settle (to_finish o ∷ below))
 unfolding Awaits
 settle-way o below few up near =
     left-by (λ rest. IsWay (next_start o.place rest ++ to_finish o ∷ below)) (length o.keys) o.written.references few (λ all. (all, up, near)) (λ r rest at. (at, refl, near, up))
@@ -26,15 +28,18 @@ unfolding Awaits
 item-way written keys few = left-by (λ rest. IsWay (next_start 0 rest ++ to_item written keys ∷ [])) (length keys) written.references few (λ all. (all, refl)) (λ r rest at. (at, refl, refl))
 
 -- the height by the reference too fits
-near-by : (place height p h kind : ℕ) (b : Bool) → is_eager kind ≡ b → p ≡ (if b then place + 1 else 0) → place + height ≤ longest_path → p + h ≤ longest_path → place + max height (above kind h) ≤ longest_path
+near-by : (place height p h kind : ℕ) (b : Bool) → is_eager kind ≡ b → p ≡ (if b then place + 1 else 0) → place + height ≤ longest_path → p + h ≤ longest_path
+    → place + max height (above kind h) ≤ longest_path
 near-by place height p h kind true is at near low = let a : above kind h ≡ h + 1 = ap (λ c. if c then h + 1 else 0) is in omega (arith, a)
 near-by place height p h kind false is at near low = let a : above kind h ≡ 0 = ap (λ c. if c then h + 1 else 0) is in omega (arith, a)
 
-pub node-awaits : (o : Open) (below : List Todo) (r : ArcRef) (h : ℕ) → AwaitsLow (to_finish o ∷ below) r h → (slice_get o.written.references (length o.keys) ≡ Some r) × (o.place + max o.height (above r.kind.0 h) ≤ longest_path) × Awaits below o.reference o.place
+pub node-awaits : (o : Open) (below : List Todo) (r : ArcRef) (h : ℕ) → AwaitsLow (to_finish o ∷ below) r h
+    → (slice_get o.written.references (length o.keys) ≡ Some r) × (o.place + max o.height (above r.kind.0 h) ≤ longest_path) × Awaits below o.reference o.place
 unfolding Awaits
 node-awaits o below r h (p, (at, is, near, up), low) = (at, near-by o.place o.height p h r.kind.0 (is_eager r.kind.0) refl is near low, up)
 
-pub item-awaits : (written : Written) (keys : List ℕ) (below : List Todo) (r : ArcRef) (h : ℕ) → AwaitsLow (to_item written keys ∷ below) r h → (slice_get written.references (length keys) ≡ Some r) × (below ≡ [])
+pub item-awaits : (written : Written) (keys : List ℕ) (below : List Todo) (r : ArcRef) (h : ℕ) → AwaitsLow (to_item written keys ∷ below) r h
+    → (slice_get written.references (length keys) ≡ Some r) × (below ≡ [])
 unfolding Awaits
 item-awaits written keys below r h (p, (at, is, none), low) = (at, none)
 

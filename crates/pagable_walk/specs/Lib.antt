@@ -7,4 +7,3 @@ pub mod Failing
 pub mod Turns
 pub mod Writing
 pub mod Ending
-pub mod Walking

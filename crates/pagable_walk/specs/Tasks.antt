@@ -1,5 +1,5 @@
 -- A worker's task at hand and its path as plain data: what it has to do, what comes next first.
-use Rattle.std.specs.Prelude.{ℕ, ◌≡◌, ◌≤◌, ◌+◌, List, [], ◌∷◌, ◌++◌, length, map, max, Some, slice_get}
+use Rattle.std.specs.Prelude.{ℕ, ◌≡◌, ◌≤◌, ◌+◌, List, [], ◌∷◌, ◌++◌, length, max, Some, slice_get}
 use Rattle.std.specs.Arc.{arc_value}
 use Rattle.pagable_model.specs.declared.numbers.ArcRef.{ArcRef}
 use Rattle.pagable_world.specs.Plain.{above, longest_path}

@@ -11,7 +11,6 @@ pub mod step;
 pub mod table;
 pub mod tasks;
 pub mod turns;
-pub mod walk;
 pub mod writing;
 
 pub use results::{SlotResult, Trees};

@@ -4,8 +4,8 @@
 #[cfg(test)]
 mod tests;
 
-use named_texts::serve::serve;
 use pagable::{Sha256Key, WeighHash};
+use pagable_examples::named_texts::serve::serve;
 use std::io::{BufReader, BufWriter};
 use std::process::ExitCode;
 use std::{env, io};

@@ -7,9 +7,11 @@ ghost use Rattle.pagable_core.specs.Fields.{references_of};
 use crate::context::keys::PagableKeys;
 use crate::context::references::References;
 use pagable_codec::{
-    ArcRef, Env, Kind, PagableCursor, PagableDeserializer, Reader, SessionContext,
+    ArcRef, Env, Kind, OfNode, PagableCursor, PagableDeserializer, Reader, SessionContext,
 };
 use pagable_flavors::{DataKey, Error, PagableSlice};
+use std::alloc::Global;
+use std::sync::Arc;
 
 /// A deserializer over the bytes and keys of one blob. `B` reads the bytes; `R` answers for its references, and lends
 /// the environment and the session's context. What is left of bytes and keys after a value is accepted.
@@ -33,6 +35,7 @@ impl<'de, R> PagableDeserializerImpl<'de, PagableSlice<'de>, R> {
         ensures standing { ⟦<PagableDeserializerImpl<'de, PagableSlice<'de>, R> as PagableDeserializer<E>>⟧.standing result ≡ at_front (R.answer references) bytes.now arcs.now }
         ensures levels { ⟦<PagableDeserializerImpl<'de, PagableSlice<'de>, R> as PagableDeserializer<E>>⟧.levels result ≡ 0 }
         ensures env { ⟦<PagableDeserializerImpl<'de, PagableSlice<'de>, R> as PagableDeserializer<E>>⟧.environment result ≡ R.environment references }
+        ensures lends { ⟦<PagableDeserializerImpl<'de, PagableSlice<'de>, R> as PagableDeserializer<E>>⟧.lends result ≡ R.lends references }
     {
         PagableDeserializerImpl {
             reader: PagableSlice::new(bytes),
@@ -75,6 +78,8 @@ impl<'de, E: Env, B: Reader, R: References<E>> PagableDeserializer<E>
 
     ghost reader = { reader_of };
 
+    ghost lends = { λ s. R.lends (references_of s) };
+
     ghost with_reader = { with_reader };
 
     ghost rest_is = { λ s. refl };
@@ -98,6 +103,17 @@ impl<'de, E: Env, B: Reader, R: References<E>> PagableDeserializer<E>
         match self.keys.next_key() {
             None => Err(Error::NoMoreKeys),
             Some(key) => self.references.reference(place, key, kind),
+        }
+    }
+
+    fn shared<T: OfNode<E>>(
+        &self,
+        alloc: Global,
+        reference: ArcRef,
+    ) -> Result<Option<Arc<T>>, Error> {
+        match self.references.shared(reference) {
+            None => Ok(None),
+            Some(node) => T::from_node(alloc, node),
         }
     }
 

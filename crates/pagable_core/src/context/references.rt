@@ -1,6 +1,6 @@
 //! What a deserializer asks for references.
 
-ghost use Rattle.std.specs.Prelude.{◌≡◌, ℕ, Result, Err, IfOk, true};
+ghost use Rattle.std.specs.Prelude.{◌≡◌, ℕ, Option, None, Result, Err, IfOk, option_map, true};
 ghost use Rattle.pagable_model.specs.Refusals.{may_refuse_reference};
 ghost use Rattle.pagable_model.specs.declared.numbers.ArcRef.{ArcRef as Reference};
 ghost use Rattle.pagable_model.specs.declared.error.Error.{Error as Refusal};
@@ -17,6 +17,9 @@ pub trait References<E: Env> {
     // The answer at a place, counted from 0, of a key, read as a kind.
     ghost answer: { Self → ℕ → ℕ → ℕ → Result Reference Refusal };
 
+    // The nodes that it lends by references that it answered.
+    ghost lends: { Self → Reference → Option E.Node };
+
     fn env(&self) -> &E
         ensures { result.now ≡ environment self.now };
 
@@ -28,6 +31,10 @@ pub trait References<E: Env> {
         ensures answer { result ≡ answer self.old place key kind.0 }
         ensures same_env { environment self.new ≡ environment self.old }
         ensures same_answers { answer self.new ≡ answer self.old };
+
+    /// The node of a reference that was read together with its value; or None where none is lent.
+    fn shared(&self, reference: ArcRef) -> Option<&E::Node>
+        ensures { option_map (λ x. x.now) result ≡ lends self.now reference };
 
     // A refusal is one that a reference may have.
     ghost refusals: { (s : Self) (place key kind : ℕ) (e : Refusal) → answer s place key kind ≡ Err e → may_refuse_reference e ≡ true };
@@ -59,6 +66,8 @@ impl<'e, E: Env> References<E> for NoReferences<'e, E> {
 
     ghost answer = { λ s place key kind. Err WrongKind };
 
+    ghost lends = { λ s reference. None };
+
     ghost refusals = { λ s place key kind e is. wrong_kind_may_refuse e is };
 
     fn env(&self) -> &E {
@@ -71,5 +80,9 @@ impl<'e, E: Env> References<E> for NoReferences<'e, E> {
 
     fn reference(&mut self, _place: usize, _key: DataKey, _kind: Kind) -> Result<ArcRef, Error> {
         Err(Error::WrongKind)
+    }
+
+    fn shared(&self, _reference: ArcRef) -> Option<&E::Node> {
+        None
     }
 }

@@ -1,6 +1,6 @@
 //! What loads have read becomes nodes.
 
-ghost use Rattle.std.specs.Prelude.{List, ◌≡◌, ◌≢◌, ◌+◌, ℕ, Bool, Option, Some, None, IfOk, IfErr, IfSome, IfNone, OnOk, OnErr, not};
+ghost use Rattle.std.specs.Prelude.{List, ◌≡◌, ◌≢◌, ◌+◌, ℕ, Bool, Option, Some, None, IfOk, IfErr, IfSome, IfNone, OnOk, OnErr, not, true};
 ghost use Rattle.pagable_world.specs.declared.handles.Owner.TheVariants as owners;
 ghost use Rattle.pagable_world.specs.Plain.{Blob};
 ghost use Rattle.pagable_world.specs.World.{usable};
@@ -13,7 +13,7 @@ ghost use Rattle.pagable_tables.specs.Asking.{early_fault};
 ghost use Rattle.pagable_tables.specs.Bearing.{OnlyRoom};
 ghost use Rattle.pagable_tables.specs.Core.{core_of, plain_of, IsWhole};
 ghost use Rattle.pagable_tables.specs.Later.{AreLater};
-ghost use Rattle.pagable_pager.specs.View.{core_in, state_in, telling, value_in, OnlyLess};
+ghost use Rattle.pagable_pager.specs.View.{core_in, state_in, telling, value_in, OnlyLess, is_at_work};
 
 use crate::pager::Pager;
 use crate::pager::births::{keep, make_room};
@@ -33,6 +33,7 @@ pub(crate) fn adopt_new<N: Drop>(
     tables: &mut Tables,
     values: &mut IndexMap<u64, Arc<N>>,
     alloc: Global,
+    me: Owner,
     load: LoadNumber,
     kind: Kind,
     key: DataKey,
@@ -43,10 +44,10 @@ pub(crate) fn adopt_new<N: Drop>(
 ) -> Result<HandleNumber, (Error, N)>
     requires whole { IsWhole tables.old }
     requires later { AreLater tables.old }
-    requires fresh { (stored : ℕ → Option Blob) (closed : Bool) (failures : ℕ) → early_fault (core_of tables.old stored closed failures) owners.Caller load kind node_type references.items ≡ None }
+    requires fresh { (stored : ℕ → Option Blob) (closed : Bool) (failures : ℕ) → early_fault (core_of tables.old stored closed failures) me load kind node_type references.items ≡ None }
     requires unknown { usable (plain_of tables.old) kind.0 key ≡ None }
-    ensures adopts { IfOk result (λ k. (stored : ℕ → Option Blob) (closed : Bool) (failures : ℕ) → lists ≡ not closed → Adopts (core_of tables.old stored closed failures) owners.Caller load kind key node_type references.items k (core_of tables.new stored closed failures)) }
-    ensures refused { IfErr result (λ e. (stored : ℕ → Option Blob) (closed : Bool) (failures : ℕ) → Refused (adopt_fault (core_of tables.old stored closed failures) owners.Caller load kind key node_type references.items) (load_fault (core_of tables.old stored closed failures) owners.Caller load) (Unit {0}) (core_of tables.old stored closed failures) e.0 (core_of tables.new stored closed failures)) }
+    ensures adopts { IfOk result (λ k. (stored : ℕ → Option Blob) (closed : Bool) (failures : ℕ) → lists ≡ not closed → Adopts (core_of tables.old stored closed failures) me load kind key node_type references.items k (core_of tables.new stored closed failures)) }
+    ensures refused { IfErr result (λ e. (stored : ℕ → Option Blob) (closed : Bool) (failures : ℕ) → Refused (adopt_fault (core_of tables.old stored closed failures) me load kind key node_type references.items) (load_fault (core_of tables.old stored closed failures) me load) (Unit {0}) (core_of tables.old stored closed failures) e.0 (core_of tables.new stored closed failures)) }
     ensures back { IfErr result (λ e. e.1 ≡ value) }
     ensures room { OnErr result ((stored : ℕ → Option Blob) (closed : Bool) (failures : ℕ) → OnlyRoom (core_of tables.old stored closed failures) (core_of tables.new stored closed failures)) }
     ensures whole { IsWhole tables.new }
@@ -78,16 +79,17 @@ where
     /// Refused with NoSuchHandle, NotYours, WrongMode and WrongKind of the load, the kind and the references; with NumbersSpent and OutOfMemory.
     fn adopt_known(
         &mut self,
+        me: Owner,
         load: LoadNumber,
         kind: Kind,
         key: DataKey,
         node_type: u32,
         references: &[ArcRef],
     ) -> Result<Option<HandleNumber>, Error>
-        ensures known { IfOk result (λ found. IfSome found (λ k. Adopts (core_in (telling S.stored S.is_closed S.failed) self.old) owners.Caller load kind key node_type references.now k (core_in (telling S.stored S.is_closed S.failed) self.new))) }
-        ensures refused { IfErr result (λ e. Refused (adopt_fault (core_in (telling S.stored S.is_closed S.failed) self.old) owners.Caller load kind key node_type references.now) (load_fault (core_in (telling S.stored S.is_closed S.failed) self.old) owners.Caller load) (Unit {0}) (core_in (telling S.stored S.is_closed S.failed) self.old) e (core_in (telling S.stored S.is_closed S.failed) self.new)) }
+        ensures known { IfOk result (λ found. IfSome found (λ k. Adopts (core_in (telling S.stored S.is_closed S.failed) self.old) me load kind key node_type references.now k (core_in (telling S.stored S.is_closed S.failed) self.new))) }
+        ensures refused { IfErr result (λ e. Refused (adopt_fault (core_in (telling S.stored S.is_closed S.failed) self.old) me load kind key node_type references.now) (load_fault (core_in (telling S.stored S.is_closed S.failed) self.old) me load) (Unit {0}) (core_in (telling S.stored S.is_closed S.failed) self.old) e (core_in (telling S.stored S.is_closed S.failed) self.new)) }
         ensures none { IfOk result (λ found. IfNone found (self.new ≡ self.old)) }
-        ensures fresh { (stored : ℕ → Option Blob) (closed : Bool) (failures : ℕ) → IfOk result (λ found. IfNone found (early_fault (core_of self.old.tables stored closed failures) owners.Caller load kind node_type references.now ≡ None)) }
+        ensures fresh { (stored : ℕ → Option Blob) (closed : Bool) (failures : ℕ) → IfOk result (λ found. IfNone found (early_fault (core_of self.old.tables stored closed failures) me load kind node_type references.now ≡ None)) }
         ensures unknown { IfOk result (λ found. IfNone found (usable (plain_of self.old.tables) kind.0 key ≡ None)) }
         ensures only { OnlyLess self.old self.new }
     {
@@ -95,7 +97,7 @@ where
         adopting::adopt_if_known(
             &mut self.tables,
             &mut self.values,
-            Owner::Caller,
+            me,
             load,
             kind,
             key,
@@ -108,6 +110,7 @@ where
     /// A new node of what a load has read, where the cache gives none and nothing is against it. Refused with NumbersSpent and OutOfMemory, and the value comes back.
     fn adopt_as_new(
         &mut self,
+        me: Owner,
         alloc: Global,
         load: LoadNumber,
         kind: Kind,
@@ -116,16 +119,16 @@ where
         node: E::Node,
     ) -> Result<HandleNumber, (Error, E::Node)>
         requires listed { references.items ≡ E.Node.refs_of node }
-        requires fresh { (stored : ℕ → Option Blob) (closed : Bool) (failures : ℕ) → early_fault (core_of self.old.tables stored closed failures) owners.Caller load kind (E.Node.type_of node) references.items ≡ None }
+        requires fresh { (stored : ℕ → Option Blob) (closed : Bool) (failures : ℕ) → early_fault (core_of self.old.tables stored closed failures) me load kind (E.Node.type_of node) references.items ≡ None }
         requires unknown { usable (plain_of self.old.tables) kind.0 key ≡ None }
-        ensures step { AdoptCall (core_in (telling S.stored S.is_closed S.failed) self.old) owners.Caller load kind key node (E.Node.type_of node) (E.Node.refs_of node) result (core_in (telling S.stored S.is_closed S.failed) self.new) }
+        ensures step { AdoptCall (core_in (telling S.stored S.is_closed S.failed) self.old) me load kind key node (E.Node.type_of node) (E.Node.refs_of node) result (core_in (telling S.stored S.is_closed S.failed) self.new) }
         ensures moves { Moves (λ n x. (x ≡ node) × IsNewNode (core_in (telling S.stored S.is_closed S.failed) self.old) n) (state_in (telling S.stored S.is_closed S.failed) self.old) (state_in (telling S.stored S.is_closed S.failed) self.new) }
     {
         let lists = !self.storage.has_closed();
         let node_type = node.node_type();
         let (tables, values) = (&mut self.tables, &mut self.values);
         let handle = match adopt_new(
-            tables, values, alloc, load, kind, key, node_type, references, node, lists,
+            tables, values, alloc, me, load, kind, key, node_type, references, node, lists,
         ) {
             Ok(handle) => handle,
             Err(refused) => return Err(refused),
@@ -134,8 +137,8 @@ where
     }
 
     /// Why a load's value doesn't become a node, whose references can't be listed: the load isn't open, or memory is wanting.
-    fn unlisted(&self, load: LoadNumber) -> Error
-        ensures { (kind : Kind) (key node_type : ℕ) (references : List ArcRef) → Refused (adopt_fault (core_in (telling S.stored S.is_closed S.failed) self.now) owners.Caller load kind key node_type references) (closed_fault (core_in (telling S.stored S.is_closed S.failed) self.now) load) (Unit {0}) (core_in (telling S.stored S.is_closed S.failed) self.now) result (core_in (telling S.stored S.is_closed S.failed) self.now) }
+    fn unlisted(&self, me: Owner, load: LoadNumber) -> Error
+        ensures { (kind : Kind) (key node_type : ℕ) (references : List ArcRef) → Refused (adopt_fault (core_in (telling S.stored S.is_closed S.failed) self.now) me load kind key node_type references) (closed_fault (core_in (telling S.stored S.is_closed S.failed) self.now) load) (Unit {0}) (core_in (telling S.stored S.is_closed S.failed) self.now) result (core_in (telling S.stored S.is_closed S.failed) self.now) }
     {
         match loads::load_of(&self.tables.loads, load.0) {
             Some(_) => Error::OutOfMemory,
@@ -158,16 +161,33 @@ where
         ensures step { AdoptCall (core_in (telling S.stored S.is_closed S.failed) self.old) owners.Caller load kind key node (E.Node.type_of node) (E.Node.refs_of node) result (core_in (telling S.stored S.is_closed S.failed) self.new) }
         ensures moves { Moves (λ n x. (x ≡ node) × IsNewNode (core_in (telling S.stored S.is_closed S.failed) self.old) n) (state_in (telling S.stored S.is_closed S.failed) self.old) (state_in (telling S.stored S.is_closed S.failed) self.new) }
     {
+        self.load_adopt_by(Owner::Caller, alloc, load, kind, key, node)
+    }
+
+    /// The same for this owner.
+    pub(crate) fn load_adopt_by(
+        &mut self,
+        me: Owner,
+        alloc: Global,
+        load: LoadNumber,
+        kind: Kind,
+        key: DataKey,
+        node: E::Node,
+    ) -> Result<HandleNumber, (Error, E::Node)>
+        requires { is_at_work (core_in (telling S.stored S.is_closed S.failed) self.old) me ≡ true }
+        ensures step { AdoptCall (core_in (telling S.stored S.is_closed S.failed) self.old) me load kind key node (E.Node.type_of node) (E.Node.refs_of node) result (core_in (telling S.stored S.is_closed S.failed) self.new) }
+        ensures moves { Moves (λ n x. (x ≡ node) × IsNewNode (core_in (telling S.stored S.is_closed S.failed) self.old) n) (state_in (telling S.stored S.is_closed S.failed) self.old) (state_in (telling S.stored S.is_closed S.failed) self.new) }
+    {
         let Ok(references) = node.refs(alloc) else {
-            return Err((self.unlisted(load), node));
+            return Err((self.unlisted(me, load), node));
         };
-        let found = match self.adopt_known(load, kind, key, node.node_type(), &references) {
+        let found = match self.adopt_known(me, load, kind, key, node.node_type(), &references) {
             Ok(found) => found,
             Err(e) => return Err((e, node)),
         };
         match found {
             Some(known) => Ok(known),
-            None => self.adopt_as_new(alloc, load, kind, key, references, node),
+            None => self.adopt_as_new(me, alloc, load, kind, key, references, node),
         }
     }
 }

@@ -1,9 +1,9 @@
 //! Loads that end.
 
-ghost use Rattle.std.specs.Prelude.{◌≡◌};
+ghost use Rattle.std.specs.Prelude.{◌≡◌, true};
 ghost use Rattle.pagable_world.specs.declared.handles.Owner.TheVariants as owners;
 ghost use Rattle.pagable_world.specs.LoadCalls.{DropCall, HandOverCall};
-ghost use Rattle.pagable_pager.specs.View.{core_in, telling, OnlyLess};
+ghost use Rattle.pagable_pager.specs.View.{core_in, telling, OnlyLess, is_at_work};
 
 use crate::pager::Pager;
 use pagable_codec::{Env, NodeSet};
@@ -22,14 +22,17 @@ where
         ensures step { DropCall (core_in (telling S.stored S.is_closed S.failed) self.old) owners.Caller load result (core_in (telling S.stored S.is_closed S.failed) self.new) }
         ensures only { OnlyLess self.old self.new }
     {
+        self.load_drop_by(Owner::Caller, load)
+    }
+
+    /// The same for this owner.
+    pub(crate) fn load_drop_by(&mut self, me: Owner, load: LoadNumber) -> Result<(), Error>
+        requires { is_at_work (core_in (telling S.stored S.is_closed S.failed) self.old) me ≡ true }
+        ensures step { DropCall (core_in (telling S.stored S.is_closed S.failed) self.old) me load result (core_in (telling S.stored S.is_closed S.failed) self.new) }
+        ensures only { OnlyLess self.old self.new }
+    {
         let lists = !self.storage.has_closed();
-        ending::load_drop(
-            &mut self.tables,
-            &mut self.values,
-            Owner::Caller,
-            load,
-            lists,
-        )
+        ending::load_drop(&mut self.tables, &mut self.values, me, load, lists)
     }
 
     /// A load of a key hands the named handles over to the caller, gives up the rest and is closed. Refused with NoSuchHandle, NotYours where another began the load
@@ -38,14 +41,21 @@ where
         ensures step { HandOverCall (core_in (telling S.stored S.is_closed S.failed) self.old) owners.Caller load named.now result (core_in (telling S.stored S.is_closed S.failed) self.new) }
         ensures only { OnlyLess self.old self.new }
     {
+        self.load_take_by(Owner::Caller, load, named)
+    }
+
+    /// The same for this owner.
+    pub(crate) fn load_take_by(
+        &mut self,
+        me: Owner,
+        load: LoadNumber,
+        named: &[HandleNumber],
+    ) -> Result<(), Error>
+        requires { is_at_work (core_in (telling S.stored S.is_closed S.failed) self.old) me ≡ true }
+        ensures step { HandOverCall (core_in (telling S.stored S.is_closed S.failed) self.old) me load named.now result (core_in (telling S.stored S.is_closed S.failed) self.new) }
+        ensures only { OnlyLess self.old self.new }
+    {
         let lists = !self.storage.has_closed();
-        ending::load_take(
-            &mut self.tables,
-            &mut self.values,
-            Owner::Caller,
-            load,
-            named,
-            lists,
-        )
+        ending::load_take(&mut self.tables, &mut self.values, me, load, named, lists)
     }
 }

@@ -1,9 +1,9 @@
 //! Handles that come to live nodes, and what is asked of them.
 
-ghost use Rattle.std.specs.Prelude.{◌≡◌};
+ghost use Rattle.std.specs.Prelude.{◌≡◌, true};
 ghost use Rattle.pagable_world.specs.declared.handles.Owner.TheVariants as owners;
 ghost use Rattle.pagable_world.specs.Calls.{CloneCall, PinCall, LoosenCall, CountCall, KeyCall, AwayCall, NodeCall, TypeCall};
-ghost use Rattle.pagable_pager.specs.View.{core_in, telling, OnlyTables};
+ghost use Rattle.pagable_pager.specs.View.{core_in, telling, OnlyTables, is_at_work};
 
 use crate::pager::Pager;
 use pagable_codec::{Env, NodeSet};
@@ -23,7 +23,20 @@ where
         ensures step { CloneCall (core_in (telling S.stored S.is_closed S.failed) self.old) owners.Caller handle result (core_in (telling S.stored S.is_closed S.failed) self.new) }
         ensures only { OnlyTables self.old self.new }
     {
-        making::clone(&mut self.tables, Owner::Caller, handle)
+        self.clone_by(Owner::Caller, handle)
+    }
+
+    /// The same for this owner.
+    pub(crate) fn clone_by(
+        &mut self,
+        me: Owner,
+        handle: HandleNumber,
+    ) -> Result<HandleNumber, Error>
+        requires { is_at_work (core_in (telling S.stored S.is_closed S.failed) self.old) me ≡ true }
+        ensures step { CloneCall (core_in (telling S.stored S.is_closed S.failed) self.old) me handle result (core_in (telling S.stored S.is_closed S.failed) self.new) }
+        ensures only { OnlyTables self.old self.new }
+    {
+        making::clone(&mut self.tables, me, handle)
     }
 
     /// A Pinned handle becomes a loose pinned one, and keeps its number. It takes no memory. Refused with NoSuchHandle, NotYours, and WrongMode where the handle
@@ -41,7 +54,16 @@ where
         ensures step { PinCall (core_in (telling S.stored S.is_closed S.failed) self.old) owners.Caller handle result (core_in (telling S.stored S.is_closed S.failed) self.new) }
         ensures only { OnlyTables self.old self.new }
     {
-        pinning::pin(&mut self.tables, Owner::Caller, handle)
+        self.pin_by(Owner::Caller, handle)
+    }
+
+    /// The same for this owner.
+    pub(crate) fn pin_by(&mut self, me: Owner, handle: HandleNumber) -> Result<Pinning, Error>
+        requires { is_at_work (core_in (telling S.stored S.is_closed S.failed) self.old) me ≡ true }
+        ensures step { PinCall (core_in (telling S.stored S.is_closed S.failed) self.old) me handle result (core_in (telling S.stored S.is_closed S.failed) self.new) }
+        ensures only { OnlyTables self.old self.new }
+    {
+        pinning::pin(&mut self.tables, me, handle)
     }
 
     /// How many handles pin the node. Refused with NoSuchHandle.

@@ -15,10 +15,11 @@ ghost use Rattle.pagable_tables.specs.Later.{AreLater};
 ghost use Rattle.pagable_tables.specs.ByNumber.{counts_at};
 ghost use Rattle.pagable_tables.specs.Falling.{Sheds};
 ghost use Rattle.pagable_tables.specs.Ready.{IsReady, HasPlace, Unends};
-ghost use Rattle.pagable_pager.specs.View.{core_in, state_in, telling, value_in};
+ghost use Rattle.pagable_pager.specs.View.{core_in, state_in, telling, value_in, is_at_work};
 ghost use Rattle.pagable_pager.specs.Puts.{PutsIn};
 
 use crate::pager::Pager;
+use crate::pager::births::{keep, make_room};
 use indexmap::IndexMap;
 use pagable_codec::{Env, NodeSet};
 use pagable_core::PagableStorage;
@@ -27,33 +28,15 @@ use pagable_tables::installing::{Ending, Unended};
 use pagable_tables::tables::Tables;
 use pagable_tables::{ending, installing, loads};
 use pagable_world::handles::Owner;
-use std::alloc::{AllocError, Global};
+use std::alloc::Global;
 use std::sync::Arc;
-
-/// Room for one more value.
-fn make_room<N>(values: &mut IndexMap<u64, Arc<N>>) -> Result<(), AllocError>
-    ensures same { (n : ℕ) → value_in values.new n ≡ value_in values.old n }
-    ensures room { OnOk result (0 < spare values.new) }
-{
-    values.reserve(1)
-}
-
-/// A value is in memory from now on, under its node's number.
-fn keep<N: Drop>(values: &mut IndexMap<u64, Arc<N>>, node: u64, value: Arc<N>)
-    requires { 0 < spare values.old }
-    ensures here { value_in values.new node ≡ Some (arc_value value) }
-    ensures others { (n : ℕ) → n ≢ node → value_in values.new n ≡ value_in values.old n }
-{
-    let Ok(_) = values.insert(node, value) else {
-        unreachable!();
-    };
-}
 
 /// The value comes to the load's cell, which has none, and the load ends. Refused by memory alone, and the value comes back.
 fn put<N: Drop>(
     tables: &mut Tables,
     values: &mut IndexMap<u64, Arc<N>>,
     alloc: Global,
+    me: Owner,
     load: LoadNumber,
     node_type: u32,
     references: Vec<ArcRef>,
@@ -63,11 +46,11 @@ fn put<N: Drop>(
 ) -> Result<HandleNumber, N>
     requires whole { IsWhole tables.old }
     requires later { AreLater tables.old }
-    requires ready { (stored : ℕ → Option Blob) (closed : Bool) (failures : ℕ) → IsReady (core_of tables.old stored closed failures) owners.Caller load node_type references.items ending }
+    requires ready { (stored : ℕ → Option Blob) (closed : Bool) (failures : ℕ) → IsReady (core_of tables.old stored closed failures) me load node_type references.items ending }
     requires place { HasPlace tables.old load ending }
     requires away { ending.is_away ≡ true }
     ensures installs { IfOk result (λ k. (stored : ℕ → Option Blob) (closed : Bool) (failures : ℕ) → lists ≡ not closed
-        → Installs (core_of tables.old stored closed failures) owners.Caller load ending.row.node ending.row.number k references.items (core_of tables.new stored closed failures)) }
+        → Installs (core_of tables.old stored closed failures) me load ending.row.node ending.row.number k references.items (core_of tables.new stored closed failures)) }
     ensures whole { IsWhole tables.new }
     ensures later { AreLater tables.new }
     ensures puts { OnOk result (PutsIn true ending.row.node.0 value tables.old values.old tables.new values.new) }
@@ -84,14 +67,7 @@ fn put<N: Drop>(
     };
     keep(values, ending.row.node.0, value);
     Ok(installing::install(
-        tables,
-        values,
-        Owner::Caller,
-        load,
-        node_type,
-        references,
-        ending,
-        lists,
+        tables, values, me, load, node_type, references, ending, lists,
     ))
 }
 
@@ -100,6 +76,7 @@ fn finish<N: Drop>(
     tables: &mut Tables,
     values: &mut IndexMap<u64, Arc<N>>,
     alloc: Global,
+    me: Owner,
     load: LoadNumber,
     node_type: u32,
     references: Vec<ArcRef>,
@@ -109,10 +86,10 @@ fn finish<N: Drop>(
 ) -> Result<HandleNumber, N>
     requires whole { IsWhole tables.old }
     requires later { AreLater tables.old }
-    requires ready { (stored : ℕ → Option Blob) (closed : Bool) (failures : ℕ) → IsReady (core_of tables.old stored closed failures) owners.Caller load node_type references.items ending }
+    requires ready { (stored : ℕ → Option Blob) (closed : Bool) (failures : ℕ) → IsReady (core_of tables.old stored closed failures) me load node_type references.items ending }
     requires place { HasPlace tables.old load ending }
     ensures installs { IfOk result (λ k. (stored : ℕ → Option Blob) (closed : Bool) (failures : ℕ) → lists ≡ not closed
-        → Installs (core_of tables.old stored closed failures) owners.Caller load ending.row.node ending.row.number k references.items (core_of tables.new stored closed failures)) }
+        → Installs (core_of tables.old stored closed failures) me load ending.row.node ending.row.number k references.items (core_of tables.new stored closed failures)) }
     ensures whole { IsWhole tables.new }
     ensures later { AreLater tables.new }
     ensures puts { OnOk result (PutsIn ending.is_away ending.row.node.0 value tables.old values.old tables.new values.new) }
@@ -122,13 +99,13 @@ fn finish<N: Drop>(
 {
     if ending.is_away {
         return put(
-            tables, values, alloc, load, node_type, references, value, ending, lists,
+            tables, values, alloc, me, load, node_type, references, value, ending, lists,
         );
     }
     Ok(installing::end_beside(
         tables,
         values,
-        Owner::Caller,
+        me,
         load,
         node_type,
         &references,
@@ -141,6 +118,7 @@ fn finish<N: Drop>(
 fn give_back<N: Drop>(
     tables: &mut Tables,
     values: &mut IndexMap<u64, Arc<N>>,
+    me: Owner,
     load: LoadNumber,
     value: N,
     unended: Unended,
@@ -149,8 +127,8 @@ fn give_back<N: Drop>(
     requires whole { IsWhole tables.old }
     requires later { AreLater tables.old }
     ensures refused { (w : Core) (node_type : ℕ) (references : List ArcRef) (stored : ℕ → Option Blob) (closed : Bool) (failures : ℕ) → lists ≡ not closed
-        → Unends w owners.Caller load node_type references unended (core_of tables.old stored closed failures)
-        → EndRefused w owners.Caller load value node_type references result.0 result.1 (core_of tables.new stored closed failures) }
+        → Unends w me load node_type references unended (core_of tables.old stored closed failures)
+        → EndRefused w me load value node_type references result.0 result.1 (core_of tables.new stored closed failures) }
     ensures whole { IsWhole tables.new }
     ensures later { AreLater tables.new }
     ensures sheds { Sheds (counts_at tables.old.holdings.nodes) (get nat_eq values.old) (counts_at tables.new.holdings.nodes) (get nat_eq values.new) }
@@ -158,7 +136,7 @@ fn give_back<N: Drop>(
     match unended {
         Unended::Refused(e) => (e, Some(value)),
         Unended::InVain(e) => {
-            let _ = ending::load_drop(tables, values, Owner::Caller, load, lists);
+            let _ = ending::load_drop(tables, values, me, load, lists);
             (e, None)
         }
     }
@@ -171,24 +149,25 @@ where
     /// The load ends with a value that has these references.
     fn end_with(
         &mut self,
+        me: Owner,
         alloc: Global,
         load: LoadNumber,
         value: E::Node,
         references: Vec<ArcRef>,
     ) -> Result<HandleNumber, (Error, Option<E::Node>)>
         requires { references.items ≡ E.Node.refs_of value }
-        ensures step { EndCall (core_in (telling S.stored S.is_closed S.failed) self.old) owners.Caller load value (E.Node.type_of value) (E.Node.refs_of value) result (core_in (telling S.stored S.is_closed S.failed) self.new) }
+        ensures step { EndCall (core_in (telling S.stored S.is_closed S.failed) self.old) me load value (E.Node.type_of value) (E.Node.refs_of value) result (core_in (telling S.stored S.is_closed S.failed) self.new) }
         ensures moves { Moves (λ n x. (x ≡ value) × IsCellOf (core_in (telling S.stored S.is_closed S.failed) self.old) load n) (state_in (telling S.stored S.is_closed S.failed) self.old) (state_in (telling S.stored S.is_closed S.failed) self.new) }
     {
         let lists = !self.storage.has_closed();
         let (tables, values) = (&mut self.tables, &mut self.values);
-        let (me, node_type) = (Owner::Caller, value.node_type());
+        let node_type = value.node_type();
         let ready = match installing::prepare_end(tables, me, load, node_type, &references) {
             Ok(ready) => ready,
-            Err(unended) => return Err(give_back(tables, values, load, value, unended, lists)),
+            Err(unended) => return Err(give_back(tables, values, me, load, value, unended, lists)),
         };
         let handle = match finish(
-            tables, values, alloc, load, node_type, references, value, ready, lists,
+            tables, values, alloc, me, load, node_type, references, value, ready, lists,
         ) {
             Ok(handle) => handle,
             Err(value) => return Err((Error::OutOfMemory, Some(value))),
@@ -197,8 +176,8 @@ where
     }
 
     /// Why a load doesn't end with a value whose references can't be listed: it isn't open, or memory is wanting.
-    fn unread(&self, load: LoadNumber) -> Error
-        ensures { (node_type : ℕ) (references : List ArcRef) → Refused (end_fault (core_in (telling S.stored S.is_closed S.failed) self.now) owners.Caller load node_type references) (closed_fault (core_in (telling S.stored S.is_closed S.failed) self.now) load) (Unit {0}) (core_in (telling S.stored S.is_closed S.failed) self.now) result (core_in (telling S.stored S.is_closed S.failed) self.now) }
+    fn unread(&self, me: Owner, load: LoadNumber) -> Error
+        ensures { (node_type : ℕ) (references : List ArcRef) → Refused (end_fault (core_in (telling S.stored S.is_closed S.failed) self.now) me load node_type references) (closed_fault (core_in (telling S.stored S.is_closed S.failed) self.now) load) (Unit {0}) (core_in (telling S.stored S.is_closed S.failed) self.now) result (core_in (telling S.stored S.is_closed S.failed) self.now) }
     {
         match loads::load_of(&self.tables.loads, load.0) {
             Some(_) => Error::OutOfMemory,
@@ -220,9 +199,24 @@ where
         ensures step { EndCall (core_in (telling S.stored S.is_closed S.failed) self.old) owners.Caller load value (E.Node.type_of value) (E.Node.refs_of value) result (core_in (telling S.stored S.is_closed S.failed) self.new) }
         ensures moves { Moves (λ n x. (x ≡ value) × IsCellOf (core_in (telling S.stored S.is_closed S.failed) self.old) load n) (state_in (telling S.stored S.is_closed S.failed) self.old) (state_in (telling S.stored S.is_closed S.failed) self.new) }
     {
+        self.load_end_by(Owner::Caller, alloc, load, value)
+    }
+
+    /// The same for this owner.
+    pub(crate) fn load_end_by(
+        &mut self,
+        me: Owner,
+        alloc: Global,
+        load: LoadNumber,
+        value: E::Node,
+    ) -> Result<HandleNumber, (Error, Option<E::Node>)>
+        requires { is_at_work (core_in (telling S.stored S.is_closed S.failed) self.old) me ≡ true }
+        ensures step { EndCall (core_in (telling S.stored S.is_closed S.failed) self.old) me load value (E.Node.type_of value) (E.Node.refs_of value) result (core_in (telling S.stored S.is_closed S.failed) self.new) }
+        ensures moves { Moves (λ n x. (x ≡ value) × IsCellOf (core_in (telling S.stored S.is_closed S.failed) self.old) load n) (state_in (telling S.stored S.is_closed S.failed) self.old) (state_in (telling S.stored S.is_closed S.failed) self.new) }
+    {
         match value.refs(alloc) {
-            Ok(references) => self.end_with(alloc, load, value, references),
-            Err(_) => Err((self.unread(load), Some(value))),
+            Ok(references) => self.end_with(me, alloc, load, value, references),
+            Err(_) => Err((self.unread(me, load), Some(value))),
         }
     }
 }

@@ -1,6 +1,6 @@
 //! Loads, by steps.
 
-ghost use Rattle.std.specs.Prelude.{◌≡◌, IfOk, IfNone};
+ghost use Rattle.std.specs.Prelude.{◌≡◌, IfOk, IfNone, true};
 ghost use Rattle.std.specs.Arc.{arc_value};
 ghost use Rattle.pagable_core.specs.Data.{blob_of};
 ghost use Rattle.pagable_world.specs.declared.handles.Owner.TheVariants as owners;
@@ -8,7 +8,7 @@ ghost use Rattle.pagable_world.specs.declared.calls.Want.TheVariants as wants;
 ghost use Rattle.pagable_world.specs.World.{seen_as};
 ghost use Rattle.pagable_world.specs.LoadCalls.{AskCall, BeginCall, BeginKeyCall, LazyCall};
 ghost use Rattle.pagable_tables.specs.Asking.{AsksKnown};
-ghost use Rattle.pagable_pager.specs.View.{core_in, telling, given_as, OnlyTables, OnlyStorage, SameValues};
+ghost use Rattle.pagable_pager.specs.View.{core_in, telling, given_as, OnlyTables, OnlyStorage, SameValues, is_at_work};
 
 use crate::pager::Pager;
 use either::Either;
@@ -30,7 +30,16 @@ where
         ensures step { BeginKeyCall (core_in (telling S.stored S.is_closed S.failed) self.old) owners.Caller key result (core_in (telling S.stored S.is_closed S.failed) self.new) }
         ensures only { OnlyTables self.old self.new }
     {
-        begins::load_key(&mut self.tables, Owner::Caller, key)
+        self.load_key_by(Owner::Caller, key)
+    }
+
+    /// The same for this owner.
+    pub(crate) fn load_key_by(&mut self, me: Owner, key: DataKey) -> Result<Beginning, Error>
+        requires { is_at_work (core_in (telling S.stored S.is_closed S.failed) self.old) me ≡ true }
+        ensures step { BeginKeyCall (core_in (telling S.stored S.is_closed S.failed) self.old) me key result (core_in (telling S.stored S.is_closed S.failed) self.new) }
+        ensures only { OnlyTables self.old self.new }
+    {
+        begins::load_key(&mut self.tables, me, key)
     }
 
     /// A load of a loose handle's cell, with an unpinned clone of the handle; or InMemory, where the value needn't be read. Refused with NoSuchHandle, NotYours,
@@ -39,19 +48,33 @@ where
         ensures step { BeginCall (core_in (telling S.stored S.is_closed S.failed) self.old) owners.Caller handle result (core_in (telling S.stored S.is_closed S.failed) self.new) }
         ensures only { OnlyTables self.old self.new }
     {
-        loading::load_begin(&mut self.tables, Owner::Caller, handle)
+        self.load_begin_by(Owner::Caller, handle)
+    }
+
+    /// The same for this owner.
+    pub(crate) fn load_begin_by(
+        &mut self,
+        me: Owner,
+        handle: HandleNumber,
+    ) -> Result<Beginning, Error>
+        requires { is_at_work (core_in (telling S.stored S.is_closed S.failed) self.old) me ≡ true }
+        ensures step { BeginCall (core_in (telling S.stored S.is_closed S.failed) self.old) me handle result (core_in (telling S.stored S.is_closed S.failed) self.new) }
+        ensures only { OnlyTables self.old self.new }
+    {
+        loading::load_begin(&mut self.tables, me, handle)
     }
 
     /// The blob of the load's own key.
     fn fetch_root(
         &mut self,
+        me: Owner,
         alloc: Global,
         load: LoadNumber,
     ) -> Result<Either<HandleNumber, Arc<PagableData>>, Error>
-        ensures step { AskCall (core_in (telling S.stored S.is_closed S.failed) self.old) owners.Caller load wants.Root (seen_as (given_as (λ d. blob_of (arc_value d))) result) (core_in (telling S.stored S.is_closed S.failed) self.new) }
+        ensures step { AskCall (core_in (telling S.stored S.is_closed S.failed) self.old) me load wants.Root (seen_as (given_as (λ d. blob_of (arc_value d))) result) (core_in (telling S.stored S.is_closed S.failed) self.new) }
         ensures only { OnlyStorage self.old self.new }
     {
-        let row = match loading::load_row(&self.tables, Owner::Caller, load) {
+        let row = match loading::load_row(&self.tables, me, load) {
             Ok(row) => row,
             Err(e) => return Err(e),
         };
@@ -65,29 +88,31 @@ where
     /// A handle of the load's, of the node that the cache gives; or None where it gives none.
     fn load_known(
         &mut self,
+        me: Owner,
         load: LoadNumber,
         kind: Kind,
         key: DataKey,
     ) -> Result<Option<HandleNumber>, Error>
-        ensures step { AsksKnown (core_in (telling S.stored S.is_closed S.failed) self.old) owners.Caller load kind key result (core_in (telling S.stored S.is_closed S.failed) self.new) }
+        ensures step { AsksKnown (core_in (telling S.stored S.is_closed S.failed) self.old) me load kind key result (core_in (telling S.stored S.is_closed S.failed) self.new) }
         ensures none { IfOk result (λ found. IfNone found (core_in (telling S.stored S.is_closed S.failed) self.new ≡ core_in (telling S.stored S.is_closed S.failed) self.old)) }
         ensures only { OnlyTables self.old self.new }
     {
-        loading::load_known(&mut self.tables, Owner::Caller, load, kind, key)
+        loading::load_known(&mut self.tables, me, load, kind, key)
     }
 
     /// The node, or else the blob, of a reference.
     fn fetch_nested(
         &mut self,
+        me: Owner,
         alloc: Global,
         load: LoadNumber,
         kind: Kind,
         key: DataKey,
     ) -> Result<Either<HandleNumber, Arc<PagableData>>, Error>
-        ensures step { AskCall (core_in (telling S.stored S.is_closed S.failed) self.old) owners.Caller load (wants.Nested kind key) (seen_as (given_as (λ d. blob_of (arc_value d))) result) (core_in (telling S.stored S.is_closed S.failed) self.new) }
+        ensures step { AskCall (core_in (telling S.stored S.is_closed S.failed) self.old) me load (wants.Nested kind key) (seen_as (given_as (λ d. blob_of (arc_value d))) result) (core_in (telling S.stored S.is_closed S.failed) self.new) }
         ensures only { SameValues self.old self.new }
     {
-        match self.load_known(load, kind, key) {
+        match self.load_known(me, load, kind, key) {
             Ok(Some(known)) => return Ok(Either::Left(known)),
             Ok(None) => {}
             Err(e) => return Err(e),
@@ -111,9 +136,24 @@ where
         ensures step { AskCall (core_in (telling S.stored S.is_closed S.failed) self.old) owners.Caller load want (seen_as (given_as (λ d. blob_of (arc_value d))) result) (core_in (telling S.stored S.is_closed S.failed) self.new) }
         ensures only { SameValues self.old self.new }
     {
+        self.load_fetch_by(Owner::Caller, alloc, load, want)
+    }
+
+    /// The same for this owner.
+    pub(crate) fn load_fetch_by(
+        &mut self,
+        me: Owner,
+        alloc: Global,
+        load: LoadNumber,
+        want: Want,
+    ) -> Result<Either<HandleNumber, Arc<PagableData>>, Error>
+        requires { is_at_work (core_in (telling S.stored S.is_closed S.failed) self.old) me ≡ true }
+        ensures step { AskCall (core_in (telling S.stored S.is_closed S.failed) self.old) me load want (seen_as (given_as (λ d. blob_of (arc_value d))) result) (core_in (telling S.stored S.is_closed S.failed) self.new) }
+        ensures only { SameValues self.old self.new }
+    {
         match want {
-            Want::Root => self.fetch_root(alloc, load),
-            Want::Nested(kind, key) => self.fetch_nested(alloc, load, kind, key),
+            Want::Root => self.fetch_root(me, alloc, load),
+            Want::Nested(kind, key) => self.fetch_nested(me, alloc, load, kind, key),
         }
     }
 
@@ -129,15 +169,23 @@ where
         ensures step { LazyCall (core_in (telling S.stored S.is_closed S.failed) self.old) owners.Caller load kind key result (core_in (telling S.stored S.is_closed S.failed) self.new) }
         ensures only { OnlyTables self.old self.new }
     {
+        self.load_lazy_by(Owner::Caller, alloc, load, kind, key)
+    }
+
+    /// The same for this owner.
+    pub(crate) fn load_lazy_by(
+        &mut self,
+        me: Owner,
+        alloc: Global,
+        load: LoadNumber,
+        kind: Kind,
+        key: DataKey,
+    ) -> Result<HandleNumber, Error>
+        requires { is_at_work (core_in (telling S.stored S.is_closed S.failed) self.old) me ≡ true }
+        ensures step { LazyCall (core_in (telling S.stored S.is_closed S.failed) self.old) me load kind key result (core_in (telling S.stored S.is_closed S.failed) self.new) }
+        ensures only { OnlyTables self.old self.new }
+    {
         let lists = !self.storage.has_closed();
-        adopting::load_lazy(
-            &mut self.tables,
-            Owner::Caller,
-            load,
-            kind,
-            key,
-            lists,
-            alloc,
-        )
+        adopting::load_lazy(&mut self.tables, me, load, kind, key, lists, alloc)
     }
 }

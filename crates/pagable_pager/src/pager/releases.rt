@@ -1,9 +1,9 @@
 //! Handles that let go, with all that goes with them.
 
-ghost use Rattle.std.specs.Prelude.{◌≡◌};
+ghost use Rattle.std.specs.Prelude.{◌≡◌, true};
 ghost use Rattle.pagable_world.specs.declared.handles.Owner.TheVariants as owners;
 ghost use Rattle.pagable_world.specs.Calls.{ReleaseCall, UnpinCall, SetKeyCall};
-ghost use Rattle.pagable_pager.specs.View.{core_in, telling, OnlyLess};
+ghost use Rattle.pagable_pager.specs.View.{core_in, telling, OnlyLess, is_at_work};
 
 use crate::pager::Pager;
 use pagable_codec::{Env, NodeSet};
@@ -23,14 +23,17 @@ where
         ensures step { UnpinCall (core_in (telling S.stored S.is_closed S.failed) self.old) owners.Caller handle result (core_in (telling S.stored S.is_closed S.failed) self.new) }
         ensures only { OnlyLess self.old self.new }
     {
+        self.unpin_by(Owner::Caller, handle)
+    }
+
+    /// The same for this owner.
+    pub(crate) fn unpin_by(&mut self, me: Owner, handle: HandleNumber) -> Result<(), Error>
+        requires { is_at_work (core_in (telling S.stored S.is_closed S.failed) self.old) me ≡ true }
+        ensures step { UnpinCall (core_in (telling S.stored S.is_closed S.failed) self.old) me handle result (core_in (telling S.stored S.is_closed S.failed) self.new) }
+        ensures only { OnlyLess self.old self.new }
+    {
         let lists = !self.storage.has_closed();
-        unpins::unpin(
-            &mut self.tables,
-            &mut self.values,
-            Owner::Caller,
-            handle,
-            lists,
-        )
+        unpins::unpin(&mut self.tables, &mut self.values, me, handle, lists)
     }
 
     /// A handle is given up; a pinning one lets its pin go as `unpin` does. A node without handles is gone, and its value with all handles that it owns, and so on.
@@ -39,14 +42,17 @@ where
         ensures step { ReleaseCall (core_in (telling S.stored S.is_closed S.failed) self.old) owners.Caller handle result (core_in (telling S.stored S.is_closed S.failed) self.new) }
         ensures only { OnlyLess self.old self.new }
     {
+        self.release_by(Owner::Caller, handle)
+    }
+
+    /// The same for this owner.
+    pub(crate) fn release_by(&mut self, me: Owner, handle: HandleNumber) -> Result<(), Error>
+        requires { is_at_work (core_in (telling S.stored S.is_closed S.failed) self.old) me ≡ true }
+        ensures step { ReleaseCall (core_in (telling S.stored S.is_closed S.failed) self.old) me handle result (core_in (telling S.stored S.is_closed S.failed) self.new) }
+        ensures only { OnlyLess self.old self.new }
+    {
         let lists = !self.storage.has_closed();
-        releases::release(
-            &mut self.tables,
-            &mut self.values,
-            Owner::Caller,
-            handle,
-            lists,
-        )
+        releases::release(&mut self.tables, &mut self.values, me, handle, lists)
     }
 
     /// The cell of a loose handle gets a key, which replaces an older one, and its value goes where nothing pins it. Through a handle of another mode nothing
@@ -55,14 +61,21 @@ where
         ensures step { SetKeyCall (core_in (telling S.stored S.is_closed S.failed) self.old) owners.Caller handle key result (core_in (telling S.stored S.is_closed S.failed) self.new) }
         ensures only { OnlyLess self.old self.new }
     {
+        self.set_data_key_by(Owner::Caller, handle, key)
+    }
+
+    /// The same for this owner.
+    pub(crate) fn set_data_key_by(
+        &mut self,
+        me: Owner,
+        handle: HandleNumber,
+        key: DataKey,
+    ) -> Result<(), Error>
+        requires { is_at_work (core_in (telling S.stored S.is_closed S.failed) self.old) me ≡ true }
+        ensures step { SetKeyCall (core_in (telling S.stored S.is_closed S.failed) self.old) me handle key result (core_in (telling S.stored S.is_closed S.failed) self.new) }
+        ensures only { OnlyLess self.old self.new }
+    {
         let lists = !self.storage.has_closed();
-        keys::set_data_key(
-            &mut self.tables,
-            &mut self.values,
-            Owner::Caller,
-            handle,
-            key,
-            lists,
-        )
+        keys::set_data_key(&mut self.tables, &mut self.values, me, handle, key, lists)
     }
 }

@@ -1,26 +1,10 @@
 -- Calls by which a load goes on keep the world whole.
-use Rattle.std.proofs.Common.{◌≡◌, ℕ, ◌+◌, ◌<◌, ◌==◌, ◌%◌, Bool, true, false, if◌then◌else◌, List, [], Ok, Err, Some, None, inl, inr, refl, ap, sym, ◌∙◌, arith}
-use Rattle.std.specs.Prelude.{Result, is_some}
-use Rattle.std.proofs.lemmas.Bool.Decides.{nat_tests}
-use Rattle.pagable_model.specs.declared.data_key.OptionalDataKey.{OptionalDataKey}
-use Rattle.pagable_model.specs.declared.data_key.OptionalDataKey.TheVariants as optional
-use Rattle.pagable_model.specs.declared.error.Error.{Error}
-use Rattle.pagable_model.specs.declared.numbers.ArcRef.{ArcRef}
-use Rattle.pagable_model.specs.declared.numbers.HandleNumber.{HandleNumber}
-use Rattle.pagable_model.specs.declared.numbers.Kind.{Kind}
-use Rattle.pagable_model.specs.declared.numbers.LoadNumber.{LoadNumber}
-use Rattle.pagable_world.specs.declared.handles.Owner.{Owner}
-use Rattle.pagable_world.specs.declared.handles.Owner.TheVariants as owners
-use Rattle.pagable_world.specs.Plain.{Blob, type_of, is_loose_kind}
-use Rattle.pagable_world.specs.Kinds.{is_shared, mode_of, has_key}
-use Rattle.pagable_world.specs.World.{Core, greatest}
-use Rattle.pagable_world.specs.Refusals.{references_fault, OwnsLoad}
-use Rattle.pagable_world.specs.Calls.{row_of, next_node, with_handle, with_node, with_cached, FetchCall, is_named_by}
-use Rattle.pagable_world.specs.LoadCalls.{GetsKnown, adopted, first_key, LazyCall, AdoptCall}
-use Rattle.pagable_world.specs.Pager.{IsWhole, IsEntryWhole}
-use Rattle.pagable_tables.specs.Core.{ArePlaced, MayHold}
+use Rattle.pagable_tables.proofs.Words.{◌≡◌, ℕ, ◌+◌, ◌<◌, ◌==◌, ◌%◌, Bool, true, false, if◌then◌else◌, List, [], Ok, Err, Some, None, inl, inr, refl, ap, sym, ◌∙◌, arith, Result, is_some}
+use Rattle.pagable_tables.proofs.Words.{nat_tests, OptionalDataKey, Error, ArcRef, HandleNumber, Kind, LoadNumber, Owner, type_of, is_loose_kind, is_shared, mode_of, has_key, Core}
+use Rattle.pagable_tables.proofs.Words.{greatest, references_fault, OwnsLoad, row_of, next_node, with_handle, with_node, with_cached, is_named_by, GetsKnown, adopted, first_key}
+use Rattle.pagable_tables.proofs.Words.{LazyCall, AdoptCall, IsWhole, IsEntryWhole, ArePlaced, MayHold}
 use Rattle.pagable_tables.proofs.keeps.Rows.{among-last}
-use Rattle.pagable_tables.proofs.keeps.Told.{roomy, settles, told-whole, alike-whole}
+use Rattle.pagable_tables.proofs.keeps.Told.{roomy, settles, alike-whole}
 use Rattle.pagable_tables.proofs.keeps.Comes.{type_in, handle-on}
 use Rattle.pagable_tables.proofs.keeps.Fallen.{may-fall}
 use Rattle.pagable_tables.proofs.keeps.Opened.{opened, alike-opened, falls-opened, references-opened}
@@ -28,41 +12,38 @@ use Rattle.pagable_tables.proofs.keeps.CacheCalls.{mode-shared, known-whole, cac
 use Rattle.pagable_tables.proofs.keeps.BirthCalls.{born, born-whole, cell-new, no-references, moved-world}
 
 -- an open load may hold
-load-holds : {w : Core} {me : Owner} {l : LoadNumber} (load : _) → OwnsLoad w me l load → MayHold w (owners.Load l)
+load-holds : {w : Core} {me : Owner} {l : LoadNumber} (load : _) → OwnsLoad w me l load → MayHold w (Owner.Load l)
 load-holds load owns = ap is_some owns.stands_open
 
-fetch-whole : {w w' : Core} (key : ℕ) (r : Result Blob Error) → IsWhole (opened w) → FetchCall w key r w' → ArePlaced (opened w') → IsWhole (opened w')
-fetch-whole key r whole call placed = let a = call.asked.leaves in told-whole whole a.rows a.cells a.list a.cache.only refl a.loads a.workers a.last placed
-
-gets-whole : {w w' : Core} (l : LoadNumber) (kind : Kind) (key : ℕ) (k : HandleNumber) → IsWhole (opened w) → MayHold w (owners.Load l) → GetsKnown w l kind key k w' → ArePlaced (opened w')
+gets-whole : {w w' : Core} (l : LoadNumber) (kind : Kind) (key : ℕ) (k : HandleNumber) → IsWhole (opened w) → MayHold w (Owner.Load l) → GetsKnown w l kind key k w' → ArePlaced (opened w')
     → IsWhole (opened w')
-gets-whole l kind key k whole holder gets placed = settles (known-whole kind key gets.n (owners.Load l) whole gets.known holder gets.next.is_left) (alike-opened gets.leaves) placed
+gets-whole l kind key k whole holder gets placed = settles (known-whole kind key gets.n (Owner.Load l) whole gets.known holder gets.next.is_left) (alike-opened gets.leaves) placed
 
 -- ---- a node that was read
 
-module _ (w : Core) (whole : IsWhole (opened w)) (l : LoadNumber) (kind : Kind) (key : ℕ) (own : OptionalDataKey) (refs : List ArcRef) (holder : MayHold w (owners.Load l))
-    (good : references_fault (opened w) (owners.Load l) [] refs ≡ None) (node_left : w.last.node < greatest) (left : w.last.handle < greatest)
+module _ (w : Core) (whole : IsWhole (opened w)) (l : LoadNumber) (kind : Kind) (key : ℕ) (own : OptionalDataKey) (refs : List ArcRef) (holder : MayHold w (Owner.Load l))
+    (good : references_fault (opened w) (Owner.Load l) [] refs ≡ None) (node_left : w.last.node < greatest) (left : w.last.handle < greatest)
     (unkeyed : is_shared (mode_of kind.0) ≡ true → has_key own ≡ false) where
   abbrev now : Core
-  now = born whole (type_of kind.0) own refs (mode_of kind.0) (owners.Load l) (owners.Load l) refl good holder node_left left unkeyed
+  now = born whole (type_of kind.0) own refs (mode_of kind.0) (Owner.Load l) (Owner.Load l) refl good holder node_left left unkeyed
 
   now-whole : IsWhole (roomy now)
-  now-whole = born-whole whole (type_of kind.0) own refs (mode_of kind.0) (owners.Load l) (owners.Load l) refl good holder node_left left unkeyed
+  now-whole = born-whole whole (type_of kind.0) own refs (mode_of kind.0) (Owner.Load l) (Owner.Load l) refl good holder node_left left unkeyed
 
   new-entry : IsEntryWhole (roomy now) kind.0 (w.last.node + 1)
   new-entry =
       record {
         given = omega arith;
         typed = λ t is. let e : Some t ≡ Some (type_of kind.0) = sym is
-            ∙ ap type_in (cell-new whole (type_of kind.0) own refs (mode_of kind.0) (owners.Load l) (owners.Load l) refl good holder node_left left unkeyed) in cc;
+            ∙ ap type_in (cell-new whole (type_of kind.0) own refs (mode_of kind.0) (Owner.Load l) (Owner.Load l) refl good holder node_left left unkeyed) in cc;
         shares = λ h among at.
-            shared-alike now-whole h (row_of (w.last.handle + 1) (next_node w) (mode_of kind.0) (owners.Load l)) among
-            (among-last (moved-world whole (type_of kind.0) own refs (mode_of kind.0) (owners.Load l) (owners.Load l) refl good holder node_left left unkeyed).rows _) at
+            shared-alike now-whole h (row_of (w.last.handle + 1) (next_node w) (mode_of kind.0) (Owner.Load l)) among
+            (among-last (moved-world whole (type_of kind.0) own refs (mode_of kind.0) (Owner.Load l) (Owner.Load l) refl good holder node_left left unkeyed).rows _) at
             ∙ mode-shared kind.0;
       }
 
   abbrev made : Core
-  made = with_handle (with_node w (type_of kind.0) own refs) (next_node w) (mode_of kind.0) (owners.Load l)
+  made = with_handle (with_node w (type_of kind.0) own refs) (next_node w) (mode_of kind.0) (Owner.Load l)
 
   pub adopted-whole : IsWhole (roomy (opened (adopted w l kind key own refs)))
   adopted-whole = at w.closed
@@ -79,7 +60,7 @@ pub lazy-whole : {w w' : Core} (me : Owner) (l : LoadNumber) (kind : Kind) (key 
     → IsWhole (opened w')
 lazy-whole {w} me l kind key (Ok k) whole call placed = let (load, owns, loose, makes) = call.makes in elim makes [
   | inl gets ↦ gets-whole l kind key k whole (load-holds load owns) gets placed
-  | inr (none, node_left, next, leaves) ↦ settles (adopted-whole w whole l kind key (optional.Some key) [] (load-holds load owns) (no-references (opened w) (owners.Load l)) node_left next.is_left
+  | inr (none, node_left, next, leaves) ↦ settles (adopted-whole w whole l kind key (OptionalDataKey.Some key) [] (load-holds load owns) (no-references (opened w) (Owner.Load l)) node_left next.is_left
       (λ shared. absurd (loose-plain kind.0 loose shared))) (alike-opened leaves) placed
 ]
 lazy-whole me l kind key (Err e) whole call placed = alike-whole whole (alike-opened call.refused.stays) placed
@@ -88,7 +69,7 @@ shared-keyless : (kind key : ℕ) → is_shared (mode_of kind) ≡ true → has_
 shared-keyless kind key shared =
     let b : (kind % 3 == 0) ≡ true = sym (mode-shared kind) ∙ shared in
     let c : (kind % 3 == 2) ≡ false = grind (arith, nat_tests) in
-    ap (λ t. has_key (if t then optional.Some key else optional.None)) c
+    ap (λ t. has_key (if t then OptionalDataKey.Some key else OptionalDataKey.None)) c
 
 pub adopt-whole : {N : Type 0} {w w' : Core} (me : Owner) (l : LoadNumber) (kind : Kind) (key : ℕ) (x : N) (node_type : ℕ) (refs : List ArcRef) (r : Result HandleNumber (Error × N))
     → IsWhole (opened w)
@@ -97,10 +78,10 @@ adopt-whole {N} {w} me l kind key x node_type refs (Ok k) whole call placed =
     let a = call.adopts in
     elim a.makes [
       | inl (n, is, falls) ↦
-          falls-opened (may-fall (is_named_by refs) whole (known-whole kind key n (owners.Load l) whole is (load-holds a.load a.owned) a.next.is_left)
-          (handle-on (opened w) (record { 0 = n }) (mode_of kind.0) (owners.Load l))) falls.falls placed
+          falls-opened (may-fall (is_named_by refs) whole (known-whole kind key n (Owner.Load l) whole is (load-holds a.load a.owned) a.next.is_left)
+          (handle-on (opened w) (record { 0 = n }) (mode_of kind.0) (Owner.Load l))) falls.falls placed
       | inr (none, node_left, leaves) ↦
-          settles (adopted-whole w whole l kind key (first_key kind.0 key) refs (load-holds a.load a.owned) (references-opened w (owners.Load l) [] refs ∙ a.good) node_left a.next.is_left
+          settles (adopted-whole w whole l kind key (first_key kind.0 key) refs (load-holds a.load a.owned) (references-opened w (Owner.Load l) [] refs ∙ a.good) node_left a.next.is_left
           (shared-keyless kind.0 key)) (alike-opened leaves) placed
     ]
 adopt-whole me l kind key x node_type refs (Err e) whole call placed = alike-whole whole (alike-opened call.refused.1.stays) placed

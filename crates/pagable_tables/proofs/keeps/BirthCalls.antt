@@ -1,25 +1,9 @@
 -- Calls by which a node comes, with a handle, keep the world whole.
-use Rattle.std.proofs.Common.{◌≡◌, ℕ, suc, zero, ◌+◌, ◌<◌, ◌==◌, ◌||◌, Bool, true, false, not, if◌then◌else◌, List, [], ◌∷◌, Ok, Err, Option, Some, None, inl, inr, refl, ap, sym, subst, ◌∙◌, arith}
-use Rattle.std.specs.Prelude.{◌⊎◌, ◌≢◌, Result, is_some, nat_lt}
-use Rattle.std.proofs.lemmas.Bool.Decides.{nat_tests}
-use Rattle.pagable_model.specs.declared.data_key.OptionalDataKey.{OptionalDataKey}
-use Rattle.pagable_model.specs.declared.data_key.OptionalDataKey.TheVariants as optional
-use Rattle.pagable_model.specs.declared.error.Error.{Error}
-use Rattle.pagable_model.specs.declared.error.Error.TheVariants as errors
-use Rattle.pagable_model.specs.declared.numbers.ArcRef.{ArcRef}
-use Rattle.pagable_model.specs.declared.numbers.HandleNumber.{HandleNumber}
-use Rattle.pagable_world.specs.declared.handles.HandleRow.{HandleRow}
-use Rattle.pagable_world.specs.declared.handles.Owner.{Owner}
-use Rattle.pagable_world.specs.declared.handles.Owner.TheVariants as owners
-use Rattle.pagable_world.specs.declared.rows.Mode.{Mode}
-use Rattle.pagable_world.specs.declared.rows.Mode.TheVariants as modes
-use Rattle.pagable_world.specs.Plain.{Among, if_there, is_in, or_else, type_of, updated}
-use Rattle.pagable_world.specs.Kinds.{held, sharing, is_shared, is_owner, is_owned_by, fits_mode, find_row, has_key, owner_value}
-use Rattle.pagable_world.specs.World.{Core, Cell, greatest, row_at, type_at}
-use Rattle.pagable_world.specs.Refusals.{references_fault, reference_fault, row_fault, refused_if, is_type}
-use Rattle.pagable_world.specs.Calls.{row_of, moved, is_named_by, with_handle, with_node, next_node, BirthCall, AwayBirthCall}
-use Rattle.pagable_world.specs.Pager.{IsWhole}
-use Rattle.pagable_tables.specs.Core.{ArePlaced, MayHold}
+use Rattle.pagable_tables.proofs.Words.{◌≡◌, ℕ, suc, zero, ◌+◌, ◌<◌, ◌==◌, ◌||◌, Bool, true, false, not, if◌then◌else◌, List, [], ◌∷◌, Ok, Err, Option, Some, None, inl, inr, refl, ap, sym, subst}
+use Rattle.pagable_tables.proofs.Words.{◌∙◌, arith, ◌⊎◌, ◌≢◌, Result, is_some, nat_lt, nat_tests, OptionalDataKey, Error, ArcRef, HandleNumber, HandleRow, Owner, Mode, Among, if_there, is_in}
+use Rattle.pagable_tables.proofs.Words.{or_else, type_of, updated, held, sharing, is_shared, is_owner, is_owned_by, fits_mode, find_row, has_key, owner_value, Core, Cell, greatest, row_at}
+use Rattle.pagable_tables.proofs.Words.{type_at, references_fault, reference_fault, row_fault, refused_if, is_type, row_of, moved, is_named_by, with_handle, with_node, next_node, BirthCall}
+use Rattle.pagable_tables.proofs.Words.{AwayBirthCall, IsWhole, ArePlaced, MayHold}
 use Rattle.pagable_tables.proofs.Worlds.{owner-same}
 use Rattle.pagable_tables.proofs.keeps.Rows.{found-among, once}
 use Rattle.pagable_tables.proofs.keeps.Told.{roomy, settles, alike-whole}
@@ -37,13 +21,13 @@ pub record IsMine (w : Core) (owner : Owner) (q : ℕ) : Type 0 where
 good-one : (w : Core) (owner : Owner) (seen : List ℕ) (r : ArcRef) → reference_fault w owner seen r ≡ None → IsMine w owner r.handle.0
 good-one w owner seen r good = of (row_at w r.handle) refl good
   where
-    parts : (a b c : Bool) (rest : Option Error) → (if not a then Some errors.NoSuchHandle else or_else (refused_if (not b || c) errors.NotYours) rest) ≡ None → b ≡ true
+    parts : (a b c : Bool) (rest : Option Error) → (if not a then Some Error.NoSuchHandle else or_else (refused_if (not b || c) Error.NotYours) rest) ≡ None → b ≡ true
     parts true true c rest e = refl
     parts true false c rest e = absurd (cc)
     parts false b c rest e = absurd (cc)
 
     of : (found : Option HandleRow) → row_at w r.handle ≡ found
-        → if_there (λ (row : HandleRow). row_fault w r (refused_if (not (is_owner owner row.owner) || is_in seen r.handle.0) errors.NotYours) row) (Some errors.NoSuchHandle) found ≡ None
+        → if_there (λ (row : HandleRow). row_fault w r (refused_if (not (is_owner owner row.owner) || is_in seen r.handle.0) Error.NotYours) row) (Some Error.NoSuchHandle) found ≡ None
         → IsMine w owner r.handle.0
     of None e good = absurd (cc)
     of (Some row) e good =
@@ -51,7 +35,7 @@ good-one w owner seen r good = of (row_at w r.handle) refl good
           row = row;
           live = e;
           own = owner-same owner row.owner (parts (row.node.0 == r.node.0) (is_owner owner row.owner) (is_in seen r.handle.0)
-              (if not (fits_mode r.kind.0 row.mode) then Some errors.WrongMode else refused_if (not (is_type (type_of r.kind.0) (type_at w r.node.0))) errors.WrongKind) good);
+              (if not (fits_mode r.kind.0 row.mode) then Some Error.WrongMode else refused_if (not (is_type (type_of r.kind.0) (type_at w r.node.0))) Error.WrongKind) good);
         }
 
 or-none : {X : Type 0} (a b : Option X) → or_else a b ≡ None → (a ≡ None) × (b ≡ None)
@@ -70,17 +54,17 @@ named-mine w owner seen (r ∷ rs) good q named =
     at false e named mine rest = rest named
 
 -- what is named isn't the list's
-pub named-unlisted : {w : Core} → IsWhole w → (owner : Owner) (refs : List ArcRef) → is_owner owners.List owner ≡ false → references_fault w owner [] refs ≡ None → (x : HandleRow)
-    → Among w.rows x → is_named_by refs x.number.0 ≡ true → is_owned_by owners.List x ≡ false
+pub named-unlisted : {w : Core} → IsWhole w → (owner : Owner) (refs : List ArcRef) → is_owner Owner.List owner ≡ false → references_fault w owner [] refs ≡ None → (x : HandleRow)
+    → Among w.rows x → is_named_by refs x.number.0 ≡ true → is_owned_by Owner.List x ≡ false
 named-unlisted {w} whole owner refs other good x among named =
     let m = named-mine w owner [] refs good x.number.0 named in
     let a = found-among x.number.0 w.rows m.row m.live in
     let same = once w.rows whole.handles.ordered x m.row among a.0 (sym a.1) in
-    ap (is_owned_by owners.List) same ∙ (ap (is_owner owners.List) m.own ∙ other)
+    ap (is_owned_by Owner.List) same ∙ (ap (is_owner Owner.List) m.own ∙ other)
 
 -- ---- the node
 
-module _ {w : Core} (whole : IsWhole w) (node_type : ℕ) (key : OptionalDataKey) (refs : List ArcRef) (mode : Mode) (from me : Owner) (other : is_owner owners.List from ≡ false)
+module _ {w : Core} (whole : IsWhole w) (node_type : ℕ) (key : OptionalDataKey) (refs : List ArcRef) (mode : Mode) (from me : Owner) (other : is_owner Owner.List from ≡ false)
     (good : references_fault w from [] refs ≡ None)
     (holder : MayHold w me) (node_left : w.last.node < greatest) (left : w.last.handle < greatest) (unkeyed : is_shared mode ≡ true → has_key key ≡ false) where
   abbrev pub moved-world : Core
@@ -130,7 +114,7 @@ pub birth-whole : {N : Type 0} {w w' : Core} (me : Owner) (x : N) (node_type : �
     → BirthCall w me x node_type refs mode r w' → ArePlaced w' → IsWhole w'
 birth-whole {N} {w} me x node_type refs mode (Ok k) whole holder call placed =
     let (good, node_left, next, leaves) = call.made in
-    settles (born-whole whole node_type optional.None refs mode me me (not-list w me holder) good holder node_left next.is_left (λ is. refl)) leaves placed
+    settles (born-whole whole node_type OptionalDataKey.None refs mode me me (not-list w me holder) good holder node_left next.is_left (λ is. refl)) leaves placed
 birth-whole me x node_type refs mode (Err e) whole holder call placed = alike-whole whole call.refused.1.stays placed
 
 pub no-references : (w : Core) (owner : Owner) → references_fault w owner [] [] ≡ None
@@ -140,5 +124,5 @@ no-references w owner = refl
 pub away-birth-whole : {w w' : Core} (me : Owner) (node_type key : ℕ) (r : Result HandleNumber Error) → IsWhole w → MayHold w me → AwayBirthCall w me node_type key r w' → ArePlaced w' → IsWhole w'
 away-birth-whole {w} me node_type key (Ok k) whole holder call placed =
     let (node_left, next, leaves) = call.made in
-    settles (born-whole whole node_type (optional.Some key) [] modes.LooseUnpinned me me (not-list w me holder) (no-references w me) holder node_left next.is_left (λ is. absurd (cc))) leaves placed
+    settles (born-whole whole node_type (OptionalDataKey.Some key) [] Mode.LooseUnpinned me me (not-list w me holder) (no-references w me) holder node_left next.is_left (λ is. absurd (cc))) leaves placed
 away-birth-whole me node_type key (Err e) whole holder call placed = alike-whole whole call.refused.stays placed

@@ -1,22 +1,8 @@
 -- Calls on the cache and on room keep the world whole.
-use Rattle.std.proofs.Common.{◌≡◌, ℕ, ◌<◌, ◌==◌, ◌&&◌, ◌%◌, Bool, true, false, not, if◌then◌else◌, Ok, Err, Option, Some, None, inl, inr, refl, ap, sym, subst, ◌∙◌, arith}
-use Rattle.std.specs.Prelude.{Result, is_some, nat_lt}
-use Rattle.std.proofs.lemmas.Bool.Decides.{nat_tests}
-use Rattle.pagable_model.specs.declared.error.Error.{Error}
-use Rattle.pagable_model.specs.declared.numbers.HandleNumber.{HandleNumber}
-use Rattle.pagable_model.specs.declared.numbers.Kind.{Kind}
-use Rattle.pagable_model.specs.declared.numbers.NodeNumber.{NodeNumber}
-use Rattle.pagable_world.specs.declared.handles.HandleRow.{HandleRow}
-use Rattle.pagable_world.specs.declared.handles.Owner.{Owner}
-use Rattle.pagable_world.specs.declared.rows.Mode.{Mode}
-use Rattle.pagable_world.specs.declared.rows.Mode.TheVariants as modes
-use Rattle.pagable_world.specs.Plain.{one, Among, if_there, type_of, is_shared_kind, is_loose_kind, is_pinned_kind}
-use Rattle.pagable_world.specs.Kinds.{held, sharing, pins, is_at, is_share, is_shared, is_in_memory, fits_mode, mode_of}
-use Rattle.pagable_world.specs.World.{Core, Cell, greatest, usable}
-use Rattle.pagable_world.specs.Cascade.{only_handle}
-use Rattle.pagable_world.specs.Calls.{ClearCall, ReserveCall, RecallCall, OfferCall, with_cached, with_known}
-use Rattle.pagable_world.specs.Pager.{IsWhole, IsEntryWhole}
-use Rattle.pagable_tables.specs.Core.{ArePlaced, MayHold, Suits}
+use Rattle.pagable_tables.proofs.Words.{◌≡◌, ℕ, ◌<◌, ◌==◌, ◌&&◌, ◌%◌, Bool, true, false, not, if◌then◌else◌, Ok, Err, Option, Some, None, inl, inr, refl, ap, sym, subst, ◌∙◌, arith, Result}
+use Rattle.pagable_tables.proofs.Words.{is_some, nat_lt, nat_tests, Error, HandleNumber, Kind, NodeNumber, HandleRow, Owner, Mode, one, Among, if_there, type_of, is_shared_kind, is_loose_kind}
+use Rattle.pagable_tables.proofs.Words.{is_pinned_kind, held, sharing, pins, is_at, is_share, is_shared, is_in_memory, fits_mode, mode_of, Core, Cell, greatest, usable, only_handle, ClearCall}
+use Rattle.pagable_tables.proofs.Words.{ReserveCall, RecallCall, OfferCall, with_cached, with_known, IsWhole, IsEntryWhole, ArePlaced, MayHold, Suits}
 use Rattle.pagable_tables.proofs.keeps.Rows.{at-most-sum, counted, found-among}
 use Rattle.pagable_tables.proofs.keeps.Told.{roomy, roomy-whole, settles, told-whole, alike-whole, may-own}
 use Rattle.pagable_tables.proofs.keeps.Comes.{type_in, beside, handle-on, unshared-node}
@@ -34,16 +20,16 @@ reserve-whole n r whole call placed = alike-whole whole call.stays placed
 pub mode-shared : (kind : ℕ) → is_shared (mode_of kind) ≡ is_shared_kind kind
 mode-shared kind = at (is_shared_kind kind) (is_loose_kind kind)
   where
-    at : (a b : Bool) → is_shared (if a then modes.Shared else if b then modes.LooseUnpinned else modes.Pinned) ≡ a
+    at : (a b : Bool) → is_shared (if a then Mode.Shared else if b then Mode.LooseUnpinned else Mode.Pinned) ≡ a
     at true b = refl
     at false true = refl
     at false false = refl
 
 pub fits-shared : (kind : ℕ) (mode : Mode) → fits_mode kind mode ≡ true → is_shared mode ≡ is_shared_kind kind
-fits-shared kind modes.Shared fits = sym fits
-fits-shared kind modes.Pinned fits = let a : (kind % 3 == 2) ≡ true = fits in grind (arith, nat_tests)
-fits-shared kind modes.LoosePinned fits = let a : (kind % 3 == 1) ≡ true = fits in grind (arith, nat_tests)
-fits-shared kind modes.LooseUnpinned fits = let a : (kind % 3 == 1) ≡ true = fits in grind (arith, nat_tests)
+fits-shared kind Mode.Shared fits = sym fits
+fits-shared kind Mode.Pinned fits = let a : (kind % 3 == 2) ≡ true = fits in grind (arith, nat_tests)
+fits-shared kind Mode.LoosePinned fits = let a : (kind % 3 == 1) ≡ true = fits in grind (arith, nat_tests)
+fits-shared kind Mode.LooseUnpinned fits = let a : (kind % 3 == 1) ≡ true = fits in grind (arith, nat_tests)
 
 -- an entry that is given names a live node
 usable-is : (w : Core) (kind key n : ℕ) → usable w kind key ≡ Some n → (w.cache kind key ≡ Some n) × (is_some (w.cells n) ≡ true)

@@ -1,48 +1,29 @@
 -- A handle comes, under the next number.
-use Rattle.std.proofs.Common.{◌≡◌, ℕ, ◌≤◌, ◌<◌, ◌+◌, ◌==◌, ◌&&◌, Bool, true, false, [], ◌∷◌, ◌++◌, Option, Some, None, inl, inr, refl, ap, sym, subst, ◌∙◌, arith}
-use Rattle.std.specs.Prelude.{◌⊎◌, ◌≢◌, is_some, nat_lt}
-use Rattle.std.proofs.lemmas.Bool.{cases_eq}
-use Rattle.std.proofs.lemmas.Bool.Decides.{nat_tests}
-use Rattle.std.proofs.lemmas.List.Sums.{sum_by_push}
-use Rattle.pagable_model.specs.declared.data_key.OptionalDataKey.TheVariants as optional
-use Rattle.pagable_model.specs.declared.numbers.HandleNumber.{HandleNumber}
-use Rattle.pagable_model.specs.declared.numbers.NodeNumber.{NodeNumber}
-use Rattle.pagable_world.specs.declared.handles.HandleRow.{HandleRow}
-use Rattle.pagable_world.specs.declared.handles.Owner.{Owner}
-use Rattle.pagable_world.specs.declared.handles.Owner.TheVariants as owners
-use Rattle.pagable_world.specs.declared.rows.Mode.{Mode}
-use Rattle.pagable_world.specs.Plain.{one, Among, if_there, is_shared_kind}
-use Rattle.pagable_world.specs.Kinds.{held, sharing, is_at, is_share, is_shared, is_handle, is_owner, is_owned_by, has_key}
-use Rattle.pagable_world.specs.World.{Core, Cell, greatest}
-use Rattle.pagable_world.specs.Calls.{with_handle, row_of}
-use Rattle.pagable_world.specs.Pager.{OwnersAreThere, IsRootWhole, IsEntryWhole, IsWhole}
-use Rattle.pagable_tables.specs.Falling.{is_valued}
-use Rattle.pagable_tables.specs.Core.{MayHold, Suits}
+use Rattle.pagable_tables.proofs.Words.{◌≡◌, ℕ, ◌≤◌, ◌<◌, ◌+◌, ◌==◌, ◌&&◌, Bool, true, false, [], ◌∷◌, ◌++◌, Option, Some, None, inl, inr, refl, ap, sym, subst, ◌∙◌, arith, ◌⊎◌, ◌≢◌, is_some}
+use Rattle.pagable_tables.proofs.Words.{nat_lt, cases_eq, nat_tests, sum_by_push, OptionalDataKey, HandleNumber, NodeNumber, HandleRow, Owner, Mode, one, Among, if_there, is_shared_kind, held}
+use Rattle.pagable_tables.proofs.Words.{sharing, is_at, is_share, is_shared, is_handle, is_owner, is_owned_by, has_key, Core, Cell, greatest, with_handle, row_of, OwnersAreThere, IsRootWhole}
+use Rattle.pagable_tables.proofs.Words.{IsEntryWhole, IsWhole, is_valued, MayHold, Suits}
 use Rattle.pagable_tables.proofs.keeps.Rows.{among-both, among-one, at-most-sum, sum-less, found-among, found-push, ordered-push}
 use Rattle.pagable_tables.proofs.keeps.Told.{roomy, may-own}
 use Rattle.pagable_tables.proofs.keeps.GoingOn.{GoesOn}
 
 -- who may hold is neither the list nor a value
-pub not-list : (w : Core) (o : Owner) → MayHold w o → is_owner owners.List o ≡ false
-not-list w owners.Caller may = refl
-not-list w (owners.Worker v) may = refl
-not-list w (owners.Value n) may = absurd may
-not-list w owners.List may = absurd may
-not-list w (owners.Load l) may = refl
+pub not-list : (w : Core) (o : Owner) → MayHold w o → is_owner Owner.List o ≡ false
+not-list w (Owner.Value n) may = absurd may
+not-list w Owner.List may = absurd may
+not-list w _ may = refl
 
 pub not-a-value : (w : Core) (o : Owner) → MayHold w o → is_valued o ≡ false
-not-a-value w owners.Caller may = refl
-not-a-value w (owners.Worker v) may = refl
-not-a-value w (owners.Value n) may = absurd may
-not-a-value w owners.List may = absurd may
-not-a-value w (owners.Load l) may = refl
+not-a-value w (Owner.Value n) may = absurd may
+not-a-value w Owner.List may = absurd may
+not-a-value w _ may = refl
 
-pub not-the-list : (w : Core) (o : Owner) → MayHold w o → o ≡ owners.List → ⊥
+pub not-the-list : (w : Core) (o : Owner) → MayHold w o → o ≡ Owner.List → ⊥
 not-the-list w o may is = subst (MayHold w) is may
 
 -- whether a cell has a key
 abbrev pub keyed_in : Option Cell → Bool
-keyed_in cell = has_key (if_there (λ (cell : Cell). cell.key) optional.None cell)
+keyed_in cell = has_key (if_there (λ (cell : Cell). cell.key) OptionalDataKey.None cell)
 
 abbrev pub type_in : Option Cell → Option ℕ
 type_in cell = if_there (λ (cell : Cell). Some cell.node_type) None cell
@@ -125,8 +106,8 @@ module _ {w : Core} (whole : IsWhole w) (x : HandleRow) (cells : ℕ → Option 
   grown-owners =
       let o = whole.owners_there in
       record {
-        listed = λ q. let a = sum_by_push (λ h. one (is_handle q h && is_owned_by owners.List h)) w.rows x in let b = o.listed q in let c = not-list w x.owner holder in
-            let d : one (is_handle q x && is_owned_by owners.List x) ≡ 0 = ap (λ b. one (is_handle q x && b)) c ∙ and-false (is_handle q x) in omega arith;
+        listed = λ q. let a = sum_by_push (λ h. one (is_handle q h && is_owned_by Owner.List h)) w.rows x in let b = o.listed q in let c = not-list w x.owner holder in
+            let d : one (is_handle q x && is_owned_by Owner.List x) ≡ 0 = ap (λ b. one (is_handle q x && b)) c ∙ and-false (is_handle q x) in omega arith;
         waiting = λ h among is. elim (among-both w.rows (x ∷ []) h among) [
           | inl old ↦ o.waiting h old is
           | inr new ↦ absurd (not-the-list w x.owner holder (ap (λ (y : HandleRow). y.owner) (sym (among-one x h new)) ∙ is))

@@ -1,25 +1,9 @@
 -- Calls by which a load ends, and the close of the storage, keep the world whole.
-use Rattle.std.proofs.Common.{◌≡◌, ℕ, suc, zero, ◌<◌, ◌==◌, ◌&&◌, ◌||◌, Bool, true, false, not, if◌then◌else◌, List, [], ◌∷◌, Ok, Err, Option, Some, None, inl, inr, refl, ap, sym, subst, ◌∙◌, arith}
-use Rattle.std.specs.Prelude.{◌⊎◌, Result, is_some, nat_lt}
-use Rattle.std.proofs.lemmas.Bool.Decides.{nat_tests}
-use Rattle.pagable_model.specs.declared.error.Error.{Error}
-use Rattle.pagable_model.specs.declared.error.Error.TheVariants as errors
-use Rattle.pagable_model.specs.declared.numbers.ArcRef.{ArcRef}
-use Rattle.pagable_model.specs.declared.numbers.HandleNumber.{HandleNumber}
-use Rattle.pagable_model.specs.declared.numbers.LoadNumber.{LoadNumber}
-use Rattle.pagable_model.specs.declared.numbers.NodeNumber.{NodeNumber}
-use Rattle.pagable_world.specs.declared.handles.HandleRow.{HandleRow}
-use Rattle.pagable_world.specs.declared.handles.Owner.{Owner}
-use Rattle.pagable_world.specs.declared.handles.Owner.TheVariants as owners
-use Rattle.pagable_world.specs.declared.rows.Mode.TheVariants as modes
-use Rattle.pagable_world.specs.Plain.{Among, times, if_there, is_in, updated}
-use Rattle.pagable_world.specs.Kinds.{is_loose, is_handle, is_owner, is_owned_by, owner_value}
-use Rattle.pagable_world.specs.World.{Core, OpenLoad, greatest, row_at}
-use Rattle.pagable_world.specs.Refusals.{Owns, references_fault, named_fault, load_fault, refused_if, earlier, rank}
-use Rattle.pagable_world.specs.Calls.{moved, with_mode, is_named_by, is_listed, shut, CloseCall}
-use Rattle.pagable_world.specs.LoadCalls.{without_load, with_pin, is_owned_in, numbers_of, cell_fault, LoadCloses, EndCall, HandOverCall, DropCall}
-use Rattle.pagable_world.specs.Pager.{IsWhole, MayOwnLoad}
-use Rattle.pagable_tables.specs.Core.{ArePlaced}
+use Rattle.pagable_tables.proofs.Words.{◌≡◌, ℕ, suc, zero, ◌<◌, ◌==◌, ◌&&◌, ◌||◌, Bool, true, false, not, if◌then◌else◌, List, [], ◌∷◌, Ok, Err, Option, Some, None, inl, inr, refl, ap, sym}
+use Rattle.pagable_tables.proofs.Words.{subst, ◌∙◌, arith, ◌⊎◌, Result, is_some, nat_lt, nat_tests, Error, ArcRef, HandleNumber, LoadNumber, NodeNumber, HandleRow, Owner, Mode, Among, times}
+use Rattle.pagable_tables.proofs.Words.{if_there, is_in, updated, is_loose, is_handle, is_owner, is_owned_by, owner_value, Core, OpenLoad, greatest, row_at, Owns, references_fault, named_fault}
+use Rattle.pagable_tables.proofs.Words.{load_fault, refused_if, earlier, rank, moved, with_mode, is_named_by, is_listed, shut, CloseCall, without_load, with_pin, is_owned_in, numbers_of}
+use Rattle.pagable_tables.proofs.Words.{cell_fault, LoadCloses, EndCall, HandOverCall, DropCall, IsWhole, MayOwnLoad, ArePlaced}
 use Rattle.pagable_tables.proofs.Worlds.{owner-same}
 use Rattle.pagable_tables.proofs.keeps.Rows.{among-both, among-one, among-map, among-to, found-among, once, ordered-map}
 use Rattle.pagable_tables.proofs.keeps.Rests.{found-so}
@@ -44,7 +28,7 @@ still-there {X} l f q x is = at (q == l) is
 
 -- what is whole before a load closes may fall after, where all that the load owns is given
 pub closes : {before u : Core} (l : LoadNumber) (given : ℕ → Bool) → IsWhole before → IsWhole (roomy u) → GoesOn before u
-    → ((h : HandleRow) → Among u.rows h → h.owner ≡ owners.Load l → given h.number.0 ≡ true) → MayFall before (without_load u l) given
+    → ((h : HandleRow) → Among u.rows h → h.owner ≡ Owner.Load l → given h.number.0 ≡ true) → MayFall before (without_load u l) given
 closes {before} {u} l given was whole on gives =
     let h = whole.handles in
     let o = whole.owners_there in
@@ -54,7 +38,7 @@ closes {before} {u} l given was whole on gives =
       listed = λ q. inl (o.listed q);
       waiting = o.waiting;
       loads_there = λ x k among own. there x k among own (k.0 == l.0) refl;
-      workers_there = o.workers;
+      workers_there = λ x v among is. inl (o.workers x v among is);
       loads = record {
         numbered = λ k some. loads.numbered k (some-still k some);
         owned = λ k load is. may-own u (without_load u l) (λ v at. at) load.owner (loads.owned k load (still-there l.0 u.loads k load is));
@@ -66,8 +50,8 @@ closes {before} {u} l given was whole on gives =
       listing = on-listing was h on;
     }
   where
-    there : (x : HandleRow) (k : LoadNumber) → Among u.rows x → x.owner ≡ owners.Load k → (b : Bool) → (k.0 == l.0) ≡ b → (is_some (if b then None else u.loads k.0) ≡ true) ⊎ (given x.number.0 ≡ true)
-    there x k among own true e = let same : k.0 ≡ l.0 = grind (arith, nat_tests) in inr (gives x among (own ∙ ap (λ n. owners.Load (record { 0 = n })) same))
+    there : (x : HandleRow) (k : LoadNumber) → Among u.rows x → x.owner ≡ Owner.Load k → (b : Bool) → (k.0 == l.0) ≡ b → (is_some (if b then None else u.loads k.0) ≡ true) ⊎ (given x.number.0 ≡ true)
+    there x k among own true e = let same : k.0 ≡ l.0 = grind (arith, nat_tests) in inr (gives x among (own ∙ ap (λ n. Owner.Load (record { 0 = n })) same))
     there x k among own false e = inl (whole.owners_there.loads x k among own)
 
     some-still : (k : ℕ) → is_some (updated l.0 None u.loads k) ≡ true → is_some (u.loads k) ≡ true
@@ -78,14 +62,14 @@ closes {before} {u} l given was whole on gives =
         at false some = some
 
 -- what a load owns, it owns by its number too
-owned-in : {w : Core} → IsWhole w → (l : LoadNumber) (x : HandleRow) → Among w.rows x → x.owner ≡ owners.Load l → is_owned_in w (owners.Load l) x.number.0 ≡ true
+owned-in : {w : Core} → IsWhole w → (l : LoadNumber) (x : HandleRow) → Among w.rows x → x.owner ≡ Owner.Load l → is_owned_in w (Owner.Load l) x.number.0 ≡ true
 owned-in {w} whole l x among own =
     let found = found-so x.number.0 w.rows x whole.handles.ordered among refl in
     let self : (l.0 == l.0) ≡ true = grind (arith, nat_tests) in
-    ap (if_there (is_owned_by (owners.Load l)) false) found ∙ ap (is_owner (owners.Load l)) own ∙ self
+    ap (if_there (is_owned_by (Owner.Load l)) false) found ∙ ap (is_owner (Owner.Load l)) own ∙ self
 
 load-closes : {w w' : Core} (l : LoadNumber) (r : Result (Unit {0}) Error) → IsWhole (opened w) → LoadCloses w l r w' → ArePlaced (opened w') → IsWhole (opened w')
-load-closes {w} l r whole falls placed = falls-opened (closes l (is_owned_in w (owners.Load l)) whole (roomy-whole whole) (stays-on (opened w)) (owned-in whole l)) falls placed
+load-closes {w} l r whole falls placed = falls-opened (closes l (is_owned_in w (Owner.Load l)) whole (roomy-whole whole) (stays-on (opened w)) (owned-in whole l)) falls placed
 
 pub drop-whole : {w w' : Core} (me : Owner) (l : LoadNumber) (r : Result (Unit {0}) Error) → IsWhole (opened w) → DropCall w me l r w' → ArePlaced (opened w') → IsWhole (opened w')
 drop-whole me l r whole call placed = elim call.does [ inl refused ↦ alike-whole whole (alike-opened refused.stays) placed | inr (load, owns, falls) ↦ load-closes l r whole falls placed ]
@@ -93,23 +77,23 @@ drop-whole me l r whole call placed = elim call.does [ inl refused ↦ alike-who
 -- ---- a load ends
 
 -- who owns a load isn't one
-not-load : (w : Core) (o : Owner) (l : LoadNumber) → MayOwnLoad w o → o ≡ owners.Load l → ⊥
+not-load : (w : Core) (o : Owner) (l : LoadNumber) → MayOwnLoad w o → o ≡ Owner.Load l → ⊥
 not-load w o l may is = subst (MayOwnLoad w) is may
 
 -- A handle of m is pinned, a Pinned one is made and the load closes, where m is what w has become.
 module _ {w m : Core} (was : IsWhole w) (whole : IsWhole (roomy m)) (on : GoesOn w m) (me : Owner) (may : MayOwnLoad m me) (l : LoadNumber) (h : HandleNumber) (row : HandleRow)
     (owns : Owns m me h is_loose row) (left : m.last.handle < greatest) (given : ℕ → Bool)
-    (gives : (x : HandleRow) → Among m.rows x → x.owner ≡ owners.Load l → given x.number.0 ≡ true) where
+    (gives : (x : HandleRow) → Among m.rows x → x.owner ≡ Owner.Load l → given x.number.0 ≡ true) where
   owns-roomy : Owns (roomy m) me h is_loose row
   owns-roomy = record { live = owns.live; own = owns.own; as_asked = owns.as_asked }
 
-  pinned-gives : (x : HandleRow) → Among (with_pin m h row.node me).rows x → x.owner ≡ owners.Load l → given x.number.0 ≡ true
-  pinned-gives x among own = elim (among-both (with_mode m h modes.LoosePinned).rows _ x among) [
-    | inl old ↦ let y = among-map (λ (z : HandleRow). if is_handle h.0 z then record z { mode = modes.LoosePinned } else z) m.rows x old in of y.0 y.1 (is_handle h.0 y.0) y.2
+  pinned-gives : (x : HandleRow) → Among (with_pin m h row.node me).rows x → x.owner ≡ Owner.Load l → given x.number.0 ≡ true
+  pinned-gives x among own = elim (among-both (with_mode m h Mode.LoosePinned).rows _ x among) [
+    | inl old ↦ let y = among-map (λ (z : HandleRow). if is_handle h.0 z then record z { mode = Mode.LoosePinned } else z) m.rows x old in of y.0 y.1 (is_handle h.0 y.0) y.2
     | inr new ↦ absurd (not-load m me l may (ap (λ (z : HandleRow). z.owner) (sym (among-one _ x new)) ∙ own))
   ]
     where
-      of : (y : HandleRow) → Among m.rows y → (b : Bool) → x ≡ (if b then record y { mode = modes.LoosePinned } else y) → given x.number.0 ≡ true
+      of : (y : HandleRow) → Among m.rows y → (b : Bool) → x ≡ (if b then record y { mode = Mode.LoosePinned } else y) → given x.number.0 ≡ true
       of y there true e = ap (λ (z : HandleRow). given z.number.0) e ∙ gives y there (ap (λ (z : HandleRow). z.owner) (sym e) ∙ own)
       of y there false e = ap (λ (z : HandleRow). given z.number.0) e ∙ gives y there (ap (λ (z : HandleRow). z.owner) (sym e) ∙ own)
 
@@ -131,20 +115,20 @@ end-whole {N} {w} {w'} me l x node_type refs (Ok k) whole call placed =
       | inl (away, falls) ↦
           let s = is_named_by refs in
           let m : Core = record (opened w) { rows = moved s (owner_value node.0) w.rows } in
-          let given = λ (q : ℕ). is_owned_in w (owners.Load l) q && not (is_named_by refs q) in
-          let moves = moved-to-value whole s (named-unlisted whole (owners.Load l) refs refl (references-opened w (owners.Load l) [] refs ∙ ends.good)) node.0 in
+          let given = λ (q : ℕ). is_owned_in w (Owner.Load l) q && not (is_named_by refs q) in
+          let moves = moved-to-value whole s (named-unlisted whole (Owner.Load l) refs refl (references-opened w (Owner.Load l) [] refs ∙ ends.good)) node.0 in
           let fall : MayFall (opened w) (without_load (with_pin m h i.row.node me) l) given = ends-may-fall {w = opened w} {m = m} whole moves (moved-on whole s (owner_value node.0)) me
           (may-own w m (λ v at. at) me may) l h i.row (kept-own node h i.row i.owned may ends.good) i.next.is_left given (left-given node) in
           falls-opened (subst (λ n. MayFall (opened w) (without_load (with_pin m h n me) l) given) i.at fall) falls.falls placed
       | inr (here, falls) ↦
           let owned : Owns (opened w) me h is_loose i.row = record { live = i.owned.live; own = i.owned.own; as_asked = i.owned.as_asked } in
-          let fall : MayFall (opened w) (without_load (with_pin (opened w) h i.row.node me) l) (is_owned_in w (owners.Load l)) = ends-may-fall {w = opened w} {m = opened w} whole (roomy-whole whole)
-          (stays-on (opened w)) me may l h i.row owned i.next.is_left (is_owned_in w (owners.Load l)) (owned-in whole l) in
-          falls-opened (subst (λ n. MayFall (opened w) (without_load (with_pin (opened w) h n me) l) (is_owned_in w (owners.Load l))) i.at fall) falls.falls placed
+          let fall : MayFall (opened w) (without_load (with_pin (opened w) h i.row.node me) l) (is_owned_in w (Owner.Load l)) = ends-may-fall {w = opened w} {m = opened w} whole (roomy-whole whole)
+          (stays-on (opened w)) me may l h i.row owned i.next.is_left (is_owned_in w (Owner.Load l)) (owned-in whole l) in
+          falls-opened (subst (λ n. MayFall (opened w) (without_load (with_pin (opened w) h n me) l) (is_owned_in w (Owner.Load l))) i.at fall) falls.falls placed
     ]
   where
     -- the handle that began the load isn't one of the value's references
-    kept-own : (node : NodeNumber) (h : HandleNumber) (row : HandleRow) → Owns w me h is_loose row → MayOwnLoad w me → references_fault w (owners.Load l) [] refs ≡ None
+    kept-own : (node : NodeNumber) (h : HandleNumber) (row : HandleRow) → Owns w me h is_loose row → MayOwnLoad w me → references_fault w (Owner.Load l) [] refs ≡ None
         → Owns (record (opened w) { rows = moved (is_named_by refs) (owner_value node.0) w.rows }) me h is_loose row
     kept-own node h row owns may good = at (is_named_by refs row.number.0) refl
       where
@@ -153,7 +137,7 @@ end-whole {N} {w} {w'} me l x node_type refs (Ok k) whole call placed =
 
         at : (b : Bool) → is_named_by refs row.number.0 ≡ b → Owns (record (opened w) { rows = moved (is_named_by refs) (owner_value node.0) w.rows }) me h is_loose row
         at true e =
-            let m = named-mine w (owners.Load l) [] refs good row.number.0 e in
+            let m = named-mine w (Owner.Load l) [] refs good row.number.0 e in
             let a = found-among row.number.0 w.rows m.row m.live in
             let same = once w.rows whole.handles.ordered row m.row found.0 a.0 (sym a.1) in
             absurd (not-load w me l may (sym owns.own ∙ (ap (λ (y : HandleRow). y.owner) same ∙ m.own)))
@@ -169,18 +153,18 @@ end-whole {N} {w} {w'} me l x node_type refs (Ok k) whole call placed =
             }
 
     -- what the load still owns is given
-    left-given : (node : NodeNumber) (y : HandleRow) → Among (moved (is_named_by refs) (owner_value node.0) w.rows) y → y.owner ≡ owners.Load l
-        → (is_owned_in w (owners.Load l) y.number.0 && not (is_named_by refs y.number.0)) ≡ true
+    left-given : (node : NodeNumber) (y : HandleRow) → Among (moved (is_named_by refs) (owner_value node.0) w.rows) y → y.owner ≡ Owner.Load l
+        → (is_owned_in w (Owner.Load l) y.number.0 && not (is_named_by refs y.number.0)) ≡ true
     left-given node y among own =
         let old = among-map (λ (z : HandleRow). if is_named_by refs z.number.0 then record z { owner = owner_value node.0 } else z) w.rows y among in
         of old.0 old.1 (is_named_by refs old.0.number.0) refl old.2
       where
         of : (z : HandleRow) → Among w.rows z → (b : Bool) → is_named_by refs z.number.0 ≡ b → y ≡ (if b then record z { owner = owner_value node.0 } else z)
-            → (is_owned_in w (owners.Load l) y.number.0 && not (is_named_by refs y.number.0)) ≡ true
-        of z there true e is = let f : owner_value node.0 ≡ owners.Load l = ap (λ (v : HandleRow). v.owner) (sym is) ∙ own in absurd (cc)
+            → (is_owned_in w (Owner.Load l) y.number.0 && not (is_named_by refs y.number.0)) ≡ true
+        of z there true e is = let f : owner_value node.0 ≡ Owner.Load l = ap (λ (v : HandleRow). v.owner) (sym is) ∙ own in absurd (cc)
         of z there false e is =
             let n = ap (λ (v : HandleRow). v.number.0) is in
-            both-true _ _ (ap (is_owned_in w (owners.Load l)) n ∙ owned-in whole l z there (ap (λ (v : HandleRow). v.owner) (sym is) ∙ own)) (ap (is_named_by refs) n ∙ e)
+            both-true _ _ (ap (is_owned_in w (Owner.Load l)) n ∙ owned-in whole l z there (ap (λ (v : HandleRow). v.owner) (sym is) ∙ own)) (ap (is_named_by refs) n ∙ e)
 end-whole me l x node_type refs (Err (e, Some y)) whole call placed = alike-whole whole (alike-opened call.refused.1.stays) placed
 end-whole me l x node_type refs (Err (e, None)) whole call placed = let v = call.refused in load-closes l v.told whole v.closes placed
 
@@ -199,16 +183,16 @@ pub handed-mine : (w : Core) (owner : Owner) (seen : List ℕ) (hs : List Handle
 unfolding named_fault is_in
 handed-mine w owner seen [] good q named = absurd (cc)
 handed-mine w owner seen (h ∷ hs) good q named =
-    let parts = both-none (if_there (λ (row : HandleRow). refused_if (not (is_owner owner row.owner) || is_in seen h.0) errors.NotYours) (Some errors.NoSuchHandle) (row_at w h))
+    let parts = both-none (if_there (λ (row : HandleRow). refused_if (not (is_owner owner row.owner) || is_in seen h.0) Error.NotYours) (Some Error.NoSuchHandle) (row_at w h))
     (named_fault w owner (h.0 ∷ seen) hs) good in
     at (h.0 == q) refl named (of (row_at w h) refl parts.0) (λ n. handed-mine w owner (h.0 ∷ seen) hs parts.1 q n)
   where
-    own : (b c : Bool) → refused_if (not b || c) errors.NotYours ≡ None → b ≡ true
+    own : (b c : Bool) → refused_if (not b || c) Error.NotYours ≡ None → b ≡ true
     own true c e = refl
     own false c e = absurd (cc)
 
-    of : (found : Option HandleRow) → row_at w h ≡ found → if_there (λ (row : HandleRow). refused_if (not (is_owner owner row.owner) || is_in seen h.0) errors.NotYours)
-        (Some errors.NoSuchHandle) found ≡ None → IsMine w owner h.0
+    of : (found : Option HandleRow) → row_at w h ≡ found → if_there (λ (row : HandleRow). refused_if (not (is_owner owner row.owner) || is_in seen h.0) Error.NotYours)
+        (Some Error.NoSuchHandle) found ≡ None → IsMine w owner h.0
     of None e good = absurd (cc)
     of (Some row) e good = record { row = row; live = e; own = owner-same owner row.owner (own (is_owner owner row.owner) (is_in seen h.0) good) }
 
@@ -220,11 +204,11 @@ handed-mine w owner seen (h ∷ hs) good q named =
 pub asker-owns : {w : Core} → IsWhole w → (me : Owner) (l : LoadNumber) → load_fault w me l ≡ None → MayOwnLoad w me
 asker-owns {w} whole me l none = of (w.loads l.0) refl none
   where
-    own : (b : Bool) → refused_if (not b) errors.NotYours ≡ None → b ≡ true
+    own : (b : Bool) → refused_if (not b) Error.NotYours ≡ None → b ≡ true
     own true e = refl
     own false e = absurd (cc)
 
-    of : (found : Option OpenLoad) → w.loads l.0 ≡ found → if_there (λ (load : OpenLoad). refused_if (not (is_owner me load.owner)) errors.NotYours) (Some errors.NoSuchHandle) found ≡ None
+    of : (found : Option OpenLoad) → w.loads l.0 ≡ found → if_there (λ (load : OpenLoad). refused_if (not (is_owner me load.owner)) Error.NotYours) (Some Error.NoSuchHandle) found ≡ None
         → MayOwnLoad w me
     of None e good = absurd (cc)
     of (Some load) e good = subst (MayOwnLoad w) (owner-same me load.owner (own (is_owner me load.owner) good)) (whole.loads.owned l.0 load e)
@@ -233,33 +217,33 @@ pub hand-over-whole : {w w' : Core} (me : Owner) (l : LoadNumber) (hs : List Han
     → HandOverCall w me l hs r w' → ArePlaced (opened w') → IsWhole (opened w')
 hand-over-whole {w} {w'} me l hs (Ok u) whole call placed =
     let (good, falls) = call.hands in
-    let first = both-none (load_fault w me l) (earlier (if_there (λ (load : OpenLoad). cell_fault load.root) None (w.loads l.0)) (named_fault w (owners.Load l) [] hs)) good in
-    let second = both-none (if_there (λ (load : OpenLoad). cell_fault load.root) None (w.loads l.0)) (named_fault w (owners.Load l) [] hs) first.1 in
+    let first = both-none (load_fault w me l) (earlier (if_there (λ (load : OpenLoad). cell_fault load.root) None (w.loads l.0)) (named_fault w (Owner.Load l) [] hs)) good in
+    let second = both-none (if_there (λ (load : OpenLoad). cell_fault load.root) None (w.loads l.0)) (named_fault w (Owner.Load l) [] hs) first.1 in
     let may = asker-owns whole me l first.0 in
     let s = is_in (numbers_of hs) in
     let m : Core = record (opened w) { rows = moved s me w.rows } in
-    let given = λ (q : ℕ). is_owned_in w (owners.Load l) q && not (is_in (numbers_of hs) q) in
+    let given = λ (q : ℕ). is_owned_in w (Owner.Load l) q && not (is_in (numbers_of hs) q) in
     falls-opened (closes {u = m} l given whole (moved-to-holder whole s (unlisted second.1) me (not-list w me (may-hold w me may)) (may-hold w me may)) (moved-on whole s me)
     (left-given may)) falls.falls placed
   where
-    unlisted : named_fault w (owners.Load l) [] hs ≡ None → (x : HandleRow) → Among w.rows x → is_in (numbers_of hs) x.number.0 ≡ true → is_owned_by owners.List x ≡ false
+    unlisted : named_fault w (Owner.Load l) [] hs ≡ None → (x : HandleRow) → Among w.rows x → is_in (numbers_of hs) x.number.0 ≡ true → is_owned_by Owner.List x ≡ false
     unlisted good x among named =
-        let m = handed-mine w (owners.Load l) [] hs good x.number.0 named in
+        let m = handed-mine w (Owner.Load l) [] hs good x.number.0 named in
         let a = found-among x.number.0 w.rows m.row m.live in
-        ap (is_owned_by owners.List) (once w.rows whole.handles.ordered x m.row among a.0 (sym a.1)) ∙ ap (is_owner owners.List) m.own
+        ap (is_owned_by Owner.List) (once w.rows whole.handles.ordered x m.row among a.0 (sym a.1)) ∙ ap (is_owner Owner.List) m.own
 
-    left-given : MayOwnLoad w me → (y : HandleRow) → Among (moved (is_in (numbers_of hs)) me w.rows) y → y.owner ≡ owners.Load l
-        → (is_owned_in w (owners.Load l) y.number.0 && not (is_in (numbers_of hs) y.number.0)) ≡ true
+    left-given : MayOwnLoad w me → (y : HandleRow) → Among (moved (is_in (numbers_of hs)) me w.rows) y → y.owner ≡ Owner.Load l
+        → (is_owned_in w (Owner.Load l) y.number.0 && not (is_in (numbers_of hs) y.number.0)) ≡ true
     left-given may y among own =
         let old = among-map (λ (z : HandleRow). if is_in (numbers_of hs) z.number.0 then record z { owner = me } else z) w.rows y among in
         of old.0 old.1 (is_in (numbers_of hs) old.0.number.0) refl old.2
       where
         of : (z : HandleRow) → Among w.rows z → (b : Bool) → is_in (numbers_of hs) z.number.0 ≡ b → y ≡ (if b then record z { owner = me } else z)
-            → (is_owned_in w (owners.Load l) y.number.0 && not (is_in (numbers_of hs) y.number.0)) ≡ true
+            → (is_owned_in w (Owner.Load l) y.number.0 && not (is_in (numbers_of hs) y.number.0)) ≡ true
         of z there true e is = absurd (not-load w me l may (ap (λ (v : HandleRow). v.owner) (sym is) ∙ own))
         of z there false e is =
             let n = ap (λ (v : HandleRow). v.number.0) is in
-            both-true _ _ (ap (is_owned_in w (owners.Load l)) n ∙ owned-in whole l z there (ap (λ (v : HandleRow). v.owner) (sym is) ∙ own)) (ap (is_in (numbers_of hs)) n ∙ e)
+            both-true _ _ (ap (is_owned_in w (Owner.Load l)) n ∙ owned-in whole l z there (ap (λ (v : HandleRow). v.owner) (sym is) ∙ own)) (ap (is_in (numbers_of hs)) n ∙ e)
 hand-over-whole me l hs (Err e) whole call placed = alike-whole whole (alike-opened call.refused.1) placed
 
 -- ---- the close of the storage
@@ -267,7 +251,7 @@ hand-over-whole me l hs (Err e) whole call placed = alike-whole whole (alike-ope
 pub close-whole : {w w' : Core} (r : Result (Unit {0}) Error) → IsWhole (opened w) → CloseCall w r w' → ArePlaced (opened w') → IsWhole (opened w')
 close-whole {w} {w'} r whole call placed = falls-opened fall call.falls.falls placed
   where
-    at : (q k : ℕ) → times (λ (h : HandleNumber). h.0 == q) w.list ≡ k → (0 ≡ times (λ h. is_handle q h && is_owned_by owners.List h) w.rows) ⊎ ((is_listed w q ≡ true) × (◌≡◌ {A = ℕ} 0 0))
+    at : (q k : ℕ) → times (λ (h : HandleNumber). h.0 == q) w.list ≡ k → (0 ≡ times (λ h. is_handle q h && is_owned_by Owner.List h) w.rows) ⊎ ((is_listed w q ≡ true) × (◌≡◌ {A = ℕ} 0 0))
     at q zero none = inl (sym (sym (whole.owners_there.listed q) ∙ none))
     at q (suc k) some = inr (grind (arith, nat_tests), refl)
 
@@ -290,7 +274,7 @@ close-whole {w} {w'} r whole call placed = falls-opened fall call.falls.falls pl
           listed = λ q. at q (times (λ (h : HandleNumber). h.0 == q) w.list) refl;
           waiting = o.waiting;
           loads_there = λ x l among own. inl (o.loads x l among own);
-          workers_there = o.workers;
+          workers_there = λ x v among is. inl (o.workers x v among is);
           loads = record {
             numbered = whole.loads.numbered;
             owned = λ l load is. may-own w after (λ v at. at) load.owner (whole.loads.owned l load is);

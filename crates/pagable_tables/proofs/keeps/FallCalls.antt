@@ -1,20 +1,7 @@
 -- Calls by which handles or values fall keep the world whole.
-use Rattle.std.proofs.Common.{◌≡◌, ℕ, ◌<◌, ◌==◌, Bool, true, false, Option, Some, None, inl, inr, refl, ap, sym, ◌∙◌, if◌then◌else◌, arith}
-use Rattle.std.specs.Prelude.{Result, is_some}
-use Rattle.std.proofs.lemmas.Bool.Decides.{nat_tests}
-use Rattle.pagable_model.specs.declared.data_key.OptionalDataKey.TheVariants as optional
-use Rattle.pagable_model.specs.declared.error.Error.{Error}
-use Rattle.pagable_model.specs.declared.numbers.HandleNumber.{HandleNumber}
-use Rattle.pagable_model.specs.declared.numbers.NodeNumber.{NodeNumber}
-use Rattle.pagable_world.specs.declared.handles.Owner.{Owner}
-use Rattle.pagable_world.specs.declared.rows.Mode.TheVariants as modes
-use Rattle.pagable_world.specs.Plain.{if_there}
-use Rattle.pagable_world.specs.Kinds.{is_shared, sharing}
-use Rattle.pagable_world.specs.World.{Core, Cell}
-use Rattle.pagable_world.specs.Cascade.{only_handle, nobody}
-use Rattle.pagable_world.specs.Calls.{with_key, ReleaseCall, UnpinCall, SetKeyCall}
-use Rattle.pagable_world.specs.Pager.{IsWhole}
-use Rattle.pagable_tables.specs.Core.{ArePlaced}
+use Rattle.pagable_tables.proofs.Words.{◌≡◌, ℕ, ◌<◌, ◌==◌, Bool, true, false, Option, Some, None, inl, inr, refl, ap, sym, ◌∙◌, if◌then◌else◌, arith, Result, is_some, nat_tests, OptionalDataKey}
+use Rattle.pagable_tables.proofs.Words.{Error, HandleNumber, NodeNumber, Owner, Mode, if_there, is_shared, sharing, Core, Cell, only_handle, nobody, with_key, ReleaseCall, UnpinCall, SetKeyCall}
+use Rattle.pagable_tables.proofs.Words.{IsWhole, ArePlaced}
 use Rattle.pagable_tables.proofs.keeps.Rows.{found-among}
 use Rattle.pagable_tables.proofs.keeps.Told.{roomy-whole, alike-whole, may-own}
 use Rattle.pagable_tables.proofs.keeps.GoingOn.{GoesOn, stays-on}
@@ -35,9 +22,9 @@ unpin-whole me h r whole call placed = elim call.does [
   | inl refused ↦ alike-whole whole (alike-opened refused.stays) placed
   | inr (row, owns, inl stays) ↦ alike-whole whole (alike-opened stays.2) placed
   | inr (row, owns, inr (pinned, falls)) ↦
-      let unshared : is_shared modes.LooseUnpinned ≡ is_shared row.mode = ap is_shared (sym pinned) in
-      falls-opened (may-fall nobody whole (moded-whole whole h row modes.LooseUnpinned owns.live unshared (λ loose. refl) (λ is. refl))
-      (moded-on whole h row modes.LooseUnpinned owns.live unshared (λ loose. refl) (λ is. refl))) falls placed
+      let unshared : is_shared Mode.LooseUnpinned ≡ is_shared row.mode = ap is_shared (sym pinned) in
+      falls-opened (may-fall nobody whole (moded-whole whole h row Mode.LooseUnpinned owns.live unshared (λ loose. refl) (λ is. refl))
+      (moded-on whole h row Mode.LooseUnpinned owns.live unshared (λ loose. refl) (λ is. refl))) falls placed
 ]
 
 -- ---- a key
@@ -45,7 +32,7 @@ unpin-whole me h r whole call placed = elim call.does [
 -- a cell that isn't shared gets a key
 module _ {w : Core} (whole : IsWhole w) (node : NodeNumber) (key : ℕ) (unshared : sharing node.0 w.rows ≡ 0) where
   abbrev rekey : Option Cell → Option Cell
-  rekey cell = if_there (λ (cell : Cell). Some (record cell { key = optional.Some key })) None cell
+  rekey cell = if_there (λ (cell : Cell). Some (record cell { key = OptionalDataKey.Some key })) None cell
 
   kept : {X : Type 0} (f : Option Cell → X) → ((cell : Option Cell) → f (rekey cell) ≡ f cell) → (n : ℕ) → f ((with_key w node key).cells n) ≡ f (w.cells n)
   kept {X} f same n = at (n == node.0) refl

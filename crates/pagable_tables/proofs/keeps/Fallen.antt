@@ -32,7 +32,7 @@ pub record MayFall (before u : Core) (given : ℕ → Bool) : Type 0 where
       ⊎ ((given q ≡ true) × (times (λ (h : HandleNumber). h.0 == q) u.list ≡ 0))
   pub waiting : (h : HandleRow) → Among u.rows h → h.owner ≡ owners.List → h.mode ≡ modes.LooseUnpinned
   pub loads_there : (h : HandleRow) (l : LoadNumber) → Among u.rows h → h.owner ≡ owners.Load l → (is_some (u.loads l.0) ≡ true) ⊎ (given h.number.0 ≡ true)
-  pub workers_there : (h : HandleRow) (v : ℕ) → Among u.rows h → h.owner ≡ owners.Worker (record { 0 = v }) → u.workers v ≡ true
+  pub workers_there : (h : HandleRow) (v : ℕ) → Among u.rows h → h.owner ≡ owners.Worker (record { 0 = v }) → (u.workers v ≡ true) ⊎ (given h.number.0 ≡ true)
   pub loads : LoadsAreWhole u
   pub cache : (kind key n : ℕ) → u.cache kind key ≡ Some n → IsEntryWhole u kind n
   pub workers_numbered : (v : ℕ) → u.workers v ≡ true → v ≤ u.last.worker
@@ -202,7 +202,11 @@ module _ {before u : Core} {given : ℕ → Bool} (may : MayFall before u given)
             ])
             (λ x come e is. let f : owners.List ≡ owners.Load l = sym e.owner ∙ is in absurd (cc)) h among;
         workers = λ h v among. each-row (λ x. x.owner ≡ owners.Worker (record { 0 = v }) → u.workers v ≡ true)
-            (λ x old kept. may.workers_there x v old) (λ x come e is. let f : owners.List ≡ owners.Worker (record { 0 = v }) = sym e.owner ∙ is in absurd (cc)) h among;
+            (λ x old kept is. elim (may.workers_there x v old is) [
+              | inl some ↦ some
+              | inr gives ↦ let f : true ≡ false = sym (within-goes u.rows given gone x within old gives) ∙ kept in absurd (cc)
+            ])
+            (λ x come e is. let f : owners.List ≡ owners.Worker (record { 0 = v }) = sym e.owner ∙ is in absurd (cc)) h among;
       }
 
   after-root : (node : NodeNumber) (t : ℕ) (h : HandleNumber) → IsRootWhole u node t h → IsRootWhole after node t h
@@ -291,7 +295,7 @@ may-fall {before} {u} given was whole on =
       listed = λ q. inl (o.listed q);
       waiting = o.waiting;
       loads_there = λ h l among is. inl (o.loads h l among is);
-      workers_there = o.workers;
+      workers_there = λ h v among is. inl (o.workers h v among is);
       loads = roomy-loads u whole.loads;
       cache = λ kind key n is. let e = whole.cache kind key n is in record { given = e.given; typed = e.typed; shares = e.shares };
       workers_numbered = whole.workers_numbered;

@@ -1,10 +1,5 @@
 -- What a call makes directly leaves nodes there, and those that aren't shared unshared.
-use Rattle.std.proofs.Common.{◌≡◌, ℕ, ◌+◌, ◌<◌, ◌≤◌, true, ◌∙◌, inl, inr, arith}
-use Rattle.std.specs.Prelude.{is_some, nat_lt}
-use Rattle.std.proofs.lemmas.Bool.Decides.{nat_tests}
-use Rattle.pagable_world.specs.Kinds.{held, pins, sharing}
-use Rattle.pagable_world.specs.World.{Core}
-use Rattle.pagable_world.specs.Pager.{HandlesAreWhole, IsWhole}
+use Rattle.pagable_tables.proofs.Words.{◌≡◌, ℕ, ◌+◌, ◌<◌, ◌≤◌, true, ◌∙◌, inl, inr, arith, is_some, nat_lt, nat_tests, held, pins, sharing, Core, HandlesAreWhole, IsWhole}
 use Rattle.pagable_tables.proofs.Fitting.{pins-le-held}
 use Rattle.pagable_tables.proofs.keeps.Told.{roomy}
 

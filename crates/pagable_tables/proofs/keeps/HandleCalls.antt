@@ -1,23 +1,7 @@
 -- Calls by which a handle comes or is pinned keep the world whole.
-use Rattle.std.proofs.Common.{◌≡◌, ◌<◌, true, false, Ok, Err, Some, refl, ap, sym, ◌∙◌}
-use Rattle.std.specs.Prelude.{Result}
-use Rattle.pagable_model.specs.declared.error.Error.{Error}
-use Rattle.pagable_model.specs.declared.numbers.HandleNumber.{HandleNumber}
-use Rattle.pagable_model.specs.declared.numbers.NodeNumber.{NodeNumber}
-use Rattle.pagable_world.specs.declared.handles.HandleRow.{HandleRow}
-use Rattle.pagable_world.specs.declared.handles.Owner.{Owner}
-use Rattle.pagable_world.specs.declared.handles.Owner.TheVariants as owners
-use Rattle.pagable_world.specs.declared.rows.Mode.{Mode}
-use Rattle.pagable_world.specs.declared.rows.Mode.TheVariants as modes
-use Rattle.pagable_world.specs.Kinds.{is_shared, is_pinned, is_loose, is_owner, is_owned_by}
-use Rattle.pagable_world.specs.declared.answers.Pinning.{Pinning}
-use Rattle.pagable_world.specs.declared.answers.Pinning.TheVariants as pinnings
-use Rattle.pagable_world.specs.Refusals.{Owns}
-use Rattle.pagable_world.specs.LoadCalls.{with_pin}
-use Rattle.pagable_world.specs.World.{Core, row_at, greatest}
-use Rattle.pagable_world.specs.Calls.{with_mode, CloneCall, LoosenCall, PinCall}
-use Rattle.pagable_world.specs.Pager.{IsWhole}
-use Rattle.pagable_tables.specs.Core.{ArePlaced, MayHold, Suits, Makes}
+use Rattle.pagable_tables.proofs.Words.{◌≡◌, ◌<◌, true, false, Ok, Err, Some, refl, ap, sym, ◌∙◌, Result, Error, HandleNumber, NodeNumber, HandleRow, Owner, Mode, is_shared, is_pinned, is_loose}
+use Rattle.pagable_tables.proofs.Words.{is_owner, is_owned_by, Pinning, Owns, with_pin, Core, row_at, greatest, with_mode, CloneCall, LoosenCall, PinCall, IsWhole, ArePlaced, MayHold, Suits}
+use Rattle.pagable_tables.proofs.Words.{Makes}
 use Rattle.pagable_tables.proofs.keeps.Rows.{found-among}
 use Rattle.pagable_tables.proofs.keeps.Told.{roomy, settles, alike-whole}
 use Rattle.pagable_tables.proofs.keeps.GoingOn.{GoesOn, then-on}
@@ -38,30 +22,25 @@ clone-whole me h (Ok k) whole holder call placed = let row = call.made.0 in sett
 clone-whole me h (Err e) whole holder call placed = alike-whole whole call.refused.stays placed
 
 -- the list's handles are owned by the list
-owned-by-list : (row : HandleRow) → is_owned_by owners.List row ≡ false → row.owner ≡ owners.List → ⊥
-owned-by-list row other is = let f : true ≡ false = ap (λ (o : Owner). is_owned_by owners.List (record row { owner = o })) (sym is) ∙ other in absurd (cc)
+owned-by-list : (row : HandleRow) → is_owned_by Owner.List row ≡ false → row.owner ≡ Owner.List → ⊥
+owned-by-list row other is = let f : true ≡ false = ap (λ (o : Owner). is_owned_by Owner.List (record row { owner = o })) (sym is) ∙ other in absurd (cc)
 
 -- a handle that is loose or Pinned, and not the list's, is loose and pins
-pub pins-whole : {w : Core} (h : HandleNumber) (row : HandleRow) → IsWhole w → row_at w h ≡ Some row → is_shared row.mode ≡ false → is_owned_by owners.List row ≡ false
-    → IsWhole (roomy (with_mode w h modes.LoosePinned))
-pins-whole h row whole live unshared other = moded-whole whole h row modes.LoosePinned live (sym unshared) (λ loose. refl) (λ is. absurd (owned-by-list row other is))
+pub pins-whole : {w : Core} (h : HandleNumber) (row : HandleRow) → IsWhole w → row_at w h ≡ Some row → is_shared row.mode ≡ false → is_owned_by Owner.List row ≡ false
+    → IsWhole (roomy (with_mode w h Mode.LoosePinned))
+pins-whole h row whole live unshared other = moded-whole whole h row Mode.LoosePinned live (sym unshared) (λ loose. refl) (λ is. absurd (owned-by-list row other is))
 
-pub is-pinned : (mode : Mode) → is_pinned mode ≡ true → mode ≡ modes.Pinned
-is-pinned modes.Pinned is = refl
-is-pinned modes.LoosePinned is = absurd (cc)
-is-pinned modes.LooseUnpinned is = absurd (cc)
-is-pinned modes.Shared is = absurd (cc)
+pub is-pinned : (mode : Mode) → is_pinned mode ≡ true → mode ≡ Mode.Pinned
+is-pinned Mode.Pinned is = refl
+is-pinned _ is = absurd (cc)
 
 -- a Pinned handle isn't the list's
-pub pinned-unlisted : {w : Core} (h : HandleNumber) (row : HandleRow) → IsWhole w → row_at w h ≡ Some row → is_pinned row.mode ≡ true → is_owned_by owners.List row ≡ false
+pub pinned-unlisted : {w : Core} (h : HandleNumber) (row : HandleRow) → IsWhole w → row_at w h ≡ Some row → is_pinned row.mode ≡ true → is_owned_by Owner.List row ≡ false
 pinned-unlisted {w} h row whole live pinned = of row.owner refl
   where
-    of : (o : Owner) → row.owner ≡ o → is_owned_by owners.List (record row { owner = o }) ≡ false
-    of owners.Caller is = refl
-    of (owners.Value n) is = refl
-    of owners.List is = let e = whole.owners_there.waiting row (found-among h.0 w.rows row live).0 is in let f : modes.LooseUnpinned ≡ modes.Pinned = sym e ∙ is-pinned row.mode pinned in absurd (cc)
-    of (owners.Load l) is = refl
-    of (owners.Worker v) is = refl
+    of : (o : Owner) → row.owner ≡ o → is_owned_by Owner.List (record row { owner = o }) ≡ false
+    of Owner.List is = let e = whole.owners_there.waiting row (found-among h.0 w.rows row live).0 is in let f : Mode.LooseUnpinned ≡ Mode.Pinned = sym e ∙ is-pinned row.mode pinned in absurd (cc)
+    of _ is = refl
 
 pub loosen-whole : {w w' : Core} (me : Owner) (h : HandleNumber) (r : Result HandleNumber Error) → IsWhole w → LoosenCall w me h r w' → ArePlaced w' → IsWhole w'
 loosen-whole me h (Ok k) whole call placed =
@@ -71,32 +50,32 @@ loosen-whole me h (Ok k) whole call placed =
 loosen-whole me h (Err e) whole call placed = alike-whole whole call.refused.1 placed
 
 pub loose-unshared : (mode : Mode) → is_loose mode ≡ true → is_shared mode ≡ false
-loose-unshared modes.LoosePinned is = refl
-loose-unshared modes.LooseUnpinned is = refl
-loose-unshared modes.Pinned is = absurd (cc)
-loose-unshared modes.Shared is = absurd (cc)
+loose-unshared Mode.LoosePinned is = refl
+loose-unshared Mode.LooseUnpinned is = refl
+loose-unshared Mode.Pinned is = absurd (cc)
+loose-unshared Mode.Shared is = absurd (cc)
 
 -- a loose handle of one who may hold is pinned, and a Pinned one is made
 pub pin-comes : {w : Core} (h : HandleNumber) (row : HandleRow) (me : Owner) → IsWhole w → MayHold w me → Owns w me h is_loose row → w.last.handle < greatest
     → IsWhole (roomy (with_pin w h row.node me))
 pin-comes {w} h row me whole holder owns left =
     let unshared = loose-unshared row.mode owns.as_asked in
-    let suits : Suits (with_mode w h modes.LoosePinned) row.node modes.Pinned = record {
-      row = record row { mode = modes.LoosePinned };
-      there = moded-among whole h row modes.LoosePinned owns.live (sym unshared) (λ loose. refl) (λ is. absurd (not-the-list w me holder (sym owns.own ∙ is)));
+    let suits : Suits (with_mode w h Mode.LoosePinned) row.node Mode.Pinned = record {
+      row = record row { mode = Mode.LoosePinned };
+      there = moded-among whole h row Mode.LoosePinned owns.live (sym unshared) (λ loose. refl) (λ is. absurd (not-the-list w me holder (sym owns.own ∙ is)));
       at = refl;
       shared = refl;
     } in
-    beside (pins-whole h row whole owns.live unshared (ap (is_owner owners.List) owns.own ∙ not-list w me holder)) row.node modes.Pinned
+    beside (pins-whole h row whole owns.live unshared (ap (is_owner Owner.List) owns.own ∙ not-list w me holder)) row.node Mode.Pinned
     (record { row = suits.row; there = suits.there; at = refl; shared = refl }) me holder left
 
 pub pin-on : {w : Core} (h : HandleNumber) (row : HandleRow) (me : Owner) → IsWhole w → MayHold w me → Owns w me h is_loose row → GoesOn w (with_pin w h row.node me)
 pin-on {w} h row me whole holder owns =
     let unshared = loose-unshared row.mode owns.as_asked in
-    then-on (moded-on whole h row modes.LoosePinned owns.live (sym unshared) (λ loose. refl) (λ is. absurd (not-the-list w me holder (sym owns.own ∙ is))))
-    (handle-on (with_mode w h modes.LoosePinned) row.node modes.Pinned me)
+    then-on (moded-on whole h row Mode.LoosePinned owns.live (sym unshared) (λ loose. refl) (λ is. absurd (not-the-list w me holder (sym owns.own ∙ is))))
+    (handle-on (with_mode w h Mode.LoosePinned) row.node Mode.Pinned me)
 
 pub pin-whole : {w w' : Core} (me : Owner) (h : HandleNumber) (r : Result Pinning Error) → IsWhole w → MayHold w me → PinCall w me h r w' → ArePlaced w' → IsWhole w'
-pin-whole me h (Ok (pinnings.Pinned k)) whole holder call placed = let (row, owns, does) = call.pins in settles (pin-comes h row me whole holder owns does.1.is_left) does.2 placed
-pin-whole me h (Ok (pinnings.NeedsLoad key)) whole holder call placed = alike-whole whole call.pins.2.2 placed
+pin-whole me h (Ok (Pinning.Pinned k)) whole holder call placed = let (row, owns, does) = call.pins in settles (pin-comes h row me whole holder owns does.1.is_left) does.2 placed
+pin-whole me h (Ok (Pinning.NeedsLoad key)) whole holder call placed = alike-whole whole call.pins.2.2 placed
 pin-whole me h (Err e) whole holder call placed = alike-whole whole call.refused.stays placed

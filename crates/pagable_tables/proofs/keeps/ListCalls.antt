@@ -1,24 +1,8 @@
 -- Calls by which handles go to the list and come from it keep the world whole.
-use Rattle.std.proofs.Common.{◌≡◌, ℕ, ◌+◌, ◌<◌, ◌==◌, ◌&&◌, Bool, true, false, Ok, Err, if◌then◌else◌, [], ◌∷◌, ◌++◌, Option, Some, None, inl, inr, refl, ap, sym, subst, ◌∙◌, arith, slice_get, get_or}
-use Rattle.std.specs.Prelude.{Result}
+use Rattle.pagable_tables.proofs.Words.{◌≡◌, ℕ, ◌+◌, ◌<◌, ◌==◌, ◌&&◌, Bool, true, false, Ok, Err, if◌then◌else◌, [], ◌∷◌, ◌++◌, Option, Some, None, inl, inr, refl, ap, sym, subst, ◌∙◌, arith}
+use Rattle.pagable_tables.proofs.Words.{slice_get, get_or, Result, nat_tests, sum_by_push, sum_by-remove, get_or_from_slice_get, slice_get_within, Error, HandleNumber, HandleRow, Owner, Mode}
+use Rattle.pagable_tables.proofs.Words.{one, Among, times, is_owner, is_owned_by, is_unpinned, Core, only_handle, moved, ScheduleCall, TakeCall, IsWhole, ArePlaced, MayHold}
 use Rattle.std.specs.List.{remove}
-use Rattle.std.proofs.lemmas.Bool.Decides.{nat_tests}
-use Rattle.std.proofs.lemmas.List.Sums.{sum_by_push, sum_by-remove}
-use Rattle.std.proofs.lemmas.Option.{get_or_from_slice_get, slice_get_within}
-use Rattle.pagable_model.specs.declared.error.Error.{Error}
-use Rattle.pagable_model.specs.declared.numbers.HandleNumber.{HandleNumber}
-use Rattle.pagable_world.specs.declared.handles.HandleRow.{HandleRow}
-use Rattle.pagable_world.specs.declared.handles.Owner.{Owner}
-use Rattle.pagable_world.specs.declared.handles.Owner.TheVariants as owners
-use Rattle.pagable_world.specs.declared.rows.Mode.{Mode}
-use Rattle.pagable_world.specs.declared.rows.Mode.TheVariants as modes
-use Rattle.pagable_world.specs.Plain.{one, Among, times}
-use Rattle.pagable_world.specs.Kinds.{is_owner, is_owned_by, is_unpinned}
-use Rattle.pagable_world.specs.World.{Core}
-use Rattle.pagable_world.specs.Cascade.{only_handle}
-use Rattle.pagable_world.specs.Calls.{moved, ScheduleCall, TakeCall}
-use Rattle.pagable_world.specs.Pager.{IsWhole}
-use Rattle.pagable_tables.specs.Core.{ArePlaced, MayHold}
 use Rattle.pagable_tables.proofs.keeps.Rows.{among-to, counted, found-among, once, only-row, ordered-map, sum-map}
 use Rattle.pagable_tables.proofs.keeps.Told.{roomy, roomy-whole, settles, alike-whole}
 use Rattle.pagable_tables.proofs.keeps.GoingOn.{stays-on}
@@ -35,64 +19,62 @@ module _ {w : Core} (whole : IsWhole w) (h : HandleNumber) (row : HandleRow) (ow
   here = grind (arith, nat_tests)
 
   other-lists : (x : HandleRow) → (x.number.0 == row.number.0) ≡ false → one (lists h.0 x) ≡ 0
-  other-lists x other = let a : (x.number.0 == h.0) ≡ false = grind (arith, nat_tests) in ap (λ b. one (b && is_owned_by owners.List x)) a
+  other-lists x other = let a : (x.number.0 == h.0) ≡ false = grind (arith, nat_tests) in ap (λ b. one (b && is_owned_by Owner.List x)) a
 
-  pub lists-then : times (lists h.0) w.rows ≡ one (is_owned_by owners.List row)
-  lists-then = only-row (λ x. one (lists h.0 x)) w.rows row whole.handles.ordered among other-lists ∙ ap (λ b. one (b && is_owned_by owners.List row)) here
+  pub lists-then : times (lists h.0) w.rows ≡ one (is_owned_by Owner.List row)
+  lists-then = only-row (λ x. one (lists h.0 x)) w.rows row whole.handles.ordered among other-lists ∙ ap (λ b. one (b && is_owned_by Owner.List row)) here
 
-  pub lists-now : times (lists h.0) (moved (only_handle h) owner w.rows) ≡ one (is_owner owners.List owner)
+  pub lists-now : times (lists h.0) (moved (only_handle h) owner w.rows) ≡ one (is_owner Owner.List owner)
   lists-now =
       only-row (λ x. one (lists h.0 x)) (moved (only_handle h) owner w.rows) (record row { owner = owner })
       (ordered-map to-owner w.rows (moved-number whole (only_handle h) owner) whole.handles.ordered)
       (subst (Among (moved (only_handle h) owner w.rows)) (ap (λ b. if b then record row { owner = owner } else row) here) (among-to to-owner w.rows row among)) other-lists
-      ∙ ap (λ b. one (b && is_owner owners.List owner)) here
+      ∙ ap (λ b. one (b && is_owner Owner.List owner)) here
 
   -- of other numbers nothing moves
   pub lists-others : (q : ℕ) → (h.0 == q) ≡ false → times (lists q) (moved (only_handle h) owner w.rows) ≡ times (lists q) w.rows
   lists-others q other =
       sum-map (λ x. one (lists q x)) (λ x. one (lists q x)) to-owner w.rows
       (λ x there. each-moved whole (only_handle h) owner (λ y. one (lists q y) ≡ one (lists q x)) x
-      (λ e. let a : (x.number.0 == q) ≡ false = grind (arith, nat_tests) in ap (λ b. one (b && is_owner owners.List owner)) a ∙ sym (ap (λ b. one (b && is_owned_by owners.List x)) a)) (λ e. refl))
+      (λ e. let a : (x.number.0 == q) ≡ false = grind (arith, nat_tests) in ap (λ b. one (b && is_owner Owner.List owner)) a ∙ sym (ap (λ b. one (b && is_owned_by Owner.List x)) a)) (λ e. refl))
 
-is-unpinned : (mode : Mode) → is_unpinned mode ≡ true → mode ≡ modes.LooseUnpinned
-is-unpinned modes.LooseUnpinned is = refl
-is-unpinned modes.LoosePinned is = absurd (cc)
-is-unpinned modes.Pinned is = absurd (cc)
-is-unpinned modes.Shared is = absurd (cc)
+is-unpinned : (mode : Mode) → is_unpinned mode ≡ true → mode ≡ Mode.LooseUnpinned
+is-unpinned Mode.LooseUnpinned is = refl
+is-unpinned _ is = absurd (cc)
 
 same-number : (a b : ℕ) → (a == b) ≡ true → a ≡ b
 same-number a b is = grind (arith, nat_tests)
 
 pub schedule-whole : {w w' : Core} (me : Owner) (h : HandleNumber) (r : Result (Unit {0}) Error) → IsWhole w → MayHold w me → ScheduleCall w me h r w' → ArePlaced w' → IsWhole w'
 schedule-whole {w} {w'} me h (Ok u) whole holder call placed = let (row, owns, does) = call.moves in elim does [
-  | inl (stands_open, alike) ↦ settles (listed row (found-among h.0 w.rows row owns.live).0 (found-among h.0 w.rows row owns.live).1 (ap (is_owner owners.List) owns.own ∙ not-list w me holder)
+  | inl (stands_open, alike) ↦ settles (listed row (found-among h.0 w.rows row owns.live).0 (found-among h.0 w.rows row owns.live).1 (ap (is_owner Owner.List) owns.own ∙ not-list w me holder)
       (is-unpinned row.mode owns.as_asked) stands_open) alike placed
   | inr (closed, falls) ↦ falls-whole (may-fall (only_handle h) whole (roomy-whole whole) (stays-on w)) falls.falls placed
 ]
   where
-    listed : (row : HandleRow) → Among w.rows row → row.number.0 ≡ h.0 → is_owned_by owners.List row ≡ false → row.mode ≡ modes.LooseUnpinned → w.closed ≡ false
-        → IsWhole (roomy (record w { rows = moved (only_handle h) owners.List w.rows; list = w.list ++ h ∷ [] }))
+    listed : (row : HandleRow) → Among w.rows row → row.number.0 ≡ h.0 → is_owned_by Owner.List row ≡ false → row.mode ≡ Mode.LooseUnpinned → w.closed ≡ false
+        → IsWhole (roomy (record w { rows = moved (only_handle h) Owner.List w.rows; list = w.list ++ h ∷ [] }))
     listed row among number mine mode stands_open =
-        moved-so whole (only_handle h) owners.List (w.list ++ h ∷ []) (λ q. at q (h.0 == q) refl)
+        moved-so whole (only_handle h) Owner.List (w.list ++ h ∷ []) (λ q. at q (h.0 == q) refl)
         (λ x there e own. ap (λ (y : HandleRow). y.mode) (once w.rows whole.handles.ordered x row there among (same-number x.number.0 h.0 e ∙ sym number)) ∙ mode)
         (λ l own. absurd (cc)) (λ v own. absurd (cc)) (λ closed. absurd (cc))
       where
-        at : (q : ℕ) (b : Bool) → (h.0 == q) ≡ b → times (λ (k : HandleNumber). k.0 == q) (w.list ++ h ∷ []) ≡ times (lists q) (moved (only_handle h) owners.List w.rows)
+        at : (q : ℕ) (b : Bool) → (h.0 == q) ≡ b → times (λ (k : HandleNumber). k.0 == q) (w.list ++ h ∷ []) ≡ times (lists q) (moved (only_handle h) Owner.List w.rows)
         at q true e =
             let a = sum_by_push (λ (k : HandleNumber). one (k.0 == h.0)) w.list h in
             let i : (h.0 == h.0) ≡ true = grind (arith, nat_tests) in
             let b : one (h.0 == h.0) ≡ 1 = ap one i in
             let c = whole.owners_there.listed h.0 in
-            let d = lists-then whole h row owners.List among number in
-            let f : one (is_owned_by owners.List row) ≡ 0 = ap one mine in
-            let g = lists-now whole h row owners.List among number in
-            let k : times (λ (k : HandleNumber). k.0 == h.0) (w.list ++ h ∷ []) ≡ times (lists h.0) (moved (only_handle h) owners.List w.rows) = omega arith in
-            subst (λ n. times (λ (k : HandleNumber). k.0 == n) (w.list ++ h ∷ []) ≡ times (lists n) (moved (only_handle h) owners.List w.rows)) (same-number h.0 q e) k
+            let d = lists-then whole h row Owner.List among number in
+            let f : one (is_owned_by Owner.List row) ≡ 0 = ap one mine in
+            let g = lists-now whole h row Owner.List among number in
+            let k : times (λ (k : HandleNumber). k.0 == h.0) (w.list ++ h ∷ []) ≡ times (lists h.0) (moved (only_handle h) Owner.List w.rows) = omega arith in
+            subst (λ n. times (λ (k : HandleNumber). k.0 == n) (w.list ++ h ∷ []) ≡ times (lists n) (moved (only_handle h) Owner.List w.rows)) (same-number h.0 q e) k
         at q false e =
             let a = sum_by_push (λ (k : HandleNumber). one (k.0 == q)) w.list h in
             let b : one (h.0 == q) ≡ 0 = ap one e in
             let c = whole.owners_there.listed q in
-            let d = lists-others whole h row owners.List among number q e in
+            let d = lists-others whole h row Owner.List among number q e in
             omega arith
 schedule-whole me h (Err e) whole holder call placed = alike-whole whole call.refused.stays placed
 
@@ -105,16 +87,16 @@ take-whole {w} {w'} me i (Some h) whole holder call placed = settles taken call.
         let b : one ((get_or w.list i h).0 == q) ≡ one (h.0 == q) = ap (λ (k : HandleNumber). one (k.0 == q)) (get_or_from_slice_get w.list i h h call.0) in
         omega arith
 
-    lists-one : (x : HandleRow) → 0 < one (lists h.0 x) → (x.number.0 ≡ h.0) × (is_owned_by owners.List x ≡ true)
-    lists-one x some = at (x.number.0 == h.0) (is_owned_by owners.List x) refl refl some
+    lists-one : (x : HandleRow) → 0 < one (lists h.0 x) → (x.number.0 ≡ h.0) × (is_owned_by Owner.List x ≡ true)
+    lists-one x some = at (x.number.0 == h.0) (is_owned_by Owner.List x) refl refl some
       where
-        at : (b c : Bool) → (x.number.0 == h.0) ≡ b → is_owned_by owners.List x ≡ c → 0 < one (b && c) → (x.number.0 ≡ h.0) × (is_owned_by owners.List x ≡ true)
+        at : (b c : Bool) → (x.number.0 == h.0) ≡ b → is_owned_by Owner.List x ≡ c → 0 < one (b && c) → (x.number.0 ≡ h.0) × (is_owned_by Owner.List x ≡ true)
         at true true e f some = (same-number x.number.0 h.0 e, f)
         at true false e f some = absurd (omega arith)
         at false c e f some = absurd (omega arith)
 
     -- the entry's handle is the list's
-    entry : (x : HandleRow) × Among w.rows x × (x.number.0 ≡ h.0) × (is_owned_by owners.List x ≡ true)
+    entry : (x : HandleRow) × Among w.rows x × (x.number.0 ≡ h.0) × (is_owned_by Owner.List x ≡ true)
     entry =
         let a = less h.0 in
         let e : (h.0 == h.0) ≡ true = grind (arith, nat_tests) in
@@ -132,9 +114,9 @@ take-whole {w} {w'} me i (Some h) whole holder call placed = settles taken call.
         let b : one (h.0 == h.0) ≡ 1 = ap one z in
         let c = whole.owners_there.listed h.0 in
         let d = lists-then whole h row me among number in
-        let f : one (is_owned_by owners.List row) ≡ 1 = ap one owned in
+        let f : one (is_owned_by Owner.List row) ≡ 1 = ap one owned in
         let g = lists-now whole h row me among number in
-        let k : one (is_owner owners.List me) ≡ 0 = ap one (not-list w me holder) in
+        let k : one (is_owner Owner.List me) ≡ 0 = ap one (not-list w me holder) in
         let l : times (λ (k : HandleNumber). k.0 == h.0) (remove w.list i) ≡ times (lists h.0) (moved (only_handle h) me w.rows) = omega arith in
         subst (λ n. times (λ (k : HandleNumber). k.0 == n) (remove w.list i) ≡ times (lists n) (moved (only_handle h) me w.rows)) (same-number h.0 q e) l
     still q false e =

@@ -1,24 +1,7 @@
 -- Calls on loads keep the world whole.
-use Rattle.std.proofs.Common.{◌≡◌, ℕ, ◌<◌, ◌+◌, ◌==◌, Bool, true, false, Ok, Err, Option, Some, None, inl, inr, refl, ap, sym, subst, ◌∙◌, arith, if◌then◌else◌}
-use Rattle.std.specs.Prelude.{◌⊎◌, Result, is_some}
-use Rattle.std.proofs.lemmas.Bool.Decides.{nat_tests}
-use Rattle.pagable_model.specs.declared.error.Error.{Error}
-use Rattle.pagable_model.specs.declared.numbers.HandleNumber.{HandleNumber}
-use Rattle.pagable_model.specs.declared.numbers.NodeNumber.{NodeNumber}
-use Rattle.pagable_world.specs.declared.answers.Beginning.{Beginning}
-use Rattle.pagable_world.specs.declared.answers.Beginning.TheVariants as beginnings
-use Rattle.pagable_world.specs.declared.handles.Owner.{Owner}
-use Rattle.pagable_world.specs.Plain.{updated}
-use Rattle.pagable_world.specs.declared.handles.HandleRow.{HandleRow}
-use Rattle.pagable_world.specs.declared.handles.Owner.TheVariants as owners
-use Rattle.pagable_world.specs.declared.rows.Mode.TheVariants as modes
-use Rattle.pagable_world.specs.Kinds.{is_loose}
-use Rattle.pagable_world.specs.World.{Core, Cell, OpenLoad, Root, of_cell, of_key, greatest, type_at}
-use Rattle.pagable_world.specs.Refusals.{Owns}
-use Rattle.pagable_world.specs.Calls.{with_handle}
-use Rattle.pagable_world.specs.LoadCalls.{with_load, IsNextLoad, BeginCall, BeginKeyCall}
-use Rattle.pagable_world.specs.Pager.{IsWhole, MayOwnLoad, IsRootWhole}
-use Rattle.pagable_tables.specs.Core.{ArePlaced, MayHold}
+use Rattle.pagable_tables.proofs.Words.{◌≡◌, ℕ, ◌<◌, ◌+◌, ◌==◌, Bool, true, false, Ok, Err, Option, Some, None, inl, inr, refl, ap, sym, subst, ◌∙◌, arith, if◌then◌else◌, ◌⊎◌, Result, is_some}
+use Rattle.pagable_tables.proofs.Words.{nat_tests, Error, HandleNumber, NodeNumber, Beginning, Owner, updated, HandleRow, Mode, is_loose, Core, Cell, OpenLoad, Root, of_cell, of_key, greatest}
+use Rattle.pagable_tables.proofs.Words.{type_at, Owns, with_handle, with_load, IsNextLoad, BeginCall, BeginKeyCall, IsWhole, MayOwnLoad, IsRootWhole, ArePlaced, MayHold}
 use Rattle.pagable_tables.proofs.keeps.Rows.{found-among}
 use Rattle.pagable_tables.proofs.keeps.Comes.{type_in, beside}
 use Rattle.pagable_tables.proofs.keeps.HandleCalls.{loose-unshared}
@@ -90,29 +73,27 @@ loaded-whole {w} key root me whole may left good =
     same-root node t k r = record { typed = r.typed; begun = r.begun; given = r.given }
 
 pub begin-key-whole : {w w' : Core} (me : Owner) (key : ℕ) (r : Result Beginning Error) → IsWhole w → MayOwnLoad w me → BeginKeyCall w me key r w' → ArePlaced w' → IsWhole w'
-begin-key-whole {w} me key (Ok (beginnings.Load l k)) whole may call placed =
+begin-key-whole {w} me key (Ok (Beginning.Load l k)) whole may call placed =
     let (same, next, leaves) = call.begins in
     settles (loaded-whole {w = roomy w} key of_key me (roomy-whole whole) (may-own w (roomy w) (λ v at. at) me may) next.is_left (λ node t h is. absurd (cc))) leaves placed
-begin-key-whole me key (Ok beginnings.InMemory) whole may call placed = absurd call.begins
+begin-key-whole me key (Ok Beginning.InMemory) whole may call placed = absurd call.begins
 begin-key-whole me key (Err e) whole may call placed = alike-whole whole call.refused.stays placed
 
 -- who may own a load may hold
 pub may-hold : (w : Core) (o : Owner) → MayOwnLoad w o → MayHold w o
-may-hold w owners.Caller may = tt
-may-hold w (owners.Worker v) may = may
-may-hold w (owners.Value n) may = absurd may
-may-hold w owners.List may = absurd may
-may-hold w (owners.Load l) may = absurd may
+may-hold w Owner.Caller may = tt
+may-hold w (Owner.Worker v) may = may
+may-hold w _ may = absurd may
 
 pub begin-whole : {w w' : Core} (me : Owner) (h : HandleNumber) (r : Result Beginning Error) → IsWhole w → MayOwnLoad w me → BeginCall w me h r w' → ArePlaced w' → IsWhole w'
-begin-whole {w} {w'} me h (Ok (beginnings.Load l key)) whole may call placed =
+begin-whole {w} {w'} me h (Ok (Beginning.Load l key)) whole may call placed =
     let (row, owns, begins) = call.begins in
     let (away, keyed, next, left, rest) = begins in
     let (t, typed, leaves) = rest in
     settles (begun row owns next left t typed key) leaves placed
   where
     begun : (row : HandleRow) → Owns w me h is_loose row → IsNextLoad l w → w.last.handle < greatest → (t : ℕ) → type_at w row.node.0 ≡ Some t → (key : ℕ)
-        → IsWhole (roomy (with_load (with_handle w row.node modes.LooseUnpinned (owners.Load l)) key (of_cell row.node t h) me))
+        → IsWhole (roomy (with_load (with_handle w row.node Mode.LooseUnpinned (Owner.Load l)) key (of_cell row.node t h) me))
     begun row owns next left t typed key =
         let found = found-among h.0 w.rows row owns.live in
         let root : IsRootWhole (roomy w) row.node t h = record {
@@ -122,8 +103,8 @@ begin-whole {w} {w'} me h (Ok (beginnings.Load l key)) whole may call placed =
           given = let a = (whole.handles.numbered row found.0).1 in let b = found.1 in (omega arith, (whole.handles.nodes_numbered row.node.0 (some-typed (w.cells row.node.0) typed)).1);
         } in
         beside (loaded-whole {w = roomy w} key (of_cell row.node t h) me (roomy-whole whole) (may-own w (roomy w) (λ v at. at) me may) next.is_left
-        (λ node t2 k is. named row t root node t2 k is)) row.node modes.LooseUnpinned
-        (record { row = row; there = found.0; at = refl; shared = loose-unshared row.mode owns.as_asked }) (owners.Load l)
+        (λ node t2 k is. named row t root node t2 k is)) row.node Mode.LooseUnpinned
+        (record { row = row; there = found.0; at = refl; shared = loose-unshared row.mode owns.as_asked }) (Owner.Load l)
         (ap (λ n. is_some (updated (w.last.load + 1) (Some (record { owner = me; key = key; root = of_cell row.node t h })) w.loads n)) next.above
         ∙ ap is_some (is-updated (w.last.load + 1) (Some (record { owner = me; key = key; root = of_cell row.node t h })) w.loads)) left
       where
@@ -138,5 +119,5 @@ begin-whole {w} {w'} me h (Ok (beginnings.Load l key)) whole may call placed =
             let b : t ≡ t2 = cc in
             let c : h ≡ k = cc in
             subst (λ x. IsRootWhole (roomy w) x t2 k) a (subst (λ x. IsRootWhole (roomy w) row.node x k) b (subst (λ x. IsRootWhole (roomy w) row.node t x) c root))
-begin-whole me h (Ok beginnings.InMemory) whole may call placed = let (row, owns, begins) = call.begins in alike-whole whole begins.1 placed
+begin-whole me h (Ok Beginning.InMemory) whole may call placed = let (row, owns, begins) = call.begins in alike-whole whole begins.1 placed
 begin-whole me h (Err e) whole may call placed = alike-whole whole call.refused.stays placed

@@ -1,18 +1,6 @@
 -- Handles move to another owner.
-use Rattle.std.proofs.Common.{◌≡◌, ℕ, ◌==◌, ◌&&◌, Bool, true, false, if◌then◌else◌, List, [], refl, ap, sym, subst, ◌∙◌}
-use Rattle.std.specs.Prelude.{is_some}
-use Rattle.pagable_model.specs.declared.numbers.HandleNumber.{HandleNumber}
-use Rattle.pagable_model.specs.declared.numbers.LoadNumber.{LoadNumber}
-use Rattle.pagable_world.specs.declared.handles.HandleRow.{HandleRow}
-use Rattle.pagable_world.specs.declared.handles.Owner.{Owner}
-use Rattle.pagable_world.specs.declared.handles.Owner.TheVariants as owners
-use Rattle.pagable_world.specs.declared.rows.Mode.TheVariants as modes
-use Rattle.pagable_world.specs.Plain.{one, Among, times}
-use Rattle.pagable_world.specs.Kinds.{is_shared, is_loose, is_handle, is_owner, is_owned_by, owner_value}
-use Rattle.pagable_world.specs.World.{Core}
-use Rattle.pagable_world.specs.Calls.{moved}
-use Rattle.pagable_world.specs.Pager.{IsWhole}
-use Rattle.pagable_tables.specs.Core.{MayHold}
+use Rattle.pagable_tables.proofs.Words.{◌≡◌, ℕ, ◌==◌, ◌&&◌, Bool, true, false, if◌then◌else◌, List, [], refl, ap, sym, subst, ◌∙◌, is_some, HandleNumber, LoadNumber, HandleRow, Owner, Mode, one}
+use Rattle.pagable_tables.proofs.Words.{Among, times, is_shared, is_loose, is_handle, is_owner, is_owned_by, owner_value, Core, moved, IsWhole, MayHold}
 use Rattle.pagable_tables.proofs.keeps.Rows.{among-map, sum-map}
 use Rattle.pagable_tables.proofs.keeps.Told.{roomy}
 use Rattle.pagable_tables.proofs.keeps.GoingOn.{GoesOn, changed-on}
@@ -20,7 +8,7 @@ use Rattle.pagable_tables.proofs.keeps.Turned.{turned-whole, same-held, same-sha
 
 -- the list's handles of one number
 abbrev pub lists : ℕ → HandleRow → Bool
-lists q h = is_handle q h && is_owned_by owners.List h
+lists q h = is_handle q h && is_owned_by Owner.List h
 
 module _ {w : Core} (whole : IsWhole w) (s : ℕ → Bool) (owner : Owner) where
   abbrev to-owner : HandleRow → HandleRow
@@ -55,41 +43,41 @@ module _ {w : Core} (whole : IsWhole w) (s : ℕ → Bool) (owner : Owner) where
 
   -- with the list that fits; the new owner is there
   pub moved-so : (list : List HandleNumber) → ((q : ℕ) → times (λ (h : HandleNumber). h.0 == q) list ≡ times (lists q) (moved s owner w.rows))
-      → ((x : HandleRow) → Among w.rows x → s x.number.0 ≡ true → owner ≡ owners.List → x.mode ≡ modes.LooseUnpinned)
-      → ((l : LoadNumber) → owner ≡ owners.Load l → is_some (w.loads l.0) ≡ true) → ((v : ℕ) → owner ≡ owners.Worker (record { 0 = v }) → w.workers v ≡ true) → (w.closed ≡ true → list ≡ [])
+      → ((x : HandleRow) → Among w.rows x → s x.number.0 ≡ true → owner ≡ Owner.List → x.mode ≡ Mode.LooseUnpinned)
+      → ((l : LoadNumber) → owner ≡ Owner.Load l → is_some (w.loads l.0) ≡ true) → ((v : ℕ) → owner ≡ Owner.Worker (record { 0 = v }) → w.workers v ≡ true) → (w.closed ≡ true → list ≡ [])
       → IsWhole (roomy (record w { rows = moved s owner w.rows; list = list }))
   moved-so list listed waits loads workers none =
       turned-whole whole to-owner list moved-number moved-node moved-shared moved-loose
       (record {
         listed = listed;
         waiting = λ x among is. let old = among-map to-owner w.rows x among in
-            ap (λ (y : HandleRow). y.mode) old.2 ∙ each-moved (λ y. y.owner ≡ owners.List → y.mode ≡ modes.LooseUnpinned) old.0 (λ e own. waits old.0 old.1 e own)
+            ap (λ (y : HandleRow). y.mode) old.2 ∙ each-moved (λ y. y.owner ≡ Owner.List → y.mode ≡ Mode.LooseUnpinned) old.0 (λ e own. waits old.0 old.1 e own)
             (λ e own. whole.owners_there.waiting old.0 old.1 own)
             (sym (ap (λ (y : HandleRow). y.owner) old.2) ∙ is);
         loads = λ x l among is. let old = among-map to-owner w.rows x among in
-            each-moved (λ y. y.owner ≡ owners.Load l → is_some (w.loads l.0) ≡ true) old.0 (λ e own. loads l own) (λ e own. whole.owners_there.loads old.0 l old.1 own)
+            each-moved (λ y. y.owner ≡ Owner.Load l → is_some (w.loads l.0) ≡ true) old.0 (λ e own. loads l own) (λ e own. whole.owners_there.loads old.0 l old.1 own)
             (sym (ap (λ (y : HandleRow). y.owner) old.2) ∙ is);
         workers = λ x v among is. let old = among-map to-owner w.rows x among in
-            each-moved (λ y. y.owner ≡ owners.Worker (record { 0 = v }) → w.workers v ≡ true) old.0 (λ e own. workers v own) (λ e own. whole.owners_there.workers old.0 v old.1 own)
+            each-moved (λ y. y.owner ≡ Owner.Worker (record { 0 = v }) → w.workers v ≡ true) old.0 (λ e own. workers v own) (λ e own. whole.owners_there.workers old.0 v old.1 own)
             (sym (ap (λ (y : HandleRow). y.owner) old.2) ∙ is);
       })
       none
 
   -- what the list has of a number stays where none of its handles moves, nor to it
-  pub still-lists : ((x : HandleRow) → Among w.rows x → s x.number.0 ≡ true → is_owned_by owners.List x ≡ false) → is_owner owners.List owner ≡ false → (q : ℕ)
+  pub still-lists : ((x : HandleRow) → Among w.rows x → s x.number.0 ≡ true → is_owned_by Owner.List x ≡ false) → is_owner Owner.List owner ≡ false → (q : ℕ)
       → times (lists q) (moved s owner w.rows) ≡ times (lists q) w.rows
   still-lists mine other q =
       sum-map (λ x. one (lists q x)) (λ x. one (lists q x)) to-owner w.rows
       (λ x among. each-moved (λ y. one (lists q y) ≡ one (lists q x)) x (λ e. ap (λ b. one (is_handle q x && b)) (other ∙ sym (mine x among e))) (λ e. refl))
 
 -- to the value of a node, or to one who may hold
-module _ {w : Core} (whole : IsWhole w) (s : ℕ → Bool) (mine : (x : HandleRow) → Among w.rows x → s x.number.0 ≡ true → is_owned_by owners.List x ≡ false) where
+module _ {w : Core} (whole : IsWhole w) (s : ℕ → Bool) (mine : (x : HandleRow) → Among w.rows x → s x.number.0 ≡ true → is_owned_by Owner.List x ≡ false) where
   pub moved-to-value : (n : ℕ) → IsWhole (roomy (record w { rows = moved s (owner_value n) w.rows }))
   moved-to-value n =
       moved-so whole s (owner_value n) w.list (λ q. whole.owners_there.listed q ∙ sym (still-lists whole s (owner_value n) mine refl q)) (λ x among e own. absurd (cc)) (λ l own. absurd (cc))
       (λ v own. absurd (cc)) (λ so. (whole.shut so).0)
 
-  pub moved-to-holder : (owner : Owner) → is_owner owners.List owner ≡ false → MayHold w owner → IsWhole (roomy (record w { rows = moved s owner w.rows }))
+  pub moved-to-holder : (owner : Owner) → is_owner Owner.List owner ≡ false → MayHold w owner → IsWhole (roomy (record w { rows = moved s owner w.rows }))
   moved-to-holder owner other holder =
       moved-so whole s owner w.list (λ q. whole.owners_there.listed q ∙ sym (still-lists whole s owner mine other q)) (λ x among e own. absurd (subst (MayHold w) own holder))
       (λ l own. subst (MayHold w) own holder) (λ v own. subst (MayHold w) own holder) (λ so. (whole.shut so).0)

@@ -1,15 +1,6 @@
 -- A world as it would be with the storage open: of it all is whole that is whole of tables, whether the storage was closed or not.
-use Rattle.std.proofs.Common.{◌≡◌, ℕ, Bool, false, List, [], ◌∷◌, refl, ap}
-use Rattle.std.specs.Prelude.{Result}
-use Rattle.pagable_model.specs.declared.error.Error.{Error}
-use Rattle.pagable_model.specs.declared.numbers.ArcRef.{ArcRef}
-use Rattle.pagable_world.specs.declared.handles.Owner.{Owner}
-use Rattle.pagable_world.specs.Plain.{or_else}
-use Rattle.pagable_world.specs.World.{Core, Alike}
-use Rattle.pagable_world.specs.Refusals.{references_fault, reference_fault}
-use Rattle.pagable_world.specs.Cascade.{Falls}
-use Rattle.pagable_world.specs.Pager.{IsWhole}
-use Rattle.pagable_tables.specs.Core.{ArePlaced}
+use Rattle.pagable_tables.proofs.Words.{◌≡◌, ℕ, Bool, false, List, [], ◌∷◌, refl, ap, Result, Error, ArcRef, Owner, or_else, Core, Alike, references_fault, reference_fault, Falls, IsWhole}
+use Rattle.pagable_tables.proofs.Words.{ArePlaced}
 use Rattle.pagable_tables.proofs.keeps.Told.{settles}
 use Rattle.pagable_tables.proofs.keeps.Fallen.{MayFall, fallen-whole}
 

@@ -1,9 +1,7 @@
 -- What the tables tell is in its places, since no vector is longer than its capacity.
-use Rattle.std.proofs.Common.{arith, []}
-use Rattle.pagable_tables.specs.declared.tables.Tables.{Tables}
+use Rattle.pagable_tables.proofs.Words.{arith, [], Tables, IsFalling, owns_nothing, plain_of, ArePlaced}
 use Rattle.pagable_world.specs.Pager as pager
-use Rattle.pagable_tables.specs.Falling.{IsFalling, owns_nothing}
-use Rattle.pagable_tables.specs.Core.{plain_of, ArePlaced, IsWhole}
+use Rattle.pagable_tables.specs.Core.{IsWhole}
 use Rattle.pagable_tables.proofs.Alive.{length-live-le}
 
 pub placed : (t : Tables) → ArePlaced (plain_of t)

@@ -1,19 +1,8 @@
 -- What is left of rows and list as handles go, and the entries that come.
-use Rattle.std.proofs.Common.{◌≡◌, ℕ, suc, zero, ◌+◌, ◌<◌, ◌≤◌, ◌==◌, ◌&&◌, Bool, true, false, not, List, [], ◌∷◌, ◌++◌, length, filter, if◌then◌else◌, Option, Some, None, inl, inr, refl, ap, sym, subst, ◌∙◌, arith}
-use Rattle.std.specs.Prelude.{map}
+use Rattle.pagable_tables.proofs.Words.{◌≡◌, ℕ, suc, zero, ◌+◌, ◌<◌, ◌≤◌, ◌==◌, ◌&&◌, Bool, true, false, not, List, [], ◌∷◌, ◌++◌, length, filter, if◌then◌else◌, Option, Some, None, inl, inr}
+use Rattle.pagable_tables.proofs.Words.{refl, ap, sym, subst, ◌∙◌, arith, map, nat_tests, append_assoc, sum_by-cons, sum_by-le-sum_by, HandleNumber, HandleRow, Owner, Mode, one, Among, times}
+use Rattle.pagable_tables.proofs.Words.{find_row, is_handle, is_owned_by, AreNewEntries, IsWithin, IsHandleBefore}
 use Rattle.std.specs.List.{AllPairs}
-use Rattle.std.proofs.lemmas.Bool.Decides.{nat_tests}
-use Rattle.std.proofs.lemmas.List.{append_assoc}
-use Rattle.std.proofs.lemmas.List.Sums.{sum_by-cons, sum_by-le-sum_by}
-use Rattle.pagable_model.specs.declared.numbers.HandleNumber.{HandleNumber}
-use Rattle.pagable_world.specs.declared.handles.HandleRow.{HandleRow}
-use Rattle.pagable_world.specs.declared.handles.Owner.{Owner}
-use Rattle.pagable_world.specs.declared.handles.Owner.TheVariants as owners
-use Rattle.pagable_world.specs.declared.rows.Mode.TheVariants as modes
-use Rattle.pagable_world.specs.Plain.{one, Among, times}
-use Rattle.pagable_world.specs.Kinds.{find_row, is_handle, is_owned_by}
-use Rattle.pagable_world.specs.Cascade.{AreNewEntries, IsWithin}
-use Rattle.pagable_world.specs.Pager.{IsHandleBefore}
 use Rattle.pagable_tables.proofs.Alive.{none-found}
 use Rattle.pagable_tables.proofs.keeps.Rows.{among-both, among-one, at-most-sum, found-among, once, ordered-push}
 
@@ -88,8 +77,8 @@ within-goes rows given gone h within among is = at (gone h.number.0) refl
 pub record IsEntry (last few : ℕ) (h : HandleRow) : Type 0 where
   pub above : last < h.number.0
   pub number : h.number.0 ≤ last + few
-  pub mode : h.mode ≡ modes.LooseUnpinned
-  pub owner : h.owner ≡ owners.List
+  pub mode : h.mode ≡ Mode.LooseUnpinned
+  pub owner : h.owner ≡ Owner.List
 
 pub entry-is : (last : ℕ) (entries : List HandleRow) (h : HandleRow) → AreNewEntries last entries → Among entries h → IsEntry last (length entries) h
 entry-is last [] h new among = let a = among.1 in absurd (cc)
@@ -105,14 +94,14 @@ entry-is last (x ∷ xs) h new (suc i, is) =
 
 -- the list gets each entry
 pub entries-listed : (q last : ℕ) (entries : List HandleRow) → AreNewEntries last entries
-    → times (λ (h : HandleNumber). h.0 == q) (map (λ (h : HandleRow). h.number) entries) ≡ times (λ h. is_handle q h && is_owned_by owners.List h) entries
+    → times (λ (h : HandleNumber). h.0 == q) (map (λ (h : HandleRow). h.number) entries) ≡ times (λ h. is_handle q h && is_owned_by Owner.List h) entries
 entries-listed q last [] new = refl
 entries-listed q last (x ∷ xs) new =
     let rest = entries-listed q (last + 1) xs new.3 in
     let a = sum_by-cons (λ (h : HandleNumber). one (h.0 == q)) x.number (map (λ (h : HandleRow). h.number) xs) in
-    let b = sum_by-cons (λ h. one (is_handle q h && is_owned_by owners.List h)) x xs in
-    let c : one (is_handle q x) ≡ one (is_handle q x && is_owned_by owners.List x) = sym
-    (ap (λ (o : Owner). one (is_handle q x && is_owned_by owners.List (record x { owner = o }))) new.2 ∙ and-true (is_handle q x)) in
+    let b = sum_by-cons (λ h. one (is_handle q h && is_owned_by Owner.List h)) x xs in
+    let c : one (is_handle q x) ≡ one (is_handle q x && is_owned_by Owner.List x) = sym
+    (ap (λ (o : Owner). one (is_handle q x && is_owned_by Owner.List (record x { owner = o }))) new.2 ∙ and-true (is_handle q x)) in
     omega arith
   where
     and-true : (b : Bool) → one (b && true) ≡ one b

@@ -1,17 +1,8 @@
 -- Rows, one by one and counted, as they come and change.
-use Rattle.std.proofs.Common.{◌≡◌, ℕ, suc, zero, ◌<◌, ◌≤◌, ◌==◌, Bool, true, false, List, [], ◌∷◌, ◌++◌, sum_by, filter, if◌then◌else◌, Some, None, slice_get, get_or, inl, inr, refl, ap, sym, subst, ◌∙◌, arith}
-use Rattle.std.specs.Prelude.{◌⊎◌, map}
+use Rattle.pagable_tables.proofs.Words.{◌≡◌, ℕ, suc, zero, ◌<◌, ◌≤◌, ◌==◌, Bool, true, false, List, [], ◌∷◌, ◌++◌, sum_by, filter, if◌then◌else◌, Some, None, slice_get, get_or, inl, inr, refl}
+use Rattle.pagable_tables.proofs.Words.{ap, sym, subst, ◌∙◌, arith, ◌⊎◌, map, cases_order, nat_tests, get_or-map, length-map, sum_by-cons, sum_by-le-sum_by, all_pairs_push, get_or_from_slice_get}
+use Rattle.pagable_tables.proofs.Words.{slice_get_within, slice_get-get_or, HandleRow, Among, find_row, is_handle, IsHandleBefore}
 use Rattle.std.specs.List.{AllPairs}
-use Rattle.std.proofs.lemmas.Bool.{cases_order}
-use Rattle.std.proofs.lemmas.Bool.Decides.{nat_tests}
-use Rattle.std.proofs.lemmas.List.{get_or-map, length-map}
-use Rattle.std.proofs.lemmas.List.Sums.{sum_by-cons, sum_by-le-sum_by}
-use Rattle.std.proofs.lemmas.List.Quantifiers.{all_pairs_push}
-use Rattle.std.proofs.lemmas.Option.{get_or_from_slice_get, slice_get_within, slice_get-get_or}
-use Rattle.pagable_world.specs.declared.handles.HandleRow.{HandleRow}
-use Rattle.pagable_world.specs.Plain.{Among}
-use Rattle.pagable_world.specs.Kinds.{find_row, is_handle}
-use Rattle.pagable_world.specs.Pager.{IsHandleBefore}
 
 -- ---- one by one
 

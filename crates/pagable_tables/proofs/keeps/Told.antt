@@ -1,17 +1,8 @@
 -- A world that is told alike stays whole, while rows and list are in their places.
-use Rattle.std.proofs.Common.{◌≡◌, ℕ, ◌==◌, ◌&&◌, Bool, true, length, Option, Some, None, refl, ap, sym, subst, ◌∙◌, arith}
-use Rattle.std.specs.Prelude.{◌⊎◌, is_some, nat_lt}
+use Rattle.pagable_tables.proofs.Words.{◌≡◌, ℕ, ◌==◌, ◌&&◌, Bool, true, length, Option, Some, None, refl, ap, sym, subst, ◌∙◌, arith, ◌⊎◌, is_some, nat_lt, OptionalDataKey, HandleNumber}
+use Rattle.pagable_tables.proofs.Words.{NodeNumber, Owner, Among, SameAt, times, if_there, held, sharing, has_key, find_row, is_handle, is_owned_by, Core, Cell, Last, Alike, IsHandleBefore}
+use Rattle.pagable_tables.proofs.Words.{HandlesAreWhole, OwnersAreThere, LoadsAreWhole, MayOwnLoad, IsRootWhole, IsEntryWhole, IsWhole, ArePlaced}
 use Rattle.std.specs.List.{AllPairs}
-use Rattle.pagable_model.specs.declared.data_key.OptionalDataKey.TheVariants as optional
-use Rattle.pagable_model.specs.declared.numbers.HandleNumber.{HandleNumber}
-use Rattle.pagable_model.specs.declared.numbers.NodeNumber.{NodeNumber}
-use Rattle.pagable_world.specs.declared.handles.Owner.{Owner}
-use Rattle.pagable_world.specs.Plain.{Among, SameAt, times, if_there}
-use Rattle.pagable_world.specs.declared.handles.Owner.TheVariants as owners
-use Rattle.pagable_world.specs.Kinds.{held, sharing, has_key, find_row, is_handle, is_owned_by}
-use Rattle.pagable_world.specs.World.{Core, Cell, Last, Alike}
-use Rattle.pagable_world.specs.Pager.{IsHandleBefore, HandlesAreWhole, OwnersAreThere, LoadsAreWhole, MayOwnLoad, IsRootWhole, IsEntryWhole, IsWhole}
-use Rattle.pagable_tables.specs.Core.{ArePlaced}
 
 -- the world with room for just what is there
 abbrev pub roomy : Core → Core
@@ -19,17 +10,15 @@ roomy w = record w { places = record { handles = length w.rows; entries = length
 
 -- who may own a load still may, while workers stay at work
 pub may-own : (w w' : Core) → ((v : ℕ) → w.workers v ≡ true → w'.workers v ≡ true) → (o : Owner) → MayOwnLoad w o → MayOwnLoad w' o
-may-own w w' stay owners.Caller may = tt
-may-own w w' stay (owners.Worker v) may = stay v.0 may
-may-own w w' stay (owners.Value n) may = absurd may
-may-own w w' stay owners.List may = absurd may
-may-own w w' stay (owners.Load l) may = absurd may
+may-own w w' stay Owner.Caller may = tt
+may-own w w' stay (Owner.Worker v) may = stay v.0 may
+may-own w w' stay _ may = absurd may
 
 abbrev type_in : Option Cell → Option ℕ
 type_in cell = if_there (λ (cell : Cell). Some cell.node_type) None cell
 
 abbrev keyed_in : Option Cell → Bool
-keyed_in cell = has_key (if_there (λ (cell : Cell). cell.key) optional.None cell)
+keyed_in cell = has_key (if_there (λ (cell : Cell). cell.key) OptionalDataKey.None cell)
 
 module _ {m w' : Core} (whole : IsWhole m) (rows : w'.rows ≡ m.rows) (cells : SameAt m.cells w'.cells) (list : w'.list ≡ m.list)
     (cache : (kind key n : ℕ) → w'.cache kind key ≡ Some n → m.cache kind key ≡ Some n)
@@ -53,7 +42,7 @@ module _ {m w' : Core} (whole : IsWhole m) (rows : w'.rows ≡ m.rows) (cells : 
   told-owners =
       let o = whole.owners_there in
       record {
-        listed = λ q. ap (times (λ (h : HandleNumber). h.0 == q)) list ∙ o.listed q ∙ ap (times (λ h. is_handle q h && is_owned_by owners.List h)) (sym rows);
+        listed = λ q. ap (times (λ (h : HandleNumber). h.0 == q)) list ∙ o.listed q ∙ ap (times (λ h. is_handle q h && is_owned_by Owner.List h)) (sym rows);
         waiting = λ h among is. o.waiting h (subst (λ r. Among r h) rows among) is;
         loads = λ h l among is. ap is_some (loads l.0) ∙ o.loads h l (subst (λ r. Among r h) rows among) is;
         workers = λ h v among is. workers v ∙ o.workers h v (subst (λ r. Among r h) rows among) is;

@@ -1,18 +1,7 @@
 -- Rows that change, each under its own number and of its own node.
-use Rattle.std.proofs.Common.{◌≡◌, ℕ, ◌==◌, ◌&&◌, Bool, true, false, if◌then◌else◌, List, [], Some, refl, ap, sym, subst, ◌∙◌, arith}
-use Rattle.std.specs.Prelude.{◌⊎◌, is_some, nat_lt, map}
-use Rattle.std.proofs.lemmas.Bool.Decides.{nat_tests}
-use Rattle.pagable_model.specs.declared.numbers.HandleNumber.{HandleNumber}
-use Rattle.pagable_model.specs.declared.numbers.NodeNumber.{NodeNumber}
-use Rattle.pagable_world.specs.declared.handles.HandleRow.{HandleRow}
-use Rattle.pagable_world.specs.declared.handles.Owner.TheVariants as owners
-use Rattle.pagable_world.specs.declared.rows.Mode.{Mode}
-use Rattle.pagable_world.specs.declared.rows.Mode.TheVariants as modes
-use Rattle.pagable_world.specs.Plain.{one, Among}
-use Rattle.pagable_world.specs.Kinds.{held, sharing, is_at, is_share, is_shared, is_loose, is_handle, is_owned_by}
-use Rattle.pagable_world.specs.World.{Core, row_at}
-use Rattle.pagable_world.specs.Calls.{with_mode}
-use Rattle.pagable_world.specs.Pager.{OwnersAreThere, IsRootWhole, IsEntryWhole, IsWhole}
+use Rattle.pagable_tables.proofs.Words.{◌≡◌, ℕ, ◌==◌, ◌&&◌, Bool, true, false, if◌then◌else◌, List, [], Some, refl, ap, sym, subst, ◌∙◌, arith, ◌⊎◌, is_some, nat_lt, map, nat_tests, HandleNumber}
+use Rattle.pagable_tables.proofs.Words.{NodeNumber, HandleRow, Owner, Mode, one, Among, held, sharing, is_at, is_share, is_shared, is_loose, is_handle, is_owned_by, Core, row_at, with_mode}
+use Rattle.pagable_tables.proofs.Words.{OwnersAreThere, IsRootWhole, IsEntryWhole, IsWhole}
 use Rattle.pagable_tables.proofs.keeps.Rows.{among-map, among-to, sum-map, found-among, found-map, once, ordered-map}
 use Rattle.pagable_tables.proofs.keeps.Told.{roomy, may-own}
 use Rattle.pagable_tables.proofs.keeps.GoingOn.{GoesOn, changed-on}
@@ -82,7 +71,7 @@ module _ {w : Core} (whole : IsWhole w) (to : HandleRow → HandleRow) (list : L
 
 module _ {w : Core} (whole : IsWhole w) (h : HandleNumber) (row : HandleRow) (mode : Mode) (live : row_at w h ≡ Some row) (shared : is_shared mode ≡ is_shared row.mode)
     (loose : is_loose row.mode ≡ true → is_loose mode ≡ true)
-    (waits : row.owner ≡ owners.List → mode ≡ modes.LooseUnpinned) where
+    (waits : row.owner ≡ Owner.List → mode ≡ Mode.LooseUnpinned) where
   abbrev to-mode : HandleRow → HandleRow
   to-mode x = if is_handle h.0 x then record x { mode = mode } else x
 
@@ -101,16 +90,16 @@ module _ {w : Core} (whole : IsWhole w) (h : HandleNumber) (row : HandleRow) (mo
   mode-owners =
       let o = whole.owners_there in
       record {
-        listed = λ q. o.listed q ∙ sym (sum-map (λ x. one (is_handle q x && is_owned_by owners.List x)) (λ x. one (is_handle q x && is_owned_by owners.List x)) to-mode w.rows
-            (λ x among. each (λ y. one (is_handle q y && is_owned_by owners.List y) ≡ one (is_handle q x && is_owned_by owners.List x)) x (λ e. refl) (λ e. refl)));
+        listed = λ q. o.listed q ∙ sym (sum-map (λ x. one (is_handle q x && is_owned_by Owner.List x)) (λ x. one (is_handle q x && is_owned_by Owner.List x)) to-mode w.rows
+            (λ x among. each (λ y. one (is_handle q y && is_owned_by Owner.List y) ≡ one (is_handle q x && is_owned_by Owner.List x)) x (λ e. refl) (λ e. refl)));
         waiting = λ x among is. let old = among-map to-mode w.rows x among in
-            ap (λ (y : HandleRow). y.mode) old.2 ∙ each (λ y. y.owner ≡ owners.List → y.mode ≡ modes.LooseUnpinned) old.0
+            ap (λ (y : HandleRow). y.mode) old.2 ∙ each (λ y. y.owner ≡ Owner.List → y.mode ≡ Mode.LooseUnpinned) old.0
             (λ e own. waits (sym (ap (λ (y : HandleRow). y.owner) (the-row old.0 old.1 e)) ∙ own)) (λ e own. o.waiting old.0 old.1 own) (sym (ap (λ (y : HandleRow). y.owner) old.2) ∙ is);
         loads = λ x l among is. let old = among-map to-mode w.rows x among in
-            each (λ y. y.owner ≡ owners.Load l → is_some (w.loads l.0) ≡ true) old.0 (λ e own. o.loads old.0 l old.1 own) (λ e own. o.loads old.0 l old.1 own)
+            each (λ y. y.owner ≡ Owner.Load l → is_some (w.loads l.0) ≡ true) old.0 (λ e own. o.loads old.0 l old.1 own) (λ e own. o.loads old.0 l old.1 own)
             (sym (ap (λ (y : HandleRow). y.owner) old.2) ∙ is);
         workers = λ x v among is. let old = among-map to-mode w.rows x among in
-            each (λ y. y.owner ≡ owners.Worker (record { 0 = v }) → w.workers v ≡ true) old.0 (λ e own. o.workers old.0 v old.1 own) (λ e own. o.workers old.0 v old.1 own)
+            each (λ y. y.owner ≡ Owner.Worker (record { 0 = v }) → w.workers v ≡ true) old.0 (λ e own. o.workers old.0 v old.1 own) (λ e own. o.workers old.0 v old.1 own)
             (sym (ap (λ (y : HandleRow). y.owner) old.2) ∙ is);
       }
 

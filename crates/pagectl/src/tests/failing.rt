@@ -1,7 +1,7 @@
 //! Lines from a reader and to a writer that fail. What is answered to each line stands in `stdin` and `stdout` of this crate.
 
-use named_texts::serve::serve;
 use pagable::WeighHash;
+use pagable_examples::named_texts::serve::serve;
 use std::io;
 use std::io::{BufReader, Read, Write};
 use std::test::Fail;

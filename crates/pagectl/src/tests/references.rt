@@ -88,11 +88,13 @@ struct Places {
 }
 
 impl References<TestEnv> for Places {
-    ghost use Rattle.std.specs.Prelude.{Ok, ◌+◌};
+    ghost use Rattle.std.specs.Prelude.{None, Ok, ◌+◌};
 
     ghost environment = { λ s. s.env };
 
     ghost answer = { λ s place key kind. Ok (record { kind = record { 0 = kind }; node = record { 0 = 7 }; handle = record { 0 = 9 } }) };
+
+    ghost lends = { λ s reference. None };
 
     ghost refusals = { λ s place key kind e is. let none : ⊥ = cc in absurd none };
 
@@ -110,6 +112,10 @@ impl References<TestEnv> for Places {
             node: NodeNumber(7),
             handle: HandleNumber(9),
         })
+    }
+
+    fn shared(&self, _reference: ArcRef) -> Option<&NoNode> {
+        None
     }
 }
 

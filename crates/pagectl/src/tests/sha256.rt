@@ -1,7 +1,7 @@
 //! The program with SHA-256.
 
-use named_texts::serve::serve;
 use pagable::Sha256Key;
+use pagable_examples::named_texts::serve::serve;
 use std::io::BufReader;
 use std::test::Fail;
 

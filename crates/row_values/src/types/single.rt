@@ -3,7 +3,7 @@
 use super::holders;
 use crate::carried::{replay, shown};
 use crate::outcome::Outcome;
-use pagable_patterns::SavedRegex;
+use pagable_registries::SavedRegex;
 use pagable_traits::PathText;
 use serde_json::Value;
 use std::alloc::Global;

@@ -1,4 +1,4 @@
-//! The values of the rows: texts of two types, and lists of references.
+//! The values of the rows: texts of two types, and lists of references of all others.
 
 use anyhow::bail;
 use pagable::{
@@ -14,8 +14,8 @@ pub const NAMES: u32 = 0;
 /// The number of the type of notes.
 pub const NOTES: u32 = 1;
 
-/// The number of the type of groups.
-pub const GROUPS: u32 = 2;
+/// The number of the first type of groups.
+pub const GROUPS: u8 = 2;
 
 /// The environment of names, notes and groups.
 #[derive(Drop)]
@@ -42,8 +42,9 @@ pub enum CellNode {
     Name(Arc<String>),
     /// Of the type 1.
     Note(Arc<String>),
-    /// Of the type 2. Rows only hand it in: as if memory were always wanting, it is never written nor read.
-    Group(Arc<Vec<ArcRef>>),
+    /// Of the type 2, or of the one that is so many higher. Rows only hand it in: as if memory were always wanting, it is never written
+    /// nor read.
+    Group(u8, Arc<Vec<ArcRef>>),
 }
 
 impl CellNode {
@@ -51,26 +52,34 @@ impl CellNode {
     pub fn as_str(&self) -> &str {
         match self {
             CellNode::Name(text) | CellNode::Note(text) => text.as_ref().as_str(),
-            CellNode::Group(_) => "references",
+            CellNode::Group(_, _) => "references",
         }
     }
 }
 
 /// The value that a row spells, as `0 hello world`: its type, and all after the first space, or the empty text. A list of
-/// references is spelled `2 7:1:2,8:3:4`: of each the kind, the node and the handle.
+/// references is spelled `2 7:1:2,8:3:4`, also with a higher type: of each the kind, the node and the handle.
 pub fn node(alloc: Global, spelled: &str) -> anyhow::Result<CellNode> {
     let (node_type, rest) = spelled.split_once(' ').unwrap_or((spelled, ""));
     match node_type {
         "0" => Ok(CellNode::Name(text(alloc, rest)?)),
         "1" => Ok(CellNode::Note(text(alloc, rest)?)),
-        "2" => Ok(CellNode::Group(Arc::new(alloc, references(alloc, rest)?)?)),
-        _ => bail!("no type of values"),
+        _ => group(alloc, node_type.parse::<u8>()?, rest),
     }
 }
 
 /// A text that is shared.
 fn text(alloc: Global, text: &str) -> anyhow::Result<Arc<String>> {
     Ok(Arc::new(alloc, String::from_str(alloc, text)?)?)
+}
+
+/// A list of references of this type.
+fn group(alloc: Global, node_type: u8, spelled: &str) -> anyhow::Result<CellNode> {
+    let Some(higher) = node_type.checked_sub(GROUPS) else {
+        bail!("no type of references");
+    };
+    let references = references(alloc, spelled)?;
+    Ok(CellNode::Group(higher, Arc::new(alloc, references)?))
 }
 
 /// The references that are spelled, parted by commas.
@@ -129,14 +138,14 @@ impl NodeSet<CellEnv> for CellNode {
         match self {
             CellNode::Name(_) => NAMES,
             CellNode::Note(_) => NOTES,
-            CellNode::Group(_) => GROUPS,
+            CellNode::Group(higher, _) => u32::from(GROUPS) + u32::from(*higher),
         }
     }
 
     fn refs(&self, alloc: Global) -> Result<Vec<ArcRef>, Error> {
         match self {
             CellNode::Name(_) | CellNode::Note(_) => Ok(Vec::new(alloc)),
-            CellNode::Group(references) => Ok(references.as_ref().to_vec(alloc)?),
+            CellNode::Group(_, references) => Ok(references.as_ref().to_vec(alloc)?),
         }
     }
 
@@ -144,7 +153,7 @@ impl NodeSet<CellEnv> for CellNode {
         match self {
             CellNode::Name(text) => text.as_ref().pagable_serialize(serializer),
             CellNode::Note(text) => text.as_ref().pagable_serialize(serializer),
-            CellNode::Group(_) => Err(Error::OutOfMemory),
+            CellNode::Group(_, _) => Err(Error::OutOfMemory),
         }
     }
 
@@ -162,8 +171,7 @@ impl NodeSet<CellEnv> for CellNode {
                 let text = String::pagable_deserialize(alloc, deserializer)?;
                 Ok(CellNode::Note(Arc::new(alloc, text)?))
             }
-            GROUPS => Err(Error::OutOfMemory),
-            _ => Err(Error::WrongKind),
+            _ => Err(Error::OutOfMemory),
         }
     }
 }

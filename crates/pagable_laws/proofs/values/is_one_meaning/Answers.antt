@@ -1,4 +1,4 @@
-use Rattle.pagable_model.specs.Codes.{one-meaning}
+use Rattle.pagable_laws.proofs.Words.{one-meaning}
 use Rattle.pagable_laws.proofs.values.is_one_meaning.Goals as goal
 
 pub returns : goal.returns

@@ -1,4 +1,5 @@
-use Rattle.pagable_laws.proofs.Computed.{numbers_spelled, numbers_read, cases_spelled, lists_spelled, maps_read, json_read, keys_weighed, texts_read, durations_read, named_read, registries_read, references_take, unknown_tags, trees_keyed, shapes_met}
+use Rattle.pagable_laws.proofs.Computed.{numbers_spelled, numbers_read, cases_spelled, lists_spelled, maps_read, json_read, keys_weighed, texts_read, durations_read, named_read, registries_read}
+use Rattle.pagable_laws.proofs.Computed.{references_take, unknown_tags, trees_keyed, shapes_met}
 use Rattle.pagable_laws.proofs.worked.worked_examples.Goals as goal
 
 pub returns : goal.returns

@@ -1,11 +1,4 @@
-use Rattle.std.proofs.Common.{ℕ, ap, sym, subst, ◌∙◌, not, None}
-use Rattle.std.specs.Prelude.{is_some}
-use Rattle.indexmap.specs.IndexMap.{IndexMap}
-use Rattle.pagable_world.specs.World.{Alike}
-use Rattle.pagable_world.specs.LoadCalls.{adopted, Adopts}
-use Rattle.pagable_tables.specs.ByNumber.{load_at}
-use Rattle.pagable_tables.specs.declared.rows.LoadRow.{LoadRow}
-use Rattle.pagable_tables.specs.Core.{core_of, plain_of}
+use Rattle.pagable_tables.proofs.Words.{ℕ, ap, sym, subst, ◌∙◌, not, None, is_some, IndexMap, Alike, adopted, Adopts, load_at, LoadRow, core_of, plain_of}
 use Rattle.pagable_tables.proofs.Adoptions.{adopts-new, adopts-whole, fitting, owner-of, early-stored}
 use Rattle.pagable_tables.proofs.Begun.{not-closed}
 use Rattle.pagable_tables.proofs.Newer.{adopt-newer, later-so}

@@ -1,15 +1,11 @@
-use Rattle.std.proofs.Common.{ℕ, ap, sym, ◌∙◌, false, not, None}
-use Rattle.std.specs.Prelude.{is_some}
-use Rattle.indexmap.specs.IndexMap.{IndexMap}
-use Rattle.pagable_tables.specs.ByNumber.{load_at}
-use Rattle.pagable_tables.specs.declared.rows.LoadRow.{LoadRow}
-use Rattle.pagable_tables.specs.Core.{core_of, plain_of}
+use Rattle.pagable_tables.proofs.Words.{ℕ, ap, sym, ◌∙◌, false, not, None, is_some, IndexMap, load_at, LoadRow, core_of, plain_of}
 use Rattle.pagable_tables.proofs.Adoptions.{not-adopted, adopts-known, adopts-whole, refused-known, fitting, eager, owner-of}
 use Rattle.pagable_tables.proofs.Begun.{not-closed}
 use Rattle.pagable_tables.proofs.Newer.{adopt-newer, newer-alike, later-so}
 use Rattle.pagable_tables.proofs.keeps.CacheCalls.{known-suits}
 use Rattle.pagable_tables.proofs.keeps.Placed.{whole-so}
 use Rattle.pagable_tables.proofs.keeps.Told.{alike-whole}
+use Rattle.pagable_tables.proofs.Shedding.{sheds-still}
 use Rattle.pagable_tables.proofs.adopting.adopt_if_known.Goals as goal
 
 pub returns-in-Some-clause-refused : goal.returns-in-Some-clause-refused
@@ -63,3 +59,9 @@ returns-in-Err-clause-later g c =
 
 pub returns-in-Ok-clause-given : goal.returns-in-Ok-clause-given
 returns-in-Ok-clause-given g c = (c.in-Some-usable_of.node.0, sym (c.in-Some-usable_of.ensures (λ key. None) false 0))
+
+pub returns-in-Some-clause-sheds : goal.returns-in-Some-clause-sheds
+returns-in-Some-clause-sheds g c = sheds-still c.args.t.now.holdings _ c.requires.whole.steady
+
+pub returns-in_default-usable_of-clause-sheds : goal.returns-in_default-usable_of-clause-sheds
+returns-in_default-usable_of-clause-sheds g c = sheds-still c.args.t.now.holdings _ c.requires.whole.steady

@@ -1,19 +1,8 @@
-use Rattle.std.proofs.Common.{◌≡◌, ℕ, ◌+◌, ◌∙◌, ap, subst, refl, arith, true, [], ◌∷◌}
-use Rattle.pagable_world.specs.declared.handles.HandleRow.{HandleRow}
-use Rattle.pagable_world.specs.declared.handles.Owner.TheVariants as owners
-use Rattle.pagable_world.specs.declared.rows.Mode.{Mode}
-use Rattle.pagable_world.specs.Kinds.{mode_of}
-use Rattle.pagable_world.specs.World.{Core, Alike}
-use Rattle.pagable_world.specs.Calls.{with_handle, row_of, is_named_by}
-use Rattle.pagable_world.specs.Cascade.{Falls}
-use Rattle.pagable_world.specs.LoadCalls.{is_owned_in}
-use Rattle.pagable_tables.specs.Core.{core_of, plain_of}
-use Rattle.pagable_tables.specs.declared.tables.Tables.{Tables}
+use Rattle.pagable_tables.proofs.Words.{◌≡◌, ℕ, ◌+◌, ◌∙◌, ap, subst, refl, arith, true, [], ◌∷◌, HandleRow, Owner, Mode, mode_of, Core, Alike, with_handle, row_of, is_named_by, Falls}
+use Rattle.pagable_tables.proofs.Words.{is_owned_in, core_of, plain_of, Tables, counts_at, has_value}
 use Rattle.pagable_tables.proofs.Begun.{begun-whole}
 use Rattle.pagable_tables.proofs.Stays.{stays-pinned, seen-before, retold, eager-pins, loaded-append, named-loaded, not-named}
 use Rattle.pagable_tables.proofs.Regiven.{loaded}
-use Rattle.pagable_tables.specs.ByNumber.{counts_at}
-use Rattle.pagable_tables.specs.Falling.{has_value}
 use Rattle.pagable_tables.proofs.Shedding.{sheds-still, stays-first}
 use Rattle.pagable_tables.proofs.adopting.adopt_known.Goals as goal
 
@@ -24,7 +13,7 @@ pub returns-in-Ok-clause-known : goal.returns-in-Ok-clause-known
 returns-in-Ok-clause-known g c stored closed failures e =
     let t = c.args.t.now in
     let w = core_of t stored closed failures in
-    let owner = owners.Load c.args.load in
+    let owner = Owner.Load c.args.load in
     let u = with_handle w c.args.node (mode_of c.args.kind.0) owner in
     let t1 = c.make.new.t in
     let b = core_of t1 stored closed failures in

@@ -1,5 +1,4 @@
-use Rattle.std.proofs.Common.{[], arith, take_all, None}
-use Rattle.pagable_tables.specs.Falling.{owns_nothing}
+use Rattle.pagable_tables.proofs.Words.{[], arith, take_all, None, owns_nothing}
 use Rattle.pagable_tables.proofs.Begun.{aside}
 use Rattle.pagable_tables.proofs.GivenNamed.{none-given, one-given, all-given}
 use Rattle.pagable_tables.proofs.Shedding.{sheds-still, sheds-then}

@@ -1,14 +1,4 @@
-use Rattle.std.proofs.Common.{nat_eq, ◌≤◌, ◌&&◌, [], take, length, None}
-use Rattle.pagable_world.specs.declared.handles.Owner.TheVariants as owners
-use Rattle.pagable_world.specs.World.{Core}
-use Rattle.pagable_world.specs.Cascade.{nobody}
-use Rattle.pagable_world.specs.Calls.{is_named_by}
-use Rattle.pagable_world.specs.LoadCalls.{is_owned_in}
-use Rattle.pagable_tables.specs.Live.{live}
-use Rattle.pagable_tables.specs.Falling.{IsFalling, Sheds, owns_nothing}
-use Rattle.indexmap.specs.IndexMap.{get}
-use Rattle.pagable_tables.specs.ByNumber.{counts_at}
-use Rattle.pagable_tables.specs.Onward.{SoFar}
+use Rattle.pagable_tables.proofs.Words.{nat_eq, ◌≤◌, ◌&&◌, [], take, length, None, Owner, Core, nobody, is_named_by, is_owned_in, live, IsFalling, Sheds, owns_nothing, get, counts_at, SoFar}
 use Rattle.pagable_tables.proofs.adopting.give_named.Given as goal
 
 abbrev pub invariant-loop-reference : goal.invariant-loop-reference
@@ -16,5 +6,5 @@ invariant-loop-reference g l =
     IsFalling l.t [] owns_nothing
     × (length (live l.t.handles.places.items) ≤ length (live l.fn.t.handles.places.items))
     × ((before w : Core) → SoFar before w nobody l.lists (record l.fn.t { unlisted = None }) → length (live l.fn.t.handles.places.items) ≤ length w.rows
-    → SoFar before w (λ q. is_named_by (take l.reference-index l.references) q && is_owned_in w (owners.Load l.load) q) l.lists l.t)
+    → SoFar before w (λ q. is_named_by (take l.reference-index l.references) q && is_owned_in w (Owner.Load l.load) q) l.lists l.t)
     × Sheds (counts_at l.fn.t.nodes) (get nat_eq l.fn.values) (counts_at l.t.nodes) (get nat_eq l.values)

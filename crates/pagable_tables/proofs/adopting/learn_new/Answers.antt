@@ -1,17 +1,6 @@
-use Rattle.std.proofs.Common.{◌≡◌, ℕ, ◌+◌, ◌/◌, arith, ap, sym, ◌∙◌, subst, Some, Option}
-use Rattle.std.specs.Prelude.{not}
+use Rattle.pagable_tables.proofs.Words.{◌≡◌, ℕ, ◌+◌, ◌/◌, arith, ap, sym, ◌∙◌, subst, Some, Option, not, IndexMap, spare, NodeNumber, Owner, Mode, Last, Alike, mode_of, with_handle, with_node}
+use Rattle.pagable_tables.proofs.Words.{next_node, Counts, Tables, key_in, core_of}
 use Rattle.std.specs.Option.{option_map}
-use Rattle.indexmap.specs.IndexMap.{IndexMap, spare}
-use Rattle.pagable_model.specs.declared.numbers.NodeNumber.{NodeNumber}
-use Rattle.pagable_world.specs.declared.handles.Owner.TheVariants as owners
-use Rattle.pagable_world.specs.declared.rows.Mode.{Mode}
-use Rattle.pagable_world.specs.World.{Last, Alike}
-use Rattle.pagable_world.specs.Kinds.{mode_of}
-use Rattle.pagable_world.specs.Calls.{with_handle, with_node, next_node}
-use Rattle.pagable_tables.specs.declared.rows.Counts.{Counts}
-use Rattle.pagable_tables.specs.declared.tables.Tables.{Tables}
-use Rattle.pagable_tables.specs.Falling.{key_in}
-use Rattle.pagable_tables.specs.Core.{core_of}
 use Rattle.pagable_tables.proofs.Adopted.{learned, if-open}
 use Rattle.pagable_tables.proofs.adopting.learn_new.Goals as goal
 
@@ -27,7 +16,7 @@ returns-clause-next c stored closed failures = let n = (c.bear-handle.ensures.bo
 pub returns-clause-adopted : goal.returns-clause-adopted
 returns-clause-adopted c stored closed failures e =
     let w = core_of c.args.t.now stored closed failures in
-    let owner = owners.Load c.args.load in
+    let owner = Owner.Load c.args.load in
     let u = with_handle (with_node w (c.args.kind.0 / 3) (key_in c.args.own_key) c.args.references.items) (next_node w) (mode_of c.args.kind.0) owner in
     let w' = core_of c.bear-handle.new.t stored closed failures in
     let cache = (core_of (record c.bear-handle.new.t { cache = c.learn_if.new.cache }) stored closed failures).cache in

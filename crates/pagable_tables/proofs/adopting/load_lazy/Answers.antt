@@ -1,17 +1,9 @@
-use Rattle.std.proofs.Common.{ℕ, ◌<◌, not, [], arith, ap, sym, ◌∙◌, subst, false, Ok, None}
-use Rattle.pagable_model.specs.declared.data_key.OptionalDataKey.TheVariants as optional
-use Rattle.pagable_world.specs.World.{Core, Alike, greatest}
-use Rattle.pagable_world.specs.declared.handles.Owner.TheVariants as owners
-use Rattle.pagable_world.specs.LoadCalls.{adopted}
-use Rattle.pagable_tables.specs.Core.{core_of, plain_of, load_in, Suits}
-use Rattle.pagable_tables.specs.Falling.{key_in}
+use Rattle.pagable_tables.proofs.Words.{ℕ, ◌<◌, not, [], arith, ap, sym, ◌∙◌, subst, false, Ok, None, OptionalDataKey, Core, Alike, greatest, Owner, adopted, core_of, plain_of, load_in, Suits}
+use Rattle.pagable_tables.proofs.Words.{key_in, IndexMap, load_at, LoadRow}
 use Rattle.pagable_tables.proofs.Lazily.{lazy-not-own, lazy-not-loose, lazy-known, lazy-not-new, lazy-new, key-there}
 use Rattle.pagable_tables.proofs.NewNodes.{none-named}
 use Rattle.pagable_tables.proofs.Readied.{adopted-past, next-past, room-newer}
 use Rattle.pagable_tables.proofs.keeps.CacheCalls.{known-suits}
-use Rattle.indexmap.specs.IndexMap.{IndexMap}
-use Rattle.pagable_tables.specs.ByNumber.{load_at}
-use Rattle.pagable_tables.specs.declared.rows.LoadRow.{LoadRow}
 use Rattle.pagable_tables.proofs.Begun.{not-closed}
 use Rattle.pagable_tables.proofs.Newer.{lazy-newer, later-so}
 use Rattle.pagable_tables.proofs.keeps.AdoptCalls.{lazy-whole}
@@ -36,7 +28,7 @@ returns-in-Some-clause-lazily c stored closed failures e =
     c.in-Some.node c.mode_of.result c.make.result _ (sym (c.in-Some.ensures stored closed failures)) c.mode_of.ensures (c.make.ensures.made stored closed failures)
 
 pub learn_new-requires-clause-fit : goal.learn_new-requires-clause-fit
-learn_new-requires-clause-fit c = none-named (plain_of c.make_ready_to_learn.new.t) (owners.Load c.args.load) _ c.new.ensures.items
+learn_new-requires-clause-fit c = none-named (plain_of c.make_ready_to_learn.new.t) (Owner.Load c.args.load) _ c.new.ensures.items
 
 pub returns-in-Ok-make_ready_to_learn-clause-lazily : goal.returns-in-Ok-make_ready_to_learn-clause-lazily
 returns-in-Ok-make_ready_to_learn-clause-lazily c stored closed failures e =
@@ -48,7 +40,7 @@ returns-in-Ok-make_ready_to_learn-clause-lazily c stored closed failures e =
     let two = subst (λ o. Alike (adopted w1 l c.args.kind c.args.key o []) w') (ap key_in c.get.ensures.value ∙ key-there c.args.key (let a = c.get.ensures.value in let b = c.get.ensures.above in omega arith)) one in
     lazy-new (core_of c.args.t.now stored closed failures) c.args.me l (load_in c.in-Ok.row) c.args.kind c.args.key (c.in-Ok.ensures.own stored closed failures) (sym c.if-not-is_loose_kind.ensures) (sym (c.in_default.ensures stored closed failures))
     c.learn_new.result (subst (λ (u : Core). u.last.node < greatest) room.same c.in-Ok-make_ready_to_learn.ensures.ready.node_left) (next-past room (c.learn_new.ensures.next stored closed failures))
-    (adopted-past l c.args.kind c.args.key (optional.Some c.args.key) [] room two)
+    (adopted-past l c.args.kind c.args.key (OptionalDataKey.Some c.args.key) [] room two)
 
 pub returns-in-Err-make_ready_to_learn-clause-lazily : goal.returns-in-Err-make_ready_to_learn-clause-lazily
 returns-in-Err-make_ready_to_learn-clause-lazily c stored closed failures e =

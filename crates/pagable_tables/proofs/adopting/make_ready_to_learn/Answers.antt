@@ -1,6 +1,4 @@
-use Rattle.std.proofs.Common.{◌<◌, refl, ap, subst, None, false, inr, arith}
-use Rattle.pagable_world.specs.World.{Core, greatest}
-use Rattle.pagable_tables.specs.declared.tables.Tables.{Tables}
+use Rattle.pagable_tables.proofs.Words.{◌<◌, refl, ap, subst, None, false, inr, arith, Core, greatest, Tables}
 use Rattle.pagable_tables.proofs.Readied.{room-then, room-alike, room-whole, more-room, not-spent}
 use Rattle.pagable_tables.proofs.adopting.make_ready_to_learn.Goals as goal
 

@@ -1,8 +1,5 @@
-use Rattle.std.proofs.Common.{◌+◌, refl, ap, arith, rules, None, false, Ok, inl}
-use Rattle.pagable_world.specs.declared.answers.Beginning.TheVariants as beginnings
+use Rattle.pagable_tables.proofs.Words.{◌+◌, refl, ap, arith, rules, None, false, Ok, inl, Beginning, load_at, load_in}
 use Rattle.std.specs.Option.{option_map}
-use Rattle.pagable_tables.specs.ByNumber.{load_at}
-use Rattle.pagable_tables.specs.Core.{load_in}
 use Rattle.pagable_tables.proofs.Beginning.{load-comes, none-yet}
 use Rattle.pagable_tables.proofs.Worlds.{same-cache}
 use Rattle.pagable_tables.proofs.keeps.LoadCalls.{begin-key-whole}
@@ -40,7 +37,7 @@ returns-clause-begun c stored closed failures =
 
 pub returns-clause-whole : goal.returns-clause-whole
 returns-clause-whole c =
-    whole-so c.requires.whole.steady (begin-key-whole c.args.me c.args.key (Ok (beginnings.Load (record { 0 = c.args.t.now.last_load + 1 }) c.args.key)) c.requires.whole.core c.requires.owner
+    whole-so c.requires.whole.steady (begin-key-whole c.args.me c.args.key (Ok (Beginning.Load (record { 0 = c.args.t.now.last_load + 1 }) c.args.key)) c.requires.whole.core c.requires.owner
     (returns-clause-begun c (λ key. None) false 0))
 
 pub returns-in_default-clause-whole : goal.returns-in_default-clause-whole

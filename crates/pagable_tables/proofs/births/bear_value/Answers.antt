@@ -1,8 +1,4 @@
-use Rattle.std.proofs.Common.{ap, sym, ◌∙◌, false, None}
-use Rattle.pagable_tables.specs.declared.rows.Counts.{Counts}
-use Rattle.pagable_tables.specs.declared.tables.Tables.{Tables}
-use Rattle.pagable_tables.specs.ByNumber.{load_at}
-use Rattle.pagable_tables.specs.Core.{core_of}
+use Rattle.pagable_tables.proofs.Words.{ap, sym, ◌∙◌, false, None, Counts, Tables, load_at, core_of}
 use Rattle.pagable_tables.proofs.NewNodes.{value-born, value-whole, bears-newer}
 use Rattle.pagable_tables.proofs.Newer.{later-so}
 use Rattle.pagable_tables.proofs.keeps.Placed.{whole-so}

@@ -1,4 +1,4 @@
-use Rattle.std.proofs.Common.{◌+◌, refl, None, false}
+use Rattle.pagable_tables.proofs.Words.{◌+◌, refl, None, false}
 use Rattle.pagable_tables.proofs.Readied.{more-room, room-whole}
 use Rattle.pagable_tables.proofs.births.make_ready.Goals as goal
 

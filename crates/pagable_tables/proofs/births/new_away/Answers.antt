@@ -1,10 +1,4 @@
-use Rattle.std.proofs.Common.{ap, sym, subst, ◌∙◌, Ok, None, false, arith}
-use Rattle.pagable_world.specs.declared.rows.Mode.TheVariants as modes
-use Rattle.pagable_tables.specs.declared.rows.Counts.{Counts}
-use Rattle.pagable_tables.specs.declared.tables.Tables.{Tables}
-use Rattle.pagable_tables.specs.Bearing.{Bears}
-use Rattle.pagable_tables.specs.ByNumber.{load_at}
-use Rattle.pagable_tables.specs.Core.{core_of, plain_of}
+use Rattle.pagable_tables.proofs.Words.{ap, sym, subst, ◌∙◌, Ok, None, false, arith, Mode, Counts, Tables, Bears, load_at, core_of, plain_of}
 use Rattle.pagable_tables.proofs.NewNodes.{none-named, away-born, bears-newer}
 use Rattle.pagable_tables.proofs.Newer.{later-so}
 use Rattle.pagable_tables.proofs.Readied.{room-holder, room-newer, weaker}
@@ -24,7 +18,7 @@ returns-in-Ok-clause-born c stored closed failures =
     let typed = ap (λ (d : Counts). d.node_type) c.first_counts-counts.ensures in
     let keyed = ap (λ (d : Counts). d.key) c.first_counts-counts.ensures ∙ c.get.ensures.value in
     let w' = core_of c.bear.new.t stored closed failures in
-    let born = subst (λ l. Bears w1 c.args.me c.first_counts-counts.result l modes.LooseUnpinned c.bear.result w') c.new.ensures.items (c.bear.ensures.born stored closed failures) in
+    let born = subst (λ l. Bears w1 c.args.me c.first_counts-counts.result l Mode.LooseUnpinned c.bear.result w') c.new.ensures.items (c.bear.ensures.born stored closed failures) in
     away-born c.args.me c.args.node_type c.first_counts-counts.result w' c.args.key c.bear.result (c.make_ready.ensures.room stored closed failures) c.in-Ok.ensures.ready.node_left typed keyed (omega arith) born
 
 pub returns-in-Err-clause-born : goal.returns-in-Err-clause-born
@@ -37,7 +31,7 @@ returns-in-Ok-clause-whole c =
 pub returns-in-Ok-clause-later : goal.returns-in-Ok-clause-later
 returns-in-Ok-clause-later c later =
     let between = room-newer {t = c.args.t.now} {t' = c.make_ready.new.t} (c.make_ready.ensures.room (λ key. None) false 0) (ap (λ (t : Tables). t.loads) c.make_ready.ensures.same) later in
-    let n = bears-newer c.args.me c.first_counts-counts.result c.new.result.items modes.LooseUnpinned c.bear.result (c.bear.ensures.born (λ key. None) false 0) in
+    let n = bears-newer c.args.me c.first_counts-counts.result c.new.result.items Mode.LooseUnpinned c.bear.result (c.bear.ensures.born (λ key. None) false 0) in
     later-so between (record { last = n.last; owned = n.owned }) (λ l load is. sym (ap (λ (t : Tables). load_at t.loads l) c.bear.ensures.same) ∙ is)
 
 pub returns-in-Err-clause-later : goal.returns-in-Err-clause-later

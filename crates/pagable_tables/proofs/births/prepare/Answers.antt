@@ -1,8 +1,4 @@
-use Rattle.std.proofs.Common.{ap, sym, subst, ◌∙◌, false, None, inl}
-use Rattle.pagable_world.specs.Refusals.{earlier, Refused}
-use Rattle.pagable_world.specs.Calls.{birth_fault}
-use Rattle.pagable_tables.specs.declared.tables.Tables.{Tables}
-use Rattle.pagable_tables.specs.Core.{core_of}
+use Rattle.pagable_tables.proofs.Words.{ap, sym, subst, ◌∙◌, false, None, inl, earlier, Refused, birth_fault, Tables, core_of}
 use Rattle.pagable_tables.proofs.NewNodes.{references-first}
 use Rattle.pagable_tables.proofs.Readied.{room-still, room-fault, room-newer, weaker}
 use Rattle.pagable_tables.proofs.Worlds.{still}

@@ -1,7 +1,4 @@
-use Rattle.std.proofs.Common.{◌≡◌, ℕ, ◌⊎◌, ◌&&◌, false, true, Bool, nat_eq, inl, inr, arith, refl}
-use Rattle.std.specs.Prelude.{◌≢◌}
-use Rattle.std.proofs.lemmas.Bool.Decides.{nat_tests}
-use Rattle.pagable_tables.specs.ByNumber.{is_same}
+use Rattle.pagable_tables.proofs.Words.{◌≡◌, ℕ, ◌⊎◌, ◌&&◌, false, true, Bool, nat_eq, inl, inr, arith, refl, ◌≢◌, nat_tests, is_same}
 use Rattle.pagable_tables.proofs.cache.learn.Goals as goal
 
 neither : (a b : Bool) → b ≡ false → (a && b) ≡ false

@@ -1,11 +1,6 @@
-use Rattle.std.proofs.Common.{◌≡◌, ℕ, Bool, true, false, Option, Some, None, arith, inl, refl, ap, sym, subst, ◌∙◌}
-use Rattle.std.specs.Prelude.{◌≢◌, IfSome}
-use Rattle.std.proofs.lemmas.Bool.Decides.{nat_tests}
-use Rattle.pagable_model.specs.declared.numbers.NodeNumber.{NodeNumber}
-use Rattle.pagable_tables.specs.Live.{live}
-use Rattle.pagable_tables.specs.Falling.{Steps, has_value, is_node}
+use Rattle.pagable_tables.proofs.Words.{◌≡◌, ℕ, Bool, true, false, Option, Some, None, arith, inl, refl, ap, sym, subst, ◌∙◌, ◌≢◌, IfSome, nat_tests, NodeNumber, live, Steps, has_value, is_node}
+use Rattle.pagable_tables.proofs.Words.{counts_at}
 use Rattle.pagable_tables.proofs.Shedding.{lasts-on, none-falls-in}
-use Rattle.pagable_tables.specs.ByNumber.{counts_at}
 use Rattle.pagable_tables.proofs.Standing.{valued-le, none-falls, one-falls}
 use Rattle.pagable_tables.proofs.Ended.{ended}
 use Rattle.pagable_tables.proofs.Fewer.{steps-fewer, steps-unlisted}

@@ -1,11 +1,5 @@
-use Rattle.std.proofs.Common.{nat_eq, ℕ, ◌≡◌, ◌+◌, ◌*◌, ◌≤◌, Bool, false, List, length}
-use Rattle.pagable_world.specs.World.{Core}
-use Rattle.pagable_tables.specs.Live.{live}
-use Rattle.indexmap.specs.IndexMap.{get}
-use Rattle.pagable_tables.specs.ByNumber.{counts_at}
-use Rattle.pagable_tables.specs.Falling.{IsFalling, AreKept, owns_nothing, valued}
+use Rattle.pagable_tables.proofs.Words.{nat_eq, ℕ, ◌≡◌, ◌+◌, ◌*◌, ◌≤◌, Bool, false, List, length, Core, live, get, counts_at, IsFalling, AreKept, owns_nothing, valued, SoFar}
 use Rattle.pagable_tables.proofs.Shedding.{Lasting}
-use Rattle.pagable_tables.specs.Onward.{SoFar}
 use Rattle.pagable_tables.proofs.cascade.cascade.Given as goal
 
 abbrev pub invariant-fall : goal.invariant-fall

@@ -1,6 +1,4 @@
-use Rattle.std.proofs.Common.{ap, sym, ◌∙◌, subst}
-use Rattle.pagable_world.specs.Cascade.{Falls}
-use Rattle.pagable_tables.specs.Onward.{with_tables, told_by}
+use Rattle.pagable_tables.proofs.Words.{ap, sym, ◌∙◌, subst, Falls, with_tables, told_by}
 use Rattle.pagable_tables.proofs.cascade.fall.Goals as goal
 
 pub returns-clause-falls : goal.returns-clause-falls

@@ -1,9 +1,5 @@
-use Rattle.std.proofs.Common.{None, false, Ok, refl, ap, sym, arith}
+use Rattle.pagable_tables.proofs.Words.{None, false, Ok, refl, ap, sym, arith, NodeNumber, shut, is_listed, core_of, with_tables}
 use Rattle.std.specs.Option.{option_map}
-use Rattle.pagable_model.specs.declared.numbers.NodeNumber.{NodeNumber}
-use Rattle.pagable_world.specs.Calls.{shut, is_listed}
-use Rattle.pagable_tables.specs.Core.{core_of}
-use Rattle.pagable_tables.specs.Onward.{with_tables}
 use Rattle.pagable_tables.proofs.Entries.{are-entries, begun-shut, cache-anew}
 use Rattle.pagable_tables.proofs.Newer.{close-newer, later-so}
 use Rattle.pagable_tables.proofs.keeps.EndCalls.{close-whole}

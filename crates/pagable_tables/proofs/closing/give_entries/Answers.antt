@@ -1,14 +1,5 @@
-use Rattle.std.proofs.Common.{rules, ◌≡◌, ℕ, ◌+◌, ◌==◌, ◌||◌, List, [], ◌∷◌, length, false, None, refl, ap, sym, ◌∙◌, subst, arith}
-use Rattle.std.proofs.lemmas.Bool.Decides.{nat_tests}
-use Rattle.std.proofs.lemmas.List.{length-append}
-use Rattle.std.proofs.lemmas.List.Sums.{sum_by_push}
-use Rattle.pagable_model.specs.declared.numbers.HandleNumber.{HandleNumber}
-use Rattle.pagable_world.specs.Plain.{one}
-use Rattle.pagable_world.specs.Cascade.{Falls}
-use Rattle.pagable_tables.specs.declared.holdings.Holdings.{Holdings}
-use Rattle.pagable_tables.specs.Falling.{owns_nothing}
-use Rattle.pagable_tables.specs.Onward.{with_tables, told_by, SoFar}
-use Rattle.pagable_tables.specs.Closing.{entered, with_list}
+use Rattle.pagable_tables.proofs.Words.{rules, ◌≡◌, ℕ, ◌+◌, ◌==◌, ◌||◌, List, [], ◌∷◌, length, false, None, refl, ap, sym, ◌∙◌, subst, arith, nat_tests, length-append, sum_by_push, HandleNumber}
+use Rattle.pagable_tables.proofs.Words.{one, Falls, Holdings, owns_nothing, with_tables, told_by, SoFar, entered, with_list}
 use Rattle.pagable_tables.proofs.Begun.{aside}
 use Rattle.pagable_tables.proofs.Entries.{given_up, none-given-up, one-given-up, unlist}
 use Rattle.pagable_tables.proofs.Ended.{ended}

@@ -1,12 +1,4 @@
-use Rattle.std.proofs.Common.{nat_eq, ℕ, ◌≤◌, [], length, false, None}
-use Rattle.pagable_world.specs.World.{Core}
-use Rattle.pagable_world.specs.Cascade.{nobody}
-use Rattle.pagable_tables.specs.Live.{live}
-use Rattle.pagable_tables.specs.Falling.{IsFalling, Sheds, owns_nothing}
-use Rattle.indexmap.specs.IndexMap.{get}
-use Rattle.pagable_tables.specs.ByNumber.{counts_at}
-use Rattle.pagable_tables.specs.Onward.{SoFar}
-use Rattle.pagable_tables.specs.Closing.{entered, with_list, AreEntries}
+use Rattle.pagable_tables.proofs.Words.{nat_eq, ℕ, ◌≤◌, [], length, false, None, Core, nobody, live, IsFalling, Sheds, owns_nothing, get, counts_at, SoFar, entered, with_list, AreEntries}
 use Rattle.pagable_tables.proofs.Entries.{given_up}
 use Rattle.pagable_tables.proofs.closing.give_entries.Given as goal
 

@@ -1,11 +1,4 @@
-use Rattle.std.proofs.Common.{◌≡◌, [], false, refl, ap, sym, ◌∙◌, subst, arith}
-use Rattle.pagable_world.specs.Plain.{if_there}
-use Rattle.pagable_model.specs.declared.numbers.HandleNumber.{HandleNumber}
-use Rattle.pagable_world.specs.Kinds.{is_owned_by}
-use Rattle.pagable_world.specs.declared.handles.Owner.TheVariants as owners
-use Rattle.pagable_tables.specs.Closing.{entered}
-use Rattle.pagable_tables.specs.Falling.{GivesUp, is_valued}
-use Rattle.pagable_tables.specs.Onward.{SoFar}
+use Rattle.pagable_tables.proofs.Words.{◌≡◌, [], false, refl, ap, sym, ◌∙◌, subst, arith, if_there, HandleNumber, is_owned_by, Owner, entered, GivesUp, is_valued, SoFar}
 use Rattle.pagable_tables.proofs.Begun.{unowned}
 use Rattle.pagable_tables.proofs.Entries.{went, entry-apart}
 use Rattle.pagable_tables.proofs.Fewer.{gives-fewer, gives-unlisted}
@@ -16,22 +9,22 @@ use Rattle.pagable_tables.proofs.Shedding.{stays-first, sheds-still}
 use Rattle.pagable_tables.proofs.closing.give_entry.Goals as goal
 
 pub returns-in_default-clause-so_far : goal.returns-in_default-clause-so_far
-returns-in_default-clause-so_far g c before w given f few owned none = went f c.args.entry.0 owned (ap (if_there (is_owned_by owners.List) false) (c.in_default.ensures.none))
+returns-in_default-clause-so_far g c before w given f few owned none = went f c.args.entry.0 owned (ap (if_there (is_owned_by Owner.List) false) (c.in_default.ensures.none))
 
 pub returns-then-not-is_owner-clause-so_far : goal.returns-then-not-is_owner-clause-so_far
 returns-then-not-is_owner-clause-so_far g c before w given f few owned none =
-    went f c.args.entry.0 owned (ap (if_there (is_owned_by owners.List) false) c.in-Some.ensures.found ∙ sym c.if-not-is_owner.ensures)
+    went f c.args.entry.0 owned (ap (if_there (is_owned_by Owner.List) false) c.in-Some.ensures.found ∙ sym c.if-not-is_owner.ensures)
 
 pub give_up-requires-clause-falling : goal.give_up-requires-clause-falling
 give_up-requires-clause-falling g c =
     let x = c.in-Some.at.row in
-    let own : x.owner ≡ owners.List = owner-same owners.List x.owner (sym c.if-not-is_owner.ensures) in
+    let own : x.owner ≡ Owner.List = owner-same Owner.List x.owner (sym c.if-not-is_owner.ensures) in
     ([], unowned c.args.t.now x [] (ap is_valued own) c.requires)
 
 pub cascade-requires : goal.cascade-requires
 cascade-requires g c =
     let x = c.in-Some.at.row in
-    let own : x.owner ≡ owners.List = owner-same owners.List x.owner (sym c.if-not-is_owner.ensures) in
+    let own : x.owner ≡ Owner.List = owner-same Owner.List x.owner (sym c.if-not-is_owner.ensures) in
     let e : GivesUp c.args.t.now [] x false c.give_up.new.t = c.give_up.ensures [] (unowned c.args.t.now x [] (ap is_valued own) c.requires) in
     let long = e.long in
     record { falling = (e.more, e.falling, omega arith) }
@@ -39,7 +32,7 @@ cascade-requires g c =
 pub returns-clause-fewer : goal.returns-clause-fewer
 returns-clause-fewer g c =
     let x = c.in-Some.at.row in
-    let own : x.owner ≡ owners.List = owner-same owners.List x.owner (sym c.if-not-is_owner.ensures) in
+    let own : x.owner ≡ Owner.List = owner-same Owner.List x.owner (sym c.if-not-is_owner.ensures) in
     let e : GivesUp c.args.t.now [] x false c.give_up.new.t = c.give_up.ensures [] (unowned c.args.t.now x [] (ap is_valued own) c.requires) in
     let a = gives-fewer c.args.t.now c.give_up.new.t [] x false e in
     let b = c.cascade.ensures.fewer in
@@ -48,7 +41,7 @@ returns-clause-fewer g c =
 pub returns-clause-list : goal.returns-clause-list
 returns-clause-list g c =
     let x = c.in-Some.at.row in
-    let own : x.owner ≡ owners.List = owner-same owners.List x.owner (sym c.if-not-is_owner.ensures) in
+    let own : x.owner ≡ Owner.List = owner-same Owner.List x.owner (sym c.if-not-is_owner.ensures) in
     let e : GivesUp c.args.t.now [] x false c.give_up.new.t = c.give_up.ensures [] (unowned c.args.t.now x [] (ap is_valued own) c.requires) in
     c.cascade.ensures.unlisting refl ∙ gives-unlisted c.args.t.now c.give_up.new.t [] x e
 
@@ -56,7 +49,7 @@ pub returns-clause-so_far : goal.returns-clause-so_far
 returns-clause-so_far g c before w given f few owned none =
     let t = c.args.t.now in
     let x = c.in-Some.at.row in
-    let own : x.owner ≡ owners.List = owner-same owners.List x.owner (sym c.if-not-is_owner.ensures) in
+    let own : x.owner ≡ Owner.List = owner-same Owner.List x.owner (sym c.if-not-is_owner.ensures) in
     let e : GivesUp t [] x false c.give_up.new.t = c.give_up.ensures [] (unowned t x [] (ap is_valued own) c.requires) in
     let number = c.in-Some.ensures.number in
     let on = gives-apart before w given false t c.give_up.new.t [] x f c.requires.fits.pinned (entry-apart f x.number.0 (ap (λ (q : HandleNumber). entered q.0 w.list) number ∙ none)) few e in
@@ -65,7 +58,7 @@ returns-clause-so_far g c before w given f few owned none =
 pub returns-clause-sheds : goal.returns-clause-sheds
 returns-clause-sheds g c =
     let x = c.in-Some.at.row in
-    let own : x.owner ≡ owners.List = owner-same owners.List x.owner (sym c.if-not-is_owner.ensures) in
+    let own : x.owner ≡ Owner.List = owner-same Owner.List x.owner (sym c.if-not-is_owner.ensures) in
     let e : GivesUp c.args.t.now [] x false c.give_up.new.t = c.give_up.ensures [] (unowned c.args.t.now x [] (ap is_valued own) c.requires) in
     stays-first e.values c.cascade.ensures.sheds
 

@@ -1,8 +1,9 @@
-use Rattle.pagable_tables.proofs.Shedding.{sheds-then}
+use Rattle.std.proofs.Common.{refl}
+use Rattle.std.specs.Option.{option_map}
+use Rattle.pagable_tables.specs.ByNumber.{load_at}
+use Rattle.pagable_tables.specs.Core.{load_in}
+use Rattle.pagable_tables.proofs.GivenAll.{bare}
 use Rattle.pagable_tables.proofs.ending.give_up_load.Goals as goal
 
 pub returns-clause-falls : goal.returns-clause-falls
-returns-clause-falls g c before w f few between = c.fall.ensures.falls before w _ (c.give_each.ensures.so_far before w f few between)
-
-pub returns-clause-sheds : goal.returns-clause-sheds
-returns-clause-sheds g c = sheds-then c.give_each.ensures.sheds c.fall.ensures.sheds
+returns-clause-falls g c before w f few between = c.give_all.ensures.falls before w (bare (λ l. option_map load_in (load_at c.args.loads.now l))) (λ l. refl) f few between

@@ -23,7 +23,7 @@ returns-clause-dropped g c stored closed failures e =
     let w = core_of t stored closed failures in
     let w' = core_of (record t { holdings = c.give_up_load.new.t; loads = c.close.new.loads }) stored closed failures in
     let u = without_load w l in
-    let falls = c.give_up_load.ensures.falls w u (begun-less t l stored closed c.args.lists failures c.requires.whole e) (omega arith)
+    let falls = c.give_up_load.ensures.falls w u (begun-less t u.loads w.workers stored closed c.args.lists failures c.requires.whole e) (omega arith)
     (λ q own. (c.requires.later.since l.0 c.in-Ok.row q c.in-Ok.ensures.row own, owned-given (plain_of t) (owners.Load l) q c.requires.whole.core.handles own)) in
     record {
       does = inr (

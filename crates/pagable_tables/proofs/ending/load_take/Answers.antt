@@ -1,20 +1,6 @@
-use Rattle.std.proofs.Common.{◌≡◌, ℕ, ◌&&◌, false, not, length, arith, ap, sym, ◌∙◌, subst, Some, None}
+use Rattle.pagable_tables.proofs.Words.{◌≡◌, ℕ, ◌&&◌, false, not, length, arith, ap, sym, ◌∙◌, subst, Some, None, Error, Owner, is_in, if_there, is_owner, OpenLoad, Falls, refused_if}
+use Rattle.pagable_tables.proofs.Words.{is_owned_in, numbers_of, get, nat_eq, Sheds, load_at, counts_at, core_of, plain_of, load_in, with_tables, Holdings}
 use Rattle.std.specs.Option.{option_map}
-use Rattle.pagable_model.specs.declared.error.Error.TheVariants as errors
-use Rattle.pagable_world.specs.declared.handles.Owner.TheVariants as owners
-use Rattle.pagable_world.specs.Plain.{is_in, if_there}
-use Rattle.pagable_world.specs.Kinds.{is_owner}
-use Rattle.pagable_world.specs.World.{OpenLoad}
-use Rattle.pagable_world.specs.Cascade.{Falls}
-use Rattle.pagable_world.specs.Refusals.{refused_if}
-use Rattle.pagable_world.specs.LoadCalls.{is_owned_in, numbers_of}
-use Rattle.indexmap.specs.IndexMap.{get}
-use Rattle.std.specs.Prelude.{nat_eq}
-use Rattle.pagable_tables.specs.Falling.{Sheds}
-use Rattle.pagable_tables.specs.ByNumber.{load_at, counts_at}
-use Rattle.pagable_tables.specs.Core.{core_of, plain_of, load_in}
-use Rattle.pagable_tables.specs.Onward.{with_tables}
-use Rattle.pagable_tables.specs.declared.holdings.Holdings.{Holdings}
 use Rattle.pagable_tables.proofs.Dropped.{load-closed, owned-given, loads-anew}
 use Rattle.pagable_tables.proofs.Taken.{moved-less, begun-moved, loaded-moved, no-load, may-hand, named-there, still-listed, and-left, MayHand}
 use Rattle.pagable_tables.proofs.keeps.Comes.{not-a-value}
@@ -23,13 +9,15 @@ use Rattle.pagable_tables.proofs.Begun.{not-closed}
 use Rattle.pagable_tables.proofs.keeps.EndCalls.{hand-over-whole}
 use Rattle.pagable_tables.proofs.keeps.Placed.{whole-so}
 use Rattle.pagable_tables.proofs.Newer.{take-newer, later-so, closed-still}
+use Rattle.pagable_tables.proofs.Shedding.{sheds-still}
+use Rattle.pagable_tables.proofs.Worlds.{still}
 use Rattle.pagable_tables.proofs.ending.load_take.Goals as goal
 
 pub unreachable-requires : goal.unreachable-requires
 unreachable-requires g c =
     let t = c.args.t.now in
     let can : MayHand (plain_of t) c.args.me c.args.load c.args.named.now = may-hand c.requires.whole.core c.args.me c.args.load c.args.named.now (sym (c.hand_over_fault.ensures (λ key. None) false 0) ∙ c.in_default.is) in
-    let gone = ap (λ o. if_there (λ (load : OpenLoad). refused_if (not (is_owner c.args.me load.owner)) errors.NotYours) (Some errors.NoSuchHandle) (option_map load_in o)) (sym c.load_of.ensures ∙ c.in_default-load_of.is) in
+    let gone = ap (λ o. if_there (λ (load : OpenLoad). refused_if (not (is_owner c.args.me load.owner)) Error.NotYours) (Some Error.NoSuchHandle) (option_map load_in o)) (sym c.load_of.ensures ∙ c.in_default-load_of.is) in
     absurd (let a = sym gone ∙ can.own in cc)
 
 pub hand_each-requires-clause-plain : goal.hand_each-requires-clause-plain
@@ -57,21 +45,21 @@ returns-clause-taken g c stored closed failures e =
     let u = moved-less w l s me in
     let h = c.hand_each.new.t in
     let can : MayHand p me l hs = may-hand c.requires.whole.core me l hs (sym (c.hand_over_fault.ensures (λ key. None) false 0) ∙ c.in_default.is) in
-    let left : (q : ℕ) → is_owned_in u (owners.Load l) q ≡ (is_owned_in w (owners.Load l) q && not (s q)) = λ q. loaded-moved s me l q w.rows (no-load p me l can.may) in
+    let left : (q : ℕ) → is_owned_in u (Owner.Load l) q ≡ (is_owned_in w (Owner.Load l) q && not (s q)) = λ q. loaded-moved s me l q w.rows (no-load p me l can.may) in
     let so-far = begun-moved t h l s me stored closed c.args.lists failures c.requires.whole e c.hand_each.ensures.same c.hand_each.ensures.rows
     (record { handles = (let a = c.hand_each.ensures.capacity in omega arith); entries = (let a = ap (λ (k : Holdings). (with_tables w k).places.entries) c.hand_each.ensures.same in omega arith) })
     (still-listed c.requires.whole.core me l hs can) in
     let row : load_at t.loads l.0 ≡ Some c.in-Some-load_of.row = sym c.load_of.ensures ∙ c.in-Some-load_of.is in
     let last = ap (λ (k : Holdings). k.last_handle) c.hand_each.ensures.same in
     let falls = c.give_up_load.ensures.falls w u so-far (let a = ap length c.hand_each.ensures.rows in omega arith)
-    (λ q own. let mine = and-left (is_owned_in w (owners.Load l) q) (not (s q)) (sym (left q) ∙ own) in let g = owned-given p (owners.Load l) q c.requires.whole.core.handles mine in
+    (λ q own. let mine = and-left (is_owned_in w (Owner.Load l) q) (not (s q)) (sym (left q) ∙ own) in let g = owned-given p (Owner.Load l) q c.requires.whole.core.handles mine in
     (c.requires.later.since l.0 c.in-Some-load_of.row q row mine, omega arith)) in
     record {
       hands = (
         sym (c.hand_over_fault.ensures stored closed failures) ∙ c.in_default.is,
         record {
           told = c.give_up_load.result;
-          falls = loads-anew w u (with_tables u c.give_up_load.new.t) (λ q. is_owned_in w (owners.Load l) q && not (s q)) c.give_up_load.result w'.loads
+          falls = loads-anew w u (with_tables u c.give_up_load.new.t) (λ q. is_owned_in w (Owner.Load l) q && not (s q)) c.give_up_load.result w'.loads
               (load-closed (load_at t.loads) (load_at c.close.new.loads) l.0 c.close.ensures.gone c.close.ensures.others)
               (subst (λ given. Falls w u given c.give_up_load.result (with_tables u c.give_up_load.new.t)) (λ i q. left q i) falls);
         },
@@ -94,3 +82,10 @@ pub returns-clause-sheds : goal.returns-clause-sheds
 returns-clause-sheds g c =
     let nodes = ap (λ (k : Holdings). k.nodes) c.hand_each.ensures.same in
     subst (λ ns. Sheds (counts_at ns) (get nat_eq c.args.values.now) (counts_at c.give_up_load.new.t.nodes) (get nat_eq c.give_up_load.new.values)) nodes c.give_up_load.ensures.sheds
+
+pub returns-in-Some-clause-sheds : goal.returns-in-Some-clause-sheds
+returns-in-Some-clause-sheds g c = sheds-still c.args.t.now.holdings _ c.requires.whole.steady
+
+pub returns-in-Some-clause-taken : goal.returns-in-Some-clause-taken
+returns-in-Some-clause-taken g c stored closed failures e =
+    record { hands = tt; refused = (sym (c.hand_over_fault.ensures stored closed failures) ∙ c.in-Some.is, still (core_of c.args.t.now stored closed failures)) }

@@ -1,9 +1,4 @@
-use Rattle.std.proofs.Common.{◌≡◌, ◌∙◌, sym, ap, refl, arith, Some, false}
-use Rattle.pagable_model.specs.declared.numbers.HandleNumber.{HandleNumber}
-use Rattle.pagable_tables.specs.Live.{live}
-use Rattle.pagable_tables.specs.Falling.{is_valued}
-use Rattle.pagable_tables.specs.Named.{named_at, IsNamed}
-use Rattle.pagable_tables.specs.declared.holdings.Holdings.{Holdings}
+use Rattle.pagable_tables.proofs.Words.{◌≡◌, ◌∙◌, sym, ap, refl, arith, Some, false, HandleNumber, live, is_valued, named_at, IsNamed, Holdings}
 use Rattle.pagable_tables.proofs.Handed.{none-moved, one-moved, named-still, all-moved}
 use Rattle.pagable_tables.proofs.handing.hand_each.Goals as goal
 

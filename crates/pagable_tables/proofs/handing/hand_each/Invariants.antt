@@ -1,9 +1,4 @@
-use Rattle.std.proofs.Common.{◌≡◌, ◌≤◌, [], length, vec_capacity}
-use Rattle.pagable_world.specs.Plain.{is_in}
-use Rattle.pagable_world.specs.Calls.{moved}
-use Rattle.pagable_tables.specs.Live.{live}
-use Rattle.pagable_tables.specs.Named.{seen}
-use Rattle.pagable_tables.specs.Falling.{IsFalling, owns_nothing}
+use Rattle.pagable_tables.proofs.Words.{◌≡◌, ◌≤◌, [], length, vec_capacity, is_in, moved, live, seen, IsFalling, owns_nothing}
 use Rattle.pagable_tables.proofs.handing.hand_each.Given as goal
 
 abbrev pub invariant-loop-place : goal.invariant-loop-place

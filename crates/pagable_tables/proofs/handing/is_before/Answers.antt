@@ -1,7 +1,4 @@
-use Rattle.std.proofs.Common.{◌≡◌, ◌==◌, ◌||◌, false, ap, sym, ◌∙◌, arith}
-use Rattle.std.proofs.lemmas.Bool.Decides.{nat_tests}
-use Rattle.pagable_world.specs.Plain.{is_in}
-use Rattle.pagable_tables.specs.Named.{seen, named_at}
+use Rattle.pagable_tables.proofs.Words.{◌≡◌, ◌==◌, ◌||◌, false, ap, sym, ◌∙◌, arith, nat_tests, is_in, seen, named_at}
 use Rattle.pagable_tables.proofs.Seen.{in-none, in-more, in-there}
 use Rattle.pagable_tables.proofs.handing.is_before.Goals as goal
 

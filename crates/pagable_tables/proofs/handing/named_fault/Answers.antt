@@ -1,11 +1,5 @@
-use Rattle.std.proofs.Common.{◌≡◌, ◌+◌, ◌-◌, ◌||◌, drop, arith, sym, ◌∙◌, ap, subst, Some}
-use Rattle.std.specs.Prelude.{not}
-use Rattle.pagable_model.specs.declared.error.Error.TheVariants as errors
-use Rattle.pagable_world.specs.declared.handles.HandleRow.{HandleRow}
-use Rattle.pagable_world.specs.Plain.{is_in, if_there}
-use Rattle.pagable_world.specs.Kinds.{is_owner, find_row}
-use Rattle.pagable_world.specs.Refusals.{named_fault, refused_if}
-use Rattle.pagable_tables.specs.Named.{seen, named_at}
+use Rattle.pagable_tables.proofs.Words.{◌≡◌, ◌+◌, ◌-◌, ◌||◌, drop, arith, sym, ◌∙◌, ap, subst, Some, not, Error, HandleRow, is_in, if_there, is_owner, find_row, named_fault, refused_if, seen}
+use Rattle.pagable_tables.proofs.Words.{named_at}
 use Rattle.pagable_tables.proofs.Seen.{last-named, one-named, all-named}
 use Rattle.pagable_tables.proofs.handing.named_fault.Goals as goal
 
@@ -21,7 +15,7 @@ loop-place-preserved c =
     let up : c.loop-place.place ≡ p + 1 = omega arith in (
       omega arith,
       λ w is. c.earlier-fault.ensures ∙ one-named w c.args.owner hs p c.fault_at.result c.loop-place.fault (omega arith)
-          (c.fault_at.ensures ∙ ap (λ rows. if_there (λ (row : HandleRow). refused_if (not (is_owner c.args.owner row.owner) || is_in (seen hs p) (named_at hs p)) errors.NotYours) (Some errors.NoSuchHandle) (find_row (named_at hs p) rows)) (sym is))
+          (c.fault_at.ensures ∙ ap (λ rows. if_there (λ (row : HandleRow). refused_if (not (is_owner c.args.owner row.owner) || is_in (seen hs p) (named_at hs p)) Error.NotYours) (Some Error.NoSuchHandle) (find_row (named_at hs p) rows)) (sym is))
           (subst (λ q. c.loop-place.fault ≡ named_fault w c.args.owner (seen hs q) (drop q hs)) up (c.loop-place.invariant.1 w is)),
     )
 

@@ -1,8 +1,4 @@
-use Rattle.std.proofs.Common.{◌≡◌, ◌≤◌, length, drop}
-use Rattle.pagable_world.specs.World.{Core}
-use Rattle.pagable_world.specs.Refusals.{named_fault}
-use Rattle.pagable_tables.specs.Live.{live}
-use Rattle.pagable_tables.specs.Named.{seen}
+use Rattle.pagable_tables.proofs.Words.{◌≡◌, ◌≤◌, length, drop, Core, named_fault, live, seen}
 use Rattle.pagable_tables.proofs.handing.named_fault.Given as goal
 
 abbrev pub invariant-loop-place : goal.invariant-loop-place

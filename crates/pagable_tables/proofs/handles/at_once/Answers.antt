@@ -1,5 +1,4 @@
-use Rattle.std.proofs.Common.{arith}
-use Rattle.std.proofs.lemmas.Option.{slice_get-get_or}
+use Rattle.pagable_tables.proofs.Words.{arith, slice_get-get_or}
 use Rattle.pagable_tables.proofs.Alive.{row-got}
 use Rattle.pagable_tables.proofs.handles.at_once.Goals as goal
 

@@ -1,9 +1,5 @@
-use Rattle.std.proofs.Common.{◌<◌, arith, sym, ap, ◌∙◌, ◌≡◌, filter, length, subst, rules}
+use Rattle.pagable_tables.proofs.Words.{◌<◌, arith, sym, ap, ◌∙◌, ◌≡◌, filter, length, subst, rules, filter_from_retain, All-filter, AllPairs-filter, live, is_live_place, IsBefore, IsNext, Place}
 use Rattle.std.specs.List.{AllPairs}
-use Rattle.std.proofs.lemmas.List.Elements.{filter_from_retain, All-filter}
-use Rattle.std.proofs.lemmas.List.Kept.{AllPairs-filter}
-use Rattle.pagable_tables.specs.Live.{live, is_live_place, IsBefore, IsNext}
-use Rattle.pagable_tables.specs.declared.rows.Place.{Place}
 use Rattle.pagable_tables.proofs.Alive.{live-filter, length-live-filter}
 use Rattle.pagable_tables.proofs.handles.compact.Goals as goal
 

@@ -1,9 +1,6 @@
-use Rattle.std.proofs.Common.{arith}
-use Rattle.pagable_tables.specs.declared.rows.Place.{Place}
+use Rattle.pagable_tables.proofs.Words.{arith, Place, slice_get-get_or, get_or_default}
 use Rattle.pagable_tables.proofs.Order.{smaller-up, greater-from, outside}
 use Rattle.pagable_tables.proofs.Alive.{none-live, dead-only, row-got}
-use Rattle.std.proofs.lemmas.Option.{slice_get-get_or}
-use Rattle.std.proofs.lemmas.List.{get_or_default}
 use Rattle.pagable_tables.proofs.handles.find.Goals as goal
 
 pub returns-then-place-number-clause-none : goal.returns-then-place-number-clause-none

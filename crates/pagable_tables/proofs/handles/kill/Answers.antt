@@ -1,6 +1,4 @@
-use Rattle.std.proofs.Common.{arith, refl, ap, ◌∙◌, false, sum_by}
-use Rattle.std.proofs.lemmas.List.{length-set}
-use Rattle.pagable_tables.specs.declared.rows.Place.{Place}
+use Rattle.pagable_tables.proofs.Words.{arith, refl, ap, ◌∙◌, false, sum_by, length-set, Place}
 use Rattle.pagable_tables.proofs.Order.{rises-set}
 use Rattle.pagable_tables.proofs.Alive.{live-kill, sum-live-set, length-live-set, next-set}
 use Rattle.pagable_tables.proofs.handles.kill.Goals as goal

@@ -1,9 +1,6 @@
-use Rattle.std.proofs.Common.{◌<◌, subst, length-append, rules, arith, sym, ap, ◌∙◌, ◌≡◌, ◌∷◌, [], ◌++◌, ◌+◌, length, get_or}
-use Rattle.pagable_tables.specs.Live.{live, alive, IsBefore, IsNext}
-use Rattle.pagable_tables.specs.declared.rows.Place.{Place}
+use Rattle.pagable_tables.proofs.Words.{◌<◌, subst, rules, arith, sym, ap, ◌∙◌, ◌≡◌, ◌∷◌, [], ◌++◌, ◌+◌, length, get_or, live, alive, IsBefore, IsNext, Place, All-push, all_pairs_push}
+use Rattle.std.proofs.Common.{length-append}
 use Rattle.std.specs.List.{AllPairs}
-use Rattle.std.proofs.lemmas.List.Elements.{All-push}
-use Rattle.std.proofs.lemmas.List.Quantifiers.{all_pairs_push}
 use Rattle.pagable_tables.proofs.Alive.{live-push}
 use Rattle.pagable_tables.proofs.handles.push.Goals as goal
 

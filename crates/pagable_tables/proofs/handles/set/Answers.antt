@@ -1,8 +1,4 @@
-use Rattle.std.proofs.Common.{arith, ap}
-use Rattle.pagable_model.specs.declared.numbers.HandleNumber.{HandleNumber}
-use Rattle.std.proofs.lemmas.List.{length-set}
-use Rattle.pagable_tables.specs.Live.{alive}
-use Rattle.pagable_tables.specs.declared.rows.Place.{Place}
+use Rattle.pagable_tables.proofs.Words.{arith, ap, HandleNumber, length-set, alive, Place}
 use Rattle.pagable_tables.proofs.Order.{rises-set}
 use Rattle.pagable_tables.proofs.Alive.{live-set, sum-live-set, length-live-set, next-set}
 use Rattle.pagable_tables.proofs.handles.set.Goals as goal

@@ -1,7 +1,4 @@
-use Rattle.std.proofs.Common.{refl, sym, ◌∙◌, ◌≡◌, inl, ◌≤◌, length, rules}
-use Rattle.std.specs.Prelude.{vec_capacity}
-use Rattle.std.proofs.lemmas.List.{append-nil}
-use Rattle.pagable_tables.specs.Live.{live}
+use Rattle.pagable_tables.proofs.Words.{refl, sym, ◌∙◌, ◌≡◌, inl, ◌≤◌, length, rules, vec_capacity, append-nil, live}
 use Rattle.pagable_tables.proofs.holdings.enlist.Goals as goal
 
 pub returns-then-is_err : goal.returns-then-is_err

@@ -1,13 +1,5 @@
-use Rattle.std.proofs.lemmas.Bool.{cases_eq}
-use Rattle.std.proofs.lemmas.Bool.Decides.{nat_tests}
-use Rattle.std.proofs.Common.{false, inl, inr, Bool, ◌+◌, ◌-◌, ◌≡◌, ◌≤◌, ℕ, arith, refl, ap, sym, ◌∙◌, subst, Some, None, ◌∷◌, if◌then◌else◌}
-use Rattle.std.specs.Prelude.{◌≢◌}
-use Rattle.pagable_world.specs.Plain.{one}
-use Rattle.pagable_world.specs.Kinds.{is_pinning}
-use Rattle.pagable_tables.specs.Live.{live}
-use Rattle.pagable_tables.specs.ByNumber.{counts_at, refs_at}
-use Rattle.pagable_tables.specs.Falling.{Fits, pins_in, holds_in, after, is_fallen_by, is_new, has_value, falls_in, ValueStays, owns_nothing, Leaves}
-use Rattle.pagable_tables.specs.declared.rows.Counts.{Counts}
+use Rattle.pagable_tables.proofs.Words.{cases_eq, nat_tests, false, inl, inr, Bool, ◌+◌, ◌-◌, ◌≡◌, ◌≤◌, ℕ, arith, refl, ap, sym, ◌∙◌, subst, Some, None, ◌∷◌, if◌then◌else◌, ◌≢◌, one, is_pinning}
+use Rattle.pagable_tables.proofs.Words.{live, counts_at, refs_at, Fits, pins_in, holds_in, after, is_fallen_by, is_new, has_value, falls_in, ValueStays, owns_nothing, Leaves, Counts}
 use Rattle.pagable_tables.proofs.Alive.{row-le-live}
 use Rattle.pagable_tables.proofs.Leaving.{leaves-sums}
 use Rattle.pagable_tables.proofs.Fitting.{given-fits, given-cells, new-top, long-if, pin-here, held-here, pin_of, handle_of}

@@ -1,13 +1,5 @@
-use Rattle.std.proofs.lemmas.Bool.Decides.{nat_tests}
-use Rattle.std.proofs.Common.{◌≡◌, ℕ, Bool, true, false, arith, refl, ap, sym, ◌∙◌, subst, Some, None, List, [], ◌∷◌}
-use Rattle.std.specs.Prelude.{◌≢◌, is_some}
-use Rattle.std.proofs.lemmas.Bool.{cases_eq}
-use Rattle.std.proofs.Common.{inl, inr}
-use Rattle.pagable_tables.specs.Live.{live}
-use Rattle.pagable_tables.specs.ByNumber.{counts_at, refs_at}
-use Rattle.pagable_tables.specs.Falling.{IsFalling, Fits, pins_in, holds_in, falls_in, cell_in, has_value, is_right, is_bare, Right, owns_nothing}
-use Rattle.pagable_tables.specs.declared.rows.Counts.{Counts}
-use Rattle.pagable_tables.specs.declared.holdings.Holdings.{Holdings}
+use Rattle.pagable_tables.proofs.Words.{nat_tests, ◌≡◌, ℕ, Bool, true, false, arith, refl, ap, sym, ◌∙◌, subst, Some, None, List, [], ◌∷◌, ◌≢◌, is_some, cases_eq, inl, inr, live, counts_at}
+use Rattle.pagable_tables.proofs.Words.{refs_at, IsFalling, Fits, pins_in, holds_in, falls_in, cell_in, has_value, is_right, is_bare, Right, owns_nothing, Counts, Holdings}
 use Rattle.pagable_tables.proofs.Fitting.{done-fits, first-waits, pins-le-held, settled-right}
 use Rattle.pagable_tables.proofs.holdings.settle.Goals as goal
 

@@ -1,18 +1,6 @@
-use Rattle.std.proofs.Common.{◌≡◌, ◌+◌, ℕ, Bool, true, false, arith, refl, ap, sym, ◌∙◌, subst, Some, Option, List, [], ◌∷◌, ◌++◌, length, slice_get, if◌then◌else◌, inl, inr}
-use Rattle.std.specs.Prelude.{◌≢◌, is_some}
-use Rattle.std.proofs.lemmas.Bool.{cases_eq}
-use Rattle.std.proofs.lemmas.Bool.Decides.{nat_tests}
-use Rattle.std.proofs.lemmas.List.{append-nil}
-use Rattle.pagable_model.specs.declared.numbers.ArcRef.{ArcRef}
-use Rattle.pagable_model.specs.declared.numbers.HandleNumber.{HandleNumber}
-use Rattle.pagable_model.specs.declared.numbers.NodeNumber.{NodeNumber}
-use Rattle.pagable_world.specs.declared.handles.HandleRow.{HandleRow}
-use Rattle.pagable_world.specs.Plain.{one}
-use Rattle.pagable_tables.specs.Live.{live, alive, AreSound, IsNext}
-use Rattle.pagable_tables.specs.ByNumber.{counts_at, refs_at}
-use Rattle.pagable_tables.specs.Falling.{IsFalling, Fits, Settles, GivesUp, CellsStay, cell_in, ValueStays, owns, owns_nothing, entry, is_valued, valued}
-use Rattle.pagable_tables.specs.declared.rows.Counts.{Counts}
-use Rattle.pagable_tables.specs.declared.holdings.Holdings.{Holdings}
+use Rattle.pagable_tables.proofs.Words.{◌≡◌, ◌+◌, ℕ, Bool, true, false, arith, refl, ap, sym, ◌∙◌, subst, Some, Option, List, [], ◌∷◌, ◌++◌, length, slice_get, if◌then◌else◌, inl, inr, ◌≢◌}
+use Rattle.pagable_tables.proofs.Words.{is_some, cases_eq, nat_tests, append-nil, ArcRef, HandleNumber, NodeNumber, HandleRow, one, live, alive, AreSound, IsNext, counts_at, refs_at, IsFalling}
+use Rattle.pagable_tables.proofs.Words.{Fits, Settles, GivesUp, CellsStay, cell_in, ValueStays, owns, owns_nothing, entry, is_valued, valued, Counts, Holdings}
 use Rattle.pagable_tables.proofs.Alive.{only-row, none-found}
 use Rattle.pagable_tables.proofs.Leaving.{leaves-sums}
 use Rattle.pagable_tables.proofs.Fitting.{is_owned, taken-fits, taken-owned, taken-there, owner-is, fits-same, fallen}

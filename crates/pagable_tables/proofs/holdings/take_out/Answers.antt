@@ -1,4 +1,4 @@
-use Rattle.std.proofs.Common.{arith, refl}
+use Rattle.pagable_tables.proofs.Words.{arith, refl}
 use Rattle.pagable_tables.proofs.holdings.take_out.Goals as goal
 
 pub returns : goal.returns

@@ -1,10 +1,4 @@
-use Rattle.std.proofs.Common.{refl, ap, sym, ◌∙◌, false, not, inr, None, Ok, []}
-use Rattle.pagable_world.specs.Kinds.{owner_value}
-use Rattle.pagable_world.specs.World.{is_here}
-use Rattle.pagable_tables.specs.declared.tables.Tables.{Tables}
-use Rattle.pagable_tables.specs.Live.{live}
-use Rattle.pagable_tables.specs.ByNumber.{load_at}
-use Rattle.pagable_tables.specs.Core.{core_of, plain_of}
+use Rattle.pagable_tables.proofs.Words.{refl, ap, sym, ◌∙◌, false, not, inr, None, Ok, [], owner_value, is_here, Tables, live, load_at, core_of, plain_of}
 use Rattle.pagable_tables.proofs.Begun.{not-closed}
 use Rattle.pagable_tables.proofs.Installed.{ended, has-come, install-newer, none-moves, so-then}
 use Rattle.pagable_tables.proofs.Named.{moved-nobody}

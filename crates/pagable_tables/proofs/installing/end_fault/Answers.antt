@@ -1,20 +1,12 @@
-use Rattle.std.proofs.Common.{ap, ◌∙◌, Some, None}
-use Rattle.std.specs.Prelude.{not}
+use Rattle.pagable_tables.proofs.Words.{ap, ◌∙◌, Some, None, not, Error, if_there, is_owner, OpenLoad, earlier, refused_if, load_fault, root_fault, core_of, load_in}
 use Rattle.std.specs.Option.{option_map}
-use Rattle.pagable_model.specs.declared.error.Error.TheVariants as errors
-use Rattle.pagable_world.specs.Plain.{if_there}
-use Rattle.pagable_world.specs.Kinds.{is_owner}
-use Rattle.pagable_world.specs.World.{OpenLoad}
-use Rattle.pagable_world.specs.Refusals.{earlier, refused_if, load_fault}
-use Rattle.pagable_world.specs.LoadCalls.{root_fault}
-use Rattle.pagable_tables.specs.Core.{core_of, load_in}
 use Rattle.pagable_tables.proofs.installing.end_fault.Goals as goal
 
 pub returns : goal.returns
 returns c stored closed failures =
     let w = core_of c.args.t.now stored closed failures in
     let me = c.args.me in
-    let own = c.load_fault-own.ensures ∙ ap (λ o. if_there (λ (load : OpenLoad). refused_if (not (is_owner me load.owner)) errors.NotYours) (Some errors.NoSuchHandle) (option_map load_in o)) c.load_of.ensures in
+    let own = c.load_fault-own.ensures ∙ ap (λ o. if_there (λ (load : OpenLoad). refused_if (not (is_owner me load.owner)) Error.NotYours) (Some Error.NoSuchHandle) (option_map load_in o)) c.load_of.ensures in
     let root = c.root_fault-root.ensures stored closed failures in
     let fit = c.references_fault-fit.ensures stored closed failures in
     c.earlier-2.ensures ∙ ap (λ x. earlier x c.earlier.result) own

@@ -1,17 +1,6 @@
-use Rattle.std.proofs.Common.{◌≡◌, refl, ap, sym, ◌∙◌, subst, Option, Some, None, false}
-use Rattle.std.specs.Prelude.{not}
+use Rattle.pagable_tables.proofs.Words.{◌≡◌, refl, ap, sym, ◌∙◌, subst, Option, Some, None, false, not, OptionalDataKey, HandleNumber, NodeNumber, if_there, any_mode, find_row, is_in_memory}
+use Rattle.pagable_tables.proofs.Words.{Cell, of_cell, key_at, MayEnd, end_fault, Counts, live, core_of, plain_of, load_in, root_in, pins_in, cell_in}
 use Rattle.std.specs.Option.{option_map}
-use Rattle.pagable_model.specs.declared.data_key.OptionalDataKey.TheVariants as optional
-use Rattle.pagable_model.specs.declared.numbers.HandleNumber.{HandleNumber}
-use Rattle.pagable_model.specs.declared.numbers.NodeNumber.{NodeNumber}
-use Rattle.pagable_world.specs.Plain.{if_there}
-use Rattle.pagable_world.specs.Kinds.{any_mode, find_row, is_in_memory}
-use Rattle.pagable_world.specs.World.{Cell, of_cell, key_at}
-use Rattle.pagable_world.specs.LoadCalls.{MayEnd, end_fault}
-use Rattle.pagable_tables.specs.declared.rows.Counts.{Counts}
-use Rattle.pagable_tables.specs.Live.{live}
-use Rattle.pagable_tables.specs.Core.{core_of, plain_of, load_in, root_in}
-use Rattle.pagable_tables.specs.Falling.{pins_in, cell_in}
 use Rattle.pagable_tables.proofs.Upheld.{opens, celled, may-end, number-left}
 use Rattle.pagable_tables.proofs.Worlds.{owner-same}
 use Rattle.pagable_tables.proofs.installing.ending_of.Goals as goal
@@ -52,7 +41,7 @@ returns-in-Ok-clause-ready c stored closed failures =
         own = owner-same me row.owner c.in-Ok.ensures.owner;
         as_asked = begun.1;
       };
-      away = ap not (c.is_here.ensures ∙ ap (λ (o : Option Counts). is_in_memory (pins_in o) (if_there (λ (cell : Cell). cell.key) optional.None (cell_in o))) c.counts_of.ensures
+      away = ap not (c.is_here.ensures ∙ ap (λ (o : Option Counts). is_in_memory (pins_in o) (if_there (λ (cell : Cell). cell.key) OptionalDataKey.None (cell_in o))) c.counts_of.ensures
           ∙ ap (λ p. is_in_memory p (key_at w n)) (c.requires.steady.fits.pinned n));
       left = number-left w me l c.args.node_type c.args.references.now none load is node c.in-Cell.field-1 h cell row c.in-Ok.ensures.found c.in-Ok.ensures.owner;
     }

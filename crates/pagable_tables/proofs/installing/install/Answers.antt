@@ -1,15 +1,5 @@
-use Rattle.std.proofs.Common.{◌≡◌, ◌<◌, ◌+◌, ◌++◌, ◌∷◌, [], sum_by, refl, ap, sym, ◌∙◌, arith, false, not, inl, None, Ok}
-use Rattle.pagable_world.specs.declared.handles.Owner.TheVariants as owners
-use Rattle.pagable_world.specs.declared.rows.Mode.TheVariants as modes
-use Rattle.pagable_world.specs.Plain.{changed, one}
-use Rattle.pagable_world.specs.Kinds.{is_handle, is_pin, owner_value}
-use Rattle.pagable_world.specs.World.{is_here}
-use Rattle.pagable_world.specs.Calls.{moved, is_named_by, row_of}
-use Rattle.pagable_tables.specs.declared.tables.Tables.{Tables}
-use Rattle.pagable_tables.specs.Live.{live}
-use Rattle.pagable_tables.specs.ByNumber.{counts_at, refs_at, load_at}
-use Rattle.pagable_tables.specs.Falling.{has_value, cell_in}
-use Rattle.pagable_tables.specs.Core.{core_of, plain_of}
+use Rattle.pagable_tables.proofs.Words.{◌≡◌, ◌<◌, ◌+◌, ◌++◌, ◌∷◌, [], sum_by, refl, ap, sym, ◌∙◌, arith, false, not, inl, None, Ok, Owner, Mode, changed, one, is_handle, is_pin, owner_value}
+use Rattle.pagable_tables.proofs.Words.{is_here, moved, is_named_by, row_of, Tables, live, counts_at, refs_at, load_at, has_value, cell_in, core_of, plain_of}
 use Rattle.pagable_tables.proofs.Begun.{not-closed}
 use Rattle.pagable_tables.proofs.Coming.{rows-told, some-held, turned}
 use Rattle.pagable_tables.proofs.Fitting.{fits-same, pins-le-held}
@@ -59,7 +49,7 @@ give_up_load-requires g c =
     let whole = c.pin_ready-handle.ensures.whole in
     let r = c.requires.ready (λ key. None) false 0 in
     let a = c.pin_ready-handle.ensures.pinned (λ key. None) false 0 in
-    let x = row_of (t.holdings.last_handle + 1) row.node modes.Pinned me in
+    let x = row_of (t.holdings.last_handle + 1) row.node Mode.Pinned me in
     let away : is_here p n ≡ false = not-so (is_here p n) (sym r.away ∙ c.requires.away) in
     let none = owns-none (counts_at t.holdings.nodes) (refs_at t.holdings.nodes) (live t.holdings.handles.places.items) t.holdings.top n was.steady.fits away in
     let unvalued = not-a-value p me (may-hold p me (ready-owner t me l c.args.node_type rs c.args.ending was r)) in
@@ -68,7 +58,7 @@ give_up_load-requires g c =
     let fits = rows-told (counts_at t1.holdings.nodes) (refs_at t1.holdings.nodes) (live t1.holdings.handles.places.items) before t1.holdings.top (sym a.rows) whole.steady.fits in
     let pinned : 0 < sum_by (λ y. one (is_pin n y)) before =
     (let b = pins-here t t1 (λ key. None) false 0 row me a in let d = ap (sum_by (λ y. one (is_pin n y))) a.rows in omega arith) in
-    let joined = joined-fits p (owners.Load l) n rs was.core.handles.ordered r.may.good refl none row.number.0 x unvalued spared (counts_at t1.holdings.nodes) (refs_at t1.holdings.nodes)
+    let joined = joined-fits p (Owner.Load l) n rs was.core.handles.ordered r.may.good refl none row.number.0 x unvalued spared (counts_at t1.holdings.nodes) (refs_at t1.holdings.nodes)
     (refs_at c.set_references.new.nodes) t1.holdings.top fits pinned c.set_references.ensures.here c.set_references.ensures.others in
     let told = fits-same (counts_at t1.holdings.nodes) (counts_at c.set_references.new.nodes) (refs_at c.set_references.new.nodes) (refs_at c.set_references.new.nodes)
     (moved (is_named_by rs) (owner_value n) before) t1.holdings.top [] joined c.set_references.ensures.counts (λ m. refl) in

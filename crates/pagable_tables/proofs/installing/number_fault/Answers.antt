@@ -1,9 +1,4 @@
-use Rattle.std.proofs.Common.{◌≡◌, true, ap, sym, ◌∙◌, arith}
-use Rattle.std.specs.Prelude.{nat_le}
-use Rattle.std.proofs.lemmas.Bool.Decides.{nat_tests}
-use Rattle.pagable_model.specs.declared.error.Error.TheVariants as errors
-use Rattle.pagable_world.specs.World.{greatest}
-use Rattle.pagable_world.specs.Refusals.{where_so, refused_if, spent}
+use Rattle.pagable_tables.proofs.Words.{◌≡◌, true, ap, sym, ◌∙◌, arith, nat_le, nat_tests, Error, greatest, where_so, refused_if, spent}
 use Rattle.pagable_tables.proofs.installing.number_fault.Goals as goal
 
 pub returns-then-not-is_owned : goal.returns-then-not-is_owned
@@ -13,4 +8,4 @@ pub returns-then-t : goal.returns-then-t
 returns-then-t c stored closed failures =
     let e = c.if-t.true in
     let h : nat_le greatest c.args.t.now.holdings.last_handle ≡ true = grind (arith, nat_tests) in
-    sym (ap (λ b. refused_if b errors.NumbersSpent) h) ∙ ap (λ b. where_so b (spent c.args.t.now.holdings.last_handle)) (c.if-not-is_owned.ensures stored closed failures)
+    sym (ap (λ b. refused_if b Error.NumbersSpent) h) ∙ ap (λ b. where_so b (spent c.args.t.now.holdings.last_handle)) (c.if-not-is_owned.ensures stored closed failures)

@@ -1,4 +1,4 @@
-use Rattle.std.proofs.Common.{None, false}
+use Rattle.pagable_tables.proofs.Words.{None, false}
 use Rattle.pagable_tables.proofs.Upheld.{no-wanting}
 use Rattle.pagable_tables.proofs.installing.pin_ready.Goals as goal
 

@@ -1,15 +1,15 @@
-use Rattle.std.proofs.Common.{refl, inr, arith}
-use Rattle.pagable_tables.specs.Core.{core_of}
-use Rattle.pagable_tables.proofs.Upheld.{owned-open, placed-whole, ready-placed}
+use Rattle.pagable_tables.proofs.Words.{refl, inr, arith, core_of}
+use Rattle.pagable_tables.proofs.Upheld.{placed-whole, ready-placed}
 use Rattle.pagable_tables.proofs.Worlds.{alike}
 use Rattle.pagable_tables.proofs.installing.prepare_end.Goals as goal
+use Rattle.pagable_tables.proofs.Opened.{no-load-fault}
 
 pub returns-in_default-clause-unended : goal.returns-in_default-clause-unended
 returns-in_default-clause-unended c stored closed failures =
     let w = core_of c.args.t.now stored closed failures in
     let may = (c.in-Ok.ensures.ready stored closed failures).may in
     record {
-      why = inr (refl, owned-open w c.args.me c.args.load may.load may.owned, tt);
+      why = inr (refl, no-load-fault w c.args.me c.args.load may.load may.owned, tt);
       stays = alike w _ c.reserve.ensures.rows (λ n. refl) (record { handles = c.reserve.ensures.capacity; entries = omega arith }) refl;
     }
 

@@ -1,12 +1,5 @@
-use Rattle.std.proofs.Common.{◌==◌, ap, sym, ◌∙◌, None}
-use Rattle.std.specs.Prelude.{not}
+use Rattle.pagable_tables.proofs.Words.{◌==◌, ap, sym, ◌∙◌, None, not, Error, if_there, OpenLoad, earlier, refused_if, root_fault, core_of, load_in, root_in}
 use Rattle.std.specs.Option.{option_map}
-use Rattle.pagable_model.specs.declared.error.Error.TheVariants as errors
-use Rattle.pagable_world.specs.Plain.{if_there}
-use Rattle.pagable_world.specs.World.{OpenLoad}
-use Rattle.pagable_world.specs.Refusals.{earlier, refused_if}
-use Rattle.pagable_world.specs.LoadCalls.{root_fault}
-use Rattle.pagable_tables.specs.Core.{core_of, load_in, root_in}
 use Rattle.pagable_tables.proofs.installing.root_fault.Goals as goal
 
 pub returns : goal.returns
@@ -15,5 +8,5 @@ returns c stored closed failures =
     let me = c.args.me in
     let there = sym c.load_of.ensures ∙ c.in-Some.is in
     c.earlier.ensures ∙ ap (λ x. earlier x c.number_fault.result) c.refused_if-typed.ensures
-    ∙ ap (earlier (refused_if (not (c.args.node_type == c.in-Cell.cell_type)) errors.WrongKind)) (c.number_fault.ensures stored closed failures)
+    ∙ ap (earlier (refused_if (not (c.args.node_type == c.in-Cell.cell_type)) Error.WrongKind)) (c.number_fault.ensures stored closed failures)
     ∙ sym (ap (λ o. if_there (λ (load : OpenLoad). root_fault w me c.args.node_type load.root) None (option_map load_in o)) there ∙ ap (λ root. root_fault w me c.args.node_type (root_in root)) c.in-Cell.is)

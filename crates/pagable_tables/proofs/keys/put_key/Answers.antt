@@ -1,14 +1,6 @@
-use Rattle.std.proofs.Common.{◌≡◌, ◌==◌, if◌then◌else◌, [], ◌∷◌, refl, ap, sym, ◌∙◌, subst, Some}
-use Rattle.std.specs.Prelude.{false}
-use Rattle.pagable_tables.specs.declared.rows.Counts.{Counts}
-use Rattle.pagable_tables.specs.Live.{live}
-use Rattle.pagable_tables.specs.ByNumber.{counts_at, refs_at}
-use Rattle.pagable_tables.specs.Falling.{Fits, ValueStays, has_value, falls_in, is_new, owns_nothing}
-use Rattle.pagable_tables.specs.Keyed.{keyed}
+use Rattle.pagable_tables.proofs.Words.{◌≡◌, ◌==◌, if◌then◌else◌, [], ◌∷◌, refl, ap, sym, ◌∙◌, subst, Some, false, Counts, live, counts_at, refs_at, Fits, ValueStays, has_value, falls_in, is_new}
+use Rattle.pagable_tables.proofs.Words.{owns_nothing, keyed, ℕ, inl, inr, arith, cases_eq, nat_tests}
 use Rattle.pagable_tables.proofs.Shedding.{none-falls-in}
-use Rattle.std.proofs.Common.{ℕ, inl, inr, arith}
-use Rattle.std.proofs.lemmas.Bool.{cases_eq}
-use Rattle.std.proofs.lemmas.Bool.Decides.{nat_tests}
 use Rattle.pagable_tables.proofs.Fitting.{long-if}
 use Rattle.pagable_tables.proofs.KeyPut.{key-fits, key-cells, key-top}
 use Rattle.pagable_tables.proofs.keys.put_key.Goals as goal

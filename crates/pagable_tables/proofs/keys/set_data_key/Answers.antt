@@ -1,6 +1,6 @@
-use Rattle.std.proofs.Common.{not, None, refl, sym, ◌∙◌, arith, inl, inr, ap}
-use Rattle.pagable_world.specs.Kinds.{any_mode}
-use Rattle.pagable_tables.specs.ByNumber.{counts_at}
+use Rattle.pagable_tables.proofs.Words.{not, None, refl, sym, ◌∙◌, arith, inl, inr, ap, any_mode, counts_at, load_at}
+use Rattle.std.proofs.Common.{◌≡◌, false, rules}
+use Rattle.pagable_world.specs.Kinds.{is_loose}
 use Rattle.pagable_tables.proofs.Alive.{row-le-live}
 use Rattle.pagable_tables.proofs.Begun.{not-closed}
 use Rattle.pagable_tables.proofs.Coming.{some-held}
@@ -9,7 +9,6 @@ use Rattle.pagable_tables.proofs.Worlds.{still, owner-same}
 use Rattle.pagable_tables.proofs.keeps.FallCalls.{set-key-whole}
 use Rattle.pagable_tables.proofs.keeps.Placed.{whole-so}
 use Rattle.pagable_tables.proofs.Shedding.{sheds-still}
-use Rattle.pagable_tables.specs.ByNumber.{load_at}
 use Rattle.pagable_tables.proofs.Newer.{set-key-newer, later-so}
 use Rattle.pagable_tables.proofs.keys.set_data_key.Goals as goal
 
@@ -50,3 +49,9 @@ pub returns-clause-later : goal.returns-clause-later
 returns-clause-later g c later =
     let n = set-key-newer c.args.me c.args.handle c.args.key c.set_key.result (returns-clause-set g c (λ key. None) (not c.args.lists) 0 (not-closed c.args.lists)) in
     later-so later (record { last = n.last; owned = n.owned }) (λ l load is. sym (ap (λ loads. load_at loads l) c.set_key.ensures.loads) ∙ is)
+
+pub returns-then-not-is_loose-clause-set : goal.returns-then-not-is_loose-clause-set
+returns-then-not-is_loose-clause-set g c stored closed failures e =
+    let row = c.in-Ok.at.row in
+    let other : is_loose row.mode ≡ false = search rules in
+    record { does = inr (row, record { live = c.in-Ok.ensures.found; own = owner-same c.args.me row.owner c.in-Ok.ensures.owner; as_asked = refl }, inl (other, refl, still _)) }

@@ -1,9 +1,4 @@
-use Rattle.std.proofs.Common.{subst}
-use Rattle.pagable_world.specs.Cascade.{nobody}
-use Rattle.pagable_world.specs.Calls.{with_key}
-use Rattle.pagable_tables.specs.ByNumber.{counts_at}
-use Rattle.pagable_tables.specs.Core.{core_of}
-use Rattle.pagable_tables.specs.Keyed.{GetsKey}
+use Rattle.pagable_tables.proofs.Words.{subst, nobody, with_key, counts_at, core_of, GetsKey}
 use Rattle.pagable_tables.proofs.KeySet.{keyed-on}
 use Rattle.pagable_tables.proofs.Shedding.{stays-first}
 use Rattle.pagable_tables.proofs.keys.set_key.Goals as goal

@@ -1,5 +1,4 @@
-use Rattle.std.proofs.Common.{sym, subst, false, None}
-use Rattle.pagable_tables.specs.Core.{plain_of, Suits}
+use Rattle.pagable_tables.proofs.Words.{sym, subst, false, None, plain_of, Suits}
 use Rattle.pagable_tables.proofs.Recalled.{recalls, not-recalled}
 use Rattle.pagable_tables.proofs.keeps.CacheCalls.{known-suits}
 use Rattle.pagable_tables.proofs.known.cache_get.Goals as goal

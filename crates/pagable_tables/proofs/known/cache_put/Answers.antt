@@ -1,12 +1,8 @@
-use Rattle.std.proofs.Common.{◌≡◌, ◌∙◌, ℕ, ap, sym, subst, refl, false, None, Ok, inl, inr, arith, rules}
+use Rattle.pagable_tables.proofs.Words.{◌≡◌, ◌∙◌, ℕ, ap, sym, subst, refl, false, None, Ok, inl, inr, arith, rules, NodeNumber, usable, fits_mode, Owns, offer_fault, recall_fault, with_cached}
+use Rattle.pagable_tables.proofs.Words.{OfferCall, known_at, core_of, plain_of, Suits}
 use Rattle.std.specs.Option.{option_map}
-use Rattle.pagable_model.specs.declared.numbers.NodeNumber.{NodeNumber}
-use Rattle.pagable_world.specs.World.{usable}
-use Rattle.pagable_world.specs.Kinds.{fits_mode}
-use Rattle.pagable_world.specs.Refusals.{Owns}
-use Rattle.pagable_world.specs.Calls.{offer_fault, recall_fault, with_cached, OfferCall}
-use Rattle.pagable_tables.specs.ByNumber.{known_at}
-use Rattle.pagable_tables.specs.Core.{core_of, plain_of, Suits}
+use Rattle.std.specs.Prelude.{is_some}
+use Rattle.pagable_world.specs.Refusals.{spent, where_so}
 use Rattle.pagable_tables.proofs.Offers.{offer-last, learned}
 use Rattle.pagable_tables.proofs.Worlds.{same-cache}
 use Rattle.pagable_tables.proofs.keeps.Placed.{whole-so}
@@ -88,3 +84,32 @@ returns-in_default-learn-clause-whole c =
     let w = c.requires.whole in
     let same = λ (kind key : ℕ). ap (option_map (λ (n : NodeNumber). n.0)) (c.in_default-learn.ensures.err kind key) in
     whole-so w.steady (told-whole w.core refl (λ n. refl) refl (λ kind key n is. sym (same kind key) ∙ is) refl (λ l. refl) (λ v. refl) refl)
+
+pub returns-in_default-learn-clause-offered : goal.returns-in_default-learn-clause-offered
+returns-in_default-learn-clause-offered c stored failures =
+    let w = core_of c.args.t.now stored false failures in
+    let o = c.in-Ok.ensures.owns in
+    let owns : Owns w c.args.me c.args.handle (fits_mode c.args.kind.0) c.in-Ok.row = record { live = o.live; own = o.own; as_asked = o.as_asked } in
+    let unknown : usable w c.args.kind.0 c.args.key ≡ None = search rules in
+    let none = no-fault w c.args.me c.args.handle (fits_mode c.args.kind.0) c.in-Ok.row owns in
+    let cause = offer-last w c.args.me c.args.kind c.args.key c.args.handle c.in-Ok.row none o.live c.in-Ok.ensures.typed ∙ ap (λ u. where_so (is_some u) (spent w.last.handle)) unknown in
+    let known = λ (kind key : ℕ). ap (option_map (λ (n : NodeNumber). n.0)) (c.in_default-learn.ensures.err kind key) in
+    record {
+      answers = tt;
+      refused = record {
+        why = inr (refl, cause, (refl, inl unknown));
+        stays = record {
+          rows = refl;
+          cells = λ n. refl;
+          list = refl;
+          cache = same-cache w _ refl (λ n. refl) known;
+          stored = λ q. refl;
+          closed = refl;
+          failures = refl;
+          loads = λ l. refl;
+          workers = λ v. refl;
+          last = refl;
+          places = record { handles = omega arith; entries = omega arith };
+        };
+      };
+    }

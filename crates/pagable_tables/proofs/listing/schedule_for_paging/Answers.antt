@@ -1,12 +1,5 @@
-use Rattle.std.proofs.Common.{◌≡◌, ◌∙◌, ◌++◌, ◌∷◌, [], ap, refl, subst, false, inl, inr, arith, rules, Ok, None}
-use Rattle.std.specs.Prelude.{not}
-use Rattle.pagable_world.specs.Kinds.{is_unpinned, is_owner}
-use Rattle.pagable_world.specs.declared.handles.Owner.TheVariants as owners
-use Rattle.pagable_world.specs.Calls.{moved}
-use Rattle.pagable_world.specs.Cascade.{only_handle, Falls}
-use Rattle.pagable_tables.specs.Live.{live}
-use Rattle.pagable_tables.specs.Falling.{is_valued}
-use Rattle.pagable_tables.specs.Core.{plain_of, core_of}
+use Rattle.pagable_tables.proofs.Words.{◌≡◌, ◌∙◌, ◌++◌, ◌∷◌, [], ap, refl, subst, false, inl, inr, arith, rules, Ok, None, not, is_unpinned, is_owner, Owner, moved, only_handle, Falls, live}
+use Rattle.pagable_tables.proofs.Words.{is_valued, plain_of, core_of}
 use Rattle.pagable_tables.proofs.keeps.Comes.{not-a-value, not-list}
 use Rattle.pagable_tables.proofs.keeps.Fallen.{may-fall}
 use Rattle.pagable_tables.proofs.keeps.GoingOn.{stays-on}
@@ -16,6 +9,7 @@ use Rattle.pagable_tables.proofs.keeps.Placed.{whole-so}
 use Rattle.pagable_tables.proofs.keeps.Told.{roomy-whole, alike-whole}
 use Rattle.pagable_tables.proofs.Begun.{begun-whole, not-closed, shut-then, open-then}
 use Rattle.pagable_tables.proofs.Listed.{alike-listed}
+use Rattle.pagable_tables.proofs.Pins.{wrong-mode}
 use Rattle.pagable_tables.proofs.Worlds.{still, owner-same}
 use Rattle.pagable_tables.proofs.Shedding.{sheds-still}
 use Rattle.pagable_tables.proofs.Newer.{later-so, schedule-newer}
@@ -28,7 +22,7 @@ pub give_back-requires-clause-plain : goal.give_back-requires-clause-plain
 give_back-requires-clause-plain g c = ap is_valued (owner-same c.args.me c.in-Ok.at.row.owner c.in-Ok.ensures.owner) ∙ not-a-value (plain_of c.args.t.now) c.args.me c.requires.holder
 
 pub give_back-requires-clause-free : goal.give_back-requires-clause-free
-give_back-requires-clause-free g c = ap (is_owner owners.List) (owner-same c.args.me c.in-Ok.at.row.owner c.in-Ok.ensures.owner) ∙ not-list (plain_of c.args.t.now) c.args.me c.requires.holder
+give_back-requires-clause-free g c = ap (is_owner Owner.List) (owner-same c.args.me c.in-Ok.at.row.owner c.in-Ok.ensures.owner) ∙ not-list (plain_of c.args.t.now) c.args.me c.requires.holder
 
 pub returns-then-not-lists-clause-scheduled : goal.returns-then-not-lists-clause-scheduled
 returns-then-not-lists-clause-scheduled g c stored closed failures e =
@@ -56,12 +50,12 @@ pub returns-clause-scheduled : goal.returns-clause-scheduled
 returns-clause-scheduled g c stored closed failures e =
     let row = c.in-Ok.at.row in
     let list : c.push.new.self.items ≡ c.args.t.now.holdings.list.items ++ c.args.handle ∷ [] = search rules in
-    let rows = c.hand_over.ensures.rows ∙ ap (λ q. moved (only_handle q) owners.List (live c.args.t.now.holdings.handles.places.items)) c.in-Ok.ensures.number in
+    let rows = c.hand_over.ensures.rows ∙ ap (λ q. moved (only_handle q) Owner.List (live c.args.t.now.holdings.handles.places.items)) c.in-Ok.ensures.number in
     record {
       moves = (
         row,
         record { live = c.in-Ok.ensures.found; own = owner-same c.args.me row.owner c.in-Ok.ensures.owner; as_asked = search rules },
-        inl (open-then c.args.lists closed c.if-not-lists.false e, alike-listed _ _ (c.hand_over.ensures.rows ∙ ap (λ q. moved (only_handle q) owners.List (live c.args.t.now.holdings.handles.places.items)) c.in-Ok.ensures.number) list (record { handles = omega arith; entries = search rules }) refl),
+        inl (open-then c.args.lists closed c.if-not-lists.false e, alike-listed _ _ (c.hand_over.ensures.rows ∙ ap (λ q. moved (only_handle q) Owner.List (live c.args.t.now.holdings.handles.places.items)) c.in-Ok.ensures.number) list (record { handles = omega arith; entries = search rules }) refl),
       );
       refused = tt;
     }
@@ -91,3 +85,19 @@ pub returns-clause-later : goal.returns-clause-later
 returns-clause-later g c later =
     let n = schedule-newer c.args.me c.args.handle (Ok tt) (returns-clause-scheduled g c (λ key. None) (not c.args.lists) 0 (not-closed c.args.lists)) in
     later-so later (record { last = n.last; owned = n.owned }) (λ l load is. is)
+
+pub returns-in-Err-clause-sheds : goal.returns-in-Err-clause-sheds
+returns-in-Err-clause-sheds g c = sheds-still c.args.t.now.holdings _ c.requires.whole.steady
+
+pub returns-then-not-is_unpinned-clause-sheds : goal.returns-then-not-is_unpinned-clause-sheds
+returns-then-not-is_unpinned-clause-sheds g c = sheds-still c.args.t.now.holdings _ c.requires.whole.steady
+
+pub returns-in_default-clause-sheds : goal.returns-in_default-clause-sheds
+returns-in_default-clause-sheds g c = sheds-still c.args.t.now.holdings _ c.requires.whole.steady
+
+pub returns-then-not-is_unpinned-clause-scheduled : goal.returns-then-not-is_unpinned-clause-scheduled
+returns-then-not-is_unpinned-clause-scheduled g c stored closed failures e =
+    let w = core_of c.args.t.now stored closed failures in
+    let row = c.in-Ok.at.row in
+    let other : is_unpinned row.mode ≡ false = search rules in
+    record { moves = tt; refused = record { why = inl (wrong-mode w c.args.me c.args.handle is_unpinned row c.in-Ok.ensures.found c.in-Ok.ensures.owner other); stays = still w } }

@@ -1,9 +1,4 @@
-use Rattle.std.proofs.Common.{None, Some, false, ◌∙◌, ap, refl, arith, rules}
-use Rattle.std.proofs.lemmas.Option.{slice_get_read}
-use Rattle.pagable_world.specs.Calls.{moved}
-use Rattle.pagable_world.specs.Cascade.{only_handle}
-use Rattle.pagable_tables.specs.Live.{live}
-use Rattle.pagable_tables.specs.Core.{plain_of}
+use Rattle.pagable_tables.proofs.Words.{None, Some, false, ◌∙◌, ap, refl, arith, rules, slice_get_read, moved, only_handle, live, plain_of}
 use Rattle.pagable_tables.proofs.keeps.Comes.{not-a-value}
 use Rattle.pagable_tables.proofs.keeps.ListCalls.{take-whole}
 use Rattle.pagable_tables.proofs.keeps.Placed.{whole-so}

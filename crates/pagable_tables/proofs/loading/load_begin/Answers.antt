@@ -1,23 +1,10 @@
-use Rattle.std.proofs.Common.{◌≡◌, arith, ap, sym, ◌∙◌, subst, None, Some, inl, inr, false, rules}
-use Rattle.std.specs.Prelude.{not}
-use Rattle.pagable_model.specs.declared.data_key.OptionalDataKey.TheVariants as optional
-use Rattle.pagable_world.specs.declared.handles.HandleRow.{HandleRow}
-use Rattle.pagable_world.specs.declared.handles.Owner.TheVariants as owners
-use Rattle.pagable_world.specs.declared.rows.Mode.TheVariants as modes
-use Rattle.pagable_world.specs.Plain.{if_there}
-use Rattle.pagable_world.specs.Kinds.{is_loose, is_in_memory}
-use Rattle.pagable_world.specs.World.{is_here, Cell, Alike, of_cell}
-use Rattle.pagable_world.specs.Refusals.{Owns}
-use Rattle.pagable_world.specs.Calls.{is_handle_here, with_handle}
-use Rattle.pagable_world.specs.LoadCalls.{with_load}
-use Rattle.pagable_tables.specs.Live.{live}
-use Rattle.pagable_tables.specs.ByNumber.{counts_at}
-use Rattle.pagable_tables.specs.Falling.{holds_in, cell_in, key_in}
-use Rattle.pagable_tables.specs.Core.{core_of}
+use Rattle.pagable_tables.proofs.Words.{◌≡◌, arith, ap, sym, ◌∙◌, subst, None, Some, inl, inr, false, rules, not, OptionalDataKey, HandleRow, Owner, Mode, if_there, is_loose, is_in_memory}
+use Rattle.pagable_tables.proofs.Words.{is_here, Cell, Alike, of_cell, Owns, is_handle_here, with_handle, with_load, live, counts_at, holds_in, cell_in, key_in, core_of}
 use Rattle.pagable_tables.proofs.Alive.{row-le-live}
 use Rattle.pagable_tables.proofs.Fitting.{handle_of, held-here}
 use Rattle.pagable_tables.proofs.Worlds.{still, owner-same}
 use Rattle.pagable_tables.proofs.Opened.{handle-first, no-fault, no-begin-fault, here-told}
+use Rattle.pagable_tables.proofs.Pins.{wrong-mode}
 use Rattle.pagable_tables.proofs.keeps.LoadCalls.{begin-whole}
 use Rattle.pagable_tables.proofs.keeps.Placed.{whole-so}
 use Rattle.pagable_tables.proofs.loading.load_begin.Goals as goal
@@ -48,9 +35,9 @@ returns-in-Ok-open_cell-clause-begun c stored closed failures =
     let is : counts_at t.holdings.nodes row.node.0 ≡ Some y = sym c.counts_of.ensures ∙ c.in-Some.is in
     let own : Owns w c.args.me c.args.handle is_loose row = record { live = c.in-Ok.ensures.found; own = owner-same c.args.me row.owner c.in-Ok.ensures.owner; as_asked = search rules } in
     let told : is_here w row.node.0 ≡ is_in_memory y.pins (key_in y.key) = here-told (counts_at t.holdings.nodes) (live t.holdings.handles.places.items) row.node.0 y (c.requires.whole.steady.fits.pinned row.node.0) is in
-    let key = ap (λ o. if_there (λ (cell : Cell). cell.key) optional.None (cell_in o)) is ∙ c.in-Some-key_away.ensures.key in
+    let key = ap (λ o. if_there (λ (cell : Cell). cell.key) OptionalDataKey.None (cell_in o)) is ∙ c.in-Some-key_away.ensures.key in
     let typed = ap (λ o. if_there (λ (cell : Cell). Some cell.node_type) None (cell_in o)) is in
-    let opened = subst (λ q. Alike (with_load (with_handle w row.node modes.LooseUnpinned (owners.Load c.in-Ok-open_cell.load)) c.in-Some-key_away.key (of_cell row.node y.node_type q) c.args.me) (core_of c.open_cell.new.t stored closed failures))
+    let opened = subst (λ q. Alike (with_load (with_handle w row.node Mode.LooseUnpinned (Owner.Load c.in-Ok-open_cell.load)) c.in-Some-key_away.key (of_cell row.node y.node_type q) c.args.me) (core_of c.open_cell.new.t stored closed failures))
     c.in-Ok.ensures.number (c.in-Ok-open_cell.ensures.opened stored closed failures) in
     record { begins = (row, own, (told ∙ c.in-Some-key_away.ensures.away, key, c.in-Ok-open_cell.ensures.next stored closed failures, omega arith, (y.node_type, typed, opened))); refused = tt }
 
@@ -72,3 +59,13 @@ returns-in-Ok-open_cell-clause-whole c = whole-so c.open_cell.ensures.steady (be
 
 pub returns-in-Err-open_cell-clause-whole : goal.returns-in-Err-open_cell-clause-whole
 returns-in-Err-open_cell-clause-whole c = whole-so c.open_cell.ensures.steady (begin-whole c.args.me c.args.handle _ c.requires.whole.core c.requires.owner (returns-in-Err-open_cell-clause-begun c (λ key. None) false 0))
+
+pub returns-then-not-is_loose-clause-begun : goal.returns-then-not-is_loose-clause-begun
+returns-then-not-is_loose-clause-begun c stored closed failures =
+    let t = c.args.t.now in
+    let w = core_of t stored closed failures in
+    let row = c.in-Ok.at.row in
+    let other : is_loose row.mode ≡ false = search rules in
+    let wrong = wrong-mode w c.args.me c.args.handle is_loose row c.in-Ok.ensures.found c.in-Ok.ensures.owner other in
+    let why = handle-first w c.args.me c.args.handle is_loose _ (not (is_handle_here w c.args.handle)) t.last_load t.holdings.last_handle wrong in
+    record { begins = tt; refused = record { why = inl why; stays = still w } }

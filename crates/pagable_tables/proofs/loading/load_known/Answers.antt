@@ -1,4 +1,4 @@
-use Rattle.pagable_tables.specs.Core.{load_in}
+use Rattle.pagable_tables.proofs.Words.{load_in}
 use Rattle.pagable_tables.proofs.Asked.{recalls-asked, not-asked}
 use Rattle.pagable_tables.proofs.loading.load_known.Goals as goal
 

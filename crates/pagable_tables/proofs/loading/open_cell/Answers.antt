@@ -1,8 +1,4 @@
-use Rattle.std.proofs.Common.{◌+◌, ◌∙◌, refl, arith, None, false}
-use Rattle.pagable_tables.specs.ByNumber.{counts_at, load_at}
-use Rattle.pagable_world.specs.declared.handles.Owner.TheVariants as owners
-use Rattle.pagable_world.specs.declared.rows.Mode.TheVariants as modes
-use Rattle.pagable_tables.specs.Core.{core_of, plain_of}
+use Rattle.pagable_tables.proofs.Words.{◌+◌, ◌∙◌, refl, arith, None, false, counts_at, load_at, Owner, Mode, core_of, plain_of}
 use Rattle.pagable_tables.proofs.Alive.{row-le-live}
 use Rattle.pagable_tables.proofs.Beginning.{load-comes, none-yet}
 use Rattle.pagable_tables.proofs.Coming.{some-held}
@@ -66,7 +62,7 @@ returns-in-Ok-come-clause-later c =
     let l = t.last_load + 1 in
     let w = plain_of t in
     let a = newer-alike (returns-in-Ok-come-clause-opened c (λ key. None) false 0) in
-    let n = newer-then (newer-handle w c.args.at.row.node modes.LooseUnpinned (owners.Load (record { 0 = l }))) (record { last = a.last; owned = a.owned }) in
+    let n = newer-then (newer-handle w c.args.at.row.node Mode.LooseUnpinned (Owner.Load (record { 0 = l }))) (record { last = a.last; owned = a.owned }) in
     later-opened c.requires.whole.core c.requires.later n l _ (none-yet (load_at t.loads l) t.last_load (λ some. (c.requires.whole.core.loads.numbered l some).1)) c.in-Ok.ensures.here refl c.in-Ok.ensures.others
 
 pub returns-in-Err-clause-later : goal.returns-in-Err-clause-later

@@ -1,13 +1,5 @@
-use Rattle.std.proofs.Common.{Bool, true, subst, inl, inr, ◌+◌, ◌≡◌, ◌∷◌, [], ◌++◌, arith, refl, ap, sym, ◌∙◌, Some, rules}
-use Rattle.pagable_world.specs.Plain.{one}
-use Rattle.pagable_world.specs.Kinds.{is_pinning}
-use Rattle.pagable_world.specs.declared.handles.HandleRow.{HandleRow}
-use Rattle.pagable_tables.specs.Live.{live}
-use Rattle.pagable_tables.specs.ByNumber.{counts_at, refs_at}
-use Rattle.pagable_tables.specs.Falling.{pins_in, holds_in, falls_in, has_value, ValueStays}
-use Rattle.pagable_tables.specs.declared.rows.Counts.{Counts}
-use Rattle.std.proofs.lemmas.Bool.{cases_eq}
-use Rattle.std.proofs.lemmas.Bool.Decides.{nat_tests}
+use Rattle.pagable_tables.proofs.Words.{Bool, true, subst, inl, inr, ◌+◌, ◌≡◌, ◌∷◌, [], ◌++◌, arith, refl, ap, sym, ◌∙◌, Some, rules, one, is_pinning, HandleRow, live, counts_at, refs_at}
+use Rattle.pagable_tables.proofs.Words.{pins_in, holds_in, falls_in, has_value, ValueStays, Counts, cases_eq, nat_tests}
 use Rattle.pagable_tables.proofs.Alive.{length-live-le}
 use Rattle.pagable_tables.proofs.Fitting.{pins-le-held}
 use Rattle.pagable_tables.proofs.Coming.{come-fits, come-cells, rows-told, held-few}

@@ -1,6 +1,4 @@
-use Rattle.std.proofs.Common.{arith}
-use Rattle.pagable_tables.specs.ByNumber.{counts_at}
-use Rattle.pagable_tables.specs.Core.{core_of, plain_of}
+use Rattle.pagable_tables.proofs.Words.{arith, counts_at, core_of, plain_of}
 use Rattle.pagable_tables.proofs.Coming.{some-held}
 use Rattle.pagable_tables.proofs.Newer.{makes-newer, later-so}
 use Rattle.pagable_tables.proofs.keeps.Comes.{not-a-value, suits-held}

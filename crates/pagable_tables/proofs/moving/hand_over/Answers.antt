@@ -1,6 +1,4 @@
-use Rattle.std.proofs.Common.{◌+◌, ◌∙◌}
-use Rattle.pagable_tables.specs.Live.{live}
-use Rattle.pagable_tables.specs.ByNumber.{counts_at, refs_at}
+use Rattle.pagable_tables.proofs.Words.{◌+◌, ◌∙◌, live, counts_at, refs_at}
 use Rattle.pagable_tables.proofs.Alive.{changed-known}
 use Rattle.pagable_tables.proofs.Owned.{owned-by, move-fits}
 use Rattle.pagable_tables.proofs.moving.hand_over.Goals as goal

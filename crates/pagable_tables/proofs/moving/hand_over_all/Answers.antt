@@ -1,7 +1,4 @@
-use Rattle.std.proofs.Common.{refl, sym, ap, ◌∙◌, arith, take_all}
-use Rattle.pagable_world.specs.Calls.{moved, is_named_by}
-use Rattle.pagable_world.specs.Cascade.{only_handle}
-use Rattle.pagable_tables.specs.Live.{live}
+use Rattle.pagable_tables.proofs.Words.{refl, sym, ap, ◌∙◌, arith, take_all, moved, is_named_by, only_handle, live}
 use Rattle.pagable_tables.proofs.Named.{moved-nobody, moved-take}
 use Rattle.pagable_tables.proofs.moving.hand_over_all.Goals as goal
 

@@ -1,7 +1,4 @@
-use Rattle.std.proofs.Common.{◌≡◌, ℕ, take}
-use Rattle.std.specs.Prelude.{vec_capacity}
-use Rattle.pagable_world.specs.Calls.{moved, is_named_by}
-use Rattle.pagable_tables.specs.Live.{live, AreSound, IsNext}
+use Rattle.pagable_tables.proofs.Words.{◌≡◌, ℕ, take, vec_capacity, moved, is_named_by, live, AreSound, IsNext}
 use Rattle.pagable_tables.proofs.moving.hand_over_all.Given as goal
 
 abbrev pub invariant-loop-reference : goal.invariant-loop-reference

@@ -1,5 +1,4 @@
-use Rattle.std.proofs.Common.{sym}
-use Rattle.pagable_tables.specs.Live.{live}
+use Rattle.pagable_tables.proofs.Words.{sym, live}
 use Rattle.pagable_tables.proofs.Named.{moved-none}
 use Rattle.pagable_tables.proofs.moving.hand_over_live.Goals as goal
 

@@ -1,16 +1,8 @@
-use Rattle.std.proofs.Common.{◌≡◌, ◌∙◌, ap, subst, false, true, inl, inr, arith, rules, sym, None}
-use Rattle.pagable_world.specs.Kinds.{is_loose}
-use Rattle.pagable_world.specs.Plain.{if_there}
-use Rattle.pagable_world.specs.World.{Alike, is_here}
-use Rattle.pagable_world.specs.Calls.{with_handle, with_mode, is_handle_here, pin_fault}
-use Rattle.pagable_world.specs.Refusals.{earlier, where_so, spent, Owns}
-use Rattle.pagable_world.specs.declared.handles.HandleRow.{HandleRow}
-use Rattle.pagable_world.specs.declared.rows.Mode.TheVariants as modes
-use Rattle.pagable_tables.specs.declared.tables.Tables.{Tables}
-use Rattle.pagable_tables.specs.Core.{core_of}
+use Rattle.pagable_tables.proofs.Words.{◌≡◌, ◌∙◌, ap, subst, false, true, inl, inr, arith, rules, sym, None, is_loose, if_there, Alike, is_here, with_handle, with_mode, is_handle_here, pin_fault}
+use Rattle.pagable_tables.proofs.Words.{earlier, where_so, spent, Owns, HandleRow, Mode, Tables, core_of, load_at}
 use Rattle.pagable_tables.proofs.Pins.{handle-first, no-fault, spent-late}
+use Rattle.pagable_tables.proofs.Pins.{wrong-mode}
 use Rattle.pagable_tables.proofs.Worlds.{still, owner-same}
-use Rattle.pagable_tables.specs.ByNumber.{load_at}
 use Rattle.pagable_tables.proofs.Newer.{pin-newer, later-so}
 use Rattle.pagable_tables.proofs.pinning.pin.Goals as goal
 
@@ -28,7 +20,7 @@ returns-in-Ok-pin_here-clause-pinned c stored closed failures =
     let here : is_here w row.node.0 ≡ true = search rules in
     let m = (c.in-Ok-pin_here.ensures.pinned stored closed failures).pinned in
     let owns : Owns w c.args.me c.args.handle is_loose row = record { live = c.in-Ok.ensures.found; own = owner-same c.args.me row.owner c.in-Ok.ensures.owner; as_asked = search rules } in
-    let alike = subst (λ q. Alike (with_handle (with_mode w q modes.LoosePinned) row.node modes.Pinned c.args.me) w') c.in-Ok.ensures.number m.1 in
+    let alike = subst (λ q. Alike (with_handle (with_mode w q Mode.LoosePinned) row.node Mode.Pinned c.args.me) w') c.in-Ok.ensures.number m.1 in
     record { pins = (row, owns, (here, m.0, alike)); refused = tt }
 
 pub returns-in-Err-pin_here-clause-pinned : goal.returns-in-Err-pin_here-clause-pinned
@@ -51,3 +43,13 @@ returns-in-Ok-pin_here-clause-later c later =
 pub returns-in-Err-pin_here-clause-later : goal.returns-in-Err-pin_here-clause-later
 returns-in-Err-pin_here-clause-later c later =
     later-so later (pin-newer c.args.me c.args.handle _ (returns-in-Err-pin_here-clause-pinned c (λ key. None) false 0)) (λ l load is. sym (ap (λ (u : Tables). load_at u.loads l) c.in-Err-pin_here.ensures.same) ∙ is)
+
+pub returns-then-not-is_loose-clause-pinned : goal.returns-then-not-is_loose-clause-pinned
+returns-then-not-is_loose-clause-pinned c stored closed failures =
+    let w = core_of c.args.t.now stored closed failures in
+    let row = c.in-Ok.at.row in
+    let other : is_loose row.mode ≡ false = search rules in
+    let wrong = wrong-mode w c.args.me c.args.handle is_loose row c.in-Ok.ensures.found c.in-Ok.ensures.owner other in
+    let why = handle-first w c.args.me c.args.handle is_loose _ (where_so (is_handle_here w c.args.handle) (spent w.last.handle)) wrong
+    (λ f so. let a = spent-late w.last.handle (is_handle_here w c.args.handle) f so in omega arith) in
+    record { pins = tt; refused = record { why = inl why; stays = still w } }

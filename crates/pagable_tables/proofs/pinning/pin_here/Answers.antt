@@ -1,13 +1,5 @@
-use Rattle.std.proofs.Common.{◌≡◌, ◌∙◌, ℕ, ap, subst, refl, false, Some, None}
-use Rattle.pagable_world.specs.Kinds.{is_owner, is_shared, is_owned_by}
-use Rattle.pagable_world.specs.World.{Alike}
-use Rattle.pagable_world.specs.Calls.{with_mode}
-use Rattle.pagable_world.specs.declared.handles.HandleRow.{HandleRow}
-use Rattle.pagable_world.specs.declared.handles.Owner.TheVariants as owners
-use Rattle.pagable_world.specs.declared.rows.Mode.TheVariants as modes
-use Rattle.pagable_tables.specs.declared.tables.Tables.{Tables}
-use Rattle.pagable_tables.specs.Live.{live}
-use Rattle.pagable_tables.specs.Core.{core_of, plain_of}
+use Rattle.pagable_tables.proofs.Words.{◌≡◌, ◌∙◌, ℕ, ap, subst, refl, false, Some, None, is_owner, is_shared, is_owned_by, Alike, with_mode, HandleRow, Owner, Mode, Tables, live, core_of}
+use Rattle.pagable_tables.proofs.Words.{plain_of}
 use Rattle.pagable_tables.proofs.Pins.{pinned-alike, found-again}
 use Rattle.pagable_tables.proofs.keeps.Comes.{not-list}
 use Rattle.pagable_tables.proofs.keeps.HandleCalls.{loose-unshared}
@@ -40,7 +32,7 @@ turn-requires-clause-unlisted c =
     let came = (c.in-Ok.ensures.made (λ key. None) false 0).made.1.rows in
     let again = found-again c.args.row.number.0 _ _ _ c.args.row (Some c.in-Some.at.row) c.requires.owns.live came c.in-Some.ensures.found in
     let same : c.in-Some.at.row ≡ c.args.row = cc in
-    ap (is_owned_by owners.List) same ∙ ap (is_owner owners.List) c.requires.owns.own ∙ not-list (plain_of c.args.t.now) c.args.me c.requires.holder
+    ap (is_owned_by Owner.List) same ∙ ap (is_owner Owner.List) c.requires.owns.own ∙ not-list (plain_of c.args.t.now) c.args.me c.requires.holder
 
 pub returns-clause-pinned : goal.returns-clause-pinned
 returns-clause-pinned c stored closed failures =
@@ -51,7 +43,7 @@ returns-clause-pinned c stored closed failures =
     let w = core_of t stored closed failures in
     let u = core_of c.make.new.t stored closed failures in
     let w' = core_of c.turn.new.t stored closed failures in
-    let turned = subst (λ q. Alike (with_mode u q modes.LoosePinned) w') c.in-Some.ensures.number (c.turn.ensures.turned stored closed failures) in
+    let turned = subst (λ q. Alike (with_mode u q Mode.LoosePinned) w') c.in-Some.ensures.number (c.turn.ensures.turned stored closed failures) in
     let numbered = c.requires.whole.core.handles.numbered row (found-among row.number.0 w.rows row c.requires.owns.live).0 in
     let same = λ (kind key : ℕ). ap (λ (u : Tables). cache u kind key) c.turn.ensures.same ∙ ap (λ (u : Tables). cache u kind key) c.in-Ok.ensures.same in
     record { pinned = (record { above = m.made.0.above; is_left = m.made.0.is_left }, pinned-alike w u w' row.number row.node c.args.me numbered.1 same m.made.1 turned); refused = tt }

@@ -1,6 +1,5 @@
-use Rattle.std.proofs.Common.{refl, ap, arith, None, false, Ok}
+use Rattle.pagable_tables.proofs.Words.{refl, ap, arith, None, false, Ok, NodeNumber}
 use Rattle.std.specs.Option.{option_map}
-use Rattle.pagable_model.specs.declared.numbers.NodeNumber.{NodeNumber}
 use Rattle.pagable_tables.proofs.Worlds.{same-cache}
 use Rattle.pagable_tables.proofs.keeps.CacheCalls.{clear-whole}
 use Rattle.pagable_tables.proofs.keeps.Placed.{whole-so}

@@ -1,6 +1,4 @@
-use Rattle.std.proofs.Common.{◌+◌, refl, None, false}
-use Rattle.pagable_tables.specs.Live.{live}
-use Rattle.pagable_tables.specs.ByNumber.{counts_at, refs_at}
+use Rattle.pagable_tables.proofs.Words.{◌+◌, refl, None, false, live, counts_at, refs_at}
 use Rattle.pagable_tables.proofs.Coming.{rows-told}
 use Rattle.pagable_tables.proofs.Worlds.{same-cache}
 use Rattle.pagable_tables.proofs.keeps.Told.{alike-whole}

@@ -1,5 +1,4 @@
-use Rattle.std.proofs.Common.{◌<◌, ◌≤◌, refl, subst, rules, ap, sym, None, false, ◌∙◌}
-use Rattle.pagable_tables.specs.ByNumber.{load_at}
+use Rattle.pagable_tables.proofs.Words.{◌<◌, ◌≤◌, refl, subst, rules, ap, sym, None, false, ◌∙◌, load_at}
 use Rattle.pagable_tables.proofs.Newer.{newer-alike, later-so}
 use Rattle.pagable_tables.proofs.places.reserve.Goals as goal
 

@@ -1,7 +1,4 @@
-use Rattle.std.proofs.Common.{ℕ, Bool, Option, get_or, sym, ◌∙◌, refl, arith, [], ◌∷◌}
-use Rattle.pagable_model.specs.declared.numbers.ArcRef.{ArcRef}
-use Rattle.pagable_world.specs.Plain.{Blob}
-use Rattle.pagable_tables.specs.Core.{core_of}
+use Rattle.pagable_tables.proofs.Words.{ℕ, Bool, Option, get_or, sym, ◌∙◌, refl, arith, [], ◌∷◌, ArcRef, Blob, core_of}
 use Rattle.pagable_tables.proofs.Named.{seen-more, seen-none, named-none, above-named, fault-some, fault-none, fault-end}
 use Rattle.pagable_tables.proofs.references.check_references.Goals as goal
 

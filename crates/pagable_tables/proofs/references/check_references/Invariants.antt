@@ -1,8 +1,4 @@
-use Rattle.std.proofs.Common.{◌≡◌, ◌<◌, ℕ, Bool, false, Option, List, [], take, drop}
-use Rattle.pagable_world.specs.Plain.{Blob, is_in}
-use Rattle.pagable_world.specs.Refusals.{references_fault}
-use Rattle.pagable_world.specs.Calls.{is_named_by}
-use Rattle.pagable_tables.specs.Core.{core_of}
+use Rattle.pagable_tables.proofs.Words.{◌≡◌, ◌<◌, ℕ, Bool, false, Option, List, [], take, drop, Blob, is_in, references_fault, is_named_by, core_of}
 use Rattle.pagable_tables.proofs.references.check_references.Given as goal
 
 abbrev pub invariant-loop-i : goal.invariant-loop-i

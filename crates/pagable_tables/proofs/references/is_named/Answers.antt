@@ -1,4 +1,4 @@
-use Rattle.std.proofs.Common.{sym, ◌∙◌, arith}
+use Rattle.pagable_tables.proofs.Words.{sym, ◌∙◌, arith}
 use Rattle.pagable_tables.proofs.Named.{named-here, named-past, named-end}
 use Rattle.pagable_tables.proofs.references.is_named.Goals as goal
 

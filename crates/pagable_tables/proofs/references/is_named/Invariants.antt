@@ -1,5 +1,4 @@
-use Rattle.std.proofs.Common.{◌≡◌, drop}
-use Rattle.pagable_world.specs.Calls.{is_named_by}
+use Rattle.pagable_tables.proofs.Words.{◌≡◌, drop, is_named_by}
 use Rattle.pagable_tables.proofs.references.is_named.Given as goal
 
 abbrev pub invariant-loop-reference : goal.invariant-loop-reference

@@ -1,8 +1,4 @@
-use Rattle.std.proofs.Common.{[], arith, None}
-use Rattle.pagable_world.specs.Cascade.{nobody, only_handle}
-use Rattle.pagable_tables.specs.Falling.{GivesUp, owns_nothing}
-use Rattle.pagable_tables.specs.Onward.{SoFar}
-use Rattle.pagable_tables.specs.declared.holdings.Holdings.{Holdings}
+use Rattle.pagable_tables.proofs.Words.{[], arith, None, nobody, only_handle, GivesUp, owns_nothing, SoFar, Holdings}
 use Rattle.pagable_tables.proofs.Begun.{aside, unowned}
 use Rattle.pagable_tables.proofs.Next.{gives-on}
 use Rattle.pagable_tables.proofs.Shedding.{stays-first}

@@ -1,7 +1,4 @@
-use Rattle.std.proofs.Common.{not, None, refl, subst, arith, inl, inr}
-use Rattle.pagable_world.specs.Kinds.{any_mode}
-use Rattle.pagable_world.specs.Cascade.{Falls, only_handle}
-use Rattle.pagable_tables.specs.Core.{core_of}
+use Rattle.pagable_tables.proofs.Words.{not, None, refl, subst, arith, inl, inr, any_mode, Falls, only_handle, core_of}
 use Rattle.pagable_tables.proofs.Begun.{begun-whole, not-closed}
 use Rattle.pagable_tables.proofs.keeps.FallCalls.{release-whole}
 use Rattle.pagable_tables.proofs.keeps.Placed.{whole-so}

@@ -1,4 +1,4 @@
-use Rattle.std.proofs.Common.{refl}
+use Rattle.pagable_tables.proofs.Words.{refl}
 use Rattle.pagable_tables.proofs.Nothing.{nothing-whole}
 use Rattle.pagable_tables.proofs.start.new.Goals as goal
 

@@ -1,11 +1,4 @@
-use Rattle.std.proofs.Common.{◌≡◌, ap, sym, ◌∙◌, subst, Some}
-use Rattle.pagable_model.specs.declared.numbers.HandleNumber.{HandleNumber}
-use Rattle.pagable_world.specs.Kinds.{is_owner}
-use Rattle.pagable_world.specs.Cascade.{FallsAnyhow, only_handle}
-use Rattle.pagable_world.specs.declared.handles.Owner.TheVariants as owners
-use Rattle.pagable_world.specs.declared.handles.HandleRow.{HandleRow}
-use Rattle.pagable_tables.specs.Falling.{is_valued}
-use Rattle.pagable_tables.specs.Onward.{with_tables}
+use Rattle.pagable_tables.proofs.Words.{◌≡◌, ap, sym, ◌∙◌, subst, Some, HandleNumber, is_owner, FallsAnyhow, only_handle, Owner, HandleRow, is_valued, with_tables}
 use Rattle.pagable_tables.proofs.swapping.give_number.Goals as goal
 
 same-row : (a b : HandleRow) → Some a ≡ Some b → a ≡ b
@@ -22,7 +15,7 @@ give_back-requires-clause-plain g c =
 pub give_back-requires-clause-free : goal.give_back-requires-clause-free
 give_back-requires-clause-free g c =
     let same = same-row c.in-Some.at.row c.requires.there.0 (sym c.in-Some.ensures.found ∙ c.requires.there.1) in
-    ap (λ (h : HandleRow). is_owner owners.List h.owner) same ∙ c.requires.there.3
+    ap (λ (h : HandleRow). is_owner Owner.List h.owner) same ∙ c.requires.there.3
 
 pub returns-clause-falls : goal.returns-clause-falls
 returns-clause-falls g c before w f few =

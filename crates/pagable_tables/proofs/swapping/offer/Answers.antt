@@ -1,23 +1,15 @@
-use Rattle.std.proofs.Common.{not, ◌≡◌, ◌+◌, ◌∙◌, false, None, Ok, Err, Some, inr, refl, ap, sym, subst, arith}
-use Rattle.std.specs.Prelude.{IfSome, length}
-use Rattle.std.proofs.lemmas.Bool.Decides.{nat_tests}
-use Rattle.pagable_world.specs.declared.handles.Owner.TheVariants as owners
-use Rattle.pagable_world.specs.Kinds.{is_owner, mode_of}
-use Rattle.pagable_world.specs.Calls.{OfferCall, with_known}
-use Rattle.pagable_world.specs.Cascade.{Falls, only_handle}
-use Rattle.pagable_tables.specs.declared.tables.Tables.{Tables}
-use Rattle.pagable_tables.specs.Falling.{is_valued}
-use Rattle.pagable_tables.specs.Core.{core_of, plain_of}
-use Rattle.pagable_tables.specs.Offering.{Offered}
+use Rattle.pagable_tables.proofs.Words.{not, ◌≡◌, ◌+◌, ◌∙◌, false, None, Ok, Err, Some, inr, refl, ap, sym, subst, arith, IfSome, length, nat_tests, Owner, is_owner, mode_of, OfferCall}
+use Rattle.pagable_tables.proofs.Words.{with_known, Falls, only_handle, Tables, is_valued, core_of, plain_of, Offered, load_at}
+use Rattle.std.proofs.Common.{inl}
 use Rattle.pagable_tables.proofs.Begun.{open-then}
 use Rattle.pagable_tables.proofs.Pins.{found-again}
 use Rattle.pagable_tables.proofs.Shedding.{stays-first, sheds-still}
 use Rattle.pagable_tables.proofs.Swapped.{begun-made, swapped, values-made, values-still}
+use Rattle.pagable_tables.proofs.Worlds.{still}
 use Rattle.pagable_tables.proofs.keeps.CacheCalls.{offer-whole}
 use Rattle.pagable_tables.proofs.keeps.Comes.{not-a-value, not-list}
 use Rattle.pagable_tables.proofs.keeps.Placed.{whole-so}
 use Rattle.pagable_tables.proofs.keeps.Rows.{found-among}
-use Rattle.pagable_tables.specs.ByNumber.{load_at}
 use Rattle.pagable_tables.proofs.Begun.{not-closed}
 use Rattle.pagable_tables.proofs.Newer.{later-so, offer-newer}
 use Rattle.pagable_tables.proofs.swapping.offer.Goals as goal
@@ -29,7 +21,7 @@ give_number-requires-clause-there g c =
       row,
       found-again c.args.handle.0 _ _ _ row _ owns.live alike.rows refl,
       ap is_valued owns.own ∙ not-a-value w c.args.me c.requires.holder,
-      ap (is_owner owners.List) owns.own ∙ not-list w c.args.me c.requires.holder,
+      ap (is_owner Owner.List) owns.own ∙ not-list w c.args.me c.requires.holder,
     )
 
 pub returns-in-Ok-Some-clause-offered : goal.returns-in-Ok-Some-clause-offered
@@ -90,3 +82,19 @@ pub returns-in-Err-cache_put-clause-later : goal.returns-in-Err-cache_put-clause
 returns-in-Err-cache_put-clause-later g c later =
     let n = offer-newer c.args.me c.args.kind c.args.key c.args.handle _ (returns-in-Err-cache_put-clause-offered g c (λ key. None) (not c.args.lists) 0 (not-closed c.args.lists)) in
     later-so later (record { last = n.last; owned = n.owned }) (λ l load is. sym (ap (λ m. load_at m l) c.cache_put.ensures.loads) ∙ is)
+
+pub returns-in-Err-cache_put-clause-sheds : goal.returns-in-Err-cache_put-clause-sheds
+returns-in-Err-cache_put-clause-sheds g c there =
+    let stays = (c.in-Err-cache_put.ensures.offered (λ key. None) 0).refused.stays in
+    let t = c.cache_put.new.t in
+    stays-first (values-still c.args.t.now t c.requires.whole c.cache_put.ensures.whole stays.rows stays.cells) (sheds-still t.holdings _ c.cache_put.ensures.whole.steady)
+
+pub returns-in-Err-clause-sheds : goal.returns-in-Err-clause-sheds
+returns-in-Err-clause-sheds g c there = sheds-still c.args.t.now.holdings _ c.requires.whole.steady
+
+pub returns-in-Ok-clause-sheds : goal.returns-in-Ok-clause-sheds
+returns-in-Ok-clause-sheds g c there = sheds-still c.args.t.now.holdings _ c.requires.whole.steady
+
+pub returns-in-Err-clause-offered : goal.returns-in-Err-clause-offered
+returns-in-Err-clause-offered g c stored closed failures e =
+    record { answers = tt; refused = record { why = inl (c.in-Err.ensures.fault stored closed failures c.args.key); stays = still (core_of c.args.t.now stored closed failures) } }

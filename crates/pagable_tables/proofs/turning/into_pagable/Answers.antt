@@ -1,13 +1,6 @@
-use Rattle.std.proofs.Common.{ap, subst, rules, sym, None, false, ◌∙◌}
-use Rattle.pagable_world.specs.Kinds.{is_pinned, is_shared}
-use Rattle.pagable_world.specs.World.{Alike}
-use Rattle.pagable_world.specs.Calls.{with_mode}
-use Rattle.pagable_world.specs.declared.rows.Mode.TheVariants as modes
-use Rattle.pagable_tables.specs.Core.{core_of}
+use Rattle.pagable_tables.proofs.Words.{ap, subst, rules, sym, None, false, ◌∙◌, is_pinned, is_shared, Alike, with_mode, Mode, core_of, Tables, load_at}
 use Rattle.pagable_tables.proofs.Worlds.{still, owner-same}
 use Rattle.pagable_tables.proofs.keeps.HandleCalls.{is-pinned, pinned-unlisted}
-use Rattle.pagable_tables.specs.declared.tables.Tables.{Tables}
-use Rattle.pagable_tables.specs.ByNumber.{load_at}
 use Rattle.pagable_tables.proofs.Newer.{loosen-newer, later-so}
 use Rattle.pagable_tables.proofs.turning.into_pagable.Goals as goal
 
@@ -22,7 +15,7 @@ returns-clause-loosened c stored closed failures =
         row,
         record { live = c.in-Ok.ensures.found; own = owner-same c.args.me row.owner c.in-Ok.ensures.owner; as_asked = search rules },
         c.in-Ok.ensures.number,
-        subst (λ q. Alike (with_mode (core_of c.args.t.now stored closed failures) q modes.LoosePinned) (core_of c.turn.new.t stored closed failures)) c.in-Ok.ensures.number
+        subst (λ q. Alike (with_mode (core_of c.args.t.now stored closed failures) q Mode.LoosePinned) (core_of c.turn.new.t stored closed failures)) c.in-Ok.ensures.number
             (c.turn.ensures.turned stored closed failures),
       );
       refused = tt;

@@ -1,10 +1,4 @@
-use Rattle.std.proofs.Common.{◌+◌, ◌≡◌, arith, refl, ap, sym, ◌∙◌, Some, None, false}
-use Rattle.std.specs.Prelude.{not}
-use Rattle.pagable_world.specs.Plain.{one}
-use Rattle.pagable_world.specs.Kinds.{is_pinning}
-use Rattle.pagable_tables.specs.Live.{live}
-use Rattle.pagable_tables.specs.ByNumber.{counts_at, refs_at}
-use Rattle.pagable_tables.specs.Falling.{pins_in, holds_in}
+use Rattle.pagable_tables.proofs.Words.{◌+◌, ◌≡◌, arith, refl, ap, sym, ◌∙◌, Some, None, false, not, one, is_pinning, live, counts_at, refs_at, pins_in, holds_in}
 use Rattle.pagable_tables.proofs.Alive.{length-live-le, changed-known, row-le-live, row-live}
 use Rattle.pagable_tables.proofs.Fitting.{pins-le-held, handle_of, held-here}
 use Rattle.pagable_tables.proofs.Coming.{turn-fits, turn-cells, turned, held-few}

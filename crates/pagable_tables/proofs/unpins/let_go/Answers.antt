@@ -1,7 +1,4 @@
-use Rattle.pagable_world.specs.Cascade.{nobody}
-use Rattle.pagable_world.specs.Calls.{with_mode}
-use Rattle.pagable_world.specs.declared.rows.Mode.TheVariants as modes
-use Rattle.pagable_tables.specs.Core.{core_of}
+use Rattle.pagable_tables.proofs.Words.{nobody, with_mode, Mode, core_of}
 use Rattle.pagable_tables.proofs.Unpinning.{lowered-on}
 use Rattle.pagable_tables.proofs.Shedding.{stays-first}
 use Rattle.pagable_tables.proofs.unpins.let_go.Goals as goal
@@ -10,7 +7,7 @@ pub returns-clause-falls : goal.returns-clause-falls
 returns-clause-falls g c stored closed failures e =
     let w = core_of c.args.t.now stored closed failures in
     let x = c.args.at.row in
-    c.fall.ensures.falls w (with_mode w x.number modes.LooseUnpinned) nobody (lowered-on c.args.t.now stored closed c.args.lists failures c.requires.whole e x c.args.at.place
+    c.fall.ensures.falls w (with_mode w x.number Mode.LooseUnpinned) nobody (lowered-on c.args.t.now stored closed c.args.lists failures c.requires.whole e x c.args.at.place
     c.requires.place c.lower.new.t c.lower.ensures)
 
 pub returns-clause-sheds : goal.returns-clause-sheds

@@ -1,16 +1,6 @@
-use Rattle.std.proofs.Common.{◌≡◌, ℕ, Bool, ◌+◌, ◌-◌, ◌≤◌, true, false, if◌then◌else◌, [], ◌∷◌, sum_by, refl, ap, sym, ◌∙◌, subst, arith, Some, None}
-use Rattle.std.specs.Prelude.{◌≢◌}
-use Rattle.std.proofs.Common.{inl, inr}
-use Rattle.std.proofs.lemmas.Bool.{cases_eq}
-use Rattle.std.proofs.lemmas.Bool.Decides.{nat_tests}
-use Rattle.pagable_world.specs.declared.handles.HandleRow.{HandleRow}
-use Rattle.pagable_world.specs.Plain.{one}
-use Rattle.pagable_world.specs.Kinds.{is_pinning}
-use Rattle.pagable_tables.specs.declared.rows.Counts.{Counts}
-use Rattle.pagable_tables.specs.Live.{live}
-use Rattle.pagable_tables.specs.ByNumber.{counts_at, refs_at}
-use Rattle.pagable_tables.specs.Falling.{Fits, pins_in, holds_in, after, is_new, is_fallen_by, owns_nothing, entry, has_value, falls_in, ValueStays, MayList}
-use Rattle.pagable_tables.specs.Lowering.{unpinned}
+use Rattle.pagable_tables.proofs.Words.{◌≡◌, ℕ, Bool, ◌+◌, ◌-◌, ◌≤◌, true, false, if◌then◌else◌, [], ◌∷◌, sum_by, refl, ap, sym, ◌∙◌, subst, arith, Some, None, ◌≢◌, inl, inr, cases_eq, nat_tests}
+use Rattle.pagable_tables.proofs.Words.{HandleRow, one, is_pinning, Counts, live, counts_at, refs_at, Fits, pins_in, holds_in, after, is_new, is_fallen_by, owns_nothing, entry, has_value}
+use Rattle.pagable_tables.proofs.Words.{falls_in, ValueStays, MayList, unpinned}
 use Rattle.pagable_tables.proofs.Alive.{length-live-le, changed-known, row-le-live}
 use Rattle.pagable_tables.proofs.Coming.{held-few}
 use Rattle.pagable_tables.proofs.Fitting.{new-top, long-if, pin_of, handle_of, pin-here, held-here}

@@ -1,15 +1,9 @@
-use Rattle.std.proofs.Common.{not, None, refl, ap, subst, inl, inr, sym, ◌∙◌}
-use Rattle.pagable_world.specs.Kinds.{is_loose}
-use Rattle.pagable_world.specs.Calls.{with_mode}
-use Rattle.pagable_world.specs.Cascade.{Falls, nobody}
-use Rattle.pagable_world.specs.declared.rows.Mode.TheVariants as modes
-use Rattle.pagable_tables.specs.Core.{core_of}
+use Rattle.pagable_tables.proofs.Words.{not, None, refl, ap, subst, inl, inr, sym, ◌∙◌, is_loose, with_mode, Falls, nobody, Mode, core_of, load_at}
 use Rattle.pagable_tables.proofs.Begun.{not-closed}
 use Rattle.pagable_tables.proofs.Worlds.{still, owner-same}
 use Rattle.pagable_tables.proofs.keeps.FallCalls.{unpin-whole}
 use Rattle.pagable_tables.proofs.keeps.Placed.{whole-so}
 use Rattle.pagable_tables.proofs.Shedding.{sheds-still}
-use Rattle.pagable_tables.specs.ByNumber.{load_at}
 use Rattle.pagable_tables.proofs.Newer.{unpin-newer, later-so}
 use Rattle.pagable_tables.proofs.unpins.unpin.Goals as goal
 
@@ -33,7 +27,7 @@ returns-in-LoosePinned-clause-unpinned g c stored closed failures e =
         record { live = c.in-Ok.ensures.found; own = owner-same c.args.me row.owner c.in-Ok.ensures.owner; as_asked = ap is_loose c.in-LoosePinned.is },
         inr (
           c.in-LoosePinned.is,
-          subst (λ q. Falls w (with_mode w q modes.LooseUnpinned) nobody c.let_go.result (core_of c.let_go.new.t stored closed failures))
+          subst (λ q. Falls w (with_mode w q Mode.LooseUnpinned) nobody c.let_go.result (core_of c.let_go.new.t stored closed failures))
               c.in-Ok.ensures.number (c.let_go.ensures.falls stored closed failures e),
         ),
       );

@@ -2,8 +2,6 @@ use Rattle.std.proofs.Common.{ap, ◌∙◌, rules, subst, sym}
 use Rattle.pagable_loads.specs.Telling.{values_at}
 use Rattle.pagable_loads.proofs.Stepped.{told_map}
 use Rattle.pagable_walk.specs.Tasks.{todos}
-use Rattle.pagable_walk.specs.declared.tasks.Turn.TheVariants as comes
-use Rattle.pagable_world.specs.declared.events.WorkerAnswer.TheVariants as finals
 use Rattle.pagable_world.specs.Workers.{give}
 use Rattle.pagable_walk.specs.Tasks.{AwaitsLow, IsWay, waiting_todo}
 use Rattle.pagable_walk.proofs.Stacks.{todos-more, todos-none}

@@ -1,8 +1,7 @@
-use Rattle.std.proofs.Common.{◌≡◌, ◌∷◌, [], ap, ◌∙◌, subst, sym, rules, ◌++◌}
-use Rattle.std.specs.Prelude.{List}
-use Rattle.pagable_world.specs.World.{Todo, to_release}
+use Rattle.std.proofs.Common.{◌∷◌, ap, ◌∙◌, subst, sym, rules}
+use Rattle.pagable_world.specs.World.{to_release}
 use Rattle.pagable_world.specs.Workers.{give_known}
-use Rattle.pagable_walk.specs.Tasks.{AwaitsLow, todos, waiting_todo}
+use Rattle.pagable_walk.specs.Tasks.{AwaitsLow, todos}
 use Rattle.pagable_walk.proofs.Stacks.{todos-more, todos-none}
 use Rattle.pagable_walk.proofs.stack.give_known.Goals as goal
 

@@ -1,7 +1,7 @@
-use Rattle.std.proofs.Common.{sym, ap, ◌∙◌, subst}
+use Rattle.std.proofs.Common.{sym, ◌∙◌}
 use Rattle.std.proofs.lemmas.List.{length-map}
 use Rattle.pagable_walk.specs.Table.{shelf_of}
-use Rattle.pagable_walk.specs.Tasks.{IsWay, todos, todo_of}
+use Rattle.pagable_walk.specs.Tasks.{todos}
 use Rattle.pagable_walk.proofs.Telling.{told-same}
 use Rattle.pagable_walk.proofs.step.turn.Goals as goal
 

@@ -1,5 +1,4 @@
-use Rattle.std.proofs.Common.{◌∷◌, Ok, ap, ◌∙◌, subst, sym}
-use Rattle.pagable_walk.specs.declared.table.Found.TheVariants as founds
+use Rattle.std.proofs.Common.{Ok, ap, ◌∙◌, subst, sym}
 use Rattle.pagable_walk.specs.Tasks.{IsWay, todos}
 use Rattle.pagable_walk.specs.Turns.{ClaimFits}
 use Rattle.pagable_walk.proofs.Ways.{known-way}

@@ -1,4 +1,4 @@
-use Rattle.std.proofs.Common.{ℕ, ◌≡◌, ◌≤◌, ◌+◌, ◌∷◌, [], List, None, length, ap, ◌∙◌, subst, sym, arith}
+use Rattle.std.proofs.Common.{◌≤◌, ◌+◌, ◌∷◌, None, length, ap, ◌∙◌, subst, sym, arith}
 use Rattle.std.specs.Arc.{arc_value}
 use Rattle.pagable_world.specs.Plain.{longest_path}
 use Rattle.pagable_world.specs.World.{to_finish, was_refused}
@@ -29,13 +29,13 @@ returns-in-Ok-clause-step g c n =
     let acting = g.A.Access.acting c.args.access.now in
     let w = written_of (arc_value c.in-Ok.shared) in
     let e = c.settle_open.ensures.todo ∙ ap (λ o. settle (to_finish o ∷ todos c.prepare.new.path.items)) c.in-Ok.ensures.open
-        ∙ ap (λ ps. settle (to_finish (just_open c.args.reference c.args.place c.args.through w) ∷ todos ps)) c.in-Ok.ensures.path in
+    ∙ ap (λ ps. settle (to_finish (just_open c.args.reference c.args.place c.args.through w) ∷ todos ps)) c.in-Ok.ensures.path in
     tells-map (λ s forms. write-turns (values_at g.E.Node.NodeSet g.E.Env g.E.Hash.KeyHash acting.environment) acting.me n (shelf_of c.args.table.now) (shelf_of c.set_written.new.self) c.args.reference c.args.place c.args.through c.args.pin (todos c.args.path.now.items) _ c.settle_open.result c.settle_open.ensures.plain s w forms c.set_written.ensures e)
-        c.in-Ok.ensures.step
+    c.in-Ok.ensures.step
 
 pub returns-in-Err-clause-step : goal.returns-in-Err-clause-step
 returns-in-Err-clause-step g c n =
     let acting = g.A.Access.acting c.args.access.now in
     let e = c.fail.ensures.todo ∙ ap (λ ps. fails (was_refused c.in-Err.e) (back_of None (todos ps))) c.in-Err.ensures.path in
     tells-map (λ s forms. write-fails (values_at g.E.Node.NodeSet g.E.Env g.E.Hash.KeyHash acting.environment) acting.me n (shelf_of c.args.table.now) (shelf_of c.args.table.now) c.args.reference c.args.place c.args.through c.args.pin (todos c.args.path.now.items) _ c.fail.result c.fail.ensures.plain s c.in-Err.e forms (same-shelf (shelf_of c.args.table.now)) e)
-        c.in-Err.ensures.step
+    c.in-Err.ensures.step

@@ -1,5 +1,4 @@
 use Rattle.std.proofs.Common.{refl}
-use Rattle.pagable_world.specs.declared.handles.Owner.TheVariants as owners
 use Rattle.pagable_world.specs.Refusals.{load_fault}
 use Rattle.pagable_world.specs.LoadCalls.{adopt_fault}
 use Rattle.pagable_tables.specs.Core.{core_of}
@@ -15,8 +14,8 @@ pub invariant_of-self : goal.invariant_of-self
 invariant_of-self g c =
     let e = c.adopt_if_known.ensures in
     let w = core_of c.self.inside.tables (g.S.PagableStorage.stored c.self.inside.storage) (g.S.PagableStorage.is_closed c.self.inside.storage) (g.S.PagableStorage.failed c.self.inside.storage) in
-    found-so _ _ _ c.self.invariant c.adopt_if_known.new.t c.adopt_if_known.new.values e.whole e.later e.sheds owners.Caller c.args.load c.args.kind c.args.key c.args.node_type c.args.references.now
-    (adopt_fault w owners.Caller c.args.load c.args.kind c.args.key c.args.node_type c.args.references.now) (load_fault w owners.Caller c.args.load) c.adopt_if_known.result
+    found-so _ _ _ c.self.invariant c.adopt_if_known.new.t c.adopt_if_known.new.values e.whole e.later e.sheds c.args.me c.args.load c.args.kind c.args.key c.args.node_type c.args.references.now
+    (adopt_fault w c.args.me c.args.load c.args.kind c.args.key c.args.node_type c.args.references.now) (load_fault w c.args.me c.args.load) c.adopt_if_known.result
     (e.known (g.S.PagableStorage.stored c.self.inside.storage) (g.S.PagableStorage.is_closed c.self.inside.storage) (g.S.PagableStorage.failed c.self.inside.storage) (told-open c.has_closed-lists.ensures)) e.given e.same (e.refused (g.S.PagableStorage.stored c.self.inside.storage) (g.S.PagableStorage.is_closed c.self.inside.storage) (g.S.PagableStorage.failed c.self.inside.storage))
 
 pub returns-clause-known : goal.returns-clause-known

@@ -1,5 +1,4 @@
 use Rattle.std.proofs.Common.{◌∙◌, refl, subst, inr}
-use Rattle.pagable_world.specs.declared.handles.Owner.TheVariants as owners
 use Rattle.pagable_world.specs.LoadCalls.{Installs}
 use Rattle.pagable_tables.specs.Core.{core_of}
 use Rattle.pagable_tables.proofs.Installed.{may-wider}
@@ -10,12 +9,12 @@ use Rattle.pagable_pager.proofs.pager.Pager.end_with.Goals as goal
 pub invariant_of-self : goal.invariant_of-self
 invariant_of-self g c =
     let w = core_of c.self.inside.tables (g.S.PagableStorage.stored c.self.inside.storage) (g.S.PagableStorage.is_closed c.self.inside.storage) (g.S.PagableStorage.failed c.self.inside.storage) in
-    refused-so _ _ _ c.self.invariant c.prepare_end.new.t c.give_back.new.tables c.give_back.new.values c.prepare_end.ensures.nodes c.give_back.ensures.sheds c.args.load c.args.value (g.E.Node.NodeSet.type_of c.args.value) (g.E.Node.NodeSet.refs_of c.args.value)
+    refused-so _ _ _ c.self.invariant c.prepare_end.new.t c.give_back.new.tables c.give_back.new.values c.prepare_end.ensures.nodes c.give_back.ensures.sheds c.args.me c.args.load c.args.value (g.E.Node.NodeSet.type_of c.args.value) (g.E.Node.NodeSet.refs_of c.args.value)
     c.give_back.result.0 c.give_back.result.1 c.give_back.ensures.whole c.give_back.ensures.later
     (record {
       installs = tt;
       refused = c.give_back.ensures.refused w (g.E.Node.NodeSet.type_of c.args.value) (g.E.Node.NodeSet.refs_of c.args.value) (g.S.PagableStorage.stored c.self.inside.storage) (g.S.PagableStorage.is_closed c.self.inside.storage) (g.S.PagableStorage.failed c.self.inside.storage) (told-open c.has_closed-lists.ensures)
-          (unends-told w (core_of c.prepare_end.new.t (g.S.PagableStorage.stored c.self.inside.storage) (g.S.PagableStorage.is_closed c.self.inside.storage) (g.S.PagableStorage.failed c.self.inside.storage)) c.args.load c.in-Err.unended _ _ _ _ c.node_type-node_type.ensures.value (c.deref.ensures.value ∙ c.requires) (c.in-Err.ensures.unended (g.S.PagableStorage.stored c.self.inside.storage) (g.S.PagableStorage.is_closed c.self.inside.storage) (g.S.PagableStorage.failed c.self.inside.storage)));
+          (unends-told w (core_of c.prepare_end.new.t (g.S.PagableStorage.stored c.self.inside.storage) (g.S.PagableStorage.is_closed c.self.inside.storage) (g.S.PagableStorage.failed c.self.inside.storage)) c.args.me c.args.load c.in-Err.unended _ _ _ _ c.node_type-node_type.ensures.value (c.deref.ensures.value ∙ c.requires) (c.in-Err.ensures.unended (g.S.PagableStorage.stored c.self.inside.storage) (g.S.PagableStorage.is_closed c.self.inside.storage) (g.S.PagableStorage.failed c.self.inside.storage)));
     })
 
 pub returns-in-Err-clause-moves : goal.returns-in-Err-clause-moves
@@ -47,26 +46,26 @@ returns-in-Err-finish-clause-step g c =
 
 pub invariant_of-self-2 : goal.invariant_of-self-2
 invariant_of-self-2 g c =
-    ended-so _ _ _ c.self.invariant c.args.load c.args.value c.prepare_end.new.t c.finish.new.tables c.finish.new.values c.in-Ok.ready c.in-Ok-finish.handle (c.prepare_end.ensures.wider (g.S.PagableStorage.stored c.self.inside.storage) (g.S.PagableStorage.is_closed c.self.inside.storage) (g.S.PagableStorage.failed c.self.inside.storage)) c.prepare_end.ensures.nodes
+    ended-so _ _ _ c.self.invariant c.args.me c.args.load c.args.value c.prepare_end.new.t c.finish.new.tables c.finish.new.values c.in-Ok.ready c.in-Ok-finish.handle (c.prepare_end.ensures.wider (g.S.PagableStorage.stored c.self.inside.storage) (g.S.PagableStorage.is_closed c.self.inside.storage) (g.S.PagableStorage.failed c.self.inside.storage)) c.prepare_end.ensures.nodes
     (ready-told c.node_type-node_type.ensures.value (c.deref.ensures.value ∙ c.requires) (c.in-Ok.ensures.ready (g.S.PagableStorage.stored c.self.inside.storage) (g.S.PagableStorage.is_closed c.self.inside.storage) (g.S.PagableStorage.failed c.self.inside.storage)))
-    (subst (λ l. Installs (core_of c.prepare_end.new.t (g.S.PagableStorage.stored c.self.inside.storage) (g.S.PagableStorage.is_closed c.self.inside.storage) (g.S.PagableStorage.failed c.self.inside.storage)) owners.Caller c.args.load c.in-Ok.ready.row.node c.in-Ok.ready.row.number c.in-Ok-finish.handle l (core_of c.finish.new.tables (g.S.PagableStorage.stored c.self.inside.storage) (g.S.PagableStorage.is_closed c.self.inside.storage) (g.S.PagableStorage.failed c.self.inside.storage))) c.requires
+    (subst (λ l. Installs (core_of c.prepare_end.new.t (g.S.PagableStorage.stored c.self.inside.storage) (g.S.PagableStorage.is_closed c.self.inside.storage) (g.S.PagableStorage.failed c.self.inside.storage)) c.args.me c.args.load c.in-Ok.ready.row.node c.in-Ok.ready.row.number c.in-Ok-finish.handle l (core_of c.finish.new.tables (g.S.PagableStorage.stored c.self.inside.storage) (g.S.PagableStorage.is_closed c.self.inside.storage) (g.S.PagableStorage.failed c.self.inside.storage))) c.requires
     (c.in-Ok-finish.ensures.installs (g.S.PagableStorage.stored c.self.inside.storage) (g.S.PagableStorage.is_closed c.self.inside.storage) (g.S.PagableStorage.failed c.self.inside.storage) (told-open c.has_closed-lists.ensures)))
     c.finish.ensures.whole c.finish.ensures.later c.in-Ok-finish.ensures.puts
 
 pub returns-clause-step : goal.returns-clause-step
 returns-clause-step g c =
     rw (← c.self.view_is)
-    (end-call _ _ _ c.self.invariant c.args.load c.args.value c.prepare_end.new.t c.finish.new.tables c.finish.new.values c.in-Ok.ready c.in-Ok-finish.handle (c.prepare_end.ensures.wider (g.S.PagableStorage.stored c.self.inside.storage) (g.S.PagableStorage.is_closed c.self.inside.storage) (g.S.PagableStorage.failed c.self.inside.storage)) c.prepare_end.ensures.nodes
+    (end-call _ _ _ c.self.invariant c.args.me c.args.load c.args.value c.prepare_end.new.t c.finish.new.tables c.finish.new.values c.in-Ok.ready c.in-Ok-finish.handle (c.prepare_end.ensures.wider (g.S.PagableStorage.stored c.self.inside.storage) (g.S.PagableStorage.is_closed c.self.inside.storage) (g.S.PagableStorage.failed c.self.inside.storage)) c.prepare_end.ensures.nodes
     (ready-told c.node_type-node_type.ensures.value (c.deref.ensures.value ∙ c.requires) (c.in-Ok.ensures.ready (g.S.PagableStorage.stored c.self.inside.storage) (g.S.PagableStorage.is_closed c.self.inside.storage) (g.S.PagableStorage.failed c.self.inside.storage)))
-    (subst (λ l. Installs (core_of c.prepare_end.new.t (g.S.PagableStorage.stored c.self.inside.storage) (g.S.PagableStorage.is_closed c.self.inside.storage) (g.S.PagableStorage.failed c.self.inside.storage)) owners.Caller c.args.load c.in-Ok.ready.row.node c.in-Ok.ready.row.number c.in-Ok-finish.handle l (core_of c.finish.new.tables (g.S.PagableStorage.stored c.self.inside.storage) (g.S.PagableStorage.is_closed c.self.inside.storage) (g.S.PagableStorage.failed c.self.inside.storage))) c.requires
+    (subst (λ l. Installs (core_of c.prepare_end.new.t (g.S.PagableStorage.stored c.self.inside.storage) (g.S.PagableStorage.is_closed c.self.inside.storage) (g.S.PagableStorage.failed c.self.inside.storage)) c.args.me c.args.load c.in-Ok.ready.row.node c.in-Ok.ready.row.number c.in-Ok-finish.handle l (core_of c.finish.new.tables (g.S.PagableStorage.stored c.self.inside.storage) (g.S.PagableStorage.is_closed c.self.inside.storage) (g.S.PagableStorage.failed c.self.inside.storage))) c.requires
     (c.in-Ok-finish.ensures.installs (g.S.PagableStorage.stored c.self.inside.storage) (g.S.PagableStorage.is_closed c.self.inside.storage) (g.S.PagableStorage.failed c.self.inside.storage) (told-open c.has_closed-lists.ensures)))
     c.finish.ensures.whole c.finish.ensures.later c.in-Ok-finish.ensures.puts)
 
 pub returns-clause-moves : goal.returns-clause-moves
 returns-clause-moves g c =
     rw (← c.self.view_is)
-    (moves _ _ _ c.self.invariant c.args.load c.args.value c.prepare_end.new.t c.finish.new.tables c.finish.new.values c.in-Ok.ready c.in-Ok-finish.handle (c.prepare_end.ensures.wider (g.S.PagableStorage.stored c.self.inside.storage) (g.S.PagableStorage.is_closed c.self.inside.storage) (g.S.PagableStorage.failed c.self.inside.storage)) c.prepare_end.ensures.nodes
+    (moves _ _ _ c.self.invariant c.args.me c.args.load c.args.value c.prepare_end.new.t c.finish.new.tables c.finish.new.values c.in-Ok.ready c.in-Ok-finish.handle (c.prepare_end.ensures.wider (g.S.PagableStorage.stored c.self.inside.storage) (g.S.PagableStorage.is_closed c.self.inside.storage) (g.S.PagableStorage.failed c.self.inside.storage)) c.prepare_end.ensures.nodes
     (ready-told c.node_type-node_type.ensures.value (c.deref.ensures.value ∙ c.requires) (c.in-Ok.ensures.ready (g.S.PagableStorage.stored c.self.inside.storage) (g.S.PagableStorage.is_closed c.self.inside.storage) (g.S.PagableStorage.failed c.self.inside.storage)))
-    (subst (λ l. Installs (core_of c.prepare_end.new.t (g.S.PagableStorage.stored c.self.inside.storage) (g.S.PagableStorage.is_closed c.self.inside.storage) (g.S.PagableStorage.failed c.self.inside.storage)) owners.Caller c.args.load c.in-Ok.ready.row.node c.in-Ok.ready.row.number c.in-Ok-finish.handle l (core_of c.finish.new.tables (g.S.PagableStorage.stored c.self.inside.storage) (g.S.PagableStorage.is_closed c.self.inside.storage) (g.S.PagableStorage.failed c.self.inside.storage))) c.requires
+    (subst (λ l. Installs (core_of c.prepare_end.new.t (g.S.PagableStorage.stored c.self.inside.storage) (g.S.PagableStorage.is_closed c.self.inside.storage) (g.S.PagableStorage.failed c.self.inside.storage)) c.args.me c.args.load c.in-Ok.ready.row.node c.in-Ok.ready.row.number c.in-Ok-finish.handle l (core_of c.finish.new.tables (g.S.PagableStorage.stored c.self.inside.storage) (g.S.PagableStorage.is_closed c.self.inside.storage) (g.S.PagableStorage.failed c.self.inside.storage))) c.requires
     (c.in-Ok-finish.ensures.installs (g.S.PagableStorage.stored c.self.inside.storage) (g.S.PagableStorage.is_closed c.self.inside.storage) (g.S.PagableStorage.failed c.self.inside.storage) (told-open c.has_closed-lists.ensures)))
     c.finish.ensures.whole c.finish.ensures.later c.in-Ok-finish.ensures.puts)

@@ -1,5 +1,4 @@
 use Rattle.std.proofs.Common.{inl, inr, ap, None}
-use Rattle.pagable_world.specs.declared.handles.Owner.TheVariants as owners
 use Rattle.pagable_world.specs.Refusals.{OwnsLoad, earlier}
 use Rattle.pagable_tables.specs.Core.{load_in}
 use Rattle.pagable_tables.proofs.Worlds.{still}
@@ -11,10 +10,10 @@ returns-in-Err-clause-step g c = rw (← c.self.view_is) (record { gives = tt; r
 
 pub returns-in-Err-fetch-clause-step : goal.returns-in-Err-fetch-clause-step
 returns-in-Err-fetch-clause-step g c =
-    let own : OwnsLoad (core_in (telling g.S.PagableStorage.stored g.S.PagableStorage.is_closed g.S.PagableStorage.failed) c.args.self.now) owners.Caller c.args.load (load_in c.in-Ok.row) = rw (← c.self.view_is) (c.in-Ok.ensures.own _ _ _) in
+    let own : OwnsLoad (core_in (telling g.S.PagableStorage.stored g.S.PagableStorage.is_closed g.S.PagableStorage.failed) c.args.self.now) c.args.me c.args.load (load_in c.in-Ok.row) = rw (← c.self.view_is) (c.in-Ok.ensures.own _ _ _) in
     record { gives = tt; refused = inr (load_in c.in-Ok.row, own, c.in-Err-fetch.ensures.step) }
 
 pub returns-clause-step : goal.returns-clause-step
 returns-clause-step g c =
-    let own : OwnsLoad (core_in (telling g.S.PagableStorage.stored g.S.PagableStorage.is_closed g.S.PagableStorage.failed) c.args.self.now) owners.Caller c.args.load (load_in c.in-Ok.row) = rw (← c.self.view_is) (c.in-Ok.ensures.own _ _ _) in
+    let own : OwnsLoad (core_in (telling g.S.PagableStorage.stored g.S.PagableStorage.is_closed g.S.PagableStorage.failed) c.args.self.now) c.args.me c.args.load (load_in c.in-Ok.row) = rw (← c.self.view_is) (c.in-Ok.ensures.own _ _ _) in
     record { gives = (load_in c.in-Ok.row, own, c.in-Ok-fetch.ensures.step); refused = tt }

@@ -1,6 +1,5 @@
 use Rattle.std.proofs.Common.{◌<◌, ap, sym, subst, ◌∙◌, Some, None, false, not}
 use Rattle.std.specs.Prelude.{◌≢◌}
-use Rattle.pagable_world.specs.declared.handles.Owner.TheVariants as owners
 use Rattle.pagable_world.specs.World.{Core, greatest, usable}
 use Rattle.pagable_world.specs.LoadCalls.{first_key}
 use Rattle.pagable_tables.specs.Core.{core_of}
@@ -13,7 +12,7 @@ use Rattle.pagable_pager.proofs.pager.adopts.adopt_new.Goals as goal
 
 pub returns-in-Err-clause-refused : goal.returns-in-Err-clause-refused
 returns-in-Err-clause-refused g c stored closed failures =
-    refused-new (core_of c.args.tables.now stored closed failures) owners.Caller c.args.load c.args.kind c.args.key c.args.node_type c.args.references.items (c.requires.fresh stored closed failures) c.requires.unknown
+    refused-new (core_of c.args.tables.now stored closed failures) c.args.me c.args.load c.args.kind c.args.key c.args.node_type c.args.references.items (c.requires.fresh stored closed failures) c.requires.unknown
     (c.in-Err.ensures.refused stored closed failures)
 
 pub returns-in-Err-clause-later : goal.returns-in-Err-clause-later
@@ -21,7 +20,7 @@ returns-in-Err-clause-later g c = room-newer (c.make_ready_to_learn.ensures.room
 
 pub returns-in_default-make_room-clause-refused : goal.returns-in_default-make_room-clause-refused
 returns-in_default-make_room-clause-refused g c stored closed failures =
-    refused-memory (core_of c.args.tables.now stored closed failures) owners.Caller c.args.load c.args.kind c.args.key c.args.node_type c.args.references.items (c.requires.fresh stored closed failures)
+    refused-memory (core_of c.args.tables.now stored closed failures) c.args.me c.args.load c.args.kind c.args.key c.args.node_type c.args.references.items (c.requires.fresh stored closed failures)
     (c.make_ready_to_learn.ensures.room stored closed failures)
 
 pub returns-in_default-make_room-clause-later : goal.returns-in_default-make_room-clause-later
@@ -29,7 +28,7 @@ returns-in_default-make_room-clause-later g c = room-newer (c.make_ready_to_lear
 
 pub returns-in-Err-new-clause-refused : goal.returns-in-Err-new-clause-refused
 returns-in-Err-new-clause-refused g c stored closed failures =
-    refused-memory (core_of c.args.tables.now stored closed failures) owners.Caller c.args.load c.args.kind c.args.key c.args.node_type c.args.references.items (c.requires.fresh stored closed failures)
+    refused-memory (core_of c.args.tables.now stored closed failures) c.args.me c.args.load c.args.kind c.args.key c.args.node_type c.args.references.items (c.requires.fresh stored closed failures)
     (c.make_ready_to_learn.ensures.room stored closed failures)
 
 pub returns-in-Err-new-clause-later : goal.returns-in-Err-new-clause-later
@@ -40,9 +39,9 @@ adopt-handle-requires-clause-later g c = room-newer (c.make_ready_to_learn.ensur
 
 pub adopt-handle-requires-clause-asked : goal.adopt-handle-requires-clause-asked
 adopt-handle-requires-clause-asked g c = (
-  owners.Caller,
+  c.args.me,
   c.args.node_type,
-  early-past owners.Caller c.args.load c.args.kind c.args.node_type c.args.references.items (c.make_ready_to_learn.ensures.room (λ key. None) false 0) ∙ c.requires.fresh (λ key. None) false 0,
+  early-past c.args.me c.args.load c.args.kind c.args.node_type c.args.references.items (c.make_ready_to_learn.ensures.room (λ key. None) false 0) ∙ c.requires.fresh (λ key. None) false 0,
 )
 
 pub adopt-handle-requires-clause-unknown : goal.adopt-handle-requires-clause-unknown
@@ -51,7 +50,7 @@ adopt-handle-requires-clause-unknown g c = ap (λ (u : Core). usable u c.args.ki
 pub returns-clause-adopts : goal.returns-clause-adopts
 returns-clause-adopts g c stored closed failures e =
     let room = c.make_ready_to_learn.ensures.room stored closed failures in
-    adopts-new (core_of c.args.tables.now stored closed failures) owners.Caller c.args.load c.args.kind c.args.key c.args.node_type c.args.references.items (c.requires.fresh stored closed failures) c.requires.unknown
+    adopts-new (core_of c.args.tables.now stored closed failures) c.args.me c.args.load c.args.kind c.args.key c.args.node_type c.args.references.items (c.requires.fresh stored closed failures) c.requires.unknown
     c.adopt-handle.result (subst (λ (u : Core). u.last.node < greatest) room.same c.in_default.ensures.ready.node_left) (next-past room (c.adopt-handle.ensures.next stored closed failures))
     (adopted-past c.args.load c.args.kind c.args.key (first_key c.args.kind.0 c.args.key) c.args.references.items room (c.adopt-handle.ensures.adopted stored closed failures e))
 

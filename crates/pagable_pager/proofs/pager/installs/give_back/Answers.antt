@@ -1,5 +1,4 @@
 use Rattle.std.proofs.Common.{subst, refl}
-use Rattle.pagable_world.specs.declared.handles.Owner.TheVariants as owners
 use Rattle.pagable_tables.specs.Core.{core_of}
 use Rattle.pagable_tables.specs.Ready.{Unends}
 use Rattle.pagable_tables.proofs.Opened.{told-later}
@@ -8,9 +7,9 @@ use Rattle.pagable_pager.proofs.pager.installs.give_back.Goals as goal
 
 pub returns-in-InVain-clause-refused : goal.returns-in-InVain-clause-refused
 returns-in-InVain-clause-refused g c w node_type references stored closed failures e u =
-    vain c.args.value c.load_drop.result (subst (λ v. Unends w owners.Caller c.args.load node_type references v (core_of c.args.tables.now stored closed failures)) c.in-InVain.is u)
+    vain c.args.value c.load_drop.result (subst (λ v. Unends w c.args.me c.args.load node_type references v (core_of c.args.tables.now stored closed failures)) c.in-InVain.is u)
     (c.load_drop.ensures.dropped stored closed failures e)
 
 pub returns-in-Refused-clause-refused : goal.returns-in-Refused-clause-refused
 returns-in-Refused-clause-refused g c w node_type references stored closed failures e u =
-    (refl, told-later owners.Caller c.args.load (subst (λ v. Unends w owners.Caller c.args.load node_type references v (core_of c.args.tables.now stored closed failures)) c.in-Refused.is u))
+    (refl, told-later c.args.me c.args.load (subst (λ v. Unends w c.args.me c.args.load node_type references v (core_of c.args.tables.now stored closed failures)) c.in-Refused.is u))

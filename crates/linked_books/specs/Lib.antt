@@ -1,2 +1,0 @@
-pub mod Books
-pub mod Nodes

@@ -1,0 +1,30 @@
+-- What writing a link or a bundle lists, and why reading a bundle is refused.
+use Rattle.std.proofs.Common.{◌≡◌, ◌⊎◌, ◌++◌, inl, inr, ℕ, Result}
+use Rattle.std.specs.Prelude.{OnOk}
+use Rattle.linked_values.specs.Linked.{bundle_in_order, bundle_meaning, bundle_means, bundle_shape, bundle_single, chain_in_order, chain_meaning, chain_means, chain_single, no_parts}
+use Rattle.linked_values.specs.declared.bundle.Bundle.{Bundle}
+use Rattle.linked_values.specs.declared.chain.Chain.{Chain}
+use Rattle.pagable_arcs.proofs.Listed.{written_listed}
+use Rattle.pagable_model.specs.References.{references_in}
+use Rattle.pagable_model.specs.Shape.{optional, reference}
+use Rattle.pagable_model.specs.Writing.{Out, WritesSome, nesting}
+use Rattle.pagable_model.specs.declared.error.Error.{Error}
+
+pub link_listed : {X : Type 0} (r : Result X Error) (v : Chain 1) (levels : ℕ) (old new : Out)
+    → OnOk r (WritesSome (chain_means 1 v) (nesting levels no_parts) (optional (reference 1)) old new) → OnOk r (new.refs ≡ old.refs ++ references_in (chain_meaning 1 v))
+link_listed r v levels old new = written_listed r (chain_means 1 v) (chain_meaning 1 v) (nesting levels no_parts) (optional (reference 1)) old new (chain_single 1 v) (chain_in_order 1)
+
+pub arc_link_listed : {X : Type 0} (r : Result X Error) (v : Chain 3) (levels : ℕ) (old new : Out)
+    → OnOk r (WritesSome (chain_means 3 v) (nesting levels no_parts) (optional (reference 3)) old new) → OnOk r (new.refs ≡ old.refs ++ references_in (chain_meaning 3 v))
+arc_link_listed r v levels old new = written_listed r (chain_means 3 v) (chain_meaning 3 v) (nesting levels no_parts) (optional (reference 3)) old new (chain_single 3 v) (chain_in_order 3)
+
+pub bundle_listed : {X : Type 0} (r : Result X Error) (v : Bundle) (levels : ℕ) (old new : Out)
+    → OnOk r (WritesSome (bundle_means v) (nesting levels no_parts) bundle_shape old new) → OnOk r (new.refs ≡ old.refs ++ references_in (bundle_meaning v))
+bundle_listed r v levels old new = written_listed r (bundle_means v) (bundle_meaning v) (nesting levels no_parts) bundle_shape old new (bundle_single v) bundle_in_order
+
+-- a cause of a value's own is one of its node's
+pub or_memory : {A B C : Type 0} → A ⊎ C → A ⊎ (B ⊎ C)
+or_memory (inl a) = inl a
+or_memory (inr c) = inr (inr c)
+
+pub ruleset writing = (link_listed, arc_link_listed, bundle_listed)

@@ -1,0 +1,94 @@
+//! Bundles: references of each sort to values of other types.
+
+ghost use Rattle.linked_values.specs.Linked.{bundle_has_meaning, bundle_is_meaning, bundle_meaning, bundle_means, bundle_shape, bundle_single};
+ghost use Rattle.linked_values.specs.Linked.{bundle_has_one_form, bundle_in_order, bundle_is_own, bundle_is_read, bundle_may_refuse, bundle_read_causes, bundle_write_causes};
+
+use crate::chain::{ArcLink, Link};
+use crate::linked::Linked;
+use pagable_arcs::{Arc, PagableArc, PinnedPagableArc, Refers};
+use pagable_codec::{ArcRef, PagableDeserializer, PagableSerializer};
+use pagable_flavors::Error;
+use pagable_traits::{
+    Canonical, Carried, OneMeaning, PagableDeserialize, PagableSerialize, ReadBack,
+};
+use std::alloc::Global;
+
+/// Links by shared references, by loose ones and by pins.
+#[derive(Drop)]
+pub struct Bundle {
+    pub shared: Vec<Arc<ArcLink>>,
+    pub loose: Vec<PagableArc<Link>>,
+    pub pinned: Vec<PinnedPagableArc<Link>>,
+}
+
+/// The fields, as a bundle is read: the first, and the pair of the others.
+type Fields = (
+    Vec<Arc<ArcLink>>,
+    (Vec<PagableArc<Link>>, Vec<PinnedPagableArc<Link>>),
+);
+
+impl Carried<Linked> for Bundle {
+    ghost shape = { λ e. bundle_shape };
+
+    ghost means = { bundle_means };
+
+    ghost has_meaning = { bundle_has_meaning };
+}
+
+impl OneMeaning<Linked> for Bundle {
+    ghost meaning = { bundle_meaning };
+
+    ghost is_meaning = { bundle_is_meaning };
+
+    ghost single = { bundle_single };
+}
+
+impl Canonical<Linked> for Bundle {
+    ghost one_form = { λ e. bundle_has_one_form };
+}
+
+impl ReadBack<Linked> for Bundle {
+    ghost is_read = { λ e. bundle_is_read };
+}
+
+impl Refers<Linked> for Bundle {
+    fn list_references(&self, list: &mut Vec<ArcRef>) -> Result<(), Error> {
+        let fields = (&self.shared, (&self.loose, &self.pinned));
+        Refers::<Linked>::list_references(&fields, list)
+    }
+
+    ghost in_order = { λ e. bundle_in_order };
+}
+
+impl PagableSerialize<Linked> for Bundle {
+    ghost write_causes = { bundle_write_causes };
+
+    ghost write_causes_may_refuse = { bundle_may_refuse };
+
+    fn pagable_serialize<S: PagableSerializer<Linked>>(
+        &self,
+        serializer: &mut S,
+    ) -> Result<(), Error> {
+        let fields = (&self.shared, (&self.loose, &self.pinned));
+        fields.pagable_serialize(serializer)
+    }
+}
+
+impl<'de> PagableDeserialize<'de, Linked> for Bundle {
+    ghost read_causes = { bundle_read_causes };
+
+    ghost read_causes_are_own = { bundle_is_own };
+
+    fn pagable_deserialize<D: PagableDeserializer<Linked>>(
+        alloc: Global,
+        deserializer: &mut D,
+    ) -> Result<Self, Error> {
+        let fields: Fields = PagableDeserialize::pagable_deserialize(alloc, deserializer)?;
+        let (shared, (loose, pinned)) = fields;
+        Ok(Bundle {
+            shared,
+            loose,
+            pinned,
+        })
+    }
+}

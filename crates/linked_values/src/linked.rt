@@ -1,0 +1,256 @@
+//! The environment of links and bundles.
+
+use crate::bundle::Bundle;
+use crate::chain::{ArcLink, Link};
+use pagable_arcs::references_of;
+use pagable_codec::{ArcRef, Env, NodeSet, OfNode, PagableDeserializer, PagableSerializer};
+use pagable_core::WeighHash;
+use pagable_flavors::Error;
+use pagable_traits::{InNode, PagableDeserialize, PagableSerialize};
+use std::alloc::Global;
+use std::sync::Arc;
+
+/// The environment of links, of the type number 0, links by shared references, 1, and bundles, 2.
+#[derive(Drop)]
+pub struct Linked;
+
+impl Env for Linked {
+    type Node = LinkedNode;
+
+    type Hash = WeighHash;
+
+    type CtxKey = ();
+
+    type CtxValue = ();
+
+    ghost use Rattle.linked_values.specs.Linked.{no_parts};
+
+    ghost parts = { λ e. no_parts };
+}
+
+/// What a node may hold.
+#[derive(Drop)]
+pub enum LinkedNode {
+    Link(Arc<Link>),
+    ArcLink(Arc<ArcLink>),
+    Bundle(Arc<Bundle>),
+}
+
+impl NodeSet<Linked> for LinkedNode {
+    ghost use Rattle.linked_values.specs.Linked.{type_of, shape_of, own_shape, means, refs_of, write_causes, write_causes_may_refuse, read_causes, read_causes_are_own, has_meaning, refers, has_shape};
+
+    ghost type_of = { type_of };
+
+    ghost shape_of = { λ e t. shape_of t };
+
+    ghost own_shape = { λ e n. own_shape n };
+
+    ghost means = { means };
+
+    ghost refs_of = { refs_of };
+
+    ghost write_causes = { write_causes };
+
+    ghost read_causes = { read_causes };
+
+    ghost write_causes_may_refuse = { write_causes_may_refuse };
+
+    ghost read_causes_are_own = { read_causes_are_own };
+
+    ghost has_meaning = { has_meaning };
+
+    ghost refers = { refers };
+
+    ghost has_shape = { λ e n. has_shape n };
+
+    fn node_type(&self) -> u32 {
+        match self {
+            LinkedNode::Link(_) => 0,
+            LinkedNode::ArcLink(_) => 1,
+            LinkedNode::Bundle(_) => 2,
+        }
+    }
+
+    fn refs(&self, alloc: Global) -> Result<Vec<ArcRef>, Error> {
+        match self {
+            LinkedNode::Link(link) => references_of::<Linked, Link>(alloc, link.as_ref()),
+            LinkedNode::ArcLink(link) => references_of::<Linked, ArcLink>(alloc, link.as_ref()),
+            LinkedNode::Bundle(bundle) => references_of::<Linked, Bundle>(alloc, bundle.as_ref()),
+        }
+    }
+
+    #[tactic(auto, using(crate::proofs::Listed::writing))]
+    fn write<S: PagableSerializer<Linked>>(&self, serializer: &mut S) -> Result<(), Error> {
+        match self {
+            LinkedNode::Link(link) => link.as_ref().pagable_serialize(serializer),
+            LinkedNode::ArcLink(link) => link.as_ref().pagable_serialize(serializer),
+            LinkedNode::Bundle(bundle) => bundle.as_ref().pagable_serialize(serializer),
+        }
+    }
+
+    fn read<D: PagableDeserializer<Linked>>(
+        node_type: u32,
+        alloc: Global,
+        deserializer: &mut D,
+    ) -> Result<LinkedNode, Error> {
+        match node_type {
+            0 => {
+                let link = Link::pagable_deserialize(alloc, deserializer)?;
+                Ok(LinkedNode::Link(Arc::new(alloc, link)?))
+            }
+            1 => {
+                let link = ArcLink::pagable_deserialize(alloc, deserializer)?;
+                Ok(LinkedNode::ArcLink(Arc::new(alloc, link)?))
+            }
+            2 => {
+                let bundle = Bundle::pagable_deserialize(alloc, deserializer)?;
+                Ok(LinkedNode::Bundle(Arc::new(alloc, bundle)?))
+            }
+            _ => Err(Error::WrongKind),
+        }
+    }
+}
+
+impl OfNode<Linked> for Link {
+    ghost use Rattle.std.specs.Prelude.{◌≡◌, Some};
+    ghost use Rattle.std.specs.Arc.{arc_value};
+    ghost use Rattle.linked_values.specs.Linked.{link_in, link_number_is_small};
+
+    ghost TYPE = { 0 };
+
+    ghost held = { link_in };
+
+    const TYPE: u32 = 0;
+
+    fn into_node(value: Arc<Link>) -> LinkedNode
+        ensures { link_in result ≡ Some (arc_value value) }
+    {
+        LinkedNode::Link(value)
+    }
+
+    fn from_node(alloc: Global, node: &LinkedNode) -> Result<Option<Arc<Link>>, Error> {
+        match node {
+            LinkedNode::Link(value) => Ok(Some(value.clone()?)),
+            LinkedNode::ArcLink(_) => Ok(None),
+            LinkedNode::Bundle(_) => Ok(None),
+        }
+    }
+
+    ghost small = { link_number_is_small };
+}
+
+impl InNode<Linked> for Link {
+    ghost use Rattle.std.specs.Prelude.{refl};
+    ghost use Rattle.std.proofs.Common.{inr};
+    ghost use Rattle.linked_values.specs.Linked.{no_link_type, link_back, link_there, link_type};
+
+    ghost in_type = { link_type };
+
+    ghost other_type = { no_link_type };
+
+    ghost shape_is = { λ e. refl };
+
+    ghost same_meaning = { link_there };
+
+    ghost writes_as = { λ e h. h };
+
+    ghost reads_as = { λ e h. h };
+
+    ghost meaning_back = { link_back };
+}
+
+impl OfNode<Linked> for ArcLink {
+    ghost use Rattle.std.specs.Prelude.{◌≡◌, Some};
+    ghost use Rattle.std.specs.Arc.{arc_value};
+    ghost use Rattle.linked_values.specs.Linked.{arc_link_in, arc_link_number_is_small};
+
+    ghost TYPE = { 1 };
+
+    ghost held = { arc_link_in };
+
+    const TYPE: u32 = 1;
+
+    fn into_node(value: Arc<ArcLink>) -> LinkedNode
+        ensures { arc_link_in result ≡ Some (arc_value value) }
+    {
+        LinkedNode::ArcLink(value)
+    }
+
+    fn from_node(alloc: Global, node: &LinkedNode) -> Result<Option<Arc<ArcLink>>, Error> {
+        match node {
+            LinkedNode::Link(_) => Ok(None),
+            LinkedNode::ArcLink(value) => Ok(Some(value.clone()?)),
+            LinkedNode::Bundle(_) => Ok(None),
+        }
+    }
+
+    ghost small = { arc_link_number_is_small };
+}
+
+impl InNode<Linked> for ArcLink {
+    ghost use Rattle.std.specs.Prelude.{refl};
+    ghost use Rattle.std.proofs.Common.{inr};
+    ghost use Rattle.linked_values.specs.Linked.{no_arc_link_type, arc_link_back, arc_link_there, arc_link_type};
+
+    ghost in_type = { arc_link_type };
+
+    ghost other_type = { no_arc_link_type };
+
+    ghost shape_is = { λ e. refl };
+
+    ghost same_meaning = { arc_link_there };
+
+    ghost writes_as = { λ e h. h };
+
+    ghost reads_as = { λ e h. h };
+
+    ghost meaning_back = { arc_link_back };
+}
+
+impl OfNode<Linked> for Bundle {
+    ghost use Rattle.std.specs.Prelude.{◌≡◌, Some};
+    ghost use Rattle.std.specs.Arc.{arc_value};
+    ghost use Rattle.linked_values.specs.Linked.{bundle_in, bundle_number_is_small};
+
+    ghost TYPE = { 2 };
+
+    ghost held = { bundle_in };
+
+    const TYPE: u32 = 2;
+
+    fn into_node(value: Arc<Bundle>) -> LinkedNode
+        ensures { bundle_in result ≡ Some (arc_value value) }
+    {
+        LinkedNode::Bundle(value)
+    }
+
+    fn from_node(alloc: Global, node: &LinkedNode) -> Result<Option<Arc<Bundle>>, Error> {
+        match node {
+            LinkedNode::Link(_) => Ok(None),
+            LinkedNode::ArcLink(_) => Ok(None),
+            LinkedNode::Bundle(value) => Ok(Some(value.clone()?)),
+        }
+    }
+
+    ghost small = { bundle_number_is_small };
+}
+
+impl InNode<Linked> for Bundle {
+    ghost use Rattle.std.specs.Prelude.{refl};
+    ghost use Rattle.std.proofs.Common.{inr};
+    ghost use Rattle.linked_values.specs.Linked.{no_bundle_type, bundle_back, bundle_there, bundle_type};
+
+    ghost in_type = { bundle_type };
+
+    ghost other_type = { no_bundle_type };
+
+    ghost shape_is = { λ e. refl };
+
+    ghost same_meaning = { bundle_there };
+
+    ghost writes_as = { λ e h. h };
+
+    ghost reads_as = { λ e h. h };
+
+    ghost meaning_back = { bundle_back };
+}

@@ -1,7 +1,0 @@
-//! Named texts in a pager, and a line of answer for each line that asks for them.
-#![tactic(auto)]
-
-mod command;
-mod lines;
-pub mod serve;
-mod session;

@@ -1,0 +1,234 @@
+-- A load from its begin to its end keeps trees: what it pins stands for its node's tree, and what it reads for the tree that its key reads as.
+use Rattle.std.proofs.Common.{◌≡◌, ℕ, zero, ◌+◌, ◌<◌, ◌≤◌, ◌==◌, true, List, [], Option, Some, None, if◌then◌else◌, inl, inr, refl, sym, ap, subst, ◌∙◌, arith}
+use Rattle.std.proofs.lemmas.Bool.Decides.{nat_tests}
+use Rattle.pagable_world.specs.declared.events.LoadAnswer.{LoadAnswer}
+use Rattle.pagable_world.specs.declared.events.LoadAnswer.TheVariants as ends
+use Rattle.pagable_world.specs.declared.handles.HandleRow.{HandleRow}
+use Rattle.pagable_world.specs.declared.handles.Owner.TheVariants as owners
+use Rattle.pagable_world.specs.Plain.{ArcRef, Blob, LoadNumber, NodeNumber, Tree, Among}
+use Rattle.pagable_world.specs.Kinds.{held}
+use Rattle.pagable_world.specs.declared.rows.Mode.TheVariants as modes
+use Rattle.pagable_world.specs.World.{Core, Last, Alike, Root, of_cell, of_key, OpenLoad, Frame, Reading, Written, Values, Seen, IsLawful, type_at}
+use Rattle.pagable_world.specs.Refusals.{IsReference}
+use Rattle.pagable_world.specs.Calls.{with_handle}
+use Rattle.pagable_world.specs.LoadCalls.{with_load}
+use Rattle.pagable_world.specs.Loads.{Does, EndsRead, ReadsRoot, gone_on}
+use Rattle.pagable_world.specs.Workers.{fresh}
+use Rattle.pagable_world.specs.Events.{reading_of_root, reading_of_load}
+use Rattle.pagable_world.specs.Pager.{PagerState, WellFormed, Moves, ReadingBrings, Represents, ReadingFits, FramesFit, SameTrees}
+use Rattle.pagable_world.specs.Runs.{ReadsItsTypes, HoldsSettled, TakesWell}
+use Rattle.pagable_world.specs.Headline.{ReadIsRight}
+use Rattle.pagable_world.specs.Access.{ReadingStep, LoadRun, load-ends, load-goes-on, LoadAsksWell, PinLaw, ReadLaw}
+use Rattle.pagable_laws.specs.ReadLaws.{FramesGiven}
+use Rattle.pagable_laws.specs.ReadRuns.{FramesHeld}
+use Rattle.pagable_laws.specs.TreeSteps.{nothing_felt, CoreGoes, ReadingFeels, HandsOver}
+use Rattle.pagable_laws.specs.TreeRuns.{ChangeFits}
+use Rattle.pagable_laws.proofs.Trees.{same_some}
+use Rattle.pagable_laws.proofs.Goes.{Goes}
+use Rattle.pagable_laws.proofs.Calling.{begins, begins-key}
+use Rattle.pagable_laws.proofs.Decoding.{decodes}
+use Rattle.pagable_laws.proofs.Fitting.{first-fits, frames-stay}
+use Rattle.pagable_laws.proofs.Felt.{fits-nothing}
+use Rattle.pagable_laws.proofs.Brought.{reading-fits}
+use Rattle.pagable_laws.proofs.TreesGoing.{trees-go-on}
+use Rattle.pagable_laws.proofs.Taking.{AtStep, FitAfter, fit-after, row-held, root-right, stands-here}
+use Rattle.pagable_laws.proofs.ReadingSteps.{ReadingFelt, caller-free, reading-feels}
+use Rattle.pagable_laws.proofs.ReadingStepsHanding.{hands}
+use Rattle.pagable_laws.proofs.ReadingStepsHeld.{held-after}
+use Rattle.pagable_laws.proofs.ReadingStepsGive.{got-typed}
+use Rattle.pagable_laws.proofs.EventSteps.{core-goes}
+
+abbrev seen : {N : Type 0} → Values N → Seen N Blob Written
+seen v = record { values = v; blob_of = λ b. b; written_of = λ w. w }
+
+-- the pager stands for trees, and what the load has read fits them
+record Under {N E : Type 0} (v : Values N) (s : PagerState N E) (trees : ℕ → Tree) (key : ℕ) (reading : Reading) : Type 0 where
+  pub settled : HoldsSettled v s
+  pub well : WellFormed v s
+  pub stands : Represents v s trees
+  pub fits : ReadingFits v s trees reading
+  pub given : FramesGiven s.core.last.node reading.frames
+  pub got_held : FramesHeld s.core reading.load reading.frames
+  pub within : reading.load.0 ≤ s.core.last.load
+  pub keyed : (load : OpenLoad) → s.core.loads reading.load.0 ≡ Some load → load.key ≡ key
+
+-- each node keeps its tree
+record After {N E : Type 0} (v : Values N) (s : PagerState N E) (trees : ℕ → Tree) (s' : PagerState N E) (trees' : ℕ → Tree) : Type 0 where
+  pub same : SameTrees s.core.last.node trees trees'
+  pub nodes : s.core.last.node ≤ s'.core.last.node
+  pub stands : Represents v s' trees'
+
+after-then : {N E : Type 0} {v : Values N} {s m t : PagerState N E} {trees mid after : ℕ → Tree} → After v s trees m mid → After v m mid t after → After v s trees t after
+after-then a b = record { same = λ n within. b.same n (let c = a.nodes in omega (arith, within, c)) ∙ a.same n within; nodes = let c = a.nodes in let d = b.nodes in omega (arith, c, d); stands = b.stands }
+
+module _ {N E : Type 0} {v : Values N} (lawful : IsLawful v) (readable : ReadsItsTypes v.types) where
+  module _ (s s' : PagerState N E) (trees : ℕ → Tree) (key : ℕ) (reading : Reading) (answer : Option (LoadAnswer N)) (frames : List Frame) (u : Under v s trees key reading) (settled' : HoldsSettled v s') (takes : TakesWell v s reading)
+      (step : ReadingStep v owners.Caller reading s answer frames s') where
+    felt : ReadingFelt v s.core reading answer frames s'.core
+    felt = reading-feels (seen v) s.core owners.Caller caller-free s'.core reading answer frames step.does
+
+    goes : CoreGoes felt.change s.core s'.core
+    goes = core-goes felt.change u.well.whole.handles felt.goes
+
+    feels : ReadingFeels v s.core reading answer frames s'.core felt.change
+    feels = felt.feels u.well.whole.handles
+
+    fit : (after : ℕ → Tree) × ChangeFits v felt.change (ReadingBrings v s.core reading) s s' trees after
+    fit = reading-fits lawful readable u.settled u.well step.whole u.stands reading u.fits u.given goes takes felt.opens feels
+
+    went : After v s trees s' fit.0
+    went = record { same = fit.1.same; nodes = goes.nodes; stands = trees-go-on lawful u.settled u.well step.whole u.stands step.moves goes fit.1 }
+
+    -- the load goes on
+    still : answer ≡ None → Under v s' fit.0 key (gone_on reading frames)
+    still none =
+        record {
+          settled = settled';
+          well = step.whole;
+          stands = went.stands;
+          fits = fits_on;
+          given = after.given;
+          got_held = held-after reading answer frames goes none u.got_held feels;
+          within = let a = u.within in let b = goes.loads_last in omega (arith, a, b);
+          keyed = λ other there. u.keyed other (was other there);
+        }
+      where
+        load : (x : OpenLoad) × (s.core.loads reading.load.0 ≡ Some x)
+        load = felt.opens none
+
+        at : AtStep v felt.change s.core s'.core trees fit.0
+        at =
+            record {
+              goes = goes;
+              same = fit.1.same;
+              before = u.well.whole;
+              after = step.whole.whole;
+              cache = u.stands.cache;
+              born = λ kind key own is. let f = subst (λ z. ChangeFits v z (ReadingBrings v s.core reading) s s' trees fit.0) is fit.1 in f.knows kind key (s.core.last.node + 1) (refl, refl, refl);
+            }
+
+        after : FitAfter v s'.core fit.0 load.0.key reading.node_type frames
+        after = fit-after reading load.0 frames at load.1 (record { fit = u.fits load.0 load.1; given = u.given }) (subst (λ (o : Option (LoadAnswer N)). ReadingFeels v s.core reading o frames s'.core felt.change) none feels)
+
+        was : (other : OpenLoad) → s'.core.loads reading.load.0 ≡ Some other → s.core.loads reading.load.0 ≡ Some other
+        was other there = elim (goes.loads reading.load.0 other there) [ inl old ↦ old | inr (above, begun) ↦ absurd (let a = u.within in omega (arith, a, above)) ]
+
+        fits_on : ReadingFits v s' fit.0 (gone_on reading frames)
+        fits_on other there = subst (λ (z : OpenLoad). FramesFit v.types s'.core.stored fit.0 z.key reading.node_type frames) (same_some _ _ (sym load.1 ∙ was other there)) after.fit
+
+    -- the value that it answers is that of its key
+    module _ (x : N) (is : answer ≡ Some (ends.Read x)) where
+      read : EndsRead v s.core owners.Caller reading x s'.core
+      read = let d = subst (λ (o : Option (LoadAnswer N)). Does v s.core owners.Caller reading o frames s'.core) is step.does.does in d.0
+
+      abbrev load : OpenLoad
+      load = read.of_key_load.load
+
+      root : ReadsRoot v reading x
+      root = read.reads_root
+
+      handed : HandsOver s.core reading.load (v.references x) s'.core
+      handed = hands reading.load (v.references x) u.well.whole.handles read.handed
+
+      fits : FramesFit v.types s.core.stored trees load.key reading.node_type reading.frames
+      fits = u.fits load read.of_key_load.open_load
+
+      own : (r : ArcRef) → Among (v.references x) r → IsReference s'.core owners.Caller r
+      own r among =
+          let here = subst (λ fs. FramesFit v.types s.core.stored trees load.key reading.node_type fs) root.frames fits in
+          let first = first-fits v.types load.key reading.node_type s.core.stored trees root.root [] here in
+          let got = (decodes lawful readable root.root x first root.decoded).got r among in
+          let front : Among reading.frames root.root = subst (λ fs. Among fs root.root) (sym root.frames) (zero, refl) in
+          let moved = handed.each r among in
+          let row : HandleRow = moved.0 in
+          let stood = (u.got_held root.root r front got).is row moved.1 moved.2 in
+          let live = row-held s'.core r.handle (record row { owner = owners.Caller }) moved.3 in
+          let typed : type_at s'.core r.node.0 ≡ Some (fit.0 r.node.0).type = went.stands.typed r.node.0 (subst (λ (n : NodeNumber). 0 < held n.0 s'.core.rows) stood.0 live) in
+          let kept : fit.0 r.node.0 ≡ trees r.node.0 = fit.1.same r.node.0 (u.given root.root r front got) in
+          record { row = record row { owner = owners.Caller }; live = moved.3; at = stood.0; owned = refl; fits = stood.1; typed = typed ∙ ap (λ (t : Tree). Some t.type) kept ∙ ap (λ (t : ℕ). Some t) (got-typed root.root first r got) }
+
+      right : ReadIsRight v s' key x
+      right =
+          let stay = frames-stay v.types load.key reading.node_type s.core.stored s'.core.stored trees fit.0 s.core.last.node reading.frames goes.stored fit.1.same u.given fits in
+          subst (λ q. ReadIsRight v s' q x) (u.keyed load read.of_key_load.open_load) (root-right lawful readable s' fit.0 reading x load.key step.whole went.stands stay root own)
+
+  -- ---- all steps
+
+  -- what a run comes to
+  record Comes (s : PagerState N E) (trees : ℕ → Tree) (key : ℕ) (answer : LoadAnswer N) (s' : PagerState N E) : Type 0 where
+    pub trees' : ℕ → Tree
+    pub after : After v s trees s' trees'
+    pub right : (x : N) → answer ≡ ends.Read x → ReadIsRight v s' key x
+
+  comes : {reading : Reading} {s s' : PagerState N E} {answer : LoadAnswer N} (run : LoadRun v owners.Caller reading s answer s') → LoadAsksWell run → (trees : ℕ → Tree) (key : ℕ) → Under v s trees key reading → Comes s trees key answer s'
+  unfolding LoadAsksWell
+  comes (load-ends reading answer s s' step) asks trees key u =
+      record {
+        trees' = (fit s s' trees key reading (Some answer) [] u asks.0 asks.1 step).0;
+        after = went s s' trees key reading (Some answer) [] u asks.0 asks.1 step;
+        right = λ x is. right s s' trees key reading (Some answer) [] u asks.0 asks.1 step x (ap (λ (a : LoadAnswer N). Some a) is);
+      }
+  comes (load-goes-on reading frames answer s mid s' step more) asks trees key u =
+      let rest = comes more asks.2 (fit s mid trees key reading None frames u asks.0 asks.1 step).0 key (still s mid trees key reading None frames u asks.0 asks.1 step refl) in
+      record { trees' = rest.trees'; after = after-then (went s mid trees key reading None frames u asks.0 asks.1 step) rest.after; right = rest.right }
+
+  -- ---- its begin
+
+  module _ (s mid : PagerState N E) (trees : ℕ → Tree) (well : WellFormed v s) (settled : HoldsSettled v s) (stands : Represents v s trees) (does : Goes nothing_felt s.core mid.core) (moves : Moves (λ n x. ⊥) s mid) (whole : WellFormed v mid) where
+    begun_goes : CoreGoes nothing_felt s.core mid.core
+    begun_goes = core-goes nothing_felt well.whole.handles does
+
+    begun : After v s trees mid trees
+    begun =
+        record {
+          same = λ n within. refl;
+          nodes = begun_goes.nodes;
+          stands = trees-go-on lawful settled well whole stands moves begun_goes (fits-nothing lawful settled well whole stands (λ n x. ⊥) (λ n x comes none is. absurd comes));
+        }
+
+    under : (w : Core) (l : LoadNumber) (t key : ℕ) (root : Root) → l.0 ≡ w.last.load + 1 → Alike (with_load w key root owners.Caller) mid.core → Under v mid trees key (fresh l t)
+    unfolding FramesFit
+    under w l t key root next a =
+        record {
+          settled = λ n x has. elim (moves.each n x has) [ inl was ↦ settled n x was | inr came ↦ absurd came.1 ];
+          well = whole;
+          stands = begun.stands;
+          fits = λ load is. tt;
+          given = λ frame r among got. absurd (let e = among.1 in cc);
+          got_held = λ frame r among got. absurd (let e = among.1 in cc);
+          within = let e = ap (λ (x : Last). x.load) a.last in omega (arith, e, next);
+          keyed = λ load is.
+              let same : (l.0 == w.last.load + 1) ≡ true = grind (arith, nat_tests) in
+              let there = a.loads l.0 ∙ ap (λ b. if b then Some (let x : OpenLoad = record { owner = owners.Caller; key = key; root = root } in x) else w.loads l.0) same in
+              let e : _ ≡ load = same_some _ _ (sym there ∙ is) in
+              sym (ap (λ (x : OpenLoad). x.key) e);
+        }
+
+-- a reading that has begun
+is-fresh : (l : LoadNumber) (o : Option OpenLoad) (reading : Reading) → reading_of_load l o ≡ Some reading → (t : ℕ) × (reading ≡ fresh l t)
+is-fresh l None reading is = absurd (cc)
+is-fresh l (Some load) reading is = by load.root is
+  where
+    by : (root : Root) → reading_of_root l root ≡ Some reading → (t : ℕ) × (reading ≡ fresh l t)
+    by (of_cell node t h) is = (t, sym (same_some _ _ is))
+    by of_key is = absurd (cc)
+
+pub pin_law : {N E : Type 0} (v : Values N) → PinLaw E v
+pin_law v s mid s' h k reading x row run well starts asks live held lawful readable settled trees stands =
+    let c = starts.begins in
+    let b = c.step.begins.2 in
+    let first = begun lawful readable s mid trees well settled stands (begins _ c.step) c.moves c.whole in
+    let f = is-fresh reading.load (mid.core.loads reading.load.0) reading starts.is in
+    let u = under lawful readable s mid trees well settled stands (begins _ c.step) c.moves c.whole (with_handle s.core c.step.begins.0.node modes.LooseUnpinned (owners.Load reading.load)) reading.load f.0 starts.key (of_cell c.step.begins.0.node b.4.0 h) b.2.above b.4.2 in
+    let r = comes lawful readable run asks trees starts.key (subst (λ z. Under v mid trees starts.key z) (sym f.1) u) in
+    let after = after-then first r.after in
+    (r.trees', after.same, after.stands, stands-here (after.stands.stands row.node.0 (row-held s'.core k row live)) held)
+
+pub read_law : {N E : Type 0} (v : Values N) → ReadLaw E v
+read_law v s mid s' key t l x run well starts asks settled_value lawful readable settled trees stands =
+    let b = starts.step.begins in
+    let first = begun lawful readable s mid trees well settled stands (begins-key _ starts.step) starts.moves starts.whole in
+    let u = under lawful readable s mid trees well settled stands (begins-key _ starts.step) starts.moves starts.whole s.core l t key of_key b.1.above b.2 in
+    let r = comes lawful readable run asks trees key u in
+    let after = after-then first r.after in
+    (r.trees', after.same, after.stands, r.right x refl)

@@ -1,0 +1,161 @@
+-- What a lent pager's calls tell as those of an access.
+use Rattle.std.proofs.Common.{◌≡◌, ℕ, ◌+◌, Bool, true, false, List, [], Option, Some, Result, Ok, Err, inl, inr, refl, ap, sym, subst, ◌∙◌, arith}
+use Rattle.std.specs.Prelude.{IsSome, is_some, IfOk, if◌then◌else◌}
+use Rattle.std.specs.Option.{option_map}
+use Rattle.pagable_model.specs.declared.data_key.OptionalDataKey.{OptionalDataKey}
+use Rattle.pagable_model.specs.declared.data_key.OptionalDataKey.TheVariants as optional
+use Rattle.pagable_model.specs.declared.error.Error.{Error}
+use Rattle.pagable_model.specs.declared.numbers.ArcRef.{ArcRef}
+use Rattle.pagable_model.specs.declared.numbers.HandleNumber.{HandleNumber}
+use Rattle.pagable_model.specs.declared.numbers.Kind.{Kind}
+use Rattle.pagable_model.specs.declared.numbers.LoadNumber.{LoadNumber}
+use Rattle.pagable_model.specs.declared.numbers.NodeNumber.{NodeNumber}
+use Rattle.pagable_world.specs.declared.answers.Beginning.TheVariants as beginnings
+use Rattle.pagable_world.specs.declared.handles.HandleRow.{HandleRow}
+use Rattle.pagable_world.specs.declared.handles.Owner.{Owner}
+use Rattle.pagable_world.specs.declared.handles.Owner.TheVariants as owners
+use Rattle.pagable_world.specs.declared.rows.Mode.{Mode}
+use Rattle.pagable_world.specs.declared.rows.Mode.TheVariants as modes
+use Rattle.pagable_world.specs.Plain.{Blob, type_of, if_there}
+use Rattle.pagable_world.specs.Kinds.{find_row, is_pinning, is_loose, is_unpinned, mode_of, owner_value}
+use Rattle.pagable_world.specs.World.{Core, Reading, of_cell, Values, Alike, row_at}
+use Rattle.pagable_world.specs.Calls.{Looks, StoreCall, row_of, with_handle, with_node, with_cached, next_node, is_named_by, IsNext}
+use Rattle.pagable_world.specs.LoadCalls.{BeginCall, GetsKnown, LazyCall, Adopts, first_key}
+use Rattle.pagable_world.specs.Workers.{fresh}
+use Rattle.pagable_world.specs.Events.{reading_of_load}
+use Rattle.pagable_world.specs.Pager.{HandlesAreWhole, WellFormed}
+use Rattle.pagable_world.specs.Access.{Told, Called}
+use Rattle.pagable_laws.proofs.Goes.{found-number}
+use Rattle.pagable_laws.proofs.GoodReferences.{good}
+use Rattle.pagable_laws.proofs.Outlasting.{NotValues, Stands, AreUpTo, stands-new, stands-alike, stands-fell, among-changed, among-found}
+use Rattle.pagable_laws.proofs.Sparing.{named-among}
+use Rattle.pagable_laws.proofs.Taking.{row-pins}
+use Rattle.pagable_laws.proofs.Trees.{same_some}
+use Rattle.pagable_steps.proofs.SparedHandles.{pinned-here}
+use Rattle.pagable_loads.specs.declared.starting.PinStart.TheVariants as starts
+use Rattle.pagable_loads.specs.Starting.{StartsPin, is_unpinned_at}
+use Rattle.pagable_loads.proofs.Pinned.{begun_is}
+use Rattle.pagable_loads.specs.Telling.{IsMade}
+use Rattle.pagable_pager.specs.View.{PagerView, Telling, OnlyLess, core_in, state_in}
+use Rattle.pagable_pager.proofs.Adopting.{less-moves}
+
+-- values go, and none comes
+pub told_less : {N S E : Type 0} (tells : Telling S) (v : E → Values N) (p q : PagerView N S E) (D : Core → Core → Type 0) → D (core_in tells p) (core_in tells q) → OnlyLess p q → WellFormed (v q.environment) (state_in tells q)
+    → Told (Some (state_in tells p)) (Some (state_in tells q)) (λ s t. Called (v p.environment) (λ w'. D s.core w') s t)
+told_less tells v p q D step only whole = record { holds = record { step = step; moves = less-moves tells p q only; whole = subst (λ e. WellFormed (v e) (state_in tells q)) only.environment whole } }
+
+pub stored_key : {digest : Blob → ℕ} {w w' : Core} {blob : Blob} (r : Result ℕ Error) → StoreCall digest w blob r w' → IfOk r (λ key. key ≡ digest blob)
+stored_key (Ok key) c = c.stores.0
+stored_key (Err e) c = tt
+
+-- ---- the handle that a load gets is live
+
+found_some : {X : Type 0} {o : Option X} {x : X} → o ≡ Some x → IsSome o
+found_some e = ap is_some e
+
+-- a live handle's row has its number
+number_is : (w : Core) (h : HandleNumber) (row : HandleRow) → row_at w h ≡ Some row → row.number ≡ h
+number_is w h row live = ap (λ n. record { 0 = n }) (found-number h.0 w.rows row live)
+
+pub made_so : {w : Core} {kind : Kind} {h : HandleNumber} {n : NodeNumber} → Looks w h (λ m row. m ≡ row.node) (Ok n) → IsMade w kind (record { kind = kind; node = n; handle = h })
+made_so {w} {kind} {h} {n} l =
+    let row : HandleRow = l.found.0 in
+    let number = number_is w h row l.found.1 in
+    record {
+      row = row;
+      live = l.found.1;
+      is = ap (λ (m : NodeNumber). let x : ArcRef = record { kind = kind; node = m; handle = h } in x) l.found.2 ∙ ap (λ (k : HandleNumber). let x : ArcRef = record { kind = kind; node = row.node; handle = k } in x) (sym number);
+    }
+
+module _ {w : Core} (whole : HandlesAreWhole w) where
+  few : AreUpTo w.last.handle w.rows
+  few h among = (whole.numbered h among).1
+
+  made_stands : (node : NodeNumber) (mode : Mode) (owner : Owner) → Stands (w.last.handle + 1) (with_handle w node mode owner).rows (w.last.handle + 1) (row_of (w.last.handle + 1) node mode owner)
+  made_stands node mode owner = stands-new w.last.handle w.rows (row_of (w.last.handle + 1) node mode owner) few refl
+
+  -- of a new node
+  module _ (l : LoadNumber) (kind : Kind) (key t : ℕ) (own : OptionalDataKey) (references : List ArcRef) where
+    abbrev born : Core
+    born = with_node w t own references
+
+    abbrev made : Core
+    made = with_handle born (next_node w) (mode_of kind.0) (owners.Load l)
+
+    few_moved : AreUpTo w.last.handle born.rows
+    few_moved h among =
+        let a = among-changed (λ (x : HandleRow). if is_named_by references x.number.0 then record x { owner = owner_value (w.last.node + 1) } else x) w.rows h among in
+        let n : h.number.0 ≡ a.0.number.0 = ap (λ (x : HandleRow). x.number.0) a.2 ∙ number a.0 (is_named_by references a.0.number.0) in
+        let le = few a.0 a.1 in
+        omega (arith, n, le)
+      where
+        number : (x : HandleRow) (b : Bool) → (if b then record x { owner = owner_value (w.last.node + 1) } else x).number.0 ≡ x.number.0
+        number x true = refl
+        number x false = refl
+
+    born_stands : (w' : Core) (b : Bool) → Alike (if b then made else with_cached made kind key (next_node w)) w' → Stands w'.last.handle w'.rows (w.last.handle + 1) (row_of (w.last.handle + 1) (next_node w) (mode_of kind.0) (owners.Load l))
+    born_stands w' true a = stands-alike {w = made} a (stands-new w.last.handle born.rows (row_of (w.last.handle + 1) (next_node w) (mode_of kind.0) (owners.Load l)) few_moved refl)
+    born_stands w' false a = stands-alike {w = with_cached made kind key (next_node w)} a (stands-new w.last.handle born.rows (row_of (w.last.handle + 1) (next_node w) (mode_of kind.0) (owners.Load l)) few_moved refl)
+
+  module _ (w' : Core) where
+    live_at : {row : HandleRow} (k : HandleNumber) → IsNext k w → Stands w'.last.handle w'.rows (w.last.handle + 1) row → IsSome (row_at w' k)
+    live_at k next s = found_some (ap (λ n. find_row n w'.rows) next.above ∙ s.live)
+
+    pub known_live : {l : LoadNumber} {kind : Kind} {key : ℕ} {k : HandleNumber} → GetsKnown w l kind key k w' → IsSome (row_at w' k)
+    known_live {l} {kind} {k = k} c = live_at k c.next (stands-alike {w = with_handle w (record { 0 = c.n }) (mode_of kind.0) (owners.Load l)} c.leaves (made_stands (record { 0 = c.n }) (mode_of kind.0) (owners.Load l)))
+
+    pub lazy_live : {me : Owner} {l : LoadNumber} {kind : Kind} {key : ℕ} {k : HandleNumber} → LazyCall w me l kind key (Ok k) w' → IsSome (row_at w' k)
+    lazy_live {l = l} {kind = kind} {key = key} {k = k} c = elim c.makes.3 [
+      | inl known ↦ known_live known
+      | inr (none, left, next, a) ↦ live_at k next (born_stands l kind key (type_of kind.0) (optional.Some key) [] w' w.closed a)
+    ]
+
+    pub adopted_live : {me : Owner} {l : LoadNumber} {kind : Kind} {key t : ℕ} {references : List ArcRef} {k : HandleNumber} → Adopts w me l kind key t references k w' → IsSome (row_at w' k)
+    adopted_live {l = l} {kind = kind} {key = key} {references = references} {k = k} c = elim c.makes [
+      | inl (n, known, f) ↦ live_at k c.next (stands-fell {w = with_handle w (record { 0 = n }) (mode_of kind.0) (owners.Load l)} f.falls no_value (free (is_named_by references (w.last.handle + 1)) refl) (made_stands (record { 0 = n }) (mode_of kind.0) (owners.Load l)))
+      | inr (none, left, a) ↦ live_at k c.next (born_stands l kind key (type_of kind.0) (first_key kind.0 key) references w' w.closed a)
+    ]
+      where
+        no_value : NotValues (owners.Load l)
+        no_value n is = absurd (cc)
+
+        -- no reference names it
+        free : (b : Bool) → is_named_by references (w.last.handle + 1) ≡ b → is_named_by references (w.last.handle + 1) ≡ false
+        free false is = is
+        free true is =
+            let named = named-among 0 references (w.last.handle + 1) is in
+            let a = good w (owners.Load l) [] references c.good named.0 named.1 in
+            let n = found-number named.0.handle.0 w.rows a.row a.live in
+            let le = few a.row (among-found named.0.handle.0 w.rows a.row a.live) in
+            let same = named.2 in
+            absurd (omega (arith, n, le, same))
+
+-- ---- how a pin begins
+
+module _ {w w' : Core} {me : Owner} {h : HandleNumber} {l : LoadNumber} {key : ℕ} (c : BeginCall w me h (Ok (beginnings.Load l key)) w') where
+  type_there : (t : ℕ) × (reading_of_load l (w'.loads l.0) ≡ Some (fresh l t))
+  type_there =
+      let b = c.begins in
+      let made = b.2.4 in
+      (made.0, ap (reading_of_load l) (begun_is (with_handle w b.0.node modes.LooseUnpinned (owners.Load l)) w' l key (of_cell b.0.node made.0 h) me b.2.2.above made.2))
+
+  let_go : is_unpinned_at w h ≡ true
+  let_go = let b = c.begins in ap (if_there (λ (row : HandleRow). is_unpinned row.mode) false) b.1.live ∙ by b.0.mode refl b.1.as_asked
+    where
+      away : (m : Mode) → c.begins.0.mode ≡ m → is_pinning m ≡ true → ⊥
+      away m is pinning =
+          let b = c.begins in
+          let here = pinned-here w b.0.node.0 (row-pins w h b.0 b.1.live (ap is_pinning is ∙ pinning)) in
+          let f : true ≡ false = sym here ∙ b.2.0 in
+          absurd (cc)
+
+      by : (m : Mode) → c.begins.0.mode ≡ m → is_loose m ≡ true → is_unpinned m ≡ true
+      by modes.LooseUnpinned is loose = refl
+      by modes.LoosePinned is loose = absurd (away modes.LoosePinned is refl)
+      by modes.Pinned is loose = absurd (cc)
+      by modes.Shared is loose = absurd (cc)
+
+  pub load_starts : (t : ℕ) → Some t ≡ option_map (λ (r : Reading). r.node_type) (reading_of_load l (w'.loads l.0)) → StartsPin w me h (Ok (starts.Load l key t)) w'
+  load_starts t is =
+      let same : type_there.0 ≡ t = same_some _ _ (sym (ap (option_map (λ (r : Reading). r.node_type)) type_there.1) ∙ sym is) in
+      record { starts = (c, let_go, type_there.1 ∙ ap (λ u. Some (fresh l u)) same); refused = tt }

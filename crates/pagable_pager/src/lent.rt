@@ -1,0 +1,214 @@
+//! A pager that is lent, as an access.
+
+ghost use Rattle.std.specs.Prelude.{◌≡◌, IsSome};
+ghost use Rattle.pagable_world.specs.World.{row_at};
+ghost use Rattle.pagable_loads.specs.Telling.{IsMade};
+ghost use Rattle.pagable_pager.specs.View.{core_in, telling};
+
+use crate::pager::Pager;
+use either::Either;
+use pagable_codec::{Env, NodeSet};
+use pagable_core::{PagableData, PagableStorage};
+use pagable_loads::{Access, PinStart};
+use pagable_model::{ArcRef, DataKey, Error, HandleNumber, Kind, LoadNumber};
+use pagable_world::{Beginning, Pinning, Want};
+use std::alloc::Global;
+use std::sync::Arc;
+
+/// The caller's access to a pager that is lent, and tells its state.
+#[derive(Drop)]
+pub struct Lent<'a, E: Env, S: PagableStorage<E>>
+where
+    E::Node: NodeSet<E>,
+{
+    pager: &'a mut Pager<E, S>,
+}
+
+impl<'a, E: Env, S: PagableStorage<E>> Lent<'a, E, S>
+where
+    E::Node: NodeSet<E>,
+{
+    /// The access to this pager, as it stands.
+    pub fn new(pager: &'a mut Pager<E, S>) -> Lent<'a, E, S>
+        ensures lent { result.pager.ghost_name ≡ pager.entry.ghost_name }
+        ensures same { result.pager.now ≡ pager.old }
+    {
+        Lent { pager }
+    }
+
+    // The reference that stands for a live handle, as this kind.
+    fn reference(&self, kind: Kind, handle: HandleNumber) -> ArcRef
+        requires { IsSome (row_at (core_in (telling S.stored S.is_closed S.failed) self.now.pager.now) handle) }
+        ensures made { IsMade (core_in (telling S.stored S.is_closed S.failed) self.now.pager.now) kind result }
+        ensures handle { result.handle ≡ handle }
+    {
+        match self.pager.node_of(handle) {
+            Ok(node) => ArcRef { kind, node, handle },
+            Err(_) => unreachable!(),
+        }
+    }
+}
+
+impl<'a, E: Env, S: PagableStorage<E>> Access<E> for Lent<'a, E, S>
+where
+    E::Node: NodeSet<E>,
+{
+    ghost use Rattle.std.specs.Prelude.{Some};
+    ghost use Rattle.pagable_world.specs.declared.handles.Owner.TheVariants as owners;
+    ghost use Rattle.pagable_pager.specs.View.{state_in, telling};
+
+    ghost told = { λ l. Some (state_in (telling S.stored S.is_closed S.failed) l.pager.now) };
+
+    ghost acting = { λ l. record { me = owners.Caller; environment = l.pager.now.environment } };
+
+    ghost lender = { λ l. l.pager.ghost_name };
+
+    fn env(&self) -> &E {
+        self.pager.env()
+    }
+
+    fn clone(&mut self, handle: HandleNumber) -> Result<HandleNumber, Error> {
+        let cloned = self.pager.clone(handle);
+        self.pager.is_whole();
+        cloned
+    }
+
+    fn pin(&mut self, handle: HandleNumber) -> Result<Pinning, Error> {
+        let pinned = self.pager.pin(handle);
+        self.pager.is_whole();
+        pinned
+    }
+
+    fn begin_pin(&mut self, handle: HandleNumber) -> Result<PinStart, Error> {
+        let begun = self.pager.begin_pin(handle);
+        self.pager.is_whole();
+        begun
+    }
+
+    fn share(&self, handle: HandleNumber) -> Result<Option<Arc<E::Node>>, Error> {
+        self.pager.share(handle)
+    }
+
+    fn store(&mut self, alloc: Global, blob: PagableData) -> Result<DataKey, Error> {
+        let stored = self.pager.store(alloc, blob);
+        self.pager.is_whole();
+        stored
+    }
+
+    fn set_data_key(&mut self, handle: HandleNumber, key: DataKey) -> Result<(), Error> {
+        let set = self.pager.set_data_key(handle, key);
+        self.pager.is_whole();
+        set
+    }
+
+    fn unpin(&mut self, handle: HandleNumber) -> Result<(), Error> {
+        let unpinned = self.pager.unpin(handle);
+        self.pager.is_whole();
+        unpinned
+    }
+
+    fn release(&mut self, handle: HandleNumber) -> Result<(), Error> {
+        let released = self.pager.release(handle);
+        self.pager.is_whole();
+        released
+    }
+
+    fn load_begin(&mut self, handle: HandleNumber) -> Result<Beginning, Error> {
+        let begun = self.pager.load_begin(handle);
+        self.pager.is_whole();
+        begun
+    }
+
+    fn load_key(&mut self, key: DataKey) -> Result<LoadNumber, Error> {
+        let begun = self.pager.load_key(key);
+        self.pager.is_whole();
+        match begun {
+            Ok(Beginning::Load(load, _)) => Ok(load),
+            Ok(Beginning::InMemory) => unreachable!(),
+            Err(e) => Err(e),
+        }
+    }
+
+    fn load_root(&mut self, alloc: Global, load: LoadNumber) -> Result<Arc<PagableData>, Error> {
+        let found = self.pager.load_fetch(alloc, load, Want::Root);
+        self.pager.is_whole();
+        match found {
+            Ok(Either::Right(blob)) => Ok(blob),
+            Ok(Either::Left(_)) => unreachable!(),
+            Err(e) => Err(e),
+        }
+    }
+
+    fn load_nested(
+        &mut self,
+        alloc: Global,
+        load: LoadNumber,
+        kind: Kind,
+        key: DataKey,
+    ) -> Result<Either<ArcRef, Arc<PagableData>>, Error> {
+        self.pager.is_whole();
+        let found = self.pager.load_fetch(alloc, load, Want::Nested(kind, key));
+        self.pager.is_whole();
+        match found {
+            Ok(Either::Left(handle)) => Ok(Either::Left(self.reference(kind, handle))),
+            Ok(Either::Right(blob)) => Ok(Either::Right(blob)),
+            Err(e) => Err(e),
+        }
+    }
+
+    fn load_lazy(
+        &mut self,
+        alloc: Global,
+        load: LoadNumber,
+        kind: Kind,
+        key: DataKey,
+    ) -> Result<ArcRef, Error> {
+        self.pager.is_whole();
+        let taken = self.pager.load_lazy(alloc, load, kind, key);
+        self.pager.is_whole();
+        match taken {
+            Ok(handle) => Ok(self.reference(kind, handle)),
+            Err(e) => Err(e),
+        }
+    }
+
+    fn load_adopt(
+        &mut self,
+        alloc: Global,
+        load: LoadNumber,
+        kind: Kind,
+        key: DataKey,
+        node: E::Node,
+    ) -> Result<ArcRef, (Error, E::Node)> {
+        self.pager.is_whole();
+        let adopted = self.pager.load_adopt(alloc, load, kind, key, node);
+        self.pager.is_whole();
+        match adopted {
+            Ok(handle) => Ok(self.reference(kind, handle)),
+            Err(refused) => Err(refused),
+        }
+    }
+
+    fn load_end(
+        &mut self,
+        alloc: Global,
+        load: LoadNumber,
+        value: E::Node,
+    ) -> Result<HandleNumber, (Error, Option<E::Node>)> {
+        let ended = self.pager.load_end(alloc, load, value);
+        self.pager.is_whole();
+        ended
+    }
+
+    fn load_take(&mut self, load: LoadNumber, named: &[HandleNumber]) -> Result<(), Error> {
+        let taken = self.pager.load_take(load, named);
+        self.pager.is_whole();
+        taken
+    }
+
+    fn load_drop(&mut self, load: LoadNumber) -> Result<(), Error> {
+        let dropped = self.pager.load_drop(load);
+        self.pager.is_whole();
+        dropped
+    }
+}

@@ -1,0 +1,83 @@
+//! What page-out workers ask of the pager.
+
+ghost use Rattle.std.specs.Prelude.{◌≡◌, ◌<◌, ◌≤◌, length, IfSome, IfNone};
+ghost use Rattle.pagable_world.specs.Kinds.{is_loose};
+ghost use Rattle.pagable_world.specs.World.{key_at};
+ghost use Rattle.pagable_world.specs.Cascade.{FallsAnyhow};
+ghost use Rattle.pagable_world.specs.Calls.{Looks};
+ghost use Rattle.pagable_world.specs.Workers.{claim_fault, is_workers_at, WorkerEnds};
+ghost use Rattle.pagable_world.specs.Events.{IsEntry};
+ghost use Rattle.pagable_tables.specs.Giving.{BeginsWorker, TakesWorker};
+ghost use Rattle.pagable_pager.specs.View.{core_in, telling, OnlyTables, OnlyLess};
+
+use crate::pager::Pager;
+use pagable_codec::{Env, NodeSet};
+use pagable_core::PagableStorage;
+use pagable_model::{ArcRef, Error, HandleNumber, NodeNumber, OptionalDataKey, WorkerNumber};
+use pagable_tables::{lookups, references, workers};
+use pagable_world::handles::HandleRow;
+
+impl<E: Env, S: PagableStorage<E>> Pager<E, S>
+where
+    E::Node: NodeSet<E>,
+{
+    /// Why what a reference names can't be claimed for page-out, whoever owns its handle: NoSuchHandle where the handle isn't live or isn't at the reference's
+    /// node, WrongMode and WrongKind where mode or type don't fit the kind.
+    pub(crate) fn claim_fault(&self, reference: ArcRef) -> Option<Error>
+        ensures { result ≡ claim_fault (core_in (telling S.stored S.is_closed S.failed) self.now) reference }
+    {
+        references::claim_fault(&self.tables, reference)
+    }
+
+    /// Whether a handle is loose. Refused with NoSuchHandle.
+    pub(crate) fn is_loose(&self, handle: HandleNumber) -> Result<bool, Error>
+        ensures { Looks (core_in (telling S.stored S.is_closed S.failed) self.now) handle (λ loose row. loose ≡ is_loose row.mode) result }
+    {
+        lookups::is_loose(&self.tables, handle)
+    }
+
+    /// The handle at this place of the list, with type and key of its cell. None past the end.
+    pub(crate) fn entry(&self, place: usize) -> Option<(HandleRow, u32, OptionalDataKey)>
+        ensures found { IfSome result (λ e. IsEntry (core_in (telling S.stored S.is_closed S.failed) self.now) place e.0.number e.0 e.1) }
+        ensures keyed { IfSome result (λ e. key_at (core_in (telling S.stored S.is_closed S.failed) self.now) e.0.node.0 ≡ e.2) }
+        ensures past { IfNone result (length (core_in (telling S.stored S.is_closed S.failed) self.now).list ≤ place) }
+    {
+        lookups::entry(&self.tables, place)
+    }
+
+    /// One worker more is at work. Refused with OutOfMemory.
+    pub(crate) fn worker_begin(&mut self) -> Result<WorkerNumber, Error>
+        ensures step { BeginsWorker (core_in (telling S.stored S.is_closed S.failed) self.old) result (core_in (telling S.stored S.is_closed S.failed) self.new) }
+        ensures only { OnlyTables self.old self.new }
+    {
+        workers::worker_begin(&mut self.tables)
+    }
+
+    /// The same, for the entry at this place of the list, which moves to the worker. Refused with OutOfMemory.
+    pub(crate) fn worker_take(&mut self, place: usize) -> Result<WorkerNumber, Error>
+        requires { place < length (core_in (telling S.stored S.is_closed S.failed) self.old).list }
+        ensures step { TakesWorker (core_in (telling S.stored S.is_closed S.failed) self.old) place result (core_in (telling S.stored S.is_closed S.failed) self.new) }
+        ensures only { OnlyTables self.old self.new }
+    {
+        workers::worker_take(&mut self.tables, place)
+    }
+
+    /// A worker gives up all handles that it has at a node, with all that goes with them.
+    pub(crate) fn release_node(&mut self, worker: WorkerNumber, node: NodeNumber)
+        ensures step { FallsAnyhow (core_in (telling S.stored S.is_closed S.failed) self.old) (core_in (telling S.stored S.is_closed S.failed) self.old)
+            (is_workers_at (core_in (telling S.stored S.is_closed S.failed) self.old) worker.0 node.0) (core_in (telling S.stored S.is_closed S.failed) self.new) }
+        ensures only { OnlyLess self.old self.new }
+    {
+        let lists = !self.storage.has_closed();
+        workers::release_node(&mut self.tables, &mut self.values, worker, node, lists);
+    }
+
+    /// A worker ends: its loads are closed, and it gives up whatever it and they still have, with all that goes with it.
+    pub(crate) fn worker_end(&mut self, worker: WorkerNumber)
+        ensures step { WorkerEnds (core_in (telling S.stored S.is_closed S.failed) self.old) worker.0 (core_in (telling S.stored S.is_closed S.failed) self.new) }
+        ensures only { OnlyLess self.old self.new }
+    {
+        let lists = !self.storage.has_closed();
+        workers::worker_end(&mut self.tables, &mut self.values, worker, lists);
+    }
+}

@@ -1,0 +1,79 @@
+-- No live row of a number passes a test.
+use Rattle.std.proofs.Common.{◌≡◌, ℕ, ◌+◌, ◌<◌, ◌≤◌, Bool, true, false, if◌then◌else◌, List, [], ◌∷◌, suc, length, get_or, refl, ap, sym, ◌∙◌, arith, Some, slice_get, inl, inr}
+use Rattle.std.specs.Prelude.{◌⊎◌}
+use Rattle.std.specs.List.{AllPairs}
+use Rattle.std.proofs.lemmas.Option.{slice_get-get_or}
+use Rattle.pagable_world.specs.declared.handles.HandleRow.{HandleRow}
+use Rattle.pagable_world.specs.Kinds.{is_handle, find_row}
+use Rattle.std.proofs.lemmas.Bool.Decides.{nat_tests}
+use Rattle.std.proofs.lemmas.List.{get_or_default}
+use Rattle.pagable_tables.specs.declared.rows.Place.{Place}
+use Rattle.pagable_tables.specs.Live.{live, alive, IsBefore}
+use Rattle.pagable_tables.specs.Giving.{passes_in}
+use Rattle.pagable_tables.proofs.Alive.{row-live}
+use Rattle.pagable_tables.proofs.Order.{smaller-up, greater-from}
+use Rattle.pagable_tables.proofs.Regiven.{passes-here, passes-none}
+
+none-passes : (test : HandleRow → Bool) (q : ℕ) (ss : List Place) → ((k : ℕ) (d : Place) → k < length ss → (get_or ss k d).row.number.0 ≡ q → (get_or ss k d).is_live ≡ true → test (get_or ss k d).row ≡ false)
+    → passes_in test (live ss) q ≡ false
+none-passes test q [] h = passes-none test q
+none-passes test q (s ∷ ss) h = by s.is_live refl (none-passes test q ss (λ k d lt e. h (suc k) d (omega arith) e))
+  where
+    here : s.is_live ≡ true → (b : Bool) → is_handle q s.row ≡ b → passes_in test (live ss) q ≡ false → (if b then test s.row else passes_in test (live ss) q) ≡ false
+    here e true is rest = h 0 s (omega arith) (grind (arith, nat_tests)) e
+    here e false is rest = rest
+
+    by : (b : Bool) → s.is_live ≡ b → passes_in test (live ss) q ≡ false → passes_in test (if b then s.row ∷ live ss else live ss) q ≡ false
+    by true e rest = passes-here test q s.row (live ss) ∙ here e (is_handle q s.row) refl rest
+    by false e rest = rest
+
+before-or-not : (k p : ℕ) → (k < p) ⊎ (p ≤ k)
+before-or-not k p = grind arith
+
+-- below a place numbers are smaller, and from there on those that pass are too great
+pub none-from : (test : HandleRow → Bool) (ss : List Place) (p q left : ℕ) → ((k : ℕ) (d : Place) → k < p → (get_or ss k d).row.number.0 < q) → q ≤ left
+    → ((k : ℕ) (d : Place) → p ≤ k → k < length ss → (get_or ss k d).is_live ≡ true → test (get_or ss k d).row ≡ true → left < (get_or ss k d).row.number.0) → passes_in test (live ss) q ≡ false
+none-from test ss p q left below within above = none-passes test q ss (λ k d lt number lives. at k d lt number lives (test (get_or ss k d).row) refl)
+  where
+    at : (k : ℕ) (d : Place) → k < length ss → (get_or ss k d).row.number.0 ≡ q → (get_or ss k d).is_live ≡ true → (b : Bool) → test (get_or ss k d).row ≡ b → b ≡ false
+    at k d lt number lives true is = elim (before-or-not k p) [
+      | inl first ↦ (let a = below k d first in absurd (omega arith))
+      | inr after ↦ (let a = above k d after lt lives is in absurd (omega arith))
+    ]
+    at k d lt number lives false is = refl
+
+module _ (ss : List Place) (m : ℕ) (p : Place) (within : m < length ss) (is : p ≡ get_or ss m p) where
+  number : p.row.number.0 ≡ (get_or ss m p).row.number.0
+  number = ap (λ (x : Place). x.row.number.0) is
+
+  -- all places from one above a number on are above it
+  pub above-from : (q : ℕ) → AllPairs IsBefore ss → q < p.row.number.0 → (k : ℕ) (d : Place) → m ≤ k → k < length ss → q < (get_or ss k d).row.number.0
+  above-from q ordered more =
+      let n = number in
+      greater-from (λ (x : Place). x.row.number.0) ss m q p ordered within (omega arith) (λ (same : (get_or ss m p).row.number.0 ≡ q). absurd (omega arith))
+
+  -- all places up to one that isn't above a number are below each greater one
+  pub below-to : (since q : ℕ) → AllPairs IsBefore ss → p.row.number.0 ≤ since → since < q → (k : ℕ) (d : Place) → k < m + 1 → (get_or ss k d).row.number.0 < q
+  below-to since q ordered up over = let n = number in smaller-up (λ (x : Place). x.row.number.0) ss m q p ordered within (omega arith)
+
+  pub place-got : p.is_live ≡ true → slice_get ss m ≡ Some (alive p.row)
+  place-got lives = slice_get-get_or ss m p within ∙ ap Some (sym is) ∙ ap (λ b. Some (record { row = p.row; is_live = b })) lives
+
+  pub row-there : AllPairs IsBefore ss → p.is_live ≡ true → find_row p.row.number.0 (live ss) ≡ Some p.row
+  row-there ordered lives = row-live ss m p.row ordered (place-got lives)
+
+  same-or-past : (k : ℕ) → m ≤ k → (k ≡ m) ⊎ (m + 1 ≤ k)
+  same-or-past k le = grind arith
+
+  -- what is so at a place and from the next one on is so from that place on
+  pub up-from : {L : Type 0} (left : ℕ) (test : HandleRow → Bool) → (L → p.is_live ≡ true → test p.row ≡ true → left < p.row.number.0)
+      → (L → (k : ℕ) (d : Place) → m + 1 ≤ k → k < length ss → (get_or ss k d).is_live ≡ true → test (get_or ss k d).row ≡ true → left < (get_or ss k d).row.number.0)
+      → (k : ℕ) (d : Place) → L → m ≤ k → k < length ss → (get_or ss k d).is_live ≡ true → test (get_or ss k d).row ≡ true → left < (get_or ss k d).row.number.0
+  up-from left test here rest k d loads from lt lives passes = elim (same-or-past k from) [
+    | inl same ↦
+        let at : get_or ss k d ≡ p = ap (λ n. get_or ss n d) same ∙ get_or_default ss m d p within ∙ sym is in
+        let a = here loads (sym (ap (λ (x : Place). x.is_live) at) ∙ lives) (sym (ap (λ (x : Place). test x.row) at) ∙ passes) in
+        let b = ap (λ (x : Place). x.row.number.0) at in
+        omega arith
+    | inr past ↦ rest loads k d past lt lives passes
+  ]

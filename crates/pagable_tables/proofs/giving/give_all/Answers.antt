@@ -1,0 +1,55 @@
+use Rattle.std.proofs.Common.{[], refl, arith, None}
+use Rattle.std.specs.Option.{option_map}
+use Rattle.pagable_tables.specs.ByNumber.{load_at}
+use Rattle.pagable_tables.specs.Core.{load_in}
+use Rattle.pagable_tables.specs.Falling.{owns_nothing}
+use Rattle.pagable_tables.proofs.Begun.{aside}
+use Rattle.pagable_tables.proofs.GivenAll.{bare, given-plain, none-past, one-past, all-past}
+use Rattle.pagable_tables.proofs.Shedding.{sheds-still, sheds-then}
+use Rattle.pagable_tables.proofs.giving.give_all.Goals as goal
+
+pub loop-at-init : goal.loop-at-init
+loop-at-init g c = (
+  aside c.args.t.now None [] owns_nothing c.requires,
+  omega arith,
+  λ before u w loads f few between. none-past before u w c.args.lists c.args.giving (record c.args.t.now { unlisted = None }) c.args.t.now.last_handle (λ q e. (between q e).1) f,
+  sheds-still c.args.t.now _ c.requires,
+)
+
+pub loop-at-smaller : goal.loop-at-smaller
+loop-at-smaller g c = let b = c.in-Some.ensures.between in let b0 = b.0 in let b1 = b.1 in omega arith
+
+pub shed-requires-clause-plain : goal.shed-requires-clause-plain
+shed-requires-clause-plain g c =
+    let w = bare (λ l. option_map load_in (load_at c.args.loads.now l)) in
+    (given-plain w c.args.giving c.in-Some.at.row.owner c.in-Some.at.row.node (c.in-Some.ensures.gives w (λ l. refl))).0
+
+pub shed-requires-clause-steady : goal.shed-requires-clause-steady
+shed-requires-clause-steady g c = c.loop-at.invariant.0
+
+pub loop-at-preserved : goal.loop-at-preserved
+loop-at-preserved g c =
+    let i = c.loop-at.invariant in
+    let x = c.in-Some.at.row in
+    let b = c.in-Some.ensures.between in
+    let fewer = i.1 in
+    let next = c.shed.ensures.fewer in (
+      c.shed.ensures.steady,
+      omega arith,
+      λ before u w loads f few between. one-past before u w c.args.lists c.args.giving c.loop-at.t c.shed.new.t c.args.since c.loop-at.left x b.0 b.1 c.in-Some.ensures.found (c.in-Some.ensures.gives w loads)
+          (λ q above below. c.in-Some.ensures.last w q loads above below)
+          (λ given s. c.shed.ensures.so_far before u given s (omega arith) (given-plain w c.args.giving x.owner x.node (c.in-Some.ensures.gives w loads)).1) (i.2 before u w loads f few between),
+      sheds-then i.3 c.shed.ensures.sheds,
+    )
+
+pub fall-requires : goal.fall-requires
+fall-requires g c = record { falling = ([], c.loop-at.invariant.0, omega arith) }
+
+pub returns-clause-falls : goal.returns-clause-falls
+returns-clause-falls g c before u w loads f few between =
+    let i = c.loop-at.invariant in
+    c.fall.ensures.falls before u _ (all-past before u w c.args.lists c.args.giving c.loop-at.t c.args.since c.loop-at.left (λ q e. (between q e).0) (λ q above below. c.in_default.ensures.none w q loads above below)
+    (i.2 before u w loads f few between))
+
+pub returns-clause-sheds : goal.returns-clause-sheds
+returns-clause-sheds g c = sheds-then c.loop-at.invariant.3 c.fall.ensures.sheds

@@ -1,0 +1,22 @@
+use Rattle.std.proofs.Common.{◌≡◌, ℕ, nat_eq, ◌<◌, ◌≤◌, [], length, true, None}
+use Rattle.pagable_world.specs.World.{Core}
+use Rattle.pagable_world.specs.Cascade.{nobody}
+use Rattle.indexmap.specs.IndexMap.{get}
+use Rattle.pagable_tables.specs.Live.{live}
+use Rattle.pagable_tables.specs.ByNumber.{counts_at}
+use Rattle.pagable_tables.specs.Falling.{IsFalling, Sheds, owns_nothing}
+use Rattle.pagable_tables.specs.Onward.{SoFar}
+use Rattle.pagable_tables.specs.Giving.{gives_row, passes_in, LoadsAre}
+use Rattle.pagable_tables.proofs.GivenAll.{past_of}
+use Rattle.pagable_tables.proofs.giving.give_all.Given as goal
+
+abbrev pub invariant-loop-at : goal.invariant-loop-at
+invariant-loop-at g l =
+    IsFalling l.t [] owns_nothing
+    × (length (live l.t.handles.places.items) ≤ length (live l.fn.t.handles.places.items))
+    × ((before u w : Core) → LoadsAre l.loads w → SoFar before u nobody l.lists (record l.fn.t { unlisted = None }) → length (live l.fn.t.handles.places.items) ≤ length u.rows
+    → ((q : ℕ) → passes_in (gives_row w l.giving) u.rows q ≡ true → (l.since < q) × (q ≤ l.fn.t.last_handle)) → SoFar before u (past_of u w l.giving l.left) l.lists l.t)
+    × Sheds (counts_at l.fn.t.nodes) (get nat_eq l.fn.values) (counts_at l.t.nodes) (get nat_eq l.values)
+
+abbrev pub decreases-loop-at : goal.decreases-loop-at
+decreases-loop-at g l = l.left

@@ -1,0 +1,41 @@
+use Rattle.std.proofs.Common.{◌-◌, arith}
+use Rattle.pagable_tables.specs.Giving.{gives_row}
+use Rattle.pagable_tables.proofs.LastGiven.{none-from, below-to, place-got, row-there, up-from}
+use Rattle.pagable_tables.proofs.giving.last_given.Goals as goal
+
+pub loop-place-init : goal.loop-place-init
+loop-place-init c = record { within = omega arith; passed = λ w k d loads from lt lives gives. c.up_to-place.ensures.above k d from lt }
+
+pub loop-place-preserved : goal.loop-place-preserved
+loop-place-preserved c =
+    let i = c.loop-place.invariant in
+    record {
+      within = omega arith;
+      passed = λ w. up-from c.args.handles.now.places.items (c.loop-place.place - 1) c.index-found.result.now (omega arith) c.index-found.ensures c.args.left (gives_row w c.args.giving)
+          (λ loads. c.is_given.ensures.no c.if-is_given.false w loads) (λ loads k d from lt lives gives. i.passed w k d loads (omega arith) lt lives gives);
+    }
+
+pub returns-then-found-since-clause-none : goal.returns-then-found-since-clause-none
+returns-then-found-since-clause-none c w q loads above below =
+    let ss = c.args.handles.now.places.items in
+    none-from (gives_row w c.args.giving) ss c.loop-place.place q c.args.left
+    (λ k d lt. below-to ss (c.loop-place.place - 1) c.index-found.result.now (omega arith) c.index-found.ensures c.args.since q c.requires.ordered c.if-found-since.true above k d (omega arith)) below
+    (λ k d from lt lives gives. c.loop-place.invariant.passed w k d loads from lt lives gives)
+
+pub returns-then-is_given-clause-place : goal.returns-then-is_given-clause-place
+returns-then-is_given-clause-place c = place-got c.args.handles.now.places.items (c.loop-place.place - 1) c.index-found.result.now (omega arith) c.index-found.ensures (c.is_given.ensures.yes c.if-is_given.true).0
+
+pub returns-then-is_given-clause-found : goal.returns-then-is_given-clause-found
+returns-then-is_given-clause-found c = row-there c.args.handles.now.places.items (c.loop-place.place - 1) c.index-found.result.now (omega arith) c.index-found.ensures c.requires.ordered (c.is_given.ensures.yes c.if-is_given.true).0
+
+pub returns-then-is_given-clause-last : goal.returns-then-is_given-clause-last
+returns-then-is_given-clause-last c w q loads above below =
+    let ss = c.args.handles.now.places.items in
+    let p = c.index-found.result.now in
+    none-from (gives_row w c.args.giving) ss c.loop-place.place q c.args.left
+    (λ k d lt. below-to ss (c.loop-place.place - 1) p (omega arith) c.index-found.ensures p.row.number.0 q c.requires.ordered (omega arith) above k d (omega arith)) below
+    (λ k d from lt lives gives. c.loop-place.invariant.passed w k d loads from lt lives gives)
+
+pub returns-clause-none : goal.returns-clause-none
+returns-clause-none c w q loads above below =
+    none-from (gives_row w c.args.giving) c.args.handles.now.places.items c.loop-place.place q c.args.left (λ k d lt. absurd (omega arith)) below (λ k d from lt lives gives. c.loop-place.invariant.passed w k d loads from lt lives gives)

@@ -1,0 +1,40 @@
+use Rattle.std.proofs.Common.{◌≡◌, arith, ap, sym, ◌∙◌, None, Some}
+use Rattle.std.proofs.lemmas.Option.{slice_get-get_or}
+use Rattle.pagable_model.specs.declared.numbers.HandleNumber.{HandleNumber}
+use Rattle.pagable_world.specs.Plain.{if_there}
+use Rattle.pagable_world.specs.Kinds.{find_row}
+use Rattle.pagable_world.specs.World.{Cell}
+use Rattle.pagable_tables.specs.Live.{live}
+use Rattle.pagable_tables.specs.ByNumber.{counts_at}
+use Rattle.pagable_tables.specs.Falling.{holds_in, cell_in}
+use Rattle.pagable_tables.proofs.Alive.{row-le-live}
+use Rattle.pagable_tables.proofs.Fitting.{handle_of, held-here}
+use Rattle.pagable_tables.proofs.Owned.{entry-lives}
+use Rattle.pagable_tables.proofs.lookups.entry.Goals as goal
+
+pub unreachable-requires : goal.unreachable-requires
+unreachable-requires c =
+    let t = c.args.t.now.holdings in
+    let h = c.index-handle.result.now in
+    entry-lives t.list.items t.handles.places.items c.args.place h (omega arith) c.index-handle.ensures (c.requires.core.owners_there.listed h.0) c.in_default.ensures.none
+
+pub unreachable-requires-in_default-counts_of : goal.unreachable-requires-in_default-counts_of
+unreachable-requires-in_default-counts_of c =
+    let t = c.args.t.now.holdings in
+    let row = c.in-Some.at.row in
+    let w = c.requires.steady.fits.holding row.node.0 in
+    let a : counts_at t.nodes row.node.0 ≡ None = sym c.counts_of.ensures ∙ c.in_default-counts_of.is in
+    let b = ap holds_in a in
+    let l = row-le-live (handle_of row.node.0) t.handles.places.items c.in-Some.at.place row c.in-Some.ensures.place in
+    let h = held-here row in
+    absurd (omega arith)
+
+pub returns-clause-found : goal.returns-clause-found
+returns-clause-found c stored closed failures =
+    let t = c.args.t.now.holdings in
+    let number = c.in-Some.ensures.number in
+    record {
+      listed = slice_get-get_or t.list.items c.args.place c.index-handle.result.now (omega arith) ∙ ap Some (sym c.index-handle.ensures ∙ sym number);
+      live = ap (λ (h : HandleNumber). find_row h.0 (live t.handles.places.items)) number ∙ c.in-Some.ensures.found;
+      typed = ap (λ o. if_there (λ (cell : Cell). Some cell.node_type) None (cell_in o)) (sym c.counts_of.ensures ∙ c.in-Some-counts_of.is);
+    }

@@ -1,0 +1,23 @@
+use Rattle.std.proofs.Common.{◌≡◌, ◌∙◌, ap, filter, not, rules, nat_eq, Option, Some, None, Bool, true, false, if◌then◌else◌, refl}
+use Rattle.std.specs.Map.{lookup}
+use Rattle.std.proofs.lemmas.Cmp.{nat_eq_equiv}
+use Rattle.std.proofs.lemmas.Map.Entries.{option_filter, lookup-filter-values}
+use Rattle.indexmap.proofs.CallerLemmas.{filter-RetainsPairs}
+use Rattle.pagable_world.specs.Kinds.{is_owner, owner_worker}
+use Rattle.pagable_tables.specs.declared.rows.LoadRow.{LoadRow}
+use Rattle.pagable_tables.specs.Giving.{left_load}
+use Rattle.pagable_tables.proofs.workers.close_loads.Goals as goal
+
+kept : (b : Bool) (row : LoadRow) → (if not b then Some row else None) ≡ (if b then None else Some row)
+kept true row = refl
+kept false row = refl
+
+filtered : (v : _) (row : Option LoadRow) → option_filter (λ (row : LoadRow). not (is_owner (owner_worker v) row.owner)) row ≡ left_load v row
+filtered v None = refl
+filtered v (Some row) = kept (is_owner (owner_worker v) row.owner) row
+
+pub returns : goal.returns
+returns c l =
+    let old = c.args.loads.now.entries in
+    let e : c.retain.new.self.entries ≡ filter (λ p. not (is_owner (owner_worker c.args.worker.0) p.1.owner)) old = filter-RetainsPairs _ _ _ (λ k v b w g call. search rules) _ _ c.retain.ensures.filtered in
+    ap (lookup (nat_eq l)) e ∙ lookup-filter-values nat_eq_equiv (λ (row : LoadRow). not (is_owner (owner_worker c.args.worker.0) row.owner)) l old c.len-many.ensures.unique ∙ filtered c.args.worker.0 (lookup (nat_eq l) old)

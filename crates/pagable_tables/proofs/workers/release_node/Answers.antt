@@ -1,0 +1,36 @@
+use Rattle.std.proofs.Common.{not, refl, None, arith}
+use Rattle.pagable_world.specs.Workers.{is_workers_at}
+use Rattle.pagable_tables.specs.Core.{core_of, plain_of}
+use Rattle.pagable_tables.specs.Giving.{gives_row}
+use Rattle.pagable_tables.specs.declared.giving.Giving.TheVariants as givings
+use Rattle.pagable_tables.proofs.Begun.{begun-whole, not-closed}
+use Rattle.pagable_tables.proofs.Dropped.{passes-given}
+use Rattle.pagable_tables.proofs.Newer.{newer-falls, later-so}
+use Rattle.pagable_tables.proofs.keeps.Fallen.{may-fall}
+use Rattle.pagable_tables.proofs.keeps.GoingOn.{stays-on}
+use Rattle.pagable_tables.proofs.keeps.Opened.{falls-opened}
+use Rattle.pagable_tables.proofs.keeps.Placed.{whole-so}
+use Rattle.pagable_tables.proofs.keeps.Told.{roomy-whole}
+use Rattle.pagable_tables.proofs.workers.release_node.Goals as goal
+
+pub returns-clause-released : goal.returns-clause-released
+returns-clause-released g c stored closed failures e =
+    let t = c.args.t.now in
+    let w = core_of t stored closed failures in
+    record {
+      told = c.give_all.result;
+      falls = c.give_all.ensures.falls w w w (λ l. refl) (begun-whole t stored closed c.args.lists failures c.requires e) (omega arith)
+          (λ q is. passes-given (gives_row w (givings.AtNode c.args.worker c.args.node)) (plain_of t) q c.requires.core.handles is);
+    }
+
+pub returns-clause-whole : goal.returns-clause-whole
+returns-clause-whole g c =
+    let is = c.requires.core in
+    let w = core_of c.args.t.now (λ key. None) (not c.args.lists) 0 in
+    let falls = (returns-clause-released g c (λ key. None) (not c.args.lists) 0 (not-closed c.args.lists)).falls in
+    whole-so c.give_all.ensures.steady (falls-opened (may-fall (is_workers_at w c.args.worker.0 c.args.node.0) is (roomy-whole is) (stays-on (plain_of c.args.t.now))) falls)
+
+pub returns-clause-later : goal.returns-clause-later
+returns-clause-later g c later =
+    let n = newer-falls (returns-clause-released g c (λ key. None) (not c.args.lists) 0 (not-closed c.args.lists)).falls in
+    later-so later (record { last = n.last; owned = n.owned }) (λ l load is. is)

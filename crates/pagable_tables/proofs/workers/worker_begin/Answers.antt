@@ -1,0 +1,64 @@
+use Rattle.std.proofs.Common.{◌+◌, refl, ap, arith, rules, None, false}
+use Rattle.pagable_world.specs.Plain.{is_in}
+use Rattle.pagable_tables.specs.Core.{core_of}
+use Rattle.pagable_tables.proofs.Worlds.{same-cache}
+use Rattle.pagable_tables.proofs.LeftWork.{worker-comes}
+use Rattle.pagable_tables.proofs.keeps.Told.{settles, alike-whole, roomy-whole}
+use Rattle.pagable_tables.proofs.keeps.WorkerCalls.{worker-whole}
+use Rattle.pagable_tables.proofs.keeps.Placed.{whole-so}
+use Rattle.pagable_tables.proofs.workers.worker_begin.Goals as goal
+
+pub returns-clause-begun : goal.returns-clause-begun
+returns-clause-begun c stored closed failures =
+    let t = c.args.t.now in
+    let w = core_of t stored closed failures in
+    record {
+      begun = (
+        refl,
+        record {
+          rows = refl;
+          cells = λ n. refl;
+          list = refl;
+          cache = same-cache _ _ refl (λ n. refl) (λ kind key. refl);
+          stored = λ q. refl;
+          closed = refl;
+          failures = refl;
+          loads = λ q. refl;
+          workers = worker-comes t.workers.items c.push.new.self.items (t.last_worker + 1) (search rules);
+          last = refl;
+          places = record { handles = omega arith; entries = omega arith };
+        },
+      );
+      refused = tt;
+    }
+
+pub returns-then-is_err-clause-begun : goal.returns-then-is_err-clause-begun
+returns-then-is_err-clause-begun c stored closed failures =
+    record {
+      begun = tt;
+      refused = (
+        refl,
+        record {
+          rows = refl;
+          cells = λ n. refl;
+          list = refl;
+          cache = same-cache _ _ refl (λ n. refl) (λ kind key. refl);
+          stored = λ q. refl;
+          closed = refl;
+          failures = refl;
+          loads = λ q. refl;
+          workers = λ q. ap (λ l. is_in l q) (search rules);
+          last = refl;
+          places = record { handles = omega arith; entries = omega arith };
+        },
+      );
+    }
+
+pub returns-clause-more : goal.returns-clause-more
+returns-clause-more c = worker-comes c.args.t.now.workers.items c.push.new.self.items (c.args.t.now.last_worker + 1) (search rules)
+
+pub returns-then-is_err-clause-whole : goal.returns-then-is_err-clause-whole
+returns-then-is_err-clause-whole c = whole-so c.requires.steady (alike-whole c.requires.core (returns-then-is_err-clause-begun c (λ key. None) false 0).refused.1)
+
+pub returns-clause-whole : goal.returns-clause-whole
+returns-clause-whole c = whole-so c.requires.steady (settles (roomy-whole (worker-whole c.requires.core)) (returns-clause-begun c (λ key. None) false 0).begun.1)

@@ -1,0 +1,37 @@
+use Rattle.std.proofs.Common.{◌∙◌, ap, sym, not, refl, None, arith}
+use Rattle.std.specs.Option.{option_map}
+use Rattle.pagable_world.specs.Workers.{without_worker, is_workers}
+use Rattle.pagable_tables.specs.ByNumber.{load_at}
+use Rattle.pagable_tables.specs.Core.{core_of, plain_of, load_in}
+use Rattle.pagable_tables.specs.Onward.{with_tables}
+use Rattle.pagable_tables.specs.Giving.{gives_row}
+use Rattle.pagable_tables.specs.declared.giving.Giving.TheVariants as givings
+use Rattle.pagable_tables.proofs.Begun.{not-closed}
+use Rattle.pagable_tables.proofs.Dropped.{begun-less, passes-given, loads-anew, workers-anew}
+use Rattle.pagable_tables.proofs.LeftWork.{load-leaves, left-was}
+use Rattle.pagable_tables.proofs.Newer.{newer-falls, later-so}
+use Rattle.pagable_tables.proofs.keeps.Placed.{whole-so}
+use Rattle.pagable_tables.proofs.keeps.WorkerCalls.{worker-end-whole}
+use Rattle.pagable_tables.proofs.workers.worker_end.Goals as goal
+
+pub returns-clause-ended : goal.returns-clause-ended
+returns-clause-ended g c stored closed failures e =
+    let t = c.args.t.now in
+    let v = c.args.worker.0 in
+    let w = core_of t stored closed failures in
+    let u = without_worker w v in
+    let h = c.give_all.new.t in
+    let r = c.give_all.result in
+    let w' = core_of (record t { holdings = h; loads = c.close_loads.new.loads; workers = c.leave.new.workers }) stored closed failures in
+    let falls = c.give_all.ensures.falls w u w (λ l. refl) (begun-less t u.loads u.workers stored closed c.args.lists failures c.requires e) (omega arith)
+    (λ q is. passes-given (gives_row w (givings.Worker c.args.worker)) (plain_of t) q c.requires.core.handles is) in
+    let loads = loads-anew w u (with_tables u h) (is_workers w v) r w'.loads (λ l. load-leaves v (load_at t.loads l) ∙ ap (option_map load_in) (sym (c.close_loads.ensures l))) falls in
+    record { told = r; falls = workers-anew w u (record (with_tables u h) { loads = w'.loads }) (is_workers w v) r w'.workers (λ q. sym (c.leave.ensures q)) loads }
+
+pub returns-clause-whole : goal.returns-clause-whole
+returns-clause-whole g c = whole-so c.give_all.ensures.steady (worker-end-whole c.args.worker.0 c.requires.core (returns-clause-ended g c (λ key. None) (not c.args.lists) 0 (not-closed c.args.lists)))
+
+pub returns-clause-later : goal.returns-clause-later
+returns-clause-later g c later =
+    let n = newer-falls (returns-clause-ended g c (λ key. None) (not c.args.lists) 0 (not-closed c.args.lists)).falls in
+    later-so later (record { last = n.last; owned = n.owned }) (λ l load is. left-was c.args.worker.0 (load_at c.args.t.now.loads l) load (sym (c.close_loads.ensures l) ∙ is))

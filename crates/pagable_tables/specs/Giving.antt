@@ -1,0 +1,57 @@
+-- Handles that are given up together, and workers that begin.
+use Rattle.std.specs.Prelude.{ℕ, ◌≡◌, ◌+◌, ◌==◌, ◌&&◌, ◌||◌, Bool, false, if◌then◌else◌, List, Option, Some, None, Result, IfOk, IfErr, slice_get}
+use Rattle.std.specs.Option.{option_map}
+use Rattle.indexmap.specs.IndexMap.{IndexMap}
+use Rattle.pagable_model.specs.declared.error.Error.{Error}
+use Rattle.pagable_model.specs.declared.error.Error.TheVariants as errors
+use Rattle.pagable_model.specs.declared.numbers.HandleNumber.{HandleNumber}
+use Rattle.pagable_model.specs.declared.numbers.NodeNumber.{NodeNumber}
+use Rattle.pagable_model.specs.declared.numbers.WorkerNumber.{WorkerNumber}
+use Rattle.pagable_world.specs.declared.handles.HandleRow.{HandleRow}
+use Rattle.pagable_world.specs.declared.handles.Owner.{Owner}
+use Rattle.pagable_world.specs.declared.handles.Owner.TheVariants as owners
+use Rattle.pagable_world.specs.Plain.{if_there}
+use Rattle.pagable_world.specs.Kinds.{is_owner, owner_worker, find_row}
+use Rattle.pagable_world.specs.World.{Core, Alike}
+use Rattle.pagable_world.specs.Workers.{is_load_of}
+use Rattle.pagable_world.specs.Events.{with_worker, with_entry_taken}
+use Rattle.pagable_tables.specs.declared.giving.Giving.{Giving}
+use Rattle.pagable_tables.specs.declared.giving.Giving.TheVariants as givings
+use Rattle.pagable_tables.specs.declared.rows.LoadRow.{LoadRow}
+use Rattle.pagable_tables.specs.ByNumber.{load_at}
+use Rattle.pagable_tables.specs.Core.{load_in}
+
+-- whether a handle of this owner at this node is given up
+abbrev pub gives : Core → Giving → Owner → NodeNumber → Bool
+gives w (givings.Load l) owner node = is_owner (owners.Load l) owner
+gives w (givings.AtNode v n) owner node = is_owner (owners.Worker v) owner && node.0 == n.0
+gives w (givings.Worker v) owner node = is_owner (owners.Worker v) owner || is_load_of w v.0 owner
+
+abbrev pub gives_row : Core → Giving → HandleRow → Bool
+gives_row w giving row = gives w giving row.owner row.node
+
+-- whether the row of this number, if it is among these, passes the test
+abbrev pub passes_in : (HandleRow → Bool) → List HandleRow → ℕ → Bool
+passes_in test rows q = if_there test false (find_row q rows)
+
+-- the open loads of a world are these
+abbrev pub LoadsAre : {S : Type 0} → IndexMap ℕ LoadRow S → Core → Type 0
+LoadsAre loads w = (l : ℕ) → w.loads l ≡ option_map load_in (load_at loads l)
+
+-- the rows of loads, but for those of the worker
+abbrev pub left_load : ℕ → Option LoadRow → Option LoadRow
+left_load v None = None
+left_load v (Some row) = if is_owner (owner_worker v) row.owner then None else Some row
+
+abbrev pub LeavesOthers : ℕ → (ℕ → Option LoadRow) → (ℕ → Option LoadRow) → Type 0
+LeavesOthers v at at' = (l : ℕ) → at' l ≡ left_load v (at l)
+
+-- one worker more is at work; or memory is wanting
+pub record BeginsWorker (w : Core) (r : Result WorkerNumber Error) (w' : Core) : Type 0 where
+  pub begun : IfOk r (λ v. (v.0 ≡ w.last.worker + 1) × Alike (with_worker w) w')
+  pub refused : IfErr r (λ e. (e ≡ errors.OutOfMemory) × Alike w w')
+
+-- the same, for an entry of the list, which moves to the worker
+pub record TakesWorker (w : Core) (place : ℕ) (r : Result WorkerNumber Error) (w' : Core) : Type 0 where
+  pub taken : IfOk r (λ v. (h : HandleNumber) × (slice_get w.list place ≡ Some h) × (v.0 ≡ w.last.worker + 1) × Alike (with_worker (with_entry_taken w place h v)) w')
+  pub refused : IfErr r (λ e. (e ≡ errors.OutOfMemory) × Alike w w')

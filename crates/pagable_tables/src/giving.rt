@@ -1,0 +1,156 @@
+//! Handles that are given up together: all that a load owns, or a worker.
+
+ghost use Rattle.std.specs.Prelude.{◌≡◌, ℕ, ◌<◌, ◌≤◌, [], length, get_or, slice_get, Some, None, IfSome, IfNone, true, false, nat_eq};
+ghost use Rattle.indexmap.specs.IndexMap.{get};
+ghost use Rattle.pagable_world.specs.Kinds.{find_row};
+ghost use Rattle.pagable_world.specs.World.{Core};
+ghost use Rattle.pagable_world.specs.Cascade.{Falls, nobody};
+ghost use Rattle.pagable_world.specs.Workers.{is_load_of};
+ghost use Rattle.pagable_tables.specs.declared.rows.Place.{Place};
+ghost use Rattle.pagable_tables.specs.Live.{live, alive, AreSound};
+ghost use Rattle.pagable_tables.specs.ByNumber.{counts_at};
+ghost use Rattle.pagable_tables.specs.Falling.{IsFalling, owns_nothing, Sheds};
+ghost use Rattle.pagable_tables.specs.Onward.{with_tables, SoFar};
+ghost use Rattle.pagable_tables.specs.Giving.{gives_row, passes_in, LoadsAre};
+
+use crate::cascade::{fall, shed};
+use crate::handles::Handles;
+use crate::holdings::Holdings;
+use crate::loads;
+use crate::rows::{HandleAt, LoadRow, Place};
+use crate::turning::is_owner;
+use indexmap::IndexMap;
+use pagable_model::{Error, LoadNumber, NodeNumber, WorkerNumber};
+use pagable_world::handles::{HandleRow, Owner};
+use std::sync::Arc;
+
+/// Whose handles are given up together.
+#[derive(Clone, Copy)]
+pub enum Giving {
+    /// All that this load owns.
+    Load(LoadNumber),
+    /// All that this worker owns at this node.
+    AtNode(WorkerNumber, NodeNumber),
+    /// All that this worker owns, or one of its loads.
+    Worker(WorkerNumber),
+}
+
+/// Whether this owner is a load of the worker's.
+fn is_load_of(loads: &IndexMap<u64, LoadRow>, worker: WorkerNumber, owner: Owner) -> bool
+    ensures { (w : Core) → LoadsAre loads.now w → result ≡ is_load_of w worker.0 owner }
+{
+    match owner {
+        Owner::Load(load) => match loads::load_of(loads, load.0) {
+            Some(row) => is_owner(Owner::Worker(worker), row.owner),
+            None => false,
+        },
+        Owner::Caller | Owner::Value(_) | Owner::List | Owner::Worker(_) => false,
+    }
+}
+
+/// Whether the handle of this row is given up.
+fn gives(loads: &IndexMap<u64, LoadRow>, giving: Giving, row: HandleRow) -> bool
+    ensures { (w : Core) → LoadsAre loads.now w → result ≡ gives_row w giving row }
+{
+    match giving {
+        Giving::Load(load) => is_owner(Owner::Load(load), row.owner),
+        Giving::AtNode(worker, node) => {
+            is_owner(Owner::Worker(worker), row.owner) && row.node.0 == node.0
+        }
+        Giving::Worker(worker) => {
+            is_owner(Owner::Worker(worker), row.owner) || is_load_of(loads, worker, row.owner)
+        }
+    }
+}
+
+/// How many places there are up to this number, found by halving.
+fn up_to(handles: &Handles, number: u64) -> usize
+    requires { AreSound handles.now }
+    ensures within { result ≤ length handles.now.places.items }
+    ensures above { (k : ℕ) (d : Place) → result ≤ k → k < length handles.now.places.items → number < (get_or handles.now.places.items k d).row.number.0 }
+{
+    let mut low = 0;
+    let mut high = handles.places.len();
+    while low < high {
+        let middle = low + (high - low) / 2;
+        let place = handles.places[middle];
+        if place.row.number.0 <= number {
+            low = middle + 1;
+        } else {
+            high = middle;
+        }
+    }
+    high
+}
+
+/// Whether the row of this place is live, of a number not above `left`, and given up.
+fn is_given(loads: &IndexMap<u64, LoadRow>, giving: Giving, place: Place, left: u64) -> bool
+    ensures yes { result ≡ true → (place.is_live ≡ true) × (place.row.number.0 ≤ left) × ((w : Core) → LoadsAre loads.now w → gives_row w giving place.row ≡ true) }
+    ensures no { result ≡ false → (w : Core) → LoadsAre loads.now w → place.is_live ≡ true → gives_row w giving place.row ≡ true → left < place.row.number.0 }
+{
+    if !place.is_live {
+        return false;
+    }
+    if place.row.number.0 > left {
+        return false;
+    }
+    gives(loads, giving, place.row)
+}
+
+/// The last handle that is given up, of a number above `since` and not above `left`.
+fn last_given(
+    handles: &Handles,
+    loads: &IndexMap<u64, LoadRow>,
+    giving: Giving,
+    since: u64,
+    left: u64,
+) -> Option<HandleAt>
+    requires { AreSound handles.now }
+    ensures place { IfSome result (λ at. slice_get handles.now.places.items at.place ≡ Some (alive at.row)) }
+    ensures found { IfSome result (λ at. find_row at.row.number.0 (live handles.now.places.items) ≡ Some at.row) }
+    ensures between { IfSome result (λ at. (since < at.row.number.0) × (at.row.number.0 ≤ left)) }
+    ensures gives { IfSome result (λ at. (w : Core) → LoadsAre loads.now w → gives_row w giving at.row ≡ true) }
+    ensures last { IfSome result (λ at. (w : Core) (q : ℕ) → LoadsAre loads.now w → at.row.number.0 < q → q ≤ left → passes_in (gives_row w giving) (live handles.now.places.items) q ≡ false) }
+    ensures none { IfNone result ((w : Core) (q : ℕ) → LoadsAre loads.now w → since < q → q ≤ left → passes_in (gives_row w giving) (live handles.now.places.items) q ≡ false) }
+{
+    let mut place = up_to(handles, left);
+    while place > 0 {
+        place -= 1;
+        let found = handles.places[place];
+        if found.row.number.0 <= since {
+            return None;
+        }
+        if is_given(loads, giving, found, left) {
+            return Some(HandleAt {
+                place,
+                row: found.row,
+            });
+        }
+    }
+    None
+}
+
+/// Handles are given up, from the last to the first, with all that goes with them: all of these whose numbers are above this one. NumbersSpent or OutOfMemory where a cell
+/// that had to be listed isn't.
+pub fn give_all<N: Drop>(
+    t: &mut Holdings,
+    values: &mut IndexMap<u64, Arc<N>>,
+    loads: &IndexMap<u64, LoadRow>,
+    giving: Giving,
+    since: u64,
+    lists: bool,
+) -> Result<(), Error>
+    requires { IsFalling t.old [] owns_nothing }
+    ensures steady { IsFalling t.new [] owns_nothing }
+    ensures falls { (before u w : Core) → LoadsAre loads.now w → SoFar before u nobody lists (record t.old { unlisted = None }) → length (live t.old.handles.places.items) ≤ length u.rows
+        → ((q : ℕ) → passes_in (gives_row w giving) u.rows q ≡ true → (since < q) × (q ≤ t.old.last_handle)) → Falls before u (passes_in (gives_row w giving) u.rows) result (with_tables u t.new) }
+    ensures sheds { Sheds (counts_at t.old.nodes) (get nat_eq values.old) (counts_at t.new.nodes) (get nat_eq values.new) }
+{
+    t.unlisted = None;
+    let mut left = t.last_handle;
+    while let Some(at) = last_given(&t.handles, loads, giving, since, left) {
+        left = at.row.number.0 - 1;
+        shed(t, values, at, lists);
+    }
+    fall(t, values, lists)
+}

@@ -1,0 +1,121 @@
+//! Page-out workers: they begin, give up what they have at a node, and end.
+
+ghost use Rattle.std.specs.Prelude.{◌≡◌, ◌==◌, ◌<◌, ◌+◌, ℕ, length, Bool, Option, IfOk, not, nat_eq, true, false};
+ghost use Rattle.pagable_world.specs.Plain.{Blob, is_in, updated};
+ghost use Rattle.pagable_world.specs.Kinds.{is_owner, owner_worker};
+ghost use Rattle.pagable_world.specs.Cascade.{FallsAnyhow};
+ghost use Rattle.pagable_world.specs.Workers.{WorkerEnds, is_workers_at};
+ghost use Rattle.indexmap.specs.IndexMap.{get};
+ghost use Rattle.pagable_tables.specs.ByNumber.{counts_at, load_at};
+ghost use Rattle.pagable_tables.specs.Falling.{Sheds};
+ghost use Rattle.pagable_tables.specs.Core.{core_of, IsWhole};
+ghost use Rattle.pagable_tables.specs.Giving.{BeginsWorker, TakesWorker, LeavesOthers};
+ghost use Rattle.pagable_tables.specs.Later.{AreLater};
+
+use crate::giving::{Giving, give_all};
+use crate::listing::take_pending;
+use crate::rows::LoadRow;
+use crate::tables::Tables;
+use crate::turning::is_owner;
+use indexmap::IndexMap;
+use pagable_model::{Error, NodeNumber, WorkerNumber};
+use pagable_world::handles::Owner;
+use std::sync::Arc;
+
+/// One worker more is at work. OutOfMemory where it has no place, or no number is left for it.
+pub fn worker_begin(t: &mut Tables) -> Result<WorkerNumber, Error>
+    requires { IsWhole t.old }
+    ensures begun { (stored : ℕ → Option Blob) (closed : Bool) (failures : ℕ) → BeginsWorker (core_of t.old stored closed failures) result (core_of t.new stored closed failures) }
+    ensures number { IfOk result (λ v. (v.0 ≡ t.old.last_worker + 1) × (t.new.last_worker ≡ t.old.last_worker + 1)) }
+    ensures more { IfOk result (λ v. (q : ℕ) → is_in t.new.workers.items q ≡ updated (t.old.last_worker + 1) true (is_in t.old.workers.items) q) }
+    ensures same { t.new ≡ record t.old { workers = t.new.workers; last_worker = t.new.last_worker } }
+    ensures whole { IsWhole t.new }
+    ensures later { AreLater t.old → AreLater t.new }
+{
+    if t.last_worker == u64::MAX {
+        return Err(Error::OutOfMemory);
+    }
+    let worker = t.last_worker + 1;
+    if t.workers.push(worker).is_err() {
+        return Err(Error::OutOfMemory);
+    }
+    t.last_worker = worker;
+    Ok(WorkerNumber(worker))
+}
+
+/// The same, for the entry at this place of the list, which moves to the worker.
+pub fn worker_take(t: &mut Tables, place: usize) -> Result<WorkerNumber, Error>
+    requires whole { IsWhole t.old }
+    requires within { place < length t.old.holdings.list.items }
+    ensures taken { (stored : ℕ → Option Blob) (closed : Bool) (failures : ℕ) → TakesWorker (core_of t.old stored closed failures) place result (core_of t.new stored closed failures) }
+    ensures whole { IsWhole t.new }
+    ensures later { AreLater t.old → AreLater t.new }
+{
+    let worker = match worker_begin(t) {
+        Ok(worker) => worker,
+        Err(e) => return Err(e),
+    };
+    let _ = take_pending(t, Owner::Worker(worker), place);
+    Ok(worker)
+}
+
+/// A worker gives up all handles that it has at a node, with all that goes with them.
+pub fn release_node<N: Drop>(
+    t: &mut Tables,
+    values: &mut IndexMap<u64, Arc<N>>,
+    worker: WorkerNumber,
+    node: NodeNumber,
+    lists: bool,
+)
+    requires { IsWhole t.old }
+    ensures released { (stored : ℕ → Option Blob) (closed : Bool) (failures : ℕ) → lists ≡ not closed
+        → FallsAnyhow (core_of t.old stored closed failures) (core_of t.old stored closed failures) (is_workers_at (core_of t.old stored closed failures) worker.0 node.0) (core_of t.new stored closed failures) }
+    ensures whole { IsWhole t.new }
+    ensures later { AreLater t.old → AreLater t.new }
+    ensures sheds { Sheds (counts_at t.old.holdings.nodes) (get nat_eq values.old) (counts_at t.new.holdings.nodes) (get nat_eq values.new) }
+{
+    let giving = Giving::AtNode(worker, node);
+    let _ = give_all(&mut t.holdings, values, &t.loads, giving, 0, lists);
+}
+
+/// The worker's loads aren't open any more.
+fn close_loads(loads: &mut IndexMap<u64, LoadRow>, worker: WorkerNumber)
+    ensures { LeavesOthers worker.0 (load_at loads.old) (load_at loads.new) }
+{
+    let _many = loads.len();
+    loads.retain(
+        |_load: &u64, row: &mut LoadRow| -> bool
+            ensures { (result ≡ not (is_owner (owner_worker worker.0) row.old.owner)) × (row.new ≡ row.old) }
+        { !is_owner(Owner::Worker(worker), row.owner) },
+    );
+}
+
+/// The worker isn't at work any more.
+fn leave(workers: &mut Vec<u64>, worker: u64)
+    ensures { (v : ℕ) → is_in workers.new.items v ≡ updated worker false (is_in workers.old.items) v }
+{
+    workers.retain(
+        |other: &u64| -> bool
+            ensures { result ≡ not (other.now == worker) }
+        { *other != worker },
+    );
+}
+
+/// A worker ends: its loads are closed, and it gives up whatever it and they still have, with all that goes with it.
+pub fn worker_end<N: Drop>(
+    t: &mut Tables,
+    values: &mut IndexMap<u64, Arc<N>>,
+    worker: WorkerNumber,
+    lists: bool,
+)
+    requires { IsWhole t.old }
+    ensures ended { (stored : ℕ → Option Blob) (closed : Bool) (failures : ℕ) → lists ≡ not closed → WorkerEnds (core_of t.old stored closed failures) worker.0 (core_of t.new stored closed failures) }
+    ensures whole { IsWhole t.new }
+    ensures later { AreLater t.old → AreLater t.new }
+    ensures sheds { Sheds (counts_at t.old.holdings.nodes) (get nat_eq values.old) (counts_at t.new.holdings.nodes) (get nat_eq values.new) }
+{
+    let giving = Giving::Worker(worker);
+    let _ = give_all(&mut t.holdings, values, &t.loads, giving, 0, lists);
+    close_loads(&mut t.loads, worker);
+    leave(&mut t.workers, worker.0);
+}
