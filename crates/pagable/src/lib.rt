@@ -136,7 +136,5 @@ pub use pagable_traits::{
     serialize_slice, serialize_str,
 };
 pub use pagable_world::handles::Owner;
-pub use pagable_world::{
-    Beginning, Call, Event, EventReply, Found, LoadAnswer, LoadReply, Mode, Pinning, Reply, Want,
-};
+pub use pagable_world::{Beginning, Call, Found, Mode, Pinning, Reply, Want};
 pub use paging::read_value;

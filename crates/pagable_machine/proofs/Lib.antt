@@ -1,4 +1,2 @@
-pub mod Leaving
-pub mod Keeping
+pub mod Nobody
 pub mod Running
-pub mod Happening

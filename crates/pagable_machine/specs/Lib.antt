@@ -1,4 +1,2 @@
 pub mod Serving
-pub mod Keeping
 pub mod Driving
-pub mod Unread

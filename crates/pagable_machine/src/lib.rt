@@ -5,7 +5,5 @@ mod calls;
 mod events;
 mod list;
 pub mod machine;
-mod readings;
-mod steps;
 
 pub use machine::Machine;

@@ -5,13 +5,11 @@ pub mod asked;
 pub mod looks;
 pub mod nodes;
 
-use crate::calls::asked::{events, split};
+use crate::calls::asked::{calls, split};
 use crate::calls::looks::look;
 use crate::calls::nodes::{CellEnv, CellNode};
 use anyhow::bail;
-use pagable::{
-    Call, Event, InMemoryBlobs, Machine, PagableData, PagableStorage, Pager, SerializedData,
-};
+use pagable::{Call, InMemoryBlobs, Machine, PagableData, PagableStorage, Pager};
 use pagable_examples::FailingStorage;
 use std::alloc::Global;
 
@@ -22,8 +20,6 @@ pub type CellPager = Pager<CellEnv, CellStorage>;
 pub type CellMachine = Machine<CellEnv, CellStorage>;
 
 pub type CellCall = Call<CellNode, PagableData>;
-
-pub type CellEvent = Event<CellNode, PagableData, SerializedData>;
 
 /// Answers rows of calls, by the machine that the last row of the word `machine` has made.
 #[derive(Drop)]
@@ -72,10 +68,10 @@ impl Calls {
     }
 }
 
-/// The answers to a row's events, which the machine gets as one list.
+/// The answers to a row's calls, which the machine gets as one list.
 fn run(alloc: Global, machine: &mut CellMachine, line: &str) -> anyhow::Result<String> {
-    let events = events(alloc, line)?;
-    match machine.run(alloc, events) {
+    let calls = calls(alloc, line)?;
+    match machine.run(alloc, calls) {
         Ok(replies) => answers::replies(alloc, replies.as_slice()),
         Err(_) => bail!("no memory for the replies"),
     }
