@@ -1,4 +1,3 @@
-pub mod Alone
 pub mod Carrying
 pub use Rattle.pagable_codec.proofs.Adding
 pub use Rattle.pagable_codec.proofs.Reading

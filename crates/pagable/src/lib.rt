@@ -43,7 +43,6 @@ pub mod impls {
 
 /// The pager, the machine that takes lists of events, and the references to shared values.
 pub mod pagable_arc {
-    pub use crate::paging::read_value;
     pub use pagable_arcs::{Arc, HoldingArc, PagableArc, PinnedPagableArc, PinnedPagableArcBorrow};
     pub use pagable_machine::Machine;
     pub use pagable_model::{LoadNumber, WorkerNumber};
@@ -117,7 +116,9 @@ pub use pagable_core::{
     PagableSerializerImpl, PagableStorage, References, SerializedData, SerializerForPaging,
     Sha256Key, WeighHash,
 };
-pub use pagable_flavors::{DataKey, Error, OptionalDataKey, PagableSlice, PagableVecFlavor};
+pub use pagable_flavors::{
+    DataKey, Error, OptionalDataKey, PagableSlice, PagableVecFlavor, Reason,
+};
 pub use pagable_machine::Machine;
 pub use pagable_model::{
     ArcRef, HandleNumber, Identity, Kind, LoadNumber, NodeNumber, PagableCursor, WorkerNumber,
@@ -136,5 +137,6 @@ pub use pagable_traits::{
     serialize_slice, serialize_str,
 };
 pub use pagable_world::handles::Owner;
-pub use pagable_world::{Beginning, Call, Found, Mode, Pinning, Reply, Want};
-pub use paging::read_value;
+pub use pagable_world::{
+    Beginning, Call, Event, EventReply, Found, LoadAnswer, LoadReply, Mode, Pinning, Reply, Want,
+};

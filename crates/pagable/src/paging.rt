@@ -1,127 +1,108 @@
-//! Pinning and page-out by the pure calls of the pager, one after the other, for values without references.
+//! Pins and readings of a lent pager; and page-out by its pure calls, one after the other, for values without references.
 
-ghost use Rattle.std.specs.Prelude.{◌≡◌, [], IfOk};
-ghost use Rattle.pagable_core.specs.Data.{blob_of};
-ghost use Rattle.pagable.specs.Alone.{ReadsAlone, MeansItsTree};
+ghost use Rattle.std.specs.Prelude.{◌≡◌};
+ghost use Rattle.std.specs.Arc.{arc_value};
+ghost use Rattle.pagable_world.specs.declared.handles.Owner.TheVariants as owners;
+ghost use Rattle.pagable_world.specs.World.{seen_as};
+ghost use Rattle.pagable_world.specs.Access.{PinsOver, ReadsOver};
+ghost use Rattle.pagable_loads.specs.Telling.{values_at};
+ghost use Rattle.pagable_pager.specs.View.{state_in, telling};
+ghost use Rattle.pagable.specs.Taken.{ReadsValue};
 
-use either::Either;
-use pagable_codec::{Env, NodeSet, SessionContext};
-use pagable_core::{
-    NoReferences, PagableData, PagableDeserializerImpl, PagableStorage, SerializerForPaging,
-};
-use pagable_model::{Error, HandleNumber, LoadNumber};
-use pagable_pager::Pager;
-use pagable_world::{Beginning, Pinning, Want};
+use pagable_codec::{Env, NodeSet, OfNode, SessionContext};
+use pagable_core::{PagableData, PagableStorage, SerializerForPaging};
+use pagable_loads::{pin_over, read_over};
+use pagable_model::{DataKey, Error, HandleNumber};
+use pagable_pager::{Lent, Pager};
+use pagable_world::Pinning;
 use std::alloc::Global;
 use std::sync::Arc;
 
-/// Pins a loose handle's cell, reading its value from the storage where it isn't in memory; one that holds references is
-/// refused as WrongKind. A refusal leaves the handle as it was, and no load open.
+// A pin by a lent pager: the borrow checker takes a lent struct where its own type is asked, and not where any access is.
+fn pin_by<'a, E: Env, S: PagableStorage<E>>(
+    lent: &mut Lent<'a, E, S>,
+    alloc: Global,
+    handle: HandleNumber,
+) -> Result<(HandleNumber, Arc<E::Node>), Error>
+where
+    E::Node: NodeSet<E>,
+    requires caller { lent.old.me ≡ owners.Caller }
+    ensures pins { PinsOver (values_at E.Node.NodeSet E.Env E.Hash.KeyHash lent.old.pager.now.environment) (state_in (telling S.stored S.is_closed S.failed) lent.old.pager.now)
+        handle (seen_as (λ a. (a.0, arc_value a.1)) result) (state_in (telling S.stored S.is_closed S.failed) lent.new.pager.now) }
+    ensures lender { lent.new.pager.ghost_name ≡ lent.old.pager.ghost_name }
+{
+    pin_over(lent, alloc, handle)
+}
+
+/// Pins a loose handle's cell, reading its value from the storage where it isn't in memory, with all that it refers to and that is read
+/// together with it. Answers the Pinned handle and the value, shared. A refusal leaves the handle as it was, and no load open.
 pub fn pin<E: Env, S: PagableStorage<E>>(
     alloc: Global,
     pager: &mut Pager<E, S>,
     handle: HandleNumber,
-) -> Result<HandleNumber, Error>
+) -> Result<(HandleNumber, Arc<E::Node>), Error>
 where
     E::Node: NodeSet<E>,
+    ensures pins { PinsOver (values_at E.Node.NodeSet E.Env E.Hash.KeyHash pager.old.environment) (state_in (telling S.stored S.is_closed S.failed) pager.old)
+        handle (seen_as (λ a. (a.0, arc_value a.1)) result) (state_in (telling S.stored S.is_closed S.failed) pager.new) }
 {
-    match pager.pin(handle)? {
-        Pinning::Pinned(pinned) => Ok(pinned),
-        Pinning::NeedsLoad(_) => load(alloc, pager, handle),
-    }
+    let mut lent = Lent::new(pager);
+    pin_by(&mut lent, alloc, handle)
 }
 
-/// Loads a cell, and pins it by its handle.
-fn load<E: Env, S: PagableStorage<E>>(
+// A reading by a lent pager.
+fn read_by<'a, E: Env, S: PagableStorage<E>>(
+    lent: &mut Lent<'a, E, S>,
     alloc: Global,
-    pager: &mut Pager<E, S>,
-    handle: HandleNumber,
-) -> Result<HandleNumber, Error>
-where
-    E::Node: NodeSet<E>,
-{
-    let node = pager.node_of(handle)?;
-    let Some(node_type) = pager.node_live(node) else {
-        return Err(Error::NoSuchHandle);
-    };
-    let Beginning::Load(load, _) = pager.load_begin(handle)? else {
-        return Err(Error::NoSuchHandle);
-    };
-    let outcome = finish(alloc, pager, load, node_type);
-    if outcome.is_err() {
-        // A load that is closed already is gone, and this changes nothing then.
-        let _ = pager.load_drop(load);
-    }
-    outcome
-}
-
-/// Ends a load with the value of its root, read as this type.
-fn finish<E: Env, S: PagableStorage<E>>(
-    alloc: Global,
-    pager: &mut Pager<E, S>,
-    load: LoadNumber,
-    node_type: u32,
-) -> Result<HandleNumber, Error>
-where
-    E::Node: NodeSet<E>,
-{
-    let blob = root_of(alloc, pager, load)?;
-    let value = read_value(pager.env(), alloc, blob.as_ref(), node_type)?;
-    ended(alloc, pager, load, value)
-}
-
-/// Reads a blob as a value of this type, in a session of its own, where each reference is refused as WrongKind, so that the
-/// value has none. What is left of the blob after the value is accepted. A refusal is the first fault of the blob, or one of the environment's own.
-pub fn read_value<E: Env>(
-    env: &E,
-    alloc: Global,
-    blob: &PagableData,
+    key: DataKey,
     node_type: u32,
 ) -> Result<E::Node, Error>
 where
     E::Node: NodeSet<E>,
-    ensures asked { IfOk result (λ x. E.Node.type_of x ≡ node_type) }
-    ensures none { IfOk result (λ x. E.Node.refs_of x ≡ []) }
-    ensures reads { ReadsAlone (E.Node.read_causes node_type) E.Node.means (record { nodes = E.Node.shape_of env.now; parts = E.parts env.now }) node_type (blob_of blob.now) result }
-    ensures tree { IfOk result (λ x. MeansItsTree (E.Node.means x) (record { nodes = E.Node.shape_of env.now; parts = E.parts env.now }) node_type (blob_of blob.now)) }
+    requires caller { lent.old.me ≡ owners.Caller }
+    ensures reads { ReadsOver (values_at E.Node.NodeSet E.Env E.Hash.KeyHash lent.old.pager.now.environment) (state_in (telling S.stored S.is_closed S.failed) lent.old.pager.now)
+        key node_type result (state_in (telling S.stored S.is_closed S.failed) lent.new.pager.now) }
+    ensures lender { lent.new.pager.ghost_name ≡ lent.old.pager.ghost_name }
 {
-    let session = SessionContext::new(alloc);
-    let mut deserializer = PagableDeserializerImpl::new(
-        blob.bytes.as_slice(),
-        blob.arcs.as_slice(),
-        NoReferences::new(env, &session),
-    );
-    E::Node::read(node_type, alloc, &mut deserializer)
+    read_over(lent, alloc, key, node_type)
 }
 
-/// The blob of a load's root.
-fn root_of<E: Env, S: PagableStorage<E>>(
+/// Reads a key as a value of this type, with all that it refers to and that is read together with it. The handles of its references are the
+/// caller's. A refusal leaves nothing of it.
+pub fn read<E: Env, S: PagableStorage<E>>(
     alloc: Global,
     pager: &mut Pager<E, S>,
-    load: LoadNumber,
-) -> Result<Arc<PagableData>, Error>
+    key: DataKey,
+    node_type: u32,
+) -> Result<E::Node, Error>
 where
     E::Node: NodeSet<E>,
+    ensures reads { ReadsOver (values_at E.Node.NodeSet E.Env E.Hash.KeyHash pager.old.environment) (state_in (telling S.stored S.is_closed S.failed) pager.old)
+        key node_type result (state_in (telling S.stored S.is_closed S.failed) pager.new) }
 {
-    match pager.load_fetch(alloc, load, Want::Root)? {
-        Either::Right(blob) => Ok(blob),
-        Either::Left(_) => Err(Error::NoSuchHandle),
-    }
+    let mut lent = Lent::new(pager);
+    read_by(&mut lent, alloc, key, node_type)
 }
 
-/// Ends a load with this value, which is given up where the load stays open.
-fn ended<E: Env, S: PagableStorage<E>>(
+/// Reads a key as a value of the type T, as `read` does, and answers the value that its node holds. Refused as `read`; and where memory is
+/// wanting to take the value out, or the node holds none, with the node, whose references' handles are the caller's.
+pub fn deserialize_pagable_data<E: Env, S: PagableStorage<E>, T: OfNode<E>>(
     alloc: Global,
     pager: &mut Pager<E, S>,
-    load: LoadNumber,
-    value: E::Node,
-) -> Result<HandleNumber, Error>
+    key: DataKey,
+) -> Result<Arc<T>, (Error, Option<E::Node>)>
 where
     E::Node: NodeSet<E>,
+    ensures reads { ReadsValue (values_at E.Node.NodeSet E.Env E.Hash.KeyHash pager.old.environment) arc_value T.held (state_in (telling S.stored S.is_closed S.failed) pager.old)
+        key T.TYPE result (state_in (telling S.stored S.is_closed S.failed) pager.new) }
 {
-    match pager.load_end(alloc, load, value) {
-        Ok(pinned) => Ok(pinned),
-        Err((refusal, _)) => Err(refusal),
+    match read(alloc, pager, key, T::TYPE) {
+        Ok(node) => match T::from_node(alloc, &node) {
+            Ok(Some(value)) => Ok(value),
+            Ok(None) => Err((Error::WrongKind, Some(node))),
+            Err(e) => Err((e, Some(node))),
+        },
+        Err(e) => Err((e, None)),
     }
 }
 

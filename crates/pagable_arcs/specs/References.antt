@@ -1,7 +1,6 @@
 -- References as values hold them: what they mean, and why they are read again and have one form.
 use Rattle.std.proofs.Common.{inl, inr, subst, sym}
-use Rattle.std.specs.Global.{Global}
-use Rattle.std.specs.Prelude.{◌≡◌, ◌⊎◌, String, refl, Bool, true, false, ℕ, ◌*◌, ◌+◌, List, codes}
+use Rattle.std.specs.Prelude.{◌≡◌, ◌⊎◌, refl, Bool, true, false, ℕ, ◌*◌, ◌+◌, List, codes}
 use Rattle.pagable_model.specs.Canonical.{IsCanonical, IsReadable, LiesIn}
 use Rattle.pagable_model.specs.Causes.{memory_is_own_reading}
 use Rattle.pagable_model.specs.Keyed.{throughout-alone}
@@ -9,6 +8,7 @@ use Rattle.pagable_model.specs.Meaning.{Meaning}
 use Rattle.pagable_model.specs.Meaning as meanings
 use Rattle.pagable_model.specs.OneForm.{HasOneFormThroughout}
 use Rattle.pagable_model.specs.Refusals.{is_own_reading}
+use Rattle.pagable_model.specs.declared.reason.Reason.{Reason}
 use Rattle.pagable_model.specs.Shape.{Shape, reference}
 use Rattle.pagable_model.specs.declared.error.Error.{Error}
 use Rattle.pagable_model.specs.declared.error.Error.TheVariants as errors
@@ -45,7 +45,7 @@ holding_name false = codes "Arc"
 
 -- a reference that holds its value may be refused for want of memory, and in words where no value of its type is lent
 abbrev pub unlent : Error → Type 0
-unlent e = (e ≡ errors.OutOfMemory) ⊎ ((text : String Global) × (e ≡ errors.Custom text))
+unlent e = (e ≡ errors.OutOfMemory) ⊎ ((reason : Reason) × (e ≡ errors.Custom reason))
 
 pub unlent_is_own : (e : Error) → unlent e → is_own_reading e ≡ true
 unlent_is_own e (inl h) = memory_is_own_reading e h

@@ -15,7 +15,7 @@ use crate::plain::read_reference;
 use pagable_codec::{
     ArcRef, Env, HandleNumber, Kind, NodeNumber, OfNode, PagableDeserializer, PagableSerializer,
 };
-use pagable_flavors::Error;
+use pagable_flavors::{Error, Reason};
 use pagable_traits::{
     Canonical, Carried, OneMeaning, PagableDeserialize, PagableSerialize, ReadBack,
 };
@@ -206,14 +206,11 @@ impl<E: Env, T: OfNode<E>, const PINS: bool> PagableSerialize<E> for HoldingArc<
     }
 }
 
-// Why a value isn't lent: a cause of its own, or want of memory for its text.
-fn unlent_refusal(alloc: Global) -> Error
+// Why a value isn't lent.
+fn unlent_refusal() -> Error
     ensures { unlent result }
 {
-    match String::from_str(alloc, "no value of the reference's type is lent") {
-        Ok(text) => Error::Custom(text),
-        Err(_) => Error::OutOfMemory,
-    }
+    Error::Custom(Reason::new("no value of the reference's type is lent"))
 }
 
 /// Reads the next reference, of this sort, and takes the value that it is lent. Beside what the reference itself is refused
@@ -231,7 +228,7 @@ fn read_holding<E: Env, T: OfNode<E> + Drop, const PINS: bool, D: PagableDeseria
 {
     let reference = read_reference(holding_kind_of::<E, T>(PINS), deserializer)?;
     match deserializer.shared::<T>(alloc, reference)? {
-        None => Err(unlent_refusal(alloc)),
+        None => Err(unlent_refusal()),
         Some(value) => Ok(HoldingArc {
             node: reference.node,
             handle: reference.handle,

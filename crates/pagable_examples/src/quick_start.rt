@@ -27,7 +27,6 @@ fn in_pager(alloc: Global, pager: &mut TextPager, text: &str) -> Result<bool, Er
     page_out_pending(alloc, pager)?;
 
     // A pin reads it back.
-    let pinned = pin(alloc, pager, cell)?;
-    let found = pager.value(pinned)?;
-    Ok(found.is_some_and(|node| node.as_str() == text))
+    let (_, found) = pin(alloc, pager, cell)?;
+    Ok(found.as_ref().as_str() == text)
 }

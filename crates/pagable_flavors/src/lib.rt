@@ -10,6 +10,6 @@ pub mod slice;
 pub mod vec_flavor;
 mod zigzag;
 
-pub use pagable_model::{DataKey, Error, OptionalDataKey};
+pub use pagable_model::{DataKey, Error, OptionalDataKey, Reason};
 pub use slice::PagableSlice;
 pub use vec_flavor::PagableVecFlavor;

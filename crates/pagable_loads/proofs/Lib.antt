@@ -1,4 +1,5 @@
 mod NextStep
+mod Lent
 mod Needed
 pub mod Stepped
 mod Lowering

@@ -1,6 +1,9 @@
 -- What those who answer from a list of got references stand for.
-use Rattle.std.specs.Prelude.{◌≡◌, refl, ℕ, ◌==◌, Bool, true, false, if◌then◌else◌, List, Option, Some, None, Result, Ok, Err, slice_get}
+use Rattle.std.specs.Prelude.{◌≡◌, refl, ℕ, ◌==◌, Bool, true, false, if◌then◌else◌, List, Option, Some, None, Result, Ok, Err, option_and_then, slice_get}
 use Rattle.std.proofs.Common.{subst}
+use Rattle.std.specs.Option.{option_map}
+use Rattle.std.specs.declared.alloc.Global.{Global}
+use Rattle.std.specs.declared.sync.Arc.{Arc}
 use Rattle.pagable_model.specs.declared.error.Error.{Error}
 use Rattle.pagable_model.specs.declared.error.Error.TheVariants as errors
 use Rattle.pagable_model.specs.declared.numbers.ArcRef.{ArcRef}
@@ -16,6 +19,21 @@ got_of s = s.got.now
 
 abbrev pub answer_at : List ArcRef → ℕ → ℕ → ℕ → Result ArcRef Error
 answer_at got place key kind = answer_of (slice_get got place) kind
+
+abbrev pub lent_of : {E N H K V : Type 0} → GotReferences E N H K V → List (Option (Arc N Global))
+lent_of s = s.lent.now
+
+-- the value at a place of the list, which may be shorter
+abbrev pub lent_at : {A N : Type 0} → (A → N) → List (Option A) → ℕ → Option N
+lent_at see lent place = option_map see (option_and_then (λ o. o) (slice_get lent place))
+
+abbrev pub is_handle_of : ArcRef → Option ArcRef → Bool
+is_handle_of r None = false
+is_handle_of r (Some found) = found.handle.0 == r.handle.0
+
+-- the value at this place, if the reference stands there
+abbrev pub lent_by : {A N : Type 0} → (A → N) → List ArcRef → List (Option A) → ℕ → ArcRef → Option N
+lent_by see got lent place r = if is_handle_of r (slice_get got place) then lent_at see lent place else None
 
 may_of : (e f : Error) → may_refuse_reference f ≡ true → (let r : Result ArcRef Error = Err f in r) ≡ Err e → may_refuse_reference e ≡ true
 may_of e f may is =

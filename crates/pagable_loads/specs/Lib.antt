@@ -2,6 +2,7 @@ pub mod Telling
 pub mod Got
 pub mod Decoding
 pub mod Frames
+pub mod Lending
 pub mod Needing
 pub mod Stepping
 pub mod Working

@@ -10,6 +10,7 @@ use pagable_codec::{ArcRef, Env, Kind, NodeSet, SessionContext};
 use pagable_core::{PagableData, PagableDeserializerImpl};
 use pagable_flavors::{DataKey, Error};
 use std::alloc::Global;
+use std::sync::Arc;
 
 /// What a blob asks for next.
 #[derive(Drop)]
@@ -29,6 +30,7 @@ fn read_got<E: Env>(
     blob: &PagableData,
     node_type: u32,
     got: &[ArcRef],
+    lent: &[Option<Arc<E::Node>>],
 ) -> Result<E::Node, Error>
 where
     E::Node: NodeSet<E>,
@@ -39,7 +41,7 @@ where
     let mut deserializer = PagableDeserializerImpl::new(
         blob.bytes.as_slice(),
         blob.arcs.as_slice(),
-        GotReferences::new(env, &session, got),
+        GotReferences::new(env, &session, got, lent),
     );
     E::Node::read(node_type, alloc, &mut deserializer)
 }
@@ -67,20 +69,21 @@ fn asked_kind(e: &Error) -> Option<u32>
     }
 }
 
-/// Reads a blob from its front as a value of this type, with the references that were got for it so far. Nothing that its reader did on an earlier way is
-/// trusted: what it asks for next is told by the blob alone.
+/// Reads a blob from its front as a value of this type, with the references that were got for it so far, whose values are lent by their places. Nothing that
+/// its reader did on an earlier way is trusted: what it asks for next is told by the blob alone.
 pub fn decode<E: Env>(
     env: &E,
     alloc: Global,
     blob: &PagableData,
     node_type: u32,
     got: &[ArcRef],
+    lent: &[Option<Arc<E::Node>>],
 ) -> Decoded<E::Node>
 where
     E::Node: NodeSet<E>,
     ensures decodes { Decodes (values_at E.Node.NodeSet E.Env E.Hash.KeyHash env.now) node_type (blob_of blob.now) got.now result }
 {
-    match read_got(env, alloc, blob, node_type, got) {
+    match read_got(env, alloc, blob, node_type, got, lent) {
         Ok(value) => Decoded::Read(value),
         Err(e) => match asked_kind(&e) {
             Some(kind) => asked(blob, got, kind),

@@ -1,44 +1,58 @@
 //! The references that were got so far.
 
 ghost use Rattle.std.specs.Prelude.{◌≡◌};
-ghost use Rattle.pagable_loads.specs.Got.{environment_of, got_of};
+ghost use Rattle.pagable_loads.specs.Got.{environment_of, got_of, lent_of};
 
 use pagable_codec::{ArcRef, Env, Kind, SessionContext};
 use pagable_core::References;
 use pagable_flavors::{DataKey, Error};
+use std::sync::Arc;
 
 /// Answers for a blob's references from a list of those that were got so far, the first of the blob's first. One that wasn't got is refused with Storage of
-/// its kind, and one that was got as another kind with WrongKind.
+/// its kind, and one that was got as another kind with WrongKind. It lends the value of the reference that it answered last, from a list of values by the
+/// references' places, which may be shorter.
 #[derive(Drop)]
 pub struct GotReferences<'g, E: Env> {
     env: &'g E,
     session: &'g SessionContext<E::CtxKey, E::CtxValue>,
     got: &'g [ArcRef],
+    lent: &'g [Option<Arc<E::Node>>],
+    // The place of the reference that was answered last.
+    last: usize,
 }
 
 impl<'g, E: Env> GotReferences<'g, E> {
-    /// These references, in this environment and session.
+    /// These references with these values, in this environment and session.
     pub fn new(
         env: &'g E,
         session: &'g SessionContext<E::CtxKey, E::CtxValue>,
         got: &'g [ArcRef],
+        lent: &'g [Option<Arc<E::Node>>],
     ) -> GotReferences<'g, E>
         ensures env { environment_of result ≡ env.now }
         ensures got { got_of result ≡ got.now }
+        ensures lent { lent_of result ≡ lent.now }
     {
-        GotReferences { env, session, got }
+        GotReferences {
+            env,
+            session,
+            got,
+            lent,
+            last: 0,
+        }
     }
 }
 
 impl<'g, E: Env> References<E> for GotReferences<'g, E> {
-    ghost use Rattle.std.specs.Prelude.{None, slice_get};
-    ghost use Rattle.pagable_loads.specs.Got.{environment_of, got_of, answer_at, may_refuse};
+    ghost use Rattle.std.specs.Prelude.{slice_get};
+    ghost use Rattle.std.specs.Arc.{arc_value};
+    ghost use Rattle.pagable_loads.specs.Got.{environment_of, got_of, lent_of, answer_at, lent_by, may_refuse};
 
     ghost environment = { environment_of };
 
     ghost answer = { λ s place key kind. answer_at (got_of s) place key kind };
 
-    ghost lends = { λ s reference. None };
+    ghost lends = { λ s reference. lent_by arc_value (got_of s) (lent_of s) s.last reference };
 
     ghost refusals = { λ s place key kind e is. may_refuse (slice_get (got_of s) place) kind e is };
 
@@ -57,13 +71,26 @@ impl<'g, E: Env> References<E> for GotReferences<'g, E> {
         let got = self.got;
         let found = got[place];
         if found.kind.0 == kind.0 {
+            self.last = place;
             Ok(found)
         } else {
             Err(Error::WrongKind)
         }
     }
 
-    fn shared(&self, _reference: ArcRef) -> Option<&E::Node> {
-        None
+    fn shared(&self, reference: ArcRef) -> Option<&E::Node> {
+        let got = self.got;
+        let lent = self.lent;
+        let place = self.last;
+        if place >= got.len() || place >= lent.len() {
+            return None;
+        }
+        if got[place].handle.0 != reference.handle.0 {
+            return None;
+        }
+        match &lent[place] {
+            Some(value) => Some(value.as_ref()),
+            None => None,
+        }
     }
 }

@@ -4,6 +4,7 @@
 pub mod access;
 pub mod decoding;
 pub mod got;
+mod lending;
 pub mod over;
 pub mod reading;
 pub mod running;

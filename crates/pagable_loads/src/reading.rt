@@ -59,7 +59,7 @@ pub enum Need<N: Drop> {
 }
 
 /// Whether a reference of this kind is read together with the value that holds it.
-fn is_read_at_once(kind: Kind) -> bool
+pub(crate) fn is_read_at_once(kind: Kind) -> bool
     ensures { result ≡ is_eager kind.0 }
 {
     !(kind.0 % 3 == 1)
@@ -89,8 +89,14 @@ impl Reading {
         }
     }
 
-    /// What the load needs next. The innermost blob is read from its front for it, and nothing else is touched.
-    pub fn next<E: Env>(&self, env: &E, alloc: Global) -> Need<E::Node>
+    /// What the load needs next. The innermost blob is read from its front for it, with these values of the references that it has got, and nothing else is
+    /// touched.
+    pub fn next<E: Env>(
+        &self,
+        env: &E,
+        alloc: Global,
+        lent: &[Option<Arc<E::Node>>],
+    ) -> Need<E::Node>
     where
         E::Node: NodeSet<E>,
         ensures needs { Needs (values_at E.Node.NodeSet E.Env E.Hash.KeyHash env.now) (reading_of self.now) self.now.for_cell result }
@@ -105,6 +111,7 @@ impl Reading {
             top.blob.as_ref(),
             top.node_type,
             top.got.as_slice(),
+            lent,
         ) {
             Decoded::Refused(e) => Need::Refuse(e),
             Decoded::Wants(kind, key) => wanted(kind, key),

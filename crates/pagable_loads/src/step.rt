@@ -253,9 +253,9 @@ impl Reading {
         self.top = None;
     }
 
-    /// Makes the load's next step: one call of the access, and what was read of its innermost blob before that. Answers what ended the load, or None while there
-    /// is more. A step that is refused gives the load up, with all that it owns. That the load is open, and is the one that this reading began with, is what the
-    /// clause asks of a state that is told.
+    /// Makes the load's next step: one call of the access, and before that what was read of its innermost blob, with the values of its references, which are
+    /// shared for it. Answers what ended the load, or None while there is more. A step that is refused gives the load up, with all that it owns. That the load
+    /// is open, and is the one that this reading began with, is what the clause asks of a state that is told.
     pub fn step<E: Env, A: Access<E>>(
         &mut self,
         access: &mut A,
@@ -273,7 +273,7 @@ impl Reading {
         ensures acting { A.acting access.new ≡ A.acting access.old }
         ensures lender { A.lender access.new ≡ A.lender access.old }
     {
-        let need = self.next(access.env(), alloc);
+        let need = self.next_over::<E, A>(access, alloc);
         match self.meet(access, alloc, need) {
             Ok(answer) => {
                 self.count();

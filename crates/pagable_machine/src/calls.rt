@@ -1,17 +1,20 @@
 //! Each call of the pager as the machine makes it: a step of the plain world, with a reply of the call's type.
 
 ghost use Rattle.std.specs.Prelude.{◌≡◌};
+ghost use Rattle.pagable_world.specs.declared.calls.Call.TheVariants as calls;
+ghost use Rattle.pagable_world.specs.declared.calls.Reply.TheVariants as replies;
 ghost use Rattle.pagable_world.specs.Events.{given_of};
 ghost use Rattle.pagable_world.specs.World.{seen_as};
-ghost use Rattle.pagable_pager.specs.View.{spelling, telling, given_as};
+ghost use Rattle.pagable_loads.specs.Telling.{values_at};
+ghost use Rattle.pagable_pager.specs.View.{telling, given_as};
 ghost use Rattle.pagable_machine.specs.Serving.{Serves, plain_blob};
 
 use either::Either;
 use pagable_codec::{Env, NodeSet};
 use pagable_core::{PagableData, PagableStorage};
-use pagable_model::{Error, HandleNumber};
+use pagable_model::{DataKey, Error, HandleNumber};
 use pagable_pager::Pager;
-use pagable_world::{Call, Found, Reply};
+use pagable_world::{Beginning, Call, Found, Reply};
 use std::alloc::Global;
 use std::sync::Arc;
 
@@ -28,6 +31,30 @@ fn found(
     }
 }
 
+/// A load of a loose handle's cell begins.
+pub fn begin<E: Env, S: PagableStorage<E>>(
+    pager: &mut Pager<E, S>,
+    handle: HandleNumber,
+) -> Result<Beginning, Error>
+where
+    E::Node: NodeSet<E>,
+    ensures { Serves (values_at E.Node.NodeSet E.Env E.Hash.KeyHash pager.old.environment) (telling S.stored S.is_closed S.failed) pager.old (calls.LoadBegin handle) (replies.Begun result) pager.new }
+{
+    pager.load_begin(handle)
+}
+
+/// A load of a key begins.
+pub fn begin_key<E: Env, S: PagableStorage<E>>(
+    pager: &mut Pager<E, S>,
+    key: DataKey,
+) -> Result<Beginning, Error>
+where
+    E::Node: NodeSet<E>,
+    ensures { Serves (values_at E.Node.NodeSet E.Env E.Hash.KeyHash pager.old.environment) (telling S.stored S.is_closed S.failed) pager.old (calls.LoadKey key) (replies.Begun result) pager.new }
+{
+    pager.load_key(key)
+}
+
 /// Makes the call, and answers what the pager answers.
 pub fn serve<E: Env, S: PagableStorage<E>>(
     pager: &mut Pager<E, S>,
@@ -36,7 +63,7 @@ pub fn serve<E: Env, S: PagableStorage<E>>(
 ) -> Reply<E::Node, Arc<PagableData>>
 where
     E::Node: NodeSet<E>,
-    ensures { Serves (telling S.stored S.is_closed S.failed) (spelling E.Node.type_of E.Node.refs_of E.Node.means E.Node.read_causes E.Node.write_causes E.Node.shape_of E.parts E.Hash.digest) pager.old call result pager.new }
+    ensures { Serves (values_at E.Node.NodeSet E.Env E.Hash.KeyHash pager.old.environment) (telling S.stored S.is_closed S.failed) pager.old call result pager.new }
 {
     match call {
         Call::NewPinned(node) => Reply::Made(pager.new_pinned(alloc, node)),
@@ -67,8 +94,8 @@ where
         Call::Fetch(key) => Reply::Fetched(pager.fetch(alloc, key)),
         Call::Store(blob) => Reply::Stored(pager.store(alloc, blob)),
         Call::Flush => Reply::Done(pager.flush()),
-        Call::LoadBegin(handle) => Reply::Begun(pager.load_begin(handle)),
-        Call::LoadKey(key) => Reply::Begun(pager.load_key(key)),
+        Call::LoadBegin(handle) => Reply::Begun(begin(pager, handle)),
+        Call::LoadKey(key) => Reply::Begun(begin_key(pager, key)),
         Call::LoadFetch(load, want) => Reply::LoadFound(found(pager.load_fetch(alloc, load, want))),
         Call::LoadAdopt(load, kind, key, node) => {
             Reply::Made(pager.load_adopt(alloc, load, kind, key, node))

@@ -1,37 +1,43 @@
-//! A pager that is driven by lists of calls.
+//! A pager that is driven by lists of events.
 
 ghost use Rattle.std.specs.Prelude.{◌≡◌, IfOk, IfErr, OnErr};
-ghost use Rattle.pagable_world.specs.Pager.{IsNew};
-ghost use Rattle.pagable_pager.specs.View.{spelling, state_in, telling};
-ghost use Rattle.pagable_machine.specs.Driving.{Runs};
+ghost use Rattle.pagable_world.specs.Pager.{IsIdle, IsNew};
+ghost use Rattle.pagable_loads.specs.Telling.{values_at};
+ghost use Rattle.pagable_pager.specs.View.{state_in, telling};
+ghost use Rattle.pagable_machine.specs.Driving.{Runs, machine_in};
 
 use crate::events;
+use crate::held::Held;
 use crate::list::put;
+use indexmap::IndexMap;
 use pagable_codec::{Env, NodeSet};
-use pagable_core::{PagableData, PagableStorage};
+use pagable_core::{PagableData, PagableStorage, SerializedData};
 use pagable_model::Error;
 use pagable_pager::Pager;
-use pagable_world::{Call, Reply};
+use pagable_walk::Trees;
+use pagable_world::{Event, EventReply};
 use std::alloc::Global;
 use std::collections::VecDeque;
 use std::marker::Model;
 use std::sync::Arc;
 
-/// A pager that takes lists of calls. No worker is at work in it.
+/// A pager that takes lists of events: calls, and loads and workers of page-out by steps.
 #[derive(Drop)]
-pub struct Machine<E: Env, S: PagableStorage<E>>
+pub struct Machine<E: Env + Trees, S: PagableStorage<E>>
 where
     E::Node: NodeSet<E>,
 {
     pager: Pager<E, S>,
+    // What it keeps of loads, tables and workers.
+    held: Held<E>,
 }
 
-impl<E: Env, S: PagableStorage<E>> Model for Machine<E, S>
+impl<E: Env + Trees, S: PagableStorage<E>> Model for Machine<E, S>
 where
     E::Node: NodeSet<E>,
 {
     ghost use Rattle.pagable_pager.specs.View.{telling};
-    ghost use Rattle.pagable_machine.specs.Driving.{IsUnmanned, MachineView, over};
+    ghost use Rattle.pagable_machine.specs.Driving.{IsInStep, MachineView, over, view_of};
     ghost use Rattle.std.specs.Coded.{codes};
     ghost use Rattle.indexmap.specs.Layout.{hash_map_code};
 
@@ -39,9 +45,9 @@ where
 
     ghost coded = { Prim.hlevel (codes, hash_map_code) };
 
-    ghost view = { λ m. over m.pager };
+    ghost view = { λ m. view_of m.pager m.held };
 
-    ghost invariant = { λ m. IsUnmanned (telling S.stored S.is_closed S.failed) (over m.pager) };
+    ghost invariant = { λ m. IsInStep (telling S.stored S.is_closed S.failed) (over m.pager m.held) };
 }
 
 impl<E: Env, S: PagableStorage<E>> Machine<E, S>
@@ -51,11 +57,17 @@ where
     /// A machine over a pager of nothing, over a storage as it stands. It takes no memory.
     pub fn new(alloc: Global, storage: S, env: E) -> Machine<E, S>
         ensures empty { IsNew (state_in (telling S.stored S.is_closed S.failed) result.pager) }
+        ensures idle { IsIdle (machine_in (telling S.stored S.is_closed S.failed) result) }
         ensures storage { result.pager.storage ≡ storage }
         ensures environment { result.pager.environment ≡ env }
     {
         Machine {
             pager: Pager::new(alloc, storage, env),
+            held: Held {
+                readings: IndexMap::new(alloc),
+                tables: Vec::new(alloc),
+                walks: IndexMap::new(alloc),
+            },
         }
     }
 
@@ -66,27 +78,30 @@ where
         &self.pager
     }
 
-    /// Makes the calls in their order, and answers one reply for each. Where there is no memory for the replies, nothing is done, and OutOfMemory comes back with
-    /// the calls.
+    /// Lets the events happen in their order, and answers one reply for each. Where there is no memory for the replies, nothing is done, and OutOfMemory comes back
+    /// with the events.
     ///
-    /// Replies and machines are a run of the plain world, for which the headline holds: each call is one step of it that leaves the machine whole, and where calls
-    /// meet what is asked of them, every node keeps its tree and each pin gives it.
+    /// Replies and machines are a run of the plain world, for which the headline holds, as of whatever led from an idle machine to this one: each event is one step
+    /// that leaves the machine whole, and where events meet what is asked of them, every node keeps its tree and each pin gives it.
     pub fn run(
         &mut self,
         alloc: Global,
-        calls: Vec<Call<E::Node, PagableData>>,
-    ) -> Result<Vec<Reply<E::Node, Arc<PagableData>>>, (Error, Vec<Call<E::Node, PagableData>>)>
-        ensures run { IfOk result (λ replies. Runs (telling S.stored S.is_closed S.failed) (spelling E.Node.type_of E.Node.refs_of E.Node.means E.Node.read_causes E.Node.write_causes E.Node.shape_of E.parts E.Hash.digest) self.old calls.items replies.items self.new) }
+        events: Vec<Event<E::Node, PagableData, SerializedData>>,
+    ) -> Result<
+        Vec<EventReply<E::Node, Arc<PagableData>, Arc<SerializedData>>>,
+        (Error, Vec<Event<E::Node, PagableData, SerializedData>>),
+    >
+        ensures run { IfOk result (λ replies.
+            Runs (values_at E.Node.NodeSet E.Env E.Hash.KeyHash self.old.pager.environment) (telling S.stored S.is_closed S.failed) self.old events.items replies.items self.new) }
         ensures nothing { OnErr result (self.new ≡ self.old) }
-        ensures back { IfErr result (λ e. (e.0 ≡ Error.OutOfMemory) × (e.1 ≡ calls)) }
+        ensures back { IfErr result (λ e. (e.0 ≡ Error.OutOfMemory) × (e.1 ≡ events)) }
     {
-        let Ok(mut replies) = Vec::with_capacity(alloc, calls.len()) else {
-            return Err((Error::OutOfMemory, calls));
+        let Ok(mut replies) = Vec::with_capacity(alloc, events.len()) else {
+            return Err((Error::OutOfMemory, events));
         };
-        self.pager.is_whole();
-        let mut rest = VecDeque::from_vec(calls);
-        while let Some(call) = rest.pop_front() {
-            let reply = events::call(&mut self.pager, alloc, call);
+        let mut rest = VecDeque::from_vec(events);
+        while let Some(event) = rest.pop_front() {
+            let reply = events::serve(&mut self.pager, &mut self.held, alloc, event);
             put(&mut replies, reply);
         }
         Ok(replies)

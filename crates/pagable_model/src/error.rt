@@ -5,11 +5,12 @@ ghost use Rattle.pagable_model.specs.declared.error.Error.TheVariants.{OutOfMemo
 ghost use Rattle.pagable_model.specs.Refusals.{number_of};
 
 use crate::data_key::DataKey;
+use crate::reason::Reason;
 use std::alloc::{AllocError, AllocFailed};
 use std::fmt;
 
 /// Every refusal of these crates, in the order of their numbers, which begin at 1.
-#[derive(Debug, PartialEq, Drop)]
+#[derive(Clone, Copy, Debug, PartialEq, Eq)]
 pub enum Error {
     /// The input ends inside a value.
     UnexpectedEnd,
@@ -63,7 +64,7 @@ pub enum Error {
     /// The storage was closed.
     Closed,
     /// A caller's own implementation refused, and says why.
-    Custom(String),
+    Custom(Reason),
 }
 
 impl Error {
@@ -140,7 +141,7 @@ impl fmt::Display for Error {
         match self {
             Error::NoData(key) => write!(f, "{} {key}", self.text()),
             Error::Storage(code) => write!(f, "{} {code}", self.text()),
-            Error::Custom(text) => f.write_str(text),
+            Error::Custom(reason) => f.write_str(reason.as_str()),
             _ => f.write_str(self.text()),
         }
     }

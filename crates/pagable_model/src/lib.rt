@@ -5,9 +5,11 @@
 pub mod data_key;
 pub mod error;
 pub mod numbers;
+pub mod reason;
 
 pub use data_key::{DataKey, OptionalDataKey};
 pub use error::Error;
 pub use numbers::{
     ArcRef, HandleNumber, Identity, Kind, LoadNumber, NodeNumber, PagableCursor, WorkerNumber,
 };
+pub use reason::Reason;

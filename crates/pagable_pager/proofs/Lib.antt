@@ -12,3 +12,4 @@ pub mod Births
 pub mod Adopting
 mod Working
 pub mod Lending
+pub mod Taking

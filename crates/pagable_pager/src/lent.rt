@@ -1,27 +1,33 @@
 //! A pager that is lent, as an access.
 
-ghost use Rattle.std.specs.Prelude.{◌≡◌, IsSome};
+ghost use Rattle.std.specs.Prelude.{◌≡◌, IsSome, true};
 ghost use Rattle.pagable_world.specs.World.{row_at};
 ghost use Rattle.pagable_loads.specs.Telling.{IsMade};
-ghost use Rattle.pagable_pager.specs.View.{core_in, telling};
+ghost use Rattle.pagable_pager.specs.View.{core_in, telling, is_at_work};
+ghost use Rattle.pagable_world.specs.declared.handles.Owner.TheVariants as owners;
+
+mod working;
 
 use crate::pager::Pager;
 use either::Either;
 use pagable_codec::{Env, NodeSet};
 use pagable_core::{PagableData, PagableStorage};
 use pagable_loads::{Access, PinStart};
-use pagable_model::{ArcRef, DataKey, Error, HandleNumber, Kind, LoadNumber};
+use pagable_model::{ArcRef, DataKey, Error, HandleNumber, Kind, LoadNumber, WorkerNumber};
+use pagable_world::handles::Owner;
 use pagable_world::{Beginning, Pinning, Want};
 use std::alloc::Global;
 use std::sync::Arc;
 
-/// The caller's access to a pager that is lent, and tells its state.
+/// The caller's access to a pager that is lent, or that of a worker at work. It tells the pager's state.
 #[derive(Drop)]
 pub struct Lent<'a, E: Env, S: PagableStorage<E>>
 where
     E::Node: NodeSet<E>,
 {
     pager: &'a mut Pager<E, S>,
+    me: Owner,
+    ghost at_work: { is_at_work (core_in (telling S.stored S.is_closed S.failed) pager.now) me ≡ true },
 }
 
 impl<'a, E: Env, S: PagableStorage<E>> Lent<'a, E, S>
@@ -32,8 +38,25 @@ where
     pub fn new(pager: &'a mut Pager<E, S>) -> Lent<'a, E, S>
         ensures lent { result.pager.ghost_name ≡ pager.entry.ghost_name }
         ensures same { result.pager.now ≡ pager.old }
+        ensures me { result.me ≡ owners.Caller }
     {
-        Lent { pager }
+        Lent {
+            pager,
+            me: Owner::Caller,
+        }
+    }
+
+    /// The access of a worker who is at work.
+    pub fn for_worker(pager: &'a mut Pager<E, S>, worker: WorkerNumber) -> Lent<'a, E, S>
+        requires { (core_in (telling S.stored S.is_closed S.failed) pager.old).workers worker.0 ≡ true }
+        ensures lent { result.pager.ghost_name ≡ pager.entry.ghost_name }
+        ensures same { result.pager.now ≡ pager.old }
+        ensures me { result.me ≡ owners.Worker worker }
+    {
+        Lent {
+            pager,
+            me: Owner::Worker(worker),
+        }
     }
 
     // The reference that stands for a live handle, as this kind.
@@ -59,7 +82,7 @@ where
 
     ghost told = { λ l. Some (state_in (telling S.stored S.is_closed S.failed) l.pager.now) };
 
-    ghost acting = { λ l. record { me = owners.Caller; environment = l.pager.now.environment } };
+    ghost acting = { λ l. record { me = l.me; environment = l.pager.now.environment } };
 
     ghost lender = { λ l. l.pager.ghost_name };
 
@@ -68,19 +91,19 @@ where
     }
 
     fn clone(&mut self, handle: HandleNumber) -> Result<HandleNumber, Error> {
-        let cloned = self.pager.clone(handle);
+        let cloned = self.pager.clone_by(self.me, handle);
         self.pager.is_whole();
         cloned
     }
 
     fn pin(&mut self, handle: HandleNumber) -> Result<Pinning, Error> {
-        let pinned = self.pager.pin(handle);
+        let pinned = self.pager.pin_by(self.me, handle);
         self.pager.is_whole();
         pinned
     }
 
     fn begin_pin(&mut self, handle: HandleNumber) -> Result<PinStart, Error> {
-        let begun = self.pager.begin_pin(handle);
+        let begun = self.pager.begin_pin_by(self.me, handle);
         self.pager.is_whole();
         begun
     }
@@ -96,31 +119,31 @@ where
     }
 
     fn set_data_key(&mut self, handle: HandleNumber, key: DataKey) -> Result<(), Error> {
-        let set = self.pager.set_data_key(handle, key);
+        let set = self.pager.set_data_key_by(self.me, handle, key);
         self.pager.is_whole();
         set
     }
 
     fn unpin(&mut self, handle: HandleNumber) -> Result<(), Error> {
-        let unpinned = self.pager.unpin(handle);
+        let unpinned = self.pager.unpin_by(self.me, handle);
         self.pager.is_whole();
         unpinned
     }
 
     fn release(&mut self, handle: HandleNumber) -> Result<(), Error> {
-        let released = self.pager.release(handle);
+        let released = self.pager.release_by(self.me, handle);
         self.pager.is_whole();
         released
     }
 
     fn load_begin(&mut self, handle: HandleNumber) -> Result<Beginning, Error> {
-        let begun = self.pager.load_begin(handle);
+        let begun = self.pager.load_begin_by(self.me, handle);
         self.pager.is_whole();
         begun
     }
 
     fn load_key(&mut self, key: DataKey) -> Result<LoadNumber, Error> {
-        let begun = self.pager.load_key(key);
+        let begun = self.pager.load_key_by(self.me, key);
         self.pager.is_whole();
         match begun {
             Ok(Beginning::Load(load, _)) => Ok(load),
@@ -130,7 +153,7 @@ where
     }
 
     fn load_root(&mut self, alloc: Global, load: LoadNumber) -> Result<Arc<PagableData>, Error> {
-        let found = self.pager.load_fetch(alloc, load, Want::Root);
+        let found = self.pager.load_fetch_by(self.me, alloc, load, Want::Root);
         self.pager.is_whole();
         match found {
             Ok(Either::Right(blob)) => Ok(blob),
@@ -147,7 +170,9 @@ where
         key: DataKey,
     ) -> Result<Either<ArcRef, Arc<PagableData>>, Error> {
         self.pager.is_whole();
-        let found = self.pager.load_fetch(alloc, load, Want::Nested(kind, key));
+        let found = self
+            .pager
+            .load_fetch_by(self.me, alloc, load, Want::Nested(kind, key));
         self.pager.is_whole();
         match found {
             Ok(Either::Left(handle)) => Ok(Either::Left(self.reference(kind, handle))),
@@ -164,7 +189,7 @@ where
         key: DataKey,
     ) -> Result<ArcRef, Error> {
         self.pager.is_whole();
-        let taken = self.pager.load_lazy(alloc, load, kind, key);
+        let taken = self.pager.load_lazy_by(self.me, alloc, load, kind, key);
         self.pager.is_whole();
         match taken {
             Ok(handle) => Ok(self.reference(kind, handle)),
@@ -181,7 +206,9 @@ where
         node: E::Node,
     ) -> Result<ArcRef, (Error, E::Node)> {
         self.pager.is_whole();
-        let adopted = self.pager.load_adopt(alloc, load, kind, key, node);
+        let adopted = self
+            .pager
+            .load_adopt_by(self.me, alloc, load, kind, key, node);
         self.pager.is_whole();
         match adopted {
             Ok(handle) => Ok(self.reference(kind, handle)),
@@ -195,19 +222,19 @@ where
         load: LoadNumber,
         value: E::Node,
     ) -> Result<HandleNumber, (Error, Option<E::Node>)> {
-        let ended = self.pager.load_end(alloc, load, value);
+        let ended = self.pager.load_end_by(self.me, alloc, load, value);
         self.pager.is_whole();
         ended
     }
 
     fn load_take(&mut self, load: LoadNumber, named: &[HandleNumber]) -> Result<(), Error> {
-        let taken = self.pager.load_take(load, named);
+        let taken = self.pager.load_take_by(self.me, load, named);
         self.pager.is_whole();
         taken
     }
 
     fn load_drop(&mut self, load: LoadNumber) -> Result<(), Error> {
-        let dropped = self.pager.load_drop(load);
+        let dropped = self.pager.load_drop_by(self.me, load);
         self.pager.is_whole();
         dropped
     }

@@ -17,6 +17,7 @@ pub mod installs;
 pub mod known;
 pub mod lists;
 pub mod loads;
+pub mod opened;
 pub mod pins;
 pub mod places;
 pub mod releases;

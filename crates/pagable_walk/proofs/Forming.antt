@@ -4,7 +4,11 @@ use Rattle.std.proofs.Common.{ℕ, ◌≡◌, ◌++◌, List, [], ◌∷◌, tru
 use Rattle.pagable_codec.specs.declared.env.Env.{Ghosts as Environments}
 use Rattle.pagable_codec.specs.declared.hash.KeyHash.{Ghosts as Hashes}
 use Rattle.pagable_codec.specs.declared.nodes.NodeSet.{Ghosts as Nodes}
+use Rattle.std.specs.Arc.{arc_value}
+use Rattle.std.specs.declared.alloc.Global.{Global}
+use Rattle.std.specs.declared.sync.Arc.{Arc}
 use Rattle.pagable_core.specs.Context.{nothing}
+use Rattle.pagable_core.specs.declared.context.writing.SerializedData.{SerializedData}
 use Rattle.pagable_model.specs.declared.error.Error.{Error}
 use Rattle.pagable_model.specs.declared.error.Error.TheVariants as errors
 use Rattle.pagable_model.specs.declared.numbers.ArcRef.{ArcRef}
@@ -30,7 +34,7 @@ use Rattle.pagable_walk.specs.declared.results.Trees.{Ghosts}
 use Rattle.pagable_walk.specs.declared.tasks.Task.{Task}
 use Rattle.pagable_walk.specs.declared.tasks.Task.TheVariants as tasks
 use Rattle.pagable_walk.specs.declared.tasks.Turn.TheVariants as comes
-use Rattle.pagable_walk.specs.Slots.{with_written}
+use Rattle.pagable_walk.specs.Slots.{with_written, written_of}
 use Rattle.pagable_walk.specs.Failing.{back_of, fails}
 use Rattle.pagable_walk.specs.Tasks.{IsPlain}
 use Rattle.pagable_walk.specs.Turns.{Fits, TurnsTo}
@@ -137,11 +141,12 @@ module _ {X : Type 0} {g : Ghosts X} {N E : Type 0} (v : Values N) (me : Owner) 
   is-pinned : Fits {g = g} v me n (tasks.Write r place through pin) s → IsPinned v s r pin
   is-pinned f = record { whole = f.whole; kind = f.task_fits.0; pins = f.task_fits.1.pins }
 
-  pub write-turns : (w : Written) → Forms v s r pin (Ok w) → SameShelf (with_changed_slot shelf (identity_of r) (with_written w)) shelf' → after ≡ open_node r place through w below
-      → TurnsTo v me n shelf (tasks.Write r place through pin) below shelf' (comes.Goes task) after s s
-  write-turns w forms same is = record {
+  pub write-turns : (told : Arc SerializedData Global) → Forms v s r pin (Ok (written_of (arc_value told))) → SameShelf (with_changed_slot shelf (identity_of r) (with_written (written_of (arc_value told)))) shelf'
+      → after ≡ open_node r place through (written_of (arc_value told)) below
+      → TurnsTo v me n shelf (tasks.Write r place through pin) below shelf' (record { took = took.Write (identity_of r) (Ok told); turn = comes.Goes task; counted = true }) after s s
+  write-turns told forms same is = record {
+    counts = refl;
     turns = λ f. record {
-      step = took.Write (identity_of r) (Ok w);
       does = record { does = (refl, record { writes = record { pager_stays = alike s.core; table_is = same; list_is = is }; refused = tt }) };
       answers = refl;
       moves = record { each = λ q x h. inl h; environment = refl };
@@ -152,12 +157,12 @@ module _ {X : Type 0} {g : Ghosts X} {N E : Type 0} (v : Values N) (me : Owner) 
   }
 
   pub write-fails : (e : Error) → Forms v s r pin (Err e) → SameShelf shelf shelf' → after ≡ fails (was_refused e) (back_of None below)
-      → TurnsTo v me n shelf (tasks.Write r place through pin) below shelf' (comes.Goes task) after s s
+      → TurnsTo v me n shelf (tasks.Write r place through pin) below shelf' (record { took = took.Write (identity_of r) (Err e); turn = comes.Goes task; counted = true }) after s s
   write-fails e forms same is = record {
+    counts = refl;
     turns = λ f.
         let why = forms.refused (is-pinned f) in
         record {
-          step = took.Write (identity_of r) (Err e);
           does = record { does = (refl, record { writes = tt; refused = (why.0, record { pager_stays = alike s.core; table_is = same; list_is = is ∙ ap (fails (was_refused e)) (none-back below) }) }) };
           answers = refl;
           moves = record { each = λ q x h. inl h; environment = refl };

@@ -12,3 +12,5 @@ pub mod Forming
 pub mod Pinning
 pub mod Closing
 pub mod Stepping
+pub mod Joined
+pub mod Dues

@@ -39,7 +39,7 @@ use Rattle.pagable_loads.specs.Working.{TakesReference, BeginsAt}
 use Rattle.pagable_walk.specs.declared.results.Trees.{Ghosts}
 use Rattle.pagable_walk.specs.declared.tasks.Task.{Task}
 use Rattle.pagable_walk.specs.declared.tasks.Task.TheVariants as tasks
-use Rattle.pagable_walk.specs.declared.tasks.Turn.{Turn}
+use Rattle.pagable_walk.specs.declared.tasks.Moved.{Moved}
 use Rattle.pagable_walk.specs.declared.tasks.Turn.TheVariants as comes
 use Rattle.pagable_walk.specs.Failing.{back_of, fails}
 use Rattle.pagable_walk.specs.Tasks.{IsPlain}
@@ -198,15 +198,15 @@ load-back r place through reading (x ∷ below) = refl
 
 module _ {X : Type 0} {g : Ghosts X} {N E : Type 0} (v : Values N) (me : Owner) (n : ℕ) (shelf : Shelf) (r : ArcRef) (place : ℕ) (below : List Todo) where
   pub pin-holds : (through k : HandleNumber) (s t : PagerState N E) → Called v (λ w'. TakesReference s.core me r (Ok (takens.Held through k)) w') s t
-      → TurnsTo {g = g} v me n shelf (tasks.Pin r place) below shelf (comes.Goes (tasks.Write r place through k)) (to_write r place through ∷ below) s t
+      → TurnsTo {g = g} v me n shelf (tasks.Pin r place) below shelf (record { took = took.Pin (identity_of r) (Ok (pinsteps.Held k)); turn = comes.Goes (tasks.Write r place through k); counted = true }) (to_write r place through ∷ below) s t
   pin-holds through k s t call = record {
+    counts = refl;
     turns = λ f.
         let takes = subst (λ o. PinsAtOnce s.core o r through k t.core) f.me_is call.step.takes in
         let does : Does (plain v) n (site s.core shelf (to_pin r place ∷ below)) (to_pin r place ∷ below) (took.Pin (identity_of r) (Ok (pinsteps.Held k))) (site t.core shelf (to_write r place through ∷ below)) =
         (refl, record { pins = (through, takes, record { table_stays = same-shelf shelf; list_is = refl }); refused = tt }) in
         let goes = walk-goes (plain v) n (site s.core shelf (to_pin r place ∷ below)) (site t.core shelf (to_write r place through ∷ below)) (to_pin r place ∷ below) (took.Pin (identity_of r) (Ok (pinsteps.Held k))) does in
         record {
-          step = took.Pin (identity_of r) (Ok (pinsteps.Held k));
           does = record { does = does };
           answers = refl;
           moves = comes-none call.moves;
@@ -217,15 +217,15 @@ module _ {X : Type 0} {g : Ghosts X} {N E : Type 0} (v : Values N) (me : Owner) 
   }
 
   pub pin-begins : (through : HandleNumber) (l : LoadNumber) (key : ℕ) (own : Own) → reading_of own ≡ fresh l (type_of r.kind.0) → own.key ≡ key → own.for_cell ≡ true → (s t : PagerState N E)
-      → Called v (λ w'. TakesReference s.core me r (Ok (takens.Begun through l key)) w') s t → TurnsTo {g = g} v me n shelf (tasks.Pin r place) below shelf (comes.Goes (tasks.Load r place through own)) (to_load r place through (reading_of own) ∷ below) s t
+      → Called v (λ w'. TakesReference s.core me r (Ok (takens.Begun through l key)) w') s t → TurnsTo {g = g} v me n shelf (tasks.Pin r place) below shelf (record { took = took.Pin (identity_of r) (Ok (pinsteps.LoadBegun l)); turn = comes.Goes (tasks.Load r place through own); counted = true }) (to_load r place through (reading_of own) ∷ below) s t
   pin-begins through l key own is same_key cell s t call = record {
+    counts = refl;
     turns = λ f.
         let takes = subst (λ o. BeginsAt s.core o r through l key t.core) f.me_is call.step.takes in
         let does : Does (plain v) n (site s.core shelf (to_pin r place ∷ below)) (to_pin r place ∷ below) (took.Pin (identity_of r) (Ok (pinsteps.LoadBegun l))) (site t.core shelf (to_load r place through (reading_of own) ∷ below)) =
         (refl, record { pins = (through, (takes.0, (takes.1.0, key, takes.1.1, takes.1.2)), record { table_stays = same-shelf shelf; list_is = ap (λ x. to_load r place through x ∷ below) is }); refused = tt }) in
         let goes = walk-goes (plain v) n (site s.core shelf (to_pin r place ∷ below)) (site t.core shelf (to_load r place through (reading_of own) ∷ below)) (to_pin r place ∷ below) (took.Pin (identity_of r) (Ok (pinsteps.LoadBegun l))) does in
         record {
-          step = took.Pin (identity_of r) (Ok (pinsteps.LoadBegun l));
           does = record { does = does };
           answers = refl;
           moves = comes-none call.moves;
@@ -237,10 +237,10 @@ module _ {X : Type 0} {g : Ghosts X} {N E : Type 0} (v : Values N) (me : Owner) 
 
   pub pin-fails : (e : Error) (task : Task X g) (after : List Todo) → IsPlain task → after ≡ fails (was_refused e) (back_of (Some r.handle) below) → (s t : PagerState N E)
       → Called v (λ w'. TakesReference s.core me r (Err e) w') s t
-      → TurnsTo v me n shelf (tasks.Pin r place) below shelf (comes.Goes task) after s t
+      → TurnsTo v me n shelf (tasks.Pin r place) below shelf (record { took = took.Pin (identity_of r) (Err e); turn = comes.Goes task; counted = true }) after s t
   pin-fails e task after plain-task is s t call = record {
+    counts = refl;
     turns = λ f. record {
-      step = took.Pin (identity_of r) (Err e);
       does = record { does = (refl, record { pins = tt; refused = (subst (λ o. PinRefused s.core o r e t.core) f.me_is call.step.refused, record { table_stays = same-shelf shelf; list_is = is ∙ ap (fails (was_refused e)) (pin-back r place below) }) }) };
       answers = refl;
       moves = comes-none call.moves;
@@ -257,8 +257,9 @@ module _ {X : Type 0} {g : Ghosts X} {N E : Type 0} (v : Values N) (me : Owner) 
 
     pub load-goes : (new : Own) (frames : List Frame) → frames ≡ frames_of new.top new.below.items → new.load ≡ own.load → new.node_type ≡ own.node_type → new.steps ≡ one_more own.steps
         → new.key ≡ own.key → new.for_cell ≡ own.for_cell → (s t : PagerState N E)
-        → Steps v me own s None frames t → TurnsTo {g = g} v me n shelf (tasks.Load r place through own) below shelf (comes.Goes (tasks.Load r place through new)) (to_load r place through (reading_of new) ∷ below) s t
+        → Steps v me own s None frames t → TurnsTo {g = g} v me n shelf (tasks.Load r place through own) below shelf (record { took = took.Pin (identity_of r) (Ok pinsteps.LoadWent); turn = comes.Goes (tasks.Load r place through new); counted = false }) (to_load r place through (reading_of new) ∷ below) s t
     load-goes new frames at load node_type steps key cell s t call = record {
+      counts = refl;
       turns = λ f.
           let step = stepped f call in
           let same : reading_of new ≡ gone_on (reading_of own) frames = λ i. record { load = load i; node_type = node_type i; frames = sym at i; steps = steps i } in
@@ -268,7 +269,6 @@ module _ {X : Type 0} {g : Ghosts X} {N E : Type 0} (v : Values N) (me : Owner) 
           let old = f.task_fits.1 in
           let open_load : t.core.loads new.load.0 ≡ Some old.is.load = ap (λ (x : LoadNumber). t.core.loads x.0) load ∙ goes-open v s.core t.core (owner_worker n) (reading_of own) frames own.load.0 step.does.does ∙ old.is.owned.stands_open in
           record {
-            step = took.Pin (identity_of r) (Ok pinsteps.LoadWent);
             does = record { does = does };
             answers = refl;
             moves = step.moves;
@@ -287,8 +287,9 @@ module _ {X : Type 0} {g : Ghosts X} {N E : Type 0} (v : Values N) (me : Owner) 
     }
 
     pub load-pins : (k : HandleNumber) (frames : List Frame) (s t : PagerState N E) → Steps v me own s (Some (ends.Pinned k)) frames t
-        → TurnsTo {g = g} v me n shelf (tasks.Load r place through own) below shelf (comes.Goes (tasks.Write r place through k)) (to_write r place through ∷ below) s t
+        → TurnsTo {g = g} v me n shelf (tasks.Load r place through own) below shelf (record { took = took.Pin (identity_of r) (Ok (pinsteps.Held k)); turn = comes.Goes (tasks.Write r place through k); counted = false }) (to_write r place through ∷ below) s t
     load-pins k frames s t call = record {
+      counts = refl;
       turns = λ f.
           let step = stepped f call in
           let end = step.does.does in
@@ -296,7 +297,6 @@ module _ {X : Type 0} {g : Ghosts X} {N E : Type 0} (v : Values N) (me : Owner) 
           (refl, record { goes = (record { does = (end.0, refl) }, record { table_stays = same-shelf shelf; list_is = refl }); refused = tt }) in
           let goes = walk-goes (plain v) n (site s.core shelf (to_load r place through (reading_of own) ∷ below)) (site t.core shelf (to_write r place through ∷ below)) (to_load r place through (reading_of own) ∷ below) (took.Pin (identity_of r) (Ok (pinsteps.Held k))) does in
           record {
-            step = took.Pin (identity_of r) (Ok (pinsteps.Held k));
             does = record { does = does };
             answers = refl;
             moves = step.moves;
@@ -308,13 +308,13 @@ module _ {X : Type 0} {g : Ghosts X} {N E : Type 0} (v : Values N) (me : Owner) 
 
     pub load-fails : (e : Error) (frames : List Frame) (task : Task X g) (after : List Todo) → IsPlain task → after ≡ fails (was_refused e) (back_of (Some r.handle) below)
         → (s t : PagerState N E) → Steps v me own s (Some (ends.Refused e)) frames t
-        → TurnsTo v me n shelf (tasks.Load r place through own) below shelf (comes.Goes task) after s t
+        → TurnsTo v me n shelf (tasks.Load r place through own) below shelf (record { took = took.Pin (identity_of r) (Err e); turn = comes.Goes task; counted = false }) after s t
     load-fails e frames task after plain-task is s t call = record {
+      counts = refl;
       turns = λ f.
           let step = stepped f call in
           let end = step.does.does in
           record {
-            step = took.Pin (identity_of r) (Err e);
             does = record { does = (refl, record { goes = tt; refused = (record { does = (end.0, refl) }, record { table_stays = same-shelf shelf; list_is = is ∙ ap (fails (was_refused e)) (load-back r place through (reading_of own) below) }) }) };
             answers = refl;
             moves = step.moves;
@@ -325,9 +325,10 @@ module _ {X : Type 0} {g : Ghosts X} {N E : Type 0} (v : Values N) (me : Owner) 
     }
 
     -- a load of a cell reads out nothing
-    pub load-reads-none : (x : N) (frames : List Frame) (turn : Turn X g) (after : List Todo) (s t : PagerState N E) → Steps v me own s (Some (ends.Read x)) frames t
-        → TurnsTo v me n shelf (tasks.Load r place through own) below shelf turn after s t
-    load-reads-none x frames turn after s t call = record {
+    pub load-reads-none : (x : N) (frames : List Frame) (moved : Moved X g) (after : List Todo) → moved.counted ≡ false → (s t : PagerState N E) → Steps v me own s (Some (ends.Read x)) frames t
+        → TurnsTo v me n shelf (tasks.Load r place through own) below shelf moved after s t
+    load-reads-none x frames moved after uncounted s t call = record {
+      counts = uncounted;
       turns = λ f.
           let step = stepped f call in
           let key = step.does.does.0.of_key_load in

@@ -24,6 +24,14 @@ module _ {E : Type 0} {g : Ghosts E} where
   pub todos-more : (ws : List (Waiting E g)) (w : Waiting E g) → todos (ws ++ w ∷ []) ≡ waiting_todo w ∷ todos ws
   todos-more ws w = onto-more ws w []
 
+  onto-length : (ws : List (Waiting E g)) (below : List Todo) → length (todos_onto ws below) ≡ length ws + length below
+  unfolding todos_onto
+  onto-length [] below = omega arith
+  onto-length (x ∷ ws) below = let e = onto-length ws (waiting_todo x ∷ below) in omega (arith, e)
+
+  pub todos-length : (ws : List (Waiting E g)) → length (todos ws) ≡ length ws
+  todos-length ws = let e = onto-length ws [] in omega (arith, e)
+
   pub todos-none : (ws : List (Waiting E g)) → length ws ≡ 0 → todos ws ≡ []
   unfolding todos_onto
   todos-none [] none = refl

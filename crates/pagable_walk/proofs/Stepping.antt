@@ -3,8 +3,9 @@ use Rattle.std.proofs.Common.{ℕ, ◌≡◌, List, inl, inr, refl, sym, subst, 
 use Rattle.pagable_world.specs.declared.handles.Owner.{Owner}
 use Rattle.pagable_world.specs.World.{Shelf, Todo, Values}
 use Rattle.pagable_world.specs.Events.{Ends}
-use Rattle.pagable_world.specs.Pager.{PagerState, Moves}
+use Rattle.pagable_world.specs.Pager.{PagerState, WellFormed, Moves}
 use Rattle.pagable_walk.specs.declared.results.Trees.{Ghosts}
+use Rattle.pagable_walk.specs.declared.tasks.Moved.{Moved}
 use Rattle.pagable_walk.specs.declared.tasks.Task.{Task}
 use Rattle.pagable_walk.specs.declared.tasks.Turn.{Turn}
 use Rattle.pagable_walk.specs.declared.tasks.Turn.TheVariants as comes
@@ -12,52 +13,52 @@ use Rattle.pagable_world.specs.declared.events.WorkerAnswer.{WorkerAnswer}
 use Rattle.pagable_world.specs.Workers.{WorkerEnds}
 use Rattle.pagable_world.specs.Access.{Called}
 use Rattle.pagable_loads.specs.Telling.{Acting}
-use Rattle.pagable_walk.specs.Turns.{Closes, StepsTo, TurnsTo, acting_then, site}
+use Rattle.pagable_walk.specs.Turns.{Closes, LeavesFit, StepsTo, TurnsTo, acting_then, answer_in, site}
 use Rattle.pagable_walk.proofs.Turning.{alike}
 use Rattle.pagable_walk.proofs.Pinning.{same-shelf}
 
 moves-then : {N E : Type 0} {comes : ℕ → N → Type 0} {s mid t : PagerState N E} → Moves comes s mid → Moves (λ n x. ⊥) mid t → Moves comes s t
 moves-then m k = record { each = λ n x is. elim (k.each n x is) [ inl was ↦ m.each n x was | inr came ↦ absurd came.1 ]; environment = k.environment ∙ m.environment }
 
-module _ {X : Type 0} {g : Ghosts X} {N E : Type 0} (v : Values N) (me : Owner) (n : ℕ) (shelf shelf' : Shelf) (task : Task X g) (below after : List Todo) where
-  pub steps-to : (turn : Turn X g) (s mid t : PagerState N E) → TurnsTo v me n shelf task below shelf' turn after s mid → Closes v n turn mid t → StepsTo v me n shelf task below shelf' turn after s t
-  steps-to (comes.Goes next) s mid t turns close = subst (λ u. StepsTo v me n shelf task below shelf' (comes.Goes next) after s u) (sym close.closes) (record {
-    steps = λ f.
-        let turned = turns.turns f in
-        record {
-          step = turned.step;
-          does = record {
-            after = site mid.core shelf' after;
-            does = turned.does;
-            goes_on = refl;
-            shelf_is = same-shelf shelf';
-            ends = subst (λ a. Ends a n mid.core mid.core) (sym turned.answers) (alike mid.core);
-            moves = turned.moves;
-            writes = turned.writes;
-            whole = turned.whole;
-          };
-          answers = turned.answers;
-          fits = turned.fits;
-        };
+-- what the end after a turn does
+record Closed {X : Type 0} {g : Ghosts X} {N E : Type 0} (v : Values N) (n : ℕ) (turn : Turn X g) (s t : PagerState N E) : Type 0 where
+  pub ends : Ends (answer_in turn) n s.core t.core
+  pub moves : Moves (λ n x. ⊥) s t
+  pub whole : WellFormed v s → WellFormed v t
+  pub fits : LeavesFit n s.core turn → LeavesFit n t.core turn
+
+module _ {X : Type 0} {g : Ghosts X} {N E : Type 0} (v : Values N) (n : ℕ) where
+  closed : (turn : Turn X g) (s t : PagerState N E) → Closes v n turn s t → Closed v n turn s t
+  closed (comes.Goes task) s t close = subst (Closed v n (comes.Goes task) s) (sym close.closes) (record {
+    ends = alike s.core;
+    moves = record { each = λ q x is. inl is; environment = refl };
+    whole = λ w. w;
+    fits = λ f. f;
   })
-  steps-to (comes.Answers answer) s mid t turns close = record {
+  closed (comes.Answers answer) s t close = record { ends = close.closes.step; moves = close.closes.moves; whole = λ w. close.closes.whole; fits = λ f. tt }
+
+  pub steps-to : (me : Owner) (shelf shelf' : Shelf) (task : Task X g) (below after : List Todo) (moved : Moved X g) (s mid t : PagerState N E)
+      → TurnsTo v me n shelf task below shelf' moved after s mid → Closes v n moved.turn mid t
+      → StepsTo v me n shelf task below shelf' moved after s t
+  steps-to me shelf shelf' task below after moved s mid t turns close = record {
     steps = λ f.
         let turned = turns.turns f in
+        let end = closed moved.turn mid t close in
         record {
-          step = turned.step;
           does = record {
             after = site mid.core shelf' after;
             does = turned.does;
             goes_on = refl;
             shelf_is = same-shelf shelf';
-            ends = subst (λ a. Ends a n mid.core t.core) (sym turned.answers) close.closes.step;
-            moves = moves-then turned.moves close.closes.moves;
+            ends = subst (λ a. Ends a n mid.core t.core) (sym turned.answers) end.ends;
+            moves = moves-then turned.moves end.moves;
             writes = turned.writes;
-            whole = close.closes.whole;
+            whole = end.whole turned.whole;
           };
           answers = turned.answers;
-          fits = tt;
+          fits = end.fits turned.fits;
         };
+    counts = turns.counts;
   }
 
 -- a turn that has answered ends the worker, and another doesn't

@@ -1,5 +1,5 @@
 -- A claim of a table is a worker's claim, and a turn of the worker.
-use Rattle.std.proofs.Common.{ℕ, ◌≡◌, List, ◌∷◌, Some, None, ◌⊎◌, inl, inr, refl, sym, subst, ◌∙◌, arith}
+use Rattle.std.proofs.Common.{ℕ, ◌≡◌, true, List, [], ◌∷◌, Some, None, ◌⊎◌, inl, inr, refl, sym, ap, subst, ◌∙◌, arith}
 use Rattle.std.specs.Prelude.{Result, Ok, Err, IfOk}
 use Rattle.pagable_model.specs.declared.error.Error.TheVariants as errors
 use Rattle.pagable_model.specs.declared.numbers.ArcRef.{ArcRef}
@@ -8,13 +8,13 @@ use Rattle.pagable_world.specs.declared.handles.Owner.{Owner}
 use Rattle.pagable_world.specs.declared.events.Claim.{Claim}
 use Rattle.pagable_world.specs.declared.events.Claim.TheVariants as claims
 use Rattle.pagable_world.specs.Kinds.{identity_of}
-use Rattle.pagable_world.specs.World.{Core, Shelf, Todo, to_start, SameShelf, Alike, Values}
-use Rattle.pagable_world.specs.Workers.{Site, claim_fault, Claims, Finds, Turns, IsTooDeep, with_wait}
+use Rattle.pagable_world.specs.World.{Core, Shelf, Todo, to_start, SameShelf, Alike, Values, was_refused}
+use Rattle.pagable_world.specs.Workers.{Site, claim_fault, entry_left, is_counted_claim, Claims, Finds, Turns, IsTooDeep, with_wait}
 use Rattle.pagable_world.specs.declared.events.Took.TheVariants as took
 use Rattle.pagable_world.specs.Pager.{PagerState, HandlesAreWhole}
 use Rattle.pagable_laws.proofs.Trees.{same_some}
 use Rattle.pagable_laws.proofs.Naming.{may-claim, claimed-stands}
-use Rattle.pagable_loads.specs.Working.{fault_in}
+use Rattle.pagable_walk.specs.Failing.{back_of, fails}
 use Rattle.pagable_walk.specs.Slots.{Would, claimed_shelf, RefusesClaim, ClaimsThere}
 use Rattle.pagable_walk.specs.declared.results.Trees.{Ghosts}
 use Rattle.pagable_walk.specs.declared.table.Found.{Found}
@@ -74,6 +74,10 @@ kind-claimed w r whole may =
     let c = may-claim w r may in
     record { given = (claimed-stands whole r may).node_given; typed = λ t is. same_some _ _ (sym is ∙ c.typed) }
 
+start-back : (r : ArcRef) (place : ℕ) (below : List Todo) → back_of (Some r.handle) below ≡ entry_left (to_start r place ∷ below)
+start-back r place [] = refl
+start-back r place (x ∷ below) = refl
+
 module _ {X : Type 0} {g : Ghosts X} where
   pub claim-fits : (v : ℕ) (s s' : Shelf) (r : ArcRef) (place : ℕ) (claim : Result (Found X g) Error) → ClaimsThere v s (identity_of r) place (found_as claim) s'
       → IfOk claim (IsFoundOf (identity_of r)) → ClaimFits r place claim
@@ -105,20 +109,26 @@ module _ {X : Type 0} {g : Ghosts X} where
   claim-leaves n w shelf s' r place below (Ok founds.AlreadyFailed) task whole leaves c = plain-fits n w task leaves
   claim-leaves n w shelf s' r place below (Err e) task whole leaves c = plain-fits n w task leaves
 
-  pub start-turns : {N E : Type 0} (v : Values N) (me : Owner) (n : ℕ) (shelf shelf' : Shelf) (r : ArcRef) (place : ℕ) (below after : List Todo) (checked : Result (Unit {0}) Error) (claim : Result (Found X g) Error) (task : Task X g)
-      → ((core : Core) (below : List Todo) → fault_in checked ≡ claim_fault core r → Claims n (site core shelf (to_start r place ∷ below)) r place below (found_as claim) (site core shelf' (claim_todo r place below (found_as claim))))
-      → after ≡ claim_todo r place below (found_as claim) → ClaimLeaves r place claim task
-      → (s : PagerState N E) → fault_in checked ≡ claim_fault s.core r → TurnsTo v me n shelf (tasks.Start r place) below shelf' (comes.Goes task) after s s
-  start-turns v me n shelf shelf' r place below after checked claim task claims is leaves s fault = record {
-    turns = λ fits.
-        let c = claims s.core below fault in
-        record {
-          step = took.Claim (identity_of r) (found_as claim);
-          does = record { does = (refl, subst (λ todo. Claims n (site s.core shelf (to_start r place ∷ below)) r place below (found_as claim) (site s.core shelf' todo)) (sym is) c) };
-          answers = refl;
-          moves = record { each = λ q x h. inl h; environment = refl };
-          writes = tt;
-          whole = fits.whole;
-          fits = claim-leaves n s.core shelf (site s.core shelf' (claim_todo r place below (found_as claim))) r place below claim task fits.whole.whole.handles leaves c;
-        };
+  pub start-turns : {N E : Type 0} (v : Values N) (me : Owner) (n : ℕ) (shelf shelf' : Shelf) (r : ArcRef) (place : ℕ) (below after : List Todo) (claim : Result (Found X g) Error) (task : Task X g) → after ≡ claim_todo r place below (found_as claim)
+      → ClaimLeaves r place claim task
+      → (s : PagerState N E) → Claims n (site s.core shelf (to_start r place ∷ below)) r place below (found_as claim) (site s.core shelf' (claim_todo r place below (found_as claim)))
+      → TurnsTo v me n shelf (tasks.Start r place) below shelf' (record { took = took.Claim (identity_of r) (found_as claim); turn = comes.Goes task; counted = is_counted_claim (found_as claim) }) after s s
+  start-turns v me n shelf shelf' r place below after claim task is leaves s c = record {
+    counts = refl;
+    turns = λ fits. record {
+      does = record { does = (refl, subst (λ todo. Claims n (site s.core shelf (to_start r place ∷ below)) r place below (found_as claim) (site s.core shelf' todo)) (sym is) c) };
+      answers = refl;
+      moves = record { each = λ q x h. inl h; environment = refl };
+      writes = tt;
+      whole = fits.whole;
+      fits = claim-leaves n s.core shelf (site s.core shelf' (claim_todo r place below (found_as claim))) r place below claim task fits.whole.whole.handles leaves c;
+    };
   }
+
+  -- a claim that isn't made
+  pub start-refused : {N E : Type 0} (v : Values N) (me : Owner) (n : ℕ) (shelf shelf' : Shelf) (r : ArcRef) (place : ℕ) (below after : List Todo) (task : Task X g) → after ≡ fails (was_refused errors.OutOfMemory) (back_of (Some r.handle) below)
+      → IsPlain task → SameShelf (with_wait shelf n None) shelf' → (s : PagerState N E)
+      → TurnsTo v me n shelf (tasks.Start r place) below shelf' (record { took = took.Claim (identity_of r) (Err errors.OutOfMemory); turn = comes.Goes task; counted = true }) after s s
+  start-refused v me n shelf shelf' r place below after task is plain same s =
+      start-turns v me n shelf shelf' r place below after (Err errors.OutOfMemory) task (is ∙ ap (fails (was_refused errors.OutOfMemory)) (start-back r place below)) plain s
+      (record { finds = tt; refused = (inr (inr refl), record { pager_stays = alike s.core; table_is = same; list_is = refl }) })

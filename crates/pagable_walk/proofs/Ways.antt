@@ -23,6 +23,11 @@ unfolding Awaits
 settle-way o below few up near =
     left-by (λ rest. IsWay (next_start o.place rest ++ to_finish o ∷ below)) (length o.keys) o.written.references few (λ all. (all, up, near)) (λ r rest at. (at, refl, near, up))
 
+-- a path begins
+pub start-way : (r : ArcRef) → IsWay (to_start r 0 ∷ [])
+unfolding Awaits
+start-way r = refl
+
 pub item-way : (written : Written) (keys : List ℕ) → length keys ≤ length written.references → IsWay (settle (to_item written keys ∷ []))
 unfolding Awaits
 item-way written keys few = left-by (λ rest. IsWay (next_start 0 rest ++ to_item written keys ∷ [])) (length keys) written.references few (λ all. (all, refl)) (λ r rest at. (at, refl, refl))

@@ -5,5 +5,7 @@ pub mod Table
 pub mod Tasks
 pub mod Failing
 pub mod Turns
+pub mod Due
 pub mod Writing
 pub mod Ending
+pub mod Walking

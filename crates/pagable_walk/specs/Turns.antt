@@ -1,5 +1,8 @@
 -- A worker's turn over the pager's plain state and its table: what it needs to hold, what it does, and what it leaves to be done.
 use Rattle.std.specs.Prelude.{ℕ, ◌≡◌, ◌≤◌, ◌+◌, true, List, [], ◌∷◌, Option, Some, None, Result, Ok, Err}
+use Rattle.std.specs.Arc.{arc_value}
+use Rattle.std.specs.declared.alloc.Global.{Global}
+use Rattle.std.specs.declared.sync.Arc.{Arc}
 use Rattle.pagable_model.specs.declared.error.Error.{Error}
 use Rattle.pagable_model.specs.declared.numbers.ArcRef.{ArcRef}
 use Rattle.pagable_model.specs.declared.numbers.HandleNumber.{HandleNumber}
@@ -7,12 +10,13 @@ use Rattle.pagable_world.specs.Plain.{Blob, type_of, longest_path}
 use Rattle.pagable_world.specs.declared.handles.Owner.{Owner}
 use Rattle.pagable_world.specs.declared.handles.HandleRow.{HandleRow}
 use Rattle.pagable_world.specs.declared.events.Took.{Took}
+use Rattle.pagable_world.specs.declared.events.Took.TheVariants as took
 use Rattle.pagable_world.specs.declared.events.WorkerAnswer.{WorkerAnswer}
 use Rattle.pagable_world.specs.declared.events.Claim.{Claim}
 use Rattle.pagable_world.specs.declared.events.Claim.TheVariants as claims
 use Rattle.pagable_world.specs.Kinds.{is_pinning, owner_worker, identity_of}
-use Rattle.pagable_world.specs.World.{Core, Shelf, Todo, to_start, to_pin, was_failed, of_cell, Written, Values, Seen, row_at, type_at}
-use Rattle.pagable_world.specs.Workers.{Site, WalkDoes, WorkerEnds, give_known, failing, failing_by, answer_after}
+use Rattle.pagable_world.specs.World.{Core, Shelf, Todo, to_start, to_pin, was_failed, of_cell, Written, Values, Seen, seen_as, row_at, type_at}
+use Rattle.pagable_world.specs.Workers.{Site, WalkDoes, WorkerEnds, give_known, failing, failing_by, answer_after, is_counted}
 use Rattle.pagable_world.specs.Access.{Called, WalkStep}
 use Rattle.pagable_loads.specs.Telling.{Acting}
 use Rattle.pagable_loads.specs.Working.{as_caller}
@@ -20,7 +24,9 @@ use Rattle.pagable_world.specs.Pager.{PagerState, WellFormed, Moves, TodoBrings,
 use Rattle.pagable_laws.specs.KeyRuns.{StandsAt}
 use Rattle.pagable_loads.specs.declared.reading.Reading.{Reading as Own}
 use Rattle.pagable_loads.specs.Frames.{IsLoadOf}
+use Rattle.pagable_core.specs.declared.context.writing.SerializedData.{SerializedData}
 use Rattle.pagable_walk.specs.declared.results.Trees.{Ghosts}
+use Rattle.pagable_walk.specs.declared.tasks.Moved.{Moved}
 use Rattle.pagable_walk.specs.declared.tasks.Task.{Task}
 use Rattle.pagable_walk.specs.declared.tasks.Task.TheVariants as tasks
 use Rattle.pagable_walk.specs.declared.tasks.Turn.{Turn}
@@ -28,6 +34,7 @@ use Rattle.pagable_walk.specs.declared.tasks.Turn.TheVariants as comes
 use Rattle.pagable_walk.specs.declared.tasks.Waiting.{Waiting}
 use Rattle.pagable_walk.specs.declared.table.Found.{Found}
 use Rattle.pagable_walk.specs.declared.table.Found.TheVariants as founds
+use Rattle.pagable_walk.specs.Slots.{written_of}
 use Rattle.pagable_walk.specs.Tasks.{IsPlain, todo_of, todos}
 
 abbrev pub site : Core → Shelf → List Todo → Site
@@ -44,6 +51,17 @@ claim_todo r place below (Err e) = failing_by e (to_start r place ∷ below)
 -- plain blobs, and what is written, as they are
 abbrev pub plain : {N : Type 0} → Values N → Seen N Blob Written
 plain v = record { values = v; blob_of = λ b. b; written_of = λ w. w }
+
+-- a step without where what it wrote lies in memory
+abbrev pub plain_took : Took (Arc SerializedData Global) → Took Written
+plain_took (took.Claim i r) = took.Claim i r
+plain_took (took.Pin i r) = took.Pin i r
+plain_took (took.Write i out) = took.Write i (seen_as (λ a. written_of (arc_value a)) out)
+plain_took (took.Store i r) = took.Store i r
+plain_took (took.SetKey i r) = took.SetKey i r
+plain_took (took.Publish i key height) = took.Publish i key height
+plain_took (took.Release i) = took.Release i
+plain_took took.Fail = took.Fail
 
 -- while the reference's node lives it has the type of the reference's kind
 pub record IsOfKind (w : Core) (r : ArcRef) : Type 0 where
@@ -106,19 +124,19 @@ module _ {X : Type 0} {g : Ghosts X} where
   LeavesFit n w (comes.Goes t) = TaskFits n w t
   LeavesFit n w (comes.Answers a) = Unit {0}
 
-  -- some step of the worker, up to its end
-  pub record Turned {N E : Type 0} (v : Values N) (n : ℕ) (shelf : Shelf) (todo : List Todo) (s : PagerState N E) (shelf' : Shelf) (turn : Turn X g) (after : List Todo) (t : PagerState N E) : Type 0 where
-    pub step : Took Written
-    pub does : WalkDoes (plain v) n (site s.core shelf todo) step (site t.core shelf' after)
-    pub answers : answer_after todo step ≡ answer_in turn
+  -- a step of the worker, up to its end
+  pub record Turned {N E : Type 0} (v : Values N) (n : ℕ) (shelf : Shelf) (todo : List Todo) (s : PagerState N E) (shelf' : Shelf) (moved : Moved X g) (after : List Todo) (t : PagerState N E) : Type 0 where
+    pub does : WalkDoes (plain v) n (site s.core shelf todo) (plain_took moved.took) (site t.core shelf' after)
+    pub answers : answer_after todo (plain_took moved.took) ≡ answer_in moved.turn
     pub moves : Moves (TodoBrings v s.core todo) s t
-    pub writes : TookWrites v (λ w. w) s step
+    pub writes : TookWrites v (λ w. w) s (plain_took moved.took)
     pub whole : WellFormed v t
-    pub fits : LeavesFit n t.core turn
+    pub fits : LeavesFit n t.core moved.turn
 
-  -- A turn is a step of the worker, where the task fits.
-  pub record TurnsTo {N E : Type 0} (v : Values N) (me : Owner) (n : ℕ) (shelf : Shelf) (task : Task X g) (below : List Todo) (shelf' : Shelf) (turn : Turn X g) (after : List Todo) (s t : PagerState N E) : Type 0 where
-    pub turns : Fits v me n task s → Turned v n shelf (todo_of task ∷ below) s shelf' turn after t
+  -- A turn is a step of the worker, where the task fits, and is counted as one.
+  pub record TurnsTo {N E : Type 0} (v : Values N) (me : Owner) (n : ℕ) (shelf : Shelf) (task : Task X g) (below : List Todo) (shelf' : Shelf) (moved : Moved X g) (after : List Todo) (s t : PagerState N E) : Type 0 where
+    pub turns : Fits v me n task s → Turned v n shelf (todo_of task ∷ below) s shelf' moved after t
+    pub counts : moved.counted ≡ is_counted (todo_of task ∷ below) (plain_took moved.took)
 
   -- with an answer the worker ends
   abbrev pub Closing : {N E : Type 0} → Values N → ℕ → Turn X g → PagerState N E → PagerState N E → Type 0
@@ -132,13 +150,13 @@ module _ {X : Type 0} {g : Ghosts X} where
   acting_then (comes.Goes t) a = a
   acting_then (comes.Answers answer) a = as_caller a
 
-  -- some step of the worker, with its end
-  pub record Stepped {N E : Type 0} (v : Values N) (n : ℕ) (shelf : Shelf) (todo : List Todo) (s : PagerState N E) (shelf' : Shelf) (turn : Turn X g) (after : List Todo) (t : PagerState N E) : Type 0 where
-    pub step : Took Written
-    pub does : WalkStep (plain v) n todo (record { pager = s; shelf = shelf }) step after (record { pager = t; shelf = shelf' })
-    pub answers : answer_after todo step ≡ answer_in turn
-    pub fits : LeavesFit n t.core turn
+  -- a step of the worker, with its end
+  pub record Stepped {N E : Type 0} (v : Values N) (n : ℕ) (shelf : Shelf) (todo : List Todo) (s : PagerState N E) (shelf' : Shelf) (moved : Moved X g) (after : List Todo) (t : PagerState N E) : Type 0 where
+    pub does : WalkStep (plain v) n todo (record { pager = s; shelf = shelf }) (plain_took moved.took) after (record { pager = t; shelf = shelf' })
+    pub answers : answer_after todo (plain_took moved.took) ≡ answer_in moved.turn
+    pub fits : LeavesFit n t.core moved.turn
 
-  -- It is a step of the worker, where the task fits.
-  pub record StepsTo {N E : Type 0} (v : Values N) (me : Owner) (n : ℕ) (shelf : Shelf) (task : Task X g) (below : List Todo) (shelf' : Shelf) (turn : Turn X g) (after : List Todo) (s t : PagerState N E) : Type 0 where
-    pub steps : Fits v me n task s → Stepped v n shelf (todo_of task ∷ below) s shelf' turn after t
+  -- It is a step of the worker, where the task fits, and is counted as one.
+  pub record StepsTo {N E : Type 0} (v : Values N) (me : Owner) (n : ℕ) (shelf : Shelf) (task : Task X g) (below : List Todo) (shelf' : Shelf) (moved : Moved X g) (after : List Todo) (s t : PagerState N E) : Type 0 where
+    pub steps : Fits v me n task s → Stepped v n shelf (todo_of task ∷ below) s shelf' moved after t
+    pub counts : moved.counted ≡ is_counted (todo_of task ∷ below) (plain_took moved.took)

@@ -5,25 +5,25 @@ ghost use Rattle.std.specs.Arc.{arc_value};
 ghost use Rattle.pagable_core.specs.Data.{blob_of};
 ghost use Rattle.pagable_model.specs.Merkle.{blob_of as blob_over};
 ghost use Rattle.pagable_model.specs.Blob.{key_of};
-ghost use Rattle.pagable_world.specs.World.{Shelf, Todo, answer_of_fault, to_set};
+ghost use Rattle.pagable_world.specs.World.{Shelf, Todo, answer_of_fault, to_finish, to_release, to_set};
 ghost use Rattle.pagable_world.specs.Access.{Told};
 ghost use Rattle.pagable_loads.specs.Telling.{Tells, values_at};
-ghost use Rattle.pagable_walk.specs.declared.tasks.Turn.{Turn};
 ghost use Rattle.pagable_walk.specs.Found.{keys_of};
 ghost use Rattle.pagable_walk.specs.Slots.{written_of};
 ghost use Rattle.pagable_walk.specs.Table.{shelf_of};
-ghost use Rattle.pagable_walk.specs.Tasks.{Awaits, AwaitsLow, IsPlain, IsWay, fault_of, todo_of, todos};
+ghost use Rattle.pagable_walk.specs.Tasks.{Awaits, AwaitsLow, IsPlain, IsWay, fault_of, item_todo, open_of, todo_of, todos};
 ghost use Rattle.pagable_walk.specs.Ending.{Stores, GoesBack};
+ghost use Rattle.pagable_walk.specs.Due.{LeadsOn};
 ghost use Rattle.pagable_walk.specs.Turns.{TurnsTo, plan};
 
-use crate::stack::{fail, give};
-use crate::tasks::{Done, Item, Open, Task, Turn, Waiting};
+use crate::stack::{give, refuse};
+use crate::tasks::{Done, Item, Moved, Open, Task, Turn, Waiting, named};
 use crate::{PageOutError, SlotResult, SlotTable, Trees};
 use pagable_codec::{Env, NodeSet};
 use pagable_core::{PagableData, SerializedData};
 use pagable_loads::WorkerAccess;
-use pagable_model::{DataKey, Error, HandleNumber, Identity, WorkerNumber};
-use pagable_world::WorkerAnswer;
+use pagable_model::{DataKey, Error, HandleNumber, WorkerNumber};
+use pagable_world::{Took, WorkerAnswer};
 use std::alloc::Global;
 
 // The keys of results, in their order.
@@ -71,10 +71,7 @@ where
     ensures lender { A.lender access.new ≡ A.lender access.old }
 {
     match blob(alloc, written, children) {
-        Ok(blob) => match access.store(alloc, blob) {
-            Ok(key) => Ok(key),
-            Err(e) => Err(e),
-        },
+        Ok(blob) => access.store(alloc, blob),
         Err(e) => Err(e),
     }
 }
@@ -88,12 +85,8 @@ where
     ensures todo { todo_of result ≡ to_set node.reference node.through key node.height }
     ensures plain { IsPlain result }
 {
-    let identity = Identity {
-        kind: node.reference.kind,
-        node: node.reference.node,
-    };
     let found = SlotResult::of_node(
-        identity,
+        named(node.reference),
         node.written.as_ref(),
         node.children.as_slice(),
         key,
@@ -110,24 +103,34 @@ pub fn finish<E: Env, A: WorkerAccess<E>>(
     alloc: Global,
     path: &mut Vec<Waiting<E>>,
     node: Open<E>,
-) -> Task<E>
+) -> Moved<E>
 where
     E::Node: NodeSet<E>,
     requires all { length node.children.items ≡ length (written_of (arc_value node.written)).references }
     requires way { Awaits (todos path.old.items) node.reference node.place }
-    ensures way { IsWay (todo_of result ∷ todos path.new.items) }
-    ensures step { (n : ℕ) (shelf : Shelf) → Told (A.told access.old) (A.told access.new) (TurnsTo (values_at E.Node.NodeSet E.Env E.Hash.KeyHash (A.acting access.old).environment) (A.acting access.old).me n shelf (Task.Finish node) (todos path.old.items) shelf (Turn.Goes result) (todo_of result ∷ todos path.new.items)) }
+    ensures way { IsWay (plan result.turn path.new.items) }
+    ensures leads { LeadsOn (to_finish (open_of node) ∷ todos path.old.items) result.turn (plan result.turn path.new.items) }
+    ensures step { (n : ℕ) (shelf : Shelf) → Told (A.told access.old) (A.told access.new) (TurnsTo (values_at E.Node.NodeSet E.Env E.Hash.KeyHash (A.acting access.old).environment) (A.acting access.old).me n shelf (Task.Finish node) (todos path.old.items) shelf result (plan result.turn path.new.items)) }
     ensures acting { A.acting access.new ≡ A.acting access.old }
     ensures lender { A.lender access.new ≡ A.lender access.old }
 {
+    let identity = named(node.reference);
     match store(
         access,
         alloc,
         node.written.as_ref(),
         node.children.as_slice(),
     ) {
-        Ok(key) => stored(node, key),
-        Err(e) => fail(path, PageOutError::Failed(e), None),
+        Ok(key) => Moved {
+            took: Took::Store(Some(identity), Ok(key)),
+            turn: Turn::Goes(stored(node, key)),
+            counted: true,
+        },
+        Err(e) => Moved {
+            turn: Turn::Goes(refuse(path, &e, None)),
+            took: Took::Store(Some(identity), Err(e)),
+            counted: true,
+        },
     }
 }
 
@@ -137,13 +140,14 @@ pub fn finish_item<E: Env, A: WorkerAccess<E>>(
     alloc: Global,
     path: &mut Vec<Waiting<E>>,
     item: Item<E>,
-) -> Turn<E>
+) -> Moved<E>
 where
     E::Node: NodeSet<E>,
     requires all { length item.children.items ≡ length (written_of (arc_value item.written)).references }
     requires none { todos path.old.items ≡ [] }
-    ensures way { IsWay (plan result path.new.items) }
-    ensures step { (n : ℕ) (shelf : Shelf) → Told (A.told access.old) (A.told access.new) (TurnsTo (values_at E.Node.NodeSet E.Env E.Hash.KeyHash (A.acting access.old).environment) (A.acting access.old).me n shelf (Task.Item item) (todos path.old.items) shelf result (plan result path.new.items)) }
+    ensures way { IsWay (plan result.turn path.new.items) }
+    ensures leads { LeadsOn (item_todo item ∷ todos path.old.items) result.turn (plan result.turn path.new.items) }
+    ensures step { (n : ℕ) (shelf : Shelf) → Told (A.told access.old) (A.told access.new) (TurnsTo (values_at E.Node.NodeSet E.Env E.Hash.KeyHash (A.acting access.old).environment) (A.acting access.old).me n shelf (Task.Item item) (todos path.old.items) shelf result (plan result.turn path.new.items)) }
     ensures acting { A.acting access.new ≡ A.acting access.old }
     ensures lender { A.lender access.new ≡ A.lender access.old }
 {
@@ -153,8 +157,16 @@ where
         item.written.as_ref(),
         item.children.as_slice(),
     ) {
-        Ok(key) => Turn::Answers(WorkerAnswer::Key(key)),
-        Err(e) => Turn::Goes(fail(path, PageOutError::Failed(e), None)),
+        Ok(key) => Moved {
+            took: Took::Store(None, Ok(key)),
+            turn: Turn::Answers(WorkerAnswer::Key(key)),
+            counted: true,
+        },
+        Err(e) => Moved {
+            turn: Turn::Goes(refuse(path, &e, None)),
+            took: Took::Store(None, Err(e)),
+            counted: true,
+        },
     }
 }
 
@@ -164,19 +176,28 @@ pub fn set_key<E: Env, A: WorkerAccess<E>>(
     path: &mut Vec<Waiting<E>>,
     done: Done<E>,
     through: HandleNumber,
-) -> Task<E>
+) -> Moved<E>
 where
     E::Node: NodeSet<E>,
     requires { AwaitsLow (todos path.old.items) done.reference done.found.height }
-    ensures way { IsWay (todo_of result ∷ todos path.new.items) }
-    ensures step { (n : ℕ) (shelf : Shelf) → Told (A.told access.old) (A.told access.new) (TurnsTo (values_at E.Node.NodeSet E.Env E.Hash.KeyHash (A.acting access.old).environment) (A.acting access.old).me n shelf (Task.SetKey done through) (todos path.old.items) shelf (Turn.Goes result) (todo_of result ∷ todos path.new.items)) }
+    ensures way { IsWay (plan result.turn path.new.items) }
+    ensures leads { LeadsOn (to_set done.reference through done.found.key done.found.height ∷ todos path.old.items) result.turn (plan result.turn path.new.items) }
+    ensures step { (n : ℕ) (shelf : Shelf) → Told (A.told access.old) (A.told access.new) (TurnsTo (values_at E.Node.NodeSet E.Env E.Hash.KeyHash (A.acting access.old).environment) (A.acting access.old).me n shelf (Task.SetKey done through) (todos path.old.items) shelf result (plan result.turn path.new.items)) }
     ensures acting { A.acting access.new ≡ A.acting access.old }
     ensures lender { A.lender access.new ≡ A.lender access.old }
 {
-    let key = done.key();
-    match access.set_data_key(through, key) {
-        Ok(()) => Task::Publish(done),
-        Err(e) => fail(path, PageOutError::Failed(e), None),
+    let identity = named(done.reference);
+    match access.set_data_key(through, done.key()) {
+        Ok(()) => Moved {
+            took: Took::SetKey(identity, Ok(())),
+            turn: Turn::Goes(Task::Publish(done)),
+            counted: true,
+        },
+        Err(e) => Moved {
+            turn: Turn::Goes(refuse(path, &e, None)),
+            took: Took::SetKey(identity, Err(e)),
+            counted: true,
+        },
     }
 }
 
@@ -185,14 +206,18 @@ pub fn publish<E: Env, A: WorkerAccess<E>>(
     _access: &A,
     table: &mut SlotTable<E>,
     done: Done<E>,
-) -> Task<E>
+) -> Moved<E>
 where
     E::Node: NodeSet<E>,
-    ensures is { result ≡ Task.Release done }
-    ensures step { (n : ℕ) (below : List Todo) → Tells (A.told _access.now) (λ s. TurnsTo (values_at E.Node.NodeSet E.Env E.Hash.KeyHash (A.acting _access.now).environment) (A.acting _access.now).me n (shelf_of table.old) (Task.Publish done) below (shelf_of table.new) (Turn.Goes result) (todo_of result ∷ below) s s) }
+    ensures is { result.turn ≡ Turn.Goes (Task.Release done) }
+    ensures step { (n : ℕ) (below : List Todo) → Tells (A.told _access.now) (λ s. TurnsTo (values_at E.Node.NodeSet E.Env E.Hash.KeyHash (A.acting _access.now).environment) (A.acting _access.now).me n (shelf_of table.old) (Task.Publish done) below (shelf_of table.new) result (to_release done.reference done.found.key done.found.height ∷ below) s s) }
 {
     table.set_success(done.found.again());
-    Task::Release(done)
+    Moved {
+        took: Took::Publish(named(done.reference), done.key(), done.found.height),
+        turn: Turn::Goes(Task::Release(done)),
+        counted: true,
+    }
 }
 
 /// Gives up the worker's handles of a node that is done. Its result goes to what waits for it; where nothing does, its key is answered.
@@ -201,21 +226,30 @@ pub fn release<E: Env, A: WorkerAccess<E>>(
     worker: WorkerNumber,
     path: &mut Vec<Waiting<E>>,
     done: Done<E>,
-) -> Turn<E>
+) -> Moved<E>
 where
     E::Node: NodeSet<E>,
     requires { AwaitsLow (todos path.old.items) done.reference done.found.height }
-    ensures way { IsWay (plan result path.new.items) }
-    ensures step { (shelf : Shelf) → Told (A.told access.old) (A.told access.new) (TurnsTo (values_at E.Node.NodeSet E.Env E.Hash.KeyHash (A.acting access.old).environment) (A.acting access.old).me worker.0 shelf (Task.Release done) (todos path.old.items) shelf result (plan result path.new.items)) }
+    ensures way { IsWay (plan result.turn path.new.items) }
+    ensures leads { LeadsOn (to_release done.reference done.found.key done.found.height ∷ todos path.old.items) result.turn (plan result.turn path.new.items) }
+    ensures step { (shelf : Shelf) → Told (A.told access.old) (A.told access.new) (TurnsTo (values_at E.Node.NodeSet E.Env E.Hash.KeyHash (A.acting access.old).environment) (A.acting access.old).me worker.0 shelf (Task.Release done) (todos path.old.items) shelf result (plan result.turn path.new.items)) }
     ensures acting { A.acting access.new ≡ A.acting access.old }
     ensures lender { A.lender access.new ≡ A.lender access.old }
 {
-    let node = done.node();
-    access.give_up(worker, node);
+    let identity = named(done.reference);
+    access.give_up(worker, identity.node);
     let Some(waiting) = path.pop() else {
-        return Turn::Answers(WorkerAnswer::Key(done.key()));
+        return Moved {
+            took: Took::Release(identity),
+            turn: Turn::Answers(WorkerAnswer::Key(done.key())),
+            counted: true,
+        };
     };
-    Turn::Goes(give(path, waiting, done))
+    Moved {
+        took: Took::Release(identity),
+        turn: Turn::Goes(give(path, waiting, done)),
+        counted: true,
+    }
 }
 
 // An entry goes back to the list, as far as the list can take it.
@@ -233,12 +267,12 @@ where
 }
 
 // What a failed walk answers.
-fn answer<E: Trees>(why: PageOutError) -> Turn<E>
-    ensures { result ≡ Turn.Answers (answer_of_fault (fault_of why)) }
+fn answer(why: PageOutError) -> WorkerAnswer
+    ensures { result ≡ answer_of_fault (fault_of why) }
 {
     match why {
-        PageOutError::Failed(e) => Turn::Answers(WorkerAnswer::Failed(e)),
-        PageOutError::AlreadyFailed => Turn::Answers(WorkerAnswer::AlreadyFailed),
+        PageOutError::Failed(e) => WorkerAnswer::Failed(e),
+        PageOutError::AlreadyFailed => WorkerAnswer::AlreadyFailed,
     }
 }
 
@@ -249,15 +283,19 @@ pub fn end<E: Env, A: WorkerAccess<E>>(
     worker: WorkerNumber,
     why: PageOutError,
     back: Option<HandleNumber>,
-) -> Turn<E>
+) -> Moved<E>
 where
     E::Node: NodeSet<E>,
-    ensures is { result ≡ Turn.Answers (answer_of_fault (fault_of why)) }
+    ensures is { result.turn ≡ Turn.Answers (answer_of_fault (fault_of why)) }
     ensures step { (below : List Todo) → Told (A.told access.old) (A.told access.new) (TurnsTo (values_at E.Node.NodeSet E.Env E.Hash.KeyHash (A.acting access.old).environment) (A.acting access.old).me worker.0 (shelf_of table.old) (Task.Fail why back) below (shelf_of table.new) result []) }
     ensures acting { A.acting access.new ≡ A.acting access.old }
     ensures lender { A.lender access.new ≡ A.lender access.old }
 {
     give_back(access, back);
     table.fail(worker);
-    answer(why)
+    Moved {
+        took: Took::Fail,
+        turn: Turn::Answers(answer(why)),
+        counted: true,
+    }
 }

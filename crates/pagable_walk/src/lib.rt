@@ -7,13 +7,15 @@ pub mod making;
 pub mod results;
 pub mod slots;
 pub mod stack;
+pub mod starting;
 pub mod step;
 pub mod table;
 pub mod tasks;
 pub mod turns;
+pub mod walk;
 pub mod writing;
 
 pub use results::{SlotResult, Trees};
 pub use slots::{ArcSerSlot, Outcome, Standing};
 pub use table::{Found, PageOutError, SlotTable};
-pub use tasks::{Done, Item, Open, Task, Turn, Waiting};
+pub use tasks::{Done, Item, Moved, Open, Task, Turn, Waiting};

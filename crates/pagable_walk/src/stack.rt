@@ -1,18 +1,19 @@
 //! A worker's path: what was written and waits for the next of its references.
 
-ghost use Rattle.std.specs.Prelude.{◌≡◌, ◌≤◌, ◌<◌, ◌+◌, ◌∷◌, ◌++◌, [], Some, max, length, slice_get, vec_len, vec_capacity};
+ghost use Rattle.std.specs.Prelude.{◌≡◌, ◌≤◌, ◌<◌, ◌+◌, ◌*◌, ◌∷◌, ◌++◌, [], Some, max, length, slice_get, vec_len, vec_capacity};
 ghost use Rattle.std.specs.Arc.{arc_value};
 ghost use Rattle.pagable_world.specs.Plain.{above, longest_path};
-ghost use Rattle.pagable_world.specs.World.{to_finish, to_item};
+ghost use Rattle.pagable_world.specs.World.{to_finish, to_item, was_refused};
 ghost use Rattle.pagable_world.specs.Workers.{place_below, settle, give, give_known};
 ghost use Rattle.pagable_walk.specs.Found.{keys_of};
 ghost use Rattle.pagable_walk.specs.Slots.{written_of};
 ghost use Rattle.pagable_walk.specs.Tasks.{AwaitsLow, IsPlain, fault_of, item_todo, open_of, todo_of, todos, waiting_todo, with_child};
+ghost use Rattle.pagable_walk.specs.Due.{due};
 ghost use Rattle.pagable_walk.specs.Failing.{back_of, fails};
 
 use crate::tasks::{Done, Item, Open, Task, Waiting};
 use crate::{PageOutError, Trees};
-use pagable_model::{HandleNumber, Kind};
+use pagable_model::{Error, HandleNumber, Kind};
 
 /// The place of a reference of this kind on the path below a node at this place. A path ends at a reference through a loose handle.
 pub fn place_below(place: u64, kind: Kind) -> u64
@@ -36,6 +37,7 @@ pub fn settle_open<E: Trees>(path: &mut Vec<Waiting<E>>, node: Open<E>) -> Task<
     requires { vec_len path.old < vec_capacity path.old }
     ensures todo { todo_of result ∷ todos path.new.items ≡ settle (to_finish (open_of node) ∷ todos path.old.items) }
     ensures plain { IsPlain result }
+    ensures less { due (todo_of result ∷ todos path.new.items) ≤ 8 + 6 * length (todos path.old.items) }
 {
     let done = node.children.len();
     if done >= node.written.arcs.len() {
@@ -52,6 +54,7 @@ pub fn settle_item<E: Trees>(path: &mut Vec<Waiting<E>>, item: Item<E>) -> Task<
     requires { vec_len path.old < vec_capacity path.old }
     ensures todo { todo_of result ∷ todos path.new.items ≡ settle (item_todo item ∷ todos path.old.items) }
     ensures plain { IsPlain result }
+    ensures less { due (todo_of result ∷ todos path.new.items) ≤ 8 + 6 * length (todos path.old.items) }
 {
     let done = item.children.len();
     if done >= item.written.arcs.len() {
@@ -108,6 +111,7 @@ pub fn give<E: Trees>(path: &mut Vec<Waiting<E>>, waiting: Waiting<E>, done: Don
     requires way { AwaitsLow (waiting_todo waiting ∷ todos path.old.items) done.reference done.found.height }
     ensures todo { todo_of result ∷ todos path.new.items ≡ give done.reference done.found.key done.found.height (waiting_todo waiting ∷ todos path.old.items) }
     ensures plain { IsPlain result }
+    ensures less { due (todo_of result ∷ todos path.new.items) ≤ 8 + 6 * length (todos path.old.items) }
 {
     match waiting {
         Waiting::Node(node) => {
@@ -126,6 +130,7 @@ pub fn give_known<E: Trees>(path: &mut Vec<Waiting<E>>, done: Done<E>) -> Task<E
     requires { AwaitsLow (todos path.old.items) done.reference done.found.height }
     ensures todo { todo_of result ∷ todos path.new.items ≡ give_known done.reference done.found.key done.found.height (todos path.old.items) }
     ensures plain { IsPlain result }
+    ensures less { due (todo_of result ∷ todos path.new.items) ≤ 3 + 6 * length (todos path.old.items) }
 {
     match path.pop() {
         None => Task::Release(done),
@@ -141,6 +146,7 @@ pub fn fail<E: Trees>(
 ) -> Task<E>
     ensures todo { todo_of result ∷ todos path.new.items ≡ fails (fault_of why) (back_of entry (todos path.old.items)) }
     ensures plain { IsPlain result }
+    ensures less { due (todo_of result ∷ todos path.new.items) ≡ 1 }
     ensures none { todos path.new.items ≡ [] }
 {
     if path.is_empty() {
@@ -148,4 +154,18 @@ pub fn fail<E: Trees>(
     }
     path.clear();
     Task::Fail(why, None)
+}
+
+/// The walk fails by a step of its own that was refused.
+pub fn refuse<E: Trees>(
+    path: &mut Vec<Waiting<E>>,
+    e: &Error,
+    entry: Option<HandleNumber>,
+) -> Task<E>
+    ensures todo { todo_of result ∷ todos path.new.items ≡ fails (was_refused e.now) (back_of entry (todos path.old.items)) }
+    ensures plain { IsPlain result }
+    ensures less { due (todo_of result ∷ todos path.new.items) ≡ 1 }
+    ensures none { todos path.new.items ≡ [] }
+{
+    fail(path, PageOutError::Failed(*e), entry)
 }

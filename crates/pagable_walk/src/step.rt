@@ -5,11 +5,12 @@ ghost use Rattle.pagable_world.specs.Access.{Told};
 ghost use Rattle.pagable_loads.specs.Telling.{values_at};
 ghost use Rattle.pagable_walk.specs.Table.{shelf_of};
 ghost use Rattle.pagable_walk.specs.Tasks.{IsWay, todo_of, todos};
+ghost use Rattle.pagable_walk.specs.Due.{LeadsOn};
 ghost use Rattle.pagable_walk.specs.Turns.{Closes, TurnsTo, StepsTo, acting_then, plan};
 
 use crate::SlotTable;
 use crate::ending::{end, finish, finish_item, publish, release, set_key};
-use crate::tasks::{Task, Turn, Waiting};
+use crate::tasks::{Moved, Task, Turn, Waiting};
 use crate::turns::{load, pin, start};
 use crate::writing::write;
 use pagable_codec::{Env, NodeSet};
@@ -25,30 +26,29 @@ pub fn turn<E: Env, A: WorkerAccess<E>>(
     worker: WorkerNumber,
     path: &mut Vec<Waiting<E>>,
     task: Task<E>,
-) -> Turn<E>
+) -> Moved<E>
 where
     E::Node: NodeSet<E>,
     requires { IsWay (todo_of task ∷ todos path.old.items) }
-    ensures way { IsWay (plan result path.new.items) }
-    ensures step { Told (A.told access.old) (A.told access.new) (TurnsTo (values_at E.Node.NodeSet E.Env E.Hash.KeyHash (A.acting access.old).environment) (A.acting access.old).me worker.0 (shelf_of table.old) task (todos path.old.items) (shelf_of table.new) result (plan result path.new.items)) }
+    ensures way { IsWay (plan result.turn path.new.items) }
+    ensures leads { LeadsOn (todo_of task ∷ todos path.old.items) result.turn (plan result.turn path.new.items) }
+    ensures step { Told (A.told access.old) (A.told access.new) (TurnsTo (values_at E.Node.NodeSet E.Env E.Hash.KeyHash (A.acting access.old).environment) (A.acting access.old).me worker.0 (shelf_of table.old) task (todos path.old.items) (shelf_of table.new) result (plan result.turn path.new.items)) }
     ensures acting { A.acting access.new ≡ A.acting access.old }
     ensures lender { A.lender access.new ≡ A.lender access.old }
 {
     match task {
-        Task::Start(reference, place) => {
-            Turn::Goes(start(access, table, worker, path, reference, place))
+        Task::Start(reference, place) => start(access, table, worker, path, reference, place),
+        Task::Pin(reference, place) => pin(access, alloc, path, reference, place),
+        Task::Load(reference, place, through, reading) => {
+            load(access, alloc, path, reference, place, through, reading)
         }
-        Task::Pin(reference, place) => Turn::Goes(pin(access, alloc, path, reference, place)),
-        Task::Load(reference, place, through, reading) => Turn::Goes(load(
-            access, alloc, path, reference, place, through, reading,
-        )),
-        Task::Write(reference, place, through, pin) => Turn::Goes(write(
-            access, alloc, table, path, reference, place, through, pin,
-        )),
-        Task::Finish(node) => Turn::Goes(finish(access, alloc, path, node)),
+        Task::Write(reference, place, through, pin) => {
+            write(access, alloc, table, path, reference, place, through, pin)
+        }
+        Task::Finish(node) => finish(access, alloc, path, node),
         Task::Item(item) => finish_item(access, alloc, path, item),
-        Task::SetKey(done, through) => Turn::Goes(set_key(access, path, done, through)),
-        Task::Publish(done) => Turn::Goes(publish(access, table, done)),
+        Task::SetKey(done, through) => set_key(access, path, done, through),
+        Task::Publish(done) => publish(access, table, done),
         Task::Release(done) => release(access, worker, path, done),
         Task::Fail(why, back) => end(access, table, worker, why, back),
     }
@@ -68,8 +68,8 @@ where
     access.worker_end(worker);
 }
 
-/// A worker's next step, by its task and its path, on the pager and its table: what is to be done after it, or its answer. With its answer the worker gives up all
-/// that it still has, and the calls are the caller's again.
+/// A worker's next step, by its task and its path, on the pager and its table: what it was, and what is to be done after it, or its answer. With its answer the worker
+/// gives up all that it still has, and the calls are the caller's again.
 pub fn step<E: Env, A: WorkerAccess<E>>(
     access: &mut A,
     alloc: Global,
@@ -77,16 +77,17 @@ pub fn step<E: Env, A: WorkerAccess<E>>(
     worker: WorkerNumber,
     path: &mut Vec<Waiting<E>>,
     task: Task<E>,
-) -> Turn<E>
+) -> Moved<E>
 where
     E::Node: NodeSet<E>,
     requires { IsWay (todo_of task ∷ todos path.old.items) }
-    ensures way { IsWay (plan result path.new.items) }
-    ensures step { Told (A.told access.old) (A.told access.new) (StepsTo (values_at E.Node.NodeSet E.Env E.Hash.KeyHash (A.acting access.old).environment) (A.acting access.old).me worker.0 (shelf_of table.old) task (todos path.old.items) (shelf_of table.new) result (plan result path.new.items)) }
-    ensures acting { A.acting access.new ≡ acting_then result (A.acting access.old) }
+    ensures way { IsWay (plan result.turn path.new.items) }
+    ensures leads { LeadsOn (todo_of task ∷ todos path.old.items) result.turn (plan result.turn path.new.items) }
+    ensures step { Told (A.told access.old) (A.told access.new) (StepsTo (values_at E.Node.NodeSet E.Env E.Hash.KeyHash (A.acting access.old).environment) (A.acting access.old).me worker.0 (shelf_of table.old) task (todos path.old.items) (shelf_of table.new) result (plan result.turn path.new.items)) }
+    ensures acting { A.acting access.new ≡ acting_then result.turn (A.acting access.old) }
     ensures lender { A.lender access.new ≡ A.lender access.old }
 {
-    let turn = turn(access, alloc, table, worker, path, task);
-    end_answered(access, worker, &turn);
-    turn
+    let moved = turn(access, alloc, table, worker, path, task);
+    end_answered(access, worker, &moved.turn);
+    moved
 }

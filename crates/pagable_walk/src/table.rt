@@ -7,7 +7,7 @@ use indexmap::IndexMap;
 use pagable_model::{Error, Identity};
 
 /// Why a page-out fails.
-#[derive(Debug, PartialEq, Drop)]
+#[derive(Clone, Copy, Debug, PartialEq)]
 pub enum PageOutError {
     /// A step of its own was refused.
     Failed(Error),

@@ -10,8 +10,8 @@ ghost use Rattle.pagable_walk.specs.Found.{ids_of};
 use crate::{PageOutError, SlotResult, Trees};
 use pagable_core::SerializedData;
 use pagable_loads::Reading;
-use pagable_model::{ArcRef, DataKey, HandleNumber, NodeNumber};
-use pagable_world::WorkerAnswer;
+use pagable_model::{ArcRef, DataKey, HandleNumber, Identity};
+use pagable_world::{Took, WorkerAnswer};
 use std::sync::Arc;
 
 /// A node that was written and whose references are walked: the reference by which it was claimed, its place on the path, the worker's handle of the
@@ -53,13 +53,6 @@ impl<E: Trees> Done<E> {
         ensures { result ≡ self.now.found.key }
     {
         self.found.key
-    }
-
-    /// Its node.
-    pub fn node(&self) -> NodeNumber
-        ensures { result ≡ self.now.reference.node }
-    {
-        self.reference.node
     }
 }
 
@@ -104,4 +97,22 @@ pub enum Turn<E: Trees> {
     Goes(Task<E>),
     /// Nothing is left.
     Answers(WorkerAnswer),
+}
+
+/// What a step was, what it comes to, and whether it counts: all do but a claim that waits and the steps of a load.
+#[derive(Drop)]
+pub struct Moved<E: Trees> {
+    pub took: Took<Arc<SerializedData>>,
+    pub turn: Turn<E>,
+    pub counted: bool,
+}
+
+/// What a reference names.
+pub fn named(reference: ArcRef) -> Identity
+    ensures { result ≡ identity_of reference }
+{
+    Identity {
+        kind: reference.kind,
+        node: reference.node,
+    }
 }

@@ -1,24 +1,25 @@
 //! A worker's turns at a reference that it has come to: it claims what the reference names, and pins it, by a load where it is needed.
 
-ghost use Rattle.std.specs.Prelude.{◌≡◌, ◌≤◌, ◌∷◌, ℕ, List};
+ghost use Rattle.std.specs.Prelude.{◌≡◌, ◌≤◌, ◌+◌, ◌*◌, ◌∷◌, ℕ, List, length};
 ghost use Rattle.pagable_world.specs.Plain.{longest_path};
-ghost use Rattle.pagable_world.specs.World.{Core, Shelf, Todo, to_start};
-ghost use Rattle.pagable_world.specs.Workers.{claim_fault, Claims};
+ghost use Rattle.pagable_world.specs.World.{Core, Shelf, Todo, to_start, to_pin, to_load};
+ghost use Rattle.pagable_world.specs.Workers.{claim_fault, is_counted_claim, Claims};
 ghost use Rattle.pagable_world.specs.Access.{Told};
+ghost use Rattle.pagable_loads.specs.Frames.{reading_of};
 ghost use Rattle.pagable_loads.specs.Telling.{Tells, values_at};
 ghost use Rattle.pagable_loads.specs.Working.{fault_in};
-ghost use Rattle.pagable_walk.specs.declared.tasks.Turn.{Turn};
 ghost use Rattle.pagable_walk.specs.Table.{shelf_of, found_as};
 ghost use Rattle.pagable_walk.specs.Tasks.{Awaits, IsWay, todo_of, todos};
-ghost use Rattle.pagable_walk.specs.Turns.{site, claim_todo, ClaimFits, ClaimLeaves, TurnsTo};
+ghost use Rattle.pagable_walk.specs.Due.{due, most, LeadsOn};
+ghost use Rattle.pagable_walk.specs.Turns.{site, claim_todo, ClaimFits, ClaimLeaves, TurnsTo, plan};
 
-use crate::stack::{fail, give_known};
-use crate::tasks::{Done, Task, Waiting};
+use crate::stack::{fail, give_known, refuse};
+use crate::tasks::{Done, Moved, Task, Turn, Waiting, named};
 use crate::{Found, PageOutError, SlotTable, Trees};
 use pagable_codec::{Env, NodeSet};
 use pagable_loads::{Reading, Taken, WorkerAccess};
-use pagable_model::{ArcRef, Error, HandleNumber, Identity, WorkerNumber};
-use pagable_world::LoadAnswer;
+use pagable_model::{ArcRef, Error, HandleNumber, WorkerNumber};
+use pagable_world::{Claim, LoadAnswer, PinStep, Took};
 use std::alloc::Global;
 
 // A claim of what a reference names, at this place on the path. `checked` is why the reference itself can't be claimed. It is refused so first, and then as `try_claim`.
@@ -36,17 +37,34 @@ fn claim<E: Trees>(
     ensures fits { ClaimFits reference place result }
 {
     match checked {
-        Ok(()) => {
-            let identity = Identity {
-                kind: reference.kind,
-                node: reference.node,
-            };
-            table.try_claim(worker, identity, place)
-        }
+        Ok(()) => table.try_claim(worker, named(reference), place),
         Err(e) => {
             table.stop_waiting(worker);
             Err(e)
         }
+    }
+}
+
+// What a claim found, with key and height alone of a result.
+fn found<E: Trees>(claim: &Result<Found<E>, Error>) -> Result<Claim, Error>
+    ensures { result ≡ found_as claim.now }
+{
+    match claim {
+        Ok(Found::Claimed) => Ok(Claim::Claimed),
+        Ok(Found::Known(found)) => Ok(Claim::Known(found.key, found.height)),
+        Ok(Found::Waiting) => Ok(Claim::Waiting),
+        Ok(Found::AlreadyFailed) => Ok(Claim::AlreadyFailed),
+        Err(e) => Err(*e),
+    }
+}
+
+// Whether a claim counts: it does unless it waits.
+fn counts(found: &Result<Claim, Error>) -> bool
+    ensures { result ≡ is_counted_claim found.now }
+{
+    match found {
+        Ok(Claim::Waiting) => false,
+        _ => true,
     }
 }
 
@@ -61,6 +79,7 @@ fn after_claim<E: Trees>(
     requires fits { ClaimFits reference place claim }
     ensures todo { todo_of result ∷ todos path.new.items ≡ claim_todo reference place (todos path.old.items) (found_as claim) }
     ensures way { IsWay (todo_of result ∷ todos path.new.items) }
+    ensures less { due (todo_of result ∷ todos path.new.items) ≤ most + 6 * length (todos path.old.items) }
     ensures leaves { ClaimLeaves reference place claim result }
 {
     match claim {
@@ -68,7 +87,7 @@ fn after_claim<E: Trees>(
         Ok(Found::Known(found)) => give_known(path, Done { reference, found }),
         Ok(Found::Waiting) => Task::Start(reference, place),
         Ok(Found::AlreadyFailed) => fail(path, PageOutError::AlreadyFailed, Some(reference.handle)),
-        Err(e) => fail(path, PageOutError::Failed(e), Some(reference.handle)),
+        Err(e) => refuse(path, &e, Some(reference.handle)),
     }
 }
 
@@ -80,16 +99,22 @@ pub fn start<E: Env, A: WorkerAccess<E>>(
     path: &mut Vec<Waiting<E>>,
     reference: ArcRef,
     place: u64,
-) -> Task<E>
+) -> Moved<E>
 where
     E::Node: NodeSet<E>,
     requires { Awaits (todos path.old.items) reference place }
-    ensures way { IsWay (todo_of result ∷ todos path.new.items) }
-    ensures step { Tells (A.told access.now) (λ s. TurnsTo (values_at E.Node.NodeSet E.Env E.Hash.KeyHash (A.acting access.now).environment) (A.acting access.now).me worker.0 (shelf_of table.old) (Task.Start reference place) (todos path.old.items) (shelf_of table.new) (Turn.Goes result) (todo_of result ∷ todos path.new.items) s s) }
+    ensures way { IsWay (plan result.turn path.new.items) }
+    ensures leads { LeadsOn (to_start reference place ∷ todos path.old.items) result.turn (plan result.turn path.new.items) }
+    ensures step { Tells (A.told access.now) (λ s. TurnsTo (values_at E.Node.NodeSet E.Env E.Hash.KeyHash (A.acting access.now).environment) (A.acting access.now).me worker.0 (shelf_of table.old) (Task.Start reference place) (todos path.old.items) (shelf_of table.new) result (plan result.turn path.new.items) s s) }
 {
     let checked = access.check_reference(reference);
     let claim = claim(table, worker, reference, place, checked);
-    after_claim(path, reference, place, claim)
+    let found = found(&claim);
+    Moved {
+        counted: counts(&found),
+        took: Took::Claim(named(reference), found),
+        turn: Turn::Goes(after_claim(path, reference, place, claim)),
+    }
 }
 
 /// Pins what was claimed, or begins a load of it.
@@ -99,25 +124,41 @@ pub fn pin<E: Env, A: WorkerAccess<E>>(
     path: &mut Vec<Waiting<E>>,
     reference: ArcRef,
     place: u64,
-) -> Task<E>
+) -> Moved<E>
 where
     E::Node: NodeSet<E>,
     requires way { Awaits (todos path.old.items) reference place }
     requires near { place ≤ longest_path }
-    ensures way { IsWay (todo_of result ∷ todos path.new.items) }
-    ensures step { (n : ℕ) (shelf : Shelf) → Told (A.told access.old) (A.told access.new) (TurnsTo (values_at E.Node.NodeSet E.Env E.Hash.KeyHash (A.acting access.old).environment) (A.acting access.old).me n shelf (Task.Pin reference place) (todos path.old.items) shelf (Turn.Goes result) (todo_of result ∷ todos path.new.items)) }
+    ensures way { IsWay (plan result.turn path.new.items) }
+    ensures leads { LeadsOn (to_pin reference place ∷ todos path.old.items) result.turn (plan result.turn path.new.items) }
+    ensures step { (n : ℕ) (shelf : Shelf) → Told (A.told access.old) (A.told access.new) (TurnsTo (values_at E.Node.NodeSet E.Env E.Hash.KeyHash (A.acting access.old).environment) (A.acting access.old).me n shelf (Task.Pin reference place) (todos path.old.items) shelf result (plan result.turn path.new.items)) }
     ensures acting { A.acting access.new ≡ A.acting access.old }
     ensures lender { A.lender access.new ≡ A.lender access.old }
 {
+    let identity = named(reference);
     let taken = match access.take_reference(reference) {
         Ok(taken) => taken,
-        Err(e) => return fail(path, PageOutError::Failed(e), Some(reference.handle)),
+        Err(e) => {
+            return Moved {
+                turn: Turn::Goes(refuse(path, &e, Some(reference.handle))),
+                took: Took::Pin(identity, Err(e)),
+                counted: true,
+            };
+        }
     };
     match taken {
-        Taken::Held(through, pin) => Task::Write(reference, place, through, pin),
+        Taken::Held(through, pin) => Moved {
+            took: Took::Pin(identity, Ok(PinStep::Held(pin))),
+            turn: Turn::Goes(Task::Write(reference, place, through, pin)),
+            counted: true,
+        },
         Taken::Begun(through, load, key) => {
             let reading = Reading::new(alloc, load, key, reference.kind.0 / 3, true);
-            Task::Load(reference, place, through, reading)
+            Moved {
+                took: Took::Pin(identity, Ok(PinStep::LoadBegun(load))),
+                turn: Turn::Goes(Task::Load(reference, place, through, reading)),
+                counted: true,
+            }
         }
     }
 }
@@ -131,26 +172,38 @@ pub fn load<E: Env, A: WorkerAccess<E>>(
     place: u64,
     through: HandleNumber,
     mut reading: Reading,
-) -> Task<E>
+) -> Moved<E>
 where
     E::Node: NodeSet<E>,
     requires way { Awaits (todos path.old.items) reference place }
     requires near { place ≤ longest_path }
-    ensures way { IsWay (todo_of result ∷ todos path.new.items) }
-    ensures step { (n : ℕ) (shelf : Shelf) → Told (A.told access.old) (A.told access.new) (TurnsTo (values_at E.Node.NodeSet E.Env E.Hash.KeyHash (A.acting access.old).environment) (A.acting access.old).me n shelf (Task.Load reference place through reading) (todos path.old.items) shelf (Turn.Goes result) (todo_of result ∷ todos path.new.items)) }
+    ensures way { IsWay (plan result.turn path.new.items) }
+    ensures leads { LeadsOn (to_load reference place through (reading_of reading) ∷ todos path.old.items) result.turn (plan result.turn path.new.items) }
+    ensures step { (n : ℕ) (shelf : Shelf) → Told (A.told access.old) (A.told access.new) (TurnsTo (values_at E.Node.NodeSet E.Env E.Hash.KeyHash (A.acting access.old).environment) (A.acting access.old).me n shelf (Task.Load reference place through reading) (todos path.old.items) shelf result (plan result.turn path.new.items)) }
     ensures acting { A.acting access.new ≡ A.acting access.old }
     ensures lender { A.lender access.new ≡ A.lender access.old }
 {
+    let identity = named(reference);
     match reading.step(access, alloc) {
-        None => Task::Load(reference, place, through, reading),
-        Some(LoadAnswer::Pinned(pin)) => Task::Write(reference, place, through, pin),
-        Some(LoadAnswer::Refused(e)) => {
-            fail(path, PageOutError::Failed(e), Some(reference.handle))
-        }
-        Some(LoadAnswer::Read(_value)) => fail(
-            path,
-            PageOutError::Failed(Error::WrongMode),
-            Some(reference.handle),
-        ),
+        None => Moved {
+            took: Took::Pin(identity, Ok(PinStep::LoadWent)),
+            turn: Turn::Goes(Task::Load(reference, place, through, reading)),
+            counted: false,
+        },
+        Some(LoadAnswer::Pinned(pin)) => Moved {
+            took: Took::Pin(identity, Ok(PinStep::Held(pin))),
+            turn: Turn::Goes(Task::Write(reference, place, through, pin)),
+            counted: false,
+        },
+        Some(LoadAnswer::Refused(e)) => Moved {
+            turn: Turn::Goes(refuse(path, &e, Some(reference.handle))),
+            took: Took::Pin(identity, Err(e)),
+            counted: false,
+        },
+        Some(LoadAnswer::Read(_value)) => Moved {
+            took: Took::Pin(identity, Err(Error::WrongMode)),
+            turn: Turn::Goes(refuse(path, &Error::WrongMode, Some(reference.handle))),
+            counted: false,
+        },
     }
 }

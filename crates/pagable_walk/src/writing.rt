@@ -4,23 +4,24 @@ ghost use Rattle.std.specs.Prelude.{◌≡◌, ◌≤◌, ◌<◌, ◌∷◌, �
 ghost use Rattle.std.specs.Arc.{arc_value};
 ghost use Rattle.pagable_world.specs.Plain.{longest_path, type_of};
 ghost use Rattle.pagable_world.specs.Kinds.{identity_of};
-ghost use Rattle.pagable_world.specs.World.{seen_as};
+ghost use Rattle.pagable_world.specs.World.{seen_as, to_write};
 ghost use Rattle.pagable_loads.specs.Telling.{Tells, values_at};
 ghost use Rattle.pagable_walk.specs.Results.{HasFormOf};
 ghost use Rattle.pagable_walk.specs.Slots.{written_of};
-ghost use Rattle.pagable_walk.specs.declared.tasks.Turn.{Turn};
 ghost use Rattle.pagable_walk.specs.Table.{shelf_of};
-ghost use Rattle.pagable_walk.specs.Tasks.{Awaits, IsWay, open_of, todo_of, todos};
-ghost use Rattle.pagable_walk.specs.Turns.{TurnsTo};
+ghost use Rattle.pagable_walk.specs.Tasks.{Awaits, IsWay, open_of, todos};
+ghost use Rattle.pagable_walk.specs.Due.{LeadsOn};
+ghost use Rattle.pagable_walk.specs.Turns.{TurnsTo, plan};
 ghost use Rattle.pagable_walk.specs.Writing.{IsForm, WriteRefused, Finds, Forms, just_open};
 
-use crate::stack::{fail, settle_open};
-use crate::tasks::{Open, Task, Waiting};
-use crate::{PageOutError, SlotTable, Trees};
+use crate::stack::{refuse, settle_open};
+use crate::tasks::{Moved, Open, Task, Turn, Waiting, named};
+use crate::{SlotTable, Trees};
 use pagable_codec::{Env, NodeSet, SessionContext};
 use pagable_core::{SerializedData, SerializerForPaging};
 use pagable_loads::WorkerAccess;
-use pagable_model::{ArcRef, Error, HandleNumber, Identity};
+use pagable_model::{ArcRef, Error, HandleNumber};
+use pagable_world::Took;
 use std::alloc::Global;
 use std::sync::Arc;
 
@@ -83,18 +84,19 @@ where
     }
 }
 
-// What was written is kept twice, with places for the results of its references. Refused by want of memory alone.
+// What was written is kept three times, with places for the results of its references. Refused by want of memory alone.
 fn kept<E: Trees>(
     alloc: Global,
     reference: ArcRef,
     place: u64,
     through: HandleNumber,
     once: SerializedData,
-) -> Result<(Open<E>, Arc<SerializedData>), Error>
+) -> Result<(Open<E>, Arc<SerializedData>, Arc<SerializedData>), Error>
     requires near { place ≤ longest_path }
     requires form { ∥ E.has_form (identity_of reference) (written_of once) ∥₁ }
     ensures open { IfOk result (λ p. open_of p.0 ≡ just_open reference place through (written_of once)) }
-    ensures shared { IfOk result (λ p. written_of (arc_value p.1) ≡ written_of once) }
+    ensures shared { IfOk result (λ p. arc_value p.1 ≡ arc_value p.2) }
+    ensures told { IfOk result (λ p. written_of (arc_value p.2) ≡ written_of once) }
     ensures only { IfErr result (λ e. e ≡ Error.OutOfMemory) }
 {
     let children = match Vec::with_capacity(alloc, once.arcs.len()) {
@@ -109,6 +111,10 @@ fn kept<E: Trees>(
         Ok(shared) => shared,
         Err(_) => return Err(Error::OutOfMemory),
     };
+    let told = match Arc::try_clone(&written) {
+        Ok(told) => told,
+        Err(_) => return Err(Error::OutOfMemory),
+    };
     let node = Open {
         reference,
         place,
@@ -117,10 +123,10 @@ fn kept<E: Trees>(
         children,
         height: 0,
     };
-    Ok((node, shared))
+    Ok((node, shared, told))
 }
 
-// The written node with what was written of it, for a path that has room for it then.
+// The written node with what was written of it, twice, for a path that has room for it then.
 fn prepare<E: Env, A: WorkerAccess<E>>(
     access: &A,
     alloc: Global,
@@ -129,14 +135,15 @@ fn prepare<E: Env, A: WorkerAccess<E>>(
     place: u64,
     through: HandleNumber,
     pin: HandleNumber,
-) -> Result<(Open<E>, Arc<SerializedData>), Error>
+) -> Result<(Open<E>, Arc<SerializedData>, Arc<SerializedData>), Error>
 where
     E::Node: NodeSet<E>,
     requires near { place ≤ longest_path }
     ensures path { path.new.items ≡ path.old.items }
     ensures room { OnOk result (vec_len path.new < vec_capacity path.new) }
-    ensures open { IfOk result (λ p. open_of p.0 ≡ just_open reference place through (written_of (arc_value p.1))) }
-    ensures step { Tells (A.told access.now) (λ s. Forms (values_at E.Node.NodeSet E.Env E.Hash.KeyHash (A.acting access.now).environment) s reference pin (seen_as (λ p. written_of (arc_value p.1)) result)) }
+    ensures open { IfOk result (λ p. open_of p.0 ≡ just_open reference place through (written_of (arc_value p.2))) }
+    ensures shared { IfOk result (λ p. arc_value p.1 ≡ arc_value p.2) }
+    ensures step { Tells (A.told access.now) (λ s. Forms (values_at E.Node.NodeSet E.Env E.Hash.KeyHash (A.acting access.now).environment) s reference pin (seen_as (λ p. written_of (arc_value p.2)) result)) }
 {
     if path.reserve(1).is_err() {
         return Err(Error::OutOfMemory);
@@ -157,23 +164,29 @@ pub fn write<E: Env, A: WorkerAccess<E>>(
     place: u64,
     through: HandleNumber,
     pin: HandleNumber,
-) -> Task<E>
+) -> Moved<E>
 where
     E::Node: NodeSet<E>,
     requires way { Awaits (todos path.old.items) reference place }
     requires near { place ≤ longest_path }
-    ensures way { IsWay (todo_of result ∷ todos path.new.items) }
-    ensures step { (n : ℕ) → Tells (A.told access.now) (λ s. TurnsTo (values_at E.Node.NodeSet E.Env E.Hash.KeyHash (A.acting access.now).environment) (A.acting access.now).me n (shelf_of table.old) (Task.Write reference place through pin) (todos path.old.items) (shelf_of table.new) (Turn.Goes result) (todo_of result ∷ todos path.new.items) s s) }
+    ensures way { IsWay (plan result.turn path.new.items) }
+    ensures leads { LeadsOn (to_write reference place through ∷ todos path.old.items) result.turn (plan result.turn path.new.items) }
+    ensures step { (n : ℕ) → Tells (A.told access.now) (λ s. TurnsTo (values_at E.Node.NodeSet E.Env E.Hash.KeyHash (A.acting access.now).environment) (A.acting access.now).me n (shelf_of table.old) (Task.Write reference place through pin) (todos path.old.items) (shelf_of table.new) result (plan result.turn path.new.items) s s) }
 {
+    let identity = named(reference);
     match prepare(access, alloc, path, reference, place, through, pin) {
-        Ok((node, shared)) => {
-            let identity = Identity {
-                kind: reference.kind,
-                node: reference.node,
-            };
+        Ok((node, shared, told)) => {
             table.set_written(identity, shared);
-            settle_open(path, node)
+            Moved {
+                took: Took::Write(identity, Ok(told)),
+                turn: Turn::Goes(settle_open(path, node)),
+                counted: true,
+            }
         }
-        Err(e) => fail(path, PageOutError::Failed(e), None),
+        Err(e) => Moved {
+            turn: Turn::Goes(refuse(path, &e, None)),
+            took: Took::Write(identity, Err(e)),
+            counted: true,
+        },
     }
 }

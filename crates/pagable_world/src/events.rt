@@ -94,7 +94,7 @@ pub enum Took<W: Drop> {
 }
 
 /// What a worker answers in the end.
-#[derive(Drop)]
+#[derive(Clone, Copy, Debug, PartialEq)]
 pub enum WorkerAnswer {
     /// The key of its item or listed cell.
     Key(DataKey),

@@ -7,6 +7,8 @@ mod failing;
 mod lent;
 mod own_types;
 mod patterns;
+mod readings;
+mod reasons;
 mod references;
 mod registries;
 mod session;

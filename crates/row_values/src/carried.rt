@@ -35,7 +35,7 @@ impl Env for AnyEnv {
 
 /// The number of a refusal.
 fn refused<T: Drop>(read: Result<T, Error>) -> Option<u32> {
-    match read {
+    match &read {
         Ok(_) => None,
         Err(refusal) => Some(refusal.number()),
     }

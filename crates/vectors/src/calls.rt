@@ -5,11 +5,13 @@ pub mod asked;
 pub mod looks;
 pub mod nodes;
 
-use crate::calls::asked::{calls, split};
+use crate::calls::asked::{events, split};
 use crate::calls::looks::look;
 use crate::calls::nodes::{CellEnv, CellNode};
 use anyhow::bail;
-use pagable::{Call, InMemoryBlobs, Machine, PagableData, PagableStorage, Pager};
+use pagable::{
+    Call, Event, InMemoryBlobs, Machine, PagableData, PagableStorage, Pager, SerializedData,
+};
 use pagable_examples::FailingStorage;
 use std::alloc::Global;
 
@@ -20,6 +22,8 @@ pub type CellPager = Pager<CellEnv, CellStorage>;
 pub type CellMachine = Machine<CellEnv, CellStorage>;
 
 pub type CellCall = Call<CellNode, PagableData>;
+
+pub type CellEvent = Event<CellNode, PagableData, SerializedData>;
 
 /// Answers rows of calls, by the machine that the last row of the word `machine` has made.
 #[derive(Drop)]
@@ -68,10 +72,10 @@ impl Calls {
     }
 }
 
-/// The answers to a row's calls, which the machine gets as one list.
+/// The answers to a row's events, which the machine gets as one list.
 fn run(alloc: Global, machine: &mut CellMachine, line: &str) -> anyhow::Result<String> {
-    let calls = calls(alloc, line)?;
-    match machine.run(alloc, calls) {
+    let events = events(alloc, line)?;
+    match machine.run(alloc, events) {
         Ok(replies) => answers::replies(alloc, replies.as_slice()),
         Err(_) => bail!("no memory for the replies"),
     }

@@ -136,7 +136,7 @@ fn list_twice(alloc: Global, pager: &mut CellPager) -> anyhow::Result<()> {
         bail!("a cell is refused");
     };
     pager.unpin(cell)?;
-    let pinned = pin(alloc, pager, cell)?;
+    let (pinned, _) = pin(alloc, pager, cell)?;
     pager.release(pinned)?;
     Ok(pager.unpin(cell)?)
 }

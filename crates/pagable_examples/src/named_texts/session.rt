@@ -86,20 +86,19 @@ impl<H: KeyHash> Session<H> {
     fn make(&mut self, alloc: Global, name: &str, text: &str) -> Result<Answer<'_>, Refusal> {
         let vacant = vacant(&mut self.names, alloc, name)?;
         let node = TextNode::new(alloc, text)?;
-        match self.pager.new_loose(alloc, node) {
-            Ok(handle) => {
-                vacant.insert(handle);
-                Ok(Answer::Text("ok"))
-            }
-            Err((e, _)) => Err(Refusal::Error(e)),
-        }
+        let handle = self
+            .pager
+            .new_loose(alloc, node)
+            .map_err(|refused| refused.0)?;
+        vacant.insert(handle);
+        Ok(Answer::Text("ok"))
     }
 
     /// Pins the cell of a name. The pin gets the new name, and the text is answered.
     fn pin(&mut self, alloc: Global, name: &str, new: &str) -> Result<Answer<'_>, Refusal> {
         let handle = self.find(name)?;
         let vacant = vacant(&mut self.names, alloc, new)?;
-        let pinned = paging::pin(alloc, &mut self.pager, handle)?;
+        let (pinned, _) = paging::pin(alloc, &mut self.pager, handle)?;
         vacant.insert(pinned);
         match self.pager.value(pinned)? {
             Some(node) => Ok(Answer::Text(node.as_str())),

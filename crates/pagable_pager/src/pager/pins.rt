@@ -7,7 +7,7 @@ ghost use Rattle.pagable_world.specs.declared.handles.Owner.TheVariants as owner
 ghost use Rattle.pagable_world.specs.World.{Reading, row_at, is_here};
 ghost use Rattle.pagable_world.specs.Events.{reading_of_load};
 ghost use Rattle.pagable_loads.specs.Starting.{StartsPin, is_unpinned_at};
-ghost use Rattle.pagable_pager.specs.View.{core_in, telling, OnlyTables};
+ghost use Rattle.pagable_pager.specs.View.{core_in, telling, OnlyTables, is_at_work};
 
 use crate::pager::Pager;
 use pagable_codec::{Env, NodeSet};
@@ -16,6 +16,7 @@ use pagable_loads::PinStart;
 use pagable_model::{Error, HandleNumber, LoadNumber};
 use pagable_tables::rows::LoadRoot;
 use pagable_tables::{handles, kinds, loads};
+use pagable_world::handles::Owner;
 use pagable_world::{Beginning, Pinning};
 
 impl<E: Env, S: PagableStorage<E>> Pager<E, S>
@@ -46,12 +47,13 @@ where
     }
 
     /// A load of the cell of a handle, whose value isn't in memory if there is one.
-    fn begin_load(&mut self, handle: HandleNumber) -> Result<PinStart, Error>
-        requires { (row : HandleRow) → row_at (core_in (telling S.stored S.is_closed S.failed) self.old) handle ≡ Some row → is_here (core_in (telling S.stored S.is_closed S.failed) self.old) row.node.0 ≡ false }
-        ensures step { StartsPin (core_in (telling S.stored S.is_closed S.failed) self.old) owners.Caller handle result (core_in (telling S.stored S.is_closed S.failed) self.new) }
+    fn begin_load(&mut self, me: Owner, handle: HandleNumber) -> Result<PinStart, Error>
+        requires at_work { is_at_work (core_in (telling S.stored S.is_closed S.failed) self.old) me ≡ true }
+        requires away { (row : HandleRow) → row_at (core_in (telling S.stored S.is_closed S.failed) self.old) handle ≡ Some row → is_here (core_in (telling S.stored S.is_closed S.failed) self.old) row.node.0 ≡ false }
+        ensures step { StartsPin (core_in (telling S.stored S.is_closed S.failed) self.old) me handle result (core_in (telling S.stored S.is_closed S.failed) self.new) }
         ensures only { OnlyTables self.old self.new }
     {
-        let beginning = match self.load_begin(handle) {
+        let beginning = match self.load_begin_by(me, handle) {
             Ok(beginning) => beginning,
             Err(e) => return Err(e),
         };
@@ -65,13 +67,14 @@ where
     }
 
     /// A pin of the cell of a handle, whose value is in memory if there is one.
-    fn pin_here(&mut self, handle: HandleNumber) -> Result<PinStart, Error>
-        requires { (row : HandleRow) → row_at (core_in (telling S.stored S.is_closed S.failed) self.old) handle ≡ Some row → is_here (core_in (telling S.stored S.is_closed S.failed) self.old) row.node.0 ≡ true }
-        ensures step { StartsPin (core_in (telling S.stored S.is_closed S.failed) self.old) owners.Caller handle result (core_in (telling S.stored S.is_closed S.failed) self.new) }
+    fn pin_here(&mut self, me: Owner, handle: HandleNumber) -> Result<PinStart, Error>
+        requires at_work { is_at_work (core_in (telling S.stored S.is_closed S.failed) self.old) me ≡ true }
+        requires here { (row : HandleRow) → row_at (core_in (telling S.stored S.is_closed S.failed) self.old) handle ≡ Some row → is_here (core_in (telling S.stored S.is_closed S.failed) self.old) row.node.0 ≡ true }
+        ensures step { StartsPin (core_in (telling S.stored S.is_closed S.failed) self.old) me handle result (core_in (telling S.stored S.is_closed S.failed) self.new) }
         ensures only { OnlyTables self.old self.new }
     {
         let was_unpinned = self.is_unpinned(handle);
-        match self.pin(handle) {
+        match self.pin_by(me, handle) {
             Ok(Pinning::Pinned(pinned)) => Ok(PinStart::Pinned(pinned, was_unpinned)),
             Ok(Pinning::NeedsLoad(_)) => unreachable!(),
             Err(e) => Err(e),
@@ -83,10 +86,23 @@ where
         ensures step { StartsPin (core_in (telling S.stored S.is_closed S.failed) self.old) owners.Caller handle result (core_in (telling S.stored S.is_closed S.failed) self.new) }
         ensures only { OnlyTables self.old self.new }
     {
+        self.begin_pin_by(Owner::Caller, handle)
+    }
+
+    /// The same for this owner.
+    pub(crate) fn begin_pin_by(
+        &mut self,
+        me: Owner,
+        handle: HandleNumber,
+    ) -> Result<PinStart, Error>
+        requires { is_at_work (core_in (telling S.stored S.is_closed S.failed) self.old) me ≡ true }
+        ensures step { StartsPin (core_in (telling S.stored S.is_closed S.failed) self.old) me handle result (core_in (telling S.stored S.is_closed S.failed) self.new) }
+        ensures only { OnlyTables self.old self.new }
+    {
         match self.is_paged_out(handle) {
-            Ok(true) => self.begin_load(handle),
-            Ok(false) => self.pin_here(handle),
-            Err(_) => self.pin_here(handle),
+            Ok(true) => self.begin_load(me, handle),
+            Ok(false) => self.pin_here(me, handle),
+            Err(_) => self.pin_here(me, handle),
         }
     }
 }

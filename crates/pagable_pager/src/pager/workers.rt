@@ -1,6 +1,6 @@
 //! What page-out workers ask of the pager.
 
-ghost use Rattle.std.specs.Prelude.{◌≡◌, ◌<◌, ◌≤◌, length, IfSome, IfNone};
+ghost use Rattle.std.specs.Prelude.{◌≡◌, true, ◌<◌, ◌≤◌, length, IfSome, IfNone};
 ghost use Rattle.pagable_world.specs.Kinds.{is_loose};
 ghost use Rattle.pagable_world.specs.World.{key_at};
 ghost use Rattle.pagable_world.specs.Cascade.{FallsAnyhow};
@@ -8,14 +8,17 @@ ghost use Rattle.pagable_world.specs.Calls.{Looks};
 ghost use Rattle.pagable_world.specs.Workers.{claim_fault, is_workers_at, WorkerEnds};
 ghost use Rattle.pagable_world.specs.Events.{IsEntry};
 ghost use Rattle.pagable_tables.specs.Giving.{BeginsWorker, TakesWorker};
-ghost use Rattle.pagable_pager.specs.View.{core_in, telling, OnlyTables, OnlyLess};
+ghost use Rattle.pagable_loads.specs.Working.{TakesReference};
+ghost use Rattle.pagable_pager.specs.Clones.{PinsClone};
+ghost use Rattle.pagable_pager.specs.View.{core_in, telling, OnlyTables, OnlyLess, is_at_work};
 
 use crate::pager::Pager;
 use pagable_codec::{Env, NodeSet};
 use pagable_core::PagableStorage;
+use pagable_loads::{PinStart, Taken};
 use pagable_model::{ArcRef, Error, HandleNumber, NodeNumber, OptionalDataKey, WorkerNumber};
 use pagable_tables::{lookups, references, workers};
-use pagable_world::handles::HandleRow;
+use pagable_world::handles::{HandleRow, Owner};
 
 impl<E: Env, S: PagableStorage<E>> Pager<E, S>
 where
@@ -79,5 +82,40 @@ where
     {
         let lists = !self.storage.has_closed();
         workers::worker_end(&mut self.tables, &mut self.values, worker, lists);
+    }
+
+    // The clone through which an owner takes a reference is pinned, or a load of its cell begins.
+    fn pin_clone(&mut self, me: Owner, through: HandleNumber) -> Result<Taken, Error>
+        requires { is_at_work (core_in (telling S.stored S.is_closed S.failed) self.old) me ≡ true }
+        ensures step { PinsClone (core_in (telling S.stored S.is_closed S.failed) self.old) me through result (core_in (telling S.stored S.is_closed S.failed) self.new) }
+        ensures only { OnlyTables self.old self.new }
+    {
+        let start = match self.begin_pin_by(me, through) {
+            Ok(start) => start,
+            Err(e) => return Err(e),
+        };
+        let taken = match start {
+            PinStart::Pinned(pinned, _) => Taken::Held(through, pinned),
+            PinStart::Load(load, key, _) => Taken::Begun(through, load, key),
+        };
+        Ok(taken)
+    }
+
+    /// Clones a reference's handle for this owner and pins the clone, or begins a load by it. Where that is refused, the clone stays the owner's.
+    pub(crate) fn take_reference(&mut self, me: Owner, reference: ArcRef) -> Result<Taken, Error>
+        requires { is_at_work (core_in (telling S.stored S.is_closed S.failed) self.old) me ≡ true }
+        ensures step { TakesReference (core_in (telling S.stored S.is_closed S.failed) self.old) me reference result (core_in (telling S.stored S.is_closed S.failed) self.new) }
+        ensures only { OnlyTables self.old self.new }
+    {
+        let loose = self.is_loose(reference.handle);
+        let through = match self.clone_by(me, reference.handle) {
+            Ok(through) => through,
+            Err(e) => return Err(e),
+        };
+        match loose {
+            Ok(true) => self.pin_clone(me, through),
+            Ok(false) => Ok(Taken::Held(through, through)),
+            Err(_) => unreachable!(),
+        }
     }
 }

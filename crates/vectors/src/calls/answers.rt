@@ -1,11 +1,16 @@
-//! What calls answer, in words.
+//! What events answer, in words.
 
 use crate::calls::nodes::CellNode;
-use pagable::{Beginning, Error, Found, OptionalDataKey, PagableData, Pinning, Reply};
+use pagable::{
+    Beginning, Error, EventReply, Found, LoadAnswer, LoadReply, OptionalDataKey, PagableData,
+    Pinning, Reply, SerializedData,
+};
 use std::alloc::Global;
 use std::sync::Arc;
 
 type CellReply = Reply<CellNode, Arc<PagableData>>;
+
+type CellAnswer = EventReply<CellNode, Arc<PagableData>, SerializedData>;
 
 /// A word, and at most two numbers behind it.
 type Told = (&'static str, Option<u128>, Option<u128>);
@@ -114,14 +119,37 @@ fn push_call(alloc: Global, text: &mut String, reply: &CellReply) -> anyhow::Res
     Ok(())
 }
 
-/// The answers of a list, in the order of its calls.
-pub fn replies(alloc: Global, replies: &[CellReply]) -> anyhow::Result<String> {
+/// What a step of a load answers, and how many it has made.
+fn moved(moved: &LoadReply<CellNode>) -> Told {
+    let steps = Some(moved.steps as u128);
+    match &moved.ended {
+        None => ("more", steps, None),
+        Some(LoadAnswer::Pinned(handle)) => ("pinned", steps, Some(handle.0 as u128)),
+        Some(LoadAnswer::Read(_)) => ("read", steps, None),
+        Some(LoadAnswer::Refused(e)) => ("refused", steps, Some(e.number() as u128)),
+    }
+}
+
+/// Adds what an event answers.
+fn push_event(alloc: Global, text: &mut String, answer: &CellAnswer) -> anyhow::Result<()> {
+    let told = match answer {
+        EventReply::CallReply(reply) => return push_call(alloc, text, reply),
+        EventReply::Started(Ok(beginning)) => begun(beginning),
+        EventReply::LoadMoved(Ok(reply)) => moved(reply),
+        EventReply::Started(Err(e)) | EventReply::LoadMoved(Err(e)) => refused("refused", e),
+        _ => ("none", None, None),
+    };
+    push_words(alloc, text, told)
+}
+
+/// The answers of a list, in the order of its events.
+pub fn replies(alloc: Global, replies: &[CellAnswer]) -> anyhow::Result<String> {
     let mut text = String::new(alloc);
     for reply in replies {
         if !text.is_empty() {
             text.push_str("; ")?;
         }
-        push_call(alloc, &mut text, reply)?;
+        push_event(alloc, &mut text, reply)?;
     }
     Ok(text)
 }

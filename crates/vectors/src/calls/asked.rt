@@ -1,10 +1,10 @@
-//! What a row asks for: calls, parted by semicolons.
+//! What a row asks for: events, parted by semicolons.
 
 use crate::blobs::blob;
-use crate::calls::CellCall;
 use crate::calls::nodes::node;
+use crate::calls::{CellCall, CellEvent};
 use anyhow::{Context, bail};
-use pagable::{Call, DataKey, HandleNumber, Kind, LoadNumber, NodeNumber, Want};
+use pagable::{Call, DataKey, Event, HandleNumber, Kind, LoadNumber, NodeNumber, Want};
 use std::alloc::Global;
 
 /// A word, and what stands behind it.
@@ -12,13 +12,28 @@ pub fn split(text: &str) -> (&str, &str) {
     text.split_once(' ').unwrap_or((text, ""))
 }
 
-/// The calls of a row.
-pub fn calls(alloc: Global, line: &str) -> anyhow::Result<Vec<CellCall>> {
-    let mut calls = Vec::new(alloc);
+/// The events of a row.
+pub fn events(alloc: Global, line: &str) -> anyhow::Result<Vec<CellEvent>> {
+    let mut events = Vec::new(alloc);
     for part in line.split(';') {
-        calls.push(call(alloc, part.trim())?)?;
+        events.push(event(alloc, part.trim())?)?;
     }
-    Ok(calls)
+    Ok(events)
+}
+
+/// One event: a step of a load, or a call.
+fn event(alloc: Global, part: &str) -> anyhow::Result<CellEvent> {
+    let (name, rest) = split(part);
+    let (first, behind) = split(rest);
+    match name {
+        "start" => Ok(Event::LoadStart(HandleNumber(number_of(first)))),
+        "step" => Ok(Event::LoadStep(LoadNumber(number_of(first)))),
+        "read" => {
+            let key = key_of(first).context("no key")?;
+            Ok(Event::LoadKey(key, behind.parse::<u32>().unwrap_or_default()))
+        }
+        _ => Ok(Event::Call(call(alloc, part)?)),
+    }
 }
 
 /// One call: its name, and what it is about. A number that isn't there is 0, which nothing has.

@@ -1,7 +1,7 @@
 //! Cells that are paged out and loaded again.
 
 use crate::times::outcome::Outcome;
-use anyhow::{Context, bail};
+use anyhow::bail;
 use pagable::{HandleNumber, InMemoryBlobs, Pager, WeighHash, paging};
 use pagable_examples::{Draws, TextEnv, TextNode};
 use std::alloc::{AllocError, Global};
@@ -61,25 +61,12 @@ fn fill(
     Ok(cells)
 }
 
-/// Loads every cell, and answers the pins.
-fn load(
-    alloc: Global,
-    pager: &mut TextPager,
-    cells: &[HandleNumber],
-) -> anyhow::Result<Vec<HandleNumber>> {
-    let mut pins = Vec::with_capacity(alloc, cells.len())?;
-    for cell in cells {
-        pins.push(paging::pin(alloc, pager, *cell)?)?;
-    }
-    Ok(pins)
-}
-
-/// How many bytes the pinned texts have.
-fn bytes_of(pager: &TextPager, pins: &[HandleNumber]) -> anyhow::Result<usize> {
+/// Loads every cell, and answers how many bytes the texts have.
+fn load(alloc: Global, pager: &mut TextPager, cells: &[HandleNumber]) -> anyhow::Result<usize> {
     let mut bytes = 0usize;
-    for pin in pins {
-        let node = pager.value(*pin)?.context("a cell isn't pinned")?;
-        bytes = bytes.wrapping_add(node.as_str().len());
+    for cell in cells {
+        let (_, node) = paging::pin(alloc, pager, *cell)?;
+        bytes = bytes.wrapping_add(node.as_ref().as_str().len());
     }
     Ok(bytes)
 }
@@ -96,9 +83,8 @@ fn out_and_in(
     paging::page_out_pending(alloc, pager)?;
     let write = start.elapsed(clock)?;
     let start = Instant::now(clock)?;
-    let pins = load(alloc, pager, cells.as_slice())?;
+    let bytes = load(alloc, pager, cells.as_slice())?;
     let read = start.elapsed(clock)?;
-    let bytes = bytes_of(pager, pins.as_slice())?;
     Ok(Outcome { bytes, write, read })
 }
 

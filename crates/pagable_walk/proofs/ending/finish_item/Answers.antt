@@ -12,4 +12,4 @@ returns-in-Ok-clause-step g c n shelf =
 pub returns-clause-step : goal.returns-clause-step
 returns-clause-step g c n shelf =
     let acting = g.A.Access.acting c.args.access.now in
-    told_map (item-fails (values_at g.E.Node.NodeSet g.E.Env g.E.Hash.KeyHash acting.environment) acting.me n shelf (todos c.args.path.now.items) c.args.item c.requires.all c.in-Err.e c.fail.result _ c.fail.ensures.plain c.fail.ensures.todo) (rw (c.as_ref.ensures, c.as_slice.ensures.value) at c.in-Err.ensures.step)
+    told_map (item-fails (values_at g.E.Node.NodeSet g.E.Env g.E.Hash.KeyHash acting.environment) acting.me n shelf (todos c.args.path.now.items) c.args.item c.requires.all c.in-Err.e c.refuse.result _ c.refuse.ensures.plain c.refuse.ensures.todo) (rw (c.as_ref.ensures, c.as_slice.ensures.value) at c.in-Err.ensures.step)

@@ -9,4 +9,4 @@ pub returns-clause-step : goal.returns-clause-step
 returns-clause-step g c n below =
     let acting = g.A.Access.acting c.args._access.now in
     let again = c.again.ensures in
-    tells-all (publishes (values_at g.E.Node.NodeSet g.E.Env g.E.Hash.KeyHash acting.environment) acting.me n (shelf_of c.args.table.now) below c.args.done (shelf_of c.set_success.new.self) _ _ _ (again.identity ∙ c.args.done.own) again.key again.height c.set_success.ensures)
+    rw (c.named.ensures, c.key.ensures) (tells-all (publishes (values_at g.E.Node.NodeSet g.E.Env g.E.Hash.KeyHash acting.environment) acting.me n (shelf_of c.args.table.now) below c.args.done (shelf_of c.set_success.new.self) _ _ _ (again.identity ∙ c.args.done.own) again.key again.height c.set_success.ensures))

@@ -1,4 +1,4 @@
-use Rattle.std.proofs.Common.{ap, ◌∙◌, rules, subst, sym}
+use Rattle.std.proofs.Common.{ap, ◌∙◌, rules, subst, sym, length, arith}
 use Rattle.pagable_loads.specs.Telling.{values_at}
 use Rattle.pagable_loads.proofs.Stepped.{told_map}
 use Rattle.pagable_walk.specs.Tasks.{todos}
@@ -18,8 +18,8 @@ give-requires-clause-way g c =
 pub returns-in_default-clause-step : goal.returns-in_default-clause-step
 returns-in_default-clause-step g c shelf =
     let acting = g.A.Access.acting c.args.access.now in
-    let call = rw c.node-node.ensures at c.give_up.ensures.step in
-    rw c.key.ensures (told_map (release-ends (values_at g.E.Node.NodeSet g.E.Env g.E.Hash.KeyHash acting.environment) acting.me c.args.worker.0 shelf c.args.done (todos c.args.path.now.items) (todos-none c.args.path.now.items (search rules))) call)
+    let call = rw c.named-identity.ensures at c.give_up.ensures.step in
+    rw (c.named-identity.ensures, c.key.ensures) (told_map (release-ends (values_at g.E.Node.NodeSet g.E.Env g.E.Hash.KeyHash acting.environment) acting.me c.args.worker.0 shelf c.args.done (todos c.args.path.now.items) (todos-none c.args.path.now.items (search rules))) call)
 
 pub returns-clause-way : goal.returns-clause-way
 returns-clause-way g c =
@@ -32,5 +32,8 @@ pub returns-clause-step : goal.returns-clause-step
 returns-clause-step g c shelf =
     let acting = g.A.Access.acting c.args.access.now in
     let e = ap todos c.in-Some.ensures.items ∙ todos-more c.pop.new.self.items c.in-Some.waiting in
-    let call = rw c.node-node.ensures at c.give_up.ensures.step in
-    told_map (release-gives (values_at g.E.Node.NodeSet g.E.Env g.E.Hash.KeyHash acting.environment) acting.me c.args.worker.0 shelf c.args.done (todos c.args.path.now.items) (waiting_todo c.in-Some.waiting) (todos c.pop.new.self.items) c.give.result _ e c.give.ensures.plain c.give.ensures.todo) call
+    let call = rw c.named-identity.ensures at c.give_up.ensures.step in
+    rw c.named-identity.ensures (told_map (release-gives (values_at g.E.Node.NodeSet g.E.Env g.E.Hash.KeyHash acting.environment) acting.me c.args.worker.0 shelf c.args.done (todos c.args.path.now.items) (waiting_todo c.in-Some.waiting) (todos c.pop.new.self.items) c.give.result _ e c.give.ensures.plain c.give.ensures.todo) call)
+
+pub returns-clause-leads : goal.returns-clause-leads
+returns-clause-leads g c = let e = ap length (ap todos c.in-Some.ensures.items ∙ todos-more c.pop.new.self.items c.in-Some.waiting) in let less = c.give.ensures.less in omega (arith, e, less)

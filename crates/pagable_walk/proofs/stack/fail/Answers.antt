@@ -1,4 +1,4 @@
-use Rattle.std.proofs.Common.{◌∷◌, ◌<◌, ap, ◌∙◌, sym, arith}
+use Rattle.std.proofs.Common.{◌∷◌, ◌<◌, ◌+◌, ◌*◌, ap, ◌∙◌, sym, arith}
 use Rattle.std.proofs.lemmas.Bool.Decides.{nat_tests}
 use Rattle.std.specs.Prelude.{length, None}
 use Rattle.pagable_world.specs.World.{to_fail}
@@ -22,3 +22,9 @@ returns-then-is_empty-clause-none g c = todos-none c.args.path.now.items (grind 
 
 pub returns-clause-none : goal.returns-clause-none
 returns-clause-none g c = todos-none c.clear.new.self.items (ap length c.clear.ensures.items)
+
+pub returns-then-is_empty-clause-less : goal.returns-then-is_empty-clause-less
+returns-then-is_empty-clause-less g c = ap (λ ts. 1 + 6 * length ts) (todos-none c.args.path.now.items (grind (arith, nat_tests)))
+
+pub returns-clause-less : goal.returns-clause-less
+returns-clause-less g c = ap (λ ts. 1 + 6 * length ts) (todos-none c.clear.new.self.items (ap length c.clear.ensures.items))

@@ -1,4 +1,4 @@
-use Rattle.std.proofs.Common.{◌∷◌, ap, ◌∙◌, subst, sym, rules}
+use Rattle.std.proofs.Common.{◌∷◌, length, arith, ap, ◌∙◌, subst, sym, rules}
 use Rattle.pagable_world.specs.World.{to_release}
 use Rattle.pagable_world.specs.Workers.{give_known}
 use Rattle.pagable_walk.specs.Tasks.{AwaitsLow, todos}
@@ -23,3 +23,9 @@ returns-in-Some-clause-todo g c =
     let d = c.args.done in
     let e = ap todos c.in-Some.ensures.items ∙ todos-more c.pop.new.self.items c.in-Some.waiting in
     c.give.ensures.todo ∙ sym (ap (λ ts. give_known d.reference d.found.key d.found.height ts) e)
+
+pub returns-in-None-clause-less : goal.returns-in-None-clause-less
+returns-in-None-clause-less g c = let new = ap length (todos-none c.pop.new.self.items (search rules)) in omega (arith, new)
+
+pub returns-in-Some-clause-less : goal.returns-in-Some-clause-less
+returns-in-Some-clause-less g c = let e = ap length (ap todos c.in-Some.ensures.items ∙ todos-more c.pop.new.self.items c.in-Some.waiting) in omega (arith, e)

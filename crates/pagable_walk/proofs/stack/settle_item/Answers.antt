@@ -1,4 +1,4 @@
-use Rattle.std.proofs.Common.{◌∷◌, length, rules, ap, ◌∙◌}
+use Rattle.std.proofs.Common.{◌∷◌, length, rules, ap, ◌∙◌, arith}
 use Rattle.std.specs.Arc.{arc_value}
 use Rattle.std.proofs.lemmas.List.{length-map}
 use Rattle.pagable_world.specs.World.{to_start}
@@ -21,3 +21,6 @@ returns-clause-todo g c =
     let below = item_todo item ∷ todos c.args.path.now.items in
     ap (λ ts. to_start c.index-next.result.now c.place_below-place.result ∷ ts) (ap todos c.push_reserved.ensures.items ∙ todos-more c.args.path.now.items (waitings.Item item))
     ∙ next-starts 0 (length (keys_of item.children.items)) (length item.children.items) c.place_below-place.result refs c.index-next.result.now below (length-map item.children.items (λ r. r.key)) (search rules) (search rules) c.place_below-place.ensures
+
+pub returns-clause-less : goal.returns-clause-less
+returns-clause-less g c = let e = ap length (ap todos c.push_reserved.ensures.items ∙ todos-more c.args.path.now.items (waitings.Item c.args.item)) in omega (arith, e)

@@ -1,4 +1,4 @@
-use Rattle.std.proofs.Common.{◌∷◌, length, rules, ap, ◌∙◌}
+use Rattle.std.proofs.Common.{◌∷◌, length, rules, ap, ◌∙◌, arith}
 use Rattle.std.specs.Arc.{arc_value}
 use Rattle.std.proofs.lemmas.List.{length-map}
 use Rattle.pagable_world.specs.World.{to_finish, to_start}
@@ -21,3 +21,6 @@ returns-clause-todo g c =
     let below = to_finish (open_of node) ∷ todos c.args.path.now.items in
     ap (λ ts. to_start c.index-next.result.now c.place_below-place.result ∷ ts) (ap todos c.push_reserved.ensures.items ∙ todos-more c.args.path.now.items (waitings.Node node))
     ∙ next-starts node.place (length (keys_of node.children.items)) (length node.children.items) c.place_below-place.result refs c.index-next.result.now below (length-map node.children.items (λ r. r.key)) (search rules) (search rules) c.place_below-place.ensures
+
+pub returns-clause-less : goal.returns-clause-less
+returns-clause-less g c = let e = ap length (ap todos c.push_reserved.ensures.items ∙ todos-more c.args.path.now.items (waitings.Node c.args.node)) in omega (arith, e)

@@ -10,8 +10,8 @@ use Rattle.pagable_walk.proofs.step.step.Goals as goal
 pub returns-clause-step : goal.returns-clause-step
 returns-clause-step g c =
     let acting = g.A.Access.acting c.args.access.now in
-    let closes = rw c.turn-turn.ensures.acting at c.end_answered.ensures.step in
-    told_then (λ s mid t turns close. steps-to (values_at g.E.Node.NodeSet g.E.Env g.E.Hash.KeyHash acting.environment) acting.me c.args.worker.0 (shelf_of c.args.table.now) (shelf_of c.turn-turn.new.table) c.args.task (todos c.args.path.now.items) _ c.turn-turn.result s mid t turns close) c.turn-turn.ensures.step closes
+    let closes = rw c.turn-moved.ensures.acting at c.end_answered.ensures.step in
+    told_then (λ s mid t turns close. steps-to (values_at g.E.Node.NodeSet g.E.Env g.E.Hash.KeyHash acting.environment) c.args.worker.0 acting.me (shelf_of c.args.table.now) (shelf_of c.turn-moved.new.table) c.args.task (todos c.args.path.now.items) _ c.turn-moved.result s mid t turns close) c.turn-moved.ensures.step closes
 
 pub returns-clause-acting : goal.returns-clause-acting
-returns-clause-acting g c = c.end_answered.ensures.acting ∙ ap (acting_then c.turn-turn.result) c.turn-turn.ensures.acting
+returns-clause-acting g c = c.end_answered.ensures.acting ∙ ap (acting_then c.turn-moved.result.turn) c.turn-moved.ensures.acting

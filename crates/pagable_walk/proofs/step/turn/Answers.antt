@@ -1,4 +1,4 @@
-use Rattle.std.proofs.Common.{sym, ◌∙◌}
+use Rattle.std.proofs.Common.{sym, ◌∙◌, arith}
 use Rattle.std.proofs.lemmas.List.{length-map}
 use Rattle.pagable_walk.specs.Table.{shelf_of}
 use Rattle.pagable_walk.specs.Tasks.{todos}
@@ -51,7 +51,7 @@ pub returns-in-SetKey-clause-step : goal.returns-in-SetKey-clause-step
 returns-in-SetKey-clause-step g c = rw c.in-SetKey.is (c.set_key.ensures.step c.args.worker.0 (shelf_of c.args.table.now))
 
 pub returns-in-Publish-clause-step : goal.returns-in-Publish-clause-step
-returns-in-Publish-clause-step g c = rw c.in-Publish.is (told-same (c.publish.ensures.step c.args.worker.0 (todos c.args.path.now.items)))
+returns-in-Publish-clause-step g c = rw (c.in-Publish.is, c.publish.ensures.is) (told-same (rw c.publish.ensures.is at (c.publish.ensures.step c.args.worker.0 (todos c.args.path.now.items))))
 
 pub returns-in-Release-clause-step : goal.returns-in-Release-clause-step
 returns-in-Release-clause-step g c = rw c.in-Release.is (c.release.ensures.step (shelf_of c.args.table.now))
@@ -64,3 +64,33 @@ returns-in-Fail-clause-way g c = rw c.end.ensures.is tt
 
 pub returns-in-Fail-clause-step : goal.returns-in-Fail-clause-step
 returns-in-Fail-clause-step g c = rw (c.in-Fail.is, c.end.ensures.is) (rw c.end.ensures.is at (c.end.ensures.step (todos c.args.path.now.items)))
+
+pub returns-in-Start-clause-leads : goal.returns-in-Start-clause-leads
+returns-in-Start-clause-leads g c = rw c.in-Start.is c.start.ensures.leads
+
+pub returns-in-Pin-clause-leads : goal.returns-in-Pin-clause-leads
+returns-in-Pin-clause-leads g c = rw c.in-Pin.is c.pin.ensures.leads
+
+pub returns-in-Load-clause-leads : goal.returns-in-Load-clause-leads
+returns-in-Load-clause-leads g c = rw c.in-Load.is c.load.ensures.leads
+
+pub returns-in-Write-clause-leads : goal.returns-in-Write-clause-leads
+returns-in-Write-clause-leads g c = rw c.in-Write.is c.write.ensures.leads
+
+pub returns-in-Finish-clause-leads : goal.returns-in-Finish-clause-leads
+returns-in-Finish-clause-leads g c = rw c.in-Finish.is c.finish.ensures.leads
+
+pub returns-in-Item-clause-leads : goal.returns-in-Item-clause-leads
+returns-in-Item-clause-leads g c = rw c.in-Item.is c.finish_item.ensures.leads
+
+pub returns-in-SetKey-clause-leads : goal.returns-in-SetKey-clause-leads
+returns-in-SetKey-clause-leads g c = rw c.in-SetKey.is c.set_key.ensures.leads
+
+pub returns-in-Release-clause-leads : goal.returns-in-Release-clause-leads
+returns-in-Release-clause-leads g c = rw c.in-Release.is c.release.ensures.leads
+
+pub returns-in-Publish-clause-leads : goal.returns-in-Publish-clause-leads
+returns-in-Publish-clause-leads g c = rw (c.in-Publish.is, c.publish.ensures.is) (omega arith)
+
+pub returns-in-Fail-clause-leads : goal.returns-in-Fail-clause-leads
+returns-in-Fail-clause-leads g c = rw c.end.ensures.is tt

@@ -8,5 +8,5 @@ use Rattle.pagable_walk.proofs.turns.start.Goals as goal
 pub returns-clause-step : goal.returns-clause-step
 returns-clause-step g c =
     let acting = g.A.Access.acting c.args.access.now in
-    tells-map (λ s fault. start-turns (values_at g.E.Node.NodeSet g.E.Env g.E.Hash.KeyHash acting.environment) acting.me c.args.worker.0 (shelf_of c.args.table.now) (shelf_of c.claim-claim.new.table) c.args.reference c.args.place
-    (todos c.args.path.now.items) _ c.check_reference-checked.result c.claim-claim.result c.after_claim.result c.claim-claim.ensures.step c.after_claim.ensures.todo c.after_claim.ensures.leaves s fault) c.check_reference-checked.ensures
+    rw (c.named.ensures, c.counts.ensures, c.found-found.ensures) (tells-map (λ s fault. start-turns (values_at g.E.Node.NodeSet g.E.Env g.E.Hash.KeyHash acting.environment) acting.me c.args.worker.0 (shelf_of c.args.table.now) (shelf_of c.claim-claim.new.table) c.args.reference c.args.place
+    (todos c.args.path.now.items) _ c.claim-claim.result c.after_claim.result c.after_claim.ensures.todo c.after_claim.ensures.leaves s (c.claim-claim.ensures.step s.core (todos c.args.path.now.items) fault)) c.check_reference-checked.ensures)

@@ -8,4 +8,4 @@ use Rattle.pagable_walk.proofs.writing.prepare.Goals as goal
 pub returns-in-Ok-clause-step : goal.returns-in-Ok-clause-step
 returns-in-Ok-clause-step g c =
     let acting = g.A.Access.acting c.args.access.now in
-    tells-map (λ s forms. kept-forms (values_at g.E.Node.NodeSet g.E.Env g.E.Hash.KeyHash acting.environment) s c.args.reference c.args.pin (λ p. written_of (arc_value p.1)) (written_of c.in-Ok.data) c.kept.result c.kept.ensures.shared c.kept.ensures.only forms) c.in-Ok.ensures.step
+    tells-map (λ s forms. kept-forms (values_at g.E.Node.NodeSet g.E.Env g.E.Hash.KeyHash acting.environment) s c.args.reference c.args.pin (λ p. written_of (arc_value p.2)) (written_of c.in-Ok.data) c.kept.result c.kept.ensures.told c.kept.ensures.only forms) c.in-Ok.ensures.step

@@ -1,4 +1,3 @@
-use Rattle.pagable_world.specs.declared.handles.Owner.TheVariants as owners
 use Rattle.pagable_world.specs.LoadCalls.{HandOverCall}
 use Rattle.pagable_loads.specs.Telling.{values_at}
 use Rattle.pagable_pager.specs.View.{telling}
@@ -7,5 +6,5 @@ use Rattle.pagable_pager.proofs.lent.LentAccess.load_take.Goals as goal
 
 pub returns-clause-step : goal.returns-clause-step
 returns-clause-step g c =
-    told_less (telling g.S.PagableStorage.stored g.S.PagableStorage.is_closed g.S.PagableStorage.failed) (λ e. values_at g.E.Node.NodeSet g.E.Env g.E.Hash.KeyHash e) c.args.self.now.pager.now c.load_take-taken.new.self
-    (λ w w'. HandOverCall w owners.Caller c.args.load c.args.named.now c.load_take-taken.result w') c.load_take-taken.ensures.step c.load_take-taken.ensures.only c.is_whole.ensures
+    told_less (telling g.S.PagableStorage.stored g.S.PagableStorage.is_closed g.S.PagableStorage.failed) (λ e. values_at g.E.Node.NodeSet g.E.Env g.E.Hash.KeyHash e) c.args.self.now.pager.now c.load_take_by-taken.new.self
+    (λ w w'. HandOverCall w c.args.self.now.me c.args.load c.args.named.now c.load_take_by-taken.result w') c.load_take_by-taken.ensures.step c.load_take_by-taken.ensures.only c.is_whole.ensures

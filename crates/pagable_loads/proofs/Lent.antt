@@ -1,0 +1,102 @@
+-- What the references that were got lend, one after the other.
+use Rattle.std.proofs.Common.{◌≡◌, ◌≢◌, ℕ, ◌+◌, ◌<◌, ◌≤◌, List, [], ◌∷◌, ◌++◌, length, true, false, Option, Some, None, Result, Ok, Err, IfOk, ◌⊎◌, inl, inr, refl, ap, sym, subst, ◌∙◌, arith, slice_get}
+use Rattle.std.proofs.Math.ListN.{get_or-append}
+use Rattle.std.proofs.Math.Seq.{get_or-append_seam}
+use Rattle.std.proofs.lemmas.List.{length-append}
+use Rattle.std.proofs.lemmas.Map.Keys.{any_passes_from_place}
+use Rattle.std.proofs.lemmas.Option.{slice_get_within, slice_get-get_or}
+use Rattle.std.specs.List.{list_any}
+use Rattle.std.specs.Option.{option_map}
+use Rattle.std.specs.Prelude.{Bool, IsSome, option_and_then}
+use Rattle.pagable_model.specs.declared.error.Error.{Error}
+use Rattle.pagable_model.specs.declared.error.Error.TheVariants as errors
+use Rattle.pagable_model.specs.declared.numbers.ArcRef.{ArcRef}
+use Rattle.pagable_model.specs.Deep.{is_eager}
+use Rattle.pagable_world.specs.World.{row_at}
+use Rattle.pagable_world.specs.Refusals.{live_fault}
+use Rattle.pagable_world.specs.Pager.{PagerState}
+use Rattle.pagable_loads.specs.Got.{lent_at}
+use Rattle.pagable_loads.specs.Lending.{Lends, LendsEach}
+use Rattle.pagable_loads.specs.Starting.{Shares}
+use Rattle.pagable_loads.specs.Telling.{Tells, holds_of}
+
+module _ {S : Type 0} where
+  pub tells_all : {o : Option S} {P : S → Type 0} → ((s : S) → P s) → Tells o P
+  tells_all {o} {P} f = record { holds = all o f }
+    where
+      all : (o : Option S) → ((s : S) → P s) → holds_of o P
+      all None f = tt
+      all (Some s) f = f s
+
+  pub tells_both : {o : Option S} {P Q R : S → Type 0} → ((s : S) → P s → Q s → R s) → Tells o P → Tells o Q → Tells o R
+  tells_both {o} f h k = record { holds = both o f h.holds k.holds }
+    where
+      both : {P Q R : S → Type 0} (o : Option S) → ((s : S) → P s → Q s → R s) → holds_of o P → holds_of o Q → holds_of o R
+      both None f h k = tt
+      both (Some s) f h k = f s h k
+
+  pub tells_map : {o : Option S} {P Q : S → Type 0} → ((s : S) → P s → Q s) → Tells o P → Tells o Q
+  tells_map f h = tells_both (λ s p q. f s p) h h
+
+module _ {A N E : Type 0} (see : A → N) (s : PagerState N E) where
+  -- a share is refused
+  pub not_shared : (r : ArcRef) (e : Error) (result : Result (Option A) Error) → Shares see s r.handle (Err e) → IfOk result (λ found. (found ≡ None) × (e ≢ errors.OutOfMemory)) → IfOk result (λ found. Lends s r (option_map see found))
+  not_shared r e (Err f) h none = tt
+  not_shared r e (Ok found) h none = subst (λ o. Lends s r (option_map see o)) (sym none.0) (gone h.refused)
+    where
+      gone : (live_fault (row_at s.core r.handle) ≡ Some e) ⊎ (e ≡ errors.OutOfMemory) → Lends s r None
+      gone (inl is) = record { value = tt; none = inr (inr (subst (λ (o : Option Error). IsSome o) (sym is) refl)) }
+      gone (inr is) = absurd (none.1 is)
+
+pub longer : {A : Type 0} (i : ℕ) (xs new : List A) (x : A) → new ≡ xs ++ x ∷ [] → length xs ≡ i → length new ≡ i + 1
+longer i xs new x is same = ap length is ∙ length-append xs (x ∷ []) ∙ ap (λ n. n + 1) same
+
+module _ {A N E : Type 0} (see : A → N) (s : PagerState N E) (got : List ArcRef) where
+  -- those before this place lend theirs
+  abbrev pub LentTo : ℕ → List (Option A) → Type 0
+  LentTo i lent = (place : ℕ) (r : ArcRef) → place < i → slice_get got place ≡ Some r → Lends s r (lent_at see lent place)
+
+  -- none is read together with its value
+  pub none_lent : list_any (λ (r : ArcRef). is_eager r.kind.0) got ≡ false → LendsEach see s got []
+  none_lent is = record { each = λ place r here. record { value = tt; none = inl (lazy (is_eager r.kind.0) place r refl here) } }
+    where
+      lazy : (b : Bool) (place : ℕ) (r : ArcRef) → is_eager r.kind.0 ≡ b → slice_get got place ≡ Some r → is_eager r.kind.0 ≡ false
+      lazy true place r eager here = absurd (let any = any_passes_from_place (λ (x : ArcRef). is_eager x.kind.0) got place r here eager in cc)
+      lazy false place r not here = not
+
+  pushed_lent : (i : ℕ) (r : ArcRef) (lent : List (Option A)) (o : Option A) → length lent ≡ i → slice_get got i ≡ Some r → LentTo i lent → Lends s r (option_map see o) → LentTo (i + 1) (lent ++ o ∷ [])
+  pushed_lent i r lent o same here to lends place q before there = elim (before_or place before) [
+    | inl less ↦ subst (λ found. Lends s q (option_map see (option_and_then (λ x. x) found))) (sym (earlier place less)) (to place q less there)
+    | inr is ↦ last place is q there
+  ]
+    where
+      long : length (lent ++ o ∷ []) ≡ length lent + 1
+      long = length-append lent (o ∷ [])
+
+      before_or : (k : ℕ) → k < i + 1 → (k < i) ⊎ (k ≡ i)
+      before_or k less = grind arith
+
+      earlier : (k : ℕ) → k < i → slice_get (lent ++ o ∷ []) k ≡ slice_get lent k
+      earlier k less =
+          slice_get-get_or (lent ++ o ∷ []) k o (omega (arith, long, less, same)) ∙ ap Some (get_or-append lent (o ∷ []) o k (omega (arith, less, same))) ∙ sym (slice_get-get_or lent k o (omega (arith, less, same)))
+
+      new : slice_get (lent ++ o ∷ []) (length lent) ≡ Some o
+      new = slice_get-get_or (lent ++ o ∷ []) (length lent) o (omega (arith, long)) ∙ ap Some (get_or-append_seam lent o [] o)
+
+      last : (k : ℕ) → k ≡ i → (q : ArcRef) → slice_get got k ≡ Some q → Lends s q (lent_at see (lent ++ o ∷ []) k)
+      last k is q there =
+          let found : slice_get (lent ++ o ∷ []) k ≡ Some o = subst (λ n. slice_get (lent ++ o ∷ []) n ≡ Some o) (same ∙ sym is) new in
+          let own : r ≡ q = let e : Some r ≡ Some q = sym here ∙ ap (slice_get got) (sym is) ∙ there in cc in
+          subst (λ f. Lends s q (option_map see (option_and_then (λ x. x) f))) (sym found) (subst (λ (x : ArcRef). Lends s x (option_map see o)) own lends)
+
+  pub more_lent : (i : ℕ) (r : ArcRef) (lent new : List (Option A)) (o : Option A) → new ≡ lent ++ o ∷ [] → length lent ≡ i → slice_get got i ≡ Some r → LentTo i lent → Lends s r (option_map see o) → LentTo (i + 1) new
+  more_lent i r lent new o is same here to lends = subst (LentTo (i + 1)) (sym is) (pushed_lent i r lent o same here to lends)
+
+  -- all of them do
+  pub all_lent : (i : ℕ) (lent : List (Option A)) → length got ≤ i → LentTo i lent → LendsEach see s got lent
+  all_lent i lent past to =
+      record {
+        each = λ place r here.
+            let within = slice_get_within got place r here in
+            to place r (omega (arith, past, within)) here;
+      }

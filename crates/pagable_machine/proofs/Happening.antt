@@ -1,0 +1,189 @@
+-- Each event of the machine, by what the pager and what is kept of loads say of it.
+use Rattle.std.proofs.Common.{◌≡◌, ◌≢◌, ℕ, ◌==◌, Bool, true, false, Option, Some, None, Ok, Err, ◌⊎◌, inl, inr, refl, sym, ap, subst, ◌∙◌}
+use Rattle.std.specs.Prelude.{Result, is_some, not}
+use Rattle.std.specs.declared.sync.Arc.{Arc}
+use Rattle.std.specs.declared.alloc.Global.{Global}
+use Rattle.pagable_core.specs.declared.context.writing.SerializedData.{SerializedData}
+use Rattle.pagable_core.specs.declared.storage.data.PagableData.{PagableData}
+use Rattle.pagable_model.specs.declared.error.Error.{Error}
+use Rattle.pagable_model.specs.declared.error.Error.TheVariants as errors
+use Rattle.pagable_model.specs.declared.numbers.HandleNumber.{HandleNumber}
+use Rattle.pagable_model.specs.declared.numbers.LoadNumber.{LoadNumber}
+use Rattle.pagable_model.specs.declared.numbers.WorkerNumber.{WorkerNumber}
+use Rattle.pagable_world.specs.declared.answers.Beginning.{Beginning}
+use Rattle.pagable_world.specs.declared.answers.Beginning.TheVariants as beginnings
+use Rattle.pagable_world.specs.declared.calls.Call.{Call}
+use Rattle.pagable_world.specs.declared.calls.Reply.{Reply}
+use Rattle.pagable_world.specs.declared.calls.Call.TheVariants as calls
+use Rattle.pagable_world.specs.declared.calls.Reply.TheVariants as replies
+use Rattle.pagable_world.specs.declared.events.Event.TheVariants as events
+use Rattle.pagable_world.specs.declared.events.EventReply.TheVariants as answers
+use Rattle.pagable_world.specs.declared.events.LoadAnswer.TheVariants as ends
+use Rattle.pagable_world.specs.declared.events.LoadReply.{LoadReply}
+use Rattle.pagable_world.specs.declared.events.TableNumber.{TableNumber}
+use Rattle.pagable_world.specs.declared.handles.Owner.TheVariants as owners
+use Rattle.pagable_world.specs.Kinds.{is_owner}
+use Rattle.pagable_world.specs.Plain.{Blob, if_there}
+use Rattle.pagable_world.specs.World.{Core, OpenLoad, Seen, Values, Written}
+use Rattle.pagable_world.specs.Refusals.{load_fault, refused_if}
+use Rattle.pagable_world.specs.LoadCalls.{DropCall}
+use Rattle.pagable_world.specs.Workers.{fresh}
+use Rattle.pagable_world.specs.Pager.{Moves, PagerState, WellFormed}
+use Rattle.pagable_laws.proofs.Sums.{same-number}
+use Rattle.pagable_laws.proofs.Trees.{same_some}
+use Rattle.pagable_loads.specs.declared.reading.Reading.{Reading as Own}
+use Rattle.pagable_loads.specs.Frames.{reading_of}
+use Rattle.pagable_pager.specs.View.{PagerView, Telling, core_in, state_in}
+use Rattle.pagable_pager.specs.Opened.{ReadsAs}
+use Rattle.pagable_walk.specs.declared.results.Trees.{Ghosts}
+use Rattle.pagable_walk.specs.Turns.{plain}
+use Rattle.pagable_machine.specs.declared.held.Held.{Held}
+use Rattle.pagable_machine.specs.Serving.{Serves}
+use Rattle.pagable_machine.specs.Keeping.{BeginsNoKey, Forgets, Holding, IsPrepared, IsTaken, KeepsOne, Kept, Makes, Stepped, CountsStep, rest_after}
+use Rattle.pagable_machine.specs.Driving.{Answer, Drives, Given, IsInStep, Readings, holding, kept_at, over}
+use Rattle.pagable_machine.proofs.Keeping.{call-made, key-refused, key-starts, starts}
+use Rattle.pagable_machine.proofs.Loading.{faulty, never-typed, no-place, own-steps, refuses-step}
+
+-- nothing is forgotten where all stays
+pub forgets-none : (w : Core) {kept kept' : Kept} → ((q : ℕ) → kept' q ≡ kept q) → Forgets w kept kept'
+forgets-none w as_was = record { still = λ l load is. as_was l; only = λ l own is. sym (as_was l) ∙ is }
+
+-- a load that nothing has the number of isn't open
+closed : (w : Core) (l : LoadNumber) → load_fault w owners.Caller l ≡ Some errors.NoSuchHandle → w.loads l.0 ≡ None
+closed w l why = by (w.loads l.0) why
+  where
+    by : (found : Option OpenLoad) → if_there (λ (load : OpenLoad). refused_if (not (is_owner owners.Caller load.owner)) errors.NotYours) (Some errors.NoSuchHandle) found ≡ Some errors.NoSuchHandle
+        → found ≡ None
+    by None is = refl
+    by (Some load) is = absurd (of (is_owner owners.Caller load.owner) is)
+      where
+        of : (own : Bool) → refused_if (not own) errors.NotYours ≡ Some errors.NoSuchHandle → ⊥
+        of true is = absurd (cc)
+        of false is = absurd (cc)
+
+-- what is kept anew after what was kept stayed
+pub keeps-after : {Y : Type 0} {k mid kept' : ℕ → Option Y} {l : ℕ} {own : Option Y} → ((q : ℕ) → mid q ≡ k q) → KeepsOne mid l own kept' → KeepsOne k l own kept'
+keeps-after as_was keeps = record { here = keeps.here; others = λ q other. keeps.others q other ∙ as_was q }
+
+-- a reading that is kept already, and one that has just begun
+pub is-prepared : {kept : Kept} (l : LoadNumber) (key : ℕ) (t : Option ℕ) → is_some (kept l.0) ≡ true → IsPrepared kept l key t kept
+is-prepared {kept} l key t some = by (kept l.0) refl some
+  where
+    by : (found : Option Own) → kept l.0 ≡ found → is_some found ≡ true → IsPrepared kept l key t kept
+    by None is some = absurd (cc)
+    by (Some own) is some = record { own = own; taken = record { why = inl is }; keeps = record { here = is; others = λ q other. refl } }
+
+pub begins-prepared : {kept kept' : Kept} (l : LoadNumber) (key : ℕ) (t : Option ℕ) (type : ℕ) (own : Own) → is_some (kept l.0) ≡ false → t ≡ Some type → reading_of own ≡ fresh l type → own.key ≡ key
+    → own.for_cell ≡ true → KeepsOne kept l.0 (Some own) kept'
+    → IsPrepared kept l key t kept'
+begins-prepared {kept} l key t type own none typed is key_is sort keeps = record { own = own; taken = record { why = inr (unkept (kept l.0) none, (type, typed, is), key_is, sort) }; keeps = keeps }
+  where
+    unkept : (found : Option Own) → is_some found ≡ false → found ≡ None
+    unkept None e = refl
+    unkept (Some x) e = absurd (cc)
+
+-- what was kept of a closed load goes
+pub forgets-closed : (w : Core) (l : LoadNumber) {kept kept' : Kept} → load_fault w owners.Caller l ≡ Some errors.NoSuchHandle → KeepsOne kept l.0 None kept' → Forgets w kept kept'
+forgets-closed w l {kept} {kept'} why keeps =
+    record {
+      still = λ q load is. by q (q == l.0) refl (λ at. let f : w.loads l.0 ≡ Some load = subst (λ n. w.loads n ≡ Some load) at is in let e = closed w l why in absurd (cc));
+      only = λ q own is. sym (by q (q == l.0) refl (λ at. let f : kept' l.0 ≡ Some own = subst (λ n. kept' n ≡ Some own) at is in let g = keeps.here in absurd (cc))) ∙ is;
+    }
+  where
+    by : (q : ℕ) (b : Bool) → (q == l.0) ≡ b → (q ≡ l.0 → ⊥) → kept' q ≡ kept q
+    by q true e not = absurd (not (same-number q l.0 e))
+    by q false e not = keeps.others q not
+
+module _ {X : Type 0} {g : Ghosts X} {N S E : Type 0} (v : E → Values N) (tells : Telling S) (old new : PagerView N S E) (held : Held X g) (kept' : Readings) (serving : IsInStep tells (over old held))
+    (was : WellFormed (v old.environment) (state_in tells old)) where
+  abbrev m : Seen N Blob Written
+  m = plain (v old.environment)
+
+  abbrev h : Holding g
+  h = holding held
+
+  abbrev kept : Readings
+  kept = held.readings
+
+  abbrev s : PagerState N E
+  s = state_in tells old
+
+  abbrev s' : PagerState N E
+  s' = state_in tells new
+
+  abbrev Happens : Given N → Answer N → PagerView N S E → Readings → Type 0
+  Happens event reply now left = Drives (v old.environment) tells (over old held) event reply (over now (record held { readings = left }))
+
+  whole-still : {comes : ℕ → N → Type 0} → Moves comes s s' → WellFormed (v new.environment) s' → WellFormed (v old.environment) s'
+  whole-still moves formed = subst (λ e. WellFormed (v e) s') moves.environment formed
+
+  pub call-drives : (call : Call N PagableData) (reply : Reply N (Arc PagableData Global)) → Serves (v old.environment) tells old call reply new → WellFormed (v new.environment) s'
+      → Forgets s'.core (kept_at kept) (kept_at kept') → Happens (events.Call call) (answers.CallReply reply) new kept'
+  call-drives call reply serves formed f = record { makes = call-made m s s' h (kept_at kept') serving was (whole-still serves.moves formed) _ _ serves.step serves.moves f }
+
+  pub start-drives : (through : HandleNumber) (r : Result Beginning Error) → Serves (v old.environment) tells old (calls.LoadBegin through) (replies.Begun r) new → WellFormed (v new.environment) s'
+      → Happens (events.LoadStart through) (answers.Started r) new kept
+  start-drives through r serves formed = record { makes = starts m s s' h h.readings serving was (whole-still serves.moves formed) through r serves.step serves.moves (forgets-none s'.core (λ q. refl)) }
+
+  -- a load of a key is refused before it begins
+  pub key-full-drives : (key t : ℕ) (e : Error) → BeginsNoKey s.core e → ((q : ℕ) → kept_at kept' q ≡ kept_at kept q)
+      → Happens (events.LoadKey key t) (answers.Started (Err e)) old kept'
+  key-full-drives key t e refused as_was =
+      record {
+        makes = key-refused m s s h (kept_at kept') serving was was key t e (record { does = record { begins = tt; refused = refused } })
+            (record { each = λ n x is. inl is; environment = refl }) (forgets-none s.core as_was);
+      }
+
+  -- it has begun, or hasn't
+  pub key-drives : (key t : ℕ) (r : Result Beginning Error) (l : LoadNumber) (own : Own) → (k : ℕ) × (r ≡ Ok (beginnings.Load l k))
+      → Serves (v old.environment) tells old (calls.LoadKey key) (replies.Begun r) new → WellFormed (v new.environment) s' → reading_of own ≡ fresh l t → own.key ≡ key → own.for_cell ≡ false
+      → KeepsOne (kept_at kept) l.0 (Some own) (kept_at kept') → Happens (events.LoadKey key t) (answers.Started r) new kept'
+  key-drives key t r l own (k, is) serves formed reads key_is sort keeps =
+      let made = subst (λ x. Serves (v old.environment) tells old (calls.LoadKey key) (replies.Begun x) new) is serves in
+      subst (λ x. Happens (events.LoadKey key t) (answers.Started x) new kept') (sym is)
+      (record { makes = key-starts m s s' h (kept_at kept') serving was (whole-still made.moves formed) key t l k own made.step made.moves reads key_is sort keeps })
+
+  pub key-none-drives : (key t : ℕ) (r : Result Beginning Error) → ((e : Error) × (r ≡ Err e)) ⊎ (r ≡ Ok beginnings.InMemory)
+      → Serves (v old.environment) tells old (calls.LoadKey key) (replies.Begun r) new → WellFormed (v new.environment) s' → ((q : ℕ) → kept_at kept' q ≡ kept_at kept q)
+      → Happens (events.LoadKey key t) (answers.Started r) new kept'
+  key-none-drives key t (Err e) why serves formed as_was =
+      record { makes = key-refused m s s' h (kept_at kept') serving was (whole-still serves.moves formed) key t e serves.step serves.moves (forgets-none s'.core as_was) }
+  key-none-drives key t (Ok beginnings.InMemory) why serves formed as_was = absurd serves.step.does.begins
+  key-none-drives key t (Ok (beginnings.Load l k)) (inl (e, is)) serves formed as_was = absurd (cc)
+  key-none-drives key t (Ok (beginnings.Load l k)) (inr is) serves formed as_was = absurd (cc)
+
+  module _ (l : LoadNumber) (key : ℕ) (t : Option ℕ) (reads : ReadsAs s.core l key t) where
+    pub step-drives : (kept1 kept2 : Readings) (reply : LoadReply N) → IsPrepared (kept_at kept) l key t (kept_at kept1) → CountsStep (kept_at kept1) l.0 reply (kept_at kept2)
+        → ((own new : Own) → kept_at kept1 l.0 ≡ Some own → kept_at kept2 l.0 ≡ Some new → Stepped (v old.environment) owners.Caller own reply new s s')
+        → KeepsOne (kept_at kept2) l.0 (rest_after reply.ended (kept_at kept2 l.0)) (kept_at kept') → Happens (events.LoadStep l) (answers.LoadMoved (Ok reply)) new kept'
+    step-drives kept1 kept2 reply ready step stepped ends =
+        let same : ready.own ≡ step.own = same_some _ _ (sym ready.keeps.here ∙ step.was) in
+        let taken = subst (λ x. IsTaken (kept_at kept) l key t x) same ready.taken in
+        let keeps : KeepsOne (kept_at kept) l.0 (rest_after reply.ended (Some step.new)) (kept_at kept') =
+        record { here = ends.here ∙ ap (rest_after reply.ended) step.keeps.here; others = λ q other. ends.others q other ∙ step.keeps.others q other ∙ ready.keeps.others q other } in
+        record {
+          makes = own-steps m s s' h (kept_at kept') serving was l reads.load key t step.own step.new reply reads.owned reads.key_is reads.type_is taken
+              (stepped step.own step.new step.was step.keeps.here) step.again step.counts step.counted keeps;
+        }
+
+    pub no-place-drives : (type : ℕ) (reply : LoadReply N) → t ≡ Some type → kept_at kept l.0 ≡ None → reply ≡ record { ended = Some (ends.Refused errors.OutOfMemory); steps = 1 }
+        → (told : Result (Unit {0}) Error) → DropCall s.core owners.Caller l told s'.core → Moves (λ n x. ⊥) s s' → WellFormed (v new.environment) s' → ((q : ℕ) → kept_at kept' q ≡ kept_at kept q)
+        → Happens (events.LoadStep l) (answers.LoadMoved (Ok reply)) new kept'
+    no-place-drives type reply typed none is told drop moves formed as_was =
+        record {
+          makes = subst (λ x. Makes m s h (events.LoadStep l) (answers.LoadMoved (Ok x)) s' (record h { readings = kept_at kept' })) (sym is)
+              (no-place m s s' h (kept_at kept') serving was l reads.load type told reads.owned (reads.type_is ∙ typed) none drop moves (whole-still moves formed) as_was);
+        }
+
+    pub untyped-drives : t ≡ None → kept_at kept l.0 ≡ None → ((q : ℕ) → kept_at kept' q ≡ kept_at kept q) → Happens (events.LoadStep l) (answers.LoadMoved (Err errors.WrongMode)) old kept'
+    untyped-drives untyped none as_was =
+        record { makes = refuses-step m s h serving was l errors.WrongMode as_was (never-typed s h l reads.load reads.owned none (reads.type_is ∙ untyped)) }
+
+  pub closed-drives : (l : LoadNumber) (e : Error) → load_fault s.core owners.Caller l ≡ Some e → Happens (events.LoadStep l) (answers.LoadMoved (Err e)) old kept
+  closed-drives l e why = record { makes = refuses-step m s h serving was l e (λ q. refl) (faulty s h l e why) }
+
+-- a step of what was kept, which is kept again
+pub step-of : {N E : Type 0} {v : Values N} {a b : Option Own} {x y own new : Own} {reply : LoadReply N} {s s' : PagerState N E} → a ≡ Some x → b ≡ Some y → Stepped v owners.Caller x reply y s s' → a ≡ Some own → b ≡ Some new
+    → Stepped v owners.Caller own reply new s s'
+step-of {v = v} {y = y} {own = own} {reply = reply} {s = s} {s'} was here step is now =
+    subst (λ z. Stepped v owners.Caller own reply z s s') (same_some _ _ (sym here ∙ now)) (subst (λ z. Stepped v owners.Caller z reply y s s') (same_some _ _ (sym was ∙ is)) step)

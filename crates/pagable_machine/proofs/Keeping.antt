@@ -1,0 +1,330 @@
+-- What a machine keeps of loads stays in step with its pager, whatever event happens.
+use Rattle.std.proofs.Common.{◌≡◌, ◌≢◌, ℕ, zero, suc, ◌+◌, ◌<◌, ◌≤◌, ◌==◌, Bool, true, false, List, [], length, Option, Some, None, Ok, Err, ◌⊎◌, inl, inr, if◌then◌else◌, refl, sym, ap, subst, ◌∙◌, arith}
+use Rattle.std.specs.Prelude.{Result, is_none, is_some, not}
+use Rattle.std.specs.Option.{option_map}
+use Rattle.pagable_model.specs.declared.error.Error.TheVariants as errors
+use Rattle.pagable_world.specs.declared.handles.Owner.{Owner}
+use Rattle.pagable_world.specs.declared.handles.Owner.TheVariants as owners
+use Rattle.pagable_world.specs.declared.answers.Beginning.{Beginning}
+use Rattle.pagable_world.specs.declared.answers.Beginning.TheVariants as beginnings
+use Rattle.pagable_world.specs.declared.calls.Call.TheVariants as calls
+use Rattle.pagable_world.specs.declared.calls.Reply.TheVariants as replies
+use Rattle.pagable_world.specs.declared.events.LoadAnswer.{LoadAnswer}
+use Rattle.pagable_world.specs.declared.events.LoadAnswer.TheVariants as ends
+use Rattle.pagable_world.specs.declared.events.Event.TheVariants as events
+use Rattle.pagable_world.specs.declared.events.EventReply.TheVariants as answers
+use Rattle.pagable_model.specs.declared.error.Error.{Error}
+use Rattle.pagable_model.specs.declared.numbers.HandleNumber.{HandleNumber}
+use Rattle.pagable_model.specs.declared.numbers.LoadNumber.{LoadNumber}
+use Rattle.pagable_model.specs.declared.numbers.WorkerNumber.{WorkerNumber}
+use Rattle.pagable_world.specs.declared.calls.Call.{Call}
+use Rattle.pagable_world.specs.declared.calls.Reply.{Reply}
+use Rattle.pagable_world.specs.declared.events.Event.{Event}
+use Rattle.pagable_world.specs.declared.events.EventReply.{EventReply}
+use Rattle.pagable_world.specs.declared.events.LoadReply.{LoadReply}
+use Rattle.pagable_world.specs.declared.events.TableNumber.{TableNumber}
+use Rattle.pagable_world.specs.Plain.{if_there, or_else, updated}
+use Rattle.pagable_world.specs.Kinds.{is_owner}
+use Rattle.pagable_world.specs.World.{Alike, Core, Frame, Last, OpenLoad, Reading, Root, Walking, of_cell, of_key, Seen, Values, one_more}
+use Rattle.pagable_world.specs.Refusals.{OwnsLoad, earlier, load_fault, refused_if}
+use Rattle.pagable_world.specs.LoadCalls.{BeginCall, DropCall, LoadCloses}
+use Rattle.pagable_world.specs.Loads.{ReadingDoes, gone_on}
+use Rattle.pagable_world.specs.Workers.{fresh}
+use Rattle.pagable_world.specs.Order.{step_of}
+use Rattle.pagable_world.specs.Events.{CallStep, Happens, IsNoTable, Stays, WorkStays, reading_after, reading_at, reading_of_load, reading_of_root, step_fault}
+use Rattle.pagable_world.specs.Events.{Does as CallDoes}
+use Rattle.pagable_world.specs.Pager.{CallBrings, EventBrings, FitsRoot, HandlesAreWhole, IsMachineWhole, IsReadingWhole, IsWalkingWhole, Moves, PagerState, ReplyWrites, WellFormed, world_of}
+use Rattle.pagable_world.specs.Access.{ReadingStep}
+use Rattle.pagable_laws.proofs.Trees.{same_some}
+use Rattle.pagable_laws.proofs.Sums.{same-number, self-number}
+use Rattle.pagable_loads.specs.declared.reading.Reading.{Reading as Own}
+use Rattle.pagable_loads.specs.Frames.{IsLoadOf, is_cell, reading_of}
+use Rattle.pagable_walk.specs.declared.results.Trees.{Ghosts}
+use Rattle.pagable_machine.specs.declared.held.Walk.{Walk}
+use Rattle.pagable_machine.specs.Keeping.{AllKept, Forgets, Holding, IsKept, IsServing, KeepsOne, Kept, Makes, ReadsFor, machine_of, readings_in, work_of}
+use Rattle.pagable_machine.specs.Walking.{IsWalkKept, shelf_at, walking_of}
+use Rattle.pagable_machine.proofs.Leaving.{Leaves, call-leaves, like}
+use Rattle.pagable_machine.proofs.Passing.{Passes, event-passes}
+use Rattle.pagable_machine.proofs.Fitting.{walk-on}
+
+-- ---- what is kept
+
+pub alike-self : (w : Core) → Alike w w
+alike-self w =
+    record {
+      rows = refl;
+      cells = λ n. refl;
+      list = refl;
+      cache = record { gives = λ kind key. refl; only = λ kind key n is. is };
+      stored = λ key. refl;
+      closed = refl;
+      failures = refl;
+      loads = λ l. refl;
+      workers = λ v. refl;
+      last = refl;
+      places = record { handles = omega arith; entries = omega arith };
+    }
+
+pub updated-at : {X : Type 0} (n : ℕ) (x : X) (f : ℕ → X) → updated n x f n ≡ x
+updated-at n x f = ap (λ b. if b then x else f n) (self-number n)
+
+-- the machine reads what is kept of open loads
+pub are-these : (w' : Core) (kept' : Kept) (target : ℕ → Option Reading) → ((l : ℕ) (load : OpenLoad) → w'.loads l ≡ Some load → option_map reading_of (kept' l) ≡ target l)
+    → (l : ℕ) → readings_in kept' w' l ≡ if_there (λ load. target l) None (w'.loads l)
+are-these w' kept' target same l = by (w'.loads l) refl
+  where
+    by : (found : Option OpenLoad) → w'.loads l ≡ found → if_there (λ (load : OpenLoad). option_map reading_of (kept' l)) None found ≡ if_there (λ (load : OpenLoad). target l) None found
+    by None e = refl
+    by (Some load) e = same l load e
+
+none-shown : (found : Option OpenLoad) → let r : Option Reading = None in r ≡ if_there (λ (load : OpenLoad). r) None found
+none-shown None = refl
+none-shown (Some load) = refl
+
+pub not-same : (q l : ℕ) → (q == l) ≡ false → q ≢ l
+not-same q l e is = let f : (q == l) ≡ true = ap (λ n. n == l) is ∙ self-number l in absurd (cc)
+
+-- one is kept anew
+pub at-one : {Y Z : Type 0} (f : Y → Z) {kept kept' : ℕ → Option Y} (l : ℕ) (x : Option Y) (new : Option Z) (old : ℕ → Option Z) → KeepsOne kept l x kept' → option_map f x ≡ new → (q : ℕ)
+    → option_map f (kept q) ≡ old q
+    → option_map f (kept' q) ≡ updated l new old q
+at-one f {kept} {kept'} l x new old k is q same = by (q == l) refl
+  where
+    by : (b : Bool) → (q == l) ≡ b → option_map f (kept' q) ≡ (if b then new else old q)
+    by true e = subst (λ n. option_map f (kept' n) ≡ new) (sym (same-number q l e)) (ap (option_map f) k.here ∙ is)
+    by false e = ap (option_map f) (k.others q (not-same q l e)) ∙ same
+
+pub one-or-old : {Y : Type 0} {kept kept' : ℕ → Option Y} (l : ℕ) (x : Option Y) → KeepsOne kept l x kept' → (q : ℕ) (own : Y) → kept' q ≡ Some own → (kept q ≡ Some own) ⊎ ((q ≡ l) × (x ≡ Some own))
+one-or-old {kept = kept} {kept'} l x k q own is = by (q == l) refl
+  where
+    by : (b : Bool) → (q == l) ≡ b → (kept q ≡ Some own) ⊎ ((q ≡ l) × (x ≡ Some own))
+    by true e = let at = same-number q l e in inr (at, sym k.here ∙ subst (λ n. kept' n ≡ Some own) at is)
+    by false e = inl (sym (k.others q (not-same q l e)) ∙ is)
+
+module _ {w : Core} {kept : Kept} (all : AllKept w kept) {me : Owner} {works : ℕ → Bool} {w' : Core} (on : Leaves me works w w') where
+  -- nothing is kept of a load that wasn't begun
+  unkept : (l : ℕ) → w.last.load < l → kept l ≡ None
+  unkept l above = by (kept l) refl
+    where
+      by : (found : Option Own) → kept l ≡ found → found ≡ None
+      by None e = refl
+      by (Some own) e = absurd (let given = (all l own e).given in omega (arith, above, given))
+
+  -- an open load is read as it was
+  pub as-before : (l : ℕ) (load : OpenLoad) → w'.loads l ≡ Some load → option_map reading_of (kept l) ≡ readings_in kept w l
+  as-before l load open_load = elim (on.loads l load open_load) [
+    | inl was ↦ sym (ap (λ (o : Option OpenLoad). if_there (λ (x : OpenLoad). option_map reading_of (kept l)) None o) was)
+    | inr above ↦ let e = unkept l above in rw e (none-shown (w.loads l))
+  ]
+
+  still-kept : (l : ℕ) (own : Own) → IsKept w l own → IsKept w' l own
+  still-kept l own k =
+      let given = k.given in
+      let more = on.last in
+      record {
+        number = k.number;
+        given = omega (arith, given, more);
+        reads = λ load open_load. elim (on.loads l load open_load) [ inl was ↦ k.reads load was | inr above ↦ absurd (omega (arith, given, above)) ];
+      }
+
+  pub kept-on : {kept' : Kept} → ((l : ℕ) (own : Own) → kept' l ≡ Some own → (kept l ≡ Some own) ⊎ IsKept w' l own) → AllKept w' kept'
+  kept-on anew l own is = elim (anew l own is) [ inl was ↦ still-kept l own (all l own was) | inr new ↦ new ]
+
+-- a machine in step with a pager that is whole is whole
+pub machine-whole : {X : Type 0} {g : Ghosts X} {N E : Type 0} (v : Values N) (s : PagerState N E) (h : Holding g) → WellFormed v s → IsServing s.core h → IsMachineWhole v (machine_of s h)
+machine-whole {X} {g} v s h formed serving =
+    record {
+      pager = formed;
+      readings = λ l reading is. of l reading (s.core.loads l) refl (h.readings l) refl is;
+      walkings = λ n walking is. of-walk n walking (h.walks n) refl is;
+      all_there = λ n is. there (h.walks n) (serving.all_there n is);
+    }
+  where
+    of : (l : ℕ) (reading : Reading) (found : Option OpenLoad) → s.core.loads l ≡ found → (own : Option Own) → h.readings l ≡ own
+        → if_there (λ (load : OpenLoad). option_map reading_of own) None found ≡ Some reading → IsReadingWhole s.core l reading
+    of l reading None e own f is = absurd (cc)
+    of l reading (Some load) e None f is = absurd (cc)
+    of l reading (Some load) e (Some own) f is =
+        let k = serving.readings l own f in
+        let r = k.reads load e in
+        subst (λ x. IsReadingWhole s.core l x) (same_some _ _ is) (record { number = k.number; load = load; open_load = e; owned = r.owned; typed = r.typed })
+
+    of-walk : (n : ℕ) (walking : Walking) (found : Option (Walk X g)) → h.walks n ≡ found → option_map walking_of found ≡ Some walking → IsWalkingWhole s.core (work_of h s.core) n walking
+    of-walk n walking None e is = absurd (cc)
+    of-walk n walking (Some k) e is =
+        let kept = serving.walks n k e in
+        subst (λ x. IsWalkingWhole s.core (work_of h s.core) n x) (same_some _ _ is) (record { table = kept.table; at_work = kept.at_work })
+
+    there : (found : Option (Walk X g)) → is_some found ≡ true → is_some (option_map walking_of found) ≡ true
+    there None is = absurd (cc)
+    there (Some k) is = refl
+
+-- ---- events
+
+-- what is done to a pager, and what is kept afterwards
+pub makes-with : {X : Type 0} {g : Ghosts X} {N B W E : Type 0} (m : Seen N B W) (s s' : PagerState N E) {h h' : Holding g} → WellFormed m.values s' → (event : Event N B W) (reply : EventReply N B W)
+    → Happens m (world_of (machine_of s h)) event reply (world_of (machine_of s' h')) → Moves (EventBrings m.values (world_of (machine_of s h)) event) s s'
+    → ReplyWrites m s reply → IsServing s'.core h' → Makes m s h event reply s' h'
+makes-with m s s' {h} {h'} formed event reply happens moves writes now =
+    record { does = record { step = record { happens = happens }; moves = moves; writes = writes; whole = machine-whole m.values s' h' formed now }; serving = now }
+
+-- of one worker this is kept from now on
+pub one-serves : {X : Type 0} {g : Ghosts X} {w w' : Core} {h h' : Holding g} → IsServing w h → HandlesAreWhole w → (v : ℕ) (k : Walk X g) → KeepsOne h.walks v (Some k) h'.walks
+    → length h.tables ≤ length h'.tables → AllKept w' h'.readings → ((q : ℕ) → q ≢ v → Passes q w w') → ((q : ℕ) → q ≢ v → w'.workers q ≡ w.workers q) → IsWalkKept w' (length h'.tables) v k
+    → IsServing w' h'
+one-serves {X} {g} {w} {w'} {h} {h'} serving whole v k keeps more readings passes works new =
+    record {
+      readings = readings;
+      walks = λ q x is. walk q x is (q == v) refl;
+      all_there = λ q is. there q is (q == v) refl;
+    }
+  where
+    walk : (q : ℕ) (x : Walk X g) → h'.walks q ≡ Some x → (b : Bool) → (q == v) ≡ b → IsWalkKept w' (length h'.tables) q x
+    walk q x is true e =
+        let at = same-number q v e in
+        let same : k ≡ x = same_some _ _ (sym keeps.here ∙ subst (λ n. h'.walks n ≡ Some x) at is) in
+        subst (λ n. IsWalkKept w' (length h'.tables) n x) (sym at) (subst (λ y. IsWalkKept w' (length h'.tables) v y) same new)
+    walk q x is false e =
+        let other = not-same q v e in
+        walk-on whole (passes q other) more (works q other) (serving.walks q x (sym (keeps.others q other) ∙ is))
+
+    there : (q : ℕ) → w'.workers q ≡ true → (b : Bool) → (q == v) ≡ b → is_some (h'.walks q) ≡ true
+    there q is true e = ap is_some (ap h'.walks (same-number q v e) ∙ keeps.here)
+    there q is false e = let other = not-same q v e in ap is_some (keeps.others q other) ∙ serving.all_there q (sym (works q other) ∙ is)
+
+-- no worker steps, and nothing else is kept of any
+module _ {X : Type 0} {g : Ghosts X} {N B W E : Type 0} (m : Seen N B W) (s s' : PagerState N E) {h h' : Holding g} (serving : IsServing s.core h) (was : WellFormed m.values s)
+    (formed : WellFormed m.values s') (more : length h.tables ≤ length h'.tables) (walks : (v : ℕ) → h'.walks v ≡ h.walks v) (on : Leaves owners.Caller s.core.workers s.core s'.core) where
+  pub makes : (event : Event N B W) (reply : EventReply N B W) → ((v : ℕ) → step_of v event reply ≡ []) → Happens m (world_of (machine_of s h)) event reply (world_of (machine_of s' h'))
+      → Moves (EventBrings m.values (world_of (machine_of s h)) event) s s' → ReplyWrites m s reply → AllKept s'.core h'.readings → Makes m s h event reply s' h'
+  makes event reply none happens moves writes now = makes-with m s s' formed event reply happens moves writes (record {
+    readings = now;
+    walks = λ v k is. walk-on was.whole.handles (passes v) more (on.workers v) (serving.walks v k (sym (walks v) ∙ is));
+    all_there = λ v is. ap is_some (walks v) ∙ serving.all_there v (sym (on.workers v) ∙ is);
+  })
+    where
+      passes : (v : ℕ) → Passes v s.core s'.core
+      passes v = event-passes m v (world_of (machine_of s h)) (world_of (machine_of s' h')) was.whole event reply (none v) happens
+          (λ l load is own. on.others l load is (was.whole.loads.numbered l (ap is_some is)).1 (ap (is_owner owners.Caller) own))
+
+le-self : (n : ℕ) → n ≤ n
+le-self n = omega arith
+
+-- ---- calls and loads
+
+module _ {X : Type 0} {g : Ghosts X} {N B W E : Type 0} (m : Seen N B W) (s s' : PagerState N E) (h : Holding g) (kept' : Kept) (serving : IsServing s.core h) (was : WellFormed m.values s)
+    (formed : WellFormed m.values s') where
+  abbrev after : Holding g
+  after = record h { readings = kept' }
+
+  pub same-work : WorkStays (work_of h s.core) (work_of after s'.core)
+  same-work = record { shelves = λ t. record { slots = λ i. refl; waits = λ v. refl }; last_table = refl; walkings = λ v. refl }
+
+  pub quiet : Leaves owners.Caller s.core.workers s.core s'.core → (event : Event N B W) (reply : EventReply N B W) → ((v : ℕ) → step_of v event reply ≡ [])
+      → Happens m (world_of (machine_of s h)) event reply (world_of (machine_of s' after)) → Moves (EventBrings m.values (world_of (machine_of s h)) event) s s' → ReplyWrites m s reply
+      → AllKept s'.core kept' → Makes m s h event reply s' after
+  quiet on = makes m s s' {h' = after} serving was formed (le-self _) (λ v. refl) on
+
+  -- a call
+  pub call-made : (call : Call N B) (reply : Reply N B) → CallStep m s.core owners.Caller call reply s'.core → Moves (CallBrings s.core call) s s' → Forgets s'.core h.readings kept'
+      → Makes m s h (events.Call call) (answers.CallReply reply) s' after
+  call-made call reply step moves f =
+      let on = call-leaves s.core s'.core owners.Caller m call reply step.does in
+      quiet on (events.Call call) (answers.CallReply reply) (λ v. refl)
+      (record {
+        step = step;
+        readings = are-these s'.core kept' (readings_in h.readings s.core) (λ l load is. ap (option_map reading_of) (f.still l load is) ∙ as-before serving.readings on l load is);
+        work = same-work;
+      }) moves tt (kept-on serving.readings on (λ l own is. inl (f.only l own is)))
+
+  -- a load of a cell begins: of it nothing is kept yet
+  pub starts : (through : HandleNumber) (r : Result Beginning Error) → CallStep m s.core owners.Caller (calls.LoadBegin through) (replies.Begun r) s'.core → Moves (λ n x. ⊥) s s' → Forgets s'.core h.readings kept'
+      → Makes m s h (events.LoadStart through) (answers.Started r) s' after
+  starts through r step moves f =
+      let on = call-leaves s.core s'.core owners.Caller m (calls.LoadBegin through) (replies.Begun r) step.does in
+      quiet on (events.LoadStart through) (answers.Started r) (λ v. refl)
+      (record {
+        step = step.does;
+        readings = are-these s'.core kept' (readings_in h.readings s.core) (λ l load is. ap (option_map reading_of) (f.still l load is) ∙ as-before serving.readings on l load is);
+        work = same-work;
+      }) moves tt (kept-on serving.readings on (λ l own is. inl (f.only l own is)))
+
+  -- a load of a key is refused
+  pub key-refused : (key t : ℕ) (e : Error) → CallStep m s.core owners.Caller (calls.LoadKey key) (replies.Begun (Err e)) s'.core → Moves (λ n x. ⊥) s s' → Forgets s'.core h.readings kept'
+      → Makes m s h (events.LoadKey key t) (answers.Started (Err e)) s' after
+  key-refused key t e step moves f =
+      let on = call-leaves s.core s'.core owners.Caller m (calls.LoadKey key) (replies.Begun (Err e)) step.does in
+      quiet on (events.LoadKey key t) (answers.Started (Err e)) (λ v. refl)
+      (record {
+        step = step.does;
+        begun = tt;
+        refused = are-these s'.core kept' (readings_in h.readings s.core) (λ l load is. ap (option_map reading_of) (f.still l load is) ∙ as-before serving.readings on l load is);
+        work = same-work;
+      }) moves tt (kept-on serving.readings on (λ l own is. inl (f.only l own is)))
+
+  -- it begins, and is kept
+  pub key-starts : (key t : ℕ) (l : LoadNumber) (k : ℕ) (own : Own) → CallStep m s.core owners.Caller (calls.LoadKey key) (replies.Begun (Ok (beginnings.Load l k))) s'.core → Moves (λ n x. ⊥) s s'
+      → reading_of own ≡ fresh l t → own.key ≡ key → own.for_cell ≡ false → KeepsOne h.readings l.0 (Some own) kept'
+      → Makes m s h (events.LoadKey key t) (answers.Started (Ok (beginnings.Load l k))) s' after
+  key-starts key t l k own step moves is key_is sort keeps =
+      let on = call-leaves s.core s'.core owners.Caller m (calls.LoadKey key) (replies.Begun (Ok (beginnings.Load l k))) step.does in
+      let next = step.does.begins.1.above in
+      let a = step.does.begins.2 in
+      let last : s'.core.last.load ≡ s.core.last.load + 1 = ap (λ (x : Last). x.load) a.last in
+      let load : OpenLoad = record { owner = owners.Caller; key = key; root = of_key } in
+      let there : s'.core.loads l.0 ≡ Some load = ap s'.core.loads next ∙ a.loads (s.core.last.load + 1) ∙ updated-at (s.core.last.load + 1) (Some load) s.core.loads in
+      let reads : ReadsFor load own = record { owned = refl; key = sym key_is; sort = sym sort; typed = tt } in
+      let new : IsKept s'.core l.0 own =
+      record {
+        number = ap (λ (r : Reading). r.load.0) is;
+        given = omega (arith, next, last);
+        reads = λ other open_load. subst (λ x. ReadsFor x own) (same_some _ _ (sym there ∙ open_load)) reads;
+      } in
+      quiet on (events.LoadKey key t) (answers.Started (Ok (beginnings.Load l k))) (λ v. refl)
+      (record {
+        step = step.does;
+        begun = are-these s'.core kept' (updated l.0 (Some (fresh l t)) (readings_in h.readings s.core))
+            (λ q open_load is_open. at-one reading_of l.0 (Some own) (Some (fresh l t)) (readings_in h.readings s.core) keeps (ap Some is) q (as-before serving.readings on q open_load is_open));
+        refused = tt;
+        work = same-work;
+      }) moves tt
+      (kept-on serving.readings on (λ q other is_kept. elim (one-or-old l.0 (Some own) keeps q other is_kept) [
+        | inl was ↦ inl was
+        | inr (at, same) ↦ inr (subst (λ n. IsKept s'.core n other) (sym at) (subst (λ x. IsKept s'.core l.0 x) (same_some _ _ same) new))
+      ]))
+
+-- ---- nothing happens
+
+-- the same is kept
+pub record KeepsAll {X : Type 0} {g : Ghosts X} (h h' : Holding g) : Type 0 where
+  pub readings : (l : ℕ) → h'.readings l ≡ h.readings l
+  pub tables : h'.tables ≡ h.tables
+  pub walks : (v : ℕ) → h'.walks v ≡ h.walks v
+
+module _ {X : Type 0} {g : Ghosts X} {N B W E : Type 0} (m : Seen N B W) (s s' : PagerState N E) {h h' : Holding g} (serving : IsServing s.core h) (was : WellFormed m.values s)
+    (formed : WellFormed m.values s') (same_pager : Alike s.core s'.core) (keeps : KeepsAll h h') where
+  on : Leaves owners.Caller s.core.workers s.core s'.core
+  on = like same_pager refl refl refl
+
+  pub stays : Stays (world_of (machine_of s h)) (world_of (machine_of s' h'))
+  stays =
+      record {
+        core = same_pager;
+        readings = are-these s'.core h'.readings (readings_in h.readings s.core) (λ l load is. ap (option_map reading_of) (keeps.readings l) ∙ as-before serving.readings on l load is);
+        work = record {
+          shelves = λ t. record { slots = λ i. ap (λ tables. (shelf_at tables t).slots i) keeps.tables; waits = λ v. ap (λ tables. (shelf_at tables t).waits v) keeps.tables };
+          last_table = ap length keeps.tables;
+          walkings = λ v. ap (option_map walking_of) (keeps.walks v);
+        };
+      }
+
+  -- an event is refused
+  pub refuses : (event : Event N B W) (reply : EventReply N B W) → ((v : ℕ) → step_of v event reply ≡ []) → Happens m (world_of (machine_of s h)) event reply (world_of (machine_of s' h'))
+      → Moves (λ n x. ⊥) s s' → ReplyWrites m s reply → Makes m s h event reply s' h'
+  refuses event reply none happens moves writes =
+      makes m s s' serving was formed (of-same _ _ (ap length keeps.tables)) keeps.walks on event reply none happens
+      (record { each = λ n x is. elim (moves.each n x is) [ inl there ↦ inl there | inr came ↦ absurd came.1 ]; environment = moves.environment }) writes
+      (kept-on serving.readings on (λ l own is. inl (sym (keeps.readings l) ∙ is)))
+    where
+      of-same : (a b : ℕ) → b ≡ a → a ≤ b
+      of-same a b is = omega arith

@@ -1,0 +1,10 @@
+use Rattle.pagable_world.specs.Calls.{SetKeyCall}
+use Rattle.pagable_loads.specs.Telling.{values_at}
+use Rattle.pagable_pager.specs.View.{telling}
+use Rattle.pagable_pager.proofs.Lending.{told_less}
+use Rattle.pagable_pager.proofs.lent.LentAccess.set_data_key.Goals as goal
+
+pub returns-clause-step : goal.returns-clause-step
+returns-clause-step g c =
+    told_less (telling g.S.PagableStorage.stored g.S.PagableStorage.is_closed g.S.PagableStorage.failed) (λ e. values_at g.E.Node.NodeSet g.E.Env g.E.Hash.KeyHash e) c.args.self.now.pager.now c.set_data_key_by-set.new.self
+    (λ w w'. SetKeyCall w c.args.self.now.me c.args.handle c.args.key c.set_data_key_by-set.result w') c.set_data_key_by-set.ensures.step c.set_data_key_by-set.ensures.only c.is_whole.ensures

@@ -1,0 +1,12 @@
+use Rattle.std.proofs.Common.{◌∷◌, rules, ap, subst, sym}
+use Rattle.pagable_world.specs.World.{to_start}
+use Rattle.pagable_walk.specs.Tasks.{IsWay}
+use Rattle.pagable_walk.proofs.Stacks.{todos-none}
+use Rattle.pagable_walk.proofs.Ways.{start-way}
+use Rattle.pagable_walk.proofs.starting.start_entry.Goals as goal
+
+pub returns-clause-todo : goal.returns-clause-todo
+returns-clause-todo g c = ap (λ ts. to_start c.args.reference 0 ∷ ts) (todos-none c.new.result.items (search rules))
+
+pub returns-clause-way : goal.returns-clause-way
+returns-clause-way g c = subst (λ ts. IsWay (to_start c.args.reference 0 ∷ ts)) (sym (todos-none c.new.result.items (search rules))) (start-way c.args.reference)

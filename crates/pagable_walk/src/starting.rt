@@ -1,0 +1,58 @@
+//! What a worker does first.
+
+ghost use Rattle.std.specs.Prelude.{◌≡◌, ◌∷◌, [], IfOk, IfErr};
+ghost use Rattle.std.specs.Arc.{arc_value};
+ghost use Rattle.pagable_model.specs.declared.error.Error.TheVariants as errors;
+ghost use Rattle.pagable_world.specs.Kinds.{identity_of};
+ghost use Rattle.pagable_world.specs.World.{of_item, of_entry, to_item};
+ghost use Rattle.pagable_world.specs.Workers.{first_todo};
+ghost use Rattle.pagable_walk.specs.Slots.{written_of};
+ghost use Rattle.pagable_walk.specs.Tasks.{IsPlain, IsWay, item_todo, todo_of, todos};
+
+use crate::Trees;
+use crate::stack::settle_item;
+use crate::tasks::{Item, Task, Waiting};
+use pagable_core::SerializedData;
+use pagable_model::{ArcRef, Error};
+use std::alloc::Global;
+use std::sync::Arc;
+
+// An item before its references are walked, with places for their results.
+fn item<E: Trees>(alloc: Global, written: Arc<SerializedData>) -> Result<Item<E>, Error>
+    ensures item { IfOk result (λ i. item_todo i ≡ to_item (written_of (arc_value written)) []) }
+    ensures only { IfErr result (λ e. e ≡ errors.OutOfMemory) }
+{
+    match Vec::with_capacity(alloc, written.arcs.len()) {
+        Ok(children) => Ok(Item { written, children }),
+        Err(_) => Err(Error::OutOfMemory),
+    }
+}
+
+/// The first task for an item, and a path with places for it. Refused by want of memory alone.
+pub fn start_item<E: Trees>(
+    alloc: Global,
+    written: Arc<SerializedData>,
+) -> Result<(Task<E>, Vec<Waiting<E>>), Error>
+    ensures todo { IfOk result (λ w. todo_of w.0 ∷ todos w.1.items ≡ first_todo (of_item (written_of (arc_value written)))) }
+    ensures way { IfOk result (λ w. IsWay (todo_of w.0 ∷ todos w.1.items)) }
+    ensures plain { IfOk result (λ w. IsPlain w.0) }
+    ensures only { IfErr result (λ e. e ≡ errors.OutOfMemory) }
+{
+    let mut path = match Vec::with_capacity(alloc, 1) {
+        Ok(path) => path,
+        Err(_) => return Err(Error::OutOfMemory),
+    };
+    match item(alloc, written) {
+        Ok(item) => Ok((settle_item(&mut path, item), path)),
+        Err(e) => Err(e),
+    }
+}
+
+/// The first task for an entry of the list, which this reference names, and an empty path. It takes no memory.
+pub fn start_entry<E: Trees>(alloc: Global, reference: ArcRef) -> (Task<E>, Vec<Waiting<E>>)
+    ensures todo { todo_of result.0 ∷ todos result.1.items ≡ first_todo (of_entry reference.handle (identity_of reference)) }
+    ensures way { IsWay (todo_of result.0 ∷ todos result.1.items) }
+    ensures plain { IsPlain result.0 }
+{
+    (Task::Start(reference, 0), Vec::new(alloc))
+}
