@@ -1,12 +1,4 @@
 pub mod Leaving
-pub mod Passing
-pub mod Working
-pub mod Fitting
 pub mod Keeping
-pub mod Loading
-pub mod Beginning
-pub mod Stepping
-pub mod Happening
-pub mod Seeing
 pub mod Running
-pub mod Driven
+pub mod Happening

@@ -1,5 +1,4 @@
 pub mod Serving
-pub mod Walking
 pub mod Keeping
 pub mod Driving
 pub mod Unread

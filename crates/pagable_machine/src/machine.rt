@@ -7,37 +7,36 @@ ghost use Rattle.pagable_pager.specs.View.{state_in, telling};
 ghost use Rattle.pagable_machine.specs.Driving.{Runs, machine_in};
 
 use crate::events;
-use crate::held::Held;
 use crate::list::put;
 use indexmap::IndexMap;
 use pagable_codec::{Env, NodeSet};
 use pagable_core::{PagableData, PagableStorage, SerializedData};
+use pagable_loads::Reading;
 use pagable_model::Error;
 use pagable_pager::Pager;
-use pagable_walk::Trees;
 use pagable_world::{Event, EventReply};
 use std::alloc::Global;
 use std::collections::VecDeque;
 use std::marker::Model;
 use std::sync::Arc;
 
-/// A pager that takes lists of events: calls, and loads and workers of page-out by steps.
+/// A pager that takes lists of events: calls, and loads by steps. No worker is at work in it.
 #[derive(Drop)]
-pub struct Machine<E: Env + Trees, S: PagableStorage<E>>
+pub struct Machine<E: Env, S: PagableStorage<E>>
 where
     E::Node: NodeSet<E>,
 {
     pager: Pager<E, S>,
-    // What it keeps of loads, tables and workers.
-    held: Held<E>,
+    // How far loads are, by their numbers.
+    readings: IndexMap<u64, Reading>,
 }
 
-impl<E: Env + Trees, S: PagableStorage<E>> Model for Machine<E, S>
+impl<E: Env, S: PagableStorage<E>> Model for Machine<E, S>
 where
     E::Node: NodeSet<E>,
 {
     ghost use Rattle.pagable_pager.specs.View.{telling};
-    ghost use Rattle.pagable_machine.specs.Driving.{IsInStep, MachineView, over, view_of};
+    ghost use Rattle.pagable_machine.specs.Driving.{IsInStep, MachineView, over};
     ghost use Rattle.std.specs.Coded.{codes};
     ghost use Rattle.indexmap.specs.Layout.{hash_map_code};
 
@@ -45,9 +44,9 @@ where
 
     ghost coded = { Prim.hlevel (codes, hash_map_code) };
 
-    ghost view = { λ m. view_of m.pager m.held };
+    ghost view = { λ m. over m.pager m.readings };
 
-    ghost invariant = { λ m. IsInStep (telling S.stored S.is_closed S.failed) (over m.pager m.held) };
+    ghost invariant = { λ m. IsInStep (telling S.stored S.is_closed S.failed) (over m.pager m.readings) };
 }
 
 impl<E: Env, S: PagableStorage<E>> Machine<E, S>
@@ -63,11 +62,7 @@ where
     {
         Machine {
             pager: Pager::new(alloc, storage, env),
-            held: Held {
-                readings: IndexMap::new(alloc),
-                tables: Vec::new(alloc),
-                walks: IndexMap::new(alloc),
-            },
+            readings: IndexMap::new(alloc),
         }
     }
 
@@ -88,7 +83,7 @@ where
         alloc: Global,
         events: Vec<Event<E::Node, PagableData, SerializedData>>,
     ) -> Result<
-        Vec<EventReply<E::Node, Arc<PagableData>, Arc<SerializedData>>>,
+        Vec<EventReply<E::Node, Arc<PagableData>, SerializedData>>,
         (Error, Vec<Event<E::Node, PagableData, SerializedData>>),
     >
         ensures run { IfOk result (λ replies.
@@ -101,7 +96,7 @@ where
         };
         let mut rest = VecDeque::from_vec(events);
         while let Some(event) = rest.pop_front() {
-            let reply = events::serve(&mut self.pager, &mut self.held, alloc, event);
+            let reply = events::serve(&mut self.pager, &mut self.readings, alloc, event);
             put(&mut replies, reply);
         }
         Ok(replies)
