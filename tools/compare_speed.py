@@ -1,16 +1,16 @@
 #!/usr/bin/env python3
-"""Times `vectors time` beside the original crate, and writes the tables of docs/PROOFS.md.
+"""Times `vectors time` beside the original crate, and writes the table of docs/PROOFS.md.
 
     tools/compare_speed.py ORIGINAL WORK [ROUNDS]
 
-ORIGINAL is the folder of the Rust crate `pagable` 0.4.2, or of a cargo workspace that has it as a member, with a module `oracle_access` whose
-`set_mode` puts SHA-256 in BLAKE3's place. It is copied into the folder WORK, together with tools/original_speed.rs as one of its examples, and
-built by cargo twice: as `cargo build --release` does, and with LTO, one codegen unit and the processor level for which `vectors` is built
-(x86-64-v2). Nothing of it comes into the repository. `vectors` has to be built before: (cd crates/vectors && rt run -- time).
+ORIGINAL is the folder of the Rust crate `pagable` 0.4.2, or of a cargo workspace that has it as a member. It is copied into the folder
+WORK, together with tools/original_speed.rs as one of its examples, and built by cargo twice: as `cargo build --release` does, and with
+LTO, one codegen unit and the processor level for which `vectors` is built (x86-64-v2). Nothing of it comes into the repository. `vectors`
+has to be built before: (cd crates/vectors && rt run -- time).
 
 The values come from tools/speed_sums.py, which `vectors` is held against too; both programs fail where they write another form than they
-read. Each row is timed ROUNDS times (5 if left out), by all in turn, each time in a process of its own; a row's time is the least of all.
-Keys are SHA-256's on both sides. The peak of memory is that of a process that reads the row's value and writes it once, by GNU time.
+read. Each row is timed ROUNDS times (5 if left out), by all three in turn, each time in a process of its own; a row's time is the least
+of all. The peak of memory is that of a process that reads the row's value and writes it once, by GNU time.
 """
 import datetime
 import os
@@ -24,30 +24,13 @@ TOP = pathlib.Path(__file__).resolve().parent.parent
 VECTORS = TOP / "crates" / "vectors" / "out" / "vectors"
 PAGE = TOP / "docs" / "PROOFS.md"
 BEGIN, END = "<!-- table -->", "<!-- end of the table -->"
-# How many values each row has that a file doesn't tell.
-ROWS = {"numbers": None, "bytes": None, "texts": None, "maps": None, "ordered": None, "cells": 100_000}
-SIZES = [1_000, 10_000, 100_000, 1_000_000]
-OPERATIONS = {
-    "make ordered": "`new_loose`, with a copy of the text",
-    "clone ordered": "`clone`, in order",
-    "clone random": "`clone`, at random",
-    "pin ordered": "`unpin`, `pin` and `release` of the pin, in order",
-    "pin random": "the same, at random",
-    "release ordered": "`release` of a clone, in order",
-    "release random": "`release` of a clone, at random",
-    "write": "page-out of a cell",
-    "read": "pin of a cell that is out",
-    "chain ordered": "a node of a chain that falls",
-    "tree ordered": "a node of a tree that falls",
-}
+ROWS = ["numbers", "bytes", "texts", "maps", "ordered", "cells"]
 TIMES = re.compile(r"(\w+) (\d+) bytes write ([\d.]+) s \d+ MiB/s(?: read ([\d.]+) s \d+ MiB/s)?")
-CALL = re.compile(r"(\w+ \w+) (\d+) ns")
 TUNED = {"CARGO_PROFILE_RELEASE_LTO": "fat", "CARGO_PROFILE_RELEASE_CODEGEN_UNITS": "1", "RUSTFLAGS": "-C target-cpu=x86-64-v2"}
-SHA256 = {**os.environ, "ORACLE_HASH": "sha256"}
 
 
 def output(words):
-    return subprocess.run(words, check=True, text=True, capture_output=True, env=SHA256).stdout
+    return subprocess.run(words, check=True, text=True, capture_output=True).stdout
 
 
 def laid_out(original, work):
@@ -68,11 +51,9 @@ def built(folder, target, settings):
     return target / "release" / "examples" / "speed"
 
 
-def words_of(program, forms, row, count, runs):
-    """`vectors` draws a row's value itself; the original reads it from a file, or draws so many."""
-    if program == VECTORS:
-        return [program, "time", row, str(runs), *([str(count)] if count else [])]
-    return [program, row, str(runs), str(count) if count else forms / row]
+def words_of(program, forms, row, runs):
+    """`vectors` draws a row's value itself; the original reads it from a file."""
+    return [program, "time", row, str(runs)] if program == VECTORS else [program, row, forms / row, str(runs)]
 
 
 def timed(words, best):
@@ -85,33 +66,17 @@ def timed(words, best):
 
 def peak(words):
     """The peak of memory in KiB. GNU time stands between, since a child's peak counts the memory of whoever forked it."""
-    ran = subprocess.run(["env", "time", "-f", "%M", *words], check=True, text=True, capture_output=True, env=SHA256)
+    ran = subprocess.run(["env", "time", "-f", "%M", *words], check=True, text=True, capture_output=True)
     return int(ran.stderr.split()[-1])
 
 
-def measured(programs, forms, row, count, rounds):
+def measured(programs, forms, row, rounds):
     best = [{} for _ in programs]
     for _ in range(rounds):
         for program, mine in zip(programs, best):
-            timed(words_of(program, forms, row, count, 5), mine)
+            timed(words_of(program, forms, row, 5), mine)
     for program, mine in zip(programs, best):
-        mine["peak"] = peak(words_of(program, forms, row, count, 1))
-    return best
-
-
-def called(programs, count, rounds):
-    """The least nanoseconds of each operation, over so many cells or nodes."""
-    best = [{} for _ in programs]
-    runs = 1 if count == SIZES[-1] else 3
-    for _ in range(rounds):
-        for program, mine in zip(programs, best):
-            timed(words_of(program, None, "cells", count, runs), mine)
-            for row in ("handles", "falls"):
-                for operation, nanos in CALL.findall(output(words_of(program, None, row, count, runs))):
-                    mine[operation] = min(mine.get(operation, float("inf")), int(nanos))
-    for mine in best:
-        for what in ("write", "read"):
-            mine[what] = round(mine[what] * 1e9 / count)
+        mine["peak"] = peak(words_of(program, forms, row, 1))
     return best
 
 
@@ -122,14 +87,6 @@ def lines(rows):
         times = [f"{one[what] * 1000:.2f} ms" for what in ("write", "read") for one in best]
         peaks = [f"{one['peak'] / 1024:.1f} MiB" for one in best[:2]]
         yield f"| `{row}` | {' | '.join(times + peaks)} |"
-
-
-def call_lines(sizes):
-    yield f"| Nanoseconds | {' | '.join(f'{count:,}, here | Original' for count in sizes)} |"
-    yield f"|---{'|---|---' * len(sizes)}|"
-    for operation, name in OPERATIONS.items():
-        times = [f"{one[operation]:,}" for best in sizes.values() for one in best]
-        yield f"| {name} | {' | '.join(times)} |"
 
 
 def machine():
@@ -151,9 +108,8 @@ def main():
     forms = work / "forms"
     forms.mkdir(exist_ok=True)
     output([sys.executable, TOP / "tools" / "speed_sums.py", forms])
-    rows = {row: measured(programs, forms, row, count, rounds) for row, count in ROWS.items()}
-    sizes = {count: called(programs[:2], count, rounds) for count in SIZES}
-    table = "\n".join([machine(), "", *lines(rows), "", *call_lines(sizes)])
+    rows = {row: measured(programs, forms, row, rounds) for row in ROWS}
+    table = "\n".join([machine(), "", *lines(rows)])
     before, rest = PAGE.read_text().split(BEGIN)
     PAGE.write_text(f"{before}{BEGIN}\n{table}\n{END}{rest.split(END)[1]}")
 

@@ -9,4 +9,3 @@ pub mod Due
 pub mod Writing
 pub mod Ending
 pub mod Walking
-pub mod Over

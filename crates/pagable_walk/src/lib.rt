@@ -4,7 +4,6 @@
 pub mod claiming;
 pub mod ending;
 pub mod making;
-pub mod over;
 pub mod results;
 pub mod slots;
 pub mod stack;

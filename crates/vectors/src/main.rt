@@ -1,7 +1,6 @@
 //! `vectors` runs the worked rows, and prints a line for each. `vectors WORD..` does so for the word `rows`, and answers each line of
 //! the file for another word with one line, but for comments and lines that only make a pager. What it has to answer stands in
-//! `stdout`, and comes from outside the program. `vectors time [ROW [RUNS [COUNT]]]` prints how long it takes to write and to read values, and what calls of a pager
-//! take.
+//! `stdout`, and comes from outside the program. `vectors time [ROW [RUNS]]` prints how long it takes to write and to read values.
 #![tactic(auto)]
 
 mod blobs;
@@ -44,20 +43,10 @@ fn answer_words(rt: &HostRuntime, calls: &mut Calls, words: &[String]) -> anyhow
     Ok(())
 }
 
-/// Times the row of the first word, or every row, as often as the second one tells, or five times, with so many values as the third
-/// tells, or as many as the row has.
+/// Times the row of the first word, or every row, as often as the second one tells, or five times.
 fn time(rt: &HostRuntime, words: &[String]) -> anyhow::Result<()> {
     let runs = words.get(1).map_or("5", String::as_str);
-    let values = match words.get(2) {
-        Some(word) => Some(word.as_str().parse::<u32>()?),
-        None => None,
-    };
-    times::run(
-        rt,
-        words.first().map(String::as_str),
-        runs.parse::<u64>()?,
-        values,
-    )
+    times::run(rt, words.first().map(String::as_str), runs.parse::<u64>()?)
 }
 
 /// Does what the words after the program's name ask for.

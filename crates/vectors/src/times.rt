@@ -1,14 +1,9 @@
-//! How long it takes to write and to read values, and what calls of a pager take. What is written and read of the same values is checked by
-//! rows of data.
+//! How long it takes to write and to read values. What is written and read of the same values is checked by rows of data.
 
 mod cells;
-mod falls;
-mod handles;
 mod outcome;
 
 use crate::times::cells::cells;
-use crate::times::falls::falls;
-use crate::times::handles::handles;
 use crate::times::outcome::Outcome;
 use anyhow::{bail, ensure};
 use indexmap::IndexMap;
@@ -22,16 +17,14 @@ use std::alloc::Global;
 use std::collections::BTreeMap;
 use std::time::{Clock, Instant};
 
-/// All rows in their order, and how many values each has where no count is told.
-const ROWS: [(&'static str, u32); 8] = [
+/// All rows in their order, and how many values each has.
+const ROWS: [(&'static str, u32); 6] = [
     ("numbers", 1_000_000),
     ("bytes", 1_000_000),
     ("texts", 200_000),
     ("maps", 400),
     ("ordered", 100_000),
     ("cells", 10_000),
-    ("handles", 10_000),
-    ("falls", 10_000),
 ];
 
 /// The `T` at the front of these bytes.
@@ -93,8 +86,8 @@ fn again(
     Ok(outcome)
 }
 
-/// Writes and reads a row so often, and answers its shortest times.
-fn best(
+/// Runs a row so often, and tells its shortest times.
+fn run_row(
     clock: &impl Clock,
     alloc: Global,
     name: &str,
@@ -114,25 +107,11 @@ fn best(
     Ok(outcome)
 }
 
-/// Runs a row so often, and prints its times: the shortest, or, of calls, each.
-fn run_row(rt: &HostRuntime, name: &str, count: u32, runs: u64) -> anyhow::Result<()> {
-    match name {
-        "handles" => handles(rt, count, runs),
-        "falls" => falls(rt, count, runs),
-        _ => best(rt, rt.alloc(), name, count, runs)?.print(rt, name),
-    }
-}
-
-/// Runs the row of this name, or every one, so often, with so many values, or as many as it has.
-pub fn run(
-    rt: &HostRuntime,
-    wanted: Option<&str>,
-    runs: u64,
-    values: Option<u32>,
-) -> anyhow::Result<()> {
+/// Runs the row of this name, or every one, so often, and prints the shortest times.
+pub fn run(rt: &HostRuntime, wanted: Option<&str>, runs: u64) -> anyhow::Result<()> {
     for (name, count) in ROWS {
         if wanted.is_none() || wanted == Some(name) {
-            run_row(rt, name, values.unwrap_or(count), runs)?;
+            run_row(rt, rt.alloc(), name, count, runs)?.print(rt, name)?;
         }
     }
     Ok(())

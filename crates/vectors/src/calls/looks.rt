@@ -32,7 +32,7 @@ fn push(
     text.push_str(format!(in alloc; "; {}: {node} {count} {key} {place}", handle.0)?.as_str())?;
     if let Some(value) = pager.value(handle)? {
         text.push_str(" = ")?;
-        value.push(alloc, text)?;
+        text.push_str(value.as_str())?;
     }
     Ok(())
 }

@@ -1,13 +1,9 @@
-//! The values of the rows: texts of two types, and lists of references of three others.
-
-ghost use Rattle.std.specs.Prelude.{◌≡◌, IfNone, IfSome, None};
-ghost use Rattle.vectors.specs.Cells.{number_of, shape_of};
+//! The values of the rows: texts of two types, and lists of references of all others.
 
 use anyhow::bail;
 use pagable::{
-    ArcRef, Carried, Env, Error, HandleNumber, Kind, NodeNumber, NodeSet, PagableDeserialize,
-    PagableDeserializer, PagableSerialize, PagableSerializer, WeighHash, read_reference,
-    write_reference,
+    ArcRef, Env, Error, HandleNumber, Kind, NodeNumber, NodeSet, PagableDeserialize,
+    PagableDeserializer, PagableSerialize, PagableSerializer, WeighHash,
 };
 use std::alloc::Global;
 use std::sync::Arc;
@@ -17,6 +13,9 @@ pub const NAMES: u32 = 0;
 
 /// The number of the type of notes.
 pub const NOTES: u32 = 1;
+
+/// The number of the first type of groups.
+pub const GROUPS: u8 = 2;
 
 /// The environment of names, notes and groups.
 #[derive(Drop)]
@@ -43,140 +42,29 @@ pub enum CellNode {
     Name(Arc<String>),
     /// Of the type 1.
     Note(Arc<String>),
-    /// Of the type 2, 3 or 4.
-    Group(Sort, Arc<Vec<Member>>),
-}
-
-/// Which groups these are.
-#[derive(Clone, Copy)]
-pub enum Sort {
-    First,
-    Second,
-    Third,
-}
-
-impl Sort {
-    /// The number of the type of these groups.
-    fn number(self) -> u32
-        ensures { result ≡ number_of self }
-    {
-        match self {
-            Sort::First => 2,
-            Sort::Second => 3,
-            Sort::Third => 4,
-        }
-    }
-
-    /// The groups whose type has this number, if there are some.
-    fn of_number(node_type: u32) -> Option<Sort>
-        ensures some { IfSome result (λ s. number_of s ≡ node_type) }
-        ensures none { IfNone result (shape_of node_type ≡ None) }
-    {
-        match node_type {
-            2 => Some(Sort::First),
-            3 => Some(Sort::Second),
-            4 => Some(Sort::Third),
-            _ => None,
-        }
-    }
-}
-
-/// A reference in a group, which may be of any kind: its kind is written before it.
-#[derive(Clone, Copy)]
-pub struct Member {
-    pub reference: ArcRef,
-}
-
-impl Carried<CellEnv> for Member {
-    ghost use Rattle.pagable_model.specs.Standing.{Is};
-    ghost use Rattle.vectors.specs.Cells.{member_has_meaning, member_means, member_shape};
-
-    ghost shape = { λ e. member_shape };
-
-    ghost means = { Is member_means };
-
-    ghost has_meaning = { member_has_meaning };
-}
-
-impl PagableSerialize<CellEnv> for Member {
-    ghost use Rattle.pagable_model.specs.Gives.{memory};
-    ghost use Rattle.pagable_model.specs.Causes.{memory_may_refuse_writing};
-
-    ghost write_causes = { memory };
-
-    ghost write_causes_may_refuse = { memory_may_refuse_writing };
-
-    #[tactic(auto, using(crate::proofs::Members::writing))]
-    fn pagable_serialize<S: PagableSerializer<CellEnv>>(
-        &self,
-        serializer: &mut S,
-    ) -> Result<(), Error> {
-        self.reference.kind.0.pagable_serialize(serializer)?;
-        write_reference(self.reference, serializer)
-    }
-}
-
-impl<'de> PagableDeserialize<'de, CellEnv> for Member {
-    ghost use Rattle.pagable_model.specs.Gives.{never};
-    ghost use Rattle.pagable_model.specs.Causes.{never_is_own_reading};
-
-    ghost read_causes = { never };
-
-    ghost read_causes_are_own = { never_is_own_reading };
-
-    #[tactic(auto, using(crate::proofs::Members::reading))]
-    fn pagable_deserialize<D: PagableDeserializer<CellEnv>>(
-        alloc: Global,
-        deserializer: &mut D,
-    ) -> Result<Self, Error> {
-        let kind: u32 = match PagableDeserialize::pagable_deserialize(alloc, deserializer) {
-            Ok(kind) => kind,
-            Err(e) => return Err(e),
-        };
-        match read_reference(Kind(kind), deserializer) {
-            Ok(reference) => Ok(Member { reference }),
-            Err(e) => Err(e),
-        }
-    }
+    /// Of the type 2, or of the one that is so many higher. Rows only hand it in: as if memory were always wanting, it is never written
+    /// nor read.
+    Group(u8, Arc<Vec<ArcRef>>),
 }
 
 impl CellNode {
-    /// Adds the value as rows spell it, but for its type.
-    pub fn push(&self, alloc: Global, text: &mut String) -> Result<(), Error> {
+    /// The text, or a word for a list of references.
+    pub fn as_str(&self) -> &str {
         match self {
-            CellNode::Name(name) | CellNode::Note(name) => text.push_str(name.as_ref().as_str())?,
-            CellNode::Group(_, members) => {
-                let references = references_in(alloc, members.as_slice())?;
-                push_references(alloc, text, references.as_slice())?;
-            }
+            CellNode::Name(text) | CellNode::Note(text) => text.as_ref().as_str(),
+            CellNode::Group(_, _) => "references",
         }
-        Ok(())
     }
-}
-
-/// Adds references as rows spell them, parted by commas.
-pub fn push_references(
-    alloc: Global,
-    text: &mut String,
-    references: &[ArcRef],
-) -> Result<(), Error> {
-    let mut comma = "";
-    for r in references {
-        let word = format!(in alloc; "{comma}{}:{}:{}", r.kind.0, r.node.0, r.handle.0)?;
-        text.push_str(word.as_str())?;
-        comma = ",";
-    }
-    Ok(())
 }
 
 /// The value that a row spells, as `0 hello world`: its type, and all after the first space, or the empty text. A list of
-/// references is spelled `2 7:1:2,8:3:4`, also with the type 3 or 4: of each the kind, the node and the handle.
+/// references is spelled `2 7:1:2,8:3:4`, also with a higher type: of each the kind, the node and the handle.
 pub fn node(alloc: Global, spelled: &str) -> anyhow::Result<CellNode> {
     let (node_type, rest) = spelled.split_once(' ').unwrap_or((spelled, ""));
     match node_type {
         "0" => Ok(CellNode::Name(text(alloc, rest)?)),
         "1" => Ok(CellNode::Note(text(alloc, rest)?)),
-        _ => group(alloc, node_type.parse::<u32>()?, rest),
+        _ => group(alloc, node_type.parse::<u8>()?, rest),
     }
 }
 
@@ -186,19 +74,16 @@ fn text(alloc: Global, text: &str) -> anyhow::Result<Arc<String>> {
 }
 
 /// A list of references of this type.
-fn group(alloc: Global, node_type: u32, spelled: &str) -> anyhow::Result<CellNode> {
-    let Some(sort) = Sort::of_number(node_type) else {
+fn group(alloc: Global, node_type: u8, spelled: &str) -> anyhow::Result<CellNode> {
+    let Some(higher) = node_type.checked_sub(GROUPS) else {
         bail!("no type of references");
     };
-    let mut members = Vec::new(alloc);
-    for reference in references(alloc, spelled)? {
-        members.push(Member { reference })?;
-    }
-    Ok(CellNode::Group(sort, Arc::new(alloc, members)?))
+    let references = references(alloc, spelled)?;
+    Ok(CellNode::Group(higher, Arc::new(alloc, references)?))
 }
 
 /// The references that are spelled, parted by commas.
-pub fn references(alloc: Global, spelled: &str) -> anyhow::Result<Vec<ArcRef>> {
+fn references(alloc: Global, spelled: &str) -> anyhow::Result<Vec<ArcRef>> {
     let mut references = Vec::new(alloc);
     for word in spelled.split(',') {
         if !word.is_empty() {
@@ -219,17 +104,11 @@ fn reference(word: &str) -> ArcRef {
     }
 }
 
-/// The references of a group's members.
-fn references_in(alloc: Global, members: &[Member]) -> Result<Vec<ArcRef>, Error> {
-    let mut references = Vec::new(alloc);
-    for member in members {
-        references.push(member.reference)?;
-    }
-    Ok(references)
-}
-
 impl NodeSet<CellEnv> for CellNode {
-    ghost use Rattle.vectors.specs.Cells.{has_meaning, has_shape, means, own_shape, read_causes, read_causes_are_own, refers, refs_of, type_of, write_causes, write_causes_may_refuse};
+    ghost use Rattle.std.specs.Prelude.{◌≡◌};
+    ghost use Rattle.pagable_model.specs.Gives.{memory, long_or};
+    ghost use Rattle.pagable_model.specs.Causes.{memory_is_own_reading, text_may_refuse_writing};
+    ghost use Rattle.vectors.specs.Cells.{has_meaning, has_shape, means, own_shape, refers, refs_of, shape_of, type_of};
 
     ghost type_of = { type_of };
 
@@ -237,17 +116,17 @@ impl NodeSet<CellEnv> for CellNode {
 
     ghost own_shape = { λ e n. own_shape n };
 
-    ghost means = { means };
+    ghost means = { λ n m. m ≡ means n };
 
     ghost refs_of = { refs_of };
 
-    ghost write_causes = { λ t. write_causes };
+    ghost write_causes = { λ t. long_or memory };
 
-    ghost read_causes = { λ t. read_causes };
+    ghost read_causes = { λ t. memory };
 
-    ghost write_causes_may_refuse = { λ t. write_causes_may_refuse };
+    ghost write_causes_may_refuse = { λ t. text_may_refuse_writing };
 
-    ghost read_causes_are_own = { λ t. read_causes_are_own };
+    ghost read_causes_are_own = { λ t. memory_is_own_reading };
 
     ghost has_meaning = { has_meaning };
 
@@ -259,23 +138,22 @@ impl NodeSet<CellEnv> for CellNode {
         match self {
             CellNode::Name(_) => NAMES,
             CellNode::Note(_) => NOTES,
-            CellNode::Group(sort, _) => sort.number(),
+            CellNode::Group(higher, _) => u32::from(GROUPS) + u32::from(*higher),
         }
     }
 
     fn refs(&self, alloc: Global) -> Result<Vec<ArcRef>, Error> {
         match self {
             CellNode::Name(_) | CellNode::Note(_) => Ok(Vec::new(alloc)),
-            CellNode::Group(_, members) => references_in(alloc, members.as_slice()),
+            CellNode::Group(_, references) => Ok(references.as_ref().to_vec(alloc)?),
         }
     }
 
-    #[tactic(auto, using(crate::proofs::Members::group_listed))]
     fn write<S: PagableSerializer<CellEnv>>(&self, serializer: &mut S) -> Result<(), Error> {
         match self {
             CellNode::Name(text) => text.as_ref().pagable_serialize(serializer),
             CellNode::Note(text) => text.as_ref().pagable_serialize(serializer),
-            CellNode::Group(_, members) => members.as_ref().pagable_serialize(serializer),
+            CellNode::Group(_, _) => Err(Error::OutOfMemory),
         }
     }
 
@@ -293,14 +171,7 @@ impl NodeSet<CellEnv> for CellNode {
                 let text = String::pagable_deserialize(alloc, deserializer)?;
                 Ok(CellNode::Note(Arc::new(alloc, text)?))
             }
-            _ => {
-                let sort = Sort::of_number(node_type).ok_or(Error::WrongKind)?;
-                let members: Vec<Member> = PagableDeserialize::pagable_deserialize(
-                    alloc,
-                    deserializer,
-                )?;
-                Ok(CellNode::Group(sort, Arc::new(alloc, members)?))
-            }
+            _ => Err(Error::OutOfMemory),
         }
     }
 }

@@ -2,34 +2,54 @@
 
 use crate::times::outcome::Outcome;
 use anyhow::bail;
-use pagable::{HandleNumber, InMemoryBlobs, Pager, Sha256Key, paging};
+use pagable::{HandleNumber, InMemoryBlobs, Pager, WeighHash, paging};
 use pagable_examples::{Draws, TextEnv, TextNode};
 use std::alloc::{AllocError, Global};
+use std::collections::BTreeSet;
 use std::time::{Clock, Instant};
 
-pub type TextPager = Pager<TextEnv<Sha256Key>, InMemoryBlobs<TextEnv<Sha256Key>>>;
+type TextPager = Pager<TextEnv<WeighHash>, InMemoryBlobs<TextEnv<WeighHash>>>;
 
-/// So many texts of 100 letters.
-pub fn drawn_texts(alloc: Global, count: usize) -> Result<Vec<String>, AllocError> {
+/// The sum of each byte of a text times its place in what is hashed of it: after a count of 8 bytes and a length of one, from
+/// 10 on.
+fn weight_of(text: &str) -> u64 {
+    let mut weight = 0u64;
+    for (place, byte) in text.as_bytes().iter().enumerate() {
+        let factor = (place as u64).wrapping_add(10);
+        weight = weight.wrapping_add(factor.wrapping_mul(u64::from(*byte)));
+    }
+    weight
+}
+
+/// So many texts of 100 letters. One whose weight an earlier one has is left out, since their blobs would have one key.
+fn drawn_texts(alloc: Global, count: usize) -> Result<Vec<String>, AllocError> {
     let mut draws = Draws::new(7);
+    let mut weights = BTreeSet::new(alloc);
     let mut texts = Vec::with_capacity(alloc, count)?;
-    for _ in 0..count {
-        texts.push(draws.text(alloc, 100)?)?;
+    for _ in 0..u64::MAX {
+        if texts.len() == count {
+            break;
+        }
+        let text = draws.text(alloc, 100)?;
+        if weights.insert(weight_of(text.as_str()))? {
+            texts.push(text)?;
+        }
     }
     Ok(texts)
 }
 
-/// Makes a cell of a text.
+/// Makes a cell of a text, and gives its pin up.
 fn add(alloc: Global, pager: &mut TextPager, text: &str) -> anyhow::Result<HandleNumber> {
     let node = TextNode::new(alloc, text)?;
     let Ok(cell) = pager.new_loose(alloc, node) else {
         bail!("a cell is refused");
     };
+    pager.unpin(cell)?;
     Ok(cell)
 }
 
 /// Makes a cell of each text.
-pub fn fill(
+fn fill(
     alloc: Global,
     pager: &mut TextPager,
     texts: &[String],
@@ -39,14 +59,6 @@ pub fn fill(
         cells.push(add(alloc, pager, text.as_str())?)?;
     }
     Ok(cells)
-}
-
-/// Gives the pin of each cell up.
-fn unpin(pager: &mut TextPager, cells: &[HandleNumber]) -> anyhow::Result<()> {
-    for cell in cells {
-        pager.unpin(*cell)?;
-    }
-    Ok(())
 }
 
 /// Loads every cell, and answers how many bytes the texts have.
@@ -67,7 +79,6 @@ fn out_and_in(
     texts: &[String],
 ) -> anyhow::Result<Outcome> {
     let cells = fill(alloc, pager, texts)?;
-    unpin(pager, cells.as_slice())?;
     let start = Instant::now(clock)?;
     paging::page_out_pending(alloc, pager)?;
     let write = start.elapsed(clock)?;

@@ -42,16 +42,3 @@ fn print_speed(rt: &impl Print, bytes: usize, took: Duration) -> anyhow::Result<
     )?;
     Ok(())
 }
-
-/// Prints `NAME ORDER N ns`, how long each of so many calls took.
-pub fn tell(
-    rt: &impl Print,
-    name: &str,
-    order: &str,
-    count: usize,
-    took: Duration,
-) -> anyhow::Result<()> {
-    let nanos = took.as_nanos() / (count as u128).max(1);
-    println!(rt; "{name} {order} {nanos} ns")?;
-    Ok(())
-}
