@@ -42,7 +42,7 @@ pub mod ReadingStepsHanding
 mod ReadingStepsHeld
 mod ReadingStepsGive
 pub mod WalkSteps
-mod EventSteps
+pub mod EventSteps
 mod Once
 mod Standing
 mod Changing
@@ -64,7 +64,7 @@ mod Held
 mod KeysGoing
 pub mod Sparing
 mod SparingCalls
-mod SparingSteps
+pub mod SparingSteps
 mod Shelves
 mod Stepping
 mod Publishing
