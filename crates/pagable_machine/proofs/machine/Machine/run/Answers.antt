@@ -1,4 +1,5 @@
-use Rattle.std.proofs.Common.{rules, ◌≡◌, length, arith}
+use Rattle.std.proofs.Common.{rules, ◌≡◌, length, sym, arith}
+use Rattle.pagable_machine.specs.Driving.{over}
 use Rattle.pagable_machine.proofs.Running.{at-first, one-more, all-ran}
 use Rattle.pagable_machine.proofs.machine.Machine.run.Goals as goal
 
@@ -6,7 +7,7 @@ pub loop-event-init : goal.loop-event-init
 loop-event-init g c =
     record {
       room = grind arith;
-      run = rw (c.in-Ok.ensures.items, c.from_vec-rest.ensures.items, ← c.self.view_is) (at-first _ _ _ _ c.self.invariant);
+      run = rw (c.in-Ok.ensures.items, c.from_vec-rest.ensures.items) (at-first _ _ _ _ (over c.self.inside.pager c.self.inside.held) (sym c.self.view_is) c.self.invariant);
     }
 
 pub loop-event-smaller : goal.loop-event-smaller
