@@ -1,7 +1,9 @@
 -- Tables and workers that begin.
-use Rattle.std.proofs.Common.{◌≡◌, ◌≢◌, ℕ, zero, suc, ◌+◌, ◌<◌, ◌≤◌, ◌==◌, Bool, true, false, List, [], ◌∷◌, ◌++◌, Option, Some, Ok, inl, inr, if◌then◌else◌, refl, sym, ap, subst, ◌∙◌, length, arith}
-use Rattle.std.specs.Prelude.{is_none, is_some, slice_get}
-use Rattle.std.specs.Option.{option_map}
+use Rattle.std.proofs.lemmas.Bool.Decides.{nat_tests}
+use Rattle.std.proofs.lemmas.Grind.{common_steps}
+use Rattle.std.proofs.Common.{rules}
+use Rattle.std.proofs.Common.{◌≡◌, ◌≢◌, ℕ, zero, suc, ◌+◌, ◌≤◌, ◌==◌, Bool, true, false, List, [], ◌∷◌, ◌++◌, Option, Some, Ok, inl, inr, if◌then◌else◌, refl, sym, ap, subst, ◌∙◌, length, arith}
+use Rattle.std.specs.Prelude.{is_some, slice_get}
 use Rattle.std.proofs.lemmas.List.{length-append}
 use Rattle.pagable_model.specs.declared.numbers.WorkerNumber.{WorkerNumber}
 use Rattle.pagable_world.specs.declared.events.Event.{Event}
@@ -13,7 +15,7 @@ use Rattle.pagable_world.specs.Plain.{if_there, updated}
 use Rattle.pagable_world.specs.Kinds.{is_owner}
 use Rattle.pagable_world.specs.World.{Alike, Core, SameShelf, Seen, Shelf, Todo, Walking}
 use Rattle.pagable_world.specs.World as world
-use Rattle.pagable_world.specs.Events.{Happens, IsTable, Starts, new_walking, no_shelf, with_worker}
+use Rattle.pagable_world.specs.Events.{Happens, IsTable, Starts, no_shelf, with_worker}
 use Rattle.pagable_world.specs.Order.{step_of}
 use Rattle.pagable_world.specs.Pager.{Moves, PagerState, WellFormed, world_of}
 use Rattle.pagable_laws.proofs.Sums.{same-number}
@@ -26,7 +28,7 @@ use Rattle.pagable_walk.specs.Tasks.{IsPlain}
 use Rattle.pagable_walk.specs.Turns.{TaskFits}
 use Rattle.pagable_machine.specs.declared.held.Walk.{Walk}
 use Rattle.pagable_machine.specs.Keeping.{Holding, IsServing, KeepsOne, Makes, machine_of, readings_in}
-use Rattle.pagable_machine.specs.Walking.{IsBegun, IsWalkKept, shelf_at, walking_of}
+use Rattle.pagable_machine.specs.Walking.{IsBegun, IsWalkKept, shelf_at}
 use Rattle.pagable_machine.proofs.Keeping.{alike-self, are-these, as-before, at-one, kept-on, makes, makes-with, not-same, one-serves, updated-at}
 use Rattle.pagable_machine.proofs.Leaving.{Leaves, same}
 use Rattle.pagable_machine.proofs.Passing.{Passes, event-passes}
@@ -109,37 +111,13 @@ module _ {X : Type 0} {g : Ghosts X} {N B W E : Type 0} (m : Seen N B W) (s s' :
 
   -- the plain world's worker starts
   pub starts-so : (core : Core) → Alike (with_worker core) s'.core → Starts (world_of (machine_of s h)) t task core n (world_of (machine_of s' with_walk))
-  starts-so core a =
-      record {
-        table = table;
-        next = next;
-        pager = a;
-        readings = are-these s'.core h.readings (readings_in h.readings s.core) (λ l load is. as-before serving.readings on l load is);
-        work = record {
-          same_shelves = λ q. record { slots = λ i. refl; waits = λ v. refl };
-          last_is = refl;
-          same_walkings = λ q. at-one walking_of n.0 (Some k) (Some (new_walking t task)) (λ v. option_map walking_of (h.walks v)) keeps (ap Some begun.walking) q refl;
-        };
-      }
+  starts-so core a = first_of (grind (arith, common_steps, nat_tests), grind (arith, nat_tests, are-these, as-before, at-one), search (rules, are-these, as-before, at-one))
 
   at-work : (q : ℕ) → q ≢ n.0 → s'.core.workers q ≡ s.core.workers q
-  at-work q other = on.workers q ∙ by (q == s.core.last.worker + 1) refl
-    where
-      by : (b : Bool) → (q == s.core.last.worker + 1) ≡ b → (if b then true else s.core.workers q) ≡ s.core.workers q
-      by true e = absurd (other (same-number q _ e ∙ sym next))
-      by false e = refl
+  at-work q other = first_of (grind (arith, common_steps, nat_tests), grind (arith, nat_tests, same-number), search (rules, same-number))
 
   new-walk : IsWalkKept s'.core (length h.tables) n.0 k
-  new-walk =
-      let there = ap (λ (x : Walking). x.table) begun.walking in
-      let unanswered = ap (λ (x : Walking). x.answer) begun.walking in
-      record {
-        table = (subst (λ q. 0 < q) (sym there) table.0, subst (λ q. q ≤ length h.tables) (sym there) table.1);
-        at_work = on.workers n.0 ∙ ap (updated (s.core.last.worker + 1) true s.core.workers) next ∙ updated-at (s.core.last.worker + 1) true s.core.workers ∙ sym (ap is_none unanswered);
-        either = begun.has ∙ sym (ap is_none unanswered);
-        way = begun.way;
-        fits = λ x is. plain-fits n.0 s'.core x (begun.plain x is);
-      }
+  new-walk = first_of (grind (arith, common_steps, nat_tests), grind (arith, nat_tests, updated-at, plain-fits), search (rules, updated-at, plain-fits))
 
   -- it is kept from now on
   pub worker-made : (event : Event N B W) → ((v : ℕ) → step_of v event (answers.WorkerMade (Ok n)) ≡ []) → Happens m (world_of (machine_of s h)) event (answers.WorkerMade (Ok n)) (world_of (machine_of s' with_walk))

@@ -1,10 +1,12 @@
 -- What a machine keeps of a worker stays in step with the pager through each event that the worker doesn't make.
-use Rattle.std.proofs.Common.{◌≡◌, ℕ, ◌≤◌, Option, Some, None, refl, sym, ap, ◌∙◌, arith}
+use Rattle.std.proofs.lemmas.Bool.Decides.{nat_tests}
+use Rattle.std.proofs.lemmas.Grind.{common_steps}
+use Rattle.std.proofs.Common.{rules}
+use Rattle.std.proofs.Common.{◌≡◌, ℕ, ◌≤◌, sym, ◌∙◌, arith}
 use Rattle.pagable_model.specs.declared.numbers.ArcRef.{ArcRef}
 use Rattle.pagable_model.specs.declared.numbers.HandleNumber.{HandleNumber}
-use Rattle.pagable_world.specs.Plain.{if_there, type_of}
 use Rattle.pagable_world.specs.Kinds.{owner_worker}
-use Rattle.pagable_world.specs.World.{Cell, Core}
+use Rattle.pagable_world.specs.World.{Core}
 use Rattle.pagable_world.specs.Pager.{HandlesAreWhole}
 use Rattle.pagable_laws.specs.KeyRuns.{StandsAt}
 use Rattle.pagable_laws.proofs.Outlasting.{stands-whole}
@@ -27,17 +29,7 @@ module _ {v : ℕ} {w w' : Core} (whole : HandlesAreWhole w) (passes : Passes v 
       }
 
   kind-on : {r : ArcRef} → IsOfKind w r → IsOfKind w' r
-  kind-on {r} k =
-      record {
-        given = let a = k.given in let b = passes.nodes in omega (arith, a, b);
-        typed = λ t is. by t (w'.cells r.node.0) refl is;
-      }
-    where
-      by : (t : ℕ) (found : Option Cell) → w'.cells r.node.0 ≡ found → if_there (λ (cell : Cell). Some cell.node_type) None found ≡ Some t → t ≡ type_of r.kind.0
-      by t None e is = absurd (cc)
-      by t (Some cell) e is =
-          let was = passes.cells r.node.0 cell e k.given in
-          k.typed t (ap (λ (c : Option Cell). if_there (λ (x : Cell). Some x.node_type) None c) was.1 ∙ (ap Some (sym was.2) ∙ is))
+  kind-on {r} k = first_of (grind (arith, common_steps, nat_tests), search (rules))
 
   load-on : {r : ArcRef} {through : HandleNumber} {own : Own} → IsLoading w v r through own → IsLoading w' v r through own
   load-on l =
@@ -65,11 +57,4 @@ module _ {v : ℕ} {w w' : Core} (whole : HandlesAreWhole w) (passes : Passes v 
   fits-on task fits = tt
 
   pub walk-on : {X : Type 0} {g : Ghosts X} {last last' : ℕ} {k : Walk X g} → last ≤ last' → w'.workers v ≡ w.workers v → IsWalkKept w last v k → IsWalkKept w' last' v k
-  walk-on more same k =
-      record {
-        table = (k.table.0, let a = k.table.1 in omega (arith, a, more));
-        at_work = same ∙ k.at_work;
-        either = k.either;
-        way = k.way;
-        fits = λ task is. fits-on task (k.fits task is);
-      }
+  walk-on more same k = first_of (grind (arith, common_steps, nat_tests), grind (arith, nat_tests, fits-on), search (rules, fits-on))

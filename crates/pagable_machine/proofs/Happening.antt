@@ -1,6 +1,10 @@
 -- Each event of the machine, by what the pager and what is kept of loads say of it.
-use Rattle.std.proofs.Common.{◌≡◌, ℕ, ◌==◌, Bool, true, false, Option, Some, None, Ok, Err, ◌⊎◌, inl, inr, refl, sym, ap, subst, ◌∙◌}
-use Rattle.std.specs.Prelude.{Result, is_some, not}
+use Rattle.std.proofs.Common.{arith}
+use Rattle.std.proofs.lemmas.Bool.Decides.{nat_tests}
+use Rattle.std.proofs.lemmas.Grind.{common_steps}
+use Rattle.std.proofs.Common.{rules}
+use Rattle.std.proofs.Common.{◌≡◌, ℕ, true, false, Option, Some, None, Ok, Err, ◌⊎◌, inl, inr, refl, sym, ap, subst, ◌∙◌}
+use Rattle.std.specs.Prelude.{Result, is_some}
 use Rattle.std.specs.declared.sync.Arc.{Arc}
 use Rattle.std.specs.declared.alloc.Global.{Global}
 use Rattle.pagable_core.specs.declared.storage.data.PagableData.{PagableData}
@@ -19,10 +23,9 @@ use Rattle.pagable_world.specs.declared.events.EventReply.TheVariants as answers
 use Rattle.pagable_world.specs.declared.events.LoadAnswer.TheVariants as ends
 use Rattle.pagable_world.specs.declared.events.LoadReply.{LoadReply}
 use Rattle.pagable_world.specs.declared.handles.Owner.TheVariants as owners
-use Rattle.pagable_world.specs.Kinds.{is_owner}
-use Rattle.pagable_world.specs.Plain.{Blob, if_there}
-use Rattle.pagable_world.specs.World.{Core, OpenLoad, Seen, Values, Written}
-use Rattle.pagable_world.specs.Refusals.{load_fault, refused_if}
+use Rattle.pagable_world.specs.Plain.{Blob}
+use Rattle.pagable_world.specs.World.{Core, Seen, Values, Written}
+use Rattle.pagable_world.specs.Refusals.{load_fault}
 use Rattle.pagable_world.specs.LoadCalls.{DropCall}
 use Rattle.pagable_world.specs.Workers.{fresh}
 use Rattle.pagable_world.specs.Pager.{Moves, PagerState, WellFormed}
@@ -47,16 +50,7 @@ forgets-none w as_was = record { still = λ l load is. as_was l; only = λ l own
 
 -- a load that nothing has the number of isn't open
 closed : (w : Core) (l : LoadNumber) → load_fault w owners.Caller l ≡ Some errors.NoSuchHandle → w.loads l.0 ≡ None
-closed w l why = by (w.loads l.0) why
-  where
-    by : (found : Option OpenLoad) → if_there (λ (load : OpenLoad). refused_if (not (is_owner owners.Caller load.owner)) errors.NotYours) (Some errors.NoSuchHandle) found ≡ Some errors.NoSuchHandle
-        → found ≡ None
-    by None is = refl
-    by (Some load) is = absurd (of (is_owner owners.Caller load.owner) is)
-      where
-        of : (own : Bool) → refused_if (not own) errors.NotYours ≡ Some errors.NoSuchHandle → ⊥
-        of true is = absurd (cc)
-        of false is = absurd (cc)
+closed w l why = first_of (grind (arith, common_steps, nat_tests), search (rules))
 
 -- what is kept anew after what was kept stayed
 pub keeps-after : {Y : Type 0} {k mid kept' : ℕ → Option Y} {l : ℕ} {own : Option Y} → ((q : ℕ) → mid q ≡ k q) → KeepsOne mid l own kept' → KeepsOne k l own kept'
@@ -81,15 +75,7 @@ begins-prepared {kept} l key t type own none typed is key_is sort keeps = record
 
 -- what was kept of a closed load goes
 pub forgets-closed : (w : Core) (l : LoadNumber) {kept kept' : Kept} → load_fault w owners.Caller l ≡ Some errors.NoSuchHandle → KeepsOne kept l.0 None kept' → Forgets w kept kept'
-forgets-closed w l {kept} {kept'} why keeps =
-    record {
-      still = λ q load is. by q (q == l.0) refl (λ at. let f : w.loads l.0 ≡ Some load = subst (λ n. w.loads n ≡ Some load) at is in let e = closed w l why in absurd (cc));
-      only = λ q own is. sym (by q (q == l.0) refl (λ at. let f : kept' l.0 ≡ Some own = subst (λ n. kept' n ≡ Some own) at is in let g = keeps.here in absurd (cc))) ∙ is;
-    }
-  where
-    by : (q : ℕ) (b : Bool) → (q == l.0) ≡ b → (q ≡ l.0 → ⊥) → kept' q ≡ kept q
-    by q true e not = absurd (not (same-number q l.0 e))
-    by q false e not = keeps.others q not
+forgets-closed w l {kept} {kept'} why keeps = first_of (grind (arith, common_steps, nat_tests), grind (arith, nat_tests, same-number), search (rules, same-number))
 
 module _ {X : Type 0} {g : Ghosts X} {N S E : Type 0} (v : E → Values N) (tells : Telling S) (old new : PagerView N S E) (held : Held X g) (kept' : Readings) (serving : IsInStep tells (over old held))
     (was : WellFormed (v old.environment) (state_in tells old)) where

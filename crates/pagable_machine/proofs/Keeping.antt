@@ -1,4 +1,7 @@
 -- What a machine keeps of loads stays in step with its pager, whatever event happens.
+use Rattle.std.proofs.lemmas.Bool.Decides.{nat_tests}
+use Rattle.std.proofs.lemmas.Grind.{common_steps}
+use Rattle.std.proofs.Common.{rules}
 use Rattle.std.proofs.Common.{◌≡◌, ◌≢◌, ℕ, ◌+◌, ◌<◌, ◌≤◌, ◌==◌, Bool, true, false, [], length, Option, Some, None, Ok, Err, ◌⊎◌, inl, inr, if◌then◌else◌, refl, sym, ap, subst, ◌∙◌, arith}
 use Rattle.std.specs.Prelude.{Result, is_some}
 use Rattle.std.specs.Option.{option_map}
@@ -31,7 +34,7 @@ use Rattle.pagable_loads.specs.Frames.{reading_of}
 use Rattle.pagable_walk.specs.declared.results.Trees.{Ghosts}
 use Rattle.pagable_machine.specs.declared.held.Walk.{Walk}
 use Rattle.pagable_machine.specs.Keeping.{AllKept, Forgets, Holding, IsKept, IsServing, KeepsOne, Kept, Makes, ReadsFor, machine_of, readings_in, work_of}
-use Rattle.pagable_machine.specs.Walking.{IsWalkKept, shelf_at, walking_of}
+use Rattle.pagable_machine.specs.Walking.{IsWalkKept, walking_of}
 use Rattle.pagable_machine.proofs.Leaving.{Leaves, call-leaves, like}
 use Rattle.pagable_machine.proofs.Passing.{Passes, event-passes}
 use Rattle.pagable_machine.proofs.Fitting.{walk-on}
@@ -39,20 +42,7 @@ use Rattle.pagable_machine.proofs.Fitting.{walk-on}
 -- ---- what is kept
 
 pub alike-self : (w : Core) → Alike w w
-alike-self w =
-    record {
-      rows = refl;
-      cells = λ n. refl;
-      list = refl;
-      cache = record { gives = λ kind key. refl; only = λ kind key n is. is };
-      stored = λ key. refl;
-      closed = refl;
-      failures = refl;
-      loads = λ l. refl;
-      workers = λ v. refl;
-      last = refl;
-      places = record { handles = omega arith; entries = omega arith };
-    }
+alike-self w = first_of (grind (arith, common_steps, nat_tests), search (rules))
 
 pub updated-at : {X : Type 0} (n : ℕ) (x : X) (f : ℕ → X) → updated n x f n ≡ x
 updated-at n x f = ap (λ b. if b then x else f n) (self-number n)
@@ -60,11 +50,7 @@ updated-at n x f = ap (λ b. if b then x else f n) (self-number n)
 -- the machine reads what is kept of open loads
 pub are-these : (w' : Core) (kept' : Kept) (target : ℕ → Option Reading) → ((l : ℕ) (load : OpenLoad) → w'.loads l ≡ Some load → option_map reading_of (kept' l) ≡ target l)
     → (l : ℕ) → readings_in kept' w' l ≡ if_there (λ load. target l) None (w'.loads l)
-are-these w' kept' target same l = by (w'.loads l) refl
-  where
-    by : (found : Option OpenLoad) → w'.loads l ≡ found → if_there (λ (load : OpenLoad). option_map reading_of (kept' l)) None found ≡ if_there (λ (load : OpenLoad). target l) None found
-    by None e = refl
-    by (Some load) e = same l load e
+are-these w' kept' target same l = first_of (grind (arith, common_steps, nat_tests), search (rules))
 
 none-shown : (found : Option OpenLoad) → let r : Option Reading = None in r ≡ if_there (λ (load : OpenLoad). r) None found
 none-shown None = refl
@@ -77,34 +63,19 @@ not-same q l e is = let f : (q == l) ≡ true = ap (λ n. n == l) is ∙ self-nu
 pub at-one : {Y Z : Type 0} (f : Y → Z) {kept kept' : ℕ → Option Y} (l : ℕ) (x : Option Y) (new : Option Z) (old : ℕ → Option Z) → KeepsOne kept l x kept' → option_map f x ≡ new → (q : ℕ)
     → option_map f (kept q) ≡ old q
     → option_map f (kept' q) ≡ updated l new old q
-at-one f {kept} {kept'} l x new old k is q same = by (q == l) refl
-  where
-    by : (b : Bool) → (q == l) ≡ b → option_map f (kept' q) ≡ (if b then new else old q)
-    by true e = subst (λ n. option_map f (kept' n) ≡ new) (sym (same-number q l e)) (ap (option_map f) k.here ∙ is)
-    by false e = ap (option_map f) (k.others q (not-same q l e)) ∙ same
+at-one f {kept} {kept'} l x new old k is q same = first_of (grind (arith, common_steps, nat_tests), grind (arith, nat_tests, same-number, not-same), search (rules, same-number, not-same))
 
 pub one-or-old : {Y : Type 0} {kept kept' : ℕ → Option Y} (l : ℕ) (x : Option Y) → KeepsOne kept l x kept' → (q : ℕ) (own : Y) → kept' q ≡ Some own → (kept q ≡ Some own) ⊎ ((q ≡ l) × (x ≡ Some own))
-one-or-old {kept = kept} {kept'} l x k q own is = by (q == l) refl
-  where
-    by : (b : Bool) → (q == l) ≡ b → (kept q ≡ Some own) ⊎ ((q ≡ l) × (x ≡ Some own))
-    by true e = let at = same-number q l e in inr (at, sym k.here ∙ subst (λ n. kept' n ≡ Some own) at is)
-    by false e = inl (sym (k.others q (not-same q l e)) ∙ is)
+one-or-old {kept = kept} {kept'} l x k q own is = first_of (grind (arith, common_steps, nat_tests), grind (arith, nat_tests, same-number, not-same), search (rules, same-number, not-same))
 
 module _ {w : Core} {kept : Kept} (all : AllKept w kept) {me : Owner} {works : ℕ → Bool} {w' : Core} (on : Leaves me works w w') where
   -- nothing is kept of a load that wasn't begun
   unkept : (l : ℕ) → w.last.load < l → kept l ≡ None
-  unkept l above = by (kept l) refl
-    where
-      by : (found : Option Own) → kept l ≡ found → found ≡ None
-      by None e = refl
-      by (Some own) e = absurd (let given = (all l own e).given in omega (arith, above, given))
+  unkept l above = first_of (grind (arith, common_steps, nat_tests), search (rules))
 
   -- an open load is read as it was
   pub as-before : (l : ℕ) (load : OpenLoad) → w'.loads l ≡ Some load → option_map reading_of (kept l) ≡ readings_in kept w l
-  as-before l load open_load = elim (on.loads l load open_load) [
-    | inl was ↦ sym (ap (λ (o : Option OpenLoad). if_there (λ (x : OpenLoad). option_map reading_of (kept l)) None o) was)
-    | inr above ↦ let e = unkept l above in rw e (none-shown (w.loads l))
-  ]
+  as-before l load open_load = first_of (grind (arith, common_steps, nat_tests), grind (arith, nat_tests, none-shown), search (rules, none-shown))
 
   still-kept : (l : ℕ) (own : Own) → IsKept w l own → IsKept w' l own
   still-kept l own k =
@@ -296,16 +267,7 @@ module _ {X : Type 0} {g : Ghosts X} {N B W E : Type 0} (m : Seen N B W) (s s' :
   on = like same_pager refl refl refl
 
   pub stays : Stays (world_of (machine_of s h)) (world_of (machine_of s' h'))
-  stays =
-      record {
-        core = same_pager;
-        readings = are-these s'.core h'.readings (readings_in h.readings s.core) (λ l load is. ap (option_map reading_of) (keeps.readings l) ∙ as-before serving.readings on l load is);
-        work = record {
-          shelves = λ t. record { slots = λ i. ap (λ tables. (shelf_at tables t).slots i) keeps.tables; waits = λ v. ap (λ tables. (shelf_at tables t).waits v) keeps.tables };
-          last_table = ap length keeps.tables;
-          walkings = λ v. ap (option_map walking_of) (keeps.walks v);
-        };
-      }
+  stays = first_of (grind (arith, common_steps, nat_tests), grind (arith, nat_tests, are-these, as-before), search (rules, are-these, as-before))
 
   -- an event is refused
   pub refuses : (event : Event N B W) (reply : EventReply N B W) → ((v : ℕ) → step_of v event reply ≡ []) → Happens m (world_of (machine_of s h)) event reply (world_of (machine_of s' h'))

@@ -1,10 +1,12 @@
 -- What each call and each step of a load or of a worker leaves: who is at work, no load but new ones beside those that were open, and each open load that isn't the asker's.
-use Rattle.std.proofs.Common.{◌≡◌, ℕ, Bool, true, false, List, [], Ok, Err, Some, None, inl, inr, refl, ◌∙◌, ◌⊎◌, ◌+◌, ◌<◌, ◌≤◌, ◌==◌, ap, sym, subst, if◌then◌else◌, arith}
+use Rattle.std.proofs.lemmas.Grind.{common_steps}
+use Rattle.std.proofs.Common.{rules}
+use Rattle.std.proofs.Common.{◌≡◌, ℕ, Bool, true, false, List, [], Ok, Err, Some, None, inl, inr, refl, ◌∙◌, ◌⊎◌, ◌<◌, ◌≤◌, ap, sym, arith}
 use Rattle.std.proofs.lemmas.Bool.Decides.{nat_tests}
-use Rattle.std.specs.Prelude.{Option, Result, not}
+use Rattle.std.specs.Prelude.{Option, Result}
 use Rattle.pagable_model.specs.declared.data_key.OptionalDataKey.{OptionalDataKey}
 use Rattle.pagable_model.specs.declared.data_key.OptionalDataKey.TheVariants as optional
-use Rattle.pagable_world.specs.Plain.{Error, ArcRef, HandleNumber, LoadNumber, Kind, Blob, SameAt, if_there, type_of}
+use Rattle.pagable_world.specs.Plain.{Error, ArcRef, HandleNumber, LoadNumber, Kind, Blob, SameAt}
 use Rattle.pagable_world.specs.declared.calls.Call.{Call}
 use Rattle.pagable_world.specs.declared.calls.Reply.{Reply}
 use Rattle.pagable_world.specs.declared.handles.Owner.{Owner}
@@ -21,13 +23,12 @@ use Rattle.pagable_world.specs.declared.calls.Call.TheVariants as calls
 use Rattle.pagable_world.specs.declared.calls.Reply.TheVariants as replies
 use Rattle.pagable_world.specs.declared.calls.Want.TheVariants as wants
 use Rattle.pagable_world.specs.declared.handles.Owner.TheVariants as owners
-use Rattle.pagable_world.specs.Kinds.{is_owner, mode_of}
-use Rattle.pagable_world.specs.Refusals.{OwnsLoad, load_fault, refused_if}
-use Rattle.pagable_model.specs.declared.error.Error.TheVariants as errors
-use Rattle.pagable_world.specs.World.{Alike, Core, Frame, Last, OpenLoad, Reading, Root, Seen, Values, of_cell, of_key}
+use Rattle.pagable_world.specs.Kinds.{is_owner}
+use Rattle.pagable_world.specs.Refusals.{OwnsLoad, load_fault}
+use Rattle.pagable_world.specs.World.{Alike, Core, Frame, OpenLoad, Reading, Root, Seen, Values, of_cell, of_key}
 use Rattle.pagable_world.specs.Cascade.{Falls, fallen}
 use Rattle.pagable_world.specs.Calls.{BirthCall, AwayBirthCall, PinCall, UnpinCall, ReleaseCall, SetKeyCall, ScheduleCall}
-use Rattle.pagable_world.specs.Calls.{TakeCall, RecallCall, OfferCall, StoreCall, with_cached, with_handle, with_node, next_node}
+use Rattle.pagable_world.specs.Calls.{TakeCall, RecallCall, OfferCall, StoreCall}
 use Rattle.pagable_world.specs.LoadCalls.{with_load, without_load, Given, from_cache, from_store, BeginCall, BeginKeyCall, AskCall, AdoptCall, adopted, first_key, LazyCall, EndCall, HandOverCall}
 use Rattle.pagable_world.specs.Loads.{GoesOn, Meets, ReadingDoes}
 use Rattle.pagable_world.specs.Events.{Does}
@@ -58,42 +59,20 @@ pub owned-mine : {w : Core} {me : Owner} {l : LoadNumber} {load : OpenLoad} → 
 owned-mine {me = me} o load is = ap (is_owner me) (ap (λ (x : OpenLoad). x.owner) (same_some _ _ (sym is ∙ o.stands_open)) ∙ o.own) ∙ is-self me
 
 pub unfaulty-mine : (w : Core) (me : Owner) (l : LoadNumber) → load_fault w me l ≡ None → IsMine w me l
-unfaulty-mine w me l none load is = by (is_owner me load.owner) (sym (ap (λ found. if_there (λ (load : OpenLoad). refused_if (not (is_owner me load.owner)) errors.NotYours) (Some errors.NoSuchHandle) found) is) ∙ none)
-  where
-    by : (b : Bool) → refused_if (not b) errors.NotYours ≡ None → b ≡ true
-    by true e = refl
-    by false e = absurd (cc)
+unfaulty-mine w me l none load is = first_of (grind (arith, common_steps, nat_tests), search (rules))
 
 pub same : {me : Owner} (w : Core) → Leaves me w.workers w w
 same w = record { loads = λ l load is. inl is; last = omega arith; workers = λ v. refl; others = λ l load is few other. is }
 
 pub joined : {me : Owner} {works : ℕ → Bool} {w m w' : Core} → Leaves me works w m → Leaves me m.workers m w' → Leaves me works w w'
-joined {me} {works} {w} {m} {w'} f g =
-    record {
-      loads = λ l load is. elim (g.loads l load is) [ inl there ↦ f.loads l load there | inr above ↦ inr (let le = f.last in omega (arith, above, le)) ];
-      last = let a = f.last in let b = g.last in omega (arith, a, b);
-      workers = λ v. g.workers v ∙ f.workers v;
-      others = λ l load is few other. let le = f.last in g.others l load (f.others l load is few other) (omega (arith, few, le)) other;
-    }
+joined {me} {works} {w} {m} {w'} f g = first_of (grind (arith, common_steps, nat_tests), search (rules))
 
 -- so does what has the same of these, or is like it
 pub over : {me : Owner} {works : ℕ → Bool} {w u x : Core} → Leaves me works w u → x.loads ≡ u.loads → x.last.load ≡ u.last.load → x.workers ≡ u.workers → Leaves me works w x
-over {me} {works} {w} {u} {x} f loads last workers =
-    record {
-      loads = λ l load is. f.loads l load (sym (ap (λ (g : ℕ → Option OpenLoad). g l) loads) ∙ is);
-      last = let le = f.last in omega (arith, le, last);
-      workers = λ v. ap (λ (g : ℕ → Bool). g v) workers ∙ f.workers v;
-      others = λ l load is few other. ap (λ (g : ℕ → Option OpenLoad). g l) loads ∙ f.others l load is few other;
-    }
+over {me} {works} {w} {u} {x} f loads last workers = first_of (grind (arith, common_steps, nat_tests), search (rules))
 
 pub after : {me : Owner} {works : ℕ → Bool} {w u w' : Core} → Leaves me works w u → Alike u w' → Leaves me works w w'
-after {me} {works} {w} {u} {w'} f a =
-    record {
-      loads = λ l load is. f.loads l load (sym (a.loads l) ∙ is);
-      last = let le = f.last in let e : w'.last.load ≡ u.last.load = ap (λ (x : Last). x.load) a.last in omega (arith, le, e);
-      workers = λ v. a.workers v ∙ f.workers v;
-      others = λ l load is few other. a.loads l ∙ f.others l load is few other;
-    }
+after {me} {works} {w} {u} {w'} f a = first_of (grind (arith, common_steps, nat_tests), search (rules))
 
 pub like : {me : Owner} {w u w' : Core} → Alike u w' → u.loads ≡ w.loads → u.last.load ≡ w.last.load → u.workers ≡ w.workers → Leaves me w.workers w w'
 like {w = w} a loads last workers = after (over (same w) loads last workers) a
@@ -106,40 +85,14 @@ falls {w = w} x loads last workers = fell (over (same w) loads last workers) x
 
 -- a node that a load makes, or a cell
 known : {me : Owner} (w : Core) (l : LoadNumber) (kind : Kind) (key : ℕ) (own : OptionalDataKey) (rs : List ArcRef) → Leaves me w.workers w (adopted w l kind key own rs)
-known {me} w l kind key own rs = split w.closed
-  where
-    u : Core
-    u = with_handle (with_node w (type_of kind.0) own rs) (next_node w) (mode_of kind.0) (owners.Load l)
-
-    split : (c : Bool) → Leaves me w.workers w (if c then u else with_cached u kind key (next_node w))
-    split true = over (same w) refl refl refl
-    split false = over (same w) refl refl refl
+known {me} w l kind key own rs = first_of (grind (arith, common_steps, nat_tests), search (rules))
 
 -- a load more, or less
 opened : (w : Core) (key : ℕ) (root : Root) (me : Owner) → Leaves me w.workers w (with_load w key root me)
-opened w key root me =
-    record {
-      loads = λ l load is. elim (at-updated (w.last.load + 1) (Some (record { owner = me; key = key; root = root })) w.loads l load is) [ inl (at, e) ↦ inr (omega (arith, at)) | inr was ↦ inl was ];
-      last = omega arith;
-      workers = λ v. refl;
-      others = λ l load is few other. ap (λ b. if b then Some (record { owner = me; key = key; root = root }) else w.loads l) (not-next l w.last.load few) ∙ is;
-    }
-  where
-    not-next : (l n : ℕ) → l ≤ n → (l == n + 1) ≡ false
-    not-next l n few = grind (arith, nat_tests)
+opened w key root me = first_of (grind (arith, common_steps, nat_tests), grind (arith, nat_tests, at-updated), search (rules, at-updated))
 
 shut : {me : Owner} {works : ℕ → Bool} {w u : Core} → Leaves me works w u → (l : LoadNumber) → IsMine w me l → Leaves me works w (without_load u l)
-shut {me} {works} {w} {u} f l mine =
-    record {
-      loads = λ q load is. elim (at-updated l.0 None u.loads q load is) [ inl (at, e) ↦ absurd (cc) | inr was ↦ f.loads q load was ];
-      last = f.last;
-      workers = f.workers;
-      others = λ q load is few other. by q load is few other (q == l.0) refl;
-    }
-  where
-    by : (q : ℕ) (load : OpenLoad) → w.loads q ≡ Some load → q ≤ w.last.load → is_owner me load.owner ≡ false → (b : Bool) → (q == l.0) ≡ b → (without_load u l).loads q ≡ Some load
-    by q load is few other true e = let own : is_owner me load.owner ≡ true = mine load (subst (λ n. w.loads n ≡ Some load) (same-number q l.0 e) is) in absurd (cc)
-    by q load is few other false e = ap (λ b. if b then None else u.loads q) e ∙ f.others q load is few other
+shut {me} {works} {w} {u} f l mine = first_of (grind (arith, common_steps, nat_tests), grind (arith, nat_tests, at-updated, same-number), search (rules, at-updated, same-number))
 
 module _ (w w' : Core) (me : Owner) where
   born : {N : Type 0} {x : N} {t : ℕ} {rs : List ArcRef} {mode : Mode} (r : Result HandleNumber (Error × N)) → BirthCall w me x t rs mode r w' → Leaves me w.workers w w'
@@ -214,10 +167,7 @@ module _ (w w' : Core) (me : Owner) where
   lazily (Err e) c = like c.refused.stays refl refl refl
 
   ended : {N : Type 0} {l : LoadNumber} {x : N} {t : ℕ} {rs : List ArcRef} (r : Result HandleNumber (Error × Option N)) → EndCall w me l x t rs r w' → Leaves me w.workers w w'
-  ended {l = l} (Ok k) c = elim c.installs.3.falls [
-    | inl (away, f) ↦ fell (over (shut (same w) l (owned-mine c.installs.2.owned)) refl refl refl) f.falls
-    | inr (here, f) ↦ fell (over (shut (same w) l (owned-mine c.installs.2.owned)) refl refl refl) f.falls
-  ]
+  ended {l = l} (Ok k) c = first_of (grind (arith, common_steps, nat_tests), grind (arith, nat_tests, owned-mine), search (rules, owned-mine))
   ended (Err (e, Some y)) c = like c.refused.1.stays refl refl refl
   ended {l = l} (Err (e, None)) c = fell (shut (same w) l (owned-mine c.refused.may.owned)) c.refused.closes
 
@@ -289,7 +239,4 @@ module _ (w w' : Core) (me : Owner) {N : Type 0} (v : Values N) (reading : Readi
   step-leaves None frames d = went-on frames d.does
   step-leaves (Some (ends.Pinned k)) frames d = ended w w' me (Ok k) d.does.0.ended
   step-leaves (Some (ends.Read x)) frames d = handed w w' me (Ok tt) d.does.0.handed
-  step-leaves (Some (ends.Refused e)) frames d = elim d.does.0 [
-    | inl g ↦ fell (shut (met w g.mid me v reading e g.meets) reading.load mine) g.closes
-    | inr c ↦ ended w w' me (Err (e, None)) c.ended
-  ]
+  step-leaves (Some (ends.Refused e)) frames d = first_of (grind (arith, common_steps, nat_tests), search (rules))

@@ -1,4 +1,7 @@
 -- A load's step, and why it is refused.
+use Rattle.std.proofs.lemmas.Bool.Decides.{nat_tests}
+use Rattle.std.proofs.lemmas.Grind.{common_steps}
+use Rattle.std.proofs.Common.{rules}
 use Rattle.std.proofs.Common.{◌≡◌, ℕ, Bool, true, false, List, [], Option, Some, None, Ok, Err, inl, inr, refl, sym, ap, subst, ◌∙◌, arith}
 use Rattle.std.specs.Prelude.{Result, is_none, is_some, not}
 use Rattle.std.specs.Option.{option_map}
@@ -18,7 +21,7 @@ use Rattle.pagable_world.specs.Refusals.{OwnsLoad, earlier, load_fault, refused_
 use Rattle.pagable_world.specs.LoadCalls.{DropCall, LoadCloses}
 use Rattle.pagable_world.specs.Loads.{gone_on}
 use Rattle.pagable_world.specs.Workers.{fresh}
-use Rattle.pagable_world.specs.Events.{reading_after, reading_at, reading_of_load, reading_of_root, step_fault}
+use Rattle.pagable_world.specs.Events.{reading_after, reading_at, reading_of_root, step_fault}
 use Rattle.pagable_world.specs.Pager.{FitsRoot, Moves, PagerState, WellFormed, world_of}
 use Rattle.pagable_world.specs.Access.{ReadingStep}
 use Rattle.pagable_laws.proofs.Trees.{same_some}
@@ -35,15 +38,11 @@ fits (of_cell node t h) a b same fit = same ∙ fit
 fits of_key a b same fit = tt
 
 usable : (w : Core) (l : LoadNumber) (load : OpenLoad) → OwnsLoad w owners.Caller l load → load_fault w owners.Caller l ≡ None
-usable w l load o =
-    ap (λ (found : Option OpenLoad). if_there (λ (x : OpenLoad). refused_if (not (is_owner owners.Caller x.owner)) errors.NotYours) (Some errors.NoSuchHandle) found) o.stands_open
-    ∙ ap (λ owner. refused_if (not (is_owner owners.Caller owner)) errors.NotYours) o.own
+usable w l load o = first_of (grind (arith, common_steps, nat_tests), search (rules))
 
 module _ {X : Type 0} {g : Ghosts X} {N E : Type 0} (s : PagerState N E) (h : Holding g) (l : LoadNumber) (load : OpenLoad) (o : OwnsLoad s.core owners.Caller l load) where
   at-found : (own : Option Own) → h.readings l.0 ≡ own → reading_at (world_of (machine_of s h)) l ≡ or_else (option_map reading_of own) (reading_of_root l load.root)
-  at-found own is =
-      ap (λ (found : Option OpenLoad). or_else (if_there (λ (x : OpenLoad). option_map reading_of (h.readings l.0)) None found) (reading_of_load l found)) o.stands_open
-      ∙ ap (λ (x : Option Own). or_else (option_map reading_of x) (reading_of_root l load.root)) is
+  at-found own is = first_of (grind (arith, common_steps, nat_tests), search (rules))
 
   -- a load that is kept
   pub at-kept : (own : Own) → h.readings l.0 ≡ Some own → reading_at (world_of (machine_of s h)) l ≡ Some (reading_of own)
@@ -56,9 +55,7 @@ module _ {X : Type 0} {g : Ghosts X} {N E : Type 0} (s : PagerState N E) (h : Ho
 
   -- one of a key that a call began
   pub never : h.readings l.0 ≡ None → reading_of_root l load.root ≡ None → step_fault (world_of (machine_of s h)) l ≡ Some errors.WrongMode
-  never none root =
-      ap (λ x. earlier x (refused_if (is_none (reading_at (world_of (machine_of s h)) l)) errors.WrongMode)) (usable s.core l load o)
-      ∙ ap (λ x. earlier None (refused_if (is_none x) errors.WrongMode)) (at-found None none ∙ root)
+  never none root = first_of (grind (arith, common_steps, nat_tests), grind (arith, nat_tests, at-found), search (rules, at-found))
 
 -- the same load reads for the same
 still-reads : {load : OpenLoad} {own now : Own} → ReadsFor load own → IsSameLoad own now → ReadsFor load now
@@ -87,11 +84,7 @@ module _ {X : Type 0} {g : Ghosts X} {N E : Type 0} (s : PagerState N E) {h : Ho
 -- a load of a key that a call began
 pub never-typed : {X : Type 0} {g : Ghosts X} {N E : Type 0} (s : PagerState N E) (h : Holding g) (l : LoadNumber) (load : OpenLoad) → OwnsLoad s.core owners.Caller l load → h.readings l.0 ≡ None → type_of_root load.root ≡ None
     → step_fault (world_of (machine_of s h)) l ≡ Some errors.WrongMode
-never-typed s h l load o none untyped = never s h l load o none (of load.root untyped)
-  where
-    of : (root : Root) → type_of_root root ≡ None → reading_of_root l root ≡ None
-    of (of_cell node t h) is = absurd (cc)
-    of of_key is = refl
+never-typed s h l load o none untyped = first_of (grind (arith, common_steps, nat_tests), search (rules))
 
 module _ {X : Type 0} {g : Ghosts X} {N B W E : Type 0} (m : Seen N B W) (s s' : PagerState N E) (h : Holding g) (kept' : Kept) (serving : IsServing s.core h) (was : WellFormed m.values s) where
   abbrev left : Holding g
@@ -195,12 +188,7 @@ fault-first : (found : Option OpenLoad) (b : Bool) (e : Error)
     → earlier (if_there (λ (load : OpenLoad). refused_if (not (is_owner owners.Caller load.owner)) errors.NotYours) (Some errors.NoSuchHandle) found) (refused_if b errors.WrongMode) ≡ Some e
 fault-first None true e is = is
 fault-first None false e is = is
-fault-first (Some load) b e is = by (is_owner owners.Caller load.owner) b is
-  where
-    by : (own b : Bool) → refused_if (not own) errors.NotYours ≡ Some e → earlier (refused_if (not own) errors.NotYours) (refused_if b errors.WrongMode) ≡ Some e
-    by true b is = absurd (cc)
-    by false true is = is
-    by false false is = is
+fault-first (Some load) b e is = first_of (grind (arith, common_steps, nat_tests), search (rules))
 
 pub faulty : {X : Type 0} {g : Ghosts X} {N E : Type 0} (s : PagerState N E) (h : Holding g) (l : LoadNumber) (e : Error) → load_fault s.core owners.Caller l ≡ Some e → step_fault (world_of (machine_of s h)) l ≡ Some e
 faulty s h l e is = fault-first (s.core.loads l.0) (is_none (reading_at (world_of (machine_of s h)) l)) e is

@@ -1,6 +1,9 @@
 -- A worker's step.
+use Rattle.std.proofs.lemmas.Bool.Decides.{nat_tests}
+use Rattle.std.proofs.lemmas.Grind.{common_steps}
+use Rattle.std.proofs.Common.{rules}
 use Rattle.std.proofs.Common.{◌≡◌, ◌≢◌, ℕ, zero, suc, ◌<◌, ◌≤◌, ◌==◌, Bool, true, false, List, [], ◌∷◌, Option, Some, None, Ok, inl, inr, if◌then◌else◌, refl, sym, ap, subst, ◌∙◌, length, arith}
-use Rattle.std.specs.Prelude.{is_none, is_some, slice_get}
+use Rattle.std.specs.Prelude.{is_none, is_some}
 use Rattle.std.specs.Option.{option_map}
 use Rattle.std.specs.declared.sync.Arc.{Arc}
 use Rattle.std.specs.declared.alloc.Global.{Global}
@@ -13,7 +16,7 @@ use Rattle.pagable_world.specs.declared.events.WorkerAnswer.{WorkerAnswer}
 use Rattle.pagable_world.specs.declared.events.WorkerReply.{WorkerReply}
 use Rattle.pagable_world.specs.Plain.{Blob, if_there, updated}
 use Rattle.pagable_world.specs.Kinds.{is_owner, owner_worker}
-use Rattle.pagable_world.specs.World.{Core, SameShelf, Seen, Shelf, Todo, Values, Walking, Written}
+use Rattle.pagable_world.specs.World.{Core, SameShelf, Seen, Shelf, Todo, Values, Written}
 use Rattle.pagable_world.specs.Workers.{Site, WalkDoes, answer_after, is_counted}
 use Rattle.pagable_world.specs.Events.{Ends, Happens, WorkerSteps, no_shelf, steps_after}
 use Rattle.pagable_world.specs.Pager.{PagerState, TodoBrings, WellFormed, world_of}
@@ -28,11 +31,10 @@ use Rattle.pagable_walk.specs.declared.tasks.Waiting.{Waiting}
 use Rattle.pagable_walk.specs.Table.{shelf_of}
 use Rattle.pagable_walk.specs.Tasks.{IsWay, todo_of, todos}
 use Rattle.pagable_walk.specs.Turns.{LeavesFit, Stepped, TaskFits, answer_in, plain, plain_took, plan}
-use Rattle.pagable_machine.specs.declared.held.Begun.{Begun}
 use Rattle.pagable_machine.specs.declared.held.Walk.{Walk}
 use Rattle.pagable_machine.specs.Keeping.{Holding, IsServing, KeepsOne, Makes, machine_of, readings_in}
 use Rattle.pagable_machine.specs.Serving.{plain_moved}
-use Rattle.pagable_machine.specs.Walking.{IsWalkKept, SetsTable, WalksOn, shelf_at, task_in, task_of, todo_left, walking_of}
+use Rattle.pagable_machine.specs.Walking.{IsWalkKept, SetsTable, WalksOn, shelf_at, task_in, todo_left, walking_of}
 use Rattle.pagable_machine.proofs.Keeping.{are-these, as-before, at-one, kept-on, makes-with, not-same, one-serves, updated-at}
 use Rattle.pagable_machine.proofs.Leaving.{Leaves, owned-mine}
 use Rattle.pagable_machine.proofs.Passing.{Passes, event-passes}
@@ -60,27 +62,11 @@ module _ {X : Type 0} {g : Ghosts X} where
   -- the shelf of a table that is set, and of the others
   shelf-set : (tables tables' : List (SlotTable X g)) (place : ℕ) (table : SlotTable X g) (after : Shelf) → SetsTable tables place table tables' → SameShelf after (shelf_of table) → (t : ℕ)
       → SameShelf (updated (suc place) after (shelf_at tables) t) (shelf_at tables' t)
-  shelf-set tables tables' place table after sets same zero = by (zero == suc place) refl
-    where
-      by : (b : Bool) → (zero == suc place) ≡ b → SameShelf (if b then after else no_shelf) no_shelf
-      by true e = absurd (let f = same-number zero (suc place) e in cc)
-      by false e = record { slots = λ i. refl; waits = λ v. refl }
-  shelf-set tables tables' place table after sets same (suc q) = by (suc q == suc place) refl
-    where
-      by : (b : Bool) → (suc q == suc place) ≡ b → SameShelf (if b then after else shelf_at tables (suc q)) (shelf_at tables' (suc q))
-      by true e =
-          let at : q ≡ place = let f = same-number (suc q) (suc place) e in omega (arith, f) in
-          subst (λ (found : Option (SlotTable X g)). SameShelf after (if_there shelf_of no_shelf found)) (sym (ap (slice_get tables') at ∙ sets.here)) same
-      by false e =
-          let other = not-same (suc q) (suc place) e in
-          subst (λ (found : Option (SlotTable X g)). SameShelf (shelf_at tables (suc q)) (if_there shelf_of no_shelf found)) (sym (sets.others q (λ is. other (ap suc is)))) (record { slots = λ i. refl; waits = λ v. refl })
+  shelf-set tables tables' place table after sets same zero = first_of (grind (arith, common_steps, nat_tests), grind (arith, nat_tests, same-number), search (rules, same-number))
+  shelf-set tables tables' place table after sets same (suc q) = first_of (grind (arith, common_steps, nat_tests), grind (arith, nat_tests, same-number, not-same), search (rules, same-number, not-same))
 
 apart : (q n : ℕ) → q ≢ n → (q == n) ≡ false
-apart q n other = by (q == n) refl
-  where
-    by : (b : Bool) → (q == n) ≡ b → (q == n) ≡ false
-    by true e = absurd (other (same-number q n e))
-    by false e = e
+apart q n other = first_of (grind (arith, common_steps, nat_tests), grind (arith, nat_tests, same-number), search (rules, same-number))
 
 -- who is at work after its answer
 works-then : {X : Type 0} {g : Ghosts X} (turn : Turn X g) (n : ℕ) (works : ℕ → Bool) → works n ≡ true → works_after (answer_in turn) n works n ≡ is_none (answer_in turn)
@@ -145,14 +131,7 @@ module _ {X : Type 0} {g : Ghosts X} {N E : Type 0} (v : Values N) (s s' : Pager
   shelf-is = ap (shelf_at h.tables) on.on ∙ ap (λ (found : Option (SlotTable X g)). if_there shelf_of no_shelf found) on.there
 
   walking-is : walking_of k' ≡ record (walking_of k) { todo = done.does.after.todo; steps = k'.steps; answer = answer_in turn }
-  walking-is =
-      ap (λ (t : ℕ). kept-as t k'.begun (todo_left k'.task k'.path.items) k'.answer) on.after.table
-      ∙ ap (λ (b : Begun). kept-as k.table b (todo_left k'.task k'.path.items) k'.answer) on.after.begun
-      ∙ ap (λ (a : Option WorkerAnswer). kept-as k.table k.begun (todo_left k'.task k'.path.items) a) on.after.answer
-      ∙ ap (λ (todo : List Todo). kept-as k.table k.begun todo (answer_in turn)) (ap (λ task. todo_left task k'.path.items) on.after.task ∙ left-is turn k'.path.items ∙ done.does.goes_on)
-    where
-      kept-as : ℕ → Begun → List Todo → Option WorkerAnswer → Walking
-      kept-as t b todo a = record { table = t; task = task_of b; todo = todo; steps = k'.steps; answer = a }
+  walking-is = first_of (grind (arith, common_steps, nat_tests), grind (arith, nat_tests, left-is), search (rules, left-is))
 
   steps-so : WorkerSteps m (world_of (machine_of s h)) n told (world_of (machine_of s' after))
   steps-so =

@@ -1,5 +1,8 @@
 -- What each step of a worker leaves, its begin and its end among them.
-use Rattle.std.proofs.Common.{◌≡◌, ℕ, ◌+◌, ◌==◌, Bool, true, false, List, [], ◌∷◌, Option, Some, None, Ok, Err, inl, inr, if◌then◌else◌, refl, ap, ◌∙◌, arith}
+use Rattle.std.proofs.lemmas.Bool.Decides.{nat_tests}
+use Rattle.std.proofs.lemmas.Grind.{common_steps}
+use Rattle.std.proofs.Common.{rules}
+use Rattle.std.proofs.Common.{ℕ, ◌+◌, Bool, true, false, List, [], ◌∷◌, Option, Some, None, Ok, Err, inl, refl, arith}
 use Rattle.pagable_model.specs.declared.numbers.ArcRef.{ArcRef}
 use Rattle.pagable_model.specs.declared.numbers.HandleNumber.{HandleNumber}
 use Rattle.pagable_model.specs.declared.numbers.LoadNumber.{LoadNumber}
@@ -14,10 +17,10 @@ use Rattle.pagable_world.specs.declared.events.WorkerAnswer.{WorkerAnswer}
 use Rattle.pagable_world.specs.declared.handles.Owner.{Owner}
 use Rattle.pagable_world.specs.Plain.{updated}
 use Rattle.pagable_world.specs.Kinds.{owner_worker}
-use Rattle.pagable_world.specs.World.{Alike, Core, OpenLoad, Seen, Todo, to_fail, to_finish, to_item, to_load, to_pin, to_publish, to_release, to_set, to_start, to_write}
-use Rattle.pagable_world.specs.Workers.{Does, GivesBack, PinRefused, PinsAtOnce, PinsByLoad, Site, is_workers_load, without_worker}
+use Rattle.pagable_world.specs.World.{Alike, Core, Seen, Todo, to_fail, to_finish, to_item, to_load, to_pin, to_publish, to_release, to_set, to_start, to_write}
+use Rattle.pagable_world.specs.Workers.{Does, GivesBack, PinRefused, PinsAtOnce, PinsByLoad, Site}
 use Rattle.pagable_world.specs.Events.{Ends, with_entry_taken, with_worker}
-use Rattle.pagable_machine.proofs.Leaving.{IsMine, Leaves, after, begun, falls, fell, joined, key-set, like, over, pinned, scheduled, step-leaves, stored}
+use Rattle.pagable_machine.proofs.Leaving.{IsMine, Leaves, after, begun, falls, joined, key-set, like, over, scheduled, step-leaves, stored}
 
 -- the load that stands at the front is the worker's own
 abbrev pub FrontMine : Core → Owner → List Todo → Type 0
@@ -29,20 +32,13 @@ module _ {N B W : Type 0} (m : Seen N B W) (u : ℕ) where
   me = owner_worker u
 
   at-once : (w w' : Core) (r : ArcRef) (through k : HandleNumber) → PinsAtOnce w me r through k w' → Leaves me w.workers w w'
-  at-once w w' r through k does = elim does [
-    | inl (row, is, clone) ↦ like clone.made.3 refl refl refl
-    | inr (row, (mid, clone, pin)) ↦ joined (like clone.made.3 refl refl refl) (pinned mid w' me _ pin)
-  ]
+  at-once w w' r through k does = first_of (grind (arith, common_steps, nat_tests), search (rules))
 
   by-load : (w w' : Core) (r : ArcRef) (through : HandleNumber) (l : LoadNumber) → PinsByLoad w me r through l w' → Leaves me w.workers w w'
   by-load w w' r through l (row, (mid, key, clone, begin)) = joined (like clone.made.3 refl refl refl) (begun mid w' me _ begin)
 
   pin-refused : (w w' : Core) (r : ArcRef) (e : Error) → PinRefused w me r e w' → Leaves me w.workers w w'
-  pin-refused w w' r e does = elim does [
-    | inl clone ↦ like clone.refused.stays refl refl refl
-    | inr (row, (mid, through, clone, inl pin)) ↦ joined (like clone.made.3 refl refl refl) (pinned mid w' me _ pin)
-    | inr (row, (mid, through, clone, inr begin)) ↦ joined (like clone.made.3 refl refl refl) (begun mid w' me _ begin)
-  ]
+  pin-refused w w' r e does = first_of (grind (arith, common_steps, nat_tests), search (rules))
 
   gives-back : (w w' : Core) (back : Option HandleNumber) → GivesBack w u back w' → Leaves me w.workers w w'
   gives-back w w' None a = like a refl refl refl
@@ -81,28 +77,7 @@ works_after (Some answer) u works = updated u false works
 -- its end
 pub end-leaves : {works : ℕ → Bool} {w m w' : Core} (answer : Option WorkerAnswer) (u : ℕ) → Leaves (owner_worker u) works w m → Ends answer u m w' → Leaves (owner_worker u) (works_after answer u works) w w'
 end-leaves None u f a = after f a
-end-leaves {works} {w} {m} {w'} (Some answer) u f e = fell let-go e.falls
-  where
-    in-both : (x y : Bool) (b : Bool) → y ≡ x → (if b then false else y) ≡ (if b then false else x)
-    in-both x y true is = refl
-    in-both x y false is = is
-
-    left : (b : Bool) (found : Option OpenLoad) (load : OpenLoad) → (if b then None else found) ≡ Some load → found ≡ Some load
-    left true found load is = absurd (cc)
-    left false found load is = is
-
-    stays : (b : Bool) (found : Option OpenLoad) (load : OpenLoad) → b ≡ false → found ≡ Some load → (if b then None else found) ≡ Some load
-    stays true found load e is = absurd (cc)
-    stays false found load e is = is
-
-    let-go : Leaves (owner_worker u) (updated u false works) w (without_worker m u)
-    let-go =
-        record {
-          loads = λ l load is. f.loads l load (left (is_workers_load u (m.loads l)) (m.loads l) load is);
-          last = f.last;
-          workers = λ v. in-both (works v) (m.workers v) (v == u) (f.workers v);
-          others = λ l load is few other. let there = f.others l load is few other in stays (is_workers_load u (m.loads l)) (m.loads l) load (ap (is_workers_load u) there ∙ other) there;
-        }
+end-leaves {works} {w} {m} {w'} (Some answer) u f e = first_of (grind (arith, common_steps, nat_tests), search (rules))
 
 -- its begin, and with an entry
 with-one : {me : Owner} (w : Core) → Leaves me (updated (w.last.worker + 1) true w.workers) w (with_worker w)
