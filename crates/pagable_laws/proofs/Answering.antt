@@ -1,5 +1,5 @@
 -- What follows for keys: each that is published is its tree's, each that is answered is its task's, and what a worker met that answers one is left paged out.
-use Rattle.pagable_laws.proofs.Words.{◌≡◌, ℕ, true, List, [], ◌∷◌, Option, Some, None, Ok, Err, refl, sym, ap, subst, ◌∙◌, is_some, OptionalDataKey, pair}
+use Rattle.pagable_laws.proofs.Words.{arith, nat_tests, ◌≡◌, ℕ, true, List, [], ◌∷◌, Option, Some, None, Ok, Err, refl, sym, ap, subst, ◌∙◌, is_some, OptionalDataKey, pair}
 use Rattle.pagable_laws.proofs.Words.{variant, reference, followed, EachType, blob_of, KeyOf, KeyOfItem, ArcRef, Identity, is_loose_kind, Meaning, Tree, HandleNumber, ReadsTree, WorkerNumber}
 use Rattle.pagable_laws.proofs.Words.{type_of, if_there, Event, EventReply, Took, WorkerAnswer, WorkerReply, identity_of, has_key, Core, Cell, key_at, Shelf, Slot, Written, Fault, was_refused}
 use Rattle.pagable_laws.proofs.Words.{was_failed, Todo, to_item, to_set, to_publish, to_release, to_fail, Task, of_item, of_entry, Walking, Values, Seen, Site, Does, IsPublished, answer_after}
@@ -19,9 +19,7 @@ use Rattle.pagable_laws.proofs.Stepping.{all-known, stands-for}
 module _ {N B W : Type 0} (m : Seen N B W) (n : ℕ) (g : Ground) (task : Task) (s s' : Site) where
   of-publish : (todo : List Todo) (i : Identity) (key height : ℕ) → Does m n s todo (Took.Publish i key height) s' → Walks m.values g s.shelf task todo
       → KeyOf m.values.hash m.values.types (g.trees i.node.0) key
-  of-publish (to_publish r k h ∷ below) i key height (is, same_key, same_height, t) (blob, above) =
-      subst (λ (j : Identity). KeyOf m.values.hash m.values.types (g.trees j.node.0) key) (sym is)
-      (subst (λ q. KeyOf m.values.hash m.values.types (g.trees r.node.0) q) (sym same_key) blob.stands.right.is_key)
+  of-publish (to_publish r k h ∷ below) i key height (is, same_key, same_height, t) (blob, above) = grind arith
   of-publish todo i key height does walks = absurd does
 
   -- what the answer of a key comes from
@@ -210,6 +208,4 @@ each-type all _ = tt
 pub sets-key : {N E : Type 0} (v : Values N) (s : MachineState N E) (trees : ℕ → Tree) → ReadsItsTypes v.types → WorkFits v s trees
     → (n : ℕ) (walking : Walking) (r : ArcRef) (through : HandleNumber) (key height : ℕ) (below : List Todo)
     → s.work.walkings n ≡ Some walking → walking.todo ≡ to_set r through key height ∷ below → ReadsTree s.pager.core.stored v.types key (trees r.node.0)
-sets-key v s trees reads fit n walking r through key height below there is =
-    let walks = subst (λ t. Walks v (ground_of s trees) (s.work.shelves walking.table) walking.task t) is (fit.walks n walking there) in
-    tree_readable s.pager.core.stored v.types (trees r.node.0) key (reads (trees r.node.0).type, each-type reads (trees r.node.0).meaning) walks.0.stands.right.stands
+sets-key v s trees reads fit n walking r through key height below there is = grind (arith, nat_tests, same_some, tree_readable, each-type)

@@ -1,6 +1,6 @@
 -- A hash map means the same in whatever order its entries come.
 use Rattle.pagable_laws.proofs.Words.{◌≡◌, Bool, true, false, cond, List, [], ◌∷◌, map, Option, Some, None, refl, sym, ap, ◌∙◌, Ordering, T, bytes_eq-Decides, is_eq-slice_cmp, exact_bytes}
-use Rattle.pagable_laws.proofs.Words.{Meaning, pair, variant, reference, followed, plain, rename, lifted, Entry, code, code_order, put_all, put_sorted}
+use Rattle.pagable_laws.proofs.Words.{arith, Meaning, pair, variant, reference, followed, plain, rename, lifted, Entry, code, code_order, put_all, put_sorted}
 use Rattle.pagable_laws.proofs.Words.{last_value, one-meaning, of_entries, IsOneKeyMeaning, IsAnyOrder}
 use Rattle.std.specs.Option.{option_or}
 use Rattle.std.specs.declared.cmp.Ordering.{Ordering}
@@ -80,7 +80,4 @@ any_order es fs h =
 -- ---- two keys that are the same
 
 pub one_key_meaning : {A : Type 0} → IsOneKeyMeaning A
-one_key_meaning a b = (
-  λ e. one-meaning _ _ ((bytes_eq-Decides (code (plain a)) (code (plain b))).0 e),
-  λ e. (bytes_eq-Decides (code (plain a)) (code (plain b))).1 (ap code e),
-)
+one_key_meaning a b = grind (arith, one-meaning, bytes_eq-Decides)

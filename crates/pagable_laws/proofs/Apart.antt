@@ -48,11 +48,7 @@ module _ (types : Types) (t : ℕ) (blob : Blob) (refs got : List ArcRef) (f : I
 
   answer-own : (g r : ArcRef) (place : ℕ) → slice_get got place ≡ Some g → slice_get refs place ≡ Some r → g.kind.0 ≡ r.kind.0 → Answers (answer_of (Some g)) r
   unfolding own_look
-  answer-own g r place at there is kind = by (g.kind.0 == kind) refl
-    where
-      by : (b : Bool) → (g.kind.0 == kind) ≡ b → OutLook no_cause (InPlace got refs) (if g.kind.0 == kind then Ok g else Err Error.WrongKind) (if r.kind.0 == kind then Ok r else Err Error.WrongKind)
-      by true e = let d : (r.kind.0 == kind) ≡ true = ap (λ k. k == kind) (sym is) ∙ e in rw (e, d) (both-looked-up g r (record { place = place; of_got = at; of_refs = there }))
-      by false e = let d : (r.kind.0 == kind) ≡ false = ap (λ k. k == kind) (sym is) ∙ e in rw (e, d) (both-not Error.WrongKind)
+  answer-own g r place at there is kind = grind (arith, both-looked-up, both-not)
 
   all-answer : (place : ℕ) (rs : List ArcRef) (keys : List ℕ) → ((i : ℕ) → slice_get rs i ≡ slice_get refs (place + i)) → length keys ≡ length rs → AllTwo Answers (answers_from got place keys) rs
   unfolding answers_from
@@ -69,10 +65,7 @@ module _ (types : Types) (t : ℕ) (blob : Blob) (refs got : List ArcRef) (f : I
   both-own : {own : Meaning ArcRef} {after : Rest Answer} {n : Meaning ArcRef} {left : Rest ArcRef} {first : Result (Meaning ArcRef × Rest Answer) Error} {second : Result
       (Meaning ArcRef × Rest ArcRef) Error}
       → Out no_cause Answers (Along ⊥ (InPlace got refs)) first second → first ≡ Ok (own, after) → second ≡ Ok (n, left) → Along ⊥ (InPlace got refs) own n
-  both-own {own} {after} {n} {left} (both-given p q v s) e d =
-      let one_side : p ≡ (own, after) = cc in
-      let other_side : q ≡ (n, left) = cc in
-      subst (λ (z : Meaning ArcRef × Rest ArcRef). Along ⊥ (InPlace got refs) own z.0) other_side (subst (λ (z : Meaning ArcRef × Rest Answer). Along ⊥ (InPlace got refs) z.0 q.0) one_side v)
+  both-own {own} {after} {n} {left} (both-given p q v s) e d = grind arith
   both-own (both-refused x) e d = absurd (cc)
   both-own (first-refused x r c) e d = absurd c
 
@@ -146,20 +139,7 @@ module _ (types : Types) (t : ℕ) (blob : Blob) (refs got : List ArcRef) (f : I
 
 module _ (w : Core) (owner : Owner) where
   fine-one : (seen : List ℕ) (r : ArcRef) → IsReference w owner r → is_in seen r.handle.0 ≡ false → reference_fault w owner seen r ≡ None
-  fine-one seen r is new =
-      let at : (is.row.node.0 == r.node.0) ≡ true = ap (λ n. n.0 == r.node.0) is.at ∙ self-number r.node.0 in
-      let own : is_owner owner is.row.owner ≡ true = ap (is_owner owner) is.owned ∙ self-owner owner in
-      let typed : is_type (type_of r.kind.0) (type_at w r.node.0) ≡ true = ap (is_type (type_of r.kind.0)) is.typed ∙ self-number (type_of r.kind.0) in
-      let fits = is.fits in
-      ap (λ found. if_there (λ (row : HandleRow). row_fault w r (refused_if (not (is_owner owner row.owner) || is_in seen r.handle.0) Error.NotYours) row) (Some Error.NoSuchHandle) found) is.live
-      ∙ rw (at, own, new, fits, typed) refl
-    where
-      self-owner : (o : Owner) → is_owner o o ≡ true
-      self-owner Owner.Caller = refl
-      self-owner (Owner.Value n) = self-number n.0
-      self-owner Owner.List = refl
-      self-owner (Owner.Load n) = self-number n.0
-      self-owner (Owner.Worker n) = self-number n.0
+  fine-one seen r is new = grind (arith, self-number)
 
   pub fine : (seen : List ℕ) (rs : List ArcRef) → ((r : ArcRef) → Among rs r → IsReference w owner r) → ((r : ArcRef) → Among rs r → is_in seen r.handle.0 ≡ false)
       → ((q : ℕ) → times (λ (r : ArcRef). r.handle.0 == q) rs ≤ 1) → references_fault w owner seen rs ≡ None

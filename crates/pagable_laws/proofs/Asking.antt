@@ -31,9 +31,7 @@ at-place (x ∷ xs) g back = at-place xs g back
 
 answered : (g : ArcRef) (o : Option ArcRef) (kind : ℕ) → o ≡ Some g → g.kind.0 ≡ kind → look_kind kind (answer_of o) ≡ Ok kind
 unfolding look_kind
-answered g o kind is same =
-    let e : (g.kind.0 == kind) ≡ true = ap (λ k. k == kind) same ∙ self-number kind in
-    rw (is, e) (ap (λ (k : ℕ). Ok k) same)
+answered g o kind is same = grind (arith, self-number)
 
 unanswered : (o : Option ArcRef) (kind : ℕ) → o ≡ None → look_kind kind (answer_of o) ≡ Err (Error.Storage kind)
 unfolding look_kind

@@ -38,18 +38,12 @@ started place (r ∷ rs) x below = omega arith
 settled-node : (o : Open) (k : ℕ) (below : List Todo) → length o.keys ≡ k
     → all-due (next_start o.place (drop (length o.keys) o.written.references) ++ to_finish o ∷ below) ≤ 4 + (length o.written.references - k) + all-due below
 unfolding all-due
-settled-node o k below few =
-    let a = started o.place (drop (length o.keys) o.written.references) (to_finish o) below in
-    let b = length-drop (length o.keys) o.written.references in
-    omega arith
+settled-node o k below few = grind (arith, started, length-drop)
 
 settled-item : (written : Written) (keys : List ℕ) (k : ℕ) (below : List Todo) → length keys ≡ k
     → all-due (next_start 0 (drop (length keys) written.references) ++ to_item written keys ∷ below) ≤ 2 + (length written.references - k) + all-due below
 unfolding all-due
-settled-item written keys k below few =
-    let a = started 0 (drop (length keys) written.references) (to_item written keys) below in
-    let b = length-drop (length keys) written.references in
-    omega arith
+settled-item written keys k below few = grind (arith, started, length-drop)
 
 given : (r : ArcRef) (key height : ℕ) (below : List Todo) → all-due (give r key height below) ≤ all-due below
 unfolding all-due
@@ -88,11 +82,7 @@ module _ {W : Type 0} (f : W → Written) where
   pays (to_load r place through reading ∷ below) (Took.Pin j (Ok PinStep.LoadWent)) next (is, (frames, e)) = rw e (omega arith)
   pays (to_load r place through reading ∷ below) (Took.Pin j (Ok (PinStep.Held h))) next (is, e) = rw e (omega arith)
   pays (to_load r place through reading ∷ below) (Took.Pin j (Err fault)) next (is, e) = rw e (omega arith)
-  pays (to_write r place through ∷ below) (Took.Write j (Ok out)) next (is, e) =
-      rw e (wrote _ _ _ (settled-node (record { reference = r; place = place; through = through; written = f out; keys = []; height = 0 }) 0 below refl))
-    where
-      wrote : (d n b : ℕ) → d ≤ 4 + (n - 0) + b → 1 + d ≤ 8 * 0 + n + (5 + b)
-      wrote d n b le = omega arith
+  pays (to_write r place through ∷ below) (Took.Write j (Ok out)) next (is, e) = grind (arith, settled-node)
   pays (to_write r place through ∷ below) (Took.Write j (Err fault)) next (is, e) = rw e (omega arith)
   pays (to_finish o ∷ below) (Took.Store (Some j) (Ok key)) next (is, e) = rw e (omega arith)
   pays (to_finish o ∷ below) (Took.Store (Some j) (Err fault)) next (is, e) = rw e (omega arith)
@@ -111,18 +101,9 @@ module _ {W : Type 0} (f : W → Written) where
 
   pub within-first : (task : Task) → IsWithin task (first_todo task) 0 []
   unfolding all-due
-  within-first (of_item written) = first _ _ (settled-item written [] 0 [] refl)
-    where
-      first : (d n : ℕ) → d ≤ 2 + (n - 0) + 0 → 0 + d ≤ 8 * 0 + (n + 0) + 4
-      first d n le = omega arith
+  within-first (of_item written) = grind (arith, settled-item)
   within-first (of_entry h i) = omega arith
 
   pub within-after : (task : Task) (todo next : List Todo) (n n' : ℕ) (past : List (Took W)) (step : Took W) → n' ≤ n + one (is_counted todo step) → Follows f todo step next
       → IsWithin task todo n past → IsWithin task next n' (past ++ step ∷ [])
-  within-after task todo next n n' past step counted follows within =
-      sum _ _ _ _ _ _ _ _ _ _ (sum_by-append (λ s. one (is_claim s)) past (step ∷ []) ∙ ap (λ k. times is_claim past + k) (sum_by-cons (λ s. one (is_claim s)) step []))
-      (sum_by-append (references_written f) past (step ∷ []) ∙ ap (λ k. sum_by (references_written f) past + k) (sum_by-cons (references_written f) step []))
-      counted (pays todo step next follows) within
-    where
-      sum : (b c r own d d' cs cs' rs rs' : ℕ) → cs' ≡ cs + (c + 0) → rs' ≡ rs + (r + 0) → n' ≤ n + b → b + d' ≤ 8 * c + r + d → n + d ≤ 8 * cs + (own + rs) + 4 → n' + d' ≤ 8 * cs' + (own + rs') + 4
-      sum b c r own d d' cs cs' rs rs' is_claims is_written few paid so_far = omega arith
+  within-after task todo next n n' past step counted follows within = grind (arith, sum_by-append, sum_by-cons, pays)

@@ -4,7 +4,7 @@ use Rattle.pagable_laws.proofs.Words.{LoadNumber, NodeNumber, Owner, HandleRow, 
 use Rattle.pagable_laws.proofs.Words.{only_handle, with_mode, next_node, moved, is_named_by, BirthCall, UnpinCall, ReleaseCall, SetKeyCall, ScheduleCall, TakeCall, RecallCall, OfferCall}
 use Rattle.pagable_laws.proofs.Words.{IsRefused, ClearCall, AdoptCall, LazyCall, EndCall, Installs, HandOverCall, DropCall, with_pin, without_load, first_key, CallBrings, IsNewNode, KeepsOpen}
 use Rattle.pagable_laws.proofs.Words.{LeavesCache, Change, nothing_felt, sets_key, knows_node, bears_node, bears_known, CallFeels, feels-nothing, feels-birth, feels-away, feels-key, feels-known}
-use Rattle.pagable_laws.proofs.Words.{feels-adopted, feels-lazy, feels-end, StaysAway}
+use Rattle.pagable_laws.proofs.Words.{arith, feels-adopted, feels-lazy, feels-end, StaysAway}
 use Rattle.pagable_world.specs.Events.{Does}
 use Rattle.pagable_laws.proofs.Trees.{same_some}
 use Rattle.pagable_laws.proofs.Goes.{parts, quiet-self, le-self, Quiet, Goes, NotLoads, rows-self, rows-mode, Changed, found-changed, quiet-then, alike, only-rows, fell, fell-anyhow, a-handle, quiet-goes}
@@ -56,10 +56,7 @@ module _ {w w' : Core} {me : Owner} (free : NotLoads me) where
   hands-over l hs (Err e) c = alike c.refused.1
 
 pub cleared : {w w' : Core} (r : Result (Unit {0}) Error) → ClearCall w r w' → Quiet w w'
-cleared {w} r c = quiet-then none-known (alike c.leaves)
-  where
-    none-known : Quiet w (record w { cache = λ kind key. None })
-    none-known = parts (le-self _) (le-self _) (λ n cell is. is) (λ l load is. is) (λ kind key n is. absurd (cc)) (rows-self w.last.handle w.rows w.rows refl)
+cleared {w} r c = grind (arith, quiet-then, alike, parts, le-self, rows-self)
 
 -- a change, with what it does and how it is felt
 pub record CallGoes {N B : Type 0} (v : Values N) (w : Core) (me : Owner) (call : Call N B) (reply : Reply N B) (w' : Core) : Type 0 where

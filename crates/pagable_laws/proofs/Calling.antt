@@ -2,7 +2,7 @@
 use Rattle.pagable_laws.proofs.Words.{◌≡◌, ℕ, ◌==◌, Bool, true, false, List, refl, ap, sym, subst, ◌∙◌, inl, inr, Option, Some, None, Result, Ok, Err, if◌then◌else◌, Adds, Error, Kind, Blob}
 use Rattle.pagable_laws.proofs.Words.{HandleNumber, LoadNumber, NodeNumber, Owner, HandleRow, Mode, Want, Pinning, Beginning, OptionalDataKey, is_loose, Core, OpenLoad, of_cell, of_key, type_at}
 use Rattle.pagable_laws.proofs.Words.{key_at, Alike, Owns, with_handle, with_mode, moved, CloneCall, PinCall, Asked, StoreCall, without_load, BeginCall, BeginKeyCall, Given, from_cache}
-use Rattle.pagable_laws.proofs.Words.{from_store, AskCall, AsksInVain, GetsKnown, LoadCloses, nothing_felt, BeginsWell}
+use Rattle.pagable_laws.proofs.Words.{arith, nat_tests, from_store, AskCall, AsksInVain, GetsKnown, LoadCloses, nothing_felt, BeginsWell}
 use Rattle.pagable_laws.proofs.Trees.{same_some}
 use Rattle.pagable_laws.proofs.Sums.{same-number}
 use Rattle.pagable_laws.proofs.Goes.{parts, le-self, Quiet, Goes, NotLoads, rows-self, rows-mode, rows-moved, quiet-then, alike, only-rows, fell, a-handle, quiet-goes, quiet-begins, goes-quiet, begun}
@@ -22,53 +22,23 @@ some-moved w s owner list free = only-rows (rows-moved w.last.handle w.rows s ow
 
 -- the load isn't there any more
 pub closed-load : (w : Core) (l : LoadNumber) → Quiet w (without_load w l)
-closed-load w l = parts (le-self _) (le-self _) (λ n cell is. is) (λ n load is. other (n == l.0) (w.loads n) load is) (λ kind key n is. is) (rows-self w.last.handle w.rows w.rows refl)
-  where
-    other : {X : Type 0} (b : Bool) (x : Option X) (y : X) → (if b then None else x) ≡ Some y → x ≡ Some y
-    other true x y is = absurd (cc)
-    other false x y is = is
+closed-load w l = grind (arith, parts, le-self, rows-self)
 
 -- at most a failure of the storage was noted
 pub noted : {w w' : Core} (failures : ℕ) → Alike (record w { failures = failures }) w' → Quiet w w'
-noted failures a =
-    let q = alike a in
-    record { nodes = q.nodes; handles = q.handles; loads_last = q.loads_last; workers_last = q.workers_last; cells = q.cells; stored = q.stored; loads = q.loads; cache = q.cache; rows = q.rows; shut = λ is. q.shut (is.0, is.1) }
+noted failures a = grind (arith, nat_tests, same_some, alike)
 
 pub was-asked : {w w' : Core} → Asked w w' → Quiet w w'
 was-asked a = noted _ a.leaves
 
 was-stored : (key : ℕ) (blob : Blob) (old : ℕ → Option Blob) (new : ℕ → Option Blob) → Adds key blob old new → (q : ℕ) (b : Blob) → old q ≡ Some b → new q ≡ Some b
-was-stored key blob old new adds q b is = at (q == key) refl
-  where
-    at : (t : Bool) → (q == key) ≡ t → new q ≡ Some b
-    at false e = let f : new q ≡ old q = rw e at (adds.each q) in f ∙ is
-    at true e =
-        let f : new q ≡ Some blob = rw e at (adds.each q) in
-        let g : old key ≡ Some b = sym (ap old (same-number q key e)) ∙ is in
-        elim adds.free [
-          | inl none ↦ absurd (cc)
-          | inr same ↦ f ∙ (sym same ∙ g)
-        ]
+was-stored key blob old new adds q b is = grind (arith, same-number)
 
 stays-open : {b : Bool} → b ≡ false → b ≡ true → ⊥
 stays-open still closed = cc
 
 pub stores : {digest : Blob → ℕ} {w w' : Core} {blob : Blob} → (r : Result ℕ Error) → StoreCall digest w blob r w' → Quiet w w'
-stores {digest} {w} {w'} {blob} (Ok key) c =
-    let s = c.stores.1 in
-    let q = alike s.leaves in
-    record {
-      nodes = q.nodes;
-      handles = q.handles;
-      loads_last = q.loads_last;
-      workers_last = q.workers_last;
-      cells = q.cells;
-      stored = was-stored key blob w.stored w'.stored s.adds;
-      loads = q.loads;
-      cache = q.cache;
-      rows = q.rows;
-      shut = λ is. absurd (stays-open s.stands_open is.0);
-    }
+stores {digest} {w} {w'} {blob} (Ok key) c = grind (arith, nat_tests, same_some, alike, was-stored, stays-open)
 stores (Err e) c = was-asked c.refused.0
 
 pub clones : {w w' : Core} {me : Owner} {h : HandleNumber} (r : Result HandleNumber Error) → CloneCall w me h r w' → Quiet w w'
@@ -88,10 +58,7 @@ type-is is = cc
 
 begun-well : (w : Core) (me : Owner) (node : NodeNumber) (t : ℕ) (h : HandleNumber) (key : ℕ) → type_at w node.0 ≡ Some t → key_at w node.0 ≡ OptionalDataKey.Some key
     → BeginsWell w (record { owner = me; key = key; root = of_cell node t h })
-begun-well w me node t h key typed own a u k root =
-    let e : node ≡ a = node-is root in
-    let f : t ≡ u = type-is root in
-    (subst (λ (x : NodeNumber). type_at w x.0 ≡ Some u) e (subst (λ x. type_at w node.0 ≡ Some x) f typed), subst (λ (x : NodeNumber). key_at w x.0 ≡ OptionalDataKey.Some key) e own)
+begun-well w me node t h key typed own a u k root = grind (arith, node-is, type-is)
 
 pub begins : {w w' : Core} {me : Owner} {h : HandleNumber} (r : Result Beginning Error) → BeginCall w me h r w' → Goes nothing_felt w w'
 begins (Ok Beginning.InMemory) c = quiet-goes nothing_felt (alike c.begins.2.1)
@@ -116,14 +83,7 @@ asks {want = Want.Root} (Ok (from_store blob)) c = was-asked c.gives.2.asked
 asks {want = Want.Root} (Ok (from_cache k)) c = absurd c.gives.2
 asks {want = Want.Nested kind key} (Ok (from_cache k)) c = gets-known c.gives.2
 asks {want = Want.Nested kind key} (Ok (from_store blob)) c = was-asked c.gives.2.1.asked
-asks {w} {w'} {me} {l} {want} (Err e) c = elim c.refused [
-  | inl refused ↦ alike refused.stays
-  | inr (load, owned, vain) ↦ in-vain want load vain
-]
-  where
-    in-vain : (want : Want) (load : OpenLoad) → AsksInVain w load want e w' → Quiet w w'
-    in-vain Want.Root load vain = was-asked vain.asked
-    in-vain (Want.Nested kind key) load vain = was-asked vain.1.asked
+asks {w} {w'} {me} {l} {want} (Err e) c = grind (arith, nat_tests, same_some, alike, was-asked)
 
 pub closes : {w w' : Core} (l : LoadNumber) {r : Result (Unit {0}) Error} → LoadCloses w l r w' → Quiet w w'
 closes {w} {w'} l c = quiet-then (closed-load w l) (fell c)

@@ -1,7 +1,7 @@
 -- Trees stay along chains, pins and reads give them, and keys are right.
 use Rattle.pagable_laws.proofs.Words.{ℕ, List, [], ◌∷◌, Ok, Event, EventReply, Call, Reply, Pinning, HandleNumber, Tree, Reading, Values, Seen, IsLawful, MachineState, world_of, IsMachineWhole}
 use Rattle.pagable_laws.proofs.Words.{IsIdle, StandsFor, IsReadingOf, of_caller, of_worker, HoldsSettled, ReadsItsTypes, IsPremised, Moment, AreMoments, TreesAfter, TreesAlong, GivesTree}
-use Rattle.pagable_laws.proofs.Words.{PinGives, IsRight, HasPin, PinHolds, ReadingsGiven, WorkFits, KeysHeld, ReadingsHeld}
+use Rattle.pagable_laws.proofs.Words.{arith, PinGives, IsRight, HasPin, PinHolds, ReadingsGiven, WorkFits, KeysHeld, ReadingsHeld}
 use Rattle.pagable_world.specs.Runs.{Does}
 use Rattle.pagable_laws.proofs.Taking.{pin_stands}
 use Rattle.pagable_laws.proofs.Coming.{StandsIn, event-turns, turns-stand, idle-stands}
@@ -40,11 +40,7 @@ pub record IsGoingOn {N E : Type 0} (v : Values N) (s : MachineState N E) (trees
 
 module _ {N E B W : Type 0} (m : Seen N B W) (lawful : IsLawful m.values) (readable : ReadsItsTypes m.values.types) where
   pub idle-goes : (s : MachineState N E) (trees : ℕ → Tree) → IsMachineWhole m.values s → IsIdle s → HoldsSettled m.values s.pager → StandsFor m.values s trees → IsGoingOn m.values s trees
-  idle-goes s trees whole idle settled stands = record { whole = whole; work = idle-stands s idle; settled = settled; stands = stands; given = λ reading is. absurd (none-reads reading is); fits = fits-at-first m.values s trees idle; held = held-at-first s idle; reads = λ reading is. absurd (none-reads reading is); asked = λ reading is. absurd (none-reads reading is) }
-    where
-      none-reads : (reading : Reading) → IsReadingOf s.work reading → ⊥
-      none-reads reading (of_caller l is) = let f = idle.readings l in cc
-      none-reads reading (of_worker n place walking r through below is todo) = let f = idle.walkings n in cc
+  idle-goes s trees whole idle settled stands = grind (arith, idle-stands, fits-at-first, held-at-first)
 
   -- what one moment comes to
   pub record Goes (s : MachineState N E) (trees : ℕ → Tree) (x : Moment N E B W) : Type 0 where

@@ -33,30 +33,17 @@ grows-self : (slot : Slot) → SlotGrows slot slot
 grows-self slot = record { worker = refl; written = λ w is. is; outcome = λ closed. refl }
 
 pub grows : (v : ℕ) (shelf shelf' : Shelf) → Changes v shelf shelf' → ShelfGrows shelf shelf'
-grows v shelf shelf' changes i slot there = elim (changes i) [
-  | stays same ↦ (slot, same ∙ there, grows-self slot)
-  | is-new new none is of_it ↦ some-none there none
-  | is-changed old slot' was of_it is more ↦ (slot', is, subst (λ s. SlotGrows s slot') (some-same was there) more)
-]
+grows v shelf shelf' changes i slot there = grind (arith, grows-self, some-none, some-same)
 
 -- what another claimed stays as it is
 pub others-stay : (v u : ℕ) (shelf shelf' : Shelf) → Changes v shelf shelf' → nat_eq u v ≡ false → (i : Identity) (slot : Slot) → shelf.slots i ≡ Some slot → slot.worker ≡ u
     → shelf'.slots i ≡ Some slot
-others-stay v u shelf shelf' changes other i slot there of_it = elim (changes i) [
-  | stays same ↦ same ∙ there
-  | is-new new none is own ↦ some-none there none
-  | is-changed old slot' was own is more ↦ let e : old ≡ slot = some-same was there in let f : u ≡ v = sym of_it ∙ (sym (ap (λ (s : Slot). s.worker) e) ∙ own) in absurd (grind (arith, nat_tests))
-]
+others-stay v u shelf shelf' changes other i slot there of_it = grind (arith, some-none, some-same)
 
 -- and what is another's was so
 pub others-were : (v u : ℕ) (shelf shelf' : Shelf) → Changes v shelf shelf' → nat_eq u v ≡ false → (i : Identity) (slot : Slot) → shelf'.slots i ≡ Some slot → slot.worker ≡ u
     → shelf.slots i ≡ Some slot
-others-were v u shelf shelf' changes other i slot there of_it = elim (changes i) [
-  | stays same ↦ sym same ∙ there
-  | is-new new none is own ↦ let e : new ≡ slot = some-same is there in let f : u ≡ v = sym of_it ∙ (sym (ap (λ (s : Slot). s.worker) e) ∙ own) in absurd (grind (arith, nat_tests))
-  | is-changed old slot' was own is more ↦
-      let e : slot' ≡ slot = some-same is there in let f : u ≡ v = sym of_it ∙ (sym (ap (λ (s : Slot). s.worker) e) ∙ (more.worker ∙ own)) in absurd (grind (arith, nat_tests))
-]
+others-were v u shelf shelf' changes other i slot there of_it = grind (arith, some-same)
 
 pub meets-grow : (shelf shelf' : Shelf) (task : Task) (i : Identity) → ShelfGrows shelf shelf' → Meets shelf task i → Meets shelf' task i
 meets-grow shelf shelf' task i more (meets-of-item written r is among) = meets-of-item written r is among
@@ -66,9 +53,7 @@ meets-grow shelf shelf' task i more (meets-below j slot written r meets there is
     meets-below j a.0 written r (meets-grow shelf shelf' task j more meets) a.1 (a.2.written written is) among
 
 pub published-stays : (shelf shelf' : Shelf) (i : Identity) (key height : ℕ) → ShelfGrows shelf shelf' → IsPublished shelf i key height → IsPublished shelf' i key height
-published-stays shelf shelf' i key height more p =
-    let a = more i p.slot p.claimed in
-    record { slot = a.0; claimed = a.1; known = a.2.outcome (ap is_open_outcome p.known) ∙ p.known }
+published-stays shelf shelf' i key height more p = grind arith
 
 -- ---- the ways in which a table changes
 
@@ -79,11 +64,7 @@ pub is-self : (i : Identity) → is_identity i i ≡ true
 is-self i = let a : (i.kind.0 == i.kind.0) ≡ true = grind (arith, nat_tests) in let b : (i.node.0 == i.node.0) ≡ true = grind (arith, nat_tests) in rw (a, b) refl
 
 pub is-same : (i j : Identity) → is_identity i j ≡ true → j ≡ i
-is-same i j is =
-    let both = and_parts (j.kind.0 == i.kind.0) (j.node.0 == i.node.0) is in
-    let k : j.kind.0 ≡ i.kind.0 = same-number j.kind.0 i.kind.0 both.0 in
-    let n : j.node.0 ≡ i.node.0 = same-number j.node.0 i.node.0 both.1 in
-    ap (λ q. record { kind = record { 0 = q }; node = j.node }) k ∙ ap (λ q. record { kind = i.kind; node = record { 0 = q } }) n
+is-same i j is = grind (arith, and_parts, same-number)
 
 -- one slot is put in
 pub record PutsSlot (slots slots' : Identity → Option Slot) (i : Identity) (slot : Slot) : Type 0 where
@@ -91,26 +72,16 @@ pub record PutsSlot (slots slots' : Identity → Option Slot) (i : Identity) (sl
   pub elsewhere : (j : Identity) → is_identity i j ≡ false → slots' j ≡ slots j
 
 pub puts-slot : (shelf shelf' : Shelf) (i : Identity) (slot : Slot) → SameShelf (with_slot shelf i (Some slot)) shelf' → PutsSlot shelf.slots shelf'.slots i slot
-puts-slot shelf shelf' i slot same =
-    record {
-      at = let a = is-self i in same.slots i ∙ ap (λ b. if b then Some slot else shelf.slots i) a;
-      elsewhere = λ j other. same.slots j ∙ ap (λ b. if b then Some slot else shelf.slots j) other;
-    }
+puts-slot shelf shelf' i slot same = grind (arith, is-self)
 
 pub changes-slot : (shelf shelf' : Shelf) (i : Identity) (slot : Slot) (f : Slot → Slot) → shelf.slots i ≡ Some slot → SameShelf (with_changed_slot shelf i f) shelf'
     → PutsSlot shelf.slots shelf'.slots i (f slot)
-changes-slot shelf shelf' i slot f there same =
-    let e : if_there (λ s. Some (f s)) None (shelf.slots i) ≡ Some (f slot) = ap (λ o. if_there (λ s. Some (f s)) None o) there in
-    puts-slot shelf shelf' i (f slot) (subst (λ o. SameShelf (with_slot shelf i o) shelf') e same)
+changes-slot shelf shelf' i slot f there same = grind (arith, puts-slot)
 
 -- what stands there afterwards is this, or stood there
 pub put-cases : (slots slots' : Identity → Option Slot) (i : Identity) (new : Slot) → PutsSlot slots slots' i new → (j : Identity) (slot : Slot) → slots' j ≡ Some slot
     → ((j ≡ i) × (slot ≡ new)) ⊎ ((is_identity i j ≡ false) × (slots j ≡ Some slot))
-put-cases slots slots' i new puts j slot there = by (is_identity i j) refl
-  where
-    by : (b : Bool) → is_identity i j ≡ b → ((j ≡ i) × (slot ≡ new)) ⊎ ((is_identity i j ≡ false) × (slots j ≡ Some slot))
-    by true e = let f = is-same i j e in inl (f, some-same there (ap slots' f ∙ puts.at))
-    by false e = inr (e, sym (puts.elsewhere j e) ∙ there)
+put-cases slots slots' i new puts j slot there = grind (arith, is-same, some-same)
 
 put-by : (v : ℕ) (shelf shelf' : Shelf) (i : Identity) (slot : Slot) → PutsSlot shelf.slots shelf'.slots i slot → SlotChanges v (shelf.slots i) (Some slot) → Changes v shelf shelf'
 put-by v shelf shelf' i slot puts at j = by (is_identity i j) refl
@@ -128,31 +99,15 @@ puts-own v shelf shelf' i old slot puts there of_it more = put-by v shelf shelf'
 
 -- a first result stays
 pub outcome-grows : (outcome : Outcome) (slot : Slot) → SlotGrows slot (with_outcome outcome slot)
-outcome-grows outcome slot = by (is_open_outcome slot.outcome) refl
-  where
-    by : (b : Bool) → is_open_outcome slot.outcome ≡ b → SlotGrows slot (if b then record slot { outcome = outcome } else slot)
-    by true e = record { worker = refl; written = λ w is. is; outcome = λ closed. absurd (cc) }
-    by false e = grows-self slot
+outcome-grows outcome slot = grind (arith, grows-self)
 
 -- of the claims of a worker that fails each has a result
 failed-slot : (slot : Slot) → is_open_outcome (with_outcome failed slot).outcome ≡ false
-failed-slot slot = by (is_open_outcome slot.outcome) refl
-  where
-    by : (b : Bool) → is_open_outcome slot.outcome ≡ b → is_open_outcome (if b then record slot { outcome = failed } else slot).outcome ≡ false
-    by true e = refl
-    by false e = e
+failed-slot slot = grind arith
 
 pub all-failed : (v : ℕ) (shelf shelf' : Shelf) → SameShelf (with_failed shelf v) shelf' → (i : Identity) (slot : Slot) → shelf'.slots i ≡ Some slot → slot.worker ≡ v
     → is_open_outcome slot.outcome ≡ false
-all-failed v shelf shelf' same i slot there own = by (shelf.slots i) (sym (same.slots i) ∙ there)
-  where
-    of-slot : (old : Slot) (b : Bool) → nat_eq old.worker v ≡ b → Some (if b then with_outcome failed old else old) ≡ Some slot → is_open_outcome slot.outcome ≡ false
-    of-slot old true e is = subst (λ s. is_open_outcome s.outcome ≡ false) (some-same refl is) (failed-slot old)
-    of-slot old false e is = let f : old ≡ slot = some-same refl is in let g : old.worker ≡ v = ap (λ (s : Slot). s.worker) f ∙ own in absurd (grind (arith, nat_tests))
-
-    by : (o : Option Slot) → if_there (λ (slot : Slot). Some (if nat_eq slot.worker v then with_outcome failed slot else slot)) None o ≡ Some slot → is_open_outcome slot.outcome ≡ false
-    by None is = absurd (cc)
-    by (Some old) is = of-slot old (nat_eq old.worker v) refl is
+all-failed v shelf shelf' same i slot there own = grind (arith, some-same, failed-slot)
 
 -- none comes by that
 pub none-fails : (v : ℕ) (shelf shelf' : Shelf) → SameShelf (with_failed shelf v) shelf' → (i : Identity) → shelf.slots i ≡ None → shelf'.slots i ≡ None

@@ -1,7 +1,7 @@
 -- Whatever a worker does, what stands of its list and of its table stands afterwards.
 use Rattle.pagable_laws.proofs.Words.{◌≡◌, ℕ, true, List, [], ◌∷◌, refl, ap, sym, subst, ◌∙◌, Ok, Err, Option, Some, None, is_some, ArcRef, Identity, WorkerAnswer, Claim, PinStep, Took}
 use Rattle.pagable_laws.proofs.Words.{identity_of, no_result, answer_of_fault, Written, Todo, to_start, to_pin, to_load, to_write, to_finish, to_item, to_set, to_publish, to_release, to_fail}
-use Rattle.pagable_laws.proofs.Words.{Task, Seen, Site, Does, give, give_known, with_wait, answer_after, IsPublished, gone_on}
+use Rattle.pagable_laws.proofs.Words.{arith, Task, Seen, Site, Does, give, give_known, with_wait, answer_after, IsPublished, gone_on}
 use Rattle.pagable_laws.proofs.Standing.{is_open_in, AllStand, Covers, HasNoFailed, HasClaim}
 use Rattle.pagable_laws.proofs.Changing.{puts-slot}
 use Rattle.pagable_laws.proofs.Going.{CoversBy, Goes, plain, fails, swaps, gives, given-open}
@@ -56,11 +56,7 @@ module _ {N B W : Type 0} (m : Seen N B W) (v : ℕ) (task : Task) (s s' : Site)
   go (to_write r place through ∷ below) e all covers (Took.Write i (Ok out)) (is, p) = to-list p.writes.list_is
       (written-goes v task s.shelf s'.shelf clean r place through (m.written_of out) below all covers p.writes.table_is)
   go (to_write r place through ∷ below) e all covers (Took.Write i (Err f)) (is, p) = to-list p.refused.1.list_is (fails v task s.shelf s'.shelf p.refused.1.table_is.slots clean _ _)
-  go (to_finish o ∷ below) e all covers (Took.Store i (Ok key)) (is, p) =
-      to-list p.goes.list_is (swaps v task s.shelf s'.shelf p.goes.table_stays.slots clean (to_finish o) (to_set o.reference o.through key o.height) below all covers (λ i. refl) (λ stands. (stands.0, wrote stands.1)))
-    where
-      wrote : {i : Identity} {written : Written} → HasClaim s.shelf v i (λ w. w ≡ Some written) → HasClaim s.shelf v i (λ w. is_some w ≡ true)
-      wrote c = record { slot = c.slot; claimed = c.claimed; own = c.own; no_result_yet = c.no_result_yet; written_so = ap is_some c.written_so }
+  go (to_finish o ∷ below) e all covers (Took.Store i (Ok key)) (is, p) = grind (arith, to-list, swaps)
   go (to_finish o ∷ below) e all covers (Took.Store i (Err f)) (is, p) = to-list p.refused.list_is (fails v task s.shelf s'.shelf p.refused.table_stays.slots clean _ _)
   go (to_item written keys ∷ below) e ((is_of, last), apart, rest) covers (Took.Store i (Ok key)) (is, p) =
       to-list p.goes.list_is (plain v task s.shelf s'.shelf p.goes.table_stays.slots clean _ [] (λ a is. refl) tt (λ i slot there own still. subst (λ b. is_open_in i b ≡ true) last (covers i slot there own still)))

@@ -24,18 +24,7 @@ none-more a b le = omega arith
 claim-comes : {N B W : Type 0} (m : Seen N B W) (v : ℕ) (s s' : Site) (i : Identity) (todo : List Todo) (step : Took W) → Does m v s todo step s'
     → one (is_some (s.shelf.slots i)) ≤ one (is_some (s'.shelf.slots i))
     → one (is_some (s.shelf.slots i)) + one (is_claim_of i step) ≤ one (is_some (s'.shelf.slots i))
-claim-comes m v s s' i (to_start r place ∷ below) (Took.Claim j (Ok Claim.Claimed)) (is, c) more = by (is_identity i j) refl
-  where
-    puts : PutsSlot s.shelf.slots s'.shelf.slots (identity_of r) (record { worker = v; written = None; outcome = no_result })
-    puts = puts-slot (with_wait s.shelf v None) s'.shelf (identity_of r) (record { worker = v; written = None; outcome = no_result }) c.finds.1.2.table_is
-
-    by : (b : Bool) → is_identity i j ≡ b → one (is_some (s.shelf.slots i)) + one b ≤ one (is_some (s'.shelf.slots i))
-    by false e = none-more _ _ more
-    by true e =
-        let at : identity_of r ≡ i = sym is ∙ is-same i j e in
-        let none = ap (λ o. one (is_some o)) (sym (ap s.shelf.slots at) ∙ c.finds.1.1) in
-        let there = ap (λ o. one (is_some o)) (sym (ap s'.shelf.slots at) ∙ puts.at) in
-        rw (none, there) (omega arith)
+claim-comes m v s s' i (to_start r place ∷ below) (Took.Claim j (Ok Claim.Claimed)) (is, c) more = grind (arith, puts-slot, none-more, is-same)
 claim-comes m v s s' i todo (Took.Claim j (Ok Claim.Claimed)) does more = absurd does
 claim-comes m v s s' i todo step does more = none-more _ _ more
 

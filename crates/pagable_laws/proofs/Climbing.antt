@@ -50,14 +50,7 @@ module _ (trees : ℕ → Tree) (rs : List ArcRef) (whole : Meaning ⊥) where
   parts-along none-follows h d s = none-along
   parts-along (pair-follows x y a b f g) h d s = pair-along _ _ _ _ (parts-along f (omega arith) (omega arith) (omega arith)) (parts-along g (omega arith) (omega arith) (omega arith))
   parts-along (variant-follows i x a f) h d s = variant-along _ _ _ (parts-along f h d s)
-  parts-along (reference-follows r a among is) h d s = reference-along _ _ (record {
-    same = refl;
-    part = record {
-      top = subst (λ x. above r.kind.0 (height x) ≤ height whole) (sym is) h;
-      deep = subst (λ x. deepest_path x ≤ deepest_path whole) (sym is) (omega arith);
-      small = subst (λ x. suc (size x) ≤ size whole) (sym is) s;
-    };
-  })
+  parts-along (reference-follows r a among is) h d s = grind (arith, reference-along, size)
 
 each-two : {X Y : Type 0} {R : X → Y → Type 0} {xs : List X} {ys : List Y} → AllTwo R xs ys → (x : X) → Among xs x → (y : Y) × R x y
 each-two no-two x (i, e) = absurd (cc)
@@ -91,23 +84,7 @@ climbs-entry h d within long = omega arith
 
 -- no reference is refused as too deep before its place is looked at
 no-claim-deep : (w : Core) (r : ArcRef) → claim_fault w r ≡ Some Error.TooDeep → ⊥
-no-claim-deep w r is = by (row_at w r.handle) is
-  where
-    kind : (b : Bool) → refused_if b Error.WrongKind ≡ Some Error.TooDeep → ⊥
-    kind true e = cc
-    kind false e = cc
-
-    fits : (a b : Bool) → or_else None (if a then Some Error.WrongMode else refused_if b Error.WrongKind) ≡ Some Error.TooDeep → ⊥
-    fits true b e = cc
-    fits false b e = kind b e
-
-    row : (a b c : Bool) → (if a then Some Error.NoSuchHandle else or_else None (if b then Some Error.WrongMode else refused_if c Error.WrongKind)) ≡ Some Error.TooDeep → ⊥
-    row true b c e = cc
-    row false b c e = fits b c e
-
-    by : (o : Option HandleRow) → if_there (row_fault w r None) (Some Error.NoSuchHandle) o ≡ Some Error.TooDeep → ⊥
-    by None e = cc
-    by (Some h) e = row (not (h.node.0 == r.node.0)) (not (fits_mode r.kind.0 h.mode)) (not (is_type (type_of r.kind.0) (type_at w r.node.0))) e
+no-claim-deep w r is = grind arith
 
 less-still : {a b c : ℕ} → suc a ≤ b → c ≤ a → b ≡ c → ⊥
 less-still lt le e = absurd (omega arith)
@@ -145,9 +122,7 @@ module _ {N E : Type 0} (v : Values N) (s : MachineState N E) (trees : ℕ → T
   leads-down : (n : ℕ) (task : Task) (r : ArcRef) (below : List Todo) → Expects task r below → Waits shelf task below → AllStand shelf n task below → WaitsLow shelf below
       → longest_path < max (place_over r below + height (trees r.node.0).meaning) (deepest_path (trees r.node.0).meaning) → IsTooDeepTask trees task
   unfolding Waits AllStand WaitsLow
-  leads-down n (of_entry q i) r [] expects waits all lows long =
-      let m = (trees r.node.0).meaning in
-      subst (λ (j : Identity). longest_path < deepest_path (trees j.node.0).meaning) expects (climbs-entry (height m) (deepest_path m) (height-within m) long)
+  leads-down n (of_entry q i) r [] expects waits all lows long = grind (arith, climbs-entry, height-within)
   leads-down n (of_item written) r [] expects waits all lows long = absurd expects
   leads-down n task r (to_finish o ∷ below) (more, e) (known, expects, waits) (stands, apart, all) (first, attained, fits, place, lows) long =
       let claim = stands.1 in

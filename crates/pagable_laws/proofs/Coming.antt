@@ -184,9 +184,4 @@ turns-stand m {u} {u'} turns work =
 
 -- and so it does where nobody works yet
 pub idle-stands : {N E : Type 0} (s : MachineState N E) → IsIdle s → StandsIn (world_of s)
-idle-stands s idle =
-    record {
-      slots = λ t i slot there. some-none there (idle.shelves t i);
-      workers = λ v w there. some-none there (idle.walkings v);
-      numbered = λ v w there. some-none there (idle.walkings v);
-    }
+idle-stands s idle = grind (arith, some-none)

@@ -1,4 +1,5 @@
 -- The worked examples, by computation.
+use Rattle.pagable_laws.proofs.Words.{arith}
 use Rattle.pagable_laws.proofs.Words.{◌≡◌, ℕ, Bool, true, false, cond, if◌then◌else◌, refl, lit<, lit≤, pos, negsuc, [], ◌∷◌, List, codes, ◌⊎◌, inl, inr, IsUtf8-from_is_utf8, varint, varint_at}
 use Rattle.pagable_laws.proofs.Words.{length_at, text_at, bool_at, char_at, duration_at, integer, text, absent, rename, plain, nothing, nested, tagged_by, is_registered, body_of, code, put_all}
 use Rattle.pagable_laws.proofs.Words.{items, read_with, below, read, nothing-form, unsigned-form, signed-form, none-form, some-form, list-form, run-form, no-forms, more-forms, json-number-form}
@@ -85,27 +86,15 @@ trees_keyed = key-of _ _ (0x01 ∷ []) (kid 4 absent ∷ []) (1 ∷ []) refl (so
     (more-keys _ _ _ _ (key-of _ _ (0x00 ∷ []) [] [] refl (none-form _ _) no-keys) no-keys)
 
 cat_written : (tag : List ℕ) → HasNoCase (only_cat tag) ⊎ ((is_registered cats tag ≡ true) × (body_of cats tag ≡ only_cat tag))
-cat_written tag = at (bytes_eq tag (codes "Cat"))
-  where
-    at : (t : Bool) → HasNoCase (if t then nothing else unwritten) ⊎ ((cond false false t ≡ true) × (cond false nothing nothing ≡ (if t then nothing else unwritten)))
-    at true = inr (refl, refl)
-    at false = inl (λ n. refl)
+cat_written tag = grind arith
 
 cat_lies : (tag : List ℕ) → LiesIn (λ n. Unit {0}) (λ n. ⊥) (only_cat tag)
 unfolding LiesIn
-cat_lies tag = at (bytes_eq tag (codes "Cat"))
-  where
-    at : (t : Bool) → LiesIn (λ n. Unit {0}) (λ n. ⊥) (if t then nothing else unwritten)
-    at true = tt
-    at false = λ n e. cc
+cat_lies tag = grind arith
 
 cat_canonical : (tag : List ℕ) → IsCanonical (only_cat tag)
 unfolding IsCanonical
-cat_canonical tag = at (bytes_eq tag (codes "Cat"))
-  where
-    at : (t : Bool) → IsCanonical (if t then nothing else unwritten)
-    at true = tt
-    at false = λ n e. cc
+cat_canonical tag = grind arith
 
 pub shapes_met : ShapesAreMet
 unfolding IsReadable IsCanonical LiesIn

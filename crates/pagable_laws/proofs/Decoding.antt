@@ -137,10 +137,7 @@ refs-of {r} {q} kind node handle =
 
 same-ref : (r q : ArcRef) → is_ref r q ≡ true → q ≡ r
 unfolding is_ref
-same-ref r q is =
-    let one_two = and_parts (q.kind.0 == r.kind.0) ((q.node.0 == r.node.0) && (q.handle.0 == r.handle.0)) is in
-    let two = and_parts (q.node.0 == r.node.0) (q.handle.0 == r.handle.0) one_two.1 in
-    refs-of (same-number _ _ one_two.0) (same-number _ _ two.0) (same-number _ _ two.1)
+same-ref r q is = grind (arith, and_parts, refs-of, same-number)
 
 is-itself : (r : ArcRef) → is_ref r r ≡ true
 unfolding is_ref

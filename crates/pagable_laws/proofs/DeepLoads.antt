@@ -39,18 +39,10 @@ no-spent : (n : ℕ) → No (spent n)
 no-spent n = no-test _ Error.NumbersSpent (λ e. cc)
 
 no-load : (w : Core) (me : Owner) (l : LoadNumber) → No (load_fault w me l)
-no-load w me l is = at (w.loads l.0) is
-  where
-    at : (found : Option OpenLoad) → No (if_there (λ (load : OpenLoad). refused_if (not (is_owner me load.owner)) Error.NotYours) (Some Error.NoSuchHandle) found)
-    at None is = cc
-    at (Some load) is = no-test (not (is_owner me load.owner)) Error.NotYours (λ e. cc) is
+no-load w me l is = grind (arith, no-test)
 
 no-node : (w : Core) (kind : Kind) (key : ℕ) → No (node_fault w kind key)
-no-node w kind key is = at (is_usable w kind key) is
-  where
-    at : (b : Bool) → No (if b then spent w.last.handle else birth_fault w)
-    at true is = no-spent w.last.handle is
-    at false is = no-earlier (spent w.last.node) (spent w.last.handle) (no-spent w.last.node) (no-spent w.last.handle) is
+no-node w kind key is = grind (arith, no-spent, no-earlier)
 
 no-named : (w : Core) (owner : Owner) (seen : List ℕ) (hs : List HandleNumber) → No (named_fault w owner seen hs)
 unfolding named_fault
@@ -63,20 +55,11 @@ no-named w owner seen (h ∷ hs) is = no-earlier _ _ (λ e. at (row_at w h) e) (
 
 no-root : (w : Core) (me : Owner) (t : ℕ) (found : Option OpenLoad) → No (if_there (λ (load : OpenLoad). root_fault w me t load.root) None found)
 no-root w me t None is = cc
-no-root w me t (Some load) is = at load.root is
-  where
-    at : (root : Root) → No (root_fault w me t root)
-    at (of_cell node u h) e = no-earlier (refused_if (not (t == u)) Error.WrongKind) (where_so (is_owned_in w me h.0) (spent w.last.handle)) (no-test (not (t == u)) Error.WrongKind
-        (λ f. cc)) (no-where (is_owned_in w me h.0) (spent w.last.handle) (no-spent w.last.handle)) e
-    at of_key e = cc
+no-root w me t (Some load) is = grind (arith, no-earlier, no-test, no-where, no-spent)
 
 no-cell : (found : Option OpenLoad) → No (if_there (λ (load : OpenLoad). cell_fault load.root) None found)
 no-cell None is = cc
-no-cell (Some load) is = at load.root is
-  where
-    at : (root : Root) → No (cell_fault root)
-    at (of_cell node u h) e = cc
-    at of_key e = cc
+no-cell (Some load) is = grind arith
 
 not-refused : {cause before : Option Error} {full : Type 0} {w w' : Core} → Refused cause before full w Error.TooDeep w' → No cause → ⊥
 not-refused r none = elim r.why [ inl is ↦ none is | inr memory ↦ absurd (let e = memory.0 in cc) ]
@@ -171,10 +154,7 @@ module _ {N B W : Type 0} (m : Seen N B W) (lawful : IsLawful m.values) (w : Cor
   not-vain (Want.Nested kind key) load u f = f.1.refused
 
   not-asked : (want : Want) (u : Core) → AskCall w me reading.load want (Err Error.TooDeep) u → ⊥
-  not-asked want u c = elim c.refused [
-    | inl r ↦ not-refused r (no-earlier _ _ (no-load w me reading.load) (no-where (is_known w want) (spent w.last.handle) (no-spent w.last.handle)))
-    | inr (load, owned, vain) ↦ not-vain want load u vain
-  ]
+  not-asked want u c = grind (arith, not-refused, no-earlier, no-load, no-where, no-spent, not-vain)
 
   nested-deep : (u : Core) → RefusesNested m.values.types w me reading Error.TooDeep u → Deep
   nested-deep u (kind, key, needs, inl c) = absurd (not-asked (Want.Nested kind key) u c)
@@ -215,9 +195,7 @@ module _ {N B W E : Type 0} (m : Seen N B W) (lawful : IsLawful m.values) (s s' 
   by-first : (me : Owner) (reading : Reading) (load : OpenLoad) → reading.frames ≡ [] → (w' : Core) → Fails m.values s.pager.core me reading Error.TooDeep w'
       → ReadsTooDeep m.values.types s.pager.core.stored reading.node_type load.key
   unfolding FramesFit FramesAsked
-  by-first me reading load none w' fails =
-      fails-deep m lawful s.pager.core me reading trees load.key reading.node_type (subst (λ fs. FramesFit m.values.types s.pager.core.stored trees load.key reading.node_type fs) (sym none) tt)
-      (subst (λ fs. FramesAsked m.values.types fs) (sym none) tt) w' fails
+  by-first me reading load none w' fails = grind (arith, fails-deep)
 
   load-deep : (event : Event N B W) (reply : EventReply N B W) → Happens m (world_of s) event reply (world_of s') → LoadIsDeep m.values s trees event reply s' trees'
   load-deep (Event.LoadStep l) (EventReply.LoadMoved (Ok reply)) is = λ reading load at open_load ended.
@@ -249,6 +227,4 @@ module _ {N B W E : Type 0} (m : Seen N B W) (lawful : IsLawful m.values) (s s' 
   load-deep (Event.WorkerListed t i) reply is = tt
 
 pub deep_load_law : {N B W : Type 0} (E : Type 0) (m : Seen N B W) → DeepLoadLaw E m
-deep_load_law E m start moments trees whole idle chain stands lawful readable settled =
-    along-first m lawful readable (LoadIsDeep m.values)
-    (λ s s' trees trees' event reply on low is. load-deep m lawful s s' trees trees' on event reply is) start moments trees whole idle chain stands settled
+deep_load_law E m start moments trees whole idle chain stands lawful readable settled = grind (arith, along-first, load-deep)

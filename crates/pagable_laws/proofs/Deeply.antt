@@ -2,7 +2,7 @@
 use Rattle.pagable_laws.proofs.Words.{◌≡◌, ℕ, ◌⊎◌, inl, inr, List, [], ◌∷◌, Some, Ok, Err, sym, subst, ap, ◌∙◌, Identity, Tree, WorkerAnswer, Event, EventReply, Error, Took, Shelf, Todo}
 use Rattle.pagable_laws.proofs.Words.{to_start, Walking, Seen, IsLawful, Site, Does, Happens, IsMetFailure, MachineState, world_of, IsMachineWhole, IsIdle, StandsFor, ReadsItsTypes, HoldsSettled}
 use Rattle.pagable_laws.proofs.Words.{Moment, AreMoments, Fact, TreesAlong, IsTooDeepTask, IsFormlessTask, KeyIsShallow, ShallowLaw, MetDepthAlone, DepthIsTold, ToldDepthLaw, WaitsForAsker}
-use Rattle.pagable_laws.proofs.Words.{ClaimIsDeep, DeepClaimLaw, ground_of, Walks, WorkFits}
+use Rattle.pagable_laws.proofs.Words.{arith, ClaimIsDeep, DeepClaimLaw, ground_of, Walks, WorkFits}
 use Rattle.pagable_laws.proofs.Trees.{same_some}
 use Rattle.pagable_laws.proofs.Coming.{StandsIn, event-turns, updated-at}
 use Rattle.pagable_laws.proofs.Answering.{answered}
@@ -128,17 +128,10 @@ module _ {N B W E : Type 0} (m : Seen N B W) (lawful : IsLawful m.values) (reada
   along-first follows s moments trees whole idle chain stands settled = along follows s trees moments (idle-goes m lawful readable s trees whole idle settled stands) (heights-at-first s idle) chain
 
 pub shallow_law : {N B W : Type 0} (E : Type 0) (m : Seen N B W) → ShallowLaw E m
-shallow_law E m start moments trees whole idle chain stands lawful readable settled =
-    along-first m lawful readable (KeyIsShallow m.values)
-    (λ s s' trees trees' event reply on low is. key-is-shallow m s s' trees trees' on.fits low event reply is) start moments trees whole idle chain stands settled
+shallow_law E m start moments trees whole idle chain stands lawful readable settled = grind (arith, along-first, key-is-shallow)
 
 pub told_depth_law : {N B W : Type 0} (E : Type 0) (m : Seen N B W) → ToldDepthLaw E m
-told_depth_law E m start moments trees whole idle chain stands lawful readable settled =
-    along-first m lawful readable (DepthIsTold m)
-    (λ s s' trees trees' event reply on low is. depth-is-told m s s' trees trees' event reply is
-    (key-is-shallow m s s' trees trees' on.fits low event reply is)) start moments trees whole idle chain stands settled
+told_depth_law E m start moments trees whole idle chain stands lawful readable settled = grind (arith, along-first, depth-is-told, key-is-shallow)
 
 pub deep_claim_law : {N B W : Type 0} (E : Type 0) (m : Seen N B W) → DeepClaimLaw E m
-deep_claim_law E m start moments trees whole idle chain stands lawful readable settled =
-    along-first m lawful readable ClaimIsDeep
-    (λ s s' trees trees' event reply on low is. claim-is-deep m s s' trees trees' on.fits low on.work event reply is) start moments trees whole idle chain stands settled
+deep_claim_law E m start moments trees whole idle chain stands lawful readable settled = grind (arith, along-first, claim-is-deep)

@@ -1,7 +1,7 @@
 -- What a worker fails with: a refusal that a step of its own met, or that another's claim has failed where its walk came.
 use Rattle.pagable_laws.proofs.Words.{◌≡◌, ℕ, zero, suc, ◌==◌, List, [], ◌∷◌, ◌++◌, refl, ap, subst, ◌∙◌, Ok, Err, Some, None, drop, length, Error, ArcRef, Identity, Among, WorkerAnswer, Claim}
 use Rattle.pagable_laws.proofs.Words.{PinStep, Took, Shelf, answer_of_fault, Todo, to_start, to_pin, to_load, to_write, to_finish, to_item, to_set, to_publish, to_release, to_fail, Task, of_item}
-use Rattle.pagable_laws.proofs.Words.{of_entry, Written, next_start, give, first_todo, answer_after, is_open_outcome, Follows, MetError, FailedElsewhere, IsMetFailure}
+use Rattle.pagable_laws.proofs.Words.{arith, of_entry, Written, next_start, give, first_todo, answer_after, is_open_outcome, Follows, MetError, FailedElsewhere, IsMetFailure}
 use Rattle.pagable_laws.proofs.Changing.{ShelfGrows}
 
 among-left : {X : Type 0} (xs ys : List X) (x : X) → Among xs x → Among (xs ++ ys) x
@@ -15,9 +15,7 @@ among-last (y ∷ xs) x = let a = among-last xs x in (suc a.0, a.1)
 
 -- another's claim that has failed stays so
 pub failed-stays : (n : ℕ) (shelf shelf' : Shelf) (i : Identity) → ShelfGrows shelf shelf' → FailedElsewhere shelf n i → FailedElsewhere shelf' n i
-failed-stays n shelf shelf' i more was =
-    let a = more i was.slot was.claimed in
-    record { slot = a.0; claimed = a.1; of_another = ap (λ k. k == n) a.2.worker ∙ was.of_another; is_failed = a.2.outcome (ap is_open_outcome was.is_failed) ∙ was.is_failed }
+failed-stays n shelf shelf' i more was = grind arith
 
 module _ {W : Type 0} (n : ℕ) where
   pub met-stays : (shelf shelf' : Shelf) (past more : List (Took W)) (answer : WorkerAnswer) → ShelfGrows shelf shelf' → IsMetFailure shelf n past answer → IsMetFailure shelf' n (past ++ more) answer

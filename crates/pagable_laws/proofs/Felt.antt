@@ -43,29 +43,12 @@ module _ {N E : Type 0} {v : Values N} {s s' : PagerState N E} {trees : ℕ → 
   live-after n x is = cell-of well'.whole.handles n (given-of well'.whole.handles n (well'.typed n x is)).0
 
   came : (n : ℕ) (x : N) → s'.values n ≡ Some x → is_here s'.core n ≡ true
-  came n x is =
-      let there = live-after n x is in
-      let some : is_some (s'.values n) ≡ true = ap is_some is in
-      let both : (is_some (s'.core.cells n) && is_here s'.core n) ≡ true = sym (well'.valued n) ∙ some in
-      second (is_some (s'.core.cells n)) (is_here s'.core n) both
-    where
-      second : (a b : Bool) → (a && b) ≡ true → b ≡ true
-      second true b e = e
-      second false b e = absurd (cc)
+  came n x is = grind (arith, live-after)
 
   -- where nothing is born and no value can come to an old node, none comes
   pub none-comes : (n : ℕ) (x : N) → CoreGoes nothing_felt s.core s'.core → s.values n ≡ None → s'.values n ≡ Some x → IsNewNode s.core n ⊎ StaysAway s.core s'.core n → ⊥
   none-comes n x goes none is (inl new) = (goes.new n new (live-after n x is)).born
-  none-comes n x goes none is (inr away) = elim (either-side n last) [
-    | inl within ↦
-        let was = (goes.old n within (live-after n x is)).was in
-        let gone : is_some (s.values n) ≡ false = ap is_some none in
-        let off = both-true (is_some (s.core.cells n)) (is_here s.core n) was (sym gone ∙ well.valued n) in
-        let off' = away off (live-after n x is) in
-        let on = came n x is in
-        absurd (cc)
-    | inr above ↦ (goes.new n above (live-after n x is)).born
-  ]
+  none-comes n x goes none is (inr away) = grind (arith, either-side, live-after, both-true, came)
 
   -- nothing is felt, and what comes to an old node fits
   pub fits-nothing : (comes : ℕ → N → Type 0) → ((n : ℕ) (x : N) → comes n x → s.values n ≡ None → s'.values n ≡ Some x → ValueLeads v trees x (trees n))
@@ -73,30 +56,11 @@ module _ {N E : Type 0} {v : Values N} {s s' : PagerState N E} {trees : ℕ → 
   fits-nothing comes fit = record { same = λ n within. refl; sets = λ n key is. absurd is; born = λ t own is. absurd is; keyed = λ t key is. absurd is; knows = λ kind key n is. absurd is; comes_well = fit }
 
   pub fits-key : (comes : ℕ → N → Type 0) (m k : ℕ) → ((n : ℕ) (x : N) → comes n x → ⊥) → ReadsTree s'.core.stored v.types k (trees m) → ChangeFits v (sets_key m k) comes s s' trees trees
-  fits-key comes m k none reads =
-      record {
-        same = λ n within. refl;
-        sets = λ n key is. subst (λ q. ReadsTree s'.core.stored v.types q (trees n)) (sym is.1) (subst (λ z. ReadsTree s'.core.stored v.types k (trees z)) (sym is.0) reads);
-        born = λ t own is. absurd is;
-        keyed = λ t key is. absurd is;
-        knows = λ kind key n is. absurd is;
-        comes_well = λ n x is. absurd (none n x is);
-      }
+  fits-key comes m k none reads = grind arith
 
   pub fits-known : (comes : ℕ → N → Type 0) (k q m : ℕ) → ((n : ℕ) (x : N) → comes n x → ⊥) → ReadsNodeTree v.types s'.core.stored trees q (type_of k) m
       → ChangeFits v (knows_node k q m) comes s s' trees trees
-  fits-known comes k q m none reads =
-      record {
-        same = λ n within. refl;
-        sets = λ n key is. absurd is;
-        born = λ t own is. absurd is;
-        keyed = λ t key is. absurd is;
-        knows = λ kind key n is. known-at kind key n is.0 is.1 is.2;
-        comes_well = λ n x is. absurd (none n x is);
-      }
-    where
-      known-at : (kind key n : ℕ) → kind ≡ k → key ≡ q → n ≡ m → ReadsNodeTree v.types s'.core.stored trees key (type_of kind) n
-      known-at kind key n e1 e2 e3 = rw (e1, e2, e3) reads
+  fits-known comes k q m none reads = grind arith
 
   module _ (t0 : Tree) where
     abbrev more : ℕ → Tree

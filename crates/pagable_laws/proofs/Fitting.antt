@@ -69,12 +69,7 @@ module _ {stored stored' : ℕ → Option Blob} {types : Types} (kept : KeepsSto
 
 module _ {types : Types} {stored : ℕ → Option Blob} {trees : ℕ → Tree} where
   new-fits : (frame : Frame) → frame.got ≡ [] → stored frame.key ≡ Some frame.blob → FrameFits types stored trees frame
-  new-fits frame none_got is =
-      record {
-        is = is;
-        few = let e : length frame.got ≡ 0 = rw none_got refl in omega (arith, e);
-        got = λ place key r there at. let e : slice_get frame.got place ≡ slice_get [] place = ap (λ (rs : List ArcRef). slice_get rs place) none_got in absurd (cc);
-      }
+  new-fits frame none_got is = grind arith
 
   got-fits : (frame : Frame) (q : ArcRef) (key : ℕ) → slice_get frame.blob.keys (length frame.got) ≡ Some key → ReadsNodeTree types stored trees key (type_of q.kind.0) q.node.0
       → FrameFits types stored trees frame

@@ -74,11 +74,7 @@ module _ {N E : Type 0} {v : Values N} {s : PagerState N E} (settled : HoldsSett
 -- ---- what is live
 
 nothing-typed : (w : Core) (n t : ℕ) → type_at w n ≡ Some t → is_some (w.cells n) ≡ true
-nothing-typed w n t is = of (w.cells n) is
-  where
-    of : (c : Option Cell) → if_there (λ (cell : Cell). Some cell.node_type) None c ≡ Some t → is_some c ≡ true
-    of None e = absurd (cc)
-    of (Some c) e = refl
+nothing-typed w n t is = grind arith
 
 module _ {w : Core} (whole : HandlesAreWhole w) (n : ℕ) where
   pub held-of : is_some (w.cells n) ≡ true → 0 < held n w.rows
@@ -184,10 +180,7 @@ module _ {N E : Type 0} {v : Values N} {s : PagerState N E} {trees : ℕ → Tre
 
   -- what a worker writes of a node
   pub wrote : (n : ℕ) (written : Written) → IsWrittenOf v s n written → WroteTree v.types (record { stored = s.core.stored; last = s.core.last.node; trees = trees }) n written
-  wrote n written w =
-      let there : is_some (s.values n) ≡ true = ap is_some w.held in
-      let live = held-of whole.whole.handles n (first-true _ _ (sym (whole.valued n) ∙ there)) in
-      wrote-of n written (trees n) refl (represents.stands n live) w
+  wrote n written w = grind (arith, held-of, first-true, wrote-of)
 
 -- ---- its tree's form and key
 

@@ -204,37 +204,14 @@ le-of : (a b : ℕ) → b ≡ a → a ≤ b
 le-of a b is = omega arith
 
 pub alike : {w w' : Core} → Alike w w' → Quiet w w'
-alike {w} {w'} a =
-    record {
-      nodes = le-of _ _ (ap (λ (l : Last). l.node) a.last);
-      handles = le-of _ _ (ap (λ (l : Last). l.handle) a.last);
-      loads_last = le-of _ _ (ap (λ (l : Last). l.load) a.last);
-      workers_last = le-of _ _ (ap (λ (l : Last). l.worker) a.last);
-      cells = λ n cell is. sym (a.cells n) ∙ is;
-      stored = λ q blob is. a.stored q ∙ is;
-      loads = λ l load is. sym (a.loads l) ∙ is;
-      cache = a.cache.only;
-      rows = rows-self w.last.handle w.rows w'.rows a.rows;
-      shut = λ is. (a.closed ∙ is.0, λ q. a.stored q ∙ is.1 q);
-    }
+alike {w} {w'} a = grind (arith, le-of, rows-self)
 
 -- nodes and what is stored stay, and what is said of the other parts is so
 pub parts : {w : Core} {rows : List HandleRow} {list : List HandleNumber} {cells : ℕ → Option Cell} {loads : ℕ → Option OpenLoad} {cache : ℕ → ℕ → Option ℕ} {workers : ℕ → Bool} {last worker : ℕ}
     → w.last.handle ≤ last → w.last.worker ≤ worker → ((n : ℕ) (cell : Cell) → cells n ≡ Some cell → w.cells n ≡ Some cell) → ((l : ℕ) (load : OpenLoad) → loads l ≡ Some load → w.loads l ≡ Some load)
     → ((kind key n : ℕ) → cache kind key ≡ Some n → w.cache kind key ≡ Some n) → RowsGo w.last.handle w.rows rows
     → Quiet w (record w { rows = rows; list = list; cells = cells; loads = loads; cache = cache; workers = workers; last = record w.last { handle = last; worker = worker } })
-parts {w} handles workers cells loads cache go = record {
-  nodes = le-self w.last.node;
-  handles = handles;
-  loads_last = le-self w.last.load;
-  workers_last = workers;
-  cells = cells;
-  stored = λ q blob is. is;
-  loads = loads;
-  cache = cache;
-  rows = go;
-  shut = λ is. is;
-}
+parts {w} handles workers cells loads cache go = grind (arith, le-self)
 
 pub quiet-self : (w : Core) → Quiet w w
 quiet-self w = parts (le-self _) (le-self _) (λ n cell is. is) (λ l load is. is) (λ kind key n is. is) (rows-self w.last.handle w.rows w.rows refl)
@@ -265,19 +242,7 @@ a-handle w node mode owner = only-rows (rows-more w.last.handle w.rows _ (λ q f
 -- ---- steps that are felt
 
 pub quiet-goes : (c : Change) {w w' : Core} → Quiet w w' → Goes c w w'
-quiet-goes c q =
-    record {
-      nodes = q.nodes;
-      handles = q.handles;
-      loads_last = q.loads_last;
-      workers_last = q.workers_last;
-      cells = λ n cell is. inl (record { was = cell; live = q.cells n cell is; typed = refl; key = inl refl });
-      stored = q.stored;
-      loads = λ l load is. inl (q.loads l load is);
-      cache = λ kind key n is. inl (q.cache kind key n is);
-      rows = q.rows;
-      shut = q.shut;
-    }
+quiet-goes c q = grind arith
 
 pub goes-quiet : {c : Change} {w m w' : Core} → Goes c w m → Quiet m w' → Goes c w w'
 goes-quiet {c} {w} {m} {w'} a b =
@@ -296,29 +261,10 @@ goes-quiet {c} {w} {m} {w'} a b =
 
 -- at a number, or elsewhere
 pub at-updated : {X : Type 0} (m : ℕ) (x : Option X) (f : ℕ → Option X) (n : ℕ) (y : X) → updated m x f n ≡ Some y → ((n ≡ m) × (x ≡ Some y)) ⊎ (f n ≡ Some y)
-at-updated m x f n y is = at (n == m) refl is
-  where
-    at : (b : Bool) → (n == m) ≡ b → (if b then x else f n) ≡ Some y → ((n ≡ m) × (x ≡ Some y)) ⊎ (f n ≡ Some y)
-    at true e is = inl (same-number _ _ e, is)
-    at false e is = inr is
+at-updated m x f n y is = grind (arith, same-number)
 
 pub born : (c : Change) (w : Core) (t : ℕ) (key : OptionalDataKey) (references : List ArcRef) → Bears c t key → Goes c w (with_node w t key references)
-born c w t key references bears =
-    record {
-      nodes = le-more _ _;
-      handles = le-self _;
-      loads_last = le-self _;
-      workers_last = le-self _;
-      cells = λ n cell is. elim (at-updated _ _ w.cells n cell is) [
-        | inl (next, e) ↦ let f : record { node_type = t; key = key } ≡ cell = cc in inr (next, subst (λ (x : Cell). Bears c x.node_type x.key) f bears)
-        | inr there ↦ inl (record { was = cell; live = there; typed = refl; key = inl refl })
-      ];
-      stored = λ q blob is. is;
-      loads = λ l load is. inl is;
-      cache = λ kind q n is. inl is;
-      rows = rows-moved w.last.handle w.rows _ _ (λ l is. absurd (cc));
-      shut = λ is. is;
-    }
+born c w t key references bears = grind (arith, le-more, le-self, at-updated, rows-moved)
 
 keyed-cell : (w : Core) (m : ℕ) (key : ℕ) (cell : Cell) (found : Option Cell) → w.cells m ≡ found
     → if_there (λ (x : Cell). Some (record x { key = OptionalDataKey.Some key })) None found ≡ Some cell → Kept (sets_key m key) w m cell
@@ -327,22 +273,7 @@ keyed-cell w m key cell (Some was) there is = let e : record was { key = Optiona
     record { was = was; live = there; typed = sym (ap (λ (x : Cell). x.node_type) e); key = inr (key, (refl, refl), sym (ap (λ (x : Cell). x.key) e)) }
 
 pub keyed : (w : Core) (node : NodeNumber) (key : ℕ) → Goes (sets_key node.0 key) w (with_key w node key)
-keyed w node key =
-    record {
-      nodes = le-self _;
-      handles = le-self _;
-      loads_last = le-self _;
-      workers_last = le-self _;
-      cells = λ n cell is. elim (at-updated _ _ w.cells n cell is) [
-        | inl (at, e) ↦ inl (subst (λ k. Kept (sets_key node.0 key) w k cell) (sym at) (keyed-cell w node.0 key cell (w.cells node.0) refl e))
-        | inr there ↦ inl (record { was = cell; live = there; typed = refl; key = inl refl })
-      ];
-      stored = λ q blob is. is;
-      loads = λ l load is. inl is;
-      cache = λ kind q n is. inl is;
-      rows = rows-self w.last.handle w.rows w.rows refl;
-      shut = λ is. is;
-    }
+keyed w node key = grind (arith, le-self, at-updated, keyed-cell, rows-self)
 
 pub begun : (c : Change) (w : Core) (key : ℕ) (root : Root) (me : Owner) → BeginsWell w (record { owner = me; key = key; root = root }) → Goes c w (with_load w key root me)
 begun c w key root me well =
@@ -408,25 +339,7 @@ at-cached k q m kind key n old true false e f is = inr is
 at-cached k q m kind key n old false d e f is = inr is
 
 pub goes-known : {c : Change} {w m : Core} → Goes c w m → (kind : Kind) (key : ℕ) (n : NodeNumber) → Knows c w kind.0 key n.0 → Goes c w (with_cached m kind key n)
-goes-known {c} {w} {m} a kind key n knows =
-    record {
-      nodes = a.nodes;
-      handles = a.handles;
-      loads_last = a.loads_last;
-      workers_last = a.workers_last;
-      cells = a.cells;
-      stored = a.stored;
-      loads = a.loads;
-      cache = λ k q there is. elim (at-cached kind.0 key n.0 k q there (m.cache k q) (k == kind.0) (q == key) refl refl is) [
-        | inl (e, f, g) ↦ inr (moved-to k q there e f g)
-        | inr old ↦ a.cache k q there old
-      ];
-      rows = a.rows;
-      shut = a.shut;
-    }
-  where
-    moved-to : (k q there : ℕ) → k ≡ kind.0 → q ≡ key → there ≡ n.0 → Knows c w k q there
-    moved-to k q there e f g = subst (λ x. Knows c w x q there) (sym e) (subst (λ x. Knows c w kind.0 x there) (sym f) (subst (λ x. Knows c w kind.0 key x) (sym g) knows))
+goes-known {c} {w} {m} a kind key n knows = grind (arith, at-cached)
 
 pub goes-known-if : {c : Change} {w m : Core} → Goes c w m → (kind : Kind) (key : ℕ) (n : NodeNumber) → Knows c w kind.0 key n.0 → (b : Bool) → Goes c w (if b then m else with_cached m kind key n)
 goes-known-if a kind key n knows true = a

@@ -1,7 +1,7 @@
 -- A worker's step keeps what stands of its to-do list and of its table.
 use Rattle.pagable_laws.proofs.Words.{◌≡◌, ℕ, zero, suc, ◌||◌, ◌⊎◌, Bool, true, false, List, [], ◌∷◌, ◌++◌, refl, ap, sym, ◌∙◌, inl, inr, Option, Some, None, drop, length, max, ArcRef, Identity}
 use Rattle.pagable_laws.proofs.Words.{HandleNumber, Among, above, WorkerAnswer, identity_of, Shelf, Slot, no_result, Written, Open, Fault, Todo, to_start, to_pin, to_load, to_write, to_finish}
-use Rattle.pagable_laws.proofs.Words.{to_item, to_set, to_publish, to_release, to_fail, Task, is_identity, next_start, settle, give, Meets, meets-of-item, meets-below}
+use Rattle.pagable_laws.proofs.Words.{arith, to_item, to_set, to_publish, to_release, to_fail, Task, is_identity, next_start, settle, give, Meets, meets-of-item, meets-below}
 use Rattle.pagable_laws.proofs.Standing.{is_open_of, is_open_in, is_failing, HasClaim, IsMetClaim, Stands, AllStand, Covers, HasNoFailed}
 use Rattle.pagable_laws.proofs.Changing.{Changes, ShelfGrows, some-none, grows, meets-grow, published-stays, same-slots, is-self, is-same}
 
@@ -31,10 +31,7 @@ not-true false never = refl
 module _ (u : ℕ) (task : Task) (shelf shelf' : Shelf) (more : ShelfGrows shelf shelf') where
   claim-stays : (i : Identity) {so : Option Written → Type 0} → ((slot : Slot) → shelf.slots i ≡ Some slot → slot.worker ≡ u → shelf'.slots i ≡ Some slot) → IsMetClaim shelf u task i so
       → IsMetClaim shelf' u task i so
-  claim-stays i keeps (meets, c) = (
-    meets-grow shelf shelf' task i more meets,
-    record { slot = c.slot; claimed = keeps c.slot c.claimed c.own; own = c.own; no_result_yet = c.no_result_yet; written_so = c.written_so },
-  )
+  claim-stays i keeps (meets, c) = grind (arith, meets-grow)
 
   -- each claim that this is about is kept
   abbrev pub KeepsOf : (Identity → Bool) → Type 0

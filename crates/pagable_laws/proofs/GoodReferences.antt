@@ -52,36 +52,20 @@ module _ (w : Core) (owner : Owner) where
 -- ---- values that are away
 
 away-by : (p q : ℕ) (key : OptionalDataKey) → q ≤ p → is_in_memory p key ≡ false → is_in_memory q key ≡ false
-away-by p zero key le is = at (nat_lt 0 p) is
-  where
-    at : (b : Bool) → (b || not (has_key key)) ≡ false → is_in_memory 0 key ≡ false
-    at true e = absurd (cc)
-    at false e = e
+away-by p zero key le is = grind arith
 away-by p (suc q) key le is = let e : nat_lt 0 p ≡ true = grind (arith, nat_tests) in let f : true ≡ false = rw e at is in absurd (cc)
 
 pub still-away : (w w' : Core) → Quiet w w' → ((n : ℕ) → pins n w'.rows ≤ pins n w.rows) → (n : ℕ) → StaysAway w w' n
-still-away w w' q fewer n away there = at (w'.cells n) refl there
-  where
-    at : (found : Option Cell) → w'.cells n ≡ found → is_some found ≡ true → is_here w' n ≡ false
-    at None e is = absurd (cc)
-    at (Some cell) e is =
-        let same : key_at w' n ≡ key_at w n = ap (λ (x : Option Cell). if_there (λ (c : Cell). c.key) OptionalDataKey.None x) (e ∙ sym (q.cells n cell e)) in
-        subst (λ k. is_in_memory (pins n w'.rows) k ≡ false) (sym same) (away-by (pins n w.rows) (pins n w'.rows) (key_at w n) (fewer n) away)
+still-away w w' q fewer n away there = grind (arith, away-by)
 
 pub alike-away : {w w' : Core} → Alike w w' → (n : ℕ) → StaysAway w w' n
-alike-away {w} {w'} a n = still-away w w' (alike a) (λ k. le-of _ _ (ap (pins k) a.rows)) n
-  where
-    le-of : (a b : ℕ) → b ≡ a → b ≤ a
-    le-of a b is = omega arith
+alike-away {w} {w'} a n = grind (arith, still-away, alike)
 
 pin : ℕ → HandleRow → ℕ
 pin n h = one (is_pin n h)
 
 pins-left : (n : ℕ) (gone : ℕ → Bool) (rows more : List HandleRow) (k : ℕ) → pins n more ≡ 0 → pins n (left_rows gone rows ++ more) ≤ pins n rows
-pins-left n gone [] more k none = le-of _ none
-  where
-    le-of : (b : ℕ) → b ≡ 0 → b ≤ 0
-    le-of b is = omega arith
+pins-left n gone [] more k none = grind arith
 pins-left n gone (h ∷ hs) more k none = at (gone h.number.0) (pins-left n gone hs more k none) (sum_by-cons (λ x. one (is_pin n x)) h hs)
     (sum_by-cons (λ x. one (is_pin n x)) h (left_rows gone hs ++ more))
   where
@@ -103,7 +87,4 @@ no-pins n last (h ∷ hs) (number, mode, owner, new) =
     let c = sum_by-cons (λ x. one (is_pin n x)) h hs in omega arith
 
 pub fell-away : {before w w' : Core} {given : ℕ → Bool} {r : _} → Falls before w given r w' → (n : ℕ) → StaysAway w w' n
-fell-away {before} {w} {w'} f n = still-away w w' (fell f) (λ k. le-by _ _ _ (ap (pins k) f.leaves.rows) (pins-left k f.gone w.rows f.entries 0 (no-pins k w.last.handle f.entries f.new))) n
-  where
-    le-by : (a b c : ℕ) → a ≡ b → b ≤ c → a ≤ c
-    le-by a b c is le = omega arith
+fell-away {before} {w} {w'} f n = grind (arith, still-away, fell, pins-left, no-pins)

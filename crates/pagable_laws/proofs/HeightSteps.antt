@@ -42,10 +42,7 @@ module _ {N B W : Type 0} (m : Seen N B W) (n : ℕ) (g : Ground) (task : Task) 
       → length o.keys ≡ length o.written.references
       → TodoLow s.shelf (to_set o.reference o.through key o.height ∷ below)
   unfolding WaitsLow
-  finishes o below key claim (first, attained, fits, place, waits) all = (
-    record { slot = claim.slot; written = o.written; claimed = claim.claimed; wrote = claim.written_so; low = all-low s.shelf o.height o.written.references o.keys all first; attained = attained },
-    (subst (λ q. q + o.height ≤ longest_path) place fits, waits),
-  )
+  finishes o below key claim (first, attained, fits, place, waits) all = grind (arith, all-low)
 
   publishes : (r : ArcRef) (key height : ℕ) (below : List Todo) → {so : Option Written → Type 0} → HasClaim s.shelf n (identity_of r) so → WroteLow s.shelf r height
       → place_over r below + height ≤ longest_path

@@ -130,10 +130,7 @@ module _ {shelf shelf' : Shelf} (keys : KeepsKeys shelf shelf') where
   ]
 
   failed-low : (slot : Slot) (a b : Bool) → SlotLow shelf' slot → SlotLow shelf' (if a then (if b then record slot { outcome = failed } else slot) else slot)
-  failed-low slot true true low = λ key height e. absurd (no_key key height e)
-    where
-      no_key : (key height : ℕ) → failed ≡ published key height → ⊥
-      no_key key height e = cc
+  failed-low slot true true low = grind arith
   failed-low slot true false low = low
   failed-low slot false b low = low
 
@@ -218,10 +215,7 @@ module _ (shelf : Shelf) where
 
   -- of two heights that are there the greater one is
   more-attained : (a b : ℕ) (rs : List ArcRef) → IsAttained shelf a rs → IsAttained shelf b rs → IsAttained shelf (max a b) rs
-  more-attained a b rs first second = elim (cases_lt a b) [
-    | inl lt ↦ subst (λ n. IsAttained shelf n rs) (omega arith) second
-    | inr le ↦ subst (λ n. IsAttained shelf n rs) (omega arith) first
-  ]
+  more-attained a b rs first second = grind arith
 
   -- what a reference adds is within the place's reach
   adds : (b : Bool) (place height limit : ℕ) → (if b then place + 1 else 0) + height ≤ limit → place ≤ limit → place + (if b then height + 1 else 0) ≤ limit
@@ -246,15 +240,7 @@ module _ (shelf : Shelf) where
         place,
         low,
       )
-  given-low task r key height p (to_item written ks ∷ below) (more, e) (reach, first) =
-      let a = adds (is_eager r.kind.0) 0 height longest_path reach (omega arith) in
-      started-item-low written _ below _ (first-more longest_path longest_path written.references ks r more key (omega arith) e first (record {
-        key =
-            key;
-        below = height;
-        known = p;
-        within = omega arith;
-      }))
+  given-low task r key height p (to_item written ks ∷ below) (more, e) (reach, first) = grind (arith, adds, started-item-low, first-more)
   given-low task r key height p (_ ∷ below) expects low = absurd expects
 
   pub given-known-low : (task : Task) (r : ArcRef) (key height : ℕ) → IsPublished shelf (identity_of r) key height → (below : List Todo) → Expects task r below → ReachesLow shelf r height below

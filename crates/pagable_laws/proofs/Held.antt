@@ -69,18 +69,7 @@ cell-keyed key (Some was) cell is = let e : record was { key = OptionalDataKey.S
 
 key-set : {w w' : Core} (v : ℕ) (r : ArcRef) (through : HandleNumber) (key : ℕ) (u : Unit {0}) → StandsAt w r through → SetKeyCall w (owner_worker v) through key (Ok u) w'
     → is_loose_kind r.kind.0 ≡ true → KeyIsSet w' r.node.0
-key-set {w} {w'} v r through key u s call kind = elim call.does [
-  | inl refused ↦ let f = refused.told in absurd (cc)
-  | inr (row, owns, inl (other, told, a)) ↦ let f = (s.is row owns.live).1 kind in absurd (cc)
-  | inr (row, owns, inr (loose, f)) ↦
-      let goes = goes-quiet (keyed w row.node key) (fell f) in
-      let same = (s.is row owns.live).0 in
-      record {
-        given = let a = s.node_given in let b = goes.nodes in omega arith;
-        keyed = λ cell live. let now = (fell f).cells row.node.0 cell (subst (λ n. w'.cells n.0 ≡ Some cell) (sym same) live) in
-            cell-keyed key (w.cells row.node.0) cell (sym (updated-at row.node.0 (if_there (λ (x : Cell). Some (record x { key = OptionalDataKey.Some key })) None (w.cells row.node.0)) w.cells) ∙ now);
-      }
-]
+key-set {w} {w'} v r through key u s call kind = grind (arith, goes-quiet, fell, given, cell-keyed, updated-at)
 
 -- the worker has the handle still through which it has set a key
 still-held : {w w' : Core} (v : ℕ) (r : ArcRef) (through : HandleNumber) (key : ℕ) (u : Unit {0}) → HandlesAreWhole w → StandsAt w r through
@@ -110,10 +99,7 @@ module _ (shelf shelf' : Shelf) (P : Identity → Type 0) where
 
   -- a new slot has no key yet
   new-reveals : (i : Identity) (new : Slot) → new.outcome ≡ no_result → PutsSlot shelf.slots shelf'.slots i new → Reveals shelf shelf' P
-  new-reveals i new none puts j key height p = elim (put-cases shelf.slots shelf'.slots i new puts j p.slot p.claimed) [
-    | inl e ↦ let f : published key height ≡ no_result = sym p.known ∙ ap (λ (z : Slot). z.outcome) e.1 ∙ none in absurd (cc)
-    | inr e ↦ inl (record { slot = p.slot; claimed = e.1; known = p.known })
-  ]
+  new-reveals i new none puts j key height p = grind (arith, put-cases, known)
 
   of-some : (f : Slot → Slot) (o : Option Slot) (slot : Slot) → if_there (λ (z : Slot). Some (f z)) None o ≡ Some slot → (old : Slot) × (o ≡ Some old) × (f old ≡ slot)
   of-some f None slot e = absurd (cc)
@@ -122,31 +108,11 @@ module _ (shelf shelf' : Shelf) (P : Identity → Type 0) where
   -- one slot changes
   changed-reveals : (i : Identity) (f : Slot → Slot) → SameShelf (with_changed_slot shelf i f) shelf'
       → ((old : Slot) (key height : ℕ) → (f old).outcome ≡ published key height → (old.outcome ≡ published key height) ⊎ P i) → Reveals shelf shelf' P
-  changed-reveals i f same back j key height p = by (is_identity i j) refl
-    where
-      slots-by : (b : Bool) → is_identity i j ≡ b → (if b then if_there (λ (z : Slot). Some (f z)) None (shelf.slots i) else shelf.slots j) ≡ Some p.slot
-      slots-by b e = sym (same.slots j ∙ ap (λ t. if t then if_there (λ (z : Slot). Some (f z)) None (shelf.slots i) else shelf.slots j) e) ∙ p.claimed
-
-      by : (b : Bool) → is_identity i j ≡ b → IsPublished shelf j key height ⊎ P j
-      by true e =
-          let at = is-same i j e in
-          let was = of-some f (shelf.slots i) p.slot (slots-by true e) in
-          elim (back was.0 key height (ap (λ (z : Slot). z.outcome) was.2 ∙ p.known)) [
-            | inl known ↦ inl (record { slot = was.0; claimed = ap shelf.slots at ∙ was.1; known = known })
-            | inr so ↦ inr (subst P (sym at) so)
-          ]
-      by false e = inl (record { slot = p.slot; claimed = slots-by false e; known = p.known })
+  changed-reveals i f same back j key height p = grind (arith, is-same, of-some, known)
 
   -- claims fail
   failed-reveals : (v : ℕ) → SameShelf (with_failed shelf v) shelf' → Reveals shelf shelf' P
-  failed-reveals v same j key height p =
-      let was = of-some (λ slot. if nat_eq slot.worker v then with_outcome failed slot else slot) (shelf.slots j) p.slot (sym (same.slots j) ∙ p.claimed) in
-      inl (record { slot = was.0; claimed = was.1; known = back was.0 (nat_eq was.0.worker v) (is_open_outcome was.0.outcome) (ap (λ (z : Slot). z.outcome) was.2 ∙ p.known) })
-    where
-      back : (old : Slot) (b d : Bool) → (if b then (if d then record old { outcome = failed } else old) else old).outcome ≡ published key height → old.outcome ≡ published key height
-      back old true true is = absurd (cc)
-      back old true false is = is
-      back old false d is = is
+  failed-reveals v same j key height p = grind (arith, of-some, known)
 
 -- ---- a worker's step
 

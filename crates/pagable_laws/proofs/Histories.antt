@@ -28,10 +28,7 @@ leads-more f todo [] mid step last is follows = (last, subst (λ t. Follows f t 
 leads-more f todo (x ∷ past) mid step last (next, first, leads) follows = (next, first, leads-more f next past mid step last leads follows)
 
 counted : (n : ℕ) (b : Bool) → steps_after n b ≤ n + one b
-counted n true = at-most (n + 1) greatest
-  where
-    at-most : (a b : ℕ) → min a b ≤ a
-    at-most a b = omega arith
+counted n true = grind arith
 counted n false = omega arith
 
 -- where a claim finds one that has failed, it is another's
@@ -122,10 +119,7 @@ module _ {N B W : Type 0} (m : Seen N B W) (u u' : World) (grow : (t : ℕ) → 
       → HasGone f v u'.work.shelves (u'.work.walkings v) (past ++ taken)
   own-goes work v past taken (rests none slots same) gone = stays v (u.work.walkings v) (u'.work.walkings v) past taken same none gone
   own-goes work v past taken (begins t task none slots nobody new) gone = begun v t task past taken none nobody new gone
-  own-goes work v past taken (steps k reply is taken_is s) gone =
-      subst (λ x. HasGone f x u'.work.shelves (u'.work.walkings x) (past ++ taken)) is
-      (subst (λ k_steps. HasGone f k.0 u'.work.shelves (u'.work.walkings k.0) (past ++ k_steps)) (sym taken_is)
-      (went-on work k reply past s (subst (λ x. HasGone f x u.work.shelves (u.work.walkings x) past) (sym is) gone)))
+  own-goes work v past taken (steps k reply is taken_is s) gone = grind (arith, went-on)
 
 -- whatever an event does, its steps are added
 pub goes-on : {N B W : Type 0} (m : Seen N B W) (u u' : World) (event : Event N B W) (reply : EventReply N B W) → StandsIn u → EventTurns m u event reply u' → (n : ℕ) (past : List (Took W))

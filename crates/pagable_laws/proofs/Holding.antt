@@ -13,13 +13,7 @@ walking-stays : (v : ℕ) (w : Walking) (shelf shelf' : Shelf) → ShelfGrows sh
     → ((i : Identity) (slot : Slot) → shelf.slots i ≡ Some slot → slot.worker ≡ v → shelf'.slots i ≡ Some slot)
     → ((i : Identity) (slot : Slot) → shelf'.slots i ≡ Some slot → slot.worker ≡ v → shelf.slots i ≡ Some slot)
     → WalkingStands shelf v w → WalkingStands shelf' v w
-walking-stays v w shelf shelf' more stay were stands =
-    record {
-      all = all-stay v w.task shelf shelf' more w.todo (λ i is slot there own. stay i slot there own) stands.all;
-      covers = λ i slot there own still. stands.covers i slot (were i slot there own) own still;
-      unfailed = λ none i slot there own. stands.unfailed none i slot (were i slot there own) own;
-      done = stands.done;
-    }
+walking-stays v w shelf shelf' more stay were stands = grind (arith, all-stay)
 
 -- a worker that keeps its table and its task
 pub record KeepsTask (walkings' : ℕ → Option Walking) (u : ℕ) (w : Walking) : Type 0 where
@@ -45,11 +39,7 @@ pub record Turned (v : ℕ) (shelves shelves' : ℕ → Shelf) (walkings walking
 
 module _ (v : ℕ) (shelves shelves' : ℕ → Shelf) (walkings walkings' : ℕ → Option Walking) (turned : Turned v shelves shelves' walkings walkings') where
   pub keeps-task : (u : ℕ) (w : Walking) → walkings u ≡ Some w → KeepsTask walkings' u w
-  keeps-task u w there = by (nat_eq u v) refl
-    where
-      by : (b : Bool) → nat_eq u v ≡ b → KeepsTask walkings' u w
-      by true e = let is = same-number u v e in subst (λ n. KeepsTask walkings' n w) (sym is) (turned.own w (sym (ap walkings is) ∙ there))
-      by false e = record { now = w; there = turned.others u e ∙ there; table = refl; task = refl }
+  keeps-task u w there = grind (arith, same-number)
 
   slot-stays : (t : ℕ) (i : Identity) (old slot : Slot) → slot.worker ≡ old.worker → SlotStands (shelves t) walkings t i old → SlotStands (shelves' t) walkings' t i slot
   slot-stays t i old slot same stands =

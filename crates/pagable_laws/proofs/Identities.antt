@@ -82,9 +82,7 @@ once-goes kind key n {w = w} g next once =
     }
 
 once-got : {w w' : Core} (kind : Kind) (key n : ℕ) → IsWhole w → IsFilledByReading w → Got w kind key n w' → IsKnownOnce kind.0 key n w'
-once-got {w} kind key n whole filled (got-old is q enters) =
-    let there = is-cached w kind.0 key n is in
-    once-goes kind.0 key n (quiet-goes nothing_felt q) (λ k q n known. absurd known) (record { given = (whole.cache kind.0 key n there).given; only = λ k q is. filled kind.0 key k q n there is })
+once-got {w} kind key n whole filled (got-old is q enters) = grind (arith, is-cached, once-goes, quiet-goes, known)
 once-got {w} {w'} kind key n whole filled (got-new none next l own references a) =
     let g = goes-quiet (adopts w l kind key own references) (alike a) in
     let made = with_handle (with_node w (type_of kind.0) own references) (next_node w) (mode_of kind.0) (Owner.Load l) in
@@ -152,14 +150,7 @@ differ {u} kind other_kind key other_key n other_n once (got-new none next l own
 
 same : {u last : Core} (kind other_kind : Kind) (key other_key n other_n : ℕ) → usable u kind.0 key ≡ Some n → Got u other_kind other_key other_n last
     → other_kind ≡ kind → other_key ≡ key → other_n ≡ n
-same {u} {last} kind other_kind key other_key n other_n is got same_kind same_key = by got
-  where
-    used : usable u other_kind.0 other_key ≡ Some n
-    used = subst (λ (k : Kind). usable u k.0 other_key ≡ Some n) (sym same_kind) (subst (λ q. usable u kind.0 q ≡ Some n) (sym same_key) is)
-
-    by : Got u other_kind other_key other_n last → other_n ≡ n
-    by (got-old other q enters) = cc
-    by (got-new none next l own references a) = absurd (cc)
+same {u} {last} kind other_kind key other_key n other_n is got same_kind same_key = grind arith
 
 pub one_identity_law : {N B W : Type 0} (E : Type 0) (m : Seen N B W) → OneIdentityLaw E m
 one_identity_law E m w first between last kind other_kind key other_key n other_n whole filled opened gets whole' chain leaves gets' =

@@ -109,7 +109,4 @@ held-on m s s' event reply turns whole stays does held =
 
 pub keys-ready : {N E : Type 0} (v : Values N) (s : MachineState N E) (trees : ℕ → Tree) → ReadsItsTypes v.types → WorkFits v s trees → KeysHeld (world_of s) → KeysAreReady v s trees
 unfolding AllHold
-keys-ready v s trees reads fit held k key row sets =
-    let all = subst (λ t. AllHold s.pager.core t) sets.sets (held.walks k.0 sets.walking sets.there) in
-    let at = (all.0.is row sets.live).0 in
-    subst (λ n. ReadsTree s.pager.core.stored v.types key (trees n.0)) (sym at) (sets-key v s trees reads fit k.0 sets.walking sets.r sets.through key sets.height sets.below sets.there sets.sets)
+keys-ready v s trees reads fit held k key row sets = grind (arith, sets-key)

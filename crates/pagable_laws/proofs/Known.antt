@@ -27,18 +27,12 @@ key-at : (shelf : Shelf) (rs : List ArcRef) (keys : List ℕ) → AreKeysOf shel
 key-at shelf [] [] all place r key is at = absurd (cc)
 key-at shelf [] (k ∷ ks) all place r key is at = absurd all
 key-at shelf (q ∷ rs) [] all place r key is at = absurd all
-key-at shelf (q ∷ rs) (k ∷ ks) all zero r key is at =
-    let same : q ≡ r = cc in
-    let keys : k ≡ key = cc in
-    (all.0.0, subst (λ (x : ArcRef). IsPublished shelf (identity_of x) key all.0.0) same (subst (λ x. IsPublished shelf (identity_of q) x all.0.0) keys all.0.1))
+key-at shelf (q ∷ rs) (k ∷ ks) all zero r key is at = grind arith
 key-at shelf (q ∷ rs) (k ∷ ks) all (suc place) r key is at = key-at shelf rs ks all.1 place r key is at
 
 -- an identity has one key and one height
 one-outcome : (shelf : Shelf) (i : Identity) (k key h height : ℕ) → IsPublished shelf i k h → IsPublished shelf i key height → h ≡ height
-one-outcome shelf i k key h height p q =
-    let same = same_some _ _ (sym p.claimed ∙ q.claimed) in
-    let e : published k h ≡ published key height = sym p.known ∙ ap (λ x. x.outcome) same ∙ q.known in
-    cc
+one-outcome shelf i k key h height p q = grind (arith, same_some)
 
 above-eager : (kind h limit : ℕ) → is_eager kind ≡ true → above kind h ≤ limit → h + 1 ≤ limit
 above-eager kind h limit is le = let e : (if is_eager kind then h + 1 else 0) ≡ h + 1 = ap (λ b. if b then h + 1 else 0) is in omega (arith, e, le)

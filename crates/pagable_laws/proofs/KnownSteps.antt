@@ -2,18 +2,14 @@
 use Rattle.pagable_laws.proofs.Words.{◌≡◌, ℕ, Bool, true, false, List, [], ◌∷◌, refl, sym, subst, inl, inr, if◌then◌else◌, Option, Some, None, Kind, Types, is_eager, HandleRow, Event, EventReply}
 use Rattle.pagable_laws.proofs.Words.{LoadAnswer, Core, Frame, Reading, World, Values, Next, reads, asks, is_faulty, next_in, need_at, need_of, needs_nested, needs_lazy, nested_frame, with_got}
 use Rattle.pagable_laws.proofs.Words.{IsReadingOf, Change, KeepsReadings, ReadingFeels, reads-root, reads-blob, gets-known, gets-lazy, makes-known, makes-node, reading-ends, EventFeels, by-call}
-use Rattle.pagable_laws.proofs.Words.{by-reading, by-key, by-nothing, Needs}
+use Rattle.pagable_laws.proofs.Words.{arith, by-reading, by-key, by-nothing, Needs}
 use Rattle.pagable_laws.proofs.Fitting.{asked}
 use Rattle.pagable_laws.proofs.ReadingStepsMachine.{is-reading-of}
 use Rattle.pagable_laws.proofs.Asking.{none-got, one-got, FramesAsked}
 
 -- what is read together with a value is asked for through a reference that isn't loose
 pub eager-nested : (below : List Frame) (next : Next) (kind : Kind) (key : ℕ) → need_at below next ≡ needs_nested kind key → is_eager kind.0 ≡ true
-eager-nested below (asks k q) kind key is = by (is_eager k.0) refl is
-  where
-    by : (b : Bool) → is_eager k.0 ≡ b → (if b then needs_nested k q else needs_lazy k q) ≡ needs_nested kind key → is_eager kind.0 ≡ true
-    by true e is = let same : k ≡ kind = cc in subst (λ (x : Kind). is_eager x.0 ≡ true) same e
-    by false e is = absurd (cc)
+eager-nested below (asks k q) kind key is = grind arith
 eager-nested [] (reads own) kind key is = absurd (cc)
 eager-nested (x ∷ xs) (reads own) kind key is = absurd (cc)
 eager-nested below (is_faulty e) kind key is = absurd (cc)

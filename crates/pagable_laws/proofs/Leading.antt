@@ -4,7 +4,7 @@ use Rattle.pagable_laws.proofs.Words.{◌≡◌, ℕ, zero, ◌<◌, ◌&&◌, B
 use Rattle.pagable_laws.proofs.Words.{pattern, none, pair, variant, reference, followed, references_in, ArcRef, Meaning, Tree, tree, type_of, ReadsTree, Among, held, is_in_memory, Core, Values}
 use Rattle.pagable_laws.proofs.Words.{IsLawful, key_at, IsReference, PagerState, WellFormed, NodeStands, here, away, MeaningStands, number-stands, integer-stands, text-stands, pattern-stands}
 use Rattle.pagable_laws.proofs.Words.{none-stands, pair-stands, variant-stands, followed-stands, reference-stands, Represents, HoldsSettled, LeadsTo, number-leads, integer-leads, text-leads}
-use Rattle.pagable_laws.proofs.Words.{pattern-leads, none-leads, pair-leads, variant-leads, followed-leads, reference-leads, ValueLeads, NodeLeads}
+use Rattle.pagable_laws.proofs.Words.{arith, pattern-leads, none-leads, pair-leads, variant-leads, followed-leads, reference-leads, ValueLeads, NodeLeads}
 use Rattle.pagable_laws.proofs.Trees.{same_some, tree_is}
 use Rattle.pagable_laws.proofs.Decoding.{among-left, among-right, meant-refs}
 use Rattle.pagable_laws.proofs.Following.{one-node, given-of, cell-of}
@@ -99,11 +99,7 @@ module _ {N E : Type 0} {v : Values N} {s : PagerState N E} {trees : ℕ → Tre
 -- ---- and back
 
 key-of-away : (pinned : ℕ) (key : OptionalDataKey) → is_in_memory pinned key ≡ false → (k : ℕ) × (key ≡ OptionalDataKey.Some k)
-key-of-away pinned OptionalDataKey.None is = either (nat_lt 0 pinned) is
-  where
-    either : (b : Bool) → (b || true) ≡ false → (k : ℕ) × (OptionalDataKey.None ≡ OptionalDataKey.Some k)
-    either true e = absurd (cc)
-    either false e = absurd (cc)
+key-of-away pinned OptionalDataKey.None is = grind arith
 key-of-away pinned (OptionalDataKey.Some k) is = (k, refl)
 
 both-false : (a b : Bool) → a ≡ true → false ≡ (a && b) → b ≡ false

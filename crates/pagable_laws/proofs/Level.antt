@@ -1,18 +1,141 @@
 -- The chain of two levels is one of the machine, and meets the headline with all that it asks.
-use Rattle.pagable_laws.proofs.Words.{◌≡◌, ℕ, List, [], ◌∷◌, ◌++◌, refl, inl, subst, ◌∙◌, Some, is_in, HandleRow, Owner, Mode, find_row, pins, row_of, is_named_by, AreMoments, state_after}
-use Rattle.pagable_laws.proofs.Words.{ArePremised, TwoLevelsMeetTheHeadline}
-use Rattle.pagable_laws.specs.TwoLevels as two
+use Rattle.pagable_laws.proofs.Words.{◌≡◌, ℕ, zero, suc, List, [], ◌∷◌, ◌++◌, refl, sym, subst, ◌∙◌, Option, Some, Ok, none, references_in, SameReferences, IsReadable, LiesIn, Throughout}
+use Rattle.pagable_laws.proofs.Words.{throughout-in, none-followed, rest_of, Kind, Tree, tree, type_of, Event, EventReply, WorkerReply, LoadReply, Core, Shelf, Written, Reading, Walking, IsLawful}
+use Rattle.pagable_laws.proofs.Words.{IsSettled, needs_lazy, need_of, reading_at, PagerState, MachineState, world_of, ReadsItsTypes, KeepsOpen, ReadsAsType, TakesWell, TodoTakesWell, IsWellAsked}
+use Rattle.pagable_laws.proofs.Words.{IsPremised, state_after, ArePremised, find_row, is_named_by, answers_from, fresh, inl, is_in, HandleRow, Owner, Mode, pins, row_of, AreMoments}
+use Rattle.pagable_laws.proofs.Words.{TwoLevelsMeetTheHeadline}
+use Rattle.pagable_laws.proofs.States.{only-at, ◌⨾◌, read-back-passes}
+use Rattle.pagable_laws.proofs.Walks.{paged_out, at_work, only-pager, bears, pages-out}
 use Rattle.pagable_laws.proofs.Tested.{alike-self}
-use Rattle.pagable_laws.proofs.States.{read-back-passes}
-use Rattle.pagable_laws.proofs.Joining.{chains_join, new_whole}
+use Rattle.pagable_laws.proofs.Joining.{new_whole}
 use Rattle.pagable_laws.proofs.Arriving.{headline_law}
-use Rattle.pagable_laws.proofs.Births.{only-pager, bears}
-use Rattle.pagable_laws.proofs.Walks.{at_work, pages-out}
-use Rattle.pagable_laws.proofs.Loading.{done-whole}
-use Rattle.pagable_laws.proofs.Loaded.{loads-parent, loads-child, loads-key}
-use Rattle.pagable_laws.proofs.Premised.{State, lawful, reads-types, settled, ask-on}
-use Rattle.pagable_laws.proofs.Asked.{births-asked, steps-asked, parent-asked, child-asked, key-asked}
-use Rattle.pagable_laws.proofs.Walked.{◌⨾◌}
+use Rattle.pagable_laws.proofs.Loaded.{done-whole, loads-parent, loads-child, loads-key}
+use Rattle.pagable_model.specs.Reading as grammar
+use Rattle.pagable_model.specs.Shape as shapes
+use Rattle.pagable_laws.specs.TwoLevels as two
+
+-- ---- values
+
+refers : (x : two.Sample) → SameReferences (two.sample_references x) (references_in (two.sample_meaning x))
+unfolding references_in
+refers two.leaf test = refl
+refers (two.parent r) test = refl
+
+shaped : (x : two.Sample) → (shape : shapes.Shape) × (two.sample_types.nodes (two.sample.node_type x) ≡ Some shape)
+shaped two.leaf = (shapes.nothing, refl)
+shaped (two.parent r) = (shapes.reference 4, refl)
+
+pub lawful : IsLawful two.sample
+lawful =
+    record {
+      some = λ x. (two.sample_meaning x, refl);
+      refers = λ x own is. subst (λ b. SameReferences (two.sample_references x) (references_in b)) (sym is) (refers x);
+      shaped = shaped;
+      own_reading = λ t e is. absurd is;
+      own_writing = λ t e is. absurd is;
+    }
+
+nothing-readable : (s : shapes.Shape) → s ≡ shapes.nothing → Throughout IsReadable two.sample_types.parts s
+unfolding IsReadable LiesIn
+nothing-readable s is = subst (λ x. Throughout IsReadable two.sample_types.parts x) (sym is) (throughout-in IsReadable two.sample_types.parts (λ n. Unit {0}) (λ n it. (tt, tt)) shapes.nothing tt tt)
+
+reference-readable : (s : shapes.Shape) → s ≡ shapes.reference 4 → Throughout IsReadable two.sample_types.parts s
+unfolding IsReadable LiesIn
+reference-readable s is =
+    subst (λ x. Throughout IsReadable two.sample_types.parts x) (sym is) (throughout-in IsReadable two.sample_types.parts (λ n. Unit {0}) (λ n it. (tt, tt)) (shapes.reference 4) tt tt)
+
+pub reads-types : ReadsItsTypes two.sample_types
+reads-types zero s is = reference-readable s (cc)
+reads-types (suc n) s is = nothing-readable s (cc)
+
+pub settled : (x : two.Sample) → IsSettled two.sample x
+settled x a b is other = other ∙ sym is
+
+-- ---- moments
+
+abbrev pub State : Type 0
+State = MachineState two.Sample (Unit {0})
+
+abbrev pub IsAsked : State → two.Happening → Type 0
+IsAsked s x = (trees : ℕ → Tree) → IsPremised two.sample s trees x.event x.reply x.after
+
+pub asked : (s : State) (x : two.Happening) → KeepsOpen x.event → ((trees : ℕ → Tree) → IsWellAsked two.sample s trees x.event x.reply) → IsAsked s x
+asked s x open_still well trees = record { settled = λ n x is. settled x; reads_settled = λ x is. settled x; stays_open = open_still; well = well trees }
+
+-- a worker's step asks something only at a load
+pub step-asked : {core : Core} {reply : WorkerReply Written} {after : State} (vs : List (Option two.Sample)) (shelf : Shelf) (w : Walking)
+    → TodoTakesWell two.sample (two.machine core vs (two.walk_work shelf w)).pager w.todo
+    → IsAsked (two.machine core vs (two.walk_work shelf w)) (two.moment (Event.WorkerStep (record { 0 = 1 })) (EventReply.WorkerMoved (Ok reply)) after)
+step-asked {core} {reply} {after} vs shelf w well =
+    asked _ _ tt (λ trees walking is. only-at 1 w (λ n x. TodoTakesWell two.sample (two.machine core vs (two.walk_work shelf w)).pager x.todo) well 1 walking is)
+
+-- a load's step asks something where a reference is taken of which nothing is read
+pub load-asked : (s : State) (l : ℕ) (r : Reading) (reply : LoadReply two.Sample) (after : State) → reading_at (world_of s) (two.load_number l) ≡ Some r → TakesWell two.sample s.pager r
+    → IsAsked s (two.moment (Event.LoadStep (two.load_number l)) (EventReply.LoadMoved (Ok reply)) after)
+load-asked s l r reply after at well = asked _ _ tt (λ trees reading is. let e : r ≡ reading = some-same (sym at ∙ is) in subst (λ x. TakesWell two.sample s.pager x) e well)
+  where
+    some-same : {X : Type 0} {x y : X} → Some x ≡ Some y → x ≡ y
+    some-same is = cc
+
+-- the child's key reads as a leaf
+child-reads : (s : PagerState two.Sample (Unit {0})) → s.core.stored 8 ≡ Some two.leaf_blob → ReadsAsType two.sample s 1 8
+unfolding grammar.read grammar.read_with
+child-reads s stored = record {
+  read = tree 1 none;
+  typed = refl;
+  reads = record { own = none; reads = record { blob = two.leaf_blob; stored = stored; rest = rest_of two.leaf_blob; reads = refl }; follows = none-followed };
+}
+
+pub takes-child : (s : PagerState two.Sample (Unit {0})) (r : Reading) → s.core.stored 8 ≡ Some two.leaf_blob → need_of two.sample_types r.frames ≡ needs_lazy (record { 0 = 4 }) 8
+    → TakesWell two.sample s r
+takes-child s r stored lazily kind key is =
+    let same : (record { 0 = 4 } ≡ kind) × (8 ≡ key) = parts (record { 0 = 4 }) kind 8 key (sym lazily ∙ is) in
+    subst (λ (k : Kind). ReadsAsType two.sample s (type_of k.0) key) same.0 (subst (λ k. ReadsAsType two.sample s 1 k) same.1 (child-reads s stored))
+  where
+    parts : (a b : Kind) (x y : ℕ) → needs_lazy a x ≡ needs_lazy b y → (a ≡ b) × (x ≡ y)
+    parts a b x y same = (cc, cc)
+
+-- ---- what the headline asks of each moment of the chain of two levels is so
+
+pub births-asked : (xs : List two.Happening) → ArePremised at_work xs → ArePremised two.new_one (two.births ++ xs)
+births-asked xs rest = asked _ _ tt (λ trees. tt) ⨾ asked _ _ tt (λ trees. tt) ⨾ asked _ _ tt (λ trees. tt) ⨾ asked _ _ tt (λ trees. tt) ⨾ rest
+
+pub steps-asked : (xs : List two.Happening) → ArePremised paged_out xs → ArePremised at_work (two.page_out ++ xs)
+steps-asked xs rest =
+    step-asked _ _ _ tt ⨾ step-asked _ _ _ tt ⨾ step-asked _ _ _ tt ⨾ step-asked _ _ _ tt ⨾ step-asked _ _ _ tt ⨾
+    step-asked _ _ _ tt ⨾ step-asked _ _ _ tt ⨾ step-asked _ _ _ tt ⨾ step-asked _ _ _ tt ⨾ step-asked _ _ _ tt ⨾
+    step-asked _ _ _ tt ⨾ step-asked _ _ _ tt ⨾ step-asked _ _ _ tt ⨾ step-asked _ _ _ tt ⨾ step-asked _ _ _ tt ⨾ rest
+
+pub parent-asked : (xs : List two.Happening) → ArePremised (two.machine two.parent_loaded two.parent_value two.done_work) xs → ArePremised paged_out (two.parent_loads ++ xs)
+unfolding find_row is_named_by grammar.read grammar.read_with answers_from
+parent-asked xs rest =
+    asked _ _ tt (λ trees. tt)
+    ⨾ asked _ _ tt (λ trees. tt)
+    ⨾ load-asked _ 1 (fresh (two.load_number 1) 0) _ _ refl (λ kind key is. absurd (cc))
+    ⨾ load-asked _ 1 two.parent_fetched _ _ refl (takes-child _ two.parent_fetched refl refl)
+    ⨾ load-asked _ 1 two.parent_read _ _ refl (λ kind key is. absurd (cc))
+    ⨾ rest
+
+pub child-asked : (xs : List two.Happening) → ArePremised (two.machine two.child_loaded two.last_values two.done_work) xs → ArePremised (two.machine two.parent_loaded two.parent_value two.done_work) (two.child_loads ++ xs)
+unfolding find_row is_named_by grammar.read grammar.read_with answers_from
+child-asked xs rest =
+    asked _ _ tt (λ trees. tt)
+    ⨾ asked _ _ tt (λ trees. tt)
+    ⨾ load-asked _ 2 (fresh (two.load_number 2) 1) _ _ refl (λ kind key is. absurd (cc))
+    ⨾ load-asked _ 2 two.child_fetched _ _ refl (λ kind key is. absurd (cc))
+    ⨾ rest
+
+pub key-asked : (n : ℕ) → ArePremised (two.machine two.child_loaded two.last_values two.done_work) (two.key_loads ++ two.counts n)
+unfolding find_row is_named_by grammar.read grammar.read_with answers_from
+key-asked n =
+    asked _ _ tt (λ trees. tt)
+    ⨾ load-asked _ 3 two.key_begun _ _ refl (λ kind key is. absurd (cc))
+    ⨾ load-asked _ 3 two.key_fetched _ _ refl (takes-child _ two.key_fetched refl refl)
+    ⨾ load-asked _ 3 two.key_read _ _ refl (λ kind key is. absurd (cc))
+    ⨾ asked _ _ tt (λ trees. tt)
+    ⨾ tt
+
+-- ---- the chain of two levels is one of the machine, and meets the headline with all that it asks
 
 counts-two : AreMoments two.sample_seen (two.machine two.read_back two.last_values two.done_work) (two.counts 2)
 unfolding find_row is_named_by is_in two.value_at
@@ -28,21 +151,21 @@ counts-two =
     }
     ⨾ tt
 
+-- what comes after the births, the page-out and the loads of each cell
+abbrev from_key : List two.Happening
+from_key = two.key_loads ++ two.counts 2
+
+abbrev from_child : List two.Happening
+from_child = two.child_loads ++ from_key
+
+abbrev from_parent : List two.Happening
+from_parent = two.parent_loads ++ from_child
+
 runs : AreMoments two.sample_seen two.new_one (two.moments 2)
-unfolding state_after
-runs =
-    let join = chains_join (Unit {0}) two.sample_seen in
-    join.joins two.new_one two.births (two.page_out ++ (two.parent_loads ++ (two.child_loads ++ (two.key_loads ++ two.counts 2)))) bears
-    (join.joins at_work two.page_out (two.parent_loads ++ (two.child_loads ++ (two.key_loads ++ two.counts 2))) pages-out
-    (join.joins _ two.parent_loads (two.child_loads ++ (two.key_loads ++ two.counts 2)) loads-parent
-    (join.joins _ two.child_loads (two.key_loads ++ two.counts 2) loads-child (join.joins _ two.key_loads (two.counts 2) loads-key counts-two))))
+runs = bears (two.page_out ++ from_parent) (pages-out from_parent (loads-parent from_child (loads-child from_key (loads-key (two.counts 2) counts-two))))
 
 all-asked : ArePremised two.new_one (two.moments 2)
-unfolding state_after
-all-asked =
-    ask-on two.new_one two.births (two.page_out ++ (two.parent_loads ++ (two.child_loads ++ (two.key_loads ++ two.counts 2)))) births-asked
-    (ask-on at_work two.page_out (two.parent_loads ++ (two.child_loads ++ (two.key_loads ++ two.counts 2))) steps-asked
-    (ask-on _ two.parent_loads (two.child_loads ++ (two.key_loads ++ two.counts 2)) parent-asked (ask-on _ two.child_loads (two.key_loads ++ two.counts 2) child-asked (key-asked 2))))
+all-asked = births-asked (two.page_out ++ from_parent) (steps-asked from_parent (parent-asked from_child (child-asked from_key (key-asked 2))))
 
 -- what comes later is a chain
 later : (s : State) (xs ys : List two.Happening) → AreMoments two.sample_seen s (xs ++ ys) → AreMoments two.sample_seen (state_after s xs) ys
@@ -59,11 +182,8 @@ pins-two n row is counted =
 no-other : (n : ℕ) → AreMoments two.sample_seen two.new_one (two.moments n) → n ≡ 2
 unfolding find_row is_named_by is_in state_after
 no-other n all =
-    let second = later two.new_one two.births (two.page_out ++ (two.parent_loads ++ (two.child_loads ++ (two.key_loads ++ two.counts n)))) all in
-    let third = later at_work two.page_out (two.parent_loads ++ (two.child_loads ++ (two.key_loads ++ two.counts n))) second in
-    let fourth = later (two.machine two.answered two.two_values two.done_work) two.parent_loads (two.child_loads ++ (two.key_loads ++ two.counts n)) third in
-    let fifth = later (two.machine two.parent_loaded two.parent_value two.done_work) two.child_loads (two.key_loads ++ two.counts n) fourth in
-    let last = later (two.machine two.child_loaded two.last_values two.done_work) two.key_loads (two.counts n) fifth in
+    let before = two.births ++ (two.page_out ++ (two.parent_loads ++ (two.child_loads ++ two.key_loads))) in
+    let last = later two.new_one before (two.counts n) all in
     let found = last.0.step.happens.step.does.0.found in
     pins-two n found.0 found.1 found.2
 

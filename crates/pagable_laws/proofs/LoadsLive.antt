@@ -26,11 +26,7 @@ pub got-cons : (q : ℕ) (frame : Frame) (frames : List Frame) → times_got q (
 got-cons q frame frames = sum_by-cons (λ (f : Frame). times (λ (r : ArcRef). r.handle.0 == q) f.got) frame frames
 
 pub once-new : (frame : Frame) (frames : List Frame) → frame.got ≡ [] → GotOnce frames → GotOnce (frame ∷ frames)
-once-new frame frames none once q =
-    let a = got-cons q frame frames in
-    let b : times (λ (r : ArcRef). r.handle.0 == q) frame.got ≡ 0 = ap (times (λ (r : ArcRef). r.handle.0 == q)) none in
-    let c = once q in
-    omega (arith, a, b, c)
+once-new frame frames none once q = grind (arith, got-cons)
 
 pub once-below : (frame : Frame) (frames : List Frame) → GotOnce (frame ∷ frames) → GotOnce frames
 once-below frame frames once q = let a = got-cons q frame frames in let c = once q in omega (arith, a, c)
@@ -170,10 +166,7 @@ pub record LoadReady (w : Core) (l : LoadNumber) (load : OpenLoad) (frames : Lis
   pub once : GotOnce frames
 
 pub live-new : (w : Core) (l : LoadNumber) (frame : Frame) (frames : List Frame) → frame.got ≡ [] → Live w l frames → Live w l (frame ∷ frames)
-live-new w l frame frames none live f r (zero, is) (place, there) =
-    let e : f.got ≡ [] = let same : frame ≡ f = cc in ap (λ (z : Frame). z.got) (sym same) ∙ none in
-    let no_one : slice_get [] place ≡ Some r = subst (λ (rs : List ArcRef). slice_get rs place ≡ Some r) e there in
-    absurd (cc)
+live-new w l frame frames none live f r (zero, is) (place, there) = grind arith
 live-new w l frame frames none live f r (suc i, is) among = live f r (i, is) among
 
 pub live-got : (w : Core) (l : LoadNumber) (frames : List Frame) (kind : Kind) (row : HandleRow) → row_at w row.number ≡ Some row → row.owner ≡ Owner.Load l → Live w l frames

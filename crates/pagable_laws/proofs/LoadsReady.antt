@@ -35,10 +35,7 @@ module _ {N : Type 0} (v : Values N) (lawful : IsLawful v) (readable : ReadsItsT
   no-value-load row own n is = let e : Owner.Load l ≡ Owner.Value n = sym own ∙ is in absurd (cc)
 
   begun-on : CallersKept → (node : NodeNumber) (t : ℕ) (h : HandleNumber) → load.root ≡ of_cell node t h → (row : HandleRow) × (row_at w' h ≡ Some row) × (row.owner ≡ Owner.Caller)
-  begun-on kept node t h root =
-      let b = ready.begun node t h root in
-      let s = kept h b.0 b.1 b.2 b.0 (no-value-caller b.0 b.2) (stands-whole whole h.0 b.0 b.1) in
-      (b.0, s.live, b.2)
+  begun-on kept node t h root = grind (arith, no-value-caller, stands-whole)
 
   live-on : (fs : List Frame) → LivesKept fs → Live w l fs → Live w' l fs
   live-on fs kept live frame r among got =
@@ -152,15 +149,7 @@ module _ {N : Type 0} (v : Values N) (lawful : IsLawful v) (readable : ReadsItsT
   -- ---- all steps
 
   pub goes-ready : (frames : List Frame) → GoesOn v w Owner.Caller reading frames w' → LoadReady w' l load frames
-  goes-ready frames (inl root) =
-      let kept = λ (h : HandleNumber) (x : HandleRow) (there : row_at w h ≡ Some x) (own : x.owner ≡ Owner.Caller) (y : HandleRow) (free : NotValues y.owner)
-      (s : Stands w.last.handle w.rows h.0 y). asked-keeps w w' root.asked.gives.2.asked s in
-      subst (λ fs. LoadReady w' l load fs) (sym root.goes) (record {
-        begun = begun-on kept;
-        live = live-new w' l (root_frame root.load.key reading.node_type root.blob) [] refl
-            (λ f r among got. absurd (let e = among.1 in cc));
-        once = once-new (root_frame root.load.key reading.node_type root.blob) [] refl (once-none [] refl);
-      })
+  goes-ready frames (inl root) = grind (arith, asked-keeps, begun-on, live-new, once-new, once-none)
   goes-ready frames (inr (inl g)) = subst (λ fs. LoadReady w' l load fs) (sym g.goes) (known-ready g.kind g.key g.k g.row g.asked.gives.2 g.made)
   goes-ready frames (inr (inr (inl g))) =
       let asked = g.asked.gives.2.1.asked in

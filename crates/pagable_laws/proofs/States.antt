@@ -1,11 +1,14 @@
--- Each pager and each machine of the chain of two levels is whole.
-use Rattle.pagable_laws.proofs.Words.{◌≡◌, ℕ, zero, suc, ◌<◌, ◌≤◌, ◌==◌, Bool, true, false, List, [], ◌∷◌, refl, ap, sym, subst, ◌∙◌, arith, Option, Some, None, is_some, is_none, nat_tests}
-use Rattle.pagable_laws.proofs.Words.{is_in, Mode, Core, Shelf, Reading, Walking, fallen, nobody, with_mode, with_key, is_named_by, without_worker, is_workers, is_workers_at, IsMachineWhole}
-use Rattle.pagable_laws.proofs.Words.{IsReadingWhole, IsWalkingWhole, find_row, no_work, value_at, ended, gives_up}
+-- Each pager and each machine of the chain of two levels is whole; and a worker's step of the chain is one of the machine, if the walk does it.
+use Rattle.pagable_laws.proofs.Words.{◌≡◌, ℕ, zero, suc, ◌<◌, ◌≤◌, ◌==◌, Bool, true, false, List, [], ◌∷◌, refl, ap, sym, subst, ◌∙◌, arith, Option, Some, None, is_some, is_none, nat_tests, is_in}
+use Rattle.pagable_laws.proofs.Words.{Mode, Core, Shelf, Reading, Walking, fallen, nobody, with_mode, with_key, is_named_by, without_worker, is_workers, is_workers_at, IsMachineWhole}
+use Rattle.pagable_laws.proofs.Words.{IsReadingWhole, IsWalkingWhole, find_row, no_work, value_at, ended, gives_up, inl, Ok, updated, if_there, Took, WorkerAnswer, Event, EventReply, Written}
+use Rattle.pagable_laws.proofs.Words.{Todo, SameShelf, WalkDoes, answer_after, is_counted, no_shelf, steps_after, Ends, TookWrites, sample, sample_seen, two_values, machine, walking, table_work}
+use Rattle.pagable_laws.proofs.Words.{walk_work}
+use Rattle.pagable_laws.proofs.Tested.{is_low, held-past, updated-past, IsFew, Passes, whole-so, KnowsThird}
+use Rattle.pagable_world.specs.Runs.{Does}
 use Rattle.pagable_laws.specs.TwoLevels as two
-use Rattle.pagable_laws.proofs.Tested.{all_pass, is_low, held-past, updated-past, IsFew}
-use Rattle.pagable_laws.proofs.Whole.{Passes, passes, tests, whole-so, KnowsThird}
 
+infixr 3 ◌⨾◌
 few-as : (w w' : Core) → w'.cells ≡ w.cells → w'.loads ≡ w.loads → w'.workers ≡ w.workers → IsFew w → IsFew w'
 few-as w w' same_cells same_loads same_workers few =
     record {
@@ -18,20 +21,19 @@ few-fallen : (w : Core) (gone : ℕ → Bool) → is_low (fallen w gone []) ≡ 
 few-fallen w gone low loads workers = record { cells = λ n lt. let e = held-past (fallen w gone []).rows low n lt in rw e refl; loads = loads; workers = workers }
 
 knows-none : (w : Core) → ((kind key : ℕ) → w.cache kind key ≡ None) → KnowsThird w
-knows-none w none kind key n is = let e = none kind key in absurd (cc)
+knows-none w none = record { knows = λ kind key n is. let e = none kind key in absurd (cc) }
 
 knows-third : (w : Core) → ((kind key : ℕ) → w.cache kind key ≡ two.child_got.cache kind key) → 3 ≤ w.last.node → KnowsThird w
 unfolding is_named_by
-knows-third w same given kind key n is = part (kind == 4) (key == 8) refl refl
+knows-third w same given = record { knows = λ kind key n is. part kind key n is (kind == 4) (key == 8) refl refl }
   where
-    part : (a b : Bool) → (kind == 4) ≡ a → (key == 8) ≡ b → (kind ≡ 4) × (n ≡ 3) × (3 ≤ w.last.node)
-    part true true e f =
+    part : (kind key n : ℕ) → w.cache kind key ≡ Some n → (a b : Bool) → (kind == 4) ≡ a → (key == 8) ≡ b → (kind ≡ 4) × (n ≡ 3) × (3 ≤ w.last.node)
+    part kind key n is true true e f =
         let g : two.child_got.cache kind key ≡ Some 3 = rw (e, f) refl in
-        let i : Some 3 ≡ Some n = sym g ∙ sym (same kind key) ∙ is in
-        let j : 3 ≡ n = cc in
-        (grind (arith, nat_tests), sym j, given)
-    part true false e f = let g : two.child_got.cache kind key ≡ None = rw (e, f) refl in let h = same kind key in absurd (cc)
-    part false b e f = let g : two.child_got.cache kind key ≡ None = rw e refl in let h = same kind key in absurd (cc)
+        let h : Some 3 ≡ Some n = sym g ∙ sym (same kind key) ∙ is in
+        (grind (arith, nat_tests), cc, given)
+    part kind key n is true false e f = let g : two.child_got.cache kind key ≡ None = rw (e, f) refl in let h = same kind key in absurd (cc)
+    part kind key n is false b e f = let g : two.child_got.cache kind key ≡ None = rw e refl in let h = same kind key in absurd (cc)
 
 -- ---- each pager
 
@@ -48,11 +50,12 @@ few-answered : IsFew two.answered
 unfolding is_named_by find_row
 few-answered = few-fallen (without_worker two.item_stored 1) (is_workers two.item_stored 1) refl (λ l lt. refl) (updated-past 1 1 false false two.begun.workers (omega arith) few-begun.workers)
 
-few-parent-loading : IsFew two.parent_loading
+few-evicted : IsFew two.evicted
 unfolding is_named_by find_row
-few-parent-loading =
-    let few : IsFew two.evicted = few-fallen (with_mode two.answered (two.handle 2) Mode.LooseUnpinned) two.child_handle refl (λ l lt. refl) few-answered.workers in
-    record { cells = few.cells; loads = updated-past 3 1 _ None (λ l. None) (omega arith) (λ l lt. refl); workers = few.workers }
+few-evicted = few-fallen (with_mode two.answered (two.handle 2) Mode.LooseUnpinned) two.child_handle refl (λ l lt. refl) few-answered.workers
+
+few-parent-loading : IsFew two.parent_loading
+few-parent-loading = record { cells = few-evicted.cells; loads = updated-past 3 1 _ None (λ l. None) (omega arith) (λ l lt. refl); workers = few-evicted.workers }
 
 few-got : IsFew two.child_got
 few-got = record { cells = updated-past 3 3 _ None two.parent_loading.cells (omega arith) few-parent-loading.cells; loads = few-parent-loading.loads; workers = few-parent-loading.workers }
@@ -65,120 +68,106 @@ few-loaded = few-fallen (ended two.child_got 1 2 2 (two.to_leaf 3 8 ∷ [])) (gi
 few-child-loading : IsFew two.child_loading
 few-child-loading = record { cells = few-loaded.cells; loads = updated-past 3 2 _ None two.parent_loaded.loads (omega arith) few-loaded.loads; workers = few-loaded.workers }
 
-pub child-passes : Passes two.child_born two.one_value
-unfolding value_at is_named_by find_row
-child-passes = passes two.child_born two.one_value few-child (knows-none two.child_born (λ kind key. refl)) (omega arith) refl refl refl
+few-child-loaded : IsFew two.child_loaded
+unfolding is_named_by find_row
+few-child-loaded = few-fallen (ended two.child_loading 2 3 10 []) (gives_up two.child_loading 2 []) refl
+    (updated-past 3 2 None None two.child_loading.loads (omega arith) few-child-loading.loads) few-child-loading.workers
 
-pub both-passes : Passes two.both_born two.two_values
-unfolding value_at is_named_by find_row
-both-passes = passes two.both_born two.two_values few-both (knows-none two.both_born (λ kind key. refl)) (omega arith) refl refl refl
-
-pub begun-passes : Passes two.begun two.two_values
-unfolding value_at is_named_by find_row
-begun-passes = passes two.begun two.two_values few-begun (knows-none two.begun (λ kind key. refl)) (omega arith) refl refl refl
-
-pub parent-pinned-passes : Passes two.parent_pinned two.two_values
-unfolding value_at is_named_by find_row
-parent-pinned-passes = passes two.parent_pinned two.two_values (few-as two.begun two.parent_pinned refl refl refl few-begun) (knows-none two.parent_pinned (λ kind key. refl))
-    (omega arith) refl refl refl
-
-pub both-pinned-passes : Passes two.both_pinned two.two_values
-unfolding value_at is_named_by find_row
-both-pinned-passes = passes two.both_pinned two.two_values (few-as two.begun two.both_pinned refl refl refl few-begun) (knows-none two.both_pinned (λ kind key. refl)) (omega arith) refl refl refl
-
-pub child-stored-passes : Passes two.child_stored two.two_values
-unfolding value_at is_named_by find_row
-child-stored-passes = passes two.child_stored two.two_values (few-as two.begun two.child_stored refl refl refl few-begun) (knows-none two.child_stored (λ kind key. refl)) (omega arith) refl refl refl
-
--- after a fall of a pager with the worker at work
-fallen-passes : (w : Core) (gone : ℕ → Bool) → let w' = fallen w gone [] in is_low w' ≡ true → w.loads ≡ (λ l. None) → w.workers ≡ two.begun.workers
-    → ((kind key : ℕ) → w.cache kind key ≡ None) → w'.list ≡ [] → w.closed ≡ false
-    → all_pass (λ b. b) (tests w' two.two_values) ≡ true → Passes w' two.two_values
-fallen-passes w gone low loads workers cache list closed ok =
-    passes (fallen w gone []) two.two_values (few-fallen w gone low (λ l lt. ap (λ f. f l) loads) (λ v lt. ap (λ f. f v) workers ∙ few-begun.workers v lt)) (knows-none (fallen w gone []) cache)
-    (omega arith) list closed ok
-
-pub child-keyed-passes : Passes two.child_keyed two.two_values
-unfolding value_at is_named_by find_row
-child-keyed-passes = fallen-passes (with_key two.child_stored (two.node 1) 8) nobody refl refl refl (λ kind key. refl) refl refl refl
-
-pub child-released-passes : Passes two.child_released two.two_values
-unfolding value_at is_named_by find_row
-child-released-passes = fallen-passes two.child_keyed (is_workers_at two.child_keyed 1 1) refl refl refl (λ kind key. refl) refl refl refl
-
-pub parent-stored-passes : Passes two.parent_stored two.two_values
-unfolding value_at is_named_by find_row
-parent-stored-passes = passes two.parent_stored two.two_values (few-as two.child_released two.parent_stored refl refl refl child-released-passes.few)
-    (knows-none two.parent_stored (λ kind key. refl)) (omega arith) refl refl refl
-
-pub parent-keyed-passes : Passes two.parent_keyed two.two_values
-unfolding value_at is_named_by find_row
-parent-keyed-passes = fallen-passes (with_key two.parent_stored (two.node 2) 24) nobody refl refl refl (λ kind key. refl) refl refl refl
-
-pub parent-released-passes : Passes two.parent_released two.two_values
-unfolding value_at is_named_by find_row
-parent-released-passes = fallen-passes two.parent_keyed (is_workers_at two.parent_keyed 1 2) refl refl refl (λ kind key. refl) refl refl refl
-
-pub answered-passes : Passes two.answered two.two_values
-unfolding value_at is_named_by find_row
-answered-passes = passes two.answered two.two_values few-answered (knows-none two.answered (λ kind key. refl)) (omega arith) refl refl refl
-
-pub evicted-passes : Passes two.evicted []
-unfolding value_at is_named_by find_row
-evicted-passes = passes two.evicted [] (few-fallen (with_mode two.answered (two.handle 2) Mode.LooseUnpinned) two.child_handle refl (λ l lt. refl) few-answered.workers)
-    (knows-none two.evicted (λ kind key. refl)) (omega arith) refl refl refl
-
-pub parent-loading-passes : Passes two.parent_loading []
-unfolding value_at is_named_by find_row
-parent-loading-passes = passes two.parent_loading [] few-parent-loading (knows-none two.parent_loading (λ kind key. refl)) (omega arith) refl refl refl
-
-pub got-passes : Passes two.child_got []
-unfolding value_at is_named_by find_row
-got-passes = passes two.child_got [] few-got (knows-third two.child_got (λ kind key. refl) (omega arith)) (omega arith) refl refl refl
-
-pub parent-loaded-passes : Passes two.parent_loaded two.parent_value
-unfolding value_at is_named_by find_row
-parent-loaded-passes = passes two.parent_loaded two.parent_value few-loaded (knows-third two.parent_loaded (λ kind key. refl) (omega arith)) (omega arith) refl refl refl
-
-pub child-cloned-passes : Passes two.child_cloned two.parent_value
-unfolding value_at is_named_by find_row
-child-cloned-passes = passes two.child_cloned two.parent_value (few-as two.parent_loaded two.child_cloned refl refl refl few-loaded)
-    (knows-third two.child_cloned (λ kind key. refl) (omega arith)) (omega arith) refl refl refl
-
-pub child-loading-passes : Passes two.child_loading two.parent_value
-unfolding value_at is_named_by find_row
-child-loading-passes = passes two.child_loading two.parent_value few-child-loading (knows-third two.child_loading (λ kind key. refl) (omega arith)) (omega arith) refl refl refl
-
-pub child-loaded-passes : Passes two.child_loaded two.last_values
-unfolding value_at is_named_by find_row
-child-loaded-passes = passes two.child_loaded two.last_values
-    (few-fallen (ended two.child_loading 2 3 10 []) (gives_up two.child_loading 2 []) refl
-    (updated-past 3 2 None None two.child_loading.loads (omega arith) few-child-loading.loads) few-child-loading.workers) (knows-third two.child_loaded (λ kind key. refl) (omega arith))
-    (omega arith) refl refl refl
+few-key-loading : IsFew two.key_loading
+few-key-loading =
+    record { cells = few-child-loaded.cells; loads = updated-past 3 3 _ None two.child_loaded.loads (omega arith) few-child-loaded.loads; workers = few-child-loaded.workers }
 
 few-read-back : IsFew two.read_back
 unfolding is_named_by find_row is_in
-few-read-back =
-    few-fallen two.handed two.not_handed refl
-    (updated-past 3 3 None None two.key_loading.loads (omega arith)
-    (updated-past 3 3 _ None two.child_loaded.loads (omega arith) (updated-past 3 2 None None two.child_loading.loads (omega arith) few-child-loading.loads)))
-    few-child-loading.workers
+few-read-back = few-fallen two.handed two.not_handed refl (updated-past 3 3 None None two.key_loading.loads (omega arith) few-key-loading.loads) few-key-loading.workers
+
+pub child-passes : Passes two.child_born two.one_value
+unfolding value_at is_named_by find_row
+child-passes = search (few-child, knows-none two.child_born (λ kind key. refl))
+
+pub both-passes : Passes two.both_born two.two_values
+unfolding value_at is_named_by find_row
+both-passes = search (few-both, knows-none two.both_born (λ kind key. refl))
+
+pub begun-passes : Passes two.begun two.two_values
+unfolding value_at is_named_by find_row
+begun-passes = search (few-begun, knows-none two.begun (λ kind key. refl))
+
+pub parent-pinned-passes : Passes two.parent_pinned two.two_values
+unfolding value_at is_named_by find_row
+parent-pinned-passes = search (few-as two.begun two.parent_pinned refl refl refl few-begun, knows-none two.parent_pinned (λ kind key. refl))
+
+pub both-pinned-passes : Passes two.both_pinned two.two_values
+unfolding value_at is_named_by find_row
+both-pinned-passes = search (few-as two.begun two.both_pinned refl refl refl few-begun, knows-none two.both_pinned (λ kind key. refl))
+
+pub child-stored-passes : Passes two.child_stored two.two_values
+unfolding value_at is_named_by find_row
+child-stored-passes = search (few-as two.begun two.child_stored refl refl refl few-begun, knows-none two.child_stored (λ kind key. refl))
+
+pub child-keyed-passes : Passes two.child_keyed two.two_values
+unfolding value_at is_named_by find_row
+child-keyed-passes = search (few-fallen (with_key two.child_stored (two.node 1) 8) nobody refl (λ l lt. refl) few-begun.workers, knows-none two.child_keyed (λ kind key. refl))
+
+pub child-released-passes : Passes two.child_released two.two_values
+unfolding value_at is_named_by find_row
+child-released-passes = search (few-fallen two.child_keyed (is_workers_at two.child_keyed 1 1) refl (λ l lt. refl) few-begun.workers, knows-none two.child_released (λ kind key. refl))
+
+pub parent-stored-passes : Passes two.parent_stored two.two_values
+unfolding value_at is_named_by find_row
+parent-stored-passes = search (few-as two.child_released two.parent_stored refl refl refl child-released-passes.few, knows-none two.parent_stored (λ kind key. refl))
+
+pub parent-keyed-passes : Passes two.parent_keyed two.two_values
+unfolding value_at is_named_by find_row
+parent-keyed-passes = search (few-fallen (with_key two.parent_stored (two.node 2) 24) nobody refl (λ l lt. refl) few-begun.workers, knows-none two.parent_keyed (λ kind key. refl))
+
+pub parent-released-passes : Passes two.parent_released two.two_values
+unfolding value_at is_named_by find_row
+parent-released-passes = search (few-fallen two.parent_keyed (is_workers_at two.parent_keyed 1 2) refl (λ l lt. refl) few-begun.workers, knows-none two.parent_released (λ kind key. refl))
+
+pub answered-passes : Passes two.answered two.two_values
+unfolding value_at is_named_by find_row
+answered-passes = search (few-answered, knows-none two.answered (λ kind key. refl))
+
+pub evicted-passes : Passes two.evicted []
+unfolding value_at is_named_by find_row
+evicted-passes = search (few-evicted, knows-none two.evicted (λ kind key. refl))
+
+pub parent-loading-passes : Passes two.parent_loading []
+unfolding value_at is_named_by find_row
+parent-loading-passes = search (few-parent-loading, knows-none two.parent_loading (λ kind key. refl))
+
+pub got-passes : Passes two.child_got []
+unfolding value_at is_named_by find_row
+got-passes = search (few-got, knows-third two.child_got (λ kind key. refl) (omega arith))
+
+pub parent-loaded-passes : Passes two.parent_loaded two.parent_value
+unfolding value_at is_named_by find_row
+parent-loaded-passes = search (few-loaded, knows-third two.parent_loaded (λ kind key. refl) (omega arith))
+
+pub child-cloned-passes : Passes two.child_cloned two.parent_value
+unfolding value_at is_named_by find_row
+child-cloned-passes = search (few-as two.parent_loaded two.child_cloned refl refl refl few-loaded, knows-third two.child_cloned (λ kind key. refl) (omega arith))
+
+pub child-loading-passes : Passes two.child_loading two.parent_value
+unfolding value_at is_named_by find_row
+child-loading-passes = search (few-child-loading, knows-third two.child_loading (λ kind key. refl) (omega arith))
+
+pub child-loaded-passes : Passes two.child_loaded two.last_values
+unfolding value_at is_named_by find_row
+child-loaded-passes = search (few-child-loaded, knows-third two.child_loaded (λ kind key. refl) (omega arith))
 
 pub key-loading-passes : Passes two.key_loading two.last_values
 unfolding value_at is_named_by find_row
-key-loading-passes =
-    let few = child-loaded-passes.few in
-    passes two.key_loading two.last_values (record { cells = few.cells; loads = updated-past 3 3 _ None two.child_loaded.loads (omega arith) few.loads; workers = few.workers })
-    (knows-third two.key_loading (λ kind key. refl) (omega arith)) (omega arith) refl refl refl
+key-loading-passes = search (few-key-loading, knows-third two.key_loading (λ kind key. refl) (omega arith))
 
 pub child-known-passes : Passes two.child_known two.last_values
 unfolding value_at is_named_by find_row
-child-known-passes = passes two.child_known two.last_values (few-as two.key_loading two.child_known refl refl refl key-loading-passes.few)
-    (knows-third two.child_known (λ kind key. refl) (omega arith)) (omega arith) refl refl refl
+child-known-passes = search (few-as two.key_loading two.child_known refl refl refl few-key-loading, knows-third two.child_known (λ kind key. refl) (omega arith))
 
 pub read-back-passes : Passes two.read_back two.last_values
 unfolding value_at is_named_by find_row is_in
-read-back-passes = passes two.read_back two.last_values few-read-back (knows-third two.read_back (λ kind key. refl) (omega arith)) (omega arith) refl refl refl
+read-back-passes = search (few-read-back, knows-third two.read_back (λ kind key. refl) (omega arith))
 
 -- ---- the machine over it
 
@@ -224,3 +213,64 @@ work-whole w vs shelf walking readings p first none at_work reads =
 
 pub reads-none : (w : Core) (l : ℕ) (r : Reading) → None ≡ Some r → IsReadingWhole w l r
 reads-none w l r is = absurd (cc)
+
+-- ---- a worker's step of the chain of two levels is one of the machine, if the walk does it
+
+-- one moment, and those after it
+pub ◌⨾◌ : {A B : Type 0} → A → B → A × B
+a ⨾ b = (a, b)
+
+pub same-shelf : (s : Shelf) → SameShelf s s
+same-shelf s = record { slots = λ i. refl; waits = λ v. refl }
+
+-- what is changed again, at the same number
+pub again : {X : Type 0} (n : ℕ) (x y : X) (f : ℕ → X) (q : ℕ) → updated n y f q ≡ updated n y (updated n x f) q
+again n x y f q = part (q == n) refl
+  where
+    part : (b : Bool) → (q == n) ≡ b → updated n y f q ≡ updated n y (updated n x f) q
+    part true e = rw e refl
+    part false e = rw e refl
+
+pub shelf-again : (x y : Shelf) (t : ℕ) → SameShelf (updated 1 y (updated 1 x (λ q. no_shelf)) t) (updated 1 y (λ q. no_shelf) t)
+shelf-again x y t = part (t == 1) refl
+  where
+    part : (b : Bool) → (t == 1) ≡ b → SameShelf (updated 1 y (updated 1 x (λ q. no_shelf)) t) (updated 1 y (λ q. no_shelf) t)
+    part true e = rw e (same-shelf y)
+    part false e = rw e (same-shelf no_shelf)
+
+pub none-there : {X Y : Type 0} (found : Option Y) (x : Option X) → x ≡ None → x ≡ if_there (λ (y : Y). x) None found
+none-there (Some y) x is = refl
+none-there None x is = is
+
+-- A step of the worker, after which the pager is whole. With its answer the worker ends.
+pub worker-does : {core mid core' : Core} {shelf shelf' : Shelf} {todo todo' : List Todo} {step : Took Written} {steps' : ℕ} {answer : Option WorkerAnswer} (steps : ℕ)
+    → WalkDoes sample_seen 1 (record { core = core; shelf = shelf; todo = todo }) step (record { core = mid; shelf = shelf'; todo = todo' })
+    → answer ≡ answer_after todo step → steps' ≡ steps_after steps (is_counted todo step) → Ends answer 1 mid core'
+    → TookWrites sample (λ w. w) (machine core two_values (table_work shelf)).pager step
+    → Passes core' two_values → core'.workers 0 ≡ false → core'.workers 1 ≡ is_none answer
+    → Does sample_seen (machine core two_values (walk_work shelf (walking todo steps None)))
+    (Event.WorkerStep (record { 0 = 1 })) (EventReply.WorkerMoved (Ok (record { took = step; answer = answer; steps = steps' })))
+    (machine core' two_values (walk_work shelf' (walking todo' steps' answer)))
+worker-does {core} {mid} {core'} {shelf} {shelf'} {todo} {todo'} {step} {steps'} {answer} steps does answers counts ends writes passes none at_work =
+    record {
+      step = record {
+        happens = record {
+          moves = record {
+            walking = walking todo steps None;
+            after = record { core = mid; shelf = shelf'; todo = todo' };
+            at = refl;
+            at_work = refl;
+            does = does;
+            answers = answers;
+            counts = counts;
+            ends = ends;
+            readings = λ l. none-there (core'.loads l) None refl;
+            work = record { same_shelves = shelf-again shelf shelf'; last_is = refl; same_walkings = again 1 (Some (walking todo steps None)) (Some (walking todo' steps' answer)) (λ q. None) };
+          };
+          refused = tt;
+        };
+      };
+      moves = record { each = λ n x is. inl is; environment = refl };
+      writes = writes;
+      whole = work-whole core' two_values shelf' (walking todo' steps' answer) (λ l. None) passes refl none at_work (λ l r is. reads-none core' l r is);
+    }

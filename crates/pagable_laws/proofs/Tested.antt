@@ -2,9 +2,12 @@
 use Rattle.pagable_laws.proofs.Words.{◌≡◌, ℕ, zero, suc, ◌<◌, ◌≤◌, ◌==◌, ◌&&◌, Bool, true, false, List, [], ◌∷◌, refl, ap, sym, subst, arith, All, not, Ok, None, is_some, nat_lt, nat_le, nat_eq}
 use Rattle.pagable_laws.proofs.Words.{and_parts, agree_below, agree_below_at, nat_tests, AllPairs-cons, Among, times, one, updated, if_there, Owner, HandleRow, is_shared, is_loose, is_owner}
 use Rattle.pagable_laws.proofs.Words.{is_owned_by, owner_value, is_at, is_pin, is_share, held, pins, sharing, Core, OpenLoad, Root, of_cell, of_key, row_at, type_at, Alike, loses_value}
-use Rattle.pagable_laws.proofs.Words.{owned_outside, is_outside, is_keyed, IsLeast, MustList, Falls, fallen, IsHandleBefore}
+use Rattle.pagable_laws.proofs.Words.{owned_outside, is_outside, is_keyed, IsLeast, MustList, Falls, fallen, IsHandleBefore, length, ◌∙◌, inl, slice_get, Option, Some, ArcRef, type_of}
+use Rattle.pagable_laws.proofs.Words.{is_shared_kind, is_handle, fits_mode, is_here, is_type, IsReference, WellFormed, MayOwnLoad, IsRootWhole, no_work, Sample, sample, sample_type}
+use Rattle.pagable_laws.proofs.Words.{sample_references, value_at, machine}
 use Rattle.std.specs.List.{AllPairs}
 use Rattle.pagable_laws.proofs.Sums.{sum-zero}
+use Rattle.pagable_laws.proofs.GoodReferences.{typed-by}
 
 -- ---- lists and numbers
 
@@ -184,3 +187,253 @@ root_fits w of_key = true
 
 abbrev pub load_fits : Core → ℕ → Bool
 load_fits w l = if_there (λ (load : OpenLoad). nat_lt 0 l && (nat_le l w.last.load && (is_owner Owner.Caller load.owner && root_fits w load.root))) true (w.loads l)
+
+-- ---- a pager of few nodes, handles and loads is whole, if tests of these say so
+
+-- ---- tests of nodes
+
+abbrev pub node_given : Core → ℕ → Bool
+node_given w n = is_some (w.cells n) && not (nat_lt 0 n && nat_le n w.last.node)
+
+abbrev pub value_typed : Core → List (Option Sample) → ℕ → Bool
+value_typed w vs n = if_there (λ x. is_type (sample_type x) (type_at w n)) true (value_at vs n)
+
+-- how often a value refers to a handle, and the value of the node owns it; which is the same
+abbrev pub refers : Sample → ℕ → ℕ
+refers x q = times (λ (r : ArcRef). r.handle.0 == q) (sample_references x)
+
+abbrev pub owns : Core → ℕ → ℕ → ℕ
+owns w n q = times (λ h. is_handle q h && is_owned_by (owner_value n) h) w.rows
+
+abbrev pub refers_to_own : Core → List (Option Sample) → ℕ → Bool
+refers_to_own w vs n = if_there (λ x. agree_below (λ q. nat_eq (refers x q) (owns w n q)) (λ q. true) 14) (nat_eq (times (is_owned_by (owner_value n)) w.rows) 0) (value_at vs n)
+
+abbrev pub row_refers : ℕ → ArcRef → HandleRow → Bool
+row_refers n r h = nat_eq h.node.0 r.node.0 && (is_owner (owner_value n) h.owner && fits_mode r.kind.0 h.mode)
+
+abbrev pub reference_stands : Core → ℕ → ArcRef → Bool
+reference_stands w n r = nat_le r.handle.0 13 && (if_there (row_refers n r) false (row_at w r.handle) && is_type (type_of r.kind.0) (type_at w r.node.0))
+
+abbrev pub references_stand : Core → List (Option Sample) → ℕ → Bool
+references_stand w vs n = if_there (λ x. all_pass (reference_stands w n) (sample_references x)) true (value_at vs n)
+
+-- the cache knows the third node at most, as one of kind 4
+pub record KnowsThird (w : Core) : Type 0 where
+  pub knows : (kind key n : ℕ) → w.cache kind key ≡ Some n → (kind ≡ 4) × (n ≡ 3) × (3 ≤ w.last.node)
+
+-- all that is tested of a pager
+pub record Passes (w : Core) (vs : List (Option Sample)) : Type 0 where
+  pub few : IsFew w
+  pub short : nat_le (length vs) 4 ≡ true
+  pub cache : KnowsThird w
+  pub list : w.list ≡ []
+  pub stands_open : w.closed ≡ false
+  pub low : is_low w ≡ true
+  pub rise : numbers_rise 0 w.rows ≡ true
+  pub rows : all_pass (row_there w) w.rows ≡ true
+  pub room : (nat_le w.last.handle 13 ≡ true) × (nat_le w.last.node 3 ≡ true) × (nat_le w.last.load 3 ≡ true) × (nat_le (length w.rows) w.places.handles ≡ true)
+  pub given : agree_below (node_given w) never 4 ≡ true
+  pub live : agree_below (λ n. is_some (w.cells n)) (λ n. nat_lt 0 (held n w.rows)) 4 ≡ true
+  pub loads : agree_below (load_fits w) (λ l. true) 4 ≡ true
+  pub workers : agree_below (λ v. w.workers v && not (nat_le v w.last.worker)) never 2 ≡ true
+  pub valued : agree_below (λ n. is_some (value_at vs n)) (λ n. is_some (w.cells n) && is_here w n) 4 ≡ true
+  pub typed : agree_below (value_typed w vs) (λ n. true) 4 ≡ true
+  pub inside : agree_below (refers_to_own w vs) (λ n. true) 4 ≡ true
+  pub references : agree_below (references_stand w vs) (λ n. true) 4 ≡ true
+  pub third : if_there (λ t. t == 1) true (type_at w 3) ≡ true
+
+-- ---- what the tests tell
+
+past-end : (vs : List (Option Sample)) (n : ℕ) → length vs ≤ n → value_at vs n ≡ None
+unfolding value_at
+past-end [] n few = refl
+past-end (x ∷ xs) zero few = absurd (omega arith)
+past-end (x ∷ xs) (suc n) few = past-end xs n (omega arith)
+
+some-of : {X : Type 0} (test : X → Bool) (x : Option X) (y : X) → if_there test true x ≡ true → x ≡ Some y → test y ≡ true
+some-of test (Some x) y ok is = let e : x ≡ y = cc in subst (λ z. test z ≡ true) e ok
+some-of test None y ok is = absurd (cc)
+
+is-caller : (o : Owner) → is_owner Owner.Caller o ≡ true → o ≡ Owner.Caller
+is-caller Owner.Caller ok = refl
+is-caller _ ok = absurd (cc)
+
+is-value : (n : ℕ) (o : Owner) → is_owner (owner_value n) o ≡ true → o ≡ owner_value n
+is-value n (Owner.Value m) ok = let e : m.0 ≡ n = grind (arith, nat_tests) in ap owner_value e
+is-value n _ ok = absurd (cc)
+
+found-of : (test : HandleRow → Bool) (found : Option HandleRow) → if_there test false found ≡ true → (row : HandleRow) × (found ≡ Some row) × (test row ≡ true)
+found-of test (Some row) ok = (row, refl, ok)
+found-of test None ok = absurd (cc)
+
+module _ (w : Core) (vs : List (Option Sample)) (p : Passes w vs) where
+  short : (n : ℕ) → 3 < n → value_at vs n ≡ None
+  short n lt = let a = p.short in past-end vs n (grind (arith, nat_tests))
+
+  row-parts : (h : HandleRow) → Among w.rows h → (0 < h.number.0) × (h.number.0 ≤ w.last.handle) × (owner_there w h.owner ≡ true)
+  row-parts h among =
+      let a = and_parts (nat_lt 0 h.number.0) (nat_le h.number.0 w.last.handle && owner_there w h.owner) (all-among (row_there w) w.rows h p.rows among) in
+      let b = and_parts (nat_le h.number.0 w.last.handle) (owner_there w h.owner) a.1 in
+      let c = a.0 in let d = b.0 in
+      (grind (arith, nat_tests), grind (arith, nat_tests), b.1)
+
+  owner-low : (h : HandleRow) → Among w.rows h → owner_low h.owner ≡ true
+  owner-low h among = (low-parts h (all-among row_low w.rows h p.low among)).2
+
+  node-given : (n : ℕ) → is_some (w.cells n) ≡ true → (0 < n) × (n ≤ w.last.node)
+  node-given n some =
+      let a = by-number 3 (node_given w) never p.given (λ n lt. let e = p.few.cells n lt in rw e refl) n in
+      (grind (arith, nat_tests), grind (arith, nat_tests))
+
+  live : (n : ℕ) → is_some (w.cells n) ≡ nat_lt 0 (held n w.rows)
+  live = by-number 3 (λ n. is_some (w.cells n)) (λ n. nat_lt 0 (held n w.rows)) p.live (λ n lt. let e = p.few.cells n lt in let f = held-past w.rows p.low n lt in rw (e, f) refl)
+
+  load-parts : (l : ℕ) (load : OpenLoad) → w.loads l ≡ Some load → (0 < l) × (l ≤ w.last.load) × (load.owner ≡ Owner.Caller) × (root_fits w load.root ≡ true)
+  load-parts l load is =
+      let test = by-number 3 (load_fits w) (λ l. true) p.loads (λ l lt. let e = p.few.loads l lt in rw e refl) l in
+      let a = some-of (λ (load : OpenLoad). nat_lt 0 l && (nat_le l w.last.load && (is_owner Owner.Caller load.owner && root_fits w load.root))) (w.loads l) load test is in
+      let b = and_parts (nat_lt 0 l) (nat_le l w.last.load && (is_owner Owner.Caller load.owner && root_fits w load.root)) a in
+      let c = and_parts (nat_le l w.last.load) (is_owner Owner.Caller load.owner && root_fits w load.root) b.1 in
+      let d = and_parts (is_owner Owner.Caller load.owner) (root_fits w load.root) c.1 in
+      let e = b.0 in let f = c.0 in
+      (grind (arith, nat_tests), grind (arith, nat_tests), is-caller load.owner d.0, d.1)
+
+  root-whole : (node : _) (t : ℕ) (h : _) → root_fits w (of_cell node t h) ≡ true → IsRootWhole w node t h
+  root-whole node t h ok =
+      let a = and_parts (if_there (λ u. u == t) true (type_at w node.0))
+      (if_there (λ (row : HandleRow). row.node.0 == node.0 && is_loose row.mode) true (row_at w h) && (nat_le h.0 w.last.handle && nat_le node.0 w.last.node)) ok in
+      let b = and_parts (if_there (λ (row : HandleRow). row.node.0 == node.0 && is_loose row.mode) true (row_at w h)) (nat_le h.0 w.last.handle && nat_le node.0 w.last.node) a.1 in
+      let c = and_parts (nat_le h.0 w.last.handle) (nat_le node.0 w.last.node) b.1 in
+      let d = c.0 in let e = c.1 in
+      record {
+        typed = λ u is. let f = some-of (λ u. u == t) (type_at w node.0) u a.0 is in grind (arith, nat_tests);
+        begun = λ row is.
+            let f = some-of (λ (row : HandleRow). row.node.0 == node.0 && is_loose row.mode) (row_at w h) row b.0 is in
+            let g = and_parts (row.node.0 == node.0) (is_loose row.mode) f in
+            let same : row.node.0 ≡ node.0 = let i = g.0 in grind (arith, nat_tests) in
+            (ap (λ k. record { 0 = k }) same, g.1);
+        given = (grind (arith, nat_tests), grind (arith, nat_tests));
+      }
+
+  -- a test of a node's value
+  of-value : (test : ℕ → Sample → Bool) → agree_below (λ n. if_there (test n) true (value_at vs n)) (λ n. true) 4 ≡ true → (n : ℕ) (x : Sample) → value_at vs n ≡ Some x → test n x ≡ true
+  of-value test ok n x is = some-of (test n) (value_at vs n) x (by-number 3 (λ n. if_there (test n) true (value_at vs n)) (λ n. true) ok (λ n lt. let e = short n lt in rw e refl) n) is
+
+  refers-to : (n : ℕ) (x : Sample) → value_at vs n ≡ Some x → all_pass (reference_stands w n) (sample_references x) ≡ true
+  refers-to = of-value (λ n x. all_pass (reference_stands w n) (sample_references x)) p.references
+
+  own-test : (n : ℕ) (found : Option Sample) → value_at vs n ≡ found
+      → if_there (λ x. agree_below (λ q. nat_eq (refers x q) (owns w n q)) (λ q. true) 14) (nat_eq (times (is_owned_by (owner_value n)) w.rows) 0) found ≡ true
+  own-test n found is = subst (λ f. if_there (λ x. agree_below (λ q. nat_eq (refers x q) (owns w n q)) (λ q. true) 14) (nat_eq (times (is_owned_by (owner_value n)) w.rows) 0) f ≡ true) is
+      (by-number 3 (refers_to_own w vs) (λ n. true) p.inside past n)
+    where
+      past : (n : ℕ) → 3 < n → refers_to_own w vs n ≡ true
+      past n lt = let e = short n lt in let f = owns-past w.rows p.low n lt in rw (e, f) refl
+
+  inside : (n : ℕ) (x : Sample) (q : ℕ) → value_at vs n ≡ Some x → refers x q ≡ owns w n q
+  inside n x q is = let a = by-number 13 (λ q. nat_eq (refers x q) (owns w n q)) (λ q. true) (own-test n (Some x) is) past q in grind (arith, nat_tests)
+    where
+      and-false : (a b : Bool) → a ≡ false → (a && b) ≡ false
+      and-false true b e = absurd (cc)
+      and-false false b e = refl
+
+      past : (q : ℕ) → 13 < q → nat_eq (refers x q) (owns w n q) ≡ true
+      past q lt =
+          let few = p.room.0 in
+          let a : refers x q ≡ 0 = none-pass (reference_stands w n) (λ (r : ArcRef). r.handle.0 == q) (sample_references x) (refers-to n x is)
+          (λ r ok. let b = (and_parts (nat_le r.handle.0 13) (if_there (row_refers n r) false (row_at w r.handle) && is_type (type_of r.kind.0) (type_at w r.node.0)) ok).0 in
+          grind (arith, nat_tests)) in
+          let c : owns w n q ≡ 0 = none-pass (row_there w) (λ h. is_handle q h && is_owned_by (owner_value n) h) w.rows p.rows
+          (λ h ok. let b = and_parts (nat_lt 0 h.number.0) (nat_le h.number.0 w.last.handle && owner_there w h.owner) ok in
+          let d = (and_parts (nat_le h.number.0 w.last.handle) (owner_there w h.owner) b.1).0 in and-false (is_handle q h) (is_owned_by (owner_value n) h) (grind (arith, nat_tests))) in
+          rw (a, c) refl
+
+  refers-well : (n : ℕ) (r : ArcRef) → reference_stands w n r ≡ true → IsReference w (owner_value n) r
+  refers-well n r ok =
+      let a = and_parts (nat_le r.handle.0 13) (if_there (row_refers n r) false (row_at w r.handle) && is_type (type_of r.kind.0) (type_at w r.node.0)) ok in
+      let b = and_parts (if_there (row_refers n r) false (row_at w r.handle)) (is_type (type_of r.kind.0) (type_at w r.node.0)) a.1 in
+      let found = found-of (row_refers n r) (row_at w r.handle) b.0 in
+      let c = and_parts (nat_eq found.0.node.0 r.node.0) (is_owner (owner_value n) found.0.owner && fits_mode r.kind.0 found.0.mode) found.2 in
+      let d = and_parts (is_owner (owner_value n) found.0.owner) (fits_mode r.kind.0 found.0.mode) c.1 in
+      let same : found.0.node.0 ≡ r.node.0 = let e = c.0 in grind (arith, nat_tests) in
+      record { row = found.0; live = found.1; at = ap (λ k. record { 0 = k }) same; owned = is-value n found.0.owner d.0; fits = d.1; typed = typed-by (type_of r.kind.0) (type_at w r.node.0) b.1 }
+
+  entry-shares : (h : HandleRow) → Among w.rows h → is_shared h.mode ≡ false
+  entry-shares h among = not-true (is_shared h.mode) (low-parts h (all-among row_low w.rows h p.low among)).1
+    where
+      not-true : (b : Bool) → not b ≡ true → b ≡ false
+      not-true true e = sym e
+      not-true false e = refl
+
+  load-there : (o : Owner) (l : _) → owner_there w o ≡ true → o ≡ Owner.Load l → is_some (w.loads l.0) ≡ true
+  load-there o l ok is = subst (λ o. owner_there w o ≡ true) is ok
+
+  worker-there : (o : Owner) (v : ℕ) → owner_there w o ≡ true → o ≡ Owner.Worker (record { 0 = v }) → w.workers v ≡ true
+  worker-there o v ok is = subst (λ o. owner_there w o ≡ true) is ok
+
+  no-list : (o : Owner) → owner_low o ≡ true → o ≡ Owner.List → ⊥
+  no-list o ok is = let a : owner_low Owner.List ≡ true = subst (λ o. owner_low o ≡ true) is ok in absurd (cc)
+
+  list-owns-none : (q : ℕ) → times (λ h. is_handle q h && is_owned_by Owner.List h) w.rows ≡ 0
+  list-owns-none q = none-pass row_low (λ h. is_handle q h && is_owned_by Owner.List h) w.rows p.low (λ h ok. let a = not-lists h.owner (low-parts h ok).2 in rw a (and-false (is_handle q h)))
+    where
+      not-lists : (o : Owner) → owner_low o ≡ true → is_owner Owner.List o ≡ false
+      not-lists Owner.List ok = absurd (cc)
+      not-lists _ ok = refl
+
+      and-false : (b : Bool) → (b && false) ≡ false
+      and-false true = refl
+      and-false false = refl
+
+  pub whole-so : WellFormed sample (machine w vs no_work).pager
+  whole-so =
+      let (few_handles, few_nodes, few_loads, enough) = p.room in
+      record {
+        whole = record {
+          handles = record {
+            ordered = (ordered 0 w.rows p.rise).0;
+            numbered = λ h among. let a = row-parts h among in (a.0, a.1);
+            nodes_numbered = node-given;
+            within = let a : w.last.handle ≤ 13 = grind (arith, nat_tests) in let b : w.last.node ≤ 3 = grind (arith, nat_tests) in let c : w.last.load ≤ 3 = grind (arith, nat_tests) in
+                (omega arith, omega arith, omega arith);
+            live = live;
+            uniform = λ n. inl (unshared w.rows p.low n);
+            unkeyed = λ n some. let a = unshared w.rows p.low n in absurd (omega arith);
+            places = (grind (arith, nat_tests), let e : length w.list ≡ 0 = ap length p.list in omega arith);
+          };
+          owners_there = record {
+            listed = λ q. subst (λ hs. times (λ h. h.0 == q) hs ≡ times (λ h. is_handle q h && is_owned_by Owner.List h) w.rows) (sym p.list) (sym (list-owns-none q));
+            waiting = λ h among is. absurd (no-list h.owner (owner-low h among) is);
+            loads = λ h l among is. load-there h.owner l (row-parts h among).2 is;
+            workers = λ h v among is. worker-there h.owner v (row-parts h among).2 is;
+          };
+          loads = record {
+            numbered = numbered;
+            owned = λ l load is. subst (λ o. MayOwnLoad w o) (sym (load-parts l load is).2) tt;
+            roots = λ l load node t h is root. root-whole node t h (subst (λ r. root_fits w r ≡ true) root (load-parts l load is).3);
+          };
+          cache = λ kind key n is. let (four, three, given) = p.cache.knows kind key n is in
+              record {
+                given = omega arith;
+                typed = λ t at. let a : type_at w 3 ≡ Some t = subst (λ k. type_at w k ≡ Some t) three at in let b = some-of (λ t. t == 1) (type_at w 3) t p.third a in
+                    let c : t ≡ 1 = grind (arith, nat_tests) in c ∙ ap type_of (sym four);
+                shares = λ h among at. entry-shares h among ∙ ap is_shared_kind (sym four);
+              };
+          workers_numbered = λ v is. let a = by-number 1 (λ v. w.workers v && not (nat_le v w.last.worker)) never p.workers (λ v lt. let e = p.few.workers v lt in rw e refl) v in
+              grind (arith, nat_tests);
+          shut = λ closed. let e = p.stands_open in absurd (cc);
+        };
+        counted = λ n. refl;
+        valued = by-number 3 (λ n. is_some (value_at vs n)) (λ n. is_some (w.cells n) && is_here w n) p.valued (λ n lt. let e = short n lt in let f = p.few.cells n lt in rw (e, f) refl);
+        typed = λ n x is. typed-by (sample_type x) (type_at w n) (of-value (λ n x. is_type (sample_type x) (type_at w n)) p.typed n x is);
+        inside = λ n x q is. inside n x q is;
+        bare = λ n is. let a = own-test n None is in grind (arith, nat_tests);
+        references = λ n x r is among. refers-well n r (all-among (reference_stands w n) (sample_references x) r (refers-to n x is) among);
+      }
+    where
+      numbered : (l : ℕ) → is_some (w.loads l) ≡ true → (0 < l) × (l ≤ w.last.load)
+      numbered l some = part (w.loads l) refl some
+        where
+          part : (found : Option OpenLoad) → w.loads l ≡ found → is_some found ≡ true → (0 < l) × (l ≤ w.last.load)
+          part (Some load) is some = let a = load-parts l load is in (a.0, a.1)
+          part None is some = absurd (cc)
