@@ -18,13 +18,13 @@ pub same-items : {A : Type 0} (xs ys : List (Meaning A)) → sequence xs ≡ seq
 same-items [] [] e = refl
 same-items [] (y ∷ ys) e = cc
 same-items (x ∷ xs) [] e = cc
-same-items (x ∷ xs) (y ∷ ys) e = first_of (grind (arith, common_steps, nat_tests, same-items xs ys), search (rules, same-items xs ys))
+same-items (x ∷ xs) (y ∷ ys) e = grind (arith, nat_tests, same-items xs ys)
 
 pub same-entries : {A : Type 0} (es fs : List (Entry A)) → of_entries es ≡ of_entries fs → es ≡ fs
 same-entries [] [] e = refl
 same-entries [] (f ∷ fs) e = cc
 same-entries (x ∷ es) [] e = cc
-same-entries {A} (x ∷ es) (f ∷ fs) e = first_of (grind (arith, common_steps, nat_tests, same-entries es fs), search (rules, same-entries es fs))
+same-entries {A} (x ∷ es) (f ∷ fs) e = grind (arith, nat_tests, same-entries es fs)
 
 same-flag : {A : Type 0} (b d : Bool) → (let m : Meaning A = meanings.flag b in m) ≡ meanings.flag d → b ≡ d
 same-flag true true e = refl

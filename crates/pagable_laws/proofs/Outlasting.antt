@@ -76,12 +76,12 @@ found-by : (q : ℕ) (row : HandleRow) (P : List HandleRow → Type 0) → ((h :
     → (rows : List HandleRow) → find_row q rows ≡ Some row → P rows
 unfolding find_row
 found-by q row P front later [] found = absurd (cc)
-found-by q row P front later (h ∷ hs) found = first_of (grind (arith, common_steps, nat_tests, found-by q row P front later hs), search (rules, found-by q row P front later hs))
+found-by q row P front later (h ∷ hs) found = grind (arith, nat_tests, found-by q row P front later hs)
 
 pub find-both : (q : ℕ) (xs ys : List HandleRow) → find_row q (xs ++ ys) ≡ or_else (find_row q xs) (find_row q ys)
 unfolding find_row
 find-both q [] ys = refl
-find-both q (h ∷ hs) ys = first_of (grind (arith, common_steps, nat_tests, find-both q hs ys), search (rules, find-both q hs ys))
+find-both q (h ∷ hs) ys = grind (arith, nat_tests, find-both q hs ys)
 
 pub among-found : (q : ℕ) (rows : List HandleRow) (row : HandleRow) → find_row q rows ≡ Some row → Among rows row
 among-found q rows row found = found-by q row (λ xs. Among xs row) (λ h hs is e. (zero, ap (λ (x : HandleRow). Some x) e)) (λ h hs is a. (suc a.0, a.1)) rows found

@@ -1,7 +1,4 @@
 -- Different blobs have different preimages.
-use Rattle.pagable_laws.proofs.Words.{nat_tests}
-use Rattle.std.proofs.lemmas.Grind.{common_steps}
-use Rattle.std.proofs.Common.{rules}
 use Rattle.pagable_laws.proofs.Words.{◌≡◌, ℕ, zero, suc, ◌+◌, ◌*◌, ◌/◌, ◌%◌, ◌^◌, ◌<◌, ◌≤◌, List, [], ◌∷◌, length, refl, sym, ap, ◌∙◌, arith, add-mul, add_assoc, div-add-mod', div-div-eq-div-mul}
 use Rattle.pagable_laws.proofs.Words.{div-one, mod-eq_of_lt, mod-lt, mul-add-mod_self_right, mul-le-mul_right, mul_assoc, one-le-pow, pow-suc, length-append, Blob, preimage, cut, HasOnePreimage}
 use Rattle.std.specs.Int.{byte_at, bytes_low_first, to_le_bytes, w64, w128}
@@ -36,7 +33,11 @@ pow_pos256 n = let h = one-le-pow n 256 (omega arith) in omega arith
 low-bytes : (k j x : ℕ) → low (bytes_low_first j k x) ≡ x / 256 ^ j % 256 ^ k
 unfolding low
 low-bytes zero j x = omega arith
-low-bytes (suc k) j x = first_of (grind (arith, common_steps, nat_tests, low-bytes k), grind (arith, nat_tests, pow-suc, div-div-eq-div-mul, mod-split, byte_at-pow, low-bytes k), search (rules, pow-suc, div-div-eq-div-mul, mod-split, byte_at-pow, low-bytes k))
+low-bytes (suc k) j x =
+    let ih = low-bytes k (suc j) x in
+    let shift : x / 256 ^ suc j ≡ x / 256 ^ j / 256 = ap (λ (p : ℕ). x / p) (pow-suc 256 j) ∙ sym (div-div-eq-div-mul x (256 ^ j) 256) in
+    let split = mod-split (x / 256 ^ j) {m = 256 ^ k} {c = 256} (pow_pos256 k) (omega arith) in
+    rw (ih, shift, byte_at-pow j x, pow-suc 256 k, split) (omega arith)
 
 low-again : (k x : ℕ) → x < 256 ^ k → low (bytes_low_first 0 k x) ≡ x
 low-again k x h = low-bytes k 0 x ∙ ap (λ (y : ℕ). y % 256 ^ k) (div-one x) ∙ mod-eq_of_lt h
@@ -55,7 +56,9 @@ same-keys : (ks ls : List ℕ) → AllByRecursion (λ k. k < 2 ^ 128) ks → All
 same-keys [] [] h g e = refl
 same-keys [] (l ∷ ls) h g e = absurd (omega (arith, ap length e, keys-length (l ∷ ls)))
 same-keys (k ∷ ks) [] h g e = absurd (omega (arith, ap length e, keys-length (k ∷ ks)))
-same-keys (k ∷ ks) (l ∷ ls) h g e = first_of (grind (arith, common_steps, nat_tests, same-keys ks ls), search (rules, same-keys ks ls))
+same-keys (k ∷ ks) (l ∷ ls) h g e =
+    let parts = cut (to_le_bytes w128 k) (to_le_bytes w128 l) _ _ refl e in
+    rw (same-128 k l h.0 g.0 parts.0, same-keys ks ls h.1 g.1 parts.1) refl
 
 pub one_preimage : HasOnePreimage
 unfolding preimage

@@ -48,7 +48,7 @@ in-numbers : (hs : List HandleNumber) (h : HandleNumber) → Among hs h → is_i
 unfolding is_in
 in-numbers [] h (i, is) = absurd (cc)
 in-numbers (x ∷ hs) h (zero, is) = let same : x ≡ h = cc in let e : (x.0 == h.0) ≡ true = ap (λ (z : HandleNumber). z.0 == h.0) same ∙ self-number h.0 in rw e refl
-in-numbers (x ∷ hs) h (suc i, is) = first_of (grind (arith, common_steps, nat_tests, in-numbers hs h), search (rules, in-numbers hs h))
+in-numbers (x ∷ hs) h (suc i, is) = grind (arith, nat_tests, in-numbers hs h)
 
 not-given : (a b : Bool) → b ≡ true → (a && not b) ≡ false
 not-given true b is = rw is refl

@@ -17,7 +17,7 @@ fits-kind kind = grind (arith, nat_tests)
 pub found-append : (q : ℕ) (xs ys : List HandleRow) (row : HandleRow) → find_row q (xs ++ ys) ≡ Some row → (find_row q xs ≡ Some row) ⊎ (find_row q ys ≡ Some row)
 unfolding find_row
 found-append q [] ys row found = inr found
-found-append q (h ∷ hs) ys row found = first_of (grind (arith, common_steps, nat_tests, found-append q hs ys row), search (rules, found-append q hs ys row))
+found-append q (h ∷ hs) ys row found = grind (arith, nat_tests, found-append q hs ys row)
 
 found-alone : (q : ℕ) (h row : HandleRow) → find_row q (h ∷ []) ≡ Some row → h ≡ row
 unfolding find_row

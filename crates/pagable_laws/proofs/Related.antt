@@ -33,22 +33,22 @@ module _ {A B : Type 0} {F : Type 0} {R : A → B → Type 0} where
   put_sorted-two : (order : KeyOrder) {acc : List (Entry A)} {acc2 : List (Entry B)} {e : Entry A} {f : Entry B} → AllTwo (EntryAlong F R) acc acc2 → EntryAlong F R e f
       → AllTwo (EntryAlong F R) (put_sorted order acc e) (put_sorted order acc2 f)
   put_sorted-two order {e = e} {f = f} no-two h = more-two e f [] [] h no-two
-  put_sorted-two order {e = e} {f = f} (more-two x y acc acc2 g k) h = first_of (grind (arith, common_steps, nat_tests, put_sorted-two order k h), grind (arith, nat_tests, more-two, plain-along, put_sorted-two order k h), search (rules, more-two, plain-along, put_sorted-two order k h))
+  put_sorted-two order {e = e} {f = f} (more-two x y acc acc2 g k) h = search (rules, more-two, plain-along, put_sorted-two order k h)
 
   put_sorted_item-two : (order : KeyOrder) {acc : List (Meaning A)} {acc2 : List (Meaning B)} {m : Meaning A} {n : Meaning B} → AllTwo (Along F R) acc acc2 → Along F R m n
       → AllTwo (Along F R) (put_sorted_item order acc m) (put_sorted_item order acc2 n)
   put_sorted_item-two order {m = m} {n = n} no-two h = more-two m n [] [] h no-two
-  put_sorted_item-two order {m = m} {n = n} (more-two x y acc acc2 g k) h = first_of (grind (arith, common_steps, nat_tests, put_sorted_item-two order k h), grind (arith, nat_tests, more-two, plain-along, put_sorted_item-two order k h), search (rules, more-two, plain-along, put_sorted_item-two order k h))
+  put_sorted_item-two order {m = m} {n = n} (more-two x y acc acc2 g k) h = search (rules, more-two, plain-along, put_sorted_item-two order k h)
 
   put_placed-two : {acc : List (Entry A)} {acc2 : List (Entry B)} {e : Entry A} {f : Entry B} → AllTwo (EntryAlong F R) acc acc2 → EntryAlong F R e f
       → AllTwo (EntryAlong F R) (put_placed acc e) (put_placed acc2 f)
   put_placed-two {e = e} {f = f} no-two h = more-two e f [] [] h no-two
-  put_placed-two {e = e} {f = f} (more-two x y acc acc2 g k) h = first_of (grind (arith, common_steps, nat_tests, put_placed-two k h), grind (arith, nat_tests, more-two, plain-along, put_placed-two k h), search (rules, more-two, plain-along, put_placed-two k h))
+  put_placed-two {e = e} {f = f} (more-two x y acc acc2 g k) h = search (rules, more-two, plain-along, put_placed-two k h)
 
   put_placed_item-two : {acc : List (Meaning A)} {acc2 : List (Meaning B)} {m : Meaning A} {n : Meaning B} → AllTwo (Along F R) acc acc2 → Along F R m n
       → AllTwo (Along F R) (put_placed_item acc m) (put_placed_item acc2 n)
   put_placed_item-two {m = m} {n = n} no-two h = more-two m n [] [] h no-two
-  put_placed_item-two {m = m} {n = n} (more-two x y acc acc2 g k) h = first_of (grind (arith, common_steps, nat_tests, put_placed_item-two k h), grind (arith, nat_tests, more-two, plain-along, put_placed_item-two k h), search (rules, more-two, plain-along, put_placed_item-two k h))
+  put_placed_item-two {m = m} {n = n} (more-two x y acc acc2 g k) h = search (rules, more-two, plain-along, put_placed_item-two k h)
 
 put_all-two : {X Y : Type 0} {V : X → Y → Type 0} (put : List X → X → List X) (put2 : List Y → Y → List Y)
     → ((acc : List X) (acc2 : List Y) (x : X) (y : Y) → AllTwo V acc acc2 → V x y → AllTwo V (put acc x) (put2 acc2 y))

@@ -34,7 +34,7 @@ sum-le f g (x ∷ xs) h =
 pub at-most-sum : {X : Type 0} (f : X → ℕ) (xs : List X) (x : X) → Among xs x → f x ≤ sum_by f xs
 at-most-sum f [] x among = absurd (cc)
 at-most-sum f (y ∷ ys) x (zero, is) = search (rules, sum_by-cons)
-at-most-sum f (y ∷ ys) x (suc i, is) = first_of (grind (arith, common_steps, nat_tests, at-most-sum f ys x), grind (arith, nat_tests, sum_by-cons, at-most-sum f ys x), search (rules, sum_by-cons, at-most-sum f ys x))
+at-most-sum f (y ∷ ys) x (suc i, is) = grind (arith, nat_tests, sum_by-cons, at-most-sum f ys x)
 
 -- a sum is the one of two functions
 pub sum-plus : {X : Type 0} (f g : X → ℕ) (xs : List X) → sum_by (λ x. f x + g x) xs ≡ sum_by f xs + sum_by g xs

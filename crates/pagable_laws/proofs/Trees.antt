@@ -27,7 +27,7 @@ module _ {store : ℕ → Option Blob} {types : Types} where
   same-followed none-followed none-followed e = refl
   same-followed (pair-followed x y a b h g) (pair-followed x2 y2 a2 b2 h2 g2) e = rw (same-followed h h2 cc, same-followed g g2 cc) refl
   same-followed (variant-followed x m a h) (variant-followed y n b h2) e = let same : x ≡ y = cc in rw (same, same-followed h h2 cc) refl
-  same-followed (reference-followed r x a p h) (reference-followed r2 x2 a2 p2 h2) e = first_of (grind (arith, common_steps, nat_tests, same-followed h h2), grind (arith, nat_tests, reference-followed, same-reading, same-followed h h2), search (rules, reference-followed, same-reading, same-followed h h2))
+  same-followed (reference-followed r x a p h) (reference-followed r2 x2 a2 p2 h2) e = grind (arith, nat_tests, same-followed h h2)
   same-followed h g e = absurd cc
 
 pub one_tree : IsOneTree

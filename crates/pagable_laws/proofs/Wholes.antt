@@ -11,7 +11,7 @@ use Rattle.std.specs.Int.{Width, w8, w16, w32, w64, w128}
 pub varint-again : (more last n : ℕ) (rest : List ℕ) → n < varint_limit more last → last < 128 → varint_at more last (varint more n ++ rest) ≡ Ok (n, rest)
 unfolding varint_limit varint varint_at
 varint-again zero last n rest h l = rw (le-leb n last (omega arith)) refl
-varint-again (suc more) last n rest h l = first_of (grind (arith, common_steps, nat_tests, varint-again more last), grind (arith, nat_tests, lt-ltb, le-ltb, varint-again more last), search (rules, lt-ltb, le-ltb, varint-again more last))
+varint-again (suc more) last n rest h l = grind (arith, nat_tests, varint-again more last)
 
 limit-16 : varint_limit 2 3 ≡ 65536
 unfolding varint_limit
