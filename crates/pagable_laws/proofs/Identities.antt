@@ -10,7 +10,7 @@ use Rattle.pagable_laws.proofs.ReadingStepsRows.{cached-rows, got-known, got-fal
 use Rattle.pagable_laws.proofs.EventSteps.{event-goes}
 use Rattle.pagable_laws.proofs.Sums.{self-number}
 use Rattle.pagable_laws.proofs.Usable.{IsEntered, IsHeldFor, can-use, entered-of, stays-alike, stays-fell}
-use Rattle.pagable_laws.proofs.UsableSteps.{event-lasts}
+use Rattle.pagable_laws.proofs.SparingSteps.{event-lasts}
 
 -- ---- what is got
 

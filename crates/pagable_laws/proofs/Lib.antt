@@ -63,7 +63,6 @@ pub mod Naming
 mod Held
 mod KeysGoing
 pub mod Sparing
-mod SparingCalls
 pub mod SparingSteps
 mod Shelves
 mod Stepping
@@ -92,8 +91,6 @@ mod Shallow
 mod Climbing
 mod Deeply
 pub mod Usable
-mod UsableCalls
-mod UsableSteps
 mod Identities
 mod Known
 mod Sound

@@ -1,4 +1,5 @@
 -- A tree of canonical types has one key, a stored tree has the key that it stands under, and keys tell trees apart.
+use Rattle.std.proofs.Common.{rules}
 use Rattle.pagable_laws.proofs.Words.{◌≡◌, ℕ, List, [], ◌∷◌, map, Option, Ok, refl, sym, ap, ◌∙◌, subst, append-nil, Meaning, number, integer, text, pattern, none, pair, variant, reference}
 use Rattle.pagable_laws.proofs.Words.{followed, Shape, read, read_typed, Blob, key_of, Tree, KeyRef, Types, tree, key_ref, type_of, ReadsAs, IsFollowed, number-followed, integer-followed}
 use Rattle.pagable_laws.proofs.Words.{text-followed, pattern-followed, none-followed, pair-followed, variant-followed, reference-followed, blob_context, rest_of, Kid, kind_of_kid, tree_of_kid}
@@ -66,10 +67,7 @@ pub one_key : IsOneKey
 one_key hash types t k l can h g = same-key h g can refl
 
 pub one_item_key : IsOneItemKey
-one_item_key hash types bytes kids k l item h g =
-    let can = canonical-kids item.shape item.meaning bytes kids item.reaches item.form in
-    let same = same-keys h.each g.each can.1 refl in
-    h.is ∙ ap (λ (keys : List ℕ). key_of hash (blob_of bytes keys)) same ∙ sym g.is
+one_item_key hash types bytes kids k l item h g = search (rules, canonical-kids, same-keys)
 
 -- ---- what is stored
 

@@ -1,9 +1,9 @@
 -- A handle that stands for a reference goes on to stand for it, and so does a clone of it; a key that was set stays.
-use Rattle.pagable_laws.proofs.Words.{◌≡◌, ℕ, ◌+◌, ◌≤◌, ◌==◌, Bool, true, List, [], ◌∷◌, ◌++◌, inl, inr, Option, Some, None, Ok, refl, sym, ap, subst, ◌∙◌, if◌then◌else◌, arith, not}
-use Rattle.pagable_laws.proofs.Words.{nat_tests, Error, ArcRef, HandleNumber, type_of, is_loose_kind, if_there, or_else, HandleRow, Owner, Mode, find_row, is_loose, fits_mode, has_key, Core}
-use Rattle.pagable_laws.proofs.Words.{Cell, Todo, to_start, to_item, to_publish, to_release, to_fail, row_at, type_at, refused_if, is_type}
-use Rattle.pagable_laws.proofs.Words.{row_fault, row_of, CloneCall, claim_fault, HandlesAreWhole, Change, StandsAt, KeyIsSet, Holds, AllHold}
-use Rattle.pagable_laws.proofs.Trees.{same_some}
+use Rattle.std.proofs.Common.{rules}
+use Rattle.pagable_laws.proofs.Words.{◌≡◌, ℕ, ◌+◌, ◌≤◌, true, List, [], ◌∷◌, ◌++◌, inl, inr, Some, None, Ok, refl, sym, ap, subst, ◌∙◌, arith}
+use Rattle.pagable_laws.proofs.Words.{nat_tests, ArcRef, HandleNumber, type_of, is_loose_kind, HandleRow, Owner, Mode, find_row, is_loose, fits_mode, has_key, Core}
+use Rattle.pagable_laws.proofs.Words.{Cell, Todo, to_start, to_item, to_publish, to_release, to_fail, row_at, type_at}
+use Rattle.pagable_laws.proofs.Words.{row_of, CloneCall, claim_fault, HandlesAreWhole, Change, StandsAt, KeyIsSet, Holds, AllHold}
 use Rattle.pagable_laws.proofs.Goes.{Goes, Kept, found-number}
 use Rattle.pagable_laws.proofs.Outlasting.{stands-new, among-found}
 use Rattle.pagable_laws.proofs.Following.{given-of}
@@ -62,24 +62,7 @@ pub record IsClaimable (w : Core) (r : ArcRef) : Type 0 where
   pub typed : type_at w r.node.0 ≡ Some (type_of r.kind.0)
 
 pub may-claim : (w : Core) (r : ArcRef) → claim_fault w r ≡ None → IsClaimable w r
-may-claim w r may = by-row (row_at w r.handle) refl may
-  where
-    of-type : (t : ℕ) (found : Option ℕ) → is_type t found ≡ true → found ≡ Some t
-    of-type t None e = absurd (cc)
-    of-type t (Some u) e = let f : (u == t) ≡ true = e in let same : u ≡ t = grind (arith, nat_tests) in ap (λ z. Some z) same
-
-    all-so : (a b c : Bool) → (if not a then Some Error.NoSuchHandle else or_else None (if not b then Some Error.WrongMode else refused_if (not c) Error.WrongKind)) ≡ None
-        → (a ≡ true) × (b ≡ true) × (c ≡ true)
-    all-so true true true e = (refl, refl, refl)
-    all-so _ _ _ e = absurd (cc)
-
-    by-row : (found : Option HandleRow) → row_at w r.handle ≡ found → if_there (row_fault w r None) (Some Error.NoSuchHandle) found ≡ None → IsClaimable w r
-    by-row None live e = absurd (cc)
-    by-row (Some row) live e =
-        let so = all-so (row.node.0 == r.node.0) (fits_mode r.kind.0 row.mode) (is_type (type_of r.kind.0) (type_at w r.node.0)) e in
-        let first : (row.node.0 == r.node.0) ≡ true = so.0 in
-        let same : row.node.0 ≡ r.node.0 = grind (arith, nat_tests) in
-        record { row = row; live = live; at = ap (λ x. record { 0 = x }) same; fits = so.1; typed = of-type _ _ so.2 }
+may-claim w r may = grind (arith, nat_tests)
 
 module _ {w : Core} (whole : HandlesAreWhole w) where
   pub handle-given : (h : HandleNumber) (row : HandleRow) → row_at w h ≡ Some row → h.0 ≤ w.last.handle
@@ -89,14 +72,7 @@ module _ {w : Core} (whole : HandlesAreWhole w) where
       omega arith
 
   pub claimed-stands : (r : ArcRef) → claim_fault w r ≡ None → StandsAt w r r.handle
-  claimed-stands r may =
-      let c = may-claim w r may in
-      record {
-        node_given = (given-of whole r.node.0 c.typed).1;
-        given = handle-given r.handle c.row c.live;
-        is = λ row live. let same : c.row ≡ row = same_some _ _ (sym c.live ∙ live) in
-            (ap (λ (x : HandleRow). x.node) (sym same) ∙ c.at, λ kind. loose-by r.kind.0 row.mode (ap (λ (x : HandleRow). fits_mode r.kind.0 x.mode) (sym same) ∙ c.fits) kind);
-      }
+  claimed-stands r may = search (rules, may-claim, given-of, handle-given, loose-by)
 
   -- a clone stands for what its handle stands for
   pub clone-stands : {w' : Core} {me : Owner} (r : ArcRef) (k : HandleNumber) → StandsAt w r r.handle → CloneCall w me r.handle (Ok k) w' → StandsAt w' r k

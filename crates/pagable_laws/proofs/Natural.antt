@@ -1,4 +1,5 @@
 -- Reading is natural in what stands for references, and forms are.
+use Rattle.std.proofs.Common.{rules}
 use Rattle.pagable_laws.proofs.Words.{◌≡◌, ℕ, List, [], ◌∷◌, map, Result, Ok, Err, refl, sym, ap, ◌∙◌, inl, subst, Error, ◌>>=◌, Meaning, number, integer, text, pattern, none, pair, variant}
 use Rattle.pagable_laws.proofs.Words.{reference, followed, rename, Rest, read, Form, rest, at, IsNatural, IsReadOver, IsRenamed, IsReadThrough, KeepsForms}
 use Rattle.pagable_laws.proofs.Along.{Along, number-along, integer-along, text-along, pattern-along, none-along, pair-along, variant-along, reference-along, followed-along, AllTwo, no-two}
@@ -116,10 +117,7 @@ any_cause e = Unit {0}
 through-out : {A B C D : Type 0} (f : A → C) (g : B → D) (m : Meaning B) (after : Rest A) {first : Result (Meaning B × Rest A) Error} {second : Result (Meaning D × Rest C) Error}
     → Out any_cause (Leads f) (Along (Unit {0}) (Leads g)) first second
     → first ≡ Ok (m, after) → second ≡ Ok (rename g m, rest after.bytes (map f after.refs))
-through-out {A} {B} {C} {D} f g m after (both-given p q v s) e =
-    let same : p ≡ (m, after) = cc in
-    let given = given_is q.0 _ q.1 _ _ (rename-along g v) s.bytes (map-all f s.refs) in
-    let P : Meaning B × Rest A → Type 0 = λ x. (let r : Result (Meaning D × Rest C) Error = Ok q in r) ≡ Ok (rename g x.0, rest x.1.bytes (map f x.1.refs)) in subst P same given
+through-out {A} {B} {C} {D} f g m after (both-given p q v s) e = search (rules, both-given, rename-along, map-all)
 through-out f g m after (both-refused x) e = cc
 through-out f g m after (first-refused x r c) e = cc
 

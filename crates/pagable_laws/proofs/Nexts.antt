@@ -1,14 +1,10 @@
 -- A blob asks for one thing, and a worker's steps follow its list.
+use Rattle.pagable_laws.proofs.Words.{arith, nat_tests}
 use Rattle.pagable_laws.proofs.Words.{◌≡◌, ℕ, refl, ap, ◌∙◌, List, ◌∷◌, Ok, Err, Some, None, Claim, PinStep, Took, Todo, to_start, to_pin, to_load, to_write, to_finish, to_item, to_set}
 use Rattle.pagable_laws.proofs.Words.{to_publish, to_release, to_fail, was_failed, Seen, Site, Does, WalkDoes, failing, failing_by, Follows, NextIsOneOf}
 
 pub next_is_one : NextIsOneOf
-next_is_one types frame =
-    record {
-      read_or_asks = λ own kind key is other. absurd (cc);
-      read_or_faulty = λ own e is other. absurd (cc);
-      asks_or_faulty = λ kind key e is other. absurd (cc);
-    }
+next_is_one types frame = grind (arith, nat_tests)
 
 module _ {N B W : Type 0} (m : Seen N B W) (v : ℕ) (s s' : Site) where
   follow : (todo : List Todo) → s.todo ≡ todo → (step : Took W) → Does m v s todo step s' → Follows m.written_of todo step s'.todo

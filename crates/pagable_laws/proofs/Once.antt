@@ -1,6 +1,6 @@
 -- Each stage once: what is still to be done of it, with what was done, is at most what was claimed.
-use Rattle.pagable_laws.proofs.Words.{◌≡◌, ℕ, ◌+◌, ◌≤◌, ◌<◌, ◌==◌, ◌&&◌, Bool, true, false, List, [], ◌∷◌, ◌++◌, refl, sym, subst, ◌∙◌, inl, inr, arith, Ok, Err, Some, None, nat_le, drop, length}
-use Rattle.pagable_laws.proofs.Words.{cases_lt, nat_tests, sum_by-cons, ArcRef, Identity, one, times, Claim, PinStep, Took, identity_of, Open, Todo, was_failed, to_start, to_pin, to_load}
+use Rattle.pagable_laws.proofs.Words.{◌≡◌, ℕ, ◌+◌, ◌≤◌, ◌==◌, ◌&&◌, Bool, true, false, List, [], ◌∷◌, ◌++◌, refl, sym, subst, ◌∙◌, arith, Ok, Err, Some, None, nat_le, drop}
+use Rattle.pagable_laws.proofs.Words.{nat_tests, sum_by-cons, ArcRef, Identity, one, times, Claim, PinStep, Took, identity_of, Open, Todo, was_failed, to_start, to_pin, to_load}
 use Rattle.pagable_laws.proofs.Words.{to_write, to_finish, to_item, to_set, to_publish, to_release, to_fail, Task, of_item, of_entry, Written, is_identity, next_start, give, first_todo, failing}
 use Rattle.pagable_laws.proofs.Words.{failing_by, Follows, Leads, InOrder, OnceEach, is_claim_of, is_later_of}
 
@@ -11,30 +11,8 @@ abbrev from : ℕ → ℕ → Bool → ℕ
 from k p b = one (nat_le p k && b)
 
 stage-step : (k p : ℕ) (b : Bool) → one (k == p && b) + from k (p + 1) b ≤ from k p b
-stage-step k p false = le-false (k == p) (nat_le (p + 1) k) (nat_le p k)
-  where
-    le-false : (x y z : Bool) → one (x && false) + one (y && false) ≤ one (z && false)
-    le-false true true true = omega arith
-    le-false true true false = omega arith
-    le-false true false true = omega arith
-    le-false true false false = omega arith
-    le-false false true true = omega arith
-    le-false false true false = omega arith
-    le-false false false true = omega arith
-    le-false false false false = omega arith
-stage-step k p true = elim (cases_lt k p) [ inl lt ↦ before lt | inr le ↦ elim (cases_lt p k) [ inl lt ↦ after lt | inr ge ↦ at (omega arith) ] ]
-  where
-    before : k < p → one (k == p && true) + from k (p + 1) true ≤ from k p true
-    before lt = let a : (k == p) ≡ false = grind (arith, nat_tests) in let b : nat_le (p + 1) k ≡ false = grind (arith, nat_tests) in let c : nat_le p k ≡ false = grind (arith, nat_tests) in
-        rw (a, b, c) (omega arith)
-
-    after : p < k → one (k == p && true) + from k (p + 1) true ≤ from k p true
-    after lt = let a : (k == p) ≡ false = grind (arith, nat_tests) in let b : nat_le (p + 1) k ≡ true = grind (arith, nat_tests) in let c : nat_le p k ≡ true = grind (arith, nat_tests) in
-        rw (a, b, c) (omega arith)
-
-    at : k ≡ p → one (k == p && true) + from k (p + 1) true ≤ from k p true
-    at is = let a : (k == p) ≡ true = grind (arith, nat_tests) in let b : nat_le (p + 1) k ≡ false = grind (arith, nat_tests) in let c : nat_le p k ≡ true = grind (arith, nat_tests) in
-        rw (a, b, c) (omega arith)
+stage-step k p false = grind (arith, nat_tests)
+stage-step k p true = grind (arith, nat_tests)
 
 at-most : (x b : Bool) → one (x && b) ≤ one b
 at-most true b = omega arith
@@ -99,10 +77,7 @@ module _ (k : ℕ) (i : Identity) where
   unfolding OnlyWaits all-left
   given r key height [] waits = record { same = refl; way = tt }
   given r key height (to_finish o ∷ below) waits = started-node _ _ _ below waits
-  given r key height (to_item written keys ∷ below) waits = more (started-item 0 (drop (length (keys ++ key ∷ [])) written.references) written (keys ++ key ∷ []) below waits)
-    where
-      more : {todo : List Todo} → Keeps (all-left below) todo → Keeps (0 + all-left below) todo
-      more g = record { same = g.same ∙ sym (plus-none _); way = g.way }
+  given r key height (to_item written keys ∷ below) waits = grind (arith, nat_tests)
   given r key height (_ ∷ below) waits = absurd waits
 
   -- whether the reference is of the identity
@@ -119,28 +94,16 @@ module _ (k : ℕ) (i : Identity) where
   gives a b is = omega arith
 
   claims-it : (r : ArcRef) (n : ℕ) → 0 + (from k 0 (at r) + n) ≤ one (at r) + (0 + n)
-  claims-it r n = sum _ _ (at-most (nat_le 0 k) (at r))
-    where
-      sum : (a b : ℕ) → a ≤ b → 0 + (a + n) ≤ b + (0 + n)
-      sum a b le = omega arith
+  claims-it r n = grind (arith, nat_tests)
 
   goes-up : (p : ℕ) (r : ArcRef) (m n : ℕ) → m ≡ from k (p + 1) (at r) + n → one (k == p && at r) + m ≤ 0 + (from k p (at r) + n)
-  goes-up p r m n is = sum _ _ _ (stage-step k p (at r)) is
-    where
-      sum : (l a b : ℕ) → l + a ≤ b → m ≡ a + n → l + m ≤ 0 + (b + n)
-      sum l a b le is = omega arith
+  goes-up p r m n is = grind (arith, nat_tests)
 
   skips : (r : ArcRef) (n : ℕ) → one (k == 1 && at r) + (from k 2 (at r) + n) ≤ 0 + (from k 0 (at r) + n)
-  skips r n = sum _ _ _ _ _ (stage-step k 1 (at r)) (stage-step k 0 (at r))
-    where
-      sum : (l a b x c : ℕ) → l + a ≤ b → x + b ≤ c → l + (a + n) ≤ 0 + (c + n)
-      sum l a b x c le more = omega arith
+  skips r n = grind (arith, nat_tests)
 
   ends : (p : ℕ) (r : ArcRef) (m n : ℕ) → m ≤ n → one (k == p && at r) + m ≤ 0 + (from k p (at r) + n)
-  ends p r m n few = sum _ _ _ (stage-step k p (at r))
-    where
-      sum : (l a b : ℕ) → l + a ≤ b → l + m ≤ 0 + (b + n)
-      sum l a b le = omega arith
+  ends p r m n few = grind (arith, nat_tests)
 
   -- one step: what is of the stage, with what is left of it, is at most a claim with what was left before
   record Goes (later claim : Bool) (todo next : List Todo) : Type 0 where
@@ -196,19 +159,13 @@ module _ (k : ℕ) (i : Identity) where
 
     after-release : (r : ArcRef) (key height : ℕ) (steps : List (Took W)) (last : List Todo) → Leads f (to_release r key height ∷ []) steps last → times (is_later_of k i) steps ≤ 1
     after-release r key height [] last leads = omega arith
-    after-release r key height (Took.Release j ∷ []) last leads = sum _ _ (later-cons (Took.Release j) []) (one-least (k == 6 && is_identity i j))
-      where
-        sum : (b t : ℕ) → t ≡ b + 0 → b ≤ 1 → t ≤ 1
-        sum b t is few = omega arith
+    after-release r key height (Took.Release j ∷ []) last leads = grind (arith, nat_tests)
     after-release r key height (Took.Release j ∷ x ∷ more) last (mid, (is, e), (after, follows, leads)) = absurd (subst (λ m. Follows f m x after) e follows)
     after-release r key height (step ∷ more) last (mid, follows, leads) = absurd follows
 
     -- a step that neither claims nor is of the stage
     once-more : (step : Took W) (steps : List (Took W)) → one (is_later_of k i step) ≡ 0 → times (is_later_of k i) steps ≤ 1 → times (is_later_of k i) (step ∷ steps) ≤ 1
-    once-more step steps is few = sum _ _ _ (later-cons step steps) is few
-      where
-        sum : (b t t' : ℕ) → t' ≡ b + t → b ≡ 0 → t ≤ 1 → t' ≤ 1
-        sum b t t' one_more none few = omega arith
+    once-more step steps is few = grind (arith, nat_tests)
 
     few-claims : (step : Took W) (steps : List (Took W)) → times (is_claim_of i) (step ∷ steps) ≤ 1 → one (is_claim_of i step) + times (is_claim_of i) steps ≤ 1
     few-claims step steps few = subst (λ n. n ≤ 1) (claim-cons step steps) few

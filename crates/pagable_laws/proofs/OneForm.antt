@@ -1,4 +1,7 @@
 -- A meaning of a canonical shape has at most one form.
+use Rattle.pagable_laws.proofs.Words.{arith, nat_tests}
+use Rattle.std.proofs.lemmas.Grind.{common_steps}
+use Rattle.std.proofs.Common.{rules}
 use Rattle.pagable_laws.proofs.Words.{◌≡◌, ℕ, suc, Bool, true, false, List, [], ◌∷◌, ◌++◌, length, refl, sym, ap, ◌∙◌, subst, unsigned_form, signed_form, bool_form, length_form, text_form}
 use Rattle.pagable_laws.proofs.Words.{char_form, Meaning, sequence, Entry, KeyOrder, of_entries, Shape, Form, Forms, Entries, nothing-form, unsigned-form, signed-form}
 use Rattle.pagable_laws.proofs.Words.{flag-form, text-form, letter-form, duration-form, pattern-form, none-form, some-form, err-form, ok-form, list-form, run-form, array-form, both-form}
@@ -15,23 +18,13 @@ pub same-items : {A : Type 0} (xs ys : List (Meaning A)) → sequence xs ≡ seq
 same-items [] [] e = refl
 same-items [] (y ∷ ys) e = cc
 same-items (x ∷ xs) [] e = cc
-same-items (x ∷ xs) (y ∷ ys) e =
-    let tails : sequence xs ≡ sequence ys = cc in
-    let heads : x ≡ y = cc in
-    let same = same-items xs ys tails in
-    rw (heads, same) refl
+same-items (x ∷ xs) (y ∷ ys) e = grind (arith, nat_tests, same-items xs ys)
 
 pub same-entries : {A : Type 0} (es fs : List (Entry A)) → of_entries es ≡ of_entries fs → es ≡ fs
 same-entries [] [] e = refl
 same-entries [] (f ∷ fs) e = cc
 same-entries (x ∷ es) [] e = cc
-same-entries {A} (x ∷ es) (f ∷ fs) e =
-    let tails : of_entries es ≡ of_entries fs = cc in
-    let keys : x.0 ≡ f.0 = cc in
-    let values : x.1 ≡ f.1 = cc in
-    let same = same-entries es fs tails in
-    let heads : x ≡ f = let P : Meaning A → Meaning A → Entry A = λ a b. (a, b) in ap (λ a. P a x.1) keys ∙ ap (λ b. P f.0 b) values in
-    rw (heads, same) refl
+same-entries {A} (x ∷ es) (f ∷ fs) e = grind (arith, nat_tests, same-entries es fs)
 
 same-flag : {A : Type 0} (b d : Bool) → (let m : Meaning A = meanings.flag b in m) ≡ meanings.flag d → b ≡ d
 same-flag true true e = refl

@@ -1,23 +1,22 @@
 -- Where each load is done in one piece, one of a cell whose key a page-out set is refused by chance alone.
-use Rattle.pagable_laws.proofs.Words.{◌≡◌, ℕ, zero, suc, ◌+◌, ◌<◌, ◌≤◌, ◌==◌, Bool, true, false, List, [], ◌∷◌, Option, Some, None, Ok, Err, ◌⊎◌, inl, inr, if◌then◌else◌, refl, sym, ap, subst}
-use Rattle.pagable_laws.proofs.Words.{◌∙◌, arith, slice_get, not, is_some, Error, HandleRow, Owner, Mode, Beginning, Call, Reply, LoadAnswer, LoadReply, Event, EventReply, ArcRef, HandleNumber}
-use Rattle.pagable_laws.proofs.Words.{LoadNumber, NodeNumber, Tree, Among, if_there, is_in, times, updated, any_mode, is_owner, held, find_row, Core, OpenLoad, of_cell, of_key, Frame, Reading}
-use Rattle.pagable_laws.proofs.Words.{Seen, IsLawful, row_at, IsReference, refused_if, references_fault, handle_fault, BeginCall, BeginKeyCall, IsDecoded, gone_on, fresh, ReadingsAre, reading_at}
+use Rattle.pagable_laws.proofs.Words.{nat_tests}
+use Rattle.pagable_laws.proofs.Words.{◌≡◌, ℕ, zero, suc, ◌+◌, ◌<◌, ◌≤◌, ◌==◌, Bool, true, false, List, [], ◌∷◌, Option, Some, None, Ok, Err, ◌⊎◌, inl, inr, refl, sym, ap, subst}
+use Rattle.pagable_laws.proofs.Words.{◌∙◌, arith, slice_get, is_some, Error, HandleRow, Owner, Mode, Beginning, Call, Reply, LoadAnswer, LoadReply, Event, EventReply, ArcRef, HandleNumber}
+use Rattle.pagable_laws.proofs.Words.{LoadNumber, NodeNumber, Tree, Among, if_there, is_in, times, updated, any_mode, held, find_row, Core, OpenLoad, of_cell, Frame, Reading}
+use Rattle.pagable_laws.proofs.Words.{Seen, IsLawful, row_at, IsReference, references_fault, handle_fault, BeginCall, BeginKeyCall, IsDecoded, gone_on, fresh, ReadingsAre, reading_at}
 use Rattle.pagable_laws.proofs.Words.{reading_after, LoadSteps, Stays, Happens, MachineState, world_of, IsMachineWhole, of_caller, FrameFits, FramesFit, ReadsItsTypes, Moment, AreMoments}
 use Rattle.pagable_laws.proofs.Words.{TreesAlong, Turn, of_load, of_nobody, turn_of, StandTogether, IsOfChance, IsLoadOfPagedOut, LoadIsSound, IsBeginOf, HasBegun, SoundLaw, FramesHeld}
 use Rattle.pagable_world.specs.Loads.{Does}
 use Rattle.pagable_world.specs.OneWorker.{of_worker}
 use Rattle.pagable_laws.proofs.Trees.{same_some}
 use Rattle.pagable_laws.proofs.Sums.{self-number, same-number}
-use Rattle.pagable_laws.proofs.Goes.{at-updated}
 use Rattle.pagable_laws.proofs.Coming.{event-turns, updated-at}
 use Rattle.pagable_laws.proofs.Chains.{IsGoingOn, idle-goes, goes}
 use Rattle.pagable_laws.proofs.Taking.{row-held}
 use Rattle.pagable_laws.proofs.Fitting.{first-fits}
 use Rattle.pagable_laws.proofs.Decoding.{decodes}
 use Rattle.pagable_laws.proofs.Outlasting.{stands-whole, stands-alike}
-use Rattle.pagable_laws.proofs.ReadingSteps.{caller-free, reading-feels}
-use Rattle.pagable_laws.proofs.ReadingStepsMachine.{reading-was, reading-stands}
+use Rattle.pagable_laws.proofs.ReadingStepsMachine.{reading-stands}
 use Rattle.pagable_laws.proofs.ReadingStepsGive.{got-typed}
 use Rattle.pagable_laws.proofs.HeightSteps.{HeightsIn, heights-at-first, heights-on}
 use Rattle.pagable_laws.proofs.Sound.{by-chance, by-references, by-handle}
@@ -44,11 +43,7 @@ unfolding is_turn
 turn-isnt n t isnt is = let e : is_turn n t ≡ true = ap (is_turn n) is ∙ self-number n in cc
 
 number-or : (a n : ℕ) → (a ≡ n) ⊎ (a ≡ n → ⊥)
-number-or a n = at (a == n) refl
-  where
-    at : (b : Bool) → (a == n) ≡ b → (a ≡ n) ⊎ (a ≡ n → ⊥)
-    at true e = inl (same-number a n e)
-    at false e = inr (λ is. let f : (a == n) ≡ true = ap (λ x. x == n) is ∙ self-number n in cc)
+number-or a n = grind (arith, nat_tests)
 
 module _ {N B W : Type 0} where
   -- a load's turn is its begin, or a step
@@ -104,10 +99,7 @@ module _ {N B W E : Type 0} (m : Seen N B W) (s s' : MachineState N E) (whole : 
   -- what has just begun has read nothing
   begun-empty : (l : LoadNumber) (reading : Reading) (readings : ℕ → Option Reading) → ReadingsAre readings (world_of s') → ((r : Reading) → readings l.0 ≡ Some r → r.frames ≡ [])
       → reading_at (world_of s') l ≡ Some reading → reading.frames ≡ []
-  begun-empty l reading readings are none at = elim (reading-stands (world_of s') whole'.pager.whole l reading at) [
-    | inl there ↦ none reading (reading-was readings (world_of s') are l.0 reading there).0
-    | inr begun ↦ begun.0
-  ]
+  begun-empty l reading readings are none at = grind (arith, nat_tests)
 
   by-call : (h : HandleNumber) (k l : LoadNumber) (key : ℕ) → BeginCall w Owner.Caller h (Ok (Beginning.Load k key)) w' → ReadingsAre s.work.readings (world_of s') → k.0 ≡ l.0 → Ready s' l
   by-call h k l key b are same = λ reading load at open_load.
@@ -127,40 +119,21 @@ module _ {N B W E : Type 0} (m : Seen N B W) (s s' : MachineState N E) (whole : 
 
   by-key : (k l : LoadNumber) (key t : ℕ) (b : BeginKeyCall w Owner.Caller key (Ok (Beginning.Load k key)) w') → ReadingsAre (updated k.0 (Some (fresh k t)) s.work.readings) (world_of s')
       → k.0 ≡ l.0 → Ready s' l
-  by-key k l key t b are same = λ reading load at open_load.
-      let g = b.begins in
-      let next = g.1.above in
-      let there : w'.loads l.0 ≡ Some (record { owner = Owner.Caller; key = key; root = of_key }) =
-      ap w'.loads (sym same ∙ next) ∙ g.2.loads (w.last.load + 1) ∙ updated-at (w.last.load + 1) _ w.loads in
-      let is : record { owner = Owner.Caller; key = key; root = of_key } ≡ load = same_some _ _ (sym there ∙ open_load) in
-      nothing-ready l load reading.frames
-      (begun-empty l reading (updated k.0 (Some (fresh k t)) s.work.readings) are (λ r e. elim (at-updated k.0 (Some (fresh k t)) s.work.readings l.0 r e) [
-        | inl (here, f) ↦ ap (λ (x : Reading). x.frames) (sym (same_some _ _ f))
-        | inr old ↦ absurd (unread l r (omega (arith, same, next)) old)
-      ]) at)
-      (λ node q h root. let e : of_key ≡ of_cell node q h = ap (λ (x : OpenLoad). x.root) is ∙ root in absurd (cc))
+  by-key k l key t b are same = grind (arith, nat_tests)
 
   begin-ready : (l : LoadNumber) (event : Event N B W) (reply : EventReply N B W) → IsBeginOf l.0 event reply → Happens m (world_of s) event reply (world_of s') → Ready s' l
   begin-ready l (Event.LoadStart h) (EventReply.Started (Ok (Beginning.Load k key))) is x = by-call h k l key x.step x.readings is
   begin-ready l (Event.Call (Call.LoadBegin h)) (EventReply.CallReply (Reply.Begun (Ok (Beginning.Load k key)))) is x = by-call h k l key x.step.does x.readings is
-  begin-ready l (Event.LoadKey q t) (EventReply.Started (Ok (Beginning.Load k key))) is x =
-      let same : key ≡ q = x.step.begins.0 in
-      by-key k l q t (subst (λ y. BeginKeyCall w Owner.Caller q (Ok (Beginning.Load k y)) w') same x.step) x.begun is
+  begin-ready l (Event.LoadKey q t) (EventReply.Started (Ok (Beginning.Load k key))) is x = grind (arith, nat_tests)
   begin-ready l event reply is x = absurd is
 
   -- ---- steps
 
   -- a step that ends closes the load
   closes : (reading : Reading) (end : LoadAnswer N) (frames : List Frame) → Does m.values w Owner.Caller reading (Some end) frames w' → w'.loads reading.load.0 ≡ None
-  closes reading (LoadAnswer.Pinned k) frames does = elim does.0.ended.installs.3.falls [
-    | inl (away, f) ↦ f.falls.leaves.loads reading.load.0 ∙ updated-at reading.load.0 None w.loads
-    | inr (here, f) ↦ f.falls.leaves.loads reading.load.0 ∙ updated-at reading.load.0 None w.loads
-  ]
+  closes reading (LoadAnswer.Pinned k) frames does = grind (arith, nat_tests)
   closes reading (LoadAnswer.Read x) frames does = does.0.handed.hands.1.falls.leaves.loads reading.load.0 ∙ updated-at reading.load.0 None w.loads
-  closes reading (LoadAnswer.Refused e) frames does = elim does.0 [
-    | inl gives ↦ gives.closes.leaves.loads reading.load.0 ∙ updated-at reading.load.0 None gives.mid.loads
-    | inr ended ↦ ended.ended.refused.closes.leaves.loads reading.load.0 ∙ updated-at reading.load.0 None w.loads
-  ]
+  closes reading (LoadAnswer.Refused e) frames does = grind (arith, nat_tests)
 
 -- a load's own step, where the chain goes on
 module _ {N B W E : Type 0} (m : Seen N B W) (lawful : IsLawful m.values) (readable : ReadsItsTypes m.values.types) (s s' : MachineState N E) (trees : ℕ → Tree)
@@ -197,13 +170,7 @@ module _ {N B W E : Type 0} (m : Seen N B W) (lawful : IsLawful m.values) (reada
 
   -- the load was open, and is the same
   was-open : (l : LoadNumber) (reply : LoadReply N) → LoadSteps m.values (world_of s) l reply (world_of s') → (load : OpenLoad) → s'.pager.core.loads l.0 ≡ Some load → core.loads l.0 ≡ Some load
-  was-open l reply x load open_load =
-      let f = reading-feels m core Owner.Caller caller-free s'.pager.core x.reading reply.ended x.frames x.does in
-      let few : l.0 ≤ core.last.load = elim (reading-stands (world_of s) on.whole.pager.whole l x.reading x.at) [
-        | inl there ↦ let a = on.whole.readings l.0 x.reading there in (on.whole.pager.whole.loads.numbered l.0 (ap is_some a.open_load)).1
-        | inr begun ↦ begun.3
-      ] in
-      elim (f.goes.loads l.0 load open_load) [ inl was ↦ was | inr (above, begins) ↦ absurd (omega (arith, few, above)) ]
+  was-open l reply x load open_load = grind (arith, nat_tests)
 
   step-ready : (l : LoadNumber) (reply : LoadReply N) → LoadSteps m.values (world_of s) l reply (world_of s') → Ready s l → Ready s' l
   step-ready l reply x ready reading load at open_load = by reply.ended refl
@@ -285,13 +252,7 @@ module _ {N B W E : Type 0} (m : Seen N B W) (lawful : IsLawful m.values) (reada
 
   callers-handle : (l : LoadNumber) (load : OpenLoad) (frames : List Frame) (node : NodeNumber) (t : ℕ) (h : HandleNumber) (e : Error) → LoadReady core l load frames
       → load.root ≡ of_cell node t h → handle_fault core Owner.Caller h any_mode ≡ Some e → ⊥
-  callers-handle l load frames node t h e ready root fault =
-      let b = ready.begun node t h root in
-      let own : is_owner Owner.Caller b.0.owner ≡ true = ap (is_owner Owner.Caller) b.2 in
-      let f : handle_fault core Owner.Caller h any_mode ≡ None =
-      ap (λ found. if_there (λ (row : HandleRow). if not (is_owner Owner.Caller row.owner) then Some Error.NotYours else refused_if (not (any_mode row.mode)) Error.WrongMode)
-      (Some Error.NoSuchHandle) found) b.1 ∙ rw own refl in
-      cc
+  callers-handle l load frames node t h e ready root fault = grind (arith, nat_tests)
 
   sound : (low : HeightsIn (world_of s)) (l : LoadNumber) (reply : LoadReply N) → LoadSteps m.values (world_of s) l reply (world_of s') → Ready s l → (load : OpenLoad) (e : Error)
       → core.loads l.0 ≡ Some load → IsLoadOfPagedOut s load

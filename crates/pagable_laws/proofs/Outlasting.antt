@@ -1,4 +1,6 @@
 -- A handle that is live, that no value owns and that isn't given up outlasts a cascade, with its row.
+use Rattle.std.proofs.lemmas.Grind.{common_steps}
+use Rattle.std.proofs.Common.{rules}
 use Rattle.pagable_laws.proofs.Words.{◌≡◌, ℕ, zero, suc, ◌+◌, ◌<◌, ◌≤◌, ◌==◌, ◌&&◌, Bool, true, false, List, [], ◌∷◌, ◌++◌, cond, refl, ap, sym, subst, ◌∙◌, inl, inr, arith, Option, Some, None}
 use Rattle.pagable_laws.proofs.Words.{not, if◌then◌else◌, filter, map, slice_get, cases_order, nat_tests, get_or_from_slice_get, slice_get_within, HandleNumber, NodeNumber, Among, changed, one}
 use Rattle.pagable_laws.proofs.Words.{or_else, Owner, HandleRow, find_row, is_handle, is_owner, is_owned_by, owner_value, Core, Last, Alike, IsWithin, IsClosed, IsLeast, is_keyed, Falls}
@@ -30,12 +32,7 @@ module _ (rows : List HandleRow) (keyed : ℕ → Bool) (entries : List HandleRo
   less-within = sum-zero (λ h. one (less h.number.0 && not (gone h.number.0))) rows (λ h among. grind (arith, nat_tests))
 
   less-holds : IsWithin rows given less
-  less-holds = sum-zero (λ h. one (given h.number.0 && not (less h.number.0))) rows (λ h among. part h among (given h.number.0) refl (h.number.0 == q) refl)
-    where
-      part : (h : HandleRow) → Among rows h → (b : Bool) → given h.number.0 ≡ b → (d : Bool) → (h.number.0 == q) ≡ d → one (given h.number.0 && not (less h.number.0)) ≡ 0
-      part h among true e true f = let g : given h.number.0 ≡ false = ap given (same-number _ _ f) ∙ kept in absurd (cc)
-      part h among true e false f = let g = inside rows keyed entries given gone h least.holds among e in rw (e, f, g) refl
-      part h among false e d f = rw e refl
+  less-holds = grind (arith, nat_tests)
 
   less-closed : IsClosed rows keyed entries less
   less-closed n goes =
@@ -79,20 +76,12 @@ found-by : (q : ℕ) (row : HandleRow) (P : List HandleRow → Type 0) → ((h :
     → (rows : List HandleRow) → find_row q rows ≡ Some row → P rows
 unfolding find_row
 found-by q row P front later [] found = absurd (cc)
-found-by q row P front later (h ∷ hs) found = at (λ f. found-by q row P front later hs f) (is_handle q h) refl found
-  where
-    at : (find_row q hs ≡ Some row → P hs) → (b : Bool) → is_handle q h ≡ b → (if b then Some h else find_row q hs) ≡ Some row → P (h ∷ hs)
-    at rest true is found = front h hs is (same_some _ _ found)
-    at rest false is found = later h hs is (rest found)
+found-by q row P front later (h ∷ hs) found = grind (arith, nat_tests, found-by q row P front later hs)
 
 pub find-both : (q : ℕ) (xs ys : List HandleRow) → find_row q (xs ++ ys) ≡ or_else (find_row q xs) (find_row q ys)
 unfolding find_row
 find-both q [] ys = refl
-find-both q (h ∷ hs) ys = at (find-both q hs ys) (is_handle q h) refl
-  where
-    at : find_row q (hs ++ ys) ≡ or_else (find_row q hs) (find_row q ys) → (b : Bool) → is_handle q h ≡ b → find_row q (h ∷ hs ++ ys) ≡ or_else (find_row q (h ∷ hs)) (find_row q ys)
-    at rest true is = rw is refl
-    at rest false is = rw is rest
+find-both q (h ∷ hs) ys = grind (arith, nat_tests, find-both q hs ys)
 
 pub among-found : (q : ℕ) (rows : List HandleRow) (row : HandleRow) → find_row q rows ≡ Some row → Among rows row
 among-found q rows row found = found-by q row (λ xs. Among xs row) (λ h hs is e. (zero, ap (λ (x : HandleRow). Some x) e)) (λ h hs is a. (suc a.0, a.1)) rows found
@@ -157,11 +146,7 @@ module _ (test : HandleRow → Bool) (f : HandleRow → HandleRow) (same : (h : 
   after h = if test h then f h else h
 
   pub after-number : (h : HandleRow) → (after h).number ≡ h.number
-  after-number h = at (test h)
-    where
-      at : (b : Bool) → (if b then f h else h).number ≡ h.number
-      at true = same h
-      at false = refl
+  after-number h = grind (arith, nat_tests)
 
   pub found-after : (q : ℕ) (rows : List HandleRow) (row : HandleRow) → find_row q rows ≡ Some row → find_row q (changed test f rows) ≡ Some (after row)
   found-after q rows row found =

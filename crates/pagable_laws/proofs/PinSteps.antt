@@ -1,4 +1,5 @@
 -- What is answered as pinned is a handle that pins: of a call, of a load's last step and of a worker's pin.
+use Rattle.std.proofs.Common.{rules}
 use Rattle.pagable_laws.proofs.Words.{◌≡◌, ℕ, zero, suc, ◌+◌, ◌≤◌, ◌&&◌, Bool, true, false, List, [], ◌∷◌, ◌++◌, refl, ap, sym, subst, ◌∙◌, inl, inr, arith, Option, Some, None, not}
 use Rattle.pagable_laws.proofs.Words.{if◌then◌else◌, Ok, ArcRef, Identity, HandleNumber, LoadNumber, NodeNumber, Among, changed, Owner, HandleRow, Mode, Event, EventReply, LoadAnswer}
 use Rattle.pagable_laws.proofs.Words.{WorkerAnswer, Took, Call, Reply, Pinning, PinStep, find_row, is_handle, is_pinning, is_loose, owner_worker, Core, Last, World, Seen, Todo, to_pin}
@@ -45,9 +46,7 @@ module _ (w w' : Core) (low : AreLow w) where
 
   pub clone-call : (me : Owner) (h k : HandleNumber) → CloneCall w me h (Ok k) w'
       → (row : HandleRow) × (row_at w h ≡ Some row) × Stands w'.last.handle w'.rows (w.last.handle + 1) (row_of (w.last.handle + 1) row.node row.mode me)
-  clone-call me h k c =
-      let row : HandleRow = c.made.0 in
-      (row, c.made.1, stands-alike {w = with_handle w row.node row.mode me} c.made.3 (new-handle w row.node row.mode me low))
+  clone-call me h k c = search (rules, stands-alike, new-handle)
 
   -- what the load owned goes, and not the pin
   pub owned-none : (l : LoadNumber) → is_owned_in w (Owner.Load l) (w.last.handle + 1) ≡ false

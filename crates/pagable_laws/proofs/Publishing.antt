@@ -1,11 +1,10 @@
 -- Page-outs by trees: what tables and workers hold fits at first and after each event.
-use Rattle.pagable_laws.proofs.Words.{nat_eq, ◌≡◌, ℕ, ◌≤◌, ◌==◌, Bool, true, false, [], ◌∷◌, ap, Some, None, Ok, refl, sym, subst, ◌∙◌, if◌then◌else◌, arith, nat_tests, ArcRef, Identity, Blob}
+use Rattle.pagable_laws.proofs.Words.{◌≡◌, ℕ, ◌≤◌, ◌==◌, true, false, [], ◌∷◌, ap, Some, None, Ok, refl, sym, subst, ◌∙◌, arith, nat_tests, ArcRef, Identity, Blob}
 use Rattle.pagable_laws.proofs.Words.{Tree, WorkerNumber, type_of, updated, Event, EventReply, Took, WorkerReply, Shelf, Task, of_item, of_entry, Walking, Values, Seen, IsLawful, Site}
 use Rattle.pagable_laws.proofs.Words.{claim_fault, first_todo, answer_after, Ends, WorkerSteps, step_of, PagerState, MachineState, world_of, IsMachineWhole, IsIdle, Represents, TookWrites}
 use Rattle.pagable_laws.proofs.Words.{ReplyWrites, HoldsSettled, ReadsItsTypes, Ground, ground_of, WroteTree, KeysSoFar, Waits, Walks, SlotsFit, WorkFits}
 use Rattle.pagable_laws.proofs.Trees.{same_some}
-use Rattle.pagable_laws.proofs.Following.{given-of, wrote}
-use Rattle.pagable_laws.proofs.Naming.{may-claim}
+use Rattle.pagable_laws.proofs.Following.{wrote}
 use Rattle.pagable_laws.proofs.Changing.{ShelfGrows, grows, same-slots}
 use Rattle.pagable_laws.proofs.Holding.{SameSlots}
 use Rattle.pagable_laws.proofs.Coming.{StandsIn, OwnTurn, rests, begins, steps, EventTurns, updated-at}
@@ -23,21 +22,13 @@ different a b e same = let f : (a == b) ≡ true = grind (arith, nat_tests) in a
 
 -- one of two: at the number, or elsewhere
 pub at-number : {X : Type 0} (P : X → Type 0) (k : ℕ) (x : X) (f : ℕ → X) (q : ℕ) → (q ≡ k → P x) → ((q ≡ k → ⊥) → P (f q)) → P (updated k x f q)
-at-number P k x f q here there = of (q == k) refl
-  where
-    of : (b : Bool) → (q == k) ≡ b → P (if b then x else f q)
-    of true e = let same : q ≡ k = grind (arith, nat_tests) in here same
-    of false e = there (different q k e)
+at-number P k x f q here there = grind (arith, nat_tests)
 
 -- what a worker wrote in its step is of the node
 took-writes : {N B W E : Type 0} (m : Seen N B W) (s : PagerState N E) (n : ℕ) (event : Event N B W) (reply : EventReply N B W) (taken : Took W) → step_of n event reply ≡ taken ∷ []
     → ReplyWrites m s reply
     → TookWrites m.values m.written_of s taken
-took-writes {W = W} m s n (Event.WorkerStep u) (EventReply.WorkerMoved (Ok r)) taken is writes = of (u.0 == n) is
-  where
-    of : (b : Bool) → (if b then r.took ∷ [] else []) ≡ taken ∷ [] → TookWrites m.values m.written_of s taken
-    of true e = let same : r.took ≡ taken = cc in subst (λ (t : Took W). TookWrites m.values m.written_of s t) same writes
-    of false e = absurd (cc)
+took-writes {W = W} m s n (Event.WorkerStep u) (EventReply.WorkerMoved (Ok r)) taken is writes = grind (arith, nat_tests)
 took-writes m s n event reply taken is writes = absurd (cc)
 
 module _ {N B W E : Type 0} (m : Seen N B W) (s s' : MachineState N E) (trees trees' : ℕ → Tree) (goes : GroundGoes (ground_of s trees) (ground_of s' trees')) (fit : WorkFits m.values s trees)
@@ -47,10 +38,7 @@ module _ {N B W E : Type 0} (m : Seen N B W) (s s' : MachineState N E) (trees tr
   g' = ground_of s' trees'
 
   claimable : (r : ArcRef) → claim_fault s.pager.core r ≡ None → (r.node.0 ≤ s.pager.core.last.node) × ((trees r.node.0).type ≡ type_of r.kind.0)
-  claimable r may =
-      let typed = (may-claim s.pager.core r may).typed in
-      let live = given-of whole.pager.whole.handles r.node.0 typed in
-      (live.1, same_some _ _ (sym (represents.typed r.node.0 live.0) ∙ typed))
+  claimable r may = grind (arith, nat_tests)
 
   wrote-it : (taken : Took W) → TookWrites m.values m.written_of s.pager taken → (i : Identity) (out : W) → taken ≡ Took.Write i (Ok out)
       → WroteTree m.values.types (ground_of s trees) i.node.0 (m.written_of out)
@@ -72,11 +60,7 @@ module _ {N B W E : Type 0} (m : Seen N B W) (s s' : MachineState N E) (trees tr
     stays-so n w there = walks-on (s'.work.shelves w.table) goes (grow w.table) (fit.slots w.table) w.task w.todo (fit.walks n w there)
 
     all-fit : ((t : ℕ) → SlotsFit m.values g' (s'.work.shelves t)) → ((w : Walking) → s'.work.walkings turns.who ≡ Some w → WalkFits w) → WorkFits m.values s' trees'
-    all-fit slots own = record { slots = slots; walks = λ n w there. of n w there (nat_eq n turns.who) refl }
-      where
-        of : (n : ℕ) (w : Walking) → s'.work.walkings n ≡ Some w → (b : Bool) → nat_eq n turns.who ≡ b → WalkFits w
-        of n w there true e = let f : n ≡ turns.who = grind (arith, nat_tests) in own w (sym (ap s'.work.walkings f) ∙ there)
-        of n w there false e = let turned = turns.turned in stays-so n w (sym (turned.others n e) ∙ there)
+    all-fit slots own = grind (arith, nat_tests, stays-so)
 
     slots-same : SameSlots s.work.shelves s'.work.shelves → (t : ℕ) → SlotsFit m.values g' (s'.work.shelves t)
     slots-same same t = slots-on goes (grow t) (fit.slots t) (same t)

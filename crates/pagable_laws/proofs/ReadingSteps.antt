@@ -1,4 +1,5 @@
 -- A load's step, as trees feel it: one change, what it does to the plain world with it, and how the load's own blobs grow.
+use Rattle.std.proofs.Common.{rules}
 use Rattle.pagable_laws.proofs.Words.{◌≡◌, List, [], refl, sym, subst, ◌∙◌, inl, inr, Option, Some, None, ◌⊎◌, Ok, Err, OptionalDataKey, Error, Owner, LoadAnswer, Core, OpenLoad, Frame, Reading}
 use Rattle.pagable_laws.proofs.Words.{Alike, Seen, Values, EndCall, HandOverCall, first_key, Fails, RefusesRoot, LoadIs, IsOfCell, IsOfKey, handles_of, GetsRoot, GetsCached, GetsBlob, GetsLazy}
 use Rattle.pagable_laws.proofs.Words.{MakesNode, ReadingDoes, HandlesAreWhole, Change, nothing_felt, bears_known, ReadingFeels, reads-root, reads-blob, gets-known, gets-lazy, makes-known}
@@ -39,15 +40,7 @@ module _ {N : Type 0} (v : Values N) (w : Core) (me : Owner) (reading : Reading)
   refused-root root (inr (is, handed)) = (w.failures, handed.refused.1)
 
   pub meets : Meets v w me reading e u → Notes
-  meets does = elim does [
-    | inl (refuses, a) ↦ (w.failures, a)
-    | inr (inl (first, asked)) ↦ ask-refused Want.Root asked
-    | inr (inr (inl (k, q, needs, inl asked))) ↦ ask-refused (Want.Nested k q) asked
-    | inr (inr (inl (k, q, needs, inr (blob, is, deep, asked)))) ↦ (u.failures, asked.gives.2.1.asked.leaves)
-    | inr (inr (inr (inl (k, q, needs, asked)))) ↦ (w.failures, asked.refused.stays)
-    | inr (inr (inr (inr (inl node)))) ↦ (w.failures, node.adopted.refused.1.stays)
-    | inr (inr (inr (inr (inr root)))) ↦ refused-root root root.refuses
-  ]
+  meets does = search (rules, ask-refused, refused-root)
 
 module _ {N B W : Type 0} (m : Seen N B W) (w : Core) (me : Owner) (free : NotLoads me) (w' : Core) (reading : Reading) where
   abbrev RF : Option (LoadAnswer N) → List Frame → Type 0

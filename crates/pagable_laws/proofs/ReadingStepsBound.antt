@@ -1,5 +1,7 @@
 -- How many steps an open load still needs: at most two for each reference that its blobs still take, with all that it leads to, and one for each of its blobs.
-use Rattle.pagable_laws.proofs.Words.{◌≡◌, ℕ, ◌+◌, ◌*◌, ◌≤◌, ◌⊎◌, true, false, List, [], ◌∷◌, ◌++◌, refl, sym, ap, subst, ◌∙◌, inl, inr, arith, Option, Some, None, Kind}
+use Rattle.pagable_laws.proofs.Words.{nat_tests}
+use Rattle.std.proofs.Common.{rules}
+use Rattle.pagable_laws.proofs.Words.{◌≡◌, ℕ, ◌+◌, ◌*◌, ◌≤◌, ◌⊎◌, true, List, [], ◌∷◌, ◌++◌, refl, sym, subst, ◌∙◌, inl, inr, arith, Option, Some, None, Kind}
 use Rattle.pagable_laws.proofs.Words.{Blob, Types, type_of, is_eager, HandleRow, Core, OpenLoad, Frame, Reading, Values, asks, next_in, need_of, needs_nested}
 use Rattle.pagable_laws.proofs.Words.{needs_lazy, to_adopt, root_frame, nested_frame, with_got, after_kinds, Unfolds, unfolds, UnfoldsFrom, ends-here, takes-next, leaves-next, KeepsStored}
 use Rattle.pagable_laws.proofs.Words.{Change, ReadingFeels, reads-root, reads-blob, gets-known, gets-lazy, makes-known, makes-node, reading-ends}
@@ -32,27 +34,8 @@ one-rest rest = omega arith
 takes : {types : Types} {store : ℕ → Option Blob} {t many longest : ℕ} {blob : Blob} {kinds : List ℕ} → UnfoldsFrom types store t blob kinds many longest → (kind : Kind) (key : ℕ)
     → after_kinds types t blob kinds ≡ asks kind key → Takes types store t blob kinds many kind key
 takes (ends-here t blob kinds own is) kind key asked_is = absurd (cc)
-takes {types} {store} (takes-next t child below rest deep longest blob kinds k is eager under from) kind key asked_is =
-    let both : asks k child ≡ asks kind key = sym is ∙ asked_is in
-    let same : k ≡ kind = cc in
-    let at : child ≡ key = cc in
-    record {
-      rest = rest;
-      longest = longest;
-      from = subst (λ (q : Kind). UnfoldsFrom types store t blob (kinds ++ q.0 ∷ []) rest longest) same from;
-      fewer = more-rest below rest;
-      all = λ e. (below, deep, subst (λ (q : Kind). Unfolds types store (type_of q.0) key below deep) same (subst (λ n. Unfolds types store (type_of k.0) n below deep) at under), refl);
-    }
-takes {types} {store} (leaves-next t child rest longest blob kinds k is lazy from) kind key asked_is =
-    let both : asks k child ≡ asks kind key = sym is ∙ asked_is in
-    let same : k ≡ kind = cc in
-    record {
-      rest = rest;
-      longest = longest;
-      from = subst (λ (q : Kind). UnfoldsFrom types store t blob (kinds ++ q.0 ∷ []) rest longest) same from;
-      fewer = one-rest rest;
-      all = λ e. let f : is_eager kind.0 ≡ false = subst (λ (q : Kind). is_eager q.0 ≡ false) same lazy in absurd (cc);
-    }
+takes {types} {store} (takes-next t child below rest deep longest blob kinds k is eager under from) kind key asked_is = grind (arith, nat_tests)
+takes {types} {store} (leaves-next t child rest longest blob kinds k is lazy from) kind key asked_is = grind (arith, nat_tests)
 
 -- ---- what the open blobs still need
 
@@ -127,34 +110,19 @@ module _ (types : Types) (store : ℕ → Option Blob) (many : ℕ) where
       → OwesLess types store many (with_got top.kind row below) owed
   unfolding Owes Waits
   owes-made top [] owed row needs o = let over = adopted-over [] (next_in types top) needs in absurd (let e = over.2 in cc)
-  owes-made top (frame ∷ below) owed row needs o =
-      let s = o.sum in
-      let b = o.below in
-      record {
-        now = o.more;
-        owes = record { many = b.many; longest = b.longest; more = b.more; from = subst (λ ks. UnfoldsFrom types store frame.node_type frame.blob ks b.many b.longest) (sym (kinds-pushed frame.got (record { kind = top.kind; node = row.node; handle = row.number }))) b.from; below = b.below; sum = b.sum };
-        less = omega (arith, s);
-      }
+  owes-made top (frame ∷ below) owed row needs o = search (rules, kinds-pushed)
 
 -- a load's step, where what was stored is still
 pub owes-less : {N : Type 0} {v : Values N} {w w' : Core} (store : ℕ → Option Blob) → KeepsStored w.stored store
     → (reading : Reading) (load : OpenLoad) (frames : List Frame) (many longest owed : ℕ) {c : Change} → w.loads reading.load.0 ≡ Some load
     → Unfolds v.types store reading.node_type load.key many longest → Owes v.types store many reading.frames owed → ReadingFeels v w reading None frames w' c → OwesLess v.types store many frames owed
-owes-less {v = v} {w} store kept reading load frames many longest owed open_load under o (reads-root l blob none_read at stored answer is) =
-    let same : l ≡ load = same_some _ _ (sym at ∙ open_load) in
-    let there : store load.key ≡ Some blob = kept load.key blob (subst (λ (z : OpenLoad). w.stored z.key ≡ Some blob) same stored) in
-    let step = owes-root v.types store many reading.node_type load.key longest owed blob under there (subst (λ fs. Owes v.types store many fs owed) none_read o) in
-    subst (λ fs. OwesLess v.types store many fs owed) (sym (is ∙ ap (λ (z : OpenLoad). root_frame z.key reading.node_type blob ∷ []) same)) step
+owes-less {v = v} {w} store kept reading load frames many longest owed open_load under o (reads-root l blob none_read at stored answer is) = search (rules, reads-root, owes-root)
 owes-less {v = v} store kept reading load frames many longest owed open_load under o (reads-blob kind key blob needs stored answer is) =
     subst (λ fs. OwesLess v.types store many fs owed) (sym is) (owes-blob v.types store many reading.frames kind key owed blob needs (kept key blob stored) o)
 owes-less {v = v} store kept reading load frames many longest owed open_load under o (gets-known kind key n row needs known got answer is) =
     subst (λ fs. OwesLess v.types store many fs owed) (sym is) (owes-got v.types store many reading.frames kind key owed row needs o)
 owes-less {v = v} store kept reading load frames many longest owed open_load under o (gets-lazy kind key row needs got answer is) =
     subst (λ fs. OwesLess v.types store many fs owed) (sym is) (owes-got v.types store many reading.frames kind key owed row (inr needs) o)
-owes-less {v = v} store kept reading load frames many longest owed open_load under o (makes-known x r n row known got answer is) =
-    subst (λ fs. OwesLess v.types store many fs owed) (sym is)
-    (owes-made v.types store many r.top r.below owed row (sym (ap (need_of v.types) r.frames) ∙ r.needs) (subst (λ fs. Owes v.types store many fs owed) r.frames o))
-owes-less {v = v} store kept reading load frames many longest owed open_load under o (makes-node x r row got answer is) =
-    subst (λ fs. OwesLess v.types store many fs owed) (sym is)
-    (owes-made v.types store many r.top r.below owed row (sym (ap (need_of v.types) r.frames) ∙ r.needs) (subst (λ fs. Owes v.types store many fs owed) r.frames o))
+owes-less {v = v} store kept reading load frames many longest owed open_load under o (makes-known x r n row known got answer is) = search (rules, makes-known, owes-made)
+owes-less {v = v} store kept reading load frames many longest owed open_load under o (makes-node x r row got answer is) = search (rules, makes-node, owes-made)
 owes-less store kept reading load frames many longest owed open_load under o (reading-ends end answer is) = absurd (cc)

@@ -1,11 +1,13 @@
 -- A load of a key that answers a value hands over the value's references: each was the load's, and is the caller's then.
-use Rattle.pagable_laws.proofs.Words.{◌≡◌, ℕ, zero, suc, ◌==◌, ◌&&◌, ◌||◌, Bool, true, false, List, [], ◌∷◌, map, Ok, refl, ap, subst, ◌∙◌, if◌then◌else◌, Option, Some, None, not, nat_lt, Error}
+use Rattle.pagable_laws.proofs.Words.{arith, nat_tests}
+use Rattle.std.proofs.lemmas.Grind.{common_steps}
+use Rattle.std.proofs.Common.{rules}
+use Rattle.pagable_laws.proofs.Words.{◌≡◌, ℕ, zero, suc, ◌==◌, ◌&&◌, ◌||◌, Bool, true, false, List, [], ◌∷◌, map, Ok, refl, ap, subst, ◌∙◌, Option, Some, None, not, Error}
 use Rattle.pagable_laws.proofs.Words.{ArcRef, HandleNumber, LoadNumber, Among, is_in, if_there, HandleRow, Owner, Event, EventReply, LoadAnswer, is_owner, Core, OpenLoad, World, Reading, row_at}
-use Rattle.pagable_laws.proofs.Words.{Seen, rank, earlier, refused_if, load_fault, named_fault, moved, numbers_of, HandOverCall, hand_over_fault, cell_fault, is_owned_in, EndsRead, handles_of}
+use Rattle.pagable_laws.proofs.Words.{Seen, earlier, refused_if, load_fault, named_fault, moved, numbers_of, HandOverCall, hand_over_fault, cell_fault, is_owned_in, EndsRead, handles_of}
 use Rattle.pagable_laws.proofs.Words.{Happens, HandlesAreWhole, HandsOver, ReadHolds}
 use Rattle.pagable_world.specs.Loads.{Does}
 use Rattle.pagable_laws.proofs.Goes.{found-number}
-use Rattle.pagable_laws.proofs.GoodReferences.{same-owner}
 use Rattle.pagable_laws.proofs.Outlasting.{Stands, stands-whole, stands-changed, stands-fell}
 use Rattle.pagable_laws.proofs.Sums.{self-number}
 
@@ -14,11 +16,7 @@ use Rattle.pagable_laws.proofs.Sums.{self-number}
 pub neither : (a b : Option Error) → earlier a b ≡ None → (a ≡ None) × (b ≡ None)
 neither None b is = (refl, is)
 neither (Some e) None is = absurd (cc)
-neither (Some e) (Some f) is = absurd (at (nat_lt (rank f) (rank e)) is)
-  where
-    at : (t : Bool) → (if t then Some f else Some e) ≡ None → ⊥
-    at true is = cc
-    at false is = cc
+neither (Some e) (Some f) is = grind (arith, nat_tests)
 
 -- the handle is live, and the owner's
 record IsNamed (w : Core) (owner : Owner) (h : HandleNumber) : Type 0 where
@@ -29,16 +27,7 @@ record IsNamed (w : Core) (owner : Owner) (h : HandleNumber) : Type 0 where
 module _ (w : Core) (owner : Owner) where
   named-one : (seen : List ℕ) (h : HandleNumber)
       → if_there (λ (row : HandleRow). refused_if (not (is_owner owner row.owner) || is_in seen h.0) Error.NotYours) (Some Error.NoSuchHandle) (row_at w h) ≡ None → IsNamed w owner h
-  named-one seen h none = by (row_at w h) refl none
-    where
-      by : (found : Option HandleRow) → row_at w h ≡ found
-          → if_there (λ (row : HandleRow). refused_if (not (is_owner owner row.owner) || is_in seen h.0) Error.NotYours) (Some Error.NoSuchHandle) found ≡ None → IsNamed w owner h
-      by None live none = absurd (cc)
-      by (Some row) live none = at (is_owner owner row.owner) refl
-        where
-          at : (b : Bool) → is_owner owner row.owner ≡ b → IsNamed w owner h
-          at true e = record { row = row; live = live; own = same-owner owner row.owner e }
-          at false e = let f : Some Error.NotYours ≡ None = rw e at none in absurd (cc)
+  named-one seen h none = grind (arith, nat_tests)
 
   named : (seen : List ℕ) (hs : List HandleNumber) → named_fault w owner seen hs ≡ None → (h : HandleNumber) → Among hs h → IsNamed w owner h
   unfolding named_fault
@@ -59,11 +48,7 @@ in-numbers : (hs : List HandleNumber) (h : HandleNumber) → Among hs h → is_i
 unfolding is_in
 in-numbers [] h (i, is) = absurd (cc)
 in-numbers (x ∷ hs) h (zero, is) = let same : x ≡ h = cc in let e : (x.0 == h.0) ≡ true = ap (λ (z : HandleNumber). z.0 == h.0) same ∙ self-number h.0 in rw e refl
-in-numbers (x ∷ hs) h (suc i, is) = or-true (x.0 == h.0) (in-numbers hs h (i, is))
-  where
-    or-true : (b : Bool) {c : Bool} → c ≡ true → (b || c) ≡ true
-    or-true true e = refl
-    or-true false e = e
+in-numbers (x ∷ hs) h (suc i, is) = grind (arith, nat_tests, in-numbers hs h)
 
 not-given : (a b : Bool) → b ≡ true → (a && not b) ≡ false
 not-given true b is = rw is refl

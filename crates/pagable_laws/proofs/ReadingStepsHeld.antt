@@ -1,9 +1,9 @@
 -- What loads got goes on naming nodes as it should, whatever happens.
-use Rattle.pagable_laws.proofs.Words.{◌≡◌, ℕ, zero, suc, true, List, [], ◌∷◌, ◌++◌, refl, sym, ap, subst, ◌∙◌, inl, inr, arith, Option, Some, None, slice_get, ArcRef, Kind, LoadNumber, Among}
-use Rattle.pagable_laws.proofs.Words.{HandleRow, Event, EventReply, LoadAnswer, fits_mode, Core, Frame, Reading, World, Values, with_got, root_frame, nested_frame, Change, CoreGoes, GetsRow}
+use Rattle.pagable_laws.proofs.Words.{nat_tests}
+use Rattle.pagable_laws.proofs.Words.{◌≡◌, ℕ, zero, suc, List, [], ◌∷◌, ◌++◌, refl, sym, subst, ◌∙◌, inl, inr, arith, Option, Some, None, slice_get, ArcRef, Kind, LoadNumber, Among}
+use Rattle.pagable_laws.proofs.Words.{HandleRow, Event, EventReply, LoadAnswer, Core, Frame, Reading, World, Values, with_got, root_frame, nested_frame, Change, CoreGoes, GetsRow}
 use Rattle.pagable_laws.proofs.Words.{KeepsReadings, ReadingFeels, reads-root, reads-blob, gets-known, gets-lazy, makes-known, makes-node, reading-ends, EventFeels, by-call, by-reading, by-key}
 use Rattle.pagable_laws.proofs.Words.{by-nothing, GotStands, FramesHeld, ReadingsHeld}
-use Rattle.pagable_laws.proofs.Trees.{same_some}
 use Rattle.pagable_laws.proofs.Fitting.{pushed}
 use Rattle.pagable_laws.proofs.ReadingStepsMachine.{is-reading-of}
 
@@ -11,10 +11,7 @@ none-held : (w : Core) (l : LoadNumber) (frames : List Frame) → frames ≡ [] 
 none-held w l frames none frame r among got = let there = subst (λ fs. Among fs frame) none among in absurd (let e = there.1 in cc)
 
 new-held : {w : Core} {l : LoadNumber} (frame : Frame) (frames : List Frame) → frame.got ≡ [] → FramesHeld w l frames → FramesHeld w l (frame ∷ frames)
-new-held frame frames none held f r (zero, is) (place, there) =
-    let e : f.got ≡ [] = let same : frame ≡ f = cc in ap (λ (z : Frame). z.got) (sym same) ∙ none in
-    let no : slice_get [] place ≡ Some r = subst (λ (rs : List ArcRef). slice_get rs place ≡ Some r) e there in
-    absurd (cc)
+new-held frame frames none held f r (zero, is) (place, there) = grind (arith, nat_tests)
 new-held frame frames none held f r (suc i, is) among = held f r (i, is) among
 
 module _ {c : Change} {w w' : Core} (goes : CoreGoes c w w') (l : LoadNumber) where
@@ -26,12 +23,7 @@ module _ {c : Change} {w w' : Core} (goes : CoreGoes c w w') (l : LoadNumber) wh
 
   -- a reference that was got just now
   got-new : (kind : Kind) (n : ℕ) (row : HandleRow) → GetsRow w w' kind n row → GotStands w' l (record { kind = kind; node = row.node; handle = row.number })
-  got-new kind n row g =
-      record {
-        given = g.given;
-        is = λ other live own. let same : row ≡ other = same_some _ _ (sym g.live ∙ live) in
-            (ap (λ (h : HandleRow). h.node) (sym same), subst (λ (h : HandleRow). fits_mode kind.0 h.mode ≡ true) same g.fits);
-      }
+  got-new kind n row g = grind (arith, nat_tests)
 
   with-held : (frames : List Frame) (kind : Kind) (n : ℕ) (row : HandleRow) → FramesHeld w l frames → GetsRow w w' kind n row → FramesHeld w' l (with_got kind row frames)
   with-held [] kind n row held g frame r (i, is) got = absurd (cc)

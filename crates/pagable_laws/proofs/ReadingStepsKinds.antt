@@ -1,8 +1,8 @@
 -- What a blob asks for next depends on no more of the references that were got than their kinds.
-use Rattle.pagable_laws.proofs.Words.{◌≡◌, ℕ, zero, suc, ◌+◌, ◌==◌, Bool, true, false, List, [], ◌∷◌, ◌++◌, map, length, Result, Ok, Err, refl, sym, ap, subst, inl, arith, if◌then◌else◌, Option}
+use Rattle.std.proofs.Common.{rules}
+use Rattle.pagable_laws.proofs.Words.{◌≡◌, ℕ, zero, suc, ◌+◌, ◌==◌, Bool, true, false, List, [], ◌∷◌, ◌++◌, map, length, Result, Ok, Err, refl, ap, inl, arith, if◌then◌else◌, Option}
 use Rattle.pagable_laws.proofs.Words.{Some, None, slice_get, Error, Rest, read_typed, Answer, answer_at, handles_at, ArcRef, Kind, Blob, Shape, Types, Meaning, answer_of, answers_from, Next}
 use Rattle.pagable_laws.proofs.Words.{reads, asks, is_faulty, next_by, next_of, some_of, after_kinds}
-use Rattle.pagable_world.specs.Loads.{read_with}
 use Rattle.pagable_laws.proofs.Along.{Along, AllTwo, no-two, more-two}
 use Rattle.pagable_laws.proofs.Related.{Out, both-given, both-refused, first-refused, OutLook, both-looked-up, both-not, read_par}
 
@@ -63,9 +63,7 @@ as-many [] = refl
 as-many (r ∷ rs) = let a = as-many rs in omega (arith, a)
 
 next-alike : (types : Types) (t : ℕ) (blob : Blob) (got : List ArcRef) → SameNext (next_of types t blob got) (after_kinds types t blob (kinds_of got))
-next-alike types t blob got =
-    subst (λ n. SameNext (next_of types t blob got) (next_by (slice_get blob.keys n) (read_with types t blob (some_of (kinds_of got))))) (sym (as-many got))
-    (by-alike (slice_get blob.keys (length got)) (read-alike types blob got (types.nodes t)))
+next-alike types t blob got = search (rules, as-many, by-alike, read-alike)
 
 ask-alike : {a b : Next} (kind : Kind) (key : ℕ) → SameNext a b → a ≡ asks kind key → b ≡ asks kind key
 ask-alike kind key (both-read a b) is = absurd (cc)

@@ -1,7 +1,8 @@
 -- A load's step in the machine: which reading makes it, and that no other goes on by it.
+use Rattle.pagable_laws.proofs.Words.{arith, nat_tests}
 use Rattle.pagable_laws.proofs.Words.{◌≡◌, ℕ, ◌≤◌, true, List, [], ◌∷◌, refl, sym, ap, subst, ◌∙◌, inl, inr, Option, Some, None, ◌⊎◌, Ok, Err, is_some, ArcRef, HandleNumber, LoadNumber}
-use Rattle.pagable_laws.proofs.Words.{WorkerNumber, updated, if_there, Owner, LoadAnswer, LoadReply, WorkerReply, PinStep, Took, Event, owner_worker, OpenLoad, Root, of_cell, of_key, Frame}
-use Rattle.pagable_laws.proofs.Words.{Reading, Todo, to_load, to_write, Walking, World, Seen, Values, ReadingDoes, gone_on, Site, fresh, ReadingsAre, reading_of_root, reading_of_load, reading_at}
+use Rattle.pagable_laws.proofs.Words.{WorkerNumber, updated, Owner, LoadAnswer, LoadReply, WorkerReply, PinStep, Took, Event, owner_worker, Frame}
+use Rattle.pagable_laws.proofs.Words.{Reading, Todo, to_load, to_write, Walking, World, Seen, Values, ReadingDoes, gone_on, Site, ReadingsAre, reading_at}
 use Rattle.pagable_laws.proofs.Words.{reading_after, LoadSteps, WorkerSteps, IsWhole, IsReadingOf, of_caller, of_worker, IsSteppedReading, StepsReading, IsFresh}
 use Rattle.pagable_world.specs.Workers as workers
 use Rattle.pagable_laws.proofs.Trees.{same_some}
@@ -10,34 +11,12 @@ use Rattle.pagable_laws.proofs.Goes.{at-updated}
 -- what stands among the readings afterwards
 pub reading-was : (readings : ℕ → Option Reading) (u' : World) → ReadingsAre readings u' → (q : ℕ) (after : Reading) → u'.work.readings q ≡ Some after
     → (readings q ≡ Some after) × (is_some (u'.core.loads q) ≡ true)
-reading-was readings u' are q after is = of (u'.core.loads q) refl (sym (are q) ∙ is)
-  where
-    of : (found : Option OpenLoad) → u'.core.loads q ≡ found → if_there (λ load. readings q) None found ≡ Some after → (readings q ≡ Some after) × (is_some (u'.core.loads q) ≡ true)
-    of None e f = absurd (cc)
-    of (Some load) e f = (f, ap is_some e)
+reading-was readings u' are q after is = grind (arith, nat_tests)
 
 -- a reading that makes a step is the machine's, or has just begun at an open load
 pub reading-stands : (u : World) → IsWhole u.core → (l : LoadNumber) (reading : Reading) → reading_at u l ≡ Some reading
     → (u.work.readings l.0 ≡ Some reading) ⊎ ((reading.frames ≡ []) × (reading.steps ≡ 0) × (reading.load ≡ l) × (l.0 ≤ u.core.last.load))
-reading-stands u whole l reading at = by (u.work.readings l.0) refl at
-  where
-    begun : (load : OpenLoad) (root : Root) → u.core.loads l.0 ≡ Some load → reading_of_root l root ≡ Some reading
-        → (reading.frames ≡ []) × (reading.steps ≡ 0) × (reading.load ≡ l) × (l.0 ≤ u.core.last.load)
-    begun load (of_cell node t h) there e =
-        let same : fresh l t ≡ reading = same_some _ _ e in
-        let few = (whole.loads.numbered l.0 (ap is_some there)).1 in
-        (ap (λ (r : Reading). r.frames) (sym same), ap (λ (r : Reading). r.steps) (sym same), ap (λ (r : Reading). r.load) (sym same), few)
-    begun load of_key there e = absurd (cc)
-
-    opened : (found : Option OpenLoad) → u.core.loads l.0 ≡ found → reading_of_load l found ≡ Some reading
-        → (reading.frames ≡ []) × (reading.steps ≡ 0) × (reading.load ≡ l) × (l.0 ≤ u.core.last.load)
-    opened None there e = absurd (cc)
-    opened (Some load) there e = begun load load.root there e
-
-    by : (found : Option Reading) → u.work.readings l.0 ≡ found → reading_at u l ≡ Some reading
-        → (u.work.readings l.0 ≡ Some reading) ⊎ ((reading.frames ≡ []) × (reading.steps ≡ 0) × (reading.load ≡ l) × (l.0 ≤ u.core.last.load))
-    by (Some r) e f = inl (let g : Some r ≡ Some reading = rw e at f in e ∙ g)
-    by None e f = inr (opened (u.core.loads l.0) refl (rw e at f))
+reading-stands u whole l reading at = grind (arith, nat_tests)
 
 -- ---- a load of the caller's
 
@@ -79,13 +58,7 @@ module _ {N B W : Type 0} (m : Seen N B W) (v : ℕ) (s s' : Site) where
   loads-todo r place through reading below (Took.Pin i (Ok (PinStep.Held k))) (is, p) =
       record { answer = Some (LoadAnswer.Pinned k); frames = []; does = p.goes.0; next = λ q at h after rest e. let f : to_write r place through ∷ below ≡ to_load q at h after ∷ rest = sym p.goes.1.list_is ∙ e in absurd (cc) }
   loads-todo r place through reading below (Took.Pin i (Ok (PinStep.LoadBegun l))) (is, p) = absurd p.goes
-  loads-todo r place through reading below (Took.Pin i (Ok PinStep.LoadWent)) (is, p) =
-      record {
-        answer = None;
-        frames = p.goes.0;
-        does = p.goes.1;
-        next = λ q at h after rest e. let f : to_load r place through (gone_on reading p.goes.0) ∷ below ≡ to_load q at h after ∷ rest = sym p.goes.2.list_is ∙ e in (refl, cc);
-      }
+  loads-todo r place through reading below (Took.Pin i (Ok PinStep.LoadWent)) (is, p) = grind (arith, nat_tests)
   loads-todo r place through reading below (Took.Pin i (Err e)) (is, p) =
       record { answer = Some (LoadAnswer.Refused e); frames = []; does = p.refused.0; next = λ q at h after rest f. let g : workers.failing_by e s.todo ≡ to_load q at h after ∷ rest = sym p.refused.1.list_is ∙ f in absurd (cc) }
   loads-todo r place through reading below step does = absurd does
@@ -104,9 +77,7 @@ module _ {N B W : Type 0} {m : Seen N B W} {u u' : World} {k : WorkerNumber} {re
 
   pub stepped-worker : (event : Event N B W) → event ≡ Event.WorkerStep k → (r : ArcRef) (place : ℕ) (through : HandleNumber) (reading : Reading) (below : List Todo)
       → s.walking.todo ≡ to_load r place through reading ∷ below → IsSteppedReading u event reading
-  stepped-worker event is r place through reading below todo =
-      let P : Event N B W → Type 0 = λ e. IsSteppedReading u e reading in
-      subst P (sym is) (s.walking, r, place, through, below, s.at, todo)
+  stepped-worker event is r place through reading below todo = grind (arith, nat_tests)
 
 -- the reading that makes the step is the machine's, or has just begun
 pub is-reading-of : {N B W : Type 0} (u : World) (event : Event N B W) (reading : Reading) → IsSteppedReading u event reading → IsReadingOf u.work reading ⊎ IsFresh u.core reading

@@ -1,9 +1,8 @@
 -- Below what a worker does next only written nodes and an item wait: no load.
-use Rattle.pagable_laws.proofs.Words.{◌≡◌, ℕ, List, [], ◌∷◌, ◌++◌, sym, subst, inl, inr, ◌∙◌, Ok, Err, Some, None, drop, length, max, ArcRef, updated, above, Claim, PinStep, Took, Event}
+use Rattle.pagable_laws.proofs.Words.{arith, nat_tests}
+use Rattle.pagable_laws.proofs.Words.{◌≡◌, ℕ, List, [], ◌∷◌, ◌++◌, sym, subst, ◌∙◌, Ok, Err, Some, None, drop, length, max, ArcRef, updated, above, Claim, PinStep, Took, Event}
 use Rattle.pagable_laws.proofs.Words.{EventReply, Written, Todo, to_start, to_pin, to_load, to_write, to_finish, to_item, to_set, to_publish, to_release, to_fail, Task, of_item, of_entry}
 use Rattle.pagable_laws.proofs.Words.{Walking, World, Seen, next_start, settle, give, first_todo, Happens, entry_task, new_walking, Follows}
-use Rattle.pagable_laws.proofs.Trees.{same_some}
-use Rattle.pagable_laws.proofs.Goes.{at-updated}
 use Rattle.pagable_laws.proofs.Nexts.{steps_follow}
 use Rattle.pagable_laws.proofs.WalkSteps.{NoLoad, WaitsWell}
 
@@ -97,10 +96,7 @@ module _ {N B W : Type 0} (m : Seen N B W) (u u' : World) (waits : AllBelowWait 
   same stay n walking is = waits n walking (sym (stay n) ∙ is)
 
   but : (k : ℕ) (changed : Walking) → ((n : ℕ) → u'.work.walkings n ≡ updated k (Some changed) u.work.walkings n) → BelowWaits changed.todo → AllBelowWait u'
-  but k changed are new n walking is = elim (at-updated k (Some changed) u.work.walkings n walking (sym (are n) ∙ is)) [
-    | inl (here, e) ↦ subst (λ (w : Walking). BelowWaits w.todo) (same_some _ _ e) new
-    | inr old ↦ waits n walking old
-  ]
+  but k changed are new n walking is = grind (arith, nat_tests)
 
   pub event-waits : (event : Event N B W) (reply : EventReply N B W) → Happens m u event reply u' → AllBelowWait u'
   event-waits (Event.Call call) (EventReply.CallReply r) h = same h.work.walkings

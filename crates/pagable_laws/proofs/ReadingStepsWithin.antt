@@ -1,7 +1,9 @@
 -- Each step of a load of the caller's is within its bound, and one that is open has a step left, along every chain.
+use Rattle.pagable_laws.proofs.Words.{nat_tests}
+use Rattle.std.proofs.Common.{rules}
 use Rattle.pagable_laws.proofs.Words.{◌≡◌, ℕ, ◌+◌, ◌*◌, ◌≤◌, ◌⊎◌, List, [], ◌∷◌, Ok, refl, sym, ap, subst, ◌∙◌, inl, inr, arith, Option, Some, None, IsSome, Blob, Types, LoadNumber, Call, Reply}
-use Rattle.pagable_laws.proofs.Words.{Owner, Event, EventReply, LoadReply, Core, OpenLoad, Reading, Frame, World, Values, Seen, one_more, gone_on, CloseCall, Happens, LoadSteps, MachineState}
-use Rattle.pagable_laws.proofs.Words.{world_of, IsReadingOf, of_caller, of_worker, IsMachineWhole, IsIdle, KeepsOpen, Moment, AreMoments, state_after, Unfolds, unfolds, HasStepLeft}
+use Rattle.pagable_laws.proofs.Words.{Event, EventReply, LoadReply, Core, OpenLoad, Reading, Frame, World, Values, Seen, one_more, gone_on, CloseCall, Happens, LoadSteps, MachineState}
+use Rattle.pagable_laws.proofs.Words.{world_of, IsReadingOf, of_caller, IsMachineWhole, IsIdle, KeepsOpen, Moment, AreMoments, state_after, Unfolds, unfolds, HasStepLeft}
 use Rattle.pagable_laws.proofs.Words.{IsWithinBound, StepIsWithin, StepsAreWithin, LoadsHaveStepsLeft, KeepsStored, Change, IsFresh, KeepsReadings, ReadingFeels, EventFeels, by-call, by-reading}
 use Rattle.pagable_laws.proofs.Words.{by-key, by-nothing}
 use Rattle.pagable_laws.proofs.Trees.{same_some}
@@ -30,20 +32,10 @@ few-more n = omega arith
 
 bounded-step : {N : Type 0} {v : Values N} {w w' : Core} {c : Change} (reading : Reading) (load : OpenLoad) (frames : List Frame) → w.loads reading.load.0 ≡ Some load
     → Bounded v.types w.stored load.key reading → ReadingFeels v w reading None frames w' c → Bounded v.types w.stored load.key (gone_on reading frames)
-bounded-step reading load frames open_load b feels more kept many longest under =
-    let o = b more kept many longest under in
-    let l = owes-less more kept reading load frames many longest o.0 open_load under o.1 feels in
-    let e = l.less in
-    let f = o.2 in
-    let g = few-more reading.steps in
-    (l.now, l.owes, omega (arith, e, f, g))
+bounded-step reading load frames open_load b feels more kept many longest under = search (rules, owes-less, few-more)
 
 has-left : {types : Types} {store : ℕ → Option Blob} {key : ℕ} (reading : Reading) → Bounded types store key reading → HasStepLeft types store key reading
-has-left {types} {store} {key} reading b many longest under =
-    let o = b store (λ q x is. is) many longest under in
-    let e = owes-some types store many reading.frames o.0 o.1 in
-    let f = o.2 in
-    omega (arith, e, f)
+has-left {types} {store} {key} reading b many longest under = search (rules, owes-some)
 
 ended-some : {X : Type 0} (answer : Option X) → (answer ≡ None → ⊥) → IsSome answer
 ended-some None none = absurd (none refl)
@@ -52,18 +44,7 @@ ended-some (Some x) none = refl
 is-within : {N : Type 0} {types : Types} {store : ℕ → Option Blob} {key : ℕ} (reading : Reading) (frames : List Frame) (reply : LoadReply N) → Bounded types store key reading
     → (reply.ended ≡ None → Bounded types store key (gone_on reading frames)) → reply.steps ≡ one_more reading.steps
     → IsWithinBound types store reading.node_type key reply
-is-within {types = types} {store} {key} reading frames reply b after counts many longest under =
-    let o = b store (λ q x is. is) many longest under in
-    let e = owes-some types store many reading.frames o.0 o.1 in
-    let f = o.2 in
-    let g = few-more reading.steps in (
-      omega (arith, e, f, g, counts),
-      λ last. ended-some reply.ended (λ none.
-          let p = after none store (λ q x is. is) many longest under in
-          let r = owes-some types store many frames p.0 p.1 in
-          let t = p.2 in
-          absurd (omega (arith, r, t, last, counts))),
-    )
+is-within {types = types} {store} {key} reading frames reply b after counts many longest under = search (rules, owes-some, few-more, ended-some)
 
 -- ---- the machine's loads
 
@@ -154,10 +135,7 @@ module _ {N E B W : Type 0} (m : Seen N B W) (s s' : MachineState N E) (whole : 
     ]
 
     now-bounded : reply.ended ≡ None → Bounded m.values.types u.core.stored load.key (gone_on x.reading x.frames)
-    now-bounded none =
-        let felt = reading-feels m u.core Owner.Caller caller-free u'.core x.reading reply.ended x.frames x.does in
-        let feels = subst (λ a. ReadingFeels m.values u.core x.reading a x.frames u'.core felt.change) none (felt.feels whole.pager.whole.handles) in
-        bounded-step x.reading load x.frames (ap u.core.loads number-is ∙ open_load) was-bounded feels
+    now-bounded none = search (rules, reading-feels, caller-free, bounded-step, number-is, was-bounded)
 
   event-on : (event : Event N B W) (reply : EventReply N B W) → Happens m u event reply u' → LoadsStand m.values.types u → LoadsStand m.values.types u'
   event-on event reply h (waits, stands) = (
@@ -201,11 +179,7 @@ module _ {N E B W : Type 0} (m : Seen N B W) where
       ((step-within m s x.after ends.whole ends.stands x.event x.reply does.step.happens, rest.0), rest.1)
 
   idle-stands : (s : MachineState N E) → IsIdle s → LoadsStand m.values.types (world_of s)
-  idle-stands s idle = (λ n walking is. let e = idle.walkings n in absurd (cc), inr (λ reading is. absurd (none reading is)))
-    where
-      none : (reading : Reading) → IsReadingOf s.work reading → ⊥
-      none reading (of_caller l is) = let e = idle.readings l in cc
-      none reading (of_worker n place walking r through below there todo) = let e = idle.walkings n in cc
+  idle-stands s idle = grind (arith, nat_tests)
 
   steps-left : (s : MachineState N E) → LoadsStand m.values.types (world_of s) → LoadsHaveStepsLeft m.values (world_of s)
   steps-left s (waits, inl shut) reading load is is_open = λ many longest under. absurd (nothing-unfolds shut.1 under)

@@ -1,13 +1,14 @@
 -- Reading does the same whatever stands for references: two readers over related inputs give related meanings.
-use Rattle.pagable_laws.proofs.Words.{◌≡◌, ℕ, zero, suc, ◌-◌, Bool, true, false, List, [], ◌∷◌, Some, None, Result, Ok, Err, if◌then◌else◌, ◌⊎◌, inl, inr, refl, subst, Ordering, Error, ◌>>=◌}
+use Rattle.pagable_laws.proofs.Words.{arith, nat_tests}
+use Rattle.std.proofs.lemmas.Grind.{common_steps}
+use Rattle.std.proofs.Common.{rules}
+use Rattle.pagable_laws.proofs.Words.{◌≡◌, ℕ, zero, suc, ◌-◌, Bool, true, false, List, [], ◌∷◌, Some, None, Result, Ok, Err, ◌⊎◌, inl, inr, refl, subst, Error, ◌>>=◌}
 use Rattle.pagable_laws.proofs.Words.{Read, unsigned_at, signed_at, length_at, text_at, bool_at, char_at, duration_at, Meaning, integer, none, variant, sequence, entry, absent, present}
-use Rattle.pagable_laws.proofs.Words.{success, failure, lifted, Entry, KeyOrder, ordered, same_key, code_order, text_order, put_all, put_sorted, put_placed, put_sorted_item, put_placed_item}
+use Rattle.pagable_laws.proofs.Words.{success, failure, lifted, Entry, KeyOrder, code_order, text_order, put_all, put_sorted, put_placed, put_sorted_item, put_placed_item}
 use Rattle.pagable_laws.proofs.Words.{of_entries, of_tagged, of_hash_map, Shape, nothing, unsigned, signed, flag, letter, duration, json, optional, outcome, list, run, array, both, sorted_map}
 use Rattle.pagable_laws.proofs.Words.{placed_map, hash_map, sorted_set, placed_set, static_value, tagged, cases, nested, Rest, Look, Gets, bytes_of, reference_at, seen, two, choose, items}
 use Rattle.pagable_laws.proofs.Words.{counted, registered, Deeper, enter, JsonCase, null_case, flag_case, number_case, text_case, array_case, object_case, json_case, json_part, read_with, below}
-use Rattle.pagable_laws.proofs.Words.{deepest, read, IsReadable, HasNoReference, Throughout, rest}
-use Rattle.std.specs.declared.cmp.Ordering.{Ordering}
-use Rattle.std.specs.Ordering.{match_ordering}
+use Rattle.pagable_laws.proofs.Words.{deepest, read, IsReadable, HasNoReference, Throughout}
 use Rattle.std.specs.Int.{w32, w64}
 use Rattle.std.specs.List.{AllByRecursion}
 use Rattle.pagable_model.specs.Meaning as meanings
@@ -32,45 +33,22 @@ module _ {A B : Type 0} {F : Type 0} {R : A → B → Type 0} where
   put_sorted-two : (order : KeyOrder) {acc : List (Entry A)} {acc2 : List (Entry B)} {e : Entry A} {f : Entry B} → AllTwo (EntryAlong F R) acc acc2 → EntryAlong F R e f
       → AllTwo (EntryAlong F R) (put_sorted order acc e) (put_sorted order acc2 f)
   put_sorted-two order {e = e} {f = f} no-two h = more-two e f [] [] h no-two
-  put_sorted-two order {e = e} {f = f} (more-two x y acc acc2 g k) h = rw (← plain-along h.key, ← plain-along g.key) (at (ordered order e.0 x.0) (put_sorted-two order k h))
-    where
-      at : (o : Ordering) → AllTwo (EntryAlong F R) (put_sorted order acc e) (put_sorted order acc2 f)
-          → AllTwo (EntryAlong F R) (match_ordering o (e ∷ x ∷ acc) ((x.0, e.1) ∷ acc) (x ∷ put_sorted order acc e))
-          (match_ordering o (f ∷ y ∷ acc2) ((y.0, f.1) ∷ acc2) (y ∷ put_sorted order acc2 f))
-      at Ordering.Less rest = more-two e f _ _ h (more-two x y acc acc2 g k)
-      at Ordering.Equal rest = more-two (x.0, e.1) (y.0, f.1) acc acc2 (record { key = g.key; value = h.value }) k
-      at Ordering.Greater rest = more-two x y _ _ g rest
+  put_sorted-two order {e = e} {f = f} (more-two x y acc acc2 g k) h = search (rules, more-two, plain-along, put_sorted-two order k h)
 
   put_sorted_item-two : (order : KeyOrder) {acc : List (Meaning A)} {acc2 : List (Meaning B)} {m : Meaning A} {n : Meaning B} → AllTwo (Along F R) acc acc2 → Along F R m n
       → AllTwo (Along F R) (put_sorted_item order acc m) (put_sorted_item order acc2 n)
   put_sorted_item-two order {m = m} {n = n} no-two h = more-two m n [] [] h no-two
-  put_sorted_item-two order {m = m} {n = n} (more-two x y acc acc2 g k) h = rw (← plain-along h, ← plain-along g) (at (ordered order m x) (put_sorted_item-two order k h))
-    where
-      at : (o : Ordering) → AllTwo (Along F R) (put_sorted_item order acc m) (put_sorted_item order acc2 n)
-          → AllTwo (Along F R) (match_ordering o (m ∷ x ∷ acc) (x ∷ acc) (x ∷ put_sorted_item order acc m)) (match_ordering o (n ∷ y ∷ acc2) (y ∷ acc2) (y ∷ put_sorted_item order acc2 n))
-      at Ordering.Less rest = more-two m n _ _ h (more-two x y acc acc2 g k)
-      at Ordering.Equal rest = more-two x y acc acc2 g k
-      at Ordering.Greater rest = more-two x y _ _ g rest
+  put_sorted_item-two order {m = m} {n = n} (more-two x y acc acc2 g k) h = search (rules, more-two, plain-along, put_sorted_item-two order k h)
 
   put_placed-two : {acc : List (Entry A)} {acc2 : List (Entry B)} {e : Entry A} {f : Entry B} → AllTwo (EntryAlong F R) acc acc2 → EntryAlong F R e f
       → AllTwo (EntryAlong F R) (put_placed acc e) (put_placed acc2 f)
   put_placed-two {e = e} {f = f} no-two h = more-two e f [] [] h no-two
-  put_placed-two {e = e} {f = f} (more-two x y acc acc2 g k) h = rw (← plain-along h.key, ← plain-along g.key) (at (same_key e.0 x.0) (put_placed-two k h))
-    where
-      at : (t : Bool) → AllTwo (EntryAlong F R) (put_placed acc e) (put_placed acc2 f)
-          → AllTwo (EntryAlong F R) (if t then ((x.0, e.1) ∷ acc) else (x ∷ put_placed acc e)) (if t then ((y.0, f.1) ∷ acc2) else (y ∷ put_placed acc2 f))
-      at true rest = more-two (x.0, e.1) (y.0, f.1) acc acc2 (record { key = g.key; value = h.value }) k
-      at false rest = more-two x y _ _ g rest
+  put_placed-two {e = e} {f = f} (more-two x y acc acc2 g k) h = search (rules, more-two, plain-along, put_placed-two k h)
 
   put_placed_item-two : {acc : List (Meaning A)} {acc2 : List (Meaning B)} {m : Meaning A} {n : Meaning B} → AllTwo (Along F R) acc acc2 → Along F R m n
       → AllTwo (Along F R) (put_placed_item acc m) (put_placed_item acc2 n)
   put_placed_item-two {m = m} {n = n} no-two h = more-two m n [] [] h no-two
-  put_placed_item-two {m = m} {n = n} (more-two x y acc acc2 g k) h = rw (← plain-along h, ← plain-along g) (at (same_key m x) (put_placed_item-two k h))
-    where
-      at : (t : Bool) → AllTwo (Along F R) (put_placed_item acc m) (put_placed_item acc2 n)
-          → AllTwo (Along F R) (if t then (x ∷ acc) else (x ∷ put_placed_item acc m)) (if t then (y ∷ acc2) else (y ∷ put_placed_item acc2 n))
-      at true rest = more-two x y acc acc2 g k
-      at false rest = more-two x y _ _ g rest
+  put_placed_item-two {m = m} {n = n} (more-two x y acc acc2 g k) h = search (rules, more-two, plain-along, put_placed_item-two k h)
 
 put_all-two : {X Y : Type 0} {V : X → Y → Type 0} (put : List X → X → List X) (put2 : List Y → Y → List Y)
     → ((acc : List X) (acc2 : List Y) (x : X) (y : Y) → AllTwo V acc acc2 → V x y → AllTwo V (put acc x) (put2 acc2 y))
@@ -146,13 +124,7 @@ module _ {A B : Type 0} {E : Error → Type 0} {S : A → B → Type 0} where
 
   pub bytes_par : {X Y Z : Type 0} {V : X → Y → Type 0} (read : List ℕ → Read Z) (view : Z → X) (view2 : Z → Y) → ((z : Z) → V (view z) (view2 z))
       → Par E S V (bytes_of read view) (bytes_of read view2)
-  bytes_par {X} {Y} {Z} {V} read view view2 h = record { out = λ r q s. rw s.bytes (at r q s (read r.bytes)) }
-    where
-      at : (r : Rest A) (q : Rest B) → SameRest S r q → (z : Read Z)
-          → Out E S V (z >>= λ x. let o : Result (X × Rest A) Error = Ok (view x.0, record r { bytes = x.1 }) in o)
-          (z >>= λ x. let o : Result (Y × Rest B) Error = Ok (view2 x.0, record q { bytes = x.1 }) in o)
-      at r q s (Ok x) = both-given _ _ (h x.0) (record { bytes = refl; refs = s.refs })
-      at r q s (Err e) = both-refused e
+  bytes_par {X} {Y} {Z} {V} read view view2 h = search (rules, both-given, both-refused)
 
   pub bytes_same : {Z : Type 0} (read : List ℕ → Read Z) → Par E S (λ (v w : Z). v ≡ w) (bytes_of read (λ z. z)) (bytes_of read (λ z. z))
   bytes_same read = bytes_par read _ _ (λ z. refl)

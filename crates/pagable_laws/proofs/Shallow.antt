@@ -1,9 +1,10 @@
 -- Where heights are low, no path from a tree whose key is known is too long.
-use Rattle.pagable_laws.proofs.Words.{◌≡◌, ℕ, ◌+◌, ◌<◌, ◌≤◌, Bool, true, false, List, [], ◌∷◌, if◌then◌else◌, refl, sym, subst, ◌∙◌, arith, max, Some, None, Ok, Err}
-use Rattle.pagable_laws.proofs.Words.{pair, variant, reference, followed, is_eager, longest_path, above, height, deepest_path, ArcRef, Identity, Meaning, Tree, Took, WorkerAnswer}
-use Rattle.pagable_laws.proofs.Words.{identity_of, Shelf, Fault, was_refused, was_failed, Todo, to_item, to_release, to_fail, Task, of_item, of_entry, Values, Seen, Site, Does, IsPublished}
+use Rattle.pagable_laws.proofs.Words.{nat_tests}
+use Rattle.pagable_laws.proofs.Words.{◌≡◌, ℕ, ◌<◌, ◌≤◌, List, [], ◌∷◌, refl, sym, subst, ◌∙◌, arith, max, Some, Ok, Err}
+use Rattle.pagable_laws.proofs.Words.{pair, variant, reference, followed, longest_path, above, height, deepest_path, ArcRef, Identity, Meaning, Tree, Took, WorkerAnswer}
+use Rattle.pagable_laws.proofs.Words.{identity_of, Shelf, Todo, to_item, to_release, to_fail, Task, of_item, of_entry, Values, Seen, Site, Does, IsPublished}
 use Rattle.pagable_laws.proofs.Words.{answer_after, MachineState, world_of, IsLongBelow, IsTooDeepTask, Ground, FollowsTo, pair-follows, variant-follows, reference-follows, Waits, Walks}
-use Rattle.pagable_laws.proofs.Words.{IsOfEntry, WorkFits}
+use Rattle.pagable_laws.proofs.Words.{WorkFits}
 use Rattle.pagable_laws.proofs.Heights.{IsLow, AllLow, WaitsLow, TodoLow, all-low}
 use Rattle.pagable_laws.proofs.HeightSteps.{HeightsIn}
 
@@ -18,11 +19,7 @@ TaskLow shelf (of_item written) = AllLow shelf longest_path written.references
 TaskLow shelf (of_entry h i) = (key : ℕ) × ((height : ℕ) × IsPublished shelf i key height)
 
 above-grows : (kind a b : ℕ) → a ≤ b → above kind a ≤ above kind b
-above-grows kind a b le = of (is_eager kind)
-  where
-    of : (e : Bool) → (if e then a + 1 else 0) ≤ (if e then b + 1 else 0)
-    of true = omega arith
-    of false = omega arith
+above-grows kind a b le = grind (arith, nat_tests)
 
 module _ {N E : Type 0} (v : Values N) (s : MachineState N E) (trees : ℕ → Tree) (fit : WorkFits v s trees) (low : HeightsIn (world_of s)) (t : ℕ) where
   abbrev shelf : Shelf
@@ -96,15 +93,7 @@ module _ {N B W : Type 0} (m : Seen N B W) (n : ℕ) (g : Ground) (task : Task) 
       subst (λ t. TaskLow s.shelf t) (sym of_it) (all-low s.shelf longest_path written.references ks p.all low)
   answered-low (to_item written ks ∷ below) (Took.Store i (Err f)) does walks low key e = absurd (cc)
   answered-low (to_item written ks ∷ below) step does walks low key e = absurd does
-  answered-low (to_release r k h ∷ []) step does (p, (expects, waits)) low key e = of-entry task expects
-    where
-      of-entry : (task : Task) → IsOfEntry task r → TaskLow s.shelf task
-      of-entry (of_entry q i) at = (k, (h, subst (λ j. IsPublished s.shelf j k h) at p))
-      of-entry (of_item written) at = absurd at
-  answered-low (to_fail fault back ∷ below) Took.Fail does walks low key e = absurd (is-fault fault e)
-    where
-      is-fault : (fault : Fault) → answer_after {W = W} (to_fail fault None ∷ []) Took.Fail ≡ Some (WorkerAnswer.Key key) → ⊥
-      is-fault (was_refused f) is = cc
-      is-fault was_failed is = cc
+  answered-low (to_release r k h ∷ []) step does (p, (expects, waits)) low key e = grind (arith, nat_tests)
+  answered-low (to_fail fault back ∷ below) Took.Fail does walks low key e = grind (arith, nat_tests)
   answered-low (to_fail fault back ∷ below) step does walks low key e = absurd does
   answered-low todo step does walks low key e = absurd (cc)

@@ -1,7 +1,9 @@
 -- What tables and to-do lists hold of trees goes on as long as what is stored and each node's tree stay; and what a change of a table comes to.
+use Rattle.pagable_laws.proofs.Words.{nat_tests}
+use Rattle.std.proofs.Common.{rules}
 use Rattle.pagable_laws.proofs.Words.{◌≡◌, ℕ, ◌≤◌, Bool, true, false, List, [], ◌∷◌, inl, inr, Option, Some, None, if◌then◌else◌, refl, sym, ap, subst, ◌∙◌, arith, nat_eq, KeyRef, IsFollowed}
-use Rattle.pagable_laws.proofs.Words.{number-followed, integer-followed, text-followed, pattern-followed, none-followed, pair-followed, variant-followed, reference-followed, StoredAs, ArcRef}
-use Rattle.pagable_laws.proofs.Words.{Identity, Blob, Meaning, Tree, Among, if_there, identity_of, Shelf, Slot, published, failed, Written, Todo, to_start, to_pin, to_load, to_write, to_finish}
+use Rattle.pagable_laws.proofs.Words.{number-followed, integer-followed, text-followed, pattern-followed, none-followed, pair-followed, variant-followed, reference-followed, ArcRef}
+use Rattle.pagable_laws.proofs.Words.{Identity, Blob, Meaning, Tree, Among, if_there, identity_of, Shelf, Slot, failed, Written, Todo, to_start, to_pin, to_load, to_write, to_finish}
 use Rattle.pagable_laws.proofs.Words.{to_item, to_set, to_publish, to_release, to_fail, Task, Values, IsPublished, is_open_outcome, with_outcome, with_failed, AreKeysOf, Ground, FollowsTo}
 use Rattle.pagable_laws.proofs.Words.{number-follows, integer-follows, text-follows, pattern-follows, none-follows, pair-follows, variant-follows, reference-follows, WroteTree, KeyStands}
 use Rattle.pagable_laws.proofs.Words.{BlobStands, SlotFits, KeysSoFar, Waits, Above, HasBlob, Walks, SlotsFit}
@@ -54,10 +56,7 @@ module _ {shelf shelf' : Shelf} (keys : KeepsKeys shelf shelf') where
 
 module _ {N : Type 0} (v : Values N) {g g' : Ground} (goes : GroundGoes g g') where
   stands-on : {t : Tree} {key : ℕ} → KeyStands v g.stored t key → KeyStands v g'.stored t key
-  stands-on {t} {key} h =
-      let to : (type k : ℕ) (m : Meaning KeyRef) → StoredAs g.stored v.types type k m
-      → StoredAs g'.stored v.types type k m = λ type k m p. record { shape = p.shape; is = p.is; bytes = p.bytes; refs = p.refs; form = p.form; stored = goes.kept k _ p.stored } in
-      record { is_key = h.is_key; stands = record { own = h.stands.own; stands = to t.type key h.stands.own h.stands.stands; follows = followed-on to h.stands.follows } }
+  stands-on {t} {key} h = search (rules, followed-on)
 
   pub wrote-on : {n : ℕ} {written : Written} → n ≤ g.last → WroteTree v.types g n written → WroteTree v.types g' n written
   wrote-on {n} {written} given w =
@@ -78,13 +77,7 @@ module _ {N : Type 0} (v : Values N) {g g' : Ground} (goes : GroundGoes g g') wh
         record { keys = b.keys; known = keys-on keys written.references b.keys b.known; is_stored = goes.kept key _ b.is_stored; right = subst (λ t. KeyStands v g'.stored t key) (sym (goes.trees n given)) (stands-on b.right) }
 
     pub slot-on : {i : Identity} {slot : Slot} → SlotFits v g shelf i slot → SlotFits v g' shelf' i slot
-    slot-on {i} {slot} fits =
-        record {
-          given = let le = fits.given in let more = goes.last in omega arith;
-          typed = ap (λ (t : Tree). t.type) (goes.trees i.node.0 fits.given) ∙ fits.typed;
-          writes = λ w is. wrote-on fits.given (fits.writes w is);
-          publishes = λ key height is. let p = fits.publishes key height is in (p.0, p.1, blob-on fits.given p.2);
-        }
+    slot-on {i} {slot} fits = search (rules, wrote-on, blob-on)
 
 pub keys-same : {shelf shelf' : Shelf} → ((i : Identity) → shelf'.slots i ≡ shelf.slots i) → KeepsKeys shelf shelf'
 keys-same same i key height p = record { slot = p.slot; claimed = same i ∙ p.claimed; known = p.known }
@@ -108,10 +101,7 @@ module _ (shelf shelf' : Shelf) (more : ShelfGrows shelf shelf') where
 
 module _ {N : Type 0} {v : Values N} {g g' : Ground} {shelf shelf' : Shelf} (goes : GroundGoes g g') (more : ShelfGrows shelf shelf') (fits : SlotsFit v g shelf) where
   pub has-blob-on : {r : ArcRef} {key : ℕ} → HasBlob v g shelf r key → HasBlob v g' shelf' r key
-  has-blob-on {r} b =
-      let fit = fits (identity_of r) b.slot b.claimed in
-      let a = more (identity_of r) b.slot b.claimed in
-      record { slot = a.0; written = b.written; claimed = a.1; wrote = a.2.written b.written b.wrote; stands = blob-on v goes (keys-grow more) fit.given b.stands }
+  has-blob-on {r} b = search (rules, blob-on, keys-grow)
 
   -- ---- slots: all stay, one is put in, or the worker's claims without a result have failed
 
@@ -126,10 +116,7 @@ module _ {N : Type 0} {v : Values N} {g g' : Ground} {shelf shelf' : Shelf} (goe
 
   module _ (n : ℕ) where
     failed-fits : (i : Identity) (slot : Slot) (a b : Bool) → SlotFits v g' shelf' i slot → SlotFits v g' shelf' i (if a then (if b then record slot { outcome = failed } else slot) else slot)
-    failed-fits i slot true true fit = record { given = fit.given; typed = fit.typed; writes = fit.writes; publishes = λ key height e. absurd (no_key key height e) }
-      where
-        no_key : (key height : ℕ) → failed ≡ published key height → ⊥
-        no_key key height e = cc
+    failed-fits i slot true true fit = grind (arith, nat_tests)
     failed-fits i slot true false fit = fit
     failed-fits i slot false b fit = fit
 

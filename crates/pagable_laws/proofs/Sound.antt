@@ -1,10 +1,12 @@
 -- Why a load is refused whose key a page-out has published: by chance, or by a handle.
-use Rattle.pagable_laws.proofs.Words.{◌≡◌, ℕ, ◌≤◌, ◌==◌, Bool, true, false, List, [], ◌∷◌, length, ◌⊎◌, inl, inr, Option, Some, None, Err, refl, sym, ap, subst, ◌∙◌, if◌then◌else◌, arith, Result}
-use Rattle.pagable_laws.proofs.Words.{not, nat_lt, nat_le, is_own_reading, RefusesFetch, Error, Want, Owner, Kind, HandleNumber, LoadNumber, NodeNumber, Blob, Tree, Types, type_of, is_eager}
-use Rattle.pagable_laws.proofs.Words.{is_loose_kind, longest_path, if_there, any_mode, Core, OpenLoad, of_cell, Frame, Reading, Seen, Values, IsLawful, rank, earlier, where_so, refused_if, spent}
-use Rattle.pagable_laws.proofs.Words.{handle_fault, references_fault, load_fault, AreHandlesFull, Refused, FetchCall, birth_fault, is_usable, AskCall, LazyCall, ask_fault, is_known, node_fault}
+use Rattle.pagable_laws.proofs.Words.{nat_tests}
+use Rattle.std.proofs.Common.{rules}
+use Rattle.pagable_laws.proofs.Words.{◌≡◌, ℕ, ◌≤◌, ◌==◌, Bool, true, false, List, [], ◌∷◌, length, ◌⊎◌, inl, inr, Option, Some, None, Err, refl, sym, ap, subst, ◌∙◌, arith, Result}
+use Rattle.pagable_laws.proofs.Words.{not, nat_le, is_own_reading, RefusesFetch, Error, Want, Owner, Kind, HandleNumber, LoadNumber, NodeNumber, Blob, Tree, Types, type_of, is_eager}
+use Rattle.pagable_laws.proofs.Words.{is_loose_kind, longest_path, if_there, any_mode, Core, OpenLoad, of_cell, Frame, Reading, Seen, Values, IsLawful, earlier, where_so, refused_if, spent}
+use Rattle.pagable_laws.proofs.Words.{handle_fault, references_fault, load_fault, AreHandlesFull, Refused, FetchCall, birth_fault, AskCall, LazyCall, ask_fault, is_known, node_fault}
 use Rattle.pagable_laws.proofs.Words.{root_fault, is_owned_in, Next, reads, asks, is_faulty, need_of, needs_nested, needs_lazy, to_adopt, need_at, next_in, is_broken, IsDecoded, RefusesBlob}
-use Rattle.pagable_laws.proofs.Words.{RefusesNested, RefusesNode, RefusesRoot, IsOfKey, EndsClosed, Fails, fresh, reading_at, reading_of_load, reading_of_root, MachineState, world_of}
+use Rattle.pagable_laws.proofs.Words.{RefusesNested, RefusesNode, RefusesRoot, IsOfKey, EndsClosed, Fails, fresh, reading_at, reading_of_load, MachineState, world_of}
 use Rattle.pagable_laws.proofs.Words.{IsMachineWhole, StandsFor, FitsRoot, FramesFit, of_caller, ReadsItsTypes, IsOfChance, IsPagedOutAs, IsLoadOfPagedOut, WorkFits}
 use Rattle.pagable_laws.proofs.Trees.{same_some}
 use Rattle.pagable_laws.proofs.Sums.{self-number}
@@ -20,11 +22,7 @@ use Rattle.pagable_laws.proofs.KnownSteps.{ReadingsAsked, eager-nested}
 pub either : (a b : Option Error) (e : Error) → earlier a b ≡ Some e → (a ≡ Some e) ⊎ (b ≡ Some e)
 either None b e is = inr is
 either (Some x) None e is = inl is
-either (Some x) (Some y) e is = by (nat_lt (rank y) (rank x)) is
-  where
-    by : (b : Bool) → (if b then Some y else Some x) ≡ Some e → (Some x ≡ Some e) ⊎ (Some y ≡ Some e)
-    by true is = inr is
-    by false is = inl is
+either (Some x) (Some y) e is = grind (arith, nat_tests)
 
 chance-if : (b : Bool) (e : Error) → refused_if b Error.NumbersSpent ≡ Some e → IsOfChance e
 chance-if true e is = let same : Error.NumbersSpent ≡ e = cc in subst IsOfChance same tt
@@ -38,11 +36,7 @@ birth-chance : (w : Core) (e : Error) → birth_fault w ≡ Some e → IsOfChanc
 birth-chance w e is = elim (either (spent w.last.node) (spent w.last.handle) e is) [ inl a ↦ chance-if _ e a | inr b ↦ chance-if _ e b ]
 
 node-chance : (w : Core) (kind : Kind) (key : ℕ) (e : Error) → node_fault w kind key ≡ Some e → IsOfChance e
-node-chance w kind key e is = by (is_usable w kind key) is
-  where
-    by : (b : Bool) → (if b then spent w.last.handle else birth_fault w) ≡ Some e → IsOfChance e
-    by true is = chance-if _ e is
-    by false is = birth-chance w e is
+node-chance w kind key e is = search (rules, chance-if, birth-chance)
 
 never : (b : Bool) (f e : Error) → b ≡ false → refused_if b f ≡ Some e → ⊥
 never true f e is so = cc
@@ -64,19 +58,11 @@ fetch-chance key found blob before after (Error.Storage code) is why = tt
 fetch-chance key found blob before after e is why = absurd why
 
 loose-not : (kind : ℕ) → is_eager kind ≡ true → is_loose_kind kind ≡ false
-loose-not kind is = by (is_loose_kind kind) is
-  where
-    by : (b : Bool) → not b ≡ true → b ≡ false
-    by true is = absurd (cc)
-    by false is = refl
+loose-not kind is = grind (arith, nat_tests)
 
 -- what a load gets unread it asks for through a loose reference
 lazy-loose : (below : List Frame) (next : Next) (kind : Kind) (key : ℕ) → need_at below next ≡ needs_lazy kind key → not (is_loose_kind kind.0) ≡ false
-lazy-loose below (asks k q) kind key is = by (is_eager k.0) refl is
-  where
-    by : (b : Bool) → is_eager k.0 ≡ b → (if b then needs_nested k q else needs_lazy k q) ≡ needs_lazy kind key → is_eager kind.0 ≡ false
-    by false e is = let same : k ≡ kind = cc in subst (λ (x : Kind). is_eager x.0 ≡ false) same e
-    by true e is = absurd (cc)
+lazy-loose below (asks k q) kind key is = grind (arith, nat_tests)
 lazy-loose [] (reads own) kind key is = absurd (cc)
 lazy-loose (x ∷ xs) (reads own) kind key is = absurd (cc)
 lazy-loose below (is_faulty e) kind key is = absurd (cc)
@@ -129,9 +115,7 @@ module _ {N B W E : Type 0} (m : Seen N B W) (s : MachineState N E) (trees : ℕ
       of_type : reading.node_type ≡ t
 
     by-fresh : (found : Option OpenLoad) → found ≡ Some load → reading_of_load l found ≡ Some reading → fresh l t ≡ reading
-    by-fresh found there is =
-        let r : reading_of_root l load.root ≡ Some reading = subst (λ o. reading_of_load l o ≡ Some reading) there is in
-        same_some _ _ (sym (ap (reading_of_root l) paged.3) ∙ r)
+    by-fresh found there is = grind (arith, nat_tests)
 
     is-read : Read
     unfolding FramesFit FramesAsked

@@ -1,7 +1,9 @@
 -- A load of a cell whose key a page-out set is refused by chance or by a handle alone.
-use Rattle.pagable_laws.proofs.Words.{◌≡◌, ℕ, ◌==◌, ◌||◌, Bool, true, false, List, [], ◌∷◌, Option, Some, None, Ok, Err, inl, inr, if◌then◌else◌, refl, subst, ◌∙◌, not, Error, HandleRow, Owner}
-use Rattle.pagable_laws.proofs.Words.{Mode, LoadAnswer, LoadReply, Event, EventReply, ArcRef, HandleNumber, LoadNumber, Tree, type_of, is_in, if_there, or_else, any_mode, is_owner, fits_mode}
-use Rattle.pagable_laws.proofs.Words.{Core, OpenLoad, Seen, IsLawful, row_at, type_at, refused_if, is_type, row_fault, reference_fault, references_fault, handle_fault, LoadSteps, Happens}
+use Rattle.pagable_laws.proofs.Words.{arith, nat_tests}
+use Rattle.std.proofs.Common.{rules}
+use Rattle.pagable_laws.proofs.Words.{◌≡◌, ℕ, Bool, true, false, List, [], ◌∷◌, Option, Some, None, Ok, Err, inl, inr, refl, subst, ◌∙◌, Error, HandleRow, Owner}
+use Rattle.pagable_laws.proofs.Words.{Mode, LoadAnswer, LoadReply, Event, EventReply, ArcRef, HandleNumber, LoadNumber, Tree, or_else, any_mode}
+use Rattle.pagable_laws.proofs.Words.{Core, OpenLoad, Seen, IsLawful, refused_if, row_fault, reference_fault, references_fault, handle_fault, LoadSteps, Happens}
 use Rattle.pagable_laws.proofs.Words.{MachineState, world_of, ReadsItsTypes, IsLoadOfPagedOut, IsOfHandles, LoadIsFaultless, FaultlessLaw}
 use Rattle.pagable_world.specs.Loads.{Does}
 use Rattle.pagable_laws.proofs.Chains.{IsGoingOn}
@@ -19,25 +21,10 @@ by-test true f e is same = of-handles f e is same
 by-test false f e is same = absurd (cc)
 
 by-row : (w : Core) (r : ArcRef) (b : Bool) (row : HandleRow) (e : Error) → row_fault w r (refused_if b Error.NotYours) row ≡ Some e → IsOfHandles e
-by-row w r b row e is = at (not (row.node.0 == r.node.0)) b (not (fits_mode r.kind.0 row.mode)) is
-  where
-    at : (a b c : Bool)
-        → (if a then Some Error.NoSuchHandle else or_else (refused_if b Error.NotYours) (if c then Some Error.WrongMode else refused_if (not (is_type (type_of r.kind.0)
-        (type_at w r.node.0))) Error.WrongKind)) ≡ Some e
-        → IsOfHandles e
-    at true b c is = of-handles Error.NoSuchHandle e tt is
-    at false true c is = of-handles Error.NotYours e tt is
-    at false false true is = of-handles Error.WrongMode e tt is
-    at false false false is = by-test (not (is_type (type_of r.kind.0) (type_at w r.node.0))) Error.WrongKind e tt is
+by-row w r b row e is = grind (arith, nat_tests)
 
 by-one : (w : Core) (owner : Owner) (seen : List ℕ) (r : ArcRef) (e : Error) → reference_fault w owner seen r ≡ Some e → IsOfHandles e
-by-one w owner seen r e is = at (row_at w r.handle) is
-  where
-    at : (found : Option HandleRow)
-        → if_there (λ (row : HandleRow). row_fault w r (refused_if (not (is_owner owner row.owner) || is_in seen r.handle.0) Error.NotYours) row)
-        (Some Error.NoSuchHandle) found ≡ Some e → IsOfHandles e
-    at None is = of-handles Error.NoSuchHandle e tt is
-    at (Some row) is = by-row w r (not (is_owner owner row.owner) || is_in seen r.handle.0) row e is
+by-one w owner seen r e is = search (rules, of-handles, by-row)
 
 pub by-all : (w : Core) (owner : Owner) (seen : List ℕ) (rs : List ArcRef) (e : Error) → references_fault w owner seen rs ≡ Some e → IsOfHandles e
 unfolding references_fault
@@ -50,17 +37,7 @@ by-all w owner seen (r ∷ rs) e is = at (λ f. by-all w owner (r.handle.0 ∷ s
     at later (Some f) first is = by-one w owner seen r e (first ∙ is)
 
 pub by-handle-row : (w : Core) (me : Owner) (h : HandleNumber) (fits : Mode → Bool) (e : Error) → handle_fault w me h fits ≡ Some e → IsOfHandles e
-by-handle-row w me h fits e is = at (row_at w h) is
-  where
-    row : (HandleRow) → (a b : Bool) → (if a then Some Error.NotYours else refused_if b Error.WrongMode) ≡ Some e → IsOfHandles e
-    row r true b is = of-handles Error.NotYours e tt is
-    row r false b is = by-test b Error.WrongMode e tt is
-
-    at : (found : Option HandleRow)
-        → if_there (λ (row : HandleRow). if not (is_owner me row.owner) then Some Error.NotYours else refused_if (not (fits row.mode)) Error.WrongMode)
-        (Some Error.NoSuchHandle) found ≡ Some e → IsOfHandles e
-    at None is = of-handles Error.NoSuchHandle e tt is
-    at (Some r) is = row r (not (is_owner me r.owner)) (not (fits r.mode)) is
+by-handle-row w me h fits e is = grind (arith, nat_tests)
 
 -- ---- a load's step
 
@@ -90,6 +67,4 @@ module _ {N B W E : Type 0} (m : Seen N B W) (lawful : IsLawful m.values) (reada
   load-faultless (Event.WorkerListed t i) reply is = tt
 
 pub faultless_law : {N B W : Type 0} (E : Type 0) (m : Seen N B W) → FaultlessLaw E m
-faultless_law E m start moments trees whole idle chain stands lawful readable settled =
-    along-first m lawful readable LoadIsFaultless
-    (λ s s' trees trees' event reply on low is. load-faultless m lawful readable s s' trees trees' on low event reply is) start moments trees whole idle chain stands settled
+faultless_law E m start moments trees whole idle chain stands lawful readable settled = search (rules, along-first, load-faultless)

@@ -69,11 +69,7 @@ module _ (v : ℕ) where
 
   -- a handle of another's isn't the worker's
   pub other-handle : {w : Core} {me : Owner} {fits : Mode → Bool} (h : HandleNumber) (r : HandleRow) → (me ≡ owner_worker v → ⊥) → Owns w me h fits r → Free w (only_handle h)
-  other-handle {w} {me} h r other owns = record { each = λ q row own s. by q row own s (q == h.0) refl }
-    where
-      by : (q : ℕ) (row : HandleRow) → row.owner ≡ owner_worker v → Stands w.last.handle w.rows q row → (b : Bool) → (q == h.0) ≡ b → (q == h.0) ≡ false
-      by q row own s false e = e
-      by q row own s true e = let same : q ≡ h.0 = grind (arith, nat_tests) in absurd (other (sym owns.own ∙ (sym (same-row r s owns.live same) ∙ own)))
+  other-handle {w} {me} h r other owns = grind (arith, nat_tests)
 
   pub spares-mode : {w : Core} {me : Owner} {fits : Mode → Bool} (h : HandleNumber) (r : HandleRow) (mode : Mode) → (me ≡ owner_worker v → ⊥) → Owns w me h fits r → Spares w (with_mode w h mode)
   spares-mode h r mode other owns = let free = other-handle h r other owns in record { each = λ q row own s. mode-free h mode (free.each q row own s) s }

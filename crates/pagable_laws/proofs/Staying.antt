@@ -1,5 +1,6 @@
 -- Each event keeps trees: what it brings fits some trees afterwards, for which the machine stands then, with all that its loads read.
-use Rattle.pagable_laws.proofs.Words.{◌≡◌, ℕ, List, [], ◌∷◌, inl, inr, sym, ap, ◌∙◌, subst, ◌⊎◌, Event, EventReply, Tree, Among, Reading, Frame, to_load, Walking, Values, Seen, IsLawful}
+use Rattle.pagable_laws.proofs.Words.{arith, nat_tests}
+use Rattle.pagable_laws.proofs.Words.{◌≡◌, ℕ, List, [], inl, inr, sym, ap, ◌∙◌, subst, ◌⊎◌, Event, EventReply, Tree, Among, Reading, Frame, Walking, Values, Seen, IsLawful}
 use Rattle.pagable_laws.proofs.Words.{MachineState, PagerState, world_of, IsMachineWhole, StandsFor, FramesFit, ReadingFits, ReadingBrings, TodoBrings, EventBrings, IsReadingOf, HoldsSettled}
 use Rattle.pagable_laws.proofs.Words.{ReadsItsTypes, TakesWell, TodoTakesWell, AsksWell, IsWellAsked, FramesGiven, Change, CoreGoes, IsSteppedReading, EventFeels, by-call, by-reading, by-key}
 use Rattle.pagable_laws.proofs.Words.{by-nothing, KeysAreReady, IsFresh, ChangeFits, ReadingsGiven}
@@ -19,13 +20,8 @@ module _ {N E B W : Type 0} (m : Seen N B W) (s : MachineState N E) (trees : ℕ
   -- the reading that makes the step is what brings values
   reading-brings : (event : Event N B W) (reading : Reading) (n : ℕ) (x : N) → IsSteppedReading (world_of s) event reading → EventBrings m.values (world_of s) event n x
       → ReadingBrings m.values s.pager.core reading n x
-  reading-brings (Event.LoadStep l) reading n x stepped (other, at, brings) =
-      let same : other ≡ reading = same_some _ _ (sym at ∙ stepped.0) in
-      subst (λ z. ReadingBrings m.values s.pager.core z n x) same brings
-  reading-brings (Event.WorkerStep k) reading n x (walking, r, place, through, below, there, todo) (other, at, brings) =
-      let same : other ≡ walking = same_some _ _ (sym at ∙ there) in
-      let front : other.todo ≡ to_load r place through reading ∷ below = ap (λ (z : Walking). z.todo) same ∙ todo in
-      subst (λ z. TodoBrings m.values s.pager.core z n x) front brings
+  reading-brings (Event.LoadStep l) reading n x stepped (other, at, brings) = grind (arith, nat_tests)
+  reading-brings (Event.WorkerStep k) reading n x (walking, r, place, through, below, there, todo) (other, at, brings) = grind (arith, nat_tests)
   reading-brings event reading n x stepped brings = absurd stepped
 
   reading-takes : (event : Event N B W) (reply : EventReply N B W) (reading : Reading) → IsSteppedReading (world_of s) event reading → IsWellAsked m.values s trees event reply

@@ -1,4 +1,6 @@
 -- Sums over the elements of a list, and what they count.
+use Rattle.std.proofs.lemmas.Grind.{common_steps}
+use Rattle.std.proofs.Common.{rules}
 use Rattle.pagable_laws.proofs.Words.{◌≡◌, ℕ, suc, zero, ◌+◌, ◌<◌, ◌≤◌, ◌==◌, Bool, true, false, List, [], ◌∷◌, sum_by, cond, refl, ap, ◌∙◌, arith, filter, length, nat_tests, sum_by-cons, one}
 use Rattle.pagable_laws.proofs.Words.{Among, times, PinsAreAFilter}
 
@@ -31,13 +33,8 @@ sum-le f g (x ∷ xs) h =
 -- each element is part of the sum
 pub at-most-sum : {X : Type 0} (f : X → ℕ) (xs : List X) (x : X) → Among xs x → f x ≤ sum_by f xs
 at-most-sum f [] x among = absurd (cc)
-at-most-sum f (y ∷ ys) x (zero, is) =
-    let e : y ≡ x = cc in
-    let a : f y ≡ f x = ap f e in
-    let c = sum_by-cons f y ys in omega arith
-at-most-sum f (y ∷ ys) x (suc i, is) =
-    let b = at-most-sum f ys x (i, is) in
-    let c = sum_by-cons f y ys in omega arith
+at-most-sum f (y ∷ ys) x (zero, is) = search (rules, sum_by-cons)
+at-most-sum f (y ∷ ys) x (suc i, is) = grind (arith, nat_tests, sum_by-cons, at-most-sum f ys x)
 
 -- a sum is the one of two functions
 pub sum-plus : {X : Type 0} (f g : X → ℕ) (xs : List X) → sum_by (λ x. f x + g x) xs ≡ sum_by f xs + sum_by g xs

@@ -1,8 +1,8 @@
 -- What a load has read fits after its step; and a node whose value is in memory gives its tree, as does what a load of a key answers.
-use Rattle.pagable_laws.proofs.Words.{◌≡◌, ℕ, zero, suc, ◌+◌, ◌<◌, ◌≤◌, Bool, true, false, List, [], ◌∷◌, Option, Some, None, if◌then◌else◌, inr, refl, sym, ap, ◌∙◌, subst, arith, is_some}
-use Rattle.pagable_laws.proofs.Words.{nat_lt, slice_get, nat_tests, HandleRow, Owner, OptionalDataKey, ArcRef, Kind, HandleNumber, Blob, Types, Tree, ReadsTree, type_of, Among, one, is_eager}
+use Rattle.pagable_laws.proofs.Words.{◌≡◌, ℕ, zero, suc, ◌+◌, ◌<◌, ◌≤◌, true, List, [], ◌∷◌, Option, Some, None, inr, refl, sym, ap, ◌∙◌, subst, arith, is_some}
+use Rattle.pagable_laws.proofs.Words.{nat_lt, nat_tests, HandleRow, Owner, OptionalDataKey, ArcRef, Kind, HandleNumber, Blob, Types, Tree, ReadsTree, type_of, Among, one}
 use Rattle.pagable_laws.proofs.Words.{is_at, is_pin, is_pinning, held, pins, Core, OpenLoad, Frame, Reading, row_at, Values, IsLawful, IsReference, Next, reads, asks}
-use Rattle.pagable_laws.proofs.Words.{is_faulty, next_in, need_at, need_of, needs_nested, needs_lazy, to_adopt, ReadsRoot, ReadsNode, root_frame, nested_frame, with_got, PagerState}
+use Rattle.pagable_laws.proofs.Words.{is_faulty, next_in, need_at, need_of, to_adopt, ReadsRoot, ReadsNode, root_frame, nested_frame, with_got, PagerState}
 use Rattle.pagable_laws.proofs.Words.{HandlesAreWhole, IsWhole, WellFormed, NodeStands, here, away, ValueStands, ReadsNodeTree, FramesFit, SameTrees, Represents, ReadsItsTypes, GivesTree}
 use Rattle.pagable_laws.proofs.Words.{ReadIsRight, Change, bears_known, CoreGoes, ReadingFeels, reads-root, reads-blob, gets-known, gets-lazy, makes-known, makes-node, reading-ends, Decoded}
 use Rattle.pagable_laws.proofs.Words.{FramesGiven}
@@ -38,9 +38,7 @@ some-value (Some x) is = (x, refl)
 
 module _ {N E : Type 0} {v : Values N} {s : PagerState N E} where
   pub stands-here : {n : ℕ} {t : Tree} {x : N} → NodeStands v s n t → s.values n ≡ Some x → ValueStands v s x t
-  stands-here (here n y own t held typed means stands fits) is =
-      let same : y ≡ _ = same_some _ _ (sym held ∙ is) in
-      subst (λ z. ValueStands v s z t) same (record { own = own; typed = typed; means = means; stands = stands })
+  stands-here (here n y own t held typed means stands fits) is = grind (arith, nat_tests)
   stands-here (away n key t none_there keyed fits) is = absurd (cc)
 
   valued-here : WellFormed v s → (n : ℕ) → is_some (s.core.cells n) ≡ true → 0 < pins n s.core.rows → is_some (s.values n) ≡ true
@@ -72,10 +70,7 @@ pub record FitAfter {N : Type 0} (v : Values N) (w : Core) (trees : ℕ → Tree
   pub given : FramesGiven w.last.node frames
 
 new-given : (last : ℕ) (frame : Frame) (frames : List Frame) → frame.got ≡ [] → FramesGiven last frames → FramesGiven last (frame ∷ frames)
-new-given last frame frames none_got given f r (zero, is) (place, there) =
-    let e : f.got ≡ [] = let same : frame ≡ f = cc in ap (λ (z : Frame). z.got) (sym same) ∙ none_got in
-    let no : slice_get [] place ≡ Some r = subst (λ (rs : List ArcRef). slice_get rs place ≡ Some r) e there in
-    absurd (cc)
+new-given last frame frames none_got given f r (zero, is) (place, there) = grind (arith, nat_tests)
 new-given last frame frames none_got given f r (suc i, is) among = given f r (i, is) among
 
 module _ {N : Type 0} {v : Values N} {w' : Core} {trees' : ℕ → Tree} (k t : ℕ) where
@@ -147,11 +142,7 @@ module _ {N : Type 0} {v : Values N} {w w' : Core} {trees trees' : ℕ → Tree}
 
 pub adopted-over : (below : List Frame) (next : Next) → need_at below next ≡ to_adopt → (frame : Frame) × (rest : List Frame) × (below ≡ frame ∷ rest)
 adopted-over (frame ∷ rest) next is = (frame, rest, refl)
-adopted-over [] (asks kind key) is = absurd (of (is_eager kind.0) is)
-  where
-    of : (t : Bool) → (if t then needs_nested kind key else needs_lazy kind key) ≡ to_adopt → ⊥
-    of true e = cc
-    of false e = cc
+adopted-over [] (asks kind key) is = grind (arith, nat_tests)
 adopted-over [] (reads own) is = absurd (cc)
 adopted-over [] (is_faulty e) is = absurd (cc)
 

@@ -1,7 +1,9 @@
 -- Readers of which a fault stays whatever follows, what is read of a front is read of the whole, and what was used reads
 -- alone. First for any input that has an end, then for bytes.
+use Rattle.pagable_laws.proofs.Words.{nat_tests}
+use Rattle.std.proofs.Common.{rules}
 use Rattle.pagable_laws.proofs.Words.{◌≡◌, ℕ, zero, suc, ◌+◌, ◌-◌, ◌*◌, ◌/◌, ◌%◌, ◌^◌, Bool, true, false, List, [], ◌∷◌, ◌++◌, length, take, Result, Ok, Err, ◌⊎◌, if◌then◌else◌, inl, inr, refl}
-use Rattle.pagable_laws.proofs.Words.{sym, ap, ◌∙◌, subst, arith, append_assoc, cases_lt, le-ltb, lt-ltb, take-append-le, drop-append-le, length-append, take-append-drop, length-take-le}
+use Rattle.pagable_laws.proofs.Words.{sym, subst, arith, append_assoc, cases_lt, le-ltb, lt-ltb, take-append-le, drop-append-le, length-append, take-append-drop, length-take-le}
 use Rattle.pagable_laws.proofs.Words.{take-length, drop-length, nat_le, nat_lt, Error, ◌>>=◌, Read, byte_at, varint_at, unsigned_at, signed_from, signed_at, longest, length_at, bytes_at, text_at}
 use Rattle.pagable_laws.proofs.Words.{bool_at, one_char, char_at, carried, duration_at, nanos_of_second}
 use Rattle.std.specs.Int.{Width, w8, w16, w32, w64, w128}
@@ -62,14 +64,7 @@ module _ {I : Type 0} {plus : I → I → I} {end : I} (joins : Joins plus end) 
 
     front_on : (i : I) (p : A × I) (q : B × I) → Front plus end get i p.0 p.1 → Front plus end (f p.0) p.1 q.0 q.1 → Front plus end whole i q.0 q.1
     unfolding Goes
-    front_on i p q a b =
-        let along = h.goes a.used b.used in
-        let first : get (plus a.used b.used) ≡ Ok (p.0, plus end b.used) = (let P : Result (A × I) Error → Type 0 = λ r. Goes plus b.used r (get (plus a.used b.used)) in subst P a.alone along) in
-        record {
-          used = plus a.used b.used;
-          whole = a.whole ∙ ap (λ (x : I). plus a.used x) b.whole ∙ sym (joins.assoc a.used b.used q.1);
-          alone = rw (is, first, joins.start) b.alone;
-        }
+    front_on i p q a b = grind (arith, nat_tests)
 
     uses_after : (i : I) (p : A × I) → Front plus end get i p.0 p.1 → (r : Result (B × I) Error) → Uses plus end (f p.0) p.1 r → Uses plus end whole i r
     unfolding Uses
@@ -117,10 +112,7 @@ bytes_alone n u e = rw (← e, le-ltb (length u) (length u) (omega arith), take-
 
 bytes_goes : (n : ℕ) (bs x : List ℕ) → Goes more_bytes x (bytes_at n bs) (bytes_at n (bs ++ x))
 unfolding Goes
-bytes_goes n bs x = elim (cases_lt (length bs) n) [
-  | inl lt ↦ rw (lt-ltb (length bs) n lt) (inl (inl refl))
-  | inr le ↦ rw (le-ltb (length bs) n le, le-ltb (length (bs ++ x)) n (omega (arith, length-append bs x)), take-append-le n bs x le, drop-append-le n bs x le) refl
-]
+bytes_goes n bs x = search (rules, lt-ltb, le-ltb, length-append, take-append-le, drop-append-le)
 
 bytes_uses : (n : ℕ) (bs : List ℕ) → Uses more_bytes [] (bytes_at n) bs (bytes_at n bs)
 unfolding Uses

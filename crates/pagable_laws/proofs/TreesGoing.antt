@@ -1,18 +1,15 @@
 -- Each node keeps its tree in a step whose change fits.
-use Rattle.pagable_laws.proofs.Words.{◌≡◌, ℕ, ◌<◌, ◌≤◌, Bool, true, false, Some, ◌⊎◌, inl, inr, refl, sym, ap, ◌∙◌, subst, arith, nat_lt, nat_tests, OptionalDataKey, NodeNumber, HandleNumber}
+use Rattle.std.proofs.Common.{rules}
+use Rattle.pagable_laws.proofs.Words.{◌≡◌, ℕ, ◌<◌, ◌≤◌, Some, ◌⊎◌, inl, inr, sym, ap, ◌∙◌, subst, arith, nat_tests, OptionalDataKey, NodeNumber, HandleNumber}
 use Rattle.pagable_laws.proofs.Words.{Tree, ReadsTree, type_of, held, OpenLoad, of_cell, Values, IsLawful, type_at, PagerState, WellFormed, Moves, Represents, ReadsNodeTree, KeyFits}
-use Rattle.pagable_laws.proofs.Words.{HoldsSettled, LeadsTo, ValueLeads, Change, Bears, CoreGoes, SameNode, NewNode, NodeLeads, ChangeFits}
+use Rattle.pagable_laws.proofs.Words.{HoldsSettled, LeadsTo, ValueLeads, Change, CoreGoes, SameNode, NewNode, NodeLeads, ChangeFits}
 use Rattle.pagable_laws.proofs.Trees.{same_some}
 use Rattle.pagable_laws.proofs.Following.{given-of, held-of, cell-of}
 use Rattle.pagable_laws.proofs.Fitting.{tree-stays}
 use Rattle.pagable_laws.proofs.Leading.{leads-on, own-refs, leads-all, stands-again}
 
 pub either-side : (n last : ℕ) → (n ≤ last) ⊎ (last < n)
-either-side n last = at (nat_lt last n) refl
-  where
-    at : (b : Bool) → nat_lt last n ≡ b → (n ≤ last) ⊎ (last < n)
-    at true e = inr (grind (arith, nat_tests))
-    at false e = inl (grind (arith, nat_tests))
+either-side n last = grind (arith, nat_tests)
 
 some-key : {a b : ℕ} → OptionalDataKey.Some a ≡ OptionalDataKey.Some b → a ≡ b
 some-key e = cc
@@ -49,26 +46,13 @@ module _ {N E : Type 0} {v : Values N} {c : Change} {comes : ℕ → N → Type 
   ]
 
   keyed-new : (n : ℕ) → NewNode c s.core s'.core n → KeyFits v s' n (trees' n)
-  keyed-new n new key is =
-      let own : new.own ≡ OptionalDataKey.Some key = sym new.key ∙ is in
-      let reads = fits.keyed new.t key (subst (λ o. Bears c new.t o) own new.born) in
-      subst (λ m. ReadsTree s'.core.stored v.types key (trees' m)) (sym new.next) reads
+  keyed-new n new key is = grind (arith, nat_tests)
 
   leads-again : (n : ℕ) → 0 < held n s'.core.rows → NodeLeads v s' trees' n
-  leads-again n live =
-      let there = cell-of well'.whole.handles n live in
-      record {
-        keyed = elim (either-side n s.core.last.node) [ inl within ↦ keyed-old n within (goes.old n within there) | inr above ↦ keyed-new n (goes.new n above there) ];
-        valued = λ x is. elim (moves.each n x is) [ inl stays ↦ moved-value n x stays | inr (none, brings) ↦ fits.comes_well n x brings none is ];
-      }
+  leads-again n live = search (rules, cell-of, either-side, keyed-old, keyed-new, moved-value)
 
   typed-again : (n : ℕ) → 0 < held n s'.core.rows → type_at s'.core n ≡ Some (trees' n).type
-  typed-again n live =
-      let there = cell-of well'.whole.handles n live in
-      elim (either-side n s.core.last.node) [
-        | inl within ↦ let same = goes.old n within there in same.typed ∙ stands.typed n (held-of well.whole.handles n same.was) ∙ ap (λ (z : Tree). Some z.type) (sym (fits.same n within))
-        | inr above ↦ let new = goes.new n above there in new.typed ∙ ap Some (sym (fits.born new.t new.own new.born)) ∙ ap (λ m. Some (trees' m).type) (sym new.next)
-      ]
+  typed-again n live = grind (arith, nat_tests)
 
   loads-again : (l : ℕ) (load : OpenLoad) (node : NodeNumber) (t : ℕ) (h : HandleNumber) → s'.core.loads l ≡ Some load → load.root ≡ of_cell node t h
       → ReadsNodeTree v.types s'.core.stored trees' load.key t node.0

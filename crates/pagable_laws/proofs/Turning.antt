@@ -1,4 +1,5 @@
 -- Each kind of a worker's step: what it does to its list and to the slots.
+use Rattle.pagable_laws.proofs.Words.{arith, nat_tests}
 use Rattle.pagable_laws.proofs.Words.{◌≡◌, ℕ, ◌||◌, Bool, true, false, List, [], ◌∷◌, refl, ap, sym, subst, ◌∙◌, inl, inr, Some, None, drop, ArcRef, Identity, HandleNumber, WorkerAnswer}
 use Rattle.pagable_laws.proofs.Words.{identity_of, Shelf, Slot, no_result, published, Written, Open, Todo, to_start, to_pin, to_write, to_finish, to_publish, to_release, Task, is_identity}
 use Rattle.pagable_laws.proofs.Words.{SameShelf, open_node, with_changed_slot, with_failed, with_outcome, is_open_outcome, Meets}
@@ -15,9 +16,7 @@ module _ (v : ℕ) (task : Task) (shelf shelf' : Shelf) (clean : HasNoFailed she
   -- what is to be done below stands where the slot of another claim changes
   below-stays : (i : Identity) (slot : Slot) (below : List Todo) → PutsSlot shelf.slots shelf'.slots i slot → Changes v shelf shelf' → is_open_in i below ≡ false
       → AllStand shelf v task below → AllStand shelf' v task below
-  below-stays i slot below puts changes apart all =
-      all-stay v task shelf shelf' (grows v shelf shelf' changes) below
-      (λ j is old there own. puts.elsewhere j (not-true (is_identity i j) (λ e. true-false (subst (λ k. is_open_in k below ≡ true) (is-same i j e) is) apart)) ∙ there) all
+  below-stays i slot below puts changes apart all = grind (arith, nat_tests, all-stay, not-true, true-false, is-same)
 
   -- an own slot changes, or comes, that hasn't failed
   clean-still : (i : Identity) (new : Slot) → PutsSlot shelf.slots shelf'.slots i new → is_failed new.outcome ≡ false → HasNoFailed shelf' v
@@ -57,10 +56,7 @@ module _ (v : ℕ) (task : Task) (shelf shelf' : Shelf) (clean : HasNoFailed she
   -- an own slot changes: nothing comes that isn't met
   none-comes : (i : Identity) (old new : Slot) → PutsSlot shelf.slots shelf'.slots i new → shelf.slots i ≡ Some old → (j : Identity) (slot : Slot) → shelf.slots j ≡ None
       → shelf'.slots j ≡ Some slot → Meets shelf' task j
-  none-comes i old new puts was j slot none there = elim (put-cases shelf.slots shelf'.slots i new puts j slot there) [
-    | inl e ↦ some-none was (sym (ap shelf.slots e.0) ∙ none)
-    | inr e ↦ some-none e.1 none
-  ]
+  none-comes i old new puts was j slot none there = grind (arith, nat_tests)
 
   -- a worker's own open slot
   abbrev wrote : Slot → Written → Slot

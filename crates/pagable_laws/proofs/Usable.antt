@@ -1,11 +1,10 @@
 -- What the cache gives for a kind and a key it goes on to give, as long as the node is held as the kind asks: one part of an event after another.
-use Rattle.pagable_laws.proofs.Words.{◌≡◌, ℕ, ◌<◌, ◌≤◌, ◌==◌, ◌&&◌, Bool, true, false, List, ◌++◌, Option, Some, None, inl, inr, refl, sym, ap, subst, ◌∙◌, if◌then◌else◌, arith, Result, not}
+use Rattle.pagable_laws.proofs.Words.{◌≡◌, ℕ, ◌<◌, ◌≤◌, ◌==◌, ◌&&◌, Bool, true, false, List, ◌++◌, Option, Some, None, inl, inr, refl, ap, subst, ◌∙◌, if◌then◌else◌, arith, Result, not}
 use Rattle.pagable_laws.proofs.Words.{nat_lt, is_some, and_parts, nat_tests, OptionalDataKey, HandleRow, Error, Among, updated, if_there, one, is_pinned_kind, is_pinning, is_pin, is_at}
 use Rattle.pagable_laws.proofs.Words.{is_in_memory, pins, held, Core, Cell, Alike, usable, Falls, left_rows, fallen}
 use Rattle.pagable_laws.proofs.Sums.{same-number, self-number, at-most-sum, counted, one-true}
 use Rattle.pagable_laws.proofs.Decoding.{among-either}
 use Rattle.pagable_laws.proofs.Outlasting.{among-kept}
-use Rattle.pagable_laws.proofs.ReadingStepsRows.{is-cached}
 
 module _ (kind key n : ℕ) where
   -- the cache has the node under kind and key, and it is there
@@ -53,16 +52,7 @@ module _ (kind key n : ℕ) where
       cell (Some x) is = pick x (is_pinned_kind kind) refl
 
   pub entered-of : (w : Core) → usable w kind key ≡ Some n → IsEntered w.cache w.cells
-  entered-of w is = record { entry = entry; there = by (w.cells n) refl }
-    where
-      entry : w.cache kind key ≡ Some n
-      entry = is-cached w kind key n is
-
-      by : (c : Option Cell) → w.cells n ≡ c → is_some (w.cells n) ≡ true
-      by (Some x) e = ap is_some e
-      by None e =
-          let f : usable w kind key ≡ None = at-node w entry ∙ ap (of_node w) e in
-          absurd (cc)
+  entered-of w is = grind (arith, nat_tests)
 
   -- ---- the end of a part
 
@@ -123,20 +113,8 @@ module _ (kind key n : ℕ) where
   -- ---- cells
 
   pub born : {cache : ℕ → ℕ → Option ℕ} {cells : ℕ → Option Cell} (p : ℕ) (x : Cell) → IsEntered cache cells → IsEntered cache (updated p (Some x) cells)
-  born {cache} {cells} p x e = record { entry = e.entry; there = by (n == p) }
-    where
-      by : (b : Bool) → is_some (if b then Some x else cells n) ≡ true
-      by true = refl
-      by false = e.there
+  born {cache} {cells} p x e = grind (arith, nat_tests)
 
   pub keyed : {cache : ℕ → ℕ → Option ℕ} {cells : ℕ → Option Cell} (p k : ℕ) → IsEntered cache cells
       → IsEntered cache (updated p (if_there (λ (x : Cell). Some (record x { key = OptionalDataKey.Some k })) None (cells p)) cells)
-  keyed {cache} {cells} p k e = record { entry = e.entry; there = by (n == p) refl }
-    where
-      some : (c : Option Cell) → is_some c ≡ true → is_some (if_there (λ (x : Cell). Some (record x { key = OptionalDataKey.Some k })) None c) ≡ true
-      some None is = absurd (cc)
-      some (Some x) is = refl
-
-      by : (b : Bool) → (n == p) ≡ b → is_some (if b then if_there (λ (x : Cell). Some (record x { key = OptionalDataKey.Some k })) None (cells p) else cells n) ≡ true
-      by true is = some (cells p) (ap (λ m. is_some (cells m)) (sym (same-number n p is)) ∙ e.there)
-      by false is = e.there
+  keyed {cache} {cells} p k e = grind (arith, nat_tests)

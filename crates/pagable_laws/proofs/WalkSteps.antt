@@ -1,6 +1,7 @@
 -- What a worker's step does to the plain world, as trees feel it, and which loads it begins.
-use Rattle.pagable_laws.proofs.Words.{◌≡◌, ℕ, ◌+◌, ◌≤◌, true, List, [], ◌∷◌, ◌++◌, refl, sym, ap, subst, ◌∙◌, inl, inr, arith, Option, Some, None, Ok, Err, Result, Error, ArcRef, HandleNumber}
-use Rattle.pagable_laws.proofs.Words.{LoadNumber, HandleRow, Pinning, Beginning, Claim, PinStep, Took, owner_worker, is_loose, Core, Last, OpenLoad, Reading, Todo, to_start, to_pin, to_load}
+use Rattle.pagable_laws.proofs.Words.{nat_tests}
+use Rattle.pagable_laws.proofs.Words.{◌≡◌, ℕ, ◌≤◌, true, List, [], ◌∷◌, ◌++◌, refl, sym, ap, subst, ◌∙◌, inl, inr, arith, Option, Some, None, Ok, Err, Result, Error, ArcRef, HandleNumber}
+use Rattle.pagable_laws.proofs.Words.{LoadNumber, HandleRow, Pinning, Beginning, Claim, PinStep, Took, owner_worker, is_loose, Core, OpenLoad, Reading, Todo, to_start, to_pin, to_load}
 use Rattle.pagable_laws.proofs.Words.{to_write, to_finish, to_item, to_set, to_publish, to_release, to_fail, row_at, Seen, SetKeyCall, Site, Does, PinsAtOnce, PinsByLoad, PinRefused, GivesBack}
 use Rattle.pagable_laws.proofs.Words.{next_start, give, give_known, fresh, HandlesAreWhole, TodoBrings, Change, nothing_felt, sets_key, ReadingFeels, IsFresh}
 use Rattle.pagable_laws.proofs.Trees.{same_some}
@@ -88,11 +89,7 @@ module _ {w w' : Core} (v : ℕ) (r : ArcRef) where
   by-load through l (row, (mid, key, clone, begin)) = quiet-begins (clones (Ok through) clone) (begins (Ok (Beginning.Load l key)) begin)
 
   begun-number : (through : HandleNumber) (l : LoadNumber) → PinsByLoad w (owner_worker v) r through l w' → l.0 ≤ w'.last.load
-  begun-number through l (row, (mid, key, clone, begin)) =
-      let b = begin.begins.2 in
-      let n = b.2.above in
-      let e : w'.last.load ≡ mid.last.load + 1 = ap (λ (x : Last). x.load) b.4.2.last in
-      omega (arith, n, e)
+  begun-number through l (row, (mid, key, clone, begin)) = grind (arith, nat_tests)
 
   pin-refused : (e : Error) → PinRefused w (owner_worker v) r e w' → Goes nothing_felt w w'
   pin-refused e does = elim does [

@@ -1,5 +1,8 @@
 -- Whole numbers are read again.
-use Rattle.pagable_laws.proofs.Words.{◌≡◌, ℕ, zero, suc, ◌+◌, ◌-◌, ◌*◌, ◌/◌, ◌%◌, ◌^◌, ◌<◌, refl, arith, Ok, inl, inr, List, ◌++◌, ℤ, pos, negsuc, cases_lt, le-ltb, lt-ltb, le-leb, varint}
+use Rattle.pagable_laws.proofs.Words.{nat_tests}
+use Rattle.std.proofs.lemmas.Grind.{common_steps}
+use Rattle.std.proofs.Common.{rules}
+use Rattle.pagable_laws.proofs.Words.{◌≡◌, ℕ, zero, suc, ◌^◌, ◌<◌, refl, arith, Ok, List, ◌++◌, ℤ, pos, negsuc, le-ltb, lt-ltb, le-leb, varint}
 use Rattle.pagable_laws.proofs.Words.{varint_at, varint_limit, bound, unsigned_form, unsigned_at, signed_byte, from_signed_byte, unsigned_of, signed_from, IsSigned, signed_form, signed_at}
 use Rattle.pagable_laws.proofs.Words.{zigzag-again}
 use Rattle.std.specs.Int.{Width, w8, w16, w32, w64, w128}
@@ -8,11 +11,7 @@ use Rattle.std.specs.Int.{Width, w8, w16, w32, w64, w128}
 pub varint-again : (more last n : ℕ) (rest : List ℕ) → n < varint_limit more last → last < 128 → varint_at more last (varint more n ++ rest) ≡ Ok (n, rest)
 unfolding varint_limit varint varint_at
 varint-again zero last n rest h l = rw (le-leb n last (omega arith)) refl
-varint-again (suc more) last n rest h l = elim (cases_lt n 128) [
-  | inl lt ↦ rw (lt-ltb n 128 lt, lt-ltb n 128 lt) refl
-  | inr le ↦ rw (le-ltb n 128 le, le-ltb (128 + n % 128) 128 (omega arith), varint-again more last (n / 128) rest (omega arith) l)
-      (let e : 128 + n % 128 - 128 + 128 * (n / 128) ≡ n = omega arith in rw e refl)
-]
+varint-again (suc more) last n rest h l = grind (arith, nat_tests, varint-again more last)
 
 limit-16 : varint_limit 2 3 ≡ 65536
 unfolding varint_limit
@@ -39,9 +38,7 @@ unsigned-again w128 n rest h = varint-again 18 3 n rest (omega (arith, limit-128
 
 byte-again : (z : ℤ) → IsSigned w8 z → from_signed_byte (signed_byte z) ≡ z
 byte-again (pos n) h = rw (lt-ltb n 128 (omega arith)) refl
-byte-again (negsuc n) h =
-    let back : 255 - (255 - n) ≡ n = omega arith in
-    rw (le-ltb (255 - n) 128 (omega arith), back) refl
+byte-again (negsuc n) h = grind (arith, nat_tests)
 
 -- a number with a sign is one without, and back
 pub signed-back : (w : Width) (z : ℤ) → IsSigned w z → signed_from w (unsigned_of w z) ≡ z

@@ -1,4 +1,5 @@
 -- From what holds throughout a shape to what holds throughout the shapes in it.
+use Rattle.pagable_laws.proofs.Words.{arith, nat_tests}
 use Rattle.pagable_laws.proofs.Words.{◌≡◌, ℕ, zero, suc, Bool, true, List, KeyOrder, Shape, json, optional, outcome, list, run, array, both, sorted_map, placed_map, hash_map, sorted_set}
 use Rattle.pagable_laws.proofs.Words.{placed_set, tagged, cases, nested, LiesIn, Within, Throughout}
 use Rattle.std.specs.Int.{Width}
@@ -31,19 +32,11 @@ module _ {P : Shape → Type 0} {parts : ℕ → Shape} where
   -- of a shape that contains nothing
   pub of_json : P json → Throughout P parts json
   unfolding Within LiesIn
-  of_json p = record { within = steps }
-    where
-      steps : (n : ℕ) → Within P parts n json
-      steps zero = p
-      steps (suc n) = (p, tt)
+  of_json p = grind (arith, nat_tests)
 
   pub of_text : P text → Throughout P parts text
   unfolding Within LiesIn
-  of_text p = record { within = steps }
-    where
-      steps : (n : ℕ) → Within P parts n text
-      steps zero = p
-      steps (suc n) = (p, tt)
+  of_text p = grind (arith, nat_tests)
 
 -- of what the shape refers to
 pub lower : (nodes : ℕ → Type 0) {parts : ℕ → Shape} {s t : Shape} → Under s t → Throughout (LiesIn nodes (λ n. Unit {0})) parts s → Throughout (LiesIn nodes (λ n. Unit {0})) parts t

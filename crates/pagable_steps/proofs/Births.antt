@@ -4,10 +4,9 @@ use Rattle.pagable_steps.proofs.Words.{nat_tests, OptionalDataKey, Owner, Mode, 
 use Rattle.pagable_steps.proofs.Words.{Cell, Values, key_at, is_here, type_at, IsReference, is_named_by, PagerState, IsWhole, WellFormed, self-number, same-number, sum-le, same_some, NotValues}
 use Rattle.pagable_steps.proofs.Words.{not-owned}
 use Rattle.pagable_steps.proofs.Spared.{owns, owns_any}
-use Rattle.pagable_steps.proofs.SparedParts.{and-false}
+use Rattle.pagable_steps.proofs.SparedParts.{and-false, sum-mapped}
 use Rattle.pagable_steps.proofs.SparedHandles.{pinned-here}
-use Rattle.pagable_steps.proofs.Coming.{Comes, no-cell, new-cell, other-cell, typed-on, pins-now, other-here, count-now, other-owned, other-bare, other-refers}
-use Rattle.pagable_steps.proofs.Born.{new-refers, new-inside}
+use Rattle.pagable_steps.proofs.Coming.{Comes, no-cell, new-cell, other-cell, typed-on, pins-now, other-here, count-now, other-owned, other-bare, other-refers, new-refers, new-inside}
 
 -- what is so of the new node and of each other one
 by-node : {next : ℕ} (P : ℕ → Type 0) → P next → ((n : ℕ) → (n == next) ≡ false → P n) → (n : ℕ) → P n
@@ -123,9 +122,10 @@ module _ {N E : Type 0} {v : Values N} {s : PagerState N E} (s' : PagerState N E
     owns-none : owns_any (next_of s.core) s'.core.rows ≡ 0
     unfolding is_named_by
     owns-none =
-        count-now is.whole free c (is_owned_by (owner_value (next_of s.core))) (λ h. one (is_owned_by (owner_value (next_of s.core)) h)) (not-owned (next_of s.core) me free)
+        count-now is.whole free c (is_owned_by (owner_value (next_of s.core))) (not-owned (next_of s.core) me free)
+        ∙ (sum-mapped _ _ (λ h. one (is_owned_by (owner_value (next_of s.core)) h)) s.core.rows
         (λ h among. ap (λ rs. one (is_owned_by (owner_value (next_of s.core)) (if is_named_by rs h.number.0 then record h { owner = owner_value (next_of s.core) } else h))) nothing)
-        ∙ is.bare (next_of s.core) no-value
+        ∙ is.bare (next_of s.core) no-value)
 
     has-none : {P : Type 0} (y : N) → s'.values (next_of s.core) ≡ Some y → P
     has-none y has = absurd (let f : None ≡ Some y = sym still-none ∙ has in cc)

@@ -1,11 +1,12 @@
 -- A node comes with a handle, and the handles that its value names move to it: what stays of other nodes.
-use Rattle.pagable_steps.proofs.Words.{◌≡◌, ℕ, ◌+◌, ◌≤◌, ◌==◌, ◌&&◌, Bool, true, false, List, [], ◌∷◌, sum_by, refl, ap, sym, subst, ◌∙◌, if◌then◌else◌, arith, Option, Some, None, is_some}
+use Rattle.pagable_steps.proofs.Words.{◌≡◌, ℕ, ◌+◌, ◌≤◌, ◌==◌, ◌&&◌, Bool, true, false, List, [], ◌∷◌, refl, ap, sym, ◌∙◌, if◌then◌else◌, arith, Option, Some, None, is_some}
 use Rattle.pagable_steps.proofs.Words.{nat_tests, sum_by_push, OptionalDataKey, HandleRow, Owner, Mode, ArcRef, SameAt, Among, one, times, if_there, or_else, find_row, is_handle, is_owned_by}
-use Rattle.pagable_steps.proofs.Words.{owner_value, is_pin, is_pinning, pins, is_in_memory, Core, Cell, type_at, key_at, is_here, references_fault, IsReference, row_of, moved, is_named_by}
-use Rattle.pagable_steps.proofs.Words.{with_node, next_node, with_handle, IsWhole, self-number, same-number, good, named-among, NotValues, not-owned, find-both, found-after, among-found}
-use Rattle.pagable_steps.proofs.Words.{stands-whole}
+use Rattle.pagable_steps.proofs.Words.{owner_value, is_pin, is_pinning, pins, is_in_memory, Core, Cell, type_at, key_at, is_here, references_fault, IsReference, row_of, is_named_by}
+use Rattle.pagable_steps.proofs.Words.{with_node, next_node, with_handle, IsWhole, self-number, same-number, good, NotValues, not-owned, find-both, among-found}
 use Rattle.pagable_steps.proofs.Spared.{owns, owns_any}
-use Rattle.pagable_steps.proofs.SparedParts.{push-none, sum-mapped, and-false}
+use Rattle.pagable_steps.proofs.SparedParts.{push-none, and-false}
+use Rattle.pagable_steps.proofs.Words.{fits_mode, found-number}
+use Rattle.pagable_steps.proofs.Naming.{among-named, after, given, given-found, given-pins, unnamed, given-owned, given-bare, given-inside}
 
 -- A node of this type and key came, with a handle of this mode, of the one who owns what its value names.
 pub record Comes (w w' : Core) (me : Owner) (t : ℕ) (own : OptionalDataKey) (references : List ArcRef) (mode : Mode) : Type 0 where
@@ -19,12 +20,6 @@ module _ {w w' : Core} {me : Owner} {t : ℕ} {own : OptionalDataKey} {reference
 
   abbrev new : HandleRow
   new = row_of (w.last.handle + 1) (next_node w) mode me
-
-  abbrev named : HandleRow → Bool
-  named h = is_named_by references h.number.0
-
-  abbrev to : HandleRow → HandleRow
-  to h = record h { owner = owner_value next }
 
   -- ---- nodes
 
@@ -54,14 +49,11 @@ module _ {w w' : Core} {me : Owner} {t : ℕ} {own : OptionalDataKey} {reference
 
   -- ---- pins
 
+  abbrev rows : List HandleRow
+  rows = given w references next
+
   pub pins-now : (n : ℕ) → pins n w'.rows ≡ pins n w.rows + one ((next == n) && is_pinning mode)
-  pins-now n =
-      ap (pins n) c.rows ∙ (sum_by_push (λ h. one (is_pin n h)) (moved (is_named_by references) (owner_value next) w.rows) new
-      ∙ ap (λ p. p + one (is_pin n new)) (sum-mapped _ _ _ w.rows (λ h among. same-pin h (named h))))
-    where
-      same-pin : (h : HandleRow) (b : Bool) → one (is_pin n (if b then to h else h)) ≡ one (is_pin n h)
-      same-pin h true = refl
-      same-pin h false = refl
+  pins-now n = ap (pins n) c.rows ∙ (sum_by_push (λ h. one (is_pin n h)) rows new ∙ ap (λ p. p + one (is_pin n new)) (given-pins whole free references c.good next n))
 
   turned-round : (n : ℕ) → (n == next) ≡ false → (next == n) ≡ false
   turned-round n is = grind (arith, nat_tests)
@@ -76,54 +68,39 @@ module _ {w w' : Core} {me : Owner} {t : ℕ} {own : OptionalDataKey} {reference
 
   -- ---- what values own
 
-  -- what is named was the asker's
-  named-mine : (h : HandleRow) → Among w.rows h → named h ≡ true → h.owner ≡ me
-  named-mine h among is =
-      let a = named-among 0 references h.number.0 is in
-      let r = good w me [] references c.good a.0 a.1 in
-      ap (λ (x : HandleRow). x.owner) ((stands-whole whole.handles h.number.0 r.row (ap (λ q. find_row q w.rows) (sym a.2) ∙ r.live)).only h among refl) ∙ r.owned
+  -- what isn't so of the new handle is counted among those that there were
+  pub count-now : (test : HandleRow → Bool) → test new ≡ false → times test w'.rows ≡ times test rows
+  count-now test none = ap (times test) c.rows ∙ push-none test rows new none
 
-  same-test : (n : ℕ) → (n == next) ≡ false → (test : HandleRow → Bool) → ((x : HandleRow) → is_owned_by (owner_value n) x ≡ false → test x ≡ false) → (h : HandleRow) → Among w.rows h
-      → (b : Bool) → named h ≡ b → test (if b then to h else h) ≡ test h
-  same-test n is test none h among true e = none (to h) (turned-round n is) ∙ sym (none h (not-owned n h.owner (subst NotValues (sym (named-mine h among e)) free)))
-  same-test n is test none h among false e = refl
-
-  -- what counts as it did, or as told, among the handles that there were
-  pub count-now : (test : HandleRow → Bool) (count : HandleRow → ℕ) → test new ≡ false
-      → ((h : HandleRow) → Among w.rows h → one (test (if named h then to h else h)) ≡ count h) → times test w'.rows ≡ sum_by count w.rows
-  count-now test count none each =
-      ap (times test) c.rows ∙ (push-none test (moved (is_named_by references) (owner_value next) w.rows) new none
-      ∙ sum-mapped (λ h. if named h then to h else h) (λ h. one (test h)) count w.rows each)
-
-  pub new-owned : (n q : ℕ) → (is_handle q new && is_owned_by (owner_value n) new) ≡ false
+  new-owned : (n q : ℕ) → (is_handle q new && is_owned_by (owner_value n) new) ≡ false
   new-owned n q = ap (λ b. is_handle q new && b) (not-owned n me free) ∙ and-false _
 
   pub other-owned : (n : ℕ) → (n == next) ≡ false → (q : ℕ) → owns n q w'.rows ≡ owns n q w.rows
-  other-owned n is q =
-      count-now (λ x. is_handle q x && is_owned_by (owner_value n) x) (λ x. one (is_handle q x && is_owned_by (owner_value n) x)) (new-owned n q)
-      (λ h among. ap one (same-test n is (λ x. is_handle q x && is_owned_by (owner_value n) x) (λ x none. ap (λ b. is_handle q x && b) none ∙ and-false _) h among (named h) refl))
+  other-owned n is q = count-now (λ x. is_handle q x && is_owned_by (owner_value n) x) (new-owned n q) ∙ given-owned whole free references c.good next n (turned-round n is) q
 
   pub other-bare : (n : ℕ) → (n == next) ≡ false → owns_any n w'.rows ≡ owns_any n w.rows
-  other-bare n is =
-      count-now (is_owned_by (owner_value n)) (λ x. one (is_owned_by (owner_value n) x)) (not-owned n me free)
-      (λ h among. ap one (same-test n is (is_owned_by (owner_value n)) (λ x none. none) h among (named h) refl))
+  other-bare n is = count-now (is_owned_by (owner_value n)) (not-owned n me free) ∙ given-bare whole free references c.good next n (turned-round n is)
 
-  pub found-now : (q : ℕ) (row : HandleRow) (b : Bool) → find_row q w.rows ≡ Some row → named row ≡ b → find_row q w'.rows ≡ Some (if b then to row else row)
-  found-now q row b live is =
-      ap (find_row q) c.rows ∙ (find-both q (moved (is_named_by references) (owner_value next) w.rows) (new ∷ [])
-      ∙ (ap (λ o. or_else o (find_row q (new ∷ []))) (found-after named to (λ h. refl) q w.rows row live) ∙ ap (λ b. Some (if b then to row else row)) is))
+  pub new-inside : owns_any next w.rows ≡ 0 → (q : ℕ) → times (λ (r : ArcRef). r.handle.0 == q) references ≡ owns next q w'.rows
+  new-inside bare q = given-inside whole free references c.good next bare q ∙ sym (count-now (λ x. is_handle q x && is_owned_by (owner_value next) x) (new-owned next q))
 
-  pub other-refers : (n : ℕ) (r : ArcRef) → IsReference w (owner_value n) r → IsReference w' (owner_value n) r
-  other-refers n r is =
+  -- a reference by a handle that was there
+  refers-now : (n : ℕ) (r : ArcRef) {owner : Owner} (is : IsReference w owner r) (b : Bool) → is_named_by references is.row.number.0 ≡ b → (after next is.row b).owner ≡ owner_value n
+      → (after next is.row b).node ≡ r.node → fits_mode r.kind.0 (after next is.row b).mode ≡ true → IsReference w' (owner_value n) r
+  refers-now n r is b named own at fits =
       record {
-        row = is.row;
-        live = found-now r.handle.0 is.row false is.live (unnamed (named is.row) refl);
-        at = is.at;
-        owned = is.owned;
-        fits = is.fits;
+        row = after next is.row b;
+        live = ap (find_row r.handle.0) c.rows ∙ (find-both r.handle.0 rows (new ∷ []) ∙ ap (λ o. or_else o (find_row r.handle.0 (new ∷ []))) (given-found whole free references c.good next r.handle.0 is.row b is.live named));
+        at = at;
+        owned = own;
+        fits = fits;
         typed = typed-on r.node.0 _ is.typed;
       }
-    where
-      unnamed : (b : Bool) → named is.row ≡ b → named is.row ≡ false
-      unnamed false e = e
-      unnamed true e = absurd (free (record { 0 = n }) (sym (named-mine is.row (among-found r.handle.0 w.rows is.row is.live) e) ∙ is.owned))
+
+  pub other-refers : (n : ℕ) (r : ArcRef) → IsReference w (owner_value n) r → IsReference w' (owner_value n) r
+  other-refers n r is = refers-now n r is false (unnamed whole free references c.good next n is.row (among-found r.handle.0 w.rows is.row is.live) is.owned) is.owned is.at is.fits
+
+  -- each reference names a handle of the new value's
+  pub new-refers : (r : ArcRef) → Among references r → IsReference w' (owner_value next) r
+  new-refers r among = let is = good w me [] references c.good r among in
+      refers-now next r is true (ap (is_named_by references) (found-number r.handle.0 w.rows is.row is.live) ∙ among-named references r among) refl is.at is.fits

@@ -1,13 +1,14 @@
 -- Calls by which handles go, and values with them, leave a pager in step.
 use Rattle.pagable_steps.proofs.Words.{◌≡◌, ℕ, ◌<◌, ◌==◌, ◌&&◌, ◌||◌, Bool, true, false, List, [], ◌∷◌, Option, Some, None, Ok, Err, inl, inr, refl, ap, sym, ◌∙◌, arith, Result, not, and_parts}
-use Rattle.pagable_steps.proofs.Words.{nat_tests, Error, HandleRow, Owner, ArcRef, Kind, HandleNumber, LoadNumber, NodeNumber, Among, is_in, one, times, if_there, find_row, is_owner, is_owned_by}
-use Rattle.pagable_steps.proofs.Words.{owner_worker, is_at, Core, Values, Alike, row_at, usable, FallsAnyhow, refused_if, named_fault, is_named_by, is_listed, UnpinCall, ReleaseCall}
+use Rattle.pagable_steps.proofs.Words.{nat_tests, Error, HandleRow, Owner, ArcRef, Kind, HandleNumber, LoadNumber, NodeNumber, is_in, one, times, if_there, find_row, is_owner, is_owned_by}
+use Rattle.pagable_steps.proofs.Words.{owner_worker, is_at, Core, Values, Alike, row_at, usable, FallsAnyhow, refused_if, named_fault, is_listed, UnpinCall, ReleaseCall}
 use Rattle.pagable_steps.proofs.Words.{SetKeyCall, ScheduleCall, OfferCall, CloseCall, is_owned_in, numbers_of, Adopts, EndCall, HandOverCall, DropCall, LoadCloses, is_workers_at, is_load_of}
-use Rattle.pagable_steps.proofs.Words.{WorkerEnds, PagerState, IsWhole, WellFormed, AreGood, same-number, one-true, counted, same-owner, good, NotValues, stands-whole, named-among, neither}
+use Rattle.pagable_steps.proofs.Words.{WorkerEnds, PagerState, IsWhole, WellFormed, same-number, one-true, counted, same-owner, good, NotValues, neither}
 use Rattle.pagable_steps.proofs.Spared.{Spares}
 use Rattle.pagable_steps.proofs.SparedParts.{spares-then, spares-same, spares-alike, spares-moved}
 use Rattle.pagable_steps.proofs.SparedLists.{own-free, listed-free, schedules, offers, spares-known}
 use Rattle.pagable_steps.proofs.SparedLoads.{not-load}
+use Rattle.pagable_steps.proofs.Naming.{named-owner}
 use Rattle.pagable_steps.proofs.Keeping.{AreFree, Leaves, found-whole, fell, stayed, spares-keeps, unpin-keeps, keyed-keeps}
 
 -- ---- what no value owns
@@ -29,13 +30,6 @@ module _ {w : Core} (whole : IsWhole w) where
   -- what else is asked of it
   both-free : (f g : ℕ → Bool) → AreFree w f → AreFree w (λ q. f q && g q)
   both-free f g free h among is = free h among (and_parts (f h.number.0) (g h.number.0) is).0
-
-  -- what good references name
-  pub named-owner : (l : LoadNumber) (rs : List ArcRef) → AreGood w (Owner.Load l) rs → (h : HandleRow) → Among w.rows h → is_named_by rs h.number.0 ≡ true → h.owner ≡ Owner.Load l
-  named-owner l rs right h among is =
-      let a = named-among 0 rs h.number.0 is in
-      let r = right a.0 a.1 in
-      ap (λ (x : HandleRow). x.owner) ((stands-whole whole.handles h.number.0 r.row (ap (λ q. find_row q w.rows) (sym a.2) ∙ r.live)).only h among refl) ∙ r.owned
 
   -- what the list owns
   all-listed-free : AreFree w (is_listed w)
@@ -92,7 +86,7 @@ module _ {N E : Type 0} {v : Values N} {s s' : PagerState N E} (is : WellFormed 
   adopted_known {l = l} {kind} {key} {references = references} a known = elim a.makes [
     | inl (n, usable, f) ↦
         let right = good s.core (Owner.Load l) [] references a.good in
-        fell is (spares-keeps (spares-known is.whole kind key n (not-load l) usable)) f.falls (λ h among e. not-loads is.whole l h.owner (named-owner is.whole l references right h among e)) left
+        fell is (spares-keeps (spares-known is.whole kind key n (not-load l) usable)) f.falls (λ h among e. not-loads is.whole l h.owner (named-owner is.whole (Owner.Load l) references right h among e)) left
     | inr (none, few, alike) ↦ absurd (let e : None ≡ Some _ = sym none ∙ known in cc)
   ]
 

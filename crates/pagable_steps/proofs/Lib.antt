@@ -10,7 +10,6 @@ pub mod Falling
 pub mod Keeping
 pub mod FallingCalls
 pub mod Naming
-pub mod Born
 pub mod Births
 pub mod BirthCalls
 pub mod Moving

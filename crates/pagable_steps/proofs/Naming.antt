@@ -1,8 +1,11 @@
--- References that nothing is to be said against name each handle once.
+-- References that nothing is to be said against name each handle once, and a value to which these move owns them so.
 use Rattle.pagable_steps.proofs.Words.{◌≡◌, ℕ, suc, zero, ◌+◌, ◌<◌, ◌==◌, ◌||◌, Bool, true, false, List, [], ◌∷◌, get_or, length, refl, ap, subst, ◌∙◌, if◌then◌else◌, arith, Option, Some, None}
 use Rattle.pagable_steps.proofs.Words.{not, nat_tests, sum_by-cons, get_or_from_slice_get, slice_get_within, Error, HandleRow, Owner, ArcRef, Among, is_in, one, times, if_there, or_else}
 use Rattle.pagable_steps.proofs.Words.{find_row, is_handle, is_owner, Core, row_at, refused_if, row_fault, reference_fault, references_fault, is_named_by, IsHandleBefore, self-number}
 use Rattle.pagable_steps.proofs.Words.{same-number, sum-zero, or-none}
+use Rattle.pagable_steps.proofs.Words.{◌≤◌, ◌&&◌, sym, sum_by, pins, is_pin, is_owned_by, owner_value, moved, IsWhole, AreGood, good, named-among, NotValues, not-owned, found-after, stands-whole, at-most-sum}
+use Rattle.pagable_steps.proofs.Spared.{owns, owns_any}
+use Rattle.pagable_steps.proofs.SparedParts.{sum-mapped, and-false}
 use Rattle.std.specs.List.{AllPairs}
 
 -- a handle that is found has one row
@@ -86,3 +89,89 @@ module _ (w : Core) (owner : Owner) where
           let g : one (is_named_by rs q) ≡ 0 = ap one (seen-unnamed (r.handle.0 ∷ seen) rs q rest (ap (λ b. b || is_in seen q) e)) in
           omega (arith, more, f, g, sum)
       at more false e sum = let f : one (r.handle.0 == q) ≡ 0 = ap one e in omega (arith, more, f, sum)
+
+-- ---- the handles that good references name move to a value
+
+-- what they name is its owner's
+pub named-owner : {w : Core} → IsWhole w → (owner : Owner) (rs : List ArcRef) → AreGood w owner rs → (h : HandleRow) → Among w.rows h → is_named_by rs h.number.0 ≡ true → h.owner ≡ owner
+named-owner {w} whole owner rs right h among is =
+    let a = named-among 0 rs h.number.0 is in
+    let r = right a.0 a.1 in
+    ap (λ (x : HandleRow). x.owner) ((stands-whole whole.handles h.number.0 r.row (ap (λ q. find_row q w.rows) (sym a.2) ∙ r.live)).only h among refl) ∙ r.owned
+
+abbrev pub named : List ArcRef → HandleRow → Bool
+named references h = is_named_by references h.number.0
+
+abbrev pub after : ℕ → HandleRow → Bool → HandleRow
+after p h b = if b then record h { owner = owner_value p } else h
+
+abbrev pub given : Core → List ArcRef → ℕ → List HandleRow
+given w references p = moved (is_named_by references) (owner_value p) w.rows
+
+module _ {w : Core} (whole : IsWhole w) {me : Owner} (free : NotValues me) (references : List ArcRef) (fine : references_fault w me [] references ≡ None) (p : ℕ) where
+  pub given-found : (q : ℕ) (row : HandleRow) (b : Bool) → find_row q w.rows ≡ Some row → named references row ≡ b → find_row q (given w references p) ≡ Some (after p row b)
+  given-found q row b live e = found-after (named references) (λ h. record h { owner = owner_value p }) (λ h. refl) q w.rows row live ∙ ap (λ b. Some (after p row b)) e
+
+  pub given-pins : (n : ℕ) → pins n (given w references p) ≡ pins n w.rows
+  given-pins n = sum-mapped (λ h. after p h (named references h)) (λ h. one (is_pin n h)) (λ h. one (is_pin n h)) w.rows (λ h among. at h (named references h))
+    where
+      at : (h : HandleRow) (b : Bool) → one (is_pin n (after p h b)) ≡ one (is_pin n h)
+      at h true = refl
+      at h false = refl
+
+  -- none of it was a value's
+  pub unnamed : (n : ℕ) (h : HandleRow) → Among w.rows h → h.owner ≡ owner_value n → named references h ≡ false
+  unnamed n h among own = at (named references h) refl
+    where
+      at : (b : Bool) → named references h ≡ b → named references h ≡ false
+      at false e = e
+      at true e = absurd (free (record { 0 = n }) (sym (named-owner whole me references (good w me [] references fine) h among e) ∙ own))
+
+  -- another value owns what it did
+  same-test : (n : ℕ) → (p == n) ≡ false → (test : HandleRow → Bool) → ((x : HandleRow) → is_owned_by (owner_value n) x ≡ false → test x ≡ false) → (h : HandleRow) → Among w.rows h
+      → (b : Bool) → named references h ≡ b → one (test (after p h b)) ≡ one (test h)
+  same-test n other test none h among true e =
+      let mine = named-owner whole me references (good w me [] references fine) h among e in
+      ap one (none (after p h true) other ∙ sym (none h (not-owned n h.owner (subst NotValues (sym mine) free))))
+  same-test n other test none h among false e = refl
+
+  pub given-owned : (n : ℕ) → (p == n) ≡ false → (q : ℕ) → owns n q (given w references p) ≡ owns n q w.rows
+  given-owned n other q = sum-mapped _ _ _ w.rows
+      (λ h among. same-test n other (λ x. is_handle q x && is_owned_by (owner_value n) x) (λ x none. ap (λ b. is_handle q x && b) none ∙ and-false _) h among (named references h) refl)
+
+  pub given-bare : (n : ℕ) → (p == n) ≡ false → owns_any n (given w references p) ≡ owns_any n w.rows
+  given-bare n other = sum-mapped _ _ _ w.rows (λ h among. same-test n other (is_owned_by (owner_value n)) (λ x none. none) h among (named references h) refl)
+
+  -- this one owned nothing: it owns each as often as it is named
+  pub given-inside : owns_any p w.rows ≡ 0 → (q : ℕ) → times (λ (r : ArcRef). r.handle.0 == q) references ≡ owns p q (given w references p)
+  given-inside bare q = named-once w me [] references q fine ∙ sym (at (is_named_by references q) refl)
+    where
+      none : (b : Bool) (all : ℕ) → all ≡ 0 → one b ≤ all → b ≡ false
+      none false all e le = refl
+      none true all e le = absurd (omega arith)
+
+      unowned : (h : HandleRow) → Among w.rows h → is_owned_by (owner_value p) h ≡ false
+      unowned h among = none (is_owned_by (owner_value p) h) (owns_any p w.rows) bare (at-most-sum (λ x. one (is_owned_by (owner_value p) x)) w.rows h among)
+
+      its-now : (h : HandleRow) → Among w.rows h → (b : Bool) → named references h ≡ b → (is_handle q (after p h b) && is_owned_by (owner_value p) (after p h b)) ≡ (is_handle q h && b)
+      its-now h among true e = ap (λ b. is_handle q h && b) (self-number p)
+      its-now h among false e = ap (λ b. is_handle q h && b) (unowned h among)
+
+      named-by : (h : HandleRow) (b : Bool) → is_named_by references q ≡ b → (d : Bool) → is_handle q h ≡ d → (d && named references h) ≡ (d && b)
+      named-by h b e true is = ap (is_named_by references) (same-number _ _ is) ∙ e
+      named-by h b e false is = refl
+
+      counts : (f : HandleRow → ℕ) (b : Bool) → is_named_by references q ≡ b → ((h : HandleRow) → one (is_handle q h && b) ≡ f h) → owns p q (given w references p) ≡ sum_by f w.rows
+      counts f b e same = sum-mapped (λ h. after p h (named references h)) (λ h. one (is_handle q h && is_owned_by (owner_value p) h)) f w.rows
+          (λ h among. ap one (its-now h among (named references h) refl ∙ named-by h b e (is_handle q h) refl) ∙ same h)
+
+      and-true : (b : Bool) → one (b && true) ≡ one b
+      and-true true = refl
+      and-true false = refl
+
+      at : (b : Bool) → is_named_by references q ≡ b → owns p q (given w references p) ≡ one b
+      at true e =
+          let a = named-among 0 references q e in
+          let r = good w me [] references fine a.0 a.1 in
+          counts (λ h. one (is_handle q h)) true e (λ h. and-true (is_handle q h)) ∙ one-row q w.rows r.row whole.handles.ordered (ap (λ n. find_row n w.rows) (sym a.2) ∙ r.live)
+      at false e = counts (λ h. 0) false e (λ h. ap one (and-false (is_handle q h))) ∙ sum-zero (λ (h : HandleRow). 0) w.rows (λ h among. refl)

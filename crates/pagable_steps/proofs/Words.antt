@@ -14,7 +14,7 @@ pub use Rattle.pagable_world.specs.Cascade.{is_outside, owned_outside, loses_val
 pub use Rattle.pagable_world.specs.Cascade.{AreNewEntries}
 pub use Rattle.pagable_world.specs.Events.{with_worker, with_entry_taken}
 pub use Rattle.pagable_world.specs.Kinds.{is_handle, is_owned_by, owner_value, is_pin, is_pinning, pins, is_in_memory, is_owner, held, has_key, is_loose, mode_of, owner_worker, is_at, is_pinned}
-pub use Rattle.pagable_world.specs.Kinds.{is_shared, is_share}
+pub use Rattle.pagable_world.specs.Kinds.{is_shared, is_share, fits_mode}
 unfoldable pub use Rattle.pagable_world.specs.Kinds.{find_row}
 pub use Rattle.pagable_world.specs.LoadCalls.{without_load, is_owned_in, with_pin, MayEnd, Installs, BeginCall, BeginKeyCall, GetsKnown, Given, from_cache, from_store, AskCall, AsksInVain}
 pub use Rattle.pagable_world.specs.LoadCalls.{adopted, Adopts, AdoptCall, LazyCall, numbers_of, EndCall, HandOverCall, DropCall, LoadCloses}
