@@ -1,6 +1,6 @@
 -- A node that the cache knows from now on.
-use Rattle.pagable_tables.proofs.Words.{◌≡◌, ℕ, ◌==◌, ◌&&◌, Bool, true, false, if◌then◌else◌, List, refl, ap, sym, ◌∙◌, arith, Option, Some, None, inl, inr, ◌≢◌, ◌⊎◌, nat_tests, cases_eq, Kind}
-use Rattle.pagable_tables.proofs.Words.{NodeNumber, Core, Cell, Alike, HandleRow, if_there, with_cached}
+use Rattle.pagable_tables.proofs.Words.{◌≡◌, ℕ, ◌==◌, ◌&&◌, Bool, true, false, if◌then◌else◌, List, refl, ap, sym, ◌∙◌, arith, Option, Some, None, inl, inr, ◌≢◌, ◌⊎◌, nat_tests, cases_eq}
+use Rattle.pagable_tables.proofs.Words.{Kind, NodeNumber, Core, Cell, Alike, HandleRow, if_there, with_cached}
 use Rattle.pagable_tables.proofs.Worlds.{usable-same, use-of}
 
 -- the cache of the second world learns what that of the first does

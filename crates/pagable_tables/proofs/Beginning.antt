@@ -1,6 +1,6 @@
 -- A load begins.
 use Rattle.pagable_tables.proofs.Words.{◌≡◌, ℕ, ◌==◌, ◌≤◌, ◌+◌, true, false, refl, ap, ◌∙◌, arith, Option, Some, None, inl, inr, ◌≢◌, is_some, nat_tests, cases_eq, updated, LoadRow, load_in}
-use Rattle.std.specs.Option.{option_map}
+use Rattle.pagable_tables.proofs.Words.{option_map}
 
 -- one load more, and the others stay
 pub load-comes : (at at' : ℕ → Option LoadRow) (l : ℕ) (row : LoadRow) → at' l ≡ Some row → ((q : ℕ) → q ≢ l → at' q ≡ at q) → (q : ℕ) → option_map load_in (at' q) ≡ updated l (Some (load_in row)) (λ q. option_map load_in (at q)) q

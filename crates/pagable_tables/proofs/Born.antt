@@ -1,18 +1,12 @@
 -- A node comes, and the handles that its value refers to are the value's.
-use Rattle.pagable_tables.proofs.Words.{◌≡◌, ℕ, ◌+◌, ◌<◌, ◌≤◌, ◌==◌, ◌&&◌, ◌||◌, Bool, true, false, List, [], ◌∷◌, ◌++◌, map, sum_by, refl, ap, sym, ◌∙◌, subst, arith, Option, Some, None, inl}
-use Rattle.pagable_tables.proofs.Words.{inr, if◌then◌else◌, ◌≢◌, ◌⊎◌, not, nat_lt, is_some, cases_eq, nat_tests, sum_by_push, sum_by-cons, Error, ArcRef, HandleRow, Owner, Mode, Among, is_in}
-use Rattle.pagable_tables.proofs.Words.{one, or_else, if_there, find_row, held, pins, is_handle, is_owner, is_pinning, owner_value, IsHandleBefore, Core, row_at, reference_fault}
+use Rattle.pagable_tables.proofs.Words.{◌≡◌, ℕ, ◌+◌, ◌<◌, ◌≤◌, ◌==◌, ◌&&◌, ◌||◌, Bool, true, false, List, [], ◌∷◌, ◌++◌, map, sum_by, refl, ap, sym, ◌∙◌, subst, arith, Option, Some, None}
+use Rattle.pagable_tables.proofs.Words.{inl, inr, if◌then◌else◌, ◌≢◌, ◌⊎◌, not, nat_lt, is_some, cases_eq, nat_tests, sum_by_push, sum_by-cons, Error, ArcRef, HandleRow, Owner, Mode, Among}
+use Rattle.pagable_tables.proofs.Words.{is_in, one, or_else, if_there, find_row, held, pins, is_handle, is_owner, is_pinning, owner_value, IsHandleBefore, Core, row_at, reference_fault}
 use Rattle.pagable_tables.proofs.Words.{references_fault, row_fault, refused_if, moved, is_named_by, Counts, Fits, Right, is_right, is_bare, cell_in, pins_in, holds_in, falls_in, is_valued}
-use Rattle.pagable_tables.proofs.Words.{named, owns_nothing}
-use Rattle.std.specs.List.{AllPairs}
-use Rattle.pagable_world.specs.Plain.{updated}
-use Rattle.pagable_tables.specs.Falling.{key_in}
-use Rattle.pagable_tables.proofs.Coming.{owned-by-none}
-use Rattle.pagable_tables.proofs.Fitting.{pin_of, handle_of, is_owned, pin-here, held-here, pin-other, held-other}
-use Rattle.pagable_tables.proofs.Owned.{owned-by}
-use Rattle.pagable_tables.proofs.keeps.BirthCalls.{named-mine}
-use Rattle.pagable_tables.proofs.keeps.Rests.{found-so}
-use Rattle.pagable_tables.proofs.keeps.Rows.{found-among, sum-map, sum-none, at-most-sum, only-row}
+use Rattle.pagable_tables.proofs.Words.{named, owns_nothing, AllPairs, updated, key_in}
+use Rattle.pagable_tables.proofs.{Coming.owned-by-none, Fitting.pin_of, Fitting.handle_of, Fitting.is_owned, Fitting.pin-here, Fitting.held-here, Fitting.pin-other, Fitting.held-other}
+use Rattle.pagable_tables.proofs.{Owned.owned-by, keeps.BirthCalls.named-mine, keeps.Rests.found-so, keeps.Rows.found-among, keeps.Rows.sum-map, keeps.Rows.sum-none, keeps.Rows.at-most-sum}
+use Rattle.pagable_tables.proofs.{keeps.Rows.only-row}
 
 or-none : (a b : Option Error) → or_else a b ≡ None → (a ≡ None) × (b ≡ None)
 or-none None b e = (refl, e)

@@ -1,7 +1,8 @@
 -- A handle comes to a live node, and nothing falls.
-use Rattle.pagable_tables.proofs.Words.{sum_by, ◌≡◌, ℕ, ◌+◌, ◌<◌, ◌≤◌, ◌==◌, ◌&&◌, ◌||◌, Bool, true, false, if◌then◌else◌, List, [], ◌∷◌, ◌++◌, length, refl, ap, sym, ◌∙◌, subst, arith, Option}
-use Rattle.pagable_tables.proofs.Words.{Some, None, inl, inr, ◌≢◌, not, nat_lt, IsSome, nat_tests, cases_eq, sum_by_push, sum_by-cons, ArcRef, HandleRow, Owner, Mode, one, SameAt, held, pins}
-use Rattle.pagable_tables.proofs.Words.{is_pinning, is_owner, owner_value, Counts, pins_in, holds_in, falls_in, is_bare, is_right, Right, Fits, owns_nothing, named, is_valued, cell_in}
+use Rattle.pagable_tables.proofs.Words.{sum_by, ◌≡◌, ℕ, ◌+◌, ◌<◌, ◌≤◌, ◌==◌, ◌&&◌, ◌||◌, Bool, true, false, if◌then◌else◌, List, [], ◌∷◌, ◌++◌, length, refl, ap, sym, ◌∙◌, subst, arith}
+use Rattle.pagable_tables.proofs.Words.{Option, Some, None, inl, inr, ◌≢◌, not, nat_lt, IsSome, nat_tests, cases_eq, sum_by_push, sum_by-cons, ArcRef, HandleRow, Owner, Mode, one, SameAt}
+use Rattle.pagable_tables.proofs.Words.{held, pins, is_pinning, is_owner, owner_value, Counts, pins_in, holds_in, falls_in, is_bare, is_right, Right, Fits, owns_nothing, named, is_valued}
+use Rattle.pagable_tables.proofs.Words.{cell_in}
 use Rattle.pagable_tables.proofs.Fitting.{pin_of, handle_of, is_owned, pin-here, held-here, pin-other, held-other}
 
 more-right : (w k bare : Bool) (p h p' h' : ℕ) → w ≡ false → p ≤ p' → h ≤ h' → (if w then h == 0 || (p == 0 && k) else nat_lt 0 h && (nat_lt 0 p || not k || bare)) ≡ true

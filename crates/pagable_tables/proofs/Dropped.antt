@@ -1,25 +1,10 @@
 -- A load is closed, and what it still owns is given up.
-use Rattle.std.proofs.Common.{◌≡◌, ℕ, ◌<◌, ◌≤◌, ◌==◌, Bool, true, false, not, refl, ap, sym, ◌∙◌, subst, arith, Option, Some, None, inl, inr}
-use Rattle.std.specs.Prelude.{◌≢◌, Result}
-use Rattle.std.specs.Option.{option_map}
-use Rattle.std.proofs.lemmas.Bool.Decides.{nat_tests}
-use Rattle.std.proofs.lemmas.Bool.{cases_eq}
-use Rattle.pagable_model.specs.declared.error.Error.{Error}
-use Rattle.pagable_world.specs.declared.handles.HandleRow.{HandleRow}
-use Rattle.pagable_world.specs.declared.handles.Owner.{Owner}
-use Rattle.pagable_world.specs.Plain.{Blob, updated, if_there}
-use Rattle.pagable_world.specs.Kinds.{is_owned_by, find_row}
-use Rattle.pagable_world.specs.World.{Core, OpenLoad}
+use Rattle.pagable_tables.proofs.Words.{◌≡◌, ℕ, ◌<◌, ◌≤◌, ◌==◌, Bool, true, false, not, refl, ap, sym, ◌∙◌, subst, arith, Option, Some, None, inl, inr, ◌≢◌, Result, option_map, nat_tests}
+use Rattle.pagable_tables.proofs.Words.{cases_eq, Error, HandleRow, Owner, Blob, updated, if_there, is_owned_by, find_row, Core, OpenLoad, Falls, nobody, is_owned_in, LoadRow, Tables, SoFar}
+use Rattle.pagable_tables.proofs.Words.{passes_in, core_of, load_in}
+use Rattle.pagable_tables.specs.Core.{IsWhole}
+use Rattle.pagable_tables.proofs.{Begun.begins, Begun.begun, keeps.Rows.found-among}
 use Rattle.pagable_world.specs.Pager as pager
-use Rattle.pagable_world.specs.Cascade.{Falls, nobody}
-use Rattle.pagable_world.specs.LoadCalls.{is_owned_in}
-use Rattle.pagable_tables.specs.declared.rows.LoadRow.{LoadRow}
-use Rattle.pagable_tables.specs.declared.tables.Tables.{Tables}
-use Rattle.pagable_tables.specs.Onward.{SoFar}
-use Rattle.pagable_tables.specs.Giving.{passes_in}
-use Rattle.pagable_tables.specs.Core.{core_of, load_in, IsWhole}
-use Rattle.pagable_tables.proofs.Begun.{begins, begun}
-use Rattle.pagable_tables.proofs.keeps.Rows.{found-among}
 
 -- a load isn't there any more
 pub load-closed : (at at' : ℕ → Option LoadRow) (l : ℕ) → at' l ≡ None → ((q : ℕ) → q ≢ l → at' q ≡ at q) → (q : ℕ) → updated l None (λ q. option_map load_in (at q)) q ≡ option_map load_in (at' q)

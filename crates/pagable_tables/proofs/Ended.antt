@@ -1,11 +1,11 @@
 -- Where no node falls any more, all has gone that had to go, and no more.
-use Rattle.pagable_tables.proofs.Words.{◌≡◌, ℕ, ◌+◌, ◌≤◌, ◌==◌, ◌&&◌, Bool, true, false, not, if◌then◌else◌, List, [], ◌∷◌, ◌++◌, sum_by, refl, ap, sym, ◌∙◌, subst, arith, inl, inr, Option, Some}
-use Rattle.pagable_tables.proofs.Words.{None, ◌⊎◌, is_some, nat_lt, nat_eq, ◌||◌, Result, Ok, Err, nat_tests, sum_by-cons, sum_by-append, Error, OptionalDataKey, ArcRef, HandleRow, one, times}
-use Rattle.pagable_tables.proofs.Words.{if_there, is_pinned_kind, is_at, is_pin, is_owned_by, owner_value, held, pins, has_key, is_in_memory, Core, Cell, greatest, Alike, left_rows, IsClosed}
-use Rattle.pagable_tables.proofs.Words.{is_keyed, MustList, TellsListing, CannotList, IsListRefusal, Falls, fallen, pins_outside, held_outside, Counts, Holdings, live, counts_at, refs_at, Fits}
-use Rattle.pagable_tables.proofs.Words.{IsFalling, Right, is_bare, pins_in, holds_in, falls_in, keyed_in, cell_in, HasFallen, owns, owns_nothing, named, with_tables, told_by, SoFar}
-use Rattle.pagable_tables.proofs.Left.{times-left, entries-none}
-use Rattle.pagable_tables.proofs.Forced.{keyed-cell}
+use Rattle.pagable_tables.proofs.Words.{◌≡◌, ℕ, ◌+◌, ◌≤◌, ◌==◌, ◌&&◌, Bool, true, false, not, if◌then◌else◌, List, [], ◌∷◌, ◌++◌, sum_by, refl, ap, sym, ◌∙◌, subst, arith, inl, inr, Option}
+use Rattle.pagable_tables.proofs.Words.{Some, None, ◌⊎◌, is_some, nat_lt, nat_eq, ◌||◌, Result, Ok, Err, nat_tests, sum_by-cons, sum_by-append, Error, OptionalDataKey, ArcRef, HandleRow}
+use Rattle.pagable_tables.proofs.Words.{one, times, if_there, is_pinned_kind, is_at, is_pin, is_owned_by, owner_value, held, pins, has_key, is_in_memory, Core, Cell, greatest, Alike}
+use Rattle.pagable_tables.proofs.Words.{left_rows, IsClosed, is_keyed, MustList, TellsListing, CannotList, IsListRefusal, Falls, fallen, pins_outside, held_outside, Counts, Holdings, live}
+use Rattle.pagable_tables.proofs.Words.{counts_at, refs_at, Fits, IsFalling, Right, is_bare, pins_in, holds_in, falls_in, keyed_in, cell_in, HasFallen, owns, owns_nothing, named}
+use Rattle.pagable_tables.proofs.Words.{with_tables, told_by, SoFar}
+use Rattle.pagable_tables.proofs.{Left.times-left, Left.entries-none, Forced.keyed-cell}
 
 bare-then : (w : Bool) (p h : ℕ) (k bare : Bool) → w ≡ false → (if w then h == 0 || (p == 0 && k) else nat_lt 0 h && (nat_lt 0 p || not k || bare)) ≡ true
     → (h ≡ 0) ⊎ ((k ≡ true) × (p ≡ 0)) → bare ≡ true

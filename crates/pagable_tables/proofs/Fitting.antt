@@ -1,8 +1,9 @@
 -- A handle is given up: handles and nodes fit again.
 use Rattle.pagable_tables.proofs.Words.{◌≡◌, ℕ, ◌+◌, ◌-◌, ◌<◌, ◌≤◌, ◌==◌, ◌&&◌, ◌||◌, Bool, true, false, if◌then◌else◌, List, [], ◌∷◌, ◌++◌, length, sum_by, refl, ap, sym, ◌∙◌, subst, arith}
 use Rattle.pagable_tables.proofs.Words.{Option, Some, None, suc, zero, inl, inr, ◌⊎◌, ◌≢◌, is_some, nat_lt, not, nat_tests, cases_eq, sum_by-cons, sum_by-le-sum_by, sum_by_push, ArcRef}
-use Rattle.pagable_tables.proofs.Words.{NodeNumber, HandleRow, Owner, one, held, pins, is_pin, is_at, is_pinning, is_handle, is_owner, owner_value, Counts, pins_in, holds_in, falls_in, next_in}
-use Rattle.pagable_tables.proofs.Words.{keyed_in, Chain, is_bare, is_right, Right, is_fallen_by, after, is_new, Fits, entry, owns, owns_nothing, named, often, cell_in, CellsStay, HasFallen}
+use Rattle.pagable_tables.proofs.Words.{NodeNumber, HandleRow, Owner, one, held, pins, is_pin, is_at, is_pinning, is_handle, is_owner, owner_value, Counts, pins_in, holds_in, falls_in}
+use Rattle.pagable_tables.proofs.Words.{next_in, keyed_in, Chain, is_bare, is_right, Right, is_fallen_by, after, is_new, Fits, entry, owns, owns_nothing, named, often, cell_in, CellsStay}
+use Rattle.pagable_tables.proofs.Words.{HasFallen}
 
 -- 1 for a handle that pins the node, for one of it, for the handle q that its value owns, and for the handle q
 abbrev pub pin_of : ℕ → HandleRow → ℕ

@@ -1,15 +1,11 @@
 -- One handle more has gone, given up directly or by a value that has fallen: what has gone so far.
 use Rattle.pagable_tables.proofs.Words.{◌≡◌, ℕ, ◌+◌, ◌<◌, ◌≤◌, ◌==◌, ◌&&◌, Bool, true, false, not, if◌then◌else◌, List, [], ◌∷◌, ◌++◌, length, filter, map, sum_by, refl, ap, sym, ◌∙◌, subst}
 use Rattle.pagable_tables.proofs.Words.{arith, inl, inr, is_some, vec_capacity, cases_Bool, nat_tests, append_assoc, append-nil, map-append, length-append, sum_by-cons, sum_by-append}
-use Rattle.pagable_tables.proofs.Words.{sum_by-le-sum_by, Error, HandleNumber, NodeNumber, HandleRow, Owner, one, times, is_pin, is_handle, is_owned_by, held, pins, Core, greatest, left_rows}
-use Rattle.pagable_tables.proofs.Words.{IsWithin, IsClosed, AreNewEntries, TellsListing, IsListRefusal, is_keyed, Holdings, live, counts_at, pins_in, entry, entries_of, is_listing, cell_in}
-use Rattle.pagable_tables.proofs.Words.{first_cause, IsUnlisted, GivesUp, HasPlaces, with_tables, told_by, SoFar}
-use Rattle.pagable_tables.proofs.Left.{and_one, kept-more, times-left, entries-more}
-use Rattle.pagable_tables.proofs.Leaving.{leaves-sums}
-use Rattle.pagable_tables.proofs.Wanted.{entry-pins}
-use Rattle.pagable_tables.proofs.NoEntry.{of_list, none-listed, none-entered}
-use Rattle.pagable_tables.proofs.RowsMore.{rows-more}
-use Rattle.pagable_tables.proofs.Telling.{only-more, tells-more, refusal-now}
+use Rattle.pagable_tables.proofs.Words.{sum_by-le-sum_by, Error, HandleNumber, NodeNumber, HandleRow, Owner, one, times, is_pin, is_handle, is_owned_by, held, pins, Core, greatest}
+use Rattle.pagable_tables.proofs.Words.{left_rows, IsWithin, IsClosed, AreNewEntries, TellsListing, IsListRefusal, is_keyed, Holdings, live, counts_at, pins_in, entry, entries_of}
+use Rattle.pagable_tables.proofs.Words.{is_listing, cell_in, first_cause, IsUnlisted, GivesUp, HasPlaces, with_tables, told_by, SoFar}
+use Rattle.pagable_tables.proofs.{Left.and_one, Left.kept-more, Left.times-left, Left.entries-more, Leaving.leaves-sums, Wanted.entry-pins, NoEntry.of_list, NoEntry.none-listed}
+use Rattle.pagable_tables.proofs.{NoEntry.none-entered, RowsMore.rows-more, Telling.only-more, Telling.tells-more, Telling.refusal-now}
 
 -- a handle of which the list has none may go, whether it had gone or not
 kept-gone : (gone : ℕ → Bool) (q : ℕ) (list : List HandleNumber) → gone q ≡ true → filter (λ (h : HandleNumber). not (and_one gone q h.0)) list ≡ filter (λ (h : HandleNumber). not (gone h.0)) list

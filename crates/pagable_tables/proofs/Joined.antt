@@ -1,15 +1,9 @@
 -- What a value refers to comes with it to a node that is there, has no value and is pinned.
-use Rattle.pagable_tables.proofs.Words.{◌≡◌, ℕ, ◌+◌, ◌<◌, ◌==◌, Bool, true, false, List, [], ◌∷◌, ◌++◌, sum_by, refl, ap, sym, ◌∙◌, subst, arith, Option, Some, None, inl, inr, if◌then◌else◌, ◌≢◌}
-use Rattle.pagable_tables.proofs.Words.{cases_eq, nat_tests, sum_by_push, OptionalDataKey, ArcRef, HandleNumber, HandleRow, Owner, changed, if_there, pins, is_at, is_pin, is_handle, is_in_memory}
-use Rattle.pagable_tables.proofs.Words.{owner_value, IsHandleBefore, Cell, Core, references_fault, moved, is_named_by, Counts, Fits, Right, is_right, is_bare, cell_in, pins_in, falls_in}
-use Rattle.pagable_tables.proofs.Words.{is_valued, named, owns_nothing}
-use Rattle.std.specs.List.{AllPairs}
-use Rattle.pagable_tables.proofs.Born.{others-own, own-own}
-use Rattle.pagable_tables.proofs.Coming.{turned, owned-by-none}
-use Rattle.pagable_tables.proofs.Fitting.{is_owned}
-use Rattle.pagable_tables.proofs.Forced.{keyed-cell}
-use Rattle.pagable_tables.proofs.Taken.{moved-times}
-use Rattle.pagable_tables.proofs.keeps.Rows.{sum-map}
+use Rattle.pagable_tables.proofs.Words.{◌≡◌, ℕ, ◌+◌, ◌<◌, ◌==◌, Bool, true, false, List, [], ◌∷◌, ◌++◌, sum_by, refl, ap, sym, ◌∙◌, subst, arith, Option, Some, None, inl, inr, if◌then◌else◌}
+use Rattle.pagable_tables.proofs.Words.{◌≢◌, cases_eq, nat_tests, sum_by_push, OptionalDataKey, ArcRef, HandleNumber, HandleRow, Owner, changed, if_there, pins, is_at, is_pin, is_handle}
+use Rattle.pagable_tables.proofs.Words.{is_in_memory, owner_value, IsHandleBefore, Cell, Core, references_fault, moved, is_named_by, Counts, Fits, Right, is_right, is_bare, cell_in, pins_in}
+use Rattle.pagable_tables.proofs.Words.{falls_in, is_valued, named, owns_nothing, AllPairs}
+use Rattle.pagable_tables.proofs.{Born.others-own, Born.own-own, Coming.turned, Coming.owned-by-none, Fitting.is_owned, Forced.keyed-cell, Taken.moved-times, keeps.Rows.sum-map}
 
 right-pinned : (o : Option Counts) (refs refs' : List ArcRef) → 0 < pins_in o → falls_in o ≡ false → Right o refs → Right o refs'
 right-pinned None refs refs' some stands right = absurd (omega arith)

@@ -1,9 +1,8 @@
 -- A node gets a key: handles and nodes fit again.
-use Rattle.pagable_tables.proofs.Words.{◌≡◌, ℕ, ◌+◌, ◌<◌, ◌==◌, ◌&&◌, ◌||◌, Bool, true, false, if◌then◌else◌, List, [], ◌∷◌, refl, ap, sym, ◌∙◌, subst, arith, inl, inr, Option, Some, None, zero}
-use Rattle.pagable_tables.proofs.Words.{suc, ◌≢◌, nat_lt, not, cases_eq, nat_tests, sum_by-cons, OptionalDataKey, ArcRef, HandleRow, one, updated, if_there, Cell, Counts, Fits, Chain, Right}
-use Rattle.pagable_tables.proofs.Words.{is_right, is_bare, is_new, pins_in, holds_in, falls_in, next_in, key_in, cell_in, often, named, owns_nothing, keyed, GetsKey}
-use Rattle.pagable_tables.proofs.Coming.{is-free}
-use Rattle.pagable_tables.proofs.Lowered.{updated-here, updated-other}
+use Rattle.pagable_tables.proofs.Words.{◌≡◌, ℕ, ◌+◌, ◌<◌, ◌==◌, ◌&&◌, ◌||◌, Bool, true, false, if◌then◌else◌, List, [], ◌∷◌, refl, ap, sym, ◌∙◌, subst, arith, inl, inr, Option, Some, None}
+use Rattle.pagable_tables.proofs.Words.{zero, suc, ◌≢◌, nat_lt, not, cases_eq, nat_tests, sum_by-cons, OptionalDataKey, ArcRef, HandleRow, one, updated, if_there, Cell, Counts, Fits, Chain}
+use Rattle.pagable_tables.proofs.Words.{Right, is_right, is_bare, is_new, pins_in, holds_in, falls_in, next_in, key_in, cell_in, often, named, owns_nothing, keyed, GetsKey}
+use Rattle.pagable_tables.proofs.{Coming.is-free, Lowered.updated-here, Lowered.updated-other}
 
 keyed-right : (w bare : Bool) (p h : ℕ) (k key : ℕ) → w ≡ false → 0 < key → (if w then h == 0 || (p == 0 && nat_lt 0 k) else nat_lt 0 h && (nat_lt 0 p || not (nat_lt 0 k) || bare)) ≡ true
     → (if p == 0 then h == 0 || (p == 0 && nat_lt 0 key) else nat_lt 0 h && (nat_lt 0 p || not (nat_lt 0 key) || bare)) ≡ true

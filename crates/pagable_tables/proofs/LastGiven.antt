@@ -1,18 +1,7 @@
 -- No live row of a number passes a test.
-use Rattle.std.proofs.Common.{◌≡◌, ℕ, ◌+◌, ◌<◌, ◌≤◌, Bool, true, false, if◌then◌else◌, List, [], ◌∷◌, suc, length, get_or, refl, ap, sym, ◌∙◌, arith, Some, slice_get, inl, inr}
-use Rattle.std.specs.Prelude.{◌⊎◌}
-use Rattle.std.specs.List.{AllPairs}
-use Rattle.std.proofs.lemmas.Option.{slice_get-get_or}
-use Rattle.pagable_world.specs.declared.handles.HandleRow.{HandleRow}
-use Rattle.pagable_world.specs.Kinds.{is_handle, find_row}
-use Rattle.std.proofs.lemmas.Bool.Decides.{nat_tests}
-use Rattle.std.proofs.lemmas.List.{get_or_default}
-use Rattle.pagable_tables.specs.declared.rows.Place.{Place}
-use Rattle.pagable_tables.specs.Live.{live, alive, IsBefore}
-use Rattle.pagable_tables.specs.Giving.{passes_in}
-use Rattle.pagable_tables.proofs.Alive.{row-live}
-use Rattle.pagable_tables.proofs.Order.{smaller-up, greater-from}
-use Rattle.pagable_tables.proofs.Regiven.{passes-here, passes-none}
+use Rattle.pagable_tables.proofs.Words.{◌≡◌, ℕ, ◌+◌, ◌<◌, ◌≤◌, Bool, true, false, if◌then◌else◌, List, [], ◌∷◌, suc, length, get_or, refl, ap, sym, ◌∙◌, arith, Some, slice_get, inl, inr}
+use Rattle.pagable_tables.proofs.Words.{◌⊎◌, AllPairs, slice_get-get_or, HandleRow, is_handle, find_row, nat_tests, get_or_default, Place, live, alive, IsBefore, passes_in}
+use Rattle.pagable_tables.proofs.{Alive.row-live, Order.smaller-up, Order.greater-from, Regiven.passes-here, Regiven.passes-none}
 
 none-passes : (test : HandleRow → Bool) (q : ℕ) (ss : List Place) → ((k : ℕ) (d : Place) → k < length ss → (get_or ss k d).row.number.0 ≡ q → (get_or ss k d).is_live ≡ true → test (get_or ss k d).row ≡ false)
     → passes_in test (live ss) q ≡ false

@@ -1,11 +1,10 @@
 -- Why a load can't make a node, and what it gets.
-use Rattle.pagable_tables.proofs.Words.{◌≡◌, ℕ, ◌<◌, ◌≤◌, Bool, true, false, if◌then◌else◌, refl, ap, ◌∙◌, subst, arith, Ok, Err, Option, Some, None, inl, inr, not, nat_lt, is_some, Result, []}
-use Rattle.pagable_tables.proofs.Words.{zero, suc, Error, HandleNumber, LoadNumber, NodeNumber, Kind, Owner, Mode, is_loose_kind, if_there, mode_of, Core, OpenLoad, greatest, usable, Alike, rank}
-use Rattle.pagable_tables.proofs.Words.{earlier, refused_if, spent, load_fault, OwnsLoad, Refused, with_handle, is_usable, birth_fault, node_fault, lazy_fault, adopted, LazyCall, OptionalDataKey}
-use Rattle.pagable_tables.proofs.Words.{key_in, Makes}
+use Rattle.pagable_tables.proofs.Words.{◌≡◌, ℕ, ◌<◌, ◌≤◌, Bool, true, false, if◌then◌else◌, refl, ap, ◌∙◌, subst, arith, Ok, Err, Option, Some, None, inl, inr, not, nat_lt, is_some, Result}
+use Rattle.pagable_tables.proofs.Words.{[], zero, suc, Error, HandleNumber, LoadNumber, NodeNumber, Kind, Owner, Mode, is_loose_kind, if_there, mode_of, Core, OpenLoad, greatest, usable}
+use Rattle.pagable_tables.proofs.Words.{Alike, rank, earlier, refused_if, spent, load_fault, OwnsLoad, Refused, with_handle, is_usable, birth_fault, node_fault, lazy_fault, adopted}
+use Rattle.pagable_tables.proofs.Words.{LazyCall, OptionalDataKey, key_in, Makes}
 use Rattle.pagable_world.specs.Calls.{IsNext}
-use Rattle.pagable_tables.proofs.Opened.{earlier-first, load-low, no-load-fault, number-late}
-use Rattle.pagable_tables.proofs.Worlds.{still}
+use Rattle.pagable_tables.proofs.{Opened.earlier-first, Opened.load-low, Opened.no-load-fault, Opened.number-late, Worlds.still}
 
 -- of two causes that come late each is
 earlier-late : (a b : Option Error) (f : Error) (n : ℕ) → ((g : Error) → a ≡ Some g → n ≤ rank g) → ((g : Error) → b ≡ Some g → n ≤ rank g) → earlier a b ≡ Some f → n ≤ rank f

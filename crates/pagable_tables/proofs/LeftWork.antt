@@ -1,20 +1,9 @@
 -- Workers come and leave, and their loads with them.
-use Rattle.std.proofs.Common.{◌≡◌, ℕ, ◌+◌, ◌<◌, ◌==◌, ◌||◌, Bool, true, false, not, if◌then◌else◌, List, [], ◌∷◌, ◌++◌, filter, length, refl, ap, sym, ◌∙◌, subst, arith, Option, Some, None, Ok}
-use Rattle.std.specs.Option.{option_map}
-use Rattle.std.proofs.lemmas.Bool.Decides.{nat_tests}
-use Rattle.pagable_model.specs.declared.numbers.HandleNumber.{HandleNumber}
+use Rattle.pagable_tables.proofs.Words.{◌≡◌, ℕ, ◌+◌, ◌<◌, ◌==◌, ◌||◌, Bool, true, false, not, if◌then◌else◌, List, [], ◌∷◌, ◌++◌, filter, length, refl, ap, sym, ◌∙◌, subst, arith, Option}
+use Rattle.pagable_tables.proofs.Words.{Some, None, Ok, option_map, nat_tests, HandleNumber, Owner, Blob, is_in, updated, is_owner, owner_worker, Core, TakeCall, is_workers_load}
+use Rattle.pagable_tables.proofs.Words.{with_worker, LoadRow, Tables, core_of, load_in, left_load}
 use Rattle.pagable_model.specs.declared.numbers.WorkerNumber.{WorkerNumber}
-use Rattle.pagable_world.specs.declared.handles.Owner.TheVariants as owners
-use Rattle.pagable_world.specs.Plain.{Blob, is_in, updated}
-use Rattle.pagable_world.specs.Kinds.{is_owner, owner_worker}
-use Rattle.pagable_world.specs.World.{Core}
-use Rattle.pagable_world.specs.Calls.{TakeCall}
-use Rattle.pagable_world.specs.Workers.{is_workers_load}
-use Rattle.pagable_world.specs.Events.{with_worker}
-use Rattle.pagable_tables.specs.declared.rows.LoadRow.{LoadRow}
-use Rattle.pagable_tables.specs.declared.tables.Tables.{Tables}
-use Rattle.pagable_tables.specs.Core.{core_of, load_in}
-use Rattle.pagable_tables.specs.Giving.{left_load, TakesWorker}
+use Rattle.pagable_tables.specs.Giving.{TakesWorker}
 
 pushed : (vs : List ℕ) (n q : ℕ) → is_in (vs ++ n ∷ []) q ≡ (if q == n then true else is_in vs q)
 unfolding is_in
@@ -85,8 +74,8 @@ begun-core t t1 stored closed failures same last more =
     ap (λ (u : Tables). core_of u stored closed failures) same ∙ both
 
 -- the entry moves to it
-pub takes-worker : (w w1 w' : Core) (place : ℕ) (v : WorkerNumber) (found : Option HandleNumber) → w1 ≡ with_worker w → v.0 ≡ w.last.worker + 1 → place < length w.list → TakeCall w1 (owners.Worker v) place found w' → TakesWorker w place (Ok v) w'
+pub takes-worker : (w w1 w' : Core) (place : ℕ) (v : WorkerNumber) (found : Option HandleNumber) → w1 ≡ with_worker w → v.0 ≡ w.last.worker + 1 → place < length w.list → TakeCall w1 (Owner.Worker v) place found w' → TakesWorker w place (Ok v) w'
 takes-worker w w1 w' place v (Some h) is next within call =
-    let (listed, leaves) = subst (λ u. TakeCall u (owners.Worker v) place (Some h) w') is call in
+    let (listed, leaves) = subst (λ u. TakeCall u (Owner.Worker v) place (Some h) w') is call in
     record { taken = (h, listed, next, leaves); refused = tt }
-takes-worker w w1 w' place v None is next within call = let (past, leaves) = subst (λ u. TakeCall u (owners.Worker v) place None w') is call in absurd (omega arith)
+takes-worker w w1 w' place v None is next within call = let (past, leaves) = subst (λ u. TakeCall u (Owner.Worker v) place None w') is call in absurd (omega arith)

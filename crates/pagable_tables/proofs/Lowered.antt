@@ -1,10 +1,8 @@
 -- A handle lets its pin go: handles and nodes fit again, as if an unpinned handle came and then the pinned one left.
-use Rattle.pagable_tables.proofs.Words.{None, ◌≡◌, ℕ, ◌+◌, ◌-◌, ◌≤◌, ◌==◌, Bool, true, false, if◌then◌else◌, List, [], ◌∷◌, ◌++◌, sum_by, refl, ap, sym, ◌∙◌, subst, arith, Option, Some, is_some}
-use Rattle.pagable_tables.proofs.Words.{◌≢◌, nat_lt, nat_tests, sum_by_push, ArcRef, HandleRow, Mode, one, updated, is_pinning, Counts, cell_in, Fits, entry, after, is_fallen_by, owns_nothing}
-use Rattle.pagable_tables.proofs.Words.{is_valued, CellsStay, unpinned}
-use Rattle.pagable_tables.proofs.Begun.{fits-unowned}
-use Rattle.pagable_tables.proofs.Coming.{come-fits, come-cells}
-use Rattle.pagable_tables.proofs.Fitting.{given-fits, given-cells}
+use Rattle.pagable_tables.proofs.Words.{None, ◌≡◌, ℕ, ◌+◌, ◌-◌, ◌≤◌, ◌==◌, Bool, true, false, if◌then◌else◌, List, [], ◌∷◌, ◌++◌, sum_by, refl, ap, sym, ◌∙◌, subst, arith, Option, Some}
+use Rattle.pagable_tables.proofs.Words.{is_some, ◌≢◌, nat_lt, nat_tests, sum_by_push, ArcRef, HandleRow, Mode, one, updated, is_pinning, Counts, cell_in, Fits, entry, after, is_fallen_by}
+use Rattle.pagable_tables.proofs.Words.{owns_nothing, is_valued, CellsStay, unpinned}
+use Rattle.pagable_tables.proofs.{Begun.fits-unowned, Coming.come-fits, Coming.come-cells, Fitting.given-fits, Fitting.given-cells}
 
 pub updated-here : {X : Type 0} (n : ℕ) (x : X) (f : ℕ → X) → updated n x f n ≡ x
 updated-here n x f = let e : (n == n) ≡ true = grind (arith, nat_tests) in ap (λ b. if b then x else f n) e

@@ -1,13 +1,8 @@
 -- A handle is offered to the cache: why it is refused, and what is known then.
 use Rattle.pagable_tables.proofs.Words.{◌≡◌, ℕ, ◌<◌, ◌==◌, ◌&&◌, Bool, true, false, refl, ap, ◌∙◌, subst, arith, Option, Some, None, inl, inr, if◌then◌else◌, ◌≢◌, ◌⊎◌, not, nat_lt, cases_eq}
-use Rattle.pagable_tables.proofs.Words.{nat_tests, Error, HandleNumber, NodeNumber, Kind, HandleRow, Owner, if_there, type_of, fits_mode, Core, row_at, type_at, earlier, rank, refused_if, spent}
-use Rattle.pagable_tables.proofs.Words.{where_so, handle_fault, is_type, is_usable, offer_fault}
-use Rattle.std.specs.Option.{option_map}
-use Rattle.pagable_tables.proofs.Pins.{handle-first, spent-late}
-use Rattle.pagable_model.specs.declared.error.Error.TheVariants as errors
-use Rattle.pagable_world.specs.Kinds.{is_owner}
-use Rattle.pagable_tables.proofs.Opened.{no-fault}
-use Rattle.pagable_tables.proofs.Pins.{earlier-first}
+use Rattle.pagable_tables.proofs.Words.{nat_tests, Error, HandleNumber, NodeNumber, Kind, HandleRow, Owner, if_there, type_of, fits_mode, Core, row_at, type_at, earlier, rank, refused_if}
+use Rattle.pagable_tables.proofs.Words.{spent, where_so, handle_fault, is_type, is_usable, offer_fault, option_map, is_owner}
+use Rattle.pagable_tables.proofs.{Pins.handle-first, Pins.spent-late, Pins.earlier-first, Opened.no-fault}
 
 -- of two late causes any is late
 pub late : (a b : Option Error) (m : ℕ) → ((f : Error) → a ≡ Some f → m < rank f) → ((f : Error) → b ≡ Some f → m < rank f) → (f : Error) → earlier a b ≡ Some f → m < rank f
@@ -40,12 +35,12 @@ module _ (w : Core) (me : Owner) (kind : Kind) (key : ℕ) (h : HandleNumber) wh
 
   -- a handle that can be used, of a node of another type
   pub offer-kind : (row : HandleRow) → row_at w h ≡ Some row → is_owner me row.owner ≡ true → fits_mode kind.0 row.mode ≡ true → is_type (type_of kind.0) (type_at w row.node.0) ≡ false
-      → offer_fault w me kind key h ≡ Some errors.WrongKind
+      → offer_fault w me kind key h ≡ Some Error.WrongKind
   offer-kind row at own fits other =
       let none = no-fault w me h (fits_mode kind.0) row at own fits in
-      let here = ap (λ o. refused_if (not (is_type (type_of kind.0) (if_there (λ (row : HandleRow). type_at w row.node.0) None o))) errors.WrongKind) at in
-      let a : kind-fault ≡ Some errors.WrongKind = here ∙ ap (λ b. refused_if (not b) errors.WrongKind) other in
-      ap (λ f. earlier f (earlier kind-fault last-fault)) none ∙ ap (λ f. earlier f last-fault) a ∙ earlier-first errors.WrongKind last-fault (λ f so. let a = last-late f so in omega arith)
+      let here = ap (λ o. refused_if (not (is_type (type_of kind.0) (if_there (λ (row : HandleRow). type_at w row.node.0) None o))) Error.WrongKind) at in
+      let a : kind-fault ≡ Some Error.WrongKind = here ∙ ap (λ b. refused_if (not b) Error.WrongKind) other in
+      ap (λ f. earlier f (earlier kind-fault last-fault)) none ∙ ap (λ f. earlier f last-fault) a ∙ earlier-first Error.WrongKind last-fault (λ f so. let a = last-late f so in omega arith)
 
   -- where handle and type are as asked, the last cause is left
   pub offer-last : (row : HandleRow) → handle_fault w me h (fits_mode kind.0) ≡ None → row_at w h ≡ Some row → type_at w row.node.0 ≡ Some (type_of kind.0) → offer_fault w me kind key h ≡ last-fault

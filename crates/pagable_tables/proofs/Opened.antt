@@ -1,9 +1,8 @@
 -- A load is opened and closed again. Why a handle can't come while numbers are left.
 use Rattle.pagable_tables.proofs.Words.{◌≡◌, ℕ, ◌<◌, ◌≤◌, Bool, true, false, if◌then◌else◌, List, refl, ap, sym, ◌∙◌, arith, Option, Some, None, inl, inr, ◌≢◌, ◌⊎◌, not, nat_lt, nat_le}
 use Rattle.pagable_tables.proofs.Words.{nat_tests, cases_eq, Error, OptionalDataKey, HandleNumber, LoadNumber, HandleRow, Owner, Mode, if_there, is_owner, is_loose, is_in_memory, pins, Core}
-use Rattle.pagable_tables.proofs.Words.{Cell, OpenLoad, greatest, row_at, rank, earlier, where_so, refused_if, spent, handle_fault, load_fault, closed_fault, OwnsLoad, Refused, Counts, LoadRow}
-use Rattle.pagable_tables.proofs.Words.{pins_in, cell_in, key_in, load_in}
-use Rattle.std.specs.Option.{option_map}
+use Rattle.pagable_tables.proofs.Words.{Cell, OpenLoad, greatest, row_at, rank, earlier, where_so, refused_if, spent, handle_fault, load_fault, closed_fault, OwnsLoad, Refused, Counts}
+use Rattle.pagable_tables.proofs.Words.{LoadRow, pins_in, cell_in, key_in, load_in, option_map}
 use Rattle.pagable_tables.proofs.Pins.{owner-self, fault-rank}
 
 -- a load that wasn't open comes and goes

@@ -1,9 +1,8 @@
 -- A handle is pinned, by a Pinned one that is made and by itself. Why an own handle can't be used.
-use Rattle.pagable_tables.proofs.Words.{◌≡◌, ℕ, ◌+◌, ◌<◌, ◌≤◌, Bool, true, false, List, [], ◌∷◌, ◌++◌, refl, ap, sym, ◌∙◌, subst, arith, Option, Some, None, if◌then◌else◌, not, nat_lt, nat_le}
-use Rattle.pagable_tables.proofs.Words.{nat_tests, Error, HandleNumber, NodeNumber, HandleRow, Owner, Mode, changed, if_there, find_row, is_handle, is_owner, Core, Alike, greatest, row_at}
-use Rattle.pagable_tables.proofs.Words.{earlier, rank, refused_if, spent, where_so, handle_fault, Owns, with_handle, with_mode, row_of}
-use Rattle.pagable_tables.proofs.Coming.{turned}
-use Rattle.pagable_tables.proofs.Worlds.{same-cache}
+use Rattle.pagable_tables.proofs.Words.{◌≡◌, ℕ, ◌+◌, ◌<◌, ◌≤◌, Bool, true, false, List, [], ◌∷◌, ◌++◌, refl, ap, sym, ◌∙◌, subst, arith, Option, Some, None, if◌then◌else◌, not, nat_lt}
+use Rattle.pagable_tables.proofs.Words.{nat_le, nat_tests, Error, HandleNumber, NodeNumber, HandleRow, Owner, Mode, changed, if_there, find_row, is_handle, is_owner, Core, Alike, greatest}
+use Rattle.pagable_tables.proofs.Words.{row_at, earlier, rank, refused_if, spent, where_so, handle_fault, Owns, with_handle, with_mode, row_of}
+use Rattle.pagable_tables.proofs.{Coming.turned, Worlds.same-cache}
 
 -- a row of another number stays
 pub changed-push : (q : ℕ) (f : HandleRow → HandleRow) (rows : List HandleRow) (x : HandleRow) → q < x.number.0 → changed (is_handle q) f (rows ++ x ∷ []) ≡ changed (is_handle q) f rows ++ x ∷ []

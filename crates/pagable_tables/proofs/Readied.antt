@@ -1,17 +1,13 @@
 -- A world with more room, and a node that is born in it.
-use Rattle.pagable_tables.proofs.Words.{◌≡◌, ℕ, ◌+◌, ◌<◌, ◌≤◌, true, false, if◌then◌else◌, List, [], ◌∷◌, refl, ap, sym, ◌∙◌, subst, arith, Option, None, inl, inr, Bool, nat_le, vec_capacity}
-use Rattle.pagable_tables.proofs.Words.{nat_tests, IndexMap, OptionalDataKey, Error, ArcRef, HandleNumber, Kind, LoadNumber, NodeNumber, HandleRow, Owner, Mode, Blob, or_else, type_of, mode_of}
-use Rattle.pagable_tables.proofs.Words.{Core, Cell, Places, Alike, HasRoom, greatest, earlier, spent, reference_fault, references_fault, Refused, with_handle, with_node, with_cached, next_node}
-use Rattle.pagable_tables.proofs.Words.{adopted, LoadRow, Holdings, Tables, OnlyRoom, counts_at, refs_at, load_at, known_at, Fits, cell_in, owns_nothing, live, AreSound, core_of, plain_of}
-use Rattle.pagable_tables.proofs.Words.{MayHold, AreLater}
-use Rattle.std.specs.Option.{option_map}
+use Rattle.pagable_tables.proofs.Words.{◌≡◌, ℕ, ◌+◌, ◌<◌, ◌≤◌, true, false, if◌then◌else◌, List, [], ◌∷◌, refl, ap, sym, ◌∙◌, subst, arith, Option, None, inl, inr, Bool, nat_le}
+use Rattle.pagable_tables.proofs.Words.{vec_capacity, nat_tests, IndexMap, OptionalDataKey, Error, ArcRef, HandleNumber, Kind, LoadNumber, NodeNumber, HandleRow, Owner, Mode, Blob, or_else}
+use Rattle.pagable_tables.proofs.Words.{type_of, mode_of, Core, Cell, Places, Alike, HasRoom, greatest, earlier, spent, reference_fault, references_fault, Refused, with_handle, with_node}
+use Rattle.pagable_tables.proofs.Words.{with_cached, next_node, adopted, LoadRow, Holdings, Tables, OnlyRoom, counts_at, refs_at, load_at, known_at, Fits, cell_in, owns_nothing, live}
+use Rattle.pagable_tables.proofs.Words.{AreSound, core_of, plain_of, MayHold, AreLater, option_map}
 use Rattle.pagable_world.specs.Calls.{IsNext}
-use Rattle.pagable_tables.specs.Live as places
 use Rattle.pagable_tables.specs.Core.{IsWhole}
-use Rattle.pagable_tables.proofs.Newer.{newer-alike, later-so}
-use Rattle.pagable_tables.proofs.Worlds.{same-cache}
-use Rattle.pagable_tables.proofs.keeps.Told.{alike-whole}
-use Rattle.pagable_tables.proofs.keeps.Placed.{whole-so}
+use Rattle.pagable_tables.proofs.{Newer.newer-alike, Newer.later-so, Worlds.same-cache, keeps.Told.alike-whole, keeps.Placed.whole-so}
+use Rattle.pagable_tables.specs.Live as places
 
 pub room-still : (w : Core) → OnlyRoom w w
 room-still w = record { same = refl; more = record { handles = omega arith; entries = omega arith } }

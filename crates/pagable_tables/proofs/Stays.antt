@@ -1,34 +1,12 @@
 -- A handle that comes and pins stays, while others that are given go with all that follows.
-use Rattle.std.proofs.Common.{◌≡◌, ℕ, ◌<◌, ◌≤◌, ◌==◌, ◌&&◌, ◌++◌, Bool, true, false, not, if◌then◌else◌, List, [], ◌∷◌, refl, ap, sym, ◌∙◌, subst, arith, inl, inr, None}
-use Rattle.std.specs.Prelude.{◌⊎◌, nat_eq, Result, Ok, Err}
-use Rattle.std.specs.List.{AllPairs}
-use Rattle.std.proofs.lemmas.Bool.Decides.{nat_tests}
-use Rattle.std.proofs.lemmas.Bool.{cases_eq}
-use Rattle.std.proofs.lemmas.List.Sums.{sum_by-le-sum_by, sum_by_push, sum_by-append}
-use Rattle.pagable_model.specs.declared.error.Error.{Error}
-use Rattle.pagable_model.specs.declared.error.Error.TheVariants as errors
-use Rattle.pagable_world.specs.declared.handles.HandleRow.{HandleRow}
-use Rattle.pagable_world.specs.Plain.{Among, if_there, one, times, is_loose_kind, is_shared_kind}
-use Rattle.pagable_world.specs.Kinds.{is_handle, is_owner, mode_of, is_at, is_pin, is_share, is_pinning, is_owned_by, owner_value, held, pins, sharing}
-use Rattle.pagable_world.specs.World.{Core, Places, HasRoom, Alike}
-use Rattle.pagable_world.specs.Pager.{IsHandleBefore, HandlesAreWhole}
-use Rattle.pagable_world.specs.Refusals.{references_fault}
-use Rattle.pagable_world.specs.LoadCalls.{is_owned_in}
-use Rattle.pagable_model.specs.declared.numbers.ArcRef.{ArcRef}
-use Rattle.pagable_world.specs.Cascade.{IsLeast, IsWithin, IsClosed, loses_value, pins_outside, held_outside, owned_outside, is_outside, is_keyed, left_rows, MustList, TellsListing, IsPlaceWanting, IsListRefusal, Falls}
-use Rattle.pagable_world.specs.Calls.{is_named_by}
-use Rattle.pagable_tables.specs.Falling.{is_valued}
-use Rattle.pagable_tables.proofs.Coming.{no-value}
-use Rattle.pagable_model.specs.declared.numbers.LoadNumber.{LoadNumber}
-use Rattle.pagable_world.specs.declared.handles.Owner.TheVariants as owners
-use Rattle.pagable_world.specs.declared.rows.Mode.TheVariants as modes
-use Rattle.pagable_tables.proofs.Regiven.{loaded, passes-here, passes-none}
-use Rattle.pagable_tables.proofs.Left.{times-left}
-use Rattle.pagable_tables.proofs.Next.{within-less}
-use Rattle.pagable_tables.proofs.Dropped.{owned-given}
-use Rattle.pagable_tables.proofs.keeps.BirthCalls.{named-mine}
-use Rattle.pagable_tables.proofs.keeps.Rows.{counted, at-most-sum, once, among-last}
-use Rattle.pagable_tables.proofs.Pins.{owner-self}
+use Rattle.pagable_tables.proofs.Words.{◌≡◌, ℕ, ◌<◌, ◌≤◌, ◌==◌, ◌&&◌, ◌++◌, Bool, true, false, not, if◌then◌else◌, List, [], ◌∷◌, refl, ap, sym, ◌∙◌, subst, arith, inl, inr, None, ◌⊎◌}
+use Rattle.pagable_tables.proofs.Words.{nat_eq, Result, Ok, Err, AllPairs, nat_tests, cases_eq, sum_by-le-sum_by, sum_by_push, sum_by-append, Error, HandleRow, Among, if_there, one, times}
+use Rattle.pagable_tables.proofs.Words.{is_loose_kind, is_shared_kind, is_handle, is_owner, mode_of, is_at, is_pin, is_share, is_pinning, is_owned_by, owner_value, held, pins, sharing, Core}
+use Rattle.pagable_tables.proofs.Words.{Places, HasRoom, Alike, IsHandleBefore, HandlesAreWhole, references_fault, is_owned_in, ArcRef, IsLeast, IsWithin, IsClosed, loses_value}
+use Rattle.pagable_tables.proofs.Words.{pins_outside, held_outside, owned_outside, is_outside, is_keyed, left_rows, MustList, TellsListing, IsPlaceWanting, IsListRefusal, Falls, is_named_by}
+use Rattle.pagable_tables.proofs.Words.{is_valued, LoadNumber, Owner, Mode}
+use Rattle.pagable_tables.proofs.{Coming.no-value, Regiven.loaded, Regiven.passes-here, Regiven.passes-none, Left.times-left, Next.within-less, Dropped.owned-given}
+use Rattle.pagable_tables.proofs.{keeps.BirthCalls.named-mine, keeps.Rows.counted, keeps.Rows.at-most-sum, keeps.Rows.once, keeps.Rows.among-last, Pins.owner-self}
 
 zero-or : (n : ℕ) → (n ≡ 0) ⊎ (0 < n)
 zero-or n = elim (cases_eq n 0) [ inl e ↦ inl e | inr e ↦ inr (omega arith) ]
@@ -91,8 +69,8 @@ wanting u w' places more (inl full) = inl (let m = more.handles in omega arith)
 wanting u w' places more (inr full) = inr (let m = more.entries in omega arith)
 
 refusal : (u w' : Core) (places : Places) → HasRoom u.places places → (e : Error) → IsListRefusal (record u { places = places }) w' e → IsListRefusal u w' e
-refusal u w' places more errors.NumbersSpent r = r
-refusal u w' places more errors.OutOfMemory r = (wanting u w' places more r.0, r.1)
+refusal u w' places more Error.NumbersSpent r = r
+refusal u w' places more Error.OutOfMemory r = (wanting u w' places more r.0, r.1)
 refusal u w' places more _ r = absurd r
 
 -- why a cell must be listed, seen from another world before
@@ -182,28 +160,28 @@ retold u b a cache =
 pub eager-pins : (kind : ℕ) → is_loose_kind kind ≡ false → is_pinning (mode_of kind) ≡ true
 eager-pins kind eager = split (is_shared_kind kind) (is_loose_kind kind) eager
   where
-    split : (s l : Bool) → l ≡ false → is_pinning (if s then modes.Shared else if l then modes.LooseUnpinned else modes.Pinned) ≡ true
+    split : (s l : Bool) → l ≡ false → is_pinning (if s then Mode.Shared else if l then Mode.LooseUnpinned else Mode.Pinned) ≡ true
     split true l e = refl
     split false false e = refl
     split false true e = absurd (cc)
 
 pub loaded-append : (l : LoadNumber) (q : ℕ) (rows more : List HandleRow) → loaded l q rows ≡ true → loaded l q (rows ++ more) ≡ true
-loaded-append l q [] more own = absurd (let a = passes-none (is_owned_by (owners.Load l)) q in cc)
-loaded-append l q (x ∷ xs) more own = passes-here (is_owned_by (owners.Load l)) q x (xs ++ more) ∙ split (is_handle q x) (sym (passes-here (is_owned_by (owners.Load l)) q x xs) ∙ own) (loaded-append l q xs more)
+loaded-append l q [] more own = absurd (let a = passes-none (is_owned_by (Owner.Load l)) q in cc)
+loaded-append l q (x ∷ xs) more own = passes-here (is_owned_by (Owner.Load l)) q x (xs ++ more) ∙ split (is_handle q x) (sym (passes-here (is_owned_by (Owner.Load l)) q x xs) ∙ own) (loaded-append l q xs more)
   where
-    split : (b : Bool) → (if b then is_owner (owners.Load l) x.owner else loaded l q xs) ≡ true → (loaded l q xs ≡ true → loaded l q (xs ++ more) ≡ true) → (if b then is_owner (owners.Load l) x.owner else loaded l q (xs ++ more)) ≡ true
+    split : (b : Bool) → (if b then is_owner (Owner.Load l) x.owner else loaded l q xs) ≡ true → (loaded l q xs ≡ true → loaded l q (xs ++ more) ≡ true) → (if b then is_owner (Owner.Load l) x.owner else loaded l q (xs ++ more)) ≡ true
     split true own rest = own
     split false own rest = rest own
 
 -- what references name that are good is the load's, and was given
-pub named-loaded : (w : Core) (l : LoadNumber) (refs : List ArcRef) → references_fault w (owners.Load l) [] refs ≡ None → (q : ℕ) → is_named_by refs q ≡ true → is_owned_in w (owners.Load l) q ≡ true
+pub named-loaded : (w : Core) (l : LoadNumber) (refs : List ArcRef) → references_fault w (Owner.Load l) [] refs ≡ None → (q : ℕ) → is_named_by refs q ≡ true → is_owned_in w (Owner.Load l) q ≡ true
 named-loaded w l refs good q named =
-    let m = named-mine w (owners.Load l) [] refs good q named in
-    ap (if_there (is_owned_by (owners.Load l)) false) m.live ∙ ap (is_owner (owners.Load l)) m.own ∙ owner-self (owners.Load l)
+    let m = named-mine w (Owner.Load l) [] refs good q named in
+    ap (if_there (is_owned_by (Owner.Load l)) false) m.live ∙ ap (is_owner (Owner.Load l)) m.own ∙ owner-self (Owner.Load l)
 
-pub not-named : (w : Core) (l : LoadNumber) (refs : List ArcRef) → HandlesAreWhole w → references_fault w (owners.Load l) [] refs ≡ None → (q : ℕ) → w.last.handle < q → is_named_by refs q ≡ false
+pub not-named : (w : Core) (l : LoadNumber) (refs : List ArcRef) → HandlesAreWhole w → references_fault w (Owner.Load l) [] refs ≡ None → (q : ℕ) → w.last.handle < q → is_named_by refs q ≡ false
 not-named w l refs whole good q above = split (is_named_by refs q) refl
   where
     split : (b : Bool) → is_named_by refs q ≡ b → b ≡ false
     split false e = refl
-    split true e = absurd (let g = owned-given w (owners.Load l) q whole (named-loaded w l refs good q e) in omega arith)
+    split true e = absurd (let g = owned-given w (Owner.Load l) q whole (named-loaded w l refs good q e) in omega arith)

@@ -1,17 +1,13 @@
 -- A handle comes, and then another is given up: the new one stays, so that cells are listed as of the world before it came.
 use Rattle.pagable_tables.proofs.Words.{◌≡◌, ℕ, ◌+◌, ◌<◌, ◌≤◌, ◌==◌, ◌&&◌, Bool, true, false, [], ◌∷◌, refl, ap, sym, ◌∙◌, subst, arith, Ok, Err, Option, Some, None, inl, inr, if◌then◌else◌}
-use Rattle.pagable_tables.proofs.Words.{Result, not, nat_lt, nat_eq, nat_tests, sum_by_push, sum_by-append, sum_by-le-sum_by, Error, NodeNumber, HandleRow, Owner, Mode, Blob, Among, one, times}
-use Rattle.pagable_tables.proofs.Words.{if_there, is_handle, has_key, is_at, is_pin, is_share, is_pinning, is_shared, is_owner, is_owned_by, owner_value, held, pins, sharing, HandleNumber}
-use Rattle.pagable_tables.proofs.Words.{OptionalDataKey, Core, Cell, Last, Alike, Falls, IsClosed, IsWithin, MustList, TellsListing, is_keyed, nobody, pins_outside, held_outside, left_rows}
-use Rattle.pagable_tables.proofs.Words.{row_of, with_handle, Counts, Tables, live, counts_at, ValueStays, cell_in, has_value, is_valued, pins_in, SoFar, is_plain_pin, core_of}
+use Rattle.pagable_tables.proofs.Words.{Result, not, nat_lt, nat_eq, nat_tests, sum_by_push, sum_by-append, sum_by-le-sum_by, Error, NodeNumber, HandleRow, Owner, Mode, Blob, Among, one}
+use Rattle.pagable_tables.proofs.Words.{times, if_there, is_handle, has_key, is_at, is_pin, is_share, is_pinning, is_shared, is_owner, is_owned_by, owner_value, held, pins, sharing}
+use Rattle.pagable_tables.proofs.Words.{HandleNumber, OptionalDataKey, Core, Cell, Last, Alike, Falls, IsClosed, IsWithin, MustList, TellsListing, is_keyed, nobody, pins_outside}
+use Rattle.pagable_tables.proofs.Words.{held_outside, left_rows, row_of, with_handle, Counts, Tables, live, counts_at, ValueStays, cell_in, has_value, is_valued, pins_in, SoFar}
+use Rattle.pagable_tables.proofs.Words.{is_plain_pin, core_of}
 use Rattle.pagable_tables.specs.Core.{IsWhole}
-use Rattle.pagable_tables.proofs.Begun.{begins, begun}
-use Rattle.pagable_tables.proofs.Forced.{keyed-cell}
-use Rattle.pagable_tables.proofs.Left.{times-left}
-use Rattle.pagable_tables.proofs.Next.{within-less}
-use Rattle.pagable_tables.proofs.Shedding.{none-falls-in}
-use Rattle.pagable_tables.proofs.keeps.Rests.{within-goes}
-use Rattle.pagable_tables.proofs.keeps.Rows.{among-both, among-one, among-last, at-most-sum, sum-none}
+use Rattle.pagable_tables.proofs.{Begun.begins, Begun.begun, Forced.keyed-cell, Left.times-left, Next.within-less, Shedding.none-falls-in, keeps.Rests.within-goes, keeps.Rows.among-both}
+use Rattle.pagable_tables.proofs.{keeps.Rows.among-one, keeps.Rows.among-last, keeps.Rows.at-most-sum, keeps.Rows.sum-none}
 
 -- a handle that doesn't pin isn't Shared
 unshared : (b : Bool) (mode : Mode) → (b && is_pinning mode) ≡ false → (b && is_shared mode) ≡ false

@@ -1,19 +1,12 @@
 -- A load hands handles over, and gives up the rest.
 use Rattle.pagable_tables.proofs.Words.{◌≡◌, ℕ, ◌<◌, ◌==◌, ◌&&◌, Bool, true, false, not, if◌then◌else◌, List, [], ◌∷◌, length, refl, ap, sym, ◌∙◌, subst, arith, Option, Some, None, inl, inr}
-use Rattle.pagable_tables.proofs.Words.{nat_tests, sum_by-cons, HandleNumber, LoadNumber, HandleRow, Owner, Blob, Among, one, times, if_there, is_in, is_handle, is_owner, is_owned_by, is_pin}
-use Rattle.pagable_tables.proofs.Words.{is_share, find_row, pins, Core, OpenLoad, HasRoom, MayOwnLoad, earlier, load_fault, named_fault, nobody, moved, without_load, numbers_of, cell_fault}
-use Rattle.pagable_tables.proofs.Words.{hand_over_fault, Tables, Holdings, live, is_valued, with_tables, is_plain_pin, SoFar, core_of, named_at, IsNamed}
-use Rattle.pagable_world.specs.Pager as pager
+use Rattle.pagable_tables.proofs.Words.{nat_tests, sum_by-cons, HandleNumber, LoadNumber, HandleRow, Owner, Blob, Among, one, times, if_there, is_in, is_handle, is_owner, is_owned_by}
+use Rattle.pagable_tables.proofs.Words.{is_pin, is_share, find_row, pins, Core, OpenLoad, HasRoom, MayOwnLoad, earlier, load_fault, named_fault, nobody, moved, without_load, numbers_of}
+use Rattle.pagable_tables.proofs.Words.{cell_fault, hand_over_fault, Tables, Holdings, live, is_valued, with_tables, is_plain_pin, SoFar, core_of, named_at, IsNamed}
 use Rattle.pagable_tables.specs.Core.{IsWhole}
-use Rattle.pagable_tables.proofs.Begun.{begins, begun}
-use Rattle.pagable_tables.proofs.Handed.{seen-all}
-use Rattle.pagable_tables.proofs.Regiven.{loaded}
-use Rattle.pagable_tables.proofs.Seen.{in-there}
-use Rattle.pagable_tables.proofs.keeps.Comes.{not-list}
-use Rattle.pagable_tables.proofs.keeps.EndCalls.{both-none, handed-mine, asker-owns}
-use Rattle.pagable_tables.proofs.keeps.LoadCalls.{may-hold}
-use Rattle.pagable_tables.proofs.keeps.Moved.{moved-to-holder}
-use Rattle.pagable_tables.proofs.keeps.Rows.{found-among, once}
+use Rattle.pagable_tables.proofs.{Begun.begins, Begun.begun, Handed.seen-all, Regiven.loaded, Seen.in-there, keeps.Comes.not-list, keeps.EndCalls.both-none, keeps.EndCalls.handed-mine}
+use Rattle.pagable_tables.proofs.{keeps.EndCalls.asker-owns, keeps.LoadCalls.may-hold, keeps.Moved.moved-to-holder, keeps.Rows.found-among, keeps.Rows.once}
+use Rattle.pagable_world.specs.Pager as pager
 
 -- what is counted of handles whoever owns them
 pub moved-times : (f : HandleRow → Bool) (s : ℕ → Bool) (o : Owner) (rows : List HandleRow) → ((x : HandleRow) → f (record x { owner = o }) ≡ f x) → times f (moved s o rows) ≡ times f rows

@@ -3,8 +3,7 @@ use Rattle.pagable_tables.proofs.Words.{◌≡◌, ℕ, ◌+◌, ◌<◌, ◌≤
 use Rattle.pagable_tables.proofs.Words.{vec_capacity, cases_Bool, cases_eq, and_parts, nat_tests, Error, NodeNumber, HandleRow, one, times, is_at, is_pin, held, pins, Core, MustList}
 use Rattle.pagable_tables.proofs.Words.{TellsListing, IsListRefusal, Counts, Holdings, live, counts_at, pins_in, entry, entries_of, is_listing, IsUnlisted, first_cause, with_tables, told_by}
 use Rattle.pagable_tables.proofs.Words.{SoFar}
-use Rattle.pagable_tables.proofs.Leaving.{with-entry}
-use Rattle.pagable_tables.proofs.Wanted.{listing-is, must-now, must-before}
+use Rattle.pagable_tables.proofs.{Leaving.with-entry, Wanted.listing-is, Wanted.must-now, Wanted.must-before}
 
 -- a cause stays
 refusal-kept : (w : Core) (t new : Holdings) (e : Error) → IsListRefusal w (with_tables w t) e → t.last_handle ≤ new.last_handle → length t.list.items ≤ length new.list.items

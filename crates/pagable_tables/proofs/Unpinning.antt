@@ -1,17 +1,12 @@
 -- A handle has let its pin go and stays: what has gone and come so far.
 use Rattle.pagable_tables.proofs.Words.{◌≡◌, ℕ, ◌+◌, ◌<◌, ◌≤◌, ◌&&◌, Bool, true, false, not, if◌then◌else◌, List, [], ◌∷◌, ◌++◌, length, filter, ap, sym, ◌∙◌, subst, arith, inl, inr, Option}
-use Rattle.pagable_tables.proofs.Words.{Some, None, slice_get, ◌≢◌, Result, Ok, Err, vec_capacity, cases_Bool, and_parts, nat_tests, append-nil, length-append, length-map, Error, HandleNumber}
-use Rattle.pagable_tables.proofs.Words.{HandleRow, Owner, Mode, Blob, one, times, is_pin, is_share, is_handle, is_owned_by, pins, sharing, Core, greatest, with_mode, left_rows, MustList}
-use Rattle.pagable_tables.proofs.Words.{TellsListing, IsListRefusal, nobody, Tables, Holdings, live, alive, entries_of, is_listing, first_cause, IsUnlisted, unpinned, Lowers, with_tables}
-use Rattle.pagable_tables.proofs.Words.{told_by, is_plain_pin, Begins, SoFar, core_of}
+use Rattle.pagable_tables.proofs.Words.{Some, None, slice_get, ◌≢◌, Result, Ok, Err, vec_capacity, cases_Bool, and_parts, nat_tests, append-nil, length-append, length-map, Error}
+use Rattle.pagable_tables.proofs.Words.{HandleNumber, HandleRow, Owner, Mode, Blob, one, times, is_pin, is_share, is_handle, is_owned_by, pins, sharing, Core, greatest, with_mode, left_rows}
+use Rattle.pagable_tables.proofs.Words.{MustList, TellsListing, IsListRefusal, nobody, Tables, Holdings, live, alive, entries_of, is_listing, first_cause, IsUnlisted, unpinned, Lowers}
+use Rattle.pagable_tables.proofs.Words.{with_tables, told_by, is_plain_pin, Begins, SoFar, core_of}
 use Rattle.pagable_tables.specs.Core.{IsWhole}
-use Rattle.pagable_tables.proofs.Alive.{row-le-live}
-use Rattle.pagable_tables.proofs.Begun.{begun-whole, none-within}
-use Rattle.pagable_tables.proofs.Going.{entry-number, new-more, long-one, within-more, ones}
-use Rattle.pagable_tables.proofs.Left.{left-all, all-kept}
-use Rattle.pagable_tables.proofs.Leaving.{with-entry}
-use Rattle.pagable_tables.proofs.Wanted.{listing-is, entry-pins}
-use Rattle.pagable_tables.proofs.Telling.{only-more, tells-more, refusal-now}
+use Rattle.pagable_tables.proofs.{Alive.row-le-live, Begun.begun-whole, Begun.none-within, Going.entry-number, Going.new-more, Going.long-one, Going.within-more, Going.ones, Left.left-all}
+use Rattle.pagable_tables.proofs.{Left.all-kept, Leaving.with-entry, Wanted.listing-is, Wanted.entry-pins, Telling.only-more, Telling.tells-more, Telling.refusal-now}
 
 -- what must be listed and what is told of it, where only a mode differs
 must-moded : (before w : Core) (h : HandleNumber) (new : Holdings) (n : ℕ) → MustList before w (with_tables w new) n

@@ -1,14 +1,11 @@
 -- Loads of cells that can end, and what is true once they do.
 use Rattle.pagable_tables.proofs.Words.{◌≡◌, ℕ, ◌<◌, ◌==◌, Bool, true, false, List, [], ◌∷◌, refl, ap, sym, ◌∙◌, subst, arith, inl, inr, Option, Some, None, ◌⊎◌, ◌≤◌, ◌+◌, not, nat_le}
-use Rattle.pagable_tables.proofs.Words.{vec_capacity, nat_tests, Error, ArcRef, HandleNumber, LoadNumber, NodeNumber, HandleRow, Owner, if_there, or_else, is_owner, is_owned_by, Core, OpenLoad}
-use Rattle.pagable_tables.proofs.Words.{Places, of_cell, of_key, greatest, row_at, AreHandlesFull, earlier, refused_if, where_so, spent, load_fault, reference_fault, references_fault}
-use Rattle.pagable_tables.proofs.Words.{MayOwnLoad, root_fault, end_fault, is_owned_in, MayEnd, Handles, Tables, live, room, AreSound, IsNext, counts_at, refs_at, plain_of, Ending, IsReady}
+use Rattle.pagable_tables.proofs.Words.{vec_capacity, nat_tests, Error, ArcRef, HandleNumber, LoadNumber, NodeNumber, HandleRow, Owner, if_there, or_else, is_owner, is_owned_by, Core}
+use Rattle.pagable_tables.proofs.Words.{OpenLoad, Places, of_cell, of_key, greatest, row_at, AreHandlesFull, earlier, refused_if, where_so, spent, load_fault, reference_fault}
+use Rattle.pagable_tables.proofs.Words.{references_fault, MayOwnLoad, root_fault, end_fault, is_owned_in, MayEnd, Handles, Tables, live, room, AreSound, IsNext, counts_at, refs_at, plain_of}
+use Rattle.pagable_tables.proofs.Words.{Ending, IsReady}
 use Rattle.pagable_tables.specs.Core.{IsWhole}
-use Rattle.pagable_tables.proofs.Coming.{rows-told}
-use Rattle.pagable_tables.proofs.Worlds.{alike, owner-same}
-use Rattle.pagable_tables.proofs.keeps.Told.{alike-whole}
-use Rattle.pagable_tables.proofs.keeps.Placed.{whole-so}
-use Rattle.pagable_tables.proofs.keeps.EndCalls.{both-none}
+use Rattle.pagable_tables.proofs.{Coming.rows-told, Worlds.alike, Worlds.owner-same, keeps.Told.alike-whole, keeps.Placed.whole-so, keeps.EndCalls.both-none}
 
 typed-so : (a b : ℕ) → refused_if (not (a == b)) Error.WrongKind ≡ None → a ≡ b
 typed-so a b e = at (a == b) refl e

@@ -1,10 +1,9 @@
 -- A handle has gone and an entry may have come: which cells must be listed then, and what is told of it.
 use Rattle.pagable_tables.proofs.Words.{◌≡◌, ℕ, ◌+◌, ◌≤◌, ◌&&◌, Bool, true, false, not, if◌then◌else◌, refl, ap, sym, ◌∙◌, arith, inl, inr, Option, Some, ◌⊎◌, is_some, nat_lt, cases_Bool}
-use Rattle.pagable_tables.proofs.Words.{and_parts, nat_tests, sum_by-append, OptionalDataKey, NodeNumber, HandleRow, Owner, Mode, one, times, if_there, is_pin, is_share, is_shared, is_pinning}
-use Rattle.pagable_tables.proofs.Words.{pins, has_key, Core, Cell, left_rows, is_keyed, MustList, Counts, Holdings, live, counts_at, pins_in, cell_in, entry, is_listing, with_tables}
-use Rattle.pagable_tables.proofs.Words.{is_plain_pin, SoFar}
-use Rattle.pagable_tables.proofs.Left.{left-le, entries-none}
-use Rattle.pagable_tables.proofs.Forced.{keyed-cell}
+use Rattle.pagable_tables.proofs.Words.{and_parts, nat_tests, sum_by-append, OptionalDataKey, NodeNumber, HandleRow, Owner, Mode, one, times, if_there, is_pin, is_share, is_shared}
+use Rattle.pagable_tables.proofs.Words.{is_pinning, pins, has_key, Core, Cell, left_rows, is_keyed, MustList, Counts, Holdings, live, counts_at, pins_in, cell_in, entry, is_listing}
+use Rattle.pagable_tables.proofs.Words.{with_tables, is_plain_pin, SoFar}
+use Rattle.pagable_tables.proofs.{Left.left-le, Left.entries-none, Forced.keyed-cell}
 
 -- what a listing handle is: the last pin of a cell without a key
 pub listing-is : (c : Counts) (m : Mode) → is_listing c m ≡ true → (is_pinning m ≡ true) × (is_shared m ≡ false) × (c.pins ≡ 1) × (nat_lt 0 c.key ≡ false)

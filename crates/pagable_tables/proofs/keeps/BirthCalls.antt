@@ -1,14 +1,11 @@
 -- Calls by which a node comes, with a handle, keep the world whole.
-use Rattle.pagable_tables.proofs.Words.{◌≡◌, ℕ, suc, zero, ◌+◌, ◌<◌, ◌==◌, ◌||◌, Bool, true, false, not, if◌then◌else◌, List, [], ◌∷◌, Ok, Err, Option, Some, None, inl, inr, refl, ap, sym, subst}
-use Rattle.pagable_tables.proofs.Words.{◌∙◌, arith, ◌⊎◌, ◌≢◌, Result, is_some, nat_lt, nat_tests, OptionalDataKey, Error, ArcRef, HandleNumber, HandleRow, Owner, Mode, Among, if_there, is_in}
-use Rattle.pagable_tables.proofs.Words.{or_else, type_of, updated, held, sharing, is_shared, is_owner, is_owned_by, fits_mode, find_row, has_key, owner_value, Core, Cell, greatest, row_at}
-use Rattle.pagable_tables.proofs.Words.{type_at, references_fault, reference_fault, row_fault, refused_if, is_type, row_of, moved, is_named_by, with_handle, with_node, next_node, BirthCall}
-use Rattle.pagable_tables.proofs.Words.{AwayBirthCall, IsWhole, ArePlaced, MayHold}
-use Rattle.pagable_tables.proofs.Worlds.{owner-same}
-use Rattle.pagable_tables.proofs.keeps.Rows.{found-among, once}
-use Rattle.pagable_tables.proofs.keeps.Told.{roomy, settles, alike-whole}
-use Rattle.pagable_tables.proofs.keeps.Comes.{grown-whole, keyed_in, not-list}
-use Rattle.pagable_tables.proofs.keeps.Moved.{moved-to-value}
+use Rattle.pagable_tables.proofs.Words.{◌≡◌, ℕ, suc, zero, ◌+◌, ◌<◌, ◌==◌, ◌||◌, Bool, true, false, not, if◌then◌else◌, List, [], ◌∷◌, Ok, Err, Option, Some, None, inl, inr, refl, ap, sym}
+use Rattle.pagable_tables.proofs.Words.{subst, ◌∙◌, arith, ◌⊎◌, ◌≢◌, Result, is_some, nat_lt, nat_tests, OptionalDataKey, Error, ArcRef, HandleNumber, HandleRow, Owner, Mode, Among}
+use Rattle.pagable_tables.proofs.Words.{if_there, is_in, or_else, type_of, updated, held, sharing, is_shared, is_owner, is_owned_by, fits_mode, find_row, has_key, owner_value, Core, Cell}
+use Rattle.pagable_tables.proofs.Words.{greatest, row_at, type_at, references_fault, reference_fault, row_fault, refused_if, is_type, row_of, moved, is_named_by, with_handle, with_node}
+use Rattle.pagable_tables.proofs.Words.{next_node, BirthCall, AwayBirthCall, IsWhole, ArePlaced, MayHold}
+use Rattle.pagable_tables.proofs.{Worlds.owner-same, keeps.Rows.found-among, keeps.Rows.once, keeps.Told.roomy, keeps.Told.settles, keeps.Told.alike-whole, keeps.Comes.grown-whole}
+use Rattle.pagable_tables.proofs.{keeps.Comes.keyed_in, keeps.Comes.not-list, keeps.Moved.moved-to-value}
 
 -- ---- references that are good
 

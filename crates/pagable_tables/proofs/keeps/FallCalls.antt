@@ -1,15 +1,10 @@
 -- Calls by which handles or values fall keep the world whole.
-use Rattle.pagable_tables.proofs.Words.{◌≡◌, ℕ, ◌<◌, ◌==◌, Bool, true, false, Option, Some, None, inl, inr, refl, ap, sym, ◌∙◌, if◌then◌else◌, arith, Result, is_some, nat_tests, OptionalDataKey}
-use Rattle.pagable_tables.proofs.Words.{Error, HandleNumber, NodeNumber, Owner, Mode, if_there, is_shared, sharing, Core, Cell, only_handle, nobody, with_key, ReleaseCall, UnpinCall, SetKeyCall}
-use Rattle.pagable_tables.proofs.Words.{IsWhole, ArePlaced}
-use Rattle.pagable_tables.proofs.keeps.Rows.{found-among}
-use Rattle.pagable_tables.proofs.keeps.Told.{roomy-whole, alike-whole, may-own}
-use Rattle.pagable_tables.proofs.keeps.GoingOn.{GoesOn, stays-on}
-use Rattle.pagable_tables.proofs.keeps.Turned.{moded-whole, moded-on}
-use Rattle.pagable_tables.proofs.keeps.Comes.{keyed_in, type_in, unshared-node}
-use Rattle.pagable_tables.proofs.keeps.Fallen.{may-fall}
-use Rattle.pagable_tables.proofs.keeps.Opened.{opened, alike-opened, falls-opened}
-use Rattle.pagable_tables.proofs.keeps.HandleCalls.{loose-unshared}
+use Rattle.pagable_tables.proofs.Words.{◌≡◌, ℕ, ◌<◌, ◌==◌, Bool, true, false, Option, Some, None, inl, inr, refl, ap, sym, ◌∙◌, if◌then◌else◌, arith, Result, is_some, nat_tests}
+use Rattle.pagable_tables.proofs.Words.{OptionalDataKey, Error, HandleNumber, NodeNumber, Owner, Mode, if_there, is_shared, sharing, Core, Cell, only_handle, nobody, with_key, ReleaseCall}
+use Rattle.pagable_tables.proofs.Words.{UnpinCall, SetKeyCall, IsWhole, ArePlaced}
+use Rattle.pagable_tables.proofs.{keeps.Rows.found-among, keeps.Told.roomy-whole, keeps.Told.alike-whole, keeps.Told.may-own, keeps.GoingOn.GoesOn, keeps.GoingOn.stays-on}
+use Rattle.pagable_tables.proofs.{keeps.Turned.moded-whole, keeps.Turned.moded-on, keeps.Comes.keyed_in, keeps.Comes.type_in, keeps.Comes.unshared-node, keeps.Fallen.may-fall}
+use Rattle.pagable_tables.proofs.{keeps.Opened.opened, keeps.Opened.alike-opened, keeps.Opened.falls-opened, keeps.HandleCalls.loose-unshared}
 
 pub release-whole : {w w' : Core} (me : Owner) (h : HandleNumber) (r : Result (Unit {0}) Error) → IsWhole (opened w) → ReleaseCall w me h r w' → ArePlaced (opened w') → IsWhole (opened w')
 release-whole {w} me h r whole call placed = elim call.does [

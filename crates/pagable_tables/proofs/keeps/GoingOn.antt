@@ -1,7 +1,6 @@
 -- What a call makes directly leaves nodes there, and those that aren't shared unshared.
 use Rattle.pagable_tables.proofs.Words.{◌≡◌, ℕ, ◌+◌, ◌<◌, ◌≤◌, true, ◌∙◌, inl, inr, arith, is_some, nat_lt, nat_tests, held, pins, sharing, Core, HandlesAreWhole, IsWhole}
-use Rattle.pagable_tables.proofs.Fitting.{pins-le-held}
-use Rattle.pagable_tables.proofs.keeps.Told.{roomy}
+use Rattle.pagable_tables.proofs.{Fitting.pins-le-held, keeps.Told.roomy}
 
 -- no node goes, and none has fewer handles that aren't Shared
 pub record GoesOn (before u : Core) : Type 0 where

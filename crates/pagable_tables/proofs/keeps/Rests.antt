@@ -1,10 +1,8 @@
 -- What is left of rows and list as handles go, and the entries that come.
-use Rattle.pagable_tables.proofs.Words.{◌≡◌, ℕ, suc, zero, ◌+◌, ◌<◌, ◌≤◌, ◌==◌, ◌&&◌, Bool, true, false, not, List, [], ◌∷◌, ◌++◌, length, filter, if◌then◌else◌, Option, Some, None, inl, inr}
-use Rattle.pagable_tables.proofs.Words.{refl, ap, sym, subst, ◌∙◌, arith, map, nat_tests, append_assoc, sum_by-cons, sum_by-le-sum_by, HandleNumber, HandleRow, Owner, Mode, one, Among, times}
-use Rattle.pagable_tables.proofs.Words.{find_row, is_handle, is_owned_by, AreNewEntries, IsWithin, IsHandleBefore}
-use Rattle.std.specs.List.{AllPairs}
-use Rattle.pagable_tables.proofs.Alive.{none-found}
-use Rattle.pagable_tables.proofs.keeps.Rows.{among-both, among-one, at-most-sum, found-among, once, ordered-push}
+use Rattle.pagable_tables.proofs.Words.{◌≡◌, ℕ, suc, zero, ◌+◌, ◌<◌, ◌≤◌, ◌==◌, ◌&&◌, Bool, true, false, not, List, [], ◌∷◌, ◌++◌, length, filter, if◌then◌else◌, Option, Some, None, inl}
+use Rattle.pagable_tables.proofs.Words.{inr, refl, ap, sym, subst, ◌∙◌, arith, map, nat_tests, append_assoc, sum_by-cons, sum_by-le-sum_by, HandleNumber, HandleRow, Owner, Mode, one, Among}
+use Rattle.pagable_tables.proofs.Words.{times, find_row, is_handle, is_owned_by, AreNewEntries, IsWithin, IsHandleBefore, AllPairs}
+use Rattle.pagable_tables.proofs.{Alive.none-found, keeps.Rows.among-both, keeps.Rows.among-one, keeps.Rows.at-most-sum, keeps.Rows.found-among, keeps.Rows.once, keeps.Rows.ordered-push}
 
 -- a row that stands there is found
 pub found-so : (q : ℕ) (rows : List HandleRow) (row : HandleRow) → AllPairs IsHandleBefore rows → Among rows row → row.number.0 ≡ q → find_row q rows ≡ Some row

@@ -1,8 +1,7 @@
 -- A world that is told alike stays whole, while rows and list are in their places.
 use Rattle.pagable_tables.proofs.Words.{◌≡◌, ℕ, ◌==◌, ◌&&◌, Bool, true, length, Option, Some, None, refl, ap, sym, subst, ◌∙◌, arith, ◌⊎◌, is_some, nat_lt, OptionalDataKey, HandleNumber}
 use Rattle.pagable_tables.proofs.Words.{NodeNumber, Owner, Among, SameAt, times, if_there, held, sharing, has_key, find_row, is_handle, is_owned_by, Core, Cell, Last, Alike, IsHandleBefore}
-use Rattle.pagable_tables.proofs.Words.{HandlesAreWhole, OwnersAreThere, LoadsAreWhole, MayOwnLoad, IsRootWhole, IsEntryWhole, IsWhole, ArePlaced}
-use Rattle.std.specs.List.{AllPairs}
+use Rattle.pagable_tables.proofs.Words.{HandlesAreWhole, OwnersAreThere, LoadsAreWhole, MayOwnLoad, IsRootWhole, IsEntryWhole, IsWhole, ArePlaced, AllPairs}
 
 -- the world with room for just what is there
 abbrev pub roomy : Core → Core
