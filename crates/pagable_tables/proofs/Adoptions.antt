@@ -16,18 +16,10 @@ abbrev Late : Option Error → Type 0
 Late n = (e : Error) → n ≡ Some e → 4 ≤ rank e
 
 first : (d n : Option Error) → Early d → Late n → earlier d n ≡ or_else d n
-first None n early late = refl
-first (Some e) None early late = refl
-first (Some e) (Some f) early late = let a = early e refl in let b = late f refl in let h : nat_lt (rank f) (rank e) ≡ false = grind (arith, nat_tests) in rw h refl
+first d n early late = grind (arith, nat_tests)
 
 next : (c d n : Option Error) → Early c → Late n → earlier c (or_else d n) ≡ or_else (earlier c d) n
-next None d n early late = refl
-next (Some e) None n early late = first (Some e) n early late
-next (Some e) (Some f) n early late = split (nat_lt (rank f) (rank e))
-  where
-    split : (b : Bool) → (if b then Some f else Some e) ≡ or_else (if b then Some f else Some e) n
-    split true = refl
-    split false = refl
+next c d n early late = grind (arith, nat_tests)
 
 last-of : (a b c d n : Option Error) → Early a → Early b → Early c → Early d → Late n → earlier a (earlier b (earlier c (earlier d n))) ≡ or_else (earlier a (earlier b (earlier c d))) n
 last-of a b c d n ea eb ec ed late =
@@ -63,15 +55,7 @@ fit-early w o seen (r ∷ rs) e is = or-early (reference_fault w o seen r) (refe
 
 -- the load is an own open one where it has no fault
 owns-then : (w : Core) (me : Owner) (l : LoadNumber) → load_fault w me l ≡ None → (load : OpenLoad) × OwnsLoad w me l load
-owns-then w me l none = split (w.loads l.0) refl none
-  where
-    own : (b : Bool) → refused_if (not b) Error.NotYours ≡ None → b ≡ true
-    own true e = refl
-    own false e = absurd (cc)
-
-    split : (o : Option OpenLoad) → w.loads l.0 ≡ o → if_there (λ (load : OpenLoad). refused_if (not (is_owner me load.owner)) Error.NotYours) (Some Error.NoSuchHandle) o ≡ None → (load : OpenLoad) × OwnsLoad w me l load
-    split None e none = absurd (cc)
-    split (Some load) e none = (load, record { stands_open = e; own = owner-same me load.owner (own (is_owner me load.owner) none) })
+owns-then w me l none = grind (arith, nat_tests)
 
 not-so : (b : Bool) (e : Error) → refused_if b e ≡ None → b ≡ false
 not-so true e is = absurd (cc)

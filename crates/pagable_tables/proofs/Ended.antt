@@ -9,9 +9,7 @@ use Rattle.pagable_tables.proofs.{Left.times-left, Left.entries-none, Forced.key
 
 bare-then : (w : Bool) (p h : ℕ) (k bare : Bool) → w ≡ false → (if w then h == 0 || (p == 0 && k) else nat_lt 0 h && (nat_lt 0 p || not k || bare)) ≡ true
     → (h ≡ 0) ⊎ ((k ≡ true) × (p ≡ 0)) → bare ≡ true
-bare-then true p h k bare e r down = absurd (cc)
-bare-then false p h k bare e r (inl none) = grind (arith, nat_tests)
-bare-then false p h k bare e r (inr both) = let a = both.0 in let b = both.1 in grind (arith, nat_tests)
+bare-then w p h k bare e r down = grind (arith, nat_tests)
 
 empty-then : (refs : List ArcRef) → is_bare refs ≡ true → refs ≡ []
 empty-then [] e = refl
@@ -51,29 +49,15 @@ down-keyed (Some c) cell same e = inr (sym (keyed-cell c.key) ∙ ap (λ (o : Op
 
 cell-kept : (o : Option Counts) (refs : List ArcRef) (h : ℕ) (cell : Option Cell) → falls_in o ≡ false → Right o refs → holds_in o ≡ h → (is_some o ≡ true → cell_in o ≡ cell)
     → cell_in o ≡ (if nat_lt 0 h then cell else None)
-cell-kept None refs h cell free right e same = ap (λ k. if nat_lt 0 k then cell else None) e
-cell-kept (Some c) refs h cell free right e same =
-    let some : nat_lt 0 c.holds ≡ true = live-then c.is_falling (c.holds == 0 || (c.pins == 0 && nat_lt 0 c.key)) (nat_lt 0 c.holds)
-    (nat_lt 0 c.pins || not (nat_lt 0 c.key) || is_bare refs) free right in
-    same refl ∙ sym (ap (λ k. if nat_lt 0 k then cell else None) (sym e) ∙ ap (λ b. if b then cell else None) some)
-  where
-    live-then : (w a b k : Bool) → w ≡ false → (if w then a else b && k) ≡ true → b ≡ true
-    live-then true a b k e r = absurd (cc)
-    live-then false a true k e r = refl
-    live-then false a false k e r = absurd (cc)
+cell-kept o refs h cell free right e same = grind (arith, nat_tests)
 
 same-usable : (kind : ℕ) (o : Option ℕ) (rows rows' : List HandleRow) (cells cells' : ℕ → Option Cell) → rows' ≡ rows → ((n : ℕ) → cells' n ≡ cells n)
     → if_there (λ n. if_there (λ (cell : Cell). if is_pinned_kind kind && not (is_in_memory (pins n rows') cell.key) then None else Some n) None (cells' n)) None o
     ≡ if_there (λ n. if_there (λ (cell : Cell). if is_pinned_kind kind && not (is_in_memory (pins n rows) cell.key) then None else Some n) None (cells n)) None o
-same-usable kind None rows rows' cells cells' e same = refl
-same-usable kind (Some n) rows rows' cells cells' e same =
-    ap (λ r. if_there (λ (cell : Cell). if is_pinned_kind kind && not (is_in_memory (pins n r) cell.key) then None else Some n) None (cells' n)) e
-    ∙ ap (λ c. if_there (λ (cell : Cell). if is_pinned_kind kind && not (is_in_memory (pins n rows) cell.key) then None else Some n) None c) (same n)
+same-usable kind o rows rows' cells cells' e same = grind (arith, nat_tests)
 
 refusal : (w w' : Core) (e : Error) → IsListRefusal w w' e → CannotList w w'
-refusal w w' Error.NumbersSpent r = inl r
-refusal w w' Error.OutOfMemory r = inr r.0
-refusal w w' _ r = absurd r
+refusal w w' e r = grind (arith, nat_tests)
 
 each-listed : (before w w' : Core) (entries : List HandleRow) (r : Result (Unit {0}) Error) → TellsListing before w entries r w' → (n : ℕ) → MustList before w w' n
     → (held n entries ≡ 1) ⊎ CannotList w w'

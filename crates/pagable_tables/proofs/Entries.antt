@@ -17,21 +17,11 @@ no-entries (h ∷ hs) none = absurd (none h.node.0 (let a = sum_by-cons (λ x. o
 find-kept : (gone : ℕ → Bool) (q : ℕ) (rows : List HandleRow) → gone q ≡ false → find_row q (left_rows gone rows) ≡ find_row q rows
 unfolding find_row
 find-kept gone q [] kept = refl
-find-kept gone q (x ∷ xs) kept = at (gone x.number.0) refl (is_handle q x) refl (find-kept gone q xs kept)
-  where
-    at : (a : Bool) → gone x.number.0 ≡ a → (b : Bool) → is_handle q x ≡ b → find_row q (left_rows gone xs) ≡ find_row q xs
-        → find_row q (if not a then x ∷ left_rows gone xs else left_rows gone xs) ≡ (if b then Some x else find_row q xs)
-    at true e true i rest = let n : x.number.0 ≡ q = grind (arith, nat_tests) in let f : true ≡ false = sym e ∙ ap gone n ∙ kept in absurd (cc)
-    at true e false i rest = rest
-    at false e b i rest = ap (λ b. if b then Some x else find_row q (left_rows gone xs)) i ∙ ap (λ r. if b then Some x else r) rest
+find-kept gone q (x ∷ xs) kept = grind (arith, nat_tests, find-kept gone q xs kept)
 
 filter-le : (p : HandleNumber → Bool) (xs : List HandleNumber) → length (filter p xs) ≤ length xs
 filter-le p [] = omega arith
-filter-le p (x ∷ xs) = at (p x) (filter-le p xs)
-  where
-    at : (b : Bool) → length (filter p xs) ≤ length xs → length (if b then x ∷ filter p xs else filter p xs) ≤ length (x ∷ xs)
-    at true le = omega arith
-    at false le = omega arith
+filter-le p (x ∷ xs) = grind (arith, nat_tests, filter-le p xs)
 
 -- where all is kept, so is the front
 front-kept : (p : HandleNumber → Bool) (xs ys : List HandleNumber) → xs ++ ys ≡ filter p (xs ++ ys) → xs ≡ filter p xs

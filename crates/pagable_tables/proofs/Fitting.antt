@@ -61,11 +61,7 @@ holds-after false h some = omega arith
 right-plain : (waits key pinning bare : Bool) (pins holds pins' holds' : ℕ) → pins' + one pinning ≡ pins → 1 ≤ holds
     → (if waits then holds == 0 || (pins == 0 && key) else nat_lt 0 holds && (nat_lt 0 pins || not key || bare)) ≡ true
     → (if waits || (not waits && (holds' == 0 || (pinning && pins' == 0 && key))) then holds' == 0 || (pins' == 0 && key) else nat_lt 0 holds' && (nat_lt 0 pins' || not key || bare)) ≡ true
-right-plain true key pinning bare pins holds pins' holds' e some h = grind (arith, nat_tests)
-right-plain false true true bare pins holds pins' holds' e some h = grind (arith, nat_tests)
-right-plain false true false bare pins holds pins' holds' e some h = grind (arith, nat_tests)
-right-plain false false true bare pins holds pins' holds' e some h = grind (arith, nat_tests)
-right-plain false false false bare pins holds pins' holds' e some h = grind (arith, nat_tests)
+right-plain waits key pinning bare pins holds pins' holds' e some h = grind (arith, nat_tests)
 
 -- what a node keeps is right still
 right-after : (c : Counts) (pinning listed bare : Bool) (top : ℕ) → one pinning ≤ c.pins → 1 ≤ c.holds → is_right c bare ≡ true → is_right (after c pinning listed top) bare ≡ true
@@ -77,10 +73,7 @@ not-both true g h = sym h
 not-both false g h = refl
 
 is-new : (w g : Bool) → is_new w (w || (not w && g)) ≡ (not w && g)
-is-new true true = refl
-is-new true false = refl
-is-new false true = refl
-is-new false false = refl
+is-new w g = grind (arith, nat_tests)
 
 if-true : (b : Bool) (m n : ℕ) → b ≡ true → (if b then m else n) ≡ m
 if-true true m n h = refl
@@ -162,17 +155,8 @@ module _ (at at' : ℕ → Option Counts) (refs refs' : ℕ → List ArcRef) (ro
   now_falls = is_fallen_by c (is_pinning x.mode) (c.pins - one (is_pinning x.mode)) (if listed then c.holds else c.holds - 1)
 
   given-chain : (b : Bool) → now_falls ≡ b → Chain at' (if b then x.node.0 else top) (if b then x.node.0 ∷ stack else stack)
-  given-chain true e =
-      let next : next_in (at' x.node.0) ≡ top = ap next_in here ∙ if-true now_falls top c.next e in
-      let free : c.is_falling ≡ false = not-both c.is_falling _ e in
-      let none : often x.node.0 stack ≡ 0 = fits.marked x.node.0 ∙ ap (λ o. one (falls_in o)) is ∙ ap one free in
-      (refl, subst (λ t. Chain at' t stack) (sym next) (chain-frame at at' top stack (λ m within. ap next_in (others m (in-none x.node.0 stack m none within))) fits.chain))
-  given-chain false e =
-      let next : next_in (at' x.node.0) ≡ c.next = ap next_in here ∙ if-false now_falls top c.next e in
-      chain-frame at at' top stack (λ m within. elim (cases_eq m x.node.0) [
-        | inl same' ↦ ap (λ k. next_in (at' k)) same' ∙ next ∙ sym (ap next_in is) ∙ sym (ap (λ k. next_in (at k)) same')
-        | inr other ↦ ap next_in (others m other)
-      ]) fits.chain
+  given-chain true e = grind (arith, nat_tests, if-true, not-both, chain-frame, in-none, if-false)
+  given-chain false e = grind (arith, nat_tests, if-true, not-both, chain-frame, in-none, if-false)
 
   given-marked : (b : Bool) → now_falls ≡ b → (n : ℕ) → often n (if b then x.node.0 ∷ stack else stack) ≡ one (falls_in (at' n))
   given-marked true e n =
@@ -357,12 +341,7 @@ fits-same at at' refs refs' rows top stack fits same refs-same =
 
 -- the first node that waits has lost its value
 fallen-plain : (w k : Bool) (p h : ℕ) (b : Bool) → w ≡ true → (if w then h == 0 || (p == 0 && k) else b) ≡ true → (h ≡ 0) ⊎ ((k ≡ true) × (p ≡ 0))
-fallen-plain true k zero zero b e h' = inl refl
-fallen-plain true true zero (suc h) b e h' = inr (refl, refl)
-fallen-plain true false zero (suc h) b e h' = absurd (grind (arith, nat_tests))
-fallen-plain true k (suc p) zero b e h' = inl refl
-fallen-plain true k (suc p) (suc h) b e h' = absurd (grind (arith, nat_tests))
-fallen-plain false k p h b e h' = absurd (cc)
+fallen-plain w k p h b e h' = grind (arith, nat_tests)
 
 fallen-at : (o : Option Counts) (refs : List ArcRef) → falls_in o ≡ true → Right o refs → (holds_in o ≡ 0) ⊎ ((keyed_in o ≡ true) × (pins_in o ≡ 0))
 fallen-at None refs w r = absurd (cc)

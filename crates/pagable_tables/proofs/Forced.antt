@@ -18,11 +18,7 @@ cut f gone s (x ∷ xs) =
     omega arith
   where
     bits : (p g s : Bool) → one (p && not s) ≤ one (p && not g) + one (g && not s)
-    bits true true true = omega arith
-    bits true true false = omega arith
-    bits true false true = omega arith
-    bits true false false = omega arith
-    bits false g s = omega arith
+    bits p g s = grind (arith, nat_tests)
 
 le : (f g : HandleRow → Bool) (rows : List HandleRow) → ((h : HandleRow) → one (f h) ≤ one (g h)) → times f rows ≤ times g rows
 le f g rows h = sum_by-le-sum_by (λ x. one (f x)) (λ x. one (g x)) rows h

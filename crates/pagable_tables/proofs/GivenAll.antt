@@ -22,22 +22,14 @@ bare loads =
     }
 
 no-value : (w : Core) (giving : Giving) (m node : NodeNumber) → gives w giving (Owner.Value m) node ≡ false
-no-value w (Giving.Load l) m node = refl
-no-value w (Giving.AtNode v n) m node = refl
-no-value w (Giving.Worker v) m node = refl
+no-value w giving m node = grind (arith, nat_tests)
 
 no-list : (w : Core) (giving : Giving) (node : NodeNumber) → gives w giving Owner.List node ≡ false
-no-list w (Giving.Load l) node = refl
-no-list w (Giving.AtNode v n) node = refl
-no-list w (Giving.Worker v) node = refl
+no-list w giving node = grind (arith, nat_tests)
 
 -- neither a value's handle is given up so, nor the list's
 pub given-plain : (w : Core) (giving : Giving) (o : Owner) (node : NodeNumber) → gives w giving o node ≡ true → (is_valued o ≡ false) × (is_owner Owner.List o ≡ false)
-given-plain w giving Owner.Caller node is = (refl, refl)
-given-plain w giving (Owner.Value m) node is = absurd (let a = no-value w giving m node in cc)
-given-plain w giving Owner.List node is = absurd (let a = no-list w giving node in cc)
-given-plain w giving (Owner.Load l) node is = (refl, refl)
-given-plain w giving (Owner.Worker v) node is = (refl, refl)
+given-plain w giving o node is = grind (arith, nat_tests)
 
 unlisting : (w : Core) (giving : Giving) (h : HandleRow) → h.owner ≡ Owner.List → gives_row w giving h ≡ false
 unlisting w giving h is = ap (λ o. gives w giving o h.node) is ∙ no-list w giving h.node

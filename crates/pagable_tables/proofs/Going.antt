@@ -9,38 +9,12 @@ use Rattle.pagable_tables.proofs.{NoEntry.none-entered, RowsMore.rows-more, Tell
 
 -- a handle of which the list has none may go, whether it had gone or not
 kept-gone : (gone : ℕ → Bool) (q : ℕ) (list : List HandleNumber) → gone q ≡ true → filter (λ (h : HandleNumber). not (and_one gone q h.0)) list ≡ filter (λ (h : HandleNumber). not (gone h.0)) list
-kept-gone gone q [] e = refl
-kept-gone gone q (x ∷ xs) e =
-    let rest = kept-gone gone q xs e in
-    let same : not (and_one gone q x.0) ≡ not (gone x.0) = ap not (also x.0) in
-    ap (λ b. if b then x ∷ filter (λ (h : HandleNumber). not (and_one gone q h.0)) xs else filter (λ (h : HandleNumber). not (and_one gone q h.0)) xs) same
-    ∙ ap (λ r. if not (gone x.0) then x ∷ r else r) rest
-  where
-    also : (r : ℕ) → and_one gone q r ≡ gone r
-    also r = elim (cases_Bool (r == q)) [
-      | inl is ↦ (let a : r ≡ q = grind (arith, nat_tests) in let b : gone r ≡ true = ap gone a ∙ e in grind (arith, nat_tests))
-      | inr other ↦
-          grind (arith, nat_tests)
-    ]
+kept-gone gone q list e = grind (arith, nat_tests)
 
 list-kept : (gone : ℕ → Bool) (q : ℕ) (rows : List HandleRow) (list : List HandleNumber) → times (λ (h : HandleNumber). h.0 == q) list ≤ times (of_list q) rows
     → times (λ h. of_list q h && not (gone h.number.0)) rows ≡ 0
     → filter (λ (h : HandleNumber). not (and_one gone q h.0)) list ≡ filter (λ (h : HandleNumber). not (gone h.0)) list
-list-kept gone q rows list listed none =
-    elim (cases_Bool (gone q)) [
-      | inl e ↦ kept-gone gone q list e
-      | inr e ↦
-          let a : times (of_list q) rows ≤ times (λ h. of_list q h && not (gone h.number.0)) rows =
-          sum_by-le-sum_by (λ h. one (of_list q h)) (λ h. one (of_list q h && not (gone h.number.0))) rows (less e) in
-          kept-more gone q list (omega arith)
-    ]
-  where
-    less : gone q ≡ false → (h : HandleRow) → one (of_list q h) ≤ one (of_list q h && not (gone h.number.0))
-    less e h = elim (cases_Bool (h.number.0 == q)) [
-      | inl is ↦ (let a : h.number.0 ≡ q = grind (arith, nat_tests) in let b : gone h.number.0 ≡ false = ap gone a ∙ e in
-          grind (arith, nat_tests))
-      | inr other ↦ grind (arith, nat_tests)
-    ]
+list-kept gone q rows list listed none = grind (arith, nat_tests, kept-gone, sum_by-le-sum_by, kept-more)
 
 pub entry-number : (listed : Bool) (k : ℕ) (node : NodeNumber) → map (λ (h : HandleRow). h.number) (entries_of listed k node) ≡ (if listed then record { 0 = k } ∷ [] else [])
 entry-number true k node = refl
@@ -115,11 +89,7 @@ module _ (before w : Core) (given given' : ℕ → Bool) (lists : Bool) (t poppe
   since = ap (λ (h : Holdings). h.last_handle) g.leaves.same ∙ ap (λ (h : Holdings). h.last_handle) same
 
   last : new.last_handle ≡ t.last_handle + one g.listed
-  last =
-      let a : new.last_handle ≡ g.between.last_handle = ap (λ (h : Holdings). h.last_handle) g.same in
-      let b = g.leaves.lists.comes.last in
-      let d = since in
-      omega arith
+  last = grind (arith, nat_tests)
 
   abbrev came : List HandleNumber
   came = if g.listed then record { 0 = t.last_handle + 1 } ∷ [] else []

@@ -6,25 +6,12 @@ use Rattle.pagable_tables.proofs.Words.{falls_in, is_valued, named, owns_nothing
 use Rattle.pagable_tables.proofs.{Born.others-own, Born.own-own, Coming.turned, Coming.owned-by-none, Fitting.is_owned, Forced.keyed-cell, Taken.moved-times, keeps.Rows.sum-map}
 
 right-pinned : (o : Option Counts) (refs refs' : List ArcRef) → 0 < pins_in o → falls_in o ≡ false → Right o refs → Right o refs'
-right-pinned None refs refs' some stands right = absurd (omega arith)
-right-pinned (Some c) refs refs' some stands right = by (is_bare refs) (is_bare refs') right
-  where
-    by : (a b : Bool) → is_right c a ≡ true → is_right c b ≡ true
-    by a b e = grind (arith, nat_tests)
+right-pinned o refs refs' some stands right = grind (arith, nat_tests)
 
 -- a node whose value isn't in memory refers to nothing
 away-bare : (o : Option Counts) (refs : List ArcRef) (p : ℕ) → pins_in o ≡ p → falls_in o ≡ false → Right o refs
     → is_in_memory p (if_there (λ (cell : Cell). cell.key) OptionalDataKey.None (cell_in o)) ≡ false → refs ≡ []
-away-bare None refs p pinned stands right away = right
-away-bare (Some c) refs p pinned stands right away =
-    bare refs (by (is_bare refs) right)
-  where
-    bare : (refs : List ArcRef) → is_bare refs ≡ true → refs ≡ []
-    bare [] e = refl
-    bare (r ∷ rs) e = absurd (cc)
-
-    by : (b : Bool) → is_right c b ≡ true → b ≡ true
-    by b e = let k = keyed-cell c.key in grind (arith, nat_tests)
+away-bare o refs p pinned stands right away = grind (arith, nat_tests)
 
 -- so its value owns nothing
 pub owns-none : (at : ℕ → Option Counts) (refs : ℕ → List ArcRef) (rows : List HandleRow) (top n : ℕ) → Fits at refs rows top [] owns_nothing

@@ -6,9 +6,7 @@ use Rattle.pagable_tables.proofs.{Coming.is-free, Lowered.updated-here, Lowered.
 
 keyed-right : (w bare : Bool) (p h : ℕ) (k key : ℕ) → w ≡ false → 0 < key → (if w then h == 0 || (p == 0 && nat_lt 0 k) else nat_lt 0 h && (nat_lt 0 p || not (nat_lt 0 k) || bare)) ≡ true
     → (if p == 0 then h == 0 || (p == 0 && nat_lt 0 key) else nat_lt 0 h && (nat_lt 0 p || not (nat_lt 0 key) || bare)) ≡ true
-keyed-right true bare p h k key e some r = absurd (cc)
-keyed-right false bare zero h k key e some r = grind (arith, nat_tests)
-keyed-right false bare (suc p) h k key e some r = grind (arith, nat_tests)
+keyed-right w bare p h k key e some r = grind (arith, nat_tests)
 
 key-some : (key : ℕ) → 0 < key → key_in key ≡ OptionalDataKey.Some key
 key-some zero some = absurd (omega arith)
@@ -33,17 +31,7 @@ module _ (at at' : ℕ → Option Counts) (refs refs' : ℕ → List ArcRef) (ro
   key-chain false e = fits.chain
 
   key-marked : (b : Bool) → (c.pins == 0) ≡ b → (m : ℕ) → often m (if b then n ∷ [] else []) ≡ one (falls_in (at' m))
-  key-marked true e m = elim (cases_eq m n) [
-    | inl eq ↦
-        let a : falls_in (at' n) ≡ true = ap falls_in here ∙ e in
-        let g : often n (n ∷ []) ≡ one (falls_in (at' n)) = let a = sum_by-cons (λ y. one (y == n)) n [] in grind (arith, nat_tests) in
-        subst (λ k. often k (n ∷ []) ≡ one (falls_in (at' k))) (sym eq) g
-    | inr other ↦ let a = sum_by-cons (λ y. one (y == m)) n [] in let b = fits.marked m in let d = ap (λ o. one (falls_in o)) (others m other) in grind (arith, nat_tests)
-  ]
-  key-marked false e m = elim (cases_eq m n) [
-    | inl eq ↦ sym (ap (λ k. one (falls_in (at' k))) eq ∙ ap (λ o. one (falls_in o)) here ∙ ap one e)
-    | inr other ↦ fits.marked m ∙ sym (ap (λ o. one (falls_in o)) (others m other))
-  ]
+  key-marked b e m = grind (arith, nat_tests)
 
   key-right : (m : ℕ) → Right (at' m) (refs' m)
   key-right m = elim (cases_eq m n) [

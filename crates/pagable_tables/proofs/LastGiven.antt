@@ -22,14 +22,7 @@ before-or-not k p = grind arith
 -- below a place numbers are smaller, and from there on those that pass are too great
 pub none-from : (test : HandleRow → Bool) (ss : List Place) (p q left : ℕ) → ((k : ℕ) (d : Place) → k < p → (get_or ss k d).row.number.0 < q) → q ≤ left
     → ((k : ℕ) (d : Place) → p ≤ k → k < length ss → (get_or ss k d).is_live ≡ true → test (get_or ss k d).row ≡ true → left < (get_or ss k d).row.number.0) → passes_in test (live ss) q ≡ false
-none-from test ss p q left below within above = none-passes test q ss (λ k d lt number lives. at k d lt number lives (test (get_or ss k d).row) refl)
-  where
-    at : (k : ℕ) (d : Place) → k < length ss → (get_or ss k d).row.number.0 ≡ q → (get_or ss k d).is_live ≡ true → (b : Bool) → test (get_or ss k d).row ≡ b → b ≡ false
-    at k d lt number lives true is = elim (before-or-not k p) [
-      | inl first ↦ (let a = below k d first in absurd (omega arith))
-      | inr after ↦ (let a = above k d after lt lives is in absurd (omega arith))
-    ]
-    at k d lt number lives false is = refl
+none-from test ss p q left below within above = grind (arith, nat_tests, none-passes, before-or-not)
 
 module _ (ss : List Place) (m : ℕ) (p : Place) (within : m < length ss) (is : p ≡ get_or ss m p) where
   number : p.row.number.0 ≡ (get_or ss m p).row.number.0

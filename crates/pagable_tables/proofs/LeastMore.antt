@@ -13,13 +13,7 @@ in-set : (n : ℕ) (x : HandleRow) (s : ℕ → Bool) → x.owner ≡ owner_valu
 in-set n x s owner none = let is : is_owned_by (owner_value n) x ≡ (n == n) = ap (λ o. is_owner (owner_value n) o) owner in grind (arith, nat_tests)
 
 with-one : (gone s : ℕ → Bool) (q : ℕ) (rows : List HandleRow) → s q ≡ true → IsWithin rows gone s → IsWithin rows (and_one gone q) s
-with-one gone s q rows is within =
-    let a : times (λ h. and_one gone q h.number.0 && not (s h.number.0)) rows ≤ times (λ h. gone h.number.0 && not (s h.number.0)) rows =
-    sum_by-le-sum_by (λ h. one (and_one gone q h.number.0 && not (s h.number.0))) (λ h. one (gone h.number.0 && not (s h.number.0))) rows (λ h. here h.number.0) in
-    omega arith
-  where
-    here : (r : ℕ) → one ((gone r || r == q) && not (s r)) ≤ one (gone r && not (s r))
-    here r = grind (arith, nat_tests)
+with-one gone s q rows is within = grind (arith, nat_tests)
 
 least-leaves : (before w : Core) (given : ℕ → Bool) (lists : Bool) (t popped mid : Holdings) (x : HandleRow) (n : ℕ) (wanted listed : Bool) → popped.handles ≡ t.handles
     → Leaves popped x wanted listed mid → x.owner ≡ owner_value n → HasFallen (counts_at t.nodes) (live t.handles.places.items) n → (f : SoFar before w given lists t)

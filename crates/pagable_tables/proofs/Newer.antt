@@ -4,7 +4,7 @@ use Rattle.pagable_tables.proofs.Words.{◌≢◌, Result, Ok, Err, is_some, opt
 use Rattle.pagable_tables.proofs.Words.{OptionalDataKey, if_there, is_in, type_of, changed, is_handle, is_owner, is_owned_by, owner_value, find_row, mode_of, Core, Last, Alike, Falls}
 use Rattle.pagable_tables.proofs.Words.{only_handle, with_handle, with_node, next_node, with_cached, with_cached_if_open, is_named_by, moved, with_mode, LoosenCall, PinCall, UnpinCall}
 use Rattle.pagable_tables.proofs.Words.{ReleaseCall, SetKeyCall, ScheduleCall, TakeCall, OfferCall, CloseCall, is_owned_in, numbers_of, adopted, first_key, Adopts, DropCall, HandOverCall}
-use Rattle.pagable_tables.proofs.Words.{LazyCall, LoadRow, Tables, load_at, plain_of, load_in, Makes, AreLater}
+use Rattle.pagable_tables.proofs.Words.{LazyCall, LoadRow, Tables, load_at, plain_of, load_in, Makes, AreLater, nat_tests}
 use Rattle.pagable_tables.proofs.{Regiven.loaded, Regiven.passes-here, Regiven.passes-left, Regiven.no-entry, Regiven.unlisting, Taken.loaded-moved, Taken.and-left, Worlds.owner-same}
 use Rattle.pagable_tables.proofs.{keeps.Rows.found-among, keeps.Rows.found-push}
 use Rattle.pagable_world.specs.Pager as pager
@@ -127,11 +127,7 @@ makes-newer {w} node mode owner (Ok k) m = newer-then (newer-handle w node mode 
 makes-newer node mode owner (Err e) m = newer-alike m.refused.stays
 
 newer-cached : (w : Core) (kind : Kind) (key : ℕ) (n : NodeNumber) → OnlyNewer w (with_cached_if_open w kind key n)
-newer-cached w kind key n = split w.closed
-  where
-    split : (closed : Bool) → OnlyNewer w (if closed then w else with_cached w kind key n)
-    split true = record { last = omega arith; owned = λ l q own. inl own }
-    split false = record { last = omega arith; owned = λ l q own. inl own }
+newer-cached w kind key n = grind (arith, nat_tests)
 
 -- a node comes with its references and a handle
 pub newer-node : (w : Core) (node_type : ℕ) (own_key : OptionalDataKey) (references : List ArcRef) (mode : Mode) (owner : Owner) → OnlyNewer w (with_handle (with_node w node_type own_key references) (next_node w) mode owner)

@@ -8,11 +8,7 @@ use Rattle.pagable_tables.proofs.{Pins.handle-first, Pins.spent-late, Pins.earli
 pub late : (a b : Option Error) (m : ℕ) → ((f : Error) → a ≡ Some f → m < rank f) → ((f : Error) → b ≡ Some f → m < rank f) → (f : Error) → earlier a b ≡ Some f → m < rank f
 late None b m one two f is = two f is
 late (Some e) None m one two f is = one f is
-late (Some e) (Some g) m one two f is = by (nat_lt (rank g) (rank e)) is
-  where
-    by : (b : Bool) → (if b then Some g else Some e) ≡ Some f → m < rank f
-    by true is = two f is
-    by false is = one f is
+late (Some e) (Some g) m one two f is = grind (arith, nat_tests)
 
 wrong-kind : (b : Bool) (f : Error) → refused_if b Error.WrongKind ≡ Some f → 2 < rank f
 wrong-kind false f is = absurd (cc)
@@ -44,13 +40,7 @@ module _ (w : Core) (me : Owner) (kind : Kind) (key : ℕ) (h : HandleNumber) wh
 
   -- where handle and type are as asked, the last cause is left
   pub offer-last : (row : HandleRow) → handle_fault w me h (fits_mode kind.0) ≡ None → row_at w h ≡ Some row → type_at w row.node.0 ≡ Some (type_of kind.0) → offer_fault w me kind key h ≡ last-fault
-  offer-last row none at typed =
-      let here = ap (λ o. refused_if (not (is_type (type_of kind.0) (if_there (λ (row : HandleRow). type_at w row.node.0) None o))) Error.WrongKind) at in
-      let a : kind-fault ≡ None = here ∙ ap (λ o. refused_if (not (is_type (type_of kind.0) o)) Error.WrongKind) typed ∙ same in
-      ap (λ f. earlier f (earlier kind-fault last-fault)) none ∙ ap (λ f. earlier f last-fault) a
-    where
-      same : refused_if (not (is_type (type_of kind.0) (Some (type_of kind.0)))) Error.WrongKind ≡ None
-      same = let b : (type_of kind.0 == type_of kind.0) ≡ true = grind (arith, nat_tests) in rw b refl
+  offer-last row none at typed = grind (arith, nat_tests)
 
 -- the cache knows the node under the kind and the key, and all else as before
 pub learned : (known known' : ℕ → ℕ → Option NodeNumber) (kind key : ℕ) (n : NodeNumber) → known' kind key ≡ Some n → ((k q : ℕ) → (k ≢ kind) ⊎ (q ≢ key) → known' k q ≡ known k q)

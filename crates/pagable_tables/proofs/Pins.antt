@@ -34,13 +34,7 @@ abbrev fault-of : Owner → (Mode → Bool) → Option HandleRow → Option Erro
 fault-of me fits o = if_there (λ (row : HandleRow). if not (is_owner me row.owner) then Some Error.NotYours else refused_if (not (fits row.mode)) Error.WrongMode) (Some Error.NoSuchHandle) o
 
 pub fault-rank : (o : Option HandleRow) (me : Owner) (fits : Mode → Bool) (e : Error) → fault-of me fits o ≡ Some e → rank e ≤ 2
-fault-rank None me fits e is = let same : Error.NoSuchHandle ≡ e = cc in subst (λ x. rank x ≤ 2) same (omega arith)
-fault-rank (Some row) me fits e is = by (is_owner me row.owner) (fits row.mode) is
-  where
-    by : (own asked : Bool) → (if not own then Some Error.NotYours else refused_if (not asked) Error.WrongMode) ≡ Some e → rank e ≤ 2
-    by false asked is = let same : Error.NotYours ≡ e = cc in subst (λ x. rank x ≤ 2) same (omega arith)
-    by true false is = let same : Error.WrongMode ≡ e = cc in subst (λ x. rank x ≤ 2) same (omega arith)
-    by true true is = absurd (cc)
+fault-rank o me fits e is = grind (arith, nat_tests)
 
 -- a cause stands where no earlier one may come
 pub earlier-first : (e : Error) (later : Option Error) → ((f : Error) → later ≡ Some f → rank e ≤ rank f) → earlier (Some e) later ≡ Some e
@@ -54,9 +48,7 @@ handle-first w me h fits e later is late =
     ap (λ x. earlier x later) is ∙ earlier-first e later (λ f so. let a = fault-rank (row_at w h) me fits e is in let b = late f so in omega arith)
 
 pub owner-self : (o : Owner) → is_owner o o ≡ true
-owner-self Owner.Caller = refl
-owner-self Owner.List = refl
-owner-self _ = grind (arith, nat_tests)
+owner-self o = grind (arith, nat_tests)
 
 -- the handle can be used as is asked
 pub no-fault : (w : Core) (me : Owner) (h : HandleNumber) (fits : Mode → Bool) (row : HandleRow) → Owns w me h fits row → handle_fault w me h fits ≡ None
@@ -71,22 +63,13 @@ pub wrong-mode : (w : Core) (me : Owner) (h : HandleNumber) (fits : Mode → Boo
 wrong-mode w me h fits row live own other = ap (fault-of me fits) live ∙ rw (own, other) refl
 
 pub spent-late : (l : ℕ) (b : Bool) (f : Error) → where_so b (spent l) ≡ Some f → 3 < rank f
-spent-late l false f is = absurd (cc)
-spent-late l true f is = by (nat_le greatest l) is
-  where
-    by : (b : Bool) → refused_if b Error.NumbersSpent ≡ Some f → 3 < rank f
-    by false is = absurd (cc)
-    by true is = let same : Error.NumbersSpent ≡ f = cc in subst (λ x. 3 < rank x) same (omega arith)
+spent-late l b f is = grind (arith, nat_tests)
 
 -- who is found stays found when more rows come
 found-more : (q : ℕ) (rows more : List HandleRow) (row : HandleRow) → find_row q rows ≡ Some row → find_row q (rows ++ more) ≡ Some row
 unfolding find_row
 found-more q [] more row is = absurd (cc)
-found-more q (h ∷ hs) more row is = by (is_handle q h) is (found-more q hs more row)
-  where
-    by : (b : Bool) → (if b then Some h else find_row q hs) ≡ Some row → (find_row q hs ≡ Some row → find_row q (hs ++ more) ≡ Some row) → (if b then Some h else find_row q (hs ++ more)) ≡ Some row
-    by true is rest = is
-    by false is rest = rest is
+found-more q (h ∷ hs) more row is = grind (arith, nat_tests, found-more q hs more row)
 
 pub found-again : (q : ℕ) (rows rows' more : List HandleRow) (row : HandleRow) (o : Option HandleRow) → find_row q rows ≡ Some row → rows' ≡ rows ++ more → find_row q rows' ≡ o → o ≡ Some row
 found-again q rows rows' more row o is came again = sym again ∙ ap (find_row q) came ∙ found-more q rows more row is

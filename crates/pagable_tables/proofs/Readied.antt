@@ -20,23 +20,7 @@ room-then {a} {b} {c} p q =
     }
 
 pub room-alike : {w w' : Core} → OnlyRoom w w' → Alike w w'
-room-alike {w} {w'} o = subst (λ (u : Core). Alike w u) (sym o.same) made
-  where
-    made : Alike w (record w { places = w'.places })
-    made =
-        record {
-          rows = refl;
-          cells = λ n. refl;
-          list = refl;
-          cache = same-cache w (record w { places = w'.places }) refl (λ n. refl) (λ kind key. refl);
-          stored = λ q. refl;
-          closed = refl;
-          failures = refl;
-          loads = λ l. refl;
-          workers = λ v. refl;
-          last = refl;
-          places = o.more;
-        }
+room-alike {w} {w'} o = grind (arith, nat_tests)
 
 -- room that was made before is nothing to what comes
 pub alike-past : {m w' : Core} (p : Places) → HasRoom m.places p → Alike (record m { places = p }) w' → Alike m w'

@@ -9,9 +9,7 @@ less-unless true false false h = absurd (let e = h refl in cc)
 less-unless _ _ _ h = omega arith
 
 less-where : (a b s : Bool) → (a ≡ true → b ≡ true) → one (a && not s) ≤ one (b && not s)
-less-where false b s h = omega arith
-less-where true true s h = omega arith
-less-where true false s h = absurd (let e = h refl in cc)
+less-where a b s h = grind (arith, nat_tests)
 
 -- a set that has what was given, and no more but what has gone
 pub regiven : (before w : Core) (given given' : ℕ → Bool) (lists : Bool) (t : Holdings) (f : SoFar before w given lists t) → ((r : ℕ) → given' r ≡ true → (given r || f.gone r) ≡ true) → ((r : ℕ) → given r ≡ true → given' r ≡ true) → SoFar before w given' lists t
@@ -48,11 +46,7 @@ and-none false = refl
 module _ (test : HandleRow → Bool) (q : ℕ) where
   pub passes-here : (x : HandleRow) (xs : List HandleRow) → passes_in test (x ∷ xs) q ≡ (if is_handle q x then test x else passes_in test xs q)
   unfolding find_row
-  passes-here x xs = split (is_handle q x) refl
-    where
-      split : (b : Bool) → is_handle q x ≡ b → if_there test false (if is_handle q x then Some x else find_row q xs) ≡ (if is_handle q x then test x else passes_in test xs q)
-      split true e = rw e refl
-      split false e = rw e refl
+  passes-here x xs = grind (arith, nat_tests)
 
   pub passes-none : passes_in test [] q ≡ false
   unfolding find_row
@@ -60,11 +54,7 @@ module _ (test : HandleRow → Bool) (q : ℕ) where
 
   pub no-entry : ((h : HandleRow) → h.owner ≡ Owner.List → test h ≡ false) → (last : ℕ) (entries : List HandleRow) → AreNewEntries last entries → passes_in test entries q ≡ false
   no-entry none last [] new = passes-none
-  no-entry none last (x ∷ xs) new = passes-here x xs ∙ split (is_handle q x) (no-entry none (last + 1) xs new.3)
-    where
-      split : (b : Bool) → passes_in test xs q ≡ false → (if b then test x else passes_in test xs q) ≡ false
-      split true rest = none x new.2
-      split false rest = rest
+  no-entry none last (x ∷ xs) new = grind (arith, nat_tests, passes-none, passes-here, no-entry none (last + 1) xs new.3)
 
   module _ (gone : ℕ → Bool) (entries : List HandleRow) where
     module _ (x : HandleRow) (xs : List HandleRow) (rest : passes_in test (left_rows gone xs ++ entries) q ≡ (not (gone q) && passes_in test xs q)) where

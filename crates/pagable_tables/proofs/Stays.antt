@@ -18,17 +18,10 @@ module _ (rows : List HandleRow) (keyed : ℕ → Bool) (entries : List HandleRo
   less q = s q && not (q == x.number.0)
 
   given-less : IsWithin rows given less
-  given-less = within-less given less given s rows (λ r. split r (r == x.number.0) refl) least.holds
-    where
-      split : (r : ℕ) (b : Bool) → (r == x.number.0) ≡ b → one (given r && not (less r)) ≤ one (given r && not (s r))
-      split r true e = let n : r ≡ x.number.0 = grind (arith, nat_tests) in let g : given r ≡ false = ap given n ∙ kept in grind (arith, nat_tests)
-      split r false e = grind (arith, nat_tests)
+  given-less = grind (arith, nat_tests)
 
   fewer : (f : HandleRow → Bool) → times (λ h. f h && is_outside s h) rows ≤ times (λ h. f h && is_outside less h) rows
-  fewer f = sum_by-le-sum_by (λ h. one (f h && is_outside s h)) (λ h. one (f h && is_outside less h)) rows (λ h. bits (f h) (s h.number.0) (h.number.0 == x.number.0))
-    where
-      bits : (f s e : Bool) → one (f && not s) ≤ one (f && not (s && not e))
-      bits f s e = grind (arith, nat_tests)
+  fewer f = grind (arith, nat_tests, sum_by-le-sum_by)
 
   loses : (n : ℕ) → loses_value rows keyed entries less n ≡ true → loses_value rows keyed entries s n ≡ true
   loses n e = split (keyed n) e
@@ -69,9 +62,7 @@ wanting u w' places more (inl full) = inl (let m = more.handles in omega arith)
 wanting u w' places more (inr full) = inr (let m = more.entries in omega arith)
 
 refusal : (u w' : Core) (places : Places) → HasRoom u.places places → (e : Error) → IsListRefusal (record u { places = places }) w' e → IsListRefusal u w' e
-refusal u w' places more Error.NumbersSpent r = r
-refusal u w' places more Error.OutOfMemory r = (wanting u w' places more r.0, r.1)
-refusal u w' places more _ r = absurd r
+refusal u w' places more h r = grind (arith, nat_tests)
 
 -- why a cell must be listed, seen from another world before
 module _ {b w u w' : Core} {given : ℕ → Bool} {r : Result (Unit {0}) Error} (places : Places) (more : HasRoom u.places places)
@@ -158,20 +149,11 @@ retold u b a cache =
     }
 
 pub eager-pins : (kind : ℕ) → is_loose_kind kind ≡ false → is_pinning (mode_of kind) ≡ true
-eager-pins kind eager = split (is_shared_kind kind) (is_loose_kind kind) eager
-  where
-    split : (s l : Bool) → l ≡ false → is_pinning (if s then Mode.Shared else if l then Mode.LooseUnpinned else Mode.Pinned) ≡ true
-    split true l e = refl
-    split false false e = refl
-    split false true e = absurd (cc)
+eager-pins kind eager = grind (arith, nat_tests)
 
 pub loaded-append : (l : LoadNumber) (q : ℕ) (rows more : List HandleRow) → loaded l q rows ≡ true → loaded l q (rows ++ more) ≡ true
 loaded-append l q [] more own = absurd (let a = passes-none (is_owned_by (Owner.Load l)) q in cc)
-loaded-append l q (x ∷ xs) more own = passes-here (is_owned_by (Owner.Load l)) q x (xs ++ more) ∙ split (is_handle q x) (sym (passes-here (is_owned_by (Owner.Load l)) q x xs) ∙ own) (loaded-append l q xs more)
-  where
-    split : (b : Bool) → (if b then is_owner (Owner.Load l) x.owner else loaded l q xs) ≡ true → (loaded l q xs ≡ true → loaded l q (xs ++ more) ≡ true) → (if b then is_owner (Owner.Load l) x.owner else loaded l q (xs ++ more)) ≡ true
-    split true own rest = own
-    split false own rest = rest own
+loaded-append l q (x ∷ xs) more own = grind (arith, nat_tests, passes-none, passes-here, loaded-append l q xs more)
 
 -- what references name that are good is the load's, and was given
 pub named-loaded : (w : Core) (l : LoadNumber) (refs : List ArcRef) → references_fault w (Owner.Load l) [] refs ≡ None → (q : ℕ) → is_named_by refs q ≡ true → is_owned_in w (Owner.Load l) q ≡ true

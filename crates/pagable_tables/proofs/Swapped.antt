@@ -30,11 +30,7 @@ module _ (w : Core) (node : NodeNumber) (mode : Mode) (me : Owner) (numbered : (
     without q = f.gone q && not (q == k)
 
     holds : IsWithin u.rows given without
-    holds = within-less given without given f.gone u.rows (λ q. at q (q == k) refl) f.set.holds
-      where
-        at : (q : ℕ) (b : Bool) → (q == k) ≡ b → one (given q && not (f.gone q && not (q == k))) ≤ one (given q && not (f.gone q))
-        at q true e = let m : q ≡ k = grind (arith, nat_tests) in let g : given q ≡ false = ap given m ∙ spared in grind (arith, nat_tests)
-        at q false e = grind (arith, nat_tests)
+    holds = grind (arith, nat_tests)
 
     lost-more : (n : ℕ) (b : Bool) → (if b then nat_eq (pins_outside u.rows without n) 0 else nat_eq (held n f.entries) 0 && nat_eq (held_outside u.rows without n) 0) ≡ true
         → (if b then nat_eq (pins_outside u.rows f.gone n) 0 else nat_eq (held n f.entries) 0 && nat_eq (held_outside u.rows f.gone n) 0) ≡ true
@@ -73,12 +69,7 @@ module _ (w : Core) (node : NodeNumber) (mode : Mode) (me : Owner) (numbered : (
     stays = at (f.gone k) refl
       where
         both : (a b : Bool) → b ≡ true → (a && not b) ≡ true → false ≡ true
-        both a true e is = absurd (and-false a is)
-          where
-            and-false : (a : Bool) → (a && false) ≡ true → ⊥
-            and-false true e = cc
-            and-false false e = cc
-        both a false e is = e
+        both a b e is = grind (arith, nat_tests)
 
         at : (b : Bool) → f.gone k ≡ b → f.gone k ≡ false
         at false e = e
@@ -101,21 +92,11 @@ module _ (w : Core) (node : NodeNumber) (mode : Mode) (me : Owner) (numbered : (
 
     must : (n : ℕ) (b : Bool) → is_pin n x ≡ b → MustList u u w' n → MustList w u w' n
     must n true is m = let a = pinned n is in let b = m.unpinned in absurd (omega arith)
-    must n false is m =
-        let a = same-pins n is in
-        let b = same-shares n is in
-        let p = m.pinned in
-        let s = m.unshared in
-        record { pinned = omega arith; unpinned = m.unpinned; unkeyed = m.unkeyed; unshared = omega arith; stands_open = m.stands_open }
+    must n false is m = grind (arith, nat_tests, same-pins, same-shares)
 
     back : (n : ℕ) (b : Bool) → is_pin n x ≡ b → MustList w u w' n → MustList u u w' n
     back n true is m = let a = pinned n is in let b = m.unpinned in absurd (omega arith)
-    back n false is m =
-        let a = same-pins n is in
-        let b = same-shares n is in
-        let p = m.pinned in
-        let s = m.unshared in
-        record { pinned = omega arith; unpinned = m.unpinned; unkeyed = m.unkeyed; unshared = omega arith; stands_open = m.stands_open }
+    back n false is m = grind (arith, nat_tests, same-pins, same-shares)
 
     told : (r : Result (Unit {0}) Error) → TellsListing u u f.entries r w' → TellsListing w u f.entries r w'
     told (Ok v) t = record { all = λ n m. t.all n (back n (is_pin n x) refl m); not_all = tt }
@@ -136,17 +117,7 @@ module _ (w : Core) (node : NodeNumber) (mode : Mode) (me : Owner) (numbered : (
         }
 
 pub same-value : (o o' : Option Counts) (b : Bool) → cell_in o' ≡ cell_in o → pins_in o' ≡ pins_in o + one b → (b ≡ true → has_value o ≡ true) → has_value o' ≡ has_value o
-same-value None None b cell pinned there = refl
-same-value None (Some c') b cell pinned there = absurd (cc)
-same-value (Some c) None b cell pinned there = absurd (cc)
-same-value (Some c) (Some c') b cell pinned there = by b pinned there
-  where
-    keyed : nat_lt 0 c'.key ≡ nat_lt 0 c.key
-    keyed = sym (keyed-cell c'.key) ∙ ap (λ (o : Option Cell). has_key (if_there (λ (y : Cell). y.key) OptionalDataKey.None o)) cell ∙ keyed-cell c.key
-
-    by : (b : Bool) → c'.pins ≡ c.pins + one b → (b ≡ true → has_value (Some c) ≡ true) → has_value (Some c') ≡ has_value (Some c)
-    by true pinned there = let e = there refl in grind (arith, nat_tests)
-    by false pinned there = grind (arith, nat_tests)
+same-value o o' b cell pinned there = grind (arith, nat_tests)
 
 -- where rows and cells stay no value comes or goes
 pub values-still : (t new : Tables) → IsWhole t → IsWhole new → live new.holdings.handles.places.items ≡ live t.holdings.handles.places.items

@@ -26,38 +26,11 @@ moved-times f s o (x ∷ xs) same =
 pub loaded-moved : (s : ℕ → Bool) (o : Owner) (l : LoadNumber) (q : ℕ) (rows : List HandleRow) → is_owner (Owner.Load l) o ≡ false → loaded l q (moved s o rows) ≡ (loaded l q rows && not (s q))
 unfolding find_row
 loaded-moved s o l q [] other = refl
-loaded-moved s o l q (x ∷ xs) other = split (s x.number.0) (is_handle q x) refl refl (loaded-moved s o l q xs other)
-  where
-    and-none : (b : Bool) → (b && false) ≡ false
-    and-none true = refl
-    and-none false = refl
-
-    and-all : (b : Bool) → (b && true) ≡ b
-    and-all true = refl
-    and-all false = refl
-
-    same : is_handle q x ≡ true → s q ≡ s x.number.0
-    same e = let n : q ≡ x.number.0 = grind (arith, nat_tests) in ap s n
-
-    split : (a b : Bool) → s x.number.0 ≡ a → is_handle q x ≡ b → loaded l q (moved s o xs) ≡ (loaded l q xs && not (s q)) → loaded l q (moved s o (x ∷ xs)) ≡ (loaded l q (x ∷ xs) && not (s q))
-    split true true e f rest =
-        ap (λ a. loaded l q ((if a then record x { owner = o } else x) ∷ moved s o xs)) e ∙ ap (λ b. if_there (is_owned_by (Owner.Load l)) false (if b then Some (record x { owner = o }) else find_row q (moved s o xs))) f ∙ other
-        ∙ sym (ap (λ b. loaded l q (x ∷ xs) && not b) (same f ∙ e) ∙ and-none (loaded l q (x ∷ xs)))
-    split true false e f rest =
-        ap (λ a. loaded l q ((if a then record x { owner = o } else x) ∷ moved s o xs)) e ∙ ap (λ b. if_there (is_owned_by (Owner.Load l)) false (if b then Some (record x { owner = o }) else find_row q (moved s o xs))) f ∙ rest
-        ∙ sym (ap (λ b. if_there (is_owned_by (Owner.Load l)) false (if b then Some x else find_row q xs) && not (s q)) f)
-    split false true e f rest =
-        ap (λ a. loaded l q ((if a then record x { owner = o } else x) ∷ moved s o xs)) e ∙ ap (λ b. if_there (is_owned_by (Owner.Load l)) false (if b then Some x else find_row q (moved s o xs))) f
-        ∙ sym (ap (λ b. if_there (is_owned_by (Owner.Load l)) false (if b then Some x else find_row q xs) && not (s q)) f ∙ ap (λ b. is_owner (Owner.Load l) x.owner && not b) (same f ∙ e) ∙ and-all (is_owner (Owner.Load l) x.owner))
-    split false false e f rest =
-        ap (λ a. loaded l q ((if a then record x { owner = o } else x) ∷ moved s o xs)) e ∙ ap (λ b. if_there (is_owned_by (Owner.Load l)) false (if b then Some x else find_row q (moved s o xs))) f ∙ rest
-        ∙ sym (ap (λ b. if_there (is_owned_by (Owner.Load l)) false (if b then Some x else find_row q xs) && not (s q)) f)
+loaded-moved s o l q (x ∷ xs) other = grind (arith, nat_tests, loaded-moved s o l q xs other)
 
 -- who began a load isn't one, nor a value
 pub no-load : (w : Core) (o : Owner) (l : LoadNumber) → MayOwnLoad w o → is_owner (Owner.Load l) o ≡ false
-no-load w Owner.Caller l may = refl
-no-load w (Owner.Worker v) l may = refl
-no-load w _ l may = absurd may
+no-load w o l may = grind (arith, nat_tests)
 
 -- the world after handles have moved, without the load
 abbrev pub moved-less : Core → LoadNumber → (ℕ → Bool) → Owner → Core

@@ -8,17 +8,13 @@ use Rattle.pagable_tables.proofs.{Leaving.with-entry, Wanted.listing-is, Wanted.
 -- a cause stays
 refusal-kept : (w : Core) (t new : Holdings) (e : Error) → IsListRefusal w (with_tables w t) e → t.last_handle ≤ new.last_handle → length t.list.items ≤ length new.list.items
     → IsListRefusal w (with_tables w new) e
-refusal-kept w t new Error.NumbersSpent r last list = omega arith
-refusal-kept w t new Error.OutOfMemory r last list = (elim r.0 [ inl rows ↦ inl rows | inr entries ↦ inr (omega arith) ], r.1)
-refusal-kept w t new _ r last list = absurd r
+refusal-kept w t new e r last list = grind (arith, nat_tests)
 
 -- why an entry couldn't come now
 pub refusal-now : (w : Core) (b new : Holdings) (e : Error) → IsUnlisted b e → new.last_handle ≡ b.last_handle → length b.list.items ≤ length new.list.items
     → w.last.handle ≤ b.last_handle → w.places.handles ≤ vec_capacity b.handles.places → w.places.entries ≤ vec_capacity b.list
     → length (live b.handles.places.items) ≤ length w.rows → IsListRefusal w (with_tables w new) e
-refusal-now w b new Error.NumbersSpent why last list since handles entries rows = omega arith
-refusal-now w b new Error.OutOfMemory why last list since handles entries rows = (elim why.1 [ inl full ↦ inl (omega arith) | inr full ↦ inr (omega arith) ], omega arith)
-refusal-now w b new _ why last list since handles entries rows = absurd why
+refusal-now w b new e why last list since handles entries rows = grind (arith, nat_tests)
 
 came : (listed : Bool) (k n : ℕ) (node : NodeNumber) → 0 < (if listed then one (is_at n (entry k node)) else 0) → (listed ≡ true) × (n ≡ node.0)
 came true k n node some = (refl, grind (arith, nat_tests))
@@ -26,9 +22,7 @@ came false k n node some = absurd (omega arith)
 
 -- an entry came or none was wanted; or one was and didn't come
 which : (listed wanted : Bool) → ((listed ≡ true) ⊎ (wanted ≡ false)) ⊎ ((listed ≡ false) × (wanted ≡ true))
-which true wanted = inl (inl refl)
-which false true = inr (refl, refl)
-which false false = inl (inr refl)
+which listed wanted = grind (arith, nat_tests)
 
 module _ (before w : Core) (given : ℕ → Bool) (lists : Bool) (t : Holdings) (f : SoFar before w given lists t) (x : HandleRow) (c : Counts)
     (is : counts_at t.nodes x.node.0 ≡ Some c) (pinned : pins_in (counts_at t.nodes x.node.0) ≡ pins x.node.0 (live t.handles.places.items))

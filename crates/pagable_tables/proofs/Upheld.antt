@@ -8,19 +8,10 @@ use Rattle.pagable_tables.specs.Core.{IsWhole}
 use Rattle.pagable_tables.proofs.{Coming.rows-told, Worlds.alike, Worlds.owner-same, keeps.Told.alike-whole, keeps.Placed.whole-so, keeps.EndCalls.both-none}
 
 typed-so : (a b : ℕ) → refused_if (not (a == b)) Error.WrongKind ≡ None → a ≡ b
-typed-so a b e = at (a == b) refl e
-  where
-    at : (c : Bool) → (a == b) ≡ c → refused_if (not c) Error.WrongKind ≡ None → a ≡ b
-    at true same e = grind (arith, nat_tests)
-    at false other e = absurd (cc)
+typed-so a b e = grind (arith, nat_tests)
 
 own-so : (w : Core) (me : Owner) (l : LoadNumber) (load : OpenLoad) → w.loads l.0 ≡ Some load → load_fault w me l ≡ None → load.owner ≡ me
-own-so w me l load is none =
-    at (is_owner me load.owner) refl (sym (ap (if_there (λ (load : OpenLoad). refused_if (not (is_owner me load.owner)) Error.NotYours) (Some Error.NoSuchHandle)) is) ∙ none)
-  where
-    at : (b : Bool) → is_owner me load.owner ≡ b → refused_if (not b) Error.NotYours ≡ None → load.owner ≡ me
-    at true e f = owner-same me load.owner e
-    at false e f = absurd (cc)
+own-so w me l load is none = grind (arith, nat_tests)
 
 module _ (w : Core) (me : Owner) (l : LoadNumber) (node_type : ℕ) (refs : List ArcRef) (none : end_fault w me l node_type refs ≡ None) where
   abbrev root : Option Error
@@ -61,13 +52,7 @@ module _ (w : Core) (me : Owner) (l : LoadNumber) (node_type : ℕ) (refs : List
 
       -- a number is left, where the handle is there
       pub number-left : (row : HandleRow) → row_at w h ≡ Some row → is_owner me row.owner ≡ true → w.last.handle < greatest
-      number-left row found own =
-          let so : is_owned_in w me h.0 ≡ true = ap (if_there (is_owned_by me) false) found ∙ own in
-          at (nat_le greatest w.last.handle) refl (sym (ap (λ b. where_so b (spent w.last.handle)) so) ∙ fits.1)
-        where
-          at : (b : Bool) → nat_le greatest w.last.handle ≡ b → refused_if b Error.NumbersSpent ≡ None → w.last.handle < greatest
-          at true e f = absurd (cc)
-          at false e f = grind (arith, nat_tests)
+      number-left row found own = grind (arith, nat_tests)
 
 -- references are as good where there are other places
 pub references-placed : (w : Core) (places : Places) (owner : Owner) (seen : List ℕ) (refs : List ArcRef) → references_fault (record w { places = places }) owner seen refs ≡ references_fault w owner seen refs
@@ -87,11 +72,7 @@ placed-whole t h w sound next rows more =
 -- neither number nor place is wanting
 pub no-wanting : (t : Tables) (e : Error) → AreSound t.holdings.handles → t.holdings.last_handle < greatest → 1 ≤ room t.holdings.handles
     → (spent t.holdings.last_handle ≡ Some e) ⊎ ((e ≡ Error.OutOfMemory) × (spent t.holdings.last_handle ≡ None) × AreHandlesFull (plain_of t)) → ⊥
-no-wanting t e sound left place (inl is) =
-    let b : nat_le greatest t.holdings.last_handle ≡ false = grind (arith, nat_tests) in
-    let a : refused_if false Error.NumbersSpent ≡ Some e = sym (ap (λ b. refused_if b Error.NumbersSpent) b) ∙ is in
-    cc
-no-wanting t e sound left place (inr (is, none, full)) = let a = sound.counted in absurd (omega arith)
+no-wanting t e sound left place h = grind (arith, nat_tests)
 
 -- a load that can end can where there are other places
 pub ready-placed : (w : Core) (places : Places) (rows : List HandleRow) (me : Owner) (l : LoadNumber) (node_type : ℕ) (refs : List ArcRef) (e : Ending) → rows ≡ w.rows → IsReady w me l node_type refs e

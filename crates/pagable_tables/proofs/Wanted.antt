@@ -7,16 +7,10 @@ use Rattle.pagable_tables.proofs.{Left.left-le, Left.entries-none, Forced.keyed-
 
 -- what a listing handle is: the last pin of a cell without a key
 pub listing-is : (c : Counts) (m : Mode) → is_listing c m ≡ true → (is_pinning m ≡ true) × (is_shared m ≡ false) × (c.pins ≡ 1) × (nat_lt 0 c.key ≡ false)
-listing-is c Mode.LoosePinned e = (refl, refl, grind (arith, nat_tests), grind (arith, nat_tests))
-listing-is c Mode.LooseUnpinned e = absurd (cc)
-listing-is c Mode.Pinned e = (refl, refl, grind (arith, nat_tests), grind (arith, nat_tests))
-listing-is c Mode.Shared e = absurd (cc)
+listing-is c m e = grind (arith, nat_tests)
 
 pub is-listing : (c : Counts) (m : Mode) → is_pinning m ≡ true → is_shared m ≡ false → c.pins ≡ 1 → nat_lt 0 c.key ≡ false → is_listing c m ≡ true
-is-listing c Mode.LoosePinned p s one k = grind (arith, nat_tests)
-is-listing c Mode.LooseUnpinned p s one k = absurd (cc)
-is-listing c Mode.Pinned p s one k = grind (arith, nat_tests)
-is-listing c Mode.Shared p s one k = absurd (cc)
+is-listing c m p s one k = grind (arith, nat_tests)
 
 -- a new entry pins nothing
 pub entry-pins : (listed : Bool) (k n : ℕ) (node : NodeNumber) → (if listed then one (is_pin n (entry k node)) else 0) ≡ 0

@@ -8,14 +8,10 @@ use Rattle.pagable_tables.proofs.{keeps.Told.roomy, keeps.Told.may-own, keeps.Go
 
 -- who may hold is neither the list nor a value
 pub not-list : (w : Core) (o : Owner) → MayHold w o → is_owner Owner.List o ≡ false
-not-list w (Owner.Value n) may = absurd may
-not-list w Owner.List may = absurd may
-not-list w _ may = refl
+not-list w o may = grind (arith, nat_tests)
 
 pub not-a-value : (w : Core) (o : Owner) → MayHold w o → is_valued o ≡ false
-not-a-value w (Owner.Value n) may = absurd may
-not-a-value w Owner.List may = absurd may
-not-a-value w _ may = refl
+not-a-value w o may = grind (arith, nat_tests)
 
 pub not-the-list : (w : Core) (o : Owner) → MayHold w o → o ≡ Owner.List → ⊥
 not-the-list w o may is = subst (MayHold w) is may
@@ -187,9 +183,7 @@ module _ {w : Core} (whole : IsWhole w) (x : HandleRow) (cells : ℕ → Option 
       }
 
 share-le : (a b : Bool) → one (a && b) ≤ one a
-share-le true true = omega arith
-share-le true false = omega arith
-share-le false b = omega arith
+share-le a b = grind (arith, nat_tests)
 
 -- Beside the handles that its node has.
 module _ {w : Core} (whole : IsWhole w) (node : NodeNumber) (mode : Mode) (suits : Suits w node mode) where

@@ -14,11 +14,7 @@ use Rattle.pagable_tables.proofs.{keeps.BirthCalls.IsMine, keeps.BirthCalls.name
 -- ---- a load closes
 
 still-there : {X : Type 0} (l : ℕ) (f : ℕ → Option X) (q : ℕ) (x : X) → updated l None f q ≡ Some x → f q ≡ Some x
-still-there {X} l f q x is = at (q == l) is
-  where
-    at : (b : Bool) → (if b then None else f q) ≡ Some x → f q ≡ Some x
-    at true is = absurd (cc)
-    at false is = is
+still-there {X} l f q x is = grind (arith, nat_tests)
 
 -- what is whole before a load closes may fall after, where all that the load owns is given
 pub closes : {before u : Core} (l : LoadNumber) (given : ℕ → Bool) → IsWhole before → IsWhole (roomy u) → GoesOn before u
@@ -165,13 +161,7 @@ end-whole me l x node_type refs (Err (e, None)) whole call placed = let v = call
 -- ---- a load of a key hands over
 
 pub both-none : (a b : Option Error) → earlier a b ≡ None → (a ≡ None) × (b ≡ None)
-both-none None b e = (refl, e)
-both-none (Some x) None e = absurd (cc)
-both-none (Some x) (Some y) e = at (nat_lt (rank y) (rank x)) e
-  where
-    at : (c : Bool) → (if c then Some y else Some x) ≡ None → (Some x ≡ None) × (Some y ≡ None)
-    at true e = absurd (cc)
-    at false e = absurd (cc)
+both-none a b e = grind (arith, nat_tests)
 
 pub handed-mine : (w : Core) (owner : Owner) (seen : List ℕ) (hs : List HandleNumber) → named_fault w owner seen hs ≡ None → (q : ℕ) → is_in (numbers_of hs) q ≡ true → IsMine w owner q
 unfolding named_fault is_in
@@ -196,16 +186,7 @@ handed-mine w owner seen (h ∷ hs) good q named =
 
 -- who isn't refused owns the load
 pub asker-owns : {w : Core} → IsWhole w → (me : Owner) (l : LoadNumber) → load_fault w me l ≡ None → MayOwnLoad w me
-asker-owns {w} whole me l none = of (w.loads l.0) refl none
-  where
-    own : (b : Bool) → refused_if (not b) Error.NotYours ≡ None → b ≡ true
-    own true e = refl
-    own false e = absurd (cc)
-
-    of : (found : Option OpenLoad) → w.loads l.0 ≡ found → if_there (λ (load : OpenLoad). refused_if (not (is_owner me load.owner)) Error.NotYours) (Some Error.NoSuchHandle) found ≡ None
-        → MayOwnLoad w me
-    of None e good = absurd (cc)
-    of (Some load) e good = subst (MayOwnLoad w) (owner-same me load.owner (own (is_owner me load.owner) good)) (whole.loads.owned l.0 load e)
+asker-owns {w} whole me l none = grind (arith, nat_tests)
 
 pub hand-over-whole : {w w' : Core} (me : Owner) (l : LoadNumber) (hs : List HandleNumber) (r : Result (Unit {0}) Error) → IsWhole (opened w)
     → HandOverCall w me l hs r w' → ArePlaced (opened w') → IsWhole (opened w')

@@ -30,11 +30,7 @@ module _ {w : Core} (whole : IsWhole w) (node : NodeNumber) (key : ℕ) (unshare
   rekey cell = if_there (λ (cell : Cell). Some (record cell { key = OptionalDataKey.Some key })) None cell
 
   kept : {X : Type 0} (f : Option Cell → X) → ((cell : Option Cell) → f (rekey cell) ≡ f cell) → (n : ℕ) → f ((with_key w node key).cells n) ≡ f (w.cells n)
-  kept {X} f same n = at (n == node.0) refl
-    where
-      at : (b : Bool) → (n == node.0) ≡ b → f (if b then rekey (w.cells node.0) else w.cells n) ≡ f (w.cells n)
-      at true e = let is : n ≡ node.0 = grind (arith, nat_tests) in same (w.cells node.0) ∙ ap (λ m. f (w.cells m)) (sym is)
-      at false e = refl
+  kept {X} f same n = grind (arith, nat_tests)
 
   same-there : (cell : Option Cell) → is_some (rekey cell) ≡ is_some cell
   same-there None = refl
@@ -45,11 +41,7 @@ module _ {w : Core} (whole : IsWhole w) (node : NodeNumber) (key : ℕ) (unshare
   same-type (Some cell) = refl
 
   keyless : (n : ℕ) → 0 < sharing n w.rows → keyed_in ((with_key w node key).cells n) ≡ false
-  keyless n some = at (n == node.0) refl
-    where
-      at : (b : Bool) → (n == node.0) ≡ b → keyed_in (if b then rekey (w.cells node.0) else w.cells n) ≡ false
-      at true e = let is : n ≡ node.0 = grind (arith, nat_tests) in let a : sharing n w.rows ≡ 0 = ap (λ m. sharing m w.rows) is ∙ unshared in absurd (omega arith)
-      at false e = whole.handles.unkeyed n some
+  keyless n some = grind (arith, nat_tests)
 
   pub keyed-whole : IsWhole (with_key w node key)
   keyed-whole =

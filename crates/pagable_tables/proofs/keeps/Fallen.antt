@@ -83,12 +83,7 @@ module _ {before u : Core} {given : ℕ → Bool} (may : MayFall before u given)
       at false e = refl
 
   share-narrow : (n : ℕ) (h : HandleRow) → one (is_share n h) ≤ one (is_at n h)
-  share-narrow n h = narrow (is_at n h) (is_shared h.mode)
-    where
-      narrow : (a b : Bool) → one (a && b) ≤ one a
-      narrow true true = omega arith
-      narrow true false = omega arith
-      narrow false b = omega arith
+  share-narrow n h = grind (arith, nat_tests)
 
   after-uniform : (n : ℕ) → (sharing n after.rows ≡ 0) ⊎ (sharing n after.rows ≡ held n after.rows)
   after-uniform n =
@@ -106,11 +101,7 @@ module _ {before u : Core} {given : ℕ → Bool} (may : MayFall before u given)
 
   -- what is told of a cell is told of no other
   old-cell : {X : Type 0} (f : Option Cell → Option X) → f None ≡ None → (n : ℕ) (x : X) → f (after.cells n) ≡ Some x → f (u.cells n) ≡ Some x
-  old-cell {X} f none n x is = at (nat_lt 0 (held n after.rows)) is
-    where
-      at : (b : Bool) → f (if b then u.cells n else None) ≡ Some x → f (u.cells n) ≡ Some x
-      at true is = is
-      at false is = let e : None ≡ Some x = sym none ∙ is in absurd (cc)
+  old-cell {X} f none n x is = grind (arith, nat_tests)
 
   after-handles : HandlesAreWhole after
   after-handles =
@@ -137,11 +128,7 @@ module _ {before u : Core} {given : ℕ → Bool} (may : MayFall before u given)
   lists q h = is_handle q h && is_owned_by Owner.List h
 
   lists-only : (q : ℕ) (h : HandleRow) → lists q h ≡ true → h.number.0 ≡ q
-  lists-only q h is = at (h.number.0 == q) refl is
-    where
-      at : (b : Bool) → (h.number.0 == q) ≡ b → (b && is_owned_by Owner.List h) ≡ true → h.number.0 ≡ q
-      at true e is = grind (arith, nat_tests)
-      at false e is = absurd (cc)
+  lists-only q h is = grind (arith, nat_tests)
 
   in-list : (q : ℕ) (x : HandleNumber) → (x.0 == q) ≡ true → x.0 ≡ q
   in-list q x is = grind (arith, nat_tests)

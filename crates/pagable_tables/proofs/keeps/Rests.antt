@@ -80,15 +80,8 @@ pub record IsEntry (last few : ℕ) (h : HandleRow) : Type 0 where
 
 pub entry-is : (last : ℕ) (entries : List HandleRow) (h : HandleRow) → AreNewEntries last entries → Among entries h → IsEntry last (length entries) h
 entry-is last [] h new among = let a = among.1 in absurd (cc)
-entry-is last (x ∷ xs) h new (zero, is) =
-    let e : x ≡ h = cc in
-    let n = ap (λ (y : HandleRow). y.number.0) e in
-    let a = new.0 in
-    record { above = omega arith; number = omega arith; mode = ap (λ (y : HandleRow). y.mode) (sym e) ∙ new.1; owner = ap (λ (y : HandleRow). y.owner) (sym e) ∙ new.2 }
-entry-is last (x ∷ xs) h new (suc i, is) =
-    let r = entry-is (last + 1) xs h new.3 (i, is) in
-    let a = r.above in let b = r.number in
-    record { above = omega arith; number = omega arith; mode = r.mode; owner = r.owner }
+entry-is last (x ∷ xs) h new (zero, is) = grind (arith, nat_tests)
+entry-is last (x ∷ xs) h new (suc i, is) = grind (arith, nat_tests, entry-is (last + 1) xs h new.3 (i, is))
 
 -- the list gets each entry
 pub entries-listed : (q last : ℕ) (entries : List HandleRow) → AreNewEntries last entries

@@ -79,11 +79,7 @@ module _ {w : Core} (whole : IsWhole w) (h : HandleNumber) (row : HandleRow) (mo
 
   -- what both cases give
   each : (P : HandleRow → Type 0) (x : HandleRow) → (is_handle h.0 x ≡ true → P (record x { mode = mode })) → (is_handle h.0 x ≡ false → P x) → P (to-mode x)
-  each P x named other = at (is_handle h.0 x) refl
-    where
-      at : (b : Bool) → is_handle h.0 x ≡ b → P (if b then record x { mode = mode } else x)
-      at true e = named e
-      at false e = other e
+  each P x named other = grind (arith, nat_tests)
 
   mode-owners : OwnersAreThere (roomy (with_mode w h mode))
   mode-owners =

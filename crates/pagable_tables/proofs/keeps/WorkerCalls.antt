@@ -26,11 +26,7 @@ worker-whole {w} whole =
     }
   where
     still : (v : ℕ) → w.workers v ≡ true → (with_worker w).workers v ≡ true
-    still v is = at (v == w.last.worker + 1)
-      where
-        at : (b : Bool) → (if b then true else w.workers v) ≡ true
-        at true = refl
-        at false = is
+    still v is = grind (arith, nat_tests)
 
     numbered : (v : ℕ) (b : Bool) → (v == w.last.worker + 1) ≡ b → (if b then true else w.workers v) ≡ true → v ≤ w.last.worker + 1
     numbered v true e is = let same : v ≡ w.last.worker + 1 = grind (arith, nat_tests) in omega arith
@@ -39,23 +35,10 @@ worker-whole {w} whole =
 -- ---- a worker ends
 
 left-open : (v : ℕ) (load : Option OpenLoad) (x : OpenLoad) → (if is_workers_load v load then None else load) ≡ Some x → (load ≡ Some x) × (is_owner (owner_worker v) x.owner ≡ false)
-left-open v None x is = absurd (cc)
-left-open v (Some y) x is = at (is_owner (owner_worker v) y.owner) refl is
-  where
-    at : (b : Bool) → is_owner (owner_worker v) y.owner ≡ b → (if b then None else Some y) ≡ Some x → (Some y ≡ Some x) × (is_owner (owner_worker v) x.owner ≡ false)
-    at true e is = absurd (cc)
-    at false e is = let same : y ≡ x = cc in (is, sym (ap (λ (z : OpenLoad). is_owner (owner_worker v) z.owner) same) ∙ e)
+left-open v load x is = grind (arith, nat_tests)
 
 may-still : (w : Core) (v : ℕ) (o : Owner) → is_owner (owner_worker v) o ≡ false → MayOwnLoad w o → MayOwnLoad (without_worker w v) o
-may-still w v Owner.Caller other may = tt
-may-still w v (Owner.Worker u) other may = let e : (u.0 == v) ≡ false = other in at (u.0 == v) e
-  where
-    at : (b : Bool) → b ≡ false → (if b then false else w.workers u.0) ≡ true
-    at true e = absurd (cc)
-    at false e = may
-may-still w v (Owner.Value n) other may = absurd may
-may-still w v Owner.List other may = absurd may
-may-still w v (Owner.Load l) other may = absurd may
+may-still w v o other may = grind (arith, nat_tests)
 
 module _ {w : Core} (whole : IsWhole w) (v : ℕ) (given : ℕ → Bool)
     (own : (h : HandleRow) → Among w.rows h → h.owner ≡ Owner.Worker (record { 0 = v }) → given h.number.0 ≡ true)
@@ -83,18 +66,10 @@ module _ {w : Core} (whole : IsWhole w) (v : ℕ) (given : ℕ → Bool)
       }
     where
       was : (l : ℕ) → is_some (if is_workers_load v (w.loads l) then None else w.loads l) ≡ true → is_some (w.loads l) ≡ true
-      was l some = at (is_workers_load v (w.loads l)) some
-        where
-          at : (b : Bool) → is_some (if b then None else w.loads l) ≡ true → is_some (w.loads l) ≡ true
-          at true some = absurd (cc)
-          at false some = some
+      was l some = grind (arith, nat_tests)
 
       worked : (u : ℕ) → (if u == v then false else w.workers u) ≡ true → w.workers u ≡ true
-      worked u is = at (u == v) is
-        where
-          at : (b : Bool) → (if b then false else w.workers u) ≡ true → w.workers u ≡ true
-          at true is = absurd (cc)
-          at false is = is
+      worked u is = grind (arith, nat_tests)
 
       loads-there : (x : HandleRow) (l : LoadNumber) → Among w.rows x → x.owner ≡ Owner.Load l → (b : Bool) → is_workers_load v (w.loads l.0) ≡ b
           → (is_some (if b then None else w.loads l.0) ≡ true) ⊎ (given x.number.0 ≡ true)
