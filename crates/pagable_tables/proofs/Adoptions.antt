@@ -1,11 +1,11 @@
 -- Why what a load has read can't become a node, and what becomes of it.
 use Rattle.pagable_tables.proofs.Words.{◌≡◌, ℕ, ◌<◌, ◌≤◌, ◌==◌, ◌||◌, Bool, true, false, if◌then◌else◌, List, [], ◌∷◌, refl, ap, sym, ◌∙◌, arith, Ok, Option, Some, None, inl, inr, not}
-use Rattle.pagable_tables.proofs.Words.{nat_lt, is_some, nat_tests, Error, ArcRef, HandleNumber, LoadNumber, NodeNumber, Kind, HandleRow, Owner, Blob, is_loose_kind, type_of, if_there}
-use Rattle.pagable_tables.proofs.Words.{or_else, is_in, is_owner, fits_mode, mode_of, Core, OpenLoad, greatest, row_at, type_at, usable, Alike, rank, earlier, refused_if, spent, is_type}
-use Rattle.pagable_tables.proofs.Words.{load_fault, reference_fault, references_fault, row_fault, OwnsLoad, Refused, AreHandlesFull, FallsAnyhow, with_handle, is_named_by, birth_fault}
-use Rattle.pagable_tables.proofs.Words.{node_fault, adopt_fault, adopted, first_key, Adopts, early_fault, OnlyRoom, Tables, ArePlaced, core_of, plain_of}
+use Rattle.pagable_tables.proofs.Words.{is_some, nat_tests, Error, ArcRef, HandleNumber, LoadNumber, NodeNumber, Kind, HandleRow, Owner, Blob, is_loose_kind, type_of, if_there, or_else}
+use Rattle.pagable_tables.proofs.Words.{is_in, is_owner, fits_mode, mode_of, Core, OpenLoad, greatest, row_at, type_at, usable, Alike, rank, earlier, refused_if, spent, is_type, load_fault}
+use Rattle.pagable_tables.proofs.Words.{reference_fault, references_fault, row_fault, OwnsLoad, Refused, AreHandlesFull, FallsAnyhow, with_handle, is_named_by, birth_fault, node_fault}
+use Rattle.pagable_tables.proofs.Words.{adopt_fault, adopted, first_key, Adopts, early_fault, OnlyRoom, Tables, ArePlaced, core_of, plain_of}
 use Rattle.pagable_world.specs.Calls.{IsNext}
-use Rattle.pagable_tables.proofs.{Lazily.node-late, Readied.fault-by, Readied.room-alike, Opened.load-low, Worlds.still, Worlds.owner-same, keeps.AdoptCalls.adopt-whole, keeps.Opened.opened}
+use Rattle.pagable_tables.proofs.{Lazily.node-late, Readied.fault-by, Readied.room-alike, Opened.load-low, Worlds.still, keeps.AdoptCalls.adopt-whole, keeps.Opened.opened}
 use Rattle.pagable_tables.proofs.{keeps.EndCalls.both-none}
 use Rattle.pagable_world.specs.Pager as pager
 
@@ -66,10 +66,7 @@ module _ (w : Core) (me : Owner) (l : LoadNumber) (kind : Kind) (key node_type :
   early = early_fault w me l kind node_type refs
 
   cause : adopt_fault w me l kind key node_type refs ≡ or_else early (node_fault w kind key)
-  cause =
-      last-of (load_fault w me l) (refused_if (is_loose_kind kind.0) Error.WrongMode) (refused_if (not (node_type == type_of kind.0)) Error.WrongKind) (references_fault w (Owner.Load l) [] refs) (node_fault w kind key)
-      (λ e is. let a = load-low w me l e is in omega arith) (λ e is. let a = named (is_loose_kind kind.0) Error.WrongMode e is in omega arith) (λ e is. let a = named (not (node_type == type_of kind.0)) Error.WrongKind e is in omega arith)
-      (fit-early w (Owner.Load l) [] refs) (node-late w kind key)
+  cause = grind (arith, nat_tests, last-of, load-low, fit-early, node-late)
 
   -- one of the causes that come first
   pub not-adopted : (e : Error) → early ≡ Some e → Refused (adopt_fault w me l kind key node_type refs) (load_fault w me l) (Unit {0}) w e w
@@ -77,11 +74,7 @@ module _ (w : Core) (me : Owner) (l : LoadNumber) (kind : Kind) (key node_type :
 
   module _ (good : early ≡ None) where
     parts : (load_fault w me l ≡ None) × (refused_if (is_loose_kind kind.0) Error.WrongMode ≡ None) × (refused_if (not (node_type == type_of kind.0)) Error.WrongKind ≡ None) × (references_fault w (Owner.Load l) [] refs ≡ None)
-    parts =
-        let a = both-none (load_fault w me l) _ good in
-        let b = both-none (refused_if (is_loose_kind kind.0) Error.WrongMode) _ a.1 in
-        let c = both-none (refused_if (not (node_type == type_of kind.0)) Error.WrongKind) _ b.1 in
-        (a.0, b.0, c.0, c.1)
+    parts = grind (arith, nat_tests, both-none)
 
     pub fitting : references_fault w (Owner.Load l) [] refs ≡ None
     fitting = parts.3

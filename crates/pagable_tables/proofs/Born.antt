@@ -1,9 +1,8 @@
 -- A node comes, and the handles that its value refers to are the value's.
 use Rattle.pagable_tables.proofs.Words.{◌≡◌, ℕ, ◌+◌, ◌<◌, ◌≤◌, ◌==◌, ◌&&◌, ◌||◌, Bool, true, false, List, [], ◌∷◌, ◌++◌, map, sum_by, refl, ap, sym, ◌∙◌, subst, arith, Option, Some, None}
-use Rattle.pagable_tables.proofs.Words.{inl, inr, if◌then◌else◌, ◌≢◌, ◌⊎◌, not, nat_lt, is_some, cases_eq, nat_tests, sum_by_push, sum_by-cons, Error, ArcRef, HandleRow, Owner, Mode, Among}
-use Rattle.pagable_tables.proofs.Words.{is_in, one, or_else, if_there, find_row, held, pins, is_handle, is_owner, is_pinning, owner_value, IsHandleBefore, Core, row_at, reference_fault}
-use Rattle.pagable_tables.proofs.Words.{references_fault, row_fault, refused_if, moved, is_named_by, Counts, Fits, Right, is_right, is_bare, cell_in, pins_in, holds_in, falls_in, is_valued}
-use Rattle.pagable_tables.proofs.Words.{named, owns_nothing, AllPairs, updated, key_in}
+use Rattle.pagable_tables.proofs.Words.{inl, inr, if◌then◌else◌, ◌≢◌, ◌⊎◌, is_some, cases_eq, nat_tests, sum_by_push, sum_by-cons, Error, ArcRef, HandleRow, Owner, Mode, Among, is_in, one}
+use Rattle.pagable_tables.proofs.Words.{or_else, find_row, held, pins, is_handle, is_pinning, owner_value, IsHandleBefore, Core, reference_fault, references_fault, moved, is_named_by}
+use Rattle.pagable_tables.proofs.Words.{Counts, Fits, Right, is_right, is_bare, cell_in, pins_in, holds_in, falls_in, is_valued, named, owns_nothing, AllPairs, updated, key_in}
 use Rattle.pagable_tables.proofs.{Coming.owned-by-none, Fitting.pin_of, Fitting.handle_of, Fitting.is_owned, Fitting.pin-here, Fitting.held-here, Fitting.pin-other, Fitting.held-other}
 use Rattle.pagable_tables.proofs.{Owned.owned-by, keeps.BirthCalls.named-mine, keeps.Rests.found-so, keeps.Rows.found-among, keeps.Rows.sum-map, keeps.Rows.sum-none, keeps.Rows.at-most-sum}
 use Rattle.pagable_tables.proofs.{keeps.Rows.only-row}
@@ -11,12 +10,6 @@ use Rattle.pagable_tables.proofs.{keeps.Rows.only-row}
 or-none : (a b : Option Error) → or_else a b ≡ None → (a ≡ None) × (b ≡ None)
 or-none None b e = (refl, e)
 or-none (Some x) b e = absurd (cc)
-
-unseen-first : (own seen : Bool) → refused_if (not own || seen) Error.NotYours ≡ None → seen ≡ false
-unseen-first own seen e = grind (arith, nat_tests)
-
-unseen-one : (w : Core) (me : Owner) (seen : List ℕ) (r : ArcRef) → reference_fault w me seen r ≡ None → is_in seen r.handle.0 ≡ false
-unseen-one w me seen r none = grind (arith, nat_tests)
 
 -- what is named wasn't named before
 unseen : (w : Core) (me : Owner) (seen : List ℕ) (rs : List ArcRef) → references_fault w me seen rs ≡ None → (q : ℕ) → is_named_by rs q ≡ true → is_in seen q ≡ false
@@ -122,24 +115,10 @@ module _ (w : Core) (me : Owner) (rs : List ArcRef) (ordered : AllPairs IsHandle
   held-given m = let s = same-weight w me n rs ordered fit unvalued (handle_of m) (λ h. refl) in let l = sum_by_push (handle_of m) given x in omega arith
 
   pinned-here : pins_in (at' n) ≡ pins n rows'
-  pinned-here =
-      let g = pins-given n in
-      let old = fits.pinned n in
-      let none = ap pins_in free in
-      let some = ap pins_in here in
-      let p = pin-here x in
-      let k : c.pins ≡ one (is_pinning x.mode) = ap (λ (d : Counts). d.pins) new in
-      omega arith
+  pinned-here = grind (arith, nat_tests, pins-given, pin-here)
 
   held-here' : holds_in (at' n) ≡ held n rows'
-  held-here' =
-      let g = held-given n in
-      let old = fits.holding n in
-      let none = ap holds_in free in
-      let some = ap holds_in here in
-      let p = held-here x in
-      let k : c.holds ≡ 1 = ap (λ (d : Counts). d.holds) new in
-      omega arith
+  held-here' = grind (arith, nat_tests, held-given, held-here)
 
   owned-here : (q : ℕ) → named q (refs' n) + owns_nothing n q ≡ sum_by (is_owned n q) rows'
   owned-here q =
@@ -202,7 +181,4 @@ no-node (Some c) last h = let a = (h refl).1 in absurd (omega arith)
 -- one cell more, and all others as before
 pub born-cells : (at at' : ℕ → Option Counts) (n : ℕ) (c : Counts) → at' n ≡ Some c → ((q : ℕ) → q ≢ n → at' q ≡ at q)
     → (q : ℕ) → cell_in (at' q) ≡ updated n (Some (record { node_type = c.node_type; key = key_in c.key })) (λ m. cell_in (at m)) q
-born-cells at at' n c here others q = elim (cases_eq q n) [
-  | inl e ↦ let a : (q == n) ≡ true = grind (arith, nat_tests) in rw a (ap (λ m. cell_in (at' m)) e ∙ ap cell_in here)
-  | inr e ↦ let a : (q == n) ≡ false = grind (arith, nat_tests) in rw a (ap cell_in (others q e))
-]
+born-cells at at' n c here others q = grind (arith, nat_tests)

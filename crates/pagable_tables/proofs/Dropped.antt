@@ -1,17 +1,13 @@
 -- A load is closed, and what it still owns is given up.
-use Rattle.pagable_tables.proofs.Words.{◌≡◌, ℕ, ◌<◌, ◌≤◌, ◌==◌, Bool, true, false, not, refl, ap, sym, ◌∙◌, subst, arith, Option, Some, None, inl, inr, ◌≢◌, Result, option_map, nat_tests}
-use Rattle.pagable_tables.proofs.Words.{cases_eq, Error, HandleRow, Owner, Blob, updated, if_there, is_owned_by, find_row, Core, OpenLoad, Falls, nobody, is_owned_in, LoadRow, Tables, SoFar}
-use Rattle.pagable_tables.proofs.Words.{passes_in, core_of, load_in}
+use Rattle.pagable_tables.proofs.Words.{◌≡◌, ℕ, ◌<◌, ◌≤◌, Bool, true, false, not, refl, subst, arith, Option, Some, None, ◌≢◌, Result, option_map, nat_tests, Error, HandleRow, Owner, Blob}
+use Rattle.pagable_tables.proofs.Words.{updated, if_there, is_owned_by, find_row, Core, OpenLoad, Falls, nobody, is_owned_in, LoadRow, Tables, SoFar, passes_in, core_of, load_in}
 use Rattle.pagable_tables.specs.Core.{IsWhole}
 use Rattle.pagable_tables.proofs.{Begun.begins, Begun.begun, keeps.Rows.found-among}
 use Rattle.pagable_world.specs.Pager as pager
 
 -- a load isn't there any more
 pub load-closed : (at at' : ℕ → Option LoadRow) (l : ℕ) → at' l ≡ None → ((q : ℕ) → q ≢ l → at' q ≡ at q) → (q : ℕ) → updated l None (λ q. option_map load_in (at q)) q ≡ option_map load_in (at' q)
-load-closed at at' l gone others q = elim (cases_eq q l) [
-  | inl e ↦ let h : (q == l) ≡ true = grind (arith, nat_tests) in rw h (sym (ap (λ m. option_map load_in (at' m)) e ∙ ap (option_map load_in) gone))
-  | inr e ↦ let h : (q == l) ≡ false = grind (arith, nat_tests) in rw h (sym (ap (option_map load_in) (others q e)))
-]
+load-closed at at' l gone others q = grind (arith, nat_tests)
 
 -- where nothing has gone of a whole world, nothing has of the one with other loads and workers
 pub begun-less : (t : Tables) (loads : ℕ → Option OpenLoad) (workers : ℕ → Bool) (stored : ℕ → Option Blob) (closed lists : Bool) (failures : ℕ) → IsWhole t → lists ≡ not closed

@@ -1,23 +1,10 @@
 -- Where no node falls any more, all has gone that had to go, and no more.
-use Rattle.pagable_tables.proofs.Words.{◌≡◌, ℕ, ◌+◌, ◌≤◌, ◌==◌, ◌&&◌, Bool, true, false, not, if◌then◌else◌, List, [], ◌∷◌, ◌++◌, sum_by, refl, ap, sym, ◌∙◌, subst, arith, inl, inr, Option}
-use Rattle.pagable_tables.proofs.Words.{Some, None, ◌⊎◌, is_some, nat_lt, nat_eq, ◌||◌, Result, Ok, Err, nat_tests, sum_by-cons, sum_by-append, Error, OptionalDataKey, ArcRef, HandleRow}
-use Rattle.pagable_tables.proofs.Words.{one, times, if_there, is_pinned_kind, is_at, is_pin, is_owned_by, owner_value, held, pins, has_key, is_in_memory, Core, Cell, greatest, Alike}
-use Rattle.pagable_tables.proofs.Words.{left_rows, IsClosed, is_keyed, MustList, TellsListing, CannotList, IsListRefusal, Falls, fallen, pins_outside, held_outside, Counts, Holdings, live}
-use Rattle.pagable_tables.proofs.Words.{counts_at, refs_at, Fits, IsFalling, Right, is_bare, pins_in, holds_in, falls_in, keyed_in, cell_in, HasFallen, owns, owns_nothing, named}
-use Rattle.pagable_tables.proofs.Words.{with_tables, told_by, SoFar}
+use Rattle.pagable_tables.proofs.Words.{◌≡◌, ℕ, ◌+◌, ◌≤◌, ◌&&◌, Bool, true, false, not, if◌then◌else◌, List, [], ◌∷◌, ◌++◌, sum_by, refl, ap, sym, ◌∙◌, subst, arith, inl, inr, Option, Some}
+use Rattle.pagable_tables.proofs.Words.{None, ◌⊎◌, is_some, nat_lt, nat_eq, Result, Ok, Err, nat_tests, sum_by-cons, sum_by-append, Error, OptionalDataKey, ArcRef, HandleRow, one, times}
+use Rattle.pagable_tables.proofs.Words.{if_there, is_pinned_kind, is_at, is_pin, is_owned_by, owner_value, held, pins, has_key, is_in_memory, Core, Cell, greatest, Alike, left_rows}
+use Rattle.pagable_tables.proofs.Words.{IsClosed, is_keyed, MustList, TellsListing, CannotList, IsListRefusal, Falls, fallen, pins_outside, held_outside, Counts, Holdings, live, counts_at}
+use Rattle.pagable_tables.proofs.Words.{refs_at, Fits, IsFalling, Right, holds_in, falls_in, keyed_in, cell_in, HasFallen, owns, owns_nothing, with_tables, told_by, SoFar}
 use Rattle.pagable_tables.proofs.{Left.times-left, Left.entries-none, Forced.keyed-cell}
-
-bare-then : (w : Bool) (p h : ℕ) (k bare : Bool) → w ≡ false → (if w then h == 0 || (p == 0 && k) else nat_lt 0 h && (nat_lt 0 p || not k || bare)) ≡ true
-    → (h ≡ 0) ⊎ ((k ≡ true) × (p ≡ 0)) → bare ≡ true
-bare-then w p h k bare e r down = grind (arith, nat_tests)
-
-empty-then : (refs : List ArcRef) → is_bare refs ≡ true → refs ≡ []
-empty-then [] e = refl
-empty-then (x ∷ xs) e = absurd (cc)
-
-no-refs : (o : Option Counts) (refs : List ArcRef) → falls_in o ≡ false → Right o refs → (holds_in o ≡ 0) ⊎ ((keyed_in o ≡ true) × (pins_in o ≡ 0)) → refs ≡ []
-no-refs None refs w right down = right
-no-refs (Some c) refs w right down = empty-then refs (bare-then c.is_falling c.pins c.holds (nat_lt 0 c.key) (is_bare refs) w right down)
 
 stands : (at : ℕ → Option Counts) (refs : ℕ → List ArcRef) (rows : List HandleRow) (top : ℕ) → Fits at refs rows top [] owns_nothing → (n : ℕ) → falls_in (at n) ≡ false
 stands at refs rows top fits n = let a = fits.marked n in grind (arith, nat_tests)
@@ -25,12 +12,7 @@ stands at refs rows top fits n = let a = fits.marked n in grind (arith, nat_test
 -- no handle is left that a value owned which is gone
 pub none-left : (at : ℕ → Option Counts) (refs : ℕ → List ArcRef) (rows : List HandleRow) (top : ℕ) → Fits at refs rows top [] owns_nothing → (n q : ℕ) → HasFallen at rows n
     → sum_by (λ h. owns h n q) rows ≡ 0
-none-left at refs rows top fits n q down =
-    let down' : (holds_in (at n) ≡ 0) ⊎ ((keyed_in (at n) ≡ true) × (pins_in (at n) ≡ 0)) = elim down [ inl none ↦ inl (fits.holding n ∙ none) | inr both ↦ inr (both.0, fits.pinned n ∙ both.1) ] in
-    let e = no-refs (at n) (refs n) (stands at refs rows top fits n) (fits.right n) down' in
-    let a = fits.owned n q in
-    let b = ap (named q) e in
-    omega arith
+none-left at refs rows top fits n q down = grind (arith, nat_tests)
 
 none-owned : (n : ℕ) (rows : List HandleRow) → ((q : ℕ) → sum_by (λ h. owns h n q) rows ≡ 0) → times (is_owned_by (owner_value n)) rows ≡ 0
 none-owned n [] none = refl

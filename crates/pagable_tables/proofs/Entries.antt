@@ -1,6 +1,6 @@
 -- The entries of the list are given up one after the other, while no cell is listed.
-use Rattle.pagable_tables.proofs.Words.{◌≡◌, ℕ, ◌+◌, ◌<◌, ◌≤◌, ◌==◌, ◌&&◌, ◌||◌, Bool, true, false, not, if◌then◌else◌, List, [], ◌∷◌, ◌++◌, suc, zero, filter, length, map, Some, None, refl}
-use Rattle.pagable_tables.proofs.Words.{ap, sym, ◌∙◌, subst, arith, Option, Result, Ok, Err, nat_lt, vec_capacity, nat_tests, append-nil, sum_by-cons, sum_by-append, sum_by_push, Error}
+use Rattle.pagable_tables.proofs.Words.{◌≡◌, ℕ, ◌+◌, ◌<◌, ◌≤◌, ◌==◌, ◌&&◌, ◌||◌, Bool, true, false, not, if◌then◌else◌, List, [], ◌∷◌, ◌++◌, suc, zero, filter, length, map, None, refl, ap}
+use Rattle.pagable_tables.proofs.Words.{sym, ◌∙◌, subst, arith, Option, Result, Ok, Err, nat_lt, vec_capacity, nat_tests, append-nil, sum_by-cons, sum_by-append, sum_by_push, Error}
 use Rattle.pagable_tables.proofs.Words.{HandleNumber, HandleRow, Owner, Blob, Among, one, times, if_there, is_at, is_handle, is_owned_by, find_row, held, Core, FallsAnyhow, left_rows}
 use Rattle.pagable_tables.proofs.Words.{nobody, TellsListing, is_owned_in, Holdings, Tables, core_of, live, told_by, SoFar, entered, with_list, AreEntries}
 use Rattle.pagable_world.specs.Calls.{shut as shut_world}

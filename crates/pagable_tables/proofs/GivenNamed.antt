@@ -32,7 +32,4 @@ module _ (before w : Core) (lists : Bool) (t : Holdings) (l : LoadNumber) (rs : 
       (λ r e. let p = named-more rs i d r lt in let s : ((get_or rs i d).handle.0 == r) ≡ (r == (get_or rs i d).handle.0) = grind (arith, nat_tests) in grind (arith, nat_tests))
 
   pub all-given : (i : ℕ) → take i rs ≡ rs → ((q : ℕ) → is_named_by rs q ≡ true → is_owned_in w (Owner.Load l) q ≡ true) → SoFar before w (named_owned w l rs i) lists t → SoFar before w (is_named_by rs) lists t
-  all-given i all owned f =
-      regiven before w (named_owned w l rs i) (is_named_by rs) lists t f
-      (λ r e. let p = ap (λ l. is_named_by l r) all in let o = owned r e in grind (arith, nat_tests))
-      (λ r e. sym (ap (λ l. is_named_by l r) all) ∙ both-left (is_named_by (take i rs) r) _ e)
+  all-given i all owned f = grind (arith, nat_tests, both-left)

@@ -1,9 +1,9 @@
 -- One handle more has gone, given up directly or by a value that has fallen: what has gone so far.
 use Rattle.pagable_tables.proofs.Words.{◌≡◌, ℕ, ◌+◌, ◌<◌, ◌≤◌, ◌==◌, ◌&&◌, Bool, true, false, not, if◌then◌else◌, List, [], ◌∷◌, ◌++◌, length, filter, map, sum_by, refl, ap, sym, ◌∙◌, subst}
-use Rattle.pagable_tables.proofs.Words.{arith, inl, inr, is_some, vec_capacity, cases_Bool, nat_tests, append_assoc, append-nil, map-append, length-append, sum_by-cons, sum_by-append}
-use Rattle.pagable_tables.proofs.Words.{sum_by-le-sum_by, Error, HandleNumber, NodeNumber, HandleRow, Owner, one, times, is_pin, is_handle, is_owned_by, held, pins, Core, greatest}
-use Rattle.pagable_tables.proofs.Words.{left_rows, IsWithin, IsClosed, AreNewEntries, TellsListing, IsListRefusal, is_keyed, Holdings, live, counts_at, pins_in, entry, entries_of}
-use Rattle.pagable_tables.proofs.Words.{is_listing, cell_in, first_cause, IsUnlisted, GivesUp, HasPlaces, with_tables, told_by, SoFar}
+use Rattle.pagable_tables.proofs.Words.{arith, is_some, vec_capacity, nat_tests, append_assoc, append-nil, map-append, length-append, sum_by-cons, sum_by-append, sum_by-le-sum_by, Error}
+use Rattle.pagable_tables.proofs.Words.{HandleNumber, NodeNumber, HandleRow, Owner, one, times, is_pin, is_handle, is_owned_by, held, pins, Core, greatest, left_rows, IsWithin, IsClosed}
+use Rattle.pagable_tables.proofs.Words.{AreNewEntries, TellsListing, IsListRefusal, is_keyed, Holdings, live, counts_at, pins_in, entry, entries_of, is_listing, cell_in, first_cause}
+use Rattle.pagable_tables.proofs.Words.{IsUnlisted, GivesUp, HasPlaces, with_tables, told_by, SoFar}
 use Rattle.pagable_tables.proofs.{Left.and_one, Left.kept-more, Left.times-left, Left.entries-more, Leaving.leaves-sums, Wanted.entry-pins, NoEntry.of_list, NoEntry.none-listed}
 use Rattle.pagable_tables.proofs.{NoEntry.none-entered, RowsMore.rows-more, Telling.only-more, Telling.tells-more, Telling.refusal-now}
 
@@ -110,12 +110,7 @@ module _ (before w : Core) (given given' : ℕ → Bool) (lists : Bool) (t poppe
       ∙ ap (λ l. l ++ map (λ (h : HandleRow). h.number) (f.entries ++ entries_of g.listed (t.last_handle + 1) x.node)) (sym apart.kept)
 
   room : HasPlaces popped new
-  room =
-      let a = g.leaves.places in
-      let b = g.leaves.lists.comes.places in
-      let d : vec_capacity new.handles.places ≡ vec_capacity g.between.handles.places = ap (λ (h : Holdings). vec_capacity h.handles.places) g.same in
-      let e : vec_capacity new.list ≡ vec_capacity g.between.list = ap (λ (h : Holdings). vec_capacity h.list) g.same in
-      record { handles = omega arith; entries = omega arith }
+  room = grind (arith, nat_tests)
 
   -- why none came
   wanting : (e : Error) → g.listed ≡ false → IsUnlisted g.leaves.between e → IsListRefusal w (with_tables w new) e

@@ -279,14 +279,7 @@ module _ (t t1 : Tables) (stored : ℕ → Option Blob) (closed : Bool) (failure
 
 -- what is true with more places is true without them
 pub may-wider : {w v : Core} {me : Owner} {l : LoadNumber} {node : NodeNumber} {h : HandleNumber} {t : ℕ} {refs : List ArcRef} → IsWider w v → MayEnd v me l node h t refs → MayEnd w me l node h t refs
-may-wider {w} {v} {me} {l} {node} {h} {t} {refs} wider may =
-    let m : MayEnd (record w { places = v.places }) me l node h t refs = subst (λ u. MayEnd u me l node h t refs) wider.same may in
-    record {
-      load = m.load;
-      owned = record { stands_open = m.owned.stands_open; own = m.owned.own };
-      of_node = m.of_node;
-      good = sym (references-placed w v.places (Owner.Load l) [] refs) ∙ m.good;
-    }
+may-wider {w} {v} {me} {l} {node} {h} {t} {refs} wider may = grind (arith, nat_tests, references-placed)
 
 pub installs-wider : {w v w' : Core} {me : Owner} {l : LoadNumber} {node : NodeNumber} {h k : HandleNumber} {refs : List ArcRef} → IsWider w v → Installs v me l node h k refs w' → Installs w me l node h k refs w'
 installs-wider {w} {v} {w'} {me} {l} {node} {h} {k} {refs} wider installs =

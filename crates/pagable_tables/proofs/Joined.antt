@@ -1,9 +1,9 @@
 -- What a value refers to comes with it to a node that is there, has no value and is pinned.
-use Rattle.pagable_tables.proofs.Words.{◌≡◌, ℕ, ◌+◌, ◌<◌, ◌==◌, Bool, true, false, List, [], ◌∷◌, ◌++◌, sum_by, refl, ap, sym, ◌∙◌, subst, arith, Option, Some, None, inl, inr, if◌then◌else◌}
-use Rattle.pagable_tables.proofs.Words.{◌≢◌, cases_eq, nat_tests, sum_by_push, OptionalDataKey, ArcRef, HandleNumber, HandleRow, Owner, changed, if_there, pins, is_at, is_pin, is_handle}
-use Rattle.pagable_tables.proofs.Words.{is_in_memory, owner_value, IsHandleBefore, Cell, Core, references_fault, moved, is_named_by, Counts, Fits, Right, is_right, is_bare, cell_in, pins_in}
-use Rattle.pagable_tables.proofs.Words.{falls_in, is_valued, named, owns_nothing, AllPairs}
-use Rattle.pagable_tables.proofs.{Born.others-own, Born.own-own, Coming.turned, Coming.owned-by-none, Fitting.is_owned, Forced.keyed-cell, Taken.moved-times, keeps.Rows.sum-map}
+use Rattle.pagable_tables.proofs.Words.{◌≡◌, ℕ, ◌+◌, ◌<◌, ◌==◌, Bool, true, false, List, [], ◌∷◌, ◌++◌, sum_by, refl, ap, sym, ◌∙◌, subst, arith, Option, None, inl, inr, if◌then◌else◌, ◌≢◌}
+use Rattle.pagable_tables.proofs.Words.{cases_eq, nat_tests, sum_by_push, OptionalDataKey, ArcRef, HandleNumber, HandleRow, Owner, changed, if_there, pins, is_at, is_pin, is_handle}
+use Rattle.pagable_tables.proofs.Words.{is_in_memory, owner_value, IsHandleBefore, Cell, Core, references_fault, moved, is_named_by, Counts, Fits, Right, cell_in, pins_in, falls_in}
+use Rattle.pagable_tables.proofs.Words.{is_valued, named, owns_nothing, AllPairs}
+use Rattle.pagable_tables.proofs.{Born.others-own, Born.own-own, Coming.turned, Coming.owned-by-none, Fitting.is_owned, Taken.moved-times, keeps.Rows.sum-map}
 
 right-pinned : (o : Option Counts) (refs refs' : List ArcRef) → 0 < pins_in o → falls_in o ≡ false → Right o refs → Right o refs'
 right-pinned o refs refs' some stands right = grind (arith, nat_tests)
@@ -16,13 +16,7 @@ away-bare o refs p pinned stands right away = grind (arith, nat_tests)
 -- so its value owns nothing
 pub owns-none : (at : ℕ → Option Counts) (refs : ℕ → List ArcRef) (rows : List HandleRow) (top n : ℕ) → Fits at refs rows top [] owns_nothing
     → is_in_memory (pins n rows) (if_there (λ (cell : Cell). cell.key) OptionalDataKey.None (cell_in (at n))) ≡ false → (q : ℕ) → sum_by (is_owned n q) rows ≡ 0
-owns-none at refs rows top n fits away q =
-    let m = fits.marked n in
-    let stands : falls_in (at n) ≡ false = grind (arith, nat_tests) in
-    let bare = away-bare (at n) (refs n) (pins n rows) (fits.pinned n) stands (fits.right n) away in
-    let o = fits.owned n q in
-    let z = ap (named q) bare in
-    omega arith
+owns-none at refs rows top n fits away q = grind (arith, nat_tests)
 
 -- handles that are pinned and handles that move do so in any order
 pub moved-turned : (s : ℕ → Bool) (o : Owner) (q : ℕ) (x : HandleRow) (rows : List HandleRow) → s x.number.0 ≡ false

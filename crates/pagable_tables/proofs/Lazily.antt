@@ -1,10 +1,10 @@
 -- Why a load can't make a node, and what it gets.
-use Rattle.pagable_tables.proofs.Words.{◌≡◌, ℕ, ◌<◌, ◌≤◌, Bool, true, false, if◌then◌else◌, refl, ap, ◌∙◌, subst, arith, Ok, Err, Option, Some, None, inl, inr, not, nat_lt, is_some, Result}
-use Rattle.pagable_tables.proofs.Words.{[], zero, suc, Error, HandleNumber, LoadNumber, NodeNumber, Kind, Owner, Mode, is_loose_kind, if_there, mode_of, Core, OpenLoad, greatest, usable}
-use Rattle.pagable_tables.proofs.Words.{Alike, rank, earlier, refused_if, spent, load_fault, OwnsLoad, Refused, with_handle, is_usable, birth_fault, node_fault, lazy_fault, adopted}
-use Rattle.pagable_tables.proofs.Words.{LazyCall, OptionalDataKey, key_in, Makes, nat_tests}
+use Rattle.pagable_tables.proofs.Words.{◌≡◌, ℕ, ◌<◌, ◌≤◌, Bool, true, false, if◌then◌else◌, refl, ap, ◌∙◌, arith, Ok, Err, Option, Some, None, inl, inr, not, is_some, Result, [], zero, suc}
+use Rattle.pagable_tables.proofs.Words.{Error, HandleNumber, LoadNumber, NodeNumber, Kind, Owner, Mode, is_loose_kind, if_there, mode_of, Core, OpenLoad, greatest, usable, Alike, rank}
+use Rattle.pagable_tables.proofs.Words.{earlier, refused_if, spent, load_fault, OwnsLoad, Refused, birth_fault, node_fault, lazy_fault, adopted, LazyCall, OptionalDataKey, key_in, Makes}
+use Rattle.pagable_tables.proofs.Words.{nat_tests}
 use Rattle.pagable_world.specs.Calls.{IsNext}
-use Rattle.pagable_tables.proofs.{Opened.earlier-first, Opened.load-low, Opened.no-load-fault, Opened.number-late, Worlds.still}
+use Rattle.pagable_tables.proofs.{Opened.earlier-first, Opened.load-low, Opened.no-load-fault, Worlds.still}
 
 -- of two causes that come late each is
 earlier-late : (a b : Option Error) (f : Error) (n : ℕ) → ((g : Error) → a ≡ Some g → n ≤ rank g) → ((g : Error) → b ≡ Some g → n ≤ rank g) → earlier a b ≡ Some f → n ≤ rank f
@@ -15,9 +15,6 @@ earlier-late (Some x) (Some y) f n first second is = grind (arith, nat_tests)
 pub kind-late : (b : Bool) (f : Error) → refused_if b Error.WrongKind ≡ Some f → 3 ≤ rank f
 kind-late true f is = let a : rank Error.WrongKind ≡ rank f = ap (if_there rank 0) is in omega arith
 kind-late false f is = absurd (cc)
-
-birth-late : (w : Core) (f : Error) → birth_fault w ≡ Some f → 4 ≤ rank f
-birth-late w f is = earlier-late (spent w.last.node) (spent w.last.handle) f 4 (number-late true w.last.node) (number-late true w.last.handle) is
 
 pub node-late : (w : Core) (kind : Kind) (key : ℕ) (f : Error) → node_fault w kind key ≡ Some f → 4 ≤ rank f
 node-late w kind key f is = grind (arith, nat_tests)

@@ -1,5 +1,5 @@
 -- Rows that are left when a set of handles goes, counted and listed.
-use Rattle.pagable_tables.proofs.Words.{◌≡◌, ℕ, ◌+◌, ◌≤◌, ◌==◌, ◌&&◌, ◌||◌, Bool, true, false, not, if◌then◌else◌, List, [], ◌∷◌, ◌++◌, length, filter, refl, ap, sym, ◌∙◌, arith, nat_tests}
+use Rattle.pagable_tables.proofs.Words.{◌≡◌, ℕ, ◌+◌, ◌≤◌, ◌==◌, ◌&&◌, ◌||◌, Bool, true, false, not, if◌then◌else◌, List, [], ◌∷◌, ◌++◌, length, filter, refl, ap, ◌∙◌, arith, nat_tests}
 use Rattle.pagable_tables.proofs.Words.{sum_by-cons, sum_by-le-sum_by, HandleNumber, HandleRow, Owner, Mode, one, times, is_handle, left_rows, AreNewEntries}
 
 -- one handle more is in the set

@@ -1,7 +1,7 @@
 -- Workers come and leave, and their loads with them.
-use Rattle.pagable_tables.proofs.Words.{◌≡◌, ℕ, ◌+◌, ◌<◌, ◌==◌, ◌||◌, Bool, true, false, not, if◌then◌else◌, List, [], ◌∷◌, ◌++◌, filter, length, refl, ap, sym, ◌∙◌, subst, arith, Option}
-use Rattle.pagable_tables.proofs.Words.{Some, None, Ok, option_map, nat_tests, HandleNumber, Owner, Blob, is_in, updated, is_owner, owner_worker, Core, TakeCall, is_workers_load}
-use Rattle.pagable_tables.proofs.Words.{with_worker, LoadRow, Tables, core_of, load_in, left_load}
+use Rattle.pagable_tables.proofs.Words.{◌≡◌, ℕ, ◌+◌, ◌<◌, ◌==◌, Bool, true, false, not, if◌then◌else◌, List, [], ◌∷◌, ◌++◌, filter, length, ap, ◌∙◌, subst, arith, Option, Some, None, Ok}
+use Rattle.pagable_tables.proofs.Words.{option_map, nat_tests, HandleNumber, Owner, Blob, is_in, updated, Core, TakeCall, is_workers_load, with_worker, LoadRow, Tables, core_of, load_in}
+use Rattle.pagable_tables.proofs.Words.{left_load}
 use Rattle.pagable_model.specs.declared.numbers.WorkerNumber.{WorkerNumber}
 use Rattle.pagable_tables.specs.Giving.{TakesWorker}
 
@@ -30,10 +30,7 @@ left-was v row load is = grind (arith, nat_tests)
 -- the world of tables that have one worker more
 pub begun-core : (t t1 : Tables) (stored : ℕ → Option Blob) (closed : Bool) (failures : ℕ) → t1 ≡ record t { workers = t1.workers; last_worker = t1.last_worker } → t1.last_worker ≡ t.last_worker + 1
     → ((q : ℕ) → is_in t1.workers.items q ≡ updated (t.last_worker + 1) true (is_in t.workers.items) q) → core_of t1 stored closed failures ≡ with_worker (core_of t stored closed failures)
-begun-core t t1 stored closed failures same last more =
-    let w = core_of t stored closed failures in
-    let both : record w { workers = is_in t1.workers.items; last = record w.last { worker = t1.last_worker } } ≡ with_worker w = λ i. record w { workers = λ q. more q i; last = record w.last { worker = last i } } in
-    ap (λ (u : Tables). core_of u stored closed failures) same ∙ both
+begun-core t t1 stored closed failures same last more = grind (arith, nat_tests)
 
 -- the entry moves to it
 pub takes-worker : (w w1 w' : Core) (place : ℕ) (v : WorkerNumber) (found : Option HandleNumber) → w1 ≡ with_worker w → v.0 ≡ w.last.worker + 1 → place < length w.list → TakeCall w1 (Owner.Worker v) place found w' → TakesWorker w place (Ok v) w'

@@ -1,7 +1,7 @@
 -- Handles that references name come to another owner.
-use Rattle.pagable_tables.proofs.Words.{◌≡◌, ℕ, ◌+◌, ◌<◌, ◌≤◌, ◌==◌, ◌||◌, Bool, true, false, List, [], ◌∷◌, ◌++◌, take, drop, drop-cons, get_or, length, add-one, refl, ap, sym, ◌∙◌, arith}
-use Rattle.pagable_tables.proofs.Words.{Some, None, if◌then◌else◌, nat_tests, ◌≢◌, drop_all, take-suc, Error, ArcRef, HandleNumber, HandleRow, Owner, is_in, or_else, find_row, is_handle}
-use Rattle.pagable_tables.proofs.Words.{Core, reference_fault, references_fault, only_handle, moved, is_named_by}
+use Rattle.pagable_tables.proofs.Words.{◌≡◌, ℕ, ◌+◌, ◌<◌, ◌≤◌, ◌==◌, ◌||◌, true, false, List, [], ◌∷◌, ◌++◌, take, drop, drop-cons, get_or, length, add-one, refl, ap, sym, ◌∙◌, arith, Some}
+use Rattle.pagable_tables.proofs.Words.{None, nat_tests, ◌≢◌, drop_all, take-suc, Error, ArcRef, HandleNumber, HandleRow, Owner, is_in, or_else, find_row, Core, reference_fault}
+use Rattle.pagable_tables.proofs.Words.{references_fault, only_handle, moved, is_named_by}
 use Rattle.pagable_tables.proofs.Owned.{owned-by}
 
 -- no row has the number

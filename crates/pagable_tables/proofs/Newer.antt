@@ -2,9 +2,9 @@
 use Rattle.pagable_tables.proofs.Words.{◌≡◌, ℕ, ◌+◌, ◌<◌, ◌≤◌, ◌&&◌, ◌++◌, ◌∷◌, [], Bool, true, false, not, if◌then◌else◌, List, refl, ap, sym, ◌∙◌, arith, Option, Some, None, inl, inr, ◌⊎◌}
 use Rattle.pagable_tables.proofs.Words.{◌≢◌, Result, Ok, Err, is_some, option_map, cases_eq, Error, HandleNumber, LoadNumber, NodeNumber, HandleRow, Owner, Mode, Pinning, Kind, ArcRef}
 use Rattle.pagable_tables.proofs.Words.{OptionalDataKey, if_there, is_in, type_of, changed, is_handle, is_owner, is_owned_by, owner_value, find_row, mode_of, Core, Last, Alike, Falls}
-use Rattle.pagable_tables.proofs.Words.{only_handle, with_handle, with_node, next_node, with_cached, with_cached_if_open, is_named_by, moved, with_mode, LoosenCall, PinCall, UnpinCall}
-use Rattle.pagable_tables.proofs.Words.{ReleaseCall, SetKeyCall, ScheduleCall, TakeCall, OfferCall, CloseCall, is_owned_in, numbers_of, adopted, first_key, Adopts, DropCall, HandOverCall}
-use Rattle.pagable_tables.proofs.Words.{LazyCall, LoadRow, Tables, load_at, plain_of, load_in, Makes, AreLater, nat_tests}
+use Rattle.pagable_tables.proofs.Words.{only_handle, with_handle, with_node, next_node, with_cached_if_open, is_named_by, moved, with_mode, LoosenCall, PinCall, UnpinCall, ReleaseCall}
+use Rattle.pagable_tables.proofs.Words.{SetKeyCall, ScheduleCall, TakeCall, OfferCall, CloseCall, is_owned_in, numbers_of, adopted, first_key, Adopts, DropCall, HandOverCall, LazyCall}
+use Rattle.pagable_tables.proofs.Words.{LoadRow, Tables, load_at, plain_of, load_in, Makes, AreLater, nat_tests}
 use Rattle.pagable_tables.proofs.{Regiven.loaded, Regiven.passes-here, Regiven.passes-left, Regiven.no-entry, Regiven.unlisting, Taken.loaded-moved, Taken.and-left, Worlds.owner-same}
 use Rattle.pagable_tables.proofs.{keeps.Rows.found-among, keeps.Rows.found-push}
 use Rattle.pagable_world.specs.Pager as pager
@@ -72,10 +72,7 @@ later-so later newer loads =
 
 -- a load is closed
 pub closed-still : (at at' : ℕ → Option LoadRow) (m : ℕ) → at' m ≡ None → ((q : ℕ) → q ≢ m → at' q ≡ at q) → (l : ℕ) (load : LoadRow) → at' l ≡ Some load → at l ≡ Some load
-closed-still at at' m gone others l load is = elim (cases_eq l m) [
-  | inl e ↦ absurd (let a = sym is ∙ ap at' e ∙ gone in cc)
-  | inr e ↦ sym (others l e) ∙ is
-]
+closed-still at at' m gone others l load is = grind (arith, nat_tests)
 
 -- a load that isn't open owns nothing
 none-owned : (w : Core) → pager.IsWhole w → (l : LoadNumber) (q : ℕ) → w.loads l.0 ≡ None → is_owned_in w (Owner.Load l) q ≡ true → ⊥

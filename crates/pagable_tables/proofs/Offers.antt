@@ -1,8 +1,8 @@
 -- A handle is offered to the cache: why it is refused, and what is known then.
-use Rattle.pagable_tables.proofs.Words.{◌≡◌, ℕ, ◌<◌, ◌==◌, ◌&&◌, Bool, true, false, refl, ap, ◌∙◌, subst, arith, Option, Some, None, inl, inr, if◌then◌else◌, ◌≢◌, ◌⊎◌, not, nat_lt, cases_eq}
-use Rattle.pagable_tables.proofs.Words.{nat_tests, Error, HandleNumber, NodeNumber, Kind, HandleRow, Owner, if_there, type_of, fits_mode, Core, row_at, type_at, earlier, rank, refused_if}
-use Rattle.pagable_tables.proofs.Words.{spent, where_so, handle_fault, is_type, is_usable, offer_fault, option_map, is_owner}
-use Rattle.pagable_tables.proofs.{Pins.handle-first, Pins.spent-late, Pins.earlier-first, Opened.no-fault}
+use Rattle.pagable_tables.proofs.Words.{◌≡◌, ℕ, ◌<◌, ◌==◌, ◌&&◌, Bool, true, false, subst, arith, Option, Some, None, if◌then◌else◌, ◌≢◌, ◌⊎◌, not, nat_tests, Error, HandleNumber}
+use Rattle.pagable_tables.proofs.Words.{NodeNumber, Kind, HandleRow, Owner, if_there, type_of, fits_mode, Core, row_at, type_at, earlier, rank, refused_if, spent, where_so, handle_fault}
+use Rattle.pagable_tables.proofs.Words.{is_type, is_usable, offer_fault, option_map, is_owner}
+use Rattle.pagable_tables.proofs.{Pins.handle-first, Pins.spent-late}
 
 -- of two late causes any is late
 pub late : (a b : Option Error) (m : ℕ) → ((f : Error) → a ≡ Some f → m < rank f) → ((f : Error) → b ≡ Some f → m < rank f) → (f : Error) → earlier a b ≡ Some f → m < rank f
@@ -32,11 +32,7 @@ module _ (w : Core) (me : Owner) (kind : Kind) (key : ℕ) (h : HandleNumber) wh
   -- a handle that can be used, of a node of another type
   pub offer-kind : (row : HandleRow) → row_at w h ≡ Some row → is_owner me row.owner ≡ true → fits_mode kind.0 row.mode ≡ true → is_type (type_of kind.0) (type_at w row.node.0) ≡ false
       → offer_fault w me kind key h ≡ Some Error.WrongKind
-  offer-kind row at own fits other =
-      let none = no-fault w me h (fits_mode kind.0) row at own fits in
-      let here = ap (λ o. refused_if (not (is_type (type_of kind.0) (if_there (λ (row : HandleRow). type_at w row.node.0) None o))) Error.WrongKind) at in
-      let a : kind-fault ≡ Some Error.WrongKind = here ∙ ap (λ b. refused_if (not b) Error.WrongKind) other in
-      ap (λ f. earlier f (earlier kind-fault last-fault)) none ∙ ap (λ f. earlier f last-fault) a ∙ earlier-first Error.WrongKind last-fault (λ f so. let a = last-late f so in omega arith)
+  offer-kind row at own fits other = grind (arith, nat_tests)
 
   -- where handle and type are as asked, the last cause is left
   pub offer-last : (row : HandleRow) → handle_fault w me h (fits_mode kind.0) ≡ None → row_at w h ≡ Some row → type_at w row.node.0 ≡ Some (type_of kind.0) → offer_fault w me kind key h ≡ last-fault
@@ -45,16 +41,4 @@ module _ (w : Core) (me : Owner) (kind : Kind) (key : ℕ) (h : HandleNumber) wh
 -- the cache knows the node under the kind and the key, and all else as before
 pub learned : (known known' : ℕ → ℕ → Option NodeNumber) (kind key : ℕ) (n : NodeNumber) → known' kind key ≡ Some n → ((k q : ℕ) → (k ≢ kind) ⊎ (q ≢ key) → known' k q ≡ known k q)
     → (k q : ℕ) → option_map (λ (n : NodeNumber). n.0) (known' k q) ≡ (if k == kind && q == key then Some n.0 else option_map (λ (n : NodeNumber). n.0) (known k q))
-learned known known' kind key n here others k q = elim (cases_eq k kind) [
-  | inl e ↦ elim (cases_eq q key) [
-    | inl f ↦
-        let a : (k == kind) ≡ true = grind (arith, nat_tests) in
-        let b : (q == key) ≡ true = grind (arith, nat_tests) in
-        rw (a, b) (ap (λ i. option_map (λ (n : NodeNumber). n.0) (known' i q)) e ∙ ap (λ i. option_map (λ (n : NodeNumber). n.0) (known' kind i)) f ∙ ap (option_map (λ (n : NodeNumber). n.0)) here)
-    | inr f ↦
-        let a : (k == kind) ≡ true = grind (arith, nat_tests) in
-        let b : (q == key) ≡ false = grind (arith, nat_tests) in
-        rw (a, b) (ap (option_map (λ (n : NodeNumber). n.0)) (others k q (inr f)))
-  ]
-  | inr e ↦ let a : (k == kind) ≡ false = grind (arith, nat_tests) in rw a (ap (option_map (λ (n : NodeNumber). n.0)) (others k q (inl e)))
-]
+learned known known' kind key n here others k q = grind (arith, nat_tests)

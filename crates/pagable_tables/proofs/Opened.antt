@@ -1,16 +1,13 @@
 -- A load is opened and closed again. Why a handle can't come while numbers are left.
-use Rattle.pagable_tables.proofs.Words.{◌≡◌, ℕ, ◌<◌, ◌≤◌, Bool, true, false, if◌then◌else◌, List, refl, ap, sym, ◌∙◌, arith, Option, Some, None, inl, inr, ◌≢◌, ◌⊎◌, not, nat_lt, nat_le}
-use Rattle.pagable_tables.proofs.Words.{nat_tests, cases_eq, Error, OptionalDataKey, HandleNumber, LoadNumber, HandleRow, Owner, Mode, if_there, is_owner, is_loose, is_in_memory, pins, Core}
-use Rattle.pagable_tables.proofs.Words.{Cell, OpenLoad, greatest, row_at, rank, earlier, where_so, refused_if, spent, handle_fault, load_fault, closed_fault, OwnsLoad, Refused, Counts}
-use Rattle.pagable_tables.proofs.Words.{LoadRow, pins_in, cell_in, key_in, load_in, option_map}
+use Rattle.pagable_tables.proofs.Words.{◌≡◌, ℕ, ◌<◌, ◌≤◌, Bool, true, false, List, refl, ap, sym, ◌∙◌, arith, Option, Some, None, inl, inr, ◌≢◌, ◌⊎◌, nat_lt, nat_le, nat_tests, Error}
+use Rattle.pagable_tables.proofs.Words.{OptionalDataKey, HandleNumber, LoadNumber, HandleRow, Owner, Mode, if_there, is_owner, is_loose, is_in_memory, pins, Core, Cell, OpenLoad, greatest}
+use Rattle.pagable_tables.proofs.Words.{row_at, rank, earlier, where_so, refused_if, spent, handle_fault, load_fault, closed_fault, OwnsLoad, Refused, Counts, LoadRow, pins_in, cell_in}
+use Rattle.pagable_tables.proofs.Words.{key_in, load_in, option_map}
 use Rattle.pagable_tables.proofs.Pins.{owner-self, fault-rank}
 
 -- a load that wasn't open comes and goes
 pub load-goes : (at at' at'' : ℕ → Option LoadRow) (l : ℕ) → at l ≡ None → ((q : ℕ) → q ≢ l → at' q ≡ at q) → at'' l ≡ None → ((q : ℕ) → q ≢ l → at'' q ≡ at' q) → (q : ℕ) → option_map load_in (at'' q) ≡ option_map load_in (at q)
-load-goes at at' at'' l none others gone others' q = elim (cases_eq q l) [
-  | inl e ↦ ap (λ m. option_map load_in (at'' m)) e ∙ ap (option_map load_in) (gone ∙ sym none) ∙ sym (ap (λ m. option_map load_in (at m)) e)
-  | inr e ↦ ap (option_map load_in) (others' q e ∙ others q e)
-]
+load-goes at at' at'' l none others gone others' q = grind (arith, nat_tests)
 
 pub unspent : (last : ℕ) → last < greatest → spent last ≡ None
 unspent last lt = grind (arith, nat_tests)
@@ -29,10 +26,7 @@ handle-first w me h fits e so m n is =
 
 -- an own handle that fits has no fault
 pub no-fault : (w : Core) (me : Owner) (h : HandleNumber) (fits : Mode → Bool) (row : HandleRow) → row_at w h ≡ Some row → is_owner me row.owner ≡ true → fits row.mode ≡ true → handle_fault w me h fits ≡ None
-no-fault w me h fits row found own fit =
-    ap (if_there (λ (row : HandleRow). if not (is_owner me row.owner) then Some Error.NotYours else refused_if (not (fits row.mode)) Error.WrongMode) (Some Error.NoSuchHandle)) found
-    ∙ ap (λ b. if not b then Some Error.NotYours else refused_if (not (fits row.mode)) Error.WrongMode) own
-    ∙ ap (λ b. refused_if (not b) Error.WrongMode) fit
+no-fault w me h fits row found own fit = grind (arith, nat_tests)
 
 pub no-begin-fault : (w : Core) (me : Owner) (h : HandleNumber) (so : Bool) → handle_fault w me h is_loose ≡ None → w.last.load < greatest → w.last.handle < greatest → earlier (handle_fault w me h is_loose) (where_so so (earlier (spent w.last.load) (spent w.last.handle))) ≡ None
 no-begin-fault w me h so none load handle = grind (arith, nat_tests)
@@ -53,10 +47,7 @@ pub load-low : (w : Core) (me : Owner) (l : LoadNumber) (e : Error) → load_fau
 load-low w me l e is = grind (arith, nat_tests)
 
 pub no-load-fault : (w : Core) (me : Owner) (l : LoadNumber) (load : OpenLoad) → OwnsLoad w me l load → load_fault w me l ≡ None
-no-load-fault w me l load own =
-    ap (if_there (λ (load : OpenLoad). refused_if (not (is_owner me load.owner)) Error.NotYours) (Some Error.NoSuchHandle)) own.stands_open
-    ∙ ap (λ o. refused_if (not (is_owner me o)) Error.NotYours) own.own
-    ∙ ap (λ b. refused_if (not b) Error.NotYours) (owner-self me)
+no-load-fault w me l load own = grind (arith, nat_tests, owner-self)
 
 -- a cause of numbers, where it is asked
 pub number-late : (so : Bool) (last : ℕ) (f : Error) → where_so so (spent last) ≡ Some f → 4 ≤ rank f

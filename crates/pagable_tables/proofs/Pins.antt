@@ -1,8 +1,8 @@
 -- A handle is pinned, by a Pinned one that is made and by itself. Why an own handle can't be used.
-use Rattle.pagable_tables.proofs.Words.{◌≡◌, ℕ, ◌+◌, ◌<◌, ◌≤◌, Bool, true, false, List, [], ◌∷◌, ◌++◌, refl, ap, sym, ◌∙◌, subst, arith, Option, Some, None, if◌then◌else◌, not, nat_lt}
-use Rattle.pagable_tables.proofs.Words.{nat_le, nat_tests, Error, HandleNumber, NodeNumber, HandleRow, Owner, Mode, changed, if_there, find_row, is_handle, is_owner, Core, Alike, greatest}
-use Rattle.pagable_tables.proofs.Words.{row_at, earlier, rank, refused_if, spent, where_so, handle_fault, Owns, with_handle, with_mode, row_of}
-use Rattle.pagable_tables.proofs.{Coming.turned, Worlds.same-cache}
+use Rattle.pagable_tables.proofs.Words.{◌≡◌, ℕ, ◌+◌, ◌<◌, ◌≤◌, Bool, true, false, List, [], ◌∷◌, ◌++◌, refl, ap, sym, ◌∙◌, arith, Option, Some, None, if◌then◌else◌, not, nat_lt, nat_tests}
+use Rattle.pagable_tables.proofs.Words.{Error, HandleNumber, NodeNumber, HandleRow, Owner, Mode, changed, if_there, find_row, is_handle, is_owner, Core, Alike, row_at, earlier, rank}
+use Rattle.pagable_tables.proofs.Words.{refused_if, spent, where_so, handle_fault, Owns, with_handle, with_mode}
+use Rattle.pagable_tables.proofs.{Worlds.same-cache}
 
 -- a row of another number stays
 pub changed-push : (q : ℕ) (f : HandleRow → HandleRow) (rows : List HandleRow) (x : HandleRow) → q < x.number.0 → changed (is_handle q) f (rows ++ x ∷ []) ≡ changed (is_handle q) f rows ++ x ∷ []
@@ -12,23 +12,7 @@ changed-push q f (y ∷ ys) x less = ap (λ l. (if is_handle q y then f y else y
 -- the tables' cache stays, and so what it gives is told of the whole
 pub pinned-alike : (w u w' : Core) (h : HandleNumber) (node : NodeNumber) (me : Owner) → h.0 ≤ w.last.handle → ((kind key : ℕ) → w'.cache kind key ≡ w.cache kind key)
     → Alike (with_handle w node Mode.Pinned me) u → Alike (with_mode u h Mode.LoosePinned) w' → Alike (with_handle (with_mode w h Mode.LoosePinned) node Mode.Pinned me) w'
-pinned-alike w u w' h node me given cache a b =
-    let x : HandleRow = row_of (w.last.handle + 1) node Mode.Pinned me in
-    let rows = b.rows ∙ ap (changed (is_handle h.0) turned) a.rows ∙ changed-push h.0 turned w.rows x (omega arith) in
-    let v = with_handle (with_mode w h Mode.LoosePinned) node Mode.Pinned me in
-    record {
-      rows = rows;
-      cells = λ n. b.cells n ∙ a.cells n;
-      list = b.list ∙ a.list;
-      cache = same-cache v w' rows (λ n. b.cells n ∙ a.cells n) cache;
-      stored = λ q. b.stored q ∙ a.stored q;
-      closed = b.closed ∙ a.closed;
-      failures = b.failures ∙ a.failures;
-      loads = λ l. b.loads l ∙ a.loads l;
-      workers = λ v. b.workers v ∙ a.workers v;
-      last = b.last ∙ a.last;
-      places = record { handles = omega (arith, a.places.handles, b.places.handles); entries = omega (arith, a.places.entries, b.places.entries) };
-    }
+pinned-alike w u w' h node me given cache a b = grind (arith, nat_tests, changed-push, same-cache)
 
 abbrev fault-of : Owner → (Mode → Bool) → Option HandleRow → Option Error
 fault-of me fits o = if_there (λ (row : HandleRow). if not (is_owner me row.owner) then Some Error.NotYours else refused_if (not (fits row.mode)) Error.WrongMode) (Some Error.NoSuchHandle) o
@@ -52,10 +36,7 @@ owner-self o = grind (arith, nat_tests)
 
 -- the handle can be used as is asked
 pub no-fault : (w : Core) (me : Owner) (h : HandleNumber) (fits : Mode → Bool) (row : HandleRow) → Owns w me h fits row → handle_fault w me h fits ≡ None
-no-fault w me h fits row o =
-    let own : is_owner me row.owner ≡ true = ap (is_owner me) o.own ∙ owner-self me in
-    let asked = o.as_asked in
-    ap (fault-of me fits) o.live ∙ rw (own, asked) refl
+no-fault w me h fits row o = grind (arith, nat_tests, owner-self)
 
 -- the handle is an own one, of another mode
 pub wrong-mode : (w : Core) (me : Owner) (h : HandleNumber) (fits : Mode → Bool) (row : HandleRow) → row_at w h ≡ Some row → is_owner me row.owner ≡ true → fits row.mode ≡ false

@@ -1,12 +1,11 @@
 -- A world with more room, and a node that is born in it.
-use Rattle.pagable_tables.proofs.Words.{◌≡◌, ℕ, ◌+◌, ◌<◌, ◌≤◌, true, false, if◌then◌else◌, List, [], ◌∷◌, refl, ap, sym, ◌∙◌, subst, arith, Option, None, inl, inr, Bool, nat_le}
-use Rattle.pagable_tables.proofs.Words.{vec_capacity, nat_tests, IndexMap, OptionalDataKey, Error, ArcRef, HandleNumber, Kind, LoadNumber, NodeNumber, HandleRow, Owner, Mode, Blob, or_else}
-use Rattle.pagable_tables.proofs.Words.{type_of, mode_of, Core, Cell, Places, Alike, HasRoom, greatest, earlier, spent, reference_fault, references_fault, Refused, with_handle, with_node}
-use Rattle.pagable_tables.proofs.Words.{with_cached, next_node, adopted, LoadRow, Holdings, Tables, OnlyRoom, counts_at, refs_at, load_at, known_at, Fits, cell_in, owns_nothing, live}
-use Rattle.pagable_tables.proofs.Words.{AreSound, core_of, plain_of, MayHold, AreLater, option_map}
+use Rattle.pagable_tables.proofs.Words.{◌≡◌, ℕ, ◌+◌, ◌<◌, ◌≤◌, true, false, if◌then◌else◌, List, [], ◌∷◌, refl, ap, sym, ◌∙◌, subst, arith, Option, None, inl, inr, Bool, vec_capacity}
+use Rattle.pagable_tables.proofs.Words.{nat_tests, IndexMap, OptionalDataKey, Error, ArcRef, HandleNumber, Kind, LoadNumber, Owner, Mode, Blob, or_else, type_of, mode_of, Core, Places}
+use Rattle.pagable_tables.proofs.Words.{Alike, HasRoom, greatest, earlier, spent, reference_fault, references_fault, Refused, with_handle, with_node, with_cached, next_node, adopted}
+use Rattle.pagable_tables.proofs.Words.{LoadRow, Holdings, Tables, OnlyRoom, counts_at, refs_at, load_at, known_at, Fits, owns_nothing, live, AreSound, core_of, plain_of, MayHold, AreLater}
 use Rattle.pagable_world.specs.Calls.{IsNext}
 use Rattle.pagable_tables.specs.Core.{IsWhole}
-use Rattle.pagable_tables.proofs.{Newer.newer-alike, Newer.later-so, Worlds.same-cache, keeps.Told.alike-whole, keeps.Placed.whole-so}
+use Rattle.pagable_tables.proofs.{Newer.newer-alike, Newer.later-so, keeps.Told.alike-whole, keeps.Placed.whole-so}
 use Rattle.pagable_tables.specs.Live as places
 
 pub room-still : (w : Core) → OnlyRoom w w
@@ -75,11 +74,7 @@ more-room t t' rows counts known same capacity stored closed failures =
     mid = core_of (record t { holdings = record t.holdings { handles = t'.holdings.handles; nodes = t'.holdings.nodes }; cache = t'.cache }) stored closed failures
 
     all : core_of t' stored closed failures ≡ record w { places = mid.places }
-    all =
-        ap (λ (u : Tables). core_of u stored closed failures) same
-        ∙ (ap (λ (r : List HandleRow). record mid { rows = r }) rows
-        ∙ (ap (λ (f : ℕ → Option Cell). record w { cells = f; cache = mid.cache; places = mid.places }) (λ i n. ap cell_in (counts n) i)
-        ∙ ap (λ (f : ℕ → ℕ → Option ℕ). record w { cache = f; places = mid.places }) (λ i kind key. ap (option_map (λ (n : NodeNumber). n.0)) (known kind key) i)))
+    all = grind (arith, nat_tests)
 
 -- they stay whole
 pub room-whole : (t t' : Tables) → IsWhole t → AreSound t'.holdings.handles → places.IsNext (t'.holdings.last_handle + 1) t'.holdings.handles.places.items
@@ -125,10 +120,7 @@ adopted-past {w} {w1} {w'} l kind key own rs o a = split w.closed (subst (λ (u 
 
 -- numbers are left
 pub not-spent : (n h : ℕ) → n < greatest → h < greatest → earlier (spent n) (spent h) ≡ None
-not-spent n h node handle =
-    let a : nat_le greatest n ≡ false = grind (arith, nat_tests) in
-    let b : nat_le greatest h ≡ false = grind (arith, nat_tests) in
-    rw (a, b) refl
+not-spent n h node handle = grind (arith, nat_tests)
 
 -- where nothing was looked at before, memory may be wanting all the more
 pub weaker : {cause before : Option Error} {w w' : Core} {e : Error} → Refused cause before (Unit {0}) w e w' → Refused cause None (Unit {0}) w e w'

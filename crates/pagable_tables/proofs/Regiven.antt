@@ -1,7 +1,6 @@
 -- What was given is told by another set. Handles of a load that are left are those that it had and that haven't gone.
-use Rattle.pagable_tables.proofs.Words.{◌≡◌, ℕ, ◌≤◌, ◌==◌, ◌&&◌, ◌||◌, Bool, true, false, not, if◌then◌else◌, List, [], ◌∷◌, ◌++◌, refl, ap, sym, ◌∙◌, arith, ◌+◌, Some, nat_tests}
-use Rattle.pagable_tables.proofs.Words.{LoadNumber, HandleRow, Owner, one, if_there, is_handle, is_owner, is_owned_by, find_row, Core, left_rows, AreNewEntries, is_owned_in, Holdings, live}
-use Rattle.pagable_tables.proofs.Words.{SoFar, passes_in}
+use Rattle.pagable_tables.proofs.Words.{◌≡◌, ℕ, ◌≤◌, ◌==◌, ◌&&◌, ◌||◌, Bool, true, false, not, if◌then◌else◌, List, [], ◌∷◌, ◌++◌, refl, ap, sym, ◌∙◌, arith, ◌+◌, nat_tests, LoadNumber}
+use Rattle.pagable_tables.proofs.Words.{HandleRow, Owner, one, is_handle, is_owner, is_owned_by, find_row, Core, left_rows, AreNewEntries, is_owned_in, Holdings, live, SoFar, passes_in}
 use Rattle.pagable_tables.proofs.{Left.and_one, Next.within-less}
 
 less-unless : (a g b : Bool) → (a ≡ true → (b || g) ≡ true) → one (a && not g) ≤ one (b && not g)

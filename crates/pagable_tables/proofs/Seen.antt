@@ -1,5 +1,5 @@
 -- Handles that are named one after the other.
-use Rattle.pagable_tables.proofs.Words.{◌≡◌, ℕ, ◌+◌, ◌<◌, ◌==◌, ◌||◌, Bool, true, false, List, [], ◌∷◌, length, get_or, drop, refl, ap, sym, ◌∙◌, arith, suc, zero, Option, Some, None, not}
+use Rattle.pagable_tables.proofs.Words.{◌≡◌, ℕ, ◌+◌, ◌<◌, ◌==◌, ◌||◌, true, false, List, [], ◌∷◌, length, get_or, drop, refl, ap, sym, ◌∙◌, arith, suc, zero, Option, Some, None, not}
 use Rattle.pagable_tables.proofs.Words.{nat_tests, HandleNumber, at_drop_more, at_drop_all, Error, HandleRow, Owner, is_in, if_there, is_owner, find_row, Core, named_fault, refused_if}
 use Rattle.pagable_tables.proofs.Words.{earlier, seen, named_at}
 

@@ -1,12 +1,12 @@
 -- A handle that comes and pins stays, while others that are given go with all that follows.
 use Rattle.pagable_tables.proofs.Words.{◌≡◌, ℕ, ◌<◌, ◌≤◌, ◌==◌, ◌&&◌, ◌++◌, Bool, true, false, not, if◌then◌else◌, List, [], ◌∷◌, refl, ap, sym, ◌∙◌, subst, arith, inl, inr, None, ◌⊎◌}
 use Rattle.pagable_tables.proofs.Words.{nat_eq, Result, Ok, Err, AllPairs, nat_tests, cases_eq, sum_by-le-sum_by, sum_by_push, sum_by-append, Error, HandleRow, Among, if_there, one, times}
-use Rattle.pagable_tables.proofs.Words.{is_loose_kind, is_shared_kind, is_handle, is_owner, mode_of, is_at, is_pin, is_share, is_pinning, is_owned_by, owner_value, held, pins, sharing, Core}
-use Rattle.pagable_tables.proofs.Words.{Places, HasRoom, Alike, IsHandleBefore, HandlesAreWhole, references_fault, is_owned_in, ArcRef, IsLeast, IsWithin, IsClosed, loses_value}
-use Rattle.pagable_tables.proofs.Words.{pins_outside, held_outside, owned_outside, is_outside, is_keyed, left_rows, MustList, TellsListing, IsPlaceWanting, IsListRefusal, Falls, is_named_by}
-use Rattle.pagable_tables.proofs.Words.{is_valued, LoadNumber, Owner, Mode}
-use Rattle.pagable_tables.proofs.{Coming.no-value, Regiven.loaded, Regiven.passes-here, Regiven.passes-none, Left.times-left, Next.within-less, Dropped.owned-given}
-use Rattle.pagable_tables.proofs.{keeps.BirthCalls.named-mine, keeps.Rows.counted, keeps.Rows.at-most-sum, keeps.Rows.once, keeps.Rows.among-last, Pins.owner-self}
+use Rattle.pagable_tables.proofs.Words.{is_loose_kind, is_owner, mode_of, is_at, is_pin, is_share, is_pinning, is_owned_by, owner_value, held, pins, sharing, Core, Places, HasRoom, Alike}
+use Rattle.pagable_tables.proofs.Words.{IsHandleBefore, HandlesAreWhole, references_fault, is_owned_in, ArcRef, IsLeast, IsWithin, IsClosed, loses_value, pins_outside, held_outside}
+use Rattle.pagable_tables.proofs.Words.{owned_outside, is_outside, is_keyed, left_rows, MustList, TellsListing, IsPlaceWanting, IsListRefusal, Falls, is_named_by, is_valued, LoadNumber}
+use Rattle.pagable_tables.proofs.Words.{Owner}
+use Rattle.pagable_tables.proofs.{Coming.no-value, Regiven.loaded, Regiven.passes-here, Regiven.passes-none, Left.times-left, Dropped.owned-given, keeps.BirthCalls.named-mine}
+use Rattle.pagable_tables.proofs.{keeps.Rows.counted, keeps.Rows.at-most-sum, keeps.Rows.once, keeps.Rows.among-last, Pins.owner-self}
 
 zero-or : (n : ℕ) → (n ≡ 0) ⊎ (0 < n)
 zero-or n = elim (cases_eq n 0) [ inl e ↦ inl e | inr e ↦ inr (omega arith) ]
@@ -78,31 +78,7 @@ module _ {b w u w' : Core} {given : ℕ → Bool} {r : Result (Unit {0}) Error} 
   telling (Err e) t = let n = t.not_all in record { all = tt; not_all = (n.0, there n.0 n.1, n.2, refusal u w' places more e n.3) }
 
   pub seen-before : Falls w u given r w'
-  seen-before =
-      let a = falls.leaves in
-      record {
-        gone = falls.gone;
-        entries = falls.entries;
-        set = falls.set;
-        new = falls.new;
-        only = λ n some. let o = falls.only n some in (there n o.0, o.1);
-        each = λ n m. elim (falls.each n (back n m)) [ inl one ↦ inl one | inr cannot ↦ inr (elim cannot [ inl spent ↦ inl spent | inr full ↦ inr (wanting u w' places more full) ]) ];
-        tells = telling r falls.tells;
-        within = falls.within;
-        leaves = record {
-          rows = a.rows;
-          cells = a.cells;
-          list = a.list;
-          cache = record { gives = a.cache.gives; only = a.cache.only };
-          stored = a.stored;
-          closed = a.closed;
-          failures = a.failures;
-          loads = a.loads;
-          workers = a.workers;
-          last = a.last;
-          places = record { handles = (let m = more.handles in let p = a.places.handles in omega arith); entries = (let m = more.entries in let p = a.places.entries in omega arith) };
-        };
-      }
+  seen-before = grind (arith, nat_tests)
 
 -- where a handle of w has come that pins and stays, pins go to 0 just where they would have
 pub stays-pinned : (w u w' : Core) (given : ℕ → Bool) (r : Result (Unit {0}) Error) (x : HandleRow) → u.rows ≡ w.rows ++ x ∷ [] → AllPairs IsHandleBefore u.rows → is_valued x.owner ≡ false → is_pinning x.mode ≡ true → given x.number.0 ≡ false → Falls u u given r w'
@@ -133,20 +109,7 @@ stays-pinned w u w' given r x rows ordered plain pinning kept falls n none = spl
 
 -- a world that is told alike, with the same cache, has but more room
 pub retold : (u b : Core) → Alike u b → b.cache ≡ u.cache → b ≡ record u { places = b.places }
-retold u b a cache =
-    λ i. record {
-      rows = a.rows i;
-      cells = λ n. a.cells n i;
-      list = a.list i;
-      cache = cache i;
-      stored = λ q. a.stored q i;
-      closed = a.closed i;
-      failures = a.failures i;
-      loads = λ l. a.loads l i;
-      workers = λ v. a.workers v i;
-      last = a.last i;
-      places = b.places;
-    }
+retold u b a cache = grind (arith, nat_tests)
 
 pub eager-pins : (kind : ℕ) → is_loose_kind kind ≡ false → is_pinning (mode_of kind) ≡ true
 eager-pins kind eager = grind (arith, nat_tests)

@@ -1,13 +1,12 @@
 -- A handle comes, and then another is given up: the new one stays, so that cells are listed as of the world before it came.
-use Rattle.pagable_tables.proofs.Words.{◌≡◌, ℕ, ◌+◌, ◌<◌, ◌≤◌, ◌==◌, ◌&&◌, Bool, true, false, [], ◌∷◌, refl, ap, sym, ◌∙◌, subst, arith, Ok, Err, Option, Some, None, inl, inr, if◌then◌else◌}
-use Rattle.pagable_tables.proofs.Words.{Result, not, nat_lt, nat_eq, nat_tests, sum_by_push, sum_by-append, sum_by-le-sum_by, Error, NodeNumber, HandleRow, Owner, Mode, Blob, Among, one}
-use Rattle.pagable_tables.proofs.Words.{times, if_there, is_handle, has_key, is_at, is_pin, is_share, is_pinning, is_shared, is_owner, is_owned_by, owner_value, held, pins, sharing}
-use Rattle.pagable_tables.proofs.Words.{HandleNumber, OptionalDataKey, Core, Cell, Last, Alike, Falls, IsClosed, IsWithin, MustList, TellsListing, is_keyed, nobody, pins_outside}
-use Rattle.pagable_tables.proofs.Words.{held_outside, left_rows, row_of, with_handle, Counts, Tables, live, counts_at, ValueStays, cell_in, has_value, is_valued, pins_in, SoFar}
-use Rattle.pagable_tables.proofs.Words.{is_plain_pin, core_of}
+use Rattle.pagable_tables.proofs.Words.{◌≡◌, ℕ, ◌+◌, ◌<◌, ◌≤◌, ◌==◌, ◌&&◌, Bool, true, false, [], ◌∷◌, refl, ap, sym, ◌∙◌, subst, arith, Ok, Err, Option, None, inl, inr, if◌then◌else◌}
+use Rattle.pagable_tables.proofs.Words.{Result, not, nat_eq, nat_tests, sum_by_push, sum_by-append, sum_by-le-sum_by, Error, NodeNumber, HandleRow, Owner, Mode, Blob, Among, one, times}
+use Rattle.pagable_tables.proofs.Words.{is_handle, is_at, is_pin, is_share, is_pinning, is_shared, is_owner, is_owned_by, owner_value, held, pins, sharing, HandleNumber, Core, Last, Alike}
+use Rattle.pagable_tables.proofs.Words.{Falls, IsClosed, IsWithin, MustList, TellsListing, is_keyed, nobody, pins_outside, held_outside, left_rows, row_of, with_handle, Counts, Tables, live}
+use Rattle.pagable_tables.proofs.Words.{counts_at, ValueStays, cell_in, has_value, is_valued, pins_in, SoFar, is_plain_pin, core_of}
 use Rattle.pagable_tables.specs.Core.{IsWhole}
-use Rattle.pagable_tables.proofs.{Begun.begins, Begun.begun, Forced.keyed-cell, Left.times-left, Next.within-less, Shedding.none-falls-in, keeps.Rests.within-goes, keeps.Rows.among-both}
-use Rattle.pagable_tables.proofs.{keeps.Rows.among-one, keeps.Rows.among-last, keeps.Rows.at-most-sum, keeps.Rows.sum-none}
+use Rattle.pagable_tables.proofs.{Begun.begins, Begun.begun, Left.times-left, Shedding.none-falls-in, keeps.Rests.within-goes, keeps.Rows.among-both, keeps.Rows.among-one}
+use Rattle.pagable_tables.proofs.{keeps.Rows.among-last, keeps.Rows.at-most-sum, keeps.Rows.sum-none}
 
 -- a handle that doesn't pin isn't Shared
 unshared : (b : Bool) (mode : Mode) → (b && is_pinning mode) ≡ false → (b && is_shared mode) ≡ false
@@ -122,12 +121,7 @@ same-value o o' b cell pinned there = grind (arith, nat_tests)
 -- where rows and cells stay no value comes or goes
 pub values-still : (t new : Tables) → IsWhole t → IsWhole new → live new.holdings.handles.places.items ≡ live t.holdings.handles.places.items
     → ((n : ℕ) → cell_in (counts_at new.holdings.nodes n) ≡ cell_in (counts_at t.holdings.nodes n)) → (n : ℕ) → ValueStays (counts_at t.holdings.nodes n) (counts_at new.holdings.nodes n)
-values-still t new was after rows cells n falls = (
-  none-falls-in t.holdings was.steady n,
-  same-value (counts_at t.holdings.nodes n) (counts_at new.holdings.nodes n) false (cells n)
-      (let p = was.steady.fits.pinned n in let q = after.steady.fits.pinned n in let s = ap (pins n) rows in omega arith)
-      (λ e. absurd (cc)),
-)
+values-still t new was after rows cells n falls = grind (arith, nat_tests)
 
 module _ (t new : Tables) (stored : ℕ → Option Blob) (failures : ℕ) (node : NodeNumber) (mode : Mode) (me : Owner) (after : IsWhole new)
     (a : Alike (with_handle (core_of t stored false failures) node mode me) (core_of new stored false failures)) where

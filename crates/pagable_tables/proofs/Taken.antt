@@ -1,8 +1,8 @@
 -- A load hands handles over, and gives up the rest.
-use Rattle.pagable_tables.proofs.Words.{◌≡◌, ℕ, ◌<◌, ◌==◌, ◌&&◌, Bool, true, false, not, if◌then◌else◌, List, [], ◌∷◌, length, refl, ap, sym, ◌∙◌, subst, arith, Option, Some, None, inl, inr}
-use Rattle.pagable_tables.proofs.Words.{nat_tests, sum_by-cons, HandleNumber, LoadNumber, HandleRow, Owner, Blob, Among, one, times, if_there, is_in, is_handle, is_owner, is_owned_by}
-use Rattle.pagable_tables.proofs.Words.{is_pin, is_share, find_row, pins, Core, OpenLoad, HasRoom, MayOwnLoad, earlier, load_fault, named_fault, nobody, moved, without_load, numbers_of}
-use Rattle.pagable_tables.proofs.Words.{cell_fault, hand_over_fault, Tables, Holdings, live, is_valued, with_tables, is_plain_pin, SoFar, core_of, named_at, IsNamed}
+use Rattle.pagable_tables.proofs.Words.{◌≡◌, ℕ, ◌<◌, ◌==◌, ◌&&◌, Bool, true, false, not, if◌then◌else◌, List, [], ◌∷◌, length, refl, ap, sym, ◌∙◌, subst, arith, Option, None, inl, inr}
+use Rattle.pagable_tables.proofs.Words.{nat_tests, sum_by-cons, HandleNumber, LoadNumber, HandleRow, Owner, Blob, Among, one, times, is_in, is_handle, is_owner, is_owned_by, is_pin}
+use Rattle.pagable_tables.proofs.Words.{is_share, find_row, pins, Core, HasRoom, MayOwnLoad, load_fault, named_fault, nobody, moved, without_load, numbers_of, hand_over_fault, Tables}
+use Rattle.pagable_tables.proofs.Words.{Holdings, live, is_valued, with_tables, is_plain_pin, SoFar, core_of, named_at, IsNamed}
 use Rattle.pagable_tables.specs.Core.{IsWhole}
 use Rattle.pagable_tables.proofs.{Begun.begins, Begun.begun, Handed.seen-all, Regiven.loaded, Seen.in-there, keeps.Comes.not-list, keeps.EndCalls.both-none, keeps.EndCalls.handed-mine}
 use Rattle.pagable_tables.proofs.{keeps.EndCalls.asker-owns, keeps.LoadCalls.may-hold, keeps.Moved.moved-to-holder, keeps.Rows.found-among, keeps.Rows.once}
@@ -64,10 +64,7 @@ pub record MayHand (w : Core) (me : Owner) (l : LoadNumber) (hs : List HandleNum
   pub named : named_fault w (Owner.Load l) [] hs ≡ None
 
 pub may-hand : {w : Core} → pager.IsWhole w → (me : Owner) (l : LoadNumber) (hs : List HandleNumber) → hand_over_fault w me l hs ≡ None → MayHand w me l hs
-may-hand {w} whole me l hs good =
-    let first = both-none (load_fault w me l) (earlier (if_there (λ (load : OpenLoad). cell_fault load.root) None (w.loads l.0)) (named_fault w (Owner.Load l) [] hs)) good in
-    let second = both-none (if_there (λ (load : OpenLoad). cell_fault load.root) None (w.loads l.0)) (named_fault w (Owner.Load l) [] hs) first.1 in
-    record { own = first.0; may = asker-owns whole me l first.0; named = second.1 }
+may-hand {w} whole me l hs good = grind (arith, nat_tests, both-none, asker-owns)
 
 pub named-there : (w : Core) (l : LoadNumber) (hs : List HandleNumber) → named_fault w (Owner.Load l) [] hs ≡ None → (place : ℕ) → place < length hs → IsNamed w.rows (named_at hs place)
 named-there w l hs good place lt =

@@ -1,11 +1,10 @@
 -- Loads of cells that can end, and what is true once they do.
-use Rattle.pagable_tables.proofs.Words.{◌≡◌, ℕ, ◌<◌, ◌==◌, Bool, true, false, List, [], ◌∷◌, refl, ap, sym, ◌∙◌, subst, arith, inl, inr, Option, Some, None, ◌⊎◌, ◌≤◌, ◌+◌, not, nat_le}
-use Rattle.pagable_tables.proofs.Words.{vec_capacity, nat_tests, Error, ArcRef, HandleNumber, LoadNumber, NodeNumber, HandleRow, Owner, if_there, or_else, is_owner, is_owned_by, Core}
-use Rattle.pagable_tables.proofs.Words.{OpenLoad, Places, of_cell, of_key, greatest, row_at, AreHandlesFull, earlier, refused_if, where_so, spent, load_fault, reference_fault}
-use Rattle.pagable_tables.proofs.Words.{references_fault, MayOwnLoad, root_fault, end_fault, is_owned_in, MayEnd, Handles, Tables, live, room, AreSound, IsNext, counts_at, refs_at, plain_of}
-use Rattle.pagable_tables.proofs.Words.{Ending, IsReady}
+use Rattle.pagable_tables.proofs.Words.{◌≡◌, ℕ, ◌<◌, ◌==◌, true, List, [], ◌∷◌, refl, ap, sym, ◌∙◌, subst, arith, Option, Some, None, ◌⊎◌, ◌≤◌, ◌+◌, not, vec_capacity, nat_tests, Error}
+use Rattle.pagable_tables.proofs.Words.{ArcRef, HandleNumber, LoadNumber, NodeNumber, HandleRow, Owner, if_there, or_else, is_owner, Core, OpenLoad, Places, of_cell, of_key, greatest}
+use Rattle.pagable_tables.proofs.Words.{row_at, AreHandlesFull, refused_if, where_so, spent, load_fault, reference_fault, references_fault, MayOwnLoad, root_fault, end_fault, is_owned_in}
+use Rattle.pagable_tables.proofs.Words.{MayEnd, Handles, Tables, live, room, AreSound, IsNext, counts_at, refs_at, plain_of, Ending, IsReady}
 use Rattle.pagable_tables.specs.Core.{IsWhole}
-use Rattle.pagable_tables.proofs.{Coming.rows-told, Worlds.alike, Worlds.owner-same, keeps.Told.alike-whole, keeps.Placed.whole-so, keeps.EndCalls.both-none}
+use Rattle.pagable_tables.proofs.{Coming.rows-told, Worlds.alike, keeps.Told.alike-whole, keeps.Placed.whole-so, keeps.EndCalls.both-none}
 
 typed-so : (a b : ℕ) → refused_if (not (a == b)) Error.WrongKind ≡ None → a ≡ b
 typed-so a b e = grind (arith, nat_tests)
@@ -18,10 +17,7 @@ module _ (w : Core) (me : Owner) (l : LoadNumber) (node_type : ℕ) (refs : List
   root = if_there (λ (load : OpenLoad). root_fault w me node_type load.root) None (w.loads l.0)
 
   parts : (load_fault w me l ≡ None) × (root ≡ None) × (references_fault w (Owner.Load l) [] refs ≡ None)
-  parts =
-      let first = both-none (load_fault w me l) (earlier root (references_fault w (Owner.Load l) [] refs)) none in
-      let second = both-none root (references_fault w (Owner.Load l) [] refs) first.1 in
-      (first.0, second.0, second.1)
+  parts = grind (arith, nat_tests, both-none)
 
   -- it is open
   pub opens : w.loads l.0 ≡ None → ⊥
@@ -77,19 +73,7 @@ no-wanting t e sound left place h = grind (arith, nat_tests)
 -- a load that can end can where there are other places
 pub ready-placed : (w : Core) (places : Places) (rows : List HandleRow) (me : Owner) (l : LoadNumber) (node_type : ℕ) (refs : List ArcRef) (e : Ending) → rows ≡ w.rows → IsReady w me l node_type refs e
     → IsReady (record w { rows = rows; places = places }) me l node_type refs e
-ready-placed w places rows me l node_type refs e same r =
-    subst (λ rows. IsReady (record w { rows = rows; places = places }) me l node_type refs e) (sym same)
-    (record {
-      may = record {
-        load = r.may.load;
-        owned = record { stands_open = r.may.owned.stands_open; own = r.may.owned.own };
-        of_node = r.may.of_node;
-        good = references-placed w places (Owner.Load l) [] refs ∙ r.may.good;
-      };
-      owned = record { live = r.owned.live; own = r.owned.own; as_asked = r.owned.as_asked };
-      away = r.away;
-      left = r.left;
-    })
+ready-placed w places rows me l node_type refs e same r = grind (arith, nat_tests, references-placed)
 
 -- who ends a load may own one
 pub ready-owner : (t : Tables) (me : Owner) (l : LoadNumber) (node_type : ℕ) (refs : List ArcRef) (e : Ending) → IsWhole t → IsReady (plain_of t) me l node_type refs e → MayOwnLoad (plain_of t) me

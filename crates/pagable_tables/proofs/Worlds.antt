@@ -1,7 +1,6 @@
 -- Two worlds that are told alike.
-use Rattle.pagable_tables.proofs.Words.{true, Ok, Err, ◌≡◌, ℕ, ◌&&◌, List, refl, ap, sym, ◌∙◌, subst, arith, Option, Some, None, if◌then◌else◌, not, Result, Error, HandleNumber, Owner}
-use Rattle.pagable_tables.proofs.Words.{nat_tests, CloneCall, earlier, live_fault, spent, Refused, AreHandlesFull, Makes, is_pinned_kind, if_there, SameAt, pins, is_in_memory, is_owner}
-use Rattle.pagable_tables.proofs.Words.{Core, Cell, SameCache, Alike, HasRoom, row_at, HandleRow}
+use Rattle.pagable_tables.proofs.Words.{true, ◌≡◌, ℕ, ◌&&◌, List, refl, ap, sym, ◌∙◌, arith, Option, Some, None, if◌then◌else◌, not, Result, Error, HandleNumber, Owner, nat_tests, CloneCall}
+use Rattle.pagable_tables.proofs.Words.{Makes, is_pinned_kind, if_there, SameAt, pins, is_in_memory, is_owner, Core, Cell, SameCache, Alike, HasRoom, row_at, HandleRow}
 
 -- what an entry of the cache gives where its node is this cell
 abbrev pub use-of : List HandleRow → ℕ → ℕ → Option Cell → Option ℕ

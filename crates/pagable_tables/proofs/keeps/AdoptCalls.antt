@@ -63,10 +63,7 @@ lazy-whole {w} me l kind key (Ok k) whole call placed = let (load, owns, loose, 
 lazy-whole me l kind key (Err e) whole call placed = alike-whole whole (alike-opened call.refused.stays) placed
 
 shared-keyless : (kind key : ℕ) → is_shared (mode_of kind) ≡ true → has_key (first_key kind key) ≡ false
-shared-keyless kind key shared =
-    let b : (kind % 3 == 0) ≡ true = sym (mode-shared kind) ∙ shared in
-    let c : (kind % 3 == 2) ≡ false = grind (arith, nat_tests) in
-    ap (λ t. has_key (if t then OptionalDataKey.Some key else OptionalDataKey.None)) c
+shared-keyless kind key shared = grind (arith, nat_tests, mode-shared)
 
 pub adopt-whole : {N : Type 0} {w w' : Core} (me : Owner) (l : LoadNumber) (kind : Kind) (key : ℕ) (x : N) (node_type : ℕ) (refs : List ArcRef) (r : Result HandleNumber (Error × N))
     → IsWhole (opened w)

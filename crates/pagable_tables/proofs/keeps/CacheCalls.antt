@@ -1,8 +1,8 @@
 -- Calls on the cache and on room keep the world whole.
-use Rattle.pagable_tables.proofs.Words.{◌≡◌, ℕ, ◌<◌, ◌==◌, ◌&&◌, ◌%◌, Bool, true, false, not, if◌then◌else◌, Ok, Err, Option, Some, None, inl, inr, refl, ap, sym, subst, ◌∙◌, arith, Result}
-use Rattle.pagable_tables.proofs.Words.{is_some, nat_lt, nat_tests, Error, HandleNumber, Kind, NodeNumber, HandleRow, Owner, Mode, one, Among, if_there, type_of, is_shared_kind}
-use Rattle.pagable_tables.proofs.Words.{is_loose_kind, is_pinned_kind, held, sharing, pins, is_at, is_share, is_shared, is_in_memory, fits_mode, mode_of, Core, Cell, greatest, usable}
-use Rattle.pagable_tables.proofs.Words.{only_handle, ClearCall, ReserveCall, RecallCall, OfferCall, with_cached, with_known, IsWhole, IsEntryWhole, ArePlaced, MayHold, Suits}
+use Rattle.pagable_tables.proofs.Words.{◌≡◌, ℕ, ◌<◌, ◌==◌, ◌&&◌, Bool, true, false, if◌then◌else◌, Ok, Err, Option, Some, None, inl, inr, refl, ap, sym, subst, ◌∙◌, arith, Result, is_some}
+use Rattle.pagable_tables.proofs.Words.{nat_lt, nat_tests, Error, HandleNumber, Kind, NodeNumber, HandleRow, Owner, Mode, one, Among, type_of, is_shared_kind, held, sharing, is_at, is_share}
+use Rattle.pagable_tables.proofs.Words.{is_shared, fits_mode, mode_of, Core, Cell, greatest, usable, only_handle, ClearCall, ReserveCall, RecallCall, OfferCall, with_cached, with_known}
+use Rattle.pagable_tables.proofs.Words.{IsWhole, IsEntryWhole, ArePlaced, MayHold, Suits}
 use Rattle.pagable_tables.proofs.{keeps.Rows.at-most-sum, keeps.Rows.counted, keeps.Rows.found-among, keeps.Told.roomy, keeps.Told.roomy-whole, keeps.Told.settles, keeps.Told.told-whole}
 use Rattle.pagable_tables.proofs.{keeps.Told.alike-whole, keeps.Told.may-own, keeps.Comes.type_in, keeps.Comes.beside, keeps.Comes.handle-on, keeps.Comes.unshared-node}
 use Rattle.pagable_tables.proofs.{keeps.Fallen.may-fall, keeps.Fallen.falls-whole}

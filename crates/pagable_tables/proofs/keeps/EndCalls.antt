@@ -1,8 +1,8 @@
 -- Calls by which a load ends, and the close of the storage, keep the world whole.
 use Rattle.pagable_tables.proofs.Words.{◌≡◌, ℕ, suc, zero, ◌<◌, ◌==◌, ◌&&◌, ◌||◌, Bool, true, false, not, if◌then◌else◌, List, [], ◌∷◌, Ok, Err, Option, Some, None, inl, inr, refl, ap, sym}
-use Rattle.pagable_tables.proofs.Words.{subst, ◌∙◌, arith, ◌⊎◌, Result, is_some, nat_lt, nat_tests, Error, ArcRef, HandleNumber, LoadNumber, NodeNumber, HandleRow, Owner, Mode, Among, times}
+use Rattle.pagable_tables.proofs.Words.{subst, ◌∙◌, arith, ◌⊎◌, Result, is_some, nat_tests, Error, ArcRef, HandleNumber, LoadNumber, NodeNumber, HandleRow, Owner, Mode, Among, times}
 use Rattle.pagable_tables.proofs.Words.{if_there, is_in, updated, is_loose, is_handle, is_owner, is_owned_by, owner_value, Core, OpenLoad, greatest, row_at, Owns, references_fault}
-use Rattle.pagable_tables.proofs.Words.{named_fault, load_fault, refused_if, earlier, rank, moved, with_mode, is_named_by, is_listed, shut, CloseCall, without_load, with_pin, is_owned_in}
+use Rattle.pagable_tables.proofs.Words.{named_fault, load_fault, refused_if, earlier, moved, with_mode, is_named_by, is_listed, shut, CloseCall, without_load, with_pin, is_owned_in}
 use Rattle.pagable_tables.proofs.Words.{numbers_of, cell_fault, LoadCloses, EndCall, HandOverCall, DropCall, IsWhole, MayOwnLoad, ArePlaced}
 use Rattle.pagable_tables.proofs.{Worlds.owner-same, keeps.Rows.among-both, keeps.Rows.among-one, keeps.Rows.among-map, keeps.Rows.among-to, keeps.Rows.found-among, keeps.Rows.once}
 use Rattle.pagable_tables.proofs.{keeps.Rows.ordered-map, keeps.Rests.found-so, keeps.Told.roomy, keeps.Told.roomy-whole, keeps.Told.roomy-loads, keeps.Told.alike-whole, keeps.Told.may-own}

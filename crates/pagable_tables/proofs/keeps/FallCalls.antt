@@ -1,7 +1,7 @@
 -- Calls by which handles or values fall keep the world whole.
-use Rattle.pagable_tables.proofs.Words.{◌≡◌, ℕ, ◌<◌, ◌==◌, Bool, true, false, Option, Some, None, inl, inr, refl, ap, sym, ◌∙◌, if◌then◌else◌, arith, Result, is_some, nat_tests}
-use Rattle.pagable_tables.proofs.Words.{OptionalDataKey, Error, HandleNumber, NodeNumber, Owner, Mode, if_there, is_shared, sharing, Core, Cell, only_handle, nobody, with_key, ReleaseCall}
-use Rattle.pagable_tables.proofs.Words.{UnpinCall, SetKeyCall, IsWhole, ArePlaced}
+use Rattle.pagable_tables.proofs.Words.{◌≡◌, ℕ, ◌<◌, false, Option, Some, None, inl, inr, refl, ap, sym, ◌∙◌, arith, Result, is_some, nat_tests, OptionalDataKey, Error, HandleNumber}
+use Rattle.pagable_tables.proofs.Words.{NodeNumber, Owner, Mode, if_there, is_shared, sharing, Core, Cell, only_handle, nobody, with_key, ReleaseCall, UnpinCall, SetKeyCall, IsWhole}
+use Rattle.pagable_tables.proofs.Words.{ArePlaced}
 use Rattle.pagable_tables.proofs.{keeps.Rows.found-among, keeps.Told.roomy-whole, keeps.Told.alike-whole, keeps.Told.may-own, keeps.GoingOn.GoesOn, keeps.GoingOn.stays-on}
 use Rattle.pagable_tables.proofs.{keeps.Turned.moded-whole, keeps.Turned.moded-on, keeps.Comes.keyed_in, keeps.Comes.type_in, keeps.Comes.unshared-node, keeps.Fallen.may-fall}
 use Rattle.pagable_tables.proofs.{keeps.Opened.opened, keeps.Opened.alike-opened, keeps.Opened.falls-opened, keeps.HandleCalls.loose-unshared}

@@ -30,10 +30,7 @@ module _ {w : Core} (whole : IsWhole w) (h : HandleNumber) (row : HandleRow) (ow
 
   -- of other numbers nothing moves
   pub lists-others : (q : ℕ) → (h.0 == q) ≡ false → times (lists q) (moved (only_handle h) owner w.rows) ≡ times (lists q) w.rows
-  lists-others q other =
-      sum-map (λ x. one (lists q x)) (λ x. one (lists q x)) to-owner w.rows
-      (λ x there. each-moved whole (only_handle h) owner (λ y. one (lists q y) ≡ one (lists q x)) x
-      (λ e. let a : (x.number.0 == q) ≡ false = grind (arith, nat_tests) in ap (λ b. one (b && is_owner Owner.List owner)) a ∙ sym (ap (λ b. one (b && is_owned_by Owner.List x)) a)) (λ e. refl))
+  lists-others q other = grind (arith, nat_tests, sum-map, each-moved)
 
 is-unpinned : (mode : Mode) → is_unpinned mode ≡ true → mode ≡ Mode.LooseUnpinned
 is-unpinned Mode.LooseUnpinned is = refl

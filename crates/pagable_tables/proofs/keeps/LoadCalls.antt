@@ -112,10 +112,6 @@ begin-whole {w} {w'} me h (Ok (Beginning.Load l key)) whole may call placed =
 
         named : (row : HandleRow) (t : ℕ) → IsRootWhole (roomy w) row.node t h → (node : NodeNumber) (t2 : ℕ) (k : HandleNumber) → of_cell row.node t h ≡ of_cell node t2 k
             → IsRootWhole (roomy w) node t2 k
-        named row t root node t2 k is =
-            let a : row.node ≡ node = cc in
-            let b : t ≡ t2 = cc in
-            let c : h ≡ k = cc in
-            subst (λ x. IsRootWhole (roomy w) x t2 k) a (subst (λ x. IsRootWhole (roomy w) row.node x k) b (subst (λ x. IsRootWhole (roomy w) row.node t x) c root))
+        named row t root node t2 k is = grind (arith, nat_tests)
 begin-whole me h (Ok Beginning.InMemory) whole may call placed = let (row, owns, begins) = call.begins in alike-whole whole begins.1 placed
 begin-whole me h (Err e) whole may call placed = alike-whole whole call.refused.stays placed

@@ -31,12 +31,7 @@ left-both {X} f keep (x ∷ xs) = at (keep x) (left-both f keep xs)
 
 -- where two tests count the same of all, and the one is narrower, they count the same of the left
 pub same-left : {X : Type 0} (f g keep : X → Bool) (xs : List X) → ((x : X) → one (f x) ≤ one (g x)) → times f xs ≡ times g xs → times f (filter keep xs) ≡ times g (filter keep xs)
-same-left f g keep xs narrow same =
-    let a = left-both f keep xs in
-    let b = left-both g keep xs in
-    let c = sum_by-le-sum_by (λ x. one (f x)) (λ x. one (g x)) (filter keep xs) narrow in
-    let d = sum_by-le-sum_by (λ x. one (f x)) (λ x. one (g x)) (filter (λ x. not (keep x)) xs) narrow in
-    omega arith
+same-left f g keep xs narrow same = grind (arith, nat_tests, left-both, sum_by-le-sum_by)
 
 -- What is counted of one number: all of it is left, or nothing.
 module _ {X : Type 0} (number : X → ℕ) (f : X → Bool) (q : ℕ) (only : (x : X) → f x ≡ true → number x ≡ q) (gone : ℕ → Bool) where

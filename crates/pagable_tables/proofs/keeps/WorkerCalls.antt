@@ -1,5 +1,5 @@
 -- A worker that begins or ends keeps the world whole.
-use Rattle.pagable_tables.proofs.Words.{◌≡◌, ℕ, ◌+◌, ◌≤◌, ◌==◌, ◌||◌, Bool, true, false, if◌then◌else◌, Option, Some, None, inl, inr, refl, ap, sym, ◌∙◌, arith, ◌⊎◌, is_some, nat_tests}
+use Rattle.pagable_tables.proofs.Words.{◌≡◌, ℕ, ◌+◌, ◌≤◌, ◌==◌, ◌||◌, Bool, true, false, if◌then◌else◌, Option, Some, None, inl, inr, refl, ap, ◌∙◌, arith, ◌⊎◌, is_some, nat_tests}
 use Rattle.pagable_tables.proofs.Words.{LoadNumber, HandleRow, Owner, Among, if_there, is_owner, owner_worker, Core, OpenLoad, is_workers, is_workers_load, without_worker, with_worker}
 use Rattle.pagable_tables.proofs.Words.{IsWhole, MayOwnLoad, ArePlaced}
 use Rattle.pagable_world.specs.Workers.{is_load_of, WorkerEnds}
