@@ -1,5 +1,5 @@
 -- A node that the cache knows from now on.
-use Rattle.pagable_tables.proofs.Words.{◌≡◌, ℕ, ◌==◌, ◌&&◌, Bool, true, false, if◌then◌else◌, List, refl, ap, sym, ◌∙◌, arith, Option, Some, None, inl, inr, ◌≢◌, ◌⊎◌, nat_tests, cases_eq, Kind}
+use Rattle.pagable_tables.proofs.Words.{◌≡◌, ℕ, ◌==◌, ◌&&◌, Bool, true, false, if◌then◌else◌, List, refl, ap, sym, ◌∙◌, arith, Option, Some, None, inl, inr, ◌≢◌, ◌⊎◌, nat_tests, Kind}
 use Rattle.pagable_tables.proofs.Words.{NodeNumber, Core, Cell, Alike, HandleRow, if_there, with_cached}
 use Rattle.pagable_tables.proofs.Worlds.{usable-same, use-of}
 
@@ -16,10 +16,7 @@ module _ (w w' : Core) (kind : Kind) (key : ℕ) (n : NodeNumber) (cache : ℕ �
   known-other k q (inr e) = let h : (k == kind.0 && q == key) ≡ false = grind (arith, nat_tests) in rw h refl
 
   split : (k q : ℕ) → ((k ≡ kind.0) × (q ≡ key)) ⊎ ((k ≢ kind.0) ⊎ (q ≢ key))
-  split k q = elim (cases_eq k kind.0) [
-    | inl e ↦ elim (cases_eq q key) [ inl f ↦ inl (e, f) | inr f ↦ inr (inr f) ]
-    | inr e ↦ inr (inl e)
-  ]
+  split k q = grind (arith, nat_tests)
 
   found : (k q : ℕ) → k ≡ kind.0 → q ≡ key → cache k q ≡ Some n.0
   found k q e f = ap (λ k. cache k q) e ∙ ap (cache kind.0) f ∙ here

@@ -1,18 +1,13 @@
 -- Why what a load has read can't become a node, and what becomes of it.
-use Rattle.pagable_tables.proofs.Words.{◌≡◌, ℕ, ◌<◌, ◌≤◌, ◌==◌, ◌||◌, Bool, true, false, if◌then◌else◌, List, [], ◌∷◌, refl, ap, sym, ◌∙◌, arith, Ok, Option, Some, None, inl, inr, not, nat_lt}
-use Rattle.pagable_tables.proofs.Words.{is_some, nat_tests, Error, ArcRef, HandleNumber, LoadNumber, NodeNumber, Kind, HandleRow, Owner, Blob, is_loose_kind, type_of, if_there, or_else, is_in}
-use Rattle.pagable_tables.proofs.Words.{is_owner, fits_mode, mode_of, Core, OpenLoad, greatest, row_at, type_at, usable, Alike, rank, earlier, refused_if, spent, is_type, load_fault}
+use Rattle.pagable_tables.proofs.Words.{◌≡◌, ℕ, ◌<◌, ◌≤◌, ◌==◌, ◌||◌, Bool, true, false, if◌then◌else◌, List, [], ◌∷◌, refl, ap, sym, ◌∙◌, arith, Ok, Option, Some, None, inl, inr, not}
+use Rattle.pagable_tables.proofs.Words.{is_some, nat_tests, Error, ArcRef, HandleNumber, LoadNumber, NodeNumber, Kind, HandleRow, Owner, Blob, is_loose_kind, type_of, if_there, or_else}
+use Rattle.pagable_tables.proofs.Words.{is_in, is_owner, fits_mode, mode_of, Core, OpenLoad, greatest, row_at, type_at, usable, Alike, rank, earlier, refused_if, spent, is_type, load_fault}
 use Rattle.pagable_tables.proofs.Words.{reference_fault, references_fault, row_fault, OwnsLoad, Refused, AreHandlesFull, FallsAnyhow, with_handle, is_named_by, birth_fault, node_fault}
 use Rattle.pagable_tables.proofs.Words.{adopt_fault, adopted, first_key, Adopts, early_fault, OnlyRoom, Tables, ArePlaced, core_of, plain_of}
 use Rattle.pagable_world.specs.Calls.{IsNext}
-use Rattle.pagable_tables.proofs.Lazily.{node-late}
-use Rattle.pagable_tables.proofs.Readied.{fault-by, room-alike}
-use Rattle.pagable_tables.proofs.Opened.{load-low}
-use Rattle.pagable_tables.proofs.Worlds.{still, owner-same}
+use Rattle.pagable_tables.proofs.{Lazily.node-late, Readied.fault-by, Readied.room-alike, Opened.load-low, Worlds.still, keeps.AdoptCalls.adopt-whole, keeps.Opened.opened}
+use Rattle.pagable_tables.proofs.{keeps.EndCalls.both-none}
 use Rattle.pagable_world.specs.Pager as pager
-use Rattle.pagable_tables.proofs.keeps.AdoptCalls.{adopt-whole}
-use Rattle.pagable_tables.proofs.keeps.Opened.{opened}
-use Rattle.pagable_tables.proofs.keeps.EndCalls.{both-none}
 
 abbrev Early : Option Error → Type 0
 Early a = (e : Error) → a ≡ Some e → rank e ≤ 3
@@ -21,18 +16,10 @@ abbrev Late : Option Error → Type 0
 Late n = (e : Error) → n ≡ Some e → 4 ≤ rank e
 
 first : (d n : Option Error) → Early d → Late n → earlier d n ≡ or_else d n
-first None n early late = refl
-first (Some e) None early late = refl
-first (Some e) (Some f) early late = let a = early e refl in let b = late f refl in let h : nat_lt (rank f) (rank e) ≡ false = grind (arith, nat_tests) in rw h refl
+first d n early late = grind (arith, nat_tests)
 
 next : (c d n : Option Error) → Early c → Late n → earlier c (or_else d n) ≡ or_else (earlier c d) n
-next None d n early late = refl
-next (Some e) None n early late = first (Some e) n early late
-next (Some e) (Some f) n early late = split (nat_lt (rank f) (rank e))
-  where
-    split : (b : Bool) → (if b then Some f else Some e) ≡ or_else (if b then Some f else Some e) n
-    split true = refl
-    split false = refl
+next c d n early late = grind (arith, nat_tests)
 
 last-of : (a b c d n : Option Error) → Early a → Early b → Early c → Early d → Late n → earlier a (earlier b (earlier c (earlier d n))) ≡ or_else (earlier a (earlier b (earlier c d))) n
 last-of a b c d n ea eb ec ed late =
@@ -68,15 +55,7 @@ fit-early w o seen (r ∷ rs) e is = or-early (reference_fault w o seen r) (refe
 
 -- the load is an own open one where it has no fault
 owns-then : (w : Core) (me : Owner) (l : LoadNumber) → load_fault w me l ≡ None → (load : OpenLoad) × OwnsLoad w me l load
-owns-then w me l none = split (w.loads l.0) refl none
-  where
-    own : (b : Bool) → refused_if (not b) Error.NotYours ≡ None → b ≡ true
-    own true e = refl
-    own false e = absurd (cc)
-
-    split : (o : Option OpenLoad) → w.loads l.0 ≡ o → if_there (λ (load : OpenLoad). refused_if (not (is_owner me load.owner)) Error.NotYours) (Some Error.NoSuchHandle) o ≡ None → (load : OpenLoad) × OwnsLoad w me l load
-    split None e none = absurd (cc)
-    split (Some load) e none = (load, record { stands_open = e; own = owner-same me load.owner (own (is_owner me load.owner) none) })
+owns-then w me l none = grind (arith, nat_tests)
 
 not-so : (b : Bool) (e : Error) → refused_if b e ≡ None → b ≡ false
 not-so true e is = absurd (cc)
@@ -87,10 +66,7 @@ module _ (w : Core) (me : Owner) (l : LoadNumber) (kind : Kind) (key node_type :
   early = early_fault w me l kind node_type refs
 
   cause : adopt_fault w me l kind key node_type refs ≡ or_else early (node_fault w kind key)
-  cause =
-      last-of (load_fault w me l) (refused_if (is_loose_kind kind.0) Error.WrongMode) (refused_if (not (node_type == type_of kind.0)) Error.WrongKind) (references_fault w (Owner.Load l) [] refs) (node_fault w kind key)
-      (λ e is. let a = load-low w me l e is in omega arith) (λ e is. let a = named (is_loose_kind kind.0) Error.WrongMode e is in omega arith) (λ e is. let a = named (not (node_type == type_of kind.0)) Error.WrongKind e is in omega arith)
-      (fit-early w (Owner.Load l) [] refs) (node-late w kind key)
+  cause = grind (arith, nat_tests, last-of, load-low, fit-early, node-late)
 
   -- one of the causes that come first
   pub not-adopted : (e : Error) → early ≡ Some e → Refused (adopt_fault w me l kind key node_type refs) (load_fault w me l) (Unit {0}) w e w
@@ -98,11 +74,7 @@ module _ (w : Core) (me : Owner) (l : LoadNumber) (kind : Kind) (key node_type :
 
   module _ (good : early ≡ None) where
     parts : (load_fault w me l ≡ None) × (refused_if (is_loose_kind kind.0) Error.WrongMode ≡ None) × (refused_if (not (node_type == type_of kind.0)) Error.WrongKind ≡ None) × (references_fault w (Owner.Load l) [] refs ≡ None)
-    parts =
-        let a = both-none (load_fault w me l) _ good in
-        let b = both-none (refused_if (is_loose_kind kind.0) Error.WrongMode) _ a.1 in
-        let c = both-none (refused_if (not (node_type == type_of kind.0)) Error.WrongKind) _ b.1 in
-        (a.0, b.0, c.0, c.1)
+    parts = grind (arith, nat_tests, both-none)
 
     pub fitting : references_fault w (Owner.Load l) [] refs ≡ None
     fitting = parts.3

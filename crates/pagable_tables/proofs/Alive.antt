@@ -1,9 +1,8 @@
 -- The live rows after a place changes.
-use Rattle.pagable_tables.proofs.Words.{◌≡◌, ℕ, ◌+◌, ◌<◌, ◌≤◌, ◌==◌, Bool, true, false, not, if◌then◌else◌, List, [], ◌∷◌, ◌++◌, length, get_or, set, suc, zero, sum_by, All, filter, refl, ap}
-use Rattle.pagable_tables.proofs.Words.{sym, subst, ◌∙◌, arith, Some, None, slice_get, cond, nat_tests, sum_by-cons, All-tail, All-set, ◌≢◌, ◌⊎◌, inl, inr, true≢false, cases_eq, get_or_default}
-use Rattle.pagable_tables.proofs.Words.{get_or_from_slice_get, slice_get_within, sum_by-set, get_or-le-sum_by, sum_by-le-sum_by, HandleRow, one, changed, find_row, is_handle, left_rows, IsNext}
-use Rattle.pagable_tables.proofs.Words.{live, alive, is_live_place, IsBefore, Place}
-use Rattle.std.specs.List.{AllPairs}
+use Rattle.pagable_tables.proofs.Words.{◌≡◌, ℕ, ◌+◌, ◌<◌, ◌≤◌, ◌==◌, Bool, true, false, not, if◌then◌else◌, List, [], ◌∷◌, ◌++◌, length, get_or, set, suc, zero, sum_by, All, filter, refl}
+use Rattle.pagable_tables.proofs.Words.{ap, sym, subst, ◌∙◌, arith, Some, None, slice_get, nat_tests, sum_by-cons, All-tail, All-set, ◌≢◌, ◌⊎◌, inl, inr, cases_eq, get_or_default}
+use Rattle.pagable_tables.proofs.Words.{get_or_from_slice_get, slice_get_within, sum_by-set, get_or-le-sum_by, sum_by-le-sum_by, HandleRow, one, changed, find_row, is_handle, left_rows}
+use Rattle.pagable_tables.proofs.Words.{IsNext, live, alive, is_live_place, IsBefore, Place, AllPairs}
 
 -- the rows but for one number, and with another row in its place
 abbrev without : ℕ → List HandleRow → List HandleRow
@@ -15,38 +14,19 @@ replaced q row rows = changed (is_handle q) (λ _. row) rows
 -- clearing the dead away leaves the live
 pub live-filter : (ss : List Place) → live (filter is_live_place ss) ≡ live ss
 live-filter [] = refl
-live-filter (s ∷ ss) = by s.is_live (live-filter ss)
-  where
-    by : (b : Bool) → live (filter is_live_place ss) ≡ live ss → live (cond b (record { row = s.row; is_live = b } ∷ filter is_live_place ss) (filter is_live_place ss))
-        ≡ (if b then s.row ∷ live ss else live ss)
-    by true h = ap (λ l. s.row ∷ l) (h)
-    by false h = h
+live-filter (s ∷ ss) = grind (arith, nat_tests, live-filter ss)
 
 pub length-live-filter : (ss : List Place) → length (filter is_live_place ss) ≡ length (live ss)
 length-live-filter [] = refl
-length-live-filter (s ∷ ss) = by s.is_live (length-live-filter ss)
-  where
-    by : (b : Bool) → length (filter is_live_place ss) ≡ length (live ss) → length (cond b (record { row = s.row; is_live = b } ∷ filter is_live_place ss)
-        (filter is_live_place ss)) ≡ length (if b then s.row ∷ live ss else live ss)
-    by true h = ap suc (h)
-    by false h = h
+length-live-filter (s ∷ ss) = grind (arith, nat_tests, length-live-filter ss)
 
 pub length-live-le : (ss : List Place) → length (live ss) ≤ length ss
 length-live-le [] = omega arith
-length-live-le (s ∷ ss) = by s.is_live (length-live-le ss)
-  where
-    by : (b : Bool) → length (live ss) ≤ length ss → length (if b then s.row ∷ live ss else live ss) ≤ suc (length ss)
-    by true h = let a = h in omega arith
-    by false h = let a = h in omega arith
+length-live-le (s ∷ ss) = grind (arith, nat_tests, length-live-le ss)
 
 pub live-push : (ss : List Place) (row : HandleRow) → live (ss ++ alive row ∷ []) ≡ live ss ++ row ∷ []
 live-push [] row = refl
-live-push (s ∷ ss) row = by s.is_live (live-push ss row)
-  where
-    by : (b : Bool) → live (ss ++ alive row ∷ []) ≡ live ss ++ row ∷ [] → (if b then s.row ∷ live (ss ++ alive row ∷ []) else live (ss ++ alive row ∷ []))
-        ≡ (if b then s.row ∷ live ss else live ss) ++ row ∷ []
-    by true h = ap (λ l. s.row ∷ l) h
-    by false h = h
+live-push (s ∷ ss) row = grind (arith, nat_tests, live-push ss row)
 
 -- what a place weighs
 abbrev pub weigh : (HandleRow → ℕ) → Place → ℕ
@@ -176,9 +156,7 @@ none-live q [] h = refl
 none-live q (s ∷ ss) h = by s.is_live refl (none-live q ss (λ k d lt e. h (suc k) d (omega arith) e))
   where
     by : (b : Bool) → s.is_live ≡ b → find_row q (live ss) ≡ None → find_row q (if b then s.row ∷ live ss else live ss) ≡ None
-    by true e rest = let other : s.row.number.0 ≡ q → ⊥ = λ (n : s.row.number.0 ≡ q). true≢false (sym e ∙ h 0 s (omega arith) n) in
-        let differs : (s.row.number.0 == q) ≡ false = grind (arith, nat_tests) in rw differs rest
-    by false e rest = rest
+    by b e rest = grind (arith, nat_tests)
 
 -- the row at a live place is the one of its number
 pub row-live : (ss : List Place) (i : ℕ) (row : HandleRow) → AllPairs IsBefore ss → slice_get ss i ≡ Some (alive row) → find_row row.number.0 (live ss) ≡ Some row
@@ -230,21 +208,12 @@ next-set q ss i row new at same next =
 pub none-found : (q : ℕ) (rows : List HandleRow) → find_row q rows ≡ None → sum_by (λ h. one (is_handle q h)) rows ≡ 0
 unfolding find_row
 none-found q [] e = refl
-none-found q (h ∷ hs) e = by (is_handle q h) refl e (none-found q hs)
-  where
-    by : (b : Bool) → is_handle q h ≡ b → (if b then Some h else find_row q hs) ≡ None → (find_row q hs ≡ None → sum_by (λ h. one (is_handle q h)) hs ≡ 0)
-        → sum_by (λ h. one (is_handle q h)) (h ∷ hs) ≡ 0
-    by true same none rest = absurd (cc)
-    by false same none rest = let a = sum_by-cons (λ (h : HandleRow). one (is_handle q h)) h hs in let b = rest none in let d = ap one same in omega arith
+none-found q (h ∷ hs) e = grind (arith, nat_tests, none-found q hs)
 
 -- what is left has not the number
 sum-without : (q : ℕ) (rows : List HandleRow) → sum_by (λ h. one (is_handle q h)) (without q rows) ≡ 0
 sum-without q [] = refl
-sum-without q (h ∷ hs) = by (is_handle q h) refl (sum-without q hs)
-  where
-    by : (b : Bool) → is_handle q h ≡ b → sum_by (λ h. one (is_handle q h)) (without q hs) ≡ 0 → sum_by (λ h. one (is_handle q h)) (cond (not b) (h ∷ without q hs) (without q hs)) ≡ 0
-    by true e rest = rest
-    by false e rest = let a = sum_by-cons (λ (h : HandleRow). one (is_handle q h)) h (without q hs) in let b = ap one e in omega arith
+sum-without q (h ∷ hs) = grind (arith, nat_tests, sum-without q hs)
 
 -- a number is used once, so what weighs only at the number weighs at its row alone
 pub only-row : (f : HandleRow → ℕ) (ss : List Place) (i : ℕ) (row : HandleRow) → AllPairs IsBefore ss → slice_get ss i ≡ Some (alive row)

@@ -1,16 +1,10 @@
 -- What a load asks of the tables.
-use Rattle.pagable_tables.proofs.Words.{◌≡◌, ℕ, true, ap, sym, subst, arith, Ok, Err, Option, Some, inl, Result, Error, HandleNumber, LoadNumber, Kind, Owner, Core, OpenLoad, earlier, load_fault}
-use Rattle.pagable_tables.proofs.Words.{OwnsLoad, Refused, AreHandlesFull, is_usable, recall_fault, RecallCall, AsksKnown}
-use Rattle.pagable_tables.proofs.Opened.{earlier-first, load-low, no-load-fault, number-late}
-use Rattle.pagable_tables.proofs.Worlds.{still}
+use Rattle.pagable_tables.proofs.Words.{◌≡◌, ℕ, arith, Err, Option, Some, inl, Result, Error, HandleNumber, LoadNumber, Kind, Owner, Core, OpenLoad, load_fault, OwnsLoad, is_usable}
+use Rattle.pagable_tables.proofs.Words.{recall_fault, RecallCall, AsksKnown, nat_tests}
+use Rattle.pagable_tables.proofs.{Opened.earlier-first, Opened.load-low, Opened.number-late, Worlds.still}
 
 pub recalls-asked : (w : Core) (me : Owner) (l : LoadNumber) (load : OpenLoad) (kind : Kind) (key : ℕ) (r : Result (Option HandleNumber) Error) (w' : Core) → OwnsLoad w me l load → RecallCall w (Owner.Load l) kind key r w' → AsksKnown w me l kind key r w'
-recalls-asked w me l load kind key (Ok found) w' own call = record { gives = (load, own, call.answers); refused = tt }
-recalls-asked w me l load kind key (Err e) w' own call =
-    record {
-      gives = tt;
-      refused = subst (λ f. Refused f f ((is_usable w kind key ≡ true) × AreHandlesFull w) w e w') (sym (ap (λ f. earlier f (recall_fault w kind key)) (no-load-fault w me l load own))) call.refused;
-    }
+recalls-asked w me l load kind key r w' own call = grind (arith, nat_tests)
 
 pub not-asked : (w : Core) (me : Owner) (l : LoadNumber) (kind : Kind) (key : ℕ) (e : Error) → load_fault w me l ≡ Some e → AsksKnown w me l kind key (Err e) w
 not-asked w me l kind key e is =

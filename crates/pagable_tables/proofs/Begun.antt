@@ -1,11 +1,10 @@
 -- Where handles begin to be given up: nothing has gone so far.
-use Rattle.pagable_tables.proofs.Words.{◌≡◌, ℕ, ◌+◌, ◌≤◌, ◌&&◌, Bool, false, not, List, [], ◌∷◌, length, refl, ap, sym, ◌∙◌, subst, arith, inl, inr, Option, None, true, nat_tests, append-nil}
-use Rattle.pagable_tables.proofs.Words.{sum_by-cons, Error, ArcRef, HandleRow, Blob, one, times, is_at, is_share, held, sharing, Core, greatest, HasRoom, IsWithin, MustList, TellsListing, nobody}
-use Rattle.pagable_tables.proofs.Words.{Tables, Counts, Holdings, live, counts_at, refs_at, Fits, IsFalling, cell_in, is_valued, owns, owns_nothing, with_tables, told_by, is_plain_pin, Begins}
-use Rattle.pagable_tables.proofs.Words.{SoFar, core_of}
+use Rattle.pagable_tables.proofs.Words.{◌≡◌, ℕ, ◌+◌, ◌≤◌, ◌&&◌, Bool, false, not, List, [], ◌∷◌, length, refl, ap, sym, ◌∙◌, subst, arith, inl, inr, Option, None, true, nat_tests}
+use Rattle.pagable_tables.proofs.Words.{append-nil, sum_by-cons, Error, ArcRef, HandleRow, Blob, one, times, is_at, is_share, held, sharing, Core, greatest, HasRoom, IsWithin, MustList}
+use Rattle.pagable_tables.proofs.Words.{TellsListing, nobody, Tables, Counts, Holdings, live, counts_at, refs_at, Fits, IsFalling, cell_in, is_valued, owns, owns_nothing, with_tables}
+use Rattle.pagable_tables.proofs.Words.{told_by, is_plain_pin, Begins, SoFar, core_of}
 use Rattle.pagable_tables.specs.Core.{IsWhole}
-use Rattle.pagable_tables.proofs.Coming.{owned-by-none}
-use Rattle.pagable_tables.proofs.Left.{left-all, all-kept}
+use Rattle.pagable_tables.proofs.{Coming.owned-by-none, Left.left-all, Left.all-kept}
 
 -- why a cell isn't listed is told aside
 pub aside : (t : Holdings) (u : Option Error) (stack : List ℕ) (extra : ℕ → ℕ → ℕ) → IsFalling t stack extra → IsFalling (record t { unlisted = u }) stack extra

@@ -1,50 +1,21 @@
 -- A node comes, and the handles that its value refers to are the value's.
-use Rattle.pagable_tables.proofs.Words.{◌≡◌, ℕ, ◌+◌, ◌<◌, ◌≤◌, ◌==◌, ◌&&◌, ◌||◌, Bool, true, false, List, [], ◌∷◌, ◌++◌, map, sum_by, refl, ap, sym, ◌∙◌, subst, arith, Option, Some, None, inl}
-use Rattle.pagable_tables.proofs.Words.{inr, if◌then◌else◌, ◌≢◌, ◌⊎◌, not, nat_lt, is_some, cases_eq, nat_tests, sum_by_push, sum_by-cons, Error, ArcRef, HandleRow, Owner, Mode, Among, is_in}
-use Rattle.pagable_tables.proofs.Words.{one, or_else, if_there, find_row, held, pins, is_handle, is_owner, is_pinning, owner_value, IsHandleBefore, Core, row_at, reference_fault}
-use Rattle.pagable_tables.proofs.Words.{references_fault, row_fault, refused_if, moved, is_named_by, Counts, Fits, Right, is_right, is_bare, cell_in, pins_in, holds_in, falls_in, is_valued}
-use Rattle.pagable_tables.proofs.Words.{named, owns_nothing}
-use Rattle.std.specs.List.{AllPairs}
-use Rattle.pagable_world.specs.Plain.{updated}
-use Rattle.pagable_tables.specs.Falling.{key_in}
-use Rattle.pagable_tables.proofs.Coming.{owned-by-none}
-use Rattle.pagable_tables.proofs.Fitting.{pin_of, handle_of, is_owned, pin-here, held-here, pin-other, held-other}
-use Rattle.pagable_tables.proofs.Owned.{owned-by}
-use Rattle.pagable_tables.proofs.keeps.BirthCalls.{named-mine}
-use Rattle.pagable_tables.proofs.keeps.Rests.{found-so}
-use Rattle.pagable_tables.proofs.keeps.Rows.{found-among, sum-map, sum-none, at-most-sum, only-row}
+use Rattle.pagable_tables.proofs.Words.{◌≡◌, ℕ, ◌+◌, ◌<◌, ◌≤◌, ◌==◌, ◌&&◌, ◌||◌, Bool, true, false, List, [], ◌∷◌, ◌++◌, map, sum_by, refl, ap, sym, ◌∙◌, subst, arith, Option, Some, None}
+use Rattle.pagable_tables.proofs.Words.{inl, inr, if◌then◌else◌, ◌≢◌, ◌⊎◌, is_some, cases_eq, nat_tests, sum_by_push, sum_by-cons, Error, ArcRef, HandleRow, Owner, Mode, Among, is_in, one}
+use Rattle.pagable_tables.proofs.Words.{or_else, find_row, held, pins, is_handle, is_pinning, owner_value, IsHandleBefore, Core, reference_fault, references_fault, moved, is_named_by}
+use Rattle.pagable_tables.proofs.Words.{Counts, Fits, Right, is_right, is_bare, cell_in, pins_in, holds_in, falls_in, is_valued, named, owns_nothing, AllPairs, updated, key_in}
+use Rattle.pagable_tables.proofs.{Coming.owned-by-none, Fitting.pin_of, Fitting.handle_of, Fitting.is_owned, Fitting.pin-here, Fitting.held-here, Fitting.pin-other, Fitting.held-other}
+use Rattle.pagable_tables.proofs.{Owned.owned-by, keeps.BirthCalls.named-mine, keeps.Rests.found-so, keeps.Rows.found-among, keeps.Rows.sum-map, keeps.Rows.sum-none, keeps.Rows.at-most-sum}
+use Rattle.pagable_tables.proofs.{keeps.Rows.only-row}
 
 or-none : (a b : Option Error) → or_else a b ≡ None → (a ≡ None) × (b ≡ None)
 or-none None b e = (refl, e)
 or-none (Some x) b e = absurd (cc)
 
-unseen-first : (own seen : Bool) → refused_if (not own || seen) Error.NotYours ≡ None → seen ≡ false
-unseen-first own false e = refl
-unseen-first false true e = absurd (cc)
-unseen-first true true e = absurd (cc)
-
-unseen-one : (w : Core) (me : Owner) (seen : List ℕ) (r : ArcRef) → reference_fault w me seen r ≡ None → is_in seen r.handle.0 ≡ false
-unseen-one w me seen r none = by (row_at w r.handle) none
-  where
-    here : (own b : Bool) (last : Option Error) → (if not b then Some Error.NoSuchHandle else or_else (refused_if (not own || is_in seen r.handle.0) Error.NotYours) last) ≡ None
-        → is_in seen r.handle.0 ≡ false
-    here own false last e = absurd (cc)
-    here own true last e = unseen-first own (is_in seen r.handle.0) (or-none _ last e).0
-
-    by : (o : Option HandleRow) → if_there (λ (row : HandleRow). row_fault w r (refused_if (not (is_owner me row.owner) || is_in seen r.handle.0) Error.NotYours) row) (Some Error.NoSuchHandle) o ≡ None
-        → is_in seen r.handle.0 ≡ false
-    by None e = absurd (cc)
-    by (Some row) e = here (is_owner me row.owner) (row.node.0 == r.node.0) _ e
-
 -- what is named wasn't named before
 unseen : (w : Core) (me : Owner) (seen : List ℕ) (rs : List ArcRef) → references_fault w me seen rs ≡ None → (q : ℕ) → is_named_by rs q ≡ true → is_in seen q ≡ false
 unfolding references_fault is_named_by is_in
 unseen w me seen [] fit q is = absurd (cc)
-unseen w me seen (r ∷ rs) fit q is = by (r.handle.0 == q) refl is (unseen w me (r.handle.0 ∷ seen) rs (or-none (reference_fault w me seen r) _ fit).1 q)
-  where
-    by : (b : Bool) → (r.handle.0 == q) ≡ b → (b || is_named_by rs q) ≡ true → (is_named_by rs q ≡ true → ((r.handle.0 == q) || is_in seen q) ≡ false) → is_in seen q ≡ false
-    by true same is rest = let e : r.handle.0 ≡ q = grind (arith, nat_tests) in subst (λ k. is_in seen k ≡ false) e (unseen-one w me seen r (or-none (reference_fault w me seen r) _ fit).0)
-    by false other is rest = sym (ap (λ b. b || is_in seen q) other) ∙ rest is
+unseen w me seen (r ∷ rs) fit q is = grind (arith, nat_tests, unseen w me (r.handle.0 ∷ seen) rs (or-none (reference_fault w me seen r) _ fit).1 q)
 
 once-named : (w : Core) (me : Owner) (seen : List ℕ) (rs : List ArcRef) → references_fault w me seen rs ≡ None → (q : ℕ) → named q rs ≡ one (is_named_by rs q)
 unfolding references_fault is_named_by is_in
@@ -56,20 +27,14 @@ once-named w me seen (r ∷ rs) fit q =
   where
     by : (b : Bool) → (r.handle.0 == q) ≡ b → (d : Bool) → is_named_by rs q ≡ d → named q rs ≡ one (is_named_by rs q) → (is_named_by rs q ≡ true → ((r.handle.0 == q) || is_in seen q) ≡ false)
         → one b + named q rs ≡ one (b || is_named_by rs q)
-    by true same true is once new = let a = sym (ap (λ b. b || is_in seen q) same) ∙ new is in absurd (cc)
-    by true same false is once new = let a = ap one is in omega arith
-    by false other d is once new = omega arith
+    by b same d is once new = grind (arith, nat_tests)
 
 module _ (w : Core) (me : Owner) (n : ℕ) (rs : List ArcRef) (ordered : AllPairs IsHandleBefore w.rows) (fit : references_fault w me [] rs ≡ None) (unvalued : is_valued me ≡ false) where
   abbrev to : HandleRow → HandleRow
   to h = if is_named_by rs h.number.0 then owned-by (owner_value n) h else h
 
   same-weight : (f : HandleRow → ℕ) → ((h : HandleRow) → f (owned-by (owner_value n) h) ≡ f h) → sum_by f (map to w.rows) ≡ sum_by f w.rows
-  same-weight f same = sum-map f f to w.rows (λ h among. by h (is_named_by rs h.number.0))
-    where
-      by : (h : HandleRow) (b : Bool) → f (if b then owned-by (owner_value n) h else h) ≡ f h
-      by h true = same h
-      by h false = refl
+  same-weight f same = grind (arith, nat_tests, sum-map, owned-by)
 
   -- a row that is named isn't a value's
   named-free : (h : HandleRow) → Among w.rows h → is_named_by rs h.number.0 ≡ true → is_valued h.owner ≡ false
@@ -81,11 +46,7 @@ module _ (w : Core) (me : Owner) (n : ℕ) (rs : List ArcRef) (ordered : AllPair
       ap (λ (r : HandleRow). is_valued r.owner) (sym same) ∙ ap is_valued o.own ∙ unvalued
 
   pub others-own : (m q : ℕ) → m ≢ n → sum_by (is_owned m q) (map to w.rows) ≡ sum_by (is_owned m q) w.rows
-  others-own m q other = sum-map (is_owned m q) (is_owned m q) to w.rows (λ h among. by h among (is_named_by rs h.number.0) refl)
-    where
-      by : (h : HandleRow) → Among w.rows h → (b : Bool) → is_named_by rs h.number.0 ≡ b → is_owned m q (if b then owned-by (owner_value n) h else h) ≡ is_owned m q h
-      by h among true is = let a = owned-by-none m q h (named-free h among is) in let b : is_owned m q (owned-by (owner_value n) h) ≡ 0 = grind (arith, nat_tests) in b ∙ sym a
-      by h among false is = refl
+  others-own m q other = grind (arith, nat_tests, sum-map, owned-by, owned-by-none, named-free)
 
   abbrev both : ℕ → HandleRow → ℕ
   both q h = one (is_handle q h && is_named_by rs q)
@@ -126,18 +87,7 @@ module _ (w : Core) (me : Owner) (n : ℕ) (rs : List ArcRef) (ordered : AllPair
 -- the counts of a new node are right, where it has no key, or its value refers to nothing, or it is pinned
 right-new : (c : Counts) (mode : Mode) (rs : List ArcRef) → c ≡ record c { pins = one (is_pinning mode); holds = 1; is_falling = false; next = 0 }
     → (c.key ≡ 0) ⊎ (rs ≡ []) ⊎ (is_pinning mode ≡ true) → is_right c (is_bare rs) ≡ true
-right-new c mode rs new or = subst (λ d. is_right d (is_bare rs) ≡ true) (sym new) (by or)
-  where
-    either : (a k b : Bool) → (k ≡ false) ⊎ (b ≡ true) → (a || not k || b) ≡ true
-    either true k b h = refl
-    either false false b h = refl
-    either false true b (inl h) = absurd (cc)
-    either false true b (inr h) = h
-
-    by : (c.key ≡ 0) ⊎ (rs ≡ []) ⊎ (is_pinning mode ≡ true) → (nat_lt 0 (one (is_pinning mode)) || not (nat_lt 0 c.key) || is_bare rs) ≡ true
-    by (inl none) = either (nat_lt 0 (one (is_pinning mode))) (nat_lt 0 c.key) (is_bare rs) (inl (grind (arith, nat_tests)))
-    by (inr (inl none)) = either (nat_lt 0 (one (is_pinning mode))) (nat_lt 0 c.key) (is_bare rs) (inr (ap is_bare none))
-    by (inr (inr pinned)) = ap (λ b. nat_lt 0 (one b) || not (nat_lt 0 c.key) || is_bare rs) pinned
+right-new c mode rs new or = grind (arith, nat_tests)
 
 module _ (w : Core) (me : Owner) (rs : List ArcRef) (ordered : AllPairs IsHandleBefore w.rows) (fit : references_fault w me [] rs ≡ None) (unvalued : is_valued me ≡ false)
     (at at' : ℕ → Option Counts) (refs refs' : ℕ → List ArcRef) (top : ℕ) (x : HandleRow) (c : Counts) (fits : Fits at refs w.rows top [] owns_nothing) (owner : x.owner ≡ me)
@@ -165,24 +115,10 @@ module _ (w : Core) (me : Owner) (rs : List ArcRef) (ordered : AllPairs IsHandle
   held-given m = let s = same-weight w me n rs ordered fit unvalued (handle_of m) (λ h. refl) in let l = sum_by_push (handle_of m) given x in omega arith
 
   pinned-here : pins_in (at' n) ≡ pins n rows'
-  pinned-here =
-      let g = pins-given n in
-      let old = fits.pinned n in
-      let none = ap pins_in free in
-      let some = ap pins_in here in
-      let p = pin-here x in
-      let k : c.pins ≡ one (is_pinning x.mode) = ap (λ (d : Counts). d.pins) new in
-      omega arith
+  pinned-here = grind (arith, nat_tests, pins-given, pin-here)
 
   held-here' : holds_in (at' n) ≡ held n rows'
-  held-here' =
-      let g = held-given n in
-      let old = fits.holding n in
-      let none = ap holds_in free in
-      let some = ap holds_in here in
-      let p = held-here x in
-      let k : c.holds ≡ 1 = ap (λ (d : Counts). d.holds) new in
-      omega arith
+  held-here' = grind (arith, nat_tests, held-given, held-here)
 
   owned-here : (q : ℕ) → named q (refs' n) + owns_nothing n q ≡ sum_by (is_owned n q) rows'
   owned-here q =
@@ -245,7 +181,4 @@ no-node (Some c) last h = let a = (h refl).1 in absurd (omega arith)
 -- one cell more, and all others as before
 pub born-cells : (at at' : ℕ → Option Counts) (n : ℕ) (c : Counts) → at' n ≡ Some c → ((q : ℕ) → q ≢ n → at' q ≡ at q)
     → (q : ℕ) → cell_in (at' q) ≡ updated n (Some (record { node_type = c.node_type; key = key_in c.key })) (λ m. cell_in (at m)) q
-born-cells at at' n c here others q = elim (cases_eq q n) [
-  | inl e ↦ let a : (q == n) ≡ true = grind (arith, nat_tests) in rw a (ap (λ m. cell_in (at' m)) e ∙ ap cell_in here)
-  | inr e ↦ let a : (q == n) ≡ false = grind (arith, nat_tests) in rw a (ap cell_in (others q e))
-]
+born-cells at at' n c here others q = grind (arith, nat_tests)

@@ -1,13 +1,8 @@
 -- A handle comes to a live node, and nothing falls.
-use Rattle.pagable_tables.proofs.Words.{sum_by, ◌≡◌, ℕ, ◌+◌, ◌<◌, ◌≤◌, ◌==◌, ◌&&◌, ◌||◌, Bool, true, false, if◌then◌else◌, List, [], ◌∷◌, ◌++◌, length, refl, ap, sym, ◌∙◌, subst, arith, Option}
-use Rattle.pagable_tables.proofs.Words.{Some, None, inl, inr, ◌≢◌, not, nat_lt, IsSome, nat_tests, cases_eq, sum_by_push, sum_by-cons, ArcRef, HandleRow, Owner, Mode, one, SameAt, held, pins}
-use Rattle.pagable_tables.proofs.Words.{is_pinning, is_owner, owner_value, Counts, pins_in, holds_in, falls_in, is_bare, is_right, Right, Fits, owns_nothing, named, is_valued, cell_in}
+use Rattle.pagable_tables.proofs.Words.{sum_by, ◌≡◌, ℕ, ◌+◌, ◌<◌, ◌≤◌, Bool, true, false, List, [], ◌∷◌, ◌++◌, length, refl, ap, sym, ◌∙◌, subst, arith, Option, Some, None, inl, inr, ◌≢◌}
+use Rattle.pagable_tables.proofs.Words.{not, IsSome, nat_tests, cases_eq, sum_by_push, sum_by-cons, ArcRef, HandleRow, Owner, Mode, one, SameAt, held, pins, is_pinning, is_owner}
+use Rattle.pagable_tables.proofs.Words.{owner_value, Counts, pins_in, holds_in, falls_in, Right, Fits, owns_nothing, named, is_valued, cell_in}
 use Rattle.pagable_tables.proofs.Fitting.{pin_of, handle_of, is_owned, pin-here, held-here, pin-other, held-other}
-
-more-right : (w k bare : Bool) (p h p' h' : ℕ) → w ≡ false → p ≤ p' → h ≤ h' → (if w then h == 0 || (p == 0 && k) else nat_lt 0 h && (nat_lt 0 p || not k || bare)) ≡ true
-    → (if w then h' == 0 || (p' == 0 && k) else nat_lt 0 h' && (nat_lt 0 p' || not k || bare)) ≡ true
-more-right true k bare p h p' h' e a b r = absurd (cc)
-more-right false k bare p h p' h' e a b r = grind (arith, nat_tests)
 
 pub no-value : (n : ℕ) (o : Owner) → is_valued o ≡ false → is_owner (owner_value n) o ≡ false
 no-value n (Owner.Value m) e = absurd (cc)
@@ -31,11 +26,7 @@ module _ (at at' : ℕ → Option Counts) (refs refs' : ℕ → List ArcRef) (ro
   free = is-free at refs rows top x.node.0 c fits is
 
   right-here : Right (at' x.node.0) (refs' x.node.0)
-  right-here =
-      let old : is_right c (is_bare (refs x.node.0)) ≡ true = subst (λ o. Right o (refs x.node.0)) is (fits.right x.node.0) in
-      let new : is_right more (is_bare (refs x.node.0)) ≡ true = more-right c.is_falling (nat_lt 0 c.key) (is_bare (refs x.node.0)) c.pins c.holds more.pins more.holds free
-      (omega arith) (omega arith) old in
-      subst (λ o. Right o (refs' x.node.0)) (sym here) (subst (λ r. Right (Some more) r) (sym (same x.node.0)) new)
+  right-here = grind (arith, nat_tests)
 
   real : 0 ≢ x.node.0
   real z = absurd (let a : at 0 ≡ Some c = ap at z ∙ is in cc (a, fits.from_one))
@@ -79,10 +70,7 @@ module _ (at at' : ℕ → Option Counts) (refs refs' : ℕ → List ArcRef) (ro
       }
 
   pub come-cells : SameAt (λ n. cell_in (at n)) (λ n. cell_in (at' n))
-  come-cells n = elim (cases_eq n x.node.0) [
-    | inl e ↦ ap (λ m. cell_in (at' m)) e ∙ ap cell_in here ∙ sym (ap cell_in is) ∙ sym (ap (λ m. cell_in (at m)) e)
-    | inr e ↦ ap cell_in (others n e)
-  ]
+  come-cells n = grind (arith, nat_tests)
 
 -- a node that has a handle is there
 pub some-held : (o : Option Counts) → 0 < holds_in o → IsSome o
@@ -122,11 +110,7 @@ module _ (at at' : ℕ → Option Counts) (refs refs' : ℕ → List ArcRef) (ro
   after-turn = record c { pins = c.pins + one (not (is_pinning x.mode)) }
 
   turn-right : Right (at' x.node.0) (refs' x.node.0)
-  turn-right =
-      let old : is_right c (is_bare (refs x.node.0)) ≡ true = subst (λ o. Right o (refs x.node.0)) is (fits.right x.node.0) in
-      let new : is_right after-turn (is_bare (refs x.node.0)) ≡ true = more-right c.is_falling (nat_lt 0 c.key)
-      (is_bare (refs x.node.0)) c.pins c.holds after-turn.pins after-turn.holds (is-free at refs rows top x.node.0 c fits is) (omega arith) (omega arith) old in
-      subst (λ o. Right o (refs' x.node.0)) (sym here) (subst (λ r. Right (Some after-turn) r) (sym (same x.node.0)) new)
+  turn-right = grind (arith, nat_tests)
 
   turn-real : 0 ≢ x.node.0
   turn-real z = absurd (let a : at 0 ≡ Some c = ap at z ∙ is in cc (a, fits.from_one))
@@ -171,7 +155,4 @@ module _ (at at' : ℕ → Option Counts) (refs refs' : ℕ → List ArcRef) (ro
       }
 
   pub turn-cells : SameAt (λ n. cell_in (at n)) (λ n. cell_in (at' n))
-  turn-cells n = elim (cases_eq n x.node.0) [
-    | inl e ↦ ap (λ m. cell_in (at' m)) e ∙ ap cell_in here ∙ sym (ap cell_in is) ∙ sym (ap (λ m. cell_in (at m)) e)
-    | inr e ↦ ap cell_in (others n e)
-  ]
+  turn-cells n = grind (arith, nat_tests)

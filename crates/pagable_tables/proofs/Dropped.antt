@@ -1,32 +1,13 @@
 -- A load is closed, and what it still owns is given up.
-use Rattle.std.proofs.Common.{◌≡◌, ℕ, ◌<◌, ◌≤◌, ◌==◌, Bool, true, false, not, refl, ap, sym, ◌∙◌, subst, arith, Option, Some, None, inl, inr}
-use Rattle.std.specs.Prelude.{◌≢◌, Result}
-use Rattle.std.specs.Option.{option_map}
-use Rattle.std.proofs.lemmas.Bool.Decides.{nat_tests}
-use Rattle.std.proofs.lemmas.Bool.{cases_eq}
-use Rattle.pagable_model.specs.declared.error.Error.{Error}
-use Rattle.pagable_world.specs.declared.handles.HandleRow.{HandleRow}
-use Rattle.pagable_world.specs.declared.handles.Owner.{Owner}
-use Rattle.pagable_world.specs.Plain.{Blob, updated, if_there}
-use Rattle.pagable_world.specs.Kinds.{is_owned_by, find_row}
-use Rattle.pagable_world.specs.World.{Core, OpenLoad}
+use Rattle.pagable_tables.proofs.Words.{◌≡◌, ℕ, ◌<◌, ◌≤◌, Bool, true, false, not, refl, subst, arith, Option, Some, None, ◌≢◌, Result, option_map, nat_tests, Error, HandleRow, Owner, Blob}
+use Rattle.pagable_tables.proofs.Words.{updated, if_there, is_owned_by, find_row, Core, OpenLoad, Falls, nobody, is_owned_in, LoadRow, Tables, SoFar, passes_in, core_of, load_in}
+use Rattle.pagable_tables.specs.Core.{IsWhole}
+use Rattle.pagable_tables.proofs.{Begun.begins, Begun.begun, keeps.Rows.found-among}
 use Rattle.pagable_world.specs.Pager as pager
-use Rattle.pagable_world.specs.Cascade.{Falls, nobody}
-use Rattle.pagable_world.specs.LoadCalls.{is_owned_in}
-use Rattle.pagable_tables.specs.declared.rows.LoadRow.{LoadRow}
-use Rattle.pagable_tables.specs.declared.tables.Tables.{Tables}
-use Rattle.pagable_tables.specs.Onward.{SoFar}
-use Rattle.pagable_tables.specs.Giving.{passes_in}
-use Rattle.pagable_tables.specs.Core.{core_of, load_in, IsWhole}
-use Rattle.pagable_tables.proofs.Begun.{begins, begun}
-use Rattle.pagable_tables.proofs.keeps.Rows.{found-among}
 
 -- a load isn't there any more
 pub load-closed : (at at' : ℕ → Option LoadRow) (l : ℕ) → at' l ≡ None → ((q : ℕ) → q ≢ l → at' q ≡ at q) → (q : ℕ) → updated l None (λ q. option_map load_in (at q)) q ≡ option_map load_in (at' q)
-load-closed at at' l gone others q = elim (cases_eq q l) [
-  | inl e ↦ let h : (q == l) ≡ true = grind (arith, nat_tests) in rw h (sym (ap (λ m. option_map load_in (at' m)) e ∙ ap (option_map load_in) gone))
-  | inr e ↦ let h : (q == l) ≡ false = grind (arith, nat_tests) in rw h (sym (ap (option_map load_in) (others q e)))
-]
+load-closed at at' l gone others q = grind (arith, nat_tests)
 
 -- where nothing has gone of a whole world, nothing has of the one with other loads and workers
 pub begun-less : (t : Tables) (loads : ℕ → Option OpenLoad) (workers : ℕ → Bool) (stored : ℕ → Option Blob) (closed lists : Bool) (failures : ℕ) → IsWhole t → lists ≡ not closed

@@ -1,25 +1,10 @@
 -- Where no node falls any more, all has gone that had to go, and no more.
-use Rattle.pagable_tables.proofs.Words.{◌≡◌, ℕ, ◌+◌, ◌≤◌, ◌==◌, ◌&&◌, Bool, true, false, not, if◌then◌else◌, List, [], ◌∷◌, ◌++◌, sum_by, refl, ap, sym, ◌∙◌, subst, arith, inl, inr, Option, Some}
-use Rattle.pagable_tables.proofs.Words.{None, ◌⊎◌, is_some, nat_lt, nat_eq, ◌||◌, Result, Ok, Err, nat_tests, sum_by-cons, sum_by-append, Error, OptionalDataKey, ArcRef, HandleRow, one, times}
-use Rattle.pagable_tables.proofs.Words.{if_there, is_pinned_kind, is_at, is_pin, is_owned_by, owner_value, held, pins, has_key, is_in_memory, Core, Cell, greatest, Alike, left_rows, IsClosed}
-use Rattle.pagable_tables.proofs.Words.{is_keyed, MustList, TellsListing, CannotList, IsListRefusal, Falls, fallen, pins_outside, held_outside, Counts, Holdings, live, counts_at, refs_at, Fits}
-use Rattle.pagable_tables.proofs.Words.{IsFalling, Right, is_bare, pins_in, holds_in, falls_in, keyed_in, cell_in, HasFallen, owns, owns_nothing, named, with_tables, told_by, SoFar}
-use Rattle.pagable_tables.proofs.Left.{times-left, entries-none}
-use Rattle.pagable_tables.proofs.Forced.{keyed-cell}
-
-bare-then : (w : Bool) (p h : ℕ) (k bare : Bool) → w ≡ false → (if w then h == 0 || (p == 0 && k) else nat_lt 0 h && (nat_lt 0 p || not k || bare)) ≡ true
-    → (h ≡ 0) ⊎ ((k ≡ true) × (p ≡ 0)) → bare ≡ true
-bare-then true p h k bare e r down = absurd (cc)
-bare-then false p h k bare e r (inl none) = grind (arith, nat_tests)
-bare-then false p h k bare e r (inr both) = let a = both.0 in let b = both.1 in grind (arith, nat_tests)
-
-empty-then : (refs : List ArcRef) → is_bare refs ≡ true → refs ≡ []
-empty-then [] e = refl
-empty-then (x ∷ xs) e = absurd (cc)
-
-no-refs : (o : Option Counts) (refs : List ArcRef) → falls_in o ≡ false → Right o refs → (holds_in o ≡ 0) ⊎ ((keyed_in o ≡ true) × (pins_in o ≡ 0)) → refs ≡ []
-no-refs None refs w right down = right
-no-refs (Some c) refs w right down = empty-then refs (bare-then c.is_falling c.pins c.holds (nat_lt 0 c.key) (is_bare refs) w right down)
+use Rattle.pagable_tables.proofs.Words.{◌≡◌, ℕ, ◌+◌, ◌≤◌, ◌&&◌, Bool, true, false, not, if◌then◌else◌, List, [], ◌∷◌, ◌++◌, sum_by, refl, ap, sym, ◌∙◌, subst, arith, inl, inr, Option, Some}
+use Rattle.pagable_tables.proofs.Words.{None, ◌⊎◌, is_some, nat_lt, nat_eq, Result, Ok, Err, nat_tests, sum_by-cons, sum_by-append, Error, OptionalDataKey, ArcRef, HandleRow, one, times}
+use Rattle.pagable_tables.proofs.Words.{if_there, is_pinned_kind, is_at, is_pin, is_owned_by, owner_value, held, pins, has_key, is_in_memory, Core, Cell, greatest, Alike, left_rows}
+use Rattle.pagable_tables.proofs.Words.{IsClosed, is_keyed, MustList, TellsListing, CannotList, IsListRefusal, Falls, fallen, pins_outside, held_outside, Counts, Holdings, live, counts_at}
+use Rattle.pagable_tables.proofs.Words.{refs_at, Fits, IsFalling, Right, holds_in, falls_in, keyed_in, cell_in, HasFallen, owns, owns_nothing, with_tables, told_by, SoFar}
+use Rattle.pagable_tables.proofs.{Left.times-left, Left.entries-none, Forced.keyed-cell}
 
 stands : (at : ℕ → Option Counts) (refs : ℕ → List ArcRef) (rows : List HandleRow) (top : ℕ) → Fits at refs rows top [] owns_nothing → (n : ℕ) → falls_in (at n) ≡ false
 stands at refs rows top fits n = let a = fits.marked n in grind (arith, nat_tests)
@@ -27,12 +12,7 @@ stands at refs rows top fits n = let a = fits.marked n in grind (arith, nat_test
 -- no handle is left that a value owned which is gone
 pub none-left : (at : ℕ → Option Counts) (refs : ℕ → List ArcRef) (rows : List HandleRow) (top : ℕ) → Fits at refs rows top [] owns_nothing → (n q : ℕ) → HasFallen at rows n
     → sum_by (λ h. owns h n q) rows ≡ 0
-none-left at refs rows top fits n q down =
-    let down' : (holds_in (at n) ≡ 0) ⊎ ((keyed_in (at n) ≡ true) × (pins_in (at n) ≡ 0)) = elim down [ inl none ↦ inl (fits.holding n ∙ none) | inr both ↦ inr (both.0, fits.pinned n ∙ both.1) ] in
-    let e = no-refs (at n) (refs n) (stands at refs rows top fits n) (fits.right n) down' in
-    let a = fits.owned n q in
-    let b = ap (named q) e in
-    omega arith
+none-left at refs rows top fits n q down = grind (arith, nat_tests)
 
 none-owned : (n : ℕ) (rows : List HandleRow) → ((q : ℕ) → sum_by (λ h. owns h n q) rows ≡ 0) → times (is_owned_by (owner_value n)) rows ≡ 0
 none-owned n [] none = refl
@@ -51,29 +31,15 @@ down-keyed (Some c) cell same e = inr (sym (keyed-cell c.key) ∙ ap (λ (o : Op
 
 cell-kept : (o : Option Counts) (refs : List ArcRef) (h : ℕ) (cell : Option Cell) → falls_in o ≡ false → Right o refs → holds_in o ≡ h → (is_some o ≡ true → cell_in o ≡ cell)
     → cell_in o ≡ (if nat_lt 0 h then cell else None)
-cell-kept None refs h cell free right e same = ap (λ k. if nat_lt 0 k then cell else None) e
-cell-kept (Some c) refs h cell free right e same =
-    let some : nat_lt 0 c.holds ≡ true = live-then c.is_falling (c.holds == 0 || (c.pins == 0 && nat_lt 0 c.key)) (nat_lt 0 c.holds)
-    (nat_lt 0 c.pins || not (nat_lt 0 c.key) || is_bare refs) free right in
-    same refl ∙ sym (ap (λ k. if nat_lt 0 k then cell else None) (sym e) ∙ ap (λ b. if b then cell else None) some)
-  where
-    live-then : (w a b k : Bool) → w ≡ false → (if w then a else b && k) ≡ true → b ≡ true
-    live-then true a b k e r = absurd (cc)
-    live-then false a true k e r = refl
-    live-then false a false k e r = absurd (cc)
+cell-kept o refs h cell free right e same = grind (arith, nat_tests)
 
 same-usable : (kind : ℕ) (o : Option ℕ) (rows rows' : List HandleRow) (cells cells' : ℕ → Option Cell) → rows' ≡ rows → ((n : ℕ) → cells' n ≡ cells n)
     → if_there (λ n. if_there (λ (cell : Cell). if is_pinned_kind kind && not (is_in_memory (pins n rows') cell.key) then None else Some n) None (cells' n)) None o
     ≡ if_there (λ n. if_there (λ (cell : Cell). if is_pinned_kind kind && not (is_in_memory (pins n rows) cell.key) then None else Some n) None (cells n)) None o
-same-usable kind None rows rows' cells cells' e same = refl
-same-usable kind (Some n) rows rows' cells cells' e same =
-    ap (λ r. if_there (λ (cell : Cell). if is_pinned_kind kind && not (is_in_memory (pins n r) cell.key) then None else Some n) None (cells' n)) e
-    ∙ ap (λ c. if_there (λ (cell : Cell). if is_pinned_kind kind && not (is_in_memory (pins n rows) cell.key) then None else Some n) None c) (same n)
+same-usable kind o rows rows' cells cells' e same = grind (arith, nat_tests)
 
 refusal : (w w' : Core) (e : Error) → IsListRefusal w w' e → CannotList w w'
-refusal w w' Error.NumbersSpent r = inl r
-refusal w w' Error.OutOfMemory r = inr r.0
-refusal w w' _ r = absurd r
+refusal w w' e r = grind (arith, nat_tests)
 
 each-listed : (before w w' : Core) (entries : List HandleRow) (r : Result (Unit {0}) Error) → TellsListing before w entries r w' → (n : ℕ) → MustList before w w' n
     → (held n entries ≡ 1) ⊎ CannotList w w'

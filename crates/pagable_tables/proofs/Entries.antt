@@ -1,17 +1,13 @@
 -- The entries of the list are given up one after the other, while no cell is listed.
-use Rattle.pagable_tables.proofs.Words.{◌≡◌, ℕ, ◌+◌, ◌<◌, ◌≤◌, ◌==◌, ◌&&◌, ◌||◌, Bool, true, false, not, if◌then◌else◌, List, [], ◌∷◌, ◌++◌, suc, zero, filter, length, map, Some, None, refl, ap}
-use Rattle.pagable_tables.proofs.Words.{sym, ◌∙◌, subst, arith, Option, Result, Ok, Err, nat_lt, vec_capacity, nat_tests, append-nil, sum_by-cons, sum_by-append, sum_by_push, Error, HandleNumber}
-use Rattle.pagable_tables.proofs.Words.{HandleRow, Owner, Blob, Among, one, times, if_there, is_at, is_handle, is_owned_by, find_row, held, Core, FallsAnyhow, left_rows, nobody, TellsListing}
-use Rattle.pagable_tables.proofs.Words.{is_owned_in, Holdings, Tables, core_of, live, told_by, SoFar, entered, with_list, AreEntries}
+use Rattle.pagable_tables.proofs.Words.{◌≡◌, ℕ, ◌+◌, ◌<◌, ◌≤◌, ◌==◌, ◌&&◌, ◌||◌, Bool, true, false, not, if◌then◌else◌, List, [], ◌∷◌, ◌++◌, suc, zero, filter, length, map, None, refl, ap}
+use Rattle.pagable_tables.proofs.Words.{sym, ◌∙◌, subst, arith, Option, Result, Ok, Err, nat_lt, vec_capacity, nat_tests, append-nil, sum_by-cons, sum_by-append, sum_by_push, Error}
+use Rattle.pagable_tables.proofs.Words.{HandleNumber, HandleRow, Owner, Blob, Among, one, times, if_there, is_at, is_handle, is_owned_by, find_row, held, Core, FallsAnyhow, left_rows}
+use Rattle.pagable_tables.proofs.Words.{nobody, TellsListing, is_owned_in, Holdings, Tables, core_of, live, told_by, SoFar, entered, with_list, AreEntries}
 use Rattle.pagable_world.specs.Calls.{shut as shut_world}
-use Rattle.pagable_world.specs.Pager as pager
 use Rattle.pagable_tables.specs.Core.{IsWhole}
-use Rattle.pagable_tables.proofs.keeps.Rests.{found-so}
-use Rattle.pagable_tables.proofs.keeps.Rows.{counted, only-row}
-use Rattle.pagable_tables.proofs.Begun.{begins, begun, shut-then}
-use Rattle.pagable_tables.proofs.Going.{IsApart}
-use Rattle.pagable_tables.proofs.Left.{and_one, kept-more}
-use Rattle.pagable_tables.proofs.Regiven.{regiven}
+use Rattle.pagable_tables.proofs.{keeps.Rests.found-so, keeps.Rows.counted, keeps.Rows.only-row, Begun.begins, Begun.begun, Begun.shut-then, Going.IsApart, Left.and_one, Left.kept-more}
+use Rattle.pagable_tables.proofs.{Regiven.regiven}
+use Rattle.pagable_world.specs.Pager as pager
 
 pub no-entries : (es : List HandleRow) → ((n : ℕ) → 0 < held n es → ⊥) → es ≡ []
 no-entries [] none = refl
@@ -21,21 +17,11 @@ no-entries (h ∷ hs) none = absurd (none h.node.0 (let a = sum_by-cons (λ x. o
 find-kept : (gone : ℕ → Bool) (q : ℕ) (rows : List HandleRow) → gone q ≡ false → find_row q (left_rows gone rows) ≡ find_row q rows
 unfolding find_row
 find-kept gone q [] kept = refl
-find-kept gone q (x ∷ xs) kept = at (gone x.number.0) refl (is_handle q x) refl (find-kept gone q xs kept)
-  where
-    at : (a : Bool) → gone x.number.0 ≡ a → (b : Bool) → is_handle q x ≡ b → find_row q (left_rows gone xs) ≡ find_row q xs
-        → find_row q (if not a then x ∷ left_rows gone xs else left_rows gone xs) ≡ (if b then Some x else find_row q xs)
-    at true e true i rest = let n : x.number.0 ≡ q = grind (arith, nat_tests) in let f : true ≡ false = sym e ∙ ap gone n ∙ kept in absurd (cc)
-    at true e false i rest = rest
-    at false e b i rest = ap (λ b. if b then Some x else find_row q (left_rows gone xs)) i ∙ ap (λ r. if b then Some x else r) rest
+find-kept gone q (x ∷ xs) kept = grind (arith, nat_tests, find-kept gone q xs kept)
 
 filter-le : (p : HandleNumber → Bool) (xs : List HandleNumber) → length (filter p xs) ≤ length xs
 filter-le p [] = omega arith
-filter-le p (x ∷ xs) = at (p x) (filter-le p xs)
-  where
-    at : (b : Bool) → length (filter p xs) ≤ length xs → length (if b then x ∷ filter p xs else filter p xs) ≤ length (x ∷ xs)
-    at true le = omega arith
-    at false le = omega arith
+filter-le p (x ∷ xs) = grind (arith, nat_tests, filter-le p xs)
 
 -- where all is kept, so is the front
 front-kept : (p : HandleNumber → Bool) (xs ys : List HandleNumber) → xs ++ ys ≡ filter p (xs ++ ys) → xs ≡ filter p xs

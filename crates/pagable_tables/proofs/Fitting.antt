@@ -1,8 +1,8 @@
 -- A handle is given up: handles and nodes fit again.
 use Rattle.pagable_tables.proofs.Words.{◌≡◌, ℕ, ◌+◌, ◌-◌, ◌<◌, ◌≤◌, ◌==◌, ◌&&◌, ◌||◌, Bool, true, false, if◌then◌else◌, List, [], ◌∷◌, ◌++◌, length, sum_by, refl, ap, sym, ◌∙◌, subst, arith}
-use Rattle.pagable_tables.proofs.Words.{Option, Some, None, suc, zero, inl, inr, ◌⊎◌, ◌≢◌, is_some, nat_lt, not, nat_tests, cases_eq, sum_by-cons, sum_by-le-sum_by, sum_by_push, ArcRef}
-use Rattle.pagable_tables.proofs.Words.{NodeNumber, HandleRow, Owner, one, held, pins, is_pin, is_at, is_pinning, is_handle, is_owner, owner_value, Counts, pins_in, holds_in, falls_in, next_in}
-use Rattle.pagable_tables.proofs.Words.{keyed_in, Chain, is_bare, is_right, Right, is_fallen_by, after, is_new, Fits, entry, owns, owns_nothing, named, often, cell_in, CellsStay, HasFallen}
+use Rattle.pagable_tables.proofs.Words.{Option, Some, None, inl, inr, ◌⊎◌, ◌≢◌, nat_lt, not, nat_tests, cases_eq, sum_by-cons, sum_by-le-sum_by, sum_by_push, ArcRef, HandleRow, Owner, one}
+use Rattle.pagable_tables.proofs.Words.{held, pins, is_pin, is_at, is_pinning, is_handle, is_owner, owner_value, Counts, pins_in, holds_in, falls_in, next_in, keyed_in, Chain, is_right}
+use Rattle.pagable_tables.proofs.Words.{Right, is_fallen_by, after, is_new, Fits, entry, owns, owns_nothing, named, often, CellsStay, HasFallen}
 
 -- 1 for a handle that pins the node, for one of it, for the handle q that its value owns, and for the handle q
 abbrev pub pin_of : ℕ → HandleRow → ℕ
@@ -37,49 +37,12 @@ pin-other n x other = grind (arith, nat_tests)
 pub held-other : (n : ℕ) (x : HandleRow) → n ≢ x.node.0 → handle_of n x ≡ 0
 held-other n x other = grind (arith, nat_tests)
 
-pin-entry : (listed : Bool) (n k : ℕ) (m : NodeNumber) → (if listed then pin_of n (entry k m) else 0) ≡ 0
-pin-entry true n k m = grind (arith, nat_tests)
-pin-entry false n k m = refl
-
-held-entry : (listed : Bool) (k : ℕ) (m : NodeNumber) → (if listed then handle_of m.0 (entry k m) else 0) ≡ one listed
-held-entry true k m = grind (arith, nat_tests)
-held-entry false k m = refl
-
-held-entry-other : (listed : Bool) (n k : ℕ) (m : NodeNumber) → n ≢ m.0 → (if listed then handle_of n (entry k m) else 0) ≡ 0
-held-entry-other true n k m other = grind (arith, nat_tests)
-held-entry-other false n k m other = refl
-
-owned-entry : (listed : Bool) (n q k : ℕ) (m : NodeNumber) → (if listed then is_owned n q (entry k m) else 0) ≡ 0
-owned-entry true n q k m = grind (arith, nat_tests)
-owned-entry false n q k m = refl
-
-holds-after : (listed : Bool) (h : ℕ) → 1 ≤ h → (if listed then h else h - 1) + 1 ≡ h + one listed
-holds-after true h some = refl
-holds-after false h some = omega arith
-
-right-plain : (waits key pinning bare : Bool) (pins holds pins' holds' : ℕ) → pins' + one pinning ≡ pins → 1 ≤ holds
-    → (if waits then holds == 0 || (pins == 0 && key) else nat_lt 0 holds && (nat_lt 0 pins || not key || bare)) ≡ true
-    → (if waits || (not waits && (holds' == 0 || (pinning && pins' == 0 && key))) then holds' == 0 || (pins' == 0 && key) else nat_lt 0 holds' && (nat_lt 0 pins' || not key || bare)) ≡ true
-right-plain true key pinning bare pins holds pins' holds' e some h = grind (arith, nat_tests)
-right-plain false true true bare pins holds pins' holds' e some h = grind (arith, nat_tests)
-right-plain false true false bare pins holds pins' holds' e some h = grind (arith, nat_tests)
-right-plain false false true bare pins holds pins' holds' e some h = grind (arith, nat_tests)
-right-plain false false false bare pins holds pins' holds' e some h = grind (arith, nat_tests)
-
--- what a node keeps is right still
-right-after : (c : Counts) (pinning listed bare : Bool) (top : ℕ) → one pinning ≤ c.pins → 1 ≤ c.holds → is_right c bare ≡ true → is_right (after c pinning listed top) bare ≡ true
-right-after c pinning listed bare top some live right =
-    right-plain c.is_falling (nat_lt 0 c.key) pinning bare c.pins c.holds (c.pins - one pinning) (if listed then c.holds else c.holds - 1) (omega arith) live right
-
 not-both : (w g : Bool) → (not w && g) ≡ true → w ≡ false
 not-both true g h = sym h
 not-both false g h = refl
 
 is-new : (w g : Bool) → is_new w (w || (not w && g)) ≡ (not w && g)
-is-new true true = refl
-is-new true false = refl
-is-new false true = refl
-is-new false false = refl
+is-new w g = grind (arith, nat_tests)
 
 if-true : (b : Bool) (m n : ℕ) → b ≡ true → (if b then m else n) ≡ m
 if-true true m n h = refl
@@ -99,79 +62,24 @@ module _ (at at' : ℕ → Option Counts) (refs refs' : ℕ → List ArcRef) (ro
     (here : at' x.node.0 ≡ Some (after c (is_pinning x.mode) listed top)) (others : (n : ℕ) → n ≢ x.node.0 → at' n ≡ at n) (same : (n : ℕ) → refs' n ≡ refs n)
     (some : one (is_pinning x.mode) ≤ c.pins) (live : 1 ≤ c.holds) where
   given-pinned : (n : ℕ) → pins_in (at' n) ≡ pins n rows'
-  given-pinned n =
-      elim (cases_eq n x.node.0) [
-        | inl e ↦
-            let a : pins_in (at x.node.0) ≡ pins x.node.0 rows = fits.pinned x.node.0 in
-            let b : pins_in (at x.node.0) ≡ c.pins = ap pins_in is in
-            let d : pins_in (at' x.node.0) ≡ c.pins - one (is_pinning x.mode) = ap pins_in here in
-            let l = leaves (pin_of x.node.0) in
-            let p = pin-here x in
-            let z = pin-entry listed x.node.0 k x.node in
-            let goal : pins_in (at' x.node.0) ≡ pins x.node.0 rows' = omega arith in
-            subst (λ m. pins_in (at' m) ≡ pins m rows') (sym e) goal
-        | inr e ↦
-            let a = fits.pinned n in
-            let b = ap pins_in (others n e) in
-            let l = leaves (pin_of n) in
-            let p = pin-other n x e in
-            let z = pin-entry listed n k x.node in
-            omega arith
-      ]
+  given-pinned n = grind (arith, nat_tests)
 
   given-holding : (n : ℕ) → holds_in (at' n) ≡ held n rows'
-  given-holding n =
-      elim (cases_eq n x.node.0) [
-        | inl e ↦
-            let a : holds_in (at x.node.0) ≡ held x.node.0 rows = fits.holding x.node.0 in
-            let b : holds_in (at x.node.0) ≡ c.holds = ap holds_in is in
-            let d : holds_in (at' x.node.0) ≡ (if listed then c.holds else c.holds - 1) = ap holds_in here in
-            let l = leaves (handle_of x.node.0) in
-            let p = held-here x in
-            let z = held-entry listed k x.node in
-            let y = holds-after listed c.holds live in
-            let goal : holds_in (at' x.node.0) ≡ held x.node.0 rows' = omega arith in
-            subst (λ m. holds_in (at' m) ≡ held m rows') (sym e) goal
-        | inr e ↦
-            let a = fits.holding n in
-            let b = ap holds_in (others n e) in
-            let l = leaves (handle_of n) in
-            let p = held-other n x e in
-            let z = held-entry-other listed n k x.node e in
-            omega arith
-      ]
+  given-holding n = grind (arith, nat_tests)
 
   given-owned : (n q : ℕ) → named q (refs' n) + 0 ≡ sum_by (is_owned n q) rows'
-  given-owned n q =
-      let a = fits.owned n q in
-      let b = ap (named q) (same n) in
-      let l = leaves (is_owned n q) in
-      let z = owned-entry listed n q k x.node in
-      omega arith
+  given-owned n q = grind (arith, nat_tests)
 
   given-one : at' 0 ≡ None
-  given-one =
-      elim (cases_eq 0 x.node.0) [
-        | inl e ↦ absurd (let a : at 0 ≡ Some c = ap at e ∙ is in cc (a, fits.from_one))
-        | inr e ↦ others 0 e ∙ fits.from_one
-      ]
+  given-one = grind (arith, nat_tests)
 
   -- whether the node waits from now on
   abbrev now_falls : Bool
   now_falls = is_fallen_by c (is_pinning x.mode) (c.pins - one (is_pinning x.mode)) (if listed then c.holds else c.holds - 1)
 
   given-chain : (b : Bool) → now_falls ≡ b → Chain at' (if b then x.node.0 else top) (if b then x.node.0 ∷ stack else stack)
-  given-chain true e =
-      let next : next_in (at' x.node.0) ≡ top = ap next_in here ∙ if-true now_falls top c.next e in
-      let free : c.is_falling ≡ false = not-both c.is_falling _ e in
-      let none : often x.node.0 stack ≡ 0 = fits.marked x.node.0 ∙ ap (λ o. one (falls_in o)) is ∙ ap one free in
-      (refl, subst (λ t. Chain at' t stack) (sym next) (chain-frame at at' top stack (λ m within. ap next_in (others m (in-none x.node.0 stack m none within))) fits.chain))
-  given-chain false e =
-      let next : next_in (at' x.node.0) ≡ c.next = ap next_in here ∙ if-false now_falls top c.next e in
-      chain-frame at at' top stack (λ m within. elim (cases_eq m x.node.0) [
-        | inl same' ↦ ap (λ k. next_in (at' k)) same' ∙ next ∙ sym (ap next_in is) ∙ sym (ap (λ k. next_in (at k)) same')
-        | inr other ↦ ap next_in (others m other)
-      ]) fits.chain
+  given-chain true e = grind (arith, nat_tests, if-true, not-both, chain-frame, in-none, if-false)
+  given-chain false e = grind (arith, nat_tests, if-true, not-both, chain-frame, in-none, if-false)
 
   given-marked : (b : Bool) → now_falls ≡ b → (n : ℕ) → often n (if b then x.node.0 ∷ stack else stack) ≡ one (falls_in (at' n))
   given-marked true e n =
@@ -195,27 +103,14 @@ module _ (at at' : ℕ → Option Counts) (refs refs' : ℕ → List ArcRef) (ro
       ]
 
   given-right : (n : ℕ) → Right (at' n) (refs' n)
-  given-right n =
-      elim (cases_eq n x.node.0) [
-        | inl e ↦
-            let old : Right (Some c) (refs x.node.0) = subst (λ o. Right o (refs x.node.0)) is (fits.right x.node.0) in
-            let goal : Right (Some (after c (is_pinning x.mode) listed top)) (refs x.node.0) = right-after c (is_pinning x.mode) listed (is_bare (refs x.node.0)) top some live old in
-            let at-node : Right (at' x.node.0) (refs' x.node.0) = subst (λ o. Right o (refs' x.node.0)) (sym here)
-            (subst (λ r. Right (Some (after c (is_pinning x.mode) listed top)) r) (sym (same x.node.0)) goal) in
-            subst (λ m. Right (at' m) (refs' m)) (sym e) at-node
-        | inr e ↦ subst (λ o. Right o (refs' n)) (sym (others n e)) (subst (λ r. Right (at n) r) (sym (same n)) (fits.right n))
-      ]
+  given-right n = grind (arith, nat_tests)
 
   pub given-fits : (b : Bool) → now_falls ≡ b → Fits at' refs' rows' (if b then x.node.0 else top) (if b then x.node.0 ∷ stack else stack) owns_nothing
   given-fits b e =
       record { pinned = given-pinned; holding = given-holding; owned = given-owned; chain = given-chain b e; marked = given-marked b e; right = given-right; from_one = given-one }
 
   pub given-cells : CellsStay at at'
-  given-cells n some' =
-      elim (cases_eq n x.node.0) [
-        | inl e ↦ (ap (λ m. is_some (at m)) e ∙ ap is_some is, ap (λ m. cell_in (at' m)) e ∙ ap cell_in here ∙ sym (ap (λ m. cell_in (at m)) e ∙ ap cell_in is))
-        | inr e ↦ (sym (ap is_some (others n e)) ∙ some', ap cell_in (others n e))
-      ]
+  given-cells n some' = grind (arith, nat_tests)
 
 pub new-top : (c : Counts) (pinning listed : Bool) (top node : ℕ) → (b : Bool) → is_fallen_by c pinning (c.pins - one pinning) (if listed then c.holds else c.holds - 1) ≡ b
     → (if is_new c.is_falling (after c pinning listed top).is_falling then node else top) ≡ (if b then node else top)
@@ -284,10 +179,7 @@ pins-le-held n rows = sum_by-le-sum_by (pin_of n) (handle_of n) rows (λ h. grin
 
 -- an owned row's owner
 pub owner-is : (n q : ℕ) (x : HandleRow) → is_owned n q x ≡ 1 → (x.owner ≡ owner_value n) × ((m r : ℕ) → is_owned m r x ≡ one (n == m && q == r))
-owner-is n q x h =
-    let e : x.owner ≡ owner_value n = owner-value n x.owner (grind (arith, nat_tests)) in
-    let number : x.number.0 ≡ q = grind (arith, nat_tests) in
-    (e, λ m r. ap (λ o. one (x.number.0 == r && is_owner (owner_value m) o)) e ∙ ap (λ k. one (k == r && n == m)) number ∙ grind (arith, nat_tests))
+owner-is n q x h = grind (arith, nat_tests, owner-value)
 
 pub settled-right : (c : Counts) → c.is_falling ≡ false → 0 < c.holds → is_right c true ≡ true
 settled-right c free live = grind (arith, nat_tests)
@@ -356,12 +248,7 @@ fits-same at at' refs refs' rows top stack fits same refs-same =
 
 -- the first node that waits has lost its value
 fallen-plain : (w k : Bool) (p h : ℕ) (b : Bool) → w ≡ true → (if w then h == 0 || (p == 0 && k) else b) ≡ true → (h ≡ 0) ⊎ ((k ≡ true) × (p ≡ 0))
-fallen-plain true k zero zero b e h' = inl refl
-fallen-plain true true zero (suc h) b e h' = inr (refl, refl)
-fallen-plain true false zero (suc h) b e h' = absurd (grind (arith, nat_tests))
-fallen-plain true k (suc p) zero b e h' = inl refl
-fallen-plain true k (suc p) (suc h) b e h' = absurd (grind (arith, nat_tests))
-fallen-plain false k p h b e h' = absurd (cc)
+fallen-plain w k p h b e h' = grind (arith, nat_tests)
 
 fallen-at : (o : Option Counts) (refs : List ArcRef) → falls_in o ≡ true → Right o refs → (holds_in o ≡ 0) ⊎ ((keyed_in o ≡ true) × (pins_in o ≡ 0))
 fallen-at None refs w r = absurd (cc)

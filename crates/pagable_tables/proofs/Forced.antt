@@ -1,8 +1,8 @@
 -- A handle that a fallen value owned is in each closed set.
-use Rattle.pagable_tables.proofs.Words.{◌≡◌, ℕ, ◌+◌, ◌≤◌, ◌&&◌, Bool, true, false, not, if◌then◌else◌, List, [], ◌∷◌, refl, ap, sym, ◌∙◌, arith, Option, Some, None, inl, inr, zero, suc, is_some}
-use Rattle.pagable_tables.proofs.Words.{nat_lt, nat_eq, nat_tests, sum_by-cons, sum_by-append, sum_by-le-sum_by, OptionalDataKey, HandleRow, one, times, if_there, is_at, is_pin, is_owned_by}
-use Rattle.pagable_tables.proofs.Words.{owner_value, held, pins, has_key, Core, Cell, IsWithin, IsClosed, is_keyed, is_outside, left_rows, held_outside, pins_outside, Counts, Holdings, live}
-use Rattle.pagable_tables.proofs.Words.{counts_at, keyed_in, key_in, cell_in, HasFallen, SoFar}
+use Rattle.pagable_tables.proofs.Words.{◌≡◌, ℕ, ◌+◌, ◌≤◌, ◌&&◌, Bool, true, false, not, if◌then◌else◌, List, [], ◌∷◌, refl, ap, sym, ◌∙◌, arith, Option, Some, None, inl, inr, zero, suc}
+use Rattle.pagable_tables.proofs.Words.{is_some, nat_lt, nat_eq, nat_tests, sum_by-cons, sum_by-append, sum_by-le-sum_by, OptionalDataKey, HandleRow, one, times, if_there, is_at, is_pin}
+use Rattle.pagable_tables.proofs.Words.{is_owned_by, owner_value, held, pins, has_key, Core, Cell, IsWithin, IsClosed, is_keyed, is_outside, left_rows, held_outside, pins_outside, Counts}
+use Rattle.pagable_tables.proofs.Words.{Holdings, live, counts_at, keyed_in, key_in, cell_in, HasFallen, SoFar}
 use Rattle.pagable_tables.proofs.Left.{times-left, entries-none}
 
 -- what is outside the one set is outside the other, or between them
@@ -18,11 +18,7 @@ cut f gone s (x ∷ xs) =
     omega arith
   where
     bits : (p g s : Bool) → one (p && not s) ≤ one (p && not g) + one (g && not s)
-    bits true true true = omega arith
-    bits true true false = omega arith
-    bits true false true = omega arith
-    bits true false false = omega arith
-    bits false g s = omega arith
+    bits p g s = grind (arith, nat_tests)
 
 le : (f g : HandleRow → Bool) (rows : List HandleRow) → ((h : HandleRow) → one (f h) ≤ one (g h)) → times f rows ≤ times g rows
 le f g rows h = sum_by-le-sum_by (λ x. one (f x)) (λ x. one (g x)) rows h

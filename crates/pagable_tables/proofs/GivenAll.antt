@@ -1,22 +1,7 @@
 -- Handles are given up together, from the last to the first.
-use Rattle.std.specs.Prelude.{nat_lt}
-use Rattle.std.proofs.Common.{◌≡◌, ℕ, ◌<◌, ◌≤◌, ◌-◌, ◌==◌, ◌&&◌, ◌||◌, Bool, true, false, not, [], Option, Some, None, refl, ap, sym, ◌∙◌, arith}
-use Rattle.std.proofs.lemmas.Bool.Decides.{nat_tests}
-use Rattle.pagable_model.specs.declared.numbers.NodeNumber.{NodeNumber}
-use Rattle.pagable_world.specs.declared.handles.HandleRow.{HandleRow}
-use Rattle.pagable_world.specs.declared.handles.Owner.{Owner}
-use Rattle.pagable_world.specs.declared.handles.Owner.TheVariants as owners
-use Rattle.pagable_world.specs.Plain.{if_there}
-use Rattle.pagable_world.specs.Kinds.{is_owner, find_row}
-use Rattle.pagable_world.specs.World.{Core, OpenLoad}
-use Rattle.pagable_world.specs.Cascade.{nobody}
-use Rattle.pagable_tables.specs.declared.giving.Giving.{Giving}
-use Rattle.pagable_tables.specs.declared.giving.Giving.TheVariants as givings
-use Rattle.pagable_tables.specs.declared.holdings.Holdings.{Holdings}
-use Rattle.pagable_tables.specs.Live.{live}
-use Rattle.pagable_tables.specs.Falling.{is_valued}
-use Rattle.pagable_tables.specs.Onward.{SoFar}
-use Rattle.pagable_tables.specs.Giving.{gives, gives_row, passes_in}
+use Rattle.pagable_tables.proofs.Words.{nat_lt, ◌≡◌, ℕ, ◌<◌, ◌≤◌, ◌-◌, ◌==◌, ◌&&◌, ◌||◌, Bool, true, false, not, [], Option, Some, None, refl, ap, sym, ◌∙◌, arith, nat_tests, NodeNumber}
+use Rattle.pagable_tables.proofs.Words.{HandleRow, Owner, if_there, is_owner, find_row, Core, OpenLoad, nobody, Giving, Holdings, live, is_valued, SoFar, gives_row, passes_in}
+use Rattle.pagable_tables.specs.Giving.{gives}
 use Rattle.pagable_tables.proofs.Regiven.{regiven, passes-so-far}
 
 -- a world of these loads alone
@@ -36,25 +21,17 @@ bare loads =
       places = record { handles = 0; entries = 0 };
     }
 
-no-value : (w : Core) (giving : Giving) (m node : NodeNumber) → gives w giving (owners.Value m) node ≡ false
-no-value w (givings.Load l) m node = refl
-no-value w (givings.AtNode v n) m node = refl
-no-value w (givings.Worker v) m node = refl
+no-value : (w : Core) (giving : Giving) (m node : NodeNumber) → gives w giving (Owner.Value m) node ≡ false
+no-value w giving m node = grind (arith, nat_tests)
 
-no-list : (w : Core) (giving : Giving) (node : NodeNumber) → gives w giving owners.List node ≡ false
-no-list w (givings.Load l) node = refl
-no-list w (givings.AtNode v n) node = refl
-no-list w (givings.Worker v) node = refl
+no-list : (w : Core) (giving : Giving) (node : NodeNumber) → gives w giving Owner.List node ≡ false
+no-list w giving node = grind (arith, nat_tests)
 
 -- neither a value's handle is given up so, nor the list's
-pub given-plain : (w : Core) (giving : Giving) (o : Owner) (node : NodeNumber) → gives w giving o node ≡ true → (is_valued o ≡ false) × (is_owner owners.List o ≡ false)
-given-plain w giving owners.Caller node is = (refl, refl)
-given-plain w giving (owners.Value m) node is = absurd (let a = no-value w giving m node in cc)
-given-plain w giving owners.List node is = absurd (let a = no-list w giving node in cc)
-given-plain w giving (owners.Load l) node is = (refl, refl)
-given-plain w giving (owners.Worker v) node is = (refl, refl)
+pub given-plain : (w : Core) (giving : Giving) (o : Owner) (node : NodeNumber) → gives w giving o node ≡ true → (is_valued o ≡ false) × (is_owner Owner.List o ≡ false)
+given-plain w giving o node is = grind (arith, nat_tests)
 
-unlisting : (w : Core) (giving : Giving) (h : HandleRow) → h.owner ≡ owners.List → gives_row w giving h ≡ false
+unlisting : (w : Core) (giving : Giving) (h : HandleRow) → h.owner ≡ Owner.List → gives_row w giving h ≡ false
 unlisting w giving h is = ap (λ o. gives w giving o h.node) is ∙ no-list w giving h.node
 
 had : (g o : Bool) → (not g && o) ≡ true → o ≡ true

@@ -1,8 +1,7 @@
 -- The handles that references name are given up one after the other.
-use Rattle.pagable_tables.proofs.Words.{◌≡◌, ℕ, ◌+◌, ◌<◌, ◌==◌, ◌&&◌, ◌||◌, Bool, true, false, List, [], ◌∷◌, ◌++◌, take, get_or, length, refl, ap, sym, ◌∙◌, arith, add-one, nat_tests, take-suc}
-use Rattle.pagable_tables.proofs.Words.{ArcRef, LoadNumber, Owner, Core, nobody, is_named_by, is_owned_in, Holdings, SoFar}
-use Rattle.pagable_tables.proofs.Named.{named-push}
-use Rattle.pagable_tables.proofs.Regiven.{regiven, and_owned}
+use Rattle.pagable_tables.proofs.Words.{◌≡◌, ℕ, ◌+◌, ◌<◌, ◌==◌, ◌&&◌, ◌||◌, Bool, true, false, List, [], ◌∷◌, ◌++◌, take, get_or, length, refl, ap, sym, ◌∙◌, arith, add-one, nat_tests}
+use Rattle.pagable_tables.proofs.Words.{take-suc, ArcRef, LoadNumber, Owner, Core, nobody, is_named_by, is_owned_in, Holdings, SoFar}
+use Rattle.pagable_tables.proofs.{Named.named-push, Regiven.regiven, Regiven.and_owned}
 
 -- what the load owns of the handles that so many references name
 abbrev pub named_owned : Core → LoadNumber → List ArcRef → ℕ → ℕ → Bool
@@ -33,7 +32,4 @@ module _ (before w : Core) (lists : Bool) (t : Holdings) (l : LoadNumber) (rs : 
       (λ r e. let p = named-more rs i d r lt in let s : ((get_or rs i d).handle.0 == r) ≡ (r == (get_or rs i d).handle.0) = grind (arith, nat_tests) in grind (arith, nat_tests))
 
   pub all-given : (i : ℕ) → take i rs ≡ rs → ((q : ℕ) → is_named_by rs q ≡ true → is_owned_in w (Owner.Load l) q ≡ true) → SoFar before w (named_owned w l rs i) lists t → SoFar before w (is_named_by rs) lists t
-  all-given i all owned f =
-      regiven before w (named_owned w l rs i) (is_named_by rs) lists t f
-      (λ r e. let p = ap (λ l. is_named_by l r) all in let o = owned r e in grind (arith, nat_tests))
-      (λ r e. sym (ap (λ l. is_named_by l r) all) ∙ both-left (is_named_by (take i rs) r) _ e)
+  all-given i all owned f = grind (arith, nat_tests, both-left)

@@ -1,50 +1,20 @@
 -- One handle more has gone, given up directly or by a value that has fallen: what has gone so far.
 use Rattle.pagable_tables.proofs.Words.{◌≡◌, ℕ, ◌+◌, ◌<◌, ◌≤◌, ◌==◌, ◌&&◌, Bool, true, false, not, if◌then◌else◌, List, [], ◌∷◌, ◌++◌, length, filter, map, sum_by, refl, ap, sym, ◌∙◌, subst}
-use Rattle.pagable_tables.proofs.Words.{arith, inl, inr, is_some, vec_capacity, cases_Bool, nat_tests, append_assoc, append-nil, map-append, length-append, sum_by-cons, sum_by-append}
-use Rattle.pagable_tables.proofs.Words.{sum_by-le-sum_by, Error, HandleNumber, NodeNumber, HandleRow, Owner, one, times, is_pin, is_handle, is_owned_by, held, pins, Core, greatest, left_rows}
-use Rattle.pagable_tables.proofs.Words.{IsWithin, IsClosed, AreNewEntries, TellsListing, IsListRefusal, is_keyed, Holdings, live, counts_at, pins_in, entry, entries_of, is_listing, cell_in}
-use Rattle.pagable_tables.proofs.Words.{first_cause, IsUnlisted, GivesUp, HasPlaces, with_tables, told_by, SoFar}
-use Rattle.pagable_tables.proofs.Left.{and_one, kept-more, times-left, entries-more}
-use Rattle.pagable_tables.proofs.Leaving.{leaves-sums}
-use Rattle.pagable_tables.proofs.Wanted.{entry-pins}
-use Rattle.pagable_tables.proofs.NoEntry.{of_list, none-listed, none-entered}
-use Rattle.pagable_tables.proofs.RowsMore.{rows-more}
-use Rattle.pagable_tables.proofs.Telling.{only-more, tells-more, refusal-now}
+use Rattle.pagable_tables.proofs.Words.{arith, is_some, vec_capacity, nat_tests, append_assoc, append-nil, map-append, length-append, sum_by-cons, sum_by-append, sum_by-le-sum_by, Error}
+use Rattle.pagable_tables.proofs.Words.{HandleNumber, NodeNumber, HandleRow, Owner, one, times, is_pin, is_handle, is_owned_by, held, pins, Core, greatest, left_rows, IsWithin, IsClosed}
+use Rattle.pagable_tables.proofs.Words.{AreNewEntries, TellsListing, IsListRefusal, is_keyed, Holdings, live, counts_at, pins_in, entry, entries_of, is_listing, cell_in, first_cause}
+use Rattle.pagable_tables.proofs.Words.{IsUnlisted, GivesUp, HasPlaces, with_tables, told_by, SoFar}
+use Rattle.pagable_tables.proofs.{Left.and_one, Left.kept-more, Left.times-left, Left.entries-more, Leaving.leaves-sums, Wanted.entry-pins, NoEntry.of_list, NoEntry.none-listed}
+use Rattle.pagable_tables.proofs.{NoEntry.none-entered, RowsMore.rows-more, Telling.only-more, Telling.tells-more, Telling.refusal-now}
 
 -- a handle of which the list has none may go, whether it had gone or not
 kept-gone : (gone : ℕ → Bool) (q : ℕ) (list : List HandleNumber) → gone q ≡ true → filter (λ (h : HandleNumber). not (and_one gone q h.0)) list ≡ filter (λ (h : HandleNumber). not (gone h.0)) list
-kept-gone gone q [] e = refl
-kept-gone gone q (x ∷ xs) e =
-    let rest = kept-gone gone q xs e in
-    let same : not (and_one gone q x.0) ≡ not (gone x.0) = ap not (also x.0) in
-    ap (λ b. if b then x ∷ filter (λ (h : HandleNumber). not (and_one gone q h.0)) xs else filter (λ (h : HandleNumber). not (and_one gone q h.0)) xs) same
-    ∙ ap (λ r. if not (gone x.0) then x ∷ r else r) rest
-  where
-    also : (r : ℕ) → and_one gone q r ≡ gone r
-    also r = elim (cases_Bool (r == q)) [
-      | inl is ↦ (let a : r ≡ q = grind (arith, nat_tests) in let b : gone r ≡ true = ap gone a ∙ e in grind (arith, nat_tests))
-      | inr other ↦
-          grind (arith, nat_tests)
-    ]
+kept-gone gone q list e = grind (arith, nat_tests)
 
 list-kept : (gone : ℕ → Bool) (q : ℕ) (rows : List HandleRow) (list : List HandleNumber) → times (λ (h : HandleNumber). h.0 == q) list ≤ times (of_list q) rows
     → times (λ h. of_list q h && not (gone h.number.0)) rows ≡ 0
     → filter (λ (h : HandleNumber). not (and_one gone q h.0)) list ≡ filter (λ (h : HandleNumber). not (gone h.0)) list
-list-kept gone q rows list listed none =
-    elim (cases_Bool (gone q)) [
-      | inl e ↦ kept-gone gone q list e
-      | inr e ↦
-          let a : times (of_list q) rows ≤ times (λ h. of_list q h && not (gone h.number.0)) rows =
-          sum_by-le-sum_by (λ h. one (of_list q h)) (λ h. one (of_list q h && not (gone h.number.0))) rows (less e) in
-          kept-more gone q list (omega arith)
-    ]
-  where
-    less : gone q ≡ false → (h : HandleRow) → one (of_list q h) ≤ one (of_list q h && not (gone h.number.0))
-    less e h = elim (cases_Bool (h.number.0 == q)) [
-      | inl is ↦ (let a : h.number.0 ≡ q = grind (arith, nat_tests) in let b : gone h.number.0 ≡ false = ap gone a ∙ e in
-          grind (arith, nat_tests))
-      | inr other ↦ grind (arith, nat_tests)
-    ]
+list-kept gone q rows list listed none = grind (arith, nat_tests, kept-gone, sum_by-le-sum_by, kept-more)
 
 pub entry-number : (listed : Bool) (k : ℕ) (node : NodeNumber) → map (λ (h : HandleRow). h.number) (entries_of listed k node) ≡ (if listed then record { 0 = k } ∷ [] else [])
 entry-number true k node = refl
@@ -119,11 +89,7 @@ module _ (before w : Core) (given given' : ℕ → Bool) (lists : Bool) (t poppe
   since = ap (λ (h : Holdings). h.last_handle) g.leaves.same ∙ ap (λ (h : Holdings). h.last_handle) same
 
   last : new.last_handle ≡ t.last_handle + one g.listed
-  last =
-      let a : new.last_handle ≡ g.between.last_handle = ap (λ (h : Holdings). h.last_handle) g.same in
-      let b = g.leaves.lists.comes.last in
-      let d = since in
-      omega arith
+  last = grind (arith, nat_tests)
 
   abbrev came : List HandleNumber
   came = if g.listed then record { 0 = t.last_handle + 1 } ∷ [] else []
@@ -144,12 +110,7 @@ module _ (before w : Core) (given given' : ℕ → Bool) (lists : Bool) (t poppe
       ∙ ap (λ l. l ++ map (λ (h : HandleRow). h.number) (f.entries ++ entries_of g.listed (t.last_handle + 1) x.node)) (sym apart.kept)
 
   room : HasPlaces popped new
-  room =
-      let a = g.leaves.places in
-      let b = g.leaves.lists.comes.places in
-      let d : vec_capacity new.handles.places ≡ vec_capacity g.between.handles.places = ap (λ (h : Holdings). vec_capacity h.handles.places) g.same in
-      let e : vec_capacity new.list ≡ vec_capacity g.between.list = ap (λ (h : Holdings). vec_capacity h.list) g.same in
-      record { handles = omega arith; entries = omega arith }
+  room = grind (arith, nat_tests)
 
   -- why none came
   wanting : (e : Error) → g.listed ≡ false → IsUnlisted g.leaves.between e → IsListRefusal w (with_tables w new) e

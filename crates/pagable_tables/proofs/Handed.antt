@@ -1,7 +1,7 @@
 -- Handles that are named come to another owner, one after the other.
 use Rattle.pagable_tables.proofs.Words.{◌≡◌, ℕ, ◌+◌, ◌≤◌, ◌==◌, ◌||◌, Bool, true, false, if◌then◌else◌, List, [], ◌∷◌, length, get_or, drop, map, refl, ap, sym, ◌∙◌, arith, suc, zero, Some}
-use Rattle.pagable_tables.proofs.Words.{nat_tests, at_drop_more, at_drop_all, HandleNumber, HandleRow, Owner, is_in, is_handle, find_row, only_handle, moved, numbers_of, is_valued, seen}
-use Rattle.pagable_tables.proofs.Words.{named_at, IsNamed}
+use Rattle.pagable_tables.proofs.Words.{nat_tests, at_drop_more, at_drop_all, HandleNumber, HandleRow, Owner, is_in, find_row, only_handle, moved, numbers_of, is_valued, seen, named_at}
+use Rattle.pagable_tables.proofs.Words.{IsNamed}
 use Rattle.pagable_tables.proofs.Seen.{in-none, in-more}
 
 -- the set is told by another test
@@ -19,32 +19,10 @@ abbrev to : (ℕ → Bool) → Owner → HandleRow → HandleRow
 to s o row = if s row.number.0 then record row { owner = o } else row
 
 to-number : (s : ℕ → Bool) (o : Owner) (x : HandleRow) → (to s o x).number.0 ≡ x.number.0
-to-number s o x = split (s x.number.0)
-  where
-    split : (b : Bool) → (if b then record x { owner = o } else x).number.0 ≡ x.number.0
-    split true = refl
-    split false = refl
+to-number s o x = grind (arith, nat_tests)
 
 twice : (s : ℕ → Bool) (h : HandleNumber) (o : Owner) (x : HandleRow) → to (only_handle h) o (to s o x) ≡ to (λ q. h.0 == q || s q) o x
-twice s h o x = split (s x.number.0) (h.0 == x.number.0) refl refl
-  where
-    only : (b : Bool) (y : HandleRow) → y.number.0 ≡ x.number.0 → (h.0 == x.number.0) ≡ b → only_handle h y.number.0 ≡ b
-    only true y same e = let n : y.number.0 ≡ h.0 = grind (arith, nat_tests) in grind (arith, nat_tests)
-    only false y same e = grind (arith, nat_tests)
-
-    split : (a b : Bool) → s x.number.0 ≡ a → (h.0 == x.number.0) ≡ b → to (only_handle h) o (to s o x) ≡ to (λ q. h.0 == q || s q) o x
-    split true true e f =
-        ap (λ a. to (only_handle h) o (if a then record x { owner = o } else x)) e ∙ ap (λ b. if b then record x { owner = o } else record x { owner = o }) (only true (record x { owner = o }) refl f)
-        ∙ sym (ap (λ b. if b || s x.number.0 then record x { owner = o } else x) f)
-    split true false e f =
-        ap (λ a. to (only_handle h) o (if a then record x { owner = o } else x)) e ∙ ap (λ b. if b then record x { owner = o } else record x { owner = o }) (only false (record x { owner = o }) refl f)
-        ∙ sym (ap (λ b. if b || s x.number.0 then record x { owner = o } else x) f ∙ ap (λ a. if a then record x { owner = o } else x) e)
-    split false true e f =
-        ap (λ a. to (only_handle h) o (if a then record x { owner = o } else x)) e ∙ ap (λ b. if b then record x { owner = o } else x) (only true x refl f)
-        ∙ sym (ap (λ b. if b || s x.number.0 then record x { owner = o } else x) f)
-    split false false e f =
-        ap (λ a. to (only_handle h) o (if a then record x { owner = o } else x)) e ∙ ap (λ b. if b then record x { owner = o } else x) (only false x refl f)
-        ∙ sym (ap (λ b. if b || s x.number.0 then record x { owner = o } else x) f ∙ ap (λ a. if a then record x { owner = o } else x) e)
+twice s h o x = grind (arith, nat_tests)
 
 moved-twice : (s : ℕ → Bool) (h : HandleNumber) (o : Owner) (rows : List HandleRow) → moved (only_handle h) o (moved s o rows) ≡ moved (λ q. h.0 == q || s q) o rows
 moved-twice s h o [] = refl
@@ -60,23 +38,10 @@ one-moved hs p o rows rows' rows'' h same is next =
 found-there : (f : HandleRow → HandleRow) → ((h : HandleRow) → (f h).number.0 ≡ h.number.0) → (q : ℕ) (rows : List HandleRow) (row : HandleRow) → find_row q rows ≡ Some row → find_row q (map f rows) ≡ Some (f row)
 unfolding find_row
 found-there f same q [] row is = absurd (cc)
-found-there f same q (x ∷ xs) row is = split (is_handle q x) refl (found-there f same q xs row)
-  where
-    split : (b : Bool) → is_handle q x ≡ b → (find_row q xs ≡ Some row → find_row q (map f xs) ≡ Some (f row)) → (if is_handle q (f x) then Some (f x) else find_row q (map f xs)) ≡ Some (f row)
-    split true e rest =
-        let e' : is_handle q (f x) ≡ true = ap (λ n. n == q) (same x) ∙ e in
-        let h : Some x ≡ Some row = sym (ap (λ b. if b then Some x else find_row q xs) e) ∙ is in
-        ap (λ b. if b then Some (f x) else find_row q (map f xs)) e' ∙ (let s : x ≡ row = cc in ap (λ y. Some (f y)) s)
-    split false e rest =
-        let e' : is_handle q (f x) ≡ false = ap (λ n. n == q) (same x) ∙ e in
-        ap (λ b. if b then Some (f x) else find_row q (map f xs)) e' ∙ rest (sym (ap (λ b. if b then Some x else find_row q xs) e) ∙ is)
+found-there f same q (x ∷ xs) row is = grind (arith, nat_tests, found-there f same q xs row)
 
 still-plain : (s : ℕ → Bool) (o : Owner) (x : HandleRow) → is_valued o ≡ false → is_valued x.owner ≡ false → is_valued (to s o x).owner ≡ false
-still-plain s o x plain none = split (s x.number.0)
-  where
-    split : (b : Bool) → is_valued (if b then record x { owner = o } else x).owner ≡ false
-    split true = plain
-    split false = none
+still-plain s o x plain none = grind (arith, nat_tests)
 
 -- a handle that is named stays so while others move
 pub named-still : (hs : List HandleNumber) (p q : ℕ) (o : Owner) (rows rows' : List HandleRow) → rows' ≡ moved (is_in (seen hs p)) o rows → is_valued o ≡ false → IsNamed rows q → IsNamed rows' q
@@ -111,9 +76,7 @@ seen-so-far hs q (suc n) le =
     ∙ sym (ap (λ s. is_in (seen hs n) q || s) (b ∙ in-first q (get_or hs n (record { 0 = 0 })) (drop (n + 1) hs))) ∙ a
   where
     swap : (a b c : Bool) → ((a || b) || c) ≡ (b || (a || c))
-    swap true true c = refl
-    swap true false c = refl
-    swap false b c = refl
+    swap a b c = grind (arith, nat_tests)
 
 pub seen-all : (hs : List HandleNumber) (q : ℕ) → is_in (seen hs (length hs)) q ≡ is_in (numbers_of hs) q
 seen-all hs q =

@@ -1,54 +1,17 @@
 -- A load of a cell ends with a pin, and gives up what it still owns. The pin stays, so that cells are listed as of the world before.
-use Rattle.std.proofs.Common.{◌≡◌, ℕ, ◌+◌, ◌<◌, ◌≤◌, ◌==◌, ◌&&◌, Bool, true, false, not, List, [], ◌∷◌, ◌++◌, length, refl, ap, sym, ◌∙◌, subst, arith, Option, Some, None, inl, inr, if◌then◌else◌}
-use Rattle.std.specs.Prelude.{◌≢◌, Result, vec_capacity}
-use Rattle.std.specs.Option.{option_map}
-use Rattle.std.specs.List.{AllPairs}
-use Rattle.std.proofs.lemmas.Bool.Decides.{nat_tests}
-use Rattle.std.proofs.lemmas.List.Sums.{sum_by_push}
-use Rattle.pagable_model.specs.declared.error.Error.{Error}
-use Rattle.pagable_model.specs.declared.numbers.ArcRef.{ArcRef}
-use Rattle.pagable_model.specs.declared.numbers.HandleNumber.{HandleNumber}
-use Rattle.pagable_model.specs.declared.numbers.LoadNumber.{LoadNumber}
-use Rattle.pagable_model.specs.declared.numbers.NodeNumber.{NodeNumber}
-use Rattle.pagable_world.specs.declared.handles.HandleRow.{HandleRow}
-use Rattle.pagable_world.specs.declared.handles.Owner.{Owner}
-use Rattle.pagable_world.specs.declared.handles.Owner.TheVariants as owners
-use Rattle.pagable_world.specs.declared.rows.Mode.TheVariants as modes
-use Rattle.pagable_world.specs.Plain.{Blob, Among, one, times}
-use Rattle.pagable_world.specs.Kinds.{find_row, pins, sharing, is_handle, is_owner, is_owned_by, is_pin, is_share, owner_value}
-use Rattle.pagable_world.specs.Pager.{IsHandleBefore, MayOwnLoad}
-use Rattle.pagable_world.specs.World.{Core, Last, Alike}
-use Rattle.pagable_world.specs.Cascade.{Falls, nobody}
-use Rattle.pagable_world.specs.Refusals.{references_fault}
-use Rattle.pagable_world.specs.Calls.{moved, row_of, is_named_by, with_handle, with_mode}
-use Rattle.pagable_world.specs.LoadCalls.{is_owned_in, without_load, with_pin, Installs, MayEnd}
-use Rattle.pagable_world.specs.Plain.{changed}
-use Rattle.pagable_tables.specs.declared.holdings.Holdings.{Holdings}
-use Rattle.pagable_tables.specs.declared.rows.Counts.{Counts}
-use Rattle.pagable_tables.specs.declared.rows.LoadRow.{LoadRow}
-use Rattle.pagable_tables.specs.declared.tables.Tables.{Tables}
-use Rattle.pagable_tables.specs.Live.{live}
-use Rattle.pagable_tables.specs.ByNumber.{counts_at, load_at}
-use Rattle.pagable_tables.specs.Falling.{cell_in, has_value, is_valued, pins_in}
-use Rattle.pagable_tables.specs.Onward.{with_tables, is_plain_pin, SoFar}
-use Rattle.pagable_tables.specs.Core.{core_of, plain_of, load_in, IsWhole, MayHold}
-use Rattle.pagable_tables.specs.Ready.{IsWider, has_come}
-use Rattle.pagable_tables.proofs.Begun.{begins, begun}
-use Rattle.pagable_tables.proofs.Coming.{turned}
-use Rattle.pagable_tables.proofs.Dropped.{load-closed, owned-given}
-use Rattle.pagable_tables.proofs.Joined.{moved-turned, turned-sum}
-use Rattle.pagable_tables.proofs.Named.{moved-nobody, named-none}
+use Rattle.pagable_tables.proofs.Words.{◌≡◌, ℕ, ◌+◌, ◌<◌, ◌≤◌, ◌==◌, ◌&&◌, Bool, true, false, not, List, [], ◌∷◌, ◌++◌, length, refl, ap, sym, ◌∙◌, subst, arith, Option, Some, None, inl}
+use Rattle.pagable_tables.proofs.Words.{inr, if◌then◌else◌, ◌≢◌, Result, vec_capacity, option_map, AllPairs, nat_tests, sum_by_push, Error, ArcRef, HandleNumber, LoadNumber, NodeNumber}
+use Rattle.pagable_tables.proofs.Words.{HandleRow, Owner, Mode, Blob, Among, one, times, changed, find_row, pins, sharing, is_handle, is_owner, is_owned_by, is_pin, is_share, owner_value}
+use Rattle.pagable_tables.proofs.Words.{IsHandleBefore, MayOwnLoad, Core, Last, Alike, Falls, nobody, references_fault, moved, row_of, is_named_by, with_handle, with_mode, is_owned_in}
+use Rattle.pagable_tables.proofs.Words.{without_load, with_pin, Installs, MayEnd, Holdings, Counts, LoadRow, Tables, live, counts_at, load_at, cell_in, has_value, is_valued, pins_in}
+use Rattle.pagable_tables.proofs.Words.{with_tables, is_plain_pin, SoFar, core_of, plain_of, load_in, MayHold, IsWider, has_come}
+use Rattle.pagable_tables.specs.Core.{IsWhole}
 use Rattle.pagable_tables.proofs.Newer.{OnlyNewer, loaded-mode, newer-then, newer-moved, newer-mode, newer-handle, newer-falls}
-use Rattle.pagable_tables.proofs.Regiven.{loaded, passes-here, passes-none}
-use Rattle.pagable_tables.proofs.Stays.{seen-before, stays-pinned, not-named}
-use Rattle.pagable_tables.proofs.Swapped.{same-value}
-use Rattle.pagable_tables.proofs.Taken.{moved-times, loaded-moved, no-load}
-use Rattle.pagable_tables.proofs.Upheld.{references-placed}
-use Rattle.pagable_tables.proofs.keeps.BirthCalls.{named-unlisted}
-use Rattle.pagable_tables.proofs.keeps.Comes.{not-list, not-a-value}
-use Rattle.pagable_tables.proofs.keeps.LoadCalls.{may-hold}
-use Rattle.pagable_tables.proofs.keeps.Moved.{moved-to-value}
-use Rattle.pagable_tables.proofs.keeps.Rows.{among-map, found-among, once, ordered-map, sum-map}
+use Rattle.pagable_tables.proofs.{Begun.begins, Begun.begun, Coming.turned, Dropped.load-closed, Dropped.owned-given, Joined.moved-turned, Joined.turned-sum, Named.moved-nobody}
+use Rattle.pagable_tables.proofs.{Named.named-none, Regiven.loaded, Regiven.passes-here, Regiven.passes-none, Stays.seen-before, Stays.stays-pinned, Stays.not-named, Swapped.same-value}
+use Rattle.pagable_tables.proofs.{Taken.moved-times, Taken.loaded-moved, Taken.no-load, Upheld.references-placed, keeps.BirthCalls.named-unlisted, keeps.Comes.not-list}
+use Rattle.pagable_tables.proofs.{keeps.Comes.not-a-value, keeps.LoadCalls.may-hold, keeps.Moved.moved-to-value, keeps.Rows.among-map, keeps.Rows.found-among, keeps.Rows.once}
+use Rattle.pagable_tables.proofs.{keeps.Rows.ordered-map, keeps.Rows.sum-map}
 
 -- Of other nodes the same handles pin, and are Shared.
 module _ (h : HandleNumber) (node : NodeNumber) (rows : List HandleRow) (of : (y : HandleRow) → Among rows y → is_handle h.0 y ≡ true → y.node ≡ node) (n : ℕ) (other : (node.0 == n) ≡ false) where
@@ -69,14 +32,14 @@ module _ (h : HandleNumber) (node : NodeNumber) (rows : List HandleRow) (of : (y
       by y among true e = let s : (y.node.0 == n) ≡ false = ap (λ (m : NodeNumber). m.0 == n) (of y among e) ∙ other in rw s refl
       by y among false e = refl
 
-loaded-beside : (l : LoadNumber) (q : ℕ) (rows : List HandleRow) (x : HandleRow) → is_owner (owners.Load l) x.owner ≡ false → loaded l q (rows ++ x ∷ []) ≡ loaded l q rows
-loaded-beside l q [] x other = passes-here (is_owned_by (owners.Load l)) q x [] ∙ by (is_handle q x) ∙ sym (passes-none (is_owned_by (owners.Load l)) q)
+loaded-beside : (l : LoadNumber) (q : ℕ) (rows : List HandleRow) (x : HandleRow) → is_owner (Owner.Load l) x.owner ≡ false → loaded l q (rows ++ x ∷ []) ≡ loaded l q rows
+loaded-beside l q [] x other = passes-here (is_owned_by (Owner.Load l)) q x [] ∙ by (is_handle q x) ∙ sym (passes-none (is_owned_by (Owner.Load l)) q)
   where
-    by : (b : Bool) → (if b then is_owner (owners.Load l) x.owner else loaded l q []) ≡ false
+    by : (b : Bool) → (if b then is_owner (Owner.Load l) x.owner else loaded l q []) ≡ false
     by true = other
-    by false = passes-none (is_owned_by (owners.Load l)) q
+    by false = passes-none (is_owned_by (Owner.Load l)) q
 loaded-beside l q (y ∷ ys) x other =
-    passes-here (is_owned_by (owners.Load l)) q y (ys ++ x ∷ []) ∙ ap (λ b. if is_handle q y then is_owner (owners.Load l) y.owner else b) (loaded-beside l q ys x other) ∙ sym (passes-here (is_owned_by (owners.Load l)) q y ys)
+    passes-here (is_owned_by (Owner.Load l)) q y (ys ++ x ∷ []) ∙ ap (λ b. if is_handle q y then is_owner (Owner.Load l) y.owner else b) (loaded-beside l q ys x other) ∙ sym (passes-here (is_owned_by (Owner.Load l)) q y ys)
 
 and-none : (b : Bool) → one (b && false) ≡ 0
 and-none true = refl
@@ -92,8 +55,8 @@ row-of rows ordered row found z among is =
 -- t1 is t with the pins; then the handles that the references name move to the node's value, and what the load still owns goes.
 module _ (t t1 : Tables) (stored : ℕ → Option Blob) (closed lists : Bool) (failures : ℕ) (was : IsWhole t) (whole : IsWhole t1) (e : lists ≡ not closed) (row : HandleRow)
     (found : find_row row.number.0 (live t.holdings.handles.places.items) ≡ Some row) (me : Owner) (may : MayOwnLoad (plain_of t) me) (l : LoadNumber) (rs : List ArcRef)
-    (good : references_fault (plain_of t) (owners.Load l) [] rs ≡ None)
-    (a : Alike (with_handle (with_mode (core_of t stored closed failures) row.number modes.LoosePinned) row.node modes.Pinned me) (core_of t1 stored closed failures))
+    (good : references_fault (plain_of t) (Owner.Load l) [] rs ≡ None)
+    (a : Alike (with_handle (with_mode (core_of t stored closed failures) row.number Mode.LoosePinned) row.node Mode.Pinned me) (core_of t1 stored closed failures))
     (same : t1 ≡ record t { holdings = t1.holdings }) where
   abbrev h : HandleNumber
   h = row.number
@@ -110,23 +73,23 @@ module _ (t t1 : Tables) (stored : ℕ → Option Blob) (closed lists : Bool) (f
   spared : s (t.holdings.last_handle + 1) ≡ false
   spared = not-named (plain_of t) l rs was.core.handles good (t.holdings.last_handle + 1) (omega arith)
 
-  listed : (q : ℕ) → times (λ (h : HandleNumber). h.0 == q) t.holdings.list.items ≡ times (λ h. is_handle q h && is_owned_by owners.List h) (moved s o (live t.holdings.handles.places.items))
-  listed = (moved-to-value was.core s (named-unlisted was.core (owners.Load l) rs refl good) row.node.0).owners_there.listed
+  listed : (q : ℕ) → times (λ (h : HandleNumber). h.0 == q) t.holdings.list.items ≡ times (λ h. is_handle q h && is_owned_by Owner.List h) (moved s o (live t.holdings.handles.places.items))
+  listed = (moved-to-value was.core s (named-unlisted was.core (Owner.Load l) rs refl good) row.node.0).owners_there.listed
 
-  unlisted : is_owner owners.List me ≡ false
+  unlisted : is_owner Owner.List me ≡ false
   unlisted = not-list (plain_of t) me holder
 
   unvalued : is_valued me ≡ false
   unvalued = not-a-value (plain_of t) me holder
 
-  unloaded : is_owner (owners.Load l) me ≡ false
+  unloaded : is_owner (Owner.Load l) me ≡ false
   unloaded = no-load (plain_of t) me l may
 
   abbrev w : Core
   w = core_of t stored closed failures
 
   abbrev x : HandleRow
-  x = row_of (t.holdings.last_handle + 1) row.node modes.Pinned me
+  x = row_of (t.holdings.last_handle + 1) row.node Mode.Pinned me
 
   abbrev rows0 : List HandleRow
   rows0 = moved s o w.rows
@@ -138,7 +101,7 @@ module _ (t t1 : Tables) (stored : ℕ → Option Blob) (closed lists : Bool) (f
   u = with_pin (record (without_load w l) { rows = rows0 }) h row.node me
 
   abbrev given : ℕ → Bool
-  given q = is_owned_in w (owners.Load l) q && not (s q)
+  given q = is_owned_in w (Owner.Load l) q && not (s q)
 
   of : (y : HandleRow) → Among rows0 y → is_handle h.0 y ≡ true → y.node ≡ row.node
   of y among is =
@@ -155,11 +118,11 @@ module _ (t t1 : Tables) (stored : ℕ → Option Blob) (closed lists : Bool) (f
   as-moved : (f : HandleRow → Bool) → ((y : HandleRow) → f (record y { owner = o }) ≡ f y) → times f u.rows ≡ times f (live t1.holdings.handles.places.items)
   as-moved f keeps = ap (times f) (sym come) ∙ moved-times f s o (live t1.holdings.handles.places.items) keeps
 
-  list-has : (q : ℕ) → times (λ (h : HandleNumber). h.0 == q) u.list ≡ times (λ h. is_handle q h && is_owned_by owners.List h) u.rows
+  list-has : (q : ℕ) → times (λ (h : HandleNumber). h.0 == q) u.list ≡ times (λ h. is_handle q h && is_owned_by Owner.List h) u.rows
   list-has q =
-      let b = sum_by_push (λ (h : HandleRow). one (is_handle q h && is_owned_by owners.List h)) mid x in
-      let d = turned-sum (λ (h : HandleRow). one (is_handle q h && is_owned_by owners.List h)) h.0 rows0 (λ y. refl) in
-      let z : one (is_handle q x && is_owned_by owners.List x) ≡ 0 = ap (λ b. one (is_handle q x && b)) unlisted ∙ and-none (is_handle q x) in
+      let b = sum_by_push (λ (h : HandleRow). one (is_handle q h && is_owned_by Owner.List h)) mid x in
+      let d = turned-sum (λ (h : HandleRow). one (is_handle q h && is_owned_by Owner.List h)) h.0 rows0 (λ y. refl) in
+      let z : one (is_handle q x && is_owned_by Owner.List x) ≡ 0 = ap (λ b. one (is_handle q x && b)) unlisted ∙ and-none (is_handle q x) in
       let g = listed q in
       omega arith
 
@@ -185,8 +148,8 @@ module _ (t t1 : Tables) (stored : ℕ → Option Blob) (closed lists : Bool) (f
         (λ n. cells n ∙ a.cells n) refl
         (λ n must. let p = must.pinned in let z = must.unpinned in let r = ap (pins n) (rows ∙ come) in absurd (omega arith))
 
-    owned-pinned : (q : ℕ) → is_owned_in u (owners.Load l) q ≡ given q
-    owned-pinned q = loaded-beside l q mid x unloaded ∙ loaded-mode l q (is_handle h.0) modes.LoosePinned rows0 ∙ loaded-moved s o l q w.rows refl
+    owned-pinned : (q : ℕ) → is_owned_in u (Owner.Load l) q ≡ given q
+    owned-pinned q = loaded-beside l q mid x unloaded ∙ loaded-mode l q (is_handle h.0) Mode.LoosePinned rows0 ∙ loaded-moved s o l q w.rows refl
 
     and-first : (b d : Bool) → (b && d) ≡ true → b ≡ true
     and-first true d eq = refl
@@ -198,8 +161,8 @@ module _ (t t1 : Tables) (stored : ℕ → Option Blob) (closed lists : Bool) (f
         by : (b : Bool) → given (t.holdings.last_handle + 1) ≡ b → b ≡ false
         by false eq = refl
         by true eq =
-            let own = and-first (is_owned_in w (owners.Load l) (t.holdings.last_handle + 1)) (not (s (t.holdings.last_handle + 1))) eq in
-            absurd (let g = owned-given (plain_of t) (owners.Load l) (t.holdings.last_handle + 1) was.core.handles own in omega arith)
+            let own = and-first (is_owned_in w (Owner.Load l) (t.holdings.last_handle + 1)) (not (s (t.holdings.last_handle + 1))) eq in
+            absurd (let g = owned-given (plain_of t) (Owner.Load l) (t.holdings.last_handle + 1) was.core.handles own in omega arith)
 
     ordered : AllPairs IsHandleBefore u.rows
     ordered =
@@ -226,13 +189,13 @@ module _ (t t1 : Tables) (stored : ℕ → Option Blob) (closed lists : Bool) (f
     -- what gives up all that a load owns does it here
     pub ended : (since : ℕ) (new : Holdings) (loads : ℕ → Option LoadRow) (r : Result (Unit {0}) Error)
         → ((before v : Core) → SoFar before v nobody lists (record k { unlisted = None }) → length (live k.handles.places.items) ≤ length v.rows
-        → ((q : ℕ) → is_owned_in v (owners.Load l) q ≡ true → (since < q) × (q ≤ k.last_handle)) → Falls before v (is_owned_in v (owners.Load l)) r (with_tables v new))
-        → ((q : ℕ) → is_owned_in w (owners.Load l) q ≡ true → since < q) → loads l.0 ≡ None → ((q : ℕ) → q ≢ l.0 → loads q ≡ load_at t1.loads q)
+        → ((q : ℕ) → is_owned_in v (Owner.Load l) q ≡ true → (since < q) × (q ≤ k.last_handle)) → Falls before v (is_owned_in v (Owner.Load l)) r (with_tables v new))
+        → ((q : ℕ) → is_owned_in w (Owner.Load l) q ≡ true → since < q) → loads l.0 ≡ None → ((q : ℕ) → q ≢ l.0 → loads q ≡ load_at t1.loads q)
         → Falls w u given r (record (core_of (record t1 { holdings = new }) stored closed failures) { loads = λ q. option_map load_in (loads q) })
     ended since new loads r gives later gone others =
         let falls = gives u u begun-pinned (let b = ap length (rows ∙ come) in omega arith)
-        (λ q own. let mine = and-first (is_owned_in w (owners.Load l) q) (not (s q)) (sym (owned-pinned q) ∙ own) in
-        (later q mine, (let g = owned-given (plain_of t) (owners.Load l) q was.core.handles mine in let b = ap (λ (v : Last). v.handle) a.last in omega arith))) in
+        (λ q own. let mine = and-first (is_owned_in w (Owner.Load l) q) (not (s q)) (sym (owned-pinned q) ∙ own) in
+        (later q mine, (let g = owned-given (plain_of t) (Owner.Load l) q was.core.handles mine in let b = ap (λ (v : Last). v.handle) a.last in omega arith))) in
         let fell = as-before (subst (λ g. Falls u u g r (with_tables u new)) (λ i q. owned-pinned q i) falls) in
         let closed-one = load-closed (load_at t.loads) loads l.0 gone (λ q other. others q other ∙ ap (λ (v : Tables). load_at v.loads q) same) in
         let told : Falls w u given r (record (with_tables u new) { loads = λ q. option_map load_in (loads q) }) =
@@ -249,9 +212,9 @@ not-so true e = absurd (cc)
 
 -- t1 is t with the pins
 module _ (t t1 : Tables) (stored : ℕ → Option Blob) (closed : Bool) (failures : ℕ) (row : HandleRow) (me : Owner)
-    (a : Alike (with_handle (with_mode (core_of t stored closed failures) row.number modes.LoosePinned) row.node modes.Pinned me) (core_of t1 stored closed failures)) where
+    (a : Alike (with_handle (with_mode (core_of t stored closed failures) row.number Mode.LoosePinned) row.node Mode.Pinned me) (core_of t1 stored closed failures)) where
   abbrev one-more : HandleRow
-  one-more = row_of (t.holdings.last_handle + 1) row.node modes.Pinned me
+  one-more = row_of (t.holdings.last_handle + 1) row.node Mode.Pinned me
 
   pub pins-here : 0 < pins row.node.0 (live t1.holdings.handles.places.items)
   pins-here =
@@ -263,18 +226,18 @@ module _ (t t1 : Tables) (stored : ℕ → Option Blob) (closed : Bool) (failure
 
 -- where no reference is named no handle moves
 pub none-moves : (w : Core) (l : LoadNumber) (row : HandleRow) (me : Owner) (r : Result (Unit {0}) Error) (w' : Core)
-    → Falls w (with_pin (record (without_load w l) { rows = moved (is_named_by []) (owner_value row.node.0) w.rows }) row.number row.node me) (λ q. is_owned_in w (owners.Load l) q && not (is_named_by [] q)) r w'
-    → Falls w (with_pin (without_load w l) row.number row.node me) (is_owned_in w (owners.Load l)) r w'
+    → Falls w (with_pin (record (without_load w l) { rows = moved (is_named_by []) (owner_value row.node.0) w.rows }) row.number row.node me) (λ q. is_owned_in w (Owner.Load l) q && not (is_named_by [] q)) r w'
+    → Falls w (with_pin (without_load w l) row.number row.node me) (is_owned_in w (Owner.Load l)) r w'
 none-moves w l row me r w' falls =
-    subst (λ rows. Falls w (with_pin (record (without_load w l) { rows = rows }) row.number row.node me) (is_owned_in w (owners.Load l)) r w') (moved-nobody (owner_value row.node.0) w.rows)
+    subst (λ rows. Falls w (with_pin (record (without_load w l) { rows = rows }) row.number row.node me) (is_owned_in w (Owner.Load l)) r w') (moved-nobody (owner_value row.node.0) w.rows)
     (subst (λ given. Falls w (with_pin (record (without_load w l) { rows = moved (is_named_by []) (owner_value row.node.0) w.rows }) row.number row.node me) given r w') (λ i q. all q i) falls)
   where
     and-all : (b : Bool) → (b && true) ≡ b
     and-all true = refl
     and-all false = refl
 
-    all : (q : ℕ) → (is_owned_in w (owners.Load l) q && not (is_named_by [] q)) ≡ is_owned_in w (owners.Load l) q
-    all q = ap (λ b. is_owned_in w (owners.Load l) q && not b) (named-none q) ∙ and-all (is_owned_in w (owners.Load l) q)
+    all : (q : ℕ) → (is_owned_in w (Owner.Load l) q && not (is_named_by [] q)) ≡ is_owned_in w (Owner.Load l) q
+    all q = ap (λ b. is_owned_in w (Owner.Load l) q && not b) (named-none q) ∙ and-all (is_owned_in w (Owner.Load l) q)
 
 -- what loads own has come since they began
 pub install-newer : {w w' : Core} (me : Owner) (l : LoadNumber) (node : NodeNumber) (h k : HandleNumber) (refs : List ArcRef) → Installs w me l node h k refs w' → OnlyNewer w w'
@@ -282,10 +245,10 @@ install-newer {w} {w'} me l node h k refs i = elim i.falls [
   | inl (away, f) ↦ (let m = newer-moved w (is_named_by refs) (owner_value node.0) (λ l. refl) in
       let v : Core = record (without_load w l) { rows = moved (is_named_by refs) (owner_value node.0) w.rows } in
       let first : OnlyNewer w v = record { last = m.last; owned = m.owned } in
-      newer-then first (newer-then (newer-mode v h modes.LoosePinned) (newer-then (newer-handle (with_mode v h modes.LoosePinned) node modes.Pinned me) (newer-falls f.falls))))
+      newer-then first (newer-then (newer-mode v h Mode.LoosePinned) (newer-then (newer-handle (with_mode v h Mode.LoosePinned) node Mode.Pinned me) (newer-falls f.falls))))
   | inr (here, f) ↦ (let v = without_load w l in
       let first : OnlyNewer w v = record { last = omega arith; owned = λ l q own. inl own } in
-      newer-then first (newer-then (newer-mode v h modes.LoosePinned) (newer-then (newer-handle (with_mode v h modes.LoosePinned) node modes.Pinned me) (newer-falls f.falls))))
+      newer-then first (newer-then (newer-mode v h Mode.LoosePinned) (newer-then (newer-handle (with_mode v h Mode.LoosePinned) node Mode.Pinned me) (newer-falls f.falls))))
 ]
 
 pinned-value : (c : Option Counts) → 0 < pins_in c → has_value c ≡ true
@@ -295,7 +258,7 @@ pinned-value (Some c) some = grind (arith, nat_tests)
 -- whose value is in memory then, where the pinned cell has got one
 module _ (t t1 : Tables) (stored : ℕ → Option Blob) (closed : Bool) (failures : ℕ) (was : IsWhole t) (whole : IsWhole t1) (row : HandleRow)
     (found : find_row row.number.0 (live t.holdings.handles.places.items) ≡ Some row) (me : Owner)
-    (a : Alike (with_handle (with_mode (core_of t stored closed failures) row.number modes.LoosePinned) row.node modes.Pinned me) (core_of t1 stored closed failures)) where
+    (a : Alike (with_handle (with_mode (core_of t stored closed failures) row.number Mode.LoosePinned) row.node Mode.Pinned me) (core_of t1 stored closed failures)) where
   pub has-come : (n : ℕ) → has_value (counts_at t1.holdings.nodes n) ≡ has_come (counts_at t.holdings.nodes) row.node n
   has-come n = by (n == row.node.0) refl
     where
@@ -316,14 +279,7 @@ module _ (t t1 : Tables) (stored : ℕ → Option Blob) (closed : Bool) (failure
 
 -- what is true with more places is true without them
 pub may-wider : {w v : Core} {me : Owner} {l : LoadNumber} {node : NodeNumber} {h : HandleNumber} {t : ℕ} {refs : List ArcRef} → IsWider w v → MayEnd v me l node h t refs → MayEnd w me l node h t refs
-may-wider {w} {v} {me} {l} {node} {h} {t} {refs} wider may =
-    let m : MayEnd (record w { places = v.places }) me l node h t refs = subst (λ u. MayEnd u me l node h t refs) wider.same may in
-    record {
-      load = m.load;
-      owned = record { stands_open = m.owned.stands_open; own = m.owned.own };
-      of_node = m.of_node;
-      good = sym (references-placed w v.places (owners.Load l) [] refs) ∙ m.good;
-    }
+may-wider {w} {v} {me} {l} {node} {h} {t} {refs} wider may = grind (arith, nat_tests, references-placed)
 
 pub installs-wider : {w v w' : Core} {me : Owner} {l : LoadNumber} {node : NodeNumber} {h k : HandleNumber} {refs : List ArcRef} → IsWider w v → Installs v me l node h k refs w' → Installs w me l node h k refs w'
 installs-wider {w} {v} {w'} {me} {l} {node} {h} {k} {refs} wider installs =

@@ -1,47 +1,22 @@
 -- What a value refers to comes with it to a node that is there, has no value and is pinned.
-use Rattle.pagable_tables.proofs.Words.{◌≡◌, ℕ, ◌+◌, ◌<◌, ◌==◌, Bool, true, false, List, [], ◌∷◌, ◌++◌, sum_by, refl, ap, sym, ◌∙◌, subst, arith, Option, Some, None, inl, inr, if◌then◌else◌, ◌≢◌}
-use Rattle.pagable_tables.proofs.Words.{cases_eq, nat_tests, sum_by_push, OptionalDataKey, ArcRef, HandleNumber, HandleRow, Owner, changed, if_there, pins, is_at, is_pin, is_handle, is_in_memory}
-use Rattle.pagable_tables.proofs.Words.{owner_value, IsHandleBefore, Cell, Core, references_fault, moved, is_named_by, Counts, Fits, Right, is_right, is_bare, cell_in, pins_in, falls_in}
-use Rattle.pagable_tables.proofs.Words.{is_valued, named, owns_nothing}
-use Rattle.std.specs.List.{AllPairs}
-use Rattle.pagable_tables.proofs.Born.{others-own, own-own}
-use Rattle.pagable_tables.proofs.Coming.{turned, owned-by-none}
-use Rattle.pagable_tables.proofs.Fitting.{is_owned}
-use Rattle.pagable_tables.proofs.Forced.{keyed-cell}
-use Rattle.pagable_tables.proofs.Taken.{moved-times}
-use Rattle.pagable_tables.proofs.keeps.Rows.{sum-map}
+use Rattle.pagable_tables.proofs.Words.{◌≡◌, ℕ, ◌+◌, ◌<◌, ◌==◌, Bool, true, false, List, [], ◌∷◌, ◌++◌, sum_by, refl, ap, sym, ◌∙◌, subst, arith, Option, None, inl, inr, if◌then◌else◌, ◌≢◌}
+use Rattle.pagable_tables.proofs.Words.{cases_eq, nat_tests, sum_by_push, OptionalDataKey, ArcRef, HandleNumber, HandleRow, Owner, changed, if_there, pins, is_at, is_pin, is_handle}
+use Rattle.pagable_tables.proofs.Words.{is_in_memory, owner_value, IsHandleBefore, Cell, Core, references_fault, moved, is_named_by, Counts, Fits, Right, cell_in, pins_in, falls_in}
+use Rattle.pagable_tables.proofs.Words.{is_valued, named, owns_nothing, AllPairs}
+use Rattle.pagable_tables.proofs.{Born.others-own, Born.own-own, Coming.turned, Coming.owned-by-none, Fitting.is_owned, Taken.moved-times, keeps.Rows.sum-map}
 
 right-pinned : (o : Option Counts) (refs refs' : List ArcRef) → 0 < pins_in o → falls_in o ≡ false → Right o refs → Right o refs'
-right-pinned None refs refs' some stands right = absurd (omega arith)
-right-pinned (Some c) refs refs' some stands right = by (is_bare refs) (is_bare refs') right
-  where
-    by : (a b : Bool) → is_right c a ≡ true → is_right c b ≡ true
-    by a b e = grind (arith, nat_tests)
+right-pinned o refs refs' some stands right = grind (arith, nat_tests)
 
 -- a node whose value isn't in memory refers to nothing
 away-bare : (o : Option Counts) (refs : List ArcRef) (p : ℕ) → pins_in o ≡ p → falls_in o ≡ false → Right o refs
     → is_in_memory p (if_there (λ (cell : Cell). cell.key) OptionalDataKey.None (cell_in o)) ≡ false → refs ≡ []
-away-bare None refs p pinned stands right away = right
-away-bare (Some c) refs p pinned stands right away =
-    bare refs (by (is_bare refs) right)
-  where
-    bare : (refs : List ArcRef) → is_bare refs ≡ true → refs ≡ []
-    bare [] e = refl
-    bare (r ∷ rs) e = absurd (cc)
-
-    by : (b : Bool) → is_right c b ≡ true → b ≡ true
-    by b e = let k = keyed-cell c.key in grind (arith, nat_tests)
+away-bare o refs p pinned stands right away = grind (arith, nat_tests)
 
 -- so its value owns nothing
 pub owns-none : (at : ℕ → Option Counts) (refs : ℕ → List ArcRef) (rows : List HandleRow) (top n : ℕ) → Fits at refs rows top [] owns_nothing
     → is_in_memory (pins n rows) (if_there (λ (cell : Cell). cell.key) OptionalDataKey.None (cell_in (at n))) ≡ false → (q : ℕ) → sum_by (is_owned n q) rows ≡ 0
-owns-none at refs rows top n fits away q =
-    let m = fits.marked n in
-    let stands : falls_in (at n) ≡ false = grind (arith, nat_tests) in
-    let bare = away-bare (at n) (refs n) (pins n rows) (fits.pinned n) stands (fits.right n) away in
-    let o = fits.owned n q in
-    let z = ap (named q) bare in
-    omega arith
+owns-none at refs rows top n fits away q = grind (arith, nat_tests)
 
 -- handles that are pinned and handles that move do so in any order
 pub moved-turned : (s : ℕ → Bool) (o : Owner) (q : ℕ) (x : HandleRow) (rows : List HandleRow) → s x.number.0 ≡ false

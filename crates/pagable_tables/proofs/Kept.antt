@@ -1,6 +1,6 @@
 -- What has gone so far is kept by each step of a cascade.
-use Rattle.pagable_tables.proofs.Words.{◌≡◌, ℕ, Bool, List, sym, ◌∙◌, subst, ◌≢◌, Result, Ok, Err, Error, HandleRow, MustList, TellsListing, IsListRefusal, Core, Holdings, counts_at, CellsStay}
-use Rattle.pagable_tables.proofs.Words.{with_tables, told_by, SoFar}
+use Rattle.pagable_tables.proofs.Words.{◌≡◌, ℕ, Bool, List, sym, ◌∙◌, subst, ◌≢◌, Result, Ok, Err, Error, HandleRow, MustList, TellsListing, IsListRefusal, Core, Holdings, counts_at}
+use Rattle.pagable_tables.proofs.Words.{CellsStay, with_tables, told_by, SoFar, arith, nat_tests}
 
 -- what is asked of handles and list, where only nodes differ
 must-same : (before w : Core) (t new : Holdings) (n : ℕ) → MustList before w (with_tables w t) n → MustList before w (with_tables w (record t { nodes = new.nodes; top = new.top })) n
@@ -10,9 +10,7 @@ must-back : (before w : Core) (t new : Holdings) (n : ℕ) → MustList before w
 must-back before w t new n m = record { pinned = m.pinned; unpinned = m.unpinned; unkeyed = m.unkeyed; unshared = m.unshared; stands_open = m.stands_open }
 
 refusal-same : (w : Core) (t new : Holdings) (e : Error) → IsListRefusal w (with_tables w t) e → IsListRefusal w (with_tables w (record t { nodes = new.nodes; top = new.top })) e
-refusal-same w t new Error.NumbersSpent r = r
-refusal-same w t new Error.OutOfMemory r = r
-refusal-same w t new _ r = absurd r
+refusal-same w t new e r = grind (arith, nat_tests)
 
 tells-same : (before w : Core) (entries : List HandleRow) (t new : Holdings) (r : Result (Unit {0}) Error) → TellsListing before w entries r (with_tables w t)
     → TellsListing before w entries r (with_tables w (record t { nodes = new.nodes; top = new.top }))

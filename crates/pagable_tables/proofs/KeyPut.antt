@@ -1,19 +1,12 @@
 -- A node gets a key: handles and nodes fit again.
-use Rattle.pagable_tables.proofs.Words.{◌≡◌, ℕ, ◌+◌, ◌<◌, ◌==◌, ◌&&◌, ◌||◌, Bool, true, false, if◌then◌else◌, List, [], ◌∷◌, refl, ap, sym, ◌∙◌, subst, arith, inl, inr, Option, Some, None, zero}
-use Rattle.pagable_tables.proofs.Words.{suc, ◌≢◌, nat_lt, not, cases_eq, nat_tests, sum_by-cons, OptionalDataKey, ArcRef, HandleRow, one, updated, if_there, Cell, Counts, Fits, Chain, Right}
-use Rattle.pagable_tables.proofs.Words.{is_right, is_bare, is_new, pins_in, holds_in, falls_in, next_in, key_in, cell_in, often, named, owns_nothing, keyed, GetsKey}
-use Rattle.pagable_tables.proofs.Coming.{is-free}
-use Rattle.pagable_tables.proofs.Lowered.{updated-here, updated-other}
+use Rattle.pagable_tables.proofs.Words.{◌≡◌, ℕ, ◌+◌, ◌<◌, ◌==◌, ◌&&◌, ◌||◌, Bool, true, false, if◌then◌else◌, List, [], ◌∷◌, refl, ap, sym, ◌∙◌, subst, arith, inl, inr, Option, Some, ◌≢◌}
+use Rattle.pagable_tables.proofs.Words.{nat_lt, not, cases_eq, nat_tests, ArcRef, HandleRow, one, Counts, Fits, Chain, Right, is_right, is_bare, is_new, pins_in, holds_in, falls_in, next_in}
+use Rattle.pagable_tables.proofs.Words.{often, named, owns_nothing, keyed, GetsKey}
+use Rattle.pagable_tables.proofs.{Coming.is-free}
 
 keyed-right : (w bare : Bool) (p h : ℕ) (k key : ℕ) → w ≡ false → 0 < key → (if w then h == 0 || (p == 0 && nat_lt 0 k) else nat_lt 0 h && (nat_lt 0 p || not (nat_lt 0 k) || bare)) ≡ true
     → (if p == 0 then h == 0 || (p == 0 && nat_lt 0 key) else nat_lt 0 h && (nat_lt 0 p || not (nat_lt 0 key) || bare)) ≡ true
-keyed-right true bare p h k key e some r = absurd (cc)
-keyed-right false bare zero h k key e some r = grind (arith, nat_tests)
-keyed-right false bare (suc p) h k key e some r = grind (arith, nat_tests)
-
-key-some : (key : ℕ) → 0 < key → key_in key ≡ OptionalDataKey.Some key
-key-some zero some = absurd (omega arith)
-key-some (suc n) some = refl
+keyed-right w bare p h k key e some r = grind (arith, nat_tests)
 
 pub key-top : (b : Bool) (n top : ℕ) → (if is_new false b then n else top) ≡ (if b then n else top)
 key-top true n top = refl
@@ -34,17 +27,7 @@ module _ (at at' : ℕ → Option Counts) (refs refs' : ℕ → List ArcRef) (ro
   key-chain false e = fits.chain
 
   key-marked : (b : Bool) → (c.pins == 0) ≡ b → (m : ℕ) → often m (if b then n ∷ [] else []) ≡ one (falls_in (at' m))
-  key-marked true e m = elim (cases_eq m n) [
-    | inl eq ↦
-        let a : falls_in (at' n) ≡ true = ap falls_in here ∙ e in
-        let g : often n (n ∷ []) ≡ one (falls_in (at' n)) = let a = sum_by-cons (λ y. one (y == n)) n [] in grind (arith, nat_tests) in
-        subst (λ k. often k (n ∷ []) ≡ one (falls_in (at' k))) (sym eq) g
-    | inr other ↦ let a = sum_by-cons (λ y. one (y == m)) n [] in let b = fits.marked m in let d = ap (λ o. one (falls_in o)) (others m other) in grind (arith, nat_tests)
-  ]
-  key-marked false e m = elim (cases_eq m n) [
-    | inl eq ↦ sym (ap (λ k. one (falls_in (at' k))) eq ∙ ap (λ o. one (falls_in o)) here ∙ ap one e)
-    | inr other ↦ fits.marked m ∙ sym (ap (λ o. one (falls_in o)) (others m other))
-  ]
+  key-marked b e m = grind (arith, nat_tests)
 
   key-right : (m : ℕ) → Right (at' m) (refs' m)
   key-right m = elim (cases_eq m n) [
@@ -68,12 +51,4 @@ module _ (at at' : ℕ → Option Counts) (refs refs' : ℕ → List ArcRef) (ro
       }
 
   pub key-cells : GetsKey at at' n key
-  key-cells m = elim (cases_eq m n) [
-    | inl eq ↦
-        let g : cell_in (at' n) ≡ updated n (if_there (λ (cell : Cell). Some (record cell { key = OptionalDataKey.Some key })) None (cell_in (at n))) (λ k. cell_in (at k)) n =
-        ap cell_in here ∙ ap (λ k. Some (record { node_type = c.node_type; key = k })) (key-some key some)
-        ∙ sym (updated-here n (if_there (λ (cell : Cell). Some (record cell { key = OptionalDataKey.Some key })) None (cell_in (at n))) (λ k. cell_in (at k))
-        ∙ ap (λ o. if_there (λ (cell : Cell). Some (record cell { key = OptionalDataKey.Some key })) None (cell_in o)) is) in
-        subst (λ k. cell_in (at' k) ≡ updated n (if_there (λ (cell : Cell). Some (record cell { key = OptionalDataKey.Some key })) None (cell_in (at n))) (λ k. cell_in (at k)) k) (sym eq) g
-    | inr other ↦ ap cell_in (others m other) ∙ sym (updated-other n (if_there (λ (cell : Cell). Some (record cell { key = OptionalDataKey.Some key })) None (cell_in (at n))) (λ k. cell_in (at k)) m other)
-  ]
+  key-cells m = grind (arith, nat_tests)

@@ -1,6 +1,6 @@
 -- A cell has got a key: nothing else has gone or come so far.
-use Rattle.pagable_tables.proofs.Words.{◌≡◌, ℕ, Bool, not, refl, sym, subst, arith, Option, None, NodeNumber, Blob, with_key, Core, nobody, Tables, Holdings, counts_at, GetsKey, Begins, SoFar}
-use Rattle.pagable_tables.proofs.Words.{core_of}
+use Rattle.pagable_tables.proofs.Words.{◌≡◌, ℕ, Bool, not, refl, sym, subst, arith, Option, None, NodeNumber, Blob, with_key, Core, nobody, Tables, Holdings, counts_at, GetsKey, Begins}
+use Rattle.pagable_tables.proofs.Words.{SoFar, core_of}
 use Rattle.pagable_tables.specs.Core.{IsWhole}
 use Rattle.pagable_tables.proofs.Begun.{begins, begun}
 

@@ -1,18 +1,7 @@
 -- No live row of a number passes a test.
-use Rattle.std.proofs.Common.{◌≡◌, ℕ, ◌+◌, ◌<◌, ◌≤◌, Bool, true, false, if◌then◌else◌, List, [], ◌∷◌, suc, length, get_or, refl, ap, sym, ◌∙◌, arith, Some, slice_get, inl, inr}
-use Rattle.std.specs.Prelude.{◌⊎◌}
-use Rattle.std.specs.List.{AllPairs}
-use Rattle.std.proofs.lemmas.Option.{slice_get-get_or}
-use Rattle.pagable_world.specs.declared.handles.HandleRow.{HandleRow}
-use Rattle.pagable_world.specs.Kinds.{is_handle, find_row}
-use Rattle.std.proofs.lemmas.Bool.Decides.{nat_tests}
-use Rattle.std.proofs.lemmas.List.{get_or_default}
-use Rattle.pagable_tables.specs.declared.rows.Place.{Place}
-use Rattle.pagable_tables.specs.Live.{live, alive, IsBefore}
-use Rattle.pagable_tables.specs.Giving.{passes_in}
-use Rattle.pagable_tables.proofs.Alive.{row-live}
-use Rattle.pagable_tables.proofs.Order.{smaller-up, greater-from}
-use Rattle.pagable_tables.proofs.Regiven.{passes-here, passes-none}
+use Rattle.pagable_tables.proofs.Words.{◌≡◌, ℕ, ◌+◌, ◌<◌, ◌≤◌, Bool, true, false, if◌then◌else◌, List, [], ◌∷◌, suc, length, get_or, refl, ap, sym, ◌∙◌, arith, Some, slice_get, inl, inr}
+use Rattle.pagable_tables.proofs.Words.{◌⊎◌, AllPairs, slice_get-get_or, HandleRow, is_handle, find_row, nat_tests, get_or_default, Place, live, alive, IsBefore, passes_in}
+use Rattle.pagable_tables.proofs.{Alive.row-live, Order.smaller-up, Order.greater-from, Regiven.passes-here, Regiven.passes-none}
 
 none-passes : (test : HandleRow → Bool) (q : ℕ) (ss : List Place) → ((k : ℕ) (d : Place) → k < length ss → (get_or ss k d).row.number.0 ≡ q → (get_or ss k d).is_live ≡ true → test (get_or ss k d).row ≡ false)
     → passes_in test (live ss) q ≡ false
@@ -33,14 +22,7 @@ before-or-not k p = grind arith
 -- below a place numbers are smaller, and from there on those that pass are too great
 pub none-from : (test : HandleRow → Bool) (ss : List Place) (p q left : ℕ) → ((k : ℕ) (d : Place) → k < p → (get_or ss k d).row.number.0 < q) → q ≤ left
     → ((k : ℕ) (d : Place) → p ≤ k → k < length ss → (get_or ss k d).is_live ≡ true → test (get_or ss k d).row ≡ true → left < (get_or ss k d).row.number.0) → passes_in test (live ss) q ≡ false
-none-from test ss p q left below within above = none-passes test q ss (λ k d lt number lives. at k d lt number lives (test (get_or ss k d).row) refl)
-  where
-    at : (k : ℕ) (d : Place) → k < length ss → (get_or ss k d).row.number.0 ≡ q → (get_or ss k d).is_live ≡ true → (b : Bool) → test (get_or ss k d).row ≡ b → b ≡ false
-    at k d lt number lives true is = elim (before-or-not k p) [
-      | inl first ↦ (let a = below k d first in absurd (omega arith))
-      | inr after ↦ (let a = above k d after lt lives is in absurd (omega arith))
-    ]
-    at k d lt number lives false is = refl
+none-from test ss p q left below within above = grind (arith, nat_tests, none-passes, before-or-not)
 
 module _ (ss : List Place) (m : ℕ) (p : Place) (within : m < length ss) (is : p ≡ get_or ss m p) where
   number : p.row.number.0 ≡ (get_or ss m p).row.number.0

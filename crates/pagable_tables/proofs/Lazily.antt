@@ -1,35 +1,23 @@
 -- Why a load can't make a node, and what it gets.
-use Rattle.pagable_tables.proofs.Words.{◌≡◌, ℕ, ◌<◌, ◌≤◌, Bool, true, false, if◌then◌else◌, refl, ap, ◌∙◌, subst, arith, Ok, Err, Option, Some, None, inl, inr, not, nat_lt, is_some, Result, []}
-use Rattle.pagable_tables.proofs.Words.{zero, suc, Error, HandleNumber, LoadNumber, NodeNumber, Kind, Owner, Mode, is_loose_kind, if_there, mode_of, Core, OpenLoad, greatest, usable, Alike, rank}
-use Rattle.pagable_tables.proofs.Words.{earlier, refused_if, spent, load_fault, OwnsLoad, Refused, with_handle, is_usable, birth_fault, node_fault, lazy_fault, adopted, LazyCall, OptionalDataKey}
-use Rattle.pagable_tables.proofs.Words.{key_in, Makes}
+use Rattle.pagable_tables.proofs.Words.{◌≡◌, ℕ, ◌<◌, ◌≤◌, Bool, true, false, if◌then◌else◌, refl, ap, ◌∙◌, arith, Ok, Err, Option, Some, None, inl, inr, not, is_some, Result, [], zero, suc}
+use Rattle.pagable_tables.proofs.Words.{Error, HandleNumber, LoadNumber, NodeNumber, Kind, Owner, Mode, is_loose_kind, if_there, mode_of, Core, OpenLoad, greatest, usable, Alike, rank}
+use Rattle.pagable_tables.proofs.Words.{earlier, refused_if, spent, load_fault, OwnsLoad, Refused, birth_fault, node_fault, lazy_fault, adopted, LazyCall, OptionalDataKey, key_in, Makes}
+use Rattle.pagable_tables.proofs.Words.{nat_tests}
 use Rattle.pagable_world.specs.Calls.{IsNext}
-use Rattle.pagable_tables.proofs.Opened.{earlier-first, load-low, no-load-fault, number-late}
-use Rattle.pagable_tables.proofs.Worlds.{still}
+use Rattle.pagable_tables.proofs.{Opened.earlier-first, Opened.load-low, Opened.no-load-fault, Worlds.still}
 
 -- of two causes that come late each is
 earlier-late : (a b : Option Error) (f : Error) (n : ℕ) → ((g : Error) → a ≡ Some g → n ≤ rank g) → ((g : Error) → b ≡ Some g → n ≤ rank g) → earlier a b ≡ Some f → n ≤ rank f
 earlier-late None b f n first second is = second f is
 earlier-late (Some x) None f n first second is = first f is
-earlier-late (Some x) (Some y) f n first second is = split (nat_lt (rank y) (rank x)) is
-  where
-    split : (c : Bool) → (if c then Some y else Some x) ≡ Some f → n ≤ rank f
-    split true is = second f is
-    split false is = first f is
+earlier-late (Some x) (Some y) f n first second is = grind (arith, nat_tests)
 
 pub kind-late : (b : Bool) (f : Error) → refused_if b Error.WrongKind ≡ Some f → 3 ≤ rank f
 kind-late true f is = let a : rank Error.WrongKind ≡ rank f = ap (if_there rank 0) is in omega arith
 kind-late false f is = absurd (cc)
 
-birth-late : (w : Core) (f : Error) → birth_fault w ≡ Some f → 4 ≤ rank f
-birth-late w f is = earlier-late (spent w.last.node) (spent w.last.handle) f 4 (number-late true w.last.node) (number-late true w.last.handle) is
-
 pub node-late : (w : Core) (kind : Kind) (key : ℕ) (f : Error) → node_fault w kind key ≡ Some f → 4 ≤ rank f
-node-late w kind key f is = split (is_usable w kind key) is
-  where
-    split : (b : Bool) → (if b then spent w.last.handle else birth_fault w) ≡ Some f → 4 ≤ rank f
-    split true is = number-late true w.last.handle f is
-    split false is = birth-late w f is
+node-late w kind key f is = grind (arith, nat_tests)
 
 pub kind-or-node-late : (w : Core) (b : Bool) (kind : Kind) (key : ℕ) (f : Error) → earlier (refused_if b Error.WrongKind) (node_fault w kind key) ≡ Some f → 3 ≤ rank f
 kind-or-node-late w b kind key f is = earlier-late (refused_if b Error.WrongKind) (node_fault w kind key) f 3 (kind-late b) (λ g e. let a = node-late w kind key g e in omega arith) is
@@ -64,20 +52,7 @@ module _ (w : Core) (me : Owner) (l : LoadNumber) (load : OpenLoad) (kind : Kind
 
     -- a handle of the node that the cache gives
     pub lazy-known : (node : NodeNumber) (mode : Mode) (r : Result HandleNumber Error) (w' : Core) → usable w kind.0 key ≡ Some node.0 → mode ≡ mode_of kind.0 → Makes w node mode (Owner.Load l) r w' → LazyCall w me l kind key r w'
-    lazy-known node mode (Ok k) w' is fits m =
-        record {
-          makes = (load, own, loose, inl (record { n = node.0; known = is; next = m.made.0; leaves = subst (λ mode. Alike (with_handle w node mode (Owner.Load l)) w') fits m.made.1 }));
-          refused = tt;
-        }
-    lazy-known node mode (Err e) w' is fits m =
-        let known : node_fault w kind key ≡ spent w.last.handle = ap (λ b. if b then spent w.last.handle else birth_fault w) (ap is_some is) in
-        record {
-          makes = tt;
-          refused = record {
-            why = elim m.refused.why [ inl a ↦ inl (cause ∙ known ∙ a) | inr b ↦ inr (b.0, cause ∙ known ∙ b.1, inr b.2) ];
-            stays = m.refused.stays;
-          };
-        }
+    lazy-known node mode r w' is fits m = grind (arith, nat_tests)
 
     module _ (none : usable w kind.0 key ≡ None) where
       fresh : lazy_fault w me l kind key ≡ birth_fault w

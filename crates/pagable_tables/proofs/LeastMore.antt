@@ -1,9 +1,7 @@
 -- One handle more has gone, which a fallen value owned: each closed set has it.
-use Rattle.pagable_tables.proofs.Words.{◌≡◌, ℕ, ◌≤◌, ◌==◌, ◌&&◌, ◌||◌, Bool, true, false, not, List, ap, ◌∙◌, arith, nat_tests, sum_by-le-sum_by, HandleRow, one, times, is_at, is_owned_by}
-use Rattle.pagable_tables.proofs.Words.{is_owner, owner_value, held, Core, IsWithin, IsClosed, is_keyed, is_outside, Holdings, live, counts_at, is_listing, HasFallen, Leaves, FallsBy, SoFar}
-use Rattle.pagable_tables.proofs.Left.{and_one}
-use Rattle.pagable_tables.proofs.Leaving.{leaves-sums}
-use Rattle.pagable_tables.proofs.Forced.{forced}
+use Rattle.pagable_tables.proofs.Words.{◌≡◌, ℕ, ◌==◌, ◌&&◌, Bool, true, false, List, ap, ◌∙◌, arith, nat_tests, HandleRow, one, times, is_at, is_owned_by, is_owner, owner_value, held, Core}
+use Rattle.pagable_tables.proofs.Words.{IsWithin, IsClosed, is_keyed, is_outside, Holdings, live, counts_at, is_listing, HasFallen, Leaves, FallsBy, SoFar}
+use Rattle.pagable_tables.proofs.{Left.and_one, Leaving.leaves-sums, Forced.forced}
 
 -- no handle comes where there was none
 pub none-comes : (old new : Holdings) (x : HandleRow) (wanted listed : Bool) (m : ℕ) → Leaves old x wanted listed new → held m (live old.handles.places.items) ≡ 0
@@ -15,13 +13,7 @@ in-set : (n : ℕ) (x : HandleRow) (s : ℕ → Bool) → x.owner ≡ owner_valu
 in-set n x s owner none = let is : is_owned_by (owner_value n) x ≡ (n == n) = ap (λ o. is_owner (owner_value n) o) owner in grind (arith, nat_tests)
 
 with-one : (gone s : ℕ → Bool) (q : ℕ) (rows : List HandleRow) → s q ≡ true → IsWithin rows gone s → IsWithin rows (and_one gone q) s
-with-one gone s q rows is within =
-    let a : times (λ h. and_one gone q h.number.0 && not (s h.number.0)) rows ≤ times (λ h. gone h.number.0 && not (s h.number.0)) rows =
-    sum_by-le-sum_by (λ h. one (and_one gone q h.number.0 && not (s h.number.0))) (λ h. one (gone h.number.0 && not (s h.number.0))) rows (λ h. here h.number.0) in
-    omega arith
-  where
-    here : (r : ℕ) → one ((gone r || r == q) && not (s r)) ≤ one (gone r && not (s r))
-    here r = grind (arith, nat_tests)
+with-one gone s q rows is within = grind (arith, nat_tests)
 
 least-leaves : (before w : Core) (given : ℕ → Bool) (lists : Bool) (t popped mid : Holdings) (x : HandleRow) (n : ℕ) (wanted listed : Bool) → popped.handles ≡ t.handles
     → Leaves popped x wanted listed mid → x.owner ≡ owner_value n → HasFallen (counts_at t.nodes) (live t.handles.places.items) n → (f : SoFar before w given lists t)

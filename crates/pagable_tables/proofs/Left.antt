@@ -1,5 +1,5 @@
 -- Rows that are left when a set of handles goes, counted and listed.
-use Rattle.pagable_tables.proofs.Words.{◌≡◌, ℕ, ◌+◌, ◌≤◌, ◌==◌, ◌&&◌, ◌||◌, Bool, true, false, not, if◌then◌else◌, List, [], ◌∷◌, ◌++◌, length, filter, refl, ap, sym, ◌∙◌, arith, nat_tests}
+use Rattle.pagable_tables.proofs.Words.{◌≡◌, ℕ, ◌+◌, ◌≤◌, ◌==◌, ◌&&◌, ◌||◌, Bool, true, false, not, if◌then◌else◌, List, [], ◌∷◌, ◌++◌, length, filter, refl, ap, ◌∙◌, arith, nat_tests}
 use Rattle.pagable_tables.proofs.Words.{sum_by-cons, sum_by-le-sum_by, HandleNumber, HandleRow, Owner, Mode, one, times, is_handle, left_rows, AreNewEntries}
 
 -- one handle more is in the set
@@ -37,43 +37,12 @@ times-le : (f g : HandleRow → Bool) (rows : List HandleRow) → ((h : HandleRo
 times-le f g rows h = sum_by-le-sum_by (λ x. one (f x)) (λ x. one (g x)) rows h
 
 pub left-le : (f : HandleRow → Bool) (gone : ℕ → Bool) (rows : List HandleRow) → times f (left_rows gone rows) ≤ times f rows
-left-le f gone rows = let a = times-left f gone rows in let b = times-le (λ h. f h && not (gone h.number.0)) f rows (λ h. less (f h) (not (gone h.number.0))) in omega arith
-  where
-    less : (a b : Bool) → one (a && b) ≤ one a
-    less true true = omega arith
-    less true false = omega arith
-    less false b = omega arith
+left-le f gone rows = grind (arith, nat_tests, times-left, times-le)
 
 -- one handle more goes
 pub left-more : (gone : ℕ → Bool) (q : ℕ) (rows : List HandleRow) → left_rows (λ r. r == q) (left_rows gone rows) ≡ left_rows (and_one gone q) rows
 left-more gone q [] = refl
-left-more gone q (x ∷ xs) = split (left-more gone q xs) (gone x.number.0) (x.number.0 == q) refl refl
-  where
-    split : left_rows (λ r. r == q) (left_rows gone xs) ≡ left_rows (and_one gone q) xs → (a b : Bool) → gone x.number.0 ≡ a → (x.number.0 == q) ≡ b
-        → left_rows (λ r. r == q) (left_rows gone (x ∷ xs)) ≡ left_rows (and_one gone q) (x ∷ xs)
-    split rest true b e f =
-        let l : left_rows (λ r. r == q) (left_rows gone (x ∷ xs)) ≡ left_rows (λ r. r == q) (left_rows gone xs) =
-        ap (λ b. left_rows (λ r. r == q) (if not b then x ∷ left_rows gone xs else left_rows gone xs)) e in
-        let r : left_rows (and_one gone q) (x ∷ xs) ≡ left_rows (and_one gone q) xs = ap (λ b. if not (b || x.number.0 == q) then x ∷ left_rows (and_one gone q) xs else left_rows
-        (and_one gone q) xs) e in
-        l ∙ rest ∙ sym r
-    split rest false true e f =
-        let l : left_rows (λ r. r == q) (left_rows gone (x ∷ xs)) ≡ left_rows (λ r. r == q) (x ∷ left_rows gone xs) =
-        ap (λ b. left_rows (λ r. r == q) (if not b then x ∷ left_rows gone xs else left_rows gone xs)) e in
-        let m : left_rows (λ r. r == q) (x ∷ left_rows gone xs) ≡ left_rows (λ r. r == q) (left_rows gone xs) =
-        ap (λ b. if not b then x ∷ left_rows (λ r. r == q) (left_rows gone xs) else left_rows (λ r. r == q) (left_rows gone xs)) f in
-        let r : left_rows (and_one gone q) (x ∷ xs) ≡ left_rows (and_one gone q) xs = ap (λ b. if not (b || x.number.0 == q) then x ∷ left_rows (and_one gone q) xs else left_rows
-        (and_one gone q) xs) e ∙ ap (λ b. if not b then x ∷ left_rows (and_one gone q) xs else left_rows (and_one gone q) xs) f in
-        l ∙ m ∙ rest ∙ sym r
-    split rest false false e f =
-        let l : left_rows (λ r. r == q) (left_rows gone (x ∷ xs)) ≡ left_rows (λ r. r == q) (x ∷ left_rows gone xs) =
-        ap (λ b. left_rows (λ r. r == q) (if not b then x ∷ left_rows gone xs else left_rows gone xs)) e in
-        let m : left_rows (λ r. r == q) (x ∷ left_rows gone xs) ≡ x ∷ left_rows (λ r. r == q) (left_rows gone xs) =
-        ap (λ b. if not b then x ∷ left_rows (λ r. r == q) (left_rows gone xs) else left_rows (λ r. r == q) (left_rows gone xs)) f in
-        let r : left_rows (and_one gone q) (x ∷ xs) ≡ x ∷ left_rows (and_one gone q) xs = ap
-        (λ b. if not (b || x.number.0 == q) then x ∷ left_rows (and_one gone q) xs else left_rows (and_one gone q) xs) e
-        ∙ ap (λ b. if not b then x ∷ left_rows (and_one gone q) xs else left_rows (and_one gone q) xs) f in
-        l ∙ m ∙ ap (λ r. x ∷ r) rest ∙ sym r
+left-more gone q (x ∷ xs) = grind (arith, nat_tests, left-more gone q xs)
 
 -- a handle that isn't there can go
 pub left-none : (q : ℕ) (rows : List HandleRow) → times (is_handle q) rows ≡ 0 → left_rows (λ r. r == q) rows ≡ rows
@@ -113,11 +82,7 @@ kept-more gone q (x ∷ xs) none =
 pub entries-none : (f : HandleRow → Bool) → ((h : HandleRow) → h.mode ≡ Mode.LooseUnpinned → h.owner ≡ Owner.List → f h ≡ false) → (last : ℕ) (entries : List HandleRow)
     → AreNewEntries last entries → times f entries ≡ 0
 entries-none f none last [] e = refl
-entries-none f none last (x ∷ xs) e =
-    let a = sum_by-cons (λ h. one (f h)) x xs in
-    let b : one (f x) ≡ 0 = ap one (none x e.1 e.2) in
-    let rest = entries-none f none (last + 1) xs e.3 in
-    omega arith
+entries-none f none last (x ∷ xs) e = grind (arith, nat_tests, entries-none f none (last + 1) xs e.3)
 
 pub entries-more : (last : ℕ) (entries : List HandleRow) (x : HandleRow) → AreNewEntries last entries → x.number.0 ≡ last + length entries + 1 → x.mode ≡ Mode.LooseUnpinned
     → x.owner ≡ Owner.List → AreNewEntries last (entries ++ x ∷ [])

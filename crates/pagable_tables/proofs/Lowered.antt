@@ -1,20 +1,14 @@
 -- A handle lets its pin go: handles and nodes fit again, as if an unpinned handle came and then the pinned one left.
-use Rattle.pagable_tables.proofs.Words.{None, ◌≡◌, ℕ, ◌+◌, ◌-◌, ◌≤◌, ◌==◌, Bool, true, false, if◌then◌else◌, List, [], ◌∷◌, ◌++◌, sum_by, refl, ap, sym, ◌∙◌, subst, arith, Option, Some, is_some}
-use Rattle.pagable_tables.proofs.Words.{◌≢◌, nat_lt, nat_tests, sum_by_push, ArcRef, HandleRow, Mode, one, updated, is_pinning, Counts, cell_in, Fits, entry, after, is_fallen_by, owns_nothing}
-use Rattle.pagable_tables.proofs.Words.{is_valued, CellsStay, unpinned}
-use Rattle.pagable_tables.proofs.Begun.{fits-unowned}
-use Rattle.pagable_tables.proofs.Coming.{come-fits, come-cells}
-use Rattle.pagable_tables.proofs.Fitting.{given-fits, given-cells}
+use Rattle.pagable_tables.proofs.Words.{◌≡◌, ℕ, ◌+◌, ◌-◌, ◌≤◌, ◌==◌, Bool, true, false, if◌then◌else◌, List, [], ◌∷◌, ◌++◌, sum_by, refl, ap, sym, ◌∙◌, subst, arith, Option, Some, ◌≢◌}
+use Rattle.pagable_tables.proofs.Words.{nat_lt, nat_tests, sum_by_push, ArcRef, HandleRow, Mode, one, updated, is_pinning, Counts, Fits, entry, after, is_fallen_by, owns_nothing, is_valued}
+use Rattle.pagable_tables.proofs.Words.{CellsStay, unpinned}
+use Rattle.pagable_tables.proofs.{Begun.fits-unowned, Coming.come-fits, Fitting.given-fits}
 
 pub updated-here : {X : Type 0} (n : ℕ) (x : X) (f : ℕ → X) → updated n x f n ≡ x
 updated-here n x f = let e : (n == n) ≡ true = grind (arith, nat_tests) in ap (λ b. if b then x else f n) e
 
 pub updated-other : {X : Type 0} (n : ℕ) (x : X) (f : ℕ → X) (q : ℕ) → q ≢ n → updated n x f q ≡ f q
 updated-other n x f q other = let e : (q == n) ≡ false = grind (arith, nat_tests) in ap (λ b. if b then x else f q) e
-
-cell-there : (o : Option Counts) → is_some (cell_in o) ≡ is_some o
-cell-there None = refl
-cell-there (Some c) = refl
 
 -- one that is pinned no more falls only if it has a key
 pub keyed-then : (c : Counts) (listed : Bool) → 1 ≤ c.holds → is_fallen_by (record c { holds = c.holds + 1 }) true (c.pins - 1) (if listed then c.holds + 1 else c.holds + 1 - 1)
@@ -58,10 +52,4 @@ module _ (at at' : ℕ → Option Counts) (refs refs' : ℕ → List ArcRef) (ro
       (c.pins - one (is_pinning m)) (if listed then c.holds + 1 else c.holds + 1 - 1)) pinned ∙ e)
 
   pub lower-cells : CellsStay at at'
-  lower-cells n there =
-      let s = given-cells mid at' refs refs' (rows ++ unpinned x ∷ []) rows' top [] x (record c { holds = c.holds + 1 }) listed k
-      (fits-unowned mid refs (rows ++ unpinned x ∷ []) top [] x plain mid-fits) mid-is mid-sums mid-here mid-others same
-      (subst (λ m. one (is_pinning m) ≤ c.pins) (sym pinned) some) (omega arith) n there in
-      let cells : cell_in (mid n) ≡ cell_in (at n) = come-cells at mid refs refs rows top (unpinned x) c fits is (updated-here x.node.0 (Some beside) at)
-      (updated-other x.node.0 (Some beside) at) (λ n. refl) plain n in
-      (sym (cell-there (at n)) ∙ sym (ap is_some cells) ∙ cell-there (mid n) ∙ s.0, s.1 ∙ cells)
+  lower-cells n there = grind (arith, nat_tests)

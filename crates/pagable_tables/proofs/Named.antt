@@ -1,18 +1,14 @@
 -- Handles that references name come to another owner.
-use Rattle.pagable_tables.proofs.Words.{◌≡◌, ℕ, ◌+◌, ◌<◌, ◌≤◌, ◌==◌, ◌||◌, Bool, true, false, List, [], ◌∷◌, ◌++◌, take, drop, drop-cons, get_or, length, add-one, refl, ap, sym, ◌∙◌, arith, Some}
-use Rattle.pagable_tables.proofs.Words.{None, if◌then◌else◌, nat_tests, ◌≢◌, drop_all, take-suc, Error, ArcRef, HandleNumber, HandleRow, Owner, is_in, or_else, find_row, is_handle, Core}
-use Rattle.pagable_tables.proofs.Words.{reference_fault, references_fault, only_handle, moved, is_named_by}
+use Rattle.pagable_tables.proofs.Words.{◌≡◌, ℕ, ◌+◌, ◌<◌, ◌≤◌, ◌==◌, ◌||◌, true, false, List, [], ◌∷◌, ◌++◌, take, drop, drop-cons, get_or, length, add-one, refl, ap, sym, ◌∙◌, arith, Some}
+use Rattle.pagable_tables.proofs.Words.{None, nat_tests, ◌≢◌, drop_all, take-suc, Error, ArcRef, HandleNumber, HandleRow, Owner, is_in, or_else, find_row, Core, reference_fault}
+use Rattle.pagable_tables.proofs.Words.{references_fault, only_handle, moved, is_named_by}
 use Rattle.pagable_tables.proofs.Owned.{owned-by}
 
 -- no row has the number
 pub moved-none : (h : HandleNumber) (owner : Owner) (rows : List HandleRow) → find_row h.0 rows ≡ None → moved (only_handle h) owner rows ≡ rows
 unfolding find_row
 moved-none h owner [] is = refl
-moved-none h owner (x ∷ xs) is = by (is_handle h.0 x) refl is (moved-none h owner xs)
-  where
-    by : (b : Bool) → is_handle h.0 x ≡ b → (if b then Some x else find_row h.0 xs) ≡ None → (find_row h.0 xs ≡ None → moved (only_handle h) owner xs ≡ xs) → moved (only_handle h) owner (x ∷ xs) ≡ x ∷ xs
-    by true here is rest = absurd (cc)
-    by false here is rest = rw here (ap (λ l. x ∷ l) (rest is))
+moved-none h owner (x ∷ xs) is = grind (arith, nat_tests, moved-none h owner xs)
 
 pub moved-nobody : (owner : Owner) (rows : List HandleRow) → moved (is_named_by []) owner rows ≡ rows
 unfolding is_named_by
@@ -22,29 +18,12 @@ moved-nobody owner (x ∷ xs) = ap (λ l. x ∷ l) (moved-nobody owner xs)
 pub named-push : (rs : List ArcRef) (r : ArcRef) (q : ℕ) → is_named_by (rs ++ r ∷ []) q ≡ (r.handle.0 == q) || is_named_by rs q
 unfolding is_named_by
 named-push [] r q = refl
-named-push (x ∷ xs) r q = ap (λ b. (x.handle.0 == q) || b) (named-push xs r q) ∙ swap (x.handle.0 == q) (r.handle.0 == q) (is_named_by xs q)
-  where
-    swap : (a b d : Bool) → (a || (b || d)) ≡ (b || (a || d))
-    swap true true d = refl
-    swap _ _ d = refl
+named-push (x ∷ xs) r q = grind (arith, nat_tests, named-push xs r q)
 
 -- one more
 moved-push : (rs : List ArcRef) (r : ArcRef) (owner : Owner) (rows : List HandleRow) → moved (only_handle r.handle) owner (moved (is_named_by rs) owner rows) ≡ moved (is_named_by (rs ++ r ∷ [])) owner rows
 moved-push rs r owner [] = refl
-moved-push rs r owner (x ∷ xs) = by (is_named_by rs x.number.0) (x.number.0 == r.handle.0) refl refl (moved-push rs r owner xs)
-  where
-    flip : (r.handle.0 == x.number.0) ≡ (x.number.0 == r.handle.0)
-    flip = grind (arith, nat_tests)
-
-    named : (b d : Bool) → is_named_by rs x.number.0 ≡ b → (x.number.0 == r.handle.0) ≡ d → is_named_by (rs ++ r ∷ []) x.number.0 ≡ d || b
-    named b d here same = named-push rs r x.number.0 ∙ ap (λ a. a || is_named_by rs x.number.0) (flip ∙ same) ∙ ap (λ a. d || a) here
-
-    by : (b d : Bool) → is_named_by rs x.number.0 ≡ b → (x.number.0 == r.handle.0) ≡ d → moved (only_handle r.handle) owner (moved (is_named_by rs) owner xs) ≡ moved (is_named_by (rs ++ r ∷ [])) owner xs
-        → moved (only_handle r.handle) owner (moved (is_named_by rs) owner (x ∷ xs)) ≡ moved (is_named_by (rs ++ r ∷ [])) owner (x ∷ xs)
-    by true true here same rest = let n = named true true here same in rw (here, same, n) (ap (λ l. owned-by owner x ∷ l) rest)
-    by true false here same rest = let n = named true false here same in rw (here, same, n) (ap (λ l. owned-by owner x ∷ l) rest)
-    by false true here same rest = let n = named false true here same in rw (here, same, n) (ap (λ l. owned-by owner x ∷ l) rest)
-    by false false here same rest = let n = named false false here same in rw (here, same, n) (ap (λ l. x ∷ l) rest)
+moved-push rs r owner (x ∷ xs) = grind (arith, nat_tests, named-push, owned-by, moved-push rs r owner xs)
 
 pub moved-take : (rs : List ArcRef) (i : ℕ) (d : ArcRef) (owner : Owner) (rows : List HandleRow) → i < length rs
     → moved (only_handle (get_or rs i d).handle) owner (moved (is_named_by (take i rs)) owner rows) ≡ moved (is_named_by (take (i + 1) rs)) owner rows

@@ -1,44 +1,17 @@
 -- What loads own is what they owned, or has come since.
-use Rattle.std.proofs.Common.{◌≡◌, ℕ, ◌+◌, ◌<◌, ◌≤◌, ◌&&◌, ◌++◌, ◌∷◌, [], Bool, true, false, not, if◌then◌else◌, List, refl, ap, sym, ◌∙◌, arith, Option, Some, None, inl, inr}
-use Rattle.std.specs.Prelude.{◌⊎◌, ◌≢◌, Result, Ok, Err, is_some}
-use Rattle.std.specs.Option.{option_map}
-use Rattle.std.proofs.lemmas.Bool.{cases_eq}
-use Rattle.pagable_model.specs.declared.error.Error.{Error}
-use Rattle.pagable_model.specs.declared.numbers.HandleNumber.{HandleNumber}
-use Rattle.pagable_model.specs.declared.numbers.LoadNumber.{LoadNumber}
-use Rattle.pagable_model.specs.declared.numbers.NodeNumber.{NodeNumber}
-use Rattle.pagable_world.specs.declared.handles.HandleRow.{HandleRow}
-use Rattle.pagable_world.specs.declared.handles.Owner.{Owner}
-use Rattle.pagable_world.specs.declared.handles.Owner.TheVariants as owners
-use Rattle.pagable_world.specs.declared.rows.Mode.{Mode}
-use Rattle.pagable_world.specs.declared.rows.Mode.TheVariants as modes
-use Rattle.pagable_world.specs.declared.answers.Pinning.{Pinning}
-use Rattle.pagable_world.specs.declared.answers.Pinning.TheVariants as pinnings
-use Rattle.pagable_model.specs.declared.numbers.Kind.{Kind}
-use Rattle.pagable_model.specs.declared.numbers.ArcRef.{ArcRef}
-use Rattle.pagable_model.specs.declared.data_key.OptionalDataKey.{OptionalDataKey}
-use Rattle.pagable_model.specs.declared.data_key.OptionalDataKey.TheVariants as optional
-use Rattle.pagable_world.specs.Plain.{if_there, is_in, type_of, changed}
-use Rattle.pagable_world.specs.Kinds.{is_handle, is_owner, is_owned_by, owner_value, find_row, mode_of}
-use Rattle.pagable_world.specs.World.{Core, Last, Alike}
+use Rattle.pagable_tables.proofs.Words.{◌≡◌, ℕ, ◌+◌, ◌<◌, ◌≤◌, ◌&&◌, ◌++◌, ◌∷◌, [], Bool, true, false, not, if◌then◌else◌, List, refl, ap, sym, ◌∙◌, arith, Option, Some, None, inl, inr, ◌⊎◌}
+use Rattle.pagable_tables.proofs.Words.{◌≢◌, Result, Ok, Err, is_some, option_map, cases_eq, Error, HandleNumber, LoadNumber, NodeNumber, HandleRow, Owner, Mode, Pinning, Kind, ArcRef}
+use Rattle.pagable_tables.proofs.Words.{OptionalDataKey, if_there, is_in, type_of, changed, is_handle, is_owner, is_owned_by, owner_value, find_row, mode_of, Core, Last, Alike, Falls}
+use Rattle.pagable_tables.proofs.Words.{only_handle, with_handle, with_node, next_node, with_cached_if_open, is_named_by, moved, with_mode, LoosenCall, PinCall, UnpinCall, ReleaseCall}
+use Rattle.pagable_tables.proofs.Words.{SetKeyCall, ScheduleCall, TakeCall, OfferCall, CloseCall, is_owned_in, numbers_of, adopted, first_key, Adopts, DropCall, HandOverCall, LazyCall}
+use Rattle.pagable_tables.proofs.Words.{LoadRow, Tables, load_at, plain_of, load_in, Makes, AreLater, nat_tests}
+use Rattle.pagable_tables.proofs.{Regiven.loaded, Regiven.passes-here, Regiven.passes-left, Regiven.no-entry, Regiven.unlisting, Taken.loaded-moved, Taken.and-left, Worlds.owner-same}
+use Rattle.pagable_tables.proofs.{keeps.Rows.found-among, keeps.Rows.found-push}
 use Rattle.pagable_world.specs.Pager as pager
-use Rattle.pagable_world.specs.Cascade.{Falls}
-use Rattle.pagable_world.specs.Calls.{with_handle, with_node, next_node, with_cached, with_cached_if_open, is_named_by, moved, with_mode, LoosenCall, PinCall, UnpinCall, ReleaseCall, SetKeyCall, ScheduleCall, TakeCall, OfferCall, CloseCall}
-use Rattle.pagable_world.specs.Cascade.{only_handle}
-use Rattle.pagable_world.specs.LoadCalls.{is_owned_in, numbers_of, adopted, first_key, Adopts, DropCall, HandOverCall, LazyCall}
-use Rattle.pagable_tables.specs.declared.rows.LoadRow.{LoadRow}
-use Rattle.pagable_tables.specs.declared.tables.Tables.{Tables}
-use Rattle.pagable_tables.specs.ByNumber.{load_at}
-use Rattle.pagable_tables.specs.Core.{plain_of, load_in, Makes}
-use Rattle.pagable_tables.specs.Later.{AreLater}
-use Rattle.pagable_tables.proofs.Regiven.{loaded, passes-here, passes-left, no-entry, unlisting}
-use Rattle.pagable_tables.proofs.Taken.{loaded-moved, and-left}
-use Rattle.pagable_tables.proofs.Worlds.{owner-same}
-use Rattle.pagable_tables.proofs.keeps.Rows.{found-among, found-push}
 
 pub record OnlyNewer (w w' : Core) : Type 0 where
   pub last : w.last.handle ≤ w'.last.handle
-  pub owned : (l : LoadNumber) (q : ℕ) → is_owned_in w' (owners.Load l) q ≡ true → (is_owned_in w (owners.Load l) q ≡ true) ⊎ (w.last.handle < q)
+  pub owned : (l : LoadNumber) (q : ℕ) → is_owned_in w' (Owner.Load l) q ≡ true → (is_owned_in w (Owner.Load l) q ≡ true) ⊎ (w.last.handle < q)
 
 pub newer-alike : {w w' : Core} → Alike w w' → OnlyNewer w w'
 newer-alike {w} {w'} a = record { last = (let e = ap (λ (l : Last). l.handle) a.last in omega arith); owned = λ l q own. inl (sym (ap (loaded l q) a.rows) ∙ own) }
@@ -49,31 +22,31 @@ newer-then {a} p q = record { last = (let x = p.last in let y = q.last in omega 
 loaded-push : (l : LoadNumber) (q : ℕ) (rows : List HandleRow) (x : HandleRow) → loaded l q (rows ++ x ∷ []) ≡ true → (loaded l q rows ≡ true) ⊎ (x.number.0 ≡ q)
 loaded-push l q rows x own = split (find_row q (rows ++ x ∷ [])) refl own
   where
-    split : (found : Option HandleRow) → find_row q (rows ++ x ∷ []) ≡ found → if_there (is_owned_by (owners.Load l)) false found ≡ true → (loaded l q rows ≡ true) ⊎ (x.number.0 ≡ q)
+    split : (found : Option HandleRow) → find_row q (rows ++ x ∷ []) ≡ found → if_there (is_owned_by (Owner.Load l)) false found ≡ true → (loaded l q rows ≡ true) ⊎ (x.number.0 ≡ q)
     split None e own = absurd (cc)
     split (Some row) e own = elim (found-push q rows x row e) [
-      | inl there ↦ inl (ap (if_there (is_owned_by (owners.Load l)) false) there ∙ own)
+      | inl there ↦ inl (ap (if_there (is_owned_by (Owner.Load l)) false) there ∙ own)
       | inr same ↦ inr (sym (ap (λ (r : HandleRow). r.number.0) same) ∙ (found-among q (rows ++ x ∷ []) row e).1)
     ]
 
 pub newer-handle : (w : Core) (node : NodeNumber) (mode : Mode) (owner : Owner) → OnlyNewer w (with_handle w node mode owner)
 newer-handle w node mode owner = record { last = omega arith; owned = λ l q own. elim (loaded-push l q w.rows _ own) [ inl there ↦ inl there | inr is ↦ inr (omega arith) ] }
 
-pub newer-moved : (w : Core) (s : ℕ → Bool) (o : Owner) → ((l : LoadNumber) → is_owner (owners.Load l) o ≡ false) → OnlyNewer w (record w { rows = moved s o w.rows })
+pub newer-moved : (w : Core) (s : ℕ → Bool) (o : Owner) → ((l : LoadNumber) → is_owner (Owner.Load l) o ≡ false) → OnlyNewer w (record w { rows = moved s o w.rows })
 newer-moved w s o other = record { last = omega arith; owned = λ l q own. inl (and-left (loaded l q w.rows) (not (s q)) (sym (loaded-moved s o l q w.rows (other l)) ∙ own)) }
 
 -- a handle's mode says nothing of who owns it
 pub loaded-mode : (l : LoadNumber) (q : ℕ) (test : HandleRow → Bool) (mode : Mode) (rows : List HandleRow) → loaded l q (changed test (λ row. record row { mode = mode }) rows) ≡ loaded l q rows
 loaded-mode l q test mode [] = refl
 loaded-mode l q test mode (x ∷ xs) =
-    split (test x) ∙ ap (λ b. if is_handle q x then is_owner (owners.Load l) x.owner else b) (loaded-mode l q test mode xs) ∙ sym (passes-here (is_owned_by (owners.Load l)) q x xs)
+    split (test x) ∙ ap (λ b. if is_handle q x then is_owner (Owner.Load l) x.owner else b) (loaded-mode l q test mode xs) ∙ sym (passes-here (is_owned_by (Owner.Load l)) q x xs)
   where
     rest : List HandleRow
     rest = changed test (λ row. record row { mode = mode }) xs
 
-    split : (b : Bool) → loaded l q ((if b then record x { mode = mode } else x) ∷ rest) ≡ (if is_handle q x then is_owner (owners.Load l) x.owner else loaded l q rest)
-    split true = passes-here (is_owned_by (owners.Load l)) q (record x { mode = mode }) rest
-    split false = passes-here (is_owned_by (owners.Load l)) q x rest
+    split : (b : Bool) → loaded l q ((if b then record x { mode = mode } else x) ∷ rest) ≡ (if is_handle q x then is_owner (Owner.Load l) x.owner else loaded l q rest)
+    split true = passes-here (is_owned_by (Owner.Load l)) q (record x { mode = mode }) rest
+    split false = passes-here (is_owned_by (Owner.Load l)) q x rest
 
 pub newer-mode : (w : Core) (h : HandleNumber) (mode : Mode) → OnlyNewer w (with_mode w h mode)
 newer-mode w h mode = record { last = omega arith; owned = λ l q own. inl (sym (loaded-mode l q (is_handle h.0) mode w.rows) ∙ own) }
@@ -82,7 +55,7 @@ pub newer-falls : {before u w' : Core} {given : ℕ → Bool} {r : Result (Unit 
 newer-falls {before} {u} {w'} falls =
     record {
       last = (let e = ap (λ (l : Last). l.handle) falls.leaves.last in omega arith);
-      owned = λ l q own. inl (had (falls.gone q) (loaded l q u.rows) (sym (ap (loaded l q) falls.leaves.rows ∙ passes-left (is_owned_by (owners.Load l)) q falls.gone falls.entries u.rows (no-entry (is_owned_by (owners.Load l)) q (unlisting l) u.last.handle falls.entries falls.new)) ∙ own));
+      owned = λ l q own. inl (had (falls.gone q) (loaded l q u.rows) (sym (ap (loaded l q) falls.leaves.rows ∙ passes-left (is_owned_by (Owner.Load l)) q falls.gone falls.entries u.rows (no-entry (is_owned_by (Owner.Load l)) q (unlisting l) u.last.handle falls.entries falls.new)) ∙ own));
     }
   where
     had : (g o : Bool) → (not g && o) ≡ true → o ≡ true
@@ -99,19 +72,16 @@ later-so later newer loads =
 
 -- a load is closed
 pub closed-still : (at at' : ℕ → Option LoadRow) (m : ℕ) → at' m ≡ None → ((q : ℕ) → q ≢ m → at' q ≡ at q) → (l : ℕ) (load : LoadRow) → at' l ≡ Some load → at l ≡ Some load
-closed-still at at' m gone others l load is = elim (cases_eq l m) [
-  | inl e ↦ absurd (let a = sym is ∙ ap at' e ∙ gone in cc)
-  | inr e ↦ sym (others l e) ∙ is
-]
+closed-still at at' m gone others l load is = grind (arith, nat_tests)
 
 -- a load that isn't open owns nothing
-none-owned : (w : Core) → pager.IsWhole w → (l : LoadNumber) (q : ℕ) → w.loads l.0 ≡ None → is_owned_in w (owners.Load l) q ≡ true → ⊥
+none-owned : (w : Core) → pager.IsWhole w → (l : LoadNumber) (q : ℕ) → w.loads l.0 ≡ None → is_owned_in w (Owner.Load l) q ≡ true → ⊥
 none-owned w whole l q none own = split (find_row q w.rows) refl own
   where
-    split : (found : Option HandleRow) → find_row q w.rows ≡ found → if_there (is_owned_by (owners.Load l)) false found ≡ true → ⊥
+    split : (found : Option HandleRow) → find_row q w.rows ≡ found → if_there (is_owned_by (Owner.Load l)) false found ≡ true → ⊥
     split None e own = absurd (cc)
     split (Some row) e own =
-        let there = whole.owners_there.loads row l (found-among q w.rows row e).0 (owner-same (owners.Load l) row.owner own) in
+        let there = whole.owners_there.loads row l (found-among q w.rows row e).0 (owner-same (Owner.Load l) row.owner own) in
         absurd (let a : is_some (w.loads l.0) ≡ false = ap is_some none in cc)
 
 -- one load more is open
@@ -142,7 +112,7 @@ later-opened {t} {t'} whole later newer m row none here since others =
 pub drop-newer : {w w' : Core} (me : Owner) (l : LoadNumber) (r : Result (Unit {0}) Error) → DropCall w me l r w' → OnlyNewer w w'
 drop-newer me l r call = elim call.does [ inl refused ↦ newer-alike refused.stays | inr (load, own, falls) ↦ (let n = newer-falls falls in record { last = n.last; owned = n.owned }) ]
 
-pub take-newer : {w w' : Core} (me : Owner) (l : LoadNumber) (hs : List HandleNumber) (r : Result (Unit {0}) Error) → ((m : LoadNumber) → is_owner (owners.Load m) me ≡ false) → HandOverCall w me l hs r w' → OnlyNewer w w'
+pub take-newer : {w w' : Core} (me : Owner) (l : LoadNumber) (hs : List HandleNumber) (r : Result (Unit {0}) Error) → ((m : LoadNumber) → is_owner (Owner.Load m) me ≡ false) → HandOverCall w me l hs r w' → OnlyNewer w w'
 take-newer {w} me l hs (Ok u) other call =
     let n = newer-falls call.hands.1.falls in
     let m = newer-moved w (is_in (numbers_of hs)) me other in
@@ -154,11 +124,7 @@ makes-newer {w} node mode owner (Ok k) m = newer-then (newer-handle w node mode 
 makes-newer node mode owner (Err e) m = newer-alike m.refused.stays
 
 newer-cached : (w : Core) (kind : Kind) (key : ℕ) (n : NodeNumber) → OnlyNewer w (with_cached_if_open w kind key n)
-newer-cached w kind key n = split w.closed
-  where
-    split : (closed : Bool) → OnlyNewer w (if closed then w else with_cached w kind key n)
-    split true = record { last = omega arith; owned = λ l q own. inl own }
-    split false = record { last = omega arith; owned = λ l q own. inl own }
+newer-cached w kind key n = grind (arith, nat_tests)
 
 -- a node comes with its references and a handle
 pub newer-node : (w : Core) (node_type : ℕ) (own_key : OptionalDataKey) (references : List ArcRef) (mode : Mode) (owner : Owner) → OnlyNewer w (with_handle (with_node w node_type own_key references) (next_node w) mode owner)
@@ -168,31 +134,31 @@ newer-node w node_type own_key references mode owner =
 
 pub newer-adopted : (w : Core) (l : LoadNumber) (kind : Kind) (key : ℕ) (own_key : OptionalDataKey) (references : List ArcRef) → OnlyNewer w (adopted w l kind key own_key references)
 newer-adopted w l kind key own_key references =
-    newer-then (newer-node w (type_of kind.0) own_key references (mode_of kind.0) (owners.Load l)) (newer-cached (with_handle (with_node w (type_of kind.0) own_key references) (next_node w) (mode_of kind.0) (owners.Load l)) kind key (next_node w))
+    newer-then (newer-node w (type_of kind.0) own_key references (mode_of kind.0) (Owner.Load l)) (newer-cached (with_handle (with_node w (type_of kind.0) own_key references) (next_node w) (mode_of kind.0) (Owner.Load l)) kind key (next_node w))
 
 pub lazy-newer : {w w' : Core} (me : Owner) (l : LoadNumber) (kind : Kind) (key : ℕ) (r : Result HandleNumber Error) → LazyCall w me l kind key r w' → OnlyNewer w w'
 lazy-newer {w} me l kind key (Ok k) call = elim call.makes.3 [
-  | inl gets ↦ newer-then (newer-handle w (record { 0 = gets.n }) (mode_of kind.0) (owners.Load l)) (newer-alike gets.leaves)
-  | inr (none, left, next, leaves) ↦ newer-then (newer-adopted w l kind key (optional.Some key) []) (newer-alike leaves)
+  | inl gets ↦ newer-then (newer-handle w (record { 0 = gets.n }) (mode_of kind.0) (Owner.Load l)) (newer-alike gets.leaves)
+  | inr (none, left, next, leaves) ↦ newer-then (newer-adopted w l kind key (OptionalDataKey.Some key) []) (newer-alike leaves)
 ]
 lazy-newer me l kind key (Err e) call = newer-alike call.refused.stays
 
 pub loosen-newer : {w w' : Core} (me : Owner) (h : HandleNumber) (r : Result HandleNumber Error) → LoosenCall w me h r w' → OnlyNewer w w'
-loosen-newer {w} me h (Ok k) call = newer-then (newer-mode w h modes.LoosePinned) (newer-alike (let (row, own, same, leaves) = call.turned in leaves))
+loosen-newer {w} me h (Ok k) call = newer-then (newer-mode w h Mode.LoosePinned) (newer-alike (let (row, own, same, leaves) = call.turned in leaves))
 loosen-newer me h (Err e) call = newer-alike call.refused.1
 
 pub pin-newer : {w w' : Core} (me : Owner) (h : HandleNumber) (r : Result Pinning Error) → PinCall w me h r w' → OnlyNewer w w'
-pin-newer {w} me h (Ok (pinnings.Pinned k)) call =
+pin-newer {w} me h (Ok (Pinning.Pinned k)) call =
     let (row, own, (here, next, leaves)) = call.pins in
-    newer-then (newer-then (newer-mode w h modes.LoosePinned) (newer-handle (with_mode w h modes.LoosePinned) row.node modes.Pinned me)) (newer-alike leaves)
-pin-newer me h (Ok (pinnings.NeedsLoad key)) call = let (row, own, (away, is, stays)) = call.pins in newer-alike stays
+    newer-then (newer-then (newer-mode w h Mode.LoosePinned) (newer-handle (with_mode w h Mode.LoosePinned) row.node Mode.Pinned me)) (newer-alike leaves)
+pin-newer me h (Ok (Pinning.NeedsLoad key)) call = let (row, own, (away, is, stays)) = call.pins in newer-alike stays
 pin-newer me h (Err e) call = newer-alike call.refused.stays
 
 pub unpin-newer : {w w' : Core} (me : Owner) (h : HandleNumber) (r : Result (Unit {0}) Error) → UnpinCall w me h r w' → OnlyNewer w w'
 unpin-newer {w} me h r call = elim call.does [
   | inl refused ↦ newer-alike refused.stays
   | inr (row, own, inl (mode, told, stays)) ↦ newer-alike stays
-  | inr (row, own, inr (mode, falls)) ↦ newer-then (newer-mode w h modes.LooseUnpinned) (newer-falls falls)
+  | inr (row, own, inr (mode, falls)) ↦ newer-then (newer-mode w h Mode.LooseUnpinned) (newer-falls falls)
 ]
 
 pub release-newer : {w w' : Core} (me : Owner) (h : HandleNumber) (r : Result (Unit {0}) Error) → ReleaseCall w me h r w' → OnlyNewer w w'
@@ -207,18 +173,18 @@ set-key-newer me h key r call = elim call.does [
 
 pub adopt-newer : {w w' : Core} (me : Owner) (l : LoadNumber) (kind : Kind) (key node_type : ℕ) (refs : List ArcRef) (k : HandleNumber) → Adopts w me l kind key node_type refs k w' → OnlyNewer w w'
 adopt-newer {w} me l kind key node_type refs k a = elim a.makes [
-  | inl (n, is, falls) ↦ newer-then (newer-handle w (record { 0 = n }) (mode_of kind.0) (owners.Load l)) (newer-falls falls.falls)
+  | inl (n, is, falls) ↦ newer-then (newer-handle w (record { 0 = n }) (mode_of kind.0) (Owner.Load l)) (newer-falls falls.falls)
   | inr (none, left, leaves) ↦ newer-then (newer-adopted w l kind key (first_key kind.0 key) refs) (newer-alike leaves)
 ]
 
 pub schedule-newer : {w w' : Core} (me : Owner) (h : HandleNumber) (r : Result (Unit {0}) Error) → ScheduleCall w me h r w' → OnlyNewer w w'
 schedule-newer {w} me h (Ok u) call = elim call.moves.2 [
-  | inl (stands_open, leaves) ↦ (let n = newer-alike leaves in newer-then (newer-moved w (only_handle h) owners.List (λ l. refl)) (record { last = n.last; owned = n.owned }))
+  | inl (stands_open, leaves) ↦ (let n = newer-alike leaves in newer-then (newer-moved w (only_handle h) Owner.List (λ l. refl)) (record { last = n.last; owned = n.owned }))
   | inr (shut, falls) ↦ newer-falls falls.falls
 ]
 schedule-newer me h (Err e) call = newer-alike call.refused.stays
 
-pub take-pending-newer : {w w' : Core} (me : Owner) (i : ℕ) (found : Option HandleNumber) → ((m : LoadNumber) → is_owner (owners.Load m) me ≡ false) → TakeCall w me i found w' → OnlyNewer w w'
+pub take-pending-newer : {w w' : Core} (me : Owner) (i : ℕ) (found : Option HandleNumber) → ((m : LoadNumber) → is_owner (Owner.Load m) me ≡ false) → TakeCall w me i found w' → OnlyNewer w w'
 take-pending-newer {w} me i (Some h) other call = let n = newer-alike call.1 in newer-then (newer-moved w (only_handle h) me other) (record { last = n.last; owned = n.owned })
 take-pending-newer me i None other call = newer-alike call.1
 

@@ -1,6 +1,6 @@
 -- A handle that the list doesn't own is no entry.
-use Rattle.pagable_tables.proofs.Words.{◌≡◌, ℕ, ◌+◌, ◌==◌, ◌&&◌, Bool, true, false, not, List, [], ◌∷◌, ◌++◌, refl, ap, arith, nat_tests, sum_by-cons, sum_by-append, HandleRow, Owner, one, times}
-use Rattle.pagable_tables.proofs.Words.{is_handle, is_owned_by, is_owner, only_handle, AreNewEntries, Holdings, live, Leaves}
+use Rattle.pagable_tables.proofs.Words.{◌≡◌, ℕ, ◌+◌, ◌==◌, ◌&&◌, Bool, true, false, not, List, [], ◌∷◌, ◌++◌, refl, ap, arith, nat_tests, sum_by-cons, sum_by-append, HandleRow, Owner, one}
+use Rattle.pagable_tables.proofs.Words.{times, is_handle, is_owned_by, is_owner, only_handle, AreNewEntries, Holdings, live, Leaves}
 use Rattle.pagable_tables.proofs.Left.{times-left, entries-none}
 
 abbrev pub of_list : ℕ → HandleRow → Bool
@@ -20,22 +20,11 @@ parts q (x ∷ xs) =
     omega arith
   where
     bits : (a b : Bool) → one a ≡ one (a && b) + one (a && not b)
-    bits true true = refl
-    bits true false = refl
-    bits false b = refl
+    bits a b = grind (arith, nat_tests)
 
 none-of : (p : HandleRow → Bool) (q : ℕ) (rows : List HandleRow) → times (λ h. (is_handle q h && p h) && not (h.number.0 == q)) rows ≡ 0
 none-of p q [] = refl
-none-of p q (x ∷ xs) =
-    let a = sum_by-cons (λ h. one ((is_handle q h && p h) && not (h.number.0 == q))) x xs in
-    let rest = none-of p q xs in
-    let here = bits (x.number.0 == q) (p x) in
-    omega arith
-  where
-    bits : (a b : Bool) → one ((a && b) && not a) ≡ 0
-    bits true true = refl
-    bits true false = refl
-    bits false b = refl
+none-of p q (x ∷ xs) = grind (arith, nat_tests, none-of p q xs)
 
 pub none-listed : (old new : Holdings) (x : HandleRow) (wanted listed : Bool) → Leaves old x wanted listed new → is_owned_by Owner.List x ≡ false
     → times (of_list x.number.0) (live old.handles.places.items) ≡ 0

@@ -1,8 +1,8 @@
 -- Tables of nothing are whole.
-use Rattle.pagable_tables.proofs.Words.{◌≡◌, ℕ, true, false, [], length, refl, ap, sym, subst, ◌∙◌, arith, inl, Some, None, nat_eq, is_some, get, NodeNumber, HandleRow, Among, is_in, pins, held}
-use Rattle.pagable_tables.proofs.Words.{sharing, Core, NodeRow, Tables, live, AreSound, counts_at, refs_at, load_at, known_at, pins_in, holds_in, cell_in, IsFalling, owns_nothing, plain_of}
-use Rattle.pagable_tables.proofs.Words.{load_in}
-use Rattle.std.specs.Option.{option_map, option_map_or}
+use Rattle.pagable_tables.proofs.Words.{◌≡◌, ℕ, true, false, [], length, refl, ap, sym, subst, ◌∙◌, arith, inl, Some, None, nat_eq, is_some, get, NodeNumber, HandleRow, Among, is_in, pins}
+use Rattle.pagable_tables.proofs.Words.{held, sharing, Core, NodeRow, Tables, live, AreSound, counts_at, refs_at, load_at, known_at, pins_in, holds_in, cell_in, IsFalling, owns_nothing}
+use Rattle.pagable_tables.proofs.Words.{plain_of, load_in, option_map}
+use Rattle.std.specs.Option.{option_map_or}
 use Rattle.pagable_tables.specs.Core.{IsWhole}
 
 in-none : (v : ℕ) → is_in [] v ≡ false

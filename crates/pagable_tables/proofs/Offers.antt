@@ -1,23 +1,14 @@
 -- A handle is offered to the cache: why it is refused, and what is known then.
-use Rattle.pagable_tables.proofs.Words.{◌≡◌, ℕ, ◌<◌, ◌==◌, ◌&&◌, Bool, true, false, refl, ap, ◌∙◌, subst, arith, Option, Some, None, inl, inr, if◌then◌else◌, ◌≢◌, ◌⊎◌, not, nat_lt, cases_eq}
-use Rattle.pagable_tables.proofs.Words.{nat_tests, Error, HandleNumber, NodeNumber, Kind, HandleRow, Owner, if_there, type_of, fits_mode, Core, row_at, type_at, earlier, rank, refused_if, spent}
-use Rattle.pagable_tables.proofs.Words.{where_so, handle_fault, is_type, is_usable, offer_fault}
-use Rattle.std.specs.Option.{option_map}
-use Rattle.pagable_tables.proofs.Pins.{handle-first, spent-late}
-use Rattle.pagable_model.specs.declared.error.Error.TheVariants as errors
-use Rattle.pagable_world.specs.Kinds.{is_owner}
-use Rattle.pagable_tables.proofs.Opened.{no-fault}
-use Rattle.pagable_tables.proofs.Pins.{earlier-first}
+use Rattle.pagable_tables.proofs.Words.{◌≡◌, ℕ, ◌<◌, ◌==◌, ◌&&◌, Bool, true, false, subst, arith, Option, Some, None, if◌then◌else◌, ◌≢◌, ◌⊎◌, not, nat_tests, Error, HandleNumber}
+use Rattle.pagable_tables.proofs.Words.{NodeNumber, Kind, HandleRow, Owner, if_there, type_of, fits_mode, Core, row_at, type_at, earlier, rank, refused_if, spent, where_so, handle_fault}
+use Rattle.pagable_tables.proofs.Words.{is_type, is_usable, offer_fault, option_map, is_owner}
+use Rattle.pagable_tables.proofs.{Pins.handle-first, Pins.spent-late}
 
 -- of two late causes any is late
 pub late : (a b : Option Error) (m : ℕ) → ((f : Error) → a ≡ Some f → m < rank f) → ((f : Error) → b ≡ Some f → m < rank f) → (f : Error) → earlier a b ≡ Some f → m < rank f
 late None b m one two f is = two f is
 late (Some e) None m one two f is = one f is
-late (Some e) (Some g) m one two f is = by (nat_lt (rank g) (rank e)) is
-  where
-    by : (b : Bool) → (if b then Some g else Some e) ≡ Some f → m < rank f
-    by true is = two f is
-    by false is = one f is
+late (Some e) (Some g) m one two f is = grind (arith, nat_tests)
 
 wrong-kind : (b : Bool) (f : Error) → refused_if b Error.WrongKind ≡ Some f → 2 < rank f
 wrong-kind false f is = absurd (cc)
@@ -40,36 +31,14 @@ module _ (w : Core) (me : Owner) (kind : Kind) (key : ℕ) (h : HandleNumber) wh
 
   -- a handle that can be used, of a node of another type
   pub offer-kind : (row : HandleRow) → row_at w h ≡ Some row → is_owner me row.owner ≡ true → fits_mode kind.0 row.mode ≡ true → is_type (type_of kind.0) (type_at w row.node.0) ≡ false
-      → offer_fault w me kind key h ≡ Some errors.WrongKind
-  offer-kind row at own fits other =
-      let none = no-fault w me h (fits_mode kind.0) row at own fits in
-      let here = ap (λ o. refused_if (not (is_type (type_of kind.0) (if_there (λ (row : HandleRow). type_at w row.node.0) None o))) errors.WrongKind) at in
-      let a : kind-fault ≡ Some errors.WrongKind = here ∙ ap (λ b. refused_if (not b) errors.WrongKind) other in
-      ap (λ f. earlier f (earlier kind-fault last-fault)) none ∙ ap (λ f. earlier f last-fault) a ∙ earlier-first errors.WrongKind last-fault (λ f so. let a = last-late f so in omega arith)
+      → offer_fault w me kind key h ≡ Some Error.WrongKind
+  offer-kind row at own fits other = grind (arith, nat_tests)
 
   -- where handle and type are as asked, the last cause is left
   pub offer-last : (row : HandleRow) → handle_fault w me h (fits_mode kind.0) ≡ None → row_at w h ≡ Some row → type_at w row.node.0 ≡ Some (type_of kind.0) → offer_fault w me kind key h ≡ last-fault
-  offer-last row none at typed =
-      let here = ap (λ o. refused_if (not (is_type (type_of kind.0) (if_there (λ (row : HandleRow). type_at w row.node.0) None o))) Error.WrongKind) at in
-      let a : kind-fault ≡ None = here ∙ ap (λ o. refused_if (not (is_type (type_of kind.0) o)) Error.WrongKind) typed ∙ same in
-      ap (λ f. earlier f (earlier kind-fault last-fault)) none ∙ ap (λ f. earlier f last-fault) a
-    where
-      same : refused_if (not (is_type (type_of kind.0) (Some (type_of kind.0)))) Error.WrongKind ≡ None
-      same = let b : (type_of kind.0 == type_of kind.0) ≡ true = grind (arith, nat_tests) in rw b refl
+  offer-last row none at typed = grind (arith, nat_tests)
 
 -- the cache knows the node under the kind and the key, and all else as before
 pub learned : (known known' : ℕ → ℕ → Option NodeNumber) (kind key : ℕ) (n : NodeNumber) → known' kind key ≡ Some n → ((k q : ℕ) → (k ≢ kind) ⊎ (q ≢ key) → known' k q ≡ known k q)
     → (k q : ℕ) → option_map (λ (n : NodeNumber). n.0) (known' k q) ≡ (if k == kind && q == key then Some n.0 else option_map (λ (n : NodeNumber). n.0) (known k q))
-learned known known' kind key n here others k q = elim (cases_eq k kind) [
-  | inl e ↦ elim (cases_eq q key) [
-    | inl f ↦
-        let a : (k == kind) ≡ true = grind (arith, nat_tests) in
-        let b : (q == key) ≡ true = grind (arith, nat_tests) in
-        rw (a, b) (ap (λ i. option_map (λ (n : NodeNumber). n.0) (known' i q)) e ∙ ap (λ i. option_map (λ (n : NodeNumber). n.0) (known' kind i)) f ∙ ap (option_map (λ (n : NodeNumber). n.0)) here)
-    | inr f ↦
-        let a : (k == kind) ≡ true = grind (arith, nat_tests) in
-        let b : (q == key) ≡ false = grind (arith, nat_tests) in
-        rw (a, b) (ap (option_map (λ (n : NodeNumber). n.0)) (others k q (inr f)))
-  ]
-  | inr e ↦ let a : (k == kind) ≡ false = grind (arith, nat_tests) in rw a (ap (option_map (λ (n : NodeNumber). n.0)) (others k q (inl e)))
-]
+learned known known' kind key n here others k q = grind (arith, nat_tests)

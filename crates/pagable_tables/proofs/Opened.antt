@@ -1,17 +1,13 @@
 -- A load is opened and closed again. Why a handle can't come while numbers are left.
-use Rattle.pagable_tables.proofs.Words.{◌≡◌, ℕ, ◌<◌, ◌≤◌, Bool, true, false, if◌then◌else◌, List, refl, ap, sym, ◌∙◌, arith, Option, Some, None, inl, inr, ◌≢◌, ◌⊎◌, not, nat_lt, nat_le}
-use Rattle.pagable_tables.proofs.Words.{nat_tests, cases_eq, Error, OptionalDataKey, HandleNumber, LoadNumber, HandleRow, Owner, Mode, if_there, is_owner, is_loose, is_in_memory, pins, Core}
-use Rattle.pagable_tables.proofs.Words.{Cell, OpenLoad, greatest, row_at, rank, earlier, where_so, refused_if, spent, handle_fault, load_fault, closed_fault, OwnsLoad, Refused, Counts, LoadRow}
-use Rattle.pagable_tables.proofs.Words.{pins_in, cell_in, key_in, load_in}
-use Rattle.std.specs.Option.{option_map}
+use Rattle.pagable_tables.proofs.Words.{◌≡◌, ℕ, ◌<◌, ◌≤◌, Bool, true, false, List, refl, ap, sym, ◌∙◌, arith, Option, Some, None, inl, inr, ◌≢◌, ◌⊎◌, nat_lt, nat_le, nat_tests, Error}
+use Rattle.pagable_tables.proofs.Words.{OptionalDataKey, HandleNumber, LoadNumber, HandleRow, Owner, Mode, if_there, is_owner, is_loose, is_in_memory, pins, Core, Cell, OpenLoad, greatest}
+use Rattle.pagable_tables.proofs.Words.{row_at, rank, earlier, where_so, refused_if, spent, handle_fault, load_fault, closed_fault, OwnsLoad, Refused, Counts, LoadRow, pins_in, cell_in}
+use Rattle.pagable_tables.proofs.Words.{key_in, load_in, option_map}
 use Rattle.pagable_tables.proofs.Pins.{owner-self, fault-rank}
 
 -- a load that wasn't open comes and goes
 pub load-goes : (at at' at'' : ℕ → Option LoadRow) (l : ℕ) → at l ≡ None → ((q : ℕ) → q ≢ l → at' q ≡ at q) → at'' l ≡ None → ((q : ℕ) → q ≢ l → at'' q ≡ at' q) → (q : ℕ) → option_map load_in (at'' q) ≡ option_map load_in (at q)
-load-goes at at' at'' l none others gone others' q = elim (cases_eq q l) [
-  | inl e ↦ ap (λ m. option_map load_in (at'' m)) e ∙ ap (option_map load_in) (gone ∙ sym none) ∙ sym (ap (λ m. option_map load_in (at m)) e)
-  | inr e ↦ ap (option_map load_in) (others' q e ∙ others q e)
-]
+load-goes at at' at'' l none others gone others' q = grind (arith, nat_tests)
 
 pub unspent : (last : ℕ) → last < greatest → spent last ≡ None
 unspent last lt = grind (arith, nat_tests)
@@ -22,11 +18,7 @@ only-memory last e lt (inl is) = absurd (let a = sym (unspent last lt) ∙ is in
 only-memory last e lt (inr is) = is.0
 
 before-numbers : (e : Error) (so a b : Bool) → rank e ≤ 2 → earlier (Some e) (where_so so (earlier (refused_if a Error.NumbersSpent) (refused_if b Error.NumbersSpent))) ≡ Some e
-before-numbers e false a b le = refl
-before-numbers e true false false le = refl
-before-numbers e true true false le = let h : nat_lt 4 (rank e) ≡ false = grind (arith, nat_tests) in rw h refl
-before-numbers e true false true le = let h : nat_lt 4 (rank e) ≡ false = grind (arith, nat_tests) in rw h refl
-before-numbers e true true true le = let h : nat_lt 4 (rank e) ≡ false = grind (arith, nat_tests) in rw h refl
+before-numbers e so a b le = grind (arith, nat_tests)
 
 pub handle-first : (w : Core) (me : Owner) (h : HandleNumber) (fits : Mode → Bool) (e : Error) (so : Bool) (m n : ℕ) → handle_fault w me h fits ≡ Some e → earlier (handle_fault w me h fits) (where_so so (earlier (spent m) (spent n))) ≡ Some e
 handle-first w me h fits e so m n is =
@@ -34,21 +26,10 @@ handle-first w me h fits e so m n is =
 
 -- an own handle that fits has no fault
 pub no-fault : (w : Core) (me : Owner) (h : HandleNumber) (fits : Mode → Bool) (row : HandleRow) → row_at w h ≡ Some row → is_owner me row.owner ≡ true → fits row.mode ≡ true → handle_fault w me h fits ≡ None
-no-fault w me h fits row found own fit =
-    ap (if_there (λ (row : HandleRow). if not (is_owner me row.owner) then Some Error.NotYours else refused_if (not (fits row.mode)) Error.WrongMode) (Some Error.NoSuchHandle)) found
-    ∙ ap (λ b. if not b then Some Error.NotYours else refused_if (not (fits row.mode)) Error.WrongMode) own
-    ∙ ap (λ b. refused_if (not b) Error.WrongMode) fit
+no-fault w me h fits row found own fit = grind (arith, nat_tests)
 
 pub no-begin-fault : (w : Core) (me : Owner) (h : HandleNumber) (so : Bool) → handle_fault w me h is_loose ≡ None → w.last.load < greatest → w.last.handle < greatest → earlier (handle_fault w me h is_loose) (where_so so (earlier (spent w.last.load) (spent w.last.handle))) ≡ None
-no-begin-fault w me h so none load handle =
-    ap (λ f. earlier f (where_so so (earlier (spent w.last.load) (spent w.last.handle)))) none
-    ∙ ap (λ f. where_so so (earlier f (spent w.last.handle))) (unspent w.last.load load)
-    ∙ ap (where_so so) (unspent w.last.handle handle)
-    ∙ neither so
-  where
-    neither : (so : Bool) → where_so so None ≡ None
-    neither true = refl
-    neither false = refl
+no-begin-fault w me h so none load handle = grind (arith, nat_tests)
 
 -- whether a node of these counts has its value in memory
 pub here-told : (at : ℕ → Option Counts) (rows : List HandleRow) (n : ℕ) (c : Counts) → pins_in (at n) ≡ pins n rows → at n ≡ Some c → is_in_memory (pins n rows) (if_there (λ (cell : Cell). cell.key) OptionalDataKey.None (cell_in (at n))) ≡ is_in_memory c.pins (key_in c.key)
@@ -63,39 +44,18 @@ earlier-first a (Some f) e is late = ap (λ a. earlier a (Some f)) is ∙ (let l
 
 -- the causes of a load come before those of modes, kinds and numbers
 pub load-low : (w : Core) (me : Owner) (l : LoadNumber) (e : Error) → load_fault w me l ≡ Some e → rank e ≤ 1
-load-low w me l e is = split (w.loads l.0) is
-  where
-    fault : (own : Bool) → refused_if own Error.NotYours ≡ Some e → rank e ≤ 1
-    fault true is = let a : rank Error.NotYours ≡ rank e = ap (if_there rank 0) is in omega arith
-    fault false is = absurd (cc)
-
-    split : (o : Option OpenLoad) → if_there (λ (load : OpenLoad). refused_if (not (is_owner me load.owner)) Error.NotYours) (Some Error.NoSuchHandle) o ≡ Some e → rank e ≤ 1
-    split None is = let a : rank Error.NoSuchHandle ≡ rank e = ap (if_there rank 0) is in omega arith
-    split (Some load) is = fault (not (is_owner me load.owner)) is
+load-low w me l e is = grind (arith, nat_tests)
 
 pub no-load-fault : (w : Core) (me : Owner) (l : LoadNumber) (load : OpenLoad) → OwnsLoad w me l load → load_fault w me l ≡ None
-no-load-fault w me l load own =
-    ap (if_there (λ (load : OpenLoad). refused_if (not (is_owner me load.owner)) Error.NotYours) (Some Error.NoSuchHandle)) own.stands_open
-    ∙ ap (λ o. refused_if (not (is_owner me o)) Error.NotYours) own.own
-    ∙ ap (λ b. refused_if (not b) Error.NotYours) (owner-self me)
+no-load-fault w me l load own = grind (arith, nat_tests, owner-self)
 
 -- a cause of numbers, where it is asked
 pub number-late : (so : Bool) (last : ℕ) (f : Error) → where_so so (spent last) ≡ Some f → 4 ≤ rank f
-number-late false last f is = absurd (cc)
-number-late true last f is = split (nat_le greatest last) is
-  where
-    split : (b : Bool) → refused_if b Error.NumbersSpent ≡ Some f → 4 ≤ rank f
-    split true is = let a : rank Error.NumbersSpent ≡ rank f = ap (if_there rank 0) is in omega arith
-    split false is = absurd (cc)
+number-late so last f is = grind (arith, nat_tests)
 
 -- a load that may be used, or is another's, is open
 pub open-by : (w : Core) (me : Owner) (l : LoadNumber) → load_fault w me l ≢ Some Error.NoSuchHandle → closed_fault w l ≡ None
-open-by w me l other = by (w.loads l.0) other
-  where
-    by : (o : Option OpenLoad) → if_there (λ (load : OpenLoad). refused_if (not (is_owner me load.owner)) Error.NotYours) (Some Error.NoSuchHandle) o ≢ Some Error.NoSuchHandle
-        → if_there (λ (load : OpenLoad). None) (Some Error.NoSuchHandle) o ≡ None
-    by None other = absurd (other refl)
-    by (Some load) other = refl
+open-by w me l other = grind (arith, nat_tests)
 
 -- memory may be told to be wanting where it was asked for only of an own load
 pub told-later : {cause : Option Error} {full : Type 0} {w w' : Core} {e : Error} (me : Owner) (l : LoadNumber) → Refused cause (load_fault w me l) full w e w' → Refused cause (closed_fault w l) full w e w'

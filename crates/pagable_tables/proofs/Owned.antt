@@ -1,11 +1,8 @@
 -- A handle comes to another owner. What the list has is there.
-use Rattle.pagable_tables.proofs.Words.{◌≡◌, ℕ, ◌+◌, ◌<◌, ◌≤◌, ◌==◌, ◌&&◌, true, false, List, [], length, get_or, sum_by, slice_get, refl, ap, sym, arith, Some, None, Option, nat_tests}
-use Rattle.pagable_tables.proofs.Words.{get_or-le-sum_by, sum_by-le-sum_by, ArcRef, HandleNumber, HandleRow, Owner, one, times, find_row, is_handle, is_owner, is_owned_by, Counts, Place, live}
-use Rattle.pagable_tables.proofs.Words.{alive, IsBefore, Fits, owns_nothing, is_valued}
-use Rattle.std.specs.List.{AllPairs}
-use Rattle.pagable_tables.proofs.Alive.{none-found, only-row}
-use Rattle.pagable_tables.proofs.Coming.{owned-by-none}
-use Rattle.pagable_tables.proofs.Fitting.{pin_of, handle_of, is_owned}
+use Rattle.pagable_tables.proofs.Words.{◌≡◌, ℕ, ◌+◌, ◌<◌, ◌≤◌, ◌==◌, ◌&&◌, true, false, List, [], length, get_or, sum_by, slice_get, refl, arith, Some, None, Option, nat_tests}
+use Rattle.pagable_tables.proofs.Words.{get_or-le-sum_by, sum_by-le-sum_by, ArcRef, HandleNumber, HandleRow, Owner, one, times, find_row, is_handle, is_owner, is_owned_by, Counts, Place}
+use Rattle.pagable_tables.proofs.Words.{live, alive, IsBefore, Fits, owns_nothing, is_valued, AllPairs}
+use Rattle.pagable_tables.proofs.{Alive.none-found, Alive.only-row, Coming.owned-by-none, Fitting.pin_of, Fitting.handle_of, Fitting.is_owned}
 
 abbrev pub owned-by : Owner → HandleRow → HandleRow
 owned-by owner x = record x { owner = owner }
@@ -39,11 +36,7 @@ entry-less q h = grind (arith, nat_tests)
 module _ (list : List HandleNumber) (ss : List Place) (i : ℕ) (h : HandleNumber) (lt : i < length list) (is : h ≡ get_or list i h)
     (listed : times (λ (x : HandleNumber). x.0 == h.0) list ≡ sum_by (entry-at h.0) (live ss)) where
   some-entry : 1 ≤ sum_by (entry-at h.0) (live ss)
-  some-entry =
-      let a = get_or-le-sum_by (λ (x : HandleNumber). one (x.0 == h.0)) list i h lt in
-      let b : one ((get_or list i h).0 == h.0) ≡ one (h.0 == h.0) = ap (λ (x : HandleNumber). one (x.0 == h.0)) (sym is) in
-      let d : one (h.0 == h.0) ≡ 1 = grind (arith, nat_tests) in
-      omega arith
+  some-entry = grind (arith, nat_tests, get_or-le-sum_by)
 
   pub entry-lives : find_row h.0 (live ss) ≡ None → ⊥
   entry-lives none =
@@ -53,9 +46,4 @@ module _ (list : List HandleNumber) (ss : List Place) (i : ℕ) (h : HandleNumbe
       absurd (omega arith)
 
   pub entry-unvalued : (place : ℕ) (row : HandleRow) → AllPairs IsBefore ss → slice_get ss place ≡ Some (alive row) → row.number ≡ h → is_valued row.owner ≡ false
-  entry-unvalued place row ordered at number =
-      let same : row.number.0 ≡ h.0 = ap (λ (x : HandleNumber). x.0) number in
-      let less : (r : HandleRow) → entry-at h.0 r ≤ one (is_handle row.number.0 r) = λ r. (let a = entry-less h.0 r in let b = ap (λ q. one (is_handle q r)) same in omega arith) in
-      let a = only-row (entry-at h.0) ss place row ordered at less in
-      let b = some-entry in
-      list-owner row.owner (grind (arith, nat_tests))
+  entry-unvalued place row ordered at number = grind (arith, nat_tests, entry-less, only-row, some-entry, list-owner)

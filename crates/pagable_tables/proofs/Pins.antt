@@ -1,9 +1,8 @@
 -- A handle is pinned, by a Pinned one that is made and by itself. Why an own handle can't be used.
-use Rattle.pagable_tables.proofs.Words.{◌≡◌, ℕ, ◌+◌, ◌<◌, ◌≤◌, Bool, true, false, List, [], ◌∷◌, ◌++◌, refl, ap, sym, ◌∙◌, subst, arith, Option, Some, None, if◌then◌else◌, not, nat_lt, nat_le}
-use Rattle.pagable_tables.proofs.Words.{nat_tests, Error, HandleNumber, NodeNumber, HandleRow, Owner, Mode, changed, if_there, find_row, is_handle, is_owner, Core, Alike, greatest, row_at}
-use Rattle.pagable_tables.proofs.Words.{earlier, rank, refused_if, spent, where_so, handle_fault, Owns, with_handle, with_mode, row_of}
-use Rattle.pagable_tables.proofs.Coming.{turned}
-use Rattle.pagable_tables.proofs.Worlds.{same-cache}
+use Rattle.pagable_tables.proofs.Words.{◌≡◌, ℕ, ◌+◌, ◌<◌, ◌≤◌, Bool, true, false, List, [], ◌∷◌, ◌++◌, refl, ap, sym, ◌∙◌, arith, Option, Some, None, if◌then◌else◌, not, nat_lt, nat_tests}
+use Rattle.pagable_tables.proofs.Words.{Error, HandleNumber, NodeNumber, HandleRow, Owner, Mode, changed, if_there, find_row, is_handle, is_owner, Core, Alike, row_at, earlier, rank}
+use Rattle.pagable_tables.proofs.Words.{refused_if, spent, where_so, handle_fault, Owns, with_handle, with_mode}
+use Rattle.pagable_tables.proofs.{Worlds.same-cache}
 
 -- a row of another number stays
 pub changed-push : (q : ℕ) (f : HandleRow → HandleRow) (rows : List HandleRow) (x : HandleRow) → q < x.number.0 → changed (is_handle q) f (rows ++ x ∷ []) ≡ changed (is_handle q) f rows ++ x ∷ []
@@ -13,35 +12,13 @@ changed-push q f (y ∷ ys) x less = ap (λ l. (if is_handle q y then f y else y
 -- the tables' cache stays, and so what it gives is told of the whole
 pub pinned-alike : (w u w' : Core) (h : HandleNumber) (node : NodeNumber) (me : Owner) → h.0 ≤ w.last.handle → ((kind key : ℕ) → w'.cache kind key ≡ w.cache kind key)
     → Alike (with_handle w node Mode.Pinned me) u → Alike (with_mode u h Mode.LoosePinned) w' → Alike (with_handle (with_mode w h Mode.LoosePinned) node Mode.Pinned me) w'
-pinned-alike w u w' h node me given cache a b =
-    let x : HandleRow = row_of (w.last.handle + 1) node Mode.Pinned me in
-    let rows = b.rows ∙ ap (changed (is_handle h.0) turned) a.rows ∙ changed-push h.0 turned w.rows x (omega arith) in
-    let v = with_handle (with_mode w h Mode.LoosePinned) node Mode.Pinned me in
-    record {
-      rows = rows;
-      cells = λ n. b.cells n ∙ a.cells n;
-      list = b.list ∙ a.list;
-      cache = same-cache v w' rows (λ n. b.cells n ∙ a.cells n) cache;
-      stored = λ q. b.stored q ∙ a.stored q;
-      closed = b.closed ∙ a.closed;
-      failures = b.failures ∙ a.failures;
-      loads = λ l. b.loads l ∙ a.loads l;
-      workers = λ v. b.workers v ∙ a.workers v;
-      last = b.last ∙ a.last;
-      places = record { handles = omega (arith, a.places.handles, b.places.handles); entries = omega (arith, a.places.entries, b.places.entries) };
-    }
+pinned-alike w u w' h node me given cache a b = grind (arith, nat_tests, changed-push, same-cache)
 
 abbrev fault-of : Owner → (Mode → Bool) → Option HandleRow → Option Error
 fault-of me fits o = if_there (λ (row : HandleRow). if not (is_owner me row.owner) then Some Error.NotYours else refused_if (not (fits row.mode)) Error.WrongMode) (Some Error.NoSuchHandle) o
 
 pub fault-rank : (o : Option HandleRow) (me : Owner) (fits : Mode → Bool) (e : Error) → fault-of me fits o ≡ Some e → rank e ≤ 2
-fault-rank None me fits e is = let same : Error.NoSuchHandle ≡ e = cc in subst (λ x. rank x ≤ 2) same (omega arith)
-fault-rank (Some row) me fits e is = by (is_owner me row.owner) (fits row.mode) is
-  where
-    by : (own asked : Bool) → (if not own then Some Error.NotYours else refused_if (not asked) Error.WrongMode) ≡ Some e → rank e ≤ 2
-    by false asked is = let same : Error.NotYours ≡ e = cc in subst (λ x. rank x ≤ 2) same (omega arith)
-    by true false is = let same : Error.WrongMode ≡ e = cc in subst (λ x. rank x ≤ 2) same (omega arith)
-    by true true is = absurd (cc)
+fault-rank o me fits e is = grind (arith, nat_tests)
 
 -- a cause stands where no earlier one may come
 pub earlier-first : (e : Error) (later : Option Error) → ((f : Error) → later ≡ Some f → rank e ≤ rank f) → earlier (Some e) later ≡ Some e
@@ -55,16 +32,11 @@ handle-first w me h fits e later is late =
     ap (λ x. earlier x later) is ∙ earlier-first e later (λ f so. let a = fault-rank (row_at w h) me fits e is in let b = late f so in omega arith)
 
 pub owner-self : (o : Owner) → is_owner o o ≡ true
-owner-self Owner.Caller = refl
-owner-self Owner.List = refl
-owner-self _ = grind (arith, nat_tests)
+owner-self o = grind (arith, nat_tests)
 
 -- the handle can be used as is asked
 pub no-fault : (w : Core) (me : Owner) (h : HandleNumber) (fits : Mode → Bool) (row : HandleRow) → Owns w me h fits row → handle_fault w me h fits ≡ None
-no-fault w me h fits row o =
-    let own : is_owner me row.owner ≡ true = ap (is_owner me) o.own ∙ owner-self me in
-    let asked = o.as_asked in
-    ap (fault-of me fits) o.live ∙ rw (own, asked) refl
+no-fault w me h fits row o = grind (arith, nat_tests, owner-self)
 
 -- the handle is an own one, of another mode
 pub wrong-mode : (w : Core) (me : Owner) (h : HandleNumber) (fits : Mode → Bool) (row : HandleRow) → row_at w h ≡ Some row → is_owner me row.owner ≡ true → fits row.mode ≡ false
@@ -72,22 +44,13 @@ pub wrong-mode : (w : Core) (me : Owner) (h : HandleNumber) (fits : Mode → Boo
 wrong-mode w me h fits row live own other = ap (fault-of me fits) live ∙ rw (own, other) refl
 
 pub spent-late : (l : ℕ) (b : Bool) (f : Error) → where_so b (spent l) ≡ Some f → 3 < rank f
-spent-late l false f is = absurd (cc)
-spent-late l true f is = by (nat_le greatest l) is
-  where
-    by : (b : Bool) → refused_if b Error.NumbersSpent ≡ Some f → 3 < rank f
-    by false is = absurd (cc)
-    by true is = let same : Error.NumbersSpent ≡ f = cc in subst (λ x. 3 < rank x) same (omega arith)
+spent-late l b f is = grind (arith, nat_tests)
 
 -- who is found stays found when more rows come
 found-more : (q : ℕ) (rows more : List HandleRow) (row : HandleRow) → find_row q rows ≡ Some row → find_row q (rows ++ more) ≡ Some row
 unfolding find_row
 found-more q [] more row is = absurd (cc)
-found-more q (h ∷ hs) more row is = by (is_handle q h) is (found-more q hs more row)
-  where
-    by : (b : Bool) → (if b then Some h else find_row q hs) ≡ Some row → (find_row q hs ≡ Some row → find_row q (hs ++ more) ≡ Some row) → (if b then Some h else find_row q (hs ++ more)) ≡ Some row
-    by true is rest = is
-    by false is rest = rest is
+found-more q (h ∷ hs) more row is = grind (arith, nat_tests, found-more q hs more row)
 
 pub found-again : (q : ℕ) (rows rows' more : List HandleRow) (row : HandleRow) (o : Option HandleRow) → find_row q rows ≡ Some row → rows' ≡ rows ++ more → find_row q rows' ≡ o → o ≡ Some row
 found-again q rows rows' more row o is came again = sym again ∙ ap (find_row q) came ∙ found-more q rows more row is

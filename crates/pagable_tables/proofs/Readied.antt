@@ -1,17 +1,12 @@
 -- A world with more room, and a node that is born in it.
-use Rattle.pagable_tables.proofs.Words.{◌≡◌, ℕ, ◌+◌, ◌<◌, ◌≤◌, true, false, if◌then◌else◌, List, [], ◌∷◌, refl, ap, sym, ◌∙◌, subst, arith, Option, None, inl, inr, Bool, nat_le, vec_capacity}
-use Rattle.pagable_tables.proofs.Words.{nat_tests, IndexMap, OptionalDataKey, Error, ArcRef, HandleNumber, Kind, LoadNumber, NodeNumber, HandleRow, Owner, Mode, Blob, or_else, type_of, mode_of}
-use Rattle.pagable_tables.proofs.Words.{Core, Cell, Places, Alike, HasRoom, greatest, earlier, spent, reference_fault, references_fault, Refused, with_handle, with_node, with_cached, next_node}
-use Rattle.pagable_tables.proofs.Words.{adopted, LoadRow, Holdings, Tables, OnlyRoom, counts_at, refs_at, load_at, known_at, Fits, cell_in, owns_nothing, live, AreSound, core_of, plain_of}
-use Rattle.pagable_tables.proofs.Words.{MayHold, AreLater}
-use Rattle.std.specs.Option.{option_map}
+use Rattle.pagable_tables.proofs.Words.{◌≡◌, ℕ, ◌+◌, ◌<◌, ◌≤◌, true, false, if◌then◌else◌, List, [], ◌∷◌, refl, ap, sym, ◌∙◌, subst, arith, Option, None, inl, inr, Bool, vec_capacity}
+use Rattle.pagable_tables.proofs.Words.{nat_tests, IndexMap, OptionalDataKey, Error, ArcRef, HandleNumber, Kind, LoadNumber, Owner, Mode, Blob, or_else, type_of, mode_of, Core, Places}
+use Rattle.pagable_tables.proofs.Words.{Alike, HasRoom, greatest, earlier, spent, reference_fault, references_fault, Refused, with_handle, with_node, with_cached, next_node, adopted}
+use Rattle.pagable_tables.proofs.Words.{LoadRow, Holdings, Tables, OnlyRoom, counts_at, refs_at, load_at, known_at, Fits, owns_nothing, live, AreSound, core_of, plain_of, MayHold, AreLater}
 use Rattle.pagable_world.specs.Calls.{IsNext}
-use Rattle.pagable_tables.specs.Live as places
 use Rattle.pagable_tables.specs.Core.{IsWhole}
-use Rattle.pagable_tables.proofs.Newer.{newer-alike, later-so}
-use Rattle.pagable_tables.proofs.Worlds.{same-cache}
-use Rattle.pagable_tables.proofs.keeps.Told.{alike-whole}
-use Rattle.pagable_tables.proofs.keeps.Placed.{whole-so}
+use Rattle.pagable_tables.proofs.{Newer.newer-alike, Newer.later-so, keeps.Told.alike-whole, keeps.Placed.whole-so}
+use Rattle.pagable_tables.specs.Live as places
 
 pub room-still : (w : Core) → OnlyRoom w w
 room-still w = record { same = refl; more = record { handles = omega arith; entries = omega arith } }
@@ -24,23 +19,7 @@ room-then {a} {b} {c} p q =
     }
 
 pub room-alike : {w w' : Core} → OnlyRoom w w' → Alike w w'
-room-alike {w} {w'} o = subst (λ (u : Core). Alike w u) (sym o.same) made
-  where
-    made : Alike w (record w { places = w'.places })
-    made =
-        record {
-          rows = refl;
-          cells = λ n. refl;
-          list = refl;
-          cache = same-cache w (record w { places = w'.places }) refl (λ n. refl) (λ kind key. refl);
-          stored = λ q. refl;
-          closed = refl;
-          failures = refl;
-          loads = λ l. refl;
-          workers = λ v. refl;
-          last = refl;
-          places = o.more;
-        }
+room-alike {w} {w'} o = grind (arith, nat_tests)
 
 -- room that was made before is nothing to what comes
 pub alike-past : {m w' : Core} (p : Places) → HasRoom m.places p → Alike (record m { places = p }) w' → Alike m w'
@@ -95,11 +74,7 @@ more-room t t' rows counts known same capacity stored closed failures =
     mid = core_of (record t { holdings = record t.holdings { handles = t'.holdings.handles; nodes = t'.holdings.nodes }; cache = t'.cache }) stored closed failures
 
     all : core_of t' stored closed failures ≡ record w { places = mid.places }
-    all =
-        ap (λ (u : Tables). core_of u stored closed failures) same
-        ∙ (ap (λ (r : List HandleRow). record mid { rows = r }) rows
-        ∙ (ap (λ (f : ℕ → Option Cell). record w { cells = f; cache = mid.cache; places = mid.places }) (λ i n. ap cell_in (counts n) i)
-        ∙ ap (λ (f : ℕ → ℕ → Option ℕ). record w { cache = f; places = mid.places }) (λ i kind key. ap (option_map (λ (n : NodeNumber). n.0)) (known kind key) i)))
+    all = grind (arith, nat_tests)
 
 -- they stay whole
 pub room-whole : (t t' : Tables) → IsWhole t → AreSound t'.holdings.handles → places.IsNext (t'.holdings.last_handle + 1) t'.holdings.handles.places.items
@@ -145,10 +120,7 @@ adopted-past {w} {w1} {w'} l kind key own rs o a = split w.closed (subst (λ (u 
 
 -- numbers are left
 pub not-spent : (n h : ℕ) → n < greatest → h < greatest → earlier (spent n) (spent h) ≡ None
-not-spent n h node handle =
-    let a : nat_le greatest n ≡ false = grind (arith, nat_tests) in
-    let b : nat_le greatest h ≡ false = grind (arith, nat_tests) in
-    rw (a, b) refl
+not-spent n h node handle = grind (arith, nat_tests)
 
 -- where nothing was looked at before, memory may be wanting all the more
 pub weaker : {cause before : Option Error} {w w' : Core} {e : Error} → Refused cause before (Unit {0}) w e w' → Refused cause None (Unit {0}) w e w'

@@ -1,6 +1,6 @@
 -- A handle is made of the node that the cache gives.
-use Rattle.pagable_tables.proofs.Words.{◌≡◌, ℕ, true, ap, ◌∙◌, subst, Ok, Err, Some, inl, inr, is_some, Error, HandleNumber, NodeNumber, Kind, Owner, Mode, mode_of, Core, usable, Alike, where_so}
-use Rattle.pagable_tables.proofs.Words.{spent, with_handle, is_usable, recall_fault, RecallCall, Makes}
+use Rattle.pagable_tables.proofs.Words.{◌≡◌, ℕ, true, ap, ◌∙◌, subst, Ok, Err, Some, inl, inr, is_some, Error, HandleNumber, NodeNumber, Kind, Owner, Mode, mode_of, Core, usable, Alike}
+use Rattle.pagable_tables.proofs.Words.{where_so, spent, with_handle, is_usable, recall_fault, RecallCall, Makes}
 
 module _ (w : Core) (me : Owner) (kind : Kind) (key : ℕ) (node : NodeNumber) (mode : Mode) (w' : Core)
     (is : usable w kind.0 key ≡ Some node.0) (fits : mode ≡ mode_of kind.0) where

@@ -1,29 +1,14 @@
 -- What was given is told by another set. Handles of a load that are left are those that it had and that haven't gone.
-use Rattle.std.proofs.Common.{◌≡◌, ℕ, ◌≤◌, ◌==◌, ◌&&◌, ◌||◌, Bool, true, false, not, if◌then◌else◌, List, [], ◌∷◌, ◌++◌, refl, ap, sym, ◌∙◌, arith, ◌+◌, Some}
-use Rattle.std.proofs.lemmas.Bool.Decides.{nat_tests}
-use Rattle.pagable_model.specs.declared.numbers.LoadNumber.{LoadNumber}
-use Rattle.pagable_world.specs.declared.handles.HandleRow.{HandleRow}
-use Rattle.pagable_world.specs.declared.handles.Owner.TheVariants as owners
-use Rattle.pagable_world.specs.Plain.{one, if_there}
-use Rattle.pagable_world.specs.Kinds.{is_handle, is_owner, is_owned_by, find_row}
-use Rattle.pagable_world.specs.World.{Core}
-use Rattle.pagable_world.specs.Cascade.{left_rows, AreNewEntries}
-use Rattle.pagable_world.specs.LoadCalls.{is_owned_in}
-use Rattle.pagable_tables.specs.declared.holdings.Holdings.{Holdings}
-use Rattle.pagable_tables.specs.Live.{live}
-use Rattle.pagable_tables.specs.Onward.{SoFar}
-use Rattle.pagable_tables.specs.Giving.{passes_in}
-use Rattle.pagable_tables.proofs.Left.{and_one}
-use Rattle.pagable_tables.proofs.Next.{within-less}
+use Rattle.pagable_tables.proofs.Words.{◌≡◌, ℕ, ◌≤◌, ◌==◌, ◌&&◌, ◌||◌, Bool, true, false, not, if◌then◌else◌, List, [], ◌∷◌, ◌++◌, refl, ap, sym, ◌∙◌, arith, ◌+◌, nat_tests, LoadNumber}
+use Rattle.pagable_tables.proofs.Words.{HandleRow, Owner, one, is_handle, is_owner, is_owned_by, find_row, Core, left_rows, AreNewEntries, is_owned_in, Holdings, live, SoFar, passes_in}
+use Rattle.pagable_tables.proofs.{Left.and_one, Next.within-less}
 
 less-unless : (a g b : Bool) → (a ≡ true → (b || g) ≡ true) → one (a && not g) ≤ one (b && not g)
 less-unless true false false h = absurd (let e = h refl in cc)
 less-unless _ _ _ h = omega arith
 
 less-where : (a b s : Bool) → (a ≡ true → b ≡ true) → one (a && not s) ≤ one (b && not s)
-less-where false b s h = omega arith
-less-where true true s h = omega arith
-less-where true false s h = absurd (let e = h refl in cc)
+less-where a b s h = grind (arith, nat_tests)
 
 -- a set that has what was given, and no more but what has gone
 pub regiven : (before w : Core) (given given' : ℕ → Bool) (lists : Bool) (t : Holdings) (f : SoFar before w given lists t) → ((r : ℕ) → given' r ≡ true → (given r || f.gone r) ≡ true) → ((r : ℕ) → given r ≡ true → given' r ≡ true) → SoFar before w given' lists t
@@ -48,10 +33,10 @@ regiven before w given given' lists t f less more =
 
 -- whether the load owns the handle of this number
 abbrev pub loaded : LoadNumber → ℕ → List HandleRow → Bool
-loaded l q rows = passes_in (is_owned_by (owners.Load l)) rows q
+loaded l q rows = passes_in (is_owned_by (Owner.Load l)) rows q
 
-pub unlisting : (l : LoadNumber) (h : HandleRow) → h.owner ≡ owners.List → is_owned_by (owners.Load l) h ≡ false
-unlisting l h is = ap (is_owner (owners.Load l)) is
+pub unlisting : (l : LoadNumber) (h : HandleRow) → h.owner ≡ Owner.List → is_owned_by (Owner.Load l) h ≡ false
+unlisting l h is = ap (is_owner (Owner.Load l)) is
 
 and-none : (b : Bool) → (b && false) ≡ false
 and-none true = refl
@@ -60,23 +45,15 @@ and-none false = refl
 module _ (test : HandleRow → Bool) (q : ℕ) where
   pub passes-here : (x : HandleRow) (xs : List HandleRow) → passes_in test (x ∷ xs) q ≡ (if is_handle q x then test x else passes_in test xs q)
   unfolding find_row
-  passes-here x xs = split (is_handle q x) refl
-    where
-      split : (b : Bool) → is_handle q x ≡ b → if_there test false (if is_handle q x then Some x else find_row q xs) ≡ (if is_handle q x then test x else passes_in test xs q)
-      split true e = rw e refl
-      split false e = rw e refl
+  passes-here x xs = grind (arith, nat_tests)
 
   pub passes-none : passes_in test [] q ≡ false
   unfolding find_row
   passes-none = refl
 
-  pub no-entry : ((h : HandleRow) → h.owner ≡ owners.List → test h ≡ false) → (last : ℕ) (entries : List HandleRow) → AreNewEntries last entries → passes_in test entries q ≡ false
+  pub no-entry : ((h : HandleRow) → h.owner ≡ Owner.List → test h ≡ false) → (last : ℕ) (entries : List HandleRow) → AreNewEntries last entries → passes_in test entries q ≡ false
   no-entry none last [] new = passes-none
-  no-entry none last (x ∷ xs) new = passes-here x xs ∙ split (is_handle q x) (no-entry none (last + 1) xs new.3)
-    where
-      split : (b : Bool) → passes_in test xs q ≡ false → (if b then test x else passes_in test xs q) ≡ false
-      split true rest = none x new.2
-      split false rest = rest
+  no-entry none last (x ∷ xs) new = grind (arith, nat_tests, passes-none, passes-here, no-entry none (last + 1) xs new.3)
 
   module _ (gone : ℕ → Bool) (entries : List HandleRow) where
     module _ (x : HandleRow) (xs : List HandleRow) (rest : passes_in test (left_rows gone xs ++ entries) q ≡ (not (gone q) && passes_in test xs q)) where
@@ -107,13 +84,13 @@ module _ (test : HandleRow → Bool) (q : ℕ) where
     passes-left (x ∷ xs) none = split-left x xs (passes-left xs none) (gone x.number.0) (is_handle q x) refl refl
 
 -- of what passes and isn't an entry, what hasn't gone is there
-pub passes-so-far : (before w : Core) (given : ℕ → Bool) (lists : Bool) (t : Holdings) (f : SoFar before w given lists t) (test : HandleRow → Bool) → ((h : HandleRow) → h.owner ≡ owners.List → test h ≡ false) → (q : ℕ)
+pub passes-so-far : (before w : Core) (given : ℕ → Bool) (lists : Bool) (t : Holdings) (f : SoFar before w given lists t) (test : HandleRow → Bool) → ((h : HandleRow) → h.owner ≡ Owner.List → test h ≡ false) → (q : ℕ)
     → passes_in test (live t.handles.places.items) q ≡ (not (f.gone q) && passes_in test w.rows q)
 passes-so-far before w given lists t f test none q = ap (λ rows. passes_in test rows q) f.rows ∙ passes-left test q f.gone f.entries w.rows (no-entry test q none w.last.handle f.entries f.new)
 
 -- what was given and this handle, if the load owned it
 abbrev pub and_owned : Core → LoadNumber → (ℕ → Bool) → ℕ → ℕ → Bool
-and_owned w l given n q = given q || (q == n && is_owned_in w (owners.Load l) q)
+and_owned w l given n q = given q || (q == n && is_owned_in w (Owner.Load l) q)
 
 -- the load doesn't have the handle now
 pub given-none : (before w : Core) (given : ℕ → Bool) (lists : Bool) (t : Holdings) (l : LoadNumber) (n : ℕ) → SoFar before w given lists t → loaded l n (live t.handles.places.items) ≡ false → SoFar before w (and_owned w l given n) lists t
@@ -134,7 +111,7 @@ given-none before w given lists t l n f none = regiven before w given (and_owned
         split : (b : Bool) → (r == n) ≡ b → (given r || f.gone r) ≡ true
         split true h =
             let m : n ≡ r = grind (arith, nat_tests) in
-            went (f.gone r) (is_owned_in w (owners.Load l) r) (given r) (sym (passes-so-far before w given lists t f (is_owned_by (owners.Load l)) (unlisting l) r) ∙ ap (λ q. loaded l q (live t.handles.places.items)) (sym m) ∙ none) (sym (ap (λ b. given r || (b && is_owned_in w (owners.Load l) r)) h) ∙ e)
+            went (f.gone r) (is_owned_in w (Owner.Load l) r) (given r) (sym (passes-so-far before w given lists t f (is_owned_by (Owner.Load l)) (unlisting l) r) ∙ ap (λ q. loaded l q (live t.handles.places.items)) (sym m) ∙ none) (sym (ap (λ b. given r || (b && is_owned_in w (Owner.Load l) r)) h) ∙ e)
         split false h = grind (arith, nat_tests)
 
 -- the load had the handle, and it was given
@@ -145,11 +122,11 @@ given-one before w given lists t new l n f some g = regiven before w (and_one gi
     had true o e = absurd (cc)
     had false o e = e
 
-    owned : is_owned_in w (owners.Load l) n ≡ true
-    owned = had (f.gone n) _ (sym (passes-so-far before w given lists t f (is_owned_by (owners.Load l)) (unlisting l) n) ∙ some)
+    owned : is_owned_in w (Owner.Load l) n ≡ true
+    owned = had (f.gone n) _ (sym (passes-so-far before w given lists t f (is_owned_by (Owner.Load l)) (unlisting l) n) ∙ some)
 
     less : (r : ℕ) → and_owned w l given n r ≡ true → (and_one given n r || g.gone r) ≡ true
-    less r e = bits (given r) (r == n) (is_owned_in w (owners.Load l) r) (g.gone r) e
+    less r e = bits (given r) (r == n) (is_owned_in w (Owner.Load l) r) (g.gone r) e
       where
         bits : (v b o g : Bool) → (v || (b && o)) ≡ true → ((v || b) || g) ≡ true
         bits v b o g e = grind (arith, nat_tests)
@@ -158,5 +135,5 @@ given-one before w given lists t new l n f some g = regiven before w (and_one gi
     more r e = split (r == n) refl
       where
         split : (b : Bool) → (r == n) ≡ b → and_owned w l given n r ≡ true
-        split true h = let m : n ≡ r = grind (arith, nat_tests) in let o : is_owned_in w (owners.Load l) r ≡ true = ap (is_owned_in w (owners.Load l)) (sym m) ∙ owned in grind (arith, nat_tests)
+        split true h = let m : n ≡ r = grind (arith, nat_tests) in let o : is_owned_in w (Owner.Load l) r ≡ true = ap (is_owned_in w (Owner.Load l)) (sym m) ∙ owned in grind (arith, nat_tests)
         split false h = grind (arith, nat_tests)

@@ -1,6 +1,6 @@
 -- One handle more has gone: what rows are left, where no entry is that handle.
-use Rattle.pagable_tables.proofs.Words.{◌≡◌, ℕ, ◌+◌, ◌&&◌, Bool, not, List, ◌++◌, ap, ◌∙◌, append_assoc, filter-append, HandleRow, times, is_handle, Core, left_rows, only_handle, Holdings, live}
-use Rattle.pagable_tables.proofs.Words.{entries_of, is_listing, Leaves, GivesUp, SoFar}
+use Rattle.pagable_tables.proofs.Words.{◌≡◌, ℕ, ◌+◌, ◌&&◌, Bool, not, List, ◌++◌, ap, ◌∙◌, append_assoc, filter-append, HandleRow, times, is_handle, Core, left_rows, only_handle, Holdings}
+use Rattle.pagable_tables.proofs.Words.{live, entries_of, is_listing, Leaves, GivesUp, SoFar}
 use Rattle.pagable_tables.proofs.Left.{and_one, left-more, left-none}
 
 rows-leaves : (rows entries : List HandleRow) (gone : ℕ → Bool) (old new : Holdings) (x : HandleRow) (wanted listed : Bool) → Leaves old x wanted listed new

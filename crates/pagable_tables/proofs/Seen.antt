@@ -1,7 +1,7 @@
 -- Handles that are named one after the other.
-use Rattle.pagable_tables.proofs.Words.{◌≡◌, ℕ, ◌+◌, ◌<◌, ◌==◌, ◌||◌, Bool, true, false, List, [], ◌∷◌, length, get_or, drop, refl, ap, sym, ◌∙◌, arith, suc, zero, Option, Some, None, not}
-use Rattle.pagable_tables.proofs.Words.{nat_tests, HandleNumber, at_drop_more, at_drop_all, Error, HandleRow, Owner, is_in, if_there, is_owner, find_row, Core, named_fault, refused_if, earlier}
-use Rattle.pagable_tables.proofs.Words.{seen, named_at}
+use Rattle.pagable_tables.proofs.Words.{◌≡◌, ℕ, ◌+◌, ◌<◌, ◌==◌, ◌||◌, true, false, List, [], ◌∷◌, length, get_or, drop, refl, ap, sym, ◌∙◌, arith, suc, zero, Option, Some, None, not}
+use Rattle.pagable_tables.proofs.Words.{nat_tests, HandleNumber, at_drop_more, at_drop_all, Error, HandleRow, Owner, is_in, if_there, is_owner, find_row, Core, named_fault, refused_if}
+use Rattle.pagable_tables.proofs.Words.{earlier, seen, named_at}
 
 pub in-none : (hs : List HandleNumber) (q : ℕ) → is_in (seen hs 0) q ≡ false
 unfolding is_in seen
@@ -17,18 +17,7 @@ in-more hs n q = let e : n + 1 ≡ suc n = omega arith in ap (λ m. is_in (seen 
 
 pub in-there : (hs : List HandleNumber) (m n q : ℕ) → n < m → named_at hs n ≡ q → is_in (seen hs m) q ≡ true
 in-there hs zero n q lt is = absurd (omega arith)
-in-there hs (suc m) n q lt is = in-suc hs m q ∙ split (named_at hs m == q) refl (in-there hs m n q)
-  where
-    split : (b : Bool) → (named_at hs m == q) ≡ b → (n < m → named_at hs n ≡ q → is_in (seen hs m) q ≡ true) → (b || is_in (seen hs m) q) ≡ true
-    split true e rest = refl
-    split false e rest = rest (less e) is
-      where
-        less : (named_at hs m == q) ≡ false → n < m
-        less e = less-than (n == m) refl
-          where
-            less-than : (b : Bool) → (n == m) ≡ b → n < m
-            less-than true h = let s : n ≡ m = grind (arith, nat_tests) in absurd (let a = ap (named_at hs) s in let b : named_at hs m ≡ q = sym a ∙ is in let d : (named_at hs m == q) ≡ true = grind (arith, nat_tests) in cc)
-            less-than false h = let s : (n ≡ m → ⊥) = grind (arith, nat_tests) in omega arith
+in-there hs (suc m) n q lt is = grind (arith, nat_tests, in-suc, in-there hs m n q)
 
 seen-none : (hs : List HandleNumber) → seen hs 0 ≡ []
 unfolding seen

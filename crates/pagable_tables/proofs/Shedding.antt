@@ -1,5 +1,5 @@
 -- Values that go as nodes fall.
-use Rattle.pagable_tables.proofs.Words.{◌≡◌, ℕ, Bool, true, false, [], refl, ap, sym, ◌∙◌, arith, inl, inr, None, Option, if◌then◌else◌, ◌⊎◌, is_some, nat_tests, Counts, Holdings, counts_at}
+use Rattle.pagable_tables.proofs.Words.{◌≡◌, ℕ, Bool, true, false, [], refl, sym, ◌∙◌, arith, inl, inr, None, Option, if◌then◌else◌, ◌⊎◌, is_some, nat_tests, Counts, Holdings, counts_at}
 use Rattle.pagable_tables.proofs.Words.{IsFalling, ValueStays, Sheds, falls_in, has_value, owns_nothing}
 
 -- the value that a node had is there or gone, and it is there exactly where the node has it, unless the node falls
@@ -8,11 +8,7 @@ Lasting o old now = ((now ≡ old) ⊎ (now ≡ None)) × (falls_in o ≡ false 
 
 pub lasts-on : {X : Type 0} (done : Bool) (o o' : Option Counts) (old now now' : Option X) → now' ≡ (if done then None else now) → (done ≡ false → ValueStays o o')
     → (done ≡ true → has_value o' ≡ false) → Lasting o old now → Lasting o' old now'
-lasts-on true o o' old now now' is stays gone l = (inr is, λ falls. ap is_some is ∙ sym (gone refl))
-lasts-on false o o' old now now' is stays gone l = (
-  elim (l.0) [ inl eq ↦ inl (is ∙ eq) | inr eq ↦ inr (is ∙ eq) ],
-  λ falls. let s = stays refl falls in ap is_some is ∙ l.1 s.0 ∙ sym s.1,
-)
+lasts-on done o o' old now now' is stays gone l = grind (arith, nat_tests)
 
 -- nothing falls
 pub none-falls-in : (t : Holdings) → IsFalling t [] owns_nothing → (n : ℕ) → falls_in (counts_at t.nodes n) ≡ false

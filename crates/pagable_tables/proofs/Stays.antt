@@ -1,34 +1,12 @@
 -- A handle that comes and pins stays, while others that are given go with all that follows.
-use Rattle.std.proofs.Common.{◌≡◌, ℕ, ◌<◌, ◌≤◌, ◌==◌, ◌&&◌, ◌++◌, Bool, true, false, not, if◌then◌else◌, List, [], ◌∷◌, refl, ap, sym, ◌∙◌, subst, arith, inl, inr, None}
-use Rattle.std.specs.Prelude.{◌⊎◌, nat_eq, Result, Ok, Err}
-use Rattle.std.specs.List.{AllPairs}
-use Rattle.std.proofs.lemmas.Bool.Decides.{nat_tests}
-use Rattle.std.proofs.lemmas.Bool.{cases_eq}
-use Rattle.std.proofs.lemmas.List.Sums.{sum_by-le-sum_by, sum_by_push, sum_by-append}
-use Rattle.pagable_model.specs.declared.error.Error.{Error}
-use Rattle.pagable_model.specs.declared.error.Error.TheVariants as errors
-use Rattle.pagable_world.specs.declared.handles.HandleRow.{HandleRow}
-use Rattle.pagable_world.specs.Plain.{Among, if_there, one, times, is_loose_kind, is_shared_kind}
-use Rattle.pagable_world.specs.Kinds.{is_handle, is_owner, mode_of, is_at, is_pin, is_share, is_pinning, is_owned_by, owner_value, held, pins, sharing}
-use Rattle.pagable_world.specs.World.{Core, Places, HasRoom, Alike}
-use Rattle.pagable_world.specs.Pager.{IsHandleBefore, HandlesAreWhole}
-use Rattle.pagable_world.specs.Refusals.{references_fault}
-use Rattle.pagable_world.specs.LoadCalls.{is_owned_in}
-use Rattle.pagable_model.specs.declared.numbers.ArcRef.{ArcRef}
-use Rattle.pagable_world.specs.Cascade.{IsLeast, IsWithin, IsClosed, loses_value, pins_outside, held_outside, owned_outside, is_outside, is_keyed, left_rows, MustList, TellsListing, IsPlaceWanting, IsListRefusal, Falls}
-use Rattle.pagable_world.specs.Calls.{is_named_by}
-use Rattle.pagable_tables.specs.Falling.{is_valued}
-use Rattle.pagable_tables.proofs.Coming.{no-value}
-use Rattle.pagable_model.specs.declared.numbers.LoadNumber.{LoadNumber}
-use Rattle.pagable_world.specs.declared.handles.Owner.TheVariants as owners
-use Rattle.pagable_world.specs.declared.rows.Mode.TheVariants as modes
-use Rattle.pagable_tables.proofs.Regiven.{loaded, passes-here, passes-none}
-use Rattle.pagable_tables.proofs.Left.{times-left}
-use Rattle.pagable_tables.proofs.Next.{within-less}
-use Rattle.pagable_tables.proofs.Dropped.{owned-given}
-use Rattle.pagable_tables.proofs.keeps.BirthCalls.{named-mine}
-use Rattle.pagable_tables.proofs.keeps.Rows.{counted, at-most-sum, once, among-last}
-use Rattle.pagable_tables.proofs.Pins.{owner-self}
+use Rattle.pagable_tables.proofs.Words.{◌≡◌, ℕ, ◌<◌, ◌≤◌, ◌==◌, ◌&&◌, ◌++◌, Bool, true, false, not, if◌then◌else◌, List, [], ◌∷◌, refl, ap, sym, ◌∙◌, subst, arith, inl, inr, None, ◌⊎◌}
+use Rattle.pagable_tables.proofs.Words.{nat_eq, Result, Ok, Err, AllPairs, nat_tests, cases_eq, sum_by-le-sum_by, sum_by_push, sum_by-append, Error, HandleRow, Among, if_there, one, times}
+use Rattle.pagable_tables.proofs.Words.{is_loose_kind, is_owner, mode_of, is_at, is_pin, is_share, is_pinning, is_owned_by, owner_value, held, pins, sharing, Core, Places, HasRoom, Alike}
+use Rattle.pagable_tables.proofs.Words.{IsHandleBefore, HandlesAreWhole, references_fault, is_owned_in, ArcRef, IsLeast, IsWithin, IsClosed, loses_value, pins_outside, held_outside}
+use Rattle.pagable_tables.proofs.Words.{owned_outside, is_outside, is_keyed, left_rows, MustList, TellsListing, IsPlaceWanting, IsListRefusal, Falls, is_named_by, is_valued, LoadNumber}
+use Rattle.pagable_tables.proofs.Words.{Owner}
+use Rattle.pagable_tables.proofs.{Coming.no-value, Regiven.loaded, Regiven.passes-here, Regiven.passes-none, Left.times-left, Dropped.owned-given, keeps.BirthCalls.named-mine}
+use Rattle.pagable_tables.proofs.{keeps.Rows.counted, keeps.Rows.at-most-sum, keeps.Rows.once, keeps.Rows.among-last, Pins.owner-self}
 
 zero-or : (n : ℕ) → (n ≡ 0) ⊎ (0 < n)
 zero-or n = elim (cases_eq n 0) [ inl e ↦ inl e | inr e ↦ inr (omega arith) ]
@@ -40,17 +18,10 @@ module _ (rows : List HandleRow) (keyed : ℕ → Bool) (entries : List HandleRo
   less q = s q && not (q == x.number.0)
 
   given-less : IsWithin rows given less
-  given-less = within-less given less given s rows (λ r. split r (r == x.number.0) refl) least.holds
-    where
-      split : (r : ℕ) (b : Bool) → (r == x.number.0) ≡ b → one (given r && not (less r)) ≤ one (given r && not (s r))
-      split r true e = let n : r ≡ x.number.0 = grind (arith, nat_tests) in let g : given r ≡ false = ap given n ∙ kept in grind (arith, nat_tests)
-      split r false e = grind (arith, nat_tests)
+  given-less = grind (arith, nat_tests)
 
   fewer : (f : HandleRow → Bool) → times (λ h. f h && is_outside s h) rows ≤ times (λ h. f h && is_outside less h) rows
-  fewer f = sum_by-le-sum_by (λ h. one (f h && is_outside s h)) (λ h. one (f h && is_outside less h)) rows (λ h. bits (f h) (s h.number.0) (h.number.0 == x.number.0))
-    where
-      bits : (f s e : Bool) → one (f && not s) ≤ one (f && not (s && not e))
-      bits f s e = grind (arith, nat_tests)
+  fewer f = grind (arith, nat_tests, sum_by-le-sum_by)
 
   loses : (n : ℕ) → loses_value rows keyed entries less n ≡ true → loses_value rows keyed entries s n ≡ true
   loses n e = split (keyed n) e
@@ -91,9 +62,7 @@ wanting u w' places more (inl full) = inl (let m = more.handles in omega arith)
 wanting u w' places more (inr full) = inr (let m = more.entries in omega arith)
 
 refusal : (u w' : Core) (places : Places) → HasRoom u.places places → (e : Error) → IsListRefusal (record u { places = places }) w' e → IsListRefusal u w' e
-refusal u w' places more errors.NumbersSpent r = r
-refusal u w' places more errors.OutOfMemory r = (wanting u w' places more r.0, r.1)
-refusal u w' places more _ r = absurd r
+refusal u w' places more h r = grind (arith, nat_tests)
 
 -- why a cell must be listed, seen from another world before
 module _ {b w u w' : Core} {given : ℕ → Bool} {r : Result (Unit {0}) Error} (places : Places) (more : HasRoom u.places places)
@@ -109,31 +78,7 @@ module _ {b w u w' : Core} {given : ℕ → Bool} {r : Result (Unit {0}) Error} 
   telling (Err e) t = let n = t.not_all in record { all = tt; not_all = (n.0, there n.0 n.1, n.2, refusal u w' places more e n.3) }
 
   pub seen-before : Falls w u given r w'
-  seen-before =
-      let a = falls.leaves in
-      record {
-        gone = falls.gone;
-        entries = falls.entries;
-        set = falls.set;
-        new = falls.new;
-        only = λ n some. let o = falls.only n some in (there n o.0, o.1);
-        each = λ n m. elim (falls.each n (back n m)) [ inl one ↦ inl one | inr cannot ↦ inr (elim cannot [ inl spent ↦ inl spent | inr full ↦ inr (wanting u w' places more full) ]) ];
-        tells = telling r falls.tells;
-        within = falls.within;
-        leaves = record {
-          rows = a.rows;
-          cells = a.cells;
-          list = a.list;
-          cache = record { gives = a.cache.gives; only = a.cache.only };
-          stored = a.stored;
-          closed = a.closed;
-          failures = a.failures;
-          loads = a.loads;
-          workers = a.workers;
-          last = a.last;
-          places = record { handles = (let m = more.handles in let p = a.places.handles in omega arith); entries = (let m = more.entries in let p = a.places.entries in omega arith) };
-        };
-      }
+  seen-before = grind (arith, nat_tests)
 
 -- where a handle of w has come that pins and stays, pins go to 0 just where they would have
 pub stays-pinned : (w u w' : Core) (given : ℕ → Bool) (r : Result (Unit {0}) Error) (x : HandleRow) → u.rows ≡ w.rows ++ x ∷ [] → AllPairs IsHandleBefore u.rows → is_valued x.owner ≡ false → is_pinning x.mode ≡ true → given x.number.0 ≡ false → Falls u u given r w'
@@ -164,46 +109,24 @@ stays-pinned w u w' given r x rows ordered plain pinning kept falls n none = spl
 
 -- a world that is told alike, with the same cache, has but more room
 pub retold : (u b : Core) → Alike u b → b.cache ≡ u.cache → b ≡ record u { places = b.places }
-retold u b a cache =
-    λ i. record {
-      rows = a.rows i;
-      cells = λ n. a.cells n i;
-      list = a.list i;
-      cache = cache i;
-      stored = λ q. a.stored q i;
-      closed = a.closed i;
-      failures = a.failures i;
-      loads = λ l. a.loads l i;
-      workers = λ v. a.workers v i;
-      last = a.last i;
-      places = b.places;
-    }
+retold u b a cache = grind (arith, nat_tests)
 
 pub eager-pins : (kind : ℕ) → is_loose_kind kind ≡ false → is_pinning (mode_of kind) ≡ true
-eager-pins kind eager = split (is_shared_kind kind) (is_loose_kind kind) eager
-  where
-    split : (s l : Bool) → l ≡ false → is_pinning (if s then modes.Shared else if l then modes.LooseUnpinned else modes.Pinned) ≡ true
-    split true l e = refl
-    split false false e = refl
-    split false true e = absurd (cc)
+eager-pins kind eager = grind (arith, nat_tests)
 
 pub loaded-append : (l : LoadNumber) (q : ℕ) (rows more : List HandleRow) → loaded l q rows ≡ true → loaded l q (rows ++ more) ≡ true
-loaded-append l q [] more own = absurd (let a = passes-none (is_owned_by (owners.Load l)) q in cc)
-loaded-append l q (x ∷ xs) more own = passes-here (is_owned_by (owners.Load l)) q x (xs ++ more) ∙ split (is_handle q x) (sym (passes-here (is_owned_by (owners.Load l)) q x xs) ∙ own) (loaded-append l q xs more)
-  where
-    split : (b : Bool) → (if b then is_owner (owners.Load l) x.owner else loaded l q xs) ≡ true → (loaded l q xs ≡ true → loaded l q (xs ++ more) ≡ true) → (if b then is_owner (owners.Load l) x.owner else loaded l q (xs ++ more)) ≡ true
-    split true own rest = own
-    split false own rest = rest own
+loaded-append l q [] more own = absurd (let a = passes-none (is_owned_by (Owner.Load l)) q in cc)
+loaded-append l q (x ∷ xs) more own = grind (arith, nat_tests, passes-none, passes-here, loaded-append l q xs more)
 
 -- what references name that are good is the load's, and was given
-pub named-loaded : (w : Core) (l : LoadNumber) (refs : List ArcRef) → references_fault w (owners.Load l) [] refs ≡ None → (q : ℕ) → is_named_by refs q ≡ true → is_owned_in w (owners.Load l) q ≡ true
+pub named-loaded : (w : Core) (l : LoadNumber) (refs : List ArcRef) → references_fault w (Owner.Load l) [] refs ≡ None → (q : ℕ) → is_named_by refs q ≡ true → is_owned_in w (Owner.Load l) q ≡ true
 named-loaded w l refs good q named =
-    let m = named-mine w (owners.Load l) [] refs good q named in
-    ap (if_there (is_owned_by (owners.Load l)) false) m.live ∙ ap (is_owner (owners.Load l)) m.own ∙ owner-self (owners.Load l)
+    let m = named-mine w (Owner.Load l) [] refs good q named in
+    ap (if_there (is_owned_by (Owner.Load l)) false) m.live ∙ ap (is_owner (Owner.Load l)) m.own ∙ owner-self (Owner.Load l)
 
-pub not-named : (w : Core) (l : LoadNumber) (refs : List ArcRef) → HandlesAreWhole w → references_fault w (owners.Load l) [] refs ≡ None → (q : ℕ) → w.last.handle < q → is_named_by refs q ≡ false
+pub not-named : (w : Core) (l : LoadNumber) (refs : List ArcRef) → HandlesAreWhole w → references_fault w (Owner.Load l) [] refs ≡ None → (q : ℕ) → w.last.handle < q → is_named_by refs q ≡ false
 not-named w l refs whole good q above = split (is_named_by refs q) refl
   where
     split : (b : Bool) → is_named_by refs q ≡ b → b ≡ false
     split false e = refl
-    split true e = absurd (let g = owned-given w (owners.Load l) q whole (named-loaded w l refs good q e) in omega arith)
+    split true e = absurd (let g = owned-given w (Owner.Load l) q whole (named-loaded w l refs good q e) in omega arith)

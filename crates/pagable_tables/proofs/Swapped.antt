@@ -1,17 +1,12 @@
 -- A handle comes, and then another is given up: the new one stays, so that cells are listed as of the world before it came.
-use Rattle.pagable_tables.proofs.Words.{◌≡◌, ℕ, ◌+◌, ◌<◌, ◌≤◌, ◌==◌, ◌&&◌, Bool, true, false, [], ◌∷◌, refl, ap, sym, ◌∙◌, subst, arith, Ok, Err, Option, Some, None, inl, inr, if◌then◌else◌}
-use Rattle.pagable_tables.proofs.Words.{Result, not, nat_lt, nat_eq, nat_tests, sum_by_push, sum_by-append, sum_by-le-sum_by, Error, NodeNumber, HandleRow, Owner, Mode, Blob, Among, one, times}
-use Rattle.pagable_tables.proofs.Words.{if_there, is_handle, has_key, is_at, is_pin, is_share, is_pinning, is_shared, is_owner, is_owned_by, owner_value, held, pins, sharing, HandleNumber}
-use Rattle.pagable_tables.proofs.Words.{OptionalDataKey, Core, Cell, Last, Alike, Falls, IsClosed, IsWithin, MustList, TellsListing, is_keyed, nobody, pins_outside, held_outside, left_rows}
-use Rattle.pagable_tables.proofs.Words.{row_of, with_handle, Counts, Tables, live, counts_at, ValueStays, cell_in, has_value, is_valued, pins_in, SoFar, is_plain_pin, core_of}
+use Rattle.pagable_tables.proofs.Words.{◌≡◌, ℕ, ◌+◌, ◌<◌, ◌≤◌, ◌==◌, ◌&&◌, Bool, true, false, [], ◌∷◌, refl, ap, sym, ◌∙◌, subst, arith, Ok, Err, Option, None, inl, inr, if◌then◌else◌}
+use Rattle.pagable_tables.proofs.Words.{Result, not, nat_eq, nat_tests, sum_by_push, sum_by-append, sum_by-le-sum_by, Error, NodeNumber, HandleRow, Owner, Mode, Blob, Among, one, times}
+use Rattle.pagable_tables.proofs.Words.{is_handle, is_at, is_pin, is_share, is_pinning, is_shared, is_owner, is_owned_by, owner_value, held, pins, sharing, HandleNumber, Core, Last, Alike}
+use Rattle.pagable_tables.proofs.Words.{Falls, IsClosed, IsWithin, MustList, TellsListing, is_keyed, nobody, pins_outside, held_outside, left_rows, row_of, with_handle, Counts, Tables, live}
+use Rattle.pagable_tables.proofs.Words.{counts_at, ValueStays, cell_in, has_value, is_valued, pins_in, SoFar, is_plain_pin, core_of}
 use Rattle.pagable_tables.specs.Core.{IsWhole}
-use Rattle.pagable_tables.proofs.Begun.{begins, begun}
-use Rattle.pagable_tables.proofs.Forced.{keyed-cell}
-use Rattle.pagable_tables.proofs.Left.{times-left}
-use Rattle.pagable_tables.proofs.Next.{within-less}
-use Rattle.pagable_tables.proofs.Shedding.{none-falls-in}
-use Rattle.pagable_tables.proofs.keeps.Rests.{within-goes}
-use Rattle.pagable_tables.proofs.keeps.Rows.{among-both, among-one, among-last, at-most-sum, sum-none}
+use Rattle.pagable_tables.proofs.{Begun.begins, Begun.begun, Left.times-left, Shedding.none-falls-in, keeps.Rests.within-goes, keeps.Rows.among-both, keeps.Rows.among-one}
+use Rattle.pagable_tables.proofs.{keeps.Rows.among-last, keeps.Rows.at-most-sum, keeps.Rows.sum-none}
 
 -- a handle that doesn't pin isn't Shared
 unshared : (b : Bool) (mode : Mode) → (b && is_pinning mode) ≡ false → (b && is_shared mode) ≡ false
@@ -34,11 +29,7 @@ module _ (w : Core) (node : NodeNumber) (mode : Mode) (me : Owner) (numbered : (
     without q = f.gone q && not (q == k)
 
     holds : IsWithin u.rows given without
-    holds = within-less given without given f.gone u.rows (λ q. at q (q == k) refl) f.set.holds
-      where
-        at : (q : ℕ) (b : Bool) → (q == k) ≡ b → one (given q && not (f.gone q && not (q == k))) ≤ one (given q && not (f.gone q))
-        at q true e = let m : q ≡ k = grind (arith, nat_tests) in let g : given q ≡ false = ap given m ∙ spared in grind (arith, nat_tests)
-        at q false e = grind (arith, nat_tests)
+    holds = grind (arith, nat_tests)
 
     lost-more : (n : ℕ) (b : Bool) → (if b then nat_eq (pins_outside u.rows without n) 0 else nat_eq (held n f.entries) 0 && nat_eq (held_outside u.rows without n) 0) ≡ true
         → (if b then nat_eq (pins_outside u.rows f.gone n) 0 else nat_eq (held n f.entries) 0 && nat_eq (held_outside u.rows f.gone n) 0) ≡ true
@@ -77,12 +68,7 @@ module _ (w : Core) (node : NodeNumber) (mode : Mode) (me : Owner) (numbered : (
     stays = at (f.gone k) refl
       where
         both : (a b : Bool) → b ≡ true → (a && not b) ≡ true → false ≡ true
-        both a true e is = absurd (and-false a is)
-          where
-            and-false : (a : Bool) → (a && false) ≡ true → ⊥
-            and-false true e = cc
-            and-false false e = cc
-        both a false e is = e
+        both a b e is = grind (arith, nat_tests)
 
         at : (b : Bool) → f.gone k ≡ b → f.gone k ≡ false
         at false e = e
@@ -105,21 +91,11 @@ module _ (w : Core) (node : NodeNumber) (mode : Mode) (me : Owner) (numbered : (
 
     must : (n : ℕ) (b : Bool) → is_pin n x ≡ b → MustList u u w' n → MustList w u w' n
     must n true is m = let a = pinned n is in let b = m.unpinned in absurd (omega arith)
-    must n false is m =
-        let a = same-pins n is in
-        let b = same-shares n is in
-        let p = m.pinned in
-        let s = m.unshared in
-        record { pinned = omega arith; unpinned = m.unpinned; unkeyed = m.unkeyed; unshared = omega arith; stands_open = m.stands_open }
+    must n false is m = grind (arith, nat_tests, same-pins, same-shares)
 
     back : (n : ℕ) (b : Bool) → is_pin n x ≡ b → MustList w u w' n → MustList u u w' n
     back n true is m = let a = pinned n is in let b = m.unpinned in absurd (omega arith)
-    back n false is m =
-        let a = same-pins n is in
-        let b = same-shares n is in
-        let p = m.pinned in
-        let s = m.unshared in
-        record { pinned = omega arith; unpinned = m.unpinned; unkeyed = m.unkeyed; unshared = omega arith; stands_open = m.stands_open }
+    back n false is m = grind (arith, nat_tests, same-pins, same-shares)
 
     told : (r : Result (Unit {0}) Error) → TellsListing u u f.entries r w' → TellsListing w u f.entries r w'
     told (Ok v) t = record { all = λ n m. t.all n (back n (is_pin n x) refl m); not_all = tt }
@@ -140,27 +116,12 @@ module _ (w : Core) (node : NodeNumber) (mode : Mode) (me : Owner) (numbered : (
         }
 
 pub same-value : (o o' : Option Counts) (b : Bool) → cell_in o' ≡ cell_in o → pins_in o' ≡ pins_in o + one b → (b ≡ true → has_value o ≡ true) → has_value o' ≡ has_value o
-same-value None None b cell pinned there = refl
-same-value None (Some c') b cell pinned there = absurd (cc)
-same-value (Some c) None b cell pinned there = absurd (cc)
-same-value (Some c) (Some c') b cell pinned there = by b pinned there
-  where
-    keyed : nat_lt 0 c'.key ≡ nat_lt 0 c.key
-    keyed = sym (keyed-cell c'.key) ∙ ap (λ (o : Option Cell). has_key (if_there (λ (y : Cell). y.key) OptionalDataKey.None o)) cell ∙ keyed-cell c.key
-
-    by : (b : Bool) → c'.pins ≡ c.pins + one b → (b ≡ true → has_value (Some c) ≡ true) → has_value (Some c') ≡ has_value (Some c)
-    by true pinned there = let e = there refl in grind (arith, nat_tests)
-    by false pinned there = grind (arith, nat_tests)
+same-value o o' b cell pinned there = grind (arith, nat_tests)
 
 -- where rows and cells stay no value comes or goes
 pub values-still : (t new : Tables) → IsWhole t → IsWhole new → live new.holdings.handles.places.items ≡ live t.holdings.handles.places.items
     → ((n : ℕ) → cell_in (counts_at new.holdings.nodes n) ≡ cell_in (counts_at t.holdings.nodes n)) → (n : ℕ) → ValueStays (counts_at t.holdings.nodes n) (counts_at new.holdings.nodes n)
-values-still t new was after rows cells n falls = (
-  none-falls-in t.holdings was.steady n,
-  same-value (counts_at t.holdings.nodes n) (counts_at new.holdings.nodes n) false (cells n)
-      (let p = was.steady.fits.pinned n in let q = after.steady.fits.pinned n in let s = ap (pins n) rows in omega arith)
-      (λ e. absurd (cc)),
-)
+values-still t new was after rows cells n falls = grind (arith, nat_tests)
 
 module _ (t new : Tables) (stored : ℕ → Option Blob) (failures : ℕ) (node : NodeNumber) (mode : Mode) (me : Owner) (after : IsWhole new)
     (a : Alike (with_handle (core_of t stored false failures) node mode me) (core_of new stored false failures)) where

@@ -1,19 +1,12 @@
 -- A load hands handles over, and gives up the rest.
-use Rattle.pagable_tables.proofs.Words.{◌≡◌, ℕ, ◌<◌, ◌==◌, ◌&&◌, Bool, true, false, not, if◌then◌else◌, List, [], ◌∷◌, length, refl, ap, sym, ◌∙◌, subst, arith, Option, Some, None, inl, inr}
-use Rattle.pagable_tables.proofs.Words.{nat_tests, sum_by-cons, HandleNumber, LoadNumber, HandleRow, Owner, Blob, Among, one, times, if_there, is_in, is_handle, is_owner, is_owned_by, is_pin}
-use Rattle.pagable_tables.proofs.Words.{is_share, find_row, pins, Core, OpenLoad, HasRoom, MayOwnLoad, earlier, load_fault, named_fault, nobody, moved, without_load, numbers_of, cell_fault}
-use Rattle.pagable_tables.proofs.Words.{hand_over_fault, Tables, Holdings, live, is_valued, with_tables, is_plain_pin, SoFar, core_of, named_at, IsNamed}
-use Rattle.pagable_world.specs.Pager as pager
+use Rattle.pagable_tables.proofs.Words.{◌≡◌, ℕ, ◌<◌, ◌==◌, ◌&&◌, Bool, true, false, not, if◌then◌else◌, List, [], ◌∷◌, length, refl, ap, sym, ◌∙◌, subst, arith, Option, None, inl, inr}
+use Rattle.pagable_tables.proofs.Words.{nat_tests, sum_by-cons, HandleNumber, LoadNumber, HandleRow, Owner, Blob, Among, one, times, is_in, is_handle, is_owner, is_owned_by, is_pin}
+use Rattle.pagable_tables.proofs.Words.{is_share, find_row, pins, Core, HasRoom, MayOwnLoad, load_fault, named_fault, nobody, moved, without_load, numbers_of, hand_over_fault, Tables}
+use Rattle.pagable_tables.proofs.Words.{Holdings, live, is_valued, with_tables, is_plain_pin, SoFar, core_of, named_at, IsNamed}
 use Rattle.pagable_tables.specs.Core.{IsWhole}
-use Rattle.pagable_tables.proofs.Begun.{begins, begun}
-use Rattle.pagable_tables.proofs.Handed.{seen-all}
-use Rattle.pagable_tables.proofs.Regiven.{loaded}
-use Rattle.pagable_tables.proofs.Seen.{in-there}
-use Rattle.pagable_tables.proofs.keeps.Comes.{not-list}
-use Rattle.pagable_tables.proofs.keeps.EndCalls.{both-none, handed-mine, asker-owns}
-use Rattle.pagable_tables.proofs.keeps.LoadCalls.{may-hold}
-use Rattle.pagable_tables.proofs.keeps.Moved.{moved-to-holder}
-use Rattle.pagable_tables.proofs.keeps.Rows.{found-among, once}
+use Rattle.pagable_tables.proofs.{Begun.begins, Begun.begun, Handed.seen-all, Regiven.loaded, Seen.in-there, keeps.Comes.not-list, keeps.EndCalls.both-none, keeps.EndCalls.handed-mine}
+use Rattle.pagable_tables.proofs.{keeps.EndCalls.asker-owns, keeps.LoadCalls.may-hold, keeps.Moved.moved-to-holder, keeps.Rows.found-among, keeps.Rows.once}
+use Rattle.pagable_world.specs.Pager as pager
 
 -- what is counted of handles whoever owns them
 pub moved-times : (f : HandleRow → Bool) (s : ℕ → Bool) (o : Owner) (rows : List HandleRow) → ((x : HandleRow) → f (record x { owner = o }) ≡ f x) → times f (moved s o rows) ≡ times f rows
@@ -33,38 +26,11 @@ moved-times f s o (x ∷ xs) same =
 pub loaded-moved : (s : ℕ → Bool) (o : Owner) (l : LoadNumber) (q : ℕ) (rows : List HandleRow) → is_owner (Owner.Load l) o ≡ false → loaded l q (moved s o rows) ≡ (loaded l q rows && not (s q))
 unfolding find_row
 loaded-moved s o l q [] other = refl
-loaded-moved s o l q (x ∷ xs) other = split (s x.number.0) (is_handle q x) refl refl (loaded-moved s o l q xs other)
-  where
-    and-none : (b : Bool) → (b && false) ≡ false
-    and-none true = refl
-    and-none false = refl
-
-    and-all : (b : Bool) → (b && true) ≡ b
-    and-all true = refl
-    and-all false = refl
-
-    same : is_handle q x ≡ true → s q ≡ s x.number.0
-    same e = let n : q ≡ x.number.0 = grind (arith, nat_tests) in ap s n
-
-    split : (a b : Bool) → s x.number.0 ≡ a → is_handle q x ≡ b → loaded l q (moved s o xs) ≡ (loaded l q xs && not (s q)) → loaded l q (moved s o (x ∷ xs)) ≡ (loaded l q (x ∷ xs) && not (s q))
-    split true true e f rest =
-        ap (λ a. loaded l q ((if a then record x { owner = o } else x) ∷ moved s o xs)) e ∙ ap (λ b. if_there (is_owned_by (Owner.Load l)) false (if b then Some (record x { owner = o }) else find_row q (moved s o xs))) f ∙ other
-        ∙ sym (ap (λ b. loaded l q (x ∷ xs) && not b) (same f ∙ e) ∙ and-none (loaded l q (x ∷ xs)))
-    split true false e f rest =
-        ap (λ a. loaded l q ((if a then record x { owner = o } else x) ∷ moved s o xs)) e ∙ ap (λ b. if_there (is_owned_by (Owner.Load l)) false (if b then Some (record x { owner = o }) else find_row q (moved s o xs))) f ∙ rest
-        ∙ sym (ap (λ b. if_there (is_owned_by (Owner.Load l)) false (if b then Some x else find_row q xs) && not (s q)) f)
-    split false true e f rest =
-        ap (λ a. loaded l q ((if a then record x { owner = o } else x) ∷ moved s o xs)) e ∙ ap (λ b. if_there (is_owned_by (Owner.Load l)) false (if b then Some x else find_row q (moved s o xs))) f
-        ∙ sym (ap (λ b. if_there (is_owned_by (Owner.Load l)) false (if b then Some x else find_row q xs) && not (s q)) f ∙ ap (λ b. is_owner (Owner.Load l) x.owner && not b) (same f ∙ e) ∙ and-all (is_owner (Owner.Load l) x.owner))
-    split false false e f rest =
-        ap (λ a. loaded l q ((if a then record x { owner = o } else x) ∷ moved s o xs)) e ∙ ap (λ b. if_there (is_owned_by (Owner.Load l)) false (if b then Some x else find_row q (moved s o xs))) f ∙ rest
-        ∙ sym (ap (λ b. if_there (is_owned_by (Owner.Load l)) false (if b then Some x else find_row q xs) && not (s q)) f)
+loaded-moved s o l q (x ∷ xs) other = grind (arith, nat_tests, loaded-moved s o l q xs other)
 
 -- who began a load isn't one, nor a value
 pub no-load : (w : Core) (o : Owner) (l : LoadNumber) → MayOwnLoad w o → is_owner (Owner.Load l) o ≡ false
-no-load w Owner.Caller l may = refl
-no-load w (Owner.Worker v) l may = refl
-no-load w _ l may = absurd may
+no-load w o l may = grind (arith, nat_tests)
 
 -- the world after handles have moved, without the load
 abbrev pub moved-less : Core → LoadNumber → (ℕ → Bool) → Owner → Core
@@ -98,10 +64,7 @@ pub record MayHand (w : Core) (me : Owner) (l : LoadNumber) (hs : List HandleNum
   pub named : named_fault w (Owner.Load l) [] hs ≡ None
 
 pub may-hand : {w : Core} → pager.IsWhole w → (me : Owner) (l : LoadNumber) (hs : List HandleNumber) → hand_over_fault w me l hs ≡ None → MayHand w me l hs
-may-hand {w} whole me l hs good =
-    let first = both-none (load_fault w me l) (earlier (if_there (λ (load : OpenLoad). cell_fault load.root) None (w.loads l.0)) (named_fault w (Owner.Load l) [] hs)) good in
-    let second = both-none (if_there (λ (load : OpenLoad). cell_fault load.root) None (w.loads l.0)) (named_fault w (Owner.Load l) [] hs) first.1 in
-    record { own = first.0; may = asker-owns whole me l first.0; named = second.1 }
+may-hand {w} whole me l hs good = grind (arith, nat_tests, both-none, asker-owns)
 
 pub named-there : (w : Core) (l : LoadNumber) (hs : List HandleNumber) → named_fault w (Owner.Load l) [] hs ≡ None → (place : ℕ) → place < length hs → IsNamed w.rows (named_at hs place)
 named-there w l hs good place lt =

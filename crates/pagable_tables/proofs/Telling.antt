@@ -1,25 +1,19 @@
 -- A handle has gone and an entry may have come: entries stand for what must be listed, and the answer tells of it.
 use Rattle.pagable_tables.proofs.Words.{◌≡◌, ℕ, ◌+◌, ◌<◌, ◌≤◌, ◌&&◌, Bool, true, false, if◌then◌else◌, ◌++◌, length, refl, ap, sym, ◌∙◌, subst, arith, inl, inr, Option, Some, None, ◌⊎◌}
-use Rattle.pagable_tables.proofs.Words.{vec_capacity, cases_Bool, cases_eq, and_parts, nat_tests, Error, NodeNumber, HandleRow, one, times, is_at, is_pin, held, pins, Core, MustList}
-use Rattle.pagable_tables.proofs.Words.{TellsListing, IsListRefusal, Counts, Holdings, live, counts_at, pins_in, entry, entries_of, is_listing, IsUnlisted, first_cause, with_tables, told_by}
-use Rattle.pagable_tables.proofs.Words.{SoFar}
-use Rattle.pagable_tables.proofs.Leaving.{with-entry}
-use Rattle.pagable_tables.proofs.Wanted.{listing-is, must-now, must-before}
+use Rattle.pagable_tables.proofs.Words.{vec_capacity, cases_Bool, and_parts, nat_tests, Error, NodeNumber, HandleRow, one, times, is_at, is_pin, held, pins, Core, MustList, TellsListing}
+use Rattle.pagable_tables.proofs.Words.{IsListRefusal, Counts, Holdings, live, counts_at, pins_in, entry, entries_of, is_listing, IsUnlisted, first_cause, with_tables, told_by, SoFar}
+use Rattle.pagable_tables.proofs.{Leaving.with-entry, Wanted.listing-is, Wanted.must-now, Wanted.must-before}
 
 -- a cause stays
 refusal-kept : (w : Core) (t new : Holdings) (e : Error) → IsListRefusal w (with_tables w t) e → t.last_handle ≤ new.last_handle → length t.list.items ≤ length new.list.items
     → IsListRefusal w (with_tables w new) e
-refusal-kept w t new Error.NumbersSpent r last list = omega arith
-refusal-kept w t new Error.OutOfMemory r last list = (elim r.0 [ inl rows ↦ inl rows | inr entries ↦ inr (omega arith) ], r.1)
-refusal-kept w t new _ r last list = absurd r
+refusal-kept w t new e r last list = grind (arith, nat_tests)
 
 -- why an entry couldn't come now
 pub refusal-now : (w : Core) (b new : Holdings) (e : Error) → IsUnlisted b e → new.last_handle ≡ b.last_handle → length b.list.items ≤ length new.list.items
     → w.last.handle ≤ b.last_handle → w.places.handles ≤ vec_capacity b.handles.places → w.places.entries ≤ vec_capacity b.list
     → length (live b.handles.places.items) ≤ length w.rows → IsListRefusal w (with_tables w new) e
-refusal-now w b new Error.NumbersSpent why last list since handles entries rows = omega arith
-refusal-now w b new Error.OutOfMemory why last list since handles entries rows = (elim why.1 [ inl full ↦ inl (omega arith) | inr full ↦ inr (omega arith) ], omega arith)
-refusal-now w b new _ why last list since handles entries rows = absurd why
+refusal-now w b new e why last list since handles entries rows = grind (arith, nat_tests)
 
 came : (listed : Bool) (k n : ℕ) (node : NodeNumber) → 0 < (if listed then one (is_at n (entry k node)) else 0) → (listed ≡ true) × (n ≡ node.0)
 came true k n node some = (refl, grind (arith, nat_tests))
@@ -27,9 +21,7 @@ came false k n node some = absurd (omega arith)
 
 -- an entry came or none was wanted; or one was and didn't come
 which : (listed wanted : Bool) → ((listed ≡ true) ⊎ (wanted ≡ false)) ⊎ ((listed ≡ false) × (wanted ≡ true))
-which true wanted = inl (inl refl)
-which false true = inr (refl, refl)
-which false false = inl (inr refl)
+which listed wanted = grind (arith, nat_tests)
 
 module _ (before w : Core) (given : ℕ → Bool) (lists : Bool) (t : Holdings) (f : SoFar before w given lists t) (x : HandleRow) (c : Counts)
     (is : counts_at t.nodes x.node.0 ≡ Some c) (pinned : pins_in (counts_at t.nodes x.node.0) ≡ pins x.node.0 (live t.handles.places.items))
@@ -40,11 +32,7 @@ module _ (before w : Core) (given : ℕ → Bool) (lists : Bool) (t : Holdings) 
   one-pin wanted = sym pinned ∙ ap pins_in is ∙ (listing-is c x.mode (and_parts lists (is_listing c x.mode) wanted).1).2
 
   none-held : (lists && is_listing c x.mode) ≡ true → held x.node.0 f.entries ≡ 0
-  none-held wanted = elim (cases_eq (held x.node.0 f.entries) 0) [
-    | inl z ↦ z
-    | inr some ↦ let m = (f.only x.node.0 (omega arith)).0 in let a = m.unpinned in
-        let b = one-pin wanted in absurd (omega arith)
-  ]
+  none-held wanted = grind (arith, nat_tests)
 
   new-must : (lists && is_listing c x.mode) ≡ true → MustList before w (with_tables w new) x.node.0
   new-must wanted =
@@ -59,23 +47,10 @@ module _ (before w : Core) (given : ℕ → Bool) (lists : Bool) (t : Holdings) 
 
   -- the new entry is of no cell that nothing pinned
   other : (n : ℕ) → pins n (live t.handles.places.items) ≡ 0 → (if listed then one (is_at n (entry k x.node)) else 0) ≡ 0
-  other n z =
-      elim (cases_eq (if listed then one (is_at n (entry k x.node)) else 0) 0) [
-        | inl none ↦ none
-        | inr some ↦ let a = came listed k n x.node (omega arith) in let b = one-pin (only a.0) in let d = ap (λ m. pins m (live t.handles.places.items)) a.1 in absurd (omega arith)
-      ]
+  other n z = grind (arith, nat_tests)
 
   pub only-more : (n : ℕ) → 0 < held n (f.entries ++ entries_of listed k x.node) → MustList before w (with_tables w new) n × (held n (f.entries ++ entries_of listed k x.node) ≡ 1)
-  only-more n some =
-      let more = with-entry (λ h. one (is_at n h)) f.entries listed k x.node in
-      elim (cases_eq (held n f.entries) 0) [
-        | inl z ↦
-            let a = came listed k n x.node (omega arith) in
-            let l = ap (λ b. if b then one (is_at n (entry k x.node)) else 0) a.0 in
-            let e : one (is_at n (entry k x.node)) ≡ 1 = grind (arith, nat_tests) in
-            (subst (λ m. MustList before w (with_tables w new) m) (sym a.1) (new-must (only a.0)), omega arith)
-        | inr there ↦ let o = f.only n (omega arith) in let z = other n o.0.unpinned in let e = o.1 in (must-kept n o.0, omega arith)
-      ]
+  only-more n some = grind (arith, nat_tests, with-entry, new-must, must-kept)
 
   all-more : ((n : ℕ) → MustList before w (with_tables w t) n → held n f.entries ≡ 1) → (listed ≡ false → (lists && is_listing c x.mode) ≡ true → ⊥) → (n : ℕ)
       → MustList before w (with_tables w new) n → held n (f.entries ++ entries_of listed k x.node) ≡ 1

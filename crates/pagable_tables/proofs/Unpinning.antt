@@ -1,17 +1,12 @@
 -- A handle has let its pin go and stays: what has gone and come so far.
 use Rattle.pagable_tables.proofs.Words.{◌≡◌, ℕ, ◌+◌, ◌<◌, ◌≤◌, ◌&&◌, Bool, true, false, not, if◌then◌else◌, List, [], ◌∷◌, ◌++◌, length, filter, ap, sym, ◌∙◌, subst, arith, inl, inr, Option}
-use Rattle.pagable_tables.proofs.Words.{Some, None, slice_get, ◌≢◌, Result, Ok, Err, vec_capacity, cases_Bool, and_parts, nat_tests, append-nil, length-append, length-map, Error, HandleNumber}
-use Rattle.pagable_tables.proofs.Words.{HandleRow, Owner, Mode, Blob, one, times, is_pin, is_share, is_handle, is_owned_by, pins, sharing, Core, greatest, with_mode, left_rows, MustList}
-use Rattle.pagable_tables.proofs.Words.{TellsListing, IsListRefusal, nobody, Tables, Holdings, live, alive, entries_of, is_listing, first_cause, IsUnlisted, unpinned, Lowers, with_tables}
-use Rattle.pagable_tables.proofs.Words.{told_by, is_plain_pin, Begins, SoFar, core_of}
+use Rattle.pagable_tables.proofs.Words.{Some, None, slice_get, ◌≢◌, Result, Ok, Err, vec_capacity, nat_tests, append-nil, length-append, length-map, Error, HandleNumber, HandleRow, Owner}
+use Rattle.pagable_tables.proofs.Words.{Mode, Blob, one, times, is_pin, is_share, is_handle, is_owned_by, pins, sharing, Core, greatest, with_mode, left_rows, MustList, TellsListing}
+use Rattle.pagable_tables.proofs.Words.{IsListRefusal, nobody, Tables, Holdings, live, alive, entries_of, first_cause, IsUnlisted, unpinned, Lowers, with_tables, told_by, is_plain_pin}
+use Rattle.pagable_tables.proofs.Words.{Begins, SoFar, core_of}
 use Rattle.pagable_tables.specs.Core.{IsWhole}
-use Rattle.pagable_tables.proofs.Alive.{row-le-live}
-use Rattle.pagable_tables.proofs.Begun.{begun-whole, none-within}
-use Rattle.pagable_tables.proofs.Going.{entry-number, new-more, long-one, within-more, ones}
-use Rattle.pagable_tables.proofs.Left.{left-all, all-kept}
-use Rattle.pagable_tables.proofs.Leaving.{with-entry}
-use Rattle.pagable_tables.proofs.Wanted.{listing-is, entry-pins}
-use Rattle.pagable_tables.proofs.Telling.{only-more, tells-more, refusal-now}
+use Rattle.pagable_tables.proofs.{Alive.row-le-live, Begun.begun-whole, Begun.none-within, Going.entry-number, Going.new-more, Going.long-one, Going.within-more, Going.ones, Left.left-all}
+use Rattle.pagable_tables.proofs.{Left.all-kept, Leaving.with-entry, Wanted.listing-is, Wanted.entry-pins, Telling.only-more, Telling.tells-more, Telling.refusal-now}
 
 -- what must be listed and what is told of it, where only a mode differs
 must-moded : (before w : Core) (h : HandleNumber) (new : Holdings) (n : ℕ) → MustList before w (with_tables w new) n
@@ -87,13 +82,7 @@ module _ (T : Tables) (stored : ℕ → Option Blob) (closed lists : Bool) (fail
   here p = row-le-live (λ h. one (p h)) t.handles.places.items place x at
 
   left : (n : ℕ) → pins n (live new.handles.places.items) + one (is_pin n x) ≡ pins n (live t.handles.places.items)
-  left n =
-      let a = l.sums (λ h. one (is_pin n h)) in
-      let b = ap (pins n) (after-rows ∙ l.comes.comes.rows) in
-      let d = with-entry (λ h. one (is_pin n h)) (live l.lowered.handles.places.items) l.listed (l.lowered.last_handle + 1) x.node in
-      let e = entry-pins l.listed (l.lowered.last_handle + 1) n x.node in
-      let z : one (is_pin n (unpinned x)) ≡ 0 = grind (arith, nat_tests) in
-      omega arith
+  left n = grind (arith, nat_tests, after-rows, with-entry, entry-pins)
 
   long : length (live l.lowered.handles.places.items) ≡ length old.rows
   long = let a = l.sums (λ h. 1) in let b = ones (live l.lowered.handles.places.items) in let d = ones (live t.handles.places.items) in omega arith
@@ -122,16 +111,7 @@ module _ (T : Tables) (stored : ℕ → Option Blob) (closed lists : Bool) (fail
       (let a = ap length added in let b = length-append t.list.items came in omega arith)
 
   few : new.top ≢ 0 → length (live new.handles.places.items) ≤ length now.rows
-  few falls =
-      elim (cases_Bool l.listed) [
-        | inl listed ↦ let y = listing-is l.counts x.mode (and_parts lists (is_listing l.counts x.mode) (l.comes.only listed)).1 in let k = l.keyed falls in absurd (cc (y.3, k))
-        | inr none ↦
-            let a = ap length (after-rows ∙ l.comes.comes.rows) in
-            let b = ap (λ b. length (live l.lowered.handles.places.items ++ entries_of b (l.lowered.last_handle + 1) x.node)) none in
-            let d = ap length (append-nil (live l.lowered.handles.places.items)) in
-            let e = ap length l.rows in
-            omega arith
-      ]
+  few falls = grind (arith, nat_tests, listing-is, after-rows, append-nil)
 
   pub lowered-on : SoFar old now nobody lists new
   lowered-on =

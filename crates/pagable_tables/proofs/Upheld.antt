@@ -1,39 +1,23 @@
 -- Loads of cells that can end, and what is true once they do.
-use Rattle.pagable_tables.proofs.Words.{◌≡◌, ℕ, ◌<◌, ◌==◌, Bool, true, false, List, [], ◌∷◌, refl, ap, sym, ◌∙◌, subst, arith, inl, inr, Option, Some, None, ◌⊎◌, ◌≤◌, ◌+◌, not, nat_le}
-use Rattle.pagable_tables.proofs.Words.{vec_capacity, nat_tests, Error, ArcRef, HandleNumber, LoadNumber, NodeNumber, HandleRow, Owner, if_there, or_else, is_owner, is_owned_by, Core, OpenLoad}
-use Rattle.pagable_tables.proofs.Words.{Places, of_cell, of_key, greatest, row_at, AreHandlesFull, earlier, refused_if, where_so, spent, load_fault, reference_fault, references_fault}
-use Rattle.pagable_tables.proofs.Words.{MayOwnLoad, root_fault, end_fault, is_owned_in, MayEnd, Handles, Tables, live, room, AreSound, IsNext, counts_at, refs_at, plain_of, Ending, IsReady}
+use Rattle.pagable_tables.proofs.Words.{◌≡◌, ℕ, ◌<◌, ◌==◌, true, List, [], ◌∷◌, refl, ap, sym, ◌∙◌, subst, arith, Option, Some, None, ◌⊎◌, ◌≤◌, ◌+◌, not, vec_capacity, nat_tests, Error}
+use Rattle.pagable_tables.proofs.Words.{ArcRef, HandleNumber, LoadNumber, NodeNumber, HandleRow, Owner, if_there, or_else, is_owner, Core, OpenLoad, Places, of_cell, of_key, greatest}
+use Rattle.pagable_tables.proofs.Words.{row_at, AreHandlesFull, refused_if, where_so, spent, load_fault, reference_fault, references_fault, MayOwnLoad, root_fault, end_fault, is_owned_in}
+use Rattle.pagable_tables.proofs.Words.{MayEnd, Handles, Tables, live, room, AreSound, IsNext, counts_at, refs_at, plain_of, Ending, IsReady}
 use Rattle.pagable_tables.specs.Core.{IsWhole}
-use Rattle.pagable_tables.proofs.Coming.{rows-told}
-use Rattle.pagable_tables.proofs.Worlds.{alike, owner-same}
-use Rattle.pagable_tables.proofs.keeps.Told.{alike-whole}
-use Rattle.pagable_tables.proofs.keeps.Placed.{whole-so}
-use Rattle.pagable_tables.proofs.keeps.EndCalls.{both-none}
+use Rattle.pagable_tables.proofs.{Coming.rows-told, Worlds.alike, keeps.Told.alike-whole, keeps.Placed.whole-so, keeps.EndCalls.both-none}
 
 typed-so : (a b : ℕ) → refused_if (not (a == b)) Error.WrongKind ≡ None → a ≡ b
-typed-so a b e = at (a == b) refl e
-  where
-    at : (c : Bool) → (a == b) ≡ c → refused_if (not c) Error.WrongKind ≡ None → a ≡ b
-    at true same e = grind (arith, nat_tests)
-    at false other e = absurd (cc)
+typed-so a b e = grind (arith, nat_tests)
 
 own-so : (w : Core) (me : Owner) (l : LoadNumber) (load : OpenLoad) → w.loads l.0 ≡ Some load → load_fault w me l ≡ None → load.owner ≡ me
-own-so w me l load is none =
-    at (is_owner me load.owner) refl (sym (ap (if_there (λ (load : OpenLoad). refused_if (not (is_owner me load.owner)) Error.NotYours) (Some Error.NoSuchHandle)) is) ∙ none)
-  where
-    at : (b : Bool) → is_owner me load.owner ≡ b → refused_if (not b) Error.NotYours ≡ None → load.owner ≡ me
-    at true e f = owner-same me load.owner e
-    at false e f = absurd (cc)
+own-so w me l load is none = grind (arith, nat_tests)
 
 module _ (w : Core) (me : Owner) (l : LoadNumber) (node_type : ℕ) (refs : List ArcRef) (none : end_fault w me l node_type refs ≡ None) where
   abbrev root : Option Error
   root = if_there (λ (load : OpenLoad). root_fault w me node_type load.root) None (w.loads l.0)
 
   parts : (load_fault w me l ≡ None) × (root ≡ None) × (references_fault w (Owner.Load l) [] refs ≡ None)
-  parts =
-      let first = both-none (load_fault w me l) (earlier root (references_fault w (Owner.Load l) [] refs)) none in
-      let second = both-none root (references_fault w (Owner.Load l) [] refs) first.1 in
-      (first.0, second.0, second.1)
+  parts = grind (arith, nat_tests, both-none)
 
   -- it is open
   pub opens : w.loads l.0 ≡ None → ⊥
@@ -64,13 +48,7 @@ module _ (w : Core) (me : Owner) (l : LoadNumber) (node_type : ℕ) (refs : List
 
       -- a number is left, where the handle is there
       pub number-left : (row : HandleRow) → row_at w h ≡ Some row → is_owner me row.owner ≡ true → w.last.handle < greatest
-      number-left row found own =
-          let so : is_owned_in w me h.0 ≡ true = ap (if_there (is_owned_by me) false) found ∙ own in
-          at (nat_le greatest w.last.handle) refl (sym (ap (λ b. where_so b (spent w.last.handle)) so) ∙ fits.1)
-        where
-          at : (b : Bool) → nat_le greatest w.last.handle ≡ b → refused_if b Error.NumbersSpent ≡ None → w.last.handle < greatest
-          at true e f = absurd (cc)
-          at false e f = grind (arith, nat_tests)
+      number-left row found own = grind (arith, nat_tests)
 
 -- references are as good where there are other places
 pub references-placed : (w : Core) (places : Places) (owner : Owner) (seen : List ℕ) (refs : List ArcRef) → references_fault (record w { places = places }) owner seen refs ≡ references_fault w owner seen refs
@@ -90,28 +68,12 @@ placed-whole t h w sound next rows more =
 -- neither number nor place is wanting
 pub no-wanting : (t : Tables) (e : Error) → AreSound t.holdings.handles → t.holdings.last_handle < greatest → 1 ≤ room t.holdings.handles
     → (spent t.holdings.last_handle ≡ Some e) ⊎ ((e ≡ Error.OutOfMemory) × (spent t.holdings.last_handle ≡ None) × AreHandlesFull (plain_of t)) → ⊥
-no-wanting t e sound left place (inl is) =
-    let b : nat_le greatest t.holdings.last_handle ≡ false = grind (arith, nat_tests) in
-    let a : refused_if false Error.NumbersSpent ≡ Some e = sym (ap (λ b. refused_if b Error.NumbersSpent) b) ∙ is in
-    cc
-no-wanting t e sound left place (inr (is, none, full)) = let a = sound.counted in absurd (omega arith)
+no-wanting t e sound left place h = grind (arith, nat_tests)
 
 -- a load that can end can where there are other places
 pub ready-placed : (w : Core) (places : Places) (rows : List HandleRow) (me : Owner) (l : LoadNumber) (node_type : ℕ) (refs : List ArcRef) (e : Ending) → rows ≡ w.rows → IsReady w me l node_type refs e
     → IsReady (record w { rows = rows; places = places }) me l node_type refs e
-ready-placed w places rows me l node_type refs e same r =
-    subst (λ rows. IsReady (record w { rows = rows; places = places }) me l node_type refs e) (sym same)
-    (record {
-      may = record {
-        load = r.may.load;
-        owned = record { stands_open = r.may.owned.stands_open; own = r.may.owned.own };
-        of_node = r.may.of_node;
-        good = references-placed w places (Owner.Load l) [] refs ∙ r.may.good;
-      };
-      owned = record { live = r.owned.live; own = r.owned.own; as_asked = r.owned.as_asked };
-      away = r.away;
-      left = r.left;
-    })
+ready-placed w places rows me l node_type refs e same r = grind (arith, nat_tests, references-placed)
 
 -- who ends a load may own one
 pub ready-owner : (t : Tables) (me : Owner) (l : LoadNumber) (node_type : ℕ) (refs : List ArcRef) (e : Ending) → IsWhole t → IsReady (plain_of t) me l node_type refs e → MayOwnLoad (plain_of t) me

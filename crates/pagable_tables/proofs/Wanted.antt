@@ -1,23 +1,16 @@
 -- A handle has gone and an entry may have come: which cells must be listed then, and what is told of it.
 use Rattle.pagable_tables.proofs.Words.{◌≡◌, ℕ, ◌+◌, ◌≤◌, ◌&&◌, Bool, true, false, not, if◌then◌else◌, refl, ap, sym, ◌∙◌, arith, inl, inr, Option, Some, ◌⊎◌, is_some, nat_lt, cases_Bool}
-use Rattle.pagable_tables.proofs.Words.{and_parts, nat_tests, sum_by-append, OptionalDataKey, NodeNumber, HandleRow, Owner, Mode, one, times, if_there, is_pin, is_share, is_shared, is_pinning}
-use Rattle.pagable_tables.proofs.Words.{pins, has_key, Core, Cell, left_rows, is_keyed, MustList, Counts, Holdings, live, counts_at, pins_in, cell_in, entry, is_listing, with_tables}
+use Rattle.pagable_tables.proofs.Words.{and_parts, nat_tests, sum_by-append, OptionalDataKey, NodeNumber, HandleRow, Owner, Mode, one, times, if_there, is_pin, is_share, is_shared}
+use Rattle.pagable_tables.proofs.Words.{is_pinning, pins, has_key, Core, Cell, is_keyed, MustList, Counts, Holdings, live, counts_at, pins_in, cell_in, entry, is_listing, with_tables}
 use Rattle.pagable_tables.proofs.Words.{is_plain_pin, SoFar}
-use Rattle.pagable_tables.proofs.Left.{left-le, entries-none}
-use Rattle.pagable_tables.proofs.Forced.{keyed-cell}
+use Rattle.pagable_tables.proofs.{Left.left-le, Left.entries-none, Forced.keyed-cell}
 
 -- what a listing handle is: the last pin of a cell without a key
 pub listing-is : (c : Counts) (m : Mode) → is_listing c m ≡ true → (is_pinning m ≡ true) × (is_shared m ≡ false) × (c.pins ≡ 1) × (nat_lt 0 c.key ≡ false)
-listing-is c Mode.LoosePinned e = (refl, refl, grind (arith, nat_tests), grind (arith, nat_tests))
-listing-is c Mode.LooseUnpinned e = absurd (cc)
-listing-is c Mode.Pinned e = (refl, refl, grind (arith, nat_tests), grind (arith, nat_tests))
-listing-is c Mode.Shared e = absurd (cc)
+listing-is c m e = grind (arith, nat_tests)
 
 pub is-listing : (c : Counts) (m : Mode) → is_pinning m ≡ true → is_shared m ≡ false → c.pins ≡ 1 → nat_lt 0 c.key ≡ false → is_listing c m ≡ true
-is-listing c Mode.LoosePinned p s one k = grind (arith, nat_tests)
-is-listing c Mode.LooseUnpinned p s one k = absurd (cc)
-is-listing c Mode.Pinned p s one k = grind (arith, nat_tests)
-is-listing c Mode.Shared p s one k = absurd (cc)
+is-listing c m p s one k = grind (arith, nat_tests)
 
 -- a new entry pins nothing
 pub entry-pins : (listed : Bool) (k n : ℕ) (node : NodeNumber) → (if listed then one (is_pin n (entry k node)) else 0) ≡ 0
@@ -44,12 +37,7 @@ both false b e h = absurd (cc)
 module _ (before w : Core) (given : ℕ → Bool) (lists : Bool) (t : Holdings) (f : SoFar before w given lists t) where
   -- what no new entry is, is in the tables no more often than at first
   pub no-more : (p : HandleRow → Bool) → ((h : HandleRow) → h.mode ≡ Mode.LooseUnpinned → h.owner ≡ Owner.List → p h ≡ false) → times p (live t.handles.places.items) ≤ times p w.rows
-  no-more p none =
-      let a = ap (times p) f.rows in
-      let b = sum_by-append (λ h. one (p h)) (left_rows f.gone w.rows) f.entries in
-      let d = entries-none p none w.last.handle f.entries f.new in
-      let e = left-le p f.gone w.rows in
-      omega arith
+  no-more p none = grind (arith, nat_tests, sum_by-append, entries-none, left-le)
 
   -- the last pin of a cell without a key has gone
   pub must-now : (x : HandleRow) (c : Counts) (new : Holdings) → counts_at t.nodes x.node.0 ≡ Some c

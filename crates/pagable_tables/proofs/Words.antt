@@ -28,7 +28,7 @@ unfoldable pub use Rattle.pagable_world.specs.Calls.{is_named_by}
 pub use Rattle.pagable_world.specs.Cascade.{left_rows, is_keyed, MustList, IsLeast, IsWithin, IsClosed, loses_value, pins_outside, held_outside, owned_outside, is_outside, TellsListing}
 pub use Rattle.pagable_world.specs.Cascade.{IsPlaceWanting, IsListRefusal, Falls, AreNewEntries, nobody, only_handle, FallsAnyhow, CannotList, fallen}
 pub use Rattle.pagable_world.specs.Kinds.{is_pin, is_share, is_shared, is_pinning, pins, has_key, is_handle, is_owner, mode_of, is_at, is_owned_by, owner_value, held, sharing, is_loose}
-pub use Rattle.pagable_world.specs.Kinds.{is_in_memory, fits_mode, is_unpinned, any_mode, is_pinned}
+pub use Rattle.pagable_world.specs.Kinds.{is_in_memory, fits_mode, is_unpinned, any_mode, is_pinned, owner_worker}
 unfoldable pub use Rattle.pagable_world.specs.Kinds.{find_row}
 pub use Rattle.pagable_world.specs.LoadCalls.{is_owned_in, without_load, numbers_of, cell_fault, hand_over_fault, root_fault, end_fault, MayEnd, adopted, first_key, Adopts, DropCall}
 pub use Rattle.pagable_world.specs.LoadCalls.{HandOverCall, LazyCall, node_fault, lazy_fault, adopt_fault, with_pin, Installs, with_load, IsNextLoad, BeginCall, BeginKeyCall, GetsKnown}
@@ -71,3 +71,9 @@ pub use Rattle.pagable_tables.specs.declared.rows.LoadRow.{LoadRow}
 pub use Rattle.pagable_tables.specs.declared.rows.NodeRow.{NodeRow}
 pub use Rattle.pagable_tables.specs.declared.rows.Place.{Place}
 pub use Rattle.pagable_tables.specs.declared.tables.Tables.{Tables}
+pub use Rattle.std.specs.List.{AllPairs}
+pub use Rattle.std.specs.Option.{option_map}
+pub use Rattle.pagable_tables.specs.Giving.{passes_in, left_load, gives_row, LoadsAre}
+pub use Rattle.pagable_world.specs.Workers.{is_workers_load, is_workers, without_worker}
+pub use Rattle.pagable_world.specs.Events.{with_worker}
+pub use Rattle.pagable_tables.specs.declared.giving.Giving.{Giving}

@@ -1,19 +1,12 @@
 -- What a load asks of the tables.
 use Rattle.std.specs.Prelude.{ℕ, ◌≡◌, ◌==◌, not, true, List, [], Option, Result, IfOk, IfErr}
-use Rattle.pagable_model.specs.declared.error.Error.{Error}
+use Rattle.pagable_model.specs.{declared.error.Error.Error, declared.numbers.ArcRef.ArcRef, declared.numbers.HandleNumber.HandleNumber, declared.numbers.Kind.Kind}
+use Rattle.pagable_model.specs.{declared.numbers.LoadNumber.LoadNumber}
+use Rattle.pagable_world.specs.Refusals.{OwnsLoad, earlier, refused_if, load_fault, references_fault, Refused, AreHandlesFull}
+use Rattle.pagable_world.specs.{declared.handles.Owner.Owner, Plain.is_loose_kind, Plain.type_of, World.Core, World.OpenLoad, Calls.Recalls, LoadCalls.ask_fault, LoadCalls.is_known}
 use Rattle.pagable_model.specs.declared.error.Error.TheVariants as errors
-use Rattle.pagable_model.specs.declared.numbers.ArcRef.{ArcRef}
-use Rattle.pagable_model.specs.declared.numbers.HandleNumber.{HandleNumber}
-use Rattle.pagable_model.specs.declared.numbers.Kind.{Kind}
-use Rattle.pagable_model.specs.declared.numbers.LoadNumber.{LoadNumber}
-use Rattle.pagable_world.specs.declared.handles.Owner.{Owner}
 use Rattle.pagable_world.specs.declared.handles.Owner.TheVariants as owners
 use Rattle.pagable_world.specs.declared.calls.Want.TheVariants as wants
-use Rattle.pagable_world.specs.Plain.{is_loose_kind, type_of}
-use Rattle.pagable_world.specs.World.{Core, OpenLoad}
-use Rattle.pagable_world.specs.Refusals.{OwnsLoad, earlier, refused_if, load_fault, references_fault, Refused, AreHandlesFull}
-use Rattle.pagable_world.specs.Calls.{Recalls}
-use Rattle.pagable_world.specs.LoadCalls.{ask_fault, is_known}
 
 -- The load of a reference gets a handle of the node that the cache gives; or None where it gives none, and the storage has to be asked.
 pub record AsksKnown (w : Core) (me : Owner) (l : LoadNumber) (kind : Kind) (key : ℕ) (r : Result (Option HandleNumber) Error) (w' : Core) : Type 0 where

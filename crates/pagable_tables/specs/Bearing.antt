@@ -1,17 +1,11 @@
 -- Nodes that come.
 use Rattle.std.specs.Prelude.{ℕ, ◌≡◌, ◌<◌, List}
 use Rattle.indexmap.specs.IndexMap.{spare}
+use Rattle.pagable_model.specs.{declared.numbers.ArcRef.ArcRef, declared.numbers.HandleNumber.HandleNumber}
+use Rattle.pagable_world.specs.{declared.handles.Owner.Owner, declared.rows.Mode.Mode, World.Core, World.Alike, World.HasRoom, World.greatest, Calls.IsNext, Calls.with_handle}
+use Rattle.pagable_world.specs.{Calls.with_node, Calls.next_node}
+use Rattle.pagable_tables.specs.{declared.rows.Counts.Counts, declared.tables.Tables.Tables, Falling.key_in, Live.room}
 use Rattle.pagable_model.specs.declared.data_key.OptionalDataKey.TheVariants as optional
-use Rattle.pagable_model.specs.declared.numbers.ArcRef.{ArcRef}
-use Rattle.pagable_model.specs.declared.numbers.HandleNumber.{HandleNumber}
-use Rattle.pagable_world.specs.declared.handles.Owner.{Owner}
-use Rattle.pagable_world.specs.declared.rows.Mode.{Mode}
-use Rattle.pagable_world.specs.World.{Core, Alike, HasRoom, greatest}
-use Rattle.pagable_tables.specs.declared.rows.Counts.{Counts}
-use Rattle.pagable_tables.specs.declared.tables.Tables.{Tables}
-use Rattle.pagable_tables.specs.Falling.{key_in}
-use Rattle.pagable_tables.specs.Live.{room}
-use Rattle.pagable_world.specs.Calls.{IsNext, with_handle, with_node, next_node}
 
 -- numbers are left for a node and a handle, and there is room for both
 pub record IsReady (t : Tables) : Type 0 where

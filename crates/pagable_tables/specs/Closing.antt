@@ -1,11 +1,8 @@
 -- What the list gives up once the storage is closed.
 use Rattle.std.specs.Prelude.{ℕ, ◌≡◌, ◌≤◌, ◌==◌, true, List}
 use Rattle.pagable_model.specs.declared.numbers.HandleNumber.{HandleNumber}
-use Rattle.pagable_world.specs.Plain.{times}
-use Rattle.pagable_world.specs.World.{Core}
+use Rattle.pagable_world.specs.{Plain.times, World.Core, Calls.is_listed, LoadCalls.is_owned_in}
 use Rattle.pagable_world.specs.declared.handles.Owner.TheVariants as owners
-use Rattle.pagable_world.specs.Calls.{is_listed}
-use Rattle.pagable_world.specs.LoadCalls.{is_owned_in}
 
 -- how often a list has a handle
 abbrev pub entered : ℕ → List HandleNumber → ℕ

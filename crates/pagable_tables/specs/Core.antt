@@ -1,26 +1,15 @@
 -- The plain world that the tables tell, and when they are whole.
 use Rattle.std.specs.Prelude.{ℕ, ◌≡◌, ◌≤◌, Bool, true, false, [], length, Option, None, is_some, Result, IfOk, IfErr, vec_capacity}
-use Rattle.std.specs.Option.{option_map}
-use Rattle.pagable_model.specs.declared.error.Error.{Error}
-use Rattle.pagable_model.specs.declared.numbers.HandleNumber.{HandleNumber}
-use Rattle.pagable_model.specs.declared.numbers.NodeNumber.{NodeNumber}
-use Rattle.pagable_world.specs.Plain.{Blob, Among, is_in}
-use Rattle.pagable_world.specs.declared.handles.HandleRow.{HandleRow}
-use Rattle.pagable_world.specs.declared.handles.Owner.{Owner}
+use Rattle.std.specs.{Option.option_map}
+use Rattle.pagable_model.specs.{declared.error.Error.Error, declared.numbers.HandleNumber.HandleNumber, declared.numbers.NodeNumber.NodeNumber}
+use Rattle.pagable_world.specs.{Plain.Blob, Plain.Among, Plain.is_in, declared.handles.HandleRow.HandleRow, declared.handles.Owner.Owner, declared.rows.Mode.Mode, Kinds.is_shared}
+use Rattle.pagable_world.specs.{World.Core, World.OpenLoad, World.Root, World.of_cell, World.of_key, World.Alike, Calls.with_handle, Calls.IsNext, Refusals.spent, Refusals.Refused}
+use Rattle.pagable_world.specs.{Refusals.AreHandlesFull}
+use Rattle.pagable_tables.specs.{declared.rows.LoadRow.LoadRow, declared.rows.LoadRoot.LoadRoot, declared.tables.Tables.Tables, Live.live, ByNumber.counts_at, ByNumber.load_at}
+use Rattle.pagable_tables.specs.{ByNumber.known_at, Falling.cell_in, Falling.IsFalling, Falling.owns_nothing}
 use Rattle.pagable_world.specs.declared.handles.Owner.TheVariants as owners
-use Rattle.pagable_world.specs.declared.rows.Mode.{Mode}
-use Rattle.pagable_world.specs.Kinds.{is_shared}
-use Rattle.pagable_world.specs.World.{Core, OpenLoad, Root, of_cell, of_key, Alike}
 use Rattle.pagable_world.specs.Pager as pager
-use Rattle.pagable_world.specs.Calls.{with_handle, IsNext}
-use Rattle.pagable_world.specs.Refusals.{spent, Refused, AreHandlesFull}
-use Rattle.pagable_tables.specs.declared.rows.LoadRow.{LoadRow}
-use Rattle.pagable_tables.specs.declared.rows.LoadRoot.{LoadRoot}
 use Rattle.pagable_tables.specs.declared.rows.LoadRoot.TheVariants as roots
-use Rattle.pagable_tables.specs.declared.tables.Tables.{Tables}
-use Rattle.pagable_tables.specs.Live.{live}
-use Rattle.pagable_tables.specs.ByNumber.{counts_at, load_at, known_at}
-use Rattle.pagable_tables.specs.Falling.{cell_in, IsFalling, owns_nothing}
 
 abbrev pub root_in : LoadRoot → Root
 root_in (roots.Cell node t h) = of_cell node t h

@@ -1,25 +1,13 @@
 -- Handles, nodes and list in the midst of giving handles up.
 use Rattle.std.specs.Prelude.{ℕ, zero, suc, ◌≡◌, ◌+◌, ◌*◌, ◌-◌, ◌<◌, ◌≤◌, ◌≢◌, ◌==◌, ◌&&◌, ◌||◌, ◌⊎◌, ◌++◌, Bool, true, false, not, if◌then◌else◌, List, [], ◌∷◌, length, sum_by, Option, Some, None, is_some, nat_lt, Result, Ok, Err, IfErr, IfSome, vec_capacity}
-use Rattle.pagable_model.specs.declared.data_key.OptionalDataKey.{OptionalDataKey}
+use Rattle.pagable_model.specs.{declared.data_key.OptionalDataKey.OptionalDataKey, declared.error.Error.Error, declared.numbers.ArcRef.ArcRef, declared.numbers.NodeNumber.NodeNumber}
+use Rattle.pagable_world.specs.{declared.handles.HandleRow.HandleRow, declared.rows.Mode.Mode, declared.handles.Owner.Owner, Plain.one, Plain.times, Kinds.held, Kinds.pins}
+use Rattle.pagable_world.specs.{Kinds.is_handle, Kinds.is_owned_by, Kinds.owner_value, World.greatest, World.Cell, Calls.row_of, Cascade.left_rows, Cascade.only_handle}
+use Rattle.pagable_tables.specs.{declared.rows.Counts.Counts, declared.holdings.Holdings.Holdings, Live.live, Live.AreSound, Live.IsNext, ByNumber.counts_at, ByNumber.refs_at}
 use Rattle.pagable_model.specs.declared.data_key.OptionalDataKey.TheVariants as optional
-use Rattle.pagable_model.specs.declared.error.Error.{Error}
 use Rattle.pagable_model.specs.declared.error.Error.TheVariants as errors
-use Rattle.pagable_model.specs.declared.numbers.ArcRef.{ArcRef}
-use Rattle.pagable_model.specs.declared.numbers.NodeNumber.{NodeNumber}
-use Rattle.pagable_world.specs.declared.handles.HandleRow.{HandleRow}
-use Rattle.pagable_world.specs.declared.rows.Mode.{Mode}
 use Rattle.pagable_world.specs.declared.rows.Mode.TheVariants as modes
-use Rattle.pagable_world.specs.declared.handles.Owner.{Owner}
 use Rattle.pagable_world.specs.declared.handles.Owner.TheVariants as owners
-use Rattle.pagable_world.specs.Plain.{one, times}
-use Rattle.pagable_world.specs.Kinds.{held, pins, is_handle, is_owned_by, owner_value}
-use Rattle.pagable_world.specs.World.{greatest, Cell}
-use Rattle.pagable_world.specs.Calls.{row_of}
-use Rattle.pagable_world.specs.Cascade.{left_rows, only_handle}
-use Rattle.pagable_tables.specs.declared.rows.Counts.{Counts}
-use Rattle.pagable_tables.specs.declared.holdings.Holdings.{Holdings}
-use Rattle.pagable_tables.specs.Live.{live, AreSound, IsNext}
-use Rattle.pagable_tables.specs.ByNumber.{counts_at, refs_at}
 
 abbrev pub pins_in : Option Counts → ℕ
 pins_in None = 0

@@ -1,10 +1,8 @@
 -- A node gets a key.
 use Rattle.std.specs.Prelude.{ℕ, ◌==◌, if◌then◌else◌, Option, Some, None}
+use Rattle.pagable_world.specs.{Plain.SameAt, Plain.updated, Plain.if_there, World.Cell}
+use Rattle.pagable_tables.specs.{declared.rows.Counts.Counts, Falling.cell_in}
 use Rattle.pagable_model.specs.declared.data_key.OptionalDataKey.TheVariants as optional
-use Rattle.pagable_world.specs.Plain.{SameAt, updated, if_there}
-use Rattle.pagable_world.specs.World.{Cell}
-use Rattle.pagable_tables.specs.declared.rows.Counts.{Counts}
-use Rattle.pagable_tables.specs.Falling.{cell_in}
 
 -- the counts of the node then: it falls if nothing pins it
 abbrev pub keyed : Counts → ℕ → ℕ → Counts

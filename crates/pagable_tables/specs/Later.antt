@@ -1,11 +1,8 @@
 -- What a load owns has come since it began.
 use Rattle.std.specs.Prelude.{ℕ, ◌≡◌, ◌<◌, ◌≤◌, true, Some}
-use Rattle.pagable_world.specs.declared.handles.Owner.TheVariants as owners
 use Rattle.pagable_world.specs.LoadCalls.{is_owned_in}
-use Rattle.pagable_tables.specs.declared.rows.LoadRow.{LoadRow}
-use Rattle.pagable_tables.specs.declared.tables.Tables.{Tables}
-use Rattle.pagable_tables.specs.ByNumber.{load_at}
-use Rattle.pagable_tables.specs.Core.{plain_of}
+use Rattle.pagable_tables.specs.{declared.rows.LoadRow.LoadRow, declared.tables.Tables.Tables, ByNumber.load_at, Core.plain_of}
+use Rattle.pagable_world.specs.declared.handles.Owner.TheVariants as owners
 
 -- All handles of an open load have numbers above the last one that was given before it began.
 pub record AreLater (t : Tables) : Type 0 where

@@ -1,14 +1,9 @@
 -- A handle lets its pin go and stays.
 use Rattle.std.specs.Prelude.{ℕ, ◌≡◌, ◌≢◌, ◌+◌, ◌≤◌, ◌&&◌, Bool, true, List, length, sum_by, Some, nat_lt}
-use Rattle.pagable_world.specs.declared.handles.HandleRow.{HandleRow}
+use Rattle.pagable_world.specs.{declared.handles.HandleRow.HandleRow, Plain.changed, Kinds.is_handle}
+use Rattle.pagable_tables.specs.{declared.rows.Counts.Counts, declared.holdings.Holdings.Holdings, Live.live, ByNumber.counts_at, Falling.is_listing, Falling.owns_nothing}
+use Rattle.pagable_tables.specs.{Falling.CellsStay, Falling.HasPlaces, Falling.MayList, Falling.IsFalling, Falling.ValueStays}
 use Rattle.pagable_world.specs.declared.rows.Mode.TheVariants as modes
-use Rattle.pagable_world.specs.Plain.{changed}
-use Rattle.pagable_world.specs.Kinds.{is_handle}
-use Rattle.pagable_tables.specs.declared.rows.Counts.{Counts}
-use Rattle.pagable_tables.specs.declared.holdings.Holdings.{Holdings}
-use Rattle.pagable_tables.specs.Live.{live}
-use Rattle.pagable_tables.specs.ByNumber.{counts_at}
-use Rattle.pagable_tables.specs.Falling.{is_listing, owns_nothing, CellsStay, HasPlaces, MayList, IsFalling, ValueStays}
 
 -- the row of a loose handle without its pin
 abbrev pub unpinned : HandleRow → HandleRow

@@ -1,8 +1,7 @@
 -- Handles that are named one after the other.
 use Rattle.std.specs.Prelude.{ℕ, zero, suc, ◌≡◌, false, Some, List, [], ◌∷◌, get_or}
 use Rattle.pagable_model.specs.declared.numbers.HandleNumber.{HandleNumber}
-use Rattle.pagable_world.specs.declared.handles.HandleRow.{HandleRow}
-use Rattle.pagable_world.specs.Kinds.{find_row}
+use Rattle.pagable_world.specs.{declared.handles.HandleRow.HandleRow, Kinds.find_row}
 use Rattle.pagable_tables.specs.Falling.{is_valued}
 
 -- the handle at a place

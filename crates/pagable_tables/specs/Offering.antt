@@ -1,15 +1,8 @@
 -- A handle is offered to the cache, while the storage is open.
 use Rattle.std.specs.Prelude.{ℕ, ◌≡◌, ◌⊎◌, false, Option, Some, None, Result, IfOk, IfErr}
-use Rattle.pagable_model.specs.declared.error.Error.{Error}
-use Rattle.pagable_model.specs.declared.numbers.HandleNumber.{HandleNumber}
-use Rattle.pagable_model.specs.declared.numbers.Kind.{Kind}
-use Rattle.pagable_world.specs.declared.handles.HandleRow.{HandleRow}
-use Rattle.pagable_world.specs.declared.handles.Owner.{Owner}
-use Rattle.pagable_world.specs.Plain.{type_of}
-use Rattle.pagable_world.specs.Kinds.{fits_mode}
-use Rattle.pagable_world.specs.World.{Core, Alike, usable, type_at}
-use Rattle.pagable_world.specs.Refusals.{Owns, Refused, AreHandlesFull}
-use Rattle.pagable_world.specs.Calls.{IsNext, with_cached, with_known, offer_fault}
+use Rattle.pagable_model.specs.{declared.error.Error.Error, declared.numbers.HandleNumber.HandleNumber, declared.numbers.Kind.Kind}
+use Rattle.pagable_world.specs.{declared.handles.HandleRow.HandleRow, declared.handles.Owner.Owner, Plain.type_of, Kinds.fits_mode, World.Core, World.Alike, World.usable, World.type_at}
+use Rattle.pagable_world.specs.{Refusals.Owns, Refusals.Refused, Refusals.AreHandlesFull, Calls.IsNext, Calls.with_cached, Calls.with_known, Calls.offer_fault}
 
 -- the cache learns the row's node; or a handle of the node that it gives is made
 abbrev pub Learns : Core → Owner → Kind → ℕ → HandleRow → Option HandleNumber → Core → Type 0

@@ -1,16 +1,10 @@
 -- Handles that come to another owner, or are pinned.
 use Rattle.std.specs.Prelude.{[], Result, IfOk, IfErr}
-use Rattle.pagable_model.specs.declared.error.Error.{Error}
-use Rattle.pagable_model.specs.declared.numbers.HandleNumber.{HandleNumber}
+use Rattle.pagable_model.specs.{declared.error.Error.Error, declared.numbers.HandleNumber.HandleNumber}
+use Rattle.pagable_world.specs.{World.Core, World.Alike, Calls.with_handle, Calls.with_mode, Calls.IsNext, Refusals.spent, Refusals.Refused, Refusals.AreHandlesFull}
+use Rattle.pagable_world.specs.{declared.handles.HandleRow.HandleRow, declared.handles.Owner.Owner}
+use Rattle.pagable_tables.specs.{declared.handles.Handles.Handles, declared.holdings.Holdings.Holdings, Falling.IsFalling, Falling.owns_nothing}
 use Rattle.pagable_world.specs.declared.rows.Mode.TheVariants as modes
-use Rattle.pagable_world.specs.World.{Core, Alike}
-use Rattle.pagable_world.specs.Calls.{with_handle, with_mode, IsNext}
-use Rattle.pagable_world.specs.Refusals.{spent, Refused, AreHandlesFull}
-use Rattle.pagable_world.specs.declared.handles.HandleRow.{HandleRow}
-use Rattle.pagable_world.specs.declared.handles.Owner.{Owner}
-use Rattle.pagable_tables.specs.declared.handles.Handles.{Handles}
-use Rattle.pagable_tables.specs.declared.holdings.Holdings.{Holdings}
-use Rattle.pagable_tables.specs.Falling.{IsFalling, owns_nothing}
 
 -- nothing falls in the holdings with these handles
 abbrev pub StandsWith : Holdings → Handles → Type 0

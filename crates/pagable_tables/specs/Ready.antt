@@ -1,23 +1,12 @@
 -- Loads of cells that can end.
 use Rattle.std.specs.Prelude.{ℕ, ◌≡◌, ◌≤◌, ◌<◌, ◌==◌, Bool, true, not, if◌then◌else◌, List, Option, Some, is_some}
-use Rattle.pagable_model.specs.declared.error.Error.{Error}
-use Rattle.pagable_model.specs.declared.numbers.ArcRef.{ArcRef}
-use Rattle.pagable_model.specs.declared.numbers.HandleNumber.{HandleNumber}
-use Rattle.pagable_model.specs.declared.numbers.LoadNumber.{LoadNumber}
-use Rattle.pagable_model.specs.declared.numbers.NodeNumber.{NodeNumber}
-use Rattle.pagable_world.specs.declared.handles.Owner.{Owner}
-use Rattle.pagable_world.specs.Kinds.{is_loose, any_mode}
-use Rattle.pagable_world.specs.World.{Core, HasRoom, greatest, is_here}
-use Rattle.pagable_world.specs.Refusals.{Owns, Refused, load_fault, handle_fault}
-use Rattle.pagable_world.specs.LoadCalls.{MayEnd, end_fault}
-use Rattle.pagable_tables.specs.declared.installing.Ending.{Ending}
-use Rattle.pagable_tables.specs.declared.installing.Unended.{Unended}
+use Rattle.pagable_model.specs.{declared.error.Error.Error, declared.numbers.ArcRef.ArcRef, declared.numbers.HandleNumber.HandleNumber, declared.numbers.LoadNumber.LoadNumber}
+use Rattle.pagable_model.specs.{declared.numbers.NodeNumber.NodeNumber}
+use Rattle.pagable_world.specs.{declared.handles.Owner.Owner, Kinds.is_loose, Kinds.any_mode, World.Core, World.HasRoom, World.greatest, World.is_here, Refusals.Owns, Refusals.Refused}
+use Rattle.pagable_world.specs.{Refusals.load_fault, Refusals.handle_fault, LoadCalls.MayEnd, LoadCalls.end_fault}
+use Rattle.pagable_tables.specs.{declared.installing.Ending.Ending, declared.installing.Unended.Unended, declared.rows.Counts.Counts, declared.tables.Tables.Tables, ByNumber.load_at}
+use Rattle.pagable_tables.specs.{Live.room, Falling.has_value, Falling.AreLeft}
 use Rattle.pagable_tables.specs.declared.installing.Unended.TheVariants as unended
-use Rattle.pagable_tables.specs.declared.rows.Counts.{Counts}
-use Rattle.pagable_tables.specs.declared.tables.Tables.{Tables}
-use Rattle.pagable_tables.specs.ByNumber.{load_at}
-use Rattle.pagable_tables.specs.Live.{room}
-use Rattle.pagable_tables.specs.Falling.{has_value, AreLeft}
 
 -- the same world, with no fewer places
 pub record IsWider (w w' : Core) : Type 0 where

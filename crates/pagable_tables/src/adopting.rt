@@ -1,23 +1,15 @@
 //! What a load reads becomes nodes.
 
 ghost use Rattle.std.specs.Prelude.{nat_eq, ◌≡◌, ℕ, ◌⊎◌, ◌<◌, ◌≤◌, length, [], Bool, Option, IfOk, IfErr, IfSome, IfNone, OnOk, Some, None, not, true, false};
-ghost use Rattle.pagable_world.specs.declared.handles.Owner.TheVariants as owners;
-ghost use Rattle.pagable_world.specs.Plain.{Blob, is_loose_kind};
-ghost use Rattle.pagable_world.specs.Kinds.{is_pinning, mode_of};
-ghost use Rattle.pagable_world.specs.Cascade.{FallsAnyhow, nobody};
-ghost use Rattle.pagable_tables.specs.Live.{live};
-ghost use Rattle.pagable_tables.specs.Onward.{with_tables, SoFar};
-ghost use Rattle.pagable_world.specs.World.{Core, Alike, usable};
-ghost use Rattle.pagable_world.specs.Refusals.{load_fault, references_fault, spent, AreHandlesFull, Refused};
-ghost use Rattle.pagable_world.specs.Calls.{IsNext, with_handle, is_named_by, birth_fault};
-ghost use Rattle.pagable_world.specs.LoadCalls.{adopt_fault, adopted, first_key, is_owned_in, Adopts, LazyCall};
-ghost use Rattle.pagable_tables.specs.Falling.{has_value, IsFalling, owns_nothing, key_in, Sheds};
+ghost use Rattle.pagable_world.specs.{Plain.Blob, Plain.is_loose_kind, Kinds.is_pinning, Kinds.mode_of, Cascade.FallsAnyhow, Cascade.nobody, World.Core, World.Alike, World.usable};
+ghost use Rattle.pagable_world.specs.{Refusals.load_fault, Refusals.references_fault, Refusals.spent, Refusals.AreHandlesFull, Refusals.Refused, Calls.IsNext, Calls.with_handle};
+ghost use Rattle.pagable_world.specs.{Calls.is_named_by, Calls.birth_fault, LoadCalls.adopt_fault, LoadCalls.adopted, LoadCalls.first_key, LoadCalls.is_owned_in, LoadCalls.Adopts};
+ghost use Rattle.pagable_world.specs.{LoadCalls.LazyCall};
+ghost use Rattle.pagable_tables.specs.{Live.live, Onward.with_tables, Onward.SoFar, Falling.has_value, Falling.IsFalling, Falling.owns_nothing, Falling.key_in, Falling.Sheds};
+ghost use Rattle.pagable_tables.specs.{Bearing.IsReady, Bearing.OnlyRoom, ByNumber.counts_at, Core.core_of, Core.plain_of, Core.IsWhole, Core.MayHold, Core.Suits, Later.AreLater};
+ghost use Rattle.pagable_tables.specs.{Asking.early_fault};
 ghost use Rattle.indexmap.specs.IndexMap.{get, spare};
-ghost use Rattle.pagable_tables.specs.Bearing.{IsReady, OnlyRoom};
-ghost use Rattle.pagable_tables.specs.ByNumber.{counts_at};
-ghost use Rattle.pagable_tables.specs.Core.{core_of, plain_of, IsWhole, MayHold, Suits};
-ghost use Rattle.pagable_tables.specs.Later.{AreLater};
-ghost use Rattle.pagable_tables.specs.Asking.{early_fault};
+ghost use Rattle.pagable_world.specs.declared.handles.Owner.TheVariants as owners;
 
 use crate::births::{bear, first_counts, make_ready};
 use crate::cascade::fall;

@@ -1,11 +1,8 @@
 //! Loads that begin.
 
 ghost use Rattle.std.specs.Prelude.{◌≡◌, ℕ, Bool, Option};
-ghost use Rattle.pagable_world.specs.Plain.{Blob};
-ghost use Rattle.pagable_world.specs.LoadCalls.{BeginKeyCall};
-ghost use Rattle.pagable_world.specs.Pager.{MayOwnLoad};
-ghost use Rattle.pagable_tables.specs.Core.{core_of, plain_of, IsWhole};
-ghost use Rattle.pagable_tables.specs.Later.{AreLater};
+ghost use Rattle.pagable_world.specs.{Plain.Blob, LoadCalls.BeginKeyCall, Pager.MayOwnLoad};
+ghost use Rattle.pagable_tables.specs.{Core.core_of, Core.plain_of, Core.IsWhole, Later.AreLater};
 
 use crate::loads;
 use crate::rows::{LoadRoot, LoadRow};

@@ -1,14 +1,9 @@
 //! Which of several causes of a refusal is told.
 
-ghost use Rattle.std.specs.Prelude.{◌≡◌, Some, None, not};
-ghost use Rattle.std.specs.Option.{option_map};
-ghost use Rattle.pagable_model.specs.declared.error.Error.TheVariants as errors;
-ghost use Rattle.pagable_world.specs.Plain.{if_there};
-ghost use Rattle.pagable_world.specs.Kinds.{is_owner};
-ghost use Rattle.pagable_world.specs.World.{OpenLoad};
-ghost use Rattle.pagable_world.specs.Refusals.{rank, earlier, refused_if};
-ghost use Rattle.pagable_world.specs.LoadCalls.{cell_fault};
+ghost use Rattle.std.specs.{Prelude.◌≡◌, Prelude.Some, Prelude.None, Prelude.not, Option.option_map};
+ghost use Rattle.pagable_world.specs.{Plain.if_there, Kinds.is_owner, World.OpenLoad, Refusals.rank, Refusals.earlier, Refusals.refused_if, LoadCalls.cell_fault};
 ghost use Rattle.pagable_tables.specs.Core.{load_in};
+ghost use Rattle.pagable_model.specs.declared.error.Error.TheVariants as errors;
 
 use crate::rows::{LoadRoot, LoadRow};
 use crate::turning::is_owner;

@@ -1,18 +1,11 @@
 //! Loads that end: what they still own is given up.
 
 ghost use Rattle.std.specs.Prelude.{◌≡◌, ℕ, ◌<◌, ◌≤◌, ◌==◌, ◌&&◌, ◌||◌, [], length, Bool, true, None, Option, not, nat_eq};
-ghost use Rattle.pagable_world.specs.declared.handles.Owner.TheVariants as owners;
-ghost use Rattle.pagable_world.specs.Plain.{Blob};
-ghost use Rattle.pagable_world.specs.World.{Core};
-ghost use Rattle.pagable_world.specs.Cascade.{Falls, nobody};
-ghost use Rattle.pagable_world.specs.LoadCalls.{is_owned_in, hand_over_fault, DropCall, HandOverCall};
-ghost use Rattle.pagable_tables.specs.Live.{live};
+ghost use Rattle.pagable_world.specs.{Plain.Blob, World.Core, Cascade.Falls, Cascade.nobody, LoadCalls.is_owned_in, LoadCalls.hand_over_fault, LoadCalls.DropCall, LoadCalls.HandOverCall};
+ghost use Rattle.pagable_tables.specs.{Live.live, ByNumber.counts_at, Falling.IsFalling, Falling.owns_nothing, Falling.Sheds, Onward.with_tables, Onward.SoFar, Core.core_of, Core.IsWhole};
+ghost use Rattle.pagable_tables.specs.{Later.AreLater};
 ghost use Rattle.indexmap.specs.IndexMap.{get};
-ghost use Rattle.pagable_tables.specs.ByNumber.{counts_at};
-ghost use Rattle.pagable_tables.specs.Falling.{IsFalling, owns_nothing, Sheds};
-ghost use Rattle.pagable_tables.specs.Onward.{with_tables, SoFar};
-ghost use Rattle.pagable_tables.specs.Core.{core_of, IsWhole};
-ghost use Rattle.pagable_tables.specs.Later.{AreLater};
+ghost use Rattle.pagable_world.specs.declared.handles.Owner.TheVariants as owners;
 
 use crate::cascade::shed;
 use crate::causes::{cell_fault, earlier, load_fault};

@@ -1,17 +1,10 @@
 //! Handles that a load hands over.
 
 ghost use Rattle.std.specs.Prelude.{◌≡◌, ◌<◌, ◌≤◌, ◌||◌, ℕ, [], length, Some, not, false, vec_capacity};
+ghost use Rattle.pagable_world.specs.{Plain.is_in, Plain.if_there, Kinds.is_owner, Kinds.find_row, Refusals.named_fault, Refusals.refused_if, Calls.moved, LoadCalls.numbers_of};
+ghost use Rattle.pagable_world.specs.{declared.handles.HandleRow.HandleRow, World.Core};
+ghost use Rattle.pagable_tables.specs.{Live.live, Live.AreSound, Named.seen, Named.named_at, Named.IsNamed, Falling.IsFalling, Falling.owns_nothing, Falling.is_valued};
 ghost use Rattle.pagable_model.specs.declared.error.Error.TheVariants as errors;
-ghost use Rattle.pagable_world.specs.Plain.{is_in, if_there};
-ghost use Rattle.pagable_world.specs.Kinds.{is_owner, find_row};
-ghost use Rattle.pagable_world.specs.Refusals.{named_fault, refused_if};
-ghost use Rattle.pagable_world.specs.Calls.{moved};
-ghost use Rattle.pagable_world.specs.LoadCalls.{numbers_of};
-ghost use Rattle.pagable_world.specs.declared.handles.HandleRow.{HandleRow};
-ghost use Rattle.pagable_world.specs.World.{Core};
-ghost use Rattle.pagable_tables.specs.Live.{live, AreSound};
-ghost use Rattle.pagable_tables.specs.Named.{seen, named_at, IsNamed};
-ghost use Rattle.pagable_tables.specs.Falling.{IsFalling, owns_nothing, is_valued};
 
 use crate::causes::earlier;
 use crate::handles;

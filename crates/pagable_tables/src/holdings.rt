@@ -3,14 +3,9 @@
 
 ghost use Rattle.std.specs.Prelude.{◌≡◌, ◌≢◌, ◌&&◌, ℕ, ◌+◌, ◌-◌, ◌*◌, ◌<◌, ◌≤◌, ◌++◌, ◌∷◌, [], if◌then◌else◌, List, length, sum_by, slice_get, Some, None, IsSome, OnOk, OnErr, true, Bool, vec_len, vec_capacity};
 ghost use Rattle.pagable_model.specs.declared.numbers.HandleNumber.{HandleNumber};
-ghost use Rattle.pagable_world.specs.declared.handles.HandleRow.{HandleRow};
-ghost use Rattle.pagable_world.specs.Plain.{one};
-ghost use Rattle.pagable_world.specs.Kinds.{is_pinning};
-ghost use Rattle.pagable_world.specs.Cascade.{left_rows, only_handle};
-ghost use Rattle.pagable_tables.specs.Live.{live, alive, AreSound, IsNext};
-ghost use Rattle.pagable_tables.specs.ByNumber.{counts_at, refs_at};
+ghost use Rattle.pagable_world.specs.{declared.handles.HandleRow.HandleRow, Plain.one, Kinds.is_pinning, Cascade.left_rows, Cascade.only_handle};
 ghost use Rattle.pagable_tables.specs.Falling.{Lists, MayList, Leaves, is_listing, after, is_new, IsFalling, GivesUp, Settles, Steps, owns, owns_nothing};
-ghost use Rattle.pagable_tables.specs.declared.rows.Counts.{Counts};
+ghost use Rattle.pagable_tables.specs.{Live.live, Live.alive, Live.AreSound, Live.IsNext, ByNumber.counts_at, ByNumber.refs_at, declared.rows.Counts.Counts};
 
 use crate::handles::Handles;
 use crate::rows::{Counts, HandleAt, NodeRow};

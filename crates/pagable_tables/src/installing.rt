@@ -2,18 +2,12 @@
 
 ghost use Rattle.std.specs.Prelude.{◌≡◌, ◌≤◌, ◌<◌, ℕ, Bool, Option, None, IfOk, IfErr, [], not, true, false, nat_eq};
 ghost use Rattle.indexmap.specs.IndexMap.{get};
+ghost use Rattle.pagable_world.specs.{Plain.Blob, Plain.if_there, Kinds.is_loose, World.Core, World.Alike, World.OpenLoad, World.greatest, Calls.IsNext, Calls.with_handle};
+ghost use Rattle.pagable_world.specs.{Calls.with_mode, LoadCalls.root_fault, LoadCalls.end_fault, LoadCalls.is_owned_in, LoadCalls.Installs, Refusals.where_so, Refusals.spent};
+ghost use Rattle.pagable_world.specs.{Refusals.Owns};
+ghost use Rattle.pagable_tables.specs.{ByNumber.counts_at, ByNumber.load_at, Live.room, Core.core_of, Core.plain_of, Core.IsWhole, Core.MayHold, Later.AreLater, Ready.IsWider};
+ghost use Rattle.pagable_tables.specs.{Ready.IsReady, Ready.HasPlace, Ready.Unends, Ready.ShedsBeside};
 ghost use Rattle.pagable_world.specs.declared.rows.Mode.TheVariants as modes;
-ghost use Rattle.pagable_world.specs.Plain.{Blob, if_there};
-ghost use Rattle.pagable_world.specs.Kinds.{is_loose};
-ghost use Rattle.pagable_world.specs.World.{Core, Alike, OpenLoad, greatest};
-ghost use Rattle.pagable_world.specs.Calls.{IsNext, with_handle, with_mode};
-ghost use Rattle.pagable_world.specs.LoadCalls.{root_fault, end_fault, is_owned_in, Installs};
-ghost use Rattle.pagable_world.specs.Refusals.{where_so, spent, Owns};
-ghost use Rattle.pagable_tables.specs.ByNumber.{counts_at, load_at};
-ghost use Rattle.pagable_tables.specs.Live.{room};
-ghost use Rattle.pagable_tables.specs.Core.{core_of, plain_of, IsWhole, MayHold};
-ghost use Rattle.pagable_tables.specs.Later.{AreLater};
-ghost use Rattle.pagable_tables.specs.Ready.{IsWider, IsReady, HasPlace, Unends, ShedsBeside};
 
 use crate::causes::{earlier, load_fault, refused_if};
 use crate::ending::give_up_load;

@@ -1,15 +1,10 @@
 //! Cells that get keys.
 
 ghost use Rattle.std.specs.Prelude.{◌≡◌, ℕ, ◌<◌, ◌≤◌, Bool, not, [], List, length, Option, IsSome, nat_eq};
-ghost use Rattle.pagable_world.specs.Plain.{Blob};
-ghost use Rattle.pagable_world.specs.Calls.{SetKeyCall, with_key};
-ghost use Rattle.pagable_world.specs.Cascade.{Falls, nobody};
-ghost use Rattle.pagable_tables.specs.Core.{core_of, IsWhole};
+ghost use Rattle.pagable_world.specs.{Plain.Blob, Calls.SetKeyCall, Calls.with_key, Cascade.Falls, Cascade.nobody};
+ghost use Rattle.pagable_tables.specs.{Core.core_of, Core.IsWhole, ByNumber.counts_at, Falling.IsFalling, Falling.owns_nothing, Falling.ValueStays, Falling.Sheds, Keyed.keyed};
+ghost use Rattle.pagable_tables.specs.{Keyed.GetsKey, Later.AreLater};
 ghost use Rattle.indexmap.specs.IndexMap.{get};
-ghost use Rattle.pagable_tables.specs.ByNumber.{counts_at};
-ghost use Rattle.pagable_tables.specs.Falling.{IsFalling, owns_nothing, ValueStays, Sheds};
-ghost use Rattle.pagable_tables.specs.Keyed.{keyed, GetsKey};
-ghost use Rattle.pagable_tables.specs.Later.{AreLater};
 
 use crate::cascade::fall;
 use crate::holdings::{Holdings, top_after};

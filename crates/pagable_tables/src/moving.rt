@@ -1,12 +1,8 @@
 //! Handles that come to another owner.
 
 ghost use Rattle.std.specs.Prelude.{◌≡◌, ℕ, slice_get, Some, vec_capacity, false};
-ghost use Rattle.pagable_world.specs.Cascade.{only_handle};
-ghost use Rattle.pagable_world.specs.Calls.{moved, is_named_by};
-ghost use Rattle.pagable_tables.specs.Falling.{is_valued};
-ghost use Rattle.pagable_tables.specs.Owning.{StandsWith};
-ghost use Rattle.pagable_tables.specs.Live.{live, alive, AreSound, IsNext};
-ghost use Rattle.pagable_tables.specs.declared.holdings.Holdings.{Holdings};
+ghost use Rattle.pagable_world.specs.{Cascade.only_handle, Calls.moved, Calls.is_named_by};
+ghost use Rattle.pagable_tables.specs.{Falling.is_valued, Owning.StandsWith, Live.live, Live.alive, Live.AreSound, Live.IsNext, declared.holdings.Holdings.Holdings};
 
 use crate::handles;
 use crate::handles::Handles;

@@ -1,13 +1,8 @@
 //! Pins of loose handles.
 
 ghost use Rattle.std.specs.Prelude.{◌≡◌, ℕ, Bool, Option};
-ghost use Rattle.pagable_world.specs.Plain.{Blob};
-ghost use Rattle.pagable_world.specs.Kinds.{is_loose};
-ghost use Rattle.pagable_world.specs.Refusals.{Owns};
-ghost use Rattle.pagable_world.specs.Calls.{PinCall};
-ghost use Rattle.pagable_tables.specs.Owning.{PinsHere};
-ghost use Rattle.pagable_tables.specs.Core.{core_of, plain_of, IsWhole, MayHold};
-ghost use Rattle.pagable_tables.specs.Later.{AreLater};
+ghost use Rattle.pagable_world.specs.{Plain.Blob, Kinds.is_loose, Refusals.Owns, Calls.PinCall};
+ghost use Rattle.pagable_tables.specs.{Owning.PinsHere, Core.core_of, Core.plain_of, Core.IsWhole, Core.MayHold, Later.AreLater};
 
 use crate::kinds::is_loose;
 use crate::lookups::{is_here, key_in};

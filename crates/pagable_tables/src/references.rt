@@ -1,13 +1,10 @@
 //! Why the references of a value that is handed in are refused.
 
 ghost use Rattle.std.specs.Prelude.{◌≡◌, ◌||◌, not, ℕ, Bool, List, Option, Some, None, OnOk, IfErr, [], ◌<◌, false};
-ghost use Rattle.pagable_world.specs.Plain.{Blob, is_in};
-ghost use Rattle.pagable_world.specs.Kinds.{is_owner};
-ghost use Rattle.pagable_world.specs.Refusals.{refused_if, row_fault, reference_fault, references_fault};
-ghost use Rattle.pagable_world.specs.Workers.{claim_fault};
-ghost use Rattle.pagable_model.specs.declared.error.Error.TheVariants as errors;
-ghost use Rattle.pagable_world.specs.Calls.{is_named_by};
+ghost use Rattle.pagable_world.specs.{Plain.Blob, Plain.is_in, Kinds.is_owner, Refusals.refused_if, Refusals.row_fault, Refusals.reference_fault, Refusals.references_fault};
+ghost use Rattle.pagable_world.specs.{Workers.claim_fault, Calls.is_named_by};
 ghost use Rattle.pagable_tables.specs.Core.{core_of, IsWhole};
+ghost use Rattle.pagable_model.specs.declared.error.Error.TheVariants as errors;
 
 use crate::kinds::{fits_mode, is_of};
 use crate::tables::Tables;

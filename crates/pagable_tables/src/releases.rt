@@ -1,19 +1,11 @@
 //! Handles that are given up.
 
 ghost use Rattle.std.specs.Prelude.{◌≡◌, ℕ, ◌≤◌, [], length, Bool, Option, None, not, false, slice_get, Some, nat_eq};
-ghost use Rattle.pagable_world.specs.declared.handles.Owner.TheVariants as owners;
-ghost use Rattle.pagable_world.specs.Plain.{Blob};
-ghost use Rattle.pagable_world.specs.Kinds.{is_owner};
-ghost use Rattle.pagable_world.specs.World.{Core};
-ghost use Rattle.pagable_world.specs.Calls.{ReleaseCall};
-ghost use Rattle.pagable_world.specs.Cascade.{Falls, nobody, only_handle};
-ghost use Rattle.pagable_tables.specs.Live.{live, alive};
+ghost use Rattle.pagable_world.specs.{Plain.Blob, Kinds.is_owner, World.Core, Calls.ReleaseCall, Cascade.Falls, Cascade.nobody, Cascade.only_handle};
+ghost use Rattle.pagable_tables.specs.{Live.live, Live.alive, ByNumber.counts_at, Falling.IsFalling, Falling.is_valued, Falling.owns_nothing, Falling.Sheds, Onward.with_tables};
+ghost use Rattle.pagable_tables.specs.{Onward.SoFar, Core.core_of, Core.IsWhole, Later.AreLater};
 ghost use Rattle.indexmap.specs.IndexMap.{get};
-ghost use Rattle.pagable_tables.specs.ByNumber.{counts_at};
-ghost use Rattle.pagable_tables.specs.Falling.{IsFalling, is_valued, owns_nothing, Sheds};
-ghost use Rattle.pagable_tables.specs.Onward.{with_tables, SoFar};
-ghost use Rattle.pagable_tables.specs.Core.{core_of, IsWhole};
-ghost use Rattle.pagable_tables.specs.Later.{AreLater};
+ghost use Rattle.pagable_world.specs.declared.handles.Owner.TheVariants as owners;
 
 use crate::cascade::fall;
 use crate::holdings;

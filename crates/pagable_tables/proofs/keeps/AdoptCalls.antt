@@ -1,15 +1,12 @@
 -- Calls by which a load goes on keep the world whole.
 use Rattle.pagable_tables.proofs.Words.{◌≡◌, ℕ, ◌+◌, ◌<◌, ◌==◌, ◌%◌, Bool, true, false, if◌then◌else◌, List, [], Ok, Err, Some, None, inl, inr, refl, ap, sym, ◌∙◌, arith, Result, is_some}
-use Rattle.pagable_tables.proofs.Words.{nat_tests, OptionalDataKey, Error, ArcRef, HandleNumber, Kind, LoadNumber, Owner, type_of, is_loose_kind, is_shared, mode_of, has_key, Core}
-use Rattle.pagable_tables.proofs.Words.{greatest, references_fault, OwnsLoad, row_of, next_node, with_handle, with_node, with_cached, is_named_by, GetsKnown, adopted, first_key}
-use Rattle.pagable_tables.proofs.Words.{LazyCall, AdoptCall, IsWhole, IsEntryWhole, ArePlaced, MayHold}
-use Rattle.pagable_tables.proofs.keeps.Rows.{among-last}
-use Rattle.pagable_tables.proofs.keeps.Told.{roomy, settles, alike-whole}
-use Rattle.pagable_tables.proofs.keeps.Comes.{type_in, handle-on}
-use Rattle.pagable_tables.proofs.keeps.Fallen.{may-fall}
-use Rattle.pagable_tables.proofs.keeps.Opened.{opened, alike-opened, falls-opened, references-opened}
-use Rattle.pagable_tables.proofs.keeps.CacheCalls.{mode-shared, known-whole, cached-whole, shared-alike}
-use Rattle.pagable_tables.proofs.keeps.BirthCalls.{born, born-whole, cell-new, no-references, moved-world}
+use Rattle.pagable_tables.proofs.Words.{nat_tests, OptionalDataKey, Error, ArcRef, HandleNumber, Kind, LoadNumber, Owner, type_of, is_loose_kind, is_shared, mode_of, has_key, Core, greatest}
+use Rattle.pagable_tables.proofs.Words.{references_fault, OwnsLoad, row_of, next_node, with_handle, with_node, with_cached, is_named_by, GetsKnown, adopted, first_key, LazyCall, AdoptCall}
+use Rattle.pagable_tables.proofs.Words.{IsWhole, IsEntryWhole, ArePlaced, MayHold}
+use Rattle.pagable_tables.proofs.{keeps.Rows.among-last, keeps.Told.roomy, keeps.Told.settles, keeps.Told.alike-whole, keeps.Comes.type_in, keeps.Comes.handle-on, keeps.Fallen.may-fall}
+use Rattle.pagable_tables.proofs.{keeps.Opened.opened, keeps.Opened.alike-opened, keeps.Opened.falls-opened, keeps.Opened.references-opened, keeps.CacheCalls.mode-shared}
+use Rattle.pagable_tables.proofs.{keeps.CacheCalls.known-whole, keeps.CacheCalls.cached-whole, keeps.CacheCalls.shared-alike, keeps.BirthCalls.born, keeps.BirthCalls.born-whole}
+use Rattle.pagable_tables.proofs.{keeps.BirthCalls.cell-new, keeps.BirthCalls.no-references, keeps.BirthCalls.moved-world}
 
 -- an open load may hold
 load-holds : {w : Core} {me : Owner} {l : LoadNumber} (load : _) → OwnsLoad w me l load → MayHold w (Owner.Load l)
@@ -66,10 +63,7 @@ lazy-whole {w} me l kind key (Ok k) whole call placed = let (load, owns, loose, 
 lazy-whole me l kind key (Err e) whole call placed = alike-whole whole (alike-opened call.refused.stays) placed
 
 shared-keyless : (kind key : ℕ) → is_shared (mode_of kind) ≡ true → has_key (first_key kind key) ≡ false
-shared-keyless kind key shared =
-    let b : (kind % 3 == 0) ≡ true = sym (mode-shared kind) ∙ shared in
-    let c : (kind % 3 == 2) ≡ false = grind (arith, nat_tests) in
-    ap (λ t. has_key (if t then OptionalDataKey.Some key else OptionalDataKey.None)) c
+shared-keyless kind key shared = grind (arith, nat_tests, mode-shared)
 
 pub adopt-whole : {N : Type 0} {w w' : Core} (me : Owner) (l : LoadNumber) (kind : Kind) (key : ℕ) (x : N) (node_type : ℕ) (refs : List ArcRef) (r : Result HandleNumber (Error × N))
     → IsWhole (opened w)

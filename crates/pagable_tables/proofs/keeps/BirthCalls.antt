@@ -1,14 +1,10 @@
 -- Calls by which a node comes, with a handle, keep the world whole.
-use Rattle.pagable_tables.proofs.Words.{◌≡◌, ℕ, suc, zero, ◌+◌, ◌<◌, ◌==◌, ◌||◌, Bool, true, false, not, if◌then◌else◌, List, [], ◌∷◌, Ok, Err, Option, Some, None, inl, inr, refl, ap, sym, subst}
-use Rattle.pagable_tables.proofs.Words.{◌∙◌, arith, ◌⊎◌, ◌≢◌, Result, is_some, nat_lt, nat_tests, OptionalDataKey, Error, ArcRef, HandleNumber, HandleRow, Owner, Mode, Among, if_there, is_in}
-use Rattle.pagable_tables.proofs.Words.{or_else, type_of, updated, held, sharing, is_shared, is_owner, is_owned_by, fits_mode, find_row, has_key, owner_value, Core, Cell, greatest, row_at}
-use Rattle.pagable_tables.proofs.Words.{type_at, references_fault, reference_fault, row_fault, refused_if, is_type, row_of, moved, is_named_by, with_handle, with_node, next_node, BirthCall}
-use Rattle.pagable_tables.proofs.Words.{AwayBirthCall, IsWhole, ArePlaced, MayHold}
-use Rattle.pagable_tables.proofs.Worlds.{owner-same}
-use Rattle.pagable_tables.proofs.keeps.Rows.{found-among, once}
-use Rattle.pagable_tables.proofs.keeps.Told.{roomy, settles, alike-whole}
-use Rattle.pagable_tables.proofs.keeps.Comes.{grown-whole, keyed_in, not-list}
-use Rattle.pagable_tables.proofs.keeps.Moved.{moved-to-value}
+use Rattle.pagable_tables.proofs.Words.{◌≡◌, ℕ, ◌+◌, ◌<◌, ◌==◌, ◌||◌, Bool, true, false, List, [], ◌∷◌, Ok, Err, Option, Some, None, inl, inr, refl, ap, sym, subst, ◌∙◌, arith, ◌⊎◌, ◌≢◌}
+use Rattle.pagable_tables.proofs.Words.{Result, is_some, nat_tests, OptionalDataKey, Error, ArcRef, HandleNumber, HandleRow, Owner, Mode, Among, or_else, updated, held, sharing, is_shared}
+use Rattle.pagable_tables.proofs.Words.{is_owner, is_owned_by, find_row, has_key, owner_value, Core, Cell, greatest, references_fault, reference_fault, row_of, moved, is_named_by}
+use Rattle.pagable_tables.proofs.Words.{with_handle, with_node, next_node, BirthCall, AwayBirthCall, IsWhole, ArePlaced, MayHold}
+use Rattle.pagable_tables.proofs.{keeps.Rows.found-among, keeps.Rows.once, keeps.Told.roomy, keeps.Told.settles, keeps.Told.alike-whole, keeps.Comes.grown-whole, keeps.Comes.keyed_in}
+use Rattle.pagable_tables.proofs.{keeps.Comes.not-list, keeps.Moved.moved-to-value}
 
 -- ---- references that are good
 
@@ -19,24 +15,7 @@ pub record IsMine (w : Core) (owner : Owner) (q : ℕ) : Type 0 where
   pub own : row.owner ≡ owner
 
 good-one : (w : Core) (owner : Owner) (seen : List ℕ) (r : ArcRef) → reference_fault w owner seen r ≡ None → IsMine w owner r.handle.0
-good-one w owner seen r good = of (row_at w r.handle) refl good
-  where
-    parts : (a b c : Bool) (rest : Option Error) → (if not a then Some Error.NoSuchHandle else or_else (refused_if (not b || c) Error.NotYours) rest) ≡ None → b ≡ true
-    parts true true c rest e = refl
-    parts true false c rest e = absurd (cc)
-    parts false b c rest e = absurd (cc)
-
-    of : (found : Option HandleRow) → row_at w r.handle ≡ found
-        → if_there (λ (row : HandleRow). row_fault w r (refused_if (not (is_owner owner row.owner) || is_in seen r.handle.0) Error.NotYours) row) (Some Error.NoSuchHandle) found ≡ None
-        → IsMine w owner r.handle.0
-    of None e good = absurd (cc)
-    of (Some row) e good =
-        record {
-          row = row;
-          live = e;
-          own = owner-same owner row.owner (parts (row.node.0 == r.node.0) (is_owner owner row.owner) (is_in seen r.handle.0)
-              (if not (fits_mode r.kind.0 row.mode) then Some Error.WrongMode else refused_if (not (is_type (type_of r.kind.0) (type_at w r.node.0))) Error.WrongKind) good);
-        }
+good-one w owner seen r good = grind (arith, nat_tests)
 
 or-none : {X : Type 0} (a b : Option X) → or_else a b ≡ None → (a ≡ None) × (b ≡ None)
 or-none None b e = (refl, e)
@@ -77,14 +56,7 @@ module _ {w : Core} (whole : IsWhole w) (node_type : ℕ) (key : OptionalDataKey
   moved-whole = moved-to-value whole (is_named_by refs) (named-unlisted whole from refs other good) (w.last.node + 1)
 
   none-held : held (w.last.node + 1) moved-world.rows ≡ 0
-  none-held = at (held (w.last.node + 1) moved-world.rows) refl
-    where
-      at : (k : ℕ) → held (w.last.node + 1) moved-world.rows ≡ k → held (w.last.node + 1) moved-world.rows ≡ 0
-      at zero e = e
-      at (suc k) e =
-          let a : nat_lt 0 (held (w.last.node + 1) moved-world.rows) ≡ true = grind (arith, nat_tests) in
-          let b = (whole.handles.nodes_numbered (w.last.node + 1) (moved-whole.handles.live (w.last.node + 1) ∙ a)).1 in
-          absurd (omega arith)
+  none-held = grind (arith, nat_tests, moved-whole)
 
   none-shared : sharing (w.last.node + 1) moved-world.rows ≡ 0
   none-shared = elim (moved-whole.handles.uniform (w.last.node + 1)) [ inl none ↦ none | inr all ↦ all ∙ none-held ]

@@ -1,12 +1,11 @@
 -- Calls on the cache and on room keep the world whole.
-use Rattle.pagable_tables.proofs.Words.{◌≡◌, ℕ, ◌<◌, ◌==◌, ◌&&◌, ◌%◌, Bool, true, false, not, if◌then◌else◌, Ok, Err, Option, Some, None, inl, inr, refl, ap, sym, subst, ◌∙◌, arith, Result}
-use Rattle.pagable_tables.proofs.Words.{is_some, nat_lt, nat_tests, Error, HandleNumber, Kind, NodeNumber, HandleRow, Owner, Mode, one, Among, if_there, type_of, is_shared_kind, is_loose_kind}
-use Rattle.pagable_tables.proofs.Words.{is_pinned_kind, held, sharing, pins, is_at, is_share, is_shared, is_in_memory, fits_mode, mode_of, Core, Cell, greatest, usable, only_handle, ClearCall}
-use Rattle.pagable_tables.proofs.Words.{ReserveCall, RecallCall, OfferCall, with_cached, with_known, IsWhole, IsEntryWhole, ArePlaced, MayHold, Suits}
-use Rattle.pagable_tables.proofs.keeps.Rows.{at-most-sum, counted, found-among}
-use Rattle.pagable_tables.proofs.keeps.Told.{roomy, roomy-whole, settles, told-whole, alike-whole, may-own}
-use Rattle.pagable_tables.proofs.keeps.Comes.{type_in, beside, handle-on, unshared-node}
-use Rattle.pagable_tables.proofs.keeps.Fallen.{may-fall, falls-whole}
+use Rattle.pagable_tables.proofs.Words.{◌≡◌, ℕ, ◌<◌, ◌==◌, ◌&&◌, Bool, true, false, if◌then◌else◌, Ok, Err, Option, Some, None, inl, inr, refl, ap, sym, subst, ◌∙◌, arith, Result, is_some}
+use Rattle.pagable_tables.proofs.Words.{nat_lt, nat_tests, Error, HandleNumber, Kind, NodeNumber, HandleRow, Owner, Mode, one, Among, type_of, is_shared_kind, held, sharing, is_at, is_share}
+use Rattle.pagable_tables.proofs.Words.{is_shared, fits_mode, mode_of, Core, Cell, greatest, usable, only_handle, ClearCall, ReserveCall, RecallCall, OfferCall, with_cached, with_known}
+use Rattle.pagable_tables.proofs.Words.{IsWhole, IsEntryWhole, ArePlaced, MayHold, Suits}
+use Rattle.pagable_tables.proofs.{keeps.Rows.at-most-sum, keeps.Rows.counted, keeps.Rows.found-among, keeps.Told.roomy, keeps.Told.roomy-whole, keeps.Told.settles, keeps.Told.told-whole}
+use Rattle.pagable_tables.proofs.{keeps.Told.alike-whole, keeps.Told.may-own, keeps.Comes.type_in, keeps.Comes.beside, keeps.Comes.handle-on, keeps.Comes.unshared-node}
+use Rattle.pagable_tables.proofs.{keeps.Fallen.may-fall, keeps.Fallen.falls-whole}
 
 pub clear-whole : {w w' : Core} (r : Result (Unit {0}) Error) → IsWhole w → ClearCall w r w' → ArePlaced w' → IsWhole w'
 clear-whole {w} {w'} r whole call placed = let a = call.leaves in
@@ -18,37 +17,14 @@ reserve-whole n r whole call placed = alike-whole whole call.stays placed
 -- ---- what the cache gives
 
 pub mode-shared : (kind : ℕ) → is_shared (mode_of kind) ≡ is_shared_kind kind
-mode-shared kind = at (is_shared_kind kind) (is_loose_kind kind)
-  where
-    at : (a b : Bool) → is_shared (if a then Mode.Shared else if b then Mode.LooseUnpinned else Mode.Pinned) ≡ a
-    at true b = refl
-    at false true = refl
-    at false false = refl
+mode-shared kind = grind (arith, nat_tests)
 
 pub fits-shared : (kind : ℕ) (mode : Mode) → fits_mode kind mode ≡ true → is_shared mode ≡ is_shared_kind kind
-fits-shared kind Mode.Shared fits = sym fits
-fits-shared kind Mode.Pinned fits = let a : (kind % 3 == 2) ≡ true = fits in grind (arith, nat_tests)
-fits-shared kind Mode.LoosePinned fits = let a : (kind % 3 == 1) ≡ true = fits in grind (arith, nat_tests)
-fits-shared kind Mode.LooseUnpinned fits = let a : (kind % 3 == 1) ≡ true = fits in grind (arith, nat_tests)
+fits-shared kind mode fits = grind (arith, nat_tests)
 
 -- an entry that is given names a live node
 usable-is : (w : Core) (kind key n : ℕ) → usable w kind key ≡ Some n → (w.cache kind key ≡ Some n) × (is_some (w.cells n) ≡ true)
-usable-is w kind key n is = at (w.cache kind key) refl is
-  where
-    of-cell : (m : ℕ) (cell : Option Cell) → w.cells m ≡ cell → if_there
-        (λ (cell : Cell). if is_pinned_kind kind && not (is_in_memory (pins m w.rows) cell.key) then None else Some m) None cell ≡ Some n → (m ≡ n) × (is_some (w.cells m) ≡ true)
-    of-cell m None e is = absurd (cc)
-    of-cell m (Some cell) e is = (so (is_pinned_kind kind && not (is_in_memory (pins m w.rows) cell.key)) is, ap is_some e)
-      where
-        so : (b : Bool) → (if b then None else Some m) ≡ Some n → m ≡ n
-        so true is = absurd (cc)
-        so false is = cc
-
-    at : (found : Option ℕ) → w.cache kind key ≡ found → if_there
-        (λ m. if_there (λ (cell : Cell). if is_pinned_kind kind && not (is_in_memory (pins m w.rows) cell.key) then None else Some m) None (w.cells m)) None found ≡ Some n
-        → (w.cache kind key ≡ Some n) × (is_some (w.cells n) ≡ true)
-    at None e is = absurd (cc)
-    at (Some m) e is = let a = of-cell m (w.cells m) refl is in (e ∙ ap (λ k. Some k) a.0, ap (λ k. is_some (w.cells k)) (sym a.0) ∙ a.1)
+usable-is w kind key n is = grind (arith, nat_tests)
 
 -- so the mode of its kind suits the node
 pub known-suits : {w : Core} → IsWhole w → (kind key n : ℕ) → usable w kind key ≡ Some n → Suits w (record { 0 = n }) (mode_of kind)
@@ -60,11 +36,7 @@ known-suits {w} whole kind key n is =
     record { row = found.0; there = found.1; at = ap (λ k. record { 0 = k }) at; shared = (whole.cache kind key n a.0).shares found.0 found.1 at ∙ sym (mode-shared kind) }
   where
     one-at : (m : ℕ) → 0 < one (m == n) → m ≡ n
-    one-at m some = at (m == n) refl some
-      where
-        at : (b : Bool) → (m == n) ≡ b → 0 < one b → m ≡ n
-        at true e some = grind (arith, nat_tests)
-        at false e some = absurd (omega arith)
+    one-at m some = grind (arith, nat_tests)
 
 pub known-whole : {w : Core} (kind : Kind) (key n : ℕ) (owner : Owner) → IsWhole w → usable w kind.0 key ≡ Some n → MayHold w owner → w.last.handle < greatest
     → IsWhole (roomy (with_known w kind n owner))

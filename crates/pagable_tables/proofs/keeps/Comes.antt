@@ -1,22 +1,17 @@
 -- A handle comes, under the next number.
-use Rattle.pagable_tables.proofs.Words.{◌≡◌, ℕ, ◌≤◌, ◌<◌, ◌+◌, ◌==◌, ◌&&◌, Bool, true, false, [], ◌∷◌, ◌++◌, Option, Some, None, inl, inr, refl, ap, sym, subst, ◌∙◌, arith, ◌⊎◌, ◌≢◌, is_some}
-use Rattle.pagable_tables.proofs.Words.{nat_lt, cases_eq, nat_tests, sum_by_push, OptionalDataKey, HandleNumber, NodeNumber, HandleRow, Owner, Mode, one, Among, if_there, is_shared_kind, held}
-use Rattle.pagable_tables.proofs.Words.{sharing, is_at, is_share, is_shared, is_handle, is_owner, is_owned_by, has_key, Core, Cell, greatest, with_handle, row_of, OwnersAreThere, IsRootWhole}
-use Rattle.pagable_tables.proofs.Words.{IsEntryWhole, IsWhole, is_valued, MayHold, Suits}
+use Rattle.pagable_tables.proofs.Words.{◌≡◌, ℕ, ◌≤◌, ◌<◌, ◌+◌, ◌==◌, ◌&&◌, Bool, true, false, [], ◌∷◌, ◌++◌, Option, Some, None, inl, inr, refl, ap, sym, subst, ◌∙◌, arith, ◌⊎◌, ◌≢◌}
+use Rattle.pagable_tables.proofs.Words.{is_some, nat_lt, cases_eq, nat_tests, sum_by_push, OptionalDataKey, HandleNumber, NodeNumber, HandleRow, Owner, Mode, one, Among, if_there}
+use Rattle.pagable_tables.proofs.Words.{is_shared_kind, held, sharing, is_at, is_share, is_shared, is_handle, is_owner, is_owned_by, has_key, Core, Cell, greatest, with_handle, row_of}
+use Rattle.pagable_tables.proofs.Words.{OwnersAreThere, IsRootWhole, IsEntryWhole, IsWhole, is_valued, MayHold, Suits}
 use Rattle.pagable_tables.proofs.keeps.Rows.{among-both, among-one, at-most-sum, sum-less, found-among, found-push, ordered-push}
-use Rattle.pagable_tables.proofs.keeps.Told.{roomy, may-own}
-use Rattle.pagable_tables.proofs.keeps.GoingOn.{GoesOn}
+use Rattle.pagable_tables.proofs.{keeps.Told.roomy, keeps.Told.may-own, keeps.GoingOn.GoesOn}
 
 -- who may hold is neither the list nor a value
 pub not-list : (w : Core) (o : Owner) → MayHold w o → is_owner Owner.List o ≡ false
-not-list w (Owner.Value n) may = absurd may
-not-list w Owner.List may = absurd may
-not-list w _ may = refl
+not-list w o may = grind (arith, nat_tests)
 
 pub not-a-value : (w : Core) (o : Owner) → MayHold w o → is_valued o ≡ false
-not-a-value w (Owner.Value n) may = absurd may
-not-a-value w Owner.List may = absurd may
-not-a-value w _ may = refl
+not-a-value w o may = grind (arith, nat_tests)
 
 pub not-the-list : (w : Core) (o : Owner) → MayHold w o → o ≡ Owner.List → ⊥
 not-the-list w o may is = subst (MayHold w) is may
@@ -54,53 +49,13 @@ module _ {w : Core} (whole : IsWhole w) (x : HandleRow) (cells : ℕ → Option 
   share-here = ap (λ b. one (b && is_shared x.mode)) at-here
 
   grown-live : (n : ℕ) → is_some (cells n) ≡ nat_lt 0 (held n grown.rows)
-  grown-live n = elim (cases_eq n x.node.0) [
-    | inl e ↦
-        let a = held-push x.node.0 in
-        let b : one (is_at x.node.0 x) ≡ 1 = ap one at-here in
-        let c : nat_lt 0 (held x.node.0 grown.rows) ≡ true = grind (arith, nat_tests) in
-        subst (λ m. is_some (cells m) ≡ nat_lt 0 (held m grown.rows)) (sym e) (there ∙ sym c)
-    | inr other ↦
-        let a = held-push n in
-        let b : one (is_at n x) ≡ 0 = ap one (at-other n other) in
-        let c : held n w.rows ≡ held n grown.rows = omega arith in
-        ap is_some (others n other) ∙ whole.handles.live n ∙ ap (nat_lt 0) c
-  ]
+  grown-live n = grind (arith, nat_tests, held-push, at-here, at-other)
 
   grown-uniform : (n : ℕ) → (sharing n grown.rows ≡ 0) ⊎ (sharing n grown.rows ≡ held n grown.rows)
-  grown-uniform n = elim (cases_eq n x.node.0) [
-    | inl e ↦
-        let a = held-push x.node.0 in
-        let b = sharing-push x.node.0 in
-        let c : one (is_at x.node.0 x) ≡ 1 = ap one at-here in
-        let d = share-here in
-        subst (λ m. (sharing m grown.rows ≡ 0) ⊎ (sharing m grown.rows ≡ held m grown.rows)) (sym e) (elim uniform [
-          | inl u ↦ let f : one (is_shared x.mode) ≡ 0 = ap one u.0 in let g = u.1 in inl (omega arith)
-          | inr u ↦ let f : one (is_shared x.mode) ≡ 1 = ap one u.0 in let g = u.1 in inr (omega arith)
-        ])
-    | inr other ↦
-        let a = held-push n in
-        let b = sharing-push n in
-        let c : one (is_at n x) ≡ 0 = ap one (at-other n other) in
-        let d : one (is_share n x) ≡ 0 = ap (λ b. one (b && is_shared x.mode)) (at-other n other) in
-        elim (whole.handles.uniform n) [ inl u ↦ inl (omega arith) | inr u ↦ inr (omega arith) ]
-  ]
+  grown-uniform n = grind (arith, nat_tests, held-push, sharing-push, at-here, share-here, at-other)
 
   grown-unkeyed : (n : ℕ) → 0 < sharing n grown.rows → keyed_in (cells n) ≡ false
-  grown-unkeyed n some = elim (cases_eq n x.node.0) [
-    | inl e ↦
-        let b = sharing-push x.node.0 in
-        let d = share-here in
-        let s : 0 < sharing x.node.0 grown.rows = subst (λ m. 0 < sharing m grown.rows) e some in
-        ap (λ m. keyed_in (cells m)) e ∙ elim uniform [
-          | inl u ↦ let f : one (is_shared x.mode) ≡ 0 = ap one u.0 in let g = u.1 in absurd (omega arith)
-          | inr u ↦ u.2
-        ]
-    | inr other ↦
-        let b = sharing-push n in
-        let d : one (is_share n x) ≡ 0 = ap (λ b. one (b && is_shared x.mode)) (at-other n other) in
-        ap keyed_in (others n other) ∙ whole.handles.unkeyed n (omega arith)
-  ]
+  grown-unkeyed n some = grind (arith, nat_tests, sharing-push, share-here, at-other)
 
   grown-owners : OwnersAreThere grown
   grown-owners =
@@ -128,10 +83,7 @@ module _ {w : Core} (whole : IsWhole w) (x : HandleRow) (cells : ℕ → Option 
 
   -- a node that was there before has its type still
   old-type : (n t : ℕ) → n ≤ w.last.node → type_in (cells n) ≡ Some t → type_in (w.cells n) ≡ Some t
-  old-type n t given is = elim (cases_eq n x.node.0) [
-    | inl e ↦ elim (typed t (subst (λ m. type_in (cells m) ≡ Some t) e is)) [ inl was ↦ subst (λ m. type_in (w.cells m) ≡ Some t) (sym e) was | inr new ↦ absurd (omega arith) ]
-    | inr other ↦ ap type_in (sym (others n other)) ∙ is
-  ]
+  old-type n t given is = grind (arith, nat_tests)
 
   grown-root : (n : NodeNumber) (t : ℕ) (h : HandleNumber) → IsRootWhole w n t h → IsRootWhole grown n t h
   grown-root n t h r =
@@ -188,9 +140,7 @@ module _ {w : Core} (whole : IsWhole w) (x : HandleRow) (cells : ℕ → Option 
       }
 
 share-le : (a b : Bool) → one (a && b) ≤ one a
-share-le true true = omega arith
-share-le true false = omega arith
-share-le false b = omega arith
+share-le a b = grind (arith, nat_tests)
 
 -- Beside the handles that its node has.
 module _ {w : Core} (whole : IsWhole w) (node : NodeNumber) (mode : Mode) (suits : Suits w node mode) where

@@ -1,30 +1,20 @@
 -- Calls by which a load ends, and the close of the storage, keep the world whole.
 use Rattle.pagable_tables.proofs.Words.{◌≡◌, ℕ, suc, zero, ◌<◌, ◌==◌, ◌&&◌, ◌||◌, Bool, true, false, not, if◌then◌else◌, List, [], ◌∷◌, Ok, Err, Option, Some, None, inl, inr, refl, ap, sym}
-use Rattle.pagable_tables.proofs.Words.{subst, ◌∙◌, arith, ◌⊎◌, Result, is_some, nat_lt, nat_tests, Error, ArcRef, HandleNumber, LoadNumber, NodeNumber, HandleRow, Owner, Mode, Among, times}
-use Rattle.pagable_tables.proofs.Words.{if_there, is_in, updated, is_loose, is_handle, is_owner, is_owned_by, owner_value, Core, OpenLoad, greatest, row_at, Owns, references_fault, named_fault}
-use Rattle.pagable_tables.proofs.Words.{load_fault, refused_if, earlier, rank, moved, with_mode, is_named_by, is_listed, shut, CloseCall, without_load, with_pin, is_owned_in, numbers_of}
-use Rattle.pagable_tables.proofs.Words.{cell_fault, LoadCloses, EndCall, HandOverCall, DropCall, IsWhole, MayOwnLoad, ArePlaced}
-use Rattle.pagable_tables.proofs.Worlds.{owner-same}
-use Rattle.pagable_tables.proofs.keeps.Rows.{among-both, among-one, among-map, among-to, found-among, once, ordered-map}
-use Rattle.pagable_tables.proofs.keeps.Rests.{found-so}
-use Rattle.pagable_tables.proofs.keeps.Told.{roomy, roomy-whole, roomy-loads, alike-whole, may-own}
-use Rattle.pagable_tables.proofs.keeps.GoingOn.{GoesOn, stays-on, then-on, on-listing}
-use Rattle.pagable_tables.proofs.keeps.Comes.{not-list}
-use Rattle.pagable_tables.proofs.keeps.Moved.{moved-number, moved-on, moved-to-value, moved-to-holder}
-use Rattle.pagable_tables.proofs.keeps.Fallen.{MayFall}
-use Rattle.pagable_tables.proofs.keeps.Opened.{opened, alike-opened, falls-opened, references-opened}
-use Rattle.pagable_tables.proofs.keeps.HandleCalls.{pin-comes, pin-on}
-use Rattle.pagable_tables.proofs.keeps.LoadCalls.{may-hold}
-use Rattle.pagable_tables.proofs.keeps.BirthCalls.{IsMine, named-mine, named-unlisted}
+use Rattle.pagable_tables.proofs.Words.{subst, ◌∙◌, arith, ◌⊎◌, Result, is_some, nat_tests, Error, ArcRef, HandleNumber, LoadNumber, NodeNumber, HandleRow, Owner, Mode, Among, times}
+use Rattle.pagable_tables.proofs.Words.{if_there, is_in, updated, is_loose, is_handle, is_owner, is_owned_by, owner_value, Core, OpenLoad, greatest, row_at, Owns, references_fault}
+use Rattle.pagable_tables.proofs.Words.{named_fault, load_fault, refused_if, earlier, moved, with_mode, is_named_by, is_listed, shut, CloseCall, without_load, with_pin, is_owned_in}
+use Rattle.pagable_tables.proofs.Words.{numbers_of, cell_fault, LoadCloses, EndCall, HandOverCall, DropCall, IsWhole, MayOwnLoad, ArePlaced}
+use Rattle.pagable_tables.proofs.{Worlds.owner-same, keeps.Rows.among-both, keeps.Rows.among-one, keeps.Rows.among-map, keeps.Rows.among-to, keeps.Rows.found-among, keeps.Rows.once}
+use Rattle.pagable_tables.proofs.{keeps.Rows.ordered-map, keeps.Rests.found-so, keeps.Told.roomy, keeps.Told.roomy-whole, keeps.Told.roomy-loads, keeps.Told.alike-whole, keeps.Told.may-own}
+use Rattle.pagable_tables.proofs.{keeps.GoingOn.GoesOn, keeps.GoingOn.stays-on, keeps.GoingOn.then-on, keeps.GoingOn.on-listing, keeps.Comes.not-list, keeps.Moved.moved-number}
+use Rattle.pagable_tables.proofs.{keeps.Moved.moved-on, keeps.Moved.moved-to-value, keeps.Moved.moved-to-holder, keeps.Fallen.MayFall, keeps.Opened.opened, keeps.Opened.alike-opened}
+use Rattle.pagable_tables.proofs.{keeps.Opened.falls-opened, keeps.Opened.references-opened, keeps.HandleCalls.pin-comes, keeps.HandleCalls.pin-on, keeps.LoadCalls.may-hold}
+use Rattle.pagable_tables.proofs.{keeps.BirthCalls.IsMine, keeps.BirthCalls.named-mine, keeps.BirthCalls.named-unlisted}
 
 -- ---- a load closes
 
 still-there : {X : Type 0} (l : ℕ) (f : ℕ → Option X) (q : ℕ) (x : X) → updated l None f q ≡ Some x → f q ≡ Some x
-still-there {X} l f q x is = at (q == l) is
-  where
-    at : (b : Bool) → (if b then None else f q) ≡ Some x → f q ≡ Some x
-    at true is = absurd (cc)
-    at false is = is
+still-there {X} l f q x is = grind (arith, nat_tests)
 
 -- what is whole before a load closes may fall after, where all that the load owns is given
 pub closes : {before u : Core} (l : LoadNumber) (given : ℕ → Bool) → IsWhole before → IsWhole (roomy u) → GoesOn before u
@@ -171,13 +161,7 @@ end-whole me l x node_type refs (Err (e, None)) whole call placed = let v = call
 -- ---- a load of a key hands over
 
 pub both-none : (a b : Option Error) → earlier a b ≡ None → (a ≡ None) × (b ≡ None)
-both-none None b e = (refl, e)
-both-none (Some x) None e = absurd (cc)
-both-none (Some x) (Some y) e = at (nat_lt (rank y) (rank x)) e
-  where
-    at : (c : Bool) → (if c then Some y else Some x) ≡ None → (Some x ≡ None) × (Some y ≡ None)
-    at true e = absurd (cc)
-    at false e = absurd (cc)
+both-none a b e = grind (arith, nat_tests)
 
 pub handed-mine : (w : Core) (owner : Owner) (seen : List ℕ) (hs : List HandleNumber) → named_fault w owner seen hs ≡ None → (q : ℕ) → is_in (numbers_of hs) q ≡ true → IsMine w owner q
 unfolding named_fault is_in
@@ -202,16 +186,7 @@ handed-mine w owner seen (h ∷ hs) good q named =
 
 -- who isn't refused owns the load
 pub asker-owns : {w : Core} → IsWhole w → (me : Owner) (l : LoadNumber) → load_fault w me l ≡ None → MayOwnLoad w me
-asker-owns {w} whole me l none = of (w.loads l.0) refl none
-  where
-    own : (b : Bool) → refused_if (not b) Error.NotYours ≡ None → b ≡ true
-    own true e = refl
-    own false e = absurd (cc)
-
-    of : (found : Option OpenLoad) → w.loads l.0 ≡ found → if_there (λ (load : OpenLoad). refused_if (not (is_owner me load.owner)) Error.NotYours) (Some Error.NoSuchHandle) found ≡ None
-        → MayOwnLoad w me
-    of None e good = absurd (cc)
-    of (Some load) e good = subst (MayOwnLoad w) (owner-same me load.owner (own (is_owner me load.owner) good)) (whole.loads.owned l.0 load e)
+asker-owns {w} whole me l none = grind (arith, nat_tests)
 
 pub hand-over-whole : {w w' : Core} (me : Owner) (l : LoadNumber) (hs : List HandleNumber) (r : Result (Unit {0}) Error) → IsWhole (opened w)
     → HandOverCall w me l hs r w' → ArePlaced (opened w') → IsWhole (opened w')

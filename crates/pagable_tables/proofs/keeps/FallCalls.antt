@@ -1,15 +1,10 @@
 -- Calls by which handles or values fall keep the world whole.
-use Rattle.pagable_tables.proofs.Words.{◌≡◌, ℕ, ◌<◌, ◌==◌, Bool, true, false, Option, Some, None, inl, inr, refl, ap, sym, ◌∙◌, if◌then◌else◌, arith, Result, is_some, nat_tests, OptionalDataKey}
-use Rattle.pagable_tables.proofs.Words.{Error, HandleNumber, NodeNumber, Owner, Mode, if_there, is_shared, sharing, Core, Cell, only_handle, nobody, with_key, ReleaseCall, UnpinCall, SetKeyCall}
-use Rattle.pagable_tables.proofs.Words.{IsWhole, ArePlaced}
-use Rattle.pagable_tables.proofs.keeps.Rows.{found-among}
-use Rattle.pagable_tables.proofs.keeps.Told.{roomy-whole, alike-whole, may-own}
-use Rattle.pagable_tables.proofs.keeps.GoingOn.{GoesOn, stays-on}
-use Rattle.pagable_tables.proofs.keeps.Turned.{moded-whole, moded-on}
-use Rattle.pagable_tables.proofs.keeps.Comes.{keyed_in, type_in, unshared-node}
-use Rattle.pagable_tables.proofs.keeps.Fallen.{may-fall}
-use Rattle.pagable_tables.proofs.keeps.Opened.{opened, alike-opened, falls-opened}
-use Rattle.pagable_tables.proofs.keeps.HandleCalls.{loose-unshared}
+use Rattle.pagable_tables.proofs.Words.{◌≡◌, ℕ, ◌<◌, false, Option, Some, None, inl, inr, refl, ap, sym, ◌∙◌, arith, Result, is_some, nat_tests, OptionalDataKey, Error, HandleNumber}
+use Rattle.pagable_tables.proofs.Words.{NodeNumber, Owner, Mode, if_there, is_shared, sharing, Core, Cell, only_handle, nobody, with_key, ReleaseCall, UnpinCall, SetKeyCall, IsWhole}
+use Rattle.pagable_tables.proofs.Words.{ArePlaced}
+use Rattle.pagable_tables.proofs.{keeps.Rows.found-among, keeps.Told.roomy-whole, keeps.Told.alike-whole, keeps.Told.may-own, keeps.GoingOn.GoesOn, keeps.GoingOn.stays-on}
+use Rattle.pagable_tables.proofs.{keeps.Turned.moded-whole, keeps.Turned.moded-on, keeps.Comes.keyed_in, keeps.Comes.type_in, keeps.Comes.unshared-node, keeps.Fallen.may-fall}
+use Rattle.pagable_tables.proofs.{keeps.Opened.opened, keeps.Opened.alike-opened, keeps.Opened.falls-opened, keeps.HandleCalls.loose-unshared}
 
 pub release-whole : {w w' : Core} (me : Owner) (h : HandleNumber) (r : Result (Unit {0}) Error) → IsWhole (opened w) → ReleaseCall w me h r w' → ArePlaced (opened w') → IsWhole (opened w')
 release-whole {w} me h r whole call placed = elim call.does [
@@ -35,11 +30,7 @@ module _ {w : Core} (whole : IsWhole w) (node : NodeNumber) (key : ℕ) (unshare
   rekey cell = if_there (λ (cell : Cell). Some (record cell { key = OptionalDataKey.Some key })) None cell
 
   kept : {X : Type 0} (f : Option Cell → X) → ((cell : Option Cell) → f (rekey cell) ≡ f cell) → (n : ℕ) → f ((with_key w node key).cells n) ≡ f (w.cells n)
-  kept {X} f same n = at (n == node.0) refl
-    where
-      at : (b : Bool) → (n == node.0) ≡ b → f (if b then rekey (w.cells node.0) else w.cells n) ≡ f (w.cells n)
-      at true e = let is : n ≡ node.0 = grind (arith, nat_tests) in same (w.cells node.0) ∙ ap (λ m. f (w.cells m)) (sym is)
-      at false e = refl
+  kept {X} f same n = grind (arith, nat_tests)
 
   same-there : (cell : Option Cell) → is_some (rekey cell) ≡ is_some cell
   same-there None = refl
@@ -50,11 +41,7 @@ module _ {w : Core} (whole : IsWhole w) (node : NodeNumber) (key : ℕ) (unshare
   same-type (Some cell) = refl
 
   keyless : (n : ℕ) → 0 < sharing n w.rows → keyed_in ((with_key w node key).cells n) ≡ false
-  keyless n some = at (n == node.0) refl
-    where
-      at : (b : Bool) → (n == node.0) ≡ b → keyed_in (if b then rekey (w.cells node.0) else w.cells n) ≡ false
-      at true e = let is : n ≡ node.0 = grind (arith, nat_tests) in let a : sharing n w.rows ≡ 0 = ap (λ m. sharing m w.rows) is ∙ unshared in absurd (omega arith)
-      at false e = whole.handles.unkeyed n some
+  keyless n some = grind (arith, nat_tests)
 
   pub keyed-whole : IsWhole (with_key w node key)
   keyed-whole =

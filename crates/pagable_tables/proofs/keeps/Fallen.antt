@@ -1,38 +1,22 @@
 -- The world is whole once handles have fallen.
-use Rattle.std.proofs.Common.{◌≡◌, ℕ, suc, zero, ◌+◌, ◌<◌, ◌≤◌, ◌==◌, ◌&&◌, Bool, true, false, not, List, [], ◌∷◌, ◌++◌, length, filter, if◌then◌else◌, Option, Some, None, inl, inr, refl, ap, sym, subst, ◌∙◌, arith}
-use Rattle.std.specs.Prelude.{◌⊎◌, map, is_some, nat_lt, Result}
-use Rattle.std.proofs.lemmas.Bool.Decides.{nat_tests}
-use Rattle.std.proofs.lemmas.List.Kept.{AllPairs-filter}
-use Rattle.std.proofs.lemmas.List.Sums.{sum_by-append}
-use Rattle.pagable_model.specs.declared.error.Error.{Error}
-use Rattle.pagable_model.specs.declared.numbers.HandleNumber.{HandleNumber}
-use Rattle.pagable_model.specs.declared.numbers.LoadNumber.{LoadNumber}
-use Rattle.pagable_model.specs.declared.numbers.NodeNumber.{NodeNumber}
-use Rattle.pagable_world.specs.declared.handles.HandleRow.{HandleRow}
-use Rattle.pagable_world.specs.declared.handles.Owner.TheVariants as owners
-use Rattle.pagable_world.specs.declared.rows.Mode.{Mode}
-use Rattle.pagable_world.specs.declared.rows.Mode.TheVariants as modes
-use Rattle.pagable_world.specs.Plain.{one, Among, times, is_shared_kind}
-use Rattle.pagable_world.specs.Kinds.{held, pins, sharing, is_at, is_share, is_shared, is_loose, is_handle, is_owned_by}
-use Rattle.pagable_world.specs.World.{Core, Cell, greatest}
-use Rattle.pagable_world.specs.Cascade.{Falls, fallen, left_rows, IsWithin, AreNewEntries}
-use Rattle.pagable_world.specs.Pager.{IsHandleBefore, HandlesAreWhole, OwnersAreThere, LoadsAreWhole, IsRootWhole, IsEntryWhole, IsWhole}
-use Rattle.pagable_tables.specs.Core.{ArePlaced}
-use Rattle.pagable_tables.proofs.Left.{left-le, entries-none}
-use Rattle.pagable_tables.proofs.keeps.Rows.{among-both, among-left, at-most-sum, counted, found-among}
+use Rattle.pagable_tables.proofs.Words.{◌≡◌, ℕ, suc, zero, ◌+◌, ◌<◌, ◌≤◌, ◌==◌, ◌&&◌, Bool, true, false, not, List, [], ◌∷◌, ◌++◌, length, filter, if◌then◌else◌, Option, Some, None, inl}
+use Rattle.pagable_tables.proofs.Words.{inr, refl, ap, sym, subst, ◌∙◌, arith, ◌⊎◌, map, is_some, nat_lt, Result, nat_tests, AllPairs-filter, sum_by-append, Error, HandleNumber, LoadNumber}
+use Rattle.pagable_tables.proofs.Words.{NodeNumber, HandleRow, Owner, Mode, one, Among, times, is_shared_kind, held, pins, sharing, is_at, is_share, is_shared, is_loose, is_handle}
+use Rattle.pagable_tables.proofs.Words.{is_owned_by, Core, Cell, greatest, Falls, fallen, left_rows, IsWithin, AreNewEntries, IsHandleBefore, HandlesAreWhole, OwnersAreThere, LoadsAreWhole}
+use Rattle.pagable_tables.proofs.Words.{IsRootWhole, IsEntryWhole, IsWhole, ArePlaced}
 use Rattle.pagable_tables.proofs.keeps.Rests.{found-so, same-left, one-left, within-goes, IsEntry, entry-is, entries-listed, ordered-entries}
-use Rattle.pagable_tables.proofs.keeps.Told.{roomy, roomy-loads, may-own, settles}
-use Rattle.pagable_tables.proofs.keeps.GoingOn.{GoesOn, on-listing}
-use Rattle.pagable_tables.proofs.keeps.Comes.{keyed_in, type_in}
+use Rattle.pagable_tables.proofs.{Left.left-le, Left.entries-none, keeps.Rows.among-both, keeps.Rows.among-left, keeps.Rows.at-most-sum, keeps.Rows.counted, keeps.Rows.found-among}
+use Rattle.pagable_tables.proofs.{keeps.Told.roomy, keeps.Told.roomy-loads, keeps.Told.may-own, keeps.Told.settles, keeps.GoingOn.GoesOn, keeps.GoingOn.on-listing, keeps.Comes.keyed_in}
+use Rattle.pagable_tables.proofs.{keeps.Comes.type_in}
 
 -- What is whole of a world before handles fall: all, but that owners of the given handles may have gone. And a cell that must be listed is there still, and unshared.
 pub record MayFall (before u : Core) (given : ℕ → Bool) : Type 0 where
   pub handles : HandlesAreWhole (roomy u)
-  pub listed : (q : ℕ) → (times (λ (h : HandleNumber). h.0 == q) u.list ≡ times (λ h. is_handle q h && is_owned_by owners.List h) u.rows)
+  pub listed : (q : ℕ) → (times (λ (h : HandleNumber). h.0 == q) u.list ≡ times (λ h. is_handle q h && is_owned_by Owner.List h) u.rows)
       ⊎ ((given q ≡ true) × (times (λ (h : HandleNumber). h.0 == q) u.list ≡ 0))
-  pub waiting : (h : HandleRow) → Among u.rows h → h.owner ≡ owners.List → h.mode ≡ modes.LooseUnpinned
-  pub loads_there : (h : HandleRow) (l : LoadNumber) → Among u.rows h → h.owner ≡ owners.Load l → (is_some (u.loads l.0) ≡ true) ⊎ (given h.number.0 ≡ true)
-  pub workers_there : (h : HandleRow) (v : ℕ) → Among u.rows h → h.owner ≡ owners.Worker (record { 0 = v }) → (u.workers v ≡ true) ⊎ (given h.number.0 ≡ true)
+  pub waiting : (h : HandleRow) → Among u.rows h → h.owner ≡ Owner.List → h.mode ≡ Mode.LooseUnpinned
+  pub loads_there : (h : HandleRow) (l : LoadNumber) → Among u.rows h → h.owner ≡ Owner.Load l → (is_some (u.loads l.0) ≡ true) ⊎ (given h.number.0 ≡ true)
+  pub workers_there : (h : HandleRow) (v : ℕ) → Among u.rows h → h.owner ≡ Owner.Worker (record { 0 = v }) → (u.workers v ≡ true) ⊎ (given h.number.0 ≡ true)
   pub loads : LoadsAreWhole u
   pub cache : (kind key n : ℕ) → u.cache kind key ≡ Some n → IsEntryWhole u kind n
   pub workers_numbered : (v : ℕ) → u.workers v ≡ true → v ≤ u.last.worker
@@ -99,12 +83,7 @@ module _ {before u : Core} {given : ℕ → Bool} (may : MayFall before u given)
       at false e = refl
 
   share-narrow : (n : ℕ) (h : HandleRow) → one (is_share n h) ≤ one (is_at n h)
-  share-narrow n h = narrow (is_at n h) (is_shared h.mode)
-    where
-      narrow : (a b : Bool) → one (a && b) ≤ one a
-      narrow true true = omega arith
-      narrow true false = omega arith
-      narrow false b = omega arith
+  share-narrow n h = grind (arith, nat_tests)
 
   after-uniform : (n : ℕ) → (sharing n after.rows ≡ 0) ⊎ (sharing n after.rows ≡ held n after.rows)
   after-uniform n =
@@ -122,11 +101,7 @@ module _ {before u : Core} {given : ℕ → Bool} (may : MayFall before u given)
 
   -- what is told of a cell is told of no other
   old-cell : {X : Type 0} (f : Option Cell → Option X) → f None ≡ None → (n : ℕ) (x : X) → f (after.cells n) ≡ Some x → f (u.cells n) ≡ Some x
-  old-cell {X} f none n x is = at (nat_lt 0 (held n after.rows)) is
-    where
-      at : (b : Bool) → f (if b then u.cells n else None) ≡ Some x → f (u.cells n) ≡ Some x
-      at true is = is
-      at false is = let e : None ≡ Some x = sym none ∙ is in absurd (cc)
+  old-cell {X} f none n x is = grind (arith, nat_tests)
 
   after-handles : HandlesAreWhole after
   after-handles =
@@ -150,14 +125,10 @@ module _ {before u : Core} {given : ℕ → Bool} (may : MayFall before u given)
 
   -- the list's handles of one number
   abbrev lists : ℕ → HandleRow → Bool
-  lists q h = is_handle q h && is_owned_by owners.List h
+  lists q h = is_handle q h && is_owned_by Owner.List h
 
   lists-only : (q : ℕ) (h : HandleRow) → lists q h ≡ true → h.number.0 ≡ q
-  lists-only q h is = at (h.number.0 == q) refl is
-    where
-      at : (b : Bool) → (h.number.0 == q) ≡ b → (b && is_owned_by owners.List h) ≡ true → h.number.0 ≡ q
-      at true e is = grind (arith, nat_tests)
-      at false e is = absurd (cc)
+  lists-only q h is = grind (arith, nat_tests)
 
   in-list : (q : ℕ) (x : HandleNumber) → (x.0 == q) ≡ true → x.0 ≡ q
   in-list q x is = grind (arith, nat_tests)
@@ -194,19 +165,19 @@ module _ {before u : Core} {given : ℕ → Bool} (may : MayFall before u given)
             let c = still-listed q in
             let d = entries-listed q u.last.handle entries new in
             omega arith;
-        waiting = each-row (λ h. h.owner ≡ owners.List → h.mode ≡ modes.LooseUnpinned) (λ h among left-over. may.waiting h among) (λ h among e is. e.mode);
-        loads = λ h l among. each-row (λ x. x.owner ≡ owners.Load l → is_some (u.loads l.0) ≡ true)
+        waiting = each-row (λ h. h.owner ≡ Owner.List → h.mode ≡ Mode.LooseUnpinned) (λ h among left-over. may.waiting h among) (λ h among e is. e.mode);
+        loads = λ h l among. each-row (λ x. x.owner ≡ Owner.Load l → is_some (u.loads l.0) ≡ true)
             (λ x old kept is. elim (may.loads_there x l old is) [
               | inl some ↦ some
               | inr gives ↦ let f : true ≡ false = sym (within-goes u.rows given gone x within old gives) ∙ kept in absurd (cc)
             ])
-            (λ x come e is. let f : owners.List ≡ owners.Load l = sym e.owner ∙ is in absurd (cc)) h among;
-        workers = λ h v among. each-row (λ x. x.owner ≡ owners.Worker (record { 0 = v }) → u.workers v ≡ true)
+            (λ x come e is. let f : Owner.List ≡ Owner.Load l = sym e.owner ∙ is in absurd (cc)) h among;
+        workers = λ h v among. each-row (λ x. x.owner ≡ Owner.Worker (record { 0 = v }) → u.workers v ≡ true)
             (λ x old kept is. elim (may.workers_there x v old is) [
               | inl some ↦ some
               | inr gives ↦ let f : true ≡ false = sym (within-goes u.rows given gone x within old gives) ∙ kept in absurd (cc)
             ])
-            (λ x come e is. let f : owners.List ≡ owners.Worker (record { 0 = v }) = sym e.owner ∙ is in absurd (cc)) h among;
+            (λ x come e is. let f : Owner.List ≡ Owner.Worker (record { 0 = v }) = sym e.owner ∙ is in absurd (cc)) h among;
       }
 
   after-root : (node : NodeNumber) (t : ℕ) (h : HandleNumber) → IsRootWhole u node t h → IsRootWhole after node t h

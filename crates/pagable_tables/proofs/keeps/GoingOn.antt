@@ -1,7 +1,6 @@
 -- What a call makes directly leaves nodes there, and those that aren't shared unshared.
-use Rattle.pagable_tables.proofs.Words.{◌≡◌, ℕ, ◌+◌, ◌<◌, ◌≤◌, true, ◌∙◌, inl, inr, arith, is_some, nat_lt, nat_tests, held, pins, sharing, Core, HandlesAreWhole, IsWhole}
-use Rattle.pagable_tables.proofs.Fitting.{pins-le-held}
-use Rattle.pagable_tables.proofs.keeps.Told.{roomy}
+use Rattle.pagable_tables.proofs.Words.{◌≡◌, ℕ, ◌+◌, ◌<◌, ◌≤◌, true, ◌∙◌, arith, is_some, nat_tests, held, pins, sharing, Core, HandlesAreWhole, IsWhole}
+use Rattle.pagable_tables.proofs.{Fitting.pins-le-held, keeps.Told.roomy}
 
 -- no node goes, and none has fewer handles that aren't Shared
 pub record GoesOn (before u : Core) : Type 0 where
@@ -21,8 +20,4 @@ changed-on w u cells many shared = record { cells = λ n is. cells n ∙ is; row
 -- a pinned node that isn't shared is there still, and unshared
 pub on-listing : {before u : Core} → IsWhole before → HandlesAreWhole (roomy u) → GoesOn before u → (n : ℕ) → 0 < pins n before.rows → sharing n before.rows ≡ 0
     → (is_some (u.cells n) ≡ true) × (sharing n u.rows ≡ 0)
-on-listing {before} {u} whole after on n pinned unshared =
-    let a = pins-le-held n before.rows in
-    let b : nat_lt 0 (held n before.rows) ≡ true = grind (arith, nat_tests) in
-    let c = on.rows n in
-    (on.cells n (whole.handles.live n ∙ b), elim (after.uniform n) [ inl none ↦ none | inr all ↦ absurd (omega arith) ])
+on-listing {before} {u} whole after on n pinned unshared = grind (arith, nat_tests, pins-le-held)

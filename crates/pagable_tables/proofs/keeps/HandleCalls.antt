@@ -1,12 +1,9 @@
 -- Calls by which a handle comes or is pinned keep the world whole.
-use Rattle.pagable_tables.proofs.Words.{◌≡◌, ◌<◌, true, false, Ok, Err, Some, refl, ap, sym, ◌∙◌, Result, Error, HandleNumber, NodeNumber, HandleRow, Owner, Mode, is_shared, is_pinned, is_loose}
-use Rattle.pagable_tables.proofs.Words.{is_owner, is_owned_by, Pinning, Owns, with_pin, Core, row_at, greatest, with_mode, CloneCall, LoosenCall, PinCall, IsWhole, ArePlaced, MayHold, Suits}
-use Rattle.pagable_tables.proofs.Words.{Makes}
-use Rattle.pagable_tables.proofs.keeps.Rows.{found-among}
-use Rattle.pagable_tables.proofs.keeps.Told.{roomy, settles, alike-whole}
-use Rattle.pagable_tables.proofs.keeps.GoingOn.{GoesOn, then-on}
-use Rattle.pagable_tables.proofs.keeps.Turned.{moded-whole, moded-on, moded-among}
-use Rattle.pagable_tables.proofs.keeps.Comes.{beside, handle-on, not-list, not-the-list}
+use Rattle.pagable_tables.proofs.Words.{◌≡◌, ◌<◌, true, false, Ok, Err, Some, refl, ap, sym, ◌∙◌, Result, Error, HandleNumber, NodeNumber, HandleRow, Owner, Mode, is_shared, is_pinned}
+use Rattle.pagable_tables.proofs.Words.{is_loose, is_owner, is_owned_by, Pinning, Owns, with_pin, Core, row_at, greatest, with_mode, CloneCall, LoosenCall, PinCall, IsWhole, ArePlaced}
+use Rattle.pagable_tables.proofs.Words.{MayHold, Suits, Makes, arith, nat_tests}
+use Rattle.pagable_tables.proofs.{keeps.Rows.found-among, keeps.Told.roomy, keeps.Told.settles, keeps.Told.alike-whole, keeps.GoingOn.GoesOn, keeps.GoingOn.then-on, keeps.Turned.moded-whole}
+use Rattle.pagable_tables.proofs.{keeps.Turned.moded-on, keeps.Turned.moded-among, keeps.Comes.beside, keeps.Comes.handle-on, keeps.Comes.not-list, keeps.Comes.not-the-list}
 
 pub makes-whole : {w w' : Core} (node : NodeNumber) (mode : Mode) (owner : Owner) (r : Result HandleNumber Error) → IsWhole w → Suits w node mode → MayHold w owner → Makes w node mode owner r w'
     → ArePlaced w' → IsWhole w'
@@ -50,10 +47,7 @@ loosen-whole me h (Ok k) whole call placed =
 loosen-whole me h (Err e) whole call placed = alike-whole whole call.refused.1 placed
 
 pub loose-unshared : (mode : Mode) → is_loose mode ≡ true → is_shared mode ≡ false
-loose-unshared Mode.LoosePinned is = refl
-loose-unshared Mode.LooseUnpinned is = refl
-loose-unshared Mode.Pinned is = absurd (cc)
-loose-unshared Mode.Shared is = absurd (cc)
+loose-unshared mode is = grind (arith, nat_tests)
 
 -- a loose handle of one who may hold is pinned, and a Pinned one is made
 pub pin-comes : {w : Core} (h : HandleNumber) (row : HandleRow) (me : Owner) → IsWhole w → MayHold w me → Owns w me h is_loose row → w.last.handle < greatest

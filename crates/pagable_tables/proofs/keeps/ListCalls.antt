@@ -1,14 +1,11 @@
 -- Calls by which handles go to the list and come from it keep the world whole.
-use Rattle.pagable_tables.proofs.Words.{◌≡◌, ℕ, ◌+◌, ◌<◌, ◌==◌, ◌&&◌, Bool, true, false, Ok, Err, if◌then◌else◌, [], ◌∷◌, ◌++◌, Option, Some, None, inl, inr, refl, ap, sym, subst, ◌∙◌, arith}
-use Rattle.pagable_tables.proofs.Words.{slice_get, get_or, Result, nat_tests, sum_by_push, sum_by-remove, get_or_from_slice_get, slice_get_within, Error, HandleNumber, HandleRow, Owner, Mode}
-use Rattle.pagable_tables.proofs.Words.{one, Among, times, is_owner, is_owned_by, is_unpinned, Core, only_handle, moved, ScheduleCall, TakeCall, IsWhole, ArePlaced, MayHold}
+use Rattle.pagable_tables.proofs.Words.{◌≡◌, ℕ, ◌+◌, ◌<◌, ◌==◌, ◌&&◌, Bool, true, false, Ok, Err, if◌then◌else◌, [], ◌∷◌, ◌++◌, Option, Some, None, inl, inr, refl, ap, sym, subst, ◌∙◌}
+use Rattle.pagable_tables.proofs.Words.{arith, slice_get, get_or, Result, nat_tests, sum_by_push, sum_by-remove, get_or_from_slice_get, slice_get_within, Error, HandleNumber, HandleRow}
+use Rattle.pagable_tables.proofs.Words.{Owner, Mode, one, Among, times, is_owner, is_owned_by, is_unpinned, Core, only_handle, moved, ScheduleCall, TakeCall, IsWhole, ArePlaced, MayHold}
 use Rattle.std.specs.List.{remove}
-use Rattle.pagable_tables.proofs.keeps.Rows.{among-to, counted, found-among, once, only-row, ordered-map, sum-map}
-use Rattle.pagable_tables.proofs.keeps.Told.{roomy, roomy-whole, settles, alike-whole}
-use Rattle.pagable_tables.proofs.keeps.GoingOn.{stays-on}
-use Rattle.pagable_tables.proofs.keeps.Comes.{not-list}
-use Rattle.pagable_tables.proofs.keeps.Moved.{lists, each-moved, moved-number, moved-so}
-use Rattle.pagable_tables.proofs.keeps.Fallen.{may-fall, falls-whole}
+use Rattle.pagable_tables.proofs.{keeps.Rows.among-to, keeps.Rows.counted, keeps.Rows.found-among, keeps.Rows.once, keeps.Rows.only-row, keeps.Rows.ordered-map, keeps.Rows.sum-map}
+use Rattle.pagable_tables.proofs.{keeps.Told.roomy, keeps.Told.roomy-whole, keeps.Told.settles, keeps.Told.alike-whole, keeps.GoingOn.stays-on, keeps.Comes.not-list, keeps.Moved.lists}
+use Rattle.pagable_tables.proofs.{keeps.Moved.each-moved, keeps.Moved.moved-number, keeps.Moved.moved-so, keeps.Fallen.may-fall, keeps.Fallen.falls-whole}
 
 -- The handle h of this row alone moves.
 module _ {w : Core} (whole : IsWhole w) (h : HandleNumber) (row : HandleRow) (owner : Owner) (among : Among w.rows row) (number : row.number.0 ≡ h.0) where
@@ -33,10 +30,7 @@ module _ {w : Core} (whole : IsWhole w) (h : HandleNumber) (row : HandleRow) (ow
 
   -- of other numbers nothing moves
   pub lists-others : (q : ℕ) → (h.0 == q) ≡ false → times (lists q) (moved (only_handle h) owner w.rows) ≡ times (lists q) w.rows
-  lists-others q other =
-      sum-map (λ x. one (lists q x)) (λ x. one (lists q x)) to-owner w.rows
-      (λ x there. each-moved whole (only_handle h) owner (λ y. one (lists q y) ≡ one (lists q x)) x
-      (λ e. let a : (x.number.0 == q) ≡ false = grind (arith, nat_tests) in ap (λ b. one (b && is_owner Owner.List owner)) a ∙ sym (ap (λ b. one (b && is_owned_by Owner.List x)) a)) (λ e. refl))
+  lists-others q other = grind (arith, nat_tests, sum-map, each-moved)
 
 is-unpinned : (mode : Mode) → is_unpinned mode ≡ true → mode ≡ Mode.LooseUnpinned
 is-unpinned Mode.LooseUnpinned is = refl

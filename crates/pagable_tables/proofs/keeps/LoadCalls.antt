@@ -1,11 +1,9 @@
 -- Calls on loads keep the world whole.
-use Rattle.pagable_tables.proofs.Words.{◌≡◌, ℕ, ◌<◌, ◌+◌, ◌==◌, Bool, true, false, Ok, Err, Option, Some, None, inl, inr, refl, ap, sym, subst, ◌∙◌, arith, if◌then◌else◌, ◌⊎◌, Result, is_some}
-use Rattle.pagable_tables.proofs.Words.{nat_tests, Error, HandleNumber, NodeNumber, Beginning, Owner, updated, HandleRow, Mode, is_loose, Core, Cell, OpenLoad, Root, of_cell, of_key, greatest}
-use Rattle.pagable_tables.proofs.Words.{type_at, Owns, with_handle, with_load, IsNextLoad, BeginCall, BeginKeyCall, IsWhole, MayOwnLoad, IsRootWhole, ArePlaced, MayHold}
-use Rattle.pagable_tables.proofs.keeps.Rows.{found-among}
-use Rattle.pagable_tables.proofs.keeps.Comes.{type_in, beside}
-use Rattle.pagable_tables.proofs.keeps.HandleCalls.{loose-unshared}
-use Rattle.pagable_tables.proofs.keeps.Told.{roomy, roomy-whole, settles, alike-whole, may-own}
+use Rattle.pagable_tables.proofs.Words.{◌≡◌, ℕ, ◌<◌, ◌+◌, ◌==◌, Bool, true, false, Ok, Err, Option, Some, None, inl, inr, refl, ap, sym, subst, ◌∙◌, arith, if◌then◌else◌, ◌⊎◌, Result}
+use Rattle.pagable_tables.proofs.Words.{is_some, nat_tests, Error, HandleNumber, NodeNumber, Beginning, Owner, updated, HandleRow, Mode, is_loose, Core, Cell, OpenLoad, Root, of_cell}
+use Rattle.pagable_tables.proofs.Words.{of_key, greatest, type_at, Owns, with_handle, with_load, IsNextLoad, BeginCall, BeginKeyCall, IsWhole, MayOwnLoad, IsRootWhole, ArePlaced, MayHold}
+use Rattle.pagable_tables.proofs.{keeps.Rows.found-among, keeps.Comes.type_in, keeps.Comes.beside, keeps.HandleCalls.loose-unshared, keeps.Told.roomy, keeps.Told.roomy-whole}
+use Rattle.pagable_tables.proofs.{keeps.Told.settles, keeps.Told.alike-whole, keeps.Told.may-own}
 
 -- ---- one load more
 
@@ -114,10 +112,6 @@ begin-whole {w} {w'} me h (Ok (Beginning.Load l key)) whole may call placed =
 
         named : (row : HandleRow) (t : ℕ) → IsRootWhole (roomy w) row.node t h → (node : NodeNumber) (t2 : ℕ) (k : HandleNumber) → of_cell row.node t h ≡ of_cell node t2 k
             → IsRootWhole (roomy w) node t2 k
-        named row t root node t2 k is =
-            let a : row.node ≡ node = cc in
-            let b : t ≡ t2 = cc in
-            let c : h ≡ k = cc in
-            subst (λ x. IsRootWhole (roomy w) x t2 k) a (subst (λ x. IsRootWhole (roomy w) row.node x k) b (subst (λ x. IsRootWhole (roomy w) row.node t x) c root))
+        named row t root node t2 k is = grind (arith, nat_tests)
 begin-whole me h (Ok Beginning.InMemory) whole may call placed = let (row, owns, begins) = call.begins in alike-whole whole begins.1 placed
 begin-whole me h (Err e) whole may call placed = alike-whole whole call.refused.stays placed

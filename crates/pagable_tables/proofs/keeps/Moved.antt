@@ -1,10 +1,8 @@
 -- Handles move to another owner.
-use Rattle.pagable_tables.proofs.Words.{◌≡◌, ℕ, ◌==◌, ◌&&◌, Bool, true, false, if◌then◌else◌, List, [], refl, ap, sym, subst, ◌∙◌, is_some, HandleNumber, LoadNumber, HandleRow, Owner, Mode, one}
-use Rattle.pagable_tables.proofs.Words.{Among, times, is_shared, is_loose, is_handle, is_owner, is_owned_by, owner_value, Core, moved, IsWhole, MayHold}
-use Rattle.pagable_tables.proofs.keeps.Rows.{among-map, sum-map}
-use Rattle.pagable_tables.proofs.keeps.Told.{roomy}
-use Rattle.pagable_tables.proofs.keeps.GoingOn.{GoesOn, changed-on}
-use Rattle.pagable_tables.proofs.keeps.Turned.{turned-whole, same-held, same-sharing}
+use Rattle.pagable_tables.proofs.Words.{◌≡◌, ℕ, ◌==◌, ◌&&◌, Bool, true, false, if◌then◌else◌, List, [], refl, ap, sym, subst, ◌∙◌, is_some, HandleNumber, LoadNumber, HandleRow, Owner, Mode}
+use Rattle.pagable_tables.proofs.Words.{one, Among, times, is_shared, is_loose, is_handle, is_owner, is_owned_by, owner_value, Core, moved, IsWhole, MayHold, arith, nat_tests}
+use Rattle.pagable_tables.proofs.{keeps.Rows.among-map, keeps.Rows.sum-map, keeps.Told.roomy, keeps.GoingOn.GoesOn, keeps.GoingOn.changed-on, keeps.Turned.turned-whole}
+use Rattle.pagable_tables.proofs.{keeps.Turned.same-held, keeps.Turned.same-sharing}
 
 -- the list's handles of one number
 abbrev pub lists : ℕ → HandleRow → Bool
@@ -16,11 +14,7 @@ module _ {w : Core} (whole : IsWhole w) (s : ℕ → Bool) (owner : Owner) where
 
   -- what both cases give
   pub each-moved : (P : HandleRow → Type 0) (x : HandleRow) → (s x.number.0 ≡ true → P (record x { owner = owner })) → (s x.number.0 ≡ false → P x) → P (to-owner x)
-  each-moved P x named other = at (s x.number.0) refl
-    where
-      at : (b : Bool) → s x.number.0 ≡ b → P (if b then record x { owner = owner } else x)
-      at true e = named e
-      at false e = other e
+  each-moved P x named other = grind (arith, nat_tests)
 
   pub moved-number : (x : HandleRow) → (to-owner x).number.0 ≡ x.number.0
   moved-number x = each-moved (λ y. y.number.0 ≡ x.number.0) x (λ e. refl) (λ e. refl)

@@ -1,8 +1,7 @@
 -- A world as it would be with the storage open: of it all is whole that is whole of tables, whether the storage was closed or not.
 use Rattle.pagable_tables.proofs.Words.{◌≡◌, ℕ, Bool, false, List, [], ◌∷◌, refl, ap, Result, Error, ArcRef, Owner, or_else, Core, Alike, references_fault, reference_fault, Falls, IsWhole}
 use Rattle.pagable_tables.proofs.Words.{ArePlaced}
-use Rattle.pagable_tables.proofs.keeps.Told.{settles}
-use Rattle.pagable_tables.proofs.keeps.Fallen.{MayFall, fallen-whole}
+use Rattle.pagable_tables.proofs.{keeps.Told.settles, keeps.Fallen.MayFall, keeps.Fallen.fallen-whole}
 
 abbrev pub opened : Core → Core
 opened w = record w { closed = false }

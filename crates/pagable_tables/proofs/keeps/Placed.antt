@@ -1,15 +1,11 @@
 -- What the tables tell is in its places, since no vector is longer than its capacity.
-use Rattle.pagable_tables.proofs.Words.{arith, [], Tables, IsFalling, owns_nothing, plain_of, ArePlaced}
-use Rattle.pagable_world.specs.Pager as pager
+use Rattle.pagable_tables.proofs.Words.{arith, [], Tables, IsFalling, owns_nothing, plain_of, ArePlaced, nat_tests}
 use Rattle.pagable_tables.specs.Core.{IsWhole}
 use Rattle.pagable_tables.proofs.Alive.{length-live-le}
+use Rattle.pagable_world.specs.Pager as pager
 
 pub placed : (t : Tables) → ArePlaced (plain_of t)
-placed t =
-    let (a, b) = t.holdings.handles.places.ok in
-    let (c, d) = t.holdings.list.ok in
-    let l = length-live-le t.holdings.handles.places.items in
-    record { rows = omega arith; list = omega arith }
+placed t = grind (arith, nat_tests, length-live-le)
 
 -- so they are whole where the world is that is in its places
 pub whole-so : {t : Tables} → IsFalling t.holdings [] owns_nothing → (ArePlaced (plain_of t) → pager.IsWhole (plain_of t)) → IsWhole t

@@ -1,10 +1,8 @@
 -- What is left of rows and list as handles go, and the entries that come.
-use Rattle.pagable_tables.proofs.Words.{◌≡◌, ℕ, suc, zero, ◌+◌, ◌<◌, ◌≤◌, ◌==◌, ◌&&◌, Bool, true, false, not, List, [], ◌∷◌, ◌++◌, length, filter, if◌then◌else◌, Option, Some, None, inl, inr}
-use Rattle.pagable_tables.proofs.Words.{refl, ap, sym, subst, ◌∙◌, arith, map, nat_tests, append_assoc, sum_by-cons, sum_by-le-sum_by, HandleNumber, HandleRow, Owner, Mode, one, Among, times}
-use Rattle.pagable_tables.proofs.Words.{find_row, is_handle, is_owned_by, AreNewEntries, IsWithin, IsHandleBefore}
-use Rattle.std.specs.List.{AllPairs}
-use Rattle.pagable_tables.proofs.Alive.{none-found}
-use Rattle.pagable_tables.proofs.keeps.Rows.{among-both, among-one, at-most-sum, found-among, once, ordered-push}
+use Rattle.pagable_tables.proofs.Words.{◌≡◌, ℕ, suc, zero, ◌+◌, ◌<◌, ◌≤◌, ◌==◌, ◌&&◌, Bool, true, false, not, List, [], ◌∷◌, ◌++◌, length, filter, if◌then◌else◌, Option, Some, None, inl}
+use Rattle.pagable_tables.proofs.Words.{inr, refl, ap, sym, subst, ◌∙◌, arith, map, nat_tests, append_assoc, sum_by-cons, sum_by-le-sum_by, HandleNumber, HandleRow, Owner, Mode, one, Among}
+use Rattle.pagable_tables.proofs.Words.{times, find_row, is_handle, is_owned_by, AreNewEntries, IsWithin, IsHandleBefore, AllPairs}
+use Rattle.pagable_tables.proofs.{Alive.none-found, keeps.Rows.among-both, keeps.Rows.among-one, keeps.Rows.at-most-sum, keeps.Rows.found-among, keeps.Rows.once, keeps.Rows.ordered-push}
 
 -- a row that stands there is found
 pub found-so : (q : ℕ) (rows : List HandleRow) (row : HandleRow) → AllPairs IsHandleBefore rows → Among rows row → row.number.0 ≡ q → find_row q rows ≡ Some row
@@ -33,12 +31,7 @@ left-both {X} f keep (x ∷ xs) = at (keep x) (left-both f keep xs)
 
 -- where two tests count the same of all, and the one is narrower, they count the same of the left
 pub same-left : {X : Type 0} (f g keep : X → Bool) (xs : List X) → ((x : X) → one (f x) ≤ one (g x)) → times f xs ≡ times g xs → times f (filter keep xs) ≡ times g (filter keep xs)
-same-left f g keep xs narrow same =
-    let a = left-both f keep xs in
-    let b = left-both g keep xs in
-    let c = sum_by-le-sum_by (λ x. one (f x)) (λ x. one (g x)) (filter keep xs) narrow in
-    let d = sum_by-le-sum_by (λ x. one (f x)) (λ x. one (g x)) (filter (λ x. not (keep x)) xs) narrow in
-    omega arith
+same-left f g keep xs narrow same = grind (arith, nat_tests, left-both, sum_by-le-sum_by)
 
 -- What is counted of one number: all of it is left, or nothing.
 module _ {X : Type 0} (number : X → ℕ) (f : X → Bool) (q : ℕ) (only : (x : X) → f x ≡ true → number x ≡ q) (gone : ℕ → Bool) where
@@ -82,15 +75,8 @@ pub record IsEntry (last few : ℕ) (h : HandleRow) : Type 0 where
 
 pub entry-is : (last : ℕ) (entries : List HandleRow) (h : HandleRow) → AreNewEntries last entries → Among entries h → IsEntry last (length entries) h
 entry-is last [] h new among = let a = among.1 in absurd (cc)
-entry-is last (x ∷ xs) h new (zero, is) =
-    let e : x ≡ h = cc in
-    let n = ap (λ (y : HandleRow). y.number.0) e in
-    let a = new.0 in
-    record { above = omega arith; number = omega arith; mode = ap (λ (y : HandleRow). y.mode) (sym e) ∙ new.1; owner = ap (λ (y : HandleRow). y.owner) (sym e) ∙ new.2 }
-entry-is last (x ∷ xs) h new (suc i, is) =
-    let r = entry-is (last + 1) xs h new.3 (i, is) in
-    let a = r.above in let b = r.number in
-    record { above = omega arith; number = omega arith; mode = r.mode; owner = r.owner }
+entry-is last (x ∷ xs) h new (zero, is) = grind (arith, nat_tests)
+entry-is last (x ∷ xs) h new (suc i, is) = grind (arith, nat_tests, entry-is (last + 1) xs h new.3 (i, is))
 
 -- the list gets each entry
 pub entries-listed : (q last : ℕ) (entries : List HandleRow) → AreNewEntries last entries

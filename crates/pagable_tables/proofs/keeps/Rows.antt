@@ -1,8 +1,7 @@
 -- Rows, one by one and counted, as they come and change.
-use Rattle.pagable_tables.proofs.Words.{◌≡◌, ℕ, suc, zero, ◌<◌, ◌≤◌, ◌==◌, Bool, true, false, List, [], ◌∷◌, ◌++◌, sum_by, filter, if◌then◌else◌, Some, None, slice_get, get_or, inl, inr, refl}
-use Rattle.pagable_tables.proofs.Words.{ap, sym, subst, ◌∙◌, arith, ◌⊎◌, map, cases_order, nat_tests, get_or-map, length-map, sum_by-cons, sum_by-le-sum_by, all_pairs_push, get_or_from_slice_get}
-use Rattle.pagable_tables.proofs.Words.{slice_get_within, slice_get-get_or, HandleRow, Among, find_row, is_handle, IsHandleBefore}
-use Rattle.std.specs.List.{AllPairs}
+use Rattle.pagable_tables.proofs.Words.{◌≡◌, ℕ, suc, zero, ◌<◌, ◌≤◌, ◌==◌, Bool, true, false, List, [], ◌∷◌, ◌++◌, sum_by, filter, if◌then◌else◌, Some, slice_get, get_or, inl, inr, refl, ap}
+use Rattle.pagable_tables.proofs.Words.{sym, subst, ◌∙◌, arith, ◌⊎◌, map, cases_order, nat_tests, get_or-map, length-map, sum_by-cons, sum_by-le-sum_by, all_pairs_push}
+use Rattle.pagable_tables.proofs.Words.{get_or_from_slice_get, slice_get_within, slice_get-get_or, HandleRow, Among, find_row, is_handle, IsHandleBefore, AllPairs}
 
 -- ---- one by one
 
@@ -62,25 +61,13 @@ counted {X} f (x ∷ xs) some = pick (f x) refl (λ z. let c = sum_by-cons f x x
 -- smaller at each element and less at one, so less in sum
 pub sum-less : {X : Type 0} (f g : X → ℕ) (xs : List X) (x : X) → ((y : X) → f y ≤ g y) → Among xs x → f x < g x → sum_by f xs < sum_by g xs
 sum-less f g [] x le among lt = let a = among.1 in absurd (cc)
-sum-less f g (y ∷ ys) x le (zero, is) lt =
-    let e : y ≡ x = cc in
-    let a : f y ≡ f x = ap f e in let b : g y ≡ g x = ap g e in
-    let c = sum_by-le-sum_by f g ys le in
-    let d = sum_by-cons f y ys in let h = sum_by-cons g y ys in omega arith
-sum-less f g (y ∷ ys) x le (suc i, is) lt =
-    let a = le y in
-    let c = sum-less f g ys x le (i, is) lt in
-    let d = sum_by-cons f y ys in let h = sum_by-cons g y ys in omega arith
+sum-less f g (y ∷ ys) x le (zero, is) lt = grind (arith, nat_tests, sum_by-le-sum_by, sum_by-cons)
+sum-less f g (y ∷ ys) x le (suc i, is) lt = grind (arith, nat_tests, sum_by-le-sum_by, sum_by-cons, sum-less f g ys x le (i, is) lt)
 
 -- the sum after each element changed
 pub sum-map : {X : Type 0} (f g : X → ℕ) (to : X → X) (xs : List X) → ((x : X) → Among xs x → f (to x) ≡ g x) → sum_by f (map to xs) ≡ sum_by g xs
 sum-map f g to [] h = refl
-sum-map f g to (x ∷ xs) h =
-    let a = h x (zero, refl) in
-    let rest = sum-map f g to xs (λ y among. h y (suc among.0, among.1)) in
-    let b = sum_by-cons f (to x) (map to xs) in
-    let c = sum_by-cons g x xs in
-    omega arith
+sum-map f g to (x ∷ xs) h = grind (arith, nat_tests, sum_by-cons, sum-map f g to xs (λ y among. h y (suc among.0, among.1)))
 
 -- nothing at each element, so in sum
 pub sum-none : {X : Type 0} (f : X → ℕ) (xs : List X) → ((x : X) → Among xs x → f x ≡ 0) → sum_by f xs ≡ 0
@@ -140,29 +127,12 @@ pub found-map : (to : HandleRow → HandleRow) → ((h : HandleRow) → (to h).n
     → (y : HandleRow) × (find_row q rows ≡ Some y) × (row ≡ to y)
 unfolding find_row
 found-map to same q [] row found = absurd (cc)
-found-map to same q (h ∷ hs) row found = at (is_handle q h) (is_handle q (to h)) refl (ap (λ n. n == q) (same h)) (found-map to same q hs row) found
-  where
-    at : (b d : Bool) → is_handle q h ≡ b → d ≡ is_handle q h → (find_row q (map to hs) ≡ Some row → (y : HandleRow) × (find_row q hs ≡ Some y) × (row ≡ to y))
-        → (if d then Some (to h) else find_row q (map to hs)) ≡ Some row
-        → (y : HandleRow) × ((if is_handle q h then Some h else find_row q hs) ≡ Some y) × (row ≡ to y)
-    at true true e f rest found = let i : to h ≡ row = cc in (h, rw e refl, sym i)
-    at false false e f rest found = let r = rest found in (r.0, rw e r.1, r.2)
-    at true false e f rest found = let g : false ≡ true = f ∙ e in absurd (cc)
-    at false true e f rest found = let g : true ≡ false = f ∙ e in absurd (cc)
+found-map to same q (h ∷ hs) row found = grind (arith, nat_tests, found-map to same q hs row)
 
 pub found-push : (q : ℕ) (rows : List HandleRow) (x row : HandleRow) → find_row q (rows ++ x ∷ []) ≡ Some row → (find_row q rows ≡ Some row) ⊎ (row ≡ x)
 unfolding find_row
-found-push q [] x row found = at (is_handle q x) found
-  where
-    at : (b : Bool) → (if b then Some x else None) ≡ Some row → (None ≡ Some row) ⊎ (row ≡ x)
-    at true found = let e : x ≡ row = cc in inr (sym e)
-    at false found = absurd (cc)
-found-push q (h ∷ hs) x row found = at (is_handle q h) (found-push q hs x row) found
-  where
-    at : (b : Bool) → (find_row q (hs ++ x ∷ []) ≡ Some row → (find_row q hs ≡ Some row) ⊎ (row ≡ x)) → (if b then Some h else find_row q (hs ++ x ∷ [])) ≡ Some row
-        → ((if b then Some h else find_row q hs) ≡ Some row) ⊎ (row ≡ x)
-    at true rest found = inl found
-    at false rest found = rest found
+found-push q [] x row found = grind (arith, nat_tests)
+found-push q (h ∷ hs) x row found = grind (arith, nat_tests, found-push q hs x row)
 
 -- what is counted of one number is counted of its row
 pub only-row : (f : HandleRow → ℕ) (rows : List HandleRow) (row : HandleRow) → AllPairs IsHandleBefore rows → Among rows row → ((x : HandleRow) → (x.number.0 == row.number.0) ≡ false → f x ≡ 0)

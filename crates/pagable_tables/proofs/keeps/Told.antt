@@ -1,8 +1,7 @@
 -- A world that is told alike stays whole, while rows and list are in their places.
 use Rattle.pagable_tables.proofs.Words.{◌≡◌, ℕ, ◌==◌, ◌&&◌, Bool, true, length, Option, Some, None, refl, ap, sym, subst, ◌∙◌, arith, ◌⊎◌, is_some, nat_lt, OptionalDataKey, HandleNumber}
 use Rattle.pagable_tables.proofs.Words.{NodeNumber, Owner, Among, SameAt, times, if_there, held, sharing, has_key, find_row, is_handle, is_owned_by, Core, Cell, Last, Alike, IsHandleBefore}
-use Rattle.pagable_tables.proofs.Words.{HandlesAreWhole, OwnersAreThere, LoadsAreWhole, MayOwnLoad, IsRootWhole, IsEntryWhole, IsWhole, ArePlaced}
-use Rattle.std.specs.List.{AllPairs}
+use Rattle.pagable_tables.proofs.Words.{HandlesAreWhole, OwnersAreThere, LoadsAreWhole, MayOwnLoad, IsRootWhole, IsEntryWhole, IsWhole, ArePlaced, AllPairs, nat_tests}
 
 -- the world with room for just what is there
 abbrev pub roomy : Core → Core
@@ -10,9 +9,7 @@ roomy w = record w { places = record { handles = length w.rows; entries = length
 
 -- who may own a load still may, while workers stay at work
 pub may-own : (w w' : Core) → ((v : ℕ) → w.workers v ≡ true → w'.workers v ≡ true) → (o : Owner) → MayOwnLoad w o → MayOwnLoad w' o
-may-own w w' stay Owner.Caller may = tt
-may-own w w' stay (Owner.Worker v) may = stay v.0 may
-may-own w w' stay _ may = absurd may
+may-own w w' stay h may = grind (arith, nat_tests)
 
 abbrev type_in : Option Cell → Option ℕ
 type_in cell = if_there (λ (cell : Cell). Some cell.node_type) None cell

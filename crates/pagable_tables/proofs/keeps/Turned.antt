@@ -1,10 +1,9 @@
 -- Rows that change, each under its own number and of its own node.
-use Rattle.pagable_tables.proofs.Words.{◌≡◌, ℕ, ◌==◌, ◌&&◌, Bool, true, false, if◌then◌else◌, List, [], Some, refl, ap, sym, subst, ◌∙◌, arith, ◌⊎◌, is_some, nat_lt, map, nat_tests, HandleNumber}
+use Rattle.pagable_tables.proofs.Words.{◌≡◌, ℕ, ◌==◌, ◌&&◌, true, false, if◌then◌else◌, List, [], Some, refl, ap, sym, subst, ◌∙◌, arith, ◌⊎◌, is_some, nat_lt, map, nat_tests, HandleNumber}
 use Rattle.pagable_tables.proofs.Words.{NodeNumber, HandleRow, Owner, Mode, one, Among, held, sharing, is_at, is_share, is_shared, is_loose, is_handle, is_owned_by, Core, row_at, with_mode}
 use Rattle.pagable_tables.proofs.Words.{OwnersAreThere, IsRootWhole, IsEntryWhole, IsWhole}
-use Rattle.pagable_tables.proofs.keeps.Rows.{among-map, among-to, sum-map, found-among, found-map, once, ordered-map}
-use Rattle.pagable_tables.proofs.keeps.Told.{roomy, may-own}
-use Rattle.pagable_tables.proofs.keeps.GoingOn.{GoesOn, changed-on}
+use Rattle.pagable_tables.proofs.{keeps.Rows.among-map, keeps.Rows.among-to, keeps.Rows.sum-map, keeps.Rows.found-among, keeps.Rows.found-map, keeps.Rows.once, keeps.Rows.ordered-map}
+use Rattle.pagable_tables.proofs.{keeps.Told.roomy, keeps.Told.may-own, keeps.GoingOn.GoesOn, keeps.GoingOn.changed-on}
 
 module _ {w : Core} (whole : IsWhole w) (to : HandleRow → HandleRow) (list : List HandleNumber) (number : (h : HandleRow) → (to h).number.0 ≡ h.number.0)
     (node : (h : HandleRow) → (to h).node ≡ h.node)
@@ -80,11 +79,7 @@ module _ {w : Core} (whole : IsWhole w) (h : HandleNumber) (row : HandleRow) (mo
 
   -- what both cases give
   each : (P : HandleRow → Type 0) (x : HandleRow) → (is_handle h.0 x ≡ true → P (record x { mode = mode })) → (is_handle h.0 x ≡ false → P x) → P (to-mode x)
-  each P x named other = at (is_handle h.0 x) refl
-    where
-      at : (b : Bool) → is_handle h.0 x ≡ b → P (if b then record x { mode = mode } else x)
-      at true e = named e
-      at false e = other e
+  each P x named other = grind (arith, nat_tests)
 
   mode-owners : OwnersAreThere (roomy (with_mode w h mode))
   mode-owners =

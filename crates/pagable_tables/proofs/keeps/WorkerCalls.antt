@@ -1,23 +1,10 @@
 -- A worker that begins or ends keeps the world whole.
-use Rattle.std.proofs.Common.{◌≡◌, ℕ, ◌+◌, ◌≤◌, ◌==◌, ◌||◌, Bool, true, false, if◌then◌else◌, Option, Some, None, inl, inr, refl, ap, sym, ◌∙◌, arith}
-use Rattle.std.specs.Prelude.{◌⊎◌, is_some}
-use Rattle.std.proofs.lemmas.Bool.Decides.{nat_tests}
-use Rattle.pagable_model.specs.declared.numbers.LoadNumber.{LoadNumber}
-use Rattle.pagable_world.specs.declared.handles.HandleRow.{HandleRow}
-use Rattle.pagable_world.specs.declared.handles.Owner.{Owner}
-use Rattle.pagable_world.specs.declared.handles.Owner.TheVariants as owners
-use Rattle.pagable_world.specs.Plain.{Among, if_there}
-use Rattle.pagable_world.specs.Kinds.{is_owner, owner_worker}
-use Rattle.pagable_world.specs.World.{Core, OpenLoad}
-use Rattle.pagable_world.specs.Workers.{is_load_of, is_workers, is_workers_load, without_worker, WorkerEnds}
-use Rattle.pagable_world.specs.Events.{with_worker}
-use Rattle.pagable_world.specs.Pager.{IsWhole, MayOwnLoad}
-use Rattle.pagable_tables.specs.Core.{ArePlaced}
-use Rattle.pagable_tables.proofs.keeps.Rests.{found-so}
-use Rattle.pagable_tables.proofs.keeps.Told.{roomy-whole, may-own}
-use Rattle.pagable_tables.proofs.keeps.GoingOn.{stays-on, on-listing}
-use Rattle.pagable_tables.proofs.keeps.Fallen.{MayFall}
-use Rattle.pagable_tables.proofs.keeps.Opened.{opened, falls-opened}
+use Rattle.pagable_tables.proofs.Words.{◌≡◌, ℕ, ◌+◌, ◌≤◌, ◌==◌, ◌||◌, Bool, true, false, if◌then◌else◌, Option, Some, None, inl, inr, refl, ap, ◌∙◌, arith, ◌⊎◌, is_some, nat_tests}
+use Rattle.pagable_tables.proofs.Words.{LoadNumber, HandleRow, Owner, Among, if_there, is_owner, owner_worker, Core, OpenLoad, is_workers, is_workers_load, without_worker, with_worker}
+use Rattle.pagable_tables.proofs.Words.{IsWhole, MayOwnLoad, ArePlaced}
+use Rattle.pagable_world.specs.Workers.{is_load_of, WorkerEnds}
+use Rattle.pagable_tables.proofs.{keeps.Rests.found-so, keeps.Told.roomy-whole, keeps.Told.may-own, keeps.GoingOn.stays-on, keeps.GoingOn.on-listing, keeps.Fallen.MayFall}
+use Rattle.pagable_tables.proofs.{keeps.Opened.opened, keeps.Opened.falls-opened}
 
 -- ---- one worker more
 
@@ -39,11 +26,7 @@ worker-whole {w} whole =
     }
   where
     still : (v : ℕ) → w.workers v ≡ true → (with_worker w).workers v ≡ true
-    still v is = at (v == w.last.worker + 1)
-      where
-        at : (b : Bool) → (if b then true else w.workers v) ≡ true
-        at true = refl
-        at false = is
+    still v is = grind (arith, nat_tests)
 
     numbered : (v : ℕ) (b : Bool) → (v == w.last.worker + 1) ≡ b → (if b then true else w.workers v) ≡ true → v ≤ w.last.worker + 1
     numbered v true e is = let same : v ≡ w.last.worker + 1 = grind (arith, nat_tests) in omega arith
@@ -52,27 +35,14 @@ worker-whole {w} whole =
 -- ---- a worker ends
 
 left-open : (v : ℕ) (load : Option OpenLoad) (x : OpenLoad) → (if is_workers_load v load then None else load) ≡ Some x → (load ≡ Some x) × (is_owner (owner_worker v) x.owner ≡ false)
-left-open v None x is = absurd (cc)
-left-open v (Some y) x is = at (is_owner (owner_worker v) y.owner) refl is
-  where
-    at : (b : Bool) → is_owner (owner_worker v) y.owner ≡ b → (if b then None else Some y) ≡ Some x → (Some y ≡ Some x) × (is_owner (owner_worker v) x.owner ≡ false)
-    at true e is = absurd (cc)
-    at false e is = let same : y ≡ x = cc in (is, sym (ap (λ (z : OpenLoad). is_owner (owner_worker v) z.owner) same) ∙ e)
+left-open v load x is = grind (arith, nat_tests)
 
 may-still : (w : Core) (v : ℕ) (o : Owner) → is_owner (owner_worker v) o ≡ false → MayOwnLoad w o → MayOwnLoad (without_worker w v) o
-may-still w v owners.Caller other may = tt
-may-still w v (owners.Worker u) other may = let e : (u.0 == v) ≡ false = other in at (u.0 == v) e
-  where
-    at : (b : Bool) → b ≡ false → (if b then false else w.workers u.0) ≡ true
-    at true e = absurd (cc)
-    at false e = may
-may-still w v (owners.Value n) other may = absurd may
-may-still w v owners.List other may = absurd may
-may-still w v (owners.Load l) other may = absurd may
+may-still w v o other may = grind (arith, nat_tests)
 
 module _ {w : Core} (whole : IsWhole w) (v : ℕ) (given : ℕ → Bool)
-    (own : (h : HandleRow) → Among w.rows h → h.owner ≡ owners.Worker (record { 0 = v }) → given h.number.0 ≡ true)
-    (loaded : (h : HandleRow) (l : LoadNumber) → Among w.rows h → h.owner ≡ owners.Load l → is_workers_load v (w.loads l.0) ≡ true → given h.number.0 ≡ true) where
+    (own : (h : HandleRow) → Among w.rows h → h.owner ≡ Owner.Worker (record { 0 = v }) → given h.number.0 ≡ true)
+    (loaded : (h : HandleRow) (l : LoadNumber) → Among w.rows h → h.owner ≡ Owner.Load l → is_workers_load v (w.loads l.0) ≡ true → given h.number.0 ≡ true) where
   worker-may-fall : MayFall w (without_worker w v) given
   worker-may-fall =
       let r = roomy-whole whole in
@@ -96,26 +66,18 @@ module _ {w : Core} (whole : IsWhole w) (v : ℕ) (given : ℕ → Bool)
       }
     where
       was : (l : ℕ) → is_some (if is_workers_load v (w.loads l) then None else w.loads l) ≡ true → is_some (w.loads l) ≡ true
-      was l some = at (is_workers_load v (w.loads l)) some
-        where
-          at : (b : Bool) → is_some (if b then None else w.loads l) ≡ true → is_some (w.loads l) ≡ true
-          at true some = absurd (cc)
-          at false some = some
+      was l some = grind (arith, nat_tests)
 
       worked : (u : ℕ) → (if u == v then false else w.workers u) ≡ true → w.workers u ≡ true
-      worked u is = at (u == v) is
-        where
-          at : (b : Bool) → (if b then false else w.workers u) ≡ true → w.workers u ≡ true
-          at true is = absurd (cc)
-          at false is = is
+      worked u is = grind (arith, nat_tests)
 
-      loads-there : (x : HandleRow) (l : LoadNumber) → Among w.rows x → x.owner ≡ owners.Load l → (b : Bool) → is_workers_load v (w.loads l.0) ≡ b
+      loads-there : (x : HandleRow) (l : LoadNumber) → Among w.rows x → x.owner ≡ Owner.Load l → (b : Bool) → is_workers_load v (w.loads l.0) ≡ b
           → (is_some (if b then None else w.loads l.0) ≡ true) ⊎ (given x.number.0 ≡ true)
       loads-there x l among is true e = inr (loaded x l among is e)
       loads-there x l among is false e = inl (whole.owners_there.loads x l among is)
 
-      workers-there : (x : HandleRow) (u : ℕ) → Among w.rows x → x.owner ≡ owners.Worker (record { 0 = u }) → (b : Bool) → (u == v) ≡ b → ((if b then false else w.workers u) ≡ true) ⊎ (given x.number.0 ≡ true)
-      workers-there x u among is true e = let same : u ≡ v = grind (arith, nat_tests) in inr (own x among (is ∙ ap (λ n. owners.Worker (record { 0 = n })) same))
+      workers-there : (x : HandleRow) (u : ℕ) → Among w.rows x → x.owner ≡ Owner.Worker (record { 0 = u }) → (b : Bool) → (u == v) ≡ b → ((if b then false else w.workers u) ≡ true) ⊎ (given x.number.0 ≡ true)
+      workers-there x u among is true e = let same : u ≡ v = grind (arith, nat_tests) in inr (own x among (is ∙ ap (λ n. Owner.Worker (record { 0 = n })) same))
       workers-there x u among is false e = inl (whole.owners_there.workers x u among is)
 
 pub worker-end-whole : {w w' : Core} (v : ℕ) → IsWhole (opened w) → WorkerEnds w v w' → ArePlaced (opened w') → IsWhole (opened w')
@@ -124,8 +86,8 @@ worker-end-whole {w} {w'} v whole ends placed = falls-opened {before = w} {u = w
     found : (h : HandleRow) → Among w.rows h → is_workers w v h.number.0 ≡ (is_owner (owner_worker v) h.owner || is_load_of w v h.owner)
     found h among = ap (if_there (λ (row : HandleRow). is_owner (owner_worker v) row.owner || is_load_of w v row.owner) false) (found-so h.number.0 w.rows h whole.handles.ordered among refl)
 
-    own : (h : HandleRow) → Among w.rows h → h.owner ≡ owners.Worker (record { 0 = v }) → is_workers w v h.number.0 ≡ true
+    own : (h : HandleRow) → Among w.rows h → h.owner ≡ Owner.Worker (record { 0 = v }) → is_workers w v h.number.0 ≡ true
     own h among is = let same : (v == v) ≡ true = grind (arith, nat_tests) in found h among ∙ ap (λ o. is_owner (owner_worker v) o || is_load_of w v o) is ∙ ap (λ b. b || false) same
 
-    loaded : (h : HandleRow) (l : LoadNumber) → Among w.rows h → h.owner ≡ owners.Load l → is_workers_load v (w.loads l.0) ≡ true → is_workers w v h.number.0 ≡ true
+    loaded : (h : HandleRow) (l : LoadNumber) → Among w.rows h → h.owner ≡ Owner.Load l → is_workers_load v (w.loads l.0) ≡ true → is_workers w v h.number.0 ≡ true
     loaded h l among is mine = found h among ∙ ap (λ o. is_owner (owner_worker v) o || is_load_of w v o) is ∙ mine

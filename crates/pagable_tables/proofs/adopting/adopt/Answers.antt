@@ -1,8 +1,6 @@
 use Rattle.pagable_tables.proofs.Words.{ℕ, ap, sym, subst, ◌∙◌, not, None, is_some, IndexMap, Alike, adopted, Adopts, load_at, LoadRow, core_of, plain_of}
-use Rattle.pagable_tables.proofs.Adoptions.{adopts-new, adopts-whole, fitting, owner-of, early-stored}
-use Rattle.pagable_tables.proofs.Begun.{not-closed}
-use Rattle.pagable_tables.proofs.Newer.{adopt-newer, later-so}
-use Rattle.pagable_tables.proofs.keeps.Placed.{whole-so}
+use Rattle.pagable_tables.proofs.{Adoptions.adopts-new, Adoptions.adopts-whole, Adoptions.fitting, Adoptions.owner-of, Adoptions.early-stored, Begun.not-closed, Newer.adopt-newer}
+use Rattle.pagable_tables.proofs.{Newer.later-so, keeps.Placed.whole-so}
 use Rattle.pagable_tables.proofs.adopting.adopt.Goals as goal
 
 pub learn_new-requires-clause-holder : goal.learn_new-requires-clause-holder

@@ -1,6 +1,5 @@
-use Rattle.pagable_tables.proofs.Words.{◌≡◌, ℕ, ◌+◌, ◌/◌, arith, ap, sym, ◌∙◌, subst, Some, Option, not, IndexMap, spare, NodeNumber, Owner, Mode, Last, Alike, mode_of, with_handle, with_node}
-use Rattle.pagable_tables.proofs.Words.{next_node, Counts, Tables, key_in, core_of}
-use Rattle.std.specs.Option.{option_map}
+use Rattle.pagable_tables.proofs.Words.{◌≡◌, ℕ, ◌+◌, ◌/◌, arith, ap, sym, ◌∙◌, subst, Some, Option, not, IndexMap, spare, NodeNumber, Owner, Mode, Last, Alike, mode_of, with_handle}
+use Rattle.pagable_tables.proofs.Words.{with_node, next_node, Counts, Tables, key_in, core_of, option_map}
 use Rattle.pagable_tables.proofs.Adopted.{learned, if-open}
 use Rattle.pagable_tables.proofs.adopting.learn_new.Goals as goal
 

@@ -1,13 +1,8 @@
-use Rattle.pagable_tables.proofs.Words.{ℕ, ◌<◌, not, [], arith, ap, sym, ◌∙◌, subst, false, Ok, None, OptionalDataKey, Core, Alike, greatest, Owner, adopted, core_of, plain_of, load_in, Suits}
-use Rattle.pagable_tables.proofs.Words.{key_in, IndexMap, load_at, LoadRow}
-use Rattle.pagable_tables.proofs.Lazily.{lazy-not-own, lazy-not-loose, lazy-known, lazy-not-new, lazy-new, key-there}
-use Rattle.pagable_tables.proofs.NewNodes.{none-named}
-use Rattle.pagable_tables.proofs.Readied.{adopted-past, next-past, room-newer}
-use Rattle.pagable_tables.proofs.keeps.CacheCalls.{known-suits}
-use Rattle.pagable_tables.proofs.Begun.{not-closed}
-use Rattle.pagable_tables.proofs.Newer.{lazy-newer, later-so}
-use Rattle.pagable_tables.proofs.keeps.AdoptCalls.{lazy-whole}
-use Rattle.pagable_tables.proofs.keeps.Placed.{whole-so}
+use Rattle.pagable_tables.proofs.Words.{ℕ, ◌<◌, not, [], arith, ap, sym, ◌∙◌, subst, false, Ok, None, OptionalDataKey, Core, Alike, greatest, Owner, adopted, core_of, plain_of, load_in}
+use Rattle.pagable_tables.proofs.Words.{Suits, key_in, IndexMap, load_at, LoadRow}
+use Rattle.pagable_tables.proofs.{Lazily.lazy-not-own, Lazily.lazy-not-loose, Lazily.lazy-known, Lazily.lazy-not-new, Lazily.lazy-new, Lazily.key-there, NewNodes.none-named}
+use Rattle.pagable_tables.proofs.{Readied.adopted-past, Readied.next-past, Readied.room-newer, keeps.CacheCalls.known-suits, Begun.not-closed, Newer.lazy-newer, Newer.later-so}
+use Rattle.pagable_tables.proofs.{keeps.AdoptCalls.lazy-whole, keeps.Placed.whole-so}
 use Rattle.pagable_tables.proofs.adopting.load_lazy.Goals as goal
 
 pub returns-in-Err-clause-lazily : goal.returns-in-Err-clause-lazily

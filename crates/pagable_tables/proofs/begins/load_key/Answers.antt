@@ -1,11 +1,6 @@
-use Rattle.pagable_tables.proofs.Words.{◌+◌, refl, ap, arith, rules, None, false, Ok, inl, Beginning, load_at, load_in}
-use Rattle.std.specs.Option.{option_map}
-use Rattle.pagable_tables.proofs.Beginning.{load-comes, none-yet}
-use Rattle.pagable_tables.proofs.Worlds.{same-cache}
-use Rattle.pagable_tables.proofs.keeps.LoadCalls.{begin-key-whole}
-use Rattle.pagable_tables.proofs.keeps.Told.{told-whole}
-use Rattle.pagable_tables.proofs.keeps.Placed.{whole-so}
-use Rattle.pagable_tables.proofs.Newer.{later-opened}
+use Rattle.pagable_tables.proofs.Words.{◌+◌, refl, ap, arith, rules, None, false, Ok, inl, Beginning, load_at, load_in, option_map}
+use Rattle.pagable_tables.proofs.{Beginning.load-comes, Beginning.none-yet, Worlds.same-cache, keeps.LoadCalls.begin-key-whole, keeps.Told.told-whole, keeps.Placed.whole-so}
+use Rattle.pagable_tables.proofs.{Newer.later-opened}
 use Rattle.pagable_tables.proofs.begins.load_key.Goals as goal
 
 pub open-requires : goal.open-requires

@@ -1,12 +1,6 @@
-use Rattle.pagable_tables.proofs.Words.{◌≡◌, ◌+◌, ◌++◌, ◌∷◌, [], refl, ap, ◌∙◌, arith, None, HandleRow, owner_value, moved, is_named_by, live, counts_at, refs_at, plain_of}
-use Rattle.pagable_tables.proofs.Born.{born-fits, no-node}
-use Rattle.pagable_world.specs.Calls.{with_handle, with_node}
-use Rattle.pagable_tables.specs.Core.{core_of}
-use Rattle.pagable_tables.specs.Falling.{key_in}
-use Rattle.pagable_tables.proofs.Worlds.{same-cache}
-use Rattle.pagable_tables.proofs.Born.{born-cells}
-use Rattle.pagable_tables.proofs.Coming.{rows-told}
-use Rattle.pagable_tables.proofs.keeps.Comes.{not-a-value}
+use Rattle.pagable_tables.proofs.Words.{◌≡◌, ◌+◌, ◌++◌, ◌∷◌, [], refl, ap, ◌∙◌, arith, None, HandleRow, owner_value, moved, is_named_by, live, counts_at, refs_at, plain_of, with_handle}
+use Rattle.pagable_tables.proofs.Words.{with_node, core_of, key_in}
+use Rattle.pagable_tables.proofs.{Born.born-fits, Born.no-node, Born.born-cells, Worlds.same-cache, Coming.rows-told, keeps.Comes.not-a-value}
 use Rattle.pagable_tables.proofs.births.bear.Goals as goal
 
 pub returns-clause-steady : goal.returns-clause-steady

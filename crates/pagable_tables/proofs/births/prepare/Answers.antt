@@ -1,7 +1,5 @@
 use Rattle.pagable_tables.proofs.Words.{ap, sym, subst, ◌∙◌, false, None, inl, earlier, Refused, birth_fault, Tables, core_of}
-use Rattle.pagable_tables.proofs.NewNodes.{references-first}
-use Rattle.pagable_tables.proofs.Readied.{room-still, room-fault, room-newer, weaker}
-use Rattle.pagable_tables.proofs.Worlds.{still}
+use Rattle.pagable_tables.proofs.{NewNodes.references-first, Readied.room-still, Readied.room-fault, Readied.room-newer, Readied.weaker, Worlds.still}
 use Rattle.pagable_tables.proofs.births.prepare.Goals as goal
 
 pub returns-in-Err-clause-room : goal.returns-in-Err-clause-room

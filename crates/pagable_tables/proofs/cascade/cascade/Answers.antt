@@ -1,10 +1,7 @@
-use Rattle.pagable_tables.proofs.Words.{◌≡◌, ℕ, Bool, true, false, Option, Some, None, arith, inl, refl, ap, sym, subst, ◌∙◌, ◌≢◌, IfSome, nat_tests, NodeNumber, live, Steps, has_value, is_node}
-use Rattle.pagable_tables.proofs.Words.{counts_at}
-use Rattle.pagable_tables.proofs.Shedding.{lasts-on, none-falls-in}
-use Rattle.pagable_tables.proofs.Standing.{valued-le, none-falls, one-falls}
-use Rattle.pagable_tables.proofs.Ended.{ended}
-use Rattle.pagable_tables.proofs.Fewer.{steps-fewer, steps-unlisted}
-use Rattle.pagable_tables.proofs.Next.{steps-on}
+use Rattle.pagable_tables.proofs.Words.{◌≡◌, ℕ, Bool, true, false, Option, Some, None, arith, inl, refl, ap, sym, subst, ◌∙◌, ◌≢◌, IfSome, nat_tests, NodeNumber, live, Steps, has_value}
+use Rattle.pagable_tables.proofs.Words.{is_node, counts_at}
+use Rattle.pagable_tables.proofs.{Shedding.lasts-on, Shedding.none-falls-in, Standing.valued-le, Standing.none-falls, Standing.one-falls, Ended.ended, Fewer.steps-fewer}
+use Rattle.pagable_tables.proofs.{Fewer.steps-unlisted, Next.steps-on}
 use Rattle.pagable_tables.proofs.cascade.cascade.Goals as goal
 
 abbrev number-in : Option NodeNumber → ℕ

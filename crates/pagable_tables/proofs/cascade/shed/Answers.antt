@@ -1,9 +1,5 @@
-use Rattle.std.proofs.Common.{[], arith}
-use Rattle.pagable_tables.specs.Falling.{GivesUp}
-use Rattle.pagable_tables.proofs.Begun.{unowned}
-use Rattle.pagable_tables.proofs.Fewer.{gives-fewer}
-use Rattle.pagable_tables.proofs.Next.{gives-on}
-use Rattle.pagable_tables.proofs.Shedding.{stays-first}
+use Rattle.pagable_tables.proofs.Words.{[], arith, GivesUp}
+use Rattle.pagable_tables.proofs.{Begun.unowned, Fewer.gives-fewer, Next.gives-on, Shedding.stays-first}
 use Rattle.pagable_tables.proofs.cascade.shed.Goals as goal
 
 pub give_up-requires-clause-falling : goal.give_up-requires-clause-falling

@@ -1,9 +1,5 @@
-use Rattle.pagable_tables.proofs.Words.{None, false, Ok, refl, ap, sym, arith, NodeNumber, shut, is_listed, core_of, with_tables}
-use Rattle.std.specs.Option.{option_map}
-use Rattle.pagable_tables.proofs.Entries.{are-entries, begun-shut, cache-anew}
-use Rattle.pagable_tables.proofs.Newer.{close-newer, later-so}
-use Rattle.pagable_tables.proofs.keeps.EndCalls.{close-whole}
-use Rattle.pagable_tables.proofs.keeps.Placed.{whole-so}
+use Rattle.pagable_tables.proofs.Words.{None, false, Ok, refl, ap, sym, arith, NodeNumber, shut, is_listed, core_of, with_tables, option_map}
+use Rattle.pagable_tables.proofs.{Entries.are-entries, Entries.begun-shut, Entries.cache-anew, Newer.close-newer, Newer.later-so, keeps.EndCalls.close-whole, keeps.Placed.whole-so}
 use Rattle.pagable_tables.proofs.closing.close.Goals as goal
 
 pub returns-clause-closed : goal.returns-clause-closed

@@ -1,9 +1,6 @@
-use Rattle.pagable_tables.proofs.Words.{rules, ◌≡◌, ℕ, ◌+◌, ◌==◌, ◌||◌, List, [], ◌∷◌, length, false, None, refl, ap, sym, ◌∙◌, subst, arith, nat_tests, length-append, sum_by_push, HandleNumber}
-use Rattle.pagable_tables.proofs.Words.{one, Falls, Holdings, owns_nothing, with_tables, told_by, SoFar, entered, with_list}
-use Rattle.pagable_tables.proofs.Begun.{aside}
-use Rattle.pagable_tables.proofs.Entries.{given_up, none-given-up, one-given-up, unlist}
-use Rattle.pagable_tables.proofs.Ended.{ended}
-use Rattle.pagable_tables.proofs.Shedding.{sheds-still, sheds-then}
+use Rattle.pagable_tables.proofs.Words.{rules, ◌≡◌, ℕ, ◌+◌, ◌==◌, ◌||◌, List, [], ◌∷◌, length, false, None, refl, ap, sym, ◌∙◌, subst, arith, nat_tests, length-append, sum_by_push}
+use Rattle.pagable_tables.proofs.Words.{HandleNumber, one, Falls, Holdings, owns_nothing, with_tables, told_by, SoFar, entered, with_list}
+use Rattle.pagable_tables.proofs.{Begun.aside, Entries.given_up, Entries.none-given-up, Entries.one-given-up, Entries.unlist, Ended.ended, Shedding.sheds-still, Shedding.sheds-then}
 use Rattle.pagable_tables.proofs.closing.give_entries.Goals as goal
 
 empty : (list : List HandleNumber) → length list ≡ 0 → list ≡ []

@@ -1,33 +1,24 @@
-use Rattle.std.proofs.Common.{◌≡◌, false, ap, sym, ◌∙◌, subst}
-use Rattle.pagable_world.specs.Plain.{if_there}
-use Rattle.pagable_model.specs.declared.numbers.HandleNumber.{HandleNumber}
-use Rattle.pagable_world.specs.Kinds.{is_owner, is_owned_by}
-use Rattle.pagable_world.specs.declared.handles.Owner.TheVariants as owners
-use Rattle.pagable_tables.specs.Falling.{is_valued}
-use Rattle.pagable_tables.specs.Onward.{SoFar}
-use Rattle.pagable_tables.proofs.Left.{and_one}
-use Rattle.pagable_tables.proofs.Regiven.{given-none, given-one}
-use Rattle.pagable_tables.proofs.Worlds.{owner-same}
-use Rattle.pagable_tables.proofs.Shedding.{sheds-still}
+use Rattle.pagable_tables.proofs.Words.{◌≡◌, false, ap, sym, ◌∙◌, subst, if_there, HandleNumber, is_owner, is_owned_by, Owner, is_valued, SoFar}
+use Rattle.pagable_tables.proofs.{Left.and_one, Regiven.given-none, Regiven.given-one, Worlds.owner-same, Shedding.sheds-still}
 use Rattle.pagable_tables.proofs.ending.give_next.Goals as goal
 
 pub returns-in_default-clause-so_far : goal.returns-in_default-clause-so_far
 returns-in_default-clause-so_far g c before w given f few =
-    given-none before w given c.args.lists c.args.t.now c.args.load c.args.handle.0 f (ap (if_there (is_owned_by (owners.Load c.args.load)) false) (c.in_default.ensures.none))
+    given-none before w given c.args.lists c.args.t.now c.args.load c.args.handle.0 f (ap (if_there (is_owned_by (Owner.Load c.args.load)) false) (c.in_default.ensures.none))
 
 pub returns-then-not-is_owner-clause-so_far : goal.returns-then-not-is_owner-clause-so_far
 returns-then-not-is_owner-clause-so_far g c before w given f few =
-    given-none before w given c.args.lists c.args.t.now c.args.load c.args.handle.0 f (ap (if_there (is_owned_by (owners.Load c.args.load)) false) c.in-Some.ensures.found ∙ sym c.if-not-is_owner.ensures)
+    given-none before w given c.args.lists c.args.t.now c.args.load c.args.handle.0 f (ap (if_there (is_owned_by (Owner.Load c.args.load)) false) c.in-Some.ensures.found ∙ sym c.if-not-is_owner.ensures)
 
 pub shed-requires-clause-plain : goal.shed-requires-clause-plain
-shed-requires-clause-plain g c = ap is_valued (owner-same (owners.Load c.args.load) c.in-Some.at.row.owner (sym c.if-not-is_owner.ensures))
+shed-requires-clause-plain g c = ap is_valued (owner-same (Owner.Load c.args.load) c.in-Some.at.row.owner (sym c.if-not-is_owner.ensures))
 
 pub returns-clause-so_far : goal.returns-clause-so_far
 returns-clause-so_far g c before w given f few =
     let load = c.args.load in
-    let own : c.in-Some.at.row.owner ≡ owners.Load load = owner-same (owners.Load load) c.in-Some.at.row.owner (sym c.if-not-is_owner.ensures) in
-    let some = ap (if_there (is_owned_by (owners.Load load)) false) c.in-Some.ensures.found ∙ sym c.if-not-is_owner.ensures in
-    let on = c.shed.ensures.so_far before w given f few (ap (is_owner owners.List) own) in
+    let own : c.in-Some.at.row.owner ≡ Owner.Load load = owner-same (Owner.Load load) c.in-Some.at.row.owner (sym c.if-not-is_owner.ensures) in
+    let some = ap (if_there (is_owned_by (Owner.Load load)) false) c.in-Some.ensures.found ∙ sym c.if-not-is_owner.ensures in
+    let on = c.shed.ensures.so_far before w given f few (ap (is_owner Owner.List) own) in
     let here = subst (λ (q : HandleNumber). SoFar before w (and_one given q.0) c.args.lists c.shed.new.t) c.in-Some.ensures.number on in
     given-one before w given c.args.lists c.args.t.now c.shed.new.t load c.args.handle.0 f some here
 

@@ -1,7 +1,4 @@
-use Rattle.std.proofs.Common.{refl}
-use Rattle.std.specs.Option.{option_map}
-use Rattle.pagable_tables.specs.ByNumber.{load_at}
-use Rattle.pagable_tables.specs.Core.{load_in}
+use Rattle.pagable_tables.proofs.Words.{refl, option_map, load_at, load_in}
 use Rattle.pagable_tables.proofs.GivenAll.{bare}
 use Rattle.pagable_tables.proofs.ending.give_up_load.Goals as goal
 

@@ -1,20 +1,11 @@
-use Rattle.std.proofs.Common.{refl, ap, ◌∙◌, Some, None}
-use Rattle.std.specs.Prelude.{not}
-use Rattle.std.specs.Option.{option_map}
-use Rattle.pagable_model.specs.declared.error.Error.TheVariants as errors
-use Rattle.pagable_world.specs.Plain.{if_there}
-use Rattle.pagable_world.specs.Kinds.{is_owner}
-use Rattle.pagable_world.specs.World.{OpenLoad}
-use Rattle.pagable_world.specs.Refusals.{earlier, refused_if, load_fault}
-use Rattle.pagable_world.specs.LoadCalls.{cell_fault}
-use Rattle.pagable_tables.specs.Core.{core_of, load_in}
+use Rattle.pagable_tables.proofs.Words.{refl, ap, ◌∙◌, Some, None, not, option_map, Error, if_there, is_owner, OpenLoad, earlier, refused_if, load_fault, cell_fault, core_of, load_in}
 use Rattle.pagable_tables.proofs.ending.hand_over_fault.Goals as goal
 
 pub returns : goal.returns
 returns c stored closed failures =
     let w = core_of c.args.t.now stored closed failures in
     let own = c.load_fault-first.ensures
-    ∙ ap (λ o. if_there (λ (load : OpenLoad). refused_if (not (is_owner c.args.me load.owner)) errors.NotYours) (Some errors.NoSuchHandle) (option_map load_in o)) c.load_of.ensures in
+    ∙ ap (λ o. if_there (λ (load : OpenLoad). refused_if (not (is_owner c.args.me load.owner)) Error.NotYours) (Some Error.NoSuchHandle) (option_map load_in o)) c.load_of.ensures in
     let cell = c.cell_fault-cell.ensures ∙ ap (λ o. if_there (λ (load : OpenLoad). cell_fault load.root) None (option_map load_in o)) c.load_of-2.ensures in
     let rest = c.earlier.ensures ∙ ap (λ x. earlier x c.named_fault-owned.result) cell
     ∙ ap (earlier (if_there (λ (load : OpenLoad). cell_fault load.root) None (w.loads c.args.load.0))) (c.named_fault-owned.ensures w refl) in

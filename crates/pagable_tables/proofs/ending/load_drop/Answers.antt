@@ -1,16 +1,6 @@
-use Rattle.std.proofs.Common.{arith, refl, inl, inr, None, not}
-use Rattle.pagable_world.specs.declared.handles.Owner.TheVariants as owners
-use Rattle.pagable_world.specs.LoadCalls.{is_owned_in, without_load}
-use Rattle.pagable_tables.specs.ByNumber.{load_at}
-use Rattle.pagable_tables.specs.Core.{core_of, plain_of, load_in}
-use Rattle.pagable_tables.specs.Onward.{with_tables}
-use Rattle.pagable_tables.proofs.Dropped.{load-closed, begun-less, owned-given, loads-anew}
-use Rattle.pagable_tables.proofs.Worlds.{still}
-use Rattle.pagable_tables.proofs.Shedding.{sheds-still}
-use Rattle.pagable_tables.proofs.Begun.{not-closed}
-use Rattle.pagable_tables.proofs.keeps.EndCalls.{drop-whole}
-use Rattle.pagable_tables.proofs.keeps.Placed.{whole-so}
-use Rattle.pagable_tables.proofs.Newer.{drop-newer, later-so, closed-still}
+use Rattle.pagable_tables.proofs.Words.{arith, refl, inl, inr, None, not, Owner, is_owned_in, without_load, load_at, core_of, plain_of, load_in, with_tables}
+use Rattle.pagable_tables.proofs.{Dropped.load-closed, Dropped.begun-less, Dropped.owned-given, Dropped.loads-anew, Worlds.still, Shedding.sheds-still, Begun.not-closed}
+use Rattle.pagable_tables.proofs.{keeps.EndCalls.drop-whole, keeps.Placed.whole-so, Newer.drop-newer, Newer.later-so, Newer.closed-still}
 use Rattle.pagable_tables.proofs.ending.load_drop.Goals as goal
 
 pub returns-in-Err-clause-dropped : goal.returns-in-Err-clause-dropped
@@ -24,12 +14,12 @@ returns-clause-dropped g c stored closed failures e =
     let w' = core_of (record t { holdings = c.give_up_load.new.t; loads = c.close.new.loads }) stored closed failures in
     let u = without_load w l in
     let falls = c.give_up_load.ensures.falls w u (begun-less t u.loads w.workers stored closed c.args.lists failures c.requires.whole e) (omega arith)
-    (λ q own. (c.requires.later.since l.0 c.in-Ok.row q c.in-Ok.ensures.row own, owned-given (plain_of t) (owners.Load l) q c.requires.whole.core.handles own)) in
+    (λ q own. (c.requires.later.since l.0 c.in-Ok.row q c.in-Ok.ensures.row own, owned-given (plain_of t) (Owner.Load l) q c.requires.whole.core.handles own)) in
     record {
       does = inr (
         load_in c.in-Ok.row,
         c.in-Ok.ensures.own stored closed failures,
-        loads-anew w u (with_tables u c.give_up_load.new.t) (is_owned_in w (owners.Load l)) c.give_up_load.result w'.loads (load-closed (load_at t.loads) (load_at c.close.new.loads) l.0 c.close.ensures.gone c.close.ensures.others) falls,
+        loads-anew w u (with_tables u c.give_up_load.new.t) (is_owned_in w (Owner.Load l)) c.give_up_load.result w'.loads (load-closed (load_at t.loads) (load_at c.close.new.loads) l.0 c.close.ensures.gone c.close.ensures.others) falls,
       );
     }
 

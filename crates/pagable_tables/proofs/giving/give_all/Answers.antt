@@ -1,11 +1,5 @@
-use Rattle.std.proofs.Common.{[], refl, arith, None}
-use Rattle.std.specs.Option.{option_map}
-use Rattle.pagable_tables.specs.ByNumber.{load_at}
-use Rattle.pagable_tables.specs.Core.{load_in}
-use Rattle.pagable_tables.specs.Falling.{owns_nothing}
-use Rattle.pagable_tables.proofs.Begun.{aside}
-use Rattle.pagable_tables.proofs.GivenAll.{bare, given-plain, none-past, one-past, all-past}
-use Rattle.pagable_tables.proofs.Shedding.{sheds-still, sheds-then}
+use Rattle.pagable_tables.proofs.Words.{[], refl, arith, None, option_map, load_at, load_in, owns_nothing}
+use Rattle.pagable_tables.proofs.{Begun.aside, GivenAll.bare, GivenAll.given-plain, GivenAll.none-past, GivenAll.one-past, GivenAll.all-past, Shedding.sheds-still, Shedding.sheds-then}
 use Rattle.pagable_tables.proofs.giving.give_all.Goals as goal
 
 pub loop-at-init : goal.loop-at-init

@@ -1,12 +1,5 @@
-use Rattle.std.proofs.Common.{◌≡◌, ℕ, nat_eq, ◌<◌, ◌≤◌, [], length, true, None}
-use Rattle.pagable_world.specs.World.{Core}
-use Rattle.pagable_world.specs.Cascade.{nobody}
-use Rattle.indexmap.specs.IndexMap.{get}
-use Rattle.pagable_tables.specs.Live.{live}
-use Rattle.pagable_tables.specs.ByNumber.{counts_at}
-use Rattle.pagable_tables.specs.Falling.{IsFalling, Sheds, owns_nothing}
-use Rattle.pagable_tables.specs.Onward.{SoFar}
-use Rattle.pagable_tables.specs.Giving.{gives_row, passes_in, LoadsAre}
+use Rattle.pagable_tables.proofs.Words.{◌≡◌, ℕ, nat_eq, ◌<◌, ◌≤◌, [], length, true, None, Core, nobody, get, live, counts_at, IsFalling, Sheds, owns_nothing, SoFar, gives_row, passes_in}
+use Rattle.pagable_tables.proofs.Words.{LoadsAre}
 use Rattle.pagable_tables.proofs.GivenAll.{past_of}
 use Rattle.pagable_tables.proofs.giving.give_all.Given as goal
 

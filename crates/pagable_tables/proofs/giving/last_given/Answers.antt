@@ -1,5 +1,4 @@
-use Rattle.std.proofs.Common.{◌-◌, arith}
-use Rattle.pagable_tables.specs.Giving.{gives_row}
+use Rattle.pagable_tables.proofs.Words.{◌-◌, arith, gives_row}
 use Rattle.pagable_tables.proofs.LastGiven.{none-from, below-to, place-got, row-there, up-from}
 use Rattle.pagable_tables.proofs.giving.last_given.Goals as goal
 

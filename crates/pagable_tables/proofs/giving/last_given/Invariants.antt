@@ -1,7 +1,4 @@
-use Rattle.std.proofs.Common.{◌≡◌, ℕ, ◌<◌, ◌≤◌, length, get_or, true}
-use Rattle.pagable_world.specs.World.{Core}
-use Rattle.pagable_tables.specs.declared.rows.Place.{Place}
-use Rattle.pagable_tables.specs.Giving.{gives_row, LoadsAre}
+use Rattle.pagable_tables.proofs.Words.{◌≡◌, ℕ, ◌<◌, ◌≤◌, length, get_or, true, Core, Place, gives_row, LoadsAre}
 use Rattle.pagable_tables.proofs.giving.last_given.Given as goal
 
 abbrev pub invariant-loop-place : goal.invariant-loop-place

@@ -1,4 +1,4 @@
-use Rattle.std.proofs.Common.{arith}
+use Rattle.pagable_tables.proofs.Words.{arith}
 use Rattle.pagable_tables.proofs.LastGiven.{above-from}
 use Rattle.pagable_tables.proofs.giving.up_to.Goals as goal
 

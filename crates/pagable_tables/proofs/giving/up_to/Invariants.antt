@@ -1,5 +1,4 @@
-use Rattle.std.proofs.Common.{ℕ, ◌-◌, ◌<◌, ◌≤◌, length, get_or}
-use Rattle.pagable_tables.specs.declared.rows.Place.{Place}
+use Rattle.pagable_tables.proofs.Words.{ℕ, ◌-◌, ◌<◌, ◌≤◌, length, get_or, Place}
 use Rattle.pagable_tables.proofs.giving.up_to.Given as goal
 
 abbrev pub invariant-loop-low : goal.invariant-loop-low

@@ -1,6 +1,5 @@
 use Rattle.pagable_tables.proofs.Words.{arith, refl, ap, ◌∙◌, false, sum_by, length-set, Place}
-use Rattle.pagable_tables.proofs.Order.{rises-set}
-use Rattle.pagable_tables.proofs.Alive.{live-kill, sum-live-set, length-live-set, next-set}
+use Rattle.pagable_tables.proofs.{Order.rises-set, Alive.live-kill, Alive.sum-live-set, Alive.length-live-set, Alive.next-set}
 use Rattle.pagable_tables.proofs.handles.kill.Goals as goal
 
 pub overflow_sub-len : goal.overflow_sub-len

@@ -1,6 +1,5 @@
 use Rattle.pagable_tables.proofs.Words.{arith, ap, HandleNumber, length-set, alive, Place}
-use Rattle.pagable_tables.proofs.Order.{rises-set}
-use Rattle.pagable_tables.proofs.Alive.{live-set, sum-live-set, length-live-set, next-set}
+use Rattle.pagable_tables.proofs.{Order.rises-set, Alive.live-set, Alive.sum-live-set, Alive.length-live-set, Alive.next-set}
 use Rattle.pagable_tables.proofs.handles.set.Goals as goal
 
 pub returns-clause-sound : goal.returns-clause-sound

@@ -1,8 +1,8 @@
-use Rattle.pagable_tables.proofs.Words.{cases_eq, nat_tests, false, inl, inr, Bool, ◌+◌, ◌-◌, ◌≡◌, ◌≤◌, ℕ, arith, refl, ap, sym, ◌∙◌, subst, Some, None, ◌∷◌, if◌then◌else◌, ◌≢◌, one, is_pinning}
-use Rattle.pagable_tables.proofs.Words.{live, counts_at, refs_at, Fits, pins_in, holds_in, after, is_fallen_by, is_new, has_value, falls_in, ValueStays, owns_nothing, Leaves, Counts}
-use Rattle.pagable_tables.proofs.Alive.{row-le-live}
-use Rattle.pagable_tables.proofs.Leaving.{leaves-sums}
-use Rattle.pagable_tables.proofs.Fitting.{given-fits, given-cells, new-top, long-if, pin-here, held-here, pin_of, handle_of}
+use Rattle.pagable_tables.proofs.Words.{cases_eq, nat_tests, false, inl, inr, Bool, ◌+◌, ◌-◌, ◌≡◌, ◌≤◌, ℕ, arith, refl, ap, sym, ◌∙◌, subst, Some, None, ◌∷◌, if◌then◌else◌, ◌≢◌, one}
+use Rattle.pagable_tables.proofs.Words.{is_pinning, live, counts_at, refs_at, Fits, pins_in, holds_in, after, is_fallen_by, is_new, has_value, falls_in, ValueStays, owns_nothing, Leaves}
+use Rattle.pagable_tables.proofs.Words.{Counts}
+use Rattle.pagable_tables.proofs.{Alive.row-le-live, Leaving.leaves-sums, Fitting.given-fits, Fitting.given-cells, Fitting.new-top, Fitting.long-if, Fitting.pin-here, Fitting.held-here}
+use Rattle.pagable_tables.proofs.{Fitting.pin_of, Fitting.handle_of}
 use Rattle.pagable_tables.proofs.holdings.give_up.Goals as goal
 
 -- a handle that leaves takes no value with it at once

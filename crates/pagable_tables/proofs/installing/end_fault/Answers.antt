@@ -1,5 +1,4 @@
-use Rattle.pagable_tables.proofs.Words.{ap, ◌∙◌, Some, None, not, Error, if_there, is_owner, OpenLoad, earlier, refused_if, load_fault, root_fault, core_of, load_in}
-use Rattle.std.specs.Option.{option_map}
+use Rattle.pagable_tables.proofs.Words.{ap, ◌∙◌, Some, None, not, Error, if_there, is_owner, OpenLoad, earlier, refused_if, load_fault, root_fault, core_of, load_in, option_map}
 use Rattle.pagable_tables.proofs.installing.end_fault.Goals as goal
 
 pub returns : goal.returns

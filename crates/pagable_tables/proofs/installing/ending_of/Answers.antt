@@ -1,8 +1,6 @@
 use Rattle.pagable_tables.proofs.Words.{◌≡◌, refl, ap, sym, ◌∙◌, subst, Option, Some, None, false, not, OptionalDataKey, HandleNumber, NodeNumber, if_there, any_mode, find_row, is_in_memory}
-use Rattle.pagable_tables.proofs.Words.{Cell, of_cell, key_at, MayEnd, end_fault, Counts, live, core_of, plain_of, load_in, root_in, pins_in, cell_in}
-use Rattle.std.specs.Option.{option_map}
-use Rattle.pagable_tables.proofs.Upheld.{opens, celled, may-end, number-left}
-use Rattle.pagable_tables.proofs.Worlds.{owner-same}
+use Rattle.pagable_tables.proofs.Words.{Cell, of_cell, key_at, MayEnd, end_fault, Counts, live, core_of, plain_of, load_in, root_in, pins_in, cell_in, option_map}
+use Rattle.pagable_tables.proofs.{Upheld.opens, Upheld.celled, Upheld.may-end, Upheld.number-left, Worlds.owner-same}
 use Rattle.pagable_tables.proofs.installing.ending_of.Goals as goal
 
 pub unreachable-requires : goal.unreachable-requires

@@ -1,17 +1,8 @@
 use Rattle.pagable_tables.proofs.Words.{◌≡◌, ◌<◌, ◌+◌, ◌++◌, ◌∷◌, [], sum_by, refl, ap, sym, ◌∙◌, arith, false, not, inl, None, Ok, Owner, Mode, changed, one, is_handle, is_pin, owner_value}
 use Rattle.pagable_tables.proofs.Words.{is_here, moved, is_named_by, row_of, Tables, live, counts_at, refs_at, load_at, has_value, cell_in, core_of, plain_of}
-use Rattle.pagable_tables.proofs.Begun.{not-closed}
-use Rattle.pagable_tables.proofs.Coming.{rows-told, some-held, turned}
-use Rattle.pagable_tables.proofs.Fitting.{fits-same, pins-le-held}
-use Rattle.pagable_tables.proofs.Installed.{ended, has-come, install-newer, pins-here, not-so}
-use Rattle.pagable_tables.proofs.Joined.{joined-fits, owns-none}
-use Rattle.pagable_tables.proofs.Newer.{closed-still, later-so}
-use Rattle.pagable_tables.proofs.Stays.{not-named}
-use Rattle.pagable_tables.proofs.Upheld.{ready-owner}
-use Rattle.pagable_tables.proofs.keeps.Comes.{not-a-value}
-use Rattle.pagable_tables.proofs.keeps.EndCalls.{end-whole}
-use Rattle.pagable_tables.proofs.keeps.LoadCalls.{may-hold}
-use Rattle.pagable_tables.proofs.keeps.Placed.{whole-so}
+use Rattle.pagable_tables.proofs.{Begun.not-closed, Coming.rows-told, Coming.some-held, Coming.turned, Fitting.fits-same, Fitting.pins-le-held, Installed.ended, Installed.has-come}
+use Rattle.pagable_tables.proofs.{Installed.install-newer, Installed.pins-here, Installed.not-so, Joined.joined-fits, Joined.owns-none, Newer.closed-still, Newer.later-so, Stays.not-named}
+use Rattle.pagable_tables.proofs.{Upheld.ready-owner, keeps.Comes.not-a-value, keeps.EndCalls.end-whole, keeps.LoadCalls.may-hold, keeps.Placed.whole-so}
 use Rattle.pagable_tables.proofs.installing.install.Goals as goal
 
 pub pin_ready-handle-requires-clause-holder : goal.pin_ready-handle-requires-clause-holder

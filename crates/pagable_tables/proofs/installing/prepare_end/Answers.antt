@@ -1,8 +1,6 @@
 use Rattle.pagable_tables.proofs.Words.{refl, inr, arith, core_of}
-use Rattle.pagable_tables.proofs.Upheld.{placed-whole, ready-placed}
-use Rattle.pagable_tables.proofs.Worlds.{alike}
+use Rattle.pagable_tables.proofs.{Upheld.placed-whole, Upheld.ready-placed, Worlds.alike, Opened.no-load-fault}
 use Rattle.pagable_tables.proofs.installing.prepare_end.Goals as goal
-use Rattle.pagable_tables.proofs.Opened.{no-load-fault}
 
 pub returns-in_default-clause-unended : goal.returns-in_default-clause-unended
 returns-in_default-clause-unended c stored closed failures =

@@ -1,5 +1,4 @@
-use Rattle.pagable_tables.proofs.Words.{◌==◌, ap, sym, ◌∙◌, None, not, Error, if_there, OpenLoad, earlier, refused_if, root_fault, core_of, load_in, root_in}
-use Rattle.std.specs.Option.{option_map}
+use Rattle.pagable_tables.proofs.Words.{◌==◌, ap, sym, ◌∙◌, None, not, Error, if_there, OpenLoad, earlier, refused_if, root_fault, core_of, load_in, root_in, option_map}
 use Rattle.pagable_tables.proofs.installing.root_fault.Goals as goal
 
 pub returns : goal.returns

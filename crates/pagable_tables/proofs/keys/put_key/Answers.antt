@@ -1,8 +1,6 @@
-use Rattle.pagable_tables.proofs.Words.{◌≡◌, ◌==◌, if◌then◌else◌, [], ◌∷◌, refl, ap, sym, ◌∙◌, subst, Some, false, Counts, live, counts_at, refs_at, Fits, ValueStays, has_value, falls_in, is_new}
-use Rattle.pagable_tables.proofs.Words.{owns_nothing, keyed, ℕ, inl, inr, arith, cases_eq, nat_tests}
-use Rattle.pagable_tables.proofs.Shedding.{none-falls-in}
-use Rattle.pagable_tables.proofs.Fitting.{long-if}
-use Rattle.pagable_tables.proofs.KeyPut.{key-fits, key-cells, key-top}
+use Rattle.pagable_tables.proofs.Words.{◌≡◌, ◌==◌, if◌then◌else◌, [], ◌∷◌, refl, ap, sym, ◌∙◌, subst, Some, false, Counts, live, counts_at, refs_at, Fits, ValueStays, has_value, falls_in}
+use Rattle.pagable_tables.proofs.Words.{is_new, owns_nothing, keyed, ℕ, inl, inr, arith, cases_eq, nat_tests}
+use Rattle.pagable_tables.proofs.{Shedding.none-falls-in, Fitting.long-if, KeyPut.key-fits, KeyPut.key-cells, KeyPut.key-top}
 use Rattle.pagable_tables.proofs.keys.put_key.Goals as goal
 
 pub returns-clause-cells : goal.returns-clause-cells

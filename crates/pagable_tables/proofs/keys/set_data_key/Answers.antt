@@ -1,15 +1,6 @@
-use Rattle.pagable_tables.proofs.Words.{not, None, refl, sym, ◌∙◌, arith, inl, inr, ap, any_mode, counts_at, load_at}
-use Rattle.std.proofs.Common.{◌≡◌, false, rules}
-use Rattle.pagable_world.specs.Kinds.{is_loose}
-use Rattle.pagable_tables.proofs.Alive.{row-le-live}
-use Rattle.pagable_tables.proofs.Begun.{not-closed}
-use Rattle.pagable_tables.proofs.Coming.{some-held}
-use Rattle.pagable_tables.proofs.Fitting.{handle_of, held-here}
-use Rattle.pagable_tables.proofs.Worlds.{still, owner-same}
-use Rattle.pagable_tables.proofs.keeps.FallCalls.{set-key-whole}
-use Rattle.pagable_tables.proofs.keeps.Placed.{whole-so}
-use Rattle.pagable_tables.proofs.Shedding.{sheds-still}
-use Rattle.pagable_tables.proofs.Newer.{set-key-newer, later-so}
+use Rattle.pagable_tables.proofs.Words.{not, None, refl, sym, ◌∙◌, arith, inl, inr, ap, any_mode, counts_at, load_at, ◌≡◌, false, rules, is_loose}
+use Rattle.pagable_tables.proofs.{Alive.row-le-live, Begun.not-closed, Coming.some-held, Fitting.handle_of, Fitting.held-here, Worlds.still, Worlds.owner-same, keeps.FallCalls.set-key-whole}
+use Rattle.pagable_tables.proofs.{keeps.Placed.whole-so, Shedding.sheds-still, Newer.set-key-newer, Newer.later-so}
 use Rattle.pagable_tables.proofs.keys.set_data_key.Goals as goal
 
 pub set_key-requires-clause-live : goal.set_key-requires-clause-live

@@ -1,6 +1,5 @@
 use Rattle.pagable_tables.proofs.Words.{sym, subst, false, None, plain_of, Suits}
-use Rattle.pagable_tables.proofs.Recalled.{recalls, not-recalled}
-use Rattle.pagable_tables.proofs.keeps.CacheCalls.{known-suits}
+use Rattle.pagable_tables.proofs.{Recalled.recalls, Recalled.not-recalled, keeps.CacheCalls.known-suits}
 use Rattle.pagable_tables.proofs.known.cache_get.Goals as goal
 
 pub make-requires-clause-suits : goal.make-requires-clause-suits

@@ -1,15 +1,7 @@
-use Rattle.pagable_tables.proofs.Words.{◌≡◌, ◌∙◌, ℕ, ap, sym, subst, refl, false, None, Ok, inl, inr, arith, rules, NodeNumber, usable, fits_mode, Owns, offer_fault, recall_fault, with_cached}
-use Rattle.pagable_tables.proofs.Words.{OfferCall, known_at, core_of, plain_of, Suits}
-use Rattle.std.specs.Option.{option_map}
-use Rattle.std.specs.Prelude.{is_some}
-use Rattle.pagable_world.specs.Refusals.{spent, where_so}
-use Rattle.pagable_tables.proofs.Offers.{offer-last, learned}
-use Rattle.pagable_tables.proofs.Worlds.{same-cache}
-use Rattle.pagable_tables.proofs.keeps.Placed.{whole-so}
-use Rattle.pagable_tables.proofs.keeps.Told.{told-whole}
-use Rattle.pagable_tables.proofs.Pins.{no-fault}
-use Rattle.pagable_tables.proofs.Recalled.{recalls, not-recalled}
-use Rattle.pagable_tables.proofs.keeps.CacheCalls.{known-suits, offer-whole}
+use Rattle.pagable_tables.proofs.Words.{◌≡◌, ◌∙◌, ℕ, ap, sym, subst, refl, false, None, Ok, inl, inr, arith, rules, NodeNumber, usable, fits_mode, Owns, offer_fault, recall_fault}
+use Rattle.pagable_tables.proofs.Words.{with_cached, OfferCall, known_at, core_of, plain_of, Suits, option_map, is_some, spent, where_so}
+use Rattle.pagable_tables.proofs.{Offers.offer-last, Offers.learned, Worlds.same-cache, keeps.Placed.whole-so, keeps.Told.told-whole, Pins.no-fault, Recalled.recalls, Recalled.not-recalled}
+use Rattle.pagable_tables.proofs.{keeps.CacheCalls.known-suits, keeps.CacheCalls.offer-whole}
 use Rattle.pagable_tables.proofs.known.cache_put.Goals as goal
 
 pub make-requires-clause-suits : goal.make-requires-clause-suits

@@ -1,12 +1,5 @@
-use Rattle.pagable_tables.proofs.Words.{fits_mode, core_of}
-use Rattle.pagable_tables.proofs.Offers.{offer-first}
-use Rattle.std.proofs.Common.{◌≡◌, ap, sym, ◌∙◌, true, false, Some, None, rules}
-use Rattle.pagable_world.specs.Plain.{if_there, type_of}
-use Rattle.pagable_world.specs.Refusals.{is_type}
-use Rattle.pagable_world.specs.World.{Cell}
-use Rattle.pagable_tables.specs.Falling.{cell_in}
-use Rattle.pagable_tables.proofs.Offers.{offer-kind}
-use Rattle.pagable_tables.proofs.Pins.{wrong-mode}
+use Rattle.pagable_tables.proofs.Words.{fits_mode, core_of, ◌≡◌, ap, sym, ◌∙◌, true, false, Some, None, rules, if_there, type_of, is_type, Cell, cell_in}
+use Rattle.pagable_tables.proofs.{Offers.offer-first, Offers.offer-kind, Pins.wrong-mode}
 use Rattle.pagable_tables.proofs.known.offered.Goals as goal
 
 pub returns-in-Err-clause-fault : goal.returns-in-Err-clause-fault

@@ -1,18 +1,8 @@
 use Rattle.pagable_tables.proofs.Words.{◌≡◌, ◌∙◌, ◌++◌, ◌∷◌, [], ap, refl, subst, false, inl, inr, arith, rules, Ok, None, not, is_unpinned, is_owner, Owner, moved, only_handle, Falls, live}
 use Rattle.pagable_tables.proofs.Words.{is_valued, plain_of, core_of}
-use Rattle.pagable_tables.proofs.keeps.Comes.{not-a-value, not-list}
-use Rattle.pagable_tables.proofs.keeps.Fallen.{may-fall}
-use Rattle.pagable_tables.proofs.keeps.GoingOn.{stays-on}
-use Rattle.pagable_tables.proofs.keeps.ListCalls.{schedule-whole}
-use Rattle.pagable_tables.proofs.keeps.Opened.{falls-opened}
-use Rattle.pagable_tables.proofs.keeps.Placed.{whole-so}
-use Rattle.pagable_tables.proofs.keeps.Told.{roomy-whole, alike-whole}
-use Rattle.pagable_tables.proofs.Begun.{begun-whole, not-closed, shut-then, open-then}
-use Rattle.pagable_tables.proofs.Listed.{alike-listed}
-use Rattle.pagable_tables.proofs.Pins.{wrong-mode}
-use Rattle.pagable_tables.proofs.Worlds.{still, owner-same}
-use Rattle.pagable_tables.proofs.Shedding.{sheds-still}
-use Rattle.pagable_tables.proofs.Newer.{later-so, schedule-newer}
+use Rattle.pagable_tables.proofs.{keeps.Comes.not-a-value, keeps.Comes.not-list, keeps.Fallen.may-fall, keeps.GoingOn.stays-on, keeps.ListCalls.schedule-whole, keeps.Opened.falls-opened}
+use Rattle.pagable_tables.proofs.{keeps.Placed.whole-so, keeps.Told.roomy-whole, keeps.Told.alike-whole, Begun.begun-whole, Begun.not-closed, Begun.shut-then, Begun.open-then}
+use Rattle.pagable_tables.proofs.{Listed.alike-listed, Pins.wrong-mode, Worlds.still, Worlds.owner-same, Shedding.sheds-still, Newer.later-so, Newer.schedule-newer}
 use Rattle.pagable_tables.proofs.listing.schedule_for_paging.Goals as goal
 
 pub returns-in-Err-clause-scheduled : goal.returns-in-Err-clause-scheduled

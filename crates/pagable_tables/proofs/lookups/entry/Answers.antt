@@ -1,15 +1,5 @@
-use Rattle.std.proofs.Common.{◌≡◌, arith, ap, sym, ◌∙◌, None, Some}
-use Rattle.std.proofs.lemmas.Option.{slice_get-get_or}
-use Rattle.pagable_model.specs.declared.numbers.HandleNumber.{HandleNumber}
-use Rattle.pagable_world.specs.Plain.{if_there}
-use Rattle.pagable_world.specs.Kinds.{find_row}
-use Rattle.pagable_world.specs.World.{Cell}
-use Rattle.pagable_tables.specs.Live.{live}
-use Rattle.pagable_tables.specs.ByNumber.{counts_at}
-use Rattle.pagable_tables.specs.Falling.{holds_in, cell_in}
-use Rattle.pagable_tables.proofs.Alive.{row-le-live}
-use Rattle.pagable_tables.proofs.Fitting.{handle_of, held-here}
-use Rattle.pagable_tables.proofs.Owned.{entry-lives}
+use Rattle.pagable_tables.proofs.Words.{◌≡◌, arith, ap, sym, ◌∙◌, None, Some, slice_get-get_or, HandleNumber, if_there, find_row, Cell, live, counts_at, holds_in, cell_in}
+use Rattle.pagable_tables.proofs.{Alive.row-le-live, Fitting.handle_of, Fitting.held-here, Owned.entry-lives}
 use Rattle.pagable_tables.proofs.lookups.entry.Goals as goal
 
 pub unreachable-requires : goal.unreachable-requires

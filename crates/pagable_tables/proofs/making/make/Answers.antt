@@ -1,9 +1,5 @@
 use Rattle.pagable_tables.proofs.Words.{arith, counts_at, core_of, plain_of}
-use Rattle.pagable_tables.proofs.Coming.{some-held}
-use Rattle.pagable_tables.proofs.Newer.{makes-newer, later-so}
-use Rattle.pagable_tables.proofs.keeps.Comes.{not-a-value, suits-held}
-use Rattle.pagable_tables.proofs.keeps.HandleCalls.{makes-whole}
-use Rattle.pagable_tables.proofs.keeps.Placed.{whole-so}
+use Rattle.pagable_tables.proofs.{Coming.some-held, Newer.makes-newer, Newer.later-so, keeps.Comes.not-a-value, keeps.Comes.suits-held, keeps.HandleCalls.makes-whole, keeps.Placed.whole-so}
 use Rattle.pagable_tables.proofs.making.make.Goals as goal
 
 pub come-requires-clause-live : goal.come-requires-clause-live

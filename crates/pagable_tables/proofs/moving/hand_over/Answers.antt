@@ -1,6 +1,5 @@
 use Rattle.pagable_tables.proofs.Words.{◌+◌, ◌∙◌, live, counts_at, refs_at}
-use Rattle.pagable_tables.proofs.Alive.{changed-known}
-use Rattle.pagable_tables.proofs.Owned.{owned-by, move-fits}
+use Rattle.pagable_tables.proofs.{Alive.changed-known, Owned.owned-by, Owned.move-fits}
 use Rattle.pagable_tables.proofs.moving.hand_over.Goals as goal
 
 pub returns-clause-rows : goal.returns-clause-rows

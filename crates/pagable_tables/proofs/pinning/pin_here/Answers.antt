@@ -1,9 +1,6 @@
 use Rattle.pagable_tables.proofs.Words.{◌≡◌, ◌∙◌, ℕ, ap, subst, refl, false, Some, None, is_owner, is_shared, is_owned_by, Alike, with_mode, HandleRow, Owner, Mode, Tables, live, core_of}
 use Rattle.pagable_tables.proofs.Words.{plain_of}
-use Rattle.pagable_tables.proofs.Pins.{pinned-alike, found-again}
-use Rattle.pagable_tables.proofs.keeps.Comes.{not-list}
-use Rattle.pagable_tables.proofs.keeps.HandleCalls.{loose-unshared}
-use Rattle.pagable_tables.proofs.keeps.Rows.{found-among}
+use Rattle.pagable_tables.proofs.{Pins.pinned-alike, Pins.found-again, keeps.Comes.not-list, keeps.HandleCalls.loose-unshared, keeps.Rows.found-among}
 use Rattle.pagable_tables.proofs.pinning.pin_here.Goals as goal
 
 pub make-requires-clause-suits : goal.make-requires-clause-suits

@@ -1,8 +1,5 @@
-use Rattle.pagable_tables.proofs.Words.{refl, ap, arith, None, false, Ok, NodeNumber}
-use Rattle.std.specs.Option.{option_map}
-use Rattle.pagable_tables.proofs.Worlds.{same-cache}
-use Rattle.pagable_tables.proofs.keeps.CacheCalls.{clear-whole}
-use Rattle.pagable_tables.proofs.keeps.Placed.{whole-so}
+use Rattle.pagable_tables.proofs.Words.{refl, ap, arith, None, false, Ok, NodeNumber, option_map}
+use Rattle.pagable_tables.proofs.{Worlds.same-cache, keeps.CacheCalls.clear-whole, keeps.Placed.whole-so}
 use Rattle.pagable_tables.proofs.places.cache_clear.Goals as goal
 
 pub returns-clause-cleared : goal.returns-clause-cleared

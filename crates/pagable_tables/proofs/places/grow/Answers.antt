@@ -1,8 +1,5 @@
 use Rattle.pagable_tables.proofs.Words.{◌+◌, refl, None, false, live, counts_at, refs_at}
-use Rattle.pagable_tables.proofs.Coming.{rows-told}
-use Rattle.pagable_tables.proofs.Worlds.{same-cache}
-use Rattle.pagable_tables.proofs.keeps.Told.{alike-whole}
-use Rattle.pagable_tables.proofs.keeps.Placed.{whole-so}
+use Rattle.pagable_tables.proofs.{Coming.rows-told, Worlds.same-cache, keeps.Told.alike-whole, keeps.Placed.whole-so}
 use Rattle.pagable_tables.proofs.places.grow.Goals as goal
 
 pub returns-clause-grown : goal.returns-clause-grown

@@ -1,17 +1,8 @@
 use Rattle.pagable_tables.proofs.Words.{not, ◌≡◌, ◌+◌, ◌∙◌, false, None, Ok, Err, Some, inr, refl, ap, sym, subst, arith, IfSome, length, nat_tests, Owner, is_owner, mode_of, OfferCall}
-use Rattle.pagable_tables.proofs.Words.{with_known, Falls, only_handle, Tables, is_valued, core_of, plain_of, Offered, load_at}
-use Rattle.std.proofs.Common.{inl}
-use Rattle.pagable_tables.proofs.Begun.{open-then}
-use Rattle.pagable_tables.proofs.Pins.{found-again}
-use Rattle.pagable_tables.proofs.Shedding.{stays-first, sheds-still}
-use Rattle.pagable_tables.proofs.Swapped.{begun-made, swapped, values-made, values-still}
-use Rattle.pagable_tables.proofs.Worlds.{still}
-use Rattle.pagable_tables.proofs.keeps.CacheCalls.{offer-whole}
-use Rattle.pagable_tables.proofs.keeps.Comes.{not-a-value, not-list}
-use Rattle.pagable_tables.proofs.keeps.Placed.{whole-so}
-use Rattle.pagable_tables.proofs.keeps.Rows.{found-among}
-use Rattle.pagable_tables.proofs.Begun.{not-closed}
-use Rattle.pagable_tables.proofs.Newer.{later-so, offer-newer}
+use Rattle.pagable_tables.proofs.Words.{with_known, Falls, only_handle, Tables, is_valued, core_of, plain_of, Offered, load_at, inl}
+use Rattle.pagable_tables.proofs.{Begun.open-then, Begun.not-closed, Pins.found-again, Shedding.stays-first, Shedding.sheds-still, Swapped.begun-made, Swapped.swapped, Swapped.values-made}
+use Rattle.pagable_tables.proofs.{Swapped.values-still, Worlds.still, keeps.CacheCalls.offer-whole, keeps.Comes.not-a-value, keeps.Comes.not-list, keeps.Placed.whole-so}
+use Rattle.pagable_tables.proofs.{keeps.Rows.found-among, Newer.later-so, Newer.offer-newer}
 use Rattle.pagable_tables.proofs.swapping.offer.Goals as goal
 
 pub give_number-requires-clause-there : goal.give_number-requires-clause-there

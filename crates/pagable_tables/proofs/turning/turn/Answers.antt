@@ -1,11 +1,6 @@
 use Rattle.pagable_tables.proofs.Words.{◌+◌, ◌≡◌, arith, refl, ap, sym, ◌∙◌, Some, None, false, not, one, is_pinning, live, counts_at, refs_at, pins_in, holds_in}
-use Rattle.pagable_tables.proofs.Alive.{length-live-le, changed-known, row-le-live, row-live}
-use Rattle.pagable_tables.proofs.Fitting.{pins-le-held, handle_of, held-here}
-use Rattle.pagable_tables.proofs.Coming.{turn-fits, turn-cells, turned, held-few}
-use Rattle.pagable_tables.proofs.Worlds.{alike}
-use Rattle.pagable_tables.proofs.keeps.Told.{settles}
-use Rattle.pagable_tables.proofs.keeps.Placed.{whole-so}
-use Rattle.pagable_tables.proofs.keeps.HandleCalls.{pins-whole}
+use Rattle.pagable_tables.proofs.{Alive.length-live-le, Alive.changed-known, Alive.row-le-live, Alive.row-live, Fitting.pins-le-held, Fitting.handle_of, Fitting.held-here, Coming.turn-fits}
+use Rattle.pagable_tables.proofs.{Coming.turn-cells, Coming.turned, Coming.held-few, Worlds.alike, keeps.Told.settles, keeps.Placed.whole-so, keeps.HandleCalls.pins-whole}
 use Rattle.pagable_tables.proofs.turning.turn.Goals as goal
 
 pub unreachable-requires : goal.unreachable-requires

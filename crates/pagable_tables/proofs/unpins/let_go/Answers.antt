@@ -1,6 +1,5 @@
 use Rattle.pagable_tables.proofs.Words.{nobody, with_mode, Mode, core_of}
-use Rattle.pagable_tables.proofs.Unpinning.{lowered-on}
-use Rattle.pagable_tables.proofs.Shedding.{stays-first}
+use Rattle.pagable_tables.proofs.{Unpinning.lowered-on, Shedding.stays-first}
 use Rattle.pagable_tables.proofs.unpins.let_go.Goals as goal
 
 pub returns-clause-falls : goal.returns-clause-falls

@@ -1,11 +1,8 @@
-use Rattle.pagable_tables.proofs.Words.{◌≡◌, ℕ, Bool, ◌+◌, ◌-◌, ◌≤◌, true, false, if◌then◌else◌, [], ◌∷◌, sum_by, refl, ap, sym, ◌∙◌, subst, arith, Some, None, ◌≢◌, inl, inr, cases_eq, nat_tests}
-use Rattle.pagable_tables.proofs.Words.{HandleRow, one, is_pinning, Counts, live, counts_at, refs_at, Fits, pins_in, holds_in, after, is_new, is_fallen_by, owns_nothing, entry, has_value}
-use Rattle.pagable_tables.proofs.Words.{falls_in, ValueStays, MayList, unpinned}
-use Rattle.pagable_tables.proofs.Alive.{length-live-le, changed-known, row-le-live}
-use Rattle.pagable_tables.proofs.Coming.{held-few}
-use Rattle.pagable_tables.proofs.Fitting.{new-top, long-if, pin_of, handle_of, pin-here, held-here}
-use Rattle.pagable_tables.proofs.Leaving.{with-entry}
-use Rattle.pagable_tables.proofs.Lowered.{lower-fits, lower-cells, keyed-then}
+use Rattle.pagable_tables.proofs.Words.{◌≡◌, ℕ, Bool, ◌+◌, ◌-◌, ◌≤◌, true, false, if◌then◌else◌, [], ◌∷◌, sum_by, refl, ap, sym, ◌∙◌, subst, arith, Some, None, ◌≢◌, inl, inr, cases_eq}
+use Rattle.pagable_tables.proofs.Words.{nat_tests, HandleRow, one, is_pinning, Counts, live, counts_at, refs_at, Fits, pins_in, holds_in, after, is_new, is_fallen_by, owns_nothing, entry}
+use Rattle.pagable_tables.proofs.Words.{has_value, falls_in, ValueStays, MayList, unpinned}
+use Rattle.pagable_tables.proofs.{Alive.length-live-le, Alive.changed-known, Alive.row-le-live, Coming.held-few, Fitting.new-top, Fitting.long-if, Fitting.pin_of, Fitting.handle_of}
+use Rattle.pagable_tables.proofs.{Fitting.pin-here, Fitting.held-here, Leaving.with-entry, Lowered.lower-fits, Lowered.lower-cells, Lowered.keyed-then}
 use Rattle.pagable_tables.proofs.unpins.lower.Goals as goal
 
 -- no value goes at once

@@ -1,10 +1,6 @@
 use Rattle.pagable_tables.proofs.Words.{not, None, refl, ap, subst, inl, inr, sym, ◌∙◌, is_loose, with_mode, Falls, nobody, Mode, core_of, load_at}
-use Rattle.pagable_tables.proofs.Begun.{not-closed}
-use Rattle.pagable_tables.proofs.Worlds.{still, owner-same}
-use Rattle.pagable_tables.proofs.keeps.FallCalls.{unpin-whole}
-use Rattle.pagable_tables.proofs.keeps.Placed.{whole-so}
-use Rattle.pagable_tables.proofs.Shedding.{sheds-still}
-use Rattle.pagable_tables.proofs.Newer.{unpin-newer, later-so}
+use Rattle.pagable_tables.proofs.{Begun.not-closed, Worlds.still, Worlds.owner-same, keeps.FallCalls.unpin-whole, keeps.Placed.whole-so, Shedding.sheds-still, Newer.unpin-newer}
+use Rattle.pagable_tables.proofs.{Newer.later-so}
 use Rattle.pagable_tables.proofs.unpins.unpin.Goals as goal
 
 pub returns-in-Err-clause-unpinned : goal.returns-in-Err-clause-unpinned

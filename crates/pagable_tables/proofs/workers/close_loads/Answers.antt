@@ -1,11 +1,7 @@
-use Rattle.std.proofs.Common.{◌≡◌, ◌∙◌, ap, filter, not, rules, nat_eq, Option, Some, None, Bool, true, false, if◌then◌else◌, refl}
+use Rattle.pagable_tables.proofs.Words.{◌≡◌, ◌∙◌, ap, filter, not, rules, nat_eq, Option, Some, None, Bool, true, false, if◌then◌else◌, refl, is_owner, owner_worker, LoadRow, left_load}
 use Rattle.std.specs.Map.{lookup}
-use Rattle.std.proofs.lemmas.Cmp.{nat_eq_equiv}
-use Rattle.std.proofs.lemmas.Map.Entries.{option_filter, lookup-filter-values}
+use Rattle.std.proofs.{lemmas.Cmp.nat_eq_equiv, lemmas.Map.Entries.option_filter, lemmas.Map.Entries.lookup-filter-values}
 use Rattle.indexmap.proofs.CallerLemmas.{filter-RetainsPairs}
-use Rattle.pagable_world.specs.Kinds.{is_owner, owner_worker}
-use Rattle.pagable_tables.specs.declared.rows.LoadRow.{LoadRow}
-use Rattle.pagable_tables.specs.Giving.{left_load}
 use Rattle.pagable_tables.proofs.workers.close_loads.Goals as goal
 
 kept : (b : Bool) (row : LoadRow) → (if not b then Some row else None) ≡ (if b then None else Some row)

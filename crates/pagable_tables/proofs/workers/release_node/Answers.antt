@@ -1,16 +1,7 @@
-use Rattle.std.proofs.Common.{not, refl, None, arith}
+use Rattle.pagable_tables.proofs.Words.{not, refl, None, arith, core_of, plain_of, gives_row, Giving}
 use Rattle.pagable_world.specs.Workers.{is_workers_at}
-use Rattle.pagable_tables.specs.Core.{core_of, plain_of}
-use Rattle.pagable_tables.specs.Giving.{gives_row}
-use Rattle.pagable_tables.specs.declared.giving.Giving.TheVariants as givings
-use Rattle.pagable_tables.proofs.Begun.{begun-whole, not-closed}
-use Rattle.pagable_tables.proofs.Dropped.{passes-given}
-use Rattle.pagable_tables.proofs.Newer.{newer-falls, later-so}
-use Rattle.pagable_tables.proofs.keeps.Fallen.{may-fall}
-use Rattle.pagable_tables.proofs.keeps.GoingOn.{stays-on}
-use Rattle.pagable_tables.proofs.keeps.Opened.{falls-opened}
-use Rattle.pagable_tables.proofs.keeps.Placed.{whole-so}
-use Rattle.pagable_tables.proofs.keeps.Told.{roomy-whole}
+use Rattle.pagable_tables.proofs.{Begun.begun-whole, Begun.not-closed, Dropped.passes-given, Newer.newer-falls, Newer.later-so, keeps.Fallen.may-fall, keeps.GoingOn.stays-on}
+use Rattle.pagable_tables.proofs.{keeps.Opened.falls-opened, keeps.Placed.whole-so, keeps.Told.roomy-whole}
 use Rattle.pagable_tables.proofs.workers.release_node.Goals as goal
 
 pub returns-clause-released : goal.returns-clause-released
@@ -20,7 +11,7 @@ returns-clause-released g c stored closed failures e =
     record {
       told = c.give_all.result;
       falls = c.give_all.ensures.falls w w w (λ l. refl) (begun-whole t stored closed c.args.lists failures c.requires e) (omega arith)
-          (λ q is. passes-given (gives_row w (givings.AtNode c.args.worker c.args.node)) (plain_of t) q c.requires.core.handles is);
+          (λ q is. passes-given (gives_row w (Giving.AtNode c.args.worker c.args.node)) (plain_of t) q c.requires.core.handles is);
     }
 
 pub returns-clause-whole : goal.returns-clause-whole

@@ -1,11 +1,6 @@
-use Rattle.std.proofs.Common.{◌+◌, refl, ap, arith, rules, None, false}
-use Rattle.pagable_world.specs.Plain.{is_in}
-use Rattle.pagable_tables.specs.Core.{core_of}
-use Rattle.pagable_tables.proofs.Worlds.{same-cache}
-use Rattle.pagable_tables.proofs.LeftWork.{worker-comes}
-use Rattle.pagable_tables.proofs.keeps.Told.{settles, alike-whole, roomy-whole}
-use Rattle.pagable_tables.proofs.keeps.WorkerCalls.{worker-whole}
-use Rattle.pagable_tables.proofs.keeps.Placed.{whole-so}
+use Rattle.pagable_tables.proofs.Words.{◌+◌, refl, ap, arith, rules, None, false, is_in, core_of}
+use Rattle.pagable_tables.proofs.{Worlds.same-cache, LeftWork.worker-comes, keeps.Told.settles, keeps.Told.alike-whole, keeps.Told.roomy-whole, keeps.WorkerCalls.worker-whole}
+use Rattle.pagable_tables.proofs.{keeps.Placed.whole-so}
 use Rattle.pagable_tables.proofs.workers.worker_begin.Goals as goal
 
 pub returns-clause-begun : goal.returns-clause-begun

@@ -1,17 +1,6 @@
-use Rattle.std.proofs.Common.{◌∙◌, ap, sym, not, refl, None, arith}
-use Rattle.std.specs.Option.{option_map}
-use Rattle.pagable_world.specs.Workers.{without_worker, is_workers}
-use Rattle.pagable_tables.specs.ByNumber.{load_at}
-use Rattle.pagable_tables.specs.Core.{core_of, plain_of, load_in}
-use Rattle.pagable_tables.specs.Onward.{with_tables}
-use Rattle.pagable_tables.specs.Giving.{gives_row}
-use Rattle.pagable_tables.specs.declared.giving.Giving.TheVariants as givings
-use Rattle.pagable_tables.proofs.Begun.{not-closed}
-use Rattle.pagable_tables.proofs.Dropped.{begun-less, passes-given, loads-anew, workers-anew}
-use Rattle.pagable_tables.proofs.LeftWork.{load-leaves, left-was}
-use Rattle.pagable_tables.proofs.Newer.{newer-falls, later-so}
-use Rattle.pagable_tables.proofs.keeps.Placed.{whole-so}
-use Rattle.pagable_tables.proofs.keeps.WorkerCalls.{worker-end-whole}
+use Rattle.pagable_tables.proofs.Words.{◌∙◌, ap, sym, not, refl, None, arith, option_map, without_worker, is_workers, load_at, core_of, plain_of, load_in, with_tables, gives_row, Giving}
+use Rattle.pagable_tables.proofs.{Begun.not-closed, Dropped.begun-less, Dropped.passes-given, Dropped.loads-anew, Dropped.workers-anew, LeftWork.load-leaves, LeftWork.left-was}
+use Rattle.pagable_tables.proofs.{Newer.newer-falls, Newer.later-so, keeps.Placed.whole-so, keeps.WorkerCalls.worker-end-whole}
 use Rattle.pagable_tables.proofs.workers.worker_end.Goals as goal
 
 pub returns-clause-ended : goal.returns-clause-ended
@@ -24,7 +13,7 @@ returns-clause-ended g c stored closed failures e =
     let r = c.give_all.result in
     let w' = core_of (record t { holdings = h; loads = c.close_loads.new.loads; workers = c.leave.new.workers }) stored closed failures in
     let falls = c.give_all.ensures.falls w u w (λ l. refl) (begun-less t u.loads u.workers stored closed c.args.lists failures c.requires e) (omega arith)
-    (λ q is. passes-given (gives_row w (givings.Worker c.args.worker)) (plain_of t) q c.requires.core.handles is) in
+    (λ q is. passes-given (gives_row w (Giving.Worker c.args.worker)) (plain_of t) q c.requires.core.handles is) in
     let loads = loads-anew w u (with_tables u h) (is_workers w v) r w'.loads (λ l. load-leaves v (load_at t.loads l) ∙ ap (option_map load_in) (sym (c.close_loads.ensures l))) falls in
     record { told = r; falls = workers-anew w u (record (with_tables u h) { loads = w'.loads }) (is_workers w v) r w'.workers (λ q. sym (c.leave.ensures q)) loads }
 

@@ -1,7 +1,4 @@
-use Rattle.std.proofs.Common.{◌≡◌, ◌==◌, ◌+◌, true, if◌then◌else◌, refl, ap, ◌∙◌, subst, arith}
-use Rattle.std.proofs.lemmas.Bool.Decides.{nat_tests}
-use Rattle.pagable_world.specs.Plain.{is_in}
-use Rattle.pagable_tables.specs.Core.{core_of}
+use Rattle.pagable_tables.proofs.Words.{◌≡◌, ◌==◌, ◌+◌, true, if◌then◌else◌, refl, ap, ◌∙◌, subst, arith, nat_tests, is_in, core_of}
 use Rattle.pagable_tables.specs.Giving.{BeginsWorker}
 use Rattle.pagable_tables.proofs.LeftWork.{begun-core, takes-worker}
 use Rattle.pagable_tables.proofs.workers.worker_take.Goals as goal
