@@ -107,9 +107,9 @@ impl Reading {
             Err(e) => return Err(e),
         };
         match access.load_lazy(alloc, load, kind, key) {
-            Ok(reference) => {
-                self.put_got(top, reference);
-                Ok(reference)
+            Ok(taken) => {
+                self.put_got(top, taken);
+                Ok(taken)
             }
             Err(e) => Err(e),
         }
