@@ -1,5 +1,5 @@
 -- From one reading with stand-ins to what a blob asks for ahead.
-use Rattle.std.proofs.Common.{◌≡◌, ℕ, zero, suc, ◌+◌, ◌<◌, Bool, true, false, if◌then◌else◌, List, [], ◌∷◌, ◌++◌, length, Option, Some, None, Result, Ok, Err, inl, inr, refl, ap, sym, subst, ◌∙◌, arith, slice_get}
+use Rattle.std.proofs.Common.{◌≡◌, ℕ, ◌+◌, ◌<◌, Bool, true, false, if◌then◌else◌, List, [], ◌∷◌, ◌++◌, length, Option, Some, None, Result, Ok, Err, inl, inr, refl, ap, sym, subst, ◌∙◌, arith, slice_get}
 use Rattle.std.specs.Prelude.{◌==◌}
 use Rattle.std.proofs.lemmas.Option.{slice_get_within, slice_get-get_or}
 use Rattle.pagable_model.specs.declared.error.Error.{Error}
@@ -13,7 +13,7 @@ use Rattle.pagable_model.specs.Standing.{Answer}
 use Rattle.pagable_world.specs.Plain.{Types}
 use Rattle.pagable_world.specs.World.{Frame}
 use Rattle.pagable_model.specs.Deep.{is_eager}
-use Rattle.pagable_world.specs.Loads.{asks, answer_of, answers_from, next_by, next_of, read_with, need_at, need_of, needs_nested, needs_lazy}
+use Rattle.pagable_world.specs.Loads.{asks, answers_from, next_by, next_of, read_with, need_at, need_of, needs_nested, needs_lazy}
 use Rattle.pagable_loads.specs.Ahead.{kinds_of, AsksNext, Foresees, IsAhead, AskedIf, Tells, GotMore, Kept}
 use Rattle.pagable_loads.proofs.Traced.{End, done, faulty, Answered, Goes, Trace, typed_traced}
 
@@ -122,7 +122,7 @@ module _ (types : Types) (t : ℕ) (blob : Blob) where
       let short : length got < length blob.keys = fewer many within in
       let there = slice_get-get_or blob.keys (length got) 0 short in
       let all : trace.kinds ≡ kinds_of got ++ k ∷ (back ++ a.0) =
-          a.1 ∙ sym (assoc (kinds_of xs) (kind.0 ∷ []) a.0) ∙ ap (λ ks. ks ++ a.0) is ∙ assoc (kinds_of got) (k ∷ back) a.0 in
+      a.1 ∙ sym (assoc (kinds_of xs) (kind.0 ∷ []) a.0) ∙ ap (λ ks. ks ++ a.0) is ∙ assoc (kinds_of got) (k ∷ back) a.0 in
       let stop = asks_so (read_with types t blob got) k trace.kinds trace.end [] got blob.keys (back ++ a.0) all short (trace.goes (answers_from got 0 blob.keys)) in
       record { key = _; there = there; next = ap (next_by (slice_get blob.keys (length got))) stop ∙ ap (λ o. next_by o (Err (errors.Storage k))) there }
     where

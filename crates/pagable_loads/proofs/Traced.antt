@@ -1,5 +1,5 @@
 -- What a reading asks for is told by its bytes alone: kinds, one after the other, up to its end or its fault, whatever is answered.
-use Rattle.std.proofs.Common.{◌≡◌, ℕ, zero, suc, ◌+◌, ◌-◌, ◌*◌, ◌/◌, ◌^◌, Bool, true, false, if◌then◌else◌, List, [], ◌∷◌, ◌++◌, length, take, drop, Option, Some, None, Result, Ok, Err, refl, ap, sym, subst, ◌∙◌}
+use Rattle.std.proofs.Common.{◌≡◌, ℕ, zero, suc, ◌+◌, ◌-◌, ◌/◌, ◌^◌, Bool, true, false, if◌then◌else◌, List, [], ◌∷◌, ◌++◌, length, Option, Some, None, Result, Ok, Err, refl, subst}
 use Rattle.std.specs.Prelude.{nat_lt, nat_le, ◌==◌}
 use Rattle.std.proofs.lemmas.List.{append-nil}
 use Rattle.std.specs.Int.{Width, w8, w16, w32, w64, w128}
@@ -8,11 +8,11 @@ use Rattle.pagable_model.specs.declared.error.Error.{Error}
 use Rattle.pagable_model.specs.declared.error.Error.TheVariants as errors
 use Rattle.pagable_model.specs.declared.numbers.ArcRef.{ArcRef}
 use Rattle.pagable_model.specs.Steps.{◌>>=◌}
-use Rattle.pagable_model.specs.Numbers.{Read, byte_at, varint_at, more_of, last_of, unsigned_at, signed_at}
-use Rattle.pagable_model.specs.Basic.{length_at, bytes_at, text_at, bool_at, one_char, char_at, carried, duration_at, longest, nanos_of_second}
+use Rattle.pagable_model.specs.Numbers.{Read, byte_at, varint_at, unsigned_at, signed_at}
+use Rattle.pagable_model.specs.Basic.{length_at, bytes_at, text_at, bool_at, one_char, char_at, duration_at, longest, nanos_of_second}
 use Rattle.pagable_model.specs.Meaning.{Meaning, integer, none, variant, sequence, entry, absent, present, success, failure, lifted}
 use Rattle.pagable_model.specs.Meaning as meanings
-use Rattle.pagable_model.specs.Keys.{text_order, put_all, put_sorted, put_placed, put_sorted_item, put_placed_item}
+use Rattle.pagable_model.specs.Keys.{text_order, put_all, put_sorted}
 use Rattle.pagable_model.specs.Carried.{of_entries, of_tagged, of_hash_map}
 use Rattle.pagable_model.specs.Shape.{Shape, nothing, unsigned, signed, flag, letter, duration, json, optional, outcome, list, run, array, both, sorted_map, placed_map, hash_map, sorted_set, placed_set, static_value, tagged, cases, nested}
 use Rattle.pagable_model.specs.Shape as shapes

@@ -76,12 +76,7 @@ impl Reading {
     }
 
     // Finds the row that is ahead of the innermost blob, with these values of what it has got.
-    fn foresee<E: Env>(
-        &self,
-        env: &E,
-        alloc: Global,
-        lent: &[Option<Arc<E::Node>>],
-    ) -> Vec<ArcRef>
+    fn foresee<E: Env>(&self, env: &E, alloc: Global, lent: &[Option<Arc<E::Node>>]) -> Vec<ArcRef>
     where
         E::Node: NodeSet<E>,
         ensures { IsAhead (values_at E.Node.NodeSet E.Env E.Hash.KeyHash env.now).types (frames_of self.now.top self.now.below.items) result.items }

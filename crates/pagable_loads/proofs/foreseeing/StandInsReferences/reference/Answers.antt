@@ -1,4 +1,4 @@
-use Rattle.std.proofs.Common.{ap, ◌≡◌, ℕ}
+use Rattle.std.proofs.Common.{ap, ℕ}
 use Rattle.std.specs.Prelude.{◌||◌, nat_lt, Result}
 use Rattle.pagable_model.specs.Deep.{is_eager}
 use Rattle.pagable_model.specs.declared.error.Error.{Error}

@@ -1,4 +1,4 @@
-use Rattle.std.proofs.Common.{◌∙◌, sym, subst, []}
+use Rattle.std.proofs.Common.{◌∙◌, sym, subst}
 use Rattle.pagable_loads.specs.Ahead.{IsAhead}
 use Rattle.pagable_loads.specs.Telling.{values_at}
 use Rattle.pagable_loads.proofs.Foreseen.{row_goes_on}

@@ -1,4 +1,4 @@
-use Rattle.std.proofs.Common.{[], rules, sym, ◌∙◌, slice_index_or}
+use Rattle.std.proofs.Common.{[], rules, slice_index_or}
 use Rattle.std.proofs.lemmas.Option.{slice_get-get_or}
 use Rattle.pagable_loads.specs.Frames.{frame_of, frames_of, onto}
 use Rattle.pagable_loads.specs.StandIns.{stand_in}
