@@ -14,7 +14,7 @@ use Rattle.pagable_world.specs.Plain.{Types}
 use Rattle.pagable_world.specs.World.{Frame}
 use Rattle.pagable_model.specs.Deep.{is_eager}
 use Rattle.pagable_world.specs.Loads.{asks, answers_from, next_by, next_of, read_with, need_at, need_of, needs_nested, needs_lazy}
-use Rattle.pagable_loads.specs.Ahead.{kinds_of, AsksNext, Foresees, IsAhead, AskedIf, Tells, GotMore, Kept}
+use Rattle.pagable_loads.specs.Ahead.{kinds_of, AsksNext, Foresees, IsAhead, AskedIf, RowTells, GotMore, Kept}
 use Rattle.pagable_loads.proofs.Traced.{End, done, faulty, Answered, Goes, Trace, typed_traced}
 
 -- ---- lists
@@ -182,7 +182,7 @@ lazy_need types f fs kind key next is = ap (need_at fs) next ∙ ap (λ b. if b 
 
 -- what a row tells of the innermost blob
 pub row_tells : (types : Types) (top : Frame) (fs frames : List Frame) (row : List ArcRef) (r : ArcRef) (key place : ℕ) → frames ≡ top ∷ fs → place ≡ length top.got → slice_get row place ≡ Some r
-    → slice_get top.blob.keys place ≡ Some key → is_eager r.kind.0 ≡ false → IsAhead types frames row → Tells types frames row r.kind key
+    → slice_get top.blob.keys place ≡ Some key → is_eager r.kind.0 ≡ false → IsAhead types frames row → RowTells types frames row r.kind key
 row_tells types top fs frames row r key place is count at_row at_key later h = elim h.is [
   | inl none ↦ absurd (let e : slice_get [] place ≡ Some r = subst (λ (rs : List ArcRef). slice_get rs place ≡ Some r) none at_row in cc)
   | inr (f, gs, same, foresees) ↦ by f gs (sym same ∙ is) foresees
@@ -194,7 +194,7 @@ row_tells types top fs frames row r key place is count at_row at_key later h = e
     there : slice_get top.blob.keys (length top.got) ≡ Some key
     there = subst (λ n. slice_get top.blob.keys n ≡ Some key) count at_key
 
-    by : (f : Frame) (gs : List Frame) → f ∷ gs ≡ top ∷ fs → Foresees types f (kinds_of row) → Tells types frames row r.kind key
+    by : (f : Frame) (gs : List Frame) → f ∷ gs ≡ top ∷ fs → Foresees types f (kinds_of row) → RowTells types frames row r.kind key
     by f gs e foresees =
         let one : f ≡ top = cc in
         let own = subst (λ (f : Frame). Foresees types f (kinds_of row)) one foresees in
@@ -216,7 +216,7 @@ first_of f [] = f
 first_of f (g ∷ gs) = g
 
 -- and it does so of what is left, where the reference is of the kind
-pub row_goes_on : (types : Types) (old new : List Frame) (row after : List ArcRef) (kind : Kind) (key : ℕ) (s : ArcRef) → Tells types old row kind key → GotMore old new s → Kept kind s row after → IsAhead types new after
+pub row_goes_on : (types : Types) (old new : List Frame) (row after : List ArcRef) (kind : Kind) (key : ℕ) (s : ArcRef) → RowTells types old row kind key → GotMore old new s → Kept kind s row after → IsAhead types new after
 row_goes_on types old new row after kind key s t g (inr none) = none_ahead types new after none
 row_goes_on types old new row after kind key s t g (inl (same, is)) = record { is = inr (record g.f { got = g.f.got ++ s ∷ [] }, g.fs, g.is, subst (λ (rs : List ArcRef). Foresees types (record g.f { got = g.f.got ++ s ∷ [] }) (kinds_of rs)) (sym is) still) }
   where

@@ -34,7 +34,7 @@ AskedIf types t blob got kind true = (key : ℕ) × (next_of types t blob got �
 AskedIf types t blob got kind false = Unit {0}
 
 -- the row tells what the load needs: a reference of this kind, which is read later
-pub record Tells (types : Types) (frames : List Frame) (row : List ArcRef) (kind : Kind) (key : ℕ) : Type 0 where
+pub record RowTells (types : Types) (frames : List Frame) (row : List ArcRef) (kind : Kind) (key : ℕ) : Type 0 where
   pub f : Frame
   pub fs : List Frame
   pub there : frames ≡ f ∷ fs

@@ -4,7 +4,7 @@
 ghost use Rattle.std.specs.Prelude.{◌≡◌, IfSome, IsSome, slice_get};
 ghost use Rattle.pagable_core.specs.Data.{blob_of};
 ghost use Rattle.pagable_world.specs.Plain.{Types};
-ghost use Rattle.pagable_loads.specs.Ahead.{IsAhead, AskedIf, Tells, Kept};
+ghost use Rattle.pagable_loads.specs.Ahead.{IsAhead, AskedIf, RowTells, Kept};
 ghost use Rattle.pagable_loads.specs.Frames.{frames_of};
 ghost use Rattle.pagable_loads.specs.Telling.{values_at};
 
@@ -128,7 +128,7 @@ impl Reading {
 
     /// What the row tells that the load needs next: a reference that is read later.
     pub(crate) fn told(&self, row: &[ArcRef]) -> Option<(Kind, DataKey)>
-        ensures tells { IfSome result (λ k. (types : Types) → IsAhead types (frames_of self.now.top self.now.below.items) row.now → Tells types (frames_of self.now.top self.now.below.items) row.now k.0 k.1) }
+        ensures tells { IfSome result (λ k. (types : Types) → IsAhead types (frames_of self.now.top self.now.below.items) row.now → RowTells types (frames_of self.now.top self.now.below.items) row.now k.0 k.1) }
         ensures top { IfSome result (λ k. IsSome self.now.top) }
     {
         let Some(top) = &self.top else {

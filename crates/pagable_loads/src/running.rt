@@ -3,7 +3,7 @@
 ghost use Rattle.std.specs.Prelude.{◌≡◌, IsSome, Ok};
 ghost use Rattle.pagable_world.specs.Access.{Told};
 ghost use Rattle.pagable_world.specs.World.{one_more};
-ghost use Rattle.pagable_loads.specs.Ahead.{IsAhead, Tells};
+ghost use Rattle.pagable_loads.specs.Ahead.{IsAhead, RowTells};
 ghost use Rattle.pagable_loads.specs.Ending.{EndsAs, LeadsOn};
 ghost use Rattle.pagable_loads.specs.Frames.{frames_of};
 ghost use Rattle.pagable_loads.specs.Running.{Runs};
@@ -31,7 +31,7 @@ impl Reading {
     where
         E::Node: NodeSet<E>,
         requires top { IsSome self.old.top }
-        requires tells { Tells (values_at E.Node.NodeSet E.Env E.Hash.KeyHash (A.acting access.old).environment).types (frames_of self.old.top self.old.below.items) row.old.items kind key }
+        requires tells { RowTells (values_at E.Node.NodeSet E.Env E.Hash.KeyHash (A.acting access.old).environment).types (frames_of self.old.top self.old.below.items) row.old.items kind key }
         ensures step { Told (A.told access.old) (A.told access.new) (λ s t. Steps (values_at E.Node.NodeSet E.Env E.Hash.KeyHash (A.acting access.old).environment) (A.acting access.old).me self.old s result (frames_of self.new.top self.new.below.items) t) }
         ensures leads { LeadsOn self.old.for_cell (frames_of self.old.top self.old.below.items) (frames_of self.new.top self.new.below.items) (Ok result) }
         ensures steps { self.new.steps ≡ one_more self.old.steps }
