@@ -16,7 +16,7 @@ pub mod turns;
 pub mod walk;
 pub mod writing;
 
-pub use over::page_out_item_over;
+pub use over::{page_out_item_over, page_out_pending_over};
 pub use results::{SlotResult, Trees};
 pub use slots::{ArcSerSlot, Outcome, Standing};
 pub use table::{Found, PageOutError, SlotTable};
