@@ -28,3 +28,12 @@ module _ {S : Type 0} where
 
   pub told-all : {o : Option S} {R : S → S → Type 0} → ((s : S) → R s s) → Told o o R
   told-all f = told-same (tells-all f)
+
+  -- of the first of two states
+  pub told-from : {o n : Option S} {P : S → Type 0} {R Q : S → S → Type 0} → ((s t : S) → P s → R s t → Q s t) → Tells o P → Told o n R → Told o n Q
+  told-from {o} {n} {P} {R} {Q} f h k = record { holds = from o n h.holds k.holds }
+    where
+      from : (o n : Option S) → holds_of o P → tells o n R → tells o n Q
+      from None n h k = tt
+      from (Some s) None h k = k
+      from (Some s) (Some t) h k = f s t h k

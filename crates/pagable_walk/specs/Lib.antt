@@ -9,3 +9,4 @@ pub mod Due
 pub mod Writing
 pub mod Ending
 pub mod Walking
+pub mod Over

@@ -4,6 +4,7 @@
 pub mod claiming;
 pub mod ending;
 pub mod making;
+pub mod over;
 pub mod results;
 pub mod slots;
 pub mod stack;
@@ -15,6 +16,7 @@ pub mod turns;
 pub mod walk;
 pub mod writing;
 
+pub use over::{page_out_item_over, page_out_pending_over};
 pub use results::{SlotResult, Trees};
 pub use slots::{ArcSerSlot, Outcome, Standing};
 pub use table::{Found, PageOutError, SlotTable};

@@ -1,0 +1,160 @@
+-- Page-outs of an item and of the entries of the list, from the runs of their workers.
+use Rattle.std.proofs.Common.{ℕ, ◌≡◌, ◌≤◌, ◌<◌, ◌+◌, List, ◌∷◌, length, Option, Some, None, Result, Ok, Err, inl, inr, refl, ap, subst, sym, ◌∙◌, arith, slice_get}
+use Rattle.std.proofs.lemmas.Option.{slice_get_within}
+use Rattle.pagable_model.specs.declared.data_key.OptionalDataKey.{OptionalDataKey}
+use Rattle.pagable_model.specs.declared.data_key.OptionalDataKey.TheVariants as optional
+use Rattle.pagable_model.specs.declared.error.Error.{Error}
+use Rattle.pagable_model.specs.declared.error.Error.TheVariants as errors
+use Rattle.pagable_model.specs.declared.numbers.ArcRef.{ArcRef}
+use Rattle.pagable_model.specs.declared.numbers.HandleNumber.{HandleNumber}
+use Rattle.pagable_model.specs.declared.numbers.WorkerNumber.{WorkerNumber}
+use Rattle.pagable_world.specs.declared.events.Took.{Took}
+use Rattle.pagable_world.specs.declared.events.WorkerAnswer.{WorkerAnswer}
+use Rattle.pagable_world.specs.declared.events.WorkerAnswer.TheVariants as finals
+use Rattle.pagable_world.specs.declared.handles.Owner.{Owner}
+use Rattle.pagable_world.specs.declared.handles.Owner.TheVariants as owners
+use Rattle.pagable_world.specs.Calls.{ReleaseCall, TakeCall}
+use Rattle.pagable_world.specs.Kinds.{identity_of, owner_worker}
+use Rattle.pagable_world.specs.World.{Shelf, SameShelf, Todo, of_entry, of_item, Values, Written, Seen, Alike}
+use Rattle.pagable_world.specs.Workers.{first_todo}
+use Rattle.pagable_world.specs.Events.{entry_task, no_shelf}
+use Rattle.pagable_world.specs.Pager.{PagerState, WellFormed}
+use Rattle.pagable_world.specs.Access.{AccessState, Called, WorkerStarts, WorkerRun, worker-ends, worker-goes-on, no-worker, item-is-walked, EntryHas, EntryRun, entry-is-refused, no-entry-worker, entry-is-walked}
+use Rattle.pagable_loads.specs.Telling.{Acting}
+use Rattle.pagable_loads.specs.Working.{as_caller, StartsEntry, RefusesEntry}
+use Rattle.pagable_walk.specs.declared.results.Trees.{Ghosts}
+use Rattle.pagable_walk.specs.declared.tasks.Task.{Task}
+use Rattle.pagable_walk.specs.Over.{PagesItem, ListRun, no-more, passes, skips, pages, fails, PagesList, PagesEntry, Skipped, SkipsEntry, PagesAt, HasPaged}
+use Rattle.pagable_walk.specs.Slots.{no_claims}
+use Rattle.pagable_walk.specs.Tasks.{IsPlain, todo_of}
+use Rattle.pagable_walk.specs.Turns.{Fits, plain}
+use Rattle.pagable_walk.specs.Walking.{RunsTo, Walked}
+use Rattle.pagable_walk.proofs.Pinning.{same-shelf}
+use Rattle.pagable_walk.proofs.Turning.{alike, plain-fits}
+use Rattle.pagable_walk.proofs.Unanswered.{item-answered, entry-answered}
+
+-- whoever acts for the caller does so again after a worker
+pub is-caller : {E : Type 0} (acting : Acting E) → acting.me ≡ owners.Caller → as_caller acting ≡ acting
+is-caller acting mine = ap (λ me. record acting { me = me }) (sym mine)
+
+module _ {N E : Type 0} (v : Values N) where
+  pub stays-called : (s : PagerState N E) → WellFormed v s → Called v (λ w'. Alike s.core w') s s
+  stays-called s whole = record { step = alike s.core; moves = record { each = λ n x is. inl is; environment = refl }; whole = whole }
+
+  module _ (shelf : Shelf) (item : Written) where
+    pub item-unbegun : (e : Error) → e ≡ errors.OutOfMemory → (s t : PagerState N E) → Called v (λ w'. Alike s.core w') s t → PagesItem v shelf item shelf (finals.Failed e) s t
+    item-unbegun e is s t call = subst (λ x. PagesItem v shelf item shelf (finals.Failed x) s t) (sym is) (record { over = λ whole all. record { run = no-worker _ call (same-shelf shelf); all_have_results = all } })
+
+    pub item-unstarted : (e : Error) → e ≡ errors.OutOfMemory → (s : PagerState N E) → PagesItem v shelf item shelf (finals.Failed e) s s
+    item-unstarted e is s = subst (λ x. PagesItem v shelf item shelf (finals.Failed x) s s) (sym is) (record { over = λ whole all. record { run = no-worker _ (stays-called s whole) (same-shelf shelf); all_have_results = all } })
+
+    pub item-walked : {X : Type 0} {g : Ghosts X} (me : Owner) (n : ℕ) (task : Task X g) (below : List Todo) (shelf' : Shelf) (answer : WorkerAnswer) → me ≡ owner_worker n → IsPlain task
+        → todo_of task ∷ below ≡ first_todo (of_item item) → (s mid t : PagerState N E) → WorkerStarts v s.core s n mid → RunsTo v me n shelf task below shelf' answer mid t
+        → PagesItem v shelf item shelf' answer s t
+    item-walked me n task below shelf' answer mine is_plain first s mid t starts runs =
+        record {
+          over = λ whole all.
+              let fits : Fits v me n task mid = record { me_is = mine; whole = starts.begins.whole; task_fits = plain-fits n mid.core task is_plain } in
+              let walked = subst (λ todo. Walked v n todo mid shelf answer t shelf') first (runs.runs fits) in
+              record { run = item-is-walked n walked.steps answer mid _ starts walked.run; all_have_results = item-answered (plain v) n item walked.run all };
+        }
+
+  -- ---- an entry
+
+  run-whole : {B W : Type 0} {m : Seen N B W} {n : ℕ} {todo : List Todo} {s s' : AccessState N E} {steps : List (Took W)} {answer : WorkerAnswer} → WorkerRun m n todo s steps answer s' → WellFormed m.values s'.pager
+  run-whole (worker-ends todo next step answer s s' w is) = w.whole
+  run-whole (worker-goes-on todo next step steps answer s mid s' w is more) = run-whole more
+
+  pub entry-refused : (place : ℕ) (e : Error) (s t : PagerState N E) → RefusesEntry v s place e t → PagesEntry v place (finals.Failed e) s t
+  entry-refused place e s t r = record {
+    pages = λ whole listed. record {
+      run = elim r.why [
+        | inl past ↦ absurd (omega (arith, listed, past.1))
+        | inr other ↦ elim other [
+          | inl kind ↦ subst (λ x. EntryRun (plain v) s place (finals.Failed x) t) (sym kind.0) (entry-is-refused kind.1.0 kind.1.1 kind.1.2 t kind.1.3 kind.1.4 r.stays)
+          | inr is ↦ subst (λ x. EntryRun (plain v) s place (finals.Failed x) t) (sym is) (no-entry-worker t r.stays)
+        ]
+      ];
+      whole = r.stays.whole;
+      unfailed = λ is. absurd (cc);
+    };
+  }
+
+  pub entry-walked : {X : Type 0} {g : Ghosts X} (place : ℕ) (me : Owner) (n : WorkerNumber) (r : ArcRef) (shelf : Shelf) (task : Task X g) (below : List Todo) (shelf' : Shelf) (answer : WorkerAnswer) → me ≡ owner_worker n.0
+      → IsPlain task → todo_of task ∷ below ≡ first_todo (of_entry r.handle (identity_of r)) → SameShelf no_claims shelf → (s mid t : PagerState N E) → StartsEntry v s place n r mid
+      → RunsTo v me n.0 shelf task below shelf' answer mid t
+      → PagesEntry v place answer s t
+  entry-walked place me n r shelf task below shelf' answer mine is_plain first same s mid t starts runs = record {
+    pages = λ whole listed.
+        let fits : Fits v me n.0 task mid = record { me_is = mine; whole = starts.starts.begins.whole; task_fits = plain-fits n.0 mid.core task is_plain } in
+        let empty : shelf ≡ no_shelf = λ p. record { slots = λ i. same.slots i p; waits = λ q. same.waits q p } in
+        let task_is : first_todo (of_entry r.handle (identity_of r)) ≡ first_todo (entry_task starts.h starts.row starts.type) = ap (λ (x : ArcRef). first_todo (of_entry x.handle (identity_of x))) starts.is in
+        let walked = subst (λ todo. Walked v n.0 todo mid no_shelf answer t shelf') (first ∙ task_is) (subst (λ x. Walked v n.0 (todo_of task ∷ below) mid x answer t shelf') empty (runs.runs fits)) in
+        record {
+          run = entry-is-walked starts.h starts.row starts.type n.0 walked.steps answer mid _ starts.entry starts.kinds starts.starts walked.run;
+          whole = run-whole walked.run;
+          unfailed = entry-answered (plain v) n.0 starts.h _ walked.run (λ i. refl);
+        };
+  }
+
+  -- ---- a place of the list
+
+  pub took-none : (place : ℕ) (taken : Option HandleNumber) → ((h : HandleNumber) → taken ≡ Some h → ⊥) → (s t : PagerState N E) → Called v (λ w'. TakeCall s.core owners.Caller place taken w') s t → SkipsEntry v place s t
+  took-none place (Some h) none s t call = absurd (none h refl)
+  took-none place None none s t call = record { skips = λ h listed. absurd (let within = slice_get_within s.core.list place h listed in omega (arith, within, call.step.0)) }
+
+  pub took-some : (place : ℕ) (h : HandleNumber) (told : Result (Unit {0}) Error) (s mid t : PagerState N E) → Called v (λ w'. TakeCall s.core owners.Caller place (Some h) w') s mid
+      → Called v (λ w'. ReleaseCall mid.core owners.Caller h told w') mid t → SkipsEntry v place s t
+  took-some place h told s mid t takes releases = record {
+    skips = λ k listed.
+        let e : h ≡ k = cc-some takes.step.0 listed in
+        subst (λ x. Skipped v s place x t) e (record { mid = mid; told = told; takes = takes; releases = releases });
+  }
+    where
+      cc-some : {X : Type 0} {x y : X} {a : Option X} → a ≡ Some x → a ≡ Some y → x ≡ y
+      cc-some is other = cc
+
+  pub at-past : (place : ℕ) (s : PagerState N E) → length s.core.list ≤ place → PagesAt v place (Ok tt) s s
+  at-past place s past = record { done = λ whole. record { whole = whole; goes = λ i next answer s' more. passes i place answer s s' next past more; stops = tt } }
+
+  pub at-skipped : (place key : ℕ) (s t : PagerState N E) → (h : HandleNumber) × EntryHas s.core place h (optional.Some key) → SkipsEntry v place s t → PagesAt v place (Ok tt) s t
+  at-skipped place key s t (h, has) skip =
+      let k = skip.skips h has.listed in
+      record { done = λ whole. record { whole = k.releases.whole; goes = λ i next answer s' more. skips i place key h k.told answer s k.mid t s' next has k.takes k.releases more; stops = tt } }
+
+  listed-within : (place : ℕ) (s : PagerState N E) (h : HandleNumber) (key : OptionalDataKey) → EntryHas s.core place h key → place < length s.core.list
+  listed-within place s h key has = slice_get_within s.core.list place h has.listed
+
+  pub at-paged : (place key : ℕ) (s t : PagerState N E) → (h : HandleNumber) × EntryHas s.core place h optional.None → PagesEntry v place (finals.Key key) s t → PagesAt v place (Ok tt) s t
+  at-paged place key s t (h, has) pages_it = record {
+    done = λ whole.
+        let p = pages_it.pages whole (listed-within place s h optional.None has) in
+        record { whole = p.whole; goes = λ i next answer s' more. pages i place key h answer s t s' next has p.run more; stops = tt };
+  }
+
+  pub at-failed : (place : ℕ) (e : Error) (s t : PagerState N E) → (h : HandleNumber) × EntryHas s.core place h optional.None → PagesEntry v place (finals.Failed e) s t → PagesAt v place (Err (finals.Failed e)) s t
+  at-failed place e s t (h, has) pages_it = record {
+    done = λ whole.
+        let p = pages_it.pages whole (listed-within place s h optional.None has) in
+        record { whole = p.whole; goes = tt; stops = λ i next. fails i place h e s t next has p.run };
+  }
+
+  pub at-other : (place : ℕ) (s t : PagerState N E) → (h : HandleNumber) × EntryHas s.core place h optional.None → PagesEntry v place finals.AlreadyFailed s t → PagesAt v place (Err finals.AlreadyFailed) s t
+  at-other place s t (h, has) pages_it = record { done = λ whole. let p = pages_it.pages whole (listed-within place s h optional.None has) in absurd (p.unfailed refl) }
+
+  -- ---- the list
+
+  pub none-paged : (count : ℕ) (s : PagerState N E) → count ≡ length s.core.list → HasPaged v count s s
+  none-paged count s is = record { whole = λ whole. whole; then = λ whole answer u run. subst (λ i. ListRun (plain v) i s answer u) is run }
+
+  pub more-paged : (left place : ℕ) → left ≡ place + 1 → (s mid t : PagerState N E) → HasPaged v left s mid → PagesAt v place (Ok tt) mid t → HasPaged v place s t
+  more-paged left place next s mid t paged at = record {
+    whole = λ whole. let d = at.done (paged.whole whole) in d.whole;
+    then = λ whole answer u run. let d = at.done (paged.whole whole) in paged.then whole answer u (d.goes left next answer u run);
+  }
+
+  pub ends-paged : (left place : ℕ) → left ≡ place + 1 → (why : WorkerAnswer) (s mid t : PagerState N E) → HasPaged v left s mid → PagesAt v place (Err why) mid t → PagesList v (Err why) s t
+  ends-paged left place next why s mid t paged at = record { over = λ whole. let d = at.done (paged.whole whole) in paged.then whole (Err why) t (d.stops left next) }
+
+  pub all-paged : (left : ℕ) → left ≡ 0 → (s t : PagerState N E) → HasPaged v left s t → PagesList v (Ok tt) s t
+  all-paged left none s t paged = record { over = λ whole. paged.then whole (Ok tt) t (subst (λ i. ListRun (plain v) i t (Ok tt) t) (sym none) (no-more t)) }

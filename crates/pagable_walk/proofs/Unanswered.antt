@@ -1,0 +1,265 @@
+-- At a worker's answer each claim of its table has a result, if each had one before; and another's failure is answered only where a claim had failed before.
+use Rattle.std.proofs.Common.{ℕ, ◌≡◌, Bool, true, false, if◌then◌else◌, List, [], ◌∷◌, ◌++◌, Option, Some, None, Ok, Err, inl, inr, refl, sym, ap, subst, ◌∙◌, nat_eq, arith}
+use Rattle.std.proofs.lemmas.Bool.Decides.{nat_tests}
+use Rattle.std.specs.Prelude.{◌⊎◌}
+use Rattle.pagable_model.specs.declared.numbers.ArcRef.{ArcRef}
+use Rattle.pagable_model.specs.declared.numbers.HandleNumber.{HandleNumber}
+use Rattle.pagable_world.specs.Plain.{Identity, if_there}
+use Rattle.pagable_world.specs.declared.events.Claim.TheVariants as claims
+use Rattle.pagable_world.specs.declared.events.PinStep.TheVariants as pinsteps
+use Rattle.pagable_world.specs.declared.events.Took.{Took}
+use Rattle.pagable_world.specs.declared.events.Took.TheVariants as took
+use Rattle.pagable_world.specs.declared.events.WorkerAnswer.{WorkerAnswer}
+use Rattle.pagable_world.specs.declared.events.WorkerAnswer.TheVariants as finals
+use Rattle.pagable_world.specs.Kinds.{identity_of}
+use Rattle.pagable_world.specs.World.{Core, Shelf, Slot, Outcome, no_result, published, failed, Written, of_item, of_entry, Fault, was_refused, was_failed, Todo, to_start, to_pin, to_load, to_write, to_finish, to_item, to_set, to_publish, to_release, to_fail, Seen, SameShelf, is_identity}
+use Rattle.pagable_world.specs.Workers.{Site, Does, answer_after, first_todo, is_open_outcome, next_start, settle, give, give_known, failing, with_outcome, with_changed_slot, with_failed}
+use Rattle.pagable_world.specs.Access.{AccessState, AllHaveResults, WorkerRun, worker-ends, worker-goes-on}
+use Rattle.pagable_walk.specs.Tasks.{with_child}
+use Rattle.pagable_walk.specs.Writing.{just_open}
+use Rattle.pagable_walk.proofs.Held.{same-as, same-identity, same-key}
+
+-- something is to be done about a claim of the identity that has no result yet; or all of it fails
+unfoldable IsHeld : Identity → List Todo → Type 0
+IsHeld i [] = ⊥
+IsHeld i (to_start r place ∷ below) = IsHeld i below
+IsHeld i (to_pin r place ∷ below) = (i ≡ identity_of r) ⊎ IsHeld i below
+IsHeld i (to_load r place through reading ∷ below) = (i ≡ identity_of r) ⊎ IsHeld i below
+IsHeld i (to_write r place through ∷ below) = (i ≡ identity_of r) ⊎ IsHeld i below
+IsHeld i (to_finish o ∷ below) = (i ≡ identity_of o.reference) ⊎ IsHeld i below
+IsHeld i (to_item written keys ∷ below) = ⊥
+IsHeld i (to_set r through key height ∷ below) = (i ≡ identity_of r) ⊎ IsHeld i below
+IsHeld i (to_publish r key height ∷ below) = (i ≡ identity_of r) ⊎ IsHeld i below
+IsHeld i (to_release r key height ∷ below) = IsHeld i below
+IsHeld i (to_fail fault back ∷ below) = Unit {0}
+
+-- the walk fails by another's failure only where F
+unfoldable IsBlamed : Type 0 → List Todo → Type 0
+IsBlamed F [] = Unit {0}
+IsBlamed F (to_fail was_failed back ∷ below) = F
+IsBlamed F (_ ∷ below) = IsBlamed F below
+
+-- H of a claim without a result, and F of one that has failed
+data ByOutcome (F H : Type 0) : Outcome → Type 0 where
+  is-open : H → ByOutcome F H no_result
+  is-known : (key height : ℕ) → ByOutcome F H (published key height)
+  is-failed : F → ByOutcome F H failed
+
+by-more : {F H K : Type 0} {o : Outcome} → (H → K) → ByOutcome F H o → ByOutcome F K o
+by-more f (is-open h) = is-open (f h)
+by-more f (is-known key height) = is-known key height
+by-more f (is-failed h) = is-failed h
+
+failed-so : {F H : Type 0} → ByOutcome F H failed → F
+failed-so (is-failed h) = h
+
+closed : {F H : Type 0} {o : Outcome} → (H → ⊥) → ByOutcome F H o → is_open_outcome o ≡ false
+closed none (is-open h) = absurd (none h)
+closed none (is-known key height) = refl
+closed none (is-failed h) = refl
+
+answered-so : {H : Type 0} (o : Outcome) → is_open_outcome o ≡ false → ByOutcome (Unit {0}) H o
+answered-so no_result e = absurd (cc)
+answered-so (published key height) e = is-known key height
+answered-so failed e = is-failed tt
+
+-- a first result comes, or one stands
+settled : {F H K : Type 0} (slot : Slot) (outcome : Outcome) → ByOutcome F K outcome → ByOutcome F H slot.outcome → ByOutcome F K (with_outcome outcome slot).outcome
+settled {F} {H} {K} slot outcome new h = of slot.outcome refl h
+  where
+    at : (o : Outcome) → slot.outcome ≡ o → ByOutcome F K (if is_open_outcome o then record slot { outcome = outcome } else slot).outcome → ByOutcome F K (with_outcome outcome slot).outcome
+    at o e x = subst (λ z. ByOutcome F K (if is_open_outcome z then record slot { outcome = outcome } else slot).outcome) (sym e) x
+
+    of : (o : Outcome) → slot.outcome ≡ o → ByOutcome F H o → ByOutcome F K (with_outcome outcome slot).outcome
+    of no_result e (is-open h) = at no_result e new
+    of (published key height) e (is-known k q) = at (published key height) e (subst (ByOutcome F K) (sym e) (is-known key height))
+    of failed e (is-failed h) = at failed e (subst (ByOutcome F K) (sym e) (is-failed h))
+
+starts-held : (i : Identity) (place : ℕ) (rs : List ArcRef) (todo : List Todo) → IsHeld i todo → IsHeld i (next_start place rs ++ todo)
+unfolding IsHeld
+starts-held i place [] todo h = h
+starts-held i place (r ∷ rs) todo h = h
+
+settle-held : (i : Identity) (todo : List Todo) → IsHeld i todo → IsHeld i (settle todo)
+unfolding IsHeld
+settle-held i [] h = h
+settle-held i (to_finish o ∷ below) h = starts-held i o.place _ (to_finish o ∷ below) h
+settle-held i (to_item written keys ∷ below) h = absurd h
+settle-held i (_ ∷ below) h = h
+
+give-held : (i : Identity) (r : ArcRef) (key height : ℕ) (todo : List Todo) → IsHeld i todo → IsHeld i (give r key height todo)
+unfolding IsHeld
+give-held i r key height [] h = h
+give-held i r key height (to_finish o ∷ below) h = settle-held i (to_finish (with_child r key height o) ∷ below) h
+give-held i r key height (to_item written keys ∷ below) h = absurd h
+give-held i r key height (_ ∷ below) h = h
+
+known-held : (i : Identity) (r : ArcRef) (key height : ℕ) (todo : List Todo) → IsHeld i todo → IsHeld i (give_known r key height todo)
+unfolding IsHeld
+known-held i r key height [] h = absurd h
+known-held i r key height (x ∷ below) h = give-held i r key height (x ∷ below) h
+
+module _ (F : Type 0) where
+  starts-blamed : (place : ℕ) (rs : List ArcRef) (todo : List Todo) → IsBlamed F todo → IsBlamed F (next_start place rs ++ todo)
+  unfolding IsBlamed
+  starts-blamed place [] todo h = h
+  starts-blamed place (r ∷ rs) todo h = h
+
+  settle-blamed : (todo : List Todo) → IsBlamed F todo → IsBlamed F (settle todo)
+  unfolding IsBlamed
+  settle-blamed [] h = h
+  settle-blamed (to_finish o ∷ below) h = starts-blamed o.place _ (to_finish o ∷ below) h
+  settle-blamed (to_item written keys ∷ below) h = starts-blamed 0 _ (to_item written keys ∷ below) h
+  settle-blamed (_ ∷ below) h = h
+
+  give-blamed : (r : ArcRef) (key height : ℕ) (todo : List Todo) → IsBlamed F todo → IsBlamed F (give r key height todo)
+  unfolding IsBlamed
+  give-blamed r key height [] h = h
+  give-blamed r key height (to_finish o ∷ below) h = settle-blamed (to_finish (with_child r key height o) ∷ below) h
+  give-blamed r key height (to_item written keys ∷ below) h = settle-blamed (to_item written (keys ++ key ∷ []) ∷ below) h
+  give-blamed r key height (_ ∷ below) h = h
+
+  known-blamed : (r : ArcRef) (key height : ℕ) (todo : List Todo) → IsBlamed F todo → IsBlamed F (give_known r key height todo)
+  unfolding IsBlamed
+  known-blamed r key height [] h = h
+  known-blamed r key height (x ∷ below) h = give-blamed r key height (x ∷ below) h
+
+  -- each claim without a result is the worker's, who has still to do with it; and none has failed but where F
+  record Good (n : ℕ) (todo : List Todo) (shelf : Shelf) : Type 0 where
+    pub fits : (i : Identity) (slot : Slot) → shelf.slots i ≡ Some slot → ByOutcome F ((slot.worker ≡ n) × IsHeld i todo) slot.outcome
+    pub blamed : IsBlamed F todo
+
+  module _ (n : ℕ) (todo todo' : List Todo) (shelf shelf' : Shelf) (good : Good n todo shelf) (blamed : IsBlamed F todo → IsBlamed F todo') where
+    stays : ((i : Identity) → shelf'.slots i ≡ shelf.slots i) → ((i : Identity) → IsHeld i todo → IsHeld i todo') → Good n todo' shelf'
+    stays same held = record { fits = λ i slot there. by-more (λ h. (h.0, held i h.1)) (good.fits i slot (sym (same i) ∙ there)); blamed = blamed good.blamed }
+
+    puts : (j : Identity) (x : Option Slot) → ((i : Identity) → shelf'.slots i ≡ (if is_identity j i then x else shelf.slots i)) → ((slot : Slot) → x ≡ Some slot → ByOutcome F ((slot.worker ≡ n) × IsHeld j todo') slot.outcome)
+        → ((i : Identity) → is_identity j i ≡ false → IsHeld i todo → IsHeld i todo') → Good n todo' shelf'
+    puts j x same new held = record { fits = λ i slot there. by i slot there (is_identity j i) refl; blamed = blamed good.blamed }
+      where
+        at : (i : Identity) (slot : Slot) (b : Bool) → is_identity j i ≡ b → shelf'.slots i ≡ Some slot → (if b then x else shelf.slots i) ≡ Some slot
+        at i slot b e there = sym (same i ∙ ap (λ c. if c then x else shelf.slots i) e) ∙ there
+
+        by : (i : Identity) (slot : Slot) → shelf'.slots i ≡ Some slot → (b : Bool) → is_identity j i ≡ b → ByOutcome F ((slot.worker ≡ n) × IsHeld i todo') slot.outcome
+        by i slot there true e = subst (λ k. ByOutcome F ((slot.worker ≡ n) × IsHeld k todo') slot.outcome) (same-identity j i (same-as j i ∙ e)) (new slot (at i slot true e there))
+        by i slot there false e = by-more (λ h. (h.0, held i e h.1)) (good.fits i slot (at i slot false e there))
+
+    changes : (j : Identity) (f : Slot → Slot) → SameShelf (with_changed_slot shelf j f) shelf'
+        → ((slot : Slot) → ByOutcome F ((slot.worker ≡ n) × IsHeld j todo) slot.outcome → ByOutcome F (((f slot).worker ≡ n) × IsHeld j todo') (f slot).outcome)
+        → ((i : Identity) → is_identity j i ≡ false → IsHeld i todo → IsHeld i todo') → Good n todo' shelf'
+    changes j f same new held = puts j _ same.slots (λ slot is. of (shelf.slots j) refl slot is) held
+      where
+        of : (o : Option Slot) → shelf.slots j ≡ o → (slot : Slot) → if_there (λ (s : Slot). Some (f s)) None o ≡ Some slot → ByOutcome F ((slot.worker ≡ n) × IsHeld j todo') slot.outcome
+        of None e slot is = absurd (cc)
+        of (Some old) e slot is = let f_is : f old ≡ slot = cc in subst (λ (s : Slot). ByOutcome F ((s.worker ≡ n) × IsHeld j todo') s.outcome) f_is (new old (good.fits j old e))
+
+  -- all of it fails
+  fails : (n : ℕ) (todo : List Todo) (shelf shelf' : Shelf) (fault : Fault) → Good n todo shelf → IsBlamed F (failing fault todo) → ((i : Identity) → shelf'.slots i ≡ shelf.slots i) → Good n (failing fault todo) shelf'
+  unfolding IsHeld
+  fails n todo shelf shelf' fault good blamed same = stays n todo (failing fault todo) shelf shelf' good (λ b. blamed) same (λ i h. tt)
+
+  -- of the claims of a worker that fails each has a result
+  all-failed : (n : ℕ) (todo : List Todo) (shelf shelf' : Shelf) → Good n todo shelf → SameShelf (with_failed shelf n) shelf' → AllHaveResults shelf'
+  all-failed n todo shelf shelf' good same i slot there = by (shelf.slots i) refl (sym (same.slots i) ∙ there)
+    where
+      of : (old : Slot) → shelf.slots i ≡ Some old → (b : Bool) → nat_eq old.worker n ≡ b → is_open_outcome (if b then with_outcome failed old else old).outcome ≡ false
+      of old was true e = closed {F = Unit {0}} {H = ⊥} (λ h. h) (settled old failed (is-failed tt) (unanswered old.outcome))
+        where
+          unanswered : (o : Outcome) → ByOutcome (Unit {0}) (Unit {0}) o
+          unanswered no_result = is-open tt
+          unanswered (published key height) = is-known key height
+          unanswered failed = is-failed tt
+      of old was false e = closed (λ h. let own : old.worker ≡ n = h.0 in absurd (grind (arith, nat_tests))) (good.fits i old was)
+
+      by : (o : Option Slot) → shelf.slots i ≡ o → if_there (λ (s : Slot). Some (if nat_eq s.worker n then with_outcome failed s else s)) None o ≡ Some slot → is_open_outcome slot.outcome ≡ false
+      by None was is = absurd (cc)
+      by (Some old) was is =
+          let to : (if nat_eq old.worker n then with_outcome failed old else old) ≡ slot = cc in
+          subst (λ (s : Slot). is_open_outcome s.outcome ≡ false) to (of old was (nat_eq old.worker n) refl)
+
+  module _ {N B W : Type 0} (m : Seen N B W) (n : ℕ) (core : Core) (shelf : Shelf) (s' : Site) where
+    to-list : {todo : List Todo} → s'.todo ≡ todo → Good n todo s'.shelf → Good n s'.todo s'.shelf
+    to-list e good = subst (λ t. Good n t s'.shelf) (sym e) good
+
+    goes : (todo : List Todo) (step : Took W) → Does m n (record { core = core; shelf = shelf; todo = todo }) todo step s' → answer_after todo step ≡ None → Good n todo shelf → Good n s'.todo s'.shelf
+    unfolding IsHeld IsBlamed
+    goes (to_start r place ∷ below) (took.Claim i (Ok claims.Claimed)) (is, c) none good =
+        let t = c.finds.1.2 in to-list t.list_is (puts n _ (to_pin r place ∷ below) shelf s'.shelf good (λ b. b) (identity_of r) _ t.table_is.slots (λ slot is. new slot is) (λ i no h. inr h))
+      where
+        new : (slot : Slot) → Some (let x : Slot = record { worker = n; written = None; outcome = no_result } in x) ≡ Some slot → ByOutcome F ((slot.worker ≡ n) × IsHeld (identity_of r) (to_pin r place ∷ below)) slot.outcome
+        new slot is = let e : (let x : Slot = record { worker = n; written = None; outcome = no_result } in x) ≡ slot = cc in
+            subst (λ (s : Slot). ByOutcome F ((s.worker ≡ n) × IsHeld (identity_of r) (to_pin r place ∷ below)) s.outcome) e (is-open (refl, inl refl))
+    goes (to_start r place ∷ below) (took.Claim i (Ok (claims.Known key height))) (is, c) none good =
+        let t = c.finds.1.2 in to-list t.list_is (stays n _ (give_known r key height below) shelf s'.shelf good (known-blamed r key height below) t.table_is.slots (λ i. known-held i r key height below))
+    goes (to_start r place ∷ below) (took.Claim i (Ok claims.Waiting)) (is, c) none good = let t = c.finds.1.2 in to-list t.list_is (stays n _ _ shelf s'.shelf good (λ b. b) t.table_is.slots (λ i h. h))
+    goes (to_start r place ∷ below) (took.Claim i (Ok claims.AlreadyFailed)) (is, c) none good =
+        let t = c.finds.1.2 in
+        let was = c.finds.1.1 in
+        to-list t.list_is (fails n _ shelf s'.shelf was_failed good (failed-so (subst (ByOutcome F _) was.2 (good.fits (identity_of r) was.0 was.1))) t.table_is.slots)
+    goes (to_start r place ∷ below) (took.Claim i (Err e)) (is, c) none good = to-list c.refused.1.list_is (fails n _ shelf s'.shelf (was_refused e) good tt c.refused.1.table_is.slots)
+    goes (to_pin r place ∷ below) (took.Pin i (Ok (pinsteps.Held k))) (is, p) none good = to-list p.pins.2.list_is (stays n _ _ shelf s'.shelf good (λ b. b) p.pins.2.table_stays.slots (λ i h. h))
+    goes (to_pin r place ∷ below) (took.Pin i (Ok (pinsteps.LoadBegun l))) (is, p) none good = to-list p.pins.2.list_is (stays n _ _ shelf s'.shelf good (λ b. b) p.pins.2.table_stays.slots (λ i h. h))
+    goes (to_pin r place ∷ below) (took.Pin i (Ok pinsteps.LoadWent)) (is, p) none good = absurd p.pins
+    goes (to_pin r place ∷ below) (took.Pin i (Err e)) (is, p) none good = to-list p.refused.1.list_is (fails n _ shelf s'.shelf (was_refused e) good tt p.refused.1.table_stays.slots)
+    goes (to_load r place through reading ∷ below) (took.Pin i (Ok (pinsteps.Held k))) (is, p) none good = to-list p.goes.1.list_is (stays n _ _ shelf s'.shelf good (λ b. b) p.goes.1.table_stays.slots (λ i h. h))
+    goes (to_load r place through reading ∷ below) (took.Pin i (Ok (pinsteps.LoadBegun l))) (is, p) none good = absurd p.goes
+    goes (to_load r place through reading ∷ below) (took.Pin i (Ok pinsteps.LoadWent)) (is, p) none good = to-list p.goes.2.list_is (stays n _ _ shelf s'.shelf good (λ b. b) p.goes.2.table_stays.slots (λ i h. h))
+    goes (to_load r place through reading ∷ below) (took.Pin i (Err e)) (is, p) none good = to-list p.refused.1.list_is (fails n _ shelf s'.shelf (was_refused e) good tt p.refused.1.table_stays.slots)
+    goes (to_write r place through ∷ below) (took.Write i (Ok out)) (is, p) none good =
+        let opened = to_finish (just_open r place through (m.written_of out)) ∷ below in
+        to-list p.writes.list_is (changes n _ _ shelf s'.shelf good (settle-blamed opened) (identity_of r) _ p.writes.table_is
+        (λ slot. by-more (λ h. (h.0, settle-held (identity_of r) opened h.1))) (λ i no. settle-held i opened))
+    goes (to_write r place through ∷ below) (took.Write i (Err e)) (is, p) none good = to-list p.refused.1.list_is (fails n _ shelf s'.shelf (was_refused e) good tt p.refused.1.table_is.slots)
+    goes (to_finish o ∷ below) (took.Store i (Ok key)) (is, p) none good = to-list p.goes.list_is (stays n _ _ shelf s'.shelf good (λ b. b) p.goes.table_stays.slots (λ i h. h))
+    goes (to_finish o ∷ below) (took.Store i (Err e)) (is, p) none good = to-list p.refused.list_is (fails n _ shelf s'.shelf (was_refused e) good tt p.refused.table_stays.slots)
+    goes (to_item written keys ∷ below) (took.Store i (Ok key)) (is, p) none good = absurd (cc)
+    goes (to_item written keys ∷ below) (took.Store i (Err e)) (is, p) none good = to-list p.refused.list_is (fails n _ shelf s'.shelf (was_refused e) good tt p.refused.table_stays.slots)
+    goes (to_set r through key height ∷ below) (took.SetKey i (Ok u)) (is, p) none good = to-list p.goes.list_is (stays n _ _ shelf s'.shelf good (λ b. b) p.goes.table_stays.slots (λ i h. h))
+    goes (to_set r through key height ∷ below) (took.SetKey i (Err e)) (is, p) none good = to-list p.refused.list_is (fails n _ shelf s'.shelf (was_refused e) good tt p.refused.table_stays.slots)
+    goes (to_publish r key height ∷ below) (took.Publish i k h) (is, same_key, same_height, t) none good =
+        to-list t.list_is (changes n _ (to_release r key height ∷ below) shelf s'.shelf good (λ b. b) (identity_of r) _ t.table_is
+        (λ slot. settled slot (published key height) (is-known key height)) (λ i other held. elim held [ inl e ↦ absurd (not-itself i other e) | inr h ↦ h ]))
+      where
+        not-itself : (i : Identity) → is_identity (identity_of r) i ≡ false → i ≡ identity_of r → ⊥
+        not-itself i other e = let at : is_identity (identity_of r) i ≡ true = ap (is_identity (identity_of r)) e ∙ same-key (identity_of r) in absurd (cc)
+    goes (to_release r key height ∷ below) (took.Release i) (is, falls, g) none good = to-list g.list_is (stays n _ _ shelf s'.shelf good (give-blamed r key height below) g.table_stays.slots (λ i. give-held i r key height below))
+    goes (to_fail fault back ∷ below) took.Fail does none good = absurd (cc)
+    goes todo step does none good = absurd does
+
+    ends : (todo : List Todo) (step : Took W) (a : WorkerAnswer) → Does m n (record { core = core; shelf = shelf; todo = todo }) todo step s' → answer_after todo step ≡ Some a → Good n todo shelf
+        → AllHaveResults s'.shelf × (a ≡ finals.AlreadyFailed → F)
+    unfolding IsHeld IsBlamed
+    ends (to_item written keys ∷ below) (took.Store i (Ok key)) a (is, p) e good = (λ i slot there. closed (λ h. h.1) (good.fits i slot (sym (p.goes.table_stays.slots i) ∙ there)), λ f. absurd (cc))
+    ends (to_item written keys ∷ below) (took.Store i (Err f)) a does e good = absurd (cc)
+    ends (to_release r key height ∷ []) (took.Release i) a (is, falls, g) e good = (λ i slot there. closed (λ h. h.1) (good.fits i slot (sym (g.table_stays.slots i) ∙ there)), λ f. absurd (cc))
+    ends (to_release r key height ∷ x ∷ below) (took.Release i) a does e good = absurd (cc)
+    ends (to_fail (was_refused f) back ∷ below) took.Fail a (back_is, table_is, list_is) e good = (all-failed n _ shelf s'.shelf good table_is, λ f. absurd (cc))
+    ends (to_fail was_failed back ∷ below) took.Fail a (back_is, table_is, list_is) e good = (all-failed n _ shelf s'.shelf good table_is, λ f. good.blamed)
+    ends (to_item written keys ∷ below) step a does e good = absurd does
+    ends (to_release r key height ∷ []) step a does e good = absurd does
+    ends (to_fail fault back ∷ below) step a does e good = absurd does
+    ends todo step a does e good = absurd (cc)
+
+  module _ {N E B W : Type 0} (m : Seen N B W) (n : ℕ) where
+    at-answer : {todo : List Todo} {s s' : AccessState N E} {steps : List (Took W)} {answer : WorkerAnswer} → WorkerRun m n todo s steps answer s' → Good n todo s.shelf
+        → AllHaveResults s'.shelf × (answer ≡ finals.AlreadyFailed → F)
+    at-answer (worker-ends todo next step answer s s' w is) good =
+        let e = ends m n s.pager.core s.shelf w.after todo step answer w.does.does is good in
+        (λ i slot there. e.0 i slot (sym (w.shelf_is.slots i) ∙ there), e.1)
+    at-answer (worker-goes-on todo next step steps answer s mid s' w is more) good =
+        let g = goes m n s.pager.core s.shelf w.after todo step w.does.does is good in
+        at-answer more (subst (λ t. Good n t mid.shelf) (sym w.goes_on) (stays n w.after.todo w.after.todo w.after.shelf mid.shelf g (λ b. b) w.shelf_is.slots (λ i h. h)))
+
+-- of an item
+pub item-answered : {N E B W : Type 0} (m : Seen N B W) (n : ℕ) (item : Written) {s s' : AccessState N E} {steps : List (Took W)} {answer : WorkerAnswer}
+    → WorkerRun m n (first_todo (of_item item)) s steps answer s' → AllHaveResults s.shelf → AllHaveResults s'.shelf
+unfolding IsBlamed
+item-answered m n item run all =
+    let all_blamed = settle-blamed (Unit {0}) (to_item item [] ∷ []) tt in
+    (at-answer (Unit {0}) m n run (record { fits = λ i slot there. answered-so slot.outcome (all i slot there); blamed = all_blamed })).0
+
+-- of an entry, on a table of no claims
+pub entry-answered : {N E B W : Type 0} (m : Seen N B W) (n : ℕ) (h : HandleNumber) (j : Identity) {s s' : AccessState N E} {steps : List (Took W)} {answer : WorkerAnswer}
+    → WorkerRun m n (first_todo (of_entry h j)) s steps answer s' → ((i : Identity) → s.shelf.slots i ≡ None) → answer ≡ finals.AlreadyFailed → ⊥
+unfolding IsBlamed
+entry-answered m n h j run none = (at-answer ⊥ m n run (record { fits = λ i slot there. let no = none i in absurd (cc); blamed = tt })).1

@@ -1,0 +1,65 @@
+-- Page-outs of an item and of the list, where the access tells its state.
+use Rattle.std.specs.Prelude.{ℕ, ◌≡◌, ◌≤◌, ◌<◌, ◌+◌, length, Some, Result, Ok, Err, IfOk, IfErr, slice_get}
+use Rattle.pagable_model.specs.declared.data_key.OptionalDataKey.TheVariants as optional
+use Rattle.pagable_model.specs.declared.error.Error.{Error}
+use Rattle.pagable_model.specs.declared.numbers.HandleNumber.{HandleNumber}
+use Rattle.pagable_world.specs.declared.events.WorkerAnswer.{WorkerAnswer}
+use Rattle.pagable_world.specs.declared.events.WorkerAnswer.TheVariants as finals
+use Rattle.pagable_world.specs.declared.handles.Owner.TheVariants as owners
+use Rattle.pagable_world.specs.Calls.{ReleaseCall, TakeCall}
+use Rattle.pagable_world.specs.World.{Shelf, Values, Written, Seen}
+use Rattle.pagable_world.specs.Pager.{PagerState, WellFormed}
+use Rattle.pagable_world.specs.Access.{AllHaveResults, Called, EntryHas, EntryRun, PagesOutItemOver}
+use Rattle.pagable_walk.specs.Turns.{plain}
+
+-- where the pager is whole and each claim of the table has a result, the item is paged out
+pub record PagesItem {N E : Type 0} (v : Values N) (shelf : Shelf) (item : Written) (shelf' : Shelf) (answer : WorkerAnswer) (s t : PagerState N E) : Type 0 where
+  pub over : WellFormed v s → AllHaveResults shelf → PagesOutItemOver (plain v) (record { pager = s; shelf = shelf }) item answer (record { pager = t; shelf = shelf' })
+
+-- A page-out of so many entries, from the last to the first: one whose cell has a key is taken and released, another is paged out, and the first failure is the end. At a
+-- place past the list's end nothing is done.
+pub data ListRun {N E B W : Type 0} (m : Seen N B W) : ℕ → PagerState N E → Result (Unit {0}) WorkerAnswer → PagerState N E → Type 0 where
+  no-more : (s : PagerState N E) → ListRun m 0 s (Ok tt) s
+  passes : (i place : ℕ) (answer : Result (Unit {0}) WorkerAnswer) (s s' : PagerState N E) → i ≡ place + 1 → length s.core.list ≤ place → ListRun m place s answer s' → ListRun m i s answer s'
+  skips : (i place key : ℕ) (h : HandleNumber) (told : Result (Unit {0}) Error) (answer : Result (Unit {0}) WorkerAnswer) (s mid low s' : PagerState N E) → i ≡ place + 1 → EntryHas s.core place h (optional.Some key)
+      → Called m.values (λ w'. TakeCall s.core owners.Caller place (Some h) w') s mid → Called m.values (λ w'. ReleaseCall mid.core owners.Caller h told w') mid low → ListRun m place low answer s' → ListRun m i s answer s'
+  pages : (i place key : ℕ) (h : HandleNumber) (answer : Result (Unit {0}) WorkerAnswer) (s mid s' : PagerState N E) → i ≡ place + 1 → EntryHas s.core place h optional.None → EntryRun m s place (finals.Key key) mid
+      → ListRun m place mid answer s' → ListRun m i s answer s'
+  fails : (i place : ℕ) (h : HandleNumber) (e : Error) (s s' : PagerState N E) → i ≡ place + 1 → EntryHas s.core place h optional.None → EntryRun m s place (finals.Failed e) s' → ListRun m i s (Err (finals.Failed e)) s'
+
+-- where the pager is whole, the entries that stand in the list at the call are paged out
+pub record PagesList {N E : Type 0} (v : Values N) (answer : Result (Unit {0}) WorkerAnswer) (s t : PagerState N E) : Type 0 where
+  pub over : WellFormed v s → ListRun (plain v) (length s.core.list) s answer t
+
+-- the entry at a place of the list is paged out, on a table of its own, where no claim has failed
+pub record EntryPaged {N E : Type 0} (v : Values N) (s : PagerState N E) (place : ℕ) (answer : WorkerAnswer) (t : PagerState N E) : Type 0 where
+  pub run : EntryRun (plain v) s place answer t
+  pub whole : WellFormed v t
+  pub unfailed : answer ≡ finals.AlreadyFailed → ⊥
+
+pub record PagesEntry {N E : Type 0} (v : Values N) (place : ℕ) (answer : WorkerAnswer) (s t : PagerState N E) : Type 0 where
+  pub pages : WellFormed v s → place < length s.core.list → EntryPaged v s place answer t
+
+-- the entry is taken and released
+pub record Skipped {N E : Type 0} (v : Values N) (s : PagerState N E) (place : ℕ) (h : HandleNumber) (t : PagerState N E) : Type 0 where
+  pub mid : PagerState N E
+  pub told : Result (Unit {0}) Error
+  pub takes : Called v (λ w'. TakeCall s.core owners.Caller place (Some h) w') s mid
+  pub releases : Called v (λ w'. ReleaseCall mid.core owners.Caller h told w') mid t
+
+pub record SkipsEntry {N E : Type 0} (v : Values N) (place : ℕ) (s t : PagerState N E) : Type 0 where
+  pub skips : (h : HandleNumber) → slice_get s.core.list place ≡ Some h → Skipped v s place h t
+
+-- a run of the entries below this place goes on from here as one from this place, or it ends here with a failure
+pub record PlaceDone {N E : Type 0} (v : Values N) (s : PagerState N E) (place : ℕ) (result : Result (Unit {0}) WorkerAnswer) (t : PagerState N E) : Type 0 where
+  pub whole : WellFormed v t
+  pub goes : IfOk result (λ u. (i : ℕ) → i ≡ place + 1 → (answer : Result (Unit {0}) WorkerAnswer) (s' : PagerState N E) → ListRun (plain v) place t answer s' → ListRun (plain v) i s answer s')
+  pub stops : IfErr result (λ why. (i : ℕ) → i ≡ place + 1 → ListRun (plain v) i s (Err why) t)
+
+pub record PagesAt {N E : Type 0} (v : Values N) (place : ℕ) (result : Result (Unit {0}) WorkerAnswer) (s t : PagerState N E) : Type 0 where
+  pub done : WellFormed v s → PlaceDone v s place result t
+
+-- entries so far: a run of those that are left is one of all
+pub record HasPaged {N E : Type 0} (v : Values N) (left : ℕ) (s t : PagerState N E) : Type 0 where
+  pub whole : WellFormed v s → WellFormed v t
+  pub then : WellFormed v s → (answer : Result (Unit {0}) WorkerAnswer) (u : PagerState N E) → ListRun (plain v) left t answer u → ListRun (plain v) (length s.core.list) s answer u

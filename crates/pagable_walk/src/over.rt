@@ -1,0 +1,134 @@
+//! Page-out of an item, and of the entries of the list, over an access, each by workers of its own.
+
+ghost use Rattle.std.specs.Prelude.{◌≡◌};
+ghost use Rattle.std.specs.Arc.{arc_value};
+ghost use Rattle.pagable_world.specs.declared.handles.Owner.TheVariants as owners;
+ghost use Rattle.pagable_world.specs.Access.{Told};
+ghost use Rattle.pagable_loads.specs.Telling.{values_at};
+ghost use Rattle.pagable_walk.specs.Over.{PagesAt, PagesEntry, PagesItem, PagesList, SkipsEntry};
+ghost use Rattle.pagable_walk.specs.Slots.{written_of};
+ghost use Rattle.pagable_walk.specs.Table.{shelf_of};
+
+use crate::SlotTable;
+use crate::starting::{start_entry, start_item};
+use crate::walk::run;
+use pagable_codec::{Env, NodeSet};
+use pagable_core::SerializedData;
+use pagable_loads::WorkerAccess;
+use pagable_model::OptionalDataKey;
+use pagable_world::WorkerAnswer;
+use std::alloc::Global;
+use std::sync::Arc;
+
+/// Pages an item out on a table, by a worker of its own, up to the worker's answer: the item's key, or why it fails. The access is the caller's, before and
+/// after. A failure leaves what was stored and set so far, and no claim without a result.
+pub fn page_out_item_over<E: Env, A: WorkerAccess<E>>(
+    access: &mut A,
+    alloc: Global,
+    table: &mut SlotTable<E>,
+    item: Arc<SerializedData>,
+) -> WorkerAnswer
+where
+    E::Node: NodeSet<E>,
+    requires caller { (A.acting access.old).me ≡ owners.Caller }
+    ensures over { Told (A.told access.old) (A.told access.new) (PagesItem (values_at E.Node.NodeSet E.Env E.Hash.KeyHash (A.acting access.old).environment) (shelf_of table.old) (written_of (arc_value item)) (shelf_of table.new) result) }
+    ensures acting { A.acting access.new ≡ A.acting access.old }
+    ensures lender { A.lender access.new ≡ A.lender access.old }
+{
+    let (task, mut path) = match start_item(alloc, item) {
+        Ok(first) => first,
+        Err(e) => return WorkerAnswer::Failed(e),
+    };
+    match access.worker_begin() {
+        Ok(worker) => run(access, alloc, table, worker, &mut path, task),
+        Err(e) => WorkerAnswer::Failed(e),
+    }
+}
+
+// Pages out the entry at a place of the list, on a table of its own, up to its worker's answer.
+fn page_out_entry<E: Env, A: WorkerAccess<E>>(
+    access: &mut A,
+    alloc: Global,
+    place: usize,
+) -> WorkerAnswer
+where
+    E::Node: NodeSet<E>,
+    requires caller { (A.acting access.old).me ≡ owners.Caller }
+    ensures pages { Told (A.told access.old) (A.told access.new) (PagesEntry (values_at E.Node.NodeSet E.Env E.Hash.KeyHash (A.acting access.old).environment) place result) }
+    ensures acting { A.acting access.new ≡ A.acting access.old }
+    ensures lender { A.lender access.new ≡ A.lender access.old }
+{
+    let (worker, reference) = match access.worker_listed(place) {
+        Ok(begun) => begun,
+        Err(e) => return WorkerAnswer::Failed(e),
+    };
+    let mut table = SlotTable::new(alloc);
+    let (task, mut path) = start_entry(alloc, reference);
+    run(access, alloc, &mut table, worker, &mut path, task)
+}
+
+// Takes the entry at a place of the list, and releases it.
+fn skip_entry<E: Env, A: WorkerAccess<E>>(access: &mut A, place: usize)
+where
+    E::Node: NodeSet<E>,
+    requires caller { (A.acting access.old).me ≡ owners.Caller }
+    ensures skips { Told (A.told access.old) (A.told access.new) (SkipsEntry (values_at E.Node.NodeSet E.Env E.Hash.KeyHash (A.acting access.old).environment) place) }
+    ensures acting { A.acting access.new ≡ A.acting access.old }
+    ensures lender { A.lender access.new ≡ A.lender access.old }
+{
+    let Some(entry) = access.take_pending(place) else {
+        return;
+    };
+    let _told = access.release(entry);
+}
+
+// Pages out the entry at a place of the list, or releases it where its cell has a key.
+fn page_out_at<E: Env, A: WorkerAccess<E>>(
+    access: &mut A,
+    alloc: Global,
+    place: usize,
+) -> Result<(), WorkerAnswer>
+where
+    E::Node: NodeSet<E>,
+    requires caller { (A.acting access.old).me ≡ owners.Caller }
+    ensures pages { Told (A.told access.old) (A.told access.new) (PagesAt (values_at E.Node.NodeSet E.Env E.Hash.KeyHash (A.acting access.old).environment) place result) }
+    ensures acting { A.acting access.new ≡ A.acting access.old }
+    ensures lender { A.lender access.new ≡ A.lender access.old }
+{
+    match access.entry_key(place) {
+        None => Ok(()),
+        Some(OptionalDataKey::Some(_)) => {
+            skip_entry(access, place);
+            Ok(())
+        }
+        Some(OptionalDataKey::None) => match page_out_entry(access, alloc, place) {
+            WorkerAnswer::Key(_) => Ok(()),
+            WorkerAnswer::Failed(e) => Err(WorkerAnswer::Failed(e)),
+            WorkerAnswer::AlreadyFailed => Err(WorkerAnswer::AlreadyFailed),
+        },
+    }
+}
+
+/// Pages out the entries that stand in the list at the call, from the last to the first, each on a table of its own, up to the first failure, which is answered. What is
+/// listed meanwhile stays. An entry whose cell has a key is only released. The access is the caller's, before and after.
+pub fn page_out_pending_over<E: Env, A: WorkerAccess<E>>(
+    access: &mut A,
+    alloc: Global,
+) -> Result<(), WorkerAnswer>
+where
+    E::Node: NodeSet<E>,
+    requires caller { (A.acting access.old).me ≡ owners.Caller }
+    ensures over { Told (A.told access.old) (A.told access.new) (PagesList (values_at E.Node.NodeSet E.Env E.Hash.KeyHash (A.acting access.old).environment) result) }
+    ensures acting { A.acting access.new ≡ A.acting access.old }
+    ensures lender { A.lender access.new ≡ A.lender access.old }
+{
+    let mut left = access.pending();
+    while left > 0 {
+        let place = left - 1;
+        match page_out_at(access, alloc, place) {
+            Ok(()) => left = place,
+            Err(why) => return Err(why),
+        }
+    }
+    Ok(())
+}
