@@ -1,4 +1,6 @@
 mod NextStep
+mod Traced
+mod Foreseen
 mod Lent
 mod Needed
 pub mod Stepped

@@ -7,5 +7,7 @@ pub mod Needing
 pub mod Stepping
 pub mod Working
 pub mod Ending
+pub mod Ahead
+pub mod StandIns
 pub mod Starting
 pub mod Running

@@ -55,7 +55,7 @@ fn is_any_read_at_once(got: &[ArcRef]) -> bool
 }
 
 // The values of these references, each at its reference's place; no list is made where none of them is read together with its value. Refused with OutOfMemory.
-fn lend<E: Env, A: Access<E>>(
+pub(crate) fn lend<E: Env, A: Access<E>>(
     access: &A,
     alloc: Global,
     got: &[ArcRef],

@@ -1,10 +1,11 @@
 //! A load's steps, over an access to a pager.
 
-ghost use Rattle.std.specs.Prelude.{◌≡◌, ◌<◌, [], length, IsSome, Some, Result, Ok, true, false};
+ghost use Rattle.std.specs.Prelude.{◌≡◌, ◌<◌, [], length, IsSome, IfOk, Some, Result, Ok, true, false};
 ghost use Rattle.pagable_world.specs.World.{one_more};
 ghost use Rattle.pagable_world.specs.Loads.{need_of, needs_nested, needs_lazy, ReadsNode, ReadsRoot};
 ghost use Rattle.pagable_world.specs.Access.{Told};
 ghost use Rattle.pagable_world.specs.declared.events.LoadAnswer.TheVariants as ends;
+ghost use Rattle.pagable_loads.specs.Ahead.{GotMore, goes_on_with};
 ghost use Rattle.pagable_loads.specs.Ending.{LeadsOn};
 ghost use Rattle.pagable_loads.specs.Frames.{reading_of, frames_of};
 ghost use Rattle.pagable_loads.specs.Needing.{Needs, HasFrames};
@@ -15,7 +16,7 @@ use crate::access::Access;
 use crate::reading::{Need, Reading};
 use crate::stack::handles_of;
 use either::Either;
-use pagable_codec::{Env, Kind, NodeSet};
+use pagable_codec::{ArcRef, Env, Kind, NodeSet};
 use pagable_flavors::{DataKey, Error};
 use pagable_world::LoadAnswer;
 use std::alloc::Global;
@@ -81,6 +82,39 @@ impl Reading {
         }
     }
 
+    /// Takes a reference that is read later, by a step that isn't counted yet, and answers it.
+    pub(crate) fn take_lazy<E: Env, A: Access<E>>(
+        &mut self,
+        access: &mut A,
+        alloc: Global,
+        kind: Kind,
+        key: DataKey,
+    ) -> Result<ArcRef, Error>
+    where
+        E::Node: NodeSet<E>,
+        requires top { IsSome self.old.top }
+        requires need { need_of (values_at E.Node.NodeSet E.Env E.Hash.KeyHash (A.acting access.old).environment).types (frames_of self.old.top self.old.below.items) ≡ needs_lazy kind key }
+        ensures step { Told (A.told access.old) (A.told access.new) (λ s t. Tries (values_at E.Node.NodeSet E.Env E.Hash.KeyHash (A.acting access.old).environment) (A.acting access.old).me self.old s (goes_on_with result) (frames_of self.new.top self.new.below.items) t) }
+        ensures leads { LeadsOn {N = E.Node} self.old.for_cell (frames_of self.old.top self.old.below.items) (frames_of self.new.top self.new.below.items) (goes_on_with result) }
+        ensures got { IfOk result (λ r. GotMore (frames_of self.old.top self.old.below.items) (frames_of self.new.top self.new.below.items) r) }
+        ensures same { IsSameLoad self.old self.new }
+        ensures acting { A.acting access.new ≡ A.acting access.old }
+        ensures lender { A.lender access.new ≡ A.lender access.old }
+    {
+        let load = self.load;
+        let top = match self.take_top() {
+            Ok(top) => top,
+            Err(e) => return Err(e),
+        };
+        match access.load_lazy(alloc, load, kind, key) {
+            Ok(taken) => {
+                self.put_got(top, taken);
+                Ok(taken)
+            }
+            Err(e) => Err(e),
+        }
+    }
+
     // A reference comes that is read later.
     fn step_lazy<E: Env, A: Access<E>>(
         &mut self,
@@ -99,16 +133,8 @@ impl Reading {
         ensures acting { A.acting access.new ≡ A.acting access.old }
         ensures lender { A.lender access.new ≡ A.lender access.old }
     {
-        let load = self.load;
-        let top = match self.take_top() {
-            Ok(top) => top,
-            Err(e) => return Err(e),
-        };
-        match access.load_lazy(alloc, load, kind, key) {
-            Ok(reference) => {
-                self.put_got(top, reference);
-                Ok(None)
-            }
+        match self.take_lazy(access, alloc, kind, key) {
+            Ok(_) => Ok(None),
             Err(e) => Err(e),
         }
     }
@@ -240,7 +266,7 @@ impl Reading {
     }
 
     // A refusal was met: the load is given up, with all that it owns.
-    fn give_up<E: Env, A: Access<E>>(&mut self, access: &mut A)
+    pub(crate) fn give_up<E: Env, A: Access<E>>(&mut self, access: &mut A)
     where
         E::Node: NodeSet<E>,
         ensures drops { Told (A.told access.old) (A.told access.new) (λ s t. Drops (values_at E.Node.NodeSet E.Env E.Hash.KeyHash (A.acting access.old).environment) (A.acting access.old).me self.old.load s t) }

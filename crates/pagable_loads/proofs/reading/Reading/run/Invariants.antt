@@ -1,5 +1,6 @@
 use Rattle.std.proofs.Common.{◌≡◌}
 use Rattle.pagable_world.specs.Access.{Told}
+use Rattle.pagable_loads.specs.Ahead.{IsAhead}
 use Rattle.pagable_loads.specs.Ending.{to_do}
 use Rattle.pagable_loads.specs.Frames.{frames_of}
 use Rattle.pagable_loads.specs.Running.{HasGone}
@@ -9,6 +10,7 @@ use Rattle.pagable_loads.proofs.reading.Reading.run.Given as goal
 abbrev pub invariant-loop-answer : goal.invariant-loop-answer
 invariant-loop-answer g l = record {
   so_far : Told (g.A.Access.told l.initial.access) (g.A.Access.told l.access) (λ s t. HasGone (values_at g.E.Node.NodeSet g.E.Env g.E.Hash.KeyHash (g.A.Access.acting l.initial.access).environment) (g.A.Access.acting l.initial.access).me l.initial.self l.self s t);
+  ahead : IsAhead (values_at g.E.Node.NodeSet g.E.Env g.E.Hash.KeyHash (g.A.Access.acting l.access).environment).types (frames_of l.self.top l.self.below.items) l.row.items;
   acting : g.A.Access.acting l.access ≡ g.A.Access.acting l.initial.access;
   lender : g.A.Access.lender l.access ≡ g.A.Access.lender l.initial.access;
   sort : l.self.for_cell ≡ l.initial.self.for_cell;
