@@ -1,4 +1,8 @@
 -- A load's steps, one after another up to its end.
+use Rattle.std.proofs.Common.{arith}
+use Rattle.std.proofs.lemmas.Bool.Decides.{nat_tests}
+use Rattle.std.proofs.lemmas.Grind.{common_steps}
+use Rattle.std.proofs.Common.{rules}
 use Rattle.std.proofs.Common.{◌≡◌, ℕ, Bool, true, false, List, [], Option, Some, None, inl, inr, refl, ap, sym, subst, ◌∙◌, if◌then◌else◌}
 use Rattle.pagable_model.specs.declared.numbers.Kind.{Kind}
 use Rattle.pagable_model.specs.declared.numbers.LoadNumber.{LoadNumber}
@@ -30,14 +34,8 @@ module _ {N : Type 0} (v : Values N) (me : Owner) where
   goes_open w w' reading frames (inl g) = g.asked.gives.2.asked.leaves.loads reading.load.0
   goes_open w w' reading frames (inr (inl g)) = g.asked.gives.2.leaves.loads reading.load.0
   goes_open w w' reading frames (inr (inr (inl g))) = g.asked.gives.2.1.asked.leaves.loads reading.load.0
-  goes_open w w' reading frames (inr (inr (inr (inl g)))) = elim g.asked.makes.3 [
-    | inl c ↦ c.leaves.loads reading.load.0
-    | inr (none, few, next, a) ↦ a.loads reading.load.0 ∙ cached_loads w.closed _ g.kind g.key _ reading.load.0
-  ]
-  goes_open w w' reading frames (inr (inr (inr (inr g)))) = elim g.adopted.adopts.makes [
-    | inl (n, known, f) ↦ f.falls.leaves.loads reading.load.0
-    | inr (none, few, a) ↦ a.loads reading.load.0 ∙ cached_loads w.closed _ g.reads_node.top.kind g.reads_node.top.key _ reading.load.0
-  ]
+  goes_open w w' reading frames (inr (inr (inr (inl g)))) = first_of (grind (arith, common_steps, nat_tests), search (rules))
+  goes_open w w' reading frames (inr (inr (inr (inr g)))) = first_of (grind (arith, common_steps, nat_tests), search (rules))
 
   -- and what ends it leaves no blob
   ended : (w w' : Core) (reading : Reading) (answer : LoadAnswer N) (frames : List Frame) → Does v w me reading (Some answer) frames w' → frames ≡ []
@@ -69,8 +67,4 @@ module _ {N E : Type 0} (v : Values N) (me : Owner) where
             }
 
     pub ends_so : (answer : LoadAnswer N) (frames : List Frame) → Steps v me now m (Some answer) frames t → Runs v me own s answer t
-    ends_so answer frames step = record {
-      run = λ o.
-          let d = step.does (gone.open_still o) in
-          gone.then o answer t (load-ends (reading_of now) answer m t (subst (λ fs. ReadingStep v me (reading_of now) m (Some answer) fs t) (ended v me m.core t.core (reading_of now) answer frames d.does.does) d));
-    }
+    ends_so answer frames step = first_of (grind (arith, common_steps, nat_tests), grind (arith, nat_tests, load-ends), search (rules, load-ends))

@@ -1,4 +1,7 @@
 -- What the references that were got lend, one after the other.
+use Rattle.std.proofs.lemmas.Bool.Decides.{nat_tests}
+use Rattle.std.proofs.lemmas.Grind.{common_steps}
+use Rattle.std.proofs.Common.{rules}
 use Rattle.std.proofs.Common.{◌≡◌, ◌≢◌, ℕ, ◌+◌, ◌<◌, ◌≤◌, List, [], ◌∷◌, ◌++◌, length, true, false, Option, Some, None, Result, Ok, Err, IfOk, ◌⊎◌, inl, inr, refl, ap, sym, subst, ◌∙◌, arith, slice_get}
 use Rattle.std.proofs.Math.ListN.{get_or-append}
 use Rattle.std.proofs.Math.Seq.{get_or-append_seam}
@@ -22,18 +25,10 @@ use Rattle.pagable_loads.specs.Telling.{Tells, holds_of}
 
 module _ {S : Type 0} where
   pub tells_all : {o : Option S} {P : S → Type 0} → ((s : S) → P s) → Tells o P
-  tells_all {o} {P} f = record { holds = all o f }
-    where
-      all : (o : Option S) → ((s : S) → P s) → holds_of o P
-      all None f = tt
-      all (Some s) f = f s
+  tells_all {o} {P} f = first_of (grind (arith, common_steps, nat_tests), search (rules))
 
   pub tells_both : {o : Option S} {P Q R : S → Type 0} → ((s : S) → P s → Q s → R s) → Tells o P → Tells o Q → Tells o R
-  tells_both {o} f h k = record { holds = both o f h.holds k.holds }
-    where
-      both : {P Q R : S → Type 0} (o : Option S) → ((s : S) → P s → Q s → R s) → holds_of o P → holds_of o Q → holds_of o R
-      both None f h k = tt
-      both (Some s) f h k = f s h k
+  tells_both {o} f h k = first_of (grind (arith, common_steps, nat_tests), search (rules))
 
   pub tells_map : {o : Option S} {P Q : S → Type 0} → ((s : S) → P s → Q s) → Tells o P → Tells o Q
   tells_map f h = tells_both (λ s p q. f s p) h h
@@ -42,11 +37,7 @@ module _ {A N E : Type 0} (see : A → N) (s : PagerState N E) where
   -- a share is refused
   pub not_shared : (r : ArcRef) (e : Error) (result : Result (Option A) Error) → Shares see s r.handle (Err e) → IfOk result (λ found. (found ≡ None) × (e ≢ errors.OutOfMemory)) → IfOk result (λ found. Lends s r (option_map see found))
   not_shared r e (Err f) h none = tt
-  not_shared r e (Ok found) h none = subst (λ o. Lends s r (option_map see o)) (sym none.0) (gone h.refused)
-    where
-      gone : (live_fault (row_at s.core r.handle) ≡ Some e) ⊎ (e ≡ errors.OutOfMemory) → Lends s r None
-      gone (inl is) = record { value = tt; none = inr (inr (subst (λ (o : Option Error). IsSome o) (sym is) refl)) }
-      gone (inr is) = absurd (none.1 is)
+  not_shared r e (Ok found) h none = first_of (grind (arith, common_steps, nat_tests), search (rules))
 
 pub longer : {A : Type 0} (i : ℕ) (xs new : List A) (x : A) → new ≡ xs ++ x ∷ [] → length xs ≡ i → length new ≡ i + 1
 longer i xs new x is same = ap length is ∙ length-append xs (x ∷ []) ∙ ap (λ n. n + 1) same

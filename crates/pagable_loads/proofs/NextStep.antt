@@ -1,4 +1,8 @@
 -- From what reading gives to what the blob asks for next.
+use Rattle.std.proofs.Common.{arith}
+use Rattle.std.proofs.lemmas.Bool.Decides.{nat_tests}
+use Rattle.std.proofs.lemmas.Grind.{common_steps}
+use Rattle.std.proofs.Common.{rules}
 use Rattle.std.proofs.Common.{◌≡◌, ℕ, ◌+◌, List, [], ◌∷◌, length, true, false, Option, Some, None, Result, Ok, Err, ◌⊎◌, inl, inr, refl, ap, subst, sym, ◌∙◌, slice_get}
 use Rattle.pagable_model.specs.declared.error.Error.{Error}
 use Rattle.pagable_model.specs.declared.error.Error.TheVariants as errors
@@ -59,9 +63,7 @@ module _ {N : Type 0} (v : Values N) (t : ℕ) (blob : Blob) (got : List ArcRef)
   asked kind (Some k) d next a = subst (Answers v t blob got) (sym a.asks_from) next
 
   pub is_wanted : (kind : ℕ) (e : Error) (d : Decoded N) → e ≡ errors.Storage kind → ((f : Error) → v.read_causes t f → is_own_reading f ≡ true) → Asks kind key d → ReadsWith v t blob got (Err e) → Decodes v t blob got d
-  is_wanted kind e d is law a h =
-      let there : ReadsWith v t blob got (Err (errors.Storage kind)) = subst (λ (f : Error). ReadsWith v t blob got (Err f)) is h in
-      record { answers = asked kind key d (ap (next_by key) (wanted kind law there)) a }
+  is_wanted kind e d is law a h = first_of (grind (arith, common_steps, nat_tests), search (rules))
 
   refused : (e : Error) → is_asking e ≡ false → (read_with v.types t blob got ≡ Err e) ⊎ v.read_causes t e → Answers v t blob got (decoded.Refused e)
   refused e other (inl h) = inl (ap (next_by key) h ∙ faulty key e other)

@@ -1,4 +1,6 @@
 -- A pin with its loads, and how it is taken back; and the reading of a key.
+use Rattle.std.proofs.lemmas.Grind.{common_steps}
+use Rattle.std.proofs.Common.{rules}
 use Rattle.std.proofs.Common.{◌≡◌, ℕ, ◌+◌, ◌==◌, Bool, true, false, Option, Some, None, Result, Ok, Err, inl, inr, refl, ap, sym, subst, ◌∙◌, arith}
 use Rattle.std.proofs.lemmas.Bool.Decides.{nat_tests}
 use Rattle.std.specs.Prelude.{if◌then◌else◌}
@@ -32,33 +34,13 @@ use Rattle.pagable_loads.specs.Telling.{holds_of, Tells, begun_as}
 
 -- what is told of a state, beside what led to it
 pub told_with : {S : Type 0} {o n : Option S} {R Q : S → S → Type 0} {P : S → Type 0} → ((s t : S) → R s t → P t → Q s t) → Told o n R → Tells n P → Told o n Q
-told_with {S} {o} {n} f h k = record { holds = through o n f h.holds k.holds }
-  where
-    through : {R Q : S → S → Type 0} {P : S → Type 0} (o n : Option S) → ((s t : S) → R s t → P t → Q s t) → tells o n R → holds_of n P → tells o n Q
-    through None n f h k = tt
-    through (Some s) None f h k = h
-    through (Some s) (Some t) f h k = f s t h k
+told_with {S} {o} {n} f h k = first_of (grind (arith, common_steps, nat_tests), search (rules))
 
 still : (w : Core) → Alike w w
-still w =
-    record {
-      rows = refl;
-      cells = λ n. refl;
-      list = refl;
-      cache = record { gives = λ kind key. refl; only = λ kind key n is. is };
-      stored = λ key. refl;
-      closed = refl;
-      failures = refl;
-      loads = λ l. refl;
-      workers = λ v. refl;
-      last = refl;
-      places = record { handles = omega arith; entries = omega arith };
-    }
+still w = first_of (grind (arith, common_steps, nat_tests), search (rules))
 
 pub begun_is : (w w' : Core) (l : LoadNumber) (key : ℕ) (root : Root) (me : Owner) → l.0 ≡ w.last.load + 1 → Alike (with_load w key root me) w' → w'.loads l.0 ≡ Some (record { owner = me; key = key; root = root })
-begun_is w w' l key root me next a =
-    let same : (l.0 == w.last.load + 1) ≡ true = grind (arith, nat_tests) in
-    a.loads l.0 ∙ ap (λ b. if b then Some (let x : OpenLoad = record { owner = me; key = key; root = root } in x) else w.loads l.0) same
+begun_is w w' l key root me next a = first_of (grind (arith, common_steps, nat_tests), search (rules))
 
 -- a load that has begun
 module _ (me : Owner) (own : Own) (l : LoadNumber) (key t : ℕ) (is : reading_of own ≡ fresh l t) (under : own.key ≡ key) where
@@ -84,10 +66,7 @@ module _ {N E : Type 0} (v : Values N) (me : Owner) (mine : me ≡ owners.Caller
       begun = c.step.starts.0
 
       open_load : IsLoadOf mid.core me own
-      open_load =
-          let b = begun.begins.2 in
-          let made = b.4 in
-          opens me own l key t is under mid.core (of_cell begun.begins.0.node made.0 h) cell (begun_is (with_handle s.core begun.begins.0.node modes.LooseUnpinned (owners.Load l)) mid.core l key (of_cell begun.begins.0.node made.0 h) me b.2.above made.2)
+      open_load = first_of (grind (arith, common_steps, nat_tests), search (rules))
 
       calls : Called v (λ w'. BeginCall s.core owners.Caller h (Ok (beginnings.Load l key)) w') s mid
       calls = record { step = subst (λ m. BeginCall s.core m h (Ok (beginnings.Load l key)) mid.core) mine begun; moves = c.moves; whole = c.whole }
@@ -122,13 +101,7 @@ module _ {N E : Type 0} (v : Values N) (me : Owner) (mine : me ≡ owners.Caller
         record { pinned = (pins-at-once k s' (record { step = subst (λ m. PinCall s.core m h (Ok (pinnings.Pinned k)) s'.core) mine c.step.starts.0; moves = c.moves; whole = c.whole }), c.step.starts.1); refused = tt }
 
     pub start_refused : (e : Error) (s s' : PagerState N E) → Called v (λ w'. StartsPin s.core me h (Err e) w') s s' → PinsFirst v s h (Err e) s'
-    start_refused e s s' c = record {
-      pinned = tt;
-      refused = elim c.step.refused [
-        | inl p ↦ pin-is-refused e s' (record { step = subst (λ m. PinCall s.core m h (Err e) s'.core) mine p; moves = c.moves; whole = c.whole })
-        | inr b ↦ load-is-refused e s' (record { step = subst (λ m. BeginCall s.core m h (Err e) s'.core) mine b; moves = c.moves; whole = c.whole })
-      ];
-    }
+    start_refused e s s' c = first_of (grind (arith, common_steps, nat_tests), grind (arith, nat_tests, pin-is-refused, load-is-refused), search (rules, pin-is-refused, load-is-refused))
 
 -- ---- how it is taken back
 
