@@ -19,12 +19,12 @@ use Rattle.pagable_world.specs.World.{Shelf, SameShelf, Todo, of_entry, of_item,
 use Rattle.pagable_world.specs.Workers.{first_todo}
 use Rattle.pagable_world.specs.Events.{entry_task, no_shelf}
 use Rattle.pagable_world.specs.Pager.{PagerState, WellFormed}
-use Rattle.pagable_world.specs.Access.{AccessState, Called, WorkerStarts, WorkerRun, worker-ends, worker-goes-on, no-worker, item-is-walked, EntryHas, EntryRun, entry-is-refused, no-entry-worker, entry-is-walked}
+use Rattle.pagable_world.specs.Access.{AccessState, Called, WorkerStarts, WorkerRun, worker-ends, worker-goes-on, no-worker, item-is-walked, EntryHas, EntryRun, entry-is-refused, no-entry-worker, entry-is-walked, ListRun, no-more, passes, skips, pages, fails}
 use Rattle.pagable_loads.specs.Telling.{Acting}
 use Rattle.pagable_loads.specs.Working.{as_caller, StartsEntry, RefusesEntry}
 use Rattle.pagable_walk.specs.declared.results.Trees.{Ghosts}
 use Rattle.pagable_walk.specs.declared.tasks.Task.{Task}
-use Rattle.pagable_walk.specs.Over.{PagesItem, ListRun, no-more, passes, skips, pages, fails, PagesList, PagesEntry, Skipped, SkipsEntry, PagesAt, HasPaged}
+use Rattle.pagable_walk.specs.Over.{PagesItem, PagesList, PagesEntry, Skipped, SkipsEntry, PagesAt, HasPaged}
 use Rattle.pagable_walk.specs.Slots.{no_claims}
 use Rattle.pagable_walk.specs.Tasks.{IsPlain, todo_of}
 use Rattle.pagable_walk.specs.Turns.{Fits, plain}

@@ -9,23 +9,12 @@ use Rattle.pagable_world.specs.declared.handles.Owner.TheVariants as owners
 use Rattle.pagable_world.specs.Calls.{ReleaseCall, TakeCall}
 use Rattle.pagable_world.specs.World.{Shelf, Values, Written, Seen}
 use Rattle.pagable_world.specs.Pager.{PagerState, WellFormed}
-use Rattle.pagable_world.specs.Access.{AllHaveResults, Called, EntryHas, EntryRun, PagesOutItemOver}
+use Rattle.pagable_world.specs.Access.{AllHaveResults, Called, EntryHas, EntryRun, ListRun, PagesOutItemOver}
 use Rattle.pagable_walk.specs.Turns.{plain}
 
 -- where the pager is whole and each claim of the table has a result, the item is paged out
 pub record PagesItem {N E : Type 0} (v : Values N) (shelf : Shelf) (item : Written) (shelf' : Shelf) (answer : WorkerAnswer) (s t : PagerState N E) : Type 0 where
   pub over : WellFormed v s → AllHaveResults shelf → PagesOutItemOver (plain v) (record { pager = s; shelf = shelf }) item answer (record { pager = t; shelf = shelf' })
-
--- A page-out of so many entries, from the last to the first: one whose cell has a key is taken and released, another is paged out, and the first failure is the end. At a
--- place past the list's end nothing is done.
-pub data ListRun {N E B W : Type 0} (m : Seen N B W) : ℕ → PagerState N E → Result (Unit {0}) WorkerAnswer → PagerState N E → Type 0 where
-  no-more : (s : PagerState N E) → ListRun m 0 s (Ok tt) s
-  passes : (i place : ℕ) (answer : Result (Unit {0}) WorkerAnswer) (s s' : PagerState N E) → i ≡ place + 1 → length s.core.list ≤ place → ListRun m place s answer s' → ListRun m i s answer s'
-  skips : (i place key : ℕ) (h : HandleNumber) (told : Result (Unit {0}) Error) (answer : Result (Unit {0}) WorkerAnswer) (s mid low s' : PagerState N E) → i ≡ place + 1 → EntryHas s.core place h (optional.Some key)
-      → Called m.values (λ w'. TakeCall s.core owners.Caller place (Some h) w') s mid → Called m.values (λ w'. ReleaseCall mid.core owners.Caller h told w') mid low → ListRun m place low answer s' → ListRun m i s answer s'
-  pages : (i place key : ℕ) (h : HandleNumber) (answer : Result (Unit {0}) WorkerAnswer) (s mid s' : PagerState N E) → i ≡ place + 1 → EntryHas s.core place h optional.None → EntryRun m s place (finals.Key key) mid
-      → ListRun m place mid answer s' → ListRun m i s answer s'
-  fails : (i place : ℕ) (h : HandleNumber) (e : Error) (s s' : PagerState N E) → i ≡ place + 1 → EntryHas s.core place h optional.None → EntryRun m s place (finals.Failed e) s' → ListRun m i s (Err (finals.Failed e)) s'
 
 -- where the pager is whole, the entries that stand in the list at the call are paged out
 pub record PagesList {N E : Type 0} (v : Values N) (answer : Result (Unit {0}) WorkerAnswer) (s t : PagerState N E) : Type 0 where

@@ -1,6 +1,6 @@
 -- What running threads share: results with a finite tree of results below each. Whole operations over an access to a pager and a table, which may
 -- tell its state: a pin, a reading, a page-out of an item and of the list. Each is a run of the steps of one load or of one worker, up to its answer.
-use Rattle.std.specs.Prelude.{◌≡◌, ℕ, List, [], ◌∷◌, ◌+◌, ◌==◌, ◌&&◌, Bool, true, false, if◌then◌else◌, length, Option, Some, None, Result, Ok, IfOk, IfErr, slice_get, ◌⊎◌, Err}
+use Rattle.std.specs.Prelude.{◌≡◌, ℕ, ◌≤◌, List, [], ◌∷◌, ◌+◌, ◌==◌, ◌&&◌, Bool, true, false, if◌then◌else◌, length, Option, Some, None, Result, Ok, IfOk, IfErr, slice_get, ◌⊎◌, Err}
 use Rattle.pagable_model.specs.Merkle.{blob_of, KeyOf}
 use Rattle.pagable_world.specs.Plain.{ArcRef, Identity, Blob, type_of, Error, OptionalDataKey, HandleNumber, LoadNumber, Tree, ReadsTree, Owner, HandleRow, LoadAnswer, Took, WorkerAnswer}
 use Rattle.pagable_model.specs.declared.error.Error.TheVariants as errors
@@ -257,19 +257,16 @@ pub data EntryRun {N E B W : Type 0} (m : Seen N B W) (s : PagerState N E) (plac
   entry-is-walked : (h : HandleNumber) (row : HandleRow) (t n : ℕ) (steps : List (Took W)) (answer : WorkerAnswer) (mid : PagerState N E) (s' : AccessState N E) → IsEntry s.core place h row t → HasKinds t
       → WorkerStarts m.values (with_entry_taken s.core place h (record { 0 = n })) s n mid → WorkerRun m n (first_todo (entry_task h row t)) (record { pager = mid; shelf = no_shelf }) steps answer s' → EntryRun m s place answer s'.pager
 
--- A page-out of so many entries, from the last to the first: one whose cell has a key is taken and released, another is paged out, and the first failure is the end.
+-- A page-out of so many entries, from the last to the first: one whose cell has a key is taken and released, another is paged out, and the first failure is the end. At a
+-- place past the list's end nothing is done.
 pub data ListRun {N E B W : Type 0} (m : Seen N B W) : ℕ → PagerState N E → Result (Unit {0}) WorkerAnswer → PagerState N E → Type 0 where
   no-more : (s : PagerState N E) → ListRun m 0 s (Ok tt) s
+  passes : (i place : ℕ) (answer : Result (Unit {0}) WorkerAnswer) (s s' : PagerState N E) → i ≡ place + 1 → length s.core.list ≤ place → ListRun m place s answer s' → ListRun m i s answer s'
   skips : (i place key : ℕ) (h : HandleNumber) (told : Result (Unit {0}) Error) (answer : Result (Unit {0}) WorkerAnswer) (s mid low s' : PagerState N E) → i ≡ place + 1 → EntryHas s.core place h (optional.Some key)
       → Called m.values (λ w'. TakeCall s.core owners.Caller place (Some h) w') s mid → Called m.values (λ w'. ReleaseCall mid.core owners.Caller h told w') mid low → ListRun m place low answer s' → ListRun m i s answer s'
   pages : (i place key : ℕ) (h : HandleNumber) (answer : Result (Unit {0}) WorkerAnswer) (s mid s' : PagerState N E) → i ≡ place + 1 → EntryHas s.core place h optional.None → EntryRun m s place (finals.Key key) mid
       → ListRun m place mid answer s' → ListRun m i s answer s'
   fails : (i place : ℕ) (h : HandleNumber) (e : Error) (s s' : PagerState N E) → i ≡ place + 1 → EntryHas s.core place h optional.None → EntryRun m s place (finals.Failed e) s' → ListRun m i s (Err (finals.Failed e)) s'
-
--- The answer of a page-out of the list as it stands at the call, and what it leaves.
--- To be carried by: `page_out_pending_over`.
-pub record PagesOutListOver {N E B W : Type 0} (m : Seen N B W) (s : PagerState N E) (answer : Result (Unit {0}) WorkerAnswer) (s' : PagerState N E) : Type 0 where
-  pub run : ListRun m (length s.core.list) s answer s'
 
 -- for each choice of trees that the pager stood for there is one, the same for the nodes that were there, that it stands for now, and P holds
 abbrev pub LeadsToTrees : {N E : Type 0} → Values N → PagerState N E → PagerState N E → ((ℕ → Tree) → (ℕ → Tree) → Type 0) → Type 0
