@@ -48,19 +48,14 @@ mod Standing
 mod Changing
 mod Going
 mod Turning
-mod Claiming
 mod Holding
 mod Coming
-mod Bounded
-mod Failing
 mod Histories
-mod ClaimsMade
 pub mod Arriving
 mod Decoding
 mod Fitting
 mod Following
 pub mod Naming
-mod Held
 mod KeysGoing
 pub mod Sparing
 mod SparingCalls
@@ -75,7 +70,6 @@ mod Felt
 mod Answering
 mod Brought
 mod Staying
-mod Lasting
 mod Stopping
 mod Asking
 mod KnownSteps
@@ -85,11 +79,11 @@ mod States
 mod Walks
 mod Loaded
 mod Level
-mod Formed
 mod Heights
 mod HeightSteps
 mod Shallow
 mod Climbing
+mod Formed
 mod Deeply
 pub mod Usable
 mod UsableCalls
