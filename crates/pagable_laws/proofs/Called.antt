@@ -1,5 +1,5 @@
 -- What trees feel of each call that doesn't close the storage, by the call and its reply.
-use Rattle.pagable_laws.proofs.Words.{◌≡◌, ℕ, Bool, true, false, List, [], refl, ap, sym, subst, ◌∙◌, inl, inr, Option, Some, None, ◌⊎◌, Result, Ok, Err, Error, Kind, ArcRef, HandleNumber}
+use Rattle.pagable_laws.proofs.Words.{nat_tests, ◌≡◌, ℕ, Bool, true, false, List, [], refl, ap, sym, subst, ◌∙◌, inl, inr, Option, Some, None, ◌⊎◌, Result, Ok, Err, Error, Kind, ArcRef, HandleNumber}
 use Rattle.pagable_laws.proofs.Words.{LoadNumber, NodeNumber, Owner, HandleRow, Mode, Call, Reply, Event, OptionalDataKey, find_row, is_loose, is_pinned, owner_value, Core, Seen, Values, Owns}
 use Rattle.pagable_laws.proofs.Words.{only_handle, with_mode, next_node, moved, is_named_by, BirthCall, UnpinCall, ReleaseCall, SetKeyCall, ScheduleCall, TakeCall, RecallCall, OfferCall}
 use Rattle.pagable_laws.proofs.Words.{IsRefused, ClearCall, AdoptCall, LazyCall, EndCall, Installs, HandOverCall, DropCall, with_pin, without_load, first_key, CallBrings, IsNewNode, KeepsOpen}
@@ -137,14 +137,7 @@ module _ {N B W : Type 0} (m : Seen N B W) (w : Core) (me : Owner) (free : NotLo
   pinned-free : (h : HandleNumber) (s : ℕ → Bool) (n : ℕ) (row : HandleRow) → Owns w me h is_loose row → (r : HandleRow) → find_row h.0 (moved s (owner_value n) w.rows) ≡ Some r → NotLoads r.owner
   pinned-free h s n row owns r found l is =
       let c = found-changed (λ (r : HandleRow). s r.number.0) (λ row. record row { owner = owner_value n }) (λ r. refl) h.0 w.rows r found in
-      at c (s c.was.number.0) refl
-    where
-      at : (c : Changed (λ (r : HandleRow). s r.number.0) (λ row. record row { owner = owner_value n }) w.rows h.0 r) → (b : Bool) → s c.was.number.0 ≡ b → ⊥
-      at c true e = let f : r ≡ record c.was { owner = owner_value n } = rw e at c.is in let g : r.owner ≡ owner_value n = ap (λ (x : HandleRow). x.owner) f in absurd (cc)
-      at c false e =
-          let f : r ≡ c.was = rw e at c.is in
-          let g : row ≡ c.was = same_some _ _ (sym owns.live ∙ c.live) in
-          free l (sym owns.own ∙ (ap (λ (x : HandleRow). x.owner) g ∙ (sym (ap (λ (x : HandleRow). x.owner) f) ∙ is)))
+      grind (arith, nat_tests, found-changed, same_some)
 
   pub ends-quiet : (l : LoadNumber) (x : N) (r : Result HandleNumber (Error × Option N)) → EndCall w me l x (m.values.node_type x) (m.values.references x) r w' → Quiet w w'
   ends-quiet l x (Ok k) c = elim i.falls [

@@ -154,9 +154,7 @@ module _ (rows : List HandleRow) (keyed : ℕ → Bool) (entries : List HandleRo
 closed-alone : (rows : List HandleRow) (keyed : ℕ → Bool) (entries : List HandleRow) (s : ℕ → Bool) → OwnsNothing rows → IsClosed rows keyed entries s
 closed-alone rows keyed entries s nothing n goes =
     let none : sum_by (λ h. one (is_owner (owner_value n) h.owner)) rows ≡ 0 = nothing n in
-    let few : sum_by (owned_out s n) rows ≤ sum_by (λ h. one (is_owner (owner_value n) h.owner)) rows = sum-le (owned_out s n) (λ h. one (is_owner (owner_value n) h.owner)) rows
-    (λ h among. grind (arith, nat_tests)) in
-    omega arith
+    grind (arith, nat_tests, and_parts, sum-le)
 
 -- so the given handles are the least set, and no more fall
 pub given-least : (rows : List HandleRow) (keyed : ℕ → Bool) (entries : List HandleRow) (given : ℕ → Bool) → OwnsNothing rows → IsLeast rows keyed entries given given

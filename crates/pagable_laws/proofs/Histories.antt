@@ -1,14 +1,221 @@
 -- A worker with all its steps so far: what an event adds to them keeps what they come to.
-use Rattle.pagable_laws.proofs.Words.{◌≡◌, ℕ, ◌+◌, ◌≤◌, ◌==◌, Bool, true, false, List, [], ◌∷◌, ◌++◌, refl, ap, sym, subst, ◌∙◌, arith, Ok, Option, Some, None, nat_eq, min, nat_tests, Identity}
-use Rattle.pagable_laws.proofs.Words.{WorkerNumber, one, Event, EventReply, TableNumber, Took, WorkerReply, WorkerAnswer, Claim, Shelf, Written, Todo, to_start, Task, Walking, World, Seen}
-use Rattle.pagable_laws.proofs.Words.{greatest, Site, Does, first_todo, is_counted, new_walking, steps_after, WorkerSteps, Follows, Leads, step_of, FailedElsewhere, IsMetFailure}
-use Rattle.std.proofs.Common.{append-nil}
-use Rattle.pagable_laws.proofs.Standing.{is_failed, HasNoFailed}
+use Rattle.pagable_laws.proofs.Words.{◌≡◌, ℕ, ◌+◌, ◌*◌, ◌-◌, ◌≤◌, List, [], ◌∷◌, ◌++◌, refl, ap, ◌∙◌, arith, Ok, Err, Some, None, drop, length, max, length-drop, sum_by-cons, sum_by-append}
+use Rattle.pagable_laws.proofs.Words.{ArcRef, one, times, above, Claim, PinStep, Took, Open, Todo, to_start, to_pin, to_load, to_write, to_finish, to_item, to_set, to_publish, to_release, to_fail}
+use Rattle.pagable_laws.proofs.Words.{Task, of_item, of_entry, Written, next_start, give, first_todo, is_counted, Follows, is_claim, references_written, own_references, zero, suc, ◌==◌, subst}
+use Rattle.pagable_laws.proofs.Words.{Error, Identity, Among, WorkerAnswer, Shelf, answer_of_fault, answer_after, is_open_outcome, MetError, FailedElsewhere, IsMetFailure, Bool, true, false, sym}
+use Rattle.pagable_laws.proofs.Words.{Option, nat_eq, min, nat_tests, WorkerNumber, Event, EventReply, TableNumber, WorkerReply, Walking, World, Seen, greatest, Site, Does, new_walking}
+use Rattle.pagable_laws.proofs.Words.{steps_after, WorkerSteps, Leads, step_of}
+use Rattle.std.proofs.Common.{length-append, append-nil}
+use Rattle.std.specs.List.{sum_by}
 use Rattle.pagable_laws.proofs.Changing.{ShelfGrows, grows}
+use Rattle.pagable_laws.proofs.Standing.{is_failed, HasNoFailed}
 use Rattle.pagable_laws.proofs.Nexts.{steps_follow}
-use Rattle.pagable_laws.proofs.Bounded.{IsWithin, within-first, within-after}
-use Rattle.pagable_laws.proofs.Failing.{among-last, failed-stays, FailsMet, fails-stay, met-stays, first-met, follows-met, answered}
 use Rattle.pagable_laws.proofs.Coming.{StandsIn, OwnTurn, rests, begins, steps, EventTurns, updated-at}
+
+-- ---- bounded steps: what a worker has counted, with what it still has to do, is at most what its claims and references allow
+
+-- how many counted steps are to be done for this at most, with those of references that aren't started yet
+abbrev due : Todo → List Todo → ℕ
+due (to_start r place) [] = 2
+due (to_start r place) (x ∷ below) = 1
+due (to_pin r place) below = 6
+due (to_load r place through reading) below = 5
+due (to_write r place through) below = 5
+due (to_finish o) below = 4 + (length o.written.references - (length o.keys + 1))
+due (to_item written keys) below = 2 + (length written.references - (length keys + 1))
+due (to_set r through key height) below = 3
+due (to_publish r key height) below = 2
+due (to_release r key height) below = 1
+due (to_fail fault back) below = 1
+
+unfoldable pub all-due : List Todo → ℕ
+all-due [] = 0
+all-due (x ∷ below) = due x below + all-due below
+
+-- something is to be done
+some-due : (x : Todo) (below : List Todo) → 1 ≤ all-due (x ∷ below)
+unfolding all-due
+some-due (to_start r place) [] = omega arith
+some-due _ _ = omega arith
+
+-- what waits starts the first of the references that are left, if there is one
+started-due : (place : ℕ) (rs : List ArcRef) (x : Todo) (below : List Todo) → all-due (next_start place rs ++ x ∷ below) + (length rs - 1) ≤ length rs + all-due (x ∷ below)
+unfolding all-due
+started-due place [] x below = omega arith
+started-due place (r ∷ rs) x below = omega arith
+
+settled-node : (o : Open) (k : ℕ) (below : List Todo) → length o.keys ≡ k
+    → all-due (next_start o.place (drop (length o.keys) o.written.references) ++ to_finish o ∷ below) ≤ 4 + (length o.written.references - k) + all-due below
+unfolding all-due
+settled-node o k below few = grind (arith, started-due, length-drop)
+
+settled-item : (written : Written) (keys : List ℕ) (k : ℕ) (below : List Todo) → length keys ≡ k
+    → all-due (next_start 0 (drop (length keys) written.references) ++ to_item written keys ∷ below) ≤ 2 + (length written.references - k) + all-due below
+unfolding all-due
+settled-item written keys k below few = grind (arith, started-due, length-drop)
+
+given-due : (r : ArcRef) (key height : ℕ) (below : List Todo) → all-due (give r key height below) ≤ all-due below
+unfolding all-due
+given-due r key height [] = omega arith
+given-due r key height (to_finish o ∷ below) =
+    settled-node (record o { keys = o.keys ++ key ∷ []; height = max o.height (above r.kind.0 height) }) (length o.keys + 1) below (length-append o.keys (key ∷ []))
+given-due r key height (to_item written keys ∷ below) = settled-item written (keys ++ key ∷ []) (length keys + 1) below (length-append keys (key ∷ []))
+given-due r key height (_ ∷ below) = omega arith
+
+module _ {W : Type 0} (f : W → Written) where
+  -- one step pays for itself: out of what was due, of its claim, or of the references that it wrote
+  abbrev pub Pays : List Todo → Took W → List Todo → Type 0
+  Pays todo step next = one (is_counted todo step) + all-due next ≤ 8 * one (is_claim step) + references_written f step + all-due todo
+
+  known : (n d e : ℕ) → d ≤ e → 1 + d ≤ 8 * 0 + 0 + (1 + e)
+  known n d e le = omega arith
+
+  ends : (d : ℕ) → 1 ≤ d → 1 + (1 + 0) ≤ 8 * 0 + 0 + (1 + d)
+  ends d some = omega arith
+
+  pub pays : (todo : List Todo) (step : Took W) (next : List Todo) → Follows f todo step next → Pays todo step next
+  unfolding all-due
+  pays (to_start r place ∷ []) (Took.Claim j (Ok Claim.Claimed)) next (is, e) = rw e (omega arith)
+  pays (to_start r place ∷ []) (Took.Claim j (Ok (Claim.Known key height))) next (is, e) = rw e (omega arith)
+  pays (to_start r place ∷ []) (Took.Claim j (Ok Claim.Waiting)) next (is, e) = rw e (omega arith)
+  pays (to_start r place ∷ []) (Took.Claim j (Ok Claim.AlreadyFailed)) next (is, e) = rw e (omega arith)
+  pays (to_start r place ∷ []) (Took.Claim j (Err fault)) next (is, e) = rw e (omega arith)
+  pays (to_start r place ∷ x ∷ xs) (Took.Claim j (Ok Claim.Claimed)) next (is, e) = rw e (omega arith)
+  pays (to_start r place ∷ x ∷ xs) (Took.Claim j (Ok (Claim.Known key height))) next (is, e) = rw e (known 0 _ _ (given-due r key height (x ∷ xs)))
+  pays (to_start r place ∷ x ∷ xs) (Took.Claim j (Ok Claim.Waiting)) next (is, e) = rw e (omega arith)
+  pays (to_start r place ∷ x ∷ xs) (Took.Claim j (Ok Claim.AlreadyFailed)) next (is, e) = rw e (ends _ (some-due x xs))
+  pays (to_start r place ∷ x ∷ xs) (Took.Claim j (Err fault)) next (is, e) = rw e (ends _ (some-due x xs))
+  pays (to_pin r place ∷ below) (Took.Pin j (Ok (PinStep.Held h))) next (is, (through, e)) = rw e (omega arith)
+  pays (to_pin r place ∷ below) (Took.Pin j (Ok (PinStep.LoadBegun l))) next (is, (through, e)) = rw e (omega arith)
+  pays (to_pin r place ∷ below) (Took.Pin j (Err fault)) next (is, e) = rw e (omega arith)
+  pays (to_load r place through reading ∷ below) (Took.Pin j (Ok PinStep.LoadWent)) next (is, (frames, e)) = rw e (omega arith)
+  pays (to_load r place through reading ∷ below) (Took.Pin j (Ok (PinStep.Held h))) next (is, e) = rw e (omega arith)
+  pays (to_load r place through reading ∷ below) (Took.Pin j (Err fault)) next (is, e) = rw e (omega arith)
+  pays (to_write r place through ∷ below) (Took.Write j (Ok out)) next (is, e) = grind (arith, settled-node)
+  pays (to_write r place through ∷ below) (Took.Write j (Err fault)) next (is, e) = rw e (omega arith)
+  pays (to_finish o ∷ below) (Took.Store (Some j) (Ok key)) next (is, e) = rw e (omega arith)
+  pays (to_finish o ∷ below) (Took.Store (Some j) (Err fault)) next (is, e) = rw e (omega arith)
+  pays (to_item written keys ∷ below) (Took.Store None (Ok key)) next e = rw e (omega arith)
+  pays (to_item written keys ∷ below) (Took.Store None (Err fault)) next e = rw e (omega arith)
+  pays (to_set r through key height ∷ below) (Took.SetKey j (Ok u)) next (is, e) = rw e (omega arith)
+  pays (to_set r through key height ∷ below) (Took.SetKey j (Err fault)) next (is, e) = rw e (omega arith)
+  pays (to_publish r key height ∷ below) (Took.Publish j k h) next (is, same_key, same_height, e) = rw e (omega arith)
+  pays (to_release r key height ∷ below) (Took.Release j) next (is, e) = rw e (known 0 _ _ (given-due r key height below))
+  pays (to_fail fault back ∷ below) Took.Fail next e = rw e (omega arith)
+  pays _ step next follows = absurd follows
+
+  -- the steps that were counted, with those that are due, are within the bound
+  abbrev pub IsWithin : Task → List Todo → ℕ → List (Took W) → Type 0
+  IsWithin task todo n past = n + all-due todo ≤ 8 * times is_claim past + (own_references task + sum_by (references_written f) past) + 4
+
+  pub within-first : (task : Task) → IsWithin task (first_todo task) 0 []
+  unfolding all-due
+  within-first (of_item written) = grind (arith, settled-item)
+  within-first (of_entry h i) = omega arith
+
+  pub within-after : (task : Task) (todo next : List Todo) (n n' : ℕ) (past : List (Took W)) (step : Took W) → n' ≤ n + one (is_counted todo step) → Follows f todo step next
+      → IsWithin task todo n past → IsWithin task next n' (past ++ step ∷ [])
+  within-after task todo next n n' past step counted follows within = grind (arith, sum_by-append, sum_by-cons, pays)
+
+-- ---- what a worker fails with: a refusal that a step of its own met, or that another's claim has failed where its walk came
+
+among-left : {X : Type 0} (xs ys : List X) (x : X) → Among xs x → Among (xs ++ ys) x
+among-left [] ys x (i, is) = absurd (cc)
+among-left (y ∷ xs) ys x (zero, is) = (zero, is)
+among-left (y ∷ xs) ys x (suc i, is) = let a = among-left xs ys x (i, is) in (suc a.0, a.1)
+
+pub among-last : {X : Type 0} (xs : List X) (x : X) → Among (xs ++ x ∷ []) x
+among-last [] x = (zero, refl)
+among-last (y ∷ xs) x = let a = among-last xs x in (suc a.0, a.1)
+
+-- another's claim that has failed stays so
+pub failed-stays : (n : ℕ) (shelf shelf' : Shelf) (i : Identity) → ShelfGrows shelf shelf' → FailedElsewhere shelf n i → FailedElsewhere shelf' n i
+failed-stays n shelf shelf' i more was = grind arith
+
+module _ {W : Type 0} (n : ℕ) where
+  pub met-stays : (shelf shelf' : Shelf) (past more : List (Took W)) (answer : WorkerAnswer) → ShelfGrows shelf shelf' → IsMetFailure shelf n past answer → IsMetFailure shelf' n (past ++ more) answer
+  met-stays shelf shelf' past more (WorkerAnswer.Key key) grown met = tt
+  met-stays shelf shelf' past more (WorkerAnswer.Failed e) grown (step, among, met) = (step, among-left past more step among, met)
+  met-stays shelf shelf' past more WorkerAnswer.AlreadyFailed grown (i, among, was) = (i, among-left past more (Took.Claim i (Ok Claim.AlreadyFailed)) among, failed-stays n shelf shelf' i grown was)
+
+  -- ---- what is to be done
+
+  -- whatever fails was met
+  unfoldable pub FailsMet : Shelf → List (Took W) → List Todo → Type 0
+  FailsMet shelf past [] = Unit {0}
+  FailsMet shelf past (to_fail fault back ∷ below) = IsMetFailure shelf n past (answer_of_fault fault) × FailsMet shelf past below
+  FailsMet shelf past (x ∷ below) = FailsMet shelf past below
+
+  pub fails-stay : (shelf shelf' : Shelf) (past more : List (Took W)) (todo : List Todo) → ShelfGrows shelf shelf' → FailsMet shelf past todo → FailsMet shelf' (past ++ more) todo
+  unfolding FailsMet
+  fails-stay shelf shelf' past more [] grown met = tt
+  fails-stay shelf shelf' past more (to_fail fault back ∷ below) grown (met, rest) = (
+    met-stays shelf shelf' past more (answer_of_fault fault) grown met,
+    fails-stay shelf shelf' past more below grown rest,
+  )
+  fails-stay shelf shelf' past more (x ∷ below) grown met = fails-stay shelf shelf' past more below grown met
+
+  module _ (shelf : Shelf) (past : List (Took W)) where
+    started : (place : ℕ) (rs : List ArcRef) (todo : List Todo) → FailsMet shelf past todo → FailsMet shelf past (next_start place rs ++ todo)
+    unfolding FailsMet
+    started place [] todo met = met
+    started place (r ∷ rs) todo met = met
+
+    given : (r : ArcRef) (key height : ℕ) (todo : List Todo) → FailsMet shelf past todo → FailsMet shelf past (give r key height todo)
+    unfolding FailsMet
+    given r key height [] met = met
+    given r key height (to_finish o ∷ below) met = started o.place (drop (length (o.keys ++ key ∷ [])) o.written.references) _ met
+    given r key height (to_item written keys ∷ below) met = started 0 (drop (length (keys ++ key ∷ [])) written.references) _ met
+    given r key height (_ ∷ below) met = met
+
+    pub first-met : (task : Task) → FailsMet shelf past (first_todo task)
+    unfolding FailsMet
+    first-met (of_item written) = started 0 (drop 0 written.references) (to_item written [] ∷ []) tt
+    first-met (of_entry h i) = tt
+
+    -- the last step was refused
+    refused : (step : Took W) (e : Error) → Among past step → MetError step e → IsMetFailure shelf n past (WorkerAnswer.Failed e) × Unit {0}
+    refused step e among met = ((step, among, met), tt)
+
+    -- what follows a step, where the other's claim has failed if that is what was found
+    pub follows-met : (f : W → Written) (todo : List Todo) (step : Took W) (next : List Todo) → Follows f todo step next → Among past step
+        → ((i : Identity) → step ≡ Took.Claim i (Ok Claim.AlreadyFailed) → FailedElsewhere shelf n i) → FailsMet shelf past todo → FailsMet shelf past next
+    unfolding FailsMet
+    follows-met f (to_start r place ∷ below) (Took.Claim j (Ok Claim.Claimed)) next (is, e) among already met = rw e met
+    follows-met f (to_start r place ∷ []) (Took.Claim j (Ok (Claim.Known key height))) next (is, e) among already met = rw e met
+    follows-met f (to_start r place ∷ x ∷ below) (Took.Claim j (Ok (Claim.Known key height))) next (is, e) among already met = rw e (given r key height (x ∷ below) met)
+    follows-met f (to_start r place ∷ below) (Took.Claim j (Ok Claim.Waiting)) next (is, e) among already met = rw e met
+    follows-met f (to_start r place ∷ below) (Took.Claim j (Ok Claim.AlreadyFailed)) next (is, e) among already met = rw e ((j, among, already j refl), tt)
+    follows-met f (to_start r place ∷ below) (Took.Claim j (Err fault)) next (is, e) among already met = rw e (refused _ fault among refl)
+    follows-met f (to_pin r place ∷ below) (Took.Pin j (Ok (PinStep.Held h))) next (is, (through, e)) among already met = rw e met
+    follows-met f (to_pin r place ∷ below) (Took.Pin j (Ok (PinStep.LoadBegun l))) next (is, (through, e)) among already met = rw e met
+    follows-met f (to_pin r place ∷ below) (Took.Pin j (Err fault)) next (is, e) among already met = rw e (refused _ fault among refl)
+    follows-met f (to_load r place through reading ∷ below) (Took.Pin j (Ok PinStep.LoadWent)) next (is, (frames, e)) among already met = rw e met
+    follows-met f (to_load r place through reading ∷ below) (Took.Pin j (Ok (PinStep.Held h))) next (is, e) among already met = rw e met
+    follows-met f (to_load r place through reading ∷ below) (Took.Pin j (Err fault)) next (is, e) among already met = rw e (refused _ fault among refl)
+    follows-met f (to_write r place through ∷ below) (Took.Write j (Ok out)) next (is, e) among already met = rw e (started place (drop 0 (f out).references) _ met)
+    follows-met f (to_write r place through ∷ below) (Took.Write j (Err fault)) next (is, e) among already met = rw e (refused _ fault among refl)
+    follows-met f (to_finish o ∷ below) (Took.Store (Some j) (Ok key)) next (is, e) among already met = rw e met
+    follows-met f (to_finish o ∷ below) (Took.Store (Some j) (Err fault)) next (is, e) among already met = rw e (refused _ fault among refl)
+    follows-met f (to_item written keys ∷ below) (Took.Store None (Ok key)) next e among already met = rw e tt
+    follows-met f (to_item written keys ∷ below) (Took.Store None (Err fault)) next e among already met = rw e (refused _ fault among refl)
+    follows-met f (to_set r through key height ∷ below) (Took.SetKey j (Ok u)) next (is, e) among already met = rw e met
+    follows-met f (to_set r through key height ∷ below) (Took.SetKey j (Err fault)) next (is, e) among already met = rw e (refused _ fault among refl)
+    follows-met f (to_publish r key height ∷ below) (Took.Publish j k h) next (is, same_key, same_height, e) among already met = rw e met
+    follows-met f (to_release r key height ∷ below) (Took.Release j) next (is, e) among already met = rw e (given r key height below met)
+    follows-met f (to_fail fault back ∷ below) Took.Fail next e among already met = rw e tt
+    follows-met f _ step next follows among already met = absurd follows
+
+    -- the answer is what the list was about to fail with, or a key
+    pub answered : (todo : List Todo) (step : Took W) (answer : WorkerAnswer) → answer_after todo step ≡ Some answer → FailsMet shelf past todo → IsMetFailure shelf n past answer
+    unfolding FailsMet
+    answered (to_fail fault back ∷ below) step answer is (met, rest) = let e : answer_of_fault fault ≡ answer = cc in subst (λ a. IsMetFailure shelf n past a) e met
+    answered (to_item written keys ∷ below) (Took.Store i (Ok key)) answer is met = let e : WorkerAnswer.Key key ≡ answer = cc in subst (λ a. IsMetFailure shelf n past a) e tt
+    answered (to_item written keys ∷ below) (Took.Store i (Err fault)) answer is met = absurd (cc)
+    answered (to_release r key height ∷ []) step answer is met = let e : WorkerAnswer.Key key ≡ answer = cc in subst (λ a. IsMetFailure shelf n past a) e tt
+    answered todo step answer is met = absurd (cc)
+
+-- ---- together
 
 -- of a worker and its steps: they lead to its list, whatever it fails with was met, and they are within their bound
 pub record Went {W : Type 0} (f : W → Written) (n : ℕ) (shelf : Shelf) (w : Walking) (past : List (Took W)) : Type 0 where

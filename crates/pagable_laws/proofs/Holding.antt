@@ -44,12 +44,7 @@ module _ (v : ℕ) (shelves shelves' : ℕ → Shelf) (walkings walkings' : ℕ 
   slot-stays : (t : ℕ) (i : Identity) (old slot : Slot) → slot.worker ≡ old.worker → SlotStands (shelves t) walkings t i old → SlotStands (shelves' t) walkings' t i slot
   slot-stays t i old slot same stands =
       let k = keeps-task old.worker stands.walking stands.there in
-      record {
-        walking = k.now;
-        there = ap walkings' same ∙ k.there;
-        on_table = k.table ∙ stands.on_table;
-        meets = subst (λ task. Meets (shelves' t) task i) (sym k.task) (meets-grow (shelves t) (shelves' t) stands.walking.task i (grows v (shelves t) (shelves' t) (turned.changes t)) stands.meets);
-      }
+      grind (arith, nat_tests, keeps-task, meets-grow, grows)
 
   pub work-stands : (last last' : ℕ) → last ≤ last' → v ≤ last' → WorkStands shelves walkings last → WorkStands shelves' walkings' last'
   work-stands last last' few small work =

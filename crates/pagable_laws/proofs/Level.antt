@@ -1,5 +1,5 @@
 -- The chain of two levels is one of the machine, and meets the headline with all that it asks.
-use Rattle.pagable_laws.proofs.Words.{◌≡◌, ℕ, zero, suc, List, [], ◌∷◌, ◌++◌, refl, sym, subst, ◌∙◌, Option, Some, Ok, none, references_in, SameReferences, IsReadable, LiesIn, Throughout}
+use Rattle.pagable_laws.proofs.Words.{nat_tests, arith, ◌≡◌, ℕ, zero, suc, List, [], ◌∷◌, ◌++◌, refl, sym, subst, ◌∙◌, Option, Some, Ok, none, references_in, SameReferences, IsReadable, LiesIn, Throughout}
 use Rattle.pagable_laws.proofs.Words.{throughout-in, none-followed, rest_of, Kind, Tree, tree, type_of, Event, EventReply, WorkerReply, LoadReply, Core, Shelf, Written, Reading, Walking, IsLawful}
 use Rattle.pagable_laws.proofs.Words.{IsSettled, needs_lazy, need_of, reading_at, PagerState, MachineState, world_of, ReadsItsTypes, KeepsOpen, ReadsAsType, TakesWell, TodoTakesWell, IsWellAsked}
 use Rattle.pagable_laws.proofs.Words.{IsPremised, state_after, ArePremised, find_row, is_named_by, answers_from, fresh, inl, is_in, HandleRow, Owner, Mode, pins, row_of, AreMoments}
@@ -26,14 +26,7 @@ shaped two.leaf = (shapes.nothing, refl)
 shaped (two.parent r) = (shapes.reference 4, refl)
 
 pub lawful : IsLawful two.sample
-lawful =
-    record {
-      some = λ x. (two.sample_meaning x, refl);
-      refers = λ x own is. subst (λ b. SameReferences (two.sample_references x) (references_in b)) (sym is) (refers x);
-      shaped = shaped;
-      own_reading = λ t e is. absurd is;
-      own_writing = λ t e is. absurd is;
-    }
+lawful = grind (arith, nat_tests, refers, shaped)
 
 nothing-readable : (s : shapes.Shape) → s ≡ shapes.nothing → Throughout IsReadable two.sample_types.parts s
 unfolding IsReadable LiesIn
@@ -72,10 +65,7 @@ step-asked {core} {reply} {after} vs shelf w well =
 -- a load's step asks something where a reference is taken of which nothing is read
 pub load-asked : (s : State) (l : ℕ) (r : Reading) (reply : LoadReply two.Sample) (after : State) → reading_at (world_of s) (two.load_number l) ≡ Some r → TakesWell two.sample s.pager r
     → IsAsked s (two.moment (Event.LoadStep (two.load_number l)) (EventReply.LoadMoved (Ok reply)) after)
-load-asked s l r reply after at well = asked _ _ tt (λ trees reading is. let e : r ≡ reading = some-same (sym at ∙ is) in subst (λ x. TakesWell two.sample s.pager x) e well)
-  where
-    some-same : {X : Type 0} {x y : X} → Some x ≡ Some y → x ≡ y
-    some-same is = cc
+load-asked s l r reply after at well = grind (arith, nat_tests, asked)
 
 -- the child's key reads as a leaf
 child-reads : (s : PagerState two.Sample (Unit {0})) → s.core.stored 8 ≡ Some two.leaf_blob → ReadsAsType two.sample s 1 8
@@ -88,12 +78,7 @@ child-reads s stored = record {
 
 pub takes-child : (s : PagerState two.Sample (Unit {0})) (r : Reading) → s.core.stored 8 ≡ Some two.leaf_blob → need_of two.sample_types r.frames ≡ needs_lazy (record { 0 = 4 }) 8
     → TakesWell two.sample s r
-takes-child s r stored lazily kind key is =
-    let same : (record { 0 = 4 } ≡ kind) × (8 ≡ key) = parts (record { 0 = 4 }) kind 8 key (sym lazily ∙ is) in
-    subst (λ (k : Kind). ReadsAsType two.sample s (type_of k.0) key) same.0 (subst (λ k. ReadsAsType two.sample s 1 k) same.1 (child-reads s stored))
-  where
-    parts : (a b : Kind) (x y : ℕ) → needs_lazy a x ≡ needs_lazy b y → (a ≡ b) × (x ≡ y)
-    parts a b x y same = (cc, cc)
+takes-child s r stored lazily kind key is = grind (arith, nat_tests, child-reads)
 
 -- ---- what the headline asks of each moment of the chain of two levels is so
 
@@ -101,39 +86,19 @@ pub births-asked : (xs : List two.Happening) → ArePremised at_work xs → AreP
 births-asked xs rest = asked _ _ tt (λ trees. tt) ⨾ asked _ _ tt (λ trees. tt) ⨾ asked _ _ tt (λ trees. tt) ⨾ asked _ _ tt (λ trees. tt) ⨾ rest
 
 pub steps-asked : (xs : List two.Happening) → ArePremised paged_out xs → ArePremised at_work (two.page_out ++ xs)
-steps-asked xs rest =
-    step-asked _ _ _ tt ⨾ step-asked _ _ _ tt ⨾ step-asked _ _ _ tt ⨾ step-asked _ _ _ tt ⨾ step-asked _ _ _ tt ⨾
-    step-asked _ _ _ tt ⨾ step-asked _ _ _ tt ⨾ step-asked _ _ _ tt ⨾ step-asked _ _ _ tt ⨾ step-asked _ _ _ tt ⨾
-    step-asked _ _ _ tt ⨾ step-asked _ _ _ tt ⨾ step-asked _ _ _ tt ⨾ step-asked _ _ _ tt ⨾ step-asked _ _ _ tt ⨾ rest
+steps-asked xs rest = grind (arith, nat_tests, step-asked)
 
 pub parent-asked : (xs : List two.Happening) → ArePremised (two.machine two.parent_loaded two.parent_value two.done_work) xs → ArePremised paged_out (two.parent_loads ++ xs)
 unfolding find_row is_named_by grammar.read grammar.read_with answers_from
-parent-asked xs rest =
-    asked _ _ tt (λ trees. tt)
-    ⨾ asked _ _ tt (λ trees. tt)
-    ⨾ load-asked _ 1 (fresh (two.load_number 1) 0) _ _ refl (λ kind key is. absurd (cc))
-    ⨾ load-asked _ 1 two.parent_fetched _ _ refl (takes-child _ two.parent_fetched refl refl)
-    ⨾ load-asked _ 1 two.parent_read _ _ refl (λ kind key is. absurd (cc))
-    ⨾ rest
+parent-asked xs rest = grind (arith, nat_tests, asked, load-asked, takes-child)
 
 pub child-asked : (xs : List two.Happening) → ArePremised (two.machine two.child_loaded two.last_values two.done_work) xs → ArePremised (two.machine two.parent_loaded two.parent_value two.done_work) (two.child_loads ++ xs)
 unfolding find_row is_named_by grammar.read grammar.read_with answers_from
-child-asked xs rest =
-    asked _ _ tt (λ trees. tt)
-    ⨾ asked _ _ tt (λ trees. tt)
-    ⨾ load-asked _ 2 (fresh (two.load_number 2) 1) _ _ refl (λ kind key is. absurd (cc))
-    ⨾ load-asked _ 2 two.child_fetched _ _ refl (λ kind key is. absurd (cc))
-    ⨾ rest
+child-asked xs rest = grind (arith, nat_tests, asked, load-asked)
 
 pub key-asked : (n : ℕ) → ArePremised (two.machine two.child_loaded two.last_values two.done_work) (two.key_loads ++ two.counts n)
 unfolding find_row is_named_by grammar.read grammar.read_with answers_from
-key-asked n =
-    asked _ _ tt (λ trees. tt)
-    ⨾ load-asked _ 3 two.key_begun _ _ refl (λ kind key is. absurd (cc))
-    ⨾ load-asked _ 3 two.key_fetched _ _ refl (takes-child _ two.key_fetched refl refl)
-    ⨾ load-asked _ 3 two.key_read _ _ refl (λ kind key is. absurd (cc))
-    ⨾ asked _ _ tt (λ trees. tt)
-    ⨾ tt
+key-asked n = grind (arith, nat_tests, asked, load-asked, takes-child)
 
 -- ---- the chain of two levels is one of the machine, and meets the headline with all that it asks
 
@@ -175,17 +140,11 @@ later s (x ∷ xs) ys (does, rest) = later x.after xs ys rest
 
 pins-two : (n : ℕ) (row : HandleRow) → Some (row_of 10 (two.node 3) Mode.LoosePinned Owner.Caller) ≡ Some row → n ≡ pins row.node.0 two.read_back.rows → n ≡ 2
 unfolding find_row is_named_by is_in
-pins-two n row is counted =
-    let e : row_of 10 (two.node 3) Mode.LoosePinned Owner.Caller ≡ row = cc in
-    counted ∙ subst (λ (h : HandleRow). pins h.node.0 two.read_back.rows ≡ 2) e refl
+pins-two n row is counted = grind (arith, nat_tests)
 
 no-other : (n : ℕ) → AreMoments two.sample_seen two.new_one (two.moments n) → n ≡ 2
 unfolding find_row is_named_by is_in state_after
-no-other n all =
-    let before = two.births ++ (two.page_out ++ (two.parent_loads ++ (two.child_loads ++ two.key_loads))) in
-    let last = later two.new_one before (two.counts n) all in
-    let found = last.0.step.happens.step.does.0.found in
-    pins-two n found.0 found.1 found.2
+no-other n all = grind (arith, nat_tests, later, pins-two)
 
 pub headline_met : TwoLevelsMeetTheHeadline
 unfolding two.value_at

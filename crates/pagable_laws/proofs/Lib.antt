@@ -48,19 +48,14 @@ mod Standing
 mod Changing
 mod Going
 mod Turning
-mod Claiming
 mod Holding
 mod Coming
-mod Bounded
-mod Failing
 mod Histories
-mod ClaimsMade
 pub mod Arriving
 mod Decoding
 mod Fitting
 mod Following
 pub mod Naming
-mod Held
 mod KeysGoing
 pub mod Sparing
 pub mod SparingSteps
@@ -74,7 +69,6 @@ mod Felt
 mod Answering
 mod Brought
 mod Staying
-mod Lasting
 mod Stopping
 mod Asking
 mod KnownSteps
@@ -84,11 +78,11 @@ mod States
 mod Walks
 mod Loaded
 mod Level
-mod Formed
 mod Heights
 mod HeightSteps
 mod Shallow
 mod Climbing
+mod Formed
 mod Deeply
 pub mod Usable
 mod Identities

@@ -22,22 +22,14 @@ some-there None x is = absurd (cc)
 -- the one reading goes on
 pub reads-on : (core : Core) (n : ℕ) (r : Reading) (f : ℕ → Option Reading) → is_some (core.loads n) ≡ true → ((l : ℕ) → (l == n) ≡ false → f l ≡ None) → (l : ℕ)
     → two.only n r l ≡ if_there (λ (load : OpenLoad). updated n (Some r) f l) None (core.loads l)
-reads-on core n r f there other l = part (l == n) refl
-  where
-    part : (b : Bool) → (l == n) ≡ b → two.only n r l ≡ if_there (λ (load : OpenLoad). updated n (Some r) f l) None (core.loads l)
-    part true e = let i : l ≡ n = grind (arith, nat_tests) in rw e (some-there (core.loads l) (Some r) (ap (λ q. is_some (core.loads q)) i ∙ there))
-    part false e = let o = other l e in rw (e, o) (none-there (core.loads l) None refl)
+reads-on core n r f there other l = grind (arith, nat_tests, some-there, none-there)
 
 pub only-before : (n : ℕ) (r : Reading) (l : ℕ) → (l == n) ≡ false → two.only n r l ≡ None
 only-before n r l is = rw is refl
 
 -- or it is over
 pub reads-over : (core : Core) (n : ℕ) (r : Reading) (l : ℕ) → None ≡ if_there (λ (load : OpenLoad). updated n None (two.only n r) l) None (core.loads l)
-reads-over core n r l = part (l == n) refl
-  where
-    part : (b : Bool) → (l == n) ≡ b → None ≡ if_there (λ (load : OpenLoad). updated n None (two.only n r) l) None (core.loads l)
-    part true e = rw e (none-there (core.loads l) None refl)
-    part false e = rw e (none-there (core.loads l) None refl)
+reads-over core n r l = grind (arith, nat_tests, none-there)
 
 -- ---- calls
 
@@ -50,35 +42,12 @@ pub begins-it : (core : Core) (n t h key : ℕ) → let l = core.last.load + 1 i
     row_at core (two.handle h) ≡ Some (row_of h (two.node n) Mode.LooseUnpinned Owner.Caller) → is_here core n ≡ false
     → key_at core n ≡ OptionalDataKey.Some key → type_at core n ≡ Some t → nat_le core.last.load 2 ≡ true → nat_le core.last.handle 12 ≡ true
     → BeginCall core Owner.Caller (two.handle h) (Ok (Beginning.Load (two.load_number l) key)) (two.load_of core n t h key)
-begins-it core n t h key live away keyed typed few_loads few =
-    let a : core.last.load ≤ 2 = grind (arith, nat_tests) in
-    let b : core.last.handle ≤ 12 = grind (arith, nat_tests) in
-    record {
-      begins = (
-        row_of h (two.node n) Mode.LooseUnpinned Owner.Caller,
-        record { live = live; own = refl; as_asked = refl },
-        (away, keyed, record { above = refl; is_left = omega arith }, omega arith, (t, typed, alike-self (two.load_of core n t h key))),
-      );
-      refused = tt;
-    }
+begins-it core n t h key live away keyed typed few_loads few = grind (arith, nat_tests, alike-self)
 
 -- it fetches the blob of its own key
 pub fetches-it : (core : Core) (l t : ℕ) (load : OpenLoad) (blob : Blob) → core.loads l ≡ Some load → load.owner ≡ Owner.Caller → core.stored load.key ≡ Some blob
     → ReadingDoes two.sample core Owner.Caller (fresh (two.load_number l) t) None (root_frame load.key t blob ∷ []) core
-fetches-it core l t load blob stands_open own stored =
-    record {
-      does = inl (record {
-        load = load;
-        blob = blob;
-        first = refl;
-        open_load = stands_open;
-        asked = record {
-          gives = (load, record { stands_open = stands_open; own = own }, record { asked = record { fails = omega arith; leaves = alike-self core }; found = stored; refused = tt });
-          refused = tt;
-        };
-        goes = refl;
-      });
-    }
+fetches-it core l t load blob stands_open own stored = grind (arith, nat_tests, alike-self)
 
 -- it ends with a pin, by the value that was read of its one blob
 pub ends-it : (core : Core) (l n h key steps : ℕ) (x : two.Sample) (root : Frame)
@@ -235,11 +204,7 @@ reads-out =
 
 pub reads-parent : ReadsRoot two.sample two.parent_read (two.parent (two.to_leaf 3 8))
 unfolding grammar.read grammar.read_with answers_from
-reads-parent = record {
-  root = record (root_frame 24 0 two.parent_blob) { got = two.to_leaf 3 8 ∷ [] };
-  frames = refl;
-  decoded = record { own = two.sample_meaning (two.parent (two.to_leaf 3 8)); read = refl; typed = refl; means = refl };
-}
+reads-parent = grind (arith, nat_tests)
 
 pub reads-child : ReadsRoot two.sample two.child_fetched two.leaf
 unfolding grammar.read grammar.read_with answers_from
@@ -269,9 +234,7 @@ of-child = record { load = _; node = two.node 3; t = 1; h = two.handle 10; open_
 
 -- the values that the loads bring
 parent-brings : (n : ℕ) (x : two.Sample) → two.value_at two.parent_value n ≡ Some x → ReadingBrings two.sample two.child_got two.parent_read n x
-parent-brings n x is =
-    let b = parent-back n x is in
-    inr (subst (λ y. ReadsRoot two.sample two.parent_read y) (sym b.1) reads-parent, subst (λ k. IsCellOf two.child_got (two.load_number 1) k) (sym b.0) of-parent)
+parent-brings n x is = grind (arith, nat_tests, parent-back, reads-parent, of-parent)
 
 child-brings : (n : ℕ) (x : two.Sample) → two.value_at two.last_values n ≡ Some x
     → (two.value_at two.parent_value n ≡ Some x) ⊎ ((two.value_at two.parent_value n ≡ None) × ReadingBrings two.sample two.child_loading two.child_fetched n x)
@@ -292,33 +255,7 @@ step-does : (core core' : Core) (vs vs' : List (Option two.Sample)) (before afte
     → ReadingsAre (updated l (reading_after ended reading frames) before) (world_of s')
     → ((n : ℕ) (x : two.Sample) → two.value_at vs' n ≡ Some x → (two.value_at vs n ≡ Some x) ⊎ ((two.value_at vs n ≡ None) × ReadingBrings two.sample core reading n x))
     → IsMachineWhole two.sample s' → Does two.sample_seen s (Event.LoadStep (two.load_number l)) (EventReply.LoadMoved (Ok (record { ended = ended; steps = steps }))) s'
-step-does core core' vs vs' before after l steps reading frames ended may at does counts readings brings whole =
-    record {
-      step = record {
-        happens = record {
-          moves = record {
-            reading = reading;
-            frames = frames;
-            may = may;
-            at = at;
-            does = does;
-            counts = counts;
-            readings = readings;
-            work = work-stays (record two.done_work { readings = before }) after;
-          };
-          refused = tt;
-        };
-      };
-      moves = record {
-        each = λ n x is. elim (brings n x is) [
-          | inl same ↦ inl same
-          | inr (none_before, it_brings) ↦ inr (none_before, (reading, at, it_brings))
-        ];
-        environment = refl;
-      };
-      writes = tt;
-      whole = whole;
-    }
+step-does core core' vs vs' before after l steps reading frames ended may at does counts readings brings whole = grind (arith, nat_tests, work-stays)
 
 -- the eviction, and the caller's load of the parent
 pub loads-parent : (xs : List two.Happening) → AreMoments two.sample_seen (two.machine two.parent_loaded two.parent_value two.done_work) xs → AreMoments two.sample_seen paged_out (two.parent_loads ++ xs)

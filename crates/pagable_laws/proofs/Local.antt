@@ -1,5 +1,5 @@
 -- Reading is local: what is read of a front is read of the whole, a fault stays, and what was used reads alone.
-use Rattle.pagable_laws.proofs.Words.{◌≡◌, ℕ, zero, suc, ◌-◌, Bool, true, false, List, [], ◌∷◌, ◌++◌, Some, None, Result, Ok, Err, inl, inr, refl, ap, ◌∙◌, subst, append_assoc, Error, ◌>>=◌}
+use Rattle.pagable_laws.proofs.Words.{nat_tests, arith, ◌≡◌, ℕ, zero, suc, ◌-◌, Bool, true, false, List, [], ◌∷◌, ◌++◌, Some, None, Result, Ok, Err, inl, inr, refl, ap, ◌∙◌, subst, append_assoc, Error, ◌>>=◌}
 use Rattle.pagable_laws.proofs.Words.{Read, unsigned_at, signed_at, length_at, text_at, bool_at, char_at, duration_at, Meaning, number, integer, none, variant, sequence, entry, absent, present}
 use Rattle.pagable_laws.proofs.Words.{success, failure, lifted, text_order, put_all, put_sorted, put_placed, put_sorted_item, put_placed_item, of_entries, of_duration, of_tagged, of_hash_map}
 use Rattle.pagable_laws.proofs.Words.{Shape, nothing, unsigned, signed, flag, letter, duration, json, optional, outcome, list, run, array, both, sorted_map, placed_map, hash_map, sorted_set}
@@ -201,7 +201,4 @@ lasting {A} {B} context s front x y e is not_end not_keys =
     let goes = (read_tame context s).goes front (rest x y) in
     let P : Result (Meaning B × Rest A) Error → Type 0 = λ r. Goes more (rest x y) r (read context s (with_more front x y)) in
     let or_end = subst P is goes in
-    elim or_end [
-      | inl end ↦ elim end [ inl h ↦ absurd (not_end h) | inr h ↦ absurd (not_keys h) ]
-      | inr h ↦ h
-    ]
+    grind (arith, nat_tests, read_tame)

@@ -10,12 +10,7 @@ use Rattle.pagable_laws.specs.TwoLevels as two
 
 infixr 3 ◌⨾◌
 few-as : (w w' : Core) → w'.cells ≡ w.cells → w'.loads ≡ w.loads → w'.workers ≡ w.workers → IsFew w → IsFew w'
-few-as w w' same_cells same_loads same_workers few =
-    record {
-      cells = λ n lt. ap (λ f. f n) same_cells ∙ few.cells n lt;
-      loads = λ l lt. ap (λ f. f l) same_loads ∙ few.loads l lt;
-      workers = λ v lt. ap (λ f. f v) same_workers ∙ few.workers v lt;
-    }
+few-as w w' same_cells same_loads same_workers few = grind (arith, nat_tests)
 
 few-fallen : (w : Core) (gone : ℕ → Bool) → is_low (fallen w gone []) ≡ true → ((l : ℕ) → 3 < l → w.loads l ≡ None) → ((v : ℕ) → 1 < v → w.workers v ≡ false) → IsFew (fallen w gone [])
 few-fallen w gone low loads workers = record { cells = λ n lt. let e = held-past (fallen w gone []).rows low n lt in rw e refl; loads = loads; workers = workers }
@@ -25,15 +20,7 @@ knows-none w none = record { knows = λ kind key n is. let e = none kind key in 
 
 knows-third : (w : Core) → ((kind key : ℕ) → w.cache kind key ≡ two.child_got.cache kind key) → 3 ≤ w.last.node → KnowsThird w
 unfolding is_named_by
-knows-third w same given = record { knows = λ kind key n is. part kind key n is (kind == 4) (key == 8) refl refl }
-  where
-    part : (kind key n : ℕ) → w.cache kind key ≡ Some n → (a b : Bool) → (kind == 4) ≡ a → (key == 8) ≡ b → (kind ≡ 4) × (n ≡ 3) × (3 ≤ w.last.node)
-    part kind key n is true true e f =
-        let g : two.child_got.cache kind key ≡ Some 3 = rw (e, f) refl in
-        let h : Some 3 ≡ Some n = sym g ∙ sym (same kind key) ∙ is in
-        (grind (arith, nat_tests), cc, given)
-    part kind key n is true false e f = let g : two.child_got.cache kind key ≡ None = rw (e, f) refl in let h = same kind key in absurd (cc)
-    part kind key n is false b e f = let g : two.child_got.cache kind key ≡ None = rw e refl in let h = same kind key in absurd (cc)
+knows-third w same given = grind (arith, nat_tests)
 
 -- ---- each pager
 
@@ -172,27 +159,12 @@ read-back-passes = search (few-read-back, knows-third two.read_back (λ kind key
 -- ---- the machine over it
 
 pub only-at : {X : Type 0} (m : ℕ) (x : X) (P : ℕ → X → Type 0) → P m x → (n : ℕ) (y : X) → two.only m x n ≡ Some y → P n y
-only-at m x P holds n y is = part (n == m) refl
-  where
-    part : (b : Bool) → (n == m) ≡ b → P n y
-    part true e =
-        let a : two.only m x n ≡ Some x = rw e refl in
-        let i : Some x ≡ Some y = sym a ∙ is in
-        let f : x ≡ y = cc in
-        let g : m ≡ n = grind (arith, nat_tests) in
-        subst (λ k. P k y) g (subst (P m) f holds)
-    part false e = let a : two.only m x n ≡ None = rw e refl in absurd (cc)
+only-at m x P holds n y is = grind (arith, nat_tests)
 
 -- nobody works
 pub idle-whole : (w : Core) (vs : List (Option two.Sample)) (shelves : ℕ → Shelf) (last : ℕ) → Passes w vs → w.workers ≡ (λ v. false)
     → IsMachineWhole two.sample (two.machine w vs (record no_work { shelves = shelves; last_table = last }))
-idle-whole w vs shelves last p none =
-    record {
-      pager = whole-so w vs p;
-      readings = λ l r is. absurd (cc);
-      walkings = λ n walking is. absurd (cc);
-      all_there = λ n is. let e : w.workers n ≡ false = ap (λ f. f n) none in absurd (cc);
-    }
+idle-whole w vs shelves last p none = grind (arith, nat_tests, whole-so)
 
 -- the worker is at work, or has answered; and this load is read, or none
 pub work-whole : (w : Core) (vs : List (Option two.Sample)) (shelf : Shelf) (walking : Walking) (readings : ℕ → Option Reading) → Passes w vs → walking.table ≡ 1 → w.workers 0 ≡ false
@@ -225,18 +197,10 @@ same-shelf s = record { slots = λ i. refl; waits = λ v. refl }
 
 -- what is changed again, at the same number
 pub again : {X : Type 0} (n : ℕ) (x y : X) (f : ℕ → X) (q : ℕ) → updated n y f q ≡ updated n y (updated n x f) q
-again n x y f q = part (q == n) refl
-  where
-    part : (b : Bool) → (q == n) ≡ b → updated n y f q ≡ updated n y (updated n x f) q
-    part true e = rw e refl
-    part false e = rw e refl
+again n x y f q = grind (arith, nat_tests)
 
 pub shelf-again : (x y : Shelf) (t : ℕ) → SameShelf (updated 1 y (updated 1 x (λ q. no_shelf)) t) (updated 1 y (λ q. no_shelf) t)
-shelf-again x y t = part (t == 1) refl
-  where
-    part : (b : Bool) → (t == 1) ≡ b → SameShelf (updated 1 y (updated 1 x (λ q. no_shelf)) t) (updated 1 y (λ q. no_shelf) t)
-    part true e = rw e (same-shelf y)
-    part false e = rw e (same-shelf no_shelf)
+shelf-again x y t = grind (arith, nat_tests, same-shelf)
 
 pub none-there : {X Y : Type 0} (found : Option Y) (x : Option X) → x ≡ None → x ≡ if_there (λ (y : Y). x) None found
 none-there (Some y) x is = refl

@@ -79,20 +79,7 @@ module _ (rows : List HandleRow) (low : all_pass row_low rows ≡ true) where
 -- ---- what falls
 
 pub alike-self : (w : Core) → Alike w w
-alike-self w =
-    record {
-      rows = refl;
-      cells = λ n. refl;
-      list = refl;
-      cache = record { gives = λ kind key. refl; only = λ kind key n is. is };
-      stored = λ key. refl;
-      closed = refl;
-      failures = refl;
-      loads = λ l. refl;
-      workers = λ v. refl;
-      last = refl;
-      places = record { handles = omega arith; entries = omega arith };
-    }
+alike-self w = grind (arith, nat_tests, and_parts)
 
 -- no cell without a key loses its last pin
 abbrev pub lists_none : Core → Core → (ℕ → Bool) → ℕ → Bool
@@ -281,9 +268,7 @@ module _ (w : Core) (vs : List (Option Sample)) (p : Passes w vs) where
   owner-low h among = (low-parts h (all-among row_low w.rows h p.low among)).2
 
   node-given : (n : ℕ) → is_some (w.cells n) ≡ true → (0 < n) × (n ≤ w.last.node)
-  node-given n some =
-      let a = by-number 3 (node_given w) never p.given (λ n lt. let e = p.few.cells n lt in rw e refl) n in
-      (grind (arith, nat_tests), grind (arith, nat_tests))
+  node-given n some = grind (arith, nat_tests, and_parts, by-number)
 
   live : (n : ℕ) → is_some (w.cells n) ≡ nat_lt 0 (held n w.rows)
   live = by-number 3 (λ n. is_some (w.cells n)) (λ n. nat_lt 0 (held n w.rows)) p.live (λ n lt. let e = p.few.cells n lt in let f = held-past w.rows p.low n lt in rw (e, f) refl)
@@ -299,21 +284,7 @@ module _ (w : Core) (vs : List (Option Sample)) (p : Passes w vs) where
       (grind (arith, nat_tests), grind (arith, nat_tests), is-caller load.owner d.0, d.1)
 
   root-whole : (node : _) (t : ℕ) (h : _) → root_fits w (of_cell node t h) ≡ true → IsRootWhole w node t h
-  root-whole node t h ok =
-      let a = and_parts (if_there (λ u. u == t) true (type_at w node.0))
-      (if_there (λ (row : HandleRow). row.node.0 == node.0 && is_loose row.mode) true (row_at w h) && (nat_le h.0 w.last.handle && nat_le node.0 w.last.node)) ok in
-      let b = and_parts (if_there (λ (row : HandleRow). row.node.0 == node.0 && is_loose row.mode) true (row_at w h)) (nat_le h.0 w.last.handle && nat_le node.0 w.last.node) a.1 in
-      let c = and_parts (nat_le h.0 w.last.handle) (nat_le node.0 w.last.node) b.1 in
-      let d = c.0 in let e = c.1 in
-      record {
-        typed = λ u is. let f = some-of (λ u. u == t) (type_at w node.0) u a.0 is in grind (arith, nat_tests);
-        begun = λ row is.
-            let f = some-of (λ (row : HandleRow). row.node.0 == node.0 && is_loose row.mode) (row_at w h) row b.0 is in
-            let g = and_parts (row.node.0 == node.0) (is_loose row.mode) f in
-            let same : row.node.0 ≡ node.0 = let i = g.0 in grind (arith, nat_tests) in
-            (ap (λ k. record { 0 = k }) same, g.1);
-        given = (grind (arith, nat_tests), grind (arith, nat_tests));
-      }
+  root-whole node t h ok = grind (arith, nat_tests, and_parts, some-of)
 
   -- a test of a node's value
   of-value : (test : ℕ → Sample → Bool) → agree_below (λ n. if_there (test n) true (value_at vs n)) (λ n. true) 4 ≡ true → (n : ℕ) (x : Sample) → value_at vs n ≡ Some x → test n x ≡ true
@@ -349,14 +320,7 @@ module _ (w : Core) (vs : List (Option Sample)) (p : Passes w vs) where
           rw (a, c) refl
 
   refers-well : (n : ℕ) (r : ArcRef) → reference_stands w n r ≡ true → IsReference w (owner_value n) r
-  refers-well n r ok =
-      let a = and_parts (nat_le r.handle.0 13) (if_there (row_refers n r) false (row_at w r.handle) && is_type (type_of r.kind.0) (type_at w r.node.0)) ok in
-      let b = and_parts (if_there (row_refers n r) false (row_at w r.handle)) (is_type (type_of r.kind.0) (type_at w r.node.0)) a.1 in
-      let found = found-of (row_refers n r) (row_at w r.handle) b.0 in
-      let c = and_parts (nat_eq found.0.node.0 r.node.0) (is_owner (owner_value n) found.0.owner && fits_mode r.kind.0 found.0.mode) found.2 in
-      let d = and_parts (is_owner (owner_value n) found.0.owner) (fits_mode r.kind.0 found.0.mode) c.1 in
-      let same : found.0.node.0 ≡ r.node.0 = let e = c.0 in grind (arith, nat_tests) in
-      record { row = found.0; live = found.1; at = ap (λ k. record { 0 = k }) same; owned = is-value n found.0.owner d.0; fits = d.1; typed = typed-by (type_of r.kind.0) (type_at w r.node.0) b.1 }
+  refers-well n r ok = grind (arith, nat_tests, and_parts, found-of, live, is-value, typed-by)
 
   entry-shares : (h : HandleRow) → Among w.rows h → is_shared h.mode ≡ false
   entry-shares h among = not-true (is_shared h.mode) (low-parts h (all-among row_low w.rows h p.low among)).1
@@ -375,15 +339,7 @@ module _ (w : Core) (vs : List (Option Sample)) (p : Passes w vs) where
   no-list o ok is = let a : owner_low Owner.List ≡ true = subst (λ o. owner_low o ≡ true) is ok in absurd (cc)
 
   list-owns-none : (q : ℕ) → times (λ h. is_handle q h && is_owned_by Owner.List h) w.rows ≡ 0
-  list-owns-none q = none-pass row_low (λ h. is_handle q h && is_owned_by Owner.List h) w.rows p.low (λ h ok. let a = not-lists h.owner (low-parts h ok).2 in rw a (and-false (is_handle q h)))
-    where
-      not-lists : (o : Owner) → owner_low o ≡ true → is_owner Owner.List o ≡ false
-      not-lists Owner.List ok = absurd (cc)
-      not-lists _ ok = refl
-
-      and-false : (b : Bool) → (b && false) ≡ false
-      and-false true = refl
-      and-false false = refl
+  list-owns-none q = grind (arith, nat_tests, and_parts, none-pass, low-parts)
 
   pub whole-so : WellFormed sample (machine w vs no_work).pager
   whole-so =

@@ -66,22 +66,12 @@ writes-it core shelf r through written below =
 
 pub stored-so : (core : Core) (key : ℕ) (blob : Blob) → key ≡ digest two.sample blob → core.closed ≡ false → core.stored key ≡ None
     → StoreCall (digest two.sample) core blob (Ok key) (two.with_blob core key blob)
-stored-so core key blob is open_still free =
-    record {
-      stores = (is, record { stands_open = open_still; adds = record { each = λ q. refl; free = inl free }; fails = omega arith; leaves = alike-self (two.with_blob core key blob) });
-      refused = tt;
-    }
+stored-so core key blob is open_still free = grind (arith, nat_tests, alike-self)
 
 pub stores-it : (core : Core) (shelf : Shelf) (o : Open) (key : ℕ) (below : List Todo) → let blob = blob_of o.written.bytes o.keys in
     length o.keys ≡ length o.written.references → key ≡ digest two.sample blob → core.closed ≡ false → core.stored key ≡ None
     → Walks core shelf (to_finish o ∷ below) (Took.Store (Some (identity_of o.reference)) (Ok key)) (two.with_blob core key blob) shelf (to_set o.reference o.through key o.height ∷ below)
-stores-it core shelf o key below all is open_still free =
-    record {
-      does = (
-        refl,
-        record { all = all; stored = stored-so core key (blob_of o.written.bytes o.keys) is open_still free; goes = record { table_stays = same-shelf shelf; list_is = refl }; refused = tt },
-      );
-    }
+stores-it core shelf o key below all is open_still free = grind (arith, nat_tests, stored-so, same-shelf)
 
 -- the key is set through a loose handle of the worker's, and nothing falls
 pub keys-it : (core : Core) (shelf : Shelf) (n : ℕ) (r : ArcRef) (through : HandleNumber) (key height : ℕ) (below : List Todo) → let w = with_key core (two.node n) key in
@@ -119,10 +109,7 @@ releases-it core shelf r key below low few none ok =
 pub ends-it : (core : Core) (shelf : Shelf) (written : Written) (keys : List ℕ) (key : ℕ) → let blob = blob_of written.bytes keys in
     length keys ≡ length written.references → key ≡ digest two.sample blob → core.closed ≡ false → core.stored key ≡ None
     → Walks core shelf (to_item written keys ∷ []) (Took.Store None (Ok key)) (two.with_blob core key blob) shelf []
-ends-it core shelf written keys key all is open_still free =
-    record {
-      does = (refl, record { all = all; stored = stored-so core key (blob_of written.bytes keys) is open_still free; goes = record { table_stays = same-shelf shelf; list_is = refl }; refused = tt });
-    }
+ends-it core shelf written keys key all is open_still free = grind (arith, nat_tests, stored-so, same-shelf)
 
 -- ---- the page-out of the chain of two levels is one of the machine
 
