@@ -1,7 +1,8 @@
 -- What a handle lends.
-use Rattle.std.proofs.Common.{◌≡◌, ◌&&◌, Bool, true, false, refl, ap, sym, ◌∙◌, arith, Ok, Some, None, if◌then◌else◌}
+use Rattle.std.proofs.Common.{◌≡◌, ◌&&◌, Bool, true, false, refl, ap, sym, ◌∙◌, arith, Ok, Err, Some, None, if◌then◌else◌}
 use Rattle.std.specs.Prelude.{Option, is_some, nat_lt}
 use Rattle.std.proofs.lemmas.Bool.Decides.{nat_tests}
+use Rattle.pagable_model.specs.declared.error.Error.{Error}
 use Rattle.pagable_world.specs.declared.handles.HandleRow.{HandleRow}
 use Rattle.pagable_world.specs.Plain.{HandleNumber, NodeNumber}
 use Rattle.pagable_world.specs.Kinds.{is_pinning, held}
@@ -26,6 +27,9 @@ module _ {N E : Type 0} {v : Values N} (s : PagerState N E) (is : WellFormed v s
   -- nothing is lent by a handle that pins nothing
   pub lends-none : Looks s.core h (λ node row. node ≡ (if is_pinning row.mode then Some row.node else None)) (Ok None) → ValueCall s h (Ok None)
   lends-none l = let row = l.found.0 in record { found = (row, l.found.1, no-pin row (is_pinning row.mode) refl l.found.2); refused = tt }
+
+  pub lends-fault : (e : Error) → Looks s.core h (λ node row. node ≡ (if is_pinning row.mode then Some row.node else None)) (Err e) → ValueCall s h (Err e)
+  lends-fault e l = record { found = tt; refused = l.refused }
 
   node-is : (m n : NodeNumber) → Some m ≡ Some n → m.0 ≡ n.0
   node-is m n e = ap (λ (o : Option NodeNumber). elim o [ None ↦ 0 | Some k ↦ k.0 ]) e

@@ -1,8 +1,6 @@
 //! A pager that is lent, as an access.
 
-ghost use Rattle.std.specs.Prelude.{◌≡◌, IsSome, true};
-ghost use Rattle.pagable_world.specs.World.{row_at};
-ghost use Rattle.pagable_loads.specs.Telling.{IsMade};
+ghost use Rattle.std.specs.Prelude.{◌≡◌, true};
 ghost use Rattle.pagable_pager.specs.View.{core_in, telling, is_at_work};
 ghost use Rattle.pagable_world.specs.declared.handles.Owner.TheVariants as owners;
 
@@ -56,18 +54,6 @@ where
         Lent {
             pager,
             me: Owner::Worker(worker),
-        }
-    }
-
-    // The reference that stands for a live handle, as this kind.
-    fn reference(&self, kind: Kind, handle: HandleNumber) -> ArcRef
-        requires { IsSome (row_at (core_in (telling S.stored S.is_closed S.failed) self.now.pager.now) handle) }
-        ensures made { IsMade (core_in (telling S.stored S.is_closed S.failed) self.now.pager.now) kind result }
-        ensures handle { result.handle ≡ handle }
-    {
-        match self.pager.node_of(handle) {
-            Ok(node) => ArcRef { kind, node, handle },
-            Err(_) => unreachable!(),
         }
     }
 }
@@ -175,7 +161,7 @@ where
             .load_fetch_by(self.me, alloc, load, Want::Nested(kind, key));
         self.pager.is_whole();
         match found {
-            Ok(Either::Left(handle)) => Ok(Either::Left(self.reference(kind, handle))),
+            Ok(Either::Left(handle)) => Ok(Either::Left(self.pager.reference(kind, handle))),
             Ok(Either::Right(blob)) => Ok(Either::Right(blob)),
             Err(e) => Err(e),
         }
@@ -192,7 +178,7 @@ where
         let taken = self.pager.load_lazy_by(self.me, alloc, load, kind, key);
         self.pager.is_whole();
         match taken {
-            Ok(handle) => Ok(self.reference(kind, handle)),
+            Ok(handle) => Ok(self.pager.reference(kind, handle)),
             Err(e) => Err(e),
         }
     }
@@ -211,7 +197,7 @@ where
             .load_adopt_by(self.me, alloc, load, kind, key, node);
         self.pager.is_whole();
         match adopted {
-            Ok(handle) => Ok(self.reference(kind, handle)),
+            Ok(handle) => Ok(self.pager.reference(kind, handle)),
             Err(refused) => Err(refused),
         }
     }

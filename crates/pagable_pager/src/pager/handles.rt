@@ -1,14 +1,16 @@
 //! Handles that come to live nodes, and what is asked of them.
 
-ghost use Rattle.std.specs.Prelude.{◌≡◌, true};
+ghost use Rattle.std.specs.Prelude.{◌≡◌, IsSome, true};
 ghost use Rattle.pagable_world.specs.declared.handles.Owner.TheVariants as owners;
+ghost use Rattle.pagable_world.specs.World.{row_at};
+ghost use Rattle.pagable_loads.specs.Telling.{IsMade};
 ghost use Rattle.pagable_world.specs.Calls.{CloneCall, PinCall, LoosenCall, CountCall, KeyCall, AwayCall, NodeCall, TypeCall};
 ghost use Rattle.pagable_pager.specs.View.{core_in, telling, OnlyTables, is_at_work};
 
 use crate::pager::Pager;
 use pagable_codec::{Env, NodeSet};
 use pagable_core::PagableStorage;
-use pagable_model::{Error, HandleNumber, NodeNumber, OptionalDataKey};
+use pagable_model::{ArcRef, Error, HandleNumber, Kind, NodeNumber, OptionalDataKey};
 use pagable_tables::{lookups, making, pinning, turning};
 use pagable_world::Pinning;
 use pagable_world::handles::Owner;
@@ -99,5 +101,17 @@ where
         ensures { TypeCall (core_in (telling S.stored S.is_closed S.failed) self.now) node result }
     {
         lookups::node_live(&self.tables, node)
+    }
+
+    // The reference that stands for a live handle, as this kind.
+    pub(crate) fn reference(&self, kind: Kind, handle: HandleNumber) -> ArcRef
+        requires { IsSome (row_at (core_in (telling S.stored S.is_closed S.failed) self.now) handle) }
+        ensures made { IsMade (core_in (telling S.stored S.is_closed S.failed) self.now) kind result }
+        ensures handle { result.handle ≡ handle }
+    {
+        match self.node_of(handle) {
+            Ok(node) => ArcRef { kind, node, handle },
+            Err(_) => unreachable!(),
+        }
     }
 }
