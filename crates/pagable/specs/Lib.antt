@@ -1,4 +1,5 @@
 pub mod Taken
+pub mod Paged
 -- The words of the clauses about values, blobs and keys, so that a crate with types of its own names `pagable` alone.
 pub use Rattle.pagable_model.specs.Basic
 pub use Rattle.pagable_model.specs.Blob

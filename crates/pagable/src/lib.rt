@@ -50,7 +50,7 @@ pub mod pagable_arc {
     pub use pagable_world::handles::Owner;
     pub use pagable_world::{
         Beginning, Call, Event, EventReply, Found, LoadAnswer, LoadReply, Mode, Pinning, Reply,
-        Want,
+        Want, WorkerAnswer,
     };
 }
 
@@ -139,4 +139,5 @@ pub use pagable_traits::{
 pub use pagable_world::handles::Owner;
 pub use pagable_world::{
     Beginning, Call, Event, EventReply, Found, LoadAnswer, LoadReply, Mode, Pinning, Reply, Want,
+    WorkerAnswer,
 };

@@ -1,4 +1,4 @@
-//! Pins and readings of a lent pager; and page-out by its pure calls, one after the other, for values without references.
+//! Pins, readings and page-outs of a lent pager.
 
 ghost use Rattle.std.specs.Prelude.{◌≡◌};
 ghost use Rattle.std.specs.Arc.{arc_value};
@@ -7,14 +7,19 @@ ghost use Rattle.pagable_world.specs.World.{seen_as};
 ghost use Rattle.pagable_world.specs.Access.{PinsOver, ReadsOver};
 ghost use Rattle.pagable_loads.specs.Telling.{values_at};
 ghost use Rattle.pagable_pager.specs.View.{state_in, telling};
+ghost use Rattle.pagable_walk.specs.Over.{PagesItem, PagesList};
+ghost use Rattle.pagable_walk.specs.Slots.{written_of};
+ghost use Rattle.pagable_walk.specs.Table.{shelf_of};
+ghost use Rattle.pagable.specs.Paged.{PagesOutItem, PagesOutList};
 ghost use Rattle.pagable.specs.Taken.{ReadsValue};
 
-use pagable_codec::{Env, NodeSet, OfNode, SessionContext};
-use pagable_core::{PagableData, PagableStorage, SerializerForPaging};
+use pagable_codec::{Env, NodeSet, OfNode};
+use pagable_core::{PagableStorage, SerializedData};
 use pagable_loads::{pin_over, read_over};
 use pagable_model::{DataKey, Error, HandleNumber};
 use pagable_pager::{Lent, Pager};
-use pagable_world::Pinning;
+use pagable_walk::{SlotTable, page_out_item_over, page_out_pending_over};
+use pagable_world::WorkerAnswer;
 use std::alloc::Global;
 use std::sync::Arc;
 
@@ -106,92 +111,69 @@ where
     }
 }
 
-/// Pages out the entries that stand in the list at the call, from the last to the first, and stops at the first
+// A page-out of an item by a lent pager.
+fn page_out_item_by<'a, E: Env, S: PagableStorage<E>>(
+    lent: &mut Lent<'a, E, S>,
+    alloc: Global,
+    table: &mut SlotTable<E>,
+    item: Arc<SerializedData>,
+) -> WorkerAnswer
+where
+    E::Node: NodeSet<E>,
+    requires caller { lent.old.me ≡ owners.Caller }
+    ensures pages { PagesItem (values_at E.Node.NodeSet E.Env E.Hash.KeyHash lent.old.pager.now.environment) (shelf_of table.old) (written_of (arc_value item)) (shelf_of table.new) result
+        (state_in (telling S.stored S.is_closed S.failed) lent.old.pager.now) (state_in (telling S.stored S.is_closed S.failed) lent.new.pager.now) }
+    ensures lender { lent.new.pager.ghost_name ≡ lent.old.pager.ghost_name }
+{
+    page_out_item_over(lent, alloc, table, item)
+}
+
+/// Pages out what an item refers to, on a table of its own, and then the item itself: answers its key, or why it failed. Whatever it answers,
+/// the caller owns afterwards the handles that it owned before.
+pub fn page_out_item<E: Env, S: PagableStorage<E>>(
+    alloc: Global,
+    pager: &mut Pager<E, S>,
+    item: Arc<SerializedData>,
+) -> WorkerAnswer
+where
+    E::Node: NodeSet<E>,
+    ensures pages { PagesOutItem (values_at E.Node.NodeSet E.Env E.Hash.KeyHash pager.old.environment) (state_in (telling S.stored S.is_closed S.failed) pager.old)
+        (written_of (arc_value item)) result (state_in (telling S.stored S.is_closed S.failed) pager.new) }
+{
+    pager.is_whole();
+    let mut lent = Lent::new(pager);
+    let mut table = SlotTable::new(alloc);
+    page_out_item_by(&mut lent, alloc, &mut table, item)
+}
+
+// A page-out of the list by a lent pager.
+fn page_out_pending_by<'a, E: Env, S: PagableStorage<E>>(
+    lent: &mut Lent<'a, E, S>,
+    alloc: Global,
+) -> Result<(), WorkerAnswer>
+where
+    E::Node: NodeSet<E>,
+    requires caller { lent.old.me ≡ owners.Caller }
+    ensures pages { PagesList (values_at E.Node.NodeSet E.Env E.Hash.KeyHash lent.old.pager.now.environment) result
+        (state_in (telling S.stored S.is_closed S.failed) lent.old.pager.now) (state_in (telling S.stored S.is_closed S.failed) lent.new.pager.now) }
+    ensures lender { lent.new.pager.ghost_name ≡ lent.old.pager.ghost_name }
+{
+    page_out_pending_over(lent, alloc)
+}
+
+/// Pages out the entries that stand in the list at the call, with all that they refer to, from the last to the first, and stops at the first
 /// failure, which it answers. What is listed meanwhile waits for the next call. An entry whose cell has a key is only
-/// released; one whose page-out fails is listed again, at the end. A value that holds references is refused as WrongKind.
-/// Whatever it answers, the caller owns afterwards the handles that it owned before.
+/// released; one whose page-out fails before it is pinned is listed again, at the end.
 pub fn page_out_pending<E: Env, S: PagableStorage<E>>(
     alloc: Global,
     pager: &mut Pager<E, S>,
-) -> Result<(), Error>
+) -> Result<(), WorkerAnswer>
 where
     E::Node: NodeSet<E>,
+    ensures pages { PagesOutList (values_at E.Node.NodeSet E.Env E.Hash.KeyHash pager.old.environment) (state_in (telling S.stored S.is_closed S.failed) pager.old)
+        result (state_in (telling S.stored S.is_closed S.failed) pager.new) }
 {
-    let count = pager.pending();
-    for place in (0..count).rev() {
-        if let Some(entry) = pager.take_pending(place) {
-            page_out_entry(alloc, pager, entry)?;
-        }
-    }
-    Ok(())
-}
-
-/// Pages out the cell of an entry that was taken from the list, and gives the entry up.
-fn page_out_entry<E: Env, S: PagableStorage<E>>(
-    alloc: Global,
-    pager: &mut Pager<E, S>,
-    entry: HandleNumber,
-) -> Result<(), Error>
-where
-    E::Node: NodeSet<E>,
-{
-    if pager.key(entry)?.is_some() {
-        return pager.release(entry);
-    }
-    let outcome = store_pinned(alloc, pager, entry);
-    // The entry's own pin goes last, so that a cell without a key is listed anew.
-    let released = pager.release(entry);
-    outcome?;
-    released
-}
-
-/// Pins an entry's cell while its value is stored.
-fn store_pinned<E: Env, S: PagableStorage<E>>(
-    alloc: Global,
-    pager: &mut Pager<E, S>,
-    entry: HandleNumber,
-) -> Result<(), Error>
-where
-    E::Node: NodeSet<E>,
-{
-    let Pinning::Pinned(pinned) = pager.pin(entry)? else {
-        return Ok(());
-    };
-    let outcome = store(alloc, pager, entry, pinned);
-    let _ = pager.release(pinned);
-    outcome
-}
-
-/// Stores the value of a pinned cell, and gives the cell its key.
-fn store<E: Env, S: PagableStorage<E>>(
-    alloc: Global,
-    pager: &mut Pager<E, S>,
-    entry: HandleNumber,
-    pinned: HandleNumber,
-) -> Result<(), Error>
-where
-    E::Node: NodeSet<E>,
-{
-    let Some(value) = pager.value(pinned)? else {
-        return Err(Error::NoSuchHandle);
-    };
-    let bytes = written(alloc, pager.env(), value)?;
-    let arcs = Vec::new(alloc);
-    let key = pager.store(alloc, PagableData { bytes, arcs })?;
-    pager.set_data_key(entry, key)
-}
-
-/// The bytes of a value without references, written in a session of its own.
-fn written<E: Env>(alloc: Global, env: &E, value: &E::Node) -> Result<Vec<u8>, Error>
-where
-    E::Node: NodeSet<E>,
-{
-    let session = SessionContext::new(alloc);
-    let mut serializer = SerializerForPaging::new(alloc, env, &session);
-    value.write(&mut serializer)?;
-    let (bytes, refs) = serializer.finish();
-    if !refs.is_empty() {
-        return Err(Error::WrongKind);
-    }
-    Ok(bytes)
+    pager.is_whole();
+    let mut lent = Lent::new(pager);
+    page_out_pending_by(&mut lent, alloc)
 }

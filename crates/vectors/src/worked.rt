@@ -6,7 +6,7 @@ use crate::calls::{Calls, CellPager, pager_over};
 use crate::lines;
 use anyhow::{Context, bail, ensure};
 use pagable::paging::{page_out_pending, pin};
-use pagable::{DataKey, Error, PagableSerialize, PagableVecFlavor};
+use pagable::{DataKey, Error, PagableSerialize, PagableVecFlavor, WorkerAnswer};
 use row_values::carried::{AnyEnv, written};
 use serde_json::Value;
 use std::alloc::Global;
@@ -145,7 +145,9 @@ fn list_twice(alloc: Global, pager: &mut CellPager) -> anyhow::Result<()> {
 fn is_stored_once(alloc: Global, pager: &mut CellPager) -> anyhow::Result<bool> {
     list_twice(alloc, pager)?;
     let listed = pager.pending();
-    page_out_pending(alloc, pager)?;
+    if let Err(WorkerAnswer::Failed(e)) = page_out_pending(alloc, pager) {
+        return Err(e.into());
+    }
     let key = DataKey::new(1209).context("0 is no key")?;
     let fetched = pager.fetch(alloc, key).err();
     Ok(listed == 2 && pager.pending() == 0 && fetched == Some(Error::Storage(7)))

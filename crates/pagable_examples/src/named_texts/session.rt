@@ -2,7 +2,9 @@
 
 use crate::named_texts::command::{Command, Verb};
 use crate::text::{TextEnv, TextNode};
-use pagable::{Error, HandleNumber, InMemoryBlobs, KeyHash, OptionalDataKey, Pager, paging};
+use pagable::{
+    Error, HandleNumber, InMemoryBlobs, KeyHash, OptionalDataKey, Pager, WorkerAnswer, paging,
+};
 use std::alloc::{AllocError, Global};
 use std::collections::HashMap;
 use std::collections::hash_map::{Entry, VacantEntry};
@@ -67,10 +69,11 @@ impl<H: KeyHash> Session<H> {
                 Ok(ask(&mut self.pager, verb, handle)?)
             }
             Command::Pending => Ok(Answer::Number(self.pager.pending() as u128)),
-            Command::PageOut => {
-                paging::page_out_pending(alloc, &mut self.pager)?;
-                Ok(Answer::Text("ok"))
-            }
+            Command::PageOut => match paging::page_out_pending(alloc, &mut self.pager) {
+                Ok(()) => Ok(Answer::Text("ok")),
+                Err(WorkerAnswer::Failed(e)) => Err(Refusal::Error(e)),
+                Err(_) => Ok(Answer::Text("already failed")),
+            },
         }
     }
 

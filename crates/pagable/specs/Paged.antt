@@ -1,0 +1,18 @@
+-- What a page-out over a lent pager answers, and what it leaves.
+use Rattle.std.specs.Prelude.{ℕ, length, Result}
+use Rattle.pagable_world.specs.declared.events.WorkerAnswer.{WorkerAnswer}
+use Rattle.pagable_world.specs.World.{Shelf, Values, Written}
+use Rattle.pagable_world.specs.Events.{no_shelf}
+use Rattle.pagable_world.specs.Pager.{PagerState}
+use Rattle.pagable_world.specs.Access.{PagesOutItemOver}
+use Rattle.pagable_walk.specs.Over.{ListRun}
+use Rattle.pagable_walk.specs.Turns.{plain}
+
+-- an item, on a table of its own
+pub record PagesOutItem {N E : Type 0} (v : Values N) (s : PagerState N E) (item : Written) (answer : WorkerAnswer) (s' : PagerState N E) : Type 0 where
+  pub shelf : Shelf
+  pub over : PagesOutItemOver (plain v) (record { pager = s; shelf = no_shelf }) item answer (record { pager = s'; shelf = shelf })
+
+-- the entries that stand in the list at the call
+pub record PagesOutList {N E : Type 0} (v : Values N) (s : PagerState N E) (answer : Result (Unit {0}) WorkerAnswer) (s' : PagerState N E) : Type 0 where
+  pub run : ListRun (plain v) (length s.core.list) s answer s'
