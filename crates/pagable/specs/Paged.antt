@@ -4,8 +4,7 @@ use Rattle.pagable_world.specs.declared.events.WorkerAnswer.{WorkerAnswer}
 use Rattle.pagable_world.specs.World.{Shelf, Values, Written}
 use Rattle.pagable_world.specs.Events.{no_shelf}
 use Rattle.pagable_world.specs.Pager.{PagerState}
-use Rattle.pagable_world.specs.Access.{PagesOutItemOver}
-use Rattle.pagable_walk.specs.Over.{ListRun}
+use Rattle.pagable_world.specs.Access.{ListRun, PagesOutItemOver}
 use Rattle.pagable_walk.specs.Turns.{plain}
 
 -- an item, on a table of its own
