@@ -10,7 +10,7 @@ use std::sync::Arc;
 
 type CellReply = Reply<CellNode, Arc<PagableData>>;
 
-type CellAnswer = EventReply<CellNode, Arc<PagableData>, SerializedData>;
+type CellAnswer = EventReply<CellNode, Arc<PagableData>, Arc<SerializedData>>;
 
 /// A word, and at most two numbers behind it.
 type Told = (&'static str, Option<u128>, Option<u128>);
