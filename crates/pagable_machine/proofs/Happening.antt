@@ -24,7 +24,7 @@ use Rattle.pagable_world.specs.declared.events.TableNumber.{TableNumber}
 use Rattle.pagable_world.specs.declared.handles.Owner.TheVariants as owners
 use Rattle.pagable_world.specs.Kinds.{is_owner}
 use Rattle.pagable_world.specs.Plain.{Blob, if_there}
-use Rattle.pagable_world.specs.World.{Core, OpenLoad, Seen, Values}
+use Rattle.pagable_world.specs.World.{Core, OpenLoad, Seen, Values, Written}
 use Rattle.pagable_world.specs.Refusals.{load_fault, refused_if}
 use Rattle.pagable_world.specs.LoadCalls.{DropCall}
 use Rattle.pagable_world.specs.Workers.{fresh}
@@ -35,11 +35,14 @@ use Rattle.pagable_loads.specs.declared.reading.Reading.{Reading as Own}
 use Rattle.pagable_loads.specs.Frames.{reading_of}
 use Rattle.pagable_pager.specs.View.{PagerView, Telling, core_in, state_in}
 use Rattle.pagable_pager.specs.Opened.{ReadsAs}
-use Rattle.pagable_machine.specs.Serving.{Serves, plainly}
-use Rattle.pagable_machine.specs.Keeping.{BeginsNoKey, Forgets, IsPrepared, IsTaken, KeepsOne, Kept, Makes, Stepped, CountsStep, rest_after}
-use Rattle.pagable_machine.specs.Driving.{Answer, Drives, Given, IsInStep, Readings, kept_at, over}
-use Rattle.pagable_machine.proofs.Keeping.{call-made, faulty, key-refused, key-starts, never-typed, no-place, own-steps, refuses-step, starts}
-use Rattle.pagable_machine.proofs.Keeping.{no-item-started, no-listed-started, no-table-made, no-worker-steps}
+use Rattle.pagable_walk.specs.declared.results.Trees.{Ghosts}
+use Rattle.pagable_walk.specs.Turns.{plain}
+use Rattle.pagable_machine.specs.declared.held.Held.{Held}
+use Rattle.pagable_machine.specs.Serving.{Serves}
+use Rattle.pagable_machine.specs.Keeping.{BeginsNoKey, Forgets, Holding, IsPrepared, IsTaken, KeepsOne, Kept, Makes, Stepped, CountsStep, rest_after}
+use Rattle.pagable_machine.specs.Driving.{Answer, Drives, Given, IsInStep, Readings, holding, kept_at, over}
+use Rattle.pagable_machine.proofs.Keeping.{call-made, key-refused, key-starts, starts}
+use Rattle.pagable_machine.proofs.Loading.{faulty, never-typed, no-place, own-steps, refuses-step}
 
 -- nothing is forgotten where all stays
 pub forgets-none : (w : Core) {kept kept' : Kept} → ((q : ℕ) → kept' q ≡ kept q) → Forgets w kept kept'
@@ -59,7 +62,7 @@ closed w l why = by (w.loads l.0) why
         of false is = absurd (cc)
 
 -- what is kept anew after what was kept stayed
-pub keeps-after : {k mid kept' : Kept} {l : ℕ} {own : Option Own} → ((q : ℕ) → mid q ≡ k q) → KeepsOne mid l own kept' → KeepsOne k l own kept'
+pub keeps-after : {Y : Type 0} {k mid kept' : ℕ → Option Y} {l : ℕ} {own : Option Y} → ((q : ℕ) → mid q ≡ k q) → KeepsOne mid l own kept' → KeepsOne k l own kept'
 keeps-after as_was keeps = record { here = keeps.here; others = λ q other. keeps.others q other ∙ as_was q }
 
 -- a reading that is kept already, and one that has just begun
@@ -91,9 +94,16 @@ forgets-closed w l {kept} {kept'} why keeps =
     by q true e not = absurd (not (same-number q l.0 e))
     by q false e not = keeps.others q not
 
-module _ {N S E : Type 0} (v : E → Values N) (tells : Telling S) (old new : PagerView N S E) (kept kept' : Readings) (serving : IsInStep tells (over old kept)) where
-  abbrev m : Seen N Blob SerializedData
-  m = plainly (v old.environment)
+module _ {X : Type 0} {g : Ghosts X} {N S E : Type 0} (v : E → Values N) (tells : Telling S) (old new : PagerView N S E) (held : Held X g) (kept' : Readings) (serving : IsInStep tells (over old held))
+    (was : WellFormed (v old.environment) (state_in tells old)) where
+  abbrev m : Seen N Blob Written
+  m = plain (v old.environment)
+
+  abbrev h : Holding g
+  h = holding held
+
+  abbrev kept : Readings
+  kept = held.readings
 
   abbrev s : PagerState N E
   s = state_in tells old
@@ -102,25 +112,25 @@ module _ {N S E : Type 0} (v : E → Values N) (tells : Telling S) (old new : Pa
   s' = state_in tells new
 
   abbrev Happens : Given N → Answer N → PagerView N S E → Readings → Type 0
-  Happens event reply now left = Drives (v old.environment) tells (over old kept) event reply (over now left)
+  Happens event reply now left = Drives (v old.environment) tells (over old held) event reply (over now (record held { readings = left }))
 
   whole-still : {comes : ℕ → N → Type 0} → Moves comes s s' → WellFormed (v new.environment) s' → WellFormed (v old.environment) s'
   whole-still moves formed = subst (λ e. WellFormed (v e) s') moves.environment formed
 
   pub call-drives : (call : Call N PagableData) (reply : Reply N (Arc PagableData Global)) → Serves (v old.environment) tells old call reply new → WellFormed (v new.environment) s'
       → Forgets s'.core (kept_at kept) (kept_at kept') → Happens (events.Call call) (answers.CallReply reply) new kept'
-  call-drives call reply serves formed f = record { makes = call-made m s s' serving (whole-still serves.moves formed) _ _ serves.step serves.moves f }
+  call-drives call reply serves formed f = record { makes = call-made m s s' h (kept_at kept') serving was (whole-still serves.moves formed) _ _ serves.step serves.moves f }
 
-  pub start-drives : (h : HandleNumber) (r : Result Beginning Error) → Serves (v old.environment) tells old (calls.LoadBegin h) (replies.Begun r) new → WellFormed (v new.environment) s'
-      → Happens (events.LoadStart h) (answers.Started r) new kept
-  start-drives h r serves formed = record { makes = starts m s s' serving (whole-still serves.moves formed) h r serves.step serves.moves (forgets-none s'.core (λ q. refl)) }
+  pub start-drives : (through : HandleNumber) (r : Result Beginning Error) → Serves (v old.environment) tells old (calls.LoadBegin through) (replies.Begun r) new → WellFormed (v new.environment) s'
+      → Happens (events.LoadStart through) (answers.Started r) new kept
+  start-drives through r serves formed = record { makes = starts m s s' h h.readings serving was (whole-still serves.moves formed) through r serves.step serves.moves (forgets-none s'.core (λ q. refl)) }
 
   -- a load of a key is refused before it begins
-  pub key-full-drives : WellFormed (v old.environment) s → (key t : ℕ) (e : Error) → BeginsNoKey s.core e → ((q : ℕ) → kept_at kept' q ≡ kept_at kept q)
+  pub key-full-drives : (key t : ℕ) (e : Error) → BeginsNoKey s.core e → ((q : ℕ) → kept_at kept' q ≡ kept_at kept q)
       → Happens (events.LoadKey key t) (answers.Started (Err e)) old kept'
-  key-full-drives formed key t e refused as_was =
+  key-full-drives key t e refused as_was =
       record {
-        makes = key-refused m s s serving formed key t e (record { does = record { begins = tt; refused = refused } })
+        makes = key-refused m s s h (kept_at kept') serving was was key t e (record { does = record { begins = tt; refused = refused } })
             (record { each = λ n x is. inl is; environment = refl }) (forgets-none s.core as_was);
       }
 
@@ -131,18 +141,18 @@ module _ {N S E : Type 0} (v : E → Values N) (tells : Telling S) (old new : Pa
   key-drives key t r l own (k, is) serves formed reads key_is sort keeps =
       let made = subst (λ x. Serves (v old.environment) tells old (calls.LoadKey key) (replies.Begun x) new) is serves in
       subst (λ x. Happens (events.LoadKey key t) (answers.Started x) new kept') (sym is)
-      (record { makes = key-starts m s s' serving (whole-still made.moves formed) key t l k own made.step made.moves reads key_is sort keeps })
+      (record { makes = key-starts m s s' h (kept_at kept') serving was (whole-still made.moves formed) key t l k own made.step made.moves reads key_is sort keeps })
 
   pub key-none-drives : (key t : ℕ) (r : Result Beginning Error) → ((e : Error) × (r ≡ Err e)) ⊎ (r ≡ Ok beginnings.InMemory)
       → Serves (v old.environment) tells old (calls.LoadKey key) (replies.Begun r) new → WellFormed (v new.environment) s' → ((q : ℕ) → kept_at kept' q ≡ kept_at kept q)
       → Happens (events.LoadKey key t) (answers.Started r) new kept'
   key-none-drives key t (Err e) why serves formed as_was =
-      record { makes = key-refused m s s' serving (whole-still serves.moves formed) key t e serves.step serves.moves (forgets-none s'.core as_was) }
+      record { makes = key-refused m s s' h (kept_at kept') serving was (whole-still serves.moves formed) key t e serves.step serves.moves (forgets-none s'.core as_was) }
   key-none-drives key t (Ok beginnings.InMemory) why serves formed as_was = absurd serves.step.does.begins
   key-none-drives key t (Ok (beginnings.Load l k)) (inl (e, is)) serves formed as_was = absurd (cc)
   key-none-drives key t (Ok (beginnings.Load l k)) (inr is) serves formed as_was = absurd (cc)
 
-  module _ (was : WellFormed (v old.environment) s) (l : LoadNumber) (key : ℕ) (t : Option ℕ) (reads : ReadsAs s.core l key t) where
+  module _ (l : LoadNumber) (key : ℕ) (t : Option ℕ) (reads : ReadsAs s.core l key t) where
     pub step-drives : (kept1 kept2 : Readings) (reply : LoadReply N) → IsPrepared (kept_at kept) l key t (kept_at kept1) → CountsStep (kept_at kept1) l.0 reply (kept_at kept2)
         → ((own new : Own) → kept_at kept1 l.0 ≡ Some own → kept_at kept2 l.0 ≡ Some new → Stepped (v old.environment) owners.Caller own reply new s s')
         → KeepsOne (kept_at kept2) l.0 (rest_after reply.ended (kept_at kept2 l.0)) (kept_at kept') → Happens (events.LoadStep l) (answers.LoadMoved (Ok reply)) new kept'
@@ -152,7 +162,7 @@ module _ {N S E : Type 0} (v : E → Values N) (tells : Telling S) (old new : Pa
         let keeps : KeepsOne (kept_at kept) l.0 (rest_after reply.ended (Some step.new)) (kept_at kept') =
         record { here = ends.here ∙ ap (rest_after reply.ended) step.keeps.here; others = λ q other. ends.others q other ∙ step.keeps.others q other ∙ ready.keeps.others q other } in
         record {
-          makes = own-steps m s s' serving was l reads.load key t step.own step.new reply reads.owned reads.key_is reads.type_is taken
+          makes = own-steps m s s' h (kept_at kept') serving was l reads.load key t step.own step.new reply reads.owned reads.key_is reads.type_is taken
               (stepped step.own step.new step.was step.keeps.here) step.again step.counts step.counted keeps;
         }
 
@@ -161,34 +171,19 @@ module _ {N S E : Type 0} (v : E → Values N) (tells : Telling S) (old new : Pa
         → Happens (events.LoadStep l) (answers.LoadMoved (Ok reply)) new kept'
     no-place-drives type reply typed none is told drop moves formed as_was =
         record {
-          makes = subst (λ x. Makes m s (kept_at kept) (events.LoadStep l) (answers.LoadMoved (Ok x)) s' (kept_at kept')) (sym is)
-              (no-place m s s' serving was l reads.load type told reads.owned (reads.type_is ∙ typed) none drop moves (whole-still moves formed) as_was);
+          makes = subst (λ x. Makes m s h (events.LoadStep l) (answers.LoadMoved (Ok x)) s' (record h { readings = kept_at kept' })) (sym is)
+              (no-place m s s' h (kept_at kept') serving was l reads.load type told reads.owned (reads.type_is ∙ typed) none drop moves (whole-still moves formed) as_was);
         }
 
     pub untyped-drives : t ≡ None → kept_at kept l.0 ≡ None → ((q : ℕ) → kept_at kept' q ≡ kept_at kept q) → Happens (events.LoadStep l) (answers.LoadMoved (Err errors.WrongMode)) old kept'
     untyped-drives untyped none as_was =
-        record { makes = refuses-step m s serving was as_was l errors.WrongMode (never-typed s (kept_at kept) l reads.load reads.owned none (reads.type_is ∙ untyped)) }
+        record { makes = refuses-step m s h serving was l errors.WrongMode as_was (never-typed s h l reads.load reads.owned none (reads.type_is ∙ untyped)) }
 
-  pub closed-drives : WellFormed (v old.environment) s → (l : LoadNumber) (e : Error) → load_fault s.core owners.Caller l ≡ Some e → Happens (events.LoadStep l) (answers.LoadMoved (Err e)) old kept
-  closed-drives was l e why = record { makes = refuses-step m s serving was (λ q. refl) l e (faulty s (kept_at kept) l e why) }
+  pub closed-drives : (l : LoadNumber) (e : Error) → load_fault s.core owners.Caller l ≡ Some e → Happens (events.LoadStep l) (answers.LoadMoved (Err e)) old kept
+  closed-drives l e why = record { makes = refuses-step m s h serving was l e (λ q. refl) (faulty s h l e why) }
 
 -- a step of what was kept, which is kept again
 pub step-of : {N E : Type 0} {v : Values N} {a b : Option Own} {x y own new : Own} {reply : LoadReply N} {s s' : PagerState N E} → a ≡ Some x → b ≡ Some y → Stepped v owners.Caller x reply y s s' → a ≡ Some own → b ≡ Some new
     → Stepped v owners.Caller own reply new s s'
 step-of {v = v} {y = y} {own = own} {reply = reply} {s = s} {s'} was here step is now =
     subst (λ z. Stepped v owners.Caller own reply z s s') (same_some _ _ (sym here ∙ now)) (subst (λ z. Stepped v owners.Caller z reply y s s') (same_some _ _ (sym was ∙ is)) step)
-
--- ---- what has no code yet
-
-module _ {N S E : Type 0} (v : Values N) (tells : Telling S) (s : PagerView N S E) (kept : Readings) (serving : IsInStep tells (over s kept)) (formed : WellFormed v (state_in tells s)) where
-  pub no-table-drives : Drives v tells (over s kept) events.TableNew (answers.TableMade (Err errors.OutOfMemory)) (over s kept)
-  no-table-drives = record { makes = no-table-made (plainly v) (state_in tells s) serving formed (λ q. refl) }
-
-  pub no-item-drives : (t : TableNumber) (item : SerializedData) → Drives v tells (over s kept) (events.WorkerItem t item) (answers.WorkerMade (Err errors.NoSuchHandle)) (over s kept)
-  no-item-drives t item = record { makes = no-item-started (plainly v) (state_in tells s) serving formed (λ q. refl) t item }
-
-  pub no-listed-drives : (t : TableNumber) (i : ℕ) → Drives v tells (over s kept) (events.WorkerListed t i) (answers.WorkerMade (Err errors.NoSuchHandle)) (over s kept)
-  no-listed-drives t i = record { makes = no-listed-started (plainly v) (state_in tells s) serving formed (λ q. refl) t i }
-
-  pub no-worker-drives : (n : WorkerNumber) → Drives v tells (over s kept) (events.WorkerStep n) (answers.WorkerMoved (Err errors.NoSuchHandle)) (over s kept)
-  no-worker-drives n = record { makes = no-worker-steps (plainly v) (state_in tells s) serving formed (λ q. refl) n }

@@ -1,9 +1,10 @@
--- What each call, and each step of a load of the caller's, leaves: workers as they are, and no load but new ones beside those that were open.
-use Rattle.std.proofs.Common.{◌≡◌, ℕ, Bool, true, false, List, [], Ok, Err, Some, None, inl, inr, refl, ◌∙◌, ◌⊎◌, ◌+◌, ◌<◌, ◌≤◌, ap, sym, if◌then◌else◌, arith}
-use Rattle.std.specs.Prelude.{Option, Result}
+-- What each call and each step of a load or of a worker leaves: who is at work, no load but new ones beside those that were open, and each open load that isn't the asker's.
+use Rattle.std.proofs.Common.{◌≡◌, ℕ, Bool, true, false, List, [], Ok, Err, Some, None, inl, inr, refl, ◌∙◌, ◌⊎◌, ◌+◌, ◌<◌, ◌≤◌, ◌==◌, ap, sym, subst, if◌then◌else◌, arith}
+use Rattle.std.proofs.lemmas.Bool.Decides.{nat_tests}
+use Rattle.std.specs.Prelude.{Option, Result, not}
 use Rattle.pagable_model.specs.declared.data_key.OptionalDataKey.{OptionalDataKey}
 use Rattle.pagable_model.specs.declared.data_key.OptionalDataKey.TheVariants as optional
-use Rattle.pagable_world.specs.Plain.{Error, ArcRef, HandleNumber, LoadNumber, Kind, Blob, SameAt, type_of}
+use Rattle.pagable_world.specs.Plain.{Error, ArcRef, HandleNumber, LoadNumber, Kind, Blob, SameAt, if_there, type_of}
 use Rattle.pagable_world.specs.declared.calls.Call.{Call}
 use Rattle.pagable_world.specs.declared.calls.Reply.{Reply}
 use Rattle.pagable_world.specs.declared.handles.Owner.{Owner}
@@ -20,7 +21,9 @@ use Rattle.pagable_world.specs.declared.calls.Call.TheVariants as calls
 use Rattle.pagable_world.specs.declared.calls.Reply.TheVariants as replies
 use Rattle.pagable_world.specs.declared.calls.Want.TheVariants as wants
 use Rattle.pagable_world.specs.declared.handles.Owner.TheVariants as owners
-use Rattle.pagable_world.specs.Kinds.{mode_of}
+use Rattle.pagable_world.specs.Kinds.{is_owner, mode_of}
+use Rattle.pagable_world.specs.Refusals.{OwnsLoad, load_fault, refused_if}
+use Rattle.pagable_model.specs.declared.error.Error.TheVariants as errors
 use Rattle.pagable_world.specs.World.{Alike, Core, Frame, Last, OpenLoad, Reading, Root, Seen, Values, of_cell, of_key}
 use Rattle.pagable_world.specs.Cascade.{Falls, fallen}
 use Rattle.pagable_world.specs.Calls.{BirthCall, AwayBirthCall, PinCall, UnpinCall, ReleaseCall, SetKeyCall, ScheduleCall}
@@ -29,121 +32,171 @@ use Rattle.pagable_world.specs.LoadCalls.{with_load, without_load, Given, from_c
 use Rattle.pagable_world.specs.Loads.{GoesOn, Meets, ReadingDoes}
 use Rattle.pagable_world.specs.Events.{Does}
 use Rattle.pagable_laws.proofs.Goes.{at-updated}
+use Rattle.pagable_laws.proofs.Sums.{same-number, self-number}
+use Rattle.pagable_laws.proofs.Trees.{same_some}
+use Rattle.pagable_laws.proofs.ReadingStepsHanding.{neither}
 
 -- of loads and workers, as far as the machine sees them
-pub record Leaves (w w' : Core) : Type 0 where
+pub record Leaves (me : Owner) (works : ℕ → Bool) (w w' : Core) : Type 0 where
   pub loads : (l : ℕ) (load : OpenLoad) → w'.loads l ≡ Some load → (w.loads l ≡ Some load) ⊎ (w.last.load < l)
   pub last : w.last.load ≤ w'.last.load
-  pub workers : SameAt w.workers w'.workers
+  pub workers : SameAt works w'.workers
+  pub others : (l : ℕ) (load : OpenLoad) → w.loads l ≡ Some load → l ≤ w.last.load → is_owner me load.owner ≡ false → w'.loads l ≡ Some load
 
-pub same : (w : Core) → Leaves w w
-same w = record { loads = λ l load is. inl is; last = omega arith; workers = λ v. refl }
+-- the load is the asker's, if it is open
+abbrev pub IsMine : Core → Owner → LoadNumber → Type 0
+IsMine w me l = (load : OpenLoad) → w.loads l.0 ≡ Some load → is_owner me load.owner ≡ true
+
+pub is-self : (o : Owner) → is_owner o o ≡ true
+is-self owners.Caller = refl
+is-self (owners.Value n) = self-number n.0
+is-self owners.List = refl
+is-self (owners.Load l) = self-number l.0
+is-self (owners.Worker v) = self-number v.0
+
+pub owned-mine : {w : Core} {me : Owner} {l : LoadNumber} {load : OpenLoad} → OwnsLoad w me l load → IsMine w me l
+owned-mine {me = me} o load is = ap (is_owner me) (ap (λ (x : OpenLoad). x.owner) (same_some _ _ (sym is ∙ o.stands_open)) ∙ o.own) ∙ is-self me
+
+pub unfaulty-mine : (w : Core) (me : Owner) (l : LoadNumber) → load_fault w me l ≡ None → IsMine w me l
+unfaulty-mine w me l none load is = by (is_owner me load.owner) (sym (ap (λ found. if_there (λ (load : OpenLoad). refused_if (not (is_owner me load.owner)) errors.NotYours) (Some errors.NoSuchHandle) found) is) ∙ none)
+  where
+    by : (b : Bool) → refused_if (not b) errors.NotYours ≡ None → b ≡ true
+    by true e = refl
+    by false e = absurd (cc)
+
+pub same : {me : Owner} (w : Core) → Leaves me w.workers w w
+same w = record { loads = λ l load is. inl is; last = omega arith; workers = λ v. refl; others = λ l load is few other. is }
+
+pub joined : {me : Owner} {works : ℕ → Bool} {w m w' : Core} → Leaves me works w m → Leaves me m.workers m w' → Leaves me works w w'
+joined {me} {works} {w} {m} {w'} f g =
+    record {
+      loads = λ l load is. elim (g.loads l load is) [ inl there ↦ f.loads l load there | inr above ↦ inr (let le = f.last in omega (arith, above, le)) ];
+      last = let a = f.last in let b = g.last in omega (arith, a, b);
+      workers = λ v. g.workers v ∙ f.workers v;
+      others = λ l load is few other. let le = f.last in g.others l load (f.others l load is few other) (omega (arith, few, le)) other;
+    }
 
 -- so does what has the same of these, or is like it
-over : {w u x : Core} → Leaves w u → x.loads ≡ u.loads → x.last.load ≡ u.last.load → x.workers ≡ u.workers → Leaves w x
-over {w} {u} {x} f loads last workers =
+pub over : {me : Owner} {works : ℕ → Bool} {w u x : Core} → Leaves me works w u → x.loads ≡ u.loads → x.last.load ≡ u.last.load → x.workers ≡ u.workers → Leaves me works w x
+over {me} {works} {w} {u} {x} f loads last workers =
     record {
       loads = λ l load is. f.loads l load (sym (ap (λ (g : ℕ → Option OpenLoad). g l) loads) ∙ is);
       last = let le = f.last in omega (arith, le, last);
       workers = λ v. ap (λ (g : ℕ → Bool). g v) workers ∙ f.workers v;
+      others = λ l load is few other. ap (λ (g : ℕ → Option OpenLoad). g l) loads ∙ f.others l load is few other;
     }
 
-after : {w u w' : Core} → Leaves w u → Alike u w' → Leaves w w'
-after {w} {u} {w'} f a =
+pub after : {me : Owner} {works : ℕ → Bool} {w u w' : Core} → Leaves me works w u → Alike u w' → Leaves me works w w'
+after {me} {works} {w} {u} {w'} f a =
     record {
       loads = λ l load is. f.loads l load (sym (a.loads l) ∙ is);
       last = let le = f.last in let e : w'.last.load ≡ u.last.load = ap (λ (x : Last). x.load) a.last in omega (arith, le, e);
       workers = λ v. a.workers v ∙ f.workers v;
+      others = λ l load is few other. a.loads l ∙ f.others l load is few other;
     }
 
-like : {w u w' : Core} → Alike u w' → u.loads ≡ w.loads → u.last.load ≡ w.last.load → u.workers ≡ w.workers → Leaves w w'
-like {w} a loads last workers = after (over (same w) loads last workers) a
+pub like : {me : Owner} {w u w' : Core} → Alike u w' → u.loads ≡ w.loads → u.last.load ≡ w.last.load → u.workers ≡ w.workers → Leaves me w.workers w w'
+like {w = w} a loads last workers = after (over (same w) loads last workers) a
 
-fell : {w before u w' : Core} {given : ℕ → Bool} {r : Result (Unit {0}) Error} → Leaves w u → Falls before u given r w' → Leaves w w'
+pub fell : {me : Owner} {works : ℕ → Bool} {w before u w' : Core} {given : ℕ → Bool} {r : Result (Unit {0}) Error} → Leaves me works w u → Falls before u given r w' → Leaves me works w w'
 fell {u = u} f x = after (over {x = fallen u x.gone x.entries} f refl refl refl) x.leaves
 
-falls : {w before u w' : Core} {given : ℕ → Bool} {r : Result (Unit {0}) Error} → Falls before u given r w' → u.loads ≡ w.loads → u.last.load ≡ w.last.load → u.workers ≡ w.workers → Leaves w w'
-falls {w} x loads last workers = fell (over (same w) loads last workers) x
+pub falls : {me : Owner} {w before u w' : Core} {given : ℕ → Bool} {r : Result (Unit {0}) Error} → Falls before u given r w' → u.loads ≡ w.loads → u.last.load ≡ w.last.load → u.workers ≡ w.workers → Leaves me w.workers w w'
+falls {w = w} x loads last workers = fell (over (same w) loads last workers) x
 
 -- a node that a load makes, or a cell
-known : (w : Core) (l : LoadNumber) (kind : Kind) (key : ℕ) (own : OptionalDataKey) (rs : List ArcRef) → Leaves w (adopted w l kind key own rs)
-known w l kind key own rs = split w.closed
+known : {me : Owner} (w : Core) (l : LoadNumber) (kind : Kind) (key : ℕ) (own : OptionalDataKey) (rs : List ArcRef) → Leaves me w.workers w (adopted w l kind key own rs)
+known {me} w l kind key own rs = split w.closed
   where
     u : Core
     u = with_handle (with_node w (type_of kind.0) own rs) (next_node w) (mode_of kind.0) (owners.Load l)
 
-    split : (c : Bool) → Leaves w (if c then u else with_cached u kind key (next_node w))
+    split : (c : Bool) → Leaves me w.workers w (if c then u else with_cached u kind key (next_node w))
     split true = over (same w) refl refl refl
     split false = over (same w) refl refl refl
 
 -- a load more, or less
-opened : (w : Core) (key : ℕ) (root : Root) (me : Owner) → Leaves w (with_load w key root me)
+opened : (w : Core) (key : ℕ) (root : Root) (me : Owner) → Leaves me w.workers w (with_load w key root me)
 opened w key root me =
     record {
       loads = λ l load is. elim (at-updated (w.last.load + 1) (Some (record { owner = me; key = key; root = root })) w.loads l load is) [ inl (at, e) ↦ inr (omega (arith, at)) | inr was ↦ inl was ];
       last = omega arith;
       workers = λ v. refl;
+      others = λ l load is few other. ap (λ b. if b then Some (record { owner = me; key = key; root = root }) else w.loads l) (not-next l w.last.load few) ∙ is;
     }
+  where
+    not-next : (l n : ℕ) → l ≤ n → (l == n + 1) ≡ false
+    not-next l n few = grind (arith, nat_tests)
 
-shut : {w u : Core} → Leaves w u → (l : LoadNumber) → Leaves w (without_load u l)
-shut {w} {u} f l = record { loads = λ q load is. elim (at-updated l.0 None u.loads q load is) [ inl (at, e) ↦ absurd (cc) | inr was ↦ f.loads q load was ]; last = f.last; workers = f.workers }
+shut : {me : Owner} {works : ℕ → Bool} {w u : Core} → Leaves me works w u → (l : LoadNumber) → IsMine w me l → Leaves me works w (without_load u l)
+shut {me} {works} {w} {u} f l mine =
+    record {
+      loads = λ q load is. elim (at-updated l.0 None u.loads q load is) [ inl (at, e) ↦ absurd (cc) | inr was ↦ f.loads q load was ];
+      last = f.last;
+      workers = f.workers;
+      others = λ q load is few other. by q load is few other (q == l.0) refl;
+    }
+  where
+    by : (q : ℕ) (load : OpenLoad) → w.loads q ≡ Some load → q ≤ w.last.load → is_owner me load.owner ≡ false → (b : Bool) → (q == l.0) ≡ b → (without_load u l).loads q ≡ Some load
+    by q load is few other true e = let own : is_owner me load.owner ≡ true = mine load (subst (λ n. w.loads n ≡ Some load) (same-number q l.0 e) is) in absurd (cc)
+    by q load is few other false e = ap (λ b. if b then None else u.loads q) e ∙ f.others q load is few other
 
 module _ (w w' : Core) (me : Owner) where
-  born : {N : Type 0} {x : N} {t : ℕ} {rs : List ArcRef} {mode : Mode} (r : Result HandleNumber (Error × N)) → BirthCall w me x t rs mode r w' → Leaves w w'
+  born : {N : Type 0} {x : N} {t : ℕ} {rs : List ArcRef} {mode : Mode} (r : Result HandleNumber (Error × N)) → BirthCall w me x t rs mode r w' → Leaves me w.workers w w'
   born (Ok k) c = like c.made.3 refl refl refl
   born (Err e) c = like c.refused.1.stays refl refl refl
 
-  born-away : {t key : ℕ} (r : Result HandleNumber Error) → AwayBirthCall w me t key r w' → Leaves w w'
+  born-away : {t key : ℕ} (r : Result HandleNumber Error) → AwayBirthCall w me t key r w' → Leaves me w.workers w w'
   born-away (Ok k) c = like c.made.2 refl refl refl
   born-away (Err e) c = like c.refused.stays refl refl refl
 
-  pinned : {h : HandleNumber} (r : Result Pinning Error) → PinCall w me h r w' → Leaves w w'
+  pub pinned : {h : HandleNumber} (r : Result Pinning Error) → PinCall w me h r w' → Leaves me w.workers w w'
   pinned (Ok (pinnings.Pinned k)) c = like c.pins.2.2 refl refl refl
   pinned (Ok (pinnings.NeedsLoad key)) c = like c.pins.2.2 refl refl refl
   pinned (Err e) c = like c.refused.stays refl refl refl
 
-  unpinned : {h : HandleNumber} {r : Result (Unit {0}) Error} → UnpinCall w me h r w' → Leaves w w'
+  unpinned : {h : HandleNumber} {r : Result (Unit {0}) Error} → UnpinCall w me h r w' → Leaves me w.workers w w'
   unpinned c = elim c.does [ inl refused ↦ like refused.stays refl refl refl | inr (row, owns, inl (mode, told, a)) ↦ like a refl refl refl | inr (row, owns, inr (mode, f)) ↦ falls f refl refl refl ]
 
-  released : {h : HandleNumber} {r : Result (Unit {0}) Error} → ReleaseCall w me h r w' → Leaves w w'
+  released : {h : HandleNumber} {r : Result (Unit {0}) Error} → ReleaseCall w me h r w' → Leaves me w.workers w w'
   released c = elim c.does [ inl refused ↦ like refused.stays refl refl refl | inr (row, owns, f) ↦ falls f refl refl refl ]
 
-  key-set : {h : HandleNumber} {key : ℕ} {r : Result (Unit {0}) Error} → SetKeyCall w me h key r w' → Leaves w w'
+  pub key-set : {h : HandleNumber} {key : ℕ} {r : Result (Unit {0}) Error} → SetKeyCall w me h key r w' → Leaves me w.workers w w'
   key-set c = elim c.does [ inl refused ↦ like refused.stays refl refl refl | inr (row, owns, inl (mode, told, a)) ↦ like a refl refl refl | inr (row, owns, inr (mode, f)) ↦ falls f refl refl refl ]
 
-  scheduled : {h : HandleNumber} (r : Result (Unit {0}) Error) → ScheduleCall w me h r w' → Leaves w w'
+  pub scheduled : {h : HandleNumber} (r : Result (Unit {0}) Error) → ScheduleCall w me h r w' → Leaves me w.workers w w'
   scheduled (Ok u) c = elim c.moves.2 [ inl (stands_open, a) ↦ like a refl refl refl | inr (shut, f) ↦ falls f.falls refl refl refl ]
   scheduled (Err e) c = like c.refused.stays refl refl refl
 
-  took : (i : ℕ) (h : Option HandleNumber) → TakeCall w me i h w' → Leaves w w'
+  took : (i : ℕ) (h : Option HandleNumber) → TakeCall w me i h w' → Leaves me w.workers w w'
   took i (Some h) c = like c.1 refl refl refl
   took i None c = like c.1 refl refl refl
 
-  recalled : {kind : Kind} {key : ℕ} (r : Result (Option HandleNumber) Error) → RecallCall w me kind key r w' → Leaves w w'
+  recalled : {kind : Kind} {key : ℕ} (r : Result (Option HandleNumber) Error) → RecallCall w me kind key r w' → Leaves me w.workers w w'
   recalled (Ok (Some k)) c = like c.answers.3 refl refl refl
   recalled (Ok None) c = like c.answers.1 refl refl refl
   recalled (Err e) c = like c.refused.stays refl refl refl
 
-  offered : {kind : Kind} {key : ℕ} {h : HandleNumber} (r : Result (Option HandleNumber) Error) → OfferCall w me kind key h r w' → Leaves w w'
+  offered : {kind : Kind} {key : ℕ} {h : HandleNumber} (r : Result (Option HandleNumber) Error) → OfferCall w me kind key h r w' → Leaves me w.workers w w'
   offered (Ok None) c = like c.answers.3.2 refl refl refl
   offered (Ok (Some k)) c = elim c.answers.3 [ inl (shut, same, a) ↦ like a refl refl refl | inr (stands_open, (n, is, next, f)) ↦ falls f.falls refl refl refl ]
   offered (Err e) c = like c.refused.stays refl refl refl
 
-  stored : {digest : Blob → ℕ} {b : Blob} (r : Result ℕ Error) → StoreCall digest w b r w' → Leaves w w'
+  pub stored : {digest : Blob → ℕ} {b : Blob} (r : Result ℕ Error) → StoreCall digest w b r w' → Leaves me w.workers w w'
   stored (Ok key) c = like c.stores.1.leaves refl refl refl
   stored (Err e) c = like c.refused.0.leaves refl refl refl
 
-  begun : {h : HandleNumber} (r : Result Beginning Error) → BeginCall w me h r w' → Leaves w w'
+  pub begun : {h : HandleNumber} (r : Result Beginning Error) → BeginCall w me h r w' → Leaves me w.workers w w'
   begun (Ok beginnings.InMemory) c = like c.begins.2.1 refl refl refl
   begun {h} (Ok (beginnings.Load l key)) c = let row : HandleRow = c.begins.0 in after (over (opened w key (of_cell row.node c.begins.2.4.0 h) me) refl refl refl) c.begins.2.4.2
   begun (Err e) c = like c.refused.stays refl refl refl
 
-  key-begun : {key : ℕ} (r : Result Beginning Error) → BeginKeyCall w me key r w' → Leaves w w'
+  key-begun : {key : ℕ} (r : Result Beginning Error) → BeginKeyCall w me key r w' → Leaves me w.workers w w'
   key-begun (Ok beginnings.InMemory) c = absurd c.begins
   key-begun {key} (Ok (beginnings.Load l k)) c = after (opened w key of_key me) c.begins.2
   key-begun (Err e) c = like c.refused.stays refl refl refl
 
-  asked : {l : LoadNumber} (want : Want) (r : Result Given Error) → AskCall w me l want r w' → Leaves w w'
+  asked : {l : LoadNumber} (want : Want) (r : Result Given Error) → AskCall w me l want r w' → Leaves me w.workers w w'
   asked wants.Root (Ok (from_cache k)) c = absurd c.gives.2
   asked wants.Root (Ok (from_store b)) c = like c.gives.2.asked.leaves refl refl refl
   asked wants.Root (Err e) c = elim c.refused [ inl refused ↦ like refused.stays refl refl refl | inr (load, owns, f) ↦ like f.asked.leaves refl refl refl ]
@@ -151,26 +204,29 @@ module _ (w w' : Core) (me : Owner) where
   asked (wants.Nested kind key) (Ok (from_store b)) c = like c.gives.2.1.asked.leaves refl refl refl
   asked (wants.Nested kind key) (Err e) c = elim c.refused [ inl refused ↦ like refused.stays refl refl refl | inr (load, owns, f) ↦ like f.1.asked.leaves refl refl refl ]
 
-  was-adopted : {N : Type 0} {l : LoadNumber} {kind : Kind} {key : ℕ} {x : N} {t : ℕ} {rs : List ArcRef} (r : Result HandleNumber (Error × N)) → AdoptCall w me l kind key x t rs r w' → Leaves w w'
+  was-adopted : {N : Type 0} {l : LoadNumber} {kind : Kind} {key : ℕ} {x : N} {t : ℕ} {rs : List ArcRef} (r : Result HandleNumber (Error × N)) → AdoptCall w me l kind key x t rs r w' → Leaves me w.workers w w'
   was-adopted {l = l} {kind} {key} {rs = rs} (Ok k) c =
       elim c.adopts.makes [ inl (n, is, f) ↦ falls f.falls refl refl refl | inr (none, few, a) ↦ after (known w l kind key (first_key kind.0 key) rs) a ]
   was-adopted (Err e) c = like c.refused.1.stays refl refl refl
 
-  lazily : {l : LoadNumber} {kind : Kind} {key : ℕ} (r : Result HandleNumber Error) → LazyCall w me l kind key r w' → Leaves w w'
+  lazily : {l : LoadNumber} {kind : Kind} {key : ℕ} (r : Result HandleNumber Error) → LazyCall w me l kind key r w' → Leaves me w.workers w w'
   lazily {l = l} {kind} {key} (Ok k) c = elim c.makes.3 [ inl gets ↦ like gets.leaves refl refl refl | inr (none, few, next, a) ↦ after (known w l kind key (optional.Some key) []) a ]
   lazily (Err e) c = like c.refused.stays refl refl refl
 
-  ended : {N : Type 0} {l : LoadNumber} {x : N} {t : ℕ} {rs : List ArcRef} (r : Result HandleNumber (Error × Option N)) → EndCall w me l x t rs r w' → Leaves w w'
-  ended {l = l} (Ok k) c = elim c.installs.3.falls [ inl (away, f) ↦ fell (over (shut (same w) l) refl refl refl) f.falls | inr (here, f) ↦ fell (over (shut (same w) l) refl refl refl) f.falls ]
+  ended : {N : Type 0} {l : LoadNumber} {x : N} {t : ℕ} {rs : List ArcRef} (r : Result HandleNumber (Error × Option N)) → EndCall w me l x t rs r w' → Leaves me w.workers w w'
+  ended {l = l} (Ok k) c = elim c.installs.3.falls [
+    | inl (away, f) ↦ fell (over (shut (same w) l (owned-mine c.installs.2.owned)) refl refl refl) f.falls
+    | inr (here, f) ↦ fell (over (shut (same w) l (owned-mine c.installs.2.owned)) refl refl refl) f.falls
+  ]
   ended (Err (e, Some y)) c = like c.refused.1.stays refl refl refl
-  ended {l = l} (Err (e, None)) c = fell (shut (same w) l) c.refused.closes
+  ended {l = l} (Err (e, None)) c = fell (shut (same w) l (owned-mine c.refused.may.owned)) c.refused.closes
 
-  handed : {l : LoadNumber} {hs : List HandleNumber} (r : Result (Unit {0}) Error) → HandOverCall w me l hs r w' → Leaves w w'
-  handed {l} (Ok u) c = fell (over (shut (same w) l) refl refl refl) c.hands.1.falls
+  handed : {l : LoadNumber} {hs : List HandleNumber} (r : Result (Unit {0}) Error) → HandOverCall w me l hs r w' → Leaves me w.workers w w'
+  handed {l} (Ok u) c = fell (over (shut (same w) l (unfaulty-mine w me l (neither (load_fault w me l) _ c.hands.0).0)) refl refl refl) c.hands.1.falls
   handed (Err e) c = like c.refused.1 refl refl refl
 
   -- a call
-  pub call-leaves : {N : Type 0} {B : Type 0} {W : Type 0} (m : Seen N B W) (call : Call N B) (reply : Reply N B) → Does m w me call reply w' → Leaves w w'
+  pub call-leaves : {N : Type 0} {B : Type 0} {W : Type 0} (m : Seen N B W) (call : Call N B) (reply : Reply N B) → Does m w me call reply w' → Leaves me w.workers w w'
   call-leaves m (calls.NewPinned x) (replies.Made r) c = born r c
   call-leaves m (calls.NewLoose x) (replies.Made r) c = born r c
   call-leaves m (calls.NewShared x) (replies.Made r) c = born r c
@@ -204,14 +260,14 @@ module _ (w w' : Core) (me : Owner) where
   call-leaves m (calls.LoadLazy l kind key) (replies.Handle r) c = lazily r c
   call-leaves m (calls.LoadEnd l x) (replies.LoadEnded r) c = ended r c
   call-leaves m (calls.LoadTake l hs) (replies.Done r) c = handed r c
-  call-leaves m (calls.LoadDrop l) (replies.Done r) c = elim c.does [ inl refused ↦ like refused.stays refl refl refl | inr (load, owns, f) ↦ fell (shut (same w) l) f ]
+  call-leaves m (calls.LoadDrop l) (replies.Done r) c = elim c.does [ inl refused ↦ like refused.stays refl refl refl | inr (load, owns, f) ↦ fell (shut (same w) l (owned-mine owns)) f ]
   call-leaves m (calls.Reserve n) (replies.Done r) c = like c.stays refl refl refl
   call-leaves m calls.Room (replies.Length n) c = like c.1 refl refl refl
   call-leaves m calls.Close (replies.Done r) c = falls c.falls.falls refl refl refl
   call-leaves m call reply c = absurd c
 
   -- a step that is refused, up to its refusal
-  met : {N : Type 0} (v : Values N) (reading : Reading) (e : Error) → Meets v w me reading e w' → Leaves w w'
+  met : {N : Type 0} (v : Values N) (reading : Reading) (e : Error) → Meets v w me reading e w' → Leaves me w.workers w w'
   met v reading e (inl (why, a)) = like a refl refl refl
   met v reading e (inr (inl (first, c))) = asked wants.Root (Err e) c
   met v reading e (inr (inr (inl (kind, key, need, inl c)))) = asked (wants.Nested kind key) (Err e) c
@@ -220,8 +276,8 @@ module _ (w w' : Core) (me : Owner) where
   met v reading e (inr (inr (inr (inr (inl r))))) = was-adopted (Err (e, r.x)) r.adopted
   met v reading e (inr (inr (inr (inr (inr r))))) = elim r.refuses [ inl (is, c) ↦ ended (Err (e, Some r.x)) c | inr (is, c) ↦ handed (Err e) c ]
 
-module _ (w w' : Core) (me : Owner) {N : Type 0} (v : Values N) (reading : Reading) where
-  went-on : (frames : List Frame) → GoesOn v w me reading frames w' → Leaves w w'
+module _ (w w' : Core) (me : Owner) {N : Type 0} (v : Values N) (reading : Reading) (mine : IsMine w me reading.load) where
+  went-on : (frames : List Frame) → GoesOn v w me reading frames w' → Leaves me w.workers w w'
   went-on frames (inl g) = asked w w' me wants.Root (Ok (from_store g.blob)) g.asked
   went-on frames (inr (inl g)) = asked w w' me (wants.Nested g.kind g.key) (Ok (from_cache g.k)) g.asked
   went-on frames (inr (inr (inl g))) = asked w w' me (wants.Nested g.kind g.key) (Ok (from_store g.blob)) g.asked
@@ -229,11 +285,11 @@ module _ (w w' : Core) (me : Owner) {N : Type 0} (v : Values N) (reading : Readi
   went-on frames (inr (inr (inr (inr g)))) = was-adopted w w' me (Ok g.k) g.adopted
 
   -- a load's step
-  pub step-leaves : (answer : Option (LoadAnswer N)) (frames : List Frame) → ReadingDoes v w me reading answer frames w' → Leaves w w'
+  pub step-leaves : (answer : Option (LoadAnswer N)) (frames : List Frame) → ReadingDoes v w me reading answer frames w' → Leaves me w.workers w w'
   step-leaves None frames d = went-on frames d.does
   step-leaves (Some (ends.Pinned k)) frames d = ended w w' me (Ok k) d.does.0.ended
   step-leaves (Some (ends.Read x)) frames d = handed w w' me (Ok tt) d.does.0.handed
   step-leaves (Some (ends.Refused e)) frames d = elim d.does.0 [
-    | inl g ↦ fell (shut (met w g.mid me v reading e g.meets) reading.load) g.closes
+    | inl g ↦ fell (shut (met w g.mid me v reading e g.meets) reading.load mine) g.closes
     | inr c ↦ ended w w' me (Err (e, None)) c.ended
   ]

@@ -1,4 +1,12 @@
 pub mod Leaving
+pub mod Passing
+pub mod Working
+pub mod Fitting
 pub mod Keeping
-pub mod Running
+pub mod Loading
+pub mod Beginning
+pub mod Stepping
 pub mod Happening
+pub mod Seeing
+pub mod Running
+pub mod Driven

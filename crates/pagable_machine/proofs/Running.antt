@@ -8,8 +8,11 @@ use Rattle.pagable_world.specs.Pager.{MachineState}
 use Rattle.pagable_world.specs.Runs.{Moment, Does, AreMoments, HasRun, state_after}
 use Rattle.pagable_laws.proofs.Arriving.{headline_law}
 use Rattle.pagable_pager.specs.View.{Telling, Spelling, values_of}
-use Rattle.pagable_machine.specs.Serving.{plain_answer, plain_event, plainly}
-use Rattle.pagable_machine.specs.Driving.{Answer, Drives, Given, IsInStep, MachineView, Runs, machine_in}
+use Rattle.pagable_walk.specs.declared.results.Trees.{Ghosts}
+use Rattle.pagable_walk.specs.Turns.{plain}
+use Rattle.pagable_machine.specs.Serving.{plain_answer, plain_event}
+use Rattle.pagable_machine.specs.Driving.{Answer, Drives, Given, IsInStep, MachineView, Over, Runs, machine_in, view_of}
+use Rattle.pagable_machine.proofs.Seeing.{raw_in, view-is}
 
 module _ {N E B W : Type 0} (m : Seen N B W) where
   joins : (s : MachineState N E) (xs ys : List (Moment N E B W)) → AreMoments m s xs → AreMoments m (state_after s xs) ys → AreMoments m s (xs ++ ys)
@@ -50,22 +53,29 @@ nothing-left : {X : Type 0} (xs : List X) → length xs ≡ 0 → xs ≡ []
 nothing-left [] e = refl
 nothing-left (x ∷ xs) e = absurd (cc)
 
-module _ {N S E : Type 0} (tells : Telling S) (g : Spelling N E) (old : MachineView N S E) where
+module _ {N S E X : Type 0} {t : Ghosts X} (tells : Telling S) (g : Spelling N E) (old : MachineView N S E) where
   -- the events so far have happened, and the others are left
-  pub record SoFar (all rest : List (Given N)) (replies : List (Answer N)) (now : MachineView N S E) : Type 0 where
+  pub record SoFar (all rest : List (Given N)) (replies : List (Answer N)) (now : Over N S E t) : Type 0 where
     pub done : List (Given N)
     pub left : done ++ rest ≡ all
-    pub run : HasRun (plainly (values_of g old.pager.environment)) (machine_in tells old) (map plain_event done) (map plain_answer replies) (machine_in tells now)
+    pub run : HasRun (plain (values_of g old.pager.environment)) (machine_in tells old) (map plain_event done) (map plain_answer replies) (raw_in tells now)
     pub environment : now.pager.environment ≡ old.pager.environment
     pub in_step : IsInStep tells now
 
-  pub at-first : (all : List (Given N)) → IsInStep tells old → SoFar all all [] old
-  at-first all in_step = record { done = []; left = refl; run = no-run _ _; environment = refl; in_step = in_step }
+  pub at-first : (all : List (Given N)) (now : Over N S E t) → old ≡ view_of now.pager now.held → IsInStep tells now → SoFar all all [] now
+  at-first all now is in_step =
+      record {
+        done = [];
+        left = refl;
+        run = subst (λ x. HasRun (plain (values_of g old.pager.environment)) (machine_in tells old) [] [] x) (ap (machine_in tells) is ∙ view-is tells now) (no-run _ _);
+        environment = ap (λ (x : MachineView N S E). x.pager.environment) (sym is);
+        in_step = in_step;
+      }
 
-  pub one-more : (all rest : List (Given N)) (event : Given N) (replies : List (Answer N)) (reply : Answer N) (mid new : MachineView N S E)
+  pub one-more : (all rest : List (Given N)) (event : Given N) (replies : List (Answer N)) (reply : Answer N) (mid new : Over N S E t)
       → SoFar all (event ∷ rest) replies mid → Drives (values_of g mid.pager.environment) tells mid event reply new → SoFar all rest (replies ++ reply ∷ []) new
   one-more all rest event replies reply mid new so made =
-      let does = subst (λ e. Does (plainly (values_of g e)) (machine_in tells mid) (plain_event event) (plain_answer reply) (machine_in tells new)) so.environment made.makes.does in
+      let does = subst (λ e. Does (plain (values_of g e)) (raw_in tells mid) (plain_event event) (plain_answer reply) (raw_in tells new)) so.environment made.makes.does in
       let more = run-more _ _ _ _ _ _ (plain_event event) (plain_answer reply) so.run does in
       record {
         done = so.done ++ event ∷ [];
@@ -75,12 +85,13 @@ module _ {N S E : Type 0} (tells : Telling S) (g : Spelling N E) (old : MachineV
         in_step = made.makes.serving;
       }
 
-  pub all-ran : (all rest : List (Given N)) (replies : List (Answer N)) (new : MachineView N S E)
-      → length rest ≡ 0 → SoFar all rest replies new → Runs (values_of g old.pager.environment) tells old all replies new
+  pub all-ran : (all rest : List (Given N)) (replies : List (Answer N)) (new : Over N S E t)
+      → length rest ≡ 0 → SoFar all rest replies new → Runs (values_of g old.pager.environment) tells old all replies (view_of new.pager new.held)
   all-ran all rest replies new none so =
       let is : so.done ≡ all = sym (append-nil so.done) ∙ ap (λ xs. so.done ++ xs) (sym (nothing-left rest none)) ∙ so.left in
-      let m = plainly (values_of g old.pager.environment) in
-      let run = subst (λ xs. HasRun m (machine_in tells old) (map plain_event xs) (map plain_answer replies) (machine_in tells new)) is so.run in
+      let m = plain (values_of g old.pager.environment) in
+      let run = subst (λ xs. HasRun m (machine_in tells old) (map plain_event xs) (map plain_answer replies) (machine_in tells (view_of new.pager new.held))) is
+      (subst (λ x. HasRun m (machine_in tells old) (map plain_event so.done) (map plain_answer replies) x) (sym (view-is tells new)) so.run) in
       record {
         run = run;
         right = λ start before whole idle chain ends.

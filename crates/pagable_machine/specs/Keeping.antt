@@ -1,5 +1,5 @@
--- What a machine keeps of loads, and when it is in step with its pager; and what one event does to both.
-use Rattle.std.specs.Prelude.{ℕ, ◌≡◌, ◌≢◌, ◌≤◌, ◌⊎◌, false, true, Option, Some, None}
+-- What a machine keeps of loads, tables and workers, and when it is in step with its pager; and what one event does to both.
+use Rattle.std.specs.Prelude.{ℕ, ◌≡◌, ◌≢◌, ◌≤◌, ◌⊎◌, true, List, length, Option, Some, None, is_some}
 use Rattle.std.specs.Option.{option_map}
 use Rattle.pagable_model.specs.declared.error.Error.{Error}
 use Rattle.pagable_model.specs.declared.numbers.LoadNumber.{LoadNumber}
@@ -12,24 +12,36 @@ use Rattle.pagable_world.specs.declared.handles.Owner.{Owner}
 use Rattle.pagable_world.specs.declared.handles.Owner.TheVariants as owners
 use Rattle.pagable_world.specs.World.{Core, OpenLoad, Reading, Seen, Values, Work, one_more}
 use Rattle.pagable_world.specs.Refusals.{Refused, spent}
-use Rattle.pagable_world.specs.Events.{no_shelf}
 use Rattle.pagable_world.specs.Access.{ReadingStep}
 use Rattle.pagable_world.specs.Workers.{fresh}
 use Rattle.pagable_world.specs.Pager.{FitsRoot, MachineState, PagerState}
 use Rattle.pagable_world.specs.Runs.{Does}
 use Rattle.pagable_loads.specs.declared.reading.Reading.{Reading as Own}
 use Rattle.pagable_loads.specs.Frames.{IsLoadOf, is_cell, reading_of}
+use Rattle.pagable_walk.specs.declared.results.Trees.{Ghosts}
+use Rattle.pagable_walk.specs.declared.table.SlotTable.{SlotTable}
+use Rattle.pagable_machine.specs.declared.held.Walk.{Walk}
+use Rattle.pagable_machine.specs.Walking.{IsWalkKept, shelf_at, walking_of}
 
 -- what is kept of loads, by their numbers
 abbrev pub Kept : Type 0
 Kept = ℕ → Option Own
 
--- A load is read by the machine as long as it is open. There is no table, and nobody works.
-abbrev pub work_of : Kept → Core → Work
-work_of kept w = record { shelves = λ t. no_shelf; last_table = 0; readings = λ l. if_there (λ load. option_map reading_of (kept l)) None (w.loads l); walkings = λ v. None }
+-- what is kept of loads, tables and workers
+pub record Holding {X : Type 0} (g : Ghosts X) : Type 0 where
+  pub readings : Kept
+  pub tables : List (SlotTable X g)
+  pub walks : ℕ → Option (Walk X g)
 
-abbrev pub machine_of : {N E : Type 0} → PagerState N E → Kept → MachineState N E
-machine_of s kept = record { pager = s; work = work_of kept s.core }
+-- a load is read by the machine as long as it is open
+abbrev pub readings_in : Kept → Core → ℕ → Option Reading
+readings_in kept w l = if_there (λ (load : OpenLoad). option_map reading_of (kept l)) None (w.loads l)
+
+abbrev pub work_of : {X : Type 0} {g : Ghosts X} → Holding g → Core → Work
+work_of h w = record { shelves = shelf_at h.tables; last_table = length h.tables; readings = readings_in h.readings w; walkings = λ v. option_map walking_of (h.walks v) }
+
+abbrev pub machine_of : {X : Type 0} {g : Ghosts X} {N E : Type 0} → PagerState N E → Holding g → MachineState N E
+machine_of s h = record { pager = s; work = work_of h s.core }
 
 -- the caller's load, of this key and root
 pub record ReadsFor (load : OpenLoad) (own : Own) : Type 0 where
@@ -44,23 +56,28 @@ pub record IsKept (w : Core) (l : ℕ) (own : Own) : Type 0 where
   pub given : l ≤ w.last.load
   pub reads : (load : OpenLoad) → w.loads l ≡ Some load → ReadsFor load own
 
--- what is true of a machine after each event, beside what is true of its pager
-pub record IsServing (w : Core) (kept : Kept) : Type 0 where
-  pub nobody : (v : ℕ) → w.workers v ≡ false
-  pub readings : (l : ℕ) (own : Own) → kept l ≡ Some own → IsKept w l own
+abbrev pub AllKept : Core → Kept → Type 0
+AllKept w kept = (l : ℕ) (own : Own) → kept l ≡ Some own → IsKept w l own
 
--- One event.
-pub record Makes {N E B W : Type 0} (m : Seen N B W) (s : PagerState N E) (kept : Kept) (event : Event N B W) (reply : EventReply N B W) (s' : PagerState N E) (kept' : Kept) : Type 0 where
-  pub does : Does m (machine_of s kept) event reply (machine_of s' kept')
-  pub serving : IsServing s'.core kept'
+module _ {X : Type 0} {g : Ghosts X} where
+  -- what is true of a machine after each event, beside what is true of its pager
+  pub record IsServing (w : Core) (h : Holding g) : Type 0 where
+    pub readings : AllKept w h.readings
+    pub walks : (v : ℕ) (k : Walk X g) → h.walks v ≡ Some k → IsWalkKept w (length h.tables) v k
+    pub all_there : (v : ℕ) → w.workers v ≡ true → is_some (h.walks v) ≡ true
+
+  -- One event.
+  pub record Makes {N E B W : Type 0} (m : Seen N B W) (s : PagerState N E) (h : Holding g) (event : Event N B W) (reply : EventReply N B W) (s' : PagerState N E) (h' : Holding g) : Type 0 where
+    pub does : Does m (machine_of s h) event reply (machine_of s' h')
+    pub serving : IsServing s'.core h'
 
 -- what is kept of an open load stays, and nothing comes
 pub record Forgets (w : Core) (kept kept' : Kept) : Type 0 where
   pub still : (l : ℕ) (load : OpenLoad) → w.loads l ≡ Some load → kept' l ≡ kept l
   pub only : (l : ℕ) (own : Own) → kept' l ≡ Some own → kept l ≡ Some own
 
--- of this load this is kept
-pub record KeepsOne (kept : Kept) (l : ℕ) (own : Option Own) (kept' : Kept) : Type 0 where
+-- of this number this is kept
+pub record KeepsOne {Y : Type 0} (kept : ℕ → Option Y) (l : ℕ) (own : Option Y) (kept' : ℕ → Option Y) : Type 0 where
   pub here : kept' l ≡ own
   pub others : (q : ℕ) → q ≢ l → kept' q ≡ kept q
 

@@ -1,4 +1,5 @@
 pub mod Serving
+pub mod Walking
 pub mod Keeping
 pub mod Driving
 pub mod Unread

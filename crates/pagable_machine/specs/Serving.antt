@@ -17,10 +17,13 @@ use Rattle.pagable_world.specs.declared.calls.Call.TheVariants as calls
 use Rattle.pagable_world.specs.declared.calls.Found.TheVariants as founds
 use Rattle.pagable_world.specs.declared.calls.Reply.TheVariants as replies
 use Rattle.pagable_world.specs.declared.handles.Owner.TheVariants as owners
-use Rattle.pagable_world.specs.World.{Values, Seen, Written, seen_as}
+use Rattle.pagable_world.specs.declared.events.WorkerReply.{WorkerReply}
+use Rattle.pagable_world.specs.World.{Values, Written, seen_as}
 use Rattle.pagable_world.specs.Events.{CallStep}
 use Rattle.pagable_world.specs.Pager.{Moves, CallBrings}
 use Rattle.pagable_pager.specs.View.{PagerView, Telling, core_in, state_in}
+use Rattle.pagable_walk.specs.Slots.{written_of}
+use Rattle.pagable_walk.specs.Turns.{plain, plain_took}
 
 -- the call with its blob as plain
 abbrev pub plain_call : {N : Type 0} → Call N PagableData → Call N Blob
@@ -88,34 +91,29 @@ plain_reply (replies.Begun r) = replies.Begun r
 plain_reply (replies.LoadFound r) = replies.LoadFound (seen_as plain_found r)
 plain_reply (replies.LoadEnded r) = replies.LoadEnded r
 
--- the event and its reply with blobs as plain
-abbrev pub plain_event : {N W : Type 0} → Event N PagableData W → Event N Blob W
+-- the event and its reply with blobs and what is written as plain
+abbrev pub plain_event : {N : Type 0} → Event N PagableData SerializedData → Event N Blob Written
 plain_event (events.Call call) = events.Call (plain_call call)
 plain_event (events.LoadStart h) = events.LoadStart h
 plain_event (events.LoadKey key t) = events.LoadKey key t
 plain_event (events.LoadStep l) = events.LoadStep l
 plain_event events.TableNew = events.TableNew
-plain_event (events.WorkerItem t item) = events.WorkerItem t item
+plain_event (events.WorkerItem t item) = events.WorkerItem t (written_of item)
 plain_event (events.WorkerListed t i) = events.WorkerListed t i
 plain_event (events.WorkerStep v) = events.WorkerStep v
 
-abbrev pub plain_answer : {N W : Type 0} → EventReply N (Arc PagableData Global) W → EventReply N Blob W
+abbrev pub plain_moved : WorkerReply (Arc SerializedData Global) → WorkerReply Written
+plain_moved r = record { took = plain_took r.took; answer = r.answer; steps = r.steps }
+
+abbrev pub plain_answer : {N : Type 0} → EventReply N (Arc PagableData Global) (Arc SerializedData Global) → EventReply N Blob Written
 plain_answer (answers.CallReply r) = answers.CallReply (plain_reply r)
 plain_answer (answers.Started r) = answers.Started r
 plain_answer (answers.LoadMoved r) = answers.LoadMoved r
 plain_answer (answers.TableMade r) = answers.TableMade r
 plain_answer (answers.WorkerMade r) = answers.WorkerMade r
-plain_answer (answers.WorkerMoved r) = answers.WorkerMoved r
-
--- what was written, without where it lies in memory
-abbrev pub written_of : SerializedData → Written
-written_of d = record { bytes = d.bytes.items; references = d.arcs.items }
-
--- values, where blobs are plain already
-abbrev pub plainly : {N : Type 0} → Values N → Seen N Blob SerializedData
-plainly v = record { values = v; blob_of = λ b. b; written_of = written_of }
+plain_answer (answers.WorkerMoved r) = answers.WorkerMoved (seen_as plain_moved r)
 
 -- The caller's call does this step, and brings no other value than its own.
 pub record Serves {N S E : Type 0} (v : Values N) (tells : Telling S) (old : PagerView N S E) (call : Call N PagableData) (r : Reply N (Arc PagableData Global)) (new : PagerView N S E) : Type 0 where
-  pub step : CallStep (plainly v) (core_in tells old) owners.Caller (plain_call call) (plain_reply r) (core_in tells new)
+  pub step : CallStep (plain v) (core_in tells old) owners.Caller (plain_call call) (plain_reply r) (core_in tells new)
   pub moves : Moves (CallBrings (core_in tells old) (plain_call call)) (state_in tells old) (state_in tells new)

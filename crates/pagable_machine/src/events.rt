@@ -12,8 +12,11 @@ ghost use Rattle.pagable_machine.specs.Keeping.{BeginsNoKey, Forgets};
 ghost use Rattle.pagable_machine.specs.Driving.{Drives, IsInStep, kept_at, over};
 
 use crate::calls;
+use crate::held::Held;
 use crate::readings::{put, remove, reserve};
 use crate::steps::load_step;
+use crate::walks::worker_step;
+use crate::workers::{table_new, worker_item, worker_listed};
 use indexmap::IndexMap;
 use pagable_codec::{Env, NodeSet};
 use pagable_core::{PagableData, PagableStorage, SerializedData};
@@ -55,35 +58,37 @@ where
 // A call.
 fn call<E: Env, S: PagableStorage<E>>(
     pager: &mut Pager<E, S>,
-    readings: &mut IndexMap<u64, Reading>,
+    held: &mut Held<E>,
     alloc: Global,
     call: Call<E::Node, PagableData>,
 ) -> Reply<E::Node, Arc<PagableData>>
 where
     E::Node: NodeSet<E>,
-    requires { IsInStep (telling S.stored S.is_closed S.failed) (over pager.old readings.old) }
+    requires { IsInStep (telling S.stored S.is_closed S.failed) (over pager.old held.old) }
     ensures { Drives (values_at E.Node.NodeSet E.Env E.Hash.KeyHash pager.old.environment) (telling S.stored S.is_closed S.failed)
-        (over pager.old readings.old) (events.Call call) (answers.CallReply result) (over pager.new readings.new) }
+        (over pager.old held.old) (events.Call call) (answers.CallReply result) (over pager.new held.new) }
 {
+    pager.is_whole();
     let closed = closed_by(&call);
     let reply = calls::serve(pager, alloc, call);
     pager.is_whole();
-    forget(pager, readings, closed);
+    forget(pager, &mut held.readings, closed);
     reply
 }
 
 // A load of a loose handle's cell begins. Nothing is kept of it before its first step.
 fn load_start<E: Env, S: PagableStorage<E>>(
     pager: &mut Pager<E, S>,
-    readings: &IndexMap<u64, Reading>,
+    held: &Held<E>,
     handle: HandleNumber,
 ) -> Result<Beginning, Error>
 where
     E::Node: NodeSet<E>,
-    requires { IsInStep (telling S.stored S.is_closed S.failed) (over pager.old readings.now) }
+    requires { IsInStep (telling S.stored S.is_closed S.failed) (over pager.old held.now) }
     ensures { Drives (values_at E.Node.NodeSet E.Env E.Hash.KeyHash pager.old.environment) (telling S.stored S.is_closed S.failed)
-        (over pager.old readings.now) (events.LoadStart handle) (answers.Started result) (over pager.new readings.now) }
+        (over pager.old held.now) (events.LoadStart handle) (answers.Started result) (over pager.new held.now) }
 {
+    pager.is_whole();
     let begun = calls::begin(pager, handle);
     pager.is_whole();
     begun
@@ -123,19 +128,19 @@ fn begun_load(begun: &Result<Beginning, Error>) -> Option<LoadNumber>
 // A load of a key begins, which is read as a value of this type.
 fn load_key<E: Env, S: PagableStorage<E>>(
     pager: &mut Pager<E, S>,
-    readings: &mut IndexMap<u64, Reading>,
+    held: &mut Held<E>,
     alloc: Global,
     key: DataKey,
     node_type: u32,
 ) -> Result<Beginning, Error>
 where
     E::Node: NodeSet<E>,
-    requires { IsInStep (telling S.stored S.is_closed S.failed) (over pager.old readings.old) }
+    requires { IsInStep (telling S.stored S.is_closed S.failed) (over pager.old held.old) }
     ensures { Drives (values_at E.Node.NodeSet E.Env E.Hash.KeyHash pager.old.environment) (telling S.stored S.is_closed S.failed)
-        (over pager.old readings.old) (events.LoadKey key node_type) (answers.Started result) (over pager.new readings.new) }
+        (over pager.old held.old) (events.LoadKey key node_type) (answers.Started result) (over pager.new held.new) }
 {
     pager.is_whole();
-    match key_place(pager, readings) {
+    match key_place(pager, &mut held.readings) {
         Ok(()) => {}
         Err(e) => return Err(e),
     }
@@ -144,7 +149,7 @@ where
     match begun_load(&begun) {
         Some(load) => {
             put(
-                readings,
+                &mut held.readings,
                 load.0,
                 Reading::new(alloc, load, key, node_type, false),
             );
@@ -154,31 +159,35 @@ where
     }
 }
 
-/// Makes the event's step, and answers what it answers. There are no tables of page-out yet: TableNew is refused with OutOfMemory, and what is asked of a table or a
-/// worker with NoSuchHandle.
+/// Makes the event's step, and answers what it answers.
 pub fn serve<E: Env, S: PagableStorage<E>>(
     pager: &mut Pager<E, S>,
-    readings: &mut IndexMap<u64, Reading>,
+    held: &mut Held<E>,
     alloc: Global,
     event: Event<E::Node, PagableData, SerializedData>,
-) -> EventReply<E::Node, Arc<PagableData>, SerializedData>
+) -> EventReply<E::Node, Arc<PagableData>, Arc<SerializedData>>
 where
     E::Node: NodeSet<E>,
-    requires { IsInStep (telling S.stored S.is_closed S.failed) (over pager.old readings.old) }
+    requires { IsInStep (telling S.stored S.is_closed S.failed) (over pager.old held.old) }
     ensures { Drives (values_at E.Node.NodeSet E.Env E.Hash.KeyHash pager.old.environment) (telling S.stored S.is_closed S.failed)
-        (over pager.old readings.old) event result (over pager.new readings.new) }
+        (over pager.old held.old) event result (over pager.new held.new) }
 {
-    pager.is_whole();
     match event {
-        Event::Call(made) => EventReply::CallReply(call(pager, readings, alloc, made)),
-        Event::LoadStart(handle) => EventReply::Started(load_start(pager, readings, handle)),
+        Event::Call(made) => EventReply::CallReply(call(pager, held, alloc, made)),
+        Event::LoadStart(handle) => EventReply::Started(load_start(pager, held, handle)),
         Event::LoadKey(key, node_type) => {
-            EventReply::Started(load_key(pager, readings, alloc, key, node_type))
+            EventReply::Started(load_key(pager, held, alloc, key, node_type))
         }
-        Event::LoadStep(load) => EventReply::LoadMoved(load_step(pager, readings, alloc, load)),
-        Event::TableNew => EventReply::TableMade(Err(Error::OutOfMemory)),
-        Event::WorkerItem(_table, _item) => EventReply::WorkerMade(Err(Error::NoSuchHandle)),
-        Event::WorkerListed(_table, _place) => EventReply::WorkerMade(Err(Error::NoSuchHandle)),
-        Event::WorkerStep(_worker) => EventReply::WorkerMoved(Err(Error::NoSuchHandle)),
+        Event::LoadStep(load) => EventReply::LoadMoved(load_step(pager, held, alloc, load)),
+        Event::TableNew => EventReply::TableMade(table_new(pager, held, alloc)),
+        Event::WorkerItem(table, item) => {
+            EventReply::WorkerMade(worker_item(pager, held, alloc, table, item))
+        }
+        Event::WorkerListed(table, place) => {
+            EventReply::WorkerMade(worker_listed(pager, held, alloc, table, place))
+        }
+        Event::WorkerStep(worker) => {
+            EventReply::WorkerMoved(worker_step(pager, held, alloc, worker))
+        }
     }
 }

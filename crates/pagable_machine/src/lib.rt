@@ -3,9 +3,12 @@
 
 mod calls;
 mod events;
+mod held;
 mod list;
 pub mod machine;
 mod readings;
 mod steps;
+mod walks;
+mod workers;
 
 pub use machine::Machine;

@@ -7,36 +7,37 @@ ghost use Rattle.pagable_pager.specs.View.{state_in, telling};
 ghost use Rattle.pagable_machine.specs.Driving.{Runs, machine_in};
 
 use crate::events;
+use crate::held::Held;
 use crate::list::put;
 use indexmap::IndexMap;
 use pagable_codec::{Env, NodeSet};
 use pagable_core::{PagableData, PagableStorage, SerializedData};
-use pagable_loads::Reading;
 use pagable_model::Error;
 use pagable_pager::Pager;
+use pagable_walk::Trees;
 use pagable_world::{Event, EventReply};
 use std::alloc::Global;
 use std::collections::VecDeque;
 use std::marker::Model;
 use std::sync::Arc;
 
-/// A pager that takes lists of events: calls, and loads by steps. No worker is at work in it.
+/// A pager that takes lists of events: calls, and loads and workers of page-out by steps.
 #[derive(Drop)]
-pub struct Machine<E: Env, S: PagableStorage<E>>
+pub struct Machine<E: Env + Trees, S: PagableStorage<E>>
 where
     E::Node: NodeSet<E>,
 {
     pager: Pager<E, S>,
-    // How far loads are, by their numbers.
-    readings: IndexMap<u64, Reading>,
+    // What it keeps of loads, tables and workers.
+    held: Held<E>,
 }
 
-impl<E: Env, S: PagableStorage<E>> Model for Machine<E, S>
+impl<E: Env + Trees, S: PagableStorage<E>> Model for Machine<E, S>
 where
     E::Node: NodeSet<E>,
 {
     ghost use Rattle.pagable_pager.specs.View.{telling};
-    ghost use Rattle.pagable_machine.specs.Driving.{IsInStep, MachineView, over};
+    ghost use Rattle.pagable_machine.specs.Driving.{IsInStep, MachineView, over, view_of};
     ghost use Rattle.std.specs.Coded.{codes};
     ghost use Rattle.indexmap.specs.Layout.{hash_map_code};
 
@@ -44,9 +45,9 @@ where
 
     ghost coded = { Prim.hlevel (codes, hash_map_code) };
 
-    ghost view = { λ m. over m.pager m.readings };
+    ghost view = { λ m. view_of m.pager m.held };
 
-    ghost invariant = { λ m. IsInStep (telling S.stored S.is_closed S.failed) (over m.pager m.readings) };
+    ghost invariant = { λ m. IsInStep (telling S.stored S.is_closed S.failed) (over m.pager m.held) };
 }
 
 impl<E: Env, S: PagableStorage<E>> Machine<E, S>
@@ -62,7 +63,11 @@ where
     {
         Machine {
             pager: Pager::new(alloc, storage, env),
-            readings: IndexMap::new(alloc),
+            held: Held {
+                readings: IndexMap::new(alloc),
+                tables: Vec::new(alloc),
+                walks: IndexMap::new(alloc),
+            },
         }
     }
 
@@ -83,7 +88,7 @@ where
         alloc: Global,
         events: Vec<Event<E::Node, PagableData, SerializedData>>,
     ) -> Result<
-        Vec<EventReply<E::Node, Arc<PagableData>, SerializedData>>,
+        Vec<EventReply<E::Node, Arc<PagableData>, Arc<SerializedData>>>,
         (Error, Vec<Event<E::Node, PagableData, SerializedData>>),
     >
         ensures run { IfOk result (λ replies.
@@ -96,7 +101,7 @@ where
         };
         let mut rest = VecDeque::from_vec(events);
         while let Some(event) = rest.pop_front() {
-            let reply = events::serve(&mut self.pager, &mut self.readings, alloc, event);
+            let reply = events::serve(&mut self.pager, &mut self.held, alloc, event);
             put(&mut replies, reply);
         }
         Ok(replies)

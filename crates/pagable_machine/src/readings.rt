@@ -14,11 +14,11 @@ use std::alloc::{AllocError, Global};
 use std::mem::replace;
 
 /// A place for one more.
-pub fn reserve(readings: &mut IndexMap<u64, Reading>) -> Result<(), AllocError>
-    ensures same { (q : ℕ) → kept_at readings.new q ≡ kept_at readings.old q }
-    ensures room { OnOk result (0 < spare readings.new) }
+pub fn reserve<V: Drop>(kept: &mut IndexMap<u64, V>) -> Result<(), AllocError>
+    ensures same { (q : ℕ) → kept_at kept.new q ≡ kept_at kept.old q }
+    ensures room { OnOk result (0 < spare kept.new) }
 {
-    readings.reserve(1)
+    kept.reserve(1)
 }
 
 /// Nothing is kept of a load any more.
@@ -28,12 +28,12 @@ pub fn remove(readings: &mut IndexMap<u64, Reading>, load: u64)
     readings.swap_remove(&load);
 }
 
-/// A load is kept from now on, where there is a place for it.
-pub fn put(readings: &mut IndexMap<u64, Reading>, load: u64, reading: Reading)
-    requires { 0 < spare readings.old }
-    ensures { KeepsOne (kept_at readings.old) load (Some reading) (kept_at readings.new) }
+/// This is kept of a number from now on, where there is a place for it.
+pub fn put<V: Drop>(kept: &mut IndexMap<u64, V>, number: u64, value: V)
+    requires { 0 < spare kept.old }
+    ensures { KeepsOne (kept_at kept.old) number (Some value) (kept_at kept.new) }
 {
-    let Ok(_) = readings.insert(load, reading) else {
+    let Ok(_) = kept.insert(number, value) else {
         unreachable!();
     };
 }

@@ -16,8 +16,8 @@ ghost use Rattle.pagable_pager.specs.View.{core_in, state_in, telling};
 ghost use Rattle.pagable_machine.specs.Keeping.{IsSameLoad, Stepped};
 ghost use Rattle.pagable_machine.specs.Driving.{Drives, IsInStep, over};
 
+use crate::held::Held;
 use crate::readings::{Unread, end, prepare, put_in, take_out};
-use indexmap::IndexMap;
 use pagable_codec::{Env, NodeSet};
 use pagable_core::PagableStorage;
 use pagable_loads::{Access, Reading};
@@ -55,7 +55,8 @@ fn step_by<'a, E: Env, S: PagableStorage<E>>(
 ) -> (LoadReply<E::Node>, Reading)
 where
     E::Node: NodeSet<E>,
-    ensures step { Stepped (values_at E.Node.NodeSet E.Env E.Hash.KeyHash lent.old.pager.now.environment) lent.old.me own result.0 result.1
+    requires { lent.old.me ≡ owners.Caller }
+    ensures step { Stepped (values_at E.Node.NodeSet E.Env E.Hash.KeyHash lent.old.pager.now.environment) owners.Caller own result.0 result.1
         (state_in (telling S.stored S.is_closed S.failed) lent.old.pager.now) (state_in (telling S.stored S.is_closed S.failed) lent.new.pager.now) }
     ensures again { IsSameLoad own result.1 }
     ensures counts { result.0.steps ≡ one_more own.steps }
@@ -105,27 +106,27 @@ where
 /// A load's next step. Refused with NoSuchHandle and NotYours; with WrongMode where a call began it as a load of a key. Then nothing changes, and no step is counted.
 pub fn load_step<E: Env, S: PagableStorage<E>>(
     pager: &mut Pager<E, S>,
-    readings: &mut IndexMap<u64, Reading>,
+    held: &mut Held<E>,
     alloc: Global,
     load: LoadNumber,
 ) -> Result<LoadReply<E::Node>, Error>
 where
     E::Node: NodeSet<E>,
-    requires { IsInStep (telling S.stored S.is_closed S.failed) (over pager.old readings.old) }
+    requires { IsInStep (telling S.stored S.is_closed S.failed) (over pager.old held.old) }
     ensures { Drives (values_at E.Node.NodeSet E.Env E.Hash.KeyHash pager.old.environment) (telling S.stored S.is_closed S.failed)
-        (over pager.old readings.old) (events.LoadStep load) (answers.LoadMoved result) (over pager.new readings.new) }
+        (over pager.old held.old) (events.LoadStep load) (answers.LoadMoved result) (over pager.new held.new) }
 {
     pager.is_whole();
     let (key, cell_type) = match pager.load_of(load) {
         Ok(reads) => reads,
         Err(e) => return Err(e),
     };
-    match prepare(readings, alloc, load, key, cell_type) {
+    match prepare(&mut held.readings, alloc, load, key, cell_type) {
         Ok(()) => {
-            let own = take_out(readings, alloc, load);
+            let own = take_out(&mut held.readings, alloc, load);
             let (reply, now) = step_lent(pager, alloc, own);
-            put_in(readings, load.0, now);
-            end(readings, load.0, &reply.ended);
+            put_in(&mut held.readings, load.0, now);
+            end(&mut held.readings, load.0, &reply.ended);
             Ok(reply)
         }
         Err(Unread::NoPlace) => {

@@ -8,9 +8,9 @@ returns-in-Err g c =
 
 pub returns-in-Some : goal.returns-in-Some
 returns-in-Some g c =
-    key-drives (values_at g.E.Node.NodeSet g.E.Env g.E.Hash.KeyHash) _ _ _ _ _ c.requires _ _ _ _ c.new.result c.in-Some.ensures.some c.begin_key-begun.ensures c.is_whole-2.ensures
+    key-drives (values_at g.E.Node.NodeSet g.E.Env g.E.Hash.KeyHash) _ _ _ _ _ c.requires c.is_whole.ensures _ _ _ _ c.new.result c.in-Some.ensures.some c.begin_key-begun.ensures c.is_whole-2.ensures
     c.new.ensures.reading c.new.ensures.key c.new.ensures.for_cell (keeps-after c.key_place.ensures.same c.put.ensures)
 
 pub returns-in-None : goal.returns-in-None
 returns-in-None g c =
-    key-none-drives (values_at g.E.Node.NodeSet g.E.Env g.E.Hash.KeyHash) _ _ _ _ _ c.requires _ _ _ c.in-None.ensures.none c.begin_key-begun.ensures c.is_whole-2.ensures c.key_place.ensures.same
+    key-none-drives (values_at g.E.Node.NodeSet g.E.Env g.E.Hash.KeyHash) _ _ _ _ _ c.requires c.is_whole.ensures _ _ _ c.in-None.ensures.none c.begin_key-begun.ensures c.is_whole-2.ensures c.key_place.ensures.same

@@ -4,7 +4,7 @@ use Rattle.std.proofs.Common.{◌∙◌}
 use Rattle.pagable_machine.proofs.steps.load_step.Goals as goal
 
 pub returns-in-Err : goal.returns-in-Err
-returns-in-Err g c = closed-drives (values_at g.E.Node.NodeSet g.E.Env g.E.Hash.KeyHash) _ _ c.args.pager.now _ c.args.readings.now c.requires c.is_whole.ensures _ _ c.in-Err.ensures.fault
+returns-in-Err g c = closed-drives (values_at g.E.Node.NodeSet g.E.Env g.E.Hash.KeyHash) _ _ c.args.pager.now _ c.args.held.now.readings c.requires c.is_whole.ensures _ _ c.in-Err.ensures.fault
 
 pub returns-in-Ok-prepare : goal.returns-in-Ok-prepare
 returns-in-Ok-prepare g c =

@@ -6,7 +6,7 @@ pub loop-event-init : goal.loop-event-init
 loop-event-init g c =
     record {
       room = grind arith;
-      run = rw (c.in-Ok.ensures.items, c.from_vec-rest.ensures.items, ← c.self.view_is) (at-first _ _ _ _ c.self.invariant);
+      run = rw (c.in-Ok.ensures.items, c.from_vec-rest.ensures.items) (at-first _ _ _ _ _ c.self.view_is c.self.invariant);
     }
 
 pub loop-event-smaller : goal.loop-event-smaller

@@ -12,7 +12,7 @@ invariant-loop-event g l =
     let says = spelling g.E.Node.NodeSet.type_of g.E.Node.NodeSet.refs_of g.E.Node.NodeSet.means g.E.Node.NodeSet.read_causes g.E.Node.NodeSet.write_causes g.E.Node.NodeSet.shape_of g.E.Env.parts g.E.Hash.KeyHash.digest in
     record {
       room : length l.rest.items + vec_len l.replies ≤ vec_capacity l.replies;
-      run : SoFar tells says l.fn.self l.fn.events.items l.rest.items l.replies.items (over l.self-inside.pager l.self-inside.readings);
+      run : SoFar tells says l.fn.self l.fn.events.items l.rest.items l.replies.items (over l.self-inside.pager l.self-inside.held);
     }
 
 abbrev pub decreases-loop-event : goal.decreases-loop-event

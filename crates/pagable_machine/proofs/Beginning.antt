@@ -1,0 +1,159 @@
+-- Tables and workers that begin.
+use Rattle.std.proofs.Common.{◌≡◌, ◌≢◌, ℕ, zero, suc, ◌+◌, ◌<◌, ◌≤◌, ◌==◌, Bool, true, false, List, [], ◌∷◌, ◌++◌, Option, Some, None, Ok, Err, ◌⊎◌, inl, inr, if◌then◌else◌, refl, sym, ap, subst, ◌∙◌, length, arith}
+use Rattle.std.specs.Prelude.{is_none, is_some, slice_get}
+use Rattle.std.specs.Option.{option_map}
+use Rattle.std.proofs.lemmas.List.{length-append}
+use Rattle.pagable_model.specs.declared.error.Error.{Error}
+use Rattle.pagable_model.specs.declared.error.Error.TheVariants as errors
+use Rattle.pagable_model.specs.declared.numbers.WorkerNumber.{WorkerNumber}
+use Rattle.pagable_world.specs.declared.events.Event.{Event}
+use Rattle.pagable_world.specs.declared.events.Event.TheVariants as events
+use Rattle.pagable_world.specs.declared.events.EventReply.TheVariants as answers
+use Rattle.pagable_world.specs.declared.events.TableNumber.{TableNumber}
+use Rattle.pagable_world.specs.declared.handles.Owner.TheVariants as owners
+use Rattle.pagable_world.specs.Plain.{if_there, updated}
+use Rattle.pagable_world.specs.Kinds.{is_owner}
+use Rattle.pagable_world.specs.World.{Alike, Core, SameShelf, Seen, Shelf, Todo, Walking}
+use Rattle.pagable_world.specs.World as world
+use Rattle.pagable_world.specs.Events.{Happens, IsTable, Starts, new_walking, no_shelf, with_worker}
+use Rattle.pagable_world.specs.Order.{step_of}
+use Rattle.pagable_world.specs.Pager.{Moves, PagerState, WellFormed, world_of}
+use Rattle.pagable_laws.proofs.Sums.{same-number, self-number}
+use Rattle.pagable_walk.specs.declared.results.Trees.{Ghosts}
+use Rattle.pagable_walk.specs.declared.table.SlotTable.{SlotTable}
+use Rattle.pagable_walk.specs.declared.tasks.Task.{Task}
+use Rattle.pagable_walk.specs.declared.tasks.Task.TheVariants as tasks
+use Rattle.pagable_walk.specs.Table.{shelf_of}
+use Rattle.pagable_walk.specs.Tasks.{IsPlain}
+use Rattle.pagable_walk.specs.Turns.{TaskFits}
+use Rattle.pagable_machine.specs.declared.held.Walk.{Walk}
+use Rattle.pagable_machine.specs.Keeping.{Holding, IsServing, KeepsOne, Makes, machine_of, readings_in, work_of}
+use Rattle.pagable_machine.specs.Walking.{IsBegun, IsWalkKept, shelf_at, walking_of}
+use Rattle.pagable_machine.proofs.Keeping.{alike-self, are-these, as-before, at-one, kept-on, makes, makes-with, not-same, one-serves, updated-at}
+use Rattle.pagable_machine.proofs.Leaving.{Leaves, same}
+use Rattle.pagable_machine.proofs.Passing.{Passes, event-passes}
+
+-- ---- a table
+
+at-end : {Y : Type 0} (xs : List Y) (x : Y) (n : ℕ) → n ≡ length xs → slice_get (xs ++ x ∷ []) n ≡ Some x
+at-end [] x zero is = refl
+at-end [] x (suc n) is = absurd (omega (arith, is))
+at-end (y ∷ ys) x zero is = absurd (omega (arith, is))
+at-end (y ∷ ys) x (suc n) is = at-end ys x n (omega (arith, is))
+
+elsewhere : {Y : Type 0} (xs : List Y) (x : Y) (n : ℕ) → n ≢ length xs → slice_get (xs ++ x ∷ []) n ≡ slice_get xs n
+elsewhere [] x zero other = absurd (other refl)
+elsewhere [] x (suc n) other = refl
+elsewhere (y ∷ ys) x zero other = refl
+elsewhere (y ∷ ys) x (suc n) other = elsewhere ys x n (λ is. other (omega (arith, is)))
+
+module _ {X : Type 0} {g : Ghosts X} where
+  -- the tables with one more, which has no claim
+  shelf-added : (tables : List (SlotTable X g)) (new : SlotTable X g) → SameShelf no_shelf (shelf_of new) → (t : ℕ)
+      → SameShelf (updated (length tables + 1) no_shelf (shelf_at tables) t) (shelf_at (tables ++ new ∷ []) t)
+  shelf-added tables new empty zero = by (zero == length tables + 1) refl
+    where
+      by : (b : Bool) → (zero == length tables + 1) ≡ b → SameShelf (if b then no_shelf else no_shelf) no_shelf
+      by true e = record { slots = λ i. refl; waits = λ v. refl }
+      by false e = record { slots = λ i. refl; waits = λ v. refl }
+  shelf-added tables new empty (suc n) = by (suc n == length tables + 1) refl
+    where
+      by : (b : Bool) → (suc n == length tables + 1) ≡ b → SameShelf (if b then no_shelf else shelf_at tables (suc n)) (shelf_at (tables ++ new ∷ []) (suc n))
+      by true e =
+          let at = same-number (suc n) (length tables + 1) e in
+          let is : n ≡ length tables = omega (arith, at) in
+          let there : slice_get (tables ++ new ∷ []) n ≡ Some new = at-end tables new n is in
+          subst (λ (found : Option (SlotTable X g)). SameShelf no_shelf (if_there shelf_of no_shelf found)) (sym there) empty
+      by false e =
+          let other = not-same (suc n) (length tables + 1) e in
+          let same_there = elsewhere tables new n (λ is. other (omega (arith, is))) in
+          subst (λ (found : Option (SlotTable X g)). SameShelf (shelf_at tables (suc n)) (if_there shelf_of no_shelf found)) (sym same_there) (record { slots = λ i. refl; waits = λ v. refl })
+
+  module _ {N B W E : Type 0} (m : Seen N B W) (s : PagerState N E) (h : Holding g) (new : SlotTable X g) (serving : IsServing s.core h) (was : WellFormed m.values s) where
+    abbrev with_table : Holding g
+    with_table = record h { tables = h.tables ++ new ∷ [] }
+
+    pub table-made : (t : TableNumber) → t.0 ≡ length h.tables + 1 → SameShelf no_shelf (shelf_of new) → Makes m s h events.TableNew (answers.TableMade (Ok t)) s with_table
+    table-made t number empty =
+        makes m s s {h' = with_table} serving was was (let more = length-append h.tables (new ∷ []) in omega (arith, more)) (λ v. refl) (same s.core) events.TableNew (answers.TableMade (Ok t)) (λ v. refl)
+        (record {
+          made = (
+            number,
+            alike-self s.core,
+            are-these s.core h.readings (readings_in h.readings s.core) (λ l load is. as-before serving.readings on l load is),
+            record {
+              same_shelves = λ q. subst (λ n. SameShelf (updated n no_shelf (shelf_at h.tables) q) (shelf_at (h.tables ++ new ∷ []) q)) (sym number) (shelf-added h.tables new empty q);
+              last_is = length-append h.tables (new ∷ []) ∙ sym number;
+              same_walkings = λ v. refl;
+            },
+          );
+          refused = tt;
+        })
+        (record { each = λ n x is. inl is; environment = refl }) tt serving.readings
+      where
+        on : Leaves owners.Caller s.core.workers s.core s.core
+        on = same s.core
+
+-- ---- a worker
+
+plain-fits : {X : Type 0} {g : Ghosts X} (n : ℕ) (w : Core) (task : Task X g) → IsPlain task → TaskFits n w task
+plain-fits n w (tasks.Pin r place) plain = absurd plain
+plain-fits n w (tasks.Load r place through own) plain = absurd plain
+plain-fits n w (tasks.Write r place through pin) plain = absurd plain
+plain-fits n w task plain = tt
+
+module _ {X : Type 0} {g : Ghosts X} {N B W E : Type 0} (m : Seen N B W) (s s' : PagerState N E) (h : Holding g) {walks' : ℕ → Option (Walk X g)} (serving : IsServing s.core h) (was : WellFormed m.values s)
+    (formed : WellFormed m.values s') (on : Leaves owners.Caller (updated (s.core.last.worker + 1) true s.core.workers) s.core s'.core)
+    (t : TableNumber) (task : world.Task) (n : WorkerNumber) (k : Walk X g) (table : IsTable (world_of (machine_of s h)) t) (next : n.0 ≡ s.core.last.worker + 1) (begun : IsBegun t task k)
+    (keeps : KeepsOne h.walks n.0 (Some k) walks') where
+  abbrev with_walk : Holding g
+  with_walk = record h { walks = walks' }
+
+  -- the plain world's worker starts
+  pub starts-so : (core : Core) → Alike (with_worker core) s'.core → Starts (world_of (machine_of s h)) t task core n (world_of (machine_of s' with_walk))
+  starts-so core a =
+      record {
+        table = table;
+        next = next;
+        pager = a;
+        readings = are-these s'.core h.readings (readings_in h.readings s.core) (λ l load is. as-before serving.readings on l load is);
+        work = record {
+          same_shelves = λ q. record { slots = λ i. refl; waits = λ v. refl };
+          last_is = refl;
+          same_walkings = λ q. at-one walking_of n.0 (Some k) (Some (new_walking t task)) (λ v. option_map walking_of (h.walks v)) keeps (ap Some begun.walking) q refl;
+        };
+      }
+
+  at-work : (q : ℕ) → q ≢ n.0 → s'.core.workers q ≡ s.core.workers q
+  at-work q other = on.workers q ∙ by (q == s.core.last.worker + 1) refl
+    where
+      by : (b : Bool) → (q == s.core.last.worker + 1) ≡ b → (if b then true else s.core.workers q) ≡ s.core.workers q
+      by true e = absurd (other (same-number q _ e ∙ sym next))
+      by false e = refl
+
+  new-walk : IsWalkKept s'.core (length h.tables) n.0 k
+  new-walk =
+      let there = ap (λ (x : Walking). x.table) begun.walking in
+      let unanswered = ap (λ (x : Walking). x.answer) begun.walking in
+      record {
+        table = (subst (λ q. 0 < q) (sym there) table.0, subst (λ q. q ≤ length h.tables) (sym there) table.1);
+        at_work = on.workers n.0 ∙ ap (updated (s.core.last.worker + 1) true s.core.workers) next ∙ updated-at (s.core.last.worker + 1) true s.core.workers ∙ sym (ap is_none unanswered);
+        either = begun.has ∙ sym (ap is_none unanswered);
+        way = begun.way;
+        fits = λ x is. plain-fits n.0 s'.core x (begun.plain x is);
+      }
+
+  -- it is kept from now on
+  pub worker-made : (event : Event N B W) → ((v : ℕ) → step_of v event (answers.WorkerMade (Ok n)) ≡ []) → Happens m (world_of (machine_of s h)) event (answers.WorkerMade (Ok n)) (world_of (machine_of s' with_walk))
+      → Moves (λ q x. ⊥) s s' → Makes m s h event (answers.WorkerMade (Ok n)) s' with_walk
+  worker-made event none happens moves =
+      makes-with m s s' {h' = with_walk} formed event (answers.WorkerMade (Ok n)) happens
+      (record { each = λ q x is. elim (moves.each q x is) [ inl there ↦ inl there | inr came ↦ absurd came.1 ]; environment = moves.environment }) tt
+      (one-serves {h' = with_walk} serving was.whole.handles n.0 k keeps (le-self _) (kept-on serving.readings on (λ l own is. inl is)) (λ q other. passes q) at-work new-walk)
+    where
+      le-self : (a : ℕ) → a ≤ a
+      le-self a = omega arith
+
+      passes : (v : ℕ) → Passes v s.core s'.core
+      passes v = event-passes m v (world_of (machine_of s h)) (world_of (machine_of s' with_walk)) was.whole event (answers.WorkerMade (Ok n)) (none v) happens
+          (λ l load is own. on.others l load is (was.whole.loads.numbered l (ap is_some is)).1 (ap (is_owner owners.Caller) own))

@@ -1,0 +1,202 @@
+-- Each event of tables and workers, by what the pager and what is kept say of it.
+use Rattle.std.proofs.Common.{◌≡◌, ℕ, ◌+◌, ◌<◌, ◌≤◌, Bool, true, false, List, [], ◌∷◌, ◌++◌, Option, Some, None, Ok, Err, ◌⊎◌, inl, inr, refl, sym, ap, subst, ◌∙◌, length, arith}
+use Rattle.std.specs.Prelude.{is_none, is_some}
+use Rattle.std.specs.Option.{option_map}
+use Rattle.std.specs.declared.alloc.Global.{Global}
+use Rattle.std.specs.declared.sync.Arc.{Arc}
+use Rattle.std.specs.declared.vec.Vec.{Vec}
+use Rattle.std.proofs.lemmas.Bool.Decides.{nat_tests}
+use Rattle.pagable_core.specs.declared.context.writing.SerializedData.{SerializedData}
+use Rattle.pagable_model.specs.declared.error.Error.{Error}
+use Rattle.pagable_model.specs.declared.error.Error.TheVariants as errors
+use Rattle.pagable_model.specs.declared.numbers.ArcRef.{ArcRef}
+use Rattle.pagable_model.specs.declared.numbers.HandleNumber.{HandleNumber}
+use Rattle.pagable_model.specs.declared.numbers.WorkerNumber.{WorkerNumber}
+use Rattle.pagable_world.specs.declared.events.Event.TheVariants as events
+use Rattle.pagable_world.specs.declared.events.EventReply.TheVariants as answers
+use Rattle.pagable_world.specs.declared.events.TableNumber.{TableNumber}
+use Rattle.pagable_world.specs.declared.events.WorkerAnswer.{WorkerAnswer}
+use Rattle.pagable_world.specs.declared.events.WorkerReply.{WorkerReply}
+use Rattle.pagable_world.specs.declared.handles.HandleRow.{HandleRow}
+use Rattle.pagable_world.specs.Plain.{Blob, if_there}
+use Rattle.pagable_world.specs.Kinds.{HasNoKinds, identity_of}
+use Rattle.pagable_world.specs.World.{Alike, Core, SameShelf, Seen, Values, Walking, Written, of_entry, of_item}
+use Rattle.pagable_world.specs.World as world
+use Rattle.pagable_world.specs.Access.{Called, WorkerStarts}
+use Rattle.pagable_world.specs.Events.{IsEntry, IsNoTable, IsTable, entry_task, no_shelf, with_entry_taken}
+use Rattle.pagable_world.specs.Pager.{PagerState, WellFormed, world_of}
+use Rattle.pagable_loads.specs.Working.{RefusesEntry, StartsEntry}
+use Rattle.pagable_pager.specs.View.{PagerView, Telling, core_in, state_in}
+use Rattle.pagable_walk.specs.declared.results.Trees.{Ghosts}
+use Rattle.pagable_walk.specs.declared.table.SlotTable.{SlotTable}
+use Rattle.pagable_walk.specs.Slots.{written_of}
+use Rattle.pagable_walk.specs.Table.{shelf_of}
+use Rattle.pagable_walk.specs.Turns.{plain}
+use Rattle.pagable_machine.specs.declared.held.Held.{Held}
+use Rattle.pagable_machine.specs.declared.held.Walk.{Walk}
+use Rattle.pagable_machine.specs.Keeping.{Holding, KeepsOne, Makes, machine_of}
+use Rattle.pagable_machine.specs.Walking.{IsBegun, WalksOn, has_task, is_table, walking_of}
+use Rattle.pagable_machine.specs.Driving.{Answer, ByNumber, Drives, Given, IsInStep, holding, kept_at, over}
+use Rattle.pagable_machine.proofs.Keeping.{KeepsAll, alike-self, refuses, stays}
+use Rattle.pagable_machine.proofs.Beginning.{starts-so, table-made, worker-made}
+use Rattle.pagable_machine.proofs.Stepping.{worker-moved}
+use Rattle.pagable_machine.proofs.Working.{entry-leaves, item-leaves}
+
+there-is : {X : Type 0} {g : Ghosts X} (t : ℕ) (tables : List (SlotTable X g)) → is_table t tables ≡ true → (0 < t) × (t ≤ length tables)
+there-is t tables is = (grind (arith, nat_tests), grind (arith, nat_tests))
+
+none-is : {X : Type 0} {g : Ghosts X} (t : ℕ) (tables : List (SlotTable X g)) → is_table t tables ≡ false → (t ≡ 0) ⊎ (length tables < t)
+none-is t tables is = grind (arith, nat_tests)
+
+pub nothing-done : {N E : Type 0} {v : Values N} (s : PagerState N E) → WellFormed v s → Called v (λ w'. Alike s.core w') s s
+nothing-done s was = record { step = alike-self s.core; moves = record { each = λ n x is. inl is; environment = refl }; whole = was }
+
+module _ {X : Type 0} {g : Ghosts X} {N S E : Type 0} (v : E → Values N) (tells : Telling S) (old new : PagerView N S E) (held : Held X g) (serving : IsInStep tells (over old held))
+    (was : WellFormed (v old.environment) (state_in tells old)) where
+  abbrev m : Seen N Blob Written
+  m = plain (v old.environment)
+
+  abbrev s : PagerState N E
+  s = state_in tells old
+
+  abbrev s' : PagerState N E
+  s' = state_in tells new
+
+  abbrev h : Holding g
+  h = holding held
+
+  abbrev Happens : Given N → Answer N → PagerView N S E → Held X g → Type 0
+  Happens event reply now left = Drives (v old.environment) tells (over old held) event reply (over now left)
+
+  -- ---- tables
+
+  pub table-drives : (tables' : Vec (SlotTable X g) Global) (table : SlotTable X g) (t : TableNumber) → tables'.items ≡ held.tables.items ++ table ∷ [] → t.0 ≡ length held.tables.items + 1
+      → SameShelf no_shelf (shelf_of table) → Happens events.TableNew (answers.TableMade (Ok t)) old (record held { tables = tables' })
+  table-drives tables' table t is number empty =
+      record {
+        makes = subst (λ (items : List (SlotTable X g)). Makes m s h events.TableNew (answers.TableMade (Ok t)) s (record h { tables = items })) (sym is)
+            (table-made m s h table serving was t number empty);
+      }
+
+  pub no-table-drives : (tables' : Vec (SlotTable X g) Global) → tables'.items ≡ held.tables.items → Happens events.TableNew (answers.TableMade (Err errors.OutOfMemory)) old (record held { tables = tables' })
+  no-table-drives tables' is =
+      let keeps : KeepsAll h (record h { tables = tables'.items }) = record { readings = λ l. refl; tables = is; walks = λ q. refl } in
+      record {
+        makes = refuses m s s serving was was (alike-self s.core) keeps events.TableNew (answers.TableMade (Err errors.OutOfMemory)) (λ q. refl)
+            (record { made = tt; refused = (refl, stays m s s serving was was (alike-self s.core) keeps) }) (record { each = λ n x is. inl is; environment = refl }) tt;
+      }
+
+  -- ---- workers that begin
+
+  module _ (walks' : ByNumber (Walk X g)) (t : TableNumber) where
+    abbrev left : Held X g
+    left = record held { walks = walks' }
+
+    module _ (e : Error) (done : Called (v old.environment) (λ w'. Alike s.core w') s s') (same_walks : (q : ℕ) → kept_at walks' q ≡ kept_at held.walks q) where
+      same-held : KeepsAll h (record h { walks = kept_at walks' })
+      same-held = record { readings = λ l. refl; tables = refl; walks = same_walks }
+
+      pub item-refused : (item : SerializedData) → ((e ≡ errors.NoSuchHandle) × (is_table t.0 held.tables.items ≡ false)) ⊎ ((e ≡ errors.OutOfMemory) × (is_table t.0 held.tables.items ≡ true))
+          → Happens (events.WorkerItem t item) (answers.WorkerMade (Err e)) new left
+      item-refused item why =
+          record {
+            makes = refuses m s s' serving was done.whole done.step same-held (events.WorkerItem t (written_of item)) (answers.WorkerMade (Err e)) (λ q. refl)
+                (record { starts = tt; refused = (cause, stays m s s' serving was done.whole done.step same-held) }) done.moves tt;
+          }
+        where
+          cause : ((e ≡ errors.NoSuchHandle) × IsNoTable (world_of (machine_of s h)) t) ⊎ ((e ≡ errors.OutOfMemory) × IsTable (world_of (machine_of s h)) t)
+          cause = elim why [ inl (is, none) ↦ inl (is, none-is t.0 held.tables.items none) | inr (is, there) ↦ inr (is, there-is t.0 held.tables.items there) ]
+
+      pub listed-refused : (i : ℕ)
+          → ((e ≡ errors.NoSuchHandle) × ((is_table t.0 held.tables.items ≡ false) ⊎ (length s.core.list ≤ i)))
+          ⊎ ((is_table t.0 held.tables.items ≡ true) × (i < length s.core.list) × ((e ≡ errors.OutOfMemory) ⊎ ((e ≡ errors.WrongKind) × ((q : HandleNumber) × (row : HandleRow) × (type : ℕ) × IsEntry s.core i q row type × HasNoKinds type))))
+          → Happens (events.WorkerListed t i) (answers.WorkerMade (Err e)) new left
+      listed-refused i why =
+          record {
+            makes = refuses m s s' serving was done.whole done.step same-held (events.WorkerListed t i) (answers.WorkerMade (Err e)) (λ q. refl)
+                (record { starts = tt; refused = (cause, stays m s s' serving was done.whole done.step same-held) }) done.moves tt;
+          }
+        where
+          u : world.World
+          u = world_of (machine_of s h)
+
+          cause : ((e ≡ errors.NoSuchHandle) × (IsNoTable u t ⊎ (length s.core.list ≤ i)))
+              ⊎ ((e ≡ errors.WrongKind) × IsTable u t × ((q : HandleNumber) × (row : HandleRow) × (type : ℕ) × IsEntry s.core i q row type × HasNoKinds type))
+              ⊎ ((e ≡ errors.OutOfMemory) × IsTable u t × (i < length s.core.list))
+          cause = elim why [
+            | inl (is, inl none) ↦ inl (is, inl (none-is t.0 held.tables.items none))
+            | inl (is, inr past) ↦ inl (is, inr past)
+            | inr (there, within, inl is) ↦ inr (inr (is, there-is t.0 held.tables.items there, within))
+            | inr (there, within, inr (is, entry)) ↦ inr (inl (is, there-is t.0 held.tables.items there, entry))
+          ]
+
+    pub entry-refused : (e : Error) (i : ℕ) → is_table t.0 held.tables.items ≡ true → i < length s.core.list → RefusesEntry (v old.environment) s i e s'
+        → ((q : ℕ) → kept_at walks' q ≡ kept_at held.walks q) → Happens (events.WorkerListed t i) (answers.WorkerMade (Err e)) new left
+    entry-refused e i there within r same_walks = listed-refused e r.stays same_walks i (elim r.why [
+      | inl (is, past) ↦ inl (is, inr past)
+      | inr (inl (is, entry)) ↦ inr (there, within, inr (is, entry))
+      | inr (inr is) ↦ inr (there, within, inl is)
+    ])
+
+    module _ (n : WorkerNumber) (k : Walk X g) (there : is_table t.0 held.tables.items ≡ true) (keeps : KeepsOne (kept_at held.walks) n.0 (Some k) (kept_at walks')) where
+      pub item-started : (item : SerializedData) → WorkerStarts (v old.environment) s.core s n.0 s' → IsBegun t (of_item (written_of item)) k
+          → Happens (events.WorkerItem t item) (answers.WorkerMade (Ok n)) new left
+      item-started item starts begun =
+          let formed = starts.begins.whole in
+          let on = item-leaves starts.begins.step in
+          let table = there-is t.0 held.tables.items there in
+          let task = of_item (written_of item) in
+          record {
+            makes = worker-made m s s' h serving was formed on t task n k table starts.next begun keeps (events.WorkerItem t (written_of item)) (λ q. refl)
+                (record { starts = starts-so m s s' h serving was formed on t task n k table starts.next begun keeps s.core starts.begins.step; refused = tt }) starts.begins.moves;
+          }
+
+      pub listed-started : (i : ℕ) (r : ArcRef) → StartsEntry (v old.environment) s i n r s' → IsBegun t (of_entry r.handle (identity_of r)) k
+          → Happens (events.WorkerListed t i) (answers.WorkerMade (Ok n)) new left
+      listed-started i r entry begun =
+          let starts = entry.starts in
+          let formed = starts.begins.whole in
+          let on = entry-leaves i entry.h n starts.begins.step in
+          let table = there-is t.0 held.tables.items there in
+          let task : world.Task = entry_task entry.h entry.row entry.type in
+          let own : IsBegun t task k = subst (λ (x : ArcRef). IsBegun t (of_entry x.handle (identity_of x)) k) entry.is begun in
+          record {
+            makes = worker-made m s s' h serving was formed on t task n k table starts.next own keeps (events.WorkerListed t i) (λ q. refl)
+                (record {
+                  starts = (
+                    entry.h,
+                    entry.row,
+                    entry.type,
+                    entry.entry,
+                    entry.kinds,
+                    starts-so m s s' h serving was formed on t task n k table starts.next own keeps (with_entry_taken s.core i entry.h n) starts.begins.step,
+                  );
+                  refused = tt;
+                }) starts.begins.moves;
+          }
+
+  -- ---- a worker's step
+
+  pub no-step-drives : (n : WorkerNumber) → has_task (kept_at held.walks n.0) ≡ false → Happens (events.WorkerStep n) (answers.WorkerMoved (Err errors.NoSuchHandle)) old held
+  no-step-drives n none =
+      let keeps : KeepsAll h h = record { readings = λ l. refl; tables = refl; walks = λ q. refl } in
+      record {
+        makes = refuses m s s serving was was (alike-self s.core) keeps (events.WorkerStep n) (answers.WorkerMoved (Err errors.NoSuchHandle)) (λ q. refl)
+            (record { moves = tt; refused = (refl, by (kept_at held.walks n.0) refl none, stays m s s serving was was (alike-self s.core) keeps) }) (record { each = λ q x is. inl is; environment = refl }) tt;
+      }
+    where
+      answered : (task answer : Bool) → task ≡ false → task ≡ answer → answer ≡ false
+      answered task answer none same = sym same ∙ none
+
+      some-answer : (found : Option WorkerAnswer) → is_none found ≡ false → is_some found ≡ true
+      some-answer None is = absurd (cc)
+      some-answer (Some answer) is = refl
+
+      by : (found : Option (Walk X g)) → kept_at held.walks n.0 ≡ found → has_task found ≡ false → if_there (λ (walking : Walking). is_some walking.answer) true (option_map walking_of found) ≡ true
+      by None is none = refl
+      by (Some k) is none = some-answer k.answer (answered _ _ none (serving.walks n.0 k is).either)
+
+  pub step-drives : (n : WorkerNumber) (k k' : Walk X g) (reply : WorkerReply (Arc SerializedData Global)) (tables' : Vec (SlotTable X g) Global) (walks' : ByNumber (Walk X g)) → kept_at held.walks n.0 ≡ Some k
+      → WalksOn (v old.environment) n.0 held.tables.items k s reply tables'.items k' s' → KeepsOne (kept_at held.walks) n.0 (Some k') (kept_at walks')
+      → Happens (events.WorkerStep n) (answers.WorkerMoved (Ok reply)) new (record held { tables = tables'; walks = walks' })
+  step-drives n k k' reply tables' walks' kept on keeps = record { makes = worker-moved (v old.environment) s s' h serving was n k k' kept reply on keeps }

@@ -1,0 +1,75 @@
+-- What a machine keeps of a worker stays in step with the pager through each event that the worker doesn't make.
+use Rattle.std.proofs.Common.{◌≡◌, ℕ, ◌<◌, ◌≤◌, Option, Some, None, refl, sym, ap, ◌∙◌, arith}
+use Rattle.pagable_model.specs.declared.numbers.ArcRef.{ArcRef}
+use Rattle.pagable_model.specs.declared.numbers.HandleNumber.{HandleNumber}
+use Rattle.pagable_world.specs.Plain.{if_there, type_of}
+use Rattle.pagable_world.specs.Kinds.{owner_worker}
+use Rattle.pagable_world.specs.World.{Cell, Core, type_at}
+use Rattle.pagable_world.specs.Pager.{HandlesAreWhole}
+use Rattle.pagable_laws.specs.KeyRuns.{StandsAt}
+use Rattle.pagable_laws.proofs.Outlasting.{stands-whole}
+use Rattle.pagable_loads.specs.declared.reading.Reading.{Reading as Own}
+use Rattle.pagable_walk.specs.declared.results.Trees.{Ghosts}
+use Rattle.pagable_walk.specs.declared.tasks.Task.{Task}
+use Rattle.pagable_walk.specs.declared.tasks.Task.TheVariants as tasks
+use Rattle.pagable_walk.specs.Turns.{HoldsPin, IsLoading, IsOfKind, TaskFits}
+use Rattle.pagable_machine.specs.declared.held.Walk.{Walk}
+use Rattle.pagable_machine.specs.Walking.{IsWalkKept}
+use Rattle.pagable_machine.proofs.Passing.{Passes}
+
+module _ {v : ℕ} {w w' : Core} (whole : HandlesAreWhole w) (passes : Passes v w w') where
+  stands-on : {r : ArcRef} {h : HandleNumber} → StandsAt w r h → StandsAt w' r h
+  stands-on {r} {h} s =
+      record {
+        node_given = let a = s.node_given in let b = passes.nodes in omega (arith, a, b);
+        given = let a = s.given in let b = passes.handles in omega (arith, a, b);
+        is = λ row live. let was = passes.rows h.0 row live s.given in let old = s.is was.was was.live in (sym was.at ∙ old.0, λ kind. was.loose (old.1 kind));
+      }
+
+  kind-on : {r : ArcRef} → IsOfKind w r → IsOfKind w' r
+  kind-on {r} k =
+      record {
+        given = let a = k.given in let b = passes.nodes in omega (arith, a, b);
+        typed = λ t is. by t (w'.cells r.node.0) refl is;
+      }
+    where
+      by : (t : ℕ) (found : Option Cell) → w'.cells r.node.0 ≡ found → if_there (λ (cell : Cell). Some cell.node_type) None found ≡ Some t → t ≡ type_of r.kind.0
+      by t None e is = absurd (cc)
+      by t (Some cell) e is =
+          let was = passes.cells r.node.0 cell e k.given in
+          k.typed t (ap (λ (c : Option Cell). if_there (λ (x : Cell). Some x.node_type) None c) was.1 ∙ (ap Some (sym was.2) ∙ is))
+
+  load-on : {r : ArcRef} {through : HandleNumber} {own : Own} → IsLoading w v r through own → IsLoading w' v r through own
+  load-on l =
+      record {
+        is = record {
+          load = l.is.load;
+          owned = record { stands_open = passes.loads _ _ l.is.owned.stands_open l.is.owned.own; own = l.is.owned.own };
+          key = l.is.key;
+          sort = l.is.sort;
+        };
+        for_cell = l.for_cell;
+        t = l.t;
+        root = l.root;
+      }
+
+  pin-on : {r : ArcRef} {k : HandleNumber} → HoldsPin w (owner_worker v) r k → HoldsPin w' (owner_worker v) r k
+  pin-on {r} {k} p =
+      let s = passes.spares.each k.0 p.pins.row p.own (stands-whole whole k.0 p.pins.row p.pins.live) in
+      record { pins = record { row = p.pins.row; live = s.live; at = p.pins.at; pins = p.pins.pins }; own = p.own }
+
+  fits-on : {X : Type 0} {g : Ghosts X} (task : Task X g) → TaskFits v w task → TaskFits v w' task
+  fits-on (tasks.Pin r place) (stands, kind) = (stands-on stands, kind-on kind)
+  fits-on (tasks.Load r place through own) (kind, loading) = (kind-on kind, load-on loading)
+  fits-on (tasks.Write r place through pin) (kind, holds) = (kind-on kind, pin-on holds)
+  fits-on task fits = tt
+
+  pub walk-on : {X : Type 0} {g : Ghosts X} {last last' : ℕ} {k : Walk X g} → last ≤ last' → w'.workers v ≡ w.workers v → IsWalkKept w last v k → IsWalkKept w' last' v k
+  walk-on more same k =
+      record {
+        table = (k.table.0, let a = k.table.1 in omega (arith, a, more));
+        at_work = same ∙ k.at_work;
+        either = k.either;
+        way = k.way;
+        fits = λ task is. fits-on task (k.fits task is);
+      }

@@ -1,0 +1,229 @@
+-- A load's step, and why it is refused.
+use Rattle.std.proofs.Common.{◌≡◌, ◌≢◌, ℕ, zero, suc, ◌+◌, ◌<◌, ◌≤◌, ◌==◌, Bool, true, false, List, [], length, Option, Some, None, Ok, Err, ◌⊎◌, inl, inr, if◌then◌else◌, refl, sym, ap, subst, ◌∙◌, arith}
+use Rattle.std.specs.Prelude.{Result, is_none, is_some, not}
+use Rattle.std.specs.Option.{option_map}
+use Rattle.pagable_model.specs.declared.error.Error.TheVariants as errors
+use Rattle.pagable_world.specs.declared.handles.Owner.TheVariants as owners
+use Rattle.pagable_world.specs.declared.answers.Beginning.{Beginning}
+use Rattle.pagable_world.specs.declared.answers.Beginning.TheVariants as beginnings
+use Rattle.pagable_world.specs.declared.calls.Call.TheVariants as calls
+use Rattle.pagable_world.specs.declared.calls.Reply.TheVariants as replies
+use Rattle.pagable_world.specs.declared.events.LoadAnswer.{LoadAnswer}
+use Rattle.pagable_world.specs.declared.events.LoadAnswer.TheVariants as ends
+use Rattle.pagable_world.specs.declared.events.Event.TheVariants as events
+use Rattle.pagable_world.specs.declared.events.EventReply.TheVariants as answers
+use Rattle.pagable_model.specs.declared.error.Error.{Error}
+use Rattle.pagable_model.specs.declared.numbers.HandleNumber.{HandleNumber}
+use Rattle.pagable_model.specs.declared.numbers.LoadNumber.{LoadNumber}
+use Rattle.pagable_model.specs.declared.numbers.WorkerNumber.{WorkerNumber}
+use Rattle.pagable_world.specs.declared.calls.Call.{Call}
+use Rattle.pagable_world.specs.declared.calls.Reply.{Reply}
+use Rattle.pagable_world.specs.declared.events.Event.{Event}
+use Rattle.pagable_world.specs.declared.events.EventReply.{EventReply}
+use Rattle.pagable_world.specs.declared.events.LoadReply.{LoadReply}
+use Rattle.pagable_world.specs.declared.events.TableNumber.{TableNumber}
+use Rattle.pagable_world.specs.Plain.{if_there, or_else, updated}
+use Rattle.pagable_world.specs.Kinds.{is_owner}
+use Rattle.pagable_world.specs.World.{Alike, Core, Frame, Last, OpenLoad, Reading, Root, Walking, of_cell, of_key, Seen, Values, one_more}
+use Rattle.pagable_world.specs.Refusals.{OwnsLoad, earlier, load_fault, refused_if}
+use Rattle.pagable_world.specs.LoadCalls.{BeginCall, DropCall, LoadCloses}
+use Rattle.pagable_world.specs.Loads.{ReadingDoes, gone_on}
+use Rattle.pagable_world.specs.Workers.{fresh}
+use Rattle.pagable_world.specs.Order.{step_of}
+use Rattle.pagable_world.specs.Events.{CallStep, Happens, IsNoTable, Stays, WorkStays, reading_after, reading_at, reading_of_load, reading_of_root, step_fault}
+use Rattle.pagable_world.specs.Events.{Does as CallDoes}
+use Rattle.pagable_world.specs.Pager.{CallBrings, EventBrings, FitsRoot, HandlesAreWhole, IsMachineWhole, IsReadingWhole, IsWalkingWhole, Moves, PagerState, ReplyWrites, WellFormed, world_of}
+use Rattle.pagable_world.specs.Access.{ReadingStep}
+use Rattle.pagable_laws.proofs.Trees.{same_some}
+use Rattle.pagable_laws.proofs.Sums.{same-number, self-number}
+use Rattle.pagable_loads.specs.declared.reading.Reading.{Reading as Own}
+use Rattle.pagable_loads.specs.Frames.{IsLoadOf, is_cell, reading_of}
+use Rattle.pagable_pager.specs.Opened.{type_of_root}
+use Rattle.pagable_walk.specs.declared.results.Trees.{Ghosts}
+use Rattle.pagable_machine.specs.declared.held.Walk.{Walk}
+use Rattle.pagable_machine.specs.Keeping.{Holding, IsKept, IsSameLoad, IsServing, IsTaken, KeepsOne, Kept, Makes, ReadsFor, Stepped, machine_of, readings_in, rest_after}
+use Rattle.pagable_machine.proofs.Keeping.{KeepsAll, alike-self, are-these, as-before, at-one, kept-on, one-or-old, quiet, refuses, same-work, stays}
+use Rattle.pagable_machine.proofs.Leaving.{IsMine, owned-mine, step-leaves}
+
+fits : (root : Root) (a b : Reading) → b.node_type ≡ a.node_type → FitsRoot root a → FitsRoot root b
+fits (of_cell node t h) a b same fit = same ∙ fit
+fits of_key a b same fit = tt
+
+usable : (w : Core) (l : LoadNumber) (load : OpenLoad) → OwnsLoad w owners.Caller l load → load_fault w owners.Caller l ≡ None
+usable w l load o =
+    ap (λ (found : Option OpenLoad). if_there (λ (x : OpenLoad). refused_if (not (is_owner owners.Caller x.owner)) errors.NotYours) (Some errors.NoSuchHandle) found) o.stands_open
+    ∙ ap (λ owner. refused_if (not (is_owner owners.Caller owner)) errors.NotYours) o.own
+
+module _ {X : Type 0} {g : Ghosts X} {N E : Type 0} (s : PagerState N E) (h : Holding g) (l : LoadNumber) (load : OpenLoad) (o : OwnsLoad s.core owners.Caller l load) where
+  at-found : (own : Option Own) → h.readings l.0 ≡ own → reading_at (world_of (machine_of s h)) l ≡ or_else (option_map reading_of own) (reading_of_root l load.root)
+  at-found own is =
+      ap (λ (found : Option OpenLoad). or_else (if_there (λ (x : OpenLoad). option_map reading_of (h.readings l.0)) None found) (reading_of_load l found)) o.stands_open
+      ∙ ap (λ (x : Option Own). or_else (option_map reading_of x) (reading_of_root l load.root)) is
+
+  -- a load that is kept
+  pub at-kept : (own : Own) → h.readings l.0 ≡ Some own → reading_at (world_of (machine_of s h)) l ≡ Some (reading_of own)
+  at-kept own is = at-found (Some own) is
+
+  -- one of a cell that hasn't made a step
+  pub at-first : (own : Own) (t : ℕ) → h.readings l.0 ≡ None → reading_of_root l load.root ≡ Some (fresh l t) → reading_of own ≡ fresh l t
+      → reading_at (world_of (machine_of s h)) l ≡ Some (reading_of own)
+  at-first own t none root is = at-found None none ∙ root ∙ ap Some (sym is)
+
+  -- one of a key that a call began
+  pub never : h.readings l.0 ≡ None → reading_of_root l load.root ≡ None → step_fault (world_of (machine_of s h)) l ≡ Some errors.WrongMode
+  never none root =
+      ap (λ x. earlier x (refused_if (is_none (reading_at (world_of (machine_of s h)) l)) errors.WrongMode)) (usable s.core l load o)
+      ∙ ap (λ x. earlier None (refused_if (is_none x) errors.WrongMode)) (at-found None none ∙ root)
+
+-- the same load reads for the same
+still-reads : {load : OpenLoad} {own now : Own} → ReadsFor load own → IsSameLoad own now → ReadsFor load now
+still-reads {load} {own} {now} reads e =
+    record { owned = reads.owned; key = reads.key ∙ sym e.key; sort = reads.sort ∙ sym e.for_cell; typed = fits load.root (reading_of own) (reading_of now) e.node_type reads.typed }
+
+module _ {X : Type 0} {g : Ghosts X} {N E : Type 0} (s : PagerState N E) {h : Holding g} (serving : IsServing s.core h) where
+  -- what is taken is of the load
+  reads-taken : (l : LoadNumber) (load : OpenLoad) (key : ℕ) (t : Option ℕ) (own : Own) → OwnsLoad s.core owners.Caller l load → load.key ≡ key → type_of_root load.root ≡ t → IsTaken h.readings l key t own
+      → (own.load ≡ l) × ReadsFor load own × (reading_at (world_of (machine_of s h)) l ≡ Some (reading_of own))
+  reads-taken l load key t own o key_is root taken = elim taken.why [
+    | inl there ↦ let k = serving.readings l.0 own there in (ap (λ n. record { 0 = n }) k.number, k.reads load o.stands_open, at-kept s h l load o own there)
+    | inr (none, (type, typed, is), keyed, sort) ↦
+        let read = of_root load.root type (root ∙ typed) in (
+          ap (λ (r : Reading). r.load) is,
+          record { owned = o.own; key = key_is ∙ sym keyed; sort = read.0 ∙ sym sort; typed = read.1 (reading_of own) (ap (λ (r : Reading). r.node_type) is) },
+          at-first s h l load o own type none (read.2 l) is,
+        )
+  ]
+    where
+      of_root : (root : Root) (type : ℕ) → type_of_root root ≡ Some type
+          → (is_cell root ≡ true) × ((r : Reading) → r.node_type ≡ type → FitsRoot root r) × ((l : LoadNumber) → reading_of_root l root ≡ Some (fresh l type))
+      of_root (of_cell node t h) type is = let e : t ≡ type = same_some _ _ is in (refl, (λ r typed. typed ∙ sym e), λ l. ap (λ n. Some (fresh l n)) e)
+      of_root of_key type is = absurd (cc)
+
+-- a load of a key that a call began
+pub never-typed : {X : Type 0} {g : Ghosts X} {N E : Type 0} (s : PagerState N E) (h : Holding g) (l : LoadNumber) (load : OpenLoad) → OwnsLoad s.core owners.Caller l load → h.readings l.0 ≡ None → type_of_root load.root ≡ None
+    → step_fault (world_of (machine_of s h)) l ≡ Some errors.WrongMode
+never-typed s h l load o none untyped = never s h l load o none (of load.root untyped)
+  where
+    of : (root : Root) → type_of_root root ≡ None → reading_of_root l root ≡ None
+    of (of_cell node t h) is = absurd (cc)
+    of of_key is = refl
+
+module _ {X : Type 0} {g : Ghosts X} {N B W E : Type 0} (m : Seen N B W) (s s' : PagerState N E) (h : Holding g) (kept' : Kept) (serving : IsServing s.core h) (was : WellFormed m.values s) where
+  abbrev left : Holding g
+  left = record h { readings = kept' }
+
+  steps : (l : LoadNumber) (load : OpenLoad) (reading : Reading) (x : Option Own) (reply : LoadReply N) (frames : List Frame)
+      → OwnsLoad s.core owners.Caller l load → reading_at (world_of (machine_of s h)) l ≡ Some reading → ReadingStep m.values owners.Caller reading s reply.ended frames s'
+      → reply.steps ≡ one_more reading.steps → IsMine s.core owners.Caller reading.load
+      → KeepsOne h.readings l.0 x kept' → option_map reading_of x ≡ reading_after reply.ended reading frames → ((now : Own) → x ≡ Some now → (now.load ≡ l) × ReadsFor load now)
+      → Makes m s h (events.LoadStep l) (answers.LoadMoved (Ok reply)) s' left
+  steps l load reading x reply frames o at step counts mine keeps goes again =
+      let on = step-leaves s.core s'.core owners.Caller m.values reading mine reply.ended frames step.does in
+      let given = (was.whole.loads.numbered l.0 (ap is_some o.stands_open)).1 in
+      let more = on.last in
+      let new : (now : Own) → x ≡ Some now → IsKept s'.core l.0 now =
+      λ now is.
+      record {
+        number = ap (λ (n : LoadNumber). n.0) (again now is).0;
+        given = omega (arith, given, more);
+        reads = λ other open_load. elim (on.loads l.0 other open_load) [
+          | inl there ↦ subst (λ y. ReadsFor y now) (same_some _ _ (sym o.stands_open ∙ there)) (again now is).1
+          | inr above ↦ absurd (omega (arith, given, above))
+        ];
+      }
+      in
+      quiet m s s' h kept' serving was step.whole on (events.LoadStep l) (answers.LoadMoved (Ok reply)) (λ v. refl)
+      (record {
+        moves = record {
+          reading = reading;
+          frames = frames;
+          may = usable s.core l load o;
+          at = at;
+          does = step.does;
+          counts = counts;
+          readings = are-these s'.core kept' (updated l.0 (reading_after reply.ended reading frames) (readings_in h.readings s.core))
+              (λ q open_load is_open. at-one reading_of l.0 x (reading_after reply.ended reading frames) (readings_in h.readings s.core) keeps goes q (as-before serving.readings on q open_load is_open));
+          work = same-work m s s' h kept' serving was step.whole;
+        };
+        refused = tt;
+      })
+      (record { each = λ n y is. elim (step.moves.each n y is) [ inl there ↦ inl there | inr (none, came) ↦ inr (none, (reading, at, came)) ]; environment = step.moves.environment })
+      tt
+      (kept-on serving.readings on (λ q other is_kept. elim (one-or-old l.0 x keeps q other is_kept) [
+        | inl there ↦ inl there
+        | inr (here, is) ↦ inr (subst (λ n. IsKept s'.core n other) (sym here) (new other is))
+      ]))
+
+  -- a load that is taken makes a step
+  pub own-steps : (l : LoadNumber) (load : OpenLoad) (key : ℕ) (t : Option ℕ) (own new : Own) (reply : LoadReply N)
+      → OwnsLoad s.core owners.Caller l load → load.key ≡ key → type_of_root load.root ≡ t → IsTaken h.readings l key t own
+      → Stepped m.values owners.Caller own reply new s s' → IsSameLoad own new → reply.steps ≡ one_more own.steps → new.steps ≡ one_more own.steps
+      → KeepsOne h.readings l.0 (rest_after reply.ended (Some new)) kept'
+      → Makes m s h (events.LoadStep l) (answers.LoadMoved (Ok reply)) s' left
+  own-steps l load key t own new reply o key_is root taken stepped again counts counted keeps =
+      let r = reads-taken s serving l load key t own o key_is root taken in
+      let of : IsLoadOf s.core owners.Caller own = record { load = load; owned = subst (λ n. OwnsLoad s.core owners.Caller n load) (sym r.0) o; key = r.1.key; sort = r.1.sort } in
+      steps l load (reading_of own) (rest_after reply.ended (Some new)) reply (reading_of new).frames o r.2 (stepped.does of) counts (owned-mine of.owned) keeps (goes-on reply.ended) (λ now is.
+      let e = only reply.ended now is in
+      (ap (λ (x : Own). x.load) (sym e) ∙ again.load ∙ r.0, subst (λ x. ReadsFor load x) e (still-reads r.1 again)))
+    where
+      F : List Frame
+      F = (reading_of new).frames
+
+      goes : reading_of new ≡ gone_on (reading_of own) F
+      goes =
+          ap (λ (n : LoadNumber). let x : Reading = record { load = n; node_type = new.node_type; frames = F; steps = new.steps } in x) again.load
+          ∙ ap (λ (n : ℕ). let x : Reading = record { load = own.load; node_type = n; frames = F; steps = new.steps } in x) again.node_type
+          ∙ ap (λ (n : ℕ). let x : Reading = record { load = own.load; node_type = own.node_type; frames = F; steps = n } in x) counted
+
+      goes-on : (ended : Option (LoadAnswer N)) → option_map reading_of (rest_after ended (Some new)) ≡ reading_after ended (reading_of own) F
+      goes-on None = ap Some goes
+      goes-on (Some answer) = refl
+
+      only : (ended : Option (LoadAnswer N)) (now : Own) → rest_after ended (Some new) ≡ Some now → new ≡ now
+      only None now is = same_some _ _ is
+      only (Some answer) now is = absurd (cc)
+
+  -- a load that has no place is given up
+  pub no-place : (l : LoadNumber) (load : OpenLoad) (type : ℕ) (told : Result (Unit {0}) Error) → OwnsLoad s.core owners.Caller l load → type_of_root load.root ≡ Some type → h.readings l.0 ≡ None
+      → DropCall s.core owners.Caller l told s'.core
+      → Moves (λ n x. ⊥) s s' → WellFormed m.values s' → ((q : ℕ) → kept' q ≡ h.readings q)
+      → Makes m s h (events.LoadStep l) (answers.LoadMoved (Ok (record { ended = Some (ends.Refused errors.OutOfMemory); steps = 1 }))) s' left
+  no-place l load type told o root none drop moves formed as_was =
+      steps l load (fresh l type) None (record { ended = Some (ends.Refused errors.OutOfMemory); steps = 1 }) [] o (at-found s h l load o None none ∙ root-is load.root root)
+      (record {
+        does = record { does = (inl (record { mid = s.core; meets = inl (inr (inr refl), alike-self s.core); told = told; closes = closes }), refl) };
+        moves = record { each = λ n x is. elim (moves.each n x is) [ inl there ↦ inl there | inr came ↦ absurd came.1 ]; environment = moves.environment };
+        whole = formed;
+      }) refl (owned-mine o) (record { here = as_was l.0 ∙ none; others = λ q other. as_was q }) refl (λ now is. absurd (cc))
+    where
+      root-is : (root : Root) → type_of_root root ≡ Some type → reading_of_root l root ≡ Some (fresh l type)
+      root-is (of_cell node t h) is = ap (λ n. Some (fresh l n)) (same_some _ _ is)
+      root-is of_key is = absurd (cc)
+
+      closes : LoadCloses s.core l told s'.core
+      closes = elim drop.does [ inl r ↦ absurd (let f : None ≡ Some r.e = sym (usable s.core l load o) ∙ r.why in cc) | inr (other, owned, c) ↦ c ]
+
+-- a load that can't be looked at can't step
+fault-first : (found : Option OpenLoad) (b : Bool) (e : Error)
+    → if_there (λ (load : OpenLoad). refused_if (not (is_owner owners.Caller load.owner)) errors.NotYours) (Some errors.NoSuchHandle) found ≡ Some e
+    → earlier (if_there (λ (load : OpenLoad). refused_if (not (is_owner owners.Caller load.owner)) errors.NotYours) (Some errors.NoSuchHandle) found) (refused_if b errors.WrongMode) ≡ Some e
+fault-first None true e is = is
+fault-first None false e is = is
+fault-first (Some load) b e is = by (is_owner owners.Caller load.owner) b is
+  where
+    by : (own b : Bool) → refused_if (not own) errors.NotYours ≡ Some e → earlier (refused_if (not own) errors.NotYours) (refused_if b errors.WrongMode) ≡ Some e
+    by true b is = absurd (cc)
+    by false true is = is
+    by false false is = is
+
+pub faulty : {X : Type 0} {g : Ghosts X} {N E : Type 0} (s : PagerState N E) (h : Holding g) (l : LoadNumber) (e : Error) → load_fault s.core owners.Caller l ≡ Some e → step_fault (world_of (machine_of s h)) l ≡ Some e
+faulty s h l e is = fault-first (s.core.loads l.0) (is_none (reading_at (world_of (machine_of s h)) l)) e is
+
+-- a load's step is refused
+pub refuses-step : {X : Type 0} {g : Ghosts X} {N B W E : Type 0} (m : Seen N B W) (s : PagerState N E) (h : Holding g) {kept' : Kept} → IsServing s.core h → WellFormed m.values s → (l : LoadNumber) (e : Error)
+    → ((q : ℕ) → kept' q ≡ h.readings q) → step_fault (world_of (machine_of s h)) l ≡ Some e → Makes m s h (events.LoadStep l) (answers.LoadMoved (Err e)) s (record h { readings = kept' })
+refuses-step m s h {kept'} serving was l e as_was why =
+    let keeps : KeepsAll h (record h { readings = kept' }) = record { readings = as_was; tables = refl; walks = λ v. refl } in
+    refuses m s s serving was was (alike-self s.core) keeps (events.LoadStep l) (answers.LoadMoved (Err e)) (λ v. refl)
+    (record { moves = tt; refused = (why, stays m s s serving was was (alike-self s.core) keeps) }) (record { each = λ n x is. inl is; environment = refl }) tt

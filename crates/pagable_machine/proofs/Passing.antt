@@ -1,0 +1,89 @@
+-- What an event leaves to a worker that doesn't make it: its handles and its open loads, and that what a handle stands for goes on to be so.
+use Rattle.std.proofs.Common.{◌≡◌, ℕ, ◌+◌, ◌<◌, ◌≤◌, ◌==◌, ◌&&◌, ◌||◌, Bool, true, false, List, [], ◌∷◌, Option, Some, None, Ok, Err, ◌⊎◌, inl, inr, if◌then◌else◌, refl, sym, ap, subst, ◌∙◌, arith}
+use Rattle.std.specs.Prelude.{Result, nat_lt, sum_by}
+use Rattle.std.proofs.lemmas.Bool.{and_parts}
+use Rattle.std.proofs.lemmas.Bool.Decides.{nat_tests}
+use Rattle.pagable_model.specs.declared.numbers.ArcRef.{ArcRef}
+use Rattle.pagable_model.specs.declared.numbers.HandleNumber.{HandleNumber}
+use Rattle.pagable_world.specs.declared.calls.Call.{Call}
+use Rattle.pagable_world.specs.declared.calls.Call.TheVariants as calls
+use Rattle.pagable_world.specs.declared.calls.Reply.{Reply}
+use Rattle.pagable_world.specs.declared.calls.Reply.TheVariants as replies
+use Rattle.pagable_world.specs.declared.events.Event.{Event}
+use Rattle.pagable_world.specs.declared.events.Event.TheVariants as events
+use Rattle.pagable_world.specs.declared.events.EventReply.{EventReply}
+use Rattle.pagable_world.specs.declared.events.EventReply.TheVariants as answers
+use Rattle.pagable_world.specs.declared.handles.HandleRow.{HandleRow}
+use Rattle.pagable_world.specs.declared.handles.Owner.{Owner}
+use Rattle.pagable_world.specs.declared.handles.Owner.TheVariants as owners
+use Rattle.pagable_world.specs.Plain.{type_of, one, if_there}
+use Rattle.pagable_world.specs.Kinds.{is_handle, is_owned_by, is_owner, owner_worker}
+use Rattle.pagable_world.specs.World.{Cell, Core, OpenLoad, Seen, World, type_at}
+use Rattle.pagable_world.specs.Calls.{CloseCall, is_listed, shut}
+use Rattle.pagable_world.specs.Events.{Happens}
+use Rattle.pagable_world.specs.Order.{step_of}
+use Rattle.pagable_world.specs.Pager.{HandlesAreWhole, IsWhole, LoadsAreWhole, OwnersAreThere}
+use Rattle.pagable_world.specs.Runs.{KeepsOpen}
+use Rattle.pagable_laws.specs.KeyRuns.{StandsAt}
+use Rattle.pagable_laws.specs.TreeSteps.{Change, nothing_felt}
+use Rattle.pagable_laws.proofs.EventSteps.{event-goes}
+use Rattle.pagable_laws.proofs.Goes.{Goes, Kept, RowsGo, Was, fell-anyhow, quiet-goes}
+use Rattle.pagable_laws.proofs.Outlasting.{Stands, stands-whole}
+use Rattle.pagable_laws.proofs.Sparing.{Free, Spares, then-fell}
+use Rattle.pagable_laws.proofs.SparingSteps.{event-spares}
+use Rattle.pagable_laws.proofs.Sums.{counted, one-true, same-number}
+
+-- the worker's handles and open loads are as they were, and handles and nodes that are there stay what they are
+pub record Passes (v : ℕ) (w w' : Core) : Type 0 where
+  pub spares : Spares v w w'
+  pub loads : (l : ℕ) (load : OpenLoad) → w.loads l ≡ Some load → load.owner ≡ owner_worker v → w'.loads l ≡ Some load
+  pub nodes : w.last.node ≤ w'.last.node
+  pub handles : w.last.handle ≤ w'.last.handle
+  pub rows : RowsGo w.last.handle w.rows w'.rows
+  pub cells : (n : ℕ) (cell : Cell) → w'.cells n ≡ Some cell → n ≤ w.last.node → (was : Cell) × (w.cells n ≡ Some was) × (cell.node_type ≡ was.node_type)
+
+abbrev LoadsStay : ℕ → Core → Core → Type 0
+LoadsStay v w w' = (l : ℕ) (load : OpenLoad) → w.loads l ≡ Some load → load.owner ≡ owner_worker v → w'.loads l ≡ Some load
+
+-- by what a step is as far as trees feel it
+by-goes : {c : Change} (v : ℕ) (w w' : Core) → Goes c w w' → Spares v w w' → LoadsStay v w w' → Passes v w w'
+by-goes {c} v w w' g spares loads =
+    record {
+      spares = spares;
+      loads = loads;
+      nodes = g.nodes;
+      handles = g.handles;
+      rows = g.rows;
+      cells = λ n cell is few. elim (g.cells n cell is) [ inl k ↦ (k.was, k.live, k.typed) | inr (next, born) ↦ absurd (omega (arith, few, next)) ];
+    }
+
+-- what the list owns isn't a worker's
+list-free : (v : ℕ) (w : Core) → OwnersAreThere w → Free v w (is_listed w)
+list-free v w there = record { each = λ q row own s. by q row own s (is_listed w q) refl }
+  where
+    above : (a b : ℕ) → nat_lt 0 a ≡ true → a ≡ b → 0 < b
+    above a b lt same = grind (arith, nat_tests)
+
+    by : (q : ℕ) (row : HandleRow) → row.owner ≡ owner_worker v → Stands w.last.handle w.rows q row → (b : Bool) → is_listed w q ≡ b → is_listed w q ≡ false
+    by q row own s false e = e
+    by q row own s true e =
+        let owned = counted (λ (x : HandleRow). one (is_handle q x && is_owned_by owners.List x)) w.rows (above _ _ e (there.listed q)) in
+        let both = and_parts (is_handle q owned.0) (is_owned_by owners.List owned.0) (one-true _ owned.2) in
+        let it = s.only owned.0 owned.1 (same-number _ _ both.0) in
+        let f : is_owner owners.List (owner_worker v) ≡ true = sym (ap (λ (x : HandleRow). is_owner owners.List x.owner) it ∙ ap (is_owner owners.List) own) ∙ both.1 in
+        absurd (cc)
+
+-- the storage is closed
+close-passes : (v : ℕ) (w w' : Core) {r : Result (Unit {0}) _} → OwnersAreThere w → CloseCall w r w' → LoadsStay v w w' → Passes v w w'
+close-passes v w w' there c loads =
+    let x = by-goes v (shut w w'.failures) w' (quiet-goes nothing_felt (fell-anyhow c.falls)) (then-fell v c.falls.falls (record { each = λ q row own s. s }) (record { each = (list-free v w there).each })) loads in
+    record { spares = record { each = x.spares.each }; loads = loads; nodes = x.nodes; handles = x.handles; rows = x.rows; cells = x.cells }
+
+-- each event of another's
+pub event-passes : {N B W : Type 0} (m : Seen N B W) (v : ℕ) (u u' : World) → IsWhole u.core → (event : Event N B W) (reply : EventReply N B W) → step_of v event reply ≡ [] → Happens m u event reply u'
+    → LoadsStay v u.core u'.core → Passes v u.core u'.core
+event-passes m v u u' whole (events.Call calls.Close) (answers.CallReply (replies.Done r)) others h loads = close-passes v u.core u'.core whole.owners_there h.step.does loads
+event-passes m v u u' whole (events.Call calls.Close) (answers.CallReply reply) others h loads = absurd h.step.does
+event-passes m v u u' whole (events.Call calls.Close) reply others h loads = absurd h
+event-passes m v u u' whole event reply others h loads =
+    by-goes v u.core u'.core (event-goes m u u' event reply tt h).goes (event-spares m v u u' whole.owners_there event reply others tt h) loads

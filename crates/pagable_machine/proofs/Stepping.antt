@@ -1,0 +1,210 @@
+-- A worker's step.
+use Rattle.std.proofs.Common.{◌≡◌, ◌≢◌, ℕ, zero, suc, ◌+◌, ◌<◌, ◌≤◌, ◌==◌, Bool, true, false, List, [], ◌∷◌, Option, Some, None, Ok, Err, ◌⊎◌, inl, inr, if◌then◌else◌, refl, sym, ap, subst, ◌∙◌, length, arith}
+use Rattle.std.specs.Prelude.{is_none, is_some, slice_get}
+use Rattle.std.specs.Option.{option_map}
+use Rattle.std.specs.declared.sync.Arc.{Arc}
+use Rattle.std.specs.declared.alloc.Global.{Global}
+use Rattle.std.proofs.lemmas.Bool.Decides.{nat_tests}
+use Rattle.pagable_core.specs.declared.context.writing.SerializedData.{SerializedData}
+use Rattle.pagable_model.specs.declared.numbers.WorkerNumber.{WorkerNumber}
+use Rattle.pagable_world.specs.declared.events.Event.TheVariants as events
+use Rattle.pagable_world.specs.declared.events.EventReply.TheVariants as answers
+use Rattle.pagable_world.specs.declared.events.Took.{Took}
+use Rattle.pagable_world.specs.declared.events.WorkerAnswer.{WorkerAnswer}
+use Rattle.pagable_world.specs.declared.events.WorkerReply.{WorkerReply}
+use Rattle.pagable_world.specs.Plain.{Blob, if_there, updated}
+use Rattle.pagable_world.specs.Kinds.{is_owner, owner_worker}
+use Rattle.pagable_world.specs.World.{Core, SameShelf, Seen, Shelf, Todo, Values, Walking, Written}
+use Rattle.pagable_world.specs.Workers.{Site, WalkDoes, answer_after, is_counted}
+use Rattle.pagable_world.specs.Events.{Ends, Happens, WorkerSteps, no_shelf, steps_after}
+use Rattle.pagable_world.specs.Order.{step_of}
+use Rattle.pagable_world.specs.Pager.{PagerState, TodoBrings, WellFormed, world_of}
+use Rattle.pagable_laws.proofs.Sums.{same-number}
+use Rattle.pagable_walk.specs.declared.results.Trees.{Ghosts}
+use Rattle.pagable_walk.specs.declared.table.SlotTable.{SlotTable}
+use Rattle.pagable_walk.specs.declared.tasks.Task.{Task}
+use Rattle.pagable_walk.specs.declared.tasks.Task.TheVariants as tasks
+use Rattle.pagable_walk.specs.declared.tasks.Turn.{Turn}
+use Rattle.pagable_walk.specs.declared.tasks.Turn.TheVariants as comes
+use Rattle.pagable_walk.specs.declared.tasks.Waiting.{Waiting}
+use Rattle.pagable_walk.specs.Table.{shelf_of}
+use Rattle.pagable_walk.specs.Tasks.{IsWay, todo_of, todos}
+use Rattle.pagable_walk.specs.Turns.{LeavesFit, Stepped, TaskFits, answer_in, plain, plain_took, plan}
+use Rattle.pagable_machine.specs.declared.held.Begun.{Begun}
+use Rattle.pagable_machine.specs.declared.held.Walk.{Walk}
+use Rattle.pagable_machine.specs.Keeping.{Holding, IsServing, KeepsOne, Makes, machine_of, readings_in, work_of}
+use Rattle.pagable_machine.specs.Serving.{plain_moved}
+use Rattle.pagable_machine.specs.Walking.{IsAfter, IsWalkKept, SetsTable, WalksOn, shelf_at, task_in, task_of, todo_left, walking_of}
+use Rattle.pagable_machine.proofs.Keeping.{are-these, as-before, at-one, kept-on, makes-with, not-same, one-serves, updated-at}
+use Rattle.pagable_machine.proofs.Leaving.{Leaves, owned-mine}
+use Rattle.pagable_machine.proofs.Passing.{Passes, event-passes}
+use Rattle.pagable_machine.proofs.Working.{FrontMine, end-leaves, walk-leaves, works_after}
+
+-- the load that it goes on with is its own
+front-mine : {X : Type 0} {g : Ghosts X} (n : ℕ) (w : Core) (task : Task X g) (below : List Todo) → TaskFits n w task → FrontMine w (owner_worker n) (todo_of task ∷ below)
+front-mine n w (tasks.Load r place through own) below (kind, loading) = owned-mine loading.is.owned
+front-mine n w task below fits = tt
+
+module _ {X : Type 0} {g : Ghosts X} where
+  -- what is left to be done is the plan
+  left-is : (turn : Turn X g) (path : List (Waiting X g)) → todo_left (task_in turn) path ≡ plan turn path
+  left-is (comes.Goes task) path = refl
+  left-is (comes.Answers answer) path = refl
+
+  either-is : (turn : Turn X g) → is_some (task_in turn) ≡ is_none (answer_in turn)
+  either-is (comes.Goes task) = refl
+  either-is (comes.Answers answer) = refl
+
+  fits-then : (n : ℕ) (w : Core) (turn : Turn X g) (task : Task X g) → LeavesFit n w turn → task_in turn ≡ Some task → TaskFits n w task
+  fits-then n w (comes.Goes own) task fits is = let e : own ≡ task = cc in subst (λ x. TaskFits n w x) e fits
+  fits-then n w (comes.Answers answer) task fits is = absurd (cc)
+
+  -- the shelf of a table that is set, and of the others
+  shelf-set : (tables tables' : List (SlotTable X g)) (place : ℕ) (table : SlotTable X g) (after : Shelf) → SetsTable tables place table tables' → SameShelf after (shelf_of table) → (t : ℕ)
+      → SameShelf (updated (suc place) after (shelf_at tables) t) (shelf_at tables' t)
+  shelf-set tables tables' place table after sets same zero = by (zero == suc place) refl
+    where
+      by : (b : Bool) → (zero == suc place) ≡ b → SameShelf (if b then after else no_shelf) no_shelf
+      by true e = absurd (let f = same-number zero (suc place) e in cc)
+      by false e = record { slots = λ i. refl; waits = λ v. refl }
+  shelf-set tables tables' place table after sets same (suc q) = by (suc q == suc place) refl
+    where
+      by : (b : Bool) → (suc q == suc place) ≡ b → SameShelf (if b then after else shelf_at tables (suc q)) (shelf_at tables' (suc q))
+      by true e =
+          let at : q ≡ place = let f = same-number (suc q) (suc place) e in omega (arith, f) in
+          subst (λ (found : Option (SlotTable X g)). SameShelf after (if_there shelf_of no_shelf found)) (sym (ap (slice_get tables') at ∙ sets.here)) same
+      by false e =
+          let other = not-same (suc q) (suc place) e in
+          subst (λ (found : Option (SlotTable X g)). SameShelf (shelf_at tables (suc q)) (if_there shelf_of no_shelf found)) (sym (sets.others q (λ is. other (ap suc is)))) (record { slots = λ i. refl; waits = λ v. refl })
+
+apart : (q n : ℕ) → q ≢ n → (q == n) ≡ false
+apart q n other = by (q == n) refl
+  where
+    by : (b : Bool) → (q == n) ≡ b → (q == n) ≡ false
+    by true e = absurd (other (same-number q n e))
+    by false e = e
+
+-- who is at work after its answer
+works-then : {X : Type 0} {g : Ghosts X} (turn : Turn X g) (n : ℕ) (works : ℕ → Bool) → works n ≡ true → works_after (answer_in turn) n works n ≡ is_none (answer_in turn)
+works-then (comes.Goes task) n works at_work = at_work
+works-then (comes.Answers answer) n works at_work = updated-at n false works
+
+works-others : (answer : Option WorkerAnswer) (n q : ℕ) (works : ℕ → Bool) → (q == n) ≡ false → works_after answer n works q ≡ works q
+works-others None n q works other = refl
+works-others (Some answer) n q works other = ap (λ b. if b then false else works q) other
+
+module _ {X : Type 0} {g : Ghosts X} {N E : Type 0} (v : Values N) (s s' : PagerState N E) (h : Holding g) {tables' : List (SlotTable X g)} {walks' : ℕ → Option (Walk X g)} (serving : IsServing s.core h)
+    (was : WellFormed v s) (n : WorkerNumber) (k k' : Walk X g) (kept : h.walks n.0 ≡ Some k) (reply : WorkerReply (Arc SerializedData Global)) (on : WalksOn v n.0 h.tables k s reply tables' k' s')
+    (keeps : KeepsOne h.walks n.0 (Some k') walks') where
+  abbrev after : Holding g
+  after = record h { tables = tables'; walks = walks' }
+
+  abbrev m : Seen N Blob Written
+  m = plain v
+
+  abbrev turn : Turn X g
+  turn = on.moved.turn
+
+  abbrev step : Took Written
+  step = plain_took on.moved.took
+
+  abbrev todo : List Todo
+  todo = todo_of on.task ∷ todos k.path.items
+
+  abbrev told : WorkerReply Written
+  told = record { took = step; answer = answer_in turn; steps = k'.steps }
+
+  mine : IsWalkKept s.core (length h.tables) n.0 k
+  mine = serving.walks n.0 k kept
+
+  fits : TaskFits n.0 s.core on.task
+  fits = mine.fits on.task on.had
+
+  done : Stepped v n.0 (shelf_of on.table) todo s (shelf_of on.table') on.moved (plan turn k'.path.items) s'
+  done = on.steps.steps (record { me_is = refl; whole = was; task_fits = fits })
+
+  abbrev site : Site
+  site = record { core = s.core; shelf = shelf_of on.table; todo = todo }
+
+  unanswered : k.answer ≡ None
+  unanswered = by k.answer (sym mine.either ∙ ap is_some on.had)
+    where
+      by : (found : Option WorkerAnswer) → is_none found ≡ true → found ≡ None
+      by None is = refl
+      by (Some answer) is = absurd (cc)
+
+  ends : Ends (answer_in turn) n.0 done.does.after.core s'.core
+  ends = subst (λ a. Ends a n.0 done.does.after.core s'.core) done.answers done.does.ends
+
+  leaves : Leaves (owner_worker n.0) (works_after (answer_in turn) n.0 s.core.workers) s.core s'.core
+  leaves = end-leaves (answer_in turn) n.0 (walk-leaves m n.0 site done.does.after todo step (front-mine n.0 s.core on.task (todos k.path.items) fits) done.does.does.does) ends
+
+  -- its list and table are those that the machine knows
+  todo-is : todo_left k.task k.path.items ≡ todo
+  todo-is = ap (λ task. todo_left task k.path.items) on.had
+
+  shelf-is : shelf_at h.tables k.table ≡ shelf_of on.table
+  shelf-is = ap (shelf_at h.tables) on.on ∙ ap (λ (found : Option (SlotTable X g)). if_there shelf_of no_shelf found) on.there
+
+  walking-is : walking_of k' ≡ record (walking_of k) { todo = done.does.after.todo; steps = k'.steps; answer = answer_in turn }
+  walking-is =
+      ap (λ (t : ℕ). kept-as t k'.begun (todo_left k'.task k'.path.items) k'.answer) on.after.table
+      ∙ ap (λ (b : Begun). kept-as k.table b (todo_left k'.task k'.path.items) k'.answer) on.after.begun
+      ∙ ap (λ (a : Option WorkerAnswer). kept-as k.table k.begun (todo_left k'.task k'.path.items) a) on.after.answer
+      ∙ ap (λ (todo : List Todo). kept-as k.table k.begun todo (answer_in turn)) (ap (λ task. todo_left task k'.path.items) on.after.task ∙ left-is turn k'.path.items ∙ done.does.goes_on)
+    where
+      kept-as : ℕ → Begun → List Todo → Option WorkerAnswer → Walking
+      kept-as t b todo a = record { table = t; task = task_of b; todo = todo; steps = k'.steps; answer = a }
+
+  steps-so : WorkerSteps m (world_of (machine_of s h)) n told (world_of (machine_of s' after))
+  steps-so =
+      record {
+        walking = walking_of k;
+        after = done.does.after;
+        at = ap (option_map walking_of) kept;
+        at_work = unanswered;
+        does = subst (λ (shelf : Shelf). WalkDoes m n.0 (record { core = s.core; shelf = shelf; todo = todo_left k.task k.path.items }) step done.does.after) (sym shelf-is)
+            (subst (λ (list : List Todo). WalkDoes m n.0 (record { core = s.core; shelf = shelf_of on.table; todo = list }) step done.does.after) (sym todo-is) done.does.does);
+        answers = sym done.answers ∙ ap (λ list. answer_after list step) (sym todo-is);
+        counts = on.after.steps ∙ ap (steps_after k.steps) (on.steps.counts ∙ ap (λ list. is_counted list step) (sym todo-is));
+        ends = ends;
+        readings = are-these s'.core h.readings (readings_in h.readings s.core) (λ l load is. as-before serving.readings leaves l load is);
+        work = record {
+          same_shelves = λ t. subst (λ number. SameShelf (updated number done.does.after.shelf (shelf_at h.tables) t) (shelf_at tables' t)) (sym on.on)
+              (shelf-set h.tables tables' on.place on.table' done.does.after.shelf on.sets done.does.shelf_is t);
+          last_is = on.sets.len;
+          same_walkings = λ q. at-one walking_of n.0 (Some k') _ (λ u. option_map walking_of (h.walks u)) keeps (ap Some walking-is) q refl;
+        };
+      }
+
+  happens : Happens m (world_of (machine_of s h)) (events.WorkerStep n) (answers.WorkerMoved (Ok told)) (world_of (machine_of s' after))
+  happens = record { moves = steps-so; refused = tt }
+
+  passes : (q : ℕ) → q ≢ n.0 → Passes q s.core s'.core
+  passes q other =
+      event-passes m q (world_of (machine_of s h)) (world_of (machine_of s' after)) was.whole (events.WorkerStep n) (answers.WorkerMoved (Ok told))
+      (ap (λ b. if b then step ∷ [] else []) (apart n.0 q (λ is. other (sym is)))) happens
+      (λ l load is own. leaves.others l load is (was.whole.loads.numbered l (ap is_some is)).1 (ap (is_owner (owner_worker n.0)) own ∙ apart q n.0 other))
+
+  at-work : s.core.workers n.0 ≡ true
+  at-work = mine.at_work ∙ ap is_none unanswered
+
+  still : IsWalkKept s'.core (length tables') n.0 k'
+  still =
+      record {
+        table = subst (λ t. (0 < t) × (t ≤ length tables')) (sym on.after.table) (mine.table.0, subst (λ last. k.table ≤ last) (sym on.sets.len) mine.table.1);
+        at_work = leaves.workers n.0 ∙ works-then turn n.0 s.core.workers at-work ∙ sym (ap is_none on.after.answer);
+        either = ap is_some on.after.task ∙ either-is turn ∙ sym (ap is_none on.after.answer);
+        way = subst IsWay (sym (ap (λ task. todo_left task k'.path.items) on.after.task ∙ left-is turn k'.path.items)) on.way;
+        fits = λ task is. fits-then n.0 s'.core turn task done.fits (sym on.after.task ∙ is);
+      }
+
+  pub worker-moved : Makes m s h (events.WorkerStep n) (answers.WorkerMoved (Ok (plain_moved reply))) s' after
+  worker-moved =
+      rw on.replies (makes-with m s s' {h' = after} done.does.whole (events.WorkerStep n) (answers.WorkerMoved (Ok told)) happens
+      (record {
+        each = λ q x is. elim (done.does.moves.each q x is) [ inl there ↦ inl there | inr (none, came) ↦ inr (none, (walking_of k, ap (option_map walking_of) kept, subst (λ (list : List Todo). TodoBrings v s.core list q x) (sym todo-is) came)) ];
+        environment = done.does.moves.environment;
+      }) done.does.writes
+      (one-serves {h' = after} serving was.whole.handles n.0 k' keeps (subst (λ last. length h.tables ≤ last) (sym on.sets.len) (omega arith)) (kept-on serving.readings leaves (λ l own is. inl is)) passes
+      (λ q other. leaves.workers q ∙ works-others (answer_in turn) n.0 q s.core.workers (apart q n.0 other)) still))
