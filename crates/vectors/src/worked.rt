@@ -6,7 +6,7 @@ use crate::calls::{Calls, CellPager, pager_over};
 use crate::lines;
 use anyhow::{Context, bail, ensure};
 use pagable::paging::{page_out_pending, pin};
-use pagable::{DataKey, Error, PagableSerialize, PagableVecFlavor};
+use pagable::{DataKey, Error, PagableSerialize, PagableVecFlavor, WeighHash};
 use row_values::carried::{AnyEnv, written};
 use serde_json::Value;
 use std::alloc::Global;
@@ -131,7 +131,7 @@ fn write_over(alloc: Global) -> Result<bool, Error> {
 }
 
 /// Makes a cell that is listed twice.
-fn list_twice(alloc: Global, pager: &mut CellPager) -> anyhow::Result<()> {
+fn list_twice(alloc: Global, pager: &mut CellPager<WeighHash>) -> anyhow::Result<()> {
     let Ok(cell) = pager.new_loose(alloc, node(alloc, "0 x")?) else {
         bail!("a cell is refused");
     };
@@ -142,7 +142,7 @@ fn list_twice(alloc: Global, pager: &mut CellPager) -> anyhow::Result<()> {
 }
 
 /// Whether the page-out of a cell that is listed twice stores it once: the storage's second call fails, and is this fetch.
-fn is_stored_once(alloc: Global, pager: &mut CellPager) -> anyhow::Result<bool> {
+fn is_stored_once(alloc: Global, pager: &mut CellPager<WeighHash>) -> anyhow::Result<bool> {
     list_twice(alloc, pager)?;
     let listed = pager.pending();
     page_out_pending(alloc, pager)?;
