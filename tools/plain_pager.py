@@ -1,11 +1,12 @@
 """A plain pager and its machine: short and slow, written from the rules of cells and not from the crates, to be held against
 them by plain_rows.py. What can be counted or looked up is counted and looked up anew each time. Memory is always there."""
 
+import hashlib
 from dataclasses import dataclass, field
 
 UNEXPECTED_END, BAD_VARINT, BAD_BOOL, BAD_UTF8, TOO_LONG, TOO_DEEP = 1, 2, 3, 4, 6, 7
 NO_MORE_KEYS, NO_DATA, WRONG_KIND, NO_SUCH_HANDLE, WRONG_MODE, NOT_YOURS = 15, 16, 17, 18, 19, 20
-STORAGE, KEY_TAKEN, CLOSED = 23, 24, 25
+STORAGE, KEY_TAKEN, CLOSED, CUSTOM = 23, 24, 25, 26
 ORDER = (NO_SUCH_HANDLE, NOT_YOURS, WRONG_MODE, WRONG_KIND)
 LOOSE_PINNED, LOOSE_UNPINNED, PINNED, SHARED = "loose pinned", "loose unpinned", "Pinned", "Shared"
 LOOSE = (LOOSE_PINNED, LOOSE_UNPINNED)
@@ -64,6 +65,9 @@ class Blob:
     def key(self):
         """The weighing hash of the preimage: the sum of each byte times its place, counted from 1."""
         return sum(place * byte for place, byte in enumerate(self.preimage(), 1)) % 2**128 or 1
+
+    def sha256_key(self):
+        return int.from_bytes(hashlib.sha256(self.preimage()).digest()[:16], "little") or 1
 
     def text(self):
         arcs = ":" + ",".join(map(str, self.arcs)) if self.arcs else ""
@@ -129,30 +133,40 @@ class Bytes:
 
 
 class RowTypes:
-    """The values of the rows: texts of the types 0 and 1, which are spelled alike, and groups of the types 2 to 4: a list of references, of
-    each the kind. No other type is there."""
+    """The values of the rows. 0 and 1 are texts, of which the latter's writer refuses; 2 a byte and five lists of references, each of a kind; 3 and 4
+    at most one reference of its own, loose or shared; 5 shared references to texts; 6 one of these, without a byte; 7 two bytes."""
 
-    GROUPS, END = 2, 5
+    NAME, NOTE, MIXED, LINK, ARC_LINK, NAMES, HOLDER, BYTES, END = range(9)
+    LISTS = (6, 7, 8, 1, 0)
+    KINDS = {LINK: 10, ARC_LINK: 12, NAMES: 0, HOLDER: 0}
 
     @classmethod
     def write(cls, value):
-        if value.node_type < cls.GROUPS:
-            text = value.content.encode()
-            return varint(len(text)) + text
-        return varint(len(value.references)) + b"".join(varint(kind) for kind, _ in value.references)
+        node_type, content, kinds = value.node_type, value.content, [kind for kind, _ in value.references]
+        if node_type == cls.NOTE:
+            raise Refused(CUSTOM)
+        if node_type == cls.NAME:
+            return varint(len(content.encode())) + content.encode()
+        if node_type == cls.MIXED:
+            return bytes([content]) + b"".join(varint(kinds.count(kind)) for kind in cls.LISTS)
+        return content if node_type == cls.BYTES else b"" if node_type == cls.HOLDER else varint(len(kinds))
 
     @classmethod
     def read(cls, node_type, blob):
         """Asks for each reference by kind and key, gets its handle, and ends in the value. What is left over is accepted."""
-        taken, references = Bytes(blob), []
+        taken, content, references = Bytes(blob), None, []
         if node_type >= cls.END:
             raise Refused(WRONG_KIND)
-        if node_type < cls.GROUPS:
+        if node_type <= cls.NOTE:
             return Value(node_type, taken.string())
-        for _ in range(taken.length()):
-            kind = taken.varint(5, 15)
-            references.append((kind, (yield kind, taken.reference())))
-        return Value(node_type, None, references)
+        if node_type == cls.BYTES:
+            return Value(node_type, taken.take(1) + taken.take(1))
+        if node_type == cls.MIXED:
+            content = taken.take(1)[0]
+        for kind in cls.LISTS if node_type == cls.MIXED else [cls.KINDS[node_type]]:
+            for _ in range(1 if node_type == cls.HOLDER else taken.bool() if node_type in (cls.LINK, cls.ARC_LINK) else taken.length()):
+                references.append((kind, (yield kind, taken.reference())))
+        return Value(node_type, content, references)
 
 
 class Storage:
@@ -629,7 +643,7 @@ class Worker:
 
     def __init__(self, machine, number, slots, waits):
         self.machine, self.pager, self.number, self.slots, self.waits = machine, machine.pager, number, slots, waits
-        self.me, self.steps, self.entry, self.walk, self.is_done = ("worker", number), 0, None, None, False
+        self.me, self.steps, self.entry, self.walk, self.is_done, self.clones = ("worker", number), 0, None, None, False, {}
 
     def begin(self, walk):
         self.walk = self.guarded(walk)
@@ -701,7 +715,7 @@ class Worker:
     def page_out(self, kind, node, number, place):
         """All steps of a claimed identity but the last: key and height."""
         identity = (kind, node)
-        held = yield from self.do("pin", identity, lambda: self.pin(kind, number))
+        held = yield from self.do("pin", identity, lambda: self.pin(kind, node, number))
         while isinstance(held, Begun):
             held = yield from self.do("pin", identity, lambda: self.load_on(held), False)
         if number == self.entry:
@@ -740,9 +754,9 @@ class Worker:
                 return False
         return True
 
-    def pin(self, kind, number):
+    def pin(self, kind, node, number):
         """A clone of the reference, or of the entry, and for a lazy one a pin of the clone, or the begin of its load."""
-        own = self.pager.clone(number)
+        own = self.clones[kind, node] = self.pager.clone(number)
         pinned = self.pager.pin(own) if is_lazy(kind) else own
         if not isinstance(pinned, Needs):
             return pinned, f"held {pinned}"
@@ -764,8 +778,8 @@ class Worker:
         return (self.pager.store(Blob(data, tuple(keys))),) * 2
 
     def set_key(self, kind, node, key):
-        """Only a cell gets it, by a loose handle that the worker holds."""
-        self.pager.set_data_key(next(n for n, h in self.pager.handles.items() if (h.owner, h.node) == (self.me, node) and h.mode in modes_of(kind)), key)
+        """Only a cell gets it, by the clone that the worker made."""
+        self.pager.set_data_key(self.clones[kind, node], key)
 
     def publish(self, identity, key, height):
         self.slots[identity].key, self.slots[identity].height = key, height

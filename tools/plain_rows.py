@@ -1,5 +1,5 @@
 #!/usr/bin/env python3
-"""Rows of calls, as the program `vectors` reads them, answered by a plain pager or drawn from a seed.
+"""Rows of events, as the program `vectors` reads them, answered by a plain pager or drawn from a seed.
 
     plain_rows.py answers FILE              prints the answer to each row of the file that has one, as `vectors` has to
     plain_rows.py draw SEED COUNT [WORD..]  prints a new machine, COUNT drawn lists of calls and a look; with the word `events` lists of
@@ -25,7 +25,7 @@ class Rows:
 
     def start(self, storage):
         calls_before = int(storage) if storage.isdigit() else None
-        self.pager = Pager(Storage(calls_before, storage == "closed"))
+        self.pager = Pager(Storage(calls_before, storage == "closed", Blob.sha256_key if storage == "sha256" else Blob.key))
         self.machine = Machine(self.pager)
 
     def answer(self, row):
@@ -34,13 +34,18 @@ class Rows:
             self.start(rest)
         elif name == "look":
             return self.look(int(rest))
+        elif name == "last":
+            return self.answer(rest).rpartition("; ")[2]
         else:
             return "; ".join(answer for call in row.split(";") for answer in self.answers(call.strip()))
         return ""
 
     def answers(self, call):
-        """The answer to a call, or to each of so many steps."""
+        """The answer to a call, or to each of so many steps or births, of which each refers to the one before."""
         name, *rest = call.split(" ")
+        if name == "chain":
+            births = [f"{rest[0]} {rest[1]}" + (f" {rest[2]}:{place}:{place}" if place else "") for place in range(int(rest[3]))]
+            return list(map(self.call, births))
         times = int(rest.pop()) if name in ("step", "work") and len(rest) == 2 else 1
         return [self.call(" ".join([name, *rest])) for _ in range(times)]
 
@@ -81,9 +86,14 @@ class Rows:
         return int(table), bytes.fromhex(data.strip("-")), [tuple(map(int, word.split(":"))) for word in references.split(",") if word]
 
     def value(self, node_type, content):
-        if node_type < RowTypes.GROUPS:
+        """A text, two bytes in hex, or references as `7:1:2,8:3:4`; before those of lists stand a byte and a stroke, if it isn't 0."""
+        if node_type <= RowTypes.NOTE:
             return Value(node_type, content)
-        return Value(node_type, None, [self.reference(*map(int, word.split(":"))) for word in content.split(",") if word])
+        if node_type == RowTypes.BYTES:
+            return Value(node_type, bytes.fromhex(content))
+        tag, _, words = content.rpartition("/")
+        references = [self.reference(*map(int, word.split(":"))) for word in words.split(",") if word]
+        return Value(node_type, int(tag or 0) if node_type == RowTypes.MIXED else None, references)
 
     def reference(self, kind, node, number):
         """A handle that isn't of the node that is told counts as none."""
@@ -91,10 +101,13 @@ class Rows:
         return kind, number if handle and handle.node == node else 0
 
     def spelled(self, value):
-        """The text, or the references as rows spell them."""
-        if value.node_type < RowTypes.GROUPS:
+        """A value as rows spell it, but for its type."""
+        if value.node_type <= RowTypes.NOTE:
             return value.content
-        return ",".join(f"{kind}:{self.pager.node_of(number)}:{number}" for kind, number in value.references)
+        if value.node_type == RowTypes.BYTES:
+            return value.content.hex()
+        tag = f"{value.content}/" if value.content else ""
+        return tag + ",".join(f"{kind}:{self.pager.node_of(number)}:{number}" for kind, number in value.references)
 
     def look(self, last):
         """How long the list is, and for each live handle up to this number its node, count and key, and what it pins."""
@@ -114,6 +127,7 @@ class Draw:
     # Cut short; not UTF-8; a byte left over; a child key; two blobs with one key; nothing.
     BLOBS = ["0261", "01ff", "017800", "0178:5", "0009", "0a00", "-"]
     STORAGES = ["", "", "", "", " 0", " 4", " 9", " closed"]
+    TYPES = [RowTypes.NAME, RowTypes.NAME, RowTypes.NOTE, RowTypes.MIXED, RowTypes.MIXED, RowTypes.MIXED, *range(RowTypes.LINK, RowTypes.END)]
     OF_HANDLE = ["clone", "into_pagable", "pin", "pin", "unpin", "unpin", "release", "release", "schedule_for_paging", "count", "key", "is_paged_out", "node_of"]
 
     def __init__(self, seed):
@@ -187,9 +201,13 @@ class Draw:
 
     def asking(self, load):
         """A load asks for a reference, or makes a node of one."""
-        owner, kind = ("load", int(load)), self.random.randrange(9)
+        owner, kind = ("load", int(load)), self.kind()
         asked = f"{load} {kind} {self.key()}"
         return self.random.choice([f"load_fetch {asked}", f"load_lazy {asked}", f"load_adopt {asked} {self.value(owner, kind=kind)}"])
+
+    def kind(self):
+        """A kind of references: mostly one that stands in values."""
+        return self.random.choice([*RowTypes.LISTS, 10, 12]) if self.random.random() < 0.7 else self.random.randrange(3 * RowTypes.END + 1)
 
     def blob(self):
         return self.random.choice([Blob(b"\x01x"), Blob(b"\x02al"), Blob(b"\x02lb"), Blob(b"\x00")]).text()
@@ -211,32 +229,48 @@ class Draw:
 
     def value(self, owner=CALLER, row=None, kind=None):
         """A value: mostly of the type that is wanted, if one is. References are mostly handles of the owner's, in a kind that fits."""
-        wanted = [row.node_type if row else type_of(kind)] if row or kind is not None else [0, 1, 2, 2]
-        node_type = self.random.choice(wanted) if self.random.random() < 0.9 else self.random.randrange(3)
-        if node_type != RowTypes.GROUPS:
-            node_type %= RowTypes.GROUPS
-            return f"{node_type} {self.random.choice(self.TEXTS)}".strip()
-        return f"{node_type} {','.join(self.reference(owner) for _ in range(self.random.choice([0, 1, 1, 2, 3])))}".strip()
+        wanted = [row.node_type if row else type_of(kind)] if row or kind is not None else self.TYPES
+        node_type = self.random.choice(wanted) if self.random.random() < 0.9 else self.random.choice(self.TYPES)
+        if node_type >= RowTypes.END:
+            node_type = RowTypes.NAME
+        return f"{node_type} {self.content(node_type, owner)}".strip()
 
-    def reference(self, owner):
-        pager, own = self.plain.pager, self.own(owner)
-        number = own[0] if own and self.random.random() < 0.9 else self.handle()
-        handle = pager.handles.get(number)
-        if handle is None or self.random.random() < 0.1:
-            return f"{self.random.randrange(10)}:{self.random.randrange(pager.last_node + 2)}:{number}"
-        sort = next(sort for sort in range(3) if handle.mode in modes_of(sort))
-        return f"{3 * pager.cells[handle.node].node_type + sort}:{handle.node}:{number}"
+    def content(self, node_type, owner):
+        if node_type <= RowTypes.NOTE:
+            return self.random.choice(self.TEXTS)
+        if node_type == RowTypes.BYTES:
+            return self.random.choice(["0009", "0a00", "0178"])
+        if node_type == RowTypes.MIXED:
+            found = [self.reference(owner, RowTypes.LISTS) for _ in range(self.random.choice([0, 1, 1, 2, 3]))]
+            found.sort(key=lambda word: RowTypes.LISTS.index(int(word.partition(":")[0])))
+            return self.random.choice(["", "", "5/"]) + ",".join(found)
+        counts = {RowTypes.HOLDER: [1], RowTypes.NAMES: [0, 1, 2]}.get(node_type, [0, 1, 1])
+        return ",".join(self.reference(owner, [RowTypes.KINDS[node_type]]) for _ in range(self.random.choice(counts)))
+
+    def kind_of_handle(self, number):
+        """The kind in which a handle can stand in a value, or None for no handle."""
+        handle = self.plain.pager.handles.get(number)
+        return handle and 3 * self.plain.pager.cells[handle.node].node_type + next(sort for sort in range(3) if handle.mode in modes_of(sort))
+
+    def reference(self, owner, kinds=range(3 * RowTypes.END)):
+        """A handle in one of these kinds: mostly one of the owner's that fits."""
+        pager, fitting = self.plain.pager, [number for number in self.own(owner) if self.kind_of_handle(number) in kinds]
+        number = fitting[0] if fitting and self.random.random() < 0.9 else self.handle()
+        handle, kind = pager.handles.get(number), self.kind_of_handle(number)
+        if kind not in kinds or self.random.random() < 0.05:
+            kind = self.random.choice(kinds)
+        return f"{kind}:{handle.node if handle and self.random.random() < 0.95 else self.random.randrange(pager.last_node + 2)}:{number}"
 
     def single(self):
         pager, draw = self.plain.pager, self.random
-        load, key, kind = draw.randrange(pager.last_load + 2), self.key(), draw.randrange(9)
+        load, key, kind = draw.randrange(pager.last_load + 2), self.key(), self.kind()
         rare = [f"node_live {draw.randrange(pager.last_node + 2)}", "pending", f"take_pending {len(pager.list)}",
                 f"store {draw.choice(self.BLOBS)}", f"fetch {key}", f"set_data_key {self.handle()} {key}", "cache_clear", "flush", "reserve 3",
                 f"load_fetch {load}", f"load_drop {load}", f"load_end {load} {self.value()}", f"load_take {load} {self.handle()}",
                 f"load_begin {self.handle()}", self.asking(load), f"cache_get {kind} {key}", f"on_arc_deserialized {kind} {key} {self.handle()}"]
         if draw.random() < 0.02:
             rare = ["close"]
-        new = [f"new_loose {self.value()}", f"new_pinned {self.value()}", f"new_shared {self.value()}", f"new_paged_out {draw.choice([0, 0, 1, 1, 2, 9])} {key}"]
+        new = [f"new_loose {self.value()}", f"new_pinned {self.value()}", f"new_shared {self.value()}", f"new_paged_out {draw.choice([0, 0, 1, 2, 2, 3, 4, 9])} {key}"]
         of_handle = f"{draw.choice(self.OF_HANDLE)} {self.handle()}"
         return draw.choice([draw.choice(rare), draw.choice(new), draw.choice(new), of_handle, of_handle])
 
@@ -308,28 +342,36 @@ class DrawEvents(Draw):
     # ---- plans
 
     def grow(self):
-        """A blob is stored: a text, or a group of up to three references to keys that are stored, most of them as what they are. Few are cut or
-        have a byte left over, and few lack a key."""
-        draw, node_type = self.random, self.random.choice([0, 0, 1, 2, 2, 2, 2, 3])
-        if node_type < RowTypes.GROUPS:
-            blob = Blob(RowTypes.write(Value(node_type, draw.choice(self.TEXTS))))
-        else:
-            arcs = [self.key() for _ in range(draw.choice([0, 1, 1, 2, 2, 3]))]
-            value = Value(node_type, None, [(self.kind_of(key), 0) for key in arcs])
-            if draw.random() < 0.04:
-                arcs = arcs[:-1]
-            blob = Blob(RowTypes.write(value), tuple(arcs))
+        """A blob is stored: a value over keys that are stored, most of them as what they are. Few are cut or have a byte left over, and few lack a
+        key."""
+        draw = self.random
+        node_type = draw.choice(self.TYPES)
+        blob = self.blob_of(node_type)
         if draw.random() < 0.04:
             blob = Blob(draw.choice([blob.data[:-1], blob.data + b"\x07"]), blob.arcs)
+        if draw.random() < 0.03:
+            blob = Blob(blob.data, blob.arcs[:-1])
         answer = yield f"store {blob.text()}"
         if answer.startswith("ok"):
             self.types[int(answer[3:])] = node_type
 
-    def kind_of(self, key):
-        """Mostly a kind under which the key can be read; each sort is as often."""
-        if self.random.random() < 0.04:
-            return self.random.choice([*range(18), 2**32 - 1])
-        return 3 * self.types.get(key, 2) + self.random.randrange(3)
+    def blob_of(self, node_type):
+        draw = self.random
+        if node_type <= RowTypes.NOTE:
+            return Blob(RowTypes.write(Value(RowTypes.NAME, draw.choice(self.TEXTS))))
+        if node_type == RowTypes.BYTES:
+            return Blob(bytes([draw.randrange(3), draw.randrange(11)]))
+        kinds = [draw.choice(RowTypes.LISTS) for _ in range(draw.choice([0, 1, 1, 2, 2, 3]))]
+        if node_type != RowTypes.MIXED:
+            kinds = [RowTypes.KINDS[node_type]] * (1 if node_type == RowTypes.HOLDER else draw.choice([0, 1, 1]))
+        kinds.sort(key=lambda kind: RowTypes.LISTS.index(kind) if node_type == RowTypes.MIXED else 0)
+        data = RowTypes.write(Value(node_type, draw.choice([0, 0, 5]), [(kind, 0) for kind in kinds]))
+        return Blob(data, tuple(self.key_of(type_of(kind)) for kind in kinds))
+
+    def key_of(self, node_type):
+        """Mostly a key that reads as a value of this type."""
+        keys = [key for key, found in self.types.items() if found == node_type]
+        return self.random.choice(keys[-3:]) if keys and self.random.random() < 0.95 else self.key()
 
     def loading(self):
         """A load of a cell or of a key, step by step, up to its end if no other call ends it before."""
@@ -352,11 +394,11 @@ class DrawEvents(Draw):
         if away and self.random.random() < 0.6:
             return f"start {away[0]}"
         key = self.key()
-        return f"new_paged_out {self.types.get(key, 2) if self.random.random() < 0.95 else self.random.choice([0, 2, 300])} {key}"
+        return f"new_paged_out {self.types.get(key, 2) if self.random.random() < 0.95 else self.random.choice([0, 2, 3, 300])} {key}"
 
     def start_of_key(self):
         key = self.key()
-        return f"read {key} {self.types.get(key, 2) if self.random.random() < 0.95 else self.random.choice([0, 2, 300])}"
+        return f"read {key} {self.types.get(key, 2) if self.random.random() < 0.95 else self.random.choice([0, 2, 3, 300])}"
 
     def meddling(self, number):
         """A call on a load that goes by steps, or on the handle by which it was begun."""
@@ -407,7 +449,7 @@ class DrawEvents(Draw):
         """Stores what a node holds over its children's keys: the key, or None where it is gone, too deep or refused."""
         cell = self.plain.pager.cells.get(node)
         value = cell and cell.value
-        if value is None or levels == 0:
+        if value is None or levels == 0 or value.node_type == RowTypes.NOTE:
             return cell and cell.key
         keys = []
         for _, number in value.references:

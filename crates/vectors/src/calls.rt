@@ -3,8 +3,8 @@
 pub mod answers;
 pub mod asked;
 pub mod looks;
-pub mod members;
 pub mod nodes;
+pub mod references;
 
 use crate::calls::asked::{events, split};
 use crate::calls::looks::look;
@@ -81,7 +81,7 @@ impl Calls {
     }
 }
 
-/// The answer to a row by a machine: a look at its pager, or to a list of events.
+/// The answer to a row by a machine: a look at its pager, or to a list of events, or to the last of such a list.
 fn answer<H: KeyHash>(
     alloc: Global,
     machine: &mut CellMachine<H>,
@@ -90,19 +90,24 @@ fn answer<H: KeyHash>(
     let (word, rest) = split(line);
     match word {
         "look" => look(alloc, machine.pager(), rest.parse::<u64>()?),
-        _ => run(alloc, machine, line),
+        "last" => run(alloc, machine, rest, true),
+        _ => run(alloc, machine, line, false),
     }
 }
 
-/// The answers to a row's events, which the machine gets as one list.
+/// The answers to a row's events, which the machine gets as one list, or the last of them.
 fn run<H: KeyHash>(
     alloc: Global,
     machine: &mut CellMachine<H>,
     line: &str,
+    is_last: bool,
 ) -> anyhow::Result<String> {
     let events = events(alloc, line)?;
     match machine.run(alloc, events) {
-        Ok(replies) => answers::replies(alloc, replies.as_slice()),
+        Ok(replies) => {
+            let first = if is_last { replies.len().saturating_sub(1) } else { 0 };
+            answers::replies(alloc, &replies.as_slice()[first..])
+        }
         Err(_) => bail!("no memory for the replies"),
     }
 }

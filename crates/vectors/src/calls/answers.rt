@@ -1,6 +1,6 @@
 //! What events answer, in words.
 
-use crate::calls::members::push_references;
+use crate::calls::references::push_references;
 use crate::calls::nodes::CellNode;
 use pagable::{
     Beginning, Claim, Error, EventReply, Found, Identity, LoadAnswer, LoadReply, OptionalDataKey,

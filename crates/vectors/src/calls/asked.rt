@@ -1,7 +1,7 @@
 //! What a row asks for: events, parted by semicolons.
 
 use crate::blobs::{blob, bytes_of};
-use crate::calls::members::references;
+use crate::calls::references::references;
 use crate::calls::nodes::node;
 use crate::calls::{CellCall, CellEvent};
 use anyhow::{Context, bail};
@@ -25,11 +25,27 @@ pub fn events(alloc: Global, line: &str) -> anyhow::Result<Vec<CellEvent>> {
     Ok(events)
 }
 
-/// Adds one event, or as many steps as are told.
+/// Adds one event, as many steps as are told, or a chain of births.
 fn push_events(alloc: Global, events: &mut Vec<CellEvent>, part: &str) -> anyhow::Result<()> {
+    if let Some(chain) = part.strip_prefix("chain ") {
+        return push_chain(alloc, events, chain);
+    }
     let (one, times) = times_of(part);
     for _ in 0..times {
         events.push(event(alloc, one)?)?;
+    }
+    Ok(())
+}
+
+/// Adds so many births in a new pager, of which each refers to the one before: as `new_loose 3 10 130`, the call, the type, the kind of
+/// the references and how many.
+fn push_chain(alloc: Global, events: &mut Vec<CellEvent>, chain: &str) -> anyhow::Result<()> {
+    let (birth, times) = chain.rsplit_once(' ').context("no chain")?;
+    let (birth, kind) = birth.rsplit_once(' ').context("no chain")?;
+    events.push(event(alloc, birth)?)?;
+    for place in 1..number_of(times) {
+        let next = format!(in alloc; "{birth} {kind}:{place}:{place}")?;
+        events.push(event(alloc, next.as_str())?)?;
     }
     Ok(())
 }

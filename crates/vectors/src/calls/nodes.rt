@@ -1,8 +1,8 @@
 //! The values of the rows, by the numbers of their types.
 
 use crate::blobs::bytes_of;
-use crate::calls::members::{Member, push_references, references, references_in};
-use anyhow::{Context, bail};
+use crate::calls::references::{of_kind, of_kinds, push_references, references};
+use anyhow::{bail, ensure};
 use pagable::{
     ArcRef, Env, Error, KeyHash, NodeSet, OfKind, PagableDeserialize, PagableDeserializer,
     PagableSerialize, PagableSerializer, Reason, WeighHash,
@@ -38,6 +38,12 @@ impl<H: KeyHash> Env for CellEnv<H> {
     ghost parts = { λ e number. nothing };
 }
 
+/// References of each sort to values of their own type, and to names, loose and shared.
+type Lists = (
+    Vec<OfKind<6>>,
+    (Vec<OfKind<7>>, (Vec<OfKind<8>>, (Vec<OfKind<1>>, Names))),
+);
+
 /// A link to the next one by a loose reference: of its own kind.
 type Link = Option<OfKind<10>>;
 
@@ -54,8 +60,8 @@ pub enum CellNode {
     Name(Arc<String>),
     /// Of the type 1: a text that can be read, and whose writer refuses.
     Note(Arc<String>),
-    /// Of the type 2: a byte, and references of any kinds.
-    Group(u8, Vec<Member>),
+    /// Of the type 2: a byte and lists.
+    Mixed(u8, Lists),
     /// Of the type 3.
     Link(Link),
     /// Of the type 4.
@@ -85,9 +91,9 @@ impl CellNode {
         Ok(())
     }
 
-    /// Adds the byte of a group, if it isn't 0.
+    /// Adds the byte before lists, if it isn't 0.
     fn push_tag(&self, alloc: Global, text: &mut String) -> Result<(), Error> {
-        if let CellNode::Group(tag, _) = self {
+        if let CellNode::Mixed(tag, _) = self {
             if *tag != 0 {
                 text.push_str(format!(in alloc; "{tag}/")?.as_str())?;
             }
@@ -97,15 +103,15 @@ impl CellNode {
 }
 
 /// The value that a row spells, as `0 hello world`: its type, and all after the first space, or the empty text. References are
-/// spelled `2 7:1:2,8:3:4`: of each the kind, the node and the handle. A group's byte stands before them, as in `2 5/7:1:2`, if it isn't 0.
+/// spelled `2 7:1:2,8:3:4`: of each the kind, the node and the handle, list after list. The byte stands before them, as in `2 5/7:1:2`, if it isn't 0.
 pub fn node(alloc: Global, spelled: &str) -> anyhow::Result<CellNode> {
     let (node_type, rest) = spelled.split_once(' ').unwrap_or((spelled, ""));
     match node_type {
         "0" => Ok(CellNode::Name(text(alloc, rest)?)),
         "1" => Ok(CellNode::Note(text(alloc, rest)?)),
-        "2" => group(alloc, rest),
+        "2" => mixed(alloc, rest),
         "7" => bytes(alloc, rest),
-        "5" => names(alloc, references(alloc, rest)?.as_slice()),
+        "5" => Ok(CellNode::Names(of_kinds(alloc, references(alloc, rest)?.as_slice())?)),
         _ => referring(node_type, references(alloc, rest)?.as_slice()),
     }
 }
@@ -115,14 +121,19 @@ fn text(alloc: Global, text: &str) -> anyhow::Result<Arc<String>> {
     Ok(Arc::new(alloc, String::from_str(alloc, text)?)?)
 }
 
-/// A group.
-fn group(alloc: Global, spelled: &str) -> anyhow::Result<CellNode> {
+/// A byte and lists.
+fn mixed(alloc: Global, spelled: &str) -> anyhow::Result<CellNode> {
     let (tag, rest) = spelled.split_once('/').unwrap_or(("0", spelled));
-    let mut members = Vec::new(alloc);
-    for reference in references(alloc, rest)? {
-        members.push(Member { reference })?;
-    }
-    Ok(CellNode::Group(tag.parse::<u8>()?, members))
+    let spelled = references(alloc, rest)?;
+    let own = of_kinds(alloc, spelled.as_slice())?;
+    let loose = of_kinds(alloc, spelled.as_slice())?;
+    let pinned = of_kinds(alloc, spelled.as_slice())?;
+    let loose_names = of_kinds(alloc, spelled.as_slice())?;
+    let names = of_kinds(alloc, spelled.as_slice())?;
+    let lists: Lists = (own, (loose, (pinned, (loose_names, names))));
+    let listed = references_of::<CellEnv<WeighHash>, Lists>(alloc, &lists)?;
+    ensure!(listed.as_slice() == spelled.as_slice(), "references of other kinds, or in another order");
+    Ok(CellNode::Mixed(tag.parse::<u8>()?, lists))
 }
 
 /// Two bytes.
@@ -131,15 +142,6 @@ fn bytes(alloc: Global, spelled: &str) -> anyhow::Result<CellNode> {
         [first, second] => Ok(CellNode::Bytes(*first, *second)),
         _ => bail!("no two bytes"),
     }
-}
-
-/// A list of names.
-fn names(alloc: Global, references: &[ArcRef]) -> anyhow::Result<CellNode> {
-    let mut names = Vec::new(alloc);
-    for reference in references {
-        names.push(of_kind(*reference)?)?;
-    }
-    Ok(CellNode::Names(names))
 }
 
 /// A value of at most one reference, of one kind.
@@ -152,11 +154,6 @@ fn referring(node_type: &str, references: &[ArcRef]) -> anyhow::Result<CellNode>
         ("6", [name]) => Ok(CellNode::Holder(of_kind(*name)?)),
         _ => bail!("no such value"),
     }
-}
-
-/// A reference of the kind that is wanted.
-fn of_kind<const KIND: u32>(reference: ArcRef) -> anyhow::Result<OfKind<KIND>> {
-    OfKind::from_reference(reference).context("a reference of another kind")
 }
 
 impl<H: KeyHash> NodeSet<CellEnv<H>> for CellNode {
@@ -190,7 +187,7 @@ impl<H: KeyHash> NodeSet<CellEnv<H>> for CellNode {
         match self {
             CellNode::Name(_) => 0,
             CellNode::Note(_) => 1,
-            CellNode::Group(_, _) => 2,
+            CellNode::Mixed(_, _) => 2,
             CellNode::Link(_) => 3,
             CellNode::ArcLink(_) => 4,
             CellNode::Names(_) => 5,
@@ -201,7 +198,7 @@ impl<H: KeyHash> NodeSet<CellEnv<H>> for CellNode {
 
     fn refs(&self, alloc: Global) -> Result<Vec<ArcRef>, Error> {
         match self {
-            CellNode::Group(_, members) => references_in(alloc, members.as_slice()),
+            CellNode::Mixed(_, lists) => references_of::<CellEnv<H>, Lists>(alloc, lists),
             CellNode::Link(next) => references_of::<CellEnv<H>, Link>(alloc, next),
             CellNode::ArcLink(next) => references_of::<CellEnv<H>, ArcLink>(alloc, next),
             CellNode::Names(names) => references_of::<CellEnv<H>, Names>(alloc, names),
@@ -210,12 +207,12 @@ impl<H: KeyHash> NodeSet<CellEnv<H>> for CellNode {
         }
     }
 
-    #[tactic(auto, using(crate::proofs::Members::listed))]
+    #[tactic(auto, using(crate::proofs::Listed::writing))]
     fn write<S: PagableSerializer<CellEnv<H>>>(&self, serializer: &mut S) -> Result<(), Error> {
         match self {
             CellNode::Name(text) => text.as_ref().pagable_serialize(serializer),
             CellNode::Note(_) => Err(Error::Custom(Reason::new("writing is refused"))),
-            CellNode::Group(tag, members) => (*tag, members).pagable_serialize(serializer),
+            CellNode::Mixed(tag, lists) => (*tag, lists).pagable_serialize(serializer),
             CellNode::Link(next) => next.pagable_serialize(serializer),
             CellNode::ArcLink(next) => next.pagable_serialize(serializer),
             CellNode::Names(names) => names.pagable_serialize(serializer),
@@ -239,11 +236,11 @@ impl<H: KeyHash> NodeSet<CellEnv<H>> for CellNode {
                 Ok(CellNode::Note(Arc::new(alloc, text)?))
             }
             2 => {
-                let (tag, members): (u8, Vec<Member>) = PagableDeserialize::pagable_deserialize(
+                let (tag, lists): (u8, Lists) = PagableDeserialize::pagable_deserialize(
                     alloc,
                     deserializer,
                 )?;
-                Ok(CellNode::Group(tag, members))
+                Ok(CellNode::Mixed(tag, lists))
             }
             3 => Ok(CellNode::Link(Link::pagable_deserialize(alloc, deserializer)?)),
             4 => Ok(CellNode::ArcLink(ArcLink::pagable_deserialize(alloc, deserializer)?)),
