@@ -9,13 +9,15 @@ use Rattle.pagable_arcs.specs.Refers.{ListsInOrder, both_in_order, list_in_order
 use Rattle.pagable_arcs.specs.declared.plain.OfKind.{OfKind}
 use Rattle.pagable_model.specs.Carried.{of_option}
 use Rattle.pagable_model.specs.Form.{unsigned-form}
-use Rattle.pagable_model.specs.Lifted.{MeansOption, option_single}
+use Rattle.pagable_model.specs.Lifted.{MeansOption, option_single, pair_single}
+use Rattle.pagable_model.specs.Meaning.{number, pair}
 use Rattle.pagable_model.specs.References.{references_in}
 use Rattle.pagable_model.specs.Shape.{Shape, both, list, nothing, optional, reference, unsigned}
 use Rattle.pagable_model.specs.Standing.{Is}
 use Rattle.pagable_model.specs.Writing.{Out, WritesSome, nesting}
 use Rattle.pagable_model.specs.declared.error.Error.{Error}
-use Rattle.vectors.specs.Cells.{five_meaning, five_shape, list_meaning, list_means, mixed_meaning, mixed_means, mixed_refers, mixed_shape, one_list, one_mixed}
+use Rattle.pagable_model.specs.declared.numbers.ArcRef.{ArcRef}
+use Rattle.vectors.specs.Cells.{bytes_means, five_meaning, five_shape, list_meaning, list_means, mixed_meaning, mixed_means, mixed_refers, mixed_shape, one_list, one_mixed}
 
 -- the environment has no part with a number
 abbrev parts : ℕ → Shape
@@ -49,4 +51,14 @@ pub holder_listed : {X : Type 0} (r : Result X Error) (name : OfKind 0) (levels 
     → OnOk r (WritesSome (Is (plain_means 0) name) (nesting levels parts) (reference 0) old new) → OnOk r (new.refs ≡ old.refs ++ references_in (plain_means 0 name))
 holder_listed r name levels old new = written_listed r (Is (plain_means 0) name) (plain_means 0 name) (nesting levels parts) (reference 0) old new (λ m is. is) (reference_in_order parts 0)
 
-pub ruleset writing = (mixed_listed, link_listed, names_listed, holder_listed)
+bytes-refer : (x y : ℕ) → references_in {A = ArcRef} (pair (number x) (number y)) ≡ []
+unfolding references_in
+bytes-refer x y = refl
+
+pub bytes_listed : {X : Type 0} (r : Result X Error) (p : ℕ × ℕ) (levels : ℕ) (old new : Out)
+    → OnOk r (WritesSome (bytes_means p) (nesting levels parts) (both (unsigned w8) (unsigned w8)) old new) → OnOk r (new.refs ≡ old.refs ++ [])
+bytes_listed r p levels old new w =
+    rw (← bytes-refer p.0 p.1) (written_listed r (bytes_means p) (pair (number p.0) (number p.1)) (nesting levels parts) (both (unsigned w8) (unsigned w8)) old new
+    (pair_single (Is number) (Is number) number number (λ x m is. is) (λ x m is. is) p) (both_in_order parts _ _ number-in-order number-in-order) w)
+
+pub ruleset writing = (mixed_listed, bytes_listed, link_listed, names_listed, holder_listed)
