@@ -49,8 +49,8 @@ pub mod pagable_arc {
     pub use pagable_pager::{ArcCell, DeserializedArcCache, Pager};
     pub use pagable_world::handles::Owner;
     pub use pagable_world::{
-        Beginning, Call, Event, EventReply, Found, LoadAnswer, LoadReply, Mode, Pinning, Reply,
-        Want,
+        Beginning, Call, Claim, Event, EventReply, Found, LoadAnswer, LoadReply, Mode, PinStep,
+        Pinning, Reply, TableNumber, Took, Want, WorkerAnswer, WorkerReply,
     };
 }
 
@@ -138,5 +138,6 @@ pub use pagable_traits::{
 };
 pub use pagable_world::handles::Owner;
 pub use pagable_world::{
-    Beginning, Call, Event, EventReply, Found, LoadAnswer, LoadReply, Mode, Pinning, Reply, Want,
+    Beginning, Call, Claim, Event, EventReply, Found, LoadAnswer, LoadReply, Mode, PinStep,
+    Pinning, Reply, TableNumber, Took, Want, WorkerAnswer, WorkerReply,
 };
