@@ -38,30 +38,12 @@ one-row q (h ∷ hs) row ordered found = at (λ f. one-row q hs row (λ i j d le
 pub among-named : (rs : List ArcRef) (r : ArcRef) → Among rs r → is_named_by rs r.handle.0 ≡ true
 unfolding is_named_by
 among-named [] r among = absurd (let e = among.1 in cc)
-among-named (x ∷ xs) r (zero, is) =
-    let same : x ≡ r = cc in
-    ap (λ (y : ArcRef). (y.handle.0 == r.handle.0) || is_named_by xs r.handle.0) same ∙ ap (λ b. b || is_named_by xs r.handle.0) (self-number r.handle.0)
-among-named (x ∷ xs) r (suc i, is) = rw (among-named xs r (i, is)) (or-true (x.handle.0 == r.handle.0))
-  where
-    or-true : (b : Bool) → (b || true) ≡ true
-    or-true true = refl
-    or-true false = refl
+among-named (x ∷ xs) r (zero, is) = grind (arith, nat_tests)
+among-named (x ∷ xs) r (suc i, is) = grind (arith, nat_tests, among-named xs r)
 
 module _ (w : Core) (owner : Owner) where
   unseen : (seen : List ℕ) (r : ArcRef) → reference_fault w owner seen r ≡ None → is_in seen r.handle.0 ≡ false
-  unseen seen r none = by-row (row_at w r.handle) none
-    where
-      at : (a b c : Bool) (rest : Option Error) → (if not a then Some Error.NoSuchHandle else or_else (refused_if (not b || c) Error.NotYours) rest) ≡ None → c ≡ false
-      at a b false rest none = refl
-      at false b true rest none = absurd (cc)
-      at true true true rest none = absurd (cc)
-      at true false true rest none = absurd (cc)
-
-      by-row : (found : Option HandleRow)
-          → if_there (λ (row : HandleRow). row_fault w r (refused_if (not (is_owner owner row.owner) || is_in seen r.handle.0) Error.NotYours) row) (Some Error.NoSuchHandle) found ≡ None
-          → is_in seen r.handle.0 ≡ false
-      by-row None none = absurd (cc)
-      by-row (Some row) none = at (row.node.0 == r.node.0) (is_owner owner row.owner) (is_in seen r.handle.0) _ none
+  unseen seen r none = grind (arith, nat_tests)
 
   -- what was seen isn't named again
   seen-unnamed : (seen : List ℕ) (rs : List ArcRef) (q : ℕ) → references_fault w owner seen rs ≡ None → is_in seen q ≡ true → is_named_by rs q ≡ false
