@@ -5,8 +5,6 @@
 pub mod bundle;
 pub mod chain;
 pub mod linked;
-#[cfg(test)]
-mod tests;
 
 pub use bundle::Bundle;
 pub use chain::{ArcLink, Chain, Link};

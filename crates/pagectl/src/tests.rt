@@ -4,6 +4,7 @@
 mod cells;
 mod equal;
 mod failing;
+mod lending;
 mod own_types;
 mod readings;
 mod reasons;

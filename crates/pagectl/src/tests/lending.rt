@@ -1,12 +1,10 @@
 //! A pin is read with the value that it is lent, and refused where that is of another type.
 
-use crate::chain::{ArcLink, Link};
-use crate::linked::{Linked, LinkedNode};
-use pagable_arcs::{Arc, PinnedPagableArc};
-use pagable_codec::{ArcRef, HandleNumber, Kind, NodeNumber, SessionContext};
-use pagable_core::{PagableDeserializerImpl, References};
-use pagable_flavors::{DataKey, Error};
-use pagable_traits::PagableDeserialize;
+use linked_values::{ArcLink, Link, Linked, LinkedNode};
+use pagable::{
+    Arc, ArcRef, DataKey, Error, HandleNumber, Kind, NodeNumber, PagableDeserialize,
+    PagableDeserializerImpl, PinnedPagableArc, References, SessionContext,
+};
 use std::sync::Arc as Shared;
 use std::test::Fail;
 
