@@ -26,6 +26,21 @@ fn is_word_written(
 }
 
 #[test]
+fn equal_static_values_stand_one_after_another(rt: HostRuntime) -> Result<(), Fail> {
+    let zoo = zoo(rt.alloc()).ok().ok_or("no memory")?;
+    let rows = [("a", Some(0)), ("b", Some(1)), ("", None), ("z", None)];
+    for (text, wanted) in rows {
+        equal(&rt, zoo.words.index_of(&text), wanted, text);
+    }
+    let rows = [(0, Some("a")), (1, Some("b")), (2, Some("b")), (3, None)];
+    for (index, wanted) in rows {
+        let found = zoo.words.get(index).map(StaticStr::as_str);
+        equal(&rt, found, wanted, "the text of an index");
+    }
+    Ok(())
+}
+
+#[test]
 fn a_static_value_is_written_under_its_own_index_alone(rt: HostRuntime) -> Result<(), Fail> {
     let zoo = zoo(rt.alloc()).ok().ok_or("no memory")?;
     for (text, index) in [("a", 0u8), ("b", 1), ("b", 2)] {
