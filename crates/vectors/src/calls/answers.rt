@@ -185,13 +185,12 @@ fn pinned(step: &Result<PinStep, Error>) -> Told {
     }
 }
 
-/// What a worker answered in the end, if it did.
-fn worker_answer(answer: Option<WorkerAnswer>) -> Told {
+/// What a worker answered in the end.
+fn worker_answer(answer: &WorkerAnswer) -> Told {
     match answer {
-        None => NOTHING,
-        Some(WorkerAnswer::Key(key)) => (" -> ok", Some(key.get()), None),
-        Some(WorkerAnswer::Failed(e)) => fault(" -> failed", &e),
-        Some(WorkerAnswer::AlreadyFailed) => (" -> already", None, None),
+        WorkerAnswer::Key(key) => (" -> ok", Some(key.get()), None),
+        WorkerAnswer::Failed(e) => fault(" -> failed", e),
+        WorkerAnswer::AlreadyFailed => (" -> already", None, None),
     }
 }
 
@@ -211,7 +210,10 @@ fn push_work(
     if let Took::Write(_, Ok(written)) = &reply.took {
         push_written(alloc, text, written.as_ref())?;
     }
-    push_words(alloc, text, worker_answer(reply.answer))
+    match &reply.answer {
+        Some(answer) => push_words(alloc, text, worker_answer(answer)),
+        None => Ok(()),
+    }
 }
 
 /// Adds what was written of a value, as an item is spelled.
