@@ -24,6 +24,8 @@ pub record PagesList {N E : Type 0} (v : Values N) (answer : Result (Unit {0}) W
 pub record EntryPaged {N E : Type 0} (v : Values N) (s : PagerState N E) (place : ℕ) (answer : WorkerAnswer) (t : PagerState N E) : Type 0 where
   pub run : EntryRun (plain v) s place answer t
   pub whole : WellFormed v t
+  -- the entries before it stay
+  pub long : place ≤ length t.core.list
   pub unfailed : answer ≡ finals.AlreadyFailed → ⊥
 
 pub record PagesEntry {N E : Type 0} (v : Values N) (place : ℕ) (answer : WorkerAnswer) (s t : PagerState N E) : Type 0 where
@@ -42,13 +44,15 @@ pub record SkipsEntry {N E : Type 0} (v : Values N) (place : ℕ) (s t : PagerSt
 -- a run of the entries below this place goes on from here as one from this place, or it ends here with a failure
 pub record PlaceDone {N E : Type 0} (v : Values N) (s : PagerState N E) (place : ℕ) (result : Result (Unit {0}) WorkerAnswer) (t : PagerState N E) : Type 0 where
   pub whole : WellFormed v t
+  pub long : place ≤ length t.core.list
   pub goes : IfOk result (λ u. (i : ℕ) → i ≡ place + 1 → (answer : Result (Unit {0}) WorkerAnswer) (s' : PagerState N E) → ListRun (plain v) place t answer s' → ListRun (plain v) i s answer s')
   pub stops : IfErr result (λ why. (i : ℕ) → i ≡ place + 1 → ListRun (plain v) i s (Err why) t)
 
 pub record PagesAt {N E : Type 0} (v : Values N) (place : ℕ) (result : Result (Unit {0}) WorkerAnswer) (s t : PagerState N E) : Type 0 where
-  pub done : WellFormed v s → PlaceDone v s place result t
+  pub done : WellFormed v s → place < length s.core.list → PlaceDone v s place result t
 
 -- entries so far: a run of those that are left is one of all
 pub record HasPaged {N E : Type 0} (v : Values N) (left : ℕ) (s t : PagerState N E) : Type 0 where
   pub whole : WellFormed v s → WellFormed v t
+  pub long : WellFormed v s → left ≤ length t.core.list
   pub then : WellFormed v s → (answer : Result (Unit {0}) WorkerAnswer) (u : PagerState N E) → ListRun (plain v) left t answer u → ListRun (plain v) (length s.core.list) s answer u
