@@ -23,11 +23,14 @@ use Rattle.pagable_world.specs.Access.{AccessState, Called, WorkerStarts, Worker
 use Rattle.pagable_world.specs.Access.{entry-is-refused, no-entry-worker, entry-is-walked, ListRun, no-more, skips, pages, fails}
 use Rattle.pagable_laws.proofs.{Lengths.none-shorter, Sparing.Spares, Sparing.spares-then, SparingSteps.walk-spares-list, SparingSteps.release-spares-list}
 use Rattle.std.proofs.lemmas.List.Edits.{length-remove}
+use Rattle.std.specs.List.{remove}
 use Rattle.pagable_loads.specs.Telling.{Acting}
 use Rattle.pagable_loads.specs.Working.{as_caller, StartsEntry, RefusesEntry}
 use Rattle.pagable_walk.specs.declared.results.Trees.{Ghosts}
+use Rattle.pagable_walk.specs.declared.table.PageOutError.{PageOutError}
+use Rattle.pagable_walk.specs.declared.table.PageOutError.TheVariants as failures
 use Rattle.pagable_walk.specs.declared.tasks.Task.{Task}
-use Rattle.pagable_walk.specs.Over.{PagesItem, PagesList, PagesEntry, Skipped, SkipsEntry, PlaceDone, PagesAt, HasPaged}
+use Rattle.pagable_walk.specs.Over.{failure_of, PagesItem, PagesList, PagesEntry, Skipped, SkipsEntry, PlaceDone, PagesAt, HasPaged}
 use Rattle.pagable_walk.specs.Slots.{no_claims}
 use Rattle.pagable_walk.specs.Tasks.{IsPlain, todo_of}
 use Rattle.pagable_walk.specs.Turns.{Fits, plain}
@@ -155,14 +158,14 @@ module _ {N E : Type 0} (v : Values N) where
         record { whole = p.whole; long = p.long; goes = λ i next answer s' more. pages i place key h answer s t s' next has p.run more; stops = tt };
   }
 
-  pub at-failed : (place : ℕ) (e : Error) (s t : PagerState N E) → (h : HandleNumber) × EntryHas s.core place h optional.None → PagesEntry v place (finals.Failed e) s t → PagesAt v place (Err (finals.Failed e)) s t
+  pub at-failed : (place : ℕ) (e : Error) (s t : PagerState N E) → (h : HandleNumber) × EntryHas s.core place h optional.None → PagesEntry v place (finals.Failed e) s t → PagesAt v place (Err (failures.Failed e)) s t
   at-failed place e s t (h, has) pages_it = record {
     done = λ whole within.
         let p = pages_it.pages whole within in
         record { whole = p.whole; long = p.long; goes = tt; stops = λ i next. fails i place h e s t next has p.run };
   }
 
-  pub at-other : (place : ℕ) (s t : PagerState N E) → (h : HandleNumber) × EntryHas s.core place h optional.None → PagesEntry v place finals.AlreadyFailed s t → PagesAt v place (Err finals.AlreadyFailed) s t
+  pub at-other : (place : ℕ) (s t : PagerState N E) → (h : HandleNumber) × EntryHas s.core place h optional.None → PagesEntry v place finals.AlreadyFailed s t → PagesAt v place (Err failures.AlreadyFailed) s t
   at-other place s t (h, has) pages_it = record { done = λ whole within. let p = pages_it.pages whole within in absurd (p.unfailed refl) }
 
   -- ---- the list
@@ -180,8 +183,8 @@ module _ {N E : Type 0} (v : Values N) where
       done : WellFormed v s → PlaceDone v mid place (Ok tt) t
       done whole = at.done (paged.whole whole) (let long = paged.long whole in omega (arith, long, next))
 
-  pub ends-paged : (left place : ℕ) → left ≡ place + 1 → (why : WorkerAnswer) (s mid t : PagerState N E) → HasPaged v left s mid → PagesAt v place (Err why) mid t → PagesList v (Err why) s t
-  ends-paged left place next why s mid t paged at = record { over = λ whole. let d = at.done (paged.whole whole) (let long = paged.long whole in omega (arith, long, next)) in paged.then whole (Err why) t (d.stops left next) }
+  pub ends-paged : (left place : ℕ) → left ≡ place + 1 → (why : PageOutError) (s mid t : PagerState N E) → HasPaged v left s mid → PagesAt v place (Err why) mid t → PagesList v (Err why) s t
+  ends-paged left place next why s mid t paged at = record { over = λ whole. let d = at.done (paged.whole whole) (let long = paged.long whole in omega (arith, long, next)) in paged.then whole (Err (failure_of why)) t (d.stops left next) }
 
   pub all-paged : (left : ℕ) → left ≡ 0 → (s t : PagerState N E) → HasPaged v left s t → PagesList v (Ok tt) s t
   all-paged left none s t paged = record { over = λ whole. paged.then whole (Ok tt) t (subst (λ i. ListRun (plain v) i t (Ok tt) t) (sym none) (no-more t)) }
