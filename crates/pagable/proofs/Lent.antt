@@ -6,6 +6,7 @@ use Rattle.pagable_world.specs.Events.{no_shelf}
 use Rattle.pagable_world.specs.Pager.{PagerState, WellFormed}
 use Rattle.pagable_walk.specs.Over.{PagesItem, PagesList}
 use Rattle.pagable_walk.specs.Slots.{no_claims}
+use Rattle.pagable_walk.specs.declared.table.PageOutError.{PageOutError}
 use Rattle.pagable.specs.Paged.{PagesOutItem, PagesOutList}
 
 module _ {N E : Type 0} (v : Values N) (s : PagerState N E) (whole : WellFormed v s) where
@@ -15,5 +16,5 @@ module _ {N E : Type 0} (v : Values N) (s : PagerState N E) (whole : WellFormed 
       let alone = subst (λ x. PagesItem v x item shelf' answer s t) empty pages in
       record { shelf = shelf'; over = alone.over whole (λ i slot there. absurd (cc)) }
 
-  pub list-out : (answer : Result (Unit {0}) WorkerAnswer) (t : PagerState N E) → PagesList v answer s t → PagesOutList v s answer t
+  pub list-out : (answer : Result (Unit {0}) PageOutError) (t : PagerState N E) → PagesList v answer s t → PagesOutList v s answer t
   list-out answer t pages = record { run = pages.over whole }

@@ -5,7 +5,9 @@ use Rattle.pagable_world.specs.World.{Shelf, Values, Written}
 use Rattle.pagable_world.specs.Events.{no_shelf}
 use Rattle.pagable_world.specs.Pager.{PagerState}
 use Rattle.pagable_world.specs.Access.{ListRun, PagesOutItemOver}
+use Rattle.pagable_walk.specs.Over.{seen_as_failure}
 use Rattle.pagable_walk.specs.Turns.{plain}
+use Rattle.pagable_walk.specs.declared.table.PageOutError.{PageOutError}
 
 -- an item, on a table of its own
 pub record PagesOutItem {N E : Type 0} (v : Values N) (s : PagerState N E) (item : Written) (answer : WorkerAnswer) (s' : PagerState N E) : Type 0 where
@@ -13,5 +15,5 @@ pub record PagesOutItem {N E : Type 0} (v : Values N) (s : PagerState N E) (item
   pub over : PagesOutItemOver (plain v) (record { pager = s; shelf = no_shelf }) item answer (record { pager = s'; shelf = shelf })
 
 -- the entries that stand in the list at the call
-pub record PagesOutList {N E : Type 0} (v : Values N) (s : PagerState N E) (answer : Result (Unit {0}) WorkerAnswer) (s' : PagerState N E) : Type 0 where
-  pub run : ListRun (plain v) (length s.core.list) s answer s'
+pub record PagesOutList {N E : Type 0} (v : Values N) (s : PagerState N E) (answer : Result (Unit {0}) PageOutError) (s' : PagerState N E) : Type 0 where
+  pub run : ListRun (plain v) (length s.core.list) s (seen_as_failure answer) s'

@@ -73,9 +73,10 @@ pub mod storage {
         pub use pagable_core::InMemoryBlobs;
     }
 
-    /// The serializer of one cell's value.
+    /// The serializer of one cell's value, and why a page-out fails.
     pub mod support {
         pub use pagable_core::SerializerForPaging;
+        pub use pagable_walk::PageOutError;
     }
 
     /// What a store answers.
@@ -136,6 +137,7 @@ pub use pagable_traits::{
     PagableSerializer, PathText, ReadBack, Reader, SessionContext, SessionMap, SessionValue, Thin,
     serialize_slice, serialize_str,
 };
+pub use pagable_walk::PageOutError;
 pub use pagable_world::handles::Owner;
 pub use pagable_world::{
     Beginning, Call, Claim, Event, EventReply, Found, LoadAnswer, LoadReply, Mode, PinStep,

@@ -7,7 +7,7 @@ ghost use Rattle.pagable_world.specs.World.{seen_as};
 ghost use Rattle.pagable_world.specs.Access.{PinsOver, ReadsOver};
 ghost use Rattle.pagable_loads.specs.Telling.{values_at};
 ghost use Rattle.pagable_pager.specs.View.{state_in, telling};
-ghost use Rattle.pagable_walk.specs.Over.{PagesItem, PagesList};
+ghost use Rattle.pagable_walk.specs.Over.{answer_of, PagesItem, PagesList};
 ghost use Rattle.pagable_walk.specs.Slots.{written_of};
 ghost use Rattle.pagable_walk.specs.Table.{shelf_of};
 ghost use Rattle.pagable.specs.Paged.{PagesOutItem, PagesOutList};
@@ -18,8 +18,7 @@ use pagable_core::{PagableStorage, SerializedData};
 use pagable_loads::{pin_over, read_over};
 use pagable_model::{DataKey, Error, HandleNumber};
 use pagable_pager::{Lent, Pager};
-use pagable_walk::{SlotTable, page_out_item_over, page_out_pending_over};
-use pagable_world::WorkerAnswer;
+use pagable_walk::{PageOutError, SlotTable, page_out_item_over, page_out_pending_over};
 use std::alloc::Global;
 use std::sync::Arc;
 
@@ -117,11 +116,11 @@ fn page_out_item_by<'a, E: Env, S: PagableStorage<E>>(
     alloc: Global,
     table: &mut SlotTable<E>,
     item: Arc<SerializedData>,
-) -> WorkerAnswer
+) -> Result<DataKey, PageOutError>
 where
     E::Node: NodeSet<E>,
     requires caller { lent.old.me ≡ owners.Caller }
-    ensures pages { PagesItem (values_at E.Node.NodeSet E.Env E.Hash.KeyHash lent.old.pager.now.environment) (shelf_of table.old) (written_of (arc_value item)) (shelf_of table.new) result
+    ensures pages { PagesItem (values_at E.Node.NodeSet E.Env E.Hash.KeyHash lent.old.pager.now.environment) (shelf_of table.old) (written_of (arc_value item)) (shelf_of table.new) (answer_of result)
         (state_in (telling S.stored S.is_closed S.failed) lent.old.pager.now) (state_in (telling S.stored S.is_closed S.failed) lent.new.pager.now) }
     ensures lender { lent.new.pager.ghost_name ≡ lent.old.pager.ghost_name }
 {
@@ -134,11 +133,11 @@ pub fn page_out_item<E: Env, S: PagableStorage<E>>(
     alloc: Global,
     pager: &mut Pager<E, S>,
     item: Arc<SerializedData>,
-) -> WorkerAnswer
+) -> Result<DataKey, PageOutError>
 where
     E::Node: NodeSet<E>,
     ensures pages { PagesOutItem (values_at E.Node.NodeSet E.Env E.Hash.KeyHash pager.old.environment) (state_in (telling S.stored S.is_closed S.failed) pager.old)
-        (written_of (arc_value item)) result (state_in (telling S.stored S.is_closed S.failed) pager.new) }
+        (written_of (arc_value item)) (answer_of result) (state_in (telling S.stored S.is_closed S.failed) pager.new) }
 {
     pager.is_whole();
     let mut lent = Lent::new(pager);
@@ -150,7 +149,7 @@ where
 fn page_out_pending_by<'a, E: Env, S: PagableStorage<E>>(
     lent: &mut Lent<'a, E, S>,
     alloc: Global,
-) -> Result<(), WorkerAnswer>
+) -> Result<(), PageOutError>
 where
     E::Node: NodeSet<E>,
     requires caller { lent.old.me ≡ owners.Caller }
@@ -167,7 +166,7 @@ where
 pub fn page_out_pending<E: Env, S: PagableStorage<E>>(
     alloc: Global,
     pager: &mut Pager<E, S>,
-) -> Result<(), WorkerAnswer>
+) -> Result<(), PageOutError>
 where
     E::Node: NodeSet<E>,
     ensures pages { PagesOutList (values_at E.Node.NodeSet E.Env E.Hash.KeyHash pager.old.environment) (state_in (telling S.stored S.is_closed S.failed) pager.old)

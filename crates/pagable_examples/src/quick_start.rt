@@ -2,7 +2,7 @@
 
 use crate::text::{TextEnv, TextNode};
 use pagable::paging::{page_out_pending, pin};
-use pagable::{Error, InMemoryBlobs, Pager, WeighHash, WorkerAnswer};
+use pagable::{Error, InMemoryBlobs, PageOutError, Pager, WeighHash};
 use std::alloc::Global;
 
 /// A pager of texts over blobs in memory.
@@ -24,7 +24,7 @@ fn in_pager(alloc: Global, pager: &mut TextPager, text: &str) -> Result<bool, Er
 
     // Without a pin the cell waits for page-out: it is stored under its content's key, and leaves memory.
     pager.unpin(cell)?;
-    if let Err(WorkerAnswer::Failed(e)) = page_out_pending(alloc, pager) {
+    if let Err(PageOutError::Failed(e)) = page_out_pending(alloc, pager) {
         return Err(e);
     }
 

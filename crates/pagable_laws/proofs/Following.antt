@@ -109,7 +109,7 @@ rows-once q (h ∷ hs) apart =
         let f : one (is_handle q h) ≡ 1 = ap one e in
         omega (arith, none, sum, f)
 
-handles-once : {w : Core} → HandlesAreWhole w → (q : ℕ) → times (is_handle q) w.rows ≤ 1
+pub handles-once : {w : Core} → HandlesAreWhole w → (q : ℕ) → times (is_handle q) w.rows ≤ 1
 handles-once {w} whole q = rows-once q w.rows (λ i j a b lt at there.
     let n = get_or_from_slice_get w.rows i a a at in
     let k = get_or_from_slice_get w.rows j b a there in

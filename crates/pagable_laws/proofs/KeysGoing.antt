@@ -225,7 +225,7 @@ pub held-at-first : {N E : Type 0} (s : MachineState N E) → IsIdle s → KeysH
 held-at-first s idle = record { walks = λ n walking is. let f = idle.walkings n in absurd (cc); publishing = λ n walking r key height below is front. let f = idle.walkings n in absurd (cc); slots = λ t i key height p kind. let f = p.claimed in let g = idle.shelves t i in absurd (cc) }
 
 -- a handle that a step spares is there still
-handle-on : {w w' : Core} {v n : ℕ} → HandlesAreWhole w → Spares v w w' → HasHandle w v n → HasHandle w' v n
+handle-on : {w w' : Core} {v n : ℕ} → HandlesAreWhole w → Spares (owner_worker v) w w' → HasHandle w v n → HasHandle w' v n
 handle-on whole spares h = let s = spares.each h.h.0 h.row h.own (stands-whole whole h.h.0 h.row h.live) in record { h = h.h; row = h.row; live = s.live; own = h.own; at = h.at }
 
 module _ {N B W : Type 0} (m : Seen N B W) (u u' : World) {c : Change} (goes : Goes c u.core u'.core) (held : KeysHeld u) (whole : HandlesAreWhole u.core) where
@@ -241,7 +241,7 @@ module _ {N B W : Type 0} (m : Seen N B W) (u u' : World) {c : Change} (goes : G
   first-hold w (of_item written) = item-started w written
   first-hold w (of_entry h i) = (tt, refl, tt)
 
-  module _ (event : Event N B W) (reply : EventReply N B W) (turns : EventTurns m u event reply u') (spares : (n : ℕ) → step_of n event reply ≡ [] → Spares n u.core u'.core) where
+  module _ (event : Event N B W) (reply : EventReply N B W) (turns : EventTurns m u event reply u') (spares : (n : ℕ) → step_of n event reply ≡ [] → Spares (owner_worker n) u.core u'.core) where
     abbrev WalkHolds : ℕ → Walking → Type 0
     WalkHolds n w = AllHold u'.core w.todo × ((r : ArcRef) (key height : ℕ) (below : List Todo) → w.todo ≡ to_publish r key height ∷ below → HasHandle u'.core n r.node.0)
 

@@ -78,6 +78,7 @@ mod States
 mod Walks
 mod Loaded
 mod Level
+pub mod Lengths
 mod Heights
 mod HeightSteps
 mod Shallow

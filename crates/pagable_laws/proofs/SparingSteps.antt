@@ -1,26 +1,27 @@
--- Each event leaves each handle of a worker as it is that doesn't make it, and what the cache gives for a kind and a key, where the node is held before and after.
+-- Each event leaves each handle of a worker as it is that doesn't make it, and what the cache gives for a kind and a key, where the node is held before and after. What a load's and
+-- a worker's step do leaves the handles of the list too.
 use Rattle.pagable_laws.proofs.Words.{Falls, NodeNumber, AdoptCall, Alike, Among, ArcRef, AreGood, AskCall, Asked, AsksInVain, BeginCall, BeginKeyCall, Beginning, BirthCall, Blob, Bool, Call, Claim, CloneCall, Core, DropCall, EndCall, Ends, Err, Error, Event, EventReply, Frame, Given, HandOverCall, HandleNumber, HandleRow, Happens, Installs, KeepsOpen, Kind, LazyCall, LeavesCache, List, LoadAnswer, LoadCloses, LoadNumber, Mode, None, OfferCall, Ok, OpenLoad, Option, OptionalDataKey, Owner, OwnersAreThere, PinCall, PinRefused, PinStep, Pinning, Reading, ReadingDoes, RecallCall, ReleaseCall, Reply, Result, ScheduleCall, Seen, SetKeyCall, Site, Some, Starts, StoreCall, TableNumber, Task, Todo, Took, UnpinCall, Values, Want, WorkerAnswer, WorkerNumber, World, [], adopted, ap, arith, false, find_row, from_cache, from_store, if_there, if◌then◌else◌, inl, inr, is_at, is_in, is_load_of, is_named_by, is_owned_by, is_owned_in, is_owner, is_workers, is_workers_at, mode_of, moved, named_fault, nat_tests, next_node, not, numbers_of, owner_value, owner_worker, refl, refused_if, row_at, step_of, subst, sym, to_fail, to_finish, to_item, to_load, to_pin, to_publish, to_release, to_set, to_start, to_write, true, type_of, usable, with_cached, with_handle, with_mode, with_node, with_pin, without_load, ℕ, ◌&&◌, ◌+◌, ◌==◌, ◌||◌, ◌∙◌, ◌∷◌, ◌≡◌}
 use Rattle.pagable_world.specs.Events.{Does}
 use Rattle.pagable_world.specs.Loads as loads
 use Rattle.pagable_world.specs.Workers as workers
-use Rattle.pagable_laws.proofs.GoodReferences.{good}
-use Rattle.pagable_laws.proofs.Sums.{same-number}
+use Rattle.pagable_laws.proofs.GoodReferences.{good, same-owner}
+use Rattle.pagable_laws.proofs.Sums.{same-number, self-number}
 use Rattle.pagable_laws.proofs.Outlasting.{Stands}
 use Rattle.pagable_laws.proofs.Decoding.{among-left}
 use Rattle.pagable_laws.proofs.ReadingSteps.{meets}
 use Rattle.pagable_laws.proofs.ReadingStepsHanding.{neither}
-use Rattle.pagable_laws.proofs.Sparing.{Spares, Free, spares-then, spares-alike, then-alike, then-fell, itself, spares-handle, moved-free, other-handle, mode-free, spares-mode}
+use Rattle.pagable_laws.proofs.Sparing.{IsApart, worker-apart, list-apart, Spares, Free, spares-then, spares-alike, then-alike, then-fell, itself, spares-handle, moved-free, other-handle, mode-free, spares-mode}
 use Rattle.pagable_laws.proofs.Sparing.{named-free, load-free, both-free, nobody-free, listed-free}
 use Rattle.pagable_laws.proofs.Usable.{IsEntered, IsHeldFor, Lasts, can-use, stays-alike, by-alike, by-fell, up-then, then-down, held-fell, born, keyed}
 
-module _ (v kind key n : ℕ) where
-  -- the worker's handles stay where this is so of who makes the step, and what the cache gives does where that is
+module _ (mine : Owner) (apart : IsApart mine) (kind key n : ℕ) where
+  -- the owner's handles stay where this is so of who makes the step, and what the cache gives does where that is
   pub record Leaves (Others Caches : Type 0) (w w' : Core) : Type 0 where
-    pub spares : Others → Spares v w w'
+    pub spares : Others → Spares mine w w'
     pub lasts : Caches → Lasts kind key n w w'
 
   abbrev NotMine : Owner → Type 0
-  NotMine me = me ≡ owner_worker v → ⊥
+  NotMine me = me ≡ mine → ⊥
 
   abbrev Enters : Core → Core → Type 0
   Enters w m = IsEntered kind key n w.cache w.cells → IsEntered kind key n m.cache m.cells
@@ -29,17 +30,17 @@ module _ (v kind key n : ℕ) where
   Held w = IsHeldFor kind key n w.rows
 
   not-load : (l : LoadNumber) → NotMine (Owner.Load l)
-  not-load l e = cc
+  not-load l e = let f : is_owner (Owner.Load l) (Owner.Load l) ≡ false = ap (is_owner (Owner.Load l)) e ∙ apart.no_load l in let g = self-number l.0 in absurd (cc)
 
   -- a node comes whose references aren't the worker's
-  node : (w : Core) (t : ℕ) (own : OptionalDataKey) (references : List ArcRef) (owner : Owner) → NotMine owner → AreGood w owner references → Spares v w (with_node w t own references)
-  node w t own references owner other right = record { each = moved-free v (owner_value (w.last.node + 1)) (named-free v w owner references other right) }
+  node : (w : Core) (t : ℕ) (own : OptionalDataKey) (references : List ArcRef) (owner : Owner) → NotMine owner → AreGood w owner references → Spares mine w (with_node w t own references)
+  node w t own references owner other right = record { each = moved-free mine (owner_value (w.last.node + 1)) (named-free mine w owner references other right) }
 
   none-named : (w : Core) (owner : Owner) → AreGood w owner []
   none-named w owner r among = absurd (let e = among.1 in cc)
 
   -- handles that a load hands over aren't the worker's
-  handed-free : (w : Core) (l : LoadNumber) (hs : List HandleNumber) (seen : List ℕ) → named_fault w (Owner.Load l) seen hs ≡ None → (q : ℕ) (row : HandleRow) → row.owner ≡ owner_worker v
+  handed-free : (w : Core) (l : LoadNumber) (hs : List HandleNumber) (seen : List ℕ) → named_fault w (Owner.Load l) seen hs ≡ None → (q : ℕ) (row : HandleRow) → row.owner ≡ mine
       → Stands w.last.handle w.rows q row → is_in (numbers_of hs) q ≡ false
   unfolding named_fault is_in
   handed-free w l [] seen none q row own s = refl
@@ -53,42 +54,39 @@ module _ (v kind key n : ℕ) where
       by more true e (first, rest) =
           let found : row_at w h ≡ Some row = ap (λ n. find_row n w.rows) (same-number _ _ e) ∙ s.live in
           let f : refused_if (not (is_owner (Owner.Load l) row.owner) || is_in seen h.0) Error.NotYours ≡ None = rw found at first in
-          let g : is_owner (Owner.Load l) row.owner ≡ false = ap (is_owner (Owner.Load l)) own in
+          let g : is_owner (Owner.Load l) row.owner ≡ false = ap (is_owner (Owner.Load l)) own ∙ apart.no_load l in
           let k : Some Error.NotYours ≡ None = rw g at f in
           absurd (cc)
 
-  offers : {w w' : Core} {me : Owner} {k : Kind} {q : ℕ} {h : HandleNumber} → NotMine me → (r : Result (Option HandleNumber) Error) → OfferCall w me k q h r w' → Spares v w w'
-  offers other (Ok None) c = then-alike v c.answers.3.2 (record { each = λ q row own s. s })
+  offers : {w w' : Core} {me : Owner} {k : Kind} {q : ℕ} {h : HandleNumber} → NotMine me → (r : Result (Option HandleNumber) Error) → OfferCall w me k q h r w' → Spares mine w w'
+  offers other (Ok None) c = then-alike mine c.answers.3.2 (record { each = λ q row own s. s })
   offers {w} {me = me} {h = h} other (Ok (Some k)) c = elim c.answers.3 [
-    | inl (closed, same, a) ↦ spares-alike v a
-    | inr (open_still, (p, known, next, f)) ↦ then-fell v f.falls (spares-handle v w _ _ me) (other-handle v h c.answers.0 other c.answers.1)
+    | inl (closed, same, a) ↦ spares-alike mine a
+    | inr (open_still, (p, known, next, f)) ↦ then-fell mine apart f.falls (spares-handle mine w _ _ me) (other-handle mine h c.answers.0 other c.answers.1)
   ]
-  offers other (Err e) c = spares-alike v c.refused.stays
+  offers other (Err e) c = spares-alike mine c.refused.stays
 
-  -- what another worker gives up isn't this one's
-  module _ (u : ℕ) (apart : u ≡ v → ⊥) where
-    other-worker : NotMine (owner_worker u)
-    other-worker e = apart (ap number e)
+  -- what a worker gives up isn't the owner's, who is another
+  module _ (u : ℕ) (other : NotMine (owner_worker u)) where
+    not-mine : is_owner (owner_worker u) mine ≡ false
+    not-mine = by (is_owner (owner_worker u) mine) refl
       where
-        number : Owner → ℕ
-        number (Owner.Worker k) = k.0
-        number owner = 0
-
-    not-mine : is_owner (owner_worker u) (owner_worker v) ≡ false
-    not-mine = by (v == u) refl
-      where
-        by : (b : Bool) → (v == u) ≡ b → (v == u) ≡ false
+        by : (b : Bool) → is_owner (owner_worker u) mine ≡ b → is_owner (owner_worker u) mine ≡ false
         by false e = e
-        by true e = absurd (apart (sym (same-number _ _ e)))
+        by true e = absurd (other (sym (same-owner _ _ e)))
 
-    ended-free : (w : Core) → Free v w (is_workers w u)
+    no-load : (w : Core) (o : Owner) → IsApart o → is_load_of w u o ≡ false
+    no-load w (Owner.Load l) a = let f = a.no_load l in let g = self-number l.0 in absurd (cc)
+    no-load w o a = refl
+
+    ended-free : (w : Core) → Free mine w (is_workers w u)
     ended-free w = record {
       each = λ q row own s.
           ap (λ (f : Option HandleRow). if_there (λ (row : HandleRow). is_owner (owner_worker u) row.owner || is_load_of w u row.owner) false f) s.live
-          ∙ ap (λ z. is_owner (owner_worker u) z || is_load_of w u z) own ∙ ap (λ b. b || false) not-mine;
+          ∙ ap (λ z. is_owner (owner_worker u) z || is_load_of w u z) own ∙ ap (λ b. b || is_load_of w u mine) not-mine ∙ no-load w mine apart;
     }
 
-    released-free : (w : Core) (p : ℕ) → Free v w (is_workers_at w u p)
+    released-free : (w : Core) (p : ℕ) → Free mine w (is_workers_at w u p)
     released-free w p = record {
       each = λ q row own s.
           ap (λ (f : Option HandleRow). if_there (λ row. is_owned_by (owner_worker u) row && is_at p row) false f) s.live
@@ -97,21 +95,21 @@ module _ (v kind key n : ℕ) where
 
   module _ {O C : Type 0} where
     pub stays : {w w' : Core} → Alike w w' → Leaves O C w w'
-    stays a = record { spares = λ o. spares-alike v a; lasts = λ c. by-alike kind key n a (λ e. e) }
+    stays a = record { spares = λ o. spares-alike mine a; lasts = λ c. by-alike kind key n a (λ e. e) }
 
     -- what a step does directly, and what falls then
-    pub made : {w m w' : Core} → Alike m w' → (O → Spares v w m) → Enters w m → Leaves O C w w'
-    made a spared entered = record { spares = λ o. then-alike v a (spared o); lasts = λ c. by-alike kind key n a entered }
+    pub made : {w m w' : Core} → Alike m w' → (O → Spares mine w m) → Enters w m → Leaves O C w w'
+    made a spared entered = record { spares = λ o. then-alike mine a (spared o); lasts = λ c. by-alike kind key n a entered }
 
-    pub fell : {before w m w' : Core} {given : ℕ → Bool} {r : Result (Unit {0}) Error} → Falls before m given r w' → (O → Spares v w m) → (O → Free v w given) → Enters w m → Leaves O C w w'
-    fell f spared free entered = record { spares = λ o. then-fell v f (spared o) (free o); lasts = λ c. by-fell kind key n f entered }
+    pub fell : {before w m w' : Core} {given : ℕ → Bool} {r : Result (Unit {0}) Error} → Falls before m given r w' → (O → Spares mine w m) → (O → Free mine w given) → Enters w m → Leaves O C w w'
+    fell f spared free entered = record { spares = λ o. then-fell mine apart f (spared o) (free o); lasts = λ c. by-fell kind key n f entered }
 
     -- one step and then another, where the node is held in the middle if it was before
     after : {w m w' : Core} → (Held w → Held m) → Leaves O C w m → Leaves O C m w' → Leaves O C w w'
-    after up a b = record { spares = λ o. spares-then v (a.spares o) (b.spares o); lasts = λ c. up-then kind key n up (a.lasts c) (b.lasts c) }
+    after up a b = record { spares = λ o. spares-then mine (a.spares o) (b.spares o); lasts = λ c. up-then kind key n up (a.lasts c) (b.lasts c) }
 
     a-handle : {w w' : Core} (node : NodeNumber) (mode : Mode) (owner : Owner) → Alike (with_handle w node mode owner) w' → Leaves O C w w'
-    a-handle {w} node mode owner a = made a (λ o. spares-handle v w node mode owner) (λ e. e)
+    a-handle {w} node mode owner a = made a (λ o. spares-handle mine w node mode owner) (λ e. e)
 
     -- ---- the store and the cache
 
@@ -150,7 +148,7 @@ module _ (v kind key n : ℕ) where
 
     begins : {w w' : Core} {me : Owner} {h : HandleNumber} (r : Result Beginning Error) → BeginCall w me h r w' → Leaves O C w w'
     begins (Ok Beginning.InMemory) c = stays c.begins.2.1
-    begins {w} (Ok (Beginning.Load l q)) c = made c.begins.2.4.2 (λ o. record { each = (spares-handle v w c.begins.0.node Mode.LooseUnpinned (Owner.Load l)).each }) (λ e. e)
+    begins {w} (Ok (Beginning.Load l q)) c = made c.begins.2.4.2 (λ o. record { each = (spares-handle mine w c.begins.0.node Mode.LooseUnpinned (Owner.Load l)).each }) (λ e. e)
     begins (Err e) c = stays c.refused.stays
 
     begins-key : {w w' : Core} {me : Owner} {q : ℕ} (r : Result Beginning Error) → BeginKeyCall w me q r w' → Leaves O C w w'
@@ -162,7 +160,7 @@ module _ (v kind key n : ℕ) where
     adopts : {w w' : Core} (l : LoadNumber) (k : Kind) (q : ℕ) (own : OptionalDataKey) (references : List ArcRef) → usable w k.0 q ≡ None → AreGood w (Owner.Load l) references
         → Alike (adopted w l k q own references) w' → Leaves O C w w'
     adopts {w} l k q own references none right a =
-        record { spares = λ o. then-alike v a (spared w.closed); lasts = λ c. record { lasts = λ e h h'. stays-alike kind key n a (known-too e h w.closed) h' } }
+        record { spares = λ o. then-alike mine a (spared w.closed); lasts = λ c. record { lasts = λ e h h'. stays-alike kind key n a (known-too e h w.closed) h' } }
       where
         bare : Core
         bare = with_node w (type_of k.0) own references
@@ -170,10 +168,10 @@ module _ (v kind key n : ℕ) where
         whole : Core
         whole = with_handle bare (next_node w) (mode_of k.0) (Owner.Load l)
 
-        here : Spares v w whole
-        here = spares-then v (node w (type_of k.0) own references (Owner.Load l) (not-load l) right) (spares-handle v bare (next_node w) (mode_of k.0) (Owner.Load l))
+        here : Spares mine w whole
+        here = spares-then mine (node w (type_of k.0) own references (Owner.Load l) (not-load l) right) (spares-handle mine bare (next_node w) (mode_of k.0) (Owner.Load l))
 
-        spared : (b : Bool) → Spares v w (if b then whole else with_cached whole k q (next_node w))
+        spared : (b : Bool) → Spares mine w (if b then whole else with_cached whole k q (next_node w))
         spared true = here
         spared false = record { each = here.each }
 
@@ -194,7 +192,7 @@ module _ (v kind key n : ℕ) where
     adopting {w = w} {k = k} {q} {references = references} l (Ok h) c =
         let right = good w (Owner.Load l) [] references c.adopts.good in
         elim c.adopts.makes [
-          | inl (m, is, f) ↦ fell f.falls (λ o. spares-handle v w _ _ (Owner.Load l)) (λ o. named-free v w (Owner.Load l) references (not-load l) right) (λ e. e)
+          | inl (m, is, f) ↦ fell f.falls (λ o. spares-handle mine w _ _ (Owner.Load l)) (λ o. named-free mine w (Owner.Load l) references (not-load l) right) (λ e. e)
           | inr (none, few, a) ↦ adopts l k q _ references none right a
         ]
     adopting l (Err e) c = stays c.refused.1.stays
@@ -204,18 +202,18 @@ module _ (v kind key n : ℕ) where
     lazily l (Err e) c = stays c.refused.stays
 
     closes : {w w' : Core} (l : LoadNumber) {r : Result (Unit {0}) Error} → LoadCloses w l r w' → Leaves O C w w'
-    closes {w} l f = fell f (λ o. record { each = λ q row own s. s }) (λ o. load-free v w l) (λ e. e)
+    closes {w} l f = fell f (λ o. record { each = λ q row own s. s }) (λ o. load-free mine apart w l) (λ e. e)
 
     -- ---- calls of another's
 
     module _ {me : Owner} (other : O → NotMine me) where
       births : {N : Type 0} {w w' : Core} {x : N} {t : ℕ} {references : List ArcRef} (mode : Mode) (r : Result HandleNumber (Error × N)) → BirthCall w me x t references mode r w' → Leaves O C w w'
       births {w = w} {t = t} {references} mode (Ok k) c =
-          made c.made.3 (λ o. spares-then v (node w t OptionalDataKey.None references me (other o) (good w me [] references c.made.0)) (spares-handle v _ (next_node w) mode me)) (born kind key n _ _)
+          made c.made.3 (λ o. spares-then mine (node w t OptionalDataKey.None references me (other o) (good w me [] references c.made.0)) (spares-handle mine _ (next_node w) mode me)) (born kind key n _ _)
       births mode (Err e) c = stays c.refused.1.stays
 
       pins : {w w' : Core} {h : HandleNumber} (r : Result Pinning Error) → PinCall w me h r w' → Leaves O C w w'
-      pins {h = h} (Ok (Pinning.Pinned k)) c = made c.pins.2.2 (λ o. spares-then v (spares-mode v h c.pins.0 Mode.LoosePinned (other o) c.pins.1) (spares-handle v _ _ _ _)) (λ e. e)
+      pins {h = h} (Ok (Pinning.Pinned k)) c = made c.pins.2.2 (λ o. spares-then mine (spares-mode mine h c.pins.0 Mode.LoosePinned (other o) c.pins.1) (spares-handle mine _ _ _ _)) (λ e. e)
       pins (Ok (Pinning.NeedsLoad q)) c = stays c.pins.2.2
       pins (Err e) c = stays c.refused.stays
 
@@ -223,23 +221,23 @@ module _ (v kind key n : ℕ) where
       unpins {h = h} r c = elim c.does [
         | inl refused ↦ stays refused.stays
         | inr (row, owns, inl (mode, told, a)) ↦ stays a
-        | inr (row, owns, inr (mode, f)) ↦ fell f (λ o. spares-mode v h row Mode.LooseUnpinned (other o) owns) (λ o. nobody-free v) (λ e. e)
+        | inr (row, owns, inr (mode, f)) ↦ fell f (λ o. spares-mode mine h row Mode.LooseUnpinned (other o) owns) (λ o. nobody-free mine) (λ e. e)
       ]
 
       releases : {w w' : Core} {h : HandleNumber} (r : Result (Unit {0}) Error) → ReleaseCall w me h r w' → Leaves O C w w'
-      releases {h = h} r c = elim c.does [ inl refused ↦ stays refused.stays | inr (row, owns, f) ↦ fell f (λ o. itself v) (λ o. other-handle v h row (other o) owns) (λ e. e) ]
+      releases {h = h} r c = elim c.does [ inl refused ↦ stays refused.stays | inr (row, owns, f) ↦ fell f (λ o. itself mine) (λ o. other-handle mine h row (other o) owns) (λ e. e) ]
 
       sets : {w w' : Core} {h : HandleNumber} {q : ℕ} (r : Result (Unit {0}) Error) → SetKeyCall w me h q r w' → Leaves O C w w'
       sets {q = q} r c = elim c.does [
         | inl refused ↦ stays refused.stays
         | inr (row, owns, inl (mode, told, a)) ↦ stays a
-        | inr (row, owns, inr (loose, f)) ↦ fell f (λ o. record { each = λ q x own s. s }) (λ o. nobody-free v) (keyed kind key n row.node.0 q)
+        | inr (row, owns, inr (loose, f)) ↦ fell f (λ o. record { each = λ q x own s. s }) (λ o. nobody-free mine) (keyed kind key n row.node.0 q)
       ]
 
       schedules : {w w' : Core} {h : HandleNumber} (r : Result (Unit {0}) Error) → ScheduleCall w me h r w' → Leaves O C w w'
       schedules {h = h} (Ok u) c = elim c.moves.2 [
-        | inl (open_still, a) ↦ made a (λ o. record { each = moved-free v Owner.List (other-handle v h c.moves.0 (other o) c.moves.1) }) (λ e. e)
-        | inr (closed, f) ↦ fell f.falls (λ o. itself v) (λ o. other-handle v h c.moves.0 (other o) c.moves.1) (λ e. e)
+        | inl (open_still, a) ↦ made a (λ o. record { each = moved-free mine Owner.List (other-handle mine h c.moves.0 (other o) c.moves.1) }) (λ e. e)
+        | inr (closed, f) ↦ fell f.falls (λ o. itself mine) (λ o. other-handle mine h c.moves.0 (other o) c.moves.1) (λ e. e)
       ]
       schedules (Err e) c = stays c.refused.stays
 
@@ -248,9 +246,9 @@ module _ (v kind key n : ℕ) where
 
       ends-load : {N : Type 0} {w w' : Core} {x : N} {t : ℕ} {references : List ArcRef} (l : LoadNumber) (r : Result HandleNumber (Error × Option N)) → EndCall w me l x t references r w' → Leaves O C w w'
       ends-load {w = w} {w'} {references = references} l (Ok k) c = elim i.falls [
-        | inl (away, f) ↦ fell f.falls (λ o. pinned with_value o (moved-free v (owner_value p.0) (named-free v w (Owner.Load l) references (not-load l) right)))
-            (λ o. both-free v (is_owned_in w (Owner.Load l)) (is_named_by references) (load-free v w l)) (λ e. e)
-        | inr (there, f) ↦ fell f.falls (λ o. pinned (without_load w l) o (λ q row own s. s)) (λ o. load-free v w l) (λ e. e)
+        | inl (away, f) ↦ fell f.falls (λ o. pinned with_value o (moved-free mine (owner_value p.0) (named-free mine w (Owner.Load l) references (not-load l) right)))
+            (λ o. both-free mine (is_owned_in w (Owner.Load l)) (is_named_by references) (load-free mine apart w l)) (λ e. e)
+        | inr (there, f) ↦ fell f.falls (λ o. pinned (without_load w l) o (λ q row own s. s)) (λ o. load-free mine apart w l) (λ e. e)
       ]
         where
           p : NodeNumber
@@ -268,17 +266,17 @@ module _ (v kind key n : ℕ) where
           with_value : Core
           with_value = record (without_load w l) { rows = moved (is_named_by references) (owner_value p.0) w.rows }
 
-          pinned : (m : Core) → O → ((q : ℕ) (row : HandleRow) → row.owner ≡ owner_worker v → Stands w.last.handle w.rows q row → Stands m.last.handle m.rows q row) → Spares v w (with_pin m h p me)
+          pinned : (m : Core) → O → ((q : ℕ) (row : HandleRow) → row.owner ≡ mine → Stands w.last.handle w.rows q row → Stands m.last.handle m.rows q row) → Spares mine w (with_pin m h p me)
           pinned m o each = record {
-            each = λ q row own s. (spares-handle v (with_mode m h Mode.LoosePinned) p Mode.Pinned me).each q row own (mode-free v h Mode.LoosePinned ((other-handle v h i.row (other o) i.owned).each q row own s) (each q row own s));
+            each = λ q row own s. (spares-handle mine (with_mode m h Mode.LoosePinned) p Mode.Pinned me).each q row own (mode-free mine h Mode.LoosePinned ((other-handle mine h i.row (other o) i.owned).each q row own s) (each q row own s));
           }
       ends-load l (Err (e, Some y)) c = stays c.refused.1.stays
       ends-load l (Err (e, None)) c = closes l c.refused.closes
 
       hands-over : {w w' : Core} (l : LoadNumber) (hs : List HandleNumber) (r : Result (Unit {0}) Error) → HandOverCall w me l hs r w' → Leaves O C w w'
       hands-over {w} l hs (Ok u) c =
-          let free : Free v w (is_in (numbers_of hs)) = record { each = handed-free w l hs [] (neither _ _ (neither _ _ c.hands.0).1).1 } in
-          fell c.hands.1.falls (λ o. record { each = moved-free v me free }) (λ o. both-free v (is_owned_in w (Owner.Load l)) (is_in (numbers_of hs)) (load-free v w l)) (λ e. e)
+          let free : Free mine w (is_in (numbers_of hs)) = record { each = handed-free w l hs [] (neither _ _ (neither _ _ c.hands.0).1).1 } in
+          fell c.hands.1.falls (λ o. record { each = moved-free mine me free }) (λ o. both-free mine (is_owned_in w (Owner.Load l)) (is_in (numbers_of hs)) (load-free mine apart w l)) (λ e. e)
       hands-over l hs (Err e) c = stays c.refused.1
 
       -- ---- loads
@@ -306,20 +304,20 @@ module _ (v kind key n : ℕ) where
 
     -- ---- another worker
 
-    module _ (u : ℕ) (apart : O → u ≡ v → ⊥) where
+    module _ (u : ℕ) (other : O → NotMine (owner_worker u)) where
       pin-refused : {w w' : Core} (r : ArcRef) (e : Error) → PinRefused w (owner_worker u) r e w' → Leaves O C w w'
       pin-refused r e does = elim does [
         | inl clone ↦ clones _ clone
-        | inr (row, (mid, through, clone, inl pin)) ↦ then-clone clone (pins (λ o. other-worker u (apart o)) _ pin)
+        | inr (row, (mid, through, clone, inl pin)) ↦ then-clone clone (pins other _ pin)
         | inr (row, (mid, through, clone, inr begin)) ↦ then-clone clone (begins _ begin)
       ]
 
       -- a worker that ends gives up what it has: what is held then was held before
       then-ends : {w m w' : Core} (answer : Option WorkerAnswer) → Leaves O C w m → Ends answer u m w' → Leaves O C w w'
-      then-ends None a e = record { spares = λ o. then-alike v e (a.spares o); lasts = λ c. then-down kind key n (λ h. subst (IsHeldFor kind key n) e.rows h) (a.lasts c) (by-alike kind key n e (λ e. e)) }
+      then-ends None a e = record { spares = λ o. then-alike mine e (a.spares o); lasts = λ c. then-down kind key n (λ h. subst (IsHeldFor kind key n) e.rows h) (a.lasts c) (by-alike kind key n e (λ e. e)) }
       then-ends {m = m} (Some answer) a f =
           record {
-            spares = λ o. spares-then v (a.spares o) (then-fell v f.falls (record { each = λ q row own s. s }) (ended-free u (apart o) m));
+            spares = λ o. spares-then mine (a.spares o) (then-fell mine apart f.falls (record { each = λ q row own s. s }) (ended-free u (other o) m));
             lasts = λ c. then-down kind key n (held-fell kind key n refl f.falls) (a.lasts c) (by-fell kind key n f.falls (λ e. e));
           }
 
@@ -330,41 +328,41 @@ module _ (v kind key n : ℕ) where
         walks (to_start r place ∷ below) (Took.Claim i (Ok Claim.Waiting)) (is, c) = stays c.finds.1.2.pager_stays
         walks (to_start r place ∷ below) (Took.Claim i (Ok Claim.AlreadyFailed)) (is, c) = stays c.finds.1.2.pager_stays
         walks (to_start r place ∷ below) (Took.Claim i (Err f)) (is, c) = stays c.refused.1.pager_stays
-        walks (to_pin r place ∷ below) (Took.Pin i (Ok (PinStep.Held k))) (is, p) = elim p.pins.1 [ inl (row, same, clone) ↦ clones _ clone | inr (row, (mid, clone, pin)) ↦ then-clone clone (pins (λ o. other-worker u (apart o)) _ pin) ]
+        walks (to_pin r place ∷ below) (Took.Pin i (Ok (PinStep.Held k))) (is, p) = elim p.pins.1 [ inl (row, same, clone) ↦ clones _ clone | inr (row, (mid, clone, pin)) ↦ then-clone clone (pins other _ pin) ]
         walks (to_pin r place ∷ below) (Took.Pin i (Ok (PinStep.LoadBegun l))) (is, p) = let b = p.pins.1.1 in then-clone b.2 (begins _ b.3)
         walks (to_pin r place ∷ below) (Took.Pin i (Ok PinStep.LoadWent)) (is, p) = absurd p.pins
         walks (to_pin r place ∷ below) (Took.Pin i (Err f)) (is, p) = pin-refused r f p.refused.0
-        walks (to_load r place through reading ∷ below) (Took.Pin i (Ok (PinStep.Held k))) (is, p) = reads (λ o. other-worker u (apart o)) m.values reading p.goes.0
+        walks (to_load r place through reading ∷ below) (Took.Pin i (Ok (PinStep.Held k))) (is, p) = reads other m.values reading p.goes.0
         walks (to_load r place through reading ∷ below) (Took.Pin i (Ok (PinStep.LoadBegun l))) (is, p) = absurd p.goes
-        walks (to_load r place through reading ∷ below) (Took.Pin i (Ok PinStep.LoadWent)) (is, p) = reads (λ o. other-worker u (apart o)) m.values reading p.goes.1
-        walks (to_load r place through reading ∷ below) (Took.Pin i (Err f)) (is, p) = reads (λ o. other-worker u (apart o)) m.values reading p.refused.0
+        walks (to_load r place through reading ∷ below) (Took.Pin i (Ok PinStep.LoadWent)) (is, p) = reads other m.values reading p.goes.1
+        walks (to_load r place through reading ∷ below) (Took.Pin i (Err f)) (is, p) = reads other m.values reading p.refused.0
         walks (to_write r place through ∷ below) (Took.Write i (Ok out)) (is, p) = stays p.writes.pager_stays
         walks (to_write r place through ∷ below) (Took.Write i (Err f)) (is, p) = stays p.refused.1.pager_stays
         walks (to_finish o ∷ below) (Took.Store i k) (is, p) = stores k p.stored
         walks (to_item written keys ∷ below) (Took.Store i k) (is, p) = stores k p.stored
-        walks (to_set r through k h ∷ below) (Took.SetKey i done) (is, p) = sets (λ o. other-worker u (apart o)) done p.sets
+        walks (to_set r through k h ∷ below) (Took.SetKey i done) (is, p) = sets other done p.sets
         walks (to_publish r k h ∷ below) (Took.Publish i k2 h2) (is, same_key, same_height, t) = stays t.pager_stays
-        walks (to_release r k h ∷ below) (Took.Release i) (is, f, g) = fell f.falls (λ o. itself v) (λ o. released-free u (apart o) s.core r.node.0) (λ e. e)
+        walks (to_release r k h ∷ below) (Took.Release i) (is, f, g) = fell f.falls (λ o. itself mine) (λ o. released-free u (other o) s.core r.node.0) (λ e. e)
         walks (to_fail fault None ∷ below) Took.Fail (a, shelf, list_is) = stays a
-        walks (to_fail fault (Some h) ∷ below) Took.Fail ((told, scheduled), shelf, list_is) = schedules (λ o. other-worker u (apart o)) told scheduled
+        walks (to_fail fault (Some h) ∷ below) Took.Fail ((told, scheduled), shelf, list_is) = schedules other told scheduled
         walks todo step does = absurd does
 
   -- ---- calls
 
-  module _ {N B W : Type 0} (m : Seen N B W) {w w' : Core} {me : Owner} where
+  module _ (unlisted : is_owner Owner.List mine ≡ false) {N B W : Type 0} (m : Seen N B W) {w w' : Core} {me : Owner} where
     calls : (call : Call N B) (reply : Reply N B) → KeepsOpen {N = N} {B = B} {W = W} (Event.Call call) → Does m w me call reply w'
         → Leaves (OwnersAreThere w × NotMine me) (LeavesCache {N = N} {B = B} {W = W} (Event.Call call)) w w'
     calls (Call.NewPinned x) (Reply.Made r) open_still c = births (λ o. o.1) Mode.Pinned r c
     calls (Call.NewLoose x) (Reply.Made r) open_still c = births (λ o. o.1) Mode.LoosePinned r c
     calls (Call.NewShared x) (Reply.Made r) open_still c = births (λ o. o.1) Mode.Shared r c
     calls (Call.NewPagedOut t q) (Reply.Handle (Ok k)) open_still c =
-        made c.made.2 (λ o. spares-then v (node w t (OptionalDataKey.Some q) [] me o.1 (none-named w me)) (spares-handle v _ (next_node w) Mode.LooseUnpinned me)) (born kind key n _ _)
+        made c.made.2 (λ o. spares-then mine (node w t (OptionalDataKey.Some q) [] me o.1 (none-named w me)) (spares-handle mine _ (next_node w) Mode.LooseUnpinned me)) (born kind key n _ _)
     calls (Call.NewPagedOut t q) (Reply.Handle (Err e)) open_still c = stays c.refused.stays
     calls (Call.Clone h) (Reply.Handle r) open_still c = clones r c
     calls (Call.Pin h) (Reply.Pin r) open_still c = pins (λ o. o.1) r c
     calls (Call.Unpin h) (Reply.Done r) open_still c = unpins (λ o. o.1) r c
     calls (Call.Release h) (Reply.Done r) open_still c = releases (λ o. o.1) r c
-    calls (Call.IntoPagable h) (Reply.Handle (Ok k)) open_still c = made c.turned.3 (λ o. spares-mode v h c.turned.0 Mode.LoosePinned o.1 c.turned.1) (λ e. e)
+    calls (Call.IntoPagable h) (Reply.Handle (Ok k)) open_still c = made c.turned.3 (λ o. spares-mode mine h c.turned.0 Mode.LoosePinned o.1 c.turned.1) (λ e. e)
     calls (Call.IntoPagable h) (Reply.Handle (Err e)) open_still c = stays c.refused.1
     calls (Call.SetDataKey h q) (Reply.Done r) open_still c = sets (λ o. o.1) r c
     calls (Call.Count h) (Reply.Count r) open_still c = stays c.1
@@ -374,11 +372,11 @@ module _ (v kind key n : ℕ) where
     calls (Call.NodeLive k) (Reply.NodeType t) open_still c = stays c.1
     calls (Call.ScheduleForPaging h) (Reply.Done r) open_still c = schedules (λ o. o.1) r c
     calls Call.Pending (Reply.Length k) open_still c = stays c.1
-    calls (Call.TakePending i) (Reply.Taken (Some h)) open_still c = made c.1 (λ o. record { each = moved-free v me (listed-free v o.0 i h c.0) }) (λ e. e)
+    calls (Call.TakePending i) (Reply.Taken (Some h)) open_still c = made c.1 (λ o. record { each = moved-free mine me (listed-free mine unlisted o.0 i h c.0) }) (λ e. e)
     calls (Call.TakePending i) (Reply.Taken None) open_still c = stays c.1
     calls (Call.CacheGet k q) (Reply.FromCache r) open_still c = recalls r c
     calls (Call.OnArcDeserialized k q h) (Reply.FromCache r) open_still c = record { spares = λ o. offers o.1 r c; lasts = λ leaves. absurd leaves }
-    calls Call.CacheClear (Reply.Done r) open_still c = record { spares = λ o. then-alike v c.leaves (record { each = λ q row own s. s }); lasts = λ leaves. absurd leaves }
+    calls Call.CacheClear (Reply.Done r) open_still c = record { spares = λ o. then-alike mine c.leaves (record { each = λ q row own s. s }); lasts = λ leaves. absurd leaves }
     calls (Call.Fetch q) (Reply.Fetched r) open_still c = asked c.asked
     calls (Call.Store b) (Reply.Stored r) open_still c = stores r c
     calls Call.Flush (Reply.Done r) open_still c = asked c.asked
@@ -397,48 +395,64 @@ module _ (v kind key n : ℕ) where
 
   -- ---- events
 
-  callers : NotMine Owner.Caller
-  callers e = cc
+  module _ (v : ℕ) (mine_is : mine ≡ owner_worker v) where
+    unlisted : is_owner Owner.List mine ≡ false
+    unlisted = ap (is_owner Owner.List) mine_is
 
-  started : {O C : Type 0} {u u' : World} {core : Core} (t : TableNumber) (task : Task) (k : WorkerNumber) → (O → Spares v u.core core) → Enters u.core core → Starts u t task core k u' → Leaves O C u.core u'.core
-  started t task k spared entered s = made s.pager (λ o. record { each = (spared o).each }) entered
+    callers : NotMine Owner.Caller
+    callers e = let f : Owner.Caller ≡ owner_worker v = e ∙ mine_is in absurd (cc)
 
-  -- who makes no step isn't the one that makes this
-  isnt-own : {X : Type 0} (x : X) (k : ℕ) → (if k == v then x ∷ [] else []) ≡ [] → k ≡ v → ⊥
-  isnt-own x k none at =
-      let e : (k == v) ≡ true = grind (arith, nat_tests) in
-      let f : (if true then x ∷ [] else []) ≡ [] = subst (λ b. (if b then x ∷ [] else []) ≡ []) e none in absurd (cc)
+    started : {O C : Type 0} {u u' : World} {core : Core} (t : TableNumber) (task : Task) (k : WorkerNumber) → (O → Spares mine u.core core) → Enters u.core core → Starts u t task core k u' → Leaves O C u.core u'.core
+    started t task k spared entered s = made s.pager (λ o. record { each = (spared o).each }) entered
 
-  module _ {N B W : Type 0} (m : Seen N B W) (u u' : World) where
-    events : (event : Event N B W) (reply : EventReply N B W) → KeepsOpen event → Happens m u event reply u'
-        → Leaves (OwnersAreThere u.core × (step_of v event reply ≡ [])) (LeavesCache event) u.core u'.core
-    events (Event.Call call) (EventReply.CallReply r) open_still h = let c = calls m call r open_still h.step.does in record { spares = λ o. c.spares (o.0, callers); lasts = c.lasts }
-    events (Event.LoadStart k) (EventReply.Started r) open_still h = begins r h.step
-    events (Event.LoadKey k t) (EventReply.Started r) open_still h = begins-key r h.step
-    events (Event.LoadStep l) (EventReply.LoadMoved (Ok reply)) open_still h = reads (λ o. callers) m.values h.moves.reading h.moves.does
-    events (Event.LoadStep l) (EventReply.LoadMoved (Err e)) open_still h = stays h.refused.1.core
-    events Event.TableNew (EventReply.TableMade (Ok t)) open_still h = stays h.made.1
-    events Event.TableNew (EventReply.TableMade (Err e)) open_still h = stays h.refused.1.core
-    events (Event.WorkerItem t item) (EventReply.WorkerMade (Ok k)) open_still h = started t _ k (λ o. itself v) (λ e. e) h.starts
-    events (Event.WorkerItem t item) (EventReply.WorkerMade (Err e)) open_still h = stays h.refused.1.core
-    events (Event.WorkerListed t i) (EventReply.WorkerMade (Ok k)) open_still h =
-        let x = h.starts in started t _ k (λ o. record { each = moved-free v (Owner.Worker k) (listed-free v o.0 i x.0 x.3.listed) }) (λ e. e) x.5
-    events (Event.WorkerListed t i) (EventReply.WorkerMade (Err e)) open_still h = stays h.refused.1.core
-    events (Event.WorkerStep k) (EventReply.WorkerMoved (Ok reply)) open_still h =
-        let x = h.moves in
-        then-ends k.0 (λ o. isnt-own reply.took k.0 o.1) reply.answer
-        (walks k.0 (λ o. isnt-own reply.took k.0 o.1) m (record { core = u.core; shelf = u.work.shelves x.walking.table; todo = x.walking.todo }) x.after x.walking.todo reply.took x.does.does) x.ends
-    events (Event.WorkerStep k) (EventReply.WorkerMoved (Err e)) open_still h = stays h.refused.2.core
-    events event reply open_still h = absurd h
+    -- who makes no step isn't the one that makes this
+    isnt-own : {X : Type 0} (x : X) (k : ℕ) → (if k == v then x ∷ [] else []) ≡ [] → NotMine (owner_worker k)
+    isnt-own x k none is =
+        let e : (k == v) ≡ true = ap (is_owner (owner_worker v)) (is ∙ mine_is) ∙ self-number v in
+        let f : (if true then x ∷ [] else []) ≡ [] = subst (λ b. (if b then x ∷ [] else []) ≡ []) e none in absurd (cc)
+
+    module _ {N B W : Type 0} (m : Seen N B W) (u u' : World) where
+      events : (event : Event N B W) (reply : EventReply N B W) → KeepsOpen event → Happens m u event reply u'
+          → Leaves (OwnersAreThere u.core × (step_of v event reply ≡ [])) (LeavesCache event) u.core u'.core
+      events (Event.Call call) (EventReply.CallReply r) open_still h = let c = calls unlisted m call r open_still h.step.does in record { spares = λ o. c.spares (o.0, callers); lasts = c.lasts }
+      events (Event.LoadStart k) (EventReply.Started r) open_still h = begins r h.step
+      events (Event.LoadKey k t) (EventReply.Started r) open_still h = begins-key r h.step
+      events (Event.LoadStep l) (EventReply.LoadMoved (Ok reply)) open_still h = reads (λ o. callers) m.values h.moves.reading h.moves.does
+      events (Event.LoadStep l) (EventReply.LoadMoved (Err e)) open_still h = stays h.refused.1.core
+      events Event.TableNew (EventReply.TableMade (Ok t)) open_still h = stays h.made.1
+      events Event.TableNew (EventReply.TableMade (Err e)) open_still h = stays h.refused.1.core
+      events (Event.WorkerItem t item) (EventReply.WorkerMade (Ok k)) open_still h = started t _ k (λ o. itself mine) (λ e. e) h.starts
+      events (Event.WorkerItem t item) (EventReply.WorkerMade (Err e)) open_still h = stays h.refused.1.core
+      events (Event.WorkerListed t i) (EventReply.WorkerMade (Ok k)) open_still h =
+          let x = h.starts in started t _ k (λ o. record { each = moved-free mine (Owner.Worker k) (listed-free mine unlisted o.0 i x.0 x.3.listed) }) (λ e. e) x.5
+      events (Event.WorkerListed t i) (EventReply.WorkerMade (Err e)) open_still h = stays h.refused.1.core
+      events (Event.WorkerStep k) (EventReply.WorkerMoved (Ok reply)) open_still h =
+          let x = h.moves in
+          then-ends k.0 (λ o. isnt-own reply.took k.0 o.1) reply.answer
+          (walks k.0 (λ o. isnt-own reply.took k.0 o.1) m (record { core = u.core; shelf = u.work.shelves x.walking.table; todo = x.walking.todo }) x.after x.walking.todo reply.took x.does.does) x.ends
+      events (Event.WorkerStep k) (EventReply.WorkerMoved (Err e)) open_still h = stays h.refused.2.core
+      events event reply open_still h = absurd h
 
 pub event-spares : {N B W : Type 0} (m : Seen N B W) (v : ℕ) (u u' : World) → OwnersAreThere u.core → (event : Event N B W) (reply : EventReply N B W) → step_of v event reply ≡ [] → KeepsOpen event
-    → Happens m u event reply u' → Spares v u.core u'.core
-event-spares m v u u' there event reply others stays h = (events v 0 0 0 m u u' event reply stays h).spares (there, others)
+    → Happens m u event reply u' → Spares (owner_worker v) u.core u'.core
+event-spares m v u u' there event reply others stays h = (events (owner_worker v) (worker-apart v) 0 0 0 v refl m u u' event reply stays h).spares (there, others)
 
 pub event-lasts : (kind key n : ℕ) {N B W : Type 0} (m : Seen N B W) (u u' : World) (event : Event N B W) (reply : EventReply N B W) → LeavesCache event → Happens m u event reply u'
     → Lasts kind key n u.core u'.core
-event-lasts kind key n {N} {B} {W} m u u' event reply leaves h = (events 0 kind key n m u u' event reply (open-still event leaves) h).lasts leaves
+event-lasts kind key n {N} {B} {W} m u u' event reply leaves h = (events (owner_worker 0) (worker-apart 0) kind key n 0 refl m u u' event reply (open-still event leaves) h).lasts leaves
   where
     open-still : (event : Event N B W) → LeavesCache event → KeepsOpen event
     open-still (Event.Call Call.Close) leaves = leaves
     open-still event leaves = tt
+
+-- ---- the list
+
+-- a worker's step leaves the handles of the list
+pub walk-spares-list : {N B W : Type 0} (m : Seen N B W) (u : ℕ) (s s' : Site) (w' : Core) (step : Took W) (answer : Option WorkerAnswer) → workers.WalkDoes m u s step s' → Ends answer u s'.core w'
+    → Spares Owner.List s.core w'
+walk-spares-list m u s s' w' step answer does ends =
+    (then-ends Owner.List list-apart 0 0 0 {O = Unit {0}} {C = Unit {0}} u (λ o is. absurd (cc)) answer (walks Owner.List list-apart 0 0 0 u (λ o is. absurd (cc)) m s s' s.todo step does.does) ends).spares tt
+
+-- and so does a handle of the caller's that is released
+pub release-spares-list : {w w' : Core} {h : HandleNumber} (r : Result (Unit {0}) Error) → ReleaseCall w Owner.Caller h r w' → Spares Owner.List w w'
+release-spares-list r c = (releases Owner.List list-apart 0 0 0 {O = Unit {0}} {C = Unit {0}} (λ o is. absurd (cc)) r c).spares tt

@@ -19,12 +19,18 @@ use Rattle.pagable_world.specs.World.{Shelf, SameShelf, Todo, of_entry, of_item,
 use Rattle.pagable_world.specs.Workers.{first_todo}
 use Rattle.pagable_world.specs.Events.{entry_task, no_shelf}
 use Rattle.pagable_world.specs.Pager.{PagerState, WellFormed}
-use Rattle.pagable_world.specs.Access.{AccessState, Called, WorkerStarts, WorkerRun, worker-ends, worker-goes-on, no-worker, item-is-walked, EntryHas, EntryRun, entry-is-refused, no-entry-worker, entry-is-walked, ListRun, no-more, passes, skips, pages, fails}
+use Rattle.pagable_world.specs.Access.{AccessState, Called, WorkerStarts, WorkerRun, worker-ends, worker-goes-on, no-worker, item-is-walked, EntryHas, EntryRun}
+use Rattle.pagable_world.specs.Access.{entry-is-refused, no-entry-worker, entry-is-walked, ListRun, no-more, skips, pages, fails}
+use Rattle.pagable_laws.proofs.{Lengths.none-shorter, Sparing.Spares, Sparing.spares-then, SparingSteps.walk-spares-list, SparingSteps.release-spares-list}
+use Rattle.std.proofs.lemmas.List.Edits.{length-remove}
+use Rattle.std.specs.List.{remove}
 use Rattle.pagable_loads.specs.Telling.{Acting}
 use Rattle.pagable_loads.specs.Working.{as_caller, StartsEntry, RefusesEntry}
 use Rattle.pagable_walk.specs.declared.results.Trees.{Ghosts}
+use Rattle.pagable_walk.specs.declared.table.PageOutError.{PageOutError}
+use Rattle.pagable_walk.specs.declared.table.PageOutError.TheVariants as failures
 use Rattle.pagable_walk.specs.declared.tasks.Task.{Task}
-use Rattle.pagable_walk.specs.Over.{PagesItem, PagesList, PagesEntry, Skipped, SkipsEntry, PagesAt, HasPaged}
+use Rattle.pagable_walk.specs.Over.{failure_of, PagesItem, PagesList, PagesEntry, Skipped, SkipsEntry, PlaceDone, PagesAt, HasPaged}
 use Rattle.pagable_walk.specs.Slots.{no_claims}
 use Rattle.pagable_walk.specs.Tasks.{IsPlain, todo_of}
 use Rattle.pagable_walk.specs.Turns.{Fits, plain}
@@ -65,6 +71,20 @@ module _ {N E : Type 0} (v : Values N) where
   run-whole (worker-ends todo next step answer s s' w is) = w.whole
   run-whole (worker-goes-on todo next step steps answer s mid s' w is more) = run-whole more
 
+  -- a worker leaves the handles of the list
+  run-spares : {B W : Type 0} {m : Seen N B W} {n : ℕ} {todo : List Todo} {s s' : AccessState N E} {steps : List (Took W)} {answer : WorkerAnswer} → WorkerRun m n todo s steps answer s'
+      → Spares owners.List s.pager.core s'.pager.core
+  run-spares {m = m} {n} (worker-ends todo next step answer s s' w is) = walk-spares-list m n (record { core = s.pager.core; shelf = s.shelf; todo = todo }) w.after s'.pager.core step _ w.does w.ends
+  run-spares {m = m} {n} (worker-goes-on todo next step steps answer s mid s' w is more) =
+      spares-then owners.List (walk-spares-list m n (record { core = s.pager.core; shelf = s.shelf; todo = todo }) w.after mid.pager.core step _ w.does w.ends) (run-spares more)
+
+  -- the list without one entry, and what comes then
+  entries-stay : (place : ℕ) (s mid t : PagerState N E) → place < length s.core.list → mid.core.list ≡ remove s.core.list place → length mid.core.list ≤ length t.core.list → place ≤ length t.core.list
+  entries-stay place s mid t within is longer =
+      let gone = length-remove s.core.list place within in
+      let same = ap (λ (xs : List HandleNumber). length xs) is in
+      omega (arith, within, gone, same, longer)
+
   pub entry-refused : (place : ℕ) (e : Error) (s t : PagerState N E) → RefusesEntry v s place e t → PagesEntry v place (finals.Failed e) s t
   entry-refused place e s t r = record {
     pages = λ whole listed. record {
@@ -76,6 +96,7 @@ module _ {N E : Type 0} (v : Values N) where
         ]
       ];
       whole = r.stays.whole;
+      long = let same = ap (λ (xs : List HandleNumber). length xs) r.stays.step.list in omega (arith, listed, same);
       unfailed = λ is. absurd (cc);
     };
   }
@@ -93,6 +114,7 @@ module _ {N E : Type 0} (v : Values N) where
         record {
           run = entry-is-walked starts.h starts.row starts.type n.0 walked.steps answer mid _ starts.entry starts.kinds starts.starts walked.run;
           whole = run-whole walked.run;
+          long = entries-stay place s mid t listed starts.starts.begins.step.list (none-shorter starts.starts.begins.whole.whole (run-whole walked.run).whole (run-spares walked.run));
           unfailed = entry-answered (plain v) n.0 starts.h _ walked.run (λ i. refl);
         };
   }
@@ -115,46 +137,54 @@ module _ {N E : Type 0} (v : Values N) where
       cc-some is other = cc
 
   pub at-past : (place : ℕ) (s : PagerState N E) → length s.core.list ≤ place → PagesAt v place (Ok tt) s s
-  at-past place s past = record { done = λ whole. record { whole = whole; goes = λ i next answer s' more. passes i place answer s s' next past more; stops = tt } }
+  at-past place s past = record { done = λ whole within. absurd (omega (arith, past, within)) }
 
   pub at-skipped : (place key : ℕ) (s t : PagerState N E) → (h : HandleNumber) × EntryHas s.core place h (optional.Some key) → SkipsEntry v place s t → PagesAt v place (Ok tt) s t
   at-skipped place key s t (h, has) skip =
       let k = skip.skips h has.listed in
-      record { done = λ whole. record { whole = k.releases.whole; goes = λ i next answer s' more. skips i place key h k.told answer s k.mid t s' next has k.takes k.releases more; stops = tt } }
-
-  listed-within : (place : ℕ) (s : PagerState N E) (h : HandleNumber) (key : OptionalDataKey) → EntryHas s.core place h key → place < length s.core.list
-  listed-within place s h key has = slice_get_within s.core.list place h has.listed
+      record {
+        done = λ whole within. record {
+          whole = k.releases.whole;
+          long = entries-stay place s k.mid t within k.takes.step.1.list (none-shorter k.takes.whole.whole k.releases.whole.whole (release-spares-list k.told k.releases.step));
+          goes = λ i next answer s' more. skips i place key h k.told answer s k.mid t s' next has k.takes k.releases more;
+          stops = tt;
+        };
+      }
 
   pub at-paged : (place key : ℕ) (s t : PagerState N E) → (h : HandleNumber) × EntryHas s.core place h optional.None → PagesEntry v place (finals.Key key) s t → PagesAt v place (Ok tt) s t
   at-paged place key s t (h, has) pages_it = record {
-    done = λ whole.
-        let p = pages_it.pages whole (listed-within place s h optional.None has) in
-        record { whole = p.whole; goes = λ i next answer s' more. pages i place key h answer s t s' next has p.run more; stops = tt };
+    done = λ whole within.
+        let p = pages_it.pages whole within in
+        record { whole = p.whole; long = p.long; goes = λ i next answer s' more. pages i place key h answer s t s' next has p.run more; stops = tt };
   }
 
-  pub at-failed : (place : ℕ) (e : Error) (s t : PagerState N E) → (h : HandleNumber) × EntryHas s.core place h optional.None → PagesEntry v place (finals.Failed e) s t → PagesAt v place (Err (finals.Failed e)) s t
+  pub at-failed : (place : ℕ) (e : Error) (s t : PagerState N E) → (h : HandleNumber) × EntryHas s.core place h optional.None → PagesEntry v place (finals.Failed e) s t → PagesAt v place (Err (failures.Failed e)) s t
   at-failed place e s t (h, has) pages_it = record {
-    done = λ whole.
-        let p = pages_it.pages whole (listed-within place s h optional.None has) in
-        record { whole = p.whole; goes = tt; stops = λ i next. fails i place h e s t next has p.run };
+    done = λ whole within.
+        let p = pages_it.pages whole within in
+        record { whole = p.whole; long = p.long; goes = tt; stops = λ i next. fails i place h e s t next has p.run };
   }
 
-  pub at-other : (place : ℕ) (s t : PagerState N E) → (h : HandleNumber) × EntryHas s.core place h optional.None → PagesEntry v place finals.AlreadyFailed s t → PagesAt v place (Err finals.AlreadyFailed) s t
-  at-other place s t (h, has) pages_it = record { done = λ whole. let p = pages_it.pages whole (listed-within place s h optional.None has) in absurd (p.unfailed refl) }
+  pub at-other : (place : ℕ) (s t : PagerState N E) → (h : HandleNumber) × EntryHas s.core place h optional.None → PagesEntry v place finals.AlreadyFailed s t → PagesAt v place (Err failures.AlreadyFailed) s t
+  at-other place s t (h, has) pages_it = record { done = λ whole within. let p = pages_it.pages whole within in absurd (p.unfailed refl) }
 
   -- ---- the list
 
   pub none-paged : (count : ℕ) (s : PagerState N E) → count ≡ length s.core.list → HasPaged v count s s
-  none-paged count s is = record { whole = λ whole. whole; then = λ whole answer u run. subst (λ i. ListRun (plain v) i s answer u) is run }
+  none-paged count s is = record { whole = λ whole. whole; long = λ whole. omega (arith, is); then = λ whole answer u run. subst (λ i. ListRun (plain v) i s answer u) is run }
 
   pub more-paged : (left place : ℕ) → left ≡ place + 1 → (s mid t : PagerState N E) → HasPaged v left s mid → PagesAt v place (Ok tt) mid t → HasPaged v place s t
   more-paged left place next s mid t paged at = record {
-    whole = λ whole. let d = at.done (paged.whole whole) in d.whole;
-    then = λ whole answer u run. let d = at.done (paged.whole whole) in paged.then whole answer u (d.goes left next answer u run);
+    whole = λ whole. (done whole).whole;
+    long = λ whole. (done whole).long;
+    then = λ whole answer u run. let d = done whole in paged.then whole answer u (d.goes left next answer u run);
   }
+    where
+      done : WellFormed v s → PlaceDone v mid place (Ok tt) t
+      done whole = at.done (paged.whole whole) (let long = paged.long whole in omega (arith, long, next))
 
-  pub ends-paged : (left place : ℕ) → left ≡ place + 1 → (why : WorkerAnswer) (s mid t : PagerState N E) → HasPaged v left s mid → PagesAt v place (Err why) mid t → PagesList v (Err why) s t
-  ends-paged left place next why s mid t paged at = record { over = λ whole. let d = at.done (paged.whole whole) in paged.then whole (Err why) t (d.stops left next) }
+  pub ends-paged : (left place : ℕ) → left ≡ place + 1 → (why : PageOutError) (s mid t : PagerState N E) → HasPaged v left s mid → PagesAt v place (Err why) mid t → PagesList v (Err why) s t
+  ends-paged left place next why s mid t paged at = record { over = λ whole. let d = at.done (paged.whole whole) (let long = paged.long whole in omega (arith, long, next)) in paged.then whole (Err (failure_of why)) t (d.stops left next) }
 
   pub all-paged : (left : ℕ) → left ≡ 0 → (s t : PagerState N E) → HasPaged v left s t → PagesList v (Ok tt) s t
   all-paged left none s t paged = record { over = λ whole. paged.then whole (Ok tt) t (subst (λ i. ListRun (plain v) i t (Ok tt) t) (sym none) (no-more t)) }

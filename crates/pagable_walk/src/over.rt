@@ -5,20 +5,31 @@ ghost use Rattle.std.specs.Arc.{arc_value};
 ghost use Rattle.pagable_world.specs.declared.handles.Owner.TheVariants as owners;
 ghost use Rattle.pagable_world.specs.Access.{Told};
 ghost use Rattle.pagable_loads.specs.Telling.{values_at};
-ghost use Rattle.pagable_walk.specs.Over.{PagesAt, PagesEntry, PagesItem, PagesList, SkipsEntry};
+ghost use Rattle.pagable_walk.specs.Over.{answer_of, PagesAt, PagesEntry, PagesItem, PagesList, SkipsEntry};
 ghost use Rattle.pagable_walk.specs.Slots.{written_of};
 ghost use Rattle.pagable_walk.specs.Table.{shelf_of};
 
-use crate::SlotTable;
+use crate::{PageOutError, SlotTable};
 use crate::starting::{start_entry, start_item};
 use crate::walk::run;
 use pagable_codec::{Env, NodeSet};
 use pagable_core::SerializedData;
 use pagable_loads::WorkerAccess;
-use pagable_model::OptionalDataKey;
+use pagable_model::{DataKey, OptionalDataKey};
 use pagable_world::WorkerAnswer;
 use std::alloc::Global;
 use std::sync::Arc;
+
+/// A worker's answer as that of a page-out.
+fn told(answer: WorkerAnswer) -> Result<DataKey, PageOutError>
+    ensures { answer_of result ≡ answer }
+{
+    match answer {
+        WorkerAnswer::Key(key) => Ok(key),
+        WorkerAnswer::Failed(e) => Err(PageOutError::Failed(e)),
+        WorkerAnswer::AlreadyFailed => Err(PageOutError::AlreadyFailed),
+    }
+}
 
 /// Pages an item out on a table, by a worker of its own, up to the worker's answer: the item's key, or why it fails. The access is the caller's, before and
 /// after. A failure leaves what was stored and set so far, and no claim without a result.
@@ -27,21 +38,21 @@ pub fn page_out_item_over<E: Env, A: WorkerAccess<E>>(
     alloc: Global,
     table: &mut SlotTable<E>,
     item: Arc<SerializedData>,
-) -> WorkerAnswer
+) -> Result<DataKey, PageOutError>
 where
     E::Node: NodeSet<E>,
     requires caller { (A.acting access.old).me ≡ owners.Caller }
-    ensures over { Told (A.told access.old) (A.told access.new) (PagesItem (values_at E.Node.NodeSet E.Env E.Hash.KeyHash (A.acting access.old).environment) (shelf_of table.old) (written_of (arc_value item)) (shelf_of table.new) result) }
+    ensures over { Told (A.told access.old) (A.told access.new) (PagesItem (values_at E.Node.NodeSet E.Env E.Hash.KeyHash (A.acting access.old).environment) (shelf_of table.old) (written_of (arc_value item)) (shelf_of table.new) (answer_of result)) }
     ensures acting { A.acting access.new ≡ A.acting access.old }
     ensures lender { A.lender access.new ≡ A.lender access.old }
 {
     let (task, mut path) = match start_item(alloc, item) {
         Ok(first) => first,
-        Err(e) => return WorkerAnswer::Failed(e),
+        Err(e) => return Err(PageOutError::Failed(e)),
     };
     match access.worker_begin() {
-        Ok(worker) => run(access, alloc, table, worker, &mut path, task),
-        Err(e) => WorkerAnswer::Failed(e),
+        Ok(worker) => told(run(access, alloc, table, worker, &mut path, task)),
+        Err(e) => Err(PageOutError::Failed(e)),
     }
 }
 
@@ -87,7 +98,7 @@ fn page_out_at<E: Env, A: WorkerAccess<E>>(
     access: &mut A,
     alloc: Global,
     place: usize,
-) -> Result<(), WorkerAnswer>
+) -> Result<(), PageOutError>
 where
     E::Node: NodeSet<E>,
     requires caller { (A.acting access.old).me ≡ owners.Caller }
@@ -103,8 +114,8 @@ where
         }
         Some(OptionalDataKey::None) => match page_out_entry(access, alloc, place) {
             WorkerAnswer::Key(_) => Ok(()),
-            WorkerAnswer::Failed(e) => Err(WorkerAnswer::Failed(e)),
-            WorkerAnswer::AlreadyFailed => Err(WorkerAnswer::AlreadyFailed),
+            WorkerAnswer::Failed(e) => Err(PageOutError::Failed(e)),
+            WorkerAnswer::AlreadyFailed => Err(PageOutError::AlreadyFailed),
         },
     }
 }
@@ -114,7 +125,7 @@ where
 pub fn page_out_pending_over<E: Env, A: WorkerAccess<E>>(
     access: &mut A,
     alloc: Global,
-) -> Result<(), WorkerAnswer>
+) -> Result<(), PageOutError>
 where
     E::Node: NodeSet<E>,
     requires caller { (A.acting access.old).me ≡ owners.Caller }

@@ -257,11 +257,9 @@ pub data EntryRun {N E B W : Type 0} (m : Seen N B W) (s : PagerState N E) (plac
   entry-is-walked : (h : HandleNumber) (row : HandleRow) (t n : ℕ) (steps : List (Took W)) (answer : WorkerAnswer) (mid : PagerState N E) (s' : AccessState N E) → IsEntry s.core place h row t → HasKinds t
       → WorkerStarts m.values (with_entry_taken s.core place h (record { 0 = n })) s n mid → WorkerRun m n (first_todo (entry_task h row t)) (record { pager = mid; shelf = no_shelf }) steps answer s' → EntryRun m s place answer s'.pager
 
--- A page-out of so many entries, from the last to the first: one whose cell has a key is taken and released, another is paged out, and the first failure is the end. At a
--- place past the list's end nothing is done.
+-- A page-out of so many entries, from the last to the first: one whose cell has a key is taken and released, another is paged out, and the first failure is the end.
 pub data ListRun {N E B W : Type 0} (m : Seen N B W) : ℕ → PagerState N E → Result (Unit {0}) WorkerAnswer → PagerState N E → Type 0 where
   no-more : (s : PagerState N E) → ListRun m 0 s (Ok tt) s
-  passes : (i place : ℕ) (answer : Result (Unit {0}) WorkerAnswer) (s s' : PagerState N E) → i ≡ place + 1 → length s.core.list ≤ place → ListRun m place s answer s' → ListRun m i s answer s'
   skips : (i place key : ℕ) (h : HandleNumber) (told : Result (Unit {0}) Error) (answer : Result (Unit {0}) WorkerAnswer) (s mid low s' : PagerState N E) → i ≡ place + 1 → EntryHas s.core place h (optional.Some key)
       → Called m.values (λ w'. TakeCall s.core owners.Caller place (Some h) w') s mid → Called m.values (λ w'. ReleaseCall mid.core owners.Caller h told w') mid low → ListRun m place low answer s' → ListRun m i s answer s'
   pages : (i place key : ℕ) (h : HandleNumber) (answer : Result (Unit {0}) WorkerAnswer) (s mid s' : PagerState N E) → i ≡ place + 1 → EntryHas s.core place h optional.None → EntryRun m s place (finals.Key key) mid

@@ -1,17 +1,17 @@
 //! The worked rows. What they expect was worked out by hand from the rules of the wire format, of keys and of cells.
 
 use crate::blobs::bytes_of;
+use crate::calls::asked::item;
 use crate::calls::nodes::node;
 use crate::calls::{Calls, CellPager, pager_over};
 use crate::lines;
 use anyhow::{Context, bail, ensure};
-use pagable::paging::{page_out_pending, pin};
-use pagable::{
-    DataKey, Error, PagableSerialize, PagableVecFlavor, WeighHash, WorkerAnswer,
-};
+use pagable::paging::{page_out_item, page_out_pending, pin};
+use pagable::{DataKey, Error, PageOutError, PagableSerialize, PagableVecFlavor, WeighHash};
 use row_values::carried::{AnyEnv, written};
 use serde_json::Value;
 use std::alloc::Global;
+use std::sync::Arc;
 use std::time::Duration;
 
 /// The number of the last row.
@@ -175,6 +175,15 @@ fn write_over(alloc: Global) -> Result<bool, Error> {
     Ok(out.finalize().as_slice() == [9u8, 7].as_slice())
 }
 
+/// Whether an item that refers to a shared text comes to its key by one call.
+fn is_item_paged_out(alloc: Global, pager: &mut CellPager<WeighHash>) -> anyhow::Result<bool> {
+    if pager.new_shared(alloc, node(alloc, "0 hello world")?).is_err() {
+        bail!("a node is refused");
+    }
+    let item = Arc::new(alloc, item(alloc, "2a:0:1:1")?)?;
+    Ok(page_out_item(alloc, pager, item).ok() == DataKey::new(3484))
+}
+
 /// Makes a cell that is listed twice.
 fn list_twice(alloc: Global, pager: &mut CellPager<WeighHash>) -> anyhow::Result<()> {
     let Ok(cell) = pager.new_loose(alloc, node(alloc, "0 x")?) else {
@@ -190,7 +199,7 @@ fn list_twice(alloc: Global, pager: &mut CellPager<WeighHash>) -> anyhow::Result
 fn is_stored_once(alloc: Global, pager: &mut CellPager<WeighHash>) -> anyhow::Result<bool> {
     list_twice(alloc, pager)?;
     let listed = pager.pending();
-    if let Err(WorkerAnswer::Failed(e)) = page_out_pending(alloc, pager) {
+    if let Err(PageOutError::Failed(e)) = page_out_pending(alloc, pager) {
         return Err(e.into());
     }
     let key = DataKey::new(1209).context("0 is no key")?;
@@ -207,6 +216,7 @@ fn others_hold(alloc: Global, number: u32) -> anyhow::Result<bool> {
         ),
         4 => is_written(alloc, &vec![in alloc; -1i32, 1]?, "020102"),
         6 => arrays_hold(alloc),
+        10 => is_item_paged_out(alloc, &mut pager_over(alloc, "")),
         14 => is_stored_once(alloc, &mut pager_over(alloc, "1")),
         21 => is_written(alloc, &'é', "02c3a9"),
         24 => Ok(write_over(alloc)?),

@@ -3,7 +3,7 @@
 use crate::named_texts::command::{Command, Verb};
 use crate::text::{TextEnv, TextNode};
 use pagable::{
-    Error, HandleNumber, InMemoryBlobs, KeyHash, OptionalDataKey, Pager, WorkerAnswer, paging,
+    Error, HandleNumber, InMemoryBlobs, KeyHash, OptionalDataKey, PageOutError, Pager, paging,
 };
 use std::alloc::{AllocError, Global};
 use std::collections::HashMap;
@@ -71,8 +71,8 @@ impl<H: KeyHash> Session<H> {
             Command::Pending => Ok(Answer::Number(self.pager.pending() as u128)),
             Command::PageOut => match paging::page_out_pending(alloc, &mut self.pager) {
                 Ok(()) => Ok(Answer::Text("ok")),
-                Err(WorkerAnswer::Failed(e)) => Err(Refusal::Error(e)),
-                Err(_) => Ok(Answer::Text("already failed")),
+                Err(PageOutError::Failed(e)) => Err(Refusal::Error(e)),
+                Err(PageOutError::AlreadyFailed) => Ok(Answer::Text("already failed")),
             },
         }
     }

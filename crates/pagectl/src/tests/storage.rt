@@ -3,7 +3,7 @@
 use crate::tests::equal::equal;
 use pagable::paging::page_out_pending;
 use pagable::{
-    DataKey, Error, InMemoryBlobs, PagableData, PagableStorage, Pager, WeighHash, WorkerAnswer,
+    DataKey, Error, InMemoryBlobs, PagableData, PagableStorage, PageOutError, Pager, WeighHash,
 };
 use pagable_examples::{CountingStorage, FailingStorage, TextEnv, TextNode};
 use std::alloc::Global;
@@ -66,7 +66,7 @@ type FailingPager = Pager<AnyEnv, FailingStorage<InMemoryBlobs<AnyEnv>>>;
 fn two_page_outs(
     alloc: Global,
     pager: &mut FailingPager,
-) -> Result<(Option<WorkerAnswer>, usize, Option<WorkerAnswer>), Error> {
+) -> Result<(Option<PageOutError>, usize, Option<PageOutError>), Error> {
     let node = TextNode::new(alloc, "x")?;
     let cell = pager.new_loose(alloc, node).map_err(|refused| refused.0)?;
     pager.unpin(cell)?;
@@ -79,7 +79,7 @@ fn two_page_outs(
 fn paged_out(
     alloc: Global,
     is_closed: bool,
-) -> Result<(Option<WorkerAnswer>, usize, Option<WorkerAnswer>), Error> {
+) -> Result<(Option<PageOutError>, usize, Option<PageOutError>), Error> {
     let mut blobs: InMemoryBlobs<AnyEnv> = InMemoryBlobs::new(alloc);
     if is_closed {
         blobs.close();
@@ -90,7 +90,7 @@ fn paged_out(
 
 #[test]
 fn what_a_page_out_could_not_store_stays_listed(rt: HostRuntime) {
-    let failed = (Some(WorkerAnswer::Failed(Error::Storage(7))), 1, None);
+    let failed = (Some(PageOutError::Failed(Error::Storage(7))), 1, None);
     // Over a closed storage nothing is listed.
     for (is_closed, wanted) in [(false, failed), (true, (None, 0, None))] {
         let found = paged_out(rt.alloc(), is_closed);

@@ -82,7 +82,7 @@ fn event(alloc: Global, part: &str) -> anyhow::Result<CellEvent> {
 }
 
 /// An item: data in hex, and behind a colon references as values have them.
-fn item(alloc: Global, spelled: &str) -> anyhow::Result<SerializedData> {
+pub fn item(alloc: Global, spelled: &str) -> anyhow::Result<SerializedData> {
     let (data, behind) = spelled.split_once(':').unwrap_or((spelled, ""));
     Ok(SerializedData {
         bytes: bytes_of(alloc, data)?,

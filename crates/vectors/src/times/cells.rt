@@ -2,7 +2,7 @@
 
 use crate::times::outcome::Outcome;
 use anyhow::bail;
-use pagable::{HandleNumber, InMemoryBlobs, Pager, WeighHash, WorkerAnswer, paging};
+use pagable::{HandleNumber, InMemoryBlobs, PageOutError, Pager, WeighHash, paging};
 use pagable_examples::{Draws, TextEnv, TextNode};
 use std::alloc::{AllocError, Global};
 use std::collections::BTreeSet;
@@ -80,7 +80,7 @@ fn out_and_in(
 ) -> anyhow::Result<Outcome> {
     let cells = fill(alloc, pager, texts)?;
     let start = Instant::now(clock)?;
-    if let Err(WorkerAnswer::Failed(e)) = paging::page_out_pending(alloc, pager) {
+    if let Err(PageOutError::Failed(e)) = paging::page_out_pending(alloc, pager) {
         return Err(e.into());
     }
     let write = start.elapsed(clock)?;

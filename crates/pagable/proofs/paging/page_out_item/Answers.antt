@@ -1,4 +1,5 @@
 use Rattle.std.specs.Arc.{arc_value}
+use Rattle.pagable_walk.specs.Over.{answer_of}
 use Rattle.pagable_walk.specs.Slots.{written_of}
 use Rattle.pagable_walk.specs.Table.{shelf_of}
 use Rattle.std.proofs.Common.{rules, ◌≡◌}
@@ -10,4 +11,4 @@ returns g c =
     let ends : c.page_out_item_by.new.lent.pager.now ≡ c.pager-1.given.0 = search rules in
     let pages = rw c.new-lent.ensures.same at c.page_out_item_by.ensures.pages in
     let pages = rw ends at pages in
-    record { pages = item-out _ _ c.is_whole.ensures (shelf_of c.new-table.result) (shelf_of c.page_out_item_by.new.table) (written_of (arc_value c.args.item)) c.page_out_item_by.result c.new-table.ensures _ pages }
+    record { pages = item-out _ _ c.is_whole.ensures (shelf_of c.new-table.result) (shelf_of c.page_out_item_by.new.table) (written_of (arc_value c.args.item)) (answer_of c.page_out_item_by.result) c.new-table.ensures _ pages }

@@ -20,8 +20,8 @@ returns-in-Ok-worker_begin-clause-over g c =
     let acting = g.A.Access.acting c.args.access.now in
     let v = values_at g.E.Node.NodeSet g.E.Env g.E.Hash.KeyHash acting.environment in
     let runs = rw c.in-Ok-worker_begin.ensures.acting at c.run.ensures.run in
-    told_then (λ s mid t starts run. item-walked v (shelf_of c.args.table.now) (written_of (arc_value c.args.item)) _ c.in-Ok-worker_begin.worker.0 c.in-Ok.first.0 (todos c.in-Ok.first.1.items) (shelf_of c.run.new.table) c.run.result
-    refl c.in-Ok.ensures.plain c.in-Ok.ensures.todo s mid t starts run) c.in-Ok-worker_begin.ensures.begins runs
+    rw c.told.ensures (told_then (λ s mid t starts run. item-walked v (shelf_of c.args.table.now) (written_of (arc_value c.args.item)) _ c.in-Ok-worker_begin.worker.0 c.in-Ok.first.0 (todos c.in-Ok.first.1.items) (shelf_of c.run.new.table) c.run.result
+    refl c.in-Ok.ensures.plain c.in-Ok.ensures.todo s mid t starts run) c.in-Ok-worker_begin.ensures.begins runs)
 
 pub returns-in-Err-worker_begin-clause-over : goal.returns-in-Err-worker_begin-clause-over
 returns-in-Err-worker_begin-clause-over g c =
