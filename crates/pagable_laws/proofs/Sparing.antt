@@ -19,6 +19,17 @@ worker-apart v = record { no_value = λ n is. absurd (cc); no_load = λ l. refl 
 pub list-apart : IsApart Owner.List
 list-apart = record { no_value = λ n is. absurd (cc); no_load = λ l. refl }
 
+-- what references name is the handle of one of them
+pub named-among : (rs : List ArcRef) (q : ℕ) → is_named_by rs q ≡ true → (r : ArcRef) × Among rs r × (r.handle.0 ≡ q)
+unfolding is_named_by
+named-among [] q is = absurd (cc)
+named-among (r ∷ rs) q is = by (λ e. named-among rs q e) (r.handle.0 == q) refl is
+  where
+    by : (is_named_by rs q ≡ true → (x : ArcRef) × Among rs x × (x.handle.0 ≡ q)) → (b : Bool) → (r.handle.0 == q) ≡ b → (b || is_named_by rs q) ≡ true
+        → (x : ArcRef) × Among (r ∷ rs) x × (x.handle.0 ≡ q)
+    by rest true e is = let same : r.handle.0 ≡ q = grind (arith, nat_tests) in (r, (zero, refl), same)
+    by rest false e is = let a = rest is in (a.0, (suc a.1.0, a.1.1), a.2)
+
 module _ (mine : Owner) where
   -- each handle of the owner's that stands before stands afterwards
   pub record Spares (w w' : Core) : Type 0 where
@@ -83,16 +94,6 @@ module _ (mine : Owner) where
   spares-mode h r mode other owns = let free = other-handle h r other owns in record { each = λ q row own s. mode-free h mode (free.each q row own s) s }
 
   -- references of another's name none of the owner's handles
-  pub named-among : (rs : List ArcRef) (q : ℕ) → is_named_by rs q ≡ true → (r : ArcRef) × Among rs r × (r.handle.0 ≡ q)
-  unfolding is_named_by
-  named-among [] q is = absurd (cc)
-  named-among (r ∷ rs) q is = by (λ e. named-among rs q e) (r.handle.0 == q) refl is
-    where
-      by : (is_named_by rs q ≡ true → (x : ArcRef) × Among rs x × (x.handle.0 ≡ q)) → (b : Bool) → (r.handle.0 == q) ≡ b → (b || is_named_by rs q) ≡ true
-          → (x : ArcRef) × Among (r ∷ rs) x × (x.handle.0 ≡ q)
-      by rest true e is = let same : r.handle.0 ≡ q = grind (arith, nat_tests) in (r, (zero, refl), same)
-      by rest false e is = let a = rest is in (a.0, (suc a.1.0, a.1.1), a.2)
-
   pub named-free : (w : Core) (owner : Owner) (rs : List ArcRef) → (owner ≡ mine → ⊥) → AreGood w owner rs → Free w (is_named_by rs)
   named-free w owner rs other right = record { each = λ q row own s. by q row own s (is_named_by rs q) refl }
     where

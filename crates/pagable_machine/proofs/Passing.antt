@@ -22,13 +22,13 @@ use Rattle.pagable_laws.specs.TreeSteps.{Change, nothing_felt}
 use Rattle.pagable_laws.proofs.EventSteps.{event-goes}
 use Rattle.pagable_laws.proofs.Goes.{Goes, RowsGo, fell-anyhow, quiet-goes}
 use Rattle.pagable_laws.proofs.Outlasting.{Stands}
-use Rattle.pagable_laws.proofs.Sparing.{Free, Spares, then-fell}
+use Rattle.pagable_laws.proofs.Sparing.{Free, Spares, then-fell, worker-apart}
 use Rattle.pagable_laws.proofs.SparingSteps.{event-spares}
 use Rattle.pagable_laws.proofs.Sums.{counted, one-true, same-number}
 
 -- the worker's handles and open loads are as they were, and handles and nodes that are there stay what they are
 pub record Passes (v : ℕ) (w w' : Core) : Type 0 where
-  pub spares : Spares v w w'
+  pub spares : Spares (owner_worker v) w w'
   pub loads : (l : ℕ) (load : OpenLoad) → w.loads l ≡ Some load → load.owner ≡ owner_worker v → w'.loads l ≡ Some load
   pub nodes : w.last.node ≤ w'.last.node
   pub handles : w.last.handle ≤ w'.last.handle
@@ -39,7 +39,7 @@ abbrev LoadsStay : ℕ → Core → Core → Type 0
 LoadsStay v w w' = (l : ℕ) (load : OpenLoad) → w.loads l ≡ Some load → load.owner ≡ owner_worker v → w'.loads l ≡ Some load
 
 -- by what a step is as far as trees feel it
-by-goes : {c : Change} (v : ℕ) (w w' : Core) → Goes c w w' → Spares v w w' → LoadsStay v w w' → Passes v w w'
+by-goes : {c : Change} (v : ℕ) (w w' : Core) → Goes c w w' → Spares (owner_worker v) w w' → LoadsStay v w w' → Passes v w w'
 by-goes {c} v w w' g spares loads =
     record {
       spares = spares;
@@ -51,7 +51,7 @@ by-goes {c} v w w' g spares loads =
     }
 
 -- what the list owns isn't a worker's
-list-free : (v : ℕ) (w : Core) → OwnersAreThere w → Free v w (is_listed w)
+list-free : (v : ℕ) (w : Core) → OwnersAreThere w → Free (owner_worker v) w (is_listed w)
 list-free v w there = record { each = λ q row own s. by q row own s (is_listed w q) refl }
   where
     above : (a b : ℕ) → nat_lt 0 a ≡ true → a ≡ b → 0 < b
@@ -69,7 +69,7 @@ list-free v w there = record { each = λ q row own s. by q row own s (is_listed 
 -- the storage is closed
 close-passes : (v : ℕ) (w w' : Core) {r : Result (Unit {0}) _} → OwnersAreThere w → CloseCall w r w' → LoadsStay v w w' → Passes v w w'
 close-passes v w w' there c loads =
-    let x = by-goes v (shut w w'.failures) w' (quiet-goes nothing_felt (fell-anyhow c.falls)) (then-fell v c.falls.falls (record { each = λ q row own s. s }) (record { each = (list-free v w there).each })) loads in
+    let x = by-goes v (shut w w'.failures) w' (quiet-goes nothing_felt (fell-anyhow c.falls)) (then-fell (owner_worker v) (worker-apart v) c.falls.falls (record { each = λ q row own s. s }) (record { each = (list-free v w there).each })) loads in
     record { spares = record { each = x.spares.each }; loads = loads; nodes = x.nodes; handles = x.handles; rows = x.rows; cells = x.cells }
 
 -- each event of another's

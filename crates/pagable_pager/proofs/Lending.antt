@@ -123,7 +123,7 @@ module _ {w : Core} (whole : HandlesAreWhole w) where
         free : (b : Bool) → is_named_by references (w.last.handle + 1) ≡ b → is_named_by references (w.last.handle + 1) ≡ false
         free false is = is
         free true is =
-            let named = named-among 0 references (w.last.handle + 1) is in
+            let named = named-among references (w.last.handle + 1) is in
             let a = good w (owners.Load l) [] references c.good named.0 named.1 in
             let n = found-number named.0.handle.0 w.rows a.row a.live in
             let le = few a.row (among-found named.0.handle.0 w.rows a.row a.live) in

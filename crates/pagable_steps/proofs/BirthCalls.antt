@@ -17,28 +17,11 @@ none-named w owner = refl
 
 comes-adopted : {w w' : Core} (l : LoadNumber) (kind : Kind) (key : ℕ) (own : OptionalDataKey) (references : List ArcRef)
     → references_fault w (Owner.Load l) [] references ≡ None → Alike (adopted w l kind key own references) w' → Comes w w' (Owner.Load l) (type_of kind.0) own references (mode_of kind.0)
-comes-adopted {w} l kind key own references good a = record { good = good; rows = a.rows ∙ (same w.closed).0; cells = λ n. a.cells n ∙ (same w.closed).1 n }
-  where
-    made : Core
-    made = with_handle (with_node w (type_of kind.0) own references) (next_node w) (mode_of kind.0) (Owner.Load l)
-
-    same : (b : Bool) → let known = if b then made else with_cached made kind key (next_node w) in (known.rows ≡ made.rows) × ((n : ℕ) → known.cells n ≡ made.cells n)
-    same true = (refl, λ n. refl)
-    same false = (refl, λ n. refl)
+comes-adopted {w} l kind key own references good a = grind (arith, nat_tests)
 
 -- a handle of a reference pins unless its kind is loose
 mode-pins : (kind : ℕ) (b : Bool) → is_loose_kind kind ≡ b → is_pinning (mode_of kind) ≡ (if b then false else true)
-mode-pins kind b loose = at (is_shared_kind kind) refl b loose
-  where
-    either-one : (kind % 3 == 0) ≡ true → (kind % 3 == 1) ≡ true → ⊥
-    either-one a b = absurd (grind (arith, nat_tests))
-
-    at : (a : Bool) → is_shared_kind kind ≡ a → (b : Bool) → is_loose_kind kind ≡ b
-        → is_pinning (if a then Mode.Shared else if is_loose_kind kind then Mode.LooseUnpinned else Mode.Pinned) ≡ (if b then false else true)
-    at true e true f = absurd (either-one e f)
-    at true e false f = refl
-    at false e true f = rw f refl
-    at false e false f = rw f refl
+mode-pins kind b loose = grind (arith, nat_tests)
 
 -- ---- the calls
 

@@ -1,4 +1,5 @@
 -- A node that comes, with its value or without one, leaves a pager in step.
+use Rattle.std.proofs.Common.{rules}
 use Rattle.pagable_steps.proofs.Words.{◌≡◌, ℕ, ◌+◌, ◌<◌, ◌≤◌, ◌==◌, ◌&&◌, Bool, true, false, List, [], Option, Some, None, refl, ap, sym, subst, ◌∙◌, if◌then◌else◌, arith, nat_lt, is_some}
 use Rattle.pagable_steps.proofs.Words.{nat_tests, OptionalDataKey, Owner, Mode, ArcRef, Among, one, times, if_there, is_owned_by, is_pinning, is_pin, is_at, owner_value, pins, is_in_memory, Core}
 use Rattle.pagable_steps.proofs.Words.{Cell, Values, key_at, is_here, type_at, IsReference, is_named_by, PagerState, IsWhole, WellFormed, self-number, same-number, sum-le, same_some, NotValues}
@@ -10,11 +11,7 @@ use Rattle.pagable_steps.proofs.Coming.{Comes, no-cell, new-cell, other-cell, ty
 
 -- what is so of the new node and of each other one
 by-node : {next : ℕ} (P : ℕ → Type 0) → P next → ((n : ℕ) → (n == next) ≡ false → P n) → (n : ℕ) → P n
-by-node {next} P new other n = at (n == next) refl
-  where
-    at : (b : Bool) → (n == next) ≡ b → P n
-    at true e = subst P (sym (same-number _ _ e)) new
-    at false e = other n e
+by-node {next} P new other n = grind (arith, nat_tests)
 
 -- what is so of a node in a pager that is whole
 pub record IsInStep {N E : Type 0} (v : Values N) (s : PagerState N E) (n : ℕ) : Type 0 where
@@ -43,11 +40,7 @@ next_of w = w.last.node + 1
 module _ {N E : Type 0} {v : Values N} {s : PagerState N E} (s' : PagerState N E) (is : WellFormed v s) {me : Owner} {t : ℕ} {own : OptionalDataKey} {references : List ArcRef} {mode : Mode}
     (free : NotValues me) (c : Comes s.core s'.core me t own references mode) where
   no-value : s.values (next_of s.core) ≡ None
-  no-value = by (s.values (next_of s.core)) refl (is.valued (next_of s.core) ∙ ap (λ o. is_some o && is_here s.core (next_of s.core)) (no-cell is.whole free c))
-    where
-      by : (o : Option N) → s.values (next_of s.core) ≡ o → is_some (s.values (next_of s.core)) ≡ false → s.values (next_of s.core) ≡ None
-      by None e f = e
-      by (Some x) e f = let g : true ≡ false = sym (ap is_some e) ∙ f in absurd (cc)
+  no-value = grind (arith, nat_tests)
 
   as-before : (n : ℕ) → (n == next_of s.core) ≡ false → s'.values n ≡ s.values n → IsInStep v s' n
   as-before n other same =
@@ -131,14 +124,7 @@ module _ {N E : Type 0} {v : Values N} {s : PagerState N E} (s' : PagerState N E
     has-none y has = absurd (let f : None ≡ Some y = sym still-none ∙ has in cc)
 
     new-without : IsInStep v s' (next_of s.core)
-    new-without =
-        record {
-          valued = ap is_some still-none ∙ sym (ap (λ o. is_some o && is_here s'.core (next_of s.core)) (new-cell is.whole free c) ∙ away-new);
-          typed = λ y has. has-none y has;
-          inside = λ y q has. has-none y has;
-          bare = λ none. owns-none;
-          refers = λ y r has among. has-none y has;
-        }
+    new-without = search (rules, still-none, new-cell, away-new, has-none, owns-none)
 
     -- a node that comes without one
     pub comes-away : ((n : ℕ) → s'.counts n ≡ pins n s'.core.rows) → IsWhole s'.core → WellFormed v s'

@@ -1,4 +1,5 @@
 -- A node comes with a handle, and the handles that its value names move to it: what stays of other nodes.
+use Rattle.std.proofs.Common.{rules}
 use Rattle.pagable_steps.proofs.Words.{◌≡◌, ℕ, ◌+◌, ◌≤◌, ◌==◌, ◌&&◌, Bool, true, false, List, [], ◌∷◌, refl, ap, sym, ◌∙◌, if◌then◌else◌, arith, Option, Some, None, is_some}
 use Rattle.pagable_steps.proofs.Words.{nat_tests, sum_by_push, OptionalDataKey, HandleRow, Owner, Mode, ArcRef, SameAt, Among, one, times, if_there, or_else, find_row, is_handle, is_owned_by}
 use Rattle.pagable_steps.proofs.Words.{owner_value, is_pin, is_pinning, pins, is_in_memory, Core, Cell, type_at, key_at, is_here, references_fault, IsReference, row_of, is_named_by}
@@ -24,14 +25,7 @@ module _ {w w' : Core} {me : Owner} {t : ℕ} {own : OptionalDataKey} {reference
   -- ---- nodes
 
   pub no-cell : w.cells next ≡ None
-  no-cell = at (w.cells next) refl
-    where
-      above : (last : ℕ) → last + 1 ≤ last → ⊥
-      above last few = absurd (omega arith)
-
-      at : (o : Option Cell) → w.cells next ≡ o → w.cells next ≡ None
-      at None e = e
-      at (Some x) e = absurd (above w.last.node (whole.handles.nodes_numbered next (ap is_some e)).1)
+  no-cell = grind (arith, nat_tests)
 
   pub new-cell : w'.cells next ≡ Some (record { node_type = t; key = own })
   new-cell = c.cells next ∙ ap (λ b. if b then Some (record { node_type = t; key = own }) else w.cells next) (self-number next)
@@ -41,11 +35,7 @@ module _ {w w' : Core} {me : Owner} {t : ℕ} {own : OptionalDataKey} {reference
 
   -- a node that was there has its type still
   pub typed-on : (m u : ℕ) → type_at w m ≡ Some u → type_at w' m ≡ Some u
-  typed-on m u is = at (m == next) refl
-    where
-      at : (b : Bool) → (m == next) ≡ b → type_at w' m ≡ Some u
-      at true e = let f : type_at w m ≡ None = ap (λ k. type_at w k) (same-number _ _ e) ∙ ap (λ o. if_there (λ (cell : Cell). Some cell.node_type) None o) no-cell in absurd (cc)
-      at false e = ap (λ o. if_there (λ (cell : Cell). Some cell.node_type) None o) (other-cell m e) ∙ is
+  typed-on m u is = grind (arith, nat_tests)
 
   -- ---- pins
 
@@ -59,12 +49,7 @@ module _ {w w' : Core} {me : Owner} {t : ℕ} {own : OptionalDataKey} {reference
   turned-round n is = grind (arith, nat_tests)
 
   pub other-here : (n : ℕ) → (n == next) ≡ false → is_here w' n ≡ is_here w n
-  other-here n is =
-      ap (λ p. is_in_memory p (key_at w' n)) (pins-now n ∙ (ap (λ b. pins n w.rows + one (b && is_pinning mode)) (turned-round n is) ∙ plus-none (pins n w.rows)))
-      ∙ ap (λ o. is_in_memory (pins n w.rows) (if_there (λ (cell : Cell). cell.key) OptionalDataKey.None o)) (other-cell n is)
-    where
-      plus-none : (p : ℕ) → p + 0 ≡ p
-      plus-none p = omega arith
+  other-here n is = search (rules, pins-now, turned-round, other-cell)
 
   -- ---- what values own
 

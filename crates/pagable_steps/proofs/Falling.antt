@@ -23,11 +23,7 @@ Sweeps values w' values' = (n : ℕ) → values' n ≡ (if is_some (w'.cells n) 
 -- ---- what stands afterwards
 
 typed-cell : (w : Core) (n t : ℕ) → type_at w n ≡ Some t → (cell : Cell) × (w.cells n ≡ Some cell)
-typed-cell w n t is = at (w.cells n) refl is
-  where
-    at : (found : Option Cell) → w.cells n ≡ found → if_there (λ (cell : Cell). Some cell.node_type) None found ≡ Some t → (cell : Cell) × (w.cells n ≡ Some cell)
-    at None e is = absurd (cc)
-    at (Some cell) e is = (cell, e)
+typed-cell w n t is = grind (arith, nat_tests)
 
 module _ {N E : Type 0} {v : Values N} {w : Core} {values : ℕ → Option N} (sits : Sits v w values)
     {before : Core} {given : ℕ → Bool} {r : _} (s' : PagerState N E) (f : Falls before w given r s'.core)
@@ -42,21 +38,11 @@ module _ {N E : Type 0} {v : Values N} {w : Core} {values : ℕ → Option N} (s
     had : values n ≡ Some x
 
   stayed : (n : ℕ) (x : N) → s'.values n ≡ Some x → Stayed n x
-  stayed n x e = at (stays n) refl (sym (swept n) ∙ e)
-    where
-      at : (b : Bool) → stays n ≡ b → (if b then values n else None) ≡ Some x → Stayed n x
-      at true is e = record { in_memory = is; had = e }
-      at false is e = absurd (cc)
+  stayed n x e = grind (arith, nat_tests)
 
   -- a cell that is left is as it was
   same-cell : (n : ℕ) → is_some (s'.core.cells n) ≡ true → s'.core.cells n ≡ w.cells n
-  same-cell n is = at (nat_lt 0 (held n (left_rows f.gone w.rows ++ f.entries))) refl
-    where
-      at : (b : Bool) → nat_lt 0 (held n (left_rows f.gone w.rows ++ f.entries)) ≡ b → s'.core.cells n ≡ w.cells n
-      at true e = f.leaves.cells n ∙ ap (λ b. if b then w.cells n else None) e
-      at false e =
-          let g : s'.core.cells n ≡ None = f.leaves.cells n ∙ ap (λ b. if b then w.cells n else None) e in
-          absurd (let h : true ≡ false = sym is ∙ ap is_some g in cc)
+  same-cell n is = grind (arith, nat_tests)
 
   same-type : (n : ℕ) → is_some (s'.core.cells n) ≡ true → type_at s'.core n ≡ type_at w n
   same-type n is = ap (λ o. if_there (λ (cell : Cell). Some cell.node_type) None o) (same-cell n is)

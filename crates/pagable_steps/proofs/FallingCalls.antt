@@ -1,4 +1,5 @@
 -- Calls by which handles go, and values with them, leave a pager in step.
+use Rattle.std.proofs.Common.{rules}
 use Rattle.pagable_steps.proofs.Words.{◌≡◌, ℕ, ◌<◌, ◌==◌, ◌&&◌, ◌||◌, Bool, true, false, List, [], ◌∷◌, Option, Some, None, Ok, Err, inl, inr, refl, ap, sym, ◌∙◌, arith, Result, not, and_parts}
 use Rattle.pagable_steps.proofs.Words.{nat_tests, Error, HandleRow, Owner, ArcRef, Kind, HandleNumber, LoadNumber, NodeNumber, is_in, one, times, if_there, find_row, is_owner, is_owned_by}
 use Rattle.pagable_steps.proofs.Words.{owner_worker, is_at, Core, Values, Alike, row_at, usable, FallsAnyhow, refused_if, named_fault, is_listed, UnpinCall, ReleaseCall}
@@ -19,9 +20,7 @@ module _ {w : Core} (whole : IsWhole w) where
 
   -- handles whose rows pass a test that no value's passes
   by-row : (test : HandleRow → Bool) → ((h : HandleRow) (n : NodeNumber) → h.owner ≡ Owner.Value n → test h ≡ false) → AreFree w (λ q. if_there test false (find_row q w.rows))
-  by-row test none h among is n own =
-      let f : true ≡ false = sym is ∙ (ap (if_there test false) (found-whole whole.handles h among) ∙ none h n own) in
-      absurd (cc)
+  by-row test none h among is n own = search (rules, found-whole)
 
   -- what a load owns
   pub load-free : (l : LoadNumber) → AreFree w (is_owned_in w (Owner.Load l))

@@ -1,4 +1,5 @@
 -- A load of a cell ends with a pin: where the cell has no value, what was read comes into it; else it is dropped. What the load still owns goes.
+use Rattle.std.proofs.Common.{rules}
 use Rattle.pagable_steps.proofs.Words.{◌≡◌, ℕ, ◌<◌, ◌==◌, ◌&&◌, Bool, true, false, refl, ap, sym, subst, ◌∙◌, inl, inr, if◌then◌else◌, arith, Option, Some, None, is_some, not, nat_lt, nat_tests}
 use Rattle.pagable_steps.proofs.Words.{HandleRow, Owner, Mode, HandleNumber, LoadNumber, NodeNumber, if_there, updated, find_row, is_handle, is_owner, is_owned_by, owner_value, is_loose}
 use Rattle.pagable_steps.proofs.Words.{is_in_memory, held, pins, Core, Cell, Values, row_at, type_at, key_at, is_here, Owns, is_named_by, with_mode, without_load, is_owned_in, with_pin, MayEnd}
@@ -35,11 +36,7 @@ module _ {N E : Type 0} {v : Values N} {s : PagerState N E} (is : WellFormed v s
 
   -- the cell is there, of the value's type
   cell-typed : type_at w node.0 ≡ Some (v.node_type x)
-  cell-typed =
-      let some : 0 < held node.0 w.rows = subst (λ (m : NodeNumber). 0 < held m.0 w.rows) at_node (row-held w h row own.live) in
-      let test : nat_lt 0 (held node.0 w.rows) ≡ true = grind (arith, nat_tests) in
-      let t = live-type w node.0 (is.whole.handles.live node.0 ∙ test) in
-      t.1 ∙ ap (λ (u : ℕ). Some u) ((is.whole.loads.roots l.0 may.load node (v.node_type x) h may.owned.stands_open may.of_node).typed t.0 t.1)
+  cell-typed = search (rules, row-held, live-type)
 
   there-keeps : is_here w node.0 ≡ true → Keeps w (with_pin (without_load w l) h node me)
   there-keeps there =

@@ -1,4 +1,6 @@
 -- What a call does directly before handles go: nodes and values stay as they are, but that a node may get a key and lose a pin.
+use Rattle.std.proofs.Common.{rules}
+use Rattle.pagable_steps.proofs.Words.{nat_tests}
 use Rattle.pagable_steps.proofs.Words.{◌≡◌, ℕ, suc, zero, ◌<◌, ◌≤◌, ◌==◌, ◌&&◌, ◌||◌, Bool, true, false, List, refl, ap, sym, subst, ◌∙◌, if◌then◌else◌, arith, Option, Some, None, is_some, not}
 use Rattle.pagable_steps.proofs.Words.{nat_lt, sum_by, and_parts, OptionalDataKey, HandleRow, Owner, Mode, HandleNumber, NodeNumber, Among, one, if_there, find_row, is_handle, is_owner}
 use Rattle.pagable_steps.proofs.Words.{is_owned_by, owner_value, is_pin, is_pinning, pins, is_in_memory, has_key, Core, Cell, Values, type_at, key_at, is_here, Falls, Owns, with_mode, with_key}
@@ -76,11 +78,7 @@ none-owned n rows rows' same none = at (owns_any n rows') refl
 -- ---- what stands
 
 type-some : (w : Core) (n : ℕ) → is_some (type_at w n) ≡ is_some (w.cells n)
-type-some w n = at (w.cells n)
-  where
-    at : (c : Option Cell) → is_some (if_there (λ (cell : Cell). Some cell.node_type) None c) ≡ is_some c
-    at None = refl
-    at (Some cell) = refl
+type-some w n = grind (arith, nat_tests)
 
 pub owns-then : {w m w' : Core} → OwnsAlike w m → OwnsAlike m w' → OwnsAlike w w'
 owns-then a b = record { typed = λ n. b.typed n ∙ a.typed n; owned = λ n q. b.owned n q ∙ a.owned n q; rows = λ n q row live own. b.rows n q row (a.rows n q row live own) own }
@@ -102,11 +100,7 @@ sits-on {w = w} {m} sits k there =
 
 module _ {N E : Type 0} {v : Values N} {s : PagerState N E} (is : WellFormed v s) where
   pub valued-there : (n : ℕ) → is_some (s.core.cells n) ≡ true → is_here s.core n ≡ true → is_some (s.values n) ≡ true
-  valued-there n live here = is.valued n ∙ both _ _ live here
-    where
-      both : (a b : Bool) → a ≡ true → b ≡ true → (a && b) ≡ true
-      both true b e f = f
-      both false b e f = e
+  valued-there n live here = grind (arith, nat_tests)
 
   sits : Sits v s.core s.values
   sits = record { there = valued-there; typed = is.typed; inside = is.inside; bare = is.bare; references = is.references; single = one-row }
@@ -193,18 +187,7 @@ module _ (w : Core) (h : HandleNumber) (mode : Mode) (row : HandleRow) (stands :
 
   -- where the mode doesn't pin, no node is pinned more often
   pub mode-fewer : is_pinning mode ≡ false → (n : ℕ) → pins n (with_mode w h mode).rows ≤ pins n w.rows
-  mode-fewer unpinned n =
-      let a = pins-after n in
-      let b = sum-le (λ x. one (is_pin n (after x))) (λ x. one (is_pin n x)) w.rows (λ x among. less x (is_handle h.0 x)) in
-      omega (arith, a, b)
-    where
-      none-pins : (a b : Bool) → one (a && false) ≤ one (a && b)
-      none-pins true b = omega arith
-      none-pins false b = omega arith
-
-      less : (x : HandleRow) (b : Bool) → one (is_pin n (if b then to x else x)) ≤ one (is_pin n x)
-      less x true = rw unpinned (none-pins (x.node.0 == n) (is_pinning x.mode))
-      less x false = omega arith
+  mode-fewer unpinned n = search (rules, pins-after, sum-le)
 
 -- an own handle pins no more
 pub unpin-keeps : {w : Core} {me : Owner} {fits : Mode → Bool} → IsWhole w → (h : HandleNumber) (row : HandleRow) → NotValues me → Owns w me h fits row → Keeps w (with_mode w h Mode.LooseUnpinned)
@@ -217,28 +200,4 @@ unpin-keeps {w} whole h row none owns =
 
 -- a node gets a key
 pub keyed-keeps : (w : Core) (node : NodeNumber) (key : ℕ) → Keeps w (with_key w node key)
-keyed-keeps w node key =
-    record { owned = record { typed = λ n. typed-at n (n == node.0) refl; owned = λ n q. refl; rows = λ n q row live own. live }; here = λ n is. here-at n (n == node.0) refl is }
-  where
-    keyed : Option Cell → Option Cell
-    keyed c = if_there (λ (cell : Cell). Some (record cell { key = OptionalDataKey.Some key })) None c
-
-    typed : (c : Option Cell) → if_there (λ (cell : Cell). Some cell.node_type) None (keyed c) ≡ if_there (λ (cell : Cell). Some cell.node_type) None c
-    typed None = refl
-    typed (Some cell) = refl
-
-    typed-at : (n : ℕ) (b : Bool) → (n == node.0) ≡ b → if_there (λ (cell : Cell). Some cell.node_type) None (if b then keyed (w.cells node.0) else w.cells n) ≡ type_at w n
-    typed-at n true e = typed (w.cells node.0) ∙ ap (type_at w) (sym (same-number n node.0 e))
-    typed-at n false e = refl
-
-    key-of : Option Cell → OptionalDataKey
-    key-of c = if_there (λ (cell : Cell). cell.key) OptionalDataKey.None c
-
-    here-at : (n : ℕ) (b : Bool) → (n == node.0) ≡ b → is_in_memory (pins n w.rows) (key-of (if b then keyed (w.cells node.0) else w.cells n)) ≡ true → is_here w n ≡ true
-    here-at n false e is = is
-    here-at n true e is = at (w.cells node.0) refl (nat_lt 0 (pins n w.rows)) is
-      where
-        at : (c : Option Cell) → w.cells node.0 ≡ c → (b : Bool) → (b || not (has_key (key-of (keyed c)))) ≡ true → (b || not (has_key (key_at w n))) ≡ true
-        at c f true is = refl
-        at (Some cell) f false is = absurd (cc)
-        at None f false is = ap (λ m. not (has_key (key_at w m))) (same-number n node.0 e) ∙ ap (λ c. not (has_key (key-of c))) f
+keyed-keeps w node key = grind (arith, nat_tests)

@@ -65,11 +65,7 @@ module _ {N E : Type 0} {v : Values N} {s : PagerState N E} (is : WellFormed v s
   -- ---- what values own
 
   none-there : s.values node.0 ≡ None
-  none-there = at (s.values node.0) (is.valued node.0 ∙ ap (λ b. is_some (w.cells node.0) && b) away ∙ and-false (is_some (w.cells node.0)))
-    where
-      at : (o : Option N) → is_some o ≡ false → o ≡ None
-      at None e = refl
-      at (Some y) e = absurd (cc)
+  none-there = grind (arith, nat_tests)
 
   -- ---- what stands
 
@@ -101,11 +97,7 @@ module _ {N E : Type 0} {v : Values N} {s : PagerState N E} (is : WellFormed v s
       record { row = old.row; live = given-found is.whole (not-load l) (v.references x) fine node.0 r.handle.0 old.row false old.live kept; at = old.at; owned = old.owned; fits = old.fits; typed = old.typed }
 
   pub there-at : (n : ℕ) → is_some (w.cells n) ≡ true → ((n == node.0) ≡ false → is_here w n ≡ true) → is_some (values n) ≡ true
-  there-at n live here = at (n == node.0) refl
-    where
-      at : (b : Bool) → (n == node.0) ≡ b → is_some (if b then Some x else s.values n) ≡ true
-      at true e = refl
-      at false e = valued-there is n live (here e)
+  there-at n live here = grind (arith, nat_tests)
 
   pub moved-sits : Sits v given_to values
   moved-sits =

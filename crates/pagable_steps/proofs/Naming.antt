@@ -38,30 +38,12 @@ one-row q (h ∷ hs) row ordered found = at (λ f. one-row q hs row (λ i j d le
 pub among-named : (rs : List ArcRef) (r : ArcRef) → Among rs r → is_named_by rs r.handle.0 ≡ true
 unfolding is_named_by
 among-named [] r among = absurd (let e = among.1 in cc)
-among-named (x ∷ xs) r (zero, is) =
-    let same : x ≡ r = cc in
-    ap (λ (y : ArcRef). (y.handle.0 == r.handle.0) || is_named_by xs r.handle.0) same ∙ ap (λ b. b || is_named_by xs r.handle.0) (self-number r.handle.0)
-among-named (x ∷ xs) r (suc i, is) = rw (among-named xs r (i, is)) (or-true (x.handle.0 == r.handle.0))
-  where
-    or-true : (b : Bool) → (b || true) ≡ true
-    or-true true = refl
-    or-true false = refl
+among-named (x ∷ xs) r (zero, is) = grind (arith, nat_tests)
+among-named (x ∷ xs) r (suc i, is) = grind (arith, nat_tests, among-named xs r)
 
 module _ (w : Core) (owner : Owner) where
   unseen : (seen : List ℕ) (r : ArcRef) → reference_fault w owner seen r ≡ None → is_in seen r.handle.0 ≡ false
-  unseen seen r none = by-row (row_at w r.handle) none
-    where
-      at : (a b c : Bool) (rest : Option Error) → (if not a then Some Error.NoSuchHandle else or_else (refused_if (not b || c) Error.NotYours) rest) ≡ None → c ≡ false
-      at a b false rest none = refl
-      at false b true rest none = absurd (cc)
-      at true true true rest none = absurd (cc)
-      at true false true rest none = absurd (cc)
-
-      by-row : (found : Option HandleRow)
-          → if_there (λ (row : HandleRow). row_fault w r (refused_if (not (is_owner owner row.owner) || is_in seen r.handle.0) Error.NotYours) row) (Some Error.NoSuchHandle) found ≡ None
-          → is_in seen r.handle.0 ≡ false
-      by-row None none = absurd (cc)
-      by-row (Some row) none = at (row.node.0 == r.node.0) (is_owner owner row.owner) (is_in seen r.handle.0) _ none
+  unseen seen r none = grind (arith, nat_tests)
 
   -- what was seen isn't named again
   seen-unnamed : (seen : List ℕ) (rs : List ArcRef) (q : ℕ) → references_fault w owner seen rs ≡ None → is_in seen q ≡ true → is_named_by rs q ≡ false
@@ -95,7 +77,7 @@ module _ (w : Core) (owner : Owner) where
 -- what they name is its owner's
 pub named-owner : {w : Core} → IsWhole w → (owner : Owner) (rs : List ArcRef) → AreGood w owner rs → (h : HandleRow) → Among w.rows h → is_named_by rs h.number.0 ≡ true → h.owner ≡ owner
 named-owner {w} whole owner rs right h among is =
-    let a = named-among 0 rs h.number.0 is in
+    let a = named-among rs h.number.0 is in
     let r = right a.0 a.1 in
     ap (λ (x : HandleRow). x.owner) ((stands-whole whole.handles h.number.0 r.row (ap (λ q. find_row q w.rows) (sym a.2) ∙ r.live)).only h among refl) ∙ r.owned
 
@@ -171,7 +153,7 @@ module _ {w : Core} (whole : IsWhole w) {me : Owner} (free : NotValues me) (refe
 
       at : (b : Bool) → is_named_by references q ≡ b → owns p q (given w references p) ≡ one b
       at true e =
-          let a = named-among 0 references q e in
+          let a = named-among references q e in
           let r = good w me [] references fine a.0 a.1 in
           counts (λ h. one (is_handle q h)) true e (λ h. and-true (is_handle q h)) ∙ one-row q w.rows r.row whole.handles.ordered (ap (λ n. find_row n w.rows) (sym a.2) ∙ r.live)
       at false e = counts (λ h. 0) false e (λ h. ap one (and-false (is_handle q h))) ∙ sum-zero (λ (h : HandleRow). 0) w.rows (λ h among. refl)

@@ -1,4 +1,5 @@
 -- Calls on loads, by which no value comes or goes.
+use Rattle.pagable_steps.proofs.Words.{arith, nat_tests}
 use Rattle.pagable_steps.proofs.Words.{◌≡◌, ℕ, true, false, Ok, Err, inl, inr, Result, Beginning, Want, HandleRow, Owner, Mode, Error, Kind, HandleNumber, LoadNumber, Core, OpenLoad, BeginCall}
 use Rattle.pagable_steps.proofs.Words.{BeginKeyCall, GetsKnown, Given, from_cache, from_store, AskCall, AsksInVain, IsWhole, NotValues}
 use Rattle.pagable_steps.proofs.Spared.{Spares}
@@ -31,11 +32,4 @@ module _ {w w' : Core} where
     asks {want = Want.Root} (Ok (from_cache k)) c = absurd c.gives.2
     asks {want = Want.Nested kind key} (Ok (from_cache k)) c = gets-known c.gives.2
     asks {want = Want.Nested kind key} (Ok (from_store blob)) c = asked c.gives.2.1.asked
-    asks {me} {l} {want} (Err e) c = elim c.refused [
-      | inl refused ↦ spares-alike refused.stays
-      | inr (load, owned, vain) ↦ in-vain want load vain
-    ]
-      where
-        in-vain : (want : Want) (load : OpenLoad) → AsksInVain w load want e w' → Spares w w'
-        in-vain Want.Root load vain = asked vain.asked
-        in-vain (Want.Nested kind key) load vain = asked vain.1.asked
+    asks {me} {l} {want} (Err e) c = grind (arith, nat_tests)

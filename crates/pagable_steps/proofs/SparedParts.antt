@@ -17,14 +17,7 @@ spares-then a b =
 
 -- whatever else changes
 pub spares-same : {w w' : Core} → w'.rows ≡ w.rows → SameAt w.cells w'.cells → Spares w w'
-spares-same {w} {w'} rows cells =
-    record {
-      cells = cells;
-      here = λ n. ap (λ r. is_in_memory (pins n r) (key_at w' n)) rows ∙ ap (λ c. is_in_memory (pins n w.rows) (if_there (λ (cell : Cell). cell.key) OptionalDataKey.None c)) (cells n);
-      owned = λ n q. ap (owns n q) rows;
-      bare = λ n. ap (owns_any n) rows;
-      rows = λ n q row live own. ap (find_row q) rows ∙ live;
-    }
+spares-same {w} {w'} rows cells = grind (arith, nat_tests)
 
 pub spares-alike : {w w' : Core} → Alike w w' → Spares w w'
 spares-alike a = spares-same a.rows a.cells
@@ -52,10 +45,7 @@ and-false false = refl
 
 -- one more pin brings no value where there is one
 pub pinned-more : (p : ℕ) (key : OptionalDataKey) (b : Bool) → (b ≡ true → is_in_memory p key ≡ true) → is_in_memory (p + one b) key ≡ is_in_memory p key
-pinned-more p key false may = ap (λ n. is_in_memory n key) (plus-none p)
-  where
-    plus-none : (p : ℕ) → p + 0 ≡ p
-    plus-none p = omega arith
+pinned-more p key false may = grind (arith, nat_tests)
 pinned-more p key true may = let some : nat_lt 0 (p + 1) ≡ true = grind (arith, nat_tests) in rw some (sym (may refl))
 
 -- a handle that is no value's; if it pins, its node's value is in memory
@@ -122,11 +112,7 @@ spares-moved w set owner free before =
 
 -- more pins keep a value in memory
 pub here-by : (p q : ℕ) (key : OptionalDataKey) → p ≤ q → is_in_memory p key ≡ true → is_in_memory q key ≡ true
-here-by zero q key le is = at (nat_lt 0 q)
-  where
-    at : (b : Bool) → (b || not (has_key key)) ≡ true
-    at true = refl
-    at false = is
+here-by zero q key le is = grind (arith, nat_tests)
 here-by (suc p) q key le is = let some : nat_lt 0 q ≡ true = grind (arith, nat_tests) in rw some refl
 
 -- the one row of a handle takes a mode that pins, where its node's value is in memory

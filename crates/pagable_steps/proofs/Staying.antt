@@ -1,4 +1,5 @@
 -- A cascade takes no handle of a value that stays, and a value stays exactly where its node is in memory afterwards.
+use Rattle.std.proofs.Common.{rules}
 use Rattle.pagable_steps.proofs.Words.{◌≡◌, ℕ, ◌+◌, ◌<◌, ◌≤◌, ◌==◌, ◌&&◌, Bool, true, false, List, [], ◌∷◌, refl, ap, sym, subst, ◌∙◌, if◌then◌else◌, arith, Some, None, is_some, not, nat_lt}
 use Rattle.pagable_steps.proofs.Words.{nat_eq, cond, sum_by, and_parts, nat_tests, sum_by-cons, sum_by-append, OptionalDataKey, HandleRow, Owner, Mode, Among, one, times, if_there, is_handle}
 use Rattle.pagable_steps.proofs.Words.{is_at, is_pin, is_owned_by, owner_value, held, has_key, is_in_memory, Core, Cell, is_here, is_outside, held_outside, pins_outside, owned_outside}
@@ -27,12 +28,7 @@ module _ (rows : List HandleRow) (keyed : ℕ → Bool) (entries : List HandleRo
   less p = gone p && not (nat_lt 0 (owns n p rows))
 
   less-within : IsWithin rows less gone
-  less-within = sum-zero (λ h. one (less h.number.0 && not (gone h.number.0))) rows (λ h among. part (gone h.number.0) (not (nat_lt 0 (owns n h.number.0 rows))))
-    where
-      part : (a b : Bool) → one ((a && b) && not a) ≡ 0
-      part true true = refl
-      part true false = refl
-      part false b = refl
+  less-within = search (rules, sum-zero)
 
   less-holds : IsWithin rows given less
   less-holds = sum-zero (λ h. one (given h.number.0 && not (less h.number.0))) rows (λ h among. part h among (given h.number.0) refl (nat_lt 0 (owns n h.number.0 rows)) refl)
@@ -82,10 +78,7 @@ module _ (rows : List HandleRow) (keyed : ℕ → Bool) (entries : List HandleRo
 
 -- the same of each element, so in sum
 pub sum-same : {X : Type 0} (f g : X → ℕ) (xs : List X) → ((x : X) → Among xs x → f x ≡ g x) → sum_by f xs ≡ sum_by g xs
-sum-same f g xs each =
-    let le = sum-le f g xs (λ x among. let e = each x among in omega (arith, e)) in
-    let ge = sum-le g f xs (λ x among. let e = each x among in omega (arith, e)) in
-    omega (arith, le, ge)
+sum-same f g xs each = search (rules, sum-le)
 
 times-left : (t : HandleRow → Bool) (gone : ℕ → Bool) (rows : List HandleRow) → times t (left_rows gone rows) ≡ times (λ h. t h && is_outside gone h) rows
 times-left t gone [] = refl
