@@ -1,11 +1,12 @@
 """A plain pager and its machine: short and slow, written from the rules of cells and not from the crates, to be held against
 them by plain_rows.py. What can be counted or looked up is counted and looked up anew each time. Memory is always there."""
 
+import hashlib
 from dataclasses import dataclass, field
 
 UNEXPECTED_END, BAD_VARINT, BAD_BOOL, BAD_UTF8, TOO_LONG, TOO_DEEP = 1, 2, 3, 4, 6, 7
 NO_MORE_KEYS, NO_DATA, WRONG_KIND, NO_SUCH_HANDLE, WRONG_MODE, NOT_YOURS = 15, 16, 17, 18, 19, 20
-STORAGE, KEY_TAKEN, CLOSED = 23, 24, 25
+STORAGE, KEY_TAKEN, CLOSED, CUSTOM = 23, 24, 25, 26
 ORDER = (NO_SUCH_HANDLE, NOT_YOURS, WRONG_MODE, WRONG_KIND)
 LOOSE_PINNED, LOOSE_UNPINNED, PINNED, SHARED = "loose pinned", "loose unpinned", "Pinned", "Shared"
 LOOSE = (LOOSE_PINNED, LOOSE_UNPINNED)
@@ -65,6 +66,9 @@ class Blob:
         """The weighing hash of the preimage: the sum of each byte times its place, counted from 1."""
         return sum(place * byte for place, byte in enumerate(self.preimage(), 1)) % 2**128 or 1
 
+    def sha256_key(self):
+        return int.from_bytes(hashlib.sha256(self.preimage()).digest()[:16], "little") or 1
+
     def text(self):
         arcs = ":" + ",".join(map(str, self.arcs)) if self.arcs else ""
         return (self.data.hex() or "-") + arcs
@@ -79,6 +83,10 @@ class Value:
     references: list = field(default_factory=list)
 
 
+def varint(number):
+    return bytes([number]) if number < 128 else bytes([number % 128 + 128]) + varint(number >> 7)
+
+
 class Bytes:
     """The bytes and keys of a blob, read from the front."""
 
@@ -91,14 +99,17 @@ class Bytes:
         taken, self.rest = self.rest[:count], self.rest[count:]
         return taken
 
-    def length(self):
-        """A varint of at most ten bytes."""
-        ends = [place for place, byte in enumerate(self.rest[:10], 1) if byte < 128]
-        if not ends and len(self.rest) < 10:
+    def varint(self, most, last):
+        """A varint of so many bytes at most; at that length the last is at most this."""
+        ends = [place for place, byte in enumerate(self.rest[:most], 1) if byte < 128]
+        if not ends and len(self.rest) < most:
             raise Refused(UNEXPECTED_END)
-        if not ends or ends[0] == 10 and self.rest[9] > 1:
+        if not ends or ends[0] == most and self.rest[most - 1] > last:
             raise Refused(BAD_VARINT)
-        length = sum(byte % 128 << 7 * place for place, byte in enumerate(self.take(ends[0])))
+        return sum(byte % 128 << 7 * place for place, byte in enumerate(self.take(ends[0])))
+
+    def length(self):
+        length = self.varint(10, 1)
         if length > 2**32 - 1:
             raise Refused(TOO_LONG)
         return length
@@ -121,25 +132,41 @@ class Bytes:
         return self.keys.pop(0)
 
 
-class TextTypes:
-    """The values of the rows: texts of two types, 0 and 1, which are spelled alike. No other type is there."""
+class RowTypes:
+    """The values of the rows. 0 and 1 are texts, of which the latter's writer refuses; 2 a byte and five lists of references, each of a kind; 3 and 4
+    at most one reference of its own, loose or shared; 5 shared references to texts; 6 one of these, without a byte; 7 two bytes."""
 
-    COUNT = 2
+    NAME, NOTE, MIXED, LINK, ARC_LINK, NAMES, HOLDER, BYTES, END = range(9)
+    LISTS = (6, 7, 8, 1, 0)
+    KINDS = {LINK: 10, ARC_LINK: 12, NAMES: 0, HOLDER: 0}
 
-    @staticmethod
-    def write(value):
-        """The bytes of a text that is below 128 bytes."""
-        text = value.content.encode()
-        return bytes([len(text)]) + text
+    @classmethod
+    def write(cls, value):
+        node_type, content, kinds = value.node_type, value.content, [kind for kind, _ in value.references]
+        if node_type == cls.NOTE:
+            raise Refused(CUSTOM)
+        if node_type == cls.NAME:
+            return varint(len(content.encode())) + content.encode()
+        if node_type == cls.MIXED:
+            return bytes([content]) + b"".join(varint(kinds.count(kind)) for kind in cls.LISTS)
+        return content if node_type == cls.BYTES else b"" if node_type == cls.HOLDER else varint(len(kinds))
 
     @classmethod
     def read(cls, node_type, blob):
-        """Asks for each reference by kind and key, gets its handle, and ends in the value. A text has none. What is left
-        over is accepted."""
-        if node_type >= cls.COUNT:
+        """Asks for each reference by kind and key, gets its handle, and ends in the value. What is left over is accepted."""
+        taken, content, references = Bytes(blob), None, []
+        if node_type >= cls.END:
             raise Refused(WRONG_KIND)
-        return Value(node_type, Bytes(blob).string())
-        yield
+        if node_type <= cls.NOTE:
+            return Value(node_type, taken.string())
+        if node_type == cls.BYTES:
+            return Value(node_type, taken.take(1) + taken.take(1))
+        if node_type == cls.MIXED:
+            content = taken.take(1)[0]
+        for kind in cls.LISTS if node_type == cls.MIXED else [cls.KINDS[node_type]]:
+            for _ in range(1 if node_type == cls.HOLDER else taken.bool() if node_type in (cls.LINK, cls.ARC_LINK) else taken.length()):
+                references.append((kind, (yield kind, taken.reference())))
+        return Value(node_type, content, references)
 
 
 class Storage:
@@ -194,14 +221,28 @@ class Handle:
 
 @dataclass
 class Load:
-    """An open load: the handle by which it was begun and its cell, or neither; its root; and how far a machine has got."""
+    """An open load: who began it, by which handle of which cell, or by neither; its root; and how far a machine has got."""
 
+    by: object
     begun_by: int
     node: int
     key: int
     node_type: int
     frames: list = field(default_factory=list)
     steps: int = 0
+
+
+@dataclass
+class Slot:
+    """What a table has for an identity: the worker that claimed it, and then a key with its height, or that it failed."""
+
+    worker: int
+    key: int = None
+    height: int = 0
+    failed: bool = False
+
+    def is_open(self):
+        return self.key is None and not self.failed
 
 
 @dataclass
@@ -228,6 +269,8 @@ class Tables:
         self.storage, self.closed = storage, storage.closed
         self.cells, self.handles, self.loads, self.cache, self.list = {}, {}, {}, {}, []
         self.last_node = self.last_handle = self.last_load = 0
+        # Who calls: the caller, or a worker in its steps.
+        self.me = CALLER
 
     # ---- what is looked up
 
@@ -258,13 +301,18 @@ class Tables:
         return None
 
     def own(self, number, *modes):
-        """A handle of the caller's, of one of these modes."""
-        refuse_first([self.cause(number, CALLER, modes)])
+        """A handle of who calls, of one of these modes."""
+        refuse_first([self.cause(number, self.me, modes)])
         return self.handles[number]
 
+    def foreign(self, load):
+        """Why a load isn't there for who calls, or None."""
+        if load not in self.loads:
+            return NO_SUCH_HANDLE
+        return None if self.loads[load].by == self.me else NOT_YOURS
+
     def open(self, number):
-        if number not in self.loads:
-            raise Refused(NO_SUCH_HANDLE)
+        refuse_first([self.foreign(number)])
         return self.loads[number]
 
     def pins(self, node):
@@ -281,12 +329,12 @@ class Tables:
 
     # ---- what changes
 
-    def give(self, node, mode, owner=CALLER):
+    def give(self, node, mode, owner=None):
         self.last_handle += 1
-        self.handles[self.last_handle] = Handle(node, mode, owner)
+        self.handles[self.last_handle] = Handle(node, mode, owner or self.me)
         return self.last_handle
 
-    def bear(self, cell, mode, owner=CALLER):
+    def bear(self, cell, mode, owner=None):
         """A new node with one handle. What its value refers to moves to it."""
         self.last_node += 1
         self.cells[self.last_node] = cell
@@ -347,13 +395,13 @@ class Loads(Tables):
         cell = self.cells[handle.node]
         self.last_load += 1
         self.give(handle.node, LOOSE_UNPINNED, ("load", self.last_load))
-        self.loads[self.last_load] = Load(number, handle.node, cell.key, cell.node_type)
+        self.loads[self.last_load] = Load(self.me, number, handle.node, cell.key, cell.node_type)
         return Begun(self.last_load, cell.key)
 
     def load_key(self, key, node_type=None):
         """The type of the root is known to a machine alone."""
         self.last_load += 1
-        self.loads[self.last_load] = Load(None, None, key, node_type)
+        self.loads[self.last_load] = Load(self.me, None, None, key, node_type)
         return Begun(self.last_load, key)
 
     def load_fetch(self, load, kind=None, key=None):
@@ -369,7 +417,7 @@ class Loads(Tables):
         if load not in self.loads:
             raise Refused(NO_SUCH_HANDLE, back=True)
         owner = ("load", load)
-        refuse_first([WRONG_MODE if is_lazy(kind) else None, None if value.node_type == type_of(kind) else WRONG_KIND,
+        refuse_first([self.foreign(load), WRONG_MODE if is_lazy(kind) else None, None if value.node_type == type_of(kind) else WRONG_KIND,
                       self.cause_of_references(owner, value.references)], back=True)
         node = self.usable(kind, key)
         if node is not None:
@@ -399,8 +447,8 @@ class Loads(Tables):
             raise Refused(NO_SUCH_HANDLE, back=True)
         row = self.loads[load]
         root = WRONG_MODE if row.begun_by is None else None if row.node_type == value.node_type else WRONG_KIND
-        refuse_first([root, self.cause_of_references(("load", load), value.references)], back=True)
-        cause = self.cause(row.begun_by, CALLER, ALL_MODES)
+        refuse_first([self.foreign(load), root, self.cause_of_references(("load", load), value.references)], back=True)
+        cause = self.cause(row.begun_by, self.me, ALL_MODES)
         if cause is not None:
             self.close_load(load)
             raise Refused(cause)
@@ -413,8 +461,8 @@ class Loads(Tables):
         return pinned
 
     def load_take(self, load, *numbers):
-        row = self.open(load)
-        causes = [NO_SUCH_HANDLE if n not in self.handles else None for n in numbers]
+        row = self.loads.get(load) or self.open(load)
+        causes = [self.foreign(load)] + [NO_SUCH_HANDLE if n not in self.handles else None for n in numbers]
         strange = len(set(numbers)) < len(numbers) or any(self.cause(n, ("load", load), ALL_MODES) == NOT_YOURS for n in numbers)
         refuse_first([*causes, NOT_YOURS if strange else None, None if row.begun_by is None else WRONG_MODE])
         for number in numbers:
@@ -511,7 +559,7 @@ class Pager(Loads):
         if place >= len(self.list):
             return "none"
         number = self.list.pop(place)
-        self.handles[number].owner = CALLER
+        self.handles[number].owner = self.me
         return number
 
     def cache_get(self, kind, key):
@@ -571,23 +619,238 @@ class Frame:
 
 
 @dataclass
+class Took:
+    """What a worker's step answers: its kind, whom it was about, what its call answered, and how the worker ended if it did. Waiting and the
+    steps of a load aren't counted."""
+
+    kind: str
+    identity: object
+    told: object = ""
+    end: object = None
+    counts: bool = True
+
+    def text(self):
+        identity = ":".join(map(str, self.identity or ()))
+        return " ".join(filter(None, [self.kind, identity, str(self.told)])) + ("" if self.end is None else f" -> {'ok ' if isinstance(self.end, int) else ''}{self.end}")
+
+
+class Stopped(Exception):
+    """A worker stops, by its own refusal or another worker's failure: what it will answer."""
+
+
+class Worker:
+    """A walk of page-out by steps: an item's, or that of a listed cell by its entry. `walk` makes one step each time that it is asked."""
+
+    def __init__(self, machine, number, slots, waits):
+        self.machine, self.pager, self.number, self.slots, self.waits = machine, machine.pager, number, slots, waits
+        self.me, self.steps, self.entry, self.walk, self.is_done, self.clones = ("worker", number), 0, None, None, False, {}
+
+    def begin(self, walk):
+        self.walk = self.guarded(walk)
+        self.machine.workers.append(self)
+        return self.number
+
+    def step(self):
+        self.pager.me = self.me
+        took = next(self.walk)
+        self.pager.me = CALLER
+        self.steps += took.counts
+        self.is_done = took.end is not None
+        return f"{self.steps} {took.text()}"
+
+    def guarded(self, walk):
+        """After a step that was refused, or a claim that met a failure, comes one that fails what this worker claimed and holds."""
+        try:
+            yield from walk
+        except Stopped as stopped:
+            self.fail()
+            yield Took("fail", None, end=stopped)
+
+    def do(self, kind, identity, call, counts=True, is_last=False):
+        """One step, which makes a call and tells what it answers; what the walk uses of that comes back. A walk answers what its last step gives."""
+        try:
+            result, told = call()
+        except Refused as refusal:
+            yield Took(kind, identity, f"refused {refusal.number}", counts=counts)
+            raise Stopped(f"failed {refusal.number}") from None
+        yield Took(kind, identity, told, result if is_last else None, counts and told != "waiting")
+        return result
+
+    # ---- the order of steps
+
+    def item(self, data, references):
+        keys, _ = yield from self.children(references, 0)
+        yield from self.do("store", None, lambda: self.store(data, keys), is_last=True)
+
+    def listed(self):
+        entry, node = self.entry, self.pager.node_of(self.entry)
+        kind = 3 * self.pager.node_live(node) + 1
+        found = yield from self.claim(kind, node, entry, 0)
+        if not found:
+            found = yield from self.page_out(kind, node, entry, 0)
+        yield from self.do("release", (kind, node), lambda: (self.give_up(node) or found[0], ""), is_last=True)
+
+    def children(self, references, place):
+        """The keys of references, first to last, and the height above them. A path goes on through those that aren't lazy."""
+        keys, height = [], 0
+        for kind, node, number in references:
+            below = 0 if is_lazy(kind) else place + 1
+            found = yield from self.claim(kind, node, number, below)
+            if not found:
+                found = yield from self.page_out(kind, node, number, below)
+                yield from self.do("release", (kind, node), lambda: (self.give_up(node), ""))
+            keys.append(found[0])
+            height = max(height, 0 if is_lazy(kind) else found[1] + 1)
+        return keys, height
+
+    def claim(self, kind, node, number, place):
+        """The key and height that are known, or None where the identity is now this worker's."""
+        found = "waiting"
+        while found == "waiting":
+            found = yield from self.do("claim", (kind, node), lambda: self.look(kind, node, number, place))
+        if found == "failed":
+            raise Stopped("already")
+        return None if found == "claimed" else found
+
+    def page_out(self, kind, node, number, place):
+        """All steps of a claimed identity but the last: key and height."""
+        identity = (kind, node)
+        held = yield from self.do("pin", identity, lambda: self.pin(kind, node, number))
+        while isinstance(held, Begun):
+            held = yield from self.do("pin", identity, lambda: self.load_on(held), False)
+        if number == self.entry:
+            self.entry = None
+        data, references = yield from self.do("write", identity, lambda: self.write(self.pager.value(held)))
+        keys, height = yield from self.children(references, place)
+        key = yield from self.do("store", identity, lambda: self.store(data, keys))
+        yield from self.do("set", identity, lambda: (self.set_key(kind, node, key), ""))
+        yield from self.do("publish", identity, lambda: self.publish(identity, key, height))
+        return key, height
+
+    # ---- the calls
+
+    def look(self, kind, node, number, place):
+        """What a claim finds. The reference is looked at first, then its place on the path, then the slot."""
+        self.waits.pop(self.number, None)
+        at = self.pager.handles.get(number)
+        refuse_first([NO_SUCH_HANDLE if at is None or at.node != node else self.pager.cause(number, at.owner, modes_of(kind), type_of(kind))])
+        slot = self.slots.get((kind, node))
+        if place > DEEPEST or slot and (place + slot.height > DEEPEST or slot.is_open() and self.closes_ring(slot)):
+            raise Refused(TOO_DEEP)
+        if slot and slot.key is not None:
+            return (slot.key, slot.height), f"known {slot.key} {slot.height}"
+        found = "claimed" if slot is None else "failed" if slot.failed else "waiting"
+        if slot is None:
+            self.slots[kind, node] = Slot(self.number)
+        elif slot.is_open():
+            self.waits[self.number] = (kind, node)
+        return found, found
+
+    def closes_ring(self, slot):
+        """Whether the worker that has it is this one, or waits, by way of others that wait, for this one."""
+        while slot.worker != self.number:
+            slot = self.slots.get(self.waits.get(slot.worker))
+            if slot is None or not slot.is_open():
+                return False
+        return True
+
+    def pin(self, kind, node, number):
+        """A clone of the reference, or of the entry, and for a lazy one a pin of the clone, or the begin of its load."""
+        own = self.clones[kind, node] = self.pager.clone(number)
+        pinned = self.pager.pin(own) if is_lazy(kind) else own
+        if not isinstance(pinned, Needs):
+            return pinned, f"held {pinned}"
+        begun = self.pager.load_begin(own)
+        return begun, f"load {begun.load}"
+
+    def load_on(self, begun):
+        end = self.machine.load_step(begun.load).end
+        if isinstance(end, Refused):
+            raise end
+        return (begun, "went") if end is None else (end, f"held {end}")
+
+    def write(self, value):
+        data, references = self.machine.types.write(value), [(kind, self.pager.node_of(number), number) for kind, number in value.references]
+        told = ",".join(":".join(map(str, reference)) for reference in references)
+        return (data, references), f"0x{data.hex()}:{told}"
+
+    def store(self, data, keys):
+        return (self.pager.store(Blob(data, tuple(keys))),) * 2
+
+    def set_key(self, kind, node, key):
+        """Only a cell gets it, by the clone that the worker made."""
+        self.pager.set_data_key(self.clones[kind, node], key)
+
+    def publish(self, identity, key, height):
+        self.slots[identity].key, self.slots[identity].height = key, height
+        return None, f"{key} {height}"
+
+    def give_up(self, node=None):
+        """What the worker holds of a node, or of all, falls: the cells in their order, which is open."""
+        for _, number in sorted((h.node, n) for n, h in self.pager.handles.items() if h.owner == self.me and node in (None, h.node)):
+            self.pager.fall(number)
+
+    def fail(self):
+        """An entry whose cell was never pinned goes back to the list's end."""
+        for slot in self.slots.values():
+            slot.failed |= slot.worker == self.number and slot.is_open()
+        for load in [n for n, row in self.pager.loads.items() if row.by == self.me]:
+            self.pager.close_load(load)
+        entry, self.pager.me = self.pager.handles.get(self.entry), CALLER
+        if entry:
+            entry.owner = CALLER
+        self.give_up()
+        if entry:
+            self.pager.schedule_for_paging(self.entry)
+
+
+@dataclass
 class Step:
-    """What a step answers: its count, and a handle, a value or a refusal if it ended the load."""
+    """What a load's step answers: its count, and a handle, a value or a refusal if it ended the load."""
 
     count: int
     end: object = None
 
-    def text(self):
+    def text(self, spelled):
+        """In words; `spelled` tells a value."""
         if self.end is None:
-            return f"step {self.count}"
-        return f"step {self.count} " + (f"pinned {self.end}" if isinstance(self.end, int) else self.end.text())
+            return f"more {self.count}"
+        if isinstance(self.end, int):
+            return f"pinned {self.count} {self.end}"
+        return f"refused {self.count} {self.end.number}" if isinstance(self.end, Refused) else f"read {self.count} = {spelled(self.end)}"
 
 
 class Machine:
-    """A pager that is driven by events: a call, the begin of a load, or a load's next step."""
+    """A pager that is driven by events: a call, the begin of a load, a load's next step, a table of page-out, a worker on it, or a
+    worker's next step."""
 
-    def __init__(self, pager, types=TextTypes):
-        self.pager, self.types = pager, types
+    def __init__(self, pager, types=RowTypes):
+        self.pager, self.types, self.tables, self.workers = pager, types, [], []
+
+    def table_new(self):
+        """Slots by identity, and for each worker that waits the identity for which it does."""
+        self.tables.append(({}, {}))
+        return len(self.tables)
+
+    def worker(self, table):
+        refuse_first([None if 0 < table <= len(self.tables) else NO_SUCH_HANDLE])
+        return Worker(self, len(self.workers) + 1, *self.tables[table - 1])
+
+    def worker_item(self, table, data, references):
+        worker = self.worker(table)
+        return worker.begin(worker.item(data, references))
+
+    def worker_listed(self, table, place):
+        worker = self.worker(table)
+        refuse_first([None if place < self.pager.pending() else NO_SUCH_HANDLE])
+        worker.entry = self.pager.list.pop(place)
+        self.pager.handles[worker.entry].owner = worker.me
+        return worker.begin(worker.listed())
+
+    def worker_step(self, number):
+        if not 0 < number <= len(self.workers) or self.workers[number - 1].is_done:
+            raise Refused(NO_SUCH_HANDLE)
+        return self.workers[number - 1].step()
 
     def load_start(self, number):
         return self.pager.load_begin(number)

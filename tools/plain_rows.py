@@ -1,9 +1,9 @@
 #!/usr/bin/env python3
-"""Rows of calls, as the program `vectors` reads them, answered by a plain pager or drawn from a seed.
+"""Rows of events, as the program `vectors` reads them, answered by a plain pager or drawn from a seed.
 
-    plain_rows.py answers FILE             prints the answer to each row of the file that has one, as `vectors` has to
-    plain_rows.py draw SEED COUNT [looks]  prints a new machine, COUNT drawn lists of calls and a look; or lists of one call
-                                           with a look after each
+    plain_rows.py answers FILE              prints the answer to each row of the file that has one, as `vectors` has to
+    plain_rows.py draw SEED COUNT [WORD..]  prints a new machine, COUNT drawn lists of calls and a look; with the word `events` lists of
+                                            events over graphs, and with `looks` lists of one call with a look after each
 
 A row is one line: a new machine, a look, or calls parted by semicolons. docs/PROOFS.md tells its words.
 """
@@ -12,22 +12,21 @@ import random
 import sys
 
 sys.dont_write_bytecode = True
-from plain_pager import CALLER, LOOSE_UNPINNED, Begun, Blob, Needs, Pager, Refused, Storage, Value, mode_of, modes_of, type_of
-
-
-# The first type of lists of references, beside the two of texts.
-GROUPS = 2
+from plain_pager import CALLER, LOOSE_PINNED, Begun, Blob, Machine, Needs, Pager, Refused, RowTypes, Step, Storage, Value, modes_of, type_of
 
 
 class Rows:
-    """Answers rows, over the pager that stands."""
+    """Answers rows, over the machine that stands."""
+
+    EVENTS = {"start": "load_start", "read": "load_key", "step": "load_step", "table": "table_new", "listed": "worker_listed", "work": "worker_step"}
 
     def __init__(self):
         self.start("")
 
     def start(self, storage):
         calls_before = int(storage) if storage.isdigit() else None
-        self.pager = Pager(Storage(calls_before, storage == "closed"))
+        self.pager = Pager(Storage(calls_before, storage == "closed", Blob.sha256_key if storage == "sha256" else Blob.key))
+        self.machine = Machine(self.pager)
 
     def answer(self, row):
         name, _, rest = row.partition(" ")
@@ -35,18 +34,36 @@ class Rows:
             self.start(rest)
         elif name == "look":
             return self.look(int(rest))
+        elif name == "last":
+            return self.answer(rest).rpartition("; ")[2]
         else:
-            return "; ".join(self.call(call.strip()) for call in row.split(";"))
+            return "; ".join(answer for call in row.split(";") for answer in self.answers(call.strip()))
         return ""
+
+    def answers(self, call):
+        """The answer to a call, or to each of so many steps or births, of which each refers to the one before."""
+        name, *rest = call.split(" ")
+        if name == "chain":
+            births = [f"{rest[0]} {rest[1]}" + (f" {rest[2]}:{place}:{place}" if place else "") for place in range(int(rest[3]))]
+            return list(map(self.call, births))
+        times = int(rest.pop()) if name in ("step", "work") and len(rest) == 2 else 1
+        return [self.call(" ".join([name, *rest])) for _ in range(times)]
 
     def call(self, call):
         name, _, rest = call.partition(" ")
         try:
-            answer = getattr(self.pager, name)(*self.arguments(name, rest))
+            if name == "item":
+                answer = self.machine.worker_item(*self.item(*rest.split(" ")))
+            elif name in self.EVENTS:
+                answer = getattr(self.machine, self.EVENTS[name])(*map(int, rest.split()))
+            else:
+                answer = getattr(self.pager, name)(*self.arguments(name, rest))
         except Refused as refusal:
             return refusal.text()
         if isinstance(answer, Blob):
             return "0x" + answer.data.hex()
+        if isinstance(answer, Step):
+            return answer.text(self.spelled)
         if isinstance(answer, (Begun, Needs)):
             return answer.text()
         return "ok" if answer is None else f"ok {answer}" if isinstance(answer, int) else answer
@@ -63,15 +80,34 @@ class Rows:
         *others, node_type = map(int, words[:numbers])
         return others + [self.value(node_type, words[numbers])]
 
+    def item(self, table, spelled):
+        """Data and references, each by kind, node and handle."""
+        data, _, references = spelled.partition(":")
+        return int(table), bytes.fromhex(data.strip("-")), [tuple(map(int, word.split(":"))) for word in references.split(",") if word]
+
     def value(self, node_type, content):
-        if node_type < GROUPS:
+        """A text, two bytes in hex, or references as `7:1:2,8:3:4`; before those of lists stand a byte and a stroke, if it isn't 0."""
+        if node_type <= RowTypes.NOTE:
             return Value(node_type, content)
-        return Value(node_type, "references", [self.reference(*map(int, word.split(":"))) for word in content.split(",") if word])
+        if node_type == RowTypes.BYTES:
+            return Value(node_type, bytes.fromhex(content))
+        tag, _, words = content.rpartition("/")
+        references = [self.reference(*map(int, word.split(":"))) for word in words.split(",") if word]
+        return Value(node_type, int(tag or 0) if node_type == RowTypes.MIXED else None, references)
 
     def reference(self, kind, node, number):
         """A handle that isn't of the node that is told counts as none."""
         handle = self.pager.handles.get(number)
         return kind, number if handle and handle.node == node else 0
+
+    def spelled(self, value):
+        """A value as rows spell it, but for its type."""
+        if value.node_type <= RowTypes.NOTE:
+            return value.content
+        if value.node_type == RowTypes.BYTES:
+            return value.content.hex()
+        tag = f"{value.content}/" if value.content else ""
+        return tag + ",".join(f"{kind}:{self.pager.node_of(number)}:{number}" for kind, number in value.references)
 
     def look(self, last):
         """How long the list is, and for each live handle up to this number its node, count and key, and what it pins."""
@@ -79,7 +115,7 @@ class Rows:
         for number in (number for number in range(1, last + 1) if number in pager.handles):
             node, key, value = pager.node_of(number), pager.key(number), pager.value(number)
             told = [node, pager.count(number), 0 if key == "none" else key, "away" if pager.is_away(node) else "here"]
-            words.append(f"{number}: {' '.join(map(str, told))}" + ("" if value is None else f" = {value.content}"))
+            words.append(f"{number}: {' '.join(map(str, told))}" + ("" if value is None else f" = {self.spelled(value)}"))
         return "; ".join(words)
 
 
@@ -91,6 +127,7 @@ class Draw:
     # Cut short; not UTF-8; a byte left over; a child key; two blobs with one key; nothing.
     BLOBS = ["0261", "01ff", "017800", "0178:5", "0009", "0a00", "-"]
     STORAGES = ["", "", "", "", " 0", " 4", " 9", " closed"]
+    TYPES = [RowTypes.NAME, RowTypes.NAME, RowTypes.NOTE, RowTypes.MIXED, RowTypes.MIXED, RowTypes.MIXED, *range(RowTypes.LINK, RowTypes.END)]
     OF_HANDLE = ["clone", "into_pagable", "pin", "pin", "unpin", "unpin", "release", "release", "schedule_for_paging", "count", "key", "is_paged_out", "node_of"]
 
     def __init__(self, seed):
@@ -164,9 +201,13 @@ class Draw:
 
     def asking(self, load):
         """A load asks for a reference, or makes a node of one."""
-        owner, kind = ("load", int(load)), self.random.randrange(9)
+        owner, kind = ("load", int(load)), self.kind()
         asked = f"{load} {kind} {self.key()}"
         return self.random.choice([f"load_fetch {asked}", f"load_lazy {asked}", f"load_adopt {asked} {self.value(owner, kind=kind)}"])
+
+    def kind(self):
+        """A kind of references: mostly one that stands in values."""
+        return self.random.choice([*RowTypes.LISTS, 10, 12]) if self.random.random() < 0.7 else self.random.randrange(3 * RowTypes.END + 1)
 
     def blob(self):
         return self.random.choice([Blob(b"\x01x"), Blob(b"\x02al"), Blob(b"\x02lb"), Blob(b"\x00")]).text()
@@ -188,34 +229,239 @@ class Draw:
 
     def value(self, owner=CALLER, row=None, kind=None):
         """A value: mostly of the type that is wanted, if one is. References are mostly handles of the owner's, in a kind that fits."""
-        wanted = [row.node_type if row else type_of(kind)] if row or kind is not None else [0, 1, 2, 2]
-        node_type = self.random.choice(wanted) if self.random.random() < 0.9 else self.random.randrange(3)
-        if node_type != GROUPS:
-            node_type %= GROUPS
-            return f"{node_type} {self.random.choice(self.TEXTS)}".strip()
-        return f"{node_type} {','.join(self.reference(owner) for _ in range(self.random.choice([0, 1, 1, 2, 3])))}".strip()
+        wanted = [row.node_type if row else type_of(kind)] if row or kind is not None else self.TYPES
+        node_type = self.random.choice(wanted) if self.random.random() < 0.9 else self.random.choice(self.TYPES)
+        if node_type >= RowTypes.END:
+            node_type = RowTypes.NAME
+        return f"{node_type} {self.content(node_type, owner)}".strip()
 
-    def reference(self, owner):
-        pager, own = self.plain.pager, self.own(owner)
-        number = own[0] if own and self.random.random() < 0.9 else self.handle()
-        handle = pager.handles.get(number)
-        if handle is None or self.random.random() < 0.1:
-            return f"{self.random.randrange(10)}:{self.random.randrange(pager.last_node + 2)}:{number}"
-        sort = next(sort for sort in range(3) if handle.mode in modes_of(sort))
-        return f"{3 * pager.cells[handle.node].node_type + sort}:{handle.node}:{number}"
+    def content(self, node_type, owner):
+        if node_type <= RowTypes.NOTE:
+            return self.random.choice(self.TEXTS)
+        if node_type == RowTypes.BYTES:
+            return self.random.choice(["0009", "0a00", "0178"])
+        if node_type == RowTypes.MIXED:
+            found = [self.reference(owner, RowTypes.LISTS) for _ in range(self.random.choice([0, 1, 1, 2, 3]))]
+            found.sort(key=lambda word: RowTypes.LISTS.index(int(word.partition(":")[0])))
+            return self.random.choice(["", "", "5/"]) + ",".join(found)
+        counts = {RowTypes.HOLDER: [1], RowTypes.NAMES: [0, 1, 2]}.get(node_type, [0, 1, 1])
+        return ",".join(self.reference(owner, [RowTypes.KINDS[node_type]]) for _ in range(self.random.choice(counts)))
+
+    def kind_of_handle(self, number):
+        """The kind in which a handle can stand in a value, or None for no handle."""
+        handle = self.plain.pager.handles.get(number)
+        return handle and 3 * self.plain.pager.cells[handle.node].node_type + next(sort for sort in range(3) if handle.mode in modes_of(sort))
+
+    def reference(self, owner, kinds=range(3 * RowTypes.END)):
+        """A handle in one of these kinds: mostly one of the owner's that fits."""
+        pager, fitting = self.plain.pager, [number for number in self.own(owner) if self.kind_of_handle(number) in kinds]
+        number = fitting[0] if fitting and self.random.random() < 0.9 else self.handle()
+        handle, kind = pager.handles.get(number), self.kind_of_handle(number)
+        if kind not in kinds or self.random.random() < 0.05:
+            kind = self.random.choice(kinds)
+        return f"{kind}:{handle.node if handle and self.random.random() < 0.95 else self.random.randrange(pager.last_node + 2)}:{number}"
 
     def single(self):
         pager, draw = self.plain.pager, self.random
-        load, key, kind = draw.randrange(pager.last_load + 2), self.key(), draw.randrange(9)
+        load, key, kind = draw.randrange(pager.last_load + 2), self.key(), self.kind()
         rare = [f"node_live {draw.randrange(pager.last_node + 2)}", "pending", f"take_pending {len(pager.list)}",
                 f"store {draw.choice(self.BLOBS)}", f"fetch {key}", f"set_data_key {self.handle()} {key}", "cache_clear", "flush", "reserve 3",
                 f"load_fetch {load}", f"load_drop {load}", f"load_end {load} {self.value()}", f"load_take {load} {self.handle()}",
                 f"load_begin {self.handle()}", self.asking(load), f"cache_get {kind} {key}", f"on_arc_deserialized {kind} {key} {self.handle()}"]
         if draw.random() < 0.02:
             rare = ["close"]
-        new = [f"new_loose {self.value()}", f"new_pinned {self.value()}", f"new_shared {self.value()}", f"new_paged_out {draw.choice([0, 0, 1, 1, 2, 9])} {key}"]
+        new = [f"new_loose {self.value()}", f"new_pinned {self.value()}", f"new_shared {self.value()}", f"new_paged_out {draw.choice([0, 0, 1, 2, 2, 3, 4, 9])} {key}"]
         of_handle = f"{draw.choice(self.OF_HANDLE)} {self.handle()}"
         return draw.choice([draw.choice(rare), draw.choice(new), draw.choice(new), of_handle, of_handle])
+
+
+class DrawEvents(Draw):
+    """Draws lists of events over graphs: stored blobs that refer to others, cells of their keys, and loads by steps, between which calls come
+    that evict, release, clear the cache, take what a load got, or end it; births with references, their page-out by calls, and workers on
+    tables, which take turns."""
+
+    STORAGES = ["", "", "", "", " 5", " 11", " 23", " 41"]
+
+    def __init__(self, seed):
+        super().__init__(seed)
+        self.types = {1209: 0}
+
+    def rows(self, count, looks):
+        """A second word `read` would make a row one of values."""
+        for row in super().rows(count, looks):
+            yield "reserve 0; " + row if row.split(" ")[1:2] == ["read"] else row
+
+    def next(self):
+        """The next event of one of at most four plans that are under way, or a single one."""
+        if len(self.plans) < 4 and self.random.random() < 0.5:
+            plan = self.random.choice(self.PLANS)(self)
+            self.start(plan)
+        if not self.plans or self.random.random() < 0.3:
+            return self.make(self.single())[0]
+        plan = self.random.choice(self.plans)
+        event, answer = self.make(plan[1])
+        try:
+            plan[1] = plan[0].send(answer)
+        except StopIteration:
+            self.plans.remove(plan)
+        return event
+
+    def start(self, plan):
+        try:
+            self.plans.append([plan, next(plan)])
+        except StopIteration:
+            pass
+
+    def make(self, event):
+        """Steps are as many as it takes to the end, if these are fewer."""
+        name, *words = event.split(" ")
+        if name not in ("step", "work") or len(words) < 2:
+            return super().make(event)
+        for steps in range(1, int(words[1]) + 1):
+            answer = self.plain.call(f"{name} {words[0]}")
+            if self.is_done(name, int(words[0])):
+                break
+        return f"{name} {words[0]} {steps}", answer
+
+    def is_done(self, name, number):
+        machine = self.plain.machine
+        if name == "step":
+            return number not in machine.pager.loads
+        return not 0 < number <= len(machine.workers) or machine.workers[number - 1].is_done
+
+    def key(self):
+        """Mostly one of the last keys that can be read."""
+        keys, chance = list(self.types), self.random.random()
+        return 5 if chance < 0.03 else self.random.choice(self.keys if chance < 0.1 else keys[-5:] if chance < 0.6 else keys)
+
+    def single(self):
+        """The pager is seldom closed, since little happens then."""
+        event = super().single()
+        return "pending" if event == "close" and self.random.random() < 0.9 else event
+
+    # ---- plans
+
+    def grow(self):
+        """A blob is stored: a value over keys that are stored, most of them as what they are. Few are cut or have a byte left over, and few lack a
+        key."""
+        draw = self.random
+        node_type = draw.choice(self.TYPES)
+        blob = self.blob_of(node_type)
+        if draw.random() < 0.04:
+            blob = Blob(draw.choice([blob.data[:-1], blob.data + b"\x07"]), blob.arcs)
+        if draw.random() < 0.03:
+            blob = Blob(blob.data, blob.arcs[:-1])
+        answer = yield f"store {blob.text()}"
+        if answer.startswith("ok"):
+            self.types[int(answer[3:])] = node_type
+
+    def blob_of(self, node_type):
+        draw = self.random
+        if node_type <= RowTypes.NOTE:
+            return Blob(RowTypes.write(Value(RowTypes.NAME, draw.choice(self.TEXTS))))
+        if node_type == RowTypes.BYTES:
+            return Blob(bytes([draw.randrange(3), draw.randrange(11)]))
+        kinds = [draw.choice(RowTypes.LISTS) for _ in range(draw.choice([0, 1, 1, 2, 2, 3]))]
+        if node_type != RowTypes.MIXED:
+            kinds = [RowTypes.KINDS[node_type]] * (1 if node_type == RowTypes.HOLDER else draw.choice([0, 1, 1]))
+        kinds.sort(key=lambda kind: RowTypes.LISTS.index(kind) if node_type == RowTypes.MIXED else 0)
+        data = RowTypes.write(Value(node_type, draw.choice([0, 0, 5]), [(kind, 0) for kind in kinds]))
+        return Blob(data, tuple(self.key_of(type_of(kind)) for kind in kinds))
+
+    def key_of(self, node_type):
+        """Mostly a key that reads as a value of this type."""
+        keys = [key for key, found in self.types.items() if found == node_type]
+        return self.random.choice(keys[-3:]) if keys and self.random.random() < 0.95 else self.key()
+
+    def loading(self):
+        """A load of a cell or of a key, step by step, up to its end if no other call ends it before."""
+        begun = yield self.random.choice([self.start_of_cell, self.start_of_cell, self.start_of_key])()
+        if begun.startswith("ok"):
+            begun = yield f"start {begun[3:]}"
+        while begun.startswith("load"):
+            load, steps = begun.split()[1], self.random.choice([1, 1, 1, 2, 3, 5])
+            event = f"step {load}" + (f" {steps}" if steps > 1 else "")
+            if self.random.random() < 0.1:
+                event = self.meddling(int(load))
+            answer = yield event
+            if int(load) not in self.plain.pager.loads:
+                break
+
+    def start_of_cell(self):
+        """A cell that is away, by a loose handle; or a new one, if there is none."""
+        pager = self.plain.pager
+        away = [number for number in self.own(CALLER) if pager.is_away(pager.node_of(number))]
+        if away and self.random.random() < 0.6:
+            return f"start {away[0]}"
+        key = self.key()
+        return f"new_paged_out {self.types.get(key, 2) if self.random.random() < 0.95 else self.random.choice([0, 2, 3, 300])} {key}"
+
+    def start_of_key(self):
+        key = self.key()
+        return f"read {key} {self.types.get(key, 2) if self.random.random() < 0.95 else self.random.choice([0, 2, 3, 300])}"
+
+    def meddling(self, number):
+        """A call on a load that goes by steps, or on the handle by which it was begun."""
+        load = self.plain.pager.loads.get(number)
+        if load is None:
+            return f"load_drop {number}"
+        begun_by, got = load.begun_by or 1, self.own(("load", number))
+        return self.random.choice([f"load_drop {number}", f"load_fetch {number}", self.asking(number), self.asking(number), self.asking(number), f"release {begun_by}",
+                                   f"unpin {begun_by}", f"set_data_key {begun_by} {self.key()}", f"release {(got or [1])[0]}",
+                                   f"load_end {number} {self.value(('load', number), load)}", f"load_take {number} {' '.join(map(str, got[:2]))}".strip()])
+
+    def settling(self):
+        """A cell that the caller pins is stored by calls with all below it, gets its key, and loses its pins."""
+        pager = self.plain.pager
+        loose = [number for number in self.own(CALLER) if pager.handles[number].mode == LOOSE_PINNED]
+        if loose:
+            key = yield from self.stored(pager.node_of(loose[0]), 4)
+            if key is not None:
+                yield f"set_data_key {loose[0]} {key}"
+            for number in (number for number in self.own(CALLER) if number in pager.handles and pager.node_of(number) == pager.handles.get(loose[0], pager.handles[number]).node):
+                yield f"{'unpin' if pager.handles[number].mode == LOOSE_PINNED else 'release'} {number}"
+
+    def listing(self):
+        """A new cell, mostly of references, is unpinned."""
+        born = yield f"new_loose {self.value()}"
+        if born.startswith("ok"):
+            yield f"unpin {born[3:]}"
+
+    def working(self):
+        """A worker on a new table or on one that is there, up to its answer, if it doesn't wait for ever."""
+        tables = len(self.plain.machine.tables)
+        if tables == 0 or self.random.random() < 0.3:
+            yield "table"
+        table = max(1, len(self.plain.machine.tables) - self.random.choice([0, 0, 0, 1]))
+        pending = self.plain.pager.pending()
+        references = ",".join(self.reference(CALLER) for _ in range(self.random.choice([0, 1, 1, 2, 3])))
+        item = f"item {table} {self.random.choice(['-', '2a', '0100', '07'])}:{references}"
+        made = yield f"listed {table} {self.random.randrange(pending + 1)}" if pending and self.random.random() < 0.6 else item
+        if made.startswith("ok"):
+            number, waited = int(made[3:]), 0
+            while not self.is_done("work", number) and waited < 12:
+                answer = yield f"work {number} {self.random.choice([1, 1, 2, 3, 5, 8])}"
+                waited += answer.endswith("waiting")
+
+    PLANS = [grow, grow, loading, loading, loading, settling, listing, listing, working, working, working]
+
+    def stored(self, node, levels):
+        """Stores what a node holds over its children's keys: the key, or None where it is gone, too deep or refused."""
+        cell = self.plain.pager.cells.get(node)
+        value = cell and cell.value
+        if value is None or levels == 0 or value.node_type == RowTypes.NOTE:
+            return cell and cell.key
+        keys = []
+        for _, number in value.references:
+            handle = self.plain.pager.handles.get(number)
+            keys.append(handle and (yield from self.stored(handle.node, levels - 1)))
+        if None in keys:
+            return None
+        answer = yield f"store {Blob(RowTypes.write(value), tuple(keys)).text()}"
+        if not answer.startswith("ok"):
+            return None
+        self.types[int(answer[3:])] = value.node_type
+        return int(answer[3:])
 
 
 def main(words):
@@ -224,7 +470,8 @@ def main(words):
         with open(words[1], encoding="utf-8") as lines:
             print("\n".join(filter(None, (rows.answer(line) for line in lines.read().splitlines() if line[:1] not in ("", "#")))))
     elif len(words) >= 3 and words[0] == "draw":
-        print("\n".join(Draw(int(words[1])).rows(int(words[2]), "looks" in words)))
+        drawn = DrawEvents(int(words[1])) if "events" in words else Draw(int(words[1]))
+        print("\n".join(drawn.rows(int(words[2]), "looks" in words)))
     else:
         sys.exit(__doc__)
 

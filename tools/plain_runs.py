@@ -1,208 +1,97 @@
 #!/usr/bin/env python3
-"""Runs of calls over values with references, each with the answers of another model, held against a plain pager.
+"""Runs of calls over values with references, each with the answers of another model, held against the plain pager of plain_rows.py.
 
     plain_runs.py FILE           tells the first difference of each run, how many runs and steps were alike, and of which calls
-    plain_runs.py FILE rows N..  prints the calls that the runs of these numbers come to as rows for plain_rows.py, each with a look at its end
+    plain_runs.py FILE rows N..  prints the rows of events that the runs of these numbers come to, each with a look at its end; all for no number
 
-Each line of the file is a run: a JSON object with steps, and what each step answers and leaves. Handles have names there. Page-out
-is no call of the pager's; it is done here, by one walk, so that what comes after it stands over the same store.
+Each line of the file is a run: a JSON object with steps, and what each step answers and leaves. Handles have names there.
 """
 
-import hashlib
 import json
 import sys
 from collections import Counter
 
 sys.dont_write_bytecode = True
-from plain_pager import (ALL_MODES, CALLER, DEEPEST, TOO_DEEP, WRONG_KIND, Blob, Bytes, Machine, Needs, Pager, Refused, Storage, Value,
-                         is_lazy, modes_of, refuse_first, type_of)
+from plain_pager import RowTypes
+from plain_rows import Rows
+
+TEXT, MIXED, LINK, ARC_LINK = range(4)
+TYPES = {TEXT: RowTypes.NAME, MIXED: RowTypes.MIXED, LINK: RowTypes.LINK, ARC_LINK: RowTypes.ARC_LINK}
+LISTS = (3, 4, 5, 1, 0)
 
 
-def sha_key(blob):
-    return int.from_bytes(hashlib.sha256(blob.preimage()).digest()[:16], "little") or 1
+def kind_here(kind):
+    return 3 * TYPES[kind // 3] + kind % 3
 
 
-class RunTypes:
-    """Texts; a byte with five lists of references; and two types of at most one reference."""
-
-    TEXT, MIXED, LINK, ARC_LINK = range(4)
-    LISTS = (3, 4, 5, 1, 0)
-    OF_ONE = {LINK: 7, ARC_LINK: 9}
-
-    @classmethod
-    def write(cls, value):
-        if value.node_type == cls.TEXT:
-            return bytes([len(value.content.encode())]) + value.content.encode()
-        if value.node_type == cls.MIXED:
-            return bytes(value.content)
-        return bytes([len(value.references)])
-
-    @classmethod
-    def read(cls, node_type, blob):
-        """Asks for each reference by kind and key, gets its handle, and ends in the value."""
-        taken, references, content = Bytes(blob), [], None
-        if node_type == cls.TEXT:
-            content = taken.string()
-        elif node_type == cls.MIXED:
-            content = [taken.take(1)[0]]
-            for kind in cls.LISTS:
-                content.append(taken.length())
-                for _ in range(content[-1]):
-                    references.append((kind, (yield kind, taken.reference())))
-        elif node_type not in cls.OF_ONE:
-            raise Refused(WRONG_KIND)
-        elif taken.bool():
-            kind = cls.OF_ONE[node_type]
-            references.append((kind, (yield kind, taken.reference())))
-        return Value(node_type, content, references)
-
-    @classmethod
-    def made(cls, told, numbers):
-        """The value that a run tells, whose references name handles."""
-        node_type, parts = told["type"], told["value"]
-        if node_type == cls.TEXT:
-            return Value(node_type, parts)
-        if node_type == cls.MIXED:
-            lists, content = parts[1:], [int(parts[0])] + [len(part) for part in parts[1:]]
-        else:
-            lists, content = [[part["some"] for part in parts if part != "none"]], None
-        return Value(node_type, content, [(r["kind"], numbers[r["handle"]]) for part in lists for r in part])
-
-    @classmethod
-    def told(cls, value, pager):
-        """The same the other way, with labels in place of nodes."""
-        labels, references = {}, []
-        for kind, number in value.references:
-            references.append({"kind": kind, "node": labels.setdefault(pager.node_of(number), len(labels))})
-        if value.node_type == cls.TEXT:
-            parts = value.content
-        elif value.node_type == cls.MIXED:
-            rest = iter(references)
-            parts = [str(value.content[0])] + [[next(rest) for _ in range(count)] for count in value.content[1:]]
-        else:
-            parts = [{"some": references[0]}] if references else ["none"]
-        return {"type": value.node_type, "value": parts}
+KINDS = {kind_here(kind): kind for kind in range(12)}
 
 
-class Walk:
-    """A page-out by one worker: each identity once, children before parents. `slots` has key and height of what was stored."""
-
-    def __init__(self, machine):
-        self.machine, self.pager, self.slots, self.claimed = machine, machine.pager, {}, set()
-
-    def blob(self, data, references, place):
-        """Stores bytes with what they refer to: the key, and the height of the longest path below."""
-        keys, height = [], 0
-        for kind, number in references:
-            key, below = self.reference(kind, number, 0 if is_lazy(kind) else place + 1)
-            keys.append(key)
-            height = max(height, 0 if is_lazy(kind) else below + 1)
-        return self.pager.store(Blob(data, tuple(keys))), height
-
-    def reference(self, kind, number, place):
-        pager = self.pager
-        refuse_first([pager.cause(number, pager.live(number).owner, modes_of(kind), type_of(kind))])
-        identity = (kind, pager.node_of(number))
-        if place > DEEPEST or identity in self.claimed or place + self.slots.get(identity, (0, 0))[1] > DEEPEST:
-            raise Refused(TOO_DEEP)
-        if identity not in self.slots:
-            self.claimed.add(identity)
-            self.slots[identity] = self.node(kind, pager.clone(number), place)
-            self.claimed.discard(identity)
-        return self.slots[identity]
-
-    def node(self, kind, own, place):
-        """Pins a handle of the walk's, writes and stores, sets the key, and gives up what it held."""
-        held = [own]
-        try:
-            if is_lazy(kind):
-                held.insert(0, pin_sync(self.machine, own))
-            value = self.pager.value(held[0])
-            key, height = self.blob(self.machine.types.write(value), value.references, place)
-            self.pager.set_data_key(own, key)
-            return key, height
-        finally:
-            for number in held:
-                self.pager.release(number)
-
-
-def pin_sync(machine, number):
-    """A pin whose load is run to its end."""
-    pinned = machine.pager.pin(number)
-    return machine.finish(machine.load_start(number).load) if isinstance(pinned, Needs) else pinned
-
-
-def page_out_pending(machine):
-    """What is listed at the call, from the last entry to the first; a cell that has a key is skipped."""
-    pager = machine.pager
-    for place in reversed(range(pager.pending())):
-        entry = pager.take_pending(place)
-        node = pager.node_of(entry)
-        if pager.key(entry) != "none":
-            pager.release(entry)
-        else:
-            walk = Walk(machine)
-            kind = 3 * pager.node_live(node) + 1
-            walk.claimed.add((kind, node))
-            walk.node(kind, entry, 0)
-
-
-class Told:
-    """A pager that keeps what it is called for as calls of rows. Types have other numbers there; all but texts are lists of references.
-    Keys are told, but no blob: what is stored and read is not in the rows."""
-
-    TYPES = {RunTypes.TEXT: 0, RunTypes.LINK: 2, RunTypes.MIXED: 3, RunTypes.ARC_LINK: 4}
-    OF_KIND = {"cache_get": 0, "on_arc_deserialized": 0, "load_fetch": 1, "load_adopt": 1, "load_lazy": 1}
-    CALLS = (*OF_KIND, "new_loose", "new_pinned", "new_shared", "new_paged_out", "clone", "pin", "unpin", "release", "into_pagable", "set_data_key",
-             "schedule_for_paging", "take_pending", "cache_clear", "load_begin", "load_key", "load_end", "load_take", "close_load")
-
-    def __init__(self, pager):
-        self.pager, self.calls = pager, []
-
-    def __getattr__(self, name):
-        found = getattr(self.pager, name)
-        if name not in self.CALLS:
-            return found
-        def call(*words):
-            if name != "load_fetch" or len(words) > 1:
-                self.calls.append(" ".join([name.replace("close_load", "load_drop"), *self.spelled(name, list(words))]))
-            return found(*words)
-        return call
-
-    def spelled_kind(self, kind):
-        return 3 * self.TYPES[type_of(kind)] + kind % 3
-
-    def spelled(self, name, words):
-        if name in self.OF_KIND:
-            words[self.OF_KIND[name]] = self.spelled_kind(words[self.OF_KIND[name]])
-        if name == "new_paged_out":
-            words[0] = self.TYPES[words[0]]
-        if name == "load_key":
-            words = words[:1]
-        return [self.spelled_value(word) if isinstance(word, Value) else str(word) for word in words]
-
-    def spelled_value(self, value):
-        if value.node_type == RunTypes.TEXT:
-            return "0 " + "".join(filter(str.isalnum, value.content))
-        handles = self.pager.handles
-        references = [f"{self.spelled_kind(kind)}:{handles[n].node if n in handles else 0}:{n}" for kind, n in value.references]
-        return f"{self.TYPES[value.node_type]} {','.join(references)}".strip()
+class Differs(Exception):
+    pass
 
 
 class Run:
-    """Answers the steps of one run. `numbers` has the handle of each name."""
+    """Plays the steps of one run as rows. `numbers` has the handle of each name."""
 
     def __init__(self):
-        self.pager = Told(Pager(Storage(key_of=sha_key)))
-        self.machine, self.numbers = Machine(self.pager, RunTypes), {}
+        self.rows, self.numbers, self.row = Rows(), {}, []
+        self.ask("machine sha256")
+        self.row = []
+
+    @property
+    def pager(self):
+        return self.rows.pager
+
+    def ask(self, event):
+        self.row.append(event)
+        return self.rows.answer(event)
+
+    # ---- values
+
+    def reference(self, told):
+        number = self.numbers[told["handle"]]
+        handle = self.pager.handles.get(number)
+        return f"{kind_here(told['kind'])}:{handle.node if handle else 0}:{number}"
+
+    def spelled(self, told):
+        """A value as rows spell it."""
+        parts = told["value"]
+        if told["type"] == TEXT:
+            return f"0 {parts}".strip()
+        lists = parts[1:] if told["type"] == MIXED else [[part["some"] for part in parts if part != "none"]]
+        tag = f"{parts[0]}/" if told["type"] == MIXED and parts[0] != "0" else ""
+        return f"{TYPES[told['type']]} {tag}{','.join(self.reference(r) for part in lists for r in part)}".strip()
+
+    @staticmethod
+    def told(node_type, spelled):
+        """The same the other way, with labels in place of nodes."""
+        if node_type == RowTypes.NAME:
+            return {"type": TEXT, "value": spelled}
+        (tag, _, words), labels, references = spelled.rpartition("/"), {}, []
+        for kind, node, _ in (word.split(":") for word in words.split(",") if word):
+            references.append({"kind": KINDS[int(kind)], "node": labels.setdefault(node, len(labels))})
+        if node_type == RowTypes.MIXED:
+            return {"type": MIXED, "value": [tag or "0"] + [[r for r in references if r["kind"] == kind] for kind in LISTS]}
+        return {"type": LINK if node_type == RowTypes.LINK else ARC_LINK, "value": [{"some": references[0]}] if references else ["none"]}
+
+    # ---- steps
 
     def answer(self, step):
         """What the step answers; names of new handles are those that the run tells."""
         names = step["reply"].get("as") if isinstance(step["reply"], dict) else None
-        try:
-            return getattr(self, "do_" + step["op"], self.do_call)(step, names)
-        except Refused as refusal:
-            return {"failed" if step["op"].startswith("page_out") else "refused": refusal.number}
+        return getattr(self, "do_" + step["op"], self.do_call)(step, names)
+
+    def reply(self, answer, names):
+        """An answer in words, as a run tells it."""
+        word, *rest = answer.split(" ")
+        if word == "refused":
+            return {"refused": int(rest[0])}
+        if word == "needs":
+            return {"needs": rest[0]}
+        if not rest or word == "none":
+            return None
+        return self.name(names, int(rest[0]))
 
     def name(self, name, number):
         if name is None:
@@ -211,47 +100,94 @@ class Run:
         return {"as": name}
 
     def do_call(self, step, names):
-        words = [int(step[word]) for word in ("kind", "key", "i") if word in step and step["op"] != "set_data_key"]
-        words += [self.numbers[step["handle"]]] if "handle" in step else []
-        words += [int(step["key"])] if step["op"] == "set_data_key" else []
-        words += [RunTypes.made(step["value"], self.numbers)] if "value" in step else []
-        words += [step["type"]] if "type" in step else []
-        if step["op"] == "new_paged_out":
-            words.reverse()
-        answer = getattr(self.pager, step["op"])(*words)
-        if isinstance(answer, Needs):
-            return {"needs": str(answer.key)}
-        return None if answer in (None, "none") or step["op"] == "into_pagable" else self.name(names, answer)
+        op, handle, key = step["op"], self.numbers.get(step.get("handle")), step.get("key")
+        words = {"cache_get": [step.get("kind"), key], "on_arc_deserialized": [step.get("kind"), key, handle], "set_data_key": [handle, key],
+                 "take_pending": [step.get("i")], "cache_clear": [], "new_paged_out": [TYPES.get(step.get("type")), key]}.get(op, [handle])
+        if "kind" in step:
+            words[0] = kind_here(step["kind"])
+        if "value" in step:
+            words = [self.spelled(step["value"])]
+        answer = self.ask(" ".join(map(str, [op, *words])))
+        return None if op == "into_pagable" and answer.startswith("ok") else self.reply(answer, names)
+
+    def load(self, begun):
+        """Steps to the end of a load: what ended it."""
+        number, steps = begun.split()[1], 0
+        answer = "more"
+        while answer.startswith("more"):
+            answer, steps = self.rows.answer(f"step {number}"), steps + 1
+        self.row.append(f"step {number} {steps}")
+        return answer
 
     def do_pin_sync(self, step, names):
-        return self.name(names, pin_sync(self.machine, self.numbers[step["handle"]]))
+        handle = self.numbers[step["handle"]]
+        answer = self.ask(f"pin {handle}")
+        if answer.startswith("needs"):
+            word, _, last, *_ = self.load(self.ask(f"start {handle}")).split(" ")
+            answer = f"{'ok' if word == 'pinned' else word} {last}"
+        return self.reply(answer, names)
 
     def do_value(self, step, _):
         value = self.pager.value(self.numbers[step["handle"]])
-        return {"value": None if value is None else RunTypes.told(value, self.pager)}
+        return {"value": None if value is None else self.told(value.node_type, self.rows.spelled(value))}
 
     def do_read(self, step, names):
-        value = self.machine.finish(self.machine.load_key(int(step["key"]), step["type"]).load)
-        given = [number for _, number in value.references]
+        node_type = TYPES[step["type"]]
+        answer, _, spelled = self.load(self.ask(f"read {step['key']} {node_type}")).partition(" = ")
+        if answer.startswith("refused"):
+            return {"refused": int(answer.split()[2])}
+        given = [int(word.split(":")[2]) for word in spelled.rpartition("/")[2].split(",") if word] if node_type != RowTypes.NAME else []
         self.numbers.update(zip(names or [], given))
-        return {"value": RunTypes.told(value, self.pager), "as": names if len(names or []) == len(given) else given}
+        return {"value": self.told(node_type, spelled), "as": names if len(names or []) == len(given) else given}
+
+    def work(self, made):
+        """Steps of a worker to its answer."""
+        number, steps = int(made.split()[1]), 0
+        while not self.rows.machine.workers[number - 1].is_done:
+            answer, steps = self.rows.answer(f"work {number}"), steps + 1
+        self.row.append(f"work {number} {steps}")
+        word, *key = answer.partition(" -> ")[2].split(" ")
+        return {"key": key[0]} if word == "ok" else {"failed": int(key[0])} if word == "failed" else "already failed"
 
     def do_page_out_item(self, step, _):
-        references = [(r["kind"], self.numbers[r["handle"]]) for r in step["refs"]]
-        return {"key": str(Walk(self.machine).blob(bytes.fromhex(step["data"]), references, 0)[0])}
+        references = ",".join(map(self.reference, step["refs"]))
+        table = self.ask("table").split()[1]
+        return self.work(self.ask(f"item {table} {step['data'] or '-'}:{references}"))
 
     def do_page_out_pending(self, *_):
-        page_out_pending(self.machine)
+        """What is listed at the call, from the last entry to the first; a cell that has a key is skipped."""
+        for place in reversed(range(self.pager.pending())):
+            entry = self.pager.list[place]
+            if self.pager.key(entry) != "none":
+                self.ask(f"take_pending {place}")
+                self.ask(f"release {entry}")
+                continue
+            table = self.ask("table").split()[1]
+            answer = self.work(self.ask(f"listed {table} {place}"))
+            if "key" not in answer:
+                return answer
+        return None
 
-    def state(self):
+    # ---- what they leave
+
+    def compare(self, step):
+        """Raises at the first thing that isn't as the run tells it."""
+        answer, wanted = self.answer(step), plain(step["reply"])
+        if answer != wanted:
+            raise Differs(f"{answer}, and not {wanted}")
+        self.compare_state(step["state"])
+
+    def compare_state(self, state):
         """How long the list is, the names of each node, and of each live handle the count, the key, and whether it is away."""
-        pager, nodes, rows = self.pager, {}, {}
+        pager, nodes, handles = self.pager, {}, {}
         for name, number in self.numbers.items():
             if number in pager.handles:
                 nodes.setdefault(pager.node_of(number), []).append(name)
                 key = pager.key(number)
-                rows[name] = [pager.count(number), None if key == "none" else str(key), pager.is_paged_out(number) == "yes"]
-        return {"pending": pager.pending(), "same": sorted(map(sorted, nodes.values())), "handles": rows}
+                handles[name] = [pager.count(number), None if key == "none" else str(key), pager.is_paged_out(number) == "yes"]
+        left = {"pending": pager.pending(), "same": sorted(map(sorted, nodes.values())), "handles": handles}
+        if left != dict(state, same=sorted(map(sorted, state["same"]))):
+            raise Differs(f"it leaves {left}, and not {state}")
 
 
 def plain(reply):
@@ -265,50 +201,45 @@ def first_difference(steps, alike):
     """Plays a run up to the first step that answers or leaves another thing, and tells it."""
     run = Run()
     for place, step in enumerate(steps):
-        wanted = dict(step["state"], same=sorted(map(sorted, step["state"]["same"])))
-        answer = run.answer(step)
-        if answer != plain(step["reply"]):
-            return f"step {place}, {step['op']}: {answer}, and not {step['reply']}"
-        if run.state() != wanted:
-            return f"step {place}, {step['op']} leaves {run.state()}, and not {wanted}"
+        try:
+            run.compare(step)
+        except Differs as difference:
+            return f"step {place}, {step['op']}: {difference}"
         alike[step["op"]] += 1
     return None
 
 
 def rows_of(steps):
-    """The calls of a run's steps, some steps in a row, and a look at what they left."""
+    """The events of a run's steps, some steps in a row, and a look at what they left. A second word `read` would make a row one of values."""
     run, row = Run(), []
-    yield "machine"
-    for step in steps:
-        run.answer(step)
-        row += run.pager.calls
-        run.pager.calls = []
-        if len(row) > 9:
+    yield "machine sha256"
+    for step in [*steps, None]:
+        if step:
+            run.compare(step)
+            row, run.row = row + run.row, []
+        if len(row) > 9 or row and step is None:
             yield "; ".join(row)
             row = []
-    if row:
-        yield "; ".join(row)
     yield f"look {run.pager.last_handle}"
 
 
 def main(words):
-    if len(words) > 2 and words[1] == "rows":
-        with open(words[0], encoding="utf-8") as lines:
-            runs = [json.loads(line)["steps"] for line in lines]
-        print("\n".join(row for number in words[2:] for row in rows_of(runs[int(number) - 1])))
-        return
-    if len(words) != 1:
-        sys.exit(__doc__)
-    alike, differ, runs = Counter(), 0, 0
     with open(words[0], encoding="utf-8") as lines:
-        for runs, line in enumerate(lines, 1):
-            difference = first_difference(json.loads(line)["steps"], alike)
-            if difference:
-                differ += 1
-                print(f"run {runs}, {difference}")
-    print(f"{runs - differ} of {runs} runs alike, {sum(alike.values())} steps:", ", ".join(f"{op} {n}" for op, n in sorted(alike.items())))
+        runs = [json.loads(line)["steps"] for line in lines]
+    if words[1:2] == ["rows"]:
+        print("\n".join(row for number in words[2:] or range(1, len(runs) + 1) for row in rows_of(runs[int(number) - 1])))
+        return
+    alike, differ = Counter(), 0
+    for number, steps in enumerate(runs, 1):
+        difference = first_difference(steps, alike)
+        if difference:
+            differ += 1
+            print(f"run {number}, {difference}")
+    print(f"{len(runs) - differ} of {len(runs)} runs alike, {sum(alike.values())} steps:", ", ".join(f"{op} {n}" for op, n in sorted(alike.items())))
     sys.exit(1 if differ else 0)
 
 
 if __name__ == "__main__":
+    if len(sys.argv) < 2:
+        sys.exit(__doc__)
     main(sys.argv[1:])

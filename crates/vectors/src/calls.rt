@@ -1,39 +1,43 @@
-//! Rows of calls for a machine over a pager of texts.
+//! Rows of events for a machine over a pager of their values.
 
 pub mod answers;
 pub mod asked;
 pub mod looks;
 pub mod nodes;
+pub mod references;
 
 use crate::calls::asked::{events, split};
 use crate::calls::looks::look;
 use crate::calls::nodes::{CellEnv, CellNode};
 use anyhow::bail;
 use pagable::{
-    Call, Event, InMemoryBlobs, Machine, PagableData, PagableStorage, Pager, SerializedData,
+    Call, Event, InMemoryBlobs, KeyHash, Machine, PagableData, PagableStorage, Pager,
+    SerializedData, Sha256Key, WeighHash,
 };
 use pagable_examples::FailingStorage;
 use std::alloc::Global;
 
-pub type CellStorage = FailingStorage<InMemoryBlobs<CellEnv>>;
+pub type CellStorage<H> = FailingStorage<InMemoryBlobs<CellEnv<H>>>;
 
-pub type CellPager = Pager<CellEnv, CellStorage>;
+pub type CellPager<H> = Pager<CellEnv<H>, CellStorage<H>>;
 
-pub type CellMachine = Machine<CellEnv, CellStorage>;
+pub type CellMachine<H> = Machine<CellEnv<H>, CellStorage<H>>;
 
 pub type CellCall = Call<CellNode, PagableData>;
 
 pub type CellEvent = Event<CellNode, PagableData, SerializedData>;
 
-/// Answers rows of calls, by the machine that the last row of the word `machine` has made.
+/// Answers rows of events, by the machine that the last row of the word `machine` has made: by this hash or by that.
 #[derive(Drop)]
 pub struct Calls {
-    machine: CellMachine,
+    weigh: CellMachine<WeighHash>,
+    sha256: CellMachine<Sha256Key>,
+    is_sha256: bool,
 }
 
 /// A storage without blobs, of which one call fails, after as many others as the word tells, or which is closed.
-fn storage_of(alloc: Global, word: &str) -> CellStorage {
-    let mut blobs: InMemoryBlobs<CellEnv> = InMemoryBlobs::new(alloc);
+fn storage_of<H: KeyHash>(alloc: Global, word: &str) -> CellStorage<H> {
+    let mut blobs: InMemoryBlobs<CellEnv<H>> = InMemoryBlobs::new(alloc);
     if word == "closed" {
         blobs.close();
     }
@@ -41,42 +45,69 @@ fn storage_of(alloc: Global, word: &str) -> CellStorage {
 }
 
 /// A pager without cells over such a storage.
-pub fn pager_over(alloc: Global, word: &str) -> CellPager {
-    Pager::new(alloc, storage_of(alloc, word), CellEnv)
+pub fn pager_over<H: KeyHash>(alloc: Global, word: &str) -> CellPager<H> {
+    Pager::new(alloc, storage_of(alloc, word), CellEnv::new())
 }
 
 /// A machine over such a storage.
-fn machine_over(alloc: Global, word: &str) -> CellMachine {
-    Machine::new(alloc, storage_of(alloc, word), CellEnv)
+fn machine_over<H: KeyHash>(alloc: Global, word: &str) -> CellMachine<H> {
+    Machine::new(alloc, storage_of(alloc, word), CellEnv::new())
 }
 
 impl Calls {
-    /// A machine without cells, of whose storage no call fails.
+    /// Machines without cells, of whose storages no call fails.
     pub fn new(alloc: Global) -> Calls {
         Calls {
-            machine: machine_over(alloc, ""),
+            weigh: machine_over(alloc, ""),
+            sha256: machine_over(alloc, ""),
+            is_sha256: false,
         }
     }
 
     /// The answer to a row, in one line.
     pub fn answer(&mut self, alloc: Global, line: &str) -> anyhow::Result<String> {
         let (word, rest) = split(line);
-        match word {
-            "machine" => {
-                self.machine = machine_over(alloc, rest);
-                Ok(String::new(alloc))
-            }
-            "look" => look(alloc, self.machine.pager(), rest.parse::<u64>()?),
-            _ => run(alloc, &mut self.machine, line),
+        if word == "machine" {
+            self.is_sha256 = rest == "sha256";
+            self.weigh = machine_over(alloc, rest);
+            self.sha256 = machine_over(alloc, "");
+            return Ok(String::new(alloc));
+        }
+        if self.is_sha256 {
+            answer(alloc, &mut self.sha256, line)
+        } else {
+            answer(alloc, &mut self.weigh, line)
         }
     }
 }
 
-/// The answers to a row's events, which the machine gets as one list.
-fn run(alloc: Global, machine: &mut CellMachine, line: &str) -> anyhow::Result<String> {
+/// The answer to a row by a machine: a look at its pager, or to a list of events, or to the last of such a list.
+fn answer<H: KeyHash>(
+    alloc: Global,
+    machine: &mut CellMachine<H>,
+    line: &str,
+) -> anyhow::Result<String> {
+    let (word, rest) = split(line);
+    match word {
+        "look" => look(alloc, machine.pager(), rest.parse::<u64>()?),
+        "last" => run(alloc, machine, rest, true),
+        _ => run(alloc, machine, line, false),
+    }
+}
+
+/// The answers to a row's events, which the machine gets as one list, or the last of them.
+fn run<H: KeyHash>(
+    alloc: Global,
+    machine: &mut CellMachine<H>,
+    line: &str,
+    is_last: bool,
+) -> anyhow::Result<String> {
     let events = events(alloc, line)?;
     match machine.run(alloc, events) {
-        Ok(replies) => answers::replies(alloc, replies.as_slice()),
+        Ok(replies) => {
+            let first = if is_last { replies.len().saturating_sub(1) } else { 0 };
+            answers::replies(alloc, &replies.as_slice()[first..])
+        }
         Err(_) => bail!("no memory for the replies"),
     }
 }

@@ -1,19 +1,21 @@
 //! The worked rows. What they expect was worked out by hand from the rules of the wire format, of keys and of cells.
 
 use crate::blobs::bytes_of;
+use crate::calls::asked::item;
 use crate::calls::nodes::node;
 use crate::calls::{Calls, CellPager, pager_over};
 use crate::lines;
 use anyhow::{Context, bail, ensure};
-use pagable::paging::{page_out_pending, pin};
-use pagable::{DataKey, Error, PagableSerialize, PagableVecFlavor, WorkerAnswer};
+use pagable::paging::{page_out_item, page_out_pending, pin};
+use pagable::{DataKey, Error, PagableSerialize, PagableVecFlavor, WeighHash, WorkerAnswer};
 use row_values::carried::{AnyEnv, written};
 use serde_json::Value;
 use std::alloc::Global;
+use std::sync::Arc;
 use std::time::Duration;
 
-/// The numbers of the rows that are whole, in order.
-const NUMBERS: [u32; 17] = [1, 2, 3, 4, 5, 6, 7, 8, 9, 12, 13, 14, 17, 21, 22, 23, 24];
+/// The number of the last row.
+const LAST: u32 = 24;
 
 /// The rows' lines: a row's number, what is asked of it, and what has to be answered. They are one text, since an array of as many
 /// would be a third of the check of this crate.
@@ -42,6 +44,16 @@ const LINES: &'static str = "1: u16 read ac02 -> ok 2 = 300
 9: load_begin 1; load_fetch 1 -> load 1 16879; 0x0b68656c6c6f20776f726c64
 9: load_end 1 0 hello world; count 1 -> ok 5; ok 2
 9: look 5 -> pending 0; 1: 1 2 16879 here = hello world; 5: 1 2 16879 here = hello world
+10: machine ->
+10: new_shared 0 hello world; table; item 1 2a:0:1:1 -> ok 1; ok 1; ok 1
+10: last work 1 8 -> 8 store 3484 -> ok 3484
+10: fetch 3484; fetch 16879; work 1 -> 0x2a; 0x0b68656c6c6f20776f726c64; refused 18
+11: machine ->
+11: new_shared 0 shared; clone 1; table; item 1 02:0:1:1,0:1:2 -> ok 1; ok 2; ok 1; ok 1
+11: work 1 5 -> 1 claim 0:1 claimed; 2 pin 0:1 held 3; 3 write 0:1 0x06736861726564:; 4 store 0:1 7908; 5 set 0:1
+11: work 1 4 -> 6 publish 0:1 7908 0; 7 release 0:1; 8 claim 0:1 known 7908 0; 9 store 9368 -> ok 9368
+11: fetch 7908; fetch 9368; release 1; release 2; node_live 1; read 9368 5; step 1 5 -> 0x06736861726564; 0x02; ok; ok; none; load 1 9368; more 1; more 2; more 3; more 4; read 5 = 0:2:4,0:2:5
+11: node_of 4; node_of 5; count 4; release 4; release 5; node_live 2; cache_get 0 7908 -> ok 2; ok 2; ok 2; ok; ok; none; none
 12: machine ->
 12: new_pinned 0 x; clone 1; into_pagable 2; count 2; unpin 2; count 2; release 1; count 2 -> ok 1; ok 2; ok 2; ok 2; ok; ok 1; ok; ok 0
 12: is_paged_out 2; pending; clone 2; count 2; pin 4; count 2 -> no; ok 1; ok 4; ok 0; ok 5; ok 2
@@ -51,9 +63,49 @@ const LINES: &'static str = "1: u16 read ac02 -> ok 2 = 300
 13: load_end 1 0 hello world; count 1; release 5; count 1; unpin 1; count 1; is_paged_out 1 -> ok 5; ok 2; ok; ok 1; ok; ok 0; yes
 13: load_end 2 0 hello world; count 2 -> ok 6; ok 2
 13: look 2 -> pending 0; 1: 1 2 16879 here; 2: 1 2 16879 here = hello world
+15: machine ->
+15: new_pinned 0 shared; clone 1; into_pagable 2; table; item 1 -:2:1:1,1:1:2 -> ok 1; ok 2; ok 2; ok 1; ok 1
+15: work 1 7 -> 1 claim 2:1 claimed; 2 pin 2:1 held 3; 3 write 2:1 0x06736861726564:; 4 store 2:1 7908; 5 set 2:1; 6 publish 2:1 7908 0; 7 release 2:1
+15: work 1 8 -> 8 claim 1:1 claimed; 9 pin 1:1 held 5; 10 write 1:1 0x06736861726564:; 11 store 1:1 7908; 12 set 1:1; 13 publish 1:1 7908 0; 14 release 1:1; 15 store 8834 -> ok 8834
+15: key 2; is_paged_out 2; count 2; fetch 7908; fetch 8834 -> ok 7908; no; ok 2; 0x06736861726564; 0x
+16: machine ->
+16: new_shared 1 x; table; item 1 2a:3:1:1; item 1 2a:3:1:1 -> ok 1; ok 1; ok 1; ok 2
+16: work 1 4; work 2 2 -> 1 claim 3:1 claimed; 2 pin 3:1 held 2; 3 write 3:1 refused 26; 4 fail -> failed 26; 1 claim 3:1 failed; 2 fail -> already
+16: new_loose 1 x; unpin 3; pending; table; listed 2 0 -> ok 3; ok; ok 1; ok 2; ok 3
+16: work 3 4; pending; key 3 -> 1 claim 4:2 claimed; 2 pin 4:2 held 6; 3 write 4:2 refused 26; 4 fail -> failed 26; ok 1; none
 17: machine ->
 17: store 0009; store 0a00 -> ok 90; refused 24
 17: fetch 90 -> 0x0009
+18: machine sha256 ->
+18: last chain new_loose 3 10 130 -> ok 130
+18: unpin 130; table; listed 1 0 -> ok; ok 1; ok 1
+18: last work 1 910 -> 910 release 10:130 -> ok 64774723321446467605344910487651106384
+18: cache_clear; pending; is_paged_out 130; start 130; step 1 3 -> ok; ok 0; yes; load 1 64774723321446467605344910487651106384; more 1; more 2; pinned 3 394
+18: look 130 -> pending 0; 130: 130 2 64774723321446467605344910487651106384 here = 10:131:393
+18: node_of 393; count 393; key 393; is_paged_out 393; node_of 394; count 394 -> ok 131; ok 0; ok 40657111461448115765714812676886398291; yes; ok 130; ok 2
+18: read 254169985673604946527097160104706273342 3; step 2 2; pending -> load 2 254169985673604946527097160104706273342; more 1; read 2 = ; ok 0
+18: machine sha256 ->
+18: last chain new_shared 4 12 128 -> ok 128
+18: new_loose 4 12:128:128; unpin 129; table; listed 1 0 -> ok 129; ok; ok 1; ok 1
+18: last work 1 903 -> 903 release 13:129 -> ok 40657111461448115765714812676886398291
+18: cache_clear; is_paged_out 129; start 129 -> ok; yes; load 1 40657111461448115765714812676886398291
+18: last step 1 258 -> pinned 258 390
+18: machine sha256 ->
+18: last chain new_shared 4 12 129 -> ok 129
+18: new_loose 4 12:129:129; unpin 130; table; listed 1 0 -> ok 130; ok; ok 1; ok 1
+18: last work 1 389 -> 389 fail -> failed 7
+18: pending; key 130 -> ok 1; none
+19: machine ->
+19: store 01:1415; read 1415 3; step 1 3; key 1; is_paged_out 1; count 1 -> ok 1415; load 1 1415; more 1; more 2; read 3 = 10:1:1; ok 1415; yes; ok 0
+19: table; item 1 01:10:1:1 -> ok 1; ok 1
+19: work 1 8 -> 1 claim 10:1 claimed; 2 pin 10:1 load 2; 2 pin 10:1 went; 2 pin 10:1 went; 2 pin 10:1 held 5; 3 write 10:1 0x01:10:1:4; 4 claim 10:1 refused 7; 5 fail -> failed 7
+20: machine ->
+20: new_shared 0 hello world; clone 1; new_loose 6 0:1:1; new_loose 6 0:1:2; unpin 3; unpin 4; table; listed 1 1; listed 1 0 -> ok 1; ok 2; ok 3; ok 4; ok; ok; ok 1; ok 1; ok 2
+20: last work 1 14 -> 14 release 19:3 -> ok 2802
+20: last work 2 8 -> 8 release 19:2 -> ok 2802
+20: key 3; key 4; fetch 16879; fetch 2802 -> ok 2802; ok 2802; 0x0b68656c6c6f20776f726c64; 0x
+20: start 3; step 1 4; start 4; step 2 3 -> load 1 2802; more 1; more 2; more 3; pinned 4 14; load 2 2802; more 1; more 2; pinned 3 17
+20: look 20 -> pending 0; 3: 2 2 2802 here = 0:4:13; 4: 3 2 2802 here = 0:4:16; 13: 4 2 0 here = hello world; 14: 2 2 2802 here = 0:4:13; 16: 4 2 0 here = hello world; 17: 3 2 2802 here = 0:4:16
 21: String read 0261 01ff -> refused 1; refused 4
 21: String read 8080808010 -> refused 6
 21: char read 02c3a9 026162 -> ok 3; refused 5
@@ -130,8 +182,18 @@ fn write_over(alloc: Global) -> Result<bool, Error> {
     Ok(out.finalize().as_slice() == [9u8, 7].as_slice())
 }
 
+/// Whether an item that refers to a shared text comes to its key by one call.
+fn is_item_paged_out(alloc: Global, pager: &mut CellPager<WeighHash>) -> anyhow::Result<bool> {
+    if pager.new_shared(alloc, node(alloc, "0 hello world")?).is_err() {
+        bail!("a node is refused");
+    }
+    let item = Arc::new(alloc, item(alloc, "2a:0:1:1")?)?;
+    let key = DataKey::new(3484).context("0 is no key")?;
+    Ok(page_out_item(alloc, pager, item) == WorkerAnswer::Key(key))
+}
+
 /// Makes a cell that is listed twice.
-fn list_twice(alloc: Global, pager: &mut CellPager) -> anyhow::Result<()> {
+fn list_twice(alloc: Global, pager: &mut CellPager<WeighHash>) -> anyhow::Result<()> {
     let Ok(cell) = pager.new_loose(alloc, node(alloc, "0 x")?) else {
         bail!("a cell is refused");
     };
@@ -142,7 +204,7 @@ fn list_twice(alloc: Global, pager: &mut CellPager) -> anyhow::Result<()> {
 }
 
 /// Whether the page-out of a cell that is listed twice stores it once: the storage's second call fails, and is this fetch.
-fn is_stored_once(alloc: Global, pager: &mut CellPager) -> anyhow::Result<bool> {
+fn is_stored_once(alloc: Global, pager: &mut CellPager<WeighHash>) -> anyhow::Result<bool> {
     list_twice(alloc, pager)?;
     let listed = pager.pending();
     if let Err(WorkerAnswer::Failed(e)) = page_out_pending(alloc, pager) {
@@ -162,6 +224,7 @@ fn others_hold(alloc: Global, number: u32) -> anyhow::Result<bool> {
         ),
         4 => is_written(alloc, &vec![in alloc; -1i32, 1]?, "020102"),
         6 => arrays_hold(alloc),
+        10 => is_item_paged_out(alloc, &mut pager_over(alloc, "")),
         14 => is_stored_once(alloc, &mut pager_over(alloc, "1")),
         21 => is_written(alloc, &'é', "02c3a9"),
         24 => Ok(write_over(alloc)?),
@@ -179,7 +242,7 @@ fn is_ok(alloc: Global, number: u32) -> bool {
 /// Runs the rows, and prints a line for each.
 pub fn run(rt: &HostRuntime) -> anyhow::Result<()> {
     let mut all_ok = true;
-    for number in NUMBERS {
+    for number in 1..=LAST {
         let is_ok = is_ok(rt.alloc(), number);
         let word = if is_ok { "ok" } else { "failed" };
         println!(rt; "row {number} {word}")?;

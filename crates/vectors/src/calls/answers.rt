@@ -1,10 +1,12 @@
 //! What events answer, in words.
 
+use crate::calls::references::push_references;
 use crate::calls::nodes::CellNode;
 use pagable::{
-    Beginning, Error, EventReply, Found, LoadAnswer, LoadReply, OptionalDataKey, PagableData,
-    Pinning, Reply, SerializedData,
+    Beginning, Error, EventReply, Found, Identity, LoadAnswer, LoadReply, OptionalDataKey,
+    PagableData, Pinning, Reply, SerializedData, WorkerAnswer,
 };
+use pagable_world::{Claim, PinStep, Took, WorkerReply};
 use std::alloc::Global;
 use std::sync::Arc;
 
@@ -12,8 +14,13 @@ type CellReply = Reply<CellNode, Arc<PagableData>>;
 
 type CellAnswer = EventReply<CellNode, Arc<PagableData>, Arc<SerializedData>>;
 
-/// A word, and at most two numbers behind it.
+type CellTook = Took<Arc<SerializedData>>;
+
+/// A word, which may be empty, and at most two numbers behind it.
 type Told = (&'static str, Option<u128>, Option<u128>);
+
+/// Nothing more is told.
+const NOTHING: Told = ("", None, None);
 
 /// A refusal: its number, and the key or code that it carries.
 fn refused(word: &'static str, refusal: &Error) -> Told {
@@ -23,6 +30,11 @@ fn refused(word: &'static str, refusal: &Error) -> Told {
         _ => None,
     };
     (word, Some(refusal.number() as u128), second)
+}
+
+/// A refusal by its number alone.
+fn fault(word: &'static str, refusal: &Error) -> Told {
+    (word, Some(refusal.number() as u128), None)
 }
 
 /// What the begin of a load answers.
@@ -119,7 +131,7 @@ fn push_call(alloc: Global, text: &mut String, reply: &CellReply) -> anyhow::Res
     Ok(())
 }
 
-/// What a step of a load answers, and how many it has made.
+/// What a step of a load answers, and how many it has made, but for a value that was read.
 fn moved(moved: &LoadReply<CellNode>) -> Told {
     let steps = Some(moved.steps as u128);
     match &moved.ended {
@@ -130,14 +142,114 @@ fn moved(moved: &LoadReply<CellNode>) -> Told {
     }
 }
 
+/// What a step of a worker was: its kind, whom it was about, and what its call answered, but for what was written.
+fn took(took: &CellTook) -> (&'static str, Option<Identity>, Told) {
+    match took {
+        Took::Claim(identity, found) => (" claim", Some(*identity), claimed(found)),
+        Took::Pin(identity, step) => (" pin", Some(*identity), pinned(step)),
+        Took::Write(identity, Ok(_)) => (" write", Some(*identity), NOTHING),
+        Took::Write(identity, Err(e)) => (" write", Some(*identity), fault(" refused", e)),
+        Took::Store(identity, Ok(key)) => (" store", *identity, ("", Some(key.get()), None)),
+        Took::Store(identity, Err(e)) => (" store", *identity, fault(" refused", e)),
+        Took::SetKey(identity, Ok(_)) => (" set", Some(*identity), NOTHING),
+        Took::SetKey(identity, Err(e)) => (" set", Some(*identity), fault(" refused", e)),
+        Took::Publish(identity, key, height) => {
+            (
+                " publish",
+                Some(*identity),
+                ("", Some(key.get()), Some(*height as u128)),
+            )
+        }
+        Took::Release(identity) => (" release", Some(*identity), NOTHING),
+        Took::Fail => (" fail", None, NOTHING),
+    }
+}
+
+/// What a claim found.
+fn claimed(found: &Result<Claim, Error>) -> Told {
+    match found {
+        Ok(Claim::Claimed) => (" claimed", None, None),
+        Ok(Claim::Known(key, height)) => (" known", Some(key.get()), Some(*height as u128)),
+        Ok(Claim::Waiting) => (" waiting", None, None),
+        Ok(Claim::AlreadyFailed) => (" failed", None, None),
+        Err(e) => fault(" refused", e),
+    }
+}
+
+/// What a step of pinning did.
+fn pinned(step: &Result<PinStep, Error>) -> Told {
+    match step {
+        Ok(PinStep::Held(handle)) => (" held", Some(handle.0 as u128), None),
+        Ok(PinStep::LoadBegun(load)) => (" load", Some(load.0 as u128), None),
+        Ok(PinStep::LoadWent) => (" went", None, None),
+        Err(e) => fault(" refused", e),
+    }
+}
+
+/// What a worker answered in the end.
+fn worker_answer(answer: &WorkerAnswer) -> Told {
+    match answer {
+        WorkerAnswer::Key(key) => (" -> ok", Some(key.get()), None),
+        WorkerAnswer::Failed(e) => fault(" -> failed", e),
+        WorkerAnswer::AlreadyFailed => (" -> already", None, None),
+    }
+}
+
+/// Adds a step of a worker: how many it has made, the step, and the answer if it was the last.
+fn push_work(
+    alloc: Global,
+    text: &mut String,
+    reply: &WorkerReply<Arc<SerializedData>>,
+) -> anyhow::Result<()> {
+    let (kind, identity, told) = took(&reply.took);
+    text.push_str(format!(in alloc; "{}", reply.steps)?.as_str())?;
+    text.push_str(kind)?;
+    if let Some(it) = identity {
+        text.push_str(format!(in alloc; " {}:{}", it.kind.0, it.node.0)?.as_str())?;
+    }
+    push_words(alloc, text, told)?;
+    if let Took::Write(_, Ok(written)) = &reply.took {
+        push_written(alloc, text, written.as_ref())?;
+    }
+    match &reply.answer {
+        Some(answer) => push_words(alloc, text, worker_answer(answer)),
+        None => Ok(()),
+    }
+}
+
+/// Adds what was written of a value, as an item is spelled.
+fn push_written(alloc: Global, text: &mut String, written: &SerializedData) -> anyhow::Result<()> {
+    text.push_str(" 0x")?;
+    text.push_str(hex::encode(alloc, written.bytes.as_slice())?.as_str())?;
+    text.push_str(":")?;
+    push_references(alloc, text, written.arcs.as_slice())?;
+    Ok(())
+}
+
+/// Adds what a step of a load answers, with a value that was read.
+fn push_moved(alloc: Global, text: &mut String, reply: &LoadReply<CellNode>) -> anyhow::Result<()> {
+    push_words(alloc, text, moved(reply))?;
+    if let Some(LoadAnswer::Read(value)) = &reply.ended {
+        text.push_str(" = ")?;
+        value.push(alloc, text)?;
+    }
+    Ok(())
+}
+
 /// Adds what an event answers.
 fn push_event(alloc: Global, text: &mut String, answer: &CellAnswer) -> anyhow::Result<()> {
     let told = match answer {
         EventReply::CallReply(reply) => return push_call(alloc, text, reply),
+        EventReply::LoadMoved(Ok(reply)) => return push_moved(alloc, text, reply),
+        EventReply::WorkerMoved(Ok(reply)) => return push_work(alloc, text, reply),
         EventReply::Started(Ok(beginning)) => begun(beginning),
-        EventReply::LoadMoved(Ok(reply)) => moved(reply),
-        EventReply::Started(Err(e)) | EventReply::LoadMoved(Err(e)) => refused("refused", e),
-        _ => ("none", None, None),
+        EventReply::TableMade(Ok(table)) => ("ok", Some(table.0 as u128), None),
+        EventReply::WorkerMade(Ok(worker)) => ("ok", Some(worker.0 as u128), None),
+        EventReply::Started(Err(e))
+        | EventReply::LoadMoved(Err(e))
+        | EventReply::TableMade(Err(e))
+        | EventReply::WorkerMade(Err(e))
+        | EventReply::WorkerMoved(Err(e)) => refused("refused", e),
     };
     push_words(alloc, text, told)
 }

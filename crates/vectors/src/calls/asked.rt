@@ -1,10 +1,15 @@
 //! What a row asks for: events, parted by semicolons.
 
-use crate::blobs::blob;
+use crate::blobs::{blob, bytes_of};
+use crate::calls::references::references;
 use crate::calls::nodes::node;
 use crate::calls::{CellCall, CellEvent};
 use anyhow::{Context, bail};
-use pagable::{Call, DataKey, Event, HandleNumber, Kind, LoadNumber, NodeNumber, Want};
+use pagable::{
+    Call, DataKey, Event, HandleNumber, Kind, LoadNumber, NodeNumber, SerializedData, Want,
+    WorkerNumber,
+};
+use pagable_world::TableNumber;
 use std::alloc::Global;
 
 /// A word, and what stands behind it.
@@ -16,24 +21,74 @@ pub fn split(text: &str) -> (&str, &str) {
 pub fn events(alloc: Global, line: &str) -> anyhow::Result<Vec<CellEvent>> {
     let mut events = Vec::new(alloc);
     for part in line.split(';') {
-        events.push(event(alloc, part.trim())?)?;
+        push_events(alloc, &mut events, part.trim())?;
     }
     Ok(events)
 }
 
-/// One event: a step of a load, or a call.
+/// Adds one event, as many steps as are told, or a chain of births.
+fn push_events(alloc: Global, events: &mut Vec<CellEvent>, part: &str) -> anyhow::Result<()> {
+    if let Some(chain) = part.strip_prefix("chain ") {
+        return push_chain(alloc, events, chain);
+    }
+    let (one, times) = times_of(part);
+    for _ in 0..times {
+        events.push(event(alloc, one)?)?;
+    }
+    Ok(())
+}
+
+/// Adds so many births in a new pager, of which each refers to the one before: as `new_loose 3 10 130`, the call, the type, the kind of
+/// the references and how many.
+fn push_chain(alloc: Global, events: &mut Vec<CellEvent>, chain: &str) -> anyhow::Result<()> {
+    let (birth, times) = chain.rsplit_once(' ').context("no chain")?;
+    let (birth, kind) = birth.rsplit_once(' ').context("no chain")?;
+    events.push(event(alloc, birth)?)?;
+    for place in 1..number_of(times) {
+        let next = format!(in alloc; "{birth} {kind}:{place}:{place}")?;
+        events.push(event(alloc, next.as_str())?)?;
+    }
+    Ok(())
+}
+
+/// A step with its load or worker, and how often it is to be made; anything else once.
+fn times_of(part: &str) -> (&str, u64) {
+    if !part.starts_with("step ") && !part.starts_with("work ") {
+        return (part, 1);
+    }
+    match part.rsplit_once(' ') {
+        Some((one, times)) if one.contains(' ') => (one, number_of(times)),
+        _ => (part, 1),
+    }
+}
+
+/// One event: a step of a load or of a worker, or a call.
 fn event(alloc: Global, part: &str) -> anyhow::Result<CellEvent> {
     let (name, rest) = split(part);
     let (first, behind) = split(rest);
+    let number = number_of(first);
     match name {
-        "start" => Ok(Event::LoadStart(HandleNumber(number_of(first)))),
-        "step" => Ok(Event::LoadStep(LoadNumber(number_of(first)))),
+        "start" => Ok(Event::LoadStart(HandleNumber(number))),
+        "step" => Ok(Event::LoadStep(LoadNumber(number))),
         "read" => {
             let key = key_of(first).context("no key")?;
             Ok(Event::LoadKey(key, behind.parse::<u32>().unwrap_or_default()))
         }
+        "table" => Ok(Event::TableNew),
+        "item" => Ok(Event::WorkerItem(TableNumber(number), item(alloc, behind)?)),
+        "listed" => Ok(Event::WorkerListed(TableNumber(number), number_of(behind))),
+        "work" => Ok(Event::WorkerStep(WorkerNumber(number))),
         _ => Ok(Event::Call(call(alloc, part)?)),
     }
+}
+
+/// An item: data in hex, and behind a colon references as values have them.
+pub fn item(alloc: Global, spelled: &str) -> anyhow::Result<SerializedData> {
+    let (data, behind) = spelled.split_once(':').unwrap_or((spelled, ""));
+    Ok(SerializedData {
+        bytes: bytes_of(alloc, data)?,
+        arcs: references(alloc, behind)?,
+    })
 }
 
 /// One call: its name, and what it is about. A number that isn't there is 0, which nothing has.

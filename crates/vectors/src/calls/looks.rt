@@ -1,7 +1,7 @@
 //! Looks at a pager, which change nothing.
 
 use crate::calls::CellPager;
-use pagable::{Error, HandleNumber, OptionalDataKey};
+use pagable::{Error, HandleNumber, KeyHash, OptionalDataKey};
 use std::alloc::Global;
 
 /// The number of a key, or 0 for none.
@@ -13,7 +13,10 @@ fn number(key: OptionalDataKey) -> u128 {
 }
 
 /// A handle's node, the node's count and key, and whether the value is out of memory.
-fn seen(pager: &CellPager, handle: HandleNumber) -> Result<(u64, u64, u128, bool), Error> {
+fn seen<H: KeyHash>(
+    pager: &CellPager<H>,
+    handle: HandleNumber,
+) -> Result<(u64, u64, u128, bool), Error> {
     let node = pager.node_of(handle)?.0;
     let count = pager.count(handle)?;
     let key = number(pager.key(handle)?);
@@ -21,10 +24,10 @@ fn seen(pager: &CellPager, handle: HandleNumber) -> Result<(u64, u64, u128, bool
 }
 
 /// Adds a live handle: its number, its node, the node's count and key, whether the value is in memory, and the value.
-fn push(
+fn push<H: KeyHash>(
     alloc: Global,
     text: &mut String,
-    pager: &CellPager,
+    pager: &CellPager<H>,
     handle: HandleNumber,
 ) -> Result<(), Error> {
     let (node, count, key, is_away) = seen(pager, handle)?;
@@ -32,13 +35,13 @@ fn push(
     text.push_str(format!(in alloc; "; {}: {node} {count} {key} {place}", handle.0)?.as_str())?;
     if let Some(value) = pager.value(handle)? {
         text.push_str(" = ")?;
-        text.push_str(value.as_str())?;
+        value.push(alloc, text)?;
     }
     Ok(())
 }
 
 /// How long the list is, and each live handle from 1 up to this number.
-pub fn look(alloc: Global, pager: &CellPager, last: u64) -> anyhow::Result<String> {
+pub fn look<H: KeyHash>(alloc: Global, pager: &CellPager<H>, last: u64) -> anyhow::Result<String> {
     let mut text = format!(in alloc; "pending {}", pager.pending())?;
     for number in 1..=last {
         let _ = push(alloc, &mut text, pager, HandleNumber(number));

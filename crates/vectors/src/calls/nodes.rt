@@ -1,30 +1,33 @@
-//! The values of the rows: texts of two types, and lists of references of all others.
+//! The values of the rows, by the numbers of their types.
 
-use anyhow::bail;
+use crate::blobs::bytes_of;
+use crate::calls::references::{of_kind, of_kinds, push_references, references};
+use anyhow::{bail, ensure};
 use pagable::{
-    ArcRef, Env, Error, HandleNumber, Kind, NodeNumber, NodeSet, PagableDeserialize,
-    PagableDeserializer, PagableSerialize, PagableSerializer, WeighHash,
+    ArcRef, Env, Error, KeyHash, NodeSet, OfKind, PagableDeserialize, PagableDeserializer,
+    PagableSerialize, PagableSerializer, Reason, WeighHash,
+    references_of,
 };
 use std::alloc::Global;
+use std::marker::PhantomData;
 use std::sync::Arc;
 
-/// The number of the type of names.
-pub const NAMES: u32 = 0;
-
-/// The number of the type of notes.
-pub const NOTES: u32 = 1;
-
-/// The number of the first type of groups.
-pub const GROUPS: u8 = 2;
-
-/// The environment of names, notes and groups.
+/// The environment of these values, whose keys are made by the hash `H`.
 #[derive(Drop)]
-pub struct CellEnv;
+pub struct CellEnv<H> {
+    hash: PhantomData<H>,
+}
 
-impl Env for CellEnv {
+impl<H: KeyHash> CellEnv<H> {
+    pub fn new() -> CellEnv<H> {
+        CellEnv { hash: PhantomData }
+    }
+}
+
+impl<H: KeyHash> Env for CellEnv<H> {
     type Node = CellNode;
 
-    type Hash = WeighHash;
+    type Hash = H;
 
     type CtxKey = ();
 
@@ -35,36 +38,82 @@ impl Env for CellEnv {
     ghost parts = { λ e number. nothing };
 }
 
-/// A text or a list of references as a node's value.
+/// References of each sort to values of their own type, and to names, loose and shared.
+type Lists = (
+    Vec<OfKind<6>>,
+    (Vec<OfKind<7>>, (Vec<OfKind<8>>, (Vec<OfKind<1>>, Names))),
+);
+
+/// A link to the next one by a loose reference: of its own kind.
+type Link = Option<OfKind<10>>;
+
+/// A link to the next one by a shared reference: of its own kind.
+type ArcLink = Option<OfKind<12>>;
+
+/// Shared references to names.
+type Names = Vec<OfKind<0>>;
+
+/// A node's value.
 #[derive(Drop)]
 pub enum CellNode {
-    /// Of the type 0.
+    /// Of the type 0: a text.
     Name(Arc<String>),
-    /// Of the type 1.
+    /// Of the type 1: a text that can be read, and whose writer refuses.
     Note(Arc<String>),
-    /// Of the type 2, or of the one that is so many higher. Rows only hand it in: as if memory were always wanting, it is never written
-    /// nor read.
-    Group(u8, Arc<Vec<ArcRef>>),
+    /// Of the type 2: a byte and lists.
+    Mixed((u8, Lists)),
+    /// Of the type 3.
+    Link(Link),
+    /// Of the type 4.
+    ArcLink(ArcLink),
+    /// Of the type 5.
+    Names(Names),
+    /// Of the type 6: a shared reference to a name, and no byte.
+    Holder(OfKind<0>),
+    /// Of the type 7: two bytes.
+    Bytes(u8, u8),
 }
 
 impl CellNode {
-    /// The text, or a word for a list of references.
-    pub fn as_str(&self) -> &str {
+    /// Adds the value as rows spell it, but for its type.
+    pub fn push(&self, alloc: Global, text: &mut String) -> Result<(), Error> {
         match self {
-            CellNode::Name(text) | CellNode::Note(text) => text.as_ref().as_str(),
-            CellNode::Group(_, _) => "references",
+            CellNode::Name(name) | CellNode::Note(name) => text.push_str(name.as_ref().as_str())?,
+            CellNode::Bytes(first, second) => {
+                text.push_str(hex::encode(alloc, &[*first, *second])?.as_str())?;
+            }
+            _ => {
+                let references = NodeSet::<CellEnv<WeighHash>>::refs(self, alloc)?;
+                self.push_tag(alloc, text)?;
+                push_references(alloc, text, references.as_slice())?;
+            }
         }
+        Ok(())
+    }
+
+    /// Adds the byte before lists, if it isn't 0.
+    fn push_tag(&self, alloc: Global, text: &mut String) -> Result<(), Error> {
+        if let CellNode::Mixed(mixed) = self {
+            let tag = mixed.0;
+            if tag != 0 {
+                text.push_str(format!(in alloc; "{tag}/")?.as_str())?;
+            }
+        }
+        Ok(())
     }
 }
 
-/// The value that a row spells, as `0 hello world`: its type, and all after the first space, or the empty text. A list of
-/// references is spelled `2 7:1:2,8:3:4`, also with a higher type: of each the kind, the node and the handle.
+/// The value that a row spells, as `0 hello world`: its type, and all after the first space, or the empty text. References are
+/// spelled `2 7:1:2,8:3:4`: of each the kind, the node and the handle, list after list. The byte stands before them, as in `2 5/7:1:2`, if it isn't 0.
 pub fn node(alloc: Global, spelled: &str) -> anyhow::Result<CellNode> {
     let (node_type, rest) = spelled.split_once(' ').unwrap_or((spelled, ""));
     match node_type {
         "0" => Ok(CellNode::Name(text(alloc, rest)?)),
         "1" => Ok(CellNode::Note(text(alloc, rest)?)),
-        _ => group(alloc, node_type.parse::<u8>()?, rest),
+        "2" => mixed(alloc, rest),
+        "7" => bytes(alloc, rest),
+        "5" => Ok(CellNode::Names(of_kinds(alloc, references(alloc, rest)?.as_slice())?)),
+        _ => referring(node_type, references(alloc, rest)?.as_slice()),
     }
 }
 
@@ -73,42 +122,43 @@ fn text(alloc: Global, text: &str) -> anyhow::Result<Arc<String>> {
     Ok(Arc::new(alloc, String::from_str(alloc, text)?)?)
 }
 
-/// A list of references of this type.
-fn group(alloc: Global, node_type: u8, spelled: &str) -> anyhow::Result<CellNode> {
-    let Some(higher) = node_type.checked_sub(GROUPS) else {
-        bail!("no type of references");
-    };
-    let references = references(alloc, spelled)?;
-    Ok(CellNode::Group(higher, Arc::new(alloc, references)?))
+/// A byte and lists.
+fn mixed(alloc: Global, spelled: &str) -> anyhow::Result<CellNode> {
+    let (tag, rest) = spelled.split_once('/').unwrap_or(("0", spelled));
+    let spelled = references(alloc, rest)?;
+    let own = of_kinds(alloc, spelled.as_slice())?;
+    let loose = of_kinds(alloc, spelled.as_slice())?;
+    let pinned = of_kinds(alloc, spelled.as_slice())?;
+    let loose_names = of_kinds(alloc, spelled.as_slice())?;
+    let names = of_kinds(alloc, spelled.as_slice())?;
+    let lists: Lists = (own, (loose, (pinned, (loose_names, names))));
+    let listed = references_of::<CellEnv<WeighHash>, Lists>(alloc, &lists)?;
+    ensure!(listed.as_slice() == spelled.as_slice(), "references of other kinds, or in another order");
+    Ok(CellNode::Mixed((tag.parse::<u8>()?, lists)))
 }
 
-/// The references that are spelled, parted by commas.
-fn references(alloc: Global, spelled: &str) -> anyhow::Result<Vec<ArcRef>> {
-    let mut references = Vec::new(alloc);
-    for word in spelled.split(',') {
-        if !word.is_empty() {
-            references.push(reference(word))?;
-        }
-    }
-    Ok(references)
-}
-
-/// A reference by its kind, its node and its handle.
-fn reference(word: &str) -> ArcRef {
-    let (kind, rest) = word.split_once(':').unwrap_or((word, ""));
-    let (node, handle) = rest.split_once(':').unwrap_or((rest, ""));
-    ArcRef {
-        kind: Kind(kind.parse::<u32>().unwrap_or_default()),
-        node: NodeNumber(node.parse::<u64>().unwrap_or_default()),
-        handle: HandleNumber(handle.parse::<u64>().unwrap_or_default()),
+/// Two bytes.
+fn bytes(alloc: Global, spelled: &str) -> anyhow::Result<CellNode> {
+    match bytes_of(alloc, spelled)?.as_slice() {
+        [first, second] => Ok(CellNode::Bytes(*first, *second)),
+        _ => bail!("no two bytes"),
     }
 }
 
-impl NodeSet<CellEnv> for CellNode {
-    ghost use Rattle.std.specs.Prelude.{◌≡◌};
-    ghost use Rattle.pagable_model.specs.Gives.{memory, long_or};
-    ghost use Rattle.pagable_model.specs.Causes.{memory_is_own_reading, text_may_refuse_writing};
-    ghost use Rattle.vectors.specs.Cells.{has_meaning, has_shape, means, own_shape, refers, refs_of, shape_of, type_of};
+/// A value of at most one reference, of one kind.
+fn referring(node_type: &str, references: &[ArcRef]) -> anyhow::Result<CellNode> {
+    match (node_type, references) {
+        ("3", []) => Ok(CellNode::Link(None)),
+        ("3", [next]) => Ok(CellNode::Link(Some(of_kind(*next)?))),
+        ("4", []) => Ok(CellNode::ArcLink(None)),
+        ("4", [next]) => Ok(CellNode::ArcLink(Some(of_kind(*next)?))),
+        ("6", [name]) => Ok(CellNode::Holder(of_kind(*name)?)),
+        _ => bail!("no such value"),
+    }
+}
+
+impl<H: KeyHash> NodeSet<CellEnv<H>> for CellNode {
+    ghost use Rattle.vectors.specs.Cells.{has_meaning, has_shape, means, own_shape, read_causes, read_causes_are_own, refers, refs_of, shape_of, type_of, write_causes, write_causes_may_refuse};
 
     ghost type_of = { type_of };
 
@@ -116,17 +166,17 @@ impl NodeSet<CellEnv> for CellNode {
 
     ghost own_shape = { λ e n. own_shape n };
 
-    ghost means = { λ n m. m ≡ means n };
+    ghost means = { means };
 
     ghost refs_of = { refs_of };
 
-    ghost write_causes = { λ t. long_or memory };
+    ghost write_causes = { write_causes };
 
-    ghost read_causes = { λ t. memory };
+    ghost read_causes = { read_causes };
 
-    ghost write_causes_may_refuse = { λ t. text_may_refuse_writing };
+    ghost write_causes_may_refuse = { write_causes_may_refuse };
 
-    ghost read_causes_are_own = { λ t. memory_is_own_reading };
+    ghost read_causes_are_own = { read_causes_are_own };
 
     ghost has_meaning = { has_meaning };
 
@@ -136,42 +186,75 @@ impl NodeSet<CellEnv> for CellNode {
 
     fn node_type(&self) -> u32 {
         match self {
-            CellNode::Name(_) => NAMES,
-            CellNode::Note(_) => NOTES,
-            CellNode::Group(higher, _) => u32::from(GROUPS) + u32::from(*higher),
+            CellNode::Name(_) => 0,
+            CellNode::Note(_) => 1,
+            CellNode::Mixed(_) => 2,
+            CellNode::Link(_) => 3,
+            CellNode::ArcLink(_) => 4,
+            CellNode::Names(_) => 5,
+            CellNode::Holder(_) => 6,
+            CellNode::Bytes(_, _) => 7,
         }
     }
 
     fn refs(&self, alloc: Global) -> Result<Vec<ArcRef>, Error> {
         match self {
-            CellNode::Name(_) | CellNode::Note(_) => Ok(Vec::new(alloc)),
-            CellNode::Group(_, references) => Ok(references.as_ref().to_vec(alloc)?),
+            CellNode::Mixed(mixed) => references_of::<CellEnv<H>, Lists>(alloc, &mixed.1),
+            CellNode::Link(next) => references_of::<CellEnv<H>, Link>(alloc, next),
+            CellNode::ArcLink(next) => references_of::<CellEnv<H>, ArcLink>(alloc, next),
+            CellNode::Names(names) => references_of::<CellEnv<H>, Names>(alloc, names),
+            CellNode::Holder(name) => references_of::<CellEnv<H>, OfKind<0>>(alloc, name),
+            CellNode::Name(_) | CellNode::Note(_) | CellNode::Bytes(_, _) => Ok(Vec::new(alloc)),
         }
     }
 
-    fn write<S: PagableSerializer<CellEnv>>(&self, serializer: &mut S) -> Result<(), Error> {
+    #[tactic(auto, using(crate::proofs::Listed::writing))]
+    fn write<S: PagableSerializer<CellEnv<H>>>(&self, serializer: &mut S) -> Result<(), Error> {
         match self {
             CellNode::Name(text) => text.as_ref().pagable_serialize(serializer),
-            CellNode::Note(text) => text.as_ref().pagable_serialize(serializer),
-            CellNode::Group(_, _) => Err(Error::OutOfMemory),
+            CellNode::Note(_) => Err(Error::Custom(Reason::new("writing is refused"))),
+            CellNode::Mixed(mixed) => mixed.pagable_serialize(serializer),
+            CellNode::Link(next) => next.pagable_serialize(serializer),
+            CellNode::ArcLink(next) => next.pagable_serialize(serializer),
+            CellNode::Names(names) => names.pagable_serialize(serializer),
+            CellNode::Holder(name) => name.pagable_serialize(serializer),
+            CellNode::Bytes(first, second) => (*first, *second).pagable_serialize(serializer),
         }
     }
 
-    fn read<D: PagableDeserializer<CellEnv>>(
+    fn read<D: PagableDeserializer<CellEnv<H>>>(
         node_type: u32,
         alloc: Global,
         deserializer: &mut D,
     ) -> Result<CellNode, Error> {
         match node_type {
-            NAMES => {
+            0 => {
                 let text = String::pagable_deserialize(alloc, deserializer)?;
                 Ok(CellNode::Name(Arc::new(alloc, text)?))
             }
-            NOTES => {
+            1 => {
                 let text = String::pagable_deserialize(alloc, deserializer)?;
                 Ok(CellNode::Note(Arc::new(alloc, text)?))
             }
-            _ => Err(Error::OutOfMemory),
+            2 => {
+                let mixed: (u8, Lists) = PagableDeserialize::pagable_deserialize(
+                    alloc,
+                    deserializer,
+                )?;
+                Ok(CellNode::Mixed(mixed))
+            }
+            3 => Ok(CellNode::Link(Link::pagable_deserialize(alloc, deserializer)?)),
+            4 => Ok(CellNode::ArcLink(ArcLink::pagable_deserialize(alloc, deserializer)?)),
+            5 => Ok(CellNode::Names(Names::pagable_deserialize(alloc, deserializer)?)),
+            6 => Ok(CellNode::Holder(OfKind::<0>::pagable_deserialize(alloc, deserializer)?)),
+            7 => {
+                let (first, second): (u8, u8) = PagableDeserialize::pagable_deserialize(
+                    alloc,
+                    deserializer,
+                )?;
+                Ok(CellNode::Bytes(first, second))
+            }
+            _ => Err(Error::WrongKind),
         }
     }
 }
