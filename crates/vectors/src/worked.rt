@@ -83,7 +83,7 @@ const LINES: &'static str = "1: u16 read ac02 -> ok 2 = 300
 18: cache_clear; pending; is_paged_out 130; start 130; step 1 3 -> ok; ok 0; yes; load 1 64774723321446467605344910487651106384; more 1; more 2; pinned 3 394
 18: look 130 -> pending 0; 130: 130 2 64774723321446467605344910487651106384 here = 10:131:393
 18: node_of 393; count 393; key 393; is_paged_out 393; node_of 394; count 394 -> ok 131; ok 0; ok 40657111461448115765714812676886398291; yes; ok 130; ok 2
-18: read 254169985673604946527097160104706273342 3; step 2 2; pending -> load 2 254169985673604946527097160104706273342; more 1; read 2 = ; ok 0
+18: pending; read 254169985673604946527097160104706273342 3; step 2 2; pending -> ok 0; load 2 254169985673604946527097160104706273342; more 1; read 2 = ; ok 0
 18: machine sha256 ->
 18: last chain new_shared 4 12 128 -> ok 128
 18: new_loose 4 12:128:128; unpin 129; table; listed 1 0 -> ok 129; ok; ok 1; ok 1
