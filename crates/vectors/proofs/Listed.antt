@@ -31,14 +31,17 @@ list-in-order : (kind : ℕ) → ListsInOrder parts (list (reference kind))
 list-in-order kind = list_in_order parts (reference kind) (reference_in_order parts kind)
 
 five-in-order : ListsInOrder parts five_shape
-five-in-order = both_in_order parts _ _ (list-in-order 6) (both_in_order parts _ _ (list-in-order 7) (both_in_order parts _ _ (list-in-order 8) (both_in_order parts _ _ (list-in-order 1) (list-in-order 0))))
+five-in-order = both_in_order parts _ _ (list-in-order 6)
+    (both_in_order parts _ _ (list-in-order 7) (both_in_order parts _ _ (list-in-order 8) (both_in_order parts _ _ (list-in-order 1) (list-in-order 0))))
 
 pub mixed_listed : {X : Type 0} (r : Result X Error) (p : ℕ × (Vec (OfKind 6) × (Vec (OfKind 7) × (Vec (OfKind 8) × (Vec (OfKind 1) × Vec (OfKind 0)))))) (levels : ℕ) (old new : Out)
     → OnOk r (WritesSome (mixed_means p) (nesting levels parts) mixed_shape old new) → OnOk r (new.refs ≡ old.refs ++ references_in (five_meaning p.1))
-mixed_listed r p levels old new w = rw (← mixed_refers p) (written_listed r (mixed_means p) (mixed_meaning p) (nesting levels parts) mixed_shape old new (one_mixed p) (both_in_order parts _ _ number-in-order five-in-order) w)
+mixed_listed r p levels old new w =
+    rw (← mixed_refers p) (written_listed r (mixed_means p) (mixed_meaning p) (nesting levels parts) mixed_shape old new (one_mixed p) (both_in_order parts _ _ number-in-order five-in-order) w)
 
 pub link_listed : {X : Type 0} (kind : ℕ) (r : Result X Error) (next : Option (OfKind kind)) (levels : ℕ) (old new : Out)
-    → OnOk r (WritesSome (MeansOption (Is (plain_means kind)) next) (nesting levels parts) (optional (reference kind)) old new) → OnOk r (new.refs ≡ old.refs ++ references_in (of_option (plain_means kind) next))
+    → OnOk r (WritesSome (MeansOption (Is (plain_means kind)) next) (nesting levels parts) (optional (reference kind)) old new)
+    → OnOk r (new.refs ≡ old.refs ++ references_in (of_option (plain_means kind) next))
 link_listed kind r next levels old new =
     written_listed r (MeansOption (Is (plain_means kind)) next) (of_option (plain_means kind) next) (nesting levels parts) (optional (reference kind)) old new
     (option_single (Is (plain_means kind)) (plain_means kind) (λ a m is. is) next) (optional_in_order parts (reference kind) (reference_in_order parts kind))

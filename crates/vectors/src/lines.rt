@@ -67,14 +67,15 @@ fn answer_all(alloc: Global, name: &str, verb: &str, inputs: &str) -> anyhow::Re
     Ok(answers)
 }
 
-/// The answer to a line: of values, which has a name, a verb, and what the verb is about; or of calls.
+/// The answer to a line: of values, which has a name, a verb, and what the verb is about; or of events, of which the first may be
+/// without arguments, and the next a read.
 pub fn answer(alloc: Global, calls: &mut Calls, line: &str) -> anyhow::Result<String> {
     let (name, rest) = line.split_once(' ').unwrap_or((line, ""));
     let (verb, inputs) = rest.split_once(' ').unwrap_or((rest, ""));
     match verb {
         "write" => Ok(json(alloc, inputs)?),
         "drawn" => drawn::answer(alloc, name, inputs.parse::<u32>()?),
-        "read" | "cut" | "weigh" => answer_all(alloc, name, verb, inputs),
+        "read" | "cut" | "weigh" if !name.ends_with(';') => answer_all(alloc, name, verb, inputs),
         _ => calls.answer(alloc, line),
     }
 }

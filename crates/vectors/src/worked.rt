@@ -50,7 +50,8 @@ const LINES: &'static str = "1: u16 read ac02 -> ok 2 = 300
 10: fetch 3484; fetch 16879; work 1 -> 0x2a; 0x0b68656c6c6f20776f726c64; refused 18
 11: machine ->
 11: new_shared 0 shared; clone 1; table; item 1 02:0:1:1,0:1:2 -> ok 1; ok 2; ok 1; ok 1
-11: work 1 9 -> 1 claim 0:1 claimed; 2 pin 0:1 held 3; 3 write 0:1 0x06736861726564:; 4 store 0:1 7908; 5 set 0:1; 6 publish 0:1 7908 0; 7 release 0:1; 8 claim 0:1 known 7908 0; 9 store 9368 -> ok 9368
+11: work 1 5 -> 1 claim 0:1 claimed; 2 pin 0:1 held 3; 3 write 0:1 0x06736861726564:; 4 store 0:1 7908; 5 set 0:1
+11: work 1 4 -> 6 publish 0:1 7908 0; 7 release 0:1; 8 claim 0:1 known 7908 0; 9 store 9368 -> ok 9368
 11: fetch 7908; fetch 9368; release 1; release 2; node_live 1; read 9368 5; step 1 5 -> 0x06736861726564; 0x02; ok; ok; none; load 1 9368; more 1; more 2; more 3; more 4; read 5 = 0:2:4,0:2:5
 11: node_of 4; node_of 5; count 4; release 4; release 5; node_live 2; cache_get 0 7908 -> ok 2; ok 2; ok 2; ok; ok; none; none
 12: machine ->
@@ -64,11 +65,14 @@ const LINES: &'static str = "1: u16 read ac02 -> ok 2 = 300
 13: look 2 -> pending 0; 1: 1 2 16879 here; 2: 1 2 16879 here = hello world
 15: machine ->
 15: new_pinned 0 shared; clone 1; into_pagable 2; table; item 1 -:2:1:1,1:1:2 -> ok 1; ok 2; ok 2; ok 1; ok 1
-15: work 1 15 -> 1 claim 2:1 claimed; 2 pin 2:1 held 3; 3 write 2:1 0x06736861726564:; 4 store 2:1 7908; 5 set 2:1; 6 publish 2:1 7908 0; 7 release 2:1; 8 claim 1:1 claimed; 9 pin 1:1 held 5; 10 write 1:1 0x06736861726564:; 11 store 1:1 7908; 12 set 1:1; 13 publish 1:1 7908 0; 14 release 1:1; 15 store 8834 -> ok 8834
+15: work 1 7 -> 1 claim 2:1 claimed; 2 pin 2:1 held 3; 3 write 2:1 0x06736861726564:; 4 store 2:1 7908; 5 set 2:1; 6 publish 2:1 7908 0; 7 release 2:1
+15: work 1 8 -> 8 claim 1:1 claimed; 9 pin 1:1 held 5; 10 write 1:1 0x06736861726564:; 11 store 1:1 7908; 12 set 1:1; 13 publish 1:1 7908 0; 14 release 1:1; 15 store 8834 -> ok 8834
 15: key 2; is_paged_out 2; count 2; fetch 7908; fetch 8834 -> ok 7908; no; ok 2; 0x06736861726564; 0x
 16: machine ->
-16: new_shared 1 x; table; item 1 2a:3:1:1; item 1 2a:3:1:1; work 1 4; work 2 2 -> ok 1; ok 1; ok 1; ok 2; 1 claim 3:1 claimed; 2 pin 3:1 held 2; 3 write 3:1 refused 26; 4 fail -> failed 26; 1 claim 3:1 failed; 2 fail -> already
-16: new_loose 1 x; unpin 3; pending; table; listed 2 0; work 3 4; pending; key 3 -> ok 3; ok; ok 1; ok 2; ok 3; 1 claim 4:2 claimed; 2 pin 4:2 held 6; 3 write 4:2 refused 26; 4 fail -> failed 26; ok 1; none
+16: new_shared 1 x; table; item 1 2a:3:1:1; item 1 2a:3:1:1 -> ok 1; ok 1; ok 1; ok 2
+16: work 1 4; work 2 2 -> 1 claim 3:1 claimed; 2 pin 3:1 held 2; 3 write 3:1 refused 26; 4 fail -> failed 26; 1 claim 3:1 failed; 2 fail -> already
+16: new_loose 1 x; unpin 3; pending; table; listed 2 0 -> ok 3; ok; ok 1; ok 2; ok 3
+16: work 3 4; pending; key 3 -> 1 claim 4:2 claimed; 2 pin 4:2 held 6; 3 write 4:2 refused 26; 4 fail -> failed 26; ok 1; none
 17: machine ->
 17: store 0009; store 0a00 -> ok 90; refused 24
 17: fetch 90 -> 0x0009
@@ -77,8 +81,9 @@ const LINES: &'static str = "1: u16 read ac02 -> ok 2 = 300
 18: unpin 130; table; listed 1 0 -> ok; ok 1; ok 1
 18: last work 1 910 -> 910 release 10:130 -> ok 64774723321446467605344910487651106384
 18: cache_clear; pending; is_paged_out 130; start 130; step 1 3 -> ok; ok 0; yes; load 1 64774723321446467605344910487651106384; more 1; more 2; pinned 3 394
-18: look 999 -> pending 0; 130: 130 2 64774723321446467605344910487651106384 here = 10:131:393; 393: 131 0 40657111461448115765714812676886398291 away; 394: 130 2 64774723321446467605344910487651106384 here = 10:131:393
-18: read 254169985673604946527097160104706273342 3; step 2 2; pending -> load 2 254169985673604946527097160104706273342; more 1; read 2 = ; ok 0
+18: look 130 -> pending 0; 130: 130 2 64774723321446467605344910487651106384 here = 10:131:393
+18: node_of 393; count 393; key 393; is_paged_out 393; node_of 394; count 394 -> ok 131; ok 0; ok 40657111461448115765714812676886398291; yes; ok 130; ok 2
+18: pending; read 254169985673604946527097160104706273342 3; step 2 2; pending -> ok 0; load 2 254169985673604946527097160104706273342; more 1; read 2 = ; ok 0
 18: machine sha256 ->
 18: last chain new_shared 4 12 128 -> ok 128
 18: new_loose 4 12:128:128; unpin 129; table; listed 1 0 -> ok 129; ok; ok 1; ok 1
@@ -92,12 +97,14 @@ const LINES: &'static str = "1: u16 read ac02 -> ok 2 = 300
 18: pending; key 130 -> ok 1; none
 19: machine ->
 19: store 01:1415; read 1415 3; step 1 3; key 1; is_paged_out 1; count 1 -> ok 1415; load 1 1415; more 1; more 2; read 3 = 10:1:1; ok 1415; yes; ok 0
-19: table; item 1 01:10:1:1; work 1 8 -> ok 1; ok 1; 1 claim 10:1 claimed; 2 pin 10:1 load 2; 2 pin 10:1 went; 2 pin 10:1 went; 2 pin 10:1 held 5; 3 write 10:1 0x01:10:1:4; 4 claim 10:1 refused 7; 5 fail -> failed 7
+19: table; item 1 01:10:1:1 -> ok 1; ok 1
+19: work 1 8 -> 1 claim 10:1 claimed; 2 pin 10:1 load 2; 2 pin 10:1 went; 2 pin 10:1 went; 2 pin 10:1 held 5; 3 write 10:1 0x01:10:1:4; 4 claim 10:1 refused 7; 5 fail -> failed 7
 20: machine ->
 20: new_shared 0 hello world; clone 1; new_loose 6 0:1:1; new_loose 6 0:1:2; unpin 3; unpin 4; table; listed 1 1; listed 1 0 -> ok 1; ok 2; ok 3; ok 4; ok; ok; ok 1; ok 1; ok 2
 20: last work 1 14 -> 14 release 19:3 -> ok 2802
 20: last work 2 8 -> 8 release 19:2 -> ok 2802
-20: key 3; key 4; fetch 16879; fetch 2802; start 3; step 1 4; start 4; step 2 3 -> ok 2802; ok 2802; 0x0b68656c6c6f20776f726c64; 0x; load 1 2802; more 1; more 2; more 3; pinned 4 14; load 2 2802; more 1; more 2; pinned 3 17
+20: key 3; key 4; fetch 16879; fetch 2802 -> ok 2802; ok 2802; 0x0b68656c6c6f20776f726c64; 0x
+20: start 3; step 1 4; start 4; step 2 3 -> load 1 2802; more 1; more 2; more 3; pinned 4 14; load 2 2802; more 1; more 2; pinned 3 17
 20: look 20 -> pending 0; 3: 2 2 2802 here = 0:4:13; 4: 3 2 2802 here = 0:4:16; 13: 4 2 0 here = hello world; 14: 2 2 2802 here = 0:4:13; 16: 4 2 0 here = hello world; 17: 3 2 2802 here = 0:4:16
 21: String read 0261 01ff -> refused 1; refused 4
 21: String read 8080808010 -> refused 6
