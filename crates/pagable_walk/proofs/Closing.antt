@@ -1,40 +1,21 @@
 -- A turn at what was written is the worker's.
 use Rattle.std.proofs.Common.{ℕ, ◌≡◌, true, List, [], ◌∷◌, length, Some, None, Result, Ok, Err, inl, refl, sym, ap, subst, ◌∙◌, arith}
-use Rattle.std.specs.Prelude.{Option}
-use Rattle.std.specs.Arc.{arc_value}
 use Rattle.std.proofs.lemmas.List.{length-map}
-use Rattle.pagable_model.specs.declared.error.Error.{Error}
+use Rattle.std.specs.{Arc.arc_value, Prelude.Option}
+use Rattle.pagable_model.specs.{Blob.key_of, Merkle.blob_of, declared.error.Error.Error}
+use Rattle.pagable_world.specs.World.{Core, Shelf, SameShelf, Todo, Values, to_publish, to_release, to_set, was_refused, answer_of_fault, published}
+use Rattle.pagable_world.specs.{Access.Called, Calls.Asked, Calls.ScheduleCall, Calls.SetKeyCall, Calls.StoreCall, Cascade.FallsAnyhow, Kinds.identity_of, Kinds.owner_worker, Pager.PagerState}
+use Rattle.pagable_world.specs.{Plain.Blob, Plain.HandleNumber, Plain.Identity, Workers.GivesBack, Workers.is_workers_at, Workers.give, Workers.with_changed_slot, Workers.with_failed}
+use Rattle.pagable_world.specs.{Workers.with_outcome, declared.handles.Owner.Owner}
+use Rattle.pagable_walk.specs.{Ending.Stores, Ending.GoesBack, Ending.Back, Failing.back_of, Failing.fails, Found.keys_of, Slots.written_of, Tasks.IsPlain, Tasks.fault_of, Tasks.todo_of}
+use Rattle.pagable_walk.specs.{Turns.TurnsTo, declared.results.Trees.Ghosts, declared.table.PageOutError.PageOutError, declared.tasks.Done.Done, declared.tasks.Item.Item, declared.tasks.Open.Open}
+use Rattle.pagable_walk.specs.{declared.tasks.Task.Task}
+use Rattle.pagable_walk.proofs.{Forming.none-back, Pinning.comes-none, Pinning.same-shelf, Turning.alike, Turning.plain-fits}
 use Rattle.pagable_model.specs.declared.error.Error.TheVariants as errors
-use Rattle.pagable_model.specs.Blob.{key_of}
-use Rattle.pagable_model.specs.Merkle.{blob_of}
-use Rattle.pagable_world.specs.Plain.{Blob, HandleNumber, Identity}
-use Rattle.pagable_world.specs.declared.handles.Owner.{Owner}
 use Rattle.pagable_world.specs.declared.events.Took.TheVariants as took
 use Rattle.pagable_world.specs.declared.events.WorkerAnswer.TheVariants as finals
-use Rattle.pagable_world.specs.Kinds.{identity_of, owner_worker}
-use Rattle.pagable_world.specs.Cascade.{FallsAnyhow}
-use Rattle.pagable_world.specs.Calls.{Asked, ScheduleCall, SetKeyCall, StoreCall}
-use Rattle.pagable_world.specs.World.{Core, Shelf, SameShelf, Todo, Values, to_publish, to_release, to_set, was_refused, answer_of_fault, published}
-use Rattle.pagable_world.specs.Workers.{GivesBack, is_workers_at, give, with_changed_slot, with_failed, with_outcome}
-use Rattle.pagable_world.specs.Pager.{PagerState}
-use Rattle.pagable_world.specs.Access.{Called}
-use Rattle.pagable_walk.specs.declared.results.Trees.{Ghosts}
-use Rattle.pagable_walk.specs.declared.table.PageOutError.{PageOutError}
-use Rattle.pagable_walk.specs.declared.tasks.Done.{Done}
-use Rattle.pagable_walk.specs.declared.tasks.Item.{Item}
-use Rattle.pagable_walk.specs.declared.tasks.Open.{Open}
-use Rattle.pagable_walk.specs.declared.tasks.Task.{Task}
 use Rattle.pagable_walk.specs.declared.tasks.Task.TheVariants as tasks
 use Rattle.pagable_walk.specs.declared.tasks.Turn.TheVariants as comes
-use Rattle.pagable_walk.specs.Ending.{Stores, GoesBack, Back}
-use Rattle.pagable_walk.specs.Failing.{back_of, fails}
-use Rattle.pagable_walk.specs.Found.{keys_of}
-use Rattle.pagable_walk.specs.Slots.{written_of}
-use Rattle.pagable_walk.specs.Tasks.{IsPlain, fault_of, todo_of}
-use Rattle.pagable_walk.specs.Turns.{TurnsTo}
-use Rattle.pagable_walk.proofs.Turning.{alike, plain-fits}
-use Rattle.pagable_walk.proofs.Forming.{none-back}
-use Rattle.pagable_walk.proofs.Pinning.{comes-none, same-shelf}
 
 -- nothing was asked of a storage
 pub not-asked : (w : Core) → Asked w w

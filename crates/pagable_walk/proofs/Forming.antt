@@ -1,45 +1,24 @@
 -- What was written is a form of the node's value.
-use Rattle.std.specs.Prelude.{IfOk, IfErr}
+use Rattle.std.specs.{Arc.arc_value, Prelude.IfOk, Prelude.IfErr, declared.alloc.Global.Global, declared.sync.Arc.Arc}
 use Rattle.std.proofs.Common.{ℕ, ◌≡◌, ◌++◌, List, [], ◌∷◌, true, false, Some, None, Result, Ok, Err, inl, inr, refl, sym, ap, subst, ◌∙◌}
 use Rattle.pagable_codec.specs.declared.env.Env.{Ghosts as Environments}
 use Rattle.pagable_codec.specs.declared.hash.KeyHash.{Ghosts as Hashes}
 use Rattle.pagable_codec.specs.declared.nodes.NodeSet.{Ghosts as Nodes}
-use Rattle.std.specs.Arc.{arc_value}
-use Rattle.std.specs.declared.alloc.Global.{Global}
-use Rattle.std.specs.declared.sync.Arc.{Arc}
-use Rattle.pagable_core.specs.Context.{nothing}
-use Rattle.pagable_core.specs.declared.context.writing.SerializedData.{SerializedData}
-use Rattle.pagable_model.specs.declared.error.Error.{Error}
-use Rattle.pagable_model.specs.declared.error.Error.TheVariants as errors
-use Rattle.pagable_model.specs.declared.numbers.ArcRef.{ArcRef}
-use Rattle.pagable_model.specs.declared.numbers.HandleNumber.{HandleNumber}
-use Rattle.pagable_model.specs.declared.numbers.NodeNumber.{NodeNumber}
-use Rattle.pagable_model.specs.Refusals.{is_writing_fault}
-use Rattle.pagable_model.specs.Form.{Form}
-use Rattle.pagable_model.specs.Reading.{deepest}
-use Rattle.pagable_model.specs.Writing.{Out, WritesSome, nesting, Refused, kind_of_arc}
-use Rattle.pagable_world.specs.Plain.{type_of}
-use Rattle.pagable_world.specs.declared.handles.HandleRow.{HandleRow}
-use Rattle.pagable_world.specs.declared.handles.Owner.{Owner}
-use Rattle.pagable_world.specs.declared.events.Took.TheVariants as took
-use Rattle.pagable_world.specs.Kinds.{identity_of, is_pinning}
-use Rattle.pagable_world.specs.World.{Values, Written, Shelf, Todo, SameShelf, seen_as, was_refused, row_at}
-use Rattle.pagable_world.specs.Workers.{with_changed_slot, open_node}
-use Rattle.pagable_world.specs.Refusals.{live_fault}
-use Rattle.pagable_world.specs.Pager.{PagerState, ValueCall, RefusesWriting}
+use Rattle.pagable_core.specs.{Context.nothing, declared.context.writing.SerializedData.SerializedData}
+use Rattle.pagable_model.specs.{Form.Form, Reading.deepest, Refusals.is_writing_fault, Writing.Out, Writing.WritesSome, Writing.nesting, Writing.Refused, Writing.kind_of_arc}
+use Rattle.pagable_model.specs.{declared.error.Error.Error, declared.numbers.ArcRef.ArcRef, declared.numbers.HandleNumber.HandleNumber, declared.numbers.NodeNumber.NodeNumber}
+use Rattle.pagable_world.specs.{Kinds.identity_of, Kinds.is_pinning, Pager.PagerState, Pager.ValueCall, Pager.RefusesWriting, Plain.type_of, Refusals.live_fault, Workers.with_changed_slot}
+use Rattle.pagable_world.specs.{Workers.open_node, World.Values, World.Written, World.Shelf, World.Todo, World.SameShelf, World.seen_as, World.was_refused, World.row_at}
+use Rattle.pagable_world.specs.{declared.handles.HandleRow.HandleRow, declared.handles.Owner.Owner}
 use Rattle.pagable_laws.proofs.Trees.{same_some}
-use Rattle.pagable_loads.specs.Starting.{Shares}
-use Rattle.pagable_loads.specs.Telling.{values_at}
-use Rattle.pagable_walk.specs.declared.results.Trees.{Ghosts}
-use Rattle.pagable_walk.specs.declared.tasks.Task.{Task}
+use Rattle.pagable_loads.specs.{Starting.Shares, Telling.values_at}
+use Rattle.pagable_walk.specs.{Failing.back_of, Failing.fails, Slots.with_written, Slots.written_of, Tasks.IsPlain, Turns.Fits, Turns.TurnsTo, Writing.IsForm, Writing.WriteRefused, Writing.IsPinned}
+use Rattle.pagable_walk.specs.{Writing.Finds, Writing.Forms, declared.results.Trees.Ghosts, declared.tasks.Task.Task}
+use Rattle.pagable_walk.proofs.Turning.{alike, plain-fits}
+use Rattle.pagable_model.specs.declared.error.Error.TheVariants as errors
+use Rattle.pagable_world.specs.declared.events.Took.TheVariants as took
 use Rattle.pagable_walk.specs.declared.tasks.Task.TheVariants as tasks
 use Rattle.pagable_walk.specs.declared.tasks.Turn.TheVariants as comes
-use Rattle.pagable_walk.specs.Slots.{with_written, written_of}
-use Rattle.pagable_walk.specs.Failing.{back_of, fails}
-use Rattle.pagable_walk.specs.Tasks.{IsPlain}
-use Rattle.pagable_walk.specs.Turns.{Fits, TurnsTo}
-use Rattle.pagable_walk.specs.Writing.{IsForm, WriteRefused, IsPinned, Finds, Forms}
-use Rattle.pagable_walk.proofs.Turning.{alike, plain-fits}
 
 module _ {N E H K V : Type 0} (n : Nodes N E N H K V) (e : Environments E N H K V) (h : Hashes H) (env : E) (x : N) (shaped : n.shape_of env (n.type_of x) ≡ Some (n.own_shape env x)) where
   pub is-form : (env' : E) (levels : ℕ) (old new : Out) (w : Written) → env' ≡ env → levels ≡ 0 → old ≡ nothing

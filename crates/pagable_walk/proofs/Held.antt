@@ -1,18 +1,12 @@
 -- The slots of a table after one of them came or changed.
 use Rattle.std.proofs.Common.{ℕ, ◌≡◌, true≢false, Bool, true, false, cond, Option, Some, None, refl, sym, ap, ◌∙◌, subst, nat_eq, arith, ◌&&◌, if◌then◌else◌, inl, inr}
 use Rattle.std.proofs.lemmas.Bool.Decides.{nat_tests}
-use Rattle.std.specs.Option.{option_map}
-use Rattle.std.specs.Prelude.{◌⊎◌, Result, Ok, Err, OnOk, OnErr}
+use Rattle.std.specs.{Option.option_map, Prelude.◌⊎◌, Prelude.Result, Prelude.Ok, Prelude.Err, Prelude.OnOk, Prelude.OnErr}
 use Rattle.indexmap.specs.IndexMap.{IndexMap, get}
-use Rattle.pagable_world.specs.Plain.{Identity, SameAt, updated, if_there}
-use Rattle.pagable_world.specs.World.{Slot, is_identity}
-use Rattle.pagable_walk.specs.Slots.{is_same}
-use Rattle.pagable_walk.specs.declared.results.Trees.{Ghosts}
-use Rattle.pagable_walk.specs.declared.slots.ArcSerSlot.{ArcSerSlot}
-use Rattle.pagable_walk.specs.declared.results.SlotResult.{SlotResult}
-use Rattle.pagable_walk.specs.declared.slots.Outcome.{Outcome}
+use Rattle.pagable_world.specs.{Plain.Identity, Plain.SameAt, Plain.updated, Plain.if_there, World.Slot, World.is_identity}
+use Rattle.pagable_walk.specs.{Slots.is_same, Slots.slot_of, Slots.IsOwnOutcome, Slots.IsOwn, Slots.slots_in, Slots.AreOwn, Slots.AreNamed, Slots.SlotIs, Slots.Changes}
+use Rattle.pagable_walk.specs.{declared.results.SlotResult.SlotResult, declared.results.Trees.Ghosts, declared.slots.ArcSerSlot.ArcSerSlot, declared.slots.Outcome.Outcome}
 use Rattle.pagable_walk.specs.declared.slots.Outcome.TheVariants as outcomes
-use Rattle.pagable_walk.specs.Slots.{slot_of, IsOwnOutcome, IsOwn, slots_in, AreOwn, AreNamed, SlotIs, Changes}
 
 pub either-way : {A B P Q : Type 0} (r : Result A B) → OnOk r P → OnErr r Q → P ⊎ Q
 either-way (Ok x) p q = inl p

@@ -1,30 +1,20 @@
 -- A claim of a table is a worker's claim, and a turn of the worker.
 use Rattle.std.proofs.Common.{ℕ, ◌≡◌, true, List, [], ◌∷◌, Some, None, ◌⊎◌, inl, inr, refl, sym, ap, subst, ◌∙◌, arith}
 use Rattle.std.specs.Prelude.{Result, Ok, Err, IfOk}
-use Rattle.pagable_model.specs.declared.error.Error.TheVariants as errors
 use Rattle.pagable_model.specs.declared.numbers.ArcRef.{ArcRef}
-use Rattle.pagable_world.specs.Plain.{Error}
-use Rattle.pagable_world.specs.declared.handles.Owner.{Owner}
-use Rattle.pagable_world.specs.declared.events.Claim.{Claim}
-use Rattle.pagable_world.specs.declared.events.Claim.TheVariants as claims
-use Rattle.pagable_world.specs.Kinds.{identity_of}
-use Rattle.pagable_world.specs.World.{Core, Shelf, Todo, to_start, SameShelf, Alike, Values, was_refused}
 use Rattle.pagable_world.specs.Workers.{Site, claim_fault, entry_left, is_counted_claim, Claims, Finds, Turns, IsTooDeep, with_wait}
+use Rattle.pagable_world.specs.{Kinds.identity_of, Pager.PagerState, Pager.HandlesAreWhole, Plain.Error, World.Core, World.Shelf, World.Todo, World.to_start, World.SameShelf, World.Alike}
+use Rattle.pagable_world.specs.{World.Values, World.was_refused, declared.events.Claim.Claim, declared.handles.Owner.Owner}
+use Rattle.pagable_laws.proofs.{Naming.may-claim, Naming.claimed-stands, Trees.same_some}
+use Rattle.pagable_walk.specs.{Failing.back_of, Failing.fails, Slots.Would, Slots.claimed_shelf, Slots.RefusesClaim, Slots.ClaimsThere, Table.found_as, Table.IsFoundOf, Tasks.IsPlain, Turns.site}
+use Rattle.pagable_walk.specs.{Turns.claim_todo, Turns.ClaimFits, Turns.ClaimLeaves, Turns.IsOfKind, Turns.TaskFits, Turns.TurnsTo, declared.results.Trees.Ghosts, declared.table.Found.Found}
+use Rattle.pagable_walk.specs.{declared.tasks.Task.Task}
+use Rattle.pagable_model.specs.declared.error.Error.TheVariants as errors
+use Rattle.pagable_world.specs.declared.events.Claim.TheVariants as claims
 use Rattle.pagable_world.specs.declared.events.Took.TheVariants as took
-use Rattle.pagable_world.specs.Pager.{PagerState, HandlesAreWhole}
-use Rattle.pagable_laws.proofs.Trees.{same_some}
-use Rattle.pagable_laws.proofs.Naming.{may-claim, claimed-stands}
-use Rattle.pagable_walk.specs.Failing.{back_of, fails}
-use Rattle.pagable_walk.specs.Slots.{Would, claimed_shelf, RefusesClaim, ClaimsThere}
-use Rattle.pagable_walk.specs.declared.results.Trees.{Ghosts}
-use Rattle.pagable_walk.specs.declared.table.Found.{Found}
 use Rattle.pagable_walk.specs.declared.table.Found.TheVariants as founds
-use Rattle.pagable_walk.specs.declared.tasks.Task.{Task}
 use Rattle.pagable_walk.specs.declared.tasks.Task.TheVariants as tasks
 use Rattle.pagable_walk.specs.declared.tasks.Turn.TheVariants as comes
-use Rattle.pagable_walk.specs.Table.{found_as, IsFoundOf}
-use Rattle.pagable_walk.specs.Tasks.{IsPlain}
-use Rattle.pagable_walk.specs.Turns.{site, claim_todo, ClaimFits, ClaimLeaves, IsOfKind, TaskFits, TurnsTo}
 
 pub alike : (w : Core) → Alike w w
 alike w =
