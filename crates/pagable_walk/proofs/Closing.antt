@@ -1,4 +1,6 @@
 -- A turn at what was written is the worker's.
+use Rattle.std.proofs.lemmas.Grind.{common_steps}
+use Rattle.std.proofs.lemmas.Bool.Decides.{nat_tests}
 use Rattle.std.proofs.Common.{ℕ, ◌≡◌, true, List, [], ◌∷◌, length, Some, None, Result, Ok, Err, inl, refl, sym, ap, subst, ◌∙◌, arith}
 use Rattle.std.proofs.lemmas.List.{length-map}
 use Rattle.std.specs.{Arc.arc_value, Prelude.Option}
@@ -35,159 +37,52 @@ module _ {X : Type 0} {g : Ghosts X} {N E : Type 0} (v : Values N) (me : Owner) 
     pub finish-stores : (key : ℕ) (task : Task X g) → IsPlain task → todo_of task ≡ to_set o.reference o.through key o.height → (s t : PagerState N E)
         → Stores v s (blob_of (written_of (arc_value o.written)).bytes (keys_of o.children.items)) (Ok key) t
         → TurnsTo v me n shelf (tasks.Finish o) below shelf (record { took = took.Store (Some (identity_of o.reference)) (Ok key); turn = comes.Goes task; counted = true }) (todo_of task ∷ below) s t
-    finish-stores key task plain is s t call = record {
-      counts = refl;
-      turns = λ f. record {
-        does = record { does = (refl, record { all = length-map o.children.items (λ r. r.key) ∙ all; stored = call.stored; goes = record { table_stays = same-shelf shelf; list_is = ap (λ x. x ∷ below) is }; refused = tt }) };
-        answers = refl;
-        moves = comes-none call.moves;
-        writes = tt;
-        whole = call.whole f.whole;
-        fits = plain-fits n t.core task plain;
-      };
-    }
+    finish-stores key task plain is s t call = grind (arith, nat_tests, common_steps, length-map, same-shelf, comes-none, plain-fits)
 
     pub finish-fails : (e : Error) (task : Task X g) (after : List Todo) → IsPlain task → after ≡ fails (was_refused e) (back_of None below) → (s t : PagerState N E)
         → Stores v s (blob_of (written_of (arc_value o.written)).bytes (keys_of o.children.items)) (Err e) t
         → TurnsTo v me n shelf (tasks.Finish o) below shelf (record { took = took.Store (Some (identity_of o.reference)) (Err e); turn = comes.Goes task; counted = true }) after s t
-    finish-fails e task after plain is s t call = record {
-      counts = refl;
-      turns = λ f. record {
-        does = record { does = (refl, record { all = length-map o.children.items (λ r. r.key) ∙ all; stored = call.stored; goes = tt; refused = record { table_stays = same-shelf shelf; list_is = is ∙ ap (fails (was_refused e)) (none-back below) } }) };
-        answers = refl;
-        moves = comes-none call.moves;
-        writes = tt;
-        whole = call.whole f.whole;
-        fits = plain-fits n t.core task plain;
-      };
-    }
+    finish-fails e task after plain is s t call = grind (arith, nat_tests, common_steps, length-map, same-shelf, none-back, comes-none, plain-fits)
 
   module _ (i : Item X g) (all : length i.children.items ≡ length (written_of (arc_value i.written)).references) where
     pub item-stores : (key : ℕ) (s t : PagerState N E) → Stores v s (blob_of (written_of (arc_value i.written)).bytes (keys_of i.children.items)) (Ok key) t
         → TurnsTo v me n shelf (tasks.Item i) below shelf (record { took = took.Store None (Ok key); turn = comes.Answers (finals.Key key); counted = true }) [] s t
-    item-stores key s t call = record {
-      counts = refl;
-      turns = λ f. record {
-        does = record { does = (refl, record { all = length-map i.children.items (λ r. r.key) ∙ all; stored = call.stored; goes = record { table_stays = same-shelf shelf; list_is = refl }; refused = tt }) };
-        answers = refl;
-        moves = comes-none call.moves;
-        writes = tt;
-        whole = call.whole f.whole;
-        fits = tt;
-      };
-    }
+    item-stores key s t call = grind (arith, nat_tests, common_steps, length-map, same-shelf, comes-none)
 
     pub item-fails : (e : Error) (task : Task X g) (after : List Todo) → IsPlain task → after ≡ fails (was_refused e) (back_of None below) → (s t : PagerState N E)
         → Stores v s (blob_of (written_of (arc_value i.written)).bytes (keys_of i.children.items)) (Err e) t
         → TurnsTo v me n shelf (tasks.Item i) below shelf (record { took = took.Store None (Err e); turn = comes.Goes task; counted = true }) after s t
-    item-fails e task after plain is s t call = record {
-      counts = refl;
-      turns = λ f. record {
-        does = record { does = (refl, record { all = length-map i.children.items (λ r. r.key) ∙ all; stored = call.stored; goes = tt; refused = record { table_stays = same-shelf shelf; list_is = is ∙ ap (fails (was_refused e)) (none-back below) } }) };
-        answers = refl;
-        moves = comes-none call.moves;
-        writes = tt;
-        whole = call.whole f.whole;
-        fits = plain-fits n t.core task plain;
-      };
-    }
+    item-fails e task after plain is s t call = grind (arith, nat_tests, common_steps, length-map, same-shelf, none-back, comes-none, plain-fits)
 
   module _ (d : Done X g) where
     pub set-goes : (through : HandleNumber) (s t : PagerState N E) → Called v (λ w'. SetKeyCall s.core me through d.found.key (Ok tt) w') s t
         → TurnsTo {g = g} v me n shelf (tasks.SetKey d through) below shelf (record { took = took.SetKey (identity_of d.reference) (Ok tt); turn = comes.Goes (tasks.Publish d); counted = true }) (to_publish d.reference d.found.key d.found.height ∷ below) s t
-    set-goes through s t call = record {
-      counts = refl;
-      turns = λ f. record {
-        does = record { does = (refl, record { sets = subst (λ o. SetKeyCall s.core o through d.found.key (Ok tt) t.core) f.me_is call.step; goes = record { table_stays = same-shelf shelf; list_is = refl }; refused = tt }) };
-        answers = refl;
-        moves = comes-none call.moves;
-        writes = tt;
-        whole = call.whole;
-        fits = tt;
-      };
-    }
+    set-goes through s t call = grind (arith, nat_tests, common_steps, same-shelf, comes-none)
 
     pub set-fails : (through : HandleNumber) (e : Error) (task : Task X g) (after : List Todo) → IsPlain task → after ≡ fails (was_refused e) (back_of None below) → (s t : PagerState N E)
         → Called v (λ w'. SetKeyCall s.core me through d.found.key (Err e) w') s t
         → TurnsTo v me n shelf (tasks.SetKey d through) below shelf (record { took = took.SetKey (identity_of d.reference) (Err e); turn = comes.Goes task; counted = true }) after s t
-    set-fails through e task after plain is s t call = record {
-      counts = refl;
-      turns = λ f. record {
-        does = record { does = (refl, record { sets = subst (λ o. SetKeyCall s.core o through d.found.key (Err e) t.core) f.me_is call.step; goes = tt; refused = record { table_stays = same-shelf shelf; list_is = is ∙ ap (fails (was_refused e)) (none-back below) } }) };
-        answers = refl;
-        moves = comes-none call.moves;
-        writes = tt;
-        whole = call.whole;
-        fits = plain-fits n t.core task plain;
-      };
-    }
+    set-fails through e task after plain is s t call = grind (arith, nat_tests, common_steps, same-shelf, none-back, comes-none, plain-fits)
 
     pub publishes : (shelf' : Shelf) (i : Identity) (key height : ℕ) → i ≡ identity_of d.reference → key ≡ d.found.key → height ≡ d.found.height
         → SameShelf (with_changed_slot shelf i (with_outcome (published key height))) shelf' → (s : PagerState N E)
         → TurnsTo {g = g} v me n shelf (tasks.Publish d) below shelf' (record { took = took.Publish (identity_of d.reference) d.found.key d.found.height; turn = comes.Goes (tasks.Release d); counted = true }) (to_release d.reference d.found.key d.found.height ∷ below) s s
-    publishes shelf' i key height at same_key same_height same s =
-        let same' = subst (λ j. SameShelf (with_changed_slot shelf j (with_outcome (published d.found.key d.found.height))) shelf') at
-        (subst (λ k. SameShelf (with_changed_slot shelf i (with_outcome (published k d.found.height))) shelf') same_key (subst (λ h. SameShelf (with_changed_slot shelf i (with_outcome (published key h))) shelf') same_height same)) in
-        record {
-          counts = refl;
-          turns = λ f. record {
-            does = record { does = (refl, refl, refl, record { pager_stays = alike s.core; table_is = same'; list_is = refl }) };
-            answers = refl;
-            moves = record { each = λ q x h. inl h; environment = refl };
-            writes = tt;
-            whole = f.whole;
-            fits = tt;
-          };
-        }
+    publishes shelf' i key height at same_key same_height same s = grind (arith, nat_tests, common_steps, alike)
 
 module _ {X : Type 0} {g : Ghosts X} {N E : Type 0} (v : Values N) (me : Owner) (n : ℕ) (shelf : Shelf) (d : Done X g) where
   pub release-ends : (below : List Todo) → below ≡ [] → (s t : PagerState N E) → Called v (λ w'. FallsAnyhow s.core s.core (is_workers_at s.core n d.reference.node.0) w') s t
       → TurnsTo v me n shelf (tasks.Release d) below shelf (record { took = took.Release (identity_of d.reference); turn = comes.Answers (finals.Key d.found.key); counted = true }) [] s t
-  release-ends below none s t call = subst (λ b. TurnsTo v me n shelf (tasks.Release d) b shelf (record { took = took.Release (identity_of d.reference); turn = comes.Answers (finals.Key d.found.key); counted = true }) [] s t) (sym none) (record {
-    counts = refl;
-    turns = λ f. record {
-      does = record { does = (refl, call.step, record { table_stays = same-shelf shelf; list_is = refl }) };
-      answers = refl;
-      moves = comes-none call.moves;
-      writes = tt;
-      whole = call.whole;
-      fits = tt;
-    };
-  })
+  release-ends below none s t call = grind (arith, nat_tests, common_steps, same-shelf, comes-none)
 
   pub release-gives : (below : List Todo) (x : Todo) (rest : List Todo) (task : Task X g) (after : List Todo) → below ≡ x ∷ rest → IsPlain task
       → after ≡ give d.reference d.found.key d.found.height (x ∷ rest) → (s t : PagerState N E)
       → Called v (λ w'. FallsAnyhow s.core s.core (is_workers_at s.core n d.reference.node.0) w') s t → TurnsTo v me n shelf (tasks.Release d) below shelf (record { took = took.Release (identity_of d.reference); turn = comes.Goes task; counted = true }) after s t
-  release-gives below x rest task after some plain is s t call = subst (λ b. TurnsTo v me n shelf (tasks.Release d) b shelf (record { took = took.Release (identity_of d.reference); turn = comes.Goes task; counted = true }) after s t) (sym some) (record {
-    counts = refl;
-    turns = λ f. record {
-      does = record { does = (refl, call.step, record { table_stays = same-shelf shelf; list_is = is }) };
-      answers = refl;
-      moves = comes-none call.moves;
-      writes = tt;
-      whole = call.whole;
-      fits = plain-fits n t.core task plain;
-    };
-  })
+  release-gives below x rest task after some plain is s t call = grind (arith, nat_tests, common_steps, same-shelf, comes-none, plain-fits)
 
 module _ {X : Type 0} {g : Ghosts X} {N E : Type 0} (v : Values N) (me : Owner) (n : ℕ) (shelf : Shelf) where
   pub ends-failed : (shelf' : Shelf) (why : PageOutError) (back : Option HandleNumber) (below : List Todo) → SameShelf (with_failed shelf n) shelf' → (s t : PagerState N E) → GoesBack v me back s t
       → TurnsTo {g = g} v me n shelf (tasks.Fail why back) below shelf' (record { took = took.Fail; turn = comes.Answers (answer_of_fault (fault_of why)); counted = true }) [] s t
-  ends-failed shelf' why back below same s t call = record {
-    counts = refl;
-    turns = λ f. record {
-      does = record { does = (gives back f.me_is call.goes, same, refl) };
-      answers = refl;
-      moves = comes-none call.moves;
-      writes = tt;
-      whole = call.whole f.whole;
-      fits = tt;
-    };
-  }
-    where
-      gives : (back : Option HandleNumber) → me ≡ owner_worker n → Back me back s.core t.core → GivesBack s.core n back t.core
-      gives None is b = b
-      gives (Some h) is (r, c) = (r, subst (λ o. ScheduleCall s.core o h r t.core) is c)
+  ends-failed shelf' why back below same s t call = grind (arith, nat_tests, common_steps, comes-none)
 
 -- an entry goes back, or none does
 module _ {N E : Type 0} (v : Values N) (me : Owner) where

@@ -1,4 +1,7 @@
 -- Waits come to an end after each change of a table.
+use Rattle.std.proofs.lemmas.Grind.{common_steps}
+use Rattle.std.proofs.Common.{arith}
+use Rattle.std.proofs.lemmas.Bool.Decides.{nat_tests}
 use Rattle.std.proofs.Common.{ℕ, ◌≡◌, Bool, true, false, if◌then◌else◌, Option, Some, None, ◌⊎◌, inl, inr, refl, sym, ap, ◌∙◌, subst, nat_eq}
 use mathlib.Core.Logic.{∥∥₁_map}
 use Rattle.std.proofs.{lemmas.Grind.merely, lemmas.Option.none-some}
@@ -84,12 +87,8 @@ module _ (s s' : Shelf) (v : ℕ) (i : Identity) (same : SameShelf (with_wait s 
 
   module _ (slot : Slot) (o : IsOpenSlot s i slot) (c : ComesToEnd s v slot.worker) where
     ask : (u : ℕ) (b : Bool) → nat_eq u v ≡ b → (w : ℕ) → next s' u ≡ Some w → (next s u ≡ Some w) ⊎ Ends s' w
-    ask u false d w e = inl (sym (next-off u d) ∙ e)
-    ask u true d w e =
-        let waits : s'.waits u ≡ Some i = same.waits u ∙ ap (λ b. if b then Some i else s.waits u) d in
-        let to : next s' u ≡ open_worker (s.slots i) = ap (follow s'.slots) waits ∙ ap open_worker (same.slots i) in
-        let is : open_worker (s.slots i) ≡ Some slot.worker = ap open_worker o.claimed ∙ open-is slot o.no_result_yet in
-        inr (subst (Ends s') (some-same (sym is ∙ (sym to ∙ e))) (end-later c))
+    ask u false d w e = grind (arith, nat_tests, common_steps, next-off)
+    ask u true d w e = grind (arith, nat_tests, common_steps, open-is, some-same, end-later)
 
     pub waiting : EachEnds s → EachEnds s'
     waiting = each-ends s s' (λ u w e. ask u (nat_eq u v) refl w e)

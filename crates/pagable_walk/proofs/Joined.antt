@@ -1,4 +1,7 @@
 -- Steps of a worker's walk are joined to a run.
+use Rattle.std.proofs.lemmas.Grind.{common_steps}
+use Rattle.std.proofs.Common.{arith}
+use Rattle.std.proofs.lemmas.Bool.Decides.{nat_tests}
 use Rattle.std.proofs.Common.{ℕ, ◌≡◌, List, [], ◌∷◌, ap, subst, ◌∙◌}
 use Rattle.pagable_world.specs.{Access.WalkStep, Access.worker-ends, Access.worker-goes-on, Pager.PagerState, World.Shelf, World.Todo, World.Values, declared.events.WorkerAnswer.WorkerAnswer}
 use Rattle.pagable_world.specs.{declared.handles.Owner.Owner}

@@ -1,4 +1,6 @@
 -- Page-outs of an item and of the entries of the list, from the runs of their workers.
+use Rattle.std.proofs.lemmas.Grind.{common_steps}
+use Rattle.std.proofs.lemmas.Bool.Decides.{nat_tests}
 use Rattle.std.proofs.Common.{ℕ, ◌≡◌, ◌≤◌, ◌<◌, ◌+◌, List, ◌∷◌, length, Option, Some, None, Result, Ok, Err, inl, inr, refl, ap, subst, sym, ◌∙◌, arith, slice_get}
 use Rattle.std.proofs.{lemmas.List.Edits.length-remove, lemmas.Option.slice_get_within}
 use Rattle.pagable_model.specs.{declared.data_key.OptionalDataKey.OptionalDataKey, declared.error.Error.Error, declared.numbers.ArcRef.ArcRef, declared.numbers.HandleNumber.HandleNumber}
@@ -62,10 +64,7 @@ module _ {N E : Type 0} (v : Values N) where
 
   -- the list without one entry, and what comes then
   entries-stay : (place : ℕ) (s mid t : PagerState N E) → place < length s.core.list → mid.core.list ≡ remove s.core.list place → length mid.core.list ≤ length t.core.list → place ≤ length t.core.list
-  entries-stay place s mid t within is longer =
-      let gone = length-remove s.core.list place within in
-      let same = ap (λ (xs : List HandleNumber). length xs) is in
-      omega (arith, within, gone, same, longer)
+  entries-stay place s mid t within is longer = grind (arith, nat_tests, common_steps, length-remove)
 
   pub entry-refused : (place : ℕ) (e : Error) (s t : PagerState N E) → RefusesEntry v s place e t → PagesEntry v place (finals.Failed e) s t
   entry-refused place e s t r = record {
@@ -156,14 +155,7 @@ module _ {N E : Type 0} (v : Values N) where
   none-paged count s is = record { whole = λ whole. whole; long = λ whole. omega (arith, is); then = λ whole answer u run. subst (λ i. ListRun (plain v) i s answer u) is run }
 
   pub more-paged : (left place : ℕ) → left ≡ place + 1 → (s mid t : PagerState N E) → HasPaged v left s mid → PagesAt v place (Ok tt) mid t → HasPaged v place s t
-  more-paged left place next s mid t paged at = record {
-    whole = λ whole. (done whole).whole;
-    long = λ whole. (done whole).long;
-    then = λ whole answer u run. let d = done whole in paged.then whole answer u (d.goes left next answer u run);
-  }
-    where
-      done : WellFormed v s → PlaceDone v mid place (Ok tt) t
-      done whole = at.done (paged.whole whole) (let long = paged.long whole in omega (arith, long, next))
+  more-paged left place next s mid t paged at = grind (arith, nat_tests, common_steps)
 
   pub ends-paged : (left place : ℕ) → left ≡ place + 1 → (why : PageOutError) (s mid t : PagerState N E) → HasPaged v left s mid → PagesAt v place (Err why) mid t → PagesList v (Err why) s t
   ends-paged left place next why s mid t paged at = record { over = λ whole. let d = at.done (paged.whole whole) (let long = paged.long whole in omega (arith, long, next)) in paged.then whole (Err (failure_of why)) t (d.stops left next) }

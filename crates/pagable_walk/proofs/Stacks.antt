@@ -1,4 +1,6 @@
 -- What a worker has to do, after a reference was done.
+use Rattle.std.proofs.lemmas.Grind.{common_steps}
+use Rattle.std.proofs.lemmas.Bool.Decides.{nat_tests}
 use Rattle.std.proofs.Common.{ℕ, ◌≡◌, ◌≤◌, ◌<◌, ◌+◌, List, [], ◌∷◌, ◌++◌, length, drop, take, map, get_or, refl, sym, ap, ◌∙◌, arith, Some, slice_get}
 use Rattle.std.proofs.lemmas.List.{at_drop_more, at_drop_all, take_more, length-append, map-append}
 use Rattle.std.proofs.lemmas.Option.{get_or_from_slice_get, slice_get_within}
@@ -59,9 +61,7 @@ none-next place m n rs todo e all = sym (ap (λ k. next_start place (drop k rs) 
 
 pub next-starts : (place m n p : ℕ) (rs : List ArcRef) (r : ArcRef) (todo : List Todo) → m ≡ n → n < length rs → r ≡ get_or rs n r → p ≡ place_below place r.kind.0
     → to_start r p ∷ todo ≡ next_start place (drop m rs) ++ todo
-next-starts place m n p rs r todo e more is at =
-    ap (λ q. to_start r q ∷ todo) at
-    ∙ sym (ap (λ k. next_start place (drop k rs) ++ todo) e ∙ at_drop_more (λ xs. next_start place xs ++ todo) rs n r more ∙ ap (λ x. next_start place (x ∷ drop (n + 1) rs) ++ todo) (sym is))
+next-starts place m n p rs r todo e more is at = grind (arith, nat_tests, common_steps, at_drop_more)
 
 pub child-same : (o : Open) (keys keys' : List ℕ) (h h' : ℕ) → keys ≡ keys' → h ≡ h' → record o { keys = keys; height = h } ≡ record o { keys = keys'; height = h' }
 child-same o keys keys' h h' e f = λ j. record o { keys = e j; height = f j }

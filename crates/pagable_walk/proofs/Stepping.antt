@@ -1,4 +1,7 @@
 -- A turn with the worker's end is its step.
+use Rattle.std.proofs.lemmas.Grind.{common_steps}
+use Rattle.std.proofs.Common.{arith}
+use Rattle.std.proofs.lemmas.Bool.Decides.{nat_tests}
 use Rattle.std.proofs.Common.{ℕ, ◌≡◌, List, inl, inr, refl, sym, subst, ◌∙◌}
 use Rattle.pagable_world.specs.{Access.Called, Events.Ends, Pager.PagerState, Pager.WellFormed, Pager.Moves, Workers.WorkerEnds, World.Shelf, World.Todo, World.Values}
 use Rattle.pagable_world.specs.{declared.events.WorkerAnswer.WorkerAnswer, declared.handles.Owner.Owner}

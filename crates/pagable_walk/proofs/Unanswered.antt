@@ -1,4 +1,5 @@
 -- At a worker's answer each claim of its table has a result, if each had one before; and another's failure is answered only where a claim had failed before.
+use Rattle.std.proofs.lemmas.Grind.{common_steps}
 use Rattle.std.proofs.Common.{ℕ, ◌≡◌, Bool, true, false, if◌then◌else◌, List, [], ◌∷◌, ◌++◌, Option, Some, None, Ok, Err, inl, inr, refl, sym, ap, subst, ◌∙◌, nat_eq, arith}
 use Rattle.std.proofs.lemmas.Bool.Decides.{nat_tests}
 use Rattle.std.specs.Prelude.{◌⊎◌}
@@ -60,15 +61,7 @@ answered-so failed e = is-failed tt
 
 -- a first result comes, or one stands
 settled : {F H K : Type 0} (slot : Slot) (outcome : Outcome) → ByOutcome F K outcome → ByOutcome F H slot.outcome → ByOutcome F K (with_outcome outcome slot).outcome
-settled {F} {H} {K} slot outcome new h = of slot.outcome refl h
-  where
-    at : (o : Outcome) → slot.outcome ≡ o → ByOutcome F K (if is_open_outcome o then record slot { outcome = outcome } else slot).outcome → ByOutcome F K (with_outcome outcome slot).outcome
-    at o e x = subst (λ z. ByOutcome F K (if is_open_outcome z then record slot { outcome = outcome } else slot).outcome) (sym e) x
-
-    of : (o : Outcome) → slot.outcome ≡ o → ByOutcome F H o → ByOutcome F K (with_outcome outcome slot).outcome
-    of no_result e (is-open h) = at no_result e new
-    of (published key height) e (is-known k q) = at (published key height) e (subst (ByOutcome F K) (sym e) (is-known key height))
-    of failed e (is-failed h) = at failed e (subst (ByOutcome F K) (sym e) (is-failed h))
+settled {F} {H} {K} slot outcome new h = grind (arith, nat_tests, common_steps, is-open, new, is-known, is-failed)
 
 starts-held : (i : Identity) (place : ℕ) (rs : List ArcRef) (todo : List Todo) → IsHeld i todo → IsHeld i (next_start place rs ++ todo)
 unfolding IsHeld

@@ -1,4 +1,5 @@
 -- Whom a worker waits for; and that a wait that comes to an end leads to no worker twice.
+use Rattle.std.proofs.lemmas.Grind.{common_steps}
 use Rattle.std.proofs.Common.{ℕ, ◌≡◌, Bool, true, false, cond, if◌then◌else◌, Option, Some, None, ◌⊎◌, inl, inr, refl, sym, ap, ◌∙◌, subst, nat_eq, arith, true≢false}
 use Rattle.std.proofs.{lemmas.Bool.Decides.nat_tests, lemmas.Option.none-some}
 use mathlib.Core.Logic.{∥∥₁_elim}
