@@ -1,40 +1,23 @@
 -- A turn at what was written is the worker's.
+use Rattle.std.proofs.lemmas.Grind.{common_steps}
+use Rattle.std.proofs.lemmas.Bool.Decides.{nat_tests}
 use Rattle.std.proofs.Common.{ℕ, ◌≡◌, true, List, [], ◌∷◌, length, Some, None, Result, Ok, Err, inl, refl, sym, ap, subst, ◌∙◌, arith}
-use Rattle.std.specs.Prelude.{Option}
-use Rattle.std.specs.Arc.{arc_value}
 use Rattle.std.proofs.lemmas.List.{length-map}
-use Rattle.pagable_model.specs.declared.error.Error.{Error}
+use Rattle.std.specs.{Arc.arc_value, Prelude.Option}
+use Rattle.pagable_model.specs.{Blob.key_of, Merkle.blob_of, declared.error.Error.Error}
+use Rattle.pagable_world.specs.World.{Core, Shelf, SameShelf, Todo, Values, to_publish, to_release, to_set, was_refused, answer_of_fault, published}
+use Rattle.pagable_world.specs.{Access.Called, Calls.Asked, Calls.ScheduleCall, Calls.SetKeyCall, Calls.StoreCall, Cascade.FallsAnyhow, Kinds.identity_of, Kinds.owner_worker, Pager.PagerState}
+use Rattle.pagable_world.specs.{Plain.Blob, Plain.HandleNumber, Plain.Identity, Workers.GivesBack, Workers.is_workers_at, Workers.give, Workers.with_changed_slot, Workers.with_failed}
+use Rattle.pagable_world.specs.{Workers.with_outcome, declared.handles.Owner.Owner}
+use Rattle.pagable_walk.specs.{Ending.Stores, Ending.GoesBack, Ending.Back, Failing.back_of, Failing.fails, Found.keys_of, Slots.written_of, Tasks.IsPlain, Tasks.fault_of, Tasks.todo_of}
+use Rattle.pagable_walk.specs.{Turns.TurnsTo, declared.results.Trees.Ghosts, declared.table.PageOutError.PageOutError, declared.tasks.Done.Done, declared.tasks.Item.Item, declared.tasks.Open.Open}
+use Rattle.pagable_walk.specs.{declared.tasks.Task.Task}
+use Rattle.pagable_walk.proofs.{Forming.none-back, Pinning.comes-none, Pinning.same-shelf, Turning.alike, Turning.plain-fits}
 use Rattle.pagable_model.specs.declared.error.Error.TheVariants as errors
-use Rattle.pagable_model.specs.Blob.{key_of}
-use Rattle.pagable_model.specs.Merkle.{blob_of}
-use Rattle.pagable_world.specs.Plain.{Blob, HandleNumber, Identity}
-use Rattle.pagable_world.specs.declared.handles.Owner.{Owner}
 use Rattle.pagable_world.specs.declared.events.Took.TheVariants as took
 use Rattle.pagable_world.specs.declared.events.WorkerAnswer.TheVariants as finals
-use Rattle.pagable_world.specs.Kinds.{identity_of, owner_worker}
-use Rattle.pagable_world.specs.Cascade.{FallsAnyhow}
-use Rattle.pagable_world.specs.Calls.{Asked, ScheduleCall, SetKeyCall, StoreCall}
-use Rattle.pagable_world.specs.World.{Core, Shelf, SameShelf, Todo, Values, to_publish, to_release, to_set, was_refused, answer_of_fault, published}
-use Rattle.pagable_world.specs.Workers.{GivesBack, is_workers_at, give, with_changed_slot, with_failed, with_outcome}
-use Rattle.pagable_world.specs.Pager.{PagerState}
-use Rattle.pagable_world.specs.Access.{Called}
-use Rattle.pagable_walk.specs.declared.results.Trees.{Ghosts}
-use Rattle.pagable_walk.specs.declared.table.PageOutError.{PageOutError}
-use Rattle.pagable_walk.specs.declared.tasks.Done.{Done}
-use Rattle.pagable_walk.specs.declared.tasks.Item.{Item}
-use Rattle.pagable_walk.specs.declared.tasks.Open.{Open}
-use Rattle.pagable_walk.specs.declared.tasks.Task.{Task}
 use Rattle.pagable_walk.specs.declared.tasks.Task.TheVariants as tasks
 use Rattle.pagable_walk.specs.declared.tasks.Turn.TheVariants as comes
-use Rattle.pagable_walk.specs.Ending.{Stores, GoesBack, Back}
-use Rattle.pagable_walk.specs.Failing.{back_of, fails}
-use Rattle.pagable_walk.specs.Found.{keys_of}
-use Rattle.pagable_walk.specs.Slots.{written_of}
-use Rattle.pagable_walk.specs.Tasks.{IsPlain, fault_of, todo_of}
-use Rattle.pagable_walk.specs.Turns.{TurnsTo}
-use Rattle.pagable_walk.proofs.Turning.{alike, plain-fits}
-use Rattle.pagable_walk.proofs.Forming.{none-back}
-use Rattle.pagable_walk.proofs.Pinning.{comes-none, same-shelf}
 
 -- nothing was asked of a storage
 pub not-asked : (w : Core) → Asked w w
@@ -54,159 +37,52 @@ module _ {X : Type 0} {g : Ghosts X} {N E : Type 0} (v : Values N) (me : Owner) 
     pub finish-stores : (key : ℕ) (task : Task X g) → IsPlain task → todo_of task ≡ to_set o.reference o.through key o.height → (s t : PagerState N E)
         → Stores v s (blob_of (written_of (arc_value o.written)).bytes (keys_of o.children.items)) (Ok key) t
         → TurnsTo v me n shelf (tasks.Finish o) below shelf (record { took = took.Store (Some (identity_of o.reference)) (Ok key); turn = comes.Goes task; counted = true }) (todo_of task ∷ below) s t
-    finish-stores key task plain is s t call = record {
-      counts = refl;
-      turns = λ f. record {
-        does = record { does = (refl, record { all = length-map o.children.items (λ r. r.key) ∙ all; stored = call.stored; goes = record { table_stays = same-shelf shelf; list_is = ap (λ x. x ∷ below) is }; refused = tt }) };
-        answers = refl;
-        moves = comes-none call.moves;
-        writes = tt;
-        whole = call.whole f.whole;
-        fits = plain-fits n t.core task plain;
-      };
-    }
+    finish-stores key task plain is s t call = grind (arith, nat_tests, common_steps, length-map, same-shelf, comes-none, plain-fits)
 
     pub finish-fails : (e : Error) (task : Task X g) (after : List Todo) → IsPlain task → after ≡ fails (was_refused e) (back_of None below) → (s t : PagerState N E)
         → Stores v s (blob_of (written_of (arc_value o.written)).bytes (keys_of o.children.items)) (Err e) t
         → TurnsTo v me n shelf (tasks.Finish o) below shelf (record { took = took.Store (Some (identity_of o.reference)) (Err e); turn = comes.Goes task; counted = true }) after s t
-    finish-fails e task after plain is s t call = record {
-      counts = refl;
-      turns = λ f. record {
-        does = record { does = (refl, record { all = length-map o.children.items (λ r. r.key) ∙ all; stored = call.stored; goes = tt; refused = record { table_stays = same-shelf shelf; list_is = is ∙ ap (fails (was_refused e)) (none-back below) } }) };
-        answers = refl;
-        moves = comes-none call.moves;
-        writes = tt;
-        whole = call.whole f.whole;
-        fits = plain-fits n t.core task plain;
-      };
-    }
+    finish-fails e task after plain is s t call = grind (arith, nat_tests, common_steps, length-map, same-shelf, none-back, comes-none, plain-fits)
 
   module _ (i : Item X g) (all : length i.children.items ≡ length (written_of (arc_value i.written)).references) where
     pub item-stores : (key : ℕ) (s t : PagerState N E) → Stores v s (blob_of (written_of (arc_value i.written)).bytes (keys_of i.children.items)) (Ok key) t
         → TurnsTo v me n shelf (tasks.Item i) below shelf (record { took = took.Store None (Ok key); turn = comes.Answers (finals.Key key); counted = true }) [] s t
-    item-stores key s t call = record {
-      counts = refl;
-      turns = λ f. record {
-        does = record { does = (refl, record { all = length-map i.children.items (λ r. r.key) ∙ all; stored = call.stored; goes = record { table_stays = same-shelf shelf; list_is = refl }; refused = tt }) };
-        answers = refl;
-        moves = comes-none call.moves;
-        writes = tt;
-        whole = call.whole f.whole;
-        fits = tt;
-      };
-    }
+    item-stores key s t call = grind (arith, nat_tests, common_steps, length-map, same-shelf, comes-none)
 
     pub item-fails : (e : Error) (task : Task X g) (after : List Todo) → IsPlain task → after ≡ fails (was_refused e) (back_of None below) → (s t : PagerState N E)
         → Stores v s (blob_of (written_of (arc_value i.written)).bytes (keys_of i.children.items)) (Err e) t
         → TurnsTo v me n shelf (tasks.Item i) below shelf (record { took = took.Store None (Err e); turn = comes.Goes task; counted = true }) after s t
-    item-fails e task after plain is s t call = record {
-      counts = refl;
-      turns = λ f. record {
-        does = record { does = (refl, record { all = length-map i.children.items (λ r. r.key) ∙ all; stored = call.stored; goes = tt; refused = record { table_stays = same-shelf shelf; list_is = is ∙ ap (fails (was_refused e)) (none-back below) } }) };
-        answers = refl;
-        moves = comes-none call.moves;
-        writes = tt;
-        whole = call.whole f.whole;
-        fits = plain-fits n t.core task plain;
-      };
-    }
+    item-fails e task after plain is s t call = grind (arith, nat_tests, common_steps, length-map, same-shelf, none-back, comes-none, plain-fits)
 
   module _ (d : Done X g) where
     pub set-goes : (through : HandleNumber) (s t : PagerState N E) → Called v (λ w'. SetKeyCall s.core me through d.found.key (Ok tt) w') s t
         → TurnsTo {g = g} v me n shelf (tasks.SetKey d through) below shelf (record { took = took.SetKey (identity_of d.reference) (Ok tt); turn = comes.Goes (tasks.Publish d); counted = true }) (to_publish d.reference d.found.key d.found.height ∷ below) s t
-    set-goes through s t call = record {
-      counts = refl;
-      turns = λ f. record {
-        does = record { does = (refl, record { sets = subst (λ o. SetKeyCall s.core o through d.found.key (Ok tt) t.core) f.me_is call.step; goes = record { table_stays = same-shelf shelf; list_is = refl }; refused = tt }) };
-        answers = refl;
-        moves = comes-none call.moves;
-        writes = tt;
-        whole = call.whole;
-        fits = tt;
-      };
-    }
+    set-goes through s t call = grind (arith, nat_tests, common_steps, same-shelf, comes-none)
 
     pub set-fails : (through : HandleNumber) (e : Error) (task : Task X g) (after : List Todo) → IsPlain task → after ≡ fails (was_refused e) (back_of None below) → (s t : PagerState N E)
         → Called v (λ w'. SetKeyCall s.core me through d.found.key (Err e) w') s t
         → TurnsTo v me n shelf (tasks.SetKey d through) below shelf (record { took = took.SetKey (identity_of d.reference) (Err e); turn = comes.Goes task; counted = true }) after s t
-    set-fails through e task after plain is s t call = record {
-      counts = refl;
-      turns = λ f. record {
-        does = record { does = (refl, record { sets = subst (λ o. SetKeyCall s.core o through d.found.key (Err e) t.core) f.me_is call.step; goes = tt; refused = record { table_stays = same-shelf shelf; list_is = is ∙ ap (fails (was_refused e)) (none-back below) } }) };
-        answers = refl;
-        moves = comes-none call.moves;
-        writes = tt;
-        whole = call.whole;
-        fits = plain-fits n t.core task plain;
-      };
-    }
+    set-fails through e task after plain is s t call = grind (arith, nat_tests, common_steps, same-shelf, none-back, comes-none, plain-fits)
 
     pub publishes : (shelf' : Shelf) (i : Identity) (key height : ℕ) → i ≡ identity_of d.reference → key ≡ d.found.key → height ≡ d.found.height
         → SameShelf (with_changed_slot shelf i (with_outcome (published key height))) shelf' → (s : PagerState N E)
         → TurnsTo {g = g} v me n shelf (tasks.Publish d) below shelf' (record { took = took.Publish (identity_of d.reference) d.found.key d.found.height; turn = comes.Goes (tasks.Release d); counted = true }) (to_release d.reference d.found.key d.found.height ∷ below) s s
-    publishes shelf' i key height at same_key same_height same s =
-        let same' = subst (λ j. SameShelf (with_changed_slot shelf j (with_outcome (published d.found.key d.found.height))) shelf') at
-        (subst (λ k. SameShelf (with_changed_slot shelf i (with_outcome (published k d.found.height))) shelf') same_key (subst (λ h. SameShelf (with_changed_slot shelf i (with_outcome (published key h))) shelf') same_height same)) in
-        record {
-          counts = refl;
-          turns = λ f. record {
-            does = record { does = (refl, refl, refl, record { pager_stays = alike s.core; table_is = same'; list_is = refl }) };
-            answers = refl;
-            moves = record { each = λ q x h. inl h; environment = refl };
-            writes = tt;
-            whole = f.whole;
-            fits = tt;
-          };
-        }
+    publishes shelf' i key height at same_key same_height same s = grind (arith, nat_tests, common_steps, alike)
 
 module _ {X : Type 0} {g : Ghosts X} {N E : Type 0} (v : Values N) (me : Owner) (n : ℕ) (shelf : Shelf) (d : Done X g) where
   pub release-ends : (below : List Todo) → below ≡ [] → (s t : PagerState N E) → Called v (λ w'. FallsAnyhow s.core s.core (is_workers_at s.core n d.reference.node.0) w') s t
       → TurnsTo v me n shelf (tasks.Release d) below shelf (record { took = took.Release (identity_of d.reference); turn = comes.Answers (finals.Key d.found.key); counted = true }) [] s t
-  release-ends below none s t call = subst (λ b. TurnsTo v me n shelf (tasks.Release d) b shelf (record { took = took.Release (identity_of d.reference); turn = comes.Answers (finals.Key d.found.key); counted = true }) [] s t) (sym none) (record {
-    counts = refl;
-    turns = λ f. record {
-      does = record { does = (refl, call.step, record { table_stays = same-shelf shelf; list_is = refl }) };
-      answers = refl;
-      moves = comes-none call.moves;
-      writes = tt;
-      whole = call.whole;
-      fits = tt;
-    };
-  })
+  release-ends below none s t call = grind (arith, nat_tests, common_steps, same-shelf, comes-none)
 
   pub release-gives : (below : List Todo) (x : Todo) (rest : List Todo) (task : Task X g) (after : List Todo) → below ≡ x ∷ rest → IsPlain task
       → after ≡ give d.reference d.found.key d.found.height (x ∷ rest) → (s t : PagerState N E)
       → Called v (λ w'. FallsAnyhow s.core s.core (is_workers_at s.core n d.reference.node.0) w') s t → TurnsTo v me n shelf (tasks.Release d) below shelf (record { took = took.Release (identity_of d.reference); turn = comes.Goes task; counted = true }) after s t
-  release-gives below x rest task after some plain is s t call = subst (λ b. TurnsTo v me n shelf (tasks.Release d) b shelf (record { took = took.Release (identity_of d.reference); turn = comes.Goes task; counted = true }) after s t) (sym some) (record {
-    counts = refl;
-    turns = λ f. record {
-      does = record { does = (refl, call.step, record { table_stays = same-shelf shelf; list_is = is }) };
-      answers = refl;
-      moves = comes-none call.moves;
-      writes = tt;
-      whole = call.whole;
-      fits = plain-fits n t.core task plain;
-    };
-  })
+  release-gives below x rest task after some plain is s t call = grind (arith, nat_tests, common_steps, same-shelf, comes-none, plain-fits)
 
 module _ {X : Type 0} {g : Ghosts X} {N E : Type 0} (v : Values N) (me : Owner) (n : ℕ) (shelf : Shelf) where
   pub ends-failed : (shelf' : Shelf) (why : PageOutError) (back : Option HandleNumber) (below : List Todo) → SameShelf (with_failed shelf n) shelf' → (s t : PagerState N E) → GoesBack v me back s t
       → TurnsTo {g = g} v me n shelf (tasks.Fail why back) below shelf' (record { took = took.Fail; turn = comes.Answers (answer_of_fault (fault_of why)); counted = true }) [] s t
-  ends-failed shelf' why back below same s t call = record {
-    counts = refl;
-    turns = λ f. record {
-      does = record { does = (gives back f.me_is call.goes, same, refl) };
-      answers = refl;
-      moves = comes-none call.moves;
-      writes = tt;
-      whole = call.whole f.whole;
-      fits = tt;
-    };
-  }
-    where
-      gives : (back : Option HandleNumber) → me ≡ owner_worker n → Back me back s.core t.core → GivesBack s.core n back t.core
-      gives None is b = b
-      gives (Some h) is (r, c) = (r, subst (λ o. ScheduleCall s.core o h r t.core) is c)
+  ends-failed shelf' why back below same s t call = grind (arith, nat_tests, common_steps, comes-none)
 
 -- an entry goes back, or none does
 module _ {N E : Type 0} (v : Values N) (me : Owner) where

@@ -3,13 +3,9 @@ use Rattle.std.proofs.Common.{ℕ, ◌≡◌, ◌≤◌, ◌<◌, ◌+◌, ◌*�
 use Rattle.std.proofs.Math.Nat.{mul-le-mul_right}
 use Rattle.pagable_model.specs.declared.numbers.ArcRef.{ArcRef}
 use Rattle.pagable_world.specs.World.{Todo, to_start}
-use Rattle.pagable_walk.specs.declared.results.Trees.{Ghosts}
-use Rattle.pagable_walk.specs.declared.tasks.Task.{Task}
+use Rattle.pagable_walk.specs.{Due.IfGoes, Due.LeadsOn, Due.due, Due.far, Tasks.todo_of, declared.results.Trees.Ghosts, declared.tasks.Task.Task, declared.tasks.Turn.Turn}
 use Rattle.pagable_walk.specs.declared.tasks.Task.TheVariants as tasks
-use Rattle.pagable_walk.specs.declared.tasks.Turn.{Turn}
 use Rattle.pagable_walk.specs.declared.tasks.Turn.TheVariants as comes
-use Rattle.pagable_walk.specs.Due.{IfGoes, LeadsOn, due, far}
-use Rattle.pagable_walk.specs.Tasks.{todo_of}
 
 falls-by : (l l' d d' b : ℕ) → l' + 1 ≤ l → d' < b → l' * b + d' < l * b + d
 falls-by l l' d d' b less low = let a : (l' + 1) * b ≤ l * b = mul-le-mul_right b less in omega (arith, a)

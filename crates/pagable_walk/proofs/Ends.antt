@@ -1,14 +1,14 @@
 -- Waits come to an end after each change of a table.
+use Rattle.std.proofs.lemmas.Grind.{common_steps}
+use Rattle.std.proofs.Common.{arith}
+use Rattle.std.proofs.lemmas.Bool.Decides.{nat_tests}
 use Rattle.std.proofs.Common.{ℕ, ◌≡◌, Bool, true, false, if◌then◌else◌, Option, Some, None, ◌⊎◌, inl, inr, refl, sym, ap, ◌∙◌, subst, nat_eq}
 use mathlib.Core.Logic.{∥∥₁_map}
-use Rattle.std.proofs.lemmas.Grind.{merely}
-use Rattle.std.proofs.lemmas.Option.{none-some}
-use Rattle.pagable_world.specs.Plain.{Identity, SameAt, if_there, updated}
-use Rattle.pagable_world.specs.World.{Outcome, Slot, Shelf, no_result, SameShelf, is_identity}
+use Rattle.std.proofs.{lemmas.Grind.merely, lemmas.Option.none-some}
 use Rattle.pagable_world.specs.Workers.{is_open_outcome, with_outcome, IsOpenSlot, ComesToEnd, works, may-go-on, waits-on, with_slot, with_wait}
+use Rattle.pagable_world.specs.{Plain.Identity, Plain.SameAt, Plain.if_there, Plain.updated, World.Outcome, World.Slot, World.Shelf, World.no_result, World.SameShelf, World.is_identity}
 use Rattle.pagable_walk.specs.Slots.{open_worker, next, Ends, ends-at, EachEnds, claimed_by, SlotIs, SameSlots, Changes}
-use Rattle.pagable_walk.proofs.Held.{same-as, same-identity}
-use Rattle.pagable_walk.proofs.Waits.{some-same, as-told, closed}
+use Rattle.pagable_walk.proofs.{Held.same-as, Held.same-identity, Waits.some-same, Waits.as-told, Waits.closed}
 
 or-ends : {A B : Type 0} → (A → B) → A ⊎ B → B
 or-ends f (inl a) = f a
@@ -87,12 +87,8 @@ module _ (s s' : Shelf) (v : ℕ) (i : Identity) (same : SameShelf (with_wait s 
 
   module _ (slot : Slot) (o : IsOpenSlot s i slot) (c : ComesToEnd s v slot.worker) where
     ask : (u : ℕ) (b : Bool) → nat_eq u v ≡ b → (w : ℕ) → next s' u ≡ Some w → (next s u ≡ Some w) ⊎ Ends s' w
-    ask u false d w e = inl (sym (next-off u d) ∙ e)
-    ask u true d w e =
-        let waits : s'.waits u ≡ Some i = same.waits u ∙ ap (λ b. if b then Some i else s.waits u) d in
-        let to : next s' u ≡ open_worker (s.slots i) = ap (follow s'.slots) waits ∙ ap open_worker (same.slots i) in
-        let is : open_worker (s.slots i) ≡ Some slot.worker = ap open_worker o.claimed ∙ open-is slot o.no_result_yet in
-        inr (subst (Ends s') (some-same (sym is ∙ (sym to ∙ e))) (end-later c))
+    ask u false d w e = grind (arith, nat_tests, common_steps, next-off)
+    ask u true d w e = grind (arith, nat_tests, common_steps, open-is, some-same, end-later)
 
     pub waiting : EachEnds s → EachEnds s'
     waiting = each-ends s s' (λ u w e. ask u (nat_eq u v) refl w e)

@@ -1,16 +1,11 @@
 -- What a worker's failure makes of its claims, one after another.
+use Rattle.std.proofs.lemmas.Grind.{common_steps}
 use Rattle.std.proofs.Common.{ℕ, ◌≡◌, ◌<◌, ◌≤◌, suc, Bool, true, false, cond, if◌then◌else◌, List, [], ◌∷◌, length, Option, Some, None, refl, sym, ap, ◌∙◌, subst, nat_eq, arith, slice_get}
-use Rattle.std.proofs.lemmas.Bool.Decides.{nat_tests}
-use Rattle.std.proofs.lemmas.Option.{none-some}
-use Rattle.std.specs.Map.{lookup, keys_of}
-use Rattle.std.specs.Option.{option_map}
-use Rattle.pagable_world.specs.Plain.{Identity}
-use Rattle.pagable_world.specs.World.{Slot, failed, is_identity}
-use Rattle.pagable_world.specs.Workers.{is_open_outcome, with_outcome}
-use Rattle.pagable_walk.specs.Slots.{is_same}
-use Rattle.pagable_walk.specs.Slots.{Changes, failed_by, after_failure, open_worker}
-use Rattle.pagable_walk.proofs.Held.{same-as, same-identity, same-pair}
-use Rattle.pagable_walk.proofs.Ends.{outcome-less}
+use Rattle.std.proofs.{lemmas.Bool.Decides.nat_tests, lemmas.Option.none-some}
+use Rattle.std.specs.{Map.lookup, Map.keys_of, Option.option_map}
+use Rattle.pagable_world.specs.{Plain.Identity, Workers.is_open_outcome, Workers.with_outcome, World.Slot, World.failed, World.is_identity}
+use Rattle.pagable_walk.specs.{Slots.is_same, Slots.Changes, Slots.failed_by, Slots.after_failure, Slots.open_worker}
+use Rattle.pagable_walk.proofs.{Ends.outcome-less, Held.same-as, Held.same-identity, Held.same-pair}
 
 -- what is failed is failed once
 again-by : (s : Slot) (b : Bool) → is_open_outcome s.outcome ≡ b → with_outcome failed (with_outcome failed s) ≡ with_outcome failed s
@@ -22,11 +17,8 @@ worker-stays s true = refl
 worker-stays s false = refl
 
 once-by : (v : ℕ) (s : Slot) (b : Bool) → nat_eq s.worker v ≡ b → failed_by v (failed_by v s) ≡ failed_by v s
-once-by v s false e = let is : failed_by v s ≡ s = ap (λ b. if b then with_outcome failed s else s) e in ap (failed_by v) is
-once-by v s true e =
-    let is : failed_by v s ≡ with_outcome failed s = ap (λ b. if b then with_outcome failed s else s) e in
-    let at : nat_eq (with_outcome failed s).worker v ≡ true = ap (λ n. nat_eq n v) (worker-stays s (is_open_outcome s.outcome)) ∙ e in
-    ap (failed_by v) is ∙ (ap (λ b. if b then with_outcome failed (with_outcome failed s) else with_outcome failed s) at ∙ (again-by s (is_open_outcome s.outcome) refl ∙ sym is))
+once-by v s false e = grind (arith, nat_tests, common_steps)
+once-by v s true e = grind (arith, nat_tests, common_steps, worker-stays, again-by)
 
 once : (v : ℕ) (o : Option Slot) → after_failure v (after_failure v o) ≡ after_failure v o
 once v None = refl

@@ -1,73 +1,37 @@
 -- What was written is a form of the node's value.
-use Rattle.std.specs.Prelude.{IfOk, IfErr}
+use Rattle.std.proofs.lemmas.Grind.{common_steps}
+use Rattle.std.proofs.Common.{arith}
+use Rattle.std.proofs.lemmas.Bool.Decides.{nat_tests}
+use Rattle.std.specs.{Arc.arc_value, Prelude.IfOk, Prelude.IfErr, declared.alloc.Global.Global, declared.sync.Arc.Arc}
 use Rattle.std.proofs.Common.{ℕ, ◌≡◌, ◌++◌, List, [], ◌∷◌, true, false, Some, None, Result, Ok, Err, inl, inr, refl, sym, ap, subst, ◌∙◌}
 use Rattle.pagable_codec.specs.declared.env.Env.{Ghosts as Environments}
 use Rattle.pagable_codec.specs.declared.hash.KeyHash.{Ghosts as Hashes}
 use Rattle.pagable_codec.specs.declared.nodes.NodeSet.{Ghosts as Nodes}
-use Rattle.std.specs.Arc.{arc_value}
-use Rattle.std.specs.declared.alloc.Global.{Global}
-use Rattle.std.specs.declared.sync.Arc.{Arc}
-use Rattle.pagable_core.specs.Context.{nothing}
-use Rattle.pagable_core.specs.declared.context.writing.SerializedData.{SerializedData}
-use Rattle.pagable_model.specs.declared.error.Error.{Error}
-use Rattle.pagable_model.specs.declared.error.Error.TheVariants as errors
-use Rattle.pagable_model.specs.declared.numbers.ArcRef.{ArcRef}
-use Rattle.pagable_model.specs.declared.numbers.HandleNumber.{HandleNumber}
-use Rattle.pagable_model.specs.declared.numbers.NodeNumber.{NodeNumber}
-use Rattle.pagable_model.specs.Refusals.{is_writing_fault}
-use Rattle.pagable_model.specs.Form.{Form}
-use Rattle.pagable_model.specs.Reading.{deepest}
-use Rattle.pagable_model.specs.Writing.{Out, WritesSome, nesting, Refused, kind_of_arc}
-use Rattle.pagable_world.specs.Plain.{type_of}
-use Rattle.pagable_world.specs.declared.handles.HandleRow.{HandleRow}
-use Rattle.pagable_world.specs.declared.handles.Owner.{Owner}
-use Rattle.pagable_world.specs.declared.events.Took.TheVariants as took
-use Rattle.pagable_world.specs.Kinds.{identity_of, is_pinning}
-use Rattle.pagable_world.specs.World.{Values, Written, Shelf, Todo, SameShelf, seen_as, was_refused, row_at}
-use Rattle.pagable_world.specs.Workers.{with_changed_slot, open_node}
-use Rattle.pagable_world.specs.Refusals.{live_fault}
-use Rattle.pagable_world.specs.Pager.{PagerState, ValueCall, RefusesWriting}
+use Rattle.pagable_core.specs.{Context.nothing, declared.context.writing.SerializedData.SerializedData}
+use Rattle.pagable_model.specs.{Form.Form, Reading.deepest, Refusals.is_writing_fault, Writing.Out, Writing.WritesSome, Writing.nesting, Writing.Refused, Writing.kind_of_arc}
+use Rattle.pagable_model.specs.{declared.error.Error.Error, declared.numbers.ArcRef.ArcRef, declared.numbers.HandleNumber.HandleNumber, declared.numbers.NodeNumber.NodeNumber}
+use Rattle.pagable_world.specs.{Kinds.identity_of, Kinds.is_pinning, Pager.PagerState, Pager.ValueCall, Pager.RefusesWriting, Plain.type_of, Refusals.live_fault, Workers.with_changed_slot}
+use Rattle.pagable_world.specs.{Workers.open_node, World.Values, World.Written, World.Shelf, World.Todo, World.SameShelf, World.seen_as, World.was_refused, World.row_at}
+use Rattle.pagable_world.specs.{declared.handles.HandleRow.HandleRow, declared.handles.Owner.Owner}
 use Rattle.pagable_laws.proofs.Trees.{same_some}
-use Rattle.pagable_loads.specs.Starting.{Shares}
-use Rattle.pagable_loads.specs.Telling.{values_at}
-use Rattle.pagable_walk.specs.declared.results.Trees.{Ghosts}
-use Rattle.pagable_walk.specs.declared.tasks.Task.{Task}
+use Rattle.pagable_loads.specs.{Starting.Shares, Telling.values_at}
+use Rattle.pagable_walk.specs.{Failing.back_of, Failing.fails, Slots.with_written, Slots.written_of, Tasks.IsPlain, Turns.Fits, Turns.TurnsTo, Writing.IsForm, Writing.WriteRefused, Writing.IsPinned}
+use Rattle.pagable_walk.specs.{Writing.Finds, Writing.Forms, declared.results.Trees.Ghosts, declared.tasks.Task.Task}
+use Rattle.pagable_walk.proofs.Turning.{alike, plain-fits}
+use Rattle.pagable_model.specs.declared.error.Error.TheVariants as errors
+use Rattle.pagable_world.specs.declared.events.Took.TheVariants as took
 use Rattle.pagable_walk.specs.declared.tasks.Task.TheVariants as tasks
 use Rattle.pagable_walk.specs.declared.tasks.Turn.TheVariants as comes
-use Rattle.pagable_walk.specs.Slots.{with_written, written_of}
-use Rattle.pagable_walk.specs.Failing.{back_of, fails}
-use Rattle.pagable_walk.specs.Tasks.{IsPlain}
-use Rattle.pagable_walk.specs.Turns.{Fits, TurnsTo}
-use Rattle.pagable_walk.specs.Writing.{IsForm, WriteRefused, IsPinned, Finds, Forms}
-use Rattle.pagable_walk.proofs.Turning.{alike, plain-fits}
 
 module _ {N E H K V : Type 0} (n : Nodes N E N H K V) (e : Environments E N H K V) (h : Hashes H) (env : E) (x : N) (shaped : n.shape_of env (n.type_of x) ≡ Some (n.own_shape env x)) where
   pub is-form : (env' : E) (levels : ℕ) (old new : Out) (w : Written) → env' ≡ env → levels ≡ 0 → old ≡ nothing
       → WritesSome (n.means x) (nesting levels (e.parts env')) (n.own_shape env' x) old new → new.refs ≡ old.refs ++ n.refs_of x
       → record { bytes = w.bytes; refs = w.references } ≡ new → IsForm (values_at n e h env) x w
-  is-form env' levels old new w at zero start wrote listed is =
-      let here = subst (λ (o : E). WritesSome (n.means x) (nesting levels (e.parts o)) (n.own_shape o x) old new) at wrote in
-      let flat = subst (λ l. WritesSome (n.means x) (nesting l (e.parts env)) (n.own_shape env x) old new) zero here in
-      let fresh = subst (λ (o : Out). WritesSome (n.means x) (nesting 0 (e.parts env)) (n.own_shape env x) o new) start flat in
-      let bytes : w.bytes ≡ fresh.wrote.bytes = ap (λ (o : Out). o.bytes) (is ∙ fresh.wrote.grown) in
-      let refs : w.references ≡ fresh.wrote.refs = ap (λ (o : Out). o.refs) (is ∙ fresh.wrote.grown) in
-      record {
-        form = record {
-          shape = n.own_shape env x;
-          own = fresh.m;
-          is = shaped;
-          means = fresh.is;
-          form = subst (λ bs. Form ArcRef kind_of_arc (e.parts env) deepest (n.own_shape env x) fresh.m bs w.references) (sym bytes) (subst (λ rs. Form ArcRef kind_of_arc (e.parts env) deepest (n.own_shape env x) fresh.m fresh.wrote.bytes rs) (sym refs) fresh.wrote.form);
-        };
-        listed = ap (λ (o : Out). o.refs) is ∙ listed ∙ ap (λ (o : Out). o.refs ++ n.refs_of x) start;
-      }
+  is-form env' levels old new w at zero start wrote listed is = grind (arith, nat_tests, common_steps)
 
   pub write-refused : (env' : E) (levels : ℕ) (err : Error) → env' ≡ env → levels ≡ 0 → Refused (n.means x) (nesting levels (e.parts env')) (n.own_shape env' x) err
       → n.write_causes (n.type_of x) err → WriteRefused (values_at n e h env) x err
-  write-refused env' levels err at zero refused cause =
-      let here = subst (λ (o : E). Refused (n.means x) (nesting levels (e.parts o)) (n.own_shape o x) err) at refused in
-      let flat = subst (λ l. Refused (n.means x) (nesting l (e.parts env)) (n.own_shape env x) err) zero here in
-      record { cause = cause; formless = λ is. record { shape = n.own_shape env x; is = shaped; formless = flat is } }
+  write-refused env' levels err at zero refused cause = grind (arith, nat_tests, common_steps)
 
 -- ---- what a handle pins
 
@@ -81,11 +45,7 @@ module _ {N E : Type 0} (v : Values N) (s : PagerState N E) (r : ArcRef) (pin : 
       (held, p.kind.typed (v.node_type x) (p.whole.typed r.node.0 x held))
 
   shared-none : {A : Type 0} → ValueCall s pin (Ok None) → IsPinned v s r pin → A
-  shared-none call p =
-      let row : HandleRow = call.found.0 in
-      let same : row ≡ p.pins.row = same_some _ _ (sym call.found.1 ∙ p.pins.live) in
-      let no : false ≡ true = sym call.found.2 ∙ ap (λ (h : HandleRow). is_pinning h.mode) same ∙ p.pins.pins in
-      absurd (cc)
+  shared-none call p = grind (arith, nat_tests, common_steps, same_some)
 
   shared-refused : {A : Type 0} (e : Error) → live_fault (row_at s.core pin) ≡ Some e → IsPinned v s r pin → A
   shared-refused e why p = let no : None ≡ Some e = sym (ap live_fault p.pins.live) ∙ why in absurd (cc)
@@ -107,11 +67,7 @@ module _ {N E : Type 0} (v : Values N) (s : PagerState N E) (r : ArcRef) (pin : 
   pinned-forms x w finds is = record { written = λ p. record { x = x; held = (finds.found p).0; form = is.form; listed = is.listed }; refused = λ p. tt }
 
   pub pinned-refuses : (x : N) (e : Error) → Finds v s r pin (Ok x) → WriteRefused v x e → Forms v s r pin (Err e)
-  pinned-refuses x e finds why =
-      record {
-        written = λ p. tt;
-        refused = λ p. (inl (subst (λ t. v.write_causes t e) (finds.found p).1 why.cause), λ is. (x, (finds.found p).0, why.formless is));
-      }
+  pinned-refuses x e finds why = grind (arith, nat_tests, common_steps)
 
   none-written : (e : Error) → e ≡ errors.OutOfMemory → RefusesWriting v s r.node.0 e
   none-written e oom is = let no : false ≡ true = sym (ap is_writing_fault oom) ∙ is in absurd (cc)
@@ -144,30 +100,8 @@ module _ {X : Type 0} {g : Ghosts X} {N E : Type 0} (v : Values N) (me : Owner) 
   pub write-turns : (told : Arc SerializedData Global) → Forms v s r pin (Ok (written_of (arc_value told))) → SameShelf (with_changed_slot shelf (identity_of r) (with_written (written_of (arc_value told)))) shelf'
       → after ≡ open_node r place through (written_of (arc_value told)) below
       → TurnsTo v me n shelf (tasks.Write r place through pin) below shelf' (record { took = took.Write (identity_of r) (Ok told); turn = comes.Goes task; counted = true }) after s s
-  write-turns told forms same is = record {
-    counts = refl;
-    turns = λ f. record {
-      does = record { does = (refl, record { writes = record { pager_stays = alike s.core; table_is = same; list_is = is }; refused = tt }) };
-      answers = refl;
-      moves = record { each = λ q x h. inl h; environment = refl };
-      writes = forms.written (is-pinned f);
-      whole = f.whole;
-      fits = plain-fits n s.core task plain;
-    };
-  }
+  write-turns told forms same is = grind (arith, nat_tests, common_steps, alike, is-pinned, plain-fits)
 
   pub write-fails : (e : Error) → Forms v s r pin (Err e) → SameShelf shelf shelf' → after ≡ fails (was_refused e) (back_of None below)
       → TurnsTo v me n shelf (tasks.Write r place through pin) below shelf' (record { took = took.Write (identity_of r) (Err e); turn = comes.Goes task; counted = true }) after s s
-  write-fails e forms same is = record {
-    counts = refl;
-    turns = λ f.
-        let why = forms.refused (is-pinned f) in
-        record {
-          does = record { does = (refl, record { writes = tt; refused = (why.0, record { pager_stays = alike s.core; table_is = same; list_is = is ∙ ap (fails (was_refused e)) (none-back below) }) }) };
-          answers = refl;
-          moves = record { each = λ q x h. inl h; environment = refl };
-          writes = why.1;
-          whole = f.whole;
-          fits = plain-fits n s.core task plain;
-        };
-  }
+  write-fails e forms same is = grind (arith, nat_tests, common_steps, is-pinned, alike, none-back, plain-fits)

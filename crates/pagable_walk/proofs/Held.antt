@@ -1,18 +1,13 @@
 -- The slots of a table after one of them came or changed.
+use Rattle.std.proofs.lemmas.Grind.{common_steps}
 use Rattle.std.proofs.Common.{ℕ, ◌≡◌, true≢false, Bool, true, false, cond, Option, Some, None, refl, sym, ap, ◌∙◌, subst, nat_eq, arith, ◌&&◌, if◌then◌else◌, inl, inr}
 use Rattle.std.proofs.lemmas.Bool.Decides.{nat_tests}
-use Rattle.std.specs.Option.{option_map}
-use Rattle.std.specs.Prelude.{◌⊎◌, Result, Ok, Err, OnOk, OnErr}
+use Rattle.std.specs.{Option.option_map, Prelude.◌⊎◌, Prelude.Result, Prelude.Ok, Prelude.Err, Prelude.OnOk, Prelude.OnErr}
 use Rattle.indexmap.specs.IndexMap.{IndexMap, get}
-use Rattle.pagable_world.specs.Plain.{Identity, SameAt, updated, if_there}
-use Rattle.pagable_world.specs.World.{Slot, is_identity}
-use Rattle.pagable_walk.specs.Slots.{is_same}
-use Rattle.pagable_walk.specs.declared.results.Trees.{Ghosts}
-use Rattle.pagable_walk.specs.declared.slots.ArcSerSlot.{ArcSerSlot}
-use Rattle.pagable_walk.specs.declared.results.SlotResult.{SlotResult}
-use Rattle.pagable_walk.specs.declared.slots.Outcome.{Outcome}
+use Rattle.pagable_world.specs.{Plain.Identity, Plain.SameAt, Plain.updated, Plain.if_there, World.Slot, World.is_identity}
+use Rattle.pagable_walk.specs.{Slots.is_same, Slots.slot_of, Slots.IsOwnOutcome, Slots.IsOwn, Slots.slots_in, Slots.AreOwn, Slots.AreNamed, Slots.SlotIs, Slots.Changes}
+use Rattle.pagable_walk.specs.{declared.results.SlotResult.SlotResult, declared.results.Trees.Ghosts, declared.slots.ArcSerSlot.ArcSerSlot, declared.slots.Outcome.Outcome}
 use Rattle.pagable_walk.specs.declared.slots.Outcome.TheVariants as outcomes
-use Rattle.pagable_walk.specs.Slots.{slot_of, IsOwnOutcome, IsOwn, slots_in, AreOwn, AreNamed, SlotIs, Changes}
 
 pub either-way : {A B P Q : Type 0} (r : Result A B) → OnOk r P → OnErr r Q → P ⊎ Q
 either-way (Ok x) p q = inl p
@@ -32,18 +27,10 @@ pub same-numbers : (i j : Identity) → i.kind.0 ≡ j.kind.0 → i.node.0 ≡ j
 same-numbers i j k n = λ p. record { kind = record { 0 = k p }; node = record { 0 = n p } }
 
 pub same-identity : (i j : Identity) → is_same (i.kind.0, i.node.0) (j.kind.0, j.node.0) ≡ true → i ≡ j
-same-identity i j h =
-    let both = and-true (nat_eq i.kind.0 j.kind.0) (nat_eq i.node.0 j.node.0) h in
-    let k : i.kind.0 ≡ j.kind.0 = grind (arith, nat_tests, both.0) in
-    let n : i.node.0 ≡ j.node.0 = grind (arith, nat_tests, both.1) in
-    same-numbers i j k n
+same-identity i j h = grind (arith, nat_tests, common_steps, and-true, nat_tests, same-numbers)
 
 pub same-pair : (p q : ℕ × ℕ) → is_same p q ≡ true → p ≡ q
-same-pair p q h =
-    let both = and-true (nat_eq p.0 q.0) (nat_eq p.1 q.1) h in
-    let k : p.0 ≡ q.0 = grind (arith, nat_tests, both.0) in
-    let n : p.1 ≡ q.1 = grind (arith, nat_tests, both.1) in
-    λ j. (k j, n j)
+same-pair p q h = grind (arith, nat_tests, common_steps, and-true, nat_tests)
 
 pub same-key : (i : Identity) → is_identity i i ≡ true
 same-key i = grind (arith, nat_tests)
@@ -63,9 +50,7 @@ module _ {E : Type 0} {g : Ghosts E} where
 
   module _ {S : Type 0} (old new : IndexMap (ℕ × ℕ) (ArcSerSlot E g) S) (i : Identity) (s : ArcSerSlot E g) (h : (q : ℕ × ℕ) → get is_same new q ≡ cond (is_same (i.kind.0, i.node.0) q) (Some s) (get is_same old q)) where
     pub slot-is : (x : Slot) → slot_of s ≡ x → SlotIs (slots_in old) i (Some x) (slots_in new)
-    slot-is x e j =
-        ap (option_map slot_of) (h (j.kind.0, j.node.0)) ∙ chosen (is_same (i.kind.0, i.node.0) (j.kind.0, j.node.0)) s x e (get is_same old (j.kind.0, j.node.0))
-        ∙ ap (λ b. if b then Some x else slots_in old j) (same-as i j)
+    slot-is x e j = grind (arith, nat_tests, common_steps, chosen, same-as)
 
     pub own-is : AreOwn old → ((j : Identity) → is_same (i.kind.0, i.node.0) (j.kind.0, j.node.0) ≡ true → IsOwn j (Some s)) → AreOwn new
     own-is own fresh j = subst (IsOwn j) (sym (h (j.kind.0, j.node.0))) (own-chosen j (is_same (i.kind.0, i.node.0) (j.kind.0, j.node.0)) s (get is_same old (j.kind.0, j.node.0)) (fresh j) (own j))
@@ -73,9 +58,7 @@ module _ {E : Type 0} {g : Ghosts E} where
     -- the slot that stood there has changed
     module _ (was : ArcSerSlot E g) (at : Some was ≡ get is_same old (i.kind.0, i.node.0)) where
       pub changed-is : (f : Slot → Slot) → slot_of s ≡ f (slot_of was) → Changes f (slots_in old) i (slots_in new)
-      changed-is f e j =
-          let there : Some (f (slot_of was)) ≡ if_there (λ (x : Slot). Some (f x)) None (slots_in old i) = ap (λ o. if_there (λ (x : Slot). Some (f x)) None (option_map slot_of o)) at in
-          slot-is (f (slot_of was)) e j ∙ ap (λ o. if is_identity i j then o else slots_in old j) there
+      changed-is f e j = grind (arith, nat_tests, common_steps, slot-is)
 
       pub own-changed : AreOwn old → (IsOwn i (Some was) → IsOwn i (Some s)) → AreOwn new
       own-changed own f = own-is own (λ j e. subst (λ k. IsOwn k (Some s)) (same-identity i j e) (f (subst (IsOwn i) (sym at) (own i))))
@@ -94,6 +77,4 @@ module _ {E : Type 0} {g : Ghosts E} where
     to-own named i = own-there i (get is_same slots (i.kind.0, i.node.0)) (λ s e. own-outcome i s.outcome (λ r q. named i s r e q))
 
     pub from-own : AreOwn slots → AreNamed slots
-    from-own own i s r e q =
-        let is : r.identity ≡ i = subst (IsOwnOutcome i) q (subst (IsOwn i) e (own i)) in
-        (ap (λ (j : Identity). j.kind.0) is, ap (λ (j : Identity). j.node.0) is)
+    from-own own i s r e q = grind (arith, nat_tests, common_steps)

@@ -1,17 +1,13 @@
 -- Steps of a worker's walk are joined to a run.
+use Rattle.std.proofs.lemmas.Grind.{common_steps}
+use Rattle.std.proofs.Common.{arith}
+use Rattle.std.proofs.lemmas.Bool.Decides.{nat_tests}
 use Rattle.std.proofs.Common.{ℕ, ◌≡◌, List, [], ◌∷◌, ap, subst, ◌∙◌}
-use Rattle.pagable_world.specs.declared.handles.Owner.{Owner}
-use Rattle.pagable_world.specs.declared.events.WorkerAnswer.{WorkerAnswer}
-use Rattle.pagable_world.specs.World.{Shelf, Todo, Values}
-use Rattle.pagable_world.specs.Pager.{PagerState}
-use Rattle.pagable_world.specs.Access.{WalkStep, worker-ends, worker-goes-on}
-use Rattle.pagable_walk.specs.declared.results.Trees.{Ghosts}
-use Rattle.pagable_walk.specs.declared.tasks.Moved.{Moved}
-use Rattle.pagable_walk.specs.declared.tasks.Task.{Task}
+use Rattle.pagable_world.specs.{Access.WalkStep, Access.worker-ends, Access.worker-goes-on, Pager.PagerState, World.Shelf, World.Todo, World.Values, declared.events.WorkerAnswer.WorkerAnswer}
+use Rattle.pagable_world.specs.{declared.handles.Owner.Owner}
+use Rattle.pagable_walk.specs.{Tasks.todo_of, Turns.LeavesFit, Turns.StepsTo, Turns.answer_in, Turns.plain, Turns.plain_took, Walking.RunsTo, Walking.HasWalked, declared.results.Trees.Ghosts}
+use Rattle.pagable_walk.specs.{declared.tasks.Moved.Moved, declared.tasks.Task.Task}
 use Rattle.pagable_walk.specs.declared.tasks.Turn.TheVariants as comes
-use Rattle.pagable_walk.specs.Tasks.{todo_of}
-use Rattle.pagable_walk.specs.Turns.{LeavesFit, StepsTo, answer_in, plain, plain_took}
-use Rattle.pagable_walk.specs.Walking.{RunsTo, HasWalked}
 
 module _ {X : Type 0} {g : Ghosts X} {N E : Type 0} (v : Values N) (me : Owner) (n : ℕ) (shelf : Shelf) (first : Task X g) (below : List Todo) where
   pub none-walked : (s : PagerState N E) → HasWalked v me n shelf first below shelf first below s s

@@ -1,43 +1,27 @@
 -- Page-outs of an item and of the entries of the list, from the runs of their workers.
+use Rattle.std.proofs.lemmas.Grind.{common_steps}
+use Rattle.std.proofs.lemmas.Bool.Decides.{nat_tests}
 use Rattle.std.proofs.Common.{ℕ, ◌≡◌, ◌≤◌, ◌<◌, ◌+◌, List, ◌∷◌, length, Option, Some, None, Result, Ok, Err, inl, inr, refl, ap, subst, sym, ◌∙◌, arith, slice_get}
-use Rattle.std.proofs.lemmas.Option.{slice_get_within}
-use Rattle.pagable_model.specs.declared.data_key.OptionalDataKey.{OptionalDataKey}
-use Rattle.pagable_model.specs.declared.data_key.OptionalDataKey.TheVariants as optional
-use Rattle.pagable_model.specs.declared.error.Error.{Error}
-use Rattle.pagable_model.specs.declared.error.Error.TheVariants as errors
-use Rattle.pagable_model.specs.declared.numbers.ArcRef.{ArcRef}
-use Rattle.pagable_model.specs.declared.numbers.HandleNumber.{HandleNumber}
-use Rattle.pagable_model.specs.declared.numbers.WorkerNumber.{WorkerNumber}
-use Rattle.pagable_world.specs.declared.events.Took.{Took}
-use Rattle.pagable_world.specs.declared.events.WorkerAnswer.{WorkerAnswer}
-use Rattle.pagable_world.specs.declared.events.WorkerAnswer.TheVariants as finals
-use Rattle.pagable_world.specs.declared.handles.Owner.{Owner}
-use Rattle.pagable_world.specs.declared.handles.Owner.TheVariants as owners
-use Rattle.pagable_world.specs.Calls.{ReleaseCall, TakeCall}
-use Rattle.pagable_world.specs.Kinds.{identity_of, owner_worker}
-use Rattle.pagable_world.specs.World.{Shelf, SameShelf, Todo, of_entry, of_item, Values, Written, Seen, Alike}
-use Rattle.pagable_world.specs.Workers.{first_todo}
-use Rattle.pagable_world.specs.Events.{entry_task, no_shelf}
-use Rattle.pagable_world.specs.Pager.{PagerState, WellFormed}
+use Rattle.std.proofs.{lemmas.List.Edits.length-remove, lemmas.Option.slice_get_within}
+use Rattle.pagable_model.specs.{declared.data_key.OptionalDataKey.OptionalDataKey, declared.error.Error.Error, declared.numbers.ArcRef.ArcRef, declared.numbers.HandleNumber.HandleNumber}
+use Rattle.pagable_model.specs.{declared.numbers.WorkerNumber.WorkerNumber}
 use Rattle.pagable_world.specs.Access.{AccessState, Called, WorkerStarts, WorkerRun, worker-ends, worker-goes-on, no-worker, item-is-walked, EntryHas, EntryRun}
 use Rattle.pagable_world.specs.Access.{entry-is-refused, no-entry-worker, entry-is-walked, ListRun, no-more, skips, pages, fails}
+use Rattle.pagable_world.specs.{Calls.ReleaseCall, Calls.TakeCall, Events.entry_task, Events.no_shelf, Kinds.identity_of, Kinds.owner_worker, Pager.PagerState, Pager.WellFormed, Workers.first_todo}
+use Rattle.pagable_world.specs.{World.Shelf, World.SameShelf, World.Todo, World.of_entry, World.of_item, World.Values, World.Written, World.Seen, World.Alike, declared.events.Took.Took}
+use Rattle.pagable_world.specs.{declared.events.WorkerAnswer.WorkerAnswer, declared.handles.Owner.Owner}
 use Rattle.pagable_laws.proofs.{Lengths.none-shorter, Sparing.Spares, Sparing.spares-then, SparingSteps.walk-spares-list, SparingSteps.release-spares-list}
-use Rattle.std.proofs.lemmas.List.Edits.{length-remove}
 use Rattle.std.specs.List.{remove}
-use Rattle.pagable_loads.specs.Telling.{Acting}
-use Rattle.pagable_loads.specs.Working.{as_caller, StartsEntry, RefusesEntry}
-use Rattle.pagable_walk.specs.declared.results.Trees.{Ghosts}
-use Rattle.pagable_walk.specs.declared.table.PageOutError.{PageOutError}
-use Rattle.pagable_walk.specs.declared.table.PageOutError.TheVariants as failures
-use Rattle.pagable_walk.specs.declared.tasks.Task.{Task}
+use Rattle.pagable_loads.specs.{Telling.Acting, Working.as_caller, Working.StartsEntry, Working.RefusesEntry}
 use Rattle.pagable_walk.specs.Over.{failure_of, PagesItem, PagesList, PagesEntry, Skipped, SkipsEntry, PlaceDone, PagesAt, HasPaged}
-use Rattle.pagable_walk.specs.Slots.{no_claims}
-use Rattle.pagable_walk.specs.Tasks.{IsPlain, todo_of}
-use Rattle.pagable_walk.specs.Turns.{Fits, plain}
-use Rattle.pagable_walk.specs.Walking.{RunsTo, Walked}
-use Rattle.pagable_walk.proofs.Pinning.{same-shelf}
-use Rattle.pagable_walk.proofs.Turning.{alike, plain-fits}
-use Rattle.pagable_walk.proofs.Unanswered.{item-answered, entry-answered}
+use Rattle.pagable_walk.specs.{Slots.no_claims, Tasks.IsPlain, Tasks.todo_of, Turns.Fits, Turns.plain, Walking.RunsTo, Walking.Walked, declared.results.Trees.Ghosts}
+use Rattle.pagable_walk.specs.{declared.table.PageOutError.PageOutError, declared.tasks.Task.Task}
+use Rattle.pagable_walk.proofs.{Pinning.same-shelf, Turning.alike, Turning.plain-fits, Unanswered.item-answered, Unanswered.entry-answered}
+use Rattle.pagable_model.specs.declared.data_key.OptionalDataKey.TheVariants as optional
+use Rattle.pagable_model.specs.declared.error.Error.TheVariants as errors
+use Rattle.pagable_world.specs.declared.events.WorkerAnswer.TheVariants as finals
+use Rattle.pagable_world.specs.declared.handles.Owner.TheVariants as owners
+use Rattle.pagable_walk.specs.declared.table.PageOutError.TheVariants as failures
 
 -- whoever acts for the caller does so again after a worker
 pub is-caller : {E : Type 0} (acting : Acting E) → acting.me ≡ owners.Caller → as_caller acting ≡ acting
@@ -80,10 +64,7 @@ module _ {N E : Type 0} (v : Values N) where
 
   -- the list without one entry, and what comes then
   entries-stay : (place : ℕ) (s mid t : PagerState N E) → place < length s.core.list → mid.core.list ≡ remove s.core.list place → length mid.core.list ≤ length t.core.list → place ≤ length t.core.list
-  entries-stay place s mid t within is longer =
-      let gone = length-remove s.core.list place within in
-      let same = ap (λ (xs : List HandleNumber). length xs) is in
-      omega (arith, within, gone, same, longer)
+  entries-stay place s mid t within is longer = grind (arith, nat_tests, common_steps, length-remove)
 
   pub entry-refused : (place : ℕ) (e : Error) (s t : PagerState N E) → RefusesEntry v s place e t → PagesEntry v place (finals.Failed e) s t
   entry-refused place e s t r = record {
@@ -174,14 +155,7 @@ module _ {N E : Type 0} (v : Values N) where
   none-paged count s is = record { whole = λ whole. whole; long = λ whole. omega (arith, is); then = λ whole answer u run. subst (λ i. ListRun (plain v) i s answer u) is run }
 
   pub more-paged : (left place : ℕ) → left ≡ place + 1 → (s mid t : PagerState N E) → HasPaged v left s mid → PagesAt v place (Ok tt) mid t → HasPaged v place s t
-  more-paged left place next s mid t paged at = record {
-    whole = λ whole. (done whole).whole;
-    long = λ whole. (done whole).long;
-    then = λ whole answer u run. let d = done whole in paged.then whole answer u (d.goes left next answer u run);
-  }
-    where
-      done : WellFormed v s → PlaceDone v mid place (Ok tt) t
-      done whole = at.done (paged.whole whole) (let long = paged.long whole in omega (arith, long, next))
+  more-paged left place next s mid t paged at = grind (arith, nat_tests, common_steps)
 
   pub ends-paged : (left place : ℕ) → left ≡ place + 1 → (why : PageOutError) (s mid t : PagerState N E) → HasPaged v left s mid → PagesAt v place (Err why) mid t → PagesList v (Err why) s t
   ends-paged left place next why s mid t paged at = record { over = λ whole. let d = at.done (paged.whole whole) (let long = paged.long whole in omega (arith, long, next)) in paged.then whole (Err (failure_of why)) t (d.stops left next) }

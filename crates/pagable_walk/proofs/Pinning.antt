@@ -1,12 +1,25 @@
 -- A turn that pins what was claimed, or loads it, is the worker's.
+use Rattle.std.proofs.lemmas.Grind.{common_steps}
 use Rattle.std.proofs.Common.{ℕ, ◌≡◌, ◌+◌, ◌==◌, Bool, true, false, List, [], ◌∷◌, Some, None, Ok, Err, inl, inr, refl, sym, ap, subst, ◌∙◌, arith}
-use Rattle.std.specs.Prelude.{Option, if◌then◌else◌, not, ◌&&◌}
 use Rattle.std.proofs.lemmas.Bool.Decides.{nat_tests}
+use Rattle.std.specs.Prelude.{Option, if◌then◌else◌, not, ◌&&◌}
 use Rattle.pagable_model.specs.declared.error.Error.{Error}
 use Rattle.pagable_world.specs.Plain.{ArcRef, HandleNumber, Kind, LoadNumber, NodeNumber, OptionalDataKey, type_of, if_there}
-use Rattle.pagable_world.specs.declared.handles.Owner.{Owner}
-use Rattle.pagable_world.specs.declared.handles.HandleRow.{HandleRow}
-use Rattle.pagable_world.specs.declared.events.LoadAnswer.{LoadAnswer}
+use Rattle.pagable_world.specs.Kinds.{identity_of, is_loose, is_pinning, mode_of, owner_worker, owner_value, find_row, is_handle}
+use Rattle.pagable_world.specs.World.{Core, Cell, Shelf, SameShelf, Todo, to_pin, to_load, to_write, Frame, OpenLoad, Reading, Root, of_cell, of_key, Values, was_refused, type_at, one_more}
+use Rattle.pagable_world.specs.Calls.{with_handle, with_mode, with_node, next_node, with_cached, moved, is_named_by, CloneCall, PinCall}
+use Rattle.pagable_world.specs.{Access.Called, Access.ReadingStep, Cascade.FallsAnyhow, LoadCalls.with_pin, LoadCalls.without_load, LoadCalls.is_owned_in, LoadCalls.adopted, LoadCalls.first_key}
+use Rattle.pagable_world.specs.{Loads.GoesOn, Loads.EndsPinned, Loads.IsOfKey, Loads.gone_on, Pager.PagerState, Pager.HandlesAreWhole, Pager.Moves, Workers.PinsAtOnce, Workers.PinRefused}
+use Rattle.pagable_world.specs.{Workers.RowIs, Workers.fresh, Workers.entry_left, Workers.Does, declared.events.LoadAnswer.LoadAnswer, declared.handles.HandleRow.HandleRow}
+use Rattle.pagable_world.specs.{declared.handles.Owner.Owner}
+use Rattle.pagable_laws.specs.{KeyRuns.StandsAt, TreeSteps.Change}
+use Rattle.pagable_laws.proofs.PinSteps.{AreLow, low-whole, low-changed, low-handle, new-handle, clone-call, not-loose, owned-none}
+use Rattle.pagable_laws.proofs.{Goes.Goes, Naming.clone-stands, Outlasting.NotValues, Outlasting.Stands, Outlasting.stands-alike, Outlasting.stands-fell, Trees.same_some, WalkSteps.walk-goes}
+use Rattle.pagable_loads.specs.declared.reading.Reading.{Reading as Own}
+use Rattle.pagable_loads.specs.{Frames.IsLoadOf, Frames.frames_of, Frames.reading_of, Stepping.Steps, Working.TakesReference, Working.BeginsAt}
+use Rattle.pagable_walk.specs.{Failing.back_of, Failing.fails, Tasks.IsPlain, Turns.IsLoading, Turns.IsOfKind, Turns.HoldsPin, Turns.Fits, Turns.TurnsTo, Turns.plain, Turns.site}
+use Rattle.pagable_walk.specs.{declared.results.Trees.Ghosts, declared.tasks.Moved.Moved, declared.tasks.Task.Task}
+use Rattle.pagable_walk.proofs.Turning.{plain-fits}
 use Rattle.pagable_model.specs.declared.data_key.OptionalDataKey.TheVariants as optional
 use Rattle.pagable_world.specs.declared.rows.Mode.TheVariants as modes
 use Rattle.pagable_world.specs.declared.handles.Owner.TheVariants as owners
@@ -14,37 +27,9 @@ use Rattle.pagable_world.specs.declared.answers.Pinning.TheVariants as pinnings
 use Rattle.pagable_world.specs.declared.events.LoadAnswer.TheVariants as ends
 use Rattle.pagable_world.specs.declared.events.PinStep.TheVariants as pinsteps
 use Rattle.pagable_world.specs.declared.events.Took.TheVariants as took
-use Rattle.pagable_world.specs.Kinds.{identity_of, is_loose, is_pinning, mode_of, owner_worker, owner_value, find_row, is_handle}
-use Rattle.pagable_world.specs.World.{Core, Cell, Shelf, SameShelf, Todo, to_pin, to_load, to_write, Frame, OpenLoad, Reading, Root, of_cell, of_key, Values, was_refused, type_at, one_more}
-use Rattle.pagable_world.specs.Cascade.{FallsAnyhow}
-use Rattle.pagable_world.specs.Calls.{with_handle, with_mode, with_node, next_node, with_cached, moved, is_named_by, CloneCall, PinCall}
-use Rattle.pagable_world.specs.LoadCalls.{with_pin, without_load, is_owned_in, adopted, first_key}
-use Rattle.pagable_world.specs.Loads.{GoesOn, EndsPinned, IsOfKey, gone_on}
-use Rattle.pagable_world.specs.Workers.{PinsAtOnce, PinRefused, RowIs, fresh, entry_left, Does}
-use Rattle.pagable_world.specs.Pager.{PagerState, HandlesAreWhole, Moves}
-use Rattle.pagable_world.specs.Access.{Called, ReadingStep}
-use Rattle.pagable_laws.specs.KeyRuns.{StandsAt}
-use Rattle.pagable_laws.specs.TreeSteps.{Change}
-use Rattle.pagable_laws.proofs.Trees.{same_some}
-use Rattle.pagable_laws.proofs.Goes.{Goes}
-use Rattle.pagable_laws.proofs.Outlasting.{NotValues, Stands, stands-alike, stands-fell}
-use Rattle.pagable_laws.proofs.PinSteps.{AreLow, low-whole, low-changed, low-handle, new-handle, clone-call, not-loose, owned-none}
-use Rattle.pagable_laws.proofs.Naming.{clone-stands}
-use Rattle.pagable_laws.proofs.WalkSteps.{walk-goes}
-use Rattle.pagable_loads.specs.declared.reading.Reading.{Reading as Own}
 use Rattle.pagable_loads.specs.declared.working.Taken.TheVariants as takens
-use Rattle.pagable_loads.specs.Frames.{IsLoadOf, frames_of, reading_of}
-use Rattle.pagable_loads.specs.Stepping.{Steps}
-use Rattle.pagable_loads.specs.Working.{TakesReference, BeginsAt}
-use Rattle.pagable_walk.specs.declared.results.Trees.{Ghosts}
-use Rattle.pagable_walk.specs.declared.tasks.Task.{Task}
 use Rattle.pagable_walk.specs.declared.tasks.Task.TheVariants as tasks
-use Rattle.pagable_walk.specs.declared.tasks.Moved.{Moved}
 use Rattle.pagable_walk.specs.declared.tasks.Turn.TheVariants as comes
-use Rattle.pagable_walk.specs.Failing.{back_of, fails}
-use Rattle.pagable_walk.specs.Tasks.{IsPlain}
-use Rattle.pagable_walk.specs.Turns.{IsLoading, IsOfKind, HoldsPin, Fits, TurnsTo, plain, site}
-use Rattle.pagable_walk.proofs.Turning.{plain-fits}
 
 -- ---- what stays
 
@@ -119,27 +104,14 @@ begun-loads w w' n r through l key own whole stands (is, (mid, clone, begin)) sa
 -- ---- a load that goes on, and one that ends with the pin
 
 adopted-loads : (w : Core) (l : LoadNumber) (kind : Kind) (key : ℕ) (own : OptionalDataKey) (references : List ArcRef) (q : ℕ) → (adopted w l kind key own references).loads q ≡ w.loads q
-adopted-loads w l kind key own references q = at w.closed
-  where
-    u : Core
-    u = with_handle (with_node w (type_of kind.0) own references) (next_node w) (mode_of kind.0) (owners.Load l)
-
-    at : (b : Bool) → (if b then u else with_cached u kind key (next_node w)).loads q ≡ w.loads q
-    at true = refl
-    at false = refl
+adopted-loads w l kind key own references q = grind (arith, nat_tests, common_steps)
 
 goes-open : {N : Type 0} (v : Values N) (w w' : Core) (me : Owner) (reading : Reading) (frames : List Frame) (l : ℕ) → GoesOn v w me reading frames w' → w'.loads l ≡ w.loads l
-goes-open v w w' me reading frames l (inl g) = let a = g.asked.gives.2 in a.asked.leaves.loads l
-goes-open v w w' me reading frames l (inr (inl g)) = let a = g.asked.gives.2 in a.leaves.loads l
-goes-open v w w' me reading frames l (inr (inr (inl g))) = let a = g.asked.gives.2.1 in a.asked.leaves.loads l
-goes-open v w w' me reading frames l (inr (inr (inr (inl g)))) = elim g.asked.makes.3 [
-  | inl known ↦ known.leaves.loads l
-  | inr (none, left, next, a) ↦ a.loads l ∙ adopted-loads w reading.load g.kind g.key (optional.Some g.key) [] l
-]
-goes-open v w w' me reading frames l (inr (inr (inr (inr g)))) = elim g.adopted.adopts.makes [
-  | inl (n, known, f) ↦ f.falls.leaves.loads l
-  | inr (none, left, a) ↦ a.loads l ∙ adopted-loads w reading.load g.reads_node.top.kind g.reads_node.top.key (first_key g.reads_node.top.kind.0 g.reads_node.top.key) (v.references g.x) l
-]
+goes-open v w w' me reading frames l (inl g) = grind (arith, nat_tests, common_steps)
+goes-open v w w' me reading frames l (inr (inl g)) = grind (arith, nat_tests, common_steps)
+goes-open v w w' me reading frames l (inr (inr (inl g))) = grind (arith, nat_tests, common_steps)
+goes-open v w w' me reading frames l (inr (inr (inr (inl g)))) = grind (arith, nat_tests, common_steps, adopted-loads)
+goes-open v w w' me reading frames l (inr (inr (inr (inr g)))) = grind (arith, nat_tests, common_steps, adopted-loads)
 
 worker-free : (n : ℕ) → NotValues (owner_worker n)
 worker-free n m is = absurd (cc)
@@ -238,17 +210,7 @@ module _ {X : Type 0} {g : Ghosts X} {N E : Type 0} (v : Values N) (me : Owner) 
   pub pin-fails : (e : Error) (task : Task X g) (after : List Todo) → IsPlain task → after ≡ fails (was_refused e) (back_of (Some r.handle) below) → (s t : PagerState N E)
       → Called v (λ w'. TakesReference s.core me r (Err e) w') s t
       → TurnsTo v me n shelf (tasks.Pin r place) below shelf (record { took = took.Pin (identity_of r) (Err e); turn = comes.Goes task; counted = true }) after s t
-  pin-fails e task after plain-task is s t call = record {
-    counts = refl;
-    turns = λ f. record {
-      does = record { does = (refl, record { pins = tt; refused = (subst (λ o. PinRefused s.core o r e t.core) f.me_is call.step.refused, record { table_stays = same-shelf shelf; list_is = is ∙ ap (fails (was_refused e)) (pin-back r place below) }) }) };
-      answers = refl;
-      moves = comes-none call.moves;
-      writes = tt;
-      whole = call.whole;
-      fits = plain-fits n t.core task plain-task;
-    };
-  }
+  pin-fails e task after plain-task is s t call = grind (arith, nat_tests, common_steps, same-shelf, pin-back, comes-none, plain-fits)
 
   module _ (through : HandleNumber) (own : Own) where
     stepped : {s t : PagerState N E} {answer : Option (LoadAnswer N)} {frames : List Frame} → Fits {g = g} v me n (tasks.Load r place through own) s → Steps v me own s answer frames t
@@ -309,30 +271,9 @@ module _ {X : Type 0} {g : Ghosts X} {N E : Type 0} (v : Values N) (me : Owner) 
     pub load-fails : (e : Error) (frames : List Frame) (task : Task X g) (after : List Todo) → IsPlain task → after ≡ fails (was_refused e) (back_of (Some r.handle) below)
         → (s t : PagerState N E) → Steps v me own s (Some (ends.Refused e)) frames t
         → TurnsTo v me n shelf (tasks.Load r place through own) below shelf (record { took = took.Pin (identity_of r) (Err e); turn = comes.Goes task; counted = false }) after s t
-    load-fails e frames task after plain-task is s t call = record {
-      counts = refl;
-      turns = λ f.
-          let step = stepped f call in
-          let end = step.does.does in
-          record {
-            does = record { does = (refl, record { goes = tt; refused = (record { does = (end.0, refl) }, record { table_stays = same-shelf shelf; list_is = is ∙ ap (fails (was_refused e)) (load-back r place through (reading_of own) below) }) }) };
-            answers = refl;
-            moves = step.moves;
-            writes = tt;
-            whole = step.whole;
-            fits = plain-fits n t.core task plain-task;
-          };
-    }
+    load-fails e frames task after plain-task is s t call = grind (arith, nat_tests, common_steps, stepped, same-shelf, load-back, plain-fits)
 
     -- a load of a cell reads out nothing
     pub load-reads-none : (x : N) (frames : List Frame) (moved : Moved X g) (after : List Todo) → moved.counted ≡ false → (s t : PagerState N E) → Steps v me own s (Some (ends.Read x)) frames t
         → TurnsTo v me n shelf (tasks.Load r place through own) below shelf moved after s t
-    load-reads-none x frames moved after uncounted s t call = record {
-      counts = uncounted;
-      turns = λ f.
-          let step = stepped f call in
-          let key = step.does.does.0.of_key_load in
-          let old = f.task_fits.1 in
-          let same : key.load ≡ old.is.load = same_some _ _ (sym key.open_load ∙ old.is.owned.stands_open) in
-          absurd (no-key key.load.root r.node old.t through (ap (λ (x : OpenLoad). x.root) same ∙ old.root) key.sort);
-    }
+    load-reads-none x frames moved after uncounted s t call = grind (arith, nat_tests, common_steps, stepped, same_some, no-key)

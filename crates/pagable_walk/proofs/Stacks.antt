@@ -1,19 +1,14 @@
 -- What a worker has to do, after a reference was done.
+use Rattle.std.proofs.lemmas.Grind.{common_steps}
+use Rattle.std.proofs.lemmas.Bool.Decides.{nat_tests}
 use Rattle.std.proofs.Common.{ℕ, ◌≡◌, ◌≤◌, ◌<◌, ◌+◌, List, [], ◌∷◌, ◌++◌, length, drop, take, map, get_or, refl, sym, ap, ◌∙◌, arith, Some, slice_get}
-use Rattle.std.specs.Prelude.{Option, None}
 use Rattle.std.proofs.lemmas.List.{at_drop_more, at_drop_all, take_more, length-append, map-append}
 use Rattle.std.proofs.lemmas.Option.{get_or_from_slice_get, slice_get_within}
-use Rattle.pagable_model.specs.declared.numbers.ArcRef.{ArcRef}
-use Rattle.pagable_model.specs.declared.numbers.HandleNumber.{HandleNumber}
-use Rattle.pagable_world.specs.Kinds.{identity_of}
-use Rattle.pagable_world.specs.Workers.{place_below, next_start}
-use Rattle.pagable_world.specs.World.{Open, Todo, to_start}
-use Rattle.pagable_walk.specs.declared.results.Trees.{Ghosts}
-use Rattle.pagable_walk.specs.declared.results.SlotResult.{SlotResult}
-use Rattle.pagable_walk.specs.declared.tasks.Waiting.{Waiting}
-use Rattle.pagable_walk.specs.Failing.{back_of}
-use Rattle.pagable_walk.specs.Found.{ids_of}
-use Rattle.pagable_walk.specs.Tasks.{waiting_todo, todos_onto, todos}
+use Rattle.std.specs.Prelude.{Option, None}
+use Rattle.pagable_model.specs.{declared.numbers.ArcRef.ArcRef, declared.numbers.HandleNumber.HandleNumber}
+use Rattle.pagable_world.specs.{Kinds.identity_of, Workers.place_below, Workers.next_start, World.Open, World.Todo, World.to_start}
+use Rattle.pagable_walk.specs.{Failing.back_of, Found.ids_of, Tasks.waiting_todo, Tasks.todos_onto, Tasks.todos, declared.results.SlotResult.SlotResult, declared.results.Trees.Ghosts}
+use Rattle.pagable_walk.specs.{declared.tasks.Waiting.Waiting}
 
 module _ {E : Type 0} {g : Ghosts E} where
   onto-more : (ws : List (Waiting E g)) (w : Waiting E g) (below : List Todo) → todos_onto (ws ++ w ∷ []) below ≡ waiting_todo w ∷ todos_onto ws below
@@ -66,9 +61,7 @@ none-next place m n rs todo e all = sym (ap (λ k. next_start place (drop k rs) 
 
 pub next-starts : (place m n p : ℕ) (rs : List ArcRef) (r : ArcRef) (todo : List Todo) → m ≡ n → n < length rs → r ≡ get_or rs n r → p ≡ place_below place r.kind.0
     → to_start r p ∷ todo ≡ next_start place (drop m rs) ++ todo
-next-starts place m n p rs r todo e more is at =
-    ap (λ q. to_start r q ∷ todo) at
-    ∙ sym (ap (λ k. next_start place (drop k rs) ++ todo) e ∙ at_drop_more (λ xs. next_start place xs ++ todo) rs n r more ∙ ap (λ x. next_start place (x ∷ drop (n + 1) rs) ++ todo) (sym is))
+next-starts place m n p rs r todo e more is at = grind (arith, nat_tests, common_steps, at_drop_more)
 
 pub child-same : (o : Open) (keys keys' : List ℕ) (h h' : ℕ) → keys ≡ keys' → h ≡ h' → record o { keys = keys; height = h } ≡ record o { keys = keys'; height = h' }
 child-same o keys keys' h h' e f = λ j. record o { keys = e j; height = f j }

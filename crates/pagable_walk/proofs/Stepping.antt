@@ -1,21 +1,15 @@
 -- A turn with the worker's end is its step.
+use Rattle.std.proofs.lemmas.Grind.{common_steps}
+use Rattle.std.proofs.Common.{arith}
+use Rattle.std.proofs.lemmas.Bool.Decides.{nat_tests}
 use Rattle.std.proofs.Common.{ℕ, ◌≡◌, List, inl, inr, refl, sym, subst, ◌∙◌}
-use Rattle.pagable_world.specs.declared.handles.Owner.{Owner}
-use Rattle.pagable_world.specs.World.{Shelf, Todo, Values}
-use Rattle.pagable_world.specs.Events.{Ends}
-use Rattle.pagable_world.specs.Pager.{PagerState, WellFormed, Moves}
-use Rattle.pagable_walk.specs.declared.results.Trees.{Ghosts}
-use Rattle.pagable_walk.specs.declared.tasks.Moved.{Moved}
-use Rattle.pagable_walk.specs.declared.tasks.Task.{Task}
-use Rattle.pagable_walk.specs.declared.tasks.Turn.{Turn}
-use Rattle.pagable_walk.specs.declared.tasks.Turn.TheVariants as comes
-use Rattle.pagable_world.specs.declared.events.WorkerAnswer.{WorkerAnswer}
-use Rattle.pagable_world.specs.Workers.{WorkerEnds}
-use Rattle.pagable_world.specs.Access.{Called}
+use Rattle.pagable_world.specs.{Access.Called, Events.Ends, Pager.PagerState, Pager.WellFormed, Pager.Moves, Workers.WorkerEnds, World.Shelf, World.Todo, World.Values}
+use Rattle.pagable_world.specs.{declared.events.WorkerAnswer.WorkerAnswer, declared.handles.Owner.Owner}
+use Rattle.pagable_walk.specs.{Turns.Closes, Turns.LeavesFit, Turns.StepsTo, Turns.TurnsTo, Turns.acting_then, Turns.answer_in, Turns.site, declared.results.Trees.Ghosts, declared.tasks.Moved.Moved}
+use Rattle.pagable_walk.specs.{declared.tasks.Task.Task, declared.tasks.Turn.Turn}
 use Rattle.pagable_loads.specs.Telling.{Acting}
-use Rattle.pagable_walk.specs.Turns.{Closes, LeavesFit, StepsTo, TurnsTo, acting_then, answer_in, site}
-use Rattle.pagable_walk.proofs.Turning.{alike}
-use Rattle.pagable_walk.proofs.Pinning.{same-shelf}
+use Rattle.pagable_walk.proofs.{Pinning.same-shelf, Turning.alike}
+use Rattle.pagable_walk.specs.declared.tasks.Turn.TheVariants as comes
 
 moves-then : {N E : Type 0} {comes : ℕ → N → Type 0} {s mid t : PagerState N E} → Moves comes s mid → Moves (λ n x. ⊥) mid t → Moves comes s t
 moves-then m k = record { each = λ n x is. elim (k.each n x is) [ inl was ↦ m.each n x was | inr came ↦ absurd came.1 ]; environment = k.environment ∙ m.environment }

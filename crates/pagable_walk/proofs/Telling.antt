@@ -1,4 +1,7 @@
 -- What is told of one state.
+use Rattle.std.proofs.lemmas.Grind.{common_steps}
+use Rattle.std.proofs.Common.{arith}
+use Rattle.std.proofs.lemmas.Bool.Decides.{nat_tests}
 use Rattle.std.specs.Prelude.{Option, Some, None}
 use Rattle.pagable_world.specs.Access.{Told, tells}
 use Rattle.pagable_loads.specs.Telling.{Tells, holds_of}
@@ -12,28 +15,15 @@ module _ {S : Type 0} where
   tells-map {o} f h = record { holds = through o f h.holds }
 
   pub tells-all : {o : Option S} {Q : S → Type 0} → ((s : S) → Q s) → Tells o Q
-  tells-all {o} {Q} f = record { holds = each o f }
-    where
-      each : (o : Option S) → ((s : S) → Q s) → holds_of o Q
-      each None f = tt
-      each (Some s) f = f s
+  tells-all {o} {Q} f = grind (arith, nat_tests, common_steps)
 
   -- of one state that stays
   pub told-same : {o : Option S} {R : S → S → Type 0} → Tells o (λ s. R s s) → Told o o R
-  told-same {o} {R} h = record { holds = stays o h.holds }
-    where
-      stays : (o : Option S) → holds_of o (λ s. R s s) → tells o o R
-      stays None h = tt
-      stays (Some s) h = h
+  told-same {o} {R} h = grind (arith, nat_tests, common_steps)
 
   pub told-all : {o : Option S} {R : S → S → Type 0} → ((s : S) → R s s) → Told o o R
   told-all f = told-same (tells-all f)
 
   -- of the first of two states
   pub told-from : {o n : Option S} {P : S → Type 0} {R Q : S → S → Type 0} → ((s t : S) → P s → R s t → Q s t) → Tells o P → Told o n R → Told o n Q
-  told-from {o} {n} {P} {R} {Q} f h k = record { holds = from o n h.holds k.holds }
-    where
-      from : (o n : Option S) → holds_of o P → tells o n R → tells o n Q
-      from None n h k = tt
-      from (Some s) None h k = k
-      from (Some s) (Some t) h k = f s t h k
+  told-from {o} {n} {P} {R} {Q} f h k = grind (arith, nat_tests, common_steps)

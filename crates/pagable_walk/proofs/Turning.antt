@@ -1,46 +1,25 @@
 -- A claim of a table is a worker's claim, and a turn of the worker.
+use Rattle.std.proofs.lemmas.Grind.{common_steps}
+use Rattle.std.proofs.lemmas.Bool.Decides.{nat_tests}
 use Rattle.std.proofs.Common.{ℕ, ◌≡◌, true, List, [], ◌∷◌, Some, None, ◌⊎◌, inl, inr, refl, sym, ap, subst, ◌∙◌, arith}
 use Rattle.std.specs.Prelude.{Result, Ok, Err, IfOk}
-use Rattle.pagable_model.specs.declared.error.Error.TheVariants as errors
 use Rattle.pagable_model.specs.declared.numbers.ArcRef.{ArcRef}
-use Rattle.pagable_world.specs.Plain.{Error}
-use Rattle.pagable_world.specs.declared.handles.Owner.{Owner}
-use Rattle.pagable_world.specs.declared.events.Claim.{Claim}
-use Rattle.pagable_world.specs.declared.events.Claim.TheVariants as claims
-use Rattle.pagable_world.specs.Kinds.{identity_of}
-use Rattle.pagable_world.specs.World.{Core, Shelf, Todo, to_start, SameShelf, Alike, Values, was_refused}
 use Rattle.pagable_world.specs.Workers.{Site, claim_fault, entry_left, is_counted_claim, Claims, Finds, Turns, IsTooDeep, with_wait}
+use Rattle.pagable_world.specs.{Kinds.identity_of, Pager.PagerState, Pager.HandlesAreWhole, Plain.Error, World.Core, World.Shelf, World.Todo, World.to_start, World.SameShelf, World.Alike}
+use Rattle.pagable_world.specs.{World.Values, World.was_refused, declared.events.Claim.Claim, declared.handles.Owner.Owner}
+use Rattle.pagable_laws.proofs.{Naming.may-claim, Naming.claimed-stands, Trees.same_some}
+use Rattle.pagable_walk.specs.{Failing.back_of, Failing.fails, Slots.Would, Slots.claimed_shelf, Slots.RefusesClaim, Slots.ClaimsThere, Table.found_as, Table.IsFoundOf, Tasks.IsPlain, Turns.site}
+use Rattle.pagable_walk.specs.{Turns.claim_todo, Turns.ClaimFits, Turns.ClaimLeaves, Turns.IsOfKind, Turns.TaskFits, Turns.TurnsTo, declared.results.Trees.Ghosts, declared.table.Found.Found}
+use Rattle.pagable_walk.specs.{declared.tasks.Task.Task}
+use Rattle.pagable_model.specs.declared.error.Error.TheVariants as errors
+use Rattle.pagable_world.specs.declared.events.Claim.TheVariants as claims
 use Rattle.pagable_world.specs.declared.events.Took.TheVariants as took
-use Rattle.pagable_world.specs.Pager.{PagerState, HandlesAreWhole}
-use Rattle.pagable_laws.proofs.Trees.{same_some}
-use Rattle.pagable_laws.proofs.Naming.{may-claim, claimed-stands}
-use Rattle.pagable_walk.specs.Failing.{back_of, fails}
-use Rattle.pagable_walk.specs.Slots.{Would, claimed_shelf, RefusesClaim, ClaimsThere}
-use Rattle.pagable_walk.specs.declared.results.Trees.{Ghosts}
-use Rattle.pagable_walk.specs.declared.table.Found.{Found}
 use Rattle.pagable_walk.specs.declared.table.Found.TheVariants as founds
-use Rattle.pagable_walk.specs.declared.tasks.Task.{Task}
 use Rattle.pagable_walk.specs.declared.tasks.Task.TheVariants as tasks
 use Rattle.pagable_walk.specs.declared.tasks.Turn.TheVariants as comes
-use Rattle.pagable_walk.specs.Table.{found_as, IsFoundOf}
-use Rattle.pagable_walk.specs.Tasks.{IsPlain}
-use Rattle.pagable_walk.specs.Turns.{site, claim_todo, ClaimFits, ClaimLeaves, IsOfKind, TaskFits, TurnsTo}
 
 pub alike : (w : Core) → Alike w w
-alike w =
-    record {
-      rows = refl;
-      cells = λ q. refl;
-      list = refl;
-      cache = record { gives = λ kind key. refl; only = λ kind key n h. h };
-      stored = λ q. refl;
-      closed = refl;
-      failures = refl;
-      loads = λ q. refl;
-      workers = λ q. refl;
-      last = refl;
-      places = record { handles = omega arith; entries = omega arith };
-    }
+alike w = grind (arith, nat_tests, common_steps)
 
 module _ (core : Core) (v : ℕ) (s s' : Shelf) (r : ArcRef) (place : ℕ) (below : List Todo) where
   turns : (shelf : Shelf) (todo : List Todo) → SameShelf shelf s' → Turns (site core s (to_start r place ∷ below)) shelf todo (site core s' todo)
@@ -70,9 +49,7 @@ module _ (core : Core) (v : ℕ) (s s' : Shelf) (r : ArcRef) (place : ℕ) (belo
 -- ---- the turn
 
 kind-claimed : (w : Core) (r : ArcRef) → HandlesAreWhole w → claim_fault w r ≡ None → IsOfKind w r
-kind-claimed w r whole may =
-    let c = may-claim w r may in
-    record { given = (claimed-stands whole r may).node_given; typed = λ t is. same_some _ _ (sym is ∙ c.typed) }
+kind-claimed w r whole may = grind (arith, nat_tests, common_steps, may-claim, claimed-stands, same_some)
 
 start-back : (r : ArcRef) (place : ℕ) (below : List Todo) → back_of (Some r.handle) below ≡ entry_left (to_start r place ∷ below)
 start-back r place [] = refl
@@ -113,22 +90,10 @@ module _ {X : Type 0} {g : Ghosts X} where
       → ClaimLeaves r place claim task
       → (s : PagerState N E) → Claims n (site s.core shelf (to_start r place ∷ below)) r place below (found_as claim) (site s.core shelf' (claim_todo r place below (found_as claim)))
       → TurnsTo v me n shelf (tasks.Start r place) below shelf' (record { took = took.Claim (identity_of r) (found_as claim); turn = comes.Goes task; counted = is_counted_claim (found_as claim) }) after s s
-  start-turns v me n shelf shelf' r place below after claim task is leaves s c = record {
-    counts = refl;
-    turns = λ fits. record {
-      does = record { does = (refl, subst (λ todo. Claims n (site s.core shelf (to_start r place ∷ below)) r place below (found_as claim) (site s.core shelf' todo)) (sym is) c) };
-      answers = refl;
-      moves = record { each = λ q x h. inl h; environment = refl };
-      writes = tt;
-      whole = fits.whole;
-      fits = claim-leaves n s.core shelf (site s.core shelf' (claim_todo r place below (found_as claim))) r place below claim task fits.whole.whole.handles leaves c;
-    };
-  }
+  start-turns v me n shelf shelf' r place below after claim task is leaves s c = grind (arith, nat_tests, common_steps, turns, claim-leaves)
 
   -- a claim that isn't made
   pub start-refused : {N E : Type 0} (v : Values N) (me : Owner) (n : ℕ) (shelf shelf' : Shelf) (r : ArcRef) (place : ℕ) (below after : List Todo) (task : Task X g) → after ≡ fails (was_refused errors.OutOfMemory) (back_of (Some r.handle) below)
       → IsPlain task → SameShelf (with_wait shelf n None) shelf' → (s : PagerState N E)
       → TurnsTo v me n shelf (tasks.Start r place) below shelf' (record { took = took.Claim (identity_of r) (Err errors.OutOfMemory); turn = comes.Goes task; counted = true }) after s s
-  start-refused v me n shelf shelf' r place below after task is plain same s =
-      start-turns v me n shelf shelf' r place below after (Err errors.OutOfMemory) task (is ∙ ap (fails (was_refused errors.OutOfMemory)) (start-back r place below)) plain s
-      (record { finds = tt; refused = (inr (inr refl), record { pager_stays = alike s.core; table_is = same; list_is = refl }) })
+  start-refused v me n shelf shelf' r place below after task is plain same s = grind (arith, nat_tests, common_steps, start-turns, start-back, finds, alike)

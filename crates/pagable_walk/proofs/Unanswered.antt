@@ -1,23 +1,19 @@
 -- At a worker's answer each claim of its table has a result, if each had one before; and another's failure is answered only where a claim had failed before.
+use Rattle.std.proofs.lemmas.Grind.{common_steps}
 use Rattle.std.proofs.Common.{ℕ, ◌≡◌, Bool, true, false, if◌then◌else◌, List, [], ◌∷◌, ◌++◌, Option, Some, None, Ok, Err, inl, inr, refl, sym, ap, subst, ◌∙◌, nat_eq, arith}
 use Rattle.std.proofs.lemmas.Bool.Decides.{nat_tests}
 use Rattle.std.specs.Prelude.{◌⊎◌}
-use Rattle.pagable_model.specs.declared.numbers.ArcRef.{ArcRef}
-use Rattle.pagable_model.specs.declared.numbers.HandleNumber.{HandleNumber}
-use Rattle.pagable_world.specs.Plain.{Identity, if_there}
-use Rattle.pagable_world.specs.declared.events.Claim.TheVariants as claims
-use Rattle.pagable_world.specs.declared.events.PinStep.TheVariants as pinsteps
-use Rattle.pagable_world.specs.declared.events.Took.{Took}
-use Rattle.pagable_world.specs.declared.events.Took.TheVariants as took
-use Rattle.pagable_world.specs.declared.events.WorkerAnswer.{WorkerAnswer}
-use Rattle.pagable_world.specs.declared.events.WorkerAnswer.TheVariants as finals
-use Rattle.pagable_world.specs.Kinds.{identity_of}
+use Rattle.pagable_model.specs.{declared.numbers.ArcRef.ArcRef, declared.numbers.HandleNumber.HandleNumber}
 use Rattle.pagable_world.specs.World.{Core, Shelf, Slot, Outcome, no_result, published, failed, Written, of_item, of_entry, Fault, was_refused, was_failed, Todo, to_start, to_pin, to_load, to_write, to_finish, to_item, to_set, to_publish, to_release, to_fail, Seen, SameShelf, is_identity}
 use Rattle.pagable_world.specs.Workers.{Site, Does, answer_after, first_todo, is_open_outcome, next_start, settle, give, give_known, failing, with_outcome, with_changed_slot, with_failed}
-use Rattle.pagable_world.specs.Access.{AccessState, AllHaveResults, WorkerRun, worker-ends, worker-goes-on}
-use Rattle.pagable_walk.specs.Tasks.{with_child}
-use Rattle.pagable_walk.specs.Writing.{just_open}
+use Rattle.pagable_world.specs.{Access.AccessState, Access.AllHaveResults, Access.WorkerRun, Access.worker-ends, Access.worker-goes-on, Kinds.identity_of, Plain.Identity, Plain.if_there}
+use Rattle.pagable_world.specs.{declared.events.Took.Took, declared.events.WorkerAnswer.WorkerAnswer}
+use Rattle.pagable_walk.specs.{Tasks.with_child, Writing.just_open}
 use Rattle.pagable_walk.proofs.Held.{same-as, same-identity, same-key}
+use Rattle.pagable_world.specs.declared.events.Claim.TheVariants as claims
+use Rattle.pagable_world.specs.declared.events.PinStep.TheVariants as pinsteps
+use Rattle.pagable_world.specs.declared.events.Took.TheVariants as took
+use Rattle.pagable_world.specs.declared.events.WorkerAnswer.TheVariants as finals
 
 -- something is to be done about a claim of the identity that has no result yet; or all of it fails
 unfoldable IsHeld : Identity → List Todo → Type 0
@@ -65,15 +61,7 @@ answered-so failed e = is-failed tt
 
 -- a first result comes, or one stands
 settled : {F H K : Type 0} (slot : Slot) (outcome : Outcome) → ByOutcome F K outcome → ByOutcome F H slot.outcome → ByOutcome F K (with_outcome outcome slot).outcome
-settled {F} {H} {K} slot outcome new h = of slot.outcome refl h
-  where
-    at : (o : Outcome) → slot.outcome ≡ o → ByOutcome F K (if is_open_outcome o then record slot { outcome = outcome } else slot).outcome → ByOutcome F K (with_outcome outcome slot).outcome
-    at o e x = subst (λ z. ByOutcome F K (if is_open_outcome z then record slot { outcome = outcome } else slot).outcome) (sym e) x
-
-    of : (o : Outcome) → slot.outcome ≡ o → ByOutcome F H o → ByOutcome F K (with_outcome outcome slot).outcome
-    of no_result e (is-open h) = at no_result e new
-    of (published key height) e (is-known k q) = at (published key height) e (subst (ByOutcome F K) (sym e) (is-known key height))
-    of failed e (is-failed h) = at failed e (subst (ByOutcome F K) (sym e) (is-failed h))
+settled {F} {H} {K} slot outcome new h = grind (arith, nat_tests, common_steps, is-open, new, is-known, is-failed)
 
 starts-held : (i : Identity) (place : ℕ) (rs : List ArcRef) (todo : List Todo) → IsHeld i todo → IsHeld i (next_start place rs ++ todo)
 unfolding IsHeld

@@ -2,8 +2,7 @@
 use Rattle.std.specs.Prelude.{ℕ, ◌+◌, ◌*◌, ◌^◌, ◌≤◌, ◌<◌, List, [], ◌∷◌, length}
 use Rattle.pagable_world.specs.World.{Todo, to_start, to_pin, to_load, to_write, to_finish, to_item, to_set, to_publish, to_release, to_fail}
 use Rattle.pagable_loads.specs.Ending.{to_do}
-use Rattle.pagable_walk.specs.declared.results.Trees.{Ghosts}
-use Rattle.pagable_walk.specs.declared.tasks.Turn.{Turn}
+use Rattle.pagable_walk.specs.{declared.results.Trees.Ghosts, declared.tasks.Turn.Turn}
 use Rattle.pagable_walk.specs.declared.tasks.Turn.TheVariants as comes
 
 -- how much there is at most before a load has begun

@@ -1,13 +1,7 @@
 -- What a worker's turns at what it has written do.
 use Rattle.std.specs.Prelude.{ℕ, Option, Some, None, Result}
-use Rattle.pagable_model.specs.declared.error.Error.{Error}
-use Rattle.pagable_model.specs.declared.numbers.HandleNumber.{HandleNumber}
-use Rattle.pagable_model.specs.Blob.{key_of}
-use Rattle.pagable_world.specs.Plain.{Blob}
-use Rattle.pagable_world.specs.declared.handles.Owner.{Owner}
-use Rattle.pagable_world.specs.World.{Core, Values, Alike}
-use Rattle.pagable_world.specs.Calls.{StoreCall, ScheduleCall}
-use Rattle.pagable_world.specs.Pager.{PagerState, WellFormed, Moves}
+use Rattle.pagable_model.specs.{Blob.key_of, declared.error.Error.Error, declared.numbers.HandleNumber.HandleNumber}
+use Rattle.pagable_world.specs.{Calls.StoreCall, Calls.ScheduleCall, Pager.PagerState, Pager.WellFormed, Pager.Moves, Plain.Blob, World.Core, World.Values, World.Alike, declared.handles.Owner.Owner}
 
 -- the blob is stored, or the call is refused
 pub record Stores {N E : Type 0} (v : Values N) (s : PagerState N E) (blob : Blob) (r : Result ℕ Error) (t : PagerState N E) : Type 0 where

@@ -1,14 +1,9 @@
 -- What a lent table tells.
 use Rattle.std.specs.Prelude.{◌≡◌, Result, Ok, Err}
-use Rattle.pagable_world.specs.Plain.{Error, Identity}
-use Rattle.pagable_world.specs.declared.events.Claim.{Claim}
+use Rattle.pagable_world.specs.{Plain.Error, Plain.Identity, World.Shelf, declared.events.Claim.Claim}
+use Rattle.pagable_walk.specs.{Slots.shelf_in, declared.results.Trees.Ghosts, declared.table.Found.Found, declared.table.SlotTable.SlotTable}
 use Rattle.pagable_world.specs.declared.events.Claim.TheVariants as claims
-use Rattle.pagable_world.specs.World.{Shelf}
-use Rattle.pagable_walk.specs.declared.results.Trees.{Ghosts}
-use Rattle.pagable_walk.specs.declared.table.Found.{Found}
 use Rattle.pagable_walk.specs.declared.table.Found.TheVariants as founds
-use Rattle.pagable_walk.specs.declared.table.SlotTable.{SlotTable}
-use Rattle.pagable_walk.specs.Slots.{shelf_in}
 
 module _ {E : Type 0} {g : Ghosts E} where
   abbrev pub shelf_of : SlotTable E g → Shelf

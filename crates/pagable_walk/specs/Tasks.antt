@@ -2,22 +2,15 @@
 use Rattle.std.specs.Prelude.{ℕ, ◌≡◌, ◌≤◌, ◌+◌, List, [], ◌∷◌, ◌++◌, length, max, Some, slice_get}
 use Rattle.std.specs.Arc.{arc_value}
 use Rattle.pagable_model.specs.declared.numbers.ArcRef.{ArcRef}
-use Rattle.pagable_world.specs.Plain.{above, longest_path}
 use Rattle.pagable_world.specs.World.{Todo, to_start, to_pin, to_load, to_write, to_finish, to_item, to_set, to_publish, to_release, to_fail, Fault, was_refused, was_failed}
-use Rattle.pagable_world.specs.World as world
-use Rattle.pagable_world.specs.Workers.{place_below}
+use Rattle.pagable_world.specs.{Plain.above, Plain.longest_path, Workers.place_below}
 use Rattle.pagable_loads.specs.Frames.{reading_of}
-use Rattle.pagable_walk.specs.declared.results.Trees.{Ghosts}
-use Rattle.pagable_walk.specs.declared.table.PageOutError.{PageOutError}
+use Rattle.pagable_walk.specs.{Found.keys_of, Slots.written_of, declared.results.Trees.Ghosts, declared.table.PageOutError.PageOutError, declared.tasks.Item.Item, declared.tasks.Open.Open}
+use Rattle.pagable_walk.specs.{declared.tasks.Task.Task, declared.tasks.Waiting.Waiting}
+use Rattle.pagable_world.specs.World as world
 use Rattle.pagable_walk.specs.declared.table.PageOutError.TheVariants as causes
-use Rattle.pagable_walk.specs.declared.tasks.Open.{Open}
-use Rattle.pagable_walk.specs.declared.tasks.Item.{Item}
-use Rattle.pagable_walk.specs.declared.tasks.Waiting.{Waiting}
 use Rattle.pagable_walk.specs.declared.tasks.Waiting.TheVariants as waitings
-use Rattle.pagable_walk.specs.declared.tasks.Task.{Task}
 use Rattle.pagable_walk.specs.declared.tasks.Task.TheVariants as tasks
-use Rattle.pagable_walk.specs.Found.{keys_of}
-use Rattle.pagable_walk.specs.Slots.{written_of}
 
 abbrev pub fault_of : PageOutError → Fault
 fault_of (causes.Failed e) = was_refused e

@@ -1,14 +1,9 @@
 -- What a worker writes of a node that it has pinned.
 use Rattle.std.specs.Prelude.{ℕ, ◌≡◌, ◌⊎◌, true, [], Some, Result, IfOk, IfErr}
-use Rattle.pagable_model.specs.declared.error.Error.{Error}
-use Rattle.pagable_model.specs.declared.error.Error.TheVariants as errors
-use Rattle.pagable_model.specs.declared.numbers.ArcRef.{ArcRef}
-use Rattle.pagable_model.specs.declared.numbers.HandleNumber.{HandleNumber}
-use Rattle.pagable_model.specs.Refusals.{is_writing_fault}
-use Rattle.pagable_world.specs.Plain.{type_of}
-use Rattle.pagable_world.specs.World.{Open, Written, Values, HasForm}
-use Rattle.pagable_world.specs.Pager.{PagerState, WellFormed, IsWrittenOf, IsFormless, RefusesWriting}
+use Rattle.pagable_model.specs.{Refusals.is_writing_fault, declared.error.Error.Error, declared.numbers.ArcRef.ArcRef, declared.numbers.HandleNumber.HandleNumber}
+use Rattle.pagable_world.specs.{Pager.PagerState, Pager.WellFormed, Pager.IsWrittenOf, Pager.IsFormless, Pager.RefusesWriting, Plain.type_of, World.Open, World.Written, World.Values, World.HasForm}
 use Rattle.pagable_walk.specs.Turns.{IsOfKind, PinsAt}
+use Rattle.pagable_model.specs.declared.error.Error.TheVariants as errors
 
 -- a form of the value, with exactly its references
 pub record IsForm {N : Type 0} (v : Values N) (x : N) (written : Written) : Type 0 where

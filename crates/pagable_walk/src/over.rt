@@ -1,13 +1,10 @@
 //! Page-out of an item, and of the entries of the list, over an access, each by workers of its own.
 
-ghost use Rattle.std.specs.Prelude.{◌≡◌};
-ghost use Rattle.std.specs.Arc.{arc_value};
-ghost use Rattle.pagable_world.specs.declared.handles.Owner.TheVariants as owners;
+ghost use Rattle.std.specs.{Arc.arc_value, Prelude.◌≡◌};
 ghost use Rattle.pagable_world.specs.Access.{Told};
 ghost use Rattle.pagable_loads.specs.Telling.{values_at};
-ghost use Rattle.pagable_walk.specs.Over.{answer_of, PagesAt, PagesEntry, PagesItem, PagesList, SkipsEntry};
-ghost use Rattle.pagable_walk.specs.Slots.{written_of};
-ghost use Rattle.pagable_walk.specs.Table.{shelf_of};
+ghost use Rattle.pagable_walk.specs.{Over.answer_of, Over.PagesAt, Over.PagesEntry, Over.PagesItem, Over.PagesList, Over.SkipsEntry, Slots.written_of, Table.shelf_of};
+ghost use Rattle.pagable_world.specs.declared.handles.Owner.TheVariants as owners;
 
 use crate::{PageOutError, SlotTable};
 use crate::starting::{start_entry, start_item};

@@ -2,8 +2,7 @@
 
 ghost use Rattle.std.specs.Prelude.{◌≡◌, ◌≤◌, ℕ};
 ghost use Rattle.pagable_model.specs.declared.numbers.Identity.{Identity as Named};
-ghost use Rattle.pagable_world.specs.Plain.{longest_path};
-ghost use Rattle.pagable_world.specs.World.{Written};
+ghost use Rattle.pagable_world.specs.{Plain.longest_path, World.Written};
 ghost use Rattle.pagable_loads.specs.Telling.{values_at};
 ghost use Rattle.pagable_walk.specs.Results.{HasFormOf, ResultStands};
 

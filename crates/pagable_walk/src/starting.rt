@@ -1,13 +1,9 @@
 //! What a worker does first.
 
-ghost use Rattle.std.specs.Prelude.{◌≡◌, ◌∷◌, [], IfOk, IfErr};
-ghost use Rattle.std.specs.Arc.{arc_value};
+ghost use Rattle.std.specs.{Arc.arc_value, Prelude.◌≡◌, Prelude.◌∷◌, Prelude.[], Prelude.IfOk, Prelude.IfErr};
+ghost use Rattle.pagable_world.specs.{Kinds.identity_of, Workers.first_todo, World.of_item, World.of_entry, World.to_item};
+ghost use Rattle.pagable_walk.specs.{Slots.written_of, Tasks.IsPlain, Tasks.IsWay, Tasks.item_todo, Tasks.todo_of, Tasks.todos};
 ghost use Rattle.pagable_model.specs.declared.error.Error.TheVariants as errors;
-ghost use Rattle.pagable_world.specs.Kinds.{identity_of};
-ghost use Rattle.pagable_world.specs.World.{of_item, of_entry, to_item};
-ghost use Rattle.pagable_world.specs.Workers.{first_todo};
-ghost use Rattle.pagable_walk.specs.Slots.{written_of};
-ghost use Rattle.pagable_walk.specs.Tasks.{IsPlain, IsWay, item_todo, todo_of, todos};
 
 use crate::Trees;
 use crate::stack::settle_item;

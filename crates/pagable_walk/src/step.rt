@@ -3,10 +3,7 @@
 ghost use Rattle.std.specs.Prelude.{◌≡◌, ◌∷◌};
 ghost use Rattle.pagable_world.specs.Access.{Told};
 ghost use Rattle.pagable_loads.specs.Telling.{values_at};
-ghost use Rattle.pagable_walk.specs.Table.{shelf_of};
-ghost use Rattle.pagable_walk.specs.Tasks.{IsWay, todo_of, todos};
-ghost use Rattle.pagable_walk.specs.Due.{LeadsOn};
-ghost use Rattle.pagable_walk.specs.Turns.{Closes, TurnsTo, StepsTo, acting_then, plan};
+ghost use Rattle.pagable_walk.specs.{Due.LeadsOn, Table.shelf_of, Tasks.IsWay, Tasks.todo_of, Tasks.todos, Turns.Closes, Turns.TurnsTo, Turns.StepsTo, Turns.acting_then, Turns.plan};
 
 use crate::SlotTable;
 use crate::ending::{end, finish, finish_item, publish, release, set_key};

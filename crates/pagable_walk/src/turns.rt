@@ -1,17 +1,11 @@
 //! A worker's turns at a reference that it has come to: it claims what the reference names, and pins it, by a load where it is needed.
 
 ghost use Rattle.std.specs.Prelude.{◌≡◌, ◌≤◌, ◌+◌, ◌*◌, ◌∷◌, ℕ, List, length};
-ghost use Rattle.pagable_world.specs.Plain.{longest_path};
-ghost use Rattle.pagable_world.specs.World.{Core, Shelf, Todo, to_start, to_pin, to_load};
-ghost use Rattle.pagable_world.specs.Workers.{claim_fault, is_counted_claim, Claims};
-ghost use Rattle.pagable_world.specs.Access.{Told};
-ghost use Rattle.pagable_loads.specs.Frames.{reading_of};
-ghost use Rattle.pagable_loads.specs.Telling.{Tells, values_at};
-ghost use Rattle.pagable_loads.specs.Working.{fault_in};
-ghost use Rattle.pagable_walk.specs.Table.{shelf_of, found_as};
-ghost use Rattle.pagable_walk.specs.Tasks.{Awaits, IsWay, todo_of, todos};
-ghost use Rattle.pagable_walk.specs.Due.{due, most, LeadsOn};
-ghost use Rattle.pagable_walk.specs.Turns.{site, claim_todo, ClaimFits, ClaimLeaves, TurnsTo, plan};
+ghost use Rattle.pagable_world.specs.{Access.Told, Plain.longest_path, Workers.claim_fault, Workers.is_counted_claim, Workers.Claims, World.Core, World.Shelf, World.Todo, World.to_start};
+ghost use Rattle.pagable_world.specs.{World.to_pin, World.to_load};
+ghost use Rattle.pagable_loads.specs.{Frames.reading_of, Telling.Tells, Telling.values_at, Working.fault_in};
+ghost use Rattle.pagable_walk.specs.{Due.due, Due.most, Due.LeadsOn, Table.shelf_of, Table.found_as, Tasks.Awaits, Tasks.IsWay, Tasks.todo_of, Tasks.todos, Turns.site, Turns.claim_todo};
+ghost use Rattle.pagable_walk.specs.{Turns.ClaimFits, Turns.ClaimLeaves, Turns.TurnsTo, Turns.plan};
 
 use crate::stack::{fail, give_known, refuse};
 use crate::tasks::{Done, Moved, Task, Turn, Waiting, named};

@@ -1,8 +1,7 @@
 use Rattle.std.proofs.Common.{ap, arith}
 use Rattle.pagable_loads.specs.Telling.{values_at}
 use Rattle.pagable_loads.proofs.Stepped.{told_map}
-use Rattle.pagable_walk.specs.Due.{rank}
-use Rattle.pagable_walk.specs.Tasks.{todos}
+use Rattle.pagable_walk.specs.{Due.rank, Tasks.todos}
 use Rattle.pagable_walk.proofs.Closing.{finish-stores, finish-fails}
 use Rattle.pagable_walk.proofs.ending.finish.Goals as goal
 

@@ -1,12 +1,9 @@
 use Rattle.std.proofs.Common.{ap, ◌∙◌, rules, subst, sym, length, arith}
 use Rattle.pagable_loads.specs.Telling.{values_at}
 use Rattle.pagable_loads.proofs.Stepped.{told_map}
-use Rattle.pagable_walk.specs.Tasks.{todos}
+use Rattle.pagable_walk.specs.{Tasks.todos, Tasks.AwaitsLow, Tasks.IsWay, Tasks.waiting_todo}
 use Rattle.pagable_world.specs.Workers.{give}
-use Rattle.pagable_walk.specs.Tasks.{AwaitsLow, IsWay, waiting_todo}
-use Rattle.pagable_walk.proofs.Stacks.{todos-more, todos-none}
-use Rattle.pagable_walk.proofs.Ways.{give-way}
-use Rattle.pagable_walk.proofs.Closing.{release-ends, release-gives}
+use Rattle.pagable_walk.proofs.{Closing.release-ends, Closing.release-gives, Stacks.todos-more, Stacks.todos-none, Ways.give-way}
 use Rattle.pagable_walk.proofs.ending.release.Goals as goal
 
 pub give-requires-clause-way : goal.give-requires-clause-way

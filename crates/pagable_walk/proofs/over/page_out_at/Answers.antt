@@ -1,6 +1,5 @@
 use Rattle.pagable_loads.specs.Telling.{values_at}
-use Rattle.pagable_walk.proofs.Pages.{at-failed, at-other, at-paged, at-past, at-skipped}
-use Rattle.pagable_walk.proofs.Telling.{tells-map, told-from, told-same}
+use Rattle.pagable_walk.proofs.{Pages.at-failed, Pages.at-other, Pages.at-paged, Pages.at-past, Pages.at-skipped, Telling.tells-map, Telling.told-from, Telling.told-same}
 use Rattle.pagable_walk.proofs.over.page_out_at.Goals as goal
 
 pub returns-in-None-clause-pages : goal.returns-in-None-clause-pages

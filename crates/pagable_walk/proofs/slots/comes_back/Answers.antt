@@ -1,5 +1,4 @@
-use Rattle.std.proofs.Common.{rules, ◌≡◌, Some, None, false, nat_eq, sym, arith}
-use Rattle.std.proofs.lemmas.Bool.Decides.{nat_tests}
+use Rattle.std.proofs.{Common.rules, Common.◌≡◌, Common.Some, Common.None, Common.false, Common.nat_eq, Common.sym, Common.arith, lemmas.Bool.Decides.nat_tests}
 use Rattle.indexmap.specs.IndexMap.{get}
 use Rattle.pagable_world.specs.Workers.{is-asker, works}
 use Rattle.pagable_walk.specs.Slots.{shelf_in, slots_in, open_worker}

@@ -1,5 +1,4 @@
-use Rattle.std.proofs.Common.{ap, ◌∙◌, refl, arith, length}
-use Rattle.std.proofs.lemmas.List.{length-map}
+use Rattle.std.proofs.{Common.ap, Common.◌∙◌, Common.refl, Common.arith, Common.length, lemmas.List.length-map}
 use Rattle.indexmap.specs.IndexMap.{keys}
 use Rattle.pagable_walk.specs.Slots.{slot_of, slots_in}
 use Rattle.pagable_walk.proofs.Failing.{all-after, done-more}

@@ -1,12 +1,7 @@
-use Rattle.std.proofs.Common.{◌≡◌, ◌∷◌, ap, ◌∙◌, subst, sym}
-use Rattle.std.specs.Arc.{arc_value}
-use Rattle.std.specs.Prelude.{Some, slice_get}
-use Rattle.std.proofs.lemmas.List.{length-map}
-use Rattle.pagable_world.specs.World.{to_finish}
-use Rattle.pagable_world.specs.Workers.{give, settle}
-use Rattle.pagable_walk.specs.Slots.{written_of}
-use Rattle.pagable_walk.specs.Found.{keys_of}
-use Rattle.pagable_walk.specs.Tasks.{AwaitsLow, open_of, todos, waiting_todo}
+use Rattle.std.proofs.{Common.◌≡◌, Common.◌∷◌, Common.ap, Common.◌∙◌, Common.subst, Common.sym, lemmas.List.length-map}
+use Rattle.std.specs.{Arc.arc_value, Prelude.Some, Prelude.slice_get}
+use Rattle.pagable_world.specs.{Workers.give, Workers.settle, World.to_finish}
+use Rattle.pagable_walk.specs.{Found.keys_of, Slots.written_of, Tasks.AwaitsLow, Tasks.open_of, Tasks.todos, Tasks.waiting_todo}
 use Rattle.pagable_walk.proofs.Ways.{node-awaits, item-awaits}
 use Rattle.pagable_walk.proofs.stack.give.Goals as goal
 

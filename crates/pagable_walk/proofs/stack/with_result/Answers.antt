@@ -1,11 +1,8 @@
 use Rattle.std.proofs.Common.{◌≡◌, ◌≤◌, ◌+◌, ◌∷◌, [], length, sym, ap, ◌∙◌, subst, rules, arith}
-use Rattle.std.specs.Arc.{arc_value}
-use Rattle.std.specs.Prelude.{vec_len}
-use Rattle.std.proofs.lemmas.List.{map-append}
-use Rattle.std.proofs.lemmas.Option.{slice_get_within}
+use Rattle.std.proofs.{lemmas.List.map-append, lemmas.Option.slice_get_within}
+use Rattle.std.specs.{Arc.arc_value, Prelude.vec_len}
 use Rattle.pagable_world.specs.Plain.{longest_path}
-use Rattle.pagable_walk.specs.Found.{keys_of}
-use Rattle.pagable_walk.specs.Tasks.{open_of}
+use Rattle.pagable_walk.specs.{Found.keys_of, Tasks.open_of}
 use Rattle.pagable_walk.proofs.Stacks.{ids-more, child-same}
 use Rattle.pagable_walk.proofs.stack.with_result.Goals as goal
 

@@ -1,8 +1,7 @@
 use Rattle.std.proofs.Common.{◌∷◌, rules, ap, subst, sym}
 use Rattle.pagable_world.specs.World.{to_start}
 use Rattle.pagable_walk.specs.Tasks.{IsWay}
-use Rattle.pagable_walk.proofs.Stacks.{todos-none}
-use Rattle.pagable_walk.proofs.Ways.{start-way}
+use Rattle.pagable_walk.proofs.{Stacks.todos-none, Ways.start-way}
 use Rattle.pagable_walk.proofs.starting.start_entry.Goals as goal
 
 pub returns-clause-todo : goal.returns-clause-todo

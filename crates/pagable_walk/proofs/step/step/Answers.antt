@@ -1,9 +1,7 @@
 use Rattle.std.proofs.Common.{ap, ◌∙◌}
 use Rattle.pagable_loads.specs.Telling.{values_at}
 use Rattle.pagable_loads.proofs.Stepped.{told_then}
-use Rattle.pagable_walk.specs.Table.{shelf_of}
-use Rattle.pagable_walk.specs.Tasks.{todos}
-use Rattle.pagable_walk.specs.Turns.{acting_then}
+use Rattle.pagable_walk.specs.{Table.shelf_of, Tasks.todos, Turns.acting_then}
 use Rattle.pagable_walk.proofs.Stepping.{steps-to}
 use Rattle.pagable_walk.proofs.step.step.Goals as goal
 

@@ -1,6 +1,5 @@
 use Rattle.std.proofs.Common.{Ok, ap, ◌∙◌, subst, sym}
-use Rattle.pagable_walk.specs.Tasks.{IsWay, todos}
-use Rattle.pagable_walk.specs.Turns.{ClaimFits}
+use Rattle.pagable_walk.specs.{Tasks.IsWay, Tasks.todos, Turns.ClaimFits}
 use Rattle.pagable_walk.proofs.Ways.{known-way}
 use Rattle.pagable_walk.proofs.turns.after_claim.Goals as goal
 

@@ -1,7 +1,6 @@
 use Rattle.std.proofs.Common.{ap, arith}
 use Rattle.pagable_world.specs.World.{Reading}
-use Rattle.pagable_loads.specs.Ending.{to_do}
-use Rattle.pagable_loads.specs.Telling.{values_at}
+use Rattle.pagable_loads.specs.{Ending.to_do, Telling.values_at}
 use Rattle.pagable_loads.proofs.Stepped.{told_map}
 use Rattle.pagable_walk.specs.Tasks.{todos}
 use Rattle.pagable_walk.proofs.Pinning.{pin-holds, pin-begins, pin-fails}

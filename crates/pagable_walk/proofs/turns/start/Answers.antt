@@ -1,8 +1,6 @@
 use Rattle.pagable_loads.specs.Telling.{values_at}
-use Rattle.pagable_walk.specs.Table.{shelf_of}
-use Rattle.pagable_walk.specs.Tasks.{todos}
-use Rattle.pagable_walk.proofs.Telling.{tells-map}
-use Rattle.pagable_walk.proofs.Turning.{start-turns}
+use Rattle.pagable_walk.specs.{Table.shelf_of, Tasks.todos}
+use Rattle.pagable_walk.proofs.{Telling.tells-map, Turning.start-turns}
 use Rattle.pagable_walk.proofs.turns.start.Goals as goal
 
 pub returns-clause-step : goal.returns-clause-step

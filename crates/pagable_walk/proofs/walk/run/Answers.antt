@@ -1,12 +1,8 @@
 use Rattle.std.proofs.Common.{refl, ap, ◌∙◌}
-use Rattle.pagable_loads.specs.Telling.{values_at}
-use Rattle.pagable_loads.specs.Working.{as_caller}
+use Rattle.pagable_loads.specs.{Telling.values_at, Working.as_caller}
 use Rattle.pagable_loads.proofs.Stepped.{told_then}
-use Rattle.pagable_walk.specs.Table.{shelf_of}
-use Rattle.pagable_walk.specs.Tasks.{todos}
-use Rattle.pagable_walk.specs.Turns.{acting_then, plan}
-use Rattle.pagable_walk.proofs.Telling.{told-all}
-use Rattle.pagable_walk.proofs.Joined.{none-walked, goes-walked, ends-walked}
+use Rattle.pagable_walk.specs.{Table.shelf_of, Tasks.todos, Turns.acting_then, Turns.plan}
+use Rattle.pagable_walk.proofs.{Joined.none-walked, Joined.goes-walked, Joined.ends-walked, Telling.told-all}
 use Rattle.pagable_walk.proofs.walk.run.Goals as goal
 
 pub loop-next-init : goal.loop-next-init

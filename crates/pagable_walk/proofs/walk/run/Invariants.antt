@@ -1,10 +1,7 @@
 use Rattle.std.proofs.Common.{◌≡◌, ◌∷◌, ◌+◌, ◌*◌}
 use Rattle.pagable_world.specs.Access.{Told}
 use Rattle.pagable_loads.specs.Telling.{values_at}
-use Rattle.pagable_walk.specs.Due.{due, far}
-use Rattle.pagable_walk.specs.Table.{shelf_of}
-use Rattle.pagable_walk.specs.Tasks.{IsWay, todo_of, todos}
-use Rattle.pagable_walk.specs.Walking.{HasWalked}
+use Rattle.pagable_walk.specs.{Due.due, Due.far, Table.shelf_of, Tasks.IsWay, Tasks.todo_of, Tasks.todos, Walking.HasWalked}
 use Rattle.pagable_walk.proofs.walk.run.Given as goal
 
 -- the path leads to the task, and a run from here is one from the beginning

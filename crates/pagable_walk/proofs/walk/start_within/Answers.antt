@@ -1,14 +1,9 @@
 use Rattle.std.proofs.Common.{◌≡◌, ◌<◌, ◌^◌, length, refl, rules, arith}
 use Rattle.std.specs.Prelude.{vec_len}
 use Rattle.pagable_loads.specs.Telling.{values_at}
+use Rattle.pagable_walk.specs.{Table.shelf_of, Tasks.todos}
+use Rattle.pagable_walk.proofs.{Dues.start-falls, Stacks.todos-length, Stepping.steps-to, Telling.told-all, Turning.start-refused}
 use Rattle.pagable_walk.specs.declared.tasks.Task.TheVariants as tasks
-use Rattle.pagable_walk.specs.Table.{shelf_of}
-use Rattle.pagable_walk.specs.Tasks.{todos}
-use Rattle.pagable_walk.proofs.Dues.{start-falls}
-use Rattle.pagable_walk.proofs.Stacks.{todos-length}
-use Rattle.pagable_walk.proofs.Stepping.{steps-to}
-use Rattle.pagable_walk.proofs.Telling.{told-all}
-use Rattle.pagable_walk.proofs.Turning.{start-refused}
 use Rattle.pagable_walk.proofs.walk.start_within.Goals as goal
 
 pub returns-then-left-eq0-clause-step : goal.returns-then-left-eq0-clause-step

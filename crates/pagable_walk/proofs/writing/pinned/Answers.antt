@@ -1,8 +1,7 @@
 use Rattle.std.proofs.Common.{ap, ◌∙◌}
 use Rattle.std.specs.Arc.{arc_value}
 use Rattle.pagable_loads.specs.Telling.{values_at}
-use Rattle.pagable_walk.proofs.Telling.{tells-map}
-use Rattle.pagable_walk.proofs.Forming.{finds-other}
+use Rattle.pagable_walk.proofs.{Forming.finds-other, Telling.tells-map}
 use Rattle.pagable_walk.proofs.writing.pinned.Goals as goal
 
 pub returns-then-node_type-reference-clause-step : goal.returns-then-node_type-reference-clause-step
