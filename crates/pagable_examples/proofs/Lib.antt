@@ -1,4 +1,5 @@
 pub mod Expressions
 pub mod Levels
+pub mod Listed
 pub mod Menus
 pub mod Refusing

@@ -3,6 +3,7 @@ pub mod Counting
 pub mod Dishes
 pub mod Expressions
 pub mod Failing
+pub mod Linked
 pub mod Menus
 pub mod Sightings
 pub mod Sizes

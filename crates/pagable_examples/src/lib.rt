@@ -1,13 +1,14 @@
 //! How a caller carries types of its own, and what programs and tests share: a struct of named fields, an enum that is
 //! carried as an option, an environment of both, a type that holds values of its own type, and one that is written eagerly;
 //! an environment of registries, with tagged values and a type that has a tagged and a static value; an environment of
-//! texts, and lines that ask for named ones; storages over another storage; and inputs that are drawn.
+//! texts, and lines that ask for named ones; types that refer to each other; storages over another storage; and inputs that are drawn.
 #![tactic(auto)]
 
 pub mod animal;
 pub mod dish;
 pub mod drawn;
 pub mod expression;
+pub mod linked;
 pub mod menu;
 pub mod named_texts;
 pub mod quick_start;

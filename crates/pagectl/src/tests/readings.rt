@@ -1,9 +1,10 @@
 //! What a value refers to is read with it by a shared reference, and only when it is pinned by a loose one.
 
 use crate::tests::equal::equal;
-use linked_values::{ArcLink, Chain, Link, Linked, LinkedNode};
 use pagable::paging::{deserialize_pagable_data, pin};
 use pagable::{DataKey, Error, HandleNumber, InMemoryBlobs, PagableData, Pager};
+use pagable_examples::linked::chain::{ArcLink, Chain, Link};
+use pagable_examples::linked::{Linked, LinkedNode};
 use std::alloc::Global;
 use std::sync::Arc;
 
