@@ -1,5 +1,4 @@
 pub mod Expressions
 pub mod Levels
 pub mod Listed
-pub mod Menus
 pub mod Refusing
