@@ -59,14 +59,6 @@ fn read_links(alloc: Global, pager: &mut LinkPager) -> Result<(bool, bool, bool)
     Ok((is_away, is_last, is_shared_away))
 }
 
-#[test]
-fn references_are_read_later_or_at_once(rt: HostRuntime) {
-    let alloc = rt.alloc();
-    let mut pager = Pager::new(alloc, InMemoryBlobs::new(alloc), Linked);
-    let found = read_links(alloc, &mut pager);
-    equal(&rt, found, Ok((true, true, false)), "links");
-}
-
 /// Stores a bundle of a shared link and a pinned one, after both of which another one comes.
 fn store_bundle(alloc: Global, pager: &mut LinkPager) -> Result<DataKey, Error> {
     let link = store_two(alloc, pager)?;
@@ -122,9 +114,11 @@ fn read_bundles(alloc: Global, pager: &mut LinkPager) -> Result<[bool; 3], Error
 }
 
 #[test]
-fn a_load_shares_its_values_with_the_readers_of_their_blobs(rt: HostRuntime) {
+fn references_are_read_later_or_at_once_with_what_stands(rt: HostRuntime) {
     let alloc = rt.alloc();
     let mut pager = Pager::new(alloc, InMemoryBlobs::new(alloc), Linked);
-    let found = read_bundles(alloc, &mut pager);
-    equal(&rt, found, Ok([true; 3]), "bundles");
+    let links = read_links(alloc, &mut pager);
+    equal(&rt, links, Ok((true, true, false)), "links");
+    let bundles = read_bundles(alloc, &mut pager);
+    equal(&rt, bundles, Ok([true; 3]), "bundles");
 }
