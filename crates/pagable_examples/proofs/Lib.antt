@@ -1,4 +1,4 @@
 pub mod Expressions
 pub mod Levels
-pub mod Menus
+pub mod Listed
 pub mod Refusing

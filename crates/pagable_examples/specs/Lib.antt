@@ -1,9 +1,8 @@
 pub mod Animals
-pub mod Counting
 pub mod Dishes
 pub mod Expressions
 pub mod Failing
-pub mod Menus
+pub mod Linked
 pub mod Sightings
 pub mod Sizes
 pub mod Texts

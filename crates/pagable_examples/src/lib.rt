@@ -1,14 +1,14 @@
 //! How a caller carries types of its own, and what programs and tests share: a struct of named fields, an enum that is
-//! carried as an option, an environment of both, a type that holds values of its own type, and one that is written eagerly;
-//! an environment of registries, with tagged values and a type that has a tagged and a static value; an environment of
-//! texts, and lines that ask for named ones; storages over another storage; and inputs that are drawn.
+//! carried as an option, a type that holds values of its own type, and one that is written eagerly; an environment of
+//! registries, with tagged values and a type that has a tagged and a static value; an environment of texts, and lines that
+//! ask for named ones; types that refer to each other; a storage over another storage; and inputs that are drawn.
 #![tactic(auto)]
 
 pub mod animal;
 pub mod dish;
 pub mod drawn;
 pub mod expression;
-pub mod menu;
+pub mod linked;
 pub mod named_texts;
 pub mod quick_start;
 pub mod sighting;
@@ -22,10 +22,9 @@ pub use animal::{Animal, AnimalReader};
 pub use dish::Dish;
 pub use drawn::{Draws, input_of};
 pub use expression::{Expression, Sheet};
-pub use menu::{Menu, MenuNode};
 pub use sighting::Sighting;
 pub use size::Size;
-pub use storages::{CountingStorage, FailingStorage};
+pub use storages::FailingStorage;
 pub use text::{TextEnv, TextNode};
 pub use ticket::Ticket;
 pub use zoo::{NoNode, Zoo};

@@ -1,79 +1,10 @@
-//! Storages over another storage, for tests: one that counts its calls, and one that fails once.
+//! A storage over another storage, for tests, which fails once.
 
 ghost use Rattle.std.specs.Prelude.{◌≡◌, true, false};
 
 use pagable::{DataKey, Env, Error, PagableData, PagableStorage};
 use std::alloc::Global;
 use std::sync::Arc;
-
-/// A storage that counts how often blobs are fetched from another storage, and stored there.
-#[derive(Drop)]
-pub struct CountingStorage<S> {
-    inner: S,
-    fetches: u64,
-    stores: u64,
-}
-
-impl<S> CountingStorage<S> {
-    /// The storage, with nothing counted.
-    pub fn new(inner: S) -> CountingStorage<S> {
-        CountingStorage {
-            inner,
-            fetches: 0,
-            stores: 0,
-        }
-    }
-
-    /// How often `fetch_data_blocking` was called; at 2^64 - 1 the count stays.
-    pub fn fetches(&self) -> u64 {
-        self.fetches
-    }
-
-    /// How often `store_data` was called; at 2^64 - 1 the count stays.
-    pub fn stores(&self) -> u64 {
-        self.stores
-    }
-}
-
-impl<E: Env, S: PagableStorage<E>> PagableStorage<E> for CountingStorage<S> {
-    ghost use Rattle.pagable_examples.specs.Counting.{counted};
-
-    ghost stored = { λ s. S.stored (counted s) };
-
-    ghost is_closed = { λ s. S.is_closed (counted s) };
-
-    ghost failed = { λ s. S.failed (counted s) };
-
-    fn fetch_data_blocking(
-        &mut self,
-        alloc: Global,
-        key: DataKey,
-    ) -> Result<Arc<PagableData>, Error> {
-        self.fetches = self.fetches.saturating_add(1);
-        self.inner.fetch_data_blocking(alloc, key)
-    }
-
-    fn store_data(&mut self, alloc: Global, blob: PagableData) -> Result<DataKey, Error> {
-        self.stores = self.stores.saturating_add(1);
-        self.inner.store_data(alloc, blob)
-    }
-
-    fn flush(&mut self) -> Result<(), Error> {
-        self.inner.flush()
-    }
-
-    fn close(&mut self) {
-        self.inner.close();
-    }
-
-    fn has_closed(&self) -> bool {
-        self.inner.has_closed()
-    }
-
-    fn failures(&self) -> u64 {
-        self.inner.failures()
-    }
-}
 
 /// A storage of which one call fails, as another storage is called: `fetch_data_blocking`, `store_data` and `flush`
 /// count as calls.

@@ -4,7 +4,6 @@
 mod cells;
 mod equal;
 mod failing;
-mod lent;
 mod own_types;
 mod patterns;
 mod readings;

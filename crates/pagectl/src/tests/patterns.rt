@@ -15,15 +15,7 @@ fn what_is_built_searches(rt: HostRuntime) -> Result<(), Fail> {
         let span = found.map(|found| (found.start(), found.end()));
         equal(&rt, span, wanted, text);
     }
-    Ok(())
-}
-
-#[test]
-fn saved_regexes_are_equal_where_their_texts_are(rt: HostRuntime) -> Result<(), Fail> {
-    let first = SavedRegex::new(rt.alloc(), "a|b")?;
-    for (text, wanted) in [("a|b", true), ("b|a", false), ("", false)] {
-        let second = SavedRegex::new(rt.alloc(), text)?;
-        equal(&rt, first == second, wanted, text);
-    }
+    let second = SavedRegex::new(rt.alloc(), "a+b")?;
+    equal(&rt, saved == second, true, "of the same text");
     Ok(())
 }

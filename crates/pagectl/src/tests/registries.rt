@@ -6,12 +6,8 @@ use crate::tests::written::is_written;
 use pagable::{Error, PagableTagged, StaticStr, StaticValue, StaticValueEntry};
 use pagable_examples::{Animal, Zoo};
 use std::alloc::Global;
+use std::process::Abort;
 use std::test::Fail;
-
-/// An environment with the texts b, a and b, given in this order, in which no animal is registered.
-fn zoo(alloc: Global) -> Result<Zoo, Error> {
-    Zoo::new(alloc, &["b", "a", "b"], &[], &[])
-}
 
 /// Whether a text under this index, whether or not it stands there, is written so.
 fn is_word_written(
@@ -25,47 +21,53 @@ fn is_word_written(
     is_written(alloc, zoo, &word, wanted)
 }
 
-#[test]
-fn equal_static_values_stand_one_after_another(rt: HostRuntime) -> Result<(), Fail> {
-    let zoo = zoo(rt.alloc()).ok().ok_or("no memory")?;
+/// Fails the test unless equal static values stand one after another.
+fn stand_in_order(rt: &impl Abort, zoo: &Zoo) {
     let rows = [("a", Some(0)), ("b", Some(1)), ("", None), ("z", None)];
     for (text, wanted) in rows {
-        equal(&rt, zoo.words.index_of(&text), wanted, text);
+        equal(rt, zoo.words.index_of(&text), wanted, text);
     }
     let rows = [(0, Some("a")), (1, Some("b")), (2, Some("b")), (3, None)];
     for (index, wanted) in rows {
         let found = zoo.words.get(index).map(StaticStr::as_str);
-        equal(&rt, found, wanted, "the text of an index");
+        equal(rt, found, wanted, "the text of an index");
     }
-    Ok(())
 }
 
-#[test]
-fn a_static_value_is_written_under_its_own_index_alone(rt: HostRuntime) -> Result<(), Fail> {
-    let zoo = zoo(rt.alloc()).ok().ok_or("no memory")?;
+/// Fails the test unless a static value is written under its own index alone.
+fn are_written_by_their_index(rt: &impl Abort, alloc: Global, zoo: &Zoo) {
     for (text, index) in [("a", 0u8), ("b", 1), ("b", 2)] {
-        let found = is_word_written(rt.alloc(), &zoo, text, u32::from(index), Ok(&[index]));
-        equal(&rt, found, true, text);
+        let found = is_word_written(alloc, zoo, text, u32::from(index), Ok(&[index]));
+        equal(rt, found, true, text);
     }
     let unregistered = Err(Error::Unregistered.number());
     for (text, index) in [("b", 0), ("a", 1), ("z", 9)] {
-        let found = is_word_written(rt.alloc(), &zoo, text, index, unregistered);
-        equal(&rt, found, true, text);
+        let found = is_word_written(alloc, zoo, text, index, unregistered);
+        equal(rt, found, true, text);
     }
-    Ok(())
 }
 
-#[test]
-fn a_tag_need_not_be_registered_to_be_written(rt: HostRuntime) -> Result<(), Fail> {
-    let zoo = zoo(rt.alloc()).ok().ok_or("no memory")?;
+/// Fails the test unless animals are written whose tags aren't registered, as far as they are written at all.
+fn are_written_unregistered(rt: &impl Abort, alloc: Global, zoo: &Zoo) {
     let rows: [(Animal, Result<&[u8], u32>); 3] = [
         (Animal::Cat, Ok(b"\x03Cat")),
         (Animal::Dog(7), Ok(b"\x03Dog\x07")),
         (Animal::OldCat(5), Err(Error::Unregistered.number())),
     ];
     for (animal, wanted) in rows {
-        let found = is_written(rt.alloc(), &zoo, &animal, wanted);
-        equal(&rt, found, true, animal.pagable_type_tag());
+        let found = is_written(alloc, zoo, &animal, wanted);
+        equal(rt, found, true, animal.pagable_type_tag());
     }
+}
+
+#[test]
+fn static_and_tagged_values(rt: HostRuntime) -> Result<(), Fail> {
+    let alloc = rt.alloc();
+    // Three texts, and no animal that is registered.
+    let zoo = Zoo::new(alloc, &["b", "a", "b"], &[], &[]);
+    let zoo = zoo.ok().ok_or("no memory")?;
+    stand_in_order(&rt, &zoo);
+    are_written_by_their_index(&rt, alloc, &zoo);
+    are_written_unregistered(&rt, alloc, &zoo);
     Ok(())
 }

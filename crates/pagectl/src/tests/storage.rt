@@ -1,11 +1,11 @@
-//! The storages over another one, and a page-out over one that fails. Blobs in memory stand in the data of `vectors`.
+//! A storage over another one, and a page-out over one that fails. Blobs in memory stand in the data of `vectors`.
 
 use crate::tests::equal::equal;
 use pagable::paging::page_out_pending;
 use pagable::{
     DataKey, Error, InMemoryBlobs, PagableData, PagableStorage, PageOutError, Pager, WeighHash,
 };
-use pagable_examples::{CountingStorage, FailingStorage, TextEnv, TextNode};
+use pagable_examples::{FailingStorage, TextEnv, TextNode};
 use std::alloc::Global;
 use std::test::Fail;
 
@@ -41,11 +41,11 @@ fn asked<S: PagableStorage<AnyEnv>>(
 }
 
 #[test]
-fn storages_over_another(rt: HostRuntime) -> Result<(), Fail> {
+fn a_storage_over_another_fails_once(rt: HostRuntime) -> Result<(), Fail> {
     let alloc = rt.alloc();
     let key = DataKey::new(90).ok_or("0 is no key")?;
     let blobs: InMemoryBlobs<AnyEnv> = InMemoryBlobs::new(alloc);
-    let mut storage = CountingStorage::new(FailingStorage::new(blobs, 1));
+    let mut storage = FailingStorage::new(blobs, 1);
     let blob = PagableData {
         bytes: vec![in alloc; 0, 9]?,
         arcs: Vec::new(alloc),
@@ -55,7 +55,6 @@ fn storages_over_another(rt: HostRuntime) -> Result<(), Fail> {
     equal(&rt, first, Err(Error::Storage(7)), "the call that fails");
     equal(&rt, failures, 1, "failures");
     equal(&rt, second, Ok(2), "fetched");
-    equal(&rt, (storage.stores(), storage.fetches()), (1, 2), "counts");
     equal(&rt, flushed, Ok(()), "flush");
     Ok(())
 }

@@ -1,5 +1,5 @@
 use Rattle.std.proofs.lemmas.Result.{err_from_is_err_and}
-use Rattle.linked_values.proofs.bundle.BundlePagableDeserializeLinked.pagable_deserialize.Goals as goal
+use Rattle.pagable_examples.proofs.linked.bundle.BundlePagableDeserializeLinked.pagable_deserialize.Goals as goal
 
 pub returns-in_err-fields-clause-gives : goal.returns-in_err-fields-clause-gives
 returns-in_err-fields-clause-gives g c =

@@ -2,10 +2,10 @@
 use Rattle.std.proofs.Common.{arith, subst}
 use Rattle.std.specs.Prelude.{◌≡◌, ◌≢◌, ◌<◌, ◌^◌, refl, true, false, ℕ, zero, suc, List, Option, Some, None}
 use Rattle.std.specs.Arc.{arc_value}
-use Rattle.linked_values.specs.declared.bundle.Bundle.{Bundle}
-use Rattle.linked_values.specs.declared.chain.Chain.{Chain}
-use Rattle.linked_values.specs.declared.linked.LinkedNode.{LinkedNode}
-use Rattle.linked_values.specs.declared.linked.LinkedNode.TheVariants as nodes
+use Rattle.pagable_examples.specs.declared.linked.bundle.Bundle.{Bundle}
+use Rattle.pagable_examples.specs.declared.linked.chain.Chain.{Chain}
+use Rattle.pagable_examples.specs.declared.linked.LinkedNode.{LinkedNode}
+use Rattle.pagable_examples.specs.declared.linked.LinkedNode.TheVariants as nodes
 use Rattle.pagable_arcs.specs.Plain.{plain_means}
 use Rattle.pagable_arcs.specs.References.{holding_means, loose_means, reference_has_one_form, reference_is_read, unlent, unlent_is_own}
 use Rattle.pagable_arcs.specs.Refers.{ListsInOrder, both_in_order, list_in_order, optional_in_order, reference_in_order}
@@ -21,7 +21,7 @@ use Rattle.pagable_model.specs.Shape.{Shape, both, list, nothing, optional, refe
 use Rattle.pagable_model.specs.Standing.{Is, SomeMeaning}
 use Rattle.pagable_model.specs.declared.error.Error.{Error}
 use Rattle.pagable_model.specs.declared.numbers.ArcRef.{ArcRef}
-use Rattle.pagable_traits.specs.ReadBack.{IsReadThroughout, both_is_read, list_is_read, optional_is_read}
+use Rattle.pagable.specs.ReadBack.{IsReadThroughout, both_is_read, list_is_read, optional_is_read}
 
 -- the environment has no part with a number
 abbrev pub no_parts : ℕ → Shape

@@ -1,15 +1,13 @@
 //! Bundles: references of each sort to values of other types.
 
-ghost use Rattle.linked_values.specs.Linked.{bundle_has_meaning, bundle_is_meaning, bundle_meaning, bundle_means, bundle_shape, bundle_single};
-ghost use Rattle.linked_values.specs.Linked.{bundle_has_one_form, bundle_in_order, bundle_is_own, bundle_is_read, bundle_may_refuse, bundle_read_causes, bundle_write_causes};
+ghost use Rattle.pagable_examples.specs.Linked.{bundle_has_meaning, bundle_is_meaning, bundle_meaning, bundle_means, bundle_shape, bundle_single};
+ghost use Rattle.pagable_examples.specs.Linked.{bundle_has_one_form, bundle_in_order, bundle_is_own, bundle_is_read, bundle_may_refuse, bundle_read_causes, bundle_write_causes};
 
-use crate::chain::{ArcLink, Link};
 use crate::linked::Linked;
-use pagable_arcs::{Arc, PagableArc, PinnedPagableArc, Refers};
-use pagable_codec::{ArcRef, PagableDeserializer, PagableSerializer};
-use pagable_flavors::Error;
-use pagable_traits::{
-    Canonical, Carried, OneMeaning, PagableDeserialize, PagableSerialize, ReadBack,
+use crate::linked::chain::{ArcLink, Link};
+use pagable::{
+    Arc, ArcRef, Canonical, Carried, Error, OneMeaning, PagableArc, PagableDeserialize,
+    PagableDeserializer, PagableSerialize, PagableSerializer, PinnedPagableArc, ReadBack, Refers,
 };
 use std::alloc::Global;
 

@@ -1,9 +1,9 @@
 -- What writing a link or a bundle lists, and why reading a bundle is refused.
 use Rattle.std.proofs.Common.{◌≡◌, ◌⊎◌, ◌++◌, inl, inr, ℕ, Result}
 use Rattle.std.specs.Prelude.{OnOk}
-use Rattle.linked_values.specs.Linked.{bundle_in_order, bundle_meaning, bundle_means, bundle_shape, bundle_single, chain_in_order, chain_meaning, chain_means, chain_single, no_parts}
-use Rattle.linked_values.specs.declared.bundle.Bundle.{Bundle}
-use Rattle.linked_values.specs.declared.chain.Chain.{Chain}
+use Rattle.pagable_examples.specs.Linked.{bundle_in_order, bundle_meaning, bundle_means, bundle_shape, bundle_single, chain_in_order, chain_meaning, chain_means, chain_single, no_parts}
+use Rattle.pagable_examples.specs.declared.linked.bundle.Bundle.{Bundle}
+use Rattle.pagable_examples.specs.declared.linked.chain.Chain.{Chain}
 use Rattle.pagable_arcs.proofs.Listed.{written_listed}
 use Rattle.pagable_model.specs.References.{references_in}
 use Rattle.pagable_model.specs.Shape.{optional, reference}

@@ -1,16 +1,14 @@
 //! Links: a value that may refer to another one of its own type.
 
-ghost use Rattle.linked_values.specs.Linked.{chain_has_meaning, chain_has_one_form, chain_in_order, chain_is_meaning, chain_is_read, chain_meaning, chain_means, chain_single};
+ghost use Rattle.pagable_examples.specs.Linked.{chain_has_meaning, chain_has_one_form, chain_in_order, chain_is_meaning, chain_is_read, chain_meaning, chain_means, chain_single};
 ghost use Rattle.pagable_model.specs.Causes.{memory_may_refuse_writing, memory_or_may_refuse_writing, never_is_own_reading};
 ghost use Rattle.pagable_model.specs.Gives.{memory, memory_or, never};
 ghost use Rattle.pagable_model.specs.Shape.{optional, reference};
 
 use crate::linked::Linked;
-use pagable_arcs::{OfKind, Refers};
-use pagable_codec::{ArcRef, PagableDeserializer, PagableSerializer};
-use pagable_flavors::Error;
-use pagable_traits::{
-    Canonical, Carried, OneMeaning, PagableDeserialize, PagableSerialize, ReadBack,
+use pagable::{
+    ArcRef, Canonical, Carried, Error, OfKind, OneMeaning, PagableDeserialize, PagableDeserializer,
+    PagableSerialize, PagableSerializer, ReadBack, Refers,
 };
 use std::alloc::Global;
 

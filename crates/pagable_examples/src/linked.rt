@@ -1,12 +1,15 @@
-//! The environment of links and bundles.
+//! Types that refer to each other, and their environment: links refer to links, and a bundle to links of both sorts by each
+//! sort of references.
 
-use crate::bundle::Bundle;
-use crate::chain::{ArcLink, Link};
-use pagable_arcs::references_of;
-use pagable_codec::{ArcRef, Env, NodeSet, OfNode, PagableDeserializer, PagableSerializer};
-use pagable_core::WeighHash;
-use pagable_flavors::Error;
-use pagable_traits::{InNode, PagableDeserialize, PagableSerialize};
+pub mod bundle;
+pub mod chain;
+
+use crate::linked::bundle::Bundle;
+use crate::linked::chain::{ArcLink, Link};
+use pagable::{
+    ArcRef, Env, Error, InNode, NodeSet, OfNode, PagableDeserialize, PagableDeserializer,
+    PagableSerialize, PagableSerializer, WeighHash, references_of,
+};
 use std::alloc::Global;
 use std::sync::Arc;
 
@@ -23,7 +26,7 @@ impl Env for Linked {
 
     type CtxValue = ();
 
-    ghost use Rattle.linked_values.specs.Linked.{no_parts};
+    ghost use Rattle.pagable_examples.specs.Linked.{no_parts};
 
     ghost parts = { λ e. no_parts };
 }
@@ -37,7 +40,7 @@ pub enum LinkedNode {
 }
 
 impl NodeSet<Linked> for LinkedNode {
-    ghost use Rattle.linked_values.specs.Linked.{type_of, shape_of, own_shape, means, refs_of, write_causes, write_causes_may_refuse, read_causes, read_causes_are_own, has_meaning, refers, has_shape};
+    ghost use Rattle.pagable_examples.specs.Linked.{type_of, shape_of, own_shape, means, refs_of, write_causes, write_causes_may_refuse, read_causes, read_causes_are_own, has_meaning, refers, has_shape};
 
     ghost type_of = { type_of };
 
@@ -114,7 +117,7 @@ impl NodeSet<Linked> for LinkedNode {
 impl OfNode<Linked> for Link {
     ghost use Rattle.std.specs.Prelude.{◌≡◌, Some};
     ghost use Rattle.std.specs.Arc.{arc_value};
-    ghost use Rattle.linked_values.specs.Linked.{link_in, link_number_is_small};
+    ghost use Rattle.pagable_examples.specs.Linked.{link_in, link_number_is_small};
 
     ghost TYPE = { 0 };
 
@@ -142,7 +145,7 @@ impl OfNode<Linked> for Link {
 impl InNode<Linked> for Link {
     ghost use Rattle.std.specs.Prelude.{refl};
     ghost use Rattle.std.proofs.Common.{inr};
-    ghost use Rattle.linked_values.specs.Linked.{no_link_type, link_back, link_there, link_type};
+    ghost use Rattle.pagable_examples.specs.Linked.{no_link_type, link_back, link_there, link_type};
 
     ghost in_type = { link_type };
 
@@ -162,7 +165,7 @@ impl InNode<Linked> for Link {
 impl OfNode<Linked> for ArcLink {
     ghost use Rattle.std.specs.Prelude.{◌≡◌, Some};
     ghost use Rattle.std.specs.Arc.{arc_value};
-    ghost use Rattle.linked_values.specs.Linked.{arc_link_in, arc_link_number_is_small};
+    ghost use Rattle.pagable_examples.specs.Linked.{arc_link_in, arc_link_number_is_small};
 
     ghost TYPE = { 1 };
 
@@ -190,7 +193,7 @@ impl OfNode<Linked> for ArcLink {
 impl InNode<Linked> for ArcLink {
     ghost use Rattle.std.specs.Prelude.{refl};
     ghost use Rattle.std.proofs.Common.{inr};
-    ghost use Rattle.linked_values.specs.Linked.{no_arc_link_type, arc_link_back, arc_link_there, arc_link_type};
+    ghost use Rattle.pagable_examples.specs.Linked.{no_arc_link_type, arc_link_back, arc_link_there, arc_link_type};
 
     ghost in_type = { arc_link_type };
 
@@ -210,7 +213,7 @@ impl InNode<Linked> for ArcLink {
 impl OfNode<Linked> for Bundle {
     ghost use Rattle.std.specs.Prelude.{◌≡◌, Some};
     ghost use Rattle.std.specs.Arc.{arc_value};
-    ghost use Rattle.linked_values.specs.Linked.{bundle_in, bundle_number_is_small};
+    ghost use Rattle.pagable_examples.specs.Linked.{bundle_in, bundle_number_is_small};
 
     ghost TYPE = { 2 };
 
@@ -238,7 +241,7 @@ impl OfNode<Linked> for Bundle {
 impl InNode<Linked> for Bundle {
     ghost use Rattle.std.specs.Prelude.{refl};
     ghost use Rattle.std.proofs.Common.{inr};
-    ghost use Rattle.linked_values.specs.Linked.{no_bundle_type, bundle_back, bundle_there, bundle_type};
+    ghost use Rattle.pagable_examples.specs.Linked.{no_bundle_type, bundle_back, bundle_there, bundle_type};
 
     ghost in_type = { bundle_type };
 

@@ -1,6 +1,6 @@
 use Rattle.std.proofs.lemmas.Result.{err_from_is_err_and}
-use Rattle.linked_values.proofs.Listed.{or_memory}
-use Rattle.linked_values.proofs.linked.LinkedNodeNodeSetLinked.read.Goals as goal
+use Rattle.pagable_examples.proofs.Listed.{or_memory}
+use Rattle.pagable_examples.proofs.linked.LinkedNodeNodeSetLinked.read.Goals as goal
 
 pub returns-in_err-bundle-in-2-clause-gives : goal.returns-in_err-bundle-in-2-clause-gives
 returns-in_err-bundle-in-2-clause-gives g c =
