@@ -53,14 +53,13 @@ module _ (types : Types) (t : ℕ) (blob : Blob) (refs got : List ArcRef) (f : I
   all-answer : (place : ℕ) (rs : List ArcRef) (keys : List ℕ) → ((i : ℕ) → slice_get rs i ≡ slice_get refs (place + i)) → length keys ≡ length rs → AllTwo Answers (answers_from got place keys) rs
   unfolding answers_from
   all-answer place [] [] at few = no-two
-  all-answer place [] (k ∷ ks) at few = absurd (omega arith)
-  all-answer place (r ∷ rs) [] at few = absurd (omega arith)
   all-answer place (r ∷ rs) (k ∷ ks) at few =
       let start : place + 0 ≡ place = omega arith in
       let there : slice_get refs place ≡ Some r = ap (slice_get refs) (sym start) ∙ sym (at 0) in
       let g = kind-at got refs same place r there in
       let here = subst (λ o. Answers (λ kind. answer_of o kind) r) (sym g.1) (answer-own g.0 r place g.1 there g.2) in
       more-two _ r _ rs here (all-answer (place + 1) rs ks (λ i. let next : place + suc i ≡ place + 1 + i = omega arith in at (suc i) ∙ ap (slice_get refs) next) (omega arith))
+  all-answer place _ _ at few = absurd (omega arith)
 
   both-own : {own : Meaning ArcRef} {after : Rest Answer} {n : Meaning ArcRef} {left : Rest ArcRef} {first : Result (Meaning ArcRef × Rest Answer) Error} {second : Result
       (Meaning ArcRef × Rest ArcRef) Error}

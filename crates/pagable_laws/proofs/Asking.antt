@@ -44,11 +44,9 @@ first-kind g d gs ds e = (cc, cc)
 stops-at : (front back done : List ArcRef) (q : ArcRef) (more : List ArcRef) (keys : List ℕ) → kinds_of back ≡ kinds_of done → length keys ≡ length (done ++ q ∷ more)
     → Stops look_kind own_kind (Error.Storage q.kind.0) (answers_from (front ++ back) (length front) keys) (map kind_of_arc (done ++ q ∷ more))
 unfolding answers_from
-stops-at front [] [] q more [] same few = absurd (omega arith)
 stops-at front [] [] q more (key ∷ keys) same few = stops-here _ _ _ _ (unanswered (slice_get (front ++ []) (length front)) q.kind.0 (behind-end front))
 stops-at front (g ∷ back) [] q more keys same few = absurd (cc)
 stops-at front [] (d ∷ done) q more keys same few = absurd (cc)
-stops-at front (g ∷ back) (d ∷ done) q more [] same few = absurd (omega arith)
 stops-at front (g ∷ back) (d ∷ done) q more (key ∷ keys) same few =
     let both = first-kind g d back done same in
     let tail = stops-at (front ++ g ∷ []) back done q more keys both.1 (omega arith) in
@@ -56,21 +54,21 @@ stops-at front (g ∷ back) (d ∷ done) q more (key ∷ keys) same few =
     (g ∷ []) back) tail in
     stops-later _ _ _ _ (answered g (slice_get (front ++ g ∷ back) (length front)) d.kind.0 (at-place front g back) both.0)
     (subst (λ n. Stops look_kind own_kind (Error.Storage q.kind.0) (answers_from (front ++ g ∷ back) n keys) (map kind_of_arc (done ++ q ∷ more))) (longer front g) moved)
+stops-at front _ _ q more [] same few = absurd (omega arith)
 
 looks-all : (front back done : List ArcRef) (keys : List ℕ) → kinds_of back ≡ kinds_of done → length keys ≡ length done
     → LooksUp look_kind own_kind (answers_from (front ++ back) (length front) keys) (map kind_of_arc done)
 unfolding answers_from
 looks-all front [] [] [] same few = no-references
-looks-all front [] [] (key ∷ keys) same few = absurd (omega arith)
 looks-all front (g ∷ back) [] keys same few = absurd (cc)
 looks-all front [] (d ∷ done) keys same few = absurd (cc)
-looks-all front (g ∷ back) (d ∷ done) [] same few = absurd (omega arith)
 looks-all front (g ∷ back) (d ∷ done) (key ∷ keys) same few =
     let both = first-kind g d back done same in
     let tail = looks-all (front ++ g ∷ []) back done keys both.1 (omega arith) in
     let moved = subst (λ gs. LooksUp look_kind own_kind (answers_from gs (length (front ++ g ∷ [])) keys) (map kind_of_arc done)) (append_assoc front (g ∷ []) back) tail in
     more-references _ _ _ _ (answered g (slice_get (front ++ g ∷ back) (length front)) d.kind.0 (at-place front g back) both.0)
     (subst (λ n. LooksUp look_kind own_kind (answers_from (front ++ g ∷ back) n keys) (map kind_of_arc done)) (longer front g) moved)
+looks-all front _ _ _ same few = absurd (omega arith)
 
 -- ---- what comes next
 
@@ -120,9 +118,8 @@ module _ (types : Types) (t : ℕ) (blob : Blob) (refs : List ArcRef) (f : IsFor
     where
       as-long : (xs ys : List ArcRef) → kinds_of xs ≡ kinds_of ys → length xs ≡ length ys
       as-long [] [] e = refl
-      as-long (x ∷ xs) [] e = absurd (cc)
-      as-long [] (y ∷ ys) e = absurd (cc)
       as-long (x ∷ xs) (y ∷ ys) e = let a = as-long xs ys (first-kind x y xs ys e).1 in omega (arith, a)
+      as-long _ _ e = absurd (cc)
 
       shorter : (xs : List ArcRef) (q : ArcRef) (more : List ArcRef) {n : ℕ} → n ≡ length (xs ++ q ∷ more) → length xs < n
       shorter [] q more is = omega arith

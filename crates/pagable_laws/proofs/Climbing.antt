@@ -123,7 +123,6 @@ module _ {N E : Type 0} (v : Values N) (s : MachineState N E) (trees : ℕ → T
       → longest_path < max (place_over r below + height (trees r.node.0).meaning) (deepest_path (trees r.node.0).meaning) → IsTooDeepTask trees task
   unfolding Waits AllStand WaitsLow
   leads-down n (of_entry q i) r [] expects waits all lows long = grind (arith, climbs-entry, height-within)
-  leads-down n (of_item written) r [] expects waits all lows long = absurd expects
   leads-down n task r (to_finish o ∷ below) (more, e) (known, expects, waits) (stands, apart, all) (first, attained, fits, place, lows) long =
       let claim = stands.1 in
       let f = fit.slots t (identity_of o.reference) claim.slot claim.claimed in
@@ -135,7 +134,7 @@ module _ {N E : Type 0} (v : Values N) (s : MachineState N E) (trees : ℕ → T
   leads-down n task r (to_item written keys ∷ below) (more, e) (is, known) all lows long =
       let m = (trees r.node.0).meaning in
       subst (λ x. IsTooDeepTask trees x) (sym is) (r, next-among shelf written.references keys r more e, climbs-item (is_eager r.kind.0) (height m) (deepest_path m) (height-within m) long)
-  leads-down n task r (_ ∷ below) expects waits all lows long = absurd expects
+  leads-down n _ r _ expects waits all lows long = absurd expects
 
   -- a worker comes upon no claim of its own that it is at: a tree is no part of itself
   not-below : (n : ℕ) (task : Task) (q : Identity) (r : ArcRef) (below : List Todo) → size (trees q.node.0).meaning ≤ size (trees r.node.0).meaning → Expects task r below → Waits shelf task below

@@ -88,8 +88,7 @@ module _ {types : Types} {stored : ℕ → Option Blob} {trees : ℕ → Tree} {
   both-read {own} {after} (both-given p q v s) e =
       let same : p ≡ (own, after) = cc in
       (q.0, q.1, refl, subst (λ (z : Meaning ArcRef × Rest Answer). Along ⊥ (Found types stored trees got) z.0 q.0) same v)
-  both-read (both-refused x) e = absurd (cc)
-  both-read (first-refused x r c) e = absurd (cc)
+  both-read _ e = absurd (cc)
 
   -- what was read leads to a tree, to which the bare keys lead too
   leads-follows : {x : Meaning ArcRef} {m : Meaning KeyRef} → Along ⊥ (Found types stored trees got) x m → (a : Meaning ⊥) × LeadsTo trees x a × IsFollowed (ReadsAs stored types) m a

@@ -43,8 +43,7 @@ owner-of lost _ goes = absurd (grind (arith, nat_tests))
 
 -- fewer pins or handles are outside the greater set
 wider-by : (b : Bool) (came p q h k : ℕ) → q ≤ p → k ≤ h → (if b then nat_eq p 0 else nat_eq came 0 && nat_eq h 0) ≡ true → (if b then nat_eq q 0 else nat_eq came 0 && nat_eq k 0) ≡ true
-wider-by true came p q h k pins handles goes = grind (arith, nat_tests)
-wider-by false came p q h k pins handles goes = grind (arith, nat_tests)
+wider-by _ came p q h k pins handles goes = grind (arith, nat_tests)
 
 module _ (rows : List HandleRow) (keyed : ℕ → Bool) (entries : List HandleRow) where
   abbrev lost : (ℕ → Bool) → ℕ → Bool
@@ -145,10 +144,9 @@ module _ (rows : List HandleRow) (keyed : ℕ → Bool) (entries : List HandleRo
   least_is_one given s t h a b among = both (s h.number.0) refl (t h.number.0) refl
     where
       both : (x : Bool) → s h.number.0 ≡ x → (y : Bool) → t h.number.0 ≡ y → s h.number.0 ≡ t h.number.0
-      both true e true f = e ∙ sym f
-      both false e false f = e ∙ sym f
       both true e false f = let c = inside s t h (a.least t b.holds b.closed) among e in absurd (grind (arith, nat_tests))
       both false e true f = let c = inside t s h (b.least s a.holds a.closed) among f in absurd (grind (arith, nat_tests))
+      both _ e _ f = e ∙ sym f
 
 -- where no value owns a handle, every set is closed
 closed-alone : (rows : List HandleRow) (keyed : ℕ → Bool) (entries : List HandleRow) (s : ℕ → Bool) → OwnsNothing rows → IsClosed rows keyed entries s

@@ -74,7 +74,6 @@ abbrev pub ReachesLow : Shelf → ArcRef → ℕ → List Todo → Type 0
 ReachesLow shelf r height below = (place_over r below + height ≤ longest_path) × WaitsLow shelf below
 
 abbrev pub TodoLow : Shelf → List Todo → Type 0
-TodoLow shelf [] = Unit {0}
 TodoLow shelf (to_start r place ∷ below) = (place ≡ place_over r below) × WaitsLow shelf below
 TodoLow shelf (to_pin r place ∷ below) = PlacedLow shelf r place below
 TodoLow shelf (to_load r place through reading ∷ below) = PlacedLow shelf r place below
@@ -84,7 +83,7 @@ TodoLow shelf (to_item written keys ∷ below) = WaitsLow shelf (to_item written
 TodoLow shelf (to_set r through key height ∷ below) = WroteLow shelf r height × ReachesLow shelf r height below
 TodoLow shelf (to_publish r key height ∷ below) = WroteLow shelf r height × ReachesLow shelf r height below
 TodoLow shelf (to_release r key height ∷ below) = ReachesLow shelf r height below
-TodoLow shelf (to_fail fault back ∷ below) = Unit {0}
+TodoLow shelf _ = Unit {0}
 
 -- ---- keys that are known stay known
 
@@ -131,8 +130,7 @@ module _ {shelf shelf' : Shelf} (keys : KeepsKeys shelf shelf') where
 
   failed-low : (slot : Slot) (a b : Bool) → SlotLow shelf' slot → SlotLow shelf' (if a then (if b then record slot { outcome = failed } else slot) else slot)
   failed-low slot true true low = grind arith
-  failed-low slot true false low = low
-  failed-low slot false b low = low
+  failed-low slot _ _ low = low
 
   pub slots-low-failed : SlotsLow shelf → (n : ℕ) → ((i : Identity) → shelf'.slots i ≡ (with_failed shelf n).slots i) → SlotsLow shelf'
   slots-low-failed low n same i slot' now = of (shelf.slots i) refl (sym (same i) ∙ now)
@@ -160,7 +158,6 @@ module _ (shelf shelf' : Shelf) (more : ShelfGrows shelf shelf') where
   still-low todo low = waits-low-on (keys-grow more) todo low
 
   pub todo-low-on : (todo : List Todo) → TodoLow shelf todo → TodoLow shelf' todo
-  todo-low-on [] low = tt
   todo-low-on (to_start r place ∷ below) (is, low) = (is, still-low below low)
   todo-low-on (to_pin r place ∷ below) (few, is, low) = (few, is, still-low below low)
   todo-low-on (to_load r place through reading ∷ below) (few, is, low) = (few, is, still-low below low)
@@ -170,7 +167,7 @@ module _ (shelf shelf' : Shelf) (more : ShelfGrows shelf shelf') where
   todo-low-on (to_set r through key height ∷ below) (wrote, (reach, low)) = (wrote-low-on wrote, (reach, still-low below low))
   todo-low-on (to_publish r key height ∷ below) (wrote, (reach, low)) = (wrote-low-on wrote, (reach, still-low below low))
   todo-low-on (to_release r key height ∷ below) (reach, low) = (reach, still-low below low)
-  todo-low-on (to_fail fault back ∷ below) low = tt
+  todo-low-on _ low = tt
 
 -- ---- a key is given
 

@@ -19,16 +19,14 @@ pub record IsForm {N : Type 0} (v : Values N) (frame : Frame) : Type 0 where
 as-many-keys : (shelf : Shelf) (rs : List ArcRef) (keys : List ℕ) → AreKeysOf shelf rs keys → length keys ≡ length rs
 as-many-keys shelf [] [] all = refl
 as-many-keys shelf (r ∷ rs) (k ∷ ks) all = let a = as-many-keys shelf rs ks all.1 in omega (arith, a)
-as-many-keys shelf [] (k ∷ ks) all = absurd all
-as-many-keys shelf (r ∷ rs) [] all = absurd all
+as-many-keys shelf _ _ all = absurd all
 
 key-at : (shelf : Shelf) (rs : List ArcRef) (keys : List ℕ) → AreKeysOf shelf rs keys → (place : ℕ) (r : ArcRef) (key : ℕ) → slice_get rs place ≡ Some r → slice_get keys place ≡ Some key
     → (height : ℕ) × IsPublished shelf (identity_of r) key height
 key-at shelf [] [] all place r key is at = absurd (cc)
-key-at shelf [] (k ∷ ks) all place r key is at = absurd all
-key-at shelf (q ∷ rs) [] all place r key is at = absurd all
 key-at shelf (q ∷ rs) (k ∷ ks) all zero r key is at = grind arith
 key-at shelf (q ∷ rs) (k ∷ ks) all (suc place) r key is at = key-at shelf rs ks all.1 place r key is at
+key-at shelf _ _ all place r key is at = absurd all
 
 -- an identity has one key and one height
 one-outcome : (shelf : Shelf) (i : Identity) (k key h height : ℕ) → IsPublished shelf i k h → IsPublished shelf i key height → h ≡ height
@@ -185,9 +183,7 @@ module _ {N E : Type 0} (v : Values N) (s : MachineState N E) (trees : ℕ → T
 
         wants : (below : List Frame) (next : Next) (kind : Kind) (key : ℕ) → next ≡ asks kind key → need_at below next ≡ is_broken e → ⊥
         wants below (asks k q) kind key same is = eager-or (is_eager k.0) k q is
-        wants [] (reads own) kind key same is = cc
-        wants (x ∷ xs) (reads own) kind key same is = cc
-        wants below (is_faulty f) kind key same is = cc
+        wants _ _ kind key same is = cc
 
         by : (below : List Frame) (next : Next) {blob : Blob} {refs : List ArcRef} → NextOf blob refs next → need_at below next ≡ is_broken e → ⊥
         by below next (asks-known place r key at there same) is = wants below next r.kind key same is

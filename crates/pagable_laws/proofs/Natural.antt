@@ -118,8 +118,7 @@ through-out : {A B C D : Type 0} (f : A → C) (g : B → D) (m : Meaning B) (af
     → Out any_cause (Leads f) (Along (Unit {0}) (Leads g)) first second
     → first ≡ Ok (m, after) → second ≡ Ok (rename g m, rest after.bytes (map f after.refs))
 through-out {A} {B} {C} {D} f g m after (both-given p q v s) e = search (rules, both-given, rename-along, map-all)
-through-out f g m after (both-refused x) e = cc
-through-out f g m after (first-refused x r c) e = cc
+through-out f g m after _ e = cc
 
 found-through : {B D : Type 0} (g : B → D) (r : Result B Error) (q : Result D Error) → ((b : B) → r ≡ Ok b → q ≡ Ok (g b)) → OutLook any_cause (Leads g) r q
 found-through g (Ok b) q h = rw (h b refl) (both-looked-up b (g b) refl)

@@ -11,8 +11,7 @@ abbrev from : ℕ → ℕ → Bool → ℕ
 from k p b = one (nat_le p k && b)
 
 stage-step : (k p : ℕ) (b : Bool) → one (k == p && b) + from k (p + 1) b ≤ from k p b
-stage-step k p false = grind (arith, nat_tests)
-stage-step k p true = grind (arith, nat_tests)
+stage-step k p _ = grind (arith, nat_tests)
 
 at-most : (x b : Bool) → one (x && b) ≤ one b
 at-most true b = omega arith

@@ -35,8 +35,7 @@ is_turn n t = false
 turn-is : (n : ℕ) (t : Turn) → is_turn n t ≡ true → t ≡ of_load n
 unfolding is_turn
 turn-is n (of_load k) is = ap of_load (same-number k n is)
-turn-is n (of_worker k) is = absurd (cc)
-turn-is n of_nobody is = absurd (cc)
+turn-is n _ is = absurd (cc)
 
 turn-isnt : (n : ℕ) (t : Turn) → is_turn n t ≡ false → t ≡ of_load n → ⊥
 unfolding is_turn
@@ -131,9 +130,8 @@ module _ {N B W E : Type 0} (m : Seen N B W) (s s' : MachineState N E) (whole : 
 
   -- a step that ends closes the load
   closes : (reading : Reading) (end : LoadAnswer N) (frames : List Frame) → Does m.values w Owner.Caller reading (Some end) frames w' → w'.loads reading.load.0 ≡ None
-  closes reading (LoadAnswer.Pinned k) frames does = grind (arith, nat_tests)
   closes reading (LoadAnswer.Read x) frames does = does.0.handed.hands.1.falls.leaves.loads reading.load.0 ∙ updated-at reading.load.0 None w.loads
-  closes reading (LoadAnswer.Refused e) frames does = grind (arith, nat_tests)
+  closes reading _ frames does = grind (arith, nat_tests)
 
 -- a load's own step, where the chain goes on
 module _ {N B W E : Type 0} (m : Seen N B W) (lawful : IsLawful m.values) (readable : ReadsItsTypes m.values.types) (s s' : MachineState N E) (trees : ℕ → Tree)

@@ -44,9 +44,8 @@ follows-on same (reference-follows r a among is) = reference-follows r a among (
 module _ {shelf shelf' : Shelf} (keys : KeepsKeys shelf shelf') where
   pub keys-on : (rs : List ArcRef) (ks : List ℕ) → AreKeysOf shelf rs ks → AreKeysOf shelf' rs ks
   keys-on [] [] known = tt
-  keys-on [] (k ∷ ks) known = absurd known
-  keys-on (r ∷ rs) [] known = absurd known
   keys-on (r ∷ rs) (k ∷ ks) ((h, p), known) = ((h, keys (identity_of r) k h p), keys-on rs ks known)
+  keys-on _ _ known = absurd known
 
   pub so-far-on : (rs : List ArcRef) (ks : List ℕ) → KeysSoFar shelf rs ks → KeysSoFar shelf' rs ks
   unfolding KeysSoFar
@@ -117,8 +116,7 @@ module _ {N : Type 0} {v : Values N} {g g' : Ground} {shelf shelf' : Shelf} (goe
   module _ (n : ℕ) where
     failed-fits : (i : Identity) (slot : Slot) (a b : Bool) → SlotFits v g' shelf' i slot → SlotFits v g' shelf' i (if a then (if b then record slot { outcome = failed } else slot) else slot)
     failed-fits i slot true true fit = grind (arith, nat_tests)
-    failed-fits i slot true false fit = fit
-    failed-fits i slot false b fit = fit
+    failed-fits i slot _ _ fit = fit
 
     pub slots-failed : ((i : Identity) → shelf'.slots i ≡ (with_failed shelf n).slots i) → SlotsFit v g' shelf'
     slots-failed same i slot' now = of (shelf.slots i) refl (sym (same i) ∙ now)
@@ -132,7 +130,6 @@ module _ {N : Type 0} {v : Values N} {g g' : Ground} {shelf shelf' : Shelf} (goe
 
 module _ {N : Type 0} {v : Values N} {g g' : Ground} {shelf : Shelf} (shelf' : Shelf) (goes : GroundGoes g g') (more : ShelfGrows shelf shelf') (fits : SlotsFit v g shelf) where
   pub walks-on : (task : Task) (todo : List Todo) → Walks v g shelf task todo → Walks v g' shelf' task todo
-  walks-on task [] walks = tt
   walks-on task (to_start r place ∷ below) walks = above-on shelf shelf' more task r below walks
   walks-on task (to_pin r place ∷ below) walks = above-on shelf shelf' more task r below walks
   walks-on task (to_load r place through reading ∷ below) walks = above-on shelf shelf' more task r below walks
@@ -142,4 +139,4 @@ module _ {N : Type 0} {v : Values N} {g g' : Ground} {shelf : Shelf} (shelf' : S
   walks-on task (to_set r through key height ∷ below) (blob, above) = (has-blob-on goes more fits blob, above-on shelf shelf' more task r below above)
   walks-on task (to_publish r key height ∷ below) (blob, above) = (has-blob-on goes more fits blob, above-on shelf shelf' more task r below above)
   walks-on task (to_release r key height ∷ below) (p, above) = (keys-grow more _ _ _ p, above-on shelf shelf' more task r below above)
-  walks-on task (to_fail fault back ∷ below) walks = tt
+  walks-on task _ walks = tt

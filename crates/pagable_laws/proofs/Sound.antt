@@ -39,8 +39,7 @@ node-chance : (w : Core) (kind : Kind) (key : ℕ) (e : Error) → node_fault w 
 node-chance w kind key e is = search (rules, chance-if, birth-chance)
 
 never : (b : Bool) (f e : Error) → b ≡ false → refused_if b f ≡ Some e → ⊥
-never true f e is so = cc
-never false f e is so = cc
+never _ f e is so = cc
 
 memory-chance : (e : Error) → e ≡ Error.OutOfMemory → IsOfChance e
 memory-chance e is = subst IsOfChance (sym is) tt

@@ -185,9 +185,8 @@ text_tame =
     (λ t. either bytes_join (is_utf8 t) (gives bytes_join t) (refuses bytes_join (List ℕ) Error.BadUtf8)))
 
 one_tame : (cs : List ℕ) → TameBytes (one_char cs)
-one_tame [] = refuses bytes_join ℕ Error.BadChar
 one_tame (c ∷ []) = gives bytes_join c
-one_tame (c ∷ d ∷ cs) = refuses bytes_join ℕ Error.BadChar
+one_tame _ = refuses bytes_join ℕ Error.BadChar
 
 pub char_tame : TameBytes char_at
 unfolding char_at

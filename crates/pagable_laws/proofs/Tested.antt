@@ -63,8 +63,7 @@ module _ (rows : List HandleRow) (low : all_pass row_low rows ≡ true) where
     where
       and-not : (a b : Bool) → not b ≡ true → (a && b) ≡ false
       and-not true true e = sym e
-      and-not true false e = refl
-      and-not false b e = refl
+      and-not _ _ e = refl
 
   owner-past : (n : ℕ) → 3 < n → (o : Owner) → owner_low o ≡ true → is_owner (owner_value n) o ≡ false
   owner-past n lt (Owner.Value m) ok = grind (arith, nat_tests)

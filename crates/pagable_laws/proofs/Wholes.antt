@@ -43,10 +43,7 @@ byte-again (negsuc n) h = grind (arith, nat_tests)
 -- a number with a sign is one without, and back
 pub signed-back : (w : Width) (z : ℤ) → IsSigned w z → signed_from w (unsigned_of w z) ≡ z
 signed-back w8 z h = byte-again z h
-signed-back w16 z h = zigzag-again z
-signed-back w32 z h = zigzag-again z
-signed-back w64 z h = zigzag-again z
-signed-back w128 z h = zigzag-again z
+signed-back _ z h = zigzag-again z
 
 pub signed-bound : (w : Width) (z : ℤ) → IsSigned w z → unsigned_of w z < bound w
 signed-bound w8 (pos n) h = omega arith
