@@ -85,16 +85,9 @@ module _ {A : Type 0} {kind_of : A → ℕ} {parts : ℕ → Shape} (nodes : ℕ
     unfolding EachRef Each LiesIn
 
     form-refs : {left : ℕ} {s : Shape} {m : Meaning A} {b : List ℕ} {k : List A} → Form A kind_of parts left s m b k → Inside nodes parts s → Each P k → EachRef Q m
-    form-refs (nothing-form left) t h = tt
-    form-refs (unsigned-form left w n l) t h = tt
-    form-refs (signed-form left w z l) t h = tt
     form-refs (flag-form left true) t h = tt
     form-refs (flag-form left false) t h = tt
-    form-refs (text-form left b u l) t h = tt
-    form-refs (letter-form left c u) t h = tt
     form-refs (duration-form left x y l g) t h = (tt, tt)
-    form-refs (pattern-form left b u l) t h = tt
-    form-refs (none-form left s) t h = tt
     form-refs (some-form left s m b k f) t h = form-refs f (lower nodes (λ n d l. l) t) h
     form-refs (err-form left s s2 m b k f) t h = form-refs f (lower nodes (λ n d l. l.1) t) h
     form-refs (ok-form left s s2 m b k f) t h = form-refs f (lower nodes (λ n d l. l.0) t) h
@@ -112,13 +105,11 @@ module _ {A : Type 0} {kind_of : A → ℕ} {parts : ℕ → Shape} (nodes : ℕ
     form-refs (case-form left w known part n m b k l is f) t h = form-refs f (lower nodes (λ nodes d l. l n is) t) h
     form-refs (reference-form left kind a e) t h = both a (let here_is = here t in rw e here_is) h.0
     form-refs (nested-form left less n m b k e f) t h = form-refs f (part_of t) h
-    form-refs (json-null-form left) t h = tt
     form-refs (json-flag-form left true) t h = tt
     form-refs (json-flag-form left false) t h = tt
-    form-refs (json-number-form left z l) t h = tt
-    form-refs (json-text-form left b u l) t h = tt
     form-refs (json-array-form left less ms b k e l f) t h = sequence_refs Q ms (forms-refs f (of_json tt) h)
     form-refs (json-object-form left less es b k e l up f) t h = entries_refs Q es (entries_form-refs f (of_text tt) (of_json tt) h)
+    form-refs _ t h = tt
 
     forms-refs : {left : ℕ} {s : Shape} {ms : List (Meaning A)} {b : List ℕ} {k : List A} → Forms A kind_of parts left s ms b k → Inside nodes parts s → Each P k → Each (EachRef Q) ms
     forms-refs (no-forms left s) t h = tt
