@@ -1,4 +1,5 @@
 -- A form goes along: where each reference is replaced by one of the same kind, the bytes are a form of what results.
+use Rattle.pagable_laws.proofs.Words.{nat_tests}
 use Rattle.pagable_laws.proofs.Words.{◌≡◌, ℕ, ℤ, Bool, true, false, List, [], ◌∷◌, ◌++◌, length, ◌⊎◌, inl, inr, refl, sym, ap, ◌∙◌, arith, Ordering, is_eq-slice_cmp, Meaning, number, integer}
 use Rattle.pagable_laws.proofs.Words.{text, pattern, none, pair, variant, reference, followed, sequence, plain, lifted, rename, Entry, KeyOrder, ordered, same_key, code, code_order, text_order}
 use Rattle.pagable_laws.proofs.Words.{put_all, put_sorted, Apart, AllAfter, Ascends, ItemsAscend, Differ, ItemsDiffer, of_entries, of_hash_map, Shape, Form, Forms, Entries, nothing-form}
@@ -114,12 +115,7 @@ not_equal a b h e =
 after_put : {A : Type 0} (x e : Entry A) (acc : List (Entry A)) → After apart x acc → apart x e → After apart x (put_sorted code_order acc e)
 unfolding After
 after_put x e [] h d = (d, tt)
-after_put {A} x e (f ∷ acc) h d = at (ordered code_order e.0 f.0) (after_put x e acc h.1 d)
-  where
-    at : (o : Ordering) → After apart x (put_sorted code_order acc e) → After apart x (match_ordering o (e ∷ f ∷ acc) ((f.0, e.1) ∷ acc) (f ∷ put_sorted code_order acc e))
-    at Ordering.Less rest = (d, h)
-    at Ordering.Equal rest = h
-    at Ordering.Greater rest = (h.0, rest)
+after_put {A} x e (f ∷ acc) h d = grind (arith, nat_tests, ordered, after_put x e acc h.1 d)
 
 those_put : {A : Type 0} (e : Entry A) (acc es : List (Entry A)) → AllAfterThose apart acc es → AllAfter apart e es → AllAfterThose apart (put_sorted code_order acc e) es
 unfolding AllAfterThose AllAfter

@@ -1,4 +1,5 @@
 -- A value that was read of a form names no handle twice, where the handles that were got are apart. So nothing is to be said against its references, where each is good.
+use Rattle.pagable_laws.proofs.Words.{nat_tests}
 use Rattle.pagable_laws.proofs.Words.{◌≡◌, ℕ, zero, suc, ◌+◌, ◌≤◌, ◌==◌, ◌||◌, Bool, true, false, List, [], ◌∷◌, length, Some, None, Result, Ok, Err, inr, refl, sym, ap, subst, ◌∙◌, arith}
 use Rattle.pagable_laws.proofs.Words.{if◌then◌else◌, slice_get, not, append-nil, sum_by-cons, Error, Meaning, references_in, Rest, read, kind_of_arc, Answer, answer_at, handles_at, HandleRow}
 use Rattle.pagable_laws.proofs.Words.{Owner, ArcRef, Blob, Types, type_of, Among, is_in, if_there, one, times, is_owner, Core, type_at, answer_of, answers_from, reads, next_of, refused_if}
@@ -112,13 +113,7 @@ module _ (types : Types) (t : ℕ) (blob : Blob) (refs got : List ArcRef) (f : I
             → times (λ (y : ArcRef). y.handle.0 == r.handle.0) (b ∷ ys) ≡ one (b.handle.0 == r.handle.0) + times (λ (y : ArcRef). y.handle.0 == r.handle.0) ys
             → times (λ (x : ArcRef). x.handle.0 == q) (a ∷ xs) ≤ times (λ (y : ArcRef). y.handle.0 == r.handle.0) (b ∷ ys)
         at false e tail left right = let z : one (a.handle.0 == q) ≡ 0 = ap one e in omega (arith, z, tail, left, right)
-        at true e tail left right =
-            let place = apart h.place p.place a g h.of_got p.of_got (same-number a.handle.0 q e ∙ sym is) in
-            let both : Some b ≡ Some r = sym h.of_refs ∙ (ap (slice_get refs) place ∙ p.of_refs) in
-            let same : b.handle.0 ≡ r.handle.0 = let s : b ≡ r = cc in ap (λ (x : ArcRef). x.handle.0) s in
-            let z : one (a.handle.0 == q) ≡ 1 = ap one e in
-            let w : one (b.handle.0 == r.handle.0) ≡ 1 = ap (λ n. one (n == r.handle.0)) same ∙ ap one (self-number r.handle.0) in
-            omega (arith, z, w, tail, left, right)
+        at true e tail left right = grind (arith, nat_tests, same-number, one, self-number)
 
     -- what is read names no handle twice
     pub reads-once : (own : Meaning ArcRef) → next_of types t blob got ≡ reads own → (q : ℕ) → times (λ (r : ArcRef). r.handle.0 == q) (references_in own) ≤ 1

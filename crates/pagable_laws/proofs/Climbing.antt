@@ -1,4 +1,5 @@
 -- Heights that are known are those of trees; so where a place and a height pass the limit, the task leads down too long a path.
+use Rattle.pagable_laws.proofs.Words.{nat_tests}
 use Rattle.pagable_laws.proofs.Words.{◌≡◌, ℕ, zero, suc, ◌+◌, ◌<◌, ◌≤◌, ◌==◌, Bool, true, false, not, List, [], ◌∷◌, ◌⊎◌, inl, inr, if◌then◌else◌, refl, sym, ap, subst, arith, max, Some}
 use Rattle.pagable_laws.proofs.Words.{None, Option, Err, pair, variant, reference, followed, is_eager, longest_path, above, height, deepest_path}
 use Rattle.pagable_laws.proofs.Words.{kind_of_arc, Error, HandleRow, ArcRef, Identity, Meaning, Tree, Types, Among, type_of, if_there, or_else, identity_of, fits_mode, Core, Shelf, Written, Todo}
@@ -167,9 +168,7 @@ module _ {N E : Type 0} (v : Values N) (s : MachineState N E) (trees : ℕ → T
   ]
     where
       goes : (h : ℕ) → h ≤ height (trees r.node.0).meaning → longest_path < place + h → IsTooDeepTask trees task
-      goes h le long =
-          let m = (trees r.node.0).meaning in
-          leads-down n task r below expects waits all lows (subst (λ q. longest_path < max (q + height m) (deepest_path m)) at (omega arith))
+      goes h le long = grind (arith, nat_tests, leads-down, longest_path, height)
 
       by : IsTooDeep shelf n (identity_of r) place → IsTooDeepTask trees task ⊎ WaitsForAsker shelf n (identity_of r)
       by (inl long) = inl (goes 0 (omega arith) (omega arith))

@@ -1,5 +1,6 @@
 -- A value that was read of a blob leads to what the blob's key reads as: reading the blob with the references that were got runs along the reading of
 -- its bare keys, and each of these reads as the tree of the node that was got for it.
+use Rattle.pagable_laws.proofs.Words.{nat_tests}
 use Rattle.pagable_laws.proofs.Words.{◌≡◌, ℕ, zero, suc, ◌+◌, ◌≤◌, ◌==◌, ◌&&◌, Bool, true, false, List, [], ◌∷◌, ◌++◌, Option, Some, None, Result, Ok, Err, if◌then◌else◌, ◌⊎◌, inl, inr, refl}
 use Rattle.pagable_laws.proofs.Words.{sym, ap, ◌∙◌, subst, arith, sum_by, slice_get, length, and_parts, Error, number, integer, text, pattern, none, pair, variant, reference, followed}
 use Rattle.pagable_laws.proofs.Words.{references_in, SameReferences, Rest, read_typed, Answer, answer_at, handles_at, KeyRef, key_ref, ReadsAs, blob_context, rest_of, IsFollowed, number-followed}
@@ -131,8 +132,7 @@ is_ref : ArcRef → ArcRef → Bool
 is_ref r q = (q.kind.0 == r.kind.0) && ((q.node.0 == r.node.0) && (q.handle.0 == r.handle.0))
 
 refs-of : {r q : ArcRef} → q.kind.0 ≡ r.kind.0 → q.node.0 ≡ r.node.0 → q.handle.0 ≡ r.handle.0 → q ≡ r
-refs-of {r} {q} kind node handle =
-    ap (λ n. record q { kind = record { 0 = n } }) kind ∙ ap (λ n. record q { kind = r.kind; node = record { 0 = n } }) node ∙ ap (λ n. record r { handle = record { 0 = n } }) handle
+refs-of {r} {q} kind node handle = grind (arith, nat_tests)
 
 same-ref : (r q : ArcRef) → is_ref r q ≡ true → q ≡ r
 unfolding is_ref

@@ -1,4 +1,5 @@
 -- A load is refused as too deep only where the reading of its key comes to a blob that lies too deep, or to one that enters a level too many.
+use Rattle.pagable_laws.proofs.Words.{nat_tests}
 use Rattle.pagable_laws.proofs.Words.{◌≡◌, ℕ, ◌+◌, ◌<◌, ◌==◌, ◌||◌, Bool, true, false, List, [], ◌∷◌, length, Option, Some, None, Ok, Err, inl, inr, if◌then◌else◌, refl, sym, ap, subst, ◌∙◌}
 use Rattle.pagable_laws.proofs.Words.{arith, not, Error, Want, HandleRow, Owner, Took, Event, EventReply, Kind, HandleNumber, LoadNumber, Blob, Tree, Types, type_of, is_eager, is_in}
 use Rattle.pagable_laws.proofs.Words.{is_loose_kind, longest_path, if_there, any_mode, is_owner, owner_worker, Core, OpenLoad, Root, of_cell, of_key, Frame, Reading, Todo, Walking, Seen}
@@ -47,11 +48,7 @@ no-node w kind key is = grind (arith, no-spent, no-earlier)
 no-named : (w : Core) (owner : Owner) (seen : List ℕ) (hs : List HandleNumber) → No (named_fault w owner seen hs)
 unfolding named_fault
 no-named w owner seen [] is = cc
-no-named w owner seen (h ∷ hs) is = no-earlier _ _ (λ e. at (row_at w h) e) (no-named w owner (h.0 ∷ seen) hs) is
-  where
-    at : (found : Option HandleRow) → No (if_there (λ (row : HandleRow). refused_if (not (is_owner owner row.owner) || is_in seen h.0) Error.NotYours) (Some Error.NoSuchHandle) found)
-    at None e = cc
-    at (Some row) e = no-test (not (is_owner owner row.owner) || is_in seen h.0) Error.NotYours (λ f. cc) e
+no-named w owner seen (h ∷ hs) is = grind (arith, nat_tests, no-earlier, no-test, no-named w owner (h.0 ∷ seen) hs)
 
 no-root : (w : Core) (me : Owner) (t : ℕ) (found : Option OpenLoad) → No (if_there (λ (load : OpenLoad). root_fault w me t load.root) None found)
 no-root w me t None is = cc
@@ -104,11 +101,7 @@ module _ (types : Types) (stored : ℕ → Option Blob) where
     broken-is below (is_faulty f) e is = let same : f ≡ e = cc in ap is_faulty same
     broken-is [] (reads own) e is = absurd (cc)
     broken-is (x ∷ xs) (reads own) e is = absurd (cc)
-    broken-is below (asks kind key) e is = absurd (at (is_eager kind.0) is)
-      where
-        at : (b : Bool) → (if b then needs_nested kind key else needs_lazy kind key) ≡ is_broken e → ⊥
-        at true f = cc
-        at false f = cc
+    broken-is below (asks kind key) e is = grind (arith, nat_tests)
 
     of-blob : (frames : List Frame) → FramesFit types stored trees root_key root_type frames → FramesAsked types frames → need_of types frames ≡ is_broken Error.TooDeep
         → ReadsTooDeep types stored root_type root_key

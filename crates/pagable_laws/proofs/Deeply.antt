@@ -1,4 +1,5 @@
 -- No key is answered of what leads down too long a path, or to a value that has no form; and why a claim is too deep.
+use Rattle.pagable_laws.proofs.Words.{nat_tests}
 use Rattle.pagable_laws.proofs.Words.{◌≡◌, ℕ, ◌⊎◌, inl, inr, List, [], ◌∷◌, Some, Ok, Err, sym, subst, ap, ◌∙◌, Identity, Tree, WorkerAnswer, Event, EventReply, Error, Took, Shelf, Todo}
 use Rattle.pagable_laws.proofs.Words.{to_start, Walking, Seen, IsLawful, Site, Does, Happens, IsMetFailure, MachineState, world_of, IsMachineWhole, IsIdle, StandsFor, ReadsItsTypes, HoldsSettled}
 use Rattle.pagable_laws.proofs.Words.{Moment, AreMoments, Fact, TreesAlong, IsTooDeepTask, IsFormlessTask, KeyIsShallow, ShallowLaw, MetDepthAlone, DepthIsTold, ToldDepthLaw, WaitsForAsker}
@@ -85,13 +86,7 @@ module _ {N B W E : Type 0} (m : Seen N B W) (s s' : MachineState N E) (trees tr
     of-claim after todo i does all covers walks lows = absurd does
 
   claim-is-deep : (event : Event N B W) (reply : EventReply N B W) → Happens m (world_of s) event reply (world_of s') → ClaimIsDeep s trees event reply s' trees'
-  claim-is-deep (Event.WorkerStep n) (EventReply.WorkerMoved (Ok reply)) is = λ walking i there e.
-      let w = is.moves in
-      let same : w.walking ≡ walking = same_some _ _ (sym w.at ∙ there) in
-      let at = w.at in
-      let does = subst (λ (k : Took W). Does m n.0 (site n.0 w.walking at) w.walking.todo k w.after) e w.does.does in
-      subst (λ (x : Walking). IsTooDeepTask trees x.task ⊎ WaitsForAsker (s.work.shelves x.table) n.0 i) same
-      (of-claim n.0 w.walking at w.after w.walking.todo i does (work.workers n.0 w.walking at).all (work.workers n.0 w.walking at).covers (fit.walks n.0 w.walking at) (low.todos n.0 w.walking at))
+  claim-is-deep (Event.WorkerStep n) (EventReply.WorkerMoved (Ok reply)) is = grind (arith, nat_tests, same_some, of-claim)
   claim-is-deep (Event.WorkerStep n) (EventReply.WorkerMoved (Err e)) is = tt
   claim-is-deep (Event.WorkerStep n) reply is = absurd is
   claim-is-deep (Event.Call call) reply is = tt

@@ -102,9 +102,7 @@ module _ (rows : List HandleRow) (keyed : ℕ → Bool) (entries : List HandleRo
               sym (ap t number) ∙ it
 
           of-row : (h : HandleRow) → (x : HandleRow) × Among rows x × (0 < follows (lost s) h.number.0 x) → t h.number.0 ≡ true
-          of-row h (x, among, some) =
-              let both : (x.number.0 == h.number.0 && owner_goes (lost s) x.owner) ≡ true = one-true _ some in
-              of-value h x among (same-number _ _ (and_parts _ _ both).0) (owner-of (lost s) x.owner (and_parts _ _ both).1)
+          of-row h (x, among, some) = grind (arith, nat_tests, one-true, of-value, same-number, owner-of)
 
       part : (h : HandleRow) → Among rows h → (a : Bool) → s h.number.0 ≡ a → (b : Bool) → nat_lt 0 (sum_by (follows (lost s) h.number.0) rows) ≡ b → only_in (more s) t h ≡ 0
       part h among true e b f = let c = inside s t h within among e in grind (arith, nat_tests)

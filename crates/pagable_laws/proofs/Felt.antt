@@ -72,36 +72,12 @@ module _ {N E : Type 0} {v : Values N} {s s' : PagerState N E} {trees : ℕ → 
     -- a node is born of this type and key, of a tree as which the key reads if it has one
     pub fits-born : (comes : ℕ → N → Type 0) (own : OptionalDataKey) → ((key : ℕ) → own ≡ OptionalDataKey.Some key → ReadsTree s'.core.stored v.types key t0)
         → ((n : ℕ) (x : N) → comes n x → s.values n ≡ None → s'.values n ≡ Some x → ValueLeads v more x (more n)) → ChangeFits v (bears_node t0.type own) comes s s' trees more
-    fits-born comes own reads fit =
-        record {
-          same = with-below last t0 trees;
-          sets = λ n key is. absurd is;
-          born = λ t o is. ap (λ (z : Tree). z.type) more-at ∙ sym is.0;
-          keyed = λ t key is. subst (λ z. ReadsTree s'.core.stored v.types key z) (sym more-at) (reads key (sym is.1));
-          knows = λ kind key n is. absurd is;
-          comes_well = fit;
-        }
+    fits-born comes own reads fit = grind (arith, nat_tests, with-below, more-at)
 
     pub fits-born-known : (comes : ℕ → N → Type 0) (k q : ℕ) (own : OptionalDataKey) → t0.type ≡ type_of k → ((key : ℕ) → own ≡ OptionalDataKey.Some key → key ≡ q)
         → ReadsTree s'.core.stored v.types q t0
         → ((n : ℕ) (x : N) → comes n x → s.values n ≡ None → s'.values n ≡ Some x → ValueLeads v more x (more n)) → ChangeFits v (bears_known k q own) comes s s' trees more
-    fits-born-known comes k q own typed same_key reads fit =
-        record {
-          same = with-below last t0 trees;
-          sets = λ n key is. absurd is;
-          born = λ t o is. ap (λ (z : Tree). z.type) more-at ∙ typed ∙ sym is.0;
-          keyed = λ t key is. keyed-at key (same_key key (sym is.1));
-          knows = λ kind key n is. known-at kind key n is.0 is.1 is.2;
-          comes_well = fit;
-        }
-      where
-        keyed-at : (key : ℕ) → key ≡ q → ReadsTree s'.core.stored v.types key (more (last + 1))
-        keyed-at key e = subst (λ z. ReadsTree s'.core.stored v.types key z) (sym more-at) (rw e reads)
-
-        known-at : (kind key n : ℕ) → kind ≡ k → key ≡ q → n ≡ last + 1 → ReadsNodeTree v.types s'.core.stored more key (type_of kind) n
-        known-at kind key n e1 e2 e3 =
-            let here : ReadsNodeTree v.types s'.core.stored more q (type_of k) (last + 1) = record { typed = ap (λ (z : Tree). z.type) more-at ∙ typed; reads = keyed-at q refl } in
-            rw (e1, e2, e3) here
+    fits-born-known comes k q own typed same_key reads fit = grind (arith, nat_tests, with-below, more-at)
 
     -- the value of the node that is born leads to that tree
     pub value-born : (c : Change) (n : ℕ) (x y : N) → CoreGoes c s.core s'.core → s'.values n ≡ Some x → x ≡ y → IsNewNode s.core n

@@ -1,4 +1,5 @@
 -- What a load reads goes on fitting, whatever it gets.
+use Rattle.pagable_laws.proofs.Words.{nat_tests}
 use Rattle.pagable_laws.proofs.Words.{◌≡◌, ℕ, zero, suc, ◌+◌, ◌<◌, ◌≤◌, Bool, true, false, List, [], ◌∷◌, ◌++◌, Option, Some, if◌then◌else◌, ◌⊎◌, inl, inr, refl, sym, ap, ◌∙◌, subst, arith}
 use Rattle.pagable_laws.proofs.Words.{slice_get, length, KeyRef, ReadsAs, IsFollowed, number-followed, integer-followed, text-followed, pattern-followed, none-followed, pair-followed}
 use Rattle.pagable_laws.proofs.Words.{variant-followed, reference-followed, HandleRow, ArcRef, Kind, Blob, Types, Tree, type_of, ReadsTree, Meaning, Among, is_eager, Frame, Next, reads, asks}
@@ -84,10 +85,7 @@ module _ {types : Types} {stored : ℕ → Option Blob} {trees : ℕ → Tree} w
       at-place : (place k : ℕ) (r : ArcRef) → slice_get frame.blob.keys place ≡ Some k → (slice_get frame.got place ≡ Some r) ⊎ ((place ≡ length frame.got) × (q ≡ r))
           → ReadsNodeTree types stored trees k (type_of r.kind.0) r.node.0
       at-place place k r at (inl old) = h.got place k r old at
-      at-place place k r at (inr new) =
-          let there = subst (λ i. slice_get frame.blob.keys i ≡ Some k) new.0 at in
-          let same : key ≡ k = cc in
-          subst (λ (z : ArcRef). ReadsNodeTree types stored trees k (type_of z.kind.0) z.node.0) new.1 (subst (λ i. ReadsNodeTree types stored trees i (type_of q.kind.0) q.node.0) same read)
+      at-place place k r at (inr new) = grind (arith, nat_tests)
 
 -- ---- all frames
 

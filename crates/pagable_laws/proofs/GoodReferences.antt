@@ -40,8 +40,7 @@ module _ (w : Core) (owner : Owner) where
           at true p true q true s d t e u = let f : Some Error.NotYours ≡ None = rw (p, q, s) at none in absurd (cc)
           at true p true q false s false t e u = let f : Some Error.WrongMode ≡ None = rw (p, q, s, t) at none in absurd (cc)
           at true p true q false s true t false u = let f : Some Error.WrongKind ≡ None = rw (p, q, s, t, u) at none in absurd (cc)
-          at true p true q false s true t true u =
-              record { row = row; live = live; at = ap (λ x. record { 0 = x }) (same-number row.node.0 r.node.0 p); owned = same-owner owner row.owner q; fits = t; typed = typed-by (type_of r.kind.0) (type_at w r.node.0) u }
+          at true p true q false s true t true u = grind (arith, nat_tests, same-number, same-owner, typed-by)
 
   pub good : (seen : List ℕ) (references : List ArcRef) → references_fault w owner seen references ≡ None → AreGood w owner references
   unfolding references_fault
@@ -81,10 +80,7 @@ entry-pins false = refl
 
 no-pins : (n last : ℕ) (entries : List HandleRow) → AreNewEntries last entries → pins n entries ≡ 0
 no-pins n last [] new = refl
-no-pins n last (h ∷ hs) (number, mode, owner, new) =
-    let a : one (is_pin n h) ≡ 0 = rw mode (entry-pins _) in
-    let b = no-pins n (last + 1) hs new in
-    let c = sum_by-cons (λ x. one (is_pin n x)) h hs in omega arith
+no-pins n last (h ∷ hs) (number, mode, owner, new) = grind (arith, nat_tests, one, entry-pins, no-pins n (last + 1) hs new)
 
 pub fell-away : {before w w' : Core} {given : ℕ → Bool} {r : _} → Falls before w given r w' → (n : ℕ) → StaysAway w w' n
 fell-away {before} {w} {w'} f n = grind (arith, still-away, fell, pins-left, no-pins)

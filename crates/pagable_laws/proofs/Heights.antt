@@ -1,4 +1,5 @@
 -- Heights that are known are within the limit, and each is at least what the references of what was written add to theirs. What tables and to-do lists hold of it, and that it goes on.
+use Rattle.pagable_laws.proofs.Words.{nat_tests}
 use Rattle.pagable_laws.proofs.Words.{◌≡◌, ℕ, zero, suc, ◌+◌, ◌≤◌, Bool, true, false, List, [], ◌∷◌, ◌++◌, length, ◌⊎◌, inl, inr, Option, Some, None, if◌then◌else◌, refl, sym, ap, subst, ◌∙◌}
 use Rattle.pagable_laws.proofs.Words.{arith, nat_eq, drop, max, cases_lt, ArcRef, Identity, Among, if_there, is_eager, above, longest_path, identity_of, Shelf, Slot, published, failed, Written}
 use Rattle.pagable_laws.proofs.Words.{Open, Todo, to_start, to_pin, to_load, to_write, to_finish, to_item, to_set, to_publish, to_release, to_fail, Task, IsPublished, place_below, next_start}
@@ -114,8 +115,7 @@ module _ {shelf shelf' : Shelf} (keys : KeepsKeys shelf shelf') where
   pub waits-low-on : (todo : List Todo) → WaitsLow shelf todo → WaitsLow shelf' todo
   unfolding WaitsLow
   waits-low-on [] low = tt
-  waits-low-on (to_finish o ∷ below) (first, attained, reach, place, low) =
-      (first-on o.height o.written.references o.keys first, attained-on o.height o.written.references attained, reach, place, waits-low-on below low)
+  waits-low-on (to_finish o ∷ below) (first, attained, reach, place, low) = grind (arith, nat_tests, first-on, attained-on, waits-low-on below low)
   waits-low-on (to_item written ks ∷ below) low = first-on longest_path written.references ks low
   waits-low-on (_ ∷ below) low = absurd low
 
@@ -248,5 +248,4 @@ module _ (shelf : Shelf) where
   pub opened-low : (r : ArcRef) (place : ℕ) (o : Open) (below : List Todo) → o.keys ≡ [] → o.height ≡ 0 → o.place ≡ place → o.reference ≡ r → PlacedLow shelf r place below
       → WaitsLow shelf (to_finish o ∷ below)
   unfolding WaitsLow FirstLow
-  opened-low r place o below no_keys no_height at of_it (few, is, low) =
-      (subst (λ ks. FirstLow shelf o.height o.written.references ks) (sym no_keys) tt, inl no_height, omega arith, at ∙ is ∙ ap (λ q. place_over q below) (sym of_it), low)
+  opened-low r place o below no_keys no_height at of_it (few, is, low) = grind (arith, nat_tests)

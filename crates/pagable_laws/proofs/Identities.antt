@@ -106,12 +106,7 @@ entered-got {w} {w'} kind key n opened (got-new none next l own references a) h 
 
     entered : (b : Bool) → b ≡ false → let d = if b then made else with_cached made kind key (next_node w) in IsEntered kind.0 key n d.cache d.cells
     entered true is = absurd (cc)
-    entered false is =
-        let k = self-number kind.0 in
-        let q = self-number key in
-        let m = self-number n in
-        let e : (n == w.last.node + 1) ≡ true = ap (λ x. n == x) (sym next) ∙ m in
-        record { entry = rw (k, q) (ap (λ (x : ℕ). Some x) (sym next)); there = rw e refl }
+    entered false is = grind (arith, nat_tests, self-number)
 
 keeps-open : {N B W : Type 0} (event : Event N B W) → LeavesCache event → KeepsOpen event
 keeps-open (Event.Call Call.Close) leaves = leaves
@@ -144,8 +139,7 @@ module _ {N B W E : Type 0} (m : Seen N B W) (kind : Kind) (key n : ℕ) where
 -- ---- the law
 
 differ : {u last : Core} (kind other_kind : Kind) (key other_key n other_n : ℕ) → IsKnownOnce kind.0 key n u → Got u other_kind other_key other_n last → other_n ≡ n → other_key ≡ key
-differ {u} kind other_kind key other_key n other_n once (got-old is q enters) same_node =
-    (once.only other_kind.0 other_key (subst (λ (x : ℕ). u.cache other_kind.0 other_key ≡ Some x) same_node (is-cached u other_kind.0 other_key other_n is))).1
+differ {u} kind other_kind key other_key n other_n once (got-old is q enters) same_node = grind (arith, nat_tests, is-cached)
 differ {u} kind other_kind key other_key n other_n once (got-new none next l own references a) same_node = absurd (let few = once.given in omega (arith, few, next, same_node))
 
 same : {u last : Core} (kind other_kind : Kind) (key other_key n other_n : ℕ) → usable u kind.0 key ≡ Some n → Got u other_kind other_key other_n last

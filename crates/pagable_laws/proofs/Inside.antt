@@ -1,4 +1,5 @@
 -- A tree of a closed set of types reaches types of the set alone.
+use Rattle.pagable_laws.proofs.Words.{arith, nat_tests}
 use Rattle.pagable_laws.proofs.Words.{◌≡◌, ℕ, true, false, List, [], ◌∷◌, ◌++◌, Ordering, Meaning, number, integer, text, pattern, none, pair, variant, reference, followed, sequence, lifted}
 use Rattle.pagable_laws.proofs.Words.{rename, Entry, code_order, ordered, put_all, put_sorted, of_entries, of_hash_map, Shape, Form, Forms, Entries, nothing-form, unsigned-form, signed-form}
 use Rattle.pagable_laws.proofs.Words.{flag-form, text-form, letter-form, duration-form, pattern-form, none-form, some-form, err-form, ok-form, list-form, run-form, array-form, both-form}
@@ -58,12 +59,7 @@ module _ {A : Type 0} (P : A → Type 0) where
   put_refs : (acc : List (Entry A)) (e : Entry A) → Each EachEntry acc → EachEntry e → Each EachEntry (put_sorted code_order acc e)
   unfolding Each
   put_refs [] e h g = (g, tt)
-  put_refs (x ∷ acc) e h g = at (ordered code_order e.0 x.0) (put_refs acc e h.1 g)
-    where
-      at : (o : Ordering) → Each EachEntry (put_sorted code_order acc e) → Each EachEntry (match_ordering o (e ∷ x ∷ acc) ((x.0, e.1) ∷ acc) (x ∷ put_sorted code_order acc e))
-      at Ordering.Less rest = (g, h)
-      at Ordering.Equal rest = ((h.0.0, g.1), h.1)
-      at Ordering.Greater rest = (h.0, rest)
+  put_refs (x ∷ acc) e h g = grind (arith, nat_tests, ordered, put_refs acc e h.1 g)
 
   put_all_refs : (es acc : List (Entry A)) → Each EachEntry acc → Each EachEntry es → Each EachEntry (put_all (put_sorted code_order) acc es)
   unfolding Each put_all

@@ -1,4 +1,5 @@
 -- What a load reads of a key that a page-out has published: each blob is a form of a tree, asks for references whose keys are known, and lies within the path's limit.
+use Rattle.pagable_laws.proofs.Words.{nat_tests}
 use Rattle.pagable_laws.proofs.Words.{◌≡◌, ℕ, zero, suc, ◌+◌, ◌≤◌, Bool, true, false, List, [], ◌∷◌, length, Option, Some, refl, sym, ap, subst, ◌∙◌, inl, inr, if◌then◌else◌, arith, slice_get}
 use Rattle.pagable_laws.proofs.Words.{blob_of, Error, ArcRef, Kind, Identity, Blob, Meaning, Tree, type_of, is_eager, above, longest_path, identity_of, Shelf, published, Written, Frame, Values}
 use Rattle.pagable_laws.proofs.Words.{Next, reads, asks, is_faulty, next_in, need_at, need_of, needs_nested, needs_lazy, is_broken, IsPublished, MachineState, world_of, FramesFit, ReadsItsTypes}
@@ -160,9 +161,7 @@ module _ {N E : Type 0} (v : Values N) (s : MachineState N E) (trees : ℕ → T
     -- the innermost blob is so, where it is read
     pub formed : (frame : Frame) (below : List Frame) → FramesFit v.types stored trees root_key root_type (frame ∷ below) → FramesAsked v.types (frame ∷ below) → (own : Meaning ArcRef)
         → next_in v.types frame ≡ reads own → IsForm v frame
-    formed frame below fits got own is =
-        let t = top-known frame below fits got in
-        record { refs = t.known.refs; form = t.known.form; kinds = all-got v.types frame.node_type frame.blob t.known.refs t.known.form (first-asked frame below got) own is }
+    formed frame below fits got own is = grind (arith, nat_tests, top-known, all-got, first-asked)
 
     -- nothing of it is refused as faulty
     pub not-broken : (frames : List Frame) → FramesFit v.types stored trees root_key root_type frames → FramesAsked v.types frames → (e : Error) → need_of v.types frames ≡ is_broken e → ⊥

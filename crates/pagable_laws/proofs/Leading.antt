@@ -1,5 +1,6 @@
 -- Where a pager stands for trees, each value and key leads to its node's tree by its own references alone; and from this it stands for them again. So
 -- that a node keeps its tree is shown at each node by itself.
+use Rattle.pagable_laws.proofs.Words.{nat_tests}
 use Rattle.pagable_laws.proofs.Words.{◌≡◌, ℕ, zero, ◌<◌, ◌&&◌, Bool, true, false, Option, Some, None, refl, sym, ap, ◌∙◌, subst, is_some, nat_lt, ◌||◌, OptionalDataKey, number, integer, text}
 use Rattle.pagable_laws.proofs.Words.{pattern, none, pair, variant, reference, followed, references_in, ArcRef, Meaning, Tree, tree, type_of, ReadsTree, Among, held, is_in_memory, Core, Values}
 use Rattle.pagable_laws.proofs.Words.{IsLawful, key_at, IsReference, PagerState, WellFormed, NodeStands, here, away, MeaningStands, number-stands, integer-stands, text-stands, pattern-stands}
@@ -54,10 +55,7 @@ module _ {N E : Type 0} {v : Values N} {s : PagerState N E} {trees : ℕ → Tre
     -- what a good reference's node stands for, as one of the kind's type, is its tree
     pub node-tree : (owner : _) (r : ArcRef) (b : Meaning ⊥) → IsReference s.core owner r → NodeStands v s r.node.0 (tree (type_of r.kind.0) b)
         → ((trees r.node.0).type ≡ type_of r.kind.0) × ((trees r.node.0).meaning ≡ b)
-    node-tree owner r b good node =
-        let live = given-of well.whole.handles r.node.0 good.typed in
-        let typed : (trees r.node.0).type ≡ type_of r.kind.0 = same_some _ _ (sym (stands.typed r.node.0 live.0) ∙ good.typed) in
-        (typed, one-node settled (stands.stands r.node.0 live.0) node typed)
+    node-tree owner r b good node = grind (arith, nat_tests, given-of, same_some, one-node)
 
     stands-leads : {x : Meaning ArcRef} {a : Meaning ⊥} → MeaningStands v s x a
         → ((r : ArcRef) (b : Meaning ⊥) → Among (references_in x) r → NodeStands v s r.node.0 (tree (type_of r.kind.0) b)
@@ -90,8 +88,7 @@ module _ {N E : Type 0} {v : Values N} {s : PagerState N E} {trees : ℕ → Tre
           keyed = subst (λ z. (key : ℕ) → key_at s.core n ≡ OptionalDataKey.Some key → ReadsTree s.core.stored v.types key z) e fits;
           valued = λ y at. let same : x ≡ y = same_some _ _ (sym is ∙ at) in subst (λ z. ValueLeads v trees z (trees n)) same (subst (λ z. ValueLeads v trees x z) e leads);
         }
-    node-leads (away n key t nothing_there keyed fits) e =
-        record { keyed = subst (λ z. (k : ℕ) → key_at s.core n ≡ OptionalDataKey.Some k → ReadsTree s.core.stored v.types k z) e fits; valued = λ y at. absurd (cc) }
+    node-leads (away n key t nothing_there keyed fits) e = grind (arith, nat_tests)
 
     pub leads-all : (n : ℕ) → 0 < held n s.core.rows → NodeLeads v s trees n
     leads-all n live = node-leads (stands.stands n live) refl

@@ -59,8 +59,7 @@ asked s x open_still well trees = record { settled = λ n x is. settled x; reads
 pub step-asked : {core : Core} {reply : WorkerReply Written} {after : State} (vs : List (Option two.Sample)) (shelf : Shelf) (w : Walking)
     → TodoTakesWell two.sample (two.machine core vs (two.walk_work shelf w)).pager w.todo
     → IsAsked (two.machine core vs (two.walk_work shelf w)) (two.moment (Event.WorkerStep (record { 0 = 1 })) (EventReply.WorkerMoved (Ok reply)) after)
-step-asked {core} {reply} {after} vs shelf w well =
-    asked _ _ tt (λ trees walking is. only-at 1 w (λ n x. TodoTakesWell two.sample (two.machine core vs (two.walk_work shelf w)).pager x.todo) well 1 walking is)
+step-asked {core} {reply} {after} vs shelf w well = grind (arith, nat_tests, asked, only-at)
 
 -- a load's step asks something where a reference is taken of which nothing is read
 pub load-asked : (s : State) (l : ℕ) (r : Reading) (reply : LoadReply two.Sample) (after : State) → reading_at (world_of s) (two.load_number l) ≡ Some r → TakesWell two.sample s.pager r

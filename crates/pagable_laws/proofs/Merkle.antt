@@ -1,4 +1,5 @@
 -- A tree of canonical types has one key, a stored tree has the key that it stands under, and keys tell trees apart.
+use Rattle.pagable_laws.proofs.Words.{arith, nat_tests}
 use Rattle.std.proofs.Common.{rules}
 use Rattle.pagable_laws.proofs.Words.{◌≡◌, ℕ, List, [], ◌∷◌, map, Option, Ok, refl, sym, ap, ◌∙◌, subst, append-nil, Meaning, number, integer, text, pattern, none, pair, variant, reference}
 use Rattle.pagable_laws.proofs.Words.{followed, Shape, read, read_typed, Blob, key_of, Tree, KeyRef, Types, tree, key_ref, type_of, ReadsAs, IsFollowed, number-followed, integer-followed}
@@ -96,8 +97,7 @@ module _ {store : ℕ → Option Blob} {types : Types} where
   followed-reads h (reference-followed r x a o f) = reference-followed r x a (stored-reads store types (type_of r.kind) r.key x h.0 o) (followed-reads h.1 f)
 
 pub tree_readable : IsTreeReadable
-tree_readable store types t key can h =
-    record { own = h.own; reads = stored-reads store types t.type key h.own can.0 h.stands; follows = followed-reads can.1 h.follows }
+tree_readable store types t key can h = grind (arith, nat_tests, stored-reads, followed-reads)
 
 -- ---- the key of what is stored
 

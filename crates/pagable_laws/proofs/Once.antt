@@ -121,13 +121,10 @@ module _ (k : ℕ) (i : Identity) where
     goes (to_pin r place ∷ below) (Took.Pin j (Ok (PinStep.Held h))) next way (is, (through, e)) = rw (is, e) (record { less = skips r (all-left below); way = way })
     goes (to_pin r place ∷ below) (Took.Pin j (Ok (PinStep.LoadBegun l))) next way (is, (through, e)) = rw (is, e) (record { less = goes-up 0 r _ (all-left below) refl; way = way })
     goes (to_pin r place ∷ below) (Took.Pin j (Err fault)) next way (is, e) = rw e (record { less = fails _; way = tt })
-    goes (to_load r place through reading ∷ below) (Took.Pin j (Ok PinStep.LoadWent)) next way (is, (frames, e)) = rw e
-        (record { less = stays (all-left (to_load r place through reading ∷ below)); way = way })
+    goes (to_load r place through reading ∷ below) (Took.Pin j (Ok PinStep.LoadWent)) next way (is, (frames, e)) = grind (arith, nat_tests, stays)
     goes (to_load r place through reading ∷ below) (Took.Pin j (Ok (PinStep.Held h))) next way (is, e) = rw (is, e) (record { less = goes-up 1 r _ (all-left below) refl; way = way })
     goes (to_load r place through reading ∷ below) (Took.Pin j (Err fault)) next way (is, e) = rw e (record { less = fails _; way = tt })
-    goes (to_write r place through ∷ below) (Took.Write j (Ok out)) next way (is, e) =
-        let g = started-node place (drop 0 (f out).references) (record { reference = r; place = place; through = through; written = f out; keys = []; height = 0 }) below way in
-        rw (is, e) (record { less = goes-up 2 r _ (all-left below) g.same; way = g.way })
+    goes (to_write r place through ∷ below) (Took.Write j (Ok out)) next way (is, e) = grind (arith, nat_tests, started-node, goes-up)
     goes (to_write r place through ∷ below) (Took.Write j (Err fault)) next way (is, e) = rw (is, e) (record { less = ends 2 r 0 (all-left below) (omega arith); way = tt })
     goes (to_finish o ∷ below) (Took.Store (Some j) (Ok key)) next way (is, e) = rw (is, e) (record { less = goes-up 3 o.reference _ (all-left below) refl; way = way })
     goes (to_finish o ∷ below) (Took.Store (Some j) (Err fault)) next way (is, e) = rw (is, e) (record { less = ends 3 o.reference 0 (all-left below) (omega arith); way = tt })
@@ -136,8 +133,7 @@ module _ (k : ℕ) (i : Identity) where
     goes (to_set r through key height ∷ below) (Took.SetKey j (Ok u)) next way (is, e) = rw (is, e) (record { less = goes-up 4 r _ (all-left below) refl; way = way })
     goes (to_set r through key height ∷ below) (Took.SetKey j (Err fault)) next way (is, e) = rw (is, e) (record { less = ends 4 r 0 (all-left below) (omega arith); way = tt })
     goes (to_publish r key height ∷ below) (Took.Publish j q h) next way (is, same_key, same_height, e) = rw (is, e) (record { less = goes-up 5 r _ (all-left below) refl; way = way })
-    goes (to_release r key height ∷ below) (Took.Release j) next way (is, e) = let g = given r key height below way in let same = g.same in
-        rw (is, e) (record { less = ends 6 r _ (all-left below) (omega arith); way = g.way })
+    goes (to_release r key height ∷ below) (Took.Release j) next way (is, e) = grind (arith, nat_tests, given, ends)
     goes (to_fail fault back ∷ below) Took.Fail next way e = rw e (record { less = fails _; way = tt })
     goes _ step next way follows = absurd follows
 
@@ -188,25 +184,16 @@ module _ (k : ℕ) (i : Identity) where
       where
         least : {a b : ℕ} → a ≤ b → a + 0 ≤ b
         least le = omega arith
-    entry r place (Took.Claim j (Ok (Claim.Known key height)) ∷ steps) last (mid, (is, e), leads) few = once-more (Took.Claim j (Ok (Claim.Known key height))) steps refl
-        (after-release r key height steps last (subst (λ m. Leads f m steps last) e leads))
+    entry r place (Took.Claim j (Ok (Claim.Known key height)) ∷ steps) last (mid, (is, e), leads) few = grind (arith, nat_tests, once-more, after-release)
     entry r place (Took.Claim j (Ok Claim.Waiting) ∷ steps) last (mid, (is, e), leads) few = once-more (Took.Claim j (Ok Claim.Waiting)) steps refl
         (entry r place steps last (subst (λ m. Leads f m steps last) e leads) (fewer _ (few-claims (Took.Claim j (Ok Claim.Waiting)) steps few)))
-    entry r place (Took.Claim j (Ok Claim.AlreadyFailed) ∷ steps) last (mid, (is, e), leads) few =
-        once-more (Took.Claim j (Ok Claim.AlreadyFailed)) steps refl
-        (bounded _ _ _ _ 0 (along (failing was_failed (to_start r place ∷ [])) steps last tt (subst (λ m. Leads f m steps last) e leads)) (omega arith)
-        (few-claims (Took.Claim j (Ok Claim.AlreadyFailed)) steps few))
-    entry r place (Took.Claim j (Err fault) ∷ steps) last (mid, (is, e), leads) few =
-        once-more (Took.Claim j (Err fault)) steps refl (bounded _ _ _ _ 0 (along (failing_by fault (to_start r place ∷ [])) steps last tt (subst (λ m. Leads f m steps last) e leads)) (omega arith) (few-claims (Took.Claim j (Err fault)) steps few))
+    entry r place (Took.Claim j (Ok Claim.AlreadyFailed) ∷ steps) last (mid, (is, e), leads) few = grind (arith, nat_tests, once-more, bounded, along, few-claims)
+    entry r place (Took.Claim j (Err fault) ∷ steps) last (mid, (is, e), leads) few = grind (arith, nat_tests, once-more, bounded, along, few-claims)
     entry r place (step ∷ steps) last (mid, follows, leads) few = absurd follows
 
     at-once : (task : Task) (steps : List (Took W)) (last : List Todo) → Leads f (first_todo task) steps last → times (is_claim_of i) steps ≤ 1 → times (is_later_of k i) steps ≤ 1
     unfolding OnlyWaits all-left
-    at-once (of_item written) steps last leads few = let g = started-item 0 (drop 0 written.references) written [] [] tt in
-        bounded _ _ _ _ 0 (along (first_todo (of_item written)) steps last g.way leads) (le-of g.same) (subst (λ n. n ≤ 1) (sym (plus-none _)) few)
-      where
-        le-of : {n : ℕ} → n ≡ 0 → n ≤ 0
-        le-of is = omega arith
+    at-once (of_item written) steps last leads few = grind (arith, nat_tests, started-item, bounded, along, plus-none)
     at-once (of_entry h j) steps last leads few = entry _ _ steps last leads few
 
 -- what the automaton accepts, with no identity claimed twice, has each stage at most once after its claim

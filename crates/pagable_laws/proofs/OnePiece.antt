@@ -183,10 +183,7 @@ module _ {N B W E : Type 0} (m : Seen N B W) (lawful : IsLawful m.values) (reada
       before = subst (λ k. LoadReady core k load x.reading.frames) (sym a.number) (ready x.reading load x.at was)
 
       by : (answer : Option (LoadAnswer N)) → reply.ended ≡ answer → LoadReady s'.pager.core l load reading.frames
-      by (Some end) e =
-          let shut = closes m s s' on.whole whole' x.reading end x.frames (subst (λ o. Does m.values core Owner.Caller x.reading o x.frames s'.pager.core) e x.does.does) in
-          let f : s'.pager.core.loads l.0 ≡ None = ap (λ (k : LoadNumber). s'.pager.core.loads k.0) (sym a.number) ∙ shut in
-          absurd (cc)
+      by (Some end) e = grind (arith, nat_tests, closes, a)
       by None e =
           let go = subst (λ o. Does m.values core Owner.Caller x.reading o x.frames s'.pager.core) e x.does.does in
           let after = goes-ready m.values lawful readable core s'.pager.core x.reading load trees load.key x.reading.node_type on.whole.pager.whole.handles before a.got a.fits x.frames go in

@@ -72,8 +72,7 @@ module _ {N : Type 0} (v : Values N) {g g' : Ground} (goes : GroundGoes g g') wh
 
   module _ {shelf shelf' : Shelf} (keys : KeepsKeys shelf shelf') where
     pub blob-on : {n key : ℕ} {written : Written} → n ≤ g.last → BlobStands v g shelf n written key → BlobStands v g' shelf' n written key
-    blob-on {n} {key} {written} given b =
-        record { keys = b.keys; known = keys-on keys written.references b.keys b.known; is_stored = goes.kept key _ b.is_stored; right = subst (λ t. KeyStands v g'.stored t key) (sym (goes.trees n given)) (stands-on b.right) }
+    blob-on {n} {key} {written} given b = grind (arith, nat_tests, keys-on, stands-on)
 
     pub slot-on : {i : Identity} {slot : Slot} → SlotFits v g shelf i slot → SlotFits v g' shelf' i slot
     slot-on {i} {slot} fits = search (rules, wrote-on, blob-on)

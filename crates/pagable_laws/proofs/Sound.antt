@@ -133,15 +133,7 @@ module _ {N B W E : Type 0} (m : Seen N B W) (s : MachineState N E) (trees : ℕ
               asked = got reading is_of;
               of_type = subst (λ root. FitsRoot root reading) (ap (λ (x : OpenLoad). x.root) same_load ∙ paged.3) a.typed;
             }
-        by None e is =
-            let begun : reading_of_load l (w.loads l.0) ≡ Some reading = rw e at is in
-            let same = by-fresh (w.loads l.0) open_load begun in
-            record {
-              number = ap (λ (r : Reading). r.load) (sym same);
-              fits = subst (λ (r : Reading). FramesFit v.types w.stored trees load.key r.node_type r.frames) same tt;
-              asked = subst (λ (r : Reading). FramesAsked v.types r.frames) same tt;
-              of_type = ap (λ (r : Reading). r.node_type) (sym same);
-            }
+        by None e is = grind (arith, nat_tests, by-fresh)
 
     -- the tree that it reads
     typed : (trees out.i.node.0).type ≡ reading.node_type
@@ -198,12 +190,7 @@ module _ {N B W E : Type 0} (m : Seen N B W) (s : MachineState N E) (trees : ℕ
     ]
 
     root-asked : (mid : Core) (e : Error) → AskCall w Owner.Caller reading.load Want.Root (Err e) mid → IsOfChance e
-    root-asked mid e c = elim c.refused [
-      | inl r ↦ ask-chance Want.Root mid e r
-      | inr (other, owned, vain) ↦
-          let same : other ≡ load = same_some _ _ (sym owned.stands_open ∙ (ap (λ (x : LoadNumber). w.loads x.0) is-read.number ∙ open_load)) in
-          vain-chance Want.Root other.key found.0 mid e (ap (λ (x : OpenLoad). w.stored x.key) same ∙ found.1) vain
-    ]
+    root-asked mid e c = grind (arith, nat_tests, ask-chance, same_some, is-read, vain-chance, found)
 
     nested-asked : (kind : Kind) (key : ℕ) (blob : Blob) (mid : Core) (e : Error) → w.stored key ≡ Some blob → AskCall w Owner.Caller reading.load (Want.Nested kind key) (Err e) mid → IsOfChance e
     nested-asked kind key blob mid e is c = elim c.refused [
@@ -236,13 +223,7 @@ module _ {N B W E : Type 0} (m : Seen N B W) (s : MachineState N E) (trees : ℕ
 
     -- the blob that becomes a node is read through a reference that isn't loose, and is of its kind's type
     node-right : (top : Frame) (below : List Frame) → reading.frames ≡ top ∷ below → need_of v.types reading.frames ≡ to_adopt → (is_eager top.kind.0 ≡ true) × (top.node_type ≡ type_of top.kind.0)
-    node-right top below is needs = by below (subst (λ fs. FramesFit v.types w.stored trees load.key reading.node_type fs) is is-read.fits) (subst
-        (λ fs. FramesAsked v.types fs) is is-read.asked) (ap (need_of v.types) (sym is) ∙ needs)
-      where
-        by : (below : List Frame) → FramesFit v.types w.stored trees load.key reading.node_type (top ∷ below) → FramesAsked v.types (top ∷ below) → need_of v.types (top ∷ below) ≡ to_adopt
-            → (is_eager top.kind.0 ≡ true) × (top.node_type ≡ type_of top.kind.0)
-        by [] fits asked adopts = let o = adopted-over [] (next_in v.types top) adopts in absurd (let e = o.2 in cc)
-        by (under ∷ rest) fits asked adopts = (second-eager v.types top under rest asked, first-typed v.types load.key reading.node_type w.stored trees top under rest fits)
+    node-right top below is needs = grind (arith, nat_tests, is-read, adopted-over, second-eager, first-typed)
 
     of-node : (mid : Core) (e : Error) → RefusesNode v w Owner.Caller reading e mid → C e
     of-node mid e r =
@@ -266,8 +247,7 @@ module _ {N B W E : Type 0} (m : Seen N B W) (s : MachineState N E) (trees : ℕ
         ]
 
     root-type : (root : Frame) → reading.frames ≡ root ∷ [] → root.node_type ≡ t
-    root-type root is =
-        last-type v.types w.stored trees load.key reading.node_type root (subst (λ fs. FramesFit v.types w.stored trees load.key reading.node_type fs) is is-read.fits) ∙ is-read.of_type
+    root-type root is = grind (arith, nat_tests, last-type, is-read)
 
     of-root : (mid : Core) (e : Error) → RefusesRoot v w Owner.Caller reading e mid → C e
     of-root mid e r = elim r.refuses [
@@ -289,14 +269,7 @@ module _ {N B W E : Type 0} (m : Seen N B W) (s : MachineState N E) (trees : ℕ
       where
         root-chance : (r : RefusesRoot v w Owner.Caller reading e mid) → if_there (λ (x : OpenLoad). root_fault w Owner.Caller (v.node_type r.x) x.root) None (w.loads reading.load.0) ≡ Some e
             → IsOfChance e
-        root-chance r is =
-            let there : w.loads reading.load.0 ≡ Some load = ap (λ (x : LoadNumber). w.loads x.0) is-read.number ∙ open_load in
-            let at_root : root_fault w Owner.Caller (v.node_type r.x) (of_cell node t paged.2) ≡ Some e =
-            ap (root_fault w Owner.Caller (v.node_type r.x)) (sym paged.3) ∙ (sym (ap (λ o. if_there (λ (x : OpenLoad). root_fault w Owner.Caller (v.node_type r.x) x.root) None o) there) ∙ is) in
-            elim (either (refused_if (not (v.node_type r.x == t)) Error.WrongKind) (where_so (is_owned_in w Owner.Caller paged.2.0) (spent w.last.handle)) e at_root) [
-              | inl a ↦ absurd (never (not (v.node_type r.x == t)) Error.WrongKind e (same-type (v.node_type r.x) t (r.reads_root.decoded.typed ∙ root-type r.reads_root.root r.reads_root.frames)) a)
-              | inr b ↦ where-chance (is_owned_in w Owner.Caller paged.2.0) w.last.handle e b
-            ]
+        root-chance r is = grind (arith, nat_tests, is-read, either, never, same-type, root-type, where-chance)
 
     of-end : (w' : Core) (e : Error) → EndsClosed v w Owner.Caller reading e w' → C e
     of-end w' e r =

@@ -77,10 +77,7 @@ module _ {I : Type 0} {plus : I → I → I} {end : I} (joins : Joins plus end) 
     uses_on i (Err e) u = tt
 
     pub and_then : Tame plus end whole
-    and_then = record {
-      goes = λ i x. rw (is, is) (goes_on x (get i) (get (plus i x)) (h.goes i x));
-      uses = λ i. let P : Result (B × I) Error → Type 0 = λ r. Uses plus end whole i r in subst P (sym (is i)) (uses_on i (get i) (h.uses i));
-    }
+    and_then = grind (arith, nat_tests, goes_on, uses_on)
 
 -- ---- bytes
 

@@ -40,14 +40,7 @@ lone-nothing n = refl
 
 lone-must : (stored : ℕ → Option Blob) (n : ℕ) → 0 < held n (row_of 2 first_node Mode.LooseUnpinned Owner.List ∷ [])
     → MustList (lone stored) (with_mode (lone stored) first Mode.LooseUnpinned) (lone_listed stored) n
-lone-must stored n some =
-    record {
-      pinned = grind (arith, nat_tests);
-      unpinned = grind (arith, nat_tests);
-      unkeyed = let e : n ≡ 1 = grind (arith, nat_tests) in ap (λ q. is_keyed (with_mode (lone stored) first Mode.LooseUnpinned) q) e;
-      unshared = grind (arith, nat_tests);
-      stands_open = refl;
-    }
+lone-must stored n some = grind (arith, nat_tests, first)
 
 lone-each : (stored : ℕ → Option Blob) (n : ℕ) → MustList (lone stored) (with_mode (lone stored) first Mode.LooseUnpinned) (lone_listed stored) n
     → held n (row_of 2 first_node Mode.LooseUnpinned Owner.List ∷ []) ≡ 1
@@ -86,8 +79,7 @@ fell stored =
     }
   where
     same-cells : (n : ℕ) (b : Bool) → (1 == n) ≡ b → (lone_listed stored).cells n ≡ (fallen (with_mode (lone stored) first Mode.LooseUnpinned) nobody came).cells n
-    same-cells n true is = let e : 1 ≡ n = grind (arith, nat_tests) in
-        subst (λ q. (lone_listed stored).cells q ≡ (fallen (with_mode (lone stored) first Mode.LooseUnpinned) nobody came).cells q) e refl
+    same-cells n true is = grind (arith, nat_tests, first, nobody)
     same-cells n false is = let a : (n == 1) ≡ false = grind (arith, nat_tests) in rw (a, is) refl
 
 lone-unpinned : (stored : ℕ → Option Blob) → UnpinCall (lone stored) Owner.Caller first (Ok tt) (lone_listed stored)

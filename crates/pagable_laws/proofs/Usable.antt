@@ -41,15 +41,7 @@ module _ (kind key n : ℕ) where
       above-none 0 (pins n rows) (is_pin n h.row) (rw (e, p) refl) (at-most-sum (λ x. one (is_pin n x)) rows h.row h.live)
 
   pub can-use : (w : Core) → IsEntered w.cache w.cells → IsHeldFor w.rows → usable w kind key ≡ Some n
-  can-use w e h = at-node w e.entry ∙ cell (w.cells n) e.there
-    where
-      pick : (x : Cell) (b : Bool) → is_pinned_kind kind ≡ b → (if b && not (is_in_memory (pins n w.rows) x.key) then None else Some n) ≡ Some n
-      pick x true is = rw (pinned w.rows h is) refl
-      pick x false is = refl
-
-      cell : (c : Option Cell) → is_some c ≡ true → of_node w c ≡ Some n
-      cell None is = absurd (cc)
-      cell (Some x) is = pick x (is_pinned_kind kind) refl
+  can-use w e h = grind (arith, nat_tests, at-node, pins, pinned)
 
   pub entered-of : (w : Core) → usable w kind key ≡ Some n → IsEntered w.cache w.cells
   entered-of w is = grind (arith, nat_tests)
