@@ -1,4 +1,5 @@
 -- References that nothing is to be said against name handles of their owner, as they should. A handle that is given up doesn't bring a value back.
+use Rattle.std.proofs.Common.{rules}
 use Rattle.pagable_laws.proofs.Words.{◌≡◌, ℕ, zero, suc, ◌+◌, ◌≤◌, ◌==◌, ◌&&◌, ◌||◌, Bool, true, false, List, [], ◌∷◌, ◌++◌, cond, refl, ap, sym, subst, ◌∙◌, arith, Option, Some, None, not}
 use Rattle.pagable_laws.proofs.Words.{nat_lt, is_some, nat_tests, sum_by-cons, ArcRef, type_of, OptionalDataKey, is_in, or_else, if_there, one, Owner, HandleRow, Error, is_owner, fits_mode, pins}
 use Rattle.pagable_laws.proofs.Words.{is_pin, is_in_memory, has_key, Core, Cell, row_at, type_at, key_at, is_here, Alike, AreNewEntries, Falls, left_rows, refused_if, is_type, row_fault}
@@ -24,23 +25,7 @@ typed-by t (Some u) is = ap (λ (x : ℕ). Some x) (same-number u t is)
 
 module _ (w : Core) (owner : Owner) where
   good-one : (seen : List ℕ) (r : ArcRef) → reference_fault w owner seen r ≡ None → IsReference w owner r
-  good-one seen r none = by-row (row_at w r.handle) refl none
-    where
-      by-row : (found : Option HandleRow) → row_at w r.handle ≡ found
-          → if_there (λ (row : HandleRow). row_fault w r (refused_if (not (is_owner owner row.owner) || is_in seen r.handle.0) Error.NotYours) row) (Some Error.NoSuchHandle) found ≡ None
-          → IsReference w owner r
-      by-row None live none = absurd (cc)
-      by-row (Some row) live none = at (row.node.0 == r.node.0) refl (is_owner owner row.owner) refl (is_in seen r.handle.0) refl (fits_mode r.kind.0 row.mode) refl
-          (is_type (type_of r.kind.0) (type_at w r.node.0)) refl
-        where
-          at : (a : Bool) → (row.node.0 == r.node.0) ≡ a → (b : Bool) → is_owner owner row.owner ≡ b → (c : Bool) → is_in seen r.handle.0 ≡ c → (d : Bool)
-              → fits_mode r.kind.0 row.mode ≡ d → (e : Bool) → is_type (type_of r.kind.0) (type_at w r.node.0) ≡ e → IsReference w owner r
-          at false p b q c s d t e u = let f : Some Error.NoSuchHandle ≡ None = rw p at none in absurd (cc)
-          at true p false q c s d t e u = let f : Some Error.NotYours ≡ None = rw (p, q) at none in absurd (cc)
-          at true p true q true s d t e u = let f : Some Error.NotYours ≡ None = rw (p, q, s) at none in absurd (cc)
-          at true p true q false s false t e u = let f : Some Error.WrongMode ≡ None = rw (p, q, s, t) at none in absurd (cc)
-          at true p true q false s true t false u = let f : Some Error.WrongKind ≡ None = rw (p, q, s, t, u) at none in absurd (cc)
-          at true p true q false s true t true u = grind (arith, nat_tests, same-number, same-owner, typed-by)
+  good-one seen r none = search (rules, same-number, same-owner, typed-by)
 
   pub good : (seen : List ℕ) (references : List ArcRef) → references_fault w owner seen references ≡ None → AreGood w owner references
   unfolding references_fault

@@ -10,9 +10,6 @@ use Rattle.pagable_laws.proofs.Words.{failing_by, Follows, Leads, InOrder, OnceE
 abbrev from : ℕ → ℕ → Bool → ℕ
 from k p b = one (nat_le p k && b)
 
-stage-step : (k p : ℕ) (b : Bool) → one (k == p && b) + from k (p + 1) b ≤ from k p b
-stage-step k p _ = grind (arith, nat_tests)
-
 at-most : (x b : Bool) → one (x && b) ≤ one b
 at-most true b = omega arith
 at-most false true = omega arith
@@ -20,10 +17,6 @@ at-most false false = omega arith
 
 plus-none : (n : ℕ) → 0 + n ≡ n
 plus-none n = omega arith
-
-one-least : (b : Bool) → one b ≤ 1
-one-least true = omega arith
-one-least false = omega arith
 
 -- ---- what is to be done
 

@@ -100,8 +100,7 @@ module _ {A : Type 0} {kind_of : A → ℕ} {parts : ℕ → Shape} where
     one-form (reference-form left kind a q) (reference-form left2 kind2 a2 q2) r e = let same : a ≡ a2 = cc in (refl, ap (λ (x : A). x ∷ []) same)
     one-form (nested-form left less n m b k p h) (nested-form left2 less2 n2 m2 b2 k2 p2 h2) r e = one-form h (lowered p p2 h2) (part_of r) e
     one-form (json-null-form left) (json-null-form left2) r e = (refl, refl)
-    one-form (json-flag-form left b) (json-flag-form left2 b2) r e = let part : (let m : Meaning A = meanings.flag b in m) ≡ meanings.flag b2 = cc in
-        (ap (λ x. 1 ∷ bool_form x) (same-flag b b2 part), refl)
+    one-form (json-flag-form left b) (json-flag-form left2 b2) r e = grind (arith, nat_tests, same-flag)
     one-form (json-number-form left z h) (json-number-form left2 z2 h2) r e = let same : z ≡ z2 = cc in (rw same refl, refl)
     one-form (json-text-form left t u h) (json-text-form left2 t2 u2 h2) r e = let same : t ≡ t2 = cc in (rw same refl, refl)
     one-form (json-array-form left less ms b k p le h) (json-array-form left2 less2 ms2 b2 k2 p2 le2 h2) r e =

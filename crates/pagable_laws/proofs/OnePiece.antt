@@ -92,8 +92,7 @@ module _ {N B W E : Type 0} (m : Seen N B W) (s s' : MachineState N E) (whole : 
 
   nothing-ready : (l : LoadNumber) (load : OpenLoad) (frames : List Frame) → frames ≡ []
       → ((node : NodeNumber) (t : ℕ) (h : HandleNumber) → load.root ≡ of_cell node t h → (row : HandleRow) × (row_at w' h ≡ Some row) × (row.owner ≡ Owner.Caller)) → LoadReady w' l load frames
-  nothing-ready l load frames none begun =
-      record { begun = begun; live = λ frame r among got. absurd (let there = subst (λ fs. Among fs frame) none among in let e = there.1 in cc); once = once-none frames none }
+  nothing-ready l load frames none begun = grind (arith, nat_tests, once-none)
 
   -- what has just begun has read nothing
   begun-empty : (l : LoadNumber) (reading : Reading) (readings : ℕ → Option Reading) → ReadingsAre readings (world_of s') → ((r : Reading) → readings l.0 ≡ Some r → r.frames ≡ [])

@@ -16,10 +16,6 @@ use Rattle.pagable_laws.proofs.Sound.{Cause, by-chance, by-references, by-handle
 of-handles : (f e : Error) → IsOfHandles f → Some f ≡ Some e → IsOfHandles e
 of-handles f e is same = let g : f ≡ e = cc in subst IsOfHandles g is
 
-by-test : (b : Bool) (f e : Error) → IsOfHandles f → refused_if b f ≡ Some e → IsOfHandles e
-by-test true f e is same = of-handles f e is same
-by-test false f e is same = absurd (cc)
-
 by-row : (w : Core) (r : ArcRef) (b : Bool) (row : HandleRow) (e : Error) → row_fault w r (refused_if b Error.NotYours) row ≡ Some e → IsOfHandles e
 by-row w r b row e is = grind (arith, nat_tests)
 
