@@ -1,15 +1,12 @@
 -- A form is read again, whatever follows it.
-use Rattle.pagable_laws.proofs.Words.{◌≡◌, ℕ, List, [], ◌∷◌, ◌++◌, length, Ok, refl, ap, inl, inr, append_assoc, varint_at, bool_at, Meaning, Entry, text_order, Shape, Look, Gets, items, two}
-use Rattle.pagable_laws.proofs.Words.{LiesIn, subst, read_with, below, read, Form, Forms, Entries, unsigned-form, signed-form, flag-form, text-form, letter-form, duration-form, pattern-form}
-use Rattle.pagable_laws.proofs.Words.{some-form, err-form, ok-form, list-form, run-form, array-form, both-form, sorted-map-form, placed-map-form, hash-map-form, sorted-set-form}
-use Rattle.pagable_laws.proofs.Words.{placed-set-form, static-form, tagged-form, case-form, reference-form, nested-form, json-flag-form, json-number-form, json-text-form}
-use Rattle.pagable_laws.proofs.Words.{json-array-form, json-object-form, no-forms, more-forms, no-entries, more-entries, IsReadable, HasNoCase, Throughout, IsReadAgain, rest, LooksUp}
-use Rattle.pagable_laws.proofs.Words.{no-references, more-references}
-use Rattle.std.specs.Int.{w32, w64}
-use Rattle.pagable_laws.proofs.Wholes.{unsigned-again, signed-again}
-use Rattle.pagable_laws.proofs.Basic.{bool-again, length-again, text-again, char-again, duration-again}
-use Rattle.pagable_laws.proofs.Putting.{ascending-kept, ascending_items-kept, differing-kept, differing_items-kept}
+use Rattle.pagable_laws.proofs.Words.{◌≡◌, ℕ, List, [], ◌∷◌, ◌++◌, length, Ok, refl, ap, inl, inr, append_assoc, varint_at, bool_at, Meaning, Entry, text_order, Shape, Look, Gets, items, two, LiesIn}
+use Rattle.pagable_laws.proofs.Words.{subst, read_with, below, read, Form, Forms, Entries, unsigned-form, signed-form, flag-form, text-form, letter-form, duration-form, pattern-form, some-form}
+use Rattle.pagable_laws.proofs.Words.{err-form, ok-form, list-form, run-form, array-form, both-form, sorted-map-form, placed-map-form, hash-map-form, sorted-set-form, placed-set-form, static-form}
+use Rattle.pagable_laws.proofs.Words.{tagged-form, case-form, reference-form, nested-form, json-flag-form, json-number-form, json-text-form, json-array-form, json-object-form, no-forms, more-forms}
+use Rattle.pagable_laws.proofs.{Words.{no-entries, more-entries, IsReadable, HasNoCase, Throughout, IsReadAgain, rest, LooksUp, no-references, more-references}, Wholes.{unsigned-again, signed-again}}
+use Rattle.pagable_laws.proofs.{Basic.{bool-again, length-again, text-again, char-again, duration-again}, Putting.{ascending-kept, ascending_items-kept, differing-kept, differing_items-kept}}
 use Rattle.pagable_laws.proofs.Within.{here, narrowed, part_of, of_json, of_text}
+use Rattle.std.specs.Int.{w32, w64}
 
 -- nothing that is written has a shape without cases
 pub no_case-form : {A : Type 0} {kind_of : A → ℕ} {parts : ℕ → Shape} {left : ℕ} {s : Shape} {m : Meaning A} {b : List ℕ} {k : List A} → Form A kind_of parts left s m b k → HasNoCase s → ⊥

@@ -1,13 +1,9 @@
 -- A hash map means the same in whatever order its entries come.
-use Rattle.pagable_laws.proofs.Words.{◌≡◌, Bool, true, false, cond, List, [], ◌∷◌, map, Option, Some, None, refl, sym, ap, ◌∙◌, Ordering, T, bytes_eq-Decides, is_eq-slice_cmp, exact_bytes}
-use Rattle.pagable_laws.proofs.Words.{arith, Meaning, pair, variant, reference, followed, plain, rename, lifted, Entry, code, code_order, put_all, put_sorted}
-use Rattle.pagable_laws.proofs.Words.{last_value, one-meaning, of_entries, IsOneKeyMeaning, IsAnyOrder}
-use Rattle.std.specs.Option.{option_or}
-use Rattle.std.specs.declared.cmp.Ordering.{Ordering}
-use Rattle.std.specs.Ordering.{match_ordering, eq_by_cmp}
-use Rattle.std.specs.Cmp.{IsTotalOrder}
-use Rattle.std.specs.Cmp.Lexicographic.{on_texts}
-use Rattle.std.specs.FinMap.Entries.{by_order, put, find, is_sorted, is_sorted-put, find-put, same_entries}
+use Rattle.pagable_laws.proofs.Words.{◌≡◌, Bool, true, false, cond, List, [], ◌∷◌, map, Option, Some, None, refl, sym, ap, ◌∙◌, Ordering, T, bytes_eq-Decides, is_eq-slice_cmp, exact_bytes, arith}
+use Rattle.pagable_laws.proofs.Words.{Meaning, pair, variant, reference, followed, plain, rename, lifted, Entry, code, code_order, put_all, put_sorted, last_value, one-meaning, of_entries}
+use Rattle.pagable_laws.proofs.Words.{IsOneKeyMeaning, IsAnyOrder}
+use Rattle.std.specs.{Option.option_or, declared.cmp.Ordering.Ordering, Ordering.{match_ordering, eq_by_cmp}, Cmp.IsTotalOrder, Cmp.Lexicographic.on_texts, FinMap.Entries.{by_order, put, find}}
+use Rattle.std.specs.FinMap.Entries.{is_sorted, is_sorted-put, find-put, same_entries}
 
 plain_lifted : (A : Type 0) (m : Meaning ⊥) → plain (let x : Meaning A = lifted m in x) ≡ m
 unfolding plain rename

@@ -1,15 +1,9 @@
 -- What a load's step brings fits some trees afterwards: the value of a node that is born leads to the tree that its key reads as, and that of a root to its cell's.
-use Rattle.pagable_laws.proofs.Words.{arith, nat_tests}
-use Rattle.pagable_laws.proofs.Words.{◌≡◌, ℕ, zero, ◌+◌, ◌≤◌, List, [], ◌∷◌, Option, Some, None, inl, inr, refl, sym, ap, ◌∙◌, subst, OptionalDataKey, LoadAnswer, ArcRef, Kind, Tree, ReadsTree}
-use Rattle.pagable_laws.proofs.Words.{Among, updated, is_pinned_kind, OpenLoad, Reading, Frame, Values, IsLawful, first_key, ReadsRoot, Need, to_adopt, needs_lazy, PagerState, WellFormed}
-use Rattle.pagable_laws.proofs.Words.{Represents, ReadingBrings, IsCellOf, FramesFit, ReadingFits, HoldsSettled, ReadsItsTypes, TakesWell, ValueLeads, FramesGiven, Change, CoreGoes, nothing_felt}
-use Rattle.pagable_laws.proofs.Words.{ReadingFeels, gets-lazy, makes-node, ChangeFits}
-use Rattle.pagable_laws.proofs.Trees.{same_some, one_tree}
-use Rattle.pagable_laws.proofs.Following.{held-of}
-use Rattle.pagable_laws.proofs.Fitting.{tree-stays, first-fits}
-use Rattle.pagable_laws.proofs.Decoding.{decodes}
-use Rattle.pagable_laws.proofs.Taking.{root-key, node-decoded}
-use Rattle.pagable_laws.proofs.Felt.{with-below, first-of, value-on, value-born, live-after, fits-nothing, fits-born-known}
+use Rattle.pagable_laws.proofs.Words.{arith, nat_tests, ◌≡◌, ℕ, zero, ◌+◌, ◌≤◌, List, [], ◌∷◌, Option, Some, None, inl, inr, refl, sym, ap, ◌∙◌, subst, OptionalDataKey, LoadAnswer, ArcRef, Kind}
+use Rattle.pagable_laws.proofs.Words.{Tree, ReadsTree, Among, updated, is_pinned_kind, OpenLoad, Reading, Frame, Values, IsLawful, first_key, ReadsRoot, Need, to_adopt, needs_lazy, PagerState}
+use Rattle.pagable_laws.proofs.Words.{WellFormed, Represents, ReadingBrings, IsCellOf, FramesFit, ReadingFits, HoldsSettled, ReadsItsTypes, TakesWell, ValueLeads, FramesGiven, Change, CoreGoes}
+use Rattle.pagable_laws.proofs.{Words.{nothing_felt, ReadingFeels, gets-lazy, makes-node, ChangeFits}, Trees.{same_some, one_tree}, Following.held-of, Fitting.{tree-stays, first-fits}}
+use Rattle.pagable_laws.proofs.{Decoding.decodes, Taking.{root-key, node-decoded}, Felt.{with-below, first-of, value-on, value-born, live-after, fits-nothing, fits-born-known}}
 
 -- a need is one
 two-needs : {A : Type 0} (kind : Kind) (key : ℕ) (need : Need) → need ≡ to_adopt → need ≡ needs_lazy kind key → A

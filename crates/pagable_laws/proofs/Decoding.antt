@@ -1,19 +1,15 @@
 -- A value that was read of a blob leads to what the blob's key reads as: reading the blob with the references that were got runs along the reading of
 -- its bare keys, and each of these reads as the tree of the node that was got for it.
-use Rattle.pagable_laws.proofs.Words.{nat_tests}
-use Rattle.pagable_laws.proofs.Words.{◌≡◌, ℕ, zero, suc, ◌+◌, ◌≤◌, ◌==◌, ◌&&◌, Bool, true, false, List, [], ◌∷◌, ◌++◌, Option, Some, None, Result, Ok, Err, if◌then◌else◌, ◌⊎◌, inl, inr, refl}
-use Rattle.pagable_laws.proofs.Words.{sym, ap, ◌∙◌, subst, arith, sum_by, slice_get, length, and_parts, Error, number, integer, text, pattern, none, pair, variant, reference, followed}
+use Rattle.pagable_laws.proofs.Words.{nat_tests, ◌≡◌, ℕ, zero, suc, ◌+◌, ◌≤◌, ◌==◌, ◌&&◌, Bool, true, false, List, [], ◌∷◌, ◌++◌, Option, Some, None, Result, Ok, Err, if◌then◌else◌, ◌⊎◌, inl, inr}
+use Rattle.pagable_laws.proofs.Words.{refl, sym, ap, ◌∙◌, subst, arith, sum_by, slice_get, length, and_parts, Error, number, integer, text, pattern, none, pair, variant, reference, followed}
 use Rattle.pagable_laws.proofs.Words.{references_in, SameReferences, Rest, read_typed, Answer, answer_at, handles_at, KeyRef, key_ref, ReadsAs, blob_context, rest_of, IsFollowed, number-followed}
-use Rattle.pagable_laws.proofs.Words.{integer-followed, text-followed, pattern-followed, none-followed, pair-followed, variant-followed, reference-followed, ArcRef, Kind, Blob, Shape, Types}
-use Rattle.pagable_laws.proofs.Words.{Tree, ReadsTree, tree, type_of, Meaning, Among, one, Frame, Values, IsLawful, answer_of, answers_from, reads, asks, next_by, next_in, IsDecoded, PagerState}
-use Rattle.pagable_laws.proofs.Words.{NodeStands, ValueStands, MeaningStands, number-stands, integer-stands, text-stands, pattern-stands, none-stands, pair-stands, variant-stands}
-use Rattle.pagable_laws.proofs.Words.{followed-stands, reference-stands, ReadsNodeTree, FrameFits, ReadsItsTypes, LeadsTo, number-leads, integer-leads, text-leads, pattern-leads, none-leads}
-use Rattle.pagable_laws.proofs.Words.{pair-leads, variant-leads, followed-leads, reference-leads, Decoded}
-use Rattle.pagable_laws.proofs.Along.{Along, number-along, integer-along, text-along, pattern-along, none-along, pair-along, variant-along, reference-along, followed-along, AllTwo, no-two}
-use Rattle.pagable_laws.proofs.Along.{more-two}
-use Rattle.pagable_laws.proofs.Related.{Out, both-given, both-refused, first-refused, OutLook, both-looked-up, first-not, read_par}
-use Rattle.pagable_laws.proofs.Trees.{tree_is, one_tree}
-use Rattle.pagable_laws.proofs.Sums.{same-number, one-true, self-number, at-most-sum, counted}
+use Rattle.pagable_laws.proofs.Words.{integer-followed, text-followed, pattern-followed, none-followed, pair-followed, variant-followed, reference-followed, ArcRef, Kind, Blob, Shape, Types, Tree}
+use Rattle.pagable_laws.proofs.Words.{ReadsTree, tree, type_of, Meaning, Among, one, Frame, Values, IsLawful, answer_of, answers_from, reads, asks, next_by, next_in, IsDecoded, PagerState}
+use Rattle.pagable_laws.proofs.Words.{NodeStands, ValueStands, MeaningStands, number-stands, integer-stands, text-stands, pattern-stands, none-stands, pair-stands, variant-stands, followed-stands}
+use Rattle.pagable_laws.proofs.Words.{reference-stands, ReadsNodeTree, FrameFits, ReadsItsTypes, LeadsTo, number-leads, integer-leads, text-leads, pattern-leads, none-leads, pair-leads}
+use Rattle.pagable_laws.proofs.{Words.{variant-leads, followed-leads, reference-leads, Decoded}, Along.{Along, number-along, integer-along, text-along, pattern-along, none-along, pair-along}}
+use Rattle.pagable_laws.proofs.{Along.{variant-along, reference-along, followed-along, AllTwo, no-two, more-two}, Related.{Out, both-given, both-refused, first-refused, OutLook, both-looked-up}}
+use Rattle.pagable_laws.proofs.{Related.{first-not, read_par}, Trees.{tree_is, one_tree}, Sums.{same-number, one-true, self-number, at-most-sum, counted}}
 
 -- any cause: what comes of a refusal isn't asked
 abbrev any_cause : Error → Type 0

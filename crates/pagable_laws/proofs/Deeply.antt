@@ -1,20 +1,10 @@
 -- No key is answered of what leads down too long a path, or to a value that has no form; and why a claim is too deep.
-use Rattle.pagable_laws.proofs.Words.{nat_tests}
-use Rattle.pagable_laws.proofs.Words.{◌≡◌, ℕ, ◌⊎◌, inl, inr, List, [], ◌∷◌, Some, Ok, Err, sym, subst, ap, ◌∙◌, Identity, Tree, WorkerAnswer, Event, EventReply, Error, Took, Shelf, Todo}
+use Rattle.pagable_laws.proofs.Words.{nat_tests, ◌≡◌, ℕ, ◌⊎◌, inl, inr, List, [], ◌∷◌, Some, Ok, Err, sym, subst, ap, ◌∙◌, Identity, Tree, WorkerAnswer, Event, EventReply, Error, Took, Shelf, Todo}
 use Rattle.pagable_laws.proofs.Words.{to_start, Walking, Seen, IsLawful, Site, Does, Happens, IsMetFailure, MachineState, world_of, IsMachineWhole, IsIdle, StandsFor, ReadsItsTypes, HoldsSettled}
-use Rattle.pagable_laws.proofs.Words.{Moment, AreMoments, Fact, TreesAlong, IsTooDeepTask, IsFormlessTask, KeyIsShallow, ShallowLaw, MetDepthAlone, DepthIsTold, ToldDepthLaw, WaitsForAsker}
-use Rattle.pagable_laws.proofs.Words.{arith, ClaimIsDeep, DeepClaimLaw, ground_of, Walks, WorkFits}
-use Rattle.pagable_laws.proofs.Trees.{same_some}
-use Rattle.pagable_laws.proofs.Coming.{StandsIn, event-turns, updated-at}
-use Rattle.pagable_laws.proofs.Answering.{answered}
-use Rattle.pagable_laws.proofs.Arriving.{headline_law}
-use Rattle.pagable_laws.proofs.Chains.{IsGoingOn, idle-goes, goes}
-use Rattle.pagable_laws.proofs.Standing.{AllStand, Covers}
-use Rattle.pagable_laws.proofs.Heights.{TodoLow}
-use Rattle.pagable_laws.proofs.Climbing.{claim-deep}
-use Rattle.pagable_laws.proofs.Formed.{task-has-forms}
-use Rattle.pagable_laws.proofs.HeightSteps.{HeightsIn, heights-at-first, heights-on}
-use Rattle.pagable_laws.proofs.Shallow.{task-not-deep, answered-low}
+use Rattle.pagable_laws.proofs.Words.{Moment, AreMoments, Fact, TreesAlong, IsTooDeepTask, IsFormlessTask, KeyIsShallow, ShallowLaw, MetDepthAlone, DepthIsTold, ToldDepthLaw, WaitsForAsker, arith}
+use Rattle.pagable_laws.proofs.{Words.{ClaimIsDeep, DeepClaimLaw, ground_of, Walks, WorkFits}, Trees.same_some, Coming.{StandsIn, event-turns, updated-at}, Answering.answered, Arriving.headline_law}
+use Rattle.pagable_laws.proofs.{Chains.{IsGoingOn, idle-goes, goes}, Standing.{AllStand, Covers}, Heights.TodoLow, Climbing.claim-deep, Formed.task-has-forms, HeightSteps.HeightsIn}
+use Rattle.pagable_laws.proofs.{HeightSteps.{heights-at-first, heights-on}, Shallow.{task-not-deep, answered-low}}
 
 module _ {N B W E : Type 0} (m : Seen N B W) (s s' : MachineState N E) (trees trees' : ℕ → Tree) (fit : WorkFits m.values s trees) (low : HeightsIn (world_of s)) where
   key-is-shallow : (event : Event N B W) (reply : EventReply N B W) → Happens m (world_of s) event reply (world_of s') → KeyIsShallow m.values s trees event reply s' trees'

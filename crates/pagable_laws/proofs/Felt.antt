@@ -1,14 +1,10 @@
 -- What each sort of step brings fits trees: which trees the nodes have afterwards, and that values, keys and what becomes known fit them.
-use Rattle.pagable_laws.proofs.Words.{◌≡◌, ℕ, ◌+◌, ◌≤◌, ◌==◌, ◌&&◌, Bool, true, false, Some, None, ◌⊎◌, inl, inr, refl, sym, ap, ◌∙◌, subst, arith, if◌then◌else◌, is_some, nat_tests}
-use Rattle.pagable_laws.proofs.Words.{OptionalDataKey, Owner, HandleRow, Call, Reply, ArcRef, Tree, tree, ReadsTree, type_of, Among, updated, is_pinned_kind, any_mode, is_loose, Values, IsLawful}
-use Rattle.pagable_laws.proofs.Words.{is_here, Owns, first_key, PagerState, WellFormed, Represents, ReadsNodeTree, SameTrees, CallBrings, IsNewNode, IsCellOf, ValueStands, HoldsSettled, AsksWell}
-use Rattle.pagable_laws.proofs.Words.{ReadsAsType, ReadsAsValue, ValueLeads, Change, nothing_felt, sets_key, knows_node, bears_node, bears_known, CoreGoes, StaysAway, AreGood, CallFeels}
-use Rattle.pagable_laws.proofs.Words.{feels-nothing, feels-birth, feels-away, feels-key, feels-known, feels-adopted, feels-lazy, feels-end, ChangeFits}
-use Rattle.pagable_laws.proofs.Trees.{same_some}
-use Rattle.pagable_laws.proofs.Following.{given-of, cell-of}
-use Rattle.pagable_laws.proofs.Fitting.{tree-stays}
-use Rattle.pagable_laws.proofs.Leading.{leads-on, led, own-refs, value-leads}
-use Rattle.pagable_laws.proofs.TreesGoing.{either-side}
+use Rattle.pagable_laws.proofs.Words.{◌≡◌, ℕ, ◌+◌, ◌≤◌, ◌==◌, ◌&&◌, Bool, true, false, Some, None, ◌⊎◌, inl, inr, refl, sym, ap, ◌∙◌, subst, arith, if◌then◌else◌, is_some, nat_tests, OptionalDataKey}
+use Rattle.pagable_laws.proofs.Words.{Owner, HandleRow, Call, Reply, ArcRef, Tree, tree, ReadsTree, type_of, Among, updated, is_pinned_kind, any_mode, is_loose, Values, IsLawful, is_here, Owns}
+use Rattle.pagable_laws.proofs.Words.{first_key, PagerState, WellFormed, Represents, ReadsNodeTree, SameTrees, CallBrings, IsNewNode, IsCellOf, ValueStands, HoldsSettled, AsksWell, ReadsAsType}
+use Rattle.pagable_laws.proofs.Words.{ReadsAsValue, ValueLeads, Change, nothing_felt, sets_key, knows_node, bears_node, bears_known, CoreGoes, StaysAway, AreGood, CallFeels, feels-nothing}
+use Rattle.pagable_laws.proofs.{Words.{feels-birth, feels-away, feels-key, feels-known, feels-adopted, feels-lazy, feels-end, ChangeFits}, Trees.same_some, Following.{given-of, cell-of}}
+use Rattle.pagable_laws.proofs.{Fitting.tree-stays, Leading.{leads-on, led, own-refs, value-leads}, TreesGoing.either-side}
 
 -- ---- trees with one more
 

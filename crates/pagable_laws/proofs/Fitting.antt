@@ -1,11 +1,9 @@
 -- What a load reads goes on fitting, whatever it gets.
-use Rattle.pagable_laws.proofs.Words.{nat_tests}
-use Rattle.pagable_laws.proofs.Words.{◌≡◌, ℕ, zero, suc, ◌+◌, ◌<◌, ◌≤◌, Bool, true, false, List, [], ◌∷◌, ◌++◌, Option, Some, if◌then◌else◌, ◌⊎◌, inl, inr, refl, sym, ap, ◌∙◌, subst, arith}
-use Rattle.pagable_laws.proofs.Words.{slice_get, length, KeyRef, ReadsAs, IsFollowed, number-followed, integer-followed, text-followed, pattern-followed, none-followed, pair-followed}
+use Rattle.pagable_laws.proofs.Words.{nat_tests, ◌≡◌, ℕ, zero, suc, ◌+◌, ◌<◌, ◌≤◌, Bool, true, false, List, [], ◌∷◌, ◌++◌, Option, Some, if◌then◌else◌, ◌⊎◌, inl, inr, refl, sym, ap, ◌∙◌, subst}
+use Rattle.pagable_laws.proofs.Words.{arith, slice_get, length, KeyRef, ReadsAs, IsFollowed, number-followed, integer-followed, text-followed, pattern-followed, none-followed, pair-followed}
 use Rattle.pagable_laws.proofs.Words.{variant-followed, reference-followed, HandleRow, ArcRef, Kind, Blob, Types, Tree, type_of, ReadsTree, Meaning, Among, is_eager, Frame, Next, reads, asks}
 use Rattle.pagable_laws.proofs.Words.{is_faulty, next_in, need_at, need_of, needs_nested, needs_lazy, root_frame, nested_frame, with_got, ReadsNodeTree, FrameFits, FramesFit, SameTrees, Needs}
-use Rattle.pagable_laws.proofs.Words.{KeepsStored, FramesGiven}
-use Rattle.pagable_laws.proofs.Decoding.{asks_next}
+use Rattle.pagable_laws.proofs.{Words.{KeepsStored, FramesGiven}, Decoding.asks_next}
 
 -- ---- what is asked
 

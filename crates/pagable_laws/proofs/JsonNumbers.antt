@@ -1,7 +1,6 @@
 -- JSON numbers that have no form.
 use Rattle.pagable_laws.proofs.Words.{◌≡◌, ℕ, ℤ, List, refl, subst, IsSigned, Meaning, Shape, json, Form, json-number-form, whole, float, of_json, FloatHasNoForm, WholeIsBounded}
-use Rattle.std.specs.Int.{w64}
-use Rattle.std.specs.Float.Ieee.{Float}
+use Rattle.std.specs.{Int.w64, Float.Ieee.Float}
 
 module _ {A : Type 0} {kind_of : A → ℕ} {parts : ℕ → Shape} where
   no-float : (x : Float) {left : ℕ} {m : Meaning A} {b : List ℕ} {k : List A} → Form A kind_of parts left json m b k → m ≡ of_json (float x) → ⊥

@@ -1,16 +1,15 @@
 -- Reading is local: what is read of a front is read of the whole, a fault stays, and what was used reads alone.
-use Rattle.pagable_laws.proofs.Words.{nat_tests, arith, ◌≡◌, ℕ, zero, suc, ◌-◌, Bool, true, false, List, [], ◌∷◌, ◌++◌, Some, None, Result, Ok, Err, inl, inr, refl, ap, ◌∙◌, subst, append_assoc, Error, ◌>>=◌}
-use Rattle.pagable_laws.proofs.Words.{Read, unsigned_at, signed_at, length_at, text_at, bool_at, char_at, duration_at, Meaning, number, integer, none, variant, sequence, entry, absent, present}
-use Rattle.pagable_laws.proofs.Words.{success, failure, lifted, text_order, put_all, put_sorted, put_placed, put_sorted_item, put_placed_item, of_entries, of_duration, of_tagged, of_hash_map}
-use Rattle.pagable_laws.proofs.Words.{Shape, nothing, unsigned, signed, flag, letter, duration, json, optional, outcome, list, run, array, both, sorted_map, placed_map, hash_map, sorted_set}
-use Rattle.pagable_laws.proofs.Words.{placed_set, static_value, tagged, cases, nested, Rest, Look, Gets, bytes_of, reference_at, seen, two, choose, items, counted, registered, Deeper, enter}
-use Rattle.pagable_laws.proofs.Words.{JsonCase, null_case, flag_case, number_case, text_case, array_case, object_case, json_case, json_part, read_with, below, deepest, Context, read, rest}
-use Rattle.pagable_laws.proofs.Words.{with_more, IsLocal, IsUsed, IsLasting}
+use Rattle.pagable_laws.proofs.Words.{nat_tests, arith, ◌≡◌, ℕ, zero, suc, ◌-◌, Bool, true, false, List, [], ◌∷◌, ◌++◌, Some, None, Result, Ok, Err, inl, inr, refl, ap, ◌∙◌, subst, append_assoc}
+use Rattle.pagable_laws.proofs.Words.{Error, ◌>>=◌, Read, unsigned_at, signed_at, length_at, text_at, bool_at, char_at, duration_at, Meaning, number, integer, none, variant, sequence, entry, absent}
+use Rattle.pagable_laws.proofs.Words.{present, success, failure, lifted, text_order, put_all, put_sorted, put_placed, put_sorted_item, put_placed_item, of_entries, of_duration, of_tagged}
+use Rattle.pagable_laws.proofs.Words.{of_hash_map, Shape, nothing, unsigned, signed, flag, letter, duration, json, optional, outcome, list, run, array, both, sorted_map, placed_map, hash_map}
+use Rattle.pagable_laws.proofs.Words.{sorted_set, placed_set, static_value, tagged, cases, nested, Rest, Look, Gets, bytes_of, reference_at, seen, two, choose, items, counted, registered, Deeper}
+use Rattle.pagable_laws.proofs.Words.{enter, JsonCase, null_case, flag_case, number_case, text_case, array_case, object_case, json_case, json_part, read_with, below, deepest, Context, read, rest}
+use Rattle.pagable_laws.proofs.{Words.{with_more, IsLocal, IsUsed, IsLasting}, Tame.{Goes, Uses, Tame, Joins, gives, refuses, and_then, more_bytes, TameBytes, unsigned_tame, signed_tame, bool_tame}}
+use Rattle.pagable_laws.proofs.Tame.{length_tame, text_tame, char_tame, duration_tame}
 use Rattle.std.specs.Int.{w32, w64}
 use Rattle.pagable_model.specs.Meaning as meanings
 use Rattle.pagable_model.specs.Shape as shapes
-use Rattle.pagable_laws.proofs.Tame.{Goes, Uses, Tame, Joins, gives, refuses, and_then, more_bytes, TameBytes, unsigned_tame, signed_tame, bool_tame, length_tame, text_tame, char_tame}
-use Rattle.pagable_laws.proofs.Tame.{duration_tame}
 
 module _ {A : Type 0} where
   abbrev pub more : Rest A → Rest A → Rest A

@@ -1,16 +1,12 @@
 -- A tree of canonical types has one key, a stored tree has the key that it stands under, and keys tell trees apart.
-use Rattle.pagable_laws.proofs.Words.{arith, nat_tests}
-use Rattle.std.proofs.Common.{rules}
-use Rattle.pagable_laws.proofs.Words.{◌≡◌, ℕ, List, [], ◌∷◌, map, Option, Ok, refl, sym, ap, ◌∙◌, subst, append-nil, Meaning, number, integer, text, pattern, none, pair, variant, reference}
-use Rattle.pagable_laws.proofs.Words.{followed, Shape, read, read_typed, Blob, key_of, Tree, KeyRef, Types, tree, key_ref, type_of, ReadsAs, IsFollowed, number-followed, integer-followed}
+use Rattle.pagable_laws.proofs.Words.{arith, nat_tests, ◌≡◌, ℕ, List, [], ◌∷◌, map, Option, Ok, refl, sym, ap, ◌∙◌, subst, append-nil, Meaning, number, integer, text, pattern, none, pair, variant}
+use Rattle.pagable_laws.proofs.Words.{reference, followed, Shape, read, read_typed, Blob, key_of, Tree, KeyRef, Types, tree, key_ref, type_of, ReadsAs, IsFollowed, number-followed, integer-followed}
 use Rattle.pagable_laws.proofs.Words.{text-followed, pattern-followed, none-followed, pair-followed, variant-followed, reference-followed, blob_context, rest_of, Kid, kind_of_kid, tree_of_kid}
-use Rattle.pagable_laws.proofs.Words.{unfolded, TreeForm, blob_of, KeyOf, key-of, KeysOf, no-keys, more-keys, kind_of_ref, key_of_ref, StoredAs, HasOwnKeys, SharesNoKey, EachType}
-use Rattle.pagable_laws.proofs.Words.{IsCanonicalType, IsCanonicalTree, IsReadableType, rest, LooksUp, no-references, more-references, IsOneKey, IsOneItemKey, IsStoredKey, IsTreeReadable}
-use Rattle.pagable_laws.proofs.Words.{IsKeyOfOneTree}
-use Rattle.pagable_laws.proofs.Again.{form-again}
-use Rattle.pagable_laws.proofs.OneForm.{one-form}
-use Rattle.pagable_laws.proofs.Along.{Along, number-along, integer-along, text-along, pattern-along, none-along, pair-along, variant-along, reference-along, AllTwo, no-two, more-two, form-along}
-use Rattle.pagable_laws.proofs.Trees.{same_some, same_result, tree_is}
+use Rattle.pagable_laws.proofs.Words.{unfolded, TreeForm, blob_of, KeyOf, key-of, KeysOf, no-keys, more-keys, kind_of_ref, key_of_ref, StoredAs, HasOwnKeys, SharesNoKey, EachType, IsCanonicalType}
+use Rattle.pagable_laws.proofs.Words.{IsCanonicalTree, IsReadableType, rest, LooksUp, no-references, more-references, IsOneKey, IsOneItemKey, IsStoredKey, IsTreeReadable, IsKeyOfOneTree}
+use Rattle.pagable_laws.proofs.{Again.form-again, OneForm.one-form, Along.{Along, number-along, integer-along, text-along, pattern-along, none-along, pair-along, variant-along, reference-along}}
+use Rattle.pagable_laws.proofs.{Along.{AllTwo, no-two, more-two, form-along}, Trees.{same_some, same_result, tree_is}}
+use Rattle.std.proofs.Common.{rules}
 
 -- ---- what a tree's references are
 

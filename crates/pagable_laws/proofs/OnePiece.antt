@@ -1,30 +1,14 @@
 -- Where each load is done in one piece, one of a cell whose key a page-out set is refused by chance alone.
-use Rattle.pagable_laws.proofs.Words.{nat_tests}
-use Rattle.pagable_laws.proofs.Words.{◌≡◌, ℕ, zero, suc, ◌+◌, ◌<◌, ◌≤◌, ◌==◌, Bool, true, false, List, [], ◌∷◌, Option, Some, None, Ok, Err, ◌⊎◌, inl, inr, refl, sym, ap, subst}
-use Rattle.pagable_laws.proofs.Words.{◌∙◌, arith, slice_get, is_some, Error, HandleRow, Owner, Mode, Beginning, Call, Reply, LoadAnswer, LoadReply, Event, EventReply, ArcRef, HandleNumber}
-use Rattle.pagable_laws.proofs.Words.{LoadNumber, NodeNumber, Tree, Among, if_there, is_in, times, updated, any_mode, held, find_row, Core, OpenLoad, of_cell, Frame, Reading}
-use Rattle.pagable_laws.proofs.Words.{Seen, IsLawful, row_at, IsReference, references_fault, handle_fault, BeginCall, BeginKeyCall, IsDecoded, gone_on, fresh, ReadingsAre, reading_at}
-use Rattle.pagable_laws.proofs.Words.{reading_after, LoadSteps, Stays, Happens, MachineState, world_of, IsMachineWhole, of_caller, FrameFits, FramesFit, ReadsItsTypes, Moment, AreMoments}
-use Rattle.pagable_laws.proofs.Words.{TreesAlong, Turn, of_load, of_nobody, turn_of, StandTogether, IsOfChance, IsLoadOfPagedOut, LoadIsSound, IsBeginOf, HasBegun, SoundLaw, FramesHeld}
-use Rattle.pagable_world.specs.Loads.{Does}
-use Rattle.pagable_world.specs.OneWorker.{of_worker}
-use Rattle.pagable_laws.proofs.Trees.{same_some}
-use Rattle.pagable_laws.proofs.Sums.{self-number, same-number}
-use Rattle.pagable_laws.proofs.Coming.{event-turns, updated-at}
-use Rattle.pagable_laws.proofs.Chains.{IsGoingOn, idle-goes, goes}
-use Rattle.pagable_laws.proofs.Taking.{row-held}
-use Rattle.pagable_laws.proofs.Fitting.{first-fits}
-use Rattle.pagable_laws.proofs.Decoding.{decodes}
-use Rattle.pagable_laws.proofs.Outlasting.{stands-whole, stands-alike}
-use Rattle.pagable_laws.proofs.ReadingStepsMachine.{reading-stands}
-use Rattle.pagable_laws.proofs.ReadingStepsGive.{got-typed}
-use Rattle.pagable_laws.proofs.HeightSteps.{HeightsIn, heights-at-first, heights-on}
-use Rattle.pagable_laws.proofs.Sound.{by-chance, by-references, by-handle}
-use Rattle.pagable_laws.proofs.Known.{IsForm}
-use Rattle.pagable_laws.proofs.Soundly.{load-cause}
-use Rattle.pagable_laws.proofs.Apart.{fine, reads-once}
-use Rattle.pagable_laws.proofs.LoadsLive.{times_got, LoadReady, once-none, apart-once, got-cons, with-one}
-use Rattle.pagable_laws.proofs.LoadsReady.{goes-ready}
+use Rattle.pagable_laws.proofs.Words.{nat_tests, ◌≡◌, ℕ, zero, suc, ◌+◌, ◌<◌, ◌≤◌, ◌==◌, Bool, true, false, List, [], ◌∷◌, Option, Some, None, Ok, Err, ◌⊎◌, inl, inr, refl, sym, ap, subst, ◌∙◌}
+use Rattle.pagable_laws.proofs.Words.{arith, slice_get, is_some, Error, HandleRow, Owner, Mode, Beginning, Call, Reply, LoadAnswer, LoadReply, Event, EventReply, ArcRef, HandleNumber, LoadNumber}
+use Rattle.pagable_laws.proofs.Words.{NodeNumber, Tree, Among, if_there, is_in, times, updated, any_mode, held, find_row, Core, OpenLoad, of_cell, Frame, Reading, Seen, IsLawful, row_at, IsReference}
+use Rattle.pagable_laws.proofs.Words.{references_fault, handle_fault, BeginCall, BeginKeyCall, IsDecoded, gone_on, fresh, ReadingsAre, reading_at, reading_after, LoadSteps, Stays, Happens}
+use Rattle.pagable_laws.proofs.Words.{MachineState, world_of, IsMachineWhole, of_caller, FrameFits, FramesFit, ReadsItsTypes, Moment, AreMoments, TreesAlong, Turn, of_load, of_nobody, turn_of}
+use Rattle.pagable_laws.proofs.{Words.{StandTogether, IsOfChance, IsLoadOfPagedOut, LoadIsSound, IsBeginOf, HasBegun, SoundLaw, FramesHeld}, Trees.same_some, Sums.{self-number, same-number}}
+use Rattle.pagable_laws.proofs.{Coming.{event-turns, updated-at}, Chains.{IsGoingOn, idle-goes, goes}, Taking.row-held, Fitting.first-fits, Decoding.decodes, Outlasting.{stands-whole, stands-alike}}
+use Rattle.pagable_laws.proofs.{ReadingStepsMachine.reading-stands, ReadingStepsGive.got-typed, HeightSteps.{HeightsIn, heights-at-first, heights-on}, Sound.{by-chance, by-references, by-handle}}
+use Rattle.pagable_laws.proofs.{Known.IsForm, Soundly.load-cause, Apart.{fine, reads-once}, LoadsLive.{times_got, LoadReady, once-none, apart-once, got-cons, with-one}, LoadsReady.goes-ready}
+use Rattle.pagable_world.specs.{Loads.Does, OneWorker.of_worker}
 
 -- ---- whose turn it is
 

@@ -1,8 +1,7 @@
 -- Different blobs have different preimages.
 use Rattle.pagable_laws.proofs.Words.{◌≡◌, ℕ, zero, suc, ◌+◌, ◌*◌, ◌/◌, ◌%◌, ◌^◌, ◌<◌, ◌≤◌, List, [], ◌∷◌, length, refl, sym, ap, ◌∙◌, arith, add-mul, add_assoc, div-add-mod', div-div-eq-div-mul}
 use Rattle.pagable_laws.proofs.Words.{div-one, mod-eq_of_lt, mod-lt, mul-add-mod_self_right, mul-le-mul_right, mul_assoc, one-le-pow, pow-suc, length-append, Blob, preimage, cut, HasOnePreimage}
-use Rattle.std.specs.Int.{byte_at, bytes_low_first, to_le_bytes, w64, w128}
-use Rattle.std.specs.List.{flat_map, AllByRecursion}
+use Rattle.std.specs.{Int.{byte_at, bytes_low_first, to_le_bytes, w64, w128}, List.{flat_map, AllByRecursion}}
 
 -- the two low digits of n, to the bases c and then m
 mod-split : (n : ℕ) {m c : ℕ} → zero < m → zero < c → n % (m * c) ≡ (n / c % m) * c + n % c

@@ -1,21 +1,15 @@
 -- Reading does the same whatever stands for references: two readers over related inputs give related meanings.
-use Rattle.pagable_laws.proofs.Words.{arith, nat_tests}
-use Rattle.std.proofs.lemmas.Grind.{common_steps}
-use Rattle.std.proofs.Common.{rules}
-use Rattle.pagable_laws.proofs.Words.{◌≡◌, ℕ, zero, suc, ◌-◌, Bool, true, false, List, [], ◌∷◌, Some, None, Result, Ok, Err, ◌⊎◌, inl, inr, refl, subst, Error, ◌>>=◌}
-use Rattle.pagable_laws.proofs.Words.{Read, unsigned_at, signed_at, length_at, text_at, bool_at, char_at, duration_at, Meaning, integer, none, variant, sequence, entry, absent, present}
-use Rattle.pagable_laws.proofs.Words.{success, failure, lifted, Entry, KeyOrder, code_order, text_order, put_all, put_sorted, put_placed, put_sorted_item, put_placed_item}
-use Rattle.pagable_laws.proofs.Words.{of_entries, of_tagged, of_hash_map, Shape, nothing, unsigned, signed, flag, letter, duration, json, optional, outcome, list, run, array, both, sorted_map}
-use Rattle.pagable_laws.proofs.Words.{placed_map, hash_map, sorted_set, placed_set, static_value, tagged, cases, nested, Rest, Look, Gets, bytes_of, reference_at, seen, two, choose, items}
-use Rattle.pagable_laws.proofs.Words.{counted, registered, Deeper, enter, JsonCase, null_case, flag_case, number_case, text_case, array_case, object_case, json_case, json_part, read_with, below}
-use Rattle.pagable_laws.proofs.Words.{LiesIn, deepest, read, IsReadable, HasNoReference, Throughout}
-use Rattle.std.specs.Int.{w32, w64}
-use Rattle.std.specs.List.{AllByRecursion}
+use Rattle.pagable_laws.proofs.Words.{arith, nat_tests, ◌≡◌, ℕ, zero, suc, ◌-◌, Bool, true, false, List, [], ◌∷◌, Some, None, Result, Ok, Err, ◌⊎◌, inl, inr, refl, subst, Error, ◌>>=◌, Read}
+use Rattle.pagable_laws.proofs.Words.{unsigned_at, signed_at, length_at, text_at, bool_at, char_at, duration_at, Meaning, integer, none, variant, sequence, entry, absent, present, success, failure}
+use Rattle.pagable_laws.proofs.Words.{lifted, Entry, KeyOrder, code_order, text_order, put_all, put_sorted, put_placed, put_sorted_item, put_placed_item, of_entries, of_tagged, of_hash_map, Shape}
+use Rattle.pagable_laws.proofs.Words.{nothing, unsigned, signed, flag, letter, duration, json, optional, outcome, list, run, array, both, sorted_map, placed_map, hash_map, sorted_set, placed_set}
+use Rattle.pagable_laws.proofs.Words.{static_value, tagged, cases, nested, Rest, Look, Gets, bytes_of, reference_at, seen, two, choose, items, counted, registered, Deeper, enter, JsonCase, null_case}
+use Rattle.pagable_laws.proofs.Words.{flag_case, number_case, text_case, array_case, object_case, json_case, json_part, read_with, below, LiesIn, deepest, read, IsReadable, HasNoReference}
+use Rattle.pagable_laws.proofs.{Words.Throughout, Along.{Along, number-along, integer-along, text-along, pattern-along, none-along, pair-along, variant-along, reference-along, lifted-along}}
+use Rattle.pagable_laws.proofs.{Along.{plain-along, AllTwo, no-two, more-two, EntryAlong}, Within.{Under, here, narrowed, part_of, of_json, of_text}}
+use Rattle.std.{proofs.lemmas.Grind.common_steps, proofs.Common.rules, specs.Int.{w32, w64}, specs.List.AllByRecursion}
 use Rattle.pagable_model.specs.Meaning as meanings
 use Rattle.pagable_model.specs.Shape as shapes
-use Rattle.pagable_laws.proofs.Along.{Along, number-along, integer-along, text-along, pattern-along, none-along, pair-along, variant-along, reference-along, lifted-along, plain-along, AllTwo}
-use Rattle.pagable_laws.proofs.Along.{no-two, more-two, EntryAlong}
-use Rattle.pagable_laws.proofs.Within.{Under, here, narrowed, part_of, of_json, of_text}
 
 -- ---- what is put into maps and sets
 

@@ -1,12 +1,8 @@
 -- Where heights are low, no path from a tree whose key is known is too long.
-use Rattle.pagable_laws.proofs.Words.{nat_tests}
-use Rattle.pagable_laws.proofs.Words.{◌≡◌, ℕ, ◌<◌, ◌≤◌, List, [], ◌∷◌, refl, sym, subst, ◌∙◌, arith, max, Some, Ok, Err}
-use Rattle.pagable_laws.proofs.Words.{pair, variant, reference, followed, longest_path, above, height, deepest_path, ArcRef, Identity, Meaning, Tree, Took, WorkerAnswer}
-use Rattle.pagable_laws.proofs.Words.{identity_of, Shelf, Todo, to_item, to_release, to_fail, Task, of_item, of_entry, Values, Seen, Site, Does, IsPublished}
-use Rattle.pagable_laws.proofs.Words.{answer_after, MachineState, world_of, IsLongBelow, IsTooDeepTask, Ground, FollowsTo, pair-follows, variant-follows, reference-follows, Waits, Walks}
-use Rattle.pagable_laws.proofs.Words.{WorkFits}
-use Rattle.pagable_laws.proofs.Heights.{IsLow, AllLow, WaitsLow, TodoLow, all-low}
-use Rattle.pagable_laws.proofs.HeightSteps.{HeightsIn}
+use Rattle.pagable_laws.proofs.Words.{nat_tests, ◌≡◌, ℕ, ◌<◌, ◌≤◌, List, [], ◌∷◌, refl, sym, subst, ◌∙◌, arith, max, Some, Ok, Err, pair, variant, reference, followed, longest_path, above, height}
+use Rattle.pagable_laws.proofs.Words.{deepest_path, ArcRef, Identity, Meaning, Tree, Took, WorkerAnswer, identity_of, Shelf, Todo, to_item, to_release, to_fail, Task, of_item, of_entry, Values, Seen}
+use Rattle.pagable_laws.proofs.Words.{Site, Does, IsPublished, answer_after, MachineState, world_of, IsLongBelow, IsTooDeepTask, Ground, FollowsTo, pair-follows, variant-follows, reference-follows}
+use Rattle.pagable_laws.proofs.{Words.{Waits, Walks, WorkFits}, Heights.{IsLow, AllLow, WaitsLow, TodoLow, all-low}, HeightSteps.HeightsIn}
 
 -- the height of the meaning is within this, and no path in it is too long
 record IsShallow (limit : ℕ) (m : Meaning ⊥) : Type 0 where

@@ -1,21 +1,13 @@
 -- Why a load is refused whose key a page-out has published: by chance, or by a handle.
-use Rattle.pagable_laws.proofs.Words.{nat_tests}
+use Rattle.pagable_laws.proofs.Words.{nat_tests, ◌≡◌, ℕ, ◌≤◌, ◌==◌, Bool, true, false, List, [], ◌∷◌, length, ◌⊎◌, inl, inr, Option, Some, None, Err, refl, sym, ap, subst, ◌∙◌, arith, Result, not}
+use Rattle.pagable_laws.proofs.Words.{nat_le, is_own_reading, RefusesFetch, Error, Want, Owner, Kind, HandleNumber, LoadNumber, NodeNumber, Blob, Tree, Types, type_of, is_eager, is_loose_kind}
+use Rattle.pagable_laws.proofs.Words.{longest_path, if_there, any_mode, Core, OpenLoad, of_cell, Frame, Reading, Seen, Values, IsLawful, earlier, where_so, refused_if, spent, handle_fault}
+use Rattle.pagable_laws.proofs.Words.{references_fault, load_fault, AreHandlesFull, Refused, FetchCall, birth_fault, AskCall, LazyCall, ask_fault, is_known, node_fault, root_fault, is_owned_in, Next}
+use Rattle.pagable_laws.proofs.Words.{reads, asks, is_faulty, need_of, needs_nested, needs_lazy, to_adopt, need_at, next_in, is_broken, IsDecoded, RefusesBlob, RefusesNested, RefusesNode}
+use Rattle.pagable_laws.proofs.Words.{RefusesRoot, IsOfKey, EndsClosed, Fails, fresh, reading_at, reading_of_load, MachineState, world_of, IsMachineWhole, StandsFor, FitsRoot, FramesFit, of_caller}
+use Rattle.pagable_laws.proofs.{Words.{ReadsItsTypes, IsOfChance, IsPagedOutAs, IsLoadOfPagedOut, WorkFits}, Trees.same_some, Sums.self-number, Taking.adopted-over, Fitting.first-typed}
+use Rattle.pagable_laws.proofs.{HeightSteps.HeightsIn, Asking.FramesAsked, Known.{IsForm, root-there, needed, not-broken, formed}, KnownSteps.{ReadingsAsked, eager-nested}}
 use Rattle.std.proofs.Common.{rules}
-use Rattle.pagable_laws.proofs.Words.{◌≡◌, ℕ, ◌≤◌, ◌==◌, Bool, true, false, List, [], ◌∷◌, length, ◌⊎◌, inl, inr, Option, Some, None, Err, refl, sym, ap, subst, ◌∙◌, arith, Result}
-use Rattle.pagable_laws.proofs.Words.{not, nat_le, is_own_reading, RefusesFetch, Error, Want, Owner, Kind, HandleNumber, LoadNumber, NodeNumber, Blob, Tree, Types, type_of, is_eager}
-use Rattle.pagable_laws.proofs.Words.{is_loose_kind, longest_path, if_there, any_mode, Core, OpenLoad, of_cell, Frame, Reading, Seen, Values, IsLawful, earlier, where_so, refused_if, spent}
-use Rattle.pagable_laws.proofs.Words.{handle_fault, references_fault, load_fault, AreHandlesFull, Refused, FetchCall, birth_fault, AskCall, LazyCall, ask_fault, is_known, node_fault}
-use Rattle.pagable_laws.proofs.Words.{root_fault, is_owned_in, Next, reads, asks, is_faulty, need_of, needs_nested, needs_lazy, to_adopt, need_at, next_in, is_broken, IsDecoded, RefusesBlob}
-use Rattle.pagable_laws.proofs.Words.{RefusesNested, RefusesNode, RefusesRoot, IsOfKey, EndsClosed, Fails, fresh, reading_at, reading_of_load, MachineState, world_of}
-use Rattle.pagable_laws.proofs.Words.{IsMachineWhole, StandsFor, FitsRoot, FramesFit, of_caller, ReadsItsTypes, IsOfChance, IsPagedOutAs, IsLoadOfPagedOut, WorkFits}
-use Rattle.pagable_laws.proofs.Trees.{same_some}
-use Rattle.pagable_laws.proofs.Sums.{self-number}
-use Rattle.pagable_laws.proofs.Taking.{adopted-over}
-use Rattle.pagable_laws.proofs.Fitting.{first-typed}
-use Rattle.pagable_laws.proofs.HeightSteps.{HeightsIn}
-use Rattle.pagable_laws.proofs.Asking.{FramesAsked}
-use Rattle.pagable_laws.proofs.Known.{IsForm, root-there, needed, not-broken, formed}
-use Rattle.pagable_laws.proofs.KnownSteps.{ReadingsAsked, eager-nested}
 
 -- ---- refusals
 

@@ -4,10 +4,8 @@ use Rattle.pagable_laws.proofs.Words.{and_parts, agree_below, agree_below_at, na
 use Rattle.pagable_laws.proofs.Words.{is_owned_by, owner_value, is_at, is_pin, is_share, held, pins, sharing, Core, OpenLoad, Root, of_cell, of_key, row_at, type_at, Alike, loses_value}
 use Rattle.pagable_laws.proofs.Words.{owned_outside, is_outside, is_keyed, IsLeast, MustList, Falls, fallen, IsHandleBefore, length, ◌∙◌, inl, slice_get, Option, Some, ArcRef, type_of}
 use Rattle.pagable_laws.proofs.Words.{is_shared_kind, is_handle, fits_mode, is_here, is_type, IsReference, WellFormed, MayOwnLoad, IsRootWhole, no_work, Sample, sample, sample_type}
-use Rattle.pagable_laws.proofs.Words.{sample_references, value_at, machine}
+use Rattle.pagable_laws.proofs.{Words.{sample_references, value_at, machine}, Sums.sum-zero, GoodReferences.typed-by}
 use Rattle.std.specs.List.{AllPairs}
-use Rattle.pagable_laws.proofs.Sums.{sum-zero}
-use Rattle.pagable_laws.proofs.GoodReferences.{typed-by}
 
 -- ---- lists and numbers
 

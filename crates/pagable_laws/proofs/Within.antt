@@ -1,7 +1,6 @@
 -- From what holds throughout a shape to what holds throughout the shapes in it.
-use Rattle.pagable_laws.proofs.Words.{arith, nat_tests}
-use Rattle.pagable_laws.proofs.Words.{◌≡◌, ℕ, zero, suc, Bool, true, List, KeyOrder, Shape, json, optional, outcome, list, run, array, both, sorted_map, placed_map, hash_map, sorted_set}
-use Rattle.pagable_laws.proofs.Words.{placed_set, tagged, cases, nested, LiesIn, Within, Throughout}
+use Rattle.pagable_laws.proofs.Words.{arith, nat_tests, ◌≡◌, ℕ, zero, suc, Bool, true, List, KeyOrder, Shape, json, optional, outcome, list, run, array, both, sorted_map, placed_map, hash_map}
+use Rattle.pagable_laws.proofs.Words.{sorted_set, placed_set, tagged, cases, nested, LiesIn, Within, Throughout}
 use Rattle.std.specs.Int.{Width}
 use Rattle.pagable_model.specs.Shape.{text}
 
