@@ -1,11 +1,10 @@
 -- A value that was read of a form names no handle twice, where the handles that were got are apart. So nothing is to be said against its references, where each is good.
 use Rattle.pagable_laws.proofs.Words.{nat_tests, ◌≡◌, ℕ, zero, suc, ◌+◌, ◌≤◌, ◌==◌, ◌||◌, Bool, true, false, List, [], ◌∷◌, length, Some, None, Result, Ok, Err, inr, refl, sym, ap, subst, ◌∙◌, arith}
-use Rattle.pagable_laws.proofs.Words.{if◌then◌else◌, slice_get, not, append-nil, sum_by-cons, Error, Meaning, references_in, Rest, read, kind_of_arc, Answer, answer_at, handles_at, HandleRow, Owner}
-use Rattle.pagable_laws.proofs.Words.{ArcRef, Blob, Types, type_of, Among, is_in, if_there, one, times, is_owner, Core, type_at, answer_of, answers_from, reads, next_of, refused_if, is_type}
-use Rattle.pagable_laws.proofs.{Words.{row_fault, reference_fault, references_fault, IsReference, rest, LooksUp, no-references, more-references}, Again.read_again, Along.{Along, pair-along}}
-use Rattle.pagable_laws.proofs.{Along.{variant-along, reference-along, followed-along, AllTwo, no-two, more-two, append-two}, Related.{Out, both-given, both-refused, first-refused, OutLook}}
-use Rattle.pagable_laws.proofs.{Related.{both-looked-up, both-not, read_par}, Sums.{self-number, same-number, at-most-sum, counted, one-true}, Decoding.read-gives, ReadingStepsKinds.kinds_of}
-use Rattle.pagable_laws.proofs.Asking.{IsFormOf}
+use Rattle.pagable_laws.proofs.Words.{if◌then◌else◌, slice_get, append-nil, sum_by-cons, Error, Meaning, references_in, Rest, read, kind_of_arc, Answer, answer_at, handles_at, Owner, ArcRef, Blob}
+use Rattle.pagable_laws.proofs.Words.{Types, Among, is_in, one, times, Core, answer_of, answers_from, reads, next_of, reference_fault, references_fault, IsReference, rest, LooksUp, no-references}
+use Rattle.pagable_laws.proofs.{Words.more-references, Again.read_again, Along.{Along, pair-along, variant-along, reference-along, followed-along, AllTwo, no-two, more-two, append-two}, Related.Out}
+use Rattle.pagable_laws.proofs.{Related.{both-given, both-refused, first-refused, OutLook, both-looked-up, both-not, read_par}, Sums.{self-number, same-number, at-most-sum, counted, one-true}}
+use Rattle.pagable_laws.proofs.{Decoding.read-gives, ReadingStepsKinds.kinds_of, Asking.IsFormOf}
 use Rattle.pagable_world.specs.Loads.{read_with}
 
 -- no handle was got twice

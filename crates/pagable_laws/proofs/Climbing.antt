@@ -1,11 +1,10 @@
 -- Heights that are known are those of trees; so where a place and a height pass the limit, the task leads down too long a path.
-use Rattle.pagable_laws.proofs.Words.{nat_tests, ◌≡◌, ℕ, zero, suc, ◌+◌, ◌<◌, ◌≤◌, ◌==◌, Bool, true, false, not, List, [], ◌∷◌, ◌⊎◌, inl, inr, if◌then◌else◌, refl, sym, ap, subst, arith, max, Some}
-use Rattle.pagable_laws.proofs.Words.{None, Option, Err, pair, variant, reference, followed, is_eager, longest_path, above, height, deepest_path, kind_of_arc, Error, HandleRow, ArcRef, Identity}
-use Rattle.pagable_laws.proofs.Words.{Meaning, Tree, Types, Among, type_of, if_there, or_else, identity_of, fits_mode, Core, Shelf, Written, Todo, to_start, to_finish, to_item, Task, of_item}
-use Rattle.pagable_laws.proofs.Words.{of_entry, Values, is_identity, row_at, type_at, row_fault, is_type, refused_if, Site, Claims, IsPublished, IsTooDeep, claim_fault, MachineState, world_of}
-use Rattle.pagable_laws.proofs.Words.{IsTooDeepTask, WaitsForAsker, Ground, ground_of, FollowsTo, number-follows, integer-follows, text-follows, pattern-follows, none-follows, pair-follows}
-use Rattle.pagable_laws.proofs.{Words.{variant-follows, reference-follows, WroteTree, Expects, Waits, WorkFits}, Along.{Along, number-along, integer-along, text-along, pattern-along, none-along}}
-use Rattle.pagable_laws.proofs.{Along.{pair-along, variant-along, reference-along, AllTwo, no-two, more-two, form-along}, Standing.{AllStand, Covers, is_open_in}, Changing.is-same}
+use Rattle.pagable_laws.proofs.Words.{nat_tests, ◌≡◌, ℕ, zero, suc, ◌+◌, ◌<◌, ◌≤◌, Bool, true, false, List, [], ◌∷◌, ◌⊎◌, inl, inr, if◌then◌else◌, sym, ap, subst, arith, max, Some, Err, pair}
+use Rattle.pagable_laws.proofs.Words.{variant, reference, followed, is_eager, longest_path, above, height, deepest_path, kind_of_arc, Error, ArcRef, Identity, Meaning, Tree, Types, Among}
+use Rattle.pagable_laws.proofs.Words.{identity_of, Core, Shelf, Written, Todo, to_start, to_finish, to_item, Task, of_entry, Values, is_identity, Site, Claims, IsPublished, IsTooDeep, claim_fault}
+use Rattle.pagable_laws.proofs.Words.{MachineState, world_of, IsTooDeepTask, WaitsForAsker, Ground, ground_of, FollowsTo, number-follows, integer-follows, text-follows, pattern-follows, none-follows}
+use Rattle.pagable_laws.proofs.{Words.{pair-follows, variant-follows, reference-follows, WroteTree, Expects, Waits, WorkFits}, Along.{Along, number-along, integer-along, text-along, pattern-along}}
+use Rattle.pagable_laws.proofs.{Along.{none-along, pair-along, variant-along, reference-along, AllTwo, no-two, more-two, form-along}, Standing.{AllStand, Covers, is_open_in}, Changing.is-same}
 use Rattle.pagable_laws.proofs.{Heights.{IsAttained, place_over, WaitsLow, next-among}, HeightSteps.HeightsIn, Going.or-cases}
 
 -- ---- what a tree's references lead to is part of it

@@ -8,7 +8,7 @@ use Rattle.pagable_laws.proofs.Words.{ReadsTree, tree, type_of, Meaning, Among, 
 use Rattle.pagable_laws.proofs.Words.{NodeStands, ValueStands, MeaningStands, number-stands, integer-stands, text-stands, pattern-stands, none-stands, pair-stands, variant-stands, followed-stands}
 use Rattle.pagable_laws.proofs.Words.{reference-stands, ReadsNodeTree, FrameFits, ReadsItsTypes, LeadsTo, number-leads, integer-leads, text-leads, pattern-leads, none-leads, pair-leads}
 use Rattle.pagable_laws.proofs.{Words.{variant-leads, followed-leads, reference-leads, Decoded}, Along.{Along, number-along, integer-along, text-along, pattern-along, none-along, pair-along}}
-use Rattle.pagable_laws.proofs.{Along.{variant-along, reference-along, followed-along, AllTwo, no-two, more-two}, Related.{Out, both-given, both-refused, first-refused, OutLook, both-looked-up}}
+use Rattle.pagable_laws.proofs.{Along.{variant-along, reference-along, followed-along, AllTwo, no-two, more-two}, Related.{Out, both-given, both-refused, OutLook, both-looked-up}}
 use Rattle.pagable_laws.proofs.{Related.{first-not, read_par}, Trees.{tree_is, one_tree}, Sums.{same-number, one-true, self-number, at-most-sum, counted}}
 
 -- any cause: what comes of a refusal isn't asked

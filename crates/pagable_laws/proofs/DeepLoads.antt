@@ -1,12 +1,11 @@
 -- A load is refused as too deep only where the reading of its key comes to a blob that lies too deep, or to one that enters a level too many.
-use Rattle.pagable_laws.proofs.Words.{nat_tests, ◌≡◌, ℕ, ◌+◌, ◌<◌, ◌==◌, ◌||◌, Bool, true, false, List, [], ◌∷◌, length, Option, Some, None, Ok, Err, inl, inr, if◌then◌else◌, refl, sym, ap, subst}
-use Rattle.pagable_laws.proofs.Words.{◌∙◌, arith, not, Error, Want, HandleRow, Owner, Took, Event, EventReply, Kind, HandleNumber, LoadNumber, Blob, Tree, Types, type_of, is_eager, is_in}
-use Rattle.pagable_laws.proofs.Words.{is_loose_kind, longest_path, if_there, any_mode, is_owner, owner_worker, Core, OpenLoad, Root, of_cell, of_key, Frame, Reading, Todo, Walking, Seen, IsLawful}
-use Rattle.pagable_laws.proofs.Words.{row_at, earlier, where_so, refused_if, spent, load_fault, named_fault, Refused, birth_fault, is_usable, AskCall, AsksInVain, node_fault, root_fault, cell_fault}
-use Rattle.pagable_laws.proofs.Words.{is_owned_in, is_known, Next, reads, asks, is_faulty, next_in, need_at, need_of, needs_nested, needs_lazy, is_broken, RefusesBlob, RefusesNested, RefusesRoot}
-use Rattle.pagable_laws.proofs.Words.{Fails, handles_of, Happens, after_kinds, LeadsDown, is-there, goes-down, ReadsTooDeep, MachineState, world_of, FramesFit, IsReadingOf, of_caller, of_worker}
-use Rattle.pagable_laws.proofs.{Words.{LoadIsDeep, DeepLoadLaw}, Trees.same_some, Fitting.asked, Chains.IsGoingOn, Deeply.along-first, ReadingStepsKinds.{kinds_of, asks-by-kinds, faulty-by-kinds}}
-use Rattle.pagable_laws.proofs.{ReadingStepsMachine.reading-stands, Asking.FramesAsked, KnownSteps.eager-nested, Sound.either, Soundly.{by-all, by-handle-row}}
+use Rattle.pagable_laws.proofs.Words.{nat_tests, ◌≡◌, ℕ, ◌+◌, ◌<◌, Bool, true, false, List, [], ◌∷◌, length, Option, Some, None, Ok, Err, inl, inr, refl, sym, ap, subst, ◌∙◌, arith, not, Error, Want}
+use Rattle.pagable_laws.proofs.Words.{Owner, Took, Event, EventReply, Kind, HandleNumber, LoadNumber, Blob, Tree, Types, type_of, is_eager, is_loose_kind, longest_path, if_there, any_mode}
+use Rattle.pagable_laws.proofs.Words.{owner_worker, Core, OpenLoad, Frame, Reading, Todo, Walking, Seen, IsLawful, earlier, where_so, refused_if, spent, load_fault, named_fault, Refused, AskCall}
+use Rattle.pagable_laws.proofs.Words.{AsksInVain, node_fault, root_fault, cell_fault, Next, reads, asks, is_faulty, next_in, need_at, need_of, needs_nested, is_broken, RefusesBlob, RefusesNested}
+use Rattle.pagable_laws.proofs.Words.{RefusesRoot, Fails, handles_of, Happens, after_kinds, LeadsDown, is-there, goes-down, ReadsTooDeep, MachineState, world_of, FramesFit, IsReadingOf, of_caller}
+use Rattle.pagable_laws.proofs.{Words.{of_worker, LoadIsDeep, DeepLoadLaw}, Trees.same_some, Fitting.asked, Chains.IsGoingOn, Deeply.along-first, ReadingStepsKinds.{kinds_of, asks-by-kinds}}
+use Rattle.pagable_laws.proofs.{ReadingStepsKinds.faulty-by-kinds, ReadingStepsMachine.reading-stands, Asking.FramesAsked, KnownSteps.eager-nested, Sound.either, Soundly.{by-all, by-handle-row}}
 use Rattle.pagable_world.specs.Loads.{Does}
 use Rattle.pagable_world.specs.Workers as workers
 

@@ -1,9 +1,8 @@
 -- References that nothing is to be said against name handles of their owner, as they should. A handle that is given up doesn't bring a value back.
 use Rattle.std.proofs.Common.{rules}
-use Rattle.pagable_laws.proofs.Words.{◌≡◌, ℕ, zero, suc, ◌+◌, ◌≤◌, ◌==◌, ◌&&◌, ◌||◌, Bool, true, false, List, [], ◌∷◌, ◌++◌, cond, refl, ap, sym, subst, ◌∙◌, arith, Option, Some, None, not, nat_lt}
-use Rattle.pagable_laws.proofs.Words.{is_some, nat_tests, sum_by-cons, ArcRef, type_of, OptionalDataKey, is_in, or_else, if_there, one, Owner, HandleRow, Error, is_owner, fits_mode, pins, is_pin}
-use Rattle.pagable_laws.proofs.Words.{is_in_memory, has_key, Core, Cell, row_at, type_at, key_at, is_here, Alike, AreNewEntries, Falls, left_rows, refused_if, is_type, row_fault, reference_fault}
-use Rattle.pagable_laws.proofs.{Words.{references_fault, IsReference, AreGood, StaysAway}, Sums.same-number, Goes.{Quiet, alike, fell}}
+use Rattle.pagable_laws.proofs.Words.{◌≡◌, ℕ, zero, suc, ◌+◌, ◌≤◌, ◌&&◌, Bool, true, false, List, [], ◌∷◌, ◌++◌, cond, refl, ap, subst, arith, Option, Some, None, not, nat_lt, nat_tests, sum_by-cons}
+use Rattle.pagable_laws.proofs.Words.{ArcRef, OptionalDataKey, or_else, one, Owner, HandleRow, is_owner, pins, is_pin, is_in_memory, Core, Alike, AreNewEntries, Falls, left_rows, is_type}
+use Rattle.pagable_laws.proofs.{Words.{reference_fault, references_fault, IsReference, AreGood, StaysAway}, Sums.same-number, Goes.{Quiet, alike, fell}}
 
 pub or-none : {X : Type 0} (a b : Option X) → or_else a b ≡ None → (a ≡ None) × (b ≡ None)
 or-none None b is = (refl, is)

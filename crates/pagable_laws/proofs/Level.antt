@@ -1,8 +1,8 @@
 -- The chain of two levels is one of the machine, and meets the headline with all that it asks.
 use Rattle.pagable_laws.proofs.Words.{nat_tests, arith, ◌≡◌, ℕ, zero, suc, List, [], ◌∷◌, ◌++◌, refl, sym, subst, ◌∙◌, Option, Some, Ok, none, references_in, SameReferences, IsReadable, LiesIn}
-use Rattle.pagable_laws.proofs.Words.{Throughout, throughout-in, none-followed, rest_of, Kind, Tree, tree, type_of, Event, EventReply, WorkerReply, LoadReply, Core, Shelf, Written, Reading, Walking}
+use Rattle.pagable_laws.proofs.Words.{Throughout, throughout-in, none-followed, rest_of, Tree, tree, Event, EventReply, WorkerReply, LoadReply, Core, Shelf, Written, Reading, Walking}
 use Rattle.pagable_laws.proofs.Words.{IsLawful, IsSettled, needs_lazy, need_of, reading_at, PagerState, MachineState, world_of, ReadsItsTypes, KeepsOpen, ReadsAsType, TakesWell, TodoTakesWell}
-use Rattle.pagable_laws.proofs.Words.{IsWellAsked, IsPremised, state_after, ArePremised, find_row, is_named_by, answers_from, fresh, inl, is_in, HandleRow, Owner, Mode, pins, row_of, AreMoments}
+use Rattle.pagable_laws.proofs.Words.{IsWellAsked, IsPremised, state_after, ArePremised, find_row, is_named_by, answers_from, inl, is_in, HandleRow, Owner, Mode, pins, row_of, AreMoments}
 use Rattle.pagable_laws.proofs.{Words.TwoLevelsMeetTheHeadline, States.{only-at, ◌⨾◌, read-back-passes}, Walks.{paged_out, at_work, only-pager, bears, pages-out}, Tested.alike-self}
 use Rattle.pagable_laws.proofs.{Joining.new_whole, Arriving.headline_law, Loaded.{done-whole, loads-parent, loads-child, loads-key}}
 use Rattle.pagable_model.specs.Reading as grammar

@@ -1,13 +1,11 @@
 -- A meaning of a canonical shape has at most one form.
 use Rattle.pagable_laws.proofs.Words.{arith, nat_tests, ◌≡◌, ℕ, suc, Bool, true, false, List, [], ◌∷◌, ◌++◌, length, refl, sym, ap, ◌∙◌, subst, unsigned_form, signed_form, bool_form, length_form}
-use Rattle.pagable_laws.proofs.Words.{text_form, char_form, Meaning, sequence, Entry, KeyOrder, of_entries, Shape, Form, Forms, Entries, nothing-form, unsigned-form, signed-form, flag-form}
+use Rattle.pagable_laws.proofs.Words.{text_form, char_form, Meaning, sequence, Entry, of_entries, Shape, Form, Forms, Entries, nothing-form, unsigned-form, signed-form, flag-form}
 use Rattle.pagable_laws.proofs.Words.{text-form, letter-form, duration-form, pattern-form, none-form, some-form, err-form, ok-form, list-form, run-form, array-form, both-form, sorted-map-form}
 use Rattle.pagable_laws.proofs.Words.{placed-map-form, hash-map-form, sorted-set-form, placed-set-form, static-form, tagged-form, case-form, reference-form, nested-form, json-null-form}
 use Rattle.pagable_laws.proofs.Words.{json-flag-form, json-number-form, json-text-form, json-array-form, json-object-form, no-forms, more-forms, no-entries, more-entries, LiesIn, IsCanonical}
 use Rattle.pagable_laws.proofs.{Words.{Throughout, CanonicalHasOneForm}, Within.{here, narrowed, part_of, of_json, of_text}}
-use Rattle.std.{proofs.lemmas.Grind.common_steps, proofs.Common.rules, specs.Int.Width}
 use Rattle.pagable_model.specs.Meaning as meanings
-use Rattle.pagable_model.specs.Shape as shapes
 
 pub same-items : {A : Type 0} (xs ys : List (Meaning A)) → sequence xs ≡ sequence ys → xs ≡ ys
 same-items [] [] e = refl

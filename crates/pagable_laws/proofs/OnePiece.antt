@@ -8,7 +8,7 @@ use Rattle.pagable_laws.proofs.{Words.{StandTogether, IsOfChance, IsLoadOfPagedO
 use Rattle.pagable_laws.proofs.{Coming.{event-turns, updated-at}, Chains.{IsGoingOn, idle-goes, goes}, Taking.row-held, Fitting.first-fits, Decoding.decodes, Outlasting.{stands-whole, stands-alike}}
 use Rattle.pagable_laws.proofs.{ReadingStepsMachine.reading-stands, ReadingStepsGive.got-typed, HeightSteps.{HeightsIn, heights-at-first, heights-on}, Sound.{by-chance, by-references, by-handle}}
 use Rattle.pagable_laws.proofs.{Known.IsForm, Soundly.load-cause, Apart.{fine, reads-once}, LoadsLive.{times_got, LoadReady, once-none, apart-once, got-cons, with-one}, LoadsReady.goes-ready}
-use Rattle.pagable_world.specs.{Loads.Does, OneWorker.of_worker}
+use Rattle.pagable_world.specs.{Loads.Does}
 
 -- ---- whose turn it is
 

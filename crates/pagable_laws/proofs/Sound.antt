@@ -2,7 +2,7 @@
 use Rattle.pagable_laws.proofs.Words.{nat_tests, ◌≡◌, ℕ, ◌≤◌, ◌==◌, Bool, true, false, List, [], ◌∷◌, length, ◌⊎◌, inl, inr, Option, Some, None, Err, refl, sym, ap, subst, ◌∙◌, arith, Result, not}
 use Rattle.pagable_laws.proofs.Words.{nat_le, is_own_reading, RefusesFetch, Error, Want, Owner, Kind, HandleNumber, LoadNumber, NodeNumber, Blob, Tree, Types, type_of, is_eager, is_loose_kind}
 use Rattle.pagable_laws.proofs.Words.{longest_path, if_there, any_mode, Core, OpenLoad, of_cell, Frame, Reading, Seen, Values, IsLawful, earlier, where_so, refused_if, spent, handle_fault}
-use Rattle.pagable_laws.proofs.Words.{references_fault, load_fault, AreHandlesFull, Refused, FetchCall, birth_fault, AskCall, LazyCall, ask_fault, is_known, node_fault, root_fault, is_owned_in, Next}
+use Rattle.pagable_laws.proofs.Words.{references_fault, load_fault, AreHandlesFull, Refused, FetchCall, birth_fault, AskCall, LazyCall, ask_fault, is_known, node_fault, root_fault, Next}
 use Rattle.pagable_laws.proofs.Words.{reads, asks, is_faulty, need_of, needs_nested, needs_lazy, to_adopt, need_at, next_in, is_broken, IsDecoded, RefusesBlob, RefusesNested, RefusesNode}
 use Rattle.pagable_laws.proofs.Words.{RefusesRoot, IsOfKey, EndsClosed, Fails, fresh, reading_at, reading_of_load, MachineState, world_of, IsMachineWhole, StandsFor, FitsRoot, FramesFit, of_caller}
 use Rattle.pagable_laws.proofs.{Words.{ReadsItsTypes, IsOfChance, IsPagedOutAs, IsLoadOfPagedOut, WorkFits}, Trees.same_some, Sums.self-number, Taking.adopted-over, Fitting.first-typed}

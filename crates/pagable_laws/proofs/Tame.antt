@@ -1,7 +1,7 @@
 -- Readers of which a fault stays whatever follows, what is read of a front is read of the whole, and what was used reads
 -- alone. First for any input that has an end, then for bytes.
 use Rattle.pagable_laws.proofs.Words.{nat_tests, ◌≡◌, ℕ, zero, suc, ◌+◌, ◌-◌, ◌*◌, ◌/◌, ◌%◌, ◌^◌, Bool, true, false, List, [], ◌∷◌, ◌++◌, length, take, Result, Ok, Err, ◌⊎◌, if◌then◌else◌, inl, inr}
-use Rattle.pagable_laws.proofs.Words.{refl, sym, subst, arith, append_assoc, cases_lt, le-ltb, lt-ltb, take-append-le, drop-append-le, length-append, take-append-drop, length-take-le, take-length}
+use Rattle.pagable_laws.proofs.Words.{refl, sym, arith, append_assoc, cases_lt, le-ltb, lt-ltb, take-append-le, drop-append-le, length-append, take-append-drop, length-take-le, take-length}
 use Rattle.pagable_laws.proofs.Words.{drop-length, nat_le, nat_lt, Error, ◌>>=◌, Read, byte_at, varint_at, unsigned_at, signed_from, signed_at, longest, length_at, bytes_at, text_at, bool_at}
 use Rattle.pagable_laws.proofs.Words.{one_char, char_at, carried, duration_at, nanos_of_second}
 use Rattle.std.{proofs.Common.rules, specs.Int.{Width, w8, w16, w32, w64, w128}, specs.Str.{is_utf8, chars}}

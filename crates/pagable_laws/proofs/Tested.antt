@@ -2,7 +2,7 @@
 use Rattle.pagable_laws.proofs.Words.{◌≡◌, ℕ, zero, suc, ◌<◌, ◌≤◌, ◌==◌, ◌&&◌, Bool, true, false, List, [], ◌∷◌, refl, ap, sym, subst, arith, All, not, Ok, None, is_some, nat_lt, nat_le, nat_eq}
 use Rattle.pagable_laws.proofs.Words.{and_parts, agree_below, agree_below_at, nat_tests, AllPairs-cons, Among, times, one, updated, if_there, Owner, HandleRow, is_shared, is_loose, is_owner}
 use Rattle.pagable_laws.proofs.Words.{is_owned_by, owner_value, is_at, is_pin, is_share, held, pins, sharing, Core, OpenLoad, Root, of_cell, of_key, row_at, type_at, Alike, loses_value}
-use Rattle.pagable_laws.proofs.Words.{owned_outside, is_outside, is_keyed, IsLeast, MustList, Falls, fallen, IsHandleBefore, length, ◌∙◌, inl, slice_get, Option, Some, ArcRef, type_of}
+use Rattle.pagable_laws.proofs.Words.{owned_outside, is_outside, is_keyed, IsLeast, MustList, Falls, fallen, IsHandleBefore, length, ◌∙◌, inl, Option, Some, ArcRef, type_of}
 use Rattle.pagable_laws.proofs.Words.{is_shared_kind, is_handle, fits_mode, is_here, is_type, IsReference, WellFormed, MayOwnLoad, IsRootWhole, no_work, Sample, sample, sample_type}
 use Rattle.pagable_laws.proofs.{Words.{sample_references, value_at, machine}, Sums.sum-zero, GoodReferences.typed-by}
 use Rattle.std.specs.List.{AllPairs}

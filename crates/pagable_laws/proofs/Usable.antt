@@ -1,5 +1,5 @@
 -- What the cache gives for a kind and a key it goes on to give, as long as the node is held as the kind asks: one part of an event after another.
-use Rattle.pagable_laws.proofs.Words.{◌≡◌, ℕ, ◌<◌, ◌≤◌, ◌==◌, ◌&&◌, Bool, true, false, List, ◌++◌, Option, Some, None, inl, inr, refl, ap, subst, ◌∙◌, if◌then◌else◌, arith, Result, not, nat_lt}
+use Rattle.pagable_laws.proofs.Words.{◌≡◌, ℕ, ◌<◌, ◌≤◌, ◌==◌, ◌&&◌, Bool, true, List, ◌++◌, Option, Some, None, inl, inr, refl, ap, subst, ◌∙◌, if◌then◌else◌, arith, Result, not, nat_lt}
 use Rattle.pagable_laws.proofs.Words.{is_some, and_parts, nat_tests, OptionalDataKey, HandleRow, Error, Among, updated, if_there, one, is_pinned_kind, is_pinning, is_pin, is_at, is_in_memory, pins}
 use Rattle.pagable_laws.proofs.{Words.{held, Core, Cell, Alike, usable, Falls, left_rows, fallen}, Sums.{same-number, self-number, at-most-sum, counted, one-true}, Decoding.among-either}
 use Rattle.pagable_laws.proofs.Outlasting.{among-kept}

@@ -1,7 +1,7 @@
 -- Whole numbers are read again.
-use Rattle.pagable_laws.proofs.Words.{nat_tests, ◌≡◌, ℕ, zero, suc, ◌^◌, ◌<◌, refl, arith, Ok, List, ◌++◌, ℤ, pos, negsuc, le-ltb, lt-ltb, le-leb, varint, varint_at, varint_limit, bound}
+use Rattle.pagable_laws.proofs.Words.{nat_tests, ◌≡◌, ℕ, zero, suc, ◌^◌, ◌<◌, refl, arith, Ok, List, ◌++◌, ℤ, pos, negsuc, lt-ltb, le-leb, varint, varint_at, varint_limit, bound}
 use Rattle.pagable_laws.proofs.Words.{unsigned_form, unsigned_at, signed_byte, from_signed_byte, unsigned_of, signed_from, IsSigned, signed_form, signed_at, zigzag-again}
-use Rattle.std.{proofs.lemmas.Grind.common_steps, proofs.Common.rules, specs.Int.{Width, w8, w16, w32, w64, w128}}
+use Rattle.std.{specs.Int.{Width, w8, w16, w32, w64, w128}}
 
 -- what is written is read again, whatever follows
 pub varint-again : (more last n : ℕ) (rest : List ℕ) → n < varint_limit more last → last < 128 → varint_at more last (varint more n ++ rest) ≡ Ok (n, rest)

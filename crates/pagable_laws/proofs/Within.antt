@@ -1,7 +1,5 @@
 -- From what holds throughout a shape to what holds throughout the shapes in it.
-use Rattle.pagable_laws.proofs.Words.{arith, nat_tests, ◌≡◌, ℕ, zero, suc, Bool, true, List, KeyOrder, Shape, json, optional, outcome, list, run, array, both, sorted_map, placed_map, hash_map}
-use Rattle.pagable_laws.proofs.Words.{sorted_set, placed_set, tagged, cases, nested, LiesIn, Within, Throughout}
-use Rattle.std.specs.Int.{Width}
+use Rattle.pagable_laws.proofs.Words.{arith, nat_tests, ℕ, zero, suc, Shape, json, nested, LiesIn, Within, Throughout}
 use Rattle.pagable_model.specs.Shape.{text}
 
 -- what t refers to and its numbered parts are among those of s
