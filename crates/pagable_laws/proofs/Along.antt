@@ -220,8 +220,7 @@ module _ {A B : Type 0} {F : Type 0} {R : A → B → Type 0} where
   items_differ-two h a = apart-two {V = Along F R} _ _ (λ x x2 y y2 v w r. rw (← plain-along v, ← plain-along w) r) h a
 
   flag-along : (b : Bool) {n : Meaning B} → Along F R (meanings.flag b) n → n ≡ meanings.flag b
-  flag-along true (variant-along n x a none-along) = refl
-  flag-along false (variant-along n x a none-along) = refl
+  flag-along x0 x1 = grind (arith, nat_tests)
 
   lifted-same : (m : Meaning ⊥) {n : Meaning B} → Along F R (lifted m) n → n ≡ lifted m
   unfolding rename

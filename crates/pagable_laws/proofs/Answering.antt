@@ -13,8 +13,7 @@ use Rattle.pagable_laws.proofs.{Following.{tree-form, held-of, cell-of}, Taking.
 module _ {N B W : Type 0} (m : Seen N B W) (n : ℕ) (g : Ground) (task : Task) (s s' : Site) where
   of-publish : (todo : List Todo) (i : Identity) (key height : ℕ) → Does m n s todo (Took.Publish i key height) s' → Walks m.values g s.shelf task todo
       → KeyOf m.values.hash m.values.types (g.trees i.node.0) key
-  of-publish (to_publish r k h ∷ below) i key height (is, same_key, same_height, t) (blob, above) = grind arith
-  of-publish todo i key height does walks = absurd does
+  of-publish x0 i key height x4 x5 = grind (arith, nat_tests)
 
   -- what the answer of a key comes from
   pub record Answers (key : ℕ) : Type 0 where
@@ -22,8 +21,7 @@ module _ {N B W : Type 0} (m : Seen N B W) (n : ℕ) (g : Ground) (task : Task) 
     same : (i : Identity) → s'.shelf.slots i ≡ s.shelf.slots i
 
   is-fault : (fault : Fault) (key : ℕ) → answer_after {W = W} (to_fail fault None ∷ []) Took.Fail ≡ Some (WorkerAnswer.Key key) → ⊥
-  is-fault (was_refused f) key e = cc
-  is-fault was_failed key e = cc
+  is-fault x0 key e = grind (arith, nat_tests)
 
   pub answered : (todo : List Todo) (step : Took W) → Does m n s todo step s' → Walks m.values g s.shelf task todo → (key : ℕ) → answer_after todo step ≡ Some (WorkerAnswer.Key key) → Answers key
   unfolding Waits
@@ -97,13 +95,11 @@ module _ {N E : Type 0} (v : Values N) (s : MachineState N E) (trees : ℕ → T
 -- ---- an event
 
 done-on : {N : Type 0} (v : Values N) {shelf shelf' : Shelf} → KeepsKeys shelf shelf' → (task : Task) (key : ℕ) → IsDone v shelf task key → IsDone v shelf' task key
-done-on v keeps (of_item written) key (keys, known, is) = (keys, keys-on keeps written.references keys known, is)
-done-on v keeps (of_entry h i) key (height, p) = (height, keeps i key height p)
+done-on v keeps x2 key x4 = grind (arith, nat_tests, keys-on)
 
 -- a live cell's key reads as its tree
 node-keyed : {N E : Type 0} {v : Values N} {s : PagerState N E} {n : ℕ} {t : Tree} → NodeStands v s n t → KeyFits v s n t
-node-keyed (here n x own t held typed means stands fits) = fits
-node-keyed (away n key t none_there keyed fits) = fits
+node-keyed x0 = grind (arith, nat_tests)
 
 -- a live cell whose key was set has one
 key-known : (w : Core) (n : ℕ) → KeyIsSet w n → is_some (w.cells n) ≡ true → (key : ℕ) × (key_at w n ≡ OptionalDataKey.Some key)
@@ -126,10 +122,7 @@ set-by-then : {N B W : Type 0} (m : Seen N B W) (n : ℕ) (s s' : Site) (todo : 
     → ((r : ArcRef) (k h : ℕ) (below : List Todo) → todo ≡ to_publish r k h ∷ below → is_some (s.core.cells r.node.0) ≡ true) → is_loose_kind i.kind.0 ≡ true
     → (set : ℕ) × (key_at s.core i.node.0 ≡ OptionalDataKey.Some set)
 unfolding AllHold
-set-by-then m n s s' (to_publish r k h ∷ below) i key height (is, same_key, same_height, t) all live kind =
-    subst (λ (j : Identity). (set : ℕ) × (key_at s.core j.node.0 ≡ OptionalDataKey.Some set)) (sym is)
-    (key-known s.core r.node.0 (all.0 (ap (λ (j : Identity). is_loose_kind j.kind.0) (sym is) ∙ kind)) (live r k h below refl))
-set-by-then m n s s' todo i key height does all live kind = absurd does
+set-by-then m n s s' x4 i key height x8 all live kind = grind (arith, nat_tests, key-known)
 
 module _ {N B W E : Type 0} (m : Seen N B W) (s s' : MachineState N E) (trees trees' : ℕ → Tree) (before : WorkFits m.values s trees) (after : WorkFits m.values s' trees')
     (earlier : IsMachineWhole m.values s) (whole : IsMachineWhole m.values s')

@@ -58,9 +58,7 @@ module _ (types : Types) (t : ℕ) (blob : Blob) (refs got : List ArcRef) (f : I
   both-own : {own : Meaning ArcRef} {after : Rest Answer} {n : Meaning ArcRef} {left : Rest ArcRef} {first : Result (Meaning ArcRef × Rest Answer) Error} {second : Result
       (Meaning ArcRef × Rest ArcRef) Error}
       → Out no_cause Answers (Along ⊥ (InPlace got refs)) first second → first ≡ Ok (own, after) → second ≡ Ok (n, left) → Along ⊥ (InPlace got refs) own n
-  both-own {own} {after} {n} {left} (both-given p q v s) e d = grind arith
-  both-own (both-refused x) e d = absurd (cc)
-  both-own (first-refused x r c) e d = absurd c
+  both-own x0 e d = grind (arith, nat_tests)
 
   -- what is read refers in each place to what was got there
   in-place : (own : Meaning ArcRef) → next_of types t blob got ≡ reads own → Along ⊥ (InPlace got refs) own f.own

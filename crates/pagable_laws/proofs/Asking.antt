@@ -1,4 +1,5 @@
 -- What a blob asks for that is a form of some value: one reference of the form after another, each as its own kind, and when all are got it is read.
+use Rattle.pagable_laws.proofs.Words.{nat_tests}
 use Rattle.pagable_laws.proofs.Words.{◌≡◌, ℕ, ◌<◌, ◌≤◌, ◌==◌, true, List, [], ◌∷◌, ◌++◌, map, length, Option, Some, None, Result, Ok, Err, refl, sym, ap, subst, ◌∙◌, arith, append_assoc, slice_get}
 use Rattle.pagable_laws.proofs.Words.{slice_get-get_or, append-nil, Error, ◌>>=◌, Meaning, rename, Rest, read, deepest, references_in, Form, kind_of_arc, Answer, answer_at, handles_at, IsReadable}
 use Rattle.pagable_laws.proofs.Words.{Throughout, ArcRef, Kind, Blob, Shape, Types, is_eager, times, Frame, answer_of, answers_from, Next, reads, asks, next_by, next_of, next_in, rest, at, LooksUp}
@@ -68,8 +69,7 @@ looks-all front _ _ _ same few = absurd (omega arith)
 -- ---- what comes next
 
 err-of : {X Y R : Type 0} (f : X × R → Y × R) (r : Result (X × R) Error) (e : Error) → (r >>= λ x. Ok (f x)) ≡ Err e → r ≡ Err e
-err-of f (Ok x) e is = absurd (cc)
-err-of f (Err d) e is = let same : d ≡ e = cc in ap (λ (z : Error). Err z) same
+err-of f x1 e is = grind (arith, nat_tests)
 
 ok-of : {X Y R : Type 0} (f : X × R → Y × R) (r : Result (X × R) Error) (y : Y × R) → (r >>= λ x. Ok (f x)) ≡ Ok y → (x : X × R) × (r ≡ Ok x)
 ok-of f (Ok x) y is = (x, refl)

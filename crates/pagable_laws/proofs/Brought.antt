@@ -40,8 +40,7 @@ module _ {N E : Type 0} {v : Values N} {s s' : PagerState N E} {trees : ℕ → 
 
   -- nothing is felt
   quiet : (n : ℕ) (x : N) → c ≡ nothing_felt → ReadingBrings v s.core reading n x → s'.values n ≡ Some x → ValueLeads v trees x (trees n)
-  quiet n x nothing (inl (reads, new)) is = grind (arith, nat_tests, live-after)
-  quiet n x nothing (inr (root, cell)) is = (root-leads n x is root cell).leads
+  quiet n x nothing x3 is = grind (arith, nat_tests, live-after, root-leads)
 
   -- a node is born, and the root's value comes to an old one
   root-on : (t0 : Tree) (n : ℕ) (x : N) → s'.values n ≡ Some x → ReadsRoot v reading x → IsCellOf s.core reading.load n

@@ -62,17 +62,14 @@ part-of {g = g} {n} {written} w r among =
 -- ---- heights
 
 grows-by : (e : Bool) (a b c : ℕ) → a ≤ b → (if e then b + 1 else 0) ≤ c → (if e then a + 1 else 0) ≤ c
-grows-by true a b c le few = omega arith
-grows-by false a b c le few = omega arith
+grows-by x0 a b c le few = grind (arith, nat_tests)
 
 -- a height and a depth go up with the place
 climbs : (e : Bool) (place h d top deep : ℕ) → (if e then h + 1 else 0) ≤ top → d ≤ deep → h ≤ d → longest_path < max ((if e then place + 1 else 0) + h) d → longest_path < max (place + top) deep
-climbs true place h d top deep le few within long = omega arith
-climbs false place h d top deep le few within long = omega arith
+climbs x0 place h d top deep le few within long = grind (arith, nat_tests)
 
 climbs-item : (e : Bool) (h d : ℕ) → h ≤ d → longest_path < max ((if e then 0 + 1 else 0) + h) d → longest_path < max (if e then h + 1 else 0) d
-climbs-item true h d within long = omega arith
-climbs-item false h d within long = omega arith
+climbs-item x0 h d within long = grind (arith, nat_tests)
 
 climbs-entry : (h d : ℕ) → h ≤ d → longest_path < max (0 + h) d → longest_path < d
 climbs-entry h d within long = omega arith

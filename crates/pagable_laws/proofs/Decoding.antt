@@ -18,19 +18,14 @@ any_cause e = Unit {0}
 -- ---- what is read or asked
 
 not-read : (key : Option ℕ) (e : Error) (own : Meaning ArcRef) → next_by key (Err e) ≡ reads own → ⊥
-not-read None (Error.Storage kind) own is = cc
-not-read (Some k) (Error.Storage kind) own is = cc
-not-read key e own is = cc
+not-read x0 x1 own is = grind (arith, nat_tests)
 
 pub read-gives : (key : Option ℕ) (r : Result (Meaning ArcRef × Rest Answer) Error) (own : Meaning ArcRef) → next_by key r ≡ reads own → (after : Rest Answer) × (r ≡ Ok (own, after))
 read-gives key (Ok (m, after)) own is = let same : m ≡ own = cc in (after, rw same refl)
 read-gives key (Err e) own is = absurd (not-read key e own is)
 
 next-key : (key : Option ℕ) (r : Result (Meaning ArcRef × Rest Answer) Error) (kind : Kind) (k : ℕ) → next_by key r ≡ asks kind k → key ≡ Some k
-next-key key (Ok (m, after)) kind k is = absurd (cc)
-next-key None (Err (Error.Storage n)) kind k is = absurd (cc)
-next-key (Some q) (Err (Error.Storage n)) kind k is = let same : q ≡ k = cc in ap Some same
-next-key key (Err e) kind k is = absurd (cc)
+next-key x0 x1 kind k is = grind (arith, nat_tests)
 
 -- the key that a blob asks for next is the next of its keys
 pub asks_next : (types : Types) (frame : Frame) (kind : Kind) (key : ℕ) → next_in types frame ≡ asks kind key → slice_get frame.blob.keys (length frame.got) ≡ Some key
@@ -60,13 +55,11 @@ among-either {X} (x ∷ xs) ys (suc i) r is = later (among-either xs ys i r is)
 module _ {types : Types} {stored : ℕ → Option Blob} {trees : ℕ → Tree} {got : List ArcRef} where
   answer-by : (t : Bool) (r : ArcRef) (kind key : ℕ) → (r.kind.0 == kind) ≡ t → Among got r → ReadsNodeTree types stored trees key (type_of r.kind.0) r.node.0
       → OutLook any_cause (Found types stored trees got) (if t then Ok r else Err Error.WrongKind) (Ok (key_ref kind key))
-  answer-by true r kind key is among tree_read = both-looked-up r (key_ref kind key) (record { kind = sym (same-number _ _ is); among = among; tree_read = tree_read })
-  answer-by false r kind key is among tree_read = first-not Error.WrongKind _ tt
+  answer-by x0 r kind key is among tree_read = grind (arith, nat_tests, both-looked-up, same-number, first-not)
 
   answer-of : (o : Option ArcRef) (key : ℕ) → ((r : ArcRef) → o ≡ Some r → Among got r × ReadsNodeTree types stored trees key (type_of r.kind.0) r.node.0)
       → AnswersFor types stored trees got (answer_of o) key
-  answer-of None key h kind = first-not (Error.Storage kind) _ tt
-  answer-of (Some r) key h kind = let p = h r refl in answer-by (r.kind.0 == kind) r kind key refl p.0 p.1
+  answer-of x0 key h kind = grind (arith, nat_tests, first-not, answer-by)
 
   answers : (place : ℕ) (keys : List ℕ)
       → ((i key : ℕ) (r : ArcRef) → slice_get got (place + i) ≡ Some r → slice_get keys i ≡ Some key → ReadsNodeTree types stored trees key (type_of r.kind.0) r.node.0)

@@ -18,12 +18,10 @@ no-earlier : (a b : Option Error) → No a → No b → No (earlier a b)
 no-earlier a b x y is = elim (either a b Error.TooDeep is) [ inl p ↦ x p | inr q ↦ y q ]
 
 no-test : (b : Bool) (f : Error) → (Some f ≡ Some Error.TooDeep → ⊥) → No (refused_if b f)
-no-test true f x is = x is
-no-test false f x is = cc
+no-test x0 f x is = grind (arith, nat_tests)
 
 no-where : (b : Bool) (c : Option Error) → No c → No (where_so b c)
-no-where true c x is = x is
-no-where false c x is = cc
+no-where x0 c x is = grind (arith, nat_tests)
 
 no-spent : (n : ℕ) → No (spent n)
 no-spent n = no-test _ Error.NumbersSpent (λ e. cc)
@@ -40,12 +38,10 @@ no-named w owner seen [] is = cc
 no-named w owner seen (h ∷ hs) is = grind (arith, nat_tests, no-earlier, no-test, no-named w owner (h.0 ∷ seen) hs)
 
 no-root : (w : Core) (me : Owner) (t : ℕ) (found : Option OpenLoad) → No (if_there (λ (load : OpenLoad). root_fault w me t load.root) None found)
-no-root w me t None is = cc
-no-root w me t (Some load) is = grind (arith, no-earlier, no-test, no-where, no-spent)
+no-root w me t x3 is = grind (arith, nat_tests, no-earlier, no-test, no-where, no-spent)
 
 no-cell : (found : Option OpenLoad) → No (if_there (λ (load : OpenLoad). cell_fault load.root) None found)
-no-cell None is = cc
-no-cell (Some load) is = grind arith
+no-cell x0 is = grind (arith, nat_tests)
 
 not-refused : {cause before : Option Error} {full : Type 0} {w w' : Core} → Refused cause before full w Error.TooDeep w' → No cause → ⊥
 not-refused r none = elim r.why [ inl is ↦ none is | inr memory ↦ absurd (let e = memory.0 in cc) ]
@@ -87,10 +83,7 @@ module _ (types : Types) (stored : ℕ → Option Blob) where
         }
 
     broken-is : (below : List Frame) (next : Next) (e : Error) → need_at below next ≡ is_broken e → next ≡ is_faulty e
-    broken-is below (is_faulty f) e is = let same : f ≡ e = cc in ap is_faulty same
-    broken-is [] (reads own) e is = absurd (cc)
-    broken-is (x ∷ xs) (reads own) e is = absurd (cc)
-    broken-is below (asks kind key) e is = grind (arith, nat_tests)
+    broken-is x0 x1 e is = grind (arith, nat_tests)
 
     of-blob : (frames : List Frame) → FramesFit types stored trees root_key root_type frames → FramesAsked types frames → need_of types frames ≡ is_broken Error.TooDeep
         → ReadsTooDeep types stored root_type root_key
@@ -127,20 +120,16 @@ module _ {N B W : Type 0} (m : Seen N B W) (lawful : IsLawful m.values) (w : Cor
   Deep = ReadsTooDeep m.values.types w.stored root_type root_key
 
   blob-deep : RefusesBlob m.values reading Error.TooDeep → Deep
-  blob-deep (inl is) = of-blob m.values.types w.stored trees root_key root_type reading.frames fits got is
-  blob-deep (inr (inl (top, below, is, causes))) = absurd (let f = lawful.own_reading top.node_type Error.TooDeep causes in cc)
-  blob-deep (inr (inr memory)) = absurd (cc)
+  blob-deep x0 = grind (arith, nat_tests, of-blob)
 
   not-vain : (want : Want) (load : OpenLoad) (u : Core) → AsksInVain w load want Error.TooDeep u → ⊥
-  not-vain Want.Root load u f = f.refused
-  not-vain (Want.Nested kind key) load u f = f.1.refused
+  not-vain x0 load u f = grind (arith, nat_tests)
 
   not-asked : (want : Want) (u : Core) → AskCall w me reading.load want (Err Error.TooDeep) u → ⊥
   not-asked want u c = grind (arith, not-refused, no-earlier, no-load, no-where, no-spent, not-vain)
 
   nested-deep : (u : Core) → RefusesNested m.values.types w me reading Error.TooDeep u → Deep
-  nested-deep u (kind, key, needs, inl c) = absurd (not-asked (Want.Nested kind key) u c)
-  nested-deep u (kind, key, needs, inr (blob, is, long, c)) = of-path m.values.types w.stored trees root_key root_type reading.frames fits got kind key blob needs c.gives.2.1.found long
+  nested-deep u x1 = grind (arith, nat_tests, not-asked, of-path)
 
   root-not : (u : Core) → RefusesRoot m.values w me reading Error.TooDeep u → ⊥
   root-not u r = elim r.refuses [

@@ -76,16 +76,7 @@ module _ {N B W E : Type 0} (m : Seen N B W) (s s' : MachineState N E) (trees tr
     of-claim after todo i does all covers walks lows = absurd does
 
   claim-is-deep : (event : Event N B W) (reply : EventReply N B W) → Happens m (world_of s) event reply (world_of s') → ClaimIsDeep s trees event reply s' trees'
-  claim-is-deep (Event.WorkerStep n) (EventReply.WorkerMoved (Ok reply)) is = grind (arith, nat_tests, same_some, of-claim)
-  claim-is-deep (Event.WorkerStep n) (EventReply.WorkerMoved (Err e)) is = tt
-  claim-is-deep (Event.WorkerStep n) reply is = absurd is
-  claim-is-deep (Event.Call call) reply is = tt
-  claim-is-deep (Event.LoadStart h) reply is = tt
-  claim-is-deep (Event.LoadKey key t) reply is = tt
-  claim-is-deep (Event.LoadStep l) reply is = tt
-  claim-is-deep Event.TableNew reply is = tt
-  claim-is-deep (Event.WorkerItem t item) reply is = tt
-  claim-is-deep (Event.WorkerListed t i) reply is = tt
+  claim-is-deep x0 x1 is = grind (arith, nat_tests, same_some, of-claim)
 
 -- what follows of each moment where heights are low holds along each chain
 module _ {N B W E : Type 0} (m : Seen N B W) (lawful : IsLawful m.values) (readable : ReadsItsTypes m.values.types) (P : Fact N E B W) where

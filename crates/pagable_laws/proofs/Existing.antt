@@ -33,12 +33,10 @@ abbrev grown : List HandleRow → (ℕ → Bool) → List HandleRow → (ℕ →
 grown rows keyed entries s q = s q || nat_lt 0 (sum_by (follows (loses_value rows keyed entries s) q) rows)
 
 owned-by : (lost : ℕ → Bool) (n : ℕ) (o : Owner) → is_owner (owner_value n) o ≡ true → lost n ≡ true → owner_goes lost o ≡ true
-owned-by lost n (Owner.Value m) is goes = let e : m.0 ≡ n = grind (arith, nat_tests) in ap lost e ∙ goes
-owned-by lost n _ is goes = absurd (grind (arith, nat_tests))
+owned-by lost n x2 is goes = grind (arith, nat_tests)
 
 owner-of : (lost : ℕ → Bool) (o : Owner) → owner_goes lost o ≡ true → (n : ℕ) × (is_owner (owner_value n) o ≡ true) × (lost n ≡ true)
-owner-of lost (Owner.Value m) goes = (m.0, grind (arith, nat_tests), goes)
-owner-of lost _ goes = absurd (grind (arith, nat_tests))
+owner-of lost x1 goes = grind (arith, nat_tests)
 
 -- fewer pins or handles are outside the greater set
 wider-by : (b : Bool) (came p q h k : ℕ) → q ≤ p → k ≤ h → (if b then nat_eq p 0 else nat_eq came 0 && nat_eq h 0) ≡ true → (if b then nat_eq q 0 else nat_eq came 0 && nat_eq k 0) ≡ true

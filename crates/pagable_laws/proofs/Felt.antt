@@ -15,12 +15,10 @@ pub with-below : (last : ℕ) (t : Tree) (trees : ℕ → Tree) → SameTrees la
 with-below last t trees n within = let e : (n == last + 1) ≡ false = grind (arith, nat_tests) in rw e refl
 
 both-true : (a b : Bool) → a ≡ true → false ≡ (a && b) → b ≡ false
-both-true true b e f = sym f
-both-true false b e f = absurd (cc)
+both-true x0 b e f = grind (arith, nat_tests)
 
 pub first-of : (b : Bool) (key k : ℕ) → (if b then OptionalDataKey.Some key else OptionalDataKey.None) ≡ OptionalDataKey.Some k → k ≡ key
-first-of true key k e = cc
-first-of false key k e = absurd (cc)
+first-of x0 key k e = grind (arith, nat_tests)
 
 module _ {N E : Type 0} {v : Values N} {s s' : PagerState N E} {trees : ℕ → Tree} (lawful : IsLawful v) (settled : HoldsSettled v s) (well : WellFormed v s) (well' : WellFormed v s')
     (stands : Represents v s trees) where
@@ -43,8 +41,7 @@ module _ {N E : Type 0} {v : Values N} {s s' : PagerState N E} {trees : ℕ → 
 
   -- where nothing is born and no value can come to an old node, none comes
   pub none-comes : (n : ℕ) (x : N) → CoreGoes nothing_felt s.core s'.core → s.values n ≡ None → s'.values n ≡ Some x → IsNewNode s.core n ⊎ StaysAway s.core s'.core n → ⊥
-  none-comes n x goes none is (inl new) = (goes.new n new (live-after n x is)).born
-  none-comes n x goes none is (inr away) = grind (arith, either-side, live-after, both-true, came)
+  none-comes n x goes x3 is x5 = grind (arith, nat_tests, live-after, either-side, both-true, came)
 
   -- nothing is felt, and what comes to an old node fits
   pub fits-nothing : (comes : ℕ → N → Type 0) → ((n : ℕ) (x : N) → comes n x → s.values n ≡ None → s'.values n ≡ Some x → ValueLeads v trees x (trees n))

@@ -9,19 +9,10 @@ use Rattle.pagable_laws.proofs.{Words.{KeepsStored, FramesGiven}, Decoding.asks_
 
 asked-by : (below : List Frame) (t : Bool) (k : Kind) (q : ℕ) (kind : Kind) (key : ℕ)
     → ((if t then needs_nested k q else needs_lazy k q) ≡ needs_nested kind key) ⊎ ((if t then needs_nested k q else needs_lazy k q) ≡ needs_lazy kind key) → asks k q ≡ asks kind key
-asked-by below true k q kind key (inl is) = let a : k ≡ kind = cc in let b : q ≡ key = cc in rw (a, b) refl
-asked-by below true k q kind key (inr is) = absurd (cc)
-asked-by below false k q kind key (inl is) = absurd (cc)
-asked-by below false k q kind key (inr is) = let a : k ≡ kind = cc in let b : q ≡ key = cc in rw (a, b) refl
+asked-by below x1 k q kind key x6 = grind (arith, nat_tests)
 
 pub asked : (below : List Frame) (next : Next) (kind : Kind) (key : ℕ) → (need_at below next ≡ needs_nested kind key) ⊎ (need_at below next ≡ needs_lazy kind key) → next ≡ asks kind key
-asked below (asks k q) kind key is = asked-by below (is_eager k.0) k q kind key is
-asked [] (reads own) kind key (inl is) = absurd (cc)
-asked [] (reads own) kind key (inr is) = absurd (cc)
-asked (frame ∷ below) (reads own) kind key (inl is) = absurd (cc)
-asked (frame ∷ below) (reads own) kind key (inr is) = absurd (cc)
-asked below (is_faulty e) kind key (inl is) = absurd (cc)
-asked below (is_faulty e) kind key (inr is) = absurd (cc)
+asked x0 x1 kind key x4 = grind (arith, nat_tests, asked-by)
 
 -- ---- one frame
 
@@ -108,8 +99,7 @@ module _ (types : Types) (root_key root_type : ℕ) where
         → stored key ≡ Some blob
         → FramesFit types stored trees root_key root_type (nested_frame kind key blob ∷ frames)
     unfolding FramesFit
-    nested-fits [] kind key blob h needs is = absurd (cc)
-    nested-fits (top ∷ below) kind key blob h needs is = (new-fits (nested_frame kind key blob) refl is, refl, asked below (next_in types top) kind key (inl needs), h)
+    nested-fits x0 kind key blob h needs is = grind (arith, nat_tests, new-fits, asked)
 
     grown-fits : (frame : Frame) (below : List Frame) (kind : Kind) (key : ℕ) (row : HandleRow) → FramesFit types stored trees root_key root_type (frame ∷ below) → next_in types frame ≡ asks kind key
         → ReadsNodeTree types stored trees key (type_of kind.0) row.node.0 → FramesFit types stored trees root_key root_type (with_got kind row (frame ∷ below))
@@ -133,8 +123,7 @@ module _ (types : Types) (root_key root_type : ℕ) where
 
     pub first-fits : (top : Frame) (below : List Frame) → FramesFit types stored trees root_key root_type (top ∷ below) → FrameFits types stored trees top
     unfolding FramesFit
-    first-fits top [] h = h.0
-    first-fits top (frame ∷ below) h = h.0
+    first-fits top x1 h = grind (arith, nat_tests)
 
     pub first-typed : (top frame : Frame) (below : List Frame) → FramesFit types stored trees root_key root_type (top ∷ frame ∷ below) → top.node_type ≡ type_of top.kind.0
     unfolding FramesFit

@@ -5,20 +5,13 @@ use Rattle.pagable_laws.proofs.Words.{ArcRef, OptionalDataKey, or_else, one, Own
 use Rattle.pagable_laws.proofs.{Words.{reference_fault, references_fault, IsReference, AreGood, StaysAway}, Sums.same-number, Goes.{Quiet, alike, fell}}
 
 pub or-none : {X : Type 0} (a b : Option X) → or_else a b ≡ None → (a ≡ None) × (b ≡ None)
-or-none None b is = (refl, is)
-or-none (Some x) b is = absurd (cc)
+or-none x0 b is = grind (arith, nat_tests)
 
 pub same-owner : (o p : Owner) → is_owner o p ≡ true → p ≡ o
-same-owner Owner.Caller Owner.Caller is = refl
-same-owner Owner.List Owner.List is = refl
-same-owner (Owner.Value n) (Owner.Value k) is = ap (λ x. Owner.Value (record { 0 = x })) (same-number k.0 n.0 is)
-same-owner (Owner.Load n) (Owner.Load k) is = ap (λ x. Owner.Load (record { 0 = x })) (same-number k.0 n.0 is)
-same-owner (Owner.Worker n) (Owner.Worker k) is = ap (λ x. Owner.Worker (record { 0 = x })) (same-number k.0 n.0 is)
-same-owner _ p is = absurd (cc)
+same-owner x0 x1 is = grind (arith, nat_tests, same-number)
 
 pub typed-by : (t : ℕ) (found : Option ℕ) → is_type t found ≡ true → found ≡ Some t
-typed-by t None is = absurd (cc)
-typed-by t (Some u) is = ap (λ (x : ℕ). Some x) (same-number u t is)
+typed-by t x1 is = grind (arith, nat_tests, same-number)
 
 module _ (w : Core) (owner : Owner) where
   good-one : (seen : List ℕ) (r : ArcRef) → reference_fault w owner seen r ≡ None → IsReference w owner r
@@ -33,8 +26,7 @@ module _ (w : Core) (owner : Owner) where
 -- ---- values that are away
 
 away-by : (p q : ℕ) (key : OptionalDataKey) → q ≤ p → is_in_memory p key ≡ false → is_in_memory q key ≡ false
-away-by p zero key le is = grind arith
-away-by p (suc q) key le is = let e : nat_lt 0 p ≡ true = grind (arith, nat_tests) in let f : true ≡ false = rw e at is in absurd (cc)
+away-by p x1 key le is = grind (arith, nat_tests)
 
 pub still-away : (w w' : Core) → Quiet w w' → ((n : ℕ) → pins n w'.rows ≤ pins n w.rows) → (n : ℕ) → StaysAway w w' n
 still-away w w' q fewer n away there = grind (arith, away-by)
@@ -57,8 +49,7 @@ pins-left n gone (h ∷ hs) more k none = at (gone h.number.0) (pins-left n gone
     at false le a b = omega arith
 
 entry-pins : (b : Bool) → one (b && false) ≡ 0
-entry-pins true = refl
-entry-pins false = refl
+entry-pins x0 = grind (arith, nat_tests)
 
 no-pins : (n last : ℕ) (entries : List HandleRow) → AreNewEntries last entries → pins n entries ≡ 0
 no-pins n last [] new = refl

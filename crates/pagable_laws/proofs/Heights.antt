@@ -155,16 +155,7 @@ module _ (shelf shelf' : Shelf) (more : ShelfGrows shelf shelf') where
   still-low todo low = waits-low-on (keys-grow more) todo low
 
   pub todo-low-on : (todo : List Todo) → TodoLow shelf todo → TodoLow shelf' todo
-  todo-low-on (to_start r place ∷ below) (is, low) = (is, still-low below low)
-  todo-low-on (to_pin r place ∷ below) (few, is, low) = (few, is, still-low below low)
-  todo-low-on (to_load r place through reading ∷ below) (few, is, low) = (few, is, still-low below low)
-  todo-low-on (to_write r place through ∷ below) (few, is, low) = (few, is, still-low below low)
-  todo-low-on (to_finish o ∷ below) low = still-low (to_finish o ∷ below) low
-  todo-low-on (to_item written ks ∷ below) low = still-low (to_item written ks ∷ below) low
-  todo-low-on (to_set r through key height ∷ below) (wrote, (reach, low)) = (wrote-low-on wrote, (reach, still-low below low))
-  todo-low-on (to_publish r key height ∷ below) (wrote, (reach, low)) = (wrote-low-on wrote, (reach, still-low below low))
-  todo-low-on (to_release r key height ∷ below) (reach, low) = (reach, still-low below low)
-  todo-low-on _ low = tt
+  todo-low-on x0 x1 = grind (arith, nat_tests, still-low, wrote-low-on)
 
 -- ---- a key is given
 
@@ -192,13 +183,11 @@ module _ (shelf : Shelf) where
 
   -- the next of the references that are left is started in its place
   pub started-low : (o : Open) (below : List Todo) (rs : List ArcRef) → WaitsLow shelf (to_finish o ∷ below) → TodoLow shelf (next_start o.place rs ++ to_finish o ∷ below)
-  started-low o below [] low = low
-  started-low o below (r ∷ rs) low = (refl, low)
+  started-low o below x2 low = grind (arith, nat_tests)
 
   pub started-item-low : (written : Written) (ks : List ℕ) (below : List Todo) (rs : List ArcRef) → WaitsLow shelf (to_item written ks ∷ below)
       → TodoLow shelf (next_start 0 rs ++ to_item written ks ∷ below)
-  started-item-low written ks below [] low = low
-  started-item-low written ks below (r ∷ rs) low = (refl, low)
+  started-item-low written ks below x3 low = grind (arith, nat_tests)
 
   -- the next is one of them
   pub next-among : (rs : List ArcRef) (ks : List ℕ) (r : ArcRef) (more : List ArcRef) → drop (length ks) rs ≡ r ∷ more → Among rs r
@@ -213,8 +202,7 @@ module _ (shelf : Shelf) where
 
   -- what a reference adds is within the place's reach
   adds : (b : Bool) (place height limit : ℕ) → (if b then place + 1 else 0) + height ≤ limit → place ≤ limit → place + (if b then height + 1 else 0) ≤ limit
-  adds true place height limit le few = omega arith
-  adds false place height limit le few = omega arith
+  adds x0 place height limit le few = grind (arith, nat_tests)
 
   within-max : (place a b limit : ℕ) → place + a ≤ limit → place + b ≤ limit → place + max a b ≤ limit
   within-max place a b limit le few = omega arith

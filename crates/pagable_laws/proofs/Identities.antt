@@ -20,8 +20,7 @@ data Got (w : Core) (kind : Kind) (key n : ℕ) (w' : Core) : Type 0 where
 
 -- a mode that fits a kind of pins is that of a pin
 pinning-by : (kind : ℕ) (mode : Mode) → fits_mode kind mode ≡ true → is_pinned_kind kind ≡ true → is_pinning mode ≡ true
-pinning-by kind Mode.LooseUnpinned fits is = absurd (grind (arith, nat_tests))
-pinning-by kind _ fits is = refl
+pinning-by kind x1 fits is = grind (arith, nat_tests)
 
 held-by : {w w' : Core} {n : ℕ} {row : _} (kind : Kind) (key : ℕ) → GetsRow w w' kind n row → IsHeldFor kind.0 key n w'.rows
 held-by {w' = w'} {row = row} kind key g = record { row = row; live = among-found row.number.0 w'.rows row g.live; at = g.at; pins_it = pinning-by kind.0 row.mode g.fits }
@@ -103,8 +102,7 @@ entered-got {w} {w'} kind key n opened (got-new none next l own references a) h 
     entered false is = grind (arith, nat_tests, self-number)
 
 keeps-open : {N B W : Type 0} (event : Event N B W) → LeavesCache event → KeepsOpen event
-keeps-open (Event.Call Call.Close) leaves = leaves
-keeps-open event leaves = tt
+keeps-open x0 leaves = grind (arith, nat_tests)
 
 -- ---- along a chain
 
@@ -133,8 +131,7 @@ module _ {N B W E : Type 0} (m : Seen N B W) (kind : Kind) (key n : ℕ) where
 -- ---- the law
 
 differ : {u last : Core} (kind other_kind : Kind) (key other_key n other_n : ℕ) → IsKnownOnce kind.0 key n u → Got u other_kind other_key other_n last → other_n ≡ n → other_key ≡ key
-differ {u} kind other_kind key other_key n other_n once (got-old is q enters) same_node = grind (arith, nat_tests, is-cached)
-differ {u} kind other_kind key other_key n other_n once (got-new none next l own references a) same_node = absurd (let few = once.given in omega (arith, few, next, same_node))
+differ kind other_kind key other_key n other_n once x7 same_node = grind (arith, nat_tests, is-cached)
 
 same : {u last : Core} (kind other_kind : Kind) (key other_key n other_n : ℕ) → usable u kind.0 key ≡ Some n → Got u other_kind other_key other_n last
     → other_kind ≡ kind → other_key ≡ key → other_n ≡ n

@@ -106,8 +106,7 @@ module _ {N E : Type 0} (v : Values N) (s : MachineState N E) (trees : ℕ → T
   module _ (root_key root_type : ℕ) (i : Identity) (limit : ℕ) (p : IsPublished shelf i root_key limit) (typed : (trees i.node.0).type ≡ root_type) where
     first-asked : (frame : Frame) (below : List Frame) → FramesAsked v.types (frame ∷ below) → GotAsked v.types frame.node_type frame.blob frame.got
     unfolding FramesAsked
-    first-asked frame [] h = h
-    first-asked frame (x ∷ xs) h = h.0
+    first-asked frame x1 h = grind (arith, nat_tests)
 
     top-known : (frame : Frame) (below : List Frame) → FramesFit v.types stored trees root_key root_type (frame ∷ below) → FramesAsked v.types (frame ∷ below)
         → IsTopKnown frame (length (frame ∷ below)) limit

@@ -93,12 +93,10 @@ module _ {N E : Type 0} {v : Values N} {s : PagerState N E} {trees : ℕ → Tre
 -- ---- and back
 
 key-of-away : (pinned : ℕ) (key : OptionalDataKey) → is_in_memory pinned key ≡ false → (k : ℕ) × (key ≡ OptionalDataKey.Some k)
-key-of-away pinned OptionalDataKey.None is = grind arith
-key-of-away pinned (OptionalDataKey.Some k) is = (k, refl)
+key-of-away pinned x1 is = grind (arith, nat_tests)
 
 both-false : (a b : Bool) → a ≡ true → false ≡ (a && b) → b ≡ false
-both-false true b e f = sym f
-both-false false b e f = absurd (cc)
+both-false x0 b e f = grind (arith, nat_tests)
 
 -- the nodes of the references are live
 abbrev pub AreLive : Core → Meaning ArcRef → Type 0

@@ -13,8 +13,7 @@ use Rattle.pagable_laws.specs.TwoLevels as two
 
 refers : (x : two.Sample) → SameReferences (two.sample_references x) (references_in (two.sample_meaning x))
 unfolding references_in
-refers two.leaf test = refl
-refers (two.parent r) test = refl
+refers x0 test = grind (arith, nat_tests)
 
 shaped : (x : two.Sample) → (shape : shapes.Shape) × (two.sample_types.nodes (two.sample.node_type x) ≡ Some shape)
 shaped two.leaf = (shapes.nothing, refl)
@@ -33,8 +32,7 @@ reference-readable s is =
     subst (λ x. Throughout IsReadable two.sample_types.parts x) (sym is) (throughout-in IsReadable two.sample_types.parts (λ n. Unit {0}) (λ n it. (tt, tt)) (shapes.reference 4) tt tt)
 
 pub reads-types : ReadsItsTypes two.sample_types
-reads-types zero s is = reference-readable s (cc)
-reads-types (suc n) s is = nothing-readable s (cc)
+reads-types x0 s is = grind (arith, nat_tests, reference-readable, nothing-readable)
 
 pub settled : (x : two.Sample) → IsSettled two.sample x
 settled x a b is other = other ∙ sym is

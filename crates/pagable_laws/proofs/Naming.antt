@@ -45,9 +45,7 @@ module _ {c : Change} {w w' : Core} (goes : Goes c w w') where
 -- ---- what is claimed
 
 loose-by : (kind : ℕ) (mode : Mode) → fits_mode kind mode ≡ true → is_loose_kind kind ≡ true → is_loose mode ≡ true
-loose-by kind Mode.LoosePinned fits is = refl
-loose-by kind Mode.LooseUnpinned fits is = refl
-loose-by kind _ fits is = absurd (grind (arith, nat_tests))
+loose-by kind x1 fits is = grind (arith, nat_tests)
 
 -- nothing is to be said against a claim: the reference's handle is of its node and fits its kind, and the node is there
 pub record IsClaimable (w : Core) (r : ArcRef) : Type 0 where

@@ -10,9 +10,7 @@ abbrev from : ℕ → ℕ → Bool → ℕ
 from k p b = one (nat_le p k && b)
 
 at-most : (x b : Bool) → one (x && b) ≤ one b
-at-most true b = omega arith
-at-most false true = omega arith
-at-most false false = omega arith
+at-most x0 x1 = grind (arith, nat_tests)
 
 plus-none : (n : ℕ) → 0 + n ≡ n
 plus-none n = omega arith
@@ -185,8 +183,7 @@ module _ (k : ℕ) (i : Identity) where
 
     at-once : (task : Task) (steps : List (Took W)) (last : List Todo) → Leads f (first_todo task) steps last → times (is_claim_of i) steps ≤ 1 → times (is_later_of k i) steps ≤ 1
     unfolding OnlyWaits all-left
-    at-once (of_item written) steps last leads few = grind (arith, nat_tests, started-item, bounded, along, plus-none)
-    at-once (of_entry h j) steps last leads few = entry _ _ steps last leads few
+    at-once x0 steps last leads few = grind (arith, nat_tests, started-item, bounded, along, plus-none, entry)
 
 -- what the automaton accepts, with no identity claimed twice, has each stage at most once after its claim
 pub once_each : {W : Type 0} (f : W → Written) (task : Task) (steps : List (Took W)) → InOrder f task steps → ((i : Identity) → times (is_claim_of i) steps ≤ 1) → OnceEach steps

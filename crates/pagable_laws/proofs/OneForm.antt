@@ -18,9 +18,7 @@ same-entries {A} (x ∷ es) (f ∷ fs) e = grind (arith, nat_tests, same-entries
 same-entries _ _ e = cc
 
 same-flag : {A : Type 0} (b d : Bool) → (let m : Meaning A = meanings.flag b in m) ≡ meanings.flag d → b ≡ d
-same-flag true false e = cc
-same-flag false true e = cc
-same-flag _ _ e = refl
+same-flag x0 x1 e = grind (arith, nat_tests)
 
 -- parts that are the same, after a front that is the same
 grown : {A : Type 0} (a b c : List ℕ) (k l : List A) → (b ≡ c) × (k ≡ l) → (a ++ b ≡ a ++ c) × (k ≡ l)

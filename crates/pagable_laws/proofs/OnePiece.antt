@@ -18,8 +18,7 @@ is_turn n t = false
 
 turn-is : (n : ℕ) (t : Turn) → is_turn n t ≡ true → t ≡ of_load n
 unfolding is_turn
-turn-is n (of_load k) is = ap of_load (same-number k n is)
-turn-is n _ is = absurd (cc)
+turn-is n x1 is = grind (arith, nat_tests, same-number)
 
 turn-isnt : (n : ℕ) (t : Turn) → is_turn n t ≡ false → t ≡ of_load n → ⊥
 unfolding is_turn
@@ -31,19 +30,10 @@ number-or a n = grind (arith, nat_tests)
 module _ {N B W : Type 0} where
   -- a load's turn is its begin, or a step
   pub turn-cases : (n : ℕ) (event : Event N B W) (reply : EventReply N B W) → turn_of event reply ≡ of_load n → IsBeginOf n event reply ⊎ ((l : LoadNumber) × (l.0 ≡ n) × (event ≡ Event.LoadStep l))
-  turn-cases n (Event.LoadStep l) reply is = inr (l, cc, refl)
-  turn-cases n (Event.LoadStart h) (EventReply.Started (Ok (Beginning.Load l key))) is = inl (cc)
-  turn-cases n (Event.Call (Call.LoadBegin h)) (EventReply.CallReply (Reply.Begun (Ok (Beginning.Load l key)))) is = inl (cc)
-  turn-cases n (Event.LoadKey k t) (EventReply.Started (Ok (Beginning.Load l key))) is = inl (cc)
-  turn-cases n (Event.WorkerItem t item) (EventReply.WorkerMade (Ok v)) is = absurd (cc)
-  turn-cases n (Event.WorkerListed t i) (EventReply.WorkerMade (Ok v)) is = absurd (cc)
-  turn-cases n event reply is = absurd (cc)
+  turn-cases n x1 x2 is = grind (arith, nat_tests)
 
   begin-turn : (n : ℕ) (event : Event N B W) (reply : EventReply N B W) → IsBeginOf n event reply → turn_of event reply ≡ of_load n
-  begin-turn n (Event.LoadStart h) (EventReply.Started (Ok (Beginning.Load l key))) is = ap of_load is
-  begin-turn n (Event.Call (Call.LoadBegin h)) (EventReply.CallReply (Reply.Begun (Ok (Beginning.Load l key)))) is = ap of_load is
-  begin-turn n (Event.LoadKey k t) (EventReply.Started (Ok (Beginning.Load l key))) is = ap of_load is
-  begin-turn n event reply is = absurd is
+  begin-turn n x1 x2 is = grind (arith, nat_tests)
 
   begin-or : (n : ℕ) (event : Event N B W) (reply : EventReply N B W) → IsBeginOf n event reply ⊎ (IsBeginOf n event reply → ⊥)
   begin-or n (Event.LoadStart h) (EventReply.Started (Ok (Beginning.Load l key))) = number-or l.0 n
@@ -113,8 +103,7 @@ module _ {N B W E : Type 0} (m : Seen N B W) (s s' : MachineState N E) (whole : 
 
   -- a step that ends closes the load
   closes : (reading : Reading) (end : LoadAnswer N) (frames : List Frame) → Does m.values w Owner.Caller reading (Some end) frames w' → w'.loads reading.load.0 ≡ None
-  closes reading (LoadAnswer.Read x) frames does = does.0.handed.hands.1.falls.leaves.loads reading.load.0 ∙ updated-at reading.load.0 None w.loads
-  closes reading _ frames does = grind (arith, nat_tests)
+  closes reading x1 frames does = grind (arith, nat_tests, updated-at)
 
 -- a load's own step, where the chain goes on
 module _ {N B W E : Type 0} (m : Seen N B W) (lawful : IsLawful m.values) (readable : ReadsItsTypes m.values.types) (s s' : MachineState N E) (trees : ℕ → Tree)

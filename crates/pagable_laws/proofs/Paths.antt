@@ -1,14 +1,13 @@
 -- The height of a tree is the length of its longest path.
+use Rattle.pagable_laws.proofs.Words.{nat_tests}
 use Rattle.pagable_laws.proofs.Words.{◌≡◌, ℕ, zero, suc, ◌+◌, ◌≤◌, Bool, true, false, refl, inl, inr, arith, if◌then◌else◌, cases_lt, Meaning, pair, variant}
 use Rattle.pagable_laws.proofs.Words.{reference, followed, is_eager, height, HasPath, IsLongestPath}
 
 above-least : (b : Bool) (n h : ℕ) → b ≡ true → n ≤ h → suc n ≤ (if b then h + 1 else 0)
-above-least true n h is le = omega arith
-above-least false n h is le = absurd (cc)
+above-least x0 n h is le = grind (arith, nat_tests)
 
 above-some : (b : Bool) (n h : ℕ) → suc n ≤ (if b then h + 1 else 0) → (b ≡ true) × (n ≤ h)
-above-some true n h le = (refl, omega arith)
-above-some false n h le = absurd (omega arith)
+above-some x0 n h le = grind (arith, nat_tests)
 
 path-to : (m : Meaning ⊥) (n : ℕ) → HasPath n m → n ≤ height m
 unfolding HasPath height

@@ -1,4 +1,5 @@
 -- Different blobs have different preimages.
+use Rattle.pagable_laws.proofs.Words.{nat_tests}
 use Rattle.pagable_laws.proofs.Words.{◌≡◌, ℕ, zero, suc, ◌+◌, ◌*◌, ◌/◌, ◌%◌, ◌^◌, ◌<◌, ◌≤◌, List, [], ◌∷◌, length, refl, sym, ap, ◌∙◌, arith, add-mul, add_assoc, div-add-mod', div-div-eq-div-mul}
 use Rattle.pagable_laws.proofs.Words.{div-one, mod-eq_of_lt, mod-lt, mul-add-mod_self_right, mul-le-mul_right, mul_assoc, one-le-pow, pow-suc, length-append, Blob, preimage, cut, HasOnePreimage}
 use Rattle.std.specs.{Int.{byte_at, bytes_low_first, to_le_bytes, w64, w128}, List.{flat_map, AllByRecursion}}
@@ -23,8 +24,7 @@ low [] = 0
 low (b ∷ bs) = b + 256 * low bs
 
 byte_at-pow : (k x : ℕ) → byte_at k x ≡ x / 256 ^ k % 256
-byte_at-pow zero x = ap (λ (y : ℕ). y % 256) (sym (div-one x))
-byte_at-pow (suc k) x = refl
+byte_at-pow x0 x = grind (arith, nat_tests)
 
 pow_pos256 : (n : ℕ) → zero < 256 ^ n
 pow_pos256 n = let h = one-le-pow n 256 (omega arith) in omega arith

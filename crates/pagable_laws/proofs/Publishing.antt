@@ -23,8 +23,7 @@ at-number P k x f q here there = grind (arith, nat_tests)
 took-writes : {N B W E : Type 0} (m : Seen N B W) (s : PagerState N E) (n : ℕ) (event : Event N B W) (reply : EventReply N B W) (taken : Took W) → step_of n event reply ≡ taken ∷ []
     → ReplyWrites m s reply
     → TookWrites m.values m.written_of s taken
-took-writes {W = W} m s n (Event.WorkerStep u) (EventReply.WorkerMoved (Ok r)) taken is writes = grind (arith, nat_tests)
-took-writes m s n event reply taken is writes = absurd (cc)
+took-writes m s n x3 x4 taken is writes = grind (arith, nat_tests)
 
 module _ {N B W E : Type 0} (m : Seen N B W) (s s' : MachineState N E) (trees trees' : ℕ → Tree) (goes : GroundGoes (ground_of s trees) (ground_of s' trees')) (fit : WorkFits m.values s trees)
     (whole : IsMachineWhole m.values s) (represents : Represents m.values s.pager trees) (settled : HoldsSettled m.values s.pager) (reads : ReadsItsTypes m.values.types)

@@ -1,4 +1,5 @@
 -- Reading does the same whatever stands for references: two readers over related inputs give related meanings.
+use Rattle.pagable_laws.proofs.Words.{arith, nat_tests}
 use Rattle.pagable_laws.proofs.Words.{◌≡◌, ℕ, zero, suc, ◌-◌, Bool, true, false, List, [], ◌∷◌, Some, None, Result, Ok, Err, ◌⊎◌, inl, inr, refl, subst, Error, ◌>>=◌, Read}
 use Rattle.pagable_laws.proofs.Words.{unsigned_at, signed_at, length_at, text_at, bool_at, char_at, duration_at, Meaning, integer, none, variant, sequence, entry, absent, present, success, failure}
 use Rattle.pagable_laws.proofs.Words.{lifted, Entry, KeyOrder, code_order, text_order, put_all, put_sorted, put_placed, put_sorted_item, put_placed_item, of_entries, of_tagged, of_hash_map, Shape}
@@ -127,8 +128,7 @@ module _ {A B : Type 0} {E : Error → Type 0} {S : A → B → Type 0} where
 
   pub choose_par : {X Y : Type 0} {V : X → Y → Type 0} (t : Bool) {get other : Gets A X} {get2 other2 : Gets B Y} → (t ≡ true → Par E S V get get2)
       → (t ≡ false → Par E S V other other2) → Par E S V (choose t get other) (choose t get2 other2)
-  choose_par true h g = likewise_par (h refl) (λ i. refl) (λ i. refl)
-  choose_par false h g = likewise_par (g refl) (λ i. refl) (λ i. refl)
+  choose_par x0 h g = grind (arith, nat_tests, likewise_par)
 
   pub items_par : {X Y : Type 0} {V : X → Y → Type 0} {get : Gets A X} {get2 : Gets B Y} → Par E S V get get2 → (n : ℕ) → Par E S (AllTwo V) (items get n) (items get2 n)
   unfolding items
@@ -147,12 +147,10 @@ abbrev pub Covers : Type 0 → (ℕ → Shape) → Shape → Type 0
 Covers F parts s = F ⊎ Throughout IsReadable parts s
 
 over : {F : Type 0} {parts : ℕ → Shape} {s t : Shape} → (IsReadable s → IsReadable t) → Under s t → Covers F parts s → Covers F parts t
-over h u (inl f) = inl f
-over h u (inr t) = inr (narrowed t h u)
+over h u x2 = grind (arith, nat_tests, narrowed)
 
 covers-part : {F : Type 0} {parts : ℕ → Shape} {n : ℕ} → Covers F parts (nested n) → Covers F parts (parts n)
-covers-part (inl f) = inl f
-covers-part (inr t) = inr (part_of t)
+covers-part x0 = grind (arith, nat_tests, part_of)
 
 -- what stands for a reference is looked up alike
 pub data OutLook {A B : Type 0} (E : Error → Type 0) (R : A → B → Type 0) : Result A Error → Result B Error → Type 0 where
@@ -161,8 +159,7 @@ pub data OutLook {A B : Type 0} (E : Error → Type 0) (R : A → B → Type 0) 
   first-not : (e : Error) (r : Result B Error) → E e → OutLook E R (Err e) r
 
 flag-same : {C D F : Type 0} {R : C → D → Type 0} (b : Bool) → Along F R (meanings.flag b) (meanings.flag b)
-flag-same true = variant-along _ _ _ none-along
-flag-same false = variant-along _ _ _ none-along
+flag-same x0 = grind (arith, nat_tests, variant-along, none-along)
 
 -- readers of parts below that are related
 pub data DeeperPar {A B C D : Type 0} (E : Error → Type 0) (F : Type 0) (S : A → B → Type 0) (R : C → D → Type 0) (parts : ℕ → Shape) : Deeper A C → Deeper B D → Type 0 where
@@ -197,9 +194,7 @@ module _ {A B C D : Type 0} {E : Error → Type 0} {F : Type 0} {S : A → B →
   look_par : {r : Rest A} {q : Rest B} {x : Result C Error} {y : Result D Error} → SameRest S r q → OutLook E R x y
       → Out E S (Along F R) (x >>= λ c. let z : Result (Meaning C × Rest A) Error = Ok (meanings.reference c, r) in z)
       (y >>= λ c. let z : Result (Meaning D × Rest B) Error = Ok (meanings.reference c, q) in z)
-  look_par s (both-looked-up c d h) = both-given _ _ (reference-along c d h) s
-  look_par s (both-not e) = both-refused e
-  look_par s (first-not e r h) = first-refused e _ h
+  look_par s x1 = grind (arith, nat_tests, both-given, reference-along, both-refused, first-refused)
 
   module _ (look : Look A C) (look2 : Look B D) (alike : (kind : ℕ) (a : A) (b : B) → S a b → OutLook E R (look kind a) (look2 kind b)) where
     reference_out : (kind : ℕ) (r : Rest A) (q : Rest B) {k : List A} {l : List B} → q.bytes ≡ r.bytes → AllTwo S k l → Out E S (Along F R) (reference_at look kind k r) (reference_at look2 kind l q)

@@ -80,10 +80,4 @@ module _ {N B W : Type 0} (m : Seen N B W) (n : ℕ) (g : Ground) (task : Task) 
   pub answered-low : (todo : List Todo) (step : Took W) → Does m n s todo step s' → Walks m.values g s.shelf task todo → TodoLow s.shelf todo → (key : ℕ)
       → answer_after todo step ≡ Some (WorkerAnswer.Key key) → TaskLow s.shelf task
   unfolding WaitsLow Waits
-  answered-low (to_item written ks ∷ below) (Took.Store i (Ok k)) (is, p) (of_it, known) low key e = grind (arith, nat_tests, all-low, longest_path)
-  answered-low (to_item written ks ∷ below) (Took.Store i (Err f)) does walks low key e = absurd (cc)
-  answered-low (to_item written ks ∷ below) step does walks low key e = absurd does
-  answered-low (to_release r k h ∷ []) step does (p, (expects, waits)) low key e = grind (arith, nat_tests)
-  answered-low (to_fail fault back ∷ below) Took.Fail does walks low key e = grind (arith, nat_tests)
-  answered-low (to_fail fault back ∷ below) step does walks low key e = absurd does
-  answered-low todo step does walks low key e = absurd (cc)
+  answered-low x0 x1 x2 x3 low key e = grind (arith, nat_tests, all-low, longest_path)

@@ -112,8 +112,7 @@ module _ {N : Type 0} {v : Values N} {g g' : Ground} {shelf shelf' : Shelf} (goe
 
   module _ (n : ℕ) where
     failed-fits : (i : Identity) (slot : Slot) (a b : Bool) → SlotFits v g' shelf' i slot → SlotFits v g' shelf' i (if a then (if b then record slot { outcome = failed } else slot) else slot)
-    failed-fits i slot true true fit = grind (arith, nat_tests)
-    failed-fits i slot _ _ fit = fit
+    failed-fits i slot x2 x3 fit = grind (arith, nat_tests)
 
     pub slots-failed : ((i : Identity) → shelf'.slots i ≡ (with_failed shelf n).slots i) → SlotsFit v g' shelf'
     slots-failed same i slot' now = of (shelf.slots i) refl (sym (same i) ∙ now)
@@ -127,13 +126,4 @@ module _ {N : Type 0} {v : Values N} {g g' : Ground} {shelf shelf' : Shelf} (goe
 
 module _ {N : Type 0} {v : Values N} {g g' : Ground} {shelf : Shelf} (shelf' : Shelf) (goes : GroundGoes g g') (more : ShelfGrows shelf shelf') (fits : SlotsFit v g shelf) where
   pub walks-on : (task : Task) (todo : List Todo) → Walks v g shelf task todo → Walks v g' shelf' task todo
-  walks-on task (to_start r place ∷ below) walks = above-on shelf shelf' more task r below walks
-  walks-on task (to_pin r place ∷ below) walks = above-on shelf shelf' more task r below walks
-  walks-on task (to_load r place through reading ∷ below) walks = above-on shelf shelf' more task r below walks
-  walks-on task (to_write r place through ∷ below) walks = above-on shelf shelf' more task r below walks
-  walks-on task (to_finish o ∷ below) walks = wait-on shelf shelf' more task (to_finish o ∷ below) walks
-  walks-on task (to_item written ks ∷ below) walks = wait-on shelf shelf' more task (to_item written ks ∷ below) walks
-  walks-on task (to_set r through key height ∷ below) (blob, above) = (has-blob-on goes more fits blob, above-on shelf shelf' more task r below above)
-  walks-on task (to_publish r key height ∷ below) (blob, above) = (has-blob-on goes more fits blob, above-on shelf shelf' more task r below above)
-  walks-on task (to_release r key height ∷ below) (p, above) = (keys-grow more _ _ _ p, above-on shelf shelf' more task r below above)
-  walks-on task _ walks = tt
+  walks-on task x1 x2 = grind (arith, nat_tests, above-on, wait-on, has-blob-on, keys-grow)

@@ -17,12 +17,10 @@ either (Some x) None e is = inl is
 either (Some x) (Some y) e is = grind (arith, nat_tests)
 
 chance-if : (b : Bool) (e : Error) → refused_if b Error.NumbersSpent ≡ Some e → IsOfChance e
-chance-if true e is = let same : Error.NumbersSpent ≡ e = cc in subst IsOfChance same tt
-chance-if false e is = absurd (cc)
+chance-if x0 e is = grind (arith, nat_tests)
 
 where-chance : (b : Bool) (n : ℕ) (e : Error) → where_so b (spent n) ≡ Some e → IsOfChance e
-where-chance true n e is = chance-if (nat_le _ n) e is
-where-chance false n e is = absurd (cc)
+where-chance x0 n e is = grind (arith, nat_tests, chance-if)
 
 birth-chance : (w : Core) (e : Error) → birth_fault w ≡ Some e → IsOfChance e
 birth-chance w e is = elim (either (spent w.last.node) (spent w.last.handle) e is) [ inl a ↦ chance-if _ e a | inr b ↦ chance-if _ e b ]
@@ -37,26 +35,17 @@ memory-chance : (e : Error) → e ≡ Error.OutOfMemory → IsOfChance e
 memory-chance e is = subst IsOfChance (sym is) tt
 
 reading-chance : (e : Error) → is_own_reading e ≡ true → IsOfChance e
-reading-chance Error.RegexRefused is = tt
-reading-chance Error.OutOfMemory is = tt
-reading-chance (Error.Custom text) is = tt
-reading-chance e is = absurd (cc)
+reading-chance x0 is = grind (arith, nat_tests)
 
 fetch-chance : (key : ℕ) (found : Option Blob) (blob : Blob) (before after : ℕ) (e : Error) → found ≡ Some blob → RefusesFetch key found before after e → IsOfChance e
-fetch-chance key found blob before after (Error.NoData k) is why = absurd (let a = why.1 in cc)
-fetch-chance key found blob before after Error.OutOfMemory is why = tt
-fetch-chance key found blob before after (Error.Storage code) is why = tt
-fetch-chance key found blob before after e is why = absurd why
+fetch-chance key found blob before after x5 is why = grind (arith, nat_tests)
 
 loose-not : (kind : ℕ) → is_eager kind ≡ true → is_loose_kind kind ≡ false
 loose-not kind is = grind (arith, nat_tests)
 
 -- what a load gets unread it asks for through a loose reference
 lazy-loose : (below : List Frame) (next : Next) (kind : Kind) (key : ℕ) → need_at below next ≡ needs_lazy kind key → not (is_loose_kind kind.0) ≡ false
-lazy-loose below (asks k q) kind key is = grind (arith, nat_tests)
-lazy-loose [] (reads own) kind key is = absurd (cc)
-lazy-loose (x ∷ xs) (reads own) kind key is = absurd (cc)
-lazy-loose below (is_faulty e) kind key is = absurd (cc)
+lazy-loose x0 x1 kind key is = grind (arith, nat_tests)
 
 second-eager : (types : Types) (top under : Frame) (rest : List Frame) → FramesAsked types (top ∷ under ∷ rest) → is_eager top.kind.0 ≡ true
 unfolding FramesAsked
@@ -153,12 +142,10 @@ module _ {N B W E : Type 0} (m : Seen N B W) (s : MachineState N E) (trees : ℕ
 
     -- the front of what is needed
     front : (frames : List Frame) (kind : Kind) (key : ℕ) → need_of v.types frames ≡ needs_nested kind key → is_eager kind.0 ≡ true
-    front [] kind key is = absurd (cc)
-    front (top ∷ below) kind key is = eager-nested below (next_in v.types top) kind key is
+    front x0 kind key is = grind (arith, nat_tests, eager-nested)
 
     front-lazy : (frames : List Frame) (kind : Kind) (key : ℕ) → need_of v.types frames ≡ needs_lazy kind key → not (is_loose_kind kind.0) ≡ false
-    front-lazy [] kind key is = absurd (cc)
-    front-lazy (top ∷ below) kind key is = lazy-loose below (next_in v.types top) kind key is
+    front-lazy x0 kind key is = grind (arith, nat_tests, lazy-loose)
 
     form-of : (frame : Frame) (below : List Frame) → reading.frames ≡ frame ∷ below → (x : N) → IsDecoded v frame x → IsForm v frame
     form-of frame below is x decoded =

@@ -1,4 +1,5 @@
 -- A form is read up to a reference that is refused, and is refused so.
+use Rattle.pagable_laws.proofs.Words.{arith, nat_tests}
 use Rattle.pagable_laws.proofs.Words.{◌≡◌, ℕ, List, [], ◌∷◌, ◌++◌, length, Ok, Err, refl, ap, inl, inr, append_assoc, Error, varint_at, bool_at, Meaning, Entry, Shape, Look, items, two, LiesIn}
 use Rattle.pagable_laws.proofs.Words.{subst, read_with, below, Form, Forms, Entries, some-form, err-form, ok-form, list-form, run-form, array-form, both-form, sorted-map-form, placed-map-form}
 use Rattle.pagable_laws.proofs.Words.{hash-map-form, sorted-set-form, placed-set-form, tagged-form, case-form, reference-form, nested-form, json-array-form, json-object-form, no-forms, more-forms}
@@ -26,15 +27,13 @@ module _ {A B : Type 0} {look : Look A B} {kind_of : B → ℕ} {e : Error} wher
   split-stop (b ∷ k) l (stops-later a r b2 k2 x h) = one-more a r b k l x (split-stop k l h)
 
   no-more : {r : List A} {k : List B} → Stops look kind_of e r k → k ≡ [] → ⊥
-  no-more (stops-here a r b k x) is = cc
-  no-more (stops-later a r b k x h) is = cc
+  no-more x0 is = grind (arith, nat_tests)
 
   none-stops : {X : Type 0} {r : List A} → Stops look kind_of e r [] → X
   none-stops h = absurd (no-more h refl)
 
   one-stop : {r : List A} {b : B} → Stops look kind_of e r (b ∷ []) → (a : A) × (more : List A) × (r ≡ a ∷ more) × (look (kind_of b) a ≡ Err e)
-  one-stop (stops-here a r b k x) = (a, r, refl, x)
-  one-stop (stops-later a r b k x h) = none-stops h
+  one-stop x0 = grind (arith, nat_tests, none-stops)
 
 module _ {A B : Type 0} {look : Look A B} {kind_of : B → ℕ} {parts : ℕ → Shape} {e : Error} where
   mutual

@@ -64,8 +64,7 @@ module _ (rows : List HandleRow) (low : all_pass row_low rows ≡ true) where
       and-not _ _ e = refl
 
   owner-past : (n : ℕ) → 3 < n → (o : Owner) → owner_low o ≡ true → is_owner (owner_value n) o ≡ false
-  owner-past n lt (Owner.Value m) ok = grind (arith, nat_tests)
-  owner-past n lt _ ok = refl
+  owner-past n lt x2 ok = grind (arith, nat_tests)
 
   pub owned-past : (n : ℕ) → 3 < n → (more : HandleRow → Bool) → times (λ h. is_owned_by (owner_value n) h && more h) rows ≡ 0
   owned-past n lt more = none-pass row_low (λ h. is_owned_by (owner_value n) h && more h) rows low (λ h ok. let a = owner-past n lt h.owner (low-parts h ok).2 in rw a refl)
@@ -235,20 +234,16 @@ past-end (x ∷ xs) zero few = absurd (omega arith)
 past-end (x ∷ xs) (suc n) few = past-end xs n (omega arith)
 
 some-of : {X : Type 0} (test : X → Bool) (x : Option X) (y : X) → if_there test true x ≡ true → x ≡ Some y → test y ≡ true
-some-of test (Some x) y ok is = let e : x ≡ y = cc in subst (λ z. test z ≡ true) e ok
-some-of test None y ok is = absurd (cc)
+some-of test x1 y ok is = grind (arith, nat_tests)
 
 is-caller : (o : Owner) → is_owner Owner.Caller o ≡ true → o ≡ Owner.Caller
-is-caller Owner.Caller ok = refl
-is-caller _ ok = absurd (cc)
+is-caller x0 ok = grind (arith, nat_tests)
 
 is-value : (n : ℕ) (o : Owner) → is_owner (owner_value n) o ≡ true → o ≡ owner_value n
-is-value n (Owner.Value m) ok = let e : m.0 ≡ n = grind (arith, nat_tests) in ap owner_value e
-is-value n _ ok = absurd (cc)
+is-value n x1 ok = grind (arith, nat_tests)
 
 found-of : (test : HandleRow → Bool) (found : Option HandleRow) → if_there test false found ≡ true → (row : HandleRow) × (found ≡ Some row) × (test row ≡ true)
-found-of test (Some row) ok = (row, refl, ok)
-found-of test None ok = absurd (cc)
+found-of test x1 ok = grind (arith, nat_tests)
 
 module _ (w : Core) (vs : List (Option Sample)) (p : Passes w vs) where
   short : (n : ℕ) → 3 < n → value_at vs n ≡ None

@@ -5,8 +5,7 @@ use Rattle.pagable_laws.proofs.Words.{nobody, row_of, with_mode, UnpinCall, two_
 use Rattle.pagable_laws.{specs.SmallWorlds.both, proofs.Existing.given-least, proofs.Sums.one-small}
 
 pub and-false : (b : Bool) → one (b && false) ≡ 0
-and-false true = refl
-and-false false = refl
+and-false x0 = grind (arith, nat_tests)
 
 both-closed : IsClosed two_rows are_two [] both
 both-closed n goes = let a = and-false (1 == n) in omega arith
