@@ -184,9 +184,8 @@ each-type : {P : ℕ → Type 0} → ((t : ℕ) → P t) → (m : Meaning ⊥) �
 unfolding EachType
 each-type all (pair a b) = (each-type all a, each-type all b)
 each-type all (variant n a) = each-type all a
-each-type all (reference a) = absurd a
 each-type all (followed kind a) = (all (type_of kind), each-type all a)
-each-type all _ = tt
+each-type all x1 = grind (arith, nat_tests)
 
 -- a key that a worker is about to set reads as its node's tree
 pub sets-key : {N E : Type 0} (v : Values N) (s : MachineState N E) (trees : ℕ → Tree) → ReadsItsTypes v.types → WorkFits v s trees

@@ -20,8 +20,7 @@ height-within : (m : Meaning ⊥) → height m ≤ deepest_path m
 unfolding height deepest_path
 height-within (pair a b) = let p = height-within a in let q = height-within b in omega arith
 height-within (variant n a) = height-within a
-height-within (reference a) = absurd a
-height-within _ = omega arith
+height-within x0 = grind (arith, nat_tests)
 
 -- what the reference leads to is part of what the meaning says
 record Part (trees : ℕ → Tree) (m : Meaning ⊥) (r : ArcRef) : Type 0 where
@@ -132,7 +131,6 @@ module _ {N E : Type 0} (v : Values N) (s : MachineState N E) (trees : ℕ → T
   not-below : (n : ℕ) (task : Task) (q : Identity) (r : ArcRef) (below : List Todo) → size (trees q.node.0).meaning ≤ size (trees r.node.0).meaning → Expects task r below → Waits shelf task below
       → AllStand shelf n task below → is_open_in q below ≡ true → ⊥
   unfolding Waits AllStand is_open_in
-  not-below n task q r [] few expects waits all is = absurd (cc)
   not-below n task q r (to_finish o ∷ below) few (more, e) (known, expects, waits) (stands, apart, all) is =
       let claim = stands.1 in
       let f = fit.slots t (identity_of o.reference) claim.slot claim.claimed in
@@ -142,8 +140,7 @@ module _ {N E : Type 0} (v : Values N) (s : MachineState N E) (trees : ℕ → T
         | inl same ↦ less-still small few (ap (λ (j : Identity). size (trees j.node.0).meaning) (is-same q (identity_of o.reference) same))
         | inr rest ↦ not-below n task q o.reference below (omega arith) expects waits all rest
       ]
-  not-below n task q r (to_item written keys ∷ below) few expects waits (stands, apart, all) is = let f = subst (λ x. is_open_in q x ≡ true) stands.1 is in absurd (cc)
-  not-below n task q r (_ ∷ below) few expects waits all is = absurd expects
+  not-below n task q r x4 few x6 x7 x8 is = grind (arith, nat_tests)
 
   -- a claim that is too deep is so by a path of the task's, or another is at it that waits for the asker
   pub claim-deep : (n : ℕ) (task : Task) (core : Core) (todo : List Todo) (r : ArcRef) (place : ℕ) (below : List Todo) (s' : Site)

@@ -44,13 +44,12 @@ abbrev AnswersFor : (types : Types) (stored : ℕ → Option Blob) (trees : ℕ 
 AnswersFor types stored trees got answer key = (kind : ℕ) → OutLook any_cause (Found types stored trees got) (answer kind) (Ok (key_ref kind key))
 
 pub among-either : {X : Type 0} (xs ys : List X) (i : ℕ) (r : X) → slice_get (xs ++ ys) i ≡ Some r → Among xs r ⊎ Among ys r
-among-either [] ys i r is = inr (i, is)
-among-either (x ∷ xs) ys zero r is = inl (zero, is)
 among-either {X} (x ∷ xs) ys (suc i) r is = later (among-either xs ys i r is)
   where
     later : Among xs r ⊎ Among ys r → Among (x ∷ xs) r ⊎ Among ys r
     later (inl a) = inl (suc a.0, a.1)
     later (inr b) = inr b
+among-either x0 ys x2 r is = grind (arith, nat_tests)
 
 module _ {types : Types} {stored : ℕ → Option Blob} {trees : ℕ → Tree} {got : List ArcRef} where
   answer-by : (t : Bool) (r : ArcRef) (kind key : ℕ) → (r.kind.0 == kind) ≡ t → Among got r → ReadsNodeTree types stored trees key (type_of r.kind.0) r.node.0
@@ -168,9 +167,8 @@ module _ {N : Type 0} {v : Values N} (lawful : IsLawful v) (readable : ReadsItsT
 -- ---- and stands for its tree
 
 pub among-left : {X : Type 0} (xs ys : List X) (i : ℕ) (r : X) → slice_get xs i ≡ Some r → Among (xs ++ ys) r
-among-left [] ys i r is = absurd (cc)
-among-left (x ∷ xs) ys zero r is = (zero, is)
 among-left (x ∷ xs) ys (suc i) r is = let a = among-left xs ys i r is in (suc a.0, a.1)
+among-left x0 ys x2 r is = grind (arith, nat_tests)
 
 pub among-right : {X : Type 0} (xs ys : List X) (i : ℕ) (r : X) → slice_get ys i ≡ Some r → Among (xs ++ ys) r
 among-right [] ys i r is = (i, is)

@@ -17,19 +17,16 @@ asked x0 x1 kind key x4 = grind (arith, nat_tests, asked-by)
 -- ---- one frame
 
 pub pushed : {X : Type 0} (xs : List X) (y : X) (i : ℕ) (x : X) → slice_get (xs ++ y ∷ []) i ≡ Some x → (slice_get xs i ≡ Some x) ⊎ ((i ≡ length xs) × (y ≡ x))
-pushed [] y zero x is = inr (refl, cc)
-pushed [] y (suc i) x is = absurd (cc)
-pushed (z ∷ xs) y zero x is = inl is
 pushed (z ∷ xs) y (suc i) x is = elim (pushed xs y i x is) [ inl old ↦ inl old | inr new ↦ inr (let n = new.0 in omega (arith, n), new.1) ]
+pushed x0 y x2 x is = grind (arith, nat_tests)
 
 pub longer : {X : Type 0} (xs : List X) (y : X) → length (xs ++ y ∷ []) ≡ length xs + 1
 longer [] y = omega arith
 longer (x ∷ xs) y = let a = longer xs y in omega (arith, a)
 
 pub inside : {X : Type 0} (xs : List X) (i : ℕ) (x : X) → slice_get xs i ≡ Some x → i < length xs
-inside [] i x is = absurd (cc)
-inside (y ∷ xs) zero x is = omega arith
 inside (y ∷ xs) (suc i) x is = let a = inside xs i x is in omega (arith, a)
+inside x0 x1 x is = grind (arith, nat_tests)
 
 module _ {stored stored' : ℕ → Option Blob} {types : Types} (kept : KeepsStored stored stored') where
   read-stays : {t key : ℕ} {m : Meaning KeyRef} → ReadsAs stored types t key m → ReadsAs stored' types t key m

@@ -19,9 +19,8 @@ module _ (w : Core) (owner : Owner) where
 
   pub good : (seen : List ℕ) (references : List ArcRef) → references_fault w owner seen references ≡ None → AreGood w owner references
   unfolding references_fault
-  good seen [] none r (i, is) = absurd (cc)
-  good seen (x ∷ xs) none r (zero, is) = let e : x ≡ r = cc in subst (λ y. IsReference w owner y) e (good-one seen x (or-none _ _ none).0)
   good seen (x ∷ xs) none r (suc i, is) = good (x.handle.0 ∷ seen) xs (or-none _ _ none).1 r (i, is)
+  good seen x1 x2 r x4 = grind (arith, nat_tests, good-one, or-none)
 
 -- ---- values that are away
 

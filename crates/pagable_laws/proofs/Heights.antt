@@ -111,10 +111,8 @@ module _ {shelf shelf' : Shelf} (keys : KeepsKeys shelf shelf') where
 
   pub waits-low-on : (todo : List Todo) → WaitsLow shelf todo → WaitsLow shelf' todo
   unfolding WaitsLow
-  waits-low-on [] low = tt
   waits-low-on (to_finish o ∷ below) (first, attained, reach, place, low) = grind (arith, nat_tests, first-on, attained-on, waits-low-on below low)
-  waits-low-on (to_item written ks ∷ below) low = first-on longest_path written.references ks low
-  waits-low-on (_ ∷ below) low = absurd low
+  waits-low-on x0 x1 = grind (arith, nat_tests, first-on, longest_path)
 
   pub slots-low-on : SlotsLow shelf → ((i : Identity) → shelf'.slots i ≡ shelf.slots i) → SlotsLow shelf'
   slots-low-on low same i slot is = slot-low-on slot (low i slot (sym (same i) ∙ is))
@@ -175,11 +173,8 @@ module _ (shelf : Shelf) where
   -- all are low, once all keys are there
   pub all-low : (h : ℕ) (rs : List ArcRef) (ks : List ℕ) → length ks ≡ length rs → FirstLow shelf h rs ks → AllLow shelf h rs
   unfolding FirstLow
-  all-low h [] [] e low r (i, there) = absurd (cc)
-  all-low h [] (k ∷ ks) e low r among = absurd low
-  all-low h (y ∷ rs) [] e low r among = absurd (omega arith)
-  all-low h (y ∷ rs) (k ∷ ks) e (one, low) r (zero, there) = let same : y ≡ r = cc in subst (λ (z : ArcRef). IsLow shelf h z) same one
   all-low h (y ∷ rs) (k ∷ ks) e (one, low) r (suc i, there) = all-low h rs ks (omega arith) low r (i, there)
+  all-low h x1 x2 e x4 r x6 = grind (arith, nat_tests)
 
   -- the next of the references that are left is started in its place
   pub started-low : (o : Open) (below : List Todo) (rs : List ArcRef) → WaitsLow shelf (to_finish o ∷ below) → TodoLow shelf (next_start o.place rs ++ to_finish o ∷ below)

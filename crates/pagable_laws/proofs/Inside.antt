@@ -38,9 +38,8 @@ module _ {A : Type 0} (P : A → Type 0) where
   unfolding EachRef rename
   lifted_refs (pair a b) = (lifted_refs a, lifted_refs b)
   lifted_refs (variant n a) = lifted_refs a
-  lifted_refs (reference a) = absurd a
   lifted_refs (followed kind a) = lifted_refs a
-  lifted_refs _ = tt
+  lifted_refs x0 = grind (arith, nat_tests)
 
   sequence_refs : (ms : List (Meaning A)) → Each (EachRef P) ms → EachRef P (sequence ms)
   unfolding EachRef Each
@@ -126,15 +125,9 @@ module _ (hash : List ℕ → List ℕ) (types : Types) (nodes : ℕ → Type 0)
 
   types_of : (m : Meaning ⊥) → EachRef Found (unfolded m) → EachType nodes m
   unfolding EachRef EachType unfolded
-  types_of (number n) h = tt
-  types_of (integer z) h = tt
-  types_of (text t) h = tt
-  types_of (pattern t) h = tt
-  types_of none h = tt
   types_of (pair a b) h = (types_of a h.0, types_of b h.1)
   types_of (variant n a) h = types_of a h
-  types_of (reference a) h = absurd a
-  types_of (followed kind a) h = h
+  types_of x0 h = grind (arith, nat_tests)
 
   mutual
     unfolding Each
@@ -153,9 +146,8 @@ each_along : {N M : ℕ → Type 0} (f : (n : ℕ) → N n → M n) (m : Meaning
 unfolding EachType
 each_along f (pair a b) h = (each_along f a h.0, each_along f b h.1)
 each_along f (variant n a) h = each_along f a h
-each_along f (reference a) h = absurd a
 each_along f (followed kind a) h = (f (type_of kind) h.0, each_along f a h.1)
-each_along f _ h = tt
+each_along f x1 h = grind (arith, nat_tests)
 
 pub canonical_inside : IsCanonicalInside
 canonical_inside hash types nodes t key closed all inside h = (all t.type inside, each_along all t.meaning (stays_inside hash types nodes t key closed inside h))

@@ -12,16 +12,13 @@ pub record IsForm {N : Type 0} (v : Values N) (frame : Frame) : Type 0 where
   pub kinds : kinds_of frame.got ≡ kinds_of refs
 
 as-many-keys : (shelf : Shelf) (rs : List ArcRef) (keys : List ℕ) → AreKeysOf shelf rs keys → length keys ≡ length rs
-as-many-keys shelf [] [] all = refl
 as-many-keys shelf (r ∷ rs) (k ∷ ks) all = let a = as-many-keys shelf rs ks all.1 in omega (arith, a)
-as-many-keys shelf _ _ all = absurd all
+as-many-keys shelf x1 x2 all = grind (arith, nat_tests)
 
 key-at : (shelf : Shelf) (rs : List ArcRef) (keys : List ℕ) → AreKeysOf shelf rs keys → (place : ℕ) (r : ArcRef) (key : ℕ) → slice_get rs place ≡ Some r → slice_get keys place ≡ Some key
     → (height : ℕ) × IsPublished shelf (identity_of r) key height
-key-at shelf [] [] all place r key is at = absurd (cc)
-key-at shelf (q ∷ rs) (k ∷ ks) all zero r key is at = grind arith
 key-at shelf (q ∷ rs) (k ∷ ks) all (suc place) r key is at = key-at shelf rs ks all.1 place r key is at
-key-at shelf _ _ all place r key is at = absurd all
+key-at shelf x1 x2 all x4 r key is at = grind (arith, nat_tests)
 
 -- an identity has one key and one height
 one-outcome : (shelf : Shelf) (i : Identity) (k key h height : ℕ) → IsPublished shelf i k h → IsPublished shelf i key height → h ≡ height

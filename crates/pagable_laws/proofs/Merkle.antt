@@ -116,14 +116,10 @@ module _ {hash : List ℕ → List ℕ} {types : Types} where
 
     keys-along : {x : Meaning KeyRef} {a : Meaning ⊥} → IsFollowed (StoredAs store types) x a → Along ⊥ (KeyedKid hash types) x (unfolded a)
     unfolding unfolded
-    keys-along (number-followed n) = number-along n
-    keys-along (integer-followed z) = integer-along z
-    keys-along (text-followed t) = text-along t
-    keys-along (pattern-followed t) = pattern-along t
-    keys-along none-followed = none-along
     keys-along (pair-followed x y a b f g) = pair-along _ _ _ _ (keys-along f) (keys-along g)
     keys-along (variant-followed n x a f) = variant-along _ _ _ (keys-along f)
     keys-along (reference-followed r x a o f) = reference-along _ _ (record { kind = refl; key = node-key (type_of r.kind) r.key x a o (keys-along f) })
+    keys-along x0 = grind (arith, nat_tests, number-along, integer-along, text-along, pattern-along, none-along)
 
 pub stored_key : IsStoredKey
 stored_key hash store types t key own_keys h = node-key own_keys t.type key h.own t.meaning h.stands (keys-along own_keys h.follows)

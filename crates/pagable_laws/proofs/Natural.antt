@@ -33,15 +33,10 @@ module _ {A C : Type 0} (f : A → C) where
 
   pub along-rename : (m : Meaning A) → Along (Unit {0}) (Leads f) m (rename f m)
   unfolding rename
-  along-rename (number n) = number-along n
-  along-rename (integer z) = integer-along z
-  along-rename (text t) = text-along t
-  along-rename (pattern t) = pattern-along t
-  along-rename none = none-along
   along-rename (pair a b) = pair-along _ _ _ _ (along-rename a) (along-rename b)
   along-rename (variant n a) = variant-along _ _ _ (along-rename a)
-  along-rename (reference a) = reference-along _ _ refl
   along-rename (followed kind a) = followed-along _ _ _ tt (along-rename a)
+  along-rename x0 = grind (arith, nat_tests, number-along, integer-along, text-along, pattern-along, none-along, reference-along)
 
 given_is : {C D : Type 0} (m n : Meaning D) (q : Rest C) (bytes : List ℕ) (refs : List C) → m ≡ n → q.bytes ≡ bytes → q.refs ≡ refs
     → (let r : Result (Meaning D × Rest C) Error = Ok (m, q) in r) ≡ Ok (n, rest bytes refs)

@@ -14,18 +14,15 @@ unfolding HasPath height
 path-to (pair a b) n (inl h) = let p = path-to a n h in omega arith
 path-to (pair a b) n (inr h) = let p = path-to b n h in omega arith
 path-to (variant x a) n h = path-to a n h
-path-to (reference a) n h = absurd a
 path-to (followed kind a) (suc n) (eager, h) = above-least (is_eager kind) n (height a) eager (path-to a n h)
-path-to _ _ h = omega arith
+path-to x0 x1 x2 = grind (arith, nat_tests)
 
 path-from : (m : Meaning ⊥) (n : ℕ) → n ≤ height m → HasPath n m
 unfolding HasPath height
 path-from (pair a b) n h = elim (cases_lt (height a) n) [ inl lt ↦ inr (path-from b n (omega arith)) | inr le ↦ inl (path-from a n le) ]
 path-from (variant x a) n h = path-from a n h
-path-from (reference a) n h = absurd a
-path-from (followed kind a) zero h = tt
 path-from (followed kind a) (suc n) h = let p = above-some (is_eager kind) n (height a) h in (p.0, path-from a n p.1)
-path-from _ n h = omega arith
+path-from x0 x1 h = grind (arith, nat_tests)
 
 pub longest_path : IsLongestPath
 longest_path m n = (path-to m n, path-from m n)

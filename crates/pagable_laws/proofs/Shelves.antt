@@ -41,9 +41,8 @@ follows-on same (reference-follows r a among is) = reference-follows r a among (
 
 module _ {shelf shelf' : Shelf} (keys : KeepsKeys shelf shelf') where
   pub keys-on : (rs : List ArcRef) (ks : List ℕ) → AreKeysOf shelf rs ks → AreKeysOf shelf' rs ks
-  keys-on [] [] known = tt
   keys-on (r ∷ rs) (k ∷ ks) ((h, p), known) = ((h, keys (identity_of r) k h p), keys-on rs ks known)
-  keys-on _ _ known = absurd known
+  keys-on x0 x1 x2 = grind (arith, nat_tests)
 
   pub so-far-on : (rs : List ArcRef) (ks : List ℕ) → KeysSoFar shelf rs ks → KeysSoFar shelf' rs ks
   unfolding KeysSoFar
@@ -87,10 +86,8 @@ module _ {shelf shelf' : Shelf} (more : ShelfGrows shelf shelf') where
 module _ (shelf shelf' : Shelf) (more : ShelfGrows shelf shelf') where
   pub wait-on : (task : Task) (todo : List Todo) → Waits shelf task todo → Waits shelf' task todo
   unfolding Waits
-  wait-on task [] waits = tt
   wait-on task (to_finish o ∷ below) (known, expects, waits) = (so-far-on (keys-grow more) _ _ known, expects, wait-on task below waits)
-  wait-on task (to_item written ks ∷ below) (is, known) = (is, so-far-on (keys-grow more) _ _ known)
-  wait-on task (_ ∷ below) waits = absurd waits
+  wait-on task x1 x2 = grind (arith, nat_tests, so-far-on, keys-grow)
 
   pub above-on : (task : Task) (r : ArcRef) (below : List Todo) → Above shelf task r below → Above shelf' task r below
   above-on task r below (expects, waits) = (expects, wait-on task below waits)

@@ -14,9 +14,8 @@ all_pass test [] = true
 all_pass test (x ∷ xs) = test x && all_pass test xs
 
 pub all-among : {X : Type 0} (test : X → Bool) (xs : List X) (x : X) → all_pass test xs ≡ true → Among xs x → test x ≡ true
-all-among test [] x ok among = absurd (cc)
-all-among test (y ∷ ys) x ok (zero, is) = let e : y ≡ x = cc in subst (λ z. test z ≡ true) e (and_parts _ _ ok).0
 all-among test (y ∷ ys) x ok (suc i, is) = all-among test ys x (and_parts _ _ ok).1 (i, is)
+all-among test x1 x ok x4 = grind (arith, nat_tests)
 
 pub none-pass : {X : Type 0} (p q : X → Bool) (xs : List X) → all_pass p xs ≡ true → ((x : X) → p x ≡ true → q x ≡ false) → times q xs ≡ 0
 none-pass p q xs ok h = sum-zero (λ x. one (q x)) xs (λ x among. ap one (h x (all-among p xs x ok among)))
@@ -229,9 +228,8 @@ pub record Passes (w : Core) (vs : List (Option Sample)) : Type 0 where
 
 past-end : (vs : List (Option Sample)) (n : ℕ) → length vs ≤ n → value_at vs n ≡ None
 unfolding value_at
-past-end [] n few = refl
-past-end (x ∷ xs) zero few = absurd (omega arith)
 past-end (x ∷ xs) (suc n) few = past-end xs n (omega arith)
+past-end x0 x1 few = grind (arith, nat_tests)
 
 some-of : {X : Type 0} (test : X → Bool) (x : Option X) (y : X) → if_there test true x ≡ true → x ≡ Some y → test y ≡ true
 some-of test x1 y ok is = grind (arith, nat_tests)
