@@ -1,17 +1,12 @@
 -- A form is read again, whatever follows it.
-use Rattle.pagable_laws.proofs.Words.{◌≡◌, ℕ, List, [], ◌∷◌, ◌++◌, length, Ok, refl, ap, inl, inr, append_assoc, varint_at, bool_at, Meaning, Entry, text_order, Shape, Look, Gets, items, two}
-use Rattle.pagable_laws.proofs.Words.{read_with, below, read, Form, Forms, Entries, unsigned-form, signed-form, flag-form, text-form, letter-form, duration-form, pattern-form}
-use Rattle.pagable_laws.proofs.Words.{some-form, err-form, ok-form, list-form, run-form, array-form, both-form, sorted-map-form, placed-map-form, hash-map-form, sorted-set-form}
-use Rattle.pagable_laws.proofs.Words.{placed-set-form, static-form, tagged-form, case-form, reference-form, nested-form, json-flag-form, json-number-form, json-text-form}
-use Rattle.pagable_laws.proofs.Words.{json-array-form, json-object-form, no-forms, more-forms, no-entries, more-entries, IsReadable, HasNoCase, Throughout, IsReadAgain, rest, LooksUp}
-use Rattle.pagable_laws.proofs.Words.{no-references, more-references}
+use Rattle.pagable_laws.proofs.Words.{◌≡◌, ℕ, List, [], ◌∷◌, ◌++◌, length, Ok, refl, ap, inl, inr, append_assoc, varint_at, bool_at, Meaning, Entry, text_order, Shape, Look, Gets, items, two, LiesIn}
+use Rattle.pagable_laws.proofs.Words.{subst, read_with, below, read, Form, Forms, Entries, unsigned-form, signed-form, flag-form, text-form, letter-form, duration-form, pattern-form, some-form}
+use Rattle.pagable_laws.proofs.Words.{err-form, ok-form, list-form, run-form, array-form, both-form, sorted-map-form, placed-map-form, hash-map-form, sorted-set-form, placed-set-form, static-form}
+use Rattle.pagable_laws.proofs.Words.{tagged-form, case-form, reference-form, nested-form, json-flag-form, json-number-form, json-text-form, json-array-form, json-object-form, no-forms, more-forms}
+use Rattle.pagable_laws.proofs.{Words.{no-entries, more-entries, IsReadable, HasNoCase, Throughout, IsReadAgain, rest, LooksUp, no-references, more-references}, Wholes.{unsigned-again, signed-again}}
+use Rattle.pagable_laws.proofs.{Basic.{bool-again, length-again, text-again, char-again, duration-again}, Putting.{ascending-kept, ascending_items-kept, differing-kept, differing_items-kept}}
+use Rattle.pagable_laws.proofs.Within.{here, narrowed, part_of, of_json, of_text}
 use Rattle.std.specs.Int.{w32, w64}
-use Rattle.pagable_laws.proofs.Wholes.{unsigned-again, signed-again}
-use Rattle.pagable_laws.proofs.Basic.{bool-again, length-again, text-again, char-again, duration-again}
-use Rattle.pagable_laws.proofs.Putting.{ascending-kept, ascending_items-kept, differing-kept, differing_items-kept}
-use Rattle.pagable_laws.proofs.Within.{here, part_of, of_json, of_text}
-use Rattle.pagable_laws.proofs.Readable.{in_optional, in_ok, in_err, in_list, in_array, in_first, in_second, in_sorted_key, in_sorted_value, in_placed_key, in_placed_value, in_hash_key}
-use Rattle.pagable_laws.proofs.Readable.{in_hash_value, in_sorted_item, in_placed_item, in_written, in_case}
 
 -- nothing that is written has a shape without cases
 pub no_case-form : {A : Type 0} {kind_of : A → ℕ} {parts : ℕ → Shape} {left : ℕ} {s : Shape} {m : Meaning A} {b : List ℕ} {k : List A} → Form A kind_of parts left s m b k → HasNoCase s → ⊥
@@ -45,7 +40,7 @@ read_at look parts left s = read_with look parts (below look parts left) s
 
 module _ {A B : Type 0} {look : Look A B} {kind_of : B → ℕ} {parts : ℕ → Shape} where
   mutual
-    unfolding read_with below items IsReadable varint_at bool_at
+    unfolding read_with below items IsReadable LiesIn varint_at bool_at
 
     pub form-again : (x : List ℕ) (r y : List A) {left : ℕ} {s : Shape} {m : Meaning B} {b : List ℕ} {k : List B} → Form B kind_of parts left s m b k → LooksUp look kind_of r k
         → Throughout IsReadable parts s
@@ -57,30 +52,30 @@ module _ {A B : Type 0} {look : Look A B} {kind_of : B → ℕ} {parts : ℕ →
     form-again x r y (letter-form left c h) u t = rw (no_refs u, char-again c x h) refl
     form-again x r y (duration-form left seconds nanos h l) u t = rw (no_refs u, duration-again seconds nanos x h l) refl
     form-again x r y (pattern-form left b h le) u t = rw (no_refs u, text-again b x h le) refl
-    form-again x r y (some-form left s m b k h) u t = rw (form-again x r y h u (in_optional t)) refl
-    form-again x r y (err-form left s s2 m b k h) u t = rw (form-again x r y h u (in_err t)) refl
-    form-again x r y (ok-form left s s2 m b k h) u t = rw (form-again x r y h u (in_ok t)) refl
-    form-again x r y (list-form left s ms b k le h) u t = rw (append_assoc, length-again (length ms) (b ++ x) le, forms-again x r y h u (in_list t)) refl
+    form-again x r y (some-form left s m b k h) u t = rw (form-again x r y h u (narrowed t (λ p. p) (λ n d l. l))) refl
+    form-again x r y (err-form left s s2 m b k h) u t = rw (form-again x r y h u (narrowed t (λ p. p.1) (λ n d l. l.1))) refl
+    form-again x r y (ok-form left s s2 m b k h) u t = rw (form-again x r y h u (narrowed t (λ p. p.0) (λ n d l. l.0))) refl
+    form-again x r y (list-form left s ms b k le h) u t = rw (append_assoc, length-again (length ms) (b ++ x) le, forms-again x r y h u (narrowed t (λ p. p) (λ n d l. l))) refl
     form-again x r y (run-form left s ms b k le h) u t = absurd (here t)
-    form-again x r y (array-form left n s ms b k e h) u t = rw (← e, forms-again x r y h u (in_array t)) refl
+    form-again x r y (array-form left n s ms b k e h) u t = rw (← e, forms-again x r y h u (narrowed t (λ p. p) (λ n d l. l))) refl
     form-again x r y (both-form left s s2 m n b c k l h g) u t =
         let p = split k l u in
-        rw (p.whole, append_assoc, append_assoc, form-again (c ++ x) p.front (p.back ++ y) h p.first (in_first t), form-again x p.back y g p.second (in_second t)) refl
+        rw (p.whole, append_assoc, append_assoc, form-again (c ++ x) p.front (p.back ++ y) h p.first (narrowed t (λ p. p.0) (λ n d l. l.0)), form-again x p.back y g p.second (narrowed t (λ p. p.1) (λ n d l. l.1))) refl
     form-again x r y (sorted-map-form left order s s2 es b k le up h) u t =
-        rw (append_assoc, length-again (length es) (b ++ x) le, entries-again x r y h u (in_sorted_key t) (in_sorted_value t), ascending-kept order es up) refl
+        rw (append_assoc, length-again (length es) (b ++ x) le, entries-again x r y h u (narrowed t (λ p. p.0) (λ n d l. l.0)) (narrowed t (λ p. p.1) (λ n d l. l.1)), ascending-kept order es up) refl
     form-again x r y (placed-map-form left s s2 es b k le up h) u t =
-        rw (append_assoc, length-again (length es) (b ++ x) le, entries-again x r y h u (in_placed_key t) (in_placed_value t), differing-kept es up) refl
-    form-again x r y (hash-map-form left s s2 es b k le up h) u t = rw (append_assoc, length-again (length es) (b ++ x) le, entries-again x r y h u (in_hash_key t) (in_hash_value t)) refl
+        rw (append_assoc, length-again (length es) (b ++ x) le, entries-again x r y h u (narrowed t (λ p. p.0) (λ n d l. l.0)) (narrowed t (λ p. p.1) (λ n d l. l.1)), differing-kept es up) refl
+    form-again x r y (hash-map-form left s s2 es b k le up h) u t = rw (append_assoc, length-again (length es) (b ++ x) le, entries-again x r y h u (narrowed t (λ p. p.0) (λ n d l. l.0)) (narrowed t (λ p. p.1) (λ n d l. l.1))) refl
     form-again x r y (sorted-set-form left order s ms b k le up h) u t =
-        rw (append_assoc, length-again (length ms) (b ++ x) le, forms-again x r y h u (in_sorted_item t), ascending_items-kept order ms up) refl
+        rw (append_assoc, length-again (length ms) (b ++ x) le, forms-again x r y h u (narrowed t (λ p. p) (λ n d l. l)), ascending_items-kept order ms up) refl
     form-again x r y (placed-set-form left s ms b k le up h) u t =
-        rw (append_assoc, length-again (length ms) (b ++ x) le, forms-again x r y h u (in_placed_item t), differing_items-kept ms up) refl
+        rw (append_assoc, length-again (length ms) (b ++ x) le, forms-again x r y h u (narrowed t (λ p. p) (λ n d l. l)), differing_items-kept ms up) refl
     form-again x r y (static-form left registry i m lt e) u t = rw (no_refs u, unsigned-again w32 i x lt, e) refl
     form-again x r y (tagged-form left written known body tag m b k utf8 le f) u t = elim ((here t).0 tag) [
       | inl h ↦ absurd (no_case-form f h)
-      | inr h ↦ rw (append_assoc, text-again tag (b ++ x) utf8 le, h.0, h.1, form-again x r y f u (in_written written known body tag t h)) refl
+      | inr h ↦ rw (append_assoc, text-again tag (b ++ x) utf8 le, h.0, h.1, form-again x r y f u (narrowed t (λ p. subst IsReadable h.1 (p.1 tag h.0)) (λ n d l. l.0 tag))) refl
     ]
-    form-again x r y (case-form left w known part n m b k lt is f) u t = rw (append_assoc, unsigned-again w n (b ++ x) lt, is, form-again x r y f u (in_case w known part n is t)) refl
+    form-again x r y (case-form left w known part n m b k lt is f) u t = rw (append_assoc, unsigned-again w n (b ++ x) lt, is, form-again x r y f u (narrowed t (λ p. p n is) (λ nodes d l. l n is))) refl
     form-again x r y (reference-form left kind a e) u t = let p = one_ref u in rw (p.1, ← e, p.2) refl
     form-again x r y (nested-form left less n m b k e h) u t = rw (e, form-again x r y h u (part_of t)) refl
     form-again x r y (json-flag-form left b) u t = rw (no_refs u, bool-again b x) refl

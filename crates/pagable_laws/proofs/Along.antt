@@ -1,15 +1,13 @@
 -- A form goes along: where each reference is replaced by one of the same kind, the bytes are a form of what results.
-use Rattle.pagable_laws.proofs.Words.{◌≡◌, ℕ, ℤ, Bool, true, false, List, [], ◌∷◌, ◌++◌, length, ◌⊎◌, inl, inr, refl, sym, ap, ◌∙◌, arith, Ordering, is_eq-slice_cmp, Meaning, number, integer}
-use Rattle.pagable_laws.proofs.Words.{text, pattern, none, pair, variant, reference, followed, sequence, plain, lifted, rename, Entry, KeyOrder, ordered, same_key, code, code_order, text_order}
-use Rattle.pagable_laws.proofs.Words.{put_all, put_sorted, Apart, AllAfter, Ascends, ItemsAscend, Differ, ItemsDiffer, of_entries, of_hash_map, Shape, Form, Forms, Entries, nothing-form}
+use Rattle.pagable_laws.proofs.Words.{nat_tests, ◌≡◌, ℕ, ℤ, Bool, true, false, List, [], ◌∷◌, ◌++◌, length, ◌⊎◌, inl, inr, refl, sym, ap, ◌∙◌, arith, Ordering, is_eq-slice_cmp, Meaning, number}
+use Rattle.pagable_laws.proofs.Words.{integer, text, pattern, none, pair, variant, reference, followed, sequence, plain, lifted, rename, Entry, KeyOrder, ordered, same_key, code, code_order}
+use Rattle.pagable_laws.proofs.Words.{text_order, put_all, put_sorted, Apart, AllAfter, Ascends, ItemsAscend, Differ, ItemsDiffer, of_entries, of_hash_map, Shape, Form, Forms, Entries, nothing-form}
 use Rattle.pagable_laws.proofs.Words.{unsigned-form, signed-form, flag-form, text-form, letter-form, duration-form, pattern-form, none-form, some-form, err-form, ok-form, list-form, run-form}
-use Rattle.pagable_laws.proofs.Words.{array-form, both-form, sorted-map-form, placed-map-form, hash-map-form, sorted-set-form, placed-set-form, static-form, tagged-form, case-form}
-use Rattle.pagable_laws.proofs.Words.{reference-form, nested-form, json-null-form, json-flag-form, json-number-form, json-text-form, json-array-form, json-object-form, no-forms, more-forms}
-use Rattle.pagable_laws.proofs.Words.{no-entries, more-entries, HasNoReference}
-use Rattle.std.specs.declared.cmp.Ordering.{Ordering}
-use Rattle.std.specs.Ordering.{match_ordering, eq_by_cmp}
+use Rattle.pagable_laws.proofs.Words.{array-form, both-form, sorted-map-form, placed-map-form, hash-map-form, sorted-set-form, placed-set-form, static-form, tagged-form, case-form, reference-form}
+use Rattle.pagable_laws.proofs.Words.{nested-form, json-null-form, json-flag-form, json-number-form, json-text-form, json-array-form, json-object-form, no-forms, more-forms, no-entries, more-entries}
+use Rattle.pagable_laws.proofs.{Words.HasNoReference, Putting.{After, AllAfterThose, after_none}}
+use Rattle.std.specs.{declared.cmp.Ordering.Ordering, Ordering.{match_ordering, eq_by_cmp}}
 use Rattle.pagable_model.specs.Meaning as meanings
-use Rattle.pagable_laws.proofs.Putting.{After, AllAfterThose, after_none}
 
 -- the same meaning but for its references, which are as R says; references that are followed already stand in it only if F
 pub data Along {A B : Type 0} (F : Type 0) (R : A → B → Type 0) : Meaning A → Meaning B → Type 0 where
@@ -114,12 +112,7 @@ not_equal a b h e =
 after_put : {A : Type 0} (x e : Entry A) (acc : List (Entry A)) → After apart x acc → apart x e → After apart x (put_sorted code_order acc e)
 unfolding After
 after_put x e [] h d = (d, tt)
-after_put {A} x e (f ∷ acc) h d = at (ordered code_order e.0 f.0) (after_put x e acc h.1 d)
-  where
-    at : (o : Ordering) → After apart x (put_sorted code_order acc e) → After apart x (match_ordering o (e ∷ f ∷ acc) ((f.0, e.1) ∷ acc) (f ∷ put_sorted code_order acc e))
-    at Ordering.Less rest = (d, h)
-    at Ordering.Equal rest = h
-    at Ordering.Greater rest = (h.0, rest)
+after_put {A} x e (f ∷ acc) h d = grind (arith, nat_tests, ordered, after_put x e acc h.1 d)
 
 those_put : {A : Type 0} (e : Entry A) (acc es : List (Entry A)) → AllAfterThose apart acc es → AllAfter apart e es → AllAfterThose apart (put_sorted code_order acc e) es
 unfolding AllAfterThose AllAfter
@@ -227,8 +220,7 @@ module _ {A B : Type 0} {F : Type 0} {R : A → B → Type 0} where
   items_differ-two h a = apart-two {V = Along F R} _ _ (λ x x2 y y2 v w r. rw (← plain-along v, ← plain-along w) r) h a
 
   flag-along : (b : Bool) {n : Meaning B} → Along F R (meanings.flag b) n → n ≡ meanings.flag b
-  flag-along true (variant-along n x a none-along) = refl
-  flag-along false (variant-along n x a none-along) = refl
+  flag-along x0 x1 = grind (arith, nat_tests)
 
   lifted-same : (m : Meaning ⊥) {n : Meaning B} → Along F R (lifted m) n → n ≡ lifted m
   unfolding rename

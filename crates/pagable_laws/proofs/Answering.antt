@@ -1,26 +1,19 @@
 -- What follows for keys: each that is published is its tree's, each that is answered is its task's, and what a worker met that answers one is left paged out.
-use Rattle.pagable_laws.proofs.Words.{arith, nat_tests, ◌≡◌, ℕ, true, List, [], ◌∷◌, Option, Some, None, Ok, Err, refl, sym, ap, subst, ◌∙◌, is_some, OptionalDataKey, pair}
-use Rattle.pagable_laws.proofs.Words.{variant, reference, followed, EachType, blob_of, KeyOf, KeyOfItem, ArcRef, Identity, is_loose_kind, Meaning, Tree, HandleNumber, ReadsTree, WorkerNumber}
-use Rattle.pagable_laws.proofs.Words.{type_of, if_there, Event, EventReply, Took, WorkerAnswer, WorkerReply, identity_of, has_key, Core, Cell, key_at, Shelf, Slot, Written, Fault, was_refused}
-use Rattle.pagable_laws.proofs.Words.{was_failed, Todo, to_item, to_set, to_publish, to_release, to_fail, Task, of_item, of_entry, Walking, Values, Seen, Site, Does, IsPublished, answer_after}
-use Rattle.pagable_laws.proofs.Words.{WorkerSteps, Happens, PagerState, MachineState, world_of, kids_of, HandlesAreWhole, IsMachineWhole, KeyFits, NodeStands, here, away, Represents, StandsFor}
-use Rattle.pagable_laws.proofs.Words.{ReadsItsTypes, Meets, meets-of-item, meets-entry, meets-below, AreKeysOf, IsLeftPagedOut, HasKeyOf, LeavesAll, IsKeyOfTask, Ground, ground_of, IsOfEntry}
-use Rattle.pagable_laws.proofs.Words.{Waits, Walks, WorkFits, IsDone, KeyIsSet, AllHold, HasHandle, KeysHeld, KeysAreRight}
-use Rattle.pagable_laws.proofs.Merkle.{one_key, one_item_key, tree_readable}
-use Rattle.pagable_laws.proofs.Trees.{same_some}
-use Rattle.pagable_laws.proofs.Following.{IdentityStands, known-of, keys-of, tree-form, held-of, cell-of}
-use Rattle.pagable_laws.proofs.Taking.{row-held}
-use Rattle.pagable_laws.proofs.Coming.{updated-at}
-use Rattle.pagable_laws.proofs.Shelves.{KeepsKeys, keys-on, keys-same}
-use Rattle.pagable_laws.proofs.Stepping.{all-known, stands-for}
+use Rattle.pagable_laws.proofs.Words.{arith, nat_tests, ◌≡◌, ℕ, true, List, [], ◌∷◌, Option, Some, None, Ok, Err, refl, sym, ap, subst, ◌∙◌, is_some, OptionalDataKey, pair, variant, reference}
+use Rattle.pagable_laws.proofs.Words.{followed, EachType, blob_of, KeyOf, KeyOfItem, ArcRef, Identity, is_loose_kind, Meaning, Tree, HandleNumber, ReadsTree, WorkerNumber, type_of, if_there, Event}
+use Rattle.pagable_laws.proofs.Words.{EventReply, Took, WorkerAnswer, WorkerReply, identity_of, has_key, Core, Cell, key_at, Shelf, Slot, Written, Fault, was_refused, was_failed, Todo, to_item}
+use Rattle.pagable_laws.proofs.Words.{to_set, to_publish, to_release, to_fail, Task, of_item, of_entry, Walking, Values, Seen, Site, Does, IsPublished, answer_after, WorkerSteps, Happens, PagerState}
+use Rattle.pagable_laws.proofs.Words.{MachineState, world_of, kids_of, HandlesAreWhole, IsMachineWhole, KeyFits, NodeStands, here, away, Represents, StandsFor, ReadsItsTypes, Meets, meets-of-item}
+use Rattle.pagable_laws.proofs.Words.{meets-entry, meets-below, AreKeysOf, IsLeftPagedOut, HasKeyOf, LeavesAll, IsKeyOfTask, Ground, ground_of, IsOfEntry, Waits, Walks, WorkFits, IsDone, KeyIsSet}
+use Rattle.pagable_laws.proofs.{Words.{AllHold, HasHandle, KeysHeld, KeysAreRight}, Merkle.{one_key, one_item_key, tree_readable}, Trees.same_some, Following.{IdentityStands, known-of, keys-of}}
+use Rattle.pagable_laws.proofs.{Following.{tree-form, held-of, cell-of}, Taking.row-held, Coming.updated-at, Shelves.{KeepsKeys, keys-on, keys-same}, Stepping.{all-known, stands-for}}
 
 -- ---- one step of a worker
 
 module _ {N B W : Type 0} (m : Seen N B W) (n : ℕ) (g : Ground) (task : Task) (s s' : Site) where
   of-publish : (todo : List Todo) (i : Identity) (key height : ℕ) → Does m n s todo (Took.Publish i key height) s' → Walks m.values g s.shelf task todo
       → KeyOf m.values.hash m.values.types (g.trees i.node.0) key
-  of-publish (to_publish r k h ∷ below) i key height (is, same_key, same_height, t) (blob, above) = grind arith
-  of-publish todo i key height does walks = absurd does
+  of-publish x0 i key height x4 x5 = grind (arith, nat_tests)
 
   -- what the answer of a key comes from
   pub record Answers (key : ℕ) : Type 0 where
@@ -28,8 +21,7 @@ module _ {N B W : Type 0} (m : Seen N B W) (n : ℕ) (g : Ground) (task : Task) 
     same : (i : Identity) → s'.shelf.slots i ≡ s.shelf.slots i
 
   is-fault : (fault : Fault) (key : ℕ) → answer_after {W = W} (to_fail fault None ∷ []) Took.Fail ≡ Some (WorkerAnswer.Key key) → ⊥
-  is-fault (was_refused f) key e = cc
-  is-fault was_failed key e = cc
+  is-fault x0 key e = grind (arith, nat_tests)
 
   pub answered : (todo : List Todo) (step : Took W) → Does m n s todo step s' → Walks m.values g s.shelf task todo → (key : ℕ) → answer_after todo step ≡ Some (WorkerAnswer.Key key) → Answers key
   unfolding Waits
@@ -103,13 +95,11 @@ module _ {N E : Type 0} (v : Values N) (s : MachineState N E) (trees : ℕ → T
 -- ---- an event
 
 done-on : {N : Type 0} (v : Values N) {shelf shelf' : Shelf} → KeepsKeys shelf shelf' → (task : Task) (key : ℕ) → IsDone v shelf task key → IsDone v shelf' task key
-done-on v keeps (of_item written) key (keys, known, is) = (keys, keys-on keeps written.references keys known, is)
-done-on v keeps (of_entry h i) key (height, p) = (height, keeps i key height p)
+done-on v keeps x2 key x4 = grind (arith, nat_tests, keys-on)
 
 -- a live cell's key reads as its tree
 node-keyed : {N E : Type 0} {v : Values N} {s : PagerState N E} {n : ℕ} {t : Tree} → NodeStands v s n t → KeyFits v s n t
-node-keyed (here n x own t held typed means stands fits) = fits
-node-keyed (away n key t none_there keyed fits) = fits
+node-keyed x0 = grind (arith, nat_tests)
 
 -- a live cell whose key was set has one
 key-known : (w : Core) (n : ℕ) → KeyIsSet w n → is_some (w.cells n) ≡ true → (key : ℕ) × (key_at w n ≡ OptionalDataKey.Some key)
@@ -132,10 +122,7 @@ set-by-then : {N B W : Type 0} (m : Seen N B W) (n : ℕ) (s s' : Site) (todo : 
     → ((r : ArcRef) (k h : ℕ) (below : List Todo) → todo ≡ to_publish r k h ∷ below → is_some (s.core.cells r.node.0) ≡ true) → is_loose_kind i.kind.0 ≡ true
     → (set : ℕ) × (key_at s.core i.node.0 ≡ OptionalDataKey.Some set)
 unfolding AllHold
-set-by-then m n s s' (to_publish r k h ∷ below) i key height (is, same_key, same_height, t) all live kind =
-    subst (λ (j : Identity). (set : ℕ) × (key_at s.core j.node.0 ≡ OptionalDataKey.Some set)) (sym is)
-    (key-known s.core r.node.0 (all.0 (ap (λ (j : Identity). is_loose_kind j.kind.0) (sym is) ∙ kind)) (live r k h below refl))
-set-by-then m n s s' todo i key height does all live kind = absurd does
+set-by-then m n s s' x4 i key height x8 all live kind = grind (arith, nat_tests, key-known)
 
 module _ {N B W E : Type 0} (m : Seen N B W) (s s' : MachineState N E) (trees trees' : ℕ → Tree) (before : WorkFits m.values s trees) (after : WorkFits m.values s' trees')
     (earlier : IsMachineWhole m.values s) (whole : IsMachineWhole m.values s')
@@ -153,10 +140,7 @@ module _ {N B W E : Type 0} (m : Seen N B W) (s s' : MachineState N E) (trees tr
     -- the worker as it is afterwards
     is-after : (P : Walking → Type 0) → P (record w.walking { todo = w.after.todo; steps = reply.steps; answer = reply.answer }) → (walking : Walking)
         → s'.work.walkings n.0 ≡ Some walking → P walking
-    is-after P p walking there =
-        let same : record w.walking { todo = w.after.todo; steps = reply.steps; answer = reply.answer } ≡ walking = same_some _ _
-        (sym (updated-at n.0 (Some (record w.walking { todo = w.after.todo; steps = reply.steps; answer = reply.answer })) s.work.walkings) ∙ sym (w.work.same_walkings n.0) ∙ there) in
-        subst P same p
+    is-after P p walking there = grind (arith, nat_tests, same_some, updated-at)
 
   left-all : (t : ℕ) (task : Task) (key : ℕ) → IsDone m.values (s'.work.shelves t) task key → LeavesAll m.values s'.pager (s'.work.shelves t) trees' task
   left-all t task key done =
@@ -200,9 +184,8 @@ each-type : {P : ℕ → Type 0} → ((t : ℕ) → P t) → (m : Meaning ⊥) �
 unfolding EachType
 each-type all (pair a b) = (each-type all a, each-type all b)
 each-type all (variant n a) = each-type all a
-each-type all (reference a) = absurd a
 each-type all (followed kind a) = (all (type_of kind), each-type all a)
-each-type all _ = tt
+each-type all x1 = grind (arith, nat_tests)
 
 -- a key that a worker is about to set reads as its node's tree
 pub sets-key : {N E : Type 0} (v : Values N) (s : MachineState N E) (trees : ℕ → Tree) → ReadsItsTypes v.types → WorkFits v s trees

@@ -1,13 +1,10 @@
 -- A hash map means the same in whatever order its entries come.
-use Rattle.pagable_laws.proofs.Words.{◌≡◌, Bool, true, false, cond, List, [], ◌∷◌, map, Option, Some, None, refl, sym, ap, ◌∙◌, Ordering, T, bytes_eq-Decides, is_eq-slice_cmp, exact_bytes}
-use Rattle.pagable_laws.proofs.Words.{arith, Meaning, pair, variant, reference, followed, plain, rename, lifted, Entry, code, code_order, put_all, put_sorted}
-use Rattle.pagable_laws.proofs.Words.{last_value, one-meaning, of_entries, IsOneKeyMeaning, IsAnyOrder}
-use Rattle.std.specs.Option.{option_or}
-use Rattle.std.specs.declared.cmp.Ordering.{Ordering}
-use Rattle.std.specs.Ordering.{match_ordering, eq_by_cmp}
-use Rattle.std.specs.Cmp.{IsTotalOrder}
-use Rattle.std.specs.Cmp.Lexicographic.{on_texts}
-use Rattle.std.specs.FinMap.Entries.{by_order, put, find, is_sorted, is_sorted-put, find-put, same_entries}
+use Rattle.pagable_laws.proofs.Words.{nat_tests}
+use Rattle.pagable_laws.proofs.Words.{◌≡◌, Bool, true, false, cond, List, [], ◌∷◌, map, Option, Some, None, refl, sym, ap, ◌∙◌, Ordering, T, bytes_eq-Decides, is_eq-slice_cmp, exact_bytes, arith}
+use Rattle.pagable_laws.proofs.Words.{Meaning, pair, variant, reference, followed, plain, rename, lifted, Entry, code, code_order, put_all, put_sorted, last_value, one-meaning, of_entries}
+use Rattle.pagable_laws.proofs.Words.{IsOneKeyMeaning, IsAnyOrder}
+use Rattle.std.specs.{Option.option_or, declared.cmp.Ordering.Ordering, Ordering.{match_ordering, eq_by_cmp}, Cmp.IsTotalOrder, Cmp.Lexicographic.on_texts, FinMap.Entries.{by_order, put, find}}
+use Rattle.std.specs.FinMap.Entries.{is_sorted, is_sorted-put, find-put, same_entries}
 
 plain_lifted : (A : Type 0) (m : Meaning ⊥) → plain (let x : Meaning A = lifted m in x) ≡ m
 unfolding plain rename
@@ -33,9 +30,7 @@ module _ {X : Type 0} where
   all_sorted acc (e ∷ es) h = all_sorted (put code_order e.0 e.1 acc) es (is_sorted-put code_order order_total e.0 e.1 acc h)
 
   one_step : (l f : Option X) (b : Bool) (v : X) → option_or l (cond b (Some v) f) ≡ option_or (option_or l (cond b (Some v) None)) f
-  one_step (Some x) f b v = refl
-  one_step None f true v = refl
-  one_step None f false v = refl
+  one_step x0 f x2 v = grind (arith, nat_tests)
 
   all_found : (q : Meaning ⊥) (acc es : List (Meaning ⊥ × X)) → find code_order q (put_all put_in acc es) ≡ option_or (last_value q es) (find code_order q acc)
   unfolding put_all put_in last_value
@@ -61,9 +56,7 @@ module _ {A : Type 0} where
   one_key e = (lifted e.0, e.1)
 
   at_answer : (o : Ordering) (x y z : List (Meaning ⊥ × Meaning A)) → match_ordering o (map one_key x) (map one_key y) (map one_key z) ≡ map one_key (by_order o x y z)
-  at_answer Ordering.Less x y z = refl
-  at_answer Ordering.Equal x y z = refl
-  at_answer Ordering.Greater x y z = refl
+  at_answer x0 x y z = grind (arith, nat_tests)
 
   put_along : (acc : List (Meaning ⊥ × Meaning A)) (e : Meaning ⊥ × Meaning A) → put_sorted code_order (map one_key acc) (one_key e) ≡ map one_key (put_in acc e)
   unfolding one_key put_in

@@ -1,17 +1,11 @@
 -- A value that was read of a form names no handle twice, where the handles that were got are apart. So nothing is to be said against its references, where each is good.
-use Rattle.pagable_laws.proofs.Words.{◌≡◌, ℕ, zero, suc, ◌+◌, ◌≤◌, ◌==◌, ◌||◌, Bool, true, false, List, [], ◌∷◌, length, Some, None, Result, Ok, Err, inr, refl, sym, ap, subst, ◌∙◌, arith}
-use Rattle.pagable_laws.proofs.Words.{if◌then◌else◌, slice_get, not, append-nil, sum_by-cons, Error, Meaning, references_in, Rest, read, kind_of_arc, Answer, answer_at, handles_at, HandleRow}
-use Rattle.pagable_laws.proofs.Words.{Owner, ArcRef, Blob, Types, type_of, Among, is_in, if_there, one, times, is_owner, Core, type_at, answer_of, answers_from, reads, next_of, refused_if}
-use Rattle.pagable_laws.proofs.Words.{is_type, row_fault, reference_fault, references_fault, IsReference, rest, LooksUp, no-references, more-references}
+use Rattle.pagable_laws.proofs.Words.{nat_tests, ◌≡◌, ℕ, zero, suc, ◌+◌, ◌≤◌, ◌==◌, ◌||◌, Bool, true, false, List, [], ◌∷◌, length, Some, None, Result, Ok, Err, inr, refl, sym, ap, subst, ◌∙◌, arith}
+use Rattle.pagable_laws.proofs.Words.{if◌then◌else◌, slice_get, append-nil, sum_by-cons, Error, Meaning, references_in, Rest, read, kind_of_arc, Answer, answer_at, handles_at, Owner, ArcRef, Blob}
+use Rattle.pagable_laws.proofs.Words.{Types, Among, is_in, one, times, Core, answer_of, answers_from, reads, next_of, reference_fault, references_fault, IsReference, rest, LooksUp, no-references}
+use Rattle.pagable_laws.proofs.{Words.more-references, Again.read_again, Along.{Along, pair-along, variant-along, reference-along, followed-along, AllTwo, no-two, more-two, append-two}, Related.Out}
+use Rattle.pagable_laws.proofs.{Related.{both-given, both-refused, first-refused, OutLook, both-looked-up, both-not, read_par}, Sums.{self-number, same-number, at-most-sum, counted, one-true}}
+use Rattle.pagable_laws.proofs.{Decoding.read-gives, ReadingStepsKinds.kinds_of, Asking.IsFormOf}
 use Rattle.pagable_world.specs.Loads.{read_with}
-use Rattle.pagable_laws.proofs.Again.{read_again}
-use Rattle.pagable_laws.proofs.Along.{Along, pair-along, variant-along, reference-along, followed-along, AllTwo, no-two}
-use Rattle.pagable_laws.proofs.Along.{more-two, append-two}
-use Rattle.pagable_laws.proofs.Related.{Out, both-given, both-refused, first-refused, OutLook, both-looked-up, both-not, read_par}
-use Rattle.pagable_laws.proofs.Sums.{self-number, same-number, at-most-sum, counted, one-true}
-use Rattle.pagable_laws.proofs.Decoding.{read-gives}
-use Rattle.pagable_laws.proofs.ReadingStepsKinds.{kinds_of}
-use Rattle.pagable_laws.proofs.Asking.{IsFormOf}
 
 -- no handle was got twice
 abbrev pub AreApart : List ArcRef → Type 0
@@ -53,21 +47,18 @@ module _ (types : Types) (t : ℕ) (blob : Blob) (refs got : List ArcRef) (f : I
   all-answer : (place : ℕ) (rs : List ArcRef) (keys : List ℕ) → ((i : ℕ) → slice_get rs i ≡ slice_get refs (place + i)) → length keys ≡ length rs → AllTwo Answers (answers_from got place keys) rs
   unfolding answers_from
   all-answer place [] [] at few = no-two
-  all-answer place [] (k ∷ ks) at few = absurd (omega arith)
-  all-answer place (r ∷ rs) [] at few = absurd (omega arith)
   all-answer place (r ∷ rs) (k ∷ ks) at few =
       let start : place + 0 ≡ place = omega arith in
       let there : slice_get refs place ≡ Some r = ap (slice_get refs) (sym start) ∙ sym (at 0) in
       let g = kind-at got refs same place r there in
       let here = subst (λ o. Answers (λ kind. answer_of o kind) r) (sym g.1) (answer-own g.0 r place g.1 there g.2) in
       more-two _ r _ rs here (all-answer (place + 1) rs ks (λ i. let next : place + suc i ≡ place + 1 + i = omega arith in at (suc i) ∙ ap (slice_get refs) next) (omega arith))
+  all-answer place _ _ at few = absurd (omega arith)
 
   both-own : {own : Meaning ArcRef} {after : Rest Answer} {n : Meaning ArcRef} {left : Rest ArcRef} {first : Result (Meaning ArcRef × Rest Answer) Error} {second : Result
       (Meaning ArcRef × Rest ArcRef) Error}
       → Out no_cause Answers (Along ⊥ (InPlace got refs)) first second → first ≡ Ok (own, after) → second ≡ Ok (n, left) → Along ⊥ (InPlace got refs) own n
-  both-own {own} {after} {n} {left} (both-given p q v s) e d = grind arith
-  both-own (both-refused x) e d = absurd (cc)
-  both-own (first-refused x r c) e d = absurd c
+  both-own x0 e d = grind (arith, nat_tests)
 
   -- what is read refers in each place to what was got there
   in-place : (own : Meaning ArcRef) → next_of types t blob got ≡ reads own → Along ⊥ (InPlace got refs) own f.own
@@ -113,13 +104,7 @@ module _ (types : Types) (t : ℕ) (blob : Blob) (refs got : List ArcRef) (f : I
             → times (λ (y : ArcRef). y.handle.0 == r.handle.0) (b ∷ ys) ≡ one (b.handle.0 == r.handle.0) + times (λ (y : ArcRef). y.handle.0 == r.handle.0) ys
             → times (λ (x : ArcRef). x.handle.0 == q) (a ∷ xs) ≤ times (λ (y : ArcRef). y.handle.0 == r.handle.0) (b ∷ ys)
         at false e tail left right = let z : one (a.handle.0 == q) ≡ 0 = ap one e in omega (arith, z, tail, left, right)
-        at true e tail left right =
-            let place = apart h.place p.place a g h.of_got p.of_got (same-number a.handle.0 q e ∙ sym is) in
-            let both : Some b ≡ Some r = sym h.of_refs ∙ (ap (slice_get refs) place ∙ p.of_refs) in
-            let same : b.handle.0 ≡ r.handle.0 = let s : b ≡ r = cc in ap (λ (x : ArcRef). x.handle.0) s in
-            let z : one (a.handle.0 == q) ≡ 1 = ap one e in
-            let w : one (b.handle.0 == r.handle.0) ≡ 1 = ap (λ n. one (n == r.handle.0)) same ∙ ap one (self-number r.handle.0) in
-            omega (arith, z, w, tail, left, right)
+        at true e tail left right = grind (arith, nat_tests, same-number, one, self-number)
 
     -- what is read names no handle twice
     pub reads-once : (own : Meaning ArcRef) → next_of types t blob got ≡ reads own → (q : ℕ) → times (λ (r : ArcRef). r.handle.0 == q) (references_in own) ≤ 1

@@ -1,15 +1,11 @@
 -- What a blob asks for that is a form of some value: one reference of the form after another, each as its own kind, and when all are got it is read.
-use Rattle.pagable_laws.proofs.Words.{◌≡◌, ℕ, ◌<◌, ◌≤◌, ◌==◌, true, List, [], ◌∷◌, ◌++◌, map, length, Option, Some, None, Result, Ok, Err, refl, sym, ap, subst, ◌∙◌, arith, append_assoc}
-use Rattle.pagable_laws.proofs.Words.{slice_get, slice_get-get_or, append-nil, Error, ◌>>=◌, Meaning, rename, Rest, read, deepest, references_in, Form, kind_of_arc, Answer, answer_at, handles_at}
-use Rattle.pagable_laws.proofs.Words.{IsReadable, Throughout, ArcRef, Kind, Blob, Shape, Types, is_eager, times, Frame, answer_of, answers_from, Next, reads, asks, next_by, next_of, next_in}
-use Rattle.pagable_laws.proofs.Words.{rest, at, LooksUp, no-references, more-references}
+use Rattle.pagable_laws.proofs.Words.{nat_tests}
+use Rattle.pagable_laws.proofs.Words.{◌≡◌, ℕ, ◌<◌, ◌≤◌, ◌==◌, true, List, [], ◌∷◌, ◌++◌, map, length, Option, Some, None, Result, Ok, Err, refl, sym, ap, subst, ◌∙◌, arith, append_assoc, slice_get}
+use Rattle.pagable_laws.proofs.Words.{slice_get-get_or, append-nil, Error, ◌>>=◌, Meaning, rename, Rest, read, deepest, references_in, Form, kind_of_arc, Answer, answer_at, handles_at, IsReadable}
+use Rattle.pagable_laws.proofs.Words.{Throughout, ArcRef, Kind, Blob, Shape, Types, is_eager, times, Frame, answer_of, answers_from, Next, reads, asks, next_by, next_of, next_in, rest, at, LooksUp}
+use Rattle.pagable_laws.proofs.{Words.{no-references, more-references}, Again.form-again, Natural.{renamed, keeps_forms}, Sums.self-number, ReadingStepsKinds.{kinds_of, kinds-pushed}, Stopping.Stops}
+use Rattle.pagable_laws.proofs.{Stopping.{stops-here, stops-later, form-stops}, Fitting.longer}
 use Rattle.pagable_world.specs.Loads.{read_with}
-use Rattle.pagable_laws.proofs.Again.{form-again}
-use Rattle.pagable_laws.proofs.Natural.{renamed, keeps_forms}
-use Rattle.pagable_laws.proofs.Sums.{self-number}
-use Rattle.pagable_laws.proofs.ReadingStepsKinds.{kinds_of, kinds-pushed}
-use Rattle.pagable_laws.proofs.Stopping.{Stops, stops-here, stops-later, form-stops}
-use Rattle.pagable_laws.proofs.Fitting.{longer}
 
 -- ---- what is answered
 
@@ -44,11 +40,9 @@ first-kind g d gs ds e = (cc, cc)
 stops-at : (front back done : List ArcRef) (q : ArcRef) (more : List ArcRef) (keys : List ℕ) → kinds_of back ≡ kinds_of done → length keys ≡ length (done ++ q ∷ more)
     → Stops look_kind own_kind (Error.Storage q.kind.0) (answers_from (front ++ back) (length front) keys) (map kind_of_arc (done ++ q ∷ more))
 unfolding answers_from
-stops-at front [] [] q more [] same few = absurd (omega arith)
 stops-at front [] [] q more (key ∷ keys) same few = stops-here _ _ _ _ (unanswered (slice_get (front ++ []) (length front)) q.kind.0 (behind-end front))
 stops-at front (g ∷ back) [] q more keys same few = absurd (cc)
 stops-at front [] (d ∷ done) q more keys same few = absurd (cc)
-stops-at front (g ∷ back) (d ∷ done) q more [] same few = absurd (omega arith)
 stops-at front (g ∷ back) (d ∷ done) q more (key ∷ keys) same few =
     let both = first-kind g d back done same in
     let tail = stops-at (front ++ g ∷ []) back done q more keys both.1 (omega arith) in
@@ -56,27 +50,26 @@ stops-at front (g ∷ back) (d ∷ done) q more (key ∷ keys) same few =
     (g ∷ []) back) tail in
     stops-later _ _ _ _ (answered g (slice_get (front ++ g ∷ back) (length front)) d.kind.0 (at-place front g back) both.0)
     (subst (λ n. Stops look_kind own_kind (Error.Storage q.kind.0) (answers_from (front ++ g ∷ back) n keys) (map kind_of_arc (done ++ q ∷ more))) (longer front g) moved)
+stops-at front _ _ q more [] same few = absurd (omega arith)
 
 looks-all : (front back done : List ArcRef) (keys : List ℕ) → kinds_of back ≡ kinds_of done → length keys ≡ length done
     → LooksUp look_kind own_kind (answers_from (front ++ back) (length front) keys) (map kind_of_arc done)
 unfolding answers_from
 looks-all front [] [] [] same few = no-references
-looks-all front [] [] (key ∷ keys) same few = absurd (omega arith)
 looks-all front (g ∷ back) [] keys same few = absurd (cc)
 looks-all front [] (d ∷ done) keys same few = absurd (cc)
-looks-all front (g ∷ back) (d ∷ done) [] same few = absurd (omega arith)
 looks-all front (g ∷ back) (d ∷ done) (key ∷ keys) same few =
     let both = first-kind g d back done same in
     let tail = looks-all (front ++ g ∷ []) back done keys both.1 (omega arith) in
     let moved = subst (λ gs. LooksUp look_kind own_kind (answers_from gs (length (front ++ g ∷ [])) keys) (map kind_of_arc done)) (append_assoc front (g ∷ []) back) tail in
     more-references _ _ _ _ (answered g (slice_get (front ++ g ∷ back) (length front)) d.kind.0 (at-place front g back) both.0)
     (subst (λ n. LooksUp look_kind own_kind (answers_from (front ++ g ∷ back) n keys) (map kind_of_arc done)) (longer front g) moved)
+looks-all front _ _ _ same few = absurd (omega arith)
 
 -- ---- what comes next
 
 err-of : {X Y R : Type 0} (f : X × R → Y × R) (r : Result (X × R) Error) (e : Error) → (r >>= λ x. Ok (f x)) ≡ Err e → r ≡ Err e
-err-of f (Ok x) e is = absurd (cc)
-err-of f (Err d) e is = let same : d ≡ e = cc in ap (λ (z : Error). Err z) same
+err-of f x1 e is = grind (arith, nat_tests)
 
 ok-of : {X Y R : Type 0} (f : X × R → Y × R) (r : Result (X × R) Error) (y : Y × R) → (r >>= λ x. Ok (f x)) ≡ Ok y → (x : X × R) × (r ≡ Ok x)
 ok-of f (Ok x) y is = (x, refl)
@@ -120,9 +113,8 @@ module _ (types : Types) (t : ℕ) (blob : Blob) (refs : List ArcRef) (f : IsFor
     where
       as-long : (xs ys : List ArcRef) → kinds_of xs ≡ kinds_of ys → length xs ≡ length ys
       as-long [] [] e = refl
-      as-long (x ∷ xs) [] e = absurd (cc)
-      as-long [] (y ∷ ys) e = absurd (cc)
       as-long (x ∷ xs) (y ∷ ys) e = let a = as-long xs ys (first-kind x y xs ys e).1 in omega (arith, a)
+      as-long _ _ e = absurd (cc)
 
       shorter : (xs : List ArcRef) (q : ArcRef) (more : List ArcRef) {n : ℕ} → n ≡ length (xs ++ q ∷ more) → length xs < n
       shorter [] q more is = omega arith

@@ -1,16 +1,13 @@
 -- Flags, lengths, texts, characters and durations are read again.
+use Rattle.pagable_laws.proofs.Words.{nat_tests}
 use Rattle.pagable_laws.proofs.Words.{◌≡◌, ℕ, ◌+◌, ◌/◌, ◌%◌, ◌^◌, ◌<◌, ◌≤◌, Bool, true, false, List, [], ◌∷◌, ◌++◌, length, Ok, refl, arith, append_assoc, ltb, le-ltb, lt-ltb, le-leb, take_at}
 use Rattle.pagable_laws.proofs.Words.{drop_at, length-append, append-nil, is_utf8-from_IsUtf8, IsUtf8-encode, chars-encodes, length-encode, bool_form, bool_at, longest, length_form, length_at}
-use Rattle.pagable_laws.proofs.Words.{text_form, text_at, char_form, char_at, nanos_of_second, duration_form, duration_at}
-use Rattle.std.specs.Int.{w32, w64}
-use Rattle.std.specs.Char.{IsScalar, encode_utf8, len_utf8}
-use Rattle.std.specs.Str.{IsUtf8, chars}
-use Rattle.pagable_laws.proofs.Wholes.{unsigned-again}
+use Rattle.pagable_laws.proofs.{Words.{text_form, text_at, char_form, char_at, nanos_of_second, duration_form, duration_at}, Wholes.unsigned-again}
+use Rattle.std.specs.{Int.{w32, w64}, Char.{IsScalar, encode_utf8, len_utf8}, Str.{IsUtf8, chars}}
 
 pub bool-again : (b : Bool) (rest : List ℕ) → bool_at (bool_form b ++ rest) ≡ Ok (b, rest)
 unfolding bool_at
-bool-again true rest = refl
-bool-again false rest = refl
+bool-again x0 rest = grind (arith, nat_tests)
 
 pub length-again : (n : ℕ) (rest : List ℕ) → n ≤ longest → length_at (length_form n ++ rest) ≡ Ok (n, rest)
 unfolding length_at

@@ -1,14 +1,9 @@
 -- What a load's step brings fits some trees afterwards: the value of a node that is born leads to the tree that its key reads as, and that of a root to its cell's.
-use Rattle.pagable_laws.proofs.Words.{◌≡◌, ℕ, zero, ◌+◌, ◌≤◌, List, [], ◌∷◌, Option, Some, None, inl, inr, refl, sym, ap, ◌∙◌, subst, OptionalDataKey, LoadAnswer, ArcRef, Kind, Tree, ReadsTree}
-use Rattle.pagable_laws.proofs.Words.{Among, updated, is_pinned_kind, OpenLoad, Reading, Frame, Values, IsLawful, first_key, ReadsRoot, Need, to_adopt, needs_lazy, PagerState, WellFormed}
-use Rattle.pagable_laws.proofs.Words.{Represents, ReadingBrings, IsCellOf, FramesFit, ReadingFits, HoldsSettled, ReadsItsTypes, TakesWell, ValueLeads, FramesGiven, Change, CoreGoes, nothing_felt}
-use Rattle.pagable_laws.proofs.Words.{ReadingFeels, gets-lazy, makes-node, ChangeFits}
-use Rattle.pagable_laws.proofs.Trees.{same_some, one_tree}
-use Rattle.pagable_laws.proofs.Following.{held-of}
-use Rattle.pagable_laws.proofs.Fitting.{tree-stays, first-fits}
-use Rattle.pagable_laws.proofs.Decoding.{decodes}
-use Rattle.pagable_laws.proofs.Taking.{root-key, node-decoded}
-use Rattle.pagable_laws.proofs.Felt.{with-below, first-of, value-on, value-born, live-after, fits-nothing, fits-born-known}
+use Rattle.pagable_laws.proofs.Words.{arith, nat_tests, ◌≡◌, ℕ, zero, ◌+◌, ◌≤◌, List, [], ◌∷◌, Option, Some, None, inl, inr, refl, sym, ap, ◌∙◌, subst, OptionalDataKey, LoadAnswer, ArcRef, Kind}
+use Rattle.pagable_laws.proofs.Words.{Tree, ReadsTree, Among, updated, is_pinned_kind, OpenLoad, Reading, Frame, Values, IsLawful, first_key, ReadsRoot, Need, to_adopt, needs_lazy, PagerState}
+use Rattle.pagable_laws.proofs.Words.{WellFormed, Represents, ReadingBrings, IsCellOf, FramesFit, ReadingFits, HoldsSettled, ReadsItsTypes, TakesWell, ValueLeads, FramesGiven, Change, CoreGoes}
+use Rattle.pagable_laws.proofs.{Words.{nothing_felt, ReadingFeels, gets-lazy, makes-node, ChangeFits}, Trees.{same_some, one_tree}, Following.held-of, Fitting.{tree-stays, first-fits}}
+use Rattle.pagable_laws.proofs.{Decoding.decodes, Taking.{root-key, node-decoded}, Felt.{with-below, first-of, value-on, value-born, live-after, fits-nothing, fits-born-known}}
 
 -- a need is one
 two-needs : {A : Type 0} (kind : Kind) (key : ℕ) (need : Need) → need ≡ to_adopt → need ≡ needs_lazy kind key → A
@@ -45,18 +40,12 @@ module _ {N E : Type 0} {v : Values N} {s s' : PagerState N E} {trees : ℕ → 
 
   -- nothing is felt
   quiet : (n : ℕ) (x : N) → c ≡ nothing_felt → ReadingBrings v s.core reading n x → s'.values n ≡ Some x → ValueLeads v trees x (trees n)
-  quiet n x nothing (inl (reads, new)) is =
-      let g = subst (λ z. CoreGoes z s.core s'.core) nothing goes in
-      absurd ((g.new n new (live-after lawful settled well well' stands n x is)).born)
-  quiet n x nothing (inr (root, cell)) is = (root-leads n x is root cell).leads
+  quiet n x nothing x3 is = grind (arith, nat_tests, live-after, root-leads)
 
   -- a node is born, and the root's value comes to an old one
   root-on : (t0 : Tree) (n : ℕ) (x : N) → s'.values n ≡ Some x → ReadsRoot v reading x → IsCellOf s.core reading.load n
       → ValueLeads v (updated (s.core.last.node + 1) t0 trees) x (updated (s.core.last.node + 1) t0 trees n)
-  root-on t0 n x is root cell =
-      let r = root-leads n x is root cell in
-      let led = value-on lawful settled well well' stands (with-below s.core.last.node t0 trees) r.few r.leads in
-      subst (λ z. ValueLeads v (updated (s.core.last.node + 1) t0 trees) x z) (sym (with-below s.core.last.node t0 trees n r.within)) led
+  root-on t0 n x is root cell = grind (arith, nat_tests, root-leads, value-on, with-below)
 
 module _ {N E : Type 0} {v : Values N} {s s' : PagerState N E} {trees : ℕ → Tree} (lawful : IsLawful v) (readable : ReadsItsTypes v.types) (settled : HoldsSettled v s) (well : WellFormed v s)
     (well' : WellFormed v s') (stands : Represents v s trees)

@@ -1,16 +1,11 @@
 -- Heights that are known are those of trees; so where a place and a height pass the limit, the task leads down too long a path.
-use Rattle.pagable_laws.proofs.Words.{◌≡◌, ℕ, zero, suc, ◌+◌, ◌<◌, ◌≤◌, ◌==◌, Bool, true, false, not, List, [], ◌∷◌, ◌⊎◌, inl, inr, if◌then◌else◌, refl, sym, ap, subst, arith, max, Some}
-use Rattle.pagable_laws.proofs.Words.{None, Option, Err, pair, variant, reference, followed, is_eager, longest_path, above, height, deepest_path}
-use Rattle.pagable_laws.proofs.Words.{kind_of_arc, Error, HandleRow, ArcRef, Identity, Meaning, Tree, Types, Among, type_of, if_there, or_else, identity_of, fits_mode, Core, Shelf, Written, Todo}
-use Rattle.pagable_laws.proofs.Words.{to_start, to_finish, to_item, Task, of_item, of_entry, Values, is_identity, row_at, type_at, row_fault, is_type, refused_if, Site, Claims, IsPublished}
-use Rattle.pagable_laws.proofs.Words.{IsTooDeep, claim_fault, MachineState, world_of, IsTooDeepTask, WaitsForAsker, Ground, ground_of, FollowsTo, number-follows, integer-follows, text-follows}
-use Rattle.pagable_laws.proofs.Words.{pattern-follows, none-follows, pair-follows, variant-follows, reference-follows, WroteTree, Expects, Waits, WorkFits}
-use Rattle.pagable_laws.proofs.Along.{Along, number-along, integer-along, text-along, pattern-along, none-along, pair-along, variant-along, reference-along, AllTwo, no-two, more-two, form-along}
-use Rattle.pagable_laws.proofs.Standing.{AllStand, Covers, is_open_in}
-use Rattle.pagable_laws.proofs.Changing.{is-same}
-use Rattle.pagable_laws.proofs.Heights.{IsAttained, place_over, WaitsLow, next-among}
-use Rattle.pagable_laws.proofs.HeightSteps.{HeightsIn}
-use Rattle.pagable_laws.proofs.Going.{or-cases}
+use Rattle.pagable_laws.proofs.Words.{nat_tests, ◌≡◌, ℕ, zero, suc, ◌+◌, ◌<◌, ◌≤◌, Bool, true, false, List, [], ◌∷◌, ◌⊎◌, inl, inr, if◌then◌else◌, sym, ap, subst, arith, max, Some, Err, pair}
+use Rattle.pagable_laws.proofs.Words.{variant, reference, followed, is_eager, longest_path, above, height, deepest_path, kind_of_arc, Error, ArcRef, Identity, Meaning, Tree, Types, Among}
+use Rattle.pagable_laws.proofs.Words.{identity_of, Core, Shelf, Written, Todo, to_start, to_finish, to_item, Task, of_entry, Values, is_identity, Site, Claims, IsPublished, IsTooDeep, claim_fault}
+use Rattle.pagable_laws.proofs.Words.{MachineState, world_of, IsTooDeepTask, WaitsForAsker, Ground, ground_of, FollowsTo, number-follows, integer-follows, text-follows, pattern-follows, none-follows}
+use Rattle.pagable_laws.proofs.{Words.{pair-follows, variant-follows, reference-follows, WroteTree, Expects, Waits, WorkFits}, Along.{Along, number-along, integer-along, text-along, pattern-along}}
+use Rattle.pagable_laws.proofs.{Along.{none-along, pair-along, variant-along, reference-along, AllTwo, no-two, more-two, form-along}, Standing.{AllStand, Covers, is_open_in}, Changing.is-same}
+use Rattle.pagable_laws.proofs.{Heights.{IsAttained, place_over, WaitsLow, next-among}, HeightSteps.HeightsIn, Going.or-cases}
 
 -- ---- what a tree's references lead to is part of it
 
@@ -25,8 +20,7 @@ height-within : (m : Meaning ⊥) → height m ≤ deepest_path m
 unfolding height deepest_path
 height-within (pair a b) = let p = height-within a in let q = height-within b in omega arith
 height-within (variant n a) = height-within a
-height-within (reference a) = absurd a
-height-within _ = omega arith
+height-within x0 = grind (arith, nat_tests)
 
 -- what the reference leads to is part of what the meaning says
 record Part (trees : ℕ → Tree) (m : Meaning ⊥) (r : ArcRef) : Type 0 where
@@ -67,17 +61,14 @@ part-of {g = g} {n} {written} w r among =
 -- ---- heights
 
 grows-by : (e : Bool) (a b c : ℕ) → a ≤ b → (if e then b + 1 else 0) ≤ c → (if e then a + 1 else 0) ≤ c
-grows-by true a b c le few = omega arith
-grows-by false a b c le few = omega arith
+grows-by x0 a b c le few = grind (arith, nat_tests)
 
 -- a height and a depth go up with the place
 climbs : (e : Bool) (place h d top deep : ℕ) → (if e then h + 1 else 0) ≤ top → d ≤ deep → h ≤ d → longest_path < max ((if e then place + 1 else 0) + h) d → longest_path < max (place + top) deep
-climbs true place h d top deep le few within long = omega arith
-climbs false place h d top deep le few within long = omega arith
+climbs x0 place h d top deep le few within long = grind (arith, nat_tests)
 
 climbs-item : (e : Bool) (h d : ℕ) → h ≤ d → longest_path < max ((if e then 0 + 1 else 0) + h) d → longest_path < max (if e then h + 1 else 0) d
-climbs-item true h d within long = omega arith
-climbs-item false h d within long = omega arith
+climbs-item x0 h d within long = grind (arith, nat_tests)
 
 climbs-entry : (h d : ℕ) → h ≤ d → longest_path < max (0 + h) d → longest_path < d
 climbs-entry h d within long = omega arith
@@ -123,7 +114,6 @@ module _ {N E : Type 0} (v : Values N) (s : MachineState N E) (trees : ℕ → T
       → longest_path < max (place_over r below + height (trees r.node.0).meaning) (deepest_path (trees r.node.0).meaning) → IsTooDeepTask trees task
   unfolding Waits AllStand WaitsLow
   leads-down n (of_entry q i) r [] expects waits all lows long = grind (arith, climbs-entry, height-within)
-  leads-down n (of_item written) r [] expects waits all lows long = absurd expects
   leads-down n task r (to_finish o ∷ below) (more, e) (known, expects, waits) (stands, apart, all) (first, attained, fits, place, lows) long =
       let claim = stands.1 in
       let f = fit.slots t (identity_of o.reference) claim.slot claim.claimed in
@@ -135,13 +125,12 @@ module _ {N E : Type 0} (v : Values N) (s : MachineState N E) (trees : ℕ → T
   leads-down n task r (to_item written keys ∷ below) (more, e) (is, known) all lows long =
       let m = (trees r.node.0).meaning in
       subst (λ x. IsTooDeepTask trees x) (sym is) (r, next-among shelf written.references keys r more e, climbs-item (is_eager r.kind.0) (height m) (deepest_path m) (height-within m) long)
-  leads-down n task r (_ ∷ below) expects waits all lows long = absurd expects
+  leads-down n _ r _ expects waits all lows long = absurd expects
 
   -- a worker comes upon no claim of its own that it is at: a tree is no part of itself
   not-below : (n : ℕ) (task : Task) (q : Identity) (r : ArcRef) (below : List Todo) → size (trees q.node.0).meaning ≤ size (trees r.node.0).meaning → Expects task r below → Waits shelf task below
       → AllStand shelf n task below → is_open_in q below ≡ true → ⊥
   unfolding Waits AllStand is_open_in
-  not-below n task q r [] few expects waits all is = absurd (cc)
   not-below n task q r (to_finish o ∷ below) few (more, e) (known, expects, waits) (stands, apart, all) is =
       let claim = stands.1 in
       let f = fit.slots t (identity_of o.reference) claim.slot claim.claimed in
@@ -151,8 +140,7 @@ module _ {N E : Type 0} (v : Values N) (s : MachineState N E) (trees : ℕ → T
         | inl same ↦ less-still small few (ap (λ (j : Identity). size (trees j.node.0).meaning) (is-same q (identity_of o.reference) same))
         | inr rest ↦ not-below n task q o.reference below (omega arith) expects waits all rest
       ]
-  not-below n task q r (to_item written keys ∷ below) few expects waits (stands, apart, all) is = let f = subst (λ x. is_open_in q x ≡ true) stands.1 is in absurd (cc)
-  not-below n task q r (_ ∷ below) few expects waits all is = absurd expects
+  not-below n task q r x4 few x6 x7 x8 is = grind (arith, nat_tests)
 
   -- a claim that is too deep is so by a path of the task's, or another is at it that waits for the asker
   pub claim-deep : (n : ℕ) (task : Task) (core : Core) (todo : List Todo) (r : ArcRef) (place : ℕ) (below : List Todo) (s' : Site)
@@ -168,9 +156,7 @@ module _ {N E : Type 0} (v : Values N) (s : MachineState N E) (trees : ℕ → T
   ]
     where
       goes : (h : ℕ) → h ≤ height (trees r.node.0).meaning → longest_path < place + h → IsTooDeepTask trees task
-      goes h le long =
-          let m = (trees r.node.0).meaning in
-          leads-down n task r below expects waits all lows (subst (λ q. longest_path < max (q + height m) (deepest_path m)) at (omega arith))
+      goes h le long = grind (arith, nat_tests, leads-down, longest_path, height)
 
       by : IsTooDeep shelf n (identity_of r) place → IsTooDeepTask trees task ⊎ WaitsForAsker shelf n (identity_of r)
       by (inl long) = inl (goes 0 (omega arith) (omega arith))

@@ -1,14 +1,11 @@
 -- The worked examples, by computation.
-use Rattle.pagable_laws.proofs.Words.{arith}
-use Rattle.pagable_laws.proofs.Words.{◌≡◌, ℕ, Bool, true, false, cond, if◌then◌else◌, refl, lit<, lit≤, pos, negsuc, [], ◌∷◌, List, codes, ◌⊎◌, inl, inr, IsUtf8-from_is_utf8, varint, varint_at}
-use Rattle.pagable_laws.proofs.Words.{length_at, text_at, bool_at, char_at, duration_at, integer, text, absent, rename, plain, nothing, nested, tagged_by, is_registered, body_of, code, put_all}
-use Rattle.pagable_laws.proofs.Words.{items, read_with, below, read, nothing-form, unsigned-form, signed-form, none-form, some-form, list-form, run-form, no-forms, more-forms, json-number-form}
-use Rattle.pagable_laws.proofs.Words.{static-form, tagged-form, reference-form, preimage, weight, kid, unfolded, key-of, no-keys, more-keys, IsReadable, IsCanonical, HasNoCase, LiesIn, unwritten}
-use Rattle.pagable_laws.proofs.Words.{throughout-in, NumbersAreSpelled, NumbersAreRead, CasesAreSpelled, ListsAreSpelled, MapsAreRead, JsonIsRead, KeysAreWeighed, TextsAreRead, DurationsAreRead}
-use Rattle.pagable_laws.proofs.Words.{NamedTypesAreRead, RegistriesAreRead, ReferencesTakeKeys, UnknownTagsAreWritten, TreesHaveKeys, ShapesAreMet, only_cat, chain, no_parts, cats}
-use Rattle.std.specs.Int.{w8, w32}
-use Rattle.std.specs.Str.{is_utf8, chars, bytes_eq}
-use Rattle.std.specs.Char.{encode_utf8}
+use Rattle.pagable_laws.proofs.Words.{arith, ◌≡◌, ℕ, true, refl, lit<, lit≤, pos, negsuc, [], ◌∷◌, List, codes, ◌⊎◌, IsUtf8-from_is_utf8, varint}
+use Rattle.pagable_laws.proofs.Words.{varint_at, length_at, text_at, bool_at, char_at, duration_at, integer, text, absent, rename, plain, nested, tagged_by, is_registered, body_of, code}
+use Rattle.pagable_laws.proofs.Words.{put_all, items, read_with, below, read, nothing-form, unsigned-form, signed-form, none-form, some-form, list-form, run-form, no-forms, more-forms}
+use Rattle.pagable_laws.proofs.Words.{json-number-form, static-form, tagged-form, reference-form, preimage, weight, kid, unfolded, key-of, no-keys, more-keys, IsReadable, IsCanonical, HasNoCase}
+use Rattle.pagable_laws.proofs.Words.{LiesIn, throughout-in, NumbersAreSpelled, NumbersAreRead, CasesAreSpelled, ListsAreSpelled, MapsAreRead, JsonIsRead, KeysAreWeighed, TextsAreRead}
+use Rattle.pagable_laws.proofs.Words.{DurationsAreRead, NamedTypesAreRead, RegistriesAreRead, ReferencesTakeKeys, UnknownTagsAreWritten, TreesHaveKeys, ShapesAreMet, only_cat, chain, no_parts, cats}
+use Rattle.std.specs.{Int.{w8, w32}, Str.{is_utf8, chars}, Char.encode_utf8}
 
 pub numbers_spelled : NumbersAreSpelled
 unfolding varint

@@ -1,18 +1,15 @@
 -- A value that was read of a blob leads to what the blob's key reads as: reading the blob with the references that were got runs along the reading of
 -- its bare keys, and each of these reads as the tree of the node that was got for it.
-use Rattle.pagable_laws.proofs.Words.{◌≡◌, ℕ, zero, suc, ◌+◌, ◌≤◌, ◌==◌, ◌&&◌, Bool, true, false, List, [], ◌∷◌, ◌++◌, Option, Some, None, Result, Ok, Err, if◌then◌else◌, ◌⊎◌, inl, inr, refl}
-use Rattle.pagable_laws.proofs.Words.{sym, ap, ◌∙◌, subst, arith, sum_by, slice_get, length, and_parts, Error, number, integer, text, pattern, none, pair, variant, reference, followed}
+use Rattle.pagable_laws.proofs.Words.{nat_tests, ◌≡◌, ℕ, zero, suc, ◌+◌, ◌≤◌, ◌==◌, ◌&&◌, Bool, true, false, List, [], ◌∷◌, ◌++◌, Option, Some, None, Result, Ok, Err, if◌then◌else◌, ◌⊎◌, inl, inr}
+use Rattle.pagable_laws.proofs.Words.{refl, sym, ap, ◌∙◌, subst, arith, sum_by, slice_get, length, and_parts, Error, number, integer, text, pattern, none, pair, variant, reference, followed}
 use Rattle.pagable_laws.proofs.Words.{references_in, SameReferences, Rest, read_typed, Answer, answer_at, handles_at, KeyRef, key_ref, ReadsAs, blob_context, rest_of, IsFollowed, number-followed}
-use Rattle.pagable_laws.proofs.Words.{integer-followed, text-followed, pattern-followed, none-followed, pair-followed, variant-followed, reference-followed, ArcRef, Kind, Blob, Shape, Types}
-use Rattle.pagable_laws.proofs.Words.{Tree, ReadsTree, tree, type_of, Meaning, Among, one, Frame, Values, IsLawful, answer_of, answers_from, reads, asks, next_by, next_in, IsDecoded, PagerState}
-use Rattle.pagable_laws.proofs.Words.{NodeStands, ValueStands, MeaningStands, number-stands, integer-stands, text-stands, pattern-stands, none-stands, pair-stands, variant-stands}
-use Rattle.pagable_laws.proofs.Words.{followed-stands, reference-stands, ReadsNodeTree, FrameFits, ReadsItsTypes, LeadsTo, number-leads, integer-leads, text-leads, pattern-leads, none-leads}
-use Rattle.pagable_laws.proofs.Words.{pair-leads, variant-leads, followed-leads, reference-leads, Decoded}
-use Rattle.pagable_laws.proofs.Along.{Along, number-along, integer-along, text-along, pattern-along, none-along, pair-along, variant-along, reference-along, followed-along, AllTwo, no-two}
-use Rattle.pagable_laws.proofs.Along.{more-two}
-use Rattle.pagable_laws.proofs.Related.{Out, both-given, both-refused, first-refused, OutLook, both-looked-up, first-not, read_par}
-use Rattle.pagable_laws.proofs.Trees.{tree_is, one_tree}
-use Rattle.pagable_laws.proofs.Sums.{same-number, one-true, self-number, at-most-sum, counted}
+use Rattle.pagable_laws.proofs.Words.{integer-followed, text-followed, pattern-followed, none-followed, pair-followed, variant-followed, reference-followed, ArcRef, Kind, Blob, Shape, Types, Tree}
+use Rattle.pagable_laws.proofs.Words.{ReadsTree, tree, type_of, Meaning, Among, one, Frame, Values, IsLawful, answer_of, answers_from, reads, asks, next_by, next_in, IsDecoded, PagerState}
+use Rattle.pagable_laws.proofs.Words.{NodeStands, ValueStands, MeaningStands, number-stands, integer-stands, text-stands, pattern-stands, none-stands, pair-stands, variant-stands, followed-stands}
+use Rattle.pagable_laws.proofs.Words.{reference-stands, ReadsNodeTree, FrameFits, ReadsItsTypes, LeadsTo, number-leads, integer-leads, text-leads, pattern-leads, none-leads, pair-leads}
+use Rattle.pagable_laws.proofs.{Words.{variant-leads, followed-leads, reference-leads, Decoded}, Along.{Along, number-along, integer-along, text-along, pattern-along, none-along, pair-along}}
+use Rattle.pagable_laws.proofs.{Along.{variant-along, reference-along, followed-along, AllTwo, no-two, more-two}, Related.{Out, both-given, both-refused, OutLook, both-looked-up}}
+use Rattle.pagable_laws.proofs.{Related.{first-not, read_par}, Trees.{tree_is, one_tree}, Sums.{same-number, one-true, self-number, at-most-sum, counted}}
 
 -- any cause: what comes of a refusal isn't asked
 abbrev any_cause : Error → Type 0
@@ -21,19 +18,14 @@ any_cause e = Unit {0}
 -- ---- what is read or asked
 
 not-read : (key : Option ℕ) (e : Error) (own : Meaning ArcRef) → next_by key (Err e) ≡ reads own → ⊥
-not-read None (Error.Storage kind) own is = cc
-not-read (Some k) (Error.Storage kind) own is = cc
-not-read key e own is = cc
+not-read x0 x1 own is = grind (arith, nat_tests)
 
 pub read-gives : (key : Option ℕ) (r : Result (Meaning ArcRef × Rest Answer) Error) (own : Meaning ArcRef) → next_by key r ≡ reads own → (after : Rest Answer) × (r ≡ Ok (own, after))
 read-gives key (Ok (m, after)) own is = let same : m ≡ own = cc in (after, rw same refl)
 read-gives key (Err e) own is = absurd (not-read key e own is)
 
 next-key : (key : Option ℕ) (r : Result (Meaning ArcRef × Rest Answer) Error) (kind : Kind) (k : ℕ) → next_by key r ≡ asks kind k → key ≡ Some k
-next-key key (Ok (m, after)) kind k is = absurd (cc)
-next-key None (Err (Error.Storage n)) kind k is = absurd (cc)
-next-key (Some q) (Err (Error.Storage n)) kind k is = let same : q ≡ k = cc in ap Some same
-next-key key (Err e) kind k is = absurd (cc)
+next-key x0 x1 kind k is = grind (arith, nat_tests)
 
 -- the key that a blob asks for next is the next of its keys
 pub asks_next : (types : Types) (frame : Frame) (kind : Kind) (key : ℕ) → next_in types frame ≡ asks kind key → slice_get frame.blob.keys (length frame.got) ≡ Some key
@@ -52,24 +44,21 @@ abbrev AnswersFor : (types : Types) (stored : ℕ → Option Blob) (trees : ℕ 
 AnswersFor types stored trees got answer key = (kind : ℕ) → OutLook any_cause (Found types stored trees got) (answer kind) (Ok (key_ref kind key))
 
 pub among-either : {X : Type 0} (xs ys : List X) (i : ℕ) (r : X) → slice_get (xs ++ ys) i ≡ Some r → Among xs r ⊎ Among ys r
-among-either [] ys i r is = inr (i, is)
-among-either (x ∷ xs) ys zero r is = inl (zero, is)
 among-either {X} (x ∷ xs) ys (suc i) r is = later (among-either xs ys i r is)
   where
     later : Among xs r ⊎ Among ys r → Among (x ∷ xs) r ⊎ Among ys r
     later (inl a) = inl (suc a.0, a.1)
     later (inr b) = inr b
+among-either x0 ys x2 r is = grind (arith, nat_tests)
 
 module _ {types : Types} {stored : ℕ → Option Blob} {trees : ℕ → Tree} {got : List ArcRef} where
   answer-by : (t : Bool) (r : ArcRef) (kind key : ℕ) → (r.kind.0 == kind) ≡ t → Among got r → ReadsNodeTree types stored trees key (type_of r.kind.0) r.node.0
       → OutLook any_cause (Found types stored trees got) (if t then Ok r else Err Error.WrongKind) (Ok (key_ref kind key))
-  answer-by true r kind key is among tree_read = both-looked-up r (key_ref kind key) (record { kind = sym (same-number _ _ is); among = among; tree_read = tree_read })
-  answer-by false r kind key is among tree_read = first-not Error.WrongKind _ tt
+  answer-by x0 r kind key is among tree_read = grind (arith, nat_tests, both-looked-up, same-number, first-not)
 
   answer-of : (o : Option ArcRef) (key : ℕ) → ((r : ArcRef) → o ≡ Some r → Among got r × ReadsNodeTree types stored trees key (type_of r.kind.0) r.node.0)
       → AnswersFor types stored trees got (answer_of o) key
-  answer-of None key h kind = first-not (Error.Storage kind) _ tt
-  answer-of (Some r) key h kind = let p = h r refl in answer-by (r.kind.0 == kind) r kind key refl p.0 p.1
+  answer-of x0 key h kind = grind (arith, nat_tests, first-not, answer-by)
 
   answers : (place : ℕ) (keys : List ℕ)
       → ((i key : ℕ) (r : ArcRef) → slice_get got (place + i) ≡ Some r → slice_get keys i ≡ Some key → ReadsNodeTree types stored trees key (type_of r.kind.0) r.node.0)
@@ -88,8 +77,7 @@ module _ {types : Types} {stored : ℕ → Option Blob} {trees : ℕ → Tree} {
   both-read {own} {after} (both-given p q v s) e =
       let same : p ≡ (own, after) = cc in
       (q.0, q.1, refl, subst (λ (z : Meaning ArcRef × Rest Answer). Along ⊥ (Found types stored trees got) z.0 q.0) same v)
-  both-read (both-refused x) e = absurd (cc)
-  both-read (first-refused x r c) e = absurd (cc)
+  both-read _ e = absurd (cc)
 
   -- what was read leads to a tree, to which the bare keys lead too
   leads-follows : {x : Meaning ArcRef} {m : Meaning KeyRef} → Along ⊥ (Found types stored trees got) x m → (a : Meaning ⊥) × LeadsTo trees x a × IsFollowed (ReadsAs stored types) m a
@@ -132,8 +120,7 @@ is_ref : ArcRef → ArcRef → Bool
 is_ref r q = (q.kind.0 == r.kind.0) && ((q.node.0 == r.node.0) && (q.handle.0 == r.handle.0))
 
 refs-of : {r q : ArcRef} → q.kind.0 ≡ r.kind.0 → q.node.0 ≡ r.node.0 → q.handle.0 ≡ r.handle.0 → q ≡ r
-refs-of {r} {q} kind node handle =
-    ap (λ n. record q { kind = record { 0 = n } }) kind ∙ ap (λ n. record q { kind = r.kind; node = record { 0 = n } }) node ∙ ap (λ n. record r { handle = record { 0 = n } }) handle
+refs-of {r} {q} kind node handle = grind (arith, nat_tests)
 
 same-ref : (r q : ArcRef) → is_ref r q ≡ true → q ≡ r
 unfolding is_ref
@@ -180,9 +167,8 @@ module _ {N : Type 0} {v : Values N} (lawful : IsLawful v) (readable : ReadsItsT
 -- ---- and stands for its tree
 
 pub among-left : {X : Type 0} (xs ys : List X) (i : ℕ) (r : X) → slice_get xs i ≡ Some r → Among (xs ++ ys) r
-among-left [] ys i r is = absurd (cc)
-among-left (x ∷ xs) ys zero r is = (zero, is)
 among-left (x ∷ xs) ys (suc i) r is = let a = among-left xs ys i r is in (suc a.0, a.1)
+among-left x0 ys x2 r is = grind (arith, nat_tests)
 
 pub among-right : {X : Type 0} (xs ys : List X) (i : ℕ) (r : X) → slice_get ys i ≡ Some r → Among (xs ++ ys) r
 among-right [] ys i r is = (i, is)

@@ -1,23 +1,13 @@
 -- A load is refused as too deep only where the reading of its key comes to a blob that lies too deep, or to one that enters a level too many.
-use Rattle.pagable_laws.proofs.Words.{◌≡◌, ℕ, ◌+◌, ◌<◌, ◌==◌, ◌||◌, Bool, true, false, List, [], ◌∷◌, length, Option, Some, None, Ok, Err, inl, inr, if◌then◌else◌, refl, sym, ap, subst, ◌∙◌}
-use Rattle.pagable_laws.proofs.Words.{arith, not, Error, Want, HandleRow, Owner, Took, Event, EventReply, Kind, HandleNumber, LoadNumber, Blob, Tree, Types, type_of, is_eager, is_in}
-use Rattle.pagable_laws.proofs.Words.{is_loose_kind, longest_path, if_there, any_mode, is_owner, owner_worker, Core, OpenLoad, Root, of_cell, of_key, Frame, Reading, Todo, Walking, Seen}
-use Rattle.pagable_laws.proofs.Words.{IsLawful, row_at, earlier, where_so, refused_if, spent, load_fault, named_fault, Refused, birth_fault, is_usable, AskCall, AsksInVain, node_fault}
-use Rattle.pagable_laws.proofs.Words.{root_fault, cell_fault, is_owned_in, is_known, Next, reads, asks, is_faulty, next_in, need_at, need_of, needs_nested, needs_lazy, is_broken, RefusesBlob}
-use Rattle.pagable_laws.proofs.Words.{RefusesNested, RefusesRoot, Fails, handles_of, Happens, after_kinds, LeadsDown, is-there, goes-down, ReadsTooDeep, MachineState, world_of, FramesFit}
-use Rattle.pagable_laws.proofs.Words.{IsReadingOf, of_caller, of_worker, LoadIsDeep, DeepLoadLaw}
+use Rattle.pagable_laws.proofs.Words.{nat_tests, ◌≡◌, ℕ, ◌+◌, ◌<◌, Bool, true, false, List, [], ◌∷◌, length, Option, Some, None, Ok, Err, inl, inr, refl, sym, ap, subst, ◌∙◌, arith, not, Error, Want}
+use Rattle.pagable_laws.proofs.Words.{Owner, Took, Event, EventReply, Kind, HandleNumber, LoadNumber, Blob, Tree, Types, type_of, is_eager, is_loose_kind, longest_path, if_there, any_mode}
+use Rattle.pagable_laws.proofs.Words.{owner_worker, Core, OpenLoad, Frame, Reading, Todo, Walking, Seen, IsLawful, earlier, where_so, refused_if, spent, load_fault, named_fault, Refused, AskCall}
+use Rattle.pagable_laws.proofs.Words.{AsksInVain, node_fault, root_fault, cell_fault, Next, reads, asks, is_faulty, next_in, need_at, need_of, needs_nested, is_broken, RefusesBlob, RefusesNested}
+use Rattle.pagable_laws.proofs.Words.{RefusesRoot, Fails, handles_of, Happens, after_kinds, LeadsDown, is-there, goes-down, ReadsTooDeep, MachineState, world_of, FramesFit, IsReadingOf, of_caller}
+use Rattle.pagable_laws.proofs.{Words.{of_worker, LoadIsDeep, DeepLoadLaw}, Trees.same_some, Fitting.asked, Chains.IsGoingOn, Deeply.along-first, ReadingStepsKinds.{kinds_of, asks-by-kinds}}
+use Rattle.pagable_laws.proofs.{ReadingStepsKinds.faulty-by-kinds, ReadingStepsMachine.reading-stands, Asking.FramesAsked, KnownSteps.eager-nested, Sound.either, Soundly.{by-all, by-handle-row}}
 use Rattle.pagable_world.specs.Loads.{Does}
 use Rattle.pagable_world.specs.Workers as workers
-use Rattle.pagable_laws.proofs.Trees.{same_some}
-use Rattle.pagable_laws.proofs.Fitting.{asked}
-use Rattle.pagable_laws.proofs.Chains.{IsGoingOn}
-use Rattle.pagable_laws.proofs.Deeply.{along-first}
-use Rattle.pagable_laws.proofs.ReadingStepsKinds.{kinds_of, asks-by-kinds, faulty-by-kinds}
-use Rattle.pagable_laws.proofs.ReadingStepsMachine.{reading-stands}
-use Rattle.pagable_laws.proofs.Asking.{FramesAsked}
-use Rattle.pagable_laws.proofs.KnownSteps.{eager-nested}
-use Rattle.pagable_laws.proofs.Sound.{either}
-use Rattle.pagable_laws.proofs.Soundly.{by-all, by-handle-row}
 
 -- ---- what isn't refused as too deep
 
@@ -28,12 +18,10 @@ no-earlier : (a b : Option Error) → No a → No b → No (earlier a b)
 no-earlier a b x y is = elim (either a b Error.TooDeep is) [ inl p ↦ x p | inr q ↦ y q ]
 
 no-test : (b : Bool) (f : Error) → (Some f ≡ Some Error.TooDeep → ⊥) → No (refused_if b f)
-no-test true f x is = x is
-no-test false f x is = cc
+no-test x0 f x is = grind (arith, nat_tests)
 
 no-where : (b : Bool) (c : Option Error) → No c → No (where_so b c)
-no-where true c x is = x is
-no-where false c x is = cc
+no-where x0 c x is = grind (arith, nat_tests)
 
 no-spent : (n : ℕ) → No (spent n)
 no-spent n = no-test _ Error.NumbersSpent (λ e. cc)
@@ -47,19 +35,13 @@ no-node w kind key is = grind (arith, no-spent, no-earlier)
 no-named : (w : Core) (owner : Owner) (seen : List ℕ) (hs : List HandleNumber) → No (named_fault w owner seen hs)
 unfolding named_fault
 no-named w owner seen [] is = cc
-no-named w owner seen (h ∷ hs) is = no-earlier _ _ (λ e. at (row_at w h) e) (no-named w owner (h.0 ∷ seen) hs) is
-  where
-    at : (found : Option HandleRow) → No (if_there (λ (row : HandleRow). refused_if (not (is_owner owner row.owner) || is_in seen h.0) Error.NotYours) (Some Error.NoSuchHandle) found)
-    at None e = cc
-    at (Some row) e = no-test (not (is_owner owner row.owner) || is_in seen h.0) Error.NotYours (λ f. cc) e
+no-named w owner seen (h ∷ hs) is = grind (arith, nat_tests, no-earlier, no-test, no-named w owner (h.0 ∷ seen) hs)
 
 no-root : (w : Core) (me : Owner) (t : ℕ) (found : Option OpenLoad) → No (if_there (λ (load : OpenLoad). root_fault w me t load.root) None found)
-no-root w me t None is = cc
-no-root w me t (Some load) is = grind (arith, no-earlier, no-test, no-where, no-spent)
+no-root w me t x3 is = grind (arith, nat_tests, no-earlier, no-test, no-where, no-spent)
 
 no-cell : (found : Option OpenLoad) → No (if_there (λ (load : OpenLoad). cell_fault load.root) None found)
-no-cell None is = cc
-no-cell (Some load) is = grind arith
+no-cell x0 is = grind (arith, nat_tests)
 
 not-refused : {cause before : Option Error} {full : Type 0} {w w' : Core} → Refused cause before full w Error.TooDeep w' → No cause → ⊥
 not-refused r none = elim r.why [ inl is ↦ none is | inr memory ↦ absurd (let e = memory.0 in cc) ]
@@ -101,14 +83,7 @@ module _ (types : Types) (stored : ℕ → Option Blob) where
         }
 
     broken-is : (below : List Frame) (next : Next) (e : Error) → need_at below next ≡ is_broken e → next ≡ is_faulty e
-    broken-is below (is_faulty f) e is = let same : f ≡ e = cc in ap is_faulty same
-    broken-is [] (reads own) e is = absurd (cc)
-    broken-is (x ∷ xs) (reads own) e is = absurd (cc)
-    broken-is below (asks kind key) e is = absurd (at (is_eager kind.0) is)
-      where
-        at : (b : Bool) → (if b then needs_nested kind key else needs_lazy kind key) ≡ is_broken e → ⊥
-        at true f = cc
-        at false f = cc
+    broken-is x0 x1 e is = grind (arith, nat_tests)
 
     of-blob : (frames : List Frame) → FramesFit types stored trees root_key root_type frames → FramesAsked types frames → need_of types frames ≡ is_broken Error.TooDeep
         → ReadsTooDeep types stored root_type root_key
@@ -145,20 +120,16 @@ module _ {N B W : Type 0} (m : Seen N B W) (lawful : IsLawful m.values) (w : Cor
   Deep = ReadsTooDeep m.values.types w.stored root_type root_key
 
   blob-deep : RefusesBlob m.values reading Error.TooDeep → Deep
-  blob-deep (inl is) = of-blob m.values.types w.stored trees root_key root_type reading.frames fits got is
-  blob-deep (inr (inl (top, below, is, causes))) = absurd (let f = lawful.own_reading top.node_type Error.TooDeep causes in cc)
-  blob-deep (inr (inr memory)) = absurd (cc)
+  blob-deep x0 = grind (arith, nat_tests, of-blob)
 
   not-vain : (want : Want) (load : OpenLoad) (u : Core) → AsksInVain w load want Error.TooDeep u → ⊥
-  not-vain Want.Root load u f = f.refused
-  not-vain (Want.Nested kind key) load u f = f.1.refused
+  not-vain x0 load u f = grind (arith, nat_tests)
 
   not-asked : (want : Want) (u : Core) → AskCall w me reading.load want (Err Error.TooDeep) u → ⊥
   not-asked want u c = grind (arith, not-refused, no-earlier, no-load, no-where, no-spent, not-vain)
 
   nested-deep : (u : Core) → RefusesNested m.values.types w me reading Error.TooDeep u → Deep
-  nested-deep u (kind, key, needs, inl c) = absurd (not-asked (Want.Nested kind key) u c)
-  nested-deep u (kind, key, needs, inr (blob, is, long, c)) = of-path m.values.types w.stored trees root_key root_type reading.frames fits got kind key blob needs c.gives.2.1.found long
+  nested-deep u x1 = grind (arith, nat_tests, not-asked, of-path)
 
   root-not : (u : Core) → RefusesRoot m.values w me reading Error.TooDeep u → ⊥
   root-not u r = elim r.refuses [
@@ -216,15 +187,14 @@ module _ {N B W E : Type 0} (m : Seen N B W) (lawful : IsLawful m.values) (s s' 
       (Err Error.TooDeep)) x.after) front does in
       by-reading (owner_worker n.0) reading load (of_worker n.0 place walking r through below there todo) open_load x.after.core step.1.refused.0.does.0
   load-deep (Event.LoadStep l) (EventReply.LoadMoved (Err e)) is = tt
-  load-deep (Event.LoadStep l) reply is = absurd is
   load-deep (Event.WorkerStep n) (EventReply.WorkerMoved (Err e)) is = tt
-  load-deep (Event.WorkerStep n) reply is = absurd is
   load-deep (Event.Call call) reply is = tt
   load-deep (Event.LoadStart h) reply is = tt
   load-deep (Event.LoadKey key t) reply is = tt
   load-deep Event.TableNew reply is = tt
   load-deep (Event.WorkerItem t item) reply is = tt
   load-deep (Event.WorkerListed t i) reply is = tt
+  load-deep _ reply is = absurd is
 
 pub deep_load_law : {N B W : Type 0} (E : Type 0) (m : Seen N B W) → DeepLoadLaw E m
 deep_load_law E m start moments trees whole idle chain stands lawful readable settled = grind (arith, along-first, load-deep)

@@ -1,19 +1,10 @@
 -- No key is answered of what leads down too long a path, or to a value that has no form; and why a claim is too deep.
-use Rattle.pagable_laws.proofs.Words.{◌≡◌, ℕ, ◌⊎◌, inl, inr, List, [], ◌∷◌, Some, Ok, Err, sym, subst, ap, ◌∙◌, Identity, Tree, WorkerAnswer, Event, EventReply, Error, Took, Shelf, Todo}
+use Rattle.pagable_laws.proofs.Words.{nat_tests, ◌≡◌, ℕ, ◌⊎◌, inl, inr, List, [], ◌∷◌, Some, Ok, Err, sym, subst, ap, ◌∙◌, Identity, Tree, WorkerAnswer, Event, EventReply, Error, Took, Shelf, Todo}
 use Rattle.pagable_laws.proofs.Words.{to_start, Walking, Seen, IsLawful, Site, Does, Happens, IsMetFailure, MachineState, world_of, IsMachineWhole, IsIdle, StandsFor, ReadsItsTypes, HoldsSettled}
-use Rattle.pagable_laws.proofs.Words.{Moment, AreMoments, Fact, TreesAlong, IsTooDeepTask, IsFormlessTask, KeyIsShallow, ShallowLaw, MetDepthAlone, DepthIsTold, ToldDepthLaw, WaitsForAsker}
-use Rattle.pagable_laws.proofs.Words.{arith, ClaimIsDeep, DeepClaimLaw, ground_of, Walks, WorkFits}
-use Rattle.pagable_laws.proofs.Trees.{same_some}
-use Rattle.pagable_laws.proofs.Coming.{StandsIn, event-turns, updated-at}
-use Rattle.pagable_laws.proofs.Answering.{answered}
-use Rattle.pagable_laws.proofs.Arriving.{headline_law}
-use Rattle.pagable_laws.proofs.Chains.{IsGoingOn, idle-goes, goes}
-use Rattle.pagable_laws.proofs.Standing.{AllStand, Covers}
-use Rattle.pagable_laws.proofs.Heights.{TodoLow}
-use Rattle.pagable_laws.proofs.Climbing.{claim-deep}
-use Rattle.pagable_laws.proofs.Formed.{task-has-forms}
-use Rattle.pagable_laws.proofs.HeightSteps.{HeightsIn, heights-at-first, heights-on}
-use Rattle.pagable_laws.proofs.Shallow.{task-not-deep, answered-low}
+use Rattle.pagable_laws.proofs.Words.{Moment, AreMoments, Fact, TreesAlong, IsTooDeepTask, IsFormlessTask, KeyIsShallow, ShallowLaw, MetDepthAlone, DepthIsTold, ToldDepthLaw, WaitsForAsker, arith}
+use Rattle.pagable_laws.proofs.{Words.{ClaimIsDeep, DeepClaimLaw, ground_of, Walks, WorkFits}, Trees.same_some, Coming.{StandsIn, event-turns, updated-at}, Answering.answered, Arriving.headline_law}
+use Rattle.pagable_laws.proofs.{Chains.{IsGoingOn, idle-goes, goes}, Standing.{AllStand, Covers}, Heights.TodoLow, Climbing.claim-deep, Formed.task-has-forms, HeightSteps.HeightsIn}
+use Rattle.pagable_laws.proofs.{HeightSteps.{heights-at-first, heights-on}, Shallow.{task-not-deep, answered-low}}
 
 module _ {N B W E : Type 0} (m : Seen N B W) (s s' : MachineState N E) (trees trees' : ℕ → Tree) (fit : WorkFits m.values s trees) (low : HeightsIn (world_of s)) where
   key-is-shallow : (event : Event N B W) (reply : EventReply N B W) → Happens m (world_of s) event reply (world_of s') → KeyIsShallow m.values s trees event reply s' trees'
@@ -85,22 +76,7 @@ module _ {N B W E : Type 0} (m : Seen N B W) (s s' : MachineState N E) (trees tr
     of-claim after todo i does all covers walks lows = absurd does
 
   claim-is-deep : (event : Event N B W) (reply : EventReply N B W) → Happens m (world_of s) event reply (world_of s') → ClaimIsDeep s trees event reply s' trees'
-  claim-is-deep (Event.WorkerStep n) (EventReply.WorkerMoved (Ok reply)) is = λ walking i there e.
-      let w = is.moves in
-      let same : w.walking ≡ walking = same_some _ _ (sym w.at ∙ there) in
-      let at = w.at in
-      let does = subst (λ (k : Took W). Does m n.0 (site n.0 w.walking at) w.walking.todo k w.after) e w.does.does in
-      subst (λ (x : Walking). IsTooDeepTask trees x.task ⊎ WaitsForAsker (s.work.shelves x.table) n.0 i) same
-      (of-claim n.0 w.walking at w.after w.walking.todo i does (work.workers n.0 w.walking at).all (work.workers n.0 w.walking at).covers (fit.walks n.0 w.walking at) (low.todos n.0 w.walking at))
-  claim-is-deep (Event.WorkerStep n) (EventReply.WorkerMoved (Err e)) is = tt
-  claim-is-deep (Event.WorkerStep n) reply is = absurd is
-  claim-is-deep (Event.Call call) reply is = tt
-  claim-is-deep (Event.LoadStart h) reply is = tt
-  claim-is-deep (Event.LoadKey key t) reply is = tt
-  claim-is-deep (Event.LoadStep l) reply is = tt
-  claim-is-deep Event.TableNew reply is = tt
-  claim-is-deep (Event.WorkerItem t item) reply is = tt
-  claim-is-deep (Event.WorkerListed t i) reply is = tt
+  claim-is-deep x0 x1 is = grind (arith, nat_tests, same_some, of-claim)
 
 -- what follows of each moment where heights are low holds along each chain
 module _ {N B W E : Type 0} (m : Seen N B W) (lawful : IsLawful m.values) (readable : ReadsItsTypes m.values.types) (P : Fact N E B W) where

@@ -1,8 +1,7 @@
 -- The least set of handles that fall.
-use Rattle.pagable_laws.proofs.Words.{◌≡◌, ℕ, suc, zero, ◌+◌, ◌<◌, ◌≤◌, ◌==◌, ◌&&◌, ◌||◌, Bool, true, false, List, sum_by, refl, ap, sym, ◌∙◌, arith, nat_lt, nat_eq, not, if◌then◌else◌}
-use Rattle.pagable_laws.proofs.Words.{nat_tests, and_parts, one, Among, Owner, HandleRow, is_owner, is_owned_by, owner_value, is_at, is_pin, held, is_outside, held_outside, pins_outside}
-use Rattle.pagable_laws.proofs.Words.{loses_value, IsClosed, IsWithin, IsLeast, OwnsNothing, IsGivenAlone}
-use Rattle.pagable_laws.proofs.Sums.{same-number, self-number, one-true, sum-le, at-most-sum, sum-plus, sum-zero, counted}
+use Rattle.pagable_laws.proofs.Words.{◌≡◌, ℕ, suc, zero, ◌+◌, ◌<◌, ◌≤◌, ◌==◌, ◌&&◌, ◌||◌, Bool, true, false, List, sum_by, refl, ap, sym, ◌∙◌, arith, nat_lt, nat_eq, not, if◌then◌else◌, nat_tests}
+use Rattle.pagable_laws.proofs.Words.{and_parts, one, Among, Owner, HandleRow, is_owner, is_owned_by, owner_value, is_at, is_pin, held, is_outside, held_outside, pins_outside, loses_value, IsClosed}
+use Rattle.pagable_laws.proofs.{Words.{IsWithin, IsLeast, OwnsNothing, IsGivenAlone}, Sums.{same-number, self-number, one-true, sum-le, at-most-sum, sum-plus, sum-zero, counted}}
 
 -- 1 for a handle outside the set; one of the node, one that pins it, one that its value owns; and one of the one set and not of the other
 abbrev outside : (ℕ → Bool) → HandleRow → ℕ
@@ -34,17 +33,14 @@ abbrev grown : List HandleRow → (ℕ → Bool) → List HandleRow → (ℕ →
 grown rows keyed entries s q = s q || nat_lt 0 (sum_by (follows (loses_value rows keyed entries s) q) rows)
 
 owned-by : (lost : ℕ → Bool) (n : ℕ) (o : Owner) → is_owner (owner_value n) o ≡ true → lost n ≡ true → owner_goes lost o ≡ true
-owned-by lost n (Owner.Value m) is goes = let e : m.0 ≡ n = grind (arith, nat_tests) in ap lost e ∙ goes
-owned-by lost n _ is goes = absurd (grind (arith, nat_tests))
+owned-by lost n x2 is goes = grind (arith, nat_tests)
 
 owner-of : (lost : ℕ → Bool) (o : Owner) → owner_goes lost o ≡ true → (n : ℕ) × (is_owner (owner_value n) o ≡ true) × (lost n ≡ true)
-owner-of lost (Owner.Value m) goes = (m.0, grind (arith, nat_tests), goes)
-owner-of lost _ goes = absurd (grind (arith, nat_tests))
+owner-of lost x1 goes = grind (arith, nat_tests)
 
 -- fewer pins or handles are outside the greater set
 wider-by : (b : Bool) (came p q h k : ℕ) → q ≤ p → k ≤ h → (if b then nat_eq p 0 else nat_eq came 0 && nat_eq h 0) ≡ true → (if b then nat_eq q 0 else nat_eq came 0 && nat_eq k 0) ≡ true
-wider-by true came p q h k pins handles goes = grind (arith, nat_tests)
-wider-by false came p q h k pins handles goes = grind (arith, nat_tests)
+wider-by _ came p q h k pins handles goes = grind (arith, nat_tests)
 
 module _ (rows : List HandleRow) (keyed : ℕ → Bool) (entries : List HandleRow) where
   abbrev lost : (ℕ → Bool) → ℕ → Bool
@@ -103,9 +99,7 @@ module _ (rows : List HandleRow) (keyed : ℕ → Bool) (entries : List HandleRo
               sym (ap t number) ∙ it
 
           of-row : (h : HandleRow) → (x : HandleRow) × Among rows x × (0 < follows (lost s) h.number.0 x) → t h.number.0 ≡ true
-          of-row h (x, among, some) =
-              let both : (x.number.0 == h.number.0 && owner_goes (lost s) x.owner) ≡ true = one-true _ some in
-              of-value h x among (same-number _ _ (and_parts _ _ both).0) (owner-of (lost s) x.owner (and_parts _ _ both).1)
+          of-row h (x, among, some) = grind (arith, nat_tests, one-true, of-value, same-number, owner-of)
 
       part : (h : HandleRow) → Among rows h → (a : Bool) → s h.number.0 ≡ a → (b : Bool) → nat_lt 0 (sum_by (follows (lost s) h.number.0) rows) ≡ b → only_in (more s) t h ≡ 0
       part h among true e b f = let c = inside s t h within among e in grind (arith, nat_tests)
@@ -145,10 +139,9 @@ module _ (rows : List HandleRow) (keyed : ℕ → Bool) (entries : List HandleRo
   least_is_one given s t h a b among = both (s h.number.0) refl (t h.number.0) refl
     where
       both : (x : Bool) → s h.number.0 ≡ x → (y : Bool) → t h.number.0 ≡ y → s h.number.0 ≡ t h.number.0
-      both true e true f = e ∙ sym f
-      both false e false f = e ∙ sym f
       both true e false f = let c = inside s t h (a.least t b.holds b.closed) among e in absurd (grind (arith, nat_tests))
       both false e true f = let c = inside t s h (b.least s a.holds a.closed) among f in absurd (grind (arith, nat_tests))
+      both _ e _ f = e ∙ sym f
 
 -- where no value owns a handle, every set is closed
 closed-alone : (rows : List HandleRow) (keyed : ℕ → Bool) (entries : List HandleRow) (s : ℕ → Bool) → OwnsNothing rows → IsClosed rows keyed entries s

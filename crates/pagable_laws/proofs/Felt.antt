@@ -1,14 +1,10 @@
 -- What each sort of step brings fits trees: which trees the nodes have afterwards, and that values, keys and what becomes known fit them.
-use Rattle.pagable_laws.proofs.Words.{◌≡◌, ℕ, ◌+◌, ◌≤◌, ◌==◌, ◌&&◌, Bool, true, false, Some, None, ◌⊎◌, inl, inr, refl, sym, ap, ◌∙◌, subst, arith, if◌then◌else◌, is_some, nat_tests}
-use Rattle.pagable_laws.proofs.Words.{OptionalDataKey, Owner, HandleRow, Call, Reply, ArcRef, Tree, tree, ReadsTree, type_of, Among, updated, is_pinned_kind, any_mode, is_loose, Values, IsLawful}
-use Rattle.pagable_laws.proofs.Words.{is_here, Owns, first_key, PagerState, WellFormed, Represents, ReadsNodeTree, SameTrees, CallBrings, IsNewNode, IsCellOf, ValueStands, HoldsSettled, AsksWell}
-use Rattle.pagable_laws.proofs.Words.{ReadsAsType, ReadsAsValue, ValueLeads, Change, nothing_felt, sets_key, knows_node, bears_node, bears_known, CoreGoes, StaysAway, AreGood, CallFeels}
-use Rattle.pagable_laws.proofs.Words.{feels-nothing, feels-birth, feels-away, feels-key, feels-known, feels-adopted, feels-lazy, feels-end, ChangeFits}
-use Rattle.pagable_laws.proofs.Trees.{same_some}
-use Rattle.pagable_laws.proofs.Following.{given-of, cell-of}
-use Rattle.pagable_laws.proofs.Fitting.{tree-stays}
-use Rattle.pagable_laws.proofs.Leading.{leads-on, led, own-refs, value-leads}
-use Rattle.pagable_laws.proofs.TreesGoing.{either-side}
+use Rattle.pagable_laws.proofs.Words.{◌≡◌, ℕ, ◌+◌, ◌≤◌, ◌==◌, ◌&&◌, Bool, true, false, Some, None, ◌⊎◌, inl, inr, refl, sym, ap, ◌∙◌, subst, arith, if◌then◌else◌, is_some, nat_tests, OptionalDataKey}
+use Rattle.pagable_laws.proofs.Words.{Owner, HandleRow, Call, Reply, ArcRef, Tree, tree, ReadsTree, type_of, Among, updated, is_pinned_kind, any_mode, is_loose, Values, IsLawful, is_here, Owns}
+use Rattle.pagable_laws.proofs.Words.{first_key, PagerState, WellFormed, Represents, ReadsNodeTree, SameTrees, CallBrings, IsNewNode, IsCellOf, ValueStands, HoldsSettled, AsksWell, ReadsAsType}
+use Rattle.pagable_laws.proofs.Words.{ReadsAsValue, ValueLeads, Change, nothing_felt, sets_key, knows_node, bears_node, bears_known, CoreGoes, StaysAway, AreGood, CallFeels, feels-nothing}
+use Rattle.pagable_laws.proofs.{Words.{feels-birth, feels-away, feels-key, feels-known, feels-adopted, feels-lazy, feels-end, ChangeFits}, Trees.same_some, Following.{given-of, cell-of}}
+use Rattle.pagable_laws.proofs.{Fitting.tree-stays, Leading.{leads-on, led, own-refs, value-leads}, TreesGoing.either-side}
 
 -- ---- trees with one more
 
@@ -19,12 +15,10 @@ pub with-below : (last : ℕ) (t : Tree) (trees : ℕ → Tree) → SameTrees la
 with-below last t trees n within = let e : (n == last + 1) ≡ false = grind (arith, nat_tests) in rw e refl
 
 both-true : (a b : Bool) → a ≡ true → false ≡ (a && b) → b ≡ false
-both-true true b e f = sym f
-both-true false b e f = absurd (cc)
+both-true x0 b e f = grind (arith, nat_tests)
 
 pub first-of : (b : Bool) (key k : ℕ) → (if b then OptionalDataKey.Some key else OptionalDataKey.None) ≡ OptionalDataKey.Some k → k ≡ key
-first-of true key k e = cc
-first-of false key k e = absurd (cc)
+first-of x0 key k e = grind (arith, nat_tests)
 
 module _ {N E : Type 0} {v : Values N} {s s' : PagerState N E} {trees : ℕ → Tree} (lawful : IsLawful v) (settled : HoldsSettled v s) (well : WellFormed v s) (well' : WellFormed v s')
     (stands : Represents v s trees) where
@@ -47,8 +41,7 @@ module _ {N E : Type 0} {v : Values N} {s s' : PagerState N E} {trees : ℕ → 
 
   -- where nothing is born and no value can come to an old node, none comes
   pub none-comes : (n : ℕ) (x : N) → CoreGoes nothing_felt s.core s'.core → s.values n ≡ None → s'.values n ≡ Some x → IsNewNode s.core n ⊎ StaysAway s.core s'.core n → ⊥
-  none-comes n x goes none is (inl new) = (goes.new n new (live-after n x is)).born
-  none-comes n x goes none is (inr away) = grind (arith, either-side, live-after, both-true, came)
+  none-comes n x goes x3 is x5 = grind (arith, nat_tests, live-after, either-side, both-true, came)
 
   -- nothing is felt, and what comes to an old node fits
   pub fits-nothing : (comes : ℕ → N → Type 0) → ((n : ℕ) (x : N) → comes n x → s.values n ≡ None → s'.values n ≡ Some x → ValueLeads v trees x (trees n))
@@ -72,36 +65,12 @@ module _ {N E : Type 0} {v : Values N} {s s' : PagerState N E} {trees : ℕ → 
     -- a node is born of this type and key, of a tree as which the key reads if it has one
     pub fits-born : (comes : ℕ → N → Type 0) (own : OptionalDataKey) → ((key : ℕ) → own ≡ OptionalDataKey.Some key → ReadsTree s'.core.stored v.types key t0)
         → ((n : ℕ) (x : N) → comes n x → s.values n ≡ None → s'.values n ≡ Some x → ValueLeads v more x (more n)) → ChangeFits v (bears_node t0.type own) comes s s' trees more
-    fits-born comes own reads fit =
-        record {
-          same = with-below last t0 trees;
-          sets = λ n key is. absurd is;
-          born = λ t o is. ap (λ (z : Tree). z.type) more-at ∙ sym is.0;
-          keyed = λ t key is. subst (λ z. ReadsTree s'.core.stored v.types key z) (sym more-at) (reads key (sym is.1));
-          knows = λ kind key n is. absurd is;
-          comes_well = fit;
-        }
+    fits-born comes own reads fit = grind (arith, nat_tests, with-below, more-at)
 
     pub fits-born-known : (comes : ℕ → N → Type 0) (k q : ℕ) (own : OptionalDataKey) → t0.type ≡ type_of k → ((key : ℕ) → own ≡ OptionalDataKey.Some key → key ≡ q)
         → ReadsTree s'.core.stored v.types q t0
         → ((n : ℕ) (x : N) → comes n x → s.values n ≡ None → s'.values n ≡ Some x → ValueLeads v more x (more n)) → ChangeFits v (bears_known k q own) comes s s' trees more
-    fits-born-known comes k q own typed same_key reads fit =
-        record {
-          same = with-below last t0 trees;
-          sets = λ n key is. absurd is;
-          born = λ t o is. ap (λ (z : Tree). z.type) more-at ∙ typed ∙ sym is.0;
-          keyed = λ t key is. keyed-at key (same_key key (sym is.1));
-          knows = λ kind key n is. known-at kind key n is.0 is.1 is.2;
-          comes_well = fit;
-        }
-      where
-        keyed-at : (key : ℕ) → key ≡ q → ReadsTree s'.core.stored v.types key (more (last + 1))
-        keyed-at key e = subst (λ z. ReadsTree s'.core.stored v.types key z) (sym more-at) (rw e reads)
-
-        known-at : (kind key n : ℕ) → kind ≡ k → key ≡ q → n ≡ last + 1 → ReadsNodeTree v.types s'.core.stored more key (type_of kind) n
-        known-at kind key n e1 e2 e3 =
-            let here : ReadsNodeTree v.types s'.core.stored more q (type_of k) (last + 1) = record { typed = ap (λ (z : Tree). z.type) more-at ∙ typed; reads = keyed-at q refl } in
-            rw (e1, e2, e3) here
+    fits-born-known comes k q own typed same_key reads fit = grind (arith, nat_tests, with-below, more-at)
 
     -- the value of the node that is born leads to that tree
     pub value-born : (c : Change) (n : ℕ) (x y : N) → CoreGoes c s.core s'.core → s'.values n ≡ Some x → x ≡ y → IsNewNode s.core n

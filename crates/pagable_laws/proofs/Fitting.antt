@@ -1,45 +1,32 @@
 -- What a load reads goes on fitting, whatever it gets.
-use Rattle.pagable_laws.proofs.Words.{◌≡◌, ℕ, zero, suc, ◌+◌, ◌<◌, ◌≤◌, Bool, true, false, List, [], ◌∷◌, ◌++◌, Option, Some, if◌then◌else◌, ◌⊎◌, inl, inr, refl, sym, ap, ◌∙◌, subst, arith}
-use Rattle.pagable_laws.proofs.Words.{slice_get, length, KeyRef, ReadsAs, IsFollowed, number-followed, integer-followed, text-followed, pattern-followed, none-followed, pair-followed}
+use Rattle.pagable_laws.proofs.Words.{nat_tests, ◌≡◌, ℕ, zero, suc, ◌+◌, ◌<◌, ◌≤◌, Bool, true, false, List, [], ◌∷◌, ◌++◌, Option, Some, if◌then◌else◌, ◌⊎◌, inl, inr, refl, sym, ap, ◌∙◌, subst}
+use Rattle.pagable_laws.proofs.Words.{arith, slice_get, length, KeyRef, ReadsAs, IsFollowed, number-followed, integer-followed, text-followed, pattern-followed, none-followed, pair-followed}
 use Rattle.pagable_laws.proofs.Words.{variant-followed, reference-followed, HandleRow, ArcRef, Kind, Blob, Types, Tree, type_of, ReadsTree, Meaning, Among, is_eager, Frame, Next, reads, asks}
 use Rattle.pagable_laws.proofs.Words.{is_faulty, next_in, need_at, need_of, needs_nested, needs_lazy, root_frame, nested_frame, with_got, ReadsNodeTree, FrameFits, FramesFit, SameTrees, Needs}
-use Rattle.pagable_laws.proofs.Words.{KeepsStored, FramesGiven}
-use Rattle.pagable_laws.proofs.Decoding.{asks_next}
+use Rattle.pagable_laws.proofs.{Words.{KeepsStored, FramesGiven}, Decoding.asks_next}
 
 -- ---- what is asked
 
 asked-by : (below : List Frame) (t : Bool) (k : Kind) (q : ℕ) (kind : Kind) (key : ℕ)
     → ((if t then needs_nested k q else needs_lazy k q) ≡ needs_nested kind key) ⊎ ((if t then needs_nested k q else needs_lazy k q) ≡ needs_lazy kind key) → asks k q ≡ asks kind key
-asked-by below true k q kind key (inl is) = let a : k ≡ kind = cc in let b : q ≡ key = cc in rw (a, b) refl
-asked-by below true k q kind key (inr is) = absurd (cc)
-asked-by below false k q kind key (inl is) = absurd (cc)
-asked-by below false k q kind key (inr is) = let a : k ≡ kind = cc in let b : q ≡ key = cc in rw (a, b) refl
+asked-by below x1 k q kind key x6 = grind (arith, nat_tests)
 
 pub asked : (below : List Frame) (next : Next) (kind : Kind) (key : ℕ) → (need_at below next ≡ needs_nested kind key) ⊎ (need_at below next ≡ needs_lazy kind key) → next ≡ asks kind key
-asked below (asks k q) kind key is = asked-by below (is_eager k.0) k q kind key is
-asked [] (reads own) kind key (inl is) = absurd (cc)
-asked [] (reads own) kind key (inr is) = absurd (cc)
-asked (frame ∷ below) (reads own) kind key (inl is) = absurd (cc)
-asked (frame ∷ below) (reads own) kind key (inr is) = absurd (cc)
-asked below (is_faulty e) kind key (inl is) = absurd (cc)
-asked below (is_faulty e) kind key (inr is) = absurd (cc)
+asked x0 x1 kind key x4 = grind (arith, nat_tests, asked-by)
 
 -- ---- one frame
 
 pub pushed : {X : Type 0} (xs : List X) (y : X) (i : ℕ) (x : X) → slice_get (xs ++ y ∷ []) i ≡ Some x → (slice_get xs i ≡ Some x) ⊎ ((i ≡ length xs) × (y ≡ x))
-pushed [] y zero x is = inr (refl, cc)
-pushed [] y (suc i) x is = absurd (cc)
-pushed (z ∷ xs) y zero x is = inl is
 pushed (z ∷ xs) y (suc i) x is = elim (pushed xs y i x is) [ inl old ↦ inl old | inr new ↦ inr (let n = new.0 in omega (arith, n), new.1) ]
+pushed x0 y x2 x is = grind (arith, nat_tests)
 
 pub longer : {X : Type 0} (xs : List X) (y : X) → length (xs ++ y ∷ []) ≡ length xs + 1
 longer [] y = omega arith
 longer (x ∷ xs) y = let a = longer xs y in omega (arith, a)
 
 pub inside : {X : Type 0} (xs : List X) (i : ℕ) (x : X) → slice_get xs i ≡ Some x → i < length xs
-inside [] i x is = absurd (cc)
-inside (y ∷ xs) zero x is = omega arith
 inside (y ∷ xs) (suc i) x is = let a = inside xs i x is in omega (arith, a)
+inside x0 x1 x is = grind (arith, nat_tests)
 
 module _ {stored stored' : ℕ → Option Blob} {types : Types} (kept : KeepsStored stored stored') where
   read-stays : {t key : ℕ} {m : Meaning KeyRef} → ReadsAs stored types t key m → ReadsAs stored' types t key m
@@ -84,10 +71,7 @@ module _ {types : Types} {stored : ℕ → Option Blob} {trees : ℕ → Tree} w
       at-place : (place k : ℕ) (r : ArcRef) → slice_get frame.blob.keys place ≡ Some k → (slice_get frame.got place ≡ Some r) ⊎ ((place ≡ length frame.got) × (q ≡ r))
           → ReadsNodeTree types stored trees k (type_of r.kind.0) r.node.0
       at-place place k r at (inl old) = h.got place k r old at
-      at-place place k r at (inr new) =
-          let there = subst (λ i. slice_get frame.blob.keys i ≡ Some k) new.0 at in
-          let same : key ≡ k = cc in
-          subst (λ (z : ArcRef). ReadsNodeTree types stored trees k (type_of z.kind.0) z.node.0) new.1 (subst (λ i. ReadsNodeTree types stored trees i (type_of q.kind.0) q.node.0) same read)
+      at-place place k r at (inr new) = grind (arith, nat_tests)
 
 -- ---- all frames
 
@@ -112,8 +96,7 @@ module _ (types : Types) (root_key root_type : ℕ) where
         → stored key ≡ Some blob
         → FramesFit types stored trees root_key root_type (nested_frame kind key blob ∷ frames)
     unfolding FramesFit
-    nested-fits [] kind key blob h needs is = absurd (cc)
-    nested-fits (top ∷ below) kind key blob h needs is = (new-fits (nested_frame kind key blob) refl is, refl, asked below (next_in types top) kind key (inl needs), h)
+    nested-fits x0 kind key blob h needs is = grind (arith, nat_tests, new-fits, asked)
 
     grown-fits : (frame : Frame) (below : List Frame) (kind : Kind) (key : ℕ) (row : HandleRow) → FramesFit types stored trees root_key root_type (frame ∷ below) → next_in types frame ≡ asks kind key
         → ReadsNodeTree types stored trees key (type_of kind.0) row.node.0 → FramesFit types stored trees root_key root_type (with_got kind row (frame ∷ below))
@@ -137,8 +120,7 @@ module _ (types : Types) (root_key root_type : ℕ) where
 
     pub first-fits : (top : Frame) (below : List Frame) → FramesFit types stored trees root_key root_type (top ∷ below) → FrameFits types stored trees top
     unfolding FramesFit
-    first-fits top [] h = h.0
-    first-fits top (frame ∷ below) h = h.0
+    first-fits top x1 h = grind (arith, nat_tests)
 
     pub first-typed : (top frame : Frame) (below : List Frame) → FramesFit types stored trees root_key root_type (top ∷ frame ∷ below) → top.node_type ≡ type_of top.kind.0
     unfolding FramesFit

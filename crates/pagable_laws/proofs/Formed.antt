@@ -1,10 +1,9 @@
 -- Where a key is known, the tree has a form, and so has each that it reaches.
-use Rattle.pagable_laws.proofs.Words.{◌≡◌, ℕ, Bool, true, false, List, refl, sym, ap, subst, ◌∙◌, inl, inr, pair, variant, followed, TreeForm, ArcRef, Identity, Meaning, Tree, tree, type_of}
-use Rattle.pagable_laws.proofs.Words.{Among, identity_of, Shelf, Written, Task, of_item, of_entry, Values, IsPublished, MachineState, kids_of, Reaches, refers, refers-on, in-first, in-rest}
-use Rattle.pagable_laws.proofs.Words.{in-part, HasNoForm, LeadsToNoForm, IsFormlessTask, ground_of, FollowsTo, number-follows, integer-follows, text-follows, pattern-follows, none-follows}
-use Rattle.pagable_laws.proofs.Words.{pair-follows, variant-follows, reference-follows, WroteTree, WorkFits, IsDone}
-use Rattle.pagable_laws.proofs.Trees.{same_some, tree_is}
-use Rattle.pagable_laws.proofs.Following.{known-of, tree-form}
+use Rattle.pagable_laws.proofs.Words.{arith, nat_tests}
+use Rattle.pagable_laws.proofs.Words.{◌≡◌, ℕ, Bool, true, false, List, refl, sym, ap, subst, ◌∙◌, inl, inr, pair, variant, followed, TreeForm, ArcRef, Identity, Meaning, Tree, tree, type_of, Among}
+use Rattle.pagable_laws.proofs.Words.{identity_of, Shelf, Written, Task, of_item, of_entry, Values, IsPublished, MachineState, kids_of, Reaches, refers, refers-on, in-first, in-rest, in-part}
+use Rattle.pagable_laws.proofs.Words.{HasNoForm, LeadsToNoForm, IsFormlessTask, ground_of, FollowsTo, number-follows, integer-follows, text-follows, pattern-follows, none-follows, pair-follows}
+use Rattle.pagable_laws.proofs.{Words.{variant-follows, reference-follows, WroteTree, WorkFits, IsDone}, Trees.{same_some, tree_is}, Following.{known-of, tree-form}}
 
 -- whether anything stands in the meaning that may refer
 abbrev holds_more : Meaning ⊥ → Bool
@@ -14,11 +13,7 @@ holds_more (followed kind a) = true
 holds_more m = false
 
 more-held : {m n : Meaning ⊥} {u : Tree} → Reaches n u → n ≡ m → holds_more m ≡ false → ⊥
-more-held (refers kind a) e none = let f : holds_more _ ≡ true = sym (ap holds_more e) in absurd (cc)
-more-held (refers-on kind a u reach) e none = let f : holds_more _ ≡ true = sym (ap holds_more e) in absurd (cc)
-more-held (in-first a b u reach) e none = let f : holds_more _ ≡ true = sym (ap holds_more e) in absurd (cc)
-more-held (in-rest a b u reach) e none = let f : holds_more _ ≡ true = sym (ap holds_more e) in absurd (cc)
-more-held (in-part n a u reach) e none = let f : holds_more _ ≡ true = sym (ap holds_more e) in absurd (cc)
+more-held x0 e x2 = grind (arith, nat_tests)
 
 module _ {N E : Type 0} (v : Values N) (s : MachineState N E) (trees : ℕ → Tree) (fit : WorkFits v s trees) (t : ℕ) where
   abbrev shelf : Shelf

@@ -1,59 +1,31 @@
 -- References that nothing is to be said against name handles of their owner, as they should. A handle that is given up doesn't bring a value back.
-use Rattle.pagable_laws.proofs.Words.{◌≡◌, ℕ, zero, suc, ◌+◌, ◌≤◌, ◌==◌, ◌&&◌, ◌||◌, Bool, true, false, List, [], ◌∷◌, ◌++◌, cond, refl, ap, sym, subst, ◌∙◌, arith, Option, Some, None, not}
-use Rattle.pagable_laws.proofs.Words.{nat_lt, is_some, nat_tests, sum_by-cons, ArcRef, type_of, OptionalDataKey, is_in, or_else, if_there, one, Owner, HandleRow, Error, is_owner, fits_mode, pins}
-use Rattle.pagable_laws.proofs.Words.{is_pin, is_in_memory, has_key, Core, Cell, row_at, type_at, key_at, is_here, Alike, AreNewEntries, Falls, left_rows, refused_if, is_type, row_fault}
-use Rattle.pagable_laws.proofs.Words.{reference_fault, references_fault, IsReference, AreGood, StaysAway}
-use Rattle.pagable_laws.proofs.Sums.{same-number}
-use Rattle.pagable_laws.proofs.Goes.{Quiet, alike, fell}
+use Rattle.std.proofs.Common.{rules}
+use Rattle.pagable_laws.proofs.Words.{◌≡◌, ℕ, zero, suc, ◌+◌, ◌≤◌, ◌&&◌, Bool, true, false, List, [], ◌∷◌, ◌++◌, cond, refl, ap, subst, arith, Option, Some, None, not, nat_lt, nat_tests, sum_by-cons}
+use Rattle.pagable_laws.proofs.Words.{ArcRef, OptionalDataKey, or_else, one, Owner, HandleRow, is_owner, pins, is_pin, is_in_memory, Core, Alike, AreNewEntries, Falls, left_rows, is_type}
+use Rattle.pagable_laws.proofs.{Words.{reference_fault, references_fault, IsReference, AreGood, StaysAway}, Sums.same-number, Goes.{Quiet, alike, fell}}
 
 pub or-none : {X : Type 0} (a b : Option X) → or_else a b ≡ None → (a ≡ None) × (b ≡ None)
-or-none None b is = (refl, is)
-or-none (Some x) b is = absurd (cc)
+or-none x0 b is = grind (arith, nat_tests)
 
 pub same-owner : (o p : Owner) → is_owner o p ≡ true → p ≡ o
-same-owner Owner.Caller Owner.Caller is = refl
-same-owner Owner.List Owner.List is = refl
-same-owner (Owner.Value n) (Owner.Value k) is = ap (λ x. Owner.Value (record { 0 = x })) (same-number k.0 n.0 is)
-same-owner (Owner.Load n) (Owner.Load k) is = ap (λ x. Owner.Load (record { 0 = x })) (same-number k.0 n.0 is)
-same-owner (Owner.Worker n) (Owner.Worker k) is = ap (λ x. Owner.Worker (record { 0 = x })) (same-number k.0 n.0 is)
-same-owner _ p is = absurd (cc)
+same-owner x0 x1 is = grind (arith, nat_tests, same-number)
 
 pub typed-by : (t : ℕ) (found : Option ℕ) → is_type t found ≡ true → found ≡ Some t
-typed-by t None is = absurd (cc)
-typed-by t (Some u) is = ap (λ (x : ℕ). Some x) (same-number u t is)
+typed-by t x1 is = grind (arith, nat_tests, same-number)
 
 module _ (w : Core) (owner : Owner) where
   good-one : (seen : List ℕ) (r : ArcRef) → reference_fault w owner seen r ≡ None → IsReference w owner r
-  good-one seen r none = by-row (row_at w r.handle) refl none
-    where
-      by-row : (found : Option HandleRow) → row_at w r.handle ≡ found
-          → if_there (λ (row : HandleRow). row_fault w r (refused_if (not (is_owner owner row.owner) || is_in seen r.handle.0) Error.NotYours) row) (Some Error.NoSuchHandle) found ≡ None
-          → IsReference w owner r
-      by-row None live none = absurd (cc)
-      by-row (Some row) live none = at (row.node.0 == r.node.0) refl (is_owner owner row.owner) refl (is_in seen r.handle.0) refl (fits_mode r.kind.0 row.mode) refl
-          (is_type (type_of r.kind.0) (type_at w r.node.0)) refl
-        where
-          at : (a : Bool) → (row.node.0 == r.node.0) ≡ a → (b : Bool) → is_owner owner row.owner ≡ b → (c : Bool) → is_in seen r.handle.0 ≡ c → (d : Bool)
-              → fits_mode r.kind.0 row.mode ≡ d → (e : Bool) → is_type (type_of r.kind.0) (type_at w r.node.0) ≡ e → IsReference w owner r
-          at false p b q c s d t e u = let f : Some Error.NoSuchHandle ≡ None = rw p at none in absurd (cc)
-          at true p false q c s d t e u = let f : Some Error.NotYours ≡ None = rw (p, q) at none in absurd (cc)
-          at true p true q true s d t e u = let f : Some Error.NotYours ≡ None = rw (p, q, s) at none in absurd (cc)
-          at true p true q false s false t e u = let f : Some Error.WrongMode ≡ None = rw (p, q, s, t) at none in absurd (cc)
-          at true p true q false s true t false u = let f : Some Error.WrongKind ≡ None = rw (p, q, s, t, u) at none in absurd (cc)
-          at true p true q false s true t true u =
-              record { row = row; live = live; at = ap (λ x. record { 0 = x }) (same-number row.node.0 r.node.0 p); owned = same-owner owner row.owner q; fits = t; typed = typed-by (type_of r.kind.0) (type_at w r.node.0) u }
+  good-one seen r none = search (rules, same-number, same-owner, typed-by)
 
   pub good : (seen : List ℕ) (references : List ArcRef) → references_fault w owner seen references ≡ None → AreGood w owner references
   unfolding references_fault
-  good seen [] none r (i, is) = absurd (cc)
-  good seen (x ∷ xs) none r (zero, is) = let e : x ≡ r = cc in subst (λ y. IsReference w owner y) e (good-one seen x (or-none _ _ none).0)
   good seen (x ∷ xs) none r (suc i, is) = good (x.handle.0 ∷ seen) xs (or-none _ _ none).1 r (i, is)
+  good seen x1 x2 r x4 = grind (arith, nat_tests, good-one, or-none)
 
 -- ---- values that are away
 
 away-by : (p q : ℕ) (key : OptionalDataKey) → q ≤ p → is_in_memory p key ≡ false → is_in_memory q key ≡ false
-away-by p zero key le is = grind arith
-away-by p (suc q) key le is = let e : nat_lt 0 p ≡ true = grind (arith, nat_tests) in let f : true ≡ false = rw e at is in absurd (cc)
+away-by p x1 key le is = grind (arith, nat_tests)
 
 pub still-away : (w w' : Core) → Quiet w w' → ((n : ℕ) → pins n w'.rows ≤ pins n w.rows) → (n : ℕ) → StaysAway w w' n
 still-away w w' q fewer n away there = grind (arith, away-by)
@@ -76,15 +48,11 @@ pins-left n gone (h ∷ hs) more k none = at (gone h.number.0) (pins-left n gone
     at false le a b = omega arith
 
 entry-pins : (b : Bool) → one (b && false) ≡ 0
-entry-pins true = refl
-entry-pins false = refl
+entry-pins x0 = grind (arith, nat_tests)
 
 no-pins : (n last : ℕ) (entries : List HandleRow) → AreNewEntries last entries → pins n entries ≡ 0
 no-pins n last [] new = refl
-no-pins n last (h ∷ hs) (number, mode, owner, new) =
-    let a : one (is_pin n h) ≡ 0 = rw mode (entry-pins _) in
-    let b = no-pins n (last + 1) hs new in
-    let c = sum_by-cons (λ x. one (is_pin n x)) h hs in omega arith
+no-pins n last (h ∷ hs) (number, mode, owner, new) = grind (arith, nat_tests, one, entry-pins, no-pins n (last + 1) hs new)
 
 pub fell-away : {before w w' : Core} {given : ℕ → Bool} {r : _} → Falls before w given r w' → (n : ℕ) → StaysAway w w' n
 fell-away {before} {w} {w'} f n = grind (arith, still-away, fell, pins-left, no-pins)

@@ -1,10 +1,8 @@
 -- Heights that are known are within the limit, and each is at least what the references of what was written add to theirs. What tables and to-do lists hold of it, and that it goes on.
-use Rattle.pagable_laws.proofs.Words.{◌≡◌, ℕ, zero, suc, ◌+◌, ◌≤◌, Bool, true, false, List, [], ◌∷◌, ◌++◌, length, ◌⊎◌, inl, inr, Option, Some, None, if◌then◌else◌, refl, sym, ap, subst, ◌∙◌}
-use Rattle.pagable_laws.proofs.Words.{arith, nat_eq, drop, max, cases_lt, ArcRef, Identity, Among, if_there, is_eager, above, longest_path, identity_of, Shelf, Slot, published, failed, Written}
-use Rattle.pagable_laws.proofs.Words.{Open, Todo, to_start, to_pin, to_load, to_write, to_finish, to_item, to_set, to_publish, to_release, to_fail, Task, IsPublished, place_below, next_start}
-use Rattle.pagable_laws.proofs.Words.{give, give_known, is_open_outcome, with_outcome, with_failed, Expects}
-use Rattle.pagable_laws.proofs.Changing.{ShelfGrows, some-same, PutsSlot, put-cases}
-use Rattle.pagable_laws.proofs.Shelves.{KeepsKeys, keys-grow}
+use Rattle.pagable_laws.proofs.Words.{nat_tests, ◌≡◌, ℕ, zero, suc, ◌+◌, ◌≤◌, Bool, true, false, List, [], ◌∷◌, ◌++◌, length, ◌⊎◌, inl, inr, Option, Some, None, if◌then◌else◌, refl, sym, ap, subst}
+use Rattle.pagable_laws.proofs.Words.{◌∙◌, arith, nat_eq, drop, max, ArcRef, Identity, Among, if_there, is_eager, above, longest_path, identity_of, Shelf, Slot, published, failed, Written}
+use Rattle.pagable_laws.proofs.Words.{Open, Todo, to_start, to_pin, to_load, to_write, to_finish, to_item, to_set, to_publish, to_release, Task, IsPublished, place_below, next_start, give}
+use Rattle.pagable_laws.proofs.{Words.{give_known, is_open_outcome, with_outcome, with_failed, Expects}, Changing.{ShelfGrows, some-same, PutsSlot, put-cases}, Shelves.{KeepsKeys, keys-grow}}
 
 -- the reference's key is known, with a height to which it adds no more than this
 pub record IsLow (shelf : Shelf) (height : ℕ) (r : ArcRef) : Type 0 where
@@ -74,7 +72,6 @@ abbrev pub ReachesLow : Shelf → ArcRef → ℕ → List Todo → Type 0
 ReachesLow shelf r height below = (place_over r below + height ≤ longest_path) × WaitsLow shelf below
 
 abbrev pub TodoLow : Shelf → List Todo → Type 0
-TodoLow shelf [] = Unit {0}
 TodoLow shelf (to_start r place ∷ below) = (place ≡ place_over r below) × WaitsLow shelf below
 TodoLow shelf (to_pin r place ∷ below) = PlacedLow shelf r place below
 TodoLow shelf (to_load r place through reading ∷ below) = PlacedLow shelf r place below
@@ -84,7 +81,7 @@ TodoLow shelf (to_item written keys ∷ below) = WaitsLow shelf (to_item written
 TodoLow shelf (to_set r through key height ∷ below) = WroteLow shelf r height × ReachesLow shelf r height below
 TodoLow shelf (to_publish r key height ∷ below) = WroteLow shelf r height × ReachesLow shelf r height below
 TodoLow shelf (to_release r key height ∷ below) = ReachesLow shelf r height below
-TodoLow shelf (to_fail fault back ∷ below) = Unit {0}
+TodoLow shelf _ = Unit {0}
 
 -- ---- keys that are known stay known
 
@@ -114,11 +111,8 @@ module _ {shelf shelf' : Shelf} (keys : KeepsKeys shelf shelf') where
 
   pub waits-low-on : (todo : List Todo) → WaitsLow shelf todo → WaitsLow shelf' todo
   unfolding WaitsLow
-  waits-low-on [] low = tt
-  waits-low-on (to_finish o ∷ below) (first, attained, reach, place, low) =
-      (first-on o.height o.written.references o.keys first, attained-on o.height o.written.references attained, reach, place, waits-low-on below low)
-  waits-low-on (to_item written ks ∷ below) low = first-on longest_path written.references ks low
-  waits-low-on (_ ∷ below) low = absurd low
+  waits-low-on (to_finish o ∷ below) (first, attained, reach, place, low) = grind (arith, nat_tests, first-on, attained-on, waits-low-on below low)
+  waits-low-on x0 x1 = grind (arith, nat_tests, first-on, longest_path)
 
   pub slots-low-on : SlotsLow shelf → ((i : Identity) → shelf'.slots i ≡ shelf.slots i) → SlotsLow shelf'
   slots-low-on low same i slot is = slot-low-on slot (low i slot (sym (same i) ∙ is))
@@ -131,8 +125,7 @@ module _ {shelf shelf' : Shelf} (keys : KeepsKeys shelf shelf') where
 
   failed-low : (slot : Slot) (a b : Bool) → SlotLow shelf' slot → SlotLow shelf' (if a then (if b then record slot { outcome = failed } else slot) else slot)
   failed-low slot true true low = grind arith
-  failed-low slot true false low = low
-  failed-low slot false b low = low
+  failed-low slot _ _ low = low
 
   pub slots-low-failed : SlotsLow shelf → (n : ℕ) → ((i : Identity) → shelf'.slots i ≡ (with_failed shelf n).slots i) → SlotsLow shelf'
   slots-low-failed low n same i slot' now = of (shelf.slots i) refl (sym (same i) ∙ now)
@@ -160,17 +153,7 @@ module _ (shelf shelf' : Shelf) (more : ShelfGrows shelf shelf') where
   still-low todo low = waits-low-on (keys-grow more) todo low
 
   pub todo-low-on : (todo : List Todo) → TodoLow shelf todo → TodoLow shelf' todo
-  todo-low-on [] low = tt
-  todo-low-on (to_start r place ∷ below) (is, low) = (is, still-low below low)
-  todo-low-on (to_pin r place ∷ below) (few, is, low) = (few, is, still-low below low)
-  todo-low-on (to_load r place through reading ∷ below) (few, is, low) = (few, is, still-low below low)
-  todo-low-on (to_write r place through ∷ below) (few, is, low) = (few, is, still-low below low)
-  todo-low-on (to_finish o ∷ below) low = still-low (to_finish o ∷ below) low
-  todo-low-on (to_item written ks ∷ below) low = still-low (to_item written ks ∷ below) low
-  todo-low-on (to_set r through key height ∷ below) (wrote, (reach, low)) = (wrote-low-on wrote, (reach, still-low below low))
-  todo-low-on (to_publish r key height ∷ below) (wrote, (reach, low)) = (wrote-low-on wrote, (reach, still-low below low))
-  todo-low-on (to_release r key height ∷ below) (reach, low) = (reach, still-low below low)
-  todo-low-on (to_fail fault back ∷ below) low = tt
+  todo-low-on x0 x1 = grind (arith, nat_tests, still-low, wrote-low-on)
 
 -- ---- a key is given
 
@@ -190,21 +173,16 @@ module _ (shelf : Shelf) where
   -- all are low, once all keys are there
   pub all-low : (h : ℕ) (rs : List ArcRef) (ks : List ℕ) → length ks ≡ length rs → FirstLow shelf h rs ks → AllLow shelf h rs
   unfolding FirstLow
-  all-low h [] [] e low r (i, there) = absurd (cc)
-  all-low h [] (k ∷ ks) e low r among = absurd low
-  all-low h (y ∷ rs) [] e low r among = absurd (omega arith)
-  all-low h (y ∷ rs) (k ∷ ks) e (one, low) r (zero, there) = let same : y ≡ r = cc in subst (λ (z : ArcRef). IsLow shelf h z) same one
   all-low h (y ∷ rs) (k ∷ ks) e (one, low) r (suc i, there) = all-low h rs ks (omega arith) low r (i, there)
+  all-low h x1 x2 e x4 r x6 = grind (arith, nat_tests)
 
   -- the next of the references that are left is started in its place
   pub started-low : (o : Open) (below : List Todo) (rs : List ArcRef) → WaitsLow shelf (to_finish o ∷ below) → TodoLow shelf (next_start o.place rs ++ to_finish o ∷ below)
-  started-low o below [] low = low
-  started-low o below (r ∷ rs) low = (refl, low)
+  started-low o below x2 low = grind (arith, nat_tests)
 
   pub started-item-low : (written : Written) (ks : List ℕ) (below : List Todo) (rs : List ArcRef) → WaitsLow shelf (to_item written ks ∷ below)
       → TodoLow shelf (next_start 0 rs ++ to_item written ks ∷ below)
-  started-item-low written ks below [] low = low
-  started-item-low written ks below (r ∷ rs) low = (refl, low)
+  started-item-low written ks below x3 low = grind (arith, nat_tests)
 
   -- the next is one of them
   pub next-among : (rs : List ArcRef) (ks : List ℕ) (r : ArcRef) (more : List ArcRef) → drop (length ks) rs ≡ r ∷ more → Among rs r
@@ -219,8 +197,7 @@ module _ (shelf : Shelf) where
 
   -- what a reference adds is within the place's reach
   adds : (b : Bool) (place height limit : ℕ) → (if b then place + 1 else 0) + height ≤ limit → place ≤ limit → place + (if b then height + 1 else 0) ≤ limit
-  adds true place height limit le few = omega arith
-  adds false place height limit le few = omega arith
+  adds x0 place height limit le few = grind (arith, nat_tests)
 
   within-max : (place a b limit : ℕ) → place + a ≤ limit → place + b ≤ limit → place + max a b ≤ limit
   within-max place a b limit le few = omega arith
@@ -251,5 +228,4 @@ module _ (shelf : Shelf) where
   pub opened-low : (r : ArcRef) (place : ℕ) (o : Open) (below : List Todo) → o.keys ≡ [] → o.height ≡ 0 → o.place ≡ place → o.reference ≡ r → PlacedLow shelf r place below
       → WaitsLow shelf (to_finish o ∷ below)
   unfolding WaitsLow FirstLow
-  opened-low r place o below no_keys no_height at of_it (few, is, low) =
-      (subst (λ ks. FirstLow shelf o.height o.written.references ks) (sym no_keys) tt, inl no_height, omega arith, at ∙ is ∙ ap (λ q. place_over q below) (sym of_it), low)
+  opened-low r place o below no_keys no_height at of_it (few, is, low) = grind (arith, nat_tests)

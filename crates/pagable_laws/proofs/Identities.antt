@@ -1,16 +1,10 @@
 -- Two kinds or keys never get one identity through one cache, and one kind and key gets the same for as long as its node is held.
-use Rattle.pagable_laws.proofs.Words.{◌≡◌, ℕ, zero, suc, ◌+◌, ◌≤◌, ◌==◌, Bool, true, false, List, [], ◌∷◌, Some, None, inl, inr, refl, sym, ap, subst, ◌∙◌, if◌then◌else◌, arith, nat_tests}
-use Rattle.pagable_laws.proofs.Words.{OptionalDataKey, Call, Event, Owner, Mode, Kind, ArcRef, LoadNumber, type_of, Among, is_pinned_kind, mode_of, fits_mode, is_pinning, Core, Last, Alike, Seen}
-use Rattle.pagable_laws.proofs.Words.{usable, with_handle, with_node, with_cached, next_node, GetsKnown, adopted, first_key, MachineState, world_of, IsWhole, IsMachineWhole, KeepsOpen, Moment}
-use Rattle.pagable_laws.proofs.Words.{AreMoments, state_after, GetsReference, IsFilledByReading, LeavesCache, StaysAlive, OneIdentityLaw, Change, GetsRow, nothing_felt}
-use Rattle.pagable_laws.proofs.Goes.{Quiet, Goes, KnowsNext, quiet-then, quiet-goes, goes-quiet, alike, a-handle, fell-anyhow, adopts}
-use Rattle.pagable_laws.proofs.Calling.{gets-known}
-use Rattle.pagable_laws.proofs.Outlasting.{among-found}
-use Rattle.pagable_laws.proofs.ReadingStepsRows.{cached-rows, got-known, got-fallen, got-born, is-cached}
-use Rattle.pagable_laws.proofs.EventSteps.{event-goes}
-use Rattle.pagable_laws.proofs.Sums.{self-number}
-use Rattle.pagable_laws.proofs.Usable.{IsEntered, IsHeldFor, can-use, entered-of, stays-alike, stays-fell}
-use Rattle.pagable_laws.proofs.SparingSteps.{event-lasts}
+use Rattle.pagable_laws.proofs.Words.{◌≡◌, ℕ, zero, suc, ◌+◌, ◌≤◌, Bool, true, false, List, [], ◌∷◌, Some, None, inl, inr, refl, sym, ap, subst, ◌∙◌, if◌then◌else◌, arith, nat_tests, OptionalDataKey}
+use Rattle.pagable_laws.proofs.Words.{Call, Event, Owner, Mode, Kind, ArcRef, LoadNumber, type_of, Among, is_pinned_kind, mode_of, fits_mode, is_pinning, Core, Last, Alike, Seen, usable, with_handle}
+use Rattle.pagable_laws.proofs.Words.{with_node, with_cached, next_node, GetsKnown, adopted, first_key, MachineState, world_of, IsWhole, IsMachineWhole, KeepsOpen, Moment, AreMoments, state_after}
+use Rattle.pagable_laws.proofs.{Words.{GetsReference, IsFilledByReading, LeavesCache, StaysAlive, OneIdentityLaw, Change, GetsRow}, Goes.{Quiet, Goes, KnowsNext, quiet-then, quiet-goes, goes-quiet}}
+use Rattle.pagable_laws.proofs.{Goes.{alike, a-handle, fell-anyhow, adopts}, Calling.gets-known, Outlasting.among-found, ReadingStepsRows.{cached-rows, got-known, got-fallen, got-born, is-cached}}
+use Rattle.pagable_laws.proofs.{EventSteps.event-goes, Sums.self-number, Usable.{IsEntered, IsHeldFor, can-use, entered-of, stays-alike, stays-fell}, SparingSteps.event-lasts}
 
 -- ---- what is got
 
@@ -26,8 +20,7 @@ data Got (w : Core) (kind : Kind) (key n : ℕ) (w' : Core) : Type 0 where
 
 -- a mode that fits a kind of pins is that of a pin
 pinning-by : (kind : ℕ) (mode : Mode) → fits_mode kind mode ≡ true → is_pinned_kind kind ≡ true → is_pinning mode ≡ true
-pinning-by kind Mode.LooseUnpinned fits is = absurd (grind (arith, nat_tests))
-pinning-by kind _ fits is = refl
+pinning-by kind x1 fits is = grind (arith, nat_tests)
 
 held-by : {w w' : Core} {n : ℕ} {row : _} (kind : Kind) (key : ℕ) → GetsRow w w' kind n row → IsHeldFor kind.0 key n w'.rows
 held-by {w' = w'} {row = row} kind key g = record { row = row; live = among-found row.number.0 w'.rows row g.live; at = g.at; pins_it = pinning-by kind.0 row.mode g.fits }
@@ -106,16 +99,10 @@ entered-got {w} {w'} kind key n opened (got-new none next l own references a) h 
 
     entered : (b : Bool) → b ≡ false → let d = if b then made else with_cached made kind key (next_node w) in IsEntered kind.0 key n d.cache d.cells
     entered true is = absurd (cc)
-    entered false is =
-        let k = self-number kind.0 in
-        let q = self-number key in
-        let m = self-number n in
-        let e : (n == w.last.node + 1) ≡ true = ap (λ x. n == x) (sym next) ∙ m in
-        record { entry = rw (k, q) (ap (λ (x : ℕ). Some x) (sym next)); there = rw e refl }
+    entered false is = grind (arith, nat_tests, self-number)
 
 keeps-open : {N B W : Type 0} (event : Event N B W) → LeavesCache event → KeepsOpen event
-keeps-open (Event.Call Call.Close) leaves = leaves
-keeps-open event leaves = tt
+keeps-open x0 leaves = grind (arith, nat_tests)
 
 -- ---- along a chain
 
@@ -144,9 +131,7 @@ module _ {N B W E : Type 0} (m : Seen N B W) (kind : Kind) (key n : ℕ) where
 -- ---- the law
 
 differ : {u last : Core} (kind other_kind : Kind) (key other_key n other_n : ℕ) → IsKnownOnce kind.0 key n u → Got u other_kind other_key other_n last → other_n ≡ n → other_key ≡ key
-differ {u} kind other_kind key other_key n other_n once (got-old is q enters) same_node =
-    (once.only other_kind.0 other_key (subst (λ (x : ℕ). u.cache other_kind.0 other_key ≡ Some x) same_node (is-cached u other_kind.0 other_key other_n is))).1
-differ {u} kind other_kind key other_key n other_n once (got-new none next l own references a) same_node = absurd (let few = once.given in omega (arith, few, next, same_node))
+differ kind other_kind key other_key n other_n once x7 same_node = grind (arith, nat_tests, is-cached)
 
 same : {u last : Core} (kind other_kind : Kind) (key other_key n other_n : ℕ) → usable u kind.0 key ≡ Some n → Got u other_kind other_key other_n last
     → other_kind ≡ kind → other_key ≡ key → other_n ≡ n

@@ -1,28 +1,19 @@
 -- A tree of a closed set of types reaches types of the set alone.
-use Rattle.pagable_laws.proofs.Words.{◌≡◌, ℕ, true, false, List, [], ◌∷◌, ◌++◌, Ordering, Meaning, number, integer, text, pattern, none, pair, variant, reference, followed, sequence, lifted}
-use Rattle.pagable_laws.proofs.Words.{rename, Entry, code_order, ordered, put_all, put_sorted, of_entries, of_hash_map, Shape, Form, Forms, Entries, nothing-form, unsigned-form, signed-form}
-use Rattle.pagable_laws.proofs.Words.{flag-form, text-form, letter-form, duration-form, pattern-form, none-form, some-form, err-form, ok-form, list-form, run-form, array-form, both-form}
-use Rattle.pagable_laws.proofs.Words.{sorted-map-form, placed-map-form, hash-map-form, sorted-set-form, placed-set-form, static-form, tagged-form, case-form, reference-form, nested-form}
-use Rattle.pagable_laws.proofs.Words.{json-null-form, json-flag-form, json-number-form, json-text-form, json-array-form, json-object-form, no-forms, more-forms, no-entries, more-entries, Tree}
-use Rattle.pagable_laws.proofs.Words.{Types, type_of, Kid, unfolded, KeyOf, key-of, KeysOf, no-keys, more-keys, LiesIn, Throughout, EachType, StaysInside, IsCanonicalInside}
-use Rattle.std.specs.declared.cmp.Ordering.{Ordering}
-use Rattle.std.specs.Ordering.{match_ordering}
+use Rattle.pagable_laws.proofs.Words.{arith, nat_tests, ◌≡◌, ℕ, true, false, List, [], ◌∷◌, ◌++◌, Meaning, number, integer, text, pattern, none, pair, variant, reference, followed, sequence, lifted}
+use Rattle.pagable_laws.proofs.Words.{rename, Entry, code_order, ordered, put_all, put_sorted, of_entries, of_hash_map, Shape, Form, Forms, Entries, flag-form, duration-form, some-form, err-form}
+use Rattle.pagable_laws.proofs.Words.{ok-form, list-form, run-form, array-form, both-form, sorted-map-form, placed-map-form, hash-map-form, sorted-set-form, placed-set-form, static-form, tagged-form}
+use Rattle.pagable_laws.proofs.Words.{case-form, reference-form, nested-form, json-flag-form, json-array-form, json-object-form, no-forms, more-forms, no-entries, more-entries, Tree, Types, type_of}
+use Rattle.pagable_laws.proofs.{Words.{Kid, unfolded, KeyOf, key-of, KeysOf, no-keys, more-keys, LiesIn, Throughout, EachType, StaysInside, IsCanonicalInside}, Within.{here, lower, part_of, of_json}}
+use Rattle.pagable_laws.proofs.Within.{of_text}
 use Rattle.pagable_model.specs.Canonical.{IsClosed}
-use Rattle.pagable_laws.proofs.Within.{here, lower, part_of, of_json, of_text, under_optional, under_ok, under_err, under_list, under_run, under_array, under_first, under_second}
-use Rattle.pagable_laws.proofs.Within.{under_sorted_key, under_sorted_value, under_placed_key, under_placed_value, under_hash_key, under_hash_value, under_sorted_item, under_placed_item}
-use Rattle.pagable_laws.proofs.Within.{under_written, under_case}
 
 -- P of each reference in the meaning
 EachRef : {A : Type 0} → (A → Type 0) → Meaning A → Type 0
-EachRef P (number n) = Unit {0}
-EachRef P (integer z) = Unit {0}
-EachRef P (text t) = Unit {0}
-EachRef P (pattern t) = Unit {0}
-EachRef P none = Unit {0}
 EachRef P (pair a b) = EachRef P a × EachRef P b
 EachRef P (variant n a) = EachRef P a
 EachRef P (reference a) = P a
 EachRef P (followed kind a) = EachRef P a
+EachRef P _ = Unit {0}
 
 -- P of each
 pub Each : {X : Type 0} → (X → Type 0) → List X → Type 0
@@ -45,15 +36,10 @@ module _ {A : Type 0} (P : A → Type 0) where
 
   lifted_refs : (m : Meaning ⊥) → EachRef P (lifted m)
   unfolding EachRef rename
-  lifted_refs (number n) = tt
-  lifted_refs (integer z) = tt
-  lifted_refs (text t) = tt
-  lifted_refs (pattern t) = tt
-  lifted_refs none = tt
   lifted_refs (pair a b) = (lifted_refs a, lifted_refs b)
   lifted_refs (variant n a) = lifted_refs a
-  lifted_refs (reference a) = absurd a
   lifted_refs (followed kind a) = lifted_refs a
+  lifted_refs x0 = grind (arith, nat_tests)
 
   sequence_refs : (ms : List (Meaning A)) → Each (EachRef P) ms → EachRef P (sequence ms)
   unfolding EachRef Each
@@ -68,12 +54,7 @@ module _ {A : Type 0} (P : A → Type 0) where
   put_refs : (acc : List (Entry A)) (e : Entry A) → Each EachEntry acc → EachEntry e → Each EachEntry (put_sorted code_order acc e)
   unfolding Each
   put_refs [] e h g = (g, tt)
-  put_refs (x ∷ acc) e h g = at (ordered code_order e.0 x.0) (put_refs acc e h.1 g)
-    where
-      at : (o : Ordering) → Each EachEntry (put_sorted code_order acc e) → Each EachEntry (match_ordering o (e ∷ x ∷ acc) ((x.0, e.1) ∷ acc) (x ∷ put_sorted code_order acc e))
-      at Ordering.Less rest = (g, h)
-      at Ordering.Equal rest = ((h.0.0, g.1), h.1)
-      at Ordering.Greater rest = (h.0, rest)
+  put_refs (x ∷ acc) e h g = grind (arith, nat_tests, ordered, put_refs acc e h.1 g)
 
   put_all_refs : (es acc : List (Entry A)) → Each EachEntry acc → Each EachEntry es → Each EachEntry (put_all (put_sorted code_order) acc es)
   unfolding Each put_all
@@ -95,40 +76,31 @@ module _ {A : Type 0} {kind_of : A → ℕ} {parts : ℕ → Shape} (nodes : ℕ
     unfolding EachRef Each LiesIn
 
     form-refs : {left : ℕ} {s : Shape} {m : Meaning A} {b : List ℕ} {k : List A} → Form A kind_of parts left s m b k → Inside nodes parts s → Each P k → EachRef Q m
-    form-refs (nothing-form left) t h = tt
-    form-refs (unsigned-form left w n l) t h = tt
-    form-refs (signed-form left w z l) t h = tt
     form-refs (flag-form left true) t h = tt
     form-refs (flag-form left false) t h = tt
-    form-refs (text-form left b u l) t h = tt
-    form-refs (letter-form left c u) t h = tt
     form-refs (duration-form left x y l g) t h = (tt, tt)
-    form-refs (pattern-form left b u l) t h = tt
-    form-refs (none-form left s) t h = tt
-    form-refs (some-form left s m b k f) t h = form-refs f (lower nodes (under_optional s) t) h
-    form-refs (err-form left s s2 m b k f) t h = form-refs f (lower nodes (under_err s s2) t) h
-    form-refs (ok-form left s s2 m b k f) t h = form-refs f (lower nodes (under_ok s s2) t) h
-    form-refs (list-form left s ms b k l f) t h = sequence_refs Q ms (forms-refs f (lower nodes (under_list s) t) h)
-    form-refs (run-form left s ms b k l f) t h = sequence_refs Q ms (forms-refs f (lower nodes (under_run s) t) h)
-    form-refs (array-form left n s ms b k e f) t h = sequence_refs Q ms (forms-refs f (lower nodes (under_array n s) t) h)
-    form-refs (both-form left s s2 m n b c k l f g) t h = (form-refs f (lower nodes (under_first s s2) t) (each_front P k l h), form-refs g (lower nodes (under_second s s2) t) (each_back P k l h))
-    form-refs (sorted-map-form left o s s2 es b k l up f) t h = entries_refs Q es (entries_form-refs f (lower nodes (under_sorted_key o s s2) t) (lower nodes (under_sorted_value o s s2) t) h)
-    form-refs (placed-map-form left s s2 es b k l up f) t h = entries_refs Q es (entries_form-refs f (lower nodes (under_placed_key s s2) t) (lower nodes (under_placed_value s s2) t) h)
-    form-refs (hash-map-form left s s2 es b k l up f) t h = hash_refs Q es (entries_form-refs f (lower nodes (under_hash_key s s2) t) (lower nodes (under_hash_value s s2) t) h)
-    form-refs (sorted-set-form left o s ms b k l up f) t h = sequence_refs Q ms (forms-refs f (lower nodes (under_sorted_item o s) t) h)
-    form-refs (placed-set-form left s ms b k l up f) t h = sequence_refs Q ms (forms-refs f (lower nodes (under_placed_item s) t) h)
+    form-refs (some-form left s m b k f) t h = form-refs f (lower nodes (λ n d l. l) t) h
+    form-refs (err-form left s s2 m b k f) t h = form-refs f (lower nodes (λ n d l. l.1) t) h
+    form-refs (ok-form left s s2 m b k f) t h = form-refs f (lower nodes (λ n d l. l.0) t) h
+    form-refs (list-form left s ms b k l f) t h = sequence_refs Q ms (forms-refs f (lower nodes (λ n d l. l) t) h)
+    form-refs (run-form left s ms b k l f) t h = sequence_refs Q ms (forms-refs f (lower nodes (λ n d l. l) t) h)
+    form-refs (array-form left n s ms b k e f) t h = sequence_refs Q ms (forms-refs f (lower nodes (λ n d l. l) t) h)
+    form-refs (both-form left s s2 m n b c k l f g) t h = (form-refs f (lower nodes (λ n d l. l.0) t) (each_front P k l h), form-refs g (lower nodes (λ n d l. l.1) t) (each_back P k l h))
+    form-refs (sorted-map-form left o s s2 es b k l up f) t h = entries_refs Q es (entries_form-refs f (lower nodes (λ n d l. l.0) t) (lower nodes (λ n d l. l.1) t) h)
+    form-refs (placed-map-form left s s2 es b k l up f) t h = entries_refs Q es (entries_form-refs f (lower nodes (λ n d l. l.0) t) (lower nodes (λ n d l. l.1) t) h)
+    form-refs (hash-map-form left s s2 es b k l up f) t h = hash_refs Q es (entries_form-refs f (lower nodes (λ n d l. l.0) t) (lower nodes (λ n d l. l.1) t) h)
+    form-refs (sorted-set-form left o s ms b k l up f) t h = sequence_refs Q ms (forms-refs f (lower nodes (λ n d l. l) t) h)
+    form-refs (placed-set-form left s ms b k l up f) t h = sequence_refs Q ms (forms-refs f (lower nodes (λ n d l. l) t) h)
     form-refs (static-form left registry i m l e) t h = lifted_refs Q m
-    form-refs (tagged-form left written known body tag m b k u l f) t h = (tt, form-refs f (lower nodes (under_written written known body tag) t) h)
-    form-refs (case-form left w known part n m b k l is f) t h = form-refs f (lower nodes (under_case w known part n is) t) h
+    form-refs (tagged-form left written known body tag m b k u l f) t h = (tt, form-refs f (lower nodes (λ n d l. l.0 tag) t) h)
+    form-refs (case-form left w known part n m b k l is f) t h = form-refs f (lower nodes (λ nodes d l. l n is) t) h
     form-refs (reference-form left kind a e) t h = both a (let here_is = here t in rw e here_is) h.0
     form-refs (nested-form left less n m b k e f) t h = form-refs f (part_of t) h
-    form-refs (json-null-form left) t h = tt
     form-refs (json-flag-form left true) t h = tt
     form-refs (json-flag-form left false) t h = tt
-    form-refs (json-number-form left z l) t h = tt
-    form-refs (json-text-form left b u l) t h = tt
     form-refs (json-array-form left less ms b k e l f) t h = sequence_refs Q ms (forms-refs f (of_json tt) h)
     form-refs (json-object-form left less es b k e l up f) t h = entries_refs Q es (entries_form-refs f (of_text tt) (of_json tt) h)
+    form-refs _ t h = tt
 
     forms-refs : {left : ℕ} {s : Shape} {ms : List (Meaning A)} {b : List ℕ} {k : List A} → Forms A kind_of parts left s ms b k → Inside nodes parts s → Each P k → Each (EachRef Q) ms
     forms-refs (no-forms left s) t h = tt
@@ -153,15 +125,9 @@ module _ (hash : List ℕ → List ℕ) (types : Types) (nodes : ℕ → Type 0)
 
   types_of : (m : Meaning ⊥) → EachRef Found (unfolded m) → EachType nodes m
   unfolding EachRef EachType unfolded
-  types_of (number n) h = tt
-  types_of (integer z) h = tt
-  types_of (text t) h = tt
-  types_of (pattern t) h = tt
-  types_of none h = tt
   types_of (pair a b) h = (types_of a h.0, types_of b h.1)
   types_of (variant n a) h = types_of a h
-  types_of (reference a) h = absurd a
-  types_of (followed kind a) h = h
+  types_of x0 h = grind (arith, nat_tests)
 
   mutual
     unfolding Each
@@ -178,15 +144,10 @@ stays_inside hash types nodes t key closed inside h = stays hash types (λ n. no
 
 each_along : {N M : ℕ → Type 0} (f : (n : ℕ) → N n → M n) (m : Meaning ⊥) → EachType N m → EachType M m
 unfolding EachType
-each_along f (number n) h = tt
-each_along f (integer z) h = tt
-each_along f (text t) h = tt
-each_along f (pattern t) h = tt
-each_along f none h = tt
 each_along f (pair a b) h = (each_along f a h.0, each_along f b h.1)
 each_along f (variant n a) h = each_along f a h
-each_along f (reference a) h = absurd a
 each_along f (followed kind a) h = (f (type_of kind) h.0, each_along f a h.1)
+each_along f x1 h = grind (arith, nat_tests)
 
 pub canonical_inside : IsCanonicalInside
 canonical_inside hash types nodes t key closed all inside h = (all t.type inside, each_along all t.meaning (stays_inside hash types nodes t key closed inside h))

@@ -1,6 +1,6 @@
 -- Chains join, and a new machine is whole.
-use Rattle.pagable_laws.proofs.Words.{◌≡◌, ℕ, [], ◌∷◌, ◌++◌, List, refl, inl, arith, Option, Blob, Tree, Places, Values, Seen, MachineState, IsMachineWhole, WellFormed, StandsFor, of_caller}
-use Rattle.pagable_laws.proofs.Words.{of_worker, Moment, AreMoments, state_after, new_pager, new_machine, ChainsJoin, NewIsWhole}
+use Rattle.pagable_laws.proofs.Words.{◌≡◌, ℕ, [], ◌∷◌, ◌++◌, List, refl, arith, Option, Blob, Tree, Places, Values, Seen, MachineState, IsMachineWhole, WellFormed, StandsFor}
+use Rattle.pagable_laws.proofs.Words.{Moment, AreMoments, state_after, new_pager, new_machine, ChainsJoin, NewIsWhole}
 
 joins : {N E B W : Type 0} (m : Seen N B W) (s : MachineState N E) (xs ys : List (Moment N E B W)) → AreMoments m s xs → AreMoments m (state_after s xs) ys → AreMoments m s (xs ++ ys)
 unfolding state_after

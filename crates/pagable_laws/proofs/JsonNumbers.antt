@@ -1,16 +1,14 @@
 -- JSON numbers that have no form.
+use Rattle.pagable_laws.proofs.Words.{arith, nat_tests}
 use Rattle.pagable_laws.proofs.Words.{◌≡◌, ℕ, ℤ, List, refl, subst, IsSigned, Meaning, Shape, json, Form, json-number-form, whole, float, of_json, FloatHasNoForm, WholeIsBounded}
-use Rattle.std.specs.Int.{w64}
-use Rattle.std.specs.Float.Ieee.{Float}
+use Rattle.std.specs.{Int.w64, Float.Ieee.Float}
 
 module _ {A : Type 0} {kind_of : A → ℕ} {parts : ℕ → Shape} where
   no-float : (x : Float) {left : ℕ} {m : Meaning A} {b : List ℕ} {k : List A} → Form A kind_of parts left json m b k → m ≡ of_json (float x) → ⊥
-  no-float x (json-number-form left z h) e = cc
-  no-float x f e = cc
+  no-float x x1 e = grind (arith, nat_tests)
 
   bounded : (z : ℤ) {left : ℕ} {m : Meaning A} {b : List ℕ} {k : List A} → Form A kind_of parts left json m b k → m ≡ of_json (whole z) → IsSigned w64 z
-  bounded z (json-number-form left y h) e = let same : y ≡ z = cc in subst (IsSigned w64) same h
-  bounded z f e = absurd cc
+  bounded z x1 e = grind (arith, nat_tests)
 
 pub float_none : {A : Type 0} → FloatHasNoForm A
 float_none kind_of parts left x b k f = no-float x f refl

@@ -1,14 +1,9 @@
 -- What a load reads of a key that a page-out has published: each blob is a form of a tree, asks for references whose keys are known, and lies within the path's limit.
-use Rattle.pagable_laws.proofs.Words.{◌≡◌, ℕ, zero, suc, ◌+◌, ◌≤◌, Bool, true, false, List, [], ◌∷◌, length, Option, Some, refl, sym, ap, subst, ◌∙◌, inl, inr, if◌then◌else◌, arith, slice_get}
-use Rattle.pagable_laws.proofs.Words.{blob_of, Error, ArcRef, Kind, Identity, Blob, Meaning, Tree, type_of, is_eager, above, longest_path, identity_of, Shelf, published, Written, Frame, Values}
-use Rattle.pagable_laws.proofs.Words.{Next, reads, asks, is_faulty, next_in, need_at, need_of, needs_nested, needs_lazy, is_broken, IsPublished, MachineState, world_of, FramesFit, ReadsItsTypes}
-use Rattle.pagable_laws.proofs.Words.{AreKeysOf, WorkFits, Needs}
-use Rattle.pagable_laws.proofs.Trees.{same_some}
-use Rattle.pagable_laws.proofs.Fitting.{asked}
-use Rattle.pagable_laws.proofs.Heights.{AllLow}
-use Rattle.pagable_laws.proofs.HeightSteps.{HeightsIn}
-use Rattle.pagable_laws.proofs.Asking.{IsFormOf, GotAsked, FramesAsked, NextOf, asks-known, all-read, next-known, all-got}
-use Rattle.pagable_laws.proofs.ReadingStepsKinds.{kinds_of}
+use Rattle.pagable_laws.proofs.Words.{nat_tests, ◌≡◌, ℕ, zero, suc, ◌+◌, ◌≤◌, Bool, true, false, List, [], ◌∷◌, length, Option, Some, refl, sym, ap, subst, ◌∙◌, inl, inr, if◌then◌else◌, arith}
+use Rattle.pagable_laws.proofs.Words.{slice_get, blob_of, Error, ArcRef, Kind, Identity, Blob, Meaning, Tree, type_of, is_eager, above, longest_path, identity_of, Shelf, Written, Frame}
+use Rattle.pagable_laws.proofs.Words.{Values, Next, reads, asks, is_faulty, next_in, need_at, need_of, needs_nested, needs_lazy, is_broken, IsPublished, MachineState, world_of, FramesFit}
+use Rattle.pagable_laws.proofs.{Words.{ReadsItsTypes, AreKeysOf, WorkFits, Needs}, Trees.same_some, Fitting.asked, Heights.AllLow, HeightSteps.HeightsIn, Asking.{IsFormOf, GotAsked, FramesAsked}}
+use Rattle.pagable_laws.proofs.{Asking.{NextOf, asks-known, all-read, next-known, all-got}, ReadingStepsKinds.kinds_of}
 
 -- the blob is a form of some value, and all of its references were got
 pub record IsForm {N : Type 0} (v : Values N) (frame : Frame) : Type 0 where
@@ -17,18 +12,13 @@ pub record IsForm {N : Type 0} (v : Values N) (frame : Frame) : Type 0 where
   pub kinds : kinds_of frame.got ≡ kinds_of refs
 
 as-many-keys : (shelf : Shelf) (rs : List ArcRef) (keys : List ℕ) → AreKeysOf shelf rs keys → length keys ≡ length rs
-as-many-keys shelf [] [] all = refl
 as-many-keys shelf (r ∷ rs) (k ∷ ks) all = let a = as-many-keys shelf rs ks all.1 in omega (arith, a)
-as-many-keys shelf [] (k ∷ ks) all = absurd all
-as-many-keys shelf (r ∷ rs) [] all = absurd all
+as-many-keys shelf x1 x2 all = grind (arith, nat_tests)
 
 key-at : (shelf : Shelf) (rs : List ArcRef) (keys : List ℕ) → AreKeysOf shelf rs keys → (place : ℕ) (r : ArcRef) (key : ℕ) → slice_get rs place ≡ Some r → slice_get keys place ≡ Some key
     → (height : ℕ) × IsPublished shelf (identity_of r) key height
-key-at shelf [] [] all place r key is at = absurd (cc)
-key-at shelf [] (k ∷ ks) all place r key is at = absurd all
-key-at shelf (q ∷ rs) [] all place r key is at = absurd all
-key-at shelf (q ∷ rs) (k ∷ ks) all zero r key is at = grind arith
 key-at shelf (q ∷ rs) (k ∷ ks) all (suc place) r key is at = key-at shelf rs ks all.1 place r key is at
+key-at shelf x1 x2 all x4 r key is at = grind (arith, nat_tests)
 
 -- an identity has one key and one height
 one-outcome : (shelf : Shelf) (i : Identity) (k key h height : ℕ) → IsPublished shelf i k h → IsPublished shelf i key height → h ≡ height
@@ -113,8 +103,7 @@ module _ {N E : Type 0} (v : Values N) (s : MachineState N E) (trees : ℕ → T
   module _ (root_key root_type : ℕ) (i : Identity) (limit : ℕ) (p : IsPublished shelf i root_key limit) (typed : (trees i.node.0).type ≡ root_type) where
     first-asked : (frame : Frame) (below : List Frame) → FramesAsked v.types (frame ∷ below) → GotAsked v.types frame.node_type frame.blob frame.got
     unfolding FramesAsked
-    first-asked frame [] h = h
-    first-asked frame (x ∷ xs) h = h.0
+    first-asked frame x1 h = grind (arith, nat_tests)
 
     top-known : (frame : Frame) (below : List Frame) → FramesFit v.types stored trees root_key root_type (frame ∷ below) → FramesAsked v.types (frame ∷ below)
         → IsTopKnown frame (length (frame ∷ below)) limit
@@ -162,9 +151,7 @@ module _ {N E : Type 0} (v : Values N) (s : MachineState N E) (trees : ℕ → T
     -- the innermost blob is so, where it is read
     pub formed : (frame : Frame) (below : List Frame) → FramesFit v.types stored trees root_key root_type (frame ∷ below) → FramesAsked v.types (frame ∷ below) → (own : Meaning ArcRef)
         → next_in v.types frame ≡ reads own → IsForm v frame
-    formed frame below fits got own is =
-        let t = top-known frame below fits got in
-        record { refs = t.known.refs; form = t.known.form; kinds = all-got v.types frame.node_type frame.blob t.known.refs t.known.form (first-asked frame below got) own is }
+    formed frame below fits got own is = grind (arith, nat_tests, top-known, all-got, first-asked)
 
     -- nothing of it is refused as faulty
     pub not-broken : (frames : List Frame) → FramesFit v.types stored trees root_key root_type frames → FramesAsked v.types frames → (e : Error) → need_of v.types frames ≡ is_broken e → ⊥
@@ -185,9 +172,7 @@ module _ {N E : Type 0} (v : Values N) (s : MachineState N E) (trees : ℕ → T
 
         wants : (below : List Frame) (next : Next) (kind : Kind) (key : ℕ) → next ≡ asks kind key → need_at below next ≡ is_broken e → ⊥
         wants below (asks k q) kind key same is = eager-or (is_eager k.0) k q is
-        wants [] (reads own) kind key same is = cc
-        wants (x ∷ xs) (reads own) kind key same is = cc
-        wants below (is_faulty f) kind key same is = cc
+        wants _ _ kind key same is = cc
 
         by : (below : List Frame) (next : Next) {blob : Blob} {refs : List ArcRef} → NextOf blob refs next → need_at below next ≡ is_broken e → ⊥
         by below next (asks-known place r key at there same) is = wants below next r.kind key same is

@@ -1,13 +1,11 @@
 -- Where a pager stands for trees, each value and key leads to its node's tree by its own references alone; and from this it stands for them again. So
 -- that a node keeps its tree is shown at each node by itself.
-use Rattle.pagable_laws.proofs.Words.{◌≡◌, ℕ, zero, ◌<◌, ◌&&◌, Bool, true, false, Option, Some, None, refl, sym, ap, ◌∙◌, subst, is_some, nat_lt, ◌||◌, OptionalDataKey, number, integer, text}
-use Rattle.pagable_laws.proofs.Words.{pattern, none, pair, variant, reference, followed, references_in, ArcRef, Meaning, Tree, tree, type_of, ReadsTree, Among, held, is_in_memory, Core, Values}
+use Rattle.pagable_laws.proofs.Words.{nat_tests, ◌≡◌, ℕ, zero, ◌<◌, ◌&&◌, Bool, true, false, Option, Some, None, refl, sym, ap, ◌∙◌, subst, is_some, OptionalDataKey, number, integer}
+use Rattle.pagable_laws.proofs.Words.{text, pattern, none, pair, variant, reference, followed, references_in, ArcRef, Meaning, Tree, tree, type_of, ReadsTree, Among, held, is_in_memory, Core, Values}
 use Rattle.pagable_laws.proofs.Words.{IsLawful, key_at, IsReference, PagerState, WellFormed, NodeStands, here, away, MeaningStands, number-stands, integer-stands, text-stands, pattern-stands}
-use Rattle.pagable_laws.proofs.Words.{none-stands, pair-stands, variant-stands, followed-stands, reference-stands, Represents, HoldsSettled, LeadsTo, number-leads, integer-leads, text-leads}
-use Rattle.pagable_laws.proofs.Words.{arith, pattern-leads, none-leads, pair-leads, variant-leads, followed-leads, reference-leads, ValueLeads, NodeLeads}
-use Rattle.pagable_laws.proofs.Trees.{same_some, tree_is}
-use Rattle.pagable_laws.proofs.Decoding.{among-left, among-right, meant-refs}
-use Rattle.pagable_laws.proofs.Following.{one-node, given-of, cell-of}
+use Rattle.pagable_laws.proofs.Words.{none-stands, pair-stands, variant-stands, followed-stands, reference-stands, Represents, HoldsSettled, LeadsTo, number-leads, integer-leads, text-leads, arith}
+use Rattle.pagable_laws.proofs.{Words.{pattern-leads, none-leads, pair-leads, variant-leads, followed-leads, reference-leads, ValueLeads, NodeLeads}, Trees.{same_some, tree_is}, Decoding.among-left}
+use Rattle.pagable_laws.proofs.{Decoding.{among-right, meant-refs}, Following.{one-node, given-of, cell-of}}
 
 -- ---- other trees, the same at the nodes that are referred to
 
@@ -54,10 +52,7 @@ module _ {N E : Type 0} {v : Values N} {s : PagerState N E} {trees : ℕ → Tre
     -- what a good reference's node stands for, as one of the kind's type, is its tree
     pub node-tree : (owner : _) (r : ArcRef) (b : Meaning ⊥) → IsReference s.core owner r → NodeStands v s r.node.0 (tree (type_of r.kind.0) b)
         → ((trees r.node.0).type ≡ type_of r.kind.0) × ((trees r.node.0).meaning ≡ b)
-    node-tree owner r b good node =
-        let live = given-of well.whole.handles r.node.0 good.typed in
-        let typed : (trees r.node.0).type ≡ type_of r.kind.0 = same_some _ _ (sym (stands.typed r.node.0 live.0) ∙ good.typed) in
-        (typed, one-node settled (stands.stands r.node.0 live.0) node typed)
+    node-tree owner r b good node = grind (arith, nat_tests, given-of, same_some, one-node)
 
     stands-leads : {x : Meaning ArcRef} {a : Meaning ⊥} → MeaningStands v s x a
         → ((r : ArcRef) (b : Meaning ⊥) → Among (references_in x) r → NodeStands v s r.node.0 (tree (type_of r.kind.0) b)
@@ -90,8 +85,7 @@ module _ {N E : Type 0} {v : Values N} {s : PagerState N E} {trees : ℕ → Tre
           keyed = subst (λ z. (key : ℕ) → key_at s.core n ≡ OptionalDataKey.Some key → ReadsTree s.core.stored v.types key z) e fits;
           valued = λ y at. let same : x ≡ y = same_some _ _ (sym is ∙ at) in subst (λ z. ValueLeads v trees z (trees n)) same (subst (λ z. ValueLeads v trees x z) e leads);
         }
-    node-leads (away n key t nothing_there keyed fits) e =
-        record { keyed = subst (λ z. (k : ℕ) → key_at s.core n ≡ OptionalDataKey.Some k → ReadsTree s.core.stored v.types k z) e fits; valued = λ y at. absurd (cc) }
+    node-leads (away n key t nothing_there keyed fits) e = grind (arith, nat_tests)
 
     pub leads-all : (n : ℕ) → 0 < held n s.core.rows → NodeLeads v s trees n
     leads-all n live = node-leads (stands.stands n live) refl
@@ -99,12 +93,10 @@ module _ {N E : Type 0} {v : Values N} {s : PagerState N E} {trees : ℕ → Tre
 -- ---- and back
 
 key-of-away : (pinned : ℕ) (key : OptionalDataKey) → is_in_memory pinned key ≡ false → (k : ℕ) × (key ≡ OptionalDataKey.Some k)
-key-of-away pinned OptionalDataKey.None is = grind arith
-key-of-away pinned (OptionalDataKey.Some k) is = (k, refl)
+key-of-away pinned x1 is = grind (arith, nat_tests)
 
 both-false : (a b : Bool) → a ≡ true → false ≡ (a && b) → b ≡ false
-both-false true b e f = sym f
-both-false false b e f = absurd (cc)
+both-false x0 b e f = grind (arith, nat_tests)
 
 -- the nodes of the references are live
 abbrev pub AreLive : Core → Meaning ArcRef → Type 0

@@ -1,15 +1,10 @@
 -- The chain of two levels is one of the machine, and meets the headline with all that it asks.
-use Rattle.pagable_laws.proofs.Words.{nat_tests, arith, ◌≡◌, ℕ, zero, suc, List, [], ◌∷◌, ◌++◌, refl, sym, subst, ◌∙◌, Option, Some, Ok, none, references_in, SameReferences, IsReadable, LiesIn, Throughout}
-use Rattle.pagable_laws.proofs.Words.{throughout-in, none-followed, rest_of, Kind, Tree, tree, type_of, Event, EventReply, WorkerReply, LoadReply, Core, Shelf, Written, Reading, Walking, IsLawful}
-use Rattle.pagable_laws.proofs.Words.{IsSettled, needs_lazy, need_of, reading_at, PagerState, MachineState, world_of, ReadsItsTypes, KeepsOpen, ReadsAsType, TakesWell, TodoTakesWell, IsWellAsked}
-use Rattle.pagable_laws.proofs.Words.{IsPremised, state_after, ArePremised, find_row, is_named_by, answers_from, fresh, inl, is_in, HandleRow, Owner, Mode, pins, row_of, AreMoments}
-use Rattle.pagable_laws.proofs.Words.{TwoLevelsMeetTheHeadline}
-use Rattle.pagable_laws.proofs.States.{only-at, ◌⨾◌, read-back-passes}
-use Rattle.pagable_laws.proofs.Walks.{paged_out, at_work, only-pager, bears, pages-out}
-use Rattle.pagable_laws.proofs.Tested.{alike-self}
-use Rattle.pagable_laws.proofs.Joining.{new_whole}
-use Rattle.pagable_laws.proofs.Arriving.{headline_law}
-use Rattle.pagable_laws.proofs.Loaded.{done-whole, loads-parent, loads-child, loads-key}
+use Rattle.pagable_laws.proofs.Words.{nat_tests, arith, ◌≡◌, ℕ, zero, suc, List, [], ◌∷◌, ◌++◌, refl, sym, subst, ◌∙◌, Option, Some, Ok, none, references_in, SameReferences, IsReadable, LiesIn}
+use Rattle.pagable_laws.proofs.Words.{Throughout, throughout-in, none-followed, rest_of, Tree, tree, Event, EventReply, WorkerReply, LoadReply, Core, Shelf, Written, Reading, Walking}
+use Rattle.pagable_laws.proofs.Words.{IsLawful, IsSettled, needs_lazy, need_of, reading_at, PagerState, MachineState, world_of, ReadsItsTypes, KeepsOpen, ReadsAsType, TakesWell, TodoTakesWell}
+use Rattle.pagable_laws.proofs.Words.{IsWellAsked, IsPremised, state_after, ArePremised, find_row, is_named_by, answers_from, inl, is_in, HandleRow, Owner, Mode, pins, row_of, AreMoments}
+use Rattle.pagable_laws.proofs.{Words.TwoLevelsMeetTheHeadline, States.{only-at, ◌⨾◌, read-back-passes}, Walks.{paged_out, at_work, only-pager, bears, pages-out}, Tested.alike-self}
+use Rattle.pagable_laws.proofs.{Joining.new_whole, Arriving.headline_law, Loaded.{done-whole, loads-parent, loads-child, loads-key}}
 use Rattle.pagable_model.specs.Reading as grammar
 use Rattle.pagable_model.specs.Shape as shapes
 use Rattle.pagable_laws.specs.TwoLevels as two
@@ -18,8 +13,7 @@ use Rattle.pagable_laws.specs.TwoLevels as two
 
 refers : (x : two.Sample) → SameReferences (two.sample_references x) (references_in (two.sample_meaning x))
 unfolding references_in
-refers two.leaf test = refl
-refers (two.parent r) test = refl
+refers x0 test = grind (arith, nat_tests)
 
 shaped : (x : two.Sample) → (shape : shapes.Shape) × (two.sample_types.nodes (two.sample.node_type x) ≡ Some shape)
 shaped two.leaf = (shapes.nothing, refl)
@@ -38,8 +32,7 @@ reference-readable s is =
     subst (λ x. Throughout IsReadable two.sample_types.parts x) (sym is) (throughout-in IsReadable two.sample_types.parts (λ n. Unit {0}) (λ n it. (tt, tt)) (shapes.reference 4) tt tt)
 
 pub reads-types : ReadsItsTypes two.sample_types
-reads-types zero s is = reference-readable s (cc)
-reads-types (suc n) s is = nothing-readable s (cc)
+reads-types x0 s is = grind (arith, nat_tests, reference-readable, nothing-readable)
 
 pub settled : (x : two.Sample) → IsSettled two.sample x
 settled x a b is other = other ∙ sym is
@@ -59,8 +52,7 @@ asked s x open_still well trees = record { settled = λ n x is. settled x; reads
 pub step-asked : {core : Core} {reply : WorkerReply Written} {after : State} (vs : List (Option two.Sample)) (shelf : Shelf) (w : Walking)
     → TodoTakesWell two.sample (two.machine core vs (two.walk_work shelf w)).pager w.todo
     → IsAsked (two.machine core vs (two.walk_work shelf w)) (two.moment (Event.WorkerStep (record { 0 = 1 })) (EventReply.WorkerMoved (Ok reply)) after)
-step-asked {core} {reply} {after} vs shelf w well =
-    asked _ _ tt (λ trees walking is. only-at 1 w (λ n x. TodoTakesWell two.sample (two.machine core vs (two.walk_work shelf w)).pager x.todo) well 1 walking is)
+step-asked {core} {reply} {after} vs shelf w well = grind (arith, nat_tests, asked, only-at)
 
 -- a load's step asks something where a reference is taken of which nothing is read
 pub load-asked : (s : State) (l : ℕ) (r : Reading) (reply : LoadReply two.Sample) (after : State) → reading_at (world_of s) (two.load_number l) ≡ Some r → TakesWell two.sample s.pager r

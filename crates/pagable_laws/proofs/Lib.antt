@@ -3,7 +3,6 @@ mod Wholes
 mod Basic
 mod Putting
 mod Within
-mod Readable
 pub mod Again
 pub mod Prefix
 mod OneForm

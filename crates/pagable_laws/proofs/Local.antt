@@ -1,16 +1,15 @@
 -- Reading is local: what is read of a front is read of the whole, a fault stays, and what was used reads alone.
-use Rattle.pagable_laws.proofs.Words.{nat_tests, arith, ◌≡◌, ℕ, zero, suc, ◌-◌, Bool, true, false, List, [], ◌∷◌, ◌++◌, Some, None, Result, Ok, Err, inl, inr, refl, ap, ◌∙◌, subst, append_assoc, Error, ◌>>=◌}
-use Rattle.pagable_laws.proofs.Words.{Read, unsigned_at, signed_at, length_at, text_at, bool_at, char_at, duration_at, Meaning, number, integer, none, variant, sequence, entry, absent, present}
-use Rattle.pagable_laws.proofs.Words.{success, failure, lifted, text_order, put_all, put_sorted, put_placed, put_sorted_item, put_placed_item, of_entries, of_duration, of_tagged, of_hash_map}
-use Rattle.pagable_laws.proofs.Words.{Shape, nothing, unsigned, signed, flag, letter, duration, json, optional, outcome, list, run, array, both, sorted_map, placed_map, hash_map, sorted_set}
-use Rattle.pagable_laws.proofs.Words.{placed_set, static_value, tagged, cases, nested, Rest, Look, Gets, bytes_of, reference_at, seen, two, choose, items, counted, registered, Deeper, enter}
-use Rattle.pagable_laws.proofs.Words.{JsonCase, null_case, flag_case, number_case, text_case, array_case, object_case, json_case, json_part, read_with, below, deepest, Context, read, rest}
-use Rattle.pagable_laws.proofs.Words.{with_more, IsLocal, IsUsed, IsLasting}
+use Rattle.pagable_laws.proofs.Words.{nat_tests, arith, ◌≡◌, ℕ, zero, suc, ◌-◌, Bool, true, false, List, [], ◌∷◌, ◌++◌, Some, None, Result, Ok, Err, inl, inr, refl, ap, ◌∙◌, subst, append_assoc}
+use Rattle.pagable_laws.proofs.Words.{Error, ◌>>=◌, Read, unsigned_at, signed_at, length_at, text_at, bool_at, char_at, duration_at, Meaning, number, integer, none, variant, sequence, entry, absent}
+use Rattle.pagable_laws.proofs.Words.{present, success, failure, lifted, text_order, put_all, put_sorted, put_placed, put_sorted_item, put_placed_item, of_entries, of_duration, of_tagged}
+use Rattle.pagable_laws.proofs.Words.{of_hash_map, Shape, nothing, unsigned, signed, flag, letter, duration, json, optional, outcome, list, run, array, both, sorted_map, placed_map, hash_map}
+use Rattle.pagable_laws.proofs.Words.{sorted_set, placed_set, static_value, tagged, cases, nested, Rest, Look, Gets, bytes_of, reference_at, seen, two, choose, items, counted, registered, Deeper}
+use Rattle.pagable_laws.proofs.Words.{enter, JsonCase, null_case, flag_case, number_case, text_case, array_case, object_case, json_case, json_part, read_with, below, deepest, Context, read, rest}
+use Rattle.pagable_laws.proofs.{Words.{with_more, IsLocal, IsUsed, IsLasting}, Tame.{Goes, Uses, Tame, Joins, gives, refuses, and_then, more_bytes, TameBytes, unsigned_tame, signed_tame, bool_tame}}
+use Rattle.pagable_laws.proofs.Tame.{length_tame, text_tame, char_tame, duration_tame}
 use Rattle.std.specs.Int.{w32, w64}
 use Rattle.pagable_model.specs.Meaning as meanings
 use Rattle.pagable_model.specs.Shape as shapes
-use Rattle.pagable_laws.proofs.Tame.{Goes, Uses, Tame, Joins, gives, refuses, and_then, more_bytes, TameBytes, unsigned_tame, signed_tame, bool_tame, length_tame, text_tame, char_tame}
-use Rattle.pagable_laws.proofs.Tame.{duration_tame}
 
 module _ {A : Type 0} where
   abbrev pub more : Rest A → Rest A → Rest A
@@ -40,9 +39,7 @@ module _ {A X Y : Type 0} (read : List ℕ → Read X) (view : X → Y) (h : Tam
       → Goes more x (first >>= λ p. let z : Result (Y × Rest A) Error = Ok (view p.0, record i { bytes = p.1 }) in z)
       (second >>= λ p. let z : Result (Y × Rest A) Error = Ok (view p.0, record (more i x) { bytes = p.1 }) in z)
   unfolding Goes
-  bytes_go i x (Ok p) second g = rw g refl
-  bytes_go i x (Err e) second (inl g) = inl g
-  bytes_go i x (Err e) second (inr g) = inr (rw g refl)
+  bytes_go i x x2 second x4 = grind (arith, nat_tests)
 
   bytes_use : (i : Rest A) (first : Read X) → Uses more_bytes [] read i.bytes first → Uses more ended (bytes_of read view) i (first >>= λ p. let z : Result (Y × Rest A) Error = Ok (view p.0, record i { bytes = p.1 }) in z)
   unfolding Uses
@@ -61,8 +58,7 @@ module _ {A : Type 0} where
       (λ v. and_then joins (λ w i. Ok ((v, w), i)) _ (λ i. refl) g (λ w. gives joins (v, w)))
 
   pub choose_tame : {X : Type 0} (t : Bool) {get other : Gets A X} → TameGets get → TameGets other → TameGets (choose t get other)
-  choose_tame true h g = record { goes = λ i x. h.goes i x; uses = λ i. h.uses i }
-  choose_tame false h g = record { goes = λ i x. g.goes i x; uses = λ i. g.uses i }
+  choose_tame x0 h g = grind (arith, nat_tests)
 
   pub items_tame : {X : Type 0} {get : Gets A X} → TameGets get → (n : ℕ) → TameGets (items get n)
   unfolding items
@@ -82,8 +78,7 @@ module _ {A B : Type 0} where
   enter_tame : {X : Type 0} (d : Deeper A B) (part : (Shape → Gets A (Meaning B)) → Gets A X) → TameDeeper d
       → ((get : Shape → Gets A (Meaning B)) → ((s : Shape) → TameGets (get s)) → TameGets (part get)) → TameGets (enter d part)
   unfolding TameDeeper Goes Uses
-  enter_tame None part h k = record { goes = λ i x. inr refl; uses = λ i. tt }
-  enter_tame (Some get) part h k = let g = k get h in record { goes = λ i x. g.goes i x; uses = λ i. g.uses i }
+  enter_tame x0 part h k = grind (arith, nat_tests)
 
   json_tame : (d : Deeper A B) → TameDeeper d → (case : JsonCase) → TameGets (json_part d case)
   json_tame d h null_case = likewise (gives joins (variant 0 none)) (λ i. refl)
@@ -113,14 +108,12 @@ module _ {A B : Type 0} where
         → Goes more x (r >>= λ b. let z : Result (Meaning B × Rest A) Error = Ok (meanings.reference b, rest bytes refs) in z)
         (r >>= λ b. let z : Result (Meaning B × Rest A) Error = Ok (meanings.reference b, rest (bytes ++ x.bytes) (refs ++ x.refs)) in z)
     unfolding Goes
-    look_goes kind a bytes refs x (Ok b) = refl
-    look_goes kind a bytes refs x (Err e) = inr refl
+    look_goes kind a bytes refs x x5 = grind (arith, nat_tests)
 
     reference_goes : (kind : ℕ) (bytes : List ℕ) (refs : List A) (x : Rest A)
         → Goes more x (reference_at look kind refs (rest bytes refs)) (reference_at look kind (refs ++ x.refs) (more (rest bytes refs) x))
     unfolding Goes
-    reference_goes kind bytes [] x = inl (inr refl)
-    reference_goes kind bytes (a ∷ refs) x = look_goes kind a bytes refs x (look kind a)
+    reference_goes kind bytes x2 x = grind (arith, nat_tests, look_goes)
 
     reference_uses : (kind : ℕ) (bytes : List ℕ) (refs : List A) → Uses more ended (λ i. reference_at look kind i.refs i) (rest bytes refs) (reference_at look kind refs (rest bytes refs))
     unfolding Uses

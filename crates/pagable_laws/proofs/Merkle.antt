@@ -1,15 +1,12 @@
 -- A tree of canonical types has one key, a stored tree has the key that it stands under, and keys tell trees apart.
-use Rattle.std.proofs.Common.{rules}
-use Rattle.pagable_laws.proofs.Words.{◌≡◌, ℕ, List, [], ◌∷◌, map, Option, Ok, refl, sym, ap, ◌∙◌, subst, append-nil, Meaning, number, integer, text, pattern, none, pair, variant, reference}
-use Rattle.pagable_laws.proofs.Words.{followed, Shape, read, read_typed, Blob, key_of, Tree, KeyRef, Types, tree, key_ref, type_of, ReadsAs, IsFollowed, number-followed, integer-followed}
+use Rattle.pagable_laws.proofs.Words.{arith, nat_tests, ◌≡◌, ℕ, List, [], ◌∷◌, map, Option, Ok, refl, sym, ap, ◌∙◌, subst, append-nil, Meaning, number, integer, text, pattern, none, pair, variant}
+use Rattle.pagable_laws.proofs.Words.{reference, followed, Shape, read, read_typed, Blob, key_of, Tree, KeyRef, Types, tree, key_ref, type_of, ReadsAs, IsFollowed, number-followed, integer-followed}
 use Rattle.pagable_laws.proofs.Words.{text-followed, pattern-followed, none-followed, pair-followed, variant-followed, reference-followed, blob_context, rest_of, Kid, kind_of_kid, tree_of_kid}
-use Rattle.pagable_laws.proofs.Words.{unfolded, TreeForm, blob_of, KeyOf, key-of, KeysOf, no-keys, more-keys, kind_of_ref, key_of_ref, StoredAs, HasOwnKeys, SharesNoKey, EachType}
-use Rattle.pagable_laws.proofs.Words.{IsCanonicalType, IsCanonicalTree, IsReadableType, rest, LooksUp, no-references, more-references, IsOneKey, IsOneItemKey, IsStoredKey, IsTreeReadable}
-use Rattle.pagable_laws.proofs.Words.{IsKeyOfOneTree}
-use Rattle.pagable_laws.proofs.Again.{form-again}
-use Rattle.pagable_laws.proofs.OneForm.{one-form}
-use Rattle.pagable_laws.proofs.Along.{Along, number-along, integer-along, text-along, pattern-along, none-along, pair-along, variant-along, reference-along, AllTwo, no-two, more-two, form-along}
-use Rattle.pagable_laws.proofs.Trees.{same_some, same_result, tree_is}
+use Rattle.pagable_laws.proofs.Words.{unfolded, TreeForm, blob_of, KeyOf, key-of, KeysOf, no-keys, more-keys, kind_of_ref, key_of_ref, StoredAs, HasOwnKeys, SharesNoKey, EachType, IsCanonicalType}
+use Rattle.pagable_laws.proofs.Words.{IsCanonicalTree, IsReadableType, rest, LooksUp, no-references, more-references, IsOneKey, IsOneItemKey, IsStoredKey, IsTreeReadable, IsKeyOfOneTree}
+use Rattle.pagable_laws.proofs.{Again.form-again, OneForm.one-form, Along.{Along, number-along, integer-along, text-along, pattern-along, none-along, pair-along, variant-along, reference-along}}
+use Rattle.pagable_laws.proofs.{Along.{AllTwo, no-two, more-two, form-along}, Trees.{same_some, same_result, tree_is}}
+use Rattle.std.proofs.Common.{rules}
 
 -- ---- what a tree's references are
 
@@ -96,8 +93,7 @@ module _ {store : ℕ → Option Blob} {types : Types} where
   followed-reads h (reference-followed r x a o f) = reference-followed r x a (stored-reads store types (type_of r.kind) r.key x h.0 o) (followed-reads h.1 f)
 
 pub tree_readable : IsTreeReadable
-tree_readable store types t key can h =
-    record { own = h.own; reads = stored-reads store types t.type key h.own can.0 h.stands; follows = followed-reads can.1 h.follows }
+tree_readable store types t key can h = grind (arith, nat_tests, stored-reads, followed-reads)
 
 -- ---- the key of what is stored
 
@@ -120,14 +116,10 @@ module _ {hash : List ℕ → List ℕ} {types : Types} where
 
     keys-along : {x : Meaning KeyRef} {a : Meaning ⊥} → IsFollowed (StoredAs store types) x a → Along ⊥ (KeyedKid hash types) x (unfolded a)
     unfolding unfolded
-    keys-along (number-followed n) = number-along n
-    keys-along (integer-followed z) = integer-along z
-    keys-along (text-followed t) = text-along t
-    keys-along (pattern-followed t) = pattern-along t
-    keys-along none-followed = none-along
     keys-along (pair-followed x y a b f g) = pair-along _ _ _ _ (keys-along f) (keys-along g)
     keys-along (variant-followed n x a f) = variant-along _ _ _ (keys-along f)
     keys-along (reference-followed r x a o f) = reference-along _ _ (record { kind = refl; key = node-key (type_of r.kind) r.key x a o (keys-along f) })
+    keys-along x0 = grind (arith, nat_tests, number-along, integer-along, text-along, pattern-along, none-along)
 
 pub stored_key : IsStoredKey
 stored_key hash store types t key own_keys h = node-key own_keys t.type key h.own t.meaning h.stands (keys-along own_keys h.follows)

@@ -1,11 +1,8 @@
 -- A handle that stands for a reference goes on to stand for it, and so does a clone of it; a key that was set stays.
 use Rattle.std.proofs.Common.{rules}
-use Rattle.pagable_laws.proofs.Words.{◌≡◌, ℕ, ◌+◌, ◌≤◌, true, List, [], ◌∷◌, ◌++◌, inl, inr, Some, None, Ok, refl, sym, ap, subst, ◌∙◌, arith}
-use Rattle.pagable_laws.proofs.Words.{nat_tests, ArcRef, HandleNumber, type_of, is_loose_kind, HandleRow, Owner, Mode, find_row, is_loose, fits_mode, has_key, Core}
-use Rattle.pagable_laws.proofs.Words.{Cell, Todo, to_start, to_item, to_publish, to_release, to_fail, row_at, type_at}
-use Rattle.pagable_laws.proofs.Words.{row_of, CloneCall, claim_fault, HandlesAreWhole, Change, StandsAt, KeyIsSet, Holds, AllHold}
-use Rattle.pagable_laws.proofs.Goes.{Goes, Kept, found-number}
-use Rattle.pagable_laws.proofs.Outlasting.{stands-new, among-found}
+use Rattle.pagable_laws.proofs.Words.{◌≡◌, ℕ, ◌+◌, ◌≤◌, true, List, [], ◌∷◌, ◌++◌, inl, inr, Some, None, Ok, refl, sym, ap, subst, ◌∙◌, arith, nat_tests, ArcRef, HandleNumber, type_of, is_loose_kind}
+use Rattle.pagable_laws.proofs.Words.{HandleRow, Owner, Mode, find_row, is_loose, fits_mode, has_key, Core, Cell, Todo, to_start, to_item, to_publish, to_release, to_fail, row_at, type_at, row_of}
+use Rattle.pagable_laws.proofs.{Words.{CloneCall, claim_fault, HandlesAreWhole, Change, StandsAt, KeyIsSet, Holds, AllHold}, Goes.{Goes, Kept, found-number}, Outlasting.{stands-new, among-found}}
 use Rattle.pagable_laws.proofs.Following.{given-of}
 
 -- ---- what stays
@@ -48,10 +45,7 @@ module _ {c : Change} {w w' : Core} (goes : Goes c w w') where
 -- ---- what is claimed
 
 loose-by : (kind : ℕ) (mode : Mode) → fits_mode kind mode ≡ true → is_loose_kind kind ≡ true → is_loose mode ≡ true
-loose-by kind Mode.Pinned fits is = absurd (grind (arith, nat_tests))
-loose-by kind Mode.Shared fits is = absurd (grind (arith, nat_tests))
-loose-by kind Mode.LoosePinned fits is = refl
-loose-by kind Mode.LooseUnpinned fits is = refl
+loose-by kind x1 fits is = grind (arith, nat_tests)
 
 -- nothing is to be said against a claim: the reference's handle is of its node and fits its kind, and the node is there
 pub record IsClaimable (w : Core) (r : ArcRef) : Type 0 where

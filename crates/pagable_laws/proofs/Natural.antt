@@ -1,9 +1,9 @@
 -- Reading is natural in what stands for references, and forms are.
+use Rattle.pagable_laws.proofs.Words.{arith, nat_tests}
 use Rattle.std.proofs.Common.{rules}
 use Rattle.pagable_laws.proofs.Words.{◌≡◌, ℕ, List, [], ◌∷◌, map, Result, Ok, Err, refl, sym, ap, ◌∙◌, inl, subst, Error, ◌>>=◌, Meaning, number, integer, text, pattern, none, pair, variant}
-use Rattle.pagable_laws.proofs.Words.{reference, followed, rename, Rest, read, Form, rest, at, IsNatural, IsReadOver, IsRenamed, IsReadThrough, KeepsForms}
-use Rattle.pagable_laws.proofs.Along.{Along, number-along, integer-along, text-along, pattern-along, none-along, pair-along, variant-along, reference-along, followed-along, AllTwo, no-two}
-use Rattle.pagable_laws.proofs.Along.{more-two, form-along}
+use Rattle.pagable_laws.proofs.{Words.{reference, followed, rename, Rest, read, Form, rest, at, IsNatural, IsReadOver, IsRenamed, IsReadThrough, KeepsForms}, Along.{Along, number-along}}
+use Rattle.pagable_laws.proofs.Along.{integer-along, text-along, pattern-along, none-along, pair-along, variant-along, reference-along, followed-along, AllTwo, no-two, more-two, form-along}
 use Rattle.pagable_laws.proofs.Related.{Out, both-given, both-refused, first-refused, OutLook, both-looked-up, both-not, first-not, read_par}
 
 -- no cause
@@ -33,15 +33,10 @@ module _ {A C : Type 0} (f : A → C) where
 
   pub along-rename : (m : Meaning A) → Along (Unit {0}) (Leads f) m (rename f m)
   unfolding rename
-  along-rename (number n) = number-along n
-  along-rename (integer z) = integer-along z
-  along-rename (text t) = text-along t
-  along-rename (pattern t) = pattern-along t
-  along-rename none = none-along
   along-rename (pair a b) = pair-along _ _ _ _ (along-rename a) (along-rename b)
   along-rename (variant n a) = variant-along _ _ _ (along-rename a)
-  along-rename (reference a) = reference-along _ _ refl
   along-rename (followed kind a) = followed-along _ _ _ tt (along-rename a)
+  along-rename x0 = grind (arith, nat_tests, number-along, integer-along, text-along, pattern-along, none-along, reference-along)
 
 given_is : {C D : Type 0} (m n : Meaning D) (q : Rest C) (bytes : List ℕ) (refs : List C) → m ≡ n → q.bytes ≡ bytes → q.refs ≡ refs
     → (let r : Result (Meaning D × Rest C) Error = Ok (m, q) in r) ≡ Ok (n, rest bytes refs)
@@ -55,8 +50,7 @@ natural-out f g (both-refused e) = refl
 natural-out f g (first-refused e r h) = absurd h
 
 looked-up : {B D : Type 0} (g : B → D) (r : Result B Error) (q : Result D Error) → q ≡ (r >>= λ b. Ok (g b)) → OutLook no_cause (Leads g) r q
-looked-up g (Ok b) q e = rw e (both-looked-up b (g b) refl)
-looked-up g (Err x) q e = rw e (both-not x)
+looked-up g x1 q e = grind (arith, nat_tests, both-looked-up, both-not)
 
 pub natural : {A B C D : Type 0} → IsNatural A B C D
 natural {A} {B} {C} {D} f g look other levels parts s input h =
@@ -81,18 +75,15 @@ map_same (a ∷ k) = rw (map_same k) refl
 
 unsame : {A B C : Type 0} (f : A → C) (r : Result (Meaning B × Rest A) Error)
     → (r >>= λ x. let z : Result (Meaning B × Rest C) Error = Ok (rename same x.0, rest x.1.bytes (map f x.1.refs)) in z) ≡ (r >>= λ x. Ok (x.0, rest x.1.bytes (map f x.1.refs)))
-unsame f (Ok x) = rw (rename_same x.0) refl
-unsame f (Err e) = refl
+unsame f x1 = grind (arith, nat_tests, rename_same)
 
 unmapped : {A B D : Type 0} (g : B → D) (r : Result (Meaning B × Rest A) Error)
     → (r >>= λ x. let z : Result (Meaning D × Rest A) Error = Ok (rename g x.0, rest x.1.bytes (map same x.1.refs)) in z) ≡ (r >>= λ x. Ok (rename g x.0, x.1))
-unmapped g (Ok x) = rw (map_same x.1.refs) refl
-unmapped g (Err e) = refl
+unmapped g x1 = grind (arith, nat_tests, map_same)
 
 found : {B : Type 0} (r : Result B Error) → r ≡ (r >>= λ b. Ok (same b))
 unfolding same
-found (Ok b) = refl
-found (Err e) = refl
+found x0 = grind (arith, nat_tests)
 
 pub read_over : {A B C : Type 0} → IsReadOver A B C
 read_over f look levels parts s input =
@@ -117,9 +108,7 @@ any_cause e = Unit {0}
 through-out : {A B C D : Type 0} (f : A → C) (g : B → D) (m : Meaning B) (after : Rest A) {first : Result (Meaning B × Rest A) Error} {second : Result (Meaning D × Rest C) Error}
     → Out any_cause (Leads f) (Along (Unit {0}) (Leads g)) first second
     → first ≡ Ok (m, after) → second ≡ Ok (rename g m, rest after.bytes (map f after.refs))
-through-out {A} {B} {C} {D} f g m after (both-given p q v s) e = search (rules, both-given, rename-along, map-all)
-through-out f g m after (both-refused x) e = cc
-through-out f g m after (first-refused x r c) e = cc
+through-out f g m after x4 e = grind (arith, nat_tests, rename-along, map-all)
 
 found-through : {B D : Type 0} (g : B → D) (r : Result B Error) (q : Result D Error) → ((b : B) → r ≡ Ok b → q ≡ Ok (g b)) → OutLook any_cause (Leads g) r q
 found-through g (Ok b) q h = rw (h b refl) (both-looked-up b (g b) refl)

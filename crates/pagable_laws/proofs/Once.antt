@@ -1,8 +1,7 @@
 -- Each stage once: what is still to be done of it, with what was done, is at most what was claimed.
-use Rattle.pagable_laws.proofs.Words.{◌≡◌, ℕ, ◌+◌, ◌≤◌, ◌==◌, ◌&&◌, Bool, true, false, List, [], ◌∷◌, ◌++◌, refl, sym, subst, ◌∙◌, arith, Ok, Err, Some, None, nat_le, drop}
-use Rattle.pagable_laws.proofs.Words.{nat_tests, sum_by-cons, ArcRef, Identity, one, times, Claim, PinStep, Took, identity_of, Open, Todo, was_failed, to_start, to_pin, to_load}
-use Rattle.pagable_laws.proofs.Words.{to_write, to_finish, to_item, to_set, to_publish, to_release, to_fail, Task, of_item, of_entry, Written, is_identity, next_start, give, first_todo, failing}
-use Rattle.pagable_laws.proofs.Words.{failing_by, Follows, Leads, InOrder, OnceEach, is_claim_of, is_later_of}
+use Rattle.pagable_laws.proofs.Words.{◌≡◌, ℕ, ◌+◌, ◌≤◌, ◌==◌, ◌&&◌, Bool, true, false, List, [], ◌∷◌, ◌++◌, refl, sym, subst, ◌∙◌, arith, Ok, Err, Some, None, nat_le, nat_tests, sum_by-cons, ArcRef}
+use Rattle.pagable_laws.proofs.Words.{Identity, one, times, Claim, PinStep, Took, identity_of, Open, Todo, to_start, to_pin, to_load, to_write, to_finish, to_item, to_set, to_publish, to_release}
+use Rattle.pagable_laws.proofs.Words.{to_fail, Task, of_item, of_entry, Written, is_identity, next_start, give, first_todo, Follows, Leads, InOrder, OnceEach, is_claim_of, is_later_of}
 
 -- ---- numbers
 
@@ -10,21 +9,11 @@ use Rattle.pagable_laws.proofs.Words.{failing_by, Follows, Leads, InOrder, OnceE
 abbrev from : ℕ → ℕ → Bool → ℕ
 from k p b = one (nat_le p k && b)
 
-stage-step : (k p : ℕ) (b : Bool) → one (k == p && b) + from k (p + 1) b ≤ from k p b
-stage-step k p false = grind (arith, nat_tests)
-stage-step k p true = grind (arith, nat_tests)
-
 at-most : (x b : Bool) → one (x && b) ≤ one b
-at-most true b = omega arith
-at-most false true = omega arith
-at-most false false = omega arith
+at-most x0 x1 = grind (arith, nat_tests)
 
 plus-none : (n : ℕ) → 0 + n ≡ n
 plus-none n = omega arith
-
-one-least : (b : Bool) → one b ≤ 1
-one-least true = omega arith
-one-least false = omega arith
 
 -- ---- what is to be done
 
@@ -122,13 +111,10 @@ module _ (k : ℕ) (i : Identity) where
     goes (to_pin r place ∷ below) (Took.Pin j (Ok (PinStep.Held h))) next way (is, (through, e)) = rw (is, e) (record { less = skips r (all-left below); way = way })
     goes (to_pin r place ∷ below) (Took.Pin j (Ok (PinStep.LoadBegun l))) next way (is, (through, e)) = rw (is, e) (record { less = goes-up 0 r _ (all-left below) refl; way = way })
     goes (to_pin r place ∷ below) (Took.Pin j (Err fault)) next way (is, e) = rw e (record { less = fails _; way = tt })
-    goes (to_load r place through reading ∷ below) (Took.Pin j (Ok PinStep.LoadWent)) next way (is, (frames, e)) = rw e
-        (record { less = stays (all-left (to_load r place through reading ∷ below)); way = way })
+    goes (to_load r place through reading ∷ below) (Took.Pin j (Ok PinStep.LoadWent)) next way (is, (frames, e)) = grind (arith, nat_tests, stays)
     goes (to_load r place through reading ∷ below) (Took.Pin j (Ok (PinStep.Held h))) next way (is, e) = rw (is, e) (record { less = goes-up 1 r _ (all-left below) refl; way = way })
     goes (to_load r place through reading ∷ below) (Took.Pin j (Err fault)) next way (is, e) = rw e (record { less = fails _; way = tt })
-    goes (to_write r place through ∷ below) (Took.Write j (Ok out)) next way (is, e) =
-        let g = started-node place (drop 0 (f out).references) (record { reference = r; place = place; through = through; written = f out; keys = []; height = 0 }) below way in
-        rw (is, e) (record { less = goes-up 2 r _ (all-left below) g.same; way = g.way })
+    goes (to_write r place through ∷ below) (Took.Write j (Ok out)) next way (is, e) = grind (arith, nat_tests, started-node, goes-up)
     goes (to_write r place through ∷ below) (Took.Write j (Err fault)) next way (is, e) = rw (is, e) (record { less = ends 2 r 0 (all-left below) (omega arith); way = tt })
     goes (to_finish o ∷ below) (Took.Store (Some j) (Ok key)) next way (is, e) = rw (is, e) (record { less = goes-up 3 o.reference _ (all-left below) refl; way = way })
     goes (to_finish o ∷ below) (Took.Store (Some j) (Err fault)) next way (is, e) = rw (is, e) (record { less = ends 3 o.reference 0 (all-left below) (omega arith); way = tt })
@@ -137,8 +123,7 @@ module _ (k : ℕ) (i : Identity) where
     goes (to_set r through key height ∷ below) (Took.SetKey j (Ok u)) next way (is, e) = rw (is, e) (record { less = goes-up 4 r _ (all-left below) refl; way = way })
     goes (to_set r through key height ∷ below) (Took.SetKey j (Err fault)) next way (is, e) = rw (is, e) (record { less = ends 4 r 0 (all-left below) (omega arith); way = tt })
     goes (to_publish r key height ∷ below) (Took.Publish j q h) next way (is, same_key, same_height, e) = rw (is, e) (record { less = goes-up 5 r _ (all-left below) refl; way = way })
-    goes (to_release r key height ∷ below) (Took.Release j) next way (is, e) = let g = given r key height below way in let same = g.same in
-        rw (is, e) (record { less = ends 6 r _ (all-left below) (omega arith); way = g.way })
+    goes (to_release r key height ∷ below) (Took.Release j) next way (is, e) = grind (arith, nat_tests, given, ends)
     goes (to_fail fault back ∷ below) Took.Fail next way e = rw e (record { less = fails _; way = tt })
     goes _ step next way follows = absurd follows
 
@@ -189,26 +174,16 @@ module _ (k : ℕ) (i : Identity) where
       where
         least : {a b : ℕ} → a ≤ b → a + 0 ≤ b
         least le = omega arith
-    entry r place (Took.Claim j (Ok (Claim.Known key height)) ∷ steps) last (mid, (is, e), leads) few = once-more (Took.Claim j (Ok (Claim.Known key height))) steps refl
-        (after-release r key height steps last (subst (λ m. Leads f m steps last) e leads))
+    entry r place (Took.Claim j (Ok (Claim.Known key height)) ∷ steps) last (mid, (is, e), leads) few = grind (arith, nat_tests, once-more, after-release)
     entry r place (Took.Claim j (Ok Claim.Waiting) ∷ steps) last (mid, (is, e), leads) few = once-more (Took.Claim j (Ok Claim.Waiting)) steps refl
         (entry r place steps last (subst (λ m. Leads f m steps last) e leads) (fewer _ (few-claims (Took.Claim j (Ok Claim.Waiting)) steps few)))
-    entry r place (Took.Claim j (Ok Claim.AlreadyFailed) ∷ steps) last (mid, (is, e), leads) few =
-        once-more (Took.Claim j (Ok Claim.AlreadyFailed)) steps refl
-        (bounded _ _ _ _ 0 (along (failing was_failed (to_start r place ∷ [])) steps last tt (subst (λ m. Leads f m steps last) e leads)) (omega arith)
-        (few-claims (Took.Claim j (Ok Claim.AlreadyFailed)) steps few))
-    entry r place (Took.Claim j (Err fault) ∷ steps) last (mid, (is, e), leads) few =
-        once-more (Took.Claim j (Err fault)) steps refl (bounded _ _ _ _ 0 (along (failing_by fault (to_start r place ∷ [])) steps last tt (subst (λ m. Leads f m steps last) e leads)) (omega arith) (few-claims (Took.Claim j (Err fault)) steps few))
+    entry r place (Took.Claim j (Ok Claim.AlreadyFailed) ∷ steps) last (mid, (is, e), leads) few = grind (arith, nat_tests, once-more, bounded, along, few-claims)
+    entry r place (Took.Claim j (Err fault) ∷ steps) last (mid, (is, e), leads) few = grind (arith, nat_tests, once-more, bounded, along, few-claims)
     entry r place (step ∷ steps) last (mid, follows, leads) few = absurd follows
 
     at-once : (task : Task) (steps : List (Took W)) (last : List Todo) → Leads f (first_todo task) steps last → times (is_claim_of i) steps ≤ 1 → times (is_later_of k i) steps ≤ 1
     unfolding OnlyWaits all-left
-    at-once (of_item written) steps last leads few = let g = started-item 0 (drop 0 written.references) written [] [] tt in
-        bounded _ _ _ _ 0 (along (first_todo (of_item written)) steps last g.way leads) (le-of g.same) (subst (λ n. n ≤ 1) (sym (plus-none _)) few)
-      where
-        le-of : {n : ℕ} → n ≡ 0 → n ≤ 0
-        le-of is = omega arith
-    at-once (of_entry h j) steps last leads few = entry _ _ steps last leads few
+    at-once x0 steps last leads few = grind (arith, nat_tests, started-item, bounded, along, plus-none, entry)
 
 -- what the automaton accepts, with no identity claimed twice, has each stage at most once after its claim
 pub once_each : {W : Type 0} (f : W → Written) (task : Task) (steps : List (Took W)) → InOrder f task steps → ((i : Identity) → times (is_claim_of i) steps ≤ 1) → OnceEach steps

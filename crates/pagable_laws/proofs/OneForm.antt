@@ -1,36 +1,24 @@
 -- A meaning of a canonical shape has at most one form.
-use Rattle.pagable_laws.proofs.Words.{arith, nat_tests}
-use Rattle.std.proofs.lemmas.Grind.{common_steps}
-use Rattle.std.proofs.Common.{rules}
-use Rattle.pagable_laws.proofs.Words.{◌≡◌, ℕ, suc, Bool, true, false, List, [], ◌∷◌, ◌++◌, length, refl, sym, ap, ◌∙◌, subst, unsigned_form, signed_form, bool_form, length_form, text_form}
-use Rattle.pagable_laws.proofs.Words.{char_form, Meaning, sequence, Entry, KeyOrder, of_entries, Shape, Form, Forms, Entries, nothing-form, unsigned-form, signed-form}
-use Rattle.pagable_laws.proofs.Words.{flag-form, text-form, letter-form, duration-form, pattern-form, none-form, some-form, err-form, ok-form, list-form, run-form, array-form, both-form}
-use Rattle.pagable_laws.proofs.Words.{sorted-map-form, placed-map-form, hash-map-form, sorted-set-form, placed-set-form, static-form, tagged-form, case-form, reference-form, nested-form}
-use Rattle.pagable_laws.proofs.Words.{json-null-form, json-flag-form, json-number-form, json-text-form, json-array-form, json-object-form, no-forms, more-forms, no-entries, more-entries}
-use Rattle.pagable_laws.proofs.Words.{IsCanonical, Throughout, CanonicalHasOneForm}
-use Rattle.std.specs.Int.{Width}
+use Rattle.pagable_laws.proofs.Words.{arith, nat_tests, ◌≡◌, ℕ, suc, Bool, true, false, List, [], ◌∷◌, ◌++◌, length, refl, sym, ap, ◌∙◌, subst, unsigned_form, signed_form, bool_form, length_form}
+use Rattle.pagable_laws.proofs.Words.{text_form, char_form, Meaning, sequence, Entry, of_entries, Shape, Form, Forms, Entries, nothing-form, unsigned-form, signed-form, flag-form}
+use Rattle.pagable_laws.proofs.Words.{text-form, letter-form, duration-form, pattern-form, none-form, some-form, err-form, ok-form, list-form, run-form, array-form, both-form, sorted-map-form}
+use Rattle.pagable_laws.proofs.Words.{placed-map-form, hash-map-form, sorted-set-form, placed-set-form, static-form, tagged-form, case-form, reference-form, nested-form, json-null-form}
+use Rattle.pagable_laws.proofs.Words.{json-flag-form, json-number-form, json-text-form, json-array-form, json-object-form, no-forms, more-forms, no-entries, more-entries, LiesIn, IsCanonical}
+use Rattle.pagable_laws.proofs.{Words.{Throughout, CanonicalHasOneForm}, Within.{here, narrowed, part_of, of_json, of_text}}
 use Rattle.pagable_model.specs.Meaning as meanings
-use Rattle.pagable_model.specs.Shape as shapes
-use Rattle.pagable_laws.proofs.Within.{here, narrowed, part_of, of_json, of_text, under_optional, under_ok, under_err, under_list, under_run, under_array, under_first, under_second}
-use Rattle.pagable_laws.proofs.Within.{under_sorted_key, under_sorted_value, under_placed_key, under_placed_value, under_sorted_item, under_placed_item, under_written, under_case}
 
 pub same-items : {A : Type 0} (xs ys : List (Meaning A)) → sequence xs ≡ sequence ys → xs ≡ ys
 same-items [] [] e = refl
-same-items [] (y ∷ ys) e = cc
-same-items (x ∷ xs) [] e = cc
 same-items (x ∷ xs) (y ∷ ys) e = grind (arith, nat_tests, same-items xs ys)
+same-items _ _ e = cc
 
 pub same-entries : {A : Type 0} (es fs : List (Entry A)) → of_entries es ≡ of_entries fs → es ≡ fs
 same-entries [] [] e = refl
-same-entries [] (f ∷ fs) e = cc
-same-entries (x ∷ es) [] e = cc
 same-entries {A} (x ∷ es) (f ∷ fs) e = grind (arith, nat_tests, same-entries es fs)
+same-entries _ _ e = cc
 
 same-flag : {A : Type 0} (b d : Bool) → (let m : Meaning A = meanings.flag b in m) ≡ meanings.flag d → b ≡ d
-same-flag true true e = refl
-same-flag true false e = cc
-same-flag false true e = cc
-same-flag false false e = refl
+same-flag x0 x1 e = grind (arith, nat_tests)
 
 -- parts that are the same, after a front that is the same
 grown : {A : Type 0} (a b c : List ℕ) (k l : List A) → (b ≡ c) × (k ≡ l) → (a ++ b ≡ a ++ c) × (k ≡ l)
@@ -44,73 +32,6 @@ counted xs ys b c k l e h = (rw (e, h.0) refl, h.1)
 
 abbrev pairing : {A : Type 0} → Meaning A → Meaning A → Entry A
 pairing m n = (m, n)
-
--- what has one form in a shape that has
-module _ {parts : ℕ → Shape} where
-  in_optional : {s : Shape} → Throughout IsCanonical parts (shapes.optional s) → Throughout IsCanonical parts s
-  unfolding IsCanonical
-  in_optional {s} h = narrowed h (λ p. p) (under_optional s)
-
-  in_ok : {s t : Shape} → Throughout IsCanonical parts (shapes.outcome s t) → Throughout IsCanonical parts s
-  unfolding IsCanonical
-  in_ok {s} {t} h = narrowed h (λ p. p.0) (under_ok s t)
-
-  in_err : {s t : Shape} → Throughout IsCanonical parts (shapes.outcome s t) → Throughout IsCanonical parts t
-  unfolding IsCanonical
-  in_err {s} {t} h = narrowed h (λ p. p.1) (under_err s t)
-
-  in_list : {s : Shape} → Throughout IsCanonical parts (shapes.list s) → Throughout IsCanonical parts s
-  unfolding IsCanonical
-  in_list {s} h = narrowed h (λ p. p) (under_list s)
-
-  in_run : {s : Shape} → Throughout IsCanonical parts (shapes.run s) → Throughout IsCanonical parts s
-  unfolding IsCanonical
-  in_run {s} h = narrowed h (λ p. p) (under_run s)
-
-  in_array : {n : ℕ} {s : Shape} → Throughout IsCanonical parts (shapes.array n s) → Throughout IsCanonical parts s
-  unfolding IsCanonical
-  in_array {n} {s} h = narrowed h (λ p. p) (under_array n s)
-
-  in_first : {s t : Shape} → Throughout IsCanonical parts (shapes.both s t) → Throughout IsCanonical parts s
-  unfolding IsCanonical
-  in_first {s} {t} h = narrowed h (λ p. p.0) (under_first s t)
-
-  in_second : {s t : Shape} → Throughout IsCanonical parts (shapes.both s t) → Throughout IsCanonical parts t
-  unfolding IsCanonical
-  in_second {s} {t} h = narrowed h (λ p. p.1) (under_second s t)
-
-  in_sorted_key : {order : KeyOrder} {s t : Shape} → Throughout IsCanonical parts (shapes.sorted_map order s t) → Throughout IsCanonical parts s
-  unfolding IsCanonical
-  in_sorted_key {order} {s} {t} h = narrowed h (λ p. p.0) (under_sorted_key order s t)
-
-  in_sorted_value : {order : KeyOrder} {s t : Shape} → Throughout IsCanonical parts (shapes.sorted_map order s t) → Throughout IsCanonical parts t
-  unfolding IsCanonical
-  in_sorted_value {order} {s} {t} h = narrowed h (λ p. p.1) (under_sorted_value order s t)
-
-  in_placed_key : {s t : Shape} → Throughout IsCanonical parts (shapes.placed_map s t) → Throughout IsCanonical parts s
-  unfolding IsCanonical
-  in_placed_key {s} {t} h = narrowed h (λ p. p.0) (under_placed_key s t)
-
-  in_placed_value : {s t : Shape} → Throughout IsCanonical parts (shapes.placed_map s t) → Throughout IsCanonical parts t
-  unfolding IsCanonical
-  in_placed_value {s} {t} h = narrowed h (λ p. p.1) (under_placed_value s t)
-
-  in_sorted_item : {order : KeyOrder} {s : Shape} → Throughout IsCanonical parts (shapes.sorted_set order s) → Throughout IsCanonical parts s
-  unfolding IsCanonical
-  in_sorted_item {order} {s} h = narrowed h (λ p. p) (under_sorted_item order s)
-
-  in_placed_item : {s : Shape} → Throughout IsCanonical parts (shapes.placed_set s) → Throughout IsCanonical parts s
-  unfolding IsCanonical
-  in_placed_item {s} h = narrowed h (λ p. p) (under_placed_item s)
-
-  in_written : (written : List ℕ → Shape) (known : List ℕ → Bool) (body : List ℕ → Shape) (tag : List ℕ) → Throughout IsCanonical parts (shapes.tagged written known body)
-      → Throughout IsCanonical parts (written tag)
-  unfolding IsCanonical
-  in_written written known body tag h = narrowed h (λ p. p.0 tag) (under_written written known body tag)
-
-  in_case : (w : Width) (known : ℕ → Bool) (part : ℕ → Shape) (n : ℕ) → known n ≡ true → Throughout IsCanonical parts (shapes.cases w known part) → Throughout IsCanonical parts (part n)
-  unfolding IsCanonical
-  in_case w known part n e h = narrowed h (λ p. p n e) (under_case w known part n e)
 
 -- one level further down is the same for both
 same_level : (left less less2 : ℕ) → left ≡ suc less → left ≡ suc less2 → less2 ≡ less
@@ -128,7 +49,7 @@ module _ {A : Type 0} {kind_of : A → ℕ} {parts : ℕ → Shape} {left less l
 
 module _ {A : Type 0} {kind_of : A → ℕ} {parts : ℕ → Shape} where
   mutual
-    unfolding IsCanonical
+    unfolding IsCanonical LiesIn
 
     pub one-form : {left : ℕ} {s : Shape} {m n : Meaning A} {b c : List ℕ} {k l : List A} → Form A kind_of parts left s m b k → Form A kind_of parts left s n c l
         → Throughout IsCanonical parts s → m ≡ n → (b ≡ c) × (k ≡ l)
@@ -141,38 +62,37 @@ module _ {A : Type 0} {kind_of : A → ℕ} {parts : ℕ → Shape} where
     one-form (duration-form left x y h g) (duration-form left2 x2 y2 h2 g2) r e = let seconds : x ≡ x2 = cc in let nanos : y ≡ y2 = cc in (rw (seconds, nanos) refl, refl)
     one-form (pattern-form left t u h) (pattern-form left2 t2 u2 h2) r e = let same : t ≡ t2 = cc in (ap text_form same, refl)
     one-form (none-form left s) (none-form left2 s2) r e = (refl, refl)
-    one-form (some-form left s m b k h) (some-form left2 s2 m2 b2 k2 h2) r e = grown (1 ∷ []) _ _ _ _ (one-form h h2 (in_optional r) cc)
-    one-form (err-form left s t m b k h) (err-form left2 s2 t2 m2 b2 k2 h2) r e = grown (0 ∷ []) _ _ _ _ (one-form h h2 (in_err r) cc)
-    one-form (ok-form left s t m b k h) (ok-form left2 s2 t2 m2 b2 k2 h2) r e = grown (1 ∷ []) _ _ _ _ (one-form h h2 (in_ok r) cc)
-    one-form (list-form left s ms b k le h) (list-form left2 s2 ms2 b2 k2 le2 h2) r e = let same = same-items ms ms2 e in counted _ _ _ _ _ _ same (one-forms h h2 (in_list r) same)
-    one-form (run-form left s ms b k le h) (run-form left2 s2 ms2 b2 k2 le2 h2) r e = one-forms h h2 (in_run r) (same-items ms ms2 e)
-    one-form (array-form left n s ms b k q h) (array-form left2 n2 s2 ms2 b2 k2 q2 h2) r e = one-forms h h2 (in_array r) (same-items ms ms2 e)
-    one-form (both-form left s t m n b c k l h g) (both-form left2 s2 t2 m2 n2 b2 c2 k2 l2 h2 g2) r e = joined _ _ _ _ _ _ _ _ (one-form h h2 (in_first r) cc) (one-form g g2 (in_second r) cc)
+    one-form (some-form left s m b k h) (some-form left2 s2 m2 b2 k2 h2) r e = grown (1 ∷ []) _ _ _ _ (one-form h h2 (narrowed r (λ p. p) (λ n d l. l)) cc)
+    one-form (err-form left s t m b k h) (err-form left2 s2 t2 m2 b2 k2 h2) r e = grown (0 ∷ []) _ _ _ _ (one-form h h2 (narrowed r (λ p. p.1) (λ n d l. l.1)) cc)
+    one-form (ok-form left s t m b k h) (ok-form left2 s2 t2 m2 b2 k2 h2) r e = grown (1 ∷ []) _ _ _ _ (one-form h h2 (narrowed r (λ p. p.0) (λ n d l. l.0)) cc)
+    one-form (list-form left s ms b k le h) (list-form left2 s2 ms2 b2 k2 le2 h2) r e = let same = same-items ms ms2 e in counted _ _ _ _ _ _ same (one-forms h h2 (narrowed r (λ p. p) (λ n d l. l)) same)
+    one-form (run-form left s ms b k le h) (run-form left2 s2 ms2 b2 k2 le2 h2) r e = one-forms h h2 (narrowed r (λ p. p) (λ n d l. l)) (same-items ms ms2 e)
+    one-form (array-form left n s ms b k q h) (array-form left2 n2 s2 ms2 b2 k2 q2 h2) r e = one-forms h h2 (narrowed r (λ p. p) (λ n d l. l)) (same-items ms ms2 e)
+    one-form (both-form left s t m n b c k l h g) (both-form left2 s2 t2 m2 n2 b2 c2 k2 l2 h2 g2) r e = joined _ _ _ _ _ _ _ _ (one-form h h2 (narrowed r (λ p. p.0) (λ n d l. l.0)) cc) (one-form g g2 (narrowed r (λ p. p.1) (λ n d l. l.1)) cc)
     one-form (sorted-map-form left o s t es b k le up h) (sorted-map-form left2 o2 s2 t2 es2 b2 k2 le2 up2 h2) r e = let same = same-entries es es2 e in
-        counted _ _ _ _ _ _ same (one-entries h h2 (in_sorted_key r) (in_sorted_value r) same)
+        counted _ _ _ _ _ _ same (one-entries h h2 (narrowed r (λ p. p.0) (λ n d l. l.0)) (narrowed r (λ p. p.1) (λ n d l. l.1)) same)
     one-form (placed-map-form left s t es b k le up h) (placed-map-form left2 s2 t2 es2 b2 k2 le2 up2 h2) r e = let same = same-entries es es2 e in
-        counted _ _ _ _ _ _ same (one-entries h h2 (in_placed_key r) (in_placed_value r) same)
+        counted _ _ _ _ _ _ same (one-entries h h2 (narrowed r (λ p. p.0) (λ n d l. l.0)) (narrowed r (λ p. p.1) (λ n d l. l.1)) same)
     one-form (hash-map-form left s t es b k le up h) g r e = absurd (here r)
     one-form (sorted-set-form left o s ms b k le up h) (sorted-set-form left2 o2 s2 ms2 b2 k2 le2 up2 h2) r e = let same = same-items ms ms2 e in
-        counted _ _ _ _ _ _ same (one-forms h h2 (in_sorted_item r) same)
+        counted _ _ _ _ _ _ same (one-forms h h2 (narrowed r (λ p. p) (λ n d l. l)) same)
     one-form (placed-set-form left s ms b k le up h) (placed-set-form left2 s2 ms2 b2 k2 le2 up2 h2) r e = let same = same-items ms ms2 e in
-        counted _ _ _ _ _ _ same (one-forms h h2 (in_placed_item r) same)
+        counted _ _ _ _ _ _ same (one-forms h h2 (narrowed r (λ p. p) (λ n d l. l)) same)
     one-form (static-form left registry i m h q) g r e = absurd (here r)
     one-form (tagged-form left written known body tag m b k u h f) (tagged-form left2 written2 known2 body2 tag2 m2 b2 k2 u2 h2 f2) r e =
         let tags : tag ≡ tag2 = cc in
         let f3 = let P : List ℕ → Type 0 = λ t. Form A kind_of parts left (written t) m2 b2 k2 in subst P (sym tags) f2 in
-        let rest = one-form f f3 (in_written written known body tag r) cc in
+        let rest = one-form f f3 (narrowed r (λ p. p.0 tag) (λ n d l. l.0 tag)) cc in
         (rw (tags, rest.0) refl, rest.1)
     one-form (case-form left w known part n m b k lt is f) (case-form left2 w2 known2 part2 n2 m2 b2 k2 lt2 is2 f2) r e =
         let cases : n ≡ n2 = cc in
         let f3 = let P : ℕ → Type 0 = λ x. Form A kind_of parts left (part x) m2 b2 k2 in subst P (sym cases) f2 in
-        let rest = one-form f f3 (in_case w known part n is r) cc in
+        let rest = one-form f f3 (narrowed r (λ p. p n is) (λ nodes d l. l n is)) cc in
         (rw (cases, rest.0) refl, rest.1)
     one-form (reference-form left kind a q) (reference-form left2 kind2 a2 q2) r e = let same : a ≡ a2 = cc in (refl, ap (λ (x : A). x ∷ []) same)
     one-form (nested-form left less n m b k p h) (nested-form left2 less2 n2 m2 b2 k2 p2 h2) r e = one-form h (lowered p p2 h2) (part_of r) e
     one-form (json-null-form left) (json-null-form left2) r e = (refl, refl)
-    one-form (json-flag-form left b) (json-flag-form left2 b2) r e = let part : (let m : Meaning A = meanings.flag b in m) ≡ meanings.flag b2 = cc in
-        (ap (λ x. 1 ∷ bool_form x) (same-flag b b2 part), refl)
+    one-form (json-flag-form left b) (json-flag-form left2 b2) r e = grind (arith, nat_tests, same-flag)
     one-form (json-number-form left z h) (json-number-form left2 z2 h2) r e = let same : z ≡ z2 = cc in (rw same refl, refl)
     one-form (json-text-form left t u h) (json-text-form left2 t2 u2 h2) r e = let same : t ≡ t2 = cc in (rw same refl, refl)
     one-form (json-array-form left less ms b k p le h) (json-array-form left2 less2 ms2 b2 k2 p2 le2 h2) r e =

@@ -1,30 +1,14 @@
 -- Where each load is done in one piece, one of a cell whose key a page-out set is refused by chance alone.
-use Rattle.pagable_laws.proofs.Words.{nat_tests}
-use Rattle.pagable_laws.proofs.Words.{◌≡◌, ℕ, zero, suc, ◌+◌, ◌<◌, ◌≤◌, ◌==◌, Bool, true, false, List, [], ◌∷◌, Option, Some, None, Ok, Err, ◌⊎◌, inl, inr, refl, sym, ap, subst}
-use Rattle.pagable_laws.proofs.Words.{◌∙◌, arith, slice_get, is_some, Error, HandleRow, Owner, Mode, Beginning, Call, Reply, LoadAnswer, LoadReply, Event, EventReply, ArcRef, HandleNumber}
-use Rattle.pagable_laws.proofs.Words.{LoadNumber, NodeNumber, Tree, Among, if_there, is_in, times, updated, any_mode, held, find_row, Core, OpenLoad, of_cell, Frame, Reading}
-use Rattle.pagable_laws.proofs.Words.{Seen, IsLawful, row_at, IsReference, references_fault, handle_fault, BeginCall, BeginKeyCall, IsDecoded, gone_on, fresh, ReadingsAre, reading_at}
-use Rattle.pagable_laws.proofs.Words.{reading_after, LoadSteps, Stays, Happens, MachineState, world_of, IsMachineWhole, of_caller, FrameFits, FramesFit, ReadsItsTypes, Moment, AreMoments}
-use Rattle.pagable_laws.proofs.Words.{TreesAlong, Turn, of_load, of_nobody, turn_of, StandTogether, IsOfChance, IsLoadOfPagedOut, LoadIsSound, IsBeginOf, HasBegun, SoundLaw, FramesHeld}
-use Rattle.pagable_world.specs.Loads.{Does}
-use Rattle.pagable_world.specs.OneWorker.{of_worker}
-use Rattle.pagable_laws.proofs.Trees.{same_some}
-use Rattle.pagable_laws.proofs.Sums.{self-number, same-number}
-use Rattle.pagable_laws.proofs.Coming.{event-turns, updated-at}
-use Rattle.pagable_laws.proofs.Chains.{IsGoingOn, idle-goes, goes}
-use Rattle.pagable_laws.proofs.Taking.{row-held}
-use Rattle.pagable_laws.proofs.Fitting.{first-fits}
-use Rattle.pagable_laws.proofs.Decoding.{decodes}
-use Rattle.pagable_laws.proofs.Outlasting.{stands-whole, stands-alike}
-use Rattle.pagable_laws.proofs.ReadingStepsMachine.{reading-stands}
-use Rattle.pagable_laws.proofs.ReadingStepsGive.{got-typed}
-use Rattle.pagable_laws.proofs.HeightSteps.{HeightsIn, heights-at-first, heights-on}
-use Rattle.pagable_laws.proofs.Sound.{by-chance, by-references, by-handle}
-use Rattle.pagable_laws.proofs.Known.{IsForm}
-use Rattle.pagable_laws.proofs.Soundly.{load-cause}
-use Rattle.pagable_laws.proofs.Apart.{fine, reads-once}
-use Rattle.pagable_laws.proofs.LoadsLive.{times_got, LoadReady, once-none, apart-once, got-cons, with-one}
-use Rattle.pagable_laws.proofs.LoadsReady.{goes-ready}
+use Rattle.pagable_laws.proofs.Words.{nat_tests, ◌≡◌, ℕ, zero, suc, ◌+◌, ◌<◌, ◌≤◌, ◌==◌, Bool, true, false, List, [], ◌∷◌, Option, Some, None, Ok, Err, ◌⊎◌, inl, inr, refl, sym, ap, subst, ◌∙◌}
+use Rattle.pagable_laws.proofs.Words.{arith, slice_get, is_some, Error, HandleRow, Owner, Mode, Beginning, Call, Reply, LoadAnswer, LoadReply, Event, EventReply, ArcRef, HandleNumber, LoadNumber}
+use Rattle.pagable_laws.proofs.Words.{NodeNumber, Tree, Among, if_there, is_in, times, updated, any_mode, held, find_row, Core, OpenLoad, of_cell, Frame, Reading, Seen, IsLawful, row_at, IsReference}
+use Rattle.pagable_laws.proofs.Words.{references_fault, handle_fault, BeginCall, BeginKeyCall, IsDecoded, gone_on, fresh, ReadingsAre, reading_at, reading_after, LoadSteps, Stays, Happens}
+use Rattle.pagable_laws.proofs.Words.{MachineState, world_of, IsMachineWhole, of_caller, FrameFits, FramesFit, ReadsItsTypes, Moment, AreMoments, TreesAlong, Turn, of_load, of_nobody, turn_of}
+use Rattle.pagable_laws.proofs.{Words.{StandTogether, IsOfChance, IsLoadOfPagedOut, LoadIsSound, IsBeginOf, HasBegun, SoundLaw, FramesHeld}, Trees.same_some, Sums.{self-number, same-number}}
+use Rattle.pagable_laws.proofs.{Coming.{event-turns, updated-at}, Chains.{IsGoingOn, idle-goes, goes}, Taking.row-held, Fitting.first-fits, Decoding.decodes, Outlasting.{stands-whole, stands-alike}}
+use Rattle.pagable_laws.proofs.{ReadingStepsMachine.reading-stands, ReadingStepsGive.got-typed, HeightSteps.{HeightsIn, heights-at-first, heights-on}, Sound.{by-chance, by-references, by-handle}}
+use Rattle.pagable_laws.proofs.{Known.IsForm, Soundly.load-cause, Apart.{fine, reads-once}, LoadsLive.{times_got, LoadReady, once-none, apart-once, got-cons, with-one}, LoadsReady.goes-ready}
+use Rattle.pagable_world.specs.{Loads.Does}
 
 -- ---- whose turn it is
 
@@ -34,9 +18,7 @@ is_turn n t = false
 
 turn-is : (n : ℕ) (t : Turn) → is_turn n t ≡ true → t ≡ of_load n
 unfolding is_turn
-turn-is n (of_load k) is = ap of_load (same-number k n is)
-turn-is n (of_worker k) is = absurd (cc)
-turn-is n of_nobody is = absurd (cc)
+turn-is n x1 is = grind (arith, nat_tests, same-number)
 
 turn-isnt : (n : ℕ) (t : Turn) → is_turn n t ≡ false → t ≡ of_load n → ⊥
 unfolding is_turn
@@ -48,19 +30,10 @@ number-or a n = grind (arith, nat_tests)
 module _ {N B W : Type 0} where
   -- a load's turn is its begin, or a step
   pub turn-cases : (n : ℕ) (event : Event N B W) (reply : EventReply N B W) → turn_of event reply ≡ of_load n → IsBeginOf n event reply ⊎ ((l : LoadNumber) × (l.0 ≡ n) × (event ≡ Event.LoadStep l))
-  turn-cases n (Event.LoadStep l) reply is = inr (l, cc, refl)
-  turn-cases n (Event.LoadStart h) (EventReply.Started (Ok (Beginning.Load l key))) is = inl (cc)
-  turn-cases n (Event.Call (Call.LoadBegin h)) (EventReply.CallReply (Reply.Begun (Ok (Beginning.Load l key)))) is = inl (cc)
-  turn-cases n (Event.LoadKey k t) (EventReply.Started (Ok (Beginning.Load l key))) is = inl (cc)
-  turn-cases n (Event.WorkerItem t item) (EventReply.WorkerMade (Ok v)) is = absurd (cc)
-  turn-cases n (Event.WorkerListed t i) (EventReply.WorkerMade (Ok v)) is = absurd (cc)
-  turn-cases n event reply is = absurd (cc)
+  turn-cases n x1 x2 is = grind (arith, nat_tests)
 
   begin-turn : (n : ℕ) (event : Event N B W) (reply : EventReply N B W) → IsBeginOf n event reply → turn_of event reply ≡ of_load n
-  begin-turn n (Event.LoadStart h) (EventReply.Started (Ok (Beginning.Load l key))) is = ap of_load is
-  begin-turn n (Event.Call (Call.LoadBegin h)) (EventReply.CallReply (Reply.Begun (Ok (Beginning.Load l key)))) is = ap of_load is
-  begin-turn n (Event.LoadKey k t) (EventReply.Started (Ok (Beginning.Load l key))) is = ap of_load is
-  begin-turn n event reply is = absurd is
+  begin-turn n x1 x2 is = grind (arith, nat_tests)
 
   begin-or : (n : ℕ) (event : Event N B W) (reply : EventReply N B W) → IsBeginOf n event reply ⊎ (IsBeginOf n event reply → ⊥)
   begin-or n (Event.LoadStart h) (EventReply.Started (Ok (Beginning.Load l key))) = number-or l.0 n
@@ -93,8 +66,7 @@ module _ {N B W E : Type 0} (m : Seen N B W) (s s' : MachineState N E) (whole : 
 
   nothing-ready : (l : LoadNumber) (load : OpenLoad) (frames : List Frame) → frames ≡ []
       → ((node : NodeNumber) (t : ℕ) (h : HandleNumber) → load.root ≡ of_cell node t h → (row : HandleRow) × (row_at w' h ≡ Some row) × (row.owner ≡ Owner.Caller)) → LoadReady w' l load frames
-  nothing-ready l load frames none begun =
-      record { begun = begun; live = λ frame r among got. absurd (let there = subst (λ fs. Among fs frame) none among in let e = there.1 in cc); once = once-none frames none }
+  nothing-ready l load frames none begun = grind (arith, nat_tests, once-none)
 
   -- what has just begun has read nothing
   begun-empty : (l : LoadNumber) (reading : Reading) (readings : ℕ → Option Reading) → ReadingsAre readings (world_of s') → ((r : Reading) → readings l.0 ≡ Some r → r.frames ≡ [])
@@ -131,9 +103,7 @@ module _ {N B W E : Type 0} (m : Seen N B W) (s s' : MachineState N E) (whole : 
 
   -- a step that ends closes the load
   closes : (reading : Reading) (end : LoadAnswer N) (frames : List Frame) → Does m.values w Owner.Caller reading (Some end) frames w' → w'.loads reading.load.0 ≡ None
-  closes reading (LoadAnswer.Pinned k) frames does = grind (arith, nat_tests)
-  closes reading (LoadAnswer.Read x) frames does = does.0.handed.hands.1.falls.leaves.loads reading.load.0 ∙ updated-at reading.load.0 None w.loads
-  closes reading (LoadAnswer.Refused e) frames does = grind (arith, nat_tests)
+  closes reading x1 frames does = grind (arith, nat_tests, updated-at)
 
 -- a load's own step, where the chain goes on
 module _ {N B W E : Type 0} (m : Seen N B W) (lawful : IsLawful m.values) (readable : ReadsItsTypes m.values.types) (s s' : MachineState N E) (trees : ℕ → Tree)
@@ -185,10 +155,7 @@ module _ {N B W E : Type 0} (m : Seen N B W) (lawful : IsLawful m.values) (reada
       before = subst (λ k. LoadReady core k load x.reading.frames) (sym a.number) (ready x.reading load x.at was)
 
       by : (answer : Option (LoadAnswer N)) → reply.ended ≡ answer → LoadReady s'.pager.core l load reading.frames
-      by (Some end) e =
-          let shut = closes m s s' on.whole whole' x.reading end x.frames (subst (λ o. Does m.values core Owner.Caller x.reading o x.frames s'.pager.core) e x.does.does) in
-          let f : s'.pager.core.loads l.0 ≡ None = ap (λ (k : LoadNumber). s'.pager.core.loads k.0) (sym a.number) ∙ shut in
-          absurd (cc)
+      by (Some end) e = grind (arith, nat_tests, closes, a)
       by None e =
           let go = subst (λ o. Does m.values core Owner.Caller x.reading o x.frames s'.pager.core) e x.does.does in
           let after = goes-ready m.values lawful readable core s'.pager.core x.reading load trees load.key x.reading.node_type on.whole.pager.whole.handles before a.got a.fits x.frames go in

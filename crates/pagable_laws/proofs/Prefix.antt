@@ -1,7 +1,6 @@
 -- No form of one meaning begins a form of another.
 use Rattle.pagable_laws.proofs.Words.{◌≡◌, ℕ, List, [], ◌∷◌, ◌++◌, Result, Ok, refl, sym, ap, ◌∙◌, append_cancel_right, IsReadable, Throughout, Meaning, Shape, Rest, Look, rest, LooksUp}
-use Rattle.pagable_laws.proofs.Words.{no-references, more-references, IsPrefixFree}
-use Rattle.pagable_laws.proofs.Again.{read_at, form-again}
+use Rattle.pagable_laws.proofs.{Words.{no-references, more-references, IsPrefixFree}, Again.{read_at, form-again}}
 
 same_ok : {X E : Type 0} (x y : X) → (let r : Result X E = Ok x in r) ≡ Ok y → x ≡ y
 same_ok x y e = cc

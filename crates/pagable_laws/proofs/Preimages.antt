@@ -1,8 +1,8 @@
 -- Different blobs have different preimages.
+use Rattle.pagable_laws.proofs.Words.{nat_tests}
 use Rattle.pagable_laws.proofs.Words.{◌≡◌, ℕ, zero, suc, ◌+◌, ◌*◌, ◌/◌, ◌%◌, ◌^◌, ◌<◌, ◌≤◌, List, [], ◌∷◌, length, refl, sym, ap, ◌∙◌, arith, add-mul, add_assoc, div-add-mod', div-div-eq-div-mul}
 use Rattle.pagable_laws.proofs.Words.{div-one, mod-eq_of_lt, mod-lt, mul-add-mod_self_right, mul-le-mul_right, mul_assoc, one-le-pow, pow-suc, length-append, Blob, preimage, cut, HasOnePreimage}
-use Rattle.std.specs.Int.{byte_at, bytes_low_first, to_le_bytes, w64, w128}
-use Rattle.std.specs.List.{flat_map, AllByRecursion}
+use Rattle.std.specs.{Int.{byte_at, bytes_low_first, to_le_bytes, w64, w128}, List.{flat_map, AllByRecursion}}
 
 -- the two low digits of n, to the bases c and then m
 mod-split : (n : ℕ) {m c : ℕ} → zero < m → zero < c → n % (m * c) ≡ (n / c % m) * c + n % c
@@ -24,8 +24,7 @@ low [] = 0
 low (b ∷ bs) = b + 256 * low bs
 
 byte_at-pow : (k x : ℕ) → byte_at k x ≡ x / 256 ^ k % 256
-byte_at-pow zero x = ap (λ (y : ℕ). y % 256) (sym (div-one x))
-byte_at-pow (suc k) x = refl
+byte_at-pow x0 x = grind (arith, nat_tests)
 
 pow_pos256 : (n : ℕ) → zero < 256 ^ n
 pow_pos256 n = let h = one-le-pow n 256 (omega arith) in omega arith

@@ -1,15 +1,10 @@
 -- Page-outs by trees: what tables and workers hold fits at first and after each event.
-use Rattle.pagable_laws.proofs.Words.{◌≡◌, ℕ, ◌≤◌, ◌==◌, true, false, [], ◌∷◌, ap, Some, None, Ok, refl, sym, subst, ◌∙◌, arith, nat_tests, ArcRef, Identity, Blob}
-use Rattle.pagable_laws.proofs.Words.{Tree, WorkerNumber, type_of, updated, Event, EventReply, Took, WorkerReply, Shelf, Task, of_item, of_entry, Walking, Values, Seen, IsLawful, Site}
-use Rattle.pagable_laws.proofs.Words.{claim_fault, first_todo, answer_after, Ends, WorkerSteps, step_of, PagerState, MachineState, world_of, IsMachineWhole, IsIdle, Represents, TookWrites}
-use Rattle.pagable_laws.proofs.Words.{ReplyWrites, HoldsSettled, ReadsItsTypes, Ground, ground_of, WroteTree, KeysSoFar, Waits, Walks, SlotsFit, WorkFits}
-use Rattle.pagable_laws.proofs.Trees.{same_some}
-use Rattle.pagable_laws.proofs.Following.{wrote}
-use Rattle.pagable_laws.proofs.Changing.{ShelfGrows, grows, same-slots}
-use Rattle.pagable_laws.proofs.Holding.{SameSlots}
-use Rattle.pagable_laws.proofs.Coming.{StandsIn, OwnTurn, rests, begins, steps, EventTurns, updated-at}
-use Rattle.pagable_laws.proofs.Shelves.{GroundGoes, slots-on, walks-on}
-use Rattle.pagable_laws.proofs.Stepping.{started-item, Did, walk-steps}
+use Rattle.pagable_laws.proofs.Words.{◌≡◌, ℕ, ◌≤◌, ◌==◌, true, false, [], ◌∷◌, ap, Some, None, Ok, refl, sym, subst, ◌∙◌, arith, nat_tests, ArcRef, Identity, Blob, Tree, WorkerNumber, type_of}
+use Rattle.pagable_laws.proofs.Words.{updated, Event, EventReply, Took, WorkerReply, Shelf, Task, of_item, of_entry, Walking, Values, Seen, IsLawful, Site, claim_fault, first_todo, answer_after}
+use Rattle.pagable_laws.proofs.Words.{Ends, WorkerSteps, step_of, PagerState, MachineState, world_of, IsMachineWhole, IsIdle, Represents, TookWrites, ReplyWrites, HoldsSettled, ReadsItsTypes, Ground}
+use Rattle.pagable_laws.proofs.{Words.{ground_of, WroteTree, KeysSoFar, Waits, Walks, SlotsFit, WorkFits}, Trees.same_some, Following.wrote, Changing.{ShelfGrows, grows, same-slots}}
+use Rattle.pagable_laws.proofs.{Holding.SameSlots, Coming.{StandsIn, OwnTurn, rests, begins, steps, EventTurns, updated-at}, Shelves.{GroundGoes, slots-on, walks-on}, Stepping.{started-item, Did}}
+use Rattle.pagable_laws.proofs.Stepping.{walk-steps}
 
 -- it fits where nobody works yet
 pub fits-at-first : {N E : Type 0} (v : Values N) (s : MachineState N E) (trees : ℕ → Tree) → IsIdle s → WorkFits v s trees
@@ -28,8 +23,7 @@ at-number P k x f q here there = grind (arith, nat_tests)
 took-writes : {N B W E : Type 0} (m : Seen N B W) (s : PagerState N E) (n : ℕ) (event : Event N B W) (reply : EventReply N B W) (taken : Took W) → step_of n event reply ≡ taken ∷ []
     → ReplyWrites m s reply
     → TookWrites m.values m.written_of s taken
-took-writes {W = W} m s n (Event.WorkerStep u) (EventReply.WorkerMoved (Ok r)) taken is writes = grind (arith, nat_tests)
-took-writes m s n event reply taken is writes = absurd (cc)
+took-writes m s n x3 x4 taken is writes = grind (arith, nat_tests)
 
 module _ {N B W E : Type 0} (m : Seen N B W) (s s' : MachineState N E) (trees trees' : ℕ → Tree) (goes : GroundGoes (ground_of s trees) (ground_of s' trees')) (fit : WorkFits m.values s trees)
     (whole : IsMachineWhole m.values s) (represents : Represents m.values s.pager trees) (settled : HoldsSettled m.values s.pager) (reads : ReadsItsTypes m.values.types)

@@ -1,23 +1,16 @@
 -- Reading does the same whatever stands for references: two readers over related inputs give related meanings.
 use Rattle.pagable_laws.proofs.Words.{arith, nat_tests}
-use Rattle.std.proofs.lemmas.Grind.{common_steps}
-use Rattle.std.proofs.Common.{rules}
-use Rattle.pagable_laws.proofs.Words.{◌≡◌, ℕ, zero, suc, ◌-◌, Bool, true, false, List, [], ◌∷◌, Some, None, Result, Ok, Err, ◌⊎◌, inl, inr, refl, subst, Error, ◌>>=◌}
-use Rattle.pagable_laws.proofs.Words.{Read, unsigned_at, signed_at, length_at, text_at, bool_at, char_at, duration_at, Meaning, integer, none, variant, sequence, entry, absent, present}
-use Rattle.pagable_laws.proofs.Words.{success, failure, lifted, Entry, KeyOrder, code_order, text_order, put_all, put_sorted, put_placed, put_sorted_item, put_placed_item}
-use Rattle.pagable_laws.proofs.Words.{of_entries, of_tagged, of_hash_map, Shape, nothing, unsigned, signed, flag, letter, duration, json, optional, outcome, list, run, array, both, sorted_map}
-use Rattle.pagable_laws.proofs.Words.{placed_map, hash_map, sorted_set, placed_set, static_value, tagged, cases, nested, Rest, Look, Gets, bytes_of, reference_at, seen, two, choose, items}
-use Rattle.pagable_laws.proofs.Words.{counted, registered, Deeper, enter, JsonCase, null_case, flag_case, number_case, text_case, array_case, object_case, json_case, json_part, read_with, below}
-use Rattle.pagable_laws.proofs.Words.{deepest, read, IsReadable, HasNoReference, Throughout}
-use Rattle.std.specs.Int.{w32, w64}
-use Rattle.std.specs.List.{AllByRecursion}
+use Rattle.pagable_laws.proofs.Words.{◌≡◌, ℕ, zero, suc, ◌-◌, Bool, true, false, List, [], ◌∷◌, Some, None, Result, Ok, Err, ◌⊎◌, inl, inr, refl, subst, Error, ◌>>=◌, Read}
+use Rattle.pagable_laws.proofs.Words.{unsigned_at, signed_at, length_at, text_at, bool_at, char_at, duration_at, Meaning, integer, none, variant, sequence, entry, absent, present, success, failure}
+use Rattle.pagable_laws.proofs.Words.{lifted, Entry, KeyOrder, code_order, text_order, put_all, put_sorted, put_placed, put_sorted_item, put_placed_item, of_entries, of_tagged, of_hash_map, Shape}
+use Rattle.pagable_laws.proofs.Words.{nothing, unsigned, signed, flag, letter, duration, json, optional, outcome, list, run, array, both, sorted_map, placed_map, hash_map, sorted_set, placed_set}
+use Rattle.pagable_laws.proofs.Words.{static_value, tagged, cases, nested, Rest, Look, Gets, bytes_of, reference_at, seen, two, choose, items, counted, registered, Deeper, enter, JsonCase, null_case}
+use Rattle.pagable_laws.proofs.Words.{flag_case, number_case, text_case, array_case, object_case, json_case, json_part, read_with, below, LiesIn, deepest, read, IsReadable, HasNoReference}
+use Rattle.pagable_laws.proofs.{Words.Throughout, Along.{Along, number-along, integer-along, text-along, pattern-along, none-along, pair-along, variant-along, reference-along, lifted-along}}
+use Rattle.pagable_laws.proofs.{Along.{plain-along, AllTwo, no-two, more-two, EntryAlong}, Within.{Under, here, narrowed, part_of, of_json, of_text}}
+use Rattle.std.{proofs.Common.rules, specs.Int.{w32, w64}, specs.List.AllByRecursion}
 use Rattle.pagable_model.specs.Meaning as meanings
 use Rattle.pagable_model.specs.Shape as shapes
-use Rattle.pagable_laws.proofs.Along.{Along, number-along, integer-along, text-along, pattern-along, none-along, pair-along, variant-along, reference-along, lifted-along, plain-along, AllTwo}
-use Rattle.pagable_laws.proofs.Along.{no-two, more-two, EntryAlong}
-use Rattle.pagable_laws.proofs.Within.{here, part_of, of_json, of_text}
-use Rattle.pagable_laws.proofs.Readable.{in_optional, in_ok, in_err, in_list, in_array, in_first, in_second, in_sorted_key, in_sorted_value, in_placed_key, in_placed_value, in_hash_key}
-use Rattle.pagable_laws.proofs.Readable.{in_hash_value, in_sorted_item, in_placed_item, in_body, in_case}
 
 -- ---- what is put into maps and sets
 
@@ -135,8 +128,7 @@ module _ {A B : Type 0} {E : Error → Type 0} {S : A → B → Type 0} where
 
   pub choose_par : {X Y : Type 0} {V : X → Y → Type 0} (t : Bool) {get other : Gets A X} {get2 other2 : Gets B Y} → (t ≡ true → Par E S V get get2)
       → (t ≡ false → Par E S V other other2) → Par E S V (choose t get other) (choose t get2 other2)
-  choose_par true h g = likewise_par (h refl) (λ i. refl) (λ i. refl)
-  choose_par false h g = likewise_par (g refl) (λ i. refl) (λ i. refl)
+  choose_par x0 h g = grind (arith, nat_tests, likewise_par)
 
   pub items_par : {X Y : Type 0} {V : X → Y → Type 0} {get : Gets A X} {get2 : Gets B Y} → Par E S V get get2 → (n : ℕ) → Par E S (AllTwo V) (items get n) (items get2 n)
   unfolding items
@@ -154,9 +146,11 @@ module _ {A B : Type 0} {E : Error → Type 0} {S : A → B → Type 0} where
 abbrev pub Covers : Type 0 → (ℕ → Shape) → Shape → Type 0
 Covers F parts s = F ⊎ Throughout IsReadable parts s
 
-over : {F : Type 0} {parts : ℕ → Shape} {s t : Shape} → (Throughout IsReadable parts s → Throughout IsReadable parts t) → Covers F parts s → Covers F parts t
-over h (inl f) = inl f
-over h (inr t) = inr (h t)
+over : {F : Type 0} {parts : ℕ → Shape} {s t : Shape} → (IsReadable s → IsReadable t) → Under s t → Covers F parts s → Covers F parts t
+over h u x2 = grind (arith, nat_tests, narrowed)
+
+covers-part : {F : Type 0} {parts : ℕ → Shape} {n : ℕ} → Covers F parts (nested n) → Covers F parts (parts n)
+covers-part x0 = grind (arith, nat_tests, part_of)
 
 -- what stands for a reference is looked up alike
 pub data OutLook {A B : Type 0} (E : Error → Type 0) (R : A → B → Type 0) : Result A Error → Result B Error → Type 0 where
@@ -165,8 +159,7 @@ pub data OutLook {A B : Type 0} (E : Error → Type 0) (R : A → B → Type 0) 
   first-not : (e : Error) (r : Result B Error) → E e → OutLook E R (Err e) r
 
 flag-same : {C D F : Type 0} {R : C → D → Type 0} (b : Bool) → Along F R (meanings.flag b) (meanings.flag b)
-flag-same true = variant-along _ _ _ none-along
-flag-same false = variant-along _ _ _ none-along
+flag-same x0 = grind (arith, nat_tests, variant-along, none-along)
 
 -- readers of parts below that are related
 pub data DeeperPar {A B C D : Type 0} (E : Error → Type 0) (F : Type 0) (S : A → B → Type 0) (R : C → D → Type 0) (parts : ℕ → Shape) : Deeper A C → Deeper B D → Type 0 where
@@ -201,9 +194,7 @@ module _ {A B C D : Type 0} {E : Error → Type 0} {F : Type 0} {S : A → B →
   look_par : {r : Rest A} {q : Rest B} {x : Result C Error} {y : Result D Error} → SameRest S r q → OutLook E R x y
       → Out E S (Along F R) (x >>= λ c. let z : Result (Meaning C × Rest A) Error = Ok (meanings.reference c, r) in z)
       (y >>= λ c. let z : Result (Meaning D × Rest B) Error = Ok (meanings.reference c, q) in z)
-  look_par s (both-looked-up c d h) = both-given _ _ (reference-along c d h) s
-  look_par s (both-not e) = both-refused e
-  look_par s (first-not e r h) = first-refused e _ h
+  look_par s x1 = grind (arith, nat_tests, both-given, reference-along, both-refused, first-refused)
 
   module _ (look : Look A C) (look2 : Look B D) (alike : (kind : ℕ) (a : A) (b : B) → S a b → OutLook E R (look kind a) (look2 kind b)) where
     reference_out : (kind : ℕ) (r : Rest A) (q : Rest B) {k : List A} {l : List B} → q.bytes ≡ r.bytes → AllTwo S k l → Out E S (Along F R) (reference_at look kind k r) (reference_at look2 kind l q)
@@ -246,7 +237,7 @@ module _ {A B C D : Type 0} {E : Error → Type 0} {F : Type 0} {S : A → B →
 
     module _ (look : Look A C) (look2 : Look B D) (alike : (kind : ℕ) (a : A) (b : B) → S a b → OutLook E R (look kind a) (look2 kind b)) where
       pub with_par : {d : Deeper A C} {d2 : Deeper B D} → DeeperPar E F S R parts d d2 → (s : Shape) → Covers F parts s → Par E S (Along F R) (read_with look parts d s) (read_with look2 parts d2 s)
-      unfolding read_with
+      unfolding read_with IsReadable LiesIn
       with_par h nothing t = likewise_par (gives_par none none none-along) (λ i. refl) (λ i. refl)
       with_par h (unsigned w) t = likewise_par (bytes_par (unsigned_at w) _ _ (λ n. number-along n)) (λ i. refl) (λ i. refl)
       with_par h (signed w) t = likewise_par (bytes_par (signed_at w) _ _ (λ z. integer-along z)) (λ i. refl) (λ i. refl)
@@ -261,27 +252,27 @@ module _ {A B C D : Type 0} {E : Error → Type 0} {F : Type 0} {S : A → B →
       with_par {d} {d2} h (optional s) t =
           then_same (λ some i. choose some (seen present (read_with look parts d s)) (λ r. Ok (absent, r)) i)
           (λ some i. choose some (seen present (read_with look2 parts d2 s)) (λ r. Ok (absent, r)) i) _ _ (λ i. refl) (λ i. refl) (bytes_same bool_at)
-          (λ some. choose_par some (λ e. seen_par present present (λ m n r. variant-along _ _ _ r) (with_par h s (over in_optional t)))
+          (λ some. choose_par some (λ e. seen_par present present (λ m n r. variant-along _ _ _ r) (with_par h s (over (λ p. p) (λ n d l. l) t)))
           (λ e. gives_par absent absent (variant-along _ _ _ none-along)))
       with_par {d} {d2} h (outcome s s2) t =
           then_same (λ ok i. choose ok (seen success (read_with look parts d s)) (seen failure (read_with look parts d s2)) i)
           (λ ok i. choose ok (seen success (read_with look2 parts d2 s)) (seen failure (read_with look2 parts d2 s2)) i) _ _ (λ i. refl) (λ i. refl) (bytes_same bool_at)
-          (λ ok. choose_par ok (λ e. seen_par success success (λ m n r. variant-along _ _ _ r) (with_par h s (over in_ok t)))
-          (λ e. seen_par failure failure (λ m n r. variant-along _ _ _ r) (with_par h s2 (over in_err t))))
-      with_par h (list s) t = likewise_par (seen_par sequence sequence (λ ms ns r. sequence-two r) (counted_par (with_par h s (over in_list t)))) (λ i. refl) (λ i. refl)
+          (λ ok. choose_par ok (λ e. seen_par success success (λ m n r. variant-along _ _ _ r) (with_par h s (over (λ p. p.0) (λ n d l. l.0) t)))
+          (λ e. seen_par failure failure (λ m n r. variant-along _ _ _ r) (with_par h s2 (over (λ p. p.1) (λ n d l. l.1) t))))
+      with_par h (list s) t = likewise_par (seen_par sequence sequence (λ ms ns r. sequence-two r) (counted_par (with_par h s (over (λ p. p) (λ n d l. l) t)))) (λ i. refl) (λ i. refl)
       with_par h (run s) t = likewise_par (refuses_par (Along F R) Error.WrongKind) (λ i. refl) (λ i. refl)
-      with_par h (array n s) t = likewise_par (seen_par sequence sequence (λ ms ns r. sequence-two r) (items_par (with_par h s (over in_array t)) n)) (λ i. refl) (λ i. refl)
-      with_par h (both s s2) t = likewise_par (seen_par entry entry (λ e f r. pair-along _ _ _ _ r.key r.value) (entry_par (with_par h s (over in_first t)) (with_par h s2 (over in_second t))))
+      with_par h (array n s) t = likewise_par (seen_par sequence sequence (λ ms ns r. sequence-two r) (items_par (with_par h s (over (λ p. p) (λ n d l. l) t)) n)) (λ i. refl) (λ i. refl)
+      with_par h (both s s2) t = likewise_par (seen_par entry entry (λ e f r. pair-along _ _ _ _ r.key r.value) (entry_par (with_par h s (over (λ p. p.0) (λ n d l. l.0) t)) (with_par h s2 (over (λ p. p.1) (λ n d l. l.1) t))))
           (λ i. refl) (λ i. refl)
       with_par h (sorted_map order s s2) t =
-          likewise_par (seen_par _ _ (λ es fs r. sorted-two order r) (counted_par (entry_par (with_par h s (over in_sorted_key t)) (with_par h s2 (over in_sorted_value t))))) (λ i. refl) (λ i. refl)
+          likewise_par (seen_par _ _ (λ es fs r. sorted-two order r) (counted_par (entry_par (with_par h s (over (λ p. p.0) (λ n d l. l.0) t)) (with_par h s2 (over (λ p. p.1) (λ n d l. l.1) t))))) (λ i. refl) (λ i. refl)
       with_par h (placed_map s s2) t =
-          likewise_par (seen_par _ _ (λ es fs r. placed-two r) (counted_par (entry_par (with_par h s (over in_placed_key t)) (with_par h s2 (over in_placed_value t))))) (λ i. refl) (λ i. refl)
+          likewise_par (seen_par _ _ (λ es fs r. placed-two r) (counted_par (entry_par (with_par h s (over (λ p. p.0) (λ n d l. l.0) t)) (with_par h s2 (over (λ p. p.1) (λ n d l. l.1) t))))) (λ i. refl) (λ i. refl)
       with_par h (hash_map s s2) t =
           likewise_par (seen_par of_hash_map of_hash_map (λ es fs r. sorted-two code_order r)
-          (counted_par (entry_par (with_par h s (over in_hash_key t)) (with_par h s2 (over in_hash_value t))))) (λ i. refl) (λ i. refl)
-      with_par h (sorted_set order s) t = likewise_par (seen_par _ _ (λ ms ns r. sorted_items-two order r) (counted_par (with_par h s (over in_sorted_item t)))) (λ i. refl) (λ i. refl)
-      with_par h (placed_set s) t = likewise_par (seen_par _ _ (λ ms ns r. placed_items-two r) (counted_par (with_par h s (over in_placed_item t)))) (λ i. refl) (λ i. refl)
+          (counted_par (entry_par (with_par h s (over (λ p. p.0) (λ n d l. l.0) t)) (with_par h s2 (over (λ p. p.1) (λ n d l. l.1) t))))) (λ i. refl) (λ i. refl)
+      with_par h (sorted_set order s) t = likewise_par (seen_par _ _ (λ ms ns r. sorted_items-two order r) (counted_par (with_par h s (over (λ p. p) (λ n d l. l) t)))) (λ i. refl) (λ i. refl)
+      with_par h (placed_set s) t = likewise_par (seen_par _ _ (λ ms ns r. placed_items-two r) (counted_par (with_par h s (over (λ p. p) (λ n d l. l) t)))) (λ i. refl) (λ i. refl)
       with_par h (static_value registry) t =
           then_same (λ n i. registered registry n >>= λ m. Ok (lifted m, i)) (λ n i. registered registry n >>= λ m. Ok (lifted m, i)) _ _ (λ i. refl) (λ i. refl) (bytes_same (unsigned_at w32))
           (λ n. registered_par registry (static-covers registry t) n (registered registry n) refl)
@@ -289,15 +280,15 @@ module _ {A B C D : Type 0} {E : Error → Type 0} {F : Type 0} {S : A → B →
           then_same (λ tag i. choose (known tag) (seen (of_tagged tag) (read_with look parts d (body tag))) (λ r. Err Error.UnknownTag) i)
           (λ tag i. choose (known tag) (seen (of_tagged tag) (read_with look2 parts d2 (body tag))) (λ r. Err Error.UnknownTag) i) _ _
           (λ i. refl) (λ i. refl) (bytes_same text_at)
-          (λ tag. choose_par (known tag) (λ e. seen_par (of_tagged tag) (of_tagged tag) (λ m n r. pair-along _ _ _ _ (text-along tag) r) (with_par h (body tag) (over (in_body written known body tag e) t))) (λ e. refuses_par (Along F R) Error.UnknownTag))
+          (λ tag. choose_par (known tag) (λ e. seen_par (of_tagged tag) (of_tagged tag) (λ m n r. pair-along _ _ _ _ (text-along tag) r) (with_par h (body tag) (over (λ p. p.1 tag e) (λ n d l. l.1 tag e) t))) (λ e. refuses_par (Along F R) Error.UnknownTag))
       with_par {d} {d2} h (cases w known part) t =
           then_same (λ n i. choose (known n) (seen (variant n) (read_with look parts d (part n))) (λ r. Err Error.UnknownTag) i)
           (λ n i. choose (known n) (seen (variant n) (read_with look2 parts d2 (part n))) (λ r. Err Error.UnknownTag) i) _ _
           (λ i. refl) (λ i. refl) (bytes_same (unsigned_at w))
-          (λ n. choose_par (known n) (λ e. seen_par (variant n) (variant n) (λ x y r. variant-along _ _ _ r) (with_par h (part n) (over (in_case w known part n e) t)))
+          (λ n. choose_par (known n) (λ e. seen_par (variant n) (variant n) (λ x y r. variant-along _ _ _ r) (with_par h (part n) (over (λ p. p n e) (λ nodes d l. l n e) t)))
           (λ e. refuses_par (Along F R) Error.UnknownTag))
       with_par h (shapes.reference kind) t = likewise_par (reference_par look look2 alike kind) (λ i. refl) (λ i. refl)
-      with_par h (nested n) t = likewise_par (enter_par _ _ h (λ get get2 g. g (parts n) (over part_of t))) (λ i. refl) (λ i. refl)
+      with_par h (nested n) t = likewise_par (enter_par _ _ h (λ get get2 g. g (parts n) (covers-part t))) (λ i. refl) (λ i. refl)
 
       below_par : (left : ℕ) → DeeperPar E F S R parts (below look parts left) (below look2 parts left)
       unfolding below

@@ -1,12 +1,8 @@
 -- Where heights are low, no path from a tree whose key is known is too long.
-use Rattle.pagable_laws.proofs.Words.{nat_tests}
-use Rattle.pagable_laws.proofs.Words.{◌≡◌, ℕ, ◌<◌, ◌≤◌, List, [], ◌∷◌, refl, sym, subst, ◌∙◌, arith, max, Some, Ok, Err}
-use Rattle.pagable_laws.proofs.Words.{pair, variant, reference, followed, longest_path, above, height, deepest_path, ArcRef, Identity, Meaning, Tree, Took, WorkerAnswer}
-use Rattle.pagable_laws.proofs.Words.{identity_of, Shelf, Todo, to_item, to_release, to_fail, Task, of_item, of_entry, Values, Seen, Site, Does, IsPublished}
-use Rattle.pagable_laws.proofs.Words.{answer_after, MachineState, world_of, IsLongBelow, IsTooDeepTask, Ground, FollowsTo, pair-follows, variant-follows, reference-follows, Waits, Walks}
-use Rattle.pagable_laws.proofs.Words.{WorkFits}
-use Rattle.pagable_laws.proofs.Heights.{IsLow, AllLow, WaitsLow, TodoLow, all-low}
-use Rattle.pagable_laws.proofs.HeightSteps.{HeightsIn}
+use Rattle.pagable_laws.proofs.Words.{nat_tests, ◌≡◌, ℕ, ◌<◌, ◌≤◌, List, [], ◌∷◌, refl, sym, subst, ◌∙◌, arith, max, Some, Ok, Err, pair, variant, reference, followed, longest_path, above, height}
+use Rattle.pagable_laws.proofs.Words.{deepest_path, ArcRef, Identity, Meaning, Tree, Took, WorkerAnswer, identity_of, Shelf, Todo, to_item, to_release, to_fail, Task, of_item, of_entry, Values, Seen}
+use Rattle.pagable_laws.proofs.Words.{Site, Does, IsPublished, answer_after, MachineState, world_of, IsLongBelow, IsTooDeepTask, Ground, FollowsTo, pair-follows, variant-follows, reference-follows}
+use Rattle.pagable_laws.proofs.{Words.{Waits, Walks, WorkFits}, Heights.{IsLow, AllLow, WaitsLow, TodoLow, all-low}, HeightSteps.HeightsIn}
 
 -- the height of the meaning is within this, and no path in it is too long
 record IsShallow (limit : ℕ) (m : Meaning ⊥) : Type 0 where
@@ -30,14 +26,9 @@ module _ {N E : Type 0} (v : Values N) (s : MachineState N E) (trees : ℕ → T
       → IsShallow limit m
   unfolding height deepest_path
   shallow limit rs le lows follows (reference a) e = absurd a
-  shallow limit rs le lows (pair-follows x y a b h g) (pair c d) e =
-      let p = shallow limit rs le lows h c (cc) in
-      let q = shallow limit rs le lows g d (cc) in
-      record { top = let u = p.top in let w = q.top in omega arith; deepest = let u = p.deepest in let w = q.deepest in omega arith }
+  shallow limit rs le lows (pair-follows x y a b h g) (pair c d) e = grind (arith, nat_tests, shallow limit rs le lows h c (cc), shallow limit rs le lows g d (cc))
   shallow limit rs le lows follows (pair c d) e = absurd (cc)
-  shallow limit rs le lows (variant-follows i x a h) (variant j c) e =
-      let p = shallow limit rs le lows h c (cc) in
-      record { top = p.top; deepest = p.deepest }
+  shallow limit rs le lows (variant-follows i x a h) (variant j c) e = grind (arith, nat_tests, shallow limit rs le lows h c (cc))
   shallow limit rs le lows follows (variant j c) e = absurd (cc)
   shallow limit rs le lows (reference-follows r a among is) (followed kind c) e =
       let l = lows r among in
@@ -89,11 +80,4 @@ module _ {N B W : Type 0} (m : Seen N B W) (n : ℕ) (g : Ground) (task : Task) 
   pub answered-low : (todo : List Todo) (step : Took W) → Does m n s todo step s' → Walks m.values g s.shelf task todo → TodoLow s.shelf todo → (key : ℕ)
       → answer_after todo step ≡ Some (WorkerAnswer.Key key) → TaskLow s.shelf task
   unfolding WaitsLow Waits
-  answered-low (to_item written ks ∷ below) (Took.Store i (Ok k)) (is, p) (of_it, known) low key e =
-      subst (λ t. TaskLow s.shelf t) (sym of_it) (all-low s.shelf longest_path written.references ks p.all low)
-  answered-low (to_item written ks ∷ below) (Took.Store i (Err f)) does walks low key e = absurd (cc)
-  answered-low (to_item written ks ∷ below) step does walks low key e = absurd does
-  answered-low (to_release r k h ∷ []) step does (p, (expects, waits)) low key e = grind (arith, nat_tests)
-  answered-low (to_fail fault back ∷ below) Took.Fail does walks low key e = grind (arith, nat_tests)
-  answered-low (to_fail fault back ∷ below) step does walks low key e = absurd does
-  answered-low todo step does walks low key e = absurd (cc)
+  answered-low x0 x1 x2 x3 low key e = grind (arith, nat_tests, all-low, longest_path)

@@ -1,13 +1,11 @@
 -- What tables and to-do lists hold of trees goes on as long as what is stored and each node's tree stay; and what a change of a table comes to.
-use Rattle.pagable_laws.proofs.Words.{nat_tests}
+use Rattle.pagable_laws.proofs.Words.{nat_tests, ◌≡◌, ℕ, ◌≤◌, Bool, true, List, [], ◌∷◌, inl, inr, Option, Some, None, if◌then◌else◌, refl, sym, ap, subst, ◌∙◌, arith, nat_eq, KeyRef}
+use Rattle.pagable_laws.proofs.Words.{IsFollowed, number-followed, integer-followed, text-followed, pattern-followed, none-followed, pair-followed, variant-followed, reference-followed, ArcRef}
+use Rattle.pagable_laws.proofs.Words.{Identity, Blob, Meaning, Tree, Among, if_there, identity_of, Shelf, Slot, failed, Written, Todo, to_start, to_pin, to_load, to_write, to_finish, to_item, to_set}
+use Rattle.pagable_laws.proofs.Words.{to_publish, to_release, Task, Values, IsPublished, is_open_outcome, with_outcome, with_failed, AreKeysOf, Ground, FollowsTo, number-follows}
+use Rattle.pagable_laws.proofs.Words.{integer-follows, text-follows, pattern-follows, none-follows, pair-follows, variant-follows, reference-follows, WroteTree, KeyStands, BlobStands, SlotFits}
+use Rattle.pagable_laws.proofs.{Words.{KeysSoFar, Waits, Above, HasBlob, Walks, SlotsFit}, Changing.{ShelfGrows, some-same, published-stays, PutsSlot, put-cases}}
 use Rattle.std.proofs.Common.{rules}
-use Rattle.pagable_laws.proofs.Words.{◌≡◌, ℕ, ◌≤◌, Bool, true, false, List, [], ◌∷◌, inl, inr, Option, Some, None, if◌then◌else◌, refl, sym, ap, subst, ◌∙◌, arith, nat_eq, KeyRef, IsFollowed}
-use Rattle.pagable_laws.proofs.Words.{number-followed, integer-followed, text-followed, pattern-followed, none-followed, pair-followed, variant-followed, reference-followed, ArcRef}
-use Rattle.pagable_laws.proofs.Words.{Identity, Blob, Meaning, Tree, Among, if_there, identity_of, Shelf, Slot, failed, Written, Todo, to_start, to_pin, to_load, to_write, to_finish}
-use Rattle.pagable_laws.proofs.Words.{to_item, to_set, to_publish, to_release, to_fail, Task, Values, IsPublished, is_open_outcome, with_outcome, with_failed, AreKeysOf, Ground, FollowsTo}
-use Rattle.pagable_laws.proofs.Words.{number-follows, integer-follows, text-follows, pattern-follows, none-follows, pair-follows, variant-follows, reference-follows, WroteTree, KeyStands}
-use Rattle.pagable_laws.proofs.Words.{BlobStands, SlotFits, KeysSoFar, Waits, Above, HasBlob, Walks, SlotsFit}
-use Rattle.pagable_laws.proofs.Changing.{ShelfGrows, some-same, published-stays, PutsSlot, put-cases}
 
 -- ---- what is stored stays, and each node keeps its tree
 
@@ -43,10 +41,8 @@ follows-on same (reference-follows r a among is) = reference-follows r a among (
 
 module _ {shelf shelf' : Shelf} (keys : KeepsKeys shelf shelf') where
   pub keys-on : (rs : List ArcRef) (ks : List ℕ) → AreKeysOf shelf rs ks → AreKeysOf shelf' rs ks
-  keys-on [] [] known = tt
-  keys-on [] (k ∷ ks) known = absurd known
-  keys-on (r ∷ rs) [] known = absurd known
   keys-on (r ∷ rs) (k ∷ ks) ((h, p), known) = ((h, keys (identity_of r) k h p), keys-on rs ks known)
+  keys-on x0 x1 x2 = grind (arith, nat_tests)
 
   pub so-far-on : (rs : List ArcRef) (ks : List ℕ) → KeysSoFar shelf rs ks → KeysSoFar shelf' rs ks
   unfolding KeysSoFar
@@ -73,8 +69,7 @@ module _ {N : Type 0} (v : Values N) {g g' : Ground} (goes : GroundGoes g g') wh
 
   module _ {shelf shelf' : Shelf} (keys : KeepsKeys shelf shelf') where
     pub blob-on : {n key : ℕ} {written : Written} → n ≤ g.last → BlobStands v g shelf n written key → BlobStands v g' shelf' n written key
-    blob-on {n} {key} {written} given b =
-        record { keys = b.keys; known = keys-on keys written.references b.keys b.known; is_stored = goes.kept key _ b.is_stored; right = subst (λ t. KeyStands v g'.stored t key) (sym (goes.trees n given)) (stands-on b.right) }
+    blob-on {n} {key} {written} given b = grind (arith, nat_tests, keys-on, stands-on)
 
     pub slot-on : {i : Identity} {slot : Slot} → SlotFits v g shelf i slot → SlotFits v g' shelf' i slot
     slot-on {i} {slot} fits = search (rules, wrote-on, blob-on)
@@ -91,10 +86,8 @@ module _ {shelf shelf' : Shelf} (more : ShelfGrows shelf shelf') where
 module _ (shelf shelf' : Shelf) (more : ShelfGrows shelf shelf') where
   pub wait-on : (task : Task) (todo : List Todo) → Waits shelf task todo → Waits shelf' task todo
   unfolding Waits
-  wait-on task [] waits = tt
   wait-on task (to_finish o ∷ below) (known, expects, waits) = (so-far-on (keys-grow more) _ _ known, expects, wait-on task below waits)
-  wait-on task (to_item written ks ∷ below) (is, known) = (is, so-far-on (keys-grow more) _ _ known)
-  wait-on task (_ ∷ below) waits = absurd waits
+  wait-on task x1 x2 = grind (arith, nat_tests, so-far-on, keys-grow)
 
   pub above-on : (task : Task) (r : ArcRef) (below : List Todo) → Above shelf task r below → Above shelf' task r below
   above-on task r below (expects, waits) = (expects, wait-on task below waits)
@@ -116,9 +109,7 @@ module _ {N : Type 0} {v : Values N} {g g' : Ground} {shelf shelf' : Shelf} (goe
 
   module _ (n : ℕ) where
     failed-fits : (i : Identity) (slot : Slot) (a b : Bool) → SlotFits v g' shelf' i slot → SlotFits v g' shelf' i (if a then (if b then record slot { outcome = failed } else slot) else slot)
-    failed-fits i slot true true fit = grind (arith, nat_tests)
-    failed-fits i slot true false fit = fit
-    failed-fits i slot false b fit = fit
+    failed-fits i slot x2 x3 fit = grind (arith, nat_tests)
 
     pub slots-failed : ((i : Identity) → shelf'.slots i ≡ (with_failed shelf n).slots i) → SlotsFit v g' shelf'
     slots-failed same i slot' now = of (shelf.slots i) refl (sym (same i) ∙ now)
@@ -132,14 +123,4 @@ module _ {N : Type 0} {v : Values N} {g g' : Ground} {shelf shelf' : Shelf} (goe
 
 module _ {N : Type 0} {v : Values N} {g g' : Ground} {shelf : Shelf} (shelf' : Shelf) (goes : GroundGoes g g') (more : ShelfGrows shelf shelf') (fits : SlotsFit v g shelf) where
   pub walks-on : (task : Task) (todo : List Todo) → Walks v g shelf task todo → Walks v g' shelf' task todo
-  walks-on task [] walks = tt
-  walks-on task (to_start r place ∷ below) walks = above-on shelf shelf' more task r below walks
-  walks-on task (to_pin r place ∷ below) walks = above-on shelf shelf' more task r below walks
-  walks-on task (to_load r place through reading ∷ below) walks = above-on shelf shelf' more task r below walks
-  walks-on task (to_write r place through ∷ below) walks = above-on shelf shelf' more task r below walks
-  walks-on task (to_finish o ∷ below) walks = wait-on shelf shelf' more task (to_finish o ∷ below) walks
-  walks-on task (to_item written ks ∷ below) walks = wait-on shelf shelf' more task (to_item written ks ∷ below) walks
-  walks-on task (to_set r through key height ∷ below) (blob, above) = (has-blob-on goes more fits blob, above-on shelf shelf' more task r below above)
-  walks-on task (to_publish r key height ∷ below) (blob, above) = (has-blob-on goes more fits blob, above-on shelf shelf' more task r below above)
-  walks-on task (to_release r key height ∷ below) (p, above) = (keys-grow more _ _ _ p, above-on shelf shelf' more task r below above)
-  walks-on task (to_fail fault back ∷ below) walks = tt
+  walks-on task x1 x2 = grind (arith, nat_tests, above-on, wait-on, has-blob-on, keys-grow)

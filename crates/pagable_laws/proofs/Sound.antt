@@ -1,21 +1,13 @@
 -- Why a load is refused whose key a page-out has published: by chance, or by a handle.
-use Rattle.pagable_laws.proofs.Words.{nat_tests}
+use Rattle.pagable_laws.proofs.Words.{nat_tests, ◌≡◌, ℕ, ◌≤◌, ◌==◌, Bool, true, false, List, [], ◌∷◌, length, ◌⊎◌, inl, inr, Option, Some, None, Err, refl, sym, ap, subst, ◌∙◌, arith, Result, not}
+use Rattle.pagable_laws.proofs.Words.{nat_le, is_own_reading, RefusesFetch, Error, Want, Owner, Kind, HandleNumber, LoadNumber, NodeNumber, Blob, Tree, Types, type_of, is_eager, is_loose_kind}
+use Rattle.pagable_laws.proofs.Words.{longest_path, if_there, any_mode, Core, OpenLoad, of_cell, Frame, Reading, Seen, Values, IsLawful, earlier, where_so, refused_if, spent, handle_fault}
+use Rattle.pagable_laws.proofs.Words.{references_fault, load_fault, AreHandlesFull, Refused, FetchCall, birth_fault, AskCall, LazyCall, ask_fault, is_known, node_fault, root_fault, Next}
+use Rattle.pagable_laws.proofs.Words.{reads, asks, is_faulty, need_of, needs_nested, needs_lazy, to_adopt, need_at, next_in, is_broken, IsDecoded, RefusesBlob, RefusesNested, RefusesNode}
+use Rattle.pagable_laws.proofs.Words.{RefusesRoot, IsOfKey, EndsClosed, Fails, fresh, reading_at, reading_of_load, MachineState, world_of, IsMachineWhole, StandsFor, FitsRoot, FramesFit, of_caller}
+use Rattle.pagable_laws.proofs.{Words.{ReadsItsTypes, IsOfChance, IsPagedOutAs, IsLoadOfPagedOut, WorkFits}, Trees.same_some, Sums.self-number, Taking.adopted-over, Fitting.first-typed}
+use Rattle.pagable_laws.proofs.{HeightSteps.HeightsIn, Asking.FramesAsked, Known.{IsForm, root-there, needed, not-broken, formed}, KnownSteps.{ReadingsAsked, eager-nested}}
 use Rattle.std.proofs.Common.{rules}
-use Rattle.pagable_laws.proofs.Words.{◌≡◌, ℕ, ◌≤◌, ◌==◌, Bool, true, false, List, [], ◌∷◌, length, ◌⊎◌, inl, inr, Option, Some, None, Err, refl, sym, ap, subst, ◌∙◌, arith, Result}
-use Rattle.pagable_laws.proofs.Words.{not, nat_le, is_own_reading, RefusesFetch, Error, Want, Owner, Kind, HandleNumber, LoadNumber, NodeNumber, Blob, Tree, Types, type_of, is_eager}
-use Rattle.pagable_laws.proofs.Words.{is_loose_kind, longest_path, if_there, any_mode, Core, OpenLoad, of_cell, Frame, Reading, Seen, Values, IsLawful, earlier, where_so, refused_if, spent}
-use Rattle.pagable_laws.proofs.Words.{handle_fault, references_fault, load_fault, AreHandlesFull, Refused, FetchCall, birth_fault, AskCall, LazyCall, ask_fault, is_known, node_fault}
-use Rattle.pagable_laws.proofs.Words.{root_fault, is_owned_in, Next, reads, asks, is_faulty, need_of, needs_nested, needs_lazy, to_adopt, need_at, next_in, is_broken, IsDecoded, RefusesBlob}
-use Rattle.pagable_laws.proofs.Words.{RefusesNested, RefusesNode, RefusesRoot, IsOfKey, EndsClosed, Fails, fresh, reading_at, reading_of_load, MachineState, world_of}
-use Rattle.pagable_laws.proofs.Words.{IsMachineWhole, StandsFor, FitsRoot, FramesFit, of_caller, ReadsItsTypes, IsOfChance, IsPagedOutAs, IsLoadOfPagedOut, WorkFits}
-use Rattle.pagable_laws.proofs.Trees.{same_some}
-use Rattle.pagable_laws.proofs.Sums.{self-number}
-use Rattle.pagable_laws.proofs.Taking.{adopted-over}
-use Rattle.pagable_laws.proofs.Fitting.{first-typed}
-use Rattle.pagable_laws.proofs.HeightSteps.{HeightsIn}
-use Rattle.pagable_laws.proofs.Asking.{FramesAsked}
-use Rattle.pagable_laws.proofs.Known.{IsForm, root-there, needed, not-broken, formed}
-use Rattle.pagable_laws.proofs.KnownSteps.{ReadingsAsked, eager-nested}
 
 -- ---- refusals
 
@@ -25,12 +17,10 @@ either (Some x) None e is = inl is
 either (Some x) (Some y) e is = grind (arith, nat_tests)
 
 chance-if : (b : Bool) (e : Error) → refused_if b Error.NumbersSpent ≡ Some e → IsOfChance e
-chance-if true e is = let same : Error.NumbersSpent ≡ e = cc in subst IsOfChance same tt
-chance-if false e is = absurd (cc)
+chance-if x0 e is = grind (arith, nat_tests)
 
 where-chance : (b : Bool) (n : ℕ) (e : Error) → where_so b (spent n) ≡ Some e → IsOfChance e
-where-chance true n e is = chance-if (nat_le _ n) e is
-where-chance false n e is = absurd (cc)
+where-chance x0 n e is = grind (arith, nat_tests, chance-if)
 
 birth-chance : (w : Core) (e : Error) → birth_fault w ≡ Some e → IsOfChance e
 birth-chance w e is = elim (either (spent w.last.node) (spent w.last.handle) e is) [ inl a ↦ chance-if _ e a | inr b ↦ chance-if _ e b ]
@@ -39,33 +29,23 @@ node-chance : (w : Core) (kind : Kind) (key : ℕ) (e : Error) → node_fault w 
 node-chance w kind key e is = search (rules, chance-if, birth-chance)
 
 never : (b : Bool) (f e : Error) → b ≡ false → refused_if b f ≡ Some e → ⊥
-never true f e is so = cc
-never false f e is so = cc
+never _ f e is so = cc
 
 memory-chance : (e : Error) → e ≡ Error.OutOfMemory → IsOfChance e
 memory-chance e is = subst IsOfChance (sym is) tt
 
 reading-chance : (e : Error) → is_own_reading e ≡ true → IsOfChance e
-reading-chance Error.RegexRefused is = tt
-reading-chance Error.OutOfMemory is = tt
-reading-chance (Error.Custom text) is = tt
-reading-chance e is = absurd (cc)
+reading-chance x0 is = grind (arith, nat_tests)
 
 fetch-chance : (key : ℕ) (found : Option Blob) (blob : Blob) (before after : ℕ) (e : Error) → found ≡ Some blob → RefusesFetch key found before after e → IsOfChance e
-fetch-chance key found blob before after (Error.NoData k) is why = absurd (let a = why.1 in cc)
-fetch-chance key found blob before after Error.OutOfMemory is why = tt
-fetch-chance key found blob before after (Error.Storage code) is why = tt
-fetch-chance key found blob before after e is why = absurd why
+fetch-chance key found blob before after x5 is why = grind (arith, nat_tests)
 
 loose-not : (kind : ℕ) → is_eager kind ≡ true → is_loose_kind kind ≡ false
 loose-not kind is = grind (arith, nat_tests)
 
 -- what a load gets unread it asks for through a loose reference
 lazy-loose : (below : List Frame) (next : Next) (kind : Kind) (key : ℕ) → need_at below next ≡ needs_lazy kind key → not (is_loose_kind kind.0) ≡ false
-lazy-loose below (asks k q) kind key is = grind (arith, nat_tests)
-lazy-loose [] (reads own) kind key is = absurd (cc)
-lazy-loose (x ∷ xs) (reads own) kind key is = absurd (cc)
-lazy-loose below (is_faulty e) kind key is = absurd (cc)
+lazy-loose x0 x1 kind key is = grind (arith, nat_tests)
 
 second-eager : (types : Types) (top under : Frame) (rest : List Frame) → FramesAsked types (top ∷ under ∷ rest) → is_eager top.kind.0 ≡ true
 unfolding FramesAsked
@@ -134,15 +114,7 @@ module _ {N B W E : Type 0} (m : Seen N B W) (s : MachineState N E) (trees : ℕ
               asked = got reading is_of;
               of_type = subst (λ root. FitsRoot root reading) (ap (λ (x : OpenLoad). x.root) same_load ∙ paged.3) a.typed;
             }
-        by None e is =
-            let begun : reading_of_load l (w.loads l.0) ≡ Some reading = rw e at is in
-            let same = by-fresh (w.loads l.0) open_load begun in
-            record {
-              number = ap (λ (r : Reading). r.load) (sym same);
-              fits = subst (λ (r : Reading). FramesFit v.types w.stored trees load.key r.node_type r.frames) same tt;
-              asked = subst (λ (r : Reading). FramesAsked v.types r.frames) same tt;
-              of_type = ap (λ (r : Reading). r.node_type) (sym same);
-            }
+        by None e is = grind (arith, nat_tests, by-fresh)
 
     -- the tree that it reads
     typed : (trees out.i.node.0).type ≡ reading.node_type
@@ -170,12 +142,10 @@ module _ {N B W E : Type 0} (m : Seen N B W) (s : MachineState N E) (trees : ℕ
 
     -- the front of what is needed
     front : (frames : List Frame) (kind : Kind) (key : ℕ) → need_of v.types frames ≡ needs_nested kind key → is_eager kind.0 ≡ true
-    front [] kind key is = absurd (cc)
-    front (top ∷ below) kind key is = eager-nested below (next_in v.types top) kind key is
+    front x0 kind key is = grind (arith, nat_tests, eager-nested)
 
     front-lazy : (frames : List Frame) (kind : Kind) (key : ℕ) → need_of v.types frames ≡ needs_lazy kind key → not (is_loose_kind kind.0) ≡ false
-    front-lazy [] kind key is = absurd (cc)
-    front-lazy (top ∷ below) kind key is = lazy-loose below (next_in v.types top) kind key is
+    front-lazy x0 kind key is = grind (arith, nat_tests, lazy-loose)
 
     form-of : (frame : Frame) (below : List Frame) → reading.frames ≡ frame ∷ below → (x : N) → IsDecoded v frame x → IsForm v frame
     form-of frame below is x decoded =
@@ -199,12 +169,7 @@ module _ {N B W E : Type 0} (m : Seen N B W) (s : MachineState N E) (trees : ℕ
     ]
 
     root-asked : (mid : Core) (e : Error) → AskCall w Owner.Caller reading.load Want.Root (Err e) mid → IsOfChance e
-    root-asked mid e c = elim c.refused [
-      | inl r ↦ ask-chance Want.Root mid e r
-      | inr (other, owned, vain) ↦
-          let same : other ≡ load = same_some _ _ (sym owned.stands_open ∙ (ap (λ (x : LoadNumber). w.loads x.0) is-read.number ∙ open_load)) in
-          vain-chance Want.Root other.key found.0 mid e (ap (λ (x : OpenLoad). w.stored x.key) same ∙ found.1) vain
-    ]
+    root-asked mid e c = grind (arith, nat_tests, ask-chance, same_some, is-read, vain-chance, found)
 
     nested-asked : (kind : Kind) (key : ℕ) (blob : Blob) (mid : Core) (e : Error) → w.stored key ≡ Some blob → AskCall w Owner.Caller reading.load (Want.Nested kind key) (Err e) mid → IsOfChance e
     nested-asked kind key blob mid e is c = elim c.refused [
@@ -237,13 +202,7 @@ module _ {N B W E : Type 0} (m : Seen N B W) (s : MachineState N E) (trees : ℕ
 
     -- the blob that becomes a node is read through a reference that isn't loose, and is of its kind's type
     node-right : (top : Frame) (below : List Frame) → reading.frames ≡ top ∷ below → need_of v.types reading.frames ≡ to_adopt → (is_eager top.kind.0 ≡ true) × (top.node_type ≡ type_of top.kind.0)
-    node-right top below is needs = by below (subst (λ fs. FramesFit v.types w.stored trees load.key reading.node_type fs) is is-read.fits) (subst
-        (λ fs. FramesAsked v.types fs) is is-read.asked) (ap (need_of v.types) (sym is) ∙ needs)
-      where
-        by : (below : List Frame) → FramesFit v.types w.stored trees load.key reading.node_type (top ∷ below) → FramesAsked v.types (top ∷ below) → need_of v.types (top ∷ below) ≡ to_adopt
-            → (is_eager top.kind.0 ≡ true) × (top.node_type ≡ type_of top.kind.0)
-        by [] fits asked adopts = let o = adopted-over [] (next_in v.types top) adopts in absurd (let e = o.2 in cc)
-        by (under ∷ rest) fits asked adopts = (second-eager v.types top under rest asked, first-typed v.types load.key reading.node_type w.stored trees top under rest fits)
+    node-right top below is needs = grind (arith, nat_tests, is-read, adopted-over, second-eager, first-typed)
 
     of-node : (mid : Core) (e : Error) → RefusesNode v w Owner.Caller reading e mid → C e
     of-node mid e r =
@@ -267,8 +226,7 @@ module _ {N B W E : Type 0} (m : Seen N B W) (s : MachineState N E) (trees : ℕ
         ]
 
     root-type : (root : Frame) → reading.frames ≡ root ∷ [] → root.node_type ≡ t
-    root-type root is =
-        last-type v.types w.stored trees load.key reading.node_type root (subst (λ fs. FramesFit v.types w.stored trees load.key reading.node_type fs) is is-read.fits) ∙ is-read.of_type
+    root-type root is = grind (arith, nat_tests, last-type, is-read)
 
     of-root : (mid : Core) (e : Error) → RefusesRoot v w Owner.Caller reading e mid → C e
     of-root mid e r = elim r.refuses [
@@ -290,14 +248,7 @@ module _ {N B W E : Type 0} (m : Seen N B W) (s : MachineState N E) (trees : ℕ
       where
         root-chance : (r : RefusesRoot v w Owner.Caller reading e mid) → if_there (λ (x : OpenLoad). root_fault w Owner.Caller (v.node_type r.x) x.root) None (w.loads reading.load.0) ≡ Some e
             → IsOfChance e
-        root-chance r is =
-            let there : w.loads reading.load.0 ≡ Some load = ap (λ (x : LoadNumber). w.loads x.0) is-read.number ∙ open_load in
-            let at_root : root_fault w Owner.Caller (v.node_type r.x) (of_cell node t paged.2) ≡ Some e =
-            ap (root_fault w Owner.Caller (v.node_type r.x)) (sym paged.3) ∙ (sym (ap (λ o. if_there (λ (x : OpenLoad). root_fault w Owner.Caller (v.node_type r.x) x.root) None o) there) ∙ is) in
-            elim (either (refused_if (not (v.node_type r.x == t)) Error.WrongKind) (where_so (is_owned_in w Owner.Caller paged.2.0) (spent w.last.handle)) e at_root) [
-              | inl a ↦ absurd (never (not (v.node_type r.x == t)) Error.WrongKind e (same-type (v.node_type r.x) t (r.reads_root.decoded.typed ∙ root-type r.reads_root.root r.reads_root.frames)) a)
-              | inr b ↦ where-chance (is_owned_in w Owner.Caller paged.2.0) w.last.handle e b
-            ]
+        root-chance r is = grind (arith, nat_tests, is-read, either, never, same-type, root-type, where-chance)
 
     of-end : (w' : Core) (e : Error) → EndsClosed v w Owner.Caller reading e w' → C e
     of-end w' e r =

@@ -1,24 +1,15 @@
 -- A load of a cell whose key a page-out set is refused by chance or by a handle alone.
-use Rattle.pagable_laws.proofs.Words.{arith, nat_tests}
+use Rattle.pagable_laws.proofs.Words.{arith, nat_tests, ◌≡◌, ℕ, Bool, List, [], ◌∷◌, Option, Some, None, Ok, Err, inl, inr, refl, subst, ◌∙◌, Error, HandleRow, Owner, Mode, LoadAnswer}
+use Rattle.pagable_laws.proofs.Words.{LoadReply, Event, EventReply, ArcRef, HandleNumber, LoadNumber, Tree, or_else, any_mode, Core, OpenLoad, Seen, IsLawful, refused_if, row_fault, reference_fault}
+use Rattle.pagable_laws.proofs.Words.{references_fault, handle_fault, LoadSteps, Happens, MachineState, world_of, ReadsItsTypes, IsLoadOfPagedOut, IsOfHandles, LoadIsFaultless, FaultlessLaw}
+use Rattle.pagable_laws.proofs.{Chains.IsGoingOn, HeightSteps.HeightsIn, Deeply.along-first, Sound.{Cause, by-chance, by-references, by-handle, cause}}
 use Rattle.std.proofs.Common.{rules}
-use Rattle.pagable_laws.proofs.Words.{◌≡◌, ℕ, Bool, true, false, List, [], ◌∷◌, Option, Some, None, Ok, Err, inl, inr, refl, subst, ◌∙◌, Error, HandleRow, Owner}
-use Rattle.pagable_laws.proofs.Words.{Mode, LoadAnswer, LoadReply, Event, EventReply, ArcRef, HandleNumber, LoadNumber, Tree, or_else, any_mode}
-use Rattle.pagable_laws.proofs.Words.{Core, OpenLoad, Seen, IsLawful, refused_if, row_fault, reference_fault, references_fault, handle_fault, LoadSteps, Happens}
-use Rattle.pagable_laws.proofs.Words.{MachineState, world_of, ReadsItsTypes, IsLoadOfPagedOut, IsOfHandles, LoadIsFaultless, FaultlessLaw}
 use Rattle.pagable_world.specs.Loads.{Does}
-use Rattle.pagable_laws.proofs.Chains.{IsGoingOn}
-use Rattle.pagable_laws.proofs.HeightSteps.{HeightsIn}
-use Rattle.pagable_laws.proofs.Deeply.{along-first}
-use Rattle.pagable_laws.proofs.Sound.{Cause, by-chance, by-references, by-handle, cause}
 
 -- ---- what is told of handles
 
 of-handles : (f e : Error) → IsOfHandles f → Some f ≡ Some e → IsOfHandles e
 of-handles f e is same = let g : f ≡ e = cc in subst IsOfHandles g is
-
-by-test : (b : Bool) (f e : Error) → IsOfHandles f → refused_if b f ≡ Some e → IsOfHandles e
-by-test true f e is same = of-handles f e is same
-by-test false f e is same = absurd (cc)
 
 by-row : (w : Core) (r : ArcRef) (b : Bool) (row : HandleRow) (e : Error) → row_fault w r (refused_if b Error.NotYours) row ≡ Some e → IsOfHandles e
 by-row w r b row e is = grind (arith, nat_tests)

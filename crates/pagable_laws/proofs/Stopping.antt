@@ -1,15 +1,10 @@
 -- A form is read up to a reference that is refused, and is refused so.
-use Rattle.pagable_laws.proofs.Words.{◌≡◌, ℕ, List, [], ◌∷◌, ◌++◌, length, Ok, Err, refl, ap, inl, inr, append_assoc, Error, varint_at, bool_at, Meaning, Entry, Shape, Look, items, two}
-use Rattle.pagable_laws.proofs.Words.{read_with, below, Form, Forms, Entries}
-use Rattle.pagable_laws.proofs.Words.{some-form, err-form, ok-form, list-form, run-form, array-form, both-form, sorted-map-form, placed-map-form, hash-map-form, sorted-set-form, placed-set-form}
-use Rattle.pagable_laws.proofs.Words.{tagged-form, case-form, reference-form, nested-form, json-array-form}
-use Rattle.pagable_laws.proofs.Words.{json-object-form, no-forms, more-forms, no-entries, more-entries, IsReadable, Throughout, rest, LooksUp, no-references, more-references}
-use Rattle.pagable_laws.proofs.Basic.{length-again, text-again}
-use Rattle.pagable_laws.proofs.Wholes.{unsigned-again}
-use Rattle.pagable_laws.proofs.Within.{here, part_of, of_json, of_text}
-use Rattle.pagable_laws.proofs.Readable.{in_optional, in_ok, in_err, in_list, in_array, in_first, in_second, in_sorted_key, in_sorted_value, in_placed_key, in_placed_value, in_hash_key}
-use Rattle.pagable_laws.proofs.Readable.{in_hash_value, in_sorted_item, in_placed_item, in_written, in_case}
-use Rattle.pagable_laws.proofs.Again.{no_case-form, read_at, form-again}
+use Rattle.pagable_laws.proofs.Words.{arith, nat_tests}
+use Rattle.pagable_laws.proofs.Words.{◌≡◌, ℕ, List, [], ◌∷◌, ◌++◌, length, Ok, Err, refl, ap, inl, inr, append_assoc, Error, varint_at, bool_at, Meaning, Entry, Shape, Look, items, two, LiesIn}
+use Rattle.pagable_laws.proofs.Words.{subst, read_with, below, Form, Forms, Entries, some-form, err-form, ok-form, list-form, run-form, array-form, both-form, sorted-map-form, placed-map-form}
+use Rattle.pagable_laws.proofs.Words.{hash-map-form, sorted-set-form, placed-set-form, tagged-form, case-form, reference-form, nested-form, json-array-form, json-object-form, no-forms, more-forms}
+use Rattle.pagable_laws.proofs.{Words.{no-entries, more-entries, IsReadable, Throughout, rest, LooksUp, no-references, more-references}, Basic.{length-again, text-again}, Wholes.unsigned-again}
+use Rattle.pagable_laws.proofs.{Within.{here, narrowed, part_of, of_json, of_text}, Again.{no_case-form, read_at, form-again}}
 
 -- What stands for references is looked up, one after another, up to one that is refused.
 pub data Stops {A B : Type 0} (look : Look A B) (kind_of : B → ℕ) (e : Error) : List A → List B → Type 0 where
@@ -32,45 +27,43 @@ module _ {A B : Type 0} {look : Look A B} {kind_of : B → ℕ} {e : Error} wher
   split-stop (b ∷ k) l (stops-later a r b2 k2 x h) = one-more a r b k l x (split-stop k l h)
 
   no-more : {r : List A} {k : List B} → Stops look kind_of e r k → k ≡ [] → ⊥
-  no-more (stops-here a r b k x) is = cc
-  no-more (stops-later a r b k x h) is = cc
+  no-more x0 is = grind (arith, nat_tests)
 
   none-stops : {X : Type 0} {r : List A} → Stops look kind_of e r [] → X
   none-stops h = absurd (no-more h refl)
 
   one-stop : {r : List A} {b : B} → Stops look kind_of e r (b ∷ []) → (a : A) × (more : List A) × (r ≡ a ∷ more) × (look (kind_of b) a ≡ Err e)
-  one-stop (stops-here a r b k x) = (a, r, refl, x)
-  one-stop (stops-later a r b k x h) = none-stops h
+  one-stop x0 = grind (arith, nat_tests, none-stops)
 
 module _ {A B : Type 0} {look : Look A B} {kind_of : B → ℕ} {parts : ℕ → Shape} {e : Error} where
   mutual
-    unfolding read_with below items IsReadable varint_at bool_at
+    unfolding read_with below items IsReadable LiesIn varint_at bool_at
 
     pub form-stops : (x : List ℕ) (r : List A) {left : ℕ} {s : Shape} {m : Meaning B} {b : List ℕ} {k : List B} → Form B kind_of parts left s m b k → Stops look kind_of e r k
         → Throughout IsReadable parts s
         → read_at look parts left s (rest (b ++ x) r) ≡ Err e
-    form-stops x r (some-form left s m b k h) u t = rw (form-stops x r h u (in_optional t)) refl
-    form-stops x r (err-form left s s2 m b k h) u t = rw (form-stops x r h u (in_err t)) refl
-    form-stops x r (ok-form left s s2 m b k h) u t = rw (form-stops x r h u (in_ok t)) refl
-    form-stops x r (list-form left s ms b k le h) u t = rw (append_assoc, length-again (length ms) (b ++ x) le, forms-stop x r h u (in_list t)) refl
+    form-stops x r (some-form left s m b k h) u t = rw (form-stops x r h u (narrowed t (λ p. p) (λ n d l. l))) refl
+    form-stops x r (err-form left s s2 m b k h) u t = rw (form-stops x r h u (narrowed t (λ p. p.1) (λ n d l. l.1))) refl
+    form-stops x r (ok-form left s s2 m b k h) u t = rw (form-stops x r h u (narrowed t (λ p. p.0) (λ n d l. l.0))) refl
+    form-stops x r (list-form left s ms b k le h) u t = rw (append_assoc, length-again (length ms) (b ++ x) le, forms-stop x r h u (narrowed t (λ p. p) (λ n d l. l))) refl
     form-stops x r (run-form left s ms b k le h) u t = absurd (here t)
-    form-stops x r (array-form left n s ms b k is h) u t = rw (← is, forms-stop x r h u (in_array t)) refl
+    form-stops x r (array-form left n s ms b k is h) u t = rw (← is, forms-stop x r h u (narrowed t (λ p. p) (λ n d l. l))) refl
     form-stops x r (both-form left s s2 m n b c k l h g) u t = elim (split-stop k l u) [
-      | in-front f ↦ rw (append_assoc, form-stops (c ++ x) r h f (in_first t)) refl
-      | behind front back whole looks f ↦ rw (whole, append_assoc, form-again (c ++ x) front back h looks (in_first t), form-stops x back g f (in_second t)) refl
+      | in-front f ↦ rw (append_assoc, form-stops (c ++ x) r h f (narrowed t (λ p. p.0) (λ n d l. l.0))) refl
+      | behind front back whole looks f ↦ rw (whole, append_assoc, form-again (c ++ x) front back h looks (narrowed t (λ p. p.0) (λ n d l. l.0)), form-stops x back g f (narrowed t (λ p. p.1) (λ n d l. l.1))) refl
     ]
     form-stops x r (sorted-map-form left order s s2 es b k le up h) u t =
-        rw (append_assoc, length-again (length es) (b ++ x) le, entries-stop x r h u (in_sorted_key t) (in_sorted_value t)) refl
+        rw (append_assoc, length-again (length es) (b ++ x) le, entries-stop x r h u (narrowed t (λ p. p.0) (λ n d l. l.0)) (narrowed t (λ p. p.1) (λ n d l. l.1))) refl
     form-stops x r (placed-map-form left s s2 es b k le up h) u t =
-        rw (append_assoc, length-again (length es) (b ++ x) le, entries-stop x r h u (in_placed_key t) (in_placed_value t)) refl
-    form-stops x r (hash-map-form left s s2 es b k le up h) u t = rw (append_assoc, length-again (length es) (b ++ x) le, entries-stop x r h u (in_hash_key t) (in_hash_value t)) refl
-    form-stops x r (sorted-set-form left order s ms b k le up h) u t = rw (append_assoc, length-again (length ms) (b ++ x) le, forms-stop x r h u (in_sorted_item t)) refl
-    form-stops x r (placed-set-form left s ms b k le up h) u t = rw (append_assoc, length-again (length ms) (b ++ x) le, forms-stop x r h u (in_placed_item t)) refl
+        rw (append_assoc, length-again (length es) (b ++ x) le, entries-stop x r h u (narrowed t (λ p. p.0) (λ n d l. l.0)) (narrowed t (λ p. p.1) (λ n d l. l.1))) refl
+    form-stops x r (hash-map-form left s s2 es b k le up h) u t = rw (append_assoc, length-again (length es) (b ++ x) le, entries-stop x r h u (narrowed t (λ p. p.0) (λ n d l. l.0)) (narrowed t (λ p. p.1) (λ n d l. l.1))) refl
+    form-stops x r (sorted-set-form left order s ms b k le up h) u t = rw (append_assoc, length-again (length ms) (b ++ x) le, forms-stop x r h u (narrowed t (λ p. p) (λ n d l. l))) refl
+    form-stops x r (placed-set-form left s ms b k le up h) u t = rw (append_assoc, length-again (length ms) (b ++ x) le, forms-stop x r h u (narrowed t (λ p. p) (λ n d l. l))) refl
     form-stops x r (tagged-form left written known body tag m b k utf8 le f) u t = elim ((here t).0 tag) [
       | inl h ↦ absurd (no_case-form f h)
-      | inr h ↦ rw (append_assoc, text-again tag (b ++ x) utf8 le, h.0, h.1, form-stops x r f u (in_written written known body tag t h)) refl
+      | inr h ↦ rw (append_assoc, text-again tag (b ++ x) utf8 le, h.0, h.1, form-stops x r f u (narrowed t (λ p. subst IsReadable h.1 (p.1 tag h.0)) (λ n d l. l.0 tag))) refl
     ]
-    form-stops x r (case-form left w known part n m b k lt is f) u t = rw (append_assoc, unsigned-again w n (b ++ x) lt, is, form-stops x r f u (in_case w known part n is t)) refl
+    form-stops x r (case-form left w known part n m b k lt is f) u t = rw (append_assoc, unsigned-again w n (b ++ x) lt, is, form-stops x r f u (narrowed t (λ p. p n is) (λ nodes d l. l n is))) refl
     form-stops x r (reference-form left kind a is) u t = let p = one-stop u in rw (p.2, ← is, p.3) refl
     form-stops x r (nested-form left less n m b k is h) u t = rw (is, form-stops x r h u (part_of t)) refl
     form-stops x r (json-array-form left less ms b k is le h) u t = rw (is, append_assoc, length-again (length ms) (b ++ x) le, forms-stop x r h u (of_json tt)) refl

@@ -1,8 +1,7 @@
 -- Sums over the elements of a list, and what they count.
-use Rattle.std.proofs.lemmas.Grind.{common_steps}
-use Rattle.std.proofs.Common.{rules}
-use Rattle.pagable_laws.proofs.Words.{◌≡◌, ℕ, suc, zero, ◌+◌, ◌<◌, ◌≤◌, ◌==◌, Bool, true, false, List, [], ◌∷◌, sum_by, cond, refl, ap, ◌∙◌, arith, filter, length, nat_tests, sum_by-cons, one}
-use Rattle.pagable_laws.proofs.Words.{Among, times, PinsAreAFilter}
+use Rattle.std.proofs.{Common.rules}
+use Rattle.pagable_laws.proofs.Words.{◌≡◌, ℕ, suc, zero, ◌+◌, ◌<◌, ◌≤◌, ◌==◌, Bool, true, false, List, [], ◌∷◌, sum_by, cond, refl, ap, ◌∙◌, arith, filter, length, nat_tests, sum_by-cons, one, Among}
+use Rattle.pagable_laws.proofs.Words.{times, PinsAreAFilter}
 
 -- a number is itself by the test too
 pub self-number : (a : ℕ) → (a == a) ≡ true
@@ -14,13 +13,11 @@ same-number a b e = grind (arith, nat_tests)
 
 -- what counts is true
 pub one-true : (b : Bool) → 0 < one b → b ≡ true
-one-true true p = refl
-one-true false p = absurd (omega arith)
+one-true x0 p = grind (arith, nat_tests)
 
 -- one element counts once at most
 pub one-small : (b : Bool) → one b ≤ 1
-one-small true = omega arith
-one-small false = omega arith
+one-small x0 = grind (arith, nat_tests)
 
 -- smaller at each element, so in sum
 pub sum-le : {X : Type 0} (f g : X → ℕ) (xs : List X) → ((x : X) → Among xs x → f x ≤ g x) → sum_by f xs ≤ sum_by g xs
@@ -61,8 +58,7 @@ counted f [] some = absurd (omega arith)
 counted f (x ∷ xs) some = pick f x xs (f x) refl (λ z. let c = sum_by-cons f x xs in counted f xs (omega arith))
 
 length-cond : {X : Type 0} (b : Bool) (x : X) (ys : List X) → one b + length ys ≡ length (cond b (x ∷ ys) ys)
-length-cond {X} true x ys = omega arith
-length-cond {X} false x ys = omega arith
+length-cond x0 x ys = grind (arith, nat_tests)
 
 -- how many pass is the length of what passes
 times-filter : {X : Type 0} (test : X → Bool) (xs : List X) → times test xs ≡ length (filter test xs)

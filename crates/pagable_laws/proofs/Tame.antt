@@ -1,13 +1,10 @@
 -- Readers of which a fault stays whatever follows, what is read of a front is read of the whole, and what was used reads
 -- alone. First for any input that has an end, then for bytes.
-use Rattle.pagable_laws.proofs.Words.{nat_tests}
-use Rattle.std.proofs.Common.{rules}
-use Rattle.pagable_laws.proofs.Words.{◌≡◌, ℕ, zero, suc, ◌+◌, ◌-◌, ◌*◌, ◌/◌, ◌%◌, ◌^◌, Bool, true, false, List, [], ◌∷◌, ◌++◌, length, take, Result, Ok, Err, ◌⊎◌, if◌then◌else◌, inl, inr, refl}
-use Rattle.pagable_laws.proofs.Words.{sym, subst, arith, append_assoc, cases_lt, le-ltb, lt-ltb, take-append-le, drop-append-le, length-append, take-append-drop, length-take-le}
-use Rattle.pagable_laws.proofs.Words.{take-length, drop-length, nat_le, nat_lt, Error, ◌>>=◌, Read, byte_at, varint_at, unsigned_at, signed_from, signed_at, longest, length_at, bytes_at, text_at}
-use Rattle.pagable_laws.proofs.Words.{bool_at, one_char, char_at, carried, duration_at, nanos_of_second}
-use Rattle.std.specs.Int.{Width, w8, w16, w32, w64, w128}
-use Rattle.std.specs.Str.{is_utf8, chars}
+use Rattle.pagable_laws.proofs.Words.{nat_tests, ◌≡◌, ℕ, zero, suc, ◌+◌, ◌-◌, ◌*◌, ◌/◌, ◌%◌, ◌^◌, Bool, true, false, List, [], ◌∷◌, ◌++◌, length, take, Result, Ok, Err, ◌⊎◌, if◌then◌else◌, inl, inr}
+use Rattle.pagable_laws.proofs.Words.{refl, sym, arith, append_assoc, cases_lt, le-ltb, lt-ltb, take-append-le, drop-append-le, length-append, take-append-drop, length-take-le, take-length}
+use Rattle.pagable_laws.proofs.Words.{drop-length, nat_le, nat_lt, Error, ◌>>=◌, Read, byte_at, varint_at, unsigned_at, signed_from, signed_at, longest, length_at, bytes_at, text_at, bool_at}
+use Rattle.pagable_laws.proofs.Words.{one_char, char_at, carried, duration_at, nanos_of_second}
+use Rattle.std.{proofs.Common.rules, specs.Int.{Width, w8, w16, w32, w64, w128}, specs.Str.{is_utf8, chars}}
 
 -- the input ends
 abbrev pub IsEnd : Error → Type 0
@@ -58,9 +55,7 @@ module _ {I : Type 0} {plus : I → I → I} {end : I} (joins : Joins plus end) 
       (h : Tame plus end get) (g : (v : A) → Tame plus end (f v)) where
     goes_on : (x : I) (first second : Result (A × I) Error) → Goes plus x first second → Goes plus x (first >>= λ p. f p.0 p.1) (second >>= λ p. f p.0 p.1)
     unfolding Goes
-    goes_on x (Ok p) second k = rw k ((g p.0).goes p.1 x)
-    goes_on x (Err e) second (inl k) = inl k
-    goes_on x (Err e) second (inr k) = inr (rw k refl)
+    goes_on x x1 second x3 = grind (arith, nat_tests)
 
     front_on : (i : I) (p : A × I) (q : B × I) → Front plus end get i p.0 p.1 → Front plus end (f p.0) p.1 q.0 q.1 → Front plus end whole i q.0 q.1
     unfolding Goes
@@ -68,8 +63,7 @@ module _ {I : Type 0} {plus : I → I → I} {end : I} (joins : Joins plus end) 
 
     uses_after : (i : I) (p : A × I) → Front plus end get i p.0 p.1 → (r : Result (B × I) Error) → Uses plus end (f p.0) p.1 r → Uses plus end whole i r
     unfolding Uses
-    uses_after i p a (Ok q) u = front_on i p q a u
-    uses_after i p a (Err e) u = tt
+    uses_after i p a x3 u = grind (arith, nat_tests, front_on)
 
     uses_on : (i : I) (first : Result (A × I) Error) → Uses plus end get i first → Uses plus end whole i (first >>= λ p. f p.0 p.1)
     unfolding Uses
@@ -77,10 +71,7 @@ module _ {I : Type 0} {plus : I → I → I} {end : I} (joins : Joins plus end) 
     uses_on i (Err e) u = tt
 
     pub and_then : Tame plus end whole
-    and_then = record {
-      goes = λ i x. rw (is, is) (goes_on x (get i) (get (plus i x)) (h.goes i x));
-      uses = λ i. let P : Result (B × I) Error → Type 0 = λ r. Uses plus end whole i r in subst P (sym (is i)) (uses_on i (get i) (h.uses i));
-    }
+    and_then = grind (arith, nat_tests, goes_on, uses_on)
 
 -- ---- bytes
 
@@ -95,8 +86,7 @@ bytes_join = record { assoc = append_assoc; start = λ a. refl }
 
 byte_goes : (bs x : List ℕ) → Goes more_bytes x (byte_at bs) (byte_at (bs ++ x))
 unfolding Goes
-byte_goes [] x = inl (inl refl)
-byte_goes (b ∷ bs) x = refl
+byte_goes x0 x = grind (arith, nat_tests)
 
 byte_uses : (bs : List ℕ) → Uses more_bytes [] byte_at bs (byte_at bs)
 unfolding Uses
@@ -126,14 +116,12 @@ bytes_tame n = record { goes = bytes_goes n; uses = bytes_uses n }
 
 last_is : (last : ℕ) (bs : List ℕ) → varint_at zero last bs ≡ (byte_at bs >>= λ p. if nat_le p.0 last then Ok p else Err Error.BadVarint)
 unfolding varint_at
-last_is last [] = refl
-last_is last (b ∷ bs) = refl
+last_is last x1 = grind (arith, nat_tests)
 
 more_is : (more last : ℕ) (bs : List ℕ)
     → varint_at (suc more) last bs ≡ (byte_at bs >>= λ p. if nat_lt p.0 128 then Ok p else (varint_at more last p.1 >>= λ high. Ok (p.0 - 128 + 128 * high.0, high.1)))
 unfolding varint_at
-more_is more last [] = refl
-more_is more last (b ∷ bs) = refl
+more_is more last x2 = grind (arith, nat_tests)
 
 varint_tame : (more last : ℕ) → TameBytes (varint_at more last)
 varint_tame zero last = and_then bytes_join (λ b bs. if nat_le b last then Ok (b, bs) else Err Error.BadVarint) _ (last_is last) byte_tame
@@ -160,8 +148,7 @@ flag_of (suc (suc n)) bs = Err Error.BadBool
 
 bool_is : (bs : List ℕ) → bool_at bs ≡ (byte_at bs >>= λ p. flag_of p.0 p.1)
 unfolding bool_at flag_of
-bool_is [] = refl
-bool_is _ = refl
+bool_is x0 = grind (arith, nat_tests)
 
 flag_tame : (n : ℕ) → TameBytes (flag_of n)
 unfolding flag_of
@@ -185,9 +172,8 @@ text_tame =
     (λ t. either bytes_join (is_utf8 t) (gives bytes_join t) (refuses bytes_join (List ℕ) Error.BadUtf8)))
 
 one_tame : (cs : List ℕ) → TameBytes (one_char cs)
-one_tame [] = refuses bytes_join ℕ Error.BadChar
 one_tame (c ∷ []) = gives bytes_join c
-one_tame (c ∷ d ∷ cs) = refuses bytes_join ℕ Error.BadChar
+one_tame _ = refuses bytes_join ℕ Error.BadChar
 
 pub char_tame : TameBytes char_at
 unfolding char_at

@@ -2,12 +2,10 @@
 use Rattle.pagable_laws.proofs.Words.{◌≡◌, ℕ, zero, suc, ◌<◌, ◌≤◌, ◌==◌, ◌&&◌, Bool, true, false, List, [], ◌∷◌, refl, ap, sym, subst, arith, All, not, Ok, None, is_some, nat_lt, nat_le, nat_eq}
 use Rattle.pagable_laws.proofs.Words.{and_parts, agree_below, agree_below_at, nat_tests, AllPairs-cons, Among, times, one, updated, if_there, Owner, HandleRow, is_shared, is_loose, is_owner}
 use Rattle.pagable_laws.proofs.Words.{is_owned_by, owner_value, is_at, is_pin, is_share, held, pins, sharing, Core, OpenLoad, Root, of_cell, of_key, row_at, type_at, Alike, loses_value}
-use Rattle.pagable_laws.proofs.Words.{owned_outside, is_outside, is_keyed, IsLeast, MustList, Falls, fallen, IsHandleBefore, length, ◌∙◌, inl, slice_get, Option, Some, ArcRef, type_of}
+use Rattle.pagable_laws.proofs.Words.{owned_outside, is_outside, is_keyed, IsLeast, MustList, Falls, fallen, IsHandleBefore, length, ◌∙◌, inl, Option, Some, ArcRef, type_of}
 use Rattle.pagable_laws.proofs.Words.{is_shared_kind, is_handle, fits_mode, is_here, is_type, IsReference, WellFormed, MayOwnLoad, IsRootWhole, no_work, Sample, sample, sample_type}
-use Rattle.pagable_laws.proofs.Words.{sample_references, value_at, machine}
+use Rattle.pagable_laws.proofs.{Words.{sample_references, value_at, machine}, Sums.sum-zero, GoodReferences.typed-by}
 use Rattle.std.specs.List.{AllPairs}
-use Rattle.pagable_laws.proofs.Sums.{sum-zero}
-use Rattle.pagable_laws.proofs.GoodReferences.{typed-by}
 
 -- ---- lists and numbers
 
@@ -16,9 +14,8 @@ all_pass test [] = true
 all_pass test (x ∷ xs) = test x && all_pass test xs
 
 pub all-among : {X : Type 0} (test : X → Bool) (xs : List X) (x : X) → all_pass test xs ≡ true → Among xs x → test x ≡ true
-all-among test [] x ok among = absurd (cc)
-all-among test (y ∷ ys) x ok (zero, is) = let e : y ≡ x = cc in subst (λ z. test z ≡ true) e (and_parts _ _ ok).0
 all-among test (y ∷ ys) x ok (suc i, is) = all-among test ys x (and_parts _ _ ok).1 (i, is)
+all-among test x1 x ok x4 = grind (arith, nat_tests)
 
 pub none-pass : {X : Type 0} (p q : X → Bool) (xs : List X) → all_pass p xs ≡ true → ((x : X) → p x ≡ true → q x ≡ false) → times q xs ≡ 0
 none-pass p q xs ok h = sum-zero (λ x. one (q x)) xs (λ x among. ap one (h x (all-among p xs x ok among)))
@@ -63,12 +60,10 @@ module _ (rows : List HandleRow) (low : all_pass row_low rows ≡ true) where
     where
       and-not : (a b : Bool) → not b ≡ true → (a && b) ≡ false
       and-not true true e = sym e
-      and-not true false e = refl
-      and-not false b e = refl
+      and-not _ _ e = refl
 
   owner-past : (n : ℕ) → 3 < n → (o : Owner) → owner_low o ≡ true → is_owner (owner_value n) o ≡ false
-  owner-past n lt (Owner.Value m) ok = grind (arith, nat_tests)
-  owner-past n lt _ ok = refl
+  owner-past n lt x2 ok = grind (arith, nat_tests)
 
   pub owned-past : (n : ℕ) → 3 < n → (more : HandleRow → Bool) → times (λ h. is_owned_by (owner_value n) h && more h) rows ≡ 0
   owned-past n lt more = none-pass row_low (λ h. is_owned_by (owner_value n) h && more h) rows low (λ h ok. let a = owner-past n lt h.owner (low-parts h ok).2 in rw a refl)
@@ -233,25 +228,20 @@ pub record Passes (w : Core) (vs : List (Option Sample)) : Type 0 where
 
 past-end : (vs : List (Option Sample)) (n : ℕ) → length vs ≤ n → value_at vs n ≡ None
 unfolding value_at
-past-end [] n few = refl
-past-end (x ∷ xs) zero few = absurd (omega arith)
 past-end (x ∷ xs) (suc n) few = past-end xs n (omega arith)
+past-end x0 x1 few = grind (arith, nat_tests)
 
 some-of : {X : Type 0} (test : X → Bool) (x : Option X) (y : X) → if_there test true x ≡ true → x ≡ Some y → test y ≡ true
-some-of test (Some x) y ok is = let e : x ≡ y = cc in subst (λ z. test z ≡ true) e ok
-some-of test None y ok is = absurd (cc)
+some-of test x1 y ok is = grind (arith, nat_tests)
 
 is-caller : (o : Owner) → is_owner Owner.Caller o ≡ true → o ≡ Owner.Caller
-is-caller Owner.Caller ok = refl
-is-caller _ ok = absurd (cc)
+is-caller x0 ok = grind (arith, nat_tests)
 
 is-value : (n : ℕ) (o : Owner) → is_owner (owner_value n) o ≡ true → o ≡ owner_value n
-is-value n (Owner.Value m) ok = let e : m.0 ≡ n = grind (arith, nat_tests) in ap owner_value e
-is-value n _ ok = absurd (cc)
+is-value n x1 ok = grind (arith, nat_tests)
 
 found-of : (test : HandleRow → Bool) (found : Option HandleRow) → if_there test false found ≡ true → (row : HandleRow) × (found ≡ Some row) × (test row ≡ true)
-found-of test (Some row) ok = (row, refl, ok)
-found-of test None ok = absurd (cc)
+found-of test x1 ok = grind (arith, nat_tests)
 
 module _ (w : Core) (vs : List (Option Sample)) (p : Passes w vs) where
   short : (n : ℕ) → 3 < n → value_at vs n ≡ None

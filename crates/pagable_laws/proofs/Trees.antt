@@ -1,10 +1,7 @@
 -- One key spells one tree, and one tree of canonical types has one key.
-use Rattle.pagable_laws.proofs.Words.{arith, nat_tests}
-use Rattle.std.proofs.lemmas.Grind.{common_steps}
-use Rattle.std.proofs.Common.{rules}
-use Rattle.pagable_laws.proofs.Words.{◌≡◌, ℕ, Option, Some, Result, Ok, refl, Error, Meaning, Rest, Blob, KeyRef, Types, tree, ReadsAs, IsFollowed}
-use Rattle.pagable_laws.proofs.Words.{number-followed, integer-followed, text-followed, pattern-followed, none-followed, pair-followed, variant-followed, reference-followed}
-use Rattle.pagable_laws.proofs.Words.{IsOneTree}
+use Rattle.pagable_laws.proofs.Words.{arith, nat_tests, ◌≡◌, ℕ, Option, Some, Result, Ok, refl, Error, Meaning, Rest, Blob, KeyRef, Types, tree, ReadsAs, IsFollowed, number-followed}
+use Rattle.pagable_laws.proofs.Words.{integer-followed, text-followed, pattern-followed, none-followed, pair-followed, variant-followed, reference-followed, IsOneTree}
+use Rattle.std.proofs.{Common.rules}
 
 pub same_some : {X : Type 0} (x y : X) → Some x ≡ Some y → x ≡ y
 same_some x y e = cc

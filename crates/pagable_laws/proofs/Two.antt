@@ -1,15 +1,11 @@
 -- What falls of a value of two levels; and a lone cell that is unpinned.
-use Rattle.pagable_laws.proofs.Words.{◌≡◌, ℕ, ◌+◌, ◌<◌, ◌≤◌, ◌==◌, ◌&&◌, Bool, true, false, List, [], ◌∷◌, length, refl, ap, inl, inr, subst, arith, not, Option, Ok, sum_by-cons, nat_tests, Blob}
-use Rattle.pagable_laws.proofs.Words.{one, Owner, Mode, HandleRow, pins, held, is_at, find_row, Last, is_keyed, owned_outside, loses_value, IsClosed, IsWithin, IsLeast, MustList, Falls, fallen}
-use Rattle.pagable_laws.proofs.Words.{nobody, row_of, with_mode, UnpinCall, two_rows, are_two, outer, first, first_node, lone, lone_listed, lone_unlisted, OwnsNothing, TwoLevelsFall}
-use Rattle.pagable_laws.proofs.Words.{LoneIsListed}
-use Rattle.pagable_laws.specs.SmallWorlds.{both}
-use Rattle.pagable_laws.proofs.Existing.{given-least}
-use Rattle.pagable_laws.proofs.Sums.{one-small}
+use Rattle.pagable_laws.proofs.Words.{◌≡◌, ℕ, ◌+◌, ◌<◌, ◌≤◌, ◌==◌, ◌&&◌, Bool, true, false, List, [], ◌∷◌, length, refl, ap, inl, inr, arith, not, Option, Ok, sum_by-cons, nat_tests, Blob}
+use Rattle.pagable_laws.proofs.Words.{one, Owner, Mode, HandleRow, pins, held, is_at, find_row, Last, owned_outside, loses_value, IsClosed, IsWithin, IsLeast, MustList, Falls, fallen}
+use Rattle.pagable_laws.proofs.Words.{nobody, row_of, with_mode, UnpinCall, two_rows, are_two, outer, first, first_node, lone, lone_listed, lone_unlisted, OwnsNothing, TwoLevelsFall, LoneIsListed}
+use Rattle.pagable_laws.{specs.SmallWorlds.both, proofs.Existing.given-least, proofs.Sums.one-small}
 
 pub and-false : (b : Bool) → one (b && false) ≡ 0
-and-false true = refl
-and-false false = refl
+and-false x0 = grind (arith, nat_tests)
 
 both-closed : IsClosed two_rows are_two [] both
 both-closed n goes = let a = and-false (1 == n) in omega arith
@@ -40,14 +36,7 @@ lone-nothing n = refl
 
 lone-must : (stored : ℕ → Option Blob) (n : ℕ) → 0 < held n (row_of 2 first_node Mode.LooseUnpinned Owner.List ∷ [])
     → MustList (lone stored) (with_mode (lone stored) first Mode.LooseUnpinned) (lone_listed stored) n
-lone-must stored n some =
-    record {
-      pinned = grind (arith, nat_tests);
-      unpinned = grind (arith, nat_tests);
-      unkeyed = let e : n ≡ 1 = grind (arith, nat_tests) in ap (λ q. is_keyed (with_mode (lone stored) first Mode.LooseUnpinned) q) e;
-      unshared = grind (arith, nat_tests);
-      stands_open = refl;
-    }
+lone-must stored n some = grind (arith, nat_tests, first)
 
 lone-each : (stored : ℕ → Option Blob) (n : ℕ) → MustList (lone stored) (with_mode (lone stored) first Mode.LooseUnpinned) (lone_listed stored) n
     → held n (row_of 2 first_node Mode.LooseUnpinned Owner.List ∷ []) ≡ 1
@@ -86,8 +75,7 @@ fell stored =
     }
   where
     same-cells : (n : ℕ) (b : Bool) → (1 == n) ≡ b → (lone_listed stored).cells n ≡ (fallen (with_mode (lone stored) first Mode.LooseUnpinned) nobody came).cells n
-    same-cells n true is = let e : 1 ≡ n = grind (arith, nat_tests) in
-        subst (λ q. (lone_listed stored).cells q ≡ (fallen (with_mode (lone stored) first Mode.LooseUnpinned) nobody came).cells q) e refl
+    same-cells n true is = grind (arith, nat_tests, first, nobody)
     same-cells n false is = let a : (n == 1) ≡ false = grind (arith, nat_tests) in rw (a, is) refl
 
 lone-unpinned : (stored : ℕ → Option Blob) → UnpinCall (lone stored) Owner.Caller first (Ok tt) (lone_listed stored)

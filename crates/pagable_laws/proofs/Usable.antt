@@ -1,9 +1,7 @@
 -- What the cache gives for a kind and a key it goes on to give, as long as the node is held as the kind asks: one part of an event after another.
-use Rattle.pagable_laws.proofs.Words.{◌≡◌, ℕ, ◌<◌, ◌≤◌, ◌==◌, ◌&&◌, Bool, true, false, List, ◌++◌, Option, Some, None, inl, inr, refl, ap, subst, ◌∙◌, if◌then◌else◌, arith, Result, not}
-use Rattle.pagable_laws.proofs.Words.{nat_lt, is_some, and_parts, nat_tests, OptionalDataKey, HandleRow, Error, Among, updated, if_there, one, is_pinned_kind, is_pinning, is_pin, is_at}
-use Rattle.pagable_laws.proofs.Words.{is_in_memory, pins, held, Core, Cell, Alike, usable, Falls, left_rows, fallen}
-use Rattle.pagable_laws.proofs.Sums.{same-number, self-number, at-most-sum, counted, one-true}
-use Rattle.pagable_laws.proofs.Decoding.{among-either}
+use Rattle.pagable_laws.proofs.Words.{◌≡◌, ℕ, ◌<◌, ◌≤◌, ◌==◌, ◌&&◌, Bool, true, List, ◌++◌, Option, Some, None, inl, inr, refl, ap, subst, ◌∙◌, if◌then◌else◌, arith, Result, not, nat_lt}
+use Rattle.pagable_laws.proofs.Words.{is_some, and_parts, nat_tests, OptionalDataKey, HandleRow, Error, Among, updated, if_there, one, is_pinned_kind, is_pinning, is_pin, is_at, is_in_memory, pins}
+use Rattle.pagable_laws.proofs.{Words.{held, Core, Cell, Alike, usable, Falls, left_rows, fallen}, Sums.{same-number, self-number, at-most-sum, counted, one-true}, Decoding.among-either}
 use Rattle.pagable_laws.proofs.Outlasting.{among-kept}
 
 module _ (kind key n : ℕ) where
@@ -41,15 +39,7 @@ module _ (kind key n : ℕ) where
       above-none 0 (pins n rows) (is_pin n h.row) (rw (e, p) refl) (at-most-sum (λ x. one (is_pin n x)) rows h.row h.live)
 
   pub can-use : (w : Core) → IsEntered w.cache w.cells → IsHeldFor w.rows → usable w kind key ≡ Some n
-  can-use w e h = at-node w e.entry ∙ cell (w.cells n) e.there
-    where
-      pick : (x : Cell) (b : Bool) → is_pinned_kind kind ≡ b → (if b && not (is_in_memory (pins n w.rows) x.key) then None else Some n) ≡ Some n
-      pick x true is = rw (pinned w.rows h is) refl
-      pick x false is = refl
-
-      cell : (c : Option Cell) → is_some c ≡ true → of_node w c ≡ Some n
-      cell None is = absurd (cc)
-      cell (Some x) is = pick x (is_pinned_kind kind) refl
+  can-use w e h = grind (arith, nat_tests, at-node, pins, pinned)
 
   pub entered-of : (w : Core) → usable w kind key ≡ Some n → IsEntered w.cache w.cells
   entered-of w is = grind (arith, nat_tests)

@@ -1,11 +1,7 @@
 -- Whole numbers are read again.
-use Rattle.pagable_laws.proofs.Words.{nat_tests}
-use Rattle.std.proofs.lemmas.Grind.{common_steps}
-use Rattle.std.proofs.Common.{rules}
-use Rattle.pagable_laws.proofs.Words.{◌≡◌, ℕ, zero, suc, ◌^◌, ◌<◌, refl, arith, Ok, List, ◌++◌, ℤ, pos, negsuc, le-ltb, lt-ltb, le-leb, varint}
-use Rattle.pagable_laws.proofs.Words.{varint_at, varint_limit, bound, unsigned_form, unsigned_at, signed_byte, from_signed_byte, unsigned_of, signed_from, IsSigned, signed_form, signed_at}
-use Rattle.pagable_laws.proofs.Words.{zigzag-again}
-use Rattle.std.specs.Int.{Width, w8, w16, w32, w64, w128}
+use Rattle.pagable_laws.proofs.Words.{nat_tests, ◌≡◌, ℕ, zero, suc, ◌^◌, ◌<◌, refl, arith, Ok, List, ◌++◌, ℤ, pos, negsuc, lt-ltb, le-leb, varint, varint_at, varint_limit, bound}
+use Rattle.pagable_laws.proofs.Words.{unsigned_form, unsigned_at, signed_byte, from_signed_byte, unsigned_of, signed_from, IsSigned, signed_form, signed_at, zigzag-again}
+use Rattle.std.{specs.Int.{Width, w8, w16, w32, w64, w128}}
 
 -- what is written is read again, whatever follows
 pub varint-again : (more last n : ℕ) (rest : List ℕ) → n < varint_limit more last → last < 128 → varint_at more last (varint more n ++ rest) ≡ Ok (n, rest)
@@ -30,35 +26,17 @@ unfolding varint_limit
 limit-128 = refl
 
 pub unsigned-again : (w : Width) (n : ℕ) (rest : List ℕ) → n < bound w → unsigned_at w (unsigned_form w n ++ rest) ≡ Ok (n, rest)
-unsigned-again w8 n rest h = refl
-unsigned-again w16 n rest h = varint-again 2 3 n rest (omega (arith, limit-16)) (omega arith)
-unsigned-again w32 n rest h = varint-again 4 15 n rest (omega (arith, limit-32)) (omega arith)
-unsigned-again w64 n rest h = varint-again 9 1 n rest (omega (arith, limit-64)) (omega arith)
-unsigned-again w128 n rest h = varint-again 18 3 n rest (omega (arith, limit-128)) (omega arith)
+unsigned-again x0 n rest h = grind (arith, nat_tests, varint-again, limit-16, limit-32, limit-64, limit-128)
 
 byte-again : (z : ℤ) → IsSigned w8 z → from_signed_byte (signed_byte z) ≡ z
-byte-again (pos n) h = rw (lt-ltb n 128 (omega arith)) refl
-byte-again (negsuc n) h = grind (arith, nat_tests)
+byte-again x0 h = grind (arith, nat_tests)
 
 -- a number with a sign is one without, and back
 pub signed-back : (w : Width) (z : ℤ) → IsSigned w z → signed_from w (unsigned_of w z) ≡ z
-signed-back w8 z h = byte-again z h
-signed-back w16 z h = zigzag-again z
-signed-back w32 z h = zigzag-again z
-signed-back w64 z h = zigzag-again z
-signed-back w128 z h = zigzag-again z
+signed-back x0 z h = grind (arith, nat_tests, byte-again)
 
 pub signed-bound : (w : Width) (z : ℤ) → IsSigned w z → unsigned_of w z < bound w
-signed-bound w8 (pos n) h = omega arith
-signed-bound w8 (negsuc n) h = omega arith
-signed-bound w16 (pos n) h = omega arith
-signed-bound w16 (negsuc n) h = omega arith
-signed-bound w32 (pos n) h = omega arith
-signed-bound w32 (negsuc n) h = omega arith
-signed-bound w64 (pos n) h = omega arith
-signed-bound w64 (negsuc n) h = omega arith
-signed-bound w128 (pos n) h = omega arith
-signed-bound w128 (negsuc n) h = omega arith
+signed-bound x0 x1 h = grind (arith, nat_tests)
 
 pub signed-again : (w : Width) (z : ℤ) (rest : List ℕ) → IsSigned w z → signed_at w (signed_form w z ++ rest) ≡ Ok (z, rest)
 signed-again w z rest h = rw (unsigned-again w (unsigned_of w z) rest (signed-bound w z h), signed-back w z h) refl

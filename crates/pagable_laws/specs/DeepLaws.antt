@@ -1,18 +1,9 @@
 -- The laws of paths that are too long and of values that have no form.
 use Rattle.std.specs.Prelude.{ℕ, ◌≡◌, ◌≢◌, ◌⊎◌, List, ◌∷◌, Some, Ok, Err}
-use Rattle.pagable_world.specs.Plain.{Error, ArcRef, HandleNumber, Identity, Tree, Among}
-use Rattle.pagable_world.specs.declared.events.Claim.{Claim}
-use Rattle.pagable_world.specs.declared.events.Event.{Event}
-use Rattle.pagable_world.specs.declared.events.EventReply.{EventReply}
-use Rattle.pagable_world.specs.declared.events.LoadAnswer.{LoadAnswer}
-use Rattle.pagable_world.specs.declared.events.Took.{Took}
-use Rattle.pagable_world.specs.declared.events.WorkerAnswer.{WorkerAnswer}
-use Rattle.pagable_world.specs.World.{Shelf, Slot, Reading, Todo, to_load, Walking, OpenLoad, Values, Seen, IsLawful}
-use Rattle.pagable_world.specs.Events.{reading_at}
-use Rattle.pagable_world.specs.Order.{ReadsTooDeep, MetError, steps_of}
-use Rattle.pagable_world.specs.Workers.{IsOpenSlot, ComesBack}
-use Rattle.pagable_world.specs.Pager.{MachineState, world_of, IsMachineWhole, IsIdle, StandsFor}
-use Rattle.pagable_world.specs.Runs.{ReadsItsTypes, HoldsSettled, Moment, AreMoments, state_after, events_of, replies_of, Fact, TreesAlong}
+use Rattle.pagable_world.specs.{Plain.{Error, ArcRef, HandleNumber, Identity, Tree, Among}, declared.events.Claim.Claim, declared.events.Event.Event, declared.events.EventReply.EventReply}
+use Rattle.pagable_world.specs.{declared.events.LoadAnswer.LoadAnswer, declared.events.Took.Took, declared.events.WorkerAnswer.WorkerAnswer, World.{Shelf, Slot, Reading, Todo, to_load, Walking}}
+use Rattle.pagable_world.specs.{World.{OpenLoad, Values, Seen, IsLawful}, Events.reading_at, Order.{ReadsTooDeep, MetError, steps_of}, Workers.{IsOpenSlot, ComesBack}, Pager.{MachineState, world_of}}
+use Rattle.pagable_world.specs.{Pager.{IsMachineWhole, IsIdle, StandsFor}, Runs.{ReadsItsTypes, HoldsSettled, Moment, AreMoments, state_after, events_of, replies_of, Fact, TreesAlong}}
 use Rattle.pagable_world.specs.OneWorker.{IsTooDeepTask, IsFormlessTask, KeyIsShallow, IsOfChance, IsLoadOfPagedOut}
 
 -- The fact holds of each event along every chain that begins at a whole machine for which nobody works yet.

@@ -1,10 +1,6 @@
 -- The laws of what falls when handles are given up.
 use Rattle.std.specs.Prelude.{ℕ, ◌≡◌, ◌==◌, ◌&&◌, Bool, List, [], filter, length, Ok, Option}
-use Rattle.pagable_world.specs.Plain.{Blob, Among, times}
-use Rattle.pagable_world.specs.declared.handles.Owner.{Owner}
-use Rattle.pagable_world.specs.declared.handles.HandleRow.{HandleRow}
-use Rattle.pagable_world.specs.Kinds.{is_pinning, is_owned_by, owner_value, pins}
-use Rattle.pagable_world.specs.Cascade.{IsLeast}
+use Rattle.pagable_world.specs.{Plain.{Blob, Among, times}, declared.handles.Owner.Owner, declared.handles.HandleRow.HandleRow, Kinds.{is_pinning, is_owned_by, owner_value, pins}, Cascade.IsLeast}
 use Rattle.pagable_world.specs.Calls.{UnpinCall}
 use Rattle.pagable_laws.specs.SmallWorlds.{two_rows, are_two, outer, both, first, lone, lone_listed, lone_unlisted}
 

@@ -1,13 +1,8 @@
 -- The laws of forms and of reading, for anything that stands for references.
 use Rattle.std.specs.Prelude.{◌≡◌, ℕ, ◌-◌, List, [], ◌∷◌, ◌++◌, map, Ok, Err}
 use Rattle.pagable_world.specs.Plain.{Error, Meaning, Blob}
-use Rattle.pagable_model.specs.Steps.{◌>>=◌}
-use Rattle.pagable_model.specs.Meaning.{rename}
-use Rattle.pagable_model.specs.Shape.{Shape}
-use Rattle.pagable_model.specs.Reading.{Rest, Look, Context, read, deepest}
-use Rattle.pagable_model.specs.Form.{Form}
-use Rattle.pagable_model.specs.Blob.{IsBlob, preimage}
-use Rattle.pagable_model.specs.Canonical.{IsCanonical, Throughout, HasOneForm}
+use Rattle.pagable_model.specs.{Steps.◌>>=◌, Meaning.rename, Shape.Shape, Reading.{Rest, Look, Context, read, deepest}, Form.Form, Blob.{IsBlob, preimage}, Canonical.{IsCanonical, Throughout}}
+use Rattle.pagable_model.specs.Canonical.{HasOneForm}
 
 -- what is left to be read: these bytes, and these references
 abbrev pub rest : {A : Type 0} → List ℕ → List A → Rest A

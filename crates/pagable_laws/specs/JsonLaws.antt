@@ -1,11 +1,6 @@
 -- The laws of JSON values.
-use Rattle.std.specs.Prelude.{ℕ, ℤ, List}
-use Rattle.pagable_model.specs.Numbers.{IsSigned}
-use Rattle.pagable_model.specs.Shape.{Shape, json}
-use Rattle.pagable_model.specs.Form.{Form}
-use Rattle.pagable_model.specs.Json.{whole, float, of_json}
-use Rattle.std.specs.Float.Ieee.{Float}
-use Rattle.std.specs.Int.{w64}
+use Rattle.std.specs.{Prelude.{ℕ, ℤ, List}, Float.Ieee.Float, Int.w64}
+use Rattle.pagable_model.specs.{Numbers.IsSigned, Shape.{Shape, json}, Form.Form, Json.{whole, float, of_json}}
 
 -- A float has no form, and a whole number has none outside 64 bits with a sign.
 abbrev pub FloatHasNoForm : Type 0 → Type 0

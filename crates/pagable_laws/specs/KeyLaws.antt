@@ -1,9 +1,7 @@
 -- The laws of the keys of maps and sets.
 use Rattle.std.specs.Prelude.{◌≡◌, List, map, true, ◌↔◌}
 use Rattle.pagable_world.specs.Plain.{Meaning}
-use Rattle.pagable_model.specs.Meaning.{plain, lifted}
-use Rattle.pagable_model.specs.Keys.{Entry, code, same_key, last_value}
-use Rattle.pagable_model.specs.Carried.{of_hash_map}
+use Rattle.pagable_model.specs.{Meaning.{plain, lifted}, Keys.{Entry, code, same_key, last_value}, Carried.of_hash_map}
 
 -- Meanings with one code are one meaning.
 abbrev pub IsOneMeaning : Type 0

@@ -1,14 +1,8 @@
 -- What workers hold of the references that they have claimed, and which cells have a key: an invariant of runs in which the storage isn't closed.
 use Rattle.std.specs.Prelude.{ℕ, ◌≡◌, ◌≤◌, Bool, true, false, List, [], ◌∷◌, Some}
-use Rattle.pagable_world.specs.Plain.{ArcRef, HandleNumber, Identity, Tree, is_loose_kind}
-use Rattle.pagable_world.specs.declared.handles.HandleRow.{HandleRow}
-use Rattle.pagable_world.specs.declared.events.Event.{Event}
-use Rattle.pagable_world.specs.declared.events.EventReply.{EventReply}
-use Rattle.pagable_world.specs.Kinds.{is_loose, has_key, owner_worker}
-use Rattle.pagable_world.specs.World.{Core, Cell, Todo, to_start, to_pin, to_load, to_write, to_finish, to_item, to_set, to_publish, to_release, to_fail, Walking, World, row_at, Values}
-use Rattle.pagable_world.specs.Workers.{IsPublished}
-use Rattle.pagable_world.specs.Pager.{MachineState}
-use Rattle.pagable_world.specs.Headline.{PublishIsKey, AnswerIsKey, AnswerLeavesAll}
+use Rattle.pagable_world.specs.{Plain.{ArcRef, HandleNumber, Identity, Tree, is_loose_kind}, declared.handles.HandleRow.HandleRow, declared.events.Event.Event, declared.events.EventReply.EventReply}
+use Rattle.pagable_world.specs.{Kinds.{is_loose, has_key, owner_worker}, World.{Core, Cell, Todo, to_start, to_pin, to_load, to_write, to_finish, to_item, to_set, to_publish, to_release, to_fail}}
+use Rattle.pagable_world.specs.{World.{Walking, World, row_at, Values}, Workers.IsPublished, Pager.MachineState, Headline.{PublishIsKey, AnswerIsKey, AnswerLeavesAll}}
 
 -- The handle stands for the reference, both of which were given: while it is live it is of the reference's node, and loose where the reference's kind is.
 pub record StandsAt (w : Core) (r : ArcRef) (h : HandleNumber) : Type 0 where

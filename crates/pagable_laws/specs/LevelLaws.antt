@@ -1,10 +1,6 @@
 -- That the headline is met with all that it asks: by the chain of two levels.
 use Rattle.std.specs.Prelude.{ℕ, ◌≡◌, List, [], ◌∷◌}
-use Rattle.pagable_world.specs.Plain.{Tree}
-use Rattle.pagable_world.specs.World.{IsLawful}
-use Rattle.pagable_world.specs.Pager.{MachineState, IsMachineWhole, IsIdle, StandsFor}
-use Rattle.pagable_world.specs.Runs.{AreMoments, ReadsItsTypes, HoldsSettled, IsPremised}
-use Rattle.pagable_world.specs.Headline.{Headline}
+use Rattle.pagable_world.specs.{Plain.Tree, World.IsLawful, Pager.{MachineState, IsMachineWhole, IsIdle, StandsFor}, Runs.{AreMoments, ReadsItsTypes, HoldsSettled, IsPremised}, Headline.Headline}
 use Rattle.pagable_laws.specs.TwoLevels.{Sample, sample, sample_types, sample_seen, Happening, new_one, moments}
 
 -- what is asked of each moment, whatever trees its nodes have

@@ -1,15 +1,8 @@
 -- The law of loads that are each done in one piece.
 use Rattle.std.specs.Prelude.{ℕ, ◌≡◌, ◌<◌, List, Some, Ok, slice_get}
-use Rattle.pagable_world.specs.declared.events.Event.{Event}
-use Rattle.pagable_world.specs.declared.events.EventReply.{EventReply}
-use Rattle.pagable_world.specs.Plain.{LoadNumber, Tree}
-use Rattle.pagable_world.specs.declared.answers.Beginning.{Beginning}
-use Rattle.pagable_world.specs.declared.calls.Call.{Call}
-use Rattle.pagable_world.specs.declared.calls.Reply.{Reply}
-use Rattle.pagable_world.specs.World.{Seen, IsLawful}
-use Rattle.pagable_world.specs.Pager.{MachineState, IsMachineWhole, IsIdle, StandsFor}
-use Rattle.pagable_world.specs.Runs.{ReadsItsTypes, HoldsSettled, Moment, AreMoments, TreesAlong}
-use Rattle.pagable_world.specs.OneWorker.{StandTogether, LoadIsSound}
+use Rattle.pagable_world.specs.{declared.events.Event.Event, declared.events.EventReply.EventReply, Plain.{LoadNumber, Tree}, declared.answers.Beginning.Beginning, declared.calls.Call.Call}
+use Rattle.pagable_world.specs.{declared.calls.Reply.Reply, World.{Seen, IsLawful}, Pager.{MachineState, IsMachineWhole, IsIdle, StandsFor}, Runs.{ReadsItsTypes, HoldsSettled, Moment, AreMoments}}
+use Rattle.pagable_world.specs.{Runs.TreesAlong, OneWorker.{StandTogether, LoadIsSound}}
 
 -- the load of this number begins
 abbrev pub IsBeginOf : {N B W : Type 0} → ℕ → Event N B W → EventReply N B W → Type 0

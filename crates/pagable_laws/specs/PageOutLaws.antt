@@ -1,19 +1,10 @@
 -- What tables and workers hold of a page-out, by trees: an invariant of runs, and what follows from it of published and answered keys.
 use Rattle.std.specs.Prelude.{ℕ, ℤ, ◌≡◌, ◌≤◌, ◌==◌, List, [], ◌∷◌, drop, length, Option, Some}
-use Rattle.pagable_model.specs.Meaning.{number, integer, text, pattern, none, pair, variant, reference, followed}
-use Rattle.pagable_model.specs.Reading.{deepest}
-use Rattle.pagable_model.specs.References.{references_in}
-use Rattle.pagable_model.specs.Form.{Form}
-use Rattle.pagable_model.specs.Writing.{kind_of_arc}
-use Rattle.pagable_model.specs.Merkle.{blob_of, KeyOf, StoredTree}
-use Rattle.pagable_world.specs.Plain.{ArcRef, Identity, Blob, Meaning, Tree, Types, type_of, Among, times}
-use Rattle.pagable_model.specs.Shape.{Shape}
-use Rattle.pagable_world.specs.Kinds.{identity_of}
-use Rattle.pagable_world.specs.World.{Shelf, Slot, published, Written, Todo, to_start, to_pin, to_load, to_write, to_finish, to_item, to_set, to_publish, to_release, to_fail, Task, of_item}
-use Rattle.pagable_world.specs.World.{of_entry, Walking, Values, digest}
-use Rattle.pagable_world.specs.Workers.{IsPublished}
-use Rattle.pagable_world.specs.Pager.{MachineState}
-use Rattle.pagable_world.specs.Headline.{AreKeysOf}
+use Rattle.pagable_model.specs.{Meaning.{number, integer, text, pattern, none, pair, variant, reference, followed}, Reading.deepest, References.references_in, Form.Form, Writing.kind_of_arc}
+use Rattle.pagable_model.specs.{Merkle.{blob_of, KeyOf, StoredTree}, Shape.Shape}
+use Rattle.pagable_world.specs.{Plain.{ArcRef, Identity, Blob, Meaning, Tree, Types, type_of, Among, times}, Kinds.identity_of, World.{Shelf, Slot, published, Written, Todo, to_start, to_pin}}
+use Rattle.pagable_world.specs.{World.{to_load, to_write, to_finish, to_item, to_set, to_publish, to_release, to_fail, Task, of_item, of_entry, Walking, Values, digest}, Workers.IsPublished}
+use Rattle.pagable_world.specs.{Pager.MachineState, Headline.AreKeysOf}
 
 -- what is stored, the last node, and the trees of nodes
 pub record Ground : Type 0 where

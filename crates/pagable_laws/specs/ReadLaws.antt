@@ -1,9 +1,7 @@
 -- What a value leads to by its own references, where each node has its tree; what comes of a value that was read; and what loads need.
 use Rattle.std.specs.Prelude.{ℕ, ◌≡◌, ◌≤◌, ◌⊎◌, List, Option, Some, ℤ}
 use Rattle.pagable_model.specs.Meaning.{number, integer, text, pattern, none, pair, variant, reference, followed}
-use Rattle.pagable_world.specs.Plain.{ArcRef, Kind, Blob, Meaning, Tree, Types, ReadsTree, type_of, Among}
-use Rattle.pagable_world.specs.World.{Frame, Values}
-use Rattle.pagable_world.specs.Loads.{need_of, needs_nested, needs_lazy}
+use Rattle.pagable_world.specs.{Plain.{ArcRef, Kind, Blob, Meaning, Tree, Types, ReadsTree, type_of, Among}, World.{Frame, Values}, Loads.{need_of, needs_nested, needs_lazy}}
 
 -- the meaning leads to this one, where each node has its tree: each reference is followed to its node's tree, which is of the kind's type
 pub data LeadsTo (trees : ℕ → Tree) : Meaning ArcRef → Meaning ⊥ → Type 0 where

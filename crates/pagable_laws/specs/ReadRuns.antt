@@ -1,10 +1,6 @@
 -- What loads got, and still have, names nodes as it should: an invariant of runs.
 use Rattle.std.specs.Prelude.{◌≡◌, ◌≤◌, true, List, Some}
-use Rattle.pagable_world.specs.Plain.{ArcRef, LoadNumber, Among}
-use Rattle.pagable_world.specs.declared.handles.Owner.{Owner}
-use Rattle.pagable_world.specs.declared.handles.HandleRow.{HandleRow}
-use Rattle.pagable_world.specs.Kinds.{fits_mode}
-use Rattle.pagable_world.specs.World.{Core, Frame, Reading, World, row_at}
+use Rattle.pagable_world.specs.{Plain.{ArcRef, LoadNumber, Among}, declared.handles.Owner.Owner, declared.handles.HandleRow.HandleRow, Kinds.fits_mode, World.{Core, Frame, Reading, World, row_at}}
 use Rattle.pagable_world.specs.Pager.{IsReadingOf}
 
 -- A handle that a load got was given; and while the load has it, it is of the reference's node, in a mode that fits the kind.

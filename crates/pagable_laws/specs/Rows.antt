@@ -1,24 +1,15 @@
 -- Worked examples: bytes and keys that were worked out elsewhere, and what the definitions make of them.
-use Rattle.std.specs.Prelude.{◌≡◌, ℕ, zero, suc, ◌-◌, ◌^◌, ◌==◌, if◌then◌else◌, List, [], ◌∷◌, false, Option, Some, None, Result, Ok, Err, pos, negsuc, codes}
-use Rattle.pagable_world.specs.Plain.{Error, Meaning, Types}
-use Rattle.pagable_model.specs.Numbers.{unsigned_form, signed_form}
-use Rattle.pagable_model.specs.Basic.{duration_form, char_form, text_form}
-use Rattle.pagable_model.specs.Meaning.{number, integer, text, none, pair, variant, followed, sequence, absent, present, success}
-use Rattle.pagable_model.specs.Keys.{number_order, integer_order}
-use Rattle.pagable_model.specs.Shape.{Shape, nothing, unsigned, signed, letter, duration, json, optional, outcome, list, run, array, sorted_map, placed_map, static_value, cases, nested}
-use Rattle.pagable_model.specs.Carried.{path_text, thin, atomic_i64, once_lock, triple, tagged_by, of_list, of_duration, of_tagged}
-use Rattle.pagable_model.specs.Reading.{Rest, read, deepest}
-use Rattle.pagable_model.specs.Form.{Form}
-use Rattle.pagable_model.specs.Blob.{preimage, key_of, weigh_hash}
-use Rattle.pagable_model.specs.Trees.{KeyRef, tree, key_ref, blob_context}
-use Rattle.pagable_model.specs.Merkle.{blob_of, KeyOf, kind_of_ref}
-use Rattle.pagable_model.specs.Canonical.{IsCanonical, IsReadable, Throughout, unwritten}
-use Rattle.std.specs.Int.{w8, w16, w32, w64, w128}
+use Rattle.std.specs.{Prelude.{◌≡◌, ℕ, zero, suc, ◌-◌, ◌^◌, ◌==◌, if◌then◌else◌, List, [], ◌∷◌, false, Option, Some, None, Result, Ok, Err, pos, negsuc, codes}, Int.{w8, w16, w32, w64, w128}}
 use Rattle.std.specs.Str.{bytes_eq}
-use Rattle.pagable_model.specs.Meaning as meanings
-use Rattle.pagable_model.specs.Shape.{reference}
-use Rattle.pagable_model.specs.Shape as shapes
+use Rattle.pagable_world.specs.Plain.{Error, Meaning, Types}
+use Rattle.pagable_model.specs.{Numbers.{unsigned_form, signed_form}, Basic.{duration_form, char_form, text_form}, Meaning.{number, integer, text, none, pair, variant, followed, sequence, absent}}
+use Rattle.pagable_model.specs.{Meaning.{present, success}, Keys.{number_order, integer_order}, Shape.{Shape, nothing, unsigned, signed, letter, duration, json, optional, outcome, list, run, array}}
+use Rattle.pagable_model.specs.{Shape.{sorted_map, placed_map, static_value, cases, nested, reference}, Carried.{path_text, thin, atomic_i64, once_lock, triple, tagged_by, of_list, of_duration}}
+use Rattle.pagable_model.specs.{Carried.of_tagged, Reading.{Rest, read, deepest}, Form.Form, Blob.{preimage, key_of, weigh_hash}, Trees.{KeyRef, tree, key_ref, blob_context}, Merkle.{blob_of, KeyOf}}
+use Rattle.pagable_model.specs.{Merkle.kind_of_ref, Canonical.{IsCanonical, IsReadable, Throughout, unwritten}}
 use Rattle.pagable_laws.specs.FormLaws.{rest, at}
+use Rattle.pagable_model.specs.Meaning as meanings
+use Rattle.pagable_model.specs.Shape as shapes
 
 -- an environment without numbered parts
 abbrev pub no_parts : ℕ → Shape

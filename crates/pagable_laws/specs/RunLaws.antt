@@ -1,10 +1,7 @@
 -- The laws of new pagers, of what blobs ask for, and of chains.
 use Rattle.std.specs.Prelude.{ℕ, ◌≡◌, ◌++◌, List, Option}
-use Rattle.pagable_world.specs.Plain.{Error, ArcRef, Kind, Blob, Meaning, Tree, Types}
-use Rattle.pagable_world.specs.World.{Frame, Places, Values, Seen}
-use Rattle.pagable_world.specs.Loads.{reads, asks, is_faulty, next_in}
-use Rattle.pagable_world.specs.Pager.{MachineState, IsNew, IsIdle, IsMachineWhole, StandsFor}
-use Rattle.pagable_world.specs.Runs.{Moment, AreMoments, state_after}
+use Rattle.pagable_world.specs.{Plain.{Error, ArcRef, Kind, Blob, Meaning, Tree, Types}, World.{Frame, Places, Values, Seen}, Loads.{reads, asks, is_faulty, next_in}, Pager.{MachineState, IsNew}}
+use Rattle.pagable_world.specs.{Pager.{IsIdle, IsMachineWhole, StandsFor}, Runs.{Moment, AreMoments, state_after}}
 use Rattle.pagable_laws.specs.SmallWorlds.{new_machine}
 
 -- A chain goes on with another.

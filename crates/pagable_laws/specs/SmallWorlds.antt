@@ -1,13 +1,7 @@
 -- Small worlds over any storage, to see that the definitions are met, and what they refuse.
 use Rattle.std.specs.Prelude.{ℕ, ◌==◌, ◌||◌, Bool, false, List, [], ◌∷◌, Option, Some, None}
-use Rattle.pagable_world.specs.Plain.{HandleNumber, NodeNumber, Blob, updated, OptionalDataKey}
-use Rattle.pagable_world.specs.declared.rows.Mode.{Mode}
-use Rattle.pagable_world.specs.declared.handles.Owner.{Owner}
-use Rattle.pagable_world.specs.declared.handles.HandleRow.{HandleRow}
-use Rattle.pagable_world.specs.World.{Core, Places, Work}
-use Rattle.pagable_world.specs.Calls.{row_of}
-use Rattle.pagable_world.specs.Events.{no_shelf}
-use Rattle.pagable_world.specs.Pager.{PagerState, MachineState}
+use Rattle.pagable_world.specs.{Plain.{HandleNumber, NodeNumber, Blob, updated, OptionalDataKey}, declared.rows.Mode.Mode, declared.handles.Owner.Owner, declared.handles.HandleRow.HandleRow}
+use Rattle.pagable_world.specs.{World.{Core, Places, Work}, Calls.row_of, Events.no_shelf, Pager.{PagerState, MachineState}}
 
 -- nothing but what a storage holds, with these places
 abbrev pub empty : (ℕ → Option Blob) → Places → Core

@@ -1,9 +1,8 @@
 -- The laws of trees, of their keys and of the store.
 use Rattle.std.specs.Prelude.{◌≡◌, ℕ, ◌≤◌, List, Bool, true, Option, ◌↔◌}
 use Rattle.pagable_world.specs.Plain.{Meaning, Blob, Tree, Types, ReadsTree}
-use Rattle.pagable_model.specs.Deep.{Kid, height, HasPath}
-use Rattle.pagable_model.specs.Merkle.{KeyOf, KeyOfItem, IsCanonicalItem, StoredTree, HasOwnKeys, SharesNoKey}
-use Rattle.pagable_model.specs.Canonical.{EachType, IsCanonicalType, IsCanonicalTree, IsReadableTree, IsClosed}
+use Rattle.pagable_model.specs.{Deep.{Kid, height, HasPath}, Merkle.{KeyOf, KeyOfItem, IsCanonicalItem, StoredTree, HasOwnKeys, SharesNoKey}, Canonical.{EachType, IsCanonicalType, IsCanonicalTree}}
+use Rattle.pagable_model.specs.Canonical.{IsReadableTree, IsClosed}
 
 -- The store spells at most one tree of a type under a key.
 abbrev pub IsOneTree : Type 0

@@ -1,10 +1,7 @@
 -- What a change brings to trees, and trees after an event.
 use Rattle.std.specs.Prelude.{◌≤◌, ℕ, ◌≡◌, ◌+◌, Some, None}
-use Rattle.pagable_world.specs.Plain.{Tree, ReadsTree, OptionalDataKey, type_of}
-use Rattle.pagable_world.specs.World.{Values, Reading}
-use Rattle.pagable_world.specs.Pager.{MachineState, StandsFor, IsReadingOf, PagerState, SameTrees, ReadsNodeTree}
-use Rattle.pagable_laws.specs.ReadLaws.{ValueLeads, FramesGiven}
-use Rattle.pagable_laws.specs.TreeSteps.{Change, Sets, Knows, Bears}
+use Rattle.pagable_world.specs.{Plain.{Tree, ReadsTree, OptionalDataKey, type_of}, World.{Values, Reading}, Pager.{MachineState, StandsFor, IsReadingOf, PagerState, SameTrees, ReadsNodeTree}}
+use Rattle.pagable_laws.specs.{ReadLaws.{ValueLeads, FramesGiven}, TreeSteps.{Change, Sets, Knows, Bears}}
 
 -- What a change brings fits the trees afterwards: the key that is set, the key of a new node, what becomes known, and each value that comes.
 pub record ChangeFits {N E : Type 0} (v : Values N) (c : Change) (comes : ℕ → N → Type 0) (s s' : PagerState N E) (trees trees' : ℕ → Tree) : Type 0 where

@@ -1,23 +1,12 @@
 -- What trees feel of a step: which node gets a key, becomes known or is born, which values come, and how blobs that loads read grow.
 use Rattle.std.specs.Prelude.{ℕ, ◌≡◌, ◌<◌, ◌≤◌, ◌+◌, ◌⊎◌, true, false, List, [], ◌∷◌, Option, Some, None, is_some, Ok}
 use Rattle.pagable_world.specs.Plain.{OptionalDataKey, ArcRef, Kind, HandleNumber, LoadNumber, NodeNumber, WorkerNumber, Identity, Blob, Tree, ReadsTree, type_of, Among}
-use Rattle.pagable_world.specs.declared.answers.Pinning.{Pinning}
-use Rattle.pagable_world.specs.declared.events.PinStep.{PinStep}
-use Rattle.pagable_world.specs.declared.events.Took.{Took}
-use Rattle.pagable_world.specs.declared.handles.Owner.{Owner}
-use Rattle.pagable_world.specs.declared.handles.HandleRow.{HandleRow}
-use Rattle.pagable_world.specs.declared.calls.Call.{Call}
-use Rattle.pagable_world.specs.declared.calls.Reply.{Reply}
-use Rattle.pagable_world.specs.declared.events.LoadAnswer.{LoadAnswer}
-use Rattle.pagable_world.specs.declared.events.Event.{Event}
-use Rattle.pagable_world.specs.declared.events.EventReply.{EventReply}
-use Rattle.pagable_world.specs.Kinds.{is_pinning, is_loose, any_mode, fits_mode, owner_worker}
-use Rattle.pagable_world.specs.World.{Core, OpenLoad, of_cell, Frame, Reading, Todo, to_load, to_set, Walking, World, row_at, type_at, key_at, is_here, Values}
-use Rattle.pagable_world.specs.Refusals.{Owns, IsReference}
-use Rattle.pagable_world.specs.LoadCalls.{first_key}
-use Rattle.pagable_world.specs.Loads.{ReadsNode, ReadsRoot, need_of, needs_nested, needs_lazy, root_frame, nested_frame, with_got, gone_on}
-use Rattle.pagable_world.specs.Events.{reading_at}
-use Rattle.pagable_world.specs.Pager.{PagerState, MachineState, world_of, KeyFits, IsNewNode, CallBrings, EventBrings, IsReadingOf}
+use Rattle.pagable_world.specs.{declared.answers.Pinning.Pinning, declared.events.PinStep.PinStep, declared.events.Took.Took, declared.handles.Owner.Owner, declared.handles.HandleRow.HandleRow}
+use Rattle.pagable_world.specs.{declared.calls.Call.Call, declared.calls.Reply.Reply, declared.events.LoadAnswer.LoadAnswer, declared.events.Event.Event, declared.events.EventReply.EventReply}
+use Rattle.pagable_world.specs.{Kinds.{is_pinning, is_loose, any_mode, fits_mode, owner_worker}, World.{Core, OpenLoad, of_cell, Frame, Reading, Todo, to_load, to_set, Walking, World, row_at}}
+use Rattle.pagable_world.specs.{World.{type_at, key_at, is_here, Values}, Refusals.{Owns, IsReference}, LoadCalls.first_key, Loads.{ReadsNode, ReadsRoot, need_of, needs_nested, needs_lazy}}
+use Rattle.pagable_world.specs.{Loads.{root_frame, nested_frame, with_got, gone_on}, Events.reading_at, Pager.{PagerState, MachineState, world_of, KeyFits, IsNewNode, CallBrings, EventBrings}}
+use Rattle.pagable_world.specs.Pager.{IsReadingOf}
 use Rattle.pagable_laws.specs.ReadLaws.{ValueLeads}
 
 -- a node leads to its tree: its key reads as that, and its value leads there

@@ -3,32 +3,16 @@
 -- parent's key is read.
 use Rattle.std.specs.Prelude.{ℕ, zero, suc, ◌≡◌, ◌+◌, ◌==◌, ◌&&◌, not, if◌then◌else◌, Bool, [], ◌∷◌, List, ◌++◌, length, Option, Some, None, Ok}
 use Rattle.pagable_model.specs.Meaning.{none, reference}
-use Rattle.pagable_world.specs.Plain.{ArcRef, HandleNumber, LoadNumber, NodeNumber, Identity, Blob, Meaning, Types, is_in, updated, OptionalDataKey}
-use Rattle.pagable_world.specs.declared.rows.Mode.{Mode}
-use Rattle.pagable_world.specs.declared.answers.Beginning.{Beginning}
-use Rattle.pagable_world.specs.declared.calls.Call.{Call}
-use Rattle.pagable_world.specs.declared.calls.Reply.{Reply}
-use Rattle.pagable_world.specs.declared.events.Claim.{Claim}
-use Rattle.pagable_world.specs.declared.events.PinStep.{PinStep}
-use Rattle.pagable_world.specs.declared.handles.Owner.{Owner}
-use Rattle.pagable_world.specs.declared.events.Took.{Took}
-use Rattle.pagable_world.specs.declared.events.WorkerAnswer.{WorkerAnswer}
-use Rattle.pagable_world.specs.declared.events.LoadAnswer.{LoadAnswer}
-use Rattle.pagable_world.specs.declared.events.Event.{Event}
-use Rattle.pagable_world.specs.declared.events.EventReply.{EventReply}
-use Rattle.pagable_world.specs.Kinds.{pins, identity_of}
-use Rattle.pagable_world.specs.World.{Core, Written, Values, Seen, Shelf, no_result, published, Todo, to_start, to_pin, to_write, to_finish, to_item, to_set, to_publish, to_release}
-use Rattle.pagable_world.specs.World.{of_item, of_cell, of_key, Walking, Work, Reading}
-use Rattle.pagable_world.specs.Cascade.{fallen, nobody}
-use Rattle.pagable_world.specs.Calls.{with_handle, with_mode, with_key, with_node, next_node, moved, is_named_by}
-use Rattle.pagable_world.specs.LoadCalls.{with_load, without_load, with_pin, is_owned_in, adopted}
-use Rattle.pagable_world.specs.Loads.{root_frame, gone_on}
-use Rattle.pagable_world.specs.Workers.{with_slot, with_wait, with_changed_slot, with_outcome, without_worker, is_workers, is_workers_at, fresh}
-use Rattle.pagable_world.specs.Events.{no_shelf, with_worker}
-use Rattle.pagable_world.specs.Pager.{MachineState}
+use Rattle.pagable_world.specs.{Plain.{ArcRef, HandleNumber, LoadNumber, NodeNumber, Identity, Blob, Meaning, Types, is_in, updated, OptionalDataKey}, declared.rows.Mode.Mode}
+use Rattle.pagable_world.specs.{declared.answers.Beginning.Beginning, declared.calls.Call.Call, declared.calls.Reply.Reply, declared.events.Claim.Claim, declared.events.PinStep.PinStep}
+use Rattle.pagable_world.specs.{declared.handles.Owner.Owner, declared.events.Took.Took, declared.events.WorkerAnswer.WorkerAnswer, declared.events.LoadAnswer.LoadAnswer, declared.events.Event.Event}
+use Rattle.pagable_world.specs.{declared.events.EventReply.EventReply, Kinds.{pins, identity_of}, World.{Core, Written, Values, Seen, Shelf, no_result, published, Todo, to_start, to_pin, to_write}}
+use Rattle.pagable_world.specs.{World.{to_finish, to_item, to_set, to_publish, to_release, of_item, of_cell, of_key, Walking, Work, Reading}, Cascade.{fallen, nobody}, Calls.{with_handle, with_mode}}
+use Rattle.pagable_world.specs.{Calls.{with_key, with_node, next_node, moved, is_named_by}, LoadCalls.{with_load, without_load, with_pin, is_owned_in, adopted}, Loads.{root_frame, gone_on}}
+use Rattle.pagable_world.specs.{Workers.{with_slot, with_wait, with_changed_slot, with_outcome, without_worker, is_workers, is_workers_at, fresh}, Events.{no_shelf, with_worker}, Pager.MachineState}
 use Rattle.pagable_world.specs.Runs.{Moment}
-use Rattle.pagable_model.specs.Shape as shapes
 use Rattle.pagable_laws.specs.SmallWorlds.{empty, no_work}
+use Rattle.pagable_model.specs.Shape as shapes
 
 -- ---- values
 

@@ -1,11 +1,8 @@
 -- Flags, lengths, texts, characters and durations as bytes: postcard's bool, seq, string and char, and serde's Duration.
-use Rattle.std.specs.Prelude.{ℕ, zero, suc, ◌+◌, ◌/◌, ◌%◌, ◌^◌, List, [], ◌∷◌, ◌++◌, length, take, drop, Bool, true, false, Ok, Err, nat_lt, nat_le, if◌then◌else◌}
-use Rattle.std.specs.Int.{w32, w64}
-use Rattle.std.specs.Char.{encode_utf8}
+use Rattle.std.specs.{Prelude.{ℕ, zero, suc, ◌+◌, ◌/◌, ◌%◌, ◌^◌, List, [], ◌∷◌, ◌++◌, length, take, drop, Bool, true, false, Ok, Err, nat_lt, nat_le, if◌then◌else◌}, Int.{w32, w64}, Char.encode_utf8}
 use Rattle.std.specs.Str.{is_utf8, chars}
+use Rattle.pagable_model.specs.{Steps.◌>>=◌, Numbers.{Read, unsigned_form, unsigned_at}}
 use Rattle.pagable_model.specs.declared.error.Error.TheVariants as errors
-use Rattle.pagable_model.specs.Steps.{◌>>=◌}
-use Rattle.pagable_model.specs.Numbers.{Read, unsigned_form, unsigned_at}
 
 -- postcard, bool
 abbrev pub bool_form : Bool → List ℕ

@@ -1,8 +1,6 @@
 -- Byte arrays: a length, and so many bytes.
 use Rattle.std.specs.Prelude.{ℕ, List, ◌++◌, length}
-use Rattle.pagable_model.specs.Steps.{◌>>=◌}
-use Rattle.pagable_model.specs.Numbers.{Read}
-use Rattle.pagable_model.specs.Basic.{length_form, length_at, bytes_at}
+use Rattle.pagable_model.specs.{Steps.◌>>=◌, Numbers.Read, Basic.{length_form, length_at, bytes_at}}
 
 -- postcard, byte array: the length in bytes, and the bytes
 abbrev pub byte_array_form : List ℕ → List ℕ

@@ -1,12 +1,9 @@
 -- Shapes of which no meaning has two forms, shapes that are read, and of which shapes a value is made.
-use Rattle.std.specs.Prelude.{◌≡◌, ℕ, zero, suc, List, true, false, Some, ◌⊎◌}
-use Rattle.std.specs.Int.{w8}
-use Rattle.std.specs.List.{AllByRecursion}
-use Rattle.pagable_model.specs.Meaning.{Meaning, number, integer, none, pair, variant, followed}
-use Rattle.pagable_model.specs.Meaning as meanings
-use Rattle.pagable_model.specs.Shape.{Shape, nothing, unsigned, signed, flag, text, letter, duration, pattern, json, optional, outcome, list, run, array, both, sorted_map, placed_map, hash_map, sorted_set, placed_set, static_value, tagged, cases, reference, nested}
-use Rattle.pagable_model.specs.Form.{Form}
+use Rattle.std.specs.{Prelude.{◌≡◌, ℕ, zero, suc, List, true, false, Some, ◌⊎◌}, Int.w8, List.AllByRecursion}
+use Rattle.pagable_model.specs.{Meaning.{Meaning, number, integer, none, pair, variant, followed}, Shape.{Shape, nothing, unsigned, signed, flag, text, letter, duration, pattern, json, optional}}
+use Rattle.pagable_model.specs.{Shape.{outcome, list, run, array, both, sorted_map, placed_map, hash_map, sorted_set, placed_set, static_value, tagged, cases, reference, nested}, Form.Form}
 use Rattle.pagable_model.specs.Trees.{Tree, Types, type_of}
+use Rattle.pagable_model.specs.Meaning as meanings
 
 -- a shape of which no meaning has two forms, if this is so of its numbered parts
 unfoldable pub IsCanonical : Shape → Type 0

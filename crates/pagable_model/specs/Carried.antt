@@ -1,11 +1,8 @@
 -- The carried types by their names: how each is spelled, and what its values mean.
-use Rattle.std.specs.Prelude.{ℕ, List, [], ◌∷◌, Bool, false, cond, Option, Some, None, Result, Ok, Err, map}
-use Rattle.std.specs.Int.{w64}
-use Rattle.std.specs.Str.{bytes_eq}
-use Rattle.pagable_model.specs.Meaning.{Meaning, number, pair, sequence, absent, present, success, failure}
-use Rattle.pagable_model.specs.Keys.{Entry, code_order, put_all, put_sorted}
+use Rattle.std.specs.{Prelude.{ℕ, List, [], ◌∷◌, Bool, false, cond, Option, Some, None, Result, Ok, Err, map}, Int.w64, Str.bytes_eq}
+use Rattle.pagable_model.specs.{Meaning.{Meaning, number, pair, sequence, absent, present, success, failure}, Keys.{Entry, code_order, put_all, put_sorted}, Shape.{Shape, nothing, unsigned, signed}}
+use Rattle.pagable_model.specs.Shape.{text, optional, list, both, tagged}
 use Rattle.pagable_model.specs.Meaning as meanings
-use Rattle.pagable_model.specs.Shape.{Shape, nothing, unsigned, signed, text, optional, list, both, tagged}
 
 -- `()` and `PhantomData` are nothing; `&T` and `Box<T>` are spelled as T, and `Arc<[T]>` refers to a list
 abbrev pub usize : Shape

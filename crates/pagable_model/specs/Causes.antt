@@ -1,9 +1,6 @@
 -- Causes that a reader has of its own are no faults of the input, and those of a writer are refusals that a writer may answer.
-use Rattle.std.specs.Prelude.{◌≡◌, true, refl}
-use Rattle.std.proofs.Common.{subst, sym, inl, inr}
-use Rattle.pagable_model.specs.declared.error.Error.{Error}
-use Rattle.pagable_model.specs.Refusals.{is_own_reading, may_refuse_writing}
-use Rattle.pagable_model.specs.Gives.{never, memory, memory_or, either, long_or, deep_or, number_or, json_causes}
+use Rattle.std.{specs.Prelude.{◌≡◌, true, refl}, proofs.Common.{subst, sym, inl, inr}}
+use Rattle.pagable_model.specs.{declared.error.Error.Error, Refusals.{is_own_reading, may_refuse_writing}, Gives.{never, memory, memory_or, either, long_or, deep_or, number_or, json_causes}}
 
 pub never_is_own_reading : (e : Error) → never e → is_own_reading e ≡ true
 never_is_own_reading e h = absurd h

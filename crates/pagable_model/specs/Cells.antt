@@ -1,12 +1,6 @@
 -- What cells mean: their content may change while they are looked at, so no clause knows it, and a cell means whatever it may hold.
-use Rattle.std.specs.Prelude.{◌≡◌, refl, ℤ, pos, Option, None}
-use Rattle.std.proofs.Common.{arith}
-use Rattle.std.specs.Int.{w64}
-use Rattle.pagable_model.specs.declared.numbers.ArcRef.{ArcRef}
-use Rattle.pagable_model.specs.Numbers.{IsSigned}
-use Rattle.pagable_model.specs.Meaning.{Meaning, integer, absent}
-use Rattle.pagable_model.specs.Standing.{SomeMeaning}
-use Rattle.pagable_model.specs.Lifted.{MeansOption, means-none}
+use Rattle.std.{specs.Prelude.{◌≡◌, refl, ℤ, pos, Option, None}, proofs.Common.arith, specs.Int.w64}
+use Rattle.pagable_model.specs.{declared.numbers.ArcRef.ArcRef, Numbers.IsSigned, Meaning.{Meaning, integer, absent}, Standing.SomeMeaning, Lifted.{MeansOption, means-none}}
 
 -- an atomic number may hold any whole number of 64 bits with a sign
 pub record MeansAtomic (m : Meaning ArcRef) : Type 0 where

@@ -1,8 +1,6 @@
 -- Meanings are told apart by their codes: no two have one, and none begins another's.
 use Rattle.std.proofs.Common.{◌≡◌, ℕ, ◌+◌, ◌*◌, ◌/◌, ◌%◌, ℤ, pos, negsuc, List, [], ◌∷◌, ◌++◌, length, refl, sym, ap, ◌∙◌, append_assoc, arith}
-use Rattle.pagable_model.specs.Numbers.{zigzag, from_zigzag}
-use Rattle.pagable_model.specs.Meaning.{Meaning, number, integer, text, pattern, none, pair, variant, reference, followed}
-use Rattle.pagable_model.specs.Keys.{code}
+use Rattle.pagable_model.specs.{Numbers.{zigzag, from_zigzag}, Meaning.{Meaning, number, integer, text, pattern, none, pair, variant, reference, followed}, Keys.code}
 
 -- a number with a sign is read again
 pub zigzag-again : (z : ℤ) → from_zigzag (zigzag z) ≡ z

@@ -1,8 +1,6 @@
 -- What holds the items that were put in one after another.
 use Rattle.std.specs.Prelude.{◌≡◌, List, [], ◌∷◌}
-use Rattle.pagable_model.specs.declared.numbers.ArcRef.{ArcRef}
-use Rattle.pagable_model.specs.Meaning.{Meaning}
-use Rattle.pagable_model.specs.Lifted.{MeanAll}
+use Rattle.pagable_model.specs.{declared.numbers.ArcRef.ArcRef, Meaning.Meaning, Lifted.MeanAll}
 
 -- Items were put in one after another: acc was there first, and now is left. What one more leaves may be open, as the
 -- place of an entry in a hash map is.

@@ -1,8 +1,7 @@
 -- Kinds of references, what is known of one that is followed, and how deep references lead. Of a value type t the kind 3t is that of a
 -- shared node, 3t + 1 that of a cell through a loose handle, and 3t + 2 that of a cell through a pin.
 use Rattle.std.specs.Prelude.{ℕ, zero, suc, ◌%◌, ◌+◌, ◌==◌, Bool, not, true, ◌≡◌, ◌⊎◌, max, if◌then◌else◌}
-use Rattle.pagable_model.specs.Meaning.{Meaning, pair, variant, followed}
-use Rattle.pagable_model.specs.Trees.{Tree, tree, type_of}
+use Rattle.pagable_model.specs.{Meaning.{Meaning, pair, variant, followed}, Trees.{Tree, tree, type_of}}
 
 -- whether the kind is one of these
 abbrev pub is_shared_kind : ℕ → Bool

@@ -1,16 +1,11 @@
 -- Which bytes, and which references in their order, are a form of a meaning.
-use Rattle.std.specs.Prelude.{◌≡◌, ℕ, suc, ◌<◌, ◌≤◌, ◌^◌, List, [], ◌∷◌, ◌++◌, length, Bool, true, Ok, ℤ}
-use Rattle.std.specs.Int.{Width, w32, w64}
-use Rattle.std.specs.Char.{IsScalar}
-use Rattle.std.specs.Str.{IsUtf8}
-use Rattle.pagable_model.specs.Numbers.{bound, IsSigned, unsigned_form, signed_form}
-use Rattle.pagable_model.specs.Basic.{longest, bool_form, length_form, text_form, char_form, duration_form, nanos_of_second}
-use Rattle.pagable_model.specs.Meaning.{Meaning, number, integer, none, pair, variant, sequence, absent, present, success, failure, lifted}
-use Rattle.pagable_model.specs.Meaning as meanings
-use Rattle.pagable_model.specs.Keys.{Entry, KeyOrder, text_order, Ascends, ItemsAscend, Differ, ItemsDiffer}
-use Rattle.pagable_model.specs.Carried.{of_entries, of_duration, of_tagged, of_hash_map}
-use Rattle.pagable_model.specs.Shape.{Shape, nothing, unsigned, signed, flag, text, letter, duration, pattern, json, optional, outcome, list, run, array, both, sorted_map, placed_map, hash_map, sorted_set, placed_set, static_value, tagged, cases, reference, nested}
+use Rattle.std.specs.{Prelude.{◌≡◌, ℕ, suc, ◌<◌, ◌≤◌, ◌^◌, List, [], ◌∷◌, ◌++◌, length, Bool, true, Ok, ℤ}, Int.{Width, w32, w64}, Char.IsScalar, Str.IsUtf8}
+use Rattle.pagable_model.specs.{Numbers.{bound, IsSigned, unsigned_form, signed_form}, Basic.{longest, bool_form, length_form, text_form, char_form, duration_form, nanos_of_second}, Meaning.Meaning}
+use Rattle.pagable_model.specs.{Meaning.{number, integer, none, pair, variant, sequence, absent, present, success, failure, lifted}, Keys.{Entry, KeyOrder, text_order, Ascends, ItemsAscend, Differ}}
+use Rattle.pagable_model.specs.{Keys.ItemsDiffer, Carried.{of_entries, of_duration, of_tagged, of_hash_map}, Shape.{Shape, nothing, unsigned, signed, flag, text, letter, duration, pattern, json}}
+use Rattle.pagable_model.specs.Shape.{optional, outcome, list, run, array, both, sorted_map, placed_map, hash_map, sorted_set, placed_set, static_value, tagged, cases, reference, nested}
 use Rattle.pagable_model.specs.Reading.{registered}
+use Rattle.pagable_model.specs.Meaning as meanings
 
 -- A is what stands for a reference, and kind_of its kind; parts is how the environment spells the parts that have
 -- numbers; the first index is how many levels are left.

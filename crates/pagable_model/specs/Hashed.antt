@@ -1,13 +1,7 @@
 -- Hash maps: what they mean, and what one more entry leaves. The order of their entries is open.
-use Rattle.std.specs.Prelude.{◌≡◌, refl, Bool, List, [], ◌∷◌, map, MatchOption, IsPermutation}
-use Rattle.std.specs.List.{IsDistinct}
-use Rattle.std.specs.Map.{keys_of, lookup, set_value}
-use Rattle.pagable_model.specs.declared.numbers.ArcRef.{ArcRef}
-use Rattle.pagable_model.specs.Meaning.{Meaning, pair, entry}
-use Rattle.pagable_model.specs.Keys.{Entry}
-use Rattle.pagable_model.specs.Carried.{of_hash_map}
-use Rattle.pagable_model.specs.Standing.{SomeMeaning}
-use Rattle.pagable_model.specs.Lifted.{MeanAll, mean-none, mean-more, MeansPair, pair_is_meaning}
+use Rattle.std.specs.{Prelude.{◌≡◌, refl, Bool, List, [], ◌∷◌, map, MatchOption, IsPermutation}, List.IsDistinct, Map.{keys_of, lookup, set_value}}
+use Rattle.pagable_model.specs.{declared.numbers.ArcRef.ArcRef, Meaning.{Meaning, pair, entry}, Keys.Entry, Carried.of_hash_map, Standing.SomeMeaning, Lifted.{MeanAll, mean-none, mean-more}}
+use Rattle.pagable_model.specs.Lifted.{MeansPair, pair_is_meaning}
 
 -- One more entry was put in, and no key is there twice. The value of a key that was there is replaced; a new key stands
 -- anywhere.

@@ -1,6 +1,5 @@
 -- JSON values, and what they mean.
-use Rattle.std.specs.Prelude.{ℕ, ℤ, List, Bool}
-use Rattle.std.specs.Float.Ieee.{Float, to_bits, binary64}
+use Rattle.std.specs.{Prelude.{ℕ, ℤ, List, Bool}, Float.Ieee.{Float, to_bits, binary64}}
 use Rattle.pagable_model.specs.Meaning.{Meaning, number, integer, text, none, pair, variant}
 use Rattle.pagable_model.specs.Meaning as meanings
 

@@ -1,21 +1,11 @@
 -- Keys that are made of keys: when two are the same, in which order they stand, and that they refer to nothing.
-use Rattle.std.proofs.Common.{◌≡◌, ℕ, Bool, true, false, ◌&&◌, List, [], ◌∷◌, Option, Some, None, Result, Ok, Err, refl, ap, ◌∙◌}
-use Rattle.std.specs.Cmp.{first_so, second_so}
-use Rattle.std.specs.Cmp.Lexicographic.{slice_cmp, pointwise}
-use Rattle.std.specs.declared.cmp.Ordering.{Ordering}
+use Rattle.std.proofs.{Common.{◌≡◌, ℕ, Bool, true, false, ◌&&◌, List, [], ◌∷◌, Option, Some, None, Result, Ok, Err, refl, ap, ◌∙◌}, lemmas.Slice.Eq.bytes_eq-Decides}
+use Rattle.std.specs.{Cmp.{first_so, second_so}, Cmp.Lexicographic.{slice_cmp, pointwise}, declared.cmp.Ordering.Ordering, Ordering.ordering_then, Option.{option_eq, option_cmp}, Result.result_eq}
+use Rattle.std.specs.{Result.result_cmp, Str.bytes_eq}
+use Rattle.pagable_model.specs.{Meaning.{Meaning, pair, plain}, Keys.{KeyOrder, code, same_key, ordered, optional_order, outcome_order, pair_order, list_order}, Codes.one-meaning, Carried.of_option}
+use Rattle.pagable_model.specs.{Carried.{of_result, of_list}, Shape.{Shape, optional, outcome, list, array, both, sorted_map, sorted_set}, Canonical.LiesIn, Keyed.{RefersToNothing, same-by}}
+use Rattle.pagable_model.specs.Keyed.{throughout-over, throughout-two}
 use Rattle.std.specs.declared.cmp.Ordering.TheVariants as answers
-use Rattle.std.specs.Ordering.{ordering_then}
-use Rattle.std.specs.Option.{option_eq, option_cmp}
-use Rattle.std.specs.Result.{result_eq, result_cmp}
-use Rattle.std.specs.Str.{bytes_eq}
-use Rattle.std.proofs.lemmas.Slice.Eq.{bytes_eq-Decides}
-use Rattle.pagable_model.specs.Meaning.{Meaning, pair, plain}
-use Rattle.pagable_model.specs.Keys.{KeyOrder, code, same_key, ordered, optional_order, outcome_order, pair_order, list_order}
-use Rattle.pagable_model.specs.Codes.{one-meaning}
-use Rattle.pagable_model.specs.Carried.{of_option, of_result, of_list}
-use Rattle.pagable_model.specs.Shape.{Shape, optional, outcome, list, array, both, sorted_map, sorted_set}
-use Rattle.pagable_model.specs.Canonical.{LiesIn}
-use Rattle.pagable_model.specs.Keyed.{RefersToNothing, same-by, throughout-over, throughout-two}
 
 -- ---- two keys are the same if their parts are
 

@@ -1,23 +1,11 @@
 -- What the key law asks of a type, and why it holds of the types that may be keys.
 use mathlib.Core.Bool.{beq}
-use Rattle.std.specs.Prelude.{◌≡◌, ℕ, ℤ, zero, suc, Bool, true, false, List, nat_eq, refl}
-use Rattle.std.proofs.Common.{ap}
-use Rattle.std.proofs.lemmas.Bool.{eqb-true, eq-eqb}
-use Rattle.std.proofs.lemmas.Bool.Decides.{Decides-int_eq}
-use Rattle.std.proofs.lemmas.Slice.Eq.{bytes_eq-Decides}
-use Rattle.std.specs.Cmp.{both_ways}
-use Rattle.std.specs.Int.{Width}
-use Rattle.std.specs.Str.{bytes_eq}
-use Rattle.std.specs.Ordering.{nat_cmp, int_cmp, int_eq, bool_cmp}
+use Rattle.std.proofs.{Common.ap, lemmas.Bool.{eqb-true, eq-eqb}, lemmas.Bool.Decides.Decides-int_eq, lemmas.Slice.Eq.bytes_eq-Decides}
+use Rattle.std.specs.{Prelude.{◌≡◌, ℕ, ℤ, zero, suc, Bool, true, false, List, nat_eq, refl}, Cmp.both_ways, Int.Width, Str.bytes_eq, Ordering.{nat_cmp, int_cmp, int_eq, bool_cmp}}
 use Rattle.std.specs.Cmp.Lexicographic.{slice_cmp}
-use Rattle.pagable_model.specs.declared.numbers.ArcRef.{ArcRef}
-use Rattle.pagable_model.specs.Numbers.{zigzag}
-use Rattle.pagable_model.specs.Meaning.{Meaning, number, integer, text, none, flag, plain}
-use Rattle.pagable_model.specs.Keys.{code, same_key, ordered, number_order, integer_order, text_order, flag_order}
-use Rattle.pagable_model.specs.Codes.{same-integer}
-use Rattle.pagable_model.specs.Shape.{Shape, unsigned, signed}
+use Rattle.pagable_model.specs.{declared.numbers.ArcRef.ArcRef, Numbers.zigzag, Meaning.{Meaning, number, integer, text, none, flag, plain}, Keys.{code, same_key, ordered, number_order}}
+use Rattle.pagable_model.specs.{Keys.{integer_order, text_order, flag_order}, Codes.same-integer, Shape.{Shape, unsigned, signed}, Canonical.{LiesIn, Within, Throughout}}
 use Rattle.pagable_model.specs.Shape as shapes
-use Rattle.pagable_model.specs.Canonical.{LiesIn, Within, Throughout}
 
 -- nowhere in a value of the shape, in none of its parts, is there a reference
 abbrev pub RefersToNothing : (ℕ → Shape) → Shape → Type 0

@@ -1,15 +1,8 @@
 -- Which keys of maps and items of sets are the same, and in which order they stand.
-use Rattle.std.specs.Prelude.{◌≡◌, ℕ, zero, suc, List, [], ◌∷◌, ◌++◌, length, Bool, false, Option, Some, None, if◌then◌else◌}
-use Rattle.std.specs.declared.cmp.Ordering.{Ordering}
+use Rattle.std.specs.{Prelude.{◌≡◌, ℕ, zero, suc, List, [], ◌∷◌, ◌++◌, length, Bool, false, Option, Some, None, if◌then◌else◌}, declared.cmp.Ordering.Ordering, Ordering.{nat_cmp, int_cmp}}
+use Rattle.std.specs.{Ordering.ordering_then, Cmp.Lexicographic.slice_cmp, Str.bytes_eq, Option.option_or, BTreeMap.insert_entry, BTreeSet.insert_key}
+use Rattle.pagable_model.specs.{Numbers.zigzag, Meaning.{Meaning, number, integer, text, pattern, none, pair, variant, reference, followed, plain}}
 use Rattle.std.specs.declared.cmp.Ordering.TheVariants as answers
-use Rattle.std.specs.Ordering.{nat_cmp, int_cmp, ordering_then}
-use Rattle.std.specs.Cmp.Lexicographic.{slice_cmp}
-use Rattle.std.specs.Str.{bytes_eq}
-use Rattle.std.specs.Option.{option_or}
-use Rattle.std.specs.BTreeMap.{insert_entry}
-use Rattle.std.specs.BTreeSet.{insert_key}
-use Rattle.pagable_model.specs.Numbers.{zigzag}
-use Rattle.pagable_model.specs.Meaning.{Meaning, number, integer, text, pattern, none, pair, variant, reference, followed, plain}
 
 -- the order of a type's values, by their meanings. Keys and items of sets hold no reference
 abbrev pub KeyOrder : Type 0

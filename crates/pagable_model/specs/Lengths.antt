@@ -1,8 +1,6 @@
 -- Why a length isn't written.
 use Rattle.std.specs.Prelude.{◌≡◌, ℕ, ◌<◌, ◌≤◌, ◌⊎◌}
-use Rattle.pagable_model.specs.Gives.{memory}
-use Rattle.pagable_model.specs.Basic.{longest}
-use Rattle.pagable_model.specs.declared.error.Error.{Error}
+use Rattle.pagable_model.specs.{Gives.memory, Basic.longest, declared.error.Error.Error}
 use Rattle.pagable_model.specs.declared.error.Error.TheVariants as errors
 
 -- TooLong exactly where the length is above the greatest, and else want of memory

@@ -1,10 +1,6 @@
 -- What values that hold others mean: the meanings of their parts, put together.
-use Rattle.std.specs.Prelude.{◌≡◌, refl, Option, Some, None, Result, Ok, Err, List, [], ◌∷◌, map}
-use Rattle.std.proofs.Common.{ap}
-use Rattle.pagable_model.specs.declared.numbers.ArcRef.{ArcRef}
-use Rattle.pagable_model.specs.Meaning.{Meaning, pair, sequence, absent, present, success, failure}
-use Rattle.pagable_model.specs.Carried.{of_option, of_result}
-use Rattle.pagable_model.specs.Standing.{SomeMeaning}
+use Rattle.std.{specs.Prelude.{◌≡◌, refl, Option, Some, None, Result, Ok, Err, List, [], ◌∷◌, map}, proofs.Common.ap}
+use Rattle.pagable_model.specs.{declared.numbers.ArcRef.ArcRef, Meaning.{Meaning, pair, sequence, absent, present, success, failure}, Carried.{of_option, of_result}, Standing.SomeMeaning}
 
 -- no value, or what the value means
 pub data MeansOption {T : Type 0} (M : T → Meaning ArcRef → Type 0) : Option T → Meaning ArcRef → Type 0 where

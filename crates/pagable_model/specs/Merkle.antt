@@ -1,13 +1,7 @@
 -- The key of a tree, by recursion on it, with no store and no table.
 use Rattle.std.specs.Prelude.{◌≡◌, ℕ, List, [], ◌∷◌, map, Option, Some}
-use Rattle.pagable_model.specs.Meaning.{Meaning, number, integer, text, pattern, none, pair, variant, reference, followed}
-use Rattle.pagable_model.specs.Shape.{Shape}
-use Rattle.pagable_model.specs.Reading.{deepest}
-use Rattle.pagable_model.specs.Form.{Form}
-use Rattle.pagable_model.specs.Blob.{Blob, key_of}
-use Rattle.pagable_model.specs.Trees.{Tree, KeyRef, Types, IsFollowed}
-use Rattle.pagable_model.specs.Deep.{Kid, kid, kind_of_kid, tree_of_kid}
-use Rattle.pagable_model.specs.Canonical.{IsCanonical, Throughout, IsCanonicalType, EachType}
+use Rattle.pagable_model.specs.{Meaning.{Meaning, number, integer, text, pattern, none, pair, variant, reference, followed}, Shape.Shape, Reading.deepest, Form.Form, Blob.{Blob, key_of}, Trees.Tree}
+use Rattle.pagable_model.specs.{Trees.{KeyRef, Types, IsFollowed}, Deep.{Kid, kid, kind_of_kid, tree_of_kid}, Canonical.{IsCanonical, Throughout, IsCanonicalType, EachType}}
 
 -- the meaning of a tree's own value, in which each reference is the tree that it leads to
 unfoldable pub unfolded : Meaning ⊥ → Meaning Kid

@@ -1,9 +1,8 @@
 -- Whole numbers as bytes: the parts of the postcard wire format on varints and on integers with a sign.
-use Rattle.std.specs.Prelude.{ℕ, zero, suc, ◌+◌, ◌-◌, ◌*◌, ◌/◌, ◌%◌, ◌^◌, List, [], ◌∷◌, Result, Ok, Err, ℤ, pos, negsuc, nat_lt, nat_le, ◌==◌, ◌<◌, if◌then◌else◌}
-use Rattle.std.specs.Int.{Width, w8, w16, w32, w64, w128}
-use Rattle.pagable_model.specs.declared.error.Error.{Error}
+use Rattle.std.specs.{Prelude.{ℕ, zero, suc, ◌+◌, ◌-◌, ◌*◌, ◌/◌, ◌%◌, ◌^◌, List, [], ◌∷◌, Result, Ok, Err, ℤ, pos, negsuc, nat_lt, nat_le, ◌==◌, ◌<◌, if◌then◌else◌}, Int.{Width, w8, w16, w32, w64}}
+use Rattle.std.specs.Int.{w128}
+use Rattle.pagable_model.specs.{declared.error.Error.Error, Steps.◌>>=◌}
 use Rattle.pagable_model.specs.declared.error.Error.TheVariants as errors
-use Rattle.pagable_model.specs.Steps.{◌>>=◌}
 
 -- what a reader of bytes gives: a value and the bytes after it
 abbrev pub Read : Type 0 → Type 0

@@ -1,11 +1,8 @@
 -- Why no meaning of a carried type has two forms.
-use Rattle.std.specs.Prelude.{ℕ, zero, suc}
-use Rattle.std.specs.Int.{Width}
-use Rattle.pagable_model.specs.Keys.{KeyOrder}
-use Rattle.pagable_model.specs.Shape.{Shape, unsigned, signed, duration, optional, outcome, list, run, array, both, sorted_map, placed_map, sorted_set, placed_set}
+use Rattle.std.specs.{Prelude.{ℕ, zero, suc}, Int.Width}
+use Rattle.pagable_model.specs.{Keys.KeyOrder, Shape.{Shape, unsigned, signed, duration, optional, outcome, list, run, array, both, sorted_map, placed_map, sorted_set, placed_set}}
+use Rattle.pagable_model.specs.{Canonical.{IsCanonical, LiesIn, Within, Throughout}, Keyed.{throughout-alone, throughout-over, throughout-two}}
 use Rattle.pagable_model.specs.Shape as shapes
-use Rattle.pagable_model.specs.Canonical.{IsCanonical, LiesIn, Within, Throughout}
-use Rattle.pagable_model.specs.Keyed.{throughout-alone, throughout-over, throughout-two}
 
 -- no meaning of the shape, or of any part of its values in one blob, has two forms
 abbrev pub HasOneFormThroughout : (ℕ → Shape) → Shape → Type 0

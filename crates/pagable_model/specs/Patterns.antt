@@ -1,16 +1,8 @@
 -- Why a pattern may be a key, and why none has two forms: as of a text.
-use Rattle.std.specs.Prelude.{◌≡◌, ℕ, List}
-use Rattle.std.proofs.Common.{ap}
-use Rattle.std.proofs.lemmas.Slice.Eq.{bytes_eq-Decides}
-use Rattle.std.specs.Str.{bytes_eq}
-use Rattle.pagable_model.specs.declared.numbers.ArcRef.{ArcRef}
-use Rattle.pagable_model.specs.Meaning.{pattern, plain}
-use Rattle.pagable_model.specs.Keys.{code, same_key}
-use Rattle.pagable_model.specs.Shape.{Shape}
+use Rattle.std.{specs.Prelude.{◌≡◌, ℕ, List}, proofs.Common.ap, proofs.lemmas.Slice.Eq.bytes_eq-Decides, specs.Str.bytes_eq}
+use Rattle.pagable_model.specs.{declared.numbers.ArcRef.ArcRef, Meaning.{pattern, plain}, Keys.{code, same_key}, Shape.Shape, Canonical.{IsCanonical, LiesIn}, Keyed.RefersToNothing}
+use Rattle.pagable_model.specs.{Keyed.{throughout-alone, same-by}, OneForm.HasOneFormThroughout}
 use Rattle.pagable_model.specs.Shape as shapes
-use Rattle.pagable_model.specs.Canonical.{IsCanonical, LiesIn}
-use Rattle.pagable_model.specs.Keyed.{RefersToNothing, throughout-alone, same-by}
-use Rattle.pagable_model.specs.OneForm.{HasOneFormThroughout}
 
 pub pattern_is_same : (s t : List ℕ) → bytes_eq s t ≡ same_key {A = ArcRef} (pattern s) (pattern t)
 unfolding plain code

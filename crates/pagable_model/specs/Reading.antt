@@ -1,16 +1,11 @@
 -- The reading grammar: what a front of the input means and what is left, or the first fault from the front.
-use Rattle.std.specs.Prelude.{ℕ, ◌-◌, zero, suc, List, [], ◌∷◌, Option, Some, None, Result, Ok, Err, Bool, true, false, ◌==◌, if◌then◌else◌}
-use Rattle.std.specs.Int.{w32, w64}
-use Rattle.pagable_model.specs.declared.error.Error.{Error}
+use Rattle.std.specs.{Prelude.{ℕ, ◌-◌, zero, suc, List, [], ◌∷◌, Option, Some, None, Result, Ok, Err, Bool, true, false, ◌==◌, if◌then◌else◌}, Int.{w32, w64}}
+use Rattle.pagable_model.specs.{declared.error.Error.Error, Steps.◌>>=◌, Numbers.{Read, unsigned_at, signed_at}, Basic.{length_at, text_at, bool_at, char_at, duration_at}, Meaning.{Meaning, number}}
+use Rattle.pagable_model.specs.{Meaning.{integer, none, variant, sequence, entry, absent, present, success, failure, lifted}, Keys.{text_order, put_all, put_sorted, put_placed, put_sorted_item}}
+use Rattle.pagable_model.specs.{Keys.put_placed_item, Carried.{of_entries, of_duration, of_tagged, of_hash_map}, Shape.{Shape, nothing, unsigned, signed, flag, text, letter, duration, pattern, json}}
+use Rattle.pagable_model.specs.Shape.{optional, outcome, list, run, array, both, sorted_map, placed_map, hash_map, sorted_set, placed_set, static_value, tagged, cases, reference, nested}
 use Rattle.pagable_model.specs.declared.error.Error.TheVariants as errors
-use Rattle.pagable_model.specs.Steps.{◌>>=◌}
-use Rattle.pagable_model.specs.Numbers.{Read, unsigned_at, signed_at}
-use Rattle.pagable_model.specs.Basic.{length_at, text_at, bool_at, char_at, duration_at}
-use Rattle.pagable_model.specs.Meaning.{Meaning, number, integer, none, variant, sequence, entry, absent, present, success, failure, lifted}
 use Rattle.pagable_model.specs.Meaning as meanings
-use Rattle.pagable_model.specs.Keys.{text_order, put_all, put_sorted, put_placed, put_sorted_item, put_placed_item}
-use Rattle.pagable_model.specs.Carried.{of_entries, of_duration, of_tagged, of_hash_map}
-use Rattle.pagable_model.specs.Shape.{Shape, nothing, unsigned, signed, flag, text, letter, duration, pattern, json, optional, outcome, list, run, array, both, sorted_map, placed_map, hash_map, sorted_set, placed_set, static_value, tagged, cases, reference, nested}
 
 -- what is left to be read: bytes, and what stands for references, in their order
 pub record Rest (A : Type 0) : Type 0 where

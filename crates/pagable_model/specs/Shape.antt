@@ -1,8 +1,6 @@
 -- How the values of a type are spelled.
-use Rattle.std.specs.Prelude.{ℕ, List, Bool}
-use Rattle.std.specs.Int.{Width}
-use Rattle.pagable_model.specs.Meaning.{Meaning}
-use Rattle.pagable_model.specs.Keys.{KeyOrder}
+use Rattle.std.specs.{Prelude.{ℕ, List, Bool}, Int.Width}
+use Rattle.pagable_model.specs.{Meaning.Meaning, Keys.KeyOrder}
 
 pub data Shape : Type 0 where
   -- no byte

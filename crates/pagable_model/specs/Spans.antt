@@ -1,11 +1,6 @@
 -- What spans of time mean.
-use Rattle.std.specs.Prelude.{ℕ, ◌/◌, ◌%◌}
-use Rattle.std.specs.Duration.{as_nanos}
-use Rattle.std.specs.declared.time.Duration.{Duration}
-use Rattle.pagable_model.specs.declared.numbers.ArcRef.{ArcRef}
-use Rattle.pagable_model.specs.Basic.{nanos_of_second}
-use Rattle.pagable_model.specs.Carried.{of_duration}
-use Rattle.pagable_model.specs.Meaning.{Meaning}
+use Rattle.std.specs.{Prelude.{ℕ, ◌/◌, ◌%◌}, Duration.as_nanos, declared.time.Duration.Duration}
+use Rattle.pagable_model.specs.{declared.numbers.ArcRef.ArcRef, Basic.nanos_of_second, Carried.of_duration, Meaning.Meaning}
 
 -- the whole seconds of a duration, and the nanoseconds beside them
 abbrev pub seconds_of : Duration → ℕ

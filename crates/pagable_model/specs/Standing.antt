@@ -1,11 +1,6 @@
 -- Where a deserializer stands in what it was given, and what a reader of values owes.
 use Rattle.std.specs.Prelude.{◌≡◌, ◌≤◌, ℕ, drop, length, Result, Ok, Err, ◌⊎◌}
-use Rattle.pagable_model.specs.declared.error.Error.{Error}
-use Rattle.pagable_model.specs.declared.numbers.ArcRef.{ArcRef}
-use Rattle.pagable_model.specs.declared.numbers.PagableCursor.{PagableCursor}
-use Rattle.pagable_model.specs.Meaning.{Meaning}
-use Rattle.pagable_model.specs.Shape.{Shape}
-use Rattle.pagable_model.specs.Reading.{Rest, Context, Look}
+use Rattle.pagable_model.specs.{declared.error.Error.Error, declared.numbers.ArcRef.ArcRef, declared.numbers.PagableCursor.PagableCursor, Meaning.Meaning, Shape.Shape, Reading.{Rest, Context, Look}}
 
 -- what is answered for a reference at one place of the list, by the kind that it is read as
 abbrev pub Answer : Type 0

@@ -1,12 +1,7 @@
 -- Values that are written as an index: the registry that they stand in, as the list of its values by their index.
-use Rattle.std.specs.Prelude.{◌≡◌, refl, ℕ, ◌<◌, List, map, Bool, true, false, Some, Ok, IsTrue}
-use Rattle.std.proofs.Common.{subst, sym}
-use Rattle.std.specs.List.{slice_get}
-use Rattle.pagable_model.specs.declared.error.Error.{Error}
+use Rattle.std.{specs.Prelude.{◌≡◌, refl, ℕ, ◌<◌, List, map, Bool, true, false, Some, Ok, IsTrue}, proofs.Common.{subst, sym}, specs.List.slice_get}
+use Rattle.pagable_model.specs.{declared.error.Error.Error, Refusals.may_refuse_writing, Meaning.Meaning, Reading.registered}
 use Rattle.pagable_model.specs.declared.error.Error.TheVariants as errors
-use Rattle.pagable_model.specs.Refusals.{may_refuse_writing}
-use Rattle.pagable_model.specs.Meaning.{Meaning}
-use Rattle.pagable_model.specs.Reading.{registered}
 
 -- what the values mean, by their index
 abbrev pub meanings_of : {T : Type 0} → (T → Meaning ⊥) → List T → List (Meaning ⊥)

@@ -1,9 +1,7 @@
 -- What a storage may answer.
-use Rattle.std.specs.Prelude.{◌≡◌, ◌≢◌, ◌-◌, ◌^◌, ◌<◌, ◌==◌, ◌⊎◌, ◌↔◌, ℕ, Bool, true, List, length, Option, Some, None, IsSome, if◌then◌else◌}
-use Rattle.std.specs.List.{AllPairs, Contains}
-use Rattle.pagable_model.specs.declared.error.Error.{Error}
+use Rattle.std.specs.{Prelude.{◌≡◌, ◌≢◌, ◌-◌, ◌^◌, ◌<◌, ◌==◌, ◌⊎◌, ◌↔◌, ℕ, Bool, true, List, length, Option, Some, None, IsSome, if◌then◌else◌}, List.{AllPairs, Contains}}
+use Rattle.pagable_model.specs.{declared.error.Error.Error, Blob.Blob}
 use Rattle.pagable_model.specs.declared.error.Error.TheVariants as errors
-use Rattle.pagable_model.specs.Blob.{Blob}
 
 -- The blob stands under the key now, and what stood elsewhere still does; nothing else stood there.
 pub record Adds (key : ℕ) (blob : Blob) (old new : ℕ → Option Blob) : Type 0 where

@@ -1,12 +1,6 @@
 -- Values that are written as a tag and a body: what they mean, and which registration of a tag counts.
-use Rattle.std.specs.Prelude.{◌≡◌, ℕ, ◌<◌, List, map, true, false, Some, ◌⊎◌}
-use Rattle.std.specs.List.{slice_get}
-use Rattle.std.specs.Str.{bytes_eq}
-use Rattle.pagable_model.specs.declared.numbers.ArcRef.{ArcRef}
-use Rattle.pagable_model.specs.Meaning.{Meaning}
-use Rattle.pagable_model.specs.Carried.{of_tagged}
-use Rattle.pagable_model.specs.Canonical.{HasNoCase, IsReadable, Throughout}
-use Rattle.pagable_model.specs.Shape.{Shape}
+use Rattle.std.specs.{Prelude.{◌≡◌, ℕ, ◌<◌, List, map, true, false, Some, ◌⊎◌}, List.slice_get, Str.bytes_eq}
+use Rattle.pagable_model.specs.{declared.numbers.ArcRef.ArcRef, Meaning.Meaning, Carried.of_tagged, Canonical.{HasNoCase, IsReadable, Throughout}, Shape.Shape}
 
 -- the tag with what the body means
 pub record MeansTagged (tag : List ℕ) (M : Meaning ArcRef → Type 0) (m : Meaning ArcRef) : Type 0 where

@@ -1,9 +1,6 @@
 -- Trees that never leave memory, and how the store spells them.
 use Rattle.std.specs.Prelude.{◌≡◌, ℕ, ◌/◌, List, Option, Some, Ok, ℤ}
-use Rattle.pagable_model.specs.Meaning.{Meaning, number, integer, text, pattern, none, pair, variant, reference, followed}
-use Rattle.pagable_model.specs.Shape.{Shape}
-use Rattle.pagable_model.specs.Reading.{Rest, Context, read_typed}
-use Rattle.pagable_model.specs.Blob.{Blob}
+use Rattle.pagable_model.specs.{Meaning.{Meaning, number, integer, text, pattern, none, pair, variant, reference, followed}, Shape.Shape, Reading.{Rest, Context, read_typed}, Blob.Blob}
 
 -- a value type's number, and what its value means, with every reference followed
 pub record Tree : Type 0 where

@@ -1,13 +1,7 @@
 -- What was written so far, and what writing a value adds.
 use Rattle.std.specs.Prelude.{◌≡◌, ℕ, ◌+◌, ◌-◌, List, ◌++◌, length, take, drop, IsTrue}
-use Rattle.pagable_model.specs.declared.error.Error.{Error}
-use Rattle.pagable_model.specs.declared.numbers.ArcRef.{ArcRef}
-use Rattle.pagable_model.specs.declared.numbers.PagableCursor.{PagableCursor}
-use Rattle.pagable_model.specs.Refusals.{is_writing_fault}
-use Rattle.pagable_model.specs.Meaning.{Meaning}
-use Rattle.pagable_model.specs.Shape.{Shape}
-use Rattle.pagable_model.specs.Reading.{deepest}
-use Rattle.pagable_model.specs.Form.{Form, Forms}
+use Rattle.pagable_model.specs.{declared.error.Error.Error, declared.numbers.ArcRef.ArcRef, declared.numbers.PagableCursor.PagableCursor, Refusals.is_writing_fault, Meaning.Meaning, Shape.Shape}
+use Rattle.pagable_model.specs.{Reading.deepest, Form.{Form, Forms}}
 
 -- the bytes, and the references in their order
 pub record Out : Type 0 where

@@ -3,6 +3,11 @@
 use Rattle.std.specs.Prelude.{◌≡◌, ℕ, ◌≤◌, List, [], ◌∷◌, ◌+◌, ◌==◌, ◌&&◌, Bool, true, false, if◌then◌else◌, length, Option, Some, None, Result, Ok, IfOk, IfErr, slice_get, ◌⊎◌, Err}
 use Rattle.pagable_model.specs.Merkle.{blob_of, KeyOf}
 use Rattle.pagable_world.specs.Plain.{ArcRef, Identity, Blob, type_of, Error, OptionalDataKey, HandleNumber, LoadNumber, Tree, ReadsTree, Owner, HandleRow, LoadAnswer, Took, WorkerAnswer}
+use Rattle.pagable_world.specs.{Kinds.{identity_of, HasKinds, HasNoKinds}, World.{Written, Frame, Outcome, is_identity, Values, digest, HasForm, Core, Shelf, Slot, Reading, Todo, of_item, row_at}}
+use Rattle.pagable_world.specs.{World.{key_at, Alike, SameShelf, Seen, IsLawful, IsSettled}, Calls.{PinCall, UnpinCall, ReleaseCall, TakeCall}, LoadCalls.{BeginCall, BeginKeyCall}, Loads.IsDecoded}
+use Rattle.pagable_world.specs.{Loads.{ReadingDoes, gone_on}, Workers.{is_open_outcome, Site, WalkDoes, IsPublished, is_open_slot, first_todo, fresh, answer_after}, Events.{Ends, IsEntry}}
+use Rattle.pagable_world.specs.{Events.{entry_task, with_entry_taken, with_worker, reading_of_load, no_shelf}, Pager.{PagerState, WellFormed, Moves, ReadingBrings, TodoBrings, TookWrites}}
+use Rattle.pagable_world.specs.{Pager.{ValueStands, Represents, SameTrees}, Runs.{ReadsItsTypes, HoldsSettled, TakesWell, TodoTakesWell}, Headline.{ReadIsRight, IsKeyOfTask}}
 use Rattle.pagable_model.specs.declared.error.Error.TheVariants as errors
 use Rattle.pagable_model.specs.declared.data_key.OptionalDataKey.TheVariants as optional
 use Rattle.pagable_world.specs.declared.rows.Mode.TheVariants as modes
@@ -11,16 +16,6 @@ use Rattle.pagable_world.specs.declared.answers.Pinning.TheVariants as pinnings
 use Rattle.pagable_world.specs.declared.answers.Beginning.TheVariants as beginnings
 use Rattle.pagable_world.specs.declared.events.LoadAnswer.TheVariants as ends
 use Rattle.pagable_world.specs.declared.events.WorkerAnswer.TheVariants as finals
-use Rattle.pagable_world.specs.Kinds.{identity_of, HasKinds, HasNoKinds}
-use Rattle.pagable_world.specs.World.{Written, Frame, Outcome, is_identity, Values, digest, HasForm, Core, Shelf, Slot, Reading, Todo, of_item, row_at, key_at, Alike, SameShelf, Seen, IsLawful, IsSettled}
-use Rattle.pagable_world.specs.Calls.{PinCall, UnpinCall, ReleaseCall, TakeCall}
-use Rattle.pagable_world.specs.LoadCalls.{BeginCall, BeginKeyCall}
-use Rattle.pagable_world.specs.Loads.{IsDecoded, ReadingDoes, gone_on}
-use Rattle.pagable_world.specs.Workers.{is_open_outcome, Site, WalkDoes, IsPublished, is_open_slot, first_todo, fresh, answer_after}
-use Rattle.pagable_world.specs.Events.{Ends, IsEntry, entry_task, with_entry_taken, with_worker, reading_of_load, no_shelf}
-use Rattle.pagable_world.specs.Pager.{PagerState, WellFormed, Moves, ReadingBrings, TodoBrings, TookWrites, ValueStands, Represents, SameTrees}
-use Rattle.pagable_world.specs.Runs.{ReadsItsTypes, HoldsSettled, TakesWell, TodoTakesWell}
-use Rattle.pagable_world.specs.Headline.{ReadIsRight, IsKeyOfTask}
 
 mutual
   -- Below the identity, with this value and key, stands a finite tree of results: the value is of the identity's type and has a form, and the key is
@@ -32,11 +27,6 @@ mutual
   pub data ResultsStand {N : Type 0} (v : Values N) : List ArcRef → List ℕ → Type 0 where
     no-results : ResultsStand v [] []
     more-results : (r : ArcRef) (x : N) (key : ℕ) (references : List ArcRef) (keys : List ℕ) → ResultStands v (identity_of r) x key → ResultsStand v references keys → ResultsStand v (r ∷ references) (key ∷ keys)
-
--- some value with such a tree below it; so that a table keeps no value in memory
-pub record HasResult {N : Type 0} (v : Values N) (i : Identity) (key : ℕ) : Type 0 where
-  pub x : N
-  pub stands : ResultStands v i x key
 
 -- The key of an item is the digest of its bytes over the keys of such results, one for each reference.
 -- To be carried by: `page_out_item` and `page_out_all`.
@@ -97,18 +87,6 @@ pub record IsReport {N F : Type 0} (v : Values N) (items : List Written) (keys :
   pub each : length keys ≡ length items
   pub over : (place key : ℕ) (item : Written) → slice_get items place ≡ Some item → slice_get keys place ≡ Some (Ok key) → IsOverResults v item key
   pub claims_are : claims ≡ counted
-
--- a cell for a kind and key, with the reference that stands there or none yet
-abbrev pub Cells : Type 0
-Cells = ℕ → ℕ → Option (Option ArcRef)
-
--- the map with this at one kind and key
-pub record CellIs (old : Cells) (kind key : ℕ) (cell : Option (Option ArcRef)) (new : Cells) : Type 0 where
-  pub each : (k q : ℕ) → new k q ≡ (if k == kind && q == key then cell else old k q)
-
--- all cells are gone
-abbrev pub NoCells : Cells → Type 0
-NoCells new = (kind key : ℕ) → new kind key ≡ None
 
 -- the pager and the one table of an access
 pub record AccessState (N E : Type 0) : Type 0 where

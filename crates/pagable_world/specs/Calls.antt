@@ -1,17 +1,16 @@
 -- The calls on handles and nodes: what each does to the pager's plain world, and why it is refused. The calls on the cache and the storage.
-use Rattle.std.specs.Prelude.{ℕ, ◌≡◌, ◌+◌, ◌-◌, ◌<◌, ◌≤◌, ◌==◌, ◌||◌, ◌⊎◌, Bool, true, false, not, List, [], ◌∷◌, ◌++◌, length, min, Option, Some, None, Result, Ok, Err, IfOk, IfErr, slice_get, ◌&&◌, if◌then◌else◌, is_some, nat_lt}
-use Rattle.std.specs.List.{remove}
+use Rattle.std.specs.Prelude.{ℕ, ◌≡◌, ◌+◌, ◌-◌, ◌<◌, ◌≤◌, ◌==◌, ◌||◌, ◌⊎◌, Bool, true, false, not, List, [], ◌∷◌, ◌++◌, length, min, Option, Some, None, Result, Ok, Err, IfOk, IfErr, slice_get, ◌&&◌}
+use Rattle.std.specs.{Prelude.{if◌then◌else◌, is_some, nat_lt}, List.remove}
 use Rattle.pagable_model.specs.Stored.{Adds, RefusesFetch, RefusesStore, RefusesFlush}
 use Rattle.pagable_world.specs.Plain.{Error, OptionalDataKey, ArcRef, HandleNumber, NodeNumber, Mode, Owner, HandleRow, Pinning, changed, updated, Kind, Blob, type_of, times, if_there}
+use Rattle.pagable_world.specs.{Kinds.{is_loose, is_unpinned, is_pinned, any_mode, is_handle, owner_value, pins, mode_of, fits_mode}, World.{Core, Cell, greatest, row_at, type_at, key_at, is_here}}
+use Rattle.pagable_world.specs.{World.{Alike, usable}, Cascade.{Falls, FallsAnyhow, nobody, only_handle}, Refusals.{earlier, where_so, spent, AreHandlesFull, IsListFull, Owns, live_fault}}
+use Rattle.pagable_world.specs.Refusals.{handle_fault, references_fault, Refused, refused_if, is_type}
 use Rattle.pagable_model.specs.declared.error.Error.TheVariants as errors
 use Rattle.pagable_model.specs.declared.data_key.OptionalDataKey.TheVariants as optional
 use Rattle.pagable_world.specs.declared.rows.Mode.TheVariants as modes
 use Rattle.pagable_world.specs.declared.handles.Owner.TheVariants as owners
 use Rattle.pagable_world.specs.declared.answers.Pinning.TheVariants as pinnings
-use Rattle.pagable_world.specs.Kinds.{is_loose, is_unpinned, is_pinned, any_mode, is_handle, owner_value, pins, mode_of, fits_mode}
-use Rattle.pagable_world.specs.World.{Core, Cell, greatest, row_at, type_at, key_at, is_here, Alike, usable}
-use Rattle.pagable_world.specs.Cascade.{Falls, FallsAnyhow, nobody, only_handle}
-use Rattle.pagable_world.specs.Refusals.{earlier, where_so, spent, AreHandlesFull, IsListFull, Owns, live_fault, handle_fault, references_fault, Refused, refused_if, is_type}
 
 abbrev pub row_of : ℕ → NodeNumber → Mode → Owner → HandleRow
 row_of q node mode owner = record { number = record { 0 = q }; node = node; mode = mode; owner = owner }

@@ -1,11 +1,9 @@
 -- Handles are given up, with all that goes with them, and cells that lose their last pin are listed. There is one way for all calls and steps: the least set that holds the given handles falls.
 use Rattle.std.specs.Prelude.{ℕ, ◌≡◌, ◌+◌, ◌<◌, ◌≤◌, ◌==◌, ◌&&◌, ◌⊎◌, ◌++◌, Bool, true, false, not, if◌then◌else◌, List, [], ◌∷◌, filter, map, length, Result, IfOk, IfErr, nat_lt, nat_eq, None}
-use Rattle.pagable_world.specs.Plain.{Error, HandleNumber, HandleRow, times}
+use Rattle.pagable_world.specs.{Plain.{Error, HandleNumber, HandleRow, times}, Kinds.{is_owned_by, owner_value, is_at, is_pin, held, pins, sharing, has_key}, World.{Core, greatest, key_at, Alike}}
 use Rattle.pagable_model.specs.declared.error.Error.TheVariants as errors
 use Rattle.pagable_world.specs.declared.rows.Mode.TheVariants as modes
 use Rattle.pagable_world.specs.declared.handles.Owner.TheVariants as owners
-use Rattle.pagable_world.specs.Kinds.{is_owned_by, owner_value, is_at, is_pin, held, pins, sharing, has_key}
-use Rattle.pagable_world.specs.World.{Core, greatest, key_at, Alike}
 
 -- whether the handle isn't in the set
 abbrev pub is_outside : (ℕ → Bool) → HandleRow → Bool

@@ -1,7 +1,12 @@
 -- One call of the pager: the step of its plain world that it is, by the call alone, with a reply of the call's type. One event: a call, a load's step, or a worker's.
-use Rattle.std.specs.Prelude.{◌≡◌, length, ℕ, Bool, Option, Result, ◌+◌, ◌<◌, ◌≤◌, ◌⊎◌, if◌then◌else◌, true, List, Some, None, is_some, IfOk, IfErr, slice_get, is_none}
-use Rattle.std.specs.List.{remove}
-use Rattle.pagable_world.specs.Plain.{Blob, Error, HandleNumber, WorkerNumber, Owner, Call, Found, Reply, Beginning, TableNumber, LoadReply, WorkerReply, EventReply, LoadNumber, HandleRow, LoadAnswer, WorkerAnswer, Event, SameAt, updated, if_there, or_else}
+use Rattle.std.specs.{Prelude.{◌≡◌, length, ℕ, Bool, Option, Result, ◌+◌, ◌<◌, ◌≤◌, ◌⊎◌, if◌then◌else◌, true, List, Some, None, is_some, IfOk, IfErr, slice_get, is_none}, List.remove}
+use Rattle.pagable_world.specs.Plain.{Blob, Error, HandleNumber, WorkerNumber, Owner, Call, Found, Reply, Beginning, TableNumber, LoadReply, WorkerReply, EventReply, LoadNumber, HandleRow}
+use Rattle.pagable_world.specs.{Plain.{LoadAnswer, WorkerAnswer, Event, SameAt, updated, if_there, or_else}, Kinds.{loose_kind, HasKinds, HasNoKinds}, World.{Core, Alike, Seen, digest, seen_as}}
+use Rattle.pagable_world.specs.World.{OpenLoad, of_cell, of_key, Root, Shelf, Frame, Reading, Task, of_item, of_entry, Walking, Work, World, row_at, type_at, one_more, SameShelf, Values}
+use Rattle.pagable_world.specs.{Cascade.only_handle, Refusals.{earlier, load_fault, refused_if}, Calls.{BirthCall, AwayBirthCall, CloneCall, PinCall, UnpinCall, ReleaseCall, LoosenCall, SetKeyCall}}
+use Rattle.pagable_world.specs.Calls.{CountCall, KeyCall, AwayCall, NodeCall, TypeCall, ScheduleCall, TakeCall, room_of, ReserveCall, RecallCall, OfferCall, ClearCall, FetchCall, StoreCall}
+use Rattle.pagable_world.specs.{Calls.{FlushCall, CloseCall, moved}, LoadCalls.{BeginCall, BeginKeyCall, Given, from_cache, from_store, AskCall, AdoptCall, LazyCall, EndCall, HandOverCall, DropCall}}
+use Rattle.pagable_world.specs.{Loads.{ReadingDoes, gone_on}, Workers.{Site, WalkDoes, WorkerEnds, first_todo, fresh, answer_after, is_counted}}
 use Rattle.pagable_world.specs.declared.rows.Mode.TheVariants as modes
 use Rattle.pagable_world.specs.declared.calls.Call.TheVariants as calls
 use Rattle.pagable_world.specs.declared.calls.Found.TheVariants as founds
@@ -11,14 +16,6 @@ use Rattle.pagable_model.specs.declared.error.Error.TheVariants as errors
 use Rattle.pagable_world.specs.declared.handles.Owner.TheVariants as owners
 use Rattle.pagable_world.specs.declared.answers.Beginning.TheVariants as beginnings
 use Rattle.pagable_world.specs.declared.events.Event.TheVariants as events
-use Rattle.pagable_world.specs.Kinds.{loose_kind, HasKinds, HasNoKinds}
-use Rattle.pagable_world.specs.World.{Core, Alike, Seen, digest, seen_as, OpenLoad, of_cell, of_key, Root, Shelf, Frame, Reading, Task, of_item, of_entry, Walking, Work, World, row_at, type_at, one_more, SameShelf, Values}
-use Rattle.pagable_world.specs.Cascade.{only_handle}
-use Rattle.pagable_world.specs.Refusals.{earlier, load_fault, refused_if}
-use Rattle.pagable_world.specs.Calls.{BirthCall, AwayBirthCall, CloneCall, PinCall, UnpinCall, ReleaseCall, LoosenCall, SetKeyCall, CountCall, KeyCall, AwayCall, NodeCall, TypeCall, ScheduleCall, TakeCall, room_of, ReserveCall, RecallCall, OfferCall, ClearCall, FetchCall, StoreCall, FlushCall, CloseCall, moved}
-use Rattle.pagable_world.specs.LoadCalls.{BeginCall, BeginKeyCall, Given, from_cache, from_store, AskCall, AdoptCall, LazyCall, EndCall, HandOverCall, DropCall}
-use Rattle.pagable_world.specs.Loads.{ReadingDoes, gone_on}
-use Rattle.pagable_world.specs.Workers.{Site, WalkDoes, WorkerEnds, first_todo, fresh, answer_after, is_counted}
 
 -- what was found, with the blob as it is seen
 abbrev pub given_of : {B : Type 0} → (B → Blob) → Found B → Given

@@ -1,8 +1,11 @@
 -- The main theorem, a law of chains: what loads and page-outs answer and leave, by trees; and what workers and claims come to.
 use Rattle.std.specs.Prelude.{ℕ, ◌≡◌, ◌≢◌, ◌+◌, ◌≤◌, ◌==◌, true, false, List, [], ◌∷◌, Option, Some, Ok, is_some, Bool, ◌&&◌}
-use Rattle.pagable_model.specs.Merkle.{KeyOf, KeyOfItem, TreeForm, IsCanonicalItem}
-use Rattle.pagable_model.specs.Canonical.{IsCanonicalTree}
+use Rattle.pagable_model.specs.{Merkle.{KeyOf, KeyOfItem, TreeForm, IsCanonicalItem}, Canonical.IsCanonicalTree}
 use Rattle.pagable_world.specs.Plain.{ArcRef, HandleNumber, Identity, Blob, Tree, ReadsTree, Shape, HandleRow, Took, WorkerAnswer, Event, EventReply, Among, times, is_loose_kind, if_there, one}
+use Rattle.pagable_world.specs.{Kinds.{identity_of, is_owned_by, owner_worker}, World.{OpenLoad, Shelf, Slot, Written, no_result, failed, Reading, Task, of_item, of_entry, Walking, World, row_at}}
+use Rattle.pagable_world.specs.{World.{key_at, Values, Seen, IsLawful}, Refusals.IsReference, Workers.{IsPublished, is_workers_load}, Events.reading_at, Pager.{PagerState, MachineState, world_of}}
+use Rattle.pagable_world.specs.{Pager.{IsMachineWhole, IsIdle, IsReadingOf, ValueStands, StandsFor, kids_of}, Runs.{ReadsItsTypes, HoldsSettled, Moment, AreMoments, state_after, events_of}}
+use Rattle.pagable_world.specs.{Runs.{replies_of, Fact, TreesAlong}, Order.{steps_of, InOrder, OnceEach, MetError, IsBounded, HasStepLeft, IsWithinBound, is_claim_of}}
 use Rattle.pagable_model.specs.declared.data_key.OptionalDataKey.TheVariants as optional
 use Rattle.pagable_world.specs.declared.handles.Owner.TheVariants as owners
 use Rattle.pagable_world.specs.declared.answers.Pinning.TheVariants as pinnings
@@ -15,14 +18,6 @@ use Rattle.pagable_world.specs.declared.events.WorkerAnswer.TheVariants as final
 use Rattle.pagable_world.specs.declared.events.LoadAnswer.TheVariants as ends
 use Rattle.pagable_world.specs.declared.events.Event.TheVariants as events
 use Rattle.pagable_world.specs.declared.events.EventReply.TheVariants as answers
-use Rattle.pagable_world.specs.Kinds.{identity_of, is_owned_by, owner_worker}
-use Rattle.pagable_world.specs.World.{OpenLoad, Shelf, Slot, Written, no_result, failed, Reading, Task, of_item, of_entry, Walking, World, row_at, key_at, Values, Seen, IsLawful}
-use Rattle.pagable_world.specs.Refusals.{IsReference}
-use Rattle.pagable_world.specs.Workers.{IsPublished, is_workers_load}
-use Rattle.pagable_world.specs.Events.{reading_at}
-use Rattle.pagable_world.specs.Pager.{PagerState, MachineState, world_of, IsMachineWhole, IsIdle, IsReadingOf, ValueStands, StandsFor, kids_of}
-use Rattle.pagable_world.specs.Runs.{ReadsItsTypes, HoldsSettled, Moment, AreMoments, state_after, events_of, replies_of, Fact, TreesAlong}
-use Rattle.pagable_world.specs.Order.{steps_of, InOrder, OnceEach, MetError, IsBounded, HasStepLeft, IsWithinBound, is_claim_of}
 
 -- the node of this handle has a value in memory, which stands for the tree that the node was made with
 pub record GivesTree {N E : Type 0} (v : Values N) (s : PagerState N E) (trees : ℕ → Tree) (k : HandleNumber) : Type 0 where

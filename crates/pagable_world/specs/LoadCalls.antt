@@ -1,17 +1,16 @@
 -- The calls on loads: one reading of a value from the store, from its begin to its end.
 use Rattle.std.specs.Prelude.{ℕ, ◌≡◌, ◌+◌, ◌<◌, ◌⊎◌, ◌==◌, ◌&&◌, Bool, true, false, not, List, [], map, Option, Some, None, Result, Ok, Err, IfOk, IfErr, if◌then◌else◌}
-use Rattle.pagable_world.specs.Plain.{Error, OptionalDataKey, Kind, ArcRef, HandleNumber, LoadNumber, NodeNumber, Blob, type_of, Owner, HandleRow, Beginning, Want, is_in, updated, is_loose_kind, is_pinned_kind, if_there}
+use Rattle.pagable_world.specs.Plain.{Error, OptionalDataKey, Kind, ArcRef, HandleNumber, LoadNumber, NodeNumber, Blob, type_of, Owner, HandleRow, Beginning, Want, is_in, updated, is_loose_kind}
+use Rattle.pagable_world.specs.{Plain.{is_pinned_kind, if_there}, Kinds.{mode_of, is_loose, any_mode, owner_value, find_row, is_owned_by}, World.{Core, Root, of_cell, of_key, OpenLoad, greatest}}
+use Rattle.pagable_world.specs.{World.{type_at, key_at, is_here, usable, Alike}, Cascade.{Falls, FallsAnyhow}, Refusals.{earlier, where_so, refused_if, spent, AreHandlesFull, Owns, handle_fault}}
+use Rattle.pagable_world.specs.{Refusals.{references_fault, named_fault, OwnsLoad, load_fault, closed_fault, Refused}, Calls.{with_handle, with_mode, with_node, next_node, moved, is_named_by}}
+use Rattle.pagable_world.specs.Calls.{is_handle_here, birth_fault, IsNext, IsRefused, is_usable, with_known, with_cached_if_open, FetchCall}
 use Rattle.pagable_model.specs.declared.error.Error.TheVariants as errors
 use Rattle.pagable_model.specs.declared.data_key.OptionalDataKey.TheVariants as optional
 use Rattle.pagable_world.specs.declared.rows.Mode.TheVariants as modes
 use Rattle.pagable_world.specs.declared.handles.Owner.TheVariants as owners
 use Rattle.pagable_world.specs.declared.answers.Beginning.TheVariants as beginnings
 use Rattle.pagable_world.specs.declared.calls.Want.TheVariants as wants
-use Rattle.pagable_world.specs.Kinds.{mode_of, is_loose, any_mode, owner_value, find_row, is_owned_by}
-use Rattle.pagable_world.specs.World.{Core, Root, of_cell, of_key, OpenLoad, greatest, type_at, key_at, is_here, usable, Alike}
-use Rattle.pagable_world.specs.Cascade.{Falls, FallsAnyhow}
-use Rattle.pagable_world.specs.Refusals.{earlier, where_so, refused_if, spent, AreHandlesFull, Owns, handle_fault, references_fault, named_fault, OwnsLoad, load_fault, closed_fault, Refused}
-use Rattle.pagable_world.specs.Calls.{with_handle, with_mode, with_node, next_node, moved, is_named_by, is_handle_here, birth_fault, IsNext, IsRefused, is_usable, with_known, with_cached_if_open, FetchCall}
 
 -- one more load, under the next number
 abbrev pub with_load : Core → ℕ → Root → Owner → Core

@@ -1,9 +1,9 @@
 -- What holds besides where each load's and each worker's steps stand together, and of one cache.
 use Rattle.std.specs.Prelude.{ℕ, ◌≡◌, ◌≢◌, ◌<◌, ◌⊎◌, max, true, false, List, [], ◌∷◌, Some, Ok, slice_get}
-use Rattle.pagable_model.specs.Deep.{Kid}
-use Rattle.pagable_model.specs.Meaning.{pair, variant, followed}
-use Rattle.pagable_model.specs.Merkle.{TreeForm}
-use Rattle.pagable_world.specs.Plain.{Error, ArcRef, HandleNumber, Identity, Kind, LoadNumber, NodeNumber, Meaning, Shape, Tree, Types, tree, type_of, Owner, HandleRow, Event, EventReply, Among, longest_path, above, height, deepest_path}
+use Rattle.pagable_model.specs.{Deep.Kid, Meaning.{pair, variant, followed}, Merkle.TreeForm}
+use Rattle.pagable_world.specs.Plain.{Error, ArcRef, HandleNumber, Identity, Kind, LoadNumber, NodeNumber, Meaning, Shape, Tree, Types, tree, type_of, Owner, HandleRow, Event, EventReply, Among}
+use Rattle.pagable_world.specs.{Plain.{longest_path, above, height, deepest_path}, Kinds.fits_mode, World.{Core, OpenLoad, of_cell, Task, of_item, of_entry, Walking, row_at, Values, Seen}}
+use Rattle.pagable_world.specs.{LoadCalls.{from_cache, AskCall, Adopts, LazyCall}, Workers.IsPublished, Pager.{MachineState, IsWhole, IsMachineWhole}, Runs.{Moment, AreMoments, state_after, Fact}}
 use Rattle.pagable_model.specs.declared.error.Error.TheVariants as errors
 use Rattle.pagable_world.specs.declared.answers.Beginning.TheVariants as beginnings
 use Rattle.pagable_world.specs.declared.calls.Want.TheVariants as wants
@@ -13,12 +13,6 @@ use Rattle.pagable_world.specs.declared.events.WorkerAnswer.TheVariants as final
 use Rattle.pagable_world.specs.declared.events.LoadAnswer.TheVariants as ends
 use Rattle.pagable_world.specs.declared.events.Event.TheVariants as events
 use Rattle.pagable_world.specs.declared.events.EventReply.TheVariants as answers
-use Rattle.pagable_world.specs.Kinds.{fits_mode}
-use Rattle.pagable_world.specs.World.{Core, OpenLoad, of_cell, Task, of_item, of_entry, Walking, row_at, Values, Seen}
-use Rattle.pagable_world.specs.LoadCalls.{from_cache, AskCall, Adopts, LazyCall}
-use Rattle.pagable_world.specs.Workers.{IsPublished}
-use Rattle.pagable_world.specs.Pager.{MachineState, IsWhole, IsMachineWhole}
-use Rattle.pagable_world.specs.Runs.{Moment, AreMoments, state_after, Fact}
 
 -- whose turn a moment is; the begin of a load or worker is its first
 pub data Turn : Type 0 where

@@ -1,16 +1,15 @@
 -- The order of a worker's steps: an automaton over what it has to do, which says nothing of pager and table. And how many steps workers and loads make at most.
 use Rattle.std.specs.Prelude.{ℕ, ◌≡◌, ◌≤◌, ◌==◌, ◌&&◌, if◌then◌else◌, Bool, false, List, [], ◌∷◌, ◌++◌, Some, None, Ok, Err, ◌+◌, ◌*◌, ◌<◌, ◌⊎◌, max, true, map, length, sum_by, Option, IsSome}
 use Rattle.pagable_world.specs.Plain.{Error, HandleNumber, Identity, type_of, Types, ArcRef, Kind, Meaning, Blob, Took, Event, EventReply, LoadReply, times, is_eager, longest_path}
+use Rattle.pagable_world.specs.{Kinds.identity_of, World.{Written, Frame, was_failed, Todo, to_start, to_pin, to_load, to_write, to_finish, to_item, to_set, to_publish, to_release, to_fail, Task}}
+use Rattle.pagable_world.specs.{World.{is_identity, Reading, of_item, of_entry, Walking}, Loads.{gone_on, Next, reads, asks, is_faulty, next_of}, Workers.{give, give_known, open_node, first_todo}}
+use Rattle.pagable_world.specs.Workers.{failing, failing_by, fresh}
 use Rattle.pagable_model.specs.declared.error.Error.TheVariants as errors
 use Rattle.pagable_world.specs.declared.events.Claim.TheVariants as claims
 use Rattle.pagable_world.specs.declared.events.PinStep.TheVariants as pinsteps
 use Rattle.pagable_world.specs.declared.events.Took.TheVariants as took
 use Rattle.pagable_world.specs.declared.events.Event.TheVariants as events
 use Rattle.pagable_world.specs.declared.events.EventReply.TheVariants as answers
-use Rattle.pagable_world.specs.Kinds.{identity_of}
-use Rattle.pagable_world.specs.World.{Written, Frame, was_failed, Todo, to_start, to_pin, to_load, to_write, to_finish, to_item, to_set, to_publish, to_release, to_fail, Task, is_identity, Reading, of_item, of_entry, Walking}
-use Rattle.pagable_world.specs.Loads.{gone_on, Next, reads, asks, is_faulty, next_of}
-use Rattle.pagable_world.specs.Workers.{give, give_known, open_node, first_todo, failing, failing_by, fresh}
 
 -- the step that this reply tells of the worker
 abbrev pub step_of : {N B W : Type 0} → ℕ → Event N B W → EventReply N B W → List (Took W)

@@ -2,11 +2,11 @@
 -- whole; and what a step does to values. What nodes stand for, by recursion on trees that never leave memory; and when a pager stands for them.
 use Rattle.std.specs.Prelude.{ℕ, ◌≡◌, ◌<◌, ◌≤◌, ◌==◌, ◌&&◌, ◌⊎◌, true, false, List, [], ◌∷◌, length, Option, Some, None, is_some, is_none, Result, Ok, Err, IfOk, nat_lt, ℤ, map, slice_get}
 use Rattle.std.specs.List.{AllPairs}
-use Rattle.pagable_model.specs.Refusals.{is_writing_fault}
-use Rattle.pagable_model.specs.Writing.{nesting, NoFormOfSome}
-use Rattle.pagable_model.specs.Meaning.{number, integer, text, pattern, none, pair, variant, reference, followed}
-use Rattle.pagable_model.specs.Deep.{Kid, kid}
-use Rattle.pagable_world.specs.Plain.{Error, ArcRef, Identity, HandleNumber, LoadNumber, NodeNumber, Shape, type_of, Owner, HandleRow, Call, Event, EventReply, Took, Among, times, Meaning, Blob, Tree, Types, tree, ReadsTree, is_shared_kind}
+use Rattle.pagable_model.specs.{Refusals.is_writing_fault, Writing.{nesting, NoFormOfSome}, Meaning.{number, integer, text, pattern, none, pair, variant, reference, followed}, Deep.{Kid, kid}}
+use Rattle.pagable_world.specs.Plain.{Error, ArcRef, Identity, HandleNumber, LoadNumber, NodeNumber, Shape, type_of, Owner, HandleRow, Call, Event, EventReply, Took, Among, times, Meaning, Blob}
+use Rattle.pagable_world.specs.{Plain.{Tree, Types, tree, ReadsTree, is_shared_kind}, Kinds.{is_pinning, is_loose, is_shared, is_owned_by, owner_value, is_handle, held, pins, sharing, has_key}}
+use Rattle.pagable_world.specs.World.{Core, OpenLoad, Root, of_cell, of_key, Reading, Todo, to_load, Walking, Work, World, Written, greatest, row_at, type_at, key_at, is_here, Values, Seen, HasForm}
+use Rattle.pagable_world.specs.{World.Frame, Refusals.IsReference, Calls.Looks, Loads.{ReadsNode, ReadsRoot, asks, next_in}, Events.reading_at}
 use Rattle.pagable_world.specs.declared.rows.Mode.TheVariants as modes
 use Rattle.pagable_world.specs.declared.handles.Owner.TheVariants as owners
 use Rattle.pagable_world.specs.declared.calls.Call.TheVariants as calls
@@ -14,12 +14,6 @@ use Rattle.pagable_world.specs.declared.events.Event.TheVariants as events
 use Rattle.pagable_world.specs.declared.events.EventReply.TheVariants as answers
 use Rattle.pagable_world.specs.declared.events.Took.TheVariants as took
 use Rattle.pagable_model.specs.declared.data_key.OptionalDataKey.TheVariants as optional
-use Rattle.pagable_world.specs.Kinds.{is_pinning, is_loose, is_shared, is_owned_by, owner_value, is_handle, held, pins, sharing, has_key}
-use Rattle.pagable_world.specs.World.{Core, OpenLoad, Root, of_cell, of_key, Reading, Todo, to_load, Walking, Work, World, Written, greatest, row_at, type_at, key_at, is_here, Values, Seen, HasForm, Frame}
-use Rattle.pagable_world.specs.Refusals.{IsReference}
-use Rattle.pagable_world.specs.Calls.{Looks}
-use Rattle.pagable_world.specs.Loads.{ReadsNode, ReadsRoot, asks, next_in}
-use Rattle.pagable_world.specs.Events.{reading_at}
 
 -- the pager: the kept counts and the values by their nodes' numbers
 pub record PagerState (N E : Type 0) : Type 0 where

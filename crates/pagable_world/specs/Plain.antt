@@ -1,37 +1,13 @@
 -- The plain types of which the world speaks, from one place; and words on lists, and on functions of a number.
 use Rattle.std.specs.Prelude.{ℕ, ◌≡◌, ◌==◌, ◌||◌, Bool, false, if◌then◌else◌, List, [], ◌∷◌, map, sum_by, Option, Some, None, slice_get}
-pub use Rattle.pagable_model.specs.Blob.{Blob}
-pub use Rattle.pagable_model.specs.Deep.{Kid, kind_of_kid, is_shared_kind, is_loose_kind, is_pinned_kind, is_eager, longest_path, above, height, deepest_path}
-pub use Rattle.pagable_model.specs.Meaning.{Meaning}
-pub use Rattle.pagable_model.specs.Shape.{Shape}
-pub use Rattle.pagable_model.specs.Trees.{Types, type_of, Tree, tree, ReadsTree}
-pub use Rattle.pagable_model.specs.declared.data_key.OptionalDataKey.{OptionalDataKey}
-pub use Rattle.pagable_model.specs.declared.error.Error.{Error}
-pub use Rattle.pagable_model.specs.declared.numbers.ArcRef.{ArcRef}
-pub use Rattle.pagable_model.specs.declared.numbers.HandleNumber.{HandleNumber}
-pub use Rattle.pagable_model.specs.declared.numbers.Identity.{Identity}
-pub use Rattle.pagable_model.specs.declared.numbers.Kind.{Kind}
-pub use Rattle.pagable_model.specs.declared.numbers.LoadNumber.{LoadNumber}
-pub use Rattle.pagable_model.specs.declared.numbers.NodeNumber.{NodeNumber}
-pub use Rattle.pagable_model.specs.declared.numbers.WorkerNumber.{WorkerNumber}
-pub use Rattle.pagable_world.specs.declared.answers.Beginning.{Beginning}
-pub use Rattle.pagable_world.specs.declared.answers.Pinning.{Pinning}
-pub use Rattle.pagable_world.specs.declared.calls.Call.{Call}
-pub use Rattle.pagable_world.specs.declared.calls.Found.{Found}
-pub use Rattle.pagable_world.specs.declared.calls.Reply.{Reply}
-pub use Rattle.pagable_world.specs.declared.calls.Want.{Want}
-pub use Rattle.pagable_world.specs.declared.events.Claim.{Claim}
-pub use Rattle.pagable_world.specs.declared.events.Event.{Event}
-pub use Rattle.pagable_world.specs.declared.events.EventReply.{EventReply}
-pub use Rattle.pagable_world.specs.declared.events.LoadAnswer.{LoadAnswer}
-pub use Rattle.pagable_world.specs.declared.events.LoadReply.{LoadReply}
-pub use Rattle.pagable_world.specs.declared.events.PinStep.{PinStep}
-pub use Rattle.pagable_world.specs.declared.events.TableNumber.{TableNumber}
-pub use Rattle.pagable_world.specs.declared.events.Took.{Took}
-pub use Rattle.pagable_world.specs.declared.events.WorkerAnswer.{WorkerAnswer}
-pub use Rattle.pagable_world.specs.declared.events.WorkerReply.{WorkerReply}
-pub use Rattle.pagable_world.specs.declared.handles.HandleRow.{HandleRow}
-pub use Rattle.pagable_world.specs.declared.handles.Owner.{Owner}
+pub use Rattle.pagable_model.specs.{Blob.Blob, Deep.{Kid, kind_of_kid, is_shared_kind, is_loose_kind, is_pinned_kind, is_eager, longest_path, above, height, deepest_path}, Meaning.Meaning}
+pub use Rattle.pagable_model.specs.{Shape.Shape, Trees.{Types, type_of, Tree, tree, ReadsTree}, declared.data_key.OptionalDataKey.OptionalDataKey, declared.error.Error.Error}
+pub use Rattle.pagable_model.specs.{declared.numbers.ArcRef.ArcRef, declared.numbers.HandleNumber.HandleNumber, declared.numbers.Identity.Identity, declared.numbers.Kind.Kind}
+pub use Rattle.pagable_model.specs.{declared.numbers.LoadNumber.LoadNumber, declared.numbers.NodeNumber.NodeNumber, declared.numbers.WorkerNumber.WorkerNumber}
+pub use Rattle.pagable_world.specs.{declared.answers.Beginning.Beginning, declared.answers.Pinning.Pinning, declared.calls.Call.Call, declared.calls.Found.Found, declared.calls.Reply.Reply}
+pub use Rattle.pagable_world.specs.{declared.calls.Want.Want, declared.events.Claim.Claim, declared.events.Event.Event, declared.events.EventReply.EventReply, declared.events.LoadAnswer.LoadAnswer}
+pub use Rattle.pagable_world.specs.{declared.events.LoadReply.LoadReply, declared.events.PinStep.PinStep, declared.events.TableNumber.TableNumber, declared.events.Took.Took}
+pub use Rattle.pagable_world.specs.{declared.events.WorkerAnswer.WorkerAnswer, declared.events.WorkerReply.WorkerReply, declared.handles.HandleRow.HandleRow, declared.handles.Owner.Owner}
 pub use Rattle.pagable_world.specs.declared.rows.Mode.{Mode}
 
 -- 1 for true, so that rows are counted by a sum

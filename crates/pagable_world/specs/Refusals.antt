@@ -1,10 +1,9 @@
 -- Why a call is refused: a function of the world. Where several causes hold, the first of this order is answered: nothing has the number; it is
 -- another's; its mode doesn't fit; its type doesn't; no number is left; memory is wanting.
 use Rattle.std.specs.Prelude.{ℕ, ◌≡◌, ◌≤◌, ◌==◌, ◌||◌, ◌⊎◌, Bool, true, false, not, if◌then◌else◌, List, [], ◌∷◌, length, Option, Some, None, nat_lt, nat_le}
-use Rattle.pagable_world.specs.Plain.{Error, ArcRef, HandleNumber, LoadNumber, type_of, Mode, Owner, HandleRow, is_in, or_else, if_there}
+use Rattle.pagable_world.specs.{Plain.{Error, ArcRef, HandleNumber, LoadNumber, type_of, Mode, Owner, HandleRow, is_in, or_else, if_there}, Kinds.{fits_mode, is_owner}, World.{Core, OpenLoad}}
+use Rattle.pagable_world.specs.World.{greatest, row_at, type_at, Alike}
 use Rattle.pagable_model.specs.declared.error.Error.TheVariants as errors
-use Rattle.pagable_world.specs.Kinds.{fits_mode, is_owner}
-use Rattle.pagable_world.specs.World.{Core, OpenLoad, greatest, row_at, type_at, Alike}
 
 -- the places of refusals in the order
 abbrev pub rank : Error → ℕ

@@ -2,19 +2,15 @@
 -- nothing and keeps no two blobs under one key is asked nowhere here: these are laws of every storage, so they stand in the steps.
 use Rattle.std.specs.Prelude.{ℕ, ◌≡◌, List, [], ◌∷◌, map, Option, Some, None, Ok}
 use Rattle.pagable_model.specs.Canonical.{IsReadableType}
-use Rattle.pagable_world.specs.Plain.{Tree, Types, ReadsTree, type_of, Kind, Event, EventReply, HandleRow, Call, Reply, LoadAnswer}
+use Rattle.pagable_world.specs.{Plain.{Tree, Types, ReadsTree, type_of, Kind, Event, EventReply, HandleRow, Call, Reply, LoadAnswer}, Kinds.{is_loose, any_mode}, World.{Seen, Values, IsSettled}}
+use Rattle.pagable_world.specs.{World.{Reading, Todo, to_load, Walking}, Refusals.Owns, Loads.{needs_lazy, need_of}, Events.{Step, reading_at}, Pager.{MachineState, world_of, Moves, EventBrings}}
+use Rattle.pagable_world.specs.Pager.{ReplyWrites, IsMachineWhole, PagerState, IsCellOf, StandsFor, SameTrees, ValueStands}
 use Rattle.pagable_world.specs.declared.handles.Owner.TheVariants as owners
 use Rattle.pagable_world.specs.declared.calls.Call.TheVariants as calls
 use Rattle.pagable_world.specs.declared.calls.Reply.TheVariants as replies
 use Rattle.pagable_world.specs.declared.events.LoadAnswer.TheVariants as ends
 use Rattle.pagable_world.specs.declared.events.Event.TheVariants as events
 use Rattle.pagable_world.specs.declared.events.EventReply.TheVariants as answers
-use Rattle.pagable_world.specs.Kinds.{is_loose, any_mode}
-use Rattle.pagable_world.specs.World.{Seen, Values, IsSettled, Reading, Todo, to_load, Walking}
-use Rattle.pagable_world.specs.Refusals.{Owns}
-use Rattle.pagable_world.specs.Loads.{needs_lazy, need_of}
-use Rattle.pagable_world.specs.Events.{Step, reading_at}
-use Rattle.pagable_world.specs.Pager.{MachineState, world_of, Moves, EventBrings, ReplyWrites, IsMachineWhole, PagerState, IsCellOf, StandsFor, SameTrees, ValueStands}
 
 -- Each type of the environment is read back from its forms. Where types have tags, this is the registry of distinct tags: each tag that a value writes has a reader of that tag's body.
 abbrev pub ReadsItsTypes : Types → Type 0

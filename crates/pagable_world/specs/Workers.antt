@@ -1,7 +1,12 @@
 -- A page-out worker's steps. A worker has a list of what it has to do; each step does what stands at its front, and says what it does to the pager, to the table and to the list.
-use Rattle.std.specs.Prelude.{ℕ, ◌≡◌, ◌+◌, ◌<◌, ◌≤◌, ◌&&◌, ◌||◌, ◌⊎◌, Bool, true, false, if◌then◌else◌, List, [], ◌∷◌, ◌++◌, length, drop, max, Option, Some, None, Result, Ok, Err, IfOk, IfErr, nat_eq}
+use Rattle.std.specs.Prelude.{ℕ, ◌≡◌, ◌+◌, ◌<◌, ◌≤◌, ◌&&◌, ◌||◌, ◌⊎◌, Bool, true, false, if◌then◌else◌, List, [], ◌∷◌, ◌++◌, length, drop, max, Option, Some, None, Result, Ok, Err, IfOk, IfErr}
+use Rattle.std.specs.Prelude.{nat_eq}
 use Rattle.pagable_model.specs.Merkle.{blob_of}
-use Rattle.pagable_world.specs.Plain.{Error, ArcRef, Identity, HandleNumber, LoadNumber, type_of, Owner, HandleRow, Claim, PinStep, Took, WorkerAnswer, updated, is_eager, longest_path, above, if_there}
+use Rattle.pagable_world.specs.Plain.{Error, ArcRef, Identity, HandleNumber, LoadNumber, type_of, Owner, HandleRow, Claim, PinStep, Took, WorkerAnswer, updated, is_eager, longest_path, above}
+use Rattle.pagable_world.specs.{Plain.if_there, Kinds.{identity_of, is_owner, is_loose, owner_worker, find_row, is_at, is_owned_by}, World.{Core, OpenLoad, Shelf, Slot, Outcome, no_result}}
+use Rattle.pagable_world.specs.World.{published, failed, Written, Frame, Reading, Fault, was_refused, was_failed, answer_of_fault, Todo, to_start, to_pin, to_load, to_write, to_finish, to_item}
+use Rattle.pagable_world.specs.{World.{to_set, to_publish, to_release, to_fail, Task, of_item, of_entry, row_at, is_identity, Alike, SameShelf, Values, Seen, digest, seen_as}, Cascade.FallsAnyhow}
+use Rattle.pagable_world.specs.{Refusals.row_fault, Calls.{CloneCall, PinCall, SetKeyCall, ScheduleCall, StoreCall}, LoadCalls.BeginCall, Loads.{ReadingDoes, gone_on}}
 use Rattle.pagable_model.specs.declared.error.Error.TheVariants as errors
 use Rattle.pagable_world.specs.declared.handles.Owner.TheVariants as owners
 use Rattle.pagable_world.specs.declared.answers.Pinning.TheVariants as pinnings
@@ -11,13 +16,6 @@ use Rattle.pagable_world.specs.declared.events.LoadAnswer.TheVariants as ends
 use Rattle.pagable_world.specs.declared.events.PinStep.TheVariants as pinsteps
 use Rattle.pagable_world.specs.declared.events.Took.TheVariants as took
 use Rattle.pagable_world.specs.declared.events.WorkerAnswer.TheVariants as finals
-use Rattle.pagable_world.specs.Kinds.{identity_of, is_owner, is_loose, owner_worker, find_row, is_at, is_owned_by}
-use Rattle.pagable_world.specs.World.{Core, OpenLoad, Shelf, Slot, Outcome, no_result, published, failed, Written, Frame, Reading, Fault, was_refused, was_failed, answer_of_fault, Todo, to_start, to_pin, to_load, to_write, to_finish, to_item, to_set, to_publish, to_release, to_fail, Task, of_item, of_entry, row_at, is_identity, Alike, SameShelf, Values, Seen, digest, seen_as}
-use Rattle.pagable_world.specs.Cascade.{FallsAnyhow}
-use Rattle.pagable_world.specs.Refusals.{row_fault}
-use Rattle.pagable_world.specs.Calls.{CloneCall, PinCall, SetKeyCall, ScheduleCall, StoreCall}
-use Rattle.pagable_world.specs.LoadCalls.{BeginCall}
-use Rattle.pagable_world.specs.Loads.{ReadingDoes, gone_on}
 
 -- the place of a reference on the path below a node at this one; a path ends at a reference through a loose handle
 abbrev pub place_below : ℕ → ℕ → ℕ

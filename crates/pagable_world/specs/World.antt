@@ -1,16 +1,11 @@
 -- The plain world: handles, cells, list, cache, store, loads, claims and workers, with no values and no counts; in parts, by who tells them. What the
 -- caller's types say of values: the members of the traits, with what is asked of them.
 use Rattle.std.specs.Prelude.{ℕ, ◌≡◌, ◌≤◌, ◌==◌, ◌&&◌, ◌^◌, ◌-◌, ◌+◌, min, Bool, not, if◌then◌else◌, List, Option, Some, None, true, Result, Ok, Err}
-use Rattle.pagable_model.specs.Blob.{key_of}
-use Rattle.pagable_model.specs.Reading.{deepest}
-use Rattle.pagable_model.specs.Refusals.{is_own_reading, may_refuse_writing}
-use Rattle.pagable_model.specs.Form.{Form}
-use Rattle.pagable_model.specs.Writing.{kind_of_arc}
-use Rattle.pagable_model.specs.References.{references_in, SameReferences}
-use Rattle.pagable_world.specs.Plain.{Error, OptionalDataKey, Kind, ArcRef, Identity, HandleNumber, LoadNumber, NodeNumber, Blob, Owner, HandleRow, WorkerAnswer, SameAt, Meaning, Shape, Types, is_pinned_kind, if_there}
+use Rattle.pagable_model.specs.{Blob.key_of, Reading.deepest, Refusals.{is_own_reading, may_refuse_writing}, Form.Form, Writing.kind_of_arc, References.{references_in, SameReferences}}
+use Rattle.pagable_world.specs.Plain.{Error, OptionalDataKey, Kind, ArcRef, Identity, HandleNumber, LoadNumber, NodeNumber, Blob, Owner, HandleRow, WorkerAnswer, SameAt, Meaning, Shape, Types}
+use Rattle.pagable_world.specs.{Plain.{is_pinned_kind, if_there}, Kinds.{find_row, pins, is_in_memory}}
 use Rattle.pagable_model.specs.declared.data_key.OptionalDataKey.TheVariants as optional
 use Rattle.pagable_world.specs.declared.events.WorkerAnswer.TheVariants as finals
-use Rattle.pagable_world.specs.Kinds.{find_row, pins, is_in_memory}
 
 -- a node by the type of its value and its key
 pub record Cell : Type 0 where
