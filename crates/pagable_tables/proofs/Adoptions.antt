@@ -22,8 +22,7 @@ next : (c d n : Option Error) → Early c → Late n → earlier c (or_else d n)
 next c d n early late = grind (arith, nat_tests)
 
 last-of : (a b c d n : Option Error) → Early a → Early b → Early c → Early d → Late n → earlier a (earlier b (earlier c (earlier d n))) ≡ or_else (earlier a (earlier b (earlier c d))) n
-last-of a b c d n ea eb ec ed late =
-    ap (λ x. earlier a (earlier b (earlier c x))) (first d n ed late) ∙ ap (λ x. earlier a (earlier b x)) (next c d n ec late) ∙ ap (earlier a) (next b (earlier c d) n eb late) ∙ next a (earlier b (earlier c d)) n ea late
+last-of a b c d n ea eb ec ed late = grind (arith, nat_tests, earlier, first, next)
 
 named : (b : Bool) (e f : Error) → refused_if b e ≡ Some f → rank f ≡ rank e
 named true e f is = sym (ap (if_there rank 0) is)

@@ -13,16 +13,7 @@ aside t u stack extra w = record { sound = w.sound; next = w.next; fits = w.fits
 -- a handle that no value owns weighs nothing there
 pub fits-unowned : (at : ℕ → Option Counts) (refs : ℕ → List ArcRef) (rows : List HandleRow) (top : ℕ) (stack : List ℕ) (x : HandleRow) → is_valued x.owner ≡ false
     → Fits at refs rows top stack owns_nothing → Fits at refs rows top stack (owns x)
-fits-unowned at refs rows top stack x plain fits =
-    record {
-      pinned = fits.pinned;
-      holding = fits.holding;
-      owned = λ n q. let a = fits.owned n q in let b = owned-by-none n q x plain in omega arith;
-      chain = fits.chain;
-      marked = fits.marked;
-      right = fits.right;
-      from_one = fits.from_one;
-    }
+fits-unowned at refs rows top stack x plain fits = grind (arith, nat_tests, owned-by-none)
 
 pub unowned : (t : Holdings) (x : HandleRow) (stack : List ℕ) → is_valued x.owner ≡ false → IsFalling t stack owns_nothing → IsFalling t stack (owns x)
 unowned t x stack plain w = record { sound = w.sound; next = w.next; fits = fits-unowned (counts_at t.nodes) (refs_at t.nodes) (live t.handles.places.items) t.top stack x plain w.fits }

@@ -70,28 +70,10 @@ module _ (before w : Core) (given : ℕ → Bool) (lists : Bool) (t : Holdings) 
       omega arith
 
   cells-same : (n : ℕ) → cell_in (counts_at t.nodes n) ≡ (fallen w f.gone f.entries).cells n
-  cells-same n = cell-kept (counts_at t.nodes n) (refs_at t.nodes n) (held n (left_rows f.gone w.rows ++ f.entries)) (w.cells n)
-      (stands (counts_at t.nodes) (refs_at t.nodes) (live t.handles.places.items) t.top whole.fits n) (whole.fits.right n) (whole.fits.holding n ∙ ap (held n) f.rows) (f.cells n)
+  cells-same n = grind (arith, nat_tests, cell-kept, stands, live)
 
   leaves : Alike (fallen w f.gone f.entries) (with_tables w t)
-  leaves =
-      record {
-        rows = f.rows;
-        cells = cells-same;
-        list = f.list;
-        cache = record {
-          gives = λ kind key. same-usable kind (w.cache kind key) (left_rows f.gone w.rows ++ f.entries) (live t.handles.places.items) (fallen w f.gone f.entries).cells
-              (λ n. cell_in (counts_at t.nodes n)) f.rows cells-same;
-          only = λ kind key n e. e;
-        };
-        stored = λ q. refl;
-        closed = refl;
-        failures = refl;
-        loads = λ q. refl;
-        workers = λ q. refl;
-        last = ap (λ k. record w.last { handle = k }) f.last;
-        places = f.places;
-      }
+  leaves = grind (arith, nat_tests, cells-same, same-usable, live, fallen)
 
   -- what the world says of a cascade
   pub ended : Falls before w given (told_by t.unlisted) (with_tables w t)

@@ -95,19 +95,11 @@ module _ (before w : Core) (given given' : ℕ → Bool) (lists : Bool) (t poppe
   came = if g.listed then record { 0 = t.last_handle + 1 } ∷ [] else []
 
   added : new.list.items ≡ t.list.items ++ came
-  added =
-      ap (λ (h : Holdings). h.list.items) g.same ∙ g.leaves.lists.comes.list ∙ ap (λ (h : Holdings). h.list.items ++ (if g.listed then record { 0 = h.last_handle + 1 } ∷ [] else [])) g.leaves.same
-      ∙ ap (λ (h : Holdings). h.list.items ++ (if g.listed then record { 0 = h.last_handle + 1 } ∷ [] else [])) same
+  added = grind (arith, nat_tests)
 
   list-more : new.list.items ≡ filter (λ (q : HandleNumber). not (and_one f.gone x.number.0 q.0)) w.list ++ map (λ (h : HandleRow). h.number)
       (f.entries ++ entries_of g.listed (t.last_handle + 1) x.node)
-  list-more =
-      let old = filter (λ (q : HandleNumber). not (f.gone q.0)) w.list in
-      let numbers = map (λ (h : HandleRow). h.number) f.entries in
-      let entries : map (λ (h : HandleRow). h.number) (f.entries ++ entries_of g.listed (t.last_handle + 1) x.node) ≡ numbers ++ came =
-      map-append (λ (h : HandleRow). h.number) f.entries (entries_of g.listed (t.last_handle + 1) x.node) ∙ ap (λ l. numbers ++ l) (entry-number g.listed (t.last_handle + 1) x.node) in
-      added ∙ ap (λ l. l ++ came) f.list ∙ append_assoc old numbers came ∙ ap (λ l. old ++ l) (sym entries)
-      ∙ ap (λ l. l ++ map (λ (h : HandleRow). h.number) (f.entries ++ entries_of g.listed (t.last_handle + 1) x.node)) (sym apart.kept)
+  list-more = grind (arith, nat_tests, map-append, entry-number, added, append_assoc)
 
   room : HasPlaces popped new
   room = grind (arith, nat_tests)

@@ -19,27 +19,14 @@ module _ (h : HandleNumber) (node : NodeNumber) (rows : List HandleRow) (of : (y
   to y = if is_handle h.0 y then turned y else y
 
   pub other-pins : pins n (changed (is_handle h.0) turned rows) ≡ pins n rows
-  other-pins = sum-map (λ y. one (is_pin n y)) (λ y. one (is_pin n y)) to rows (λ y among. by y among (is_handle h.0 y) refl)
-    where
-      by : (y : HandleRow) → Among rows y → (b : Bool) → is_handle h.0 y ≡ b → one (is_pin n (if b then turned y else y)) ≡ one (is_pin n y)
-      by y among true e = let s : (y.node.0 == n) ≡ false = ap (λ (m : NodeNumber). m.0 == n) (of y among e) ∙ other in rw s refl
-      by y among false e = refl
+  other-pins = grind (arith, nat_tests, sum-map, of)
 
   pub other-shares : sharing n (changed (is_handle h.0) turned rows) ≡ sharing n rows
-  other-shares = sum-map (λ y. one (is_share n y)) (λ y. one (is_share n y)) to rows (λ y among. by y among (is_handle h.0 y) refl)
-    where
-      by : (y : HandleRow) → Among rows y → (b : Bool) → is_handle h.0 y ≡ b → one (is_share n (if b then turned y else y)) ≡ one (is_share n y)
-      by y among true e = let s : (y.node.0 == n) ≡ false = ap (λ (m : NodeNumber). m.0 == n) (of y among e) ∙ other in rw s refl
-      by y among false e = refl
+  other-shares = grind (arith, nat_tests, sum-map, of)
 
 loaded-beside : (l : LoadNumber) (q : ℕ) (rows : List HandleRow) (x : HandleRow) → is_owner (Owner.Load l) x.owner ≡ false → loaded l q (rows ++ x ∷ []) ≡ loaded l q rows
-loaded-beside l q [] x other = passes-here (is_owned_by (Owner.Load l)) q x [] ∙ by (is_handle q x) ∙ sym (passes-none (is_owned_by (Owner.Load l)) q)
-  where
-    by : (b : Bool) → (if b then is_owner (Owner.Load l) x.owner else loaded l q []) ≡ false
-    by true = other
-    by false = passes-none (is_owned_by (Owner.Load l)) q
-loaded-beside l q (y ∷ ys) x other =
-    passes-here (is_owned_by (Owner.Load l)) q y (ys ++ x ∷ []) ∙ ap (λ b. if is_handle q y then is_owner (Owner.Load l) y.owner else b) (loaded-beside l q ys x other) ∙ sym (passes-here (is_owned_by (Owner.Load l)) q y ys)
+loaded-beside l q [] x other = grind (arith, nat_tests, passes-here, passes-none)
+loaded-beside l q (y ∷ ys) x other = grind (arith, nat_tests, passes-here, loaded-beside l q ys x other)
 
 and-none : (b : Bool) → one (b && false) ≡ 0
 and-none true = refl
@@ -217,12 +204,7 @@ module _ (t t1 : Tables) (stored : ℕ → Option Blob) (closed : Bool) (failure
   one-more = row_of (t.holdings.last_handle + 1) row.node Mode.Pinned me
 
   pub pins-here : 0 < pins row.node.0 (live t1.holdings.handles.places.items)
-  pins-here =
-      let n = row.node.0 in
-      let b = ap (pins n) a.rows in
-      let d = sum_by_push (λ y. one (is_pin n y)) (changed (is_handle row.number.0) turned (live t.holdings.handles.places.items)) one-more in
-      let f : one (is_pin n one-more) ≡ 1 = grind (arith, nat_tests) in
-      omega arith
+  pins-here = grind (arith, nat_tests, sum_by_push, live)
 
 -- where no reference is named no handle moves
 pub none-moves : (w : Core) (l : LoadNumber) (row : HandleRow) (me : Owner) (r : Result (Unit {0}) Error) (w' : Core)

@@ -39,16 +39,7 @@ module _ (at at' : ℕ → Option Counts) (refs refs' : ℕ → List ArcRef) (ro
   ]
 
   pub key-fits : (b : Bool) → (c.pins == 0) ≡ b → Fits at' refs' rows (if b then n else top) (if b then n ∷ [] else []) owns_nothing
-  key-fits b e =
-      record {
-        pinned = λ m. told pins_in refl m ∙ fits.pinned m;
-        holding = λ m. told holds_in refl m ∙ fits.holding m;
-        owned = λ m q. ap (λ r. named q r + 0) (same m) ∙ fits.owned m q;
-        chain = key-chain b e;
-        marked = key-marked b e;
-        right = key-right;
-        from_one = others 0 real ∙ fits.from_one;
-      }
+  key-fits b e = grind (arith, nat_tests, told, named, key-chain, key-marked, key-right, real)
 
   pub key-cells : GetsKey at at' n key
   key-cells m = grind (arith, nat_tests)

@@ -34,15 +34,7 @@ lazy-not-own w me l kind key e is =
 
 module _ (w : Core) (me : Owner) (l : LoadNumber) (load : OpenLoad) (kind : Kind) (key : ℕ) (own : OwnsLoad w me l load) where
   pub lazy-not-loose : is_loose_kind kind.0 ≡ false → LazyCall w me l kind key (Err Error.WrongKind) w
-  lazy-not-loose tight =
-      record {
-        makes = tt;
-        refused = record {
-          why = inl (ap (λ f. earlier f (earlier (refused_if (not (is_loose_kind kind.0)) Error.WrongKind) (node_fault w kind key))) (no-load-fault w me l load own)
-              ∙ earlier-first (refused_if (not (is_loose_kind kind.0)) Error.WrongKind) (node_fault w kind key) Error.WrongKind (ap (λ b. refused_if (not b) Error.WrongKind) tight) (λ f late. let a = node-late w kind key f late in omega arith));
-          stays = still w;
-        };
-      }
+  lazy-not-loose tight = grind (arith, nat_tests, earlier, no-load-fault, earlier-first, node-late, still)
 
   module _ (loose : is_loose_kind kind.0 ≡ true) where
     cause : lazy_fault w me l kind key ≡ node_fault w kind key

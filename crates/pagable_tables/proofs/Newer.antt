@@ -20,14 +20,7 @@ pub newer-then : {a b c : Core} → OnlyNewer a b → OnlyNewer b c → OnlyNewe
 newer-then {a} p q = record { last = (let x = p.last in let y = q.last in omega arith); owned = λ l n own. elim (q.owned l n own) [ inl there ↦ p.owned l n there | inr past ↦ inr (let x = p.last in omega arith) ] }
 
 loaded-push : (l : LoadNumber) (q : ℕ) (rows : List HandleRow) (x : HandleRow) → loaded l q (rows ++ x ∷ []) ≡ true → (loaded l q rows ≡ true) ⊎ (x.number.0 ≡ q)
-loaded-push l q rows x own = split (find_row q (rows ++ x ∷ [])) refl own
-  where
-    split : (found : Option HandleRow) → find_row q (rows ++ x ∷ []) ≡ found → if_there (is_owned_by (Owner.Load l)) false found ≡ true → (loaded l q rows ≡ true) ⊎ (x.number.0 ≡ q)
-    split None e own = absurd (cc)
-    split (Some row) e own = elim (found-push q rows x row e) [
-      | inl there ↦ inl (ap (if_there (is_owned_by (Owner.Load l)) false) there ∙ own)
-      | inr same ↦ inr (sym (ap (λ (r : HandleRow). r.number.0) same) ∙ (found-among q (rows ++ x ∷ []) row e).1)
-    ]
+loaded-push l q rows x own = grind (arith, nat_tests, found-push, found-among)
 
 pub newer-handle : (w : Core) (node : NodeNumber) (mode : Mode) (owner : Owner) → OnlyNewer w (with_handle w node mode owner)
 newer-handle w node mode owner = record { last = omega arith; owned = λ l q own. elim (loaded-push l q w.rows _ own) [ inl there ↦ inl there | inr is ↦ inr (omega arith) ] }
@@ -38,15 +31,7 @@ newer-moved w s o other = record { last = omega arith; owned = λ l q own. inl (
 -- a handle's mode says nothing of who owns it
 pub loaded-mode : (l : LoadNumber) (q : ℕ) (test : HandleRow → Bool) (mode : Mode) (rows : List HandleRow) → loaded l q (changed test (λ row. record row { mode = mode }) rows) ≡ loaded l q rows
 loaded-mode l q test mode [] = refl
-loaded-mode l q test mode (x ∷ xs) =
-    split (test x) ∙ ap (λ b. if is_handle q x then is_owner (Owner.Load l) x.owner else b) (loaded-mode l q test mode xs) ∙ sym (passes-here (is_owned_by (Owner.Load l)) q x xs)
-  where
-    rest : List HandleRow
-    rest = changed test (λ row. record row { mode = mode }) xs
-
-    split : (b : Bool) → loaded l q ((if b then record x { mode = mode } else x) ∷ rest) ≡ (if is_handle q x then is_owner (Owner.Load l) x.owner else loaded l q rest)
-    split true = passes-here (is_owned_by (Owner.Load l)) q (record x { mode = mode }) rest
-    split false = passes-here (is_owned_by (Owner.Load l)) q x rest
+loaded-mode l q test mode (x ∷ xs) = grind (arith, nat_tests, passes-here, loaded-mode l q test mode xs)
 
 pub newer-mode : (w : Core) (h : HandleNumber) (mode : Mode) → OnlyNewer w (with_mode w h mode)
 newer-mode w h mode = record { last = omega arith; owned = λ l q own. inl (sym (loaded-mode l q (is_handle h.0) mode w.rows) ∙ own) }
@@ -64,11 +49,7 @@ newer-falls {before} {u} {w'} falls =
 
 -- the open loads are ones that were open
 pub later-so : {t t' : Tables} → AreLater t → OnlyNewer (plain_of t) (plain_of t') → ((l : ℕ) (load : LoadRow) → load_at t'.loads l ≡ Some load → load_at t.loads l ≡ Some load) → AreLater t'
-later-so later newer loads =
-    record {
-      given = λ l load is. let a = later.given l load (loads l load is) in let b = newer.last in omega arith;
-      since = λ l load q is own. elim (newer.owned (record { 0 = l }) q own) [ inl there ↦ later.since l load q (loads l load is) there | inr past ↦ (let a = later.given l load (loads l load is) in omega arith) ];
-    }
+later-so later newer loads = grind (arith, nat_tests)
 
 -- a load is closed
 pub closed-still : (at at' : ℕ → Option LoadRow) (m : ℕ) → at' m ≡ None → ((q : ℕ) → q ≢ m → at' q ≡ at q) → (l : ℕ) (load : LoadRow) → at' l ≡ Some load → at l ≡ Some load

@@ -12,31 +12,14 @@ pub room-still : (w : Core) → OnlyRoom w w
 room-still w = record { same = refl; more = record { handles = omega arith; entries = omega arith } }
 
 pub room-then : {a b c : Core} → OnlyRoom a b → OnlyRoom b c → OnlyRoom a c
-room-then {a} {b} {c} p q =
-    record {
-      same = q.same ∙ ap (λ (u : Core). record u { places = c.places }) p.same;
-      more = let x = p.more in let y = q.more in record { handles = omega (arith, x.handles, y.handles); entries = omega (arith, x.entries, y.entries) };
-    }
+room-then {a} {b} {c} p q = grind (arith, nat_tests)
 
 pub room-alike : {w w' : Core} → OnlyRoom w w' → Alike w w'
 room-alike {w} {w'} o = grind (arith, nat_tests)
 
 -- room that was made before is nothing to what comes
 pub alike-past : {m w' : Core} (p : Places) → HasRoom m.places p → Alike (record m { places = p }) w' → Alike m w'
-alike-past {m} {w'} p more a =
-    record {
-      rows = a.rows;
-      cells = a.cells;
-      list = a.list;
-      cache = record { gives = a.cache.gives; only = a.cache.only };
-      stored = a.stored;
-      closed = a.closed;
-      failures = a.failures;
-      loads = a.loads;
-      workers = a.workers;
-      last = a.last;
-      places = record { handles = let x = more.handles in let y = a.places.handles in omega arith; entries = let x = more.entries in let y = a.places.entries in omega arith };
-    }
+alike-past {m} {w'} p more a = grind (arith, nat_tests)
 
 pub next-past : {w w' : Core} {k : HandleNumber} → OnlyRoom w w' → IsNext k w' → IsNext k w
 next-past {w} {w'} {k} o next = let n = subst (λ (u : Core). IsNext k u) o.same next in record { above = n.above; is_left = n.is_left }
@@ -61,20 +44,7 @@ pub more-room : (t t' : Tables) → live t'.holdings.handles.places.items ≡ li
     → t' ≡ record t { holdings = record t.holdings { handles = t'.holdings.handles; nodes = t'.holdings.nodes }; cache = t'.cache }
     → vec_capacity t.holdings.handles.places ≤ vec_capacity t'.holdings.handles.places
     → (stored : ℕ → Option Blob) (closed : Bool) (failures : ℕ) → OnlyRoom (core_of t stored closed failures) (core_of t' stored closed failures)
-more-room t t' rows counts known same capacity stored closed failures =
-    record {
-      same = all ∙ ap (λ (p : Places). record w { places = p }) (sym (ap (λ (u : Core). u.places) all));
-      more = record { handles = capacity; entries = let e = ap (λ (u : Tables). vec_capacity u.holdings.list) same in omega arith };
-    }
-  where
-    w : Core
-    w = core_of t stored closed failures
-
-    mid : Core
-    mid = core_of (record t { holdings = record t.holdings { handles = t'.holdings.handles; nodes = t'.holdings.nodes }; cache = t'.cache }) stored closed failures
-
-    all : core_of t' stored closed failures ≡ record w { places = mid.places }
-    all = grind (arith, nat_tests)
+more-room t t' rows counts known same capacity stored closed failures = grind (arith, nat_tests)
 
 -- they stay whole
 pub room-whole : (t t' : Tables) → IsWhole t → AreSound t'.holdings.handles → places.IsNext (t'.holdings.last_handle + 1) t'.holdings.handles.places.items

@@ -146,13 +146,4 @@ module _ (t new : Tables) (stored : ℕ → Option Blob) (failures : ℕ) (node 
 
   -- and no value came or went
   pub values-made : IsWhole t → (is_pinning mode ≡ true → has_value (counts_at t.holdings.nodes node.0) ≡ true) → (n : ℕ) → ValueStays (counts_at t.holdings.nodes n) (counts_at new.holdings.nodes n)
-  values-made was there n falls = (
-    none-falls-in t.holdings was.steady n,
-    same-value (counts_at t.holdings.nodes n) (counts_at new.holdings.nodes n) (is_pin n (row_of (t.holdings.last_handle + 1) node mode me)) (a.cells n)
-        (let p = was.steady.fits.pinned n in let q = after.steady.fits.pinned n in let s = ap (pins n) a.rows in let c = sum_by_push (λ h. one (is_pin n h)) (live t.holdings.handles.places.items) (row_of (t.holdings.last_handle + 1) node mode me) in omega arith)
-        (λ is. at (node.0 == n) is refl),
-  )
-    where
-      at : (b : Bool) → (b && is_pinning mode) ≡ true → (node.0 == n) ≡ b → has_value (counts_at t.holdings.nodes n) ≡ true
-      at true is e = let m : node.0 ≡ n = grind (arith, nat_tests) in subst (λ i. has_value (counts_at t.holdings.nodes i) ≡ true) m (there is)
-      at false is e = absurd (cc)
+  values-made was there n falls = grind (arith, nat_tests, none-falls-in, same-value, sum_by_push, live)

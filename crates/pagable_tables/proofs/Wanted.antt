@@ -18,9 +18,7 @@ entry-pins true k n node = grind (arith, nat_tests)
 entry-pins false k n node = refl
 
 cell-keyed : (o : Option Counts) (c : Counts) (cell : Option Cell) → o ≡ Some c → (is_some o ≡ true → cell_in o ≡ cell) → has_key (if_there (λ (c : Cell). c.key) OptionalDataKey.None cell) ≡ nat_lt 0 c.key
-cell-keyed o c cell is same =
-    let there : cell_in o ≡ cell = same (ap is_some is) in
-    ap (λ (o : Option Cell). has_key (if_there (λ (c : Cell). c.key) OptionalDataKey.None o)) (sym there ∙ ap cell_in is) ∙ keyed-cell c.key
+cell-keyed o c cell is same = grind (arith, nat_tests, keyed-cell)
 
 not-closed : (lists closed : Bool) → lists ≡ not closed → lists ≡ true → closed ≡ false
 not-closed lists true e l = absurd (cc)

@@ -50,8 +50,7 @@ module _ (w : Core) (whole : IsWhole (opened w)) (l : LoadNumber) (kind : Kind) 
       at false = cached-whole {w = roomy now} kind key (next_node w) now-whole refl new-entry
 
 loose-plain : (kind : ℕ) → is_loose_kind kind ≡ true → is_shared (mode_of kind) ≡ true → ⊥
-loose-plain kind loose shared = let a : (kind % 3 == 1) ≡ true = loose in let b : (kind % 3 == 0) ≡ true = sym (mode-shared kind) ∙ shared in let c : kind % 3 ≡ 1 = grind (arith, nat_tests) in
-    let d : kind % 3 ≡ 0 = grind (arith, nat_tests) in absurd (omega arith)
+loose-plain kind loose shared = grind (arith, nat_tests, mode-shared)
 
 pub lazy-whole : {w w' : Core} (me : Owner) (l : LoadNumber) (kind : Kind) (key : ℕ) (r : Result HandleNumber Error) → IsWhole (opened w) → LazyCall w me l kind key r w' → ArePlaced (opened w')
     → IsWhole (opened w')

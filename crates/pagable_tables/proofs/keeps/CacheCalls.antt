@@ -28,15 +28,7 @@ usable-is w kind key n is = grind (arith, nat_tests)
 
 -- so the mode of its kind suits the node
 pub known-suits : {w : Core} → IsWhole w → (kind key n : ℕ) → usable w kind key ≡ Some n → Suits w (record { 0 = n }) (mode_of kind)
-known-suits {w} whole kind key n is =
-    let a = usable-is w kind key n is in
-    let b : nat_lt 0 (held n w.rows) ≡ true = sym (whole.handles.live n) ∙ a.1 in
-    let found = counted (λ h. one (is_at n h)) w.rows (grind (arith, nat_tests)) in
-    let at : found.0.node.0 ≡ n = one-at (found.0.node.0) found.2 in
-    record { row = found.0; there = found.1; at = ap (λ k. record { 0 = k }) at; shared = (whole.cache kind key n a.0).shares found.0 found.1 at ∙ sym (mode-shared kind) }
-  where
-    one-at : (m : ℕ) → 0 < one (m == n) → m ≡ n
-    one-at m some = grind (arith, nat_tests)
+known-suits {w} whole kind key n is = grind (arith, nat_tests, usable-is, counted, mode-shared)
 
 pub known-whole : {w : Core} (kind : Kind) (key n : ℕ) (owner : Owner) → IsWhole w → usable w kind.0 key ≡ Some n → MayHold w owner → w.last.handle < greatest
     → IsWhole (roomy (with_known w kind n owner))

@@ -179,16 +179,7 @@ module _ {w : Core} (whole : IsWhole w) (node : NodeNumber) (mode : Mode) (suits
 
 -- no node has fewer handles by one that comes
 pub handle-on : (w : Core) (node : NodeNumber) (mode : Mode) (owner : Owner) → GoesOn w (with_handle w node mode owner)
-handle-on w node mode owner =
-    record {
-      cells = λ n is. is;
-      rows = λ n.
-          let x = row_of (w.last.handle + 1) node mode owner in
-          let a = sum_by_push (λ h. one (is_at n h)) w.rows x in
-          let b = sum_by_push (λ h. one (is_share n h)) w.rows x in
-          let c = share-le (node.0 == n) (is_shared mode) in
-          omega arith;
-    }
+handle-on w node mode owner = grind (arith, nat_tests, sum_by_push, share-le)
 
 -- a node with a handle that isn't Shared has none that is
 pub unshared-node : {w : Core} → IsWhole w → (row : HandleRow) → Among w.rows row → is_shared row.mode ≡ false → sharing row.node.0 w.rows ≡ 0

@@ -76,11 +76,7 @@ module _ {before u : Core} {given : ℕ → Bool} (may : MayFall before u given)
       at (suc k) e = (entered n (omega arith)).0
 
   after-live : (n : ℕ) → is_some (after.cells n) ≡ nat_lt 0 (held n after.rows)
-  after-live n = at (nat_lt 0 (held n after.rows)) refl
-    where
-      at : (b : Bool) → nat_lt 0 (held n after.rows) ≡ b → is_some (if b then u.cells n else None) ≡ b
-      at true e = there n (grind (arith, nat_tests))
-      at false e = refl
+  after-live n = grind (arith, nat_tests, there)
 
   share-narrow : (n : ℕ) (h : HandleRow) → one (is_share n h) ≤ one (is_at n h)
   share-narrow n h = grind (arith, nat_tests)

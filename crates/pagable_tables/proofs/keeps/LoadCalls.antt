@@ -9,18 +9,10 @@ use Rattle.pagable_tables.proofs.{keeps.Told.settles, keeps.Told.alike-whole, ke
 
 -- what is there under a number is the new one or was there
 at-updated : {X : Type 0} (l : ℕ) (new : X) (f : ℕ → Option X) (q : ℕ) (x : X) → updated l (Some new) f q ≡ Some x → ((q ≡ l) × (new ≡ x)) ⊎ (f q ≡ Some x)
-at-updated {X} l new f q x is = at (q == l) refl is
-  where
-    at : (b : Bool) → (q == l) ≡ b → (if b then Some new else f q) ≡ Some x → ((q ≡ l) × (new ≡ x)) ⊎ (f q ≡ Some x)
-    at true e is = inl (grind (arith, nat_tests), cc)
-    at false e is = inr is
+at-updated {X} l new f q x is = grind (arith, nat_tests)
 
 some-updated : {X : Type 0} (l : ℕ) (new : X) (f : ℕ → Option X) (q : ℕ) → is_some (f q) ≡ true → is_some (updated l (Some new) f q) ≡ true
-some-updated {X} l new f q is = at (q == l)
-  where
-    at : (b : Bool) → is_some (if b then Some new else f q) ≡ true
-    at true = refl
-    at false = is
+some-updated {X} l new f q is = grind (arith, nat_tests)
 
 is-updated : {X : Type 0} (l : ℕ) (new : Option X) (f : ℕ → Option X) → updated l new f l ≡ new
 is-updated l new f = let e : (l == l) ≡ true = grind (arith, nat_tests) in rw e refl

@@ -71,11 +71,7 @@ sum-map f g to (x ∷ xs) h = grind (arith, nat_tests, sum_by-cons, sum-map f g 
 
 -- nothing at each element, so in sum
 pub sum-none : {X : Type 0} (f : X → ℕ) (xs : List X) → ((x : X) → Among xs x → f x ≡ 0) → sum_by f xs ≡ 0
-sum-none f xs none = at (sum_by f xs) refl
-  where
-    at : (n : ℕ) → sum_by f xs ≡ n → sum_by f xs ≡ 0
-    at zero e = e
-    at (suc n) e = let c = counted f xs (omega arith) in let a = none c.0 c.1 in let b = c.2 in absurd (omega arith)
+sum-none f xs none = grind (arith, nat_tests, counted)
 
 -- ---- numbers
 

@@ -8,17 +8,10 @@ empty [] none = refl
 empty (x ∷ xs) none = absurd (omega arith)
 
 pub loop-entry-init : goal.loop-entry-init
-loop-entry-init g c =
-    let t = record c.args.t.now { unlisted = None } in
-    let list = c.args.t.now.list.items in
-    (aside c.args.t.now None [] owns_nothing c.requires, omega arith, λ q. omega arith, λ before w f few entries. none-given-up before (with_list w list) t list f, sheds-still c.args.t.now _ c.requires)
+loop-entry-init g c = grind (arith, nat_tests, aside, none-given-up, sheds-still, c.requires)
 
 pub loop-entry-smaller : goal.loop-entry-smaller
-loop-entry-smaller g c =
-    let a = ap length c.in-Some.ensures.items in
-    let b = length-append c.pop.new.self.items (c.in-Some.entry ∷ []) in
-    let d = ap length c.give_entry.ensures.list in
-    omega arith
+loop-entry-smaller g c = grind (arith, nat_tests, length-append, c.in-Some.ensures.items, c.give_entry.ensures.list)
 
 pub give_entry-requires : goal.give_entry-requires
 give_entry-requires g c = let i = c.loop-entry.invariant.0 in record { sound = i.sound; next = i.next; fits = i.fits }

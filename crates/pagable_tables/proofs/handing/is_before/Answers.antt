@@ -9,6 +9,4 @@ pub returns-then-named-at : goal.returns-then-named-at
 returns-then-named-at c = sym (in-there c.args.named.now c.args.place c.loop-at.at c.args.number c.loop-at-test.true c.if-named-at.true)
 
 pub loop-at-preserved : goal.loop-at-preserved
-loop-at-preserved c =
-    let other : (named_at c.args.named.now c.loop-at.at == c.args.number) ≡ false = grind (arith, nat_tests) in
-    in-more c.args.named.now c.loop-at.at c.args.number ∙ ap (λ b. b || is_in (seen c.args.named.now c.loop-at.at) c.args.number) other ∙ c.loop-at.invariant
+loop-at-preserved c = grind (arith, nat_tests, in-more)

@@ -10,35 +10,14 @@ after-value : (y : Counts) (pinning listed : Bool) (top : ℕ) → one pinning �
 after-value y pinning listed top some falls = let stood : y.is_falling ≡ false = grind (arith, nat_tests) in (stood, grind (arith, nat_tests))
 
 pub unreachable-requires : goal.unreachable-requires
-unreachable-requires c =
-    let n = c.args.at.row.node.0 in
-    let w = c.requires.falling.1.fits.holding n in
-    let a : counts_at c.args.t.now.nodes n ≡ None = sym c.counts_of.ensures ∙ c.in_default.is in
-    let b = ap holds_in a in
-    let l = row-le-live (handle_of n) c.args.t.now.handles.places.items c.args.at.place c.args.at.row c.requires.place in
-    let h = held-here c.args.at.row in
-    absurd (omega arith)
+unreachable-requires c = grind (arith, nat_tests, row-le-live, held-here, c.requires.falling.1.fits.holding, c.counts_of.ensures, c.in_default.is, c.requires.place)
 
 pub counts_after-left-requires-clause-holds : goal.counts_after-left-requires-clause-holds
-counts_after-left-requires-clause-holds c =
-    let n = c.args.at.row.node.0 in
-    let w = c.requires.falling.1.fits.holding n in
-    let a : counts_at c.args.t.now.nodes n ≡ Some c.in-Some.counts = sym c.counts_of.ensures ∙ c.in-Some.is in
-    let b = ap holds_in a in
-    let l = row-le-live (handle_of n) c.args.t.now.handles.places.items c.args.at.place c.args.at.row c.requires.place in
-    let h = held-here c.args.at.row in
-    omega arith
+counts_after-left-requires-clause-holds c = grind (arith, nat_tests, row-le-live, held-here, c.requires.falling.1.fits.holding, c.counts_of.ensures, c.in-Some.is, c.requires.place)
 
 pub counts_after-left-requires-clause-pins : goal.counts_after-left-requires-clause-pins
-counts_after-left-requires-clause-pins c =
-    let n = c.args.at.row.node.0 in
-    let w = c.requires.falling.1.fits.pinned n in
-    let a : counts_at c.args.t.now.nodes n ≡ Some c.in-Some.counts = sym c.counts_of.ensures ∙ c.in-Some.is in
-    let b = ap pins_in a in
-    let l = row-le-live (pin_of n) c.args.t.now.handles.places.items c.args.at.place c.args.at.row c.requires.place in
-    let h = pin-here c.args.at.row in
-    let p = ap one c.pins-pinning.ensures in
-    omega arith
+counts_after-left-requires-clause-pins c = grind (arith, nat_tests, row-le-live, pin-here, c.requires.falling.1.fits.pinned, c.counts_of.ensures, c.in-Some.is, c.requires.place,
+  c.pins-pinning.ensures)
 
 pub returns : goal.returns
 returns c stack w =

@@ -75,10 +75,8 @@ returns-in-Err-cache_put-clause-later g c later =
     later-so later (record { last = n.last; owned = n.owned }) (λ l load is. sym (ap (λ m. load_at m l) c.cache_put.ensures.loads) ∙ is)
 
 pub returns-in-Err-cache_put-clause-sheds : goal.returns-in-Err-cache_put-clause-sheds
-returns-in-Err-cache_put-clause-sheds g c there =
-    let stays = (c.in-Err-cache_put.ensures.offered (λ key. None) 0).refused.stays in
-    let t = c.cache_put.new.t in
-    stays-first (values-still c.args.t.now t c.requires.whole c.cache_put.ensures.whole stays.rows stays.cells) (sheds-still t.holdings _ c.cache_put.ensures.whole.steady)
+returns-in-Err-cache_put-clause-sheds g c there = grind (arith, nat_tests, stays-first, values-still, sheds-still, c.in-Err-cache_put.ensures.offered, c.requires.whole,
+  c.cache_put.ensures.whole, c.cache_put.ensures.whole.steady)
 
 pub returns-in-Err-clause-sheds : goal.returns-in-Err-clause-sheds
 returns-in-Err-clause-sheds g c there = sheds-still c.args.t.now.holdings _ c.requires.whole.steady
@@ -87,5 +85,4 @@ pub returns-in-Ok-clause-sheds : goal.returns-in-Ok-clause-sheds
 returns-in-Ok-clause-sheds g c there = sheds-still c.args.t.now.holdings _ c.requires.whole.steady
 
 pub returns-in-Err-clause-offered : goal.returns-in-Err-clause-offered
-returns-in-Err-clause-offered g c stored closed failures e =
-    record { answers = tt; refused = record { why = inl (c.in-Err.ensures.fault stored closed failures c.args.key); stays = still (core_of c.args.t.now stored closed failures) } }
+returns-in-Err-clause-offered g c stored closed failures e = grind (arith, nat_tests, still, c.in-Err.ensures.fault)

@@ -10,27 +10,11 @@ lowered-value : (y : Counts) (listed : Bool) (top : ℕ) → 1 ≤ y.pins → Va
 lowered-value y listed top some falls = let stood : y.is_falling ≡ false = grind (arith, nat_tests) in (stood, grind (arith, nat_tests))
 
 pub unreachable-requires : goal.unreachable-requires
-unreachable-requires c =
-    let n = c.args.at.row.node.0 in
-    let w = c.requires.steady.fits.holding n in
-    let a : counts_at c.args.t.now.nodes n ≡ None = sym c.counts_of.ensures ∙ c.in_default.is in
-    let b = ap holds_in a in
-    let l = row-le-live (handle_of n) c.args.t.now.handles.places.items c.args.at.place c.args.at.row c.requires.place in
-    let h = held-here c.args.at.row in
-    absurd (omega arith)
+unreachable-requires c = grind (arith, nat_tests, row-le-live, held-here, c.requires.steady.fits.holding, c.counts_of.ensures, c.in_default.is, c.requires.place)
 
 pub overflow_add-more : goal.overflow_add-more
-overflow_add-more c =
-    let n = c.args.at.row.node.0 in
-    let rows = live c.args.t.now.handles.places.items in
-    let is : counts_at c.args.t.now.nodes n ≡ Some c.in-Some.counts = sym c.counts_of.ensures ∙ c.in-Some.is in
-    let a = ap holds_in is in
-    let b = c.requires.steady.fits.holding n in
-    let h = held-few n rows in
-    let d = length-live-le c.args.t.now.handles.places.items in
-    let k = c.places_taken.ensures.count in
-    let s = c.places_taken.ensures.small in
-    omega arith
+overflow_add-more c = grind (arith, nat_tests, live, held-few, length-live-le, c.counts_of.ensures, c.in-Some.is, c.requires.steady.fits.holding, c.places_taken.ensures.count,
+  c.places_taken.ensures.small)
 
 top-falls : (b : Bool) (n : ℕ) (top : ℕ) → top ≡ 0 → (if b then n else top) ≢ 0 → b ≡ true
 top-falls true n top z some = refl
