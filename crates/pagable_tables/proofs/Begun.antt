@@ -36,10 +36,7 @@ begins t stored closed lists failures w e =
       open_storage = e;
       fewer = λ n. omega arith;
       shared = λ n. omega arith;
-      uniform = λ n. elim (w.core.handles.uniform n) [
-        | inl none ↦ inl none
-        | inr all ↦ inr (let a = share-plain n (live t.holdings.handles.places.items) in omega arith)
-      ];
+      uniform = λ n. grind (arith, nat_tests, share-plain);
       listed = λ q. let a = w.core.owners_there.listed q in omega arith;
     }
 

@@ -34,34 +34,11 @@ module _ (at at' : ℕ → Option Counts) (refs refs' : ℕ → List ArcRef) (ro
   pub come-fits : Fits at' refs' (rows ++ x ∷ []) top [] owns_nothing
   come-fits =
       record {
-        pinned = λ n. elim (cases_eq n x.node.0) [
-          | inl e ↦
-              let a : pins_in (at x.node.0) ≡ pins x.node.0 rows = fits.pinned x.node.0 in
-              let b = ap pins_in is in
-              let d = ap pins_in here in
-              let l = sum_by_push (pin_of x.node.0) rows x in
-              let p = pin-here x in
-              let g : pins_in (at' x.node.0) ≡ pins x.node.0 (rows ++ x ∷ []) = omega arith in
-              subst (λ m. pins_in (at' m) ≡ pins m (rows ++ x ∷ [])) (sym e) g
-          | inr e ↦ let a = fits.pinned n in let b = ap pins_in (others n e) in let l = sum_by_push (pin_of n) rows x in let p = pin-other n x e in omega arith
-        ];
-        holding = λ n. elim (cases_eq n x.node.0) [
-          | inl e ↦
-              let a : holds_in (at x.node.0) ≡ held x.node.0 rows = fits.holding x.node.0 in
-              let b = ap holds_in is in
-              let d = ap holds_in here in
-              let l = sum_by_push (handle_of x.node.0) rows x in
-              let p = held-here x in
-              let g : holds_in (at' x.node.0) ≡ held x.node.0 (rows ++ x ∷ []) = omega arith in
-              subst (λ m. holds_in (at' m) ≡ held m (rows ++ x ∷ [])) (sym e) g
-          | inr e ↦ let a = fits.holding n in let b = ap holds_in (others n e) in let l = sum_by_push (handle_of n) rows x in let p = held-other n x e in omega arith
-        ];
+        pinned = λ n. grind (arith, nat_tests, cases_eq, sum_by_push, pin-here, pin-other);
+        holding = λ n. grind (arith, nat_tests, cases_eq, sum_by_push, held-here, held-other);
         owned = λ n q. let a = fits.owned n q in let b = ap (named q) (same n) in let l = sum_by_push (is_owned n q) rows x in let z = owned-by-none n q x owner in omega arith;
         chain = fits.chain;
-        marked = λ n. elim (cases_eq n x.node.0) [
-          | inl e ↦ fits.marked n ∙ ap (λ m. one (falls_in (at m))) e ∙ ap (λ o. one (falls_in o)) is ∙ sym (ap (λ o. one (falls_in o)) here) ∙ sym (ap (λ m. one (falls_in (at' m))) e)
-          | inr e ↦ fits.marked n ∙ sym (ap (λ o. one (falls_in o)) (others n e))
-        ];
+        marked = λ n. grind (arith, nat_tests, cases_eq);
         right = λ n. elim (cases_eq n x.node.0) [
           | inl e ↦ subst (λ m. Right (at' m) (refs' m)) (sym e) right-here
           | inr e ↦ subst (λ o. Right o (refs' n)) (sym (others n e)) (subst (λ r. Right (at n) r) (sym (same n)) (fits.right n))

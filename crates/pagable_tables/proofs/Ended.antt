@@ -18,7 +18,6 @@ none-owned : (n : ℕ) (rows : List HandleRow) → ((q : ℕ) → sum_by (λ h. 
 none-owned n [] none = refl
 none-owned n (x ∷ xs) none =
     let a = sum_by-cons (λ h. owns h n x.number.0) x xs in
-    let b = none x.number.0 in
     let d = sum_by-cons (λ h. one (is_owned_by (owner_value n) h)) x xs in
     let rest = none-owned n xs (λ q. let k = sum_by-cons (λ h. owns h n q) x xs in let l = none q in omega arith) in
     let here : one (is_owned_by (owner_value n) x) ≡ 0 = grind (arith, nat_tests) in

@@ -84,7 +84,6 @@ module _ (at at' : ℕ → Option Counts) (refs refs' : ℕ → List ArcRef) (ro
   given-marked : (b : Bool) → now_falls ≡ b → (n : ℕ) → often n (if b then x.node.0 ∷ stack else stack) ≡ one (falls_in (at' n))
   given-marked true e n =
       let free : c.is_falling ≡ false = not-both c.is_falling _ e in
-      let none : often x.node.0 stack ≡ 0 = fits.marked x.node.0 ∙ ap (λ o. one (falls_in o)) is ∙ ap one free in
       let waits : falls_in (at' x.node.0) ≡ (c.is_falling || now_falls) = ap falls_in here in
       elim (cases_eq n x.node.0) [
         | inl same' ↦
@@ -93,12 +92,8 @@ module _ (at at' : ℕ → Option Counts) (refs refs' : ℕ → List ArcRef) (ro
         | inr other ↦ let a = sum_by-cons (λ y. one (y == n)) x.node.0 stack in let b = fits.marked n in let d = ap (λ o. one (falls_in o)) (others n other) in grind (arith, nat_tests)
       ]
   given-marked false e n =
-      let waits : falls_in (at' x.node.0) ≡ (c.is_falling || now_falls) = ap falls_in here in
       elim (cases_eq n x.node.0) [
-        | inl same' ↦
-            let a : often x.node.0 stack ≡ one c.is_falling = fits.marked x.node.0 ∙ ap (λ o. one (falls_in o)) is in
-            let goal : often x.node.0 stack ≡ one (falls_in (at' x.node.0)) = grind (arith, nat_tests) in
-            subst (λ m. often m stack ≡ one (falls_in (at' m))) (sym same') goal
+        | inl same' ↦ grind (arith, nat_tests)
         | inr other ↦ fits.marked n ∙ sym (ap (λ o. one (falls_in o)) (others n other))
       ]
 
@@ -127,31 +122,17 @@ module _ (at at' : ℕ → Option Counts) (refs refs' : ℕ → List ArcRef) (ro
   once : often n ns ≡ 0
   once =
       let a = sum_by-cons (λ y. one (y == n)) n ns in
-      let b : often n (n ∷ ns) ≡ one c.is_falling = fits.marked n ∙ ap (λ o. one (falls_in o)) is in
       grind (arith, nat_tests)
 
   pub done-fits : Fits at' refs' rows c.next ns owns_nothing
   done-fits =
       record {
-        pinned = λ m. elim (cases_eq m n) [
-          | inl e ↦ ap (λ k. pins_in (at' k)) e ∙ pins' ∙ sym (ap pins_in is) ∙ fits.pinned n ∙ sym (ap (λ k. pins k rows) e)
-          | inr e ↦ ap pins_in (others m e) ∙ fits.pinned m
-        ];
-        holding = λ m. elim (cases_eq m n) [
-          | inl e ↦ ap (λ k. holds_in (at' k)) e ∙ holds' ∙ sym (ap holds_in is) ∙ fits.holding n ∙ sym (ap (λ k. held k rows) e)
-          | inr e ↦ ap holds_in (others m e) ∙ fits.holding m
-        ];
+        pinned = λ m. grind (arith, nat_tests, cases_eq);
+        holding = λ m. grind (arith, nat_tests, cases_eq);
         owned = λ m q. ap (λ r. named q r + 0) (same m) ∙ fits.owned m q;
         chain = chain-frame at at' c.next ns (λ m within. ap next_in (others m (in-none n ns m once within))) (subst (λ t. Chain at t ns) (ap next_in is) fits.chain.1);
-        marked = λ m. elim (cases_eq m n) [
-          | inl e ↦ ap (λ k. often k ns) e ∙ once ∙ sym (ap one (ap (λ k. falls_in (at' k)) e ∙ free))
-          | inr e ↦ let a = sum_by-cons (λ y. one (y == m)) n ns in let b = fits.marked m in let d = ap (λ o. one (falls_in o)) (others m e) in
-              let z : one (n == m) ≡ 0 = grind (arith, nat_tests) in omega arith
-        ];
-        right = λ m. elim (cases_eq m n) [
-          | inl e ↦ subst (λ k. Right (at' k) (refs' k)) (sym e) right'
-          | inr e ↦ subst (λ o. Right o (refs' m)) (sym (others m e)) (subst (λ r. Right (at m) r) (sym (same m)) (fits.right m))
-        ];
+        marked = λ m. grind (arith, nat_tests, cases_eq, once, sum_by-cons);
+        right = λ m. grind (arith, nat_tests, cases_eq);
         from_one = others 0 (λ e. one' (sym e)) ∙ fits.from_one;
       }
 

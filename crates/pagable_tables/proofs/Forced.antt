@@ -48,8 +48,6 @@ module _ (before w : Core) (given : ℕ → Bool) (lists : Bool) (t : Holdings) 
   lost final n false e bare (inl none) =
       let a = counted (is_at n) in
       let b = cut (is_at n) f.gone s w.rows in
-      let z = bare none in
-      let y : held_outside w.rows s n ≡ 0 = omega arith in
       grind (arith, nat_tests)
   lost final n false e bare (inr both) = let k = up-keyed (counts_at t.nodes n) (w.cells n) (f.cells n) both.0 in absurd (cc)
 

@@ -245,14 +245,10 @@ module _ (t t1 : Tables) (stored : ℕ → Option Blob) (closed : Bool) (failure
   has-come n = by (n == row.node.0) refl
     where
       by : (b : Bool) → (n == row.node.0) ≡ b → has_value (counts_at t1.holdings.nodes n) ≡ (if b then true else has_value (counts_at t.holdings.nodes n))
-      by true is =
-          let m : row.node.0 ≡ n = grind (arith, nat_tests) in
-          pinned-value (counts_at t1.holdings.nodes n) (let p = whole.steady.fits.pinned n in let q = subst (λ k. 0 < pins k (live t1.holdings.handles.places.items)) m (pins-here t t1 stored closed failures row me a) in omega arith)
+      by true is = grind (arith, nat_tests, pinned-value, pins-here)
       by false is =
           let other : (row.node.0 == n) ≡ false = grind (arith, nat_tests) in
           let rows = live t.holdings.handles.places.items in
-          let p = was.steady.fits.pinned n in
-          let q = whole.steady.fits.pinned n in
           let b = ap (pins n) a.rows in
           let d = sum_by_push (λ y. one (is_pin n y)) (changed (is_handle row.number.0) turned rows) (one-more t t1 stored closed failures row me a) in
           let f : one (is_pin n (one-more t t1 stored closed failures row me a)) ≡ 0 = ap (λ b. one (b && true)) other in

@@ -66,10 +66,6 @@ module _ (w : Core) (me : Owner) (n : ℕ) (rs : List ArcRef) (ordered : AllPair
         ];
         chain = fits.chain;
         marked = fits.marked;
-        right = λ m. elim (cases_eq m n) [
-          | inl e ↦ subst (λ k. Right (at k) (refs' k)) (sym e)
-              (let p = fits.pinned n in let f = fits.marked n in right-pinned (at n) (refs n) (refs' n) (omega arith) (let s : falls_in (at n) ≡ false = grind (arith, nat_tests) in s) (fits.right n))
-          | inr e ↦ subst (λ r. Right (at m) r) (sym (same m e)) (fits.right m)
-        ];
+        right = λ m. grind (arith, nat_tests, cases_eq, right-pinned);
         from_one = fits.from_one;
       }

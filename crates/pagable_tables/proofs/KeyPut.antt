@@ -31,10 +31,7 @@ module _ (at at' : ℕ → Option Counts) (refs refs' : ℕ → List ArcRef) (ro
 
   key-right : (m : ℕ) → Right (at' m) (refs' m)
   key-right m = elim (cases_eq m n) [
-    | inl eq ↦
-        let old : is_right c (is_bare (refs n)) ≡ true = subst (λ o. Right o (refs n)) is (fits.right n) in
-        let new : Right (Some (keyed c key top)) (refs n) = keyed-right c.is_falling (is_bare (refs n)) c.pins c.holds c.key key (is-free at refs rows top n c fits is) some old in
-        subst (λ k. Right (at' k) (refs' k)) (sym eq) (subst (λ o. Right o (refs' n)) (sym here) (subst (λ r. Right (Some (keyed c key top)) r) (sym (same n)) new))
+    | inl eq ↦ grind (arith, nat_tests, keyed-right, is-free)
     | inr other ↦ subst (λ o. Right o (refs' m)) (sym (others m other)) (subst (λ r. Right (at m) r) (sym (same m)) (fits.right m))
   ]
 

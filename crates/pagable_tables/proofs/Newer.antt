@@ -69,10 +69,7 @@ none-owned w whole l q none own = split (find_row q w.rows) refl own
 pub later-opened : {t t' : Tables} → pager.IsWhole (plain_of t) → AreLater t → OnlyNewer (plain_of t) (plain_of t') → (m : ℕ) (row : LoadRow) → load_at t.loads m ≡ None → load_at t'.loads m ≡ Some row → row.since ≡ t.holdings.last_handle → ((q : ℕ) → q ≢ m → load_at t'.loads q ≡ load_at t.loads q) → AreLater t'
 later-opened {t} {t'} whole later newer m row none here since others =
     record {
-      given = λ l load is. elim (cases_eq l m) [
-        | inl e ↦ (let a = fresh l load is e in let b = newer.last in omega arith)
-        | inr e ↦ (let a = later.given l load (sym (others l e) ∙ is) in let b = newer.last in omega arith)
-      ];
+      given = λ l load is. grind (arith, nat_tests, cases_eq, fresh);
       since = λ l load q is own. elim (newer.owned (record { 0 = l }) q own) [
         | inl there ↦ elim (cases_eq l m) [
           | inl e ↦ absurd (none-owned (plain_of t) whole (record { 0 = l }) q (ap (λ k. option_map load_in (load_at t.loads k)) e ∙ ap (option_map load_in) none) there)

@@ -26,8 +26,7 @@ next-past {w} {w'} {k} o next = let n = subst (λ (u : Core). IsNext k u) o.same
 
 pub born-past : {w w1 w' : Core} (node_type : ℕ) (key : OptionalDataKey) (rs : List ArcRef) (mode : Mode) (me : Owner) → OnlyRoom w w1
     → Alike (with_handle (with_node w1 node_type key rs) (next_node w1) mode me) w' → Alike (with_handle (with_node w node_type key rs) (next_node w) mode me) w'
-born-past {w} {w1} {w'} node_type key rs mode me o a =
-    alike-past w1.places o.more (subst (λ (u : Core). Alike (with_handle (with_node u node_type key rs) (next_node u) mode me) w') o.same a)
+born-past {w} {w1} {w'} node_type key rs mode me o a = grind (arith, nat_tests, alike-past)
 
 -- why references are refused depends on rows and cells alone
 pub fault-by : (w u : Core) (me : Owner) (seen : List ℕ) (rs : List ArcRef) → references_fault (record u { rows = w.rows; cells = w.cells }) me seen rs ≡ references_fault w me seen rs
@@ -60,11 +59,7 @@ room-whole t t' whole sound next rows counts refs top room =
     new = t'.holdings
 
     fits : Fits (counts_at new.nodes) (refs_at new.nodes) (live new.handles.places.items) new.top [] owns_nothing
-    fits =
-        subst (λ k. Fits (counts_at new.nodes) (refs_at new.nodes) (live new.handles.places.items) k [] owns_nothing) (sym top)
-        (subst (λ r. Fits (counts_at new.nodes) (refs_at new.nodes) r old.top [] owns_nothing) (sym rows)
-        (subst (λ f. Fits f (refs_at new.nodes) (live old.handles.places.items) old.top [] owns_nothing) (λ i n. sym (counts n) i)
-        (subst (λ f. Fits (counts_at old.nodes) f (live old.handles.places.items) old.top [] owns_nothing) (λ i n. sym (refs n) i) whole.steady.fits)))
+    fits = grind (arith, nat_tests, new, old)
 
 holder-past : (w : Core) (p : Places) (me : Owner) → MayHold w me → MayHold (record w { places = p }) me
 holder-past w p Owner.Caller h = h

@@ -100,12 +100,7 @@ stays-pinned w u w' given r x rows ordered plain pinning kept falls n none = spl
         let kept : falls.gone x.number.0 ≡ false = stands in
         let here : one (is_pin n x && not (falls.gone x.number.0)) ≡ 1 = grind (arith, nat_tests) in
         absurd (omega arith)
-    split false e =
-        let a = ap (pins n) rows ∙ sum_by_push (λ h. one (is_pin n h)) w.rows x in
-        let b = ap (sharing n) rows ∙ sum_by_push (λ h. one (is_share n h)) w.rows x in
-        let c : one (is_pin n x) ≡ 0 = grind (arith, nat_tests) in
-        let d : one (is_share n x) ≡ 0 = grind (arith, nat_tests) in
-        (omega arith, omega arith)
+    split false e = grind (arith, nat_tests, sum_by_push)
 
 -- a world that is told alike, with the same cache, has but more room
 pub retold : (u b : Core) → Alike u b → b.cache ≡ u.cache → b ≡ record u { places = b.places }

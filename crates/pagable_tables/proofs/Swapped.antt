@@ -135,10 +135,7 @@ module _ (t new : Tables) (stored : ℕ → Option Blob) (failures : ℕ) (node 
         open_storage = refl;
         fewer = λ n. omega arith;
         shared = λ n. omega arith;
-        uniform = λ n. elim (b.uniform n) [
-          | inl none ↦ inl (sym (ap (sharing n) a.rows) ∙ none)
-          | inr none ↦ inr (sym (ap (times (is_plain_pin n)) a.rows) ∙ none)
-        ];
+        uniform = λ n. grind (arith, nat_tests);
         listed = λ q. let d = ap (times (λ (h : HandleNumber). h.0 == q)) a.list in let e = ap (times (λ h. is_handle q h && is_owned_by Owner.List h)) a.rows in let f = b.listed q in omega arith;
       })
       a.rows a.list (ap (λ (l : Last). l.handle) a.last) after.core.handles.within.0 (record { handles = a.places.handles; entries = a.places.entries }) a.cells refl

@@ -48,9 +48,7 @@ module _ (before w : Core) (given : ℕ → Bool) (lists : Bool) (t : Holdings) 
       let a = ap pins_in is in
       let b = no-more (is_pin n) (λ h mode owner. grind (arith, nat_tests)) in
       let d = f.begins.fewer n in
-      let some : pins n (live t.handles.places.items) ≡ 1 = sym pinned ∙ a ∙ l.2 in
       let p = no-more (is_plain_pin n) (λ h mode owner. grind (arith, nat_tests)) in
-      let h = here (is_plain_pin n) in
       let plain : one (is_plain_pin n x) ≡ 1 = grind (arith, nat_tests) in
       record {
         pinned = omega arith;
@@ -83,10 +81,6 @@ module _ (before w : Core) (given : ℕ → Bool) (lists : Bool) (t : Holdings) 
           let pinning : is_pinning x.mode ≡ true = grind (arith, nat_tests) in
           let a = no-more (is_share n) (λ h mode owner. let m : is_shared h.mode ≡ false = ap is_shared mode in grind (arith, nat_tests)) in
           let b = f.begins.shared n in
-          let d = here (is_share n) in
-          let z = must.unshared in
-          let y = must.unpinned in
-          let some : one (is_share n x) ≡ 0 = omega arith in
           let unshared : is_shared x.mode ≡ false = grind (arith, nat_tests) in
           let o = ap one pin in
           let p : c.pins ≡ 1 = sym (ap pins_in is) ∙ pinned ∙ ap (λ m. pins m (live t.handles.places.items)) (sym at) ∙ (omega arith) in

@@ -31,8 +31,7 @@ module _ (w : Core) (whole : IsWhole (opened w)) (l : LoadNumber) (kind : Kind) 
   new-entry =
       record {
         given = omega arith;
-        typed = λ t is. let e : Some t ≡ Some (type_of kind.0) = sym is
-            ∙ ap type_in (cell-new whole (type_of kind.0) own refs (mode_of kind.0) (Owner.Load l) (Owner.Load l) refl good holder node_left left unkeyed) in cc;
+        typed = λ t is. grind (arith, nat_tests, cell-new);
         shares = λ h among at.
             shared-alike now-whole h (row_of (w.last.handle + 1) (next_node w) (mode_of kind.0) (Owner.Load l)) among
             (among-last (moved-world whole (type_of kind.0) own refs (mode_of kind.0) (Owner.Load l) (Owner.Load l) refl good holder node_left left unkeyed).rows _) at

@@ -86,11 +86,7 @@ offer-whole {w} me kind key h (Ok None) whole holder call placed =
     let (row, owns, typed, offers) = call.answers in
     let (stands_open, none, leaves) = offers in
     let there = (found-among h.0 w.rows row owns.live).0 in
-    let entry : IsEntryWhole w kind.0 row.node.0 = record {
-      given = (whole.handles.nodes_numbered row.node.0 (some-typed (w.cells row.node.0) typed)).1;
-      typed = λ t is. let e : Some t ≡ Some (type_of kind.0) = sym is ∙ typed in cc;
-      shares = λ x among at. shared-alike whole x row among there at ∙ fits-shared kind.0 row.mode owns.as_asked;
-    } in
+    let entry : IsEntryWhole w kind.0 row.node.0 = grind (arith, nat_tests, some-typed, shared-alike, fits-shared) in
     settles (roomy-whole (cached-whole kind key row.node whole stands_open entry)) leaves placed
   where
     some-typed : {t : ℕ} (cell : Option Cell) → type_in cell ≡ Some t → is_some cell ≡ true

@@ -103,8 +103,7 @@ module _ {w : Core} (whole : IsWhole w) (x : HandleRow) (cells : ℕ → Option 
         typed = λ t is. e.typed t (old-type n t e.given is);
         shares = λ h among at. elim (among-both w.rows (x ∷ []) h among) [
           | inl old ↦ e.shares h old at
-          | inr new ↦ let same = among-one x h new in
-              ap (λ (y : HandleRow). is_shared y.mode) same ∙ shares kind (subst (IsEntryWhole w kind) (sym at ∙ ap (λ (y : HandleRow). y.node.0) same) e)
+          | inr new ↦ grind (arith, nat_tests, among-one)
         ];
       }
 
@@ -118,10 +117,7 @@ module _ {w : Core} (whole : IsWhole w) (x : HandleRow) (cells : ℕ → Option 
             | inl old ↦ let a = h.numbered y old in (a.0, omega arith)
             | inr new ↦ let a = ap (λ (z : HandleRow). z.number.0) (among-one x y new) in (omega arith, omega arith)
           ];
-          nodes_numbered = λ n some. elim (cases_eq n x.node.0) [
-            | inl e ↦ (omega arith, omega arith)
-            | inr other ↦ let a = h.nodes_numbered n (sym (ap is_some (others n other)) ∙ some) in (a.0, omega arith)
-          ];
+          nodes_numbered = λ n some. grind (arith, nat_tests, cases_eq);
           within = let (a, b, c) = h.within in (omega arith, omega arith, c);
           live = grown-live;
           uniform = grown-uniform;

@@ -145,7 +145,6 @@ module _ {before u : Core} {given : ℕ → Bool} (may : MayFall before u given)
               let found = counted (λ h. one (lists q h)) u.rows (omega arith) in
               let number = lists-only q found.0 (one-true (lists q found.0) found.2) in
               let f = within-goes u.rows given gone found.0 within found.1 (ap given number ∙ is) in
-              let g : true ≡ false = sym f ∙ ap gone number ∙ e in
               absurd (cc)
             where
               one-true : (b : Bool) → 0 < one b → b ≡ true
@@ -202,12 +201,10 @@ module _ {before u : Core} {given : ℕ → Bool} (may : MayFall before u given)
           let b : (h.node.0 == n) ≡ true = grind (arith, nat_tests) in
           let c : one (is_at n h) ≡ 1 = ap one b in
           let d = entered n (omega arith) in
-          let f : nat_lt 0 (held n u.rows) ≡ true = sym (may.handles.live n) ∙ d.0 in
           let g = counted (λ x. one (is_at n x)) u.rows (grind (arith, nat_tests)) in
           let y : HandleRow = g.0 in
           let k : (y.node.0 == n) ≡ true = one-true (is_at n y) g.2 in
           let l = at-most-sum (λ x. one (is_share n x)) u.rows y g.1 in
-          let m = d.1 in
           sym (e.shares y g.1 (grind (arith, nat_tests))) ∙ none-of (y.node.0 == n) (is_shared y.mode) k (omega arith)
         where
           one-true : (b : Bool) → 0 < one b → b ≡ true
@@ -243,11 +240,7 @@ module _ {before u : Core} {given : ℕ → Bool} (may : MayFall before u given)
         };
         cache = λ kind key n is. after-entry kind n (may.cache kind key n is);
         workers_numbered = may.workers_numbered;
-        shut = λ closed. let s = may.shut closed in (
-          ap (λ (l : List HandleNumber). filter (λ (q : HandleNumber). not (gone q.0)) l ++ map (λ (h : HandleRow). h.number) entries) s.0
-              ∙ ap (map (λ (h : HandleRow). h.number)) (no-entry closed),
-          s.1,
-        );
+        shut = λ closed. grind (arith, nat_tests, no-entry);
       }
 
 pub falls-whole : {before u w' : Core} {given : ℕ → Bool} {r : Result (Unit {0}) Error} → MayFall before u given → Falls before u given r w' → ArePlaced w' → IsWhole w'

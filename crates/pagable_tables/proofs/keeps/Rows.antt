@@ -81,11 +81,7 @@ found-among q [] row found = absurd (cc)
 found-among q (h ∷ hs) row found = at (found-among q hs row) (is_handle q h) refl found
   where
     at : (find_row q hs ≡ Some row → Among hs row × (row.number.0 ≡ q)) → (b : Bool) → is_handle q h ≡ b → (if b then Some h else find_row q hs) ≡ Some row → Among (h ∷ hs) row × (row.number.0 ≡ q)
-    at rest true is found = let e : h ≡ row = cc in (
-      (zero, ap (λ (x : HandleRow). Some x) e),
-      let f : (row.number.0 == q) ≡ true = subst (λ (x : HandleRow). is_handle q x ≡ true) e is in
-          grind (arith, nat_tests),
-    )
+    at rest true is found = grind (arith, nat_tests)
     at rest false is found = let r = rest found in ((suc r.0.0, r.0.1), r.1)
 
 -- one row has a number
@@ -111,8 +107,6 @@ ordered-map to rows same ordered j k d less lt =
     let a = ap (λ (h : HandleRow). h.number.0) (get_or-map to rows j d d (omega arith)) in
     let b = ap (λ (h : HandleRow). h.number.0) (get_or-map to rows k d d (omega arith)) in
     let o = ordered j k d less (omega arith) in
-    let e = same (get_or rows j d) in
-    let f = same (get_or rows k d) in
     omega arith
 
 pub ordered-push : (rows : List HandleRow) (row : HandleRow) → ((h : HandleRow) → Among rows h → h.number.0 < row.number.0) → AllPairs IsHandleBefore rows → AllPairs IsHandleBefore (rows ++ row ∷ [])

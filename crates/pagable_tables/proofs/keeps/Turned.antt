@@ -15,8 +15,7 @@ module _ {w : Core} (whole : IsWhole w) (to : HandleRow → HandleRow) (list : L
   same-held n = sum-map (λ h. one (is_at n h)) (λ h. one (is_at n h)) to w.rows (λ h among. ap (λ (k : NodeNumber). one (k.0 == n)) (node h))
 
   pub same-sharing : (n : ℕ) → sharing n turned.rows ≡ sharing n w.rows
-  same-sharing n = sum-map (λ h. one (is_share n h)) (λ h. one (is_share n h)) to w.rows
-      (λ h among. ap (λ (k : NodeNumber). one (k.0 == n && is_shared (to h).mode)) (node h) ∙ ap (λ b. one (h.node.0 == n && b)) (shared h among))
+  same-sharing n = grind (arith, nat_tests, sum-map)
 
   turned-root : (n : NodeNumber) (t : ℕ) (h : HandleNumber) → IsRootWhole w n t h → IsRootWhole turned n t h
   turned-root n t h r =

@@ -26,7 +26,6 @@ loop-at-preserved g c =
     let i = c.loop-at.invariant in
     let x = c.in-Some.at.row in
     let b = c.in-Some.ensures.between in
-    let fewer = i.1 in
     let next = c.shed.ensures.fewer in (
       c.shed.ensures.steady,
       omega arith,

@@ -5,7 +5,6 @@ use Rattle.pagable_tables.proofs.handles.kill.Goals as goal
 pub overflow_sub-len : goal.overflow_sub-len
 overflow_sub-len c =
     let e = length-live-set c.args.handles.now.places.items c.args.at.place c.args.at.row (record { row = c.args.at.row; is_live = false }) c.requires.place in
-    let n = length-set c.args.handles.now.places.items c.args.at.place (record { row = c.args.at.row; is_live = false }) in
     omega arith
 
 pub compact-requires : goal.compact-requires

@@ -33,18 +33,15 @@ returns c stack w =
     let kept : mid.top ≡ old.top = e.top ∙ ap (λ t. t.top) leaves.same in
     let is : counts_at old.nodes n ≡ Some counts = sym c.counts_of.ensures ∙ c.in-Some.is in
     let pinning : c.pins-pinning.result ≡ is_pinning x.mode = c.pins-pinning.ensures in
-    let left : c.counts_after-left.result ≡ after counts (is_pinning x.mode) listed old.top = c.counts_after-left.ensures ∙ ap (λ p. after counts p listed mid.top) pinning
-    ∙ ap (λ t. after counts (is_pinning x.mode) listed t) kept in
+    let left : c.counts_after-left.result ≡ after counts (is_pinning x.mode) listed old.top = grind (arith, nat_tests, c.counts_after-left.ensures) in
     let b = is_fallen_by counts (is_pinning x.mode) (counts.pins - one (is_pinning x.mode)) (if listed then counts.holds else counts.holds - 1) in
     let here : counts_at c.set_counts.new.nodes n ≡ Some (after counts (is_pinning x.mode) listed old.top) = c.set_counts.ensures.here ∙ ap Some left in
     let others : (m : ℕ) → m ≢ n → counts_at c.set_counts.new.nodes m ≡ counts_at old.nodes m = λ m ne. c.set_counts.ensures.others m ne ∙ ap (λ s. counts_at s m) nodes in
     let same : (m : ℕ) → refs_at c.set_counts.new.nodes m ≡ refs_at old.nodes m = λ m. c.set_counts.ensures.refs m ∙ ap (λ s. refs_at s m) nodes in
     let some : one (is_pinning x.mode) ≤ counts.pins = (let a = w.fits.pinned n in let d = ap pins_in is in
     let l = row-le-live (pin_of n) old.handles.places.items c.args.at.place x c.requires.place in let h = pin-here x in omega arith) in
-    let live' : 1 ≤ counts.holds = (let a = w.fits.holding n in let d = ap holds_in is in let l =
-    row-le-live (handle_of n) old.handles.places.items c.args.at.place x c.requires.place in let h = held-here x in omega arith) in
-    let top : c.top_after-t.result ≡ (if b then n else old.top) = c.top_after-t.ensures ∙ ap (λ (l : Counts). if is_new counts.is_falling l.is_falling then n else mid.top) left
-    ∙ ap (λ t. if is_new counts.is_falling (after counts (is_pinning x.mode) listed old.top).is_falling then n else t) kept ∙ new-top counts (is_pinning x.mode) listed old.top n b refl in
+    let live' : 1 ≤ counts.holds = grind (arith, nat_tests, row-le-live, held-here, c.requires.place) in
+    let top : c.top_after-t.result ≡ (if b then n else old.top) = grind (arith, nat_tests, new-top, c.top_after-t.ensures) in
     let at = counts_at old.nodes in
     let at' = counts_at c.set_counts.new.nodes in
     let refs = refs_at old.nodes in
@@ -60,11 +57,7 @@ returns c stack w =
       leaves = subst (λ w. Leaves old x w listed mid) c.wants_entry-wanted.ensures leaves;
       same = refl;
       cells = given-cells at at' refs refs' rows rows' old.top stack x counts listed (old.last_handle + 1) w.fits is sums here others same some live';
-      values = λ m. elim (cases_eq m n) [
-        | inl eq ↦ subst (λ k. ValueStays (at k) (at' k)) (sym eq) (subst (λ o. ValueStays o (at' n)) (sym is)
-            (subst (ValueStays (Some counts)) (sym here) (after-value counts (is_pinning x.mode) listed old.top some)))
-        | inr ne ↦ λ falls. (ap falls_in (sym (others m ne)) ∙ falls, ap has_value (others m ne))
-      ];
+      values = λ m. grind (arith, nat_tests, cases_eq, after-value);
       more = if b then n ∷ stack else stack;
       falling = record {
         sound = e.sound;

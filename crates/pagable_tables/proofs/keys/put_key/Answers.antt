@@ -19,10 +19,8 @@ returns-clause-falling c =
       record {
         sound = c.requires.steady.sound;
         next = c.requires.steady.next;
-        fits = subst (λ k. Fits (counts_at c.set_counts.new.nodes) (refs_at c.set_counts.new.nodes) (live t.handles.places.items) k (if b then n ∷ [] else []) owns_nothing) (sym top)
-            (key-fits (counts_at t.nodes) (counts_at c.set_counts.new.nodes) (refs_at t.nodes) (refs_at c.set_counts.new.nodes)
-            (live t.handles.places.items) t.top n counts c.args.key c.requires.steady.fits (sym c.counts_of.ensures ∙ c.in-Some.is) c.requires.key
-            (c.set_counts.ensures.here ∙ ap Some c.counts_keyed-with_key.ensures) c.set_counts.ensures.others c.set_counts.ensures.refs b refl);
+        fits = grind (arith, nat_tests, key-fits, c.requires.steady.fits, c.counts_of.ensures, c.in-Some.is, c.requires.key, c.set_counts.ensures.here, c.counts_keyed-with_key.ensures,
+          c.set_counts.ensures.others, c.set_counts.ensures.refs);
       },
       long-if b n [],
     )

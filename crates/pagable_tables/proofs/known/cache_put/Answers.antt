@@ -1,4 +1,4 @@
-use Rattle.pagable_tables.proofs.Words.{◌≡◌, ◌∙◌, ℕ, ap, sym, subst, refl, false, None, Ok, inl, inr, arith, rules, NodeNumber, usable, fits_mode, Owns, offer_fault, recall_fault}
+use Rattle.pagable_tables.proofs.Words.{◌≡◌, ◌∙◌, ℕ, ap, sym, subst, refl, false, None, Ok, inl, inr, arith, rules, NodeNumber, usable, fits_mode, Owns, offer_fault, recall_fault, nat_tests}
 use Rattle.pagable_tables.proofs.Words.{with_cached, OfferCall, known_at, core_of, plain_of, Suits, option_map, is_some, spent, where_so}
 use Rattle.pagable_tables.proofs.{Offers.offer-last, Offers.learned, Worlds.same-cache, keeps.Placed.whole-so, keeps.Told.told-whole, Pins.no-fault, Recalled.recalls, Recalled.not-recalled}
 use Rattle.pagable_tables.proofs.{keeps.CacheCalls.known-suits, keeps.CacheCalls.offer-whole}
@@ -26,8 +26,7 @@ returns-in-Err-make-clause-offered c stored failures =
     let is = sym (c.in-Some.ensures stored false failures) in
     let call = not-recalled w c.args.me c.args.kind c.args.key c.in-Some.node c.mode_of.result _ is c.mode_of.ensures c.in-Err-make.e (c.in-Err-make.ensures.made stored false failures) in
     let none = no-fault w c.args.me c.args.handle (fits_mode c.args.kind.0) c.in-Ok.row owns in
-    let cause : offer_fault w c.args.me c.args.kind c.args.key c.args.handle ≡ recall_fault w c.args.kind c.args.key =
-    offer-last w c.args.me c.args.kind c.args.key c.args.handle c.in-Ok.row none o.live c.in-Ok.ensures.typed in
+    let cause : offer_fault w c.args.me c.args.kind c.args.key c.args.handle ≡ recall_fault w c.args.kind c.args.key = grind (arith, nat_tests, offer-last, c.in-Ok.ensures.typed) in
     record { answers = tt; refused = record { why = elim call.refused.why [ inl a ↦ inl (cause ∙ a) | inr b ↦ inr (b.0, cause ∙ b.1, (refl, inr b.2.1)) ]; stays = call.refused.stays } }
 
 pub returns-in_default-clause-offered : goal.returns-in_default-clause-offered
@@ -40,27 +39,7 @@ returns-in_default-clause-offered c stored failures =
     let none : usable w c.args.kind.0 c.args.key ≡ None = search rules in
     let known = learned (known_at t.cache) (known_at c.learn.new.cache) c.args.kind.0 c.args.key row.node c.in-Ok-learn.ensures.here c.in-Ok-learn.ensures.others in
     record {
-      answers = (
-        row,
-        owns,
-        c.in-Ok.ensures.typed,
-        (
-          none,
-          record {
-            rows = refl;
-            cells = λ n. refl;
-            list = refl;
-            cache = same-cache (with_cached w c.args.kind c.args.key row.node) _ refl (λ n. refl) known;
-            stored = λ q. refl;
-            closed = refl;
-            failures = refl;
-            loads = λ l. refl;
-            workers = λ v. refl;
-            last = refl;
-            places = record { handles = omega arith; entries = omega arith };
-          },
-        ),
-      );
+      answers = grind (arith, nat_tests, same-cache, c.in-Ok.ensures.typed);
       refused = tt;
     }
 

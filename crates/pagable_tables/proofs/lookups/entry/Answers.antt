@@ -12,7 +12,6 @@ pub unreachable-requires-in_default-counts_of : goal.unreachable-requires-in_def
 unreachable-requires-in_default-counts_of c =
     let t = c.args.t.now.holdings in
     let row = c.in-Some.at.row in
-    let w = c.requires.steady.fits.holding row.node.0 in
     let a : counts_at t.nodes row.node.0 ≡ None = sym c.counts_of.ensures ∙ c.in_default-counts_of.is in
     let b = ap holds_in a in
     let l = row-le-live (handle_of row.node.0) t.handles.places.items c.in-Some.at.place row c.in-Some.ensures.place in

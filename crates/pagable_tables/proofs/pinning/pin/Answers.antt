@@ -1,4 +1,4 @@
-use Rattle.pagable_tables.proofs.Words.{◌≡◌, ◌∙◌, ap, subst, false, true, inl, inr, arith, rules, sym, None, is_loose, if_there, Alike, is_here, with_handle, with_mode, is_handle_here}
+use Rattle.pagable_tables.proofs.Words.{◌≡◌, ◌∙◌, ap, subst, false, true, inl, inr, arith, rules, sym, None, is_loose, if_there, Alike, is_here, with_handle, with_mode, is_handle_here, nat_tests}
 use Rattle.pagable_tables.proofs.Words.{pin_fault, earlier, where_so, spent, Owns, HandleRow, Mode, Tables, core_of, load_at}
 use Rattle.pagable_tables.proofs.{Pins.handle-first, Pins.no-fault, Pins.spent-late, Pins.wrong-mode, Worlds.still, Worlds.owner-same, Newer.pin-newer, Newer.later-so}
 use Rattle.pagable_tables.proofs.pinning.pin.Goals as goal
@@ -29,8 +29,7 @@ returns-in-Err-pin_here-clause-pinned c stored closed failures =
     let owns : Owns w c.args.me c.args.handle is_loose row = record { live = c.in-Ok.ensures.found; own = owner-same c.args.me row.owner c.in-Ok.ensures.owner; as_asked = search rules } in
     let none = no-fault w c.args.me c.args.handle is_loose row owns in
     let m = (c.in-Err-pin_here.ensures.pinned stored closed failures).refused in
-    let cause : pin_fault w c.args.me c.args.handle ≡ spent w.last.handle =
-    ap (λ f. earlier f (where_so (is_handle_here w c.args.handle) (spent w.last.handle))) none ∙ ap (λ b. where_so b (spent w.last.handle)) so in
+    let cause : pin_fault w c.args.me c.args.handle ≡ spent w.last.handle = grind (arith, nat_tests) in
     record { pins = tt; refused = record { why = elim m.why [ inl a ↦ inl (cause ∙ a) | inr b ↦ inr (b.0, cause ∙ b.1, (so, b.2)) ]; stays = m.stays } }
 
 pub returns-in-Ok-pin_here-clause-later : goal.returns-in-Ok-pin_here-clause-later

@@ -1,4 +1,4 @@
-use Rattle.pagable_tables.proofs.Words.{[], arith, None, nobody, only_handle, GivesUp, owns_nothing, SoFar, Holdings}
+use Rattle.pagable_tables.proofs.Words.{[], arith, None, nobody, only_handle, GivesUp, owns_nothing, SoFar, Holdings, nat_tests}
 use Rattle.pagable_tables.proofs.{Begun.aside, Begun.unowned, Next.gives-on, Shedding.stays-first}
 use Rattle.pagable_tables.proofs.releases.give_back.Goals as goal
 
@@ -9,7 +9,6 @@ pub fall-requires : goal.fall-requires
 fall-requires g c =
     let t : Holdings = record c.args.t.now { unlisted = None } in
     let e : GivesUp t [] c.args.at.row c.args.lists c.give_up.new.t = c.give_up.ensures [] (unowned t c.args.at.row [] c.requires.plain (aside c.args.t.now None [] owns_nothing c.requires.steady)) in
-    let long = e.long in
     record { falling = (e.more, e.falling, omega arith) }
 
 pub returns-clause-falls : goal.returns-clause-falls

@@ -47,8 +47,7 @@ returns c =
     let same : (m : ℕ) → refs' m ≡ refs m = λ m. c.set_counts.ensures.refs m ∙ ap (λ s. refs_at s m) nodes in
     let some : 1 ≤ counts.pins = (let a = w.fits.pinned n in let d = ap pins_in is in let l = row-le-live (pin_of n) old.handles.places.items c.args.at.place x c.requires.place in
     let h = pin-here x in let p = ap (λ m. one (is_pinning m)) c.requires.pinned in omega arith) in
-    let held : 1 ≤ counts.holds = (let a = w.fits.holding n in let d = ap holds_in is in let l =
-    row-le-live (handle_of n) old.handles.places.items c.args.at.place x c.requires.place in let h = held-here x in omega arith) in
+    let held : 1 ≤ counts.holds = grind (arith, nat_tests, row-le-live, held-here, c.requires.place) in
     let top : c.top_after-t.result ≡ (if b then n else old.top) = c.top_after-t.ensures ∙ ap (λ (l : Counts). if is_new counts.is_falling l.is_falling then n else mid.top) left
     ∙ ap (λ t. if is_new counts.is_falling (after more true listed old.top).is_falling then n else t) kept ∙ new-top more true listed old.top n b refl in
     let sums : (f : HandleRow → ℕ) → sum_by f rows' + f x ≡ sum_by f rows + f (unpinned x) + (if listed then f (entry (old.last_handle + 1) x.node) else 0) =
@@ -66,10 +65,7 @@ returns c =
       comes = subst (λ k. MayList (record old { handles = c.set.new.handles }) x.node k listed mid) c.wants_entry-wanted.ensures c.enlist_if-listed.ensures;
       same = refl;
       cells = lower-cells at at' refs refs' rows rows' old.top x counts listed (old.last_handle + 1) w.fits is c.requires.pinned c.requires.plain sums here others same some;
-      values = λ m. elim (cases_eq m n) [
-        | inl eq ↦ subst (λ k. ValueStays (at k) (at' k)) (sym eq) (subst (λ o. ValueStays o (at' n)) (sym is) (subst (ValueStays (Some counts)) (sym here) (lowered-value counts listed old.top some)))
-        | inr ne ↦ λ falls. (ap falls_in (sym (others m ne)) ∙ falls, ap has_value (others m ne))
-      ];
+      values = λ m. grind (arith, nat_tests, cases_eq, lowered-value);
       keyed = λ falls. keyed-then counts listed held (top-falls b n old.top w.fits.chain (λ z. falls (top ∙ z)));
       more = if b then n ∷ [] else [];
       falling = record {

@@ -6,7 +6,6 @@ use Rattle.pagable_tables.proofs.workers.worker_begin.Goals as goal
 pub returns-clause-begun : goal.returns-clause-begun
 returns-clause-begun c stored closed failures =
     let t = c.args.t.now in
-    let w = core_of t stored closed failures in
     record {
       begun = (
         refl,
