@@ -71,13 +71,10 @@ returns-clause-later g c =
     later-so c.requires.later (record { last = n.last; owned = n.owned }) (closed-still (load_at t.loads) (load_at c.close.new.loads) c.args.load.0 c.close.ensures.gone c.close.ensures.others)
 
 pub returns-clause-sheds : goal.returns-clause-sheds
-returns-clause-sheds g c =
-    let nodes = ap (λ (k : Holdings). k.nodes) c.hand_each.ensures.same in
-    subst (λ ns. Sheds (counts_at ns) (get nat_eq c.args.values.now) (counts_at c.give_up_load.new.t.nodes) (get nat_eq c.give_up_load.new.values)) nodes c.give_up_load.ensures.sheds
+returns-clause-sheds g c = grind (arith, nat_tests, c.hand_each.ensures.same, c.give_up_load.ensures.sheds)
 
 pub returns-in-Some-clause-sheds : goal.returns-in-Some-clause-sheds
 returns-in-Some-clause-sheds g c = sheds-still c.args.t.now.holdings _ c.requires.whole.steady
 
 pub returns-in-Some-clause-taken : goal.returns-in-Some-clause-taken
-returns-in-Some-clause-taken g c stored closed failures e =
-    record { hands = tt; refused = (sym (c.hand_over_fault.ensures stored closed failures) ∙ c.in-Some.is, still (core_of c.args.t.now stored closed failures)) }
+returns-in-Some-clause-taken g c stored closed failures e = grind (arith, nat_tests, still, c.hand_over_fault.ensures, c.in-Some.is)

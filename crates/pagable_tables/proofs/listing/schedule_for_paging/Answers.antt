@@ -37,13 +37,8 @@ returns-then-not-lists-clause-whole g c =
     whole-so c.give_back.ensures.steady (falls-opened (may-fall (only_handle c.in-Ok.at.row.number) is (roomy-whole is) (stays-on (plain_of c.args.t.now))) falls)
 
 pub returns-clause-scheduled : goal.returns-clause-scheduled
-returns-clause-scheduled g c stored closed failures e =
-    let row = c.in-Ok.at.row in
-    let list : c.push.new.self.items ≡ c.args.t.now.holdings.list.items ++ c.args.handle ∷ [] = search rules in
-    record {
-      moves = grind (arith, nat_tests, owner-same, open-then, alike-listed, c.in-Ok.ensures.found, c.in-Ok.ensures.owner, c.if-not-lists.false, c.hand_over.ensures.rows, c.in-Ok.ensures.number);
-      refused = tt;
-    }
+returns-clause-scheduled g c stored closed failures e = grind (arith, nat_tests, owner-same, open-then, alike-listed, c.in-Ok.ensures.found, c.in-Ok.ensures.owner, c.if-not-lists.false,
+  c.hand_over.ensures.rows, c.in-Ok.ensures.number)
 
 pub returns-clause-whole : goal.returns-clause-whole
 returns-clause-whole g c =
@@ -81,8 +76,4 @@ pub returns-in_default-clause-sheds : goal.returns-in_default-clause-sheds
 returns-in_default-clause-sheds g c = sheds-still c.args.t.now.holdings _ c.requires.whole.steady
 
 pub returns-then-not-is_unpinned-clause-scheduled : goal.returns-then-not-is_unpinned-clause-scheduled
-returns-then-not-is_unpinned-clause-scheduled g c stored closed failures e =
-    let w = core_of c.args.t.now stored closed failures in
-    let row = c.in-Ok.at.row in
-    let other : is_unpinned row.mode ≡ false = search rules in
-    record { moves = tt; refused = record { why = inl (wrong-mode w c.args.me c.args.handle is_unpinned row c.in-Ok.ensures.found c.in-Ok.ensures.owner other); stays = still w } }
+returns-then-not-is_unpinned-clause-scheduled g c stored closed failures e = grind (arith, nat_tests, wrong-mode, still, c.in-Ok.ensures.found, c.in-Ok.ensures.owner)

@@ -41,11 +41,4 @@ returns-in-Err-pin_here-clause-later c later =
     later-so later (pin-newer c.args.me c.args.handle _ (returns-in-Err-pin_here-clause-pinned c (λ key. None) false 0)) (λ l load is. sym (ap (λ (u : Tables). load_at u.loads l) c.in-Err-pin_here.ensures.same) ∙ is)
 
 pub returns-then-not-is_loose-clause-pinned : goal.returns-then-not-is_loose-clause-pinned
-returns-then-not-is_loose-clause-pinned c stored closed failures =
-    let w = core_of c.args.t.now stored closed failures in
-    let row = c.in-Ok.at.row in
-    let other : is_loose row.mode ≡ false = search rules in
-    let wrong = wrong-mode w c.args.me c.args.handle is_loose row c.in-Ok.ensures.found c.in-Ok.ensures.owner other in
-    let why = handle-first w c.args.me c.args.handle is_loose _ (where_so (is_handle_here w c.args.handle) (spent w.last.handle)) wrong
-    (λ f so. let a = spent-late w.last.handle (is_handle_here w c.args.handle) f so in omega arith) in
-    record { pins = tt; refused = record { why = inl why; stays = still w } }
+returns-then-not-is_loose-clause-pinned c stored closed failures = grind (arith, nat_tests, wrong-mode, handle-first, spent-late, still, c.in-Ok.ensures.found, c.in-Ok.ensures.owner)
