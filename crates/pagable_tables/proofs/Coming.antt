@@ -83,9 +83,6 @@ module _ (at at' : ℕ → Option Counts) (refs refs' : ℕ → List ArcRef) (ro
     (sums : (f : HandleRow → ℕ) → sum_by f rows' + f x ≡ sum_by f rows + f (turned x))
     (here : at' x.node.0 ≡ Some (record c { pins = c.pins + one (not (is_pinning x.mode)) }))
     (others : (n : ℕ) → n ≢ x.node.0 → at' n ≡ at n) (same : (n : ℕ) → refs' n ≡ refs n) where
-  abbrev after-turn : Counts
-  after-turn = record c { pins = c.pins + one (not (is_pinning x.mode)) }
-
   turn-right : Right (at' x.node.0) (refs' x.node.0)
   turn-right = grind (arith, nat_tests)
 

@@ -83,8 +83,6 @@ module _ (at at' : ℕ → Option Counts) (refs refs' : ℕ → List ArcRef) (ro
 
   given-marked : (b : Bool) → now_falls ≡ b → (n : ℕ) → often n (if b then x.node.0 ∷ stack else stack) ≡ one (falls_in (at' n))
   given-marked true e n =
-      let free : c.is_falling ≡ false = not-both c.is_falling _ e in
-      let waits : falls_in (at' x.node.0) ≡ (c.is_falling || now_falls) = ap falls_in here in
       elim (cases_eq n x.node.0) [
         | inl same' ↦
             let goal : often x.node.0 (x.node.0 ∷ stack) ≡ one (falls_in (at' x.node.0)) = let a = sum_by-cons (λ y. one (y == x.node.0)) x.node.0 stack in grind (arith, nat_tests) in

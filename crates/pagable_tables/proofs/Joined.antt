@@ -60,7 +60,6 @@ module _ (w : Core) (me : Owner) (n : ℕ) (rs : List ArcRef) (ordered : AllPair
               let a = others-own w me n rs ordered fit unvalued m q e in
               let b = own-after m q in
               let d = own-before m q in
-              let f = fits.owned m q in
               let g = ap (named q) (same m e) in
               omega arith
         ];

@@ -80,7 +80,6 @@ module _ (before w : Core) (given : ℕ → Bool) (lists : Bool) (t : Holdings) 
           let at : n ≡ x.node.0 = grind (arith, nat_tests) in
           let pinning : is_pinning x.mode ≡ true = grind (arith, nat_tests) in
           let a = no-more (is_share n) (λ h mode owner. let m : is_shared h.mode ≡ false = ap is_shared mode in grind (arith, nat_tests)) in
-          let b = f.begins.shared n in
           let unshared : is_shared x.mode ≡ false = grind (arith, nat_tests) in
           let o = ap one pin in
           let p : c.pins ≡ 1 = sym (ap pins_in is) ∙ pinned ∙ ap (λ m. pins m (live t.handles.places.items)) (sym at) ∙ (omega arith) in

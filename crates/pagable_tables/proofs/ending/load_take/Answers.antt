@@ -42,7 +42,6 @@ returns-clause-taken g c stored closed failures e =
     (record { handles = (let a = c.hand_each.ensures.capacity in omega arith); entries = (let a = ap (λ (k : Holdings). (with_tables w k).places.entries) c.hand_each.ensures.same in omega arith) })
     (still-listed c.requires.whole.core me l hs can) in
     let row : load_at t.loads l.0 ≡ Some c.in-Some-load_of.row = sym c.load_of.ensures ∙ c.in-Some-load_of.is in
-    let last = ap (λ (k : Holdings). k.last_handle) c.hand_each.ensures.same in
     let falls = c.give_up_load.ensures.falls w u so-far (let a = ap length c.hand_each.ensures.rows in omega arith)
     (λ q own. let mine = and-left (is_owned_in w (Owner.Load l) q) (not (s q)) (sym (left q) ∙ own) in let g = owned-given p (Owner.Load l) q c.requires.whole.core.handles mine in
     (c.requires.later.since l.0 c.in-Some-load_of.row q row mine, omega arith)) in

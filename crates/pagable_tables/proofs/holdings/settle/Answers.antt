@@ -9,7 +9,6 @@ there t (n ∷ ns) w some none =
     let top : t.top ≡ n = w.fits.chain.0 in
     let fits : Fits (counts_at t.nodes) (refs_at t.nodes) (live t.handles.places.items) n (n ∷ ns) owns_nothing = grind (arith, nat_tests) in
     let waits = first-waits _ _ _ _ _ _ fits in
-    let is : counts_at t.nodes n ≡ None = subst (λ m. counts_at t.nodes m ≡ None) top none in
     absurd (cc)
 
 pub unreachable-requires : goal.unreachable-requires

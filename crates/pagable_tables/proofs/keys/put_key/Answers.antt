@@ -25,9 +25,6 @@ returns-clause-falling c =
       long-if b n [],
     )
 
-keyed-value : (y : Counts) (key top : ℕ) → y.is_falling ≡ false → ValueStays (Some y) (Some (keyed y key top))
-keyed-value y key top stood falls = (stood, grind (arith, nat_tests))
-
 pub returns-clause-values : goal.returns-clause-values
 returns-clause-values c m = grind (arith, nat_tests, none-falls-in, cases_eq, c.counts_of.ensures, c.in-Some.is, c.set_counts.ensures.here, c.counts_keyed-with_key.ensures, c.requires.steady,
   c.set_counts.ensures.others)

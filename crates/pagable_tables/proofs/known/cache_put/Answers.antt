@@ -25,7 +25,6 @@ returns-in-Err-make-clause-offered c stored failures =
     let owns : Owns w c.args.me c.args.handle (fits_mode c.args.kind.0) c.in-Ok.row = record { live = o.live; own = o.own; as_asked = o.as_asked } in
     let is = sym (c.in-Some.ensures stored false failures) in
     let call = not-recalled w c.args.me c.args.kind c.args.key c.in-Some.node c.mode_of.result _ is c.mode_of.ensures c.in-Err-make.e (c.in-Err-make.ensures.made stored false failures) in
-    let none = no-fault w c.args.me c.args.handle (fits_mode c.args.kind.0) c.in-Ok.row owns in
     let cause : offer_fault w c.args.me c.args.kind c.args.key c.args.handle ≡ recall_fault w c.args.kind c.args.key = grind (arith, nat_tests, offer-last, c.in-Ok.ensures.typed) in
     record { answers = tt; refused = record { why = elim call.refused.why [ inl a ↦ inl (cause ∙ a) | inr b ↦ inr (b.0, cause ∙ b.1, (refl, inr b.2.1)) ]; stays = call.refused.stays } }
 

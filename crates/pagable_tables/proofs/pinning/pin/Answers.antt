@@ -27,7 +27,6 @@ returns-in-Err-pin_here-clause-pinned c stored closed failures =
     let here : is_here w row.node.0 ≡ true = search rules in
     let so : is_handle_here w c.args.handle ≡ true = ap (if_there (λ (row : HandleRow). is_here w row.node.0) false) c.in-Ok.ensures.found ∙ here in
     let owns : Owns w c.args.me c.args.handle is_loose row = record { live = c.in-Ok.ensures.found; own = owner-same c.args.me row.owner c.in-Ok.ensures.owner; as_asked = search rules } in
-    let none = no-fault w c.args.me c.args.handle is_loose row owns in
     let m = (c.in-Err-pin_here.ensures.pinned stored closed failures).refused in
     let cause : pin_fault w c.args.me c.args.handle ≡ spent w.last.handle = grind (arith, nat_tests) in
     record { pins = tt; refused = record { why = elim m.why [ inl a ↦ inl (cause ∙ a) | inr b ↦ inr (b.0, cause ∙ b.1, (so, b.2)) ]; stays = m.stays } }

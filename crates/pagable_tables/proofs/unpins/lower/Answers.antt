@@ -48,8 +48,7 @@ returns c =
     let some : 1 ≤ counts.pins = (let a = w.fits.pinned n in let d = ap pins_in is in let l = row-le-live (pin_of n) old.handles.places.items c.args.at.place x c.requires.place in
     let h = pin-here x in let p = ap (λ m. one (is_pinning m)) c.requires.pinned in omega arith) in
     let held : 1 ≤ counts.holds = grind (arith, nat_tests, row-le-live, held-here, c.requires.place) in
-    let top : c.top_after-t.result ≡ (if b then n else old.top) = c.top_after-t.ensures ∙ ap (λ (l : Counts). if is_new counts.is_falling l.is_falling then n else mid.top) left
-    ∙ ap (λ t. if is_new counts.is_falling (after more true listed old.top).is_falling then n else t) kept ∙ new-top more true listed old.top n b refl in
+    let top : c.top_after-t.result ≡ (if b then n else old.top) = grind (arith, nat_tests, new-top, c.top_after-t.ensures) in
     let sums : (f : HandleRow → ℕ) → sum_by f rows' + f x ≡ sum_by f rows + f (unpinned x) + (if listed then f (entry (old.last_handle + 1) x.node) else 0) =
     λ f. let a = c.set.ensures.sums f in let d = ap (sum_by f) e.rows in let g = with-entry f (live c.set.new.handles.places.items) listed (old.last_handle + 1) x.node in omega arith in
     record {
