@@ -1,8 +1,7 @@
 -- Where handles begin to be given up: nothing has gone so far.
-use Rattle.pagable_tables.proofs.Words.{◌≡◌, ℕ, ◌+◌, ◌≤◌, ◌&&◌, Bool, false, not, List, [], ◌∷◌, length, refl, ap, sym, ◌∙◌, subst, arith, inl, inr, Option, None, true, nat_tests}
-use Rattle.pagable_tables.proofs.Words.{append-nil, sum_by-cons, Error, ArcRef, HandleRow, Blob, one, times, is_at, is_share, held, sharing, Core, greatest, HasRoom, IsWithin, MustList}
-use Rattle.pagable_tables.proofs.Words.{TellsListing, nobody, Tables, Counts, Holdings, live, counts_at, refs_at, Fits, IsFalling, cell_in, is_valued, owns, owns_nothing, with_tables}
-use Rattle.pagable_tables.proofs.Words.{told_by, is_plain_pin, Begins, SoFar, core_of}
+use Rattle.pagable_tables.proofs.Words.{◌≡◌, ℕ, ◌+◌, ◌≤◌, ◌&&◌, Bool, false, not, List, [], ◌∷◌, length, refl, ap, sym, ◌∙◌, subst, arith, Option, None, true, nat_tests, append-nil, sum_by-cons}
+use Rattle.pagable_tables.proofs.Words.{Error, ArcRef, HandleRow, Blob, one, times, is_at, is_share, held, sharing, Core, greatest, HasRoom, IsWithin, MustList, TellsListing, nobody, Tables, Counts}
+use Rattle.pagable_tables.proofs.Words.{Holdings, live, counts_at, refs_at, Fits, IsFalling, cell_in, is_valued, owns, owns_nothing, with_tables, told_by, is_plain_pin, Begins, SoFar, core_of}
 use Rattle.pagable_tables.specs.Core.{IsWhole}
 use Rattle.pagable_tables.proofs.{Coming.owned-by-none, Left.left-all, Left.all-kept}
 

@@ -1,5 +1,5 @@
 -- Where no node falls any more, all has gone that had to go, and no more.
-use Rattle.pagable_tables.proofs.Words.{◌≡◌, ℕ, ◌+◌, ◌≤◌, ◌&&◌, Bool, true, false, not, if◌then◌else◌, List, [], ◌∷◌, ◌++◌, sum_by, refl, ap, sym, ◌∙◌, subst, arith, inl, inr, Option, Some}
+use Rattle.pagable_tables.proofs.Words.{◌≡◌, ℕ, ◌+◌, ◌≤◌, ◌&&◌, Bool, true, false, not, if◌then◌else◌, List, [], ◌∷◌, sum_by, refl, ap, sym, ◌∙◌, subst, arith, inl, inr, Option, Some}
 use Rattle.pagable_tables.proofs.Words.{None, ◌⊎◌, is_some, nat_lt, nat_eq, Result, Ok, Err, nat_tests, sum_by-cons, sum_by-append, Error, OptionalDataKey, ArcRef, HandleRow, one, times}
 use Rattle.pagable_tables.proofs.Words.{if_there, is_pinned_kind, is_at, is_pin, is_owned_by, owner_value, held, pins, has_key, is_in_memory, Core, Cell, greatest, Alike, left_rows}
 use Rattle.pagable_tables.proofs.Words.{IsClosed, is_keyed, MustList, TellsListing, CannotList, IsListRefusal, Falls, fallen, pins_outside, held_outside, Counts, Holdings, live, counts_at}

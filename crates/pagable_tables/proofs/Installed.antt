@@ -1,17 +1,16 @@
 -- A load of a cell ends with a pin, and gives up what it still owns. The pin stays, so that cells are listed as of the world before.
-use Rattle.pagable_tables.proofs.Words.{◌≡◌, ℕ, ◌+◌, ◌<◌, ◌≤◌, ◌==◌, ◌&&◌, Bool, true, false, not, List, [], ◌∷◌, ◌++◌, length, refl, ap, sym, ◌∙◌, subst, arith, Option, Some, None, inl}
-use Rattle.pagable_tables.proofs.Words.{inr, if◌then◌else◌, ◌≢◌, Result, vec_capacity, option_map, AllPairs, nat_tests, sum_by_push, Error, ArcRef, HandleNumber, LoadNumber, NodeNumber}
-use Rattle.pagable_tables.proofs.Words.{HandleRow, Owner, Mode, Blob, Among, one, times, changed, find_row, pins, sharing, is_handle, is_owner, is_owned_by, is_pin, is_share, owner_value}
-use Rattle.pagable_tables.proofs.Words.{IsHandleBefore, MayOwnLoad, Core, Last, Alike, Falls, nobody, references_fault, moved, row_of, is_named_by, with_handle, with_mode, is_owned_in}
-use Rattle.pagable_tables.proofs.Words.{without_load, with_pin, Installs, MayEnd, Holdings, Counts, LoadRow, Tables, live, counts_at, load_at, cell_in, has_value, is_valued, pins_in}
-use Rattle.pagable_tables.proofs.Words.{with_tables, is_plain_pin, SoFar, core_of, plain_of, load_in, MayHold, IsWider, has_come}
+use Rattle.pagable_tables.proofs.Words.{◌≡◌, ℕ, ◌+◌, ◌<◌, ◌≤◌, ◌==◌, ◌&&◌, Bool, true, false, not, List, [], ◌∷◌, ◌++◌, length, refl, ap, sym, ◌∙◌, subst, arith, Option, Some, None, inl, inr}
+use Rattle.pagable_tables.proofs.Words.{if◌then◌else◌, ◌≢◌, Result, vec_capacity, option_map, AllPairs, nat_tests, sum_by_push, Error, ArcRef, HandleNumber, LoadNumber, NodeNumber, HandleRow, Owner}
+use Rattle.pagable_tables.proofs.Words.{Mode, Blob, Among, one, times, changed, find_row, pins, sharing, is_handle, is_owner, is_owned_by, is_pin, is_share, owner_value, IsHandleBefore, MayOwnLoad}
+use Rattle.pagable_tables.proofs.Words.{Core, Last, Alike, Falls, nobody, references_fault, moved, row_of, is_named_by, with_handle, with_mode, is_owned_in, without_load, with_pin, Installs, MayEnd}
+use Rattle.pagable_tables.proofs.Words.{Holdings, Counts, LoadRow, Tables, live, counts_at, load_at, cell_in, has_value, is_valued, pins_in, with_tables, is_plain_pin, SoFar, core_of, plain_of}
+use Rattle.pagable_tables.proofs.Words.{load_in, MayHold, IsWider, has_come}
 use Rattle.pagable_tables.specs.Core.{IsWhole}
-use Rattle.pagable_tables.proofs.Newer.{OnlyNewer, loaded-mode, newer-then, newer-moved, newer-mode, newer-handle, newer-falls}
-use Rattle.pagable_tables.proofs.{Begun.begins, Begun.begun, Coming.turned, Dropped.load-closed, Dropped.owned-given, Joined.moved-turned, Joined.turned-sum, Named.moved-nobody}
-use Rattle.pagable_tables.proofs.{Named.named-none, Regiven.loaded, Regiven.passes-here, Regiven.passes-none, Stays.seen-before, Stays.stays-pinned, Stays.not-named, Swapped.same-value}
-use Rattle.pagable_tables.proofs.{Taken.moved-times, Taken.loaded-moved, Taken.no-load, Upheld.references-placed, keeps.BirthCalls.named-unlisted, keeps.Comes.not-list}
-use Rattle.pagable_tables.proofs.{keeps.Comes.not-a-value, keeps.LoadCalls.may-hold, keeps.Moved.moved-to-value, keeps.Rows.among-map, keeps.Rows.found-among, keeps.Rows.once}
-use Rattle.pagable_tables.proofs.{keeps.Rows.ordered-map, keeps.Rows.sum-map}
+use Rattle.pagable_tables.proofs.{Newer.OnlyNewer, Newer.loaded-mode, Newer.newer-then, Newer.newer-moved, Newer.newer-mode, Newer.newer-handle, Newer.newer-falls, Begun.begins, Begun.begun}
+use Rattle.pagable_tables.proofs.{Coming.turned, Dropped.load-closed, Dropped.owned-given, Joined.moved-turned, Joined.turned-sum, Named.moved-nobody, Named.named-none, Regiven.loaded}
+use Rattle.pagable_tables.proofs.{Regiven.passes-here, Regiven.passes-none, Stays.seen-before, Stays.stays-pinned, Stays.not-named, Swapped.same-value, Taken.moved-times, Taken.loaded-moved}
+use Rattle.pagable_tables.proofs.{Taken.no-load, Upheld.references-placed, keeps.BirthCalls.named-unlisted, keeps.Comes.not-list, keeps.Comes.not-a-value, keeps.LoadCalls.may-hold}
+use Rattle.pagable_tables.proofs.{keeps.Moved.moved-to-value, keeps.Rows.among-map, keeps.Rows.found-among, keeps.Rows.once, keeps.Rows.ordered-map, keeps.Rows.sum-map}
 
 -- Of other nodes the same handles pin, and are Shared.
 module _ (h : HandleNumber) (node : NodeNumber) (rows : List HandleRow) (of : (y : HandleRow) → Among rows y → is_handle h.0 y ≡ true → y.node ≡ node) (n : ℕ) (other : (node.0 == n) ≡ false) where

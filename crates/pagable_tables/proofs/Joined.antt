@@ -1,8 +1,7 @@
 -- What a value refers to comes with it to a node that is there, has no value and is pinned.
-use Rattle.pagable_tables.proofs.Words.{◌≡◌, ℕ, ◌+◌, ◌<◌, ◌==◌, Bool, true, false, List, [], ◌∷◌, ◌++◌, sum_by, refl, ap, sym, ◌∙◌, subst, arith, Option, None, inl, inr, if◌then◌else◌, ◌≢◌}
-use Rattle.pagable_tables.proofs.Words.{cases_eq, nat_tests, sum_by_push, OptionalDataKey, ArcRef, HandleNumber, HandleRow, Owner, changed, if_there, pins, is_at, is_pin, is_handle}
-use Rattle.pagable_tables.proofs.Words.{is_in_memory, owner_value, IsHandleBefore, Cell, Core, references_fault, moved, is_named_by, Counts, Fits, Right, cell_in, pins_in, falls_in}
-use Rattle.pagable_tables.proofs.Words.{is_valued, named, owns_nothing, AllPairs}
+use Rattle.pagable_tables.proofs.Words.{◌≡◌, ℕ, ◌+◌, ◌<◌, Bool, false, List, [], ◌∷◌, ◌++◌, sum_by, refl, ap, sym, ◌∙◌, subst, arith, Option, None, inl, inr, ◌≢◌, cases_eq, nat_tests, sum_by_push}
+use Rattle.pagable_tables.proofs.Words.{OptionalDataKey, ArcRef, HandleRow, Owner, changed, if_there, pins, is_at, is_pin, is_handle, is_in_memory, owner_value, IsHandleBefore, Cell, Core}
+use Rattle.pagable_tables.proofs.Words.{references_fault, moved, is_named_by, Counts, Fits, Right, cell_in, pins_in, falls_in, is_valued, named, owns_nothing, AllPairs}
 use Rattle.pagable_tables.proofs.{Born.others-own, Born.own-own, Coming.turned, Coming.owned-by-none, Fitting.is_owned, Taken.moved-times, keeps.Rows.sum-map}
 
 right-pinned : (o : Option Counts) (refs refs' : List ArcRef) → 0 < pins_in o → falls_in o ≡ false → Right o refs → Right o refs'

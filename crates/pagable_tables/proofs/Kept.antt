@@ -1,6 +1,6 @@
 -- What has gone so far is kept by each step of a cascade.
-use Rattle.pagable_tables.proofs.Words.{◌≡◌, ℕ, Bool, List, sym, ◌∙◌, subst, ◌≢◌, Result, Ok, Err, Error, HandleRow, MustList, TellsListing, IsListRefusal, Core, Holdings, counts_at}
-use Rattle.pagable_tables.proofs.Words.{CellsStay, with_tables, told_by, SoFar, arith, nat_tests}
+use Rattle.pagable_tables.proofs.Words.{◌≡◌, ℕ, Bool, List, sym, subst, ◌≢◌, Result, Ok, Err, Error, HandleRow, MustList, TellsListing, IsListRefusal, Core, Holdings, counts_at}
+use Rattle.pagable_tables.proofs.Words.{CellsStay, with_tables, SoFar, arith, nat_tests}
 
 -- what is asked of handles and list, where only nodes differ
 must-same : (before w : Core) (t new : Holdings) (n : ℕ) → MustList before w (with_tables w t) n → MustList before w (with_tables w (record t { nodes = new.nodes; top = new.top })) n

@@ -1,8 +1,7 @@
 -- A node gets a key: handles and nodes fit again.
-use Rattle.pagable_tables.proofs.Words.{◌≡◌, ℕ, ◌+◌, ◌<◌, ◌==◌, ◌&&◌, ◌||◌, Bool, true, false, if◌then◌else◌, List, [], ◌∷◌, refl, ap, sym, ◌∙◌, subst, arith, inl, inr, Option, Some, ◌≢◌}
-use Rattle.pagable_tables.proofs.Words.{nat_lt, not, cases_eq, nat_tests, ArcRef, HandleRow, one, Counts, Fits, Chain, Right, is_right, is_bare, is_new, pins_in, holds_in, falls_in, next_in}
-use Rattle.pagable_tables.proofs.Words.{often, named, owns_nothing, keyed, GetsKey}
-use Rattle.pagable_tables.proofs.{Coming.is-free}
+use Rattle.pagable_tables.proofs.Words.{◌≡◌, ℕ, ◌<◌, ◌==◌, ◌&&◌, ◌||◌, Bool, true, false, if◌then◌else◌, List, [], ◌∷◌, refl, ap, sym, ◌∙◌, subst, arith, inl, inr, Option, Some, ◌≢◌, nat_lt, not}
+use Rattle.pagable_tables.proofs.Words.{cases_eq, nat_tests, ArcRef, HandleRow, one, Counts, Fits, Chain, Right, is_new, falls_in, next_in, often, named, owns_nothing, keyed, GetsKey}
+use Rattle.pagable_tables.proofs.Coming.{is-free}
 
 keyed-right : (w bare : Bool) (p h : ℕ) (k key : ℕ) → w ≡ false → 0 < key → (if w then h == 0 || (p == 0 && nat_lt 0 k) else nat_lt 0 h && (nat_lt 0 p || not (nat_lt 0 k) || bare)) ≡ true
     → (if p == 0 then h == 0 || (p == 0 && nat_lt 0 key) else nat_lt 0 h && (nat_lt 0 p || not (nat_lt 0 key) || bare)) ≡ true

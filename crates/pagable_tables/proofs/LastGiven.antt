@@ -1,5 +1,5 @@
 -- No live row of a number passes a test.
-use Rattle.pagable_tables.proofs.Words.{◌≡◌, ℕ, ◌+◌, ◌<◌, ◌≤◌, Bool, true, false, if◌then◌else◌, List, [], ◌∷◌, suc, length, get_or, refl, ap, sym, ◌∙◌, arith, Some, slice_get, inl, inr}
+use Rattle.pagable_tables.proofs.Words.{◌≡◌, ℕ, ◌+◌, ◌<◌, ◌≤◌, Bool, true, false, if◌then◌else◌, List, [], ◌∷◌, suc, length, get_or, refl, ap, sym, ◌∙◌, arith, Some, slice_get}
 use Rattle.pagable_tables.proofs.Words.{◌⊎◌, AllPairs, slice_get-get_or, HandleRow, is_handle, find_row, nat_tests, get_or_default, Place, live, alive, IsBefore, passes_in}
 use Rattle.pagable_tables.proofs.{Alive.row-live, Order.smaller-up, Order.greater-from, Regiven.passes-here, Regiven.passes-none}
 

@@ -1,7 +1,6 @@
 -- Tables of nothing are whole.
-use Rattle.pagable_tables.proofs.Words.{◌≡◌, ℕ, true, false, [], length, refl, ap, sym, subst, ◌∙◌, arith, inl, Some, None, nat_eq, is_some, get, NodeNumber, HandleRow, Among, is_in, pins, nat_tests}
-use Rattle.pagable_tables.proofs.Words.{held, sharing, Core, NodeRow, Tables, live, AreSound, counts_at, refs_at, load_at, known_at, pins_in, holds_in, cell_in, IsFalling, owns_nothing}
-use Rattle.pagable_tables.proofs.Words.{plain_of, load_in, option_map}
+use Rattle.pagable_tables.proofs.Words.{◌≡◌, ℕ, false, [], refl, ap, subst, arith, None, nat_eq, get, HandleRow, Among, is_in, nat_tests, Core, NodeRow, Tables, live, AreSound, counts_at, refs_at}
+use Rattle.pagable_tables.proofs.Words.{load_at, known_at, cell_in, IsFalling, owns_nothing, plain_of, option_map}
 use Rattle.std.specs.Option.{option_map_or}
 use Rattle.pagable_tables.specs.Core.{IsWhole}
 

@@ -1,8 +1,7 @@
 -- A load is opened and closed again. Why a handle can't come while numbers are left.
-use Rattle.pagable_tables.proofs.Words.{◌≡◌, ℕ, ◌<◌, ◌≤◌, Bool, true, false, List, refl, ap, sym, ◌∙◌, arith, Option, Some, None, inl, inr, ◌≢◌, ◌⊎◌, nat_lt, nat_le, nat_tests, Error}
-use Rattle.pagable_tables.proofs.Words.{OptionalDataKey, HandleNumber, LoadNumber, HandleRow, Owner, Mode, if_there, is_owner, is_loose, is_in_memory, pins, Core, Cell, OpenLoad, greatest}
-use Rattle.pagable_tables.proofs.Words.{row_at, rank, earlier, where_so, refused_if, spent, handle_fault, load_fault, closed_fault, OwnsLoad, Refused, Counts, LoadRow, pins_in, cell_in}
-use Rattle.pagable_tables.proofs.Words.{key_in, load_in, option_map}
+use Rattle.pagable_tables.proofs.Words.{◌≡◌, ℕ, ◌<◌, ◌≤◌, Bool, true, false, List, refl, ap, sym, ◌∙◌, arith, Option, Some, None, inl, inr, ◌≢◌, ◌⊎◌, nat_lt, nat_tests, Error, OptionalDataKey}
+use Rattle.pagable_tables.proofs.Words.{HandleNumber, LoadNumber, HandleRow, Owner, Mode, if_there, is_owner, is_loose, is_in_memory, pins, Core, Cell, OpenLoad, greatest, row_at, rank, earlier}
+use Rattle.pagable_tables.proofs.Words.{where_so, refused_if, spent, handle_fault, load_fault, closed_fault, OwnsLoad, Refused, Counts, LoadRow, pins_in, cell_in, key_in, load_in, option_map}
 use Rattle.pagable_tables.proofs.Pins.{owner-self, fault-rank}
 
 -- a load that wasn't open comes and goes

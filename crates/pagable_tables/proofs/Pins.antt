@@ -1,5 +1,5 @@
 -- A handle is pinned, by a Pinned one that is made and by itself. Why an own handle can't be used.
-use Rattle.pagable_tables.proofs.Words.{◌≡◌, ℕ, ◌+◌, ◌<◌, ◌≤◌, Bool, true, false, List, [], ◌∷◌, ◌++◌, refl, ap, sym, ◌∙◌, arith, Option, Some, None, if◌then◌else◌, not, nat_lt, nat_tests}
+use Rattle.pagable_tables.proofs.Words.{◌≡◌, ℕ, ◌<◌, ◌≤◌, Bool, true, false, List, [], ◌∷◌, ◌++◌, refl, ap, sym, ◌∙◌, arith, Option, Some, None, if◌then◌else◌, not, nat_lt, nat_tests}
 use Rattle.pagable_tables.proofs.Words.{Error, HandleNumber, NodeNumber, HandleRow, Owner, Mode, changed, if_there, find_row, is_handle, is_owner, Core, Alike, row_at, earlier, rank}
 use Rattle.pagable_tables.proofs.Words.{refused_if, spent, where_so, handle_fault, Owns, with_handle, with_mode}
 use Rattle.pagable_tables.proofs.{Worlds.same-cache}

@@ -1,5 +1,5 @@
 -- A handle is made of the node that the cache gives.
-use Rattle.pagable_tables.proofs.Words.{◌≡◌, ℕ, true, ap, ◌∙◌, subst, Ok, Err, Some, inl, inr, is_some, Error, HandleNumber, NodeNumber, Kind, Owner, Mode, mode_of, Core, usable, Alike}
+use Rattle.pagable_tables.proofs.Words.{◌≡◌, ℕ, true, ap, subst, Ok, Err, Some, is_some, Error, HandleNumber, NodeNumber, Kind, Owner, Mode, mode_of, Core, usable, Alike}
 use Rattle.pagable_tables.proofs.Words.{where_so, spent, with_handle, is_usable, recall_fault, RecallCall, Makes, arith, nat_tests}
 
 module _ (w : Core) (me : Owner) (kind : Kind) (key : ℕ) (node : NodeNumber) (mode : Mode) (w' : Core)

@@ -1,5 +1,5 @@
 -- One handle more has gone: what rows are left, where no entry is that handle.
-use Rattle.pagable_tables.proofs.Words.{◌≡◌, ℕ, ◌+◌, ◌&&◌, Bool, not, List, ◌++◌, ap, ◌∙◌, append_assoc, filter-append, HandleRow, times, is_handle, Core, left_rows, only_handle, Holdings}
+use Rattle.pagable_tables.proofs.Words.{◌≡◌, ℕ, ◌+◌, ◌&&◌, Bool, List, ◌++◌, ap, ◌∙◌, append_assoc, filter-append, HandleRow, times, is_handle, Core, left_rows, only_handle, Holdings}
 use Rattle.pagable_tables.proofs.Words.{live, entries_of, is_listing, Leaves, GivesUp, SoFar, arith, nat_tests}
 use Rattle.pagable_tables.proofs.Left.{and_one, left-more, left-none}
 

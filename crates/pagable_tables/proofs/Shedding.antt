@@ -1,5 +1,5 @@
 -- Values that go as nodes fall.
-use Rattle.pagable_tables.proofs.Words.{◌≡◌, ℕ, Bool, true, false, [], refl, sym, ◌∙◌, arith, inl, inr, None, Option, if◌then◌else◌, ◌⊎◌, is_some, nat_tests, Counts, Holdings, counts_at}
+use Rattle.pagable_tables.proofs.Words.{◌≡◌, ℕ, Bool, true, false, [], refl, sym, ◌∙◌, arith, inl, None, Option, if◌then◌else◌, ◌⊎◌, is_some, nat_tests, Counts, Holdings, counts_at}
 use Rattle.pagable_tables.proofs.Words.{IsFalling, ValueStays, Sheds, falls_in, has_value, owns_nothing}
 
 -- the value that a node had is there or gone, and it is there exactly where the node has it, unless the node falls

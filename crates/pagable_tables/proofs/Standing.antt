@@ -1,5 +1,5 @@
 -- How many steps are enough, and where no node falls.
-use Rattle.pagable_tables.proofs.Words.{◌≡◌, ℕ, ◌≤◌, Bool, true, false, List, [], ◌∷◌, length, ap, sym, ◌∙◌, subst, arith, ◌≢◌, sum_by-cons, HandleRow, one, live, counts_at, refs_at, Fits, nat_tests}
+use Rattle.pagable_tables.proofs.Words.{◌≡◌, ℕ, ◌≤◌, Bool, true, false, List, [], ◌∷◌, length, ap, sym, ◌∙◌, arith, ◌≢◌, sum_by-cons, HandleRow, one, live, counts_at, refs_at, Fits, nat_tests}
 use Rattle.pagable_tables.proofs.Words.{IsFalling, falls_in, is_valued, valued, owns_nothing, Holdings}
 use Rattle.pagable_tables.proofs.Fitting.{first-waits}
 

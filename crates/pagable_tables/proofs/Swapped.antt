@@ -1,9 +1,9 @@
 -- A handle comes, and then another is given up: the new one stays, so that cells are listed as of the world before it came.
-use Rattle.pagable_tables.proofs.Words.{◌≡◌, ℕ, ◌+◌, ◌<◌, ◌≤◌, ◌==◌, ◌&&◌, Bool, true, false, [], ◌∷◌, refl, ap, sym, ◌∙◌, subst, arith, Ok, Err, Option, None, inl, inr, if◌then◌else◌}
+use Rattle.pagable_tables.proofs.Words.{◌≡◌, ℕ, ◌+◌, ◌<◌, ◌≤◌, ◌==◌, ◌&&◌, Bool, true, false, [], ◌∷◌, refl, ap, ◌∙◌, arith, Ok, Err, Option, None, inl, inr, if◌then◌else◌}
 use Rattle.pagable_tables.proofs.Words.{Result, not, nat_eq, nat_tests, sum_by_push, sum_by-append, sum_by-le-sum_by, Error, NodeNumber, HandleRow, Owner, Mode, Blob, Among, one, times}
 use Rattle.pagable_tables.proofs.Words.{is_handle, is_at, is_pin, is_share, is_pinning, is_shared, is_owner, is_owned_by, owner_value, held, pins, sharing, HandleNumber, Core, Last, Alike}
 use Rattle.pagable_tables.proofs.Words.{Falls, IsClosed, IsWithin, MustList, TellsListing, is_keyed, nobody, pins_outside, held_outside, left_rows, row_of, with_handle, Counts, Tables, live}
-use Rattle.pagable_tables.proofs.Words.{counts_at, ValueStays, cell_in, has_value, is_valued, pins_in, SoFar, is_plain_pin, core_of}
+use Rattle.pagable_tables.proofs.Words.{counts_at, ValueStays, cell_in, has_value, is_valued, pins_in, SoFar, core_of}
 use Rattle.pagable_tables.specs.Core.{IsWhole}
 use Rattle.pagable_tables.proofs.{Begun.begins, Begun.begun, Left.times-left, Shedding.none-falls-in, keeps.Rests.within-goes, keeps.Rows.among-both, keeps.Rows.among-one}
 use Rattle.pagable_tables.proofs.{keeps.Rows.among-last, keeps.Rows.at-most-sum, keeps.Rows.sum-none}

@@ -1,9 +1,8 @@
 -- A handle has let its pin go and stays: what has gone and come so far.
-use Rattle.pagable_tables.proofs.Words.{◌≡◌, ℕ, ◌+◌, ◌<◌, ◌≤◌, ◌&&◌, Bool, true, false, not, if◌then◌else◌, List, [], ◌∷◌, ◌++◌, length, filter, ap, sym, ◌∙◌, subst, arith, inl, inr, Option}
-use Rattle.pagable_tables.proofs.Words.{Some, None, slice_get, ◌≢◌, Result, Ok, Err, vec_capacity, nat_tests, append-nil, length-append, length-map, Error, HandleNumber, HandleRow, Owner}
-use Rattle.pagable_tables.proofs.Words.{Mode, Blob, one, times, is_pin, is_share, is_handle, is_owned_by, pins, sharing, Core, greatest, with_mode, left_rows, MustList, TellsListing}
-use Rattle.pagable_tables.proofs.Words.{IsListRefusal, nobody, Tables, Holdings, live, alive, entries_of, first_cause, IsUnlisted, unpinned, Lowers, with_tables, told_by, is_plain_pin}
-use Rattle.pagable_tables.proofs.Words.{Begins, SoFar, core_of}
+use Rattle.pagable_tables.proofs.Words.{◌≡◌, ℕ, ◌+◌, ◌<◌, ◌≤◌, ◌&&◌, Bool, true, false, not, if◌then◌else◌, List, [], ◌∷◌, ◌++◌, length, filter, ap, sym, ◌∙◌, subst, arith, inl, inr, Option, Some}
+use Rattle.pagable_tables.proofs.Words.{None, slice_get, ◌≢◌, Result, Ok, Err, nat_tests, append-nil, length-append, length-map, Error, HandleNumber, HandleRow, Owner, Mode, Blob, one, times}
+use Rattle.pagable_tables.proofs.Words.{is_pin, is_share, is_handle, is_owned_by, pins, sharing, Core, greatest, with_mode, left_rows, MustList, TellsListing, IsListRefusal, nobody, Tables}
+use Rattle.pagable_tables.proofs.Words.{Holdings, live, alive, entries_of, first_cause, IsUnlisted, unpinned, Lowers, with_tables, told_by, Begins, SoFar, core_of}
 use Rattle.pagable_tables.specs.Core.{IsWhole}
 use Rattle.pagable_tables.proofs.{Alive.row-le-live, Begun.begun-whole, Begun.none-within, Going.entry-number, Going.new-more, Going.long-one, Going.within-more, Going.ones, Left.left-all}
 use Rattle.pagable_tables.proofs.{Left.all-kept, Leaving.with-entry, Wanted.listing-is, Wanted.entry-pins, Telling.only-more, Telling.tells-more, Telling.refusal-now}

@@ -1,8 +1,7 @@
 -- A handle has gone and an entry may have come: which cells must be listed then, and what is told of it.
-use Rattle.pagable_tables.proofs.Words.{◌≡◌, ℕ, ◌+◌, ◌≤◌, ◌&&◌, Bool, true, false, not, if◌then◌else◌, refl, ap, sym, ◌∙◌, arith, inl, inr, Option, Some, ◌⊎◌, is_some, nat_lt, cases_Bool}
-use Rattle.pagable_tables.proofs.Words.{and_parts, nat_tests, sum_by-append, OptionalDataKey, NodeNumber, HandleRow, Owner, Mode, one, times, if_there, is_pin, is_share, is_shared}
-use Rattle.pagable_tables.proofs.Words.{is_pinning, pins, has_key, Core, Cell, is_keyed, MustList, Counts, Holdings, live, counts_at, pins_in, cell_in, entry, is_listing, with_tables}
-use Rattle.pagable_tables.proofs.Words.{is_plain_pin, SoFar}
+use Rattle.pagable_tables.proofs.Words.{◌≡◌, ℕ, ◌+◌, ◌≤◌, ◌&&◌, Bool, true, false, not, if◌then◌else◌, refl, ap, sym, ◌∙◌, arith, inl, inr, Option, Some, ◌⊎◌, is_some, nat_lt, cases_Bool, and_parts}
+use Rattle.pagable_tables.proofs.Words.{nat_tests, sum_by-append, OptionalDataKey, NodeNumber, HandleRow, Owner, Mode, one, times, if_there, is_pin, is_share, is_shared, is_pinning, pins, has_key}
+use Rattle.pagable_tables.proofs.Words.{Core, Cell, is_keyed, MustList, Counts, Holdings, live, counts_at, pins_in, cell_in, entry, is_listing, with_tables, is_plain_pin, SoFar}
 use Rattle.pagable_tables.proofs.{Left.left-le, Left.entries-none, Forced.keyed-cell}
 
 -- what a listing handle is: the last pin of a cell without a key

@@ -1,5 +1,5 @@
 -- Two worlds that are told alike.
-use Rattle.pagable_tables.proofs.Words.{true, ◌≡◌, ℕ, ◌&&◌, List, refl, ap, sym, ◌∙◌, arith, Option, Some, None, if◌then◌else◌, not, Result, Error, HandleNumber, Owner, nat_tests, CloneCall}
+use Rattle.pagable_tables.proofs.Words.{true, ◌≡◌, ℕ, ◌&&◌, List, arith, Option, Some, None, if◌then◌else◌, not, Result, Error, HandleNumber, Owner, nat_tests, CloneCall}
 use Rattle.pagable_tables.proofs.Words.{Makes, is_pinned_kind, if_there, SameAt, pins, is_in_memory, is_owner, Core, Cell, SameCache, Alike, HasRoom, row_at, HandleRow}
 
 -- what an entry of the cache gives where its node is this cell

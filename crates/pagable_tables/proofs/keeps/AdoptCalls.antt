@@ -1,12 +1,11 @@
 -- Calls by which a load goes on keep the world whole.
-use Rattle.pagable_tables.proofs.Words.{◌≡◌, ℕ, ◌+◌, ◌<◌, ◌==◌, ◌%◌, Bool, true, false, if◌then◌else◌, List, [], Ok, Err, Some, None, inl, inr, refl, ap, sym, ◌∙◌, arith, Result, is_some}
-use Rattle.pagable_tables.proofs.Words.{nat_tests, OptionalDataKey, Error, ArcRef, HandleNumber, Kind, LoadNumber, Owner, type_of, is_loose_kind, is_shared, mode_of, has_key, Core, greatest}
-use Rattle.pagable_tables.proofs.Words.{references_fault, OwnsLoad, row_of, next_node, with_handle, with_node, with_cached, is_named_by, GetsKnown, adopted, first_key, LazyCall, AdoptCall}
-use Rattle.pagable_tables.proofs.Words.{IsWhole, IsEntryWhole, ArePlaced, MayHold}
-use Rattle.pagable_tables.proofs.{keeps.Rows.among-last, keeps.Told.roomy, keeps.Told.settles, keeps.Told.alike-whole, keeps.Comes.type_in, keeps.Comes.handle-on, keeps.Fallen.may-fall}
-use Rattle.pagable_tables.proofs.{keeps.Opened.opened, keeps.Opened.alike-opened, keeps.Opened.falls-opened, keeps.Opened.references-opened, keeps.CacheCalls.mode-shared}
-use Rattle.pagable_tables.proofs.{keeps.CacheCalls.known-whole, keeps.CacheCalls.cached-whole, keeps.CacheCalls.shared-alike, keeps.BirthCalls.born, keeps.BirthCalls.born-whole}
-use Rattle.pagable_tables.proofs.{keeps.BirthCalls.cell-new, keeps.BirthCalls.no-references, keeps.BirthCalls.moved-world}
+use Rattle.pagable_tables.proofs.Words.{◌≡◌, ℕ, ◌+◌, ◌<◌, Bool, true, false, if◌then◌else◌, List, [], Ok, Err, None, inl, inr, refl, ap, ◌∙◌, arith, Result, is_some, nat_tests, OptionalDataKey}
+use Rattle.pagable_tables.proofs.Words.{Error, ArcRef, HandleNumber, Kind, LoadNumber, Owner, type_of, is_loose_kind, is_shared, mode_of, has_key, Core, greatest, references_fault, OwnsLoad, row_of}
+use Rattle.pagable_tables.proofs.Words.{next_node, with_handle, with_node, with_cached, is_named_by, GetsKnown, adopted, first_key, LazyCall, AdoptCall, IsWhole, IsEntryWhole, ArePlaced, MayHold}
+use Rattle.pagable_tables.proofs.{keeps.Rows.among-last, keeps.Told.roomy, keeps.Told.settles, keeps.Told.alike-whole, keeps.Comes.handle-on, keeps.Fallen.may-fall, keeps.Opened.opened}
+use Rattle.pagable_tables.proofs.{keeps.Opened.alike-opened, keeps.Opened.falls-opened, keeps.Opened.references-opened, keeps.CacheCalls.mode-shared, keeps.CacheCalls.known-whole}
+use Rattle.pagable_tables.proofs.{keeps.CacheCalls.cached-whole, keeps.CacheCalls.shared-alike, keeps.BirthCalls.born, keeps.BirthCalls.born-whole, keeps.BirthCalls.cell-new}
+use Rattle.pagable_tables.proofs.keeps.BirthCalls.{no-references, moved-world}
 
 -- an open load may hold
 load-holds : {w : Core} {me : Owner} {l : LoadNumber} (load : _) → OwnsLoad w me l load → MayHold w (Owner.Load l)

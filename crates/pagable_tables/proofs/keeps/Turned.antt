@@ -1,6 +1,6 @@
 -- Rows that change, each under its own number and of its own node.
 use Rattle.pagable_tables.proofs.Words.{◌≡◌, ℕ, ◌==◌, ◌&&◌, true, false, if◌then◌else◌, List, [], Some, refl, ap, sym, subst, ◌∙◌, arith, ◌⊎◌, is_some, nat_lt, map, nat_tests, HandleNumber}
-use Rattle.pagable_tables.proofs.Words.{NodeNumber, HandleRow, Owner, Mode, one, Among, held, sharing, is_at, is_share, is_shared, is_loose, is_handle, is_owned_by, Core, row_at, with_mode}
+use Rattle.pagable_tables.proofs.Words.{NodeNumber, HandleRow, Owner, Mode, one, Among, held, sharing, is_at, is_shared, is_loose, is_handle, is_owned_by, Core, row_at, with_mode}
 use Rattle.pagable_tables.proofs.Words.{OwnersAreThere, IsRootWhole, IsEntryWhole, IsWhole}
 use Rattle.pagable_tables.proofs.{keeps.Rows.among-map, keeps.Rows.among-to, keeps.Rows.sum-map, keeps.Rows.found-among, keeps.Rows.found-map, keeps.Rows.once, keeps.Rows.ordered-map}
 use Rattle.pagable_tables.proofs.{keeps.Told.roomy, keeps.Told.may-own, keeps.GoingOn.GoesOn, keeps.GoingOn.changed-on}

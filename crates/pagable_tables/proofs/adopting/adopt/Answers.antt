@@ -1,4 +1,4 @@
-use Rattle.pagable_tables.proofs.Words.{ℕ, ap, sym, subst, ◌∙◌, not, None, is_some, IndexMap, Alike, adopted, Adopts, load_at, LoadRow, core_of, plain_of, arith, nat_tests}
+use Rattle.pagable_tables.proofs.Words.{ℕ, ap, sym, ◌∙◌, not, None, is_some, IndexMap, Adopts, load_at, LoadRow, core_of, plain_of, arith, nat_tests}
 use Rattle.pagable_tables.proofs.{Adoptions.adopts-new, Adoptions.adopts-whole, Adoptions.fitting, Adoptions.owner-of, Adoptions.early-stored, Begun.not-closed, Newer.adopt-newer}
 use Rattle.pagable_tables.proofs.{Newer.later-so, keeps.Placed.whole-so}
 use Rattle.pagable_tables.proofs.adopting.adopt.Goals as goal

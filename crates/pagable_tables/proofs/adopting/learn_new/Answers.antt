@@ -1,4 +1,4 @@
-use Rattle.pagable_tables.proofs.Words.{◌≡◌, ℕ, ◌+◌, ◌/◌, arith, ap, sym, ◌∙◌, subst, Some, Option, not, IndexMap, spare, NodeNumber, Owner, Mode, Last, Alike, mode_of, with_handle, nat_tests}
+use Rattle.pagable_tables.proofs.Words.{◌≡◌, ℕ, ◌+◌, ◌/◌, arith, ap, sym, ◌∙◌, subst, Some, Option, not, IndexMap, spare, NodeNumber, Owner, Last, Alike, mode_of, with_handle, nat_tests}
 use Rattle.pagable_tables.proofs.Words.{with_node, next_node, Counts, Tables, key_in, core_of, option_map}
 use Rattle.pagable_tables.proofs.Adopted.{learned, if-open}
 use Rattle.pagable_tables.proofs.adopting.learn_new.Goals as goal

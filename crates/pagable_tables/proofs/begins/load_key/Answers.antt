@@ -1,6 +1,5 @@
-use Rattle.pagable_tables.proofs.Words.{◌+◌, refl, ap, arith, rules, None, false, Ok, inl, Beginning, load_at, load_in, option_map, nat_tests}
-use Rattle.pagable_tables.proofs.{Beginning.load-comes, Beginning.none-yet, Worlds.same-cache, keeps.LoadCalls.begin-key-whole, keeps.Told.told-whole, keeps.Placed.whole-so}
-use Rattle.pagable_tables.proofs.{Newer.later-opened}
+use Rattle.pagable_tables.proofs.Words.{◌+◌, refl, ap, arith, None, false, Ok, inl, Beginning, load_at, load_in, option_map, nat_tests}
+use Rattle.pagable_tables.proofs.{Beginning.load-comes, Beginning.none-yet, Worlds.same-cache, keeps.LoadCalls.begin-key-whole, keeps.Told.told-whole, keeps.Placed.whole-so, Newer.later-opened}
 use Rattle.pagable_tables.proofs.begins.load_key.Goals as goal
 
 pub open-requires : goal.open-requires

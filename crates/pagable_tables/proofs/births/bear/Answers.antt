@@ -1,5 +1,4 @@
-use Rattle.pagable_tables.proofs.Words.{◌≡◌, ◌+◌, ◌++◌, ◌∷◌, [], refl, ap, ◌∙◌, arith, None, HandleRow, owner_value, moved, is_named_by, live, counts_at, refs_at, plain_of, with_handle, nat_tests}
-use Rattle.pagable_tables.proofs.Words.{with_node, core_of, key_in}
+use Rattle.pagable_tables.proofs.Words.{◌≡◌, ◌+◌, ◌++◌, ◌∷◌, [], refl, ap, ◌∙◌, arith, None, HandleRow, owner_value, moved, is_named_by, live, counts_at, refs_at, plain_of, nat_tests}
 use Rattle.pagable_tables.proofs.{Born.born-fits, Born.no-node, Born.born-cells, Worlds.same-cache, Coming.rows-told, keeps.Comes.not-a-value}
 use Rattle.pagable_tables.proofs.births.bear.Goals as goal
 
@@ -25,5 +24,6 @@ returns-clause-steady c =
     record { sound = c.push.ensures.sound; next = c.in-Ok.ensures.next; fits = rows-told (counts_at c.add.new.nodes) (refs_at c.add.new.nodes) _ _ t.top rows fits }
 
 pub returns-clause-born : goal.returns-clause-born
-returns-clause-born c stored closed failures = grind (arith, nat_tests, born-cells, same-cache, c.deref.ensures.value, c.in-Ok.ensures.rows, c.hand_over_all.ensures.rows,
-  c.in-Ok-add.ensures.here, c.in-Ok-add.ensures.others, c.requires.ready.handle_left)
+returns-clause-born c stored closed failures =
+    grind (arith, nat_tests, born-cells, same-cache, c.deref.ensures.value, c.in-Ok.ensures.rows, c.hand_over_all.ensures.rows, c.in-Ok-add.ensures.here, c.in-Ok-add.ensures.others,
+        c.requires.ready.handle_left)

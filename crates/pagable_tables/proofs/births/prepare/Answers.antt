@@ -1,4 +1,4 @@
-use Rattle.pagable_tables.proofs.Words.{ap, sym, subst, ◌∙◌, false, None, inl, earlier, Refused, birth_fault, Tables, core_of, arith, nat_tests}
+use Rattle.pagable_tables.proofs.Words.{ap, sym, subst, ◌∙◌, false, None, earlier, Refused, birth_fault, Tables, core_of, arith, nat_tests}
 use Rattle.pagable_tables.proofs.{NewNodes.references-first, Readied.room-still, Readied.room-fault, Readied.room-newer, Readied.weaker, Worlds.still}
 use Rattle.pagable_tables.proofs.births.prepare.Goals as goal
 

@@ -1,4 +1,4 @@
-use Rattle.pagable_tables.proofs.Words.{arith, refl, inl, inr, None, not, Owner, is_owned_in, without_load, load_at, core_of, plain_of, load_in, with_tables, nat_tests}
+use Rattle.pagable_tables.proofs.Words.{arith, refl, inl, inr, None, not, Owner, is_owned_in, without_load, load_at, core_of, plain_of, load_in, with_tables}
 use Rattle.pagable_tables.proofs.{Dropped.load-closed, Dropped.begun-less, Dropped.owned-given, Dropped.loads-anew, Worlds.still, Shedding.sheds-still, Begun.not-closed}
 use Rattle.pagable_tables.proofs.{keeps.EndCalls.drop-whole, keeps.Placed.whole-so, Newer.drop-newer, Newer.later-so, Newer.closed-still}
 use Rattle.pagable_tables.proofs.ending.load_drop.Goals as goal

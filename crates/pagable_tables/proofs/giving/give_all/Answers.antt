@@ -1,4 +1,4 @@
-use Rattle.pagable_tables.proofs.Words.{[], refl, arith, None, option_map, load_at, load_in, owns_nothing, nat_tests}
+use Rattle.pagable_tables.proofs.Words.{[], refl, arith, option_map, load_at, load_in, nat_tests}
 use Rattle.pagable_tables.proofs.{Begun.aside, GivenAll.bare, GivenAll.given-plain, GivenAll.none-past, GivenAll.one-past, GivenAll.all-past, Shedding.sheds-still, Shedding.sheds-then}
 use Rattle.pagable_tables.proofs.giving.give_all.Goals as goal
 

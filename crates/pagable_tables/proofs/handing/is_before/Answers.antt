@@ -1,4 +1,4 @@
-use Rattle.pagable_tables.proofs.Words.{◌≡◌, ◌==◌, ◌||◌, false, ap, sym, ◌∙◌, arith, nat_tests, is_in, seen, named_at}
+use Rattle.pagable_tables.proofs.Words.{sym, arith, nat_tests}
 use Rattle.pagable_tables.proofs.Seen.{in-none, in-more, in-there}
 use Rattle.pagable_tables.proofs.handing.is_before.Goals as goal
 

@@ -1,4 +1,4 @@
-use Rattle.pagable_tables.proofs.Words.{◌<◌, subst, rules, arith, sym, ap, ◌∙◌, ◌≡◌, ◌∷◌, [], ◌++◌, ◌+◌, length, get_or, live, alive, IsBefore, IsNext, Place, All-push, all_pairs_push, nat_tests}
+use Rattle.pagable_tables.proofs.Words.{◌<◌, subst, rules, arith, sym, ap, ◌≡◌, ◌∷◌, [], ◌++◌, ◌+◌, length, get_or, live, alive, IsBefore, IsNext, Place, All-push, all_pairs_push, nat_tests}
 use Rattle.pagable_tables.proofs.Words.{length-append, AllPairs}
 use Rattle.pagable_tables.proofs.Alive.{live-push}
 use Rattle.pagable_tables.proofs.handles.push.Goals as goal

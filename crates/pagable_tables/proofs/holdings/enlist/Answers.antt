@@ -1,4 +1,4 @@
-use Rattle.pagable_tables.proofs.Words.{refl, sym, ◌∙◌, ◌≡◌, inl, ◌≤◌, length, rules, vec_capacity, append-nil, live, arith, nat_tests}
+use Rattle.pagable_tables.proofs.Words.{append-nil, arith, nat_tests}
 use Rattle.pagable_tables.proofs.holdings.enlist.Goals as goal
 
 pub returns-then-is_err : goal.returns-then-is_err

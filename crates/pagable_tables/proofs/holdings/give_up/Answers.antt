@@ -1,8 +1,7 @@
-use Rattle.pagable_tables.proofs.Words.{cases_eq, nat_tests, false, inl, inr, Bool, ◌+◌, ◌-◌, ◌≡◌, ◌≤◌, ℕ, arith, refl, ap, sym, ◌∙◌, subst, Some, None, ◌∷◌, if◌then◌else◌, ◌≢◌, one}
-use Rattle.pagable_tables.proofs.Words.{is_pinning, live, counts_at, refs_at, Fits, pins_in, holds_in, after, is_fallen_by, is_new, has_value, falls_in, ValueStays, owns_nothing, Leaves}
-use Rattle.pagable_tables.proofs.Words.{Counts}
+use Rattle.pagable_tables.proofs.Words.{cases_eq, nat_tests, false, Bool, ◌+◌, ◌-◌, ◌≡◌, ◌≤◌, ℕ, arith, refl, ap, sym, ◌∙◌, subst, Some, ◌∷◌, if◌then◌else◌, ◌≢◌, one, is_pinning, live, counts_at}
+use Rattle.pagable_tables.proofs.Words.{refs_at, Fits, pins_in, after, is_fallen_by, ValueStays, owns_nothing, Leaves, Counts}
 use Rattle.pagable_tables.proofs.{Alive.row-le-live, Leaving.leaves-sums, Fitting.given-fits, Fitting.given-cells, Fitting.new-top, Fitting.long-if, Fitting.pin-here, Fitting.held-here}
-use Rattle.pagable_tables.proofs.{Fitting.pin_of, Fitting.handle_of}
+use Rattle.pagable_tables.proofs.Fitting.{pin_of}
 use Rattle.pagable_tables.proofs.holdings.give_up.Goals as goal
 
 -- a handle that leaves takes no value with it at once
@@ -16,8 +15,8 @@ pub counts_after-left-requires-clause-holds : goal.counts_after-left-requires-cl
 counts_after-left-requires-clause-holds c = grind (arith, nat_tests, row-le-live, held-here, c.requires.falling.1.fits.holding, c.counts_of.ensures, c.in-Some.is, c.requires.place)
 
 pub counts_after-left-requires-clause-pins : goal.counts_after-left-requires-clause-pins
-counts_after-left-requires-clause-pins c = grind (arith, nat_tests, row-le-live, pin-here, c.requires.falling.1.fits.pinned, c.counts_of.ensures, c.in-Some.is, c.requires.place,
-  c.pins-pinning.ensures)
+counts_after-left-requires-clause-pins c =
+    grind (arith, nat_tests, row-le-live, pin-here, c.requires.falling.1.fits.pinned, c.counts_of.ensures, c.in-Some.is, c.requires.place, c.pins-pinning.ensures)
 
 pub returns : goal.returns
 returns c stack w =

@@ -1,5 +1,5 @@
-use Rattle.pagable_tables.proofs.Words.{nat_tests, ◌≡◌, ℕ, Bool, true, false, arith, refl, ap, sym, ◌∙◌, subst, Some, None, List, [], ◌∷◌, ◌≢◌, is_some, cases_eq, inl, inr, live, counts_at}
-use Rattle.pagable_tables.proofs.Words.{refs_at, IsFalling, Fits, pins_in, holds_in, falls_in, cell_in, has_value, is_right, is_bare, Right, owns_nothing, Counts, Holdings}
+use Rattle.pagable_tables.proofs.Words.{nat_tests, ◌≡◌, ℕ, Bool, true, false, arith, refl, ap, sym, ◌∙◌, subst, Some, None, List, [], ◌∷◌, ◌≢◌, cases_eq, inl, inr, live, counts_at}
+use Rattle.pagable_tables.proofs.Words.{refs_at, IsFalling, Fits, pins_in, holds_in, falls_in, has_value, is_right, is_bare, Right, owns_nothing, Counts, Holdings}
 use Rattle.pagable_tables.proofs.Fitting.{done-fits, first-waits, pins-le-held, settled-right}
 use Rattle.pagable_tables.proofs.holdings.settle.Goals as goal
 

@@ -1,5 +1,5 @@
-use Rattle.pagable_tables.proofs.Words.{not, None, refl, sym, ◌∙◌, arith, inl, inr, ap, any_mode, counts_at, load_at, ◌≡◌, false, rules, is_loose, nat_tests}
-use Rattle.pagable_tables.proofs.{Alive.row-le-live, Begun.not-closed, Coming.some-held, Fitting.handle_of, Fitting.held-here, Worlds.still, Worlds.owner-same, keeps.FallCalls.set-key-whole}
+use Rattle.pagable_tables.proofs.Words.{not, None, refl, sym, ◌∙◌, arith, inl, inr, ap, any_mode, load_at, nat_tests}
+use Rattle.pagable_tables.proofs.{Alive.row-le-live, Begun.not-closed, Coming.some-held, Fitting.held-here, Worlds.still, Worlds.owner-same, keeps.FallCalls.set-key-whole}
 use Rattle.pagable_tables.proofs.{keeps.Placed.whole-so, Shedding.sheds-still, Newer.set-key-newer, Newer.later-so}
 use Rattle.pagable_tables.proofs.keys.set_data_key.Goals as goal
 

@@ -1,5 +1,5 @@
-use Rattle.pagable_tables.proofs.Words.{◌≡◌, ◌∙◌, ℕ, ap, sym, subst, refl, false, None, Ok, inl, inr, arith, rules, NodeNumber, usable, fits_mode, Owns, offer_fault, recall_fault, nat_tests}
-use Rattle.pagable_tables.proofs.Words.{with_cached, OfferCall, known_at, core_of, plain_of, Suits, option_map, is_some, spent, where_so}
+use Rattle.pagable_tables.proofs.Words.{◌≡◌, ◌∙◌, ℕ, ap, sym, subst, refl, false, None, Ok, inl, inr, arith, NodeNumber, fits_mode, Owns, offer_fault, recall_fault, nat_tests}
+use Rattle.pagable_tables.proofs.Words.{OfferCall, core_of, plain_of, Suits, option_map}
 use Rattle.pagable_tables.proofs.{Offers.offer-last, Offers.learned, Worlds.same-cache, keeps.Placed.whole-so, keeps.Told.told-whole, Pins.no-fault, Recalled.recalls, Recalled.not-recalled}
 use Rattle.pagable_tables.proofs.{keeps.CacheCalls.known-suits, keeps.CacheCalls.offer-whole}
 use Rattle.pagable_tables.proofs.known.cache_put.Goals as goal
@@ -29,8 +29,8 @@ returns-in-Err-make-clause-offered c stored failures =
     record { answers = tt; refused = record { why = elim call.refused.why [ inl a ↦ inl (cause ∙ a) | inr b ↦ inr (b.0, cause ∙ b.1, (refl, inr b.2.1)) ]; stays = call.refused.stays } }
 
 pub returns-in_default-clause-offered : goal.returns-in_default-clause-offered
-returns-in_default-clause-offered c stored failures = grind (arith, nat_tests, learned, same-cache, c.in-Ok.ensures.owns, c.in-Ok-learn.ensures.here, c.in-Ok-learn.ensures.others,
-  c.in-Ok.ensures.typed)
+returns-in_default-clause-offered c stored failures =
+    grind (arith, nat_tests, learned, same-cache, c.in-Ok.ensures.owns, c.in-Ok-learn.ensures.here, c.in-Ok-learn.ensures.others, c.in-Ok.ensures.typed)
 
 pub returns-in_default-clause-whole : goal.returns-in_default-clause-whole
 returns-in_default-clause-whole c =

@@ -1,4 +1,4 @@
-use Rattle.pagable_tables.proofs.Words.{fits_mode, core_of, ◌≡◌, ap, sym, ◌∙◌, true, false, Some, None, rules, if_there, type_of, is_type, Cell, cell_in, arith, nat_tests}
+use Rattle.pagable_tables.proofs.Words.{fits_mode, core_of, ◌≡◌, ap, sym, ◌∙◌, true, Some, None, rules, if_there, type_of, is_type, Cell, cell_in, arith, nat_tests}
 use Rattle.pagable_tables.proofs.{Offers.offer-first, Offers.offer-kind, Pins.wrong-mode}
 use Rattle.pagable_tables.proofs.known.offered.Goals as goal
 

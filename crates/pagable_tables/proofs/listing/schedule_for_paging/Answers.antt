@@ -1,8 +1,7 @@
-use Rattle.pagable_tables.proofs.Words.{◌≡◌, ◌∙◌, ◌++◌, ◌∷◌, [], ap, refl, subst, false, inl, inr, arith, rules, Ok, None, not, is_unpinned, is_owner, Owner, moved, only_handle, Falls, live}
-use Rattle.pagable_tables.proofs.Words.{is_valued, plain_of, core_of, nat_tests}
+use Rattle.pagable_tables.proofs.Words.{◌∙◌, ap, refl, subst, false, inl, inr, arith, rules, Ok, None, not, is_unpinned, is_owner, Owner, only_handle, Falls, is_valued, plain_of, core_of, nat_tests}
 use Rattle.pagable_tables.proofs.{keeps.Comes.not-a-value, keeps.Comes.not-list, keeps.Fallen.may-fall, keeps.GoingOn.stays-on, keeps.ListCalls.schedule-whole, keeps.Opened.falls-opened}
-use Rattle.pagable_tables.proofs.{keeps.Placed.whole-so, keeps.Told.roomy-whole, keeps.Told.alike-whole, Begun.begun-whole, Begun.not-closed, Begun.shut-then, Begun.open-then}
-use Rattle.pagable_tables.proofs.{Listed.alike-listed, Pins.wrong-mode, Worlds.still, Worlds.owner-same, Shedding.sheds-still, Newer.later-so, Newer.schedule-newer}
+use Rattle.pagable_tables.proofs.{keeps.Placed.whole-so, keeps.Told.roomy-whole, keeps.Told.alike-whole, Begun.begun-whole, Begun.not-closed, Begun.shut-then, Begun.open-then, Listed.alike-listed}
+use Rattle.pagable_tables.proofs.{Pins.wrong-mode, Worlds.still, Worlds.owner-same, Shedding.sheds-still, Newer.later-so, Newer.schedule-newer}
 use Rattle.pagable_tables.proofs.listing.schedule_for_paging.Goals as goal
 
 pub returns-in-Err-clause-scheduled : goal.returns-in-Err-clause-scheduled
@@ -37,8 +36,8 @@ returns-then-not-lists-clause-whole g c =
     whole-so c.give_back.ensures.steady (falls-opened (may-fall (only_handle c.in-Ok.at.row.number) is (roomy-whole is) (stays-on (plain_of c.args.t.now))) falls)
 
 pub returns-clause-scheduled : goal.returns-clause-scheduled
-returns-clause-scheduled g c stored closed failures e = grind (arith, nat_tests, owner-same, open-then, alike-listed, c.in-Ok.ensures.found, c.in-Ok.ensures.owner, c.if-not-lists.false,
-  c.hand_over.ensures.rows, c.in-Ok.ensures.number)
+returns-clause-scheduled g c stored closed failures e =
+    grind (arith, nat_tests, owner-same, open-then, alike-listed, c.in-Ok.ensures.found, c.in-Ok.ensures.owner, c.if-not-lists.false, c.hand_over.ensures.rows, c.in-Ok.ensures.number)
 
 pub returns-clause-whole : goal.returns-clause-whole
 returns-clause-whole g c =

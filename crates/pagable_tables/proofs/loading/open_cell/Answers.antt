@@ -1,5 +1,5 @@
-use Rattle.pagable_tables.proofs.Words.{◌+◌, ◌∙◌, refl, arith, None, false, counts_at, load_at, Owner, Mode, core_of, plain_of, nat_tests}
-use Rattle.pagable_tables.proofs.{Alive.row-le-live, Beginning.load-comes, Beginning.none-yet, Coming.some-held, Fitting.handle_of, Fitting.held-here, Opened.load-goes, Opened.only-memory}
+use Rattle.pagable_tables.proofs.Words.{◌+◌, ◌∙◌, refl, arith, None, false, load_at, Owner, Mode, core_of, plain_of, nat_tests}
+use Rattle.pagable_tables.proofs.{Alive.row-le-live, Beginning.load-comes, Beginning.none-yet, Coming.some-held, Fitting.held-here, Opened.load-goes, Opened.only-memory}
 use Rattle.pagable_tables.proofs.{Newer.newer-alike, Newer.newer-handle, Newer.newer-then, Newer.later-so, Newer.later-opened, Newer.closed-still}
 use Rattle.pagable_tables.proofs.loading.open_cell.Goals as goal
 

@@ -1,5 +1,5 @@
-use Rattle.pagable_tables.proofs.Words.{◌≡◌, arith, ap, sym, ◌∙◌, None, Some, slice_get-get_or, HandleNumber, if_there, find_row, Cell, live, counts_at, holds_in, cell_in, nat_tests}
-use Rattle.pagable_tables.proofs.{Alive.row-le-live, Fitting.handle_of, Fitting.held-here, Owned.entry-lives}
+use Rattle.pagable_tables.proofs.Words.{arith, slice_get-get_or, nat_tests}
+use Rattle.pagable_tables.proofs.{Alive.row-le-live, Fitting.held-here, Owned.entry-lives}
 use Rattle.pagable_tables.proofs.lookups.entry.Goals as goal
 
 pub unreachable-requires : goal.unreachable-requires
@@ -12,5 +12,5 @@ pub unreachable-requires-in_default-counts_of : goal.unreachable-requires-in_def
 unreachable-requires-in_default-counts_of c = grind (arith, nat_tests, row-le-live, held-here, c.counts_of.ensures, c.in_default-counts_of.is, c.in-Some.ensures.place)
 
 pub returns-clause-found : goal.returns-clause-found
-returns-clause-found c stored closed failures = grind (arith, nat_tests, slice_get-get_or, c.in-Some.ensures.number, c.index-handle.ensures, c.in-Some.ensures.found, c.counts_of.ensures,
-  c.in-Some-counts_of.is)
+returns-clause-found c stored closed failures =
+    grind (arith, nat_tests, slice_get-get_or, c.in-Some.ensures.number, c.index-handle.ensures, c.in-Some.ensures.found, c.counts_of.ensures, c.in-Some-counts_of.is)

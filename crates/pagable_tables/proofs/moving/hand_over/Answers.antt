@@ -1,4 +1,4 @@
-use Rattle.pagable_tables.proofs.Words.{◌+◌, ◌∙◌, live, counts_at, refs_at, arith, nat_tests}
+use Rattle.pagable_tables.proofs.Words.{◌∙◌, arith, nat_tests}
 use Rattle.pagable_tables.proofs.{Alive.changed-known, Owned.owned-by, Owned.move-fits}
 use Rattle.pagable_tables.proofs.moving.hand_over.Goals as goal
 

@@ -1,6 +1,6 @@
 use Rattle.pagable_tables.proofs.Words.{◌≡◌, ◌∙◌, ap, subst, false, true, inl, inr, arith, rules, sym, None, is_loose, if_there, Alike, is_here, with_handle, with_mode, is_handle_here, nat_tests}
-use Rattle.pagable_tables.proofs.Words.{pin_fault, earlier, where_so, spent, Owns, HandleRow, Mode, Tables, core_of, load_at}
-use Rattle.pagable_tables.proofs.{Pins.handle-first, Pins.no-fault, Pins.spent-late, Pins.wrong-mode, Worlds.still, Worlds.owner-same, Newer.pin-newer, Newer.later-so}
+use Rattle.pagable_tables.proofs.Words.{pin_fault, spent, Owns, HandleRow, Mode, Tables, core_of, load_at}
+use Rattle.pagable_tables.proofs.{Pins.handle-first, Pins.spent-late, Pins.wrong-mode, Worlds.still, Worlds.owner-same, Newer.pin-newer, Newer.later-so}
 use Rattle.pagable_tables.proofs.pinning.pin.Goals as goal
 
 pub returns-in-Err-clause-pinned : goal.returns-in-Err-clause-pinned

@@ -1,4 +1,4 @@
-use Rattle.pagable_tables.proofs.Words.{refl, ap, arith, None, false, Ok, NodeNumber, option_map, nat_tests}
+use Rattle.pagable_tables.proofs.Words.{arith, None, false, Ok, nat_tests}
 use Rattle.pagable_tables.proofs.{Worlds.same-cache, keeps.CacheCalls.clear-whole, keeps.Placed.whole-so}
 use Rattle.pagable_tables.proofs.places.cache_clear.Goals as goal
 

@@ -1,4 +1,4 @@
-use Rattle.pagable_tables.proofs.Words.{◌+◌, refl, None, false, live, counts_at, refs_at, arith, nat_tests}
+use Rattle.pagable_tables.proofs.Words.{◌+◌, None, false, live, counts_at, refs_at, arith, nat_tests}
 use Rattle.pagable_tables.proofs.{Coming.rows-told, Worlds.same-cache, keeps.Told.alike-whole, keeps.Placed.whole-so}
 use Rattle.pagable_tables.proofs.places.grow.Goals as goal
 

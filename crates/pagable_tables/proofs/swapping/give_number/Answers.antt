@@ -1,4 +1,4 @@
-use Rattle.pagable_tables.proofs.Words.{◌≡◌, ap, sym, ◌∙◌, subst, Some, HandleNumber, is_owner, FallsAnyhow, only_handle, Owner, HandleRow, is_valued, with_tables, arith, nat_tests}
+use Rattle.pagable_tables.proofs.Words.{◌≡◌, sym, ◌∙◌, subst, Some, HandleNumber, FallsAnyhow, only_handle, HandleRow, with_tables, arith, nat_tests}
 use Rattle.pagable_tables.proofs.swapping.give_number.Goals as goal
 
 same-row : (a b : HandleRow) → Some a ≡ Some b → a ≡ b

@@ -1,4 +1,4 @@
-use Rattle.pagable_tables.proofs.Words.{ap, subst, rules, sym, None, false, ◌∙◌, is_pinned, is_shared, Alike, with_mode, Mode, core_of, Tables, load_at, arith, nat_tests}
+use Rattle.pagable_tables.proofs.Words.{ap, subst, rules, sym, None, false, ◌∙◌, is_pinned, is_shared, Alike, with_mode, Mode, core_of, Tables, load_at}
 use Rattle.pagable_tables.proofs.{Worlds.still, Worlds.owner-same, keeps.HandleCalls.is-pinned, keeps.HandleCalls.pinned-unlisted, Newer.loosen-newer, Newer.later-so}
 use Rattle.pagable_tables.proofs.turning.into_pagable.Goals as goal
 

@@ -1,5 +1,5 @@
-use Rattle.pagable_tables.proofs.Words.{◌+◌, ◌≡◌, arith, refl, ap, sym, ◌∙◌, Some, None, false, not, one, is_pinning, live, counts_at, refs_at, pins_in, holds_in, nat_tests}
-use Rattle.pagable_tables.proofs.{Alive.length-live-le, Alive.changed-known, Alive.row-le-live, Alive.row-live, Fitting.pins-le-held, Fitting.handle_of, Fitting.held-here, Coming.turn-fits}
+use Rattle.pagable_tables.proofs.Words.{◌+◌, ◌≡◌, arith, refl, ap, sym, ◌∙◌, Some, None, false, not, one, is_pinning, live, counts_at, refs_at, nat_tests}
+use Rattle.pagable_tables.proofs.{Alive.length-live-le, Alive.changed-known, Alive.row-le-live, Alive.row-live, Fitting.pins-le-held, Fitting.held-here, Coming.turn-fits}
 use Rattle.pagable_tables.proofs.{Coming.turn-cells, Coming.turned, Coming.held-few, Worlds.alike, keeps.Told.settles, keeps.Placed.whole-so, keeps.HandleCalls.pins-whole}
 use Rattle.pagable_tables.proofs.turning.turn.Goals as goal
 
@@ -7,8 +7,9 @@ pub unreachable-requires : goal.unreachable-requires
 unreachable-requires c = grind (arith, nat_tests, row-le-live, held-here, c.requires.whole.steady.fits.holding, c.counts_of.ensures, c.in_default.is, c.requires.place)
 
 pub counts_pinned-pinned-requires : goal.counts_pinned-pinned-requires
-counts_pinned-pinned-requires c = grind (arith, nat_tests, pins-le-held, held-few, length-live-le, c.counts_of.ensures, c.in-Some.is, c.requires.whole.steady.fits.pinned,
-  c.places_taken.ensures.count, c.places_taken.ensures.small)
+counts_pinned-pinned-requires c =
+    grind (arith, nat_tests, pins-le-held, held-few, length-live-le, c.counts_of.ensures, c.in-Some.is, c.requires.whole.steady.fits.pinned, c.places_taken.ensures.count,
+        c.places_taken.ensures.small)
 
 pub returns-clause-turned : goal.returns-clause-turned
 returns-clause-turned c stored closed failures =

@@ -1,8 +1,7 @@
-use Rattle.pagable_tables.proofs.Words.{◌≡◌, ℕ, Bool, ◌+◌, ◌-◌, ◌≤◌, true, false, if◌then◌else◌, [], ◌∷◌, sum_by, refl, ap, sym, ◌∙◌, subst, arith, Some, None, ◌≢◌, inl, inr, cases_eq}
-use Rattle.pagable_tables.proofs.Words.{nat_tests, HandleRow, one, is_pinning, Counts, live, counts_at, refs_at, Fits, pins_in, holds_in, after, is_new, is_fallen_by, owns_nothing, entry}
-use Rattle.pagable_tables.proofs.Words.{has_value, falls_in, ValueStays, MayList, unpinned}
-use Rattle.pagable_tables.proofs.{Alive.length-live-le, Alive.changed-known, Alive.row-le-live, Coming.held-few, Fitting.new-top, Fitting.long-if, Fitting.pin_of, Fitting.handle_of}
-use Rattle.pagable_tables.proofs.{Fitting.pin-here, Fitting.held-here, Leaving.with-entry, Lowered.lower-fits, Lowered.lower-cells, Lowered.keyed-then}
+use Rattle.pagable_tables.proofs.Words.{◌≡◌, ℕ, Bool, ◌+◌, ◌-◌, ◌≤◌, true, false, if◌then◌else◌, [], ◌∷◌, sum_by, refl, ap, sym, ◌∙◌, subst, arith, Some, ◌≢◌, cases_eq, nat_tests, HandleRow, one}
+use Rattle.pagable_tables.proofs.Words.{is_pinning, Counts, live, counts_at, refs_at, Fits, pins_in, after, is_fallen_by, owns_nothing, entry, ValueStays, MayList, unpinned}
+use Rattle.pagable_tables.proofs.{Alive.length-live-le, Alive.changed-known, Alive.row-le-live, Coming.held-few, Fitting.new-top, Fitting.long-if, Fitting.pin_of, Fitting.pin-here}
+use Rattle.pagable_tables.proofs.{Fitting.held-here, Leaving.with-entry, Lowered.lower-fits, Lowered.lower-cells, Lowered.keyed-then}
 use Rattle.pagable_tables.proofs.unpins.lower.Goals as goal
 
 -- no value goes at once
@@ -13,8 +12,8 @@ pub unreachable-requires : goal.unreachable-requires
 unreachable-requires c = grind (arith, nat_tests, row-le-live, held-here, c.requires.steady.fits.holding, c.counts_of.ensures, c.in_default.is, c.requires.place)
 
 pub overflow_add-more : goal.overflow_add-more
-overflow_add-more c = grind (arith, nat_tests, live, held-few, length-live-le, c.counts_of.ensures, c.in-Some.is, c.requires.steady.fits.holding, c.places_taken.ensures.count,
-  c.places_taken.ensures.small)
+overflow_add-more c =
+    grind (arith, nat_tests, live, held-few, length-live-le, c.counts_of.ensures, c.in-Some.is, c.requires.steady.fits.holding, c.places_taken.ensures.count, c.places_taken.ensures.small)
 
 top-falls : (b : Bool) (n : ℕ) (top : ℕ) → top ≡ 0 → (if b then n else top) ≢ 0 → b ≡ true
 top-falls true n top z some = refl

@@ -1,4 +1,4 @@
-use Rattle.pagable_tables.proofs.Words.{not, refl, None, arith, core_of, plain_of, gives_row, Giving, nat_tests}
+use Rattle.pagable_tables.proofs.Words.{not, refl, None, arith, core_of, plain_of, gives_row, Giving}
 use Rattle.pagable_world.specs.Workers.{is_workers_at}
 use Rattle.pagable_tables.proofs.{Begun.begun-whole, Begun.not-closed, Dropped.passes-given, Newer.newer-falls, Newer.later-so, keeps.Fallen.may-fall, keeps.GoingOn.stays-on}
 use Rattle.pagable_tables.proofs.{keeps.Opened.falls-opened, keeps.Placed.whole-so, keeps.Told.roomy-whole}

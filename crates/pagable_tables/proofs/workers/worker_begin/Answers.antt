@@ -1,6 +1,5 @@
-use Rattle.pagable_tables.proofs.Words.{◌+◌, refl, ap, arith, rules, None, false, is_in, core_of, nat_tests}
-use Rattle.pagable_tables.proofs.{Worlds.same-cache, LeftWork.worker-comes, keeps.Told.settles, keeps.Told.alike-whole, keeps.Told.roomy-whole, keeps.WorkerCalls.worker-whole}
-use Rattle.pagable_tables.proofs.{keeps.Placed.whole-so}
+use Rattle.pagable_tables.proofs.Words.{◌+◌, arith, rules, None, false, nat_tests}
+use Rattle.pagable_tables.proofs.{Worlds.same-cache, LeftWork.worker-comes, keeps.Told.settles, keeps.Told.alike-whole, keeps.Told.roomy-whole, keeps.WorkerCalls.worker-whole, keeps.Placed.whole-so}
 use Rattle.pagable_tables.proofs.workers.worker_begin.Goals as goal
 
 pub returns-clause-begun : goal.returns-clause-begun

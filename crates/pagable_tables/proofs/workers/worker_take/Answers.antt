@@ -1,4 +1,4 @@
-use Rattle.pagable_tables.proofs.Words.{◌≡◌, ◌==◌, ◌+◌, true, if◌then◌else◌, refl, ap, ◌∙◌, subst, arith, nat_tests, is_in, core_of}
+use Rattle.pagable_tables.proofs.Words.{refl, subst, arith, nat_tests, core_of}
 use Rattle.pagable_tables.specs.Giving.{BeginsWorker}
 use Rattle.pagable_tables.proofs.LeftWork.{begun-core, takes-worker}
 use Rattle.pagable_tables.proofs.workers.worker_take.Goals as goal
