@@ -1,12 +1,11 @@
 -- Why what a load has read can't become a node, and what becomes of it.
-use Rattle.pagable_tables.proofs.Words.{◌≡◌, ℕ, ◌<◌, ◌≤◌, ◌==◌, ◌||◌, Bool, true, false, if◌then◌else◌, List, [], ◌∷◌, refl, ap, sym, ◌∙◌, arith, Ok, Option, Some, None, inl, inr, not}
-use Rattle.pagable_tables.proofs.Words.{is_some, nat_tests, Error, ArcRef, HandleNumber, LoadNumber, NodeNumber, Kind, HandleRow, Owner, Blob, is_loose_kind, type_of, if_there, or_else}
-use Rattle.pagable_tables.proofs.Words.{is_in, is_owner, fits_mode, mode_of, Core, OpenLoad, greatest, row_at, type_at, usable, Alike, rank, earlier, refused_if, spent, is_type, load_fault}
-use Rattle.pagable_tables.proofs.Words.{reference_fault, references_fault, row_fault, OwnsLoad, Refused, AreHandlesFull, FallsAnyhow, with_handle, is_named_by, birth_fault, node_fault}
-use Rattle.pagable_tables.proofs.Words.{adopt_fault, adopted, first_key, Adopts, early_fault, OnlyRoom, Tables, ArePlaced, core_of, plain_of}
+use Rattle.pagable_tables.proofs.Words.{◌≡◌, ℕ, ◌<◌, ◌≤◌, ◌==◌, ◌||◌, Bool, true, false, if◌then◌else◌, List, [], ◌∷◌, refl, ap, sym, ◌∙◌, arith, Ok, Option, Some, None, inl, inr, not, is_some}
+use Rattle.pagable_tables.proofs.Words.{nat_tests, Error, ArcRef, HandleNumber, LoadNumber, NodeNumber, Kind, HandleRow, Owner, Blob, is_loose_kind, type_of, if_there, or_else, is_in, is_owner}
+use Rattle.pagable_tables.proofs.Words.{fits_mode, mode_of, Core, OpenLoad, greatest, row_at, type_at, usable, Alike, rank, earlier, refused_if, spent, is_type, load_fault, reference_fault}
+use Rattle.pagable_tables.proofs.Words.{references_fault, row_fault, OwnsLoad, Refused, AreHandlesFull, FallsAnyhow, with_handle, is_named_by, birth_fault, node_fault, adopt_fault, adopted}
+use Rattle.pagable_tables.proofs.Words.{first_key, Adopts, early_fault, OnlyRoom, Tables, ArePlaced, core_of, plain_of}
 use Rattle.pagable_world.specs.Calls.{IsNext}
-use Rattle.pagable_tables.proofs.{Lazily.node-late, Readied.fault-by, Readied.room-alike, Opened.load-low, Worlds.still, keeps.AdoptCalls.adopt-whole, keeps.Opened.opened}
-use Rattle.pagable_tables.proofs.{keeps.EndCalls.both-none}
+use Rattle.pagable_tables.proofs.{Lazily.node-late, Readied.fault-by, Readied.room-alike, Opened.load-low, Worlds.still, keeps.AdoptCalls.adopt-whole, keeps.Opened.opened, keeps.EndCalls.both-none}
 use Rattle.pagable_world.specs.Pager as pager
 
 abbrev Early : Option Error → Type 0
@@ -22,8 +21,7 @@ next : (c d n : Option Error) → Early c → Late n → earlier c (or_else d n)
 next c d n early late = grind (arith, nat_tests)
 
 last-of : (a b c d n : Option Error) → Early a → Early b → Early c → Early d → Late n → earlier a (earlier b (earlier c (earlier d n))) ≡ or_else (earlier a (earlier b (earlier c d))) n
-last-of a b c d n ea eb ec ed late =
-    ap (λ x. earlier a (earlier b (earlier c x))) (first d n ed late) ∙ ap (λ x. earlier a (earlier b x)) (next c d n ec late) ∙ ap (earlier a) (next b (earlier c d) n eb late) ∙ next a (earlier b (earlier c d)) n ea late
+last-of a b c d n ea eb ec ed late = grind (arith, nat_tests, earlier, first, next)
 
 named : (b : Bool) (e f : Error) → refused_if b e ≡ Some f → rank f ≡ rank e
 named true e f is = sym (ap (if_there rank 0) is)

@@ -1,5 +1,5 @@
 -- The live rows after a place changes.
-use Rattle.pagable_tables.proofs.Words.{◌≡◌, ℕ, ◌+◌, ◌<◌, ◌≤◌, ◌==◌, Bool, true, false, not, if◌then◌else◌, List, [], ◌∷◌, ◌++◌, length, get_or, set, suc, zero, sum_by, All, filter, refl}
+use Rattle.pagable_tables.proofs.Words.{◌≡◌, ℕ, ◌+◌, ◌<◌, ◌≤◌, ◌==◌, Bool, true, false, if◌then◌else◌, List, [], ◌∷◌, ◌++◌, length, get_or, set, suc, zero, sum_by, All, filter, refl}
 use Rattle.pagable_tables.proofs.Words.{ap, sym, subst, ◌∙◌, arith, Some, None, slice_get, nat_tests, sum_by-cons, All-tail, All-set, ◌≢◌, ◌⊎◌, inl, inr, cases_eq, get_or_default}
 use Rattle.pagable_tables.proofs.Words.{get_or_from_slice_get, slice_get_within, sum_by-set, get_or-le-sum_by, sum_by-le-sum_by, HandleRow, one, changed, find_row, is_handle, left_rows}
 use Rattle.pagable_tables.proofs.Words.{IsNext, live, alive, is_live_place, IsBefore, Place, AllPairs}
@@ -83,7 +83,6 @@ pub live-kill : (ss : List Place) (i : ℕ) (row : HandleRow) → AllPairs IsBef
 live-kill [] i row ordered at = absurd (cc)
 live-kill (s ∷ ss) zero row ordered at =
     let live' : s.is_live ≡ true = cc in
-    let same : s.row ≡ row = cc in
     let number : s.row.number.0 ≡ row.number.0 = cc in
     let here : (s.row.number.0 == row.number.0) ≡ true = grind (arith, nat_tests) in
     let rest : without s.row.number.0 (live ss) ≡ live ss = without-rest s.row.number.0 ss (later s ss ordered) in
@@ -103,7 +102,6 @@ live-kill (s ∷ ss) (suc i) row ordered at = by s.is_live (live-kill ss i row (
 pub live-set : (ss : List Place) (i : ℕ) (row new : HandleRow) → AllPairs IsBefore ss → slice_get ss i ≡ Some (alive row) → live (set ss i (alive new)) ≡ replaced row.number.0 new (live ss)
 live-set [] i row new ordered at = absurd (cc)
 live-set (s ∷ ss) zero row new ordered at =
-    let is : s ≡ alive row = cc in
     let live' : s.is_live ≡ true = cc in
     let number : s.row.number.0 ≡ row.number.0 = cc in
     let here : (s.row.number.0 == row.number.0) ≡ true = grind (arith, nat_tests) in
@@ -201,7 +199,6 @@ pub next-set : (q : ℕ) (ss : List Place) (i : ℕ) (row : HandleRow) (new : Pl
 next-set q ss i row new at same next =
     let lt = slice_get_within ss i (alive row) at in
     let is : (get_or ss i new).row.number.0 ≡ row.number.0 = ap (λ (x : Place). x.row.number.0) (get_or_from_slice_get ss i (alive row) new at) in
-    let a : (get_or ss i new).row.number.0 < q = next i new lt in
     All-set (λ (s : Place). s.row.number.0 < q) ss i new (omega arith) next
 
 -- a number that isn't found is counted nowhere

@@ -1,8 +1,7 @@
 -- Where handles begin to be given up: nothing has gone so far.
-use Rattle.pagable_tables.proofs.Words.{◌≡◌, ℕ, ◌+◌, ◌≤◌, ◌&&◌, Bool, false, not, List, [], ◌∷◌, length, refl, ap, sym, ◌∙◌, subst, arith, inl, inr, Option, None, true, nat_tests}
-use Rattle.pagable_tables.proofs.Words.{append-nil, sum_by-cons, Error, ArcRef, HandleRow, Blob, one, times, is_at, is_share, held, sharing, Core, greatest, HasRoom, IsWithin, MustList}
-use Rattle.pagable_tables.proofs.Words.{TellsListing, nobody, Tables, Counts, Holdings, live, counts_at, refs_at, Fits, IsFalling, cell_in, is_valued, owns, owns_nothing, with_tables}
-use Rattle.pagable_tables.proofs.Words.{told_by, is_plain_pin, Begins, SoFar, core_of}
+use Rattle.pagable_tables.proofs.Words.{◌≡◌, ℕ, ◌+◌, ◌≤◌, ◌&&◌, Bool, false, not, List, [], ◌∷◌, length, refl, ap, sym, ◌∙◌, subst, arith, Option, None, true, nat_tests, append-nil, sum_by-cons}
+use Rattle.pagable_tables.proofs.Words.{Error, ArcRef, HandleRow, Blob, one, times, is_at, is_share, held, sharing, Core, greatest, HasRoom, IsWithin, MustList, TellsListing, nobody, Tables, Counts}
+use Rattle.pagable_tables.proofs.Words.{Holdings, live, counts_at, refs_at, Fits, IsFalling, cell_in, is_valued, owns, owns_nothing, with_tables, told_by, is_plain_pin, Begins, SoFar, core_of}
 use Rattle.pagable_tables.specs.Core.{IsWhole}
 use Rattle.pagable_tables.proofs.{Coming.owned-by-none, Left.left-all, Left.all-kept}
 
@@ -13,16 +12,7 @@ aside t u stack extra w = record { sound = w.sound; next = w.next; fits = w.fits
 -- a handle that no value owns weighs nothing there
 pub fits-unowned : (at : ℕ → Option Counts) (refs : ℕ → List ArcRef) (rows : List HandleRow) (top : ℕ) (stack : List ℕ) (x : HandleRow) → is_valued x.owner ≡ false
     → Fits at refs rows top stack owns_nothing → Fits at refs rows top stack (owns x)
-fits-unowned at refs rows top stack x plain fits =
-    record {
-      pinned = fits.pinned;
-      holding = fits.holding;
-      owned = λ n q. let a = fits.owned n q in let b = owned-by-none n q x plain in omega arith;
-      chain = fits.chain;
-      marked = fits.marked;
-      right = fits.right;
-      from_one = fits.from_one;
-    }
+fits-unowned at refs rows top stack x plain fits = grind (arith, nat_tests, owned-by-none)
 
 pub unowned : (t : Holdings) (x : HandleRow) (stack : List ℕ) → is_valued x.owner ≡ false → IsFalling t stack owns_nothing → IsFalling t stack (owns x)
 unowned t x stack plain w = record { sound = w.sound; next = w.next; fits = fits-unowned (counts_at t.nodes) (refs_at t.nodes) (live t.handles.places.items) t.top stack x plain w.fits }
@@ -45,10 +35,7 @@ begins t stored closed lists failures w e =
       open_storage = e;
       fewer = λ n. omega arith;
       shared = λ n. omega arith;
-      uniform = λ n. elim (w.core.handles.uniform n) [
-        | inl none ↦ inl none
-        | inr all ↦ inr (let a = share-plain n (live t.holdings.handles.places.items) in omega arith)
-      ];
+      uniform = λ n. grind (arith, nat_tests, share-plain);
       listed = λ q. let a = w.core.owners_there.listed q in omega arith;
     }
 

@@ -41,7 +41,6 @@ module _ (w : Core) (me : Owner) (n : ℕ) (rs : List ArcRef) (ordered : AllPair
   named-free h among is =
       let o = named-mine w me [] rs fit h.number.0 is in
       let found : find_row h.number.0 w.rows ≡ Some h = found-so h.number.0 w.rows h ordered among refl in
-      let e : Some o.row ≡ Some h = sym o.live ∙ found in
       let same : o.row ≡ h = cc in
       ap (λ (r : HandleRow). is_valued r.owner) (sym same) ∙ ap is_valued o.own ∙ unvalued
 
@@ -69,11 +68,7 @@ module _ (w : Core) (me : Owner) (n : ℕ) (rs : List ArcRef) (ordered : AllPair
       sum-map (is_owned n q) (both q) to w.rows (λ h among. by h among (is_named_by rs h.number.0) refl (is_handle q h) refl) ∙ sum-both q (is_named_by rs q) refl ∙ sym (once-named w me [] rs fit q)
     where
       by : (h : HandleRow) → Among w.rows h → (b : Bool) → is_named_by rs h.number.0 ≡ b → (d : Bool) → is_handle q h ≡ d → is_owned n q (if b then owned-by (owner_value n) h else h) ≡ both q h
-      by h among true is true here =
-          let e : h.number.0 ≡ q = grind (arith, nat_tests) in
-          let s : is_named_by rs q ≡ true = subst (λ k. is_named_by rs k ≡ true) e is in
-          let r : (n == n) ≡ true = grind (arith, nat_tests) in
-          rw (here, s, r) refl
+      by h among true is true here = grind (arith, nat_tests)
       by h among true is false other = rw other refl
       by h among false is true here =
           let e : h.number.0 ≡ q = grind (arith, nat_tests) in
@@ -124,7 +119,6 @@ module _ (w : Core) (me : Owner) (rs : List ArcRef) (ordered : AllPairs IsHandle
   owned-here q =
       let l = sum_by_push (is_owned n q) given x in
       let z = not-x n q in
-      let old = fits.owned n q in
       let none = ap (named q) nothing in
       let before : sum_by (is_owned n q) w.rows ≡ 0 = omega arith in
       let own = own-own w me n rs ordered fit unvalued q before in
@@ -143,29 +137,19 @@ module _ (w : Core) (me : Owner) (rs : List ArcRef) (ordered : AllPairs IsHandle
   pub born-fits : Fits at' refs' rows' top [] owns_nothing
   born-fits =
       record {
-        pinned = λ m. elim (cases_eq m n) [
-          | inl e ↦ subst (λ k. pins_in (at' k) ≡ pins k rows') (sym e) pinned-here
-          | inr e ↦ let g = pins-given m in let old = fits.pinned m in let a = ap pins_in (others m e) in let p = pin-other m x e in omega arith
-        ];
-        holding = λ m. elim (cases_eq m n) [
-          | inl e ↦ subst (λ k. holds_in (at' k) ≡ held k rows') (sym e) held-here'
-          | inr e ↦ let g = held-given m in let old = fits.holding m in let a = ap holds_in (others m e) in let p = held-other m x e in omega arith
-        ];
+        pinned = λ m. grind (arith, nat_tests, cases_eq, pinned-here, pins-given, pin-other);
+        holding = λ m. grind (arith, nat_tests, cases_eq, held-here', held-given, held-other);
         owned = λ m q. elim (cases_eq m n) [
           | inl e ↦ subst (λ k. named q (refs' k) + owns_nothing k q ≡ sum_by (is_owned k q) rows') (sym e) (owned-here q)
           | inr e ↦
               let l = sum_by_push (is_owned m q) given x in
               let z = not-x m q in
-              let old = fits.owned m q in
               let a = ap (named q) (same m e) in
               let b = others-own w me n rs ordered fit unvalued m q e in
               omega arith
         ];
         chain = fits.chain;
-        marked = λ m. elim (cases_eq m n) [
-          | inl e ↦ subst (λ k. 0 ≡ one (falls_in (at' k))) (sym e) falls-here
-          | inr e ↦ fits.marked m ∙ sym (ap (λ o. one (falls_in o)) (others m e))
-        ];
+        marked = λ m. grind (arith, nat_tests, cases_eq, falls-here);
         right = λ m. elim (cases_eq m n) [
           | inl e ↦ subst (λ k. Right (at' k) (refs' k)) (sym e) right-here
           | inr e ↦ subst (λ o. Right o (refs' m)) (sym (others m e)) (subst (λ r. Right (at m) r) (sym (same m e)) (fits.right m))

@@ -1,7 +1,7 @@
 -- A handle comes to a live node, and nothing falls.
 use Rattle.pagable_tables.proofs.Words.{sum_by, ◌≡◌, ℕ, ◌+◌, ◌<◌, ◌≤◌, Bool, true, false, List, [], ◌∷◌, ◌++◌, length, refl, ap, sym, ◌∙◌, subst, arith, Option, Some, None, inl, inr, ◌≢◌}
-use Rattle.pagable_tables.proofs.Words.{not, IsSome, nat_tests, cases_eq, sum_by_push, sum_by-cons, ArcRef, HandleRow, Owner, Mode, one, SameAt, held, pins, is_pinning, is_owner}
-use Rattle.pagable_tables.proofs.Words.{owner_value, Counts, pins_in, holds_in, falls_in, Right, Fits, owns_nothing, named, is_valued, cell_in}
+use Rattle.pagable_tables.proofs.Words.{not, IsSome, nat_tests, cases_eq, sum_by_push, sum_by-cons, ArcRef, HandleRow, Owner, Mode, one, SameAt, held, is_pinning, is_owner}
+use Rattle.pagable_tables.proofs.Words.{owner_value, Counts, holds_in, falls_in, Right, Fits, owns_nothing, named, is_valued, cell_in}
 use Rattle.pagable_tables.proofs.Fitting.{pin_of, handle_of, is_owned, pin-here, held-here, pin-other, held-other}
 
 pub no-value : (n : ℕ) (o : Owner) → is_valued o ≡ false → is_owner (owner_value n) o ≡ false
@@ -34,34 +34,11 @@ module _ (at at' : ℕ → Option Counts) (refs refs' : ℕ → List ArcRef) (ro
   pub come-fits : Fits at' refs' (rows ++ x ∷ []) top [] owns_nothing
   come-fits =
       record {
-        pinned = λ n. elim (cases_eq n x.node.0) [
-          | inl e ↦
-              let a : pins_in (at x.node.0) ≡ pins x.node.0 rows = fits.pinned x.node.0 in
-              let b = ap pins_in is in
-              let d = ap pins_in here in
-              let l = sum_by_push (pin_of x.node.0) rows x in
-              let p = pin-here x in
-              let g : pins_in (at' x.node.0) ≡ pins x.node.0 (rows ++ x ∷ []) = omega arith in
-              subst (λ m. pins_in (at' m) ≡ pins m (rows ++ x ∷ [])) (sym e) g
-          | inr e ↦ let a = fits.pinned n in let b = ap pins_in (others n e) in let l = sum_by_push (pin_of n) rows x in let p = pin-other n x e in omega arith
-        ];
-        holding = λ n. elim (cases_eq n x.node.0) [
-          | inl e ↦
-              let a : holds_in (at x.node.0) ≡ held x.node.0 rows = fits.holding x.node.0 in
-              let b = ap holds_in is in
-              let d = ap holds_in here in
-              let l = sum_by_push (handle_of x.node.0) rows x in
-              let p = held-here x in
-              let g : holds_in (at' x.node.0) ≡ held x.node.0 (rows ++ x ∷ []) = omega arith in
-              subst (λ m. holds_in (at' m) ≡ held m (rows ++ x ∷ [])) (sym e) g
-          | inr e ↦ let a = fits.holding n in let b = ap holds_in (others n e) in let l = sum_by_push (handle_of n) rows x in let p = held-other n x e in omega arith
-        ];
+        pinned = λ n. grind (arith, nat_tests, cases_eq, sum_by_push, pin-here, pin-other);
+        holding = λ n. grind (arith, nat_tests, cases_eq, sum_by_push, held-here, held-other);
         owned = λ n q. let a = fits.owned n q in let b = ap (named q) (same n) in let l = sum_by_push (is_owned n q) rows x in let z = owned-by-none n q x owner in omega arith;
         chain = fits.chain;
-        marked = λ n. elim (cases_eq n x.node.0) [
-          | inl e ↦ fits.marked n ∙ ap (λ m. one (falls_in (at m))) e ∙ ap (λ o. one (falls_in o)) is ∙ sym (ap (λ o. one (falls_in o)) here) ∙ sym (ap (λ m. one (falls_in (at' m))) e)
-          | inr e ↦ fits.marked n ∙ sym (ap (λ o. one (falls_in o)) (others n e))
-        ];
+        marked = λ n. grind (arith, nat_tests, cases_eq);
         right = λ n. elim (cases_eq n x.node.0) [
           | inl e ↦ subst (λ m. Right (at' m) (refs' m)) (sym e) right-here
           | inr e ↦ subst (λ o. Right o (refs' n)) (sym (others n e)) (subst (λ r. Right (at n) r) (sym (same n)) (fits.right n))
@@ -106,9 +83,6 @@ module _ (at at' : ℕ → Option Counts) (refs refs' : ℕ → List ArcRef) (ro
     (sums : (f : HandleRow → ℕ) → sum_by f rows' + f x ≡ sum_by f rows + f (turned x))
     (here : at' x.node.0 ≡ Some (record c { pins = c.pins + one (not (is_pinning x.mode)) }))
     (others : (n : ℕ) → n ≢ x.node.0 → at' n ≡ at n) (same : (n : ℕ) → refs' n ≡ refs n) where
-  abbrev after-turn : Counts
-  after-turn = record c { pins = c.pins + one (not (is_pinning x.mode)) }
-
   turn-right : Right (at' x.node.0) (refs' x.node.0)
   turn-right = grind (arith, nat_tests)
 
@@ -116,43 +90,7 @@ module _ (at at' : ℕ → Option Counts) (refs refs' : ℕ → List ArcRef) (ro
   turn-real z = absurd (let a : at 0 ≡ Some c = ap at z ∙ is in cc (a, fits.from_one))
 
   pub turn-fits : Fits at' refs' rows' top [] owns_nothing
-  turn-fits =
-      record {
-        pinned = λ n. elim (cases_eq n x.node.0) [
-          | inl e ↦
-              let a : pins_in (at x.node.0) ≡ pins x.node.0 rows = fits.pinned x.node.0 in
-              let b = ap pins_in is in
-              let d = ap pins_in here in
-              let l = sums (pin_of x.node.0) in
-              let p = pin-here x in
-              let q = pin-turned x in
-              let r = both (is_pinning x.mode) in
-              let g : pins_in (at' x.node.0) ≡ pins x.node.0 rows' = omega arith in
-              subst (λ m. pins_in (at' m) ≡ pins m rows') (sym e) g
-          | inr e ↦ let a = fits.pinned n in let b = ap pins_in (others n e) in let l = sums (pin_of n) in let p = pin-other n x e in let q = pin-turned-other n x e in omega arith
-        ];
-        holding = λ n. elim (cases_eq n x.node.0) [
-          | inl e ↦
-              let a : holds_in (at x.node.0) ≡ held x.node.0 rows = fits.holding x.node.0 in
-              let b = ap holds_in is in
-              let d = ap holds_in here in
-              let l = sums (handle_of x.node.0) in
-              let g : holds_in (at' x.node.0) ≡ held x.node.0 rows' = omega arith in
-              subst (λ m. holds_in (at' m) ≡ held m rows') (sym e) g
-          | inr e ↦ let a = fits.holding n in let b = ap holds_in (others n e) in let l = sums (handle_of n) in omega arith
-        ];
-        owned = λ n q. let a = fits.owned n q in let b = ap (named q) (same n) in let l = sums (is_owned n q) in omega arith;
-        chain = fits.chain;
-        marked = λ n. elim (cases_eq n x.node.0) [
-          | inl e ↦ fits.marked n ∙ ap (λ m. one (falls_in (at m))) e ∙ ap (λ o. one (falls_in o)) is ∙ sym (ap (λ o. one (falls_in o)) here) ∙ sym (ap (λ m. one (falls_in (at' m))) e)
-          | inr e ↦ fits.marked n ∙ sym (ap (λ o. one (falls_in o)) (others n e))
-        ];
-        right = λ n. elim (cases_eq n x.node.0) [
-          | inl e ↦ subst (λ m. Right (at' m) (refs' m)) (sym e) turn-right
-          | inr e ↦ subst (λ o. Right o (refs' n)) (sym (others n e)) (subst (λ r. Right (at n) r) (sym (same n)) (fits.right n))
-        ];
-        from_one = others 0 turn-real ∙ fits.from_one;
-      }
+  turn-fits = grind (arith, nat_tests, cases_eq, pin-here, pin-turned, pin-other, pin-turned-other, named, turn-right, turn-real)
 
   pub turn-cells : SameAt (λ n. cell_in (at n)) (λ n. cell_in (at' n))
   turn-cells n = grind (arith, nat_tests)

@@ -1,5 +1,5 @@
 -- Where no node falls any more, all has gone that had to go, and no more.
-use Rattle.pagable_tables.proofs.Words.{◌≡◌, ℕ, ◌+◌, ◌≤◌, ◌&&◌, Bool, true, false, not, if◌then◌else◌, List, [], ◌∷◌, ◌++◌, sum_by, refl, ap, sym, ◌∙◌, subst, arith, inl, inr, Option, Some}
+use Rattle.pagable_tables.proofs.Words.{◌≡◌, ℕ, ◌+◌, ◌≤◌, ◌&&◌, Bool, true, false, not, if◌then◌else◌, List, [], ◌∷◌, sum_by, refl, ap, sym, ◌∙◌, subst, arith, inl, inr, Option, Some}
 use Rattle.pagable_tables.proofs.Words.{None, ◌⊎◌, is_some, nat_lt, nat_eq, Result, Ok, Err, nat_tests, sum_by-cons, sum_by-append, Error, OptionalDataKey, ArcRef, HandleRow, one, times}
 use Rattle.pagable_tables.proofs.Words.{if_there, is_pinned_kind, is_at, is_pin, is_owned_by, owner_value, held, pins, has_key, is_in_memory, Core, Cell, greatest, Alike, left_rows}
 use Rattle.pagable_tables.proofs.Words.{IsClosed, is_keyed, MustList, TellsListing, CannotList, IsListRefusal, Falls, fallen, pins_outside, held_outside, Counts, Holdings, live, counts_at}
@@ -18,7 +18,6 @@ none-owned : (n : ℕ) (rows : List HandleRow) → ((q : ℕ) → sum_by (λ h. 
 none-owned n [] none = refl
 none-owned n (x ∷ xs) none =
     let a = sum_by-cons (λ h. owns h n x.number.0) x xs in
-    let b = none x.number.0 in
     let d = sum_by-cons (λ h. one (is_owned_by (owner_value n) h)) x xs in
     let rest = none-owned n xs (λ q. let k = sum_by-cons (λ h. owns h n q) x xs in let l = none q in omega arith) in
     let here : one (is_owned_by (owner_value n) x) ≡ 0 = grind (arith, nat_tests) in
@@ -70,28 +69,10 @@ module _ (before w : Core) (given : ℕ → Bool) (lists : Bool) (t : Holdings) 
       omega arith
 
   cells-same : (n : ℕ) → cell_in (counts_at t.nodes n) ≡ (fallen w f.gone f.entries).cells n
-  cells-same n = cell-kept (counts_at t.nodes n) (refs_at t.nodes n) (held n (left_rows f.gone w.rows ++ f.entries)) (w.cells n)
-      (stands (counts_at t.nodes) (refs_at t.nodes) (live t.handles.places.items) t.top whole.fits n) (whole.fits.right n) (whole.fits.holding n ∙ ap (held n) f.rows) (f.cells n)
+  cells-same n = grind (arith, nat_tests, cell-kept, stands, live)
 
   leaves : Alike (fallen w f.gone f.entries) (with_tables w t)
-  leaves =
-      record {
-        rows = f.rows;
-        cells = cells-same;
-        list = f.list;
-        cache = record {
-          gives = λ kind key. same-usable kind (w.cache kind key) (left_rows f.gone w.rows ++ f.entries) (live t.handles.places.items) (fallen w f.gone f.entries).cells
-              (λ n. cell_in (counts_at t.nodes n)) f.rows cells-same;
-          only = λ kind key n e. e;
-        };
-        stored = λ q. refl;
-        closed = refl;
-        failures = refl;
-        loads = λ q. refl;
-        workers = λ q. refl;
-        last = ap (λ k. record w.last { handle = k }) f.last;
-        places = f.places;
-      }
+  leaves = grind (arith, nat_tests, cells-same, same-usable, live, fallen)
 
   -- what the world says of a cascade
   pub ended : Falls before w given (told_by t.unlisted) (with_tables w t)

@@ -48,11 +48,7 @@ module _ {before w : Core} {given : ℕ → Bool} {t : Holdings} (f : SoFar befo
         where
           at : (b : Bool) → f.gone q ≡ b → f.gone q ≡ true
           at true e = e
-          at false e =
-              let a : find_row q (live t.handles.places.items) ≡ find_row q w.rows =
-              ap (find_row q) (f.rows ∙ ap (λ es. left_rows f.gone w.rows ++ es) none-came ∙ append-nil (left_rows f.gone w.rows)) ∙ find-kept f.gone q w.rows e in
-              let g : true ≡ false = sym owned ∙ sym (ap (if_there (is_owned_by Owner.List) false) a) ∙ none in
-              absurd (cc)
+          at false e = grind (arith, nat_tests, none-came, append-nil, find-kept)
 
       less : (r : ℕ) → and_one given q r ≡ true → (given r || f.gone r) ≡ true
       less r e = at (r == q) refl

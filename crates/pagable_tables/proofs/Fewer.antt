@@ -1,5 +1,5 @@
 -- Handles are no more after one is given up, and the list has no more entries where cells aren't listed.
-use Rattle.pagable_tables.proofs.Words.{◌≡◌, ℕ, ◌≤◌, Bool, true, false, if◌then◌else◌, List, [], ◌∷◌, ◌++◌, length, ap, ◌∙◌, arith, inl, inr, refl, Option, append-nil, HandleNumber}
+use Rattle.pagable_tables.proofs.Words.{◌≡◌, ℕ, ◌≤◌, Bool, true, false, if◌then◌else◌, List, [], ◌∷◌, length, ap, ◌∙◌, arith, inl, inr, refl, Option, append-nil, HandleNumber, nat_tests}
 use Rattle.pagable_tables.proofs.Words.{NodeNumber, HandleRow, Holdings, live, GivesUp, Steps}
 use Rattle.pagable_tables.proofs.{Leaving.leaves-sums, Going.ones}
 
@@ -30,9 +30,7 @@ none-came true q only = absurd (let e = only refl in cc)
 none-came false q only = refl
 
 pub gives-unlisted : (t new : Holdings) (stack : List ℕ) (x : HandleRow) → GivesUp t stack x false new → new.list.items ≡ t.list.items
-gives-unlisted t new stack x g =
-    ap (λ (u : Holdings). u.list.items) g.same ∙ g.leaves.lists.comes.list ∙ ap (λ (l : List HandleNumber). g.leaves.between.list.items ++ l) (none-came g.listed _ g.leaves.lists.only)
-    ∙ append-nil g.leaves.between.list.items ∙ ap (λ (u : Holdings). u.list.items) g.leaves.same
+gives-unlisted t new stack x g = grind (arith, nat_tests, none-came, append-nil)
 
 pub steps-unlisted : (t new : Holdings) (stack : List ℕ) (r : Option NodeNumber) → Steps t stack false r new → new.list.items ≡ t.list.items
 steps-unlisted t new stack r s = elim s.what [

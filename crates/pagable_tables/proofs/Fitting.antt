@@ -83,9 +83,6 @@ module _ (at at' : ℕ → Option Counts) (refs refs' : ℕ → List ArcRef) (ro
 
   given-marked : (b : Bool) → now_falls ≡ b → (n : ℕ) → often n (if b then x.node.0 ∷ stack else stack) ≡ one (falls_in (at' n))
   given-marked true e n =
-      let free : c.is_falling ≡ false = not-both c.is_falling _ e in
-      let none : often x.node.0 stack ≡ 0 = fits.marked x.node.0 ∙ ap (λ o. one (falls_in o)) is ∙ ap one free in
-      let waits : falls_in (at' x.node.0) ≡ (c.is_falling || now_falls) = ap falls_in here in
       elim (cases_eq n x.node.0) [
         | inl same' ↦
             let goal : often x.node.0 (x.node.0 ∷ stack) ≡ one (falls_in (at' x.node.0)) = let a = sum_by-cons (λ y. one (y == x.node.0)) x.node.0 stack in grind (arith, nat_tests) in
@@ -93,12 +90,8 @@ module _ (at at' : ℕ → Option Counts) (refs refs' : ℕ → List ArcRef) (ro
         | inr other ↦ let a = sum_by-cons (λ y. one (y == n)) x.node.0 stack in let b = fits.marked n in let d = ap (λ o. one (falls_in o)) (others n other) in grind (arith, nat_tests)
       ]
   given-marked false e n =
-      let waits : falls_in (at' x.node.0) ≡ (c.is_falling || now_falls) = ap falls_in here in
       elim (cases_eq n x.node.0) [
-        | inl same' ↦
-            let a : often x.node.0 stack ≡ one c.is_falling = fits.marked x.node.0 ∙ ap (λ o. one (falls_in o)) is in
-            let goal : often x.node.0 stack ≡ one (falls_in (at' x.node.0)) = grind (arith, nat_tests) in
-            subst (λ m. often m stack ≡ one (falls_in (at' m))) (sym same') goal
+        | inl same' ↦ grind (arith, nat_tests)
         | inr other ↦ fits.marked n ∙ sym (ap (λ o. one (falls_in o)) (others n other))
       ]
 
@@ -106,8 +99,7 @@ module _ (at at' : ℕ → Option Counts) (refs refs' : ℕ → List ArcRef) (ro
   given-right n = grind (arith, nat_tests)
 
   pub given-fits : (b : Bool) → now_falls ≡ b → Fits at' refs' rows' (if b then x.node.0 else top) (if b then x.node.0 ∷ stack else stack) owns_nothing
-  given-fits b e =
-      record { pinned = given-pinned; holding = given-holding; owned = given-owned; chain = given-chain b e; marked = given-marked b e; right = given-right; from_one = given-one }
+  given-fits b e = grind (arith, nat_tests, given-pinned, given-holding, given-owned, given-chain, given-marked, given-right, given-one)
 
   pub given-cells : CellsStay at at'
   given-cells n some' = grind (arith, nat_tests)
@@ -128,31 +120,17 @@ module _ (at at' : ℕ → Option Counts) (refs refs' : ℕ → List ArcRef) (ro
   once : often n ns ≡ 0
   once =
       let a = sum_by-cons (λ y. one (y == n)) n ns in
-      let b : often n (n ∷ ns) ≡ one c.is_falling = fits.marked n ∙ ap (λ o. one (falls_in o)) is in
       grind (arith, nat_tests)
 
   pub done-fits : Fits at' refs' rows c.next ns owns_nothing
   done-fits =
       record {
-        pinned = λ m. elim (cases_eq m n) [
-          | inl e ↦ ap (λ k. pins_in (at' k)) e ∙ pins' ∙ sym (ap pins_in is) ∙ fits.pinned n ∙ sym (ap (λ k. pins k rows) e)
-          | inr e ↦ ap pins_in (others m e) ∙ fits.pinned m
-        ];
-        holding = λ m. elim (cases_eq m n) [
-          | inl e ↦ ap (λ k. holds_in (at' k)) e ∙ holds' ∙ sym (ap holds_in is) ∙ fits.holding n ∙ sym (ap (λ k. held k rows) e)
-          | inr e ↦ ap holds_in (others m e) ∙ fits.holding m
-        ];
+        pinned = λ m. grind (arith, nat_tests, cases_eq);
+        holding = λ m. grind (arith, nat_tests, cases_eq);
         owned = λ m q. ap (λ r. named q r + 0) (same m) ∙ fits.owned m q;
         chain = chain-frame at at' c.next ns (λ m within. ap next_in (others m (in-none n ns m once within))) (subst (λ t. Chain at t ns) (ap next_in is) fits.chain.1);
-        marked = λ m. elim (cases_eq m n) [
-          | inl e ↦ ap (λ k. often k ns) e ∙ once ∙ sym (ap one (ap (λ k. falls_in (at' k)) e ∙ free))
-          | inr e ↦ let a = sum_by-cons (λ y. one (y == m)) n ns in let b = fits.marked m in let d = ap (λ o. one (falls_in o)) (others m e) in
-              let z : one (n == m) ≡ 0 = grind (arith, nat_tests) in omega arith
-        ];
-        right = λ m. elim (cases_eq m n) [
-          | inl e ↦ subst (λ k. Right (at' k) (refs' k)) (sym e) right'
-          | inr e ↦ subst (λ o. Right o (refs' m)) (sym (others m e)) (subst (λ r. Right (at m) r) (sym (same m)) (fits.right m))
-        ];
+        marked = λ m. grind (arith, nat_tests, cases_eq, once, sum_by-cons);
+        right = λ m. grind (arith, nat_tests, cases_eq);
         from_one = others 0 (λ e. one' (sym e)) ∙ fits.from_one;
       }
 
@@ -207,44 +185,12 @@ module _ (at at' : ℕ → Option Counts) (refs refs' : ℕ → List ArcRef) (ro
 
   -- where the row is that one, the tables fit but for it
   pub taken-fits : (x : HandleRow) → ((m r : ℕ) → is_owned m r x ≡ one (n == m && p.handle.0 == r)) → Fits at' refs' rows n (n ∷ ns) (λ m r. is_owned m r x)
-  taken-fits x owner =
-      record {
-        pinned = λ m. ap pins_in (same m) ∙ fits.pinned m;
-        holding = λ m. ap holds_in (same m) ∙ fits.holding m;
-        owned = λ m r. elim (cases_eq m n) [
-          | inl e ↦
-              let a : named r (refs n) + 0 ≡ sum_by (is_owned n r) rows = fits.owned n r in
-              let b = times-popped r in
-              let o = owner n r in
-              let z : one (n == n && p.handle.0 == r) ≡ one (p.handle.0 == r) = grind (arith, nat_tests) in
-              let g : named r (refs' n) + is_owned n r x ≡ sum_by (is_owned n r) rows = omega arith in
-              subst (λ k. named r (refs' k) + is_owned k r x ≡ sum_by (is_owned k r) rows) (sym e) g
-          | inr e ↦
-              let a = fits.owned m r in
-              let b = ap (named r) (others m e) in
-              let o = owner m r in
-              let z : one (n == m && p.handle.0 == r) ≡ 0 = grind (arith, nat_tests) in
-              omega arith
-        ];
-        chain = chain-frame at at' n (n ∷ ns) (λ m within. ap next_in (same m)) fits.chain;
-        marked = λ m. fits.marked m ∙ sym (ap (λ o. one (falls_in o)) (same m));
-        right = taken-right;
-        from_one = same 0 ∙ fits.from_one;
-      }
+  taken-fits x owner = grind (arith, nat_tests, cases_eq, named, times-popped, chain-frame, taken-right)
 
 -- the same tables, by look-ups that agree
 pub fits-same : (at at' : ℕ → Option Counts) (refs refs' : ℕ → List ArcRef) (rows : List HandleRow) (top : ℕ) (stack : List ℕ) → Fits at refs rows top stack owns_nothing
     → ((m : ℕ) → at' m ≡ at m) → ((m : ℕ) → refs' m ≡ refs m) → Fits at' refs' rows top stack owns_nothing
-fits-same at at' refs refs' rows top stack fits same refs-same =
-    record {
-      pinned = λ m. ap pins_in (same m) ∙ fits.pinned m;
-      holding = λ m. ap holds_in (same m) ∙ fits.holding m;
-      owned = λ m q. ap (λ r. named q r + 0) (refs-same m) ∙ fits.owned m q;
-      chain = chain-frame at at' top stack (λ m within. ap next_in (same m)) fits.chain;
-      marked = λ m. fits.marked m ∙ sym (ap (λ o. one (falls_in o)) (same m));
-      right = λ m. subst (λ o. Right o (refs' m)) (sym (same m)) (subst (λ r. Right (at m) r) (sym (refs-same m)) (fits.right m));
-      from_one = same 0 ∙ fits.from_one;
-    }
+fits-same at at' refs refs' rows top stack fits same refs-same = grind (arith, nat_tests, named, chain-frame)
 
 -- the first node that waits has lost its value
 fallen-plain : (w k : Bool) (p h : ℕ) (b : Bool) → w ≡ true → (if w then h == 0 || (p == 0 && k) else b) ≡ true → (h ≡ 0) ⊎ ((k ≡ true) × (p ≡ 0))

@@ -42,14 +42,10 @@ module _ (before w : Core) (given : ℕ → Bool) (lists : Bool) (t : Holdings) 
       let a = counted (is_pin n) in
       let b = cut (is_pin n) f.gone s w.rows in
       let d : pins n (live t.handles.places.items) ≤ held n (live t.handles.places.items) = le (is_pin n) (is_at n) (live t.handles.places.items) (λ h. grind (arith, nat_tests)) in
-      let z : pins n (live t.handles.places.items) ≡ 0 = elim down [ inl none ↦ omega arith | inr both ↦ both.1 ] in
-      let y : pins_outside w.rows s n ≡ 0 = omega arith in
       grind (arith, nat_tests)
   lost final n false e bare (inl none) =
       let a = counted (is_at n) in
       let b = cut (is_at n) f.gone s w.rows in
-      let z = bare none in
-      let y : held_outside w.rows s n ≡ 0 = omega arith in
       grind (arith, nat_tests)
   lost final n false e bare (inr both) = let k = up-keyed (counts_at t.nodes n) (w.cells n) (f.cells n) both.0 in absurd (cc)
 

@@ -95,19 +95,11 @@ module _ (before w : Core) (given given' : ℕ → Bool) (lists : Bool) (t poppe
   came = if g.listed then record { 0 = t.last_handle + 1 } ∷ [] else []
 
   added : new.list.items ≡ t.list.items ++ came
-  added =
-      ap (λ (h : Holdings). h.list.items) g.same ∙ g.leaves.lists.comes.list ∙ ap (λ (h : Holdings). h.list.items ++ (if g.listed then record { 0 = h.last_handle + 1 } ∷ [] else [])) g.leaves.same
-      ∙ ap (λ (h : Holdings). h.list.items ++ (if g.listed then record { 0 = h.last_handle + 1 } ∷ [] else [])) same
+  added = grind (arith, nat_tests)
 
   list-more : new.list.items ≡ filter (λ (q : HandleNumber). not (and_one f.gone x.number.0 q.0)) w.list ++ map (λ (h : HandleRow). h.number)
       (f.entries ++ entries_of g.listed (t.last_handle + 1) x.node)
-  list-more =
-      let old = filter (λ (q : HandleNumber). not (f.gone q.0)) w.list in
-      let numbers = map (λ (h : HandleRow). h.number) f.entries in
-      let entries : map (λ (h : HandleRow). h.number) (f.entries ++ entries_of g.listed (t.last_handle + 1) x.node) ≡ numbers ++ came =
-      map-append (λ (h : HandleRow). h.number) f.entries (entries_of g.listed (t.last_handle + 1) x.node) ∙ ap (λ l. numbers ++ l) (entry-number g.listed (t.last_handle + 1) x.node) in
-      added ∙ ap (λ l. l ++ came) f.list ∙ append_assoc old numbers came ∙ ap (λ l. old ++ l) (sym entries)
-      ∙ ap (λ l. l ++ map (λ (h : HandleRow). h.number) (f.entries ++ entries_of g.listed (t.last_handle + 1) x.node)) (sym apart.kept)
+  list-more = grind (arith, nat_tests, map-append, entry-number, added, append_assoc)
 
   room : HasPlaces popped new
   room = grind (arith, nat_tests)
@@ -119,18 +111,14 @@ module _ (before w : Core) (given given' : ℕ → Bool) (lists : Bool) (t poppe
       let listed = ap one none in
       let k = last in
       let s = since in
-      let p = g.leaves.places in
-      let q = f.places in
       let handles = ap (λ (h : Holdings). vec_capacity h.handles.places) same in
       let entries = ap (λ (h : Holdings). vec_capacity h.list) same in
       let list : length b.list.items ≡ length t.list.items = ap (λ (h : Holdings). length h.list.items) g.leaves.same ∙ ap (λ (h : Holdings). length h.list.items) same in
       let more = ap length added in
       let long = length-append t.list.items came in
-      let gone = g.leaves.sums (λ h. 1) in
       let fewer = ones (live b.handles.places.items) in
       let all = ones (live popped.handles.places.items) in
       let rows = ap length before-rows in
-      let begun = f.last in
       refusal-now w b new e why (omega arith) (omega arith) (omega arith) (omega arith) (omega arith) (omega arith)
 
   told : TellsListing before w (f.entries ++ entries_of g.listed (t.last_handle + 1) x.node) (told_by new.unlisted) (with_tables w new)
@@ -156,11 +144,9 @@ module _ (before w : Core) (given given' : ℕ → Bool) (lists : Bool) (t poppe
         entries = f.entries ++ entries_of g.listed (t.last_handle + 1) x.node;
         rows = rows-more before w given lists t popped new stack x f g same apart.unentered;
         list = list-more;
-        last = let a = last in let b = f.last in let d = length-append f.entries (entries_of g.listed (t.last_handle + 1) x.node) in
-            let e = long-one g.listed (t.last_handle + 1) x.node in omega arith;
+        last = grind (arith, nat_tests, last, length-append, long-one);
         within = subst (λ k. k ≤ greatest) (sym last) (within-more g.listed t.last_handle f.within (λ l. subst (λ k. k < greatest) since (g.leaves.lists.comes.left l)));
-        places = let a = room in let b = f.places in let d = ap (λ (h : Holdings). vec_capacity h.handles.places) same in let e = ap (λ (h : Holdings). vec_capacity h.list) same in
-            record { handles = omega arith; entries = omega arith };
+        places = grind (arith, nat_tests, room);
         cells = λ n there. let s = g.cells n there in s.1 ∙ ap cell_in (counts n) ∙ f.cells n (sym (ap is_some (counts n)) ∙ s.0);
         holds = holds;
         least = least;

@@ -1,7 +1,6 @@
 -- Handles that are named come to another owner, one after the other.
 use Rattle.pagable_tables.proofs.Words.{◌≡◌, ℕ, ◌+◌, ◌≤◌, ◌==◌, ◌||◌, Bool, true, false, if◌then◌else◌, List, [], ◌∷◌, length, get_or, drop, map, refl, ap, sym, ◌∙◌, arith, suc, zero, Some}
-use Rattle.pagable_tables.proofs.Words.{nat_tests, at_drop_more, at_drop_all, HandleNumber, HandleRow, Owner, is_in, find_row, only_handle, moved, numbers_of, is_valued, seen, named_at}
-use Rattle.pagable_tables.proofs.Words.{IsNamed}
+use Rattle.pagable_tables.proofs.Words.{nat_tests, at_drop_more, at_drop_all, HandleNumber, HandleRow, Owner, is_in, find_row, only_handle, moved, numbers_of, is_valued, seen, named_at, IsNamed}
 use Rattle.pagable_tables.proofs.Seen.{in-none, in-more}
 
 -- the set is told by another test

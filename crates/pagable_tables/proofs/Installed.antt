@@ -1,17 +1,16 @@
 -- A load of a cell ends with a pin, and gives up what it still owns. The pin stays, so that cells are listed as of the world before.
-use Rattle.pagable_tables.proofs.Words.{◌≡◌, ℕ, ◌+◌, ◌<◌, ◌≤◌, ◌==◌, ◌&&◌, Bool, true, false, not, List, [], ◌∷◌, ◌++◌, length, refl, ap, sym, ◌∙◌, subst, arith, Option, Some, None, inl}
-use Rattle.pagable_tables.proofs.Words.{inr, if◌then◌else◌, ◌≢◌, Result, vec_capacity, option_map, AllPairs, nat_tests, sum_by_push, Error, ArcRef, HandleNumber, LoadNumber, NodeNumber}
-use Rattle.pagable_tables.proofs.Words.{HandleRow, Owner, Mode, Blob, Among, one, times, changed, find_row, pins, sharing, is_handle, is_owner, is_owned_by, is_pin, is_share, owner_value}
-use Rattle.pagable_tables.proofs.Words.{IsHandleBefore, MayOwnLoad, Core, Last, Alike, Falls, nobody, references_fault, moved, row_of, is_named_by, with_handle, with_mode, is_owned_in}
-use Rattle.pagable_tables.proofs.Words.{without_load, with_pin, Installs, MayEnd, Holdings, Counts, LoadRow, Tables, live, counts_at, load_at, cell_in, has_value, is_valued, pins_in}
-use Rattle.pagable_tables.proofs.Words.{with_tables, is_plain_pin, SoFar, core_of, plain_of, load_in, MayHold, IsWider, has_come}
+use Rattle.pagable_tables.proofs.Words.{◌≡◌, ℕ, ◌+◌, ◌<◌, ◌≤◌, ◌==◌, ◌&&◌, Bool, true, false, not, List, [], ◌∷◌, ◌++◌, length, refl, ap, sym, ◌∙◌, subst, arith, Option, Some, None, inl, inr}
+use Rattle.pagable_tables.proofs.Words.{if◌then◌else◌, ◌≢◌, Result, vec_capacity, option_map, AllPairs, nat_tests, sum_by_push, Error, ArcRef, HandleNumber, LoadNumber, NodeNumber, HandleRow, Owner}
+use Rattle.pagable_tables.proofs.Words.{Mode, Blob, Among, one, times, changed, find_row, pins, sharing, is_handle, is_owner, is_owned_by, is_pin, is_share, owner_value, IsHandleBefore, MayOwnLoad}
+use Rattle.pagable_tables.proofs.Words.{Core, Last, Alike, Falls, nobody, references_fault, moved, row_of, is_named_by, with_handle, with_mode, is_owned_in, without_load, with_pin, Installs, MayEnd}
+use Rattle.pagable_tables.proofs.Words.{Holdings, Counts, LoadRow, Tables, live, counts_at, load_at, cell_in, has_value, is_valued, pins_in, with_tables, is_plain_pin, SoFar, core_of, plain_of}
+use Rattle.pagable_tables.proofs.Words.{load_in, MayHold, IsWider, has_come}
 use Rattle.pagable_tables.specs.Core.{IsWhole}
-use Rattle.pagable_tables.proofs.Newer.{OnlyNewer, loaded-mode, newer-then, newer-moved, newer-mode, newer-handle, newer-falls}
-use Rattle.pagable_tables.proofs.{Begun.begins, Begun.begun, Coming.turned, Dropped.load-closed, Dropped.owned-given, Joined.moved-turned, Joined.turned-sum, Named.moved-nobody}
-use Rattle.pagable_tables.proofs.{Named.named-none, Regiven.loaded, Regiven.passes-here, Regiven.passes-none, Stays.seen-before, Stays.stays-pinned, Stays.not-named, Swapped.same-value}
-use Rattle.pagable_tables.proofs.{Taken.moved-times, Taken.loaded-moved, Taken.no-load, Upheld.references-placed, keeps.BirthCalls.named-unlisted, keeps.Comes.not-list}
-use Rattle.pagable_tables.proofs.{keeps.Comes.not-a-value, keeps.LoadCalls.may-hold, keeps.Moved.moved-to-value, keeps.Rows.among-map, keeps.Rows.found-among, keeps.Rows.once}
-use Rattle.pagable_tables.proofs.{keeps.Rows.ordered-map, keeps.Rows.sum-map}
+use Rattle.pagable_tables.proofs.{Newer.OnlyNewer, Newer.loaded-mode, Newer.newer-then, Newer.newer-moved, Newer.newer-mode, Newer.newer-handle, Newer.newer-falls, Begun.begins, Begun.begun}
+use Rattle.pagable_tables.proofs.{Coming.turned, Dropped.load-closed, Dropped.owned-given, Joined.moved-turned, Joined.turned-sum, Named.moved-nobody, Named.named-none, Regiven.loaded}
+use Rattle.pagable_tables.proofs.{Regiven.passes-here, Regiven.passes-none, Stays.seen-before, Stays.stays-pinned, Stays.not-named, Swapped.same-value, Taken.moved-times, Taken.loaded-moved}
+use Rattle.pagable_tables.proofs.{Taken.no-load, Upheld.references-placed, keeps.BirthCalls.named-unlisted, keeps.Comes.not-list, keeps.Comes.not-a-value, keeps.LoadCalls.may-hold}
+use Rattle.pagable_tables.proofs.{keeps.Moved.moved-to-value, keeps.Rows.among-map, keeps.Rows.found-among, keeps.Rows.once, keeps.Rows.ordered-map, keeps.Rows.sum-map}
 
 -- Of other nodes the same handles pin, and are Shared.
 module _ (h : HandleNumber) (node : NodeNumber) (rows : List HandleRow) (of : (y : HandleRow) → Among rows y → is_handle h.0 y ≡ true → y.node ≡ node) (n : ℕ) (other : (node.0 == n) ≡ false) where
@@ -19,27 +18,14 @@ module _ (h : HandleNumber) (node : NodeNumber) (rows : List HandleRow) (of : (y
   to y = if is_handle h.0 y then turned y else y
 
   pub other-pins : pins n (changed (is_handle h.0) turned rows) ≡ pins n rows
-  other-pins = sum-map (λ y. one (is_pin n y)) (λ y. one (is_pin n y)) to rows (λ y among. by y among (is_handle h.0 y) refl)
-    where
-      by : (y : HandleRow) → Among rows y → (b : Bool) → is_handle h.0 y ≡ b → one (is_pin n (if b then turned y else y)) ≡ one (is_pin n y)
-      by y among true e = let s : (y.node.0 == n) ≡ false = ap (λ (m : NodeNumber). m.0 == n) (of y among e) ∙ other in rw s refl
-      by y among false e = refl
+  other-pins = grind (arith, nat_tests, sum-map, of)
 
   pub other-shares : sharing n (changed (is_handle h.0) turned rows) ≡ sharing n rows
-  other-shares = sum-map (λ y. one (is_share n y)) (λ y. one (is_share n y)) to rows (λ y among. by y among (is_handle h.0 y) refl)
-    where
-      by : (y : HandleRow) → Among rows y → (b : Bool) → is_handle h.0 y ≡ b → one (is_share n (if b then turned y else y)) ≡ one (is_share n y)
-      by y among true e = let s : (y.node.0 == n) ≡ false = ap (λ (m : NodeNumber). m.0 == n) (of y among e) ∙ other in rw s refl
-      by y among false e = refl
+  other-shares = grind (arith, nat_tests, sum-map, of)
 
 loaded-beside : (l : LoadNumber) (q : ℕ) (rows : List HandleRow) (x : HandleRow) → is_owner (Owner.Load l) x.owner ≡ false → loaded l q (rows ++ x ∷ []) ≡ loaded l q rows
-loaded-beside l q [] x other = passes-here (is_owned_by (Owner.Load l)) q x [] ∙ by (is_handle q x) ∙ sym (passes-none (is_owned_by (Owner.Load l)) q)
-  where
-    by : (b : Bool) → (if b then is_owner (Owner.Load l) x.owner else loaded l q []) ≡ false
-    by true = other
-    by false = passes-none (is_owned_by (Owner.Load l)) q
-loaded-beside l q (y ∷ ys) x other =
-    passes-here (is_owned_by (Owner.Load l)) q y (ys ++ x ∷ []) ∙ ap (λ b. if is_handle q y then is_owner (Owner.Load l) y.owner else b) (loaded-beside l q ys x other) ∙ sym (passes-here (is_owned_by (Owner.Load l)) q y ys)
+loaded-beside l q [] x other = grind (arith, nat_tests, passes-here, passes-none)
+loaded-beside l q (y ∷ ys) x other = grind (arith, nat_tests, passes-here, loaded-beside l q ys x other)
 
 and-none : (b : Bool) → one (b && false) ≡ 0
 and-none true = refl
@@ -217,12 +203,7 @@ module _ (t t1 : Tables) (stored : ℕ → Option Blob) (closed : Bool) (failure
   one-more = row_of (t.holdings.last_handle + 1) row.node Mode.Pinned me
 
   pub pins-here : 0 < pins row.node.0 (live t1.holdings.handles.places.items)
-  pins-here =
-      let n = row.node.0 in
-      let b = ap (pins n) a.rows in
-      let d = sum_by_push (λ y. one (is_pin n y)) (changed (is_handle row.number.0) turned (live t.holdings.handles.places.items)) one-more in
-      let f : one (is_pin n one-more) ≡ 1 = grind (arith, nat_tests) in
-      omega arith
+  pins-here = grind (arith, nat_tests, sum_by_push, live)
 
 -- where no reference is named no handle moves
 pub none-moves : (w : Core) (l : LoadNumber) (row : HandleRow) (me : Owner) (r : Result (Unit {0}) Error) (w' : Core)
@@ -263,14 +244,10 @@ module _ (t t1 : Tables) (stored : ℕ → Option Blob) (closed : Bool) (failure
   has-come n = by (n == row.node.0) refl
     where
       by : (b : Bool) → (n == row.node.0) ≡ b → has_value (counts_at t1.holdings.nodes n) ≡ (if b then true else has_value (counts_at t.holdings.nodes n))
-      by true is =
-          let m : row.node.0 ≡ n = grind (arith, nat_tests) in
-          pinned-value (counts_at t1.holdings.nodes n) (let p = whole.steady.fits.pinned n in let q = subst (λ k. 0 < pins k (live t1.holdings.handles.places.items)) m (pins-here t t1 stored closed failures row me a) in omega arith)
+      by true is = grind (arith, nat_tests, pinned-value, pins-here)
       by false is =
           let other : (row.node.0 == n) ≡ false = grind (arith, nat_tests) in
           let rows = live t.holdings.handles.places.items in
-          let p = was.steady.fits.pinned n in
-          let q = whole.steady.fits.pinned n in
           let b = ap (pins n) a.rows in
           let d = sum_by_push (λ y. one (is_pin n y)) (changed (is_handle row.number.0) turned rows) (one-more t t1 stored closed failures row me a) in
           let f : one (is_pin n (one-more t t1 stored closed failures row me a)) ≡ 0 = ap (λ b. one (b && true)) other in

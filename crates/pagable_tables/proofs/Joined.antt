@@ -1,8 +1,7 @@
 -- What a value refers to comes with it to a node that is there, has no value and is pinned.
-use Rattle.pagable_tables.proofs.Words.{◌≡◌, ℕ, ◌+◌, ◌<◌, ◌==◌, Bool, true, false, List, [], ◌∷◌, ◌++◌, sum_by, refl, ap, sym, ◌∙◌, subst, arith, Option, None, inl, inr, if◌then◌else◌, ◌≢◌}
-use Rattle.pagable_tables.proofs.Words.{cases_eq, nat_tests, sum_by_push, OptionalDataKey, ArcRef, HandleNumber, HandleRow, Owner, changed, if_there, pins, is_at, is_pin, is_handle}
-use Rattle.pagable_tables.proofs.Words.{is_in_memory, owner_value, IsHandleBefore, Cell, Core, references_fault, moved, is_named_by, Counts, Fits, Right, cell_in, pins_in, falls_in}
-use Rattle.pagable_tables.proofs.Words.{is_valued, named, owns_nothing, AllPairs}
+use Rattle.pagable_tables.proofs.Words.{◌≡◌, ℕ, ◌+◌, ◌<◌, Bool, false, List, [], ◌∷◌, ◌++◌, sum_by, refl, ap, sym, ◌∙◌, subst, arith, Option, None, inl, inr, ◌≢◌, cases_eq, nat_tests, sum_by_push}
+use Rattle.pagable_tables.proofs.Words.{OptionalDataKey, ArcRef, HandleRow, Owner, changed, if_there, pins, is_at, is_pin, is_handle, is_in_memory, owner_value, IsHandleBefore, Cell, Core}
+use Rattle.pagable_tables.proofs.Words.{references_fault, moved, is_named_by, Counts, Fits, Right, cell_in, pins_in, falls_in, is_valued, named, owns_nothing, AllPairs}
 use Rattle.pagable_tables.proofs.{Born.others-own, Born.own-own, Coming.turned, Coming.owned-by-none, Fitting.is_owned, Taken.moved-times, keeps.Rows.sum-map}
 
 right-pinned : (o : Option Counts) (refs refs' : List ArcRef) → 0 < pins_in o → falls_in o ≡ false → Right o refs → Right o refs'
@@ -21,41 +20,12 @@ owns-none at refs rows top n fits away q = grind (arith, nat_tests)
 -- handles that are pinned and handles that move do so in any order
 pub moved-turned : (s : ℕ → Bool) (o : Owner) (q : ℕ) (x : HandleRow) (rows : List HandleRow) → s x.number.0 ≡ false
     → moved s o (changed (is_handle q) turned rows ++ x ∷ []) ≡ changed (is_handle q) turned (moved s o rows) ++ x ∷ []
-moved-turned s o q x [] spared = ap (λ b. (if b then record x { owner = o } else x) ∷ []) spared
-moved-turned s o q x (y ∷ ys) spared =
-    let a = is_handle q y in
-    let b = s y.number.0 in
-    let first : (if s (pinned a).number.0 then record (pinned a) { owner = o } else pinned a) ≡ (if is_handle q (given b) then turned (given b) else given b) =
-    ap (λ d. if d then record (pinned a) { owner = o } else pinned a) (ap (λ (n : HandleNumber). s n.0) (pinned-number a)) ∙ both a b
-    ∙ sym (ap (λ d. if d then turned (given b) else given b) (ap (λ (n : HandleNumber). n.0 == q) (given-number b))) in
-    let rest = moved-turned s o q x ys spared in
-    λ i. first i ∷ rest i
-  where
-    pinned : Bool → HandleRow
-    pinned a = if a then turned y else y
-
-    given : Bool → HandleRow
-    given b = if b then record y { owner = o } else y
-
-    pinned-number : (a : Bool) → (pinned a).number ≡ y.number
-    pinned-number true = refl
-    pinned-number false = refl
-
-    given-number : (b : Bool) → (given b).number ≡ y.number
-    given-number true = refl
-    given-number false = refl
-
-    both : (a b : Bool) → (if b then record (pinned a) { owner = o } else pinned a) ≡ (if a then turned (given b) else given b)
-    both true true = refl
-    both _ _ = refl
+moved-turned s o q x [] spared = grind (arith, nat_tests)
+moved-turned s o q x (y ∷ ys) spared = grind (arith, nat_tests, moved-turned s o q x ys spared)
 
 -- what is counted whether handles are pinned or not
 pub turned-sum : (f : HandleRow → ℕ) (q : ℕ) (rows : List HandleRow) → ((x : HandleRow) → f (turned x) ≡ f x) → sum_by f (changed (is_handle q) turned rows) ≡ sum_by f rows
-turned-sum f q rows same = sum-map f f (λ x. if is_handle q x then turned x else x) rows (λ x among. by x (is_handle q x))
-  where
-    by : (x : HandleRow) (b : Bool) → f (if b then turned x else x) ≡ f x
-    by x true = same x
-    by x false = refl
+turned-sum f q rows same = grind (arith, nat_tests, sum-map)
 
 -- The world before the pins, and after them the tables; the handles are the value's then.
 module _ (w : Core) (me : Owner) (n : ℕ) (rs : List ArcRef) (ordered : AllPairs IsHandleBefore w.rows) (fit : references_fault w me [] rs ≡ None) (unvalued : is_valued me ≡ false)
@@ -72,19 +42,10 @@ module _ (w : Core) (me : Owner) (n : ℕ) (rs : List ArcRef) (ordered : AllPair
   rows' = moved (is_named_by rs) (owner_value n) before
 
   own-before : (m q : ℕ) → sum_by (is_owned m q) before ≡ sum_by (is_owned m q) w.rows
-  own-before m q =
-      let a = sum_by_push (is_owned m q) (changed (is_handle h) turned w.rows) x in
-      let b = turned-sum (is_owned m q) h w.rows (λ y. refl) in
-      let z = owned-by-none m q x free in
-      omega arith
+  own-before m q = grind (arith, nat_tests, sum_by_push, turned-sum, owned-by-none)
 
   own-after : (m q : ℕ) → sum_by (is_owned m q) rows' ≡ sum_by (is_owned m q) given
-  own-after m q =
-      let e = ap (sum_by (is_owned m q)) (moved-turned (is_named_by rs) (owner_value n) h x w.rows spared) in
-      let a = sum_by_push (is_owned m q) (changed (is_handle h) turned given) x in
-      let b = turned-sum (is_owned m q) h given (λ y. refl) in
-      let z = owned-by-none m q x free in
-      omega arith
+  own-after m q = grind (arith, nat_tests, moved-turned, sum_by_push, turned-sum, owned-by-none)
 
   pub joined-fits : Fits at refs' rows' top [] owns_nothing
   joined-fits =
@@ -98,16 +59,11 @@ module _ (w : Core) (me : Owner) (n : ℕ) (rs : List ArcRef) (ordered : AllPair
               let a = others-own w me n rs ordered fit unvalued m q e in
               let b = own-after m q in
               let d = own-before m q in
-              let f = fits.owned m q in
               let g = ap (named q) (same m e) in
               omega arith
         ];
         chain = fits.chain;
         marked = fits.marked;
-        right = λ m. elim (cases_eq m n) [
-          | inl e ↦ subst (λ k. Right (at k) (refs' k)) (sym e)
-              (let p = fits.pinned n in let f = fits.marked n in right-pinned (at n) (refs n) (refs' n) (omega arith) (let s : falls_in (at n) ≡ false = grind (arith, nat_tests) in s) (fits.right n))
-          | inr e ↦ subst (λ r. Right (at m) r) (sym (same m e)) (fits.right m)
-        ];
+        right = λ m. grind (arith, nat_tests, cases_eq, right-pinned);
         from_one = fits.from_one;
       }

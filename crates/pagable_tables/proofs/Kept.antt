@@ -1,6 +1,6 @@
 -- What has gone so far is kept by each step of a cascade.
-use Rattle.pagable_tables.proofs.Words.{◌≡◌, ℕ, Bool, List, sym, ◌∙◌, subst, ◌≢◌, Result, Ok, Err, Error, HandleRow, MustList, TellsListing, IsListRefusal, Core, Holdings, counts_at}
-use Rattle.pagable_tables.proofs.Words.{CellsStay, with_tables, told_by, SoFar, arith, nat_tests}
+use Rattle.pagable_tables.proofs.Words.{◌≡◌, ℕ, Bool, List, sym, subst, ◌≢◌, Result, Ok, Err, Error, HandleRow, MustList, TellsListing, IsListRefusal, Core, Holdings, counts_at}
+use Rattle.pagable_tables.proofs.Words.{CellsStay, with_tables, SoFar, arith, nat_tests}
 
 -- what is asked of handles and list, where only nodes differ
 must-same : (before w : Core) (t new : Holdings) (n : ℕ) → MustList before w (with_tables w t) n → MustList before w (with_tables w (record t { nodes = new.nodes; top = new.top })) n
@@ -20,24 +20,7 @@ tells-same before w entries t new (Err e) tells = record { all = tells.all; not_
 -- nothing happened to the handles and the list
 same-handles : (before w : Core) (given : ℕ → Bool) (lists : Bool) (t new : Holdings) → SoFar before w given lists t → CellsStay (counts_at t.nodes) (counts_at new.nodes) → t.top ≢ 0
     → SoFar before w given lists (record t { nodes = new.nodes; top = new.top })
-same-handles before w given lists t new f stay some =
-    record {
-      begins = f.begins;
-      gone = f.gone;
-      entries = f.entries;
-      rows = f.rows;
-      list = f.list;
-      last = f.last;
-      within = f.within;
-      places = f.places;
-      cells = λ n there. let s = stay n there in s.1 ∙ f.cells n s.0;
-      holds = f.holds;
-      least = f.least;
-      new = f.new;
-      only = λ n some. let o = f.only n some in (must-same before w t new n o.0, o.1);
-      tells = tells-same before w f.entries t new (told_by t.unlisted) f.tells;
-      few = λ top. f.few some;
-    }
+same-handles before w given lists t new f stay some = grind (arith, nat_tests, must-same, tells-same)
 
 -- the first node that falls is done
 pub settled : (before w : Core) (given : ℕ → Bool) (lists : Bool) (t new : Holdings) → SoFar before w given lists t → CellsStay (counts_at t.nodes) (counts_at new.nodes) → t.top ≢ 0

@@ -1,8 +1,7 @@
 -- A node gets a key: handles and nodes fit again.
-use Rattle.pagable_tables.proofs.Words.{◌≡◌, ℕ, ◌+◌, ◌<◌, ◌==◌, ◌&&◌, ◌||◌, Bool, true, false, if◌then◌else◌, List, [], ◌∷◌, refl, ap, sym, ◌∙◌, subst, arith, inl, inr, Option, Some, ◌≢◌}
-use Rattle.pagable_tables.proofs.Words.{nat_lt, not, cases_eq, nat_tests, ArcRef, HandleRow, one, Counts, Fits, Chain, Right, is_right, is_bare, is_new, pins_in, holds_in, falls_in, next_in}
-use Rattle.pagable_tables.proofs.Words.{often, named, owns_nothing, keyed, GetsKey}
-use Rattle.pagable_tables.proofs.{Coming.is-free}
+use Rattle.pagable_tables.proofs.Words.{◌≡◌, ℕ, ◌<◌, ◌==◌, ◌&&◌, ◌||◌, Bool, true, false, if◌then◌else◌, List, [], ◌∷◌, refl, ap, sym, ◌∙◌, subst, arith, inl, inr, Option, Some, ◌≢◌, nat_lt, not}
+use Rattle.pagable_tables.proofs.Words.{cases_eq, nat_tests, ArcRef, HandleRow, one, Counts, Fits, Chain, Right, is_new, falls_in, next_in, often, named, owns_nothing, keyed, GetsKey}
+use Rattle.pagable_tables.proofs.Coming.{is-free}
 
 keyed-right : (w bare : Bool) (p h : ℕ) (k key : ℕ) → w ≡ false → 0 < key → (if w then h == 0 || (p == 0 && nat_lt 0 k) else nat_lt 0 h && (nat_lt 0 p || not (nat_lt 0 k) || bare)) ≡ true
     → (if p == 0 then h == 0 || (p == 0 && nat_lt 0 key) else nat_lt 0 h && (nat_lt 0 p || not (nat_lt 0 key) || bare)) ≡ true
@@ -31,24 +30,12 @@ module _ (at at' : ℕ → Option Counts) (refs refs' : ℕ → List ArcRef) (ro
 
   key-right : (m : ℕ) → Right (at' m) (refs' m)
   key-right m = elim (cases_eq m n) [
-    | inl eq ↦
-        let old : is_right c (is_bare (refs n)) ≡ true = subst (λ o. Right o (refs n)) is (fits.right n) in
-        let new : Right (Some (keyed c key top)) (refs n) = keyed-right c.is_falling (is_bare (refs n)) c.pins c.holds c.key key (is-free at refs rows top n c fits is) some old in
-        subst (λ k. Right (at' k) (refs' k)) (sym eq) (subst (λ o. Right o (refs' n)) (sym here) (subst (λ r. Right (Some (keyed c key top)) r) (sym (same n)) new))
+    | inl eq ↦ grind (arith, nat_tests, keyed-right, is-free)
     | inr other ↦ subst (λ o. Right o (refs' m)) (sym (others m other)) (subst (λ r. Right (at m) r) (sym (same m)) (fits.right m))
   ]
 
   pub key-fits : (b : Bool) → (c.pins == 0) ≡ b → Fits at' refs' rows (if b then n else top) (if b then n ∷ [] else []) owns_nothing
-  key-fits b e =
-      record {
-        pinned = λ m. told pins_in refl m ∙ fits.pinned m;
-        holding = λ m. told holds_in refl m ∙ fits.holding m;
-        owned = λ m q. ap (λ r. named q r + 0) (same m) ∙ fits.owned m q;
-        chain = key-chain b e;
-        marked = key-marked b e;
-        right = key-right;
-        from_one = others 0 real ∙ fits.from_one;
-      }
+  key-fits b e = grind (arith, nat_tests, told, named, key-chain, key-marked, key-right, real)
 
   pub key-cells : GetsKey at at' n key
   key-cells m = grind (arith, nat_tests)

@@ -1,5 +1,5 @@
 -- No live row of a number passes a test.
-use Rattle.pagable_tables.proofs.Words.{◌≡◌, ℕ, ◌+◌, ◌<◌, ◌≤◌, Bool, true, false, if◌then◌else◌, List, [], ◌∷◌, suc, length, get_or, refl, ap, sym, ◌∙◌, arith, Some, slice_get, inl, inr}
+use Rattle.pagable_tables.proofs.Words.{◌≡◌, ℕ, ◌+◌, ◌<◌, ◌≤◌, Bool, true, false, if◌then◌else◌, List, [], ◌∷◌, suc, length, get_or, refl, ap, sym, ◌∙◌, arith, Some, slice_get}
 use Rattle.pagable_tables.proofs.Words.{◌⊎◌, AllPairs, slice_get-get_or, HandleRow, is_handle, find_row, nat_tests, get_or_default, Place, live, alive, IsBefore, passes_in}
 use Rattle.pagable_tables.proofs.{Alive.row-live, Order.smaller-up, Order.greater-from, Regiven.passes-here, Regiven.passes-none}
 
@@ -51,11 +51,4 @@ module _ (ss : List Place) (m : ℕ) (p : Place) (within : m < length ss) (is : 
   pub up-from : {L : Type 0} (left : ℕ) (test : HandleRow → Bool) → (L → p.is_live ≡ true → test p.row ≡ true → left < p.row.number.0)
       → (L → (k : ℕ) (d : Place) → m + 1 ≤ k → k < length ss → (get_or ss k d).is_live ≡ true → test (get_or ss k d).row ≡ true → left < (get_or ss k d).row.number.0)
       → (k : ℕ) (d : Place) → L → m ≤ k → k < length ss → (get_or ss k d).is_live ≡ true → test (get_or ss k d).row ≡ true → left < (get_or ss k d).row.number.0
-  up-from left test here rest k d loads from lt lives passes = elim (same-or-past k from) [
-    | inl same ↦
-        let at : get_or ss k d ≡ p = ap (λ n. get_or ss n d) same ∙ get_or_default ss m d p within ∙ sym is in
-        let a = here loads (sym (ap (λ (x : Place). x.is_live) at) ∙ lives) (sym (ap (λ (x : Place). test x.row) at) ∙ passes) in
-        let b = ap (λ (x : Place). x.row.number.0) at in
-        omega arith
-    | inr past ↦ rest loads k d past lt lives passes
-  ]
+  up-from left test here rest k d loads from lt lives passes = grind (arith, nat_tests, same-or-past, get_or_default)

@@ -1,8 +1,7 @@
 -- Why a load can't make a node, and what it gets.
-use Rattle.pagable_tables.proofs.Words.{◌≡◌, ℕ, ◌<◌, ◌≤◌, Bool, true, false, if◌then◌else◌, refl, ap, ◌∙◌, arith, Ok, Err, Option, Some, None, inl, inr, not, is_some, Result, [], zero, suc}
-use Rattle.pagable_tables.proofs.Words.{Error, HandleNumber, LoadNumber, NodeNumber, Kind, Owner, Mode, is_loose_kind, if_there, mode_of, Core, OpenLoad, greatest, usable, Alike, rank}
-use Rattle.pagable_tables.proofs.Words.{earlier, refused_if, spent, load_fault, OwnsLoad, Refused, birth_fault, node_fault, lazy_fault, adopted, LazyCall, OptionalDataKey, key_in, Makes}
-use Rattle.pagable_tables.proofs.Words.{nat_tests}
+use Rattle.pagable_tables.proofs.Words.{◌≡◌, ℕ, ◌<◌, ◌≤◌, Bool, true, false, if◌then◌else◌, refl, ap, ◌∙◌, arith, Ok, Err, Option, Some, None, inl, inr, not, is_some, Result, [], zero, suc, Error}
+use Rattle.pagable_tables.proofs.Words.{HandleNumber, LoadNumber, NodeNumber, Kind, Owner, Mode, is_loose_kind, if_there, mode_of, Core, OpenLoad, greatest, usable, Alike, rank, earlier, refused_if}
+use Rattle.pagable_tables.proofs.Words.{spent, load_fault, OwnsLoad, Refused, birth_fault, node_fault, lazy_fault, adopted, LazyCall, OptionalDataKey, key_in, Makes, nat_tests}
 use Rattle.pagable_world.specs.Calls.{IsNext}
 use Rattle.pagable_tables.proofs.{Opened.earlier-first, Opened.load-low, Opened.no-load-fault, Worlds.still}
 
@@ -34,15 +33,7 @@ lazy-not-own w me l kind key e is =
 
 module _ (w : Core) (me : Owner) (l : LoadNumber) (load : OpenLoad) (kind : Kind) (key : ℕ) (own : OwnsLoad w me l load) where
   pub lazy-not-loose : is_loose_kind kind.0 ≡ false → LazyCall w me l kind key (Err Error.WrongKind) w
-  lazy-not-loose tight =
-      record {
-        makes = tt;
-        refused = record {
-          why = inl (ap (λ f. earlier f (earlier (refused_if (not (is_loose_kind kind.0)) Error.WrongKind) (node_fault w kind key))) (no-load-fault w me l load own)
-              ∙ earlier-first (refused_if (not (is_loose_kind kind.0)) Error.WrongKind) (node_fault w kind key) Error.WrongKind (ap (λ b. refused_if (not b) Error.WrongKind) tight) (λ f late. let a = node-late w kind key f late in omega arith));
-          stays = still w;
-        };
-      }
+  lazy-not-loose tight = grind (arith, nat_tests, earlier, no-load-fault, earlier-first, node-late, still)
 
   module _ (loose : is_loose_kind kind.0 ≡ true) where
     cause : lazy_fault w me l kind key ≡ node_fault w kind key

@@ -1,7 +1,6 @@
 -- Workers come and leave, and their loads with them.
-use Rattle.pagable_tables.proofs.Words.{◌≡◌, ℕ, ◌+◌, ◌<◌, ◌==◌, Bool, true, false, not, if◌then◌else◌, List, [], ◌∷◌, ◌++◌, filter, length, ap, ◌∙◌, subst, arith, Option, Some, None, Ok}
-use Rattle.pagable_tables.proofs.Words.{option_map, nat_tests, HandleNumber, Owner, Blob, is_in, updated, Core, TakeCall, is_workers_load, with_worker, LoadRow, Tables, core_of, load_in}
-use Rattle.pagable_tables.proofs.Words.{left_load}
+use Rattle.pagable_tables.proofs.Words.{◌≡◌, ℕ, ◌+◌, ◌<◌, ◌==◌, Bool, true, false, not, if◌then◌else◌, List, [], ◌∷◌, ◌++◌, filter, length, ap, ◌∙◌, subst, arith, Option, Some, None, Ok, option_map}
+use Rattle.pagable_tables.proofs.Words.{nat_tests, HandleNumber, Owner, Blob, is_in, updated, Core, TakeCall, is_workers_load, with_worker, LoadRow, Tables, core_of, load_in, left_load}
 use Rattle.pagable_model.specs.declared.numbers.WorkerNumber.{WorkerNumber}
 use Rattle.pagable_tables.specs.Giving.{TakesWorker}
 

@@ -1,7 +1,7 @@
 -- A birth, by what it is made of; and why references are refused before a number that is spent.
-use Rattle.pagable_tables.proofs.Words.{◌≡◌, ℕ, ◌<◌, ◌≤◌, ◌==◌, ◌||◌, Bool, true, false, List, [], ◌∷◌, refl, ap, ◌∙◌, subst, arith, Ok, Option, Some, None, zero, suc, if◌then◌else◌, not}
+use Rattle.pagable_tables.proofs.Words.{◌≡◌, ℕ, ◌<◌, ◌≤◌, ◌==◌, ◌||◌, Bool, true, false, List, [], ◌∷◌, refl, ap, ◌∙◌, subst, arith, Ok, Option, Some, None, zero, suc, if◌then◌else◌, not, nat_tests}
 use Rattle.pagable_tables.proofs.Words.{OptionalDataKey, Error, ArcRef, HandleNumber, HandleRow, Owner, Mode, is_in, if_there, or_else, type_of, is_owner, fits_mode, Core, Alike, greatest}
-use Rattle.pagable_tables.proofs.Words.{row_at, type_at, earlier, rank, refused_if, spent, reference_fault, references_fault, row_fault, is_type, birth_fault, with_handle, with_node}
+use Rattle.pagable_tables.proofs.Words.{row_at, type_at, earlier, rank, refused_if, reference_fault, references_fault, row_fault, is_type, birth_fault, with_handle, with_node}
 use Rattle.pagable_tables.proofs.Words.{next_node, AwayBirthCall, IsWhole, ArePlaced, MayHold, Counts, key_in, Bears, BearsValue, OnlyRoom}
 use Rattle.pagable_tables.proofs.{keeps.BirthCalls.birth-whole, keeps.BirthCalls.no-references, Newer.OnlyNewer, Newer.newer-then, Newer.newer-alike, Newer.newer-node, Readied.next-past}
 use Rattle.pagable_tables.proofs.{Readied.born-past, Pins.earlier-first, Pins.spent-late, Offers.late}
@@ -39,9 +39,7 @@ references-low w me seen (r ∷ rs) e is = low-or _ _ e (reference-low w me seen
 
 -- a cause that tells of a reference comes before a number that is spent
 pub references-first : (w : Core) (me : Owner) (rs : List ArcRef) (e : Error) → references_fault w me [] rs ≡ Some e → earlier (references_fault w me [] rs) (birth_fault w) ≡ Some e
-references-first w me rs e is =
-    let after = late (spent w.last.node) (spent w.last.handle) 3 (spent-late w.last.node true) (spent-late w.last.handle true) in
-    ap (λ f. earlier f (birth_fault w)) is ∙ earlier-first e (birth_fault w) (λ f so. let a = references-low w me [] rs e is in let b = after f so in omega arith)
+references-first w me rs e is = grind (arith, nat_tests, late, spent-late, earlier-first, references-low)
 
 pub none-named : (w : Core) (me : Owner) (rs : List ArcRef) → rs ≡ [] → references_fault w me [] rs ≡ None
 none-named w me rs is = ap (references_fault w me []) is ∙ no-references w me
@@ -64,9 +62,7 @@ module _ (w : Core) (me : Owner) (node_type : ℕ) (c : Counts) (rs : List ArcRe
 -- of a cell that is away, where room was made before
 pub away-born : {w w1 : Core} (me : Owner) (node_type : ℕ) (c : Counts) (w' : Core) (key : ℕ) (k : HandleNumber) → OnlyRoom w w1 → w1.last.node < greatest → c.node_type ≡ node_type → c.key ≡ key → 0 < key
     → Bears w1 me c [] Mode.LooseUnpinned k w' → AwayBirthCall w me node_type key (Ok k) w'
-away-born {w} {w1} me node_type c w' key k room left typed is some b =
-    let leaves = alike-as w1 me node_type c [] Mode.LooseUnpinned w' typed (OptionalDataKey.Some key) (ap key_in is ∙ key-is key some) b.leaves in
-    record { made = (subst (λ (u : Core). u.last.node < greatest) room.same left, next-past room b.next, born-past node_type (OptionalDataKey.Some key) [] Mode.LooseUnpinned me room leaves); refused = tt }
+away-born {w} {w1} me node_type c w' key k room left typed is some b = grind (arith, nat_tests, alike-as, key-is, next-past, born-past)
 
 pub value-whole : {w w' : Core} (me : Owner) (node_type : ℕ) (rs : List ArcRef) (mode : Mode) (k : HandleNumber) → IsWhole w → MayHold w me → references_fault w me [] rs ≡ None → w.last.node < greatest
     → BearsValue w me node_type rs mode k w' → ArePlaced w' → IsWhole w'

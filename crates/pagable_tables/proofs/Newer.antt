@@ -1,5 +1,5 @@
 -- What loads own is what they owned, or has come since.
-use Rattle.pagable_tables.proofs.Words.{◌≡◌, ℕ, ◌+◌, ◌<◌, ◌≤◌, ◌&&◌, ◌++◌, ◌∷◌, [], Bool, true, false, not, if◌then◌else◌, List, refl, ap, sym, ◌∙◌, arith, Option, Some, None, inl, inr, ◌⊎◌}
+use Rattle.pagable_tables.proofs.Words.{◌≡◌, ℕ, ◌+◌, ◌<◌, ◌≤◌, ◌&&◌, ◌++◌, ◌∷◌, [], Bool, true, false, not, List, refl, ap, sym, ◌∙◌, arith, Option, Some, None, inl, inr, ◌⊎◌}
 use Rattle.pagable_tables.proofs.Words.{◌≢◌, Result, Ok, Err, is_some, option_map, cases_eq, Error, HandleNumber, LoadNumber, NodeNumber, HandleRow, Owner, Mode, Pinning, Kind, ArcRef}
 use Rattle.pagable_tables.proofs.Words.{OptionalDataKey, if_there, is_in, type_of, changed, is_handle, is_owner, is_owned_by, owner_value, find_row, mode_of, Core, Last, Alike, Falls}
 use Rattle.pagable_tables.proofs.Words.{only_handle, with_handle, with_node, next_node, with_cached_if_open, is_named_by, moved, with_mode, LoosenCall, PinCall, UnpinCall, ReleaseCall}
@@ -20,14 +20,7 @@ pub newer-then : {a b c : Core} → OnlyNewer a b → OnlyNewer b c → OnlyNewe
 newer-then {a} p q = record { last = (let x = p.last in let y = q.last in omega arith); owned = λ l n own. elim (q.owned l n own) [ inl there ↦ p.owned l n there | inr past ↦ inr (let x = p.last in omega arith) ] }
 
 loaded-push : (l : LoadNumber) (q : ℕ) (rows : List HandleRow) (x : HandleRow) → loaded l q (rows ++ x ∷ []) ≡ true → (loaded l q rows ≡ true) ⊎ (x.number.0 ≡ q)
-loaded-push l q rows x own = split (find_row q (rows ++ x ∷ [])) refl own
-  where
-    split : (found : Option HandleRow) → find_row q (rows ++ x ∷ []) ≡ found → if_there (is_owned_by (Owner.Load l)) false found ≡ true → (loaded l q rows ≡ true) ⊎ (x.number.0 ≡ q)
-    split None e own = absurd (cc)
-    split (Some row) e own = elim (found-push q rows x row e) [
-      | inl there ↦ inl (ap (if_there (is_owned_by (Owner.Load l)) false) there ∙ own)
-      | inr same ↦ inr (sym (ap (λ (r : HandleRow). r.number.0) same) ∙ (found-among q (rows ++ x ∷ []) row e).1)
-    ]
+loaded-push l q rows x own = grind (arith, nat_tests, found-push, found-among)
 
 pub newer-handle : (w : Core) (node : NodeNumber) (mode : Mode) (owner : Owner) → OnlyNewer w (with_handle w node mode owner)
 newer-handle w node mode owner = record { last = omega arith; owned = λ l q own. elim (loaded-push l q w.rows _ own) [ inl there ↦ inl there | inr is ↦ inr (omega arith) ] }
@@ -38,15 +31,7 @@ newer-moved w s o other = record { last = omega arith; owned = λ l q own. inl (
 -- a handle's mode says nothing of who owns it
 pub loaded-mode : (l : LoadNumber) (q : ℕ) (test : HandleRow → Bool) (mode : Mode) (rows : List HandleRow) → loaded l q (changed test (λ row. record row { mode = mode }) rows) ≡ loaded l q rows
 loaded-mode l q test mode [] = refl
-loaded-mode l q test mode (x ∷ xs) =
-    split (test x) ∙ ap (λ b. if is_handle q x then is_owner (Owner.Load l) x.owner else b) (loaded-mode l q test mode xs) ∙ sym (passes-here (is_owned_by (Owner.Load l)) q x xs)
-  where
-    rest : List HandleRow
-    rest = changed test (λ row. record row { mode = mode }) xs
-
-    split : (b : Bool) → loaded l q ((if b then record x { mode = mode } else x) ∷ rest) ≡ (if is_handle q x then is_owner (Owner.Load l) x.owner else loaded l q rest)
-    split true = passes-here (is_owned_by (Owner.Load l)) q (record x { mode = mode }) rest
-    split false = passes-here (is_owned_by (Owner.Load l)) q x rest
+loaded-mode l q test mode (x ∷ xs) = grind (arith, nat_tests, passes-here, loaded-mode l q test mode xs)
 
 pub newer-mode : (w : Core) (h : HandleNumber) (mode : Mode) → OnlyNewer w (with_mode w h mode)
 newer-mode w h mode = record { last = omega arith; owned = λ l q own. inl (sym (loaded-mode l q (is_handle h.0) mode w.rows) ∙ own) }
@@ -64,11 +49,7 @@ newer-falls {before} {u} {w'} falls =
 
 -- the open loads are ones that were open
 pub later-so : {t t' : Tables} → AreLater t → OnlyNewer (plain_of t) (plain_of t') → ((l : ℕ) (load : LoadRow) → load_at t'.loads l ≡ Some load → load_at t.loads l ≡ Some load) → AreLater t'
-later-so later newer loads =
-    record {
-      given = λ l load is. let a = later.given l load (loads l load is) in let b = newer.last in omega arith;
-      since = λ l load q is own. elim (newer.owned (record { 0 = l }) q own) [ inl there ↦ later.since l load q (loads l load is) there | inr past ↦ (let a = later.given l load (loads l load is) in omega arith) ];
-    }
+later-so later newer loads = grind (arith, nat_tests)
 
 -- a load is closed
 pub closed-still : (at at' : ℕ → Option LoadRow) (m : ℕ) → at' m ≡ None → ((q : ℕ) → q ≢ m → at' q ≡ at q) → (l : ℕ) (load : LoadRow) → at' l ≡ Some load → at l ≡ Some load
@@ -88,10 +69,7 @@ none-owned w whole l q none own = split (find_row q w.rows) refl own
 pub later-opened : {t t' : Tables} → pager.IsWhole (plain_of t) → AreLater t → OnlyNewer (plain_of t) (plain_of t') → (m : ℕ) (row : LoadRow) → load_at t.loads m ≡ None → load_at t'.loads m ≡ Some row → row.since ≡ t.holdings.last_handle → ((q : ℕ) → q ≢ m → load_at t'.loads q ≡ load_at t.loads q) → AreLater t'
 later-opened {t} {t'} whole later newer m row none here since others =
     record {
-      given = λ l load is. elim (cases_eq l m) [
-        | inl e ↦ (let a = fresh l load is e in let b = newer.last in omega arith)
-        | inr e ↦ (let a = later.given l load (sym (others l e) ∙ is) in let b = newer.last in omega arith)
-      ];
+      given = λ l load is. grind (arith, nat_tests, cases_eq, fresh);
       since = λ l load q is own. elim (newer.owned (record { 0 = l }) q own) [
         | inl there ↦ elim (cases_eq l m) [
           | inl e ↦ absurd (none-owned (plain_of t) whole (record { 0 = l }) q (ap (λ k. option_map load_in (load_at t.loads k)) e ∙ ap (option_map load_in) none) there)

@@ -6,9 +6,7 @@ use Rattle.pagable_tables.proofs.{Left.and_one, Kept.settled, LeastMore.least-mo
 
 -- one handle more on both sides, or on the right
 pub within-less : (a b c d : ℕ → Bool) (rows : List HandleRow) → ((r : ℕ) → one (a r && not (b r)) ≤ one (c r && not (d r))) → IsWithin rows c d → IsWithin rows a b
-within-less a b c d rows less is =
-    let e = sum_by-le-sum_by (λ h. one (a h.number.0 && not (b h.number.0))) (λ h. one (c h.number.0 && not (d h.number.0))) rows (λ h. less h.number.0) in
-    omega arith
+within-less a b c d rows less is = grind (arith, nat_tests, sum_by-le-sum_by)
 
 within-both : (gone given s : ℕ → Bool) (q : ℕ) (rows : List HandleRow) → IsWithin rows gone s → IsWithin rows (and_one given q) s → IsWithin rows (and_one gone q) s
 within-both gone given s q [] a b = refl

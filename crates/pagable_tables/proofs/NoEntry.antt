@@ -29,7 +29,6 @@ none-of p q (x ∷ xs) = grind (arith, nat_tests, none-of p q xs)
 pub none-listed : (old new : Holdings) (x : HandleRow) (wanted listed : Bool) → Leaves old x wanted listed new → is_owned_by Owner.List x ≡ false
     → times (of_list x.number.0) (live old.handles.places.items) ≡ 0
 none-listed old new x wanted listed leaves owner =
-    let a = leaves.sums (λ h. one (of_list x.number.0 h)) in
     let b = ap (times (of_list x.number.0)) leaves.rows in
     let d = times-left (of_list x.number.0) (only_handle x.number) (live old.handles.places.items) in
     let e = none-of (is_owned_by Owner.List) x.number.0 (live old.handles.places.items) in

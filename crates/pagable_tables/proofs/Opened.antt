@@ -1,8 +1,7 @@
 -- A load is opened and closed again. Why a handle can't come while numbers are left.
-use Rattle.pagable_tables.proofs.Words.{◌≡◌, ℕ, ◌<◌, ◌≤◌, Bool, true, false, List, refl, ap, sym, ◌∙◌, arith, Option, Some, None, inl, inr, ◌≢◌, ◌⊎◌, nat_lt, nat_le, nat_tests, Error}
-use Rattle.pagable_tables.proofs.Words.{OptionalDataKey, HandleNumber, LoadNumber, HandleRow, Owner, Mode, if_there, is_owner, is_loose, is_in_memory, pins, Core, Cell, OpenLoad, greatest}
-use Rattle.pagable_tables.proofs.Words.{row_at, rank, earlier, where_so, refused_if, spent, handle_fault, load_fault, closed_fault, OwnsLoad, Refused, Counts, LoadRow, pins_in, cell_in}
-use Rattle.pagable_tables.proofs.Words.{key_in, load_in, option_map}
+use Rattle.pagable_tables.proofs.Words.{◌≡◌, ℕ, ◌<◌, ◌≤◌, Bool, true, false, List, refl, ap, sym, ◌∙◌, arith, Option, Some, None, inl, inr, ◌≢◌, ◌⊎◌, nat_lt, nat_tests, Error, OptionalDataKey}
+use Rattle.pagable_tables.proofs.Words.{HandleNumber, LoadNumber, HandleRow, Owner, Mode, if_there, is_owner, is_loose, is_in_memory, pins, Core, Cell, OpenLoad, greatest, row_at, rank, earlier}
+use Rattle.pagable_tables.proofs.Words.{where_so, refused_if, spent, handle_fault, load_fault, closed_fault, OwnsLoad, Refused, Counts, LoadRow, pins_in, cell_in, key_in, load_in, option_map}
 use Rattle.pagable_tables.proofs.Pins.{owner-self, fault-rank}
 
 -- a load that wasn't open comes and goes
@@ -21,8 +20,7 @@ before-numbers : (e : Error) (so a b : Bool) → rank e ≤ 2 → earlier (Some 
 before-numbers e so a b le = grind (arith, nat_tests)
 
 pub handle-first : (w : Core) (me : Owner) (h : HandleNumber) (fits : Mode → Bool) (e : Error) (so : Bool) (m n : ℕ) → handle_fault w me h fits ≡ Some e → earlier (handle_fault w me h fits) (where_so so (earlier (spent m) (spent n))) ≡ Some e
-handle-first w me h fits e so m n is =
-    ap (λ f. earlier f (where_so so (earlier (spent m) (spent n)))) is ∙ before-numbers e so (nat_le greatest m) (nat_le greatest n) (fault-rank (row_at w h) me fits e is)
+handle-first w me h fits e so m n is = grind (arith, nat_tests, earlier, before-numbers, fault-rank)
 
 -- an own handle that fits has no fault
 pub no-fault : (w : Core) (me : Owner) (h : HandleNumber) (fits : Mode → Bool) (row : HandleRow) → row_at w h ≡ Some row → is_owner me row.owner ≡ true → fits row.mode ≡ true → handle_fault w me h fits ≡ None
@@ -33,9 +31,7 @@ no-begin-fault w me h so none load handle = grind (arith, nat_tests)
 
 -- whether a node of these counts has its value in memory
 pub here-told : (at : ℕ → Option Counts) (rows : List HandleRow) (n : ℕ) (c : Counts) → pins_in (at n) ≡ pins n rows → at n ≡ Some c → is_in_memory (pins n rows) (if_there (λ (cell : Cell). cell.key) OptionalDataKey.None (cell_in (at n))) ≡ is_in_memory c.pins (key_in c.key)
-here-told at rows n c pinned is =
-    ap (λ p. is_in_memory p (if_there (λ (cell : Cell). cell.key) OptionalDataKey.None (cell_in (at n)))) (sym pinned)
-    ∙ ap (λ o. is_in_memory (pins_in o) (if_there (λ (cell : Cell). cell.key) OptionalDataKey.None (cell_in o))) is
+here-told at rows n c pinned is = grind (arith, nat_tests)
 
 -- of two causes the first is told unless the other comes before it
 pub earlier-first : (a x : Option Error) (e : Error) → a ≡ Some e → ((f : Error) → x ≡ Some f → rank e ≤ rank f) → earlier a x ≡ Some e
@@ -59,8 +55,4 @@ open-by w me l other = grind (arith, nat_tests)
 
 -- memory may be told to be wanting where it was asked for only of an own load
 pub told-later : {cause : Option Error} {full : Type 0} {w w' : Core} {e : Error} (me : Owner) (l : LoadNumber) → Refused cause (load_fault w me l) full w e w' → Refused cause (closed_fault w l) full w e w'
-told-later {cause} {full} {w} {w'} {e} me l r = record { why = by r.why; stays = r.stays }
-  where
-    by : (cause ≡ Some e) ⊎ ((e ≡ Error.OutOfMemory) × (load_fault w me l ≡ None) × full) → (cause ≡ Some e) ⊎ ((e ≡ Error.OutOfMemory) × (closed_fault w l ≡ None) × full)
-    by (inl is) = inl is
-    by (inr (memory, may, wanting)) = inr (memory, open-by w me l (λ gone. let a = sym may ∙ gone in cc), wanting)
+told-later {cause} {full} {w} {w'} {e} me l r = grind (arith, nat_tests, open-by)

@@ -1,5 +1,5 @@
 -- Rows in the order of their numbers, and how halving finds one.
-use Rattle.pagable_tables.proofs.Words.{◌≡◌, ℕ, ◌+◌, ◌<◌, ◌≤◌, List, length, get_or, set, ap, sym, ◌∙◌, arith, Some, slice_get, inl, inr, ◌⊎◌, get_or_default, get_or-set_other, length-set}
+use Rattle.pagable_tables.proofs.Words.{◌≡◌, ℕ, ◌+◌, ◌<◌, ◌≤◌, List, length, get_or, set, ap, arith, Some, slice_get, inl, inr, ◌⊎◌, get_or_default, get_or-set_other, length-set, nat_tests}
 use Rattle.pagable_tables.proofs.Words.{get_or-set_at, cases_eq, get_or_from_slice_get, slice_get_within, AllPairs}
 
 split_less : (k m : ℕ) → k < m + 1 → (k < m) ⊎ (k ≡ m)
@@ -33,16 +33,11 @@ le_or_lt a b = grind arith
 -- what is smaller below a place and greater from one that isn't above it on has the number nowhere
 pub outside : {A : Type 0} (f : A → ℕ) (xs : List A) (q low high : ℕ) → high ≤ low → ((k : ℕ) (d : A) → k < low → f (get_or xs k d) < q)
     → ((k : ℕ) (d : A) → high ≤ k → k < length xs → q < f (get_or xs k d)) → (k : ℕ) (d : A) → k < length xs → (f (get_or xs k d) ≡ q → ⊥)
-outside f xs q low high meet below above k d lt e =
-    elim (le_or_lt high k) [ inl from ↦ let a = above k d from lt in absurd (omega arith) | inr before ↦ let b = below k d (omega arith) in absurd (omega arith) ]
+outside f xs q low high meet below above k d lt e = grind (arith, nat_tests, le_or_lt)
 
 -- each row keeps its number
 number-set : {A : Type 0} (f : A → ℕ) (xs : List A) (i : ℕ) (x y : A) (k : ℕ) (d : A) → slice_get xs i ≡ Some x → f y ≡ f x → k < length xs → f (get_or (set xs i y) k d) ≡ f (get_or xs k d)
-number-set f xs i x y k d at same lt =
-    elim (cases_eq k i) [
-      | inl here ↦ ap f (get_or-set_at xs i k y d here (slice_get_within xs i x at)) ∙ same ∙ ap f (sym (get_or_from_slice_get xs i x d at) ∙ ap (λ n. get_or xs n d) (sym here))
-      | inr other ↦ ap f (get_or-set_other xs i k y d other)
-    ]
+number-set f xs i x y k d at same lt = grind (arith, nat_tests, cases_eq, get_or-set_at, slice_get_within, get_or_from_slice_get, get_or-set_other)
 
 -- a row changes, but not its number
 pub rises-set : {A : Type 0} (f : A → ℕ) (xs : List A) (i : ℕ) (x y : A) → AllPairs (λ a b. f a < f b) xs → slice_get xs i ≡ Some x → f y ≡ f x → AllPairs (λ a b. f a < f b) (set xs i y)

@@ -2,7 +2,7 @@
 use Rattle.pagable_tables.proofs.Words.{◌≡◌, ℕ, ◌+◌, ◌<◌, ◌≤◌, ◌==◌, ◌&&◌, true, false, List, [], length, get_or, sum_by, slice_get, refl, arith, Some, None, Option, nat_tests}
 use Rattle.pagable_tables.proofs.Words.{get_or-le-sum_by, sum_by-le-sum_by, ArcRef, HandleNumber, HandleRow, Owner, one, times, find_row, is_handle, is_owner, is_owned_by, Counts, Place}
 use Rattle.pagable_tables.proofs.Words.{live, alive, IsBefore, Fits, owns_nothing, is_valued, AllPairs}
-use Rattle.pagable_tables.proofs.{Alive.none-found, Alive.only-row, Coming.owned-by-none, Fitting.pin_of, Fitting.handle_of, Fitting.is_owned}
+use Rattle.pagable_tables.proofs.{Alive.none-found, Alive.only-row, Coming.owned-by-none}
 
 abbrev pub owned-by : Owner → HandleRow → HandleRow
 owned-by owner x = record x { owner = owner }
@@ -11,16 +11,7 @@ owned-by owner x = record x { owner = owner }
 pub move-fits : (at : ℕ → Option Counts) (refs : ℕ → List ArcRef) (rows rows' : List HandleRow) (top : ℕ) (x : HandleRow) (owner : Owner)
     → ((f : HandleRow → ℕ) → sum_by f rows' + f x ≡ sum_by f rows + f (owned-by owner x)) → is_valued x.owner ≡ false → is_valued owner ≡ false
     → Fits at refs rows top [] owns_nothing → Fits at refs rows' top [] owns_nothing
-move-fits at refs rows rows' top x owner sums from into fits =
-    record {
-      pinned = λ n. let a = fits.pinned n in let b = sums (pin_of n) in omega arith;
-      holding = λ n. let a = fits.holding n in let b = sums (handle_of n) in omega arith;
-      owned = λ n q. let a = fits.owned n q in let b = sums (is_owned n q) in let d = owned-by-none n q x from in let e = owned-by-none n q (owned-by owner x) into in omega arith;
-      chain = fits.chain;
-      marked = fits.marked;
-      right = fits.right;
-      from_one = fits.from_one;
-    }
+move-fits at refs rows rows' top x owner sums from into fits = grind (arith, nat_tests, owned-by-none)
 
 -- the list's owner is none, and what it has is there
 pub list-owner : (o : Owner) → is_owner Owner.List o ≡ true → is_valued o ≡ false

@@ -1,5 +1,5 @@
 -- A handle is pinned, by a Pinned one that is made and by itself. Why an own handle can't be used.
-use Rattle.pagable_tables.proofs.Words.{◌≡◌, ℕ, ◌+◌, ◌<◌, ◌≤◌, Bool, true, false, List, [], ◌∷◌, ◌++◌, refl, ap, sym, ◌∙◌, arith, Option, Some, None, if◌then◌else◌, not, nat_lt, nat_tests}
+use Rattle.pagable_tables.proofs.Words.{◌≡◌, ℕ, ◌<◌, ◌≤◌, Bool, true, false, List, [], ◌∷◌, ◌++◌, refl, ap, sym, ◌∙◌, arith, Option, Some, None, if◌then◌else◌, not, nat_lt, nat_tests}
 use Rattle.pagable_tables.proofs.Words.{Error, HandleNumber, NodeNumber, HandleRow, Owner, Mode, changed, if_there, find_row, is_handle, is_owner, Core, Alike, row_at, earlier, rank}
 use Rattle.pagable_tables.proofs.Words.{refused_if, spent, where_so, handle_fault, Owns, with_handle, with_mode}
 use Rattle.pagable_tables.proofs.{Worlds.same-cache}
@@ -28,8 +28,7 @@ earlier-first e (Some f) late = let a = late f refl in let b : nat_lt (rank f) (
 -- a cause that tells of the handle comes before a later one
 pub handle-first : (w : Core) (me : Owner) (h : HandleNumber) (fits : Mode → Bool) (e : Error) (later : Option Error) → handle_fault w me h fits ≡ Some e
     → ((f : Error) → later ≡ Some f → 2 < rank f) → earlier (handle_fault w me h fits) later ≡ Some e
-handle-first w me h fits e later is late =
-    ap (λ x. earlier x later) is ∙ earlier-first e later (λ f so. let a = fault-rank (row_at w h) me fits e is in let b = late f so in omega arith)
+handle-first w me h fits e later is late = grind (arith, nat_tests, earlier-first, fault-rank)
 
 pub owner-self : (o : Owner) → is_owner o o ≡ true
 owner-self o = grind (arith, nat_tests)

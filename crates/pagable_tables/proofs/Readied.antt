@@ -12,39 +12,21 @@ pub room-still : (w : Core) → OnlyRoom w w
 room-still w = record { same = refl; more = record { handles = omega arith; entries = omega arith } }
 
 pub room-then : {a b c : Core} → OnlyRoom a b → OnlyRoom b c → OnlyRoom a c
-room-then {a} {b} {c} p q =
-    record {
-      same = q.same ∙ ap (λ (u : Core). record u { places = c.places }) p.same;
-      more = let x = p.more in let y = q.more in record { handles = omega (arith, x.handles, y.handles); entries = omega (arith, x.entries, y.entries) };
-    }
+room-then {a} {b} {c} p q = grind (arith, nat_tests)
 
 pub room-alike : {w w' : Core} → OnlyRoom w w' → Alike w w'
 room-alike {w} {w'} o = grind (arith, nat_tests)
 
 -- room that was made before is nothing to what comes
 pub alike-past : {m w' : Core} (p : Places) → HasRoom m.places p → Alike (record m { places = p }) w' → Alike m w'
-alike-past {m} {w'} p more a =
-    record {
-      rows = a.rows;
-      cells = a.cells;
-      list = a.list;
-      cache = record { gives = a.cache.gives; only = a.cache.only };
-      stored = a.stored;
-      closed = a.closed;
-      failures = a.failures;
-      loads = a.loads;
-      workers = a.workers;
-      last = a.last;
-      places = record { handles = let x = more.handles in let y = a.places.handles in omega arith; entries = let x = more.entries in let y = a.places.entries in omega arith };
-    }
+alike-past {m} {w'} p more a = grind (arith, nat_tests)
 
 pub next-past : {w w' : Core} {k : HandleNumber} → OnlyRoom w w' → IsNext k w' → IsNext k w
 next-past {w} {w'} {k} o next = let n = subst (λ (u : Core). IsNext k u) o.same next in record { above = n.above; is_left = n.is_left }
 
 pub born-past : {w w1 w' : Core} (node_type : ℕ) (key : OptionalDataKey) (rs : List ArcRef) (mode : Mode) (me : Owner) → OnlyRoom w w1
     → Alike (with_handle (with_node w1 node_type key rs) (next_node w1) mode me) w' → Alike (with_handle (with_node w node_type key rs) (next_node w) mode me) w'
-born-past {w} {w1} {w'} node_type key rs mode me o a =
-    alike-past w1.places o.more (subst (λ (u : Core). Alike (with_handle (with_node u node_type key rs) (next_node u) mode me) w') o.same a)
+born-past {w} {w1} {w'} node_type key rs mode me o a = grind (arith, nat_tests, alike-past)
 
 -- why references are refused depends on rows and cells alone
 pub fault-by : (w u : Core) (me : Owner) (seen : List ℕ) (rs : List ArcRef) → references_fault (record u { rows = w.rows; cells = w.cells }) me seen rs ≡ references_fault w me seen rs
@@ -61,20 +43,7 @@ pub more-room : (t t' : Tables) → live t'.holdings.handles.places.items ≡ li
     → t' ≡ record t { holdings = record t.holdings { handles = t'.holdings.handles; nodes = t'.holdings.nodes }; cache = t'.cache }
     → vec_capacity t.holdings.handles.places ≤ vec_capacity t'.holdings.handles.places
     → (stored : ℕ → Option Blob) (closed : Bool) (failures : ℕ) → OnlyRoom (core_of t stored closed failures) (core_of t' stored closed failures)
-more-room t t' rows counts known same capacity stored closed failures =
-    record {
-      same = all ∙ ap (λ (p : Places). record w { places = p }) (sym (ap (λ (u : Core). u.places) all));
-      more = record { handles = capacity; entries = let e = ap (λ (u : Tables). vec_capacity u.holdings.list) same in omega arith };
-    }
-  where
-    w : Core
-    w = core_of t stored closed failures
-
-    mid : Core
-    mid = core_of (record t { holdings = record t.holdings { handles = t'.holdings.handles; nodes = t'.holdings.nodes }; cache = t'.cache }) stored closed failures
-
-    all : core_of t' stored closed failures ≡ record w { places = mid.places }
-    all = grind (arith, nat_tests)
+more-room t t' rows counts known same capacity stored closed failures = grind (arith, nat_tests)
 
 -- they stay whole
 pub room-whole : (t t' : Tables) → IsWhole t → AreSound t'.holdings.handles → places.IsNext (t'.holdings.last_handle + 1) t'.holdings.handles.places.items
@@ -90,11 +59,7 @@ room-whole t t' whole sound next rows counts refs top room =
     new = t'.holdings
 
     fits : Fits (counts_at new.nodes) (refs_at new.nodes) (live new.handles.places.items) new.top [] owns_nothing
-    fits =
-        subst (λ k. Fits (counts_at new.nodes) (refs_at new.nodes) (live new.handles.places.items) k [] owns_nothing) (sym top)
-        (subst (λ r. Fits (counts_at new.nodes) (refs_at new.nodes) r old.top [] owns_nothing) (sym rows)
-        (subst (λ f. Fits f (refs_at new.nodes) (live old.handles.places.items) old.top [] owns_nothing) (λ i n. sym (counts n) i)
-        (subst (λ f. Fits (counts_at old.nodes) f (live old.handles.places.items) old.top [] owns_nothing) (λ i n. sym (refs n) i) whole.steady.fits)))
+    fits = grind (arith, nat_tests, new, old)
 
 holder-past : (w : Core) (p : Places) (me : Owner) → MayHold w me → MayHold (record w { places = p }) me
 holder-past w p Owner.Caller h = h

@@ -1,6 +1,6 @@
 -- A handle is made of the node that the cache gives.
-use Rattle.pagable_tables.proofs.Words.{◌≡◌, ℕ, true, ap, ◌∙◌, subst, Ok, Err, Some, inl, inr, is_some, Error, HandleNumber, NodeNumber, Kind, Owner, Mode, mode_of, Core, usable, Alike}
-use Rattle.pagable_tables.proofs.Words.{where_so, spent, with_handle, is_usable, recall_fault, RecallCall, Makes}
+use Rattle.pagable_tables.proofs.Words.{◌≡◌, ℕ, true, ap, subst, Ok, Err, Some, is_some, Error, HandleNumber, NodeNumber, Kind, Owner, Mode, mode_of, Core, usable, Alike}
+use Rattle.pagable_tables.proofs.Words.{where_so, spent, with_handle, is_usable, recall_fault, RecallCall, Makes, arith, nat_tests}
 
 module _ (w : Core) (me : Owner) (kind : Kind) (key : ℕ) (node : NodeNumber) (mode : Mode) (w' : Core)
     (is : usable w kind.0 key ≡ Some node.0) (fits : mode ≡ mode_of kind.0) where
@@ -14,8 +14,4 @@ module _ (w : Core) (me : Owner) (kind : Kind) (key : ℕ) (node : NodeNumber) (
   recalls k m = record { answers = (node.0, is, m.made.0, subst (λ x. Alike (with_handle w node x me) w') fits m.made.1); refused = tt }
 
   pub not-recalled : (e : Error) → Makes w node mode me (Err e) w' → RecallCall w me kind key (Err e) w'
-  not-recalled e m =
-      record {
-        answers = tt;
-        refused = record { why = elim m.refused.why [ inl a ↦ inl (cause ∙ a) | inr b ↦ inr (b.0, cause ∙ b.1, (so, b.2)) ]; stays = m.refused.stays };
-      }
+  not-recalled e m = grind (arith, nat_tests, cause, so)

@@ -1,6 +1,6 @@
 -- One handle more has gone: what rows are left, where no entry is that handle.
-use Rattle.pagable_tables.proofs.Words.{◌≡◌, ℕ, ◌+◌, ◌&&◌, Bool, not, List, ◌++◌, ap, ◌∙◌, append_assoc, filter-append, HandleRow, times, is_handle, Core, left_rows, only_handle, Holdings}
-use Rattle.pagable_tables.proofs.Words.{live, entries_of, is_listing, Leaves, GivesUp, SoFar}
+use Rattle.pagable_tables.proofs.Words.{◌≡◌, ℕ, ◌+◌, ◌&&◌, Bool, List, ◌++◌, ap, ◌∙◌, append_assoc, filter-append, HandleRow, times, is_handle, Core, left_rows, only_handle, Holdings}
+use Rattle.pagable_tables.proofs.Words.{live, entries_of, is_listing, Leaves, GivesUp, SoFar, arith, nat_tests}
 use Rattle.pagable_tables.proofs.Left.{and_one, left-more, left-none}
 
 rows-leaves : (rows entries : List HandleRow) (gone : ℕ → Bool) (old new : Holdings) (x : HandleRow) (wanted listed : Bool) → Leaves old x wanted listed new
@@ -8,8 +8,7 @@ rows-leaves : (rows entries : List HandleRow) (gone : ℕ → Bool) (old new : H
     → live new.handles.places.items ≡ left_rows (and_one gone x.number.0) rows ++ (entries ++ entries_of listed (old.last_handle + 1) x.node)
 rows-leaves rows entries gone old new x wanted listed leaves is none =
     let last : leaves.between.last_handle ≡ old.last_handle = ap (λ (t : Holdings). t.last_handle) leaves.same in
-    let split : left_rows (only_handle x.number) (left_rows gone rows ++ entries) ≡ left_rows (only_handle x.number) (left_rows gone rows) ++ left_rows (only_handle x.number) entries =
-    filter-append (λ (h : HandleRow). not (only_handle x.number h.number.0)) (left_rows gone rows) entries in
+    let split : left_rows (only_handle x.number) (left_rows gone rows ++ entries) ≡ left_rows (only_handle x.number) (left_rows gone rows) ++ left_rows (only_handle x.number) entries = grind (arith, nat_tests, filter-append) in
     let left : live leaves.between.handles.places.items ≡ left_rows (and_one gone x.number.0) rows ++ entries =
     leaves.rows ∙ ap (left_rows (only_handle x.number)) is ∙ split ∙ ap (λ r. r ++ left_rows (only_handle x.number) entries) (left-more gone x.number.0 rows)
     ∙ ap (λ r. left_rows (and_one gone x.number.0) rows ++ r) (left-none x.number.0 entries none) in

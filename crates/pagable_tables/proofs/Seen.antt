@@ -1,7 +1,6 @@
 -- Handles that are named one after the other.
-use Rattle.pagable_tables.proofs.Words.{◌≡◌, ℕ, ◌+◌, ◌<◌, ◌==◌, ◌||◌, true, false, List, [], ◌∷◌, length, get_or, drop, refl, ap, sym, ◌∙◌, arith, suc, zero, Option, Some, None, not}
-use Rattle.pagable_tables.proofs.Words.{nat_tests, HandleNumber, at_drop_more, at_drop_all, Error, HandleRow, Owner, is_in, if_there, is_owner, find_row, Core, named_fault, refused_if}
-use Rattle.pagable_tables.proofs.Words.{earlier, seen, named_at}
+use Rattle.pagable_tables.proofs.Words.{◌≡◌, ℕ, ◌+◌, ◌<◌, ◌==◌, ◌||◌, true, false, List, [], ◌∷◌, length, get_or, drop, refl, ap, sym, ◌∙◌, arith, suc, zero, Option, Some, None, not, nat_tests}
+use Rattle.pagable_tables.proofs.Words.{HandleNumber, at_drop_more, at_drop_all, Error, HandleRow, Owner, is_in, if_there, is_owner, find_row, Core, named_fault, refused_if, earlier, seen, named_at}
 
 pub in-none : (hs : List HandleNumber) (q : ℕ) → is_in (seen hs 0) q ≡ false
 unfolding is_in seen

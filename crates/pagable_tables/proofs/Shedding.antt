@@ -1,5 +1,5 @@
 -- Values that go as nodes fall.
-use Rattle.pagable_tables.proofs.Words.{◌≡◌, ℕ, Bool, true, false, [], refl, sym, ◌∙◌, arith, inl, inr, None, Option, if◌then◌else◌, ◌⊎◌, is_some, nat_tests, Counts, Holdings, counts_at}
+use Rattle.pagable_tables.proofs.Words.{◌≡◌, ℕ, Bool, true, false, [], refl, sym, ◌∙◌, arith, inl, None, Option, if◌then◌else◌, ◌⊎◌, is_some, nat_tests, Counts, Holdings, counts_at}
 use Rattle.pagable_tables.proofs.Words.{IsFalling, ValueStays, Sheds, falls_in, has_value, owns_nothing}
 
 -- the value that a node had is there or gone, and it is there exactly where the node has it, unless the node falls
@@ -21,13 +21,7 @@ module _ {X : Type 0} where
 
   -- one after another
   pub sheds-then : {at at1 at2 : ℕ → Option Counts} {old mid new : ℕ → Option X} → Sheds at old at1 mid → Sheds at1 mid at2 new → Sheds at old at2 new
-  sheds-then {old = old} {mid} {new} a b =
-      record {
-        left = λ kept n.
-            let l = a.left kept in
-            let m = b.left (λ k falls. (l k).1) n in
-            (elim m.0 [ inl eq ↦ elim (l n).0 [ inl e ↦ inl (eq ∙ e) | inr e ↦ inr (eq ∙ e) ] | inr eq ↦ inr eq ], m.1);
-      }
+  sheds-then {old = old} {mid} {new} a b = grind (arith, nat_tests)
 
   -- what takes no value comes first
   pub stays-first : {at at1 at2 : ℕ → Option Counts} {old new : ℕ → Option X} → ((n : ℕ) → ValueStays (at n) (at1 n)) → Sheds at1 old at2 new → Sheds at old at2 new

@@ -1,5 +1,5 @@
 -- How many steps are enough, and where no node falls.
-use Rattle.pagable_tables.proofs.Words.{◌≡◌, ℕ, ◌≤◌, Bool, true, false, List, [], ◌∷◌, length, ap, sym, ◌∙◌, subst, arith, ◌≢◌, sum_by-cons, HandleRow, one, live, counts_at, refs_at, Fits}
+use Rattle.pagable_tables.proofs.Words.{◌≡◌, ℕ, ◌≤◌, Bool, true, false, List, [], ◌∷◌, length, ap, sym, ◌∙◌, arith, ◌≢◌, sum_by-cons, HandleRow, one, live, counts_at, refs_at, Fits, nat_tests}
 use Rattle.pagable_tables.proofs.Words.{IsFalling, falls_in, is_valued, valued, owns_nothing, Holdings}
 use Rattle.pagable_tables.proofs.Fitting.{first-waits}
 
@@ -16,8 +16,7 @@ pub none-falls : (t : Holdings) (stack : List ℕ) → IsFalling t stack owns_no
 none-falls t [] w z = w
 none-falls t (n ∷ ns) w z =
     let top : t.top ≡ n = w.fits.chain.0 in
-    let f : Fits (counts_at t.nodes) (refs_at t.nodes) (live t.handles.places.items) n (n ∷ ns) owns_nothing =
-    subst (λ m. Fits (counts_at t.nodes) (refs_at t.nodes) (live t.handles.places.items) m (n ∷ ns) owns_nothing) top w.fits in
+    let f : Fits (counts_at t.nodes) (refs_at t.nodes) (live t.handles.places.items) n (n ∷ ns) owns_nothing = grind (arith, nat_tests) in
     let waits = first-waits (counts_at t.nodes) (refs_at t.nodes) (live t.handles.places.items) n ns owns_nothing f in
     let zero' : n ≡ 0 = sym top ∙ z in
     absurd (let a : falls_in (counts_at t.nodes n) ≡ false = ap (λ k. falls_in (counts_at t.nodes k)) zero' ∙ ap falls_in f.from_one in cc)

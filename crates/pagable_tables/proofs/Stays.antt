@@ -1,12 +1,11 @@
 -- A handle that comes and pins stays, while others that are given go with all that follows.
-use Rattle.pagable_tables.proofs.Words.{◌≡◌, ℕ, ◌<◌, ◌≤◌, ◌==◌, ◌&&◌, ◌++◌, Bool, true, false, not, if◌then◌else◌, List, [], ◌∷◌, refl, ap, sym, ◌∙◌, subst, arith, inl, inr, None, ◌⊎◌}
-use Rattle.pagable_tables.proofs.Words.{nat_eq, Result, Ok, Err, AllPairs, nat_tests, cases_eq, sum_by-le-sum_by, sum_by_push, sum_by-append, Error, HandleRow, Among, if_there, one, times}
-use Rattle.pagable_tables.proofs.Words.{is_loose_kind, is_owner, mode_of, is_at, is_pin, is_share, is_pinning, is_owned_by, owner_value, held, pins, sharing, Core, Places, HasRoom, Alike}
-use Rattle.pagable_tables.proofs.Words.{IsHandleBefore, HandlesAreWhole, references_fault, is_owned_in, ArcRef, IsLeast, IsWithin, IsClosed, loses_value, pins_outside, held_outside}
-use Rattle.pagable_tables.proofs.Words.{owned_outside, is_outside, is_keyed, left_rows, MustList, TellsListing, IsPlaceWanting, IsListRefusal, Falls, is_named_by, is_valued, LoadNumber}
-use Rattle.pagable_tables.proofs.Words.{Owner}
-use Rattle.pagable_tables.proofs.{Coming.no-value, Regiven.loaded, Regiven.passes-here, Regiven.passes-none, Left.times-left, Dropped.owned-given, keeps.BirthCalls.named-mine}
-use Rattle.pagable_tables.proofs.{keeps.Rows.counted, keeps.Rows.at-most-sum, keeps.Rows.once, keeps.Rows.among-last, Pins.owner-self}
+use Rattle.pagable_tables.proofs.Words.{◌≡◌, ℕ, ◌<◌, ◌≤◌, ◌==◌, ◌&&◌, ◌++◌, Bool, true, false, not, if◌then◌else◌, List, [], ◌∷◌, refl, ap, sym, ◌∙◌, subst, arith, inl, inr, None, ◌⊎◌, nat_eq}
+use Rattle.pagable_tables.proofs.Words.{Result, Ok, Err, AllPairs, nat_tests, cases_eq, sum_by-le-sum_by, sum_by_push, sum_by-append, Error, HandleRow, Among, if_there, one, times, is_loose_kind}
+use Rattle.pagable_tables.proofs.Words.{is_owner, mode_of, is_at, is_pin, is_pinning, is_owned_by, owner_value, held, pins, sharing, Core, Places, HasRoom, Alike, IsHandleBefore, HandlesAreWhole}
+use Rattle.pagable_tables.proofs.Words.{references_fault, is_owned_in, ArcRef, IsLeast, IsWithin, IsClosed, loses_value, pins_outside, held_outside, owned_outside, is_outside, is_keyed, left_rows}
+use Rattle.pagable_tables.proofs.Words.{MustList, TellsListing, IsPlaceWanting, IsListRefusal, Falls, is_named_by, is_valued, LoadNumber, Owner}
+use Rattle.pagable_tables.proofs.{Coming.no-value, Regiven.loaded, Regiven.passes-here, Regiven.passes-none, Left.times-left, Dropped.owned-given, keeps.BirthCalls.named-mine, keeps.Rows.counted}
+use Rattle.pagable_tables.proofs.{keeps.Rows.at-most-sum, keeps.Rows.once, keeps.Rows.among-last, Pins.owner-self}
 
 zero-or : (n : ℕ) → (n ≡ 0) ⊎ (0 < n)
 zero-or n = elim (cases_eq n 0) [ inl e ↦ inl e | inr e ↦ inr (omega arith) ]
@@ -100,12 +99,7 @@ stays-pinned w u w' given r x rows ordered plain pinning kept falls n none = spl
         let kept : falls.gone x.number.0 ≡ false = stands in
         let here : one (is_pin n x && not (falls.gone x.number.0)) ≡ 1 = grind (arith, nat_tests) in
         absurd (omega arith)
-    split false e =
-        let a = ap (pins n) rows ∙ sum_by_push (λ h. one (is_pin n h)) w.rows x in
-        let b = ap (sharing n) rows ∙ sum_by_push (λ h. one (is_share n h)) w.rows x in
-        let c : one (is_pin n x) ≡ 0 = grind (arith, nat_tests) in
-        let d : one (is_share n x) ≡ 0 = grind (arith, nat_tests) in
-        (omega arith, omega arith)
+    split false e = grind (arith, nat_tests, sum_by_push)
 
 -- a world that is told alike, with the same cache, has but more room
 pub retold : (u b : Core) → Alike u b → b.cache ≡ u.cache → b ≡ record u { places = b.places }

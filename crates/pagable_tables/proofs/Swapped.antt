@@ -1,9 +1,9 @@
 -- A handle comes, and then another is given up: the new one stays, so that cells are listed as of the world before it came.
-use Rattle.pagable_tables.proofs.Words.{◌≡◌, ℕ, ◌+◌, ◌<◌, ◌≤◌, ◌==◌, ◌&&◌, Bool, true, false, [], ◌∷◌, refl, ap, sym, ◌∙◌, subst, arith, Ok, Err, Option, None, inl, inr, if◌then◌else◌}
+use Rattle.pagable_tables.proofs.Words.{◌≡◌, ℕ, ◌+◌, ◌<◌, ◌≤◌, ◌==◌, ◌&&◌, Bool, true, false, [], ◌∷◌, refl, ap, ◌∙◌, arith, Ok, Err, Option, None, inl, inr, if◌then◌else◌}
 use Rattle.pagable_tables.proofs.Words.{Result, not, nat_eq, nat_tests, sum_by_push, sum_by-append, sum_by-le-sum_by, Error, NodeNumber, HandleRow, Owner, Mode, Blob, Among, one, times}
 use Rattle.pagable_tables.proofs.Words.{is_handle, is_at, is_pin, is_share, is_pinning, is_shared, is_owner, is_owned_by, owner_value, held, pins, sharing, HandleNumber, Core, Last, Alike}
 use Rattle.pagable_tables.proofs.Words.{Falls, IsClosed, IsWithin, MustList, TellsListing, is_keyed, nobody, pins_outside, held_outside, left_rows, row_of, with_handle, Counts, Tables, live}
-use Rattle.pagable_tables.proofs.Words.{counts_at, ValueStays, cell_in, has_value, is_valued, pins_in, SoFar, is_plain_pin, core_of}
+use Rattle.pagable_tables.proofs.Words.{counts_at, ValueStays, cell_in, has_value, is_valued, pins_in, SoFar, core_of}
 use Rattle.pagable_tables.specs.Core.{IsWhole}
 use Rattle.pagable_tables.proofs.{Begun.begins, Begun.begun, Left.times-left, Shedding.none-falls-in, keeps.Rests.within-goes, keeps.Rows.among-both, keeps.Rows.among-one}
 use Rattle.pagable_tables.proofs.{keeps.Rows.among-last, keeps.Rows.at-most-sum, keeps.Rows.sum-none}
@@ -135,10 +135,7 @@ module _ (t new : Tables) (stored : ℕ → Option Blob) (failures : ℕ) (node 
         open_storage = refl;
         fewer = λ n. omega arith;
         shared = λ n. omega arith;
-        uniform = λ n. elim (b.uniform n) [
-          | inl none ↦ inl (sym (ap (sharing n) a.rows) ∙ none)
-          | inr none ↦ inr (sym (ap (times (is_plain_pin n)) a.rows) ∙ none)
-        ];
+        uniform = λ n. grind (arith, nat_tests);
         listed = λ q. let d = ap (times (λ (h : HandleNumber). h.0 == q)) a.list in let e = ap (times (λ h. is_handle q h && is_owned_by Owner.List h)) a.rows in let f = b.listed q in omega arith;
       })
       a.rows a.list (ap (λ (l : Last). l.handle) a.last) after.core.handles.within.0 (record { handles = a.places.handles; entries = a.places.entries }) a.cells refl
@@ -146,13 +143,4 @@ module _ (t new : Tables) (stored : ℕ → Option Blob) (failures : ℕ) (node 
 
   -- and no value came or went
   pub values-made : IsWhole t → (is_pinning mode ≡ true → has_value (counts_at t.holdings.nodes node.0) ≡ true) → (n : ℕ) → ValueStays (counts_at t.holdings.nodes n) (counts_at new.holdings.nodes n)
-  values-made was there n falls = (
-    none-falls-in t.holdings was.steady n,
-    same-value (counts_at t.holdings.nodes n) (counts_at new.holdings.nodes n) (is_pin n (row_of (t.holdings.last_handle + 1) node mode me)) (a.cells n)
-        (let p = was.steady.fits.pinned n in let q = after.steady.fits.pinned n in let s = ap (pins n) a.rows in let c = sum_by_push (λ h. one (is_pin n h)) (live t.holdings.handles.places.items) (row_of (t.holdings.last_handle + 1) node mode me) in omega arith)
-        (λ is. at (node.0 == n) is refl),
-  )
-    where
-      at : (b : Bool) → (b && is_pinning mode) ≡ true → (node.0 == n) ≡ b → has_value (counts_at t.holdings.nodes n) ≡ true
-      at true is e = let m : node.0 ≡ n = grind (arith, nat_tests) in subst (λ i. has_value (counts_at t.holdings.nodes i) ≡ true) m (there is)
-      at false is e = absurd (cc)
+  values-made was there n falls = grind (arith, nat_tests, none-falls-in, same-value, sum_by_push, live)

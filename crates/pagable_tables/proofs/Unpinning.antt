@@ -1,9 +1,8 @@
 -- A handle has let its pin go and stays: what has gone and come so far.
-use Rattle.pagable_tables.proofs.Words.{◌≡◌, ℕ, ◌+◌, ◌<◌, ◌≤◌, ◌&&◌, Bool, true, false, not, if◌then◌else◌, List, [], ◌∷◌, ◌++◌, length, filter, ap, sym, ◌∙◌, subst, arith, inl, inr, Option}
-use Rattle.pagable_tables.proofs.Words.{Some, None, slice_get, ◌≢◌, Result, Ok, Err, vec_capacity, nat_tests, append-nil, length-append, length-map, Error, HandleNumber, HandleRow, Owner}
-use Rattle.pagable_tables.proofs.Words.{Mode, Blob, one, times, is_pin, is_share, is_handle, is_owned_by, pins, sharing, Core, greatest, with_mode, left_rows, MustList, TellsListing}
-use Rattle.pagable_tables.proofs.Words.{IsListRefusal, nobody, Tables, Holdings, live, alive, entries_of, first_cause, IsUnlisted, unpinned, Lowers, with_tables, told_by, is_plain_pin}
-use Rattle.pagable_tables.proofs.Words.{Begins, SoFar, core_of}
+use Rattle.pagable_tables.proofs.Words.{◌≡◌, ℕ, ◌+◌, ◌<◌, ◌≤◌, ◌&&◌, Bool, true, false, not, if◌then◌else◌, List, [], ◌∷◌, ◌++◌, length, filter, ap, sym, ◌∙◌, subst, arith, inl, inr, Option, Some}
+use Rattle.pagable_tables.proofs.Words.{None, slice_get, ◌≢◌, Result, Ok, Err, nat_tests, append-nil, length-append, length-map, Error, HandleNumber, HandleRow, Owner, Mode, Blob, one, times}
+use Rattle.pagable_tables.proofs.Words.{is_pin, is_share, is_handle, is_owned_by, pins, sharing, Core, greatest, with_mode, left_rows, MustList, TellsListing, IsListRefusal, nobody, Tables}
+use Rattle.pagable_tables.proofs.Words.{Holdings, live, alive, entries_of, first_cause, IsUnlisted, unpinned, Lowers, with_tables, told_by, Begins, SoFar, core_of}
 use Rattle.pagable_tables.specs.Core.{IsWhole}
 use Rattle.pagable_tables.proofs.{Alive.row-le-live, Begun.begun-whole, Begun.none-within, Going.entry-number, Going.new-more, Going.long-one, Going.within-more, Going.ones, Left.left-all}
 use Rattle.pagable_tables.proofs.{Left.all-kept, Leaving.with-entry, Wanted.listing-is, Wanted.entry-pins, Telling.only-more, Telling.tells-more, Telling.refusal-now}
@@ -51,8 +50,7 @@ module _ (T : Tables) (stored : ℕ → Option Blob) (closed lists : Bool) (fail
         shared = λ n. let a = l.sums (λ h. one (is_share n h)) in let b = ap (sharing n) l.rows in let z : one (is_share n (unpinned x)) ≡ 0 = grind (arith, nat_tests) in omega arith;
         uniform = λ n. elim (f.begins.uniform n) [
           | inl none ↦ inl none
-          | inr none ↦ inr (let a = l.sums (λ h. one (is_plain_pin n h)) in let b = ap (times (is_plain_pin n)) l.rows in
-              let z : one (is_plain_pin n (unpinned x)) ≡ 0 = grind (arith, nat_tests) in omega arith)
+          | inr none ↦ grind (arith, nat_tests)
         ];
         listed = λ q. let a = l.sums (λ h. one (is_handle q h && is_owned_by Owner.List h)) in
             let b = ap (times (λ h. is_handle q h && is_owned_by Owner.List h)) l.rows in let d = f.begins.listed q in omega arith;
@@ -68,9 +66,7 @@ module _ (T : Tables) (stored : ℕ → Option Blob) (closed lists : Bool) (fail
   last = let a : new.last_handle ≡ l.between.last_handle = ap (λ (h : Holdings). h.last_handle) l.same in let b = l.comes.comes.last in let d = since in omega arith
 
   rows : live new.handles.places.items ≡ left_rows nobody now.rows ++ entries_of l.listed (t.last_handle + 1) x.node
-  rows =
-      after-rows ∙ l.comes.comes.rows ∙ ap (λ k. live l.lowered.handles.places.items ++ entries_of l.listed (k + 1) x.node) since
-      ∙ ap (λ r. r ++ entries_of l.listed (t.last_handle + 1) x.node) (l.rows ∙ sym (left-all now.rows))
+  rows = grind (arith, nat_tests, after-rows, since, left-all)
 
   abbrev came : List HandleNumber
   came = if l.listed then record { 0 = t.last_handle + 1 } ∷ [] else []
@@ -88,16 +84,7 @@ module _ (T : Tables) (stored : ℕ → Option Blob) (closed lists : Bool) (fail
   long = let a = l.sums (λ h. 1) in let b = ones (live l.lowered.handles.places.items) in let d = ones (live t.handles.places.items) in omega arith
 
   wanting : (e : Error) → l.listed ≡ false → IsUnlisted l.lowered e → IsListRefusal old (with_tables old new) e
-  wanting e none why =
-      let listed = ap one none in
-      let k = last in
-      let s = since in
-      let p = l.places in
-      let list : length l.lowered.list.items ≡ length t.list.items = ap (λ (h : Holdings). length h.list.items) l.handles in
-      let more = ap length added in
-      let longer = length-append t.list.items came in
-      let m = long in
-      refusal-now old l.lowered new e why (omega arith) (omega arith) (omega arith) (omega arith) (omega arith) (omega arith)
+  wanting e none why = grind (arith, nat_tests, last, since, added, length-append, long, refusal-now)
 
   told : TellsListing old old (entries_of l.listed (t.last_handle + 1) x.node) (told_by new.unlisted) (with_tables old new)
   told =
@@ -124,12 +111,7 @@ module _ (T : Tables) (stored : ℕ → Option Blob) (closed lists : Bool) (fail
             (sym (entry-number l.listed (t.last_handle + 1) x.node));
         last = last ∙ ap (λ k. t.last_handle + k) (sym (long-one l.listed (t.last_handle + 1) x.node));
         within = subst (λ k. k ≤ greatest) (sym last) (within-more l.listed t.last_handle whole.core.handles.within.0 (λ y. subst (λ k. k < greatest) since (l.comes.comes.left y)));
-        places =
-            let p = l.places in
-            let q = l.comes.comes.places in
-            let a = ap (λ (h : Holdings). vec_capacity h.handles.places) l.same in
-            let b = ap (λ (h : Holdings). vec_capacity h.list) l.same in
-            record { handles = omega arith; entries = omega arith };
+        places = grind (arith, nat_tests);
         cells = λ n there. (l.cells n there).1;
         holds = none-within nobody now.rows;
         least = λ s final bare has closed. none-within s now.rows;

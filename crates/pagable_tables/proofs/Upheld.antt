@@ -21,9 +21,7 @@ module _ (w : Core) (me : Owner) (l : LoadNumber) (node_type : ℕ) (refs : List
 
   -- it is open
   pub opens : w.loads l.0 ≡ None → ⊥
-  opens gone =
-      let a = sym (ap (if_there (λ (load : OpenLoad). refused_if (not (is_owner me load.owner)) Error.NotYours) (Some Error.NoSuchHandle)) gone) ∙ parts.0 in
-      cc
+  opens gone = grind (arith, nat_tests, parts)
 
   module _ (load : OpenLoad) (is : w.loads l.0 ≡ Some load) where
     rooted : root_fault w me node_type load.root ≡ None

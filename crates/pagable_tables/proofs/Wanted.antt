@@ -1,8 +1,7 @@
 -- A handle has gone and an entry may have come: which cells must be listed then, and what is told of it.
-use Rattle.pagable_tables.proofs.Words.{◌≡◌, ℕ, ◌+◌, ◌≤◌, ◌&&◌, Bool, true, false, not, if◌then◌else◌, refl, ap, sym, ◌∙◌, arith, inl, inr, Option, Some, ◌⊎◌, is_some, nat_lt, cases_Bool}
-use Rattle.pagable_tables.proofs.Words.{and_parts, nat_tests, sum_by-append, OptionalDataKey, NodeNumber, HandleRow, Owner, Mode, one, times, if_there, is_pin, is_share, is_shared}
-use Rattle.pagable_tables.proofs.Words.{is_pinning, pins, has_key, Core, Cell, is_keyed, MustList, Counts, Holdings, live, counts_at, pins_in, cell_in, entry, is_listing, with_tables}
-use Rattle.pagable_tables.proofs.Words.{is_plain_pin, SoFar}
+use Rattle.pagable_tables.proofs.Words.{◌≡◌, ℕ, ◌+◌, ◌≤◌, ◌&&◌, Bool, true, false, not, if◌then◌else◌, refl, ap, sym, ◌∙◌, arith, inl, inr, Option, Some, ◌⊎◌, is_some, nat_lt, cases_Bool, and_parts}
+use Rattle.pagable_tables.proofs.Words.{nat_tests, sum_by-append, OptionalDataKey, NodeNumber, HandleRow, Owner, Mode, one, times, if_there, is_pin, is_share, is_shared, is_pinning, pins, has_key}
+use Rattle.pagable_tables.proofs.Words.{Core, Cell, is_keyed, MustList, Counts, Holdings, live, counts_at, pins_in, cell_in, entry, is_listing, with_tables, is_plain_pin, SoFar}
 use Rattle.pagable_tables.proofs.{Left.left-le, Left.entries-none, Forced.keyed-cell}
 
 -- what a listing handle is: the last pin of a cell without a key
@@ -18,9 +17,7 @@ entry-pins true k n node = grind (arith, nat_tests)
 entry-pins false k n node = refl
 
 cell-keyed : (o : Option Counts) (c : Counts) (cell : Option Cell) → o ≡ Some c → (is_some o ≡ true → cell_in o ≡ cell) → has_key (if_there (λ (c : Cell). c.key) OptionalDataKey.None cell) ≡ nat_lt 0 c.key
-cell-keyed o c cell is same =
-    let there : cell_in o ≡ cell = same (ap is_some is) in
-    ap (λ (o : Option Cell). has_key (if_there (λ (c : Cell). c.key) OptionalDataKey.None o)) (sym there ∙ ap cell_in is) ∙ keyed-cell c.key
+cell-keyed o c cell is same = grind (arith, nat_tests, keyed-cell)
 
 not-closed : (lists closed : Bool) → lists ≡ not closed → lists ≡ true → closed ≡ false
 not-closed lists true e l = absurd (cc)
@@ -50,9 +47,7 @@ module _ (before w : Core) (given : ℕ → Bool) (lists : Bool) (t : Holdings) 
       let a = ap pins_in is in
       let b = no-more (is_pin n) (λ h mode owner. grind (arith, nat_tests)) in
       let d = f.begins.fewer n in
-      let some : pins n (live t.handles.places.items) ≡ 1 = sym pinned ∙ a ∙ l.2 in
       let p = no-more (is_plain_pin n) (λ h mode owner. grind (arith, nat_tests)) in
-      let h = here (is_plain_pin n) in
       let plain : one (is_plain_pin n x) ≡ 1 = grind (arith, nat_tests) in
       record {
         pinned = omega arith;
@@ -84,11 +79,6 @@ module _ (before w : Core) (given : ℕ → Bool) (lists : Bool) (t : Holdings) 
           let at : n ≡ x.node.0 = grind (arith, nat_tests) in
           let pinning : is_pinning x.mode ≡ true = grind (arith, nat_tests) in
           let a = no-more (is_share n) (λ h mode owner. let m : is_shared h.mode ≡ false = ap is_shared mode in grind (arith, nat_tests)) in
-          let b = f.begins.shared n in
-          let d = here (is_share n) in
-          let z = must.unshared in
-          let y = must.unpinned in
-          let some : one (is_share n x) ≡ 0 = omega arith in
           let unshared : is_shared x.mode ≡ false = grind (arith, nat_tests) in
           let o = ap one pin in
           let p : c.pins ≡ 1 = sym (ap pins_in is) ∙ pinned ∙ ap (λ m. pins m (live t.handles.places.items)) (sym at) ∙ (omega arith) in

@@ -1,5 +1,5 @@
 -- Two worlds that are told alike.
-use Rattle.pagable_tables.proofs.Words.{true, ◌≡◌, ℕ, ◌&&◌, List, refl, ap, sym, ◌∙◌, arith, Option, Some, None, if◌then◌else◌, not, Result, Error, HandleNumber, Owner, nat_tests, CloneCall}
+use Rattle.pagable_tables.proofs.Words.{true, ◌≡◌, ℕ, ◌&&◌, List, arith, Option, Some, None, if◌then◌else◌, not, Result, Error, HandleNumber, Owner, nat_tests, CloneCall}
 use Rattle.pagable_tables.proofs.Words.{Makes, is_pinned_kind, if_there, SameAt, pins, is_in_memory, is_owner, Core, Cell, SameCache, Alike, HasRoom, row_at, HandleRow}
 
 -- what an entry of the cache gives where its node is this cell
@@ -11,45 +11,15 @@ pub usable-same : (rows rows' : List HandleRow) (cells cells' : ℕ → Option C
 usable-same rows rows' cells cells' kind found found' e same is = grind (arith, nat_tests)
 
 pub same-cache : (w w' : Core) → w'.rows ≡ w.rows → SameAt w.cells w'.cells → ((kind key : ℕ) → w'.cache kind key ≡ w.cache kind key) → SameCache w w'
-same-cache w w' e same is =
-    record {
-      gives = λ kind key. usable-same w.rows w'.rows w.cells w'.cells kind (w.cache kind key) (w'.cache kind key) e same (is kind key);
-      only = λ kind key n h. sym (is kind key) ∙ h;
-    }
+same-cache w w' e same is = grind (arith, nat_tests, usable-same)
 
 pub still : (w : Core) → Alike w w
-still w =
-    record {
-      rows = refl;
-      cells = λ n. refl;
-      list = refl;
-      cache = same-cache w w refl (λ n. refl) (λ kind key. refl);
-      stored = λ q. refl;
-      closed = refl;
-      failures = refl;
-      loads = λ l. refl;
-      workers = λ v. refl;
-      last = refl;
-      places = record { handles = omega arith; entries = omega arith };
-    }
+still w = grind (arith, nat_tests, same-cache)
 
 -- rows, cells and room may be told anew
 pub alike : (w w' : Core) → w'.rows ≡ w.rows → SameAt w.cells w'.cells → HasRoom w.places w'.places
     → w' ≡ record w { rows = w'.rows; cells = w'.cells; places = w'.places } → Alike w w'
-alike w w' rows cells places same =
-    record {
-      rows = rows;
-      cells = cells;
-      list = ap (λ (u : Core). u.list) same;
-      cache = same-cache w w' rows cells (λ kind key. ap (λ (u : Core). u.cache kind key) same);
-      stored = λ q. ap (λ (u : Core). u.stored q) same;
-      closed = ap (λ (u : Core). u.closed) same;
-      failures = ap (λ (u : Core). u.failures) same;
-      loads = λ l. ap (λ (u : Core). u.loads l) same;
-      workers = λ v. ap (λ (u : Core). u.workers v) same;
-      last = ap (λ (u : Core). u.last) same;
-      places = places;
-    }
+alike w w' rows cells places same = grind (arith, nat_tests, same-cache)
 
 -- a handle that is made of a live handle's node, in its mode, is a clone
 pub clones : (w : Core) (me : Owner) (h : HandleNumber) (row : HandleRow) (r : Result HandleNumber Error) (w' : Core) → row_at w h ≡ Some row → Makes w row.node row.mode me r w'

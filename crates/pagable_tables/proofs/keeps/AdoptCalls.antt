@@ -1,12 +1,11 @@
 -- Calls by which a load goes on keep the world whole.
-use Rattle.pagable_tables.proofs.Words.{◌≡◌, ℕ, ◌+◌, ◌<◌, ◌==◌, ◌%◌, Bool, true, false, if◌then◌else◌, List, [], Ok, Err, Some, None, inl, inr, refl, ap, sym, ◌∙◌, arith, Result, is_some}
-use Rattle.pagable_tables.proofs.Words.{nat_tests, OptionalDataKey, Error, ArcRef, HandleNumber, Kind, LoadNumber, Owner, type_of, is_loose_kind, is_shared, mode_of, has_key, Core, greatest}
-use Rattle.pagable_tables.proofs.Words.{references_fault, OwnsLoad, row_of, next_node, with_handle, with_node, with_cached, is_named_by, GetsKnown, adopted, first_key, LazyCall, AdoptCall}
-use Rattle.pagable_tables.proofs.Words.{IsWhole, IsEntryWhole, ArePlaced, MayHold}
-use Rattle.pagable_tables.proofs.{keeps.Rows.among-last, keeps.Told.roomy, keeps.Told.settles, keeps.Told.alike-whole, keeps.Comes.type_in, keeps.Comes.handle-on, keeps.Fallen.may-fall}
-use Rattle.pagable_tables.proofs.{keeps.Opened.opened, keeps.Opened.alike-opened, keeps.Opened.falls-opened, keeps.Opened.references-opened, keeps.CacheCalls.mode-shared}
-use Rattle.pagable_tables.proofs.{keeps.CacheCalls.known-whole, keeps.CacheCalls.cached-whole, keeps.CacheCalls.shared-alike, keeps.BirthCalls.born, keeps.BirthCalls.born-whole}
-use Rattle.pagable_tables.proofs.{keeps.BirthCalls.cell-new, keeps.BirthCalls.no-references, keeps.BirthCalls.moved-world}
+use Rattle.pagable_tables.proofs.Words.{◌≡◌, ℕ, ◌+◌, ◌<◌, Bool, true, false, if◌then◌else◌, List, [], Ok, Err, None, inl, inr, refl, ap, ◌∙◌, arith, Result, is_some, nat_tests, OptionalDataKey}
+use Rattle.pagable_tables.proofs.Words.{Error, ArcRef, HandleNumber, Kind, LoadNumber, Owner, type_of, is_loose_kind, is_shared, mode_of, has_key, Core, greatest, references_fault, OwnsLoad, row_of}
+use Rattle.pagable_tables.proofs.Words.{next_node, with_handle, with_node, with_cached, is_named_by, GetsKnown, adopted, first_key, LazyCall, AdoptCall, IsWhole, IsEntryWhole, ArePlaced, MayHold}
+use Rattle.pagable_tables.proofs.{keeps.Rows.among-last, keeps.Told.roomy, keeps.Told.settles, keeps.Told.alike-whole, keeps.Comes.handle-on, keeps.Fallen.may-fall, keeps.Opened.opened}
+use Rattle.pagable_tables.proofs.{keeps.Opened.alike-opened, keeps.Opened.falls-opened, keeps.Opened.references-opened, keeps.CacheCalls.mode-shared, keeps.CacheCalls.known-whole}
+use Rattle.pagable_tables.proofs.{keeps.CacheCalls.cached-whole, keeps.CacheCalls.shared-alike, keeps.BirthCalls.born, keeps.BirthCalls.born-whole, keeps.BirthCalls.cell-new}
+use Rattle.pagable_tables.proofs.keeps.BirthCalls.{no-references, moved-world}
 
 -- an open load may hold
 load-holds : {w : Core} {me : Owner} {l : LoadNumber} (load : _) → OwnsLoad w me l load → MayHold w (Owner.Load l)
@@ -31,8 +30,7 @@ module _ (w : Core) (whole : IsWhole (opened w)) (l : LoadNumber) (kind : Kind) 
   new-entry =
       record {
         given = omega arith;
-        typed = λ t is. let e : Some t ≡ Some (type_of kind.0) = sym is
-            ∙ ap type_in (cell-new whole (type_of kind.0) own refs (mode_of kind.0) (Owner.Load l) (Owner.Load l) refl good holder node_left left unkeyed) in cc;
+        typed = λ t is. grind (arith, nat_tests, cell-new);
         shares = λ h among at.
             shared-alike now-whole h (row_of (w.last.handle + 1) (next_node w) (mode_of kind.0) (Owner.Load l)) among
             (among-last (moved-world whole (type_of kind.0) own refs (mode_of kind.0) (Owner.Load l) (Owner.Load l) refl good holder node_left left unkeyed).rows _) at
@@ -50,8 +48,7 @@ module _ (w : Core) (whole : IsWhole (opened w)) (l : LoadNumber) (kind : Kind) 
       at false = cached-whole {w = roomy now} kind key (next_node w) now-whole refl new-entry
 
 loose-plain : (kind : ℕ) → is_loose_kind kind ≡ true → is_shared (mode_of kind) ≡ true → ⊥
-loose-plain kind loose shared = let a : (kind % 3 == 1) ≡ true = loose in let b : (kind % 3 == 0) ≡ true = sym (mode-shared kind) ∙ shared in let c : kind % 3 ≡ 1 = grind (arith, nat_tests) in
-    let d : kind % 3 ≡ 0 = grind (arith, nat_tests) in absurd (omega arith)
+loose-plain kind loose shared = grind (arith, nat_tests, mode-shared)
 
 pub lazy-whole : {w w' : Core} (me : Owner) (l : LoadNumber) (kind : Kind) (key : ℕ) (r : Result HandleNumber Error) → IsWhole (opened w) → LazyCall w me l kind key r w' → ArePlaced (opened w')
     → IsWhole (opened w')

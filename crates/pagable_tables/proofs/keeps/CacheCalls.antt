@@ -1,11 +1,10 @@
 -- Calls on the cache and on room keep the world whole.
 use Rattle.pagable_tables.proofs.Words.{◌≡◌, ℕ, ◌<◌, ◌==◌, ◌&&◌, Bool, true, false, if◌then◌else◌, Ok, Err, Option, Some, None, inl, inr, refl, ap, sym, subst, ◌∙◌, arith, Result, is_some}
-use Rattle.pagable_tables.proofs.Words.{nat_lt, nat_tests, Error, HandleNumber, Kind, NodeNumber, HandleRow, Owner, Mode, one, Among, type_of, is_shared_kind, held, sharing, is_at, is_share}
-use Rattle.pagable_tables.proofs.Words.{is_shared, fits_mode, mode_of, Core, Cell, greatest, usable, only_handle, ClearCall, ReserveCall, RecallCall, OfferCall, with_cached, with_known}
-use Rattle.pagable_tables.proofs.Words.{IsWhole, IsEntryWhole, ArePlaced, MayHold, Suits}
+use Rattle.pagable_tables.proofs.Words.{nat_tests, Error, HandleNumber, Kind, NodeNumber, HandleRow, Owner, Mode, one, Among, is_shared_kind, sharing, is_share, is_shared, fits_mode, mode_of, Core}
+use Rattle.pagable_tables.proofs.Words.{Cell, greatest, usable, only_handle, ClearCall, ReserveCall, RecallCall, OfferCall, with_cached, with_known, IsWhole, IsEntryWhole, ArePlaced, MayHold, Suits}
 use Rattle.pagable_tables.proofs.{keeps.Rows.at-most-sum, keeps.Rows.counted, keeps.Rows.found-among, keeps.Told.roomy, keeps.Told.roomy-whole, keeps.Told.settles, keeps.Told.told-whole}
-use Rattle.pagable_tables.proofs.{keeps.Told.alike-whole, keeps.Told.may-own, keeps.Comes.type_in, keeps.Comes.beside, keeps.Comes.handle-on, keeps.Comes.unshared-node}
-use Rattle.pagable_tables.proofs.{keeps.Fallen.may-fall, keeps.Fallen.falls-whole}
+use Rattle.pagable_tables.proofs.{keeps.Told.alike-whole, keeps.Told.may-own, keeps.Comes.type_in, keeps.Comes.beside, keeps.Comes.handle-on, keeps.Comes.unshared-node, keeps.Fallen.may-fall}
+use Rattle.pagable_tables.proofs.keeps.Fallen.{falls-whole}
 
 pub clear-whole : {w w' : Core} (r : Result (Unit {0}) Error) → IsWhole w → ClearCall w r w' → ArePlaced w' → IsWhole w'
 clear-whole {w} {w'} r whole call placed = let a = call.leaves in
@@ -28,15 +27,7 @@ usable-is w kind key n is = grind (arith, nat_tests)
 
 -- so the mode of its kind suits the node
 pub known-suits : {w : Core} → IsWhole w → (kind key n : ℕ) → usable w kind key ≡ Some n → Suits w (record { 0 = n }) (mode_of kind)
-known-suits {w} whole kind key n is =
-    let a = usable-is w kind key n is in
-    let b : nat_lt 0 (held n w.rows) ≡ true = sym (whole.handles.live n) ∙ a.1 in
-    let found = counted (λ h. one (is_at n h)) w.rows (grind (arith, nat_tests)) in
-    let at : found.0.node.0 ≡ n = one-at (found.0.node.0) found.2 in
-    record { row = found.0; there = found.1; at = ap (λ k. record { 0 = k }) at; shared = (whole.cache kind key n a.0).shares found.0 found.1 at ∙ sym (mode-shared kind) }
-  where
-    one-at : (m : ℕ) → 0 < one (m == n) → m ≡ n
-    one-at m some = grind (arith, nat_tests)
+known-suits {w} whole kind key n is = grind (arith, nat_tests, usable-is, counted, mode-shared)
 
 pub known-whole : {w : Core} (kind : Kind) (key n : ℕ) (owner : Owner) → IsWhole w → usable w kind.0 key ≡ Some n → MayHold w owner → w.last.handle < greatest
     → IsWhole (roomy (with_known w kind n owner))
@@ -94,11 +85,7 @@ offer-whole {w} me kind key h (Ok None) whole holder call placed =
     let (row, owns, typed, offers) = call.answers in
     let (stands_open, none, leaves) = offers in
     let there = (found-among h.0 w.rows row owns.live).0 in
-    let entry : IsEntryWhole w kind.0 row.node.0 = record {
-      given = (whole.handles.nodes_numbered row.node.0 (some-typed (w.cells row.node.0) typed)).1;
-      typed = λ t is. let e : Some t ≡ Some (type_of kind.0) = sym is ∙ typed in cc;
-      shares = λ x among at. shared-alike whole x row among there at ∙ fits-shared kind.0 row.mode owns.as_asked;
-    } in
+    let entry : IsEntryWhole w kind.0 row.node.0 = grind (arith, nat_tests, some-typed, shared-alike, fits-shared) in
     settles (roomy-whole (cached-whole kind key row.node whole stands_open entry)) leaves placed
   where
     some-typed : {t : ℕ} (cell : Option Cell) → type_in cell ≡ Some t → is_some cell ≡ true

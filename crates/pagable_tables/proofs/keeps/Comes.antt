@@ -103,8 +103,7 @@ module _ {w : Core} (whole : IsWhole w) (x : HandleRow) (cells : ℕ → Option 
         typed = λ t is. e.typed t (old-type n t e.given is);
         shares = λ h among at. elim (among-both w.rows (x ∷ []) h among) [
           | inl old ↦ e.shares h old at
-          | inr new ↦ let same = among-one x h new in
-              ap (λ (y : HandleRow). is_shared y.mode) same ∙ shares kind (subst (IsEntryWhole w kind) (sym at ∙ ap (λ (y : HandleRow). y.node.0) same) e)
+          | inr new ↦ grind (arith, nat_tests, among-one)
         ];
       }
 
@@ -118,10 +117,7 @@ module _ {w : Core} (whole : IsWhole w) (x : HandleRow) (cells : ℕ → Option 
             | inl old ↦ let a = h.numbered y old in (a.0, omega arith)
             | inr new ↦ let a = ap (λ (z : HandleRow). z.number.0) (among-one x y new) in (omega arith, omega arith)
           ];
-          nodes_numbered = λ n some. elim (cases_eq n x.node.0) [
-            | inl e ↦ (omega arith, omega arith)
-            | inr other ↦ let a = h.nodes_numbered n (sym (ap is_some (others n other)) ∙ some) in (a.0, omega arith)
-          ];
+          nodes_numbered = λ n some. grind (arith, nat_tests, cases_eq);
           within = let (a, b, c) = h.within in (omega arith, omega arith, c);
           live = grown-live;
           uniform = grown-uniform;
@@ -179,16 +175,7 @@ module _ {w : Core} (whole : IsWhole w) (node : NodeNumber) (mode : Mode) (suits
 
 -- no node has fewer handles by one that comes
 pub handle-on : (w : Core) (node : NodeNumber) (mode : Mode) (owner : Owner) → GoesOn w (with_handle w node mode owner)
-handle-on w node mode owner =
-    record {
-      cells = λ n is. is;
-      rows = λ n.
-          let x = row_of (w.last.handle + 1) node mode owner in
-          let a = sum_by_push (λ h. one (is_at n h)) w.rows x in
-          let b = sum_by_push (λ h. one (is_share n h)) w.rows x in
-          let c = share-le (node.0 == n) (is_shared mode) in
-          omega arith;
-    }
+handle-on w node mode owner = grind (arith, nat_tests, sum_by_push, share-le)
 
 -- a node with a handle that isn't Shared has none that is
 pub unshared-node : {w : Core} → IsWhole w → (row : HandleRow) → Among w.rows row → is_shared row.mode ≡ false → sharing row.node.0 w.rows ≡ 0

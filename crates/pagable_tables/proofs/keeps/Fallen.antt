@@ -1,5 +1,5 @@
 -- The world is whole once handles have fallen.
-use Rattle.pagable_tables.proofs.Words.{◌≡◌, ℕ, suc, zero, ◌+◌, ◌<◌, ◌≤◌, ◌==◌, ◌&&◌, Bool, true, false, not, List, [], ◌∷◌, ◌++◌, length, filter, if◌then◌else◌, Option, Some, None, inl}
+use Rattle.pagable_tables.proofs.Words.{◌≡◌, ℕ, suc, zero, ◌+◌, ◌<◌, ◌≤◌, ◌==◌, ◌&&◌, Bool, true, false, not, List, [], ◌∷◌, length, filter, if◌then◌else◌, Option, Some, None, inl}
 use Rattle.pagable_tables.proofs.Words.{inr, refl, ap, sym, subst, ◌∙◌, arith, ◌⊎◌, map, is_some, nat_lt, Result, nat_tests, AllPairs-filter, sum_by-append, Error, HandleNumber, LoadNumber}
 use Rattle.pagable_tables.proofs.Words.{NodeNumber, HandleRow, Owner, Mode, one, Among, times, is_shared_kind, held, pins, sharing, is_at, is_share, is_shared, is_loose, is_handle}
 use Rattle.pagable_tables.proofs.Words.{is_owned_by, Core, Cell, greatest, Falls, fallen, left_rows, IsWithin, AreNewEntries, IsHandleBefore, HandlesAreWhole, OwnersAreThere, LoadsAreWhole}
@@ -76,11 +76,7 @@ module _ {before u : Core} {given : ℕ → Bool} (may : MayFall before u given)
       at (suc k) e = (entered n (omega arith)).0
 
   after-live : (n : ℕ) → is_some (after.cells n) ≡ nat_lt 0 (held n after.rows)
-  after-live n = at (nat_lt 0 (held n after.rows)) refl
-    where
-      at : (b : Bool) → nat_lt 0 (held n after.rows) ≡ b → is_some (if b then u.cells n else None) ≡ b
-      at true e = there n (grind (arith, nat_tests))
-      at false e = refl
+  after-live n = grind (arith, nat_tests, there)
 
   share-narrow : (n : ℕ) (h : HandleRow) → one (is_share n h) ≤ one (is_at n h)
   share-narrow n h = grind (arith, nat_tests)
@@ -149,7 +145,6 @@ module _ {before u : Core} {given : ℕ → Bool} (may : MayFall before u given)
               let found = counted (λ h. one (lists q h)) u.rows (omega arith) in
               let number = lists-only q found.0 (one-true (lists q found.0) found.2) in
               let f = within-goes u.rows given gone found.0 within found.1 (ap given number ∙ is) in
-              let g : true ≡ false = sym f ∙ ap gone number ∙ e in
               absurd (cc)
             where
               one-true : (b : Bool) → 0 < one b → b ≡ true
@@ -206,12 +201,10 @@ module _ {before u : Core} {given : ℕ → Bool} (may : MayFall before u given)
           let b : (h.node.0 == n) ≡ true = grind (arith, nat_tests) in
           let c : one (is_at n h) ≡ 1 = ap one b in
           let d = entered n (omega arith) in
-          let f : nat_lt 0 (held n u.rows) ≡ true = sym (may.handles.live n) ∙ d.0 in
           let g = counted (λ x. one (is_at n x)) u.rows (grind (arith, nat_tests)) in
           let y : HandleRow = g.0 in
           let k : (y.node.0 == n) ≡ true = one-true (is_at n y) g.2 in
           let l = at-most-sum (λ x. one (is_share n x)) u.rows y g.1 in
-          let m = d.1 in
           sym (e.shares y g.1 (grind (arith, nat_tests))) ∙ none-of (y.node.0 == n) (is_shared y.mode) k (omega arith)
         where
           one-true : (b : Bool) → 0 < one b → b ≡ true
@@ -247,11 +240,7 @@ module _ {before u : Core} {given : ℕ → Bool} (may : MayFall before u given)
         };
         cache = λ kind key n is. after-entry kind n (may.cache kind key n is);
         workers_numbered = may.workers_numbered;
-        shut = λ closed. let s = may.shut closed in (
-          ap (λ (l : List HandleNumber). filter (λ (q : HandleNumber). not (gone q.0)) l ++ map (λ (h : HandleRow). h.number) entries) s.0
-              ∙ ap (map (λ (h : HandleRow). h.number)) (no-entry closed),
-          s.1,
-        );
+        shut = λ closed. grind (arith, nat_tests, no-entry);
       }
 
 pub falls-whole : {before u w' : Core} {given : ℕ → Bool} {r : Result (Unit {0}) Error} → MayFall before u given → Falls before u given r w' → ArePlaced w' → IsWhole w'

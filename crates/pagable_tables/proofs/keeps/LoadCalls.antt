@@ -1,5 +1,5 @@
 -- Calls on loads keep the world whole.
-use Rattle.pagable_tables.proofs.Words.{◌≡◌, ℕ, ◌<◌, ◌+◌, ◌==◌, Bool, true, false, Ok, Err, Option, Some, None, inl, inr, refl, ap, sym, subst, ◌∙◌, arith, if◌then◌else◌, ◌⊎◌, Result}
+use Rattle.pagable_tables.proofs.Words.{◌≡◌, ℕ, ◌<◌, ◌+◌, ◌==◌, true, Ok, Err, Option, Some, None, inl, inr, refl, ap, sym, subst, ◌∙◌, arith, ◌⊎◌, Result}
 use Rattle.pagable_tables.proofs.Words.{is_some, nat_tests, Error, HandleNumber, NodeNumber, Beginning, Owner, updated, HandleRow, Mode, is_loose, Core, Cell, OpenLoad, Root, of_cell}
 use Rattle.pagable_tables.proofs.Words.{of_key, greatest, type_at, Owns, with_handle, with_load, IsNextLoad, BeginCall, BeginKeyCall, IsWhole, MayOwnLoad, IsRootWhole, ArePlaced, MayHold}
 use Rattle.pagable_tables.proofs.{keeps.Rows.found-among, keeps.Comes.type_in, keeps.Comes.beside, keeps.HandleCalls.loose-unshared, keeps.Told.roomy, keeps.Told.roomy-whole}
@@ -9,18 +9,10 @@ use Rattle.pagable_tables.proofs.{keeps.Told.settles, keeps.Told.alike-whole, ke
 
 -- what is there under a number is the new one or was there
 at-updated : {X : Type 0} (l : ℕ) (new : X) (f : ℕ → Option X) (q : ℕ) (x : X) → updated l (Some new) f q ≡ Some x → ((q ≡ l) × (new ≡ x)) ⊎ (f q ≡ Some x)
-at-updated {X} l new f q x is = at (q == l) refl is
-  where
-    at : (b : Bool) → (q == l) ≡ b → (if b then Some new else f q) ≡ Some x → ((q ≡ l) × (new ≡ x)) ⊎ (f q ≡ Some x)
-    at true e is = inl (grind (arith, nat_tests), cc)
-    at false e is = inr is
+at-updated {X} l new f q x is = grind (arith, nat_tests)
 
 some-updated : {X : Type 0} (l : ℕ) (new : X) (f : ℕ → Option X) (q : ℕ) → is_some (f q) ≡ true → is_some (updated l (Some new) f q) ≡ true
-some-updated {X} l new f q is = at (q == l)
-  where
-    at : (b : Bool) → is_some (if b then Some new else f q) ≡ true
-    at true = refl
-    at false = is
+some-updated {X} l new f q is = grind (arith, nat_tests)
 
 is-updated : {X : Type 0} (l : ℕ) (new : Option X) (f : ℕ → Option X) → updated l new f l ≡ new
 is-updated l new f = let e : (l == l) ≡ true = grind (arith, nat_tests) in rw e refl

@@ -1,6 +1,6 @@
 -- Handles move to another owner.
 use Rattle.pagable_tables.proofs.Words.{◌≡◌, ℕ, ◌==◌, ◌&&◌, Bool, true, false, if◌then◌else◌, List, [], refl, ap, sym, subst, ◌∙◌, is_some, HandleNumber, LoadNumber, HandleRow, Owner, Mode}
-use Rattle.pagable_tables.proofs.Words.{one, Among, times, is_shared, is_loose, is_handle, is_owner, is_owned_by, owner_value, Core, moved, IsWhole, MayHold, arith, nat_tests}
+use Rattle.pagable_tables.proofs.Words.{Among, times, is_shared, is_loose, is_handle, is_owner, is_owned_by, owner_value, Core, moved, IsWhole, MayHold, arith, nat_tests}
 use Rattle.pagable_tables.proofs.{keeps.Rows.among-map, keeps.Rows.sum-map, keeps.Told.roomy, keeps.GoingOn.GoesOn, keeps.GoingOn.changed-on, keeps.Turned.turned-whole}
 use Rattle.pagable_tables.proofs.{keeps.Turned.same-held, keeps.Turned.same-sharing}
 
@@ -60,9 +60,7 @@ module _ {w : Core} (whole : IsWhole w) (s : ℕ → Bool) (owner : Owner) where
   -- what the list has of a number stays where none of its handles moves, nor to it
   pub still-lists : ((x : HandleRow) → Among w.rows x → s x.number.0 ≡ true → is_owned_by Owner.List x ≡ false) → is_owner Owner.List owner ≡ false → (q : ℕ)
       → times (lists q) (moved s owner w.rows) ≡ times (lists q) w.rows
-  still-lists mine other q =
-      sum-map (λ x. one (lists q x)) (λ x. one (lists q x)) to-owner w.rows
-      (λ x among. each-moved (λ y. one (lists q y) ≡ one (lists q x)) x (λ e. ap (λ b. one (is_handle q x && b)) (other ∙ sym (mine x among e))) (λ e. refl))
+  still-lists mine other q = grind (arith, nat_tests, sum-map, each-moved)
 
 -- to the value of a node, or to one who may hold
 module _ {w : Core} (whole : IsWhole w) (s : ℕ → Bool) (mine : (x : HandleRow) → Among w.rows x → s x.number.0 ≡ true → is_owned_by Owner.List x ≡ false) where

@@ -1,26 +1,13 @@
 -- A world as it would be with the storage open: of it all is whole that is whole of tables, whether the storage was closed or not.
 use Rattle.pagable_tables.proofs.Words.{◌≡◌, ℕ, Bool, false, List, [], ◌∷◌, refl, ap, Result, Error, ArcRef, Owner, or_else, Core, Alike, references_fault, reference_fault, Falls, IsWhole}
-use Rattle.pagable_tables.proofs.Words.{ArePlaced}
+use Rattle.pagable_tables.proofs.Words.{ArePlaced, arith, nat_tests}
 use Rattle.pagable_tables.proofs.{keeps.Told.settles, keeps.Fallen.MayFall, keeps.Fallen.fallen-whole}
 
 abbrev pub opened : Core → Core
 opened w = record w { closed = false }
 
 pub alike-opened : {w w' : Core} → Alike w w' → Alike (opened w) (opened w')
-alike-opened a =
-    record {
-      rows = a.rows;
-      cells = a.cells;
-      list = a.list;
-      cache = record { gives = a.cache.gives; only = a.cache.only };
-      stored = a.stored;
-      closed = refl;
-      failures = a.failures;
-      loads = a.loads;
-      workers = a.workers;
-      last = a.last;
-      places = a.places;
-    }
+alike-opened a = grind (arith, nat_tests)
 
 -- what has fallen leaves it whole
 pub falls-opened : {before u w' : Core} {given : ℕ → Bool} {r : Result (Unit {0}) Error} → MayFall (opened before) (opened u) given → Falls before u given r w' → ArePlaced (opened w')

@@ -86,8 +86,7 @@ entries-listed q last (x ∷ xs) new =
     let rest = entries-listed q (last + 1) xs new.3 in
     let a = sum_by-cons (λ (h : HandleNumber). one (h.0 == q)) x.number (map (λ (h : HandleRow). h.number) xs) in
     let b = sum_by-cons (λ h. one (is_handle q h && is_owned_by Owner.List h)) x xs in
-    let c : one (is_handle q x) ≡ one (is_handle q x && is_owned_by Owner.List x) = sym
-    (ap (λ (o : Owner). one (is_handle q x && is_owned_by Owner.List (record x { owner = o }))) new.2 ∙ and-true (is_handle q x)) in
+    let c : one (is_handle q x) ≡ one (is_handle q x && is_owned_by Owner.List x) = grind (arith, nat_tests, and-true) in
     omega arith
   where
     and-true : (b : Bool) → one (b && true) ≡ one b
@@ -102,13 +101,11 @@ ordered-entries last rows [] few new ordered = subst (λ r. AllPairs IsHandleBef
     append-none [] = refl
     append-none (x ∷ xs) = ap (λ r. x ∷ r) (append-none xs)
 ordered-entries last rows (x ∷ xs) few new ordered =
-    let n = new.0 in
     subst (λ r. AllPairs IsHandleBefore r) (append_assoc rows (x ∷ []) xs)
     (ordered-entries (last + 1) (rows ++ x ∷ []) xs
     (λ h among. elim (among-both rows (x ∷ []) h among) [
       | inl old ↦ let a = few h old in omega arith
-      | inr new-one ↦ let a = among-one x h new-one in
-          let b = ap (λ (y : HandleRow). y.number.0) a in omega arith
+      | inr new-one ↦ grind (arith, nat_tests, among-one)
     ])
     new.3
     (ordered-push rows x (λ h among. let a = few h among in omega arith) ordered))

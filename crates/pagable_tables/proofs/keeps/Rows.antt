@@ -1,6 +1,6 @@
 -- Rows, one by one and counted, as they come and change.
 use Rattle.pagable_tables.proofs.Words.{◌≡◌, ℕ, suc, zero, ◌<◌, ◌≤◌, ◌==◌, Bool, true, false, List, [], ◌∷◌, ◌++◌, sum_by, filter, if◌then◌else◌, Some, slice_get, get_or, inl, inr, refl, ap}
-use Rattle.pagable_tables.proofs.Words.{sym, subst, ◌∙◌, arith, ◌⊎◌, map, cases_order, nat_tests, get_or-map, length-map, sum_by-cons, sum_by-le-sum_by, all_pairs_push}
+use Rattle.pagable_tables.proofs.Words.{sym, ◌∙◌, arith, ◌⊎◌, map, cases_order, nat_tests, get_or-map, length-map, sum_by-cons, sum_by-le-sum_by, all_pairs_push}
 use Rattle.pagable_tables.proofs.Words.{get_or_from_slice_get, slice_get_within, slice_get-get_or, HandleRow, Among, find_row, is_handle, IsHandleBefore, AllPairs}
 
 -- ---- one by one
@@ -71,11 +71,7 @@ sum-map f g to (x ∷ xs) h = grind (arith, nat_tests, sum_by-cons, sum-map f g 
 
 -- nothing at each element, so in sum
 pub sum-none : {X : Type 0} (f : X → ℕ) (xs : List X) → ((x : X) → Among xs x → f x ≡ 0) → sum_by f xs ≡ 0
-sum-none f xs none = at (sum_by f xs) refl
-  where
-    at : (n : ℕ) → sum_by f xs ≡ n → sum_by f xs ≡ 0
-    at zero e = e
-    at (suc n) e = let c = counted f xs (omega arith) in let a = none c.0 c.1 in let b = c.2 in absurd (omega arith)
+sum-none f xs none = grind (arith, nat_tests, counted)
 
 -- ---- numbers
 
@@ -85,11 +81,7 @@ found-among q [] row found = absurd (cc)
 found-among q (h ∷ hs) row found = at (found-among q hs row) (is_handle q h) refl found
   where
     at : (find_row q hs ≡ Some row → Among hs row × (row.number.0 ≡ q)) → (b : Bool) → is_handle q h ≡ b → (if b then Some h else find_row q hs) ≡ Some row → Among (h ∷ hs) row × (row.number.0 ≡ q)
-    at rest true is found = let e : h ≡ row = cc in (
-      (zero, ap (λ (x : HandleRow). Some x) e),
-      let f : (row.number.0 == q) ≡ true = subst (λ (x : HandleRow). is_handle q x ≡ true) e is in
-          grind (arith, nat_tests),
-    )
+    at rest true is found = grind (arith, nat_tests)
     at rest false is found = let r = rest found in ((suc r.0.0, r.0.1), r.1)
 
 -- one row has a number
@@ -115,8 +107,6 @@ ordered-map to rows same ordered j k d less lt =
     let a = ap (λ (h : HandleRow). h.number.0) (get_or-map to rows j d d (omega arith)) in
     let b = ap (λ (h : HandleRow). h.number.0) (get_or-map to rows k d d (omega arith)) in
     let o = ordered j k d less (omega arith) in
-    let e = same (get_or rows j d) in
-    let f = same (get_or rows k d) in
     omega arith
 
 pub ordered-push : (rows : List HandleRow) (row : HandleRow) → ((h : HandleRow) → Among rows h → h.number.0 < row.number.0) → AllPairs IsHandleBefore rows → AllPairs IsHandleBefore (rows ++ row ∷ [])

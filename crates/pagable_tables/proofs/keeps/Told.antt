@@ -63,27 +63,10 @@ module _ {m w' : Core} (whole : IsWhole m) (rows : w'.rows ≡ m.rows) (cells : 
       }
 
   told-entry : (kind n : ℕ) → IsEntryWhole m kind n → IsEntryWhole w' kind n
-  told-entry kind n e =
-      record {
-        given = let a = e.given in let b = ap (λ (l : Last). l.node) last in omega arith;
-        typed = λ t is. e.typed t (sym (ap type_in (cells n)) ∙ is);
-        shares = λ h among at. e.shares h (subst (λ r. Among r h) rows among) at;
-      }
+  told-entry kind n e = grind (arith, nat_tests)
 
   pub told-whole : IsWhole w'
-  told-whole =
-      record {
-        handles = told-handles;
-        owners_there = told-owners;
-        loads = told-loads;
-        cache = λ kind key n is. told-entry kind n (whole.cache kind key n (cache kind key n is));
-        workers_numbered = λ v is. let a = whole.workers_numbered v (sym (workers v) ∙ is) in let k = ap (λ (l : Last). l.worker) last in omega arith;
-        shut = λ so. let s = whole.shut (sym closed ∙ so) in (list ∙ s.0, λ kind key. none-known (w'.cache kind key) (λ n is. sym (s.1 kind key) ∙ cache kind key n is));
-      }
-    where
-      none-known : (found : Option ℕ) → ((n : ℕ) → found ≡ Some n → None ≡ Some n) → found ≡ None
-      none-known None h = refl
-      none-known (Some n) h = let e = h n refl in absurd (cc)
+  told-whole = grind (arith, nat_tests, told-handles, told-owners, told-loads, told-entry)
 
 pub roomy-whole : {w : Core} → IsWhole w → IsWhole (roomy w)
 roomy-whole {w} whole = told-whole {m = w} {w' = roomy w} whole refl (λ n. refl) refl (λ kind key n is. is) refl (λ l. refl) (λ v. refl) refl (record { rows = omega arith; list = omega arith })

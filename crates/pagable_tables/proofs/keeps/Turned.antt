@@ -1,6 +1,6 @@
 -- Rows that change, each under its own number and of its own node.
 use Rattle.pagable_tables.proofs.Words.{◌≡◌, ℕ, ◌==◌, ◌&&◌, true, false, if◌then◌else◌, List, [], Some, refl, ap, sym, subst, ◌∙◌, arith, ◌⊎◌, is_some, nat_lt, map, nat_tests, HandleNumber}
-use Rattle.pagable_tables.proofs.Words.{NodeNumber, HandleRow, Owner, Mode, one, Among, held, sharing, is_at, is_share, is_shared, is_loose, is_handle, is_owned_by, Core, row_at, with_mode}
+use Rattle.pagable_tables.proofs.Words.{NodeNumber, HandleRow, Owner, Mode, one, Among, held, sharing, is_at, is_shared, is_loose, is_handle, is_owned_by, Core, row_at, with_mode}
 use Rattle.pagable_tables.proofs.Words.{OwnersAreThere, IsRootWhole, IsEntryWhole, IsWhole}
 use Rattle.pagable_tables.proofs.{keeps.Rows.among-map, keeps.Rows.among-to, keeps.Rows.sum-map, keeps.Rows.found-among, keeps.Rows.found-map, keeps.Rows.once, keeps.Rows.ordered-map}
 use Rattle.pagable_tables.proofs.{keeps.Told.roomy, keeps.Told.may-own, keeps.GoingOn.GoesOn, keeps.GoingOn.changed-on}
@@ -15,8 +15,7 @@ module _ {w : Core} (whole : IsWhole w) (to : HandleRow → HandleRow) (list : L
   same-held n = sum-map (λ h. one (is_at n h)) (λ h. one (is_at n h)) to w.rows (λ h among. ap (λ (k : NodeNumber). one (k.0 == n)) (node h))
 
   pub same-sharing : (n : ℕ) → sharing n turned.rows ≡ sharing n w.rows
-  same-sharing n = sum-map (λ h. one (is_share n h)) (λ h. one (is_share n h)) to w.rows
-      (λ h among. ap (λ (k : NodeNumber). one (k.0 == n && is_shared (to h).mode)) (node h) ∙ ap (λ b. one (h.node.0 == n && b)) (shared h among))
+  same-sharing n = grind (arith, nat_tests, sum-map)
 
   turned-root : (n : NodeNumber) (t : ℕ) (h : HandleNumber) → IsRootWhole w n t h → IsRootWhole turned n t h
   turned-root n t h r =

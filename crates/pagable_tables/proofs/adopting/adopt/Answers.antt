@@ -1,4 +1,4 @@
-use Rattle.pagable_tables.proofs.Words.{ℕ, ap, sym, subst, ◌∙◌, not, None, is_some, IndexMap, Alike, adopted, Adopts, load_at, LoadRow, core_of, plain_of}
+use Rattle.pagable_tables.proofs.Words.{ℕ, ap, sym, ◌∙◌, not, None, is_some, IndexMap, Adopts, load_at, LoadRow, core_of, plain_of, arith, nat_tests}
 use Rattle.pagable_tables.proofs.{Adoptions.adopts-new, Adoptions.adopts-whole, Adoptions.fitting, Adoptions.owner-of, Adoptions.early-stored, Begun.not-closed, Newer.adopt-newer}
 use Rattle.pagable_tables.proofs.{Newer.later-so, keeps.Placed.whole-so}
 use Rattle.pagable_tables.proofs.adopting.adopt.Goals as goal
@@ -10,10 +10,7 @@ pub learn_new-requires-clause-fit : goal.learn_new-requires-clause-fit
 learn_new-requires-clause-fit c = fitting (plain_of c.args.t.now) c.requires.asked.0 c.args.load c.args.kind c.args.key c.requires.asked.1 c.args.references.items c.requires.asked.2
 
 pub returns-clause-adopted : goal.returns-clause-adopted
-returns-clause-adopted c stored closed failures e =
-    let w = core_of c.args.t.now stored closed failures in
-    let w' = core_of c.learn_new.new.t stored closed failures in
-    subst (λ o. Alike (adopted w c.args.load c.args.kind c.args.key o c.args.references.items) w') c.first_key-own_key.ensures.key (c.learn_new.ensures.adopted stored closed failures e)
+returns-clause-adopted c stored closed failures e = grind (arith, nat_tests, c.first_key-own_key.ensures.key, c.learn_new.ensures.adopted)
 
 pub returns-clause-whole : goal.returns-clause-whole
 returns-clause-whole c =

@@ -10,7 +10,6 @@ loop-reference-init g c =
 pub loop-reference-preserved : goal.loop-reference-preserved
 loop-reference-preserved g c =
     let i = c.loop-reference.invariant in
-    let fewer = i.1 in
     let next = c.give_next.ensures.fewer in (
       c.give_next.ensures.steady,
       omega arith,

@@ -1,4 +1,4 @@
-use Rattle.pagable_tables.proofs.Words.{◌≡◌, ℕ, ◌+◌, ◌/◌, arith, ap, sym, ◌∙◌, subst, Some, Option, not, IndexMap, spare, NodeNumber, Owner, Mode, Last, Alike, mode_of, with_handle}
+use Rattle.pagable_tables.proofs.Words.{◌≡◌, ℕ, ◌+◌, ◌/◌, arith, ap, sym, ◌∙◌, subst, Some, Option, not, IndexMap, spare, NodeNumber, Owner, Last, Alike, mode_of, with_handle, nat_tests}
 use Rattle.pagable_tables.proofs.Words.{with_node, next_node, Counts, Tables, key_in, core_of, option_map}
 use Rattle.pagable_tables.proofs.Adopted.{learned, if-open}
 use Rattle.pagable_tables.proofs.adopting.learn_new.Goals as goal
@@ -21,8 +21,7 @@ returns-clause-adopted c stored closed failures e =
     let cache = (core_of (record c.bear-handle.new.t { cache = c.learn_if.new.cache }) stored closed failures).cache in
     let counted : Alike (with_handle (with_node w (c.args.kind.0 / 3) (key_in c.args.own_key) c.args.references.items) (next_node w) c.mode_of-mode.result owner) w' =
     subst (λ (y : Counts). Alike (with_handle (with_node w y.node_type (key_in y.key) c.args.references.items) (next_node w) c.mode_of-mode.result owner) w') c.first_counts-counts.ensures (c.bear-handle.ensures.born stored closed failures).leaves in
-    let a : Alike u w' =
-    subst (λ (mode : Mode). Alike (with_handle (with_node w (c.args.kind.0 / 3) (key_in c.args.own_key) c.args.references.items) (next_node w) mode owner) w') c.mode_of-mode.ensures counted in
+    let a : Alike u w' = grind (arith, nat_tests, c.mode_of-mode.ensures) in
     let node : c.bear-handle.new.t.last_node ≡ c.args.t.now.last_node + 1 = ap (λ (l : Last). l.node) a.last in
     if-open closed u (record w' { cache = cache }) c.args.kind c.args.key (next_node w)
     (λ shut. subst (λ (m : IndexMap (ℕ × ℕ) NodeNumber _). Alike u (core_of (record c.bear-handle.new.t { cache = m }) stored closed failures)) (sym (c.learn_if.ensures.same (e ∙ ap not shut))) a)

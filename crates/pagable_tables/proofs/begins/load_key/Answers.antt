@@ -1,34 +1,12 @@
-use Rattle.pagable_tables.proofs.Words.{◌+◌, refl, ap, arith, rules, None, false, Ok, inl, Beginning, load_at, load_in, option_map}
-use Rattle.pagable_tables.proofs.{Beginning.load-comes, Beginning.none-yet, Worlds.same-cache, keeps.LoadCalls.begin-key-whole, keeps.Told.told-whole, keeps.Placed.whole-so}
-use Rattle.pagable_tables.proofs.{Newer.later-opened}
+use Rattle.pagable_tables.proofs.Words.{◌+◌, refl, ap, arith, None, false, Ok, inl, Beginning, load_at, load_in, option_map, nat_tests}
+use Rattle.pagable_tables.proofs.{Beginning.load-comes, Beginning.none-yet, Worlds.same-cache, keeps.LoadCalls.begin-key-whole, keeps.Told.told-whole, keeps.Placed.whole-so, Newer.later-opened}
 use Rattle.pagable_tables.proofs.begins.load_key.Goals as goal
 
 pub open-requires : goal.open-requires
 open-requires c = none-yet (load_at c.args.t.now.loads (c.args.t.now.last_load + 1)) c.args.t.now.last_load (λ some. (c.requires.whole.core.loads.numbered (c.args.t.now.last_load + 1) some).1)
 
 pub returns-clause-begun : goal.returns-clause-begun
-returns-clause-begun c stored closed failures =
-    let t = c.args.t.now in
-    record {
-      begins = (
-        refl,
-        record { above = refl; is_left = search rules },
-        record {
-          rows = refl;
-          cells = λ n. refl;
-          list = refl;
-          cache = same-cache _ _ refl (λ n. refl) (λ kind key. refl);
-          stored = λ q. refl;
-          closed = refl;
-          failures = refl;
-          loads = load-comes (load_at t.loads) (load_at c.open.new.loads) (t.last_load + 1) _ c.in-Ok.ensures.here c.in-Ok.ensures.others;
-          workers = λ v. refl;
-          last = refl;
-          places = record { handles = omega arith; entries = omega arith };
-        },
-      );
-      refused = tt;
-    }
+returns-clause-begun c stored closed failures = grind (arith, nat_tests, same-cache, load-comes, c.in-Ok.ensures.here, c.in-Ok.ensures.others)
 
 pub returns-clause-whole : goal.returns-clause-whole
 returns-clause-whole c =

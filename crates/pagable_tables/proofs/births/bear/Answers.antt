@@ -1,5 +1,4 @@
-use Rattle.pagable_tables.proofs.Words.{◌≡◌, ◌+◌, ◌++◌, ◌∷◌, [], refl, ap, ◌∙◌, arith, None, HandleRow, owner_value, moved, is_named_by, live, counts_at, refs_at, plain_of, with_handle}
-use Rattle.pagable_tables.proofs.Words.{with_node, core_of, key_in}
+use Rattle.pagable_tables.proofs.Words.{◌≡◌, ◌+◌, ◌++◌, ◌∷◌, [], refl, ap, ◌∙◌, arith, None, HandleRow, owner_value, moved, is_named_by, live, counts_at, refs_at, plain_of, nat_tests}
 use Rattle.pagable_tables.proofs.{Born.born-fits, Born.no-node, Born.born-cells, Worlds.same-cache, Coming.rows-told, keeps.Comes.not-a-value}
 use Rattle.pagable_tables.proofs.births.bear.Goals as goal
 
@@ -26,27 +25,5 @@ returns-clause-steady c =
 
 pub returns-clause-born : goal.returns-clause-born
 returns-clause-born c stored closed failures =
-    let u = c.args.t.now in
-    let t = u.holdings in
-    let rs = c.args.references.items in
-    let v = with_handle (with_node (core_of u stored closed failures) c.args.counts.node_type (key_in c.args.counts.key) rs) (record { 0 = u.last_node + 1 }) c.args.mode c.args.me in
-    let x : HandleRow = record { number = record { 0 = t.last_handle + 1 }; node = record { 0 = u.last_node + 1 }; mode = c.args.mode; owner = c.args.me } in
-    let named = ap (λ l. moved (is_named_by l) (owner_value (u.last_node + 1)) (live t.handles.places.items)) c.deref.ensures.value in
-    let rows = c.in-Ok.ensures.rows ∙ ap (λ l. l ++ x ∷ []) (c.hand_over_all.ensures.rows ∙ named) in
-    let cells = born-cells (counts_at t.nodes) (counts_at c.add.new.nodes) (u.last_node + 1) c.args.counts c.in-Ok-add.ensures.here c.in-Ok-add.ensures.others in
-    record {
-      next = record { above = refl; is_left = c.requires.ready.handle_left };
-      leaves = record {
-        rows = rows;
-        cells = cells;
-        list = refl;
-        cache = same-cache v _ rows cells (λ kind key. refl);
-        stored = λ q. refl;
-        closed = refl;
-        failures = refl;
-        loads = λ l. refl;
-        workers = λ l. refl;
-        last = refl;
-        places = record { handles = omega arith; entries = omega arith };
-      };
-    }
+    grind (arith, nat_tests, born-cells, same-cache, c.deref.ensures.value, c.in-Ok.ensures.rows, c.hand_over_all.ensures.rows, c.in-Ok-add.ensures.here, c.in-Ok-add.ensures.others,
+        c.requires.ready.handle_left)

@@ -1,4 +1,4 @@
-use Rattle.pagable_tables.proofs.Words.{ap, sym, subst, ◌∙◌, false, None, inl, earlier, Refused, birth_fault, Tables, core_of}
+use Rattle.pagable_tables.proofs.Words.{ap, sym, subst, ◌∙◌, false, None, earlier, Refused, birth_fault, Tables, core_of, arith, nat_tests}
 use Rattle.pagable_tables.proofs.{NewNodes.references-first, Readied.room-still, Readied.room-fault, Readied.room-newer, Readied.weaker, Worlds.still}
 use Rattle.pagable_tables.proofs.births.prepare.Goals as goal
 
@@ -6,8 +6,7 @@ pub returns-in-Err-clause-room : goal.returns-in-Err-clause-room
 returns-in-Err-clause-room c stored closed failures = room-still _
 
 pub returns-in-Err-clause-refused : goal.returns-in-Err-clause-refused
-returns-in-Err-clause-refused c stored closed failures =
-    record { why = inl (references-first (core_of c.args.t.now stored closed failures) c.args.me c.args.references.now c.in-Err.e (c.in-Err.ensures.fault stored closed failures)); stays = still _ }
+returns-in-Err-clause-refused c stored closed failures = grind (arith, nat_tests, references-first, still, c.in-Err.ensures.fault)
 
 pub returns-in-Ok-clause-fit : goal.returns-in-Ok-clause-fit
 returns-in-Ok-clause-fit c = room-fault c.args.me c.args.references.now (c.make_ready.ensures.room (λ key. None) false 0) ∙ c.in_default.ensures.fit (λ key. None) false 0

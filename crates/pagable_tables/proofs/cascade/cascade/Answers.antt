@@ -1,7 +1,6 @@
-use Rattle.pagable_tables.proofs.Words.{◌≡◌, ℕ, Bool, true, false, Option, Some, None, arith, inl, refl, ap, sym, subst, ◌∙◌, ◌≢◌, IfSome, nat_tests, NodeNumber, live, Steps, has_value}
-use Rattle.pagable_tables.proofs.Words.{is_node, counts_at}
-use Rattle.pagable_tables.proofs.{Shedding.lasts-on, Shedding.none-falls-in, Standing.valued-le, Standing.none-falls, Standing.one-falls, Ended.ended, Fewer.steps-fewer}
-use Rattle.pagable_tables.proofs.{Fewer.steps-unlisted, Next.steps-on}
+use Rattle.pagable_tables.proofs.Words.{◌≡◌, ℕ, Bool, true, false, Option, Some, None, arith, ap, sym, subst, ◌∙◌, ◌≢◌, IfSome, nat_tests, NodeNumber, live, Steps, has_value, is_node, counts_at}
+use Rattle.pagable_tables.proofs.{Shedding.lasts-on, Shedding.none-falls-in, Standing.valued-le, Standing.none-falls, Standing.one-falls, Ended.ended, Fewer.steps-fewer, Fewer.steps-unlisted}
+use Rattle.pagable_tables.proofs.Next.{steps-on}
 use Rattle.pagable_tables.proofs.cascade.cascade.Goals as goal
 
 abbrev number-in : Option NodeNumber → ℕ
@@ -17,19 +16,10 @@ gone-node at None n gone is = absurd (cc)
 gone-node at (Some m) n gone is = let same : m.0 ≡ n = grind (arith, nat_tests) in sym (ap at same) ∙ gone
 
 pub fall-init : goal.fall-init
-fall-init g c =
-    let w = c.requires.falling in
-    let v = valued-le (live c.args.t.now.handles.places.items) in
-    let b = c.budget-left.ensures in
-    let few = w.2 in
-    ((w.0, w.1, omega arith), λ before w given f. f, λ kept n. (inl refl, kept n), omega arith, λ none. refl)
+fall-init g c = grind (arith, nat_tests, valued-le, live, c.requires.falling, c.budget-left.ensures)
 
 pub overflow_sub-left : goal.overflow_sub-left
-overflow_sub-left g c =
-    let w = c.fall.invariant.0 in
-    let n = one-falls c.fall.t w.0 w.1 c.fall-test.true in
-    let few = w.2 in
-    omega arith
+overflow_sub-left g c = grind (arith, nat_tests, one-falls, c.fall-test.true)
 
 pub fall-preserved : goal.fall-preserved
 fall-preserved g c =
@@ -61,7 +51,4 @@ returns-clause-falls g c before w given so-far =
     ended before w given c.args.lists c.fall.t (c.fall.invariant.1 before w given so-far) (none-falls c.fall.t i.0 i.1 (omega arith))
 
 pub returns-clause-sheds : goal.returns-clause-sheds
-returns-clause-sheds g c = let w = c.fall.invariant.0 in record {
-  left = λ kept n. let l = c.fall.invariant.2 kept n in
-      (l.0, l.1 (none-falls-in c.fall.t (none-falls c.fall.t w.0 w.1 (omega arith)) n));
-}
+returns-clause-sheds g c = grind (arith, nat_tests, none-falls-in, none-falls)

@@ -8,14 +8,12 @@ give_up-requires-clause-falling g c = ([], unowned c.args.t.now c.args.at.row []
 pub cascade-requires : goal.cascade-requires
 cascade-requires g c =
     let e : GivesUp c.args.t.now [] c.args.at.row c.args.lists c.give_up.new.t = c.give_up.ensures [] (unowned c.args.t.now c.args.at.row [] c.requires.plain c.requires.steady) in
-    let long = e.long in
     record { falling = (e.more, e.falling, omega arith) }
 
 pub returns-clause-fewer : goal.returns-clause-fewer
 returns-clause-fewer g c =
     let e : GivesUp c.args.t.now [] c.args.at.row c.args.lists c.give_up.new.t = c.give_up.ensures [] (unowned c.args.t.now c.args.at.row [] c.requires.plain c.requires.steady) in
     let a = gives-fewer c.args.t.now c.give_up.new.t [] c.args.at.row c.args.lists e in
-    let b = c.cascade.ensures.fewer in
     omega arith
 
 pub returns-clause-so_far : goal.returns-clause-so_far

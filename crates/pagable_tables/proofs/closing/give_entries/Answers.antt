@@ -1,5 +1,5 @@
-use Rattle.pagable_tables.proofs.Words.{rules, ◌≡◌, ℕ, ◌+◌, ◌==◌, ◌||◌, List, [], ◌∷◌, length, false, None, refl, ap, sym, ◌∙◌, subst, arith, nat_tests, length-append, sum_by_push}
-use Rattle.pagable_tables.proofs.Words.{HandleNumber, one, Falls, Holdings, owns_nothing, with_tables, told_by, SoFar, entered, with_list}
+use Rattle.pagable_tables.proofs.Words.{rules, ◌≡◌, ℕ, ◌+◌, ◌==◌, ◌||◌, List, [], ◌∷◌, length, false, refl, ap, sym, ◌∙◌, subst, arith, nat_tests, length-append, sum_by_push}
+use Rattle.pagable_tables.proofs.Words.{HandleNumber, one, Falls, Holdings, with_tables, told_by, SoFar, entered, with_list}
 use Rattle.pagable_tables.proofs.{Begun.aside, Entries.given_up, Entries.none-given-up, Entries.one-given-up, Entries.unlist, Ended.ended, Shedding.sheds-still, Shedding.sheds-then}
 use Rattle.pagable_tables.proofs.closing.give_entries.Goals as goal
 
@@ -8,17 +8,10 @@ empty [] none = refl
 empty (x ∷ xs) none = absurd (omega arith)
 
 pub loop-entry-init : goal.loop-entry-init
-loop-entry-init g c =
-    let t = record c.args.t.now { unlisted = None } in
-    let list = c.args.t.now.list.items in
-    (aside c.args.t.now None [] owns_nothing c.requires, omega arith, λ q. omega arith, λ before w f few entries. none-given-up before (with_list w list) t list f, sheds-still c.args.t.now _ c.requires)
+loop-entry-init g c = grind (arith, nat_tests, aside, none-given-up, sheds-still, c.requires)
 
 pub loop-entry-smaller : goal.loop-entry-smaller
-loop-entry-smaller g c =
-    let a = ap length c.in-Some.ensures.items in
-    let b = length-append c.pop.new.self.items (c.in-Some.entry ∷ []) in
-    let d = ap length c.give_entry.ensures.list in
-    omega arith
+loop-entry-smaller g c = grind (arith, nat_tests, length-append, c.in-Some.ensures.items, c.give_entry.ensures.list)
 
 pub give_entry-requires : goal.give_entry-requires
 give_entry-requires g c = let i = c.loop-entry.invariant.0 in record { sound = i.sound; next = i.next; fits = i.fits }

@@ -21,7 +21,6 @@ cascade-requires g c =
     let x = c.in-Some.at.row in
     let own : x.owner ≡ Owner.List = owner-same Owner.List x.owner (sym c.if-not-is_owner.ensures) in
     let e : GivesUp c.args.t.now [] x false c.give_up.new.t = c.give_up.ensures [] (unowned c.args.t.now x [] (ap is_valued own) c.requires) in
-    let long = e.long in
     record { falling = (e.more, e.falling, omega arith) }
 
 pub returns-clause-fewer : goal.returns-clause-fewer
@@ -30,7 +29,6 @@ returns-clause-fewer g c =
     let own : x.owner ≡ Owner.List = owner-same Owner.List x.owner (sym c.if-not-is_owner.ensures) in
     let e : GivesUp c.args.t.now [] x false c.give_up.new.t = c.give_up.ensures [] (unowned c.args.t.now x [] (ap is_valued own) c.requires) in
     let a = gives-fewer c.args.t.now c.give_up.new.t [] x false e in
-    let b = c.cascade.ensures.fewer in
     omega arith
 
 pub returns-clause-list : goal.returns-clause-list

@@ -1,5 +1,5 @@
-use Rattle.pagable_tables.proofs.Words.{◌≡◌, ℕ, ◌&&◌, false, not, length, arith, ap, sym, ◌∙◌, subst, Some, None, Error, Owner, is_in, if_there, is_owner, OpenLoad, Falls, refused_if}
-use Rattle.pagable_tables.proofs.Words.{is_owned_in, numbers_of, get, nat_eq, Sheds, load_at, counts_at, core_of, plain_of, load_in, with_tables, Holdings, option_map}
+use Rattle.pagable_tables.proofs.Words.{◌≡◌, ℕ, ◌&&◌, false, not, length, arith, ap, sym, ◌∙◌, subst, Some, None, Error, Owner, is_in, if_there, is_owner, OpenLoad, Falls, refused_if, nat_tests}
+use Rattle.pagable_tables.proofs.Words.{is_owned_in, numbers_of, load_at, core_of, plain_of, load_in, with_tables, Holdings, option_map}
 use Rattle.pagable_tables.proofs.Taken.{moved-less, begun-moved, loaded-moved, no-load, may-hand, named-there, still-listed, and-left, MayHand}
 use Rattle.pagable_tables.proofs.{Dropped.load-closed, Dropped.owned-given, Dropped.loads-anew, keeps.Comes.not-a-value, keeps.LoadCalls.may-hold, Begun.not-closed}
 use Rattle.pagable_tables.proofs.{keeps.EndCalls.hand-over-whole, keeps.Placed.whole-so, Newer.take-newer, Newer.later-so, Newer.closed-still, Shedding.sheds-still, Worlds.still}
@@ -42,7 +42,6 @@ returns-clause-taken g c stored closed failures e =
     (record { handles = (let a = c.hand_each.ensures.capacity in omega arith); entries = (let a = ap (λ (k : Holdings). (with_tables w k).places.entries) c.hand_each.ensures.same in omega arith) })
     (still-listed c.requires.whole.core me l hs can) in
     let row : load_at t.loads l.0 ≡ Some c.in-Some-load_of.row = sym c.load_of.ensures ∙ c.in-Some-load_of.is in
-    let last = ap (λ (k : Holdings). k.last_handle) c.hand_each.ensures.same in
     let falls = c.give_up_load.ensures.falls w u so-far (let a = ap length c.hand_each.ensures.rows in omega arith)
     (λ q own. let mine = and-left (is_owned_in w (Owner.Load l) q) (not (s q)) (sym (left q) ∙ own) in let g = owned-given p (Owner.Load l) q c.requires.whole.core.handles mine in
     (c.requires.later.since l.0 c.in-Some-load_of.row q row mine, omega arith)) in
@@ -71,13 +70,10 @@ returns-clause-later g c =
     later-so c.requires.later (record { last = n.last; owned = n.owned }) (closed-still (load_at t.loads) (load_at c.close.new.loads) c.args.load.0 c.close.ensures.gone c.close.ensures.others)
 
 pub returns-clause-sheds : goal.returns-clause-sheds
-returns-clause-sheds g c =
-    let nodes = ap (λ (k : Holdings). k.nodes) c.hand_each.ensures.same in
-    subst (λ ns. Sheds (counts_at ns) (get nat_eq c.args.values.now) (counts_at c.give_up_load.new.t.nodes) (get nat_eq c.give_up_load.new.values)) nodes c.give_up_load.ensures.sheds
+returns-clause-sheds g c = grind (arith, nat_tests, c.hand_each.ensures.same, c.give_up_load.ensures.sheds)
 
 pub returns-in-Some-clause-sheds : goal.returns-in-Some-clause-sheds
 returns-in-Some-clause-sheds g c = sheds-still c.args.t.now.holdings _ c.requires.whole.steady
 
 pub returns-in-Some-clause-taken : goal.returns-in-Some-clause-taken
-returns-in-Some-clause-taken g c stored closed failures e =
-    record { hands = tt; refused = (sym (c.hand_over_fault.ensures stored closed failures) ∙ c.in-Some.is, still (core_of c.args.t.now stored closed failures)) }
+returns-in-Some-clause-taken g c stored closed failures e = grind (arith, nat_tests, still, c.hand_over_fault.ensures, c.in-Some.is)

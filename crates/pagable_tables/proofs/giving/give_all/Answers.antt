@@ -1,14 +1,9 @@
-use Rattle.pagable_tables.proofs.Words.{[], refl, arith, None, option_map, load_at, load_in, owns_nothing}
+use Rattle.pagable_tables.proofs.Words.{[], refl, arith, option_map, load_at, load_in, nat_tests}
 use Rattle.pagable_tables.proofs.{Begun.aside, GivenAll.bare, GivenAll.given-plain, GivenAll.none-past, GivenAll.one-past, GivenAll.all-past, Shedding.sheds-still, Shedding.sheds-then}
 use Rattle.pagable_tables.proofs.giving.give_all.Goals as goal
 
 pub loop-at-init : goal.loop-at-init
-loop-at-init g c = (
-  aside c.args.t.now None [] owns_nothing c.requires,
-  omega arith,
-  λ before u w loads f few between. none-past before u w c.args.lists c.args.giving (record c.args.t.now { unlisted = None }) c.args.t.now.last_handle (λ q e. (between q e).1) f,
-  sheds-still c.args.t.now _ c.requires,
-)
+loop-at-init g c = grind (arith, nat_tests, aside, none-past, sheds-still, c.requires)
 
 pub loop-at-smaller : goal.loop-at-smaller
 loop-at-smaller g c = let b = c.in-Some.ensures.between in let b0 = b.0 in let b1 = b.1 in omega arith
@@ -26,7 +21,6 @@ loop-at-preserved g c =
     let i = c.loop-at.invariant in
     let x = c.in-Some.at.row in
     let b = c.in-Some.ensures.between in
-    let fewer = i.1 in
     let next = c.shed.ensures.fewer in (
       c.shed.ensures.steady,
       omega arith,

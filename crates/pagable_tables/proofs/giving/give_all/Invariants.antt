@@ -1,5 +1,4 @@
-use Rattle.pagable_tables.proofs.Words.{◌≡◌, ℕ, nat_eq, ◌<◌, ◌≤◌, [], length, true, None, Core, nobody, get, live, counts_at, IsFalling, Sheds, owns_nothing, SoFar, gives_row, passes_in}
-use Rattle.pagable_tables.proofs.Words.{LoadsAre}
+use Rattle.pagable_tables.proofs.Words.{◌≡◌, ℕ, nat_eq, ◌<◌, ◌≤◌, [], length, true, None, Core, nobody, get, live, counts_at, IsFalling, Sheds, owns_nothing, SoFar, gives_row, passes_in, LoadsAre}
 use Rattle.pagable_tables.proofs.GivenAll.{past_of}
 use Rattle.pagable_tables.proofs.giving.give_all.Given as goal
 

@@ -32,6 +32,4 @@ loop-place-preserved c =
 
 pub returns-clause-rows : goal.returns-clause-rows
 returns-clause-rows c =
-    let last = c.loop-place-test.false in
-    let le = c.loop-place.invariant.0 in
     all-moved c.args.named.now c.loop-place.place c.args.owner (live c.args.t.now.handles.places.items) (live c.loop-place.t.handles.places.items) (omega arith) c.loop-place.invariant.2

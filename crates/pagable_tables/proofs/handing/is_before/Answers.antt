@@ -1,4 +1,4 @@
-use Rattle.pagable_tables.proofs.Words.{◌≡◌, ◌==◌, ◌||◌, false, ap, sym, ◌∙◌, arith, nat_tests, is_in, seen, named_at}
+use Rattle.pagable_tables.proofs.Words.{sym, arith, nat_tests}
 use Rattle.pagable_tables.proofs.Seen.{in-none, in-more, in-there}
 use Rattle.pagable_tables.proofs.handing.is_before.Goals as goal
 
@@ -9,6 +9,4 @@ pub returns-then-named-at : goal.returns-then-named-at
 returns-then-named-at c = sym (in-there c.args.named.now c.args.place c.loop-at.at c.args.number c.loop-at-test.true c.if-named-at.true)
 
 pub loop-at-preserved : goal.loop-at-preserved
-loop-at-preserved c =
-    let other : (named_at c.args.named.now c.loop-at.at == c.args.number) ≡ false = grind (arith, nat_tests) in
-    in-more c.args.named.now c.loop-at.at c.args.number ∙ ap (λ b. b || is_in (seen c.args.named.now c.loop-at.at) c.args.number) other ∙ c.loop-at.invariant
+loop-at-preserved c = grind (arith, nat_tests, in-more)

@@ -10,8 +10,6 @@ pub loop-place-preserved : goal.loop-place-preserved
 loop-place-preserved c =
     let hs = c.args.named.now in
     let p = c.loop-place.place - 1 in
-    let i = c.loop-place.invariant.0 in
-    let some = c.loop-place-test.true in
     let up : c.loop-place.place ≡ p + 1 = omega arith in (
       omega arith,
       λ w is. c.earlier-fault.ensures ∙ one-named w c.args.owner hs p c.fault_at.result c.loop-place.fault (omega arith)

@@ -1,4 +1,4 @@
-use Rattle.pagable_tables.proofs.Words.{arith, Place, slice_get-get_or, get_or_default}
+use Rattle.pagable_tables.proofs.Words.{arith, Place, slice_get-get_or, get_or_default, nat_tests}
 use Rattle.pagable_tables.proofs.{Order.smaller-up, Order.greater-from, Order.outside, Alive.none-live, Alive.dead-only, Alive.row-got}
 use Rattle.pagable_tables.proofs.handles.find.Goals as goal
 
@@ -26,9 +26,7 @@ loop-low-preserved c =
     }
 
 pub returns-clause-none : goal.returns-clause-none
-returns-clause-none c =
-    none-live c.args.number c.args.places.now (λ k d lt e. absurd (outside (λ (h : Place). h.row.number.0) c.args.places.now c.args.number _ _ c.loop-low-test.false
-    c.loop-low.invariant.below c.loop-low.invariant.above k d lt e))
+returns-clause-none c = grind (arith, nat_tests, none-live, outside, c.loop-low-test.false)
 
 pub returns-then-place-clause-found : goal.returns-then-place-clause-found
 returns-then-place-clause-found c = row-got c.args.places.now _ _ c.args.number c.requires (slice_get-get_or c.args.places.now _ _ (omega arith)) c.if-place.true c.if-place-number.true

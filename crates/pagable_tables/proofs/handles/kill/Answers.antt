@@ -1,11 +1,10 @@
-use Rattle.pagable_tables.proofs.Words.{arith, refl, ap, ◌∙◌, false, sum_by, length-set, Place}
+use Rattle.pagable_tables.proofs.Words.{arith, refl, ◌∙◌, false, length-set, Place, nat_tests}
 use Rattle.pagable_tables.proofs.{Order.rises-set, Alive.live-kill, Alive.sum-live-set, Alive.length-live-set, Alive.next-set}
 use Rattle.pagable_tables.proofs.handles.kill.Goals as goal
 
 pub overflow_sub-len : goal.overflow_sub-len
 overflow_sub-len c =
     let e = length-live-set c.args.handles.now.places.items c.args.at.place c.args.at.row (record { row = c.args.at.row; is_live = false }) c.requires.place in
-    let n = length-set c.args.handles.now.places.items c.args.at.place (record { row = c.args.at.row; is_live = false }) in
     omega arith
 
 pub compact-requires : goal.compact-requires
@@ -22,10 +21,7 @@ pub returns-then-handles-len-clause-rows : goal.returns-then-handles-len-clause-
 returns-then-handles-len-clause-rows c = c.compact.ensures.rows ∙ live-kill c.args.handles.now.places.items c.args.at.place c.args.at.row c.requires.sound.ordered c.requires.place
 
 pub returns-then-handles-len-clause-sums : goal.returns-then-handles-len-clause-sums
-returns-then-handles-len-clause-sums c f =
-    let e = sum-live-set f c.args.handles.now.places.items c.args.at.place c.args.at.row (record { row = c.args.at.row; is_live = false }) c.requires.place in
-    let a = ap (sum_by f) c.compact.ensures.rows in
-    omega arith
+returns-then-handles-len-clause-sums c f = grind (arith, nat_tests, sum-live-set, c.requires.place, c.compact.ensures.rows)
 
 pub returns-else-handles-len-clause-sound : goal.returns-else-handles-len-clause-sound
 returns-else-handles-len-clause-sound c =
@@ -41,9 +37,7 @@ pub returns-else-handles-len-clause-rows : goal.returns-else-handles-len-clause-
 returns-else-handles-len-clause-rows c = live-kill c.args.handles.now.places.items c.args.at.place c.args.at.row c.requires.sound.ordered c.requires.place
 
 pub returns-else-handles-len-clause-sums : goal.returns-else-handles-len-clause-sums
-returns-else-handles-len-clause-sums c f =
-    let e = sum-live-set f c.args.handles.now.places.items c.args.at.place c.args.at.row (record { row = c.args.at.row; is_live = false }) c.requires.place in
-    omega arith
+returns-else-handles-len-clause-sums c f = grind (arith, nat_tests, sum-live-set, c.requires.place)
 
 pub returns-then-handles-len-clause-next : goal.returns-then-handles-len-clause-next
 returns-then-handles-len-clause-next c q next =

@@ -1,4 +1,4 @@
-use Rattle.pagable_tables.proofs.Words.{◌<◌, subst, rules, arith, sym, ap, ◌∙◌, ◌≡◌, ◌∷◌, [], ◌++◌, ◌+◌, length, get_or, live, alive, IsBefore, IsNext, Place, All-push, all_pairs_push}
+use Rattle.pagable_tables.proofs.Words.{◌<◌, subst, rules, arith, sym, ap, ◌≡◌, ◌∷◌, [], ◌++◌, ◌+◌, length, get_or, live, alive, IsBefore, IsNext, Place, All-push, all_pairs_push, nat_tests}
 use Rattle.pagable_tables.proofs.Words.{length-append, AllPairs}
 use Rattle.pagable_tables.proofs.Alive.{live-push}
 use Rattle.pagable_tables.proofs.handles.push.Goals as goal
@@ -20,10 +20,7 @@ returns-clause-sound c =
     }
 
 pub returns-clause-rows : goal.returns-clause-rows
-returns-clause-rows c =
-    let slots = c.make_room.new.handles.places.items in
-    let e : c.push.new.self.items ≡ slots ++ alive c.args.row ∷ [] = search rules in
-    ap live e ∙ live-push slots c.args.row ∙ ap (λ l. l ++ c.args.row ∷ []) c.in_ok-make_room.ensures.rows
+returns-clause-rows c = grind (arith, nat_tests, live-push, c.in_ok-make_room.ensures.rows)
 
 pub returns-clause-next : goal.returns-clause-next
 returns-clause-next c =

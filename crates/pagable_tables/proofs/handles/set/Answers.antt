@@ -1,4 +1,4 @@
-use Rattle.pagable_tables.proofs.Words.{arith, ap, HandleNumber, length-set, alive, Place}
+use Rattle.pagable_tables.proofs.Words.{arith, ap, HandleNumber, length-set, alive, Place, nat_tests}
 use Rattle.pagable_tables.proofs.{Order.rises-set, Alive.live-set, Alive.sum-live-set, Alive.length-live-set, Alive.next-set}
 use Rattle.pagable_tables.proofs.handles.set.Goals as goal
 
@@ -16,9 +16,7 @@ pub returns-clause-rows : goal.returns-clause-rows
 returns-clause-rows c = live-set c.args.handles.now.places.items c.args.at.place c.args.at.row c.args.row c.requires.sound.ordered c.requires.place
 
 pub returns-clause-sums : goal.returns-clause-sums
-returns-clause-sums c f =
-    let e = sum-live-set f c.args.handles.now.places.items c.args.at.place c.args.at.row (alive c.args.row) c.requires.place in
-    omega arith
+returns-clause-sums c f = grind (arith, nat_tests, sum-live-set, c.requires.place)
 
 pub returns-clause-next : goal.returns-clause-next
 returns-clause-next c q next =

@@ -1,8 +1,7 @@
-use Rattle.pagable_tables.proofs.Words.{cases_eq, nat_tests, false, inl, inr, Bool, ◌+◌, ◌-◌, ◌≡◌, ◌≤◌, ℕ, arith, refl, ap, sym, ◌∙◌, subst, Some, None, ◌∷◌, if◌then◌else◌, ◌≢◌, one}
-use Rattle.pagable_tables.proofs.Words.{is_pinning, live, counts_at, refs_at, Fits, pins_in, holds_in, after, is_fallen_by, is_new, has_value, falls_in, ValueStays, owns_nothing, Leaves}
-use Rattle.pagable_tables.proofs.Words.{Counts}
+use Rattle.pagable_tables.proofs.Words.{cases_eq, nat_tests, false, Bool, ◌+◌, ◌-◌, ◌≡◌, ◌≤◌, ℕ, arith, refl, ap, sym, ◌∙◌, subst, Some, ◌∷◌, if◌then◌else◌, ◌≢◌, one, is_pinning, live, counts_at}
+use Rattle.pagable_tables.proofs.Words.{refs_at, Fits, pins_in, after, is_fallen_by, ValueStays, owns_nothing, Leaves, Counts}
 use Rattle.pagable_tables.proofs.{Alive.row-le-live, Leaving.leaves-sums, Fitting.given-fits, Fitting.given-cells, Fitting.new-top, Fitting.long-if, Fitting.pin-here, Fitting.held-here}
-use Rattle.pagable_tables.proofs.{Fitting.pin_of, Fitting.handle_of}
+use Rattle.pagable_tables.proofs.Fitting.{pin_of}
 use Rattle.pagable_tables.proofs.holdings.give_up.Goals as goal
 
 -- a handle that leaves takes no value with it at once
@@ -10,35 +9,14 @@ after-value : (y : Counts) (pinning listed : Bool) (top : ℕ) → one pinning �
 after-value y pinning listed top some falls = let stood : y.is_falling ≡ false = grind (arith, nat_tests) in (stood, grind (arith, nat_tests))
 
 pub unreachable-requires : goal.unreachable-requires
-unreachable-requires c =
-    let n = c.args.at.row.node.0 in
-    let w = c.requires.falling.1.fits.holding n in
-    let a : counts_at c.args.t.now.nodes n ≡ None = sym c.counts_of.ensures ∙ c.in_default.is in
-    let b = ap holds_in a in
-    let l = row-le-live (handle_of n) c.args.t.now.handles.places.items c.args.at.place c.args.at.row c.requires.place in
-    let h = held-here c.args.at.row in
-    absurd (omega arith)
+unreachable-requires c = grind (arith, nat_tests, row-le-live, held-here, c.requires.falling.1.fits.holding, c.counts_of.ensures, c.in_default.is, c.requires.place)
 
 pub counts_after-left-requires-clause-holds : goal.counts_after-left-requires-clause-holds
-counts_after-left-requires-clause-holds c =
-    let n = c.args.at.row.node.0 in
-    let w = c.requires.falling.1.fits.holding n in
-    let a : counts_at c.args.t.now.nodes n ≡ Some c.in-Some.counts = sym c.counts_of.ensures ∙ c.in-Some.is in
-    let b = ap holds_in a in
-    let l = row-le-live (handle_of n) c.args.t.now.handles.places.items c.args.at.place c.args.at.row c.requires.place in
-    let h = held-here c.args.at.row in
-    omega arith
+counts_after-left-requires-clause-holds c = grind (arith, nat_tests, row-le-live, held-here, c.requires.falling.1.fits.holding, c.counts_of.ensures, c.in-Some.is, c.requires.place)
 
 pub counts_after-left-requires-clause-pins : goal.counts_after-left-requires-clause-pins
 counts_after-left-requires-clause-pins c =
-    let n = c.args.at.row.node.0 in
-    let w = c.requires.falling.1.fits.pinned n in
-    let a : counts_at c.args.t.now.nodes n ≡ Some c.in-Some.counts = sym c.counts_of.ensures ∙ c.in-Some.is in
-    let b = ap pins_in a in
-    let l = row-le-live (pin_of n) c.args.t.now.handles.places.items c.args.at.place c.args.at.row c.requires.place in
-    let h = pin-here c.args.at.row in
-    let p = ap one c.pins-pinning.ensures in
-    omega arith
+    grind (arith, nat_tests, row-le-live, pin-here, c.requires.falling.1.fits.pinned, c.counts_of.ensures, c.in-Some.is, c.requires.place, c.pins-pinning.ensures)
 
 pub returns : goal.returns
 returns c stack w =
@@ -51,21 +29,16 @@ returns c stack w =
     let leaves = c.take_out-listed.ensures in
     let e = leaves.lists.comes in
     let nodes : mid.nodes ≡ old.nodes = e.nodes ∙ ap (λ t. t.nodes) leaves.same in
-    let kept : mid.top ≡ old.top = e.top ∙ ap (λ t. t.top) leaves.same in
     let is : counts_at old.nodes n ≡ Some counts = sym c.counts_of.ensures ∙ c.in-Some.is in
-    let pinning : c.pins-pinning.result ≡ is_pinning x.mode = c.pins-pinning.ensures in
-    let left : c.counts_after-left.result ≡ after counts (is_pinning x.mode) listed old.top = c.counts_after-left.ensures ∙ ap (λ p. after counts p listed mid.top) pinning
-    ∙ ap (λ t. after counts (is_pinning x.mode) listed t) kept in
+    let left : c.counts_after-left.result ≡ after counts (is_pinning x.mode) listed old.top = grind (arith, nat_tests, c.counts_after-left.ensures) in
     let b = is_fallen_by counts (is_pinning x.mode) (counts.pins - one (is_pinning x.mode)) (if listed then counts.holds else counts.holds - 1) in
     let here : counts_at c.set_counts.new.nodes n ≡ Some (after counts (is_pinning x.mode) listed old.top) = c.set_counts.ensures.here ∙ ap Some left in
     let others : (m : ℕ) → m ≢ n → counts_at c.set_counts.new.nodes m ≡ counts_at old.nodes m = λ m ne. c.set_counts.ensures.others m ne ∙ ap (λ s. counts_at s m) nodes in
     let same : (m : ℕ) → refs_at c.set_counts.new.nodes m ≡ refs_at old.nodes m = λ m. c.set_counts.ensures.refs m ∙ ap (λ s. refs_at s m) nodes in
     let some : one (is_pinning x.mode) ≤ counts.pins = (let a = w.fits.pinned n in let d = ap pins_in is in
     let l = row-le-live (pin_of n) old.handles.places.items c.args.at.place x c.requires.place in let h = pin-here x in omega arith) in
-    let live' : 1 ≤ counts.holds = (let a = w.fits.holding n in let d = ap holds_in is in let l =
-    row-le-live (handle_of n) old.handles.places.items c.args.at.place x c.requires.place in let h = held-here x in omega arith) in
-    let top : c.top_after-t.result ≡ (if b then n else old.top) = c.top_after-t.ensures ∙ ap (λ (l : Counts). if is_new counts.is_falling l.is_falling then n else mid.top) left
-    ∙ ap (λ t. if is_new counts.is_falling (after counts (is_pinning x.mode) listed old.top).is_falling then n else t) kept ∙ new-top counts (is_pinning x.mode) listed old.top n b refl in
+    let live' : 1 ≤ counts.holds = grind (arith, nat_tests, row-le-live, held-here, c.requires.place) in
+    let top : c.top_after-t.result ≡ (if b then n else old.top) = grind (arith, nat_tests, new-top, c.top_after-t.ensures) in
     let at = counts_at old.nodes in
     let at' = counts_at c.set_counts.new.nodes in
     let refs = refs_at old.nodes in
@@ -81,11 +54,7 @@ returns c stack w =
       leaves = subst (λ w. Leaves old x w listed mid) c.wants_entry-wanted.ensures leaves;
       same = refl;
       cells = given-cells at at' refs refs' rows rows' old.top stack x counts listed (old.last_handle + 1) w.fits is sums here others same some live';
-      values = λ m. elim (cases_eq m n) [
-        | inl eq ↦ subst (λ k. ValueStays (at k) (at' k)) (sym eq) (subst (λ o. ValueStays o (at' n)) (sym is)
-            (subst (ValueStays (Some counts)) (sym here) (after-value counts (is_pinning x.mode) listed old.top some)))
-        | inr ne ↦ λ falls. (ap falls_in (sym (others m ne)) ∙ falls, ap has_value (others m ne))
-      ];
+      values = λ m. grind (arith, nat_tests, cases_eq, after-value);
       more = if b then n ∷ stack else stack;
       falling = record {
         sound = e.sound;

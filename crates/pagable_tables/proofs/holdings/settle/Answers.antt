@@ -1,5 +1,5 @@
-use Rattle.pagable_tables.proofs.Words.{nat_tests, ◌≡◌, ℕ, Bool, true, false, arith, refl, ap, sym, ◌∙◌, subst, Some, None, List, [], ◌∷◌, ◌≢◌, is_some, cases_eq, inl, inr, live, counts_at}
-use Rattle.pagable_tables.proofs.Words.{refs_at, IsFalling, Fits, pins_in, holds_in, falls_in, cell_in, has_value, is_right, is_bare, Right, owns_nothing, Counts, Holdings}
+use Rattle.pagable_tables.proofs.Words.{nat_tests, ◌≡◌, ℕ, Bool, true, false, arith, refl, ap, sym, ◌∙◌, subst, Some, None, List, [], ◌∷◌, ◌≢◌, cases_eq, inl, inr, live, counts_at}
+use Rattle.pagable_tables.proofs.Words.{refs_at, IsFalling, Fits, pins_in, holds_in, falls_in, has_value, is_right, is_bare, Right, owns_nothing, Counts, Holdings}
 use Rattle.pagable_tables.proofs.Fitting.{done-fits, first-waits, pins-le-held, settled-right}
 use Rattle.pagable_tables.proofs.holdings.settle.Goals as goal
 
@@ -7,11 +7,8 @@ there : (t : Holdings) (stack : List ℕ) → IsFalling t stack owns_nothing →
 there t [] w some none = some w.fits.chain
 there t (n ∷ ns) w some none =
     let top : t.top ≡ n = w.fits.chain.0 in
-    let fits : Fits (counts_at t.nodes) (refs_at t.nodes) (live t.handles.places.items) n (n ∷ ns) owns_nothing =
-    subst (λ m. Fits (counts_at t.nodes) (refs_at t.nodes) (live t.handles.places.items) m (n ∷ ns) owns_nothing) top w.fits in
+    let fits : Fits (counts_at t.nodes) (refs_at t.nodes) (live t.handles.places.items) n (n ∷ ns) owns_nothing = grind (arith, nat_tests) in
     let waits = first-waits _ _ _ _ _ _ fits in
-    let is : counts_at t.nodes n ≡ None = subst (λ m. counts_at t.nodes m ≡ None) top none in
-    let a : falls_in (counts_at t.nodes n) ≡ false = ap falls_in is in
     absurd (cc)
 
 pub unreachable-requires : goal.unreachable-requires
@@ -56,10 +53,7 @@ returns-then-counts-eq0 c (n ∷ ns) w =
       same = refl;
       values = λ m ne falls. (ap falls_in (sym (e.others m ne)) ∙ falls, ap has_value (e.others m ne));
       gone = ap has_value gone;
-      cells = λ m some. elim (cases_eq m top) [
-        | inl eq ↦ absurd (let a : is_some (at' m) ≡ false = ap (λ k. is_some (at' k)) eq ∙ ap is_some gone in cc)
-        | inr ne ↦ (sym (ap is_some (e.others m ne)) ∙ some, ap cell_in (e.others m ne))
-      ];
+      cells = λ m some. grind (arith, nat_tests, cases_eq);
     }
 
 pub returns-else-counts-eq0 : goal.returns-else-counts-eq0
@@ -93,8 +87,5 @@ returns-else-counts-eq0 c (n ∷ ns) w =
       same = refl;
       values = λ m ne falls. (ap falls_in (sym (e.others m ne)) ∙ falls, ap has_value (e.others m ne));
       gone = ap has_value here ∙ settled-value counts (is_bare (refs top)) falls (subst (λ o. Right o (refs top)) is (v.fits.right top)) c.if-counts-eq0.false;
-      cells = λ m some. elim (cases_eq m top) [
-        | inl eq ↦ (ap (λ k. is_some (at k)) eq ∙ ap is_some is, ap (λ k. cell_in (at' k)) eq ∙ ap cell_in here ∙ sym (ap (λ k. cell_in (at k)) eq ∙ ap cell_in is))
-        | inr ne ↦ (sym (ap is_some (e.others m ne)) ∙ some, ap cell_in (e.others m ne))
-      ];
+      cells = λ m some. grind (arith, nat_tests, cases_eq);
     }

@@ -30,8 +30,7 @@ module _ (t mid : Holdings) (ns : List ℕ) (p : ArcRef) (i : ℕ) (x : HandleRo
       record {
         sound = subst AreSound (sym handles) w.sound;
         next = subst (λ h. IsNext (mid.last_handle + 1) h.places.items) (sym handles) (subst (λ k. IsNext (k + 1) t.handles.places.items) (sym last) w.next);
-        fits = subst (λ h. Fits (counts_at mid.nodes) (refs_at mid.nodes) (live h.places.items) mid.top (t.top ∷ ns) (owns x)) (sym handles)
-            (subst (λ k. Fits (counts_at mid.nodes) (refs_at mid.nodes) (live t.handles.places.items) k (t.top ∷ ns) (owns x)) (sym top) f);
+        fits = grind (arith, nat_tests);
       }
 
 first : (t : Holdings) (n : ℕ) (ns : List ℕ) → IsFalling t (n ∷ ns) owns_nothing → IsFalling t (t.top ∷ ns) owns_nothing
@@ -70,8 +69,7 @@ untouched t mid stack w handles top last same refs =
     record {
       sound = subst AreSound (sym handles) w.sound;
       next = subst (λ h. IsNext (mid.last_handle + 1) h.places.items) (sym handles) (subst (λ k. IsNext (k + 1) t.handles.places.items) (sym last) w.next);
-      fits = subst (λ h. Fits (counts_at mid.nodes) (refs_at mid.nodes) (live h.places.items) mid.top stack owns_nothing) (sym handles)
-          (subst (λ k. Fits (counts_at mid.nodes) (refs_at mid.nodes) (live t.handles.places.items) k stack owns_nothing) (sym top) f);
+      fits = grind (arith, nat_tests);
     }
 
 pub settle-requires-clause-falling : goal.settle-requires-clause-falling
@@ -105,7 +103,6 @@ returns-in-Some-look c stack w =
     let l : valued (live g.between.handles.places.items) + of_value x ≡ valued (live t.handles.places.items) + 0 = leaves-sums mid g.between x _ g.listed g.leaves of_value
     ∙ ap (λ k. valued (live t.handles.places.items) + k) (no-value g.listed (t.last_handle + 1) x.node) in
     let m = ap valued kept in
-    let long = g.long in
     let n = ap length s.2 in
     record {
       rest = g.more;
@@ -139,7 +136,6 @@ returns-in-None c stack w =
     (λ m. elim (cases_eq m t.top) [ inl eq ↦ ap (refs_at c.pop_reference.new.nodes) eq ∙ sym (e.here ∙ append-nil _) ∙ sym (ap (refs_at t.nodes) eq) | inr ne ↦ e.others m ne ])) in
     let rows = ap (λ (h : Holdings). live h.handles.places.items) g.same in
     let v = ap valued rows in
-    let short = g.shorter in
     record {
       rest = g.rest;
       falling = g.falling;

@@ -1,5 +1,5 @@
-use Rattle.pagable_tables.proofs.Words.{◌≡◌, refl, ap, sym, ◌∙◌, subst, Option, Some, None, false, not, OptionalDataKey, HandleNumber, NodeNumber, if_there, any_mode, find_row, is_in_memory}
-use Rattle.pagable_tables.proofs.Words.{Cell, of_cell, key_at, MayEnd, end_fault, Counts, live, core_of, plain_of, load_in, root_in, pins_in, cell_in, option_map}
+use Rattle.pagable_tables.proofs.Words.{◌≡◌, refl, ap, sym, ◌∙◌, subst, Some, None, false, HandleNumber, any_mode, find_row}
+use Rattle.pagable_tables.proofs.Words.{of_cell, end_fault, live, core_of, plain_of, load_in, root_in, option_map, arith, nat_tests}
 use Rattle.pagable_tables.proofs.{Upheld.opens, Upheld.celled, Upheld.may-end, Upheld.number-left, Worlds.owner-same}
 use Rattle.pagable_tables.proofs.installing.ending_of.Goals as goal
 
@@ -32,15 +32,13 @@ returns-in-Ok-clause-ready c stored closed failures =
     let may = may-end w me l c.args.node_type c.args.references.now none load is node c.in-Cell.field-1 h cell in
     let n = row.node.0 in
     record {
-      may = subst (λ (q : HandleNumber). MayEnd w me l row.node q c.args.node_type c.args.references.now) (sym c.in-Ok.ensures.number)
-          (subst (λ (m : NodeNumber). MayEnd w me l m h c.args.node_type c.args.references.now) (sym begun.0) may);
+      may = grind (arith, nat_tests, c.in-Ok.ensures.number);
       owned = record {
         live = subst (λ (q : HandleNumber). find_row q.0 (live t.holdings.handles.places.items) ≡ Some row) (sym c.in-Ok.ensures.number) c.in-Ok.ensures.found;
         own = owner-same me row.owner c.in-Ok.ensures.owner;
         as_asked = begun.1;
       };
-      away = ap not (c.is_here.ensures ∙ ap (λ (o : Option Counts). is_in_memory (pins_in o) (if_there (λ (cell : Cell). cell.key) OptionalDataKey.None (cell_in o))) c.counts_of.ensures
-          ∙ ap (λ p. is_in_memory p (key_at w n)) (c.requires.steady.fits.pinned n));
+      away = grind (arith, nat_tests, c.is_here.ensures, c.counts_of.ensures, c.requires.steady.fits.pinned);
       left = number-left w me l c.args.node_type c.args.references.now none load is node c.in-Cell.field-1 h cell row c.in-Ok.ensures.found c.in-Ok.ensures.owner;
     }
 

@@ -1,5 +1,5 @@
 use Rattle.pagable_tables.proofs.Words.{◌≡◌, ◌<◌, ◌+◌, ◌++◌, ◌∷◌, [], sum_by, refl, ap, sym, ◌∙◌, arith, false, not, inl, None, Ok, Owner, Mode, changed, one, is_handle, is_pin, owner_value}
-use Rattle.pagable_tables.proofs.Words.{is_here, moved, is_named_by, row_of, Tables, live, counts_at, refs_at, load_at, has_value, cell_in, core_of, plain_of}
+use Rattle.pagable_tables.proofs.Words.{is_here, moved, is_named_by, row_of, Tables, live, counts_at, refs_at, load_at, has_value, cell_in, core_of, plain_of, nat_tests}
 use Rattle.pagable_tables.proofs.{Begun.not-closed, Coming.rows-told, Coming.some-held, Coming.turned, Fitting.fits-same, Fitting.pins-le-held, Installed.ended, Installed.has-come}
 use Rattle.pagable_tables.proofs.{Installed.install-newer, Installed.pins-here, Installed.not-so, Joined.joined-fits, Joined.owns-none, Newer.closed-still, Newer.later-so, Stays.not-named}
 use Rattle.pagable_tables.proofs.{Upheld.ready-owner, keeps.Comes.not-a-value, keeps.EndCalls.end-whole, keeps.LoadCalls.may-hold, keeps.Placed.whole-so}
@@ -47,8 +47,7 @@ give_up_load-requires g c =
     let spared = not-named p l rs was.core.handles r.may.good (t.holdings.last_handle + 1) (omega arith) in
     let before = changed (is_handle row.number.0) turned (live t.holdings.handles.places.items) ++ x ∷ [] in
     let fits = rows-told (counts_at t1.holdings.nodes) (refs_at t1.holdings.nodes) (live t1.holdings.handles.places.items) before t1.holdings.top (sym a.rows) whole.steady.fits in
-    let pinned : 0 < sum_by (λ y. one (is_pin n y)) before =
-    (let b = pins-here t t1 (λ key. None) false 0 row me a in let d = ap (sum_by (λ y. one (is_pin n y))) a.rows in omega arith) in
+    let pinned : 0 < sum_by (λ y. one (is_pin n y)) before = grind (arith, nat_tests, pins-here) in
     let joined = joined-fits p (Owner.Load l) n rs was.core.handles.ordered r.may.good refl none row.number.0 x unvalued spared (counts_at t1.holdings.nodes) (refs_at t1.holdings.nodes)
     (refs_at c.set_references.new.nodes) t1.holdings.top fits pinned c.set_references.ensures.here c.set_references.ensures.others in
     let told = fits-same (counts_at t1.holdings.nodes) (counts_at c.set_references.new.nodes) (refs_at c.set_references.new.nodes) (refs_at c.set_references.new.nodes)

@@ -6,6 +6,5 @@ returns-then-not-is_owned c stored closed failures = ap (λ b. where_so b (spent
 
 pub returns-then-t : goal.returns-then-t
 returns-then-t c stored closed failures =
-    let e = c.if-t.true in
     let h : nat_le greatest c.args.t.now.holdings.last_handle ≡ true = grind (arith, nat_tests) in
     sym (ap (λ b. refused_if b Error.NumbersSpent) h) ∙ ap (λ b. where_so b (spent c.args.t.now.holdings.last_handle)) (c.if-not-is_owned.ensures stored closed failures)

@@ -1,16 +1,11 @@
-use Rattle.pagable_tables.proofs.Words.{◌≡◌, ◌==◌, if◌then◌else◌, [], ◌∷◌, refl, ap, sym, ◌∙◌, subst, Some, false, Counts, live, counts_at, refs_at, Fits, ValueStays, has_value, falls_in}
-use Rattle.pagable_tables.proofs.Words.{is_new, owns_nothing, keyed, ℕ, inl, inr, arith, cases_eq, nat_tests}
+use Rattle.pagable_tables.proofs.Words.{◌≡◌, ◌==◌, if◌then◌else◌, [], ◌∷◌, ap, ◌∙◌, false, Counts, live, is_new, arith, cases_eq, nat_tests}
 use Rattle.pagable_tables.proofs.{Shedding.none-falls-in, Fitting.long-if, KeyPut.key-fits, KeyPut.key-cells, KeyPut.key-top}
 use Rattle.pagable_tables.proofs.keys.put_key.Goals as goal
 
 pub returns-clause-cells : goal.returns-clause-cells
 returns-clause-cells c =
-    let t = c.args.t.now in
-    let n = c.args.node in
-    let counts = c.in-Some.counts in
-    key-cells (counts_at t.nodes) (counts_at c.set_counts.new.nodes) (refs_at t.nodes) (refs_at c.set_counts.new.nodes)
-    (live t.handles.places.items) t.top n counts c.args.key c.requires.steady.fits (sym c.counts_of.ensures ∙ c.in-Some.is) c.requires.key
-    (c.set_counts.ensures.here ∙ ap Some c.counts_keyed-with_key.ensures) c.set_counts.ensures.others c.set_counts.ensures.refs
+    grind (arith, nat_tests, key-cells, live, c.requires.steady.fits, c.counts_of.ensures, c.in-Some.is, c.requires.key, c.set_counts.ensures.here, c.counts_keyed-with_key.ensures,
+        c.set_counts.ensures.others, c.set_counts.ensures.refs)
 
 pub returns-clause-falling : goal.returns-clause-falling
 returns-clause-falling c =
@@ -24,28 +19,13 @@ returns-clause-falling c =
       record {
         sound = c.requires.steady.sound;
         next = c.requires.steady.next;
-        fits = subst (λ k. Fits (counts_at c.set_counts.new.nodes) (refs_at c.set_counts.new.nodes) (live t.handles.places.items) k (if b then n ∷ [] else []) owns_nothing) (sym top)
-            (key-fits (counts_at t.nodes) (counts_at c.set_counts.new.nodes) (refs_at t.nodes) (refs_at c.set_counts.new.nodes)
-            (live t.handles.places.items) t.top n counts c.args.key c.requires.steady.fits (sym c.counts_of.ensures ∙ c.in-Some.is) c.requires.key
-            (c.set_counts.ensures.here ∙ ap Some c.counts_keyed-with_key.ensures) c.set_counts.ensures.others c.set_counts.ensures.refs b refl);
+        fits =
+            grind (arith, nat_tests, key-fits, c.requires.steady.fits, c.counts_of.ensures, c.in-Some.is, c.requires.key, c.set_counts.ensures.here, c.counts_keyed-with_key.ensures,
+                c.set_counts.ensures.others, c.set_counts.ensures.refs);
       },
       long-if b n [],
     )
 
-keyed-value : (y : Counts) (key top : ℕ) → y.is_falling ≡ false → ValueStays (Some y) (Some (keyed y key top))
-keyed-value y key top stood falls = (stood, grind (arith, nat_tests))
-
 pub returns-clause-values : goal.returns-clause-values
 returns-clause-values c m =
-    let t = c.args.t.now in
-    let n = c.args.node in
-    let counts = c.in-Some.counts in
-    let at = counts_at t.nodes in
-    let at' = counts_at c.set_counts.new.nodes in
-    let is : at n ≡ Some counts = sym c.counts_of.ensures ∙ c.in-Some.is in
-    let here = c.set_counts.ensures.here ∙ ap Some c.counts_keyed-with_key.ensures in
-    let stood : counts.is_falling ≡ false = sym (ap falls_in is) ∙ none-falls-in t c.requires.steady n in
-    elim (cases_eq m n) [
-      | inl eq ↦ subst (λ k. ValueStays (at k) (at' k)) (sym eq) (subst (λ o. ValueStays o (at' n)) (sym is) (subst (ValueStays (Some counts)) (sym here) (keyed-value counts c.args.key t.top stood)))
-      | inr ne ↦ λ falls. (ap falls_in (sym (c.set_counts.ensures.others m ne)) ∙ falls, ap has_value (c.set_counts.ensures.others m ne))
-    ]
+    grind (arith, nat_tests, none-falls-in, cases_eq, c.counts_of.ensures, c.in-Some.is, c.set_counts.ensures.here, c.counts_keyed-with_key.ensures, c.requires.steady, c.set_counts.ensures.others)

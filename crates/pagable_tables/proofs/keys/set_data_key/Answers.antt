@@ -1,16 +1,10 @@
-use Rattle.pagable_tables.proofs.Words.{not, None, refl, sym, ◌∙◌, arith, inl, inr, ap, any_mode, counts_at, load_at, ◌≡◌, false, rules, is_loose}
-use Rattle.pagable_tables.proofs.{Alive.row-le-live, Begun.not-closed, Coming.some-held, Fitting.handle_of, Fitting.held-here, Worlds.still, Worlds.owner-same, keeps.FallCalls.set-key-whole}
+use Rattle.pagable_tables.proofs.Words.{not, None, refl, sym, ◌∙◌, arith, inl, inr, ap, any_mode, load_at, nat_tests}
+use Rattle.pagable_tables.proofs.{Alive.row-le-live, Begun.not-closed, Coming.some-held, Fitting.held-here, Worlds.still, Worlds.owner-same, keeps.FallCalls.set-key-whole}
 use Rattle.pagable_tables.proofs.{keeps.Placed.whole-so, Shedding.sheds-still, Newer.set-key-newer, Newer.later-so}
 use Rattle.pagable_tables.proofs.keys.set_data_key.Goals as goal
 
 pub set_key-requires-clause-live : goal.set_key-requires-clause-live
-set_key-requires-clause-live g c =
-    let t = c.args.t.now.holdings in
-    let x = c.in-Ok.at.row in
-    let l = row-le-live (handle_of x.node.0) t.handles.places.items c.in-Ok.at.place x c.in-Ok.ensures.place in
-    let h = held-here x in
-    let w = c.requires.whole.steady.fits.holding x.node.0 in
-    some-held (counts_at t.nodes x.node.0) (omega arith)
+set_key-requires-clause-live g c = grind (arith, nat_tests, row-le-live, held-here, some-held, c.in-Ok.ensures.place, c.requires.whole.steady.fits.holding)
 
 pub returns-in-Err-clause-set : goal.returns-in-Err-clause-set
 returns-in-Err-clause-set g c stored closed failures e = record { does = inl (record { e = c.in-Err.e; why = c.in-Err.ensures.fault stored closed failures any_mode; told = refl; stays = still _ }) }
@@ -42,7 +36,4 @@ returns-clause-later g c later =
     later-so later (record { last = n.last; owned = n.owned }) (λ l load is. sym (ap (λ loads. load_at loads l) c.set_key.ensures.loads) ∙ is)
 
 pub returns-then-not-is_loose-clause-set : goal.returns-then-not-is_loose-clause-set
-returns-then-not-is_loose-clause-set g c stored closed failures e =
-    let row = c.in-Ok.at.row in
-    let other : is_loose row.mode ≡ false = search rules in
-    record { does = inr (row, record { live = c.in-Ok.ensures.found; own = owner-same c.args.me row.owner c.in-Ok.ensures.owner; as_asked = refl }, inl (other, refl, still _)) }
+returns-then-not-is_loose-clause-set g c stored closed failures e = grind (arith, nat_tests, owner-same, still, c.in-Ok.ensures.found, c.in-Ok.ensures.owner)

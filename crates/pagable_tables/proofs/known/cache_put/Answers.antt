@@ -1,5 +1,5 @@
-use Rattle.pagable_tables.proofs.Words.{◌≡◌, ◌∙◌, ℕ, ap, sym, subst, refl, false, None, Ok, inl, inr, arith, rules, NodeNumber, usable, fits_mode, Owns, offer_fault, recall_fault}
-use Rattle.pagable_tables.proofs.Words.{with_cached, OfferCall, known_at, core_of, plain_of, Suits, option_map, is_some, spent, where_so}
+use Rattle.pagable_tables.proofs.Words.{◌≡◌, ◌∙◌, ℕ, ap, sym, subst, refl, false, None, Ok, inl, inr, arith, NodeNumber, fits_mode, Owns, offer_fault, recall_fault, nat_tests}
+use Rattle.pagable_tables.proofs.Words.{OfferCall, core_of, plain_of, Suits, option_map}
 use Rattle.pagable_tables.proofs.{Offers.offer-last, Offers.learned, Worlds.same-cache, keeps.Placed.whole-so, keeps.Told.told-whole, Pins.no-fault, Recalled.recalls, Recalled.not-recalled}
 use Rattle.pagable_tables.proofs.{keeps.CacheCalls.known-suits, keeps.CacheCalls.offer-whole}
 use Rattle.pagable_tables.proofs.known.cache_put.Goals as goal
@@ -25,44 +25,12 @@ returns-in-Err-make-clause-offered c stored failures =
     let owns : Owns w c.args.me c.args.handle (fits_mode c.args.kind.0) c.in-Ok.row = record { live = o.live; own = o.own; as_asked = o.as_asked } in
     let is = sym (c.in-Some.ensures stored false failures) in
     let call = not-recalled w c.args.me c.args.kind c.args.key c.in-Some.node c.mode_of.result _ is c.mode_of.ensures c.in-Err-make.e (c.in-Err-make.ensures.made stored false failures) in
-    let none = no-fault w c.args.me c.args.handle (fits_mode c.args.kind.0) c.in-Ok.row owns in
-    let cause : offer_fault w c.args.me c.args.kind c.args.key c.args.handle ≡ recall_fault w c.args.kind c.args.key =
-    offer-last w c.args.me c.args.kind c.args.key c.args.handle c.in-Ok.row none o.live c.in-Ok.ensures.typed in
+    let cause : offer_fault w c.args.me c.args.kind c.args.key c.args.handle ≡ recall_fault w c.args.kind c.args.key = grind (arith, nat_tests, offer-last, c.in-Ok.ensures.typed) in
     record { answers = tt; refused = record { why = elim call.refused.why [ inl a ↦ inl (cause ∙ a) | inr b ↦ inr (b.0, cause ∙ b.1, (refl, inr b.2.1)) ]; stays = call.refused.stays } }
 
 pub returns-in_default-clause-offered : goal.returns-in_default-clause-offered
 returns-in_default-clause-offered c stored failures =
-    let t = c.args.t.now in
-    let w = core_of t stored false failures in
-    let row = c.in-Ok.row in
-    let o = c.in-Ok.ensures.owns in
-    let owns : Owns w c.args.me c.args.handle (fits_mode c.args.kind.0) row = record { live = o.live; own = o.own; as_asked = o.as_asked } in
-    let none : usable w c.args.kind.0 c.args.key ≡ None = search rules in
-    let known = learned (known_at t.cache) (known_at c.learn.new.cache) c.args.kind.0 c.args.key row.node c.in-Ok-learn.ensures.here c.in-Ok-learn.ensures.others in
-    record {
-      answers = (
-        row,
-        owns,
-        c.in-Ok.ensures.typed,
-        (
-          none,
-          record {
-            rows = refl;
-            cells = λ n. refl;
-            list = refl;
-            cache = same-cache (with_cached w c.args.kind c.args.key row.node) _ refl (λ n. refl) known;
-            stored = λ q. refl;
-            closed = refl;
-            failures = refl;
-            loads = λ l. refl;
-            workers = λ v. refl;
-            last = refl;
-            places = record { handles = omega arith; entries = omega arith };
-          },
-        ),
-      );
-      refused = tt;
-    }
+    grind (arith, nat_tests, learned, same-cache, c.in-Ok.ensures.owns, c.in-Ok-learn.ensures.here, c.in-Ok-learn.ensures.others, c.in-Ok.ensures.typed)
 
 pub returns-in_default-clause-whole : goal.returns-in_default-clause-whole
 returns-in_default-clause-whole c =
@@ -78,30 +46,4 @@ returns-in_default-learn-clause-whole c =
     whole-so w.steady (told-whole w.core refl (λ n. refl) refl (λ kind key n is. sym (same kind key) ∙ is) refl (λ l. refl) (λ v. refl) refl)
 
 pub returns-in_default-learn-clause-offered : goal.returns-in_default-learn-clause-offered
-returns-in_default-learn-clause-offered c stored failures =
-    let w = core_of c.args.t.now stored false failures in
-    let o = c.in-Ok.ensures.owns in
-    let owns : Owns w c.args.me c.args.handle (fits_mode c.args.kind.0) c.in-Ok.row = record { live = o.live; own = o.own; as_asked = o.as_asked } in
-    let unknown : usable w c.args.kind.0 c.args.key ≡ None = search rules in
-    let none = no-fault w c.args.me c.args.handle (fits_mode c.args.kind.0) c.in-Ok.row owns in
-    let cause = offer-last w c.args.me c.args.kind c.args.key c.args.handle c.in-Ok.row none o.live c.in-Ok.ensures.typed ∙ ap (λ u. where_so (is_some u) (spent w.last.handle)) unknown in
-    let known = λ (kind key : ℕ). ap (option_map (λ (n : NodeNumber). n.0)) (c.in_default-learn.ensures.err kind key) in
-    record {
-      answers = tt;
-      refused = record {
-        why = inr (refl, cause, (refl, inl unknown));
-        stays = record {
-          rows = refl;
-          cells = λ n. refl;
-          list = refl;
-          cache = same-cache w _ refl (λ n. refl) known;
-          stored = λ q. refl;
-          closed = refl;
-          failures = refl;
-          loads = λ l. refl;
-          workers = λ v. refl;
-          last = refl;
-          places = record { handles = omega arith; entries = omega arith };
-        };
-      };
-    }
+returns-in_default-learn-clause-offered c stored failures = grind (arith, nat_tests, no-fault, offer-last, same-cache, c.in-Ok.ensures.owns, c.in-Ok.ensures.typed, c.in_default-learn.ensures.err)

@@ -1,4 +1,4 @@
-use Rattle.pagable_tables.proofs.Words.{fits_mode, core_of, ◌≡◌, ap, sym, ◌∙◌, true, false, Some, None, rules, if_there, type_of, is_type, Cell, cell_in}
+use Rattle.pagable_tables.proofs.Words.{fits_mode, core_of, ◌≡◌, ap, sym, ◌∙◌, true, Some, None, rules, if_there, type_of, is_type, Cell, cell_in, arith, nat_tests}
 use Rattle.pagable_tables.proofs.{Offers.offer-first, Offers.offer-kind, Pins.wrong-mode}
 use Rattle.pagable_tables.proofs.known.offered.Goals as goal
 
@@ -7,10 +7,7 @@ returns-in-Err-clause-fault c stored closed failures key =
     offer-first (core_of c.args.t.now stored closed failures) c.args.me c.args.kind key c.args.handle c.in-Err.e (c.in-Err.ensures.fault stored closed failures (fits_mode c.args.kind.0))
 
 pub returns-then-not-fits_mode-clause-fault : goal.returns-then-not-fits_mode-clause-fault
-returns-then-not-fits_mode-clause-fault c stored closed failures key =
-    let w = core_of c.args.t.now stored closed failures in
-    let other : fits_mode c.args.kind.0 c.in-Ok.at.row.mode ≡ false = search rules in
-    offer-first w c.args.me c.args.kind key c.args.handle _ (wrong-mode w c.args.me c.args.handle (fits_mode c.args.kind.0) c.in-Ok.at.row c.in-Ok.ensures.found c.in-Ok.ensures.owner other)
+returns-then-not-fits_mode-clause-fault c stored closed failures key = grind (arith, nat_tests, offer-first, wrong-mode, c.in-Ok.ensures.found, c.in-Ok.ensures.owner)
 
 pub returns-then-not-is_of-clause-fault : goal.returns-then-not-is_of-clause-fault
 returns-then-not-is_of-clause-fault c stored closed failures key =

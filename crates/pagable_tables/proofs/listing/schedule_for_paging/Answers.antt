@@ -1,8 +1,7 @@
-use Rattle.pagable_tables.proofs.Words.{◌≡◌, ◌∙◌, ◌++◌, ◌∷◌, [], ap, refl, subst, false, inl, inr, arith, rules, Ok, None, not, is_unpinned, is_owner, Owner, moved, only_handle, Falls, live}
-use Rattle.pagable_tables.proofs.Words.{is_valued, plain_of, core_of}
+use Rattle.pagable_tables.proofs.Words.{◌∙◌, ap, refl, subst, false, inl, inr, arith, rules, Ok, None, not, is_unpinned, is_owner, Owner, only_handle, Falls, is_valued, plain_of, core_of, nat_tests}
 use Rattle.pagable_tables.proofs.{keeps.Comes.not-a-value, keeps.Comes.not-list, keeps.Fallen.may-fall, keeps.GoingOn.stays-on, keeps.ListCalls.schedule-whole, keeps.Opened.falls-opened}
-use Rattle.pagable_tables.proofs.{keeps.Placed.whole-so, keeps.Told.roomy-whole, keeps.Told.alike-whole, Begun.begun-whole, Begun.not-closed, Begun.shut-then, Begun.open-then}
-use Rattle.pagable_tables.proofs.{Listed.alike-listed, Pins.wrong-mode, Worlds.still, Worlds.owner-same, Shedding.sheds-still, Newer.later-so, Newer.schedule-newer}
+use Rattle.pagable_tables.proofs.{keeps.Placed.whole-so, keeps.Told.roomy-whole, keeps.Told.alike-whole, Begun.begun-whole, Begun.not-closed, Begun.shut-then, Begun.open-then, Listed.alike-listed}
+use Rattle.pagable_tables.proofs.{Pins.wrong-mode, Worlds.still, Worlds.owner-same, Shedding.sheds-still, Newer.later-so, Newer.schedule-newer}
 use Rattle.pagable_tables.proofs.listing.schedule_for_paging.Goals as goal
 
 pub returns-in-Err-clause-scheduled : goal.returns-in-Err-clause-scheduled
@@ -38,17 +37,7 @@ returns-then-not-lists-clause-whole g c =
 
 pub returns-clause-scheduled : goal.returns-clause-scheduled
 returns-clause-scheduled g c stored closed failures e =
-    let row = c.in-Ok.at.row in
-    let list : c.push.new.self.items ≡ c.args.t.now.holdings.list.items ++ c.args.handle ∷ [] = search rules in
-    let rows = c.hand_over.ensures.rows ∙ ap (λ q. moved (only_handle q) Owner.List (live c.args.t.now.holdings.handles.places.items)) c.in-Ok.ensures.number in
-    record {
-      moves = (
-        row,
-        record { live = c.in-Ok.ensures.found; own = owner-same c.args.me row.owner c.in-Ok.ensures.owner; as_asked = search rules },
-        inl (open-then c.args.lists closed c.if-not-lists.false e, alike-listed _ _ (c.hand_over.ensures.rows ∙ ap (λ q. moved (only_handle q) Owner.List (live c.args.t.now.holdings.handles.places.items)) c.in-Ok.ensures.number) list (record { handles = omega arith; entries = search rules }) refl),
-      );
-      refused = tt;
-    }
+    grind (arith, nat_tests, owner-same, open-then, alike-listed, c.in-Ok.ensures.found, c.in-Ok.ensures.owner, c.if-not-lists.false, c.hand_over.ensures.rows, c.in-Ok.ensures.number)
 
 pub returns-clause-whole : goal.returns-clause-whole
 returns-clause-whole g c =
@@ -86,8 +75,4 @@ pub returns-in_default-clause-sheds : goal.returns-in_default-clause-sheds
 returns-in_default-clause-sheds g c = sheds-still c.args.t.now.holdings _ c.requires.whole.steady
 
 pub returns-then-not-is_unpinned-clause-scheduled : goal.returns-then-not-is_unpinned-clause-scheduled
-returns-then-not-is_unpinned-clause-scheduled g c stored closed failures e =
-    let w = core_of c.args.t.now stored closed failures in
-    let row = c.in-Ok.at.row in
-    let other : is_unpinned row.mode ≡ false = search rules in
-    record { moves = tt; refused = record { why = inl (wrong-mode w c.args.me c.args.handle is_unpinned row c.in-Ok.ensures.found c.in-Ok.ensures.owner other); stays = still w } }
+returns-then-not-is_unpinned-clause-scheduled g c stored closed failures e = grind (arith, nat_tests, wrong-mode, still, c.in-Ok.ensures.found, c.in-Ok.ensures.owner)

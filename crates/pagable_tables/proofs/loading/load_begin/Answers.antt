@@ -1,6 +1,6 @@
-use Rattle.pagable_tables.proofs.Words.{◌≡◌, arith, ap, sym, ◌∙◌, subst, None, Some, inl, inr, false, rules, not, OptionalDataKey, HandleRow, Owner, Mode, if_there, is_loose, is_in_memory}
-use Rattle.pagable_tables.proofs.Words.{is_here, Cell, Alike, of_cell, Owns, is_handle_here, with_handle, with_load, live, counts_at, holds_in, cell_in, key_in, core_of}
-use Rattle.pagable_tables.proofs.{Alive.row-le-live, Fitting.handle_of, Fitting.held-here, Worlds.still, Worlds.owner-same, Opened.handle-first, Opened.no-fault, Opened.no-begin-fault}
+use Rattle.pagable_tables.proofs.Words.{◌≡◌, arith, ap, sym, ◌∙◌, subst, None, Some, inl, inr, false, rules, not, OptionalDataKey, HandleRow, Owner, Mode, if_there, is_loose, is_in_memory, nat_tests}
+use Rattle.pagable_tables.proofs.Words.{is_here, Cell, Alike, of_cell, Owns, is_handle_here, with_handle, with_load, live, counts_at, cell_in, key_in, core_of}
+use Rattle.pagable_tables.proofs.{Alive.row-le-live, Fitting.held-here, Worlds.still, Worlds.owner-same, Opened.handle-first, Opened.no-fault, Opened.no-begin-fault}
 use Rattle.pagable_tables.proofs.{Opened.here-told, Pins.wrong-mode, keeps.LoadCalls.begin-whole, keeps.Placed.whole-so}
 use Rattle.pagable_tables.proofs.loading.load_begin.Goals as goal
 
@@ -11,15 +11,7 @@ returns-in-Err-clause-begun c stored closed failures =
     record { begins = tt; refused = record { why = inl (handle-first w c.args.me c.args.handle is_loose c.in-Err.e (not (is_handle_here w c.args.handle)) t.last_load t.holdings.last_handle (c.in-Err.ensures.fault stored closed failures is_loose)); stays = still w } }
 
 pub unreachable-requires : goal.unreachable-requires
-unreachable-requires c =
-    let t = c.args.t.now.holdings in
-    let row = c.in-Ok.at.row in
-    let w = c.requires.whole.steady.fits.holding row.node.0 in
-    let a : counts_at t.nodes row.node.0 ≡ None = sym c.counts_of.ensures ∙ c.in_default.is in
-    let b = ap holds_in a in
-    let l = row-le-live (handle_of row.node.0) t.handles.places.items c.in-Ok.at.place row c.in-Ok.ensures.place in
-    let h = held-here row in
-    absurd (omega arith)
+unreachable-requires c = grind (arith, nat_tests, row-le-live, held-here, c.requires.whole.steady.fits.holding, c.counts_of.ensures, c.in_default.is, c.in-Ok.ensures.place)
 
 pub returns-in-Ok-open_cell-clause-begun : goal.returns-in-Ok-open_cell-clause-begun
 returns-in-Ok-open_cell-clause-begun c stored closed failures =
@@ -56,11 +48,4 @@ pub returns-in-Err-open_cell-clause-whole : goal.returns-in-Err-open_cell-clause
 returns-in-Err-open_cell-clause-whole c = whole-so c.open_cell.ensures.steady (begin-whole c.args.me c.args.handle _ c.requires.whole.core c.requires.owner (returns-in-Err-open_cell-clause-begun c (λ key. None) false 0))
 
 pub returns-then-not-is_loose-clause-begun : goal.returns-then-not-is_loose-clause-begun
-returns-then-not-is_loose-clause-begun c stored closed failures =
-    let t = c.args.t.now in
-    let w = core_of t stored closed failures in
-    let row = c.in-Ok.at.row in
-    let other : is_loose row.mode ≡ false = search rules in
-    let wrong = wrong-mode w c.args.me c.args.handle is_loose row c.in-Ok.ensures.found c.in-Ok.ensures.owner other in
-    let why = handle-first w c.args.me c.args.handle is_loose _ (not (is_handle_here w c.args.handle)) t.last_load t.holdings.last_handle wrong in
-    record { begins = tt; refused = record { why = inl why; stays = still w } }
+returns-then-not-is_loose-clause-begun c stored closed failures = grind (arith, nat_tests, wrong-mode, handle-first, still, c.in-Ok.ensures.found, c.in-Ok.ensures.owner)

@@ -1,16 +1,10 @@
-use Rattle.pagable_tables.proofs.Words.{◌+◌, ◌∙◌, refl, arith, None, false, counts_at, load_at, Owner, Mode, core_of, plain_of}
-use Rattle.pagable_tables.proofs.{Alive.row-le-live, Beginning.load-comes, Beginning.none-yet, Coming.some-held, Fitting.handle_of, Fitting.held-here, Opened.load-goes, Opened.only-memory}
+use Rattle.pagable_tables.proofs.Words.{◌+◌, ◌∙◌, refl, arith, None, false, load_at, Owner, Mode, core_of, plain_of, nat_tests}
+use Rattle.pagable_tables.proofs.{Alive.row-le-live, Beginning.load-comes, Beginning.none-yet, Coming.some-held, Fitting.held-here, Opened.load-goes, Opened.only-memory}
 use Rattle.pagable_tables.proofs.{Newer.newer-alike, Newer.newer-handle, Newer.newer-then, Newer.later-so, Newer.later-opened, Newer.closed-still}
 use Rattle.pagable_tables.proofs.loading.open_cell.Goals as goal
 
 pub come-requires-clause-live : goal.come-requires-clause-live
-come-requires-clause-live c =
-    let row = c.args.at.row in
-    let t = c.args.t.now.holdings in
-    let a = c.requires.whole.steady.fits.holding row.node.0 in
-    let l = row-le-live (handle_of row.node.0) t.handles.places.items c.args.at.place row c.requires.place in
-    let h = held-here row in
-    some-held (counts_at t.nodes row.node.0) (omega arith)
+come-requires-clause-live c = grind (arith, nat_tests, row-le-live, held-here, some-held, c.requires.whole.steady.fits.holding, c.requires.place)
 
 pub returns-in-Ok-come-clause-opened : goal.returns-in-Ok-come-clause-opened
 returns-in-Ok-come-clause-opened c stored closed failures =

@@ -1,34 +1,16 @@
 use Rattle.pagable_tables.proofs.Words.{Bool, true, subst, inl, inr, ◌+◌, ◌≡◌, ◌∷◌, [], ◌++◌, arith, refl, ap, sym, ◌∙◌, Some, rules, one, is_pinning, HandleRow, live, counts_at, refs_at}
-use Rattle.pagable_tables.proofs.Words.{pins_in, holds_in, falls_in, has_value, ValueStays, Counts, cases_eq, nat_tests}
+use Rattle.pagable_tables.proofs.Words.{falls_in, has_value, ValueStays, Counts, cases_eq, nat_tests}
 use Rattle.pagable_tables.proofs.{Alive.length-live-le, Fitting.pins-le-held, Coming.come-fits, Coming.come-cells, Coming.rows-told, Coming.held-few, Worlds.alike}
 use Rattle.pagable_tables.proofs.making.come.Goals as goal
 
 pub counts_more-more-requires-clause-pins : goal.counts_more-more-requires-clause-pins
 counts_more-more-requires-clause-pins c =
-    let n = c.args.node.0 in
-    let rows = live c.args.t.now.handles.places.items in
-    let is : counts_at c.args.t.now.nodes n ≡ Some c.in-Some.counts = sym c.counts_of.ensures ∙ c.in-Some.is in
-    let a = ap pins_in is in
-    let b = c.requires.steady.fits.pinned n in
-    let l = pins-le-held n rows in
-    let h = held-few n rows in
-    let d = length-live-le c.args.t.now.handles.places.items in
-    let k = c.places_taken.ensures.count in
-    let s = c.places_taken.ensures.small in
-    omega arith
+    grind (arith, nat_tests, live, pins-le-held, held-few, length-live-le, c.counts_of.ensures, c.in-Some.is, c.requires.steady.fits.pinned, c.places_taken.ensures.count,
+        c.places_taken.ensures.small)
 
 pub counts_more-more-requires-clause-holds : goal.counts_more-more-requires-clause-holds
 counts_more-more-requires-clause-holds c =
-    let n = c.args.node.0 in
-    let rows = live c.args.t.now.handles.places.items in
-    let is : counts_at c.args.t.now.nodes n ≡ Some c.in-Some.counts = sym c.counts_of.ensures ∙ c.in-Some.is in
-    let a = ap holds_in is in
-    let b = c.requires.steady.fits.holding n in
-    let h = held-few n rows in
-    let d = length-live-le c.args.t.now.handles.places.items in
-    let k = c.places_taken.ensures.count in
-    let s = c.places_taken.ensures.small in
-    omega arith
+    grind (arith, nat_tests, live, held-few, length-live-le, c.counts_of.ensures, c.in-Some.is, c.requires.steady.fits.holding, c.places_taken.ensures.count, c.places_taken.ensures.small)
 
 pub returns-clause-made : goal.returns-clause-made
 returns-clause-made c w =

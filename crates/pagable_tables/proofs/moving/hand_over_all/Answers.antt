@@ -1,10 +1,9 @@
-use Rattle.pagable_tables.proofs.Words.{refl, sym, ap, ◌∙◌, arith, take_all, moved, is_named_by, only_handle, live}
+use Rattle.pagable_tables.proofs.Words.{ap, ◌∙◌, arith, take_all, moved, is_named_by, only_handle, live, nat_tests}
 use Rattle.pagable_tables.proofs.Named.{moved-nobody, moved-take}
 use Rattle.pagable_tables.proofs.moving.hand_over_all.Goals as goal
 
 pub loop-reference-init : goal.loop-reference-init
-loop-reference-init c =
-    record { sound = c.requires; rows = sym (moved-nobody c.args.owner (live c.args.handles.now.places.items)); capacity = refl; next = λ q next. next }
+loop-reference-init c = grind (arith, nat_tests, moved-nobody, c.requires)
 
 pub loop-reference-preserved : goal.loop-reference-preserved
 loop-reference-preserved c =

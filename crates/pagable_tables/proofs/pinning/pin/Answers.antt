@@ -1,6 +1,6 @@
-use Rattle.pagable_tables.proofs.Words.{◌≡◌, ◌∙◌, ap, subst, false, true, inl, inr, arith, rules, sym, None, is_loose, if_there, Alike, is_here, with_handle, with_mode, is_handle_here}
-use Rattle.pagable_tables.proofs.Words.{pin_fault, earlier, where_so, spent, Owns, HandleRow, Mode, Tables, core_of, load_at}
-use Rattle.pagable_tables.proofs.{Pins.handle-first, Pins.no-fault, Pins.spent-late, Pins.wrong-mode, Worlds.still, Worlds.owner-same, Newer.pin-newer, Newer.later-so}
+use Rattle.pagable_tables.proofs.Words.{◌≡◌, ◌∙◌, ap, subst, false, true, inl, inr, arith, rules, sym, None, is_loose, if_there, Alike, is_here, with_handle, with_mode, is_handle_here, nat_tests}
+use Rattle.pagable_tables.proofs.Words.{pin_fault, spent, Owns, HandleRow, Mode, Tables, core_of, load_at}
+use Rattle.pagable_tables.proofs.{Pins.handle-first, Pins.spent-late, Pins.wrong-mode, Worlds.still, Worlds.owner-same, Newer.pin-newer, Newer.later-so}
 use Rattle.pagable_tables.proofs.pinning.pin.Goals as goal
 
 pub returns-in-Err-clause-pinned : goal.returns-in-Err-clause-pinned
@@ -27,10 +27,8 @@ returns-in-Err-pin_here-clause-pinned c stored closed failures =
     let here : is_here w row.node.0 ≡ true = search rules in
     let so : is_handle_here w c.args.handle ≡ true = ap (if_there (λ (row : HandleRow). is_here w row.node.0) false) c.in-Ok.ensures.found ∙ here in
     let owns : Owns w c.args.me c.args.handle is_loose row = record { live = c.in-Ok.ensures.found; own = owner-same c.args.me row.owner c.in-Ok.ensures.owner; as_asked = search rules } in
-    let none = no-fault w c.args.me c.args.handle is_loose row owns in
     let m = (c.in-Err-pin_here.ensures.pinned stored closed failures).refused in
-    let cause : pin_fault w c.args.me c.args.handle ≡ spent w.last.handle =
-    ap (λ f. earlier f (where_so (is_handle_here w c.args.handle) (spent w.last.handle))) none ∙ ap (λ b. where_so b (spent w.last.handle)) so in
+    let cause : pin_fault w c.args.me c.args.handle ≡ spent w.last.handle = grind (arith, nat_tests) in
     record { pins = tt; refused = record { why = elim m.why [ inl a ↦ inl (cause ∙ a) | inr b ↦ inr (b.0, cause ∙ b.1, (so, b.2)) ]; stays = m.stays } }
 
 pub returns-in-Ok-pin_here-clause-later : goal.returns-in-Ok-pin_here-clause-later
@@ -42,11 +40,4 @@ returns-in-Err-pin_here-clause-later c later =
     later-so later (pin-newer c.args.me c.args.handle _ (returns-in-Err-pin_here-clause-pinned c (λ key. None) false 0)) (λ l load is. sym (ap (λ (u : Tables). load_at u.loads l) c.in-Err-pin_here.ensures.same) ∙ is)
 
 pub returns-then-not-is_loose-clause-pinned : goal.returns-then-not-is_loose-clause-pinned
-returns-then-not-is_loose-clause-pinned c stored closed failures =
-    let w = core_of c.args.t.now stored closed failures in
-    let row = c.in-Ok.at.row in
-    let other : is_loose row.mode ≡ false = search rules in
-    let wrong = wrong-mode w c.args.me c.args.handle is_loose row c.in-Ok.ensures.found c.in-Ok.ensures.owner other in
-    let why = handle-first w c.args.me c.args.handle is_loose _ (where_so (is_handle_here w c.args.handle) (spent w.last.handle)) wrong
-    (λ f so. let a = spent-late w.last.handle (is_handle_here w c.args.handle) f so in omega arith) in
-    record { pins = tt; refused = record { why = inl why; stays = still w } }
+returns-then-not-is_loose-clause-pinned c stored closed failures = grind (arith, nat_tests, wrong-mode, handle-first, spent-late, still, c.in-Ok.ensures.found, c.in-Ok.ensures.owner)

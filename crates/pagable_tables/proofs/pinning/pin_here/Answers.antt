@@ -1,12 +1,10 @@
-use Rattle.pagable_tables.proofs.Words.{◌≡◌, ◌∙◌, ℕ, ap, subst, refl, false, Some, None, is_owner, is_shared, is_owned_by, Alike, with_mode, HandleRow, Owner, Mode, Tables, live, core_of}
-use Rattle.pagable_tables.proofs.Words.{plain_of}
+use Rattle.pagable_tables.proofs.Words.{◌≡◌, ◌∙◌, ℕ, ap, subst, false, Some, None, is_owner, is_shared, is_owned_by, Alike, with_mode, HandleRow, Owner, Mode, Tables, core_of}
+use Rattle.pagable_tables.proofs.Words.{plain_of, arith, nat_tests}
 use Rattle.pagable_tables.proofs.{Pins.pinned-alike, Pins.found-again, keeps.Comes.not-list, keeps.HandleCalls.loose-unshared, keeps.Rows.found-among}
 use Rattle.pagable_tables.proofs.pinning.pin_here.Goals as goal
 
 pub make-requires-clause-suits : goal.make-requires-clause-suits
-make-requires-clause-suits c =
-    let rows = live c.args.t.now.holdings.handles.places.items in
-    record { row = c.args.row; there = (found-among c.args.row.number.0 rows c.args.row c.requires.owns.live).0; at = refl; shared = loose-unshared c.args.row.mode c.requires.owns.as_asked }
+make-requires-clause-suits c = grind (arith, nat_tests, found-among, loose-unshared, c.requires.owns.live, c.requires.owns.as_asked)
 
 pub returns-in-Err-clause-pinned : goal.returns-in-Err-clause-pinned
 returns-in-Err-clause-pinned c stored closed failures = let m = c.in-Err.ensures.made stored closed failures in record { pinned = tt; refused = m.refused }

@@ -1,22 +1,9 @@
-use Rattle.pagable_tables.proofs.Words.{◌+◌, refl, None, false, live, counts_at, refs_at}
+use Rattle.pagable_tables.proofs.Words.{◌+◌, None, false, live, counts_at, refs_at, arith, nat_tests}
 use Rattle.pagable_tables.proofs.{Coming.rows-told, Worlds.same-cache, keeps.Told.alike-whole, keeps.Placed.whole-so}
 use Rattle.pagable_tables.proofs.places.grow.Goals as goal
 
 pub returns-clause-grown : goal.returns-clause-grown
-returns-clause-grown c stored closed failures =
-    record {
-      rows = c.reserve.ensures.rows;
-      cells = λ n. refl;
-      list = c.grow_list.ensures.items;
-      cache = same-cache _ _ c.reserve.ensures.rows (λ n. refl) (λ kind key. refl);
-      stored = λ q. refl;
-      closed = refl;
-      failures = refl;
-      loads = λ l. refl;
-      workers = λ v. refl;
-      last = refl;
-      places = record { handles = c.reserve.ensures.capacity; entries = c.grow_list.ensures.capacity };
-    }
+returns-clause-grown c stored closed failures = grind (arith, nat_tests, same-cache, c.reserve.ensures.rows, c.grow_list.ensures.items, c.reserve.ensures.capacity, c.grow_list.ensures.capacity)
 
 pub returns-clause-whole : goal.returns-clause-whole
 returns-clause-whole c =

@@ -1,4 +1,4 @@
-use Rattle.pagable_tables.proofs.Words.{ℕ, Bool, Option, get_or, sym, ◌∙◌, refl, arith, [], ◌∷◌, ArcRef, Blob, core_of}
+use Rattle.pagable_tables.proofs.Words.{ℕ, Bool, Option, get_or, sym, ◌∙◌, refl, arith, [], ◌∷◌, ArcRef, Blob, core_of, nat_tests}
 use Rattle.pagable_tables.proofs.Named.{seen-more, seen-none, named-none, above-named, fault-some, fault-none, fault-end}
 use Rattle.pagable_tables.proofs.references.check_references.Goals as goal
 
@@ -30,6 +30,4 @@ loop-i-preserved c =
     }
 
 pub returns-clause-fit : goal.returns-clause-fit
-returns-clause-fit c stored closed failures =
-    let l = c.loop-i in
-    l.invariant.rest stored closed failures ∙ fault-end (core_of c.args.t.now stored closed failures) c.args.me l.invariant.seen c.args.references.now l.i (omega arith)
+returns-clause-fit c stored closed failures = grind (arith, nat_tests, fault-end)

@@ -9,7 +9,6 @@ pub fall-requires : goal.fall-requires
 fall-requires g c =
     let t : Holdings = record c.args.t.now { unlisted = None } in
     let e : GivesUp t [] c.args.at.row c.args.lists c.give_up.new.t = c.give_up.ensures [] (unowned t c.args.at.row [] c.requires.plain (aside c.args.t.now None [] owns_nothing c.requires.steady)) in
-    let long = e.long in
     record { falling = (e.more, e.falling, omega arith) }
 
 pub returns-clause-falls : goal.returns-clause-falls

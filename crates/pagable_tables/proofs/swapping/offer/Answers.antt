@@ -1,5 +1,5 @@
 use Rattle.pagable_tables.proofs.Words.{not, ◌≡◌, ◌+◌, ◌∙◌, false, None, Ok, Err, Some, inr, refl, ap, sym, subst, arith, IfSome, length, nat_tests, Owner, is_owner, mode_of, OfferCall}
-use Rattle.pagable_tables.proofs.Words.{with_known, Falls, only_handle, Tables, is_valued, core_of, plain_of, Offered, load_at, inl}
+use Rattle.pagable_tables.proofs.Words.{with_known, Falls, only_handle, Tables, is_valued, core_of, plain_of, Offered, load_at}
 use Rattle.pagable_tables.proofs.{Begun.open-then, Begun.not-closed, Pins.found-again, Shedding.stays-first, Shedding.sheds-still, Swapped.begun-made, Swapped.swapped, Swapped.values-made}
 use Rattle.pagable_tables.proofs.{Swapped.values-still, Worlds.still, keeps.CacheCalls.offer-whole, keeps.Comes.not-a-value, keeps.Comes.not-list, keeps.Placed.whole-so}
 use Rattle.pagable_tables.proofs.{keeps.Rows.found-among, Newer.later-so, Newer.offer-newer}
@@ -76,9 +76,7 @@ returns-in-Err-cache_put-clause-later g c later =
 
 pub returns-in-Err-cache_put-clause-sheds : goal.returns-in-Err-cache_put-clause-sheds
 returns-in-Err-cache_put-clause-sheds g c there =
-    let stays = (c.in-Err-cache_put.ensures.offered (λ key. None) 0).refused.stays in
-    let t = c.cache_put.new.t in
-    stays-first (values-still c.args.t.now t c.requires.whole c.cache_put.ensures.whole stays.rows stays.cells) (sheds-still t.holdings _ c.cache_put.ensures.whole.steady)
+    grind (arith, nat_tests, stays-first, values-still, sheds-still, c.in-Err-cache_put.ensures.offered, c.requires.whole, c.cache_put.ensures.whole, c.cache_put.ensures.whole.steady)
 
 pub returns-in-Err-clause-sheds : goal.returns-in-Err-clause-sheds
 returns-in-Err-clause-sheds g c there = sheds-still c.args.t.now.holdings _ c.requires.whole.steady
@@ -87,5 +85,4 @@ pub returns-in-Ok-clause-sheds : goal.returns-in-Ok-clause-sheds
 returns-in-Ok-clause-sheds g c there = sheds-still c.args.t.now.holdings _ c.requires.whole.steady
 
 pub returns-in-Err-clause-offered : goal.returns-in-Err-clause-offered
-returns-in-Err-clause-offered g c stored closed failures e =
-    record { answers = tt; refused = record { why = inl (c.in-Err.ensures.fault stored closed failures c.args.key); stays = still (core_of c.args.t.now stored closed failures) } }
+returns-in-Err-clause-offered g c stored closed failures e = grind (arith, nat_tests, still, c.in-Err.ensures.fault)

@@ -1,31 +1,15 @@
-use Rattle.pagable_tables.proofs.Words.{◌+◌, ◌≡◌, arith, refl, ap, sym, ◌∙◌, Some, None, false, not, one, is_pinning, live, counts_at, refs_at, pins_in, holds_in}
-use Rattle.pagable_tables.proofs.{Alive.length-live-le, Alive.changed-known, Alive.row-le-live, Alive.row-live, Fitting.pins-le-held, Fitting.handle_of, Fitting.held-here, Coming.turn-fits}
+use Rattle.pagable_tables.proofs.Words.{◌+◌, ◌≡◌, arith, refl, ap, sym, ◌∙◌, Some, None, false, not, one, is_pinning, live, counts_at, refs_at, nat_tests}
+use Rattle.pagable_tables.proofs.{Alive.length-live-le, Alive.changed-known, Alive.row-le-live, Alive.row-live, Fitting.pins-le-held, Fitting.held-here, Coming.turn-fits}
 use Rattle.pagable_tables.proofs.{Coming.turn-cells, Coming.turned, Coming.held-few, Worlds.alike, keeps.Told.settles, keeps.Placed.whole-so, keeps.HandleCalls.pins-whole}
 use Rattle.pagable_tables.proofs.turning.turn.Goals as goal
 
 pub unreachable-requires : goal.unreachable-requires
-unreachable-requires c =
-    let n = c.args.at.row.node.0 in
-    let w = c.requires.whole.steady.fits.holding n in
-    let a : counts_at c.args.t.now.holdings.nodes n ≡ None = sym c.counts_of.ensures ∙ c.in_default.is in
-    let b = ap holds_in a in
-    let l = row-le-live (handle_of n) c.args.t.now.holdings.handles.places.items c.args.at.place c.args.at.row c.requires.place in
-    let h = held-here c.args.at.row in
-    absurd (omega arith)
+unreachable-requires c = grind (arith, nat_tests, row-le-live, held-here, c.requires.whole.steady.fits.holding, c.counts_of.ensures, c.in_default.is, c.requires.place)
 
 pub counts_pinned-pinned-requires : goal.counts_pinned-pinned-requires
 counts_pinned-pinned-requires c =
-    let n = c.args.at.row.node.0 in
-    let rows = live c.args.t.now.holdings.handles.places.items in
-    let is : counts_at c.args.t.now.holdings.nodes n ≡ Some c.in-Some.counts = sym c.counts_of.ensures ∙ c.in-Some.is in
-    let a = ap pins_in is in
-    let b = c.requires.whole.steady.fits.pinned n in
-    let l = pins-le-held n rows in
-    let h = held-few n rows in
-    let d = length-live-le c.args.t.now.holdings.handles.places.items in
-    let k = c.places_taken.ensures.count in
-    let s = c.places_taken.ensures.small in
-    omega arith
+    grind (arith, nat_tests, pins-le-held, held-few, length-live-le, c.counts_of.ensures, c.in-Some.is, c.requires.whole.steady.fits.pinned, c.places_taken.ensures.count,
+        c.places_taken.ensures.small)
 
 pub returns-clause-turned : goal.returns-clause-turned
 returns-clause-turned c stored closed failures =

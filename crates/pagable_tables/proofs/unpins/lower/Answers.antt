@@ -1,8 +1,7 @@
-use Rattle.pagable_tables.proofs.Words.{◌≡◌, ℕ, Bool, ◌+◌, ◌-◌, ◌≤◌, true, false, if◌then◌else◌, [], ◌∷◌, sum_by, refl, ap, sym, ◌∙◌, subst, arith, Some, None, ◌≢◌, inl, inr, cases_eq}
-use Rattle.pagable_tables.proofs.Words.{nat_tests, HandleRow, one, is_pinning, Counts, live, counts_at, refs_at, Fits, pins_in, holds_in, after, is_new, is_fallen_by, owns_nothing, entry}
-use Rattle.pagable_tables.proofs.Words.{has_value, falls_in, ValueStays, MayList, unpinned}
-use Rattle.pagable_tables.proofs.{Alive.length-live-le, Alive.changed-known, Alive.row-le-live, Coming.held-few, Fitting.new-top, Fitting.long-if, Fitting.pin_of, Fitting.handle_of}
-use Rattle.pagable_tables.proofs.{Fitting.pin-here, Fitting.held-here, Leaving.with-entry, Lowered.lower-fits, Lowered.lower-cells, Lowered.keyed-then}
+use Rattle.pagable_tables.proofs.Words.{◌≡◌, ℕ, Bool, ◌+◌, ◌-◌, ◌≤◌, true, false, if◌then◌else◌, [], ◌∷◌, sum_by, refl, ap, sym, ◌∙◌, subst, arith, Some, ◌≢◌, cases_eq, nat_tests, HandleRow, one}
+use Rattle.pagable_tables.proofs.Words.{is_pinning, Counts, live, counts_at, refs_at, Fits, pins_in, after, is_fallen_by, owns_nothing, entry, ValueStays, MayList, unpinned}
+use Rattle.pagable_tables.proofs.{Alive.length-live-le, Alive.changed-known, Alive.row-le-live, Coming.held-few, Fitting.new-top, Fitting.long-if, Fitting.pin_of, Fitting.pin-here}
+use Rattle.pagable_tables.proofs.{Fitting.held-here, Leaving.with-entry, Lowered.lower-fits, Lowered.lower-cells, Lowered.keyed-then}
 use Rattle.pagable_tables.proofs.unpins.lower.Goals as goal
 
 -- no value goes at once
@@ -10,27 +9,11 @@ lowered-value : (y : Counts) (listed : Bool) (top : ℕ) → 1 ≤ y.pins → Va
 lowered-value y listed top some falls = let stood : y.is_falling ≡ false = grind (arith, nat_tests) in (stood, grind (arith, nat_tests))
 
 pub unreachable-requires : goal.unreachable-requires
-unreachable-requires c =
-    let n = c.args.at.row.node.0 in
-    let w = c.requires.steady.fits.holding n in
-    let a : counts_at c.args.t.now.nodes n ≡ None = sym c.counts_of.ensures ∙ c.in_default.is in
-    let b = ap holds_in a in
-    let l = row-le-live (handle_of n) c.args.t.now.handles.places.items c.args.at.place c.args.at.row c.requires.place in
-    let h = held-here c.args.at.row in
-    absurd (omega arith)
+unreachable-requires c = grind (arith, nat_tests, row-le-live, held-here, c.requires.steady.fits.holding, c.counts_of.ensures, c.in_default.is, c.requires.place)
 
 pub overflow_add-more : goal.overflow_add-more
 overflow_add-more c =
-    let n = c.args.at.row.node.0 in
-    let rows = live c.args.t.now.handles.places.items in
-    let is : counts_at c.args.t.now.nodes n ≡ Some c.in-Some.counts = sym c.counts_of.ensures ∙ c.in-Some.is in
-    let a = ap holds_in is in
-    let b = c.requires.steady.fits.holding n in
-    let h = held-few n rows in
-    let d = length-live-le c.args.t.now.handles.places.items in
-    let k = c.places_taken.ensures.count in
-    let s = c.places_taken.ensures.small in
-    omega arith
+    grind (arith, nat_tests, live, held-few, length-live-le, c.counts_of.ensures, c.in-Some.is, c.requires.steady.fits.holding, c.places_taken.ensures.count, c.places_taken.ensures.small)
 
 top-falls : (b : Bool) (n : ℕ) (top : ℕ) → top ≡ 0 → (if b then n else top) ≢ 0 → b ≡ true
 top-falls true n top z some = refl
@@ -63,10 +46,8 @@ returns c =
     let same : (m : ℕ) → refs' m ≡ refs m = λ m. c.set_counts.ensures.refs m ∙ ap (λ s. refs_at s m) nodes in
     let some : 1 ≤ counts.pins = (let a = w.fits.pinned n in let d = ap pins_in is in let l = row-le-live (pin_of n) old.handles.places.items c.args.at.place x c.requires.place in
     let h = pin-here x in let p = ap (λ m. one (is_pinning m)) c.requires.pinned in omega arith) in
-    let held : 1 ≤ counts.holds = (let a = w.fits.holding n in let d = ap holds_in is in let l =
-    row-le-live (handle_of n) old.handles.places.items c.args.at.place x c.requires.place in let h = held-here x in omega arith) in
-    let top : c.top_after-t.result ≡ (if b then n else old.top) = c.top_after-t.ensures ∙ ap (λ (l : Counts). if is_new counts.is_falling l.is_falling then n else mid.top) left
-    ∙ ap (λ t. if is_new counts.is_falling (after more true listed old.top).is_falling then n else t) kept ∙ new-top more true listed old.top n b refl in
+    let held : 1 ≤ counts.holds = grind (arith, nat_tests, row-le-live, held-here, c.requires.place) in
+    let top : c.top_after-t.result ≡ (if b then n else old.top) = grind (arith, nat_tests, new-top, c.top_after-t.ensures) in
     let sums : (f : HandleRow → ℕ) → sum_by f rows' + f x ≡ sum_by f rows + f (unpinned x) + (if listed then f (entry (old.last_handle + 1) x.node) else 0) =
     λ f. let a = c.set.ensures.sums f in let d = ap (sum_by f) e.rows in let g = with-entry f (live c.set.new.handles.places.items) listed (old.last_handle + 1) x.node in omega arith in
     record {
@@ -82,10 +63,7 @@ returns c =
       comes = subst (λ k. MayList (record old { handles = c.set.new.handles }) x.node k listed mid) c.wants_entry-wanted.ensures c.enlist_if-listed.ensures;
       same = refl;
       cells = lower-cells at at' refs refs' rows rows' old.top x counts listed (old.last_handle + 1) w.fits is c.requires.pinned c.requires.plain sums here others same some;
-      values = λ m. elim (cases_eq m n) [
-        | inl eq ↦ subst (λ k. ValueStays (at k) (at' k)) (sym eq) (subst (λ o. ValueStays o (at' n)) (sym is) (subst (ValueStays (Some counts)) (sym here) (lowered-value counts listed old.top some)))
-        | inr ne ↦ λ falls. (ap falls_in (sym (others m ne)) ∙ falls, ap has_value (others m ne))
-      ];
+      values = λ m. grind (arith, nat_tests, cases_eq, lowered-value);
       keyed = λ falls. keyed-then counts listed held (top-falls b n old.top w.fits.chain (λ z. falls (top ∙ z)));
       more = if b then n ∷ [] else [];
       falling = record {

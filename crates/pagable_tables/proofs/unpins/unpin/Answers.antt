@@ -1,6 +1,5 @@
-use Rattle.pagable_tables.proofs.Words.{not, None, refl, ap, subst, inl, inr, sym, ◌∙◌, is_loose, with_mode, Falls, nobody, Mode, core_of, load_at}
-use Rattle.pagable_tables.proofs.{Begun.not-closed, Worlds.still, Worlds.owner-same, keeps.FallCalls.unpin-whole, keeps.Placed.whole-so, Shedding.sheds-still, Newer.unpin-newer}
-use Rattle.pagable_tables.proofs.{Newer.later-so}
+use Rattle.pagable_tables.proofs.Words.{not, None, refl, ap, inl, sym, ◌∙◌, is_loose, load_at, arith, nat_tests}
+use Rattle.pagable_tables.proofs.{Begun.not-closed, Worlds.still, Worlds.owner-same, keeps.FallCalls.unpin-whole, keeps.Placed.whole-so, Shedding.sheds-still, Newer.unpin-newer, Newer.later-so}
 use Rattle.pagable_tables.proofs.unpins.unpin.Goals as goal
 
 pub returns-in-Err-clause-unpinned : goal.returns-in-Err-clause-unpinned
@@ -15,19 +14,7 @@ returns-in-Err-clause-unpinned g c stored closed failures e = record {
 
 pub returns-in-LoosePinned-clause-unpinned : goal.returns-in-LoosePinned-clause-unpinned
 returns-in-LoosePinned-clause-unpinned g c stored closed failures e =
-    let row = c.in-Ok.at.row in
-    let w = core_of c.args.t.now stored closed failures in
-    record {
-      does = inr (
-        row,
-        record { live = c.in-Ok.ensures.found; own = owner-same c.args.me row.owner c.in-Ok.ensures.owner; as_asked = ap is_loose c.in-LoosePinned.is },
-        inr (
-          c.in-LoosePinned.is,
-          subst (λ q. Falls w (with_mode w q Mode.LooseUnpinned) nobody c.let_go.result (core_of c.let_go.new.t stored closed failures))
-              c.in-Ok.ensures.number (c.let_go.ensures.falls stored closed failures e),
-        ),
-      );
-    }
+    grind (arith, nat_tests, owner-same, c.in-Ok.ensures.found, c.in-Ok.ensures.owner, c.in-LoosePinned.is, c.in-Ok.ensures.number, c.let_go.ensures.falls)
 
 pub returns-in-LoosePinned-clause-whole : goal.returns-in-LoosePinned-clause-whole
 returns-in-LoosePinned-clause-whole g c =

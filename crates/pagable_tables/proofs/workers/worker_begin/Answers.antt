@@ -1,53 +1,12 @@
-use Rattle.pagable_tables.proofs.Words.{◌+◌, refl, ap, arith, rules, None, false, is_in, core_of}
-use Rattle.pagable_tables.proofs.{Worlds.same-cache, LeftWork.worker-comes, keeps.Told.settles, keeps.Told.alike-whole, keeps.Told.roomy-whole, keeps.WorkerCalls.worker-whole}
-use Rattle.pagable_tables.proofs.{keeps.Placed.whole-so}
+use Rattle.pagable_tables.proofs.Words.{◌+◌, arith, rules, None, false, nat_tests}
+use Rattle.pagable_tables.proofs.{Worlds.same-cache, LeftWork.worker-comes, keeps.Told.settles, keeps.Told.alike-whole, keeps.Told.roomy-whole, keeps.WorkerCalls.worker-whole, keeps.Placed.whole-so}
 use Rattle.pagable_tables.proofs.workers.worker_begin.Goals as goal
 
 pub returns-clause-begun : goal.returns-clause-begun
-returns-clause-begun c stored closed failures =
-    let t = c.args.t.now in
-    let w = core_of t stored closed failures in
-    record {
-      begun = (
-        refl,
-        record {
-          rows = refl;
-          cells = λ n. refl;
-          list = refl;
-          cache = same-cache _ _ refl (λ n. refl) (λ kind key. refl);
-          stored = λ q. refl;
-          closed = refl;
-          failures = refl;
-          loads = λ q. refl;
-          workers = worker-comes t.workers.items c.push.new.self.items (t.last_worker + 1) (search rules);
-          last = refl;
-          places = record { handles = omega arith; entries = omega arith };
-        },
-      );
-      refused = tt;
-    }
+returns-clause-begun c stored closed failures = grind (arith, nat_tests, same-cache, worker-comes)
 
 pub returns-then-is_err-clause-begun : goal.returns-then-is_err-clause-begun
-returns-then-is_err-clause-begun c stored closed failures =
-    record {
-      begun = tt;
-      refused = (
-        refl,
-        record {
-          rows = refl;
-          cells = λ n. refl;
-          list = refl;
-          cache = same-cache _ _ refl (λ n. refl) (λ kind key. refl);
-          stored = λ q. refl;
-          closed = refl;
-          failures = refl;
-          loads = λ q. refl;
-          workers = λ q. ap (λ l. is_in l q) (search rules);
-          last = refl;
-          places = record { handles = omega arith; entries = omega arith };
-        },
-      );
-    }
+returns-then-is_err-clause-begun c stored closed failures = grind (arith, nat_tests, same-cache)
 
 pub returns-clause-more : goal.returns-clause-more
 returns-clause-more c = worker-comes c.args.t.now.workers.items c.push.new.self.items (c.args.t.now.last_worker + 1) (search rules)

@@ -1,15 +1,10 @@
-use Rattle.pagable_tables.proofs.Words.{◌≡◌, ◌==◌, ◌+◌, true, if◌then◌else◌, refl, ap, ◌∙◌, subst, arith, nat_tests, is_in, core_of}
+use Rattle.pagable_tables.proofs.Words.{refl, subst, arith, nat_tests, core_of}
 use Rattle.pagable_tables.specs.Giving.{BeginsWorker}
 use Rattle.pagable_tables.proofs.LeftWork.{begun-core, takes-worker}
 use Rattle.pagable_tables.proofs.workers.worker_take.Goals as goal
 
 pub take_pending-requires-clause-holder : goal.take_pending-requires-clause-holder
-take_pending-requires-clause-holder c =
-    let v = c.in-Ok.worker.0 in
-    let t = c.args.t.now in
-    let n = c.in-Ok.ensures.number.0 in
-    let e : (v == t.last_worker + 1) ≡ true = grind (arith, nat_tests) in
-    c.in-Ok.ensures.more v ∙ ap (λ b. if b then true else is_in t.workers.items v) e
+take_pending-requires-clause-holder c = grind (arith, nat_tests, c.in-Ok.ensures.number.0, c.in-Ok.ensures.more)
 
 pub returns-clause-taken : goal.returns-clause-taken
 returns-clause-taken c stored closed failures =
