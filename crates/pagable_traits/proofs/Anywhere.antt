@@ -1,18 +1,13 @@
 -- Entries that are put in order of their keys: those with different keys may come in any order.
-use Rattle.std.proofs.Common.{◌≡◌, Bool, true, false, List, [], ◌∷◌, refl, sym, ap, subst, ◌∙◌, is_some}
-use Rattle.std.specs.Map.{set_value, lookup}
-use Rattle.std.specs.declared.cmp.Ordering.{Ordering}
-use Rattle.std.specs.declared.cmp.Ordering.TheVariants as answers
-use Rattle.std.specs.Ordering.{match_ordering, ordering_reverse, is_eq}
-use Rattle.std.specs.Cmp.{IsTotalOrder, alike_right}
-use Rattle.std.specs.BTreeMap.{insert_entry}
-use Rattle.pagable_model.specs.Keys.{put_all, AllAfter, Apart}
+use Rattle.pagable_traits.proofs.Words.{◌≡◌, Bool, true, false, List, [], ◌∷◌, refl, sym, ap, subst, ◌∙◌, is_some, set_value, lookup, Ordering, match_ordering, ordering_reverse, is_eq}
+use Rattle.pagable_traits.proofs.Words.{IsTotalOrder, insert_entry, put_all, AllAfter, Apart}
+use Rattle.std.specs.Cmp.{alike_right}
 use Rattle.pagable_traits.proofs.Reordered.{Reordered, no-items, same-front, two-turned, and-then, reordered-same, after-reordered, apart-reordered}
+use Rattle.std.specs.declared.cmp.Ordering.TheVariants as answers
 
 equal-by : (o : Ordering) → is_eq o ≡ true → o ≡ answers.Equal
-equal-by answers.Less e = cc
 equal-by answers.Equal e = refl
-equal-by answers.Greater e = cc
+equal-by _ e = cc
 
 unequal-back : (o p : Ordering) → p ≡ ordering_reverse o → is_eq o ≡ false → is_eq p ≡ false
 unequal-back answers.Less p e h = rw e refl

@@ -1,20 +1,8 @@
 -- Items that are put in one after another as they are read.
-use Rattle.std.proofs.Common.{◌≡◌, subst, List, [], ◌∷◌, ◌++◌, length, refl, sym, ap, ◌∙◌, append_assoc, ℕ, zero, suc, Result, Ok, Err, inl, inr}
-use Rattle.std.proofs.lemmas.List.{append-nil}
-use Rattle.std.specs.Prelude.{◌⊎◌, IfOk, vec_len}
-use Rattle.std.specs.declared.vec.Vec.{Vec}
-use Rattle.pagable_model.specs.declared.error.Error.{Error}
-use Rattle.pagable_model.specs.declared.numbers.ArcRef.{ArcRef}
-use Rattle.pagable_model.specs.Steps.{◌>>=◌}
-use Rattle.pagable_model.specs.Basic.{length_at}
-use Rattle.pagable_model.specs.Gives.{never}
-use Rattle.pagable_model.specs.Meaning.{Meaning, sequence}
-use Rattle.pagable_model.specs.Keys.{put_all}
-use Rattle.pagable_model.specs.Shape.{Shape, list}
-use Rattle.pagable_model.specs.Reading.{Rest, Gets, Context, items, bytes_of, counted, seen, read, read_with}
-use Rattle.pagable_model.specs.Standing.{GivesSome}
-use Rattle.pagable_model.specs.Lifted.{MeanAll, mean-none, MeansList}
-use Rattle.pagable_model.specs.Collected.{PutInTurn, Collected}
+use Rattle.pagable_traits.proofs.Words.{◌≡◌, subst, List, [], ◌∷◌, ◌++◌, length, refl, sym, ap, ◌∙◌, append_assoc, ℕ, zero, suc, Result, Ok, Err, inl, inr, append-nil, ◌⊎◌, Error, ArcRef, ◌>>=◌}
+use Rattle.pagable_traits.proofs.Words.{length_at, never, Meaning, sequence, put_all, Shape, list, Rest, Gets, Context, items, bytes_of, counted, seen, read, read_with, GivesSome, MeanAll}
+use Rattle.pagable_traits.proofs.Words.{mean-none, MeansList, PutInTurn, Collected}
+use Rattle.std.specs.{Prelude.IfOk, Prelude.vec_len, declared.vec.Vec.Vec}
 use Rattle.pagable_traits.proofs.Items.{mean-length, mean_last}
 
 pub collected_none : {T : Type 0} (M : T → Meaning ArcRef → Type 0) (puts : List T → T → List T → Type 0) (now : List T) → now ≡ [] → Collected M puts now []

@@ -1,15 +1,6 @@
 -- Values that hold one or two others: what reading their parts one after another gives, by a lemma for each way that it ends.
-use Rattle.std.proofs.Common.{◌≡◌, Bool, true, false, refl, Ok, Err, Some, None, inl, inr}
-use Rattle.std.specs.Prelude.{◌⊎◌}
-use Rattle.pagable_model.specs.declared.error.Error.{Error}
-use Rattle.pagable_model.specs.declared.numbers.ArcRef.{ArcRef}
-use Rattle.pagable_model.specs.Basic.{bool_at}
-use Rattle.pagable_model.specs.Gives.{never, either}
-use Rattle.pagable_model.specs.Meaning.{Meaning, pair, absent, present}
-use Rattle.pagable_model.specs.Reading.{Rest, Context, bytes_of, read, read_with}
-use Rattle.pagable_model.specs.Shape.{Shape, optional, both}
-use Rattle.pagable_model.specs.Standing.{Gave}
-use Rattle.pagable_model.specs.Lifted.{MeansOption, means-none, means-some, MeansPair}
+use Rattle.pagable_traits.proofs.Words.{◌≡◌, Bool, true, false, refl, Ok, Err, Some, None, inl, inr, ◌⊎◌, Error, ArcRef, bool_at, never, either, Meaning, pair, absent, present, Rest, Context}
+use Rattle.pagable_traits.proofs.Words.{bytes_of, read, read_with, Shape, optional, both, Gave, MeansOption, means-none, means-some, MeansPair}
 
 -- ---- a value that may be absent
 

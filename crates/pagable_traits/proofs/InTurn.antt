@@ -1,28 +1,11 @@
 -- One value after another: what the writers and the readers of two values owe, the writer and the reader of both owe.
-use Rattle.std.proofs.Common.{◌≡◌, ◌≤◌, ℕ, [], ◌∙◌, Option, Result, Ok, Err, inl, inr}
-use Rattle.std.proofs.lemmas.Result.{err_from_is_err_and}
-use Rattle.std.specs.Prelude.{OnOk, IfErr, ◌⊎◌}
-use Rattle.std.specs.Result.{IsErrAnd}
-use Rattle.pagable_codec.specs.declared.env.Env.{Ghosts as Environments}
-use Rattle.pagable_codec.specs.declared.serializer.PagableSerializer.{Ghosts as Serializers}
-use Rattle.pagable_codec.specs.declared.deserializer.PagableDeserializer.{Ghosts as Deserializers}
-use Rattle.pagable_model.specs.declared.error.Error.{Error}
-use Rattle.pagable_model.specs.declared.numbers.ArcRef.{ArcRef}
-use Rattle.pagable_model.specs.Basic.{longest, length_form}
-use Rattle.pagable_model.specs.Gives.{either, memory_or, long_or}
-use Rattle.pagable_model.specs.Lifted.{MeansPair}
-use Rattle.pagable_model.specs.Meaning.{Meaning}
-use Rattle.pagable_model.specs.Shape.{Shape, both}
-use Rattle.pagable_model.specs.Reading.{read}
-use Rattle.pagable_model.specs.Standing.{SomeMeaning, Gave, GivesSome, MovesOn}
-use Rattle.pagable_model.specs.Writing.{WritesSome, Refused, Grows, added}
-use Rattle.pagable_codec.proofs.Reading.{moves_trans}
-use Rattle.pagable_codec.proofs.Writing.{grows_trans}
-use Rattle.pagable_traits.proofs.Held.{pair_first_refused, pair_second_refused, pair_gave}
-use Rattle.pagable_traits.proofs.Joined.{gave_along}
-use Rattle.pagable_traits.proofs.Parts.{only-part, writes_pair, refuses_first, refuses_second}
-use Rattle.pagable_traits.specs.JsonSteps.{nested_in, context_in}
-use Rattle.pagable_traits.specs.Walks.{WritesEach, WritesCounted, RefusedAmong, RefusedCounted}
+use Rattle.pagable_traits.proofs.Words.{◌≡◌, ◌≤◌, ℕ, [], ◌∙◌, Option, Result, Ok, Err, inl, inr, err_from_is_err_and, OnOk, IfErr, ◌⊎◌, IsErrAnd, Error, ArcRef, longest, length_form, either}
+use Rattle.pagable_traits.proofs.Words.{memory_or, long_or, MeansPair, Meaning, Shape, both, read, SomeMeaning, Gave, GivesSome, MovesOn, WritesSome, Refused, Grows, added, moves_trans}
+use Rattle.pagable_traits.proofs.Words.{grows_trans, nested_in, context_in, WritesEach, WritesCounted, RefusedAmong, RefusedCounted}
+use Rattle.pagable_codec.specs.{declared.env.Env.Ghosts as Environments, declared.serializer.PagableSerializer.Ghosts as Serializers}
+use Rattle.pagable_codec.specs.{declared.deserializer.PagableDeserializer.Ghosts as Deserializers}
+use Rattle.pagable_traits.proofs.{Held.pair_first_refused, Held.pair_second_refused, Held.pair_gave, Joined.gave_along, Parts.only-part, Parts.writes_pair, Parts.refuses_first}
+use Rattle.pagable_traits.proofs.{Parts.refuses_second}
 
 module _ {S E N H K V : Type 0} (env : Environments E N H K V) (s : Serializers S E N H K V) where
   -- what a writer owes: where it succeeds, and of its refusals

@@ -1,22 +1,13 @@
 -- Successes and failures, arrays, and tuples: what writing their parts one after another adds, and what reading them so gives.
-use Rattle.std.proofs.Common.{◌≡◌, ℕ, List, [], ◌++◌, length, refl, ◌∙◌, Result, Ok, Err, inl, inr, subst, ap, ◌≤◌}
-use Rattle.std.specs.Prelude.{IfErr, OnOk, ◌⊎◌, Bool, true, false}
-use Rattle.pagable_model.specs.declared.error.Error.{Error}
-use Rattle.pagable_model.specs.declared.numbers.ArcRef.{ArcRef}
-use Rattle.pagable_model.specs.Basic.{bool_form, bool_at, longest, text_form}
-use Rattle.pagable_model.specs.Gives.{either}
-use Rattle.pagable_model.specs.Lifted.{MeanAll, MeansList, MeansPair, MeansResult, means-ok, means-err}
-use Rattle.pagable_model.specs.Meaning.{Meaning, none, sequence, success, failure}
-use Rattle.pagable_model.specs.Shape.{Shape, nothing, outcome, array}
+use Rattle.pagable_traits.proofs.Words.{◌≡◌, ℕ, List, [], ◌++◌, length, refl, ◌∙◌, Result, Ok, Err, inl, inr, subst, ap, ◌≤◌, IfErr, OnOk, ◌⊎◌, Bool, true, false, Error, ArcRef, bool_form}
+use Rattle.pagable_traits.proofs.Words.{bool_at, longest, text_form, either, MeanAll, MeansList, MeansPair, MeansResult, means-ok, means-err, Meaning, none, sequence, success, failure, Shape}
+use Rattle.pagable_traits.proofs.Words.{outcome, text-form, err-form, ok-form, Rest, Context, items, bytes_of, read, read_with, Answer, Gave, handles_at, Is, Out, Nesting, FormAt, FormsAt}
+use Rattle.pagable_traits.proofs.Words.{WritesSome, WritesSomeAll, added, NoForm, NoForms, Refused, RefusedAll, Grows, then, writes_is, writes_bytes}
+use Rattle.pagable_model.specs.{Shape.nothing, Shape.array, Form.array-form}
+use Rattle.std.specs.Str.{IsUtf8}
+use Rattle.pagable_traits.proofs.Items.{mean-length, sequence-same}
 use Rattle.pagable_model.specs.Meaning as meanings
 use Rattle.pagable_model.specs.Shape as shapes
-use Rattle.std.specs.Str.{IsUtf8}
-use Rattle.pagable_model.specs.Form.{text-form, err-form, ok-form, array-form}
-use Rattle.pagable_model.specs.Reading.{Rest, Context, items, bytes_of, read, read_with}
-use Rattle.pagable_model.specs.Standing.{Answer, Gave, handles_at, Is}
-use Rattle.pagable_model.specs.Writing.{Out, Nesting, FormAt, FormsAt, WritesSome, WritesSomeAll, added, NoForm, NoForms, Refused, RefusedAll, Grows}
-use Rattle.pagable_codec.proofs.Writing.{then, writes_is, writes_bytes}
-use Rattle.pagable_traits.proofs.Items.{mean-length, sequence-same}
 
 -- ---- a flag and the part after it
 

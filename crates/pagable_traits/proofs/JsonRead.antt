@@ -1,35 +1,20 @@
 -- What reading a JSON value gives: its case, and then its part.
-use Rattle.std.proofs.Common.{◌≡◌, ℕ, suc, ◌-◌, ◌+◌, ◌<◌, ◌≤◌, true, false, List, arith, refl, sym, ap, ◌∙◌, Result, Ok, Err, inl, inr, String, Global, Vec}
+use Rattle.pagable_traits.proofs.Words.{◌≡◌, ℕ, suc, ◌-◌, ◌+◌, ◌<◌, ◌≤◌, true, false, List, arith, refl, sym, ap, ◌∙◌, Result, Ok, Err, inl, inr, String, Global, Vec, ◌⊎◌, ℤ, pos, Bool, w64}
+use Rattle.pagable_traits.proofs.Words.{string_bytes, string_cmp, view, Value, Error, ArcRef, bool_at, length_at, text_at, memory, text_order, MeanAll, MeansPair, Meaning, integer, none, pair}
+use Rattle.pagable_traits.proofs.Words.{variant, sequence, Read, unsigned_at, signed_at, Rest, Context, flag_case, number_case, text_case, array_case, object_case, bytes_of, deepest, items, read}
+use Rattle.pagable_traits.proofs.Words.{read_with, seen, Shape, json, both, sorted_map, signed, flag, text, Answer, Gave, GivesSome, Is, MovesOn, handles_at, moves_trans, of_data, of_value}
+use Rattle.pagable_traits.proofs.Words.{of_key, Reads, context_in}
 use Rattle.std.proofs.lemmas.Bool.{ne_eqb}
-use Rattle.std.specs.Prelude.{◌⊎◌, ℤ, pos, negsuc, Bool}
-use Rattle.std.specs.Int.{w64}
-use Rattle.std.specs.String.{string_bytes, string_cmp}
-use Rattle.serde_json.specs.Data.{number}
-use Rattle.serde_json.specs.Find.{of_integer}
-use Rattle.serde_json.specs.View.{view}
-use Rattle.serde_json.specs.declared.value.Value.{Value}
+use Rattle.std.specs.Prelude.{negsuc}
+use Rattle.serde_json.specs.{Data.number, Find.of_integer}
+use Rattle.pagable_codec.specs.{declared.env.Env.Ghosts as Environments, declared.deserializer.PagableDeserializer.Ghosts as Deserializers}
+use Rattle.pagable_model.specs.Reading.{JsonCase, json_case, below}
+use Rattle.pagable_traits.specs.{JsonData.part_at, JsonSteps.ObjectOf, JsonSteps.part_of}
+use Rattle.pagable_traits.proofs.{Maps.viewed, Maps.sorted_map_collected, Maps.sorted_map_refused, JsonSteps.read-then, JsonWritten.items-are, JsonWritten.members-are, JsonWritten.keys-in-order}
+use Rattle.pagable_traits.proofs.{JsonWritten.seen-null, JsonWritten.seen-flag, JsonWritten.seen-text, JsonWritten.seen-array, JsonWritten.seen-object}
 use Rattle.serde_json.specs.declared.value.Value as values
-use Rattle.pagable_codec.specs.declared.env.Env.{Ghosts as Environments}
-use Rattle.pagable_codec.specs.declared.deserializer.PagableDeserializer.{Ghosts as Deserializers}
-use Rattle.pagable_model.specs.declared.error.Error.{Error}
 use Rattle.pagable_model.specs.declared.error.Error.TheVariants as errors
-use Rattle.pagable_model.specs.declared.numbers.ArcRef.{ArcRef}
-use Rattle.pagable_model.specs.Basic.{bool_at, length_at, text_at}
-use Rattle.pagable_model.specs.Gives.{memory}
-use Rattle.pagable_model.specs.Keys.{text_order}
-use Rattle.pagable_model.specs.Lifted.{MeanAll, MeansPair}
-use Rattle.pagable_model.specs.Meaning.{Meaning, integer, none, pair, variant, sequence}
 use Rattle.pagable_model.specs.Meaning as meanings
-use Rattle.pagable_model.specs.Numbers.{Read, unsigned_at, signed_at}
-use Rattle.pagable_model.specs.Reading.{Rest, Context, JsonCase, json_case, flag_case, number_case, text_case, array_case, object_case, bytes_of, deepest, items, read, read_with, below, seen}
-use Rattle.pagable_model.specs.Shape.{Shape, json, both, sorted_map, signed, flag, text}
-use Rattle.pagable_model.specs.Standing.{Answer, Gave, GivesSome, Is, MovesOn, handles_at}
-use Rattle.pagable_codec.proofs.Reading.{moves_trans}
-use Rattle.pagable_traits.specs.JsonData.{of_data, of_value, of_key, part_at}
-use Rattle.pagable_traits.specs.JsonSteps.{Reads, ObjectOf, context_in, part_of}
-use Rattle.pagable_traits.proofs.Maps.{viewed, sorted_map_collected, sorted_map_refused}
-use Rattle.pagable_traits.proofs.JsonSteps.{read-then}
-use Rattle.pagable_traits.proofs.JsonWritten.{items-are, members-are, keys-in-order, seen-null, seen-flag, seen-text, seen-array, seen-object}
 
 -- bytes that are seen by one view after another
 twice-seen : {X Y Z : Type 0} (at : List ℕ → Read X) (first : X → Y) (second : Y → Z) (rest : Rest Answer) → bytes_of at (λ x. second (first x)) rest ≡ viewed second (bytes_of at first rest)

@@ -1,26 +1,13 @@
 -- One step after another: what each of two functions that write or read owes, both owe.
-use Rattle.std.proofs.Common.{◌≡◌, ℕ, ◌<◌, ◌≤◌, ◌+◌, ◌-◌, [], ◌∷◌, ◌++◌, List, arith, refl, ◌∙◌, Result, Ok, Err, inl, inr}
-use Rattle.std.proofs.lemmas.Result.{err_from_is_err_and}
-use Rattle.std.specs.Prelude.{OnOk, IfErr, ◌⊎◌}
-use Rattle.std.specs.Result.{IsErrAnd}
-use Rattle.pagable_codec.specs.declared.env.Env.{Ghosts as Environments}
-use Rattle.pagable_codec.specs.declared.serializer.PagableSerializer.{Ghosts as Serializers}
-use Rattle.pagable_codec.specs.declared.deserializer.PagableDeserializer.{Ghosts as Deserializers}
-use Rattle.pagable_model.specs.declared.error.Error.{Error}
-use Rattle.pagable_model.specs.declared.error.Error.TheVariants as errors
-use Rattle.pagable_model.specs.declared.numbers.ArcRef.{ArcRef}
-use Rattle.pagable_model.specs.Gives.{Extends, memory, memory_or}
-use Rattle.pagable_model.specs.Meaning.{Meaning}
-use Rattle.pagable_model.specs.Reading.{Context, Gets, Rest, deepest, items}
-use Rattle.pagable_model.specs.Shape.{Shape}
-use Rattle.pagable_model.specs.Standing.{Answer, Gave, MovesOn}
-use Rattle.pagable_model.specs.Writing.{Out, Nesting, nesting, added, WritesSome, Refused, Grows}
-use Rattle.pagable_codec.proofs.Writing.{grows_bytes, grows_refl, grows_trans}
+use Rattle.pagable_traits.proofs.Words.{◌≡◌, ℕ, ◌<◌, ◌≤◌, ◌+◌, ◌-◌, [], ◌∷◌, ◌++◌, List, arith, refl, ◌∙◌, Result, Ok, Err, inl, inr, err_from_is_err_and, OnOk, IfErr, ◌⊎◌, IsErrAnd, Error}
+use Rattle.pagable_traits.proofs.Words.{ArcRef, Extends, memory, memory_or, Meaning, Context, Gets, Rest, deepest, items, Shape, Answer, Gave, MovesOn, Out, Nesting, nesting, added, WritesSome}
+use Rattle.pagable_traits.proofs.Words.{Refused, Grows, grows_bytes, grows_refl, grows_trans, moves_trans, Piece, bytes, Wrote, Reads, nested_in, context_in}
+use Rattle.pagable_codec.specs.{declared.env.Env.Ghosts as Environments, declared.serializer.PagableSerializer.Ghosts as Serializers}
+use Rattle.pagable_codec.specs.{declared.deserializer.PagableDeserializer.Ghosts as Deserializers}
 use Rattle.pagable_codec.proofs.Adding.{added_bytes}
-use Rattle.pagable_codec.proofs.Reading.{moves_trans}
-use Rattle.pagable_traits.proofs.Items.{with_front, starts, goes_on, ends, is_done}
-use Rattle.pagable_traits.proofs.Maps.{viewed}
-use Rattle.pagable_traits.specs.JsonSteps.{Piece, bytes, value, Wrote, Reads, nested_in, context_in}
+use Rattle.pagable_traits.proofs.{Items.with_front, Items.starts, Items.goes_on, Items.ends, Items.is_done, Maps.viewed}
+use Rattle.pagable_traits.specs.JsonSteps.{value}
+use Rattle.pagable_model.specs.declared.error.Error.TheVariants as errors
 
 -- one level further down, where a level is left
 abbrev pub deeper : Nesting → Nesting

@@ -1,46 +1,25 @@
 -- What writing a JSON value adds: its case, and a form of its part; and which values have no form.
-use Rattle.std.proofs.Common.{◌≡◌, ℕ, ◌-◌, ◌+◌, ◌<◌, ◌≤◌, ◌^◌, true, false, subst, List, [], ◌∷◌, ◌++◌, length, map, arith, rules, refl, sym, ap, ◌∙◌, Result, Ok, Err, Some, None, inl, inr, String, Global, BTreeMap, Vec}
-use Rattle.std.proofs.lemmas.Bool.{lt-ltb}
-use Rattle.std.specs.Prelude.{OnOk, IfErr, ℤ, pos, nat_lt, Bool, Option, if◌then◌else◌}
-use Rattle.std.specs.Result.{IsErrAnd}
-use Rattle.std.specs.Int.{w64}
-use Rattle.std.specs.String.{string_bytes, string_cmp, string_cmp_total}
-use Rattle.std.specs.Map.{keys_of}
-use Rattle.std.specs.List.Sorted.{IsStrictlySortedBy}
-use Rattle.serde_json.specs.Data.{Num, Data, null, boolean, number, string, array, object}
-use Rattle.serde_json.specs.Data as kit
-use Rattle.serde_json.specs.Find.{as_i64}
-use Rattle.serde_json.specs.View.{view, items_view, members_view, number_view}
-use Rattle.serde_json.specs.declared.value.Value.{Value, the_lemmas}
-use Rattle.serde_json.specs.declared.value.Value as values
-use Rattle.serde_json.specs.declared.number.Number.{Number}
+use Rattle.pagable_traits.proofs.Words.{◌≡◌, ℕ, ◌-◌, ◌+◌, ◌<◌, ◌≤◌, ◌^◌, true, false, subst, List, [], ◌∷◌, ◌++◌, length, map, arith, rules, refl, sym, ap, ◌∙◌, Result, Ok, Err, Some, None, inl}
+use Rattle.pagable_traits.proofs.Words.{inr, String, Global, Vec, lt-ltb, OnOk, IfErr, ℤ, pos, Bool, Option, if◌then◌else◌, IsErrAnd, w64, string_bytes, string_cmp, keys_of, IsStrictlySortedBy}
+use Rattle.pagable_traits.proofs.Words.{as_i64, view, number_view, Value, Error, ArcRef, longest, length_form, text_form, of_entries, memory, long_or, json_causes, text_order, long_or_memory}
+use Rattle.pagable_traits.proofs.Words.{MeanAll, MeansList, MeansPair, pair_has_meaning, Meaning, integer, pair, variant, sequence, none, deepest, Shape, json, list, both, sorted_map, signed}
+use Rattle.pagable_traits.proofs.Words.{flag, text, list-form, sorted-map-form, signed-form, flag-form, text-form, Is, SomeMeaning, Out, Nesting, FormAt, WritesSome, added, NoForm, Refused, Grows}
+use Rattle.pagable_traits.proofs.Words.{then, memory_refuses, grows_trans, of_data, of_value, of_key, Piece, Wrote, bytes, all}
+use Rattle.std.proofs.Common.{BTreeMap}
+use Rattle.std.specs.{Prelude.nat_lt, String.string_cmp_total}
+use Rattle.serde_json.specs.{Data.Num, Data.Data, Data.null, Data.boolean, Data.number, Data.string, Data.array, Data.object, View.items_view, View.members_view, declared.value.Value.the_lemmas}
+use Rattle.serde_json.specs.{declared.number.Number.Number}
 use Rattle.serde_json.proofs.Views.{view-Array, view-Object}
-use Rattle.pagable_codec.specs.declared.env.Env.{Ghosts as Environments}
-use Rattle.pagable_codec.specs.declared.serializer.PagableSerializer.{Ghosts as Serializers}
-use Rattle.pagable_model.specs.declared.error.Error.{Error}
+use Rattle.pagable_codec.specs.{declared.env.Env.Ghosts as Environments, declared.serializer.PagableSerializer.Ghosts as Serializers}
+use Rattle.pagable_model.specs.{Numbers.unsigned_form, Numbers.varint, Numbers.IsSigned, Lifted.list_single, Lifted.pair_single, Form.json-null-form, Form.json-flag-form, Form.json-number-form}
+use Rattle.pagable_model.specs.{Form.json-text-form, Form.json-array-form, Form.json-object-form, Keyed.text_is_ordered}
+use Rattle.pagable_traits.proofs.{Maps.IsOrderOf, Maps.key-order, Maps.sorted-map-splits, Maps.writes_sorted_map, Maps.refuse-count, Maps.refuses-items, Maps.Written, Items.writes_list}
+use Rattle.pagable_traits.proofs.{Items.refused_items, Items.refuses-count, JsonSteps.deeper, JsonSteps.below, JsonSteps.wrote-then, JsonSteps.wrote-err}
+use Rattle.pagable_traits.specs.{JsonData.json_items, JsonData.json_members, JsonData.long_or_no_memory, JsonSteps.front, JsonSteps.value as form}
+use Rattle.serde_json.specs.Data as kit
+use Rattle.serde_json.specs.declared.value.Value as values
 use Rattle.pagable_model.specs.declared.error.Error.TheVariants as errors
-use Rattle.pagable_model.specs.declared.numbers.ArcRef.{ArcRef}
-use Rattle.pagable_model.specs.Basic.{longest, length_form, text_form}
-use Rattle.pagable_model.specs.Carried.{of_entries}
-use Rattle.pagable_model.specs.Numbers.{unsigned_form, varint, IsSigned}
-use Rattle.pagable_model.specs.Gives.{memory, long_or, json_causes}
-use Rattle.pagable_model.specs.Keys.{text_order}
-use Rattle.pagable_model.specs.Lengths.{long_or_memory}
-use Rattle.pagable_model.specs.Lifted.{MeanAll, MeansList, MeansPair, list_single, pair_single, pair_has_meaning}
-use Rattle.pagable_model.specs.Meaning.{Meaning, integer, pair, variant, sequence, none}
 use Rattle.pagable_model.specs.Meaning as meanings
-use Rattle.pagable_model.specs.Reading.{deepest}
-use Rattle.pagable_model.specs.Shape.{Shape, json, list, both, sorted_map, signed, flag, text}
-use Rattle.pagable_model.specs.Form.{list-form, sorted-map-form, signed-form, flag-form, text-form, json-null-form, json-flag-form, json-number-form, json-text-form, json-array-form, json-object-form}
-use Rattle.pagable_model.specs.Standing.{Is, SomeMeaning}
-use Rattle.pagable_model.specs.Keyed.{text_is_ordered}
-use Rattle.pagable_model.specs.Writing.{Out, Nesting, FormAt, WritesSome, added, NoForm, Refused, Grows}
-use Rattle.pagable_codec.proofs.Writing.{then, memory_refuses, grows_trans}
-use Rattle.pagable_traits.proofs.Maps.{IsOrderOf, key-order, sorted-map-splits, writes_sorted_map, refuse-count, refuses-items, Written}
-use Rattle.pagable_traits.proofs.Items.{writes_list, refused_items, refuses-count}
-use Rattle.pagable_traits.proofs.JsonSteps.{deeper, below, wrote-then, wrote-err}
-use Rattle.pagable_traits.specs.JsonData.{json_items, json_members, of_data, of_value, of_key, long_or_no_memory}
-use Rattle.pagable_traits.specs.JsonSteps.{Piece, Wrote, bytes, front, value as form, all}
 
 -- a case below 128 is its byte
 pub case-byte : (case : ℕ) → nat_lt case 128 ≡ true → unsigned_form w64 case ≡ case ∷ []

@@ -1,35 +1,14 @@
 -- Entries of maps: what they mean as pairs, and what putting in, writing and reading them gives.
-use Rattle.std.proofs.Common.{◌≡◌, ℕ, zero, suc, ◌-◌, ◌<◌, ◌≤◌, List, [], ◌∷◌, ◌++◌, length, map, arith, refl, sym, ap, ◌∙◌, append_assoc, Result, Ok, Err, inl, inr}
-use Rattle.std.proofs.lemmas.List.{length-map, append-nil}
-use Rattle.std.specs.Prelude.{◌⊎◌}
-use Rattle.std.specs.List.{AllByRecursion}
-use Rattle.std.specs.List.Sorted.{IsStrictlySortedBy}
-use Rattle.std.specs.Map.{keys_of}
-use Rattle.std.specs.declared.cmp.Ordering.{Ordering}
+use Rattle.pagable_traits.proofs.Words.{◌≡◌, ℕ, zero, suc, ◌-◌, ◌<◌, ◌≤◌, List, [], ◌∷◌, ◌++◌, length, map, arith, refl, sym, ap, ◌∙◌, append_assoc, Result, Ok, Err, inl, inr, length-map}
+use Rattle.pagable_traits.proofs.Words.{append-nil, ◌⊎◌, AllByRecursion, IsStrictlySortedBy, keys_of, Ordering, match_ordering, ordering_reverse, IsTotalOrder, insert_entry, Error, ArcRef, ◌>>=◌}
+use Rattle.pagable_traits.proofs.Words.{longest, length_form, length_at, long_or_memory, Meaning, pair, sequence, entry, Entry, KeyOrder, ordered, put_all, put_sorted, AllAfter, Apart, Shape}
+use Rattle.pagable_traits.proofs.Words.{both, sorted_map, of_entries, Forms, Entries, no-forms, more-forms, more-entries, both-form, sorted-map-form, Rest, Gets, Context, deepest, items, bytes_of}
+use Rattle.pagable_traits.proofs.Words.{counted, seen, read, read_with, Out, Nesting, FormAt, FormsAt, WritesSome, WritesSomeAll, added, kind_of_arc, Refused, RefusedAll, Gave, GivesSome}
+use Rattle.pagable_traits.proofs.Words.{SomeMeaning, Collected, MeanAll, mean-none, mean-more, MeansList, MeansPair, items_have_meanings, then, memory_refuses}
+use Rattle.pagable_model.specs.{Keys.Ascends, Form.no-entries, Reading.two}
+use Rattle.pagable_traits.proofs.{Items.mean-length, Items.mean_last, Items.split-same, Items.forms-last, Items.writes_no_items, Parts.writes_pair, Collecting.put-in-turn, Walks.Splits}
+use Rattle.pagable_traits.proofs.{Walks.Wraps, Walks.wraps-sequence, Walks.writes-counted, Walks.refuses-among}
 use Rattle.std.specs.declared.cmp.Ordering.TheVariants as answers
-use Rattle.std.specs.Ordering.{match_ordering, ordering_reverse}
-use Rattle.std.specs.Cmp.{IsTotalOrder}
-use Rattle.std.specs.BTreeMap.{insert_entry}
-use Rattle.pagable_model.specs.declared.error.Error.{Error}
-use Rattle.pagable_model.specs.declared.numbers.ArcRef.{ArcRef}
-use Rattle.pagable_model.specs.Steps.{◌>>=◌}
-use Rattle.pagable_model.specs.Basic.{longest, length_form, length_at}
-use Rattle.pagable_model.specs.Lengths.{long_or_memory}
-use Rattle.pagable_model.specs.Meaning.{Meaning, pair, sequence, entry}
-use Rattle.pagable_model.specs.Keys.{Entry, KeyOrder, ordered, put_all, put_sorted, AllAfter, Apart, Ascends}
-use Rattle.pagable_model.specs.Shape.{Shape, both, sorted_map}
-use Rattle.pagable_model.specs.Carried.{of_entries}
-use Rattle.pagable_model.specs.Form.{Forms, Entries, no-forms, more-forms, no-entries, more-entries, both-form, sorted-map-form}
-use Rattle.pagable_model.specs.Reading.{Rest, Gets, Context, deepest, items, bytes_of, counted, seen, two, read, read_with}
-use Rattle.pagable_model.specs.Writing.{Out, Nesting, FormAt, FormsAt, WritesSome, WritesSomeAll, added, kind_of_arc, Refused, RefusedAll}
-use Rattle.pagable_model.specs.Standing.{Gave, GivesSome, SomeMeaning}
-use Rattle.pagable_model.specs.Collected.{Collected}
-use Rattle.pagable_model.specs.Lifted.{MeanAll, mean-none, mean-more, MeansList, MeansPair, items_have_meanings}
-use Rattle.pagable_codec.proofs.Writing.{then, memory_refuses}
-use Rattle.pagable_traits.proofs.Items.{mean-length, mean_last, split-same, forms-last, writes_no_items}
-use Rattle.pagable_traits.proofs.Parts.{writes_pair}
-use Rattle.pagable_traits.proofs.Collecting.{put-in-turn}
-use Rattle.pagable_traits.proofs.Walks.{Splits, Wraps, wraps-sequence, writes-counted, refuses-among}
 
 -- ---- entries and the pairs that they are
 
@@ -53,15 +32,12 @@ entries-of-pairs M N (mean-more x m xs ms h t) =
 pub pairs-of-entries : {K V : Type 0} (M : K → Meaning ArcRef → Type 0) (N : V → Meaning ArcRef → Type 0) (xs : List (K × V)) (es : List (Entry ArcRef)) → EntriesMean M N xs es → MeanAll (MeansPair M N) xs (map entry es)
 unfolding EntriesMean
 pairs-of-entries M N [] [] h = mean-none
-pairs-of-entries M N [] (e ∷ es) h = absurd h
-pairs-of-entries M N (x ∷ xs) [] h = absurd h
 pairs-of-entries M N (x ∷ xs) (e ∷ es) h =
     mean-more x (entry e) xs (map entry es) (record { first = e.0; second = e.1; is_first = h.0; is_second = h.1; is = refl }) (pairs-of-entries M N xs es h.2)
+pairs-of-entries M N _ _ h = absurd h
 
 pub same-entries : (ds es : List (Entry ArcRef)) → map entry ds ≡ map entry es → ds ≡ es
 same-entries [] [] e = refl
-same-entries [] (y ∷ ys) e = cc
-same-entries (x ∷ xs) [] e = cc
 same-entries (x ∷ xs) (y ∷ ys) e =
     let tails : map entry xs ≡ map entry ys = cc in
     let heads : entry x ≡ entry y = cc in
@@ -69,6 +45,7 @@ same-entries (x ∷ xs) (y ∷ ys) e =
     let seconds : x.1 ≡ y.1 = cc in
     let rest = same-entries xs ys tails in
     rw (firsts, seconds, rest) refl
+same-entries _ _ e = cc
 
 -- ---- forms of pairs are forms of entries, and back
 
@@ -257,8 +234,6 @@ put-in-order : {K V : Type 0} (M : K → Meaning ArcRef → Type 0) (N : V → M
     → EntriesMean M N xs es → M x.0 e.0 → N x.1 e.1 → EntriesMean M N (insert_entry cmp xs x.0 x.1) (put_sorted order es e)
 unfolding EntriesMean
 put-in-order M N cmp order is [] [] x e h first second = (first, second, tt)
-put-in-order M N cmp order is [] (f ∷ es) x e h first second = absurd h
-put-in-order M N cmp order is (y ∷ xs) [] x e h first second = absurd h
 put-in-order M N cmp order is (y ∷ xs) (f ∷ es) x e h first second =
     rw (is.agrees x.0 y.0 e.0 f.0 first h.0) (by_case (put-in-order M N cmp order is xs es x e h.2 first second) (ordered order e.0 f.0))
   where
@@ -267,31 +242,29 @@ put-in-order M N cmp order is (y ∷ xs) (f ∷ es) x e h first second =
     by_case tail answers.Less = (first, second, h)
     by_case tail answers.Equal = (h.0, second, h.2)
     by_case tail answers.Greater = (h.0, h.1, tail)
+put-in-order M N cmp order is _ _ x e h first second = absurd h
 
 put-all-in-order : {K V : Type 0} (M : K → Meaning ArcRef → Type 0) (N : V → Meaning ArcRef → Type 0) (cmp : K → K → Ordering) (order : KeyOrder) → IsOrderOf M cmp order → (acc xs : List (K × V)) (ds es : List (Entry ArcRef)) → EntriesMean M N acc ds → EntriesMean M N xs es
     → EntriesMean M N (put_all (λ ys x. insert_entry cmp ys x.0 x.1) acc xs) (put_all (put_sorted order) ds es)
 unfolding EntriesMean put_all
 put-all-in-order M N cmp order is acc [] ds [] so_far h = so_far
-put-all-in-order M N cmp order is acc [] ds (e ∷ es) so_far h = absurd h
-put-all-in-order M N cmp order is acc (x ∷ xs) ds [] so_far h = absurd h
 put-all-in-order M N cmp order is acc (x ∷ xs) ds (e ∷ es) so_far h =
     put-all-in-order M N cmp order is (insert_entry cmp acc x.0 x.1) xs (put_sorted order ds e) es (put-in-order M N cmp order is acc ds x e so_far h.0 h.1) h.2
+put-all-in-order M N cmp order is acc _ ds _ so_far h = absurd h
 
 below-all : {K V : Type 0} (M : K → Meaning ArcRef → Type 0) (N : V → Meaning ArcRef → Type 0) (cmp : K → K → Ordering) (order : KeyOrder) → IsOrderOf M cmp order → (x : K × V) (e : Entry ArcRef) → M x.0 e.0 → (xs : List (K × V)) (es : List (Entry ArcRef)) → EntriesMean M N xs es
     → AllByRecursion (λ y. cmp x.0 y ≡ answers.Less) (keys_of xs) → AllAfter (λ (d f : Entry ArcRef). ordered order d.0 f.0 ≡ answers.Greater) e es
 unfolding EntriesMean AllAfter
 below-all M N cmp order is x e first [] [] h lt = tt
-below-all M N cmp order is x e first [] (f ∷ es) h lt = absurd h
-below-all M N cmp order is x e first (y ∷ xs) [] h lt = absurd h
 below-all M N cmp order is x e first (y ∷ xs) (f ∷ es) h lt =
     (sym (is.agrees y.0 x.0 f.0 e.0 h.0 first) ∙ is.antisymm y.0 x.0 ∙ ap ordering_reverse lt.0, below-all M N cmp order is x e first xs es h.2 lt.1)
+below-all M N cmp order is x e first _ _ h lt = absurd h
 
 ascends : {K V : Type 0} (M : K → Meaning ArcRef → Type 0) (N : V → Meaning ArcRef → Type 0) (cmp : K → K → Ordering) (order : KeyOrder) → IsOrderOf M cmp order → (xs : List (K × V)) (es : List (Entry ArcRef)) → EntriesMean M N xs es → IsStrictlySortedBy cmp (keys_of xs) → Ascends order es
 unfolding EntriesMean IsStrictlySortedBy Apart
 ascends M N cmp order is [] [] h sorted = tt
-ascends M N cmp order is [] (e ∷ es) h sorted = absurd h
-ascends M N cmp order is (x ∷ xs) [] h sorted = absurd h
 ascends M N cmp order is (x ∷ xs) (e ∷ es) h sorted = (below-all M N cmp order is x e h.0 xs es h.2 sorted.0, ascends M N cmp order is xs es h.2 sorted.1)
+ascends M N cmp order is _ _ h sorted = absurd h
 
 pub wraps_sorted_map : {K V : Type 0} (M : K → Meaning ArcRef → Type 0) (N : V → Meaning ArcRef → Type 0) (cmp : K → K → Ordering) (order : KeyOrder) → IsOrderOf M cmp order → (xs : List (K × V)) (n : Nesting) (s t : Shape) → IsStrictlySortedBy cmp (keys_of xs)
     → Wraps (MeansPair M N) xs (MeansList (MeansPair M N) xs) n (sorted_map order s t) (both s t)

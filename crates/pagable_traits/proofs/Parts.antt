@@ -1,19 +1,8 @@
 -- Values that hold others: what writing their parts one after another adds, and what reading them so gives.
-use Rattle.std.proofs.Common.{◌≡◌, ℕ, false, [], ◌∷◌, ◌++◌, refl, ◌∙◌, Result, Ok, Err, None, inl, inr}
-use Rattle.std.specs.Prelude.{OnOk, IfErr}
-use Rattle.pagable_model.specs.declared.error.Error.{Error}
-use Rattle.pagable_model.specs.declared.numbers.ArcRef.{ArcRef}
-use Rattle.pagable_model.specs.Steps.{◌>>=◌}
-use Rattle.pagable_model.specs.Basic.{bool_form}
-use Rattle.pagable_model.specs.Gives.{memory, memory_or, either, long_or}
-use Rattle.pagable_model.specs.Lengths.{long_or_memory}
-use Rattle.pagable_model.specs.Meaning.{Meaning, pair, absent, present}
-use Rattle.pagable_model.specs.Shape.{Shape, optional, both}
-use Rattle.pagable_model.specs.Form.{none-form, some-form, both-form}
-use Rattle.pagable_model.specs.Writing.{Out, Nesting, WritesSome, added, NoForm, Refused}
-use Rattle.pagable_model.specs.Standing.{Gave, SomeMeaning}
-use Rattle.pagable_model.specs.Lifted.{MeansOption, means-none, MeansPair}
-use Rattle.pagable_codec.proofs.Writing.{then}
+use Rattle.pagable_traits.proofs.Words.{◌≡◌, ℕ, false, [], ◌∷◌, ◌++◌, refl, ◌∙◌, Result, Ok, Err, None, inl, inr, OnOk, IfErr, Error, ArcRef, ◌>>=◌, bool_form, memory, memory_or, either, long_or}
+use Rattle.pagable_traits.proofs.Words.{long_or_memory, Meaning, pair, absent, present, Shape, optional, both, some-form, both-form, Out, Nesting, WritesSome, added, NoForm, Refused, Gave}
+use Rattle.pagable_traits.proofs.Words.{SomeMeaning, MeansOption, means-none, MeansPair, then}
+use Rattle.pagable_model.specs.Form.{none-form}
 
 -- ---- results
 

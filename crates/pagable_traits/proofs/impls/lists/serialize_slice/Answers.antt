@@ -1,6 +1,5 @@
-use Rattle.std.proofs.Common.{length, refl}
-use Rattle.pagable_traits.proofs.Walks.{shows_slice, wraps_list, written_counted, refused_counted}
-use Rattle.pagable_traits.proofs.InTurn.{owed}
+use Rattle.pagable_traits.proofs.Words.{length, refl}
+use Rattle.pagable_traits.proofs.{Walks.shows_slice, Walks.wraps_list, Walks.written_counted, Walks.refused_counted, InTurn.owed}
 use Rattle.pagable_traits.proofs.impls.lists.serialize_slice.Goals as goal
 
 pub returns : goal.returns

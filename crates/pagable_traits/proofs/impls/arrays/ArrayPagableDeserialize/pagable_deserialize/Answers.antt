@@ -1,6 +1,4 @@
-use Rattle.std.proofs.lemmas.Result.{err_from_is_err_and}
-use Rattle.pagable_model.specs.Gives.{memory_or}
-use Rattle.pagable_model.specs.Standing.{handles_at}
+use Rattle.pagable_traits.proofs.Words.{err_from_is_err_and, memory_or, handles_at}
 use Rattle.pagable_traits.proofs.Joined.{array_refused, gave_array}
 use Rattle.pagable_traits.proofs.impls.arrays.ArrayPagableDeserialize.pagable_deserialize.Goals as goal
 

@@ -1,8 +1,5 @@
-use Rattle.pagable_model.specs.Gives.{memory_or, either}
-use Rattle.pagable_model.specs.Standing.{handles_at}
-use Rattle.pagable_traits.proofs.Placed.{key-same}
-use Rattle.pagable_traits.proofs.Hashed.{reads_hash_map}
-use Rattle.pagable_traits.proofs.InTurn.{tells}
+use Rattle.pagable_traits.proofs.Words.{memory_or, either, handles_at}
+use Rattle.pagable_traits.proofs.{Placed.key-same, Hashed.reads_hash_map, InTurn.tells}
 use Rattle.pagable_traits.proofs.impls.hashed.HashMapPagableDeserialize.pagable_deserialize.Goals as goal
 
 pub returns : goal.returns

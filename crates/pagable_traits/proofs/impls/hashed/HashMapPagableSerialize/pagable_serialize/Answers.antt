@@ -1,9 +1,5 @@
-use Rattle.pagable_model.specs.Writing.{nesting}
-use Rattle.pagable_model.specs.Lifted.{pair_has_meaning}
-use Rattle.pagable_traits.proofs.Walks.{shows_entries, written_counted, refused_counted}
-use Rattle.pagable_traits.proofs.Placed.{key-same}
-use Rattle.pagable_traits.proofs.Hashed.{wraps_hash_map}
-use Rattle.pagable_traits.proofs.InTurn.{owed}
+use Rattle.pagable_traits.proofs.Words.{nesting, pair_has_meaning}
+use Rattle.pagable_traits.proofs.{Walks.shows_entries, Walks.written_counted, Walks.refused_counted, Placed.key-same, Hashed.wraps_hash_map, InTurn.owed}
 use Rattle.pagable_traits.proofs.impls.hashed.HashMapPagableSerialize.pagable_serialize.Goals as goal
 
 pub returns : goal.returns

@@ -1,7 +1,5 @@
-use Rattle.std.proofs.lemmas.Result.{err_from_is_err_and}
-use Rattle.pagable_model.specs.Standing.{handles_at}
-use Rattle.pagable_traits.proofs.Held.{option_unflagged, option_absent, option_refused, option_present}
-use Rattle.pagable_traits.proofs.InTurn.{then-tells}
+use Rattle.pagable_traits.proofs.Words.{err_from_is_err_and, handles_at}
+use Rattle.pagable_traits.proofs.{Held.option_unflagged, Held.option_absent, Held.option_refused, Held.option_present, InTurn.then-tells}
 use Rattle.pagable_traits.proofs.impls.holders.OptionPagableDeserialize.pagable_deserialize.Goals as goal
 
 pub returns-in_err-read_flag : goal.returns-in_err-read_flag

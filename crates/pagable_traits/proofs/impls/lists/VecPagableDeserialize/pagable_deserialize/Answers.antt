@@ -1,7 +1,5 @@
-use Rattle.pagable_model.specs.Gives.{memory_or}
-use Rattle.pagable_model.specs.Standing.{handles_at}
-use Rattle.pagable_traits.proofs.Collecting.{reads_list}
-use Rattle.pagable_traits.proofs.InTurn.{tells}
+use Rattle.pagable_traits.proofs.Words.{memory_or, handles_at}
+use Rattle.pagable_traits.proofs.{Collecting.reads_list, InTurn.tells}
 use Rattle.pagable_traits.proofs.impls.lists.VecPagableDeserialize.pagable_deserialize.Goals as goal
 
 pub returns : goal.returns

@@ -1,7 +1,5 @@
-use Rattle.pagable_model.specs.Gives.{memory_or, either}
-use Rattle.pagable_model.specs.Standing.{handles_at}
-use Rattle.pagable_traits.proofs.Maps.{key-order, reads_sorted_map}
-use Rattle.pagable_traits.proofs.InTurn.{tells}
+use Rattle.pagable_traits.proofs.Words.{memory_or, either, handles_at}
+use Rattle.pagable_traits.proofs.{Maps.key-order, Maps.reads_sorted_map, InTurn.tells}
 use Rattle.pagable_traits.proofs.impls.maps.BTreeMapPagableDeserialize.pagable_deserialize.Goals as goal
 
 pub returns : goal.returns

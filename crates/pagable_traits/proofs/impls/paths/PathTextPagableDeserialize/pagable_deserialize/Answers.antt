@@ -1,4 +1,4 @@
-use Rattle.std.proofs.Common.{rules}
+use Rattle.pagable_traits.proofs.Words.{rules}
 use Rattle.pagable_traits.proofs.InTurn.{tells}
 use Rattle.pagable_traits.proofs.impls.paths.PathTextPagableDeserialize.pagable_deserialize.Goals as goal
 

@@ -1,7 +1,5 @@
-use Rattle.pagable_model.specs.Gives.{memory_or, either}
-use Rattle.pagable_model.specs.Standing.{handles_at}
-use Rattle.pagable_traits.proofs.Placed.{key-same, reads_placed_map}
-use Rattle.pagable_traits.proofs.InTurn.{tells}
+use Rattle.pagable_traits.proofs.Words.{memory_or, either, handles_at}
+use Rattle.pagable_traits.proofs.{Placed.key-same, Placed.reads_placed_map, InTurn.tells}
 use Rattle.pagable_traits.proofs.impls.placed.IndexMapPagableDeserialize.pagable_deserialize.Goals as goal
 
 pub returns : goal.returns

@@ -1,8 +1,5 @@
-use Rattle.std.proofs.lemmas.Result.{err_from_is_err_and}
-use Rattle.pagable_model.specs.Gives.{either}
-use Rattle.pagable_model.specs.Standing.{handles_at}
-use Rattle.pagable_traits.proofs.Joined.{outcome_refused, success_refused, failure_refused, gave_success, gave_failure}
-use Rattle.pagable_traits.proofs.InTurn.{then-tells}
+use Rattle.pagable_traits.proofs.Words.{err_from_is_err_and, either, handles_at}
+use Rattle.pagable_traits.proofs.{Joined.outcome_refused, Joined.success_refused, Joined.failure_refused, Joined.gave_success, Joined.gave_failure, InTurn.then-tells}
 use Rattle.pagable_traits.proofs.impls.results.ResultPagableDeserialize.pagable_deserialize.Goals as goal
 
 pub returns-in_err-good : goal.returns-in_err-good

@@ -1,8 +1,5 @@
-use Rattle.pagable_model.specs.Gives.{memory_or}
-use Rattle.pagable_model.specs.Standing.{handles_at}
-use Rattle.pagable_traits.proofs.Maps.{key-order}
-use Rattle.pagable_traits.proofs.Sets.{reads_sorted_set}
-use Rattle.pagable_traits.proofs.InTurn.{tells}
+use Rattle.pagable_traits.proofs.Words.{memory_or, handles_at}
+use Rattle.pagable_traits.proofs.{Maps.key-order, Sets.reads_sorted_set, InTurn.tells}
 use Rattle.pagable_traits.proofs.impls.sets.BTreeSetPagableDeserialize.pagable_deserialize.Goals as goal
 
 pub returns : goal.returns

@@ -1,8 +1,5 @@
-use Rattle.pagable_model.specs.Writing.{nesting}
-use Rattle.pagable_traits.proofs.Walks.{shows_items, written_counted, refused_counted}
-use Rattle.pagable_traits.proofs.Maps.{key-order}
-use Rattle.pagable_traits.proofs.Sets.{wraps_sorted_set}
-use Rattle.pagable_traits.proofs.InTurn.{owed}
+use Rattle.pagable_traits.proofs.Words.{nesting}
+use Rattle.pagable_traits.proofs.{Walks.shows_items, Walks.written_counted, Walks.refused_counted, Maps.key-order, Sets.wraps_sorted_set, InTurn.owed}
 use Rattle.pagable_traits.proofs.impls.sets.BTreeSetPagableSerialize.pagable_serialize.Goals as goal
 
 pub returns : goal.returns

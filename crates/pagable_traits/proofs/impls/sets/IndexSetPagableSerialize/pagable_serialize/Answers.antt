@@ -1,8 +1,5 @@
-use Rattle.pagable_model.specs.Writing.{nesting}
-use Rattle.pagable_traits.proofs.Walks.{shows_items, written_counted, refused_counted}
-use Rattle.pagable_traits.proofs.Placed.{key-same}
-use Rattle.pagable_traits.proofs.Sets.{wraps_placed_set}
-use Rattle.pagable_traits.proofs.InTurn.{owed}
+use Rattle.pagable_traits.proofs.Words.{nesting}
+use Rattle.pagable_traits.proofs.{Walks.shows_items, Walks.written_counted, Walks.refused_counted, Placed.key-same, Sets.wraps_placed_set, InTurn.owed}
 use Rattle.pagable_traits.proofs.impls.sets.IndexSetPagableSerialize.pagable_serialize.Goals as goal
 
 pub returns : goal.returns
