@@ -2,14 +2,14 @@
 use Rattle.pagable_traits.proofs.Words.{◌≡◌, ℕ, ◌≤◌, Bool, true, false, subst, List, [], ◌∷◌, ◌++◌, length, map, refl, sym, ap, ◌∙◌, Option, Some, None, is_some, Result, IsPermutation, length-map}
 use Rattle.pagable_traits.proofs.Words.{IsDistinct, keys_of, lookup, set_value, Ordering, is_eq, IsTotalOrder, Error, ArcRef, longest, length_form, Meaning, entry, Entry, ordered, same_key}
 use Rattle.pagable_traits.proofs.Words.{put_all, put_sorted, AllAfter, Apart, Differ, Shape, both, of_entries, Entries, more-entries, Rest, Context, counted, read, read_with, Nesting, FormAt}
-use Rattle.pagable_traits.proofs.Words.{FormsAt, kind_of_arc, GivesSome, PutInTurn, Collected, MeansPair}
-use Rattle.std.proofs.{Common.cond, Common.MatchOption, lemmas.Map.Text.is_eq-slice_cmp}
+use Rattle.pagable_traits.proofs.Words.{FormsAt, kind_of_arc, GivesSome, PutInTurn, Collected, MeansPair, arith}
+use Rattle.std.proofs.{Common.MatchOption, lemmas.Map.Text.is_eq-slice_cmp}
 use Rattle.std.specs.Cmp.Lexicographic.{on_texts}
 use Rattle.pagable_model.specs.{Meaning.plain, Keys.code, Keys.code_order, Shape.hash_map, Carried.of_hash_map, Form.hash-map-form, Hashed.PutsAnywhere, Hashed.MeansHashMap}
-use Rattle.pagable_traits.proofs.{Items.sequence-same, Maps.EntriesMean, Maps.entries-of-pairs, Maps.pairs-of-entries, Maps.same-entries, Maps.forms-of-entries, Maps.entries-mean}
-use Rattle.pagable_traits.proofs.{Maps.entries-written, Maps.reads-entries, Walks.Wraps, Placed.IsSameOf, Placed.differ, Reordered.Reordered, Reordered.no-items, Reordered.same-front}
-use Rattle.pagable_traits.proofs.{Reordered.two-turned, Reordered.and-then, Reordered.reordered, Reordered.reordered-back, Reordered.reordered-length, Reordered.apart-with, Anywhere.OtherKey}
-use Rattle.pagable_traits.proofs.{Anywhere.other-back, Anywhere.put-late, Anywhere.any-order, Anywhere.in-order-reordered, Anywhere.put-value}
+use Rattle.pagable_traits.proofs.Maps.{EntriesMean, entries-of-pairs, pairs-of-entries, same-entries, forms-of-entries, entries-mean, entries-written, reads-entries}
+use Rattle.pagable_traits.proofs.Reordered.{Reordered, no-items, same-front, two-turned, and-then, reordered, reordered-back, reordered-length, apart-with}
+use Rattle.pagable_traits.proofs.Anywhere.{OtherKey, other-back, put-late, any-order, in-order-reordered, put-value}
+use Rattle.pagable_traits.proofs.{Items.sequence-same, Walks.Wraps, Placed.IsSameOf, Placed.differ}
 
 -- the order in which a hash map's entries are put in its meaning, and that it tells the keys apart
 abbrev of_keys : Meaning ArcRef → Meaning ArcRef → Ordering
@@ -91,24 +91,14 @@ set-means : {K V : Type 0} (M : K → Meaning ArcRef → Type 0) (N : V → Mean
     → EntriesMean M N (set_value (eq x.0) xs x.1) (set_value (same_key e.0) es e.1)
 unfolding EntriesMean
 set-means M N eq is [] [] x e h first second = tt
-set-means M N eq is (y ∷ xs) (f ∷ es) x e h first second =
-    rw (is.agrees x.0 y.0 e.0 f.0 first h.0) (by_case (set-means M N eq is xs es x e h.2 first second) (same_key e.0 f.0))
-  where
-    by_case : EntriesMean M N (set_value (eq x.0) xs x.1) (set_value (same_key e.0) es e.1) → (same : Bool)
-        → EntriesMean M N (cond same ((y.0, x.1) ∷ xs) (y ∷ set_value (eq x.0) xs x.1)) (cond same ((f.0, e.1) ∷ es) (f ∷ set_value (same_key e.0) es e.1))
-    by_case tail true = (h.0, second, h.2)
-    by_case tail false = (h.0, h.1, tail)
+set-means M N eq is (y ∷ xs) (f ∷ es) x e h first second = grind (arith, set-means M N eq is xs es x e h.2 first second)
 set-means M N eq is _ _ x e h first second = absurd h
 
 found-alike : {K V : Type 0} (M : K → Meaning ArcRef → Type 0) (N : V → Meaning ArcRef → Type 0) (eq : K → K → Bool) → IsSameOf M eq → (xs : List (K × V)) (es : List (Entry ArcRef)) (x : K) (e : Meaning ArcRef) → EntriesMean M N xs es → M x e
     → is_some (lookup (same_key e) es) ≡ is_some (lookup (eq x) xs)
 unfolding EntriesMean
 found-alike M N eq is [] [] x e h first = refl
-found-alike {K} {V} M N eq is (y ∷ xs) (f ∷ es) x e h first = rw (is.agrees x y.0 e f.0 first h.0) (by_case (found-alike M N eq is xs es x e h.2 first) (same_key e f.0))
-  where
-    by_case : is_some (lookup (same_key e) es) ≡ is_some (lookup (eq x) xs) → (same : Bool) → is_some (cond same (Some f.1) (lookup (same_key e) es)) ≡ is_some (cond same (Some y.1) (lookup (eq x) xs))
-    by_case tail true = refl
-    by_case tail false = tail
+found-alike {K} {V} M N eq is (y ∷ xs) (f ∷ es) x e h first = grind (arith, found-alike M N eq is xs es x e h.2 first)
 found-alike M N eq is _ _ x e h first = absurd h
 
 other-key : (a b : Meaning ArcRef) → same_key a b ≡ false → same_key b a ≡ false
@@ -117,11 +107,7 @@ other-key a b h = sym (ties-alike b a) ∙ other-back {V = Meaning ArcRef} of_ke
 none-apart : (e : Entry ArcRef) (es : List (Entry ArcRef)) → is_some (lookup (same_key e.0) es) ≡ false → AllAfter (λ (d f : Entry ArcRef). same_key d.0 f.0 ≡ false) e es
 unfolding AllAfter
 none-apart e [] h = tt
-none-apart e (f ∷ es) h = by_case (none-apart e es) (same_key e.0 f.0) refl
-  where
-    by_case : (is_some (lookup (same_key e.0) es) ≡ false → AllAfter (λ (d f : Entry ArcRef). same_key d.0 f.0 ≡ false) e es) → (same : Bool) → same_key e.0 f.0 ≡ same → (same_key f.0 e.0 ≡ false) × AllAfter (λ (d f : Entry ArcRef). same_key d.0 f.0 ≡ false) e es
-    by_case rest true p = let t : is_some (lookup (same_key e.0) (f ∷ es)) ≡ true = rw p refl in cc
-    by_case rest false p = let later : is_some (lookup (same_key e.0) es) ≡ false = rw p at h in (other-key e.0 f.0 p, rest later)
+none-apart e (f ∷ es) h = grind (arith, other-key, none-apart e es)
 
 -- entries whose meaning, put in order, is this
 record InOrder {K V : Type 0} (M : K → Meaning ArcRef → Type 0) (N : V → Meaning ArcRef → Type 0) (now : List (K × V)) (es : List (Entry ArcRef)) : Type 0 where

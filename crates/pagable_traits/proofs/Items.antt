@@ -135,11 +135,7 @@ regroup {A} {X} front m (Ok x) = ap (λ (ms : List X). Ok (ms, x.1)) (simp appen
 regroup front m (Err e) = refl
 
 pub starts : {A X : Type 0} (get : Gets A X) (count : ℕ) (rest : Rest A) → with_front [] (items get (count - 0) rest) ≡ items get count rest
-starts {A} {X} get count rest = let e : count - 0 ≡ count = omega arith in rw e (go (items get count rest))
-  where
-    go : (r : Result (List X × Rest A) Error) → with_front [] r ≡ r
-    go (Ok x) = refl
-    go (Err e) = refl
+starts {A} {X} get count rest = grind arith
 
 pub goes_on : {A X : Type 0} (get : Gets A X) (front : List X) (count i : ℕ) (rest : Rest A) (m : X) (after : Rest A) (total : Result (List X × Rest A) Error) → i < count → get rest ≡ Ok (m, after)
     → with_front front (items get (count - i) rest) ≡ total → with_front (front ++ m ∷ []) (items get (count - (i + 1)) after) ≡ total

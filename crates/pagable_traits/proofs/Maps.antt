@@ -1,8 +1,8 @@
 -- Entries of maps: what they mean as pairs, and what putting in, writing and reading them gives.
 use Rattle.pagable_traits.proofs.Words.{◌≡◌, ℕ, zero, suc, ◌-◌, ◌<◌, ◌≤◌, List, [], ◌∷◌, ◌++◌, length, map, arith, refl, sym, ap, ◌∙◌, append_assoc, Result, Ok, Err, inl, inr, length-map}
-use Rattle.pagable_traits.proofs.Words.{append-nil, ◌⊎◌, AllByRecursion, IsStrictlySortedBy, keys_of, Ordering, match_ordering, ordering_reverse, IsTotalOrder, insert_entry, Error, ArcRef, ◌>>=◌}
-use Rattle.pagable_traits.proofs.Words.{longest, length_form, length_at, long_or_memory, Meaning, pair, sequence, entry, Entry, KeyOrder, ordered, put_all, put_sorted, AllAfter, Apart, Shape}
-use Rattle.pagable_traits.proofs.Words.{both, sorted_map, of_entries, Forms, Entries, no-forms, more-forms, more-entries, both-form, sorted-map-form, Rest, Gets, Context, deepest, items, bytes_of}
+use Rattle.pagable_traits.proofs.Words.{append-nil, ◌⊎◌, AllByRecursion, IsStrictlySortedBy, keys_of, Ordering, ordering_reverse, IsTotalOrder, insert_entry, Error, ArcRef, ◌>>=◌, longest}
+use Rattle.pagable_traits.proofs.Words.{length_form, length_at, long_or_memory, Meaning, pair, sequence, entry, Entry, KeyOrder, ordered, put_all, put_sorted, AllAfter, Apart, Shape, both}
+use Rattle.pagable_traits.proofs.Words.{sorted_map, of_entries, Forms, Entries, no-forms, more-forms, more-entries, both-form, sorted-map-form, Rest, Gets, Context, deepest, items, bytes_of}
 use Rattle.pagable_traits.proofs.Words.{counted, seen, read, read_with, Out, Nesting, FormAt, FormsAt, WritesSome, WritesSomeAll, added, kind_of_arc, Refused, RefusedAll, Gave, GivesSome}
 use Rattle.pagable_traits.proofs.Words.{SomeMeaning, Collected, MeanAll, mean-none, mean-more, MeansList, MeansPair, items_have_meanings, then, memory_refuses}
 use Rattle.pagable_model.specs.{Keys.Ascends, Form.no-entries, Reading.two}
@@ -62,10 +62,7 @@ forms-of-entries (more-entries d s t x y es b1 b2 c j1 j2 l f g rest) =
 
 -- these pairs mean these entries
 pub entries-mean : {K V : Type 0} (M : K → Meaning ArcRef → Type 0) (N : V → Meaning ArcRef → Type 0) {xs : List (K × V)} (es : List (Entry ArcRef)) → MeanAll (MeansPair M N) xs (map entry es) → EntriesMean M N xs es
-entries-mean M N {xs} es h =
-    let ds = entries-of-pairs M N h in
-    let same : ds.0 ≡ es = same-entries ds.0 es (sym ds.1) in
-    rw same at ds.2
+entries-mean M N {xs} es h = grind (arith, entries-of-pairs, same-entries)
 
 -- pairs that were written are entries that were written
 pub record EntriesWritten {K V : Type 0} (M : K → Meaning ArcRef → Type 0) (N : V → Meaning ArcRef → Type 0) (n : Nesting) (s t : Shape) (xs : List (K × V)) (ms : List (Meaning ArcRef)) (b : List ℕ) (k : List ArcRef) : Type 0 where
@@ -115,12 +112,7 @@ given other (Ok x) = x
 given other (Err e) = other
 
 were-entries : {A : Type 0} (r : Result (List (Entry ArcRef) × Rest A) Error) (ms : List (Meaning ArcRef)) (after : Rest A) → viewed (map entry) r ≡ Ok (ms, after) → (es : List (Entry ArcRef)) × (ms ≡ map entry es) × (r ≡ Ok (es, after))
-were-entries {A} (Ok o) ms after e =
-    let other : List (Meaning ArcRef) × Rest A = (ms, after) in
-    let same : map entry o.0 ≡ ms = ap (λ (r : Result (List (Meaning ArcRef) × Rest A) Error). (given other r).0) e in
-    let rest : o.1 ≡ after = ap (λ (r : Result (List (Meaning ArcRef) × Rest A) Error). (given other r).1) e in
-    let with : Rest A → Result (List (Entry ArcRef) × Rest A) Error = λ y. Ok (o.0, y) in
-    (o.0, sym same, ap with rest)
+were-entries {A} (Ok o) ms after e = grind arith
 were-entries (Err x) ms after e = cc
 
 was-refused : {A : Type 0} (r : Result (List (Entry ArcRef) × Rest A) Error) (e : Error) → viewed (map entry) r ≡ Err e → r ≡ Err e
@@ -141,17 +133,7 @@ not-both e x h = cc
 -- a whole whose entries were counted
 pub reads-entries : {X A : Type 0} (own : Error → Type 0) (P : X → List (Meaning ArcRef) → Type 0) (Q : X → Meaning ArcRef → Type 0) (view : List (Entry ArcRef) → Meaning ArcRef) → ((x : X) (es : List (Entry ArcRef)) → P x (map entry es) → Q x (view es)) → (r : Result X Error) (context : Context A ArcRef) (s t : Shape) (rest last : Rest A)
     → GivesSome own P last r (counted (read context (both s t)) rest) → GivesSome own Q last r (seen view (counted (two (read context s) (read context t))) rest)
-reads-entries {X} {A} own P Q view f r context s t rest last h = go r (bytes_of length_at (λ n. n) rest) h
-  where
-    go : (r : Result X Error) (c : Result (ℕ × Rest A) Error) → GivesSome own P last r (c >>= λ count. items (read context (both s t)) count.0 count.1) → GivesSome own Q last r ((c >>= λ count. items (two (read context s) (read context t)) count.0 count.1) >>= λ es. Ok (view es.0, es.1))
-    go (Ok x) (Ok c) g =
-        let were = read-entries context s t c.0 c.1 last g.m g.gave in
-        record { m = view were.0; is = f x were.0 (rw were.1 at g.is); gave = rw were.2 refl }
-    go (Ok x) (Err e) g = absurd (not-both e (g.m, last) g.gave)
-    go (Err e) (Ok c) (inl k) = inl (rw (entries-refused context s t c.0 c.1 e k) refl)
-    go (Err e) (Ok c) (inr k) = inr k
-    go (Err e) (Err d) (inl k) = let same : d ≡ e = cc in inl (rw same refl)
-    go (Err e) (Err d) (inr k) = inr k
+reads-entries {X} {A} own P Q view f r context s t rest last h = grind (arith, read-entries, not-both, entries-refused)
 
 -- ---- writing entries one after another
 
@@ -234,14 +216,7 @@ put-in-order : {K V : Type 0} (M : K → Meaning ArcRef → Type 0) (N : V → M
     → EntriesMean M N xs es → M x.0 e.0 → N x.1 e.1 → EntriesMean M N (insert_entry cmp xs x.0 x.1) (put_sorted order es e)
 unfolding EntriesMean
 put-in-order M N cmp order is [] [] x e h first second = (first, second, tt)
-put-in-order M N cmp order is (y ∷ xs) (f ∷ es) x e h first second =
-    rw (is.agrees x.0 y.0 e.0 f.0 first h.0) (by_case (put-in-order M N cmp order is xs es x e h.2 first second) (ordered order e.0 f.0))
-  where
-    by_case : EntriesMean M N (insert_entry cmp xs x.0 x.1) (put_sorted order es e) → (o : Ordering)
-        → EntriesMean M N (match_ordering o ((x.0, x.1) ∷ y ∷ xs) ((y.0, x.1) ∷ xs) (y ∷ insert_entry cmp xs x.0 x.1)) (match_ordering o ((e.0, e.1) ∷ f ∷ es) ((f.0, e.1) ∷ es) (f ∷ put_sorted order es e))
-    by_case tail answers.Less = (first, second, h)
-    by_case tail answers.Equal = (h.0, second, h.2)
-    by_case tail answers.Greater = (h.0, h.1, tail)
+put-in-order M N cmp order is (y ∷ xs) (f ∷ es) x e h first second = grind (arith, put-in-order M N cmp order is xs es x e h.2 first second)
 put-in-order M N cmp order is _ _ x e h first second = absurd h
 
 put-all-in-order : {K V : Type 0} (M : K → Meaning ArcRef → Type 0) (N : V → Meaning ArcRef → Type 0) (cmp : K → K → Ordering) (order : KeyOrder) → IsOrderOf M cmp order → (acc xs : List (K × V)) (ds es : List (Entry ArcRef)) → EntriesMean M N acc ds → EntriesMean M N xs es
@@ -256,8 +231,7 @@ below-all : {K V : Type 0} (M : K → Meaning ArcRef → Type 0) (N : V → Mean
     → AllByRecursion (λ y. cmp x.0 y ≡ answers.Less) (keys_of xs) → AllAfter (λ (d f : Entry ArcRef). ordered order d.0 f.0 ≡ answers.Greater) e es
 unfolding EntriesMean AllAfter
 below-all M N cmp order is x e first [] [] h lt = tt
-below-all M N cmp order is x e first (y ∷ xs) (f ∷ es) h lt =
-    (sym (is.agrees y.0 x.0 f.0 e.0 h.0 first) ∙ is.antisymm y.0 x.0 ∙ ap ordering_reverse lt.0, below-all M N cmp order is x e first xs es h.2 lt.1)
+below-all M N cmp order is x e first (y ∷ xs) (f ∷ es) h lt = grind (arith, below-all M N cmp order is x e first xs es h.2 lt.1)
 below-all M N cmp order is x e first _ _ h lt = absurd h
 
 ascends : {K V : Type 0} (M : K → Meaning ArcRef → Type 0) (N : V → Meaning ArcRef → Type 0) (cmp : K → K → Ordering) (order : KeyOrder) → IsOrderOf M cmp order → (xs : List (K × V)) (es : List (Entry ArcRef)) → EntriesMean M N xs es → IsStrictlySortedBy cmp (keys_of xs) → Ascends order es

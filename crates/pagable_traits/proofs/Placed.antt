@@ -1,12 +1,12 @@
 -- Maps in order of arrival: what putting in, writing and reading their entries gives.
-use Rattle.pagable_traits.proofs.Words.{◌≡◌, ℕ, ◌≤◌, Bool, true, false, List, [], ◌∷◌, length, map, refl, sym, ◌∙◌, Result, length-map, if◌then◌else◌, AllByRecursion, IsDistinct, keys_of, Error}
-use Rattle.pagable_traits.proofs.Words.{ArcRef, longest, Meaning, sequence, entry, Entry, same_key, put_all, AllAfter, Apart, Differ, Shape, both, of_entries, Rest, Context, counted, read}
-use Rattle.pagable_traits.proofs.Words.{read_with, Nesting, FormAt, FormsAt, GivesSome, Collected, MeansList, MeansPair}
+use Rattle.pagable_traits.proofs.Words.{◌≡◌, ℕ, ◌≤◌, Bool, false, List, [], ◌∷◌, length, map, refl, sym, ◌∙◌, Result, length-map, AllByRecursion, IsDistinct, keys_of, Error, ArcRef, longest}
+use Rattle.pagable_traits.proofs.Words.{Meaning, sequence, entry, Entry, same_key, put_all, AllAfter, Apart, Differ, Shape, both, of_entries, Rest, Context, counted, read, read_with, Nesting}
+use Rattle.pagable_traits.proofs.Words.{FormAt, FormsAt, GivesSome, Collected, MeansList, MeansPair, arith}
 use Rattle.std.specs.Cmp.{IsEquivalence}
 use Rattle.indexmap.specs.IndexMap.{insert_entry}
 use Rattle.pagable_model.specs.{Keys.put_placed, Shape.placed_map, Form.placed-map-form}
-use Rattle.pagable_traits.proofs.{Items.split-same, Collecting.put-in-turn, Maps.EntriesMean, Maps.pairs-of-entries, Maps.forms-of-entries, Maps.entries-mean, Maps.entries-written}
-use Rattle.pagable_traits.proofs.{Maps.reads-entries, Walks.Splits, Walks.Wraps, Walks.wraps-sequence}
+use Rattle.pagable_traits.proofs.Maps.{EntriesMean, pairs-of-entries, forms-of-entries, entries-mean, entries-written, reads-entries}
+use Rattle.pagable_traits.proofs.{Items.split-same, Collecting.put-in-turn, Walks.Splits, Walks.Wraps, Walks.wraps-sequence}
 
 placed-map-parts : (n : Nesting) {s t : Shape} {m : Meaning ArcRef} {b : List ℕ} {k : List ArcRef} (ms : List (Meaning ArcRef)) → FormAt n (placed_map s t) m b k → m ≡ sequence ms → (length ms ≤ longest) × ((c : List ℕ) × FormsAt n (both s t) ms c k)
 placed-map-parts n ms (placed-map-form l s t es c k le differ f) e = let short : length (map entry es) ≤ longest = rw (length-map es entry) le in split-same n e short (forms-of-entries f)
@@ -26,13 +26,7 @@ put-in-place : {K V : Type 0} (M : K → Meaning ArcRef → Type 0) (N : V → M
     → EntriesMean M N (insert_entry eq xs x.0 x.1) (put_placed es e)
 unfolding EntriesMean
 put-in-place M N eq is [] [] x e h first second = (first, second, tt)
-put-in-place M N eq is (y ∷ xs) (f ∷ es) x e h first second =
-    rw (is.agrees x.0 y.0 e.0 f.0 first h.0) (by_case (put-in-place M N eq is xs es x e h.2 first second) (same_key e.0 f.0))
-  where
-    by_case : EntriesMean M N (insert_entry eq xs x.0 x.1) (put_placed es e) → (same : Bool)
-        → EntriesMean M N (if same then (y.0, x.1) ∷ xs else y ∷ insert_entry eq xs x.0 x.1) (if same then (f.0, e.1) ∷ es else f ∷ put_placed es e)
-    by_case tail true = (h.0, second, h.2)
-    by_case tail false = (h.0, h.1, tail)
+put-in-place M N eq is (y ∷ xs) (f ∷ es) x e h first second = grind (arith, put-in-place M N eq is xs es x e h.2 first second)
 put-in-place M N eq is _ _ x e h first second = absurd h
 
 put-all-in-place : {K V : Type 0} (M : K → Meaning ArcRef → Type 0) (N : V → Meaning ArcRef → Type 0) (eq : K → K → Bool) → IsSameOf M eq → (acc xs : List (K × V)) (ds es : List (Entry ArcRef)) → EntriesMean M N acc ds → EntriesMean M N xs es

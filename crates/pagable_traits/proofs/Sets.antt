@@ -1,8 +1,8 @@
 -- Sets: what putting in, writing and reading their items gives.
-use Rattle.pagable_traits.proofs.Words.{◌≡◌, ℕ, ◌≤◌, Bool, true, false, subst, List, [], ◌∷◌, ◌++◌, length, refl, sym, ap, ◌∙◌, Result, if◌then◌else◌, AllByRecursion, IsDistinct}
-use Rattle.pagable_traits.proofs.Words.{IsStrictlySortedBy, Ordering, match_ordering, ordering_reverse, Error, ArcRef, longest, Meaning, sequence, KeyOrder, ordered, same_key, put_all, AllAfter}
-use Rattle.pagable_traits.proofs.Words.{Apart, Shape, Rest, Context, counted, read, read_with, Nesting, FormAt, FormsAt, GivesSome, Collected, MeanAll, mean-none, mean-more, MeansList}
-use Rattle.std.specs.{Prelude.◌||◌, List.list_any, BTreeSet.insert_key}
+use Rattle.pagable_traits.proofs.Words.{◌≡◌, ℕ, ◌≤◌, Bool, true, false, subst, List, [], ◌∷◌, ◌++◌, length, refl, sym, ap, ◌∙◌, Result, AllByRecursion, IsDistinct, IsStrictlySortedBy, Ordering}
+use Rattle.pagable_traits.proofs.Words.{match_ordering, ordering_reverse, Error, ArcRef, longest, Meaning, sequence, KeyOrder, ordered, same_key, put_all, AllAfter, Apart, Shape, Rest, Context}
+use Rattle.pagable_traits.proofs.Words.{counted, read, read_with, Nesting, FormAt, FormsAt, GivesSome, Collected, MeanAll, mean-none, mean-more, MeansList, arith}
+use Rattle.std.specs.{Prelude.if◌then◌else◌, Prelude.◌||◌, List.list_any, BTreeSet.insert_key}
 use Rattle.pagable_model.specs.{Keys.put_sorted_item, Keys.put_placed_item, Keys.ItemsAscend, Keys.ItemsDiffer, Shape.sorted_set, Shape.placed_set, Form.sorted-set-form, Form.placed-set-form}
 use Rattle.pagable_traits.proofs.{Items.split-same, Collecting.put-in-turn, Collecting.reads_items, Walks.Splits, Walks.Wraps, Walks.wraps-sequence, Maps.IsOrderOf, Placed.IsSameOf}
 use Rattle.std.specs.declared.cmp.Ordering.TheVariants as answers
@@ -62,8 +62,7 @@ sorted-set-put M cmp order is now ms c =
 pub reads_sorted_set : {X K A : Type 0} (own : Error → Type 0) (M : K → Meaning ArcRef → Type 0) (cmp : K → K → Ordering) (order : KeyOrder) → IsOrderOf M cmp order → (r : Result X Error) (held : X → List K) (context : Context A ArcRef) (s : Shape) (rest last : Rest A)
     → GivesSome own (λ x. Collected M (λ ys y zs. zs ≡ insert_key cmp ys y) (held x)) last r (counted (read context s) rest) → GivesSome own (λ x. MeansList M (held x)) last r (read context (sorted_set order s) rest)
 unfolding read read_with
-reads_sorted_set own M cmp order is r held context s rest last h =
-    reads_items own (λ x. Collected M (λ ys y zs. zs ≡ insert_key cmp ys y) (held x)) (λ x. MeansList M (held x)) (λ ms. sequence (put_all (put_sorted_item order) [] ms)) (λ x ms p. sorted-set-put M cmp order is (held x) ms p) r (read context s) rest last h
+reads_sorted_set own M cmp order is r held context s rest last h = grind (arith, reads_items, sorted-set-put)
 
 -- ---- sets in order of arrival
 

@@ -1,7 +1,7 @@
 -- Spans of time: how one is written, and what reading one gives.
-use Rattle.pagable_traits.proofs.Words.{◌≡◌, ℕ, ◌+◌, ◌*◌, ◌<◌, ◌≤◌, ◌^◌, List, ◌++◌, arith, refl, ap, ◌∙◌, Result, Ok, Err, inl, inr, lt-ltb, OnOk, ◌⊎◌, w32, w64, Error, Gives, never, unsigned_at}
-use Rattle.pagable_traits.proofs.Words.{Rest, read, read_with, Shape, Answer, GivesSome, Is, handles_at, Out, Nesting, WritesSome, writes_is, writes_bytes}
-use Rattle.std.proofs.{Common.◌/◌, Common.◌%◌, lemmas.Bool.le-ltb, lemmas.Nat.mod_below}
+use Rattle.pagable_traits.proofs.Words.{◌≡◌, ℕ, ◌+◌, ◌*◌, ◌<◌, ◌≤◌, ◌^◌, List, ◌++◌, arith, refl, ap, ◌∙◌, Result, Ok, Err, inl, inr, OnOk, ◌⊎◌, w32, w64, Error, Gives, never, unsigned_at, Rest}
+use Rattle.pagable_traits.proofs.Words.{read, read_with, Shape, Answer, GivesSome, Is, handles_at, Out, Nesting, WritesSome, writes_is, writes_bytes}
+use Rattle.std.proofs.{Common.◌/◌, lemmas.Bool.le-ltb, lemmas.Nat.mod_below}
 use Rattle.std.specs.{Duration.as_nanos, declared.time.Duration.Duration}
 use Rattle.pagable_model.specs.{Basic.nanos_of_second, Basic.duration_form, Basic.duration_at, Carried.of_duration, Form.duration-form, Shape.duration, Spans.seconds_of, Spans.nanos_of}
 use Rattle.pagable_model.specs.{Spans.of_span}
@@ -41,7 +41,4 @@ span_overflows bytes mid after s n g h le = rw (g, h, le-ltb (s + n / nanos_of_s
 pub span_read : (d : Duration) (bytes mid after : List ℕ) (s n : ℕ) → unsigned_at w64 bytes ≡ Ok (s, mid) → unsigned_at w32 mid ≡ Ok (n, after) → s + n / nanos_of_second < 2 ^ 64 → as_nanos d ≡ s * nanos_of_second + n
     → duration_at bytes ≡ Ok ((seconds_of d, nanos_of d), after)
 unfolding duration_at
-span_read d bytes mid after s n g h lt e =
-    let seconds : s + n / nanos_of_second ≡ seconds_of d = rw e (omega arith) in
-    let nanos : n % nanos_of_second ≡ nanos_of d = rw e (omega arith) in
-    rw (g, h, lt-ltb (s + n / nanos_of_second) (2 ^ 64) lt, seconds, nanos) refl
+span_read d bytes mid after s n g h lt e = grind arith

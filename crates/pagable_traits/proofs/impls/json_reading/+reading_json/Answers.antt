@@ -1,10 +1,10 @@
 use Rattle.pagable_traits.proofs.Words.{◌≡◌, ◌<◌, refl, rules, ◌∙◌, arith, inl, insert_entry, MeansPair, mean-none, variant, sequence, flag_case, number_case, text_case, array_case, object_case}
 use Rattle.pagable_traits.proofs.Words.{Is, string_cmp, moves_trans, of_value, of_key}
 use Rattle.pagable_codec.proofs.Reading.{moves_refl}
-use Rattle.pagable_traits.proofs.{Collecting.collected_none, Collecting.collected_more, Items.mean_last, JsonSteps.read-err, JsonSteps.read-no-memory, JsonSteps.read-then, JsonSteps.read-below}
-use Rattle.pagable_traits.proofs.{JsonSteps.read-deep, JsonSteps.none-so-far, JsonSteps.one-more, JsonSteps.refused-so-far, JsonSteps.all-read, JsonSteps.seen-same, JsonRead.case-unread}
-use Rattle.pagable_traits.proofs.{JsonRead.case-unknown, JsonRead.null-read, JsonRead.case-then, JsonRead.array-unread, JsonRead.array-deep, JsonRead.array-seen, JsonRead.is-array}
-use Rattle.pagable_traits.proofs.{JsonRead.object-unread, JsonRead.object-deep, JsonRead.object-read, JsonRead.key-refused, JsonRead.value-refused, JsonRead.member-read}
+use Rattle.pagable_traits.proofs.JsonSteps.{read-err, read-no-memory, read-then, read-below, read-deep, none-so-far, one-more, refused-so-far, all-read, seen-same}
+use Rattle.pagable_traits.proofs.JsonRead.{case-unread, case-unknown, null-read, case-then, array-unread, array-deep, array-seen, is-array, object-unread, object-deep, object-read, key-refused}
+use Rattle.pagable_traits.proofs.JsonRead.{value-refused, member-read}
+use Rattle.pagable_traits.proofs.{Collecting.collected_none, Collecting.collected_more, Items.mean_last}
 use Rattle.serde_json.specs.declared.value.Value as values
 use Rattle.pagable_traits.proofs.impls.json_reading.+reading_json.Goals as goal
 
