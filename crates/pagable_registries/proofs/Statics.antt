@@ -1,24 +1,12 @@
 -- Values in a registry, by their index.
 use Rattle.std.proofs.Common.{◌≡◌, ℕ, zero, suc, ◌+◌, ◌<◌, ◌≤◌, Bool, false, List, [], ◌∷◌, ◌++◌, length, get_or, map, Some, Ok, Err, refl, sym, subst, ◌∙◌, arith, inl, inr}
-use Rattle.std.specs.Prelude.{IsTrue, ◌⊎◌, take}
-use Rattle.std.proofs.lemmas.List.{take_more, map-append}
-use Rattle.std.specs.Int.{w32}
-use Rattle.std.specs.List.{slice_get}
-use Rattle.std.proofs.lemmas.Bool.{cases_lt}
-use Rattle.std.proofs.lemmas.Option.{slice_get_read, get_or_from_slice_get}
-use Rattle.pagable_model.specs.declared.error.Error.{Error}
-use Rattle.pagable_model.specs.declared.error.Error.TheVariants as errors
-use Rattle.pagable_model.specs.Gives.{never}
-use Rattle.pagable_model.specs.declared.numbers.ArcRef.{ArcRef}
-use Rattle.pagable_model.specs.Numbers.{bound, unsigned_form, unsigned_at}
-use Rattle.pagable_model.specs.Meaning.{Meaning, lifted}
-use Rattle.pagable_model.specs.Shape.{static_value}
+use Rattle.std.proofs.{lemmas.List.take_more, lemmas.List.map-append, lemmas.Bool.cases_lt, lemmas.Option.slice_get_read, lemmas.Option.get_or_from_slice_get}
+use Rattle.std.specs.{Prelude.IsTrue, Prelude.◌⊎◌, Prelude.take, Int.w32, List.slice_get}
 use Rattle.pagable_model.specs.Reading.{Rest, Context, registered, read, read_with}
-use Rattle.pagable_model.specs.Form.{static-form}
-use Rattle.pagable_model.specs.Standing.{Is, Gave}
-use Rattle.pagable_model.specs.Writing.{Out, Nesting, WritesSome}
-use Rattle.pagable_model.specs.Statics.{HasEqual, NoEqualBelow}
+use Rattle.pagable_model.specs.{declared.error.Error.Error, Gives.never, declared.numbers.ArcRef.ArcRef, Numbers.bound, Numbers.unsigned_form, Numbers.unsigned_at, Meaning.Meaning, Meaning.lifted}
+use Rattle.pagable_model.specs.{Shape.static_value, Form.static-form, Standing.Is, Standing.Gave, Writing.Out, Writing.Nesting, Writing.WritesSome, Statics.HasEqual, Statics.NoEqualBelow}
 use Rattle.pagable_codec.proofs.Writing.{writes_bytes}
+use Rattle.pagable_model.specs.declared.error.Error.TheVariants as errors
 
 -- ---- the values of entries
 

@@ -1,18 +1,11 @@
 -- What `regex` builds of a text, and why it builds nothing.
 use Rattle.std.specs.Prelude.{◌≡◌, ◌≢◌, ◌⊎◌, ℕ, List, true, refl, Result, Ok}
 use Rattle.std.proofs.Common.{subst, sym, inl, inr}
-use Rattle.regex.specs.Failures.{IsRightKind}
-use Rattle.regex.specs.Patterns.{default_config}
-use Rattle.regex.specs.Sources.{IsRefusal}
-use Rattle.regex.specs.Strings.{regex_source, regex_config, IsReadFromSource}
-use Rattle.regex.specs.declared.error.Error.{Error as Cause}
+use Rattle.regex.specs.{Failures.IsRightKind, Patterns.default_config, Sources.IsRefusal, Strings.regex_source, Strings.regex_config, Strings.IsReadFromSource, declared.error.Error.Error as Cause}
+use Rattle.regex.specs.{declared.string.regex.Regex.Regex}
+use Rattle.pagable_model.specs.{declared.error.Error.Error, declared.numbers.ArcRef.ArcRef, Meaning.Meaning, Meaning.pattern, Refusals.is_own_reading}
 use Rattle.regex.specs.declared.error.Error.TheVariants as causes
-use Rattle.regex.specs.declared.string.regex.Regex.{Regex}
-use Rattle.pagable_model.specs.declared.error.Error.{Error}
 use Rattle.pagable_model.specs.declared.error.Error.TheVariants as errors
-use Rattle.pagable_model.specs.declared.numbers.ArcRef.{ArcRef}
-use Rattle.pagable_model.specs.Meaning.{Meaning, pattern}
-use Rattle.pagable_model.specs.Refusals.{is_own_reading}
 
 -- The regular expression is what the grammar of `regex` reads in this text, with the default options.
 pub record IsBuiltFrom (text : List ℕ) (built : Regex) : Type 0 where

@@ -1,15 +1,9 @@
 -- Why static values may be keys, and why their forms are read again: each index of a registered value as that value, in which
 -- nothing is referred to.
-use Rattle.std.specs.Prelude.{◌≡◌, ℕ, List, [], ◌∷◌, Bool, IsTrue, refl}
-use Rattle.std.specs.List.{AllByRecursion}
-use Rattle.pagable_model.specs.declared.numbers.ArcRef.{ArcRef}
-use Rattle.pagable_model.specs.Canonical.{HasNoReference, IsReadable, LiesIn}
-use Rattle.pagable_model.specs.Codes.{one-meaning}
-use Rattle.pagable_model.specs.Keyed.{RefersToNothing, throughout-alone, same-by}
-use Rattle.pagable_model.specs.Keys.{same_key}
+use Rattle.std.specs.{Prelude.◌≡◌, Prelude.ℕ, Prelude.List, Prelude.[], Prelude.◌∷◌, Prelude.Bool, Prelude.IsTrue, Prelude.refl, List.AllByRecursion}
 use Rattle.pagable_model.specs.Meaning.{Meaning, number, integer, text, pattern, none, pair, variant, reference, followed, plain, rename, lifted}
-use Rattle.pagable_model.specs.Shape.{Shape, static_value}
-use Rattle.pagable_model.specs.Statics.{meanings_of}
+use Rattle.pagable_model.specs.{declared.numbers.ArcRef.ArcRef, Canonical.HasNoReference, Canonical.IsReadable, Canonical.LiesIn, Codes.one-meaning, Keyed.RefersToNothing, Keyed.throughout-alone}
+use Rattle.pagable_model.specs.{Keyed.same-by, Keys.same_key, Shape.Shape, Shape.static_value, Statics.meanings_of}
 use Rattle.pagable_traits.specs.ReadBack.{IsReadThroughout}
 
 all-plain : {T : Type 0} (meaning : T → Meaning ⊥) → ((x : T) → HasNoReference (meaning x)) → (registry : List T) → AllByRecursion HasNoReference (meanings_of meaning registry)

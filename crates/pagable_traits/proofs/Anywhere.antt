@@ -1,18 +1,13 @@
 -- Entries that are put in order of their keys: those with different keys may come in any order.
-use Rattle.std.proofs.Common.{◌≡◌, Bool, true, false, List, [], ◌∷◌, refl, sym, ap, subst, ◌∙◌, is_some}
-use Rattle.std.specs.Map.{set_value, lookup}
-use Rattle.std.specs.declared.cmp.Ordering.{Ordering}
-use Rattle.std.specs.declared.cmp.Ordering.TheVariants as answers
-use Rattle.std.specs.Ordering.{match_ordering, ordering_reverse, is_eq}
-use Rattle.std.specs.Cmp.{IsTotalOrder, alike_right}
-use Rattle.std.specs.BTreeMap.{insert_entry}
-use Rattle.pagable_model.specs.Keys.{put_all, AllAfter, Apart}
+use Rattle.pagable_traits.proofs.Words.{◌≡◌, Bool, true, false, List, [], ◌∷◌, refl, sym, ap, subst, ◌∙◌, is_some, set_value, lookup, Ordering, match_ordering, ordering_reverse, is_eq}
+use Rattle.pagable_traits.proofs.Words.{IsTotalOrder, insert_entry, put_all, AllAfter, Apart, arith}
+use Rattle.std.specs.Cmp.{alike_right}
 use Rattle.pagable_traits.proofs.Reordered.{Reordered, no-items, same-front, two-turned, and-then, reordered-same, after-reordered, apart-reordered}
+use Rattle.std.specs.declared.cmp.Ordering.TheVariants as answers
 
 equal-by : (o : Ordering) → is_eq o ≡ true → o ≡ answers.Equal
-equal-by answers.Less e = cc
 equal-by answers.Equal e = refl
-equal-by answers.Greater e = cc
+equal-by _ e = cc
 
 unequal-back : (o p : Ordering) → p ≡ ordering_reverse o → is_eq o ≡ false → is_eq p ≡ false
 unequal-back answers.Less p e h = rw e refl
@@ -44,27 +39,10 @@ module _ {K V : Type 0} (cmp : K → K → Ordering) (total : IsTotalOrder cmp) 
 
   turn-less : (acc : List (K × V)) (a b : K × V) → cmp a.0 b.0 ≡ answers.Less → put_key (put_key acc a) b ≡ put_key (put_key acc b) a
   turn-less [] a b lt = rw (lt, above cmp total a.0 b.0 lt) refl
-  turn-less (y ∷ ys) a b lt = by_first (turn-less ys a b lt) (cmp a.0 y.0) refl
-    where
-      by_second : (p : Ordering) → cmp a.0 y.0 ≡ answers.Less → cmp b.0 y.0 ≡ p → put_key (put_key (y ∷ ys) a) b ≡ put_key (put_key (y ∷ ys) b) a
-      by_second answers.Less f e = rw (f, e, lt, above cmp total a.0 b.0 lt) refl
-      by_second answers.Equal f e = rw (f, e, above cmp total a.0 b.0 lt, f) refl
-      by_second answers.Greater f e = rw (f, e, above cmp total a.0 b.0 lt, f) refl
-
-      by_first : put_key (put_key ys a) b ≡ put_key (put_key ys b) a → (o : Ordering) → cmp a.0 y.0 ≡ o → put_key (put_key (y ∷ ys) a) b ≡ put_key (put_key (y ∷ ys) b) a
-      by_first later answers.Less f = by_second (cmp b.0 y.0) f refl
-      by_first later answers.Equal f = let g : cmp b.0 y.0 ≡ answers.Greater = above cmp total y.0 b.0 (sym (total.congr a.0 y.0 b.0 f) ∙ lt) in rw (f, g, f) refl
-      by_first later answers.Greater f =
-          let g : cmp b.0 y.0 ≡ answers.Greater = above cmp total y.0 b.0 (total.trans y.0 a.0 b.0 (below cmp total a.0 y.0 f) lt) in
-          rw (f, g, f) (ap (λ (zs : List (K × V)). y ∷ zs) later)
+  turn-less (y ∷ ys) a b lt = grind (arith, above, below, turn-less ys a b lt)
 
   turn : (acc : List (K × V)) (a b : K × V) → OtherKey a b → put_key (put_key acc a) b ≡ put_key (put_key acc b) a
-  turn acc a b other = by_case (cmp a.0 b.0) refl
-    where
-      by_case : (o : Ordering) → cmp a.0 b.0 ≡ o → put_key (put_key acc a) b ≡ put_key (put_key acc b) a
-      by_case answers.Less e = turn-less acc a b e
-      by_case answers.Equal e = let t : is_eq (cmp a.0 b.0) ≡ true = ap is_eq e in cc
-      by_case answers.Greater e = sym (turn-less acc b a (below cmp total a.0 b.0 e))
+  turn acc a b other = grind (arith, turn-less, below)
 
   -- an entry may as well come after others
   pub put-late : (acc : List (K × V)) (e : K × V) (es : List (K × V)) → AllAfter OtherKey e es → put_all put_key (put_key acc e) es ≡ put_key (put_all put_key acc es) e
@@ -103,12 +81,7 @@ module _ {K V : Type 0} (cmp : K → K → Ordering) (total : IsTotalOrder cmp) 
 
   put-again : (acc : List (K × V)) (a : K × V) (k : K) (v : V) → cmp k a.0 ≡ answers.Equal → put_key (put_key acc a) (k, v) ≡ put_key acc (a.0, v)
   put-again [] a k v same = rw same refl
-  put-again (y ∷ ys) a k v same = by_case (put-again ys a k v same) (cmp a.0 y.0) refl
-    where
-      by_case : put_key (put_key ys a) (k, v) ≡ put_key ys (a.0, v) → (o : Ordering) → cmp a.0 y.0 ≡ o → put_key (put_key (y ∷ ys) a) (k, v) ≡ put_key (y ∷ ys) (a.0, v)
-      by_case later answers.Less e = rw (e, same) refl
-      by_case later answers.Equal e = let f : cmp k y.0 ≡ answers.Equal = total.congr k a.0 y.0 same ∙ e in rw (e, f) refl
-      by_case later answers.Greater e = let f : cmp k y.0 ≡ answers.Greater = total.congr k a.0 y.0 same ∙ e in rw (e, f) (ap (λ (zs : List (K × V)). y ∷ zs) later)
+  put-again (y ∷ ys) a k v same = grind (arith, put-again ys a k v same)
 
   same-after : (k : K) (v : V) (y : K × V) → cmp k y.0 ≡ answers.Equal → (xs : List (K × V)) → AllAfter OtherKey y xs → AllAfter OtherKey (k, v) xs
   unfolding AllAfter

@@ -1,19 +1,10 @@
 -- How a basic value is read and written: all that its reader and its writer owe, from what the reader or the writer of its bytes tells.
-use Rattle.std.proofs.Common.{◌≡◌, ℕ, ◌++◌, List, [], refl, Result, Ok, Err, inl, inr}
-use Rattle.std.specs.Prelude.{OnOk, IfErr}
+use Rattle.pagable_traits.proofs.Words.{◌≡◌, ℕ, ◌++◌, List, [], refl, Result, Ok, Err, inl, inr, OnOk, IfErr, Error, ArcRef, bool_at, char_at, text_at, Gives, Extends, memory, Meaning, number}
+use Rattle.pagable_traits.proofs.Words.{integer, Read, unsigned_at, signed_at, Rest, Context, bytes_of, read, read_with, Shape, signed, Out, Nesting, FormAt, WritesSome, Refused, Grows, Answer}
+use Rattle.pagable_traits.proofs.Words.{MovesOn, GivesSome, Is, writes_is, writes_bytes, grows_bytes, refused_memory, arith}
 use Rattle.std.specs.Int.{Width}
-use Rattle.pagable_model.specs.declared.error.Error.{Error}
-use Rattle.pagable_model.specs.declared.numbers.ArcRef.{ArcRef}
-use Rattle.pagable_model.specs.Basic.{bool_at, char_at, text_at}
-use Rattle.pagable_model.specs.Gives.{Gives, Extends, memory}
-use Rattle.pagable_model.specs.Meaning.{Meaning, number, integer, text, flag}
-use Rattle.pagable_model.specs.Numbers.{Read, unsigned_at, signed_at}
-use Rattle.pagable_model.specs.Reading.{Rest, Context, bytes_of, read, read_with}
-use Rattle.pagable_model.specs.Shape.{Shape, unsigned, signed, letter, flag as flag_shape, text as text_shape}
-use Rattle.pagable_model.specs.Track.{Track, left, GoesOn}
-use Rattle.pagable_model.specs.Writing.{Out, Nesting, FormAt, WritesSome, Refused, Grows}
-use Rattle.pagable_model.specs.Standing.{Answer, Standing, MovesOn, GivesSome, Is}
-use Rattle.pagable_codec.proofs.Writing.{writes_is, writes_bytes, grows_bytes, refused_memory}
+use Rattle.pagable_model.specs.{Meaning.text, Meaning.flag, Shape.unsigned, Shape.letter, Shape.flag as flag_shape, Shape.text as text_shape, Track.Track, Track.left, Track.GoesOn}
+use Rattle.pagable_model.specs.{Standing.Standing}
 
 -- ---- reading
 
@@ -50,12 +41,7 @@ pub basic_read : {X Y E : Type 0} (own : Error → Type 0) (view : X → Y) (mea
     → rest.bytes ≡ left given → last ≡ record rest { bytes = left used } → (GoesOn given used → MovesOn old new) → env_after ≡ env → levels_after ≡ levels
     → record { gives : Gives own (λ x. (view x, left used)) r (at (left given)); goes : GoesOn given used }
     → record { gives : GivesSome own (Is (λ x. meaning (view x))) last r reading; moves : MovesOn old new; same_env : env_after ≡ env; same_levels : levels_after ≡ levels }
-basic_read own view meaning at r reading {rest = rest} {used = used} is e f moves same_env same_levels told = record {
-  gives = rw (is, f) (gives_bytes own view meaning at r rest (left used) (rw e told.gives));
-  moves = moves told.goes;
-  same_env = same_env;
-  same_levels = same_levels;
-}
+basic_read own view meaning at r reading {rest = rest} {used = used} is e f moves same_env same_levels told = grind (arith, gives_bytes)
 
 -- ---- writing
 

@@ -1,10 +1,6 @@
 -- Cells: what is written of what one was seen to hold is written of the cell, whatever else it may hold.
-use Rattle.std.proofs.Common.{Option, Some, None}
-use Rattle.std.specs.Borrow.{Bor}
-use Rattle.pagable_model.specs.declared.numbers.ArcRef.{ArcRef}
+use Rattle.pagable_traits.proofs.Words.{Option, Some, None, Bor, ArcRef, MeansOption, means-none, means-some, Meaning}
 use Rattle.pagable_model.specs.Cells.{MeansOnce}
-use Rattle.pagable_model.specs.Lifted.{MeansOption, means-none, means-some}
-use Rattle.pagable_model.specs.Meaning.{Meaning}
 
 -- what lent values mean, they mean themselves
 pub held_means : {T : Type 0} (M : T → Meaning ArcRef → Type 0) (held : Option (Bor T)) (m : Meaning ArcRef) → MeansOption (λ x. M x.now) held m → MeansOnce M m

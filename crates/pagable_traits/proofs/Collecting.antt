@@ -1,20 +1,8 @@
 -- Items that are put in one after another as they are read.
-use Rattle.std.proofs.Common.{◌≡◌, subst, List, [], ◌∷◌, ◌++◌, length, refl, sym, ap, ◌∙◌, append_assoc, ℕ, zero, suc, Result, Ok, Err, inl, inr}
-use Rattle.std.proofs.lemmas.List.{append-nil}
-use Rattle.std.specs.Prelude.{◌⊎◌, IfOk, vec_len}
-use Rattle.std.specs.declared.vec.Vec.{Vec}
-use Rattle.pagable_model.specs.declared.error.Error.{Error}
-use Rattle.pagable_model.specs.declared.numbers.ArcRef.{ArcRef}
-use Rattle.pagable_model.specs.Steps.{◌>>=◌}
-use Rattle.pagable_model.specs.Basic.{length_at}
-use Rattle.pagable_model.specs.Gives.{never}
-use Rattle.pagable_model.specs.Meaning.{Meaning, sequence}
-use Rattle.pagable_model.specs.Keys.{put_all}
-use Rattle.pagable_model.specs.Shape.{Shape, list}
-use Rattle.pagable_model.specs.Reading.{Rest, Gets, Context, items, bytes_of, counted, seen, read, read_with}
-use Rattle.pagable_model.specs.Standing.{GivesSome}
-use Rattle.pagable_model.specs.Lifted.{MeanAll, mean-none, MeansList}
-use Rattle.pagable_model.specs.Collected.{PutInTurn, Collected}
+use Rattle.pagable_traits.proofs.Words.{◌≡◌, subst, List, [], ◌∷◌, ◌++◌, length, refl, sym, ap, ◌∙◌, append_assoc, ℕ, zero, suc, Result, Ok, Err, inl, inr, append-nil, ◌⊎◌, Error, ArcRef, ◌>>=◌}
+use Rattle.pagable_traits.proofs.Words.{length_at, never, Meaning, put_all, Shape, list, Rest, Gets, Context, items, bytes_of, counted, seen, read, read_with, GivesSome, MeanAll, mean-none}
+use Rattle.pagable_traits.proofs.Words.{MeansList, PutInTurn, Collected, arith}
+use Rattle.std.specs.{Prelude.IfOk, Prelude.vec_len, declared.vec.Vec.Vec}
 use Rattle.pagable_traits.proofs.Items.{mean-length, mean_last}
 
 pub collected_none : {T : Type 0} (M : T → Meaning ArcRef → Type 0) (puts : List T → T → List T → Type 0) (now : List T) → now ≡ [] → Collected M puts now []
@@ -71,8 +59,7 @@ reads_items own P Q view f r get rest last h = gives-seen own P Q view last r (c
 pub reads_list : {X T A : Type 0} (own : Error → Type 0) (M : T → Meaning ArcRef → Type 0) (r : Result X Error) (held : X → List T) (context : Context A ArcRef) (s : Shape) (rest last : Rest A) → GivesSome own (λ x. Collected M (λ ys y zs. zs ≡ ys ++ y ∷ []) (held x)) last r (counted (read context s) rest)
     → GivesSome own (λ x. MeansList M (held x)) last r (read context (list s) rest)
 unfolding read read_with
-reads_list own M r held context s rest last h =
-    reads_items own (λ x. Collected M (λ ys y zs. zs ≡ ys ++ y ∷ []) (held x)) (λ x. MeansList M (held x)) sequence (λ x ms p. record { ms = ms; each = collected_list M (held x) ms p; is = refl }) r (read context s) rest last h
+reads_list own M r held context s rest last h = grind (arith, reads_items, collected_list)
 
 -- there are as many as were asked for
 abbrev got : {A X : Type 0} → Result (List X × Rest A) Error → List X

@@ -1,33 +1,15 @@
 -- Maps in no order: what putting in, writing and reading their entries gives, in whatever order they stand.
-use Rattle.std.proofs.Common.{◌≡◌, ℕ, ◌≤◌, Bool, true, false, cond, subst, List, [], ◌∷◌, ◌++◌, length, map, refl, sym, ap, ◌∙◌, Option, Some, None, is_some, Result, IsPermutation, MatchOption}
-use Rattle.std.proofs.lemmas.List.{length-map}
-use Rattle.std.proofs.lemmas.Map.Text.{is_eq-slice_cmp}
-use Rattle.std.specs.List.{IsDistinct}
-use Rattle.std.specs.Map.{keys_of, lookup, set_value}
-use Rattle.std.specs.declared.cmp.Ordering.{Ordering}
-use Rattle.std.specs.Ordering.{is_eq}
-use Rattle.std.specs.Cmp.{IsTotalOrder}
+use Rattle.pagable_traits.proofs.Words.{◌≡◌, ℕ, ◌≤◌, Bool, true, false, subst, List, [], ◌∷◌, ◌++◌, length, map, refl, sym, ap, ◌∙◌, Option, Some, None, is_some, Result, IsPermutation, length-map}
+use Rattle.pagable_traits.proofs.Words.{IsDistinct, keys_of, lookup, set_value, Ordering, is_eq, IsTotalOrder, Error, ArcRef, longest, length_form, Meaning, entry, Entry, ordered, same_key}
+use Rattle.pagable_traits.proofs.Words.{put_all, put_sorted, AllAfter, Apart, Differ, Shape, both, of_entries, Entries, more-entries, Rest, Context, counted, read, read_with, Nesting, FormAt}
+use Rattle.pagable_traits.proofs.Words.{FormsAt, kind_of_arc, GivesSome, PutInTurn, Collected, MeansPair, arith}
+use Rattle.std.proofs.{Common.MatchOption, lemmas.Map.Text.is_eq-slice_cmp}
 use Rattle.std.specs.Cmp.Lexicographic.{on_texts}
-use Rattle.pagable_model.specs.declared.error.Error.{Error}
-use Rattle.pagable_model.specs.declared.numbers.ArcRef.{ArcRef}
-use Rattle.pagable_model.specs.Basic.{longest, length_form}
-use Rattle.pagable_model.specs.Meaning.{Meaning, entry, plain}
-use Rattle.pagable_model.specs.Keys.{Entry, ordered, code, code_order, same_key, put_all, put_sorted, AllAfter, Apart, Differ}
-use Rattle.pagable_model.specs.Shape.{Shape, both, hash_map}
-use Rattle.pagable_model.specs.Carried.{of_entries, of_hash_map}
-use Rattle.pagable_model.specs.Form.{Entries, more-entries, hash-map-form}
-use Rattle.pagable_model.specs.Reading.{Rest, Context, counted, read, read_with}
-use Rattle.pagable_model.specs.Writing.{Nesting, FormAt, FormsAt, kind_of_arc}
-use Rattle.pagable_model.specs.Standing.{GivesSome}
-use Rattle.pagable_model.specs.Collected.{PutInTurn, Collected}
-use Rattle.pagable_model.specs.Lifted.{MeansPair}
-use Rattle.pagable_model.specs.Hashed.{PutsAnywhere, MeansHashMap}
-use Rattle.pagable_traits.proofs.Items.{sequence-same}
+use Rattle.pagable_model.specs.{Meaning.plain, Keys.code, Keys.code_order, Shape.hash_map, Carried.of_hash_map, Form.hash-map-form, Hashed.PutsAnywhere, Hashed.MeansHashMap}
 use Rattle.pagable_traits.proofs.Maps.{EntriesMean, entries-of-pairs, pairs-of-entries, same-entries, forms-of-entries, entries-mean, entries-written, reads-entries}
-use Rattle.pagable_traits.proofs.Walks.{Wraps}
-use Rattle.pagable_traits.proofs.Placed.{IsSameOf, differ}
 use Rattle.pagable_traits.proofs.Reordered.{Reordered, no-items, same-front, two-turned, and-then, reordered, reordered-back, reordered-length, apart-with}
 use Rattle.pagable_traits.proofs.Anywhere.{OtherKey, other-back, put-late, any-order, in-order-reordered, put-value}
+use Rattle.pagable_traits.proofs.{Items.sequence-same, Walks.Wraps, Placed.IsSameOf, Placed.differ}
 
 -- the order in which a hash map's entries are put in its meaning, and that it tells the keys apart
 abbrev of_keys : Meaning ArcRef → Meaning ArcRef → Ordering
@@ -47,16 +29,14 @@ others es = apart-with (λ d e. same_key d.0 e.0 ≡ false) (OtherKey of_keys to
 mean-reordered : {K V : Type 0} (M : K → Meaning ArcRef → Type 0) (N : V → Meaning ArcRef → Type 0) {xs ys : List (K × V)} → Reordered xs ys → (es : List (Entry ArcRef)) → EntriesMean M N xs es → (fs : List (Entry ArcRef)) × EntriesMean M N ys fs × Reordered es fs
 unfolding EntriesMean
 mean-reordered M N no-items [] h = ([], tt, no-items)
-mean-reordered M N no-items (e ∷ es) h = absurd h
-mean-reordered M N (same-front x xs ys k) [] h = absurd h
 mean-reordered M N (same-front x xs ys k) (e ∷ es) h = let r = mean-reordered M N k es h.2 in (e ∷ r.0, (h.0, h.1, r.1), same-front e _ _ r.2)
-mean-reordered M N (two-turned x y xs) [] h = absurd h
 mean-reordered M N (two-turned x y xs) (e ∷ []) h = absurd h.2
 mean-reordered M N (two-turned x y xs) (e ∷ f ∷ es) h = (f ∷ e ∷ es, (h.2.0, h.2.1, (h.0, h.1, h.2.2)), two-turned e f es)
 mean-reordered M N (and-then xs ys zs k l) es h =
     let r = mean-reordered M N k es h in
     let s = mean-reordered M N l r.0 r.1 in
     (s.0, s.1, and-then _ _ _ r.2 s.2)
+mean-reordered M N _ _ h = absurd h
 
 entries-reordered : {parts : ℕ → Shape} {left : ℕ} {s t : Shape} {ds es : List (Entry ArcRef)} {b : List ℕ} {k : List ArcRef} → Reordered ds es → Entries ArcRef kind_of_arc parts left s t ds b k → (c : List ℕ) × (j : List ArcRef) × Entries ArcRef kind_of_arc parts left s t es c j
 entries-reordered {b = b} {k = k} no-items f = (b, k, f)
@@ -111,27 +91,15 @@ set-means : {K V : Type 0} (M : K → Meaning ArcRef → Type 0) (N : V → Mean
     → EntriesMean M N (set_value (eq x.0) xs x.1) (set_value (same_key e.0) es e.1)
 unfolding EntriesMean
 set-means M N eq is [] [] x e h first second = tt
-set-means M N eq is [] (f ∷ es) x e h first second = absurd h
-set-means M N eq is (y ∷ xs) [] x e h first second = absurd h
-set-means M N eq is (y ∷ xs) (f ∷ es) x e h first second =
-    rw (is.agrees x.0 y.0 e.0 f.0 first h.0) (by_case (set-means M N eq is xs es x e h.2 first second) (same_key e.0 f.0))
-  where
-    by_case : EntriesMean M N (set_value (eq x.0) xs x.1) (set_value (same_key e.0) es e.1) → (same : Bool)
-        → EntriesMean M N (cond same ((y.0, x.1) ∷ xs) (y ∷ set_value (eq x.0) xs x.1)) (cond same ((f.0, e.1) ∷ es) (f ∷ set_value (same_key e.0) es e.1))
-    by_case tail true = (h.0, second, h.2)
-    by_case tail false = (h.0, h.1, tail)
+set-means M N eq is (y ∷ xs) (f ∷ es) x e h first second = grind (arith, set-means M N eq is xs es x e h.2 first second)
+set-means M N eq is _ _ x e h first second = absurd h
 
 found-alike : {K V : Type 0} (M : K → Meaning ArcRef → Type 0) (N : V → Meaning ArcRef → Type 0) (eq : K → K → Bool) → IsSameOf M eq → (xs : List (K × V)) (es : List (Entry ArcRef)) (x : K) (e : Meaning ArcRef) → EntriesMean M N xs es → M x e
     → is_some (lookup (same_key e) es) ≡ is_some (lookup (eq x) xs)
 unfolding EntriesMean
 found-alike M N eq is [] [] x e h first = refl
-found-alike M N eq is [] (f ∷ es) x e h first = absurd h
-found-alike M N eq is (y ∷ xs) [] x e h first = absurd h
-found-alike {K} {V} M N eq is (y ∷ xs) (f ∷ es) x e h first = rw (is.agrees x y.0 e f.0 first h.0) (by_case (found-alike M N eq is xs es x e h.2 first) (same_key e f.0))
-  where
-    by_case : is_some (lookup (same_key e) es) ≡ is_some (lookup (eq x) xs) → (same : Bool) → is_some (cond same (Some f.1) (lookup (same_key e) es)) ≡ is_some (cond same (Some y.1) (lookup (eq x) xs))
-    by_case tail true = refl
-    by_case tail false = tail
+found-alike {K} {V} M N eq is (y ∷ xs) (f ∷ es) x e h first = grind (arith, found-alike M N eq is xs es x e h.2 first)
+found-alike M N eq is _ _ x e h first = absurd h
 
 other-key : (a b : Meaning ArcRef) → same_key a b ≡ false → same_key b a ≡ false
 other-key a b h = sym (ties-alike b a) ∙ other-back {V = Meaning ArcRef} of_keys total (a, a) (b, b) (ties-alike a b ∙ h)
@@ -139,11 +107,7 @@ other-key a b h = sym (ties-alike b a) ∙ other-back {V = Meaning ArcRef} of_ke
 none-apart : (e : Entry ArcRef) (es : List (Entry ArcRef)) → is_some (lookup (same_key e.0) es) ≡ false → AllAfter (λ (d f : Entry ArcRef). same_key d.0 f.0 ≡ false) e es
 unfolding AllAfter
 none-apart e [] h = tt
-none-apart e (f ∷ es) h = by_case (none-apart e es) (same_key e.0 f.0) refl
-  where
-    by_case : (is_some (lookup (same_key e.0) es) ≡ false → AllAfter (λ (d f : Entry ArcRef). same_key d.0 f.0 ≡ false) e es) → (same : Bool) → same_key e.0 f.0 ≡ same → (same_key f.0 e.0 ≡ false) × AllAfter (λ (d f : Entry ArcRef). same_key d.0 f.0 ≡ false) e es
-    by_case rest true p = let t : is_some (lookup (same_key e.0) (f ∷ es)) ≡ true = rw p refl in cc
-    by_case rest false p = let later : is_some (lookup (same_key e.0) es) ≡ false = rw p at h in (other-key e.0 f.0 p, rest later)
+none-apart e (f ∷ es) h = grind (arith, other-key, none-apart e es)
 
 -- entries whose meaning, put in order, is this
 record InOrder {K V : Type 0} (M : K → Meaning ArcRef → Type 0) (N : V → Meaning ArcRef → Type 0) (now : List (K × V)) (es : List (Entry ArcRef)) : Type 0 where
@@ -174,13 +138,12 @@ all-more : {K V : Type 0} (M : K → Meaning ArcRef → Type 0) (N : V → Meani
     → PutInTurn (λ old x new. PutsAnywhere eq old x new) acc xs now → InOrder M N now (put_all (put_sorted code_order) (put_all (put_sorted code_order) [] ds) es)
 unfolding EntriesMean PutInTurn put_all
 all-more M N eq is acc [] now ds [] distinct mean h same = record { fs = ds; mean = rw same mean; is = refl }
-all-more M N eq is acc [] now ds (e ∷ es) distinct mean h same = absurd h
-all-more M N eq is acc (x ∷ xs) now ds [] distinct mean h turn = absurd h
 all-more {K} {V} M N eq is acc (x ∷ xs) now ds (e ∷ es) distinct mean h turn =
     let one = one-more M N eq is acc turn.0 ds x e distinct mean h.0 h.1 turn.1 in
     let rest = all-more M N eq is turn.0 xs now one.fs es turn.1.0 one.mean h.2 turn.2 in
     let P : List (Entry ArcRef) → Type 0 = λ zs. InOrder M N now (put_all (put_sorted code_order) zs es) in
     subst P one.is rest
+all-more M N eq is acc _ now ds _ distinct mean h _ = absurd h
 
 -- ---- reading
 

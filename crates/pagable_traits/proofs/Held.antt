@@ -1,15 +1,6 @@
 -- Values that hold one or two others: what reading their parts one after another gives, by a lemma for each way that it ends.
-use Rattle.std.proofs.Common.{◌≡◌, Bool, true, false, refl, Ok, Err, Some, None, inl, inr}
-use Rattle.std.specs.Prelude.{◌⊎◌}
-use Rattle.pagable_model.specs.declared.error.Error.{Error}
-use Rattle.pagable_model.specs.declared.numbers.ArcRef.{ArcRef}
-use Rattle.pagable_model.specs.Basic.{bool_at}
-use Rattle.pagable_model.specs.Gives.{never, either}
-use Rattle.pagable_model.specs.Meaning.{Meaning, pair, absent, present}
-use Rattle.pagable_model.specs.Reading.{Rest, Context, bytes_of, read, read_with}
-use Rattle.pagable_model.specs.Shape.{Shape, optional, both}
-use Rattle.pagable_model.specs.Standing.{Gave}
-use Rattle.pagable_model.specs.Lifted.{MeansOption, means-none, means-some, MeansPair}
+use Rattle.pagable_traits.proofs.Words.{◌≡◌, Bool, true, false, refl, Ok, Err, Some, None, inl, inr, ◌⊎◌, Error, ArcRef, bool_at, never, either, Meaning, absent, present, Rest, Context, bytes_of}
+use Rattle.pagable_traits.proofs.Words.{read, read_with, Shape, optional, both, Gave, MeansOption, means-none, means-some, MeansPair, arith}
 
 -- ---- a value that may be absent
 
@@ -46,8 +37,4 @@ pair_second_refused M own other context s t e rest mid g (inr h) = inr (inr h)
 pub pair_gave : {X Y A : Type 0} (M : X → Meaning ArcRef → Type 0) (N : Y → Meaning ArcRef → Type 0) (context : Context A ArcRef) (s t : Shape) (x : X) (y : Y) (rest mid after : Rest A) → Gave (M x) mid (read context s rest) → Gave (N y) after (read context t mid)
     → Gave (MeansPair M N (x, y)) after (read context (both s t) rest)
 unfolding read read_with
-pair_gave M N context s t x y rest mid after g h = record {
-  m = pair g.m h.m;
-  is = record { first = g.m; second = h.m; is_first = g.is; is_second = h.is; is = refl };
-  gave = rw (g.gave, h.gave) refl;
-}
+pair_gave M N context s t x y rest mid after g h = grind arith

@@ -1,28 +1,11 @@
 -- One value after another: what the writers and the readers of two values owe, the writer and the reader of both owe.
-use Rattle.std.proofs.Common.{◌≡◌, ◌≤◌, ℕ, [], ◌∙◌, Option, Result, Ok, Err, inl, inr}
-use Rattle.std.proofs.lemmas.Result.{err_from_is_err_and}
-use Rattle.std.specs.Prelude.{OnOk, IfErr, ◌⊎◌}
-use Rattle.std.specs.Result.{IsErrAnd}
-use Rattle.pagable_codec.specs.declared.env.Env.{Ghosts as Environments}
-use Rattle.pagable_codec.specs.declared.serializer.PagableSerializer.{Ghosts as Serializers}
-use Rattle.pagable_codec.specs.declared.deserializer.PagableDeserializer.{Ghosts as Deserializers}
-use Rattle.pagable_model.specs.declared.error.Error.{Error}
-use Rattle.pagable_model.specs.declared.numbers.ArcRef.{ArcRef}
-use Rattle.pagable_model.specs.Basic.{longest, length_form}
-use Rattle.pagable_model.specs.Gives.{either, memory_or, long_or}
-use Rattle.pagable_model.specs.Lifted.{MeansPair}
-use Rattle.pagable_model.specs.Meaning.{Meaning}
-use Rattle.pagable_model.specs.Shape.{Shape, both}
-use Rattle.pagable_model.specs.Reading.{read}
-use Rattle.pagable_model.specs.Standing.{SomeMeaning, Gave, GivesSome, MovesOn}
-use Rattle.pagable_model.specs.Writing.{WritesSome, Refused, Grows, added}
-use Rattle.pagable_codec.proofs.Reading.{moves_trans}
-use Rattle.pagable_codec.proofs.Writing.{grows_trans}
-use Rattle.pagable_traits.proofs.Held.{pair_first_refused, pair_second_refused, pair_gave}
-use Rattle.pagable_traits.proofs.Joined.{gave_along}
-use Rattle.pagable_traits.proofs.Parts.{only-part, writes_pair, refuses_first, refuses_second}
-use Rattle.pagable_traits.specs.JsonSteps.{nested_in, context_in}
-use Rattle.pagable_traits.specs.Walks.{WritesEach, WritesCounted, RefusedAmong, RefusedCounted}
+use Rattle.pagable_traits.proofs.Words.{Answer, Rest, ◌≡◌, ◌≤◌, ℕ, [], ◌∙◌, Option, Result, Ok, Err, inl, inr, err_from_is_err_and, OnOk, IfErr, ◌⊎◌, IsErrAnd, Error, ArcRef, longest, length_form}
+use Rattle.pagable_traits.proofs.Words.{either, memory_or, long_or, MeansPair, Meaning, Shape, both, read, SomeMeaning, Gave, GivesSome, MovesOn, WritesSome, Refused, Grows, added, moves_trans}
+use Rattle.pagable_traits.proofs.Words.{List, length, Nesting, grows_trans, nested_in, context_in, WritesEach, WritesCounted, RefusedAmong, RefusedCounted}
+use Rattle.pagable_codec.specs.{declared.env.Env.Ghosts as Environments, declared.serializer.PagableSerializer.Ghosts as Serializers}
+use Rattle.pagable_codec.specs.{declared.deserializer.PagableDeserializer.Ghosts as Deserializers}
+use Rattle.pagable_traits.proofs.{Held.pair_first_refused, Held.pair_second_refused, Held.pair_gave, Joined.gave_along, Parts.only-part, Parts.writes_pair, Parts.refuses_first}
+use Rattle.pagable_traits.proofs.{Parts.refuses_second, Walks.Shows, Walks.Wraps, Walks.written_counted, Walks.refused_counted}
 
 module _ {S E N H K V : Type 0} (env : Environments E N H K V) (s : Serializers S E N H K V) where
   -- what a writer owes: where it succeeds, and of its refusals
@@ -36,6 +19,15 @@ module _ {S E N H K V : Type 0} (env : Environments E N H K V) (s : Serializers 
   -- of the whole, by what its writer's last call owes
   pub owed : {Y : Type 0} (r : Result Y Error) (P Q : Type 0) (lacks lacks' causes : Error → Type 0) {a b : S} → Owes P lacks causes a b r → OnOk r Q → IfErr r lacks' → Owes Q lacks' causes a b r
   owed r P Q lacks lacks' causes told ok refused = record { ok = ok; refused = refused; only = told.only; err = told.err; same_env = told.same_env; same_levels = told.same_levels }
+
+  -- of the whole whose items a walk yields
+  pub owed-counted : {W T X Y : Type 0} {next : W → Option T → W → Type 0} {M : T → Meaning ArcRef → Type 0} {walk : W} {N : X → Meaning ArcRef → Type 0} {ys : List X}
+      {Whole : Meaning ArcRef → Type 0} {n : Nesting} {whole item : Shape} {a b : S} (causes : Error → Type 0) (r : Result Y Error) (count : ℕ)
+      → Shows next M walk N ys → Wraps N ys Whole n whole item → ((y : X) → SomeMeaning (N y)) → count ≡ length ys
+      → Owes (WritesCounted next M walk count n item (s.out a) (s.out b)) (RefusedCounted next M walk count n item) causes a b r
+      → Owes (WritesSome Whole n whole (s.out a) (s.out b)) (Refused Whole n whole) causes a b r
+  owed-counted {a = a} {b = b} causes r count shows wraps has all told =
+      owed r _ _ _ _ _ told (written_counted r count (s.out a) (s.out b) shows wraps all told.ok) (refused_counted r count shows wraps has all told.refused)
 
   -- what follows a part that was written
   after : {Y P Q : Type 0} {lacks lacks' causes causes' : Error → Type 0} {a b c : S} (r : Result Y Error) → Grows (s.out a) (s.out b) → s.environment b ≡ s.environment a → s.levels b ≡ s.levels a → Owes P lacks causes b c r
@@ -86,22 +78,27 @@ module _ {D E R N H K V : Type 0} (env : Environments E N H K V) (d : Deserializ
   pub then-tells : {P Q : Type 0} {a b c : D} → MovesOn (d.standing a) (d.standing b) → d.environment b ≡ d.environment a → d.levels b ≡ d.levels a → Tells P b c → (P → Q) → Tells Q a c
   then-tells moves same_env same_levels told f = record { gives = f told.gives; moves = moves_trans _ _ _ moves told.moves; same_env = told.same_env ∙ same_env; same_levels = told.same_levels ∙ same_levels }
 
+  -- a part was refused, and so is the whole
+  pub unread : {Z P : Type 0} (L : Z → Meaning ArcRef → Type 0) (causes : Error → Type 0) (reading : Result (Meaning ArcRef × Rest Answer) Error) {a b : D} {e : Error}
+      (r : Result Z Error) → IsErrAnd r (λ f. f ≡ e) → Tells P a b → (P → (reading ≡ Err e) ⊎ causes e) → Tells (GivesSome causes L (d.rest b) r reading) a b
+  unread L causes reading r is told f = let q = err_from_is_err_and r is in rw (q.1, q.2) (tells told (f told.gives))
+
   -- the first was refused
   pub first-unread : {Z : Type 0} (L : Z → Meaning ArcRef → Type 0) (t u : E → Shape) (first second : Error → Type 0) {a b : D} {e : Error} (r : Result Z Error) → IsErrAnd r (λ f. f ≡ e) → Refuses t first a b e → Answers L (λ k. both (t k) (u k)) (either first second) a b r
   first-unread L t u first second {a} {b} {e} r is told =
-      let q = err_from_is_err_and r is in
-      rw (q.1, q.2) (record { gives = pair_first_refused first second (context_in env d a) _ _ e (d.rest a) told.gives; moves = told.moves; same_env = told.same_env; same_levels = told.same_levels })
+      unread L _ _ r is told (λ h. pair_first_refused first second (context_in env d a) _ _ e (d.rest a) h)
 
   -- the first was read, and the second was refused
   pub second-unread : {Z : Type 0} (L : Z → Meaning ArcRef → Type 0) (P : Meaning ArcRef → Type 0) (t u : E → Shape) (first second : Error → Type 0) {a b c : D} {e : Error} (r : Result Z Error) → IsErrAnd r (λ f. f ≡ e)
       → Given P t a b → Refuses u second b c e → Answers L (λ k. both (t k) (u k)) (either first second) a c r
   second-unread L P t u first second {a} {b} {c} {e} r is gave told =
-      let q = err_from_is_err_and r is in
-      rw (q.1, q.2) (then-tells gave.moves gave.same_env gave.same_levels told (λ h. pair_second_refused P first second (context_in env d a) _ _ e (d.rest a) (d.rest b) gave.gives (rw (gave.same_levels, gave.same_env) at h)))
+      unread L _ _ r is
+      (then-tells gave.moves gave.same_env gave.same_levels told
+      (λ h. pair_second_refused P first second (context_in env d a) _ _ e (d.rest a) (d.rest b) gave.gives (rw (gave.same_levels, gave.same_env) at h))) (λ h. h)
 
   -- what is to be put into a box was refused
   pub boxed-unread : {Z : Type 0} (L : Z → Meaning ArcRef → Type 0) (shape : E → Shape) (causes : Error → Type 0) {a b : D} {e : Error} (r : Result Z Error) → IsErrAnd r (λ f. f ≡ e) → Refuses shape causes a b e → Answers L shape (memory_or causes) a b r
-  boxed-unread L shape causes r is told = let q = err_from_is_err_and r is in rw (q.1, q.2) (record { gives = or-memory told.gives; moves = told.moves; same_env = told.same_env; same_levels = told.same_levels })
+  boxed-unread L shape causes r is told = unread L _ _ r is told or-memory
     where
       or-memory : {P : Type 0} {Q : Type 0} {M : Type 0} → P ⊎ Q → P ⊎ (M ⊎ Q)
       or-memory (inl p) = inl p

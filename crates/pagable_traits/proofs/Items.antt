@@ -1,21 +1,11 @@
 -- Items one after another, as the loops write and read them.
-use Rattle.std.proofs.Common.{◌≡◌, ℕ, zero, suc, ◌+◌, ◌-◌, ◌<◌, ◌≤◌, subst, List, [], ◌∷◌, ◌++◌, length, take, get_or, arith, refl, sym, ap, ◌∙◌, append_assoc, Result, Ok, Err, inl, inr}
-use Rattle.std.proofs.lemmas.List.{append-nil, take_more}
-use Rattle.std.specs.Prelude.{IfErr, ◌⊎◌}
-use Rattle.pagable_model.specs.declared.error.Error.{Error}
-use Rattle.pagable_model.specs.declared.numbers.ArcRef.{ArcRef}
-use Rattle.pagable_model.specs.Steps.{◌>>=◌}
-use Rattle.pagable_model.specs.Basic.{longest, length_form}
-use Rattle.pagable_model.specs.Gives.{memory_or}
-use Rattle.pagable_model.specs.Lengths.{long_or_memory}
-use Rattle.pagable_model.specs.Meaning.{Meaning, sequence}
-use Rattle.pagable_model.specs.Shape.{Shape, list}
-use Rattle.pagable_model.specs.Form.{Form, Forms, list-form, no-forms, more-forms}
-use Rattle.pagable_model.specs.Reading.{Rest, Gets, items, read}
-use Rattle.pagable_model.specs.Writing.{Out, Nesting, FormAt, FormsAt, WritesSome, WritesSomeAll, Grows, added, kind_of_arc, NoForm, NoForms, NoFormOfSome, NoFormsOfSome, Refused, RefusedAll}
-use Rattle.pagable_model.specs.Standing.{SomeMeaning}
-use Rattle.pagable_model.specs.Lifted.{MeanAll, mean-none, mean-more, MeansList, items_have_meanings}
-use Rattle.pagable_codec.proofs.Writing.{out_is, then, memory_refuses}
+use Rattle.pagable_traits.proofs.Words.{◌≡◌, ℕ, zero, suc, ◌+◌, ◌-◌, ◌<◌, ◌≤◌, subst, List, [], ◌∷◌, ◌++◌, length, take, get_or, arith, refl, sym, ap, ◌∙◌, append_assoc, Result, Ok, Err, inl, inr}
+use Rattle.pagable_traits.proofs.Words.{append-nil, IfErr, ◌⊎◌, Error, ArcRef, ◌>>=◌, longest, length_form, memory_or, long_or_memory, Meaning, sequence, Shape, list, Forms, list-form, no-forms}
+use Rattle.pagable_traits.proofs.Words.{more-forms, Rest, Gets, items, read, Out, Nesting, FormAt, FormsAt, WritesSome, WritesSomeAll, Grows, added, kind_of_arc, NoForm, NoForms, NoFormOfSome}
+use Rattle.pagable_traits.proofs.Words.{NoFormsOfSome, Refused, RefusedAll, SomeMeaning, MeanAll, mean-none, mean-more, MeansList, items_have_meanings, then, memory_refuses}
+use Rattle.std.proofs.lemmas.List.{take_more}
+use Rattle.pagable_model.specs.Form.{Form}
+use Rattle.pagable_codec.proofs.Writing.{out_is}
 
 -- ---- what items mean
 
@@ -99,13 +89,12 @@ writes_list M xs n s old mid new e le v =
 
 pub sequence-same : (xs ys : List (Meaning ArcRef)) → sequence xs ≡ sequence ys → xs ≡ ys
 sequence-same [] [] e = refl
-sequence-same [] (y ∷ ys) e = cc
-sequence-same (x ∷ xs) [] e = cc
 sequence-same (x ∷ xs) (y ∷ ys) e =
     let tails : sequence xs ≡ sequence ys = cc in
     let heads : x ≡ y = cc in
     let same = sequence-same xs ys tails in
     rw (heads, same) refl
+sequence-same _ _ e = cc
 
 -- forms of items are forms of the items of the same sequence
 pub split-same : (n : Nesting) {s : Shape} {xs ms : List (Meaning ArcRef)} {c : List ℕ} {k : List ArcRef} → sequence xs ≡ sequence ms → length xs ≤ longest → FormsAt n s xs c k → (length ms ≤ longest) × ((c : List ℕ) × FormsAt n s ms c k)
@@ -146,11 +135,7 @@ regroup {A} {X} front m (Ok x) = ap (λ (ms : List X). Ok (ms, x.1)) (simp appen
 regroup front m (Err e) = refl
 
 pub starts : {A X : Type 0} (get : Gets A X) (count : ℕ) (rest : Rest A) → with_front [] (items get (count - 0) rest) ≡ items get count rest
-starts {A} {X} get count rest = let e : count - 0 ≡ count = omega arith in rw e (go (items get count rest))
-  where
-    go : (r : Result (List X × Rest A) Error) → with_front [] r ≡ r
-    go (Ok x) = refl
-    go (Err e) = refl
+starts {A} {X} get count rest = grind arith
 
 pub goes_on : {A X : Type 0} (get : Gets A X) (front : List X) (count i : ℕ) (rest : Rest A) (m : X) (after : Rest A) (total : Result (List X × Rest A) Error) → i < count → get rest ≡ Ok (m, after)
     → with_front front (items get (count - i) rest) ≡ total → with_front (front ++ m ∷ []) (items get (count - (i + 1)) after) ≡ total

@@ -1,22 +1,13 @@
 -- Successes and failures, arrays, and tuples: what writing their parts one after another adds, and what reading them so gives.
-use Rattle.std.proofs.Common.{◌≡◌, ℕ, List, [], ◌++◌, length, refl, ◌∙◌, Result, Ok, Err, inl, inr, subst, ap, ◌≤◌}
-use Rattle.std.specs.Prelude.{IfErr, OnOk, ◌⊎◌, Bool, true, false}
-use Rattle.pagable_model.specs.declared.error.Error.{Error}
-use Rattle.pagable_model.specs.declared.numbers.ArcRef.{ArcRef}
-use Rattle.pagable_model.specs.Basic.{bool_form, bool_at, longest, text_form}
-use Rattle.pagable_model.specs.Gives.{either}
-use Rattle.pagable_model.specs.Lifted.{MeanAll, MeansList, MeansPair, MeansResult, means-ok, means-err}
-use Rattle.pagable_model.specs.Meaning.{Meaning, none, sequence, success, failure}
-use Rattle.pagable_model.specs.Shape.{Shape, nothing, outcome, array}
+use Rattle.pagable_traits.proofs.Words.{◌≡◌, ℕ, List, [], ◌++◌, length, refl, ◌∙◌, Result, Ok, Err, inl, inr, subst, ap, ◌≤◌, IfErr, OnOk, ◌⊎◌, Bool, true, false, Error, ArcRef, bool_form}
+use Rattle.pagable_traits.proofs.Words.{bool_at, longest, text_form, either, MeanAll, MeansList, MeansPair, MeansResult, means-ok, means-err, Meaning, none, sequence, success, failure, Shape}
+use Rattle.pagable_traits.proofs.Words.{outcome, text-form, err-form, ok-form, Rest, Context, items, bytes_of, read, read_with, Answer, Gave, handles_at, Is, Out, Nesting, FormAt, FormsAt}
+use Rattle.pagable_traits.proofs.Words.{WritesSome, WritesSomeAll, added, NoForm, NoForms, Refused, RefusedAll, Grows, then, writes_is, writes_bytes, arith}
+use Rattle.pagable_model.specs.{Shape.nothing, Shape.array, Form.array-form}
+use Rattle.std.specs.Str.{IsUtf8}
+use Rattle.pagable_traits.proofs.Items.{mean-length, sequence-same}
 use Rattle.pagable_model.specs.Meaning as meanings
 use Rattle.pagable_model.specs.Shape as shapes
-use Rattle.std.specs.Str.{IsUtf8}
-use Rattle.pagable_model.specs.Form.{text-form, err-form, ok-form, array-form}
-use Rattle.pagable_model.specs.Reading.{Rest, Context, items, bytes_of, read, read_with}
-use Rattle.pagable_model.specs.Standing.{Answer, Gave, handles_at, Is}
-use Rattle.pagable_model.specs.Writing.{Out, Nesting, FormAt, FormsAt, WritesSome, WritesSomeAll, added, NoForm, NoForms, Refused, RefusedAll, Grows}
-use Rattle.pagable_codec.proofs.Writing.{then, writes_is, writes_bytes}
-use Rattle.pagable_traits.proofs.Items.{mean-length, sequence-same}
 
 -- ---- a flag and the part after it
 
@@ -33,8 +24,7 @@ flagged (Ok y) P Q n s t flag whole first causes {old = old} {mid = mid} {new = 
     let w = told.ok in
     let grown = then old mid new (bool_form flag) w.wrote.bytes [] w.wrote.refs wrote w.wrote.grown in
     record { ok = record { m = whole w.m; is = means w.m w.is; wrote = record { bytes = bool_form flag ++ w.wrote.bytes; refs = w.wrote.refs; form = form w.m w.wrote.bytes w.wrote.refs w.wrote.form; grown = grown } }; refused = tt; only = tt; err = grows_on old mid new (bool_form flag) wrote told.err; same_env = told.same_env; same_levels = told.same_levels }
-flagged (Err e) P Q n s t flag whole first causes {old = old} {mid = mid} {new = new} means form lacks own wrote told =
-    record { ok = tt; refused = λ fault. let no = told.refused fault in record { m = whole no.m; is = means no.m no.is; no_form = lacks no.m no.no_form }; only = own e told.only; err = grows_on old mid new (bool_form flag) wrote told.err; same_env = told.same_env; same_levels = told.same_levels }
+flagged (Err e) P Q n s t flag whole first causes {old = old} {mid = mid} {new = new} means form lacks own wrote told = grind (arith, grows_on)
 
 -- ---- a text that is lent
 
@@ -131,14 +121,7 @@ pub written_along : {Y E : Type 0} (r : Result Y Error) (P Q : Meaning ArcRef �
     → record { ok : OnOk r (WritesSome P n s old new); refused : IfErr r (Refused P n s); only : IfErr r causes; err : Grows old new; same_env : env_after ≡ env; same_levels : levels_after ≡ levels } → ((m : Meaning ArcRef) → P m → Q m)
     → record { ok : OnOk r (WritesSome Q n s old new); refused : IfErr r (Refused Q n s); only : IfErr r causes; err : Grows old new; same_env : env_after ≡ env; same_levels : levels_after ≡ levels }
 written_along (Ok y) P Q n s causes told f = record { ok = record { m = told.ok.m; is = f told.ok.m told.ok.is; wrote = told.ok.wrote }; refused = tt; only = tt; err = told.err; same_env = told.same_env; same_levels = told.same_levels }
-written_along (Err e) P Q n s causes told f = record {
-  ok = tt;
-  refused = λ fault. let no = told.refused fault in record { m = no.m; is = f no.m no.is; no_form = no.no_form };
-  only = told.only;
-  err = told.err;
-  same_env = told.same_env;
-  same_levels = told.same_levels;
-}
+written_along (Err e) P Q n s causes told f = grind arith
 
 pub gave_along : {R : Type 0} (P Q : Meaning ArcRef → Type 0) (after : R) (read : Result (Meaning ArcRef × R) Error) → Gave P after read → ((m : Meaning ArcRef) → P m → Q m) → Gave Q after read
 gave_along P Q after read g f = record { m = g.m; is = f g.m g.is; gave = g.gave }

@@ -1,43 +1,24 @@
 -- What reading a JSON value gives: its case, and then its part.
-use Rattle.std.proofs.Common.{◌≡◌, ℕ, suc, ◌-◌, ◌+◌, ◌<◌, ◌≤◌, true, false, List, arith, refl, sym, ap, ◌∙◌, Result, Ok, Err, inl, inr, String, Global, Vec}
+use Rattle.pagable_traits.proofs.Words.{◌≡◌, ℕ, suc, ◌-◌, ◌+◌, ◌<◌, ◌≤◌, true, false, List, arith, refl, sym, ap, ◌∙◌, Result, Ok, Err, inl, inr, String, Global, Vec, ◌⊎◌, ℤ, pos, Bool, w64}
+use Rattle.pagable_traits.proofs.Words.{string_bytes, string_cmp, view, Value, Error, ArcRef, bool_at, length_at, text_at, memory, text_order, MeanAll, MeansPair, Meaning, integer, none, variant}
+use Rattle.pagable_traits.proofs.Words.{sequence, Read, unsigned_at, signed_at, Rest, Context, flag_case, number_case, text_case, array_case, object_case, bytes_of, deepest, items, read}
+use Rattle.pagable_traits.proofs.Words.{read_with, seen, Shape, json, both, sorted_map, signed, flag, text, Answer, Gave, GivesSome, Is, MovesOn, handles_at, moves_trans, of_data, of_value}
+use Rattle.pagable_traits.proofs.Words.{of_key, Reads, context_in}
 use Rattle.std.proofs.lemmas.Bool.{ne_eqb}
-use Rattle.std.specs.Prelude.{◌⊎◌, ℤ, pos, negsuc, Bool}
-use Rattle.std.specs.Int.{w64}
-use Rattle.std.specs.String.{string_bytes, string_cmp}
-use Rattle.serde_json.specs.Data.{number}
-use Rattle.serde_json.specs.Find.{of_integer}
-use Rattle.serde_json.specs.View.{view}
-use Rattle.serde_json.specs.declared.value.Value.{Value}
-use Rattle.serde_json.specs.declared.value.Value as values
-use Rattle.pagable_codec.specs.declared.env.Env.{Ghosts as Environments}
-use Rattle.pagable_codec.specs.declared.deserializer.PagableDeserializer.{Ghosts as Deserializers}
-use Rattle.pagable_model.specs.declared.error.Error.{Error}
-use Rattle.pagable_model.specs.declared.error.Error.TheVariants as errors
-use Rattle.pagable_model.specs.declared.numbers.ArcRef.{ArcRef}
-use Rattle.pagable_model.specs.Basic.{bool_at, length_at, text_at}
-use Rattle.pagable_model.specs.Gives.{memory}
-use Rattle.pagable_model.specs.Keys.{text_order}
-use Rattle.pagable_model.specs.Lifted.{MeanAll, MeansPair}
-use Rattle.pagable_model.specs.Meaning.{Meaning, integer, none, pair, variant, sequence}
-use Rattle.pagable_model.specs.Meaning as meanings
-use Rattle.pagable_model.specs.Numbers.{Read, unsigned_at, signed_at}
-use Rattle.pagable_model.specs.Reading.{Rest, Context, JsonCase, json_case, flag_case, number_case, text_case, array_case, object_case, bytes_of, deepest, items, read, read_with, below, seen}
-use Rattle.pagable_model.specs.Shape.{Shape, json, both, sorted_map, signed, flag, text}
-use Rattle.pagable_model.specs.Standing.{Answer, Gave, GivesSome, Is, MovesOn, handles_at}
-use Rattle.pagable_codec.proofs.Reading.{moves_trans}
-use Rattle.pagable_traits.specs.JsonData.{of_data, of_value, of_key, part_at}
-use Rattle.pagable_traits.specs.JsonSteps.{Reads, ObjectOf, context_in, part_of}
-use Rattle.pagable_traits.proofs.Maps.{viewed, sorted_map_collected, sorted_map_refused}
-use Rattle.pagable_traits.proofs.JsonSteps.{read-then}
+use Rattle.std.specs.Prelude.{negsuc}
+use Rattle.serde_json.specs.{Data.number, Find.of_integer}
+use Rattle.pagable_codec.specs.{declared.env.Env.Ghosts as Environments, declared.deserializer.PagableDeserializer.Ghosts as Deserializers}
+use Rattle.pagable_model.specs.Reading.{JsonCase, json_case, below}
+use Rattle.pagable_traits.specs.{JsonData.part_at, JsonSteps.ObjectOf, JsonSteps.part_of}
 use Rattle.pagable_traits.proofs.JsonWritten.{items-are, members-are, keys-in-order, seen-null, seen-flag, seen-text, seen-array, seen-object}
+use Rattle.pagable_traits.proofs.{Maps.viewed, Maps.sorted_map_collected, Maps.sorted_map_refused, JsonSteps.read-then}
+use Rattle.serde_json.specs.declared.value.Value as values
+use Rattle.pagable_model.specs.declared.error.Error.TheVariants as errors
+use Rattle.pagable_model.specs.Meaning as meanings
 
 -- bytes that are seen by one view after another
 twice-seen : {X Y Z : Type 0} (at : List ℕ → Read X) (first : X → Y) (second : Y → Z) (rest : Rest Answer) → bytes_of at (λ x. second (first x)) rest ≡ viewed second (bytes_of at first rest)
-twice-seen {X} {Y} {Z} at first second rest = go (at rest.bytes)
-  where
-    go : (r : Read X) → bytes_of (λ b. r) (λ x. second (first x)) rest ≡ viewed second (bytes_of (λ b. r) first rest)
-    go (Ok x) = refl
-    go (Err e) = refl
+twice-seen {X} {Y} {Z} at first second rest = grind arith
 
 pub no-case : (n : ℕ) → 5 < n → json_case n ≡ Err errors.JsonCase
 no-case n lt = rw (ne_eqb n 0 (λ e. omega arith), ne_eqb n 1 (λ e. omega arith), ne_eqb n 2 (λ e. omega arith), ne_eqb n 3 (λ e. omega arith), ne_eqb n 4 (λ e. omega arith), ne_eqb n 5 (λ e. omega arith)) refl
@@ -160,20 +141,13 @@ module _ {D E R N H K V : Type 0} (env : Environments E N H K V) (d : Deserializ
   -- members one level further down, after their count
   pub object-read : {a b c : D} {count : ℕ} {r : Result Value Error} → bytes_of length_at (λ n. n) (d.rest a) ≡ Ok (count, d.rest b) → MovesOn (d.standing a) (d.standing b) → d.environment b ≡ d.environment a → d.levels b ≡ d.levels a → d.levels b < deepest
       → Reads env d ObjectOf (λ x. items (read (record x { levels = x.levels + 1 }) (both text json)) count) b c r → Reads env d (Is of_value) (part_of object_case) a c r
-  object-read {a} {b} {c} {count} {r} told moves same_env same_levels lt q = record {
-    gives = object-gives (d.levels a) (env.parts (d.environment a)) (d.rest a) count (d.rest b) told r (d.rest c) (rw same_levels at lt) (rw (same_levels, same_env) at q.gives);
-    moves = moves_trans _ _ _ moves q.moves;
-    same_env = q.same_env ∙ same_env;
-    same_levels = q.same_levels ∙ same_levels;
-  }
+  object-read {a} {b} {c} {count} {r} told moves same_env same_levels lt q = grind (arith, object-gives)
 
   -- a key and its value
   pub member-read : {a b c : D} {k : String Global} {v : Value} → Gave (Is of_key k) (d.rest b) (read (context_in env d a) text (d.rest a)) → MovesOn (d.standing a) (d.standing b) → d.environment b ≡ d.environment a → d.levels b ≡ d.levels a → Reads env d (Is of_value) (λ x. read x json) b c (Ok v)
       → Reads env d (MeansPair (Is of_key) (Is of_value)) (λ x. read x (both text json)) a c (Ok (k, v))
   unfolding read read_with
-  member-read g moves same_env same_levels q =
-      let h = rw (same_levels, same_env) at q.gives in
-      record { gives = record { m = pair g.m h.m; is = record { first = g.m; second = h.m; is_first = g.is; is_second = h.is; is = refl }; gave = rw (g.gave, h.gave) refl }; moves = moves_trans _ _ _ moves q.moves; same_env = q.same_env ∙ same_env; same_levels = q.same_levels ∙ same_levels }
+  member-read g moves same_env same_levels q = grind arith
 
   pub key-refused : {a b : D} {e : Error} → (read (context_in env d a) text (d.rest a) ≡ Err e) ⊎ memory e → MovesOn (d.standing a) (d.standing b) → d.environment b ≡ d.environment a → d.levels b ≡ d.levels a
       → Reads env d (MeansPair (Is of_key) (Is of_value)) (λ x. read x (both text json)) a b (let r : Result (String Global × Value) Error = Err e in r)

@@ -1,26 +1,13 @@
 -- One step after another: what each of two functions that write or read owes, both owe.
-use Rattle.std.proofs.Common.{◌≡◌, ℕ, ◌<◌, ◌≤◌, ◌+◌, ◌-◌, [], ◌∷◌, ◌++◌, List, arith, refl, ◌∙◌, Result, Ok, Err, inl, inr}
-use Rattle.std.proofs.lemmas.Result.{err_from_is_err_and}
-use Rattle.std.specs.Prelude.{OnOk, IfErr, ◌⊎◌}
-use Rattle.std.specs.Result.{IsErrAnd}
-use Rattle.pagable_codec.specs.declared.env.Env.{Ghosts as Environments}
-use Rattle.pagable_codec.specs.declared.serializer.PagableSerializer.{Ghosts as Serializers}
-use Rattle.pagable_codec.specs.declared.deserializer.PagableDeserializer.{Ghosts as Deserializers}
-use Rattle.pagable_model.specs.declared.error.Error.{Error}
-use Rattle.pagable_model.specs.declared.error.Error.TheVariants as errors
-use Rattle.pagable_model.specs.declared.numbers.ArcRef.{ArcRef}
-use Rattle.pagable_model.specs.Gives.{Extends, memory, memory_or}
-use Rattle.pagable_model.specs.Meaning.{Meaning}
-use Rattle.pagable_model.specs.Reading.{Context, Gets, Rest, deepest, items}
-use Rattle.pagable_model.specs.Shape.{Shape}
-use Rattle.pagable_model.specs.Standing.{Answer, Gave, MovesOn}
-use Rattle.pagable_model.specs.Writing.{Out, Nesting, nesting, added, WritesSome, Refused, Grows}
-use Rattle.pagable_codec.proofs.Writing.{grows_bytes, grows_refl, grows_trans}
+use Rattle.pagable_traits.proofs.Words.{◌≡◌, ℕ, ◌<◌, ◌≤◌, ◌+◌, ◌-◌, [], ◌∷◌, ◌++◌, List, arith, refl, ◌∙◌, Result, Ok, Err, inl, inr, err_from_is_err_and, OnOk, IfErr, ◌⊎◌, IsErrAnd, Error}
+use Rattle.pagable_traits.proofs.Words.{ArcRef, Extends, memory, memory_or, Meaning, Context, Gets, Rest, deepest, items, Shape, Answer, Gave, MovesOn, Out, Nesting, nesting, added, WritesSome}
+use Rattle.pagable_traits.proofs.Words.{Refused, Grows, grows_bytes, grows_refl, grows_trans, moves_trans, Piece, bytes, Wrote, Reads, nested_in, context_in}
+use Rattle.pagable_codec.specs.{declared.env.Env.Ghosts as Environments, declared.serializer.PagableSerializer.Ghosts as Serializers}
+use Rattle.pagable_codec.specs.{declared.deserializer.PagableDeserializer.Ghosts as Deserializers}
 use Rattle.pagable_codec.proofs.Adding.{added_bytes}
-use Rattle.pagable_codec.proofs.Reading.{moves_trans}
-use Rattle.pagable_traits.proofs.Items.{with_front, starts, goes_on, ends, is_done}
-use Rattle.pagable_traits.proofs.Maps.{viewed}
-use Rattle.pagable_traits.specs.JsonSteps.{Piece, bytes, value, Wrote, Reads, nested_in, context_in}
+use Rattle.pagable_traits.proofs.{Items.with_front, Items.starts, Items.goes_on, Items.ends, Items.is_done, Maps.viewed}
+use Rattle.pagable_traits.specs.JsonSteps.{value}
+use Rattle.pagable_model.specs.declared.error.Error.TheVariants as errors
 
 -- one level further down, where a level is left
 abbrev pub deeper : Nesting → Nesting
@@ -78,21 +65,12 @@ module _ {S E N H K V : Type 0} (env : Environments E N H K V) (s : Serializers 
   -- a level was entered, the piece was written, and the level was left
   pub wrote-below : {X : Type 0} {P : Piece} {causes : Error → Type 0} {a b c d : S} (r : Result X Error) → (s.levels b ≡ s.levels a + 1) × (s.levels a < deepest) → s.out b ≡ s.out a → s.environment b ≡ s.environment a → Wrote env s P causes b c r
       → s.levels d ≡ s.levels c - 1 → s.out d ≡ s.out c → s.environment d ≡ s.environment c → Wrote env s (below P) causes a d r
-  wrote-below {X} {P} {causes} {a} {b} {c} {d} r down out_in env_in p up out_out env_out = go r p
-    where
-      grown : Grows (s.out b) (s.out c) → Grows (s.out a) (s.out d)
-      grown g = rw (out_out, ← out_in) g
-
-      go : (r : Result X Error) → Wrote env s P causes b c r → Wrote env s (below P) causes a d r
-      go (Ok x) q = record { ok = (down.1, rw out_out (rw (down.0, env_in, out_in) at q.ok)); refused = tt; only = tt; err = grown q.err; same_env = env_out ∙ q.same_env ∙ env_in; same_levels = (let e = q.same_levels in let f = down.0 in omega arith) }
-      go (Err e) q = record { ok = tt; refused = (down.1, rw (down.0, env_in) at q.refused); only = q.only; err = grown q.err; same_env = env_out ∙ q.same_env ∙ env_in; same_levels = (let e = q.same_levels in let f = down.0 in omega arith) }
+  wrote-below {X} {P} {causes} {a} {b} {c} {d} r down out_in env_in p up out_out env_out = grind arith
 
   -- no level was left
   pub wrote-deep : {X Y : Type 0} {P W : Piece} {first causes : Error → Type 0} {a b c : S} {x : X} {e : Error} (r : Result Y Error) → IsErrAnd r (λ f. f ≡ e) → Wrote env s P first a b (Ok x) → (e ≡ errors.TooDeep) × (deepest ≤ s.levels b) × (s.levels c ≡ s.levels b) → s.out c ≡ s.out b → s.environment c ≡ s.environment b
       → ((n : Nesting) → deepest ≤ n.levels → W.lacks n e) → (e ≡ errors.TooDeep → causes e) → Wrote env s W causes a c r
-  wrote-deep r is p deep out_in env_in lacks only =
-      let q = err_from_is_err_and r is in
-      rw (q.1, q.2) (record { ok = tt; refused = lacks _ (rw p.same_levels at deep.1); only = only deep.0; err = rw out_in p.err; same_env = env_in ∙ p.same_env; same_levels = deep.2 ∙ p.same_levels })
+  wrote-deep r is p deep out_in env_in lacks only = grind arith
 
 -- what is seen of a part is refused as the part is, and seen as it is, it is the part
 pub through : {X Y : Type 0} {whole : Result (Y × Rest Answer) Error} {part : Result (X × Rest Answer) Error} {e : Error} (view : X → Y) → whole ≡ viewed view part → part ≡ Err e → whole ≡ Err e
@@ -111,13 +89,7 @@ module _ {D E R N H K V : Type 0} (env : Environments E N H K V) (d : Deserializ
   -- a part was refused
   pub read-err : {Y Z W own : Type 0} {a b : D} {part : Result (Y × Rest Answer) Error} {e : Error} (r : Result Z Error) {L : Z → W → Type 0} {whole : Context Answer ArcRef → Gets Answer W} → IsErrAnd r (λ f. f ≡ e) → (part ≡ Err e) ⊎ own → MovesOn (d.standing a) (d.standing b)
       → d.environment b ≡ d.environment a → d.levels b ≡ d.levels a → (own → memory e) → (part ≡ Err e → whole (context_in env d a) (d.rest a) ≡ Err e) → Reads env d L whole a b r
-  read-err {Y} {Z} {W} {own} {a} {b} {part} {e} r {L} {whole} is g moves same_env same_levels may same =
-      let q = err_from_is_err_and r is in
-      rw (q.1, q.2) (record { gives = go g; moves = moves; same_env = same_env; same_levels = same_levels })
-    where
-      go : (part ≡ Err e) ⊎ own → (whole (context_in env d a) (d.rest a) ≡ Err e) ⊎ memory e
-      go (inl h) = inl (same h)
-      go (inr h) = inr (may h)
+  read-err {Y} {Z} {W} {own} {a} {b} {part} {e} r {L} {whole} is g moves same_env same_levels may same = grind arith
 
   -- want of memory, wherever the deserializer stands
   pub read-no-memory : {Z W : Type 0} {a b : D} (r : Result Z Error) {L : Z → W → Type 0} {whole : Context Answer ArcRef → Gets Answer W} → IsErrAnd r memory → MovesOn (d.standing a) (d.standing b) → d.environment b ≡ d.environment a → d.levels b ≡ d.levels a → Reads env d L whole a b r
@@ -131,19 +103,12 @@ module _ {D E R N H K V : Type 0} (env : Environments E N H K V) (d : Deserializ
   -- a level was entered, a part was read, and the level was left
   pub read-below : {Z W : Type 0} {L : Z → W → Type 0} {get : Context Answer ArcRef → Gets Answer W} {a b c z : D} {r : Result Z Error} → (d.levels b ≡ d.levels a + 1) × (d.levels a < deepest) → d.standing b ≡ d.standing a → d.rest b ≡ d.rest a → d.environment b ≡ d.environment a → Reads env d L get b c r
       → d.levels z ≡ d.levels c - 1 → d.standing z ≡ d.standing c → d.rest z ≡ d.rest c → d.environment z ≡ d.environment c → Reads env d L (λ x. get (record x { levels = x.levels + 1 })) a z r
-  read-below down standing_in rest_in env_in p up standing_out rest_out env_out = record {
-    gives = rw rest_out (rw (down.0, env_in, rest_in) at p.gives);
-    moves = rw (standing_out, ← standing_in) p.moves;
-    same_env = env_out ∙ p.same_env ∙ env_in;
-    same_levels = (let e = p.same_levels in let f = down.0 in omega arith);
-  }
+  read-below down standing_in rest_in env_in p up standing_out rest_out env_out = grind arith
 
   -- no level was left
   pub read-deep : {Z W : Type 0} {a b c : D} {e : Error} (r : Result Z Error) {L : Z → W → Type 0} {whole : Context Answer ArcRef → Gets Answer W} → IsErrAnd r (λ f. f ≡ e) → MovesOn (d.standing a) (d.standing b) → d.environment b ≡ d.environment a → d.levels b ≡ d.levels a
       → (e ≡ errors.TooDeep) × (deepest ≤ d.levels b) × (d.levels c ≡ d.levels b) → d.standing c ≡ d.standing b → d.environment c ≡ d.environment b → (deepest ≤ d.levels a → whole (context_in env d a) (d.rest a) ≡ Err errors.TooDeep) → Reads env d L whole a c r
-  read-deep r is moves same_env same_levels deep standing_in env_in same =
-      let q = err_from_is_err_and r is in
-      rw (q.1, q.2, deep.0) (record { gives = inl (same (rw same_levels at deep.1)); moves = rw standing_in moves; same_env = env_in ∙ same_env; same_levels = deep.2 ∙ same_levels })
+  read-deep r is moves same_env same_levels deep standing_in env_in same = grind arith
 
   -- of this many, those before the index were read, and they mean this
   pub record SoFar (P : List (Meaning ArcRef) → Type 0) (get : Context Answer ArcRef → Gets Answer (Meaning ArcRef)) (count index : ℕ) (old new : D) : Type 0 where
@@ -178,5 +143,4 @@ module _ {D E R N H K V : Type 0} (env : Environments E N H K V) (d : Deserializ
 
     pub all-read : {Z W : Type 0} (z : Z) (view : List (Meaning ArcRef) → W) {L : Z → W → Type 0} {whole : Context Answer ArcRef → Gets Answer W} → count ≤ i → SoFar P get count i a b → ((ms : List (Meaning ArcRef)) → P ms → L z (view ms)) → whole (context_in env d a) (d.rest a) ≡ viewed view (items (get (context_in env d a)) count (d.rest a))
         → Reads env d L whole a b (let r : Result Z Error = Ok z in r)
-    all-read z view le so means same =
-        record { gives = record { m = view so.gives.0; is = means so.gives.0 so.gives.1; gave = same ∙ rw (is_done (get (context_in env d a)) so.gives.0 count i (d.rest b) _ le so.gives.2) refl }; moves = so.moves; same_env = so.same_env; same_levels = so.same_levels }
+    all-read z view le so means same = grind (arith, is_done)

@@ -1,46 +1,25 @@
 -- What writing a JSON value adds: its case, and a form of its part; and which values have no form.
-use Rattle.std.proofs.Common.{◌≡◌, ℕ, ◌-◌, ◌+◌, ◌<◌, ◌≤◌, ◌^◌, true, false, subst, List, [], ◌∷◌, ◌++◌, length, map, arith, rules, refl, sym, ap, ◌∙◌, Result, Ok, Err, Some, None, inl, inr, String, Global, BTreeMap, Vec}
-use Rattle.std.proofs.lemmas.Bool.{lt-ltb}
-use Rattle.std.specs.Prelude.{OnOk, IfErr, ℤ, pos, nat_lt, Bool, Option, if◌then◌else◌}
-use Rattle.std.specs.Result.{IsErrAnd}
-use Rattle.std.specs.Int.{w64}
-use Rattle.std.specs.String.{string_bytes, string_cmp, string_cmp_total}
-use Rattle.std.specs.Map.{keys_of}
-use Rattle.std.specs.List.Sorted.{IsStrictlySortedBy}
+use Rattle.pagable_traits.proofs.Words.{◌≡◌, ℕ, ◌-◌, ◌+◌, ◌<◌, ◌≤◌, ◌^◌, true, subst, List, [], ◌∷◌, ◌++◌, length, map, arith, rules, refl, sym, ap, ◌∙◌, Result, Ok, Err, Some, None, inl, inr}
+use Rattle.pagable_traits.proofs.Words.{String, Global, Vec, OnOk, IfErr, ℤ, pos, Bool, Option, IsErrAnd, w64, string_bytes, string_cmp, keys_of, IsStrictlySortedBy, as_i64, view, number_view}
+use Rattle.pagable_traits.proofs.Words.{Value, Error, ArcRef, longest, length_form, text_form, of_entries, memory, long_or, json_causes, text_order, long_or_memory, MeanAll, MeansList, MeansPair}
+use Rattle.pagable_traits.proofs.Words.{pair_has_meaning, Meaning, integer, pair, variant, sequence, none, deepest, Shape, json, list, both, sorted_map, signed, flag, text, list-form}
+use Rattle.pagable_traits.proofs.Words.{sorted-map-form, signed-form, flag-form, text-form, Is, SomeMeaning, Out, Nesting, FormAt, WritesSome, added, NoForm, Refused, Grows, then, memory_refuses}
+use Rattle.pagable_traits.proofs.Words.{grows_trans, of_data, of_value, of_key, Piece, Wrote, bytes, all}
+use Rattle.std.proofs.{lemmas.Bool.lt-ltb, Common.BTreeMap}
+use Rattle.std.specs.{Prelude.nat_lt, String.string_cmp_total}
 use Rattle.serde_json.specs.Data.{Num, Data, null, boolean, number, string, array, object}
-use Rattle.serde_json.specs.Data as kit
-use Rattle.serde_json.specs.Find.{as_i64}
-use Rattle.serde_json.specs.View.{view, items_view, members_view, number_view}
-use Rattle.serde_json.specs.declared.value.Value.{Value, the_lemmas}
-use Rattle.serde_json.specs.declared.value.Value as values
-use Rattle.serde_json.specs.declared.number.Number.{Number}
+use Rattle.serde_json.specs.{View.items_view, View.members_view, declared.value.Value.the_lemmas, declared.number.Number.Number}
 use Rattle.serde_json.proofs.Views.{view-Array, view-Object}
-use Rattle.pagable_codec.specs.declared.env.Env.{Ghosts as Environments}
-use Rattle.pagable_codec.specs.declared.serializer.PagableSerializer.{Ghosts as Serializers}
-use Rattle.pagable_model.specs.declared.error.Error.{Error}
-use Rattle.pagable_model.specs.declared.error.Error.TheVariants as errors
-use Rattle.pagable_model.specs.declared.numbers.ArcRef.{ArcRef}
-use Rattle.pagable_model.specs.Basic.{longest, length_form, text_form}
-use Rattle.pagable_model.specs.Carried.{of_entries}
-use Rattle.pagable_model.specs.Numbers.{unsigned_form, varint, IsSigned}
-use Rattle.pagable_model.specs.Gives.{memory, long_or, json_causes}
-use Rattle.pagable_model.specs.Keys.{text_order}
-use Rattle.pagable_model.specs.Lengths.{long_or_memory}
-use Rattle.pagable_model.specs.Lifted.{MeanAll, MeansList, MeansPair, list_single, pair_single, pair_has_meaning}
-use Rattle.pagable_model.specs.Meaning.{Meaning, integer, pair, variant, sequence, none}
-use Rattle.pagable_model.specs.Meaning as meanings
-use Rattle.pagable_model.specs.Reading.{deepest}
-use Rattle.pagable_model.specs.Shape.{Shape, json, list, both, sorted_map, signed, flag, text}
-use Rattle.pagable_model.specs.Form.{list-form, sorted-map-form, signed-form, flag-form, text-form, json-null-form, json-flag-form, json-number-form, json-text-form, json-array-form, json-object-form}
-use Rattle.pagable_model.specs.Standing.{Is, SomeMeaning}
-use Rattle.pagable_model.specs.Keyed.{text_is_ordered}
-use Rattle.pagable_model.specs.Writing.{Out, Nesting, FormAt, WritesSome, added, NoForm, Refused, Grows}
-use Rattle.pagable_codec.proofs.Writing.{then, memory_refuses, grows_trans}
+use Rattle.pagable_codec.specs.{declared.env.Env.Ghosts as Environments, declared.serializer.PagableSerializer.Ghosts as Serializers}
+use Rattle.pagable_model.specs.Form.{json-null-form, json-flag-form, json-number-form, json-text-form, json-array-form, json-object-form}
+use Rattle.pagable_model.specs.{Numbers.unsigned_form, Numbers.varint, Numbers.IsSigned, Lifted.list_single, Lifted.pair_single, Keyed.text_is_ordered}
 use Rattle.pagable_traits.proofs.Maps.{IsOrderOf, key-order, sorted-map-splits, writes_sorted_map, refuse-count, refuses-items, Written}
-use Rattle.pagable_traits.proofs.Items.{writes_list, refused_items, refuses-count}
-use Rattle.pagable_traits.proofs.JsonSteps.{deeper, below, wrote-then, wrote-err}
-use Rattle.pagable_traits.specs.JsonData.{json_items, json_members, of_data, of_value, of_key, long_or_no_memory}
-use Rattle.pagable_traits.specs.JsonSteps.{Piece, Wrote, bytes, front, value as form, all}
+use Rattle.pagable_traits.proofs.{Items.writes_list, Items.refused_items, Items.refuses-count, JsonSteps.deeper, JsonSteps.below, JsonSteps.wrote-then, JsonSteps.wrote-err}
+use Rattle.pagable_traits.specs.{JsonData.json_items, JsonData.json_members, JsonData.long_or_no_memory, JsonSteps.front, JsonSteps.value as form}
+use Rattle.serde_json.specs.Data as kit
+use Rattle.serde_json.specs.declared.value.Value as values
+use Rattle.pagable_model.specs.declared.error.Error.TheVariants as errors
+use Rattle.pagable_model.specs.Meaning as meanings
 
 -- a case below 128 is its byte
 pub case-byte : (case : ℕ) → nat_lt case 128 ≡ true → unsigned_form w64 case ≡ case ∷ []
@@ -102,28 +81,16 @@ module _ (n : Nesting) where
       go f e = absurd cc
 
   no-deep-array : (m : Meaning ArcRef) → deepest ≤ n.levels → NoForm n json (variant 4 m)
-  no-deep-array m le b k f = go f refl
-    where
-      go : {x : Meaning ArcRef} {b : List ℕ} {k : List ArcRef} → FormAt n json x b k → x ≡ variant 4 m → ⊥
-      go (json-array-form l less ms c j p short f) e = absurd (omega arith)
-      go f e = absurd cc
+  no-deep-array m le b k f = grind arith
 
   no-deep-object : (m : Meaning ArcRef) → deepest ≤ n.levels → NoForm n json (variant 5 m)
-  no-deep-object m le b k f = go f refl
-    where
-      go : {x : Meaning ArcRef} {b : List ℕ} {k : List ArcRef} → FormAt n json x b k → x ≡ variant 5 m → ⊥
-      go (json-object-form l less es c j p short up f) e = absurd (omega arith)
-      go f e = absurd cc
+  no-deep-object m le b k f = grind arith
 
 -- ---- numbers
 
 -- a number that 64 bits with a sign hold is whole
 pub whole_number : (x : Num) (z : ℤ) → as_i64 x ≡ Some z → of_data (number x) ≡ variant 2 (integer z)
-whole_number (kit.unsigned n) z e = by_size (nat_lt n (2 ^ 63)) e
-  where
-    by_size : (b : Bool) → (if b then Some (pos n) else None) ≡ Some z → of_data (number (kit.unsigned n)) ≡ variant 2 (integer z)
-    by_size true h = let same : pos n ≡ z = cc in ap (λ (y : ℤ). variant 2 (integer y)) same
-    by_size false h = absurd cc
+whole_number (kit.unsigned n) z e = grind arith
 whole_number (kit.negative y) z e = let same : y ≡ z = cc in ap (λ (u : ℤ). variant 2 (integer u)) same
 whole_number (kit.float x) z e = absurd cc
 

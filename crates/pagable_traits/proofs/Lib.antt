@@ -1,3 +1,4 @@
+mod Words
 pub mod Basics
 pub mod Parts
 pub mod Items

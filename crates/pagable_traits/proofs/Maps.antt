@@ -1,35 +1,14 @@
 -- Entries of maps: what they mean as pairs, and what putting in, writing and reading them gives.
-use Rattle.std.proofs.Common.{◌≡◌, ℕ, zero, suc, ◌-◌, ◌<◌, ◌≤◌, List, [], ◌∷◌, ◌++◌, length, map, arith, refl, sym, ap, ◌∙◌, append_assoc, Result, Ok, Err, inl, inr}
-use Rattle.std.proofs.lemmas.List.{length-map, append-nil}
-use Rattle.std.specs.Prelude.{◌⊎◌}
-use Rattle.std.specs.List.{AllByRecursion}
-use Rattle.std.specs.List.Sorted.{IsStrictlySortedBy}
-use Rattle.std.specs.Map.{keys_of}
-use Rattle.std.specs.declared.cmp.Ordering.{Ordering}
+use Rattle.pagable_traits.proofs.Words.{◌≡◌, ℕ, zero, suc, ◌-◌, ◌<◌, ◌≤◌, List, [], ◌∷◌, ◌++◌, length, map, arith, refl, sym, ap, ◌∙◌, append_assoc, Result, Ok, Err, inl, inr, length-map}
+use Rattle.pagable_traits.proofs.Words.{append-nil, ◌⊎◌, AllByRecursion, IsStrictlySortedBy, keys_of, Ordering, ordering_reverse, IsTotalOrder, insert_entry, Error, ArcRef, ◌>>=◌, longest}
+use Rattle.pagable_traits.proofs.Words.{length_form, length_at, long_or_memory, Meaning, pair, sequence, entry, Entry, KeyOrder, ordered, put_all, put_sorted, AllAfter, Apart, Shape, both}
+use Rattle.pagable_traits.proofs.Words.{sorted_map, of_entries, Forms, Entries, no-forms, more-forms, more-entries, both-form, sorted-map-form, Rest, Gets, Context, deepest, items, bytes_of}
+use Rattle.pagable_traits.proofs.Words.{counted, seen, read, read_with, Out, Nesting, FormAt, FormsAt, WritesSome, WritesSomeAll, added, kind_of_arc, Refused, RefusedAll, Gave, GivesSome}
+use Rattle.pagable_traits.proofs.Words.{SomeMeaning, Collected, MeanAll, mean-none, mean-more, MeansList, MeansPair, items_have_meanings, then, memory_refuses}
+use Rattle.pagable_model.specs.{Keys.Ascends, Form.no-entries, Reading.two}
+use Rattle.pagable_traits.proofs.{Items.mean-length, Items.mean_last, Items.split-same, Items.forms-last, Items.writes_no_items, Parts.writes_pair, Collecting.put-in-turn, Walks.Splits}
+use Rattle.pagable_traits.proofs.{Walks.Wraps, Walks.wraps-sequence, Walks.writes-counted, Walks.refuses-among}
 use Rattle.std.specs.declared.cmp.Ordering.TheVariants as answers
-use Rattle.std.specs.Ordering.{match_ordering, ordering_reverse}
-use Rattle.std.specs.Cmp.{IsTotalOrder}
-use Rattle.std.specs.BTreeMap.{insert_entry}
-use Rattle.pagable_model.specs.declared.error.Error.{Error}
-use Rattle.pagable_model.specs.declared.numbers.ArcRef.{ArcRef}
-use Rattle.pagable_model.specs.Steps.{◌>>=◌}
-use Rattle.pagable_model.specs.Basic.{longest, length_form, length_at}
-use Rattle.pagable_model.specs.Lengths.{long_or_memory}
-use Rattle.pagable_model.specs.Meaning.{Meaning, pair, sequence, entry}
-use Rattle.pagable_model.specs.Keys.{Entry, KeyOrder, ordered, put_all, put_sorted, AllAfter, Apart, Ascends}
-use Rattle.pagable_model.specs.Shape.{Shape, both, sorted_map}
-use Rattle.pagable_model.specs.Carried.{of_entries}
-use Rattle.pagable_model.specs.Form.{Forms, Entries, no-forms, more-forms, no-entries, more-entries, both-form, sorted-map-form}
-use Rattle.pagable_model.specs.Reading.{Rest, Gets, Context, deepest, items, bytes_of, counted, seen, two, read, read_with}
-use Rattle.pagable_model.specs.Writing.{Out, Nesting, FormAt, FormsAt, WritesSome, WritesSomeAll, added, kind_of_arc, Refused, RefusedAll}
-use Rattle.pagable_model.specs.Standing.{Gave, GivesSome, SomeMeaning}
-use Rattle.pagable_model.specs.Collected.{Collected}
-use Rattle.pagable_model.specs.Lifted.{MeanAll, mean-none, mean-more, MeansList, MeansPair, items_have_meanings}
-use Rattle.pagable_codec.proofs.Writing.{then, memory_refuses}
-use Rattle.pagable_traits.proofs.Items.{mean-length, mean_last, split-same, forms-last, writes_no_items}
-use Rattle.pagable_traits.proofs.Parts.{writes_pair}
-use Rattle.pagable_traits.proofs.Collecting.{put-in-turn}
-use Rattle.pagable_traits.proofs.Walks.{Splits, Wraps, wraps-sequence, writes-counted, refuses-among}
 
 -- ---- entries and the pairs that they are
 
@@ -53,15 +32,12 @@ entries-of-pairs M N (mean-more x m xs ms h t) =
 pub pairs-of-entries : {K V : Type 0} (M : K → Meaning ArcRef → Type 0) (N : V → Meaning ArcRef → Type 0) (xs : List (K × V)) (es : List (Entry ArcRef)) → EntriesMean M N xs es → MeanAll (MeansPair M N) xs (map entry es)
 unfolding EntriesMean
 pairs-of-entries M N [] [] h = mean-none
-pairs-of-entries M N [] (e ∷ es) h = absurd h
-pairs-of-entries M N (x ∷ xs) [] h = absurd h
 pairs-of-entries M N (x ∷ xs) (e ∷ es) h =
     mean-more x (entry e) xs (map entry es) (record { first = e.0; second = e.1; is_first = h.0; is_second = h.1; is = refl }) (pairs-of-entries M N xs es h.2)
+pairs-of-entries M N _ _ h = absurd h
 
 pub same-entries : (ds es : List (Entry ArcRef)) → map entry ds ≡ map entry es → ds ≡ es
 same-entries [] [] e = refl
-same-entries [] (y ∷ ys) e = cc
-same-entries (x ∷ xs) [] e = cc
 same-entries (x ∷ xs) (y ∷ ys) e =
     let tails : map entry xs ≡ map entry ys = cc in
     let heads : entry x ≡ entry y = cc in
@@ -69,6 +45,7 @@ same-entries (x ∷ xs) (y ∷ ys) e =
     let seconds : x.1 ≡ y.1 = cc in
     let rest = same-entries xs ys tails in
     rw (firsts, seconds, rest) refl
+same-entries _ _ e = cc
 
 -- ---- forms of pairs are forms of entries, and back
 
@@ -85,10 +62,7 @@ forms-of-entries (more-entries d s t x y es b1 b2 c j1 j2 l f g rest) =
 
 -- these pairs mean these entries
 pub entries-mean : {K V : Type 0} (M : K → Meaning ArcRef → Type 0) (N : V → Meaning ArcRef → Type 0) {xs : List (K × V)} (es : List (Entry ArcRef)) → MeanAll (MeansPair M N) xs (map entry es) → EntriesMean M N xs es
-entries-mean M N {xs} es h =
-    let ds = entries-of-pairs M N h in
-    let same : ds.0 ≡ es = same-entries ds.0 es (sym ds.1) in
-    rw same at ds.2
+entries-mean M N {xs} es h = grind (arith, entries-of-pairs, same-entries)
 
 -- pairs that were written are entries that were written
 pub record EntriesWritten {K V : Type 0} (M : K → Meaning ArcRef → Type 0) (N : V → Meaning ArcRef → Type 0) (n : Nesting) (s t : Shape) (xs : List (K × V)) (ms : List (Meaning ArcRef)) (b : List ℕ) (k : List ArcRef) : Type 0 where
@@ -138,12 +112,7 @@ given other (Ok x) = x
 given other (Err e) = other
 
 were-entries : {A : Type 0} (r : Result (List (Entry ArcRef) × Rest A) Error) (ms : List (Meaning ArcRef)) (after : Rest A) → viewed (map entry) r ≡ Ok (ms, after) → (es : List (Entry ArcRef)) × (ms ≡ map entry es) × (r ≡ Ok (es, after))
-were-entries {A} (Ok o) ms after e =
-    let other : List (Meaning ArcRef) × Rest A = (ms, after) in
-    let same : map entry o.0 ≡ ms = ap (λ (r : Result (List (Meaning ArcRef) × Rest A) Error). (given other r).0) e in
-    let rest : o.1 ≡ after = ap (λ (r : Result (List (Meaning ArcRef) × Rest A) Error). (given other r).1) e in
-    let with : Rest A → Result (List (Entry ArcRef) × Rest A) Error = λ y. Ok (o.0, y) in
-    (o.0, sym same, ap with rest)
+were-entries {A} (Ok o) ms after e = grind arith
 were-entries (Err x) ms after e = cc
 
 was-refused : {A : Type 0} (r : Result (List (Entry ArcRef) × Rest A) Error) (e : Error) → viewed (map entry) r ≡ Err e → r ≡ Err e
@@ -164,17 +133,7 @@ not-both e x h = cc
 -- a whole whose entries were counted
 pub reads-entries : {X A : Type 0} (own : Error → Type 0) (P : X → List (Meaning ArcRef) → Type 0) (Q : X → Meaning ArcRef → Type 0) (view : List (Entry ArcRef) → Meaning ArcRef) → ((x : X) (es : List (Entry ArcRef)) → P x (map entry es) → Q x (view es)) → (r : Result X Error) (context : Context A ArcRef) (s t : Shape) (rest last : Rest A)
     → GivesSome own P last r (counted (read context (both s t)) rest) → GivesSome own Q last r (seen view (counted (two (read context s) (read context t))) rest)
-reads-entries {X} {A} own P Q view f r context s t rest last h = go r (bytes_of length_at (λ n. n) rest) h
-  where
-    go : (r : Result X Error) (c : Result (ℕ × Rest A) Error) → GivesSome own P last r (c >>= λ count. items (read context (both s t)) count.0 count.1) → GivesSome own Q last r ((c >>= λ count. items (two (read context s) (read context t)) count.0 count.1) >>= λ es. Ok (view es.0, es.1))
-    go (Ok x) (Ok c) g =
-        let were = read-entries context s t c.0 c.1 last g.m g.gave in
-        record { m = view were.0; is = f x were.0 (rw were.1 at g.is); gave = rw were.2 refl }
-    go (Ok x) (Err e) g = absurd (not-both e (g.m, last) g.gave)
-    go (Err e) (Ok c) (inl k) = inl (rw (entries-refused context s t c.0 c.1 e k) refl)
-    go (Err e) (Ok c) (inr k) = inr k
-    go (Err e) (Err d) (inl k) = let same : d ≡ e = cc in inl (rw same refl)
-    go (Err e) (Err d) (inr k) = inr k
+reads-entries {X} {A} own P Q view f r context s t rest last h = grind (arith, read-entries, not-both, entries-refused)
 
 -- ---- writing entries one after another
 
@@ -257,41 +216,29 @@ put-in-order : {K V : Type 0} (M : K → Meaning ArcRef → Type 0) (N : V → M
     → EntriesMean M N xs es → M x.0 e.0 → N x.1 e.1 → EntriesMean M N (insert_entry cmp xs x.0 x.1) (put_sorted order es e)
 unfolding EntriesMean
 put-in-order M N cmp order is [] [] x e h first second = (first, second, tt)
-put-in-order M N cmp order is [] (f ∷ es) x e h first second = absurd h
-put-in-order M N cmp order is (y ∷ xs) [] x e h first second = absurd h
-put-in-order M N cmp order is (y ∷ xs) (f ∷ es) x e h first second =
-    rw (is.agrees x.0 y.0 e.0 f.0 first h.0) (by_case (put-in-order M N cmp order is xs es x e h.2 first second) (ordered order e.0 f.0))
-  where
-    by_case : EntriesMean M N (insert_entry cmp xs x.0 x.1) (put_sorted order es e) → (o : Ordering)
-        → EntriesMean M N (match_ordering o ((x.0, x.1) ∷ y ∷ xs) ((y.0, x.1) ∷ xs) (y ∷ insert_entry cmp xs x.0 x.1)) (match_ordering o ((e.0, e.1) ∷ f ∷ es) ((f.0, e.1) ∷ es) (f ∷ put_sorted order es e))
-    by_case tail answers.Less = (first, second, h)
-    by_case tail answers.Equal = (h.0, second, h.2)
-    by_case tail answers.Greater = (h.0, h.1, tail)
+put-in-order M N cmp order is (y ∷ xs) (f ∷ es) x e h first second = grind (arith, put-in-order M N cmp order is xs es x e h.2 first second)
+put-in-order M N cmp order is _ _ x e h first second = absurd h
 
 put-all-in-order : {K V : Type 0} (M : K → Meaning ArcRef → Type 0) (N : V → Meaning ArcRef → Type 0) (cmp : K → K → Ordering) (order : KeyOrder) → IsOrderOf M cmp order → (acc xs : List (K × V)) (ds es : List (Entry ArcRef)) → EntriesMean M N acc ds → EntriesMean M N xs es
     → EntriesMean M N (put_all (λ ys x. insert_entry cmp ys x.0 x.1) acc xs) (put_all (put_sorted order) ds es)
 unfolding EntriesMean put_all
 put-all-in-order M N cmp order is acc [] ds [] so_far h = so_far
-put-all-in-order M N cmp order is acc [] ds (e ∷ es) so_far h = absurd h
-put-all-in-order M N cmp order is acc (x ∷ xs) ds [] so_far h = absurd h
 put-all-in-order M N cmp order is acc (x ∷ xs) ds (e ∷ es) so_far h =
     put-all-in-order M N cmp order is (insert_entry cmp acc x.0 x.1) xs (put_sorted order ds e) es (put-in-order M N cmp order is acc ds x e so_far h.0 h.1) h.2
+put-all-in-order M N cmp order is acc _ ds _ so_far h = absurd h
 
 below-all : {K V : Type 0} (M : K → Meaning ArcRef → Type 0) (N : V → Meaning ArcRef → Type 0) (cmp : K → K → Ordering) (order : KeyOrder) → IsOrderOf M cmp order → (x : K × V) (e : Entry ArcRef) → M x.0 e.0 → (xs : List (K × V)) (es : List (Entry ArcRef)) → EntriesMean M N xs es
     → AllByRecursion (λ y. cmp x.0 y ≡ answers.Less) (keys_of xs) → AllAfter (λ (d f : Entry ArcRef). ordered order d.0 f.0 ≡ answers.Greater) e es
 unfolding EntriesMean AllAfter
 below-all M N cmp order is x e first [] [] h lt = tt
-below-all M N cmp order is x e first [] (f ∷ es) h lt = absurd h
-below-all M N cmp order is x e first (y ∷ xs) [] h lt = absurd h
-below-all M N cmp order is x e first (y ∷ xs) (f ∷ es) h lt =
-    (sym (is.agrees y.0 x.0 f.0 e.0 h.0 first) ∙ is.antisymm y.0 x.0 ∙ ap ordering_reverse lt.0, below-all M N cmp order is x e first xs es h.2 lt.1)
+below-all M N cmp order is x e first (y ∷ xs) (f ∷ es) h lt = grind (arith, below-all M N cmp order is x e first xs es h.2 lt.1)
+below-all M N cmp order is x e first _ _ h lt = absurd h
 
 ascends : {K V : Type 0} (M : K → Meaning ArcRef → Type 0) (N : V → Meaning ArcRef → Type 0) (cmp : K → K → Ordering) (order : KeyOrder) → IsOrderOf M cmp order → (xs : List (K × V)) (es : List (Entry ArcRef)) → EntriesMean M N xs es → IsStrictlySortedBy cmp (keys_of xs) → Ascends order es
 unfolding EntriesMean IsStrictlySortedBy Apart
 ascends M N cmp order is [] [] h sorted = tt
-ascends M N cmp order is [] (e ∷ es) h sorted = absurd h
-ascends M N cmp order is (x ∷ xs) [] h sorted = absurd h
 ascends M N cmp order is (x ∷ xs) (e ∷ es) h sorted = (below-all M N cmp order is x e h.0 xs es h.2 sorted.0, ascends M N cmp order is xs es h.2 sorted.1)
+ascends M N cmp order is _ _ h sorted = absurd h
 
 pub wraps_sorted_map : {K V : Type 0} (M : K → Meaning ArcRef → Type 0) (N : V → Meaning ArcRef → Type 0) (cmp : K → K → Ordering) (order : KeyOrder) → IsOrderOf M cmp order → (xs : List (K × V)) (n : Nesting) (s t : Shape) → IsStrictlySortedBy cmp (keys_of xs)
     → Wraps (MeansPair M N) xs (MeansList (MeansPair M N) xs) n (sorted_map order s t) (both s t)

@@ -1,28 +1,12 @@
 -- Maps in order of arrival: what putting in, writing and reading their entries gives.
-use Rattle.std.proofs.Common.{◌≡◌, ℕ, ◌≤◌, Bool, true, false, List, [], ◌∷◌, length, map, refl, sym, ◌∙◌, Result}
-use Rattle.std.proofs.lemmas.List.{length-map}
-use Rattle.std.specs.Prelude.{if◌then◌else◌}
-use Rattle.std.specs.List.{AllByRecursion, IsDistinct}
-use Rattle.std.specs.Map.{keys_of}
+use Rattle.pagable_traits.proofs.Words.{◌≡◌, ℕ, ◌≤◌, Bool, false, List, [], ◌∷◌, length, map, refl, sym, ◌∙◌, Result, length-map, AllByRecursion, IsDistinct, keys_of, Error, ArcRef, longest}
+use Rattle.pagable_traits.proofs.Words.{Meaning, sequence, entry, Entry, same_key, put_all, AllAfter, Apart, Differ, Shape, both, of_entries, Rest, Context, counted, read, read_with, Nesting}
+use Rattle.pagable_traits.proofs.Words.{FormAt, FormsAt, GivesSome, Collected, MeansList, MeansPair, arith}
 use Rattle.std.specs.Cmp.{IsEquivalence}
 use Rattle.indexmap.specs.IndexMap.{insert_entry}
-use Rattle.pagable_model.specs.declared.error.Error.{Error}
-use Rattle.pagable_model.specs.declared.numbers.ArcRef.{ArcRef}
-use Rattle.pagable_model.specs.Basic.{longest}
-use Rattle.pagable_model.specs.Meaning.{Meaning, sequence, entry}
-use Rattle.pagable_model.specs.Keys.{Entry, same_key, put_all, put_placed, AllAfter, Apart, Differ}
-use Rattle.pagable_model.specs.Shape.{Shape, both, placed_map}
-use Rattle.pagable_model.specs.Carried.{of_entries}
-use Rattle.pagable_model.specs.Form.{placed-map-form}
-use Rattle.pagable_model.specs.Reading.{Rest, Context, counted, read, read_with}
-use Rattle.pagable_model.specs.Writing.{Nesting, FormAt, FormsAt}
-use Rattle.pagable_model.specs.Standing.{GivesSome}
-use Rattle.pagable_model.specs.Collected.{Collected}
-use Rattle.pagable_model.specs.Lifted.{MeansList, MeansPair}
-use Rattle.pagable_traits.proofs.Items.{split-same}
-use Rattle.pagable_traits.proofs.Collecting.{put-in-turn}
+use Rattle.pagable_model.specs.{Keys.put_placed, Shape.placed_map, Form.placed-map-form}
 use Rattle.pagable_traits.proofs.Maps.{EntriesMean, pairs-of-entries, forms-of-entries, entries-mean, entries-written, reads-entries}
-use Rattle.pagable_traits.proofs.Walks.{Splits, Wraps, wraps-sequence}
+use Rattle.pagable_traits.proofs.{Items.split-same, Collecting.put-in-turn, Walks.Splits, Walks.Wraps, Walks.wraps-sequence}
 
 placed-map-parts : (n : Nesting) {s t : Shape} {m : Meaning ArcRef} {b : List ℕ} {k : List ArcRef} (ms : List (Meaning ArcRef)) → FormAt n (placed_map s t) m b k → m ≡ sequence ms → (length ms ≤ longest) × ((c : List ℕ) × FormsAt n (both s t) ms c k)
 placed-map-parts n ms (placed-map-form l s t es c k le differ f) e = let short : length (map entry es) ≤ longest = rw (length-map es entry) le in split-same n e short (forms-of-entries f)
@@ -42,39 +26,29 @@ put-in-place : {K V : Type 0} (M : K → Meaning ArcRef → Type 0) (N : V → M
     → EntriesMean M N (insert_entry eq xs x.0 x.1) (put_placed es e)
 unfolding EntriesMean
 put-in-place M N eq is [] [] x e h first second = (first, second, tt)
-put-in-place M N eq is [] (f ∷ es) x e h first second = absurd h
-put-in-place M N eq is (y ∷ xs) [] x e h first second = absurd h
-put-in-place M N eq is (y ∷ xs) (f ∷ es) x e h first second =
-    rw (is.agrees x.0 y.0 e.0 f.0 first h.0) (by_case (put-in-place M N eq is xs es x e h.2 first second) (same_key e.0 f.0))
-  where
-    by_case : EntriesMean M N (insert_entry eq xs x.0 x.1) (put_placed es e) → (same : Bool)
-        → EntriesMean M N (if same then (y.0, x.1) ∷ xs else y ∷ insert_entry eq xs x.0 x.1) (if same then (f.0, e.1) ∷ es else f ∷ put_placed es e)
-    by_case tail true = (h.0, second, h.2)
-    by_case tail false = (h.0, h.1, tail)
+put-in-place M N eq is (y ∷ xs) (f ∷ es) x e h first second = grind (arith, put-in-place M N eq is xs es x e h.2 first second)
+put-in-place M N eq is _ _ x e h first second = absurd h
 
 put-all-in-place : {K V : Type 0} (M : K → Meaning ArcRef → Type 0) (N : V → Meaning ArcRef → Type 0) (eq : K → K → Bool) → IsSameOf M eq → (acc xs : List (K × V)) (ds es : List (Entry ArcRef)) → EntriesMean M N acc ds → EntriesMean M N xs es
     → EntriesMean M N (put_all (λ ys x. insert_entry eq ys x.0 x.1) acc xs) (put_all put_placed ds es)
 unfolding EntriesMean put_all
 put-all-in-place M N eq is acc [] ds [] so_far h = so_far
-put-all-in-place M N eq is acc [] ds (e ∷ es) so_far h = absurd h
-put-all-in-place M N eq is acc (x ∷ xs) ds [] so_far h = absurd h
 put-all-in-place M N eq is acc (x ∷ xs) ds (e ∷ es) so_far h =
     put-all-in-place M N eq is (insert_entry eq acc x.0 x.1) xs (put_placed ds e) es (put-in-place M N eq is acc ds x e so_far h.0 h.1) h.2
+put-all-in-place M N eq is acc _ ds _ so_far h = absurd h
 
 apart-from-all : {K V : Type 0} (M : K → Meaning ArcRef → Type 0) (N : V → Meaning ArcRef → Type 0) (eq : K → K → Bool) → IsSameOf M eq → (x : K × V) (e : Entry ArcRef) → M x.0 e.0 → (xs : List (K × V)) (es : List (Entry ArcRef)) → EntriesMean M N xs es
     → AllByRecursion (λ y. eq x.0 y ≡ false) (keys_of xs) → AllAfter (λ (d f : Entry ArcRef). same_key d.0 f.0 ≡ false) e es
 unfolding EntriesMean AllAfter
 apart-from-all M N eq is x e first [] [] h other = tt
-apart-from-all M N eq is x e first [] (f ∷ es) h other = absurd h
-apart-from-all M N eq is x e first (y ∷ xs) [] h other = absurd h
 apart-from-all M N eq is x e first (y ∷ xs) (f ∷ es) h other = (sym (is.agrees y.0 x.0 f.0 e.0 h.0 first) ∙ is.symm y.0 x.0 ∙ other.0, apart-from-all M N eq is x e first xs es h.2 other.1)
+apart-from-all M N eq is x e first _ _ h other = absurd h
 
 pub differ : {K V : Type 0} (M : K → Meaning ArcRef → Type 0) (N : V → Meaning ArcRef → Type 0) (eq : K → K → Bool) → IsSameOf M eq → (xs : List (K × V)) (es : List (Entry ArcRef)) → EntriesMean M N xs es → IsDistinct eq (keys_of xs) → Differ es
 unfolding EntriesMean IsDistinct Apart
 differ M N eq is [] [] h distinct = tt
-differ M N eq is [] (e ∷ es) h distinct = absurd h
-differ M N eq is (x ∷ xs) [] h distinct = absurd h
 differ M N eq is (x ∷ xs) (e ∷ es) h distinct = (apart-from-all M N eq is x e h.0 xs es h.2 distinct.0, differ M N eq is xs es h.2 distinct.1)
+differ M N eq is _ _ h distinct = absurd h
 
 pub wraps_placed_map : {K V : Type 0} (M : K → Meaning ArcRef → Type 0) (N : V → Meaning ArcRef → Type 0) (eq : K → K → Bool) → IsSameOf M eq → (xs : List (K × V)) (n : Nesting) (s t : Shape) → IsDistinct eq (keys_of xs) → Wraps (MeansPair M N) xs (MeansList (MeansPair M N) xs) n (placed_map s t) (both s t)
 wraps_placed_map M N eq is xs n s t distinct = wraps-sequence (MeansPair M N) xs n (placed_map s t) (both s t) (placed-map-splits n s t) (λ ms b k each le f.

@@ -1,8 +1,6 @@
 -- Lists that hold the same items in another order.
-use Rattle.std.proofs.Common.{◌≡◌, ℕ, zero, suc, ◌<◌, subst, List, [], ◌∷◌, length, get_or, set, swap, IsPermutation, arith, refl, ap, ◌∙◌}
-use Rattle.std.proofs.lemmas.List.Sorted.{IsPermutation-keeps}
-use Rattle.std.proofs.lemmas.List.Edits.{swap_is}
-use Rattle.pagable_model.specs.Keys.{AllAfter, Apart}
+use Rattle.pagable_traits.proofs.Words.{◌≡◌, ℕ, zero, suc, ◌<◌, subst, List, [], ◌∷◌, length, get_or, IsPermutation, arith, refl, ap, ◌∙◌, AllAfter, Apart}
+use Rattle.std.proofs.{Common.set, Common.swap, lemmas.List.Sorted.IsPermutation-keeps, lemmas.List.Edits.swap_is}
 
 -- one order is reached from the other by turning neighbours
 pub data Reordered {X : Type 0} : List X → List X → Type 0 where
@@ -22,10 +20,9 @@ reordered-back (two-turned x y xs) = two-turned y x xs
 reordered-back (and-then xs ys zs h k) = and-then zs ys xs (reordered-back k) (reordered-back h)
 
 pub reordered-length : {X : Type 0} {xs ys : List X} → Reordered xs ys → length xs ≡ length ys
-reordered-length no-items = refl
 reordered-length (same-front x xs ys h) = ap (λ (n : ℕ). suc n) (reordered-length h)
-reordered-length (two-turned x y xs) = refl
 reordered-length (and-then xs ys zs h k) = reordered-length h ∙ reordered-length k
+reordered-length _ = refl
 
 -- ---- from the exchanges that std speaks of
 

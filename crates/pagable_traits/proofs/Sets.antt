@@ -1,30 +1,12 @@
 -- Sets: what putting in, writing and reading their items gives.
-use Rattle.std.proofs.Common.{◌≡◌, ℕ, ◌≤◌, Bool, true, false, subst, List, [], ◌∷◌, ◌++◌, length, refl, sym, ap, ◌∙◌, Result}
-use Rattle.std.specs.Prelude.{◌||◌, if◌then◌else◌}
-use Rattle.std.specs.List.{AllByRecursion, IsDistinct, list_any}
-use Rattle.std.specs.List.Sorted.{IsStrictlySortedBy}
-use Rattle.std.specs.declared.cmp.Ordering.{Ordering}
+use Rattle.pagable_traits.proofs.Words.{◌≡◌, ℕ, ◌≤◌, Bool, true, false, subst, List, [], ◌∷◌, ◌++◌, length, refl, sym, ap, ◌∙◌, Result, AllByRecursion, IsDistinct, IsStrictlySortedBy, Ordering}
+use Rattle.pagable_traits.proofs.Words.{match_ordering, ordering_reverse, Error, ArcRef, longest, Meaning, sequence, KeyOrder, ordered, same_key, put_all, AllAfter, Apart, Shape, Rest, Context}
+use Rattle.pagable_traits.proofs.Words.{counted, read, read_with, Nesting, FormAt, FormsAt, GivesSome, Collected, MeanAll, mean-none, mean-more, MeansList, arith}
+use Rattle.std.specs.{Prelude.if◌then◌else◌, Prelude.◌||◌, List.list_any, BTreeSet.insert_key}
+use Rattle.pagable_model.specs.{Keys.put_sorted_item, Keys.put_placed_item, Keys.ItemsAscend, Keys.ItemsDiffer, Shape.sorted_set, Shape.placed_set, Form.sorted-set-form, Form.placed-set-form}
+use Rattle.pagable_traits.proofs.{Items.split-same, Collecting.put-in-turn, Collecting.reads_items, Walks.Splits, Walks.Wraps, Walks.wraps-sequence, Maps.IsOrderOf, Placed.IsSameOf}
 use Rattle.std.specs.declared.cmp.Ordering.TheVariants as answers
-use Rattle.std.specs.Ordering.{match_ordering, ordering_reverse}
-use Rattle.std.specs.BTreeSet.{insert_key}
 use Rattle.indexmap.specs.IndexSet as placed
-use Rattle.pagable_model.specs.declared.error.Error.{Error}
-use Rattle.pagable_model.specs.declared.numbers.ArcRef.{ArcRef}
-use Rattle.pagable_model.specs.Basic.{longest}
-use Rattle.pagable_model.specs.Meaning.{Meaning, sequence}
-use Rattle.pagable_model.specs.Keys.{KeyOrder, ordered, same_key, put_all, put_sorted_item, put_placed_item, AllAfter, Apart, ItemsAscend, ItemsDiffer}
-use Rattle.pagable_model.specs.Shape.{Shape, sorted_set, placed_set}
-use Rattle.pagable_model.specs.Form.{sorted-set-form, placed-set-form}
-use Rattle.pagable_model.specs.Reading.{Rest, Context, counted, read, read_with}
-use Rattle.pagable_model.specs.Writing.{Nesting, FormAt, FormsAt}
-use Rattle.pagable_model.specs.Standing.{GivesSome}
-use Rattle.pagable_model.specs.Collected.{Collected}
-use Rattle.pagable_model.specs.Lifted.{MeanAll, mean-none, mean-more, MeansList}
-use Rattle.pagable_traits.proofs.Items.{split-same}
-use Rattle.pagable_traits.proofs.Collecting.{put-in-turn, reads_items}
-use Rattle.pagable_traits.proofs.Walks.{Splits, Wraps, wraps-sequence}
-use Rattle.pagable_traits.proofs.Maps.{IsOrderOf}
-use Rattle.pagable_traits.proofs.Placed.{IsSameOf}
 
 -- ---- refusals
 
@@ -80,8 +62,7 @@ sorted-set-put M cmp order is now ms c =
 pub reads_sorted_set : {X K A : Type 0} (own : Error → Type 0) (M : K → Meaning ArcRef → Type 0) (cmp : K → K → Ordering) (order : KeyOrder) → IsOrderOf M cmp order → (r : Result X Error) (held : X → List K) (context : Context A ArcRef) (s : Shape) (rest last : Rest A)
     → GivesSome own (λ x. Collected M (λ ys y zs. zs ≡ insert_key cmp ys y) (held x)) last r (counted (read context s) rest) → GivesSome own (λ x. MeansList M (held x)) last r (read context (sorted_set order s) rest)
 unfolding read read_with
-reads_sorted_set own M cmp order is r held context s rest last h =
-    reads_items own (λ x. Collected M (λ ys y zs. zs ≡ insert_key cmp ys y) (held x)) (λ x. MeansList M (held x)) (λ ms. sequence (put_all (put_sorted_item order) [] ms)) (λ x ms p. sorted-set-put M cmp order is (held x) ms p) r (read context s) rest last h
+reads_sorted_set own M cmp order is r held context s rest last h = grind (arith, reads_items, sorted-set-put)
 
 -- ---- sets in order of arrival
 

@@ -1,19 +1,9 @@
 -- Items without their count.
-use Rattle.std.proofs.Common.{◌≡◌, ℕ, ◌<◌, ◌≤◌, subst, List, length, arith, refl, Result, Ok, Err, inl}
-use Rattle.std.specs.Prelude.{IfErr}
-use Rattle.pagable_model.specs.declared.error.Error.{Error}
+use Rattle.pagable_traits.proofs.Words.{◌≡◌, ℕ, ◌<◌, ◌≤◌, subst, List, length, arith, refl, Result, Ok, Err, inl, IfErr, Error, ArcRef, longest, long_or, Meaning, sequence, Shape, Out, Nesting}
+use Rattle.pagable_traits.proofs.Words.{FormAt, FormsAt, WritesSome, WritesSomeAll, NoForm, NoForms, NoFormOfSome, Refused, RefusedAll, SomeMeaning, MeanAll, MeansList, items_have_meanings}
+use Rattle.pagable_model.specs.{Shape.run, Form.run-form}
+use Rattle.pagable_traits.proofs.{Items.mean-length, Items.sequence-same, Parts.only_long_or}
 use Rattle.pagable_model.specs.declared.error.Error.TheVariants as errors
-use Rattle.pagable_model.specs.declared.numbers.ArcRef.{ArcRef}
-use Rattle.pagable_model.specs.Basic.{longest}
-use Rattle.pagable_model.specs.Gives.{long_or}
-use Rattle.pagable_model.specs.Meaning.{Meaning, sequence}
-use Rattle.pagable_model.specs.Shape.{Shape, run}
-use Rattle.pagable_model.specs.Form.{run-form}
-use Rattle.pagable_model.specs.Writing.{Out, Nesting, FormAt, FormsAt, WritesSome, WritesSomeAll, NoForm, NoForms, NoFormOfSome, Refused, RefusedAll}
-use Rattle.pagable_model.specs.Standing.{SomeMeaning}
-use Rattle.pagable_model.specs.Lifted.{MeanAll, MeansList, items_have_meanings}
-use Rattle.pagable_traits.proofs.Items.{mean-length, sequence-same}
-use Rattle.pagable_traits.proofs.Parts.{only_long_or}
 
 pub writes_run : {T : Type 0} (M : T → Meaning ArcRef → Type 0) (xs : List T) (n : Nesting) (s : Shape) (old new : Out) → length xs ≤ longest → WritesSomeAll (MeanAll M xs) n s old new → WritesSome (MeansList M xs) n (run s) old new
 writes_run M xs n s old new le v =

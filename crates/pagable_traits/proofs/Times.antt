@@ -1,25 +1,12 @@
 -- Spans of time: how one is written, and what reading one gives.
-use Rattle.std.proofs.Common.{◌≡◌, ℕ, ◌+◌, ◌*◌, ◌/◌, ◌%◌, ◌<◌, ◌≤◌, ◌^◌, List, ◌++◌, arith, refl, ap, ◌∙◌, Result, Ok, Err, inl, inr}
-use Rattle.std.proofs.lemmas.Bool.{lt-ltb, le-ltb}
-use Rattle.std.proofs.lemmas.Nat.{mod_below}
-use Rattle.std.specs.Prelude.{OnOk, ◌⊎◌}
-use Rattle.std.specs.Duration.{as_nanos}
-use Rattle.std.specs.Int.{w32, w64}
-use Rattle.std.specs.declared.time.Duration.{Duration}
-use Rattle.pagable_model.specs.declared.error.Error.{Error}
-use Rattle.pagable_model.specs.declared.error.Error.TheVariants as errors
-use Rattle.pagable_model.specs.Basic.{nanos_of_second, duration_form, duration_at}
-use Rattle.pagable_model.specs.Carried.{of_duration}
-use Rattle.pagable_model.specs.Form.{duration-form}
-use Rattle.pagable_model.specs.Gives.{Gives, never}
-use Rattle.pagable_model.specs.Numbers.{unsigned_at}
-use Rattle.pagable_model.specs.Reading.{Rest, read, read_with}
-use Rattle.pagable_model.specs.Shape.{Shape, duration}
-use Rattle.pagable_model.specs.Standing.{Answer, GivesSome, Is, handles_at}
-use Rattle.pagable_model.specs.Writing.{Out, Nesting, WritesSome}
-use Rattle.pagable_codec.proofs.Writing.{writes_is, writes_bytes}
+use Rattle.pagable_traits.proofs.Words.{◌≡◌, ℕ, ◌+◌, ◌*◌, ◌<◌, ◌≤◌, ◌^◌, List, ◌++◌, arith, refl, ap, ◌∙◌, Result, Ok, Err, inl, inr, OnOk, ◌⊎◌, w32, w64, Error, Gives, never, unsigned_at, Rest}
+use Rattle.pagable_traits.proofs.Words.{read, read_with, Shape, Answer, GivesSome, Is, handles_at, Out, Nesting, WritesSome, writes_is, writes_bytes}
+use Rattle.std.proofs.{Common.◌/◌, lemmas.Bool.le-ltb, lemmas.Nat.mod_below}
+use Rattle.std.specs.{Duration.as_nanos, declared.time.Duration.Duration}
+use Rattle.pagable_model.specs.{Basic.nanos_of_second, Basic.duration_form, Basic.duration_at, Carried.of_duration, Form.duration-form, Shape.duration, Spans.seconds_of, Spans.nanos_of}
+use Rattle.pagable_model.specs.{Spans.of_span}
 use Rattle.pagable_traits.proofs.Basics.{gives_bytes}
-use Rattle.pagable_model.specs.Spans.{seconds_of, nanos_of, of_span}
+use Rattle.pagable_model.specs.declared.error.Error.TheVariants as errors
 
 -- ---- writing
 
@@ -54,7 +41,4 @@ span_overflows bytes mid after s n g h le = rw (g, h, le-ltb (s + n / nanos_of_s
 pub span_read : (d : Duration) (bytes mid after : List ℕ) (s n : ℕ) → unsigned_at w64 bytes ≡ Ok (s, mid) → unsigned_at w32 mid ≡ Ok (n, after) → s + n / nanos_of_second < 2 ^ 64 → as_nanos d ≡ s * nanos_of_second + n
     → duration_at bytes ≡ Ok ((seconds_of d, nanos_of d), after)
 unfolding duration_at
-span_read d bytes mid after s n g h lt e =
-    let seconds : s + n / nanos_of_second ≡ seconds_of d = rw e (omega arith) in
-    let nanos : n % nanos_of_second ≡ nanos_of d = rw e (omega arith) in
-    rw (g, h, lt-ltb (s + n / nanos_of_second) (2 ^ 64) lt, seconds, nanos) refl
+span_read d bytes mid after s n g h lt e = grind arith

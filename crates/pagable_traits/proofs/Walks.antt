@@ -1,23 +1,10 @@
 -- Items that a walk yields: what writing each, after their count, makes of the whole that holds them.
-use Rattle.std.proofs.Common.{◌≡◌, ℕ, ◌<◌, ◌≤◌, List, [], ◌∷◌, ◌++◌, length, map, arith, refl, sym, ◌∙◌, Option, Some, Result, Ok, Err, inl, inr}
-use Rattle.std.proofs.lemmas.Iterator.{YieldsList, YieldsList-from_slice, items_from_drains}
-use Rattle.std.proofs.lemmas.Iterator.Consumers.{YieldsList-from_rest}
-use Rattle.std.specs.Borrow.{Bor}
-use Rattle.std.specs.Prelude.{OnOk, IfErr}
-use Rattle.std.specs.Iterator.{Yields, AlwaysYields}
-use Rattle.std.specs.Map.Iter.{TakesFirst, deref, deref_pair}
-use Rattle.std.specs.Slice.Iter.{iter_rest, iter_steps}
-use Rattle.pagable_model.specs.declared.error.Error.{Error}
-use Rattle.pagable_model.specs.declared.numbers.ArcRef.{ArcRef}
-use Rattle.pagable_model.specs.Basic.{longest, length_form}
-use Rattle.pagable_model.specs.Meaning.{Meaning, sequence}
-use Rattle.pagable_model.specs.Shape.{Shape, list}
-use Rattle.pagable_model.specs.Form.{list-form}
-use Rattle.pagable_model.specs.Writing.{Out, Nesting, FormAt, FormsAt, WritesSome, WritesSomeAll, added, NoFormOfSome, NoFormsOfSome, Refused, RefusedAll}
-use Rattle.pagable_model.specs.Standing.{SomeMeaning}
-use Rattle.pagable_model.specs.Lifted.{MeanAll, mean-none, mean-more, MeansList, MeansPair, items_have_meanings}
-use Rattle.pagable_codec.proofs.Writing.{then, memory_refuses}
-use Rattle.pagable_traits.specs.Walks.{WritesEach, WritesCounted, RefusedAmong, RefusedCounted}
+use Rattle.pagable_traits.proofs.Words.{◌≡◌, ℕ, ◌<◌, ◌≤◌, List, [], ◌∷◌, ◌++◌, length, map, arith, refl, sym, ◌∙◌, Option, Some, Result, Ok, Err, inl, inr, Bor, OnOk, IfErr, Error, ArcRef}
+use Rattle.pagable_traits.proofs.Words.{longest, length_form, Meaning, sequence, Shape, list, list-form, Out, Nesting, FormAt, FormsAt, WritesSome, WritesSomeAll, added, NoFormOfSome}
+use Rattle.pagable_traits.proofs.Words.{NoFormsOfSome, Refused, RefusedAll, SomeMeaning, MeanAll, mean-none, mean-more, MeansList, MeansPair, items_have_meanings, then, memory_refuses, WritesEach}
+use Rattle.pagable_traits.proofs.Words.{WritesCounted, RefusedAmong, RefusedCounted}
+use Rattle.std.proofs.{lemmas.Iterator.YieldsList, lemmas.Iterator.YieldsList-from_slice, lemmas.Iterator.items_from_drains, lemmas.Iterator.Consumers.YieldsList-from_rest}
+use Rattle.std.specs.{Iterator.Yields, Iterator.AlwaysYields, Map.Iter.TakesFirst, Map.Iter.deref, Map.Iter.deref_pair, Slice.Iter.iter_rest, Slice.Iter.iter_steps}
 use Rattle.pagable_traits.proofs.Items.{mean-length, no-head, no-tail, list-parts}
 
 -- ---- what a walk shows

@@ -1,26 +1,13 @@
 -- What the JSON values of `serde_json` are in the words of the definitions, and how their parts are read.
-use Rattle.std.specs.Prelude.{◌≡◌, ◌<◌, ◌⊎◌, ℕ, ◌-◌, pos, String}
-use Rattle.std.specs.String.{string_bytes}
-use Rattle.std.specs.declared.alloc.Global.{Global}
-use Rattle.serde_json.specs.Data.{Num, Data}
-use Rattle.serde_json.specs.Data as kit
-use Rattle.serde_json.specs.View.{view}
-use Rattle.serde_json.specs.declared.value.Value.{Value}
-use Rattle.pagable_model.specs.declared.error.Error.{Error}
-use Rattle.pagable_model.specs.declared.error.Error.TheVariants as errors
-use Rattle.pagable_model.specs.declared.numbers.ArcRef.{ArcRef}
-use Rattle.pagable_model.specs.Basic.{longest}
-use Rattle.pagable_model.specs.Canonical.{IsCanonical, LiesIn}
-use Rattle.pagable_model.specs.Gives.{memory}
-use Rattle.pagable_model.specs.Json.{Json, of_json}
-use Rattle.pagable_model.specs.Json as own
-use Rattle.pagable_model.specs.Keyed.{throughout-alone}
-use Rattle.pagable_model.specs.Meaning.{Meaning}
-use Rattle.pagable_model.specs.Meaning as meanings
-use Rattle.pagable_model.specs.OneForm.{HasOneFormThroughout}
+use Rattle.std.specs.{Prelude.◌≡◌, Prelude.◌<◌, Prelude.◌⊎◌, Prelude.ℕ, Prelude.◌-◌, Prelude.pos, Prelude.String, String.string_bytes, declared.alloc.Global.Global}
+use Rattle.serde_json.specs.{Data.Num, Data.Data, View.view, declared.value.Value.Value}
 use Rattle.pagable_model.specs.Reading.{Gets, JsonCase, json_part, below, deepest}
-use Rattle.pagable_model.specs.Shape.{Shape, json}
-use Rattle.pagable_model.specs.Standing.{Answer, answer_at}
+use Rattle.pagable_model.specs.{declared.error.Error.Error, declared.numbers.ArcRef.ArcRef, Basic.longest, Canonical.IsCanonical, Canonical.LiesIn, Gives.memory, Json.Json, Json.of_json}
+use Rattle.pagable_model.specs.{Keyed.throughout-alone, Meaning.Meaning, OneForm.HasOneFormThroughout, Shape.Shape, Shape.json, Standing.Answer, Standing.answer_at}
+use Rattle.serde_json.specs.Data as kit
+use Rattle.pagable_model.specs.declared.error.Error.TheVariants as errors
+use Rattle.pagable_model.specs.Json as own
+use Rattle.pagable_model.specs.Meaning as meanings
 
 -- a number that is whole is so whether it is kept with a sign or without
 abbrev pub json_of_number : Num → Json

@@ -1,10 +1,8 @@
 -- Why the forms of the carried types are read again.
-use Rattle.std.specs.Prelude.{ℕ, zero, suc}
-use Rattle.std.specs.Int.{Width}
-use Rattle.pagable_model.specs.Canonical.{IsReadable, LiesIn, Within, Throughout}
-use Rattle.pagable_model.specs.Keyed.{throughout-alone, throughout-over, throughout-two}
-use Rattle.pagable_model.specs.Keys.{KeyOrder}
-use Rattle.pagable_model.specs.Shape.{Shape, nothing, unsigned, signed, flag, text, letter, duration, pattern, json, optional, outcome, list, array, both, sorted_map, placed_map, hash_map, sorted_set, placed_set}
+use Rattle.std.specs.{Prelude.ℕ, Prelude.zero, Prelude.suc, Int.Width}
+use Rattle.pagable_model.specs.Shape.{Shape, nothing, unsigned, signed, flag, text, letter, duration, pattern, json, optional, outcome, list, array, both, sorted_map, placed_map, hash_map}
+use Rattle.pagable_model.specs.Shape.{sorted_set, placed_set}
+use Rattle.pagable_model.specs.{Canonical.IsReadable, Canonical.LiesIn, Canonical.Within, Canonical.Throughout, Keyed.throughout-alone, Keyed.throughout-over, Keyed.throughout-two, Keys.KeyOrder}
 
 -- the forms of the shape, and those of all parts of its values in one blob, are read again
 abbrev pub IsReadThroughout : (ℕ → Shape) → Shape → Type 0

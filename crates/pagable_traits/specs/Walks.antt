@@ -1,14 +1,7 @@
 -- What writing each item that a walk yields owes, where next says what the walk gives from one state to the other.
-use Rattle.std.specs.Prelude.{ℕ, ◌≤◌, List, [], Option, Some, ◌⊎◌}
-use Rattle.std.specs.Iterator.{YieldsThen, Drains}
-use Rattle.pagable_model.specs.declared.error.Error.{Error}
-use Rattle.pagable_model.specs.declared.numbers.ArcRef.{ArcRef}
-use Rattle.pagable_model.specs.Basic.{length_form, longest}
-use Rattle.pagable_model.specs.Lengths.{long_or_memory}
-use Rattle.pagable_model.specs.Lifted.{MeanAll}
-use Rattle.pagable_model.specs.Meaning.{Meaning}
-use Rattle.pagable_model.specs.Shape.{Shape}
+use Rattle.std.specs.{Prelude.ℕ, Prelude.◌≤◌, Prelude.List, Prelude.[], Prelude.Option, Prelude.Some, Prelude.◌⊎◌, Iterator.YieldsThen, Iterator.Drains}
 use Rattle.pagable_model.specs.Writing.{Out, Nesting, WritesSomeAll, Refused, added}
+use Rattle.pagable_model.specs.{declared.error.Error.Error, declared.numbers.ArcRef.ArcRef, Basic.length_form, Basic.longest, Lengths.long_or_memory, Lifted.MeanAll, Meaning.Meaning, Shape.Shape}
 
 -- these items were yielded, and then no more, and each was written
 pub record WritesEach {W T : Type 0} (next : W → Option T → W → Type 0) (M : T → Meaning ArcRef → Type 0) (walk : W) (n : Nesting) (s : Shape) (old new : Out) : Type 0 where

@@ -1,16 +1,11 @@
 //! Values that are read into a box.
 
 ghost use Rattle.std.specs.Prelude.{◌≡◌, true};
-ghost use Rattle.pagable_model.specs.Causes.{memory_or_is_own_reading};
-ghost use Rattle.pagable_model.specs.Gives.{memory_or};
-ghost use Rattle.pagable_model.specs.Reading.{read};
-ghost use Rattle.pagable_model.specs.Refusals.{is_own_reading};
-ghost use Rattle.pagable_model.specs.Standing.{handles_at, MovesOn, GivesSome};
-ghost use Rattle.pagable_model.specs.declared.error.Error.{Error as Refusal};
+ghost use Rattle.pagable_model.specs.{Causes.memory_or_is_own_reading, Gives.memory_or, Reading.read, Refusals.is_own_reading, Standing.handles_at, Standing.MovesOn, Standing.GivesSome};
+ghost use Rattle.pagable_model.specs.{declared.error.Error.Error as Refusal};
 
 use crate::traits::{Carried, PagableDeserialize};
-use pagable_codec::deserializer::PagableDeserializer;
-use pagable_codec::env::Env;
+use pagable_codec::{Env, PagableDeserializer};
 use pagable_flavors::Error;
 use std::alloc::Global;
 

@@ -2,18 +2,11 @@
 //! values are carried.
 
 ghost use Rattle.std.specs.Prelude.{◌≡◌, true, OnOk, IfErr};
-ghost use Rattle.pagable_model.specs.Reading.{read};
-ghost use Rattle.pagable_model.specs.Refusals.{is_own_reading, may_refuse_writing};
-ghost use Rattle.pagable_model.specs.Shape.{Shape};
-ghost use Rattle.pagable_model.specs.Meaning.{Meaning};
-ghost use Rattle.pagable_model.specs.Standing.{handles_at, MovesOn, GivesSome, SomeMeaning};
-ghost use Rattle.pagable_model.specs.Writing.{nesting, WritesSome, Refused, Grows};
-ghost use Rattle.pagable_model.specs.declared.error.Error.{Error as Refusal};
-ghost use Rattle.pagable_model.specs.declared.numbers.ArcRef.{ArcRef as Reference};
+ghost use Rattle.pagable_model.specs.{Reading.read, Refusals.is_own_reading, Refusals.may_refuse_writing, Shape.Shape, Meaning.Meaning, Standing.handles_at, Standing.MovesOn, Standing.GivesSome};
+ghost use Rattle.pagable_model.specs.{Standing.SomeMeaning, Writing.nesting, Writing.WritesSome, Writing.Refused, Writing.Grows, declared.error.Error.Error as Refusal};
+ghost use Rattle.pagable_model.specs.{declared.numbers.ArcRef.ArcRef as Reference};
 
-use pagable_codec::deserializer::PagableDeserializer;
-use pagable_codec::env::Env;
-use pagable_codec::serializer::PagableSerializer;
+use pagable_codec::{Env, PagableDeserializer, PagableSerializer};
 use pagable_flavors::Error;
 use std::alloc::Global;
 

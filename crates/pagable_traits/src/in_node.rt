@@ -1,10 +1,7 @@
 //! The value types that a node may hold.
 
 ghost use Rattle.std.specs.Prelude.{◌≡◌, ◌≢◌, Some, None};
-ghost use Rattle.pagable_model.specs.Gives.{memory_or};
-ghost use Rattle.pagable_model.specs.Meaning.{Meaning};
-ghost use Rattle.pagable_model.specs.declared.numbers.ArcRef.{ArcRef as Reference};
-ghost use Rattle.pagable_model.specs.declared.error.Error.{Error as Refusal};
+ghost use Rattle.pagable_model.specs.{Gives.memory_or, Meaning.Meaning, declared.numbers.ArcRef.ArcRef as Reference, declared.error.Error.Error as Refusal};
 
 use crate::traits::{Carried, PagableDeserialize, PagableSerialize};
 use pagable_codec::{Env, NodeSet, OfNode};

@@ -1,8 +1,7 @@
 //! The types that may be keys of maps and items of sets.
 
 ghost use Rattle.std.specs.Prelude.{◌≡◌};
-ghost use Rattle.pagable_model.specs.Keys.{KeyOrder, same_key, ordered};
-ghost use Rattle.pagable_model.specs.Keyed.{RefersToNothing};
+ghost use Rattle.pagable_model.specs.{Keys.KeyOrder, Keys.same_key, Keys.ordered, Keyed.RefersToNothing};
 
 pub mod lists;
 pub mod numbers;

@@ -3,17 +3,9 @@
 //! value. A type's shape, what it means and why it is refused stand at its impls (`shape`, `means`, `write_causes`,
 //! `read_causes`).
 
-ghost use Rattle.std.specs.Prelude.{◌≡◌, ◌↔◌, ◌/◌, ◌%◌, IsPermutation};
-ghost use Rattle.pagable_model.specs.Gives.{memory_or};
-ghost use Rattle.pagable_model.specs.Keys.{optional_order, outcome_order, pair_order, list_order};
-ghost use Rattle.pagable_model.specs.Meaning.{Meaning};
-ghost use Rattle.pagable_model.specs.Hashed.{MeansHashMap};
-ghost use Rattle.std.specs.HashMap.{IsUnique};
-ghost use Rattle.std.specs.Duration.{as_nanos};
-ghost use Rattle.std.specs.declared.time.Duration.{Duration as Span};
-ghost use Rattle.pagable_model.specs.Carried.{of_duration};
-ghost use Rattle.pagable_model.specs.declared.error.Error.{Error as Refusal};
-ghost use Rattle.pagable_model.specs.declared.numbers.ArcRef.{ArcRef as Reference};
+ghost use Rattle.std.specs.{Prelude.◌≡◌, Prelude.◌↔◌, Prelude.◌/◌, Prelude.◌%◌, Prelude.IsPermutation, HashMap.IsUnique, Duration.as_nanos, declared.time.Duration.Duration as Span};
+ghost use Rattle.pagable_model.specs.{Gives.memory_or, Keys.optional_order, Keys.outcome_order, Keys.pair_order, Keys.list_order, Meaning.Meaning, Hashed.MeansHashMap, Carried.of_duration};
+ghost use Rattle.pagable_model.specs.{declared.error.Error.Error as Refusal, declared.numbers.ArcRef.ArcRef as Reference};
 
 use crate::boxes::PagableBoxDeserialize;
 use crate::impls::thin::Thin;

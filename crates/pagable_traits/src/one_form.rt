@@ -1,8 +1,10 @@
 //! The types whose content addresses are keys: a value has one meaning, and a meaning one form.
 
 ghost use Rattle.std.specs.Int.{w8, w16, w32, w64, w128};
-ghost use Rattle.pagable_model.specs.OneForm.{HasOneFormThroughout, nothing_has_one_form, unsigned_has_one_form, signed_has_one_form, flag_has_one_form, text_has_one_form, letter_has_one_form, optional_has_one_form, list_has_one_form, both_has_one_form, sorted_map_has_one_form, placed_map_has_one_form, sorted_set_has_one_form, placed_set_has_one_form, run_has_one_form, duration_has_one_form, outcome_has_one_form, array_has_one_form};
-ghost use Rattle.pagable_model.specs.Shape.{both, list};
+ghost use Rattle.pagable_model.specs.OneForm.{HasOneFormThroughout, nothing_has_one_form, unsigned_has_one_form, signed_has_one_form, flag_has_one_form, text_has_one_form, letter_has_one_form};
+ghost use Rattle.pagable_model.specs.OneForm.{optional_has_one_form, list_has_one_form, both_has_one_form, sorted_map_has_one_form, placed_map_has_one_form, sorted_set_has_one_form};
+ghost use Rattle.pagable_model.specs.OneForm.{placed_set_has_one_form, run_has_one_form, duration_has_one_form, outcome_has_one_form, array_has_one_form};
+ghost use Rattle.pagable_model.specs.{Shape.both, Shape.list};
 ghost use Rattle.pagable_traits.specs.JsonData.{json_has_one_form};
 
 use crate::impls::paths::PathText;

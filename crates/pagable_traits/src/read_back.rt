@@ -2,7 +2,9 @@
 
 ghost use Rattle.std.specs.Int.{w8, w16, w32, w64, w128};
 ghost use Rattle.pagable_model.specs.Shape.{both, list};
-ghost use Rattle.pagable_traits.specs.ReadBack.{IsReadThroughout, nothing_is_read, unsigned_is_read, signed_is_read, flag_is_read, text_is_read, letter_is_read, duration_is_read, json_is_read, optional_is_read, outcome_is_read, list_is_read, array_is_read, both_is_read, sorted_map_is_read, placed_map_is_read, hash_map_is_read, sorted_set_is_read, placed_set_is_read};
+ghost use Rattle.pagable_traits.specs.ReadBack.{IsReadThroughout, nothing_is_read, unsigned_is_read, signed_is_read, flag_is_read, text_is_read, letter_is_read, duration_is_read, json_is_read};
+ghost use Rattle.pagable_traits.specs.ReadBack.{optional_is_read, outcome_is_read, list_is_read, array_is_read, both_is_read, sorted_map_is_read, placed_map_is_read, hash_map_is_read};
+ghost use Rattle.pagable_traits.specs.ReadBack.{sorted_set_is_read, placed_set_is_read};
 
 use crate::impls::paths::PathText;
 use crate::impls::thin::Thin;

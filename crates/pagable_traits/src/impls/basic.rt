@@ -1,17 +1,11 @@
 //! Flags, characters and nothing.
 
 ghost use Rattle.std.specs.Prelude.{refl};
-ghost use Rattle.pagable_model.specs.Gives.{never, memory};
-ghost use Rattle.pagable_model.specs.Meaning.{number, none, flag as flag_meaning};
-ghost use Rattle.pagable_model.specs.Shape.{flag, letter, nothing};
-ghost use Rattle.pagable_model.specs.Standing.{Is};
-ghost use Rattle.pagable_model.specs.Causes.{never_is_own_reading, never_may_refuse_writing, memory_may_refuse_writing};
+ghost use Rattle.pagable_model.specs.{Gives.never, Gives.memory, Meaning.number, Meaning.none, Meaning.flag as flag_meaning, Shape.flag, Shape.letter, Shape.nothing, Standing.Is};
+ghost use Rattle.pagable_model.specs.{Causes.never_is_own_reading, Causes.never_may_refuse_writing, Causes.memory_may_refuse_writing};
 
 use crate::traits::{Carried, OneMeaning, PagableDeserialize, PagableSerialize};
-use pagable_codec::deserializer::PagableDeserializer;
-use pagable_codec::env::Env;
-use pagable_codec::reader::Reader;
-use pagable_codec::serializer::PagableSerializer;
+use pagable_codec::{Env, PagableDeserializer, PagableSerializer, Reader};
 use pagable_flavors::Error;
 use std::alloc::Global;
 

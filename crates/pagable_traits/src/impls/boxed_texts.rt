@@ -1,18 +1,11 @@
 //! Texts that are lent or boxed.
 
-ghost use Rattle.std.specs.Prelude.{◌≡◌, OnOk, IfErr, refl};
-ghost use Rattle.std.specs.Box.{boxed_str_bytes};
-ghost use Rattle.pagable_model.specs.Gives.{memory, long_or};
-ghost use Rattle.pagable_model.specs.Shape.{text as text_shape};
-ghost use Rattle.pagable_model.specs.Meaning.{text as text_meaning};
-ghost use Rattle.pagable_model.specs.Standing.{Is};
-ghost use Rattle.pagable_model.specs.Writing.{nesting, WritesSome, Refused, Grows};
-ghost use Rattle.pagable_model.specs.Causes.{memory_is_own_reading, text_may_refuse_writing};
+ghost use Rattle.std.specs.{Prelude.◌≡◌, Prelude.OnOk, Prelude.IfErr, Prelude.refl, Box.boxed_str_bytes};
+ghost use Rattle.pagable_model.specs.{Gives.memory, Gives.long_or, Shape.text as text_shape, Meaning.text as text_meaning, Standing.Is, Writing.nesting, Writing.WritesSome, Writing.Refused};
+ghost use Rattle.pagable_model.specs.{Writing.Grows, Causes.memory_is_own_reading, Causes.text_may_refuse_writing};
 
 use crate::traits::{Carried, OneMeaning, PagableDeserialize, PagableSerialize};
-use pagable_codec::deserializer::PagableDeserializer;
-use pagable_codec::env::Env;
-use pagable_codec::serializer::PagableSerializer;
+use pagable_codec::{Env, PagableDeserializer, PagableSerializer};
 use pagable_flavors::Error;
 use std::alloc::Global;
 use std::boxed::BoxedStr;

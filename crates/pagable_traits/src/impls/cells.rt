@@ -1,15 +1,11 @@
 //! Cells: an atomic number, and a value that is written once. Another thread may write to a cell while it is looked at, so no
 //! contract knows what one holds, and each means whatever it may hold.
 
-ghost use Rattle.pagable_model.specs.Carried.{atomic_i64, once_lock};
-ghost use Rattle.pagable_model.specs.Cells.{MeansAtomic, MeansOnce, atomic_has_meaning, once_has_meaning};
-ghost use Rattle.pagable_model.specs.Gives.{never, memory, memory_or};
-ghost use Rattle.pagable_model.specs.Causes.{never_is_own_reading, memory_may_refuse_writing, memory_or_may_refuse_writing};
+ghost use Rattle.pagable_model.specs.{Carried.atomic_i64, Carried.once_lock, Cells.MeansAtomic, Cells.MeansOnce, Cells.atomic_has_meaning, Cells.once_has_meaning, Gives.never, Gives.memory};
+ghost use Rattle.pagable_model.specs.{Gives.memory_or, Causes.never_is_own_reading, Causes.memory_may_refuse_writing, Causes.memory_or_may_refuse_writing};
 
 use crate::traits::{Carried, PagableDeserialize, PagableSerialize};
-use pagable_codec::deserializer::PagableDeserializer;
-use pagable_codec::env::Env;
-use pagable_codec::serializer::PagableSerializer;
+use pagable_codec::{Env, PagableDeserializer, PagableSerializer};
 use pagable_flavors::Error;
 use std::alloc::Global;
 use std::sync::OnceLock;

@@ -1,15 +1,11 @@
 //! What items are put into one after another as they are read: lists, maps and sets.
 
 ghost use Rattle.std.specs.Prelude.{◌≡◌, ℕ, List, [], length, min, OnOk, IfOk, IfErr};
-ghost use Rattle.pagable_model.specs.Gives.{memory, memory_or};
-ghost use Rattle.pagable_model.specs.Reading.{items, counted, read};
-ghost use Rattle.pagable_model.specs.Standing.{handles_at, MovesOn, GivesSome};
-ghost use Rattle.pagable_model.specs.Collected.{Collected};
+ghost use Rattle.pagable_model.specs.{Gives.memory, Gives.memory_or, Reading.items, Reading.counted, Reading.read, Standing.handles_at, Standing.MovesOn, Standing.GivesSome, Collected.Collected};
 
 use crate::traits::PagableDeserialize;
-use pagable_codec::deserializer::PagableDeserializer;
-use pagable_codec::env::Env;
 use pagable_codec::parts::{places_for, read_count};
+use pagable_codec::{Env, PagableDeserializer};
 use pagable_flavors::Error;
 use std::alloc::Global;
 

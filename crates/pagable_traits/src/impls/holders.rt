@@ -1,18 +1,13 @@
 //! Values that hold one or two others: `Option`, `Box` and pairs.
 
-ghost use Rattle.pagable_model.specs.Carried.{of_option};
-ghost use Rattle.pagable_model.specs.Gives.{memory_or, either};
-ghost use Rattle.pagable_model.specs.Meaning.{pair};
-ghost use Rattle.pagable_model.specs.Shape.{optional, both};
-ghost use Rattle.pagable_model.specs.Causes.{memory_or_is_own_reading, memory_or_may_refuse_writing, either_is_own_reading, either_may_refuse_writing};
 ghost use Rattle.pagable_model.specs.Lifted.{MeansOption, option_has_meaning, option_is_meaning, option_single, MeansPair, pair_has_meaning, pair_is_meaning, pair_single};
+ghost use Rattle.pagable_model.specs.{Carried.of_option, Gives.memory_or, Gives.either, Meaning.pair, Shape.optional, Shape.both, Causes.memory_or_is_own_reading};
+ghost use Rattle.pagable_model.specs.{Causes.memory_or_may_refuse_writing, Causes.either_is_own_reading, Causes.either_may_refuse_writing};
 
 use crate::impls::maps::write_entry;
 use crate::traits::{Carried, OneMeaning, PagableDeserialize, PagableSerialize};
-use pagable_codec::deserializer::PagableDeserializer;
-use pagable_codec::env::Env;
 use pagable_codec::parts::{read_flag, write_flag};
-use pagable_codec::serializer::PagableSerializer;
+use pagable_codec::{Env, PagableDeserializer, PagableSerializer};
 use pagable_flavors::Error;
 use std::alloc::Global;
 

@@ -1,22 +1,14 @@
 //! How JSON values are read: the case, and then its part. Arrays and objects are one level further down, which is
 //! entered after their length was read.
 
-ghost use Rattle.std.specs.Prelude.{◌≡◌};
-ghost use Rattle.std.specs.Int.{w64};
-ghost use Rattle.pagable_model.specs.Gives.{Gives, never};
-ghost use Rattle.pagable_model.specs.Meaning.{sequence, variant};
-ghost use Rattle.pagable_model.specs.Numbers.{unsigned_at};
+ghost use Rattle.std.specs.{Prelude.◌≡◌, Int.w64};
 ghost use Rattle.pagable_model.specs.Reading.{bytes_of, items as items_at, read, seen, flag_case, number_case, text_case, array_case, object_case};
-ghost use Rattle.pagable_model.specs.Shape.{both, json, text};
-ghost use Rattle.pagable_model.specs.Standing.{Is, MovesOn};
-ghost use Rattle.pagable_traits.specs.JsonData.{of_value, of_key};
-ghost use Rattle.pagable_traits.specs.JsonSteps.{Reads, part_of, ObjectOf};
+ghost use Rattle.pagable_model.specs.{Gives.Gives, Gives.never, Meaning.sequence, Meaning.variant, Numbers.unsigned_at, Shape.both, Shape.json, Shape.text, Standing.Is, Standing.MovesOn};
+ghost use Rattle.pagable_traits.specs.{JsonData.of_value, JsonData.of_key, JsonSteps.Reads, JsonSteps.part_of, JsonSteps.ObjectOf};
 
 use crate::traits::PagableDeserialize;
-use pagable_codec::deserializer::PagableDeserializer;
-use pagable_codec::env::Env;
 use pagable_codec::parts::{places_for, read_count, read_flag};
-use pagable_codec::reader::Reader;
+use pagable_codec::{Env, PagableDeserializer, Reader};
 use pagable_flavors::Error;
 use serde_json::Value;
 use std::alloc::Global;

@@ -1,18 +1,13 @@
 //! JSON values.
 
 ghost use Rattle.std.specs.Prelude.{refl};
-ghost use Rattle.pagable_model.specs.Gives.{memory, json_causes};
-ghost use Rattle.pagable_model.specs.Shape.{json};
-ghost use Rattle.pagable_model.specs.Standing.{Is};
-ghost use Rattle.pagable_model.specs.Causes.{memory_is_own_reading, json_may_refuse_writing};
+ghost use Rattle.pagable_model.specs.{Gives.memory, Gives.json_causes, Shape.json, Standing.Is, Causes.memory_is_own_reading, Causes.json_may_refuse_writing};
 ghost use Rattle.pagable_traits.specs.JsonData.{of_value};
 
 use crate::impls::json_reading::read_value;
 use crate::impls::json_writing::write_value;
 use crate::traits::{Carried, OneMeaning, PagableDeserialize, PagableSerialize};
-use pagable_codec::deserializer::PagableDeserializer;
-use pagable_codec::env::Env;
-use pagable_codec::serializer::PagableSerializer;
+use pagable_codec::{Env, PagableDeserializer, PagableSerializer};
 use pagable_flavors::Error;
 use serde_json::Value;
 use std::alloc::Global;

@@ -1,22 +1,14 @@
 //! How JSON values are written: the case, and then its part. Arrays and objects are one level further down, which is
 //! entered after their length was written.
 
-ghost use Rattle.std.specs.Int.{w64};
-ghost use Rattle.pagable_model.specs.Gives.{memory, json_causes};
-ghost use Rattle.pagable_model.specs.Lifted.{MeanAll, MeansPair};
-ghost use Rattle.pagable_model.specs.Numbers.{unsigned_form};
-ghost use Rattle.pagable_model.specs.Shape.{both, json, text};
-ghost use Rattle.pagable_model.specs.Standing.{Is};
-ghost use Rattle.serde_json.specs.Data.{boolean, number, string, array, object};
-ghost use Rattle.serde_json.specs.View.{number_view, items_view, members_view};
-ghost use Rattle.std.specs.String.{string_bytes};
-ghost use Rattle.pagable_traits.specs.JsonData.{of_data, of_value, of_key, long_or_no_memory};
-ghost use Rattle.pagable_traits.specs.JsonSteps.{Wrote, bytes, front, value as form, all};
+ghost use Rattle.std.specs.{Int.w64, String.string_bytes};
+ghost use Rattle.pagable_model.specs.{Gives.memory, Gives.json_causes, Lifted.MeanAll, Lifted.MeansPair, Numbers.unsigned_form, Shape.both, Shape.json, Shape.text, Standing.Is};
+ghost use Rattle.serde_json.specs.{Data.boolean, Data.number, Data.string, Data.array, Data.object, View.number_view, View.items_view, View.members_view};
+ghost use Rattle.pagable_traits.specs.{JsonData.of_data, JsonData.of_value, JsonData.of_key, JsonData.long_or_no_memory, JsonSteps.Wrote, JsonSteps.bytes, JsonSteps.front};
+ghost use Rattle.pagable_traits.specs.{JsonSteps.value as form, JsonSteps.all};
 
 use crate::traits::PagableSerialize;
-use pagable_codec::env::Env;
-use pagable_codec::parts;
-use pagable_codec::serializer::PagableSerializer;
+use pagable_codec::{Env, PagableSerializer, parts};
 use pagable_flavors::Error;
 use serde_json::{Number, Value};
 use std::collections::BTreeMap;

@@ -1,21 +1,16 @@
 //! Maps.
 
-ghost use Rattle.std.specs.Prelude.{◌≡◌, map, OnOk, IfErr};
-ghost use Rattle.std.specs.BTreeMap.{insert_entry};
-ghost use Rattle.pagable_model.specs.Gives.{memory_or, either, long_or};
-ghost use Rattle.pagable_model.specs.Meaning.{pair, sequence};
-ghost use Rattle.pagable_model.specs.Shape.{both, sorted_map};
-ghost use Rattle.pagable_model.specs.Writing.{nesting, WritesSome, Refused, Grows};
-ghost use Rattle.pagable_model.specs.Causes.{memory_or_is_own_reading, memory_or_may_refuse_writing, long_or_may_refuse_writing, either_is_own_reading, either_may_refuse_writing};
+ghost use Rattle.std.specs.{Prelude.◌≡◌, Prelude.map, Prelude.OnOk, Prelude.IfErr, BTreeMap.insert_entry};
 ghost use Rattle.pagable_model.specs.Lifted.{MeansList, MeansPair, list_has_meaning, pair_has_meaning, list_is_meaning, pair_is_meaning, list_single, pair_single};
+ghost use Rattle.pagable_model.specs.{Gives.memory_or, Gives.either, Gives.long_or, Meaning.pair, Meaning.sequence, Shape.both, Shape.sorted_map, Writing.nesting, Writing.WritesSome};
+ghost use Rattle.pagable_model.specs.{Writing.Refused, Writing.Grows, Causes.memory_or_is_own_reading, Causes.memory_or_may_refuse_writing, Causes.long_or_may_refuse_writing};
+ghost use Rattle.pagable_model.specs.{Causes.either_is_own_reading, Causes.either_may_refuse_writing};
 
 use crate::impls::collecting::{Collects, read_collected};
 use crate::impls::walks::write_counted;
 use crate::keys::PagableOrdKey;
 use crate::traits::{Carried, OneMeaning, PagableDeserialize, PagableSerialize};
-use pagable_codec::deserializer::PagableDeserializer;
-use pagable_codec::env::Env;
-use pagable_codec::serializer::PagableSerializer;
+use pagable_codec::{Env, PagableDeserializer, PagableSerializer};
 use pagable_flavors::Error;
 use std::alloc::Global;
 use std::collections::BTreeMap;

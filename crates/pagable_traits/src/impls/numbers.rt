@@ -1,18 +1,10 @@
 //! Whole numbers without a sign.
 
-ghost use Rattle.std.specs.Prelude.{refl};
-ghost use Rattle.std.specs.Int.{w8, w16, w32, w64, w128};
-ghost use Rattle.pagable_model.specs.Gives.{never, memory};
-ghost use Rattle.pagable_model.specs.Meaning.{number};
-ghost use Rattle.pagable_model.specs.Shape.{unsigned};
-ghost use Rattle.pagable_model.specs.Standing.{Is};
-ghost use Rattle.pagable_model.specs.Causes.{never_is_own_reading, memory_may_refuse_writing};
+ghost use Rattle.std.specs.{Prelude.refl, Int.w8, Int.w16, Int.w32, Int.w64, Int.w128};
+ghost use Rattle.pagable_model.specs.{Gives.never, Gives.memory, Meaning.number, Shape.unsigned, Standing.Is, Causes.never_is_own_reading, Causes.memory_may_refuse_writing};
 
 use crate::traits::{Carried, OneMeaning, PagableDeserialize, PagableSerialize};
-use pagable_codec::deserializer::PagableDeserializer;
-use pagable_codec::env::Env;
-use pagable_codec::reader::Reader;
-use pagable_codec::serializer::PagableSerializer;
+use pagable_codec::{Env, PagableDeserializer, PagableSerializer, Reader};
 use pagable_flavors::Error;
 use std::alloc::Global;
 

@@ -1,18 +1,11 @@
 //! Paths, which are texts here.
 
-ghost use Rattle.std.specs.Prelude.{refl};
-ghost use Rattle.std.specs.String.{string_bytes};
-ghost use Rattle.pagable_model.specs.Carried.{path_text};
-ghost use Rattle.pagable_model.specs.Gives.{memory, long_or};
-ghost use Rattle.pagable_model.specs.Meaning.{text};
-ghost use Rattle.pagable_model.specs.Standing.{Is};
-ghost use Rattle.pagable_model.specs.Causes.{memory_is_own_reading, text_may_refuse_writing};
+ghost use Rattle.std.specs.{Prelude.refl, String.string_bytes};
+ghost use Rattle.pagable_model.specs.{Carried.path_text, Gives.memory, Gives.long_or, Meaning.text, Standing.Is, Causes.memory_is_own_reading, Causes.text_may_refuse_writing};
 
 use crate::impls::boxed_texts::serialize_str;
 use crate::traits::{Carried, OneMeaning, PagableDeserialize, PagableSerialize};
-use pagable_codec::deserializer::PagableDeserializer;
-use pagable_codec::env::Env;
-use pagable_codec::serializer::PagableSerializer;
+use pagable_codec::{Env, PagableDeserializer, PagableSerializer};
 use pagable_flavors::Error;
 use std::alloc::Global;
 

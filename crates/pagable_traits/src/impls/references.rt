@@ -1,16 +1,10 @@
 //! Values that are lent, and marks of a type, of which there is nothing to write.
 
 ghost use Rattle.std.specs.Prelude.{refl};
-ghost use Rattle.pagable_model.specs.Gives.{never};
-ghost use Rattle.pagable_model.specs.Meaning.{none};
-ghost use Rattle.pagable_model.specs.Shape.{nothing};
-ghost use Rattle.pagable_model.specs.Standing.{Is};
-ghost use Rattle.pagable_model.specs.Causes.{never_is_own_reading, never_may_refuse_writing};
+ghost use Rattle.pagable_model.specs.{Gives.never, Meaning.none, Shape.nothing, Standing.Is, Causes.never_is_own_reading, Causes.never_may_refuse_writing};
 
 use crate::traits::{Carried, OneMeaning, PagableDeserialize, PagableSerialize};
-use pagable_codec::deserializer::PagableDeserializer;
-use pagable_codec::env::Env;
-use pagable_codec::serializer::PagableSerializer;
+use pagable_codec::{Env, PagableDeserializer, PagableSerializer};
 use pagable_flavors::Error;
 use std::alloc::Global;
 use std::marker::PhantomData;

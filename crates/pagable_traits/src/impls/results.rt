@@ -1,16 +1,11 @@
 //! Values that are a success or a failure.
 
-ghost use Rattle.pagable_model.specs.Carried.{of_result};
-ghost use Rattle.pagable_model.specs.Gives.{memory_or, either};
-ghost use Rattle.pagable_model.specs.Shape.{outcome};
-ghost use Rattle.pagable_model.specs.Causes.{memory_or_may_refuse_writing, either_is_own_reading, either_may_refuse_writing};
-ghost use Rattle.pagable_model.specs.Lifted.{MeansResult, result_has_meaning, result_is_meaning, result_single};
+ghost use Rattle.pagable_model.specs.{Carried.of_result, Gives.memory_or, Gives.either, Shape.outcome, Causes.memory_or_may_refuse_writing, Causes.either_is_own_reading};
+ghost use Rattle.pagable_model.specs.{Causes.either_may_refuse_writing, Lifted.MeansResult, Lifted.result_has_meaning, Lifted.result_is_meaning, Lifted.result_single};
 
 use crate::traits::{Carried, OneMeaning, PagableDeserialize, PagableSerialize};
-use pagable_codec::deserializer::PagableDeserializer;
-use pagable_codec::env::Env;
 use pagable_codec::parts::{read_flag, write_flag};
-use pagable_codec::serializer::PagableSerializer;
+use pagable_codec::{Env, PagableDeserializer, PagableSerializer};
 use pagable_flavors::Error;
 use std::alloc::Global;
 

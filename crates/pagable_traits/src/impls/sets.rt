@@ -1,22 +1,16 @@
 //! Sets.
 
-ghost use Rattle.std.specs.Prelude.{◌≡◌, ◌≤◌, map};
-ghost use Rattle.std.specs.BTreeSet.{insert_key};
+ghost use Rattle.std.specs.{Prelude.◌≡◌, Prelude.◌≤◌, Prelude.map, BTreeSet.insert_key};
+ghost use Rattle.pagable_model.specs.{Gives.memory_or, Gives.long_or, Meaning.sequence, Shape.sorted_set, Shape.placed_set, Causes.memory_or_is_own_reading, Causes.memory_or_may_refuse_writing};
+ghost use Rattle.pagable_model.specs.{Causes.long_or_may_refuse_writing, Lifted.MeansList, Lifted.list_has_meaning, Lifted.list_is_meaning, Lifted.list_single};
 ghost use Rattle.indexmap.specs.IndexSet as placed;
-ghost use Rattle.pagable_model.specs.Gives.{memory_or, long_or};
-ghost use Rattle.pagable_model.specs.Meaning.{sequence};
-ghost use Rattle.pagable_model.specs.Shape.{sorted_set, placed_set};
-ghost use Rattle.pagable_model.specs.Causes.{memory_or_is_own_reading, memory_or_may_refuse_writing, long_or_may_refuse_writing};
-ghost use Rattle.pagable_model.specs.Lifted.{MeansList, list_has_meaning, list_is_meaning, list_single};
 
 use crate::impls::collecting::{Collects, read_collected};
 use crate::impls::walks::write_counted;
 use crate::keys::{PagableKey, PagableOrdKey};
 use crate::traits::{Carried, OneMeaning, PagableDeserialize, PagableSerialize};
 use indexmap::IndexSet;
-use pagable_codec::deserializer::PagableDeserializer;
-use pagable_codec::env::Env;
-use pagable_codec::serializer::PagableSerializer;
+use pagable_codec::{Env, PagableDeserializer, PagableSerializer};
 use pagable_flavors::Error;
 use std::alloc::Global;
 use std::collections::BTreeSet;

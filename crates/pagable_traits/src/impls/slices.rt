@@ -1,19 +1,13 @@
 //! Slices, and lists that are kept in another way than in a `Vec`.
 
-ghost use Rattle.std.specs.Prelude.{◌≡◌, map, OnOk, IfErr};
-ghost use Rattle.std.specs.Box.{boxed_slice_items};
-ghost use Rattle.pagable_model.specs.Gives.{memory_or, long_or};
-ghost use Rattle.pagable_model.specs.Meaning.{sequence};
-ghost use Rattle.pagable_model.specs.Shape.{list, run};
-ghost use Rattle.pagable_model.specs.Writing.{nesting, WritesSome, Refused, Grows};
-ghost use Rattle.pagable_model.specs.Causes.{memory_or_is_own_reading, memory_or_may_refuse_writing, long_or_may_refuse_writing};
-ghost use Rattle.pagable_model.specs.Lifted.{MeansList, list_has_meaning, list_is_meaning, list_single};
+ghost use Rattle.std.specs.{Prelude.◌≡◌, Prelude.map, Prelude.OnOk, Prelude.IfErr, Box.boxed_slice_items};
+ghost use Rattle.pagable_model.specs.{Gives.memory_or, Gives.long_or, Meaning.sequence, Shape.list, Shape.run, Writing.nesting, Writing.WritesSome, Writing.Refused, Writing.Grows};
+ghost use Rattle.pagable_model.specs.{Causes.memory_or_is_own_reading, Causes.memory_or_may_refuse_writing, Causes.long_or_may_refuse_writing, Lifted.MeansList, Lifted.list_has_meaning};
+ghost use Rattle.pagable_model.specs.{Lifted.list_is_meaning, Lifted.list_single};
 
 use crate::impls::lists::{serialize_slice, write_items};
 use crate::traits::{Carried, OneMeaning, PagableDeserialize, PagableSerialize};
-use pagable_codec::deserializer::PagableDeserializer;
-use pagable_codec::env::Env;
-use pagable_codec::serializer::PagableSerializer;
+use pagable_codec::{Env, PagableDeserializer, PagableSerializer};
 use pagable_flavors::Error;
 use std::alloc::Global;
 use std::boxed::BoxedSlice;

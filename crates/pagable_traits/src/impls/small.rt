@@ -1,18 +1,13 @@
 //! Lists whose first items are kept in the value.
 
 ghost use Rattle.std.specs.Prelude.{◌≡◌, ◌++◌, ◌∷◌, [], map, max};
-ghost use Rattle.pagable_model.specs.Gives.{memory_or, long_or};
-ghost use Rattle.pagable_model.specs.Meaning.{sequence};
-ghost use Rattle.pagable_model.specs.Shape.{list};
-ghost use Rattle.pagable_model.specs.Causes.{memory_or_is_own_reading, memory_or_may_refuse_writing, long_or_may_refuse_writing};
-ghost use Rattle.pagable_model.specs.Lifted.{MeansList, list_has_meaning, list_is_meaning, list_single};
+ghost use Rattle.pagable_model.specs.{Gives.memory_or, Gives.long_or, Meaning.sequence, Shape.list, Causes.memory_or_is_own_reading, Causes.memory_or_may_refuse_writing};
+ghost use Rattle.pagable_model.specs.{Causes.long_or_may_refuse_writing, Lifted.MeansList, Lifted.list_has_meaning, Lifted.list_is_meaning, Lifted.list_single};
 
 use crate::impls::collecting::{Collects, read_collected};
 use crate::impls::lists::serialize_slice;
 use crate::traits::{Carried, OneMeaning, PagableDeserialize, PagableSerialize};
-use pagable_codec::deserializer::PagableDeserializer;
-use pagable_codec::env::Env;
-use pagable_codec::serializer::PagableSerializer;
+use pagable_codec::{Env, PagableDeserializer, PagableSerializer};
 use pagable_flavors::Error;
 use smallvec::SmallVec;
 use std::alloc::Global;

@@ -1,19 +1,11 @@
 //! Texts.
 
-ghost use Rattle.std.specs.Prelude.{refl};
-ghost use Rattle.std.specs.String.{string_bytes};
-ghost use Rattle.pagable_model.specs.Gives.{memory, long_or};
-ghost use Rattle.pagable_model.specs.Shape.{text};
-ghost use Rattle.pagable_model.specs.Meaning.{text as text_meaning};
-ghost use Rattle.pagable_model.specs.Standing.{Is};
-ghost use Rattle.pagable_model.specs.Causes.{memory_is_own_reading, text_may_refuse_writing};
+ghost use Rattle.std.specs.{Prelude.refl, String.string_bytes};
+ghost use Rattle.pagable_model.specs.{Gives.memory, Gives.long_or, Shape.text, Meaning.text as text_meaning, Standing.Is, Causes.memory_is_own_reading, Causes.text_may_refuse_writing};
 
 use crate::impls::boxed_texts::serialize_str;
 use crate::traits::{Carried, OneMeaning, PagableDeserialize, PagableSerialize};
-use pagable_codec::deserializer::PagableDeserializer;
-use pagable_codec::env::Env;
-use pagable_codec::reader::Reader;
-use pagable_codec::serializer::PagableSerializer;
+use pagable_codec::{Env, PagableDeserializer, PagableSerializer, Reader};
 use pagable_flavors::Error;
 use std::alloc::Global;
 

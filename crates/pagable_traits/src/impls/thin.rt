@@ -1,17 +1,13 @@
 //! A header with a list behind it.
 
 ghost use Rattle.std.specs.Prelude.{map};
-ghost use Rattle.pagable_model.specs.Carried.{thin};
-ghost use Rattle.pagable_model.specs.Gives.{memory_or, either, long_or};
-ghost use Rattle.pagable_model.specs.Meaning.{pair, sequence};
-ghost use Rattle.pagable_model.specs.Causes.{memory_or_is_own_reading, memory_or_may_refuse_writing, long_or_may_refuse_writing, either_is_own_reading, either_may_refuse_writing};
 ghost use Rattle.pagable_model.specs.Lifted.{MeansList, MeansPair, list_has_meaning, list_is_meaning, list_single, pair_has_meaning, pair_is_meaning, pair_single};
+ghost use Rattle.pagable_model.specs.{Carried.thin, Gives.memory_or, Gives.either, Gives.long_or, Meaning.pair, Meaning.sequence, Causes.memory_or_is_own_reading};
+ghost use Rattle.pagable_model.specs.{Causes.memory_or_may_refuse_writing, Causes.long_or_may_refuse_writing, Causes.either_is_own_reading, Causes.either_may_refuse_writing};
 
 use crate::impls::maps::write_entry;
 use crate::traits::{Carried, OneMeaning, PagableDeserialize, PagableSerialize};
-use pagable_codec::deserializer::PagableDeserializer;
-use pagable_codec::env::Env;
-use pagable_codec::serializer::PagableSerializer;
+use pagable_codec::{Env, PagableDeserializer, PagableSerializer};
 use pagable_flavors::Error;
 use std::alloc::Global;
 

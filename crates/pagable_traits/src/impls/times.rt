@@ -1,19 +1,11 @@
 //! Spans of time.
 
 ghost use Rattle.std.specs.Prelude.{◌≡◌, ◌++◌, ◌<◌, ◌^◌, OnOk, IfErr, refl};
-ghost use Rattle.pagable_model.specs.Basic.{duration_at, duration_form};
-ghost use Rattle.pagable_model.specs.Gives.{Gives, never, memory, Extends};
-ghost use Rattle.pagable_model.specs.Shape.{duration};
-ghost use Rattle.pagable_model.specs.Standing.{Is};
-ghost use Rattle.pagable_model.specs.Track.{left, GoesOn};
-ghost use Rattle.pagable_model.specs.Causes.{never_is_own_reading, memory_may_refuse_writing};
-ghost use Rattle.pagable_model.specs.Spans.{of_span, seconds_of, nanos_of};
+ghost use Rattle.pagable_model.specs.{Basic.duration_at, Basic.duration_form, Gives.Gives, Gives.never, Gives.memory, Gives.Extends, Shape.duration, Standing.Is, Track.left, Track.GoesOn};
+ghost use Rattle.pagable_model.specs.{Causes.never_is_own_reading, Causes.memory_may_refuse_writing, Spans.of_span, Spans.seconds_of, Spans.nanos_of};
 
 use crate::traits::{Carried, OneMeaning, PagableDeserialize, PagableSerialize};
-use pagable_codec::deserializer::PagableDeserializer;
-use pagable_codec::env::Env;
-use pagable_codec::reader::Reader;
-use pagable_codec::serializer::PagableSerializer;
+use pagable_codec::{Env, PagableDeserializer, PagableSerializer, Reader};
 use pagable_flavors::{Error, PagableVecFlavor};
 use std::alloc::Global;
 use std::time::Duration;

@@ -1,16 +1,11 @@
 //! Tuples of three to five values: each is written and read as its first value and the tuple of the others.
 
-ghost use Rattle.pagable_model.specs.Gives.{either};
-ghost use Rattle.pagable_model.specs.Meaning.{pair};
-ghost use Rattle.pagable_model.specs.Shape.{both};
-ghost use Rattle.pagable_model.specs.Causes.{either_is_own_reading, either_may_refuse_writing};
-ghost use Rattle.pagable_model.specs.Lifted.{MeansPair, pair_has_meaning, pair_is_meaning, pair_single};
+ghost use Rattle.pagable_model.specs.{Gives.either, Meaning.pair, Shape.both, Causes.either_is_own_reading, Causes.either_may_refuse_writing, Lifted.MeansPair, Lifted.pair_has_meaning};
+ghost use Rattle.pagable_model.specs.{Lifted.pair_is_meaning, Lifted.pair_single};
 
 use crate::impls::maps::write_entry;
 use crate::traits::{Carried, OneMeaning, PagableDeserialize, PagableSerialize};
-use pagable_codec::deserializer::PagableDeserializer;
-use pagable_codec::env::Env;
-use pagable_codec::serializer::PagableSerializer;
+use pagable_codec::{Env, PagableDeserializer, PagableSerializer};
 use pagable_flavors::Error;
 use std::alloc::Global;
 

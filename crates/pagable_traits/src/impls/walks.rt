@@ -1,15 +1,12 @@
 //! Items that a walk yields, written one after another: those of lists, maps and sets.
 
-ghost use Rattle.std.specs.Prelude.{◌≡◌, OnOk, IfErr};
-ghost use Rattle.std.specs.Iterator.{IsFinite};
-ghost use Rattle.pagable_model.specs.Gives.{memory_or, long_or};
-ghost use Rattle.pagable_model.specs.Writing.{nesting, Grows};
+ghost use Rattle.std.specs.{Prelude.◌≡◌, Prelude.OnOk, Prelude.IfErr, Iterator.IsFinite};
+ghost use Rattle.pagable_model.specs.{Gives.memory_or, Gives.long_or, Writing.nesting, Writing.Grows};
 ghost use Rattle.pagable_traits.specs.Walks.{WritesEach, WritesCounted, RefusedAmong, RefusedCounted};
 
 use crate::traits::PagableSerialize;
-use pagable_codec::env::Env;
 use pagable_codec::parts::write_count;
-use pagable_codec::serializer::PagableSerializer;
+use pagable_codec::{Env, PagableSerializer};
 use pagable_flavors::Error;
 
 /// Writes each item that a walk yields, without their count. A refusal is that of the first item that is refused.

@@ -1,9 +1,9 @@
 //! Numbers, characters, flags, `()` and marks of a type as keys.
 
-ghost use Rattle.std.specs.Prelude.{refl};
-ghost use Rattle.std.specs.Int.{w8, w16, w32, w64, w128};
-ghost use Rattle.pagable_model.specs.Keys.{number_order, integer_order, flag_order, nothing_order};
-ghost use Rattle.pagable_model.specs.Keyed.{unsigned_refers_to_nothing, signed_refers_to_nothing, letter_refers_to_nothing, flag_refers_to_nothing, nothing_refers_to_nothing, number_is_same, integer_is_same, flag_is_same, nothing_is_same, number_is_ordered, integer_is_ordered, flag_is_ordered};
+ghost use Rattle.std.specs.{Prelude.refl, Int.w8, Int.w16, Int.w32, Int.w64, Int.w128};
+ghost use Rattle.pagable_model.specs.Keyed.{unsigned_refers_to_nothing, signed_refers_to_nothing, letter_refers_to_nothing, flag_refers_to_nothing, nothing_refers_to_nothing, number_is_same};
+ghost use Rattle.pagable_model.specs.Keyed.{integer_is_same, flag_is_same, nothing_is_same, number_is_ordered, integer_is_ordered, flag_is_ordered};
+ghost use Rattle.pagable_model.specs.{Keys.number_order, Keys.integer_order, Keys.flag_order, Keys.nothing_order};
 
 use crate::keys::{PagableKey, PagableOrdKey};
 use pagable_codec::env::Env;

@@ -1,9 +1,7 @@
 //! Texts as keys, in the order of their bytes.
 
-ghost use Rattle.std.specs.Box.{boxed_str_bytes};
-ghost use Rattle.std.specs.String.{string_bytes};
-ghost use Rattle.pagable_model.specs.Keys.{text_order};
-ghost use Rattle.pagable_model.specs.Keyed.{text_refers_to_nothing, text_is_same, text_is_ordered};
+ghost use Rattle.std.specs.{Box.boxed_str_bytes, String.string_bytes};
+ghost use Rattle.pagable_model.specs.{Keys.text_order, Keyed.text_refers_to_nothing, Keyed.text_is_same, Keyed.text_is_ordered};
 
 use crate::impls::paths::PathText;
 use crate::keys::{PagableKey, PagableOrdKey};

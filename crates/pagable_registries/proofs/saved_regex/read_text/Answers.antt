@@ -1,5 +1,4 @@
-use Rattle.pagable_model.specs.Meaning.{pattern}
-use Rattle.pagable_model.specs.Standing.{Is, handles_at}
+use Rattle.pagable_model.specs.{Meaning.pattern, Standing.Is, Standing.handles_at}
 use Rattle.std.specs.String.{string_bytes}
 use Rattle.pagable_registries.proofs.Patterns.{gives_pattern, text_not_refused}
 use Rattle.pagable_registries.proofs.saved_regex.read_text.Goals as goal

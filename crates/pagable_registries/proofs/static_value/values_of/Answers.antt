@@ -1,5 +1,4 @@
-use Rattle.std.proofs.Common.{map, ap, ◌∙◌}
-use Rattle.std.proofs.lemmas.List.{take_all}
+use Rattle.std.proofs.{Common.map, Common.ap, Common.◌∙◌, lemmas.List.take_all}
 use Rattle.pagable_registries.proofs.Statics.{values_more}
 use Rattle.pagable_registries.proofs.static_value.values_of.Goals as goal
 

@@ -1,6 +1,5 @@
 use Rattle.std.proofs.Common.{◌≡◌, ◌+◌, ◌-◌, length, true, false, arith, rules}
-use Rattle.std.specs.Str.{bytes_eq}
-use Rattle.std.specs.String.{string_bytes}
+use Rattle.std.specs.{Str.bytes_eq, String.string_bytes}
 use Rattle.pagable_registries.proofs.Tagged.{is_last, none_from_less, none_past}
 use Rattle.pagable_registries.proofs.typetag.last_reader.Goals as goal
 

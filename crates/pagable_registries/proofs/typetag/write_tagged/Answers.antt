@@ -1,5 +1,4 @@
-use Rattle.std.proofs.Common.{◌∙◌, Err}
-use Rattle.std.proofs.lemmas.Result.{err_from_is_err_and}
+use Rattle.std.proofs.{Common.◌∙◌, Common.Err, lemmas.Result.err_from_is_err_and}
 use Rattle.pagable_model.specs.Writing.{nesting}
 use Rattle.pagable_codec.proofs.Writing.{grows_trans}
 use Rattle.pagable_traits.proofs.Parts.{where_ok, only-count, only_parts}

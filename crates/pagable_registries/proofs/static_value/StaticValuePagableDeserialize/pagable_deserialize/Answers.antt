@@ -1,8 +1,5 @@
-use Rattle.std.proofs.Common.{refl}
-use Rattle.std.proofs.lemmas.Result.{err_from_is_err_and}
-use Rattle.pagable_model.specs.Meaning.{lifted}
-use Rattle.pagable_model.specs.Statics.{meanings_of}
-use Rattle.pagable_model.specs.Standing.{handles_at}
+use Rattle.std.proofs.{Common.refl, lemmas.Result.err_from_is_err_and}
+use Rattle.pagable_model.specs.{Meaning.lifted, Statics.meanings_of, Standing.handles_at}
 use Rattle.pagable_registries.proofs.Statics.{static_unread, static_refused, static_read}
 use Rattle.pagable_registries.proofs.static_value.StaticValuePagableDeserialize.pagable_deserialize.Goals as goal
 

@@ -1,6 +1,5 @@
 use Rattle.std.proofs.Common.{◌≡◌, ◌∙◌, List, length, map, ap, arith, subst, rules}
-use Rattle.std.proofs.lemmas.List.{length-map}
-use Rattle.std.proofs.lemmas.List.Sorted.{length_permutation}
+use Rattle.std.proofs.{lemmas.List.length-map, lemmas.List.Sorted.length_permutation}
 use Rattle.std.specs.List.Sorted.{IsStable}
 use Rattle.pagable_registries.proofs.static_value.StaticValueRegistry.from_entries.Goals as goal
 

@@ -1,8 +1,6 @@
-use Rattle.std.proofs.Common.{◌∙◌}
-use Rattle.std.proofs.lemmas.Result.{err_from_is_err_and}
+use Rattle.std.proofs.{Common.◌∙◌, lemmas.Result.err_from_is_err_and}
 use Rattle.pagable_codec.proofs.Reading.{moves_trans}
-use Rattle.pagable_model.specs.Standing.{handles_at}
-use Rattle.pagable_model.specs.Tagged.{grammars}
+use Rattle.pagable_model.specs.{Standing.handles_at, Tagged.grammars}
 use Rattle.pagable_registries.proofs.Tagged.{no_tag_read, unknown_read, no_body_read, tagged_read}
 use Rattle.pagable_registries.proofs.typetag.TypetagRegistry.deserialize_tagged.Goals as goal
 

@@ -1,8 +1,7 @@
-use Rattle.std.proofs.Common.{refl}
-use Rattle.pagable_model.specs.Meaning as meanings
+use Rattle.pagable_traits.proofs.Words.{refl}
 use Rattle.pagable_codec.proofs.Writing.{refused_text, only_long}
-use Rattle.pagable_traits.proofs.Basics.{wrote_on}
-use Rattle.pagable_traits.proofs.Joined.{writes_str}
+use Rattle.pagable_traits.proofs.{Basics.wrote_on, Joined.writes_str}
+use Rattle.pagable_model.specs.Meaning as meanings
 use Rattle.pagable_traits.proofs.impls.boxed_texts.serialize_str.Goals as goal
 
 pub returns : goal.returns

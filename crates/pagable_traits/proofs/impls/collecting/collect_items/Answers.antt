@@ -1,10 +1,5 @@
-use Rattle.std.proofs.Common.{inl, inr, ◌∙◌, ◌++◌, ◌∷◌, []}
-use Rattle.std.proofs.lemmas.Result.{err_from_is_err_and}
-use Rattle.pagable_model.specs.Reading.{items, read}
-use Rattle.pagable_model.specs.Standing.{handles_at}
-use Rattle.pagable_traits.proofs.Items.{starts, goes_on, ends, is_done}
-use Rattle.pagable_traits.proofs.Collecting.{collected_none, collected_more}
-use Rattle.pagable_codec.proofs.Reading.{moves_trans}
+use Rattle.pagable_traits.proofs.Words.{inl, inr, ◌∙◌, ◌++◌, ◌∷◌, [], err_from_is_err_and, items, read, handles_at, moves_trans}
+use Rattle.pagable_traits.proofs.{Items.starts, Items.goes_on, Items.ends, Items.is_done, Collecting.collected_none, Collecting.collected_more}
 use Rattle.pagable_traits.proofs.impls.collecting.collect_items.Goals as goal
 
 pub loop-index-init : goal.loop-index-init

@@ -1,9 +1,4 @@
-use Rattle.std.proofs.Common.{◌≡◌, ◌-◌, List}
-use Rattle.pagable_model.specs.declared.numbers.ArcRef.{ArcRef}
-use Rattle.pagable_model.specs.Meaning.{Meaning}
-use Rattle.pagable_model.specs.Reading.{items, read}
-use Rattle.pagable_model.specs.Standing.{handles_at, MovesOn}
-use Rattle.pagable_model.specs.Collected.{Collected}
+use Rattle.pagable_traits.proofs.Words.{◌≡◌, ◌-◌, List, ArcRef, Meaning, items, read, handles_at, MovesOn, Collected}
 use Rattle.pagable_traits.proofs.Items.{with_front}
 use Rattle.pagable_traits.proofs.impls.collecting.collect_items.Given as goal
 

@@ -1,9 +1,5 @@
-use Rattle.std.proofs.lemmas.Result.{err_from_is_err_and}
-use Rattle.pagable_model.specs.Gives.{memory_or}
-use Rattle.pagable_model.specs.Reading.{read}
-use Rattle.pagable_model.specs.Standing.{handles_at}
-use Rattle.pagable_traits.proofs.Collecting.{uncounted, gives_counted}
-use Rattle.pagable_traits.proofs.InTurn.{then-tells}
+use Rattle.pagable_traits.proofs.Words.{err_from_is_err_and, memory_or, read, handles_at}
+use Rattle.pagable_traits.proofs.{Collecting.uncounted, Collecting.gives_counted, InTurn.then-tells}
 use Rattle.pagable_traits.proofs.impls.collecting.read_collected.Goals as goal
 
 pub returns-in_err-count : goal.returns-in_err-count

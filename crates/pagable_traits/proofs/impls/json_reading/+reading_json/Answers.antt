@@ -1,17 +1,11 @@
-use Rattle.std.proofs.Common.{◌≡◌, ◌<◌, refl, rules, ◌∙◌, arith, inl}
-use Rattle.std.specs.BTreeMap.{insert_entry}
-use Rattle.serde_json.specs.declared.value.Value as values
-use Rattle.pagable_model.specs.Lifted.{MeansPair, mean-none}
-use Rattle.pagable_model.specs.Meaning.{variant, sequence}
-use Rattle.pagable_model.specs.Reading.{flag_case, number_case, text_case, array_case, object_case}
-use Rattle.pagable_model.specs.Standing.{Is}
-use Rattle.std.specs.String.{string_cmp}
-use Rattle.pagable_codec.proofs.Reading.{moves_trans, moves_refl}
-use Rattle.pagable_traits.specs.JsonData.{of_value, of_key}
-use Rattle.pagable_traits.proofs.Collecting.{collected_none, collected_more}
-use Rattle.pagable_traits.proofs.Items.{mean_last}
+use Rattle.pagable_traits.proofs.Words.{◌≡◌, ◌<◌, refl, rules, ◌∙◌, arith, inl, insert_entry, MeansPair, mean-none, variant, sequence, flag_case, number_case, text_case, array_case, object_case}
+use Rattle.pagable_traits.proofs.Words.{Is, string_cmp, moves_trans, of_value, of_key}
+use Rattle.pagable_codec.proofs.Reading.{moves_refl}
 use Rattle.pagable_traits.proofs.JsonSteps.{read-err, read-no-memory, read-then, read-below, read-deep, none-so-far, one-more, refused-so-far, all-read, seen-same}
-use Rattle.pagable_traits.proofs.JsonRead.{case-unread, case-unknown, null-read, case-then, array-unread, array-deep, array-seen, is-array, object-unread, object-deep, object-read, key-refused, value-refused, member-read}
+use Rattle.pagable_traits.proofs.JsonRead.{case-unread, case-unknown, null-read, case-then, array-unread, array-deep, array-seen, is-array, object-unread, object-deep, object-read, key-refused}
+use Rattle.pagable_traits.proofs.JsonRead.{value-refused, member-read}
+use Rattle.pagable_traits.proofs.{Collecting.collected_none, Collecting.collected_more, Items.mean_last}
+use Rattle.serde_json.specs.declared.value.Value as values
 use Rattle.pagable_traits.proofs.impls.json_reading.+reading_json.Goals as goal
 
 pub read_value-returns-in_err-case : goal.read_value-returns-in_err-case

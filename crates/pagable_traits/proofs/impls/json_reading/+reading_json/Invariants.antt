@@ -1,12 +1,4 @@
-use Rattle.std.proofs.Common.{◌≡◌, ◌+◌, ◌-◌, ◌*◌}
-use Rattle.std.specs.BTreeMap.{insert_entry}
-use Rattle.std.specs.String.{string_cmp}
-use Rattle.pagable_model.specs.Collected.{Collected}
-use Rattle.pagable_model.specs.Lifted.{MeanAll, MeansPair}
-use Rattle.pagable_model.specs.Reading.{deepest, read}
-use Rattle.pagable_model.specs.Shape.{both, json, text}
-use Rattle.pagable_model.specs.Standing.{Is}
-use Rattle.pagable_traits.specs.JsonData.{of_key, of_value}
+use Rattle.pagable_traits.proofs.Words.{◌≡◌, ◌+◌, ◌-◌, ◌*◌, insert_entry, string_cmp, Collected, MeanAll, MeansPair, deepest, read, both, json, text, Is, of_key, of_value}
 use Rattle.pagable_traits.proofs.JsonSteps.{SoFar}
 use Rattle.pagable_traits.proofs.impls.json_reading.+reading_json.Given as goal
 

@@ -1,7 +1,6 @@
-use Rattle.pagable_model.specs.Meaning.{variant}
+use Rattle.pagable_traits.proofs.Words.{variant}
+use Rattle.pagable_traits.proofs.{JsonSteps.read-as, JsonSteps.read-err, JsonSteps.through, JsonRead.is-flag, JsonRead.flag-seen}
 use Rattle.serde_json.specs.declared.value.Value as values
-use Rattle.pagable_traits.proofs.JsonSteps.{read-as, read-err, through}
-use Rattle.pagable_traits.proofs.JsonRead.{is-flag, flag-seen}
 use Rattle.pagable_traits.proofs.impls.json_reading.flag_part.Goals as goal
 
 pub returns-in_err-flag : goal.returns-in_err-flag

@@ -1,12 +1,5 @@
-use Rattle.std.proofs.Common.{rules, refl, inl}
-use Rattle.std.specs.Int.{w64}
-use Rattle.std.proofs.lemmas.Int.{to_z-of_z}
-use Rattle.pagable_model.specs.Meaning.{variant}
-use Rattle.pagable_model.specs.Reading.{read, seen}
-use Rattle.pagable_model.specs.Shape.{signed}
-use Rattle.pagable_traits.specs.JsonSteps.{context_in}
-use Rattle.pagable_traits.proofs.JsonSteps.{read-as, read-err, read-then}
-use Rattle.pagable_traits.proofs.JsonRead.{is-whole, float-seen, float-unread, whole-seen}
+use Rattle.pagable_traits.proofs.Words.{rules, refl, inl, w64, to_z-of_z, variant, read, seen, signed, context_in}
+use Rattle.pagable_traits.proofs.{JsonSteps.read-as, JsonSteps.read-err, JsonSteps.read-then, JsonRead.is-whole, JsonRead.float-seen, JsonRead.float-unread, JsonRead.whole-seen}
 use Rattle.pagable_traits.proofs.impls.json_reading.number_part.Goals as goal
 
 pub returns-in_err-float : goal.returns-in_err-float

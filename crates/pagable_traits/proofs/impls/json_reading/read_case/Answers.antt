@@ -1,5 +1,4 @@
-use Rattle.std.specs.Int.{w64}
-use Rattle.pagable_model.specs.Numbers.{unsigned_at}
+use Rattle.pagable_traits.proofs.Words.{w64, unsigned_at}
 use Rattle.pagable_codec.proofs.Reading.{part_read}
 use Rattle.pagable_traits.proofs.impls.json_reading.read_case.Goals as goal
 

@@ -1,11 +1,4 @@
-use Rattle.std.proofs.Common.{take, Result, Ok}
-use Rattle.pagable_model.specs.declared.error.Error.{Error}
-use Rattle.pagable_model.specs.Gives.{json_causes}
-use Rattle.pagable_model.specs.Lifted.{MeanAll}
-use Rattle.pagable_model.specs.Shape.{json}
-use Rattle.pagable_model.specs.Standing.{Is}
-use Rattle.pagable_traits.specs.JsonData.{of_value}
-use Rattle.pagable_traits.specs.JsonSteps.{Wrote, all}
+use Rattle.pagable_traits.proofs.Words.{take, Result, Ok, Error, json_causes, MeanAll, json, Is, of_value, Wrote, all}
 use Rattle.pagable_traits.proofs.JsonWritten.{members-so-far}
 use Rattle.pagable_traits.proofs.impls.json_writing.+writing_json.Given as goal
 

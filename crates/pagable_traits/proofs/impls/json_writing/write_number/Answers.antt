@@ -1,18 +1,7 @@
-use Rattle.std.proofs.Common.{◌≡◌, Some, None, Result, Ok, Err, rules, refl, inl, inr, [], ◌∷◌}
-use Rattle.std.specs.Int.{w64}
-use Rattle.std.proofs.lemmas.Int.{to_z-of_z}
-use Rattle.std.specs.Prelude.{Option, ℤ}
-use Rattle.serde_json.specs.Find.{as_i64}
-use Rattle.serde_json.specs.View.{number_view}
-use Rattle.pagable_model.specs.declared.error.Error.{Error}
+use Rattle.pagable_traits.proofs.Words.{◌≡◌, Some, None, Result, Ok, Err, rules, refl, inl, inr, [], ◌∷◌, w64, to_z-of_z, Option, ℤ, as_i64, number_view, Error, memory, integer, signed, Is}
+use Rattle.pagable_traits.proofs.Words.{grows_refl}
+use Rattle.pagable_traits.proofs.{JsonSteps.as-bytes, JsonSteps.as-form, JsonWritten.bytes-err, JsonWritten.two-bytes, JsonWritten.number-wrote, JsonWritten.refuses-number}
 use Rattle.pagable_model.specs.declared.error.Error.TheVariants as errors
-use Rattle.pagable_model.specs.Gives.{memory}
-use Rattle.pagable_model.specs.Meaning.{integer}
-use Rattle.pagable_model.specs.Shape.{signed}
-use Rattle.pagable_model.specs.Standing.{Is}
-use Rattle.pagable_codec.proofs.Writing.{grows_refl}
-use Rattle.pagable_traits.proofs.JsonSteps.{as-bytes, as-form}
-use Rattle.pagable_traits.proofs.JsonWritten.{bytes-err, two-bytes, number-wrote, refuses-number}
 use Rattle.pagable_traits.proofs.impls.json_writing.write_number.Goals as goal
 
 pub returns-in_default : goal.returns-in_default

@@ -1,9 +1,5 @@
-use Rattle.pagable_model.specs.Gives.{memory, long_or}
-use Rattle.pagable_model.specs.Shape.{text}
-use Rattle.pagable_model.specs.Standing.{Is}
-use Rattle.pagable_traits.specs.JsonData.{of_key}
-use Rattle.pagable_traits.proofs.JsonSteps.{as-form}
-use Rattle.pagable_traits.proofs.JsonWritten.{bytes-err, text-wrote}
+use Rattle.pagable_traits.proofs.Words.{memory, long_or, text, Is, of_key}
+use Rattle.pagable_traits.proofs.{JsonSteps.as-form, JsonWritten.bytes-err, JsonWritten.text-wrote}
 use Rattle.pagable_traits.proofs.impls.json_writing.write_text.Goals as goal
 
 pub returns-in_err-write_case : goal.returns-in_err-write_case

@@ -1,6 +1,4 @@
-use Rattle.pagable_model.specs.Gives.{memory_or}
-use Rattle.pagable_model.specs.Reading.{items, read}
-use Rattle.pagable_model.specs.Standing.{handles_at}
+use Rattle.pagable_traits.proofs.Words.{memory_or, items, read, handles_at}
 use Rattle.pagable_traits.proofs.Collecting.{gives_along, collected_list, list_length}
 use Rattle.pagable_traits.proofs.impls.lists.read_items.Goals as goal
 

@@ -1,5 +1,4 @@
-use Rattle.pagable_traits.proofs.Walks.{shows_slice, written_each, refused_each}
-use Rattle.pagable_traits.proofs.InTurn.{owed}
+use Rattle.pagable_traits.proofs.{Walks.shows_slice, Walks.written_each, Walks.refused_each, InTurn.owed}
 use Rattle.pagable_traits.proofs.impls.lists.write_items.Goals as goal
 
 pub returns : goal.returns

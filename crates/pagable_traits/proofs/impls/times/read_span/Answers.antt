@@ -1,5 +1,4 @@
-use Rattle.std.proofs.Common.{arith, inl}
-use Rattle.std.proofs.lemmas.Result.{err_from_is_err_and}
+use Rattle.pagable_traits.proofs.Words.{arith, inl, err_from_is_err_and}
 use Rattle.pagable_traits.proofs.Times.{seconds_refused, nanos_refused, span_overflows, span_read}
 use Rattle.pagable_traits.proofs.impls.times.read_span.Goals as goal
 

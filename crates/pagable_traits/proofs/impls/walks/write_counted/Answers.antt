@@ -1,7 +1,5 @@
-use Rattle.std.proofs.Common.{inl}
-use Rattle.std.proofs.lemmas.Result.{err_from_is_err_and}
-use Rattle.pagable_traits.proofs.Parts.{only-count}
-use Rattle.pagable_traits.proofs.InTurn.{each-after}
+use Rattle.pagable_traits.proofs.Words.{inl, err_from_is_err_and}
+use Rattle.pagable_traits.proofs.{Parts.only-count, InTurn.each-after}
 use Rattle.pagable_traits.proofs.impls.walks.write_counted.Goals as goal
 
 pub returns-in_err-write_count : goal.returns-in_err-write_count

@@ -1,9 +1,5 @@
-use Rattle.std.proofs.Common.{refl, ◌∙◌}
-use Rattle.std.proofs.lemmas.Result.{err_from_is_err_and}
-use Rattle.pagable_model.specs.Writing.{nesting}
-use Rattle.pagable_codec.proofs.Writing.{grows_trans}
-use Rattle.pagable_traits.proofs.Items.{writes_no_items, grows_some_all}
-use Rattle.pagable_traits.proofs.Maps.{writes-next}
+use Rattle.pagable_traits.proofs.Words.{refl, ◌∙◌, err_from_is_err_and, nesting, grows_trans}
+use Rattle.pagable_traits.proofs.{Items.writes_no_items, Items.grows_some_all, Maps.writes-next}
 use Rattle.pagable_traits.proofs.impls.walks.write_each.Goals as goal
 
 pub loop-item-init : goal.loop-item-init

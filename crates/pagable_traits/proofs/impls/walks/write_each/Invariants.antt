@@ -1,6 +1,4 @@
-use Rattle.std.proofs.Common.{◌≡◌}
-use Rattle.pagable_model.specs.Writing.{nesting, WritesSomeAll}
-use Rattle.pagable_model.specs.Lifted.{MeanAll}
+use Rattle.pagable_traits.proofs.Words.{◌≡◌, nesting, WritesSomeAll, MeanAll}
 use Rattle.pagable_traits.proofs.impls.walks.write_each.Given as goal
 
 abbrev pub invariant-loop-item : goal.invariant-loop-item

@@ -1,6 +1,4 @@
-use Rattle.std.proofs.lemmas.Result.{err_from_is_err_and}
-use Rattle.pagable_model.specs.Gives.{memory_or}
-use Rattle.pagable_model.specs.Standing.{handles_at}
+use Rattle.pagable_traits.proofs.Words.{err_from_is_err_and, memory_or, handles_at}
 use Rattle.pagable_traits.proofs.Joined.{array_refused, gave_array}
 use Rattle.pagable_traits.proofs.impls.arrays.ArrayPagableDeserialize.pagable_deserialize.Goals as goal
 
@@ -14,8 +12,6 @@ returns-in_err-values g c =
 
 pub returns : goal.returns
 returns g c =
-    let env = g.D.PagableDeserializer.environment c.args.deserializer.now in
-    let context = handles_at (g.D.PagableDeserializer.levels c.args.deserializer.now) (g.E.Env.parts env) in
     let same = rw c.unwrap.ensures at c.try_from.ensures in
     let told = c.in_ok-values.ensures in
-    record { gives = gave_array g.T.Carried.means _ c.in_ok-values.values.items context (g.T.Carried.shape env) _ _ _ same.0 told.gives; moves = told.moves; same_env = told.same_env; same_levels = told.same_levels }
+    record { gives = gave_array g.T.Carried.means _ c.in_ok-values.values.items _ _ _ _ _ same.0 told.gives; moves = told.moves; same_env = told.same_env; same_levels = told.same_levels }

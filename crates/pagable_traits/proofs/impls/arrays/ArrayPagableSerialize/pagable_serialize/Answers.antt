@@ -1,6 +1,5 @@
-use Rattle.pagable_model.specs.Writing.{nesting}
-use Rattle.pagable_traits.proofs.Joined.{writes_array, refused_array}
-use Rattle.pagable_traits.proofs.InTurn.{owed}
+use Rattle.pagable_traits.proofs.Words.{nesting}
+use Rattle.pagable_traits.proofs.{Joined.writes_array, Joined.refused_array, InTurn.owed}
 use Rattle.pagable_traits.proofs.impls.arrays.ArrayPagableSerialize.pagable_serialize.Goals as goal
 
 pub returns : goal.returns

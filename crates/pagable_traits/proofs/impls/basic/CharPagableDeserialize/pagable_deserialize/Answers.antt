@@ -1,5 +1,4 @@
-use Rattle.pagable_model.specs.Basic.{char_at}
-use Rattle.pagable_model.specs.Meaning.{number}
+use Rattle.pagable_traits.proofs.Words.{char_at, number}
 use Rattle.pagable_traits.proofs.Basics.{basic_read, letter_is}
 use Rattle.pagable_traits.proofs.impls.basic.CharPagableDeserialize.pagable_deserialize.Goals as goal
 

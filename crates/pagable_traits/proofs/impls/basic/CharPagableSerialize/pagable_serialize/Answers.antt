@@ -1,5 +1,4 @@
-use Rattle.pagable_model.specs.Meaning.{number}
-use Rattle.std.proofs.Common.{rules}
+use Rattle.pagable_traits.proofs.Words.{number, rules}
 use Rattle.pagable_model.specs.Form.{letter-form}
 use Rattle.pagable_traits.proofs.Basics.{basic_written}
 use Rattle.pagable_traits.proofs.impls.basic.CharPagableSerialize.pagable_serialize.Goals as goal

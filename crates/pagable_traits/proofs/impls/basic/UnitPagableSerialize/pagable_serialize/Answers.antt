@@ -1,4 +1,4 @@
-use Rattle.pagable_codec.proofs.Writing.{writes_nothing}
+use Rattle.pagable_traits.proofs.Words.{writes_nothing}
 use Rattle.pagable_traits.proofs.impls.basic.UnitPagableSerialize.pagable_serialize.Goals as goal
 
 pub returns-clause-ok : goal.returns-clause-ok

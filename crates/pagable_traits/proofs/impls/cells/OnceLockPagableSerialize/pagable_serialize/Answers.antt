@@ -1,5 +1,4 @@
-use Rattle.pagable_traits.proofs.Cells.{held_means}
-use Rattle.pagable_traits.proofs.Joined.{written_along}
+use Rattle.pagable_traits.proofs.{Cells.held_means, Joined.written_along}
 use Rattle.pagable_traits.proofs.impls.cells.OnceLockPagableSerialize.pagable_serialize.Goals as goal
 
 pub returns : goal.returns

@@ -1,4 +1,4 @@
-use Rattle.std.proofs.Common.{rules}
+use Rattle.pagable_traits.proofs.Words.{rules}
 use Rattle.pagable_traits.proofs.InTurn.{boxed-unread, tells}
 use Rattle.pagable_traits.proofs.impls.holders.BoxPagableDeserialize.pagable_deserialize.Goals as goal
 

@@ -1,13 +1,5 @@
-use Rattle.std.proofs.Common.{true, Some, None, inl, inr}
-use Rattle.std.proofs.lemmas.Result.{err_from_is_err_and}
-use Rattle.pagable_model.specs.Form.{some-form}
-use Rattle.pagable_model.specs.Meaning.{present}
-use Rattle.pagable_model.specs.Writing.{nesting}
-use Rattle.pagable_model.specs.Shape.{optional}
-use Rattle.pagable_model.specs.Lifted.{MeansOption, means-some}
-use Rattle.pagable_codec.proofs.Writing.{memory_refuses, refused_memory}
-use Rattle.pagable_traits.proofs.Joined.{flagged}
-use Rattle.pagable_traits.proofs.Parts.{where_ok, writes_absent, no-some, only_memory_or}
+use Rattle.pagable_traits.proofs.Words.{true, Some, None, inl, inr, err_from_is_err_and, some-form, present, nesting, optional, MeansOption, means-some, memory_refuses, refused_memory}
+use Rattle.pagable_traits.proofs.{Joined.flagged, Parts.where_ok, Parts.writes_absent, Parts.no-some, Parts.only_memory_or}
 use Rattle.pagable_traits.proofs.impls.holders.OptionPagableSerialize.pagable_serialize.Goals as goal
 
 pub returns-in_err-write_flag-in-Some : goal.returns-in_err-write_flag-in-Some

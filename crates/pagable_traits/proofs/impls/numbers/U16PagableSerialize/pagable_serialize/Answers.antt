@@ -1,7 +1,4 @@
-use Rattle.pagable_model.specs.Meaning.{number}
-use Rattle.std.specs.Int.{w16}
-use Rattle.std.proofs.Common.{rules}
-use Rattle.pagable_model.specs.Form.{unsigned-form}
+use Rattle.pagable_traits.proofs.Words.{number, w16, rules, unsigned-form}
 use Rattle.pagable_traits.proofs.Basics.{basic_written}
 use Rattle.pagable_traits.proofs.impls.numbers.U16PagableSerialize.pagable_serialize.Goals as goal
 

@@ -1,6 +1,4 @@
-use Rattle.std.specs.Int.{w32}
-use Rattle.pagable_model.specs.Numbers.{unsigned_at}
-use Rattle.pagable_model.specs.Meaning.{number}
+use Rattle.pagable_traits.proofs.Words.{w32, unsigned_at, number}
 use Rattle.pagable_traits.proofs.Basics.{basic_read, unsigned_is}
 use Rattle.pagable_traits.proofs.impls.numbers.U32PagableDeserialize.pagable_deserialize.Goals as goal
 

@@ -1,19 +1,11 @@
-use Rattle.pagable_model.specs.Writing.{nesting}
-use Rattle.pagable_model.specs.Lifted.{pair_has_meaning}
-use Rattle.pagable_traits.proofs.Walks.{shows_entries, written_counted, refused_counted}
-use Rattle.pagable_traits.proofs.Placed.{key-same, wraps_placed_map}
-use Rattle.pagable_traits.proofs.InTurn.{owed}
+use Rattle.pagable_traits.proofs.Words.{pair_has_meaning}
+use Rattle.pagable_traits.proofs.{Walks.shows_entries, Placed.key-same, Placed.wraps_placed_map, InTurn.owed-counted}
 use Rattle.pagable_traits.proofs.impls.placed.IndexMapPagableSerialize.pagable_serialize.Goals as goal
 
 pub returns : goal.returns
 returns g c =
-    let env = g.S.PagableSerializer.environment c.args.serializer.now in
-    let n = nesting (g.S.PagableSerializer.levels c.args.serializer.now) (g.E.Env.parts env) in
     let same = key-same g.K.Carried.means g.K.OneMeaning.meaning g.met.K.OneMeaning.single g.K.PartialEq.eq g.met.K.PagableKey.same g.met.K.Eq.laws in
     let shows = shows_entries g.K.Carried.means g.V.Carried.means c.args.self.now.entries c.iter.ensures.rest in
-    let wraps = wraps_placed_map g.K.Carried.means g.V.Carried.means g.K.PartialEq.eq same c.args.self.now.entries n (g.K.Carried.shape env) (g.V.Carried.shape env) c.len.ensures.unique in
-    let out = g.S.PagableSerializer.out in
-    let has = pair_has_meaning g.K.Carried.means g.V.Carried.means g.K.Carried.has_meaning g.V.Carried.has_meaning in
-    owed g.E.Env g.S.PagableSerializer c.write_counted.result _ _ _ _ _ c.write_counted.ensures
-    (written_counted c.write_counted.result c.len.result (out c.args.serializer.now) (out c.write_counted.new.serializer) shows wraps c.len.ensures.len c.write_counted.ensures.ok)
-    (refused_counted c.write_counted.result c.len.result shows wraps has c.len.ensures.len c.write_counted.ensures.refused)
+    owed-counted g.E.Env g.S.PagableSerializer _ c.write_counted.result c.len.result shows
+    (wraps_placed_map g.K.Carried.means g.V.Carried.means g.K.PartialEq.eq same _ _ _ _ c.len.ensures.unique)
+    (pair_has_meaning g.K.Carried.means g.V.Carried.means g.K.Carried.has_meaning g.V.Carried.has_meaning) c.len.ensures.len c.write_counted.ensures

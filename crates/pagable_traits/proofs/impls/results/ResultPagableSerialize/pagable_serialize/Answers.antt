@@ -1,11 +1,5 @@
-use Rattle.std.proofs.Common.{◌≡◌, true, false, Ok, Err, inl, inr, rules}
-use Rattle.std.proofs.lemmas.Result.{err_from_is_err_and}
-use Rattle.pagable_model.specs.Form.{ok-form, err-form}
-use Rattle.pagable_model.specs.Lifted.{MeansResult, means-ok, means-err}
-use Rattle.pagable_model.specs.Meaning.{success, failure}
-use Rattle.pagable_model.specs.Shape.{outcome}
-use Rattle.pagable_model.specs.Writing.{nesting}
-use Rattle.pagable_codec.proofs.Writing.{memory_refuses}
+use Rattle.pagable_traits.proofs.Words.{◌≡◌, true, false, Ok, Err, inl, inr, rules, err_from_is_err_and, ok-form, err-form, MeansResult, means-ok, means-err, success, failure, outcome, nesting}
+use Rattle.pagable_traits.proofs.Words.{memory_refuses}
 use Rattle.pagable_traits.proofs.Joined.{flagged, no-success, no-failure}
 use Rattle.pagable_traits.proofs.impls.results.ResultPagableSerialize.pagable_serialize.Goals as goal
 

@@ -1,18 +1,9 @@
-use Rattle.pagable_model.specs.Writing.{nesting}
-use Rattle.pagable_traits.proofs.Walks.{shows_items, written_counted, refused_counted}
-use Rattle.pagable_traits.proofs.Placed.{key-same}
-use Rattle.pagable_traits.proofs.Sets.{wraps_placed_set}
-use Rattle.pagable_traits.proofs.InTurn.{owed}
+use Rattle.pagable_traits.proofs.{Walks.shows_items, Placed.key-same, Sets.wraps_placed_set, InTurn.owed-counted}
 use Rattle.pagable_traits.proofs.impls.sets.IndexSetPagableSerialize.pagable_serialize.Goals as goal
 
 pub returns : goal.returns
 returns g c =
-    let env = g.S.PagableSerializer.environment c.args.serializer.now in
-    let n = nesting (g.S.PagableSerializer.levels c.args.serializer.now) (g.E.Env.parts env) in
     let same = key-same g.T.Carried.means g.T.OneMeaning.meaning g.met.T.OneMeaning.single g.T.PartialEq.eq g.met.T.PagableKey.same g.met.T.Eq.laws in
     let shows = shows_items g.T.Carried.means c.args.self.now.keys c.iter.ensures.rest in
-    let wraps = wraps_placed_set g.T.Carried.means g.T.PartialEq.eq same c.args.self.now.keys n (g.T.Carried.shape env) c.len.ensures.unique in
-    let out = g.S.PagableSerializer.out in
-    owed g.E.Env g.S.PagableSerializer c.write_counted.result _ _ _ _ _ c.write_counted.ensures
-    (written_counted c.write_counted.result c.len.result (out c.args.serializer.now) (out c.write_counted.new.serializer) shows wraps c.len.ensures.len c.write_counted.ensures.ok)
-    (refused_counted c.write_counted.result c.len.result shows wraps g.T.Carried.has_meaning c.len.ensures.len c.write_counted.ensures.refused)
+    owed-counted g.E.Env g.S.PagableSerializer _ c.write_counted.result c.len.result shows
+    (wraps_placed_set g.T.Carried.means g.T.PartialEq.eq same _ _ _ c.len.ensures.unique) g.T.Carried.has_meaning c.len.ensures.len c.write_counted.ensures

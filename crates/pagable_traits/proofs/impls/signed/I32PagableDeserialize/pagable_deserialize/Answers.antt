@@ -1,6 +1,4 @@
-use Rattle.std.specs.Int.{w32}
-use Rattle.pagable_model.specs.Numbers.{signed_at}
-use Rattle.pagable_model.specs.Meaning.{integer}
+use Rattle.pagable_traits.proofs.Words.{w32, signed_at, integer}
 use Rattle.pagable_traits.proofs.Basics.{basic_read, signed_is}
 use Rattle.pagable_traits.proofs.impls.signed.I32PagableDeserialize.pagable_deserialize.Goals as goal
 

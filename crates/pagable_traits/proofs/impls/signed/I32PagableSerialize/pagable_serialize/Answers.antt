@@ -1,8 +1,4 @@
-use Rattle.pagable_model.specs.Meaning.{integer}
-use Rattle.std.proofs.Common.{rules}
-use Rattle.std.proofs.lemmas.Int.{to_z-of_z}
-use Rattle.std.specs.Int.{w32}
-use Rattle.pagable_model.specs.Form.{signed-form}
+use Rattle.pagable_traits.proofs.Words.{integer, rules, to_z-of_z, w32, signed-form}
 use Rattle.pagable_traits.proofs.Basics.{basic_written}
 use Rattle.pagable_traits.proofs.impls.signed.I32PagableSerialize.pagable_serialize.Goals as goal
 

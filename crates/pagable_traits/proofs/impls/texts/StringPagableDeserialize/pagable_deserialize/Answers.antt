@@ -1,6 +1,5 @@
-use Rattle.pagable_model.specs.Basic.{text_at}
+use Rattle.pagable_traits.proofs.Words.{text_at, string_bytes}
 use Rattle.pagable_model.specs.Meaning.{text}
-use Rattle.std.specs.String.{string_bytes}
 use Rattle.pagable_traits.proofs.Basics.{basic_read, text_is}
 use Rattle.pagable_traits.proofs.impls.texts.StringPagableDeserialize.pagable_deserialize.Goals as goal
 

@@ -5,6 +5,3 @@ pub returns-in-Ok : goal.returns-in-Ok
 returns-in-Ok g c =
     let told = c.in-Ok.ensures in
     record { gives = gave_along _ _ _ _ told.gives (pair_along _ _ _ _ _ _ (λ m h. h) (λ m h. h)); moves = told.moves; same_env = told.same_env; same_levels = told.same_levels }
-
-pub returns-in-Err : goal.returns-in-Err
-returns-in-Err g c = c.in-Err.ensures

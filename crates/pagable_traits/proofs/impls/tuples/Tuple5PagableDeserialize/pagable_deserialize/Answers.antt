@@ -1,5 +1,4 @@
-use Rattle.pagable_model.specs.Lifted.{MeansPair}
-use Rattle.pagable_model.specs.Shape.{both}
+use Rattle.pagable_traits.proofs.Words.{MeansPair, both}
 use Rattle.pagable_traits.proofs.InTurn.{first-unread, second-unread, both-read}
 use Rattle.pagable_traits.proofs.impls.tuples.Tuple5PagableDeserialize.pagable_deserialize.Goals as goal
 

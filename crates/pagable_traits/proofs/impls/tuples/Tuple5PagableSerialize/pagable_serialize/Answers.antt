@@ -1,5 +1,4 @@
-use Rattle.pagable_model.specs.Lifted.{MeansPair, pair_has_meaning}
-use Rattle.pagable_model.specs.Shape.{both}
+use Rattle.pagable_traits.proofs.Words.{MeansPair, pair_has_meaning, both}
 use Rattle.pagable_traits.proofs.InTurn.{first-refused, second-after}
 use Rattle.pagable_traits.proofs.impls.tuples.Tuple5PagableSerialize.pagable_serialize.Goals as goal
 

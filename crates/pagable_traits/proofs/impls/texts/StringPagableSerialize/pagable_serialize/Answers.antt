@@ -1,4 +1,0 @@
-use Rattle.pagable_traits.proofs.impls.texts.StringPagableSerialize.pagable_serialize.Goals as goal
-
-pub returns : goal.returns
-returns g c = rw c.as_str.ensures.value at c.serialize_str.ensures
