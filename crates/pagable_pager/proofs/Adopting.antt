@@ -1,38 +1,13 @@
 -- What a load has read becomes a node, and what becomes of the pager then.
-use Rattle.std.proofs.Common.{◌≡◌, ℕ, ◌+◌, Bool, true, false, if◌then◌else◌, List, refl, ap, ◌∙◌, sym, subst, Option, Some, None, Ok, Err, nat_eq, inl, arith}
-use Rattle.std.specs.Prelude.{◌≢◌, not, Result, IfOk, IfErr, IfSome, IfNone, OnOk, OnErr}
-use Rattle.pagable_model.specs.declared.error.Error.TheVariants as errors
-use Rattle.std.specs.HashMap.{get}
-use Rattle.pagable_model.specs.declared.data_key.OptionalDataKey.{OptionalDataKey}
-use Rattle.pagable_model.specs.declared.numbers.ArcRef.{ArcRef}
-use Rattle.pagable_model.specs.declared.numbers.Kind.{Kind}
-use Rattle.pagable_model.specs.declared.numbers.LoadNumber.{LoadNumber}
-use Rattle.pagable_model.specs.declared.numbers.HandleNumber.{HandleNumber}
-use Rattle.pagable_world.specs.declared.handles.Owner.{Owner}
-use Rattle.pagable_world.specs.declared.handles.Owner.TheVariants as owners
-use Rattle.pagable_world.specs.Plain.{Error, type_of, if_there}
-use Rattle.pagable_world.specs.Kinds.{mode_of, is_owner}
-use Rattle.pagable_world.specs.World.{Core, OpenLoad, Last, Alike, usable}
-use Rattle.pagable_world.specs.Refusals.{Refused, load_fault, closed_fault, refused_if}
-use Rattle.pagable_world.specs.Calls.{with_handle, with_node, with_cached, next_node}
-use Rattle.pagable_world.specs.LoadCalls.{adopted, adopt_fault, AdoptCall, Adopts}
-use Rattle.pagable_world.specs.Pager.{IsNewNode, Moves}
+use Rattle.pagable_pager.proofs.Words.{◌≡◌, ℕ, ◌+◌, Bool, true, false, if◌then◌else◌, List, refl, ap, ◌∙◌, sym, subst, Option, Some, None, Ok, Err, nat_eq, inl, arith, ◌≢◌, not, Result, IfOk}
+use Rattle.pagable_pager.proofs.Words.{IfErr, IfSome, IfNone, OnOk, OnErr, get, OptionalDataKey, ArcRef, Kind, LoadNumber, HandleNumber, Owner, Error, type_of, if_there, mode_of, is_owner, Core}
+use Rattle.pagable_pager.proofs.Words.{OpenLoad, Last, Alike, usable, Refused, load_fault, closed_fault, refused_if, with_handle, with_node, with_cached, next_node, adopted, adopt_fault}
+use Rattle.pagable_pager.proofs.Words.{AdoptCall, Adopts, IsNewNode, Moves, adopted_known, stayed, spares-alike, Tables, counts_at, IsWhole, Sheds, AreLater, OnlyRoom, earlier-first, told-later}
+use Rattle.pagable_pager.proofs.Words.{still, PagerView, Telling, Spelling, ValuesByNode, IsPager, OnlyLess, core_in, state_in, value_in, values_of}
 use Rattle.pagable_steps.proofs.BirthCalls.{adopts-new}
-use Rattle.pagable_steps.proofs.FallingCalls.{adopted_known}
-use Rattle.pagable_steps.proofs.Keeping.{stayed}
-use Rattle.pagable_steps.proofs.SparedParts.{spares-alike}
-use Rattle.pagable_tables.specs.declared.tables.Tables.{Tables}
-use Rattle.pagable_tables.specs.ByNumber.{counts_at}
-use Rattle.pagable_tables.specs.Core.{IsWhole}
-use Rattle.pagable_tables.specs.Falling.{Sheds}
-use Rattle.pagable_tables.specs.Later.{AreLater}
-use Rattle.pagable_tables.specs.Bearing.{OnlyRoom}
-use Rattle.pagable_tables.proofs.Opened.{earlier-first, told-later}
-use Rattle.pagable_tables.proofs.Worlds.{still}
-use Rattle.pagable_pager.specs.View.{PagerView, Telling, Spelling, ValuesByNode, IsPager, OnlyLess, core_in, state_in, value_in, values_of}
-use Rattle.pagable_pager.proofs.Shed.{shed, whole-over}
-use Rattle.pagable_pager.proofs.Births.{told, roomier, moved-in, unmoved}
-use Rattle.pagable_pager.proofs.Shut.{adopts-bare, bare-alike}
+use Rattle.pagable_pager.proofs.{Shed.shed, Shed.whole-over, Births.told, Births.roomier, Births.moved-in, Births.unmoved, Shut.adopts-bare, Shut.bare-alike}
+use Rattle.pagable_model.specs.declared.error.Error.TheVariants as errors
+use Rattle.pagable_world.specs.declared.handles.Owner.TheVariants as owners
 
 -- the new node has the next number
 pub adopted-node : (w : Core) {w' : Core} (l : LoadNumber) (kind : Kind) (key : ℕ) (own : OptionalDataKey) (rs : List ArcRef) → Alike (adopted w l kind key own rs) w' → w'.last.node ≡ w.last.node + 1

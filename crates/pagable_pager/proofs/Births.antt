@@ -1,34 +1,13 @@
 -- A node that comes, or room that was made for one, leaves the pager in step.
-use Rattle.std.proofs.Common.{◌≡◌, ℕ, ◌==◌, ◌&&◌, ◌<◌, ◌+◌, Bool, true, false, if◌then◌else◌, Ok, Err, [], refl, ap, sym, subst, ◌∙◌, Some, None, Option, inl, inr, arith}
-use Rattle.std.specs.Prelude.{◌≢◌, List, Result, is_some}
-use Rattle.std.proofs.lemmas.Bool.Decides.{nat_tests}
-use Rattle.std.proofs.lemmas.Bool.{cases_eq}
+use Rattle.pagable_pager.proofs.Words.{◌≡◌, ℕ, ◌==◌, ◌&&◌, ◌<◌, ◌+◌, Bool, true, false, if◌then◌else◌, Ok, Err, [], refl, ap, sym, subst, ◌∙◌, Some, None, Option, inl, inr, arith, ◌≢◌, List}
+use Rattle.pagable_pager.proofs.Words.{Result, is_some, nat_tests, cases_eq, ArcRef, HandleNumber, Owner, Mode, Blob, Error, is_pinning, Core, greatest, is_here, references_fault, BirthCall}
+use Rattle.pagable_pager.proofs.Words.{AwayBirthCall, IsNewNode, Moves, same_some, born, spared, spares-alike, Tables, BearsValue, OnlyRoom, IsWhole, core_of, plain_of, AreLater, room-alike}
+use Rattle.pagable_pager.proofs.Words.{room-fault, fault-by, next-past, born-past, PagerView, Telling, Spelling, ValuesByNode, IsPager, core_in, state_in, value_in, values_of}
+use Rattle.pagable_pager.proofs.{Shed.whole-over, Shut.IsBare, Shut.bare-alike, Spared.caller-free}
 use Rattle.pagable_model.specs.declared.data_key.OptionalDataKey.TheVariants as optional
 use Rattle.pagable_model.specs.declared.error.Error.TheVariants as errors
-use Rattle.pagable_model.specs.declared.numbers.ArcRef.{ArcRef}
-use Rattle.pagable_model.specs.declared.numbers.HandleNumber.{HandleNumber}
-use Rattle.pagable_world.specs.declared.handles.Owner.{Owner}
+use Rattle.pagable_pager.proofs.Words.{Last}
 use Rattle.pagable_world.specs.declared.handles.Owner.TheVariants as owners
-use Rattle.pagable_world.specs.declared.rows.Mode.{Mode}
-use Rattle.pagable_world.specs.Plain.{Blob, Error}
-use Rattle.pagable_world.specs.Kinds.{is_pinning}
-use Rattle.pagable_world.specs.World.{Core, greatest, is_here}
-use Rattle.pagable_world.specs.Refusals.{references_fault}
-use Rattle.pagable_world.specs.Calls.{BirthCall, AwayBirthCall}
-use Rattle.pagable_world.specs.Pager.{IsNewNode, Moves}
-use Rattle.pagable_laws.proofs.Trees.{same_some}
-use Rattle.pagable_steps.proofs.BirthCalls.{born}
-use Rattle.pagable_steps.proofs.Spared.{spared}
-use Rattle.pagable_steps.proofs.SparedParts.{spares-alike}
-use Rattle.pagable_tables.specs.declared.tables.Tables.{Tables}
-use Rattle.pagable_tables.specs.Bearing.{BearsValue, OnlyRoom}
-use Rattle.pagable_tables.specs.Core.{IsWhole, core_of, plain_of}
-use Rattle.pagable_tables.specs.Later.{AreLater}
-use Rattle.pagable_tables.proofs.Readied.{room-alike, room-fault, fault-by, next-past, born-past}
-use Rattle.pagable_pager.specs.View.{PagerView, Telling, Spelling, ValuesByNode, IsPager, core_in, state_in, value_in, values_of}
-use Rattle.pagable_pager.proofs.Shed.{whole-over}
-use Rattle.pagable_pager.proofs.Shut.{IsBare, bare-alike}
-use Rattle.pagable_pager.proofs.Spared.{caller-free}
 
 -- nothing comes to the list or the cache with a cell that is away
 pub away-bare : {w w' : Core} {me : Owner} {node_type key : ℕ} (r : Result HandleNumber Error) → AwayBirthCall w me node_type key r w' → IsBare w → IsBare w'
@@ -42,6 +21,10 @@ birth-past {N} {w} {w1} {w'} {x} me t t' rs rs' mode k room fit left typed named
   where
     made : BirthCall w me x t rs mode (Ok k) w'
     made = record { made = (fit, subst (λ (u : Core). u.last.node < greatest) room.same left, next-past room b.next, born-past t optional.None rs mode me room b.leaves); refused = tt }
+
+-- it has the next number
+pub born-next : {w w1 w' : Core} {me : Owner} {t : ℕ} {rs : List ArcRef} {mode : Mode} {k : HandleNumber} → OnlyRoom w w1 → BearsValue w1 me t rs mode k w' → w'.last.node ≡ w.last.node + 1
+born-next room b = ap (λ (l : Last). l.node) b.leaves.last ∙ ap (λ (u : Core). u.last.node + 1) room.same
 
 pub fit-past : (t t1 : Tables) (stored : ℕ → Option Blob) (closed : Bool) (failures : ℕ) (me : Owner) (rs : List ArcRef) → OnlyRoom (plain_of t) (plain_of t1) → references_fault (plain_of t1) me [] rs ≡ None
     → references_fault (core_of t stored closed failures) me [] rs ≡ None

@@ -1,18 +1,7 @@
 -- A pager whose storage is closed.
-use Rattle.std.proofs.Common.{◌≡◌, ℕ, Bool, true, None, Ok, refl, sym, subst, nat_eq}
-use Rattle.std.specs.Prelude.{Option}
-use Rattle.std.specs.HashMap.{get}
-use Rattle.pagable_world.specs.Plain.{Blob}
-use Rattle.pagable_world.specs.Calls.{CloseCall}
-use Rattle.pagable_steps.proofs.FallingCalls.{closed}
-use Rattle.pagable_tables.specs.declared.tables.Tables.{Tables}
-use Rattle.pagable_tables.specs.ByNumber.{counts_at}
-use Rattle.pagable_tables.specs.Falling.{Sheds}
-use Rattle.pagable_tables.specs.Later.{AreLater}
-use Rattle.pagable_tables.specs.Core.{IsWhole, core_of}
-use Rattle.pagable_pager.specs.View.{PagerView, Telling, Spelling, ValuesByNode, IsPager, core_in}
-use Rattle.pagable_pager.proofs.Shed.{leaves, whole-over}
-use Rattle.pagable_pager.proofs.Shut.{bare-fell}
+use Rattle.pagable_pager.proofs.Words.{◌≡◌, ℕ, Bool, true, None, Ok, refl, sym, subst, nat_eq, Option, get, Blob, CloseCall, closed, Tables, counts_at, Sheds, AreLater, IsWhole, core_of}
+use Rattle.pagable_pager.proofs.Words.{PagerView, Telling, Spelling, ValuesByNode, IsPager, core_in}
+use Rattle.pagable_pager.proofs.{Shed.leaves, Shed.whole-over, Shut.bare-fell}
 
 -- what the storage tells is that it is empty and closed
 pub shut-call : (stored stored' : ℕ → Option Blob) (closed closed' : Bool) (failures failures' : ℕ) (t t' : Tables) → ((key : ℕ) → stored' key ≡ None) → closed' ≡ true

@@ -1,42 +1,14 @@
 -- A value comes to a load's cell, and others go with their nodes.
-use Rattle.std.proofs.Common.{◌≡◌, ℕ, ◌==◌, ◌&&◌, Bool, true, false, Ok, Err, refl, ap, sym, ◌∙◌, subst, Some, None, Option, List, if◌then◌else◌, inl, inr, nat_eq, arith}
-use Rattle.std.specs.Prelude.{◌≢◌, ◌⊎◌, Result, is_some, nat_lt, not}
-use Rattle.std.specs.Arc.{arc_value}
-use Rattle.std.specs.HashMap.{get}
-use Rattle.std.proofs.lemmas.Bool.{cases_eq}
-use Rattle.std.proofs.lemmas.Bool.Decides.{nat_tests}
-use Rattle.pagable_model.specs.declared.numbers.ArcRef.{ArcRef}
-use Rattle.pagable_model.specs.declared.numbers.NodeNumber.{NodeNumber}
-use Rattle.pagable_world.specs.declared.handles.Owner.{Owner}
+use Rattle.pagable_pager.proofs.Words.{◌≡◌, ℕ, ◌==◌, ◌&&◌, Bool, true, false, Ok, Err, refl, ap, sym, ◌∙◌, subst, Some, None, Option, List, if◌then◌else◌, inl, inr, nat_eq, arith, ◌≢◌, ◌⊎◌}
+use Rattle.pagable_pager.proofs.Words.{Result, is_some, nat_lt, not, arc_value, get, cases_eq, nat_tests, ArcRef, NodeNumber, Owner, HandleNumber, LoadNumber, Error, if_there, updated, Core}
+use Rattle.pagable_pager.proofs.Words.{OpenLoad, Alike, is_here, OwnsLoad, Refused, load_fault, closed_fault, refused_if, DropCall, EndCall, EndRefused, Installs, MayEnd, end_fault, held}
+use Rattle.pagable_pager.proofs.Words.{is_owner, IsCellOf, Moves, WellFormed, row-held, installed_away, installed_there, Ending, Tables, counts_at, Sheds, has_value, IsWhole, plain_of, AreLater}
+use Rattle.pagable_pager.proofs.Words.{IsReady, IsVain, IsWider, ShedsBeside, Unends, has_come, Unended, installs-wider, may-wider, not-so, so-then, earlier-first, still, end_refused, spared}
+use Rattle.pagable_pager.proofs.Words.{spares-alike, PagerView, Telling, Spelling, ValuesByNode, IsPager, core_in, state_in, value_in, values_of, PutsIn, with_value}
+use Rattle.pagable_pager.proofs.{Shed.here-in, Shed.here-told, Shed.less, Shed.shed, Shed.some-map, Shed.left-map, Shed.whole-over, Shut.bare-alike, Shut.end-refused-bare, Shut.installed-bare}
 use Rattle.pagable_world.specs.declared.handles.Owner.TheVariants as owners
 use Rattle.pagable_model.specs.declared.error.Error.TheVariants as errors
-use Rattle.pagable_world.specs.Plain.{HandleNumber, LoadNumber, Error, if_there, updated}
-use Rattle.pagable_world.specs.World.{Core, OpenLoad, Alike, is_here}
-use Rattle.pagable_world.specs.Refusals.{OwnsLoad, Refused, load_fault, closed_fault, refused_if}
-use Rattle.pagable_world.specs.LoadCalls.{DropCall, EndCall, EndRefused, Installs, MayEnd, end_fault}
-use Rattle.pagable_world.specs.Kinds.{held, is_owner}
 use Rattle.pagable_world.specs.Pager as pager
-use Rattle.pagable_world.specs.Pager.{IsCellOf, Moves, WellFormed}
-use Rattle.pagable_laws.proofs.Taking.{row-held}
-use Rattle.pagable_steps.proofs.Installing.{installed_away, installed_there}
-use Rattle.pagable_tables.specs.declared.installing.Ending.{Ending}
-use Rattle.pagable_tables.specs.declared.tables.Tables.{Tables}
-use Rattle.pagable_tables.specs.ByNumber.{counts_at}
-use Rattle.pagable_tables.specs.Falling.{Sheds, has_value}
-use Rattle.pagable_tables.specs.Core.{IsWhole, plain_of}
-use Rattle.pagable_tables.specs.Later.{AreLater}
-use Rattle.pagable_tables.specs.Ready.{IsReady, IsVain, IsWider, ShedsBeside, Unends, has_come}
-use Rattle.pagable_tables.specs.declared.installing.Unended.{Unended}
-use Rattle.pagable_tables.proofs.Installed.{installs-wider, may-wider, not-so, so-then}
-use Rattle.pagable_tables.proofs.Opened.{earlier-first}
-use Rattle.pagable_tables.proofs.Worlds.{still}
-use Rattle.pagable_steps.proofs.FallingCalls.{end_refused}
-use Rattle.pagable_steps.proofs.Spared.{spared}
-use Rattle.pagable_steps.proofs.SparedParts.{spares-alike}
-use Rattle.pagable_pager.specs.View.{PagerView, Telling, Spelling, ValuesByNode, IsPager, core_in, state_in, value_in, values_of}
-use Rattle.pagable_pager.specs.Puts.{PutsIn, with_value}
-use Rattle.pagable_pager.proofs.Shed.{here-in, here-told, less, shed, some-map, left-map, whole-over}
-use Rattle.pagable_pager.proofs.Shut.{bare-alike, end-refused-bare, installed-bare}
 
 -- the value comes
 module _ {N : Type 0} (t t' : Tables) (old mid new : ValuesByNode N) (node : NodeNumber) (x : N) (here : value_in mid node.0 ≡ Some x) (others : (n : ℕ) → n ≢ node.0 → value_in mid n ≡ value_in old n) where

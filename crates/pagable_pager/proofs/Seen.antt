@@ -1,16 +1,6 @@
 -- What a handle lends.
-use Rattle.std.proofs.Common.{◌≡◌, ◌&&◌, Bool, true, false, refl, ap, sym, ◌∙◌, arith, Ok, Err, Some, None, if◌then◌else◌}
-use Rattle.std.specs.Prelude.{Option, is_some, nat_lt}
-use Rattle.std.proofs.lemmas.Bool.Decides.{nat_tests}
-use Rattle.pagable_model.specs.declared.error.Error.{Error}
-use Rattle.pagable_world.specs.declared.handles.HandleRow.{HandleRow}
-use Rattle.pagable_world.specs.Plain.{HandleNumber, NodeNumber}
-use Rattle.pagable_world.specs.Kinds.{is_pinning, held}
-use Rattle.pagable_world.specs.World.{Values, row_at, is_here}
-use Rattle.pagable_world.specs.Calls.{Looks}
-use Rattle.pagable_world.specs.Pager.{PagerState, WellFormed, ValueCall}
-use Rattle.pagable_laws.proofs.Taking.{row-held, row-pins}
-use Rattle.pagable_steps.proofs.SparedHandles.{pinned-here}
+use Rattle.pagable_pager.proofs.Words.{◌≡◌, ◌&&◌, Bool, true, false, refl, ap, sym, ◌∙◌, arith, Ok, Err, Some, None, if◌then◌else◌, Option, is_some, nat_lt, nat_tests, Error, HandleRow}
+use Rattle.pagable_pager.proofs.Words.{HandleNumber, NodeNumber, is_pinning, held, Values, row_at, is_here, Looks, PagerState, WellFormed, ValueCall, row-held, row-pins, pinned-here}
 
 Pinned : {N E : Type 0} → PagerState N E → HandleNumber → Option NodeNumber → Type 0
 Pinned s h found = (row : HandleRow) × (row_at s.core h ≡ Some row) × (found ≡ (if is_pinning row.mode then Some row.node else None))

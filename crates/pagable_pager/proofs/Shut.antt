@@ -1,22 +1,10 @@
 -- Once the storage is closed nothing comes to the list or the cache.
-use Rattle.std.proofs.Common.{◌≡◌, ℕ, Bool, true, false, if◌then◌else◌, Ok, Err, List, [], ◌++◌, refl, ap, sym, ◌∙◌, Some, None, inl, inr}
-use Rattle.std.specs.Prelude.{Option, Result, map, filter, not}
+use Rattle.pagable_pager.proofs.Words.{◌≡◌, ℕ, Bool, true, false, if◌then◌else◌, Ok, Err, List, [], ◌++◌, refl, ap, sym, ◌∙◌, Some, None, inl, inr, Option, Result, map, filter, not, ArcRef}
+use Rattle.pagable_pager.proofs.Words.{HandleNumber, Kind, LoadNumber, NodeNumber, HandleRow, Owner, Error, type_of, mode_of, Core, Alike, Falls, with_cached, with_cached_if_open, with_handle}
+use Rattle.pagable_pager.proofs.Words.{with_node, next_node, ReleaseCall, UnpinCall, SetKeyCall, ScheduleCall, OfferCall, no-entries, Adopts, first_key, LazyCall, DropCall, HandOverCall, EndCall}
+use Rattle.pagable_pager.proofs.Words.{Installs}
 use Rattle.pagable_model.specs.declared.data_key.OptionalDataKey.TheVariants as optional
-use Rattle.pagable_model.specs.declared.numbers.ArcRef.{ArcRef}
-use Rattle.pagable_model.specs.declared.numbers.HandleNumber.{HandleNumber}
-use Rattle.pagable_model.specs.declared.numbers.Kind.{Kind}
-use Rattle.pagable_model.specs.declared.numbers.LoadNumber.{LoadNumber}
-use Rattle.pagable_model.specs.declared.numbers.NodeNumber.{NodeNumber}
 use Rattle.pagable_world.specs.declared.handles.Owner.TheVariants as owners
-use Rattle.pagable_world.specs.declared.handles.HandleRow.{HandleRow}
-use Rattle.pagable_world.specs.declared.handles.Owner.{Owner}
-use Rattle.pagable_world.specs.Plain.{Error, type_of}
-use Rattle.pagable_world.specs.Kinds.{mode_of}
-use Rattle.pagable_world.specs.World.{Core, Alike}
-use Rattle.pagable_world.specs.Cascade.{Falls}
-use Rattle.pagable_world.specs.Calls.{with_cached, with_cached_if_open, with_handle, with_node, next_node, ReleaseCall, UnpinCall, SetKeyCall, ScheduleCall, OfferCall}
-use Rattle.pagable_tables.proofs.Entries.{no-entries}
-use Rattle.pagable_world.specs.LoadCalls.{Adopts, first_key, LazyCall, DropCall, HandOverCall, EndCall, Installs}
 
 -- nothing is listed or known
 abbrev pub IsBare : Core → Type 0

@@ -1,17 +1,7 @@
 -- What the storage is asked leaves the plain world whole.
-use Rattle.std.proofs.Common.{◌≡◌, ℕ, ◌≤◌, Bool, refl, sym, subst}
-use Rattle.std.proofs.Common.{false, Ok, Err, Some}
-use Rattle.std.specs.Prelude.{Option, Result, IfOk, IfErr, OnOk, OnErr}
-use Rattle.pagable_model.specs.Stored.{Adds, RefusesFetch, RefusesStore}
-use Rattle.pagable_world.specs.World.{Core, Alike, seen_as}
-use Rattle.pagable_world.specs.Plain.{Blob, Error}
-use Rattle.pagable_world.specs.Calls.{Asked, FetchCall, StoreCall}
+use Rattle.pagable_pager.proofs.Words.{◌≡◌, ℕ, ◌≤◌, Bool, refl, sym, subst, false, Ok, Err, Some, Option, Result, IfOk, IfErr, OnOk, OnErr, Adds, RefusesFetch, RefusesStore, Core, Alike, seen_as}
+use Rattle.pagable_pager.proofs.Words.{Blob, Error, Asked, FetchCall, StoreCall, Tables, core_of, still, placed, told-whole}
 use Rattle.pagable_world.specs.Pager.{IsWhole}
-use Rattle.pagable_tables.specs.declared.tables.Tables.{Tables}
-use Rattle.pagable_tables.specs.Core.{core_of}
-use Rattle.pagable_tables.proofs.Worlds.{still}
-use Rattle.pagable_tables.proofs.keeps.Placed.{placed}
-use Rattle.pagable_tables.proofs.keeps.Told.{told-whole}
 
 module _ (t : Tables) (stored stored' : ℕ → Option Blob) (closed closed' : Bool) (failures failures' : ℕ) where
   pub whole-told : closed' ≡ closed → IsWhole (core_of t stored closed failures) → IsWhole (core_of t stored' closed' failures')

@@ -1,9 +1,5 @@
-use Rattle.std.proofs.Common.{◌≡◌, None, Ok, Err, subst, sym}
-use Rattle.pagable_world.specs.World.{usable}
-use Rattle.pagable_tables.specs.Core.{plain_of}
-use Rattle.pagable_pager.specs.View.{PagerView}
-use Rattle.pagable_pager.proofs.Adopting.{new-so, new-moves, new-call}
-use Rattle.pagable_pager.proofs.Shed.{told-open}
+use Rattle.pagable_pager.proofs.Words.{◌≡◌, None, Ok, Err, subst, sym, usable, plain_of, PagerView}
+use Rattle.pagable_pager.proofs.{Adopting.new-so, Adopting.new-moves, Adopting.new-call, Shed.told-open}
 use Rattle.pagable_pager.proofs.pager.Pager.adopt_as_new.Goals as goal
 
 pub invariant_of-self : goal.invariant_of-self

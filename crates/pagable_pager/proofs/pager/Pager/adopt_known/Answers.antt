@@ -1,10 +1,5 @@
-use Rattle.std.proofs.Common.{refl}
-use Rattle.pagable_world.specs.Refusals.{load_fault}
-use Rattle.pagable_world.specs.LoadCalls.{adopt_fault}
-use Rattle.pagable_tables.specs.Core.{core_of}
-use Rattle.pagable_tables.proofs.Stays.{eager-pins}
-use Rattle.pagable_pager.proofs.Adopting.{found-so}
-use Rattle.pagable_pager.proofs.Shed.{told-open, less, known-valued}
+use Rattle.pagable_pager.proofs.Words.{refl, load_fault, adopt_fault, core_of, eager-pins}
+use Rattle.pagable_pager.proofs.{Adopting.found-so, Shed.told-open, Shed.less, Shed.known-valued}
 use Rattle.pagable_pager.proofs.pager.Pager.adopt_known.Goals as goal
 
 pub adopt_if_known-requires-clause-valued : goal.adopt_if_known-requires-clause-valued

@@ -1,5 +1,4 @@
-use Rattle.pagable_steps.proofs.SparedLists.{clears}
-use Rattle.pagable_tables.proofs.keeps.CacheCalls.{clear-whole}
+use Rattle.pagable_pager.proofs.Words.{clears, clear-whole}
 use Rattle.pagable_pager.proofs.Spared.{held}
 use Rattle.pagable_pager.proofs.pager.Pager.cache_clear.Goals as goal
 

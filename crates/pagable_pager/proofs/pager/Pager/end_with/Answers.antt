@@ -1,7 +1,4 @@
-use Rattle.std.proofs.Common.{◌∙◌, refl, subst, inr}
-use Rattle.pagable_world.specs.LoadCalls.{Installs}
-use Rattle.pagable_tables.specs.Core.{core_of}
-use Rattle.pagable_tables.proofs.Installed.{may-wider}
+use Rattle.pagable_pager.proofs.Words.{◌∙◌, refl, subst, inr, Installs, core_of, may-wider}
 use Rattle.pagable_pager.proofs.Putting.{owned-open, end-call, ended-so, moves, ready-told, refused-moves, refused-so, stays-alike, stays-so, unends-told}
 use Rattle.pagable_pager.proofs.Shed.{told-open}
 use Rattle.pagable_pager.proofs.pager.Pager.end_with.Goals as goal

@@ -1,8 +1,4 @@
-use Rattle.std.proofs.Common.{inl, inr, ap, None}
-use Rattle.pagable_world.specs.Refusals.{OwnsLoad, earlier}
-use Rattle.pagable_tables.specs.Core.{load_in}
-use Rattle.pagable_tables.proofs.Worlds.{still}
-use Rattle.pagable_pager.specs.View.{core_in, telling}
+use Rattle.pagable_pager.proofs.Words.{inl, inr, ap, None, OwnsLoad, earlier, load_in, still, core_in, telling}
 use Rattle.pagable_pager.proofs.pager.Pager.fetch_root.Goals as goal
 
 pub returns-in-Err-clause-step : goal.returns-in-Err-clause-step

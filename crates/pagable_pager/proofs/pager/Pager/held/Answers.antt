@@ -1,10 +1,4 @@
-use Rattle.std.proofs.Common.{◌≡◌, if◌then◌else◌, ap, sym, subst, ◌∙◌, Ok, Some, None}
-use Rattle.std.specs.Prelude.{is_some, false, true}
-use Rattle.std.specs.Option.{option_map, option_copied}
-use Rattle.std.specs.Arc.{arc_value}
-use Rattle.pagable_world.specs.Kinds.{is_pinning}
-use Rattle.pagable_world.specs.Calls.{Looks}
-use Rattle.pagable_pager.specs.View.{telling, state_in}
+use Rattle.pagable_pager.proofs.Words.{◌≡◌, if◌then◌else◌, ap, sym, subst, ◌∙◌, Ok, Some, None, is_some, false, true, option_map, option_copied, arc_value, is_pinning, Looks, telling, state_in}
 use Rattle.pagable_pager.proofs.Seen.{lends-none, lends-fault, lends, there}
 use Rattle.pagable_pager.proofs.pager.Pager.held.Goals as goal
 

@@ -1,7 +1,5 @@
-use Rattle.std.proofs.Common.{refl}
-use Rattle.pagable_steps.proofs.FallingCalls.{dropped}
-use Rattle.pagable_pager.proofs.Shed.{shed, told-open, less}
-use Rattle.pagable_pager.proofs.Shut.{dropped-bare}
+use Rattle.pagable_pager.proofs.Words.{refl, dropped}
+use Rattle.pagable_pager.proofs.{Shed.shed, Shed.told-open, Shed.less, Shut.dropped-bare}
 use Rattle.pagable_pager.proofs.pager.Pager.load_drop_by.Goals as goal
 
 pub invariant_of-self : goal.invariant_of-self

@@ -1,7 +1,5 @@
-use Rattle.std.proofs.Common.{refl}
-use Rattle.pagable_steps.proofs.BirthCalls.{lazily}
-use Rattle.pagable_pager.proofs.Shed.{whole-over, told-open}
-use Rattle.pagable_pager.proofs.Shut.{lazy-bare}
+use Rattle.pagable_pager.proofs.Words.{refl, lazily}
+use Rattle.pagable_pager.proofs.{Shed.whole-over, Shed.told-open, Shut.lazy-bare}
 use Rattle.pagable_pager.proofs.pager.Pager.load_lazy_by.Goals as goal
 
 pub invariant_of-self : goal.invariant_of-self

@@ -1,5 +1,4 @@
-use Rattle.std.proofs.Common.{refl, sym}
-use Rattle.pagable_tables.specs.Core.{load_in}
+use Rattle.pagable_pager.proofs.Words.{refl, sym, load_in}
 use Rattle.pagable_pager.proofs.pager.Pager.load_of.Goals as goal
 
 pub returns-in-Ok-clause-reads : goal.returns-in-Ok-clause-reads

@@ -1,9 +1,5 @@
-use Rattle.std.proofs.Common.{refl}
-use Rattle.pagable_steps.proofs.FallingCalls.{handed_over}
-use Rattle.pagable_pager.proofs.Shed.{shed, told-open, less}
-use Rattle.pagable_pager.proofs.Shut.{handed-bare}
-use Rattle.pagable_pager.proofs.Spared.{owner-free}
-use Rattle.pagable_pager.specs.View.{telling}
+use Rattle.pagable_pager.proofs.Words.{refl, handed_over, telling}
+use Rattle.pagable_pager.proofs.{Shed.shed, Shed.told-open, Shed.less, Shut.handed-bare, Spared.owner-free}
 use Rattle.pagable_pager.proofs.pager.Pager.load_take_by.Goals as goal
 
 pub invariant_of-self : goal.invariant_of-self

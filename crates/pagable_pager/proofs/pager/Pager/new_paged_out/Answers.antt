@@ -1,8 +1,5 @@
-use Rattle.std.proofs.Common.{refl}
-use Rattle.pagable_steps.proofs.BirthCalls.{born-away}
-use Rattle.pagable_pager.proofs.Births.{away-bare}
-use Rattle.pagable_pager.proofs.Shed.{whole-over}
-use Rattle.pagable_pager.proofs.Spared.{caller-free}
+use Rattle.pagable_pager.proofs.Words.{refl, born-away}
+use Rattle.pagable_pager.proofs.{Births.away-bare, Shed.whole-over, Spared.caller-free}
 use Rattle.pagable_pager.proofs.pager.Pager.new_paged_out.Goals as goal
 
 pub invariant_of-self : goal.invariant_of-self

@@ -1,8 +1,5 @@
-use Rattle.std.proofs.Common.{refl}
-use Rattle.pagable_steps.proofs.FallingCalls.{offered}
-use Rattle.pagable_pager.proofs.Shed.{shed, told-open, less, known-valued}
-use Rattle.pagable_pager.proofs.Shut.{offered-bare}
-use Rattle.pagable_pager.proofs.Spared.{caller-free}
+use Rattle.pagable_pager.proofs.Words.{refl, offered}
+use Rattle.pagable_pager.proofs.{Shed.shed, Shed.told-open, Shed.less, Shed.known-valued, Shut.offered-bare, Spared.caller-free}
 use Rattle.pagable_pager.proofs.pager.Pager.on_arc_deserialized.Goals as goal
 
 pub invariant_of-self : goal.invariant_of-self

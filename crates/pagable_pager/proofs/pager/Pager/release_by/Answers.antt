@@ -1,9 +1,5 @@
-use Rattle.std.proofs.Common.{refl}
-use Rattle.pagable_steps.proofs.FallingCalls.{released}
-use Rattle.pagable_pager.proofs.Shed.{shed, told-open, less}
-use Rattle.pagable_pager.proofs.Shut.{released-bare}
-use Rattle.pagable_pager.proofs.Spared.{owner-free, owner-plain, owner-unlisted}
-use Rattle.pagable_pager.specs.View.{telling}
+use Rattle.pagable_pager.proofs.Words.{refl, released, telling}
+use Rattle.pagable_pager.proofs.{Shed.shed, Shed.told-open, Shed.less, Shut.released-bare, Spared.owner-free, Spared.owner-plain, Spared.owner-unlisted}
 use Rattle.pagable_pager.proofs.pager.Pager.release_by.Goals as goal
 
 pub invariant_of-self : goal.invariant_of-self

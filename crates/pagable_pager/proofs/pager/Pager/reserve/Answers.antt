@@ -1,5 +1,4 @@
-use Rattle.pagable_steps.proofs.SparedLists.{reserves}
-use Rattle.pagable_tables.proofs.keeps.CacheCalls.{reserve-whole}
+use Rattle.pagable_pager.proofs.Words.{reserves, reserve-whole}
 use Rattle.pagable_pager.proofs.Spared.{held}
 use Rattle.pagable_pager.proofs.pager.Pager.reserve.Goals as goal
 

@@ -1,9 +1,5 @@
-use Rattle.std.proofs.Common.{refl}
-use Rattle.pagable_steps.proofs.FallingCalls.{scheduled}
-use Rattle.pagable_pager.proofs.Shed.{shed, told-open, less}
-use Rattle.pagable_pager.proofs.Shut.{scheduled-bare}
-use Rattle.pagable_pager.proofs.Spared.{owner-free, owner-holds}
-use Rattle.pagable_pager.specs.View.{telling}
+use Rattle.pagable_pager.proofs.Words.{refl, scheduled, telling}
+use Rattle.pagable_pager.proofs.{Shed.shed, Shed.told-open, Shed.less, Shut.scheduled-bare, Spared.owner-free, Spared.owner-holds}
 use Rattle.pagable_pager.proofs.pager.Pager.schedule_for_paging_by.Goals as goal
 
 pub invariant_of-self : goal.invariant_of-self

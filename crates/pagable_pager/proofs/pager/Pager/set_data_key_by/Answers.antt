@@ -1,9 +1,5 @@
-use Rattle.std.proofs.Common.{refl}
-use Rattle.pagable_steps.proofs.FallingCalls.{key_set}
-use Rattle.pagable_pager.proofs.Shed.{shed, told-open, less}
-use Rattle.pagable_pager.proofs.Shut.{key-set-bare}
-use Rattle.pagable_pager.proofs.Spared.{owner-free}
-use Rattle.pagable_pager.specs.View.{telling}
+use Rattle.pagable_pager.proofs.Words.{refl, key_set, telling}
+use Rattle.pagable_pager.proofs.{Shed.shed, Shed.told-open, Shed.less, Shut.key-set-bare, Spared.owner-free}
 use Rattle.pagable_pager.proofs.pager.Pager.set_data_key_by.Goals as goal
 
 pub invariant_of-self : goal.invariant_of-self

@@ -1,9 +1,5 @@
-use Rattle.std.proofs.Common.{refl}
-use Rattle.pagable_steps.proofs.FallingCalls.{unpinned}
-use Rattle.pagable_pager.proofs.Shed.{shed, told-open, less}
-use Rattle.pagable_pager.proofs.Shut.{unpinned-bare}
-use Rattle.pagable_pager.proofs.Spared.{owner-free, owner-plain}
-use Rattle.pagable_pager.specs.View.{telling}
+use Rattle.pagable_pager.proofs.Words.{refl, unpinned, telling}
+use Rattle.pagable_pager.proofs.{Shed.shed, Shed.told-open, Shed.less, Shut.unpinned-bare, Spared.owner-free, Spared.owner-plain}
 use Rattle.pagable_pager.proofs.pager.Pager.unpin_by.Goals as goal
 
 pub invariant_of-self : goal.invariant_of-self

@@ -1,7 +1,5 @@
-use Rattle.std.proofs.Common.{refl}
-use Rattle.pagable_steps.proofs.FallingCalls.{worker_ended}
-use Rattle.pagable_pager.proofs.Shed.{shed, told-open, less}
-use Rattle.pagable_pager.proofs.Shut.{bare-fell}
+use Rattle.pagable_pager.proofs.Words.{refl, worker_ended}
+use Rattle.pagable_pager.proofs.{Shed.shed, Shed.told-open, Shed.less, Shut.bare-fell}
 use Rattle.pagable_pager.proofs.pager.Pager.worker_end.Goals as goal
 
 pub invariant_of-self : goal.invariant_of-self
