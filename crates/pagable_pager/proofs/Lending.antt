@@ -145,19 +145,22 @@ module _ {w : Core} (whole : HandlesAreWhole w) where
             absurd (omega (arith, n, le, same))
 
   -- of what was asked for
-  pub found_refers : {B : Type 0} {see : B → Blob} {me : Owner} {l : LoadNumber} {kind : Kind} {key : ℕ} {h : HandleNumber} {r : ArcRef} (w' : Core) → AskCall w me l (wants.Nested kind key) (Ok (from_cache h)) w' → r.handle ≡ h
+  pub found_refers : {B : Type 0} {see : B → Blob} {me : Owner} {l : LoadNumber} {kind : Kind} {key : ℕ} {h : HandleNumber} {r : ArcRef} (w' : Core)
+      → AskCall w me l (wants.Nested kind key) (Ok (from_cache h)) w' → r.handle ≡ h
       → (IsSome (row_at w' h) → IsMade w' kind r) → AsksFor see w me l kind key (Ok (eithers.Left r)) w'
   found_refers {me = me} {l} {kind} {key} w' c same is = record { asked = subst (λ k. AskCall w me l (wants.Nested kind key) (Ok (from_cache k)) w') (sym same) c; made = is (known_live w' c.gives.2) }
 
   -- and the reference stands for it
-  pub lazy_refers : {me : Owner} {l : LoadNumber} {kind : Kind} {key : ℕ} (w' : Core) (made : Result HandleNumber Error) (r : Result ArcRef Error) → LazyCall w me l kind key made w' → Refers w' kind made r
+  pub lazy_refers : {me : Owner} {l : LoadNumber} {kind : Kind} {key : ℕ} (w' : Core) (made : Result HandleNumber Error) (r : Result ArcRef Error) → LazyCall w me l kind key made w'
+      → Refers w' kind made r
       → TakesLazily w me l kind key r w'
   lazy_refers {me} {l} {kind} {key} w' (Ok h) (Ok r) c (is, same) = record { taken = subst (λ k. LazyCall w me l kind key (Ok k) w') (sym same) c; made = is (lazy_live w' c) }
   lazy_refers {me} {l} {kind} {key} w' (Err e) (Err f) c same = record { taken = subst (λ x. LazyCall w me l kind key (Err x) w') same c; made = tt }
   lazy_refers w' (Ok h) (Err e) c none = absurd none
   lazy_refers w' (Err e) (Ok r) c none = absurd none
 
-  pub adopted_refers : {N : Type 0} {x : N} {t : ℕ} {rs : List ArcRef} {me : Owner} {l : LoadNumber} {kind : Kind} {key : ℕ} (w' : Core) (made : Result HandleNumber (Error × N)) (r : Result ArcRef (Error × N))
+  pub adopted_refers : {N : Type 0} {x : N} {t : ℕ} {rs : List ArcRef} {me : Owner} {l : LoadNumber} {kind : Kind} {key : ℕ} (w' : Core) (made : Result HandleNumber (Error × N))
+      (r : Result ArcRef (Error × N))
       → AdoptCall w me l kind key x t rs made w' → Refers w' kind made r → AdoptsValue w me l kind key x t rs r w'
   adopted_refers {x = x} {t} {rs} {me} {l} {kind} {key} w' (Ok h) (Ok r) c (is, same) =
       record { adopted = subst (λ k. AdoptCall w me l kind key x t rs (Ok k) w') (sym same) c; made = is (adopted_live w' c.adopts) }

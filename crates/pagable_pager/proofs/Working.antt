@@ -28,7 +28,8 @@ module _ {w w' : Core} (whole : IsWhole w) where
   takes-whole place (Err e) b placed = alike-whole whole b.refused.1 placed
 
 -- the entry that was looked at is the one that the worker takes
-pub entry-starts : {w w' : Core} {place type : ℕ} {row : HandleRow} {n : WorkerNumber} {kind : Kind} → IsEntry w place row.number row type → (kind.0 ≡ loose_kind type) × HasKinds type → TakesWorker w place (Ok n) w'
+pub entry-starts : {w w' : Core} {place type : ℕ} {row : HandleRow} {n : WorkerNumber} {kind : Kind} → IsEntry w place row.number row type → (kind.0 ≡ loose_kind type) × HasKinds type
+    → TakesWorker w place (Ok n) w'
     → TakesEntry w place n (record { kind = kind; node = row.node; handle = row.number }) w'
 entry-starts {w} {w'} {place} {type} {row} {n} e (is, kinds) t =
     let (h, listed, next, leaves) = t.taken in

@@ -10,6 +10,7 @@ returns-clause-step g c =
       holds = record {
         step = adopted_refers c.is_whole.ensures.whole.handles _ c.load_adopt_by-adopted.result c.referred.result c.load_adopt_by-adopted.ensures.step c.referred.ensures;
         moves = moves;
-        whole = subst (λ e. WellFormed (values_at g.E.Node.NodeSet g.E.Env g.E.Hash.KeyHash e) (state_in (telling g.S.PagableStorage.stored g.S.PagableStorage.is_closed g.S.PagableStorage.failed) c.load_adopt_by-adopted.new.self)) moves.environment c.is_whole-2.ensures;
+        whole = subst (λ e. WellFormed (values_at g.E.Node.NodeSet g.E.Env g.E.Hash.KeyHash e)
+            (state_in (telling g.S.PagableStorage.stored g.S.PagableStorage.is_closed g.S.PagableStorage.failed) c.load_adopt_by-adopted.new.self)) moves.environment c.is_whole-2.ensures;
       };
     }

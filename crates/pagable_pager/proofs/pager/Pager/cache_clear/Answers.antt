@@ -9,4 +9,4 @@ invariant_of-self g c =
     held _ _ _ is c.cache_clear.new.t c.cache_clear.ensures.whole (c.cache_clear.ensures.later is.later) (clears step) (clear-whole c.cache_clear.result is.state.whole step)
 
 pub returns-clause-step : goal.returns-clause-step
-returns-clause-step g c = rw (← c.self.view_is) (c.cache_clear.ensures.cleared (g.S.PagableStorage.stored c.self.inside.storage) (g.S.PagableStorage.is_closed c.self.inside.storage) (g.S.PagableStorage.failed c.self.inside.storage))
+returns-clause-step g c = rw (← c.self.view_is) (c.cache_clear.ensures.cleared _ _ _)

@@ -6,9 +6,9 @@ pub invariant_of-self : goal.invariant_of-self
 invariant_of-self g c =
     let is = c.self.invariant in
     let e = c.load_lazy.ensures in
-    let step = e.lazily (g.S.PagableStorage.stored c.self.inside.storage) (g.S.PagableStorage.is_closed c.self.inside.storage) (g.S.PagableStorage.failed c.self.inside.storage) (told-open c.has_closed-lists.ensures) in
-    let whole = whole-over c.load_lazy.new.t (g.S.PagableStorage.stored c.self.inside.storage) (g.S.PagableStorage.is_closed c.self.inside.storage) (g.S.PagableStorage.failed c.self.inside.storage) e.whole (λ shut. lazy-bare shut (is.state.whole.shut shut) c.load_lazy.result step) in
+    let step = e.lazily _ _ _ (told-open c.has_closed-lists.ensures) in
+    let whole = whole-over c.load_lazy.new.t _ _ _ e.whole (λ shut. lazy-bare shut (is.state.whole.shut shut) c.load_lazy.result step) in
     record { tables = e.whole; later = e.later; state = lazily is.state c.load_lazy.result step (λ n. refl) e.whole.steady.fits.pinned whole }
 
 pub returns-clause-step : goal.returns-clause-step
-returns-clause-step g c = rw (← c.self.view_is) (c.load_lazy.ensures.lazily (g.S.PagableStorage.stored c.self.inside.storage) (g.S.PagableStorage.is_closed c.self.inside.storage) (g.S.PagableStorage.failed c.self.inside.storage) (told-open c.has_closed-lists.ensures))
+returns-clause-step g c = rw (← c.self.view_is) (c.load_lazy.ensures.lazily _ _ _ (told-open c.has_closed-lists.ensures))

@@ -15,7 +15,8 @@ invariant_of-self-in-Err-share_with_room g c =
 
 pub returns-in-Err-share_with_room-clause-step : goal.returns-in-Err-share_with_room-clause-step
 returns-in-Err-share_with_room-clause-step g c =
-    rw (← c.self.view_is) (no-memory _ _ _ c.self.invariant c.prepare.new.t c.share_with_room.new.values c.args.node c.in-Err-share_with_room.node c.in-Err-share_with_room.ensures.back (g.E.Node.NodeSet.type_of c.args.node) (g.E.Node.NodeSet.refs_of c.args.node) c.args.mode (c.prepare.ensures.room _ _ _))
+    rw (← c.self.view_is) (no-memory _ _ _ c.self.invariant c.prepare.new.t c.share_with_room.new.values c.args.node c.in-Err-share_with_room.node c.in-Err-share_with_room.ensures.back
+    (g.E.Node.NodeSet.type_of c.args.node) (g.E.Node.NodeSet.refs_of c.args.node) c.args.mode (c.prepare.ensures.room _ _ _))
 
 pub invariant_of-self-2 : goal.invariant_of-self-2
 invariant_of-self-2 g c =

@@ -6,6 +6,6 @@ pub invariant_of-self : goal.invariant_of-self
 invariant_of-self g c =
     let is = c.self.invariant in
     let e = c.new_away.ensures in
-    let step = e.born (g.S.PagableStorage.stored c.self.inside.storage) (g.S.PagableStorage.is_closed c.self.inside.storage) (g.S.PagableStorage.failed c.self.inside.storage) in
-    let whole = whole-over c.new_away.new.t (g.S.PagableStorage.stored c.self.inside.storage) (g.S.PagableStorage.is_closed c.self.inside.storage) (g.S.PagableStorage.failed c.self.inside.storage) e.whole (λ shut. away-bare c.new_away.result step (is.state.whole.shut shut)) in
+    let step = e.born _ _ _ in
+    let whole = whole-over c.new_away.new.t _ _ _ e.whole (λ shut. away-bare c.new_away.result step (is.state.whole.shut shut)) in
     record { tables = e.whole; later = e.later is.later; state = born-away is.state c.new_away.result caller-free step (λ n. refl) e.whole.steady.fits.pinned whole }
