@@ -1,37 +1,17 @@
 -- A load's step, and why it is refused.
-use Rattle.std.proofs.lemmas.Bool.Decides.{nat_tests}
-use Rattle.std.proofs.lemmas.Grind.{common_steps}
-use Rattle.std.proofs.Common.{rules}
-use Rattle.std.proofs.Common.{◌≡◌, ℕ, Bool, true, false, List, [], Option, Some, None, Ok, Err, inl, inr, refl, sym, ap, subst, ◌∙◌, arith}
-use Rattle.std.specs.Prelude.{Result, is_none, is_some, not}
-use Rattle.std.specs.Option.{option_map}
+use Rattle.pagable_machine.proofs.Words.{nat_tests, common_steps, rules, ◌≡◌, ℕ, Bool, true, false, List, [], Option, Some, None, Ok, Err, inl, inr, refl, sym, ap, subst, ◌∙◌, arith, Result}
+use Rattle.pagable_machine.proofs.Words.{is_none, is_some, not, option_map, LoadAnswer, Error, LoadNumber, LoadReply, if_there, or_else, updated, is_owner, Core, Frame, OpenLoad, Reading, Root}
+use Rattle.pagable_machine.proofs.Words.{of_cell, of_key, Seen, one_more, OwnsLoad, earlier, load_fault, refused_if, DropCall, LoadCloses, gone_on, fresh, reading_after, reading_at}
+use Rattle.pagable_machine.proofs.Words.{reading_of_root, step_fault, FitsRoot, Moves, PagerState, WellFormed, world_of, ReadingStep, same_some, IsLoadOf, is_cell, reading_of, type_of_root}
+use Rattle.pagable_machine.proofs.Words.{Ghosts, Holding, IsKept, IsSameLoad, IsServing, IsTaken, KeepsOne, Kept, Makes, ReadsFor, Stepped, machine_of, readings_in, rest_after}
+use Rattle.pagable_loads.specs.declared.reading.Reading.{Reading as Own}
+use Rattle.pagable_machine.proofs.Keeping.{KeepsAll, alike-self, are-these, as-before, at-one, kept-on, one-or-old, quiet, refuses, same-work, stays}
+use Rattle.pagable_machine.proofs.Leaving.{IsMine, owned-mine, step-leaves}
 use Rattle.pagable_model.specs.declared.error.Error.TheVariants as errors
 use Rattle.pagable_world.specs.declared.handles.Owner.TheVariants as owners
-use Rattle.pagable_world.specs.declared.events.LoadAnswer.{LoadAnswer}
 use Rattle.pagable_world.specs.declared.events.LoadAnswer.TheVariants as ends
 use Rattle.pagable_world.specs.declared.events.Event.TheVariants as events
 use Rattle.pagable_world.specs.declared.events.EventReply.TheVariants as answers
-use Rattle.pagable_model.specs.declared.error.Error.{Error}
-use Rattle.pagable_model.specs.declared.numbers.LoadNumber.{LoadNumber}
-use Rattle.pagable_world.specs.declared.events.LoadReply.{LoadReply}
-use Rattle.pagable_world.specs.Plain.{if_there, or_else, updated}
-use Rattle.pagable_world.specs.Kinds.{is_owner}
-use Rattle.pagable_world.specs.World.{Core, Frame, OpenLoad, Reading, Root, of_cell, of_key, Seen, one_more}
-use Rattle.pagable_world.specs.Refusals.{OwnsLoad, earlier, load_fault, refused_if}
-use Rattle.pagable_world.specs.LoadCalls.{DropCall, LoadCloses}
-use Rattle.pagable_world.specs.Loads.{gone_on}
-use Rattle.pagable_world.specs.Workers.{fresh}
-use Rattle.pagable_world.specs.Events.{reading_after, reading_at, reading_of_root, step_fault}
-use Rattle.pagable_world.specs.Pager.{FitsRoot, Moves, PagerState, WellFormed, world_of}
-use Rattle.pagable_world.specs.Access.{ReadingStep}
-use Rattle.pagable_laws.proofs.Trees.{same_some}
-use Rattle.pagable_loads.specs.declared.reading.Reading.{Reading as Own}
-use Rattle.pagable_loads.specs.Frames.{IsLoadOf, is_cell, reading_of}
-use Rattle.pagable_pager.specs.Opened.{type_of_root}
-use Rattle.pagable_walk.specs.declared.results.Trees.{Ghosts}
-use Rattle.pagable_machine.specs.Keeping.{Holding, IsKept, IsSameLoad, IsServing, IsTaken, KeepsOne, Kept, Makes, ReadsFor, Stepped, machine_of, readings_in, rest_after}
-use Rattle.pagable_machine.proofs.Keeping.{KeepsAll, alike-self, are-these, as-before, at-one, kept-on, one-or-old, quiet, refuses, same-work, stays}
-use Rattle.pagable_machine.proofs.Leaving.{IsMine, owned-mine, step-leaves}
 
 fits : (root : Root) (a b : Reading) → b.node_type ≡ a.node_type → FitsRoot root a → FitsRoot root b
 fits (of_cell node t h) a b same fit = same ∙ fit
@@ -64,7 +44,8 @@ still-reads {load} {own} {now} reads e =
 
 module _ {X : Type 0} {g : Ghosts X} {N E : Type 0} (s : PagerState N E) {h : Holding g} (serving : IsServing s.core h) where
   -- what is taken is of the load
-  reads-taken : (l : LoadNumber) (load : OpenLoad) (key : ℕ) (t : Option ℕ) (own : Own) → OwnsLoad s.core owners.Caller l load → load.key ≡ key → type_of_root load.root ≡ t → IsTaken h.readings l key t own
+  reads-taken : (l : LoadNumber) (load : OpenLoad) (key : ℕ) (t : Option ℕ) (own : Own) → OwnsLoad s.core owners.Caller l load → load.key ≡ key → type_of_root load.root ≡ t
+      → IsTaken h.readings l key t own
       → (own.load ≡ l) × ReadsFor load own × (reading_at (world_of (machine_of s h)) l ≡ Some (reading_of own))
   reads-taken l load key t own o key_is root taken = elim taken.why [
     | inl there ↦ let k = serving.readings l.0 own there in (ap (λ n. record { 0 = n }) k.number, k.reads load o.stands_open, at-kept s h l load o own there)
@@ -82,7 +63,8 @@ module _ {X : Type 0} {g : Ghosts X} {N E : Type 0} (s : PagerState N E) {h : Ho
       of_root of_key type is = absurd (cc)
 
 -- a load of a key that a call began
-pub never-typed : {X : Type 0} {g : Ghosts X} {N E : Type 0} (s : PagerState N E) (h : Holding g) (l : LoadNumber) (load : OpenLoad) → OwnsLoad s.core owners.Caller l load → h.readings l.0 ≡ None → type_of_root load.root ≡ None
+pub never-typed : {X : Type 0} {g : Ghosts X} {N E : Type 0} (s : PagerState N E) (h : Holding g) (l : LoadNumber) (load : OpenLoad) → OwnsLoad s.core owners.Caller l load → h.readings l.0 ≡ None
+    → type_of_root load.root ≡ None
     → step_fault (world_of (machine_of s h)) l ≡ Some errors.WrongMode
 never-typed s h l load o none untyped = first_of (grind (arith, common_steps, nat_tests), search (rules))
 
@@ -120,7 +102,8 @@ module _ {X : Type 0} {g : Ghosts X} {N B W E : Type 0} (m : Seen N B W) (s s' :
           does = step.does;
           counts = counts;
           readings = are-these s'.core kept' (updated l.0 (reading_after reply.ended reading frames) (readings_in h.readings s.core))
-              (λ q open_load is_open. at-one reading_of l.0 x (reading_after reply.ended reading frames) (readings_in h.readings s.core) keeps goes q (as-before serving.readings on q open_load is_open));
+              (λ q open_load is_open. at-one reading_of l.0 x (reading_after reply.ended reading frames) (readings_in h.readings s.core) keeps goes q
+              (as-before serving.readings on q open_load is_open));
           work = same-work m s s' h kept' serving was step.whole;
         };
         refused = tt;
@@ -190,11 +173,13 @@ fault-first None true e is = is
 fault-first None false e is = is
 fault-first (Some load) b e is = first_of (grind (arith, common_steps, nat_tests), search (rules))
 
-pub faulty : {X : Type 0} {g : Ghosts X} {N E : Type 0} (s : PagerState N E) (h : Holding g) (l : LoadNumber) (e : Error) → load_fault s.core owners.Caller l ≡ Some e → step_fault (world_of (machine_of s h)) l ≡ Some e
+pub faulty : {X : Type 0} {g : Ghosts X} {N E : Type 0} (s : PagerState N E) (h : Holding g) (l : LoadNumber) (e : Error) → load_fault s.core owners.Caller l ≡ Some e
+    → step_fault (world_of (machine_of s h)) l ≡ Some e
 faulty s h l e is = fault-first (s.core.loads l.0) (is_none (reading_at (world_of (machine_of s h)) l)) e is
 
 -- a load's step is refused
-pub refuses-step : {X : Type 0} {g : Ghosts X} {N B W E : Type 0} (m : Seen N B W) (s : PagerState N E) (h : Holding g) {kept' : Kept} → IsServing s.core h → WellFormed m.values s → (l : LoadNumber) (e : Error)
+pub refuses-step : {X : Type 0} {g : Ghosts X} {N B W E : Type 0} (m : Seen N B W) (s : PagerState N E) (h : Holding g) {kept' : Kept} → IsServing s.core h → WellFormed m.values s
+    → (l : LoadNumber) (e : Error)
     → ((q : ℕ) → kept' q ≡ h.readings q) → step_fault (world_of (machine_of s h)) l ≡ Some e → Makes m s h (events.LoadStep l) (answers.LoadMoved (Err e)) s (record h { readings = kept' })
 refuses-step m s h {kept'} serving was l e as_was why =
     let keeps : KeepsAll h (record h { readings = kept' }) = record { readings = as_was; tables = refl; walks = λ v. refl } in

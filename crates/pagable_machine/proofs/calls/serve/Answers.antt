@@ -1,4 +1,4 @@
-use Rattle.std.proofs.Common.{inl}
+use Rattle.pagable_machine.proofs.Words.{inl}
 use Rattle.pagable_machine.proofs.calls.serve.Goals as goal
 
 pub returns-in-LoadAdopt : goal.returns-in-LoadAdopt
