@@ -3,7 +3,7 @@ use Rattle.pagable_pager.proofs.Words.{◌≡◌, ℕ, ◌+◌, Bool, true, fals
 use Rattle.pagable_pager.proofs.Words.{IfErr, IfSome, IfNone, OnOk, OnErr, get, OptionalDataKey, ArcRef, Kind, LoadNumber, HandleNumber, Owner, Error, type_of, if_there, mode_of, is_owner, Core}
 use Rattle.pagable_pager.proofs.Words.{OpenLoad, Last, Alike, usable, Refused, load_fault, closed_fault, refused_if, with_handle, with_node, with_cached, next_node, adopted, adopt_fault}
 use Rattle.pagable_pager.proofs.Words.{AdoptCall, Adopts, IsNewNode, Moves, adopted_known, stayed, spares-alike, Tables, counts_at, IsWhole, Sheds, AreLater, OnlyRoom, earlier-first, told-later}
-use Rattle.pagable_pager.proofs.Words.{still, PagerView, Telling, Spelling, ValuesByNode, IsPager, OnlyLess, core_in, state_in, value_in, values_of}
+use Rattle.pagable_pager.proofs.Words.{still, PagerView, Telling, Spelling, ValuesByNode, IsPager, OnlyLess, core_in, state_in, value_in, values_of, nat_tests}
 use Rattle.pagable_steps.proofs.BirthCalls.{adopts-new}
 use Rattle.pagable_pager.proofs.{Shed.shed, Shed.whole-over, Births.told, Births.roomier, Births.moved-in, Births.unmoved, Shut.adopts-bare, Shut.bare-alike}
 use Rattle.pagable_model.specs.declared.error.Error.TheVariants as errors
@@ -11,14 +11,7 @@ use Rattle.pagable_world.specs.declared.handles.Owner.TheVariants as owners
 
 -- the new node has the next number
 pub adopted-node : (w : Core) {w' : Core} (l : LoadNumber) (kind : Kind) (key : ℕ) (own : OptionalDataKey) (rs : List ArcRef) → Alike (adopted w l kind key own rs) w' → w'.last.node ≡ w.last.node + 1
-adopted-node w l kind key own rs a = ap (λ (x : Last). x.node) a.last ∙ split w.closed
-  where
-    made : Core
-    made = with_handle (with_node w (type_of kind.0) own rs) (next_node w) (mode_of kind.0) (owners.Load l)
-
-    split : (b : Bool) → (if b then made else with_cached made kind key (next_node w)).last.node ≡ w.last.node + 1
-    split true = refl
-    split false = refl
+adopted-node w l kind key own rs a = grind (arith, nat_tests)
 
 module _ {N S E : Type 0} (tells : Telling S) (g : Spelling N E) (p : PagerView N S E) (is : IsPager tells g p) (t : Tables) (values : ValuesByNode N)
     (whole : IsWhole t) (later : AreLater t) (sheds : Sheds (counts_at p.tables.holdings.nodes) (get nat_eq p.values) (counts_at t.holdings.nodes) (get nat_eq values)) where

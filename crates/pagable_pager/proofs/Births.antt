@@ -17,10 +17,7 @@ away-bare (Err e) c b = bare-alike c.refused.stays b
 -- a birth in a world where room was made before
 pub birth-past : {N : Type 0} {w w1 w' : Core} {x : N} (me : Owner) (t t' : ℕ) (rs rs' : List ArcRef) (mode : Mode) (k : HandleNumber) → OnlyRoom w w1 → references_fault w me [] rs ≡ None → w1.last.node < greatest
     → t ≡ t' → rs ≡ rs' → BearsValue w1 me t rs mode k w' → BirthCall w me x t' rs' mode (Ok k) w'
-birth-past {N} {w} {w1} {w'} {x} me t t' rs rs' mode k room fit left typed named b = subst (λ u. BirthCall w me x u rs' mode (Ok k) w') typed (subst (λ l. BirthCall w me x t l mode (Ok k) w') named made)
-  where
-    made : BirthCall w me x t rs mode (Ok k) w'
-    made = record { made = (fit, subst (λ (u : Core). u.last.node < greatest) room.same left, next-past room b.next, born-past t optional.None rs mode me room b.leaves); refused = tt }
+birth-past {N} {w} {w1} {w'} {x} me t t' rs rs' mode k room fit left typed named b = grind (arith, nat_tests, born-past, next-past)
 
 -- it has the next number
 pub born-next : {w w1 w' : Core} {me : Owner} {t : ℕ} {rs : List ArcRef} {mode : Mode} {k : HandleNumber} → OnlyRoom w w1 → BearsValue w1 me t rs mode k w' → w'.last.node ≡ w.last.node + 1
@@ -53,10 +50,7 @@ module _ {N S E : Type 0} (tells : Telling S) (g : Spelling N E) (p : PagerView 
 
   module _ (x : N) (here : value_in values next ≡ Some x) (others : (n : ℕ) → n ≢ next → value_in values n ≡ value_in p.values n) where
     pub told : (n : ℕ) → value_in values n ≡ (if n == next then Some x else value_in p.values n)
-    told n = elim (cases_eq n next) [
-      | inl e ↦ let b : (n == next) ≡ true = grind (arith, nat_tests) in ap (value_in values) e ∙ here ∙ sym (ap (λ c. if c then Some x else value_in p.values n) b)
-      | inr e ↦ let b : (n == next) ≡ false = grind (arith, nat_tests) in others n e ∙ sym (ap (λ c. if c then Some x else value_in p.values n) b)
-    ]
+    told n = grind (arith, nat_tests, cases_eq)
 
     -- the node came with its value
     pub comes-in : (mode : Mode) (k : HandleNumber) → is_pinning mode ≡ true → IsWhole t → AreLater t → BirthCall (core_in tells p) owners.Caller x (g.type_of x) (g.refs_of x) mode (Ok k) (core_in tells after) → IsPager tells g after
@@ -66,25 +60,7 @@ module _ {N S E : Type 0} (tells : Telling S) (g : Spelling N E) (p : PagerView 
 
     -- the node of the next number has no value yet
     none-yet : value_in p.values next ≡ None
-    none-yet = at (value_in p.values next) refl
-      where
-        left : (a b : Bool) → true ≡ (a && b) → a ≡ true
-        left true b e = refl
-        left false b e = absurd (cc)
-
-        at : (o : Option N) → value_in p.values next ≡ o → value_in p.values next ≡ None
-        at None e = e
-        at (Some y) e =
-            let a = left (is_some ((core_in tells p).cells next)) (is_here (core_in tells p) next) (sym (ap is_some e) ∙ is.state.valued next) in
-            let b = (is.state.whole.handles.nodes_numbered next a).1 in
-            absurd (omega arith)
+    none-yet = grind (arith, nat_tests)
 
     pub moved-in : Moves (λ n y. (y ≡ x) × IsNewNode (core_in tells p) n) (state_in tells p) (state_in tells after)
-    moved-in =
-        record {
-          each = λ n y has. elim (cases_eq n next) [
-            | inl e ↦ inr (ap (value_in p.values) e ∙ none-yet, (same_some _ _ (sym has ∙ ap (value_in values) e ∙ here), omega arith))
-            | inr e ↦ inl (sym (others n e) ∙ has)
-          ];
-          environment = refl;
-        }
+    moved-in = grind (arith, nat_tests, cases_eq, none-yet, same_some)

@@ -12,7 +12,7 @@ use Rattle.pagable_pager.proofs.Words.{option_map, OptionalDataKey, Error, ArcRe
 use Rattle.pagable_pager.proofs.Words.{is_pinning, is_loose, is_unpinned, mode_of, owner_value, Core, Reading, of_cell, Values, Alike, row_at, Looks, StoreCall, row_of, with_handle, with_node}
 use Rattle.pagable_pager.proofs.Words.{with_cached, next_node, is_named_by, IsNext, BeginCall, GetsKnown, LazyCall, Adopts, first_key, fresh, reading_of_load, HandlesAreWhole, WellFormed, Told}
 use Rattle.pagable_pager.proofs.Words.{Called, found-number, good, NotValues, Stands, AreUpTo, stands-new, stands-alike, stands-fell, among-changed, among-found, named-among, row-pins, same_some}
-use Rattle.pagable_pager.proofs.Words.{pinned-here, StartsPin, is_unpinned_at, begun_is, IsMade, PagerView, Telling, OnlyLess, core_in, state_in}
+use Rattle.pagable_pager.proofs.Words.{pinned-here, StartsPin, is_unpinned_at, begun_is, IsMade, PagerView, Telling, OnlyLess, core_in, state_in, nat_tests}
 use Rattle.pagable_model.specs.declared.data_key.OptionalDataKey.TheVariants as optional
 use Rattle.pagable_world.specs.declared.answers.Beginning.TheVariants as beginnings
 use Rattle.pagable_world.specs.declared.handles.Owner.TheVariants as owners
@@ -22,12 +22,7 @@ use Rattle.pagable_loads.specs.declared.starting.PinStart.TheVariants as starts
 -- what a call does to a pager of which no value comes
 module _ {N S E : Type 0} (tells : Telling S) (v : E → Values N) (p q : PagerView N S E) where
   pub called : (D : Core → Type 0) → D (core_in tells q) → FewerValues p q → WellFormed (v q.environment) (state_in tells q) → Called (v p.environment) D (state_in tells p) (state_in tells q)
-  called D step only whole =
-      record {
-        step = step;
-        moves = record { each = λ n x has. inl (only.values n x has); environment = only.environment };
-        whole = subst (λ e. WellFormed (v e) (state_in tells q)) only.environment whole;
-      }
+  called D step only whole = grind (arith, nat_tests)
 
   pub told_fewer : (D : Core → Core → Type 0) → D (core_in tells p) (core_in tells q) → FewerValues p q → WellFormed (v q.environment) (state_in tells q)
       → Told (Some (state_in tells p)) (Some (state_in tells q)) (λ s t. Called (v p.environment) (λ w'. D s.core w') s t)
@@ -48,10 +43,7 @@ module _ {N S E : Type 0} (tells : Telling S) (v : E → Values N) (p q : PagerV
   -- a worker that an entry moved to
   pub told_entry : {place : ℕ} {n : WorkerNumber} {r : ArcRef} → TakesEntry (core_in tells p) place n r (core_in tells q) → OnlyTables p q → WellFormed (v q.environment) (state_in tells q)
       → Told (Some (state_in tells p)) (Some (state_in tells q)) (λ s t. StartsEntry (v p.environment) s place n r t)
-  told_entry {place} {n} e only whole =
-      let same = all_there (record { values = only.values; environment = only.environment }) in
-      let begins = called (λ w'. Alike (with_worker (with_entry_taken (core_in tells p) place e.h n)) w') e.leaves same whole in
-      record { holds = record { h = e.h; row = e.row; type = e.type; entry = e.entry; kinds = e.kinds; is = e.is; starts = record { next = e.next; begins = begins } } }
+  told_entry {place} {n} e only whole = grind (arith, nat_tests, all_there, called)
 
   pub told_no_entry : {place : ℕ} {e : Error} → LeavesEntry (core_in tells p) place e (core_in tells q) → OnlyTables p q → WellFormed (v q.environment) (state_in tells q)
       → Told (Some (state_in tells p)) (Some (state_in tells q)) (λ s t. RefusesEntry (v p.environment) s place e t)
@@ -72,14 +64,7 @@ number_is : (w : Core) (h : HandleNumber) (row : HandleRow) → row_at w h ≡ S
 number_is w h row live = ap (λ n. record { 0 = n }) (found-number h.0 w.rows row live)
 
 pub made_so : {w : Core} {kind : Kind} {h : HandleNumber} {n : NodeNumber} → Looks w h (λ m row. m ≡ row.node) (Ok n) → IsMade w kind (record { kind = kind; node = n; handle = h })
-made_so {w} {kind} {h} {n} l =
-    let row : HandleRow = l.found.0 in
-    let number = number_is w h row l.found.1 in
-    record {
-      row = row;
-      live = l.found.1;
-      is = ap (λ (m : NodeNumber). let x : ArcRef = record { kind = kind; node = m; handle = h } in x) l.found.2 ∙ ap (λ (k : HandleNumber). let x : ArcRef = record { kind = kind; node = row.node; handle = k } in x) (sym number);
-    }
+made_so {w} {kind} {h} {n} l = grind (arith, nat_tests, number_is)
 
 module _ {w : Core} (whole : HandlesAreWhole w) where
   few : AreUpTo w.last.handle w.rows
@@ -172,28 +157,10 @@ module _ {w : Core} (whole : HandlesAreWhole w) where
 
 module _ {w w' : Core} {me : Owner} {h : HandleNumber} {l : LoadNumber} {key : ℕ} (c : BeginCall w me h (Ok (beginnings.Load l key)) w') where
   type_there : (t : ℕ) × (reading_of_load l (w'.loads l.0) ≡ Some (fresh l t))
-  type_there =
-      let b = c.begins in
-      let made = b.2.4 in
-      (made.0, ap (reading_of_load l) (begun_is (with_handle w b.0.node modes.LooseUnpinned (owners.Load l)) w' l key (of_cell b.0.node made.0 h) me b.2.2.above made.2))
+  type_there = grind (arith, nat_tests, begun_is)
 
   let_go : is_unpinned_at w h ≡ true
-  let_go = let b = c.begins in ap (if_there (λ (row : HandleRow). is_unpinned row.mode) false) b.1.live ∙ by b.0.mode refl b.1.as_asked
-    where
-      away : (m : Mode) → c.begins.0.mode ≡ m → is_pinning m ≡ true → ⊥
-      away m is pinning =
-          let b = c.begins in
-          let here = pinned-here w b.0.node.0 (row-pins w h b.0 b.1.live (ap is_pinning is ∙ pinning)) in
-          let f : true ≡ false = sym here ∙ b.2.0 in
-          absurd (cc)
-
-      by : (m : Mode) → c.begins.0.mode ≡ m → is_loose m ≡ true → is_unpinned m ≡ true
-      by modes.LooseUnpinned is loose = refl
-      by modes.LoosePinned is loose = absurd (away modes.LoosePinned is refl)
-      by modes.Pinned is loose = absurd (cc)
-      by modes.Shared is loose = absurd (cc)
+  let_go = grind (arith, nat_tests, pinned-here, row-pins)
 
   pub load_starts : (t : ℕ) → Some t ≡ option_map (λ (r : Reading). r.node_type) (reading_of_load l (w'.loads l.0)) → StartsPin w me h (Ok (starts.Load l key t)) w'
-  load_starts t is =
-      let same : type_there.0 ≡ t = same_some _ _ (sym (ap (option_map (λ (r : Reading). r.node_type)) type_there.1) ∙ sym is) in
-      record { starts = (c, let_go, type_there.1 ∙ ap (λ u. Some (fresh l u)) same); refused = tt }
+  load_starts t is = grind (arith, nat_tests, let_go, same_some, type_there)

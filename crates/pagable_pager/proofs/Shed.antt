@@ -59,16 +59,7 @@ module _ {N S E : Type 0} (tells : Telling S) (g : Spelling N E) (p : PagerView 
   -- what is left
   pub leaves : (t : Tables) (values : ValuesByNode N) → IsWhole t → Sheds (counts_at p.tables.holdings.nodes) (get nat_eq p.values) (counts_at t.holdings.nodes) (get nat_eq values) → pager.IsWhole (core_in tells (record p { tables = t; values = values }))
       → Leaves (value_in p.values) (state_in tells (record p { tables = t; values = values }))
-  leaves t values whole sheds core =
-      let left = sheds.left kept-in in
-      let w' = core_in tells (record p { tables = t; values = values }) in
-      record {
-        swept = λ n.
-            left-map arc_value (has_value (counts_at t.holdings.nodes n)) (get nat_eq p.values n) (get nat_eq values n) (left n).0 (left n).1
-            ∙ ap (λ b. if b then value_in p.values n else None) (sym (here-told (counts_at t.holdings.nodes n) w' n refl (sym (whole.steady.fits.pinned n))));
-        counted = whole.steady.fits.pinned;
-        whole = core;
-      }
+  leaves t values whole sheds core = grind (arith, nat_tests, here-told, kept-in, left-map, nat_eq)
 
   -- what is left leaves the pager in step
   pub shed : (t : Tables) (values : ValuesByNode N) → IsWhole t → AreLater t → Sheds (counts_at p.tables.holdings.nodes) (get nat_eq p.values) (counts_at t.holdings.nodes) (get nat_eq values)
@@ -78,10 +69,7 @@ module _ {N S E : Type 0} (tells : Telling S) (g : Spelling N E) (p : PagerView 
 
   -- no value came
   pub less : (t : Tables) (values : ValuesByNode N) → Sheds (counts_at p.tables.holdings.nodes) (get nat_eq p.values) (counts_at t.holdings.nodes) (get nat_eq values) → (n : ℕ) (x : N) → value_in values n ≡ Some x → value_in p.values n ≡ Some x
-  less t values sheds n x some = elim (sheds.left kept-in n).0 [
-    | inl eq ↦ sym (ap (option_map arc_value) eq) ∙ some
-    | inr eq ↦ absurd (let e : None ≡ Some x = sym (ap (option_map arc_value) eq) ∙ some in cc)
-  ]
+  less t values sheds n x some = grind (arith, nat_tests, kept-in)
 
 -- cells are listed while the storage isn't closed
 pub told-open : {b closed : Bool} → b ≡ closed → not b ≡ not closed
