@@ -1,13 +1,11 @@
 -- What a load has read becomes a node, and what becomes of the pager then.
-use Rattle.pagable_pager.proofs.Words.{◌≡◌, ℕ, ◌+◌, Bool, true, false, if◌then◌else◌, List, refl, ap, ◌∙◌, sym, subst, Option, Some, None, Ok, Err, nat_eq, inl, arith, ◌≢◌, not, Result, IfOk}
-use Rattle.pagable_pager.proofs.Words.{IfErr, IfSome, IfNone, OnOk, OnErr, get, OptionalDataKey, ArcRef, Kind, LoadNumber, HandleNumber, Owner, Error, type_of, if_there, mode_of, is_owner, Core}
-use Rattle.pagable_pager.proofs.Words.{OpenLoad, Last, Alike, usable, Refused, load_fault, closed_fault, refused_if, with_handle, with_node, with_cached, next_node, adopted, adopt_fault}
-use Rattle.pagable_pager.proofs.Words.{AdoptCall, Adopts, IsNewNode, Moves, adopted_known, stayed, spares-alike, Tables, counts_at, IsWhole, Sheds, AreLater, OnlyRoom, earlier-first, told-later}
-use Rattle.pagable_pager.proofs.Words.{still, PagerView, Telling, Spelling, ValuesByNode, IsPager, OnlyLess, core_in, state_in, value_in, values_of, nat_tests}
+use Rattle.pagable_pager.proofs.Words.{◌≡◌, ℕ, ◌+◌, List, ap, sym, subst, Option, Some, None, Ok, Err, nat_eq, inl, arith, ◌≢◌, not, Result, IfOk, IfErr, IfSome, IfNone, OnOk, OnErr, get}
+use Rattle.pagable_pager.proofs.Words.{OptionalDataKey, ArcRef, Kind, LoadNumber, HandleNumber, Owner, Error, if_there, is_owner, Core, OpenLoad, Alike, usable, Refused, load_fault, closed_fault}
+use Rattle.pagable_pager.proofs.Words.{refused_if, adopted, adopt_fault, AdoptCall, Adopts, IsNewNode, Moves, adopted_known, stayed, spares-alike, Tables, counts_at, IsWhole, Sheds, AreLater}
+use Rattle.pagable_pager.proofs.Words.{OnlyRoom, earlier-first, told-later, still, PagerView, Telling, Spelling, ValuesByNode, IsPager, OnlyLess, core_in, state_in, value_in, values_of, nat_tests}
 use Rattle.pagable_steps.proofs.BirthCalls.{adopts-new}
 use Rattle.pagable_pager.proofs.{Shed.shed, Shed.whole-over, Births.told, Births.roomier, Births.moved-in, Births.unmoved, Shut.adopts-bare, Shut.bare-alike}
 use Rattle.pagable_model.specs.declared.error.Error.TheVariants as errors
-use Rattle.pagable_world.specs.declared.handles.Owner.TheVariants as owners
 
 -- the new node has the next number
 pub adopted-node : (w : Core) {w' : Core} (l : LoadNumber) (kind : Kind) (key : ℕ) (own : OptionalDataKey) (rs : List ArcRef) → Alike (adopted w l kind key own rs) w' → w'.last.node ≡ w.last.node + 1

@@ -1,12 +1,10 @@
 -- A node that comes, or room that was made for one, leaves the pager in step.
-use Rattle.pagable_pager.proofs.Words.{◌≡◌, ℕ, ◌==◌, ◌&&◌, ◌<◌, ◌+◌, Bool, true, false, if◌then◌else◌, Ok, Err, [], refl, ap, sym, subst, ◌∙◌, Some, None, Option, inl, inr, arith, ◌≢◌, List}
-use Rattle.pagable_pager.proofs.Words.{Result, is_some, nat_tests, cases_eq, ArcRef, HandleNumber, Owner, Mode, Blob, Error, is_pinning, Core, greatest, is_here, references_fault, BirthCall}
-use Rattle.pagable_pager.proofs.Words.{AwayBirthCall, IsNewNode, Moves, same_some, born, spared, spares-alike, Tables, BearsValue, OnlyRoom, IsWhole, core_of, plain_of, AreLater, room-alike}
-use Rattle.pagable_pager.proofs.Words.{room-fault, fault-by, next-past, born-past, PagerView, Telling, Spelling, ValuesByNode, IsPager, core_in, state_in, value_in, values_of}
+use Rattle.pagable_pager.proofs.Words.{◌≡◌, ℕ, ◌==◌, ◌<◌, ◌+◌, Bool, true, if◌then◌else◌, Ok, Err, [], refl, ap, sym, ◌∙◌, Some, None, Option, inl, inr, arith, ◌≢◌, List, Result, nat_tests}
+use Rattle.pagable_pager.proofs.Words.{cases_eq, ArcRef, HandleNumber, Owner, Mode, Blob, Error, is_pinning, Core, greatest, references_fault, BirthCall, AwayBirthCall, IsNewNode, Moves}
+use Rattle.pagable_pager.proofs.Words.{same_some, born, spared, spares-alike, Tables, BearsValue, OnlyRoom, IsWhole, core_of, plain_of, AreLater, room-alike, room-fault, fault-by, next-past}
+use Rattle.pagable_pager.proofs.Words.{born-past, PagerView, Telling, Spelling, ValuesByNode, IsPager, core_in, state_in, value_in, values_of, Last}
 use Rattle.pagable_pager.proofs.{Shed.whole-over, Shut.IsBare, Shut.bare-alike, Spared.caller-free}
-use Rattle.pagable_model.specs.declared.data_key.OptionalDataKey.TheVariants as optional
 use Rattle.pagable_model.specs.declared.error.Error.TheVariants as errors
-use Rattle.pagable_pager.proofs.Words.{Last}
 use Rattle.pagable_world.specs.declared.handles.Owner.TheVariants as owners
 
 -- nothing comes to the list or the cache with a cell that is away

@@ -1,6 +1,6 @@
 -- A pager whose storage is closed.
-use Rattle.pagable_pager.proofs.Words.{◌≡◌, ℕ, Bool, true, None, Ok, refl, sym, subst, nat_eq, Option, get, Blob, CloseCall, closed, Tables, counts_at, Sheds, AreLater, IsWhole, core_of}
-use Rattle.pagable_pager.proofs.Words.{PagerView, Telling, Spelling, ValuesByNode, IsPager, core_in, arith, nat_tests}
+use Rattle.pagable_pager.proofs.Words.{◌≡◌, ℕ, Bool, true, None, Ok, refl, nat_eq, Option, get, Blob, CloseCall, closed, Tables, counts_at, Sheds, AreLater, IsWhole, core_of, PagerView, Telling}
+use Rattle.pagable_pager.proofs.Words.{Spelling, ValuesByNode, IsPager, core_in, arith, nat_tests}
 use Rattle.pagable_pager.proofs.{Shed.leaves, Shed.whole-over, Shut.bare-fell}
 
 -- what the storage tells is that it is empty and closed

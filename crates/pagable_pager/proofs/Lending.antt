@@ -1,22 +1,16 @@
 -- What a lent pager's calls tell as those of an access.
-use Rattle.pagable_world.specs.LoadCalls.{AskCall, from_cache}
-use Rattle.pagable_loads.specs.Telling.{AsksFor}
+use Rattle.pagable_pager.proofs.Words.{AskCall, from_cache, AsksFor, FewerValues, OnlyTables, SameValues, value_in, ValuesByNode, Refers, TakesEntry, LeavesEntry, WorkerNumber, AdoptCall}
+use Rattle.pagable_pager.proofs.Words.{StartsEntry, RefusesEntry, TakesLazily, AdoptsValue, ◌≡◌, ℕ, ◌+◌, Bool, true, false, List, [], Option, Some, Result, Ok, Err, inl, inr, refl, ap, sym, subst}
+use Rattle.pagable_pager.proofs.Words.{◌∙◌, arith, IsSome, is_some, IfOk, if◌then◌else◌, option_map, OptionalDataKey, Error, ArcRef, HandleNumber, Kind, LoadNumber, NodeNumber, HandleRow, Owner}
+use Rattle.pagable_pager.proofs.Words.{Mode, Blob, type_of, find_row, mode_of, owner_value, Core, Reading, Values, Alike, row_at, Looks, StoreCall, row_of, with_handle, with_node, with_cached}
+use Rattle.pagable_pager.proofs.Words.{next_node, is_named_by, IsNext, BeginCall, GetsKnown, LazyCall, Adopts, first_key, fresh, reading_of_load, HandlesAreWhole, WellFormed, Told, Called}
+use Rattle.pagable_pager.proofs.Words.{found-number, good, NotValues, Stands, AreUpTo, stands-new, stands-alike, stands-fell, among-changed, among-found, named-among, row-pins, same_some}
+use Rattle.pagable_pager.proofs.Words.{pinned-here, StartsPin, is_unpinned_at, begun_is, IsMade, PagerView, Telling, OnlyLess, core_in, state_in, nat_tests}
 use Rattle.either.specs.declared.Either.TheVariants as eithers
 use Rattle.pagable_world.specs.declared.calls.Want.TheVariants as wants
-use Rattle.pagable_pager.specs.{View.FewerValues, View.OnlyTables, View.SameValues, View.value_in, View.ValuesByNode, Made.Refers, Made.TakesEntry, Made.LeavesEntry}
-use Rattle.pagable_model.specs.declared.numbers.WorkerNumber.{WorkerNumber}
-use Rattle.pagable_world.specs.{Events.with_worker, Events.with_entry_taken, LoadCalls.AdoptCall}
-use Rattle.pagable_loads.specs.{Working.StartsEntry, Working.RefusesEntry, Telling.TakesLazily, Telling.AdoptsValue}
-use Rattle.pagable_pager.proofs.Words.{◌≡◌, ℕ, ◌+◌, Bool, true, false, List, [], Option, Some, Result, Ok, Err, inl, inr, refl, ap, sym, subst, ◌∙◌, arith, IsSome, is_some, IfOk, if◌then◌else◌}
-use Rattle.pagable_pager.proofs.Words.{option_map, OptionalDataKey, Error, ArcRef, HandleNumber, Kind, LoadNumber, NodeNumber, HandleRow, Owner, Mode, Blob, type_of, if_there, find_row}
-use Rattle.pagable_pager.proofs.Words.{is_pinning, is_loose, is_unpinned, mode_of, owner_value, Core, Reading, of_cell, Values, Alike, row_at, Looks, StoreCall, row_of, with_handle, with_node}
-use Rattle.pagable_pager.proofs.Words.{with_cached, next_node, is_named_by, IsNext, BeginCall, GetsKnown, LazyCall, Adopts, first_key, fresh, reading_of_load, HandlesAreWhole, WellFormed, Told}
-use Rattle.pagable_pager.proofs.Words.{Called, found-number, good, NotValues, Stands, AreUpTo, stands-new, stands-alike, stands-fell, among-changed, among-found, named-among, row-pins, same_some}
-use Rattle.pagable_pager.proofs.Words.{pinned-here, StartsPin, is_unpinned_at, begun_is, IsMade, PagerView, Telling, OnlyLess, core_in, state_in, nat_tests}
 use Rattle.pagable_model.specs.declared.data_key.OptionalDataKey.TheVariants as optional
 use Rattle.pagable_world.specs.declared.answers.Beginning.TheVariants as beginnings
 use Rattle.pagable_world.specs.declared.handles.Owner.TheVariants as owners
-use Rattle.pagable_world.specs.declared.rows.Mode.TheVariants as modes
 use Rattle.pagable_loads.specs.declared.starting.PinStart.TheVariants as starts
 
 -- what a call does to a pager of which no value comes

@@ -1,11 +1,10 @@
 -- A value comes to a load's cell, and others go with their nodes.
-use Rattle.std.proofs.Common.{rules}
-use Rattle.pagable_pager.proofs.Words.{◌≡◌, ℕ, ◌==◌, ◌&&◌, Bool, true, false, Ok, Err, refl, ap, sym, ◌∙◌, subst, Some, None, Option, List, if◌then◌else◌, inl, inr, nat_eq, arith, ◌≢◌, ◌⊎◌}
-use Rattle.pagable_pager.proofs.Words.{Result, is_some, nat_lt, not, arc_value, get, cases_eq, nat_tests, ArcRef, NodeNumber, Owner, HandleNumber, LoadNumber, Error, if_there, updated, Core}
-use Rattle.pagable_pager.proofs.Words.{OpenLoad, Alike, is_here, OwnsLoad, Refused, load_fault, closed_fault, refused_if, DropCall, EndCall, EndRefused, Installs, MayEnd, end_fault, held}
-use Rattle.pagable_pager.proofs.Words.{is_owner, IsCellOf, Moves, WellFormed, row-held, installed_away, installed_there, Ending, Tables, counts_at, Sheds, has_value, IsWhole, plain_of, AreLater}
-use Rattle.pagable_pager.proofs.Words.{IsReady, IsVain, IsWider, ShedsBeside, Unends, has_come, Unended, installs-wider, may-wider, not-so, so-then, earlier-first, still, end_refused, spared}
-use Rattle.pagable_pager.proofs.Words.{spares-alike, PagerView, Telling, Spelling, ValuesByNode, IsPager, core_in, state_in, value_in, values_of, PutsIn, with_value}
+use Rattle.pagable_pager.proofs.Words.{rules, ◌≡◌, ℕ, ◌==◌, ◌&&◌, Bool, true, false, Ok, Err, refl, ap, sym, ◌∙◌, subst, Some, None, Option, List, if◌then◌else◌, inl, inr, nat_eq, arith, ◌≢◌, ◌⊎◌}
+use Rattle.pagable_pager.proofs.Words.{Result, is_some, nat_lt, get, cases_eq, nat_tests, ArcRef, NodeNumber, Owner, HandleNumber, LoadNumber, Error, if_there, updated, Core, OpenLoad, Alike}
+use Rattle.pagable_pager.proofs.Words.{is_here, OwnsLoad, Refused, load_fault, closed_fault, DropCall, EndCall, EndRefused, Installs, MayEnd, end_fault, held, is_owner, IsCellOf, Moves}
+use Rattle.pagable_pager.proofs.Words.{WellFormed, row-held, installed_away, installed_there, Ending, Tables, counts_at, Sheds, has_value, IsWhole, plain_of, AreLater, IsReady, IsVain, IsWider}
+use Rattle.pagable_pager.proofs.Words.{ShedsBeside, Unends, has_come, Unended, installs-wider, may-wider, not-so, so-then, earlier-first, still, end_refused, spared, spares-alike, PagerView}
+use Rattle.pagable_pager.proofs.Words.{Telling, Spelling, ValuesByNode, IsPager, core_in, state_in, value_in, values_of, PutsIn, with_value}
 use Rattle.pagable_pager.proofs.{Shed.here-in, Shed.here-told, Shed.less, Shed.shed, Shed.some-map, Shed.left-map, Shed.whole-over, Shut.bare-alike, Shut.end-refused-bare, Shut.installed-bare}
 use Rattle.pagable_world.specs.declared.handles.Owner.TheVariants as owners
 use Rattle.pagable_model.specs.declared.error.Error.TheVariants as errors

@@ -1,6 +1,6 @@
 -- What a handle lends.
-use Rattle.pagable_pager.proofs.Words.{◌≡◌, ◌&&◌, Bool, true, false, refl, ap, sym, ◌∙◌, arith, Ok, Err, Some, None, if◌then◌else◌, Option, is_some, nat_lt, nat_tests, Error, HandleRow}
-use Rattle.pagable_pager.proofs.Words.{HandleNumber, NodeNumber, is_pinning, held, Values, row_at, is_here, Looks, PagerState, WellFormed, ValueCall, row-held, row-pins, pinned-here}
+use Rattle.pagable_pager.proofs.Words.{◌≡◌, Bool, true, false, refl, ap, arith, Ok, Err, Some, None, if◌then◌else◌, Option, is_some, nat_tests, Error, HandleRow, HandleNumber, NodeNumber}
+use Rattle.pagable_pager.proofs.Words.{is_pinning, Values, row_at, Looks, PagerState, WellFormed, ValueCall, row-held, row-pins, pinned-here}
 
 Pinned : {N E : Type 0} → PagerState N E → HandleNumber → Option NodeNumber → Type 0
 Pinned s h found = (row : HandleRow) × (row_at s.core h ≡ Some row) × (found ≡ (if is_pinning row.mode then Some row.node else None))

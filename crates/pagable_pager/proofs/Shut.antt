@@ -1,10 +1,7 @@
 -- Once the storage is closed nothing comes to the list or the cache.
-use Rattle.pagable_pager.proofs.Words.{◌≡◌, ℕ, Bool, true, false, if◌then◌else◌, Ok, Err, List, [], ◌++◌, refl, ap, sym, ◌∙◌, Some, None, inl, inr, Option, Result, map, filter, not, ArcRef}
-use Rattle.pagable_pager.proofs.Words.{HandleNumber, Kind, LoadNumber, NodeNumber, HandleRow, Owner, Error, type_of, mode_of, Core, Alike, Falls, with_cached, with_cached_if_open, with_handle}
-use Rattle.pagable_pager.proofs.Words.{with_node, next_node, ReleaseCall, UnpinCall, SetKeyCall, ScheduleCall, OfferCall, no-entries, Adopts, first_key, LazyCall, DropCall, HandOverCall, EndCall}
-use Rattle.pagable_pager.proofs.Words.{Installs, arith, nat_tests}
-use Rattle.pagable_model.specs.declared.data_key.OptionalDataKey.TheVariants as optional
-use Rattle.pagable_world.specs.declared.handles.Owner.TheVariants as owners
+use Rattle.pagable_pager.proofs.Words.{◌≡◌, ℕ, Bool, true, false, Ok, Err, List, [], ◌++◌, refl, ap, sym, ◌∙◌, Some, None, inl, inr, Option, Result, map, filter, not, ArcRef, HandleNumber, Kind}
+use Rattle.pagable_pager.proofs.Words.{LoadNumber, NodeNumber, HandleRow, Owner, Error, Core, Alike, Falls, with_cached_if_open, ReleaseCall, UnpinCall, SetKeyCall, ScheduleCall, OfferCall}
+use Rattle.pagable_pager.proofs.Words.{no-entries, Adopts, LazyCall, DropCall, HandOverCall, EndCall, Installs, arith, nat_tests}
 
 -- nothing is listed or known
 abbrev pub IsBare : Core → Type 0

@@ -1,7 +1,6 @@
 -- What the storage is asked leaves the plain world whole.
-use Rattle.std.proofs.Common.{rules}
-use Rattle.pagable_pager.proofs.Words.{◌≡◌, ℕ, ◌≤◌, Bool, refl, sym, subst, false, Ok, Err, Some, Option, Result, IfOk, IfErr, OnOk, OnErr, Adds, RefusesFetch, RefusesStore, Core, Alike, seen_as}
-use Rattle.pagable_pager.proofs.Words.{Blob, Error, Asked, FetchCall, StoreCall, Tables, core_of, still, placed, told-whole, arith, nat_tests}
+use Rattle.pagable_pager.proofs.Words.{rules, ◌≡◌, ℕ, ◌≤◌, Bool, false, Ok, Err, Some, Option, Result, IfOk, IfErr, OnOk, OnErr, Adds, RefusesFetch, RefusesStore, Core, seen_as, Blob, Error}
+use Rattle.pagable_pager.proofs.Words.{Asked, FetchCall, StoreCall, Tables, core_of, still, placed, told-whole, arith, nat_tests}
 use Rattle.pagable_world.specs.Pager.{IsWhole}
 
 module _ (t : Tables) (stored stored' : ℕ → Option Blob) (closed closed' : Bool) (failures failures' : ℕ) where

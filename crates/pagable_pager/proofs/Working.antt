@@ -1,9 +1,8 @@
 -- A worker comes, for an entry of the list or without one.
 use Rattle.pagable_pager.proofs.Words.{◌≡◌, ◌+◌, ◌==◌, true, if◌then◌else◌, Ok, Err, Some, ap, arith, ℕ, Result, nat_tests, Error, WorkerNumber, Core, with_worker, Spares, with-worker}
-use Rattle.pagable_pager.proofs.Words.{starts-listed, spares-alike, ArePlaced, MayHold, BeginsWorker, TakesWorker, take-whole, settles, alike-whole, roomy-whole, worker-whole}
-use Rattle.pagable_pager.proofs.Words.{ArcRef, HandleRow, Kind, sym, subst, ◌∙◌, same_some, HandleNumber}
-use Rattle.pagable_pager.specs.Made.{TakesEntry}
-use Rattle.pagable_world.specs.{Pager.IsWhole, Kinds.loose_kind, Kinds.HasKinds, Events.IsEntry, Events.with_entry_taken, World.Alike}
+use Rattle.pagable_pager.proofs.Words.{starts-listed, spares-alike, ArePlaced, MayHold, BeginsWorker, TakesWorker, take-whole, settles, alike-whole, roomy-whole, worker-whole, ArcRef, HandleRow}
+use Rattle.pagable_pager.proofs.Words.{Kind, sym, subst, ◌∙◌, same_some, HandleNumber, TakesEntry, loose_kind, HasKinds, IsEntry, with_entry_taken, Alike}
+use Rattle.pagable_world.specs.Pager.{IsWhole}
 use Rattle.pagable_world.specs.declared.handles.Owner.TheVariants as owners
 
 module _ {w w' : Core} (whole : IsWhole w) where

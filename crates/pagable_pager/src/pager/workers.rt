@@ -1,8 +1,8 @@
 //! What page-out workers ask of the pager.
 
 ghost use Rattle.std.specs.Prelude.{◌≡◌, true, ◌<◌, ◌≤◌, length, IfSome, IfNone, IfOk, IfErr};
-ghost use Rattle.pagable_world.specs.{Kinds.is_loose, Kinds.loose_kind, Kinds.HasKinds, Kinds.HasNoKinds, World.key_at, Cascade.FallsAnyhow, Calls.Looks, Workers.claim_fault, Workers.is_workers_at, Workers.WorkerEnds};
-ghost use Rattle.pagable_world.specs.Events.{IsEntry};
+ghost use Rattle.pagable_world.specs.Kinds.{is_loose, loose_kind, HasKinds, HasNoKinds};
+ghost use Rattle.pagable_world.specs.{World.key_at, Cascade.FallsAnyhow, Calls.Looks, Workers.claim_fault, Workers.is_workers_at, Workers.WorkerEnds, Events.IsEntry};
 ghost use Rattle.pagable_tables.specs.Giving.{BeginsWorker, TakesWorker};
 ghost use Rattle.pagable_loads.specs.Working.{TakesReference};
 ghost use Rattle.pagable_pager.specs.{Clones.PinsClone, Made.TakesEntry, Made.LeavesEntry, View.core_in, View.telling, View.OnlyTables, View.OnlyLess, View.is_at_work};

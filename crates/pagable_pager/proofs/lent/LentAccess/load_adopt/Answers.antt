@@ -1,5 +1,4 @@
-use Rattle.pagable_pager.proofs.Words.{values_at, telling, WellFormed, subst}
-use Rattle.pagable_pager.specs.View.{state_in}
+use Rattle.pagable_pager.proofs.Words.{values_at, telling, WellFormed, subst, state_in}
 use Rattle.pagable_pager.proofs.Lending.{adopted_refers}
 use Rattle.pagable_pager.proofs.lent.LentAccess.load_adopt.Goals as goal
 

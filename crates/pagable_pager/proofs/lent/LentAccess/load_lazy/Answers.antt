@@ -1,5 +1,4 @@
-use Rattle.pagable_pager.proofs.Words.{values_at, telling}
-use Rattle.pagable_loads.specs.Telling.{TakesLazily}
+use Rattle.pagable_pager.proofs.Words.{values_at, telling, TakesLazily}
 use Rattle.pagable_pager.proofs.Lending.{told_same, lazy_refers}
 use Rattle.pagable_pager.proofs.lent.LentAccess.load_lazy.Goals as goal
 

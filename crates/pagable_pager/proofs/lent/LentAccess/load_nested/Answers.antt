@@ -1,5 +1,4 @@
-use Rattle.pagable_pager.proofs.Words.{values_at, telling, blob_of, arc_value, Ok}
-use Rattle.pagable_loads.specs.Telling.{AsksFor}
+use Rattle.pagable_pager.proofs.Words.{values_at, telling, blob_of, arc_value, Ok, AsksFor}
 use Rattle.pagable_pager.proofs.Lending.{told_fewer, all_there, found_refers}
 use Rattle.either.specs.declared.Either.TheVariants as eithers
 use Rattle.pagable_pager.proofs.lent.LentAccess.load_nested.Goals as goal

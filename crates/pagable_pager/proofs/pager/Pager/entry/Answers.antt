@@ -1,5 +1,4 @@
-use Rattle.pagable_pager.proofs.Words.{false, Option, Some, None, IfSome}
-use Rattle.std.proofs.lemmas.Option.{slice_get_within}
+use Rattle.pagable_pager.proofs.Words.{false, Option, Some, None, IfSome, slice_get_within}
 use Rattle.pagable_pager.proofs.pager.Pager.entry.Goals as goal
 
 each : {A : Type 0} {P Q : A → Type 0} (o : Option A) → ((a : A) → P a → Q a) → IfSome o P → IfSome o Q
