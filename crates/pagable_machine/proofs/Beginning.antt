@@ -1,9 +1,9 @@
 -- Tables and workers that begin.
-use Rattle.pagable_machine.proofs.Words.{nat_tests, common_steps, rules, ◌≡◌, ◌≢◌, ℕ, zero, suc, ◌+◌, ◌≤◌, ◌==◌, Bool, true, false, List, [], ◌∷◌, ◌++◌, Option, Some, Ok, inl, inr, if◌then◌else◌}
-use Rattle.pagable_machine.proofs.Words.{refl, sym, ap, subst, ◌∙◌, length, arith, is_some, slice_get, length-append, WorkerNumber, Event, TableNumber, if_there, updated, is_owner, Alike, Core}
-use Rattle.pagable_machine.proofs.Words.{SameShelf, Seen, Shelf, Todo, Walking, Happens, IsTable, Starts, no_shelf, with_worker, step_of, Moves, PagerState, WellFormed, world_of, same-number}
+use Rattle.pagable_machine.proofs.Words.{still, nat_tests, common_steps, rules, ◌≡◌, ◌≢◌, ℕ, zero, suc, ◌+◌, ◌≤◌, true, List, [], ◌∷◌, ◌++◌, Option, Some, Ok, inl, inr}
+use Rattle.pagable_machine.proofs.Words.{refl, sym, ap, subst, ◌∙◌, length, arith, is_some, slice_get, length-append, WorkerNumber, Event, TableNumber, updated, is_owner, Alike, Core}
+use Rattle.pagable_machine.proofs.Words.{SameShelf, Seen, Happens, IsTable, Starts, no_shelf, with_worker, step_of, Moves, PagerState, WellFormed, world_of, same-number}
 use Rattle.pagable_machine.proofs.Words.{Ghosts, SlotTable, Task, shelf_of, IsPlain, TaskFits, Walk, Holding, IsServing, KeepsOne, Makes, machine_of, readings_in, IsBegun, IsWalkKept, shelf_at}
-use Rattle.pagable_machine.proofs.Keeping.{alike-self, are-these, as-before, at-one, kept-on, makes, makes-with, not-same, one-serves, updated-at}
+use Rattle.pagable_machine.proofs.Keeping.{are-these, as-before, at-one, kept-on, makes, makes-with, not-same, one-serves, updated-at}
 use Rattle.pagable_machine.proofs.{Leaving.Leaves, Leaving.same, Passing.Passes, Passing.event-passes}
 use Rattle.pagable_world.specs.declared.events.Event.TheVariants as events
 use Rattle.pagable_world.specs.declared.events.EventReply.TheVariants as answers
@@ -29,23 +29,8 @@ module _ {X : Type 0} {g : Ghosts X} where
   -- the tables with one more, which has no claim
   shelf-added : (tables : List (SlotTable X g)) (new : SlotTable X g) → SameShelf no_shelf (shelf_of new) → (t : ℕ)
       → SameShelf (updated (length tables + 1) no_shelf (shelf_at tables) t) (shelf_at (tables ++ new ∷ []) t)
-  shelf-added tables new empty zero = by (zero == length tables + 1) refl
-    where
-      by : (b : Bool) → (zero == length tables + 1) ≡ b → SameShelf (if b then no_shelf else no_shelf) no_shelf
-      by true e = record { slots = λ i. refl; waits = λ v. refl }
-      by false e = record { slots = λ i. refl; waits = λ v. refl }
-  shelf-added tables new empty (suc n) = by (suc n == length tables + 1) refl
-    where
-      by : (b : Bool) → (suc n == length tables + 1) ≡ b → SameShelf (if b then no_shelf else shelf_at tables (suc n)) (shelf_at (tables ++ new ∷ []) (suc n))
-      by true e =
-          let at = same-number (suc n) (length tables + 1) e in
-          let is : n ≡ length tables = omega (arith, at) in
-          let there : slice_get (tables ++ new ∷ []) n ≡ Some new = at-end tables new n is in
-          subst (λ (found : Option (SlotTable X g)). SameShelf no_shelf (if_there shelf_of no_shelf found)) (sym there) empty
-      by false e =
-          let other = not-same (suc n) (length tables + 1) e in
-          let same_there = elsewhere tables new n (λ is. other (omega (arith, is))) in
-          subst (λ (found : Option (SlotTable X g)). SameShelf (shelf_at tables (suc n)) (if_there shelf_of no_shelf found)) (sym same_there) (record { slots = λ i. refl; waits = λ v. refl })
+  shelf-added tables new empty zero = grind (arith, nat_tests, at-end, elsewhere, not-same, same-number)
+  shelf-added tables new empty (suc n) = grind (arith, nat_tests, at-end, elsewhere, not-same, same-number)
 
   module _ {N B W E : Type 0} (m : Seen N B W) (s : PagerState N E) (h : Holding g) (new : SlotTable X g) (serving : IsServing s.core h) (was : WellFormed m.values s) where
     abbrev with_table : Holding g
@@ -58,7 +43,7 @@ module _ {X : Type 0} {g : Ghosts X} where
         (record {
           made = (
             number,
-            alike-self s.core,
+            still s.core,
             are-these s.core h.readings (readings_in h.readings s.core) (λ l load is. as-before serving.readings on l load is),
             record {
               same_shelves = λ q. subst (λ n. SameShelf (updated n no_shelf (shelf_at h.tables) q) (shelf_at (h.tables ++ new ∷ []) q)) (sym number) (shelf-added h.tables new empty q);

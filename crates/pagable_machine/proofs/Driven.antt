@@ -1,13 +1,13 @@
 -- Each event of tables and workers, by what the pager and what is kept say of it.
 use Rattle.std.specs.Prelude.{Result, IfOk, IfErr, OnErr}
 use Rattle.pagable_machine.proofs.Happening.{keeps-after}
-use Rattle.pagable_machine.proofs.Words.{◌≡◌, ℕ, ◌+◌, ◌<◌, ◌≤◌, Bool, true, false, List, [], ◌∷◌, ◌++◌, Option, Some, None, Ok, Err, ◌⊎◌, inl, inr, refl, sym, subst, ◌∙◌, length, arith, is_none}
+use Rattle.pagable_machine.proofs.Words.{still, ◌≡◌, ℕ, ◌+◌, ◌<◌, ◌≤◌, Bool, true, false, List, [], ◌∷◌, ◌++◌, Option, Some, None, Ok, Err, ◌⊎◌, inl, inr, refl, sym, subst, ◌∙◌, length, arith, is_none}
 use Rattle.pagable_machine.proofs.Words.{is_some, option_map, Global, Arc, Vec, nat_tests, SerializedData, Error, ArcRef, HandleNumber, WorkerNumber, TableNumber, WorkerAnswer, WorkerReply}
-use Rattle.pagable_machine.proofs.Words.{HandleRow, Blob, if_there, HasNoKinds, identity_of, Alike, Core, SameShelf, Seen, Values, Walking, Written, of_entry, of_item, Called, WorkerStarts}
+use Rattle.pagable_machine.proofs.Words.{HandleRow, Blob, if_there, HasNoKinds, identity_of, Alike, SameShelf, Seen, Values, Walking, Written, of_entry, of_item, Called, WorkerStarts}
 use Rattle.pagable_machine.proofs.Words.{IsEntry, IsNoTable, IsTable, entry_task, no_shelf, with_entry_taken, PagerState, WellFormed, world_of, RefusesEntry, StartsEntry, PagerView, Telling}
 use Rattle.pagable_machine.proofs.Words.{state_in, Ghosts, SlotTable, written_of, shelf_of, plain, Held, Walk, Holding, KeepsOne, Makes, machine_of, IsBegun, WalksOn, has_task, is_table}
 use Rattle.pagable_machine.proofs.Words.{walking_of, Answer, ByNumber, Drives, Given, IsInStep, holding, kept_at, over}
-use Rattle.pagable_machine.proofs.Keeping.{KeepsAll, alike-self, refuses, stays}
+use Rattle.pagable_machine.proofs.Keeping.{KeepsAll, refuses, stays}
 use Rattle.pagable_machine.proofs.{Beginning.starts-so, Beginning.table-made, Beginning.worker-made, Stepping.worker-moved, Working.entry-leaves, Working.item-leaves}
 use Rattle.pagable_model.specs.declared.error.Error.TheVariants as errors
 use Rattle.pagable_world.specs.declared.events.Event.TheVariants as events
@@ -21,7 +21,7 @@ none-is : {X : Type 0} {g : Ghosts X} (t : ℕ) (tables : List (SlotTable X g)) 
 none-is t tables is = grind (arith, nat_tests)
 
 pub nothing-done : {N E : Type 0} {v : Values N} (s : PagerState N E) → WellFormed v s → Called v (λ w'. Alike s.core w') s s
-nothing-done s was = record { step = alike-self s.core; moves = record { each = λ n x is. inl is; environment = refl }; whole = was }
+nothing-done s was = record { step = still s.core; moves = record { each = λ n x is. inl is; environment = refl }; whole = was }
 
 module _ {X : Type 0} {g : Ghosts X} {N S E : Type 0} (v : E → Values N) (tells : Telling S) (old new : PagerView N S E) (held : Held X g) (serving : IsInStep tells (over old held))
     (was : WellFormed (v old.environment) (state_in tells old)) where
@@ -55,8 +55,8 @@ module _ {X : Type 0} {g : Ghosts X} {N S E : Type 0} (v : E → Values N) (tell
   no-table-drives tables' is =
       let keeps : KeepsAll h (record h { tables = tables'.items }) = record { readings = λ l. refl; tables = is; walks = λ q. refl } in
       record {
-        makes = refuses m s s serving was was (alike-self s.core) keeps events.TableNew (answers.TableMade (Err errors.OutOfMemory)) (λ q. refl)
-            (record { made = tt; refused = (refl, stays m s s serving was was (alike-self s.core) keeps) }) (record { each = λ n x is. inl is; environment = refl }) tt;
+        makes = refuses m s s serving was was (still s.core) keeps events.TableNew (answers.TableMade (Err errors.OutOfMemory)) (λ q. refl)
+            (record { made = tt; refused = (refl, stays m s s serving was was (still s.core) keeps) }) (record { each = λ n x is. inl is; environment = refl }) tt;
       }
 
   -- ---- workers that begin
@@ -163,8 +163,8 @@ module _ {X : Type 0} {g : Ghosts X} {N S E : Type 0} (v : E → Values N) (tell
   no-step-drives n none =
       let keeps : KeepsAll h h = record { readings = λ l. refl; tables = refl; walks = λ q. refl } in
       record {
-        makes = refuses m s s serving was was (alike-self s.core) keeps (events.WorkerStep n) (answers.WorkerMoved (Err errors.NoSuchHandle)) (λ q. refl)
-            (record { moves = tt; refused = (refl, by (kept_at held.walks n.0) refl none, stays m s s serving was was (alike-self s.core) keeps) })
+        makes = refuses m s s serving was was (still s.core) keeps (events.WorkerStep n) (answers.WorkerMoved (Err errors.NoSuchHandle)) (λ q. refl)
+            (record { moves = tt; refused = (refl, by (kept_at held.walks n.0) refl none, stays m s s serving was was (still s.core) keeps) })
             (record { each = λ q x is. inl is; environment = refl }) tt;
       }
     where

@@ -1,4 +1,7 @@
 -- Each event of the machine, by what the pager and what is kept of loads say of it.
+use Rattle.pagable_world.specs.{Events.Does, Pager.CallBrings}
+use Rattle.pagable_pager.specs.View.{OnlyLess, core_in}
+use Rattle.pagable_machine.specs.Serving.{plain_call, plain_reply}
 use Rattle.pagable_machine.proofs.Words.{arith, nat_tests, common_steps, rules, ◌≡◌, ℕ, true, false, Option, Some, None, Ok, Err, ◌⊎◌, inl, inr, refl, sym, ap, subst, ◌∙◌, Result, is_some, Arc}
 use Rattle.pagable_machine.proofs.Words.{Global, PagableData, Error, HandleNumber, LoadNumber, Beginning, Call, Reply, LoadReply, Blob, Core, Seen, Values, Written, load_fault, DropCall, fresh}
 use Rattle.pagable_machine.proofs.Words.{Moves, PagerState, WellFormed, same-number, same_some, reading_of, PagerView, Telling, state_in, ReadsAs, Ghosts, plain, Held, Serves, BeginsNoKey}
@@ -15,6 +18,15 @@ use Rattle.pagable_world.specs.declared.events.Event.TheVariants as events
 use Rattle.pagable_world.specs.declared.events.EventReply.TheVariants as answers
 use Rattle.pagable_world.specs.declared.events.LoadAnswer.TheVariants as ends
 use Rattle.pagable_world.specs.declared.handles.Owner.TheVariants as owners
+
+-- a call by which values come, and one by which they only go
+module _ {N S E : Type 0} {v : Values N} {tells : Telling S} {old new : PagerView N S E} {call : Call N PagableData} {r : Reply N (Arc PagableData Global)}
+    (does : Does (plain v) (core_in tells old) owners.Caller (plain_call call) (plain_reply r) (core_in tells new)) where
+  pub serves : Moves (CallBrings (core_in tells old) (plain_call call)) (state_in tells old) (state_in tells new) → Serves v tells old call r new
+  serves moves = record { step = record { does = does }; moves = moves }
+
+  pub serves-less : OnlyLess old new → Serves v tells old call r new
+  serves-less only = serves (record { each = λ n x is. inl (only.values n x is); environment = only.environment })
 
 -- nothing is forgotten where all stays
 pub forgets-none : (w : Core) {kept kept' : Kept} → ((q : ℕ) → kept' q ≡ kept q) → Forgets w kept kept'

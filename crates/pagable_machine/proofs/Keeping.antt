@@ -16,9 +16,6 @@ use Rattle.pagable_world.specs.declared.events.EventReply.TheVariants as answers
 
 -- ---- what is kept
 
-pub alike-self : (w : Core) → Alike w w
-alike-self w = first_of (grind (arith, common_steps, nat_tests), search (rules))
-
 pub updated-at : {X : Type 0} (n : ℕ) (x : X) (f : ℕ → X) → updated n x f n ≡ x
 updated-at n x f = ap (λ b. if b then x else f n) (self-number n)
 

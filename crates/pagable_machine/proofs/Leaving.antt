@@ -1,10 +1,11 @@
 -- What each call and each step of a load or of a worker leaves: who is at work, no load but new ones beside those that were open, and each open load that isn't the asker's.
+use Rattle.pagable_pager.proofs.Putting.{own-self}
 use Rattle.pagable_machine.proofs.Words.{common_steps, rules, ◌≡◌, ℕ, Bool, true, false, List, [], Ok, Err, Some, None, inl, inr, refl, ◌∙◌, ◌⊎◌, ◌<◌, ◌≤◌, ap, sym, arith, nat_tests, Option}
 use Rattle.pagable_machine.proofs.Words.{Result, OptionalDataKey, Error, ArcRef, HandleNumber, LoadNumber, Kind, Blob, SameAt, Call, Reply, Owner, HandleRow, Mode, Beginning, Want, Pinning}
 use Rattle.pagable_machine.proofs.Words.{LoadAnswer, is_owner, OwnsLoad, load_fault, Alike, Core, Frame, OpenLoad, Reading, Root, Seen, Values, of_cell, of_key, Falls, fallen, BirthCall}
 use Rattle.pagable_machine.proofs.Words.{AwayBirthCall, PinCall, UnpinCall, ReleaseCall, SetKeyCall, ScheduleCall, TakeCall, RecallCall, OfferCall, StoreCall, with_load, without_load, from_cache}
 use Rattle.pagable_machine.proofs.Words.{from_store, BeginCall, BeginKeyCall, AskCall, AdoptCall, adopted, first_key, LazyCall, EndCall, HandOverCall, GoesOn, Meets, ReadingDoes, at-updated}
-use Rattle.pagable_machine.proofs.Words.{same-number, self-number, same_some, neither}
+use Rattle.pagable_machine.proofs.Words.{same-number, same_some, neither}
 use Rattle.pagable_world.specs.{LoadCalls.Given, Events.Does}
 use Rattle.pagable_model.specs.declared.data_key.OptionalDataKey.TheVariants as optional
 use Rattle.pagable_world.specs.declared.answers.Beginning.TheVariants as beginnings
@@ -13,7 +14,6 @@ use Rattle.pagable_world.specs.declared.events.LoadAnswer.TheVariants as ends
 use Rattle.pagable_world.specs.declared.calls.Call.TheVariants as calls
 use Rattle.pagable_world.specs.declared.calls.Reply.TheVariants as replies
 use Rattle.pagable_world.specs.declared.calls.Want.TheVariants as wants
-use Rattle.pagable_world.specs.declared.handles.Owner.TheVariants as owners
 
 -- of loads and workers, as far as the machine sees them
 pub record Leaves (me : Owner) (works : ℕ → Bool) (w w' : Core) : Type 0 where
@@ -26,15 +26,8 @@ pub record Leaves (me : Owner) (works : ℕ → Bool) (w w' : Core) : Type 0 whe
 abbrev pub IsMine : Core → Owner → LoadNumber → Type 0
 IsMine w me l = (load : OpenLoad) → w.loads l.0 ≡ Some load → is_owner me load.owner ≡ true
 
-pub is-self : (o : Owner) → is_owner o o ≡ true
-is-self owners.Caller = refl
-is-self (owners.Value n) = self-number n.0
-is-self owners.List = refl
-is-self (owners.Load l) = self-number l.0
-is-self (owners.Worker v) = self-number v.0
-
 pub owned-mine : {w : Core} {me : Owner} {l : LoadNumber} {load : OpenLoad} → OwnsLoad w me l load → IsMine w me l
-owned-mine {me = me} o load is = ap (is_owner me) (ap (λ (x : OpenLoad). x.owner) (same_some _ _ (sym is ∙ o.stands_open)) ∙ o.own) ∙ is-self me
+owned-mine {me = me} o load is = ap (is_owner me) (ap (λ (x : OpenLoad). x.owner) (same_some _ _ (sym is ∙ o.stands_open)) ∙ o.own) ∙ own-self me
 
 pub unfaulty-mine : (w : Core) (me : Owner) (l : LoadNumber) → load_fault w me l ≡ None → IsMine w me l
 unfaulty-mine w me l none load is = first_of (grind (arith, common_steps, nat_tests), search (rules))

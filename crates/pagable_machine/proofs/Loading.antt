@@ -1,11 +1,12 @@
 -- A load's step, and why it is refused.
-use Rattle.pagable_machine.proofs.Words.{nat_tests, common_steps, rules, ◌≡◌, ℕ, Bool, true, false, List, [], Option, Some, None, Ok, Err, inl, inr, refl, sym, ap, subst, ◌∙◌, arith, Result}
-use Rattle.pagable_machine.proofs.Words.{is_none, is_some, not, option_map, LoadAnswer, Error, LoadNumber, LoadReply, if_there, or_else, updated, is_owner, Core, Frame, OpenLoad, Reading, Root}
+use Rattle.pagable_pager.proofs.Putting.{owner-owns}
+use Rattle.pagable_machine.proofs.Words.{still, nat_tests, common_steps, rules, ◌≡◌, ℕ, Bool, true, false, List, [], Option, Some, None, Ok, Err, inl, inr, refl, sym, ap, subst, ◌∙◌, arith, Result}
+use Rattle.pagable_machine.proofs.Words.{is_none, is_some, not, option_map, LoadAnswer, Error, LoadNumber, LoadReply, if_there, or_else, updated, is_owner, Frame, OpenLoad, Reading, Root}
 use Rattle.pagable_machine.proofs.Words.{of_cell, of_key, Seen, one_more, OwnsLoad, earlier, load_fault, refused_if, DropCall, LoadCloses, gone_on, fresh, reading_after, reading_at}
 use Rattle.pagable_machine.proofs.Words.{reading_of_root, step_fault, FitsRoot, Moves, PagerState, WellFormed, world_of, ReadingStep, same_some, IsLoadOf, is_cell, reading_of, type_of_root}
 use Rattle.pagable_machine.proofs.Words.{Ghosts, Holding, IsKept, IsSameLoad, IsServing, IsTaken, KeepsOne, Kept, Makes, ReadsFor, Stepped, machine_of, readings_in, rest_after}
 use Rattle.pagable_loads.specs.declared.reading.Reading.{Reading as Own}
-use Rattle.pagable_machine.proofs.Keeping.{KeepsAll, alike-self, are-these, as-before, at-one, kept-on, one-or-old, quiet, refuses, same-work, stays}
+use Rattle.pagable_machine.proofs.Keeping.{KeepsAll, are-these, as-before, at-one, kept-on, one-or-old, quiet, refuses, same-work, stays}
 use Rattle.pagable_machine.proofs.Leaving.{IsMine, owned-mine, step-leaves}
 use Rattle.pagable_model.specs.declared.error.Error.TheVariants as errors
 use Rattle.pagable_world.specs.declared.handles.Owner.TheVariants as owners
@@ -16,9 +17,6 @@ use Rattle.pagable_world.specs.declared.events.EventReply.TheVariants as answers
 fits : (root : Root) (a b : Reading) → b.node_type ≡ a.node_type → FitsRoot root a → FitsRoot root b
 fits (of_cell node t h) a b same fit = same ∙ fit
 fits of_key a b same fit = tt
-
-usable : (w : Core) (l : LoadNumber) (load : OpenLoad) → OwnsLoad w owners.Caller l load → load_fault w owners.Caller l ≡ None
-usable w l load o = first_of (grind (arith, common_steps, nat_tests), search (rules))
 
 module _ {X : Type 0} {g : Ghosts X} {N E : Type 0} (s : PagerState N E) (h : Holding g) (l : LoadNumber) (load : OpenLoad) (o : OwnsLoad s.core owners.Caller l load) where
   at-found : (own : Option Own) → h.readings l.0 ≡ own → reading_at (world_of (machine_of s h)) l ≡ or_else (option_map reading_of own) (reading_of_root l load.root)
@@ -97,7 +95,7 @@ module _ {X : Type 0} {g : Ghosts X} {N B W E : Type 0} (m : Seen N B W) (s s' :
         moves = record {
           reading = reading;
           frames = frames;
-          may = usable s.core l load o;
+          may = owner-owns o;
           at = at;
           does = step.does;
           counts = counts;
@@ -153,7 +151,7 @@ module _ {X : Type 0} {g : Ghosts X} {N B W E : Type 0} (m : Seen N B W) (s s' :
   no-place l load type told o root none drop moves formed as_was =
       steps l load (fresh l type) None (record { ended = Some (ends.Refused errors.OutOfMemory); steps = 1 }) [] o (at-found s h l load o None none ∙ root-is load.root root)
       (record {
-        does = record { does = (inl (record { mid = s.core; meets = inl (inr (inr refl), alike-self s.core); told = told; closes = closes }), refl) };
+        does = record { does = (inl (record { mid = s.core; meets = inl (inr (inr refl), still s.core); told = told; closes = closes }), refl) };
         moves = record { each = λ n x is. elim (moves.each n x is) [ inl there ↦ inl there | inr came ↦ absurd came.1 ]; environment = moves.environment };
         whole = formed;
       }) refl (owned-mine o) (record { here = as_was l.0 ∙ none; others = λ q other. as_was q }) refl (λ now is. absurd (cc))
@@ -163,7 +161,7 @@ module _ {X : Type 0} {g : Ghosts X} {N B W E : Type 0} (m : Seen N B W) (s s' :
       root-is of_key is = absurd (cc)
 
       closes : LoadCloses s.core l told s'.core
-      closes = elim drop.does [ inl r ↦ absurd (let f : None ≡ Some r.e = sym (usable s.core l load o) ∙ r.why in cc) | inr (other, owned, c) ↦ c ]
+      closes = elim drop.does [ inl r ↦ absurd (let f : None ≡ Some r.e = sym (owner-owns o) ∙ r.why in cc) | inr (other, owned, c) ↦ c ]
 
 -- a load that can't be looked at can't step
 fault-first : (found : Option OpenLoad) (b : Bool) (e : Error)
@@ -183,5 +181,5 @@ pub refuses-step : {X : Type 0} {g : Ghosts X} {N B W E : Type 0} (m : Seen N B 
     → ((q : ℕ) → kept' q ≡ h.readings q) → step_fault (world_of (machine_of s h)) l ≡ Some e → Makes m s h (events.LoadStep l) (answers.LoadMoved (Err e)) s (record h { readings = kept' })
 refuses-step m s h {kept'} serving was l e as_was why =
     let keeps : KeepsAll h (record h { readings = kept' }) = record { readings = as_was; tables = refl; walks = λ v. refl } in
-    refuses m s s serving was was (alike-self s.core) keeps (events.LoadStep l) (answers.LoadMoved (Err e)) (λ v. refl)
-    (record { moves = tt; refused = (why, stays m s s serving was was (alike-self s.core) keeps) }) (record { each = λ n x is. inl is; environment = refl }) tt
+    refuses m s s serving was was (still s.core) keeps (events.LoadStep l) (answers.LoadMoved (Err e)) (λ v. refl)
+    (record { moves = tt; refused = (why, stays m s s serving was was (still s.core) keeps) }) (record { each = λ n x is. inl is; environment = refl }) tt

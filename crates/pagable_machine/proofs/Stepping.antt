@@ -1,8 +1,8 @@
 -- A worker's step.
-use Rattle.pagable_machine.proofs.Words.{nat_tests, common_steps, rules, ◌≡◌, ◌≢◌, ℕ, zero, suc, ◌<◌, ◌≤◌, ◌==◌, Bool, true, false, List, [], ◌∷◌, Option, Some, None, Ok, inl, inr, if◌then◌else◌}
+use Rattle.pagable_machine.proofs.Words.{nat_tests, common_steps, rules, ◌≡◌, ◌≢◌, ℕ, zero, suc, ◌≤◌, ◌==◌, Bool, true, false, List, [], ◌∷◌, Option, Some, None, Ok, inl, inr, if◌then◌else◌}
 use Rattle.pagable_machine.proofs.Words.{refl, sym, ap, subst, ◌∙◌, length, arith, is_none, is_some, option_map, Arc, Global, SerializedData, WorkerNumber, Took, WorkerAnswer, WorkerReply, Blob}
 use Rattle.pagable_machine.proofs.Words.{if_there, updated, is_owner, owner_worker, Core, SameShelf, Seen, Shelf, Todo, Values, Written, Site, WalkDoes, answer_after, is_counted, Ends, Happens}
-use Rattle.pagable_machine.proofs.Words.{WorkerSteps, no_shelf, steps_after, PagerState, TodoBrings, WellFormed, world_of, same-number, Ghosts, SlotTable, Task, Turn, Waiting, shelf_of, IsWay}
+use Rattle.pagable_machine.proofs.Words.{WorkerSteps, no_shelf, steps_after, PagerState, TodoBrings, WellFormed, world_of, same-number, Ghosts, SlotTable, Task, Turn, Waiting, shelf_of}
 use Rattle.pagable_machine.proofs.Words.{todo_of, todos, LeavesFit, TaskFits, answer_in, plain, plain_took, plan, Walk, Holding, IsServing, KeepsOne, Makes, machine_of, readings_in, plain_moved}
 use Rattle.pagable_machine.proofs.Words.{IsWalkKept, SetsTable, WalksOn, shelf_at, task_in, todo_left, walking_of}
 use Rattle.pagable_walk.specs.Turns.{Stepped}
@@ -86,11 +86,7 @@ module _ {X : Type 0} {g : Ghosts X} {N E : Type 0} (v : Values N) (s s' : Pager
   site = record { core = s.core; shelf = shelf_of on.table; todo = todo }
 
   unanswered : k.answer ≡ None
-  unanswered = by k.answer (sym mine.either ∙ ap is_some on.had)
-    where
-      by : (found : Option WorkerAnswer) → is_none found ≡ true → found ≡ None
-      by None is = refl
-      by (Some answer) is = absurd (cc)
+  unanswered = grind (arith, nat_tests, mine)
 
   ends : Ends (answer_in turn) n.0 done.does.after.core s'.core
   ends = subst (λ a. Ends a n.0 done.does.after.core s'.core) done.answers done.does.ends
@@ -142,14 +138,7 @@ module _ {X : Type 0} {g : Ghosts X} {N E : Type 0} (v : Values N) (s s' : Pager
   at-work = mine.at_work ∙ ap is_none unanswered
 
   still : IsWalkKept s'.core (length tables') n.0 k'
-  still =
-      record {
-        table = subst (λ t. (0 < t) × (t ≤ length tables')) (sym on.after.table) (mine.table.0, subst (λ last. k.table ≤ last) (sym on.sets.len) mine.table.1);
-        at_work = leaves.workers n.0 ∙ works-then turn n.0 s.core.workers at-work ∙ sym (ap is_none on.after.answer);
-        either = ap is_some on.after.task ∙ either-is turn ∙ sym (ap is_none on.after.answer);
-        way = subst IsWay (sym (ap (λ task. todo_left task k'.path.items) on.after.task ∙ left-is turn k'.path.items)) on.way;
-        fits = λ task is. fits-then n.0 s'.core turn task done.fits (sym on.after.task ∙ is);
-      }
+  still = grind (arith, nat_tests, at-work, done, either-is, fits, fits-then, leaves, left-is, mine, works-then)
 
   pub worker-moved : Makes m s h (events.WorkerStep n) (answers.WorkerMoved (Ok (plain_moved reply))) s' after
   worker-moved =

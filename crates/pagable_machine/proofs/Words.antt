@@ -21,6 +21,7 @@ pub use Rattle.pagable_machine.specs.{Serving.Serves, Serving.plain_answer, Serv
 pub use Rattle.pagable_model.specs.{declared.data_key.OptionalDataKey.OptionalDataKey, declared.error.Error.Error, declared.numbers.ArcRef.ArcRef, declared.numbers.HandleNumber.HandleNumber}
 pub use Rattle.pagable_model.specs.{declared.numbers.LoadNumber.LoadNumber, declared.numbers.WorkerNumber.WorkerNumber}
 pub use Rattle.pagable_pager.specs.{Opened.ReadsAs, Opened.type_of_root, View.PagerView, View.Telling, View.state_in, View.Spelling, View.values_of, View.core_in, View.spelling, View.telling}
+pub use Rattle.pagable_tables.proofs.Worlds.{still}
 pub use Rattle.pagable_walk.specs.Turns.{TaskFits, plain, HoldsPin, IsLoading, IsOfKind, LeavesFit, answer_in, plain_took, plan}
 pub use Rattle.pagable_walk.specs.{Slots.written_of, Slots.is_same, Slots.slot_of, Table.shelf_of, Tasks.IsPlain, Tasks.IsWay, Tasks.todo_of, Tasks.todos, declared.results.Trees.Ghosts}
 pub use Rattle.pagable_walk.specs.{declared.table.SlotTable.SlotTable, declared.tasks.Task.Task, declared.tasks.Turn.Turn, declared.tasks.Waiting.Waiting}

@@ -1,4 +1,4 @@
-use Rattle.pagable_machine.proofs.Words.{rules, ◌≡◌, true, false, ◌+◌, length, is_ok, values_at, ◌∙◌, ap, ◌++◌, ◌∷◌, []}
+use Rattle.pagable_machine.proofs.Words.{rules, ◌≡◌, ◌+◌, length, values_at, ◌∙◌, ap, ◌++◌, ◌∷◌, []}
 use Rattle.pagable_machine.proofs.Driven.{no-table-drives, table-drives}
 use Rattle.pagable_machine.proofs.workers.table_new.Goals as goal
 
