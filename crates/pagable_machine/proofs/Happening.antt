@@ -1,12 +1,9 @@
 -- Each event of the machine, by what the pager and what is kept of loads say of it.
-use Rattle.pagable_world.specs.{Events.Does, Pager.CallBrings}
-use Rattle.pagable_pager.specs.View.{OnlyLess, core_in}
-use Rattle.pagable_machine.specs.Serving.{plain_call, plain_reply}
-use Rattle.pagable_machine.proofs.Words.{arith, nat_tests, common_steps, rules, ◌≡◌, ℕ, true, false, Option, Some, None, Ok, Err, ◌⊎◌, inl, inr, refl, sym, ap, subst, ◌∙◌, Result, is_some, Arc}
-use Rattle.pagable_machine.proofs.Words.{Global, PagableData, Error, HandleNumber, LoadNumber, Beginning, Call, Reply, LoadReply, Blob, Core, Seen, Values, Written, load_fault, DropCall, fresh}
-use Rattle.pagable_machine.proofs.Words.{Moves, PagerState, WellFormed, same-number, same_some, reading_of, PagerView, Telling, state_in, ReadsAs, Ghosts, plain, Held, Serves, BeginsNoKey}
-use Rattle.pagable_machine.proofs.Words.{Forgets, Holding, IsPrepared, IsTaken, KeepsOne, Kept, Makes, Stepped, CountsStep, rest_after, Answer, Drives, Given, IsInStep, Readings, holding, kept_at}
-use Rattle.pagable_machine.proofs.Words.{over}
+use Rattle.pagable_machine.proofs.Words.{Does, CallBrings, OnlyLess, core_in, plain_call, plain_reply, arith, nat_tests, common_steps, rules, ◌≡◌, ℕ, true, false, Option, Some, None, Ok, Err, ◌⊎◌}
+use Rattle.pagable_machine.proofs.Words.{inl, inr, refl, sym, ap, subst, ◌∙◌, Result, is_some, Arc, Global, PagableData, Error, HandleNumber, LoadNumber, Beginning, Call, Reply, LoadReply, Blob}
+use Rattle.pagable_machine.proofs.Words.{Core, Seen, Values, Written, load_fault, DropCall, fresh, Moves, PagerState, WellFormed, same-number, same_some, reading_of, PagerView, Telling, state_in}
+use Rattle.pagable_machine.proofs.Words.{ReadsAs, Ghosts, plain, Held, Serves, BeginsNoKey, Forgets, Holding, IsPrepared, IsTaken, KeepsOne, Kept, Makes, Stepped, CountsStep, rest_after, Answer}
+use Rattle.pagable_machine.proofs.Words.{Drives, Given, IsInStep, Readings, holding, kept_at, over}
 use Rattle.pagable_loads.specs.declared.reading.Reading.{Reading as Own}
 use Rattle.pagable_machine.proofs.Keeping.{call-made, key-refused, key-starts, starts}
 use Rattle.pagable_machine.proofs.Loading.{faulty, never-typed, no-place, own-steps, refuses-step}

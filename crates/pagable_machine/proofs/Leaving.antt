@@ -1,12 +1,11 @@
 -- What each call and each step of a load or of a worker leaves: who is at work, no load but new ones beside those that were open, and each open load that isn't the asker's.
-use Rattle.pagable_pager.proofs.Putting.{own-self}
-use Rattle.pagable_machine.proofs.Words.{common_steps, rules, ◌≡◌, ℕ, Bool, true, false, List, [], Ok, Err, Some, None, inl, inr, refl, ◌∙◌, ◌⊎◌, ◌<◌, ◌≤◌, ap, sym, arith, nat_tests, Option}
-use Rattle.pagable_machine.proofs.Words.{Result, OptionalDataKey, Error, ArcRef, HandleNumber, LoadNumber, Kind, Blob, SameAt, Call, Reply, Owner, HandleRow, Mode, Beginning, Want, Pinning}
-use Rattle.pagable_machine.proofs.Words.{LoadAnswer, is_owner, OwnsLoad, load_fault, Alike, Core, Frame, OpenLoad, Reading, Root, Seen, Values, of_cell, of_key, Falls, fallen, BirthCall}
+use Rattle.pagable_machine.proofs.Words.{own-self, common_steps, rules, ◌≡◌, ℕ, Bool, true, false, List, [], Ok, Err, Some, None, inl, inr, refl, ◌∙◌, ◌⊎◌, ◌<◌, ◌≤◌, ap, sym, arith, nat_tests}
+use Rattle.pagable_machine.proofs.Words.{Option, Result, OptionalDataKey, Error, ArcRef, HandleNumber, LoadNumber, Kind, Blob, SameAt, Call, Reply, Owner, HandleRow, Mode, Beginning, Want}
+use Rattle.pagable_machine.proofs.Words.{Pinning, LoadAnswer, is_owner, OwnsLoad, load_fault, Alike, Core, Frame, OpenLoad, Reading, Root, Seen, Values, of_cell, of_key, Falls, fallen, BirthCall}
 use Rattle.pagable_machine.proofs.Words.{AwayBirthCall, PinCall, UnpinCall, ReleaseCall, SetKeyCall, ScheduleCall, TakeCall, RecallCall, OfferCall, StoreCall, with_load, without_load, from_cache}
 use Rattle.pagable_machine.proofs.Words.{from_store, BeginCall, BeginKeyCall, AskCall, AdoptCall, adopted, first_key, LazyCall, EndCall, HandOverCall, GoesOn, Meets, ReadingDoes, at-updated}
-use Rattle.pagable_machine.proofs.Words.{same-number, same_some, neither}
-use Rattle.pagable_world.specs.{LoadCalls.Given, Events.Does}
+use Rattle.pagable_machine.proofs.Words.{same-number, same_some, neither, Does}
+use Rattle.pagable_world.specs.LoadCalls.{Given}
 use Rattle.pagable_model.specs.declared.data_key.OptionalDataKey.TheVariants as optional
 use Rattle.pagable_world.specs.declared.answers.Beginning.TheVariants as beginnings
 use Rattle.pagable_world.specs.declared.answers.Pinning.TheVariants as pinnings

@@ -1,6 +1,6 @@
 -- A table of a list is written in its place.
-use Rattle.pagable_machine.proofs.Words.{◌≡◌, ◌≢◌, ℕ, ◌<◌, List, length, refl, sym, subst, arith, slice_get, set, get_or-set_same, get_or-set_other, length-set, slice_get_read}
-use Rattle.pagable_machine.proofs.Words.{slice_get_cases, slice_get_past, Ghosts, SlotTable, SetsTable, nat_tests}
+use Rattle.pagable_machine.proofs.Words.{◌≡◌, ◌≢◌, ℕ, ◌<◌, List, length, refl, sym, subst, arith, slice_get, set, get_or-set_same, get_or-set_other, length-set, slice_get_read, slice_get_cases}
+use Rattle.pagable_machine.proofs.Words.{slice_get_past, Ghosts, SlotTable, SetsTable, nat_tests}
 
 others-stay : {Y : Type 0} (xs : List Y) (i q : ℕ) (y : Y) → q ≢ i → slice_get (set xs i y) q ≡ slice_get xs q
 others-stay xs i q y other = grind (arith, nat_tests, get_or-set_other, length-set, set, slice_get_cases, slice_get_past, slice_get_read)

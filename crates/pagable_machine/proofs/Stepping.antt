@@ -1,9 +1,9 @@
 -- A worker's step.
-use Rattle.pagable_machine.proofs.Words.{nat_tests, common_steps, rules, ◌≡◌, ◌≢◌, ℕ, zero, suc, ◌≤◌, ◌==◌, Bool, true, false, List, [], ◌∷◌, Option, Some, None, Ok, inl, inr, if◌then◌else◌}
-use Rattle.pagable_machine.proofs.Words.{refl, sym, ap, subst, ◌∙◌, length, arith, is_none, is_some, option_map, Arc, Global, SerializedData, WorkerNumber, Took, WorkerAnswer, WorkerReply, Blob}
+use Rattle.pagable_machine.proofs.Words.{nat_tests, common_steps, rules, ◌≡◌, ◌≢◌, ℕ, zero, suc, ◌≤◌, ◌==◌, Bool, true, false, List, [], ◌∷◌, Option, Some, None, Ok, inl, inr, if◌then◌else◌, refl}
+use Rattle.pagable_machine.proofs.Words.{sym, ap, subst, ◌∙◌, length, arith, is_none, is_some, option_map, Arc, Global, SerializedData, WorkerNumber, Took, WorkerAnswer, WorkerReply, Blob}
 use Rattle.pagable_machine.proofs.Words.{if_there, updated, is_owner, owner_worker, Core, SameShelf, Seen, Shelf, Todo, Values, Written, Site, WalkDoes, answer_after, is_counted, Ends, Happens}
-use Rattle.pagable_machine.proofs.Words.{WorkerSteps, no_shelf, steps_after, PagerState, TodoBrings, WellFormed, world_of, same-number, Ghosts, SlotTable, Task, Turn, Waiting, shelf_of}
-use Rattle.pagable_machine.proofs.Words.{todo_of, todos, LeavesFit, TaskFits, answer_in, plain, plain_took, plan, Walk, Holding, IsServing, KeepsOne, Makes, machine_of, readings_in, plain_moved}
+use Rattle.pagable_machine.proofs.Words.{WorkerSteps, no_shelf, steps_after, PagerState, TodoBrings, WellFormed, world_of, same-number, Ghosts, SlotTable, Task, Turn, Waiting, shelf_of, todo_of}
+use Rattle.pagable_machine.proofs.Words.{todos, LeavesFit, TaskFits, answer_in, plain, plain_took, plan, Walk, Holding, IsServing, KeepsOne, Makes, machine_of, readings_in, plain_moved}
 use Rattle.pagable_machine.proofs.Words.{IsWalkKept, SetsTable, WalksOn, shelf_at, task_in, todo_left, walking_of}
 use Rattle.pagable_walk.specs.Turns.{Stepped}
 use Rattle.pagable_machine.proofs.Keeping.{are-these, as-before, at-one, kept-on, makes-with, not-same, one-serves, updated-at}

@@ -1,7 +1,8 @@
 -- What each step of a worker leaves, its begin and its end among them.
 use Rattle.pagable_machine.proofs.Words.{nat_tests, common_steps, rules, ℕ, ◌+◌, Bool, true, false, List, [], ◌∷◌, Option, Some, None, Ok, Err, inl, refl, arith, ArcRef, HandleNumber, LoadNumber}
 use Rattle.pagable_machine.proofs.Words.{WorkerNumber, Error, Took, WorkerAnswer, Owner, updated, owner_worker, Alike, Core, Seen, Todo, to_fail, to_finish, to_item, to_load, to_pin, to_publish}
-use Rattle.pagable_machine.proofs.Words.{to_release, to_set, to_start, to_write, Does, GivesBack, PinRefused, PinsAtOnce, PinsByLoad, Site, Ends, with_entry_taken, with_worker}
+use Rattle.pagable_machine.proofs.Words.{to_release, to_set, to_start, to_write, GivesBack, PinRefused, PinsAtOnce, PinsByLoad, Site, Ends, with_entry_taken, with_worker}
+use Rattle.pagable_world.specs.Workers.{Does}
 use Rattle.pagable_machine.proofs.Leaving.{IsMine, Leaves, after, begun, falls, joined, key-set, like, over, scheduled, step-leaves, stored}
 use Rattle.pagable_world.specs.declared.events.Claim.TheVariants as claims
 use Rattle.pagable_world.specs.declared.events.LoadAnswer.TheVariants as ends

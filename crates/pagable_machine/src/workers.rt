@@ -1,7 +1,6 @@
 //! Tables of page-out, and workers on them.
 
-ghost use Rattle.std.specs.Prelude.{◌≡◌, ◌<◌, ◌⊎◌, ℕ, Some, IfOk, IfErr, OnOk, OnErr, true, false};
-ghost use Rattle.std.specs.HashMap.{spare};
+ghost use Rattle.std.specs.{Prelude.◌≡◌, Prelude.◌<◌, Prelude.◌⊎◌, Prelude.ℕ, Prelude.Some, Prelude.IfOk, Prelude.IfErr, Prelude.OnOk, Prelude.OnErr, Prelude.true, Prelude.false, HashMap.spare};
 ghost use Rattle.pagable_world.specs.{Kinds.identity_of, World.Alike, World.of_entry, World.of_item, Access.Called, Access.WorkerStarts};
 ghost use Rattle.pagable_loads.specs.{Telling.values_at, Working.RefusesEntry, Working.StartsEntry};
 ghost use Rattle.pagable_pager.specs.View.{core_in, state_in, telling};
