@@ -1,21 +1,9 @@
 -- From one reading with stand-ins to what a blob asks for ahead.
-use Rattle.std.proofs.Common.{◌≡◌, ℕ, ◌+◌, ◌<◌, Bool, true, false, if◌then◌else◌, List, [], ◌∷◌, ◌++◌, length, Option, Some, None, Result, Ok, Err, inl, inr, refl, ap, sym, subst, ◌∙◌, arith, slice_get}
-use Rattle.std.specs.Prelude.{◌==◌}
-use Rattle.std.proofs.lemmas.Option.{slice_get_within, slice_get-get_or}
-use Rattle.pagable_model.specs.declared.error.Error.{Error}
-use Rattle.pagable_model.specs.declared.error.Error.TheVariants as errors
-use Rattle.pagable_model.specs.declared.numbers.ArcRef.{ArcRef}
-use Rattle.pagable_model.specs.declared.numbers.Kind.{Kind}
-use Rattle.pagable_model.specs.Blob.{Blob}
-use Rattle.pagable_model.specs.Meaning.{Meaning}
-use Rattle.pagable_model.specs.Reading.{Rest}
-use Rattle.pagable_model.specs.Standing.{Answer}
-use Rattle.pagable_world.specs.Plain.{Types}
-use Rattle.pagable_world.specs.World.{Frame}
-use Rattle.pagable_model.specs.Deep.{is_eager}
-use Rattle.pagable_world.specs.Loads.{asks, answers_from, next_by, next_of, read_with, need_at, need_of, needs_nested, needs_lazy}
-use Rattle.pagable_loads.specs.Ahead.{kinds_of, AsksNext, Foresees, IsAhead, AskedIf, RowTells, GotMore, Kept}
+use Rattle.pagable_loads.proofs.Words.{◌≡◌, ℕ, ◌+◌, ◌<◌, Bool, true, false, if◌then◌else◌, List, [], ◌∷◌, ◌++◌, length, Option, Some, None, Result, Ok, Err, inl, inr, refl, ap, sym, subst, ◌∙◌}
+use Rattle.pagable_loads.proofs.Words.{arith, slice_get, ◌==◌, slice_get_within, slice_get-get_or, Error, ArcRef, Kind, Blob, Meaning, Rest, Answer, Types, Frame, is_eager, asks, answers_from}
+use Rattle.pagable_loads.proofs.Words.{next_by, next_of, read_with, need_at, need_of, needs_nested, needs_lazy, kinds_of, AsksNext, Foresees, IsAhead, AskedIf, RowTells, GotMore, Kept}
 use Rattle.pagable_loads.proofs.Traced.{End, done, faulty, Answered, Goes, Trace, typed_traced}
+use Rattle.pagable_model.specs.declared.error.Error.TheVariants as errors
 
 -- ---- lists
 

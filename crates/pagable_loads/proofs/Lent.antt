@@ -1,27 +1,9 @@
 -- What the references that were got lend, one after the other.
-use Rattle.std.proofs.lemmas.Bool.Decides.{nat_tests}
-use Rattle.std.proofs.lemmas.Grind.{common_steps}
-use Rattle.std.proofs.Common.{rules}
-use Rattle.std.proofs.Common.{◌≡◌, ◌≢◌, ℕ, ◌+◌, ◌<◌, ◌≤◌, List, [], ◌∷◌, ◌++◌, length, true, false, Option, Some, None, Result, Ok, Err, IfOk, ◌⊎◌, inl, inr, refl, ap, sym, subst, ◌∙◌, arith, slice_get}
-use Rattle.std.proofs.Math.ListN.{get_or-append}
-use Rattle.std.proofs.Math.Seq.{get_or-append_seam}
-use Rattle.std.proofs.lemmas.List.{length-append}
-use Rattle.std.proofs.lemmas.Map.Keys.{any_passes_from_place}
-use Rattle.std.proofs.lemmas.Option.{slice_get_within, slice_get-get_or}
-use Rattle.std.specs.List.{list_any}
-use Rattle.std.specs.Option.{option_map}
-use Rattle.std.specs.Prelude.{Bool, IsSome, option_and_then}
-use Rattle.pagable_model.specs.declared.error.Error.{Error}
+use Rattle.pagable_loads.proofs.Words.{nat_tests, common_steps, rules, ◌≡◌, ◌≢◌, ℕ, ◌+◌, ◌<◌, ◌≤◌, List, [], ◌∷◌, ◌++◌, length, true, false, Option, Some, None, Result, Ok, Err, IfOk, ◌⊎◌, inl}
+use Rattle.pagable_loads.proofs.Words.{inr, refl, ap, sym, subst, ◌∙◌, arith, slice_get, get_or-append, get_or-append_seam, length-append, any_passes_from_place, slice_get_within}
+use Rattle.pagable_loads.proofs.Words.{slice_get-get_or, list_any, option_map, Bool, IsSome, option_and_then, Error, ArcRef, is_eager, row_at, live_fault, PagerState, lent_at, Lends, LendsEach}
+use Rattle.pagable_loads.proofs.Words.{Shares, Tells, holds_of}
 use Rattle.pagable_model.specs.declared.error.Error.TheVariants as errors
-use Rattle.pagable_model.specs.declared.numbers.ArcRef.{ArcRef}
-use Rattle.pagable_model.specs.Deep.{is_eager}
-use Rattle.pagable_world.specs.World.{row_at}
-use Rattle.pagable_world.specs.Refusals.{live_fault}
-use Rattle.pagable_world.specs.Pager.{PagerState}
-use Rattle.pagable_loads.specs.Got.{lent_at}
-use Rattle.pagable_loads.specs.Lending.{Lends, LendsEach}
-use Rattle.pagable_loads.specs.Starting.{Shares}
-use Rattle.pagable_loads.specs.Telling.{Tells, holds_of}
 
 module _ {S : Type 0} where
   pub tells_all : {o : Option S} {P : S → Type 0} → ((s : S) → P s) → Tells o P

@@ -1,18 +1,8 @@
 -- A step of a load leaves less to do.
-use Rattle.std.proofs.Common.{◌≡◌, ℕ, zero, suc, ◌+◌, ◌-◌, ◌*◌, ◌<◌, Bool, List, [], ◌∷◌, ◌++◌, length, Option, Some, None, Result, Ok, Err, refl, ap, sym, subst, ◌∙◌, arith}
-use Rattle.std.specs.Prelude.{slice_get, ◌^◌}
-use Rattle.std.proofs.lemmas.Option.{slice_get_within}
-use Rattle.pagable_model.specs.declared.error.Error.{Error}
+use Rattle.pagable_loads.proofs.Words.{◌≡◌, ℕ, zero, suc, ◌+◌, ◌-◌, ◌*◌, ◌<◌, Bool, List, [], ◌∷◌, ◌++◌, length, Option, Some, None, Result, Ok, Err, refl, ap, sym, subst, ◌∙◌, arith, slice_get}
+use Rattle.pagable_loads.proofs.Words.{◌^◌, slice_get_within, Error, ArcRef, Kind, Meaning, Rest, Answer, Types, Frame, Next, reads, asks, is_faulty, next_by, next_in, read_with, need_at, need_of}
+use Rattle.pagable_loads.proofs.Words.{needs_nested, needs_lazy, left_in, waits_for, many, waiting, widened, to_do, LeadsOn}
 use Rattle.pagable_model.specs.declared.error.Error.TheVariants as errors
-use Rattle.pagable_model.specs.declared.numbers.ArcRef.{ArcRef}
-use Rattle.pagable_model.specs.declared.numbers.Kind.{Kind}
-use Rattle.pagable_model.specs.Meaning.{Meaning}
-use Rattle.pagable_model.specs.Reading.{Rest}
-use Rattle.pagable_model.specs.Standing.{Answer}
-use Rattle.pagable_world.specs.Plain.{Types}
-use Rattle.pagable_world.specs.World.{Frame}
-use Rattle.pagable_world.specs.Loads.{Next, reads, asks, is_faulty, next_by, next_in, read_with, need_at, need_of, needs_nested, needs_lazy}
-use Rattle.pagable_loads.specs.Ending.{left_in, waits_for, many, waiting, widened, to_do, LeadsOn}
 
 widened_less : (k a b : ℕ) → a < b → widened k a < widened k b
 unfolding widened

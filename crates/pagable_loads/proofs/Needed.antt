@@ -1,18 +1,8 @@
 -- What was read is what a load needs next.
-use Rattle.std.proofs.Common.{◌≡◌, ◌+◌, ◌<◌, List, [], ◌∷◌, ◌++◌, length, Option, Some, inl, inr, refl, ap, sym, subst, ◌∙◌, arith}
-use Rattle.std.specs.Arc.{arc_value}
-use Rattle.pagable_core.specs.Data.{blob_of}
-use Rattle.pagable_model.specs.declared.numbers.ArcRef.{ArcRef}
-use Rattle.pagable_model.specs.Deep.{longest_path}
-use Rattle.pagable_model.specs.Meaning.{Meaning}
-use Rattle.pagable_world.specs.World.{Frame, Values}
-use Rattle.pagable_world.specs.Loads.{reads, IsDecoded, to_adopt, need_at, need_of, ReadsNode, ReadsRoot}
-use Rattle.pagable_loads.specs.declared.reading.Frame.{Frame as Held}
-use Rattle.pagable_loads.specs.declared.reading.Reading.{Reading as Own}
-use Rattle.pagable_loads.specs.declared.reading.Need.{Need}
-use Rattle.pagable_loads.specs.Frames.{frame_of, frames_of, onto, reading_of}
-use Rattle.pagable_loads.specs.Decoding.{IsReadAs}
-use Rattle.pagable_loads.specs.Needing.{Needs, IsRead, NeedIs}
+use Rattle.pagable_loads.proofs.Words.{◌≡◌, ◌+◌, ◌<◌, List, [], ◌∷◌, ◌++◌, length, Option, Some, inl, inr, refl, ap, sym, subst, ◌∙◌, arith, arc_value, blob_of, ArcRef, longest_path, Meaning}
+use Rattle.pagable_loads.proofs.Words.{Frame, Values, reads, IsDecoded, to_adopt, need_at, need_of, ReadsNode, ReadsRoot, Need, frame_of, frames_of, onto, reading_of, IsReadAs, Needs, IsRead}
+use Rattle.pagable_loads.proofs.Words.{NeedIs}
+use Rattle.pagable_loads.specs.{declared.reading.Frame.Frame as Held, declared.reading.Reading.Reading as Own}
 
 pub length_onto : (below : List Frame) (fs : List Held) → length (onto below fs) ≡ length below + length fs
 unfolding onto

@@ -1,33 +1,17 @@
 -- What a step's call did is what the step is said to do.
-use Rattle.std.proofs.Common.{◌≡◌, ℕ, ◌+◌, ◌<◌, ◌≤◌, List, [], ◌∷◌, ◌++◌, length, true, false, Option, Some, None, Result, Ok, Err, inl, inr, refl, ap, sym, subst, ◌∙◌, arith}
-use Rattle.std.specs.Prelude.{not}
-use Rattle.pagable_model.specs.declared.error.Error.{Error}
+use Rattle.pagable_loads.proofs.Words.{◌≡◌, ℕ, ◌+◌, ◌<◌, ◌≤◌, List, [], ◌∷◌, ◌++◌, length, true, false, Option, Some, None, Result, Ok, Err, inl, inr, refl, ap, sym, subst, ◌∙◌, arith, not, Error}
+use Rattle.pagable_loads.proofs.Words.{ArcRef, HandleNumber, Kind, Blob, longest_path, LoadAnswer, Owner, is_owner, if_there, Core, Root, of_cell, of_key, OpenLoad, Frame, Reading, Values}
+use Rattle.pagable_loads.proofs.Words.{OwnsLoad, refused_if, load_fault, from_store, AskCall, AdoptCall, EndCall, HandOverCall, DropCall, LoadCloses, need_of, needs_nested, needs_lazy, root_frame}
+use Rattle.pagable_loads.proofs.Words.{nested_frame, with_got, handles_of, MakesNode, ReadsNode, ReadsRoot, LoadIs, IsOfCell, IsOfKey, Meets, Does, PagerState, Moves, ReadingBrings, IsNewNode}
+use Rattle.pagable_loads.proofs.Words.{IsCellOf, tells, Told, Called, ReadingStep, Brings, IsMade, AsksFor, TakesLazily, AdoptsValue, frame_of, frames_of, onto, reading_of, is_cell, IsLoadOf, Met}
+use Rattle.pagable_loads.proofs.Words.{Tries, Steps, Drops}
+use Rattle.pagable_loads.specs.{declared.reading.Frame.Frame as Held, declared.reading.Reading.Reading as Own}
+use Rattle.pagable_loads.proofs.Needed.{length_onto}
 use Rattle.pagable_model.specs.declared.error.Error.TheVariants as errors
-use Rattle.pagable_model.specs.declared.numbers.ArcRef.{ArcRef}
-use Rattle.pagable_model.specs.declared.numbers.HandleNumber.{HandleNumber}
-use Rattle.pagable_model.specs.declared.numbers.Kind.{Kind}
-use Rattle.pagable_model.specs.Blob.{Blob}
-use Rattle.pagable_model.specs.Deep.{longest_path}
 use Rattle.either.specs.declared.Either.TheVariants as eithers
 use Rattle.pagable_world.specs.declared.calls.Want.TheVariants as wants
-use Rattle.pagable_world.specs.declared.events.LoadAnswer.{LoadAnswer}
 use Rattle.pagable_world.specs.declared.events.LoadAnswer.TheVariants as ends
-use Rattle.pagable_world.specs.declared.handles.Owner.{Owner}
 use Rattle.pagable_world.specs.declared.handles.Owner.TheVariants as owners
-use Rattle.pagable_world.specs.Kinds.{is_owner}
-use Rattle.pagable_world.specs.Plain.{if_there}
-use Rattle.pagable_world.specs.World.{Core, Root, of_cell, of_key, OpenLoad, Frame, Reading, Values}
-use Rattle.pagable_world.specs.Refusals.{OwnsLoad, refused_if, load_fault}
-use Rattle.pagable_world.specs.LoadCalls.{from_store, AskCall, AdoptCall, EndCall, HandOverCall, DropCall, LoadCloses}
-use Rattle.pagable_world.specs.Loads.{need_of, needs_nested, needs_lazy, root_frame, nested_frame, with_got, handles_of, MakesNode, ReadsNode, ReadsRoot, LoadIs, IsOfCell, IsOfKey, Meets, Does}
-use Rattle.pagable_world.specs.Pager.{PagerState, Moves, ReadingBrings, IsNewNode, IsCellOf}
-use Rattle.pagable_world.specs.Access.{tells, Told, Called, ReadingStep}
-use Rattle.pagable_loads.specs.declared.reading.Frame.{Frame as Held}
-use Rattle.pagable_loads.specs.declared.reading.Reading.{Reading as Own}
-use Rattle.pagable_loads.specs.Telling.{Brings, IsMade, AsksFor, TakesLazily, AdoptsValue}
-use Rattle.pagable_loads.specs.Frames.{frame_of, frames_of, onto, reading_of, is_cell, IsLoadOf}
-use Rattle.pagable_loads.specs.Stepping.{Met, Tries, Steps, Drops}
-use Rattle.pagable_loads.proofs.Needed.{length_onto}
 
 module _ {S : Type 0} where
   pub told_map : {o n : Option S} {R Q : S → S → Type 0} → ((s t : S) → R s t → Q s t) → Told o n R → Told o n Q
