@@ -31,11 +31,7 @@ module _ {A N E : Type 0} (see : A → N) (s : PagerState N E) (got : List ArcRe
 
   -- none is read together with its value
   pub none_lent : list_any (λ (r : ArcRef). is_eager r.kind.0) got ≡ false → LendsEach see s got []
-  none_lent is = record { each = λ place r here. record { value = tt; none = inl (lazy (is_eager r.kind.0) place r refl here) } }
-    where
-      lazy : (b : Bool) (place : ℕ) (r : ArcRef) → is_eager r.kind.0 ≡ b → slice_get got place ≡ Some r → is_eager r.kind.0 ≡ false
-      lazy true place r eager here = absurd (let any = any_passes_from_place (λ (x : ArcRef). is_eager x.kind.0) got place r here eager in cc)
-      lazy false place r not here = not
+  none_lent is = grind (arith, nat_tests, any_passes_from_place, slice_get)
 
   pushed_lent : (i : ℕ) (r : ArcRef) (lent : List (Option A)) (o : Option A) → length lent ≡ i → slice_get got i ≡ Some r → LentTo i lent → Lends s r (option_map see o) → LentTo (i + 1) (lent ++ o ∷ [])
   pushed_lent i r lent o same here to lends place q before there = elim (before_or place before) [
@@ -67,9 +63,4 @@ module _ {A N E : Type 0} (see : A → N) (s : PagerState N E) (got : List ArcRe
 
   -- all of them do
   pub all_lent : (i : ℕ) (lent : List (Option A)) → length got ≤ i → LentTo i lent → LendsEach see s got lent
-  all_lent i lent past to =
-      record {
-        each = λ place r here.
-            let within = slice_get_within got place r here in
-            to place r (omega (arith, past, within)) here;
-      }
+  all_lent i lent past to = grind (arith, nat_tests, slice_get_within)

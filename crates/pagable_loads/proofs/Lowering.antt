@@ -1,7 +1,7 @@
 -- A step of a load leaves less to do.
 use Rattle.pagable_loads.proofs.Words.{◌≡◌, ℕ, zero, suc, ◌+◌, ◌-◌, ◌*◌, ◌<◌, Bool, List, [], ◌∷◌, ◌++◌, length, Option, Some, None, Result, Ok, Err, refl, ap, sym, subst, ◌∙◌, arith, slice_get}
 use Rattle.pagable_loads.proofs.Words.{◌^◌, slice_get_within, Error, ArcRef, Kind, Meaning, Rest, Answer, Types, Frame, Next, reads, asks, is_faulty, next_by, next_in, read_with, need_at, need_of}
-use Rattle.pagable_loads.proofs.Words.{needs_nested, needs_lazy, left_in, waits_for, many, waiting, widened, to_do, LeadsOn}
+use Rattle.pagable_loads.proofs.Words.{needs_nested, needs_lazy, left_in, waits_for, many, waiting, widened, to_do, LeadsOn, nat_tests}
 use Rattle.pagable_model.specs.declared.error.Error.TheVariants as errors
 
 widened_less : (k a b : ℕ) → a < b → widened k a < widened k b
@@ -38,9 +38,7 @@ asked_is (Some q) (Err (errors.Storage k)) kind key e = (q, refl)
 asked_is found (Err f) kind key e = absurd (cc)
 
 asked_of : (types : Types) (f : Frame) (kind : Kind) (key : ℕ) → next_in types f ≡ asks kind key → length f.got < length f.blob.keys
-asked_of types f kind key e =
-    let found = asked_is (slice_get f.blob.keys (length f.got)) (read_with types f.node_type f.blob f.got) kind key e in
-    slice_get_within f.blob.keys (length f.got) found.0 found.1
+asked_of types f kind key e = grind (arith, nat_tests, asked_is, slice_get, slice_get_within)
 
 nested_asks : (fs : List Frame) (next : Next) (kind : Kind) (key : ℕ) → need_at fs next ≡ needs_nested kind key → (k : Kind) × (q : ℕ) × (next ≡ asks k q)
 nested_asks fs (asks k q) kind key e = (k, q, refl)

@@ -1,7 +1,7 @@
 -- What was read is what a load needs next.
 use Rattle.pagable_loads.proofs.Words.{◌≡◌, ◌+◌, ◌<◌, List, [], ◌∷◌, ◌++◌, length, Option, Some, inl, inr, refl, ap, sym, subst, ◌∙◌, arith, arc_value, blob_of, ArcRef, longest_path, Meaning}
 use Rattle.pagable_loads.proofs.Words.{Frame, Values, reads, IsDecoded, to_adopt, need_at, need_of, ReadsNode, ReadsRoot, Need, frame_of, frames_of, onto, reading_of, IsReadAs, Needs, IsRead}
-use Rattle.pagable_loads.proofs.Words.{NeedIs}
+use Rattle.pagable_loads.proofs.Words.{NeedIs, nat_tests}
 use Rattle.pagable_loads.specs.{declared.reading.Frame.Frame as Held, declared.reading.Reading.Reading as Own}
 
 pub length_onto : (below : List Frame) (fs : List Held) → length (onto below fs) ≡ length below + length fs
@@ -61,8 +61,4 @@ module _ {N : Type 0} (v : Values N) (own : Own) (top : Held) (is : own.top ≡ 
   root none = record { root = frame_of top; frames = frames ∙ ap (λ fs. frame_of top ∷ fs) (onto_none own.below.items none); decoded = decoded }
 
   pub read_needs : (need : Need N) → IsRead own.below.items own.for_cell x need → Needs v (reading_of own) own.for_cell need
-  read_needs need r = elim r.of [
-    | inl (some, e) ↦ record { is = subst (NeedIs v (reading_of own) own.for_cell) (sym e) (node some) }
-    | inr (inl (none, cell, e)) ↦ record { is = subst (NeedIs v (reading_of own) own.for_cell) (sym e) (root none, cell) }
-    | inr (inr (none, cell, e)) ↦ record { is = subst (NeedIs v (reading_of own) own.for_cell) (sym e) (root none, cell) }
-  ]
+  read_needs need r = grind (arith, nat_tests, node, root)

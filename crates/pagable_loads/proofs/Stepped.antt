@@ -4,7 +4,7 @@ use Rattle.pagable_loads.proofs.Words.{ArcRef, HandleNumber, Kind, Blob, longest
 use Rattle.pagable_loads.proofs.Words.{OwnsLoad, refused_if, load_fault, from_store, AskCall, AdoptCall, EndCall, HandOverCall, DropCall, LoadCloses, need_of, needs_nested, needs_lazy, root_frame}
 use Rattle.pagable_loads.proofs.Words.{nested_frame, with_got, handles_of, MakesNode, ReadsNode, ReadsRoot, LoadIs, IsOfCell, IsOfKey, Meets, Does, PagerState, Moves, ReadingBrings, IsNewNode}
 use Rattle.pagable_loads.proofs.Words.{IsCellOf, tells, Told, Called, ReadingStep, Brings, IsMade, AsksFor, TakesLazily, AdoptsValue, frame_of, frames_of, onto, reading_of, is_cell, IsLoadOf, Met}
-use Rattle.pagable_loads.proofs.Words.{Tries, Steps, Drops}
+use Rattle.pagable_loads.proofs.Words.{Tries, Steps, Drops, nat_tests}
 use Rattle.pagable_loads.specs.{declared.reading.Frame.Frame as Held, declared.reading.Reading.Reading as Own}
 use Rattle.pagable_loads.proofs.Needed.{length_onto}
 use Rattle.pagable_model.specs.declared.error.Error.TheVariants as errors
@@ -15,21 +15,10 @@ use Rattle.pagable_world.specs.declared.handles.Owner.TheVariants as owners
 
 module _ {S : Type 0} where
   pub told_map : {o n : Option S} {R Q : S → S → Type 0} → ((s t : S) → R s t → Q s t) → Told o n R → Told o n Q
-  told_map {o} {n} f h = record { holds = through o n f h.holds }
-    where
-      through : {R Q : S → S → Type 0} (o n : Option S) → ((s t : S) → R s t → Q s t) → tells o n R → tells o n Q
-      through None n f h = tt
-      through (Some s) None f h = h
-      through (Some s) (Some t) f h = f s t h
+  told_map {o} {n} f h = grind (arith, nat_tests)
 
   pub told_then : {o n m : Option S} {R T Q : S → S → Type 0} → ((s mid t : S) → R s mid → T mid t → Q s t) → Told o n R → Told n m T → Told o m Q
-  told_then {o} {n} {m} f h k = record { holds = through o n m f h.holds k.holds }
-    where
-      through : {R T Q : S → S → Type 0} (o n m : Option S) → ((s mid t : S) → R s mid → T mid t → Q s t) → tells o n R → tells n m T → tells o m Q
-      through None n m f h k = tt
-      through (Some s) None m f h k = absurd h
-      through (Some s) (Some mid) None f h k = k
-      through (Some s) (Some mid) (Some t) f h k = f s mid t h k
+  told_then {o} {n} {m} f h k = grind (arith, nat_tests)
 
 module _ {N : Type 0} (E : Type 0) (v : Values N) (me : Owner) (own : Own) where
   abbrev reading : Reading
@@ -162,10 +151,7 @@ module _ {N : Type 0} (E : Type 0) (v : Values N) (me : Owner) (own : Own) where
     end_closed e frames none s t c = goes (λ o. record { does = record { does = (inr (record { x = x; reads_root = root; ended = c.step }), none) }; moves = comes c.moves; whole = c.whole })
 
     pub end_refused : (e : Error) (y : N) (frames : List Frame) (s t : PagerState N E) → Brings v (λ w'. EndCall s.core me own.load x (v.node_type x) (v.references x) (Err (e, Some y)) w') (λ n z. (z ≡ x) × IsCellOf s.core own.load n) s t → Tries v me own s (Err e) frames t
-    end_refused e y frames s t c = fails (λ o. record { meets = inr (inr (inr (inr (inr (record { x = x; reads_root = root; refuses = inl (for_cell s.core o, again c.step) }))))); moves = comes c.moves })
-      where
-        again : EndCall s.core me own.load x (v.node_type x) (v.references x) (Err (e, Some y)) t.core → EndCall s.core me own.load x (v.node_type x) (v.references x) (Err (e, Some x)) t.core
-        again call = record { installs = tt; refused = (refl, call.refused.1) }
+    end_refused e y frames s t c = grind (arith, nat_tests, comes, fails, for_cell)
 
   module _ (x : N) (root : ReadsRoot v reading x) (sort : own.for_cell ≡ false) (named : List HandleNumber) (is : named ≡ handles_of (v.references x)) where
     for_key : (w : Core) → IsLoadOf w me own → LoadIs w reading IsOfKey
@@ -203,10 +189,7 @@ module _ {N : Type 0} (E : Type 0) (v : Values N) (me : Owner) (own : Own) where
   no_moves m k = record { each = λ n x is. elim (k.each n x is) [ inl was ↦ m.each n x was | inr came ↦ absurd came.1 ]; environment = k.environment ∙ m.environment }
 
   closes : (mid t : Core) (told : Result (Unit {0}) Error) (load : OpenLoad) → OwnsLoad mid me own.load load → DropCall mid me own.load told t → LoadCloses mid own.load told t
-  closes mid t told load o d = elim d.does [
-    | inl r ↦ absurd (let f : None ≡ Some r.e = sym (usable_load mid load o) ∙ r.why in cc)
-    | inr (other, owned, c) ↦ c
-  ]
+  closes mid t told load o d = grind (arith, nat_tests, usable_load)
 
   pub gives_up : (e : Error) (frames none : List Frame) → none ≡ [] → (s mid t : PagerState N E) → Tries v me own s (Err e) frames mid → Drops v me own.load mid t → Steps v me own s (Some (ends.Refused e)) none t
   gives_up e frames none is s mid t tried d = record {
