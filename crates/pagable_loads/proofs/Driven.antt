@@ -1,7 +1,7 @@
 -- A load's steps, one after another up to its end.
 use Rattle.pagable_loads.proofs.Words.{arith, nat_tests, common_steps, rules, ◌≡◌, ℕ, Bool, true, false, List, [], Option, Some, None, inl, inr, refl, ap, sym, subst, ◌∙◌, if◌then◌else◌, Kind}
-use Rattle.pagable_loads.proofs.Words.{LoadNumber, NodeNumber, LoadAnswer, Owner, Core, Frame, Reading, Values, one_more, with_cached, GoesOn, Does, gone_on, PagerState, Told, ReadingStep}
-use Rattle.pagable_loads.proofs.Words.{LoadRun, load-ends, load-goes-on, IsLoadOf, frames_of, reading_of, Steps, Runs, HasGone}
+use Rattle.pagable_loads.proofs.Words.{LoadNumber, NodeNumber, LoadAnswer, Owner, Core, Frame, Reading, Values, one_more, with_cached, GoesOn, Does, gone_on, PagerState, Told, LoadRun, load-ends}
+use Rattle.pagable_loads.proofs.Words.{load-goes-on, IsLoadOf, frames_of, reading_of, Steps, Runs, HasGone}
 use Rattle.pagable_loads.specs.declared.reading.Reading.{Reading as Own}
 use Rattle.pagable_world.specs.declared.events.LoadAnswer.TheVariants as ends
 

@@ -1,8 +1,7 @@
 -- From one reading with stand-ins to what a blob asks for ahead.
 use Rattle.pagable_loads.proofs.Words.{◌≡◌, ℕ, ◌+◌, ◌<◌, Bool, true, false, if◌then◌else◌, List, [], ◌∷◌, ◌++◌, length, Option, Some, None, Result, Ok, Err, inl, inr, refl, ap, sym, subst, ◌∙◌}
 use Rattle.pagable_loads.proofs.Words.{arith, slice_get, ◌==◌, slice_get_within, slice_get-get_or, Error, ArcRef, Kind, Blob, Meaning, Rest, Answer, Types, Frame, is_eager, asks, answers_from}
-use Rattle.pagable_loads.proofs.Words.{next_by, next_of, read_with, need_at, need_of, needs_nested, needs_lazy, kinds_of, AsksNext, Foresees, IsAhead, AskedIf, RowTells, GotMore, Kept}
-use Rattle.pagable_loads.proofs.Words.{nat_tests}
+use Rattle.pagable_loads.proofs.Words.{next_by, next_of, read_with, need_at, need_of, needs_nested, needs_lazy, kinds_of, AsksNext, Foresees, IsAhead, AskedIf, RowTells, GotMore, Kept, nat_tests}
 use Rattle.pagable_loads.proofs.Traced.{End, done, faulty, Answered, Goes, Trace, typed_traced}
 use Rattle.pagable_model.specs.declared.error.Error.TheVariants as errors
 

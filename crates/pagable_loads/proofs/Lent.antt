@@ -1,8 +1,7 @@
 -- What the references that were got lend, one after the other.
-use Rattle.pagable_loads.proofs.Words.{nat_tests, common_steps, rules, ◌≡◌, ◌≢◌, ℕ, ◌+◌, ◌<◌, ◌≤◌, List, [], ◌∷◌, ◌++◌, length, true, false, Option, Some, None, Result, Ok, Err, IfOk, ◌⊎◌, inl}
-use Rattle.pagable_loads.proofs.Words.{inr, refl, ap, sym, subst, ◌∙◌, arith, slice_get, get_or-append, get_or-append_seam, length-append, any_passes_from_place, slice_get_within}
-use Rattle.pagable_loads.proofs.Words.{slice_get-get_or, list_any, option_map, Bool, IsSome, option_and_then, Error, ArcRef, is_eager, row_at, live_fault, PagerState, lent_at, Lends, LendsEach}
-use Rattle.pagable_loads.proofs.Words.{Shares, Tells, holds_of}
+use Rattle.pagable_loads.proofs.Words.{nat_tests, common_steps, rules, ◌≡◌, ◌≢◌, ℕ, ◌+◌, ◌<◌, ◌≤◌, List, [], ◌∷◌, ◌++◌, length, false, Option, Some, None, Result, Ok, Err, IfOk, ◌⊎◌, inl, inr, ap}
+use Rattle.pagable_loads.proofs.Words.{sym, subst, ◌∙◌, arith, slice_get, get_or-append, get_or-append_seam, length-append, any_passes_from_place, slice_get_within, slice_get-get_or, list_any}
+use Rattle.pagable_loads.proofs.Words.{option_map, option_and_then, Error, ArcRef, is_eager, PagerState, lent_at, Lends, LendsEach, Shares, Tells}
 use Rattle.pagable_model.specs.declared.error.Error.TheVariants as errors
 
 module _ {S : Type 0} where

@@ -1,7 +1,6 @@
 -- What was read is what a load needs next.
-use Rattle.pagable_loads.proofs.Words.{◌≡◌, ◌+◌, ◌<◌, List, [], ◌∷◌, ◌++◌, length, Option, Some, inl, inr, refl, ap, sym, subst, ◌∙◌, arith, arc_value, blob_of, ArcRef, longest_path, Meaning}
-use Rattle.pagable_loads.proofs.Words.{Frame, Values, reads, IsDecoded, to_adopt, need_at, need_of, ReadsNode, ReadsRoot, Need, frame_of, frames_of, onto, reading_of, IsReadAs, Needs, IsRead}
-use Rattle.pagable_loads.proofs.Words.{NeedIs, nat_tests}
+use Rattle.pagable_loads.proofs.Words.{◌≡◌, ◌+◌, ◌<◌, List, [], ◌∷◌, ◌++◌, length, Option, Some, refl, ap, sym, ◌∙◌, arith, arc_value, blob_of, ArcRef, longest_path, Meaning, Frame, Values, reads}
+use Rattle.pagable_loads.proofs.Words.{IsDecoded, to_adopt, need_at, need_of, ReadsNode, ReadsRoot, Need, frame_of, frames_of, onto, reading_of, IsReadAs, Needs, IsRead, nat_tests}
 use Rattle.pagable_loads.specs.{declared.reading.Frame.Frame as Held, declared.reading.Reading.Reading as Own}
 
 pub length_onto : (below : List Frame) (fs : List Held) → length (onto below fs) ≡ length below + length fs

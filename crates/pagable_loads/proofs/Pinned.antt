@@ -1,10 +1,9 @@
 -- A pin with its loads, and how it is taken back; and the reading of a key.
-use Rattle.pagable_loads.proofs.Words.{common_steps, rules, ◌≡◌, ℕ, ◌+◌, ◌==◌, Bool, true, false, Option, Some, None, Result, Ok, Err, inl, inr, refl, ap, sym, subst, ◌∙◌, arith, nat_tests}
-use Rattle.pagable_loads.proofs.Words.{if◌then◌else◌, Error, HandleNumber, LoadNumber, LoadAnswer, HandleRow, Owner, Mode, if_there, is_loose, is_unpinned, Core, OpenLoad, Reading, Root, of_cell}
-use Rattle.pagable_loads.proofs.Words.{of_key, Values, Alike, row_at, PinCall, ReleaseCall, with_handle, BeginCall, BeginKeyCall, with_load, fresh, PagerState, WellFormed, tells, Told, Called}
-use Rattle.pagable_loads.proofs.Words.{LoadRun, load-ends, load-goes-on, PinRun, pins-at-once, pin-is-refused, load-is-refused, load-pins, load-fails, reading-is-refused, load-reads}
-use Rattle.pagable_loads.proofs.Words.{reading-fails, IsUnpinnedBack, PinsOver, ReadsOver, IsLoadOf, reading_of, is_cell, Runs, StartsPin, Shares, PinsFirst, Unpins, TakesBack, holds_of, Tells}
-use Rattle.pagable_loads.proofs.Words.{begun_as}
+use Rattle.pagable_loads.proofs.Words.{common_steps, rules, ◌≡◌, ℕ, ◌+◌, Bool, true, false, Option, Some, Result, Ok, Err, inl, inr, refl, ap, sym, subst, ◌∙◌, arith, nat_tests, Error}
+use Rattle.pagable_loads.proofs.Words.{HandleNumber, LoadNumber, LoadAnswer, HandleRow, Owner, Mode, if_there, is_loose, is_unpinned, Core, Reading, Root, of_key, Values, Alike, row_at, PinCall}
+use Rattle.pagable_loads.proofs.Words.{ReleaseCall, BeginCall, BeginKeyCall, with_load, fresh, PagerState, WellFormed, Told, Called, LoadRun, load-ends, load-goes-on, PinRun, pins-at-once}
+use Rattle.pagable_loads.proofs.Words.{pin-is-refused, load-is-refused, load-pins, load-fails, reading-is-refused, load-reads, reading-fails, IsUnpinnedBack, PinsOver, ReadsOver, IsLoadOf}
+use Rattle.pagable_loads.proofs.Words.{reading_of, is_cell, Runs, StartsPin, Shares, PinsFirst, Unpins, TakesBack, Tells, begun_as}
 use Rattle.pagable_loads.specs.declared.reading.Reading.{Reading as Own}
 use Rattle.pagable_model.specs.declared.error.Error.TheVariants as errors
 use Rattle.pagable_world.specs.declared.answers.Beginning.TheVariants as beginnings

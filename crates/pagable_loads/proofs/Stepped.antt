@@ -3,8 +3,8 @@ use Rattle.pagable_loads.proofs.Words.{◌≡◌, ℕ, ◌+◌, ◌<◌, ◌≤�
 use Rattle.pagable_loads.proofs.Words.{ArcRef, HandleNumber, Kind, Blob, longest_path, LoadAnswer, Owner, is_owner, if_there, Core, Root, of_cell, of_key, OpenLoad, Frame, Reading, Values}
 use Rattle.pagable_loads.proofs.Words.{OwnsLoad, refused_if, load_fault, from_store, AskCall, AdoptCall, EndCall, HandOverCall, DropCall, LoadCloses, need_of, needs_nested, needs_lazy, root_frame}
 use Rattle.pagable_loads.proofs.Words.{nested_frame, with_got, handles_of, MakesNode, ReadsNode, ReadsRoot, LoadIs, IsOfCell, IsOfKey, Meets, Does, PagerState, Moves, ReadingBrings, IsNewNode}
-use Rattle.pagable_loads.proofs.Words.{IsCellOf, tells, Told, Called, ReadingStep, Brings, IsMade, AsksFor, TakesLazily, AdoptsValue, frame_of, frames_of, onto, reading_of, is_cell, IsLoadOf, Met}
-use Rattle.pagable_loads.proofs.Words.{Tries, Steps, Drops, nat_tests}
+use Rattle.pagable_loads.proofs.Words.{IsCellOf, Told, Called, ReadingStep, Brings, IsMade, AsksFor, TakesLazily, AdoptsValue, frame_of, frames_of, onto, reading_of, is_cell, IsLoadOf, Met, Tries}
+use Rattle.pagable_loads.proofs.Words.{Steps, Drops, nat_tests}
 use Rattle.pagable_loads.specs.{declared.reading.Frame.Frame as Held, declared.reading.Reading.Reading as Own}
 use Rattle.pagable_loads.proofs.Needed.{length_onto}
 use Rattle.pagable_model.specs.declared.error.Error.TheVariants as errors
