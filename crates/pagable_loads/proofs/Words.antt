@@ -26,11 +26,11 @@ pub use Rattle.pagable_world.specs.Access.{Told, LoadRun, load-ends, load-goes-o
 pub use Rattle.pagable_world.specs.Access.{load-reads, reading-fails, IsUnpinnedBack, PinsOver, ReadsOver, ReadingStep}
 pub use Rattle.pagable_world.specs.LoadCalls.{BeginCall, BeginKeyCall, with_load, from_store, AskCall, AdoptCall, EndCall, HandOverCall, DropCall, LoadCloses}
 pub use Rattle.pagable_world.specs.Loads.{GoesOn, Does, gone_on, asks, next_by, next_of, need_at, need_of, needs_nested, needs_lazy, Next, reads, is_faulty, next_in, IsDecoded, to_adopt}
-pub use Rattle.pagable_world.specs.Loads.{ReadsNode, ReadsRoot, answer_of, asks_for, root_frame, nested_frame, with_got, handles_of, MakesNode, LoadIs, IsOfCell, IsOfKey, Meets}
+pub use Rattle.pagable_world.specs.Loads.{ReadsNode, ReadsRoot, answer_of, asks_for, root_frame, nested_frame, with_got, handles_of, MakesNode, LoadIs, IsOfCell, IsOfKey, Meets, read_with}
 pub use Rattle.pagable_world.specs.World.{Core, Frame, Reading, Values, one_more, Root, of_key, Alike, row_at, of_cell, OpenLoad}
 pub use Rattle.pagable_world.specs.{Calls.with_cached, Calls.PinCall, Calls.ReleaseCall, Kinds.is_loose, Kinds.is_unpinned, Kinds.is_owner, Pager.PagerState, Pager.WellFormed, Pager.Moves}
 pub use Rattle.pagable_world.specs.{Pager.ReadingBrings, Pager.IsNewNode, Pager.IsCellOf, Plain.Types, Plain.if_there, Refusals.OwnsLoad, Refusals.refused_if, Refusals.load_fault, Workers.fresh}
 pub use Rattle.pagable_world.specs.{declared.events.LoadAnswer.LoadAnswer, declared.handles.HandleRow.HandleRow, declared.handles.Owner.Owner, declared.rows.Mode.Mode}
 unfoldable pub use Rattle.pagable_loads.specs.{Ending.waiting, Ending.widened, Frames.onto}
 unfoldable pub use Rattle.pagable_model.specs.{Basic.length_at, Basic.text_at, Basic.bool_at, Basic.char_at, Basic.duration_at, Numbers.varint_at, Reading.items, Reading.below, Reading.read}
-unfoldable pub use Rattle.pagable_world.specs.Loads.{answers_from, read_with}
+unfoldable pub use Rattle.pagable_world.specs.Loads.{answers_from}
