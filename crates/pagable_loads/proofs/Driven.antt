@@ -1,24 +1,9 @@
 -- A load's steps, one after another up to its end.
-use Rattle.std.proofs.Common.{arith}
-use Rattle.std.proofs.lemmas.Bool.Decides.{nat_tests}
-use Rattle.std.proofs.lemmas.Grind.{common_steps}
-use Rattle.std.proofs.Common.{rules}
-use Rattle.std.proofs.Common.{◌≡◌, ℕ, Bool, true, false, List, [], Option, Some, None, inl, inr, refl, ap, sym, subst, ◌∙◌, if◌then◌else◌}
-use Rattle.pagable_model.specs.declared.numbers.Kind.{Kind}
-use Rattle.pagable_model.specs.declared.numbers.LoadNumber.{LoadNumber}
-use Rattle.pagable_model.specs.declared.numbers.NodeNumber.{NodeNumber}
-use Rattle.pagable_world.specs.declared.events.LoadAnswer.{LoadAnswer}
-use Rattle.pagable_world.specs.declared.events.LoadAnswer.TheVariants as ends
-use Rattle.pagable_world.specs.declared.handles.Owner.{Owner}
-use Rattle.pagable_world.specs.World.{Core, Frame, Reading, Values, one_more}
-use Rattle.pagable_world.specs.Calls.{with_cached}
-use Rattle.pagable_world.specs.Loads.{GoesOn, Does, gone_on}
-use Rattle.pagable_world.specs.Pager.{PagerState}
-use Rattle.pagable_world.specs.Access.{Told, ReadingStep, LoadRun, load-ends, load-goes-on}
+use Rattle.pagable_loads.proofs.Words.{arith, nat_tests, common_steps, rules, ◌≡◌, ℕ, Bool, true, false, List, [], Option, Some, None, inl, inr, refl, ap, sym, subst, ◌∙◌, if◌then◌else◌, Kind}
+use Rattle.pagable_loads.proofs.Words.{LoadNumber, NodeNumber, LoadAnswer, Owner, Core, Frame, Reading, Values, one_more, with_cached, GoesOn, Does, gone_on, PagerState, Told, LoadRun, load-ends}
+use Rattle.pagable_loads.proofs.Words.{load-goes-on, IsLoadOf, frames_of, reading_of, Steps, Runs, HasGone}
 use Rattle.pagable_loads.specs.declared.reading.Reading.{Reading as Own}
-use Rattle.pagable_loads.specs.Frames.{IsLoadOf, frames_of, reading_of}
-use Rattle.pagable_loads.specs.Stepping.{Steps}
-use Rattle.pagable_loads.specs.Running.{Runs, HasGone}
+use Rattle.pagable_world.specs.declared.events.LoadAnswer.TheVariants as ends
 
 pub told_same : {S : Type 0} {o : Option S} {R : S → S → Type 0} → ((s : S) → R s s) → Told o o R
 told_same {o = None} f = record { holds = tt }

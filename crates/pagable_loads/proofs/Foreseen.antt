@@ -1,21 +1,9 @@
 -- From one reading with stand-ins to what a blob asks for ahead.
-use Rattle.std.proofs.Common.{◌≡◌, ℕ, ◌+◌, ◌<◌, Bool, true, false, if◌then◌else◌, List, [], ◌∷◌, ◌++◌, length, Option, Some, None, Result, Ok, Err, inl, inr, refl, ap, sym, subst, ◌∙◌, arith, slice_get}
-use Rattle.std.specs.Prelude.{◌==◌}
-use Rattle.std.proofs.lemmas.Option.{slice_get_within, slice_get-get_or}
-use Rattle.pagable_model.specs.declared.error.Error.{Error}
-use Rattle.pagable_model.specs.declared.error.Error.TheVariants as errors
-use Rattle.pagable_model.specs.declared.numbers.ArcRef.{ArcRef}
-use Rattle.pagable_model.specs.declared.numbers.Kind.{Kind}
-use Rattle.pagable_model.specs.Blob.{Blob}
-use Rattle.pagable_model.specs.Meaning.{Meaning}
-use Rattle.pagable_model.specs.Reading.{Rest}
-use Rattle.pagable_model.specs.Standing.{Answer}
-use Rattle.pagable_world.specs.Plain.{Types}
-use Rattle.pagable_world.specs.World.{Frame}
-use Rattle.pagable_model.specs.Deep.{is_eager}
-use Rattle.pagable_world.specs.Loads.{asks, answers_from, next_by, next_of, read_with, need_at, need_of, needs_nested, needs_lazy}
-use Rattle.pagable_loads.specs.Ahead.{kinds_of, AsksNext, Foresees, IsAhead, AskedIf, RowTells, GotMore, Kept}
+use Rattle.pagable_loads.proofs.Words.{◌≡◌, ℕ, ◌+◌, ◌<◌, Bool, true, false, if◌then◌else◌, List, [], ◌∷◌, ◌++◌, length, Option, Some, None, Result, Ok, Err, inl, inr, refl, ap, sym, subst, ◌∙◌}
+use Rattle.pagable_loads.proofs.Words.{arith, slice_get, ◌==◌, slice_get_within, slice_get-get_or, Error, ArcRef, Kind, Blob, Meaning, Rest, Answer, Types, Frame, is_eager, asks, answers_from}
+use Rattle.pagable_loads.proofs.Words.{next_by, next_of, read_with, need_at, need_of, needs_nested, needs_lazy, kinds_of, AsksNext, Foresees, IsAhead, AskedIf, RowTells, GotMore, Kept, nat_tests}
 use Rattle.pagable_loads.proofs.Traced.{End, done, faulty, Answered, Goes, Trace, typed_traced}
+use Rattle.pagable_model.specs.declared.error.Error.TheVariants as errors
 
 -- ---- lists
 
@@ -100,13 +88,10 @@ module _ {X : Type 0} (r : Result (X × Rest Answer) Error) (k : ℕ) where
 -- ---- what comes next
 
 stopped_at : (found : Option ℕ) (r : Result (Meaning ArcRef × Rest Answer) Error) (kind : Kind) (key : ℕ) → next_by found r ≡ asks kind key → (r ≡ Err (errors.Storage kind.0)) × (found ≡ Some key)
-stopped_at found (Ok x) kind key e = absurd (cc)
-stopped_at None (Err (errors.Storage k)) kind key e = absurd (cc)
-stopped_at (Some q) (Err (errors.Storage k)) kind key e =
-    let one : k ≡ kind.0 = cc in
-    let two : q ≡ key = cc in
-    (ap (λ z. let o : Result (Meaning ArcRef × Rest Answer) Error = Err (errors.Storage z) in o) one, ap Some two)
-stopped_at found (Err f) kind key e = absurd (cc)
+stopped_at found (Ok x) kind key e = grind (arith, nat_tests)
+stopped_at None (Err (errors.Storage k)) kind key e = grind (arith, nat_tests)
+stopped_at (Some q) (Err (errors.Storage k)) kind key e = grind (arith, nat_tests)
+stopped_at found (Err f) kind key e = grind (arith, nat_tests)
 
 module _ (types : Types) (t : ℕ) (blob : Blob) where
   trace : Trace (λ i. Rattle.pagable_model.specs.Reading.read_typed (Rattle.pagable_model.specs.Standing.handles_at 0 types.parts) (types.nodes t) i) blob.bytes
@@ -169,13 +154,7 @@ known types f row r h at = let n = next_in_row row f.got r h.ahead h.split at in
 -- a reference of the kind is got
 pub still_ahead : (types : Types) (f : Frame) (row : List ArcRef) (r s : ArcRef) → Foresees types f (kinds_of row) → slice_get row (length f.got) ≡ Some r → s.kind.0 ≡ r.kind.0
     → Foresees types (record f { got = f.got ++ s ∷ [] }) (kinds_of row)
-still_ahead types f row r s h at same =
-    let n = next_in_row row f.got r h.ahead h.split at in
-    record {
-      ahead = n.0;
-      split = h.split ∙ ap (λ ks. kinds_of f.got ++ ks) n.1 ∙ ap (λ k. kinds_of f.got ++ k ∷ n.0) (sym same) ∙ sym (assoc (kinds_of f.got) (s.kind.0 ∷ []) n.0) ∙ ap (λ ks. ks ++ n.0) (sym (kinds_joined f.got (s ∷ [])));
-      each = h.each;
-    }
+still_ahead types f row r s h at same = grind (arith, nat_tests, assoc, kinds_joined, next_in_row)
 
 lazy_need : (types : Types) (f : Frame) (fs : List Frame) (kind : Kind) (key : ℕ) → next_of types f.node_type f.blob f.got ≡ asks kind key → is_eager kind.0 ≡ false → need_of types (f ∷ fs) ≡ needs_lazy kind key
 lazy_need types f fs kind key next is = ap (need_at fs) next ∙ ap (λ b. if b then needs_nested kind key else needs_lazy kind key) is

@@ -1,27 +1,8 @@
 -- What the references that were got lend, one after the other.
-use Rattle.std.proofs.lemmas.Bool.Decides.{nat_tests}
-use Rattle.std.proofs.lemmas.Grind.{common_steps}
-use Rattle.std.proofs.Common.{rules}
-use Rattle.std.proofs.Common.{◌≡◌, ◌≢◌, ℕ, ◌+◌, ◌<◌, ◌≤◌, List, [], ◌∷◌, ◌++◌, length, true, false, Option, Some, None, Result, Ok, Err, IfOk, ◌⊎◌, inl, inr, refl, ap, sym, subst, ◌∙◌, arith, slice_get}
-use Rattle.std.proofs.Math.ListN.{get_or-append}
-use Rattle.std.proofs.Math.Seq.{get_or-append_seam}
-use Rattle.std.proofs.lemmas.List.{length-append}
-use Rattle.std.proofs.lemmas.Map.Keys.{any_passes_from_place}
-use Rattle.std.proofs.lemmas.Option.{slice_get_within, slice_get-get_or}
-use Rattle.std.specs.List.{list_any}
-use Rattle.std.specs.Option.{option_map}
-use Rattle.std.specs.Prelude.{Bool, IsSome, option_and_then}
-use Rattle.pagable_model.specs.declared.error.Error.{Error}
+use Rattle.pagable_loads.proofs.Words.{nat_tests, common_steps, rules, ◌≡◌, ◌≢◌, ℕ, ◌+◌, ◌<◌, ◌≤◌, List, [], ◌∷◌, ◌++◌, length, false, Option, Some, None, Result, Ok, Err, IfOk, ◌⊎◌, inl, inr, ap}
+use Rattle.pagable_loads.proofs.Words.{sym, subst, ◌∙◌, arith, slice_get, get_or-append, get_or-append_seam, length-append, any_passes_from_place, slice_get_within, slice_get-get_or, list_any}
+use Rattle.pagable_loads.proofs.Words.{option_map, option_and_then, Error, ArcRef, is_eager, PagerState, lent_at, Lends, LendsEach, Shares, Tells}
 use Rattle.pagable_model.specs.declared.error.Error.TheVariants as errors
-use Rattle.pagable_model.specs.declared.numbers.ArcRef.{ArcRef}
-use Rattle.pagable_model.specs.Deep.{is_eager}
-use Rattle.pagable_world.specs.World.{row_at}
-use Rattle.pagable_world.specs.Refusals.{live_fault}
-use Rattle.pagable_world.specs.Pager.{PagerState}
-use Rattle.pagable_loads.specs.Got.{lent_at}
-use Rattle.pagable_loads.specs.Lending.{Lends, LendsEach}
-use Rattle.pagable_loads.specs.Starting.{Shares}
-use Rattle.pagable_loads.specs.Telling.{Tells, holds_of}
 
 module _ {S : Type 0} where
   pub tells_all : {o : Option S} {P : S → Type 0} → ((s : S) → P s) → Tells o P
@@ -49,11 +30,7 @@ module _ {A N E : Type 0} (see : A → N) (s : PagerState N E) (got : List ArcRe
 
   -- none is read together with its value
   pub none_lent : list_any (λ (r : ArcRef). is_eager r.kind.0) got ≡ false → LendsEach see s got []
-  none_lent is = record { each = λ place r here. record { value = tt; none = inl (lazy (is_eager r.kind.0) place r refl here) } }
-    where
-      lazy : (b : Bool) (place : ℕ) (r : ArcRef) → is_eager r.kind.0 ≡ b → slice_get got place ≡ Some r → is_eager r.kind.0 ≡ false
-      lazy true place r eager here = absurd (let any = any_passes_from_place (λ (x : ArcRef). is_eager x.kind.0) got place r here eager in cc)
-      lazy false place r not here = not
+  none_lent is = grind (arith, nat_tests, any_passes_from_place, slice_get)
 
   pushed_lent : (i : ℕ) (r : ArcRef) (lent : List (Option A)) (o : Option A) → length lent ≡ i → slice_get got i ≡ Some r → LentTo i lent → Lends s r (option_map see o) → LentTo (i + 1) (lent ++ o ∷ [])
   pushed_lent i r lent o same here to lends place q before there = elim (before_or place before) [
@@ -85,9 +62,4 @@ module _ {A N E : Type 0} (see : A → N) (s : PagerState N E) (got : List ArcRe
 
   -- all of them do
   pub all_lent : (i : ℕ) (lent : List (Option A)) → length got ≤ i → LentTo i lent → LendsEach see s got lent
-  all_lent i lent past to =
-      record {
-        each = λ place r here.
-            let within = slice_get_within got place r here in
-            to place r (omega (arith, past, within)) here;
-      }
+  all_lent i lent past to = grind (arith, nat_tests, slice_get_within)

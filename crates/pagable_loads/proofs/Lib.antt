@@ -1,3 +1,4 @@
+mod Words
 mod NextStep
 mod Traced
 mod Foreseen

@@ -1,18 +1,8 @@
 -- A step of a load leaves less to do.
-use Rattle.std.proofs.Common.{◌≡◌, ℕ, zero, suc, ◌+◌, ◌-◌, ◌*◌, ◌<◌, Bool, List, [], ◌∷◌, ◌++◌, length, Option, Some, None, Result, Ok, Err, refl, ap, sym, subst, ◌∙◌, arith}
-use Rattle.std.specs.Prelude.{slice_get, ◌^◌}
-use Rattle.std.proofs.lemmas.Option.{slice_get_within}
-use Rattle.pagable_model.specs.declared.error.Error.{Error}
+use Rattle.pagable_loads.proofs.Words.{◌≡◌, ℕ, zero, suc, ◌+◌, ◌-◌, ◌*◌, ◌<◌, Bool, List, [], ◌∷◌, ◌++◌, length, Option, Some, None, Result, Ok, Err, refl, ap, sym, subst, ◌∙◌, arith, slice_get}
+use Rattle.pagable_loads.proofs.Words.{◌^◌, slice_get_within, Error, ArcRef, Kind, Meaning, Rest, Answer, Types, Frame, Next, reads, asks, is_faulty, next_by, next_in, need_at, need_of}
+use Rattle.pagable_loads.proofs.Words.{needs_nested, needs_lazy, left_in, waits_for, many, waiting, widened, to_do, LeadsOn, nat_tests}
 use Rattle.pagable_model.specs.declared.error.Error.TheVariants as errors
-use Rattle.pagable_model.specs.declared.numbers.ArcRef.{ArcRef}
-use Rattle.pagable_model.specs.declared.numbers.Kind.{Kind}
-use Rattle.pagable_model.specs.Meaning.{Meaning}
-use Rattle.pagable_model.specs.Reading.{Rest}
-use Rattle.pagable_model.specs.Standing.{Answer}
-use Rattle.pagable_world.specs.Plain.{Types}
-use Rattle.pagable_world.specs.World.{Frame}
-use Rattle.pagable_world.specs.Loads.{Next, reads, asks, is_faulty, next_by, next_in, read_with, need_at, need_of, needs_nested, needs_lazy}
-use Rattle.pagable_loads.specs.Ending.{left_in, waits_for, many, waiting, widened, to_do, LeadsOn}
 
 widened_less : (k a b : ℕ) → a < b → widened k a < widened k b
 unfolding widened
@@ -48,9 +38,7 @@ asked_is (Some q) (Err (errors.Storage k)) kind key e = (q, refl)
 asked_is found (Err f) kind key e = absurd (cc)
 
 asked_of : (types : Types) (f : Frame) (kind : Kind) (key : ℕ) → next_in types f ≡ asks kind key → length f.got < length f.blob.keys
-asked_of types f kind key e =
-    let found = asked_is (slice_get f.blob.keys (length f.got)) (read_with types f.node_type f.blob f.got) kind key e in
-    slice_get_within f.blob.keys (length f.got) found.0 found.1
+asked_of types f kind key e = grind (arith, nat_tests, asked_is, slice_get, slice_get_within)
 
 nested_asks : (fs : List Frame) (next : Next) (kind : Kind) (key : ℕ) → need_at fs next ≡ needs_nested kind key → (k : Kind) × (q : ℕ) × (next ≡ asks k q)
 nested_asks fs (asks k q) kind key e = (k, q, refl)

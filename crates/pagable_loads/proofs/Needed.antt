@@ -1,18 +1,7 @@
 -- What was read is what a load needs next.
-use Rattle.std.proofs.Common.{◌≡◌, ◌+◌, ◌<◌, List, [], ◌∷◌, ◌++◌, length, Option, Some, inl, inr, refl, ap, sym, subst, ◌∙◌, arith}
-use Rattle.std.specs.Arc.{arc_value}
-use Rattle.pagable_core.specs.Data.{blob_of}
-use Rattle.pagable_model.specs.declared.numbers.ArcRef.{ArcRef}
-use Rattle.pagable_model.specs.Deep.{longest_path}
-use Rattle.pagable_model.specs.Meaning.{Meaning}
-use Rattle.pagable_world.specs.World.{Frame, Values}
-use Rattle.pagable_world.specs.Loads.{reads, IsDecoded, to_adopt, need_at, need_of, ReadsNode, ReadsRoot}
-use Rattle.pagable_loads.specs.declared.reading.Frame.{Frame as Held}
-use Rattle.pagable_loads.specs.declared.reading.Reading.{Reading as Own}
-use Rattle.pagable_loads.specs.declared.reading.Need.{Need}
-use Rattle.pagable_loads.specs.Frames.{frame_of, frames_of, onto, reading_of}
-use Rattle.pagable_loads.specs.Decoding.{IsReadAs}
-use Rattle.pagable_loads.specs.Needing.{Needs, IsRead, NeedIs}
+use Rattle.pagable_loads.proofs.Words.{◌≡◌, ◌+◌, ◌<◌, List, [], ◌∷◌, ◌++◌, length, Option, Some, refl, ap, sym, ◌∙◌, arith, arc_value, blob_of, ArcRef, longest_path, Meaning, Frame, Values, reads}
+use Rattle.pagable_loads.proofs.Words.{IsDecoded, to_adopt, need_at, need_of, ReadsNode, ReadsRoot, Need, frame_of, frames_of, onto, reading_of, IsReadAs, Needs, IsRead, nat_tests}
+use Rattle.pagable_loads.specs.{declared.reading.Frame.Frame as Held, declared.reading.Reading.Reading as Own}
 
 pub length_onto : (below : List Frame) (fs : List Held) → length (onto below fs) ≡ length below + length fs
 unfolding onto
@@ -71,8 +60,4 @@ module _ {N : Type 0} (v : Values N) (own : Own) (top : Held) (is : own.top ≡ 
   root none = record { root = frame_of top; frames = frames ∙ ap (λ fs. frame_of top ∷ fs) (onto_none own.below.items none); decoded = decoded }
 
   pub read_needs : (need : Need N) → IsRead own.below.items own.for_cell x need → Needs v (reading_of own) own.for_cell need
-  read_needs need r = elim r.of [
-    | inl (some, e) ↦ record { is = subst (NeedIs v (reading_of own) own.for_cell) (sym e) (node some) }
-    | inr (inl (none, cell, e)) ↦ record { is = subst (NeedIs v (reading_of own) own.for_cell) (sym e) (root none, cell) }
-    | inr (inr (none, cell, e)) ↦ record { is = subst (NeedIs v (reading_of own) own.for_cell) (sym e) (root none, cell) }
-  ]
+  read_needs need r = grind (arith, nat_tests, node, root)

@@ -1,25 +1,10 @@
 -- From what reading gives to what the blob asks for next.
-use Rattle.std.proofs.Common.{arith}
-use Rattle.std.proofs.lemmas.Bool.Decides.{nat_tests}
-use Rattle.std.proofs.lemmas.Grind.{common_steps}
-use Rattle.std.proofs.Common.{rules}
-use Rattle.std.proofs.Common.{◌≡◌, ℕ, ◌+◌, List, [], ◌∷◌, length, true, false, Option, Some, None, Result, Ok, Err, ◌⊎◌, inl, inr, refl, ap, subst, sym, ◌∙◌, slice_get}
-use Rattle.pagable_model.specs.declared.error.Error.{Error}
-use Rattle.pagable_model.specs.declared.error.Error.TheVariants as errors
-use Rattle.pagable_model.specs.declared.numbers.ArcRef.{ArcRef}
-use Rattle.pagable_model.specs.Meaning.{Meaning}
-use Rattle.pagable_model.specs.Blob.{Blob}
-use Rattle.pagable_model.specs.Refusals.{is_own_reading}
-use Rattle.pagable_model.specs.Shape.{Shape}
-use Rattle.pagable_model.specs.Reading.{Rest, read_typed}
-use Rattle.pagable_model.specs.Standing.{Answer, Standing, GivesSome, handles_at, rest_at}
-use Rattle.pagable_core.specs.Context.{at_front}
-use Rattle.pagable_core.specs.Context as context
-use Rattle.pagable_world.specs.World.{Values}
-use Rattle.pagable_world.specs.Loads.{answer_of, answers_from, asks_for, next_by, next_of, read_with, is_faulty}
+use Rattle.pagable_loads.proofs.Words.{arith, nat_tests, common_steps, rules, ◌≡◌, ℕ, ◌+◌, List, [], ◌∷◌, length, true, false, Option, Some, None, Result, Ok, Err, ◌⊎◌, inl, inr, refl, ap, subst}
+use Rattle.pagable_loads.proofs.Words.{sym, ◌∙◌, slice_get, Error, ArcRef, Meaning, Blob, is_own_reading, Shape, Rest, read_typed, Answer, Standing, GivesSome, handles_at, rest_at, at_front}
+use Rattle.pagable_loads.proofs.Words.{Values, answer_of, answers_from, asks_for, next_by, next_of, read_with, is_faulty, Decodes, Answers, ReadsWith, Asks, is_asking, Decoded}
 use Rattle.pagable_loads.specs.Got.{answer_at}
-use Rattle.pagable_loads.specs.Decoding.{Decodes, Answers, ReadsWith, Asks, is_asking}
-use Rattle.pagable_loads.specs.declared.decoding.Decoded.{Decoded}
+use Rattle.pagable_model.specs.declared.error.Error.TheVariants as errors
+use Rattle.pagable_core.specs.Context as context
 use Rattle.pagable_loads.specs.declared.decoding.Decoded.TheVariants as decoded
 
 -- answers by place, key and kind are those of the references got

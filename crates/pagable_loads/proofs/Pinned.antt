@@ -1,36 +1,17 @@
 -- A pin with its loads, and how it is taken back; and the reading of a key.
-use Rattle.std.proofs.lemmas.Grind.{common_steps}
-use Rattle.std.proofs.Common.{rules}
-use Rattle.std.proofs.Common.{◌≡◌, ℕ, ◌+◌, ◌==◌, Bool, true, false, Option, Some, None, Result, Ok, Err, inl, inr, refl, ap, sym, subst, ◌∙◌, arith}
-use Rattle.std.proofs.lemmas.Bool.Decides.{nat_tests}
-use Rattle.std.specs.Prelude.{if◌then◌else◌}
-use Rattle.pagable_model.specs.declared.error.Error.{Error}
+use Rattle.pagable_loads.proofs.Words.{common_steps, rules, ◌≡◌, ℕ, ◌+◌, Bool, true, false, Option, Some, Result, Ok, Err, inl, inr, refl, ap, sym, subst, ◌∙◌, arith, nat_tests, Error}
+use Rattle.pagable_loads.proofs.Words.{HandleNumber, LoadNumber, LoadAnswer, HandleRow, Owner, Mode, if_there, is_loose, is_unpinned, Core, Reading, Root, of_key, Values, Alike, row_at, PinCall}
+use Rattle.pagable_loads.proofs.Words.{ReleaseCall, BeginCall, BeginKeyCall, with_load, fresh, PagerState, WellFormed, Told, Called, LoadRun, load-ends, load-goes-on, PinRun, pins-at-once}
+use Rattle.pagable_loads.proofs.Words.{pin-is-refused, load-is-refused, load-pins, load-fails, reading-is-refused, load-reads, reading-fails, IsUnpinnedBack, PinsOver, ReadsOver, IsLoadOf}
+use Rattle.pagable_loads.proofs.Words.{reading_of, is_cell, Runs, StartsPin, Shares, PinsFirst, Unpins, TakesBack, Tells, begun_as}
+use Rattle.pagable_loads.specs.declared.reading.Reading.{Reading as Own}
 use Rattle.pagable_model.specs.declared.error.Error.TheVariants as errors
-use Rattle.pagable_model.specs.declared.numbers.HandleNumber.{HandleNumber}
-use Rattle.pagable_model.specs.declared.numbers.LoadNumber.{LoadNumber}
 use Rattle.pagable_world.specs.declared.answers.Beginning.TheVariants as beginnings
 use Rattle.pagable_world.specs.declared.answers.Pinning.TheVariants as pinnings
-use Rattle.pagable_world.specs.declared.events.LoadAnswer.{LoadAnswer}
 use Rattle.pagable_world.specs.declared.events.LoadAnswer.TheVariants as ends
-use Rattle.pagable_world.specs.declared.handles.HandleRow.{HandleRow}
-use Rattle.pagable_world.specs.declared.handles.Owner.{Owner}
 use Rattle.pagable_world.specs.declared.handles.Owner.TheVariants as owners
-use Rattle.pagable_world.specs.declared.rows.Mode.{Mode}
 use Rattle.pagable_world.specs.declared.rows.Mode.TheVariants as modes
-use Rattle.pagable_world.specs.Plain.{if_there}
-use Rattle.pagable_world.specs.Kinds.{is_loose, is_unpinned}
-use Rattle.pagable_world.specs.World.{Core, OpenLoad, Reading, Root, of_cell, of_key, Values, Alike, row_at}
-use Rattle.pagable_world.specs.Calls.{PinCall, ReleaseCall, with_handle}
-use Rattle.pagable_world.specs.LoadCalls.{BeginCall, BeginKeyCall, with_load}
-use Rattle.pagable_world.specs.Workers.{fresh}
-use Rattle.pagable_world.specs.Pager.{PagerState, WellFormed}
-use Rattle.pagable_world.specs.Access.{tells, Told, Called, LoadRun, load-ends, load-goes-on, PinRun, pins-at-once, pin-is-refused, load-is-refused, load-pins, load-fails, reading-is-refused, load-reads, reading-fails, IsUnpinnedBack, PinsOver, ReadsOver}
-use Rattle.pagable_loads.specs.declared.reading.Reading.{Reading as Own}
 use Rattle.pagable_loads.specs.declared.starting.PinStart.TheVariants as starts
-use Rattle.pagable_loads.specs.Frames.{IsLoadOf, reading_of, is_cell}
-use Rattle.pagable_loads.specs.Running.{Runs}
-use Rattle.pagable_loads.specs.Starting.{StartsPin, Shares, PinsFirst, Unpins, TakesBack}
-use Rattle.pagable_loads.specs.Telling.{holds_of, Tells, begun_as}
 
 -- what is told of a state, beside what led to it
 pub told_with : {S : Type 0} {o n : Option S} {R Q : S → S → Type 0} {P : S → Type 0} → ((s t : S) → R s t → P t → Q s t) → Told o n R → Tells n P → Told o n Q

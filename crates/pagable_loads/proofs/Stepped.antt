@@ -1,51 +1,24 @@
 -- What a step's call did is what the step is said to do.
-use Rattle.std.proofs.Common.{◌≡◌, ℕ, ◌+◌, ◌<◌, ◌≤◌, List, [], ◌∷◌, ◌++◌, length, true, false, Option, Some, None, Result, Ok, Err, inl, inr, refl, ap, sym, subst, ◌∙◌, arith}
-use Rattle.std.specs.Prelude.{not}
-use Rattle.pagable_model.specs.declared.error.Error.{Error}
+use Rattle.pagable_loads.proofs.Words.{◌≡◌, ℕ, ◌+◌, ◌<◌, ◌≤◌, List, [], ◌∷◌, ◌++◌, length, true, false, Option, Some, None, Result, Ok, Err, inl, inr, refl, ap, sym, subst, ◌∙◌, arith, not, Error}
+use Rattle.pagable_loads.proofs.Words.{ArcRef, HandleNumber, Kind, Blob, longest_path, LoadAnswer, Owner, is_owner, if_there, Core, Root, of_cell, of_key, OpenLoad, Frame, Reading, Values}
+use Rattle.pagable_loads.proofs.Words.{OwnsLoad, refused_if, load_fault, from_store, AskCall, AdoptCall, EndCall, HandOverCall, DropCall, LoadCloses, need_of, needs_nested, needs_lazy, root_frame}
+use Rattle.pagable_loads.proofs.Words.{nested_frame, with_got, handles_of, MakesNode, ReadsNode, ReadsRoot, LoadIs, IsOfCell, IsOfKey, Meets, Does, PagerState, Moves, ReadingBrings, IsNewNode}
+use Rattle.pagable_loads.proofs.Words.{IsCellOf, Told, Called, ReadingStep, Brings, IsMade, AsksFor, TakesLazily, AdoptsValue, frame_of, frames_of, onto, reading_of, is_cell, IsLoadOf, Met, Tries}
+use Rattle.pagable_loads.proofs.Words.{Steps, Drops, nat_tests}
+use Rattle.pagable_loads.specs.{declared.reading.Frame.Frame as Held, declared.reading.Reading.Reading as Own}
+use Rattle.pagable_loads.proofs.Needed.{length_onto}
 use Rattle.pagable_model.specs.declared.error.Error.TheVariants as errors
-use Rattle.pagable_model.specs.declared.numbers.ArcRef.{ArcRef}
-use Rattle.pagable_model.specs.declared.numbers.HandleNumber.{HandleNumber}
-use Rattle.pagable_model.specs.declared.numbers.Kind.{Kind}
-use Rattle.pagable_model.specs.Blob.{Blob}
-use Rattle.pagable_model.specs.Deep.{longest_path}
 use Rattle.either.specs.declared.Either.TheVariants as eithers
 use Rattle.pagable_world.specs.declared.calls.Want.TheVariants as wants
-use Rattle.pagable_world.specs.declared.events.LoadAnswer.{LoadAnswer}
 use Rattle.pagable_world.specs.declared.events.LoadAnswer.TheVariants as ends
-use Rattle.pagable_world.specs.declared.handles.Owner.{Owner}
 use Rattle.pagable_world.specs.declared.handles.Owner.TheVariants as owners
-use Rattle.pagable_world.specs.Kinds.{is_owner}
-use Rattle.pagable_world.specs.Plain.{if_there}
-use Rattle.pagable_world.specs.World.{Core, Root, of_cell, of_key, OpenLoad, Frame, Reading, Values}
-use Rattle.pagable_world.specs.Refusals.{OwnsLoad, refused_if, load_fault}
-use Rattle.pagable_world.specs.LoadCalls.{from_store, AskCall, AdoptCall, EndCall, HandOverCall, DropCall, LoadCloses}
-use Rattle.pagable_world.specs.Loads.{need_of, needs_nested, needs_lazy, root_frame, nested_frame, with_got, handles_of, MakesNode, ReadsNode, ReadsRoot, LoadIs, IsOfCell, IsOfKey, Meets, Does}
-use Rattle.pagable_world.specs.Pager.{PagerState, Moves, ReadingBrings, IsNewNode, IsCellOf}
-use Rattle.pagable_world.specs.Access.{tells, Told, Called, ReadingStep}
-use Rattle.pagable_loads.specs.declared.reading.Frame.{Frame as Held}
-use Rattle.pagable_loads.specs.declared.reading.Reading.{Reading as Own}
-use Rattle.pagable_loads.specs.Telling.{Brings, IsMade, AsksFor, TakesLazily, AdoptsValue}
-use Rattle.pagable_loads.specs.Frames.{frame_of, frames_of, onto, reading_of, is_cell, IsLoadOf}
-use Rattle.pagable_loads.specs.Stepping.{Met, Tries, Steps, Drops}
-use Rattle.pagable_loads.proofs.Needed.{length_onto}
 
 module _ {S : Type 0} where
   pub told_map : {o n : Option S} {R Q : S → S → Type 0} → ((s t : S) → R s t → Q s t) → Told o n R → Told o n Q
-  told_map {o} {n} f h = record { holds = through o n f h.holds }
-    where
-      through : {R Q : S → S → Type 0} (o n : Option S) → ((s t : S) → R s t → Q s t) → tells o n R → tells o n Q
-      through None n f h = tt
-      through (Some s) None f h = h
-      through (Some s) (Some t) f h = f s t h
+  told_map {o} {n} f h = grind (arith, nat_tests)
 
   pub told_then : {o n m : Option S} {R T Q : S → S → Type 0} → ((s mid t : S) → R s mid → T mid t → Q s t) → Told o n R → Told n m T → Told o m Q
-  told_then {o} {n} {m} f h k = record { holds = through o n m f h.holds k.holds }
-    where
-      through : {R T Q : S → S → Type 0} (o n m : Option S) → ((s mid t : S) → R s mid → T mid t → Q s t) → tells o n R → tells n m T → tells o m Q
-      through None n m f h k = tt
-      through (Some s) None m f h k = absurd h
-      through (Some s) (Some mid) None f h k = k
-      through (Some s) (Some mid) (Some t) f h k = f s mid t h k
+  told_then {o} {n} {m} f h k = grind (arith, nat_tests)
 
 module _ {N : Type 0} (E : Type 0) (v : Values N) (me : Owner) (own : Own) where
   abbrev reading : Reading
@@ -178,10 +151,7 @@ module _ {N : Type 0} (E : Type 0) (v : Values N) (me : Owner) (own : Own) where
     end_closed e frames none s t c = goes (λ o. record { does = record { does = (inr (record { x = x; reads_root = root; ended = c.step }), none) }; moves = comes c.moves; whole = c.whole })
 
     pub end_refused : (e : Error) (y : N) (frames : List Frame) (s t : PagerState N E) → Brings v (λ w'. EndCall s.core me own.load x (v.node_type x) (v.references x) (Err (e, Some y)) w') (λ n z. (z ≡ x) × IsCellOf s.core own.load n) s t → Tries v me own s (Err e) frames t
-    end_refused e y frames s t c = fails (λ o. record { meets = inr (inr (inr (inr (inr (record { x = x; reads_root = root; refuses = inl (for_cell s.core o, again c.step) }))))); moves = comes c.moves })
-      where
-        again : EndCall s.core me own.load x (v.node_type x) (v.references x) (Err (e, Some y)) t.core → EndCall s.core me own.load x (v.node_type x) (v.references x) (Err (e, Some x)) t.core
-        again call = record { installs = tt; refused = (refl, call.refused.1) }
+    end_refused e y frames s t c = grind (arith, nat_tests, comes, fails, for_cell)
 
   module _ (x : N) (root : ReadsRoot v reading x) (sort : own.for_cell ≡ false) (named : List HandleNumber) (is : named ≡ handles_of (v.references x)) where
     for_key : (w : Core) → IsLoadOf w me own → LoadIs w reading IsOfKey
@@ -219,10 +189,7 @@ module _ {N : Type 0} (E : Type 0) (v : Values N) (me : Owner) (own : Own) where
   no_moves m k = record { each = λ n x is. elim (k.each n x is) [ inl was ↦ m.each n x was | inr came ↦ absurd came.1 ]; environment = k.environment ∙ m.environment }
 
   closes : (mid t : Core) (told : Result (Unit {0}) Error) (load : OpenLoad) → OwnsLoad mid me own.load load → DropCall mid me own.load told t → LoadCloses mid own.load told t
-  closes mid t told load o d = elim d.does [
-    | inl r ↦ absurd (let f : None ≡ Some r.e = sym (usable_load mid load o) ∙ r.why in cc)
-    | inr (other, owned, c) ↦ c
-  ]
+  closes mid t told load o d = grind (arith, nat_tests, usable_load)
 
   pub gives_up : (e : Error) (frames none : List Frame) → none ≡ [] → (s mid t : PagerState N E) → Tries v me own s (Err e) frames mid → Drops v me own.load mid t → Steps v me own s (Some (ends.Refused e)) none t
   gives_up e frames none is s mid t tried d = record {

@@ -1,24 +1,15 @@
 -- What a reading asks for is told by its bytes alone: kinds, one after the other, up to its end or its fault, whatever is answered.
-use Rattle.std.proofs.Common.{◌≡◌, ℕ, zero, suc, ◌+◌, ◌-◌, ◌/◌, ◌^◌, Bool, true, false, if◌then◌else◌, List, [], ◌∷◌, ◌++◌, length, Option, Some, None, Result, Ok, Err, refl, subst}
-use Rattle.std.specs.Prelude.{nat_lt, nat_le, ◌==◌}
-use Rattle.std.proofs.lemmas.List.{append-nil}
-use Rattle.std.specs.Int.{Width, w8, w16, w32, w64, w128}
-use Rattle.std.specs.Str.{is_utf8, chars}
-use Rattle.pagable_model.specs.declared.error.Error.{Error}
+use Rattle.pagable_loads.proofs.Words.{◌≡◌, ℕ, zero, suc, ◌+◌, ◌-◌, ◌/◌, ◌^◌, Bool, true, false, if◌then◌else◌, List, [], ◌∷◌, ◌++◌, length, Option, Some, None, Result, Ok, Err, refl, subst}
+use Rattle.pagable_loads.proofs.Words.{nat_lt, nat_le, ◌==◌, append-nil, Width, w8, w16, w32, w64, w128, is_utf8, chars, Error, ArcRef, ◌>>=◌, Read, byte_at, varint_at, unsigned_at, signed_at}
+use Rattle.pagable_loads.proofs.Words.{length_at, bytes_at, text_at, bool_at, one_char, char_at, duration_at, longest, nanos_of_second, Meaning, integer, none, variant, sequence, entry, absent}
+use Rattle.pagable_loads.proofs.Words.{present, success, failure, lifted, text_order, put_all, put_sorted, of_entries, of_tagged, of_hash_map, Shape, nothing, unsigned, signed, flag, letter}
+use Rattle.pagable_loads.proofs.Words.{duration, json, optional, outcome, list, run, array, both, sorted_map, placed_map, hash_map, sorted_set, placed_set, static_value, tagged, cases, nested}
+use Rattle.pagable_loads.proofs.Words.{Rest, Gets, bytes_of, reference_at, seen, two, choose, items, counted, registered, Deeper, enter, JsonCase, null_case, flag_case, number_case, text_case}
+use Rattle.pagable_loads.proofs.Words.{array_case, object_case, json_case, json_part, below, deepest, read, read_typed, Answer, answer_at, handles_at, is_asking}
+use Rattle.pagable_model.specs.Reading.{read_with}
 use Rattle.pagable_model.specs.declared.error.Error.TheVariants as errors
-use Rattle.pagable_model.specs.declared.numbers.ArcRef.{ArcRef}
-use Rattle.pagable_model.specs.Steps.{◌>>=◌}
-use Rattle.pagable_model.specs.Numbers.{Read, byte_at, varint_at, unsigned_at, signed_at}
-use Rattle.pagable_model.specs.Basic.{length_at, bytes_at, text_at, bool_at, one_char, char_at, duration_at, longest, nanos_of_second}
-use Rattle.pagable_model.specs.Meaning.{Meaning, integer, none, variant, sequence, entry, absent, present, success, failure, lifted}
 use Rattle.pagable_model.specs.Meaning as meanings
-use Rattle.pagable_model.specs.Keys.{text_order, put_all, put_sorted}
-use Rattle.pagable_model.specs.Carried.{of_entries, of_tagged, of_hash_map}
-use Rattle.pagable_model.specs.Shape.{Shape, nothing, unsigned, signed, flag, letter, duration, json, optional, outcome, list, run, array, both, sorted_map, placed_map, hash_map, sorted_set, placed_set, static_value, tagged, cases, nested}
 use Rattle.pagable_model.specs.Shape as shapes
-use Rattle.pagable_model.specs.Reading.{Rest, Gets, bytes_of, reference_at, seen, two, choose, items, counted, registered, Deeper, enter, JsonCase, null_case, flag_case, number_case, text_case, array_case, object_case, json_case, json_part, read_with, below, deepest, read, read_typed}
-use Rattle.pagable_model.specs.Standing.{Answer, answer_at, handles_at}
-use Rattle.pagable_loads.specs.Decoding.{is_asking}
 
 -- ---- no fault of the bytes is the name by which a reference is asked for
 

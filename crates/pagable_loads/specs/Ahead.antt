@@ -1,13 +1,7 @@
 -- What a blob asks for ahead: references of these kinds, one after the other.
 use Rattle.std.specs.Prelude.{ℕ, ◌≡◌, ◌⊎◌, Bool, true, false, List, [], ◌∷◌, ◌++◌, length, map, Option, Some, None, Result, Ok, Err, slice_get}
-use Rattle.pagable_model.specs.declared.error.Error.{Error}
-use Rattle.pagable_model.specs.declared.numbers.ArcRef.{ArcRef}
-use Rattle.pagable_model.specs.declared.numbers.Kind.{Kind}
-use Rattle.pagable_model.specs.Blob.{Blob}
-use Rattle.pagable_world.specs.Plain.{Types}
-use Rattle.pagable_world.specs.World.{Frame}
-use Rattle.pagable_world.specs.declared.events.LoadAnswer.{LoadAnswer}
-use Rattle.pagable_world.specs.Loads.{asks, next_of, need_of, needs_lazy}
+use Rattle.pagable_model.specs.{declared.error.Error.Error, declared.numbers.ArcRef.ArcRef, declared.numbers.Kind.Kind, Blob.Blob}
+use Rattle.pagable_world.specs.{Plain.Types, World.Frame, declared.events.LoadAnswer.LoadAnswer, Loads.asks, Loads.next_of, Loads.need_of, Loads.needs_lazy}
 
 abbrev pub kinds_of : List ArcRef → List ℕ
 kinds_of references = map (λ (r : ArcRef). r.kind.0) references

@@ -1,15 +1,9 @@
 -- What decoding answers, in the words of loads.
 use Rattle.std.specs.Prelude.{ℕ, ◌≡◌, ◌⊎◌, Bool, true, false, List, Option, Some, None, Result}
-use Rattle.pagable_model.specs.declared.error.Error.{Error}
-use Rattle.pagable_model.specs.declared.error.Error.TheVariants as errors
-use Rattle.pagable_model.specs.declared.numbers.ArcRef.{ArcRef}
-use Rattle.pagable_model.specs.Blob.{Blob}
-use Rattle.pagable_model.specs.Meaning.{Meaning}
-use Rattle.pagable_model.specs.Reading.{Rest}
-use Rattle.pagable_model.specs.Standing.{Answer, GivesSome}
-use Rattle.pagable_world.specs.World.{Values}
-use Rattle.pagable_world.specs.Loads.{reads, asks, is_faulty, next_of, read_with}
+use Rattle.pagable_model.specs.{declared.error.Error.Error, declared.numbers.ArcRef.ArcRef, Blob.Blob, Meaning.Meaning, Reading.Rest, Standing.Answer, Standing.GivesSome}
+use Rattle.pagable_world.specs.{World.Values, Loads.reads, Loads.asks, Loads.is_faulty, Loads.next_of, Loads.read_with}
 use Rattle.pagable_loads.specs.declared.decoding.Decoded.{Decoded}
+use Rattle.pagable_model.specs.declared.error.Error.TheVariants as errors
 use Rattle.pagable_loads.specs.declared.decoding.Decoded.TheVariants as decoded
 
 -- the value is of the type, and means what the blob reads as

@@ -1,9 +1,8 @@
 -- Why a load comes to an end, whatever it meets: each step lowers a number. And what ends it.
 use Rattle.std.specs.Prelude.{ℕ, ◌≡◌, ◌+◌, ◌-◌, ◌*◌, ◌<◌, ◌^◌, Bool, true, false, zero, suc, List, [], ◌∷◌, length, Option, Some, None, Result, Ok, Err}
 use Rattle.pagable_model.specs.declared.error.Error.{Error}
-use Rattle.pagable_world.specs.declared.events.LoadAnswer.{LoadAnswer}
+use Rattle.pagable_world.specs.{declared.events.LoadAnswer.LoadAnswer, World.Frame}
 use Rattle.pagable_world.specs.declared.events.LoadAnswer.TheVariants as ends
-use Rattle.pagable_world.specs.World.{Frame}
 
 -- how many references a blob has still to get; and so, and one more, of one that waits for the blob above it
 abbrev pub left_in : Frame → ℕ

@@ -1,15 +1,11 @@
 -- What those who answer from a list of got references stand for.
 use Rattle.std.specs.Prelude.{◌≡◌, refl, ℕ, ◌==◌, Bool, true, false, if◌then◌else◌, List, Option, Some, None, Result, Ok, Err, option_and_then, slice_get}
+use Rattle.std.specs.{Option.option_map, declared.alloc.Global.Global, declared.sync.Arc.Arc}
 use Rattle.std.proofs.Common.{subst}
-use Rattle.std.specs.Option.{option_map}
-use Rattle.std.specs.declared.alloc.Global.{Global}
-use Rattle.std.specs.declared.sync.Arc.{Arc}
-use Rattle.pagable_model.specs.declared.error.Error.{Error}
-use Rattle.pagable_model.specs.declared.error.Error.TheVariants as errors
-use Rattle.pagable_model.specs.declared.numbers.ArcRef.{ArcRef}
-use Rattle.pagable_model.specs.Refusals.{may_refuse_reference}
+use Rattle.pagable_model.specs.{declared.error.Error.Error, declared.numbers.ArcRef.ArcRef, Refusals.may_refuse_reference}
 use Rattle.pagable_world.specs.Loads.{answer_of}
 use Rattle.pagable_loads.specs.declared.got.GotReferences.{GotReferences}
+use Rattle.pagable_model.specs.declared.error.Error.TheVariants as errors
 
 abbrev pub environment_of : {E N H K V : Type 0} → GotReferences E N H K V → E
 environment_of s = s.env.now

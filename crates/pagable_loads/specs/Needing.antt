@@ -1,11 +1,8 @@
 -- What a load needs next, in the words of the world.
 use Rattle.std.specs.Prelude.{ℕ, ◌≡◌, ◌⊎◌, ◌<◌, Bool, true, false, if◌then◌else◌, List, [], length, Option, IsSome}
-use Rattle.pagable_model.specs.declared.numbers.Kind.{Kind}
-use Rattle.pagable_model.specs.Deep.{is_eager}
-use Rattle.pagable_world.specs.World.{Reading, Values}
-use Rattle.pagable_world.specs.Loads.{need_of, needs_nested, needs_lazy, ReadsNode, ReadsRoot, RefusesBlob}
-use Rattle.pagable_loads.specs.declared.reading.Frame.{Frame as Held}
-use Rattle.pagable_loads.specs.declared.reading.Need.{Need}
+use Rattle.pagable_model.specs.{declared.numbers.Kind.Kind, Deep.is_eager}
+use Rattle.pagable_world.specs.{World.Reading, World.Values, Loads.need_of, Loads.needs_nested, Loads.needs_lazy, Loads.ReadsNode, Loads.ReadsRoot, Loads.RefusesBlob}
+use Rattle.pagable_loads.specs.{declared.reading.Frame.Frame as Held, declared.reading.Need.Need}
 use Rattle.pagable_loads.specs.declared.reading.Need.TheVariants as needs
 
 abbrev pub NeedIs : {N : Type 0} → Values N → Reading → Bool → Need N → Type 0

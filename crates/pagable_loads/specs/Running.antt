@@ -1,11 +1,6 @@
 -- A load from its first step to its end.
-use Rattle.pagable_world.specs.declared.events.LoadAnswer.{LoadAnswer}
-use Rattle.pagable_world.specs.declared.handles.Owner.{Owner}
-use Rattle.pagable_world.specs.World.{Values}
-use Rattle.pagable_world.specs.Pager.{PagerState}
-use Rattle.pagable_world.specs.Access.{LoadRun}
-use Rattle.pagable_loads.specs.declared.reading.Reading.{Reading as Own}
-use Rattle.pagable_loads.specs.Frames.{IsLoadOf, reading_of}
+use Rattle.pagable_world.specs.{declared.events.LoadAnswer.LoadAnswer, declared.handles.Owner.Owner, World.Values, Pager.PagerState, Access.LoadRun}
+use Rattle.pagable_loads.specs.{declared.reading.Reading.Reading as Own, Frames.IsLoadOf, Frames.reading_of}
 
 -- all steps of a load that is open, and is what its own side says
 pub record Runs {N E : Type 0} (v : Values N) (me : Owner) (own : Own) (s : PagerState N E) (answer : LoadAnswer N) (t : PagerState N E) : Type 0 where

@@ -1,25 +1,15 @@
 -- A pin that begins, and one that was begun and is taken back.
 use Rattle.std.specs.Prelude.{◌≡◌, ◌⊎◌, Bool, true, false, Option, Some, Result, Ok, Err, IfOk, IfErr}
 use Rattle.std.specs.Option.{option_map}
-use Rattle.pagable_model.specs.declared.error.Error.{Error}
+use Rattle.pagable_model.specs.{declared.error.Error.Error, declared.numbers.HandleNumber.HandleNumber}
+use Rattle.pagable_world.specs.World.{Core, Values, row_at}
+use Rattle.pagable_world.specs.{declared.handles.HandleRow.HandleRow, declared.handles.Owner.Owner, Plain.if_there, Kinds.is_unpinned, Refusals.live_fault, Calls.PinCall, Calls.UnpinCall}
+use Rattle.pagable_world.specs.{Calls.ReleaseCall, LoadCalls.BeginCall, Workers.fresh, Events.reading_of_load, Pager.PagerState, Pager.ValueCall, Access.Called, Access.PinRun}
+use Rattle.pagable_loads.specs.declared.starting.PinStart.{PinStart}
 use Rattle.pagable_model.specs.declared.error.Error.TheVariants as errors
-use Rattle.pagable_model.specs.declared.numbers.HandleNumber.{HandleNumber}
 use Rattle.pagable_world.specs.declared.answers.Beginning.TheVariants as beginnings
 use Rattle.pagable_world.specs.declared.answers.Pinning.TheVariants as pinnings
-use Rattle.pagable_world.specs.declared.handles.HandleRow.{HandleRow}
-use Rattle.pagable_world.specs.declared.handles.Owner.{Owner}
 use Rattle.pagable_world.specs.declared.handles.Owner.TheVariants as owners
-use Rattle.pagable_world.specs.Plain.{if_there}
-use Rattle.pagable_world.specs.Kinds.{is_unpinned}
-use Rattle.pagable_world.specs.World.{Core, Values, row_at}
-use Rattle.pagable_world.specs.Refusals.{live_fault}
-use Rattle.pagable_world.specs.Calls.{PinCall, UnpinCall, ReleaseCall}
-use Rattle.pagable_world.specs.LoadCalls.{BeginCall}
-use Rattle.pagable_world.specs.Workers.{fresh}
-use Rattle.pagable_world.specs.Events.{reading_of_load}
-use Rattle.pagable_world.specs.Pager.{PagerState, ValueCall}
-use Rattle.pagable_world.specs.Access.{Called, PinRun}
-use Rattle.pagable_loads.specs.declared.starting.PinStart.{PinStart}
 use Rattle.pagable_loads.specs.declared.starting.PinStart.TheVariants as starts
 
 -- whether the handle is live, loose and pins nothing

@@ -1,18 +1,9 @@
 -- What a load's step does, up to its refusal and with it, in the words of the world.
 use Rattle.std.specs.Prelude.{◌≡◌, ◌<◌, ◌++◌, List, [], ◌∷◌, Option, Result, IfOk, IfErr, vec_len, vec_capacity}
-use Rattle.pagable_model.specs.declared.error.Error.{Error}
-use Rattle.pagable_model.specs.declared.numbers.ArcRef.{ArcRef}
-use Rattle.pagable_model.specs.declared.numbers.LoadNumber.{LoadNumber}
-use Rattle.pagable_world.specs.declared.events.LoadAnswer.{LoadAnswer}
-use Rattle.pagable_world.specs.declared.handles.Owner.{Owner}
-use Rattle.pagable_world.specs.World.{Frame, Reading, Values}
-use Rattle.pagable_world.specs.LoadCalls.{DropCall}
-use Rattle.pagable_world.specs.Loads.{Meets}
-use Rattle.pagable_world.specs.Pager.{PagerState, Moves, ReadingBrings}
-use Rattle.pagable_world.specs.Access.{Called, ReadingStep}
-use Rattle.pagable_loads.specs.declared.reading.Frame.{Frame as Held}
-use Rattle.pagable_loads.specs.declared.reading.Reading.{Reading as Own}
-use Rattle.pagable_loads.specs.Frames.{IsLoadOf, reading_of, frame_of, frames_of, onto}
+use Rattle.pagable_model.specs.{declared.error.Error.Error, declared.numbers.ArcRef.ArcRef, declared.numbers.LoadNumber.LoadNumber}
+use Rattle.pagable_world.specs.{declared.events.LoadAnswer.LoadAnswer, declared.handles.Owner.Owner, World.Frame, World.Reading, World.Values, LoadCalls.DropCall, Loads.Meets, Pager.PagerState}
+use Rattle.pagable_world.specs.{Pager.Moves, Pager.ReadingBrings, Access.Called, Access.ReadingStep}
+use Rattle.pagable_loads.specs.{declared.reading.Frame.Frame as Held, declared.reading.Reading.Reading as Own, Frames.IsLoadOf, Frames.reading_of, Frames.frame_of, Frames.frames_of, Frames.onto}
 
 -- a refusal was met, and the load is still open
 pub record Met {N E : Type 0} (v : Values N) (me : Owner) (reading : Reading) (s : PagerState N E) (e : Error) (t : PagerState N E) : Type 0 where

@@ -1,24 +1,14 @@
 -- What an access tells: for whom it acts and in which environment; and of its pager's state, where that is told, what each call does to it.
 use Rattle.std.specs.Prelude.{ℕ, ◌≡◌, List, Option, Some, None, Result, Ok, Err, IfOk}
 use Rattle.either.specs.declared.Either.{Either}
+use Rattle.pagable_codec.specs.{declared.env.Env.Ghosts as Environments, declared.hash.KeyHash.Ghosts as Hashes, declared.nodes.NodeSet.Ghosts as Nodes}
+use Rattle.pagable_model.specs.{declared.error.Error.Error, declared.numbers.ArcRef.ArcRef, declared.numbers.HandleNumber.HandleNumber, declared.numbers.Kind.Kind}
+use Rattle.pagable_model.specs.{declared.numbers.LoadNumber.LoadNumber, Blob.Blob}
+use Rattle.pagable_world.specs.{declared.answers.Beginning.Beginning, declared.handles.HandleRow.HandleRow, declared.handles.Owner.Owner, World.Core, World.Values, World.row_at, LoadCalls.Given}
+use Rattle.pagable_world.specs.{LoadCalls.from_cache, LoadCalls.from_store, LoadCalls.AskCall, LoadCalls.AdoptCall, LoadCalls.LazyCall, Pager.PagerState, Pager.WellFormed, Pager.Moves}
 use Rattle.either.specs.declared.Either.TheVariants as eithers
-use Rattle.pagable_codec.specs.declared.env.Env.{Ghosts as Environments}
-use Rattle.pagable_codec.specs.declared.hash.KeyHash.{Ghosts as Hashes}
-use Rattle.pagable_codec.specs.declared.nodes.NodeSet.{Ghosts as Nodes}
-use Rattle.pagable_model.specs.declared.error.Error.{Error}
-use Rattle.pagable_model.specs.declared.numbers.ArcRef.{ArcRef}
-use Rattle.pagable_model.specs.declared.numbers.HandleNumber.{HandleNumber}
-use Rattle.pagable_model.specs.declared.numbers.Kind.{Kind}
-use Rattle.pagable_model.specs.declared.numbers.LoadNumber.{LoadNumber}
-use Rattle.pagable_model.specs.Blob.{Blob}
-use Rattle.pagable_world.specs.declared.answers.Beginning.{Beginning}
 use Rattle.pagable_world.specs.declared.answers.Beginning.TheVariants as beginnings
-use Rattle.pagable_world.specs.declared.handles.HandleRow.{HandleRow}
-use Rattle.pagable_world.specs.declared.handles.Owner.{Owner}
 use Rattle.pagable_world.specs.declared.calls.Want.TheVariants as wants
-use Rattle.pagable_world.specs.World.{Core, Values, row_at}
-use Rattle.pagable_world.specs.LoadCalls.{Given, from_cache, from_store, AskCall, AdoptCall, LazyCall}
-use Rattle.pagable_world.specs.Pager.{PagerState, WellFormed, Moves}
 
 -- whose calls they are, and the environment of the values
 pub record Acting (E : Type 0) : Type 0 where

@@ -1,26 +1,15 @@
 -- What a worker's calls of an access do, in the words of the world.
 use Rattle.std.specs.Prelude.{ℕ, ◌≡◌, ◌≤◌, ◌⊎◌, true, length, Option, Some, None, Result, Ok, Err, IfOk, IfErr}
-use Rattle.pagable_model.specs.declared.error.Error.{Error}
-use Rattle.pagable_model.specs.declared.error.Error.TheVariants as errors
-use Rattle.pagable_model.specs.declared.numbers.ArcRef.{ArcRef}
-use Rattle.pagable_model.specs.declared.numbers.HandleNumber.{HandleNumber}
-use Rattle.pagable_model.specs.declared.numbers.LoadNumber.{LoadNumber}
-use Rattle.pagable_model.specs.declared.numbers.WorkerNumber.{WorkerNumber}
-use Rattle.pagable_world.specs.declared.answers.Beginning.TheVariants as beginnings
-use Rattle.pagable_world.specs.declared.handles.HandleRow.{HandleRow}
-use Rattle.pagable_world.specs.declared.handles.Owner.{Owner}
-use Rattle.pagable_world.specs.declared.handles.Owner.TheVariants as owners
+use Rattle.pagable_model.specs.{declared.error.Error.Error, declared.numbers.ArcRef.ArcRef, declared.numbers.HandleNumber.HandleNumber, declared.numbers.LoadNumber.LoadNumber}
+use Rattle.pagable_model.specs.{declared.numbers.WorkerNumber.WorkerNumber}
 use Rattle.pagable_world.specs.Kinds.{loose_kind, HasKinds, HasNoKinds}
-use Rattle.pagable_world.specs.World.{Core, Values, Alike}
-use Rattle.pagable_world.specs.Workers.{RowIs, PinsAtOnce, PinRefused}
-use Rattle.pagable_world.specs.LoadCalls.{BeginCall}
-use Rattle.pagable_world.specs.Calls.{CloneCall}
-use Rattle.pagable_world.specs.Events.{IsEntry, with_entry_taken}
-use Rattle.pagable_world.specs.Pager.{PagerState}
-use Rattle.pagable_world.specs.Access.{Called, WorkerStarts}
-use Rattle.pagable_loads.specs.declared.working.Taken.{Taken}
+use Rattle.pagable_world.specs.{declared.handles.HandleRow.HandleRow, declared.handles.Owner.Owner, World.Core, World.Values, World.Alike, Workers.RowIs, Workers.PinsAtOnce, Workers.PinRefused}
+use Rattle.pagable_world.specs.{LoadCalls.BeginCall, Calls.CloneCall, Events.IsEntry, Events.with_entry_taken, Pager.PagerState, Access.Called, Access.WorkerStarts}
+use Rattle.pagable_loads.specs.{declared.working.Taken.Taken, Telling.Acting}
+use Rattle.pagable_model.specs.declared.error.Error.TheVariants as errors
+use Rattle.pagable_world.specs.declared.answers.Beginning.TheVariants as beginnings
+use Rattle.pagable_world.specs.declared.handles.Owner.TheVariants as owners
 use Rattle.pagable_loads.specs.declared.working.Taken.TheVariants as takens
-use Rattle.pagable_loads.specs.Telling.{Acting}
 
 -- why something was refused, if it was
 abbrev pub fault_in : {X : Type 0} → Result X Error → Option Error

@@ -1,16 +1,13 @@
 //! An access to a pager: its calls, each one step, over a pager that is lent or behind a lock. Loads and page-out workers step over it.
 
-ghost use Rattle.std.specs.Prelude.{◌≡◌, ℕ, Option, IfOk};
-ghost use Rattle.std.specs.Arc.{arc_value};
+ghost use Rattle.std.specs.{Prelude.◌≡◌, Prelude.ℕ, Prelude.Option, Prelude.IfOk, Arc.arc_value};
 ghost use Rattle.pagable_core.specs.Data.{blob_of};
 ghost use Rattle.pagable_model.specs.Blob.{key_of};
-ghost use Rattle.pagable_world.specs.declared.calls.Want.TheVariants as wants;
-ghost use Rattle.pagable_world.specs.Pager.{PagerState, IsNewNode, IsCellOf};
-ghost use Rattle.pagable_world.specs.Calls.{CloneCall, PinCall, UnpinCall, ReleaseCall, SetKeyCall, StoreCall};
-ghost use Rattle.pagable_world.specs.LoadCalls.{BeginCall, BeginKeyCall, AskCall, EndCall, HandOverCall, DropCall};
-ghost use Rattle.pagable_world.specs.Access.{Called, Told};
-ghost use Rattle.pagable_loads.specs.Starting.{Shares, StartsPin};
+ghost use Rattle.pagable_world.specs.{Pager.PagerState, Pager.IsNewNode, Pager.IsCellOf, Calls.CloneCall, Calls.PinCall, Calls.UnpinCall, Calls.ReleaseCall, Calls.SetKeyCall, Calls.StoreCall};
+ghost use Rattle.pagable_world.specs.{LoadCalls.BeginCall, LoadCalls.BeginKeyCall, LoadCalls.AskCall, LoadCalls.EndCall, LoadCalls.HandOverCall, LoadCalls.DropCall, Access.Called, Access.Told};
 ghost use Rattle.pagable_loads.specs.Telling.{Acting, Tells, Brings, AsksFor, TakesLazily, AdoptsValue, values_at, begun_as, blob_as};
+ghost use Rattle.pagable_loads.specs.Starting.{Shares, StartsPin};
+ghost use Rattle.pagable_world.specs.declared.calls.Want.TheVariants as wants;
 
 use crate::starting::PinStart;
 use either::Either;

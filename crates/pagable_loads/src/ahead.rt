@@ -4,9 +4,7 @@
 ghost use Rattle.std.specs.Prelude.{◌≡◌, IfSome, IsSome, slice_get};
 ghost use Rattle.pagable_core.specs.Data.{blob_of};
 ghost use Rattle.pagable_world.specs.Plain.{Types};
-ghost use Rattle.pagable_loads.specs.Ahead.{IsAhead, AskedIf, RowTells, Kept};
-ghost use Rattle.pagable_loads.specs.Frames.{frames_of};
-ghost use Rattle.pagable_loads.specs.Telling.{values_at};
+ghost use Rattle.pagable_loads.specs.{Ahead.IsAhead, Ahead.AskedIf, Ahead.RowTells, Ahead.Kept, Frames.frames_of, Telling.values_at};
 
 use crate::access::Access;
 use crate::decoding::{Decoded, decode};

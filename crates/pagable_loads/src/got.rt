@@ -44,8 +44,7 @@ impl<'g, E: Env> GotReferences<'g, E> {
 }
 
 impl<'g, E: Env> References<E> for GotReferences<'g, E> {
-    ghost use Rattle.std.specs.Prelude.{slice_get};
-    ghost use Rattle.std.specs.Arc.{arc_value};
+    ghost use Rattle.std.specs.{Prelude.slice_get, Arc.arc_value};
     ghost use Rattle.pagable_loads.specs.Got.{environment_of, got_of, lent_of, answer_at, lent_by, may_refuse};
 
     ghost environment = { environment_of };

@@ -1,12 +1,9 @@
 //! Whole operations over an access: a pin, with the load that it may need, and the reading of a key.
 
-ghost use Rattle.std.specs.Prelude.{◌≡◌, Bool};
-ghost use Rattle.std.specs.Arc.{arc_value};
+ghost use Rattle.std.specs.{Prelude.◌≡◌, Prelude.Bool, Arc.arc_value};
+ghost use Rattle.pagable_world.specs.{World.seen_as, Access.Told, Access.PinsOver, Access.ReadsOver};
+ghost use Rattle.pagable_loads.specs.{Starting.PinsFirst, Starting.Unpins, Telling.values_at};
 ghost use Rattle.pagable_world.specs.declared.handles.Owner.TheVariants as owners;
-ghost use Rattle.pagable_world.specs.World.{seen_as};
-ghost use Rattle.pagable_world.specs.Access.{Told, PinsOver, ReadsOver};
-ghost use Rattle.pagable_loads.specs.Starting.{PinsFirst, Unpins};
-ghost use Rattle.pagable_loads.specs.Telling.{values_at};
 
 use crate::access::Access;
 use crate::reading::Reading;

@@ -2,9 +2,7 @@
 
 ghost use Rattle.std.specs.Prelude.{◌≡◌, ◌<◌, [], length, IsSome, true, false};
 ghost use Rattle.pagable_model.specs.Deep.{is_eager};
-ghost use Rattle.pagable_loads.specs.Frames.{reading_of, frames_of};
-ghost use Rattle.pagable_loads.specs.Needing.{Needs, HasFrames, IsRead, need_wanted};
-ghost use Rattle.pagable_loads.specs.Telling.{values_at};
+ghost use Rattle.pagable_loads.specs.{Frames.reading_of, Frames.frames_of, Needing.Needs, Needing.HasFrames, Needing.IsRead, Needing.need_wanted, Telling.values_at};
 
 use crate::decoding::{Decoded, decode};
 use pagable_codec::{ArcRef, Env, Kind, NodeSet};

@@ -1,14 +1,8 @@
 //! A load that is driven to its end.
 
 ghost use Rattle.std.specs.Prelude.{◌≡◌, IsSome, Ok};
-ghost use Rattle.pagable_world.specs.Access.{Told};
-ghost use Rattle.pagable_world.specs.World.{one_more};
-ghost use Rattle.pagable_loads.specs.Ahead.{IsAhead, RowTells};
-ghost use Rattle.pagable_loads.specs.Ending.{EndsAs, LeadsOn};
-ghost use Rattle.pagable_loads.specs.Frames.{frames_of};
-ghost use Rattle.pagable_loads.specs.Running.{Runs};
-ghost use Rattle.pagable_loads.specs.Stepping.{Steps};
-ghost use Rattle.pagable_loads.specs.Telling.{values_at};
+ghost use Rattle.pagable_world.specs.{Access.Told, World.one_more};
+ghost use Rattle.pagable_loads.specs.{Ahead.IsAhead, Ahead.RowTells, Ending.EndsAs, Ending.LeadsOn, Frames.frames_of, Running.Runs, Stepping.Steps, Telling.values_at};
 
 use crate::access::Access;
 use crate::ahead::keep_if;

@@ -4,10 +4,8 @@ ghost use Rattle.std.specs.Prelude.{◌≡◌, ◌<◌, ◌≤◌, ◌∷◌, �
 ghost use Rattle.std.specs.Arc.{arc_value};
 ghost use Rattle.pagable_core.specs.Data.{blob_of};
 ghost use Rattle.pagable_model.specs.Deep.{longest_path};
-ghost use Rattle.pagable_world.specs.Loads.{root_frame, nested_frame, handles_of as all_handles};
-ghost use Rattle.pagable_world.specs.World.{one_more};
-ghost use Rattle.pagable_loads.specs.Frames.{frame_of, frames_of, onto};
-ghost use Rattle.pagable_loads.specs.Stepping.{IsSameLoad, TakenOff, TakenTwo, Gets};
+ghost use Rattle.pagable_world.specs.{Loads.root_frame, Loads.nested_frame, Loads.handles_of as all_handles, World.one_more};
+ghost use Rattle.pagable_loads.specs.{Frames.frame_of, Frames.frames_of, Frames.onto, Stepping.IsSameLoad, Stepping.TakenOff, Stepping.TakenTwo, Stepping.Gets};
 
 use crate::reading::{Frame, Reading};
 use pagable_codec::{ArcRef, Kind};

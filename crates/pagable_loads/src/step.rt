@@ -1,16 +1,10 @@
 //! A load's steps, over an access to a pager.
 
 ghost use Rattle.std.specs.Prelude.{◌≡◌, ◌<◌, [], length, IsSome, IfOk, Some, Result, Ok, true, false};
-ghost use Rattle.pagable_world.specs.World.{one_more};
-ghost use Rattle.pagable_world.specs.Loads.{need_of, needs_nested, needs_lazy, ReadsNode, ReadsRoot};
-ghost use Rattle.pagable_world.specs.Access.{Told};
-ghost use Rattle.pagable_world.specs.declared.events.LoadAnswer.TheVariants as ends;
-ghost use Rattle.pagable_loads.specs.Ahead.{GotMore, goes_on_with};
-ghost use Rattle.pagable_loads.specs.Ending.{LeadsOn};
-ghost use Rattle.pagable_loads.specs.Frames.{reading_of, frames_of};
-ghost use Rattle.pagable_loads.specs.Needing.{Needs, HasFrames};
+ghost use Rattle.pagable_world.specs.{World.one_more, Loads.need_of, Loads.needs_nested, Loads.needs_lazy, Loads.ReadsNode, Loads.ReadsRoot, Access.Told};
 ghost use Rattle.pagable_loads.specs.Stepping.{IsSameLoad, Tries, Steps, Drops};
-ghost use Rattle.pagable_loads.specs.Telling.{values_at};
+ghost use Rattle.pagable_loads.specs.{Ahead.GotMore, Ahead.goes_on_with, Ending.LeadsOn, Frames.reading_of, Frames.frames_of, Needing.Needs, Needing.HasFrames, Telling.values_at};
+ghost use Rattle.pagable_world.specs.declared.events.LoadAnswer.TheVariants as ends;
 
 use crate::access::Access;
 use crate::reading::{Need, Reading};

@@ -1,15 +1,12 @@
 //! What a page-out worker asks of an access besides: each call one step for the worker.
 
 ghost use Rattle.std.specs.Prelude.{◌≡◌, ◌≤◌, length, IfOk, IfErr, IfSome, IfNone};
-ghost use Rattle.pagable_model.specs.declared.error.Error.TheVariants as errors;
 ghost use Rattle.pagable_model.specs.declared.numbers.HandleNumber.{HandleNumber as Handle};
-ghost use Rattle.pagable_world.specs.World.{Alike};
-ghost use Rattle.pagable_world.specs.Cascade.{FallsAnyhow};
-ghost use Rattle.pagable_world.specs.Calls.{ScheduleCall, TakeCall};
 ghost use Rattle.pagable_world.specs.Workers.{claim_fault, is_workers_at, WorkerEnds};
-ghost use Rattle.pagable_world.specs.Access.{Called, Told, WorkerStarts, EntryHas};
-ghost use Rattle.pagable_loads.specs.Telling.{Tells, values_at};
+ghost use Rattle.pagable_world.specs.{World.Alike, Cascade.FallsAnyhow, Calls.ScheduleCall, Calls.TakeCall, Access.Called, Access.Told, Access.WorkerStarts, Access.EntryHas};
 ghost use Rattle.pagable_loads.specs.Working.{fault_in, TakesReference, StartsEntry, RefusesEntry, acting_after, as_caller};
+ghost use Rattle.pagable_loads.specs.Telling.{Tells, values_at};
+ghost use Rattle.pagable_model.specs.declared.error.Error.TheVariants as errors;
 
 use crate::access::Access;
 use pagable_codec::{Env, NodeSet};

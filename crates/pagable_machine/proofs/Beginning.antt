@@ -1,37 +1,15 @@
 -- Tables and workers that begin.
-use Rattle.std.proofs.lemmas.Bool.Decides.{nat_tests}
-use Rattle.std.proofs.lemmas.Grind.{common_steps}
-use Rattle.std.proofs.Common.{rules}
-use Rattle.std.proofs.Common.{◌≡◌, ◌≢◌, ℕ, zero, suc, ◌+◌, ◌≤◌, ◌==◌, Bool, true, false, List, [], ◌∷◌, ◌++◌, Option, Some, Ok, inl, inr, if◌then◌else◌, refl, sym, ap, subst, ◌∙◌, length, arith}
-use Rattle.std.specs.Prelude.{is_some, slice_get}
-use Rattle.std.proofs.lemmas.List.{length-append}
-use Rattle.pagable_model.specs.declared.numbers.WorkerNumber.{WorkerNumber}
-use Rattle.pagable_world.specs.declared.events.Event.{Event}
+use Rattle.pagable_machine.proofs.Words.{still, nat_tests, common_steps, rules, ◌≡◌, ◌≢◌, ℕ, zero, suc, ◌+◌, ◌≤◌, true, List, [], ◌∷◌, ◌++◌, Option, Some, Ok, inl, inr, refl, sym, ap, subst, ◌∙◌}
+use Rattle.pagable_machine.proofs.Words.{length, arith, is_some, slice_get, length-append, WorkerNumber, Event, TableNumber, updated, is_owner, Alike, Core, SameShelf, Seen, Happens, IsTable}
+use Rattle.pagable_machine.proofs.Words.{Starts, no_shelf, with_worker, step_of, Moves, PagerState, WellFormed, world_of, same-number, Ghosts, SlotTable, Task, shelf_of, IsPlain, TaskFits, Walk}
+use Rattle.pagable_machine.proofs.Words.{Holding, IsServing, KeepsOne, Makes, machine_of, readings_in, IsBegun, IsWalkKept, shelf_at}
+use Rattle.pagable_machine.proofs.Keeping.{are-these, as-before, at-one, kept-on, makes, makes-with, not-same, one-serves, updated-at}
+use Rattle.pagable_machine.proofs.{Leaving.Leaves, Leaving.same, Passing.Passes, Passing.event-passes}
 use Rattle.pagable_world.specs.declared.events.Event.TheVariants as events
 use Rattle.pagable_world.specs.declared.events.EventReply.TheVariants as answers
-use Rattle.pagable_world.specs.declared.events.TableNumber.{TableNumber}
 use Rattle.pagable_world.specs.declared.handles.Owner.TheVariants as owners
-use Rattle.pagable_world.specs.Plain.{if_there, updated}
-use Rattle.pagable_world.specs.Kinds.{is_owner}
-use Rattle.pagable_world.specs.World.{Alike, Core, SameShelf, Seen, Shelf, Todo, Walking}
 use Rattle.pagable_world.specs.World as world
-use Rattle.pagable_world.specs.Events.{Happens, IsTable, Starts, no_shelf, with_worker}
-use Rattle.pagable_world.specs.Order.{step_of}
-use Rattle.pagable_world.specs.Pager.{Moves, PagerState, WellFormed, world_of}
-use Rattle.pagable_laws.proofs.Sums.{same-number}
-use Rattle.pagable_walk.specs.declared.results.Trees.{Ghosts}
-use Rattle.pagable_walk.specs.declared.table.SlotTable.{SlotTable}
-use Rattle.pagable_walk.specs.declared.tasks.Task.{Task}
 use Rattle.pagable_walk.specs.declared.tasks.Task.TheVariants as tasks
-use Rattle.pagable_walk.specs.Table.{shelf_of}
-use Rattle.pagable_walk.specs.Tasks.{IsPlain}
-use Rattle.pagable_walk.specs.Turns.{TaskFits}
-use Rattle.pagable_machine.specs.declared.held.Walk.{Walk}
-use Rattle.pagable_machine.specs.Keeping.{Holding, IsServing, KeepsOne, Makes, machine_of, readings_in}
-use Rattle.pagable_machine.specs.Walking.{IsBegun, IsWalkKept, shelf_at}
-use Rattle.pagable_machine.proofs.Keeping.{alike-self, are-these, as-before, at-one, kept-on, makes, makes-with, not-same, one-serves, updated-at}
-use Rattle.pagable_machine.proofs.Leaving.{Leaves, same}
-use Rattle.pagable_machine.proofs.Passing.{Passes, event-passes}
 
 -- ---- a table
 
@@ -51,23 +29,8 @@ module _ {X : Type 0} {g : Ghosts X} where
   -- the tables with one more, which has no claim
   shelf-added : (tables : List (SlotTable X g)) (new : SlotTable X g) → SameShelf no_shelf (shelf_of new) → (t : ℕ)
       → SameShelf (updated (length tables + 1) no_shelf (shelf_at tables) t) (shelf_at (tables ++ new ∷ []) t)
-  shelf-added tables new empty zero = by (zero == length tables + 1) refl
-    where
-      by : (b : Bool) → (zero == length tables + 1) ≡ b → SameShelf (if b then no_shelf else no_shelf) no_shelf
-      by true e = record { slots = λ i. refl; waits = λ v. refl }
-      by false e = record { slots = λ i. refl; waits = λ v. refl }
-  shelf-added tables new empty (suc n) = by (suc n == length tables + 1) refl
-    where
-      by : (b : Bool) → (suc n == length tables + 1) ≡ b → SameShelf (if b then no_shelf else shelf_at tables (suc n)) (shelf_at (tables ++ new ∷ []) (suc n))
-      by true e =
-          let at = same-number (suc n) (length tables + 1) e in
-          let is : n ≡ length tables = omega (arith, at) in
-          let there : slice_get (tables ++ new ∷ []) n ≡ Some new = at-end tables new n is in
-          subst (λ (found : Option (SlotTable X g)). SameShelf no_shelf (if_there shelf_of no_shelf found)) (sym there) empty
-      by false e =
-          let other = not-same (suc n) (length tables + 1) e in
-          let same_there = elsewhere tables new n (λ is. other (omega (arith, is))) in
-          subst (λ (found : Option (SlotTable X g)). SameShelf (shelf_at tables (suc n)) (if_there shelf_of no_shelf found)) (sym same_there) (record { slots = λ i. refl; waits = λ v. refl })
+  shelf-added tables new empty zero = grind (arith, nat_tests, at-end, elsewhere, not-same, same-number)
+  shelf-added tables new empty (suc n) = grind (arith, nat_tests, at-end, elsewhere, not-same, same-number)
 
   module _ {N B W E : Type 0} (m : Seen N B W) (s : PagerState N E) (h : Holding g) (new : SlotTable X g) (serving : IsServing s.core h) (was : WellFormed m.values s) where
     abbrev with_table : Holding g
@@ -75,11 +38,12 @@ module _ {X : Type 0} {g : Ghosts X} where
 
     pub table-made : (t : TableNumber) → t.0 ≡ length h.tables + 1 → SameShelf no_shelf (shelf_of new) → Makes m s h events.TableNew (answers.TableMade (Ok t)) s with_table
     table-made t number empty =
-        makes m s s {h' = with_table} serving was was (let more = length-append h.tables (new ∷ []) in omega (arith, more)) (λ v. refl) (same s.core) events.TableNew (answers.TableMade (Ok t)) (λ v. refl)
+        makes m s s {h' = with_table} serving was was (let more = length-append h.tables (new ∷ []) in omega (arith, more)) (λ v. refl) (same s.core) events.TableNew (answers.TableMade (Ok t))
+        (λ v. refl)
         (record {
           made = (
             number,
-            alike-self s.core,
+            still s.core,
             are-these s.core h.readings (readings_in h.readings s.core) (λ l load is. as-before serving.readings on l load is),
             record {
               same_shelves = λ q. subst (λ n. SameShelf (updated n no_shelf (shelf_at h.tables) q) (shelf_at (h.tables ++ new ∷ []) q)) (sym number) (shelf-added h.tables new empty q);
@@ -102,7 +66,8 @@ plain-fits n w (tasks.Load r place through own) plain = absurd plain
 plain-fits n w (tasks.Write r place through pin) plain = absurd plain
 plain-fits n w task plain = tt
 
-module _ {X : Type 0} {g : Ghosts X} {N B W E : Type 0} (m : Seen N B W) (s s' : PagerState N E) (h : Holding g) {walks' : ℕ → Option (Walk X g)} (serving : IsServing s.core h) (was : WellFormed m.values s)
+module _ {X : Type 0} {g : Ghosts X} {N B W E : Type 0} (m : Seen N B W) (s s' : PagerState N E) (h : Holding g) {walks' : ℕ → Option (Walk X g)} (serving : IsServing s.core h)
+    (was : WellFormed m.values s)
     (formed : WellFormed m.values s') (on : Leaves owners.Caller (updated (s.core.last.worker + 1) true s.core.workers) s.core s'.core)
     (t : TableNumber) (task : world.Task) (n : WorkerNumber) (k : Walk X g) (table : IsTable (world_of (machine_of s h)) t) (next : n.0 ≡ s.core.last.worker + 1) (begun : IsBegun t task k)
     (keeps : KeepsOne h.walks n.0 (Some k) walks') where
@@ -120,7 +85,8 @@ module _ {X : Type 0} {g : Ghosts X} {N B W E : Type 0} (m : Seen N B W) (s s' :
   new-walk = first_of (grind (arith, common_steps, nat_tests), grind (arith, nat_tests, updated-at, plain-fits), search (rules, updated-at, plain-fits))
 
   -- it is kept from now on
-  pub worker-made : (event : Event N B W) → ((v : ℕ) → step_of v event (answers.WorkerMade (Ok n)) ≡ []) → Happens m (world_of (machine_of s h)) event (answers.WorkerMade (Ok n)) (world_of (machine_of s' with_walk))
+  pub worker-made : (event : Event N B W) → ((v : ℕ) → step_of v event (answers.WorkerMade (Ok n)) ≡ [])
+      → Happens m (world_of (machine_of s h)) event (answers.WorkerMade (Ok n)) (world_of (machine_of s' with_walk))
       → Moves (λ q x. ⊥) s s' → Makes m s h event (answers.WorkerMade (Ok n)) s' with_walk
   worker-made event none happens moves =
       makes-with m s s' {h' = with_walk} formed event (answers.WorkerMade (Ok n)) happens

@@ -1,46 +1,16 @@
 -- Each event of tables and workers, by what the pager and what is kept say of it.
-use Rattle.std.proofs.Common.{◌≡◌, ℕ, ◌+◌, ◌<◌, ◌≤◌, Bool, true, false, List, [], ◌∷◌, ◌++◌, Option, Some, None, Ok, Err, ◌⊎◌, inl, inr, refl, sym, subst, ◌∙◌, length, arith}
-use Rattle.std.specs.Prelude.{is_none, is_some}
-use Rattle.std.specs.Option.{option_map}
-use Rattle.std.specs.declared.alloc.Global.{Global}
-use Rattle.std.specs.declared.sync.Arc.{Arc}
-use Rattle.std.specs.declared.vec.Vec.{Vec}
-use Rattle.std.proofs.lemmas.Bool.Decides.{nat_tests}
-use Rattle.pagable_core.specs.declared.context.writing.SerializedData.{SerializedData}
-use Rattle.pagable_model.specs.declared.error.Error.{Error}
+use Rattle.pagable_machine.proofs.Words.{Result, IfOk, IfErr, OnErr, still, ◌≡◌, ℕ, ◌+◌, ◌<◌, ◌≤◌, Bool, true, false, List, [], ◌∷◌, ◌++◌, Option, Some, None, Ok, Err, ◌⊎◌, inl, inr, refl, sym}
+use Rattle.pagable_machine.proofs.Words.{subst, ◌∙◌, length, arith, is_none, is_some, option_map, Global, Arc, Vec, nat_tests, SerializedData, Error, ArcRef, HandleNumber, WorkerNumber}
+use Rattle.pagable_machine.proofs.Words.{TableNumber, WorkerAnswer, WorkerReply, HandleRow, Blob, if_there, HasNoKinds, identity_of, Alike, SameShelf, Seen, Values, Walking, Written, of_entry}
+use Rattle.pagable_machine.proofs.Words.{of_item, Called, WorkerStarts, IsEntry, IsNoTable, IsTable, entry_task, no_shelf, with_entry_taken, PagerState, WellFormed, world_of, RefusesEntry}
+use Rattle.pagable_machine.proofs.Words.{StartsEntry, PagerView, Telling, state_in, Ghosts, SlotTable, written_of, shelf_of, plain, Held, Walk, Holding, KeepsOne, Makes, machine_of, IsBegun}
+use Rattle.pagable_machine.proofs.Words.{WalksOn, has_task, is_table, walking_of, Answer, ByNumber, Drives, Given, IsInStep, holding, kept_at, over}
+use Rattle.pagable_machine.proofs.Keeping.{KeepsAll, refuses, stays}
+use Rattle.pagable_machine.proofs.{Happening.keeps-after, Beginning.starts-so, Beginning.table-made, Beginning.worker-made, Stepping.worker-moved, Working.entry-leaves, Working.item-leaves}
 use Rattle.pagable_model.specs.declared.error.Error.TheVariants as errors
-use Rattle.pagable_model.specs.declared.numbers.ArcRef.{ArcRef}
-use Rattle.pagable_model.specs.declared.numbers.HandleNumber.{HandleNumber}
-use Rattle.pagable_model.specs.declared.numbers.WorkerNumber.{WorkerNumber}
 use Rattle.pagable_world.specs.declared.events.Event.TheVariants as events
 use Rattle.pagable_world.specs.declared.events.EventReply.TheVariants as answers
-use Rattle.pagable_world.specs.declared.events.TableNumber.{TableNumber}
-use Rattle.pagable_world.specs.declared.events.WorkerAnswer.{WorkerAnswer}
-use Rattle.pagable_world.specs.declared.events.WorkerReply.{WorkerReply}
-use Rattle.pagable_world.specs.declared.handles.HandleRow.{HandleRow}
-use Rattle.pagable_world.specs.Plain.{Blob, if_there}
-use Rattle.pagable_world.specs.Kinds.{HasNoKinds, identity_of}
-use Rattle.pagable_world.specs.World.{Alike, Core, SameShelf, Seen, Values, Walking, Written, of_entry, of_item}
 use Rattle.pagable_world.specs.World as world
-use Rattle.pagable_world.specs.Access.{Called, WorkerStarts}
-use Rattle.pagable_world.specs.Events.{IsEntry, IsNoTable, IsTable, entry_task, no_shelf, with_entry_taken}
-use Rattle.pagable_world.specs.Pager.{PagerState, WellFormed, world_of}
-use Rattle.pagable_loads.specs.Working.{RefusesEntry, StartsEntry}
-use Rattle.pagable_pager.specs.View.{PagerView, Telling, state_in}
-use Rattle.pagable_walk.specs.declared.results.Trees.{Ghosts}
-use Rattle.pagable_walk.specs.declared.table.SlotTable.{SlotTable}
-use Rattle.pagable_walk.specs.Slots.{written_of}
-use Rattle.pagable_walk.specs.Table.{shelf_of}
-use Rattle.pagable_walk.specs.Turns.{plain}
-use Rattle.pagable_machine.specs.declared.held.Held.{Held}
-use Rattle.pagable_machine.specs.declared.held.Walk.{Walk}
-use Rattle.pagable_machine.specs.Keeping.{Holding, KeepsOne, Makes, machine_of}
-use Rattle.pagable_machine.specs.Walking.{IsBegun, WalksOn, has_task, is_table, walking_of}
-use Rattle.pagable_machine.specs.Driving.{Answer, ByNumber, Drives, Given, IsInStep, holding, kept_at, over}
-use Rattle.pagable_machine.proofs.Keeping.{KeepsAll, alike-self, refuses, stays}
-use Rattle.pagable_machine.proofs.Beginning.{starts-so, table-made, worker-made}
-use Rattle.pagable_machine.proofs.Stepping.{worker-moved}
-use Rattle.pagable_machine.proofs.Working.{entry-leaves, item-leaves}
 
 there-is : {X : Type 0} {g : Ghosts X} (t : ℕ) (tables : List (SlotTable X g)) → is_table t tables ≡ true → (0 < t) × (t ≤ length tables)
 there-is t tables is = (grind (arith, nat_tests), grind (arith, nat_tests))
@@ -49,7 +19,7 @@ none-is : {X : Type 0} {g : Ghosts X} (t : ℕ) (tables : List (SlotTable X g)) 
 none-is t tables is = grind (arith, nat_tests)
 
 pub nothing-done : {N E : Type 0} {v : Values N} (s : PagerState N E) → WellFormed v s → Called v (λ w'. Alike s.core w') s s
-nothing-done s was = record { step = alike-self s.core; moves = record { each = λ n x is. inl is; environment = refl }; whole = was }
+nothing-done s was = record { step = still s.core; moves = record { each = λ n x is. inl is; environment = refl }; whole = was }
 
 module _ {X : Type 0} {g : Ghosts X} {N S E : Type 0} (v : E → Values N) (tells : Telling S) (old new : PagerView N S E) (held : Held X g) (serving : IsInStep tells (over old held))
     (was : WellFormed (v old.environment) (state_in tells old)) where
@@ -78,12 +48,13 @@ module _ {X : Type 0} {g : Ghosts X} {N S E : Type 0} (v : E → Values N) (tell
             (table-made m s h table serving was t number empty);
       }
 
-  pub no-table-drives : (tables' : Vec (SlotTable X g) Global) → tables'.items ≡ held.tables.items → Happens events.TableNew (answers.TableMade (Err errors.OutOfMemory)) old (record held { tables = tables' })
+  pub no-table-drives : (tables' : Vec (SlotTable X g) Global) → tables'.items ≡ held.tables.items
+      → Happens events.TableNew (answers.TableMade (Err errors.OutOfMemory)) old (record held { tables = tables' })
   no-table-drives tables' is =
       let keeps : KeepsAll h (record h { tables = tables'.items }) = record { readings = λ l. refl; tables = is; walks = λ q. refl } in
       record {
-        makes = refuses m s s serving was was (alike-self s.core) keeps events.TableNew (answers.TableMade (Err errors.OutOfMemory)) (λ q. refl)
-            (record { made = tt; refused = (refl, stays m s s serving was was (alike-self s.core) keeps) }) (record { each = λ n x is. inl is; environment = refl }) tt;
+        makes = refuses m s s serving was was (still s.core) keeps events.TableNew (answers.TableMade (Err errors.OutOfMemory)) (λ q. refl)
+            (record { made = tt; refused = (refl, stays m s s serving was was (still s.core) keeps) }) (record { each = λ n x is. inl is; environment = refl }) tt;
       }
 
   -- ---- workers that begin
@@ -109,7 +80,8 @@ module _ {X : Type 0} {g : Ghosts X} {N S E : Type 0} (v : E → Values N) (tell
 
       pub listed-refused : (i : ℕ)
           → ((e ≡ errors.NoSuchHandle) × ((is_table t.0 held.tables.items ≡ false) ⊎ (length s.core.list ≤ i)))
-          ⊎ ((is_table t.0 held.tables.items ≡ true) × (i < length s.core.list) × ((e ≡ errors.OutOfMemory) ⊎ ((e ≡ errors.WrongKind) × ((q : HandleNumber) × (row : HandleRow) × (type : ℕ) × IsEntry s.core i q row type × HasNoKinds type))))
+          ⊎ ((is_table t.0 held.tables.items ≡ true) × (i < length s.core.list)
+          × ((e ≡ errors.OutOfMemory) ⊎ ((e ≡ errors.WrongKind) × ((q : HandleNumber) × (row : HandleRow) × (type : ℕ) × IsEntry s.core i q row type × HasNoKinds type))))
           → Happens (events.WorkerListed t i) (answers.WorkerMade (Err e)) new left
       listed-refused i why =
           record {
@@ -175,14 +147,23 @@ module _ {X : Type 0} {g : Ghosts X} {N S E : Type 0} (v : E → Values N) (tell
                 }) starts.begins.moves;
           }
 
+    -- by what the begin of a worker answers
+    pub item-begun : (mid : ByNumber (Walk X g)) → ((q : ℕ) → kept_at mid q ≡ kept_at held.walks q) → (item : SerializedData) (k : Walk X g) (r : Result WorkerNumber Error)
+        → is_table t.0 held.tables.items ≡ true → IsBegun t (of_item (written_of item)) k → IfOk r (λ n. WorkerStarts (v old.environment) s.core s n.0 s')
+        → IfErr r (λ e. (e ≡ errors.OutOfMemory) × Called (v old.environment) (λ w'. Alike s.core w') s s') → IfOk r (λ n. KeepsOne (kept_at mid) n.0 (Some k) (kept_at walks'))
+        → OnErr r ((q : ℕ) → kept_at walks' q ≡ kept_at mid q) → Happens (events.WorkerItem t item) (answers.WorkerMade r) new left
+    item-begun mid as_was item k (Ok n) there begun starts refused keeps stays = item-started n k there (keeps-after as_was keeps) item starts begun
+    item-begun mid as_was item k (Err e) there begun starts refused keeps stays = item-refused e refused.1 (λ q. stays q ∙ as_was q) item (inr (refused.0, there))
+
   -- ---- a worker's step
 
   pub no-step-drives : (n : WorkerNumber) → has_task (kept_at held.walks n.0) ≡ false → Happens (events.WorkerStep n) (answers.WorkerMoved (Err errors.NoSuchHandle)) old held
   no-step-drives n none =
       let keeps : KeepsAll h h = record { readings = λ l. refl; tables = refl; walks = λ q. refl } in
       record {
-        makes = refuses m s s serving was was (alike-self s.core) keeps (events.WorkerStep n) (answers.WorkerMoved (Err errors.NoSuchHandle)) (λ q. refl)
-            (record { moves = tt; refused = (refl, by (kept_at held.walks n.0) refl none, stays m s s serving was was (alike-self s.core) keeps) }) (record { each = λ q x is. inl is; environment = refl }) tt;
+        makes = refuses m s s serving was was (still s.core) keeps (events.WorkerStep n) (answers.WorkerMoved (Err errors.NoSuchHandle)) (λ q. refl)
+            (record { moves = tt; refused = (refl, by (kept_at held.walks n.0) refl none, stays m s s serving was was (still s.core) keeps) })
+            (record { each = λ q x is. inl is; environment = refl }) tt;
       }
     where
       answered : (task answer : Bool) → task ≡ false → task ≡ answer → answer ≡ false
@@ -196,7 +177,8 @@ module _ {X : Type 0} {g : Ghosts X} {N S E : Type 0} (v : E → Values N) (tell
       by None is none = refl
       by (Some k) is none = some-answer k.answer (answered _ _ none (serving.walks n.0 k is).either)
 
-  pub step-drives : (n : WorkerNumber) (k k' : Walk X g) (reply : WorkerReply (Arc SerializedData Global)) (tables' : Vec (SlotTable X g) Global) (walks' : ByNumber (Walk X g)) → kept_at held.walks n.0 ≡ Some k
+  pub step-drives : (n : WorkerNumber) (k k' : Walk X g) (reply : WorkerReply (Arc SerializedData Global)) (tables' : Vec (SlotTable X g) Global) (walks' : ByNumber (Walk X g))
+      → kept_at held.walks n.0 ≡ Some k
       → WalksOn (v old.environment) n.0 held.tables.items k s reply tables'.items k' s' → KeepsOne (kept_at held.walks) n.0 (Some k') (kept_at walks')
       → Happens (events.WorkerStep n) (answers.WorkerMoved (Ok reply)) new (record held { tables = tables'; walks = walks' })
   step-drives n k k' reply tables' walks' kept on keeps = record { makes = worker-moved (v old.environment) s s' h serving was n k k' kept reply on keeps }

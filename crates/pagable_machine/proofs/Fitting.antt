@@ -1,23 +1,9 @@
 -- What a machine keeps of a worker stays in step with the pager through each event that the worker doesn't make.
-use Rattle.std.proofs.lemmas.Bool.Decides.{nat_tests}
-use Rattle.std.proofs.lemmas.Grind.{common_steps}
-use Rattle.std.proofs.Common.{rules}
-use Rattle.std.proofs.Common.{◌≡◌, ℕ, ◌≤◌, sym, ◌∙◌, arith}
-use Rattle.pagable_model.specs.declared.numbers.ArcRef.{ArcRef}
-use Rattle.pagable_model.specs.declared.numbers.HandleNumber.{HandleNumber}
-use Rattle.pagable_world.specs.Kinds.{owner_worker}
-use Rattle.pagable_world.specs.World.{Core}
-use Rattle.pagable_world.specs.Pager.{HandlesAreWhole}
-use Rattle.pagable_laws.specs.KeyRuns.{StandsAt}
-use Rattle.pagable_laws.proofs.Outlasting.{stands-whole}
+use Rattle.pagable_machine.proofs.Words.{nat_tests, common_steps, rules, ◌≡◌, ℕ, ◌≤◌, sym, ◌∙◌, arith, ArcRef, HandleNumber, owner_worker, Core, HandlesAreWhole, StandsAt, stands-whole, Ghosts}
+use Rattle.pagable_machine.proofs.Words.{Task, HoldsPin, IsLoading, IsOfKind, TaskFits, Walk, IsWalkKept}
 use Rattle.pagable_loads.specs.declared.reading.Reading.{Reading as Own}
-use Rattle.pagable_walk.specs.declared.results.Trees.{Ghosts}
-use Rattle.pagable_walk.specs.declared.tasks.Task.{Task}
-use Rattle.pagable_walk.specs.declared.tasks.Task.TheVariants as tasks
-use Rattle.pagable_walk.specs.Turns.{HoldsPin, IsLoading, IsOfKind, TaskFits}
-use Rattle.pagable_machine.specs.declared.held.Walk.{Walk}
-use Rattle.pagable_machine.specs.Walking.{IsWalkKept}
 use Rattle.pagable_machine.proofs.Passing.{Passes}
+use Rattle.pagable_walk.specs.declared.tasks.Task.TheVariants as tasks
 
 module _ {v : ℕ} {w w' : Core} (whole : HandlesAreWhole w) (passes : Passes v w w') where
   stands-on : {r : ArcRef} {h : HandleNumber} → StandsAt w r h → StandsAt w' r h

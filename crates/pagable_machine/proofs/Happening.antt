@@ -1,48 +1,29 @@
 -- Each event of the machine, by what the pager and what is kept of loads say of it.
-use Rattle.std.proofs.Common.{arith}
-use Rattle.std.proofs.lemmas.Bool.Decides.{nat_tests}
-use Rattle.std.proofs.lemmas.Grind.{common_steps}
-use Rattle.std.proofs.Common.{rules}
-use Rattle.std.proofs.Common.{◌≡◌, ℕ, true, false, Option, Some, None, Ok, Err, ◌⊎◌, inl, inr, refl, sym, ap, subst, ◌∙◌}
-use Rattle.std.specs.Prelude.{Result, is_some}
-use Rattle.std.specs.declared.sync.Arc.{Arc}
-use Rattle.std.specs.declared.alloc.Global.{Global}
-use Rattle.pagable_core.specs.declared.storage.data.PagableData.{PagableData}
-use Rattle.pagable_model.specs.declared.error.Error.{Error}
+use Rattle.pagable_machine.proofs.Words.{Does, CallBrings, OnlyLess, core_in, plain_call, plain_reply, arith, nat_tests, common_steps, rules, ◌≡◌, ℕ, true, false, Option, Some, None, Ok, Err, ◌⊎◌}
+use Rattle.pagable_machine.proofs.Words.{inl, inr, refl, sym, ap, subst, ◌∙◌, Result, is_some, Arc, Global, PagableData, Error, HandleNumber, LoadNumber, Beginning, Call, Reply, LoadReply, Blob}
+use Rattle.pagable_machine.proofs.Words.{Core, Seen, Values, Written, load_fault, DropCall, fresh, Moves, PagerState, WellFormed, same-number, same_some, reading_of, PagerView, Telling, state_in}
+use Rattle.pagable_machine.proofs.Words.{ReadsAs, Ghosts, plain, Held, Serves, BeginsNoKey, Forgets, Holding, IsPrepared, IsTaken, KeepsOne, Kept, Makes, Stepped, CountsStep, rest_after, Answer}
+use Rattle.pagable_machine.proofs.Words.{Drives, Given, IsInStep, Readings, holding, kept_at, over}
+use Rattle.pagable_loads.specs.declared.reading.Reading.{Reading as Own}
+use Rattle.pagable_machine.proofs.Keeping.{call-made, key-refused, key-starts, starts}
+use Rattle.pagable_machine.proofs.Loading.{faulty, never-typed, no-place, own-steps, refuses-step}
 use Rattle.pagable_model.specs.declared.error.Error.TheVariants as errors
-use Rattle.pagable_model.specs.declared.numbers.HandleNumber.{HandleNumber}
-use Rattle.pagable_model.specs.declared.numbers.LoadNumber.{LoadNumber}
-use Rattle.pagable_world.specs.declared.answers.Beginning.{Beginning}
 use Rattle.pagable_world.specs.declared.answers.Beginning.TheVariants as beginnings
-use Rattle.pagable_world.specs.declared.calls.Call.{Call}
-use Rattle.pagable_world.specs.declared.calls.Reply.{Reply}
 use Rattle.pagable_world.specs.declared.calls.Call.TheVariants as calls
 use Rattle.pagable_world.specs.declared.calls.Reply.TheVariants as replies
 use Rattle.pagable_world.specs.declared.events.Event.TheVariants as events
 use Rattle.pagable_world.specs.declared.events.EventReply.TheVariants as answers
 use Rattle.pagable_world.specs.declared.events.LoadAnswer.TheVariants as ends
-use Rattle.pagable_world.specs.declared.events.LoadReply.{LoadReply}
 use Rattle.pagable_world.specs.declared.handles.Owner.TheVariants as owners
-use Rattle.pagable_world.specs.Plain.{Blob}
-use Rattle.pagable_world.specs.World.{Core, Seen, Values, Written}
-use Rattle.pagable_world.specs.Refusals.{load_fault}
-use Rattle.pagable_world.specs.LoadCalls.{DropCall}
-use Rattle.pagable_world.specs.Workers.{fresh}
-use Rattle.pagable_world.specs.Pager.{Moves, PagerState, WellFormed}
-use Rattle.pagable_laws.proofs.Sums.{same-number}
-use Rattle.pagable_laws.proofs.Trees.{same_some}
-use Rattle.pagable_loads.specs.declared.reading.Reading.{Reading as Own}
-use Rattle.pagable_loads.specs.Frames.{reading_of}
-use Rattle.pagable_pager.specs.View.{PagerView, Telling, state_in}
-use Rattle.pagable_pager.specs.Opened.{ReadsAs}
-use Rattle.pagable_walk.specs.declared.results.Trees.{Ghosts}
-use Rattle.pagable_walk.specs.Turns.{plain}
-use Rattle.pagable_machine.specs.declared.held.Held.{Held}
-use Rattle.pagable_machine.specs.Serving.{Serves}
-use Rattle.pagable_machine.specs.Keeping.{BeginsNoKey, Forgets, Holding, IsPrepared, IsTaken, KeepsOne, Kept, Makes, Stepped, CountsStep, rest_after}
-use Rattle.pagable_machine.specs.Driving.{Answer, Drives, Given, IsInStep, Readings, holding, kept_at, over}
-use Rattle.pagable_machine.proofs.Keeping.{call-made, key-refused, key-starts, starts}
-use Rattle.pagable_machine.proofs.Loading.{faulty, never-typed, no-place, own-steps, refuses-step}
+
+-- a call by which values come, and one by which they only go
+module _ {N S E : Type 0} {v : Values N} {tells : Telling S} {old new : PagerView N S E} {call : Call N PagableData} {r : Reply N (Arc PagableData Global)}
+    (does : Does (plain v) (core_in tells old) owners.Caller (plain_call call) (plain_reply r) (core_in tells new)) where
+  pub serves : Moves (CallBrings (core_in tells old) (plain_call call)) (state_in tells old) (state_in tells new) → Serves v tells old call r new
+  serves moves = record { step = record { does = does }; moves = moves }
+
+  pub serves-less : OnlyLess old new → Serves v tells old call r new
+  serves-less only = serves (record { each = λ n x is. inl (only.values n x is); environment = only.environment })
 
 -- nothing is forgotten where all stays
 pub forgets-none : (w : Core) {kept kept' : Kept} → ((q : ℕ) → kept' q ≡ kept q) → Forgets w kept kept'
@@ -106,7 +87,8 @@ module _ {X : Type 0} {g : Ghosts X} {N S E : Type 0} (v : E → Values N) (tell
 
   pub start-drives : (through : HandleNumber) (r : Result Beginning Error) → Serves (v old.environment) tells old (calls.LoadBegin through) (replies.Begun r) new → WellFormed (v new.environment) s'
       → Happens (events.LoadStart through) (answers.Started r) new kept
-  start-drives through r serves formed = record { makes = starts m s s' h h.readings serving was (whole-still serves.moves formed) through r serves.step serves.moves (forgets-none s'.core (λ q. refl)) }
+  start-drives through r serves formed = record
+      { makes = starts m s s' h h.readings serving was (whole-still serves.moves formed) through r serves.step serves.moves (forgets-none s'.core (λ q. refl)) }
 
   -- a load of a key is refused before it begins
   pub key-full-drives : (key t : ℕ) (e : Error) → BeginsNoKey s.core e → ((q : ℕ) → kept_at kept' q ≡ kept_at kept q)
@@ -166,7 +148,8 @@ module _ {X : Type 0} {g : Ghosts X} {N S E : Type 0} (v : E → Values N) (tell
   closed-drives l e why = record { makes = refuses-step m s h serving was l e (λ q. refl) (faulty s h l e why) }
 
 -- a step of what was kept, which is kept again
-pub step-of : {N E : Type 0} {v : Values N} {a b : Option Own} {x y own new : Own} {reply : LoadReply N} {s s' : PagerState N E} → a ≡ Some x → b ≡ Some y → Stepped v owners.Caller x reply y s s' → a ≡ Some own → b ≡ Some new
+pub step-of : {N E : Type 0} {v : Values N} {a b : Option Own} {x y own new : Own} {reply : LoadReply N} {s s' : PagerState N E} → a ≡ Some x → b ≡ Some y → Stepped v owners.Caller x reply y s s'
+    → a ≡ Some own → b ≡ Some new
     → Stepped v owners.Caller own reply new s s'
 step-of {v = v} {y = y} {own = own} {reply = reply} {s = s} {s'} was here step is now =
     subst (λ z. Stepped v owners.Caller own reply z s s') (same_some _ _ (sym here ∙ now)) (subst (λ z. Stepped v owners.Caller z reply y s s') (same_some _ _ (sym was ∙ is)) step)

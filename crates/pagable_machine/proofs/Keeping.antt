@@ -1,48 +1,20 @@
 -- What a machine keeps of loads stays in step with its pager, whatever event happens.
-use Rattle.std.proofs.lemmas.Bool.Decides.{nat_tests}
-use Rattle.std.proofs.lemmas.Grind.{common_steps}
-use Rattle.std.proofs.Common.{rules}
-use Rattle.std.proofs.Common.{◌≡◌, ◌≢◌, ℕ, ◌+◌, ◌<◌, ◌≤◌, ◌==◌, Bool, true, false, [], length, Option, Some, None, Ok, Err, ◌⊎◌, inl, inr, if◌then◌else◌, refl, sym, ap, subst, ◌∙◌, arith}
-use Rattle.std.specs.Prelude.{Result, is_some}
-use Rattle.std.specs.Option.{option_map}
-use Rattle.pagable_world.specs.declared.handles.Owner.{Owner}
+use Rattle.pagable_machine.proofs.Words.{nat_tests, common_steps, rules, ◌≡◌, ◌≢◌, ℕ, ◌+◌, ◌<◌, ◌≤◌, ◌==◌, Bool, true, false, [], length, Option, Some, None, Ok, Err, ◌⊎◌, inl, inr, if◌then◌else◌}
+use Rattle.pagable_machine.proofs.Words.{refl, sym, ap, subst, ◌∙◌, arith, Result, is_some, option_map, Owner, Beginning, Error, HandleNumber, LoadNumber, Call, Reply, Event, EventReply, if_there}
+use Rattle.pagable_machine.proofs.Words.{updated, is_owner, Alike, Core, Last, OpenLoad, Reading, Walking, of_key, Seen, Values, fresh, step_of, CallStep, Happens, Stays, WorkStays, CallBrings}
+use Rattle.pagable_machine.proofs.Words.{EventBrings, HandlesAreWhole, IsMachineWhole, IsReadingWhole, IsWalkingWhole, Moves, PagerState, ReplyWrites, WellFormed, world_of, same_some, same-number}
+use Rattle.pagable_machine.proofs.Words.{self-number, reading_of, Ghosts, Walk, AllKept, Forgets, Holding, IsKept, IsServing, KeepsOne, Kept, Makes, ReadsFor, machine_of, readings_in, work_of}
+use Rattle.pagable_machine.proofs.Words.{IsWalkKept, walking_of}
+use Rattle.pagable_loads.specs.declared.reading.Reading.{Reading as Own}
+use Rattle.pagable_machine.proofs.{Leaving.Leaves, Leaving.call-leaves, Leaving.like, Passing.Passes, Passing.event-passes, Fitting.walk-on}
 use Rattle.pagable_world.specs.declared.handles.Owner.TheVariants as owners
-use Rattle.pagable_world.specs.declared.answers.Beginning.{Beginning}
 use Rattle.pagable_world.specs.declared.answers.Beginning.TheVariants as beginnings
 use Rattle.pagable_world.specs.declared.calls.Call.TheVariants as calls
 use Rattle.pagable_world.specs.declared.calls.Reply.TheVariants as replies
 use Rattle.pagable_world.specs.declared.events.Event.TheVariants as events
 use Rattle.pagable_world.specs.declared.events.EventReply.TheVariants as answers
-use Rattle.pagable_model.specs.declared.error.Error.{Error}
-use Rattle.pagable_model.specs.declared.numbers.HandleNumber.{HandleNumber}
-use Rattle.pagable_model.specs.declared.numbers.LoadNumber.{LoadNumber}
-use Rattle.pagable_world.specs.declared.calls.Call.{Call}
-use Rattle.pagable_world.specs.declared.calls.Reply.{Reply}
-use Rattle.pagable_world.specs.declared.events.Event.{Event}
-use Rattle.pagable_world.specs.declared.events.EventReply.{EventReply}
-use Rattle.pagable_world.specs.Plain.{if_there, updated}
-use Rattle.pagable_world.specs.Kinds.{is_owner}
-use Rattle.pagable_world.specs.World.{Alike, Core, Last, OpenLoad, Reading, Walking, of_key, Seen, Values}
-use Rattle.pagable_world.specs.Workers.{fresh}
-use Rattle.pagable_world.specs.Order.{step_of}
-use Rattle.pagable_world.specs.Events.{CallStep, Happens, Stays, WorkStays}
-use Rattle.pagable_world.specs.Pager.{CallBrings, EventBrings, HandlesAreWhole, IsMachineWhole, IsReadingWhole, IsWalkingWhole, Moves, PagerState, ReplyWrites, WellFormed, world_of}
-use Rattle.pagable_laws.proofs.Trees.{same_some}
-use Rattle.pagable_laws.proofs.Sums.{same-number, self-number}
-use Rattle.pagable_loads.specs.declared.reading.Reading.{Reading as Own}
-use Rattle.pagable_loads.specs.Frames.{reading_of}
-use Rattle.pagable_walk.specs.declared.results.Trees.{Ghosts}
-use Rattle.pagable_machine.specs.declared.held.Walk.{Walk}
-use Rattle.pagable_machine.specs.Keeping.{AllKept, Forgets, Holding, IsKept, IsServing, KeepsOne, Kept, Makes, ReadsFor, machine_of, readings_in, work_of}
-use Rattle.pagable_machine.specs.Walking.{IsWalkKept, walking_of}
-use Rattle.pagable_machine.proofs.Leaving.{Leaves, call-leaves, like}
-use Rattle.pagable_machine.proofs.Passing.{Passes, event-passes}
-use Rattle.pagable_machine.proofs.Fitting.{walk-on}
 
 -- ---- what is kept
-
-pub alike-self : (w : Core) → Alike w w
-alike-self w = first_of (grind (arith, common_steps, nat_tests), search (rules))
 
 pub updated-at : {X : Type 0} (n : ℕ) (x : X) (f : ℕ → X) → updated n x f n ≡ x
 updated-at n x f = ap (λ b. if b then x else f n) (self-number n)
@@ -198,7 +170,8 @@ module _ {X : Type 0} {g : Ghosts X} {N B W E : Type 0} (m : Seen N B W) (s s' :
       }) moves tt (kept-on serving.readings on (λ l own is. inl (f.only l own is)))
 
   -- a load of a cell begins: of it nothing is kept yet
-  pub starts : (through : HandleNumber) (r : Result Beginning Error) → CallStep m s.core owners.Caller (calls.LoadBegin through) (replies.Begun r) s'.core → Moves (λ n x. ⊥) s s' → Forgets s'.core h.readings kept'
+  pub starts : (through : HandleNumber) (r : Result Beginning Error) → CallStep m s.core owners.Caller (calls.LoadBegin through) (replies.Begun r) s'.core → Moves (λ n x. ⊥) s s'
+      → Forgets s'.core h.readings kept'
       → Makes m s h (events.LoadStart through) (answers.Started r) s' after
   starts through r step moves f =
       let on = call-leaves s.core s'.core owners.Caller m (calls.LoadBegin through) (replies.Begun r) step.does in

@@ -1,41 +1,18 @@
 -- What each call and each step of a load or of a worker leaves: who is at work, no load but new ones beside those that were open, and each open load that isn't the asker's.
-use Rattle.std.proofs.lemmas.Grind.{common_steps}
-use Rattle.std.proofs.Common.{rules}
-use Rattle.std.proofs.Common.{◌≡◌, ℕ, Bool, true, false, List, [], Ok, Err, Some, None, inl, inr, refl, ◌∙◌, ◌⊎◌, ◌<◌, ◌≤◌, ap, sym, arith}
-use Rattle.std.proofs.lemmas.Bool.Decides.{nat_tests}
-use Rattle.std.specs.Prelude.{Option, Result}
-use Rattle.pagable_model.specs.declared.data_key.OptionalDataKey.{OptionalDataKey}
+use Rattle.pagable_machine.proofs.Words.{own-self, common_steps, rules, ◌≡◌, ℕ, Bool, true, false, List, [], Ok, Err, Some, None, inl, inr, refl, ◌∙◌, ◌⊎◌, ◌<◌, ◌≤◌, ap, sym, arith, nat_tests}
+use Rattle.pagable_machine.proofs.Words.{Option, Result, OptionalDataKey, Error, ArcRef, HandleNumber, LoadNumber, Kind, Blob, SameAt, Call, Reply, Owner, HandleRow, Mode, Beginning, Want}
+use Rattle.pagable_machine.proofs.Words.{Pinning, LoadAnswer, is_owner, OwnsLoad, load_fault, Alike, Core, Frame, OpenLoad, Reading, Root, Seen, Values, of_cell, of_key, Falls, fallen, BirthCall}
+use Rattle.pagable_machine.proofs.Words.{AwayBirthCall, PinCall, UnpinCall, ReleaseCall, SetKeyCall, ScheduleCall, TakeCall, RecallCall, OfferCall, StoreCall, with_load, without_load, from_cache}
+use Rattle.pagable_machine.proofs.Words.{from_store, BeginCall, BeginKeyCall, AskCall, AdoptCall, adopted, first_key, LazyCall, EndCall, HandOverCall, GoesOn, Meets, ReadingDoes, at-updated}
+use Rattle.pagable_machine.proofs.Words.{same-number, same_some, neither, Does}
+use Rattle.pagable_world.specs.LoadCalls.{Given}
 use Rattle.pagable_model.specs.declared.data_key.OptionalDataKey.TheVariants as optional
-use Rattle.pagable_world.specs.Plain.{Error, ArcRef, HandleNumber, LoadNumber, Kind, Blob, SameAt}
-use Rattle.pagable_world.specs.declared.calls.Call.{Call}
-use Rattle.pagable_world.specs.declared.calls.Reply.{Reply}
-use Rattle.pagable_world.specs.declared.handles.Owner.{Owner}
-use Rattle.pagable_world.specs.declared.handles.HandleRow.{HandleRow}
-use Rattle.pagable_world.specs.declared.rows.Mode.{Mode}
-use Rattle.pagable_world.specs.declared.answers.Beginning.{Beginning}
-use Rattle.pagable_world.specs.declared.calls.Want.{Want}
-use Rattle.pagable_world.specs.declared.answers.Pinning.{Pinning}
 use Rattle.pagable_world.specs.declared.answers.Beginning.TheVariants as beginnings
 use Rattle.pagable_world.specs.declared.answers.Pinning.TheVariants as pinnings
-use Rattle.pagable_world.specs.declared.events.LoadAnswer.{LoadAnswer}
 use Rattle.pagable_world.specs.declared.events.LoadAnswer.TheVariants as ends
 use Rattle.pagable_world.specs.declared.calls.Call.TheVariants as calls
 use Rattle.pagable_world.specs.declared.calls.Reply.TheVariants as replies
 use Rattle.pagable_world.specs.declared.calls.Want.TheVariants as wants
-use Rattle.pagable_world.specs.declared.handles.Owner.TheVariants as owners
-use Rattle.pagable_world.specs.Kinds.{is_owner}
-use Rattle.pagable_world.specs.Refusals.{OwnsLoad, load_fault}
-use Rattle.pagable_world.specs.World.{Alike, Core, Frame, OpenLoad, Reading, Root, Seen, Values, of_cell, of_key}
-use Rattle.pagable_world.specs.Cascade.{Falls, fallen}
-use Rattle.pagable_world.specs.Calls.{BirthCall, AwayBirthCall, PinCall, UnpinCall, ReleaseCall, SetKeyCall, ScheduleCall}
-use Rattle.pagable_world.specs.Calls.{TakeCall, RecallCall, OfferCall, StoreCall}
-use Rattle.pagable_world.specs.LoadCalls.{with_load, without_load, Given, from_cache, from_store, BeginCall, BeginKeyCall, AskCall, AdoptCall, adopted, first_key, LazyCall, EndCall, HandOverCall}
-use Rattle.pagable_world.specs.Loads.{GoesOn, Meets, ReadingDoes}
-use Rattle.pagable_world.specs.Events.{Does}
-use Rattle.pagable_laws.proofs.Goes.{at-updated}
-use Rattle.pagable_laws.proofs.Sums.{same-number, self-number}
-use Rattle.pagable_laws.proofs.Trees.{same_some}
-use Rattle.pagable_laws.proofs.ReadingStepsHanding.{neither}
 
 -- of loads and workers, as far as the machine sees them
 pub record Leaves (me : Owner) (works : ℕ → Bool) (w w' : Core) : Type 0 where
@@ -48,15 +25,8 @@ pub record Leaves (me : Owner) (works : ℕ → Bool) (w w' : Core) : Type 0 whe
 abbrev pub IsMine : Core → Owner → LoadNumber → Type 0
 IsMine w me l = (load : OpenLoad) → w.loads l.0 ≡ Some load → is_owner me load.owner ≡ true
 
-pub is-self : (o : Owner) → is_owner o o ≡ true
-is-self owners.Caller = refl
-is-self (owners.Value n) = self-number n.0
-is-self owners.List = refl
-is-self (owners.Load l) = self-number l.0
-is-self (owners.Worker v) = self-number v.0
-
 pub owned-mine : {w : Core} {me : Owner} {l : LoadNumber} {load : OpenLoad} → OwnsLoad w me l load → IsMine w me l
-owned-mine {me = me} o load is = ap (is_owner me) (ap (λ (x : OpenLoad). x.owner) (same_some _ _ (sym is ∙ o.stands_open)) ∙ o.own) ∙ is-self me
+owned-mine {me = me} o load is = ap (is_owner me) (ap (λ (x : OpenLoad). x.owner) (same_some _ _ (sym is ∙ o.stands_open)) ∙ o.own) ∙ own-self me
 
 pub unfaulty-mine : (w : Core) (me : Owner) (l : LoadNumber) → load_fault w me l ≡ None → IsMine w me l
 unfaulty-mine w me l none load is = first_of (grind (arith, common_steps, nat_tests), search (rules))
@@ -80,7 +50,8 @@ like {w = w} a loads last workers = after (over (same w) loads last workers) a
 pub fell : {me : Owner} {works : ℕ → Bool} {w before u w' : Core} {given : ℕ → Bool} {r : Result (Unit {0}) Error} → Leaves me works w u → Falls before u given r w' → Leaves me works w w'
 fell {u = u} f x = after (over {x = fallen u x.gone x.entries} f refl refl refl) x.leaves
 
-pub falls : {me : Owner} {w before u w' : Core} {given : ℕ → Bool} {r : Result (Unit {0}) Error} → Falls before u given r w' → u.loads ≡ w.loads → u.last.load ≡ w.last.load → u.workers ≡ w.workers → Leaves me w.workers w w'
+pub falls : {me : Owner} {w before u w' : Core} {given : ℕ → Bool} {r : Result (Unit {0}) Error} → Falls before u given r w' → u.loads ≡ w.loads → u.last.load ≡ w.last.load → u.workers ≡ w.workers
+    → Leaves me w.workers w w'
 falls {w = w} x loads last workers = fell (over (same w) loads last workers) x
 
 -- a node that a load makes, or a cell
@@ -157,7 +128,8 @@ module _ (w w' : Core) (me : Owner) where
   asked (wants.Nested kind key) (Ok (from_store b)) c = like c.gives.2.1.asked.leaves refl refl refl
   asked (wants.Nested kind key) (Err e) c = elim c.refused [ inl refused ↦ like refused.stays refl refl refl | inr (load, owns, f) ↦ like f.1.asked.leaves refl refl refl ]
 
-  was-adopted : {N : Type 0} {l : LoadNumber} {kind : Kind} {key : ℕ} {x : N} {t : ℕ} {rs : List ArcRef} (r : Result HandleNumber (Error × N)) → AdoptCall w me l kind key x t rs r w' → Leaves me w.workers w w'
+  was-adopted : {N : Type 0} {l : LoadNumber} {kind : Kind} {key : ℕ} {x : N} {t : ℕ} {rs : List ArcRef} (r : Result HandleNumber (Error × N)) → AdoptCall w me l kind key x t rs r w'
+      → Leaves me w.workers w w'
   was-adopted {l = l} {kind} {key} {rs = rs} (Ok k) c =
       elim c.adopts.makes [ inl (n, is, f) ↦ falls f.falls refl refl refl | inr (none, few, a) ↦ after (known w l kind key (first_key kind.0 key) rs) a ]
   was-adopted (Err e) c = like c.refused.1.stays refl refl refl

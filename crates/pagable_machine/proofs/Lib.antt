@@ -1,3 +1,4 @@
+mod Words
 pub mod Leaving
 pub mod Passing
 pub mod Working

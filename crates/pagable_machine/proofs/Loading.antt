@@ -1,44 +1,21 @@
 -- A load's step, and why it is refused.
-use Rattle.std.proofs.lemmas.Bool.Decides.{nat_tests}
-use Rattle.std.proofs.lemmas.Grind.{common_steps}
-use Rattle.std.proofs.Common.{rules}
-use Rattle.std.proofs.Common.{◌≡◌, ℕ, Bool, true, false, List, [], Option, Some, None, Ok, Err, inl, inr, refl, sym, ap, subst, ◌∙◌, arith}
-use Rattle.std.specs.Prelude.{Result, is_none, is_some, not}
-use Rattle.std.specs.Option.{option_map}
+use Rattle.pagable_machine.proofs.Words.{owner-owns, still, nat_tests, common_steps, rules, ◌≡◌, ℕ, Bool, true, false, List, [], Option, Some, None, Ok, Err, inl, inr, refl, sym, ap, subst, ◌∙◌}
+use Rattle.pagable_machine.proofs.Words.{arith, Result, is_none, is_some, not, option_map, LoadAnswer, Error, LoadNumber, LoadReply, if_there, or_else, updated, is_owner, Frame, OpenLoad, Reading}
+use Rattle.pagable_machine.proofs.Words.{Root, of_cell, of_key, Seen, one_more, OwnsLoad, earlier, load_fault, refused_if, DropCall, LoadCloses, gone_on, fresh, reading_after, reading_at}
+use Rattle.pagable_machine.proofs.Words.{reading_of_root, step_fault, FitsRoot, Moves, PagerState, WellFormed, world_of, ReadingStep, same_some, IsLoadOf, is_cell, reading_of, type_of_root}
+use Rattle.pagable_machine.proofs.Words.{Ghosts, Holding, IsKept, IsSameLoad, IsServing, IsTaken, KeepsOne, Kept, Makes, ReadsFor, Stepped, machine_of, readings_in, rest_after}
+use Rattle.pagable_loads.specs.declared.reading.Reading.{Reading as Own}
+use Rattle.pagable_machine.proofs.Keeping.{KeepsAll, are-these, as-before, at-one, kept-on, one-or-old, quiet, refuses, same-work, stays}
+use Rattle.pagable_machine.proofs.Leaving.{IsMine, owned-mine, step-leaves}
 use Rattle.pagable_model.specs.declared.error.Error.TheVariants as errors
 use Rattle.pagable_world.specs.declared.handles.Owner.TheVariants as owners
-use Rattle.pagable_world.specs.declared.events.LoadAnswer.{LoadAnswer}
 use Rattle.pagable_world.specs.declared.events.LoadAnswer.TheVariants as ends
 use Rattle.pagable_world.specs.declared.events.Event.TheVariants as events
 use Rattle.pagable_world.specs.declared.events.EventReply.TheVariants as answers
-use Rattle.pagable_model.specs.declared.error.Error.{Error}
-use Rattle.pagable_model.specs.declared.numbers.LoadNumber.{LoadNumber}
-use Rattle.pagable_world.specs.declared.events.LoadReply.{LoadReply}
-use Rattle.pagable_world.specs.Plain.{if_there, or_else, updated}
-use Rattle.pagable_world.specs.Kinds.{is_owner}
-use Rattle.pagable_world.specs.World.{Core, Frame, OpenLoad, Reading, Root, of_cell, of_key, Seen, one_more}
-use Rattle.pagable_world.specs.Refusals.{OwnsLoad, earlier, load_fault, refused_if}
-use Rattle.pagable_world.specs.LoadCalls.{DropCall, LoadCloses}
-use Rattle.pagable_world.specs.Loads.{gone_on}
-use Rattle.pagable_world.specs.Workers.{fresh}
-use Rattle.pagable_world.specs.Events.{reading_after, reading_at, reading_of_root, step_fault}
-use Rattle.pagable_world.specs.Pager.{FitsRoot, Moves, PagerState, WellFormed, world_of}
-use Rattle.pagable_world.specs.Access.{ReadingStep}
-use Rattle.pagable_laws.proofs.Trees.{same_some}
-use Rattle.pagable_loads.specs.declared.reading.Reading.{Reading as Own}
-use Rattle.pagable_loads.specs.Frames.{IsLoadOf, is_cell, reading_of}
-use Rattle.pagable_pager.specs.Opened.{type_of_root}
-use Rattle.pagable_walk.specs.declared.results.Trees.{Ghosts}
-use Rattle.pagable_machine.specs.Keeping.{Holding, IsKept, IsSameLoad, IsServing, IsTaken, KeepsOne, Kept, Makes, ReadsFor, Stepped, machine_of, readings_in, rest_after}
-use Rattle.pagable_machine.proofs.Keeping.{KeepsAll, alike-self, are-these, as-before, at-one, kept-on, one-or-old, quiet, refuses, same-work, stays}
-use Rattle.pagable_machine.proofs.Leaving.{IsMine, owned-mine, step-leaves}
 
 fits : (root : Root) (a b : Reading) → b.node_type ≡ a.node_type → FitsRoot root a → FitsRoot root b
 fits (of_cell node t h) a b same fit = same ∙ fit
 fits of_key a b same fit = tt
-
-usable : (w : Core) (l : LoadNumber) (load : OpenLoad) → OwnsLoad w owners.Caller l load → load_fault w owners.Caller l ≡ None
-usable w l load o = first_of (grind (arith, common_steps, nat_tests), search (rules))
 
 module _ {X : Type 0} {g : Ghosts X} {N E : Type 0} (s : PagerState N E) (h : Holding g) (l : LoadNumber) (load : OpenLoad) (o : OwnsLoad s.core owners.Caller l load) where
   at-found : (own : Option Own) → h.readings l.0 ≡ own → reading_at (world_of (machine_of s h)) l ≡ or_else (option_map reading_of own) (reading_of_root l load.root)
@@ -64,7 +41,8 @@ still-reads {load} {own} {now} reads e =
 
 module _ {X : Type 0} {g : Ghosts X} {N E : Type 0} (s : PagerState N E) {h : Holding g} (serving : IsServing s.core h) where
   -- what is taken is of the load
-  reads-taken : (l : LoadNumber) (load : OpenLoad) (key : ℕ) (t : Option ℕ) (own : Own) → OwnsLoad s.core owners.Caller l load → load.key ≡ key → type_of_root load.root ≡ t → IsTaken h.readings l key t own
+  reads-taken : (l : LoadNumber) (load : OpenLoad) (key : ℕ) (t : Option ℕ) (own : Own) → OwnsLoad s.core owners.Caller l load → load.key ≡ key → type_of_root load.root ≡ t
+      → IsTaken h.readings l key t own
       → (own.load ≡ l) × ReadsFor load own × (reading_at (world_of (machine_of s h)) l ≡ Some (reading_of own))
   reads-taken l load key t own o key_is root taken = elim taken.why [
     | inl there ↦ let k = serving.readings l.0 own there in (ap (λ n. record { 0 = n }) k.number, k.reads load o.stands_open, at-kept s h l load o own there)
@@ -82,7 +60,8 @@ module _ {X : Type 0} {g : Ghosts X} {N E : Type 0} (s : PagerState N E) {h : Ho
       of_root of_key type is = absurd (cc)
 
 -- a load of a key that a call began
-pub never-typed : {X : Type 0} {g : Ghosts X} {N E : Type 0} (s : PagerState N E) (h : Holding g) (l : LoadNumber) (load : OpenLoad) → OwnsLoad s.core owners.Caller l load → h.readings l.0 ≡ None → type_of_root load.root ≡ None
+pub never-typed : {X : Type 0} {g : Ghosts X} {N E : Type 0} (s : PagerState N E) (h : Holding g) (l : LoadNumber) (load : OpenLoad) → OwnsLoad s.core owners.Caller l load → h.readings l.0 ≡ None
+    → type_of_root load.root ≡ None
     → step_fault (world_of (machine_of s h)) l ≡ Some errors.WrongMode
 never-typed s h l load o none untyped = first_of (grind (arith, common_steps, nat_tests), search (rules))
 
@@ -115,12 +94,13 @@ module _ {X : Type 0} {g : Ghosts X} {N B W E : Type 0} (m : Seen N B W) (s s' :
         moves = record {
           reading = reading;
           frames = frames;
-          may = usable s.core l load o;
+          may = owner-owns o;
           at = at;
           does = step.does;
           counts = counts;
           readings = are-these s'.core kept' (updated l.0 (reading_after reply.ended reading frames) (readings_in h.readings s.core))
-              (λ q open_load is_open. at-one reading_of l.0 x (reading_after reply.ended reading frames) (readings_in h.readings s.core) keeps goes q (as-before serving.readings on q open_load is_open));
+              (λ q open_load is_open. at-one reading_of l.0 x (reading_after reply.ended reading frames) (readings_in h.readings s.core) keeps goes q
+              (as-before serving.readings on q open_load is_open));
           work = same-work m s s' h kept' serving was step.whole;
         };
         refused = tt;
@@ -170,7 +150,7 @@ module _ {X : Type 0} {g : Ghosts X} {N B W E : Type 0} (m : Seen N B W) (s s' :
   no-place l load type told o root none drop moves formed as_was =
       steps l load (fresh l type) None (record { ended = Some (ends.Refused errors.OutOfMemory); steps = 1 }) [] o (at-found s h l load o None none ∙ root-is load.root root)
       (record {
-        does = record { does = (inl (record { mid = s.core; meets = inl (inr (inr refl), alike-self s.core); told = told; closes = closes }), refl) };
+        does = record { does = (inl (record { mid = s.core; meets = inl (inr (inr refl), still s.core); told = told; closes = closes }), refl) };
         moves = record { each = λ n x is. elim (moves.each n x is) [ inl there ↦ inl there | inr came ↦ absurd came.1 ]; environment = moves.environment };
         whole = formed;
       }) refl (owned-mine o) (record { here = as_was l.0 ∙ none; others = λ q other. as_was q }) refl (λ now is. absurd (cc))
@@ -180,7 +160,7 @@ module _ {X : Type 0} {g : Ghosts X} {N B W E : Type 0} (m : Seen N B W) (s s' :
       root-is of_key is = absurd (cc)
 
       closes : LoadCloses s.core l told s'.core
-      closes = elim drop.does [ inl r ↦ absurd (let f : None ≡ Some r.e = sym (usable s.core l load o) ∙ r.why in cc) | inr (other, owned, c) ↦ c ]
+      closes = elim drop.does [ inl r ↦ absurd (let f : None ≡ Some r.e = sym (owner-owns o) ∙ r.why in cc) | inr (other, owned, c) ↦ c ]
 
 -- a load that can't be looked at can't step
 fault-first : (found : Option OpenLoad) (b : Bool) (e : Error)
@@ -190,13 +170,15 @@ fault-first None true e is = is
 fault-first None false e is = is
 fault-first (Some load) b e is = first_of (grind (arith, common_steps, nat_tests), search (rules))
 
-pub faulty : {X : Type 0} {g : Ghosts X} {N E : Type 0} (s : PagerState N E) (h : Holding g) (l : LoadNumber) (e : Error) → load_fault s.core owners.Caller l ≡ Some e → step_fault (world_of (machine_of s h)) l ≡ Some e
+pub faulty : {X : Type 0} {g : Ghosts X} {N E : Type 0} (s : PagerState N E) (h : Holding g) (l : LoadNumber) (e : Error) → load_fault s.core owners.Caller l ≡ Some e
+    → step_fault (world_of (machine_of s h)) l ≡ Some e
 faulty s h l e is = fault-first (s.core.loads l.0) (is_none (reading_at (world_of (machine_of s h)) l)) e is
 
 -- a load's step is refused
-pub refuses-step : {X : Type 0} {g : Ghosts X} {N B W E : Type 0} (m : Seen N B W) (s : PagerState N E) (h : Holding g) {kept' : Kept} → IsServing s.core h → WellFormed m.values s → (l : LoadNumber) (e : Error)
+pub refuses-step : {X : Type 0} {g : Ghosts X} {N B W E : Type 0} (m : Seen N B W) (s : PagerState N E) (h : Holding g) {kept' : Kept} → IsServing s.core h → WellFormed m.values s
+    → (l : LoadNumber) (e : Error)
     → ((q : ℕ) → kept' q ≡ h.readings q) → step_fault (world_of (machine_of s h)) l ≡ Some e → Makes m s h (events.LoadStep l) (answers.LoadMoved (Err e)) s (record h { readings = kept' })
 refuses-step m s h {kept'} serving was l e as_was why =
     let keeps : KeepsAll h (record h { readings = kept' }) = record { readings = as_was; tables = refl; walks = λ v. refl } in
-    refuses m s s serving was was (alike-self s.core) keeps (events.LoadStep l) (answers.LoadMoved (Err e)) (λ v. refl)
-    (record { moves = tt; refused = (why, stays m s s serving was was (alike-self s.core) keeps) }) (record { each = λ n x is. inl is; environment = refl }) tt
+    refuses m s s serving was was (still s.core) keeps (events.LoadStep l) (answers.LoadMoved (Err e)) (λ v. refl)
+    (record { moves = tt; refused = (why, stays m s s serving was was (still s.core) keeps) }) (record { each = λ n x is. inl is; environment = refl }) tt

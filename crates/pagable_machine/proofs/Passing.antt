@@ -1,30 +1,13 @@
 -- What an event leaves to a worker that doesn't make it: its handles and its open loads, and that what a handle stands for goes on to be so.
-use Rattle.std.proofs.Common.{◌≡◌, ℕ, ◌<◌, ◌≤◌, ◌&&◌, Bool, true, false, [], Some, inl, inr, refl, sym, ap, ◌∙◌, arith}
-use Rattle.std.specs.Prelude.{Result, nat_lt}
-use Rattle.std.proofs.lemmas.Bool.{and_parts}
-use Rattle.std.proofs.lemmas.Bool.Decides.{nat_tests}
+use Rattle.pagable_machine.proofs.Words.{◌≡◌, ℕ, ◌<◌, ◌≤◌, ◌&&◌, Bool, true, false, [], Some, inl, inr, refl, sym, ap, ◌∙◌, arith, Result, nat_lt, and_parts, nat_tests, Event, EventReply}
+use Rattle.pagable_machine.proofs.Words.{HandleRow, one, is_handle, is_owned_by, is_owner, owner_worker, Cell, Core, OpenLoad, Seen, World, CloseCall, is_listed, shut, Happens, step_of, IsWhole}
+use Rattle.pagable_machine.proofs.Words.{OwnersAreThere, Change, nothing_felt, event-goes, Goes, RowsGo, fell-anyhow, quiet-goes, Stands, Free, Spares, then-fell, event-spares, counted, one-true}
+use Rattle.pagable_machine.proofs.Words.{same-number, worker-apart}
 use Rattle.pagable_world.specs.declared.calls.Call.TheVariants as calls
 use Rattle.pagable_world.specs.declared.calls.Reply.TheVariants as replies
-use Rattle.pagable_world.specs.declared.events.Event.{Event}
 use Rattle.pagable_world.specs.declared.events.Event.TheVariants as events
-use Rattle.pagable_world.specs.declared.events.EventReply.{EventReply}
 use Rattle.pagable_world.specs.declared.events.EventReply.TheVariants as answers
-use Rattle.pagable_world.specs.declared.handles.HandleRow.{HandleRow}
 use Rattle.pagable_world.specs.declared.handles.Owner.TheVariants as owners
-use Rattle.pagable_world.specs.Plain.{one}
-use Rattle.pagable_world.specs.Kinds.{is_handle, is_owned_by, is_owner, owner_worker}
-use Rattle.pagable_world.specs.World.{Cell, Core, OpenLoad, Seen, World}
-use Rattle.pagable_world.specs.Calls.{CloseCall, is_listed, shut}
-use Rattle.pagable_world.specs.Events.{Happens}
-use Rattle.pagable_world.specs.Order.{step_of}
-use Rattle.pagable_world.specs.Pager.{IsWhole, OwnersAreThere}
-use Rattle.pagable_laws.specs.TreeSteps.{Change, nothing_felt}
-use Rattle.pagable_laws.proofs.EventSteps.{event-goes}
-use Rattle.pagable_laws.proofs.Goes.{Goes, RowsGo, fell-anyhow, quiet-goes}
-use Rattle.pagable_laws.proofs.Outlasting.{Stands}
-use Rattle.pagable_laws.proofs.Sparing.{Free, Spares, then-fell, worker-apart}
-use Rattle.pagable_laws.proofs.SparingSteps.{event-spares}
-use Rattle.pagable_laws.proofs.Sums.{counted, one-true, same-number}
 
 -- the worker's handles and open loads are as they were, and handles and nodes that are there stay what they are
 pub record Passes (v : ℕ) (w w' : Core) : Type 0 where
@@ -69,11 +52,13 @@ list-free v w there = record { each = λ q row own s. by q row own s (is_listed 
 -- the storage is closed
 close-passes : (v : ℕ) (w w' : Core) {r : Result (Unit {0}) _} → OwnersAreThere w → CloseCall w r w' → LoadsStay v w w' → Passes v w w'
 close-passes v w w' there c loads =
-    let x = by-goes v (shut w w'.failures) w' (quiet-goes nothing_felt (fell-anyhow c.falls)) (then-fell (owner_worker v) (worker-apart v) c.falls.falls (record { each = λ q row own s. s }) (record { each = (list-free v w there).each })) loads in
+    let x = by-goes v (shut w w'.failures) w' (quiet-goes nothing_felt (fell-anyhow c.falls))
+    (then-fell (owner_worker v) (worker-apart v) c.falls.falls (record { each = λ q row own s. s }) (record { each = (list-free v w there).each })) loads in
     record { spares = record { each = x.spares.each }; loads = loads; nodes = x.nodes; handles = x.handles; rows = x.rows; cells = x.cells }
 
 -- each event of another's
-pub event-passes : {N B W : Type 0} (m : Seen N B W) (v : ℕ) (u u' : World) → IsWhole u.core → (event : Event N B W) (reply : EventReply N B W) → step_of v event reply ≡ [] → Happens m u event reply u'
+pub event-passes : {N B W : Type 0} (m : Seen N B W) (v : ℕ) (u u' : World) → IsWhole u.core → (event : Event N B W) (reply : EventReply N B W) → step_of v event reply ≡ []
+    → Happens m u event reply u'
     → LoadsStay v u.core u'.core → Passes v u.core u'.core
 event-passes m v u u' whole (events.Call calls.Close) (answers.CallReply (replies.Done r)) others h loads = close-passes v u.core u'.core whole.owners_there h.step.does loads
 event-passes m v u u' whole (events.Call calls.Close) (answers.CallReply reply) others h loads = absurd h.step.does

@@ -1,17 +1,8 @@
 -- A run goes on by one event more, and the headline holds of it after whatever came before.
-use Rattle.std.proofs.Common.{◌≡◌, List, [], ◌∷◌, ◌++◌, length, map, refl, ap, sym, ◌∙◌, subst}
-use Rattle.std.proofs.lemmas.List.{append-nil, append_assoc, map-append}
-use Rattle.pagable_world.specs.declared.events.Event.{Event}
-use Rattle.pagable_world.specs.declared.events.EventReply.{EventReply}
-use Rattle.pagable_world.specs.World.{Seen}
-use Rattle.pagable_world.specs.Pager.{MachineState}
-use Rattle.pagable_world.specs.Runs.{Moment, Does, AreMoments, HasRun, state_after}
-use Rattle.pagable_laws.proofs.Arriving.{headline_law}
-use Rattle.pagable_pager.specs.View.{Telling, Spelling, values_of}
-use Rattle.pagable_walk.specs.declared.results.Trees.{Ghosts}
-use Rattle.pagable_walk.specs.Turns.{plain}
-use Rattle.pagable_machine.specs.Serving.{plain_answer, plain_event}
-use Rattle.pagable_machine.specs.Driving.{Answer, Drives, Given, IsInStep, MachineView, Over, Runs, machine_in, view_of}
+use Rattle.pagable_machine.proofs.Words.{◌≡◌, List, [], ◌∷◌, ◌++◌, length, map, refl, ap, sym, ◌∙◌, subst, append-nil, append_assoc, map-append, Event, EventReply, Seen, MachineState, Moment}
+use Rattle.pagable_machine.proofs.Words.{AreMoments, HasRun, state_after, headline_law, Telling, Spelling, values_of, Ghosts, plain, plain_answer, plain_event, Answer, Drives, Given, IsInStep}
+use Rattle.pagable_machine.proofs.Words.{MachineView, Over, Runs, machine_in, view_of}
+use Rattle.pagable_world.specs.Runs.{Does}
 use Rattle.pagable_machine.proofs.Seeing.{raw_in, view-is}
 
 module _ {N E B W : Type 0} (m : Seen N B W) where

@@ -1,28 +1,12 @@
 -- What the machine's value shows of tables and workers is what it keeps of them.
-use Rattle.std.proofs.Common.{◌≡◌, ℕ, zero, suc, List, Option, Some, None, refl, ap, ◌∙◌, length, map}
-use Rattle.std.specs.Prelude.{slice_get, nat_eq}
-use Rattle.std.specs.Map.{lookup}
-use Rattle.std.proofs.Math.Path.{fun_ext}
-use Rattle.std.proofs.lemmas.List.{length-map}
-use Rattle.std.proofs.lemmas.Map.Made.{lookup-map_values}
-use Rattle.std.proofs.lemmas.Option.{slice_get-map}
-use Rattle.std.specs.Option.{option_map}
-use Rattle.pagable_world.specs.Plain.{if_there}
-use Rattle.pagable_world.specs.World.{Shelf, Walking}
-use Rattle.pagable_world.specs.Events.{no_shelf}
-use Rattle.pagable_world.specs.Pager.{MachineState}
-use Rattle.pagable_pager.specs.View.{Telling, core_in, state_in}
-use Rattle.pagable_walk.specs.declared.results.Trees.{Ghosts}
-use Rattle.pagable_walk.specs.declared.table.SlotTable.{SlotTable}
-use Rattle.pagable_walk.specs.Slots.{is_same, slot_of}
-use Rattle.pagable_walk.specs.Table.{shelf_of}
-use Rattle.pagable_machine.specs.Keeping.{machine_of, readings_in}
-use Rattle.pagable_machine.specs.Walking.{shelf_at, walking_of}
-use Rattle.pagable_machine.specs.Driving.{Over, claims_at, claims_of, holding, kept_at, machine_in, table_view, view_of}
+use Rattle.pagable_machine.proofs.Words.{◌≡◌, ℕ, zero, suc, List, Option, Some, None, refl, ap, ◌∙◌, length, map, slice_get, nat_eq, lookup, fun_ext, length-map, lookup-map_values, slice_get-map}
+use Rattle.pagable_machine.proofs.Words.{option_map, if_there, Shelf, Walking, no_shelf, MachineState, Telling, core_in, state_in, Ghosts, SlotTable, is_same, slot_of, shelf_of, machine_of}
+use Rattle.pagable_machine.proofs.Words.{readings_in, shelf_at, walking_of, Over, claims_at, claims_of, holding, kept_at, machine_in, table_view, view_of}
 
 module _ {X : Type 0} {g : Ghosts X} where
   claims-are : (t : SlotTable X g) → claims_of (table_view t) ≡ shelf_of t
-  claims-are t = ap (λ slots. let s : Shelf = record { slots = slots; waits = λ v. lookup (nat_eq v) t.waits.entries } in s) (fun_ext (λ i. lookup-map_values slot_of (is_same (i.kind.0, i.node.0)) t.slots.entries))
+  claims-are t = ap (λ slots. let s : Shelf = record { slots = slots; waits = λ v. lookup (nat_eq v) t.waits.entries } in s)
+      (fun_ext (λ i. lookup-map_values slot_of (is_same (i.kind.0, i.node.0)) t.slots.entries))
 
   shelves-are : (tables : List (SlotTable X g)) (t : ℕ) → claims_at (map table_view tables) t ≡ shelf_at tables t
   shelves-are tables zero = refl
@@ -39,10 +23,15 @@ module _ {X : Type 0} {g : Ghosts X} where
 
     pub view-is : machine_in tells (view_of s.pager s.held) ≡ raw_in
     view-is =
-        ap (λ shelves. with-work shelves (length (map table_view s.held.tables.items)) (λ v. lookup (nat_eq v) (map (λ (e : _). (e.0, walking_of e.1)) s.held.walks.entries))) (fun_ext (shelves-are s.held.tables.items))
+        ap (λ shelves. with-work shelves (length (map table_view s.held.tables.items)) (λ v. lookup (nat_eq v) (map (λ (e : _). (e.0, walking_of e.1)) s.held.walks.entries)))
+        (fun_ext (shelves-are s.held.tables.items))
         ∙ ap (λ last. with-work (shelf_at s.held.tables.items) last (λ v. lookup (nat_eq v) (map (λ (e : _). (e.0, walking_of e.1)) s.held.walks.entries))) (length-map s.held.tables.items table_view)
         ∙ ap (with-work (shelf_at s.held.tables.items) (length s.held.tables.items)) (fun_ext (λ v. lookup-map_values walking_of (nat_eq v) s.held.walks.entries))
       where
         with-work : (ℕ → Shelf) → ℕ → (ℕ → Option Walking) → MachineState N E
         with-work shelves last walkings =
-            record { pager = state_in tells s.pager; work = record { shelves = shelves; last_table = last; readings = readings_in (kept_at s.held.readings) (core_in tells s.pager); walkings = walkings } }
+            record {
+              pager = state_in tells s.pager;
+              work =
+                  record { shelves = shelves; last_table = last; readings = readings_in (kept_at s.held.readings) (core_in tells s.pager); walkings = walkings };
+            }

@@ -1,44 +1,17 @@
 -- A worker's step.
-use Rattle.std.proofs.lemmas.Bool.Decides.{nat_tests}
-use Rattle.std.proofs.lemmas.Grind.{common_steps}
-use Rattle.std.proofs.Common.{rules}
-use Rattle.std.proofs.Common.{◌≡◌, ◌≢◌, ℕ, zero, suc, ◌<◌, ◌≤◌, ◌==◌, Bool, true, false, List, [], ◌∷◌, Option, Some, None, Ok, inl, inr, if◌then◌else◌, refl, sym, ap, subst, ◌∙◌, length, arith}
-use Rattle.std.specs.Prelude.{is_none, is_some}
-use Rattle.std.specs.Option.{option_map}
-use Rattle.std.specs.declared.sync.Arc.{Arc}
-use Rattle.std.specs.declared.alloc.Global.{Global}
-use Rattle.pagable_core.specs.declared.context.writing.SerializedData.{SerializedData}
-use Rattle.pagable_model.specs.declared.numbers.WorkerNumber.{WorkerNumber}
+use Rattle.pagable_machine.proofs.Words.{nat_tests, common_steps, rules, ◌≡◌, ◌≢◌, ℕ, zero, suc, ◌≤◌, ◌==◌, Bool, true, false, List, [], ◌∷◌, Option, Some, None, Ok, inl, inr, if◌then◌else◌, refl}
+use Rattle.pagable_machine.proofs.Words.{sym, ap, subst, ◌∙◌, length, arith, is_none, is_some, option_map, Arc, Global, SerializedData, WorkerNumber, Took, WorkerAnswer, WorkerReply, Blob}
+use Rattle.pagable_machine.proofs.Words.{if_there, updated, is_owner, owner_worker, Core, SameShelf, Seen, Shelf, Todo, Values, Written, Site, WalkDoes, answer_after, is_counted, Ends, Happens}
+use Rattle.pagable_machine.proofs.Words.{WorkerSteps, no_shelf, steps_after, PagerState, TodoBrings, WellFormed, world_of, same-number, Ghosts, SlotTable, Task, Turn, Waiting, shelf_of, todo_of}
+use Rattle.pagable_machine.proofs.Words.{todos, LeavesFit, TaskFits, answer_in, plain, plain_took, plan, Walk, Holding, IsServing, KeepsOne, Makes, machine_of, readings_in, plain_moved}
+use Rattle.pagable_machine.proofs.Words.{IsWalkKept, SetsTable, WalksOn, shelf_at, task_in, todo_left, walking_of}
+use Rattle.pagable_walk.specs.Turns.{Stepped}
+use Rattle.pagable_machine.proofs.Keeping.{are-these, as-before, at-one, kept-on, makes-with, not-same, one-serves, updated-at}
+use Rattle.pagable_machine.proofs.{Leaving.Leaves, Leaving.owned-mine, Passing.Passes, Passing.event-passes, Working.FrontMine, Working.end-leaves, Working.walk-leaves, Working.works_after}
 use Rattle.pagable_world.specs.declared.events.Event.TheVariants as events
 use Rattle.pagable_world.specs.declared.events.EventReply.TheVariants as answers
-use Rattle.pagable_world.specs.declared.events.Took.{Took}
-use Rattle.pagable_world.specs.declared.events.WorkerAnswer.{WorkerAnswer}
-use Rattle.pagable_world.specs.declared.events.WorkerReply.{WorkerReply}
-use Rattle.pagable_world.specs.Plain.{Blob, if_there, updated}
-use Rattle.pagable_world.specs.Kinds.{is_owner, owner_worker}
-use Rattle.pagable_world.specs.World.{Core, SameShelf, Seen, Shelf, Todo, Values, Written}
-use Rattle.pagable_world.specs.Workers.{Site, WalkDoes, answer_after, is_counted}
-use Rattle.pagable_world.specs.Events.{Ends, Happens, WorkerSteps, no_shelf, steps_after}
-use Rattle.pagable_world.specs.Pager.{PagerState, TodoBrings, WellFormed, world_of}
-use Rattle.pagable_laws.proofs.Sums.{same-number}
-use Rattle.pagable_walk.specs.declared.results.Trees.{Ghosts}
-use Rattle.pagable_walk.specs.declared.table.SlotTable.{SlotTable}
-use Rattle.pagable_walk.specs.declared.tasks.Task.{Task}
 use Rattle.pagable_walk.specs.declared.tasks.Task.TheVariants as tasks
-use Rattle.pagable_walk.specs.declared.tasks.Turn.{Turn}
 use Rattle.pagable_walk.specs.declared.tasks.Turn.TheVariants as comes
-use Rattle.pagable_walk.specs.declared.tasks.Waiting.{Waiting}
-use Rattle.pagable_walk.specs.Table.{shelf_of}
-use Rattle.pagable_walk.specs.Tasks.{IsWay, todo_of, todos}
-use Rattle.pagable_walk.specs.Turns.{LeavesFit, Stepped, TaskFits, answer_in, plain, plain_took, plan}
-use Rattle.pagable_machine.specs.declared.held.Walk.{Walk}
-use Rattle.pagable_machine.specs.Keeping.{Holding, IsServing, KeepsOne, Makes, machine_of, readings_in}
-use Rattle.pagable_machine.specs.Serving.{plain_moved}
-use Rattle.pagable_machine.specs.Walking.{IsWalkKept, SetsTable, WalksOn, shelf_at, task_in, todo_left, walking_of}
-use Rattle.pagable_machine.proofs.Keeping.{are-these, as-before, at-one, kept-on, makes-with, not-same, one-serves, updated-at}
-use Rattle.pagable_machine.proofs.Leaving.{Leaves, owned-mine}
-use Rattle.pagable_machine.proofs.Passing.{Passes, event-passes}
-use Rattle.pagable_machine.proofs.Working.{FrontMine, end-leaves, walk-leaves, works_after}
 
 -- the load that it goes on with is its own
 front-mine : {X : Type 0} {g : Ghosts X} (n : ℕ) (w : Core) (task : Task X g) (below : List Todo) → TaskFits n w task → FrontMine w (owner_worker n) (todo_of task ∷ below)
@@ -63,7 +36,8 @@ module _ {X : Type 0} {g : Ghosts X} where
   shelf-set : (tables tables' : List (SlotTable X g)) (place : ℕ) (table : SlotTable X g) (after : Shelf) → SetsTable tables place table tables' → SameShelf after (shelf_of table) → (t : ℕ)
       → SameShelf (updated (suc place) after (shelf_at tables) t) (shelf_at tables' t)
   shelf-set tables tables' place table after sets same zero = first_of (grind (arith, common_steps, nat_tests), grind (arith, nat_tests, same-number), search (rules, same-number))
-  shelf-set tables tables' place table after sets same (suc q) = first_of (grind (arith, common_steps, nat_tests), grind (arith, nat_tests, same-number, not-same), search (rules, same-number, not-same))
+  shelf-set tables tables' place table after sets same (suc q) =
+      first_of (grind (arith, common_steps, nat_tests), grind (arith, nat_tests, same-number, not-same), search (rules, same-number, not-same))
 
 apart : (q n : ℕ) → q ≢ n → (q == n) ≡ false
 apart q n other = first_of (grind (arith, common_steps, nat_tests), grind (arith, nat_tests, same-number), search (rules, same-number))
@@ -77,7 +51,8 @@ works-others : (answer : Option WorkerAnswer) (n q : ℕ) (works : ℕ → Bool)
 works-others None n q works other = refl
 works-others (Some answer) n q works other = ap (λ b. if b then false else works q) other
 
-module _ {X : Type 0} {g : Ghosts X} {N E : Type 0} (v : Values N) (s s' : PagerState N E) (h : Holding g) {tables' : List (SlotTable X g)} {walks' : ℕ → Option (Walk X g)} (serving : IsServing s.core h)
+module _ {X : Type 0} {g : Ghosts X} {N E : Type 0} (v : Values N) (s s' : PagerState N E) (h : Holding g) {tables' : List (SlotTable X g)} {walks' : ℕ → Option (Walk X g)}
+    (serving : IsServing s.core h)
     (was : WellFormed v s) (n : WorkerNumber) (k k' : Walk X g) (kept : h.walks n.0 ≡ Some k) (reply : WorkerReply (Arc SerializedData Global)) (on : WalksOn v n.0 h.tables k s reply tables' k' s')
     (keeps : KeepsOne h.walks n.0 (Some k') walks') where
   abbrev after : Holding g
@@ -111,11 +86,7 @@ module _ {X : Type 0} {g : Ghosts X} {N E : Type 0} (v : Values N) (s s' : Pager
   site = record { core = s.core; shelf = shelf_of on.table; todo = todo }
 
   unanswered : k.answer ≡ None
-  unanswered = by k.answer (sym mine.either ∙ ap is_some on.had)
-    where
-      by : (found : Option WorkerAnswer) → is_none found ≡ true → found ≡ None
-      by None is = refl
-      by (Some answer) is = absurd (cc)
+  unanswered = grind (arith, nat_tests, mine)
 
   ends : Ends (answer_in turn) n.0 done.does.after.core s'.core
   ends = subst (λ a. Ends a n.0 done.does.after.core s'.core) done.answers done.does.ends
@@ -167,21 +138,16 @@ module _ {X : Type 0} {g : Ghosts X} {N E : Type 0} (v : Values N) (s s' : Pager
   at-work = mine.at_work ∙ ap is_none unanswered
 
   still : IsWalkKept s'.core (length tables') n.0 k'
-  still =
-      record {
-        table = subst (λ t. (0 < t) × (t ≤ length tables')) (sym on.after.table) (mine.table.0, subst (λ last. k.table ≤ last) (sym on.sets.len) mine.table.1);
-        at_work = leaves.workers n.0 ∙ works-then turn n.0 s.core.workers at-work ∙ sym (ap is_none on.after.answer);
-        either = ap is_some on.after.task ∙ either-is turn ∙ sym (ap is_none on.after.answer);
-        way = subst IsWay (sym (ap (λ task. todo_left task k'.path.items) on.after.task ∙ left-is turn k'.path.items)) on.way;
-        fits = λ task is. fits-then n.0 s'.core turn task done.fits (sym on.after.task ∙ is);
-      }
+  still = grind (arith, nat_tests, at-work, done, either-is, fits, fits-then, leaves, left-is, mine, works-then)
 
   pub worker-moved : Makes m s h (events.WorkerStep n) (answers.WorkerMoved (Ok (plain_moved reply))) s' after
   worker-moved =
       rw on.replies (makes-with m s s' {h' = after} done.does.whole (events.WorkerStep n) (answers.WorkerMoved (Ok told)) happens
       (record {
-        each = λ q x is. elim (done.does.moves.each q x is) [ inl there ↦ inl there | inr (none, came) ↦ inr (none, (walking_of k, ap (option_map walking_of) kept, subst (λ (list : List Todo). TodoBrings v s.core list q x) (sym todo-is) came)) ];
+        each = λ q x is. elim (done.does.moves.each q x is)
+            [ inl there ↦ inl there | inr (none, came) ↦ inr (none, (walking_of k, ap (option_map walking_of) kept, subst (λ (list : List Todo). TodoBrings v s.core list q x) (sym todo-is) came)) ];
         environment = done.does.moves.environment;
       }) done.does.writes
-      (one-serves {h' = after} serving was.whole.handles n.0 k' keeps (subst (λ last. length h.tables ≤ last) (sym on.sets.len) (omega arith)) (kept-on serving.readings leaves (λ l own is. inl is)) passes
+      (one-serves {h' = after} serving was.whole.handles n.0 k' keeps (subst (λ last. length h.tables ≤ last) (sym on.sets.len) (omega arith))
+      (kept-on serving.readings leaves (λ l own is. inl is)) passes
       (λ q other. leaves.workers q ∙ works-others (answer_in turn) n.0 q s.core.workers (apart q n.0 other)) still))

@@ -1,26 +1,13 @@
 -- What each step of a worker leaves, its begin and its end among them.
-use Rattle.std.proofs.lemmas.Bool.Decides.{nat_tests}
-use Rattle.std.proofs.lemmas.Grind.{common_steps}
-use Rattle.std.proofs.Common.{rules}
-use Rattle.std.proofs.Common.{ℕ, ◌+◌, Bool, true, false, List, [], ◌∷◌, Option, Some, None, Ok, Err, inl, refl, arith}
-use Rattle.pagable_model.specs.declared.numbers.ArcRef.{ArcRef}
-use Rattle.pagable_model.specs.declared.numbers.HandleNumber.{HandleNumber}
-use Rattle.pagable_model.specs.declared.numbers.LoadNumber.{LoadNumber}
-use Rattle.pagable_model.specs.declared.numbers.WorkerNumber.{WorkerNumber}
-use Rattle.pagable_model.specs.declared.error.Error.{Error}
+use Rattle.pagable_machine.proofs.Words.{nat_tests, common_steps, rules, ℕ, ◌+◌, Bool, true, false, List, [], ◌∷◌, Option, Some, None, Ok, Err, inl, refl, arith, ArcRef, HandleNumber, LoadNumber}
+use Rattle.pagable_machine.proofs.Words.{WorkerNumber, Error, Took, WorkerAnswer, Owner, updated, owner_worker, Alike, Core, Seen, Todo, to_fail, to_finish, to_item, to_load, to_pin, to_publish}
+use Rattle.pagable_machine.proofs.Words.{to_release, to_set, to_start, to_write, GivesBack, PinRefused, PinsAtOnce, PinsByLoad, Site, Ends, with_entry_taken, with_worker}
+use Rattle.pagable_world.specs.Workers.{Does}
+use Rattle.pagable_machine.proofs.Leaving.{IsMine, Leaves, after, begun, falls, joined, key-set, like, over, scheduled, step-leaves, stored}
 use Rattle.pagable_world.specs.declared.events.Claim.TheVariants as claims
 use Rattle.pagable_world.specs.declared.events.LoadAnswer.TheVariants as ends
 use Rattle.pagable_world.specs.declared.events.PinStep.TheVariants as pinsteps
-use Rattle.pagable_world.specs.declared.events.Took.{Took}
 use Rattle.pagable_world.specs.declared.events.Took.TheVariants as took
-use Rattle.pagable_world.specs.declared.events.WorkerAnswer.{WorkerAnswer}
-use Rattle.pagable_world.specs.declared.handles.Owner.{Owner}
-use Rattle.pagable_world.specs.Plain.{updated}
-use Rattle.pagable_world.specs.Kinds.{owner_worker}
-use Rattle.pagable_world.specs.World.{Alike, Core, Seen, Todo, to_fail, to_finish, to_item, to_load, to_pin, to_publish, to_release, to_set, to_start, to_write}
-use Rattle.pagable_world.specs.Workers.{Does, GivesBack, PinRefused, PinsAtOnce, PinsByLoad, Site}
-use Rattle.pagable_world.specs.Events.{Ends, with_entry_taken, with_worker}
-use Rattle.pagable_machine.proofs.Leaving.{IsMine, Leaves, after, begun, falls, joined, key-set, like, over, scheduled, step-leaves, stored}
 
 -- the load that stands at the front is the worker's own
 abbrev pub FrontMine : Core → Owner → List Todo → Type 0
@@ -75,7 +62,8 @@ works_after None u works = works
 works_after (Some answer) u works = updated u false works
 
 -- its end
-pub end-leaves : {works : ℕ → Bool} {w m w' : Core} (answer : Option WorkerAnswer) (u : ℕ) → Leaves (owner_worker u) works w m → Ends answer u m w' → Leaves (owner_worker u) (works_after answer u works) w w'
+pub end-leaves : {works : ℕ → Bool} {w m w' : Core} (answer : Option WorkerAnswer) (u : ℕ) → Leaves (owner_worker u) works w m → Ends answer u m w'
+    → Leaves (owner_worker u) (works_after answer u works) w w'
 end-leaves None u f a = after f a
 end-leaves {works} {w} {m} {w'} (Some answer) u f e = first_of (grind (arith, common_steps, nat_tests), search (rules))
 
@@ -86,5 +74,6 @@ with-one w = record { loads = λ l load is. inl is; last = omega arith; workers 
 pub item-leaves : {me : Owner} {w w' : Core} → Alike (with_worker w) w' → Leaves me (updated (w.last.worker + 1) true w.workers) w w'
 item-leaves {w = w} a = after (with-one w) a
 
-pub entry-leaves : {me : Owner} {w w' : Core} (i : ℕ) (h : HandleNumber) (v : WorkerNumber) → Alike (with_worker (with_entry_taken w i h v)) w' → Leaves me (updated (w.last.worker + 1) true w.workers) w w'
+pub entry-leaves : {me : Owner} {w w' : Core} (i : ℕ) (h : HandleNumber) (v : WorkerNumber) → Alike (with_worker (with_entry_taken w i h v)) w'
+    → Leaves me (updated (w.last.worker + 1) true w.workers) w w'
 entry-leaves {w = w} i h v a = after (over {x = with_worker (with_entry_taken w i h v)} (with-one w) refl refl refl) a

@@ -1,29 +1,16 @@
 -- What a call does to a pager, by the definitions of the plain world. These see blobs as plain, so a call and its reply are seen so first.
-use Rattle.std.specs.Arc.{arc_value}
-use Rattle.std.specs.declared.sync.Arc.{Arc}
-use Rattle.std.specs.declared.alloc.Global.{Global}
-use Rattle.pagable_core.specs.Data.{blob_of}
-use Rattle.pagable_core.specs.declared.context.writing.SerializedData.{SerializedData}
-use Rattle.pagable_core.specs.declared.storage.data.PagableData.{PagableData}
-use Rattle.pagable_world.specs.Plain.{Blob}
-use Rattle.pagable_world.specs.declared.calls.Call.{Call}
-use Rattle.pagable_world.specs.declared.events.Event.{Event}
-use Rattle.pagable_world.specs.declared.events.EventReply.{EventReply}
+use Rattle.std.specs.{Arc.arc_value, declared.sync.Arc.Arc, declared.alloc.Global.Global}
+use Rattle.pagable_core.specs.{Data.blob_of, declared.context.writing.SerializedData.SerializedData, declared.storage.data.PagableData.PagableData}
+use Rattle.pagable_world.specs.{Plain.Blob, declared.calls.Call.Call, declared.events.Event.Event, declared.events.EventReply.EventReply, declared.calls.Found.Found, declared.calls.Reply.Reply}
+use Rattle.pagable_world.specs.{declared.events.WorkerReply.WorkerReply, World.Values, World.Written, World.seen_as, Events.CallStep, Pager.Moves, Pager.CallBrings}
+use Rattle.pagable_pager.specs.View.{PagerView, Telling, core_in, state_in}
+use Rattle.pagable_walk.specs.{Slots.written_of, Turns.plain, Turns.plain_took}
 use Rattle.pagable_world.specs.declared.events.Event.TheVariants as events
 use Rattle.pagable_world.specs.declared.events.EventReply.TheVariants as answers
-use Rattle.pagable_world.specs.declared.calls.Found.{Found}
-use Rattle.pagable_world.specs.declared.calls.Reply.{Reply}
 use Rattle.pagable_world.specs.declared.calls.Call.TheVariants as calls
 use Rattle.pagable_world.specs.declared.calls.Found.TheVariants as founds
 use Rattle.pagable_world.specs.declared.calls.Reply.TheVariants as replies
 use Rattle.pagable_world.specs.declared.handles.Owner.TheVariants as owners
-use Rattle.pagable_world.specs.declared.events.WorkerReply.{WorkerReply}
-use Rattle.pagable_world.specs.World.{Values, Written, seen_as}
-use Rattle.pagable_world.specs.Events.{CallStep}
-use Rattle.pagable_world.specs.Pager.{Moves, CallBrings}
-use Rattle.pagable_pager.specs.View.{PagerView, Telling, core_in, state_in}
-use Rattle.pagable_walk.specs.Slots.{written_of}
-use Rattle.pagable_walk.specs.Turns.{plain, plain_took}
 
 -- the call with its blob as plain
 abbrev pub plain_call : {N : Type 0} → Call N PagableData → Call N Blob

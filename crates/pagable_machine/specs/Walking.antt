@@ -1,31 +1,16 @@
 -- What a machine keeps of tables and workers, as the plain world knows it.
 use Rattle.std.specs.Prelude.{ℕ, ◌≡◌, ◌≢◌, ◌<◌, ◌≤◌, ◌∷◌, [], zero, suc, ◌&&◌, Bool, false, true, nat_le, nat_lt, List, length, Option, Some, None, is_none, is_some, slice_get}
-use Rattle.std.specs.Arc.{arc_value}
-use Rattle.std.specs.declared.alloc.Global.{Global}
-use Rattle.std.specs.declared.sync.Arc.{Arc}
+use Rattle.std.specs.{Arc.arc_value, declared.alloc.Global.Global, declared.sync.Arc.Arc}
 use Rattle.pagable_core.specs.declared.context.writing.SerializedData.{SerializedData}
-use Rattle.pagable_world.specs.declared.events.WorkerReply.{WorkerReply}
-use Rattle.pagable_world.specs.Plain.{if_there}
-use Rattle.pagable_world.specs.Kinds.{owner_worker}
-use Rattle.pagable_world.specs.Pager.{PagerState}
-use Rattle.pagable_world.specs.World.{Core, Shelf, Todo, Values, Walking, of_item, of_entry}
-use Rattle.pagable_world.specs.World as world
-use Rattle.pagable_world.specs.declared.events.TableNumber.{TableNumber}
-use Rattle.pagable_world.specs.Events.{new_walking, no_shelf, steps_after}
-use Rattle.pagable_walk.specs.declared.results.Trees.{Ghosts}
-use Rattle.pagable_walk.specs.declared.table.SlotTable.{SlotTable}
-use Rattle.pagable_walk.specs.declared.tasks.Moved.{Moved}
-use Rattle.pagable_walk.specs.declared.tasks.Task.{Task}
-use Rattle.pagable_walk.specs.declared.tasks.Turn.{Turn}
-use Rattle.pagable_walk.specs.declared.tasks.Turn.TheVariants as comes
-use Rattle.pagable_walk.specs.declared.tasks.Waiting.{Waiting}
-use Rattle.pagable_walk.specs.Slots.{written_of}
-use Rattle.pagable_walk.specs.Table.{shelf_of}
+use Rattle.pagable_world.specs.{declared.events.WorkerReply.WorkerReply, Plain.if_there, Kinds.owner_worker, Pager.PagerState, World.Core, World.Shelf, World.Todo, World.Values, World.Walking}
+use Rattle.pagable_world.specs.{World.of_item, World.of_entry, declared.events.TableNumber.TableNumber, Events.new_walking, Events.no_shelf, Events.steps_after}
 use Rattle.pagable_walk.specs.Tasks.{IsPlain, IsWay, todo_of, todos}
-use Rattle.pagable_walk.specs.Turns.{StepsTo, TaskFits, answer_in, plan}
-use Rattle.pagable_machine.specs.declared.held.Begun.{Begun}
+use Rattle.pagable_walk.specs.{declared.results.Trees.Ghosts, declared.table.SlotTable.SlotTable, declared.tasks.Moved.Moved, declared.tasks.Task.Task, declared.tasks.Turn.Turn}
+use Rattle.pagable_walk.specs.{declared.tasks.Waiting.Waiting, Slots.written_of, Table.shelf_of, Turns.StepsTo, Turns.TaskFits, Turns.answer_in, Turns.plan}
+use Rattle.pagable_machine.specs.{declared.held.Begun.Begun, declared.held.Walk.Walk}
+use Rattle.pagable_world.specs.World as world
+use Rattle.pagable_walk.specs.declared.tasks.Turn.TheVariants as comes
 use Rattle.pagable_machine.specs.declared.held.Begun.TheVariants as beguns
-use Rattle.pagable_machine.specs.declared.held.Walk.{Walk}
 
 abbrev pub task_of : Begun → world.Task
 task_of (beguns.Item item) = of_item (written_of (arc_value item))
@@ -78,7 +63,8 @@ module _ {X : Type 0} {g : Ghosts X} where
     pub others : (q : ℕ) → q ≢ place → slice_get tables' q ≡ slice_get tables q
 
   -- A worker that hasn't answered makes a step on its table.
-  pub record WalksOn {N E : Type 0} (v : Values N) (n : ℕ) (tables : List (SlotTable X g)) (k : Walk X g) (s : PagerState N E) (reply : WorkerReply (Arc SerializedData Global)) (tables' : List (SlotTable X g)) (k' : Walk X g)
+  pub record WalksOn {N E : Type 0} (v : Values N) (n : ℕ) (tables : List (SlotTable X g)) (k : Walk X g) (s : PagerState N E) (reply : WorkerReply (Arc SerializedData Global))
+      (tables' : List (SlotTable X g)) (k' : Walk X g)
       (s' : PagerState N E) : Type 0 where
     pub task : Task X g
     pub table : SlotTable X g

@@ -1,13 +1,12 @@
 //! Each call of the pager as the machine makes it: a step of the plain world, with a reply of the call's type.
 
 ghost use Rattle.std.specs.Prelude.{◌≡◌};
-ghost use Rattle.pagable_world.specs.declared.calls.Call.TheVariants as calls;
-ghost use Rattle.pagable_world.specs.declared.calls.Reply.TheVariants as replies;
-ghost use Rattle.pagable_world.specs.Events.{given_of};
-ghost use Rattle.pagable_world.specs.World.{seen_as};
+ghost use Rattle.pagable_world.specs.{Events.given_of, World.seen_as};
 ghost use Rattle.pagable_loads.specs.Telling.{values_at};
 ghost use Rattle.pagable_pager.specs.View.{telling, given_as};
 ghost use Rattle.pagable_machine.specs.Serving.{Serves, plain_blob};
+ghost use Rattle.pagable_world.specs.declared.calls.Call.TheVariants as calls;
+ghost use Rattle.pagable_world.specs.declared.calls.Reply.TheVariants as replies;
 
 use either::Either;
 use pagable_codec::{Env, NodeSet};

@@ -1,15 +1,13 @@
 //! Each event of the machine: a step of the plain world that leaves the machine whole.
 
-ghost use Rattle.std.specs.Prelude.{◌≡◌, ◌⊎◌, ◌<◌, ℕ, Ok, Err, IfErr, IfSome, IfNone, OnOk};
-ghost use Rattle.pagable_world.specs.declared.answers.Beginning.TheVariants as beginnings;
+ghost use Rattle.std.specs.{Prelude.◌≡◌, Prelude.◌⊎◌, Prelude.◌<◌, Prelude.ℕ, Prelude.Ok, Prelude.Err, Prelude.IfErr, Prelude.IfSome, Prelude.IfNone, Prelude.OnOk, HashMap.spare};
 ghost use Rattle.pagable_model.specs.declared.error.Error.{Error};
-ghost use Rattle.std.specs.HashMap.{spare};
-ghost use Rattle.pagable_world.specs.declared.events.Event.TheVariants as events;
-ghost use Rattle.pagable_world.specs.declared.events.EventReply.TheVariants as answers;
 ghost use Rattle.pagable_loads.specs.Telling.{values_at};
 ghost use Rattle.pagable_pager.specs.View.{core_in, telling};
-ghost use Rattle.pagable_machine.specs.Keeping.{BeginsNoKey, Forgets};
-ghost use Rattle.pagable_machine.specs.Driving.{Drives, IsInStep, kept_at, over};
+ghost use Rattle.pagable_machine.specs.{Keeping.BeginsNoKey, Keeping.Forgets, Driving.Drives, Driving.IsInStep, Driving.kept_at, Driving.over};
+ghost use Rattle.pagable_world.specs.declared.answers.Beginning.TheVariants as beginnings;
+ghost use Rattle.pagable_world.specs.declared.events.Event.TheVariants as events;
+ghost use Rattle.pagable_world.specs.declared.events.EventReply.TheVariants as answers;
 
 use crate::calls;
 use crate::held::Held;

@@ -1,7 +1,6 @@
 //! Lists that have room.
 
-ghost use Rattle.std.specs.Prelude.{◌≡◌, ◌<◌, ◌≤◌, ◌+◌, ◌++◌, ◌∷◌, [], vec_len};
-ghost use Rattle.std.specs.Vec.{vec_capacity};
+ghost use Rattle.std.specs.{Prelude.◌≡◌, Prelude.◌<◌, Prelude.◌≤◌, Prelude.◌+◌, Prelude.◌++◌, Prelude.◌∷◌, Prelude.[], Prelude.vec_len, Vec.vec_capacity};
 
 /// Adds an item where there is room for it.
 pub fn put<T: Drop>(list: &mut Vec<T>, item: T)

@@ -2,9 +2,7 @@
 
 ghost use Rattle.std.specs.Prelude.{◌≡◌, ◌≢◌, ◌<◌, ℕ, Some, None, IsSome, IfErr, OnOk, OnErr, is_some};
 ghost use Rattle.std.specs.HashMap.{spare};
-ghost use Rattle.pagable_machine.specs.Driving.{kept_at};
-ghost use Rattle.pagable_machine.specs.Keeping.{IsPrepared, KeepsOne, rest_after};
-ghost use Rattle.pagable_machine.specs.Unread.{IsUnread};
+ghost use Rattle.pagable_machine.specs.{Driving.kept_at, Keeping.IsPrepared, Keeping.KeepsOne, Keeping.rest_after, Unread.IsUnread};
 
 use indexmap::IndexMap;
 use pagable_loads::Reading;

@@ -2,52 +2,27 @@
 
 ghost use Rattle.std.specs.Prelude.{◌≡◌, Result, Some};
 ghost use Rattle.pagable_model.specs.declared.error.Error.{Error};
+ghost use Rattle.pagable_world.specs.{World.one_more, LoadCalls.DropCall, Pager.Moves, Access.Told};
+ghost use Rattle.pagable_loads.specs.Telling.{values_at};
+ghost use Rattle.pagable_pager.specs.View.{core_in, state_in, telling};
+ghost use Rattle.pagable_machine.specs.{Keeping.IsSameLoad, Keeping.Stepped, Driving.Drives, Driving.IsInStep, Driving.over};
 ghost use Rattle.pagable_model.specs.declared.error.Error.TheVariants as errors;
 ghost use Rattle.pagable_world.specs.declared.events.Event.TheVariants as events;
 ghost use Rattle.pagable_world.specs.declared.events.EventReply.TheVariants as answers;
 ghost use Rattle.pagable_world.specs.declared.events.LoadAnswer.TheVariants as ends;
 ghost use Rattle.pagable_world.specs.declared.handles.Owner.TheVariants as owners;
-ghost use Rattle.pagable_world.specs.World.{one_more};
-ghost use Rattle.pagable_world.specs.LoadCalls.{DropCall};
-ghost use Rattle.pagable_world.specs.Pager.{Moves};
-ghost use Rattle.pagable_world.specs.Access.{Told};
-ghost use Rattle.pagable_loads.specs.Telling.{values_at};
-ghost use Rattle.pagable_pager.specs.View.{core_in, state_in, telling};
-ghost use Rattle.pagable_machine.specs.Keeping.{IsSameLoad, Stepped};
-ghost use Rattle.pagable_machine.specs.Driving.{Drives, IsInStep, over};
 
 use crate::held::Held;
 use crate::readings::{Unread, end, prepare, put_in, take_out};
 use pagable_codec::{Env, NodeSet};
 use pagable_core::PagableStorage;
-use pagable_loads::{Access, Reading};
+use pagable_loads::Reading;
 use pagable_model::{Error, LoadNumber};
 use pagable_pager::{Lent, Pager};
 use pagable_world::{LoadAnswer, LoadReply};
 use std::alloc::Global;
 
-// One step of a load over an access, with the reading after it.
-fn step_over<E: Env, A: Access<E>>(
-    access: &mut A,
-    alloc: Global,
-    own: Reading,
-) -> (LoadReply<E::Node>, Reading)
-where
-    E::Node: NodeSet<E>,
-    ensures step { Told (A.told access.old) (A.told access.new)
-        (λ s t. Stepped (values_at E.Node.NodeSet E.Env E.Hash.KeyHash (A.acting access.old).environment) (A.acting access.old).me own result.0 result.1 s t) }
-    ensures again { IsSameLoad own result.1 }
-    ensures counts { result.0.steps ≡ one_more own.steps }
-    ensures counted { result.1.steps ≡ one_more own.steps }
-    ensures lender { A.lender access.new ≡ A.lender access.old }
-{
-    let mut own = own;
-    let ended = own.step(access, alloc);
-    let steps = own.steps;
-    (LoadReply { ended, steps }, own)
-}
-
-// The same over a lent pager: the borrow checker takes a lent struct where its own type is asked, and not where any access is.
+// One step of a load over a lent pager, with the reading after it: the borrow checker takes a lent struct where its own type is asked, and not where any access is.
 fn step_by<'a, E: Env, S: PagableStorage<E>>(
     lent: &mut Lent<'a, E, S>,
     alloc: Global,
@@ -63,7 +38,10 @@ where
     ensures counted { result.1.steps ≡ one_more own.steps }
     ensures lender { lent.new.pager.ghost_name ≡ lent.old.pager.ghost_name }
 {
-    step_over(lent, alloc, own)
+    let mut own = own;
+    let ended = own.step(lent, alloc);
+    let steps = own.steps;
+    (LoadReply { ended, steps }, own)
 }
 
 // One step of a load, with the reading after it.

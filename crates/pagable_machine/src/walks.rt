@@ -1,17 +1,13 @@
 //! A worker's step.
 
 ghost use Rattle.std.specs.Prelude.{◌≡◌, ◌<◌, ◌≤◌, ◌∷◌, length, true, is_some};
-ghost use Rattle.pagable_world.specs.declared.events.Event.TheVariants as events;
-ghost use Rattle.pagable_world.specs.declared.events.EventReply.TheVariants as answers;
-ghost use Rattle.pagable_world.specs.Kinds.{owner_worker};
-ghost use Rattle.pagable_world.specs.Events.{steps_after};
+ghost use Rattle.pagable_world.specs.{Kinds.owner_worker, Events.steps_after};
 ghost use Rattle.pagable_loads.specs.Telling.{values_at};
 ghost use Rattle.pagable_pager.specs.View.{core_in, state_in, telling};
-ghost use Rattle.pagable_walk.specs.Table.{shelf_of};
-ghost use Rattle.pagable_walk.specs.Tasks.{IsWay, todo_of, todos};
-ghost use Rattle.pagable_walk.specs.Turns.{StepsTo, answer_in, plan};
-ghost use Rattle.pagable_machine.specs.Walking.{IsAfter, WalksOn, has_task, task_in, todo_left};
-ghost use Rattle.pagable_machine.specs.Driving.{Drives, IsInStep, kept_at, over};
+ghost use Rattle.pagable_walk.specs.{Table.shelf_of, Tasks.IsWay, Tasks.todo_of, Tasks.todos, Turns.StepsTo, Turns.answer_in, Turns.plan};
+ghost use Rattle.pagable_machine.specs.{Walking.IsAfter, Walking.WalksOn, Walking.has_task, Walking.task_in, Walking.todo_left, Driving.Drives, Driving.IsInStep, Driving.kept_at, Driving.over};
+ghost use Rattle.pagable_world.specs.declared.events.Event.TheVariants as events;
+ghost use Rattle.pagable_world.specs.declared.events.EventReply.TheVariants as answers;
 
 use crate::held::{Held, Walk};
 use indexmap::IndexMap;
@@ -40,7 +36,8 @@ where
     requires me { lent.old.me ≡ owner_worker worker.0 }
     requires way { IsWay (todo_of task ∷ todos path.old.items) }
     ensures way { IsWay (plan result.turn path.new.items) }
-    ensures step { StepsTo (values_at E.Node.NodeSet E.Env E.Hash.KeyHash lent.old.pager.now.environment) (owner_worker worker.0) worker.0 (shelf_of table.old) task (todos path.old.items) (shelf_of table.new) result
+    ensures step { StepsTo (values_at E.Node.NodeSet E.Env E.Hash.KeyHash lent.old.pager.now.environment) (owner_worker worker.0) worker.0 (shelf_of table.old) task (todos path.old.items)
+        (shelf_of table.new) result
         (plan result.turn path.new.items) (state_in (telling S.stored S.is_closed S.failed) lent.old.pager.now) (state_in (telling S.stored S.is_closed S.failed) lent.new.pager.now) }
     ensures lender { lent.new.pager.ghost_name ≡ lent.old.pager.ghost_name }
 {
@@ -61,7 +58,8 @@ where
     requires at_work { (core_in (telling S.stored S.is_closed S.failed) pager.old).workers worker.0 ≡ true }
     requires way { IsWay (todo_of task ∷ todos path.old.items) }
     ensures way { IsWay (plan result.turn path.new.items) }
-    ensures step { StepsTo (values_at E.Node.NodeSet E.Env E.Hash.KeyHash pager.old.environment) (owner_worker worker.0) worker.0 (shelf_of table.old) task (todos path.old.items) (shelf_of table.new) result
+    ensures step { StepsTo (values_at E.Node.NodeSet E.Env E.Hash.KeyHash pager.old.environment) (owner_worker worker.0) worker.0 (shelf_of table.old) task (todos path.old.items)
+        (shelf_of table.new) result
         (plan result.turn path.new.items) (state_in (telling S.stored S.is_closed S.failed) pager.old) (state_in (telling S.stored S.is_closed S.failed) pager.new) }
 {
     let mut lent = Lent::for_worker(pager, worker);

@@ -1,21 +1,19 @@
 //! Tables of page-out, and workers on them.
 
-ghost use Rattle.std.specs.Prelude.{◌≡◌, IfOk, IfErr};
+ghost use Rattle.std.specs.{Prelude.◌≡◌, Prelude.◌<◌, Prelude.◌⊎◌, Prelude.ℕ, Prelude.Some, Prelude.IfOk, Prelude.IfErr, Prelude.OnOk, Prelude.OnErr, Prelude.true, Prelude.false, HashMap.spare};
+ghost use Rattle.pagable_world.specs.{Kinds.identity_of, World.Alike, World.of_entry, World.of_item, Access.Called, Access.WorkerStarts};
+ghost use Rattle.pagable_loads.specs.{Telling.values_at, Working.RefusesEntry, Working.StartsEntry};
+ghost use Rattle.pagable_pager.specs.View.{core_in, state_in, telling};
+ghost use Rattle.pagable_walk.specs.Slots.{written_of};
+ghost use Rattle.pagable_machine.specs.{Walking.IsBegun, Walking.is_table, Keeping.KeepsOne, Driving.Drives, Driving.IsInStep, Driving.kept_at, Driving.over};
 ghost use Rattle.pagable_model.specs.declared.error.Error.TheVariants as errors;
 ghost use Rattle.pagable_world.specs.declared.events.Event.TheVariants as events;
 ghost use Rattle.pagable_world.specs.declared.events.EventReply.TheVariants as answers;
-ghost use Rattle.pagable_world.specs.Kinds.{identity_of};
-ghost use Rattle.pagable_world.specs.World.{Alike, of_entry, of_item};
-ghost use Rattle.pagable_world.specs.Access.{Called, WorkerStarts};
-ghost use Rattle.pagable_loads.specs.Telling.{values_at};
-ghost use Rattle.pagable_loads.specs.Working.{RefusesEntry, StartsEntry};
-ghost use Rattle.pagable_pager.specs.View.{core_in, state_in, telling};
-ghost use Rattle.pagable_walk.specs.Slots.{written_of};
-ghost use Rattle.pagable_machine.specs.Walking.{IsBegun, is_table};
-ghost use Rattle.pagable_machine.specs.Driving.{Drives, IsInStep, over};
 
 use crate::held::{Begun, Held, Walk};
+use crate::list;
 use crate::readings::{put, reserve};
+use indexmap::IndexMap;
 use pagable_codec::{Env, NodeSet};
 use pagable_core::{PagableStorage, SerializedData};
 use pagable_loads::WorkerAccess;
@@ -40,9 +38,10 @@ where
         (over pager.now held.old) events.TableNew (answers.TableMade result) (over pager.now held.new) }
 {
     pager.is_whole();
-    if held.tables.push(SlotTable::new(alloc)).is_err() {
+    if held.tables.reserve(1).is_err() {
         return Err(Error::OutOfMemory);
     }
+    list::put(&mut held.tables, SlotTable::new(alloc));
     Ok(TableNumber(held.tables.len() as u64))
 }
 
@@ -51,6 +50,46 @@ fn is_table<E: Trees>(tables: &Vec<SlotTable<E>>, table: TableNumber) -> bool
     ensures { result ≡ is_table table.0 tables.now.items }
 {
     0 < table.0 && table.0 <= tables.len() as u64
+}
+
+// A place for a worker more, on a table that there is. Refused with NoSuchHandle and OutOfMemory.
+fn ready<E: Trees>(
+    walks: &mut IndexMap<u64, Walk<E>>,
+    tables: &Vec<SlotTable<E>>,
+    table: TableNumber,
+) -> Result<(), Error>
+    ensures same { (q : ℕ) → kept_at walks.new q ≡ kept_at walks.old q }
+    ensures there { OnOk result (is_table table.0 tables.now.items ≡ true) }
+    ensures room { OnOk result (0 < spare walks.new) }
+    ensures refused { IfErr result (λ e. ((e ≡ errors.NoSuchHandle) × (is_table table.0 tables.now.items ≡ false)) ⊎ ((e ≡ errors.OutOfMemory) × (is_table table.0 tables.now.items ≡ true))) }
+{
+    if !is_table(tables, table) {
+        return Err(Error::NoSuchHandle);
+    }
+    match reserve(walks) {
+        Ok(()) => Ok(()),
+        Err(_) => Err(Error::OutOfMemory),
+    }
+}
+
+// What a worker has to do is kept of it, if it has begun.
+fn keep<E: Trees>(
+    walks: &mut IndexMap<u64, Walk<E>>,
+    begun: Result<WorkerNumber, Error>,
+    walk: Walk<E>,
+) -> Result<WorkerNumber, Error>
+    requires { 0 < spare walks.old }
+    ensures begun { result ≡ begun }
+    ensures keeps { IfOk begun (λ n. KeepsOne (kept_at walks.old) n.0 (Some walk) (kept_at walks.new)) }
+    ensures stays { OnErr begun ((q : ℕ) → kept_at walks.new q ≡ kept_at walks.old q) }
+{
+    match begun {
+        Ok(worker) => {
+            put(walks, worker.0, walk);
+            Ok(worker)
+        }
+        Err(e) => Err(e),
+    }
 }
 
 // What a worker for an item has to do. Refused by want of memory alone.
@@ -109,7 +148,8 @@ where
     ensures begins { IfOk result (λ n. WorkerStarts (values_at E.Node.NodeSet E.Env E.Hash.KeyHash pager.old.environment) (core_in (telling S.stored S.is_closed S.failed) pager.old)
         (state_in (telling S.stored S.is_closed S.failed) pager.old) n.0 (state_in (telling S.stored S.is_closed S.failed) pager.new)) }
     ensures refused { IfErr result (λ e. (e ≡ errors.OutOfMemory) × Called (values_at E.Node.NodeSet E.Env E.Hash.KeyHash pager.old.environment)
-        (λ w'. Alike (core_in (telling S.stored S.is_closed S.failed) pager.old) w') (state_in (telling S.stored S.is_closed S.failed) pager.old) (state_in (telling S.stored S.is_closed S.failed) pager.new)) }
+        (λ w'. Alike (core_in (telling S.stored S.is_closed S.failed) pager.old) w') (state_in (telling S.stored S.is_closed S.failed) pager.old)
+        (state_in (telling S.stored S.is_closed S.failed) pager.new)) }
 {
     let mut lent = Lent::new(pager);
     lent.worker_begin()
@@ -146,23 +186,15 @@ where
         (over pager.old held.old) (events.WorkerItem table item) (answers.WorkerMade result) (over pager.new held.new) }
 {
     pager.is_whole();
-    if !is_table(&held.tables, table) {
-        return Err(Error::NoSuchHandle);
+    if let Err(e) = ready(&mut held.walks, &held.tables, table) {
+        return Err(e);
     }
     let walk = match item_walk(alloc, table, item) {
         Ok(walk) => walk,
         Err(e) => return Err(e),
     };
-    if reserve(&mut held.walks).is_err() {
-        return Err(Error::OutOfMemory);
-    }
-    match begin(pager) {
-        Ok(worker) => {
-            put(&mut held.walks, worker.0, walk);
-            Ok(worker)
-        }
-        Err(e) => Err(e),
-    }
+    let begun = begin(pager);
+    keep(&mut held.walks, begun, walk)
 }
 
 /// A worker on a table begins, for the entry at this place of the list, counted from 0. Refused with NoSuchHandle where there is no such table or no such place, with
@@ -181,14 +213,11 @@ where
         (over pager.old held.old) (events.WorkerListed table place) (answers.WorkerMade result) (over pager.new held.new) }
 {
     pager.is_whole();
-    if !is_table(&held.tables, table) {
-        return Err(Error::NoSuchHandle);
-    }
     if place >= pager.pending() as u64 {
         return Err(Error::NoSuchHandle);
     }
-    if reserve(&mut held.walks).is_err() {
-        return Err(Error::OutOfMemory);
+    if let Err(e) = ready(&mut held.walks, &held.tables, table) {
+        return Err(e);
     }
     match begin_listed(pager, place) {
         Ok((worker, reference)) => {

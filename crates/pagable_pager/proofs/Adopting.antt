@@ -1,49 +1,15 @@
 -- What a load has read becomes a node, and what becomes of the pager then.
-use Rattle.std.proofs.Common.{◌≡◌, ℕ, ◌+◌, Bool, true, false, if◌then◌else◌, List, refl, ap, ◌∙◌, sym, subst, Option, Some, None, Ok, Err, nat_eq, inl, arith}
-use Rattle.std.specs.Prelude.{◌≢◌, not, Result, IfOk, IfErr, IfSome, IfNone, OnOk, OnErr}
-use Rattle.pagable_model.specs.declared.error.Error.TheVariants as errors
-use Rattle.std.specs.HashMap.{get}
-use Rattle.pagable_model.specs.declared.data_key.OptionalDataKey.{OptionalDataKey}
-use Rattle.pagable_model.specs.declared.numbers.ArcRef.{ArcRef}
-use Rattle.pagable_model.specs.declared.numbers.Kind.{Kind}
-use Rattle.pagable_model.specs.declared.numbers.LoadNumber.{LoadNumber}
-use Rattle.pagable_model.specs.declared.numbers.HandleNumber.{HandleNumber}
-use Rattle.pagable_world.specs.declared.handles.Owner.{Owner}
-use Rattle.pagable_world.specs.declared.handles.Owner.TheVariants as owners
-use Rattle.pagable_world.specs.Plain.{Error, type_of, if_there}
-use Rattle.pagable_world.specs.Kinds.{mode_of, is_owner}
-use Rattle.pagable_world.specs.World.{Core, OpenLoad, Last, Alike, usable}
-use Rattle.pagable_world.specs.Refusals.{Refused, load_fault, closed_fault, refused_if}
-use Rattle.pagable_world.specs.Calls.{with_handle, with_node, with_cached, next_node}
-use Rattle.pagable_world.specs.LoadCalls.{adopted, adopt_fault, AdoptCall, Adopts}
-use Rattle.pagable_world.specs.Pager.{IsNewNode, Moves}
+use Rattle.pagable_pager.proofs.Words.{◌≡◌, ℕ, ◌+◌, List, ap, sym, subst, Option, Some, None, Ok, Err, nat_eq, inl, arith, ◌≢◌, not, Result, IfOk, IfErr, IfSome, IfNone, OnOk, OnErr, get}
+use Rattle.pagable_pager.proofs.Words.{OptionalDataKey, ArcRef, Kind, LoadNumber, HandleNumber, Owner, Error, if_there, is_owner, Core, OpenLoad, Alike, usable, Refused, load_fault, closed_fault}
+use Rattle.pagable_pager.proofs.Words.{refused_if, adopted, adopt_fault, AdoptCall, Adopts, IsNewNode, Moves, adopted_known, stayed, spares-alike, Tables, counts_at, IsWhole, Sheds, AreLater}
+use Rattle.pagable_pager.proofs.Words.{OnlyRoom, earlier-first, told-later, still, PagerView, Telling, Spelling, ValuesByNode, IsPager, OnlyLess, core_in, state_in, value_in, values_of, nat_tests}
 use Rattle.pagable_steps.proofs.BirthCalls.{adopts-new}
-use Rattle.pagable_steps.proofs.FallingCalls.{adopted_known}
-use Rattle.pagable_steps.proofs.Keeping.{stayed}
-use Rattle.pagable_steps.proofs.SparedParts.{spares-alike}
-use Rattle.pagable_tables.specs.declared.tables.Tables.{Tables}
-use Rattle.pagable_tables.specs.ByNumber.{counts_at}
-use Rattle.pagable_tables.specs.Core.{IsWhole}
-use Rattle.pagable_tables.specs.Falling.{Sheds}
-use Rattle.pagable_tables.specs.Later.{AreLater}
-use Rattle.pagable_tables.specs.Bearing.{OnlyRoom}
-use Rattle.pagable_tables.proofs.Opened.{earlier-first, told-later}
-use Rattle.pagable_tables.proofs.Worlds.{still}
-use Rattle.pagable_pager.specs.View.{PagerView, Telling, Spelling, ValuesByNode, IsPager, OnlyLess, core_in, state_in, value_in, values_of}
-use Rattle.pagable_pager.proofs.Shed.{shed, whole-over}
-use Rattle.pagable_pager.proofs.Births.{told, roomier, moved-in, unmoved}
-use Rattle.pagable_pager.proofs.Shut.{adopts-bare, bare-alike}
+use Rattle.pagable_pager.proofs.{Shed.shed, Shed.whole-over, Births.told, Births.roomier, Births.moved-in, Births.unmoved, Shut.adopts-bare, Shut.bare-alike}
+use Rattle.pagable_model.specs.declared.error.Error.TheVariants as errors
 
 -- the new node has the next number
 pub adopted-node : (w : Core) {w' : Core} (l : LoadNumber) (kind : Kind) (key : ℕ) (own : OptionalDataKey) (rs : List ArcRef) → Alike (adopted w l kind key own rs) w' → w'.last.node ≡ w.last.node + 1
-adopted-node w l kind key own rs a = ap (λ (x : Last). x.node) a.last ∙ split w.closed
-  where
-    made : Core
-    made = with_handle (with_node w (type_of kind.0) own rs) (next_node w) (mode_of kind.0) (owners.Load l)
-
-    split : (b : Bool) → (if b then made else with_cached made kind key (next_node w)).last.node ≡ w.last.node + 1
-    split true = refl
-    split false = refl
+adopted-node w l kind key own rs a = grind (arith, nat_tests)
 
 module _ {N S E : Type 0} (tells : Telling S) (g : Spelling N E) (p : PagerView N S E) (is : IsPager tells g p) (t : Tables) (values : ValuesByNode N)
     (whole : IsWhole t) (later : AreLater t) (sheds : Sheds (counts_at p.tables.holdings.nodes) (get nat_eq p.values) (counts_at t.holdings.nodes) (get nat_eq values)) where

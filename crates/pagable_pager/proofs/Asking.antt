@@ -1,27 +1,13 @@
 -- What a load asks for, by the tables first and then by the storage.
-use Rattle.std.proofs.Common.{◌≡◌, ℕ, Ok, Err, Some, None, Result, refl, subst, inl}
-use Rattle.std.specs.Prelude.{Option}
-use Rattle.pagable_model.specs.declared.numbers.HandleNumber.{HandleNumber}
-use Rattle.pagable_model.specs.declared.numbers.Kind.{Kind}
-use Rattle.pagable_model.specs.declared.numbers.LoadNumber.{LoadNumber}
-use Rattle.pagable_world.specs.declared.handles.Owner.{Owner}
-use Rattle.pagable_world.specs.declared.calls.Want.TheVariants as wants
-use Rattle.pagable_world.specs.Plain.{Error}
-use Rattle.pagable_world.specs.World.{Core}
+use Rattle.pagable_pager.proofs.Words.{◌≡◌, ℕ, Ok, Err, Some, None, Result, refl, inl, Option, HandleNumber, Kind, LoadNumber, Owner, Error, Core, AskCall, from_cache, Spares, spares-alike, asks}
+use Rattle.pagable_pager.proofs.Words.{AsksKnown, arith, nat_tests}
 use Rattle.pagable_world.specs.Pager.{IsWhole}
-use Rattle.pagable_world.specs.LoadCalls.{AskCall, from_cache}
-use Rattle.pagable_steps.proofs.Spared.{Spares}
-use Rattle.pagable_steps.proofs.SparedParts.{spares-alike}
-use Rattle.pagable_steps.proofs.SparedLoads.{asks}
-use Rattle.pagable_tables.specs.Asking.{AsksKnown}
 use Rattle.pagable_pager.proofs.Shut.{IsBare, bare-alike}
+use Rattle.pagable_world.specs.declared.calls.Want.TheVariants as wants
 
 module _ {w w' : Core} {me : Owner} {l : LoadNumber} {kind : Kind} {key : ℕ} where
   pub known-found : {k : HandleNumber} (found : Option HandleNumber) → found ≡ Some k → AsksKnown w me l kind key (Ok found) w' → AskCall w me l (wants.Nested kind key) (Ok (from_cache k)) w'
-  known-found found some known =
-      let c = subst (λ f. AsksKnown w me l kind key (Ok f) w') some known in
-      let (load, own, (n, is, next, leaves)) = c.gives in
-      record { gives = (load, own, record { n = n; known = is; next = next; leaves = leaves }); refused = tt }
+  known-found found some known = grind (arith, nat_tests)
 
   known-refused : {e : Error} → AsksKnown w me l kind key (Err e) w' → AskCall w me l (wants.Nested kind key) (Err e) w'
   known-refused c = record { gives = tt; refused = inl c.refused }

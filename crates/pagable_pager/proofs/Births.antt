@@ -1,34 +1,11 @@
 -- A node that comes, or room that was made for one, leaves the pager in step.
-use Rattle.std.proofs.Common.{◌≡◌, ℕ, ◌==◌, ◌&&◌, ◌<◌, ◌+◌, Bool, true, false, if◌then◌else◌, Ok, Err, [], refl, ap, sym, subst, ◌∙◌, Some, None, Option, inl, inr, arith}
-use Rattle.std.specs.Prelude.{◌≢◌, List, Result, is_some}
-use Rattle.std.proofs.lemmas.Bool.Decides.{nat_tests}
-use Rattle.std.proofs.lemmas.Bool.{cases_eq}
-use Rattle.pagable_model.specs.declared.data_key.OptionalDataKey.TheVariants as optional
+use Rattle.pagable_pager.proofs.Words.{◌≡◌, ℕ, ◌==◌, ◌<◌, ◌+◌, Bool, true, if◌then◌else◌, Ok, Err, [], refl, ap, sym, ◌∙◌, Some, None, Option, inl, inr, arith, ◌≢◌, List, Result, nat_tests}
+use Rattle.pagable_pager.proofs.Words.{cases_eq, ArcRef, HandleNumber, Owner, Mode, Blob, Error, is_pinning, Core, greatest, references_fault, BirthCall, AwayBirthCall, IsNewNode, Moves}
+use Rattle.pagable_pager.proofs.Words.{same_some, born, spared, spares-alike, Tables, BearsValue, OnlyRoom, IsWhole, core_of, plain_of, AreLater, room-alike, room-fault, fault-by, next-past}
+use Rattle.pagable_pager.proofs.Words.{born-past, PagerView, Telling, Spelling, ValuesByNode, IsPager, core_in, state_in, value_in, values_of, Last}
+use Rattle.pagable_pager.proofs.{Shed.whole-over, Shut.IsBare, Shut.bare-alike, Spared.caller-free}
 use Rattle.pagable_model.specs.declared.error.Error.TheVariants as errors
-use Rattle.pagable_model.specs.declared.numbers.ArcRef.{ArcRef}
-use Rattle.pagable_model.specs.declared.numbers.HandleNumber.{HandleNumber}
-use Rattle.pagable_world.specs.declared.handles.Owner.{Owner}
 use Rattle.pagable_world.specs.declared.handles.Owner.TheVariants as owners
-use Rattle.pagable_world.specs.declared.rows.Mode.{Mode}
-use Rattle.pagable_world.specs.Plain.{Blob, Error}
-use Rattle.pagable_world.specs.Kinds.{is_pinning}
-use Rattle.pagable_world.specs.World.{Core, greatest, is_here}
-use Rattle.pagable_world.specs.Refusals.{references_fault}
-use Rattle.pagable_world.specs.Calls.{BirthCall, AwayBirthCall}
-use Rattle.pagable_world.specs.Pager.{IsNewNode, Moves}
-use Rattle.pagable_laws.proofs.Trees.{same_some}
-use Rattle.pagable_steps.proofs.BirthCalls.{born}
-use Rattle.pagable_steps.proofs.Spared.{spared}
-use Rattle.pagable_steps.proofs.SparedParts.{spares-alike}
-use Rattle.pagable_tables.specs.declared.tables.Tables.{Tables}
-use Rattle.pagable_tables.specs.Bearing.{BearsValue, OnlyRoom}
-use Rattle.pagable_tables.specs.Core.{IsWhole, core_of, plain_of}
-use Rattle.pagable_tables.specs.Later.{AreLater}
-use Rattle.pagable_tables.proofs.Readied.{room-alike, room-fault, fault-by, next-past, born-past}
-use Rattle.pagable_pager.specs.View.{PagerView, Telling, Spelling, ValuesByNode, IsPager, core_in, state_in, value_in, values_of}
-use Rattle.pagable_pager.proofs.Shed.{whole-over}
-use Rattle.pagable_pager.proofs.Shut.{IsBare, bare-alike}
-use Rattle.pagable_pager.proofs.Spared.{caller-free}
 
 -- nothing comes to the list or the cache with a cell that is away
 pub away-bare : {w w' : Core} {me : Owner} {node_type key : ℕ} (r : Result HandleNumber Error) → AwayBirthCall w me node_type key r w' → IsBare w → IsBare w'
@@ -38,10 +15,11 @@ away-bare (Err e) c b = bare-alike c.refused.stays b
 -- a birth in a world where room was made before
 pub birth-past : {N : Type 0} {w w1 w' : Core} {x : N} (me : Owner) (t t' : ℕ) (rs rs' : List ArcRef) (mode : Mode) (k : HandleNumber) → OnlyRoom w w1 → references_fault w me [] rs ≡ None → w1.last.node < greatest
     → t ≡ t' → rs ≡ rs' → BearsValue w1 me t rs mode k w' → BirthCall w me x t' rs' mode (Ok k) w'
-birth-past {N} {w} {w1} {w'} {x} me t t' rs rs' mode k room fit left typed named b = subst (λ u. BirthCall w me x u rs' mode (Ok k) w') typed (subst (λ l. BirthCall w me x t l mode (Ok k) w') named made)
-  where
-    made : BirthCall w me x t rs mode (Ok k) w'
-    made = record { made = (fit, subst (λ (u : Core). u.last.node < greatest) room.same left, next-past room b.next, born-past t optional.None rs mode me room b.leaves); refused = tt }
+birth-past {N} {w} {w1} {w'} {x} me t t' rs rs' mode k room fit left typed named b = grind (arith, nat_tests, born-past, next-past)
+
+-- it has the next number
+pub born-next : {w w1 w' : Core} {me : Owner} {t : ℕ} {rs : List ArcRef} {mode : Mode} {k : HandleNumber} → OnlyRoom w w1 → BearsValue w1 me t rs mode k w' → w'.last.node ≡ w.last.node + 1
+born-next room b = ap (λ (l : Last). l.node) b.leaves.last ∙ ap (λ (u : Core). u.last.node + 1) room.same
 
 pub fit-past : (t t1 : Tables) (stored : ℕ → Option Blob) (closed : Bool) (failures : ℕ) (me : Owner) (rs : List ArcRef) → OnlyRoom (plain_of t) (plain_of t1) → references_fault (plain_of t1) me [] rs ≡ None
     → references_fault (core_of t stored closed failures) me [] rs ≡ None
@@ -70,10 +48,7 @@ module _ {N S E : Type 0} (tells : Telling S) (g : Spelling N E) (p : PagerView 
 
   module _ (x : N) (here : value_in values next ≡ Some x) (others : (n : ℕ) → n ≢ next → value_in values n ≡ value_in p.values n) where
     pub told : (n : ℕ) → value_in values n ≡ (if n == next then Some x else value_in p.values n)
-    told n = elim (cases_eq n next) [
-      | inl e ↦ let b : (n == next) ≡ true = grind (arith, nat_tests) in ap (value_in values) e ∙ here ∙ sym (ap (λ c. if c then Some x else value_in p.values n) b)
-      | inr e ↦ let b : (n == next) ≡ false = grind (arith, nat_tests) in others n e ∙ sym (ap (λ c. if c then Some x else value_in p.values n) b)
-    ]
+    told n = grind (arith, nat_tests, cases_eq)
 
     -- the node came with its value
     pub comes-in : (mode : Mode) (k : HandleNumber) → is_pinning mode ≡ true → IsWhole t → AreLater t → BirthCall (core_in tells p) owners.Caller x (g.type_of x) (g.refs_of x) mode (Ok k) (core_in tells after) → IsPager tells g after
@@ -83,25 +58,7 @@ module _ {N S E : Type 0} (tells : Telling S) (g : Spelling N E) (p : PagerView 
 
     -- the node of the next number has no value yet
     none-yet : value_in p.values next ≡ None
-    none-yet = at (value_in p.values next) refl
-      where
-        left : (a b : Bool) → true ≡ (a && b) → a ≡ true
-        left true b e = refl
-        left false b e = absurd (cc)
-
-        at : (o : Option N) → value_in p.values next ≡ o → value_in p.values next ≡ None
-        at None e = e
-        at (Some y) e =
-            let a = left (is_some ((core_in tells p).cells next)) (is_here (core_in tells p) next) (sym (ap is_some e) ∙ is.state.valued next) in
-            let b = (is.state.whole.handles.nodes_numbered next a).1 in
-            absurd (omega arith)
+    none-yet = grind (arith, nat_tests)
 
     pub moved-in : Moves (λ n y. (y ≡ x) × IsNewNode (core_in tells p) n) (state_in tells p) (state_in tells after)
-    moved-in =
-        record {
-          each = λ n y has. elim (cases_eq n next) [
-            | inl e ↦ inr (ap (value_in p.values) e ∙ none-yet, (same_some _ _ (sym has ∙ ap (value_in values) e ∙ here), omega arith))
-            | inr e ↦ inl (sym (others n e) ∙ has)
-          ];
-          environment = refl;
-        }
+    moved-in = grind (arith, nat_tests, cases_eq, none-yet, same_some)

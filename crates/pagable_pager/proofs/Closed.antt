@@ -1,25 +1,12 @@
 -- A pager whose storage is closed.
-use Rattle.std.proofs.Common.{◌≡◌, ℕ, Bool, true, None, Ok, refl, sym, subst, nat_eq}
-use Rattle.std.specs.Prelude.{Option}
-use Rattle.std.specs.HashMap.{get}
-use Rattle.pagable_world.specs.Plain.{Blob}
-use Rattle.pagable_world.specs.Calls.{CloseCall}
-use Rattle.pagable_steps.proofs.FallingCalls.{closed}
-use Rattle.pagable_tables.specs.declared.tables.Tables.{Tables}
-use Rattle.pagable_tables.specs.ByNumber.{counts_at}
-use Rattle.pagable_tables.specs.Falling.{Sheds}
-use Rattle.pagable_tables.specs.Later.{AreLater}
-use Rattle.pagable_tables.specs.Core.{IsWhole, core_of}
-use Rattle.pagable_pager.specs.View.{PagerView, Telling, Spelling, ValuesByNode, IsPager, core_in}
-use Rattle.pagable_pager.proofs.Shed.{leaves, whole-over}
-use Rattle.pagable_pager.proofs.Shut.{bare-fell}
+use Rattle.pagable_pager.proofs.Words.{◌≡◌, ℕ, Bool, true, None, Ok, refl, nat_eq, Option, get, Blob, CloseCall, closed, Tables, counts_at, Sheds, AreLater, IsWhole, core_of, PagerView, Telling}
+use Rattle.pagable_pager.proofs.Words.{Spelling, ValuesByNode, IsPager, core_in, arith, nat_tests}
+use Rattle.pagable_pager.proofs.{Shed.leaves, Shed.whole-over, Shut.bare-fell}
 
 -- what the storage tells is that it is empty and closed
 pub shut-call : (stored stored' : ℕ → Option Blob) (closed closed' : Bool) (failures failures' : ℕ) (t t' : Tables) → ((key : ℕ) → stored' key ≡ None) → closed' ≡ true
     → CloseCall (core_of t stored closed failures) (Ok tt) (core_of t' (λ key. None) true failures') → CloseCall (core_of t stored closed failures) (Ok tt) (core_of t' stored' closed' failures')
-shut-call stored stored' closed closed' failures failures' t t' empty shut call =
-    subst (λ s. CloseCall (core_of t stored closed failures) (Ok tt) (core_of t' s closed' failures')) (λ i key. sym (empty key) i)
-    (subst (λ b. CloseCall (core_of t stored closed failures) (Ok tt) (core_of t' (λ key. None) b failures')) (sym shut) call)
+shut-call stored stored' closed closed' failures failures' t t' empty shut call = grind (arith, nat_tests, closed)
 
 module _ {N S E : Type 0} (tells : Telling S) (g : Spelling N E) (p : PagerView N S E) (is : IsPager tells g p) (s : S) (t : Tables) (values : ValuesByNode N) where
   abbrev new : PagerView N S E

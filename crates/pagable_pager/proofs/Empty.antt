@@ -1,16 +1,6 @@
 -- A pager of nothing is a new one.
-use Rattle.std.proofs.Common.{◌≡◌, ℕ, false, [], refl, ap, ◌∙◌, None, nat_eq}
-use Rattle.std.specs.Option.{option_map}
-use Rattle.std.specs.Arc.{arc_value}
-use Rattle.std.specs.HashMap.{get}
-use Rattle.pagable_model.specs.declared.numbers.NodeNumber.{NodeNumber}
-use Rattle.pagable_world.specs.Plain.{is_in}
-use Rattle.pagable_world.specs.Pager.{IsNew}
-use Rattle.pagable_tables.specs.Live.{live}
-use Rattle.pagable_tables.specs.ByNumber.{counts_at, load_at, known_at}
-use Rattle.pagable_tables.specs.Falling.{cell_in, pins_in}
-use Rattle.pagable_tables.specs.Core.{load_in}
-use Rattle.pagable_pager.specs.View.{PagerView, Telling, state_in, value_in}
+use Rattle.pagable_pager.proofs.Words.{◌≡◌, ℕ, false, [], refl, ap, ◌∙◌, None, nat_eq, option_map, arc_value, get, NodeNumber, is_in, IsNew, live, counts_at, load_at, known_at, cell_in, pins_in}
+use Rattle.pagable_pager.proofs.Words.{load_in, PagerView, Telling, state_in, value_in}
 
 in-none : (v : ℕ) → is_in [] v ≡ false
 unfolding is_in

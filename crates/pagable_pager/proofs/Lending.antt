@@ -1,48 +1,48 @@
 -- What a lent pager's calls tell as those of an access.
-use Rattle.std.proofs.Common.{◌≡◌, ℕ, ◌+◌, Bool, true, false, List, [], Option, Some, Result, Ok, Err, inl, inr, refl, ap, sym, subst, ◌∙◌, arith}
-use Rattle.std.specs.Prelude.{IsSome, is_some, IfOk, if◌then◌else◌}
-use Rattle.std.specs.Option.{option_map}
-use Rattle.pagable_model.specs.declared.data_key.OptionalDataKey.{OptionalDataKey}
+use Rattle.pagable_pager.proofs.Words.{AskCall, from_cache, AsksFor, FewerValues, OnlyTables, SameValues, value_in, ValuesByNode, Refers, TakesEntry, LeavesEntry, WorkerNumber, AdoptCall}
+use Rattle.pagable_pager.proofs.Words.{StartsEntry, RefusesEntry, TakesLazily, AdoptsValue, ◌≡◌, ℕ, ◌+◌, Bool, true, false, List, [], Option, Some, Result, Ok, Err, inl, inr, refl, ap, sym, subst}
+use Rattle.pagable_pager.proofs.Words.{◌∙◌, arith, IsSome, is_some, IfOk, if◌then◌else◌, option_map, OptionalDataKey, Error, ArcRef, HandleNumber, Kind, LoadNumber, NodeNumber, HandleRow, Owner}
+use Rattle.pagable_pager.proofs.Words.{Mode, Blob, type_of, find_row, mode_of, owner_value, Core, Reading, Values, Alike, row_at, Looks, StoreCall, row_of, with_handle, with_node, with_cached}
+use Rattle.pagable_pager.proofs.Words.{next_node, is_named_by, IsNext, BeginCall, GetsKnown, LazyCall, Adopts, first_key, fresh, reading_of_load, HandlesAreWhole, WellFormed, Told, Called}
+use Rattle.pagable_pager.proofs.Words.{found-number, good, NotValues, Stands, AreUpTo, stands-new, stands-alike, stands-fell, among-changed, among-found, named-among, row-pins, same_some}
+use Rattle.pagable_pager.proofs.Words.{pinned-here, StartsPin, is_unpinned_at, begun_is, IsMade, PagerView, Telling, OnlyLess, core_in, state_in, nat_tests}
+use Rattle.either.specs.declared.Either.TheVariants as eithers
+use Rattle.pagable_world.specs.declared.calls.Want.TheVariants as wants
 use Rattle.pagable_model.specs.declared.data_key.OptionalDataKey.TheVariants as optional
-use Rattle.pagable_model.specs.declared.error.Error.{Error}
-use Rattle.pagable_model.specs.declared.numbers.ArcRef.{ArcRef}
-use Rattle.pagable_model.specs.declared.numbers.HandleNumber.{HandleNumber}
-use Rattle.pagable_model.specs.declared.numbers.Kind.{Kind}
-use Rattle.pagable_model.specs.declared.numbers.LoadNumber.{LoadNumber}
-use Rattle.pagable_model.specs.declared.numbers.NodeNumber.{NodeNumber}
 use Rattle.pagable_world.specs.declared.answers.Beginning.TheVariants as beginnings
-use Rattle.pagable_world.specs.declared.handles.HandleRow.{HandleRow}
-use Rattle.pagable_world.specs.declared.handles.Owner.{Owner}
 use Rattle.pagable_world.specs.declared.handles.Owner.TheVariants as owners
-use Rattle.pagable_world.specs.declared.rows.Mode.{Mode}
-use Rattle.pagable_world.specs.declared.rows.Mode.TheVariants as modes
-use Rattle.pagable_world.specs.Plain.{Blob, type_of, if_there}
-use Rattle.pagable_world.specs.Kinds.{find_row, is_pinning, is_loose, is_unpinned, mode_of, owner_value}
-use Rattle.pagable_world.specs.World.{Core, Reading, of_cell, Values, Alike, row_at}
-use Rattle.pagable_world.specs.Calls.{Looks, StoreCall, row_of, with_handle, with_node, with_cached, next_node, is_named_by, IsNext}
-use Rattle.pagable_world.specs.LoadCalls.{BeginCall, GetsKnown, LazyCall, Adopts, first_key}
-use Rattle.pagable_world.specs.Workers.{fresh}
-use Rattle.pagable_world.specs.Events.{reading_of_load}
-use Rattle.pagable_world.specs.Pager.{HandlesAreWhole, WellFormed}
-use Rattle.pagable_world.specs.Access.{Told, Called}
-use Rattle.pagable_laws.proofs.Goes.{found-number}
-use Rattle.pagable_laws.proofs.GoodReferences.{good}
-use Rattle.pagable_laws.proofs.Outlasting.{NotValues, Stands, AreUpTo, stands-new, stands-alike, stands-fell, among-changed, among-found}
-use Rattle.pagable_laws.proofs.Sparing.{named-among}
-use Rattle.pagable_laws.proofs.Taking.{row-pins}
-use Rattle.pagable_laws.proofs.Trees.{same_some}
-use Rattle.pagable_steps.proofs.SparedHandles.{pinned-here}
 use Rattle.pagable_loads.specs.declared.starting.PinStart.TheVariants as starts
-use Rattle.pagable_loads.specs.Starting.{StartsPin, is_unpinned_at}
-use Rattle.pagable_loads.proofs.Pinned.{begun_is}
-use Rattle.pagable_loads.specs.Telling.{IsMade}
-use Rattle.pagable_pager.specs.View.{PagerView, Telling, OnlyLess, core_in, state_in}
-use Rattle.pagable_pager.proofs.Adopting.{less-moves}
 
--- values go, and none comes
-pub told_less : {N S E : Type 0} (tells : Telling S) (v : E → Values N) (p q : PagerView N S E) (D : Core → Core → Type 0) → D (core_in tells p) (core_in tells q) → OnlyLess p q → WellFormed (v q.environment) (state_in tells q)
-    → Told (Some (state_in tells p)) (Some (state_in tells q)) (λ s t. Called (v p.environment) (λ w'. D s.core w') s t)
-told_less tells v p q D step only whole = record { holds = record { step = step; moves = less-moves tells p q only; whole = subst (λ e. WellFormed (v e) (state_in tells q)) only.environment whole } }
+-- what a call does to a pager of which no value comes
+module _ {N S E : Type 0} (tells : Telling S) (v : E → Values N) (p q : PagerView N S E) where
+  pub called : (D : Core → Type 0) → D (core_in tells q) → FewerValues p q → WellFormed (v q.environment) (state_in tells q) → Called (v p.environment) D (state_in tells p) (state_in tells q)
+  called D step only whole = grind (arith, nat_tests)
+
+  pub told_fewer : (D : Core → Core → Type 0) → D (core_in tells p) (core_in tells q) → FewerValues p q → WellFormed (v q.environment) (state_in tells q)
+      → Told (Some (state_in tells p)) (Some (state_in tells q)) (λ s t. Called (v p.environment) (λ w'. D s.core w') s t)
+  told_fewer D step only whole = record { holds = called (D (core_in tells p)) step only whole }
+
+  pub told_less : (D : Core → Core → Type 0) → D (core_in tells p) (core_in tells q) → OnlyLess p q → WellFormed (v q.environment) (state_in tells q)
+      → Told (Some (state_in tells p)) (Some (state_in tells q)) (λ s t. Called (v p.environment) (λ w'. D s.core w') s t)
+  told_less D step only whole = told_fewer D step (record { values = only.values; environment = only.environment }) whole
+
+  -- where no value goes either
+  pub all_there : SameValues p q → FewerValues p q
+  all_there only = record { values = λ n x has. subst (λ (values : ValuesByNode N). value_in values n ≡ Some x) only.values has; environment = only.environment }
+
+  pub told_same : (D : Core → Core → Type 0) → D (core_in tells p) (core_in tells q) → OnlyTables p q → WellFormed (v q.environment) (state_in tells q)
+      → Told (Some (state_in tells p)) (Some (state_in tells q)) (λ s t. Called (v p.environment) (λ w'. D s.core w') s t)
+  told_same D step only whole = told_fewer D step (all_there (record { values = only.values; environment = only.environment })) whole
+
+  -- a worker that an entry moved to
+  pub told_entry : {place : ℕ} {n : WorkerNumber} {r : ArcRef} → TakesEntry (core_in tells p) place n r (core_in tells q) → OnlyTables p q → WellFormed (v q.environment) (state_in tells q)
+      → Told (Some (state_in tells p)) (Some (state_in tells q)) (λ s t. StartsEntry (v p.environment) s place n r t)
+  told_entry {place} {n} e only whole = grind (arith, nat_tests, all_there, called)
+
+  pub told_no_entry : {place : ℕ} {e : Error} → LeavesEntry (core_in tells p) place e (core_in tells q) → OnlyTables p q → WellFormed (v q.environment) (state_in tells q)
+      → Told (Some (state_in tells p)) (Some (state_in tells q)) (λ s t. RefusesEntry (v p.environment) s place e t)
+  told_no_entry l only whole =
+      record { holds = record { why = l.why; stays = called (λ w'. Alike (core_in tells p) w') l.stays (all_there (record { values = only.values; environment = only.environment })) whole } }
 
 pub stored_key : {digest : Blob → ℕ} {w w' : Core} {blob : Blob} (r : Result ℕ Error) → StoreCall digest w blob r w' → IfOk r (λ key. key ≡ digest blob)
 stored_key (Ok key) c = c.stores.0
@@ -58,14 +58,7 @@ number_is : (w : Core) (h : HandleNumber) (row : HandleRow) → row_at w h ≡ S
 number_is w h row live = ap (λ n. record { 0 = n }) (found-number h.0 w.rows row live)
 
 pub made_so : {w : Core} {kind : Kind} {h : HandleNumber} {n : NodeNumber} → Looks w h (λ m row. m ≡ row.node) (Ok n) → IsMade w kind (record { kind = kind; node = n; handle = h })
-made_so {w} {kind} {h} {n} l =
-    let row : HandleRow = l.found.0 in
-    let number = number_is w h row l.found.1 in
-    record {
-      row = row;
-      live = l.found.1;
-      is = ap (λ (m : NodeNumber). let x : ArcRef = record { kind = kind; node = m; handle = h } in x) l.found.2 ∙ ap (λ (k : HandleNumber). let x : ArcRef = record { kind = kind; node = row.node; handle = k } in x) (sym number);
-    }
+made_so {w} {kind} {h} {n} l = grind (arith, nat_tests, number_is)
 
 module _ {w : Core} (whole : HandlesAreWhole w) where
   few : AreUpTo w.last.handle w.rows
@@ -130,32 +123,38 @@ module _ {w : Core} (whole : HandlesAreWhole w) where
             let same = named.2 in
             absurd (omega (arith, n, le, same))
 
+  -- of what was asked for
+  pub found_refers : {B : Type 0} {see : B → Blob} {me : Owner} {l : LoadNumber} {kind : Kind} {key : ℕ} {h : HandleNumber} {r : ArcRef} (w' : Core)
+      → AskCall w me l (wants.Nested kind key) (Ok (from_cache h)) w' → r.handle ≡ h
+      → (IsSome (row_at w' h) → IsMade w' kind r) → AsksFor see w me l kind key (Ok (eithers.Left r)) w'
+  found_refers {me = me} {l} {kind} {key} w' c same is = record { asked = subst (λ k. AskCall w me l (wants.Nested kind key) (Ok (from_cache k)) w') (sym same) c; made = is (known_live w' c.gives.2) }
+
+  -- and the reference stands for it
+  pub lazy_refers : {me : Owner} {l : LoadNumber} {kind : Kind} {key : ℕ} (w' : Core) (made : Result HandleNumber Error) (r : Result ArcRef Error) → LazyCall w me l kind key made w'
+      → Refers w' kind made r
+      → TakesLazily w me l kind key r w'
+  lazy_refers {me} {l} {kind} {key} w' (Ok h) (Ok r) c (is, same) = record { taken = subst (λ k. LazyCall w me l kind key (Ok k) w') (sym same) c; made = is (lazy_live w' c) }
+  lazy_refers {me} {l} {kind} {key} w' (Err e) (Err f) c same = record { taken = subst (λ x. LazyCall w me l kind key (Err x) w') same c; made = tt }
+  lazy_refers w' (Ok h) (Err e) c none = absurd none
+  lazy_refers w' (Err e) (Ok r) c none = absurd none
+
+  pub adopted_refers : {N : Type 0} {x : N} {t : ℕ} {rs : List ArcRef} {me : Owner} {l : LoadNumber} {kind : Kind} {key : ℕ} (w' : Core) (made : Result HandleNumber (Error × N))
+      (r : Result ArcRef (Error × N))
+      → AdoptCall w me l kind key x t rs made w' → Refers w' kind made r → AdoptsValue w me l kind key x t rs r w'
+  adopted_refers {x = x} {t} {rs} {me} {l} {kind} {key} w' (Ok h) (Ok r) c (is, same) =
+      record { adopted = subst (λ k. AdoptCall w me l kind key x t rs (Ok k) w') (sym same) c; made = is (adopted_live w' c.adopts) }
+  adopted_refers {x = x} {t} {rs} {me} {l} {kind} {key} w' (Err e) (Err f) c same = record { adopted = subst (λ y. AdoptCall w me l kind key x t rs (Err y) w') same c; made = tt }
+  adopted_refers w' (Ok h) (Err e) c none = absurd none
+  adopted_refers w' (Err e) (Ok r) c none = absurd none
+
 -- ---- how a pin begins
 
 module _ {w w' : Core} {me : Owner} {h : HandleNumber} {l : LoadNumber} {key : ℕ} (c : BeginCall w me h (Ok (beginnings.Load l key)) w') where
   type_there : (t : ℕ) × (reading_of_load l (w'.loads l.0) ≡ Some (fresh l t))
-  type_there =
-      let b = c.begins in
-      let made = b.2.4 in
-      (made.0, ap (reading_of_load l) (begun_is (with_handle w b.0.node modes.LooseUnpinned (owners.Load l)) w' l key (of_cell b.0.node made.0 h) me b.2.2.above made.2))
+  type_there = grind (arith, nat_tests, begun_is)
 
   let_go : is_unpinned_at w h ≡ true
-  let_go = let b = c.begins in ap (if_there (λ (row : HandleRow). is_unpinned row.mode) false) b.1.live ∙ by b.0.mode refl b.1.as_asked
-    where
-      away : (m : Mode) → c.begins.0.mode ≡ m → is_pinning m ≡ true → ⊥
-      away m is pinning =
-          let b = c.begins in
-          let here = pinned-here w b.0.node.0 (row-pins w h b.0 b.1.live (ap is_pinning is ∙ pinning)) in
-          let f : true ≡ false = sym here ∙ b.2.0 in
-          absurd (cc)
-
-      by : (m : Mode) → c.begins.0.mode ≡ m → is_loose m ≡ true → is_unpinned m ≡ true
-      by modes.LooseUnpinned is loose = refl
-      by modes.LoosePinned is loose = absurd (away modes.LoosePinned is refl)
-      by modes.Pinned is loose = absurd (cc)
-      by modes.Shared is loose = absurd (cc)
+  let_go = grind (arith, nat_tests, pinned-here, row-pins)
 
   pub load_starts : (t : ℕ) → Some t ≡ option_map (λ (r : Reading). r.node_type) (reading_of_load l (w'.loads l.0)) → StartsPin w me h (Ok (starts.Load l key t)) w'
-  load_starts t is =
-      let same : type_there.0 ≡ t = same_some _ _ (sym (ap (option_map (λ (r : Reading). r.node_type)) type_there.1) ∙ sym is) in
-      record { starts = (c, let_go, type_there.1 ∙ ap (λ u. Some (fresh l u)) same); refused = tt }
+  load_starts t is = grind (arith, nat_tests, let_go, same_some, type_there)

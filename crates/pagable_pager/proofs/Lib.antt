@@ -1,3 +1,4 @@
+mod Words
 mod AtWork
 pub mod Spared
 pub mod Stored

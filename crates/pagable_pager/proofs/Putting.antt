@@ -1,80 +1,30 @@
 -- A value comes to a load's cell, and others go with their nodes.
-use Rattle.std.proofs.Common.{◌≡◌, ℕ, ◌==◌, ◌&&◌, Bool, true, false, Ok, Err, refl, ap, sym, ◌∙◌, subst, Some, None, Option, List, if◌then◌else◌, inl, inr, nat_eq, arith}
-use Rattle.std.specs.Prelude.{◌≢◌, ◌⊎◌, Result, is_some, nat_lt, not}
-use Rattle.std.specs.Arc.{arc_value}
-use Rattle.std.specs.HashMap.{get}
-use Rattle.std.proofs.lemmas.Bool.{cases_eq}
-use Rattle.std.proofs.lemmas.Bool.Decides.{nat_tests}
-use Rattle.pagable_model.specs.declared.numbers.ArcRef.{ArcRef}
-use Rattle.pagable_model.specs.declared.numbers.NodeNumber.{NodeNumber}
-use Rattle.pagable_world.specs.declared.handles.Owner.{Owner}
+use Rattle.pagable_pager.proofs.Words.{rules, ◌≡◌, ℕ, ◌==◌, ◌&&◌, Bool, true, false, Ok, Err, refl, ap, sym, ◌∙◌, subst, Some, None, Option, List, if◌then◌else◌, inl, inr, nat_eq, arith, ◌≢◌, ◌⊎◌}
+use Rattle.pagable_pager.proofs.Words.{Result, is_some, nat_lt, get, cases_eq, nat_tests, ArcRef, NodeNumber, Owner, HandleNumber, LoadNumber, Error, if_there, updated, Core, OpenLoad, Alike}
+use Rattle.pagable_pager.proofs.Words.{is_here, OwnsLoad, Refused, load_fault, closed_fault, DropCall, EndCall, EndRefused, Installs, MayEnd, end_fault, held, is_owner, IsCellOf, Moves}
+use Rattle.pagable_pager.proofs.Words.{WellFormed, row-held, installed_away, installed_there, Ending, Tables, counts_at, Sheds, has_value, IsWhole, plain_of, AreLater, IsReady, IsVain, IsWider}
+use Rattle.pagable_pager.proofs.Words.{ShedsBeside, Unends, has_come, Unended, installs-wider, may-wider, not-so, so-then, earlier-first, still, end_refused, spared, spares-alike, PagerView}
+use Rattle.pagable_pager.proofs.Words.{Telling, Spelling, ValuesByNode, IsPager, core_in, state_in, value_in, values_of, PutsIn, with_value}
+use Rattle.pagable_pager.proofs.{Shed.here-in, Shed.here-told, Shed.less, Shed.shed, Shed.some-map, Shed.left-map, Shed.whole-over, Shut.bare-alike, Shut.end-refused-bare, Shut.installed-bare}
 use Rattle.pagable_world.specs.declared.handles.Owner.TheVariants as owners
 use Rattle.pagable_model.specs.declared.error.Error.TheVariants as errors
-use Rattle.pagable_world.specs.Plain.{HandleNumber, LoadNumber, Error, if_there, updated}
-use Rattle.pagable_world.specs.World.{Core, OpenLoad, Alike, is_here}
-use Rattle.pagable_world.specs.Refusals.{OwnsLoad, Refused, load_fault, closed_fault, refused_if}
-use Rattle.pagable_world.specs.LoadCalls.{DropCall, EndCall, EndRefused, Installs, MayEnd, end_fault}
-use Rattle.pagable_world.specs.Kinds.{held, is_owner}
 use Rattle.pagable_world.specs.Pager as pager
-use Rattle.pagable_world.specs.Pager.{IsCellOf, Moves, WellFormed}
-use Rattle.pagable_laws.proofs.Taking.{row-held}
-use Rattle.pagable_steps.proofs.Installing.{installed_away, installed_there}
-use Rattle.pagable_tables.specs.declared.installing.Ending.{Ending}
-use Rattle.pagable_tables.specs.declared.tables.Tables.{Tables}
-use Rattle.pagable_tables.specs.ByNumber.{counts_at}
-use Rattle.pagable_tables.specs.Falling.{Sheds, has_value}
-use Rattle.pagable_tables.specs.Core.{IsWhole, plain_of}
-use Rattle.pagable_tables.specs.Later.{AreLater}
-use Rattle.pagable_tables.specs.Ready.{IsReady, IsVain, IsWider, ShedsBeside, Unends, has_come}
-use Rattle.pagable_tables.specs.declared.installing.Unended.{Unended}
-use Rattle.pagable_tables.proofs.Installed.{installs-wider, may-wider, not-so, so-then}
-use Rattle.pagable_tables.proofs.Opened.{earlier-first}
-use Rattle.pagable_tables.proofs.Worlds.{still}
-use Rattle.pagable_steps.proofs.FallingCalls.{end_refused}
-use Rattle.pagable_steps.proofs.Spared.{spared}
-use Rattle.pagable_steps.proofs.SparedParts.{spares-alike}
-use Rattle.pagable_pager.specs.View.{PagerView, Telling, Spelling, ValuesByNode, IsPager, core_in, state_in, value_in, values_of}
-use Rattle.pagable_pager.specs.Puts.{PutsIn, with_value}
-use Rattle.pagable_pager.proofs.Shed.{here-in, here-told, less, shed, some-map, left-map, whole-over}
-use Rattle.pagable_pager.proofs.Shut.{bare-alike, end-refused-bare, installed-bare}
 
 -- the value comes
 module _ {N : Type 0} (t t' : Tables) (old mid new : ValuesByNode N) (node : NodeNumber) (x : N) (here : value_in mid node.0 ≡ Some x) (others : (n : ℕ) → n ≢ node.0 → value_in mid n ≡ value_in old n) where
   put-there : (n : ℕ) → value_in mid n ≡ updated node.0 (Some x) (value_in old) n
-  put-there n = elim (cases_eq n node.0) [
-    | inl e ↦ let h : (n == node.0) ≡ true = grind (arith, nat_tests) in rw h (ap (value_in mid) e ∙ here)
-    | inr e ↦ let h : (n == node.0) ≡ false = grind (arith, nat_tests) in rw h (others n e)
-  ]
+  put-there n = grind (arith, nat_tests, cases_eq)
 
   come : ((n : ℕ) → is_some (value_in old n) ≡ has_value (counts_at t.holdings.nodes n)) → (n : ℕ) → is_some (get nat_eq mid n) ≡ has_come (counts_at t.holdings.nodes) node n
-  come was n = sym (some-map arc_value (get nat_eq mid n)) ∙ ap is_some (put-there n) ∙ by (n == node.0)
-    where
-      by : (b : Bool) → is_some (if b then Some x else value_in old n) ≡ (if b then true else has_value (counts_at t.holdings.nodes n))
-      by true = refl
-      by false = was n
+  come was n = grind (arith, nat_tests, nat_eq, put-there, some-map)
 
   pub puts : ShedsBeside node (counts_at t.holdings.nodes) (get nat_eq mid) (counts_at t'.holdings.nodes) (get nat_eq new) → PutsIn true node.0 x t old t' new
-  puts sheds =
-      record {
-        left = λ was n.
-            let left = sheds.left (come was) n in
-            left-map arc_value (has_value (counts_at t'.holdings.nodes n)) (get nat_eq mid n) (get nat_eq new n) left.0 left.1
-            ∙ ap (λ o. if has_value (counts_at t'.holdings.nodes n) then o else None) (put-there n);
-      }
+  puts sheds = grind (arith, nat_tests, come, left-map, nat_eq, put-there)
 
 -- the value is dropped, as its node has one
 pub drops : {N : Type 0} (t t' : Tables) (old new : ValuesByNode N) (node : NodeNumber) (x : N) → has_value (counts_at t.holdings.nodes node.0) ≡ true
     → ShedsBeside node (counts_at t.holdings.nodes) (get nat_eq old) (counts_at t'.holdings.nodes) (get nat_eq new) → PutsIn false node.0 x t old t' new
-drops t t' old new node x there sheds =
-    record {
-      left = λ was n.
-          let left = sheds.left (λ m. sym (some-map arc_value (get nat_eq old m)) ∙ was m ∙ by m (m == node.0) refl) n in
-          left-map arc_value (has_value (counts_at t'.holdings.nodes n)) (get nat_eq old n) (get nat_eq new n) left.0 left.1;
-    }
-  where
-    by : (m : ℕ) (b : Bool) → (m == node.0) ≡ b → has_value (counts_at t.holdings.nodes m) ≡ (if b then true else has_value (counts_at t.holdings.nodes m))
-    by m true e = let n : m ≡ node.0 = grind (arith, nat_tests) in ap (λ k. has_value (counts_at t.holdings.nodes k)) n ∙ there
-    by m false e = refl
+drops t t' old new node x there sheds = grind (arith, nat_tests, left-map, nat_eq, some-map)
 
 -- a node that has its value by the world has it by its counts
 pub beside-there : (t : Tables) (me : Owner) (l : LoadNumber) (node_type : ℕ) (refs : List ArcRef) (r : Ending) → IsWhole t → IsReady (plain_of t) me l node_type refs r → r.is_away ≡ false
@@ -118,9 +68,7 @@ module _ {N S E : Type 0} (tells : Telling S) (g : Spelling N E) (p : PagerView 
   kept n = is.state.valued n ∙ here-in tells g p is n ∙ ap (λ ns. has_value (counts_at ns n)) (sym nodes)
 
   swept : (b : Bool) → r.is_away ≡ b → (n : ℕ) → value_in values n ≡ (if is_some (w'.cells n) && is_here w' n then with_value b r.row.node.0 x (value_in p.values) n else None)
-  swept b e n =
-      puts.left kept n ∙ ap (λ d. if has_value (counts_at t2.holdings.nodes n) then with_value d r.row.node.0 x (value_in p.values) n else None) e
-      ∙ ap (λ d. if d then with_value b r.row.node.0 x (value_in p.values) n else None) (sym (here-told (counts_at t2.holdings.nodes n) w' n refl (sym (whole2.steady.fits.pinned n))))
+  swept b e n = search (rules, here-told, kept, puts)
 
   same-here : is_here (core_in tells (record p { tables = t1 })) r.row.node.0 ≡ is_here w r.row.node.0
   same-here = ap (λ v. is_here v r.row.node.0) wider.same
@@ -168,7 +116,7 @@ module _ {N S E : Type 0} (tells : Telling S) (g : Spelling N E) (p : PagerView 
       by n y true e true some = comes n y e (n == r.row.node.0) refl some
       by n y false e true some = inl some
 
-own-self : (o : Owner) → is_owner o o ≡ true
+pub own-self : (o : Owner) → is_owner o o ≡ true
 own-self owners.Caller = refl
 own-self (owners.Value n) = grind (arith, nat_tests)
 own-self owners.List = refl
@@ -176,9 +124,7 @@ own-self (owners.Load l) = grind (arith, nat_tests)
 own-self (owners.Worker v) = grind (arith, nat_tests)
 
 pub owner-owns : {w : Core} {me : Owner} {l : LoadNumber} {load : OpenLoad} → OwnsLoad w me l load → load_fault w me l ≡ None
-owner-owns {me = me} o =
-    ap (if_there (λ (load : OpenLoad). refused_if (not (is_owner me load.owner)) errors.NotYours) (Some errors.NoSuchHandle)) o.stands_open
-    ∙ ap (λ owner. refused_if (not (is_owner me owner)) errors.NotYours) o.own ∙ ap (λ b. refused_if (not b) errors.NotYours) (own-self me)
+owner-owns {me = me} o = grind (arith, nat_tests, own-self)
 
 -- an own load is open
 pub owned-open : {w : Core} {me : Owner} {l : LoadNumber} {load : OpenLoad} → OwnsLoad w me l load → closed_fault w l ≡ None
@@ -186,9 +132,7 @@ owned-open o = ap (if_there (λ (load : OpenLoad). None) (Some errors.NoSuchHand
 
 -- why a load doesn't end with a value whose references weren't had
 pub unread-gone : (w : Core) (me : Owner) (l : LoadNumber) (t : ℕ) (refs : List ArcRef) → w.loads l.0 ≡ None → Refused (end_fault w me l t refs) (closed_fault w l) (Unit {0}) w errors.NoSuchHandle w
-unread-gone w me l t refs gone =
-    let is : load_fault w me l ≡ Some errors.NoSuchHandle = ap (if_there (λ (load : OpenLoad). refused_if (not (is_owner me load.owner)) errors.NotYours) (Some errors.NoSuchHandle)) gone in
-    record { why = inl (earlier-first (load_fault w me l) _ errors.NoSuchHandle is (λ f late. omega (arith))); stays = still w }
+unread-gone w me l t refs gone = grind (arith, nat_tests, earlier-first, still)
 
 pub unread-open : (w : Core) (l : LoadNumber) (load : OpenLoad) (cause : Option Error) → w.loads l.0 ≡ Some load → Refused cause (closed_fault w l) (Unit {0}) w errors.OutOfMemory w
 unread-open w l load cause is = record { why = inr (refl, ap (if_there (λ (load : OpenLoad). None) (Some errors.NoSuchHandle)) is, tt); stays = still w }
@@ -196,30 +140,10 @@ unread-open w l load cause is = record { why = inr (refl, ap (if_there (λ (load
 -- a load whose end is in vain is closed
 pub vain : {N : Type 0} {w v w' : Core} {me : Owner} {l : LoadNumber} {t : ℕ} {refs : List ArcRef} {e : Error} (x : N) (r : Result (Unit {0}) Error) → IsVain w me l t refs e × (v ≡ w) → DropCall v me l r w'
     → EndRefused w me l x t refs e None w'
-vain {w = w} {v} {w'} {me} {l} x r (is, same) drop =
-    let d : DropCall w me l r w' = subst (λ u. DropCall u me l r w') same drop in
-    elim d.does [
-      | inl refused ↦ absurd (let a = sym refused.why ∙ owner-owns is.may.owned in cc)
-      | inr (load, own, falls) ↦ record { node = is.node; h = is.h; may = is.may; why = is.why; told = r; closes = falls }
-    ]
+vain {w = w} {v} {w'} {me} {l} x r (is, same) drop = grind (arith, nat_tests, owner-owns)
 
 pub wider-alike : {w v : Core} → IsWider w v → Alike w v
-wider-alike {w} {v} wider =
-    let s = still w in
-    subst (Alike w) (sym wider.same)
-    (record {
-      rows = s.rows;
-      cells = s.cells;
-      list = s.list;
-      cache = record { gives = s.cache.gives; only = s.cache.only };
-      stored = s.stored;
-      closed = s.closed;
-      failures = s.failures;
-      loads = s.loads;
-      workers = s.workers;
-      last = s.last;
-      places = wider.more;
-    })
+wider-alike {w} {v} wider = grind (arith, nat_tests, still)
 
 -- memory is wanting for the value
 module _ {N S E : Type 0} (tells : Telling S) (g : Spelling N E) (p : PagerView N S E) (is : IsPager tells g p) (t1 t2 : Tables) (values : ValuesByNode N)

@@ -1,16 +1,6 @@
 -- What a handle lends.
-use Rattle.std.proofs.Common.{◌≡◌, ◌&&◌, Bool, true, false, refl, ap, sym, ◌∙◌, arith, Ok, Err, Some, None, if◌then◌else◌}
-use Rattle.std.specs.Prelude.{Option, is_some, nat_lt}
-use Rattle.std.proofs.lemmas.Bool.Decides.{nat_tests}
-use Rattle.pagable_model.specs.declared.error.Error.{Error}
-use Rattle.pagable_world.specs.declared.handles.HandleRow.{HandleRow}
-use Rattle.pagable_world.specs.Plain.{HandleNumber, NodeNumber}
-use Rattle.pagable_world.specs.Kinds.{is_pinning, held}
-use Rattle.pagable_world.specs.World.{Values, row_at, is_here}
-use Rattle.pagable_world.specs.Calls.{Looks}
-use Rattle.pagable_world.specs.Pager.{PagerState, WellFormed, ValueCall}
-use Rattle.pagable_laws.proofs.Taking.{row-held, row-pins}
-use Rattle.pagable_steps.proofs.SparedHandles.{pinned-here}
+use Rattle.pagable_pager.proofs.Words.{◌≡◌, Bool, true, false, refl, ap, arith, Ok, Err, Some, None, if◌then◌else◌, Option, is_some, nat_tests, Error, HandleRow, HandleNumber, NodeNumber}
+use Rattle.pagable_pager.proofs.Words.{is_pinning, Values, row_at, Looks, PagerState, WellFormed, ValueCall, row-held, row-pins, pinned-here}
 
 Pinned : {N E : Type 0} → PagerState N E → HandleNumber → Option NodeNumber → Type 0
 Pinned s h found = (row : HandleRow) × (row_at s.core h ≡ Some row) × (found ≡ (if is_pinning row.mode then Some row.node else None))
@@ -36,17 +26,7 @@ module _ {N E : Type 0} {v : Values N} (s : PagerState N E) (is : WellFormed v s
 
   -- a handle that pins has its node's value in memory
   pub there : (n : NodeNumber) → Looks s.core h (λ node row. node ≡ (if is_pinning row.mode then Some row.node else None)) (Ok (Some n)) → is_some (s.values n.0) ≡ true
-  there n l =
-      let row = l.found.0 in
-      let a = a-pin row n (is_pinning row.mode) refl l.found.2 in
-      let some = row-held s.core h row l.found.1 in
-      let live = is.whole.handles.live row.node.0 in
-      let yes : nat_lt 0 (held row.node.0 s.core.rows) ≡ true = grind (arith, nat_tests) in
-      let here = pinned-here s.core row.node.0 (row-pins s.core h row l.found.1 a.0) in
-      ap (λ k. is_some (s.values k)) (node-is n row.node a.1) ∙ is.valued row.node.0 ∙ ap (λ b. b && is_here s.core row.node.0) (live ∙ yes) ∙ here
+  there n l = grind (arith, nat_tests, a-pin, node-is, pinned-here, row-held, row-pins)
 
   pub lends : (n : NodeNumber) (x : N) → s.values n.0 ≡ Some x → Looks s.core h (λ node row. node ≡ (if is_pinning row.mode then Some row.node else None)) (Ok (Some n)) → ValueCall s h (Ok (Some x))
-  lends n x value l =
-      let row = l.found.0 in
-      let a = a-pin row n (is_pinning row.mode) refl l.found.2 in
-      record { found = (row, l.found.1, (a.0, sym (ap s.values (node-is n row.node a.1)) ∙ value)); refused = tt }
+  lends n x value l = grind (arith, nat_tests, a-pin, node-is)

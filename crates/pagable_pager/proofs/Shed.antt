@@ -1,25 +1,9 @@
 -- Values that went with their nodes leave the pager in step.
-use Rattle.std.proofs.Common.{◌≡◌, ℕ, ◌&&◌, ◌||◌, Bool, true, false, [], refl, ap, sym, ◌∙◌, Some, None, Option, if◌then◌else◌, inl, inr, nat_eq, suc, zero, arith}
-use Rattle.std.specs.Prelude.{◌⊎◌, is_some, nat_lt, not}
-use Rattle.std.proofs.lemmas.Bool.Decides.{nat_tests}
-use Rattle.std.specs.Option.{option_map}
-use Rattle.std.specs.Arc.{arc_value}
-use Rattle.std.specs.HashMap.{get}
-use Rattle.pagable_world.specs.Kinds.{has_key, is_pinning, mode_of, pins}
-use Rattle.pagable_world.specs.Plain.{Blob}
-use Rattle.pagable_world.specs.World.{Core, is_here, usable}
+use Rattle.pagable_pager.proofs.Words.{◌≡◌, ℕ, ◌&&◌, ◌||◌, Bool, true, false, [], refl, ap, sym, ◌∙◌, Some, None, Option, if◌then◌else◌, inl, inr, nat_eq, suc, zero, arith, ◌⊎◌, is_some, nat_lt}
+use Rattle.pagable_pager.proofs.Words.{not, nat_tests, option_map, arc_value, get, has_key, is_pinning, mode_of, pins, Blob, Core, is_here, usable, WellFormed, entered-of, Leaves, known-here}
+use Rattle.pagable_pager.proofs.Words.{Counts, Tables, counts_at, AreKept, Sheds, has_value, pins_in, cell_in, key_in, AreLater, IsWhole, core_of, plain_of, PagerView, Telling, Spelling}
+use Rattle.pagable_pager.proofs.Words.{ValuesByNode, IsPager, core_in, state_in, value_in, values_of}
 use Rattle.pagable_world.specs.Pager as pager
-use Rattle.pagable_world.specs.Pager.{WellFormed}
-use Rattle.pagable_laws.proofs.Usable.{entered-of}
-use Rattle.pagable_steps.proofs.Keeping.{Leaves}
-use Rattle.pagable_steps.proofs.SparedLists.{known-here}
-use Rattle.pagable_tables.specs.declared.rows.Counts.{Counts}
-use Rattle.pagable_tables.specs.declared.tables.Tables.{Tables}
-use Rattle.pagable_tables.specs.ByNumber.{counts_at}
-use Rattle.pagable_tables.specs.Falling.{AreKept, Sheds, has_value, pins_in, cell_in, key_in}
-use Rattle.pagable_tables.specs.Later.{AreLater}
-use Rattle.pagable_tables.specs.Core.{IsWhole, core_of, plain_of}
-use Rattle.pagable_pager.specs.View.{PagerView, Telling, Spelling, ValuesByNode, IsPager, core_in, state_in, value_in, values_of}
 
 -- the plain world is whole, whatever is stored, if nothing is listed or known once the storage is closed
 pub whole-over : (t : Tables) (stored : ℕ → Option Blob) (closed : Bool) (failures : ℕ) → IsWhole t
@@ -75,16 +59,7 @@ module _ {N S E : Type 0} (tells : Telling S) (g : Spelling N E) (p : PagerView 
   -- what is left
   pub leaves : (t : Tables) (values : ValuesByNode N) → IsWhole t → Sheds (counts_at p.tables.holdings.nodes) (get nat_eq p.values) (counts_at t.holdings.nodes) (get nat_eq values) → pager.IsWhole (core_in tells (record p { tables = t; values = values }))
       → Leaves (value_in p.values) (state_in tells (record p { tables = t; values = values }))
-  leaves t values whole sheds core =
-      let left = sheds.left kept-in in
-      let w' = core_in tells (record p { tables = t; values = values }) in
-      record {
-        swept = λ n.
-            left-map arc_value (has_value (counts_at t.holdings.nodes n)) (get nat_eq p.values n) (get nat_eq values n) (left n).0 (left n).1
-            ∙ ap (λ b. if b then value_in p.values n else None) (sym (here-told (counts_at t.holdings.nodes n) w' n refl (sym (whole.steady.fits.pinned n))));
-        counted = whole.steady.fits.pinned;
-        whole = core;
-      }
+  leaves t values whole sheds core = grind (arith, nat_tests, here-told, kept-in, left-map, nat_eq)
 
   -- what is left leaves the pager in step
   pub shed : (t : Tables) (values : ValuesByNode N) → IsWhole t → AreLater t → Sheds (counts_at p.tables.holdings.nodes) (get nat_eq p.values) (counts_at t.holdings.nodes) (get nat_eq values)
@@ -94,10 +69,7 @@ module _ {N S E : Type 0} (tells : Telling S) (g : Spelling N E) (p : PagerView 
 
   -- no value came
   pub less : (t : Tables) (values : ValuesByNode N) → Sheds (counts_at p.tables.holdings.nodes) (get nat_eq p.values) (counts_at t.holdings.nodes) (get nat_eq values) → (n : ℕ) (x : N) → value_in values n ≡ Some x → value_in p.values n ≡ Some x
-  less t values sheds n x some = elim (sheds.left kept-in n).0 [
-    | inl eq ↦ sym (ap (option_map arc_value) eq) ∙ some
-    | inr eq ↦ absurd (let e : None ≡ Some x = sym (ap (option_map arc_value) eq) ∙ some in cc)
-  ]
+  less t values sheds n x some = grind (arith, nat_tests, kept-in)
 
 -- cells are listed while the storage isn't closed
 pub told-open : {b closed : Bool} → b ≡ closed → not b ≡ not closed

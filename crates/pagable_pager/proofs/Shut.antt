@@ -1,22 +1,7 @@
 -- Once the storage is closed nothing comes to the list or the cache.
-use Rattle.std.proofs.Common.{◌≡◌, ℕ, Bool, true, false, if◌then◌else◌, Ok, Err, List, [], ◌++◌, refl, ap, sym, ◌∙◌, Some, None, inl, inr}
-use Rattle.std.specs.Prelude.{Option, Result, map, filter, not}
-use Rattle.pagable_model.specs.declared.data_key.OptionalDataKey.TheVariants as optional
-use Rattle.pagable_model.specs.declared.numbers.ArcRef.{ArcRef}
-use Rattle.pagable_model.specs.declared.numbers.HandleNumber.{HandleNumber}
-use Rattle.pagable_model.specs.declared.numbers.Kind.{Kind}
-use Rattle.pagable_model.specs.declared.numbers.LoadNumber.{LoadNumber}
-use Rattle.pagable_model.specs.declared.numbers.NodeNumber.{NodeNumber}
-use Rattle.pagable_world.specs.declared.handles.Owner.TheVariants as owners
-use Rattle.pagable_world.specs.declared.handles.HandleRow.{HandleRow}
-use Rattle.pagable_world.specs.declared.handles.Owner.{Owner}
-use Rattle.pagable_world.specs.Plain.{Error, type_of}
-use Rattle.pagable_world.specs.Kinds.{mode_of}
-use Rattle.pagable_world.specs.World.{Core, Alike}
-use Rattle.pagable_world.specs.Cascade.{Falls}
-use Rattle.pagable_world.specs.Calls.{with_cached, with_cached_if_open, with_handle, with_node, next_node, ReleaseCall, UnpinCall, SetKeyCall, ScheduleCall, OfferCall}
-use Rattle.pagable_tables.proofs.Entries.{no-entries}
-use Rattle.pagable_world.specs.LoadCalls.{Adopts, first_key, LazyCall, DropCall, HandOverCall, EndCall, Installs}
+use Rattle.pagable_pager.proofs.Words.{◌≡◌, ℕ, Bool, true, false, Ok, Err, List, [], ◌++◌, refl, ap, sym, ◌∙◌, Some, None, inl, inr, Option, Result, map, filter, not, ArcRef, HandleNumber, Kind}
+use Rattle.pagable_pager.proofs.Words.{LoadNumber, NodeNumber, HandleRow, Owner, Error, Core, Alike, Falls, with_cached_if_open, ReleaseCall, UnpinCall, SetKeyCall, ScheduleCall, OfferCall}
+use Rattle.pagable_pager.proofs.Words.{no-entries, Adopts, LazyCall, DropCall, HandOverCall, EndCall, Installs, arith, nat_tests}
 
 -- nothing is listed or known
 abbrev pub IsBare : Core → Type 0
@@ -37,11 +22,7 @@ bare-fell {u = u} {w'} f closed b =
     )
 
 bare-cached : (w : Core) (kind : Kind) (key : ℕ) (n : NodeNumber) → w.closed ≡ true → IsBare w → IsBare (with_cached_if_open w kind key n)
-bare-cached w kind key n closed b = split w.closed closed
-  where
-    split : (c : Bool) → c ≡ true → IsBare (if c then w else with_cached w kind key n)
-    split true e = b
-    split false e = absurd (cc)
+bare-cached w kind key n closed b = grind (arith, nat_tests)
 
 module _ {w w' : Core} (closed : w.closed ≡ true) (b : IsBare w) where
   pub released-bare : {me : Owner} {h : HandleNumber} {r : Result (Unit {0}) Error} → ReleaseCall w me h r w' → IsBare w'
@@ -70,11 +51,8 @@ module _ {w w' : Core} (closed : w.closed ≡ true) (b : IsBare w) where
   handed-bare (Err e) c = bare-alike c.refused.1 b
 
   pub lazy-bare : {me : Owner} {l : LoadNumber} {kind : Kind} {key : ℕ} (r : Result HandleNumber Error) → LazyCall w me l kind key r w' → IsBare w'
-  lazy-bare {l = l} {kind} {key} (Ok k) c = elim c.makes.3 [
-    | inl gets ↦ bare-alike gets.leaves b
-    | inr (none, few, next, leaves) ↦ bare-alike leaves (bare-cached (with_handle (with_node w (type_of kind.0) (optional.Some key) []) (next_node w) (mode_of kind.0) (owners.Load l)) kind key (next_node w) closed b)
-  ]
-  lazy-bare (Err e) c = bare-alike c.refused.stays b
+  lazy-bare {l = l} {kind} {key} (Ok k) c = grind (arith, nat_tests, bare-alike, bare-cached)
+  lazy-bare (Err e) c = grind (arith, nat_tests, bare-alike, bare-cached)
 
   pub installed-bare : {me : Owner} {l : LoadNumber} {node : NodeNumber} {h k : HandleNumber} {references : List ArcRef} → Installs w me l node h k references w' → IsBare w'
   installed-bare i = elim i.falls [ inl (away, f) ↦ bare-fell f.falls closed b | inr (here, f) ↦ bare-fell f.falls closed b ]
@@ -84,7 +62,4 @@ module _ {w w' : Core} (closed : w.closed ≡ true) (b : IsBare w) where
   end-refused-bare e None c = bare-fell c.refused.closes closed b
 
   pub adopts-bare : {me : Owner} {l : LoadNumber} {kind : Kind} {key t : ℕ} {rs : List ArcRef} {k : HandleNumber} → Adopts w me l kind key t rs k w' → IsBare w'
-  adopts-bare {l = l} {kind} {key} {rs = rs} a = elim a.makes [
-    | inl (n, usable, f) ↦ bare-fell f.falls closed b
-    | inr (none, few, leaves) ↦ bare-alike leaves (bare-cached (with_handle (with_node w (type_of kind.0) (first_key kind.0 key) rs) (next_node w) (mode_of kind.0) (owners.Load l)) kind key (next_node w) closed b)
-  ]
+  adopts-bare {l = l} {kind} {key} {rs = rs} a = grind (arith, nat_tests, bare-alike, bare-cached, bare-fell)

@@ -1,23 +1,10 @@
 -- A step by which no value comes or goes leaves the pager in step.
-use Rattle.std.proofs.Common.{◌≡◌, true, false, refl, subst, sym}
-use Rattle.pagable_model.specs.declared.numbers.LoadNumber.{LoadNumber}
-use Rattle.pagable_world.specs.Kinds.{is_owner}
-use Rattle.pagable_world.specs.Pager as pager
-use Rattle.pagable_world.specs.Pager.{MayOwnLoad}
-use Rattle.pagable_world.specs.declared.handles.Owner.{Owner}
-use Rattle.pagable_world.specs.declared.handles.Owner.TheVariants as owners
-use Rattle.pagable_laws.proofs.Outlasting.{NotValues}
-use Rattle.pagable_steps.proofs.Spared.{Spares, spared}
-use Rattle.pagable_tables.specs.declared.tables.Tables.{Tables}
-use Rattle.pagable_tables.specs.Core.{IsWhole, ArePlaced, MayHold, plain_of}
-use Rattle.pagable_tables.specs.Later.{AreLater}
-use Rattle.pagable_tables.specs.Falling.{is_valued}
-use Rattle.pagable_tables.proofs.keeps.Comes.{not-a-value, not-list}
-use Rattle.pagable_tables.proofs.keeps.LoadCalls.{may-hold}
-use Rattle.pagable_tables.proofs.keeps.Placed.{placed}
-use Rattle.pagable_tables.proofs.keeps.Told.{may-own}
+use Rattle.pagable_pager.proofs.Words.{◌≡◌, true, false, refl, subst, sym, LoadNumber, is_owner, MayOwnLoad, Owner, NotValues, Spares, spared, Tables, IsWhole, ArePlaced, MayHold, plain_of}
+use Rattle.pagable_pager.proofs.Words.{AreLater, is_valued, not-a-value, not-list, may-hold, placed, may-own, PagerView, Telling, Spelling, IsPager, core_in, state_in, values_of, is_at_work}
+use Rattle.pagable_pager.proofs.Words.{arith, nat_tests}
 use Rattle.pagable_pager.proofs.AtWork.{may-begin}
-use Rattle.pagable_pager.specs.View.{PagerView, Telling, Spelling, IsPager, core_in, state_in, values_of, is_at_work}
+use Rattle.pagable_world.specs.Pager as pager
+use Rattle.pagable_world.specs.declared.handles.Owner.TheVariants as owners
 
 -- the caller is no value
 pub caller-free : NotValues owners.Caller
@@ -47,14 +34,7 @@ module _ {N S E : Type 0} (tells : Telling S) (p q : PagerView N S E) (me : Owne
   owner-free n is = subst (MayOwnLoad (core_in tells p)) is owner-may
 
   pub owner-loads : (m : LoadNumber) → is_owner (owners.Load m) me ≡ false
-  owner-loads m = not-load me owner-may
-    where
-      not-load : (o : Owner) → MayOwnLoad (core_in tells p) o → is_owner (owners.Load m) o ≡ false
-      not-load owners.Caller may = refl
-      not-load (owners.Worker v) may = refl
-      not-load (owners.Value n) may = absurd may
-      not-load owners.List may = absurd may
-      not-load (owners.Load l) may = absurd may
+  owner-loads m = grind (arith, nat_tests, owner-may)
 
 module _ {N S E : Type 0} (tells : Telling S) (g : Spelling N E) (p : PagerView N S E) (is : IsPager tells g p) where
   -- other tables

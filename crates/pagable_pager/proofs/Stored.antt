@@ -1,45 +1,19 @@
 -- What the storage is asked leaves the plain world whole.
-use Rattle.std.proofs.Common.{◌≡◌, ℕ, ◌≤◌, Bool, refl, sym, subst}
-use Rattle.std.proofs.Common.{false, Ok, Err, Some}
-use Rattle.std.specs.Prelude.{Option, Result, IfOk, IfErr, OnOk, OnErr}
-use Rattle.pagable_model.specs.Stored.{Adds, RefusesFetch, RefusesStore}
-use Rattle.pagable_world.specs.World.{Core, Alike, seen_as}
-use Rattle.pagable_world.specs.Plain.{Blob, Error}
-use Rattle.pagable_world.specs.Calls.{Asked, FetchCall, StoreCall}
+use Rattle.pagable_pager.proofs.Words.{rules, ◌≡◌, ℕ, ◌≤◌, Bool, false, Ok, Err, Some, Option, Result, IfOk, IfErr, OnOk, OnErr, Adds, RefusesFetch, RefusesStore, Core, seen_as, Blob, Error}
+use Rattle.pagable_pager.proofs.Words.{Asked, FetchCall, StoreCall, Tables, core_of, still, placed, told-whole, arith, nat_tests}
 use Rattle.pagable_world.specs.Pager.{IsWhole}
-use Rattle.pagable_tables.specs.declared.tables.Tables.{Tables}
-use Rattle.pagable_tables.specs.Core.{core_of}
-use Rattle.pagable_tables.proofs.Worlds.{still}
-use Rattle.pagable_tables.proofs.keeps.Placed.{placed}
-use Rattle.pagable_tables.proofs.keeps.Told.{told-whole}
 
 module _ (t : Tables) (stored stored' : ℕ → Option Blob) (closed closed' : Bool) (failures failures' : ℕ) where
   pub whole-told : closed' ≡ closed → IsWhole (core_of t stored closed failures) → IsWhole (core_of t stored' closed' failures')
-  whole-told same is =
-      let a = placed t in
-      told-whole {m = core_of t stored closed failures} {w' = core_of t stored' closed' failures'} is refl (λ n. refl) refl (λ kind key n known. known) same (λ l. refl) (λ v. refl) refl (record { rows = a.rows; list = a.list })
+  whole-told same is = search (rules, placed, told-whole)
 
   pub asked : stored' ≡ stored → closed' ≡ closed → failures ≤ failures' → Asked (core_of t stored closed failures) (core_of t stored' closed' failures')
-  asked same stays more =
-      subst (λ c. Asked (core_of t stored closed failures) (core_of t stored' c failures')) (sym stays)
-      (subst (λ s. Asked (core_of t stored closed failures) (core_of t s closed failures')) (sym same) (record { fails = more; leaves = still (core_of t stored closed failures') }))
+  asked same stays more = grind (arith, nat_tests, still)
 
   pub store-call : (digest : Blob → ℕ) (blob : Blob) (r : Result ℕ Error) → IfOk r (λ key. key ≡ digest blob) → OnOk r (Adds (digest blob) blob stored stored') → OnOk r (closed ≡ false) → IfErr r (RefusesStore blob (stored (digest blob)) closed failures failures')
       → OnErr r (stored' ≡ stored) → closed' ≡ closed → failures ≤ failures' → StoreCall digest (core_of t stored closed failures) blob r (core_of t stored' closed' failures')
-  store-call digest blob (Ok key) is adds was only same stays more =
-      record {
-        stores = (
-          is,
-          record {
-            stands_open = was;
-            adds = subst (λ k. Adds k blob stored stored') (sym is) adds;
-            fails = more;
-            leaves = subst (λ c. Alike (core_of t stored' closed failures') (core_of t stored' c failures')) (sym stays) (still (core_of t stored' closed failures'));
-          },
-        );
-        refused = tt;
-      }
-  store-call digest blob (Err e) is adds was only same stays more = record { stores = tt; refused = (asked same stays more, only) }
+  store-call digest blob (Ok key) is adds was only same stays more = grind (arith, nat_tests, asked, still)
+  store-call digest blob (Err e) is adds was only same stays more = grind (arith, nat_tests, asked, still)
 
 -- the blob, as it is seen
 pub fetch-call : {X : Type 0} (see : X → Blob) (w w' : Core) (key : ℕ) (r : Result X Error) → Asked w w' → IfOk r (λ x. w.stored key ≡ Some (see x)) → IfErr r (RefusesFetch key (w.stored key) w.failures w'.failures) → FetchCall w key (seen_as see r) w'

@@ -1,18 +1,7 @@
 -- A reference that was claimed is taken by its worker.
-use Rattle.std.proofs.Common.{◌≡◌, subst, Bool, true, Ok, Err, inr, sym}
-use Rattle.std.specs.Prelude.{Result}
-use Rattle.pagable_model.specs.declared.error.Error.{Error}
-use Rattle.pagable_model.specs.declared.numbers.ArcRef.{ArcRef}
-use Rattle.pagable_model.specs.declared.numbers.HandleNumber.{HandleNumber}
-use Rattle.pagable_world.specs.declared.handles.Owner.{Owner}
-use Rattle.pagable_world.specs.Kinds.{is_loose}
-use Rattle.pagable_world.specs.World.{Core}
-use Rattle.pagable_world.specs.Calls.{Looks, CloneCall}
-use Rattle.pagable_world.specs.Workers.{RowIs, PinsAtOnce}
-use Rattle.pagable_loads.specs.declared.working.Taken.{Taken}
+use Rattle.pagable_pager.proofs.Words.{◌≡◌, subst, Bool, true, Ok, Err, inr, sym, Result, Error, ArcRef, HandleNumber, Owner, is_loose, Core, Looks, CloneCall, RowIs, PinsAtOnce, Taken}
+use Rattle.pagable_pager.proofs.Words.{TakesReference, BeginsAt, PinsClone}
 use Rattle.pagable_loads.specs.declared.working.Taken.TheVariants as takens
-use Rattle.pagable_loads.specs.Working.{TakesReference, BeginsAt}
-use Rattle.pagable_pager.specs.Clones.{PinsClone}
 
 pub sort_so : {w : Core} {h : HandleNumber} {loose : Bool} → Looks w h (λ b row. b ≡ is_loose row.mode) (Ok loose) → RowIs w h loose
 sort_so l = record { row = l.found.0; live = l.found.1; sort = sym l.found.2 }

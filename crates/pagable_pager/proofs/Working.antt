@@ -1,21 +1,9 @@
 -- A worker comes, for an entry of the list or without one.
-use Rattle.std.proofs.Common.{◌≡◌, ◌+◌, ◌==◌, true, if◌then◌else◌, Ok, Err, Some, ap, arith}
-use Rattle.std.specs.Prelude.{ℕ, Result}
-use Rattle.std.proofs.lemmas.Bool.Decides.{nat_tests}
-use Rattle.pagable_model.specs.declared.error.Error.{Error}
-use Rattle.pagable_model.specs.declared.numbers.WorkerNumber.{WorkerNumber}
-use Rattle.pagable_world.specs.declared.handles.Owner.TheVariants as owners
-use Rattle.pagable_world.specs.World.{Core}
-use Rattle.pagable_world.specs.Events.{with_worker}
+use Rattle.pagable_pager.proofs.Words.{◌≡◌, ◌+◌, ◌==◌, true, if◌then◌else◌, Ok, Err, Some, ap, arith, ℕ, Result, nat_tests, Error, WorkerNumber, Core, with_worker, Spares, with-worker}
+use Rattle.pagable_pager.proofs.Words.{starts-listed, spares-alike, ArePlaced, MayHold, BeginsWorker, TakesWorker, take-whole, settles, alike-whole, roomy-whole, worker-whole, ArcRef, HandleRow}
+use Rattle.pagable_pager.proofs.Words.{Kind, sym, subst, ◌∙◌, same_some, HandleNumber, TakesEntry, loose_kind, HasKinds, IsEntry, with_entry_taken, Alike}
 use Rattle.pagable_world.specs.Pager.{IsWhole}
-use Rattle.pagable_steps.proofs.Spared.{Spares}
-use Rattle.pagable_steps.proofs.SparedLists.{with-worker, starts-listed}
-use Rattle.pagable_steps.proofs.SparedParts.{spares-alike}
-use Rattle.pagable_tables.specs.Core.{ArePlaced, MayHold}
-use Rattle.pagable_tables.specs.Giving.{BeginsWorker, TakesWorker}
-use Rattle.pagable_tables.proofs.keeps.ListCalls.{take-whole}
-use Rattle.pagable_tables.proofs.keeps.Told.{settles, alike-whole, roomy-whole}
-use Rattle.pagable_tables.proofs.keeps.WorkerCalls.{worker-whole}
+use Rattle.pagable_world.specs.declared.handles.Owner.TheVariants as owners
 
 module _ {w w' : Core} (whole : IsWhole w) where
   pub begins : (r : Result WorkerNumber Error) → BeginsWorker w r w' → Spares w w'
@@ -37,3 +25,21 @@ module _ {w w' : Core} (whole : IsWhole w) where
       let holder : MayHold (with_worker w) (owners.Worker v) = ap (λ b. if b then true else w.workers v.0) here in
       take-whole {w = with_worker w} (owners.Worker v) place (Some h) (worker-whole whole) holder (listed, leaves) placed
   takes-whole place (Err e) b placed = alike-whole whole b.refused.1 placed
+
+-- the entry that was looked at is the one that the worker takes
+pub entry-starts : {w w' : Core} {place type : ℕ} {row : HandleRow} {n : WorkerNumber} {kind : Kind} → IsEntry w place row.number row type → (kind.0 ≡ loose_kind type) × HasKinds type
+    → TakesWorker w place (Ok n) w'
+    → TakesEntry w place n (record { kind = kind; node = row.node; handle = row.number }) w'
+entry-starts {w} {w'} {place} {type} {row} {n} e (is, kinds) t =
+    let (h, listed, next, leaves) = t.taken in
+    let same : h ≡ row.number = same_some _ _ (sym listed ∙ e.listed) in
+    record {
+      h = row.number;
+      row = row;
+      type = type;
+      entry = e;
+      kinds = kinds;
+      is = ap (λ k. let x : ArcRef = record { kind = record { 0 = k }; node = row.node; handle = row.number } in x) is;
+      next = next;
+      leaves = subst (λ (q : HandleNumber). Alike (with_worker (with_entry_taken w place q n)) w') same leaves;
+    }

@@ -1,14 +1,10 @@
 -- The clone through which a worker takes a reference.
 use Rattle.std.specs.Prelude.{◌≡◌, ◌⊎◌, Result, Ok, Err, IfOk, IfErr}
-use Rattle.pagable_model.specs.declared.error.Error.{Error}
-use Rattle.pagable_model.specs.declared.numbers.HandleNumber.{HandleNumber}
+use Rattle.pagable_model.specs.{declared.error.Error.Error, declared.numbers.HandleNumber.HandleNumber}
+use Rattle.pagable_world.specs.{declared.handles.Owner.Owner, World.Core, Calls.PinCall, LoadCalls.BeginCall}
+use Rattle.pagable_loads.specs.declared.working.Taken.{Taken}
 use Rattle.pagable_world.specs.declared.answers.Beginning.TheVariants as beginnings
 use Rattle.pagable_world.specs.declared.answers.Pinning.TheVariants as pinnings
-use Rattle.pagable_world.specs.declared.handles.Owner.{Owner}
-use Rattle.pagable_world.specs.World.{Core}
-use Rattle.pagable_world.specs.Calls.{PinCall}
-use Rattle.pagable_world.specs.LoadCalls.{BeginCall}
-use Rattle.pagable_loads.specs.declared.working.Taken.{Taken}
 use Rattle.pagable_loads.specs.declared.working.Taken.TheVariants as takens
 
 abbrev pub Pins : Core → Owner → HandleNumber → Taken → Core → Type 0

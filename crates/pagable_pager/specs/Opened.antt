@@ -1,9 +1,8 @@
 -- What an open load reads.
 use Rattle.std.specs.Prelude.{ℕ, ◌≡◌, Option, Some, None}
 use Rattle.pagable_model.specs.declared.numbers.LoadNumber.{LoadNumber}
+use Rattle.pagable_world.specs.{World.Core, World.OpenLoad, World.Root, World.of_cell, World.of_key, Refusals.OwnsLoad}
 use Rattle.pagable_world.specs.declared.handles.Owner.TheVariants as owners
-use Rattle.pagable_world.specs.World.{Core, OpenLoad, Root, of_cell, of_key}
-use Rattle.pagable_world.specs.Refusals.{OwnsLoad}
 
 -- the type of the value of the cell that a load is of
 abbrev pub type_of_root : Root → Option ℕ

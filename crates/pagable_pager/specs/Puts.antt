@@ -1,9 +1,7 @@
 -- A value comes to a cell that has none, or is dropped.
 use Rattle.std.specs.Prelude.{ℕ, ◌≡◌, Bool, true, false, if◌then◌else◌, Option, Some, None, is_some}
 use Rattle.pagable_world.specs.Plain.{updated}
-use Rattle.pagable_tables.specs.declared.tables.Tables.{Tables}
-use Rattle.pagable_tables.specs.ByNumber.{counts_at}
-use Rattle.pagable_tables.specs.Falling.{has_value}
+use Rattle.pagable_tables.specs.{declared.tables.Tables.Tables, ByNumber.counts_at, Falling.has_value}
 use Rattle.pagable_pager.specs.View.{ValuesByNode, value_in}
 
 -- the values, with this one at its node if it comes

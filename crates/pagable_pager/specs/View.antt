@@ -1,27 +1,13 @@
 -- What contracts see of a pager, and the plain state that it tells.
-use Rattle.std.specs.Arc.{arc_value}
-use Rattle.std.specs.declared.sync.Arc.{Arc}
-use Rattle.std.specs.Global.{Global}
-use Rattle.std.specs.declared.hash.FoldHasher.{FoldHasher}
-use Rattle.std.specs.declared.hash.BuildHasherDefault.{BuildHasherDefault}
-use Rattle.std.specs.HashMap.{HashMap, get}
-use Rattle.std.specs.Option.{option_map}
-use Rattle.std.specs.Prelude.{ℕ, ◌≡◌, Bool, true, false, List, Option, Some, nat_eq}
+use Rattle.std.specs.{Arc.arc_value, declared.sync.Arc.Arc, Global.Global, declared.hash.FoldHasher.FoldHasher, declared.hash.BuildHasherDefault.BuildHasherDefault, HashMap.HashMap, HashMap.get}
+use Rattle.std.specs.{Option.option_map, Prelude.ℕ, Prelude.◌≡◌, Prelude.Bool, Prelude.true, Prelude.false, Prelude.List, Prelude.Option, Prelude.Some, Prelude.nat_eq}
 use Rattle.either.specs.declared.Either.{Either}
-use Rattle.either.specs.declared.Either.TheVariants as eithers
-use Rattle.pagable_model.specs.declared.numbers.ArcRef.{ArcRef}
-use Rattle.pagable_model.specs.declared.numbers.HandleNumber.{HandleNumber}
-use Rattle.pagable_world.specs.declared.handles.Owner.{Owner}
-use Rattle.pagable_world.specs.declared.handles.Owner.TheVariants as owners
+use Rattle.pagable_model.specs.{declared.numbers.ArcRef.ArcRef, declared.numbers.HandleNumber.HandleNumber}
 use Rattle.pagable_world.specs.Plain.{Blob, Error, Meaning, Shape}
-use Rattle.pagable_world.specs.World.{Core, Values}
-use Rattle.pagable_world.specs.LoadCalls.{Given, from_cache, from_store}
-use Rattle.pagable_world.specs.Pager.{PagerState, WellFormed}
-use Rattle.pagable_tables.specs.declared.tables.Tables.{Tables}
-use Rattle.pagable_tables.specs.ByNumber.{counts_at}
-use Rattle.pagable_tables.specs.Falling.{pins_in}
-use Rattle.pagable_tables.specs.Core.{core_of}
-use Rattle.pagable_tables.specs.Later.{AreLater}
+use Rattle.pagable_world.specs.{declared.handles.Owner.Owner, World.Core, World.Values, LoadCalls.Given, LoadCalls.from_cache, LoadCalls.from_store, Pager.PagerState, Pager.WellFormed}
+use Rattle.pagable_tables.specs.{declared.tables.Tables.Tables, ByNumber.counts_at, Falling.pins_in, Core.core_of, Later.AreLater}
+use Rattle.either.specs.declared.Either.TheVariants as eithers
+use Rattle.pagable_world.specs.declared.handles.Owner.TheVariants as owners
 use Rattle.pagable_tables.specs.Core as tables
 
 abbrev pub ValuesByNode : Type 0 → Type 0

@@ -1,10 +1,9 @@
 //! The cache of a lent pager.
 
 ghost use Rattle.std.specs.Prelude.{◌≡◌, IfOk};
-ghost use Rattle.pagable_world.specs.declared.handles.Owner.TheVariants as owners;
-ghost use Rattle.pagable_world.specs.World.{seen_as};
-ghost use Rattle.pagable_world.specs.Calls.{ClearCall, OfferCall, RecallCall};
+ghost use Rattle.pagable_world.specs.{World.seen_as, Calls.ClearCall, Calls.OfferCall, Calls.RecallCall};
 ghost use Rattle.pagable_pager.specs.View.{core_in, telling, OnlyLess, OnlyTables};
+ghost use Rattle.pagable_world.specs.declared.handles.Owner.TheVariants as owners;
 
 use crate::pager::Pager;
 use pagable_codec::{Env, NodeSet};
@@ -56,8 +55,10 @@ where
         ensures step { RecallCall (core_in (telling S.stored S.is_closed S.failed) self.old.pager.now) owners.Caller kind key (seen_as (λ cell. cell.handle) result) (core_in (telling S.stored S.is_closed S.failed) self.new.pager.now) }
         ensures only { OnlyTables self.old.pager.now self.new.pager.now }
     {
-        let handle = self.pager.cache_get(kind, key)?;
-        Ok(ArcCell { kind, key, handle })
+        match self.pager.cache_get(kind, key) {
+            Ok(handle) => Ok(ArcCell { kind, key, handle }),
+            Err(e) => Err(e),
+        }
     }
 
     /// The cache learns a handle's node, or another handle is answered, as by the pager's call of this name; refused as that.

@@ -63,8 +63,8 @@ where
     E::Node: NodeSet<E>,
 {
     ghost use Rattle.std.specs.Prelude.{Some};
-    ghost use Rattle.pagable_world.specs.declared.handles.Owner.TheVariants as owners;
     ghost use Rattle.pagable_pager.specs.View.{state_in, telling};
+    ghost use Rattle.pagable_world.specs.declared.handles.Owner.TheVariants as owners;
 
     ghost told = { λ l. Some (state_in (telling S.stored S.is_closed S.failed) l.pager.now) };
 
@@ -177,10 +177,7 @@ where
         self.pager.is_whole();
         let taken = self.pager.load_lazy_by(self.me, alloc, load, kind, key);
         self.pager.is_whole();
-        match taken {
-            Ok(handle) => Ok(self.pager.reference(kind, handle)),
-            Err(e) => Err(e),
-        }
+        self.pager.referred(kind, taken)
     }
 
     fn load_adopt(
@@ -196,10 +193,7 @@ where
             .pager
             .load_adopt_by(self.me, alloc, load, kind, key, node);
         self.pager.is_whole();
-        match adopted {
-            Ok(handle) => Ok(self.pager.reference(kind, handle)),
-            Err(refused) => Err(refused),
-        }
+        self.pager.referred(kind, adopted)
     }
 
     fn load_end(

@@ -1,10 +1,7 @@
 //! The pager: values in memory, in step with tables of who holds them, over a storage of blobs.
 
-ghost use Rattle.std.specs.Prelude.{◌≡◌};
-ghost use Rattle.std.specs.Arc.{arc_value};
-ghost use Rattle.std.specs.Option.{option_map};
-ghost use Rattle.pagable_world.specs.World.{seen_as};
-ghost use Rattle.pagable_world.specs.Pager.{IsNew, ValueCall, WellFormed};
+ghost use Rattle.std.specs.{Prelude.◌≡◌, Arc.arc_value, Option.option_map};
+ghost use Rattle.pagable_world.specs.{World.seen_as, Pager.IsNew, Pager.ValueCall, Pager.WellFormed};
 ghost use Rattle.pagable_loads.specs.Starting.{Shares};
 ghost use Rattle.pagable_pager.specs.View.{state_in, telling, spelling, values_of};
 

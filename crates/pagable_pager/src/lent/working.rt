@@ -1,26 +1,11 @@
 //! A page-out worker's calls of a pager that is lent.
 
-ghost use Rattle.std.specs.Prelude.{◌≡◌, ◌<◌, IfSome, IfNone};
-ghost use Rattle.pagable_world.specs.Kinds.{loose_kind, HasKinds, HasNoKinds};
-
 use crate::lent::Lent;
 use pagable_codec::{Env, NodeSet};
 use pagable_core::PagableStorage;
 use pagable_loads::{Taken, WorkerAccess};
-use pagable_model::{ArcRef, Error, HandleNumber, Kind, NodeNumber, OptionalDataKey, WorkerNumber};
+use pagable_model::{ArcRef, Error, HandleNumber, NodeNumber, OptionalDataKey, WorkerNumber};
 use pagable_world::handles::Owner;
-
-/// The loose kind of a value type, where the type has kinds.
-fn loose_kind_of(node_type: u32) -> Option<Kind>
-    ensures some { IfSome result (λ kind. (kind.0 ≡ loose_kind node_type) × HasKinds node_type) }
-    ensures none { IfNone result (HasNoKinds node_type) }
-{
-    let number = 3 * (node_type as u64) + 1;
-    if number > u32::MAX as u64 {
-        return None;
-    }
-    Some(Kind(number as u32))
-}
 
 impl<'a, E: Env, S: PagableStorage<E>> WorkerAccess<E> for Lent<'a, E, S>
 where
@@ -61,23 +46,11 @@ where
     }
 
     fn worker_listed(&mut self, place: usize) -> Result<(WorkerNumber, ArcRef), Error> {
-        self.pager.is_whole();
-        let Some((row, node_type, _)) = self.pager.entry(place) else {
-            return Err(Error::NoSuchHandle);
-        };
-        let Some(kind) = loose_kind_of(node_type) else {
-            return Err(Error::WrongKind);
-        };
-        let begun = self.pager.worker_take(place);
+        let begun = self.pager.worker_listed(place);
         self.pager.is_whole();
         match begun {
-            Ok(worker) => {
+            Ok((worker, reference)) => {
                 self.me = Owner::Worker(worker);
-                let reference = ArcRef {
-                    kind,
-                    node: row.node,
-                    handle: row.number,
-                };
                 Ok((worker, reference))
             }
             Err(e) => Err(e),

@@ -1,22 +1,15 @@
 //! What loads have read becomes nodes.
 
 ghost use Rattle.std.specs.Prelude.{List, ◌≡◌, ◌≢◌, ◌+◌, ℕ, Bool, Option, Some, None, IfOk, IfErr, IfSome, IfNone, OnOk, OnErr, not, true};
-ghost use Rattle.pagable_world.specs.declared.handles.Owner.TheVariants as owners;
-ghost use Rattle.pagable_world.specs.Plain.{Blob};
-ghost use Rattle.pagable_world.specs.World.{usable};
-ghost use Rattle.pagable_model.specs.declared.numbers.ArcRef.{ArcRef};
-ghost use Rattle.pagable_model.specs.declared.numbers.Kind.{Kind};
 ghost use Rattle.pagable_world.specs.Refusals.{load_fault, closed_fault, Refused};
-ghost use Rattle.pagable_world.specs.LoadCalls.{adopt_fault, AdoptCall, Adopts};
-ghost use Rattle.pagable_world.specs.Pager.{IsNewNode, Moves};
-ghost use Rattle.pagable_tables.specs.Asking.{early_fault};
-ghost use Rattle.pagable_tables.specs.Bearing.{OnlyRoom};
-ghost use Rattle.pagable_tables.specs.Core.{core_of, plain_of, IsWhole};
-ghost use Rattle.pagable_tables.specs.Later.{AreLater};
+ghost use Rattle.pagable_world.specs.{Plain.Blob, World.usable, LoadCalls.adopt_fault, LoadCalls.AdoptCall, LoadCalls.Adopts, Pager.IsNewNode, Pager.Moves};
+ghost use Rattle.pagable_model.specs.{declared.numbers.ArcRef.ArcRef, declared.numbers.Kind.Kind};
+ghost use Rattle.pagable_tables.specs.{Asking.early_fault, Bearing.OnlyRoom, Core.core_of, Core.plain_of, Core.IsWhole, Later.AreLater};
 ghost use Rattle.pagable_pager.specs.View.{core_in, state_in, telling, value_in, OnlyLess, is_at_work};
+ghost use Rattle.pagable_world.specs.declared.handles.Owner.TheVariants as owners;
 
 use crate::pager::Pager;
-use crate::pager::births::{keep, make_room};
+use crate::pager::births::{keep, share_with_room};
 use indexmap::IndexMap;
 use pagable_codec::{Env, NodeSet};
 use pagable_core::PagableStorage;
@@ -59,12 +52,9 @@ pub(crate) fn adopt_new<N: Drop>(
     if let Err(e) = adopting::make_ready_to_learn(tables) {
         return Err((e, value));
     }
-    let Ok(()) = make_room(values) else {
-        return Err((Error::OutOfMemory, value));
-    };
-    let value = match Arc::new(alloc, value) {
+    let value = match share_with_room(values, alloc, value) {
         Ok(value) => value,
-        Err(refused) => return Err((Error::OutOfMemory, refused.value)),
+        Err(value) => return Err((Error::OutOfMemory, value)),
     };
     let handle = adopting::adopt(tables, load, kind, key, references, lists);
     keep(values, tables.last_node, value);

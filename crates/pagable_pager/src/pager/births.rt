@@ -1,14 +1,10 @@
 //! Nodes that come.
 
-ghost use Rattle.std.specs.Prelude.{◌≡◌, ◌≢◌, ◌<◌, ℕ, Some, OnOk, true};
-ghost use Rattle.std.specs.Arc.{arc_value};
-ghost use Rattle.std.specs.HashMap.{spare};
+ghost use Rattle.std.specs.{Prelude.◌≡◌, Prelude.◌≢◌, Prelude.◌<◌, Prelude.ℕ, Prelude.Some, Prelude.IfOk, Prelude.IfErr, Prelude.OnOk, Prelude.true, Arc.arc_value, HashMap.spare};
+ghost use Rattle.pagable_world.specs.{Kinds.is_pinning, Calls.BirthCall, Calls.AwayBirthCall, Pager.IsNewNode, Pager.Moves};
+ghost use Rattle.pagable_pager.specs.View.{core_in, state_in, telling, value_in, OnlyTables};
 ghost use Rattle.pagable_world.specs.declared.handles.Owner.TheVariants as owners;
 ghost use Rattle.pagable_world.specs.declared.rows.Mode.TheVariants as modes;
-ghost use Rattle.pagable_world.specs.Kinds.{is_pinning};
-ghost use Rattle.pagable_world.specs.Calls.{BirthCall, AwayBirthCall};
-ghost use Rattle.pagable_world.specs.Pager.{IsNewNode, Moves};
-ghost use Rattle.pagable_pager.specs.View.{core_in, state_in, telling, value_in, OnlyTables};
 
 use crate::pager::Pager;
 use indexmap::IndexMap;
@@ -18,15 +14,27 @@ use pagable_model::{DataKey, Error, HandleNumber};
 use pagable_tables::births;
 use pagable_world::Mode;
 use pagable_world::handles::Owner;
-use std::alloc::{AllocError, Global};
+use std::alloc::Global;
 use std::sync::Arc;
 
-/// Room for one more value.
-pub(crate) fn make_room<N>(values: &mut IndexMap<u64, Arc<N>>) -> Result<(), AllocError>
+/// The value, shared, where there is room for one more. Refused by memory alone, and the value comes back.
+pub(crate) fn share_with_room<N: Drop>(
+    values: &mut IndexMap<u64, Arc<N>>,
+    alloc: Global,
+    value: N,
+) -> Result<Arc<N>, N>
     ensures same { (n : ℕ) → value_in values.new n ≡ value_in values.old n }
     ensures room { OnOk result (0 < spare values.new) }
+    ensures shared { IfOk result (λ a. arc_value a ≡ value) }
+    ensures back { IfErr result (λ x. x ≡ value) }
 {
-    values.reserve(1)
+    let Ok(()) = values.reserve(1) else {
+        return Err(value);
+    };
+    match Arc::new(alloc, value) {
+        Ok(shared) => Ok(shared),
+        Err(refused) => Err(refused.value),
+    }
 }
 
 /// A value is in memory from now on, under its node's number.
@@ -62,13 +70,10 @@ where
         if let Err(e) = births::prepare(&mut self.tables, Owner::Caller, &references) {
             return Err((e, node));
         }
-        let Ok(()) = make_room(&mut self.values) else {
-            return Err((Error::OutOfMemory, node));
-        };
         let node_type = node.node_type();
-        let value = match Arc::new(alloc, node) {
+        let value = match share_with_room(&mut self.values, alloc, node) {
             Ok(value) => value,
-            Err(refused) => return Err((Error::OutOfMemory, refused.value)),
+            Err(node) => return Err((Error::OutOfMemory, node)),
         };
         let handle = births::bear_value(
             &mut self.tables,

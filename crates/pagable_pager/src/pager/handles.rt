@@ -1,11 +1,10 @@
 //! Handles that come to live nodes, and what is asked of them.
 
 ghost use Rattle.std.specs.Prelude.{◌≡◌, IsSome, true};
-ghost use Rattle.pagable_world.specs.declared.handles.Owner.TheVariants as owners;
-ghost use Rattle.pagable_world.specs.World.{row_at};
+ghost use Rattle.pagable_world.specs.{World.row_at, Calls.CloneCall, Calls.PinCall, Calls.LoosenCall, Calls.CountCall, Calls.KeyCall, Calls.AwayCall, Calls.NodeCall, Calls.TypeCall};
 ghost use Rattle.pagable_loads.specs.Telling.{IsMade};
-ghost use Rattle.pagable_world.specs.Calls.{CloneCall, PinCall, LoosenCall, CountCall, KeyCall, AwayCall, NodeCall, TypeCall};
-ghost use Rattle.pagable_pager.specs.View.{core_in, telling, OnlyTables, is_at_work};
+ghost use Rattle.pagable_pager.specs.{View.core_in, View.telling, View.OnlyTables, View.is_at_work, Made.Refers};
+ghost use Rattle.pagable_world.specs.declared.handles.Owner.TheVariants as owners;
 
 use crate::pager::Pager;
 use pagable_codec::{Env, NodeSet};
@@ -103,15 +102,29 @@ where
         lookups::node_live(&self.tables, node)
     }
 
-    // The reference that stands for a live handle, as this kind.
+    // The reference that stands for a live handle, as this kind. Of one that isn't live it names no node.
     pub(crate) fn reference(&self, kind: Kind, handle: HandleNumber) -> ArcRef
-        requires { IsSome (row_at (core_in (telling S.stored S.is_closed S.failed) self.now) handle) }
-        ensures made { IsMade (core_in (telling S.stored S.is_closed S.failed) self.now) kind result }
+        ensures made { IsSome (row_at (core_in (telling S.stored S.is_closed S.failed) self.now) handle) → IsMade (core_in (telling S.stored S.is_closed S.failed) self.now) kind result }
         ensures handle { result.handle ≡ handle }
     {
-        match self.node_of(handle) {
-            Ok(node) => ArcRef { kind, node, handle },
-            Err(_) => unreachable!(),
+        let node = match self.node_of(handle) {
+            Ok(node) => node,
+            Err(_) => NodeNumber(0),
+        };
+        ArcRef { kind, node, handle }
+    }
+
+    // What was made, as the reference that stands for it.
+    pub(crate) fn referred<X: Drop>(
+        &self,
+        kind: Kind,
+        made: Result<HandleNumber, X>,
+    ) -> Result<ArcRef, X>
+        ensures { Refers (core_in (telling S.stored S.is_closed S.failed) self.now) kind made result }
+    {
+        match made {
+            Ok(handle) => Ok(self.reference(kind, handle)),
+            Err(e) => Err(e),
         }
     }
 }

@@ -1,25 +1,16 @@
 //! Loads of cells that end with a value.
 
 ghost use Rattle.std.specs.Prelude.{◌≡◌, ◌≢◌, ◌<◌, ℕ, Bool, Option, Some, IfOk, IfErr, OnOk, OnErr, List, [], not, nat_eq, true, false};
-ghost use Rattle.std.specs.Arc.{arc_value};
-ghost use Rattle.std.specs.HashMap.{get, spare};
-ghost use Rattle.pagable_world.specs.declared.handles.Owner.TheVariants as owners;
-ghost use Rattle.pagable_world.specs.Plain.{Blob};
-ghost use Rattle.pagable_world.specs.World.{Core};
+ghost use Rattle.std.specs.{Arc.arc_value, HashMap.get, HashMap.spare};
 ghost use Rattle.pagable_world.specs.LoadCalls.{EndCall, EndRefused, Installs, end_fault};
-ghost use Rattle.pagable_world.specs.Refusals.{Refused, closed_fault};
+ghost use Rattle.pagable_world.specs.{Plain.Blob, World.Core, Refusals.Refused, Refusals.closed_fault, Pager.IsCellOf, Pager.Moves};
 ghost use Rattle.pagable_model.specs.declared.numbers.ArcRef.{ArcRef};
-ghost use Rattle.pagable_world.specs.Pager.{IsCellOf, Moves};
-ghost use Rattle.pagable_tables.specs.Core.{core_of, IsWhole};
-ghost use Rattle.pagable_tables.specs.Later.{AreLater};
-ghost use Rattle.pagable_tables.specs.ByNumber.{counts_at};
-ghost use Rattle.pagable_tables.specs.Falling.{Sheds};
-ghost use Rattle.pagable_tables.specs.Ready.{IsReady, HasPlace, Unends};
-ghost use Rattle.pagable_pager.specs.View.{core_in, state_in, telling, value_in, is_at_work};
-ghost use Rattle.pagable_pager.specs.Puts.{PutsIn};
+ghost use Rattle.pagable_tables.specs.{Core.core_of, Core.IsWhole, Later.AreLater, ByNumber.counts_at, Falling.Sheds, Ready.IsReady, Ready.HasPlace, Ready.Unends};
+ghost use Rattle.pagable_pager.specs.{View.core_in, View.state_in, View.telling, View.value_in, View.is_at_work, Puts.PutsIn};
+ghost use Rattle.pagable_world.specs.declared.handles.Owner.TheVariants as owners;
 
 use crate::pager::Pager;
-use crate::pager::births::{keep, make_room};
+use crate::pager::births::{keep, share_with_room};
 use indexmap::IndexMap;
 use pagable_codec::{Env, NodeSet};
 use pagable_core::PagableStorage;
@@ -30,46 +21,6 @@ use pagable_tables::{ending, installing, loads};
 use pagable_world::handles::Owner;
 use std::alloc::Global;
 use std::sync::Arc;
-
-/// The value comes to the load's cell, which has none, and the load ends. Refused by memory alone, and the value comes back.
-fn put<N: Drop>(
-    tables: &mut Tables,
-    values: &mut IndexMap<u64, Arc<N>>,
-    alloc: Global,
-    me: Owner,
-    load: LoadNumber,
-    node_type: u32,
-    references: Vec<ArcRef>,
-    value: N,
-    ending: Ending,
-    lists: bool,
-) -> Result<HandleNumber, N>
-    requires whole { IsWhole tables.old }
-    requires later { AreLater tables.old }
-    requires ready { (stored : ℕ → Option Blob) (closed : Bool) (failures : ℕ) → IsReady (core_of tables.old stored closed failures) me load node_type references.items ending }
-    requires place { HasPlace tables.old load ending }
-    requires away { ending.is_away ≡ true }
-    ensures installs { IfOk result (λ k. (stored : ℕ → Option Blob) (closed : Bool) (failures : ℕ) → lists ≡ not closed
-        → Installs (core_of tables.old stored closed failures) me load ending.row.node ending.row.number k references.items (core_of tables.new stored closed failures)) }
-    ensures whole { IsWhole tables.new }
-    ensures later { AreLater tables.new }
-    ensures puts { OnOk result (PutsIn true ending.row.node.0 value tables.old values.old tables.new values.new) }
-    ensures back { IfErr result (λ x. x ≡ value) }
-    ensures tables { OnErr result (tables.new ≡ tables.old) }
-    ensures kept { OnErr result ((n : ℕ) → value_in values.new n ≡ value_in values.old n) }
-{
-    let Ok(()) = make_room(values) else {
-        return Err(value);
-    };
-    let value = match Arc::new(alloc, value) {
-        Ok(value) => value,
-        Err(refused) => return Err(refused.value),
-    };
-    keep(values, ending.row.node.0, value);
-    Ok(installing::install(
-        tables, values, me, load, node_type, references, ending, lists,
-    ))
-}
 
 /// The load ends: the value comes to its cell, or is dropped where that has one. Refused by memory alone, and the value comes back.
 fn finish<N: Drop>(
@@ -98,9 +49,14 @@ fn finish<N: Drop>(
     ensures kept { OnErr result ((n : ℕ) → value_in values.new n ≡ value_in values.old n) }
 {
     if ending.is_away {
-        return put(
-            tables, values, alloc, me, load, node_type, references, value, ending, lists,
-        );
+        let value = match share_with_room(values, alloc, value) {
+            Ok(value) => value,
+            Err(value) => return Err(value),
+        };
+        keep(values, ending.row.node.0, value);
+        return Ok(installing::install(
+            tables, values, me, load, node_type, references, ending, lists,
+        ));
     }
     Ok(installing::end_beside(
         tables,

@@ -1,9 +1,9 @@
 //! The cache of nodes by the kind and key under which they were read.
 
 ghost use Rattle.std.specs.Prelude.{◌≡◌};
-ghost use Rattle.pagable_world.specs.declared.handles.Owner.TheVariants as owners;
 ghost use Rattle.pagable_world.specs.Calls.{OfferCall, RecallCall};
 ghost use Rattle.pagable_pager.specs.View.{core_in, telling, OnlyLess, OnlyTables};
+ghost use Rattle.pagable_world.specs.declared.handles.Owner.TheVariants as owners;
 
 use crate::pager::Pager;
 use pagable_codec::{Env, NodeSet};

@@ -1,9 +1,9 @@
 //! The list of cells that wait for page-out: entries are taken and come.
 
 ghost use Rattle.std.specs.Prelude.{◌≡◌, true};
-ghost use Rattle.pagable_world.specs.declared.handles.Owner.TheVariants as owners;
 ghost use Rattle.pagable_world.specs.Calls.{ScheduleCall, TakeCall};
 ghost use Rattle.pagable_pager.specs.View.{core_in, telling, OnlyTables, OnlyLess, is_at_work};
+ghost use Rattle.pagable_world.specs.declared.handles.Owner.TheVariants as owners;
 
 use crate::pager::Pager;
 use pagable_codec::{Env, NodeSet};

@@ -1,14 +1,12 @@
 //! Loads, by steps.
 
-ghost use Rattle.std.specs.Prelude.{◌≡◌, IfOk, IfNone, true};
-ghost use Rattle.std.specs.Arc.{arc_value};
+ghost use Rattle.std.specs.{Prelude.◌≡◌, Prelude.IfOk, Prelude.IfNone, Prelude.true, Arc.arc_value};
 ghost use Rattle.pagable_core.specs.Data.{blob_of};
-ghost use Rattle.pagable_world.specs.declared.handles.Owner.TheVariants as owners;
-ghost use Rattle.pagable_world.specs.declared.calls.Want.TheVariants as wants;
-ghost use Rattle.pagable_world.specs.World.{seen_as};
-ghost use Rattle.pagable_world.specs.LoadCalls.{AskCall, BeginCall, BeginKeyCall, LazyCall};
+ghost use Rattle.pagable_world.specs.{World.seen_as, LoadCalls.AskCall, LoadCalls.BeginCall, LoadCalls.BeginKeyCall, LoadCalls.LazyCall};
 ghost use Rattle.pagable_tables.specs.Asking.{AsksKnown};
 ghost use Rattle.pagable_pager.specs.View.{core_in, telling, given_as, OnlyTables, OnlyStorage, SameValues, is_at_work};
+ghost use Rattle.pagable_world.specs.declared.handles.Owner.TheVariants as owners;
+ghost use Rattle.pagable_world.specs.declared.calls.Want.TheVariants as wants;
 
 use crate::pager::Pager;
 use either::Either;

@@ -1,12 +1,10 @@
 //! What is asked of loads before they begin or go on.
 
 ghost use Rattle.std.specs.Prelude.{◌≡◌, IfOk, IfErr, Some, nat_lt};
-ghost use Rattle.pagable_world.specs.declared.handles.Owner.TheVariants as owners;
-ghost use Rattle.pagable_world.specs.World.{greatest};
-ghost use Rattle.pagable_world.specs.Refusals.{load_fault};
+ghost use Rattle.pagable_world.specs.{World.greatest, Refusals.load_fault};
 ghost use Rattle.pagable_tables.specs.Core.{root_in};
-ghost use Rattle.pagable_pager.specs.View.{core_in, telling};
-ghost use Rattle.pagable_pager.specs.Opened.{ReadsAs, type_of_root};
+ghost use Rattle.pagable_pager.specs.{View.core_in, View.telling, Opened.ReadsAs, Opened.type_of_root};
+ghost use Rattle.pagable_world.specs.declared.handles.Owner.TheVariants as owners;
 
 use crate::pager::Pager;
 use pagable_codec::{Env, NodeSet};

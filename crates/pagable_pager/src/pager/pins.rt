@@ -1,13 +1,10 @@
 //! Pins that begin, at once or by a load.
 
-ghost use Rattle.std.specs.Prelude.{◌≡◌, Some, true, false};
-ghost use Rattle.std.specs.Option.{option_map};
-ghost use Rattle.pagable_world.specs.declared.handles.HandleRow.{HandleRow};
-ghost use Rattle.pagable_world.specs.declared.handles.Owner.TheVariants as owners;
-ghost use Rattle.pagable_world.specs.World.{Reading, row_at, is_here};
-ghost use Rattle.pagable_world.specs.Events.{reading_of_load};
+ghost use Rattle.std.specs.{Prelude.◌≡◌, Prelude.Some, Prelude.true, Prelude.false, Option.option_map};
+ghost use Rattle.pagable_world.specs.{declared.handles.HandleRow.HandleRow, World.Reading, World.row_at, World.is_here, Events.reading_of_load};
 ghost use Rattle.pagable_loads.specs.Starting.{StartsPin, is_unpinned_at};
 ghost use Rattle.pagable_pager.specs.View.{core_in, telling, OnlyTables, is_at_work};
+ghost use Rattle.pagable_world.specs.declared.handles.Owner.TheVariants as owners;
 
 use crate::pager::Pager;
 use pagable_codec::{Env, NodeSet};

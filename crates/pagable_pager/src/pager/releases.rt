@@ -1,9 +1,9 @@
 //! Handles that let go, with all that goes with them.
 
 ghost use Rattle.std.specs.Prelude.{◌≡◌, true};
-ghost use Rattle.pagable_world.specs.declared.handles.Owner.TheVariants as owners;
 ghost use Rattle.pagable_world.specs.Calls.{ReleaseCall, UnpinCall, SetKeyCall};
 ghost use Rattle.pagable_pager.specs.View.{core_in, telling, OnlyLess, is_at_work};
+ghost use Rattle.pagable_world.specs.declared.handles.Owner.TheVariants as owners;
 
 use crate::pager::Pager;
 use pagable_codec::{Env, NodeSet};

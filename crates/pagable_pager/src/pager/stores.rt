@@ -1,11 +1,9 @@
 //! What is asked of the storage.
 
-ghost use Rattle.std.specs.Prelude.{◌≡◌};
+ghost use Rattle.std.specs.{Prelude.◌≡◌, Arc.arc_value};
 ghost use Rattle.pagable_core.specs.Data.{blob_of};
 ghost use Rattle.pagable_model.specs.Blob.{key_of};
-ghost use Rattle.std.specs.Arc.{arc_value};
-ghost use Rattle.pagable_world.specs.World.{seen_as};
-ghost use Rattle.pagable_world.specs.Calls.{FetchCall, StoreCall, FlushCall};
+ghost use Rattle.pagable_world.specs.{World.seen_as, Calls.FetchCall, Calls.StoreCall, Calls.FlushCall};
 ghost use Rattle.pagable_pager.specs.View.{core_in, telling, OnlyStorage};
 
 use crate::pager::Pager;

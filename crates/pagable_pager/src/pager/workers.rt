@@ -1,24 +1,31 @@
 //! What page-out workers ask of the pager.
 
-ghost use Rattle.std.specs.Prelude.{◌≡◌, true, ◌<◌, ◌≤◌, length, IfSome, IfNone};
-ghost use Rattle.pagable_world.specs.Kinds.{is_loose};
-ghost use Rattle.pagable_world.specs.World.{key_at};
-ghost use Rattle.pagable_world.specs.Cascade.{FallsAnyhow};
-ghost use Rattle.pagable_world.specs.Calls.{Looks};
-ghost use Rattle.pagable_world.specs.Workers.{claim_fault, is_workers_at, WorkerEnds};
-ghost use Rattle.pagable_world.specs.Events.{IsEntry};
+ghost use Rattle.std.specs.Prelude.{◌≡◌, true, ◌<◌, ◌≤◌, length, IfSome, IfNone, IfOk, IfErr};
+ghost use Rattle.pagable_world.specs.Kinds.{is_loose, loose_kind, HasKinds, HasNoKinds};
+ghost use Rattle.pagable_world.specs.{World.key_at, Cascade.FallsAnyhow, Calls.Looks, Workers.claim_fault, Workers.is_workers_at, Workers.WorkerEnds, Events.IsEntry};
 ghost use Rattle.pagable_tables.specs.Giving.{BeginsWorker, TakesWorker};
 ghost use Rattle.pagable_loads.specs.Working.{TakesReference};
-ghost use Rattle.pagable_pager.specs.Clones.{PinsClone};
-ghost use Rattle.pagable_pager.specs.View.{core_in, telling, OnlyTables, OnlyLess, is_at_work};
+ghost use Rattle.pagable_pager.specs.{Clones.PinsClone, Made.TakesEntry, Made.LeavesEntry, View.core_in, View.telling, View.OnlyTables, View.OnlyLess, View.is_at_work};
 
 use crate::pager::Pager;
 use pagable_codec::{Env, NodeSet};
 use pagable_core::PagableStorage;
 use pagable_loads::{PinStart, Taken};
-use pagable_model::{ArcRef, Error, HandleNumber, NodeNumber, OptionalDataKey, WorkerNumber};
+use pagable_model::{ArcRef, Error, HandleNumber, Kind, NodeNumber, OptionalDataKey, WorkerNumber};
 use pagable_tables::{lookups, references, workers};
 use pagable_world::handles::{HandleRow, Owner};
+
+/// The loose kind of a value type, where the type has kinds.
+fn loose_kind_of(node_type: u32) -> Option<Kind>
+    ensures some { IfSome result (λ kind. (kind.0 ≡ loose_kind node_type) × HasKinds node_type) }
+    ensures none { IfNone result (HasNoKinds node_type) }
+{
+    let number = 3 * (node_type as u64) + 1;
+    if number > u32::MAX as u64 {
+        return None;
+    }
+    Some(Kind(number as u32))
+}
 
 impl<E: Env, S: PagableStorage<E>> Pager<E, S>
 where
@@ -43,6 +50,7 @@ where
     pub(crate) fn entry(&self, place: usize) -> Option<(HandleRow, u32, OptionalDataKey)>
         ensures found { IfSome result (λ e. IsEntry (core_in (telling S.stored S.is_closed S.failed) self.now) place e.0.number e.0 e.1) }
         ensures keyed { IfSome result (λ e. key_at (core_in (telling S.stored S.is_closed S.failed) self.now) e.0.node.0 ≡ e.2) }
+        ensures within { IfSome result (λ e. place < length (core_in (telling S.stored S.is_closed S.failed) self.now).list) }
         ensures past { IfNone result (length (core_in (telling S.stored S.is_closed S.failed) self.now).list ≤ place) }
     {
         lookups::entry(&self.tables, place)
@@ -63,6 +71,31 @@ where
         ensures only { OnlyTables self.old self.new }
     {
         workers::worker_take(&mut self.tables, place)
+    }
+
+    /// The same, with the reference that the worker pages out: the entry's handle, as a loose one of its cell. Refused with NoSuchHandle past the end, with WrongKind
+    /// where the cell's type has no kinds, and with OutOfMemory.
+    pub(crate) fn worker_listed(&mut self, place: usize) -> Result<(WorkerNumber, ArcRef), Error>
+        ensures begins { IfOk result (λ b. TakesEntry (core_in (telling S.stored S.is_closed S.failed) self.old) place b.0 b.1 (core_in (telling S.stored S.is_closed S.failed) self.new)) }
+        ensures refused { IfErr result (λ e. LeavesEntry (core_in (telling S.stored S.is_closed S.failed) self.old) place e (core_in (telling S.stored S.is_closed S.failed) self.new)) }
+        ensures only { OnlyTables self.old self.new }
+    {
+        let Some((row, node_type, _)) = self.entry(place) else {
+            return Err(Error::NoSuchHandle);
+        };
+        let Some(kind) = loose_kind_of(node_type) else {
+            return Err(Error::WrongKind);
+        };
+        let worker = match self.worker_take(place) {
+            Ok(worker) => worker,
+            Err(e) => return Err(e),
+        };
+        let reference = ArcRef {
+            kind,
+            node: row.node,
+            handle: row.number,
+        };
+        Ok((worker, reference))
     }
 
     /// A worker gives up all handles that it has at a node, with all that goes with them.

@@ -1,5 +1,4 @@
-use Rattle.pagable_core.specs.Data.{blob_of}
-use Rattle.pagable_loads.specs.Telling.{values_at}
+use Rattle.pagable_loads.proofs.Words.{blob_of, values_at}
 use Rattle.pagable_loads.proofs.NextStep.{is_read}
 use Rattle.pagable_loads.proofs.decoding.decode.Goals as goal
 

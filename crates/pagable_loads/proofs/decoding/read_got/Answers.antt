@@ -1,6 +1,4 @@
-use Rattle.std.proofs.Common.{rules}
-use Rattle.pagable_core.specs.Data.{blob_of}
-use Rattle.pagable_loads.specs.Got.{got_of}
+use Rattle.pagable_loads.proofs.Words.{rules, blob_of, got_of}
 use Rattle.pagable_loads.proofs.NextStep.{reads_with}
 use Rattle.pagable_loads.proofs.decoding.read_got.Goals as goal
 

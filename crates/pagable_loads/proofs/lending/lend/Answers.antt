@@ -1,7 +1,4 @@
-use Rattle.std.proofs.Common.{ap, arith, length, subst, sym, ◌∙◌}
-use Rattle.std.proofs.lemmas.Option.{slice_get-get_or}
-use Rattle.std.specs.Arc.{arc_value}
-use Rattle.pagable_loads.specs.Lending.{LendsEach}
+use Rattle.pagable_loads.proofs.Words.{ap, arith, length, subst, sym, ◌∙◌, slice_get-get_or, arc_value, LendsEach}
 use Rattle.pagable_loads.proofs.Lent.{tells_all, tells_both, tells_map, none_lent, longer, more_lent, all_lent}
 use Rattle.pagable_loads.proofs.lending.lend.Goals as goal
 

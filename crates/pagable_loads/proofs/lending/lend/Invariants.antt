@@ -1,6 +1,4 @@
-use Rattle.std.proofs.Common.{◌≡◌, length}
-use Rattle.std.specs.Arc.{arc_value}
-use Rattle.pagable_loads.specs.Telling.{Tells}
+use Rattle.pagable_loads.proofs.Words.{◌≡◌, length, arc_value, Tells}
 use Rattle.pagable_loads.proofs.Lent.{LentTo}
 use Rattle.pagable_loads.proofs.lending.lend.Given as goal
 

@@ -1,4 +1,4 @@
-use Rattle.std.specs.Arc.{arc_value}
+use Rattle.pagable_loads.proofs.Words.{arc_value}
 use Rattle.pagable_loads.proofs.Lent.{tells_map, not_shared}
 use Rattle.pagable_loads.proofs.lending.value_of.Goals as goal
 

@@ -1,6 +1,5 @@
-use Rattle.pagable_loads.specs.Telling.{values_at}
-use Rattle.pagable_loads.proofs.Pinned.{takes_back, taken_back}
-use Rattle.pagable_loads.proofs.Stepped.{told_then}
+use Rattle.pagable_loads.proofs.Words.{values_at}
+use Rattle.pagable_loads.proofs.{Pinned.takes_back, Pinned.taken_back, Stepped.told_then}
 use Rattle.pagable_loads.proofs.over.pin_over.Goals as goal
 
 pub returns-clause-pins : goal.returns-clause-pins

@@ -1,4 +1,4 @@
-use Rattle.pagable_loads.specs.Telling.{values_at}
+use Rattle.pagable_machine.proofs.Words.{values_at}
 use Rattle.pagable_machine.proofs.Happening.{call-drives}
 use Rattle.pagable_machine.proofs.events.call.Goals as goal
 

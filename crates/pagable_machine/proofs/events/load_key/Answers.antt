@@ -1,4 +1,4 @@
-use Rattle.pagable_loads.specs.Telling.{values_at}
+use Rattle.pagable_machine.proofs.Words.{values_at}
 use Rattle.pagable_machine.proofs.Happening.{keeps-after, key-drives, key-full-drives, key-none-drives}
 use Rattle.pagable_machine.proofs.events.load_key.Goals as goal
 
@@ -13,4 +13,5 @@ returns-in-Some g c =
 
 pub returns-in-None : goal.returns-in-None
 returns-in-None g c =
-    key-none-drives (values_at g.E.Node.NodeSet g.E.Env g.E.Hash.KeyHash) _ _ _ _ _ c.requires c.is_whole.ensures _ _ _ c.in-None.ensures.none c.begin_key-begun.ensures c.is_whole-2.ensures c.key_place.ensures.same
+    key-none-drives (values_at g.E.Node.NodeSet g.E.Env g.E.Hash.KeyHash) _ _ _ _ _ c.requires c.is_whole.ensures _ _ _ c.in-None.ensures.none c.begin_key-begun.ensures c.is_whole-2.ensures
+    c.key_place.ensures.same

@@ -1,4 +1,4 @@
-use Rattle.pagable_loads.specs.Telling.{values_at}
+use Rattle.pagable_machine.proofs.Words.{values_at}
 use Rattle.pagable_machine.proofs.Happening.{start-drives}
 use Rattle.pagable_machine.proofs.events.load_start.Goals as goal
 

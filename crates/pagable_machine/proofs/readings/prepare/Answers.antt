@@ -1,6 +1,6 @@
+use Rattle.pagable_machine.proofs.Words.{sym, ◌∙◌}
 use Rattle.pagable_machine.proofs.Happening.{begins-prepared, is-prepared, keeps-after}
 use Rattle.pagable_machine.proofs.readings.prepare.Goals as goal
-use Rattle.std.proofs.Common.{sym, ◌∙◌}
 
 pub returns-then-is_kept-clause-ready : goal.returns-then-is_kept-clause-ready
 returns-then-is_kept-clause-ready c = is-prepared _ _ _ (sym c.is_kept.ensures ∙ c.if-is_kept.true)

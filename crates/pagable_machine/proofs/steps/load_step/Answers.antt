@@ -1,6 +1,5 @@
-use Rattle.pagable_loads.specs.Telling.{values_at}
+use Rattle.pagable_machine.proofs.Words.{values_at, ◌∙◌}
 use Rattle.pagable_machine.proofs.Happening.{closed-drives, no-place-drives, step-drives, step-of, untyped-drives}
-use Rattle.std.proofs.Common.{◌∙◌}
 use Rattle.pagable_machine.proofs.steps.load_step.Goals as goal
 
 pub returns-in-Err : goal.returns-in-Err
@@ -11,7 +10,16 @@ returns-in-Ok-prepare g c =
     let moved = c.step_lent-reply.ensures in
     step-drives (values_at g.E.Node.NodeSet g.E.Env g.E.Hash.KeyHash) _ _ _ _ _ c.requires c.is_whole.ensures _ _ _ c.in-Ok.ensures.reads c.prepare.new.readings c.put_in.new.readings _
     c.in-Ok-prepare.ensures.ready
-    (record { own = c.take_out-own.result; new = c.step_lent-reply.result.1; was = c.take_out-own.ensures.was; again = moved.again; counts = moved.counts; counted = moved.counted; keeps = record { here = c.put_in.ensures.here; others = λ q other. c.put_in.ensures.others q other ∙ c.take_out-own.ensures.others q other } })
+    (record {
+      own = c.take_out-own.result;
+      new = c.step_lent-reply.result.1;
+      was = c.take_out-own.ensures.was;
+      again = moved.again;
+      counts = moved.counts;
+      counted = moved.counted;
+      keeps =
+          record { here = c.put_in.ensures.here; others = λ q other. c.put_in.ensures.others q other ∙ c.take_out-own.ensures.others q other };
+    })
     (λ own new was here. step-of c.take_out-own.ensures.was c.put_in.ensures.here moved.step was here) c.end.ensures
 
 pub returns-in-Err-NoPlace : goal.returns-in-Err-NoPlace

@@ -1,4 +1,4 @@
-use Rattle.std.proofs.Common.{rules, ◌≡◌}
+use Rattle.pagable_machine.proofs.Words.{rules, ◌≡◌}
 use Rattle.pagable_machine.proofs.walks.step_lent.Goals as goal
 
 pub returns-clause-step : goal.returns-clause-step

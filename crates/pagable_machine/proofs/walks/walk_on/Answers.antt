@@ -1,5 +1,4 @@
-use Rattle.std.proofs.Common.{rules, ◌-◌, refl, arith}
-use Rattle.std.proofs.lemmas.Option.{slice_get_read}
+use Rattle.pagable_machine.proofs.Words.{rules, ◌-◌, refl, arith, slice_get_read}
 use Rattle.pagable_machine.proofs.Setting.{set-at}
 use Rattle.pagable_machine.proofs.walks.walk_on.Goals as goal
 

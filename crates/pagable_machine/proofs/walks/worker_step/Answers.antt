@@ -1,8 +1,4 @@
-use Rattle.std.proofs.Common.{rules, ◌≡◌, true, false, sym, ◌∙◌}
-use Rattle.std.specs.Prelude.{is_some}
-use Rattle.pagable_loads.specs.Telling.{values_at}
-use Rattle.pagable_machine.specs.Walking.{has_task}
-use Rattle.pagable_machine.specs.Driving.{kept_at}
+use Rattle.pagable_machine.proofs.Words.{rules, ◌≡◌, true, false, sym, ◌∙◌, is_some, values_at, has_task, kept_at}
 use Rattle.pagable_machine.proofs.Driven.{no-step-drives, step-drives}
 use Rattle.pagable_machine.proofs.walks.worker_step.Goals as goal
 
@@ -25,4 +21,5 @@ walk_on-requires-clause-at_work g c =
 
 pub returns : goal.returns
 returns g c =
-    step-drives (values_at g.E.Node.NodeSet g.E.Env g.E.Hash.KeyHash) _ _ _ _ c.requires c.is_whole.ensures c.args.worker _ c.walk_on.new.walk c.walk_on.result c.walk_on.new.tables _ (sym c.in-Some.ensures.value) c.walk_on.ensures (record { here = search rules; others = search rules })
+    step-drives (values_at g.E.Node.NodeSet g.E.Env g.E.Hash.KeyHash) _ _ _ _ c.requires c.is_whole.ensures c.args.worker _ c.walk_on.new.walk c.walk_on.result c.walk_on.new.tables _
+    (sym c.in-Some.ensures.value) c.walk_on.ensures (record { here = search rules; others = search rules })

@@ -1,9 +1,4 @@
-use Rattle.std.proofs.Common.{ap, ℕ}
-use Rattle.std.specs.Prelude.{◌||◌, nat_lt, Result}
-use Rattle.pagable_model.specs.Deep.{is_eager}
-use Rattle.pagable_model.specs.declared.error.Error.{Error}
-use Rattle.pagable_model.specs.declared.numbers.ArcRef.{ArcRef}
-use Rattle.pagable_loads.specs.StandIns.{answered_or}
+use Rattle.pagable_loads.proofs.Words.{ap, ℕ, ◌||◌, nat_lt, Result, is_eager, Error, ArcRef, answered_or}
 use Rattle.pagable_loads.proofs.foreseeing.StandInsReferences.reference.Goals as goal
 
 pub returns-then-place-self-clause-same_answers : goal.returns-then-place-self-clause-same_answers

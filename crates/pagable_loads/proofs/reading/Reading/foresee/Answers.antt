@@ -1,5 +1,4 @@
-use Rattle.std.proofs.Common.{[], rules}
-use Rattle.pagable_loads.specs.Frames.{frame_of, frames_of, onto}
+use Rattle.pagable_loads.proofs.Words.{[], rules, frame_of, frames_of, onto}
 use Rattle.pagable_loads.proofs.Foreseen.{row_found}
 use Rattle.pagable_loads.proofs.reading.Reading.foresee.Goals as goal
 

@@ -1,4 +1,4 @@
-use Rattle.std.proofs.Common.{rules, ◌≡◌, ◌/◌, ◌++◌, ◌∷◌, []}
+use Rattle.pagable_loads.proofs.Words.{rules, ◌≡◌, ◌/◌, ◌++◌, ◌∷◌, []}
 use Rattle.pagable_loads.proofs.Needed.{pushed_frames}
 use Rattle.pagable_loads.proofs.reading.Reading.put_blob.Goals as goal
 

@@ -1,8 +1,5 @@
-use Rattle.std.proofs.Common.{◌∙◌, refl}
-use Rattle.pagable_loads.specs.Frames.{frames_of}
-use Rattle.pagable_loads.specs.Telling.{values_at}
-use Rattle.pagable_loads.proofs.Driven.{went_on, ends_so}
-use Rattle.pagable_loads.proofs.Stepped.{told_then}
+use Rattle.pagable_loads.proofs.Words.{◌∙◌, refl, frames_of, values_at}
+use Rattle.pagable_loads.proofs.{Driven.went_on, Driven.ends_so, Stepped.told_then}
 use Rattle.pagable_loads.proofs.reading.Reading.run.Goals as goal
 
 pub returns-in-Some-clause-run : goal.returns-in-Some-clause-run

@@ -1,10 +1,4 @@
-use Rattle.std.proofs.Common.{◌≡◌}
-use Rattle.pagable_world.specs.Access.{Told}
-use Rattle.pagable_loads.specs.Ahead.{IsAhead}
-use Rattle.pagable_loads.specs.Ending.{to_do}
-use Rattle.pagable_loads.specs.Frames.{frames_of}
-use Rattle.pagable_loads.specs.Running.{HasGone}
-use Rattle.pagable_loads.specs.Telling.{values_at}
+use Rattle.pagable_loads.proofs.Words.{◌≡◌, Told, IsAhead, to_do, frames_of, HasGone, values_at}
 use Rattle.pagable_loads.proofs.reading.Reading.run.Given as goal
 
 abbrev pub invariant-loop-answer : goal.invariant-loop-answer

@@ -1,5 +1,4 @@
-use Rattle.std.proofs.Common.{◌∙◌}
-use Rattle.pagable_loads.specs.Telling.{values_at}
+use Rattle.pagable_loads.proofs.Words.{◌∙◌, values_at}
 use Rattle.pagable_loads.proofs.Stepped.{told_then, gives_up}
 use Rattle.pagable_loads.proofs.reading.Reading.step.Goals as goal
 

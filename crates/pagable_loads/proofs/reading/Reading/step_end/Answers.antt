@@ -1,5 +1,4 @@
-use Rattle.pagable_loads.specs.Telling.{values_at}
-use Rattle.std.proofs.Common.{refl}
+use Rattle.pagable_loads.proofs.Words.{values_at, refl}
 use Rattle.pagable_loads.proofs.Stepped.{told_map, end_pins, end_closed, end_refused}
 use Rattle.pagable_loads.proofs.reading.Reading.step_end.Goals as goal
 

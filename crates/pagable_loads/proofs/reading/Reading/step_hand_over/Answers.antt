@@ -1,6 +1,4 @@
-use Rattle.pagable_loads.specs.Telling.{values_at}
-use Rattle.std.proofs.Common.{refl, ap, ◌∙◌}
-use Rattle.pagable_world.specs.Loads.{handles_of}
+use Rattle.pagable_loads.proofs.Words.{values_at, refl, ap, ◌∙◌, handles_of}
 use Rattle.pagable_loads.proofs.Stepped.{told_map, hands_over, hand_over_refused}
 use Rattle.pagable_loads.proofs.reading.Reading.step_hand_over.Goals as goal
 

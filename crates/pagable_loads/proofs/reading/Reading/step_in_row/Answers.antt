@@ -1,8 +1,5 @@
-use Rattle.std.proofs.Common.{◌∙◌, sym, subst}
-use Rattle.pagable_loads.specs.Ahead.{IsAhead}
-use Rattle.pagable_loads.specs.Telling.{values_at}
-use Rattle.pagable_loads.proofs.Foreseen.{row_goes_on}
-use Rattle.pagable_loads.proofs.Stepped.{told_then, gives_up}
+use Rattle.pagable_loads.proofs.Words.{◌∙◌, sym, subst, IsAhead, values_at}
+use Rattle.pagable_loads.proofs.{Foreseen.row_goes_on, Stepped.told_then, Stepped.gives_up}
 use Rattle.pagable_loads.proofs.reading.Reading.step_in_row.Goals as goal
 
 pub returns-in-Err-clause-step : goal.returns-in-Err-clause-step

@@ -1,12 +1,6 @@
-use Rattle.pagable_loads.specs.Telling.{values_at}
-use Rattle.std.specs.Arc.{arc_value}
-use Rattle.pagable_core.specs.Data.{blob_of}
+use Rattle.pagable_loads.proofs.Words.{values_at, arc_value, blob_of, refl, [], nested_frame, frame_of, onto}
 use Rattle.pagable_loads.proofs.Stepped.{told_map, nested_known, nested_blob, nested_deep, nested_refused}
-use Rattle.std.proofs.Common.{refl, []}
-use Rattle.pagable_world.specs.Loads.{nested_frame}
-use Rattle.pagable_loads.specs.Frames.{frame_of, onto}
-use Rattle.pagable_loads.proofs.Lowering.{got_leads, blob_leads, nested_wants}
-use Rattle.pagable_loads.proofs.Needed.{below_short}
+use Rattle.pagable_loads.proofs.{Lowering.got_leads, Lowering.blob_leads, Lowering.nested_wants, Needed.below_short}
 use Rattle.pagable_loads.proofs.reading.Reading.step_nested.Goals as goal
 
 pub returns-in-Ok-Left-clause-step : goal.returns-in-Ok-Left-clause-step

@@ -1,10 +1,5 @@
-use Rattle.pagable_loads.specs.Telling.{values_at}
-use Rattle.std.specs.Arc.{arc_value}
-use Rattle.pagable_core.specs.Data.{blob_of}
-use Rattle.pagable_loads.proofs.Stepped.{told_map, root_comes, root_refused}
-use Rattle.pagable_world.specs.Loads.{root_frame}
-use Rattle.pagable_loads.proofs.Lowering.{root_leads}
-use Rattle.std.proofs.Common.{refl}
+use Rattle.pagable_loads.proofs.Words.{values_at, arc_value, blob_of, root_frame, refl}
+use Rattle.pagable_loads.proofs.{Stepped.told_map, Stepped.root_comes, Stepped.root_refused, Lowering.root_leads}
 use Rattle.pagable_loads.proofs.reading.Reading.step_root.Goals as goal
 
 pub returns-in-Ok-clause-step : goal.returns-in-Ok-clause-step

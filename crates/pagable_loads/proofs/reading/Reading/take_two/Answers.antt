@@ -1,4 +1,4 @@
-use Rattle.std.proofs.Common.{rules}
+use Rattle.pagable_loads.proofs.Words.{rules}
 use Rattle.pagable_loads.proofs.Needed.{two_frames}
 use Rattle.pagable_loads.proofs.reading.Reading.take_two.Goals as goal
 

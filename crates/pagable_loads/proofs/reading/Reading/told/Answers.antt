@@ -1,7 +1,4 @@
-use Rattle.std.proofs.Common.{[], rules, slice_index_or}
-use Rattle.std.proofs.lemmas.Option.{slice_get-get_or}
-use Rattle.pagable_loads.specs.Frames.{frame_of, frames_of, onto}
-use Rattle.pagable_loads.specs.StandIns.{stand_in}
+use Rattle.pagable_loads.proofs.Words.{[], rules, slice_index_or, slice_get-get_or, frame_of, frames_of, onto, stand_in}
 use Rattle.pagable_loads.proofs.Foreseen.{row_tells}
 use Rattle.pagable_loads.proofs.reading.Reading.told.Goals as goal
 

@@ -1,5 +1,4 @@
-use Rattle.std.proofs.Common.{rules, ◌≡◌, length, sym, arith}
-use Rattle.pagable_machine.specs.Driving.{over}
+use Rattle.pagable_machine.proofs.Words.{rules, ◌≡◌, length, sym, arith, over}
 use Rattle.pagable_machine.proofs.Running.{at-first, one-more, all-ran}
 use Rattle.pagable_machine.proofs.machine.Machine.run.Goals as goal
 
@@ -24,9 +23,6 @@ pub returns-clause-run : goal.returns-clause-run
 returns-clause-run g c =
     let none : length c.loop-event.rest.items ≡ 0 = search rules in
     all-ran _ _ _ _ _ _ _ none c.loop-event.invariant.run
-
-pub serve-reply-requires : goal.serve-reply-requires
-serve-reply-requires g c = c.loop-event.invariant.run.in_step
 
 pub invariant_of-self : goal.invariant_of-self
 invariant_of-self g c = c.loop-event.invariant.run.in_step

@@ -1,7 +1,4 @@
-use Rattle.std.proofs.Common.{◌+◌, ◌≤◌, length, vec_len}
-use Rattle.std.specs.Vec.{vec_capacity}
-use Rattle.pagable_pager.specs.View.{spelling, telling}
-use Rattle.pagable_machine.specs.Driving.{over}
+use Rattle.pagable_machine.proofs.Words.{◌+◌, ◌≤◌, length, vec_len, vec_capacity, spelling, telling, over}
 use Rattle.pagable_machine.proofs.Running.{SoFar}
 use Rattle.pagable_machine.proofs.machine.Machine.run.Given as goal
 
@@ -9,7 +6,8 @@ use Rattle.pagable_machine.proofs.machine.Machine.run.Given as goal
 abbrev pub invariant-loop-event : goal.invariant-loop-event
 invariant-loop-event g l =
     let tells = telling g.S.PagableStorage.stored g.S.PagableStorage.is_closed g.S.PagableStorage.failed in
-    let says = spelling g.E.Node.NodeSet.type_of g.E.Node.NodeSet.refs_of g.E.Node.NodeSet.means g.E.Node.NodeSet.read_causes g.E.Node.NodeSet.write_causes g.E.Node.NodeSet.shape_of g.E.Env.parts g.E.Hash.KeyHash.digest in
+    let says = spelling g.E.Node.NodeSet.type_of g.E.Node.NodeSet.refs_of g.E.Node.NodeSet.means g.E.Node.NodeSet.read_causes g.E.Node.NodeSet.write_causes g.E.Node.NodeSet.shape_of g.E.Env.parts
+    g.E.Hash.KeyHash.digest in
     record {
       room : length l.rest.items + vec_len l.replies ≤ vec_capacity l.replies;
       run : SoFar tells says l.fn.self l.fn.events.items l.rest.items l.replies.items (over l.self-inside.pager l.self-inside.held);

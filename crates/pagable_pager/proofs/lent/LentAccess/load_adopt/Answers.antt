@@ -1,5 +1,15 @@
-use Rattle.pagable_pager.proofs.Lending.{adopted_live}
+use Rattle.pagable_pager.proofs.Words.{values_at, telling, WellFormed, subst, state_in}
+use Rattle.pagable_pager.proofs.Lending.{adopted_refers}
 use Rattle.pagable_pager.proofs.lent.LentAccess.load_adopt.Goals as goal
 
-pub reference-requires : goal.reference-requires
-reference-requires g c = adopted_live c.is_whole.ensures.whole.handles _ c.in-Ok.ensures.step.adopts
+pub returns-clause-step : goal.returns-clause-step
+returns-clause-step g c =
+    let moves = c.load_adopt_by-adopted.ensures.moves in
+    record {
+      holds = record {
+        step = adopted_refers c.is_whole.ensures.whole.handles _ c.load_adopt_by-adopted.result c.referred.result c.load_adopt_by-adopted.ensures.step c.referred.ensures;
+        moves = moves;
+        whole = subst (λ e. WellFormed (values_at g.E.Node.NodeSet g.E.Env g.E.Hash.KeyHash e)
+            (state_in (telling g.S.PagableStorage.stored g.S.PagableStorage.is_closed g.S.PagableStorage.failed) c.load_adopt_by-adopted.new.self)) moves.environment c.is_whole-2.ensures;
+      };
+    }

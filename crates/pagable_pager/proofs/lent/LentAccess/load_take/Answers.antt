@@ -1,6 +1,4 @@
-use Rattle.pagable_world.specs.LoadCalls.{HandOverCall}
-use Rattle.pagable_loads.specs.Telling.{values_at}
-use Rattle.pagable_pager.specs.View.{telling}
+use Rattle.pagable_pager.proofs.Words.{HandOverCall, values_at, telling}
 use Rattle.pagable_pager.proofs.Lending.{told_less}
 use Rattle.pagable_pager.proofs.lent.LentAccess.load_take.Goals as goal
 

@@ -1,6 +1,4 @@
-use Rattle.pagable_world.specs.Calls.{UnpinCall}
-use Rattle.pagable_loads.specs.Telling.{values_at}
-use Rattle.pagable_pager.specs.View.{telling}
+use Rattle.pagable_pager.proofs.Words.{UnpinCall, values_at, telling}
 use Rattle.pagable_pager.proofs.Lending.{told_less}
 use Rattle.pagable_pager.proofs.lent.LentAccess.unpin.Goals as goal
 

@@ -1,10 +1,5 @@
-use Rattle.std.proofs.Common.{refl}
-use Rattle.pagable_world.specs.Refusals.{load_fault}
-use Rattle.pagable_world.specs.LoadCalls.{adopt_fault}
-use Rattle.pagable_tables.specs.Core.{core_of}
-use Rattle.pagable_tables.proofs.Stays.{eager-pins}
-use Rattle.pagable_pager.proofs.Adopting.{found-so}
-use Rattle.pagable_pager.proofs.Shed.{told-open, less, known-valued}
+use Rattle.pagable_pager.proofs.Words.{refl, load_fault, adopt_fault, core_of, eager-pins}
+use Rattle.pagable_pager.proofs.{Adopting.found-so, Shed.told-open, Shed.less, Shed.known-valued}
 use Rattle.pagable_pager.proofs.pager.Pager.adopt_known.Goals as goal
 
 pub adopt_if_known-requires-clause-valued : goal.adopt_if_known-requires-clause-valued
@@ -16,10 +11,10 @@ invariant_of-self g c =
     let w = core_of c.self.inside.tables (g.S.PagableStorage.stored c.self.inside.storage) (g.S.PagableStorage.is_closed c.self.inside.storage) (g.S.PagableStorage.failed c.self.inside.storage) in
     found-so _ _ _ c.self.invariant c.adopt_if_known.new.t c.adopt_if_known.new.values e.whole e.later e.sheds c.args.me c.args.load c.args.kind c.args.key c.args.node_type c.args.references.now
     (adopt_fault w c.args.me c.args.load c.args.kind c.args.key c.args.node_type c.args.references.now) (load_fault w c.args.me c.args.load) c.adopt_if_known.result
-    (e.known (g.S.PagableStorage.stored c.self.inside.storage) (g.S.PagableStorage.is_closed c.self.inside.storage) (g.S.PagableStorage.failed c.self.inside.storage) (told-open c.has_closed-lists.ensures)) e.given e.same (e.refused (g.S.PagableStorage.stored c.self.inside.storage) (g.S.PagableStorage.is_closed c.self.inside.storage) (g.S.PagableStorage.failed c.self.inside.storage))
+    (e.known _ _ _ (told-open c.has_closed-lists.ensures)) e.given e.same (e.refused _ _ _)
 
 pub returns-clause-known : goal.returns-clause-known
-returns-clause-known g c = rw (← c.self.view_is) (c.adopt_if_known.ensures.known (g.S.PagableStorage.stored c.self.inside.storage) (g.S.PagableStorage.is_closed c.self.inside.storage) (g.S.PagableStorage.failed c.self.inside.storage) (told-open c.has_closed-lists.ensures))
+returns-clause-known g c = rw (← c.self.view_is) (c.adopt_if_known.ensures.known _ _ _ (told-open c.has_closed-lists.ensures))
 
 pub returns-clause-only : goal.returns-clause-only
 returns-clause-only g c = rw (← c.self.view_is) (record { values = less _ _ _ c.self.invariant c.adopt_if_known.new.t c.adopt_if_known.new.values c.adopt_if_known.ensures.sheds; storage = refl; environment = refl })

@@ -1,5 +1,4 @@
-use Rattle.pagable_steps.proofs.SparedLists.{clears}
-use Rattle.pagable_tables.proofs.keeps.CacheCalls.{clear-whole}
+use Rattle.pagable_pager.proofs.Words.{clears, clear-whole}
 use Rattle.pagable_pager.proofs.Spared.{held}
 use Rattle.pagable_pager.proofs.pager.Pager.cache_clear.Goals as goal
 
@@ -10,4 +9,4 @@ invariant_of-self g c =
     held _ _ _ is c.cache_clear.new.t c.cache_clear.ensures.whole (c.cache_clear.ensures.later is.later) (clears step) (clear-whole c.cache_clear.result is.state.whole step)
 
 pub returns-clause-step : goal.returns-clause-step
-returns-clause-step g c = rw (← c.self.view_is) (c.cache_clear.ensures.cleared (g.S.PagableStorage.stored c.self.inside.storage) (g.S.PagableStorage.is_closed c.self.inside.storage) (g.S.PagableStorage.failed c.self.inside.storage))
+returns-clause-step g c = rw (← c.self.view_is) (c.cache_clear.ensures.cleared _ _ _)

@@ -1,7 +1,6 @@
-use Rattle.pagable_world.specs.declared.handles.Owner.TheVariants as owners
-use Rattle.pagable_steps.proofs.SparedLists.{recalls}
-use Rattle.pagable_tables.proofs.keeps.CacheCalls.{recall-whole}
+use Rattle.pagable_pager.proofs.Words.{recalls, recall-whole}
 use Rattle.pagable_pager.proofs.Spared.{held, caller-free}
+use Rattle.pagable_world.specs.declared.handles.Owner.TheVariants as owners
 use Rattle.pagable_pager.proofs.pager.Pager.cache_get.Goals as goal
 
 pub invariant_of-self : goal.invariant_of-self

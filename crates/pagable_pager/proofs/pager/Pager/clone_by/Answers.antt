@@ -1,7 +1,5 @@
-use Rattle.pagable_steps.proofs.SparedHandles.{clones}
-use Rattle.pagable_tables.proofs.keeps.HandleCalls.{clone-whole}
+use Rattle.pagable_pager.proofs.Words.{clones, clone-whole, telling}
 use Rattle.pagable_pager.proofs.Spared.{held, owner-free, owner-held, owner-holds}
-use Rattle.pagable_pager.specs.View.{telling}
 use Rattle.pagable_pager.proofs.pager.Pager.clone_by.Goals as goal
 
 pub invariant_of-self : goal.invariant_of-self

@@ -1,6 +1,5 @@
-use Rattle.std.proofs.Common.{refl}
-use Rattle.pagable_pager.proofs.Closed.{shut-call, shut-pager}
-use Rattle.pagable_pager.proofs.Shed.{less}
+use Rattle.pagable_pager.proofs.Words.{refl}
+use Rattle.pagable_pager.proofs.{Closed.shut-call, Closed.shut-pager, Shed.less}
 use Rattle.pagable_pager.proofs.pager.Pager.close.Goals as goal
 
 pub invariant_of-self : goal.invariant_of-self

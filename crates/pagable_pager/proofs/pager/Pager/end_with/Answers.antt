@@ -1,7 +1,4 @@
-use Rattle.std.proofs.Common.{◌∙◌, refl, subst, inr}
-use Rattle.pagable_world.specs.LoadCalls.{Installs}
-use Rattle.pagable_tables.specs.Core.{core_of}
-use Rattle.pagable_tables.proofs.Installed.{may-wider}
+use Rattle.pagable_pager.proofs.Words.{◌∙◌, refl, subst, inr, Installs, core_of, may-wider}
 use Rattle.pagable_pager.proofs.Putting.{owned-open, end-call, ended-so, moves, ready-told, refused-moves, refused-so, stays-alike, stays-so, unends-told}
 use Rattle.pagable_pager.proofs.Shed.{told-open}
 use Rattle.pagable_pager.proofs.pager.Pager.end_with.Goals as goal
@@ -13,8 +10,10 @@ invariant_of-self g c =
     c.give_back.result.0 c.give_back.result.1 c.give_back.ensures.whole c.give_back.ensures.later
     (record {
       installs = tt;
-      refused = c.give_back.ensures.refused w (g.E.Node.NodeSet.type_of c.args.value) (g.E.Node.NodeSet.refs_of c.args.value) (g.S.PagableStorage.stored c.self.inside.storage) (g.S.PagableStorage.is_closed c.self.inside.storage) (g.S.PagableStorage.failed c.self.inside.storage) (told-open c.has_closed-lists.ensures)
-          (unends-told w (core_of c.prepare_end.new.t (g.S.PagableStorage.stored c.self.inside.storage) (g.S.PagableStorage.is_closed c.self.inside.storage) (g.S.PagableStorage.failed c.self.inside.storage)) c.args.me c.args.load c.in-Err.unended _ _ _ _ c.node_type-node_type.ensures.value (c.deref.ensures.value ∙ c.requires) (c.in-Err.ensures.unended (g.S.PagableStorage.stored c.self.inside.storage) (g.S.PagableStorage.is_closed c.self.inside.storage) (g.S.PagableStorage.failed c.self.inside.storage)));
+      refused = c.give_back.ensures.refused w (g.E.Node.NodeSet.type_of c.args.value) (g.E.Node.NodeSet.refs_of c.args.value) _ _ _ (told-open c.has_closed-lists.ensures)
+          (unends-told w (core_of c.prepare_end.new.t (g.S.PagableStorage.stored c.self.inside.storage) (g.S.PagableStorage.is_closed c.self.inside.storage)
+          (g.S.PagableStorage.failed c.self.inside.storage)) c.args.me c.args.load c.in-Err.unended _ _ _ _ c.node_type-node_type.ensures.value (c.deref.ensures.value ∙ c.requires)
+          (c.in-Err.ensures.unended _ _ _));
     })
 
 pub returns-in-Err-clause-moves : goal.returns-in-Err-clause-moves
@@ -25,19 +24,20 @@ finish-requires-clause-ready g c stored closed failures = ready-told refl c.dere
 
 pub invariant_of-self-in-Err-finish : goal.invariant_of-self-in-Err-finish
 invariant_of-self-in-Err-finish g c =
-    stays-so _ _ _ c.self.invariant c.prepare_end.new.t c.finish.new.tables c.finish.new.values (c.prepare_end.ensures.wider (g.S.PagableStorage.stored c.self.inside.storage) (g.S.PagableStorage.is_closed c.self.inside.storage) (g.S.PagableStorage.failed c.self.inside.storage)) c.in-Err-finish.ensures.tables c.in-Err-finish.ensures.kept c.finish.ensures.whole
+    stays-so _ _ _ c.self.invariant c.prepare_end.new.t c.finish.new.tables c.finish.new.values (c.prepare_end.ensures.wider _ _ _) c.in-Err-finish.ensures.tables c.in-Err-finish.ensures.kept
+    c.finish.ensures.whole
     c.finish.ensures.later
 
 pub returns-in-Err-finish-clause-step : goal.returns-in-Err-finish-clause-step
 returns-in-Err-finish-clause-step g c =
-    let wider = c.prepare_end.ensures.wider (g.S.PagableStorage.stored c.self.inside.storage) (g.S.PagableStorage.is_closed c.self.inside.storage) (g.S.PagableStorage.failed c.self.inside.storage) in
+    let wider = c.prepare_end.ensures.wider _ _ _ in
     rw (← c.self.view_is)
     (record {
       installs = tt;
       refused = (
         c.in-Err-finish.ensures.back,
         record {
-          why = inr (refl, owned-open (may-wider wider (c.in-Ok.ensures.ready (g.S.PagableStorage.stored c.self.inside.storage) (g.S.PagableStorage.is_closed c.self.inside.storage) (g.S.PagableStorage.failed c.self.inside.storage)).may).owned, tt);
+          why = inr (refl, owned-open (may-wider wider (c.in-Ok.ensures.ready _ _ _).may).owned, tt);
           stays = stays-alike _ _ _ c.self.invariant c.prepare_end.new.t c.finish.new.tables c.finish.new.values wider c.in-Err-finish.ensures.tables c.in-Err-finish.ensures.kept c.finish.ensures.whole
               c.finish.ensures.later;
         },
@@ -46,26 +46,29 @@ returns-in-Err-finish-clause-step g c =
 
 pub invariant_of-self-2 : goal.invariant_of-self-2
 invariant_of-self-2 g c =
-    ended-so _ _ _ c.self.invariant c.args.me c.args.load c.args.value c.prepare_end.new.t c.finish.new.tables c.finish.new.values c.in-Ok.ready c.in-Ok-finish.handle (c.prepare_end.ensures.wider (g.S.PagableStorage.stored c.self.inside.storage) (g.S.PagableStorage.is_closed c.self.inside.storage) (g.S.PagableStorage.failed c.self.inside.storage)) c.prepare_end.ensures.nodes
-    (ready-told c.node_type-node_type.ensures.value (c.deref.ensures.value ∙ c.requires) (c.in-Ok.ensures.ready (g.S.PagableStorage.stored c.self.inside.storage) (g.S.PagableStorage.is_closed c.self.inside.storage) (g.S.PagableStorage.failed c.self.inside.storage)))
+    ended-so _ _ _ c.self.invariant c.args.me c.args.load c.args.value c.prepare_end.new.t c.finish.new.tables c.finish.new.values c.in-Ok.ready c.in-Ok-finish.handle
+    (c.prepare_end.ensures.wider _ _ _) c.prepare_end.ensures.nodes
+    (ready-told c.node_type-node_type.ensures.value (c.deref.ensures.value ∙ c.requires) (c.in-Ok.ensures.ready _ _ _))
     (subst (λ l. Installs (core_of c.prepare_end.new.t (g.S.PagableStorage.stored c.self.inside.storage) (g.S.PagableStorage.is_closed c.self.inside.storage) (g.S.PagableStorage.failed c.self.inside.storage)) c.args.me c.args.load c.in-Ok.ready.row.node c.in-Ok.ready.row.number c.in-Ok-finish.handle l (core_of c.finish.new.tables (g.S.PagableStorage.stored c.self.inside.storage) (g.S.PagableStorage.is_closed c.self.inside.storage) (g.S.PagableStorage.failed c.self.inside.storage))) c.requires
-    (c.in-Ok-finish.ensures.installs (g.S.PagableStorage.stored c.self.inside.storage) (g.S.PagableStorage.is_closed c.self.inside.storage) (g.S.PagableStorage.failed c.self.inside.storage) (told-open c.has_closed-lists.ensures)))
+    (c.in-Ok-finish.ensures.installs _ _ _ (told-open c.has_closed-lists.ensures)))
     c.finish.ensures.whole c.finish.ensures.later c.in-Ok-finish.ensures.puts
 
 pub returns-clause-step : goal.returns-clause-step
 returns-clause-step g c =
     rw (← c.self.view_is)
-    (end-call _ _ _ c.self.invariant c.args.me c.args.load c.args.value c.prepare_end.new.t c.finish.new.tables c.finish.new.values c.in-Ok.ready c.in-Ok-finish.handle (c.prepare_end.ensures.wider (g.S.PagableStorage.stored c.self.inside.storage) (g.S.PagableStorage.is_closed c.self.inside.storage) (g.S.PagableStorage.failed c.self.inside.storage)) c.prepare_end.ensures.nodes
-    (ready-told c.node_type-node_type.ensures.value (c.deref.ensures.value ∙ c.requires) (c.in-Ok.ensures.ready (g.S.PagableStorage.stored c.self.inside.storage) (g.S.PagableStorage.is_closed c.self.inside.storage) (g.S.PagableStorage.failed c.self.inside.storage)))
+    (end-call _ _ _ c.self.invariant c.args.me c.args.load c.args.value c.prepare_end.new.t c.finish.new.tables c.finish.new.values c.in-Ok.ready c.in-Ok-finish.handle
+    (c.prepare_end.ensures.wider _ _ _) c.prepare_end.ensures.nodes
+    (ready-told c.node_type-node_type.ensures.value (c.deref.ensures.value ∙ c.requires) (c.in-Ok.ensures.ready _ _ _))
     (subst (λ l. Installs (core_of c.prepare_end.new.t (g.S.PagableStorage.stored c.self.inside.storage) (g.S.PagableStorage.is_closed c.self.inside.storage) (g.S.PagableStorage.failed c.self.inside.storage)) c.args.me c.args.load c.in-Ok.ready.row.node c.in-Ok.ready.row.number c.in-Ok-finish.handle l (core_of c.finish.new.tables (g.S.PagableStorage.stored c.self.inside.storage) (g.S.PagableStorage.is_closed c.self.inside.storage) (g.S.PagableStorage.failed c.self.inside.storage))) c.requires
-    (c.in-Ok-finish.ensures.installs (g.S.PagableStorage.stored c.self.inside.storage) (g.S.PagableStorage.is_closed c.self.inside.storage) (g.S.PagableStorage.failed c.self.inside.storage) (told-open c.has_closed-lists.ensures)))
+    (c.in-Ok-finish.ensures.installs _ _ _ (told-open c.has_closed-lists.ensures)))
     c.finish.ensures.whole c.finish.ensures.later c.in-Ok-finish.ensures.puts)
 
 pub returns-clause-moves : goal.returns-clause-moves
 returns-clause-moves g c =
     rw (← c.self.view_is)
-    (moves _ _ _ c.self.invariant c.args.me c.args.load c.args.value c.prepare_end.new.t c.finish.new.tables c.finish.new.values c.in-Ok.ready c.in-Ok-finish.handle (c.prepare_end.ensures.wider (g.S.PagableStorage.stored c.self.inside.storage) (g.S.PagableStorage.is_closed c.self.inside.storage) (g.S.PagableStorage.failed c.self.inside.storage)) c.prepare_end.ensures.nodes
-    (ready-told c.node_type-node_type.ensures.value (c.deref.ensures.value ∙ c.requires) (c.in-Ok.ensures.ready (g.S.PagableStorage.stored c.self.inside.storage) (g.S.PagableStorage.is_closed c.self.inside.storage) (g.S.PagableStorage.failed c.self.inside.storage)))
+    (moves _ _ _ c.self.invariant c.args.me c.args.load c.args.value c.prepare_end.new.t c.finish.new.tables c.finish.new.values c.in-Ok.ready c.in-Ok-finish.handle
+    (c.prepare_end.ensures.wider _ _ _) c.prepare_end.ensures.nodes
+    (ready-told c.node_type-node_type.ensures.value (c.deref.ensures.value ∙ c.requires) (c.in-Ok.ensures.ready _ _ _))
     (subst (λ l. Installs (core_of c.prepare_end.new.t (g.S.PagableStorage.stored c.self.inside.storage) (g.S.PagableStorage.is_closed c.self.inside.storage) (g.S.PagableStorage.failed c.self.inside.storage)) c.args.me c.args.load c.in-Ok.ready.row.node c.in-Ok.ready.row.number c.in-Ok-finish.handle l (core_of c.finish.new.tables (g.S.PagableStorage.stored c.self.inside.storage) (g.S.PagableStorage.is_closed c.self.inside.storage) (g.S.PagableStorage.failed c.self.inside.storage))) c.requires
-    (c.in-Ok-finish.ensures.installs (g.S.PagableStorage.stored c.self.inside.storage) (g.S.PagableStorage.is_closed c.self.inside.storage) (g.S.PagableStorage.failed c.self.inside.storage) (told-open c.has_closed-lists.ensures)))
+    (c.in-Ok-finish.ensures.installs _ _ _ (told-open c.has_closed-lists.ensures)))
     c.finish.ensures.whole c.finish.ensures.later c.in-Ok-finish.ensures.puts)

@@ -1,8 +1,6 @@
-use Rattle.std.specs.Arc.{arc_value}
-use Rattle.pagable_core.specs.Data.{blob_of}
+use Rattle.pagable_pager.proofs.Words.{arc_value, blob_of}
 use Rattle.pagable_steps.proofs.SparedLists.{asked as spares-asked}
-use Rattle.pagable_pager.proofs.Spared.{told}
-use Rattle.pagable_pager.proofs.Stored.{asked, fetch-call, whole-told}
+use Rattle.pagable_pager.proofs.{Spared.told, Stored.asked, Stored.fetch-call, Stored.whole-told}
 use Rattle.pagable_pager.proofs.pager.Pager.fetch.Goals as goal
 
 pub invariant_of-self : goal.invariant_of-self

@@ -1,12 +1,8 @@
-use Rattle.std.proofs.Common.{inl, inr, ap, None}
-use Rattle.pagable_world.specs.Refusals.{OwnsLoad, earlier}
-use Rattle.pagable_tables.specs.Core.{load_in}
-use Rattle.pagable_tables.proofs.Worlds.{still}
-use Rattle.pagable_pager.specs.View.{core_in, telling}
+use Rattle.pagable_pager.proofs.Words.{false, inl, inr, ap, None, OwnsLoad, earlier, load_in, still, core_in, telling}
 use Rattle.pagable_pager.proofs.pager.Pager.fetch_root.Goals as goal
 
 pub returns-in-Err-clause-step : goal.returns-in-Err-clause-step
-returns-in-Err-clause-step g c = rw (← c.self.view_is) (record { gives = tt; refused = inl (record { why = inl (ap (λ o. earlier o None) (c.in-Err.ensures.fault (g.S.PagableStorage.stored c.self.inside.storage) (g.S.PagableStorage.is_closed c.self.inside.storage) (g.S.PagableStorage.failed c.self.inside.storage))); stays = still _ }) })
+returns-in-Err-clause-step g c = rw (← c.self.view_is) (record { gives = tt; refused = inl (record { why = inl (ap (λ o. earlier o None) (c.in-Err.ensures.fault (λ key. None) false 0)); stays = still _ }) })
 
 pub returns-in-Err-fetch-clause-step : goal.returns-in-Err-fetch-clause-step
 returns-in-Err-fetch-clause-step g c =

@@ -1,6 +1,5 @@
 use Rattle.pagable_steps.proofs.SparedLists.{asked as spares-asked}
-use Rattle.pagable_pager.proofs.Spared.{told}
-use Rattle.pagable_pager.proofs.Stored.{asked, whole-told}
+use Rattle.pagable_pager.proofs.{Spared.told, Stored.asked, Stored.whole-told}
 use Rattle.pagable_pager.proofs.pager.Pager.flush.Goals as goal
 
 pub invariant_of-self : goal.invariant_of-self

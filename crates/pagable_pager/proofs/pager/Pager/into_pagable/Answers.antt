@@ -1,7 +1,6 @@
-use Rattle.pagable_world.specs.declared.handles.Owner.TheVariants as owners
-use Rattle.pagable_steps.proofs.SparedHandles.{loosens}
-use Rattle.pagable_tables.proofs.keeps.HandleCalls.{loosen-whole}
+use Rattle.pagable_pager.proofs.Words.{loosens, loosen-whole}
 use Rattle.pagable_pager.proofs.Spared.{held, caller-free}
+use Rattle.pagable_world.specs.declared.handles.Owner.TheVariants as owners
 use Rattle.pagable_pager.proofs.pager.Pager.into_pagable.Goals as goal
 
 pub invariant_of-self : goal.invariant_of-self

@@ -1,7 +1,5 @@
-use Rattle.pagable_steps.proofs.SparedLoads.{begins}
-use Rattle.pagable_tables.proofs.keeps.LoadCalls.{begin-whole}
+use Rattle.pagable_pager.proofs.Words.{begins, begin-whole, telling}
 use Rattle.pagable_pager.proofs.Spared.{held, owner-begins, owner-may}
-use Rattle.pagable_pager.specs.View.{telling}
 use Rattle.pagable_pager.proofs.pager.Pager.load_begin_by.Goals as goal
 
 pub invariant_of-self : goal.invariant_of-self

@@ -1,6 +1,4 @@
-use Rattle.pagable_pager.proofs.Asking.{known-spares, known-bare}
-use Rattle.pagable_pager.proofs.Shed.{whole-over}
-use Rattle.pagable_pager.proofs.Spared.{held}
+use Rattle.pagable_pager.proofs.{Asking.known-spares, Asking.known-bare, Shed.whole-over, Spared.held}
 use Rattle.pagable_pager.proofs.pager.Pager.load_known.Goals as goal
 
 pub invariant_of-self : goal.invariant_of-self

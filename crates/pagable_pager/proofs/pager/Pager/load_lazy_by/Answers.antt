@@ -1,16 +1,14 @@
-use Rattle.std.proofs.Common.{refl}
-use Rattle.pagable_steps.proofs.BirthCalls.{lazily}
-use Rattle.pagable_pager.proofs.Shed.{whole-over, told-open}
-use Rattle.pagable_pager.proofs.Shut.{lazy-bare}
+use Rattle.pagable_pager.proofs.Words.{refl, lazily}
+use Rattle.pagable_pager.proofs.{Shed.whole-over, Shed.told-open, Shut.lazy-bare}
 use Rattle.pagable_pager.proofs.pager.Pager.load_lazy_by.Goals as goal
 
 pub invariant_of-self : goal.invariant_of-self
 invariant_of-self g c =
     let is = c.self.invariant in
     let e = c.load_lazy.ensures in
-    let step = e.lazily (g.S.PagableStorage.stored c.self.inside.storage) (g.S.PagableStorage.is_closed c.self.inside.storage) (g.S.PagableStorage.failed c.self.inside.storage) (told-open c.has_closed-lists.ensures) in
-    let whole = whole-over c.load_lazy.new.t (g.S.PagableStorage.stored c.self.inside.storage) (g.S.PagableStorage.is_closed c.self.inside.storage) (g.S.PagableStorage.failed c.self.inside.storage) e.whole (λ shut. lazy-bare shut (is.state.whole.shut shut) c.load_lazy.result step) in
+    let step = e.lazily _ _ _ (told-open c.has_closed-lists.ensures) in
+    let whole = whole-over c.load_lazy.new.t _ _ _ e.whole (λ shut. lazy-bare shut (is.state.whole.shut shut) c.load_lazy.result step) in
     record { tables = e.whole; later = e.later; state = lazily is.state c.load_lazy.result step (λ n. refl) e.whole.steady.fits.pinned whole }
 
 pub returns-clause-step : goal.returns-clause-step
-returns-clause-step g c = rw (← c.self.view_is) (c.load_lazy.ensures.lazily (g.S.PagableStorage.stored c.self.inside.storage) (g.S.PagableStorage.is_closed c.self.inside.storage) (g.S.PagableStorage.failed c.self.inside.storage) (told-open c.has_closed-lists.ensures))
+returns-clause-step g c = rw (← c.self.view_is) (c.load_lazy.ensures.lazily _ _ _ (told-open c.has_closed-lists.ensures))

@@ -1,20 +1,16 @@
-use Rattle.std.proofs.Common.{refl}
-use Rattle.pagable_steps.proofs.FallingCalls.{handed_over}
-use Rattle.pagable_pager.proofs.Shed.{shed, told-open, less}
-use Rattle.pagable_pager.proofs.Shut.{handed-bare}
-use Rattle.pagable_pager.proofs.Spared.{owner-free}
-use Rattle.pagable_pager.specs.View.{telling}
+use Rattle.pagable_pager.proofs.Words.{refl, handed_over, telling}
+use Rattle.pagable_pager.proofs.{Shed.shed, Shed.told-open, Shed.less, Shut.handed-bare, Spared.owner-free}
 use Rattle.pagable_pager.proofs.pager.Pager.load_take_by.Goals as goal
 
 pub invariant_of-self : goal.invariant_of-self
 invariant_of-self g c =
     let is = c.self.invariant in
     let e = c.load_take.ensures in
-    let step = e.taken (g.S.PagableStorage.stored c.self.inside.storage) (g.S.PagableStorage.is_closed c.self.inside.storage) (g.S.PagableStorage.failed c.self.inside.storage) (told-open c.has_closed-lists.ensures) in
+    let step = e.taken _ _ _ (told-open c.has_closed-lists.ensures) in
     shed _ _ _ is c.load_take.new.t c.load_take.new.values e.whole e.later e.sheds (λ shut. handed-bare shut (is.state.whole.shut shut) c.load_take.result step) (λ left. handed_over is.state left (owner-free (telling g.S.PagableStorage.stored g.S.PagableStorage.is_closed g.S.PagableStorage.failed) _ _ c.args.me c.self.view_is c.requires) c.load_take.result step)
 
 pub returns-clause-step : goal.returns-clause-step
-returns-clause-step g c = rw (← c.self.view_is) (c.load_take.ensures.taken (g.S.PagableStorage.stored c.self.inside.storage) (g.S.PagableStorage.is_closed c.self.inside.storage) (g.S.PagableStorage.failed c.self.inside.storage) (told-open c.has_closed-lists.ensures))
+returns-clause-step g c = rw (← c.self.view_is) (c.load_take.ensures.taken _ _ _ (told-open c.has_closed-lists.ensures))
 
 pub returns-clause-only : goal.returns-clause-only
 returns-clause-only g c = rw (← c.self.view_is) (record { values = less _ _ _ c.self.invariant c.load_take.new.t c.load_take.new.values c.load_take.ensures.sheds; storage = refl; environment = refl })

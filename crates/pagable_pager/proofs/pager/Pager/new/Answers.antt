@@ -1,5 +1,4 @@
-use Rattle.std.proofs.Common.{refl}
-use Rattle.pagable_pager.specs.View.{telling}
+use Rattle.pagable_pager.proofs.Words.{refl, telling}
 use Rattle.pagable_pager.proofs.Empty.{is-new}
 use Rattle.pagable_pager.proofs.pager.Pager.new.Goals as goal
 

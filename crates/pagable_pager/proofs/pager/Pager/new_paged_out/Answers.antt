@@ -1,14 +1,11 @@
-use Rattle.std.proofs.Common.{refl}
-use Rattle.pagable_steps.proofs.BirthCalls.{born-away}
-use Rattle.pagable_pager.proofs.Births.{away-bare}
-use Rattle.pagable_pager.proofs.Shed.{whole-over}
-use Rattle.pagable_pager.proofs.Spared.{caller-free}
+use Rattle.pagable_pager.proofs.Words.{refl, born-away}
+use Rattle.pagable_pager.proofs.{Births.away-bare, Shed.whole-over, Spared.caller-free}
 use Rattle.pagable_pager.proofs.pager.Pager.new_paged_out.Goals as goal
 
 pub invariant_of-self : goal.invariant_of-self
 invariant_of-self g c =
     let is = c.self.invariant in
     let e = c.new_away.ensures in
-    let step = e.born (g.S.PagableStorage.stored c.self.inside.storage) (g.S.PagableStorage.is_closed c.self.inside.storage) (g.S.PagableStorage.failed c.self.inside.storage) in
-    let whole = whole-over c.new_away.new.t (g.S.PagableStorage.stored c.self.inside.storage) (g.S.PagableStorage.is_closed c.self.inside.storage) (g.S.PagableStorage.failed c.self.inside.storage) e.whole (λ shut. away-bare c.new_away.result step (is.state.whole.shut shut)) in
+    let step = e.born _ _ _ in
+    let whole = whole-over c.new_away.new.t _ _ _ e.whole (λ shut. away-bare c.new_away.result step (is.state.whole.shut shut)) in
     record { tables = e.whole; later = e.later is.later; state = born-away is.state c.new_away.result caller-free step (λ n. refl) e.whole.steady.fits.pinned whole }

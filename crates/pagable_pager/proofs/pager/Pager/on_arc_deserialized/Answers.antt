@@ -1,20 +1,17 @@
-use Rattle.std.proofs.Common.{refl}
-use Rattle.pagable_steps.proofs.FallingCalls.{offered}
-use Rattle.pagable_pager.proofs.Shed.{shed, told-open, less, known-valued}
-use Rattle.pagable_pager.proofs.Shut.{offered-bare}
-use Rattle.pagable_pager.proofs.Spared.{caller-free}
+use Rattle.pagable_pager.proofs.Words.{refl, offered}
+use Rattle.pagable_pager.proofs.{Shed.shed, Shed.told-open, Shed.less, Shed.known-valued, Shut.offered-bare, Spared.caller-free}
 use Rattle.pagable_pager.proofs.pager.Pager.on_arc_deserialized.Goals as goal
 
 pub invariant_of-self : goal.invariant_of-self
 invariant_of-self g c =
     let is = c.self.invariant in
     let e = c.offer.ensures in
-    let step = e.offered (g.S.PagableStorage.stored c.self.inside.storage) (g.S.PagableStorage.is_closed c.self.inside.storage) (g.S.PagableStorage.failed c.self.inside.storage) (told-open c.has_closed-lists.ensures) in
+    let step = e.offered _ _ _ (told-open c.has_closed-lists.ensures) in
     let sheds = e.sheds (λ n known pinning. known-valued _ _ _ is c.args.kind.0 c.args.key n known pinning) in
     shed _ _ _ is c.offer.new.t c.offer.new.values e.whole (e.later is.later) sheds (λ shut. offered-bare shut (is.state.whole.shut shut) c.offer.result step) (λ left. offered is.state left caller-free c.offer.result step)
 
 pub returns-clause-step : goal.returns-clause-step
-returns-clause-step g c = rw (← c.self.view_is) (c.offer.ensures.offered (g.S.PagableStorage.stored c.self.inside.storage) (g.S.PagableStorage.is_closed c.self.inside.storage) (g.S.PagableStorage.failed c.self.inside.storage) (told-open c.has_closed-lists.ensures))
+returns-clause-step g c = rw (← c.self.view_is) (c.offer.ensures.offered _ _ _ (told-open c.has_closed-lists.ensures))
 
 pub returns-clause-only : goal.returns-clause-only
 returns-clause-only g c =

@@ -1,7 +1,5 @@
-use Rattle.pagable_steps.proofs.SparedHandles.{pins-it}
-use Rattle.pagable_tables.proofs.keeps.HandleCalls.{pin-whole}
+use Rattle.pagable_pager.proofs.Words.{pins-it, pin-whole, telling}
 use Rattle.pagable_pager.proofs.Spared.{held, owner-free, owner-held, owner-holds}
-use Rattle.pagable_pager.specs.View.{telling}
 use Rattle.pagable_pager.proofs.pager.Pager.pin_by.Goals as goal
 
 pub invariant_of-self : goal.invariant_of-self

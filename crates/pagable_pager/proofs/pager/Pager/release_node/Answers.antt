@@ -1,18 +1,16 @@
-use Rattle.std.proofs.Common.{refl}
-use Rattle.pagable_steps.proofs.FallingCalls.{worker_released}
-use Rattle.pagable_pager.proofs.Shed.{shed, told-open, less}
-use Rattle.pagable_pager.proofs.Shut.{bare-fell}
+use Rattle.pagable_pager.proofs.Words.{refl, worker_released}
+use Rattle.pagable_pager.proofs.{Shed.shed, Shed.told-open, Shed.less, Shut.bare-fell}
 use Rattle.pagable_pager.proofs.pager.Pager.release_node.Goals as goal
 
 pub invariant_of-self : goal.invariant_of-self
 invariant_of-self g c =
     let is = c.self.invariant in
     let e = c.release_node.ensures in
-    let step = e.released (g.S.PagableStorage.stored c.self.inside.storage) (g.S.PagableStorage.is_closed c.self.inside.storage) (g.S.PagableStorage.failed c.self.inside.storage) (told-open c.has_closed-lists.ensures) in
+    let step = e.released _ _ _ (told-open c.has_closed-lists.ensures) in
     shed _ _ _ is c.release_node.new.t c.release_node.new.values e.whole (e.later is.later) e.sheds (λ shut. bare-fell step.falls shut (is.state.whole.shut shut)) (λ left. worker_released is.state left c.args.worker.0 c.args.node.0 step)
 
 pub returns-clause-step : goal.returns-clause-step
-returns-clause-step g c = rw (← c.self.view_is) (c.release_node.ensures.released (g.S.PagableStorage.stored c.self.inside.storage) (g.S.PagableStorage.is_closed c.self.inside.storage) (g.S.PagableStorage.failed c.self.inside.storage) (told-open c.has_closed-lists.ensures))
+returns-clause-step g c = rw (← c.self.view_is) (c.release_node.ensures.released _ _ _ (told-open c.has_closed-lists.ensures))
 
 pub returns-clause-only : goal.returns-clause-only
 returns-clause-only g c = rw (← c.self.view_is) (record { values = less _ _ _ c.self.invariant c.release_node.new.t c.release_node.new.values c.release_node.ensures.sheds; storage = refl; environment = refl })

@@ -1,5 +1,4 @@
-use Rattle.pagable_steps.proofs.SparedLists.{reserves}
-use Rattle.pagable_tables.proofs.keeps.CacheCalls.{reserve-whole}
+use Rattle.pagable_pager.proofs.Words.{reserves, reserve-whole}
 use Rattle.pagable_pager.proofs.Spared.{held}
 use Rattle.pagable_pager.proofs.pager.Pager.reserve.Goals as goal
 
@@ -10,4 +9,4 @@ invariant_of-self g c =
     held _ _ _ is c.reserve.new.t c.reserve.ensures.whole (c.reserve.ensures.later is.later) (reserves step) (reserve-whole c.args.more c.reserve.result is.state.whole step)
 
 pub returns-clause-step : goal.returns-clause-step
-returns-clause-step g c = rw (← c.self.view_is) (c.reserve.ensures.reserved (g.S.PagableStorage.stored c.self.inside.storage) (g.S.PagableStorage.is_closed c.self.inside.storage) (g.S.PagableStorage.failed c.self.inside.storage))
+returns-clause-step g c = rw (← c.self.view_is) (c.reserve.ensures.reserved _ _ _)

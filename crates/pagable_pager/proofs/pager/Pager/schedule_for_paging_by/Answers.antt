@@ -1,20 +1,16 @@
-use Rattle.std.proofs.Common.{refl}
-use Rattle.pagable_steps.proofs.FallingCalls.{scheduled}
-use Rattle.pagable_pager.proofs.Shed.{shed, told-open, less}
-use Rattle.pagable_pager.proofs.Shut.{scheduled-bare}
-use Rattle.pagable_pager.proofs.Spared.{owner-free, owner-holds}
-use Rattle.pagable_pager.specs.View.{telling}
+use Rattle.pagable_pager.proofs.Words.{refl, scheduled, telling}
+use Rattle.pagable_pager.proofs.{Shed.shed, Shed.told-open, Shed.less, Shut.scheduled-bare, Spared.owner-free, Spared.owner-holds}
 use Rattle.pagable_pager.proofs.pager.Pager.schedule_for_paging_by.Goals as goal
 
 pub invariant_of-self : goal.invariant_of-self
 invariant_of-self g c =
     let is = c.self.invariant in
     let e = c.schedule_for_paging.ensures in
-    let step = e.scheduled (g.S.PagableStorage.stored c.self.inside.storage) (g.S.PagableStorage.is_closed c.self.inside.storage) (g.S.PagableStorage.failed c.self.inside.storage) (told-open c.has_closed-lists.ensures) in
+    let step = e.scheduled _ _ _ (told-open c.has_closed-lists.ensures) in
     shed _ _ _ is c.schedule_for_paging.new.t c.schedule_for_paging.new.values e.whole (e.later is.later) e.sheds (λ shut. scheduled-bare shut (is.state.whole.shut shut) c.schedule_for_paging.result step) (λ left. scheduled is.state left (owner-free (telling g.S.PagableStorage.stored g.S.PagableStorage.is_closed g.S.PagableStorage.failed) _ _ c.args.me c.self.view_is c.requires) c.schedule_for_paging.result step)
 
 pub returns-clause-step : goal.returns-clause-step
-returns-clause-step g c = rw (← c.self.view_is) (c.schedule_for_paging.ensures.scheduled (g.S.PagableStorage.stored c.self.inside.storage) (g.S.PagableStorage.is_closed c.self.inside.storage) (g.S.PagableStorage.failed c.self.inside.storage) (told-open c.has_closed-lists.ensures))
+returns-clause-step g c = rw (← c.self.view_is) (c.schedule_for_paging.ensures.scheduled _ _ _ (told-open c.has_closed-lists.ensures))
 
 pub returns-clause-only : goal.returns-clause-only
 returns-clause-only g c = rw (← c.self.view_is) (record { values = less _ _ _ c.self.invariant c.schedule_for_paging.new.t c.schedule_for_paging.new.values c.schedule_for_paging.ensures.sheds; storage = refl; environment = refl })

@@ -1,8 +1,5 @@
-use Rattle.pagable_core.specs.Data.{blob_of}
-use Rattle.pagable_model.specs.Blob.{key_of}
-use Rattle.pagable_steps.proofs.SparedLists.{stores}
-use Rattle.pagable_pager.proofs.Spared.{told}
-use Rattle.pagable_pager.proofs.Stored.{store-call, whole-told}
+use Rattle.pagable_pager.proofs.Words.{blob_of, key_of, stores}
+use Rattle.pagable_pager.proofs.{Spared.told, Stored.store-call, Stored.whole-told}
 use Rattle.pagable_pager.proofs.pager.Pager.store.Goals as goal
 
 pub invariant_of-self : goal.invariant_of-self

@@ -1,7 +1,5 @@
-use Rattle.pagable_steps.proofs.SparedLists.{takes}
-use Rattle.pagable_tables.proofs.keeps.ListCalls.{take-whole}
+use Rattle.pagable_pager.proofs.Words.{takes, take-whole, telling}
 use Rattle.pagable_pager.proofs.Spared.{held, owner-free, owner-loads, owner-held, owner-holds}
-use Rattle.pagable_pager.specs.View.{telling}
 use Rattle.pagable_pager.proofs.pager.Pager.take_pending_by.Goals as goal
 
 pub invariant_of-self : goal.invariant_of-self

@@ -1,9 +1,6 @@
-use Rattle.std.proofs.Common.{ap}
-use Rattle.std.specs.Option.{option_map}
-use Rattle.pagable_tables.specs.Core.{load_in}
+use Rattle.pagable_pager.proofs.Words.{ap, option_map, load_in, sym, ◌∙◌}
 use Rattle.pagable_pager.proofs.Putting.{unread-gone, unread-open}
 use Rattle.pagable_pager.proofs.pager.Pager.unread.Goals as goal
-use Rattle.std.proofs.Common.{sym, ◌∙◌}
 
 pub returns-in-Some : goal.returns-in-Some
 returns-in-Some g c node_type references = rw (← c.self.view_is) (unread-open _ c.args.load (load_in c.in-Some.field-0) _ (ap (option_map load_in) (sym c.load_of.ensures ∙ c.in-Some.is)))

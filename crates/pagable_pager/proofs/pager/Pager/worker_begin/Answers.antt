@@ -1,5 +1,4 @@
-use Rattle.pagable_pager.proofs.Spared.{held}
-use Rattle.pagable_pager.proofs.Working.{begins, begins-whole}
+use Rattle.pagable_pager.proofs.{Spared.held, Working.begins, Working.begins-whole}
 use Rattle.pagable_pager.proofs.pager.Pager.worker_begin.Goals as goal
 
 pub invariant_of-self : goal.invariant_of-self

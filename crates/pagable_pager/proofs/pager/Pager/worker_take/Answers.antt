@@ -1,5 +1,4 @@
-use Rattle.pagable_pager.proofs.Spared.{held}
-use Rattle.pagable_pager.proofs.Working.{takes, takes-whole}
+use Rattle.pagable_pager.proofs.{Spared.held, Working.takes, Working.takes-whole}
 use Rattle.pagable_pager.proofs.pager.Pager.worker_take.Goals as goal
 
 pub invariant_of-self : goal.invariant_of-self

@@ -1,12 +1,5 @@
-use Rattle.std.proofs.Common.{◌<◌, ap, sym, subst, ◌∙◌, Some, None, false, not}
-use Rattle.std.specs.Prelude.{◌≢◌}
-use Rattle.pagable_world.specs.World.{Core, greatest, usable}
-use Rattle.pagable_world.specs.LoadCalls.{first_key}
-use Rattle.pagable_tables.specs.Core.{core_of}
-use Rattle.pagable_tables.proofs.Adoptions.{adopts-new, early-past, refused-memory, refused-new}
-use Rattle.pagable_tables.proofs.Begun.{not-closed}
-use Rattle.pagable_tables.proofs.Readied.{adopted-past, next-past, room-newer}
-use Rattle.pagable_pager.specs.View.{value_in}
+use Rattle.pagable_pager.proofs.Words.{◌<◌, ap, sym, subst, ◌∙◌, Some, None, false, not, ◌≢◌, Core, greatest, usable, first_key, core_of, adopts-new, early-past, refused-memory, refused-new}
+use Rattle.pagable_pager.proofs.Words.{not-closed, adopted-past, next-past, room-newer, value_in}
 use Rattle.pagable_pager.proofs.Adopting.{adopted-node}
 use Rattle.pagable_pager.proofs.pager.adopts.adopt_new.Goals as goal
 
@@ -18,21 +11,13 @@ returns-in-Err-clause-refused g c stored closed failures =
 pub returns-in-Err-clause-later : goal.returns-in-Err-clause-later
 returns-in-Err-clause-later g c = room-newer (c.make_ready_to_learn.ensures.room (λ key. None) false 0) c.make_ready_to_learn.ensures.loads c.requires.later
 
-pub returns-in_default-make_room-clause-refused : goal.returns-in_default-make_room-clause-refused
-returns-in_default-make_room-clause-refused g c stored closed failures =
+pub returns-in-Err-share_with_room-clause-refused : goal.returns-in-Err-share_with_room-clause-refused
+returns-in-Err-share_with_room-clause-refused g c stored closed failures =
     refused-memory (core_of c.args.tables.now stored closed failures) c.args.me c.args.load c.args.kind c.args.key c.args.node_type c.args.references.items (c.requires.fresh stored closed failures)
     (c.make_ready_to_learn.ensures.room stored closed failures)
 
-pub returns-in_default-make_room-clause-later : goal.returns-in_default-make_room-clause-later
-returns-in_default-make_room-clause-later g c = room-newer (c.make_ready_to_learn.ensures.room (λ key. None) false 0) c.make_ready_to_learn.ensures.loads c.requires.later
-
-pub returns-in-Err-new-clause-refused : goal.returns-in-Err-new-clause-refused
-returns-in-Err-new-clause-refused g c stored closed failures =
-    refused-memory (core_of c.args.tables.now stored closed failures) c.args.me c.args.load c.args.kind c.args.key c.args.node_type c.args.references.items (c.requires.fresh stored closed failures)
-    (c.make_ready_to_learn.ensures.room stored closed failures)
-
-pub returns-in-Err-new-clause-later : goal.returns-in-Err-new-clause-later
-returns-in-Err-new-clause-later g c = room-newer (c.make_ready_to_learn.ensures.room (λ key. None) false 0) c.make_ready_to_learn.ensures.loads c.requires.later
+pub returns-in-Err-share_with_room-clause-later : goal.returns-in-Err-share_with_room-clause-later
+returns-in-Err-share_with_room-clause-later g c = room-newer (c.make_ready_to_learn.ensures.room (λ key. None) false 0) c.make_ready_to_learn.ensures.loads c.requires.later
 
 pub adopt-handle-requires-clause-later : goal.adopt-handle-requires-clause-later
 adopt-handle-requires-clause-later g c = room-newer (c.make_ready_to_learn.ensures.room (λ key. None) false 0) c.make_ready_to_learn.ensures.loads c.requires.later
@@ -58,10 +43,10 @@ pub returns-clause-here : goal.returns-clause-here
 returns-clause-here g c =
     let room = c.make_ready_to_learn.ensures.room (λ key. None) (not c.args.lists) 0 in
     let last = adopted-node (core_of c.args.tables.now (λ key. None) (not c.args.lists) 0) c.args.load c.args.kind c.args.key (first_key c.args.kind.0 c.args.key) c.args.references.items (adopted-past c.args.load c.args.kind c.args.key (first_key c.args.kind.0 c.args.key) c.args.references.items room (c.adopt-handle.ensures.adopted (λ key. None) (not c.args.lists) 0 (not-closed c.args.lists))) in
-    sym (ap (value_in c.keep.new.values) last) ∙ c.keep.ensures.here ∙ ap Some c.in-Ok-new.ensures.ok
+    sym (ap (value_in c.keep.new.values) last) ∙ c.keep.ensures.here ∙ ap Some c.in-Ok.ensures.shared
 
 pub returns-clause-others : goal.returns-clause-others
 returns-clause-others g c n other =
     let room = c.make_ready_to_learn.ensures.room (λ key. None) (not c.args.lists) 0 in
     let last = adopted-node (core_of c.args.tables.now (λ key. None) (not c.args.lists) 0) c.args.load c.args.kind c.args.key (first_key c.args.kind.0 c.args.key) c.args.references.items (adopted-past c.args.load c.args.kind c.args.key (first_key c.args.kind.0 c.args.key) c.args.references.items room (c.adopt-handle.ensures.adopted (λ key. None) (not c.args.lists) 0 (not-closed c.args.lists))) in
-    c.keep.ensures.others n (subst (λ k. n ≢ k) (sym last) other) ∙ c.make_room.ensures.same n
+    c.keep.ensures.others n (subst (λ k. n ≢ k) (sym last) other) ∙ c.share_with_room.ensures.same n

@@ -1,9 +1,5 @@
-use Rattle.std.proofs.Common.{sym, subst, None, false}
-use Rattle.std.specs.Prelude.{OnOk}
-use Rattle.pagable_tables.specs.Core.{core_of}
-use Rattle.pagable_tables.specs.Ready.{IsReady}
-use Rattle.pagable_pager.specs.Puts.{PutsIn}
-use Rattle.pagable_pager.proofs.Putting.{drops, beside-there}
+use Rattle.pagable_pager.proofs.Words.{sym, subst, ap, ◌∙◌, Some, None, false, core_of, IsReady, PutsIn}
+use Rattle.pagable_pager.proofs.Putting.{puts, drops, beside-there}
 use Rattle.pagable_pager.proofs.pager.installs.finish.Goals as goal
 
 pub end_beside-requires-clause-ready : goal.end_beside-requires-clause-ready
@@ -12,7 +8,9 @@ end_beside-requires-clause-ready g c stored closed failures =
 
 pub returns-then-ending-clause-puts : goal.returns-then-ending-clause-puts
 returns-then-ending-clause-puts g c =
-    subst (λ b. OnOk c.put.result (PutsIn b c.args.ending.row.node.0 c.args.value c.args.tables.now c.args.values.now c.put.new.tables c.put.new.values)) (sym c.if-ending.true) c.put.ensures.puts
+    subst (λ b. PutsIn b c.args.ending.row.node.0 c.args.value c.args.tables.now c.args.values.now c.install.new.t c.install.new.values) (sym c.if-ending.true)
+    (puts c.args.tables.now c.install.new.t c.args.values.now c.keep.new.values c.install.new.values c.args.ending.row.node c.args.value (c.keep.ensures.here ∙ ap (λ v. Some v) c.in-Ok.ensures.shared)
+    (λ n other. c.keep.ensures.others n other ∙ c.share_with_room.ensures.same n) c.install.ensures.sheds)
 
 pub returns-clause-puts : goal.returns-clause-puts
 returns-clause-puts g c =

@@ -1,7 +1,4 @@
-use Rattle.std.proofs.Common.{subst, refl}
-use Rattle.pagable_tables.specs.Core.{core_of}
-use Rattle.pagable_tables.specs.Ready.{Unends}
-use Rattle.pagable_tables.proofs.Opened.{told-later}
+use Rattle.pagable_pager.proofs.Words.{subst, refl, core_of, Unends, told-later}
 use Rattle.pagable_pager.proofs.Putting.{vain}
 use Rattle.pagable_pager.proofs.pager.installs.give_back.Goals as goal
 

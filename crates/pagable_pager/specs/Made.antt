@@ -1,0 +1,29 @@
+-- What a lent pager makes: the reference that stands for a handle, and a worker that an entry of the list moves to.
+use Rattle.std.specs.Prelude.{ℕ, ◌≡◌, ◌+◌, Result, Ok, Err, IsSome}
+use Rattle.pagable_model.specs.{declared.error.Error.Error, declared.numbers.ArcRef.ArcRef, declared.numbers.HandleNumber.HandleNumber, declared.numbers.Kind.Kind}
+use Rattle.pagable_model.specs.{declared.numbers.WorkerNumber.WorkerNumber}
+use Rattle.pagable_world.specs.World.{Core, Alike, row_at}
+use Rattle.pagable_world.specs.{declared.handles.HandleRow.HandleRow, Kinds.loose_kind, Kinds.HasKinds, Events.IsEntry, Events.with_entry_taken, Events.with_worker}
+use Rattle.pagable_loads.specs.{Telling.IsMade, Working.EntryFault}
+
+-- the reference stands for the handle that was made
+abbrev pub Refers : {X : Type 0} → Core → Kind → Result HandleNumber X → Result ArcRef X → Type 0
+Refers w kind (Ok h) (Ok r) = (IsSome (row_at w h) → IsMade w kind r) × (r.handle ≡ h)
+Refers w kind (Err e) (Err f) = e ≡ f
+Refers w kind made r = ⊥
+
+-- the entry at this place moves to a new worker, and is a loose reference to its cell
+pub record TakesEntry (w : Core) (place : ℕ) (n : WorkerNumber) (r : ArcRef) (w' : Core) : Type 0 where
+  pub h : HandleNumber
+  pub row : HandleRow
+  pub type : ℕ
+  pub entry : IsEntry w place h row type
+  pub kinds : HasKinds type
+  pub is : r ≡ record { kind = record { 0 = loose_kind type }; node = row.node; handle = h }
+  pub next : n.0 ≡ w.last.worker + 1
+  pub leaves : Alike (with_worker (with_entry_taken w place h n)) w'
+
+-- no worker comes for the entry, and nothing changes
+pub record LeavesEntry (w : Core) (place : ℕ) (e : Error) (w' : Core) : Type 0 where
+  pub why : EntryFault w place e
+  pub stays : Alike w w'
