@@ -9,7 +9,7 @@ pub use Rattle.std.specs.{Map.lookup, Option.option_map, Vec.vec_capacity, decla
 pub use Rattle.pagable_core.specs.{declared.context.writing.SerializedData.SerializedData, declared.storage.data.PagableData.PagableData}
 pub use Rattle.pagable_laws.proofs.Goes.{at-updated, Goes, RowsGo, fell-anyhow, quiet-goes}
 pub use Rattle.pagable_laws.proofs.{Arriving.headline_law, EventSteps.event-goes, Outlasting.stands-whole, Outlasting.Stands, ReadingStepsHanding.neither, Sparing.Free, Sparing.Spares}
-pub use Rattle.pagable_laws.proofs.{Sparing.then-fell, SparingSteps.event-spares, Sums.same-number, Sums.self-number, Sums.counted, Sums.one-true, Trees.same_some}
+pub use Rattle.pagable_laws.proofs.{Sparing.then-fell, Sparing.worker-apart, SparingSteps.event-spares, Sums.same-number, Sums.self-number, Sums.counted, Sums.one-true, Trees.same_some}
 pub use Rattle.pagable_laws.specs.{KeyRuns.StandsAt, TreeSteps.Change, TreeSteps.nothing_felt}
 pub use Rattle.pagable_loads.specs.{Frames.reading_of, Frames.IsLoadOf, Frames.is_cell, Telling.values_at, Working.RefusesEntry, Working.StartsEntry}
 pub use Rattle.pagable_machine.specs.Driving.{Answer, ByNumber, Drives, Given, IsInStep, holding, kept_at, over, Readings, MachineView, Over, Runs, machine_in, view_of, claims_at, claims_of}
