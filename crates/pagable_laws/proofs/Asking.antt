@@ -1,10 +1,9 @@
 -- What a blob asks for that is a form of some value: one reference of the form after another, each as its own kind, and when all are got it is read.
-use Rattle.pagable_laws.proofs.Words.{nat_tests}
-use Rattle.pagable_laws.proofs.Words.{◌≡◌, ℕ, ◌<◌, ◌≤◌, ◌==◌, true, List, [], ◌∷◌, ◌++◌, map, length, Option, Some, None, Result, Ok, Err, refl, sym, ap, subst, ◌∙◌, arith, append_assoc, slice_get}
-use Rattle.pagable_laws.proofs.Words.{slice_get-get_or, append-nil, Error, ◌>>=◌, Meaning, rename, Rest, read, deepest, references_in, Form, kind_of_arc, Answer, answer_at, handles_at, IsReadable}
-use Rattle.pagable_laws.proofs.Words.{Throughout, ArcRef, Kind, Blob, Shape, Types, is_eager, times, Frame, answer_of, answers_from, Next, reads, asks, next_by, next_of, next_in, rest, at, LooksUp}
-use Rattle.pagable_laws.proofs.{Words.{no-references, more-references}, Again.form-again, Natural.{renamed, keeps_forms}, Sums.self-number, ReadingStepsKinds.{kinds_of, kinds-pushed}, Stopping.Stops}
-use Rattle.pagable_laws.proofs.{Stopping.{stops-here, stops-later, form-stops}, Fitting.longer}
+use Rattle.pagable_laws.proofs.Words.{nat_tests, ◌≡◌, ℕ, ◌<◌, ◌≤◌, ◌==◌, true, List, [], ◌∷◌, ◌++◌, map, length, Option, Some, None, Result, Ok, Err, refl, sym, ap, subst, ◌∙◌, arith, append_assoc}
+use Rattle.pagable_laws.proofs.Words.{slice_get, slice_get-get_or, append-nil, Error, ◌>>=◌, Meaning, rename, Rest, read, deepest, references_in, Form, kind_of_arc, Answer, answer_at, handles_at}
+use Rattle.pagable_laws.proofs.Words.{IsReadable, Throughout, ArcRef, Kind, Blob, Shape, Types, is_eager, times, Frame, answer_of, answers_from, Next, reads, asks, next_by, next_of, next_in, rest}
+use Rattle.pagable_laws.proofs.{Words.{at, LooksUp, no-references, more-references}, Again.form-again, Natural.{renamed, keeps_forms}, Sums.self-number, ReadingStepsKinds.{kinds_of, kinds-pushed}}
+use Rattle.pagable_laws.proofs.{Stopping.{Stops, stops-here, stops-later, form-stops}, Fitting.longer}
 use Rattle.pagable_world.specs.Loads.{read_with}
 
 -- ---- what is answered

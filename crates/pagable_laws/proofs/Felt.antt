@@ -1,5 +1,5 @@
 -- What each sort of step brings fits trees: which trees the nodes have afterwards, and that values, keys and what becomes known fit them.
-use Rattle.pagable_laws.proofs.Words.{◌≡◌, ℕ, ◌+◌, ◌≤◌, ◌==◌, ◌&&◌, Bool, true, false, Some, None, ◌⊎◌, inl, inr, refl, sym, ap, ◌∙◌, subst, arith, if◌then◌else◌, is_some, nat_tests, OptionalDataKey}
+use Rattle.pagable_laws.proofs.Words.{◌≡◌, ℕ, ◌+◌, ◌≤◌, ◌==◌, Bool, true, false, Some, None, ◌⊎◌, refl, sym, ap, ◌∙◌, subst, arith, if◌then◌else◌, is_some, nat_tests, OptionalDataKey}
 use Rattle.pagable_laws.proofs.Words.{Owner, HandleRow, Call, Reply, ArcRef, Tree, tree, ReadsTree, type_of, Among, updated, is_pinned_kind, any_mode, is_loose, Values, IsLawful, is_here, Owns}
 use Rattle.pagable_laws.proofs.Words.{first_key, PagerState, WellFormed, Represents, ReadsNodeTree, SameTrees, CallBrings, IsNewNode, IsCellOf, ValueStands, HoldsSettled, AsksWell, ReadsAsType}
 use Rattle.pagable_laws.proofs.Words.{ReadsAsValue, ValueLeads, Change, nothing_felt, sets_key, knows_node, bears_node, bears_known, CoreGoes, StaysAway, AreGood, CallFeels, feels-nothing}
@@ -13,9 +13,6 @@ with-at n t trees = let e : (n == n) ≡ true = grind (arith, nat_tests) in rw e
 
 pub with-below : (last : ℕ) (t : Tree) (trees : ℕ → Tree) → SameTrees last trees (updated (last + 1) t trees)
 with-below last t trees n within = let e : (n == last + 1) ≡ false = grind (arith, nat_tests) in rw e refl
-
-both-true : (a b : Bool) → a ≡ true → false ≡ (a && b) → b ≡ false
-both-true x0 b e f = grind (arith, nat_tests)
 
 pub first-of : (b : Bool) (key k : ℕ) → (if b then OptionalDataKey.Some key else OptionalDataKey.None) ≡ OptionalDataKey.Some k → k ≡ key
 first-of x0 key k e = grind (arith, nat_tests)
@@ -41,7 +38,7 @@ module _ {N E : Type 0} {v : Values N} {s s' : PagerState N E} {trees : ℕ → 
 
   -- where nothing is born and no value can come to an old node, none comes
   pub none-comes : (n : ℕ) (x : N) → CoreGoes nothing_felt s.core s'.core → s.values n ≡ None → s'.values n ≡ Some x → IsNewNode s.core n ⊎ StaysAway s.core s'.core n → ⊥
-  none-comes n x goes x3 is x5 = grind (arith, nat_tests, live-after, either-side, both-true, came)
+  none-comes n x goes x3 is x5 = grind (arith, nat_tests, live-after, either-side, came)
 
   -- nothing is felt, and what comes to an old node fits
   pub fits-nothing : (comes : ℕ → N → Type 0) → ((n : ℕ) (x : N) → comes n x → s.values n ≡ None → s'.values n ≡ Some x → ValueLeads v trees x (trees n))

@@ -1,5 +1,5 @@
 -- Reading is local: what is read of a front is read of the whole, a fault stays, and what was used reads alone.
-use Rattle.pagable_laws.proofs.Words.{nat_tests, arith, ◌≡◌, ℕ, zero, suc, ◌-◌, Bool, true, false, List, [], ◌∷◌, ◌++◌, Some, None, Result, Ok, Err, inl, inr, refl, ap, ◌∙◌, subst, append_assoc}
+use Rattle.pagable_laws.proofs.Words.{nat_tests, arith, ◌≡◌, ℕ, zero, suc, ◌-◌, Bool, List, [], ◌∷◌, ◌++◌, Some, None, Result, Ok, Err, refl, ap, ◌∙◌, subst, append_assoc}
 use Rattle.pagable_laws.proofs.Words.{Error, ◌>>=◌, Read, unsigned_at, signed_at, length_at, text_at, bool_at, char_at, duration_at, Meaning, number, integer, none, variant, sequence, entry, absent}
 use Rattle.pagable_laws.proofs.Words.{present, success, failure, lifted, text_order, put_all, put_sorted, put_placed, put_sorted_item, put_placed_item, of_entries, of_duration, of_tagged}
 use Rattle.pagable_laws.proofs.Words.{of_hash_map, Shape, nothing, unsigned, signed, flag, letter, duration, json, optional, outcome, list, run, array, both, sorted_map, placed_map, hash_map}

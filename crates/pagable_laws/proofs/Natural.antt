@@ -1,10 +1,8 @@
 -- Reading is natural in what stands for references, and forms are.
-use Rattle.pagable_laws.proofs.Words.{arith, nat_tests}
-use Rattle.std.proofs.Common.{rules}
-use Rattle.pagable_laws.proofs.Words.{◌≡◌, ℕ, List, [], ◌∷◌, map, Result, Ok, Err, refl, sym, ap, ◌∙◌, inl, subst, Error, ◌>>=◌, Meaning, number, integer, text, pattern, none, pair, variant}
-use Rattle.pagable_laws.proofs.{Words.{reference, followed, rename, Rest, read, Form, rest, at, IsNatural, IsReadOver, IsRenamed, IsReadThrough, KeepsForms}, Along.{Along, number-along}}
-use Rattle.pagable_laws.proofs.Along.{integer-along, text-along, pattern-along, none-along, pair-along, variant-along, reference-along, followed-along, AllTwo, no-two, more-two, form-along}
-use Rattle.pagable_laws.proofs.Related.{Out, both-given, both-refused, first-refused, OutLook, both-looked-up, both-not, first-not, read_par}
+use Rattle.pagable_laws.proofs.Words.{arith, nat_tests, ◌≡◌, ℕ, List, [], ◌∷◌, map, Result, Ok, Err, refl, sym, ap, ◌∙◌, inl, subst, Error, ◌>>=◌, Meaning, pair, variant, followed, rename, Rest}
+use Rattle.pagable_laws.proofs.{Words.{read, Form, rest, at, IsNatural, IsReadOver, IsRenamed, IsReadThrough, KeepsForms}, Along.{Along, number-along, integer-along, text-along, pattern-along}}
+use Rattle.pagable_laws.proofs.{Along.{none-along, pair-along, variant-along, reference-along, followed-along, AllTwo, no-two, more-two, form-along}, Related.{Out, both-given, both-refused}}
+use Rattle.pagable_laws.proofs.Related.{first-refused, OutLook, both-looked-up, both-not, first-not, read_par}
 
 -- no cause
 abbrev no_cause : Error → Type 0

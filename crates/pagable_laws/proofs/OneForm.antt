@@ -1,5 +1,5 @@
 -- A meaning of a canonical shape has at most one form.
-use Rattle.pagable_laws.proofs.Words.{arith, nat_tests, ◌≡◌, ℕ, suc, Bool, true, false, List, [], ◌∷◌, ◌++◌, length, refl, sym, ap, ◌∙◌, subst, unsigned_form, signed_form, bool_form, length_form}
+use Rattle.pagable_laws.proofs.Words.{arith, nat_tests, ◌≡◌, ℕ, suc, Bool, List, [], ◌∷◌, ◌++◌, length, refl, sym, ap, ◌∙◌, subst, unsigned_form, signed_form, bool_form, length_form}
 use Rattle.pagable_laws.proofs.Words.{text_form, char_form, Meaning, sequence, Entry, of_entries, Shape, Form, Forms, Entries, nothing-form, unsigned-form, signed-form, flag-form}
 use Rattle.pagable_laws.proofs.Words.{text-form, letter-form, duration-form, pattern-form, none-form, some-form, err-form, ok-form, list-form, run-form, array-form, both-form, sorted-map-form}
 use Rattle.pagable_laws.proofs.Words.{placed-map-form, hash-map-form, sorted-set-form, placed-set-form, static-form, tagged-form, case-form, reference-form, nested-form, json-null-form}

@@ -1,10 +1,9 @@
 -- A form is read up to a reference that is refused, and is refused so.
-use Rattle.pagable_laws.proofs.Words.{arith, nat_tests}
-use Rattle.pagable_laws.proofs.Words.{◌≡◌, ℕ, List, [], ◌∷◌, ◌++◌, length, Ok, Err, refl, ap, inl, inr, append_assoc, Error, varint_at, bool_at, Meaning, Entry, Shape, Look, items, two, LiesIn}
-use Rattle.pagable_laws.proofs.Words.{subst, read_with, below, Form, Forms, Entries, some-form, err-form, ok-form, list-form, run-form, array-form, both-form, sorted-map-form, placed-map-form}
-use Rattle.pagable_laws.proofs.Words.{hash-map-form, sorted-set-form, placed-set-form, tagged-form, case-form, reference-form, nested-form, json-array-form, json-object-form, no-forms, more-forms}
-use Rattle.pagable_laws.proofs.{Words.{no-entries, more-entries, IsReadable, Throughout, rest, LooksUp, no-references, more-references}, Basic.{length-again, text-again}, Wholes.unsigned-again}
-use Rattle.pagable_laws.proofs.{Within.{here, narrowed, part_of, of_json, of_text}, Again.{no_case-form, read_at, form-again}}
+use Rattle.pagable_laws.proofs.Words.{arith, nat_tests, ◌≡◌, ℕ, List, [], ◌∷◌, ◌++◌, length, Ok, Err, refl, ap, inl, inr, append_assoc, Error, varint_at, bool_at, Meaning, Entry, Shape, Look, items}
+use Rattle.pagable_laws.proofs.Words.{two, LiesIn, subst, read_with, below, Form, Forms, Entries, some-form, err-form, ok-form, list-form, run-form, array-form, both-form, sorted-map-form}
+use Rattle.pagable_laws.proofs.Words.{placed-map-form, hash-map-form, sorted-set-form, placed-set-form, tagged-form, case-form, reference-form, nested-form, json-array-form, json-object-form}
+use Rattle.pagable_laws.proofs.{Words.{no-forms, more-forms, no-entries, more-entries, IsReadable, Throughout, rest, LooksUp, no-references, more-references}, Basic.{length-again, text-again}}
+use Rattle.pagable_laws.proofs.{Wholes.unsigned-again, Within.{here, narrowed, part_of, of_json, of_text}, Again.{no_case-form, read_at, form-again}}
 
 -- What stands for references is looked up, one after another, up to one that is refused.
 pub data Stops {A B : Type 0} (look : Look A B) (kind_of : B → ℕ) (e : Error) : List A → List B → Type 0 where
