@@ -24,7 +24,8 @@ module _ {N E : Type 0} {v : Values N} {s s' : PagerState N E} {trees : ℕ → 
 
   -- a value whose references were given leads to its tree where more nodes have trees
   pub value-on : {trees' : ℕ → Tree} {x : N} {t : Tree} → SameTrees last trees trees' → ((r : ArcRef) → Among (v.references x) r → r.node.0 ≤ last) → ValueLeads v trees x t → ValueLeads v trees' x t
-  value-on {trees'} {x} {t} same few l = record { own = l.own; typed = l.typed; means = l.means; leads = leads-on l.leads (λ r among. same r.node.0 (few r (own-refs lawful x l.own l.means r among))) }
+  value-on {trees'} {x} {t} same few l =
+      record { own = l.own; typed = l.typed; means = l.means; leads = leads-on l.leads (λ r among. same r.node.0 (few r (own-refs lawful x l.own l.means r among))) }
 
   good-given : (owner : Owner) (x : N) → AreGood s.core owner (v.references x) → (r : ArcRef) → Among (v.references x) r → r.node.0 ≤ last
   good-given owner x good r among = (given-of well.whole.handles r.node.0 (good r among).typed).1
@@ -43,7 +44,8 @@ module _ {N E : Type 0} {v : Values N} {s s' : PagerState N E} {trees : ℕ → 
   -- nothing is felt, and what comes to an old node fits
   pub fits-nothing : (comes : ℕ → N → Type 0) → ((n : ℕ) (x : N) → comes n x → s.values n ≡ None → s'.values n ≡ Some x → ValueLeads v trees x (trees n))
       → ChangeFits v nothing_felt comes s s' trees trees
-  fits-nothing comes fit = record { same = λ n within. refl; sets = λ n key is. absurd is; born = λ t own is. absurd is; keyed = λ t key is. absurd is; knows = λ kind key n is. absurd is; comes_well = fit }
+  fits-nothing comes fit =
+      record { same = λ n within. refl; sets = λ n key is. absurd is; born = λ t own is. absurd is; keyed = λ t key is. absurd is; knows = λ kind key n is. absurd is; comes_well = fit }
 
   pub fits-key : (comes : ℕ → N → Type 0) (m k : ℕ) → ((n : ℕ) (x : N) → comes n x → ⊥) → ReadsTree s'.core.stored v.types k (trees m) → ChangeFits v (sets_key m k) comes s s' trees trees
   fits-key comes m k none reads = grind arith
@@ -131,7 +133,8 @@ module _ {N E : Type 0} {v : Values N} {s s' : PagerState N E} {trees : ℕ → 
       → ReadsTree s.core.stored v.types key (trees z.node.0) = subst (λ b. P (Call.OnArcDeserialized kind key h) b) replied (subst (λ a. P a reply) called well_asked) in
       let live = given-of well.whole.handles row.node.0 typed in
       let is_typed : (trees row.node.0).type ≡ type_of kind.0 = same_some _ _ (sym (stands.typed row.node.0 live.0) ∙ typed) in
-      record { after = trees; fits = fits-known _ kind.0 key row.node.0 (λ n y brings. nothing-brought call (Call.OnArcDeserialized kind key h) n y called (λ b. b) brings) (record { typed = is_typed; reads = tree-stays goes.stored (asked row owns) }) }
+      record { after = trees; fits = fits-known _ kind.0 key row.node.0 (λ n y brings. nothing-brought call (Call.OnArcDeserialized kind key h) n y called (λ b. b) brings)
+          (record { typed = is_typed; reads = tree-stays goes.stored (asked row owns) }) }
   call-fits {B} c call reply goes well_asked (feels-adopted l kind key x k called replied typed good) =
       let P : Call N B → Reply N B → Type 0 = λ a b. AsksWell v s trees a b in
       let asked : ReadsAsValue v s x key = subst (λ b. P (Call.LoadAdopt l kind key x) b) replied (subst (λ a. P a reply) called well_asked) in

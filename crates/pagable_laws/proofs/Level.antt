@@ -68,7 +68,8 @@ pub parent-asked : (xs : List two.Happening) → ArePremised (two.machine two.pa
 unfolding find_row is_named_by grammar.read grammar.read_with answers_from
 parent-asked xs rest = grind (arith, nat_tests, asked, child-reads)
 
-pub child-asked : (xs : List two.Happening) → ArePremised (two.machine two.child_loaded two.last_values two.done_work) xs → ArePremised (two.machine two.parent_loaded two.parent_value two.done_work) (two.child_loads ++ xs)
+pub child-asked : (xs : List two.Happening) → ArePremised (two.machine two.child_loaded two.last_values two.done_work) xs → ArePremised
+    (two.machine two.parent_loaded two.parent_value two.done_work) (two.child_loads ++ xs)
 unfolding find_row is_named_by grammar.read grammar.read_with answers_from
 child-asked xs rest = grind (arith, nat_tests, asked)
 

@@ -41,7 +41,8 @@ module _ {A X Y : Type 0} (read : List ℕ → Read X) (view : X → Y) (h : Tam
   unfolding Goes
   bytes_go i x x2 second x4 = grind (arith, nat_tests)
 
-  bytes_use : (i : Rest A) (first : Read X) → Uses more_bytes [] read i.bytes first → Uses more ended (bytes_of read view) i (first >>= λ p. let z : Result (Y × Rest A) Error = Ok (view p.0, record i { bytes = p.1 }) in z)
+  bytes_use : (i : Rest A) (first : Read X) → Uses more_bytes [] read i.bytes first → Uses more ended (bytes_of read view) i
+      (first >>= λ p. let z : Result (Y × Rest A) Error = Ok (view p.0, record i { bytes = p.1 }) in z)
   unfolding Uses
   bytes_use i (Ok p) g = record { used = rest g.used []; whole = ap (λ (b : List ℕ). rest b i.refs) g.whole; alone = rw g.alone refl }
   bytes_use i (Err e) g = tt
@@ -172,7 +173,8 @@ module _ {A B : Type 0} where
 
 pub read_tame : {A B : Type 0} (context : Context A B) (s : Shape) → TameGets (read context s)
 unfolding read
-read_tame context s = likewise (with_tame context.look context.parts (below context.look context.parts (deepest - context.levels)) (below_tame context.look context.parts (deepest - context.levels)) s) (λ i. refl)
+read_tame context s =
+    likewise (with_tame context.look context.parts (below context.look context.parts (deepest - context.levels)) (below_tame context.look context.parts (deepest - context.levels)) s) (λ i. refl)
 
 pub local : {A B : Type 0} → IsLocal A B
 unfolding Goes

@@ -49,13 +49,15 @@ module _ {A B : Type 0} {look : Look A B} {kind_of : B → ℕ} {parts : ℕ →
     form-stops x r (array-form left n s ms b k is h) u t = rw (← is, forms-stop x r h u (narrowed t (λ p. p) (λ n d l. l))) refl
     form-stops x r (both-form left s s2 m n b c k l h g) u t = elim (split-stop k l u) [
       | in-front f ↦ rw (append_assoc, form-stops (c ++ x) r h f (narrowed t (λ p. p.0) (λ n d l. l.0))) refl
-      | behind front back whole looks f ↦ rw (whole, append_assoc, form-again (c ++ x) front back h looks (narrowed t (λ p. p.0) (λ n d l. l.0)), form-stops x back g f (narrowed t (λ p. p.1) (λ n d l. l.1))) refl
+      | behind front back whole looks f ↦ rw
+          (whole, append_assoc, form-again (c ++ x) front back h looks (narrowed t (λ p. p.0) (λ n d l. l.0)), form-stops x back g f (narrowed t (λ p. p.1) (λ n d l. l.1))) refl
     ]
     form-stops x r (sorted-map-form left order s s2 es b k le up h) u t =
         rw (append_assoc, length-again (length es) (b ++ x) le, entries-stop x r h u (narrowed t (λ p. p.0) (λ n d l. l.0)) (narrowed t (λ p. p.1) (λ n d l. l.1))) refl
     form-stops x r (placed-map-form left s s2 es b k le up h) u t =
         rw (append_assoc, length-again (length es) (b ++ x) le, entries-stop x r h u (narrowed t (λ p. p.0) (λ n d l. l.0)) (narrowed t (λ p. p.1) (λ n d l. l.1))) refl
-    form-stops x r (hash-map-form left s s2 es b k le up h) u t = rw (append_assoc, length-again (length es) (b ++ x) le, entries-stop x r h u (narrowed t (λ p. p.0) (λ n d l. l.0)) (narrowed t (λ p. p.1) (λ n d l. l.1))) refl
+    form-stops x r (hash-map-form left s s2 es b k le up h) u t =
+        rw (append_assoc, length-again (length es) (b ++ x) le, entries-stop x r h u (narrowed t (λ p. p.0) (λ n d l. l.0)) (narrowed t (λ p. p.1) (λ n d l. l.1))) refl
     form-stops x r (sorted-set-form left order s ms b k le up h) u t = rw (append_assoc, length-again (length ms) (b ++ x) le, forms-stop x r h u (narrowed t (λ p. p) (λ n d l. l))) refl
     form-stops x r (placed-set-form left s ms b k le up h) u t = rw (append_assoc, length-again (length ms) (b ++ x) le, forms-stop x r h u (narrowed t (λ p. p) (λ n d l. l))) refl
     form-stops x r (tagged-form left written known body tag m b k utf8 le f) u t = elim ((here t).0 tag) [
