@@ -40,8 +40,6 @@ stops-at : (front back done : List ArcRef) (q : ArcRef) (more : List ArcRef) (ke
     → Stops look_kind own_kind (Error.Storage q.kind.0) (answers_from (front ++ back) (length front) keys) (map kind_of_arc (done ++ q ∷ more))
 unfolding answers_from
 stops-at front [] [] q more (key ∷ keys) same few = stops-here _ _ _ _ (unanswered (slice_get (front ++ []) (length front)) q.kind.0 (behind-end front))
-stops-at front (g ∷ back) [] q more keys same few = absurd (cc)
-stops-at front [] (d ∷ done) q more keys same few = absurd (cc)
 stops-at front (g ∷ back) (d ∷ done) q more (key ∷ keys) same few =
     let both = first-kind g d back done same in
     let tail = stops-at (front ++ g ∷ []) back done q more keys both.1 (omega arith) in
@@ -50,6 +48,7 @@ stops-at front (g ∷ back) (d ∷ done) q more (key ∷ keys) same few =
     stops-later _ _ _ _ (answered g (slice_get (front ++ g ∷ back) (length front)) d.kind.0 (at-place front g back) both.0)
     (subst (λ n. Stops look_kind own_kind (Error.Storage q.kind.0) (answers_from (front ++ g ∷ back) n keys) (map kind_of_arc (done ++ q ∷ more))) (longer front g) moved)
 stops-at front _ _ q more [] same few = absurd (omega arith)
+stops-at front _ _ q more keys same few = absurd (cc)
 
 looks-all : (front back done : List ArcRef) (keys : List ℕ) → kinds_of back ≡ kinds_of done → length keys ≡ length done
     → LooksUp look_kind own_kind (answers_from (front ++ back) (length front) keys) (map kind_of_arc done)
