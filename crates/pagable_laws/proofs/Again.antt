@@ -60,12 +60,14 @@ module _ {A B : Type 0} {look : Look A B} {kind_of : B → ℕ} {parts : ℕ →
     form-again x r y (array-form left n s ms b k e h) u t = rw (← e, forms-again x r y h u (narrowed t (λ p. p) (λ n d l. l))) refl
     form-again x r y (both-form left s s2 m n b c k l h g) u t =
         let p = split k l u in
-        rw (p.whole, append_assoc, append_assoc, form-again (c ++ x) p.front (p.back ++ y) h p.first (narrowed t (λ p. p.0) (λ n d l. l.0)), form-again x p.back y g p.second (narrowed t (λ p. p.1) (λ n d l. l.1))) refl
+        rw (p.whole, append_assoc, append_assoc, form-again (c ++ x) p.front (p.back ++ y) h p.first (narrowed t (λ p. p.0) (λ n d l. l.0)), form-again x p.back y g p.second
+            (narrowed t (λ p. p.1) (λ n d l. l.1))) refl
     form-again x r y (sorted-map-form left order s s2 es b k le up h) u t =
         rw (append_assoc, length-again (length es) (b ++ x) le, entries-again x r y h u (narrowed t (λ p. p.0) (λ n d l. l.0)) (narrowed t (λ p. p.1) (λ n d l. l.1)), ascending-kept order es up) refl
     form-again x r y (placed-map-form left s s2 es b k le up h) u t =
         rw (append_assoc, length-again (length es) (b ++ x) le, entries-again x r y h u (narrowed t (λ p. p.0) (λ n d l. l.0)) (narrowed t (λ p. p.1) (λ n d l. l.1)), differing-kept es up) refl
-    form-again x r y (hash-map-form left s s2 es b k le up h) u t = rw (append_assoc, length-again (length es) (b ++ x) le, entries-again x r y h u (narrowed t (λ p. p.0) (λ n d l. l.0)) (narrowed t (λ p. p.1) (λ n d l. l.1))) refl
+    form-again x r y (hash-map-form left s s2 es b k le up h) u t =
+        rw (append_assoc, length-again (length es) (b ++ x) le, entries-again x r y h u (narrowed t (λ p. p.0) (λ n d l. l.0)) (narrowed t (λ p. p.1) (λ n d l. l.1))) refl
     form-again x r y (sorted-set-form left order s ms b k le up h) u t =
         rw (append_assoc, length-again (length ms) (b ++ x) le, forms-again x r y h u (narrowed t (λ p. p) (λ n d l. l)), ascending_items-kept order ms up) refl
     form-again x r y (placed-set-form left s ms b k le up h) u t =
@@ -75,7 +77,8 @@ module _ {A B : Type 0} {look : Look A B} {kind_of : B → ℕ} {parts : ℕ →
       | inl h ↦ absurd (no_case-form f h)
       | inr h ↦ rw (append_assoc, text-again tag (b ++ x) utf8 le, h.0, h.1, form-again x r y f u (narrowed t (λ p. subst IsReadable h.1 (p.1 tag h.0)) (λ n d l. l.0 tag))) refl
     ]
-    form-again x r y (case-form left w known part n m b k lt is f) u t = rw (append_assoc, unsigned-again w n (b ++ x) lt, is, form-again x r y f u (narrowed t (λ p. p n is) (λ nodes d l. l n is))) refl
+    form-again x r y (case-form left w known part n m b k lt is f) u t =
+        rw (append_assoc, unsigned-again w n (b ++ x) lt, is, form-again x r y f u (narrowed t (λ p. p n is) (λ nodes d l. l n is))) refl
     form-again x r y (reference-form left kind a e) u t = let p = one_ref u in rw (p.1, ← e, p.2) refl
     form-again x r y (nested-form left less n m b k e h) u t = rw (e, form-again x r y h u (part_of t)) refl
     form-again x r y (json-flag-form left b) u t = rw (no_refs u, bool-again b x) refl

@@ -1,6 +1,5 @@
 -- A hash map means the same in whatever order its entries come.
-use Rattle.pagable_laws.proofs.Words.{nat_tests}
-use Rattle.pagable_laws.proofs.Words.{◌≡◌, Bool, true, false, cond, List, [], ◌∷◌, map, Option, Some, None, refl, sym, ap, ◌∙◌, Ordering, T, bytes_eq-Decides, is_eq-slice_cmp, exact_bytes, arith}
+use Rattle.pagable_laws.proofs.Words.{nat_tests, ◌≡◌, Bool, cond, List, [], ◌∷◌, map, Option, Some, None, refl, sym, ap, ◌∙◌, Ordering, T, bytes_eq-Decides, is_eq-slice_cmp, exact_bytes, arith}
 use Rattle.pagable_laws.proofs.Words.{Meaning, pair, variant, reference, followed, plain, rename, lifted, Entry, code, code_order, put_all, put_sorted, last_value, one-meaning, of_entries}
 use Rattle.pagable_laws.proofs.Words.{IsOneKeyMeaning, IsAnyOrder}
 use Rattle.std.specs.{Option.option_or, declared.cmp.Ordering.Ordering, Ordering.{match_ordering, eq_by_cmp}, Cmp.IsTotalOrder, Cmp.Lexicographic.on_texts, FinMap.Entries.{by_order, put, find}}

@@ -3,7 +3,7 @@ use Rattle.pagable_laws.proofs.Words.{nat_tests, ◌≡◌, ℕ, zero, suc, ◌+
 use Rattle.pagable_laws.proofs.Words.{if◌then◌else◌, slice_get, append-nil, sum_by-cons, Error, Meaning, references_in, Rest, read, kind_of_arc, Answer, answer_at, handles_at, Owner, ArcRef, Blob}
 use Rattle.pagable_laws.proofs.Words.{Types, Among, is_in, one, times, Core, answer_of, answers_from, reads, next_of, reference_fault, references_fault, IsReference, rest, LooksUp, no-references}
 use Rattle.pagable_laws.proofs.{Words.more-references, Again.read_again, Along.{Along, pair-along, variant-along, reference-along, followed-along, AllTwo, no-two, more-two, append-two}, Related.Out}
-use Rattle.pagable_laws.proofs.{Related.{both-given, both-refused, first-refused, OutLook, both-looked-up, both-not, read_par}, Sums.{self-number, same-number, at-most-sum, counted, one-true}}
+use Rattle.pagable_laws.proofs.{Related.{OutLook, both-looked-up, both-not, read_par}, Sums.{self-number, same-number, at-most-sum, counted, one-true}}
 use Rattle.pagable_laws.proofs.{Decoding.read-gives, ReadingStepsKinds.kinds_of, Asking.IsFormOf}
 use Rattle.pagable_world.specs.Loads.{read_with}
 

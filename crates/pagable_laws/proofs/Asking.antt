@@ -1,10 +1,9 @@
 -- What a blob asks for that is a form of some value: one reference of the form after another, each as its own kind, and when all are got it is read.
-use Rattle.pagable_laws.proofs.Words.{nat_tests}
-use Rattle.pagable_laws.proofs.Words.{◌≡◌, ℕ, ◌<◌, ◌≤◌, ◌==◌, true, List, [], ◌∷◌, ◌++◌, map, length, Option, Some, None, Result, Ok, Err, refl, sym, ap, subst, ◌∙◌, arith, append_assoc, slice_get}
-use Rattle.pagable_laws.proofs.Words.{slice_get-get_or, append-nil, Error, ◌>>=◌, Meaning, rename, Rest, read, deepest, references_in, Form, kind_of_arc, Answer, answer_at, handles_at, IsReadable}
-use Rattle.pagable_laws.proofs.Words.{Throughout, ArcRef, Kind, Blob, Shape, Types, is_eager, times, Frame, answer_of, answers_from, Next, reads, asks, next_by, next_of, next_in, rest, at, LooksUp}
-use Rattle.pagable_laws.proofs.{Words.{no-references, more-references}, Again.form-again, Natural.{renamed, keeps_forms}, Sums.self-number, ReadingStepsKinds.{kinds_of, kinds-pushed}, Stopping.Stops}
-use Rattle.pagable_laws.proofs.{Stopping.{stops-here, stops-later, form-stops}, Fitting.longer}
+use Rattle.pagable_laws.proofs.Words.{nat_tests, ◌≡◌, ℕ, ◌<◌, ◌≤◌, ◌==◌, true, List, [], ◌∷◌, ◌++◌, map, length, Option, Some, None, Result, Ok, Err, refl, sym, ap, subst, ◌∙◌, arith, append_assoc}
+use Rattle.pagable_laws.proofs.Words.{slice_get, slice_get-get_or, append-nil, Error, ◌>>=◌, Meaning, rename, Rest, read, deepest, references_in, Form, kind_of_arc, Answer, answer_at, handles_at}
+use Rattle.pagable_laws.proofs.Words.{IsReadable, Throughout, ArcRef, Kind, Blob, Shape, Types, is_eager, times, Frame, answer_of, answers_from, Next, reads, asks, next_by, next_of, next_in, rest}
+use Rattle.pagable_laws.proofs.{Words.{at, LooksUp, no-references, more-references}, Again.form-again, Natural.{renamed, keeps_forms}, Sums.self-number, ReadingStepsKinds.{kinds_of, kinds-pushed}}
+use Rattle.pagable_laws.proofs.{Stopping.{Stops, stops-here, stops-later, form-stops}, Fitting.longer}
 use Rattle.pagable_world.specs.Loads.{read_with}
 
 -- ---- what is answered
@@ -41,8 +40,6 @@ stops-at : (front back done : List ArcRef) (q : ArcRef) (more : List ArcRef) (ke
     → Stops look_kind own_kind (Error.Storage q.kind.0) (answers_from (front ++ back) (length front) keys) (map kind_of_arc (done ++ q ∷ more))
 unfolding answers_from
 stops-at front [] [] q more (key ∷ keys) same few = stops-here _ _ _ _ (unanswered (slice_get (front ++ []) (length front)) q.kind.0 (behind-end front))
-stops-at front (g ∷ back) [] q more keys same few = absurd (cc)
-stops-at front [] (d ∷ done) q more keys same few = absurd (cc)
 stops-at front (g ∷ back) (d ∷ done) q more (key ∷ keys) same few =
     let both = first-kind g d back done same in
     let tail = stops-at (front ++ g ∷ []) back done q more keys both.1 (omega arith) in
@@ -51,6 +48,7 @@ stops-at front (g ∷ back) (d ∷ done) q more (key ∷ keys) same few =
     stops-later _ _ _ _ (answered g (slice_get (front ++ g ∷ back) (length front)) d.kind.0 (at-place front g back) both.0)
     (subst (λ n. Stops look_kind own_kind (Error.Storage q.kind.0) (answers_from (front ++ g ∷ back) n keys) (map kind_of_arc (done ++ q ∷ more))) (longer front g) moved)
 stops-at front _ _ q more [] same few = absurd (omega arith)
+stops-at front _ _ q more keys same few = absurd (cc)
 
 looks-all : (front back done : List ArcRef) (keys : List ℕ) → kinds_of back ≡ kinds_of done → length keys ≡ length done
     → LooksUp look_kind own_kind (answers_from (front ++ back) (length front) keys) (map kind_of_arc done)

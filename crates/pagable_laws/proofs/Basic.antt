@@ -1,6 +1,5 @@
 -- Flags, lengths, texts, characters and durations are read again.
-use Rattle.pagable_laws.proofs.Words.{nat_tests}
-use Rattle.pagable_laws.proofs.Words.{◌≡◌, ℕ, ◌+◌, ◌/◌, ◌%◌, ◌^◌, ◌<◌, ◌≤◌, Bool, true, false, List, [], ◌∷◌, ◌++◌, length, Ok, refl, arith, append_assoc, ltb, le-ltb, lt-ltb, le-leb, take_at}
+use Rattle.pagable_laws.proofs.Words.{nat_tests, ◌≡◌, ℕ, ◌+◌, ◌/◌, ◌%◌, ◌^◌, ◌<◌, ◌≤◌, Bool, false, List, [], ◌∷◌, ◌++◌, length, Ok, refl, arith, append_assoc, ltb, le-ltb, lt-ltb, le-leb, take_at}
 use Rattle.pagable_laws.proofs.Words.{drop_at, length-append, append-nil, is_utf8-from_IsUtf8, IsUtf8-encode, chars-encodes, length-encode, bool_form, bool_at, longest, length_form, length_at}
 use Rattle.pagable_laws.proofs.{Words.{text_form, text_at, char_form, char_at, nanos_of_second, duration_form, duration_at}, Wholes.unsigned-again}
 use Rattle.std.specs.{Int.{w32, w64}, Char.{IsScalar, encode_utf8, len_utf8}, Str.{IsUtf8, chars}}

@@ -1,6 +1,6 @@
 -- Heights that are known are those of trees; so where a place and a height pass the limit, the task leads down too long a path.
-use Rattle.pagable_laws.proofs.Words.{nat_tests, ◌≡◌, ℕ, zero, suc, ◌+◌, ◌<◌, ◌≤◌, Bool, true, false, List, [], ◌∷◌, ◌⊎◌, inl, inr, if◌then◌else◌, sym, ap, subst, arith, max, Some, Err, pair}
-use Rattle.pagable_laws.proofs.Words.{variant, reference, followed, is_eager, longest_path, above, height, deepest_path, kind_of_arc, Error, ArcRef, Identity, Meaning, Tree, Types, Among}
+use Rattle.pagable_laws.proofs.Words.{nat_tests, ◌≡◌, ℕ, zero, suc, ◌+◌, ◌<◌, ◌≤◌, Bool, true, List, [], ◌∷◌, ◌⊎◌, inl, inr, if◌then◌else◌, sym, ap, subst, arith, max, Some, Err, pair}
+use Rattle.pagable_laws.proofs.Words.{variant, followed, is_eager, longest_path, above, height, deepest_path, kind_of_arc, Error, ArcRef, Identity, Meaning, Tree, Types, Among}
 use Rattle.pagable_laws.proofs.Words.{identity_of, Core, Shelf, Written, Todo, to_start, to_finish, to_item, Task, of_entry, Values, is_identity, Site, Claims, IsPublished, IsTooDeep, claim_fault}
 use Rattle.pagable_laws.proofs.Words.{MachineState, world_of, IsTooDeepTask, WaitsForAsker, Ground, ground_of, FollowsTo, number-follows, integer-follows, text-follows, pattern-follows, none-follows}
 use Rattle.pagable_laws.proofs.{Words.{pair-follows, variant-follows, reference-follows, WroteTree, Expects, Waits, WorkFits}, Along.{Along, number-along, integer-along, text-along, pattern-along}}

@@ -1,6 +1,6 @@
 -- A value that was read of a blob leads to what the blob's key reads as: reading the blob with the references that were got runs along the reading of
 -- its bare keys, and each of these reads as the tree of the node that was got for it.
-use Rattle.pagable_laws.proofs.Words.{nat_tests, ◌≡◌, ℕ, zero, suc, ◌+◌, ◌≤◌, ◌==◌, ◌&&◌, Bool, true, false, List, [], ◌∷◌, ◌++◌, Option, Some, None, Result, Ok, Err, if◌then◌else◌, ◌⊎◌, inl, inr}
+use Rattle.pagable_laws.proofs.Words.{nat_tests, ◌≡◌, ℕ, zero, suc, ◌+◌, ◌≤◌, ◌==◌, ◌&&◌, Bool, true, List, [], ◌∷◌, ◌++◌, Option, Some, None, Result, Ok, Err, ◌⊎◌, inl, inr}
 use Rattle.pagable_laws.proofs.Words.{refl, sym, ap, ◌∙◌, subst, arith, sum_by, slice_get, length, and_parts, Error, number, integer, text, pattern, none, pair, variant, reference, followed}
 use Rattle.pagable_laws.proofs.Words.{references_in, SameReferences, Rest, read_typed, Answer, answer_at, handles_at, KeyRef, key_ref, ReadsAs, blob_context, rest_of, IsFollowed, number-followed}
 use Rattle.pagable_laws.proofs.Words.{integer-followed, text-followed, pattern-followed, none-followed, pair-followed, variant-followed, reference-followed, ArcRef, Kind, Blob, Shape, Types, Tree}
@@ -52,13 +52,9 @@ among-either {X} (x ∷ xs) ys (suc i) r is = later (among-either xs ys i r is)
 among-either x0 ys x2 r is = grind (arith, nat_tests)
 
 module _ {types : Types} {stored : ℕ → Option Blob} {trees : ℕ → Tree} {got : List ArcRef} where
-  answer-by : (t : Bool) (r : ArcRef) (kind key : ℕ) → (r.kind.0 == kind) ≡ t → Among got r → ReadsNodeTree types stored trees key (type_of r.kind.0) r.node.0
-      → OutLook any_cause (Found types stored trees got) (if t then Ok r else Err Error.WrongKind) (Ok (key_ref kind key))
-  answer-by x0 r kind key is among tree_read = grind (arith, nat_tests, both-looked-up, same-number, first-not)
-
   answer-of : (o : Option ArcRef) (key : ℕ) → ((r : ArcRef) → o ≡ Some r → Among got r × ReadsNodeTree types stored trees key (type_of r.kind.0) r.node.0)
       → AnswersFor types stored trees got (answer_of o) key
-  answer-of x0 key h kind = grind (arith, nat_tests, first-not, answer-by)
+  answer-of x0 key h kind = grind (arith, nat_tests, first-not, both-looked-up, same-number)
 
   answers : (place : ℕ) (keys : List ℕ)
       → ((i key : ℕ) (r : ArcRef) → slice_get got (place + i) ≡ Some r → slice_get keys i ≡ Some key → ReadsNodeTree types stored trees key (type_of r.kind.0) r.node.0)
@@ -68,7 +64,8 @@ module _ {types : Types} {stored : ℕ → Option Blob} {trees : ℕ → Tree} {
   answers place (key ∷ keys) h =
       let here : place ≡ place + 0 = omega arith in
       let first = answer-of (slice_get got place) key (λ r is. ((place, is), h 0 key r (subst (λ n. slice_get got n ≡ Some r) here is) refl)) in
-      more-two _ key _ keys first (answers (place + 1) keys (λ i k r is at. let next : place + 1 + i ≡ place + suc i = omega arith in h (suc i) k r (subst (λ n. slice_get got n ≡ Some r) next is) at))
+      more-two _ key _ keys first
+          (answers (place + 1) keys (λ i k r is at. let next : place + 1 + i ≡ place + suc i = omega arith in h (suc i) k r (subst (λ n. slice_get got n ≡ Some r) next is) at))
 
   -- the two readings of the blob
   both-read : {own : Meaning ArcRef} {after : Rest Answer} {first : Result (Meaning ArcRef × Rest Answer) Error} {second : Result (Meaning KeyRef × Rest ℕ) Error}
@@ -119,12 +116,9 @@ module _ {types : Types} {stored : ℕ → Option Blob} {trees : ℕ → Tree} {
 is_ref : ArcRef → ArcRef → Bool
 is_ref r q = (q.kind.0 == r.kind.0) && ((q.node.0 == r.node.0) && (q.handle.0 == r.handle.0))
 
-refs-of : {r q : ArcRef} → q.kind.0 ≡ r.kind.0 → q.node.0 ≡ r.node.0 → q.handle.0 ≡ r.handle.0 → q ≡ r
-refs-of {r} {q} kind node handle = grind (arith, nat_tests)
-
 same-ref : (r q : ArcRef) → is_ref r q ≡ true → q ≡ r
 unfolding is_ref
-same-ref r q is = grind (arith, and_parts, refs-of, same-number)
+same-ref r q is = grind (arith, and_parts, same-number)
 
 is-itself : (r : ArcRef) → is_ref r r ≡ true
 unfolding is_ref

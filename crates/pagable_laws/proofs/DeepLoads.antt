@@ -1,8 +1,8 @@
 -- A load is refused as too deep only where the reading of its key comes to a blob that lies too deep, or to one that enters a level too many.
-use Rattle.pagable_laws.proofs.Words.{nat_tests, ◌≡◌, ℕ, ◌+◌, ◌<◌, Bool, true, false, List, [], ◌∷◌, length, Option, Some, None, Ok, Err, inl, inr, refl, sym, ap, subst, ◌∙◌, arith, not, Error, Want}
+use Rattle.pagable_laws.proofs.Words.{nat_tests, ◌≡◌, ℕ, ◌+◌, ◌<◌, Bool, true, List, [], ◌∷◌, length, Option, Some, None, Ok, Err, inl, inr, refl, sym, ap, subst, ◌∙◌, arith, not, Error, Want}
 use Rattle.pagable_laws.proofs.Words.{Owner, Took, Event, EventReply, Kind, HandleNumber, LoadNumber, Blob, Tree, Types, type_of, is_eager, is_loose_kind, longest_path, if_there, any_mode}
-use Rattle.pagable_laws.proofs.Words.{owner_worker, Core, OpenLoad, Frame, Reading, Todo, Walking, Seen, IsLawful, earlier, where_so, refused_if, spent, load_fault, named_fault, Refused, AskCall}
-use Rattle.pagable_laws.proofs.Words.{AsksInVain, node_fault, root_fault, cell_fault, Next, reads, asks, is_faulty, next_in, need_at, need_of, needs_nested, is_broken, RefusesBlob, RefusesNested}
+use Rattle.pagable_laws.proofs.Words.{owner_worker, Core, OpenLoad, Frame, Reading, Todo, Walking, Seen, IsLawful, earlier, refused_if, spent, load_fault, named_fault, Refused, AskCall}
+use Rattle.pagable_laws.proofs.Words.{node_fault, root_fault, cell_fault, Next, asks, is_faulty, next_in, need_at, need_of, needs_nested, is_broken, RefusesBlob, RefusesNested}
 use Rattle.pagable_laws.proofs.Words.{RefusesRoot, Fails, handles_of, Happens, after_kinds, LeadsDown, is-there, goes-down, ReadsTooDeep, MachineState, world_of, FramesFit, IsReadingOf, of_caller}
 use Rattle.pagable_laws.proofs.{Words.{of_worker, LoadIsDeep, DeepLoadLaw}, Trees.same_some, Fitting.asked, Chains.IsGoingOn, Deeply.along-first, ReadingStepsKinds.{kinds_of, asks-by-kinds}}
 use Rattle.pagable_laws.proofs.{ReadingStepsKinds.faulty-by-kinds, ReadingStepsMachine.reading-stands, Asking.FramesAsked, KnownSteps.eager-nested, Sound.either, Soundly.{by-all, by-handle-row}}
@@ -20,9 +20,6 @@ no-earlier a b x y is = elim (either a b Error.TooDeep is) [ inl p ↦ x p | inr
 no-test : (b : Bool) (f : Error) → (Some f ≡ Some Error.TooDeep → ⊥) → No (refused_if b f)
 no-test x0 f x is = grind (arith, nat_tests)
 
-no-where : (b : Bool) (c : Option Error) → No c → No (where_so b c)
-no-where x0 c x is = grind (arith, nat_tests)
-
 no-spent : (n : ℕ) → No (spent n)
 no-spent n = no-test _ Error.NumbersSpent (λ e. cc)
 
@@ -38,7 +35,7 @@ no-named w owner seen [] is = cc
 no-named w owner seen (h ∷ hs) is = grind (arith, nat_tests, no-earlier, no-test, no-named w owner (h.0 ∷ seen) hs)
 
 no-root : (w : Core) (me : Owner) (t : ℕ) (found : Option OpenLoad) → No (if_there (λ (load : OpenLoad). root_fault w me t load.root) None found)
-no-root w me t x3 is = grind (arith, nat_tests, no-earlier, no-test, no-where, no-spent)
+no-root w me t x3 is = grind (arith, nat_tests, no-earlier, no-test, no-spent)
 
 no-cell : (found : Option OpenLoad) → No (if_there (λ (load : OpenLoad). cell_fault load.root) None found)
 no-cell x0 is = grind (arith, nat_tests)
@@ -122,11 +119,8 @@ module _ {N B W : Type 0} (m : Seen N B W) (lawful : IsLawful m.values) (w : Cor
   blob-deep : RefusesBlob m.values reading Error.TooDeep → Deep
   blob-deep x0 = grind (arith, nat_tests, of-blob)
 
-  not-vain : (want : Want) (load : OpenLoad) (u : Core) → AsksInVain w load want Error.TooDeep u → ⊥
-  not-vain x0 load u f = grind (arith, nat_tests)
-
   not-asked : (want : Want) (u : Core) → AskCall w me reading.load want (Err Error.TooDeep) u → ⊥
-  not-asked want u c = grind (arith, not-refused, no-earlier, no-load, no-where, no-spent, not-vain)
+  not-asked want u c = grind (arith, not-refused, no-earlier, no-load, no-spent)
 
   nested-deep : (u : Core) → RefusesNested m.values.types w me reading Error.TooDeep u → Deep
   nested-deep u x1 = grind (arith, nat_tests, not-asked, of-path)

@@ -1,5 +1,5 @@
 -- What each sort of step brings fits trees: which trees the nodes have afterwards, and that values, keys and what becomes known fit them.
-use Rattle.pagable_laws.proofs.Words.{◌≡◌, ℕ, ◌+◌, ◌≤◌, ◌==◌, ◌&&◌, Bool, true, false, Some, None, ◌⊎◌, inl, inr, refl, sym, ap, ◌∙◌, subst, arith, if◌then◌else◌, is_some, nat_tests, OptionalDataKey}
+use Rattle.pagable_laws.proofs.Words.{◌≡◌, ℕ, ◌+◌, ◌≤◌, ◌==◌, Bool, true, false, Some, None, ◌⊎◌, refl, sym, ap, ◌∙◌, subst, arith, if◌then◌else◌, is_some, nat_tests, OptionalDataKey}
 use Rattle.pagable_laws.proofs.Words.{Owner, HandleRow, Call, Reply, ArcRef, Tree, tree, ReadsTree, type_of, Among, updated, is_pinned_kind, any_mode, is_loose, Values, IsLawful, is_here, Owns}
 use Rattle.pagable_laws.proofs.Words.{first_key, PagerState, WellFormed, Represents, ReadsNodeTree, SameTrees, CallBrings, IsNewNode, IsCellOf, ValueStands, HoldsSettled, AsksWell, ReadsAsType}
 use Rattle.pagable_laws.proofs.Words.{ReadsAsValue, ValueLeads, Change, nothing_felt, sets_key, knows_node, bears_node, bears_known, CoreGoes, StaysAway, AreGood, CallFeels, feels-nothing}
@@ -14,9 +14,6 @@ with-at n t trees = let e : (n == n) ≡ true = grind (arith, nat_tests) in rw e
 pub with-below : (last : ℕ) (t : Tree) (trees : ℕ → Tree) → SameTrees last trees (updated (last + 1) t trees)
 with-below last t trees n within = let e : (n == last + 1) ≡ false = grind (arith, nat_tests) in rw e refl
 
-both-true : (a b : Bool) → a ≡ true → false ≡ (a && b) → b ≡ false
-both-true x0 b e f = grind (arith, nat_tests)
-
 pub first-of : (b : Bool) (key k : ℕ) → (if b then OptionalDataKey.Some key else OptionalDataKey.None) ≡ OptionalDataKey.Some k → k ≡ key
 first-of x0 key k e = grind (arith, nat_tests)
 
@@ -27,7 +24,8 @@ module _ {N E : Type 0} {v : Values N} {s s' : PagerState N E} {trees : ℕ → 
 
   -- a value whose references were given leads to its tree where more nodes have trees
   pub value-on : {trees' : ℕ → Tree} {x : N} {t : Tree} → SameTrees last trees trees' → ((r : ArcRef) → Among (v.references x) r → r.node.0 ≤ last) → ValueLeads v trees x t → ValueLeads v trees' x t
-  value-on {trees'} {x} {t} same few l = record { own = l.own; typed = l.typed; means = l.means; leads = leads-on l.leads (λ r among. same r.node.0 (few r (own-refs lawful x l.own l.means r among))) }
+  value-on {trees'} {x} {t} same few l =
+      record { own = l.own; typed = l.typed; means = l.means; leads = leads-on l.leads (λ r among. same r.node.0 (few r (own-refs lawful x l.own l.means r among))) }
 
   good-given : (owner : Owner) (x : N) → AreGood s.core owner (v.references x) → (r : ArcRef) → Among (v.references x) r → r.node.0 ≤ last
   good-given owner x good r among = (given-of well.whole.handles r.node.0 (good r among).typed).1
@@ -41,12 +39,13 @@ module _ {N E : Type 0} {v : Values N} {s s' : PagerState N E} {trees : ℕ → 
 
   -- where nothing is born and no value can come to an old node, none comes
   pub none-comes : (n : ℕ) (x : N) → CoreGoes nothing_felt s.core s'.core → s.values n ≡ None → s'.values n ≡ Some x → IsNewNode s.core n ⊎ StaysAway s.core s'.core n → ⊥
-  none-comes n x goes x3 is x5 = grind (arith, nat_tests, live-after, either-side, both-true, came)
+  none-comes n x goes x3 is x5 = grind (arith, nat_tests, live-after, either-side, came)
 
   -- nothing is felt, and what comes to an old node fits
   pub fits-nothing : (comes : ℕ → N → Type 0) → ((n : ℕ) (x : N) → comes n x → s.values n ≡ None → s'.values n ≡ Some x → ValueLeads v trees x (trees n))
       → ChangeFits v nothing_felt comes s s' trees trees
-  fits-nothing comes fit = record { same = λ n within. refl; sets = λ n key is. absurd is; born = λ t own is. absurd is; keyed = λ t key is. absurd is; knows = λ kind key n is. absurd is; comes_well = fit }
+  fits-nothing comes fit =
+      record { same = λ n within. refl; sets = λ n key is. absurd is; born = λ t own is. absurd is; keyed = λ t key is. absurd is; knows = λ kind key n is. absurd is; comes_well = fit }
 
   pub fits-key : (comes : ℕ → N → Type 0) (m k : ℕ) → ((n : ℕ) (x : N) → comes n x → ⊥) → ReadsTree s'.core.stored v.types k (trees m) → ChangeFits v (sets_key m k) comes s s' trees trees
   fits-key comes m k none reads = grind arith
@@ -134,7 +133,8 @@ module _ {N E : Type 0} {v : Values N} {s s' : PagerState N E} {trees : ℕ → 
       → ReadsTree s.core.stored v.types key (trees z.node.0) = subst (λ b. P (Call.OnArcDeserialized kind key h) b) replied (subst (λ a. P a reply) called well_asked) in
       let live = given-of well.whole.handles row.node.0 typed in
       let is_typed : (trees row.node.0).type ≡ type_of kind.0 = same_some _ _ (sym (stands.typed row.node.0 live.0) ∙ typed) in
-      record { after = trees; fits = fits-known _ kind.0 key row.node.0 (λ n y brings. nothing-brought call (Call.OnArcDeserialized kind key h) n y called (λ b. b) brings) (record { typed = is_typed; reads = tree-stays goes.stored (asked row owns) }) }
+      record { after = trees; fits = fits-known _ kind.0 key row.node.0 (λ n y brings. nothing-brought call (Call.OnArcDeserialized kind key h) n y called (λ b. b) brings)
+          (record { typed = is_typed; reads = tree-stays goes.stored (asked row owns) }) }
   call-fits {B} c call reply goes well_asked (feels-adopted l kind key x k called replied typed good) =
       let P : Call N B → Reply N B → Type 0 = λ a b. AsksWell v s trees a b in
       let asked : ReadsAsValue v s x key = subst (λ b. P (Call.LoadAdopt l kind key x) b) replied (subst (λ a. P a reply) called well_asked) in

@@ -1,18 +1,13 @@
 -- What a load reads goes on fitting, whatever it gets.
-use Rattle.pagable_laws.proofs.Words.{nat_tests, ◌≡◌, ℕ, zero, suc, ◌+◌, ◌<◌, ◌≤◌, Bool, true, false, List, [], ◌∷◌, ◌++◌, Option, Some, if◌then◌else◌, ◌⊎◌, inl, inr, refl, sym, ap, ◌∙◌, subst}
-use Rattle.pagable_laws.proofs.Words.{arith, slice_get, length, KeyRef, ReadsAs, IsFollowed, number-followed, integer-followed, text-followed, pattern-followed, none-followed, pair-followed}
-use Rattle.pagable_laws.proofs.Words.{variant-followed, reference-followed, HandleRow, ArcRef, Kind, Blob, Types, Tree, type_of, ReadsTree, Meaning, Among, is_eager, Frame, Next, reads, asks}
-use Rattle.pagable_laws.proofs.Words.{is_faulty, next_in, need_at, need_of, needs_nested, needs_lazy, root_frame, nested_frame, with_got, ReadsNodeTree, FrameFits, FramesFit, SameTrees, Needs}
-use Rattle.pagable_laws.proofs.{Words.{KeepsStored, FramesGiven}, Decoding.asks_next}
+use Rattle.pagable_laws.proofs.Words.{nat_tests, ◌≡◌, ℕ, zero, suc, ◌+◌, ◌<◌, ◌≤◌, List, [], ◌∷◌, ◌++◌, Option, Some, ◌⊎◌, inl, inr, refl, sym, ap, ◌∙◌, subst, arith, slice_get, length, KeyRef}
+use Rattle.pagable_laws.proofs.Words.{ReadsAs, IsFollowed, number-followed, integer-followed, text-followed, pattern-followed, none-followed, pair-followed, variant-followed, reference-followed}
+use Rattle.pagable_laws.proofs.Words.{HandleRow, ArcRef, Kind, Blob, Types, Tree, type_of, ReadsTree, Meaning, Among, Frame, Next, asks, next_in, need_at, need_of, needs_nested, needs_lazy}
+use Rattle.pagable_laws.proofs.{Words.{root_frame, nested_frame, with_got, ReadsNodeTree, FrameFits, FramesFit, SameTrees, Needs, KeepsStored, FramesGiven}, Decoding.asks_next}
 
 -- ---- what is asked
 
-asked-by : (below : List Frame) (t : Bool) (k : Kind) (q : ℕ) (kind : Kind) (key : ℕ)
-    → ((if t then needs_nested k q else needs_lazy k q) ≡ needs_nested kind key) ⊎ ((if t then needs_nested k q else needs_lazy k q) ≡ needs_lazy kind key) → asks k q ≡ asks kind key
-asked-by below x1 k q kind key x6 = grind (arith, nat_tests)
-
 pub asked : (below : List Frame) (next : Next) (kind : Kind) (key : ℕ) → (need_at below next ≡ needs_nested kind key) ⊎ (need_at below next ≡ needs_lazy kind key) → next ≡ asks kind key
-asked x0 x1 kind key x4 = grind (arith, nat_tests, asked-by)
+asked x0 x1 kind key x4 = grind (arith, nat_tests)
 
 -- ---- one frame
 

@@ -1,8 +1,8 @@
 -- References that nothing is to be said against name handles of their owner, as they should. A handle that is given up doesn't bring a value back.
 use Rattle.std.proofs.Common.{rules}
-use Rattle.pagable_laws.proofs.Words.{◌≡◌, ℕ, zero, suc, ◌+◌, ◌≤◌, ◌&&◌, Bool, true, false, List, [], ◌∷◌, ◌++◌, cond, refl, ap, subst, arith, Option, Some, None, not, nat_lt, nat_tests, sum_by-cons}
-use Rattle.pagable_laws.proofs.Words.{ArcRef, OptionalDataKey, or_else, one, Owner, HandleRow, is_owner, pins, is_pin, is_in_memory, Core, Alike, AreNewEntries, Falls, left_rows, is_type}
-use Rattle.pagable_laws.proofs.{Words.{reference_fault, references_fault, IsReference, AreGood, StaysAway}, Sums.same-number, Goes.{Quiet, alike, fell}}
+use Rattle.pagable_laws.proofs.Words.{◌≡◌, ℕ, suc, ◌+◌, ◌≤◌, Bool, true, false, List, [], ◌∷◌, ◌++◌, cond, refl, arith, Option, Some, None, not, nat_tests, sum_by-cons}
+use Rattle.pagable_laws.proofs.Words.{ArcRef, or_else, one, Owner, HandleRow, is_owner, pins, is_pin, Core, Alike, AreNewEntries, Falls, left_rows, is_type}
+use Rattle.pagable_laws.proofs.{Words.{reference_fault, references_fault, IsReference, AreGood, StaysAway}, Sums.same-number, Goes.{alike, fell}}
 
 pub or-none : {X : Type 0} (a b : Option X) → or_else a b ≡ None → (a ≡ None) × (b ≡ None)
 or-none x0 b is = grind (arith, nat_tests)
@@ -24,14 +24,8 @@ module _ (w : Core) (owner : Owner) where
 
 -- ---- values that are away
 
-away-by : (p q : ℕ) (key : OptionalDataKey) → q ≤ p → is_in_memory p key ≡ false → is_in_memory q key ≡ false
-away-by p x1 key le is = grind (arith, nat_tests)
-
-pub still-away : (w w' : Core) → Quiet w w' → ((n : ℕ) → pins n w'.rows ≤ pins n w.rows) → (n : ℕ) → StaysAway w w' n
-still-away w w' q fewer n away there = grind (arith, away-by)
-
 pub alike-away : {w w' : Core} → Alike w w' → (n : ℕ) → StaysAway w w' n
-alike-away {w} {w'} a n = grind (arith, still-away, alike)
+alike-away {w} {w'} a n = grind (arith, alike)
 
 pin : ℕ → HandleRow → ℕ
 pin n h = one (is_pin n h)
@@ -47,12 +41,9 @@ pins-left n gone (h ∷ hs) more k none = at (gone h.number.0) (pins-left n gone
     at true le a b = omega arith
     at false le a b = omega arith
 
-entry-pins : (b : Bool) → one (b && false) ≡ 0
-entry-pins x0 = grind (arith, nat_tests)
-
 no-pins : (n last : ℕ) (entries : List HandleRow) → AreNewEntries last entries → pins n entries ≡ 0
 no-pins n last [] new = refl
-no-pins n last (h ∷ hs) (number, mode, owner, new) = grind (arith, nat_tests, one, entry-pins, no-pins n (last + 1) hs new)
+no-pins n last (h ∷ hs) (number, mode, owner, new) = grind (arith, nat_tests, one, no-pins n (last + 1) hs new)
 
 pub fell-away : {before w w' : Core} {given : ℕ → Bool} {r : _} → Falls before w given r w' → (n : ℕ) → StaysAway w w' n
-fell-away {before} {w} {w'} f n = grind (arith, still-away, fell, pins-left, no-pins)
+fell-away {before} {w} {w'} f n = grind (arith, fell, pins-left, no-pins)

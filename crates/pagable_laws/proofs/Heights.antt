@@ -1,5 +1,5 @@
 -- Heights that are known are within the limit, and each is at least what the references of what was written add to theirs. What tables and to-do lists hold of it, and that it goes on.
-use Rattle.pagable_laws.proofs.Words.{nat_tests, ◌≡◌, ℕ, zero, suc, ◌+◌, ◌≤◌, Bool, true, false, List, [], ◌∷◌, ◌++◌, length, ◌⊎◌, inl, inr, Option, Some, None, if◌then◌else◌, refl, sym, ap, subst}
+use Rattle.pagable_laws.proofs.Words.{nat_tests, ◌≡◌, ℕ, suc, ◌+◌, ◌≤◌, Bool, true, List, [], ◌∷◌, ◌++◌, length, ◌⊎◌, inl, inr, Option, Some, None, if◌then◌else◌, refl, sym, ap, subst}
 use Rattle.pagable_laws.proofs.Words.{◌∙◌, arith, nat_eq, drop, max, ArcRef, Identity, Among, if_there, is_eager, above, longest_path, identity_of, Shelf, Slot, published, failed, Written}
 use Rattle.pagable_laws.proofs.Words.{Open, Todo, to_start, to_pin, to_load, to_write, to_finish, to_item, to_set, to_publish, to_release, Task, IsPublished, place_below, next_start, give}
 use Rattle.pagable_laws.proofs.{Words.{give_known, is_open_outcome, with_outcome, with_failed, Expects}, Changing.{ShelfGrows, some-same, PutsSlot, put-cases}, Shelves.{KeepsKeys, keys-grow}}

@@ -1,10 +1,9 @@
 -- A tree of a closed set of types reaches types of the set alone.
-use Rattle.pagable_laws.proofs.Words.{arith, nat_tests, ◌≡◌, ℕ, true, false, List, [], ◌∷◌, ◌++◌, Meaning, number, integer, text, pattern, none, pair, variant, reference, followed, sequence, lifted}
-use Rattle.pagable_laws.proofs.Words.{rename, Entry, code_order, ordered, put_all, put_sorted, of_entries, of_hash_map, Shape, Form, Forms, Entries, flag-form, duration-form, some-form, err-form}
-use Rattle.pagable_laws.proofs.Words.{ok-form, list-form, run-form, array-form, both-form, sorted-map-form, placed-map-form, hash-map-form, sorted-set-form, placed-set-form, static-form, tagged-form}
-use Rattle.pagable_laws.proofs.Words.{case-form, reference-form, nested-form, json-flag-form, json-array-form, json-object-form, no-forms, more-forms, no-entries, more-entries, Tree, Types, type_of}
-use Rattle.pagable_laws.proofs.{Words.{Kid, unfolded, KeyOf, key-of, KeysOf, no-keys, more-keys, LiesIn, Throughout, EachType, StaysInside, IsCanonicalInside}, Within.{here, lower, part_of, of_json}}
-use Rattle.pagable_laws.proofs.Within.{of_text}
+use Rattle.pagable_laws.proofs.Words.{arith, nat_tests, ◌≡◌, ℕ, true, false, List, [], ◌∷◌, ◌++◌, Meaning, pair, variant, reference, followed, sequence, lifted, rename, Entry, code_order, ordered}
+use Rattle.pagable_laws.proofs.Words.{put_all, put_sorted, of_entries, of_hash_map, Shape, Form, Forms, Entries, flag-form, duration-form, some-form, err-form, ok-form, list-form, run-form}
+use Rattle.pagable_laws.proofs.Words.{array-form, both-form, sorted-map-form, placed-map-form, hash-map-form, sorted-set-form, placed-set-form, static-form, tagged-form, case-form, reference-form}
+use Rattle.pagable_laws.proofs.Words.{nested-form, json-flag-form, json-array-form, json-object-form, no-forms, more-forms, no-entries, more-entries, Tree, Types, type_of, Kid, unfolded, KeyOf}
+use Rattle.pagable_laws.proofs.{Words.{key-of, KeysOf, no-keys, more-keys, LiesIn, Throughout, EachType, StaysInside, IsCanonicalInside}, Within.{here, lower, part_of, of_json, of_text}}
 use Rattle.pagable_model.specs.Canonical.{IsClosed}
 
 -- P of each reference in the meaning

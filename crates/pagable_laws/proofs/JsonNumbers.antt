@@ -1,6 +1,5 @@
 -- JSON numbers that have no form.
-use Rattle.pagable_laws.proofs.Words.{arith, nat_tests}
-use Rattle.pagable_laws.proofs.Words.{◌≡◌, ℕ, ℤ, List, refl, subst, IsSigned, Meaning, Shape, json, Form, json-number-form, whole, float, of_json, FloatHasNoForm, WholeIsBounded}
+use Rattle.pagable_laws.proofs.Words.{arith, nat_tests, ◌≡◌, ℕ, ℤ, List, refl, IsSigned, Meaning, Shape, json, Form, whole, float, of_json, FloatHasNoForm, WholeIsBounded}
 use Rattle.std.specs.{Int.w64, Float.Ieee.Float}
 
 module _ {A : Type 0} {kind_of : A → ℕ} {parts : ℕ → Shape} where

@@ -1,10 +1,9 @@
 -- The chain of two levels is one of the machine, and meets the headline with all that it asks.
-use Rattle.pagable_laws.proofs.Words.{nat_tests, arith, ◌≡◌, ℕ, zero, suc, List, [], ◌∷◌, ◌++◌, refl, sym, subst, ◌∙◌, Option, Some, Ok, none, references_in, SameReferences, IsReadable, LiesIn}
-use Rattle.pagable_laws.proofs.Words.{Throughout, throughout-in, none-followed, rest_of, Tree, tree, Event, EventReply, WorkerReply, LoadReply, Core, Shelf, Written, Reading, Walking}
-use Rattle.pagable_laws.proofs.Words.{IsLawful, IsSettled, needs_lazy, need_of, reading_at, PagerState, MachineState, world_of, ReadsItsTypes, KeepsOpen, ReadsAsType, TakesWell, TodoTakesWell}
-use Rattle.pagable_laws.proofs.Words.{IsWellAsked, IsPremised, state_after, ArePremised, find_row, is_named_by, answers_from, inl, is_in, HandleRow, Owner, Mode, pins, row_of, AreMoments}
-use Rattle.pagable_laws.proofs.{Words.TwoLevelsMeetTheHeadline, States.{only-at, ◌⨾◌, read-back-passes}, Walks.{paged_out, at_work, only-pager, bears, pages-out}, Tested.alike-self}
-use Rattle.pagable_laws.proofs.{Joining.new_whole, Arriving.headline_law, Loaded.{done-whole, loads-parent, loads-child, loads-key}}
+use Rattle.pagable_laws.proofs.Words.{nat_tests, arith, ◌≡◌, ℕ, List, [], ◌∷◌, ◌++◌, refl, sym, subst, ◌∙◌, Some, none, references_in, SameReferences, IsReadable, LiesIn, Throughout, throughout-in}
+use Rattle.pagable_laws.proofs.Words.{none-followed, rest_of, Tree, tree, IsLawful, IsSettled, PagerState, MachineState, ReadsItsTypes, KeepsOpen, ReadsAsType, IsWellAsked, IsPremised, state_after}
+use Rattle.pagable_laws.proofs.{Words.{ArePremised, find_row, is_named_by, answers_from, inl, is_in, HandleRow, Owner, Mode, pins, row_of, AreMoments, TwoLevelsMeetTheHeadline}, States.only-at}
+use Rattle.pagable_laws.proofs.{States.{◌⨾◌, read-back-passes}, Walks.{paged_out, at_work, only-pager, bears, pages-out}, Tested.alike-self, Joining.new_whole, Arriving.headline_law}
+use Rattle.pagable_laws.proofs.Loaded.{done-whole, loads-parent, loads-child, loads-key}
 use Rattle.pagable_model.specs.Reading as grammar
 use Rattle.pagable_model.specs.Shape as shapes
 use Rattle.pagable_laws.specs.TwoLevels as two
@@ -48,17 +47,6 @@ IsAsked s x = (trees : ℕ → Tree) → IsPremised two.sample s trees x.event x
 pub asked : (s : State) (x : two.Happening) → KeepsOpen x.event → ((trees : ℕ → Tree) → IsWellAsked two.sample s trees x.event x.reply) → IsAsked s x
 asked s x open_still well trees = record { settled = λ n x is. settled x; reads_settled = λ x is. settled x; stays_open = open_still; well = well trees }
 
--- a worker's step asks something only at a load
-pub step-asked : {core : Core} {reply : WorkerReply Written} {after : State} (vs : List (Option two.Sample)) (shelf : Shelf) (w : Walking)
-    → TodoTakesWell two.sample (two.machine core vs (two.walk_work shelf w)).pager w.todo
-    → IsAsked (two.machine core vs (two.walk_work shelf w)) (two.moment (Event.WorkerStep (record { 0 = 1 })) (EventReply.WorkerMoved (Ok reply)) after)
-step-asked {core} {reply} {after} vs shelf w well = grind (arith, nat_tests, asked, only-at)
-
--- a load's step asks something where a reference is taken of which nothing is read
-pub load-asked : (s : State) (l : ℕ) (r : Reading) (reply : LoadReply two.Sample) (after : State) → reading_at (world_of s) (two.load_number l) ≡ Some r → TakesWell two.sample s.pager r
-    → IsAsked s (two.moment (Event.LoadStep (two.load_number l)) (EventReply.LoadMoved (Ok reply)) after)
-load-asked s l r reply after at well = grind (arith, nat_tests, asked)
-
 -- the child's key reads as a leaf
 child-reads : (s : PagerState two.Sample (Unit {0})) → s.core.stored 8 ≡ Some two.leaf_blob → ReadsAsType two.sample s 1 8
 unfolding grammar.read grammar.read_with
@@ -68,29 +56,26 @@ child-reads s stored = record {
   reads = record { own = none; reads = record { blob = two.leaf_blob; stored = stored; rest = rest_of two.leaf_blob; reads = refl }; follows = none-followed };
 }
 
-pub takes-child : (s : PagerState two.Sample (Unit {0})) (r : Reading) → s.core.stored 8 ≡ Some two.leaf_blob → need_of two.sample_types r.frames ≡ needs_lazy (record { 0 = 4 }) 8
-    → TakesWell two.sample s r
-takes-child s r stored lazily kind key is = grind (arith, nat_tests, child-reads)
-
 -- ---- what the headline asks of each moment of the chain of two levels is so
 
 pub births-asked : (xs : List two.Happening) → ArePremised at_work xs → ArePremised two.new_one (two.births ++ xs)
 births-asked xs rest = asked _ _ tt (λ trees. tt) ⨾ asked _ _ tt (λ trees. tt) ⨾ asked _ _ tt (λ trees. tt) ⨾ asked _ _ tt (λ trees. tt) ⨾ rest
 
 pub steps-asked : (xs : List two.Happening) → ArePremised paged_out xs → ArePremised at_work (two.page_out ++ xs)
-steps-asked xs rest = grind (arith, nat_tests, step-asked)
+steps-asked xs rest = grind (arith, nat_tests, asked, only-at)
 
 pub parent-asked : (xs : List two.Happening) → ArePremised (two.machine two.parent_loaded two.parent_value two.done_work) xs → ArePremised paged_out (two.parent_loads ++ xs)
 unfolding find_row is_named_by grammar.read grammar.read_with answers_from
-parent-asked xs rest = grind (arith, nat_tests, asked, load-asked, takes-child)
+parent-asked xs rest = grind (arith, nat_tests, asked, child-reads)
 
-pub child-asked : (xs : List two.Happening) → ArePremised (two.machine two.child_loaded two.last_values two.done_work) xs → ArePremised (two.machine two.parent_loaded two.parent_value two.done_work) (two.child_loads ++ xs)
+pub child-asked : (xs : List two.Happening) → ArePremised (two.machine two.child_loaded two.last_values two.done_work) xs → ArePremised
+    (two.machine two.parent_loaded two.parent_value two.done_work) (two.child_loads ++ xs)
 unfolding find_row is_named_by grammar.read grammar.read_with answers_from
-child-asked xs rest = grind (arith, nat_tests, asked, load-asked)
+child-asked xs rest = grind (arith, nat_tests, asked)
 
 pub key-asked : (n : ℕ) → ArePremised (two.machine two.child_loaded two.last_values two.done_work) (two.key_loads ++ two.counts n)
 unfolding find_row is_named_by grammar.read grammar.read_with answers_from
-key-asked n = grind (arith, nat_tests, asked, load-asked, takes-child)
+key-asked n = grind (arith, nat_tests, asked, child-reads)
 
 -- ---- the chain of two levels is one of the machine, and meets the headline with all that it asks
 

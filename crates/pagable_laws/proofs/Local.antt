@@ -1,5 +1,5 @@
 -- Reading is local: what is read of a front is read of the whole, a fault stays, and what was used reads alone.
-use Rattle.pagable_laws.proofs.Words.{nat_tests, arith, ◌≡◌, ℕ, zero, suc, ◌-◌, Bool, true, false, List, [], ◌∷◌, ◌++◌, Some, None, Result, Ok, Err, inl, inr, refl, ap, ◌∙◌, subst, append_assoc}
+use Rattle.pagable_laws.proofs.Words.{nat_tests, arith, ◌≡◌, ℕ, zero, suc, ◌-◌, Bool, List, [], ◌∷◌, ◌++◌, Some, None, Result, Ok, Err, refl, ap, ◌∙◌, subst, append_assoc}
 use Rattle.pagable_laws.proofs.Words.{Error, ◌>>=◌, Read, unsigned_at, signed_at, length_at, text_at, bool_at, char_at, duration_at, Meaning, number, integer, none, variant, sequence, entry, absent}
 use Rattle.pagable_laws.proofs.Words.{present, success, failure, lifted, text_order, put_all, put_sorted, put_placed, put_sorted_item, put_placed_item, of_entries, of_duration, of_tagged}
 use Rattle.pagable_laws.proofs.Words.{of_hash_map, Shape, nothing, unsigned, signed, flag, letter, duration, json, optional, outcome, list, run, array, both, sorted_map, placed_map, hash_map}
@@ -41,7 +41,8 @@ module _ {A X Y : Type 0} (read : List ℕ → Read X) (view : X → Y) (h : Tam
   unfolding Goes
   bytes_go i x x2 second x4 = grind (arith, nat_tests)
 
-  bytes_use : (i : Rest A) (first : Read X) → Uses more_bytes [] read i.bytes first → Uses more ended (bytes_of read view) i (first >>= λ p. let z : Result (Y × Rest A) Error = Ok (view p.0, record i { bytes = p.1 }) in z)
+  bytes_use : (i : Rest A) (first : Read X) → Uses more_bytes [] read i.bytes first → Uses more ended (bytes_of read view) i
+      (first >>= λ p. let z : Result (Y × Rest A) Error = Ok (view p.0, record i { bytes = p.1 }) in z)
   unfolding Uses
   bytes_use i (Ok p) g = record { used = rest g.used []; whole = ap (λ (b : List ℕ). rest b i.refs) g.whole; alone = rw g.alone refl }
   bytes_use i (Err e) g = tt
@@ -172,7 +173,8 @@ module _ {A B : Type 0} where
 
 pub read_tame : {A B : Type 0} (context : Context A B) (s : Shape) → TameGets (read context s)
 unfolding read
-read_tame context s = likewise (with_tame context.look context.parts (below context.look context.parts (deepest - context.levels)) (below_tame context.look context.parts (deepest - context.levels)) s) (λ i. refl)
+read_tame context s =
+    likewise (with_tame context.look context.parts (below context.look context.parts (deepest - context.levels)) (below_tame context.look context.parts (deepest - context.levels)) s) (λ i. refl)
 
 pub local : {A B : Type 0} → IsLocal A B
 unfolding Goes

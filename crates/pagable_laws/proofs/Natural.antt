@@ -1,10 +1,8 @@
 -- Reading is natural in what stands for references, and forms are.
-use Rattle.pagable_laws.proofs.Words.{arith, nat_tests}
-use Rattle.std.proofs.Common.{rules}
-use Rattle.pagable_laws.proofs.Words.{◌≡◌, ℕ, List, [], ◌∷◌, map, Result, Ok, Err, refl, sym, ap, ◌∙◌, inl, subst, Error, ◌>>=◌, Meaning, number, integer, text, pattern, none, pair, variant}
-use Rattle.pagable_laws.proofs.{Words.{reference, followed, rename, Rest, read, Form, rest, at, IsNatural, IsReadOver, IsRenamed, IsReadThrough, KeepsForms}, Along.{Along, number-along}}
-use Rattle.pagable_laws.proofs.Along.{integer-along, text-along, pattern-along, none-along, pair-along, variant-along, reference-along, followed-along, AllTwo, no-two, more-two, form-along}
-use Rattle.pagable_laws.proofs.Related.{Out, both-given, both-refused, first-refused, OutLook, both-looked-up, both-not, first-not, read_par}
+use Rattle.pagable_laws.proofs.Words.{arith, nat_tests, ◌≡◌, ℕ, List, [], ◌∷◌, map, Result, Ok, Err, refl, sym, ap, ◌∙◌, inl, subst, Error, ◌>>=◌, Meaning, pair, variant, followed, rename, Rest}
+use Rattle.pagable_laws.proofs.{Words.{read, Form, rest, at, IsNatural, IsReadOver, IsRenamed, IsReadThrough, KeepsForms}, Along.{Along, number-along, integer-along, text-along, pattern-along}}
+use Rattle.pagable_laws.proofs.{Along.{none-along, pair-along, variant-along, reference-along, followed-along, AllTwo, no-two, more-two, form-along}, Related.{Out, both-given, both-refused}}
+use Rattle.pagable_laws.proofs.Related.{first-refused, OutLook, both-looked-up, both-not, first-not, read_par}
 
 -- no cause
 abbrev no_cause : Error → Type 0
@@ -116,6 +114,7 @@ found-through g (Err x) q h = first-not x q tt
 
 pub read_through : {A B C D : Type 0} → IsReadThrough A B C D
 read_through {A} {B} {C} {D} f g look other levels parts s input after m h e =
-    let alike : (kind : ℕ) (a : A) (c : C) → f a ≡ c → OutLook any_cause (Leads g) (look kind a) (other kind c) = λ kind a c i. found-through g (look kind a) (other kind c) (λ b j. rw (← i) (h kind a b j)) in
+    let alike : (kind : ℕ) (a : A) (c : C) → f a ≡ c → OutLook any_cause (Leads g) (look kind a) (other kind c) = λ kind a c i. found-through g (look kind a) (other kind c)
+        (λ b j. rw (← i) (h kind a b j)) in
     let par = read_par look other alike levels s (inl tt) in
     through-out f g m after (par.out input (rest input.bytes (map f input.refs)) (record { bytes = refl; refs = all-map f input.refs })) e

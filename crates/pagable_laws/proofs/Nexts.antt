@@ -1,6 +1,5 @@
 -- A blob asks for one thing, and a worker's steps follow its list.
-use Rattle.pagable_laws.proofs.Words.{arith, nat_tests, ◌≡◌, ℕ, refl, ap, ◌∙◌, List, ◌∷◌, Ok, Err, Some, None, Claim, PinStep, Took, Todo, to_start, to_pin, to_load, to_write, to_finish, to_item}
-use Rattle.pagable_laws.proofs.Words.{to_set, to_publish, to_release, to_fail, was_failed, Seen, Site, Does, WalkDoes, failing, failing_by, Follows, NextIsOneOf}
+use Rattle.pagable_laws.proofs.Words.{arith, nat_tests, ◌≡◌, ℕ, refl, List, Took, Todo, Seen, Site, Does, WalkDoes, Follows, NextIsOneOf}
 
 pub next_is_one : NextIsOneOf
 next_is_one types frame = grind (arith, nat_tests)

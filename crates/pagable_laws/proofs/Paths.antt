@@ -1,7 +1,6 @@
 -- The height of a tree is the length of its longest path.
-use Rattle.pagable_laws.proofs.Words.{nat_tests}
-use Rattle.pagable_laws.proofs.Words.{◌≡◌, ℕ, zero, suc, ◌+◌, ◌≤◌, Bool, true, false, refl, inl, inr, arith, if◌then◌else◌, cases_lt, Meaning, pair, variant}
-use Rattle.pagable_laws.proofs.Words.{reference, followed, is_eager, height, HasPath, IsLongestPath}
+use Rattle.pagable_laws.proofs.Words.{nat_tests, ◌≡◌, ℕ, suc, ◌+◌, ◌≤◌, Bool, true, inl, inr, arith, if◌then◌else◌, cases_lt, Meaning, pair, variant, followed, is_eager, height, HasPath}
+use Rattle.pagable_laws.proofs.Words.{IsLongestPath}
 
 above-least : (b : Bool) (n h : ℕ) → b ≡ true → n ≤ h → suc n ≤ (if b then h + 1 else 0)
 above-least x0 n h is le = grind (arith, nat_tests)

@@ -60,7 +60,9 @@ module _ {N B W E : Type 0} (m : Seen N B W) (s s' : MachineState N E) (trees tr
     slots-same same t = slots-on goes (grow t) (fit.slots t) (same t)
 
     a-step : (k : WorkerNumber) (r : WorkerReply W) → k.0 ≡ turns.who → TookWrites m.values m.written_of s.pager r.took → WorkerSteps m (world_of s) k r (world_of s') → WorkFits m.values s' trees'
-    a-step k r at wrote_so w = all-fit slots (λ x there. subst WalkFits (same_some _ _ (sym at_now ∙ there)) (walks-on (s'.work.shelves now.table) stay (grow-same w.after.shelf (s'.work.shelves now.table) table) d.slots now.task now.todo d.walks))
+    a-step k r at wrote_so w =
+        all-fit slots (λ x there. subst WalkFits (same_some _ _ (sym at_now ∙ there))
+        (walks-on (s'.work.shelves now.table) stay (grow-same w.after.shelf (s'.work.shelves now.table) table) d.slots now.task now.todo d.walks))
       where
         site : Site
         site = record { core = s.pager.core; shelf = s.work.shelves w.walking.table; todo = w.walking.todo }

@@ -1,6 +1,6 @@
 -- Where heights are low, no path from a tree whose key is known is too long.
-use Rattle.pagable_laws.proofs.Words.{nat_tests, ◌≡◌, ℕ, ◌<◌, ◌≤◌, List, [], ◌∷◌, refl, sym, subst, ◌∙◌, arith, max, Some, Ok, Err, pair, variant, reference, followed, longest_path, above, height}
-use Rattle.pagable_laws.proofs.Words.{deepest_path, ArcRef, Identity, Meaning, Tree, Took, WorkerAnswer, identity_of, Shelf, Todo, to_item, to_release, to_fail, Task, of_item, of_entry, Values, Seen}
+use Rattle.pagable_laws.proofs.Words.{nat_tests, ◌≡◌, ℕ, ◌<◌, ◌≤◌, List, refl, sym, subst, ◌∙◌, arith, max, Some, pair, variant, reference, followed, longest_path, above, height}
+use Rattle.pagable_laws.proofs.Words.{deepest_path, ArcRef, Identity, Meaning, Tree, Took, WorkerAnswer, identity_of, Shelf, Todo, Task, of_item, of_entry, Values, Seen}
 use Rattle.pagable_laws.proofs.Words.{Site, Does, IsPublished, answer_after, MachineState, world_of, IsLongBelow, IsTooDeepTask, Ground, FollowsTo, pair-follows, variant-follows, reference-follows}
 use Rattle.pagable_laws.proofs.{Words.{Waits, Walks, WorkFits}, Heights.{IsLow, AllLow, WaitsLow, TodoLow, all-low}, HeightSteps.HeightsIn}
 

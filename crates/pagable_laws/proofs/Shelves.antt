@@ -1,8 +1,8 @@
 -- What tables and to-do lists hold of trees goes on as long as what is stored and each node's tree stay; and what a change of a table comes to.
-use Rattle.pagable_laws.proofs.Words.{nat_tests, ◌≡◌, ℕ, ◌≤◌, Bool, true, List, [], ◌∷◌, inl, inr, Option, Some, None, if◌then◌else◌, refl, sym, ap, subst, ◌∙◌, arith, nat_eq, KeyRef}
+use Rattle.pagable_laws.proofs.Words.{nat_tests, ◌≡◌, ℕ, ◌≤◌, Bool, List, [], ◌∷◌, inl, inr, Option, Some, None, if◌then◌else◌, refl, sym, ap, subst, ◌∙◌, arith, nat_eq, KeyRef}
 use Rattle.pagable_laws.proofs.Words.{IsFollowed, number-followed, integer-followed, text-followed, pattern-followed, none-followed, pair-followed, variant-followed, reference-followed, ArcRef}
-use Rattle.pagable_laws.proofs.Words.{Identity, Blob, Meaning, Tree, Among, if_there, identity_of, Shelf, Slot, failed, Written, Todo, to_start, to_pin, to_load, to_write, to_finish, to_item, to_set}
-use Rattle.pagable_laws.proofs.Words.{to_publish, to_release, Task, Values, IsPublished, is_open_outcome, with_outcome, with_failed, AreKeysOf, Ground, FollowsTo, number-follows}
+use Rattle.pagable_laws.proofs.Words.{Identity, Blob, Meaning, Tree, Among, if_there, identity_of, Shelf, Slot, failed, Written, Todo, to_finish}
+use Rattle.pagable_laws.proofs.Words.{Task, Values, IsPublished, is_open_outcome, with_outcome, with_failed, AreKeysOf, Ground, FollowsTo, number-follows}
 use Rattle.pagable_laws.proofs.Words.{integer-follows, text-follows, pattern-follows, none-follows, pair-follows, variant-follows, reference-follows, WroteTree, KeyStands, BlobStands, SlotFits}
 use Rattle.pagable_laws.proofs.{Words.{KeysSoFar, Waits, Above, HasBlob, Walks, SlotsFit}, Changing.{ShelfGrows, some-same, published-stays, PutsSlot, put-cases}}
 use Rattle.std.proofs.Common.{rules}

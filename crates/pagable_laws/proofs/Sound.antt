@@ -1,10 +1,10 @@
 -- Why a load is refused whose key a page-out has published: by chance, or by a handle.
 use Rattle.pagable_laws.proofs.Words.{nat_tests, ◌≡◌, ℕ, ◌≤◌, ◌==◌, Bool, true, false, List, [], ◌∷◌, length, ◌⊎◌, inl, inr, Option, Some, None, Err, refl, sym, ap, subst, ◌∙◌, arith, Result, not}
-use Rattle.pagable_laws.proofs.Words.{nat_le, is_own_reading, RefusesFetch, Error, Want, Owner, Kind, HandleNumber, LoadNumber, NodeNumber, Blob, Tree, Types, type_of, is_eager, is_loose_kind}
+use Rattle.pagable_laws.proofs.Words.{is_own_reading, RefusesFetch, Error, Want, Owner, Kind, HandleNumber, LoadNumber, NodeNumber, Blob, Tree, Types, type_of, is_eager, is_loose_kind}
 use Rattle.pagable_laws.proofs.Words.{longest_path, if_there, any_mode, Core, OpenLoad, of_cell, Frame, Reading, Seen, Values, IsLawful, earlier, where_so, refused_if, spent, handle_fault}
-use Rattle.pagable_laws.proofs.Words.{references_fault, load_fault, AreHandlesFull, Refused, FetchCall, birth_fault, AskCall, LazyCall, ask_fault, is_known, node_fault, root_fault, Next}
-use Rattle.pagable_laws.proofs.Words.{reads, asks, is_faulty, need_of, needs_nested, needs_lazy, to_adopt, need_at, next_in, is_broken, IsDecoded, RefusesBlob, RefusesNested, RefusesNode}
-use Rattle.pagable_laws.proofs.Words.{RefusesRoot, IsOfKey, EndsClosed, Fails, fresh, reading_at, reading_of_load, MachineState, world_of, IsMachineWhole, StandsFor, FitsRoot, FramesFit, of_caller}
+use Rattle.pagable_laws.proofs.Words.{references_fault, load_fault, AreHandlesFull, Refused, FetchCall, birth_fault, AskCall, LazyCall, ask_fault, is_known, node_fault, root_fault}
+use Rattle.pagable_laws.proofs.Words.{need_of, needs_nested, needs_lazy, to_adopt, is_broken, IsDecoded, RefusesBlob, RefusesNested, RefusesNode}
+use Rattle.pagable_laws.proofs.Words.{RefusesRoot, IsOfKey, EndsClosed, Fails, reading_at, MachineState, world_of, IsMachineWhole, StandsFor, FitsRoot, FramesFit, of_caller}
 use Rattle.pagable_laws.proofs.{Words.{ReadsItsTypes, IsOfChance, IsPagedOutAs, IsLoadOfPagedOut, WorkFits}, Trees.same_some, Sums.self-number, Taking.adopted-over, Fitting.first-typed}
 use Rattle.pagable_laws.proofs.{HeightSteps.HeightsIn, Asking.FramesAsked, Known.{IsForm, root-there, needed, not-broken, formed}, KnownSteps.{ReadingsAsked, eager-nested}}
 use Rattle.std.proofs.Common.{rules}
@@ -42,10 +42,6 @@ fetch-chance key found blob before after x5 is why = grind (arith, nat_tests)
 
 loose-not : (kind : ℕ) → is_eager kind ≡ true → is_loose_kind kind ≡ false
 loose-not kind is = grind (arith, nat_tests)
-
--- what a load gets unread it asks for through a loose reference
-lazy-loose : (below : List Frame) (next : Next) (kind : Kind) (key : ℕ) → need_at below next ≡ needs_lazy kind key → not (is_loose_kind kind.0) ≡ false
-lazy-loose x0 x1 kind key is = grind (arith, nat_tests)
 
 second-eager : (types : Types) (top under : Frame) (rest : List Frame) → FramesAsked types (top ∷ under ∷ rest) → is_eager top.kind.0 ≡ true
 unfolding FramesAsked
@@ -94,9 +90,6 @@ module _ {N B W E : Type 0} (m : Seen N B W) (s : MachineState N E) (trees : ℕ
       asked : FramesAsked v.types reading.frames
       of_type : reading.node_type ≡ t
 
-    by-fresh : (found : Option OpenLoad) → found ≡ Some load → reading_of_load l found ≡ Some reading → fresh l t ≡ reading
-    by-fresh found there is = grind (arith, nat_tests)
-
     is-read : Read
     unfolding FramesFit FramesAsked
     is-read = by (s.work.readings l.0) refl at
@@ -114,7 +107,7 @@ module _ {N B W E : Type 0} (m : Seen N B W) (s : MachineState N E) (trees : ℕ
               asked = got reading is_of;
               of_type = subst (λ root. FitsRoot root reading) (ap (λ (x : OpenLoad). x.root) same_load ∙ paged.3) a.typed;
             }
-        by None e is = grind (arith, nat_tests, by-fresh)
+        by None e is = grind (arith, nat_tests)
 
     -- the tree that it reads
     typed : (trees out.i.node.0).type ≡ reading.node_type
@@ -145,7 +138,7 @@ module _ {N B W E : Type 0} (m : Seen N B W) (s : MachineState N E) (trees : ℕ
     front x0 kind key is = grind (arith, nat_tests, eager-nested)
 
     front-lazy : (frames : List Frame) (kind : Kind) (key : ℕ) → need_of v.types frames ≡ needs_lazy kind key → not (is_loose_kind kind.0) ≡ false
-    front-lazy x0 kind key is = grind (arith, nat_tests, lazy-loose)
+    front-lazy x0 kind key is = grind (arith, nat_tests)
 
     form-of : (frame : Frame) (below : List Frame) → reading.frames ≡ frame ∷ below → (x : N) → IsDecoded v frame x → IsForm v frame
     form-of frame below is x decoded =
@@ -225,9 +218,6 @@ module _ {N B W E : Type 0} (m : Seen N B W) (s : MachineState N E) (trees : ℕ
           ]
         ]
 
-    root-type : (root : Frame) → reading.frames ≡ root ∷ [] → root.node_type ≡ t
-    root-type root is = grind (arith, nat_tests, last-type, is-read)
-
     of-root : (mid : Core) (e : Error) → RefusesRoot v w Owner.Caller reading e mid → C e
     of-root mid e r = elim r.refuses [
       | inr (is, handed) ↦
@@ -248,7 +238,7 @@ module _ {N B W E : Type 0} (m : Seen N B W) (s : MachineState N E) (trees : ℕ
       where
         root-chance : (r : RefusesRoot v w Owner.Caller reading e mid) → if_there (λ (x : OpenLoad). root_fault w Owner.Caller (v.node_type r.x) x.root) None (w.loads reading.load.0) ≡ Some e
             → IsOfChance e
-        root-chance r is = grind (arith, nat_tests, is-read, either, never, same-type, root-type, where-chance)
+        root-chance r is = grind (arith, nat_tests, is-read, either, never, same-type, last-type, where-chance)
 
     of-end : (w' : Core) (e : Error) → EndsClosed v w Owner.Caller reading e w' → C e
     of-end w' e r =

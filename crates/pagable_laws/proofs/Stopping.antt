@@ -1,10 +1,9 @@
 -- A form is read up to a reference that is refused, and is refused so.
-use Rattle.pagable_laws.proofs.Words.{arith, nat_tests}
-use Rattle.pagable_laws.proofs.Words.{◌≡◌, ℕ, List, [], ◌∷◌, ◌++◌, length, Ok, Err, refl, ap, inl, inr, append_assoc, Error, varint_at, bool_at, Meaning, Entry, Shape, Look, items, two, LiesIn}
-use Rattle.pagable_laws.proofs.Words.{subst, read_with, below, Form, Forms, Entries, some-form, err-form, ok-form, list-form, run-form, array-form, both-form, sorted-map-form, placed-map-form}
-use Rattle.pagable_laws.proofs.Words.{hash-map-form, sorted-set-form, placed-set-form, tagged-form, case-form, reference-form, nested-form, json-array-form, json-object-form, no-forms, more-forms}
-use Rattle.pagable_laws.proofs.{Words.{no-entries, more-entries, IsReadable, Throughout, rest, LooksUp, no-references, more-references}, Basic.{length-again, text-again}, Wholes.unsigned-again}
-use Rattle.pagable_laws.proofs.{Within.{here, narrowed, part_of, of_json, of_text}, Again.{no_case-form, read_at, form-again}}
+use Rattle.pagable_laws.proofs.Words.{arith, nat_tests, ◌≡◌, ℕ, List, [], ◌∷◌, ◌++◌, length, Ok, Err, refl, ap, inl, inr, append_assoc, Error, varint_at, bool_at, Meaning, Entry, Shape, Look, items}
+use Rattle.pagable_laws.proofs.Words.{two, LiesIn, subst, read_with, below, Form, Forms, Entries, some-form, err-form, ok-form, list-form, run-form, array-form, both-form, sorted-map-form}
+use Rattle.pagable_laws.proofs.Words.{placed-map-form, hash-map-form, sorted-set-form, placed-set-form, tagged-form, case-form, reference-form, nested-form, json-array-form, json-object-form}
+use Rattle.pagable_laws.proofs.{Words.{no-forms, more-forms, no-entries, more-entries, IsReadable, Throughout, rest, LooksUp, no-references, more-references}, Basic.{length-again, text-again}}
+use Rattle.pagable_laws.proofs.{Wholes.unsigned-again, Within.{here, narrowed, part_of, of_json, of_text}, Again.{no_case-form, read_at, form-again}}
 
 -- What stands for references is looked up, one after another, up to one that is refused.
 pub data Stops {A B : Type 0} (look : Look A B) (kind_of : B → ℕ) (e : Error) : List A → List B → Type 0 where
@@ -50,13 +49,15 @@ module _ {A B : Type 0} {look : Look A B} {kind_of : B → ℕ} {parts : ℕ →
     form-stops x r (array-form left n s ms b k is h) u t = rw (← is, forms-stop x r h u (narrowed t (λ p. p) (λ n d l. l))) refl
     form-stops x r (both-form left s s2 m n b c k l h g) u t = elim (split-stop k l u) [
       | in-front f ↦ rw (append_assoc, form-stops (c ++ x) r h f (narrowed t (λ p. p.0) (λ n d l. l.0))) refl
-      | behind front back whole looks f ↦ rw (whole, append_assoc, form-again (c ++ x) front back h looks (narrowed t (λ p. p.0) (λ n d l. l.0)), form-stops x back g f (narrowed t (λ p. p.1) (λ n d l. l.1))) refl
+      | behind front back whole looks f ↦ rw
+          (whole, append_assoc, form-again (c ++ x) front back h looks (narrowed t (λ p. p.0) (λ n d l. l.0)), form-stops x back g f (narrowed t (λ p. p.1) (λ n d l. l.1))) refl
     ]
     form-stops x r (sorted-map-form left order s s2 es b k le up h) u t =
         rw (append_assoc, length-again (length es) (b ++ x) le, entries-stop x r h u (narrowed t (λ p. p.0) (λ n d l. l.0)) (narrowed t (λ p. p.1) (λ n d l. l.1))) refl
     form-stops x r (placed-map-form left s s2 es b k le up h) u t =
         rw (append_assoc, length-again (length es) (b ++ x) le, entries-stop x r h u (narrowed t (λ p. p.0) (λ n d l. l.0)) (narrowed t (λ p. p.1) (λ n d l. l.1))) refl
-    form-stops x r (hash-map-form left s s2 es b k le up h) u t = rw (append_assoc, length-again (length es) (b ++ x) le, entries-stop x r h u (narrowed t (λ p. p.0) (λ n d l. l.0)) (narrowed t (λ p. p.1) (λ n d l. l.1))) refl
+    form-stops x r (hash-map-form left s s2 es b k le up h) u t =
+        rw (append_assoc, length-again (length es) (b ++ x) le, entries-stop x r h u (narrowed t (λ p. p.0) (λ n d l. l.0)) (narrowed t (λ p. p.1) (λ n d l. l.1))) refl
     form-stops x r (sorted-set-form left order s ms b k le up h) u t = rw (append_assoc, length-again (length ms) (b ++ x) le, forms-stop x r h u (narrowed t (λ p. p) (λ n d l. l))) refl
     form-stops x r (placed-set-form left s ms b k le up h) u t = rw (append_assoc, length-again (length ms) (b ++ x) le, forms-stop x r h u (narrowed t (λ p. p) (λ n d l. l))) refl
     form-stops x r (tagged-form left written known body tag m b k utf8 le f) u t = elim ((here t).0 tag) [

@@ -164,7 +164,8 @@ row_there w h = nat_lt 0 h.number.0 && (nat_le h.number.0 w.last.handle && owner
 
 abbrev pub root_fits : Core → Root → Bool
 root_fits w (of_cell node t h) =
-    if_there (λ u. u == t) true (type_at w node.0) && (if_there (λ (row : HandleRow). row.node.0 == node.0 && is_loose row.mode) true (row_at w h) && (nat_le h.0 w.last.handle && nat_le node.0 w.last.node))
+    if_there (λ u. u == t) true (type_at w node.0) &&
+        (if_there (λ (row : HandleRow). row.node.0 == node.0 && is_loose row.mode) true (row_at w h) && (nat_le h.0 w.last.handle && nat_le node.0 w.last.node))
 root_fits w of_key = true
 
 abbrev pub load_fits : Core → ℕ → Bool
@@ -237,12 +238,6 @@ some-of test x1 y ok is = grind (arith, nat_tests)
 is-caller : (o : Owner) → is_owner Owner.Caller o ≡ true → o ≡ Owner.Caller
 is-caller x0 ok = grind (arith, nat_tests)
 
-is-value : (n : ℕ) (o : Owner) → is_owner (owner_value n) o ≡ true → o ≡ owner_value n
-is-value n x1 ok = grind (arith, nat_tests)
-
-found-of : (test : HandleRow → Bool) (found : Option HandleRow) → if_there test false found ≡ true → (row : HandleRow) × (found ≡ Some row) × (test row ≡ true)
-found-of test x1 ok = grind (arith, nat_tests)
-
 module _ (w : Core) (vs : List (Option Sample)) (p : Passes w vs) where
   short : (n : ℕ) → 3 < n → value_at vs n ≡ None
   short n lt = let a = p.short in past-end vs n (grind (arith, nat_tests))
@@ -310,7 +305,7 @@ module _ (w : Core) (vs : List (Option Sample)) (p : Passes w vs) where
           rw (a, c) refl
 
   refers-well : (n : ℕ) (r : ArcRef) → reference_stands w n r ≡ true → IsReference w (owner_value n) r
-  refers-well n r ok = grind (arith, nat_tests, and_parts, found-of, live, is-value, typed-by)
+  refers-well n r ok = grind (arith, nat_tests, and_parts, live, typed-by)
 
   entry-shares : (h : HandleRow) → Among w.rows h → is_shared h.mode ≡ false
   entry-shares h among = not-true (is_shared h.mode) (low-parts h (all-among row_low w.rows h p.low among)).1

@@ -1,7 +1,7 @@
 -- Whole numbers are read again.
-use Rattle.pagable_laws.proofs.Words.{nat_tests, ◌≡◌, ℕ, zero, suc, ◌^◌, ◌<◌, refl, arith, Ok, List, ◌++◌, ℤ, pos, negsuc, lt-ltb, le-leb, varint, varint_at, varint_limit, bound}
-use Rattle.pagable_laws.proofs.Words.{unsigned_form, unsigned_at, signed_byte, from_signed_byte, unsigned_of, signed_from, IsSigned, signed_form, signed_at, zigzag-again}
-use Rattle.std.{specs.Int.{Width, w8, w16, w32, w64, w128}}
+use Rattle.pagable_laws.proofs.Words.{nat_tests, ◌≡◌, ℕ, zero, suc, ◌^◌, ◌<◌, refl, arith, Ok, List, ◌++◌, ℤ, le-leb, varint, varint_at, varint_limit, bound}
+use Rattle.pagable_laws.proofs.Words.{unsigned_form, unsigned_at, unsigned_of, signed_from, IsSigned, signed_form, signed_at}
+use Rattle.std.{specs.Int.{Width}}
 
 -- what is written is read again, whatever follows
 pub varint-again : (more last n : ℕ) (rest : List ℕ) → n < varint_limit more last → last < 128 → varint_at more last (varint more n ++ rest) ≡ Ok (n, rest)
@@ -28,12 +28,9 @@ limit-128 = refl
 pub unsigned-again : (w : Width) (n : ℕ) (rest : List ℕ) → n < bound w → unsigned_at w (unsigned_form w n ++ rest) ≡ Ok (n, rest)
 unsigned-again x0 n rest h = grind (arith, nat_tests, varint-again, limit-16, limit-32, limit-64, limit-128)
 
-byte-again : (z : ℤ) → IsSigned w8 z → from_signed_byte (signed_byte z) ≡ z
-byte-again x0 h = grind (arith, nat_tests)
-
 -- a number with a sign is one without, and back
 pub signed-back : (w : Width) (z : ℤ) → IsSigned w z → signed_from w (unsigned_of w z) ≡ z
-signed-back x0 z h = grind (arith, nat_tests, byte-again)
+signed-back x0 z h = grind (arith, nat_tests)
 
 pub signed-bound : (w : Width) (z : ℤ) → IsSigned w z → unsigned_of w z < bound w
 signed-bound x0 x1 h = grind (arith, nat_tests)
