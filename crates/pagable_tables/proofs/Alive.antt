@@ -186,13 +186,7 @@ pub dead-only : (q : ℕ) (ss : List Place) (m : ℕ) (s : Place) → AllPairs I
 dead-only q ss m s ordered lt is number dead k d klt e =
     let at : get_or ss m d ≡ s = get_or_default ss m d s lt ∙ sym is in
     let number' : (get_or ss m d).row.number.0 ≡ q = ap (λ (x : Place). x.row.number.0) at ∙ number in
-    elim (cases_eq k m) [
-      | inl same ↦ ap (λ n. (get_or ss n d).is_live) same ∙ ap (λ (x : Place). x.is_live) at ∙ dead
-      | inr other ↦ elim (apart k m other) [
-        | inl less ↦ let a = ordered k m d less lt in absurd (omega arith)
-        | inr more ↦ let a = ordered m k d more klt in absurd (omega arith)
-      ]
-    ]
+    grind (arith, nat_tests, cases_eq, apart)
 
 -- each place's number is below q still, after a place of it changes
 pub next-set : (q : ℕ) (ss : List Place) (i : ℕ) (row : HandleRow) (new : Place) → slice_get ss i ≡ Some (alive row) → new.row.number.0 ≡ row.number.0 → IsNext q ss → IsNext q (set ss i new)

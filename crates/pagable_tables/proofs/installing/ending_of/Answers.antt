@@ -31,16 +31,7 @@ returns-in-Ok-clause-ready c stored closed failures =
     let begun = (c.requires.core.loads.roots l.0 load node c.in-Cell.field-1 h is cell).begun row c.in-Ok.ensures.found in
     let may = may-end w me l c.args.node_type c.args.references.now none load is node c.in-Cell.field-1 h cell in
     let n = row.node.0 in
-    record {
-      may = grind (arith, nat_tests, c.in-Ok.ensures.number);
-      owned = record {
-        live = subst (λ (q : HandleNumber). find_row q.0 (live t.holdings.handles.places.items) ≡ Some row) (sym c.in-Ok.ensures.number) c.in-Ok.ensures.found;
-        own = owner-same me row.owner c.in-Ok.ensures.owner;
-        as_asked = begun.1;
-      };
-      away = grind (arith, nat_tests, c.is_here.ensures, c.counts_of.ensures, c.requires.steady.fits.pinned);
-      left = number-left w me l c.args.node_type c.args.references.now none load is node c.in-Cell.field-1 h cell row c.in-Ok.ensures.found c.in-Ok.ensures.owner;
-    }
+    grind (arith, nat_tests, owner-same, c.in-Ok.ensures.number, c.in-Ok.ensures.found, c.in-Ok.ensures.owner, c.is_here.ensures, c.counts_of.ensures, c.requires.steady.fits.pinned)
 
 pub returns-in-Err-clause-unended : goal.returns-in-Err-clause-unended
 returns-in-Err-clause-unended c stored closed failures =
