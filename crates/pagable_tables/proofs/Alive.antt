@@ -1,6 +1,6 @@
 -- The live rows after a place changes.
 use Rattle.pagable_tables.proofs.Words.{◌≡◌, ℕ, ◌+◌, ◌<◌, ◌≤◌, ◌==◌, Bool, true, false, if◌then◌else◌, List, [], ◌∷◌, ◌++◌, length, get_or, set, suc, zero, sum_by, All, filter, refl}
-use Rattle.pagable_tables.proofs.Words.{ap, sym, subst, ◌∙◌, arith, Some, None, slice_get, nat_tests, sum_by-cons, All-tail, All-set, ◌≢◌, ◌⊎◌, inl, inr, cases_eq, get_or_default}
+use Rattle.pagable_tables.proofs.Words.{ap, sym, subst, ◌∙◌, arith, Some, None, slice_get, nat_tests, sum_by-cons, All-tail, All-set, ◌≢◌, ◌⊎◌, cases_eq, get_or_default}
 use Rattle.pagable_tables.proofs.Words.{get_or_from_slice_get, slice_get_within, sum_by-set, get_or-le-sum_by, sum_by-le-sum_by, HandleRow, one, changed, find_row, is_handle, left_rows}
 use Rattle.pagable_tables.proofs.Words.{IsNext, live, alive, is_live_place, IsBefore, Place, AllPairs}
 

@@ -1,5 +1,5 @@
 -- Rows in the order of their numbers, and how halving finds one.
-use Rattle.pagable_tables.proofs.Words.{◌≡◌, ℕ, ◌+◌, ◌<◌, ◌≤◌, List, length, get_or, set, ap, arith, Some, slice_get, inl, inr, ◌⊎◌, get_or_default, get_or-set_other, length-set, nat_tests}
+use Rattle.pagable_tables.proofs.Words.{◌≡◌, ℕ, ◌+◌, ◌<◌, ◌≤◌, List, length, get_or, set, ap, arith, Some, slice_get, ◌⊎◌, get_or_default, get_or-set_other, length-set, nat_tests}
 use Rattle.pagable_tables.proofs.Words.{get_or-set_at, cases_eq, get_or_from_slice_get, slice_get_within, AllPairs}
 
 split_less : (k m : ℕ) → k < m + 1 → (k < m) ⊎ (k ≡ m)

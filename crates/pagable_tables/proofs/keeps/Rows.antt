@@ -1,5 +1,5 @@
 -- Rows, one by one and counted, as they come and change.
-use Rattle.pagable_tables.proofs.Words.{◌≡◌, ℕ, suc, zero, ◌<◌, ◌≤◌, ◌==◌, Bool, true, false, List, [], ◌∷◌, ◌++◌, sum_by, filter, if◌then◌else◌, Some, slice_get, get_or, inl, inr, refl, ap}
+use Rattle.pagable_tables.proofs.Words.{◌≡◌, ℕ, suc, zero, ◌<◌, ◌≤◌, ◌==◌, Bool, true, false, List, [], ◌∷◌, ◌++◌, sum_by, filter, if◌then◌else◌, Some, get_or, inl, inr, refl, ap}
 use Rattle.pagable_tables.proofs.Words.{sym, ◌∙◌, arith, ◌⊎◌, map, cases_order, nat_tests, get_or-map, length-map, sum_by-cons, sum_by-le-sum_by, all_pairs_push}
 use Rattle.pagable_tables.proofs.Words.{get_or_from_slice_get, slice_get_within, slice_get-get_or, HandleRow, Among, find_row, is_handle, IsHandleBefore, AllPairs}
 

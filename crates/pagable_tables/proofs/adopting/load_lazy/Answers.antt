@@ -1,5 +1,5 @@
-use Rattle.pagable_tables.proofs.Words.{ℕ, ◌<◌, not, [], arith, ap, sym, ◌∙◌, subst, false, Ok, None, OptionalDataKey, Core, Alike, greatest, Owner, adopted, core_of, plain_of, load_in, nat_tests}
-use Rattle.pagable_tables.proofs.Words.{Suits, key_in, IndexMap, load_at, LoadRow}
+use Rattle.pagable_tables.proofs.Words.{◌<◌, not, [], arith, ap, sym, ◌∙◌, subst, false, Ok, None, OptionalDataKey, Core, Alike, greatest, Owner, adopted, core_of, plain_of, load_in, nat_tests}
+use Rattle.pagable_tables.proofs.Words.{Suits, key_in}
 use Rattle.pagable_tables.proofs.{Lazily.lazy-not-own, Lazily.lazy-not-loose, Lazily.lazy-known, Lazily.lazy-not-new, Lazily.lazy-new, Lazily.key-there, NewNodes.none-named}
 use Rattle.pagable_tables.proofs.{Readied.adopted-past, Readied.next-past, Readied.room-newer, keeps.CacheCalls.known-suits, Begun.not-closed, Newer.lazy-newer, Newer.later-so}
 use Rattle.pagable_tables.proofs.{keeps.AdoptCalls.lazy-whole, keeps.Placed.whole-so}

@@ -1,4 +1,4 @@
-use Rattle.pagable_tables.proofs.Words.{None, false, Ok, refl, ap, sym, arith, NodeNumber, shut, is_listed, core_of, with_tables, option_map, nat_tests}
+use Rattle.pagable_tables.proofs.Words.{None, false, Ok, arith, shut, core_of, nat_tests}
 use Rattle.pagable_tables.proofs.{Entries.are-entries, Entries.begun-shut, Entries.cache-anew, Newer.close-newer, Newer.later-so, keeps.EndCalls.close-whole, keeps.Placed.whole-so}
 use Rattle.pagable_tables.proofs.closing.close.Goals as goal
 

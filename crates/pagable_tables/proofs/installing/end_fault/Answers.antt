@@ -1,4 +1,4 @@
-use Rattle.pagable_tables.proofs.Words.{ap, ◌∙◌, Some, None, not, Error, if_there, is_owner, OpenLoad, earlier, refused_if, load_fault, root_fault, core_of, load_in, option_map, arith, nat_tests}
+use Rattle.pagable_tables.proofs.Words.{ap, ◌∙◌, Some, not, Error, if_there, is_owner, OpenLoad, refused_if, load_in, option_map, arith, nat_tests}
 use Rattle.pagable_tables.proofs.installing.end_fault.Goals as goal
 
 pub returns : goal.returns
