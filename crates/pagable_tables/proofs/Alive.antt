@@ -1,6 +1,6 @@
 -- The live rows after a place changes.
 use Rattle.pagable_tables.proofs.Words.{◌≡◌, ℕ, ◌+◌, ◌<◌, ◌≤◌, ◌==◌, Bool, true, false, if◌then◌else◌, List, [], ◌∷◌, ◌++◌, length, get_or, set, suc, zero, sum_by, All, filter, refl}
-use Rattle.pagable_tables.proofs.Words.{ap, sym, subst, ◌∙◌, arith, Some, None, slice_get, nat_tests, sum_by-cons, All-tail, All-set, ◌≢◌, ◌⊎◌, inl, inr, cases_eq, get_or_default}
+use Rattle.pagable_tables.proofs.Words.{ap, sym, subst, ◌∙◌, arith, Some, None, slice_get, nat_tests, sum_by-cons, All-tail, All-set, ◌≢◌, ◌⊎◌, cases_eq, get_or_default}
 use Rattle.pagable_tables.proofs.Words.{get_or_from_slice_get, slice_get_within, sum_by-set, get_or-le-sum_by, sum_by-le-sum_by, HandleRow, one, changed, find_row, is_handle, left_rows}
 use Rattle.pagable_tables.proofs.Words.{IsNext, live, alive, is_live_place, IsBefore, Place, AllPairs}
 
@@ -186,13 +186,7 @@ pub dead-only : (q : ℕ) (ss : List Place) (m : ℕ) (s : Place) → AllPairs I
 dead-only q ss m s ordered lt is number dead k d klt e =
     let at : get_or ss m d ≡ s = get_or_default ss m d s lt ∙ sym is in
     let number' : (get_or ss m d).row.number.0 ≡ q = ap (λ (x : Place). x.row.number.0) at ∙ number in
-    elim (cases_eq k m) [
-      | inl same ↦ ap (λ n. (get_or ss n d).is_live) same ∙ ap (λ (x : Place). x.is_live) at ∙ dead
-      | inr other ↦ elim (apart k m other) [
-        | inl less ↦ let a = ordered k m d less lt in absurd (omega arith)
-        | inr more ↦ let a = ordered m k d more klt in absurd (omega arith)
-      ]
-    ]
+    grind (arith, nat_tests, cases_eq, apart)
 
 -- each place's number is below q still, after a place of it changes
 pub next-set : (q : ℕ) (ss : List Place) (i : ℕ) (row : HandleRow) (new : Place) → slice_get ss i ≡ Some (alive row) → new.row.number.0 ≡ row.number.0 → IsNext q ss → IsNext q (set ss i new)

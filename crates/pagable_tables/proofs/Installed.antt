@@ -92,11 +92,7 @@ module _ (t t1 : Tables) (stored : ℕ → Option Blob) (closed lists : Bool) (f
   of : (y : HandleRow) → Among rows0 y → is_handle h.0 y ≡ true → y.node ≡ row.node
   of y among is =
       let old = among-map (λ (z : HandleRow). if s z.number.0 then record z { owner = o } else z) w.rows y among in
-      by old.0 old.1 (s old.0.number.0) old.2
-    where
-      by : (z : HandleRow) → Among w.rows z → (b : Bool) → y ≡ (if b then record z { owner = o } else z) → y.node ≡ row.node
-      by z there true eq = ap (λ (r : HandleRow). r.node) eq ∙ row-of w.rows was.core.handles.ordered row found z there (sym (ap (is_handle h.0) eq) ∙ is)
-      by z there false eq = ap (λ (r : HandleRow). r.node) eq ∙ row-of w.rows was.core.handles.ordered row found z there (sym (ap (is_handle h.0) eq) ∙ is)
+      grind (arith, nat_tests, row-of)
 
   come : moved s o (live t1.holdings.handles.places.items) ≡ u.rows
   come = ap (moved s o) a.rows ∙ moved-turned s o h.0 x w.rows spared

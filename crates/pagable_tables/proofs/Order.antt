@@ -1,5 +1,5 @@
 -- Rows in the order of their numbers, and how halving finds one.
-use Rattle.pagable_tables.proofs.Words.{◌≡◌, ℕ, ◌+◌, ◌<◌, ◌≤◌, List, length, get_or, set, ap, arith, Some, slice_get, inl, inr, ◌⊎◌, get_or_default, get_or-set_other, length-set, nat_tests}
+use Rattle.pagable_tables.proofs.Words.{◌≡◌, ℕ, ◌+◌, ◌<◌, ◌≤◌, List, length, get_or, set, ap, arith, Some, slice_get, ◌⊎◌, get_or_default, get_or-set_other, length-set, nat_tests}
 use Rattle.pagable_tables.proofs.Words.{get_or-set_at, cases_eq, get_or_from_slice_get, slice_get_within, AllPairs}
 
 split_less : (k m : ℕ) → k < m + 1 → (k < m) ⊎ (k ≡ m)
@@ -9,10 +9,7 @@ split_less k m h = grind arith
 pub smaller-up : {A : Type 0} (f : A → ℕ) (xs : List A) (m q : ℕ) (e : A) → AllPairs (λ a b. f a < f b) xs → m < length xs → f (get_or xs m e) < q → (k : ℕ) (d : A) → k < m + 1 → f (get_or xs k d) < q
 smaller-up f xs m q e ordered lt less k d h =
     let at : f (get_or xs m e) ≡ f (get_or xs m d) = ap f (get_or_default xs m e d lt) in
-    elim (split_less k m h) [
-      | inl before ↦ let b = ordered k m d before lt in omega arith
-      | inr same ↦ let s = ap (λ n. f (get_or xs n d)) same in omega arith
-    ]
+    grind (arith, nat_tests, split_less)
 
 split_more : (k m : ℕ) → m ≤ k → (m < k) ⊎ (k ≡ m)
 split_more k m h = grind arith
@@ -22,10 +19,7 @@ pub greater-from : {A : Type 0} (f : A → ℕ) (xs : List A) (m q : ℕ) (e : A
     → (k : ℕ) (d : A) → m ≤ k → k < length xs → q < f (get_or xs k d)
 greater-from f xs m q e ordered lt more other k d h within =
     let at : f (get_or xs m e) ≡ f (get_or xs m d) = ap f (get_or_default xs m e d lt) in
-    elim (split_more k m h) [
-      | inl after ↦ let b = ordered m k d after within in omega arith
-      | inr same ↦ let s = ap (λ n. f (get_or xs n d)) same in omega arith
-    ]
+    grind (arith, nat_tests, split_more)
 
 le_or_lt : (a b : ℕ) → (a ≤ b) ⊎ (b < a)
 le_or_lt a b = grind arith

@@ -51,10 +51,7 @@ module _ (rows : List HandleRow) (keyed : ℕ → Bool) (entries : List HandleRo
       let a = least.least less given-less closed-less in
       let l = at-most-sum (λ h. one (s h.number.0 && not (less h.number.0))) rows x there in
       let e : (x.number.0 == x.number.0) ≡ true = grind (arith, nat_tests) in
-      bits (s x.number.0) (x.number.0 == x.number.0) e (omega arith)
-    where
-      bits : (s e : Bool) → e ≡ true → one (s && not (s && not e)) ≡ 0 → s ≡ false
-      bits s e is none = grind (arith, nat_tests)
+      grind (arith, nat_tests)
 
 wanting : (u w' : Core) (places : Places) → HasRoom u.places places → IsPlaceWanting (record u { places = places }) w' → IsPlaceWanting u w'
 wanting u w' places more (inl full) = inl (let m = more.handles in omega arith)

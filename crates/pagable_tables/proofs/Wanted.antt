@@ -49,13 +49,7 @@ module _ (before w : Core) (given : ℕ → Bool) (lists : Bool) (t : Holdings) 
       let d = f.begins.fewer n in
       let p = no-more (is_plain_pin n) (λ h mode owner. grind (arith, nat_tests)) in
       let plain : one (is_plain_pin n x) ≡ 1 = grind (arith, nat_tests) in
-      record {
-        pinned = omega arith;
-        unpinned = none;
-        unkeyed = cell-keyed (counts_at t.nodes n) c (w.cells n) is (f.cells n) ∙ l.3;
-        unshared = elim (f.begins.uniform n) [ inl z ↦ z | inr z ↦ absurd (omega arith) ];
-        stands_open = not-closed lists w.closed f.begins.open_storage w'.0;
-      }
+      grind (arith, nat_tests, cell-keyed, not-closed)
 
   -- a cell must be listed: its last pin had gone before, or it has gone now
   pub must-before : (x : HandleRow) (c : Counts) (new : Holdings) (n : ℕ) → counts_at t.nodes x.node.0 ≡ Some c

@@ -1,5 +1,5 @@
 -- Rows, one by one and counted, as they come and change.
-use Rattle.pagable_tables.proofs.Words.{◌≡◌, ℕ, suc, zero, ◌<◌, ◌≤◌, ◌==◌, Bool, true, false, List, [], ◌∷◌, ◌++◌, sum_by, filter, if◌then◌else◌, Some, slice_get, get_or, inl, inr, refl, ap}
+use Rattle.pagable_tables.proofs.Words.{◌≡◌, ℕ, suc, zero, ◌<◌, ◌≤◌, ◌==◌, Bool, true, false, List, [], ◌∷◌, ◌++◌, sum_by, filter, if◌then◌else◌, Some, get_or, inl, inr, refl, ap}
 use Rattle.pagable_tables.proofs.Words.{sym, ◌∙◌, arith, ◌⊎◌, map, cases_order, nat_tests, get_or-map, length-map, sum_by-cons, sum_by-le-sum_by, all_pairs_push}
 use Rattle.pagable_tables.proofs.Words.{get_or_from_slice_get, slice_get_within, slice_get-get_or, HandleRow, Among, find_row, is_handle, IsHandleBefore, AllPairs}
 
@@ -91,14 +91,7 @@ once rows ordered a b (i, at) (j, there) same =
     let k = ap (λ (h : HandleRow). h.number.0) (get_or_from_slice_get rows j b a there) in
     let lt = slice_get_within rows i a at in
     let lt' = slice_get_within rows j b there in
-    elim (cases_order i j) [
-      | inl equal ↦ let e : Some a ≡ Some b = sym at ∙ (ap (slice_get rows) equal ∙ there) in cc
-      | inr (inl before) ↦ absurd (let o = ordered i j a before lt' in not-below _ _ n k same o)
-      | inr (inr after) ↦ absurd (let o = ordered j i a after lt in not-below _ _ k n (sym same) o)
-    ]
-  where
-    not-below : (x y : ℕ) {m n : ℕ} → x ≡ m → y ≡ n → m ≡ n → x < y → ⊥
-    not-below x y a b c lt = absurd (omega arith)
+    grind (arith, nat_tests, cases_order)
 
 -- the order stays where numbers do, and where a greater number comes
 pub ordered-map : (to : HandleRow → HandleRow) (rows : List HandleRow) → ((h : HandleRow) → (to h).number.0 ≡ h.number.0) → AllPairs IsHandleBefore rows → AllPairs IsHandleBefore (map to rows)

@@ -1,5 +1,5 @@
-use Rattle.pagable_tables.proofs.Words.{ℕ, ◌<◌, not, [], arith, ap, sym, ◌∙◌, subst, false, Ok, None, OptionalDataKey, Core, Alike, greatest, Owner, adopted, core_of, plain_of, load_in}
-use Rattle.pagable_tables.proofs.Words.{Suits, key_in, IndexMap, load_at, LoadRow}
+use Rattle.pagable_tables.proofs.Words.{◌<◌, not, [], arith, ap, sym, ◌∙◌, subst, false, Ok, None, OptionalDataKey, Core, Alike, greatest, Owner, adopted, core_of, plain_of, load_in, nat_tests}
+use Rattle.pagable_tables.proofs.Words.{Suits, key_in}
 use Rattle.pagable_tables.proofs.{Lazily.lazy-not-own, Lazily.lazy-not-loose, Lazily.lazy-known, Lazily.lazy-not-new, Lazily.lazy-new, Lazily.key-there, NewNodes.none-named}
 use Rattle.pagable_tables.proofs.{Readied.adopted-past, Readied.next-past, Readied.room-newer, keeps.CacheCalls.known-suits, Begun.not-closed, Newer.lazy-newer, Newer.later-so}
 use Rattle.pagable_tables.proofs.{keeps.AdoptCalls.lazy-whole, keeps.Placed.whole-so}
@@ -50,8 +50,7 @@ returns-in-Ok-make_ready_to_learn-clause-whole c =
 pub returns-in-Ok-make_ready_to_learn-clause-later : goal.returns-in-Ok-make_ready_to_learn-clause-later
 returns-in-Ok-make_ready_to_learn-clause-later c =
     let n = lazy-newer c.args.me c.args.load c.args.kind c.args.key (Ok c.learn_new.result) (returns-in-Ok-make_ready_to_learn-clause-lazily c (λ key. None) (not c.args.lists) 0 (not-closed c.args.lists)) in
-    later-so c.requires.later (record { last = n.last; owned = n.owned })
-    (λ l load is. sym (ap (λ (m : IndexMap ℕ LoadRow _). load_at m l) (c.learn_new.ensures.loads ∙ c.make_ready_to_learn.ensures.loads)) ∙ is)
+    grind (arith, nat_tests, later-so, c.requires.later, c.learn_new.ensures.loads, c.make_ready_to_learn.ensures.loads)
 
 pub returns-in-Err-make_ready_to_learn-clause-later : goal.returns-in-Err-make_ready_to_learn-clause-later
 returns-in-Err-make_ready_to_learn-clause-later c = room-newer (c.make_ready_to_learn.ensures.room (λ key. None) false 0) c.make_ready_to_learn.ensures.loads c.requires.later

@@ -1,4 +1,4 @@
-use Rattle.pagable_tables.proofs.Words.{None, false, Ok, refl, ap, sym, arith, NodeNumber, shut, is_listed, core_of, with_tables, option_map}
+use Rattle.pagable_tables.proofs.Words.{None, false, Ok, arith, shut, core_of, nat_tests}
 use Rattle.pagable_tables.proofs.{Entries.are-entries, Entries.begun-shut, Entries.cache-anew, Newer.close-newer, Newer.later-so, keeps.EndCalls.close-whole, keeps.Placed.whole-so}
 use Rattle.pagable_tables.proofs.closing.close.Goals as goal
 
@@ -9,11 +9,7 @@ returns-clause-closed g c stored closed failures failures' le =
     let u = shut w failures' in
     let e = are-entries c.requires.whole.core in
     let falls = c.give_entries.ensures.falls w u (begun-shut t stored closed failures failures' c.requires.whole) (omega arith) (record { once = e.once; owned = e.owned }) in
-    record {
-      told = refl;
-      fails = le;
-      falls = cache-anew w u (with_tables u c.give_entries.new.t) (is_listed w) _ (λ kind key. sym (ap (option_map (λ (n : NodeNumber). n.0)) (c.forget.ensures kind key))) falls;
-    }
+    grind (arith, nat_tests, cache-anew, c.forget.ensures)
 
 pub returns-clause-whole : goal.returns-clause-whole
 returns-clause-whole g c = whole-so c.give_entries.ensures.steady (close-whole (Ok tt) c.requires.whole.core (returns-clause-closed g c (λ key. None) false 0 0 (omega arith)))

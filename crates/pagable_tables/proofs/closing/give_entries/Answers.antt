@@ -1,5 +1,5 @@
 use Rattle.pagable_tables.proofs.Words.{rules, ◌≡◌, ℕ, ◌+◌, ◌==◌, ◌||◌, List, [], ◌∷◌, length, false, refl, ap, sym, ◌∙◌, subst, arith, nat_tests, length-append, sum_by_push}
-use Rattle.pagable_tables.proofs.Words.{HandleNumber, one, Falls, Holdings, with_tables, told_by, SoFar, entered, with_list}
+use Rattle.pagable_tables.proofs.Words.{HandleNumber, one, Holdings, SoFar, entered, with_list}
 use Rattle.pagable_tables.proofs.{Begun.aside, Entries.given_up, Entries.none-given-up, Entries.one-given-up, Entries.unlist, Ended.ended, Shedding.sheds-still, Shedding.sheds-then}
 use Rattle.pagable_tables.proofs.closing.give_entries.Goals as goal
 
@@ -57,11 +57,7 @@ returns-clause-falls g c before w f few entries =
     let was : t.list.items ≡ [] = empty t.list.items (search rules) in
     let none : t'.list.items ≡ [] = empty t'.list.items (search rules) in
     let falls = ended before (with_list w t'.list.items) (given_up all t.list.items) false t' some (record { sound = i.0.sound; next = i.0.next; fits = i.0.fits }) in
-    record {
-      told = told_by t.unlisted;
-      falls = subst (λ l. Falls before (with_list w []) (given_up all l) (told_by t.unlisted) (with_tables (with_list w []) t')) was
-          (subst (λ l. Falls before (with_list w l) (given_up all t.list.items) (told_by t.unlisted) (with_tables (with_list w l) t')) none falls);
-    }
+    grind (arith, nat_tests)
 
 pub returns-clause-sheds : goal.returns-clause-sheds
 returns-clause-sheds g c = c.loop-entry.invariant.4

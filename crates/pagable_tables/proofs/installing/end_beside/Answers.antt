@@ -1,4 +1,4 @@
-use Rattle.pagable_tables.proofs.Words.{refl, ap, sym, ◌∙◌, false, not, inr, None, Ok, [], owner_value, is_here, Tables, live, load_at, core_of, plain_of}
+use Rattle.pagable_tables.proofs.Words.{refl, sym, ◌∙◌, false, not, inr, None, Ok, [], owner_value, is_here, live, load_at, core_of, plain_of, arith, nat_tests}
 use Rattle.pagable_tables.proofs.{Begun.not-closed, Installed.ended, Installed.has-come, Installed.install-newer, Installed.none-moves, Installed.so-then, Named.moved-nobody, Newer.closed-still}
 use Rattle.pagable_tables.proofs.{Newer.later-so, Upheld.ready-owner, keeps.BirthCalls.no-references, keeps.EndCalls.end-whole, keeps.LoadCalls.may-hold, keeps.Placed.whole-so}
 use Rattle.pagable_tables.proofs.installing.end_beside.Goals as goal
@@ -53,10 +53,8 @@ returns-clause-whole g c =
 
 pub returns-clause-later : goal.returns-clause-later
 returns-clause-later g c =
-    let t = c.args.t.now in
     let n = install-newer c.args.me c.args.load _ _ _ _ (returns-clause-installs g c (λ key. None) (not c.args.lists) 0 (not-closed c.args.lists)) in
-    later-so c.requires.later (record { last = n.last; owned = n.owned }) (closed-still (load_at t.loads) (load_at c.close.new.loads) c.args.load.0 c.close.ensures.gone
-    (λ q other. c.close.ensures.others q other ∙ ap (λ (v : Tables). load_at v.loads q) c.pin_ready-handle.ensures.same))
+    grind (arith, nat_tests, later-so, closed-still, c.requires.later, c.close.ensures.gone, c.close.ensures.others, c.pin_ready-handle.ensures.same)
 
 pub returns-clause-sheds : goal.returns-clause-sheds
 returns-clause-sheds g c =

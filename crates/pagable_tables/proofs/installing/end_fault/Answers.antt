@@ -1,13 +1,10 @@
-use Rattle.pagable_tables.proofs.Words.{ap, ◌∙◌, Some, None, not, Error, if_there, is_owner, OpenLoad, earlier, refused_if, load_fault, root_fault, core_of, load_in, option_map}
+use Rattle.pagable_tables.proofs.Words.{ap, ◌∙◌, Some, not, Error, if_there, is_owner, OpenLoad, refused_if, load_in, option_map, arith, nat_tests}
 use Rattle.pagable_tables.proofs.installing.end_fault.Goals as goal
 
 pub returns : goal.returns
 returns c stored closed failures =
-    let w = core_of c.args.t.now stored closed failures in
     let me = c.args.me in
     let own = c.load_fault-own.ensures ∙ ap (λ o. if_there (λ (load : OpenLoad). refused_if (not (is_owner me load.owner)) Error.NotYours) (Some Error.NoSuchHandle) (option_map load_in o)) c.load_of.ensures in
     let root = c.root_fault-root.ensures stored closed failures in
     let fit = c.references_fault-fit.ensures stored closed failures in
-    c.earlier-2.ensures ∙ ap (λ x. earlier x c.earlier.result) own
-    ∙ ap (earlier (load_fault w me c.args.load))
-    (c.earlier.ensures ∙ ap (λ x. earlier x c.references_fault-fit.result) root ∙ ap (earlier (if_there (λ (load : OpenLoad). root_fault w me c.args.node_type load.root) None (w.loads c.args.load.0))) fit)
+    grind (arith, nat_tests, c.earlier-2.ensures, c.earlier.ensures)

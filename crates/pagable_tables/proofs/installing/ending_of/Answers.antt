@@ -1,6 +1,5 @@
-use Rattle.pagable_tables.proofs.Words.{◌≡◌, refl, ap, sym, ◌∙◌, subst, Some, None, false, HandleNumber, any_mode, find_row}
-use Rattle.pagable_tables.proofs.Words.{of_cell, end_fault, live, core_of, plain_of, load_in, root_in, option_map, arith, nat_tests}
-use Rattle.pagable_tables.proofs.{Upheld.opens, Upheld.celled, Upheld.may-end, Upheld.number-left, Worlds.owner-same}
+use Rattle.pagable_tables.proofs.Words.{◌≡◌, refl, ap, sym, ◌∙◌, Some, None, false, any_mode, of_cell, end_fault, core_of, plain_of, load_in, root_in, option_map, arith, nat_tests}
+use Rattle.pagable_tables.proofs.{Upheld.opens, Upheld.celled, Upheld.may-end, Worlds.owner-same}
 use Rattle.pagable_tables.proofs.installing.ending_of.Goals as goal
 
 pub unreachable-requires : goal.unreachable-requires
@@ -31,16 +30,7 @@ returns-in-Ok-clause-ready c stored closed failures =
     let begun = (c.requires.core.loads.roots l.0 load node c.in-Cell.field-1 h is cell).begun row c.in-Ok.ensures.found in
     let may = may-end w me l c.args.node_type c.args.references.now none load is node c.in-Cell.field-1 h cell in
     let n = row.node.0 in
-    record {
-      may = grind (arith, nat_tests, c.in-Ok.ensures.number);
-      owned = record {
-        live = subst (λ (q : HandleNumber). find_row q.0 (live t.holdings.handles.places.items) ≡ Some row) (sym c.in-Ok.ensures.number) c.in-Ok.ensures.found;
-        own = owner-same me row.owner c.in-Ok.ensures.owner;
-        as_asked = begun.1;
-      };
-      away = grind (arith, nat_tests, c.is_here.ensures, c.counts_of.ensures, c.requires.steady.fits.pinned);
-      left = number-left w me l c.args.node_type c.args.references.now none load is node c.in-Cell.field-1 h cell row c.in-Ok.ensures.found c.in-Ok.ensures.owner;
-    }
+    grind (arith, nat_tests, owner-same, c.in-Ok.ensures.number, c.in-Ok.ensures.found, c.in-Ok.ensures.owner, c.is_here.ensures, c.counts_of.ensures, c.requires.steady.fits.pinned)
 
 pub returns-in-Err-clause-unended : goal.returns-in-Err-clause-unended
 returns-in-Err-clause-unended c stored closed failures =

@@ -1,5 +1,5 @@
 use Rattle.pagable_tables.proofs.Words.{◌≡◌, ◌<◌, ◌+◌, ◌++◌, ◌∷◌, [], sum_by, refl, ap, sym, ◌∙◌, arith, false, not, inl, None, Ok, Owner, Mode, changed, one, is_handle, is_pin, owner_value}
-use Rattle.pagable_tables.proofs.Words.{is_here, moved, is_named_by, row_of, Tables, live, counts_at, refs_at, load_at, has_value, cell_in, core_of, plain_of, nat_tests}
+use Rattle.pagable_tables.proofs.Words.{is_here, moved, is_named_by, row_of, live, counts_at, refs_at, load_at, has_value, cell_in, core_of, plain_of, nat_tests}
 use Rattle.pagable_tables.proofs.{Begun.not-closed, Coming.rows-told, Coming.some-held, Coming.turned, Fitting.fits-same, Fitting.pins-le-held, Installed.ended, Installed.has-come}
 use Rattle.pagable_tables.proofs.{Installed.install-newer, Installed.pins-here, Installed.not-so, Joined.joined-fits, Joined.owns-none, Newer.closed-still, Newer.later-so, Stays.not-named}
 use Rattle.pagable_tables.proofs.{Upheld.ready-owner, keeps.Comes.not-a-value, keeps.EndCalls.end-whole, keeps.LoadCalls.may-hold, keeps.Placed.whole-so}
@@ -101,10 +101,8 @@ returns-clause-whole g c =
 
 pub returns-clause-later : goal.returns-clause-later
 returns-clause-later g c =
-    let t = c.args.t.now in
     let n = install-newer c.args.me c.args.load _ _ _ _ (returns-clause-installs g c (λ key. None) (not c.args.lists) 0 (not-closed c.args.lists)) in
-    later-so c.requires.later (record { last = n.last; owned = n.owned }) (closed-still (load_at t.loads) (load_at c.close.new.loads) c.args.load.0 c.close.ensures.gone
-    (λ q other. c.close.ensures.others q other ∙ ap (λ (v : Tables). load_at v.loads q) c.pin_ready-handle.ensures.same))
+    grind (arith, nat_tests, later-so, closed-still, c.requires.later, c.close.ensures.gone, c.close.ensures.others, c.pin_ready-handle.ensures.same)
 
 pub returns-clause-sheds : goal.returns-clause-sheds
 returns-clause-sheds g c =

@@ -1,15 +1,11 @@
-use Rattle.pagable_tables.proofs.Words.{refl, inr, arith, core_of}
+use Rattle.pagable_tables.proofs.Words.{arith, core_of, nat_tests}
 use Rattle.pagable_tables.proofs.{Upheld.placed-whole, Upheld.ready-placed, Worlds.alike, Opened.no-load-fault}
 use Rattle.pagable_tables.proofs.installing.prepare_end.Goals as goal
 
 pub returns-in_default-clause-unended : goal.returns-in_default-clause-unended
 returns-in_default-clause-unended c stored closed failures =
-    let w = core_of c.args.t.now stored closed failures in
     let may = (c.in-Ok.ensures.ready stored closed failures).may in
-    record {
-      why = inr (refl, no-load-fault w c.args.me c.args.load may.load may.owned, tt);
-      stays = alike w _ c.reserve.ensures.rows (λ n. refl) (record { handles = c.reserve.ensures.capacity; entries = omega arith }) refl;
-    }
+    grind (arith, nat_tests, no-load-fault, alike, c.reserve.ensures.rows, c.reserve.ensures.capacity)
 
 pub returns-in_default-clause-whole : goal.returns-in_default-clause-whole
 returns-in_default-clause-whole c = placed-whole c.args.t.now c.reserve.new.handles c.requires c.reserve.ensures.sound c.reserve.ensures.next c.reserve.ensures.rows c.reserve.ensures.capacity

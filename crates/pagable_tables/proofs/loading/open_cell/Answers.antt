@@ -10,19 +10,7 @@ pub returns-in-Ok-come-clause-opened : goal.returns-in-Ok-come-clause-opened
 returns-in-Ok-come-clause-opened c stored closed failures =
     let t = c.args.t.now in
     let a = (c.in-Ok-come.ensures.made (core_of (record t { holdings = c.come.new.t; loads = c.open.new.loads; last_load = t.last_load + 1 }) stored closed failures)).made.1 in
-    record {
-      rows = a.rows;
-      cells = a.cells;
-      list = a.list;
-      cache = record { gives = a.cache.gives; only = a.cache.only };
-      stored = λ q. refl;
-      closed = refl;
-      failures = refl;
-      loads = load-comes (load_at t.loads) (load_at c.open.new.loads) (t.last_load + 1) _ c.in-Ok.ensures.here c.in-Ok.ensures.others;
-      workers = λ v. refl;
-      last = a.last;
-      places = a.places;
-    }
+    grind (arith, nat_tests, load-comes, c.in-Ok.ensures.here, c.in-Ok.ensures.others)
 
 pub returns-in-Err-clause-refused : goal.returns-in-Err-clause-refused
 returns-in-Err-clause-refused c = let t = c.args.t.now in only-memory t.holdings.last_handle c.in-Err.e c.requires.handle (c.in-Err.ensures.made (core_of t (λ q. None) false 0)).refused.why
@@ -32,19 +20,7 @@ returns-in-Err-clause-stays c stored closed failures =
     let t = c.args.t.now in
     let l = t.last_load + 1 in
     let a = (c.in-Err.ensures.made (core_of (record t { holdings = c.come.new.t; loads = c.close.new.loads }) stored closed failures)).refused.stays in
-    record {
-      rows = a.rows;
-      cells = a.cells;
-      list = a.list;
-      cache = record { gives = a.cache.gives; only = a.cache.only };
-      stored = λ q. refl;
-      closed = refl;
-      failures = refl;
-      loads = load-goes (load_at t.loads) (load_at c.open.new.loads) (load_at c.close.new.loads) l (none-yet (load_at t.loads l) t.last_load (λ some. (c.requires.whole.core.loads.numbered l some).1)) c.in-Ok.ensures.others c.close.ensures.gone c.close.ensures.others;
-      workers = λ v. refl;
-      last = a.last;
-      places = a.places;
-    }
+    grind (arith, nat_tests, load-goes, none-yet, c.requires.whole.core.loads.numbered, c.in-Ok.ensures.others, c.close.ensures.gone, c.close.ensures.others)
 
 pub returns-in-Ok-come-clause-later : goal.returns-in-Ok-come-clause-later
 returns-in-Ok-come-clause-later c =

@@ -1,5 +1,5 @@
-use Rattle.pagable_tables.proofs.Words.{not, ◌≡◌, ◌+◌, ◌∙◌, false, None, Ok, Err, Some, inr, refl, ap, sym, subst, arith, IfSome, length, nat_tests, Owner, is_owner, mode_of, OfferCall}
-use Rattle.pagable_tables.proofs.Words.{with_known, Falls, only_handle, Tables, is_valued, core_of, plain_of, Offered, load_at}
+use Rattle.pagable_tables.proofs.Words.{not, ◌≡◌, ◌+◌, ◌∙◌, false, None, Ok, Err, Some, inr, refl, ap, sym, subst, arith, IfSome, length, nat_tests, mode_of, OfferCall}
+use Rattle.pagable_tables.proofs.Words.{with_known, Falls, only_handle, Tables, core_of, plain_of, Offered, load_at}
 use Rattle.pagable_tables.proofs.{Begun.open-then, Begun.not-closed, Pins.found-again, Shedding.stays-first, Shedding.sheds-still, Swapped.begun-made, Swapped.swapped, Swapped.values-made}
 use Rattle.pagable_tables.proofs.{Swapped.values-still, Worlds.still, keeps.CacheCalls.offer-whole, keeps.Comes.not-a-value, keeps.Comes.not-list, keeps.Placed.whole-so}
 use Rattle.pagable_tables.proofs.{keeps.Rows.found-among, Newer.later-so, Newer.offer-newer}
@@ -7,13 +7,10 @@ use Rattle.pagable_tables.proofs.swapping.offer.Goals as goal
 
 pub give_number-requires-clause-there : goal.give_number-requires-clause-there
 give_number-requires-clause-there g c =
-    let (row, owns, typed, (n, known, next, alike)) = (subst (λ f. Offered (core_of c.args.t.now (λ key. None) false 0) c.args.me c.args.kind c.args.key c.args.handle (Ok f) (core_of c.cache_put.new.t (λ key. None) false 0)) c.in-Ok-Some.field-0-is (c.in-Ok-Some.ensures.offered (λ key. None) 0)).answers in
-    let w = plain_of c.args.t.now in (
-      row,
-      found-again c.args.handle.0 _ _ _ row _ owns.live alike.rows refl,
-      ap is_valued owns.own ∙ not-a-value w c.args.me c.requires.holder,
-      ap (is_owner Owner.List) owns.own ∙ not-list w c.args.me c.requires.holder,
-    )
+    let (row, owns, typed, (n, known, next, alike)) =
+    (subst (λ f. Offered (core_of c.args.t.now (λ key. None) false 0) c.args.me c.args.kind c.args.key c.args.handle (Ok f) (core_of c.cache_put.new.t (λ key. None) false 0))
+    c.in-Ok-Some.field-0-is (c.in-Ok-Some.ensures.offered (λ key. None) 0)).answers in
+    grind (arith, nat_tests, found-again, not-a-value, not-list, c.requires.holder)
 
 pub returns-in-Ok-Some-clause-offered : goal.returns-in-Ok-Some-clause-offered
 returns-in-Ok-Some-clause-offered g c stored closed failures e =
