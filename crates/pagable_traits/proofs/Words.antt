@@ -1,5 +1,5 @@
 -- The names that most proofs here cite, passed on from one place. Declares nothing.
-pub use Rattle.pagable_codec.proofs.Writing.{writes_nothing, writes_is, writes_bytes, grows_bytes, refused_memory, grows_trans, then, memory_refuses, grows_refl}
+pub use Rattle.pagable_codec.proofs.Writing.{writes_is, writes_bytes, grows_bytes, refused_memory, grows_trans, then, memory_refuses, grows_refl, writes_nothing}
 pub use Rattle.pagable_codec.proofs.Reading.{moves_trans}
 pub use Rattle.pagable_model.specs.{Basic.bool_at, Basic.char_at, Basic.text_at, Basic.length_at, Basic.longest, Basic.length_form, Basic.bool_form, Basic.text_form, Carried.of_entries}
 pub use Rattle.pagable_model.specs.{Collected.Collected, Form.Entries, Form.more-entries, Form.Forms, Form.list-form, Form.no-forms, Form.more-forms, Form.text-form, Form.err-form, Form.ok-form}

@@ -57,12 +57,6 @@ returns g c =
       same_levels = i.same_levels;
     }
 
-pub returns-in_err-collected : goal.returns-in_err-collected
-returns-in_err-collected g c =
-    let p = err_from_is_err_and c.from_residual.result c.from_residual.ensures.1 in
-    let placed = c.in_err-collected.ensures in
-    rw (p.1, p.2) (record { gives = inr (inl c.in_err-collected.ensures.only); moves = placed.moves; same_env = placed.same_env; same_levels = placed.same_levels })
-
 pub returns-in_err-put_in : goal.returns-in_err-put_in
 returns-in_err-put_in g c =
     let p = err_from_is_err_and c.from_residual-in_err-put_in.result c.from_residual-in_err-put_in.ensures.1 in

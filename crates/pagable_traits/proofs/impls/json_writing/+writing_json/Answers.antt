@@ -1,5 +1,4 @@
 use Rattle.pagable_traits.proofs.Words.{◌≡◌, length, refl, sym, rules, ◌∙◌, Result, Ok, Err, Error, memory, long_or, MeansPair, both, json, text, Is, of_key, of_value}
-use Rattle.std.proofs.lemmas.List.{take_all}
 use Rattle.pagable_traits.proofs.Maps.{writes_entry, written-fewer, written-none, written-more, written-all, written-refused}
 use Rattle.pagable_traits.proofs.JsonSteps.{as-form, wrote-then, wrote-err, wrote-nothing, wrote-more, wrote-is, wrote-then-err, wrote-below, wrote-deep}
 use Rattle.pagable_traits.proofs.JsonWritten.{null-value, as-value, seen-flag, seen-number, seen-text, seen-array, seen-object, value-has, member-has, array-joins, array-lacks, array-long}
@@ -55,9 +54,6 @@ pub write_items-returns-in_err-write_value : goal.write_items-returns-in_err-wri
 write_items-returns-in_err-write_value g t c =
     wrote-then-err g.E.Env g.S.PagableSerializer c.from_residual.result c.from_residual.ensures.1 c.loop-item.invariant c.in_err-write_value.ensures
     (λ n old mid v l h. rw c.deref-item-items.ensures.value at (refuses_item (Is of_value) value-has c.deref-item-items.result.now c.loop-item.item-index _ n json _ c.loop-item-test.true c.item-item.is l)) (λ h. h)
-
-pub write_items-returns : goal.write_items-returns
-write_items-returns g t c = rw (take_all c.loop-item.item-index c.deref-item-items.result.now c.loop-item-test.false, c.deref-item-items.ensures.value) at c.loop-item.invariant
 
 pub write_object-returns-in_err-write_front : goal.write_object-returns-in_err-write_front
 write_object-returns-in_err-write_front g t c =
