@@ -2,7 +2,8 @@ use Rattle.pagable_pager.proofs.Words.{false, inl, inr, ap, None, OwnsLoad, earl
 use Rattle.pagable_pager.proofs.pager.Pager.fetch_root.Goals as goal
 
 pub returns-in-Err-clause-step : goal.returns-in-Err-clause-step
-returns-in-Err-clause-step g c = rw (← c.self.view_is) (record { gives = tt; refused = inl (record { why = inl (ap (λ o. earlier o None) (c.in-Err.ensures.fault (λ key. None) false 0)); stays = still _ }) })
+returns-in-Err-clause-step g c =
+    rw (← c.self.view_is) (record { gives = tt; refused = inl (record { why = inl (ap (λ o. earlier o None) (c.in-Err.ensures.fault (λ key. None) false 0)); stays = still _ }) })
 
 pub returns-in-Err-fetch-clause-step : goal.returns-in-Err-fetch-clause-step
 returns-in-Err-fetch-clause-step g c =
