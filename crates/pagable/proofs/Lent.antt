@@ -1,12 +1,7 @@
 -- Page-outs over a pager that is lent, which is whole.
 use Rattle.std.proofs.Common.{◌≡◌, Result, subst}
-use Rattle.pagable_world.specs.declared.events.WorkerAnswer.{WorkerAnswer}
-use Rattle.pagable_world.specs.World.{SameShelf, Shelf, Values, Written}
-use Rattle.pagable_world.specs.Events.{no_shelf}
-use Rattle.pagable_world.specs.Pager.{PagerState, WellFormed}
-use Rattle.pagable_walk.specs.Over.{PagesItem, PagesList}
-use Rattle.pagable_walk.specs.Slots.{no_claims}
-use Rattle.pagable_walk.specs.declared.table.PageOutError.{PageOutError}
+use Rattle.pagable_world.specs.{Events.no_shelf, Pager.PagerState, Pager.WellFormed, World.SameShelf, World.Shelf, World.Values, World.Written, declared.events.WorkerAnswer.WorkerAnswer}
+use Rattle.pagable_walk.specs.{Over.PagesItem, Over.PagesList, Slots.no_claims, declared.table.PageOutError.PageOutError}
 use Rattle.pagable.specs.Paged.{PagesOutItem, PagesOutList}
 
 module _ {N E : Type 0} (v : Values N) (s : PagerState N E) (whole : WellFormed v s) where

@@ -1,13 +1,7 @@
 -- What a page-out over a lent pager answers, and what it leaves.
 use Rattle.std.specs.Prelude.{ℕ, length, Result}
-use Rattle.pagable_world.specs.declared.events.WorkerAnswer.{WorkerAnswer}
-use Rattle.pagable_world.specs.World.{Shelf, Values, Written}
-use Rattle.pagable_world.specs.Events.{no_shelf}
-use Rattle.pagable_world.specs.Pager.{PagerState}
-use Rattle.pagable_world.specs.Access.{ListRun, PagesOutItemOver}
-use Rattle.pagable_walk.specs.Over.{seen_as_failure}
-use Rattle.pagable_walk.specs.Turns.{plain}
-use Rattle.pagable_walk.specs.declared.table.PageOutError.{PageOutError}
+use Rattle.pagable_world.specs.{Access.ListRun, Access.PagesOutItemOver, Events.no_shelf, Pager.PagerState, World.Shelf, World.Values, World.Written, declared.events.WorkerAnswer.WorkerAnswer}
+use Rattle.pagable_walk.specs.{Over.seen_as_failure, Turns.plain, declared.table.PageOutError.PageOutError}
 
 -- an item, on a table of its own
 pub record PagesOutItem {N E : Type 0} (v : Values N) (s : PagerState N E) (item : Written) (answer : WorkerAnswer) (s' : PagerState N E) : Type 0 where

@@ -1,9 +1,8 @@
 -- What a plain reference of a kind means.
 use Rattle.std.specs.Prelude.{ℕ}
-use Rattle.pagable_model.specs.Meaning.{Meaning}
-use Rattle.pagable_model.specs.Meaning as meanings
-use Rattle.pagable_model.specs.declared.numbers.ArcRef.{ArcRef}
+use Rattle.pagable_model.specs.{Meaning.Meaning, declared.numbers.ArcRef.ArcRef}
 use Rattle.pagable_arcs.specs.declared.plain.OfKind.{OfKind}
+use Rattle.pagable_model.specs.Meaning as meanings
 
 -- the reference that a value holds so
 abbrev pub plain : (kind : ℕ) → OfKind kind → ArcRef

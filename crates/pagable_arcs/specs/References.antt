@@ -1,21 +1,12 @@
 -- References as values hold them: what they mean, and why they are read again and have one form.
 use Rattle.std.proofs.Common.{inl, inr, subst, sym}
 use Rattle.std.specs.Prelude.{◌≡◌, ◌⊎◌, refl, Bool, true, false, ℕ, ◌*◌, ◌+◌, List, codes}
-use Rattle.pagable_model.specs.Canonical.{IsCanonical, IsReadable, LiesIn}
-use Rattle.pagable_model.specs.Causes.{memory_is_own_reading}
-use Rattle.pagable_model.specs.Keyed.{throughout-alone}
-use Rattle.pagable_model.specs.Meaning.{Meaning}
-use Rattle.pagable_model.specs.Meaning as meanings
-use Rattle.pagable_model.specs.OneForm.{HasOneFormThroughout}
-use Rattle.pagable_model.specs.Refusals.{is_own_reading}
-use Rattle.pagable_model.specs.declared.reason.Reason.{Reason}
-use Rattle.pagable_model.specs.Shape.{Shape, reference}
-use Rattle.pagable_model.specs.declared.error.Error.{Error}
-use Rattle.pagable_model.specs.declared.error.Error.TheVariants as errors
-use Rattle.pagable_model.specs.declared.numbers.ArcRef.{ArcRef}
+use Rattle.pagable_model.specs.{Canonical.IsCanonical, Canonical.IsReadable, Canonical.LiesIn, Causes.memory_is_own_reading, Keyed.throughout-alone, Meaning.Meaning, OneForm.HasOneFormThroughout}
+use Rattle.pagable_model.specs.{Refusals.is_own_reading, Shape.Shape, Shape.reference, declared.error.Error.Error, declared.numbers.ArcRef.ArcRef, declared.reason.Reason.Reason}
 use Rattle.pagable_traits.specs.ReadBack.{IsReadThroughout}
-use Rattle.pagable_arcs.specs.declared.holding.HoldingArc.{HoldingArc}
-use Rattle.pagable_arcs.specs.declared.loose.PagableArc.{PagableArc}
+use Rattle.pagable_arcs.specs.{declared.holding.HoldingArc.HoldingArc, declared.loose.PagableArc.PagableArc}
+use Rattle.pagable_model.specs.Meaning as meanings
+use Rattle.pagable_model.specs.declared.error.Error.TheVariants as errors
 
 -- the kind of loose references to values of the type number t
 abbrev pub loose_kind : ℕ → ℕ

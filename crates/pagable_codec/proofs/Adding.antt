@@ -1,6 +1,5 @@
 -- What writing basic types adds to what was written.
-use Rattle.std.proofs.Common.{◌≡◌, ℕ, List, [], ◌++◌, sym}
-use Rattle.std.proofs.lemmas.List.{append-nil}
+use Rattle.std.proofs.{Common.◌≡◌, Common.ℕ, Common.List, Common.[], Common.◌++◌, Common.sym, lemmas.List.append-nil}
 use Rattle.pagable_model.specs.Writing.{Out, Grows, added}
 use Rattle.pagable_codec.proofs.Writing.{out_is}
 

@@ -1,13 +1,7 @@
 -- What reading a part gives, and where a deserializer stands then.
 use Rattle.std.proofs.Common.{◌≡◌, ℕ, List, Result, Ok, Err, refl, arith, ◌∙◌, inl, inr}
-use Rattle.pagable_model.specs.declared.error.Error.{Error}
-use Rattle.pagable_model.specs.declared.numbers.ArcRef.{ArcRef}
-use Rattle.pagable_model.specs.Gives.{Gives, never}
-use Rattle.pagable_model.specs.Meaning.{Meaning}
-use Rattle.pagable_model.specs.Numbers.{Read}
-use Rattle.pagable_model.specs.Reading.{Rest, bytes_of}
-use Rattle.pagable_model.specs.Standing.{Answer, Gave, MovesOn, Standing}
-use Rattle.pagable_model.specs.Track.{Track, left, GoesOn}
+use Rattle.pagable_model.specs.{Gives.Gives, Gives.never, Meaning.Meaning, Numbers.Read, Reading.Rest, Reading.bytes_of, Standing.Answer, Standing.Gave, Standing.MovesOn, Standing.Standing}
+use Rattle.pagable_model.specs.{Track.Track, Track.left, Track.GoesOn, declared.error.Error.Error, declared.numbers.ArcRef.ArcRef}
 
 pub moves_trans : (a b c : Standing) → MovesOn a b → MovesOn b c → MovesOn a c
 moves_trans a b c g h = record { whole = h.whole ∙ g.whole; bytes = omega (arith, g.bytes, h.bytes); refs = omega (arith, g.refs, h.refs); within = λ w. h.within (g.within w) }

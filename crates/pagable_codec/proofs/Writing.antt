@@ -1,24 +1,14 @@
 -- What writing a part adds, and what has no form.
 use Rattle.std.proofs.Common.{◌≡◌, ℕ, Bool, false, subst, ◌<◌, ◌≤◌, List, [], ◌∷◌, ◌++◌, length, arith, refl, sym, ap, ◌∙◌, append_assoc, Result, Ok, Err, inl, inr}
 use Rattle.std.proofs.lemmas.List.{append-nil}
-use Rattle.std.specs.Prelude.{ℤ, IfErr}
-use Rattle.std.specs.Int.{Width}
-use Rattle.std.specs.Str.{IsUtf8}
-use Rattle.std.specs.Char.{IsScalar}
-use Rattle.pagable_model.specs.declared.error.Error.{Error}
-use Rattle.pagable_model.specs.declared.numbers.ArcRef.{ArcRef}
-use Rattle.pagable_model.specs.Refusals.{is_writing_fault}
-use Rattle.pagable_model.specs.Numbers.{bound, IsSigned, unsigned_form, signed_form}
-use Rattle.pagable_model.specs.Basic.{longest, bool_form, char_form, text_form}
-use Rattle.pagable_model.specs.Gives.{Extends, memory, long_or}
-use Rattle.pagable_model.specs.Lengths.{long_or_memory}
-use Rattle.pagable_model.specs.Meaning.{Meaning, number, integer}
-use Rattle.pagable_model.specs.Meaning as meanings
-use Rattle.pagable_model.specs.Shape.{Shape, unsigned, signed}
-use Rattle.pagable_model.specs.Shape as shapes
-use Rattle.pagable_model.specs.Form.{nothing-form, unsigned-form, signed-form, flag-form, letter-form, text-form, reference-form}
+use Rattle.std.specs.{Char.IsScalar, Int.Width, Prelude.ℤ, Prelude.IfErr, Str.IsUtf8}
 use Rattle.pagable_model.specs.Writing.{Out, Nesting, FormAt, Writes, WritesSome, Grows, added, kind_of_arc, NoForm, Refused}
-use Rattle.pagable_model.specs.Standing.{Is}
+use Rattle.pagable_model.specs.{Basic.longest, Basic.bool_form, Basic.char_form, Basic.text_form, Form.nothing-form, Form.unsigned-form, Form.signed-form, Form.flag-form, Form.letter-form}
+use Rattle.pagable_model.specs.{Form.text-form, Form.reference-form, Gives.Extends, Gives.memory, Gives.long_or, Lengths.long_or_memory, Meaning.Meaning, Meaning.number, Meaning.integer}
+use Rattle.pagable_model.specs.{Numbers.bound, Numbers.IsSigned, Numbers.unsigned_form, Numbers.signed_form, Refusals.is_writing_fault, Shape.Shape, Shape.unsigned, Shape.signed, Standing.Is}
+use Rattle.pagable_model.specs.{declared.error.Error.Error, declared.numbers.ArcRef.ArcRef}
+use Rattle.pagable_model.specs.Meaning as meanings
+use Rattle.pagable_model.specs.Shape as shapes
 
 pub out_is : (b c : List ℕ) (r s : List ArcRef) → b ≡ c → r ≡ s → (let x : Out = record { bytes = b; refs = r } in x) ≡ (let y : Out = record { bytes = c; refs = s } in y)
 out_is b c r s e f = rw (e, f) refl

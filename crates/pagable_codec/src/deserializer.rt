@@ -1,14 +1,11 @@
 //! What values are read from.
 
 ghost use Rattle.std.specs.Prelude.{◌≡◌, ◌≤◌, ◌<◌, ◌+◌, ◌-◌, ℕ, Option, drop, option_and_then, option_map, OnOk, IfOk, IfErr};
-ghost use Rattle.std.specs.Arc.{arc_value};
-ghost use Rattle.std.specs.Borrow.{Lends, sem};
-ghost use Rattle.pagable_model.specs.Track.{left, GoesOn};
-ghost use Rattle.pagable_model.specs.Gives.{Gives, memory, never};
+ghost use Rattle.std.specs.{Arc.arc_value, Borrow.Lends, Borrow.sem};
 ghost use Rattle.pagable_model.specs.Meaning.{reference as meaning_of};
-ghost use Rattle.pagable_model.specs.Reading.{Rest, reference_at, deepest};
-ghost use Rattle.pagable_model.specs.Standing.{Answer, Standing, rest_at, answer_at, IsWithin, MovesOn};
 ghost use Rattle.pagable_model.specs.declared.numbers.ArcRef.{ArcRef as Reference};
+ghost use Rattle.pagable_model.specs.{Gives.Gives, Gives.memory, Gives.never, Reading.Rest, Reading.reference_at, Reading.deepest, Standing.Answer, Standing.Standing, Standing.rest_at};
+ghost use Rattle.pagable_model.specs.{Standing.answer_at, Standing.IsWithin, Standing.MovesOn, Track.left, Track.GoesOn};
 
 use crate::env::Env;
 use crate::of_node::OfNode;

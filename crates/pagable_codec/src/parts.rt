@@ -1,12 +1,8 @@
 //! The parts of values that hold others: flags and counts. Each later type is written and read by these.
 
 ghost use Rattle.std.specs.Prelude.{◌≡◌, ◌≤◌, [], length, min, OnOk, IfErr};
-ghost use Rattle.pagable_model.specs.Basic.{bool_form, bool_at, length_form, length_at, longest};
-ghost use Rattle.pagable_model.specs.Gives.{Gives, never, memory};
-ghost use Rattle.pagable_model.specs.Reading.{bytes_of};
-ghost use Rattle.pagable_model.specs.Standing.{MovesOn};
-ghost use Rattle.pagable_model.specs.Writing.{added, Grows};
-ghost use Rattle.pagable_model.specs.Lengths.{long_or_memory};
+ghost use Rattle.pagable_model.specs.{Basic.bool_form, Basic.bool_at, Basic.length_form, Basic.length_at, Basic.longest, Gives.Gives, Gives.never, Gives.memory, Lengths.long_or_memory};
+ghost use Rattle.pagable_model.specs.{Reading.bytes_of, Standing.MovesOn, Writing.added, Writing.Grows};
 
 use crate::deserializer::PagableDeserializer;
 use crate::env::Env;

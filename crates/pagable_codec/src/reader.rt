@@ -1,12 +1,8 @@
 //! What a deserializer lends to read basic types.
 
-ghost use Rattle.std.specs.Prelude.{◌≡◌, ◌≤◌, length};
-ghost use Rattle.std.specs.Int.{w8, w16, w32, w64, w128};
-ghost use Rattle.std.specs.String.{string_bytes};
-ghost use Rattle.pagable_model.specs.Track.{Track, left, GoesOn};
-ghost use Rattle.pagable_model.specs.Gives.{Gives, never, memory};
-ghost use Rattle.pagable_model.specs.Numbers.{unsigned_at, signed_at};
-ghost use Rattle.pagable_model.specs.Basic.{length_at, text_at, bool_at, char_at};
+ghost use Rattle.std.specs.{Int.w8, Int.w16, Int.w32, Int.w64, Int.w128, Prelude.◌≡◌, Prelude.◌≤◌, Prelude.length, String.string_bytes};
+ghost use Rattle.pagable_model.specs.{Basic.length_at, Basic.text_at, Basic.bool_at, Basic.char_at, Gives.Gives, Gives.never, Gives.memory, Numbers.unsigned_at, Numbers.signed_at, Track.Track};
+ghost use Rattle.pagable_model.specs.{Track.left, Track.GoesOn};
 
 use pagable_flavors::{Error, PagableSlice};
 use std::alloc::Global;

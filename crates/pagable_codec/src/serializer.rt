@@ -3,8 +3,7 @@
 ghost use Rattle.std.specs.Prelude.{◌≡◌, ◌<◌, ◌≤◌, ◌+◌, ◌-◌, List, ℕ, [], ◌∷◌, length, OnOk, OnErr, IfErr};
 ghost use Rattle.std.specs.Borrow.{Lends, sem};
 ghost use Rattle.pagable_flavors.specs.contracts.vec_flavor.PagableVecFlavor.{the_row as writer_row};
-ghost use Rattle.pagable_model.specs.Writing.{Out, added, end_of, overwritten};
-ghost use Rattle.pagable_model.specs.Reading.{deepest};
+ghost use Rattle.pagable_model.specs.{Reading.deepest, Writing.Out, Writing.added, Writing.end_of, Writing.overwritten};
 
 use crate::env::Env;
 use crate::session::SessionContext;

@@ -1,11 +1,9 @@
 //! What one session of reading and writing shares among its values: a map under a lock.
 
 ghost use Rattle.std.specs.Prelude.{◌≡◌, None, Some, IfOk, IfErr, IfSome, IsSome, OnOk, OnErr, IsTrue, refl};
+ghost use Rattle.std.specs.{BTreeMap.IsEmpty, BTreeMap.IsUnchanged, BTreeMap.Updates, BTreeMap.get, Cmp.Rules.comparing};
 ghost use Rattle.std.proofs.Common.{rules};
-ghost use Rattle.std.specs.Cmp.Rules.{comparing};
-ghost use Rattle.std.specs.BTreeMap.{IsEmpty, IsUnchanged, Updates, get};
-ghost use Rattle.pagable_model.specs.Gives.{memory};
-ghost use Rattle.pagable_model.specs.Session.{IsCloneOf, IsBack};
+ghost use Rattle.pagable_model.specs.{Gives.memory, Session.IsCloneOf, Session.IsBack};
 
 use pagable_flavors::Error;
 use std::alloc::Global;

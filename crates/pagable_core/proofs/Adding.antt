@@ -1,19 +1,10 @@
 -- Adding a blob to what is stored.
 use Rattle.std.proofs.Common.{◌≡◌, ℕ, Bool, true, false, cond, Option, Some, None, refl, sym, ap, ◌∙◌, inl, inr}
-use Rattle.std.specs.Prelude.{◌==◌, nat_eq, option_map, if◌then◌else◌}
-use Rattle.std.specs.HashMap.{HashMap, get}
-use Rattle.std.specs.Arc.{arc_value}
-use Rattle.std.specs.declared.sync.Arc.{Arc}
-use Rattle.std.specs.Global.{Global}
-use Rattle.std.specs.declared.hash.FoldHasher.{FoldHasher}
-use Rattle.std.specs.declared.hash.BuildHasherDefault.{BuildHasherDefault}
-use Rattle.std.proofs.lemmas.Bool.{eqb-true, eq-eqb}
-use Rattle.std.proofs.lemmas.Bool.Decides.{eqb_tells}
-use Rattle.pagable_model.specs.Blob.{Blob}
-use Rattle.pagable_core.specs.Data.{blob_of}
-use Rattle.pagable_model.specs.Stored.{Adds}
-use Rattle.pagable_core.specs.declared.storage.data.PagableData.{PagableData}
-use Rattle.pagable_core.specs.Blobs.{stored_in}
+use Rattle.std.proofs.{lemmas.Bool.eqb-true, lemmas.Bool.eq-eqb, lemmas.Bool.Decides.eqb_tells}
+use Rattle.std.specs.{Arc.arc_value, Global.Global, HashMap.HashMap, HashMap.get, Prelude.◌==◌, Prelude.nat_eq, Prelude.option_map, Prelude.if◌then◌else◌}
+use Rattle.std.specs.{declared.hash.BuildHasherDefault.BuildHasherDefault, declared.hash.FoldHasher.FoldHasher, declared.sync.Arc.Arc}
+use Rattle.pagable_model.specs.{Blob.Blob, Stored.Adds}
+use Rattle.pagable_core.specs.{Blobs.stored_in, Data.blob_of, declared.storage.data.PagableData.PagableData}
 
 -- a blob that stands there already adds nothing
 pub adds_nothing : (stored : ℕ → Option Blob) (key : ℕ) (blob : Blob) → stored key ≡ Some blob → Adds key blob stored stored

@@ -1,17 +1,11 @@
 -- Taking the next answer of a list of references.
 use Rattle.std.proofs.Common.{◌≡◌, ℕ, zero, suc, ◌+◌, ◌<◌, ◌≤◌, List, [], ◌∷◌, length, drop, Result, Ok, Err, Some, arith, refl, ap, inl}
 use Rattle.std.specs.Prelude.{slice_get}
-use Rattle.pagable_model.specs.declared.error.Error.{Error}
-use Rattle.pagable_model.specs.declared.error.Error.TheVariants as errors
-use Rattle.pagable_model.specs.declared.numbers.ArcRef.{ArcRef}
-use Rattle.pagable_model.specs.Steps.{◌>>=◌}
-use Rattle.pagable_model.specs.Gives.{Gives, never}
-use Rattle.pagable_model.specs.Meaning.{Meaning}
-use Rattle.pagable_model.specs.Meaning as meanings
-use Rattle.pagable_model.specs.Reading.{Rest, reference_at}
-use Rattle.pagable_model.specs.Track.{Track}
-use Rattle.pagable_model.specs.Standing.{Answer, answer_at, rest_at, MovesOn, IsWithin}
+use Rattle.pagable_model.specs.{Gives.Gives, Gives.never, Meaning.Meaning, Reading.Rest, Reading.reference_at, Standing.Answer, Standing.answer_at, Standing.rest_at, Standing.MovesOn}
+use Rattle.pagable_model.specs.{Standing.IsWithin, Steps.◌>>=◌, Track.Track, declared.error.Error.Error, declared.numbers.ArcRef.ArcRef}
 use Rattle.pagable_core.specs.Context.{answers_from, standing_of}
+use Rattle.pagable_model.specs.declared.error.Error.TheVariants as errors
+use Rattle.pagable_model.specs.Meaning as meanings
 
 module _ (answer : ℕ → ℕ → ℕ → Result ArcRef Error) where
   pub length-answers : (place : ℕ) (keys : List ℕ) → length (answers_from answer place keys) ≡ length keys

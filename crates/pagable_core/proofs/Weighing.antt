@@ -1,13 +1,9 @@
 -- Weighing one more byte, and what the preimage of a blob is made of.
 use Rattle.std.proofs.Common.{◌≡◌, ℕ, suc, subst, ◌+◌, ◌*◌, ◌/◌, ◌%◌, ◌^◌, ◌<◌, List, [], ◌∷◌, ◌++◌, length, take, get_or, arith, refl, sym, ap, ◌∙◌, add_assoc, append_assoc, length-append}
-use Rattle.std.proofs.Math.Nat.{add-mod-mod, mod-add-mod, add-mul-mod_self_left, mod-add-div}
-use Rattle.std.proofs.lemmas.List.{take_more, append-nil}
-use Rattle.std.proofs.lemmas.Grind.{flat_map-append}
-use Rattle.std.specs.List.{flat_map}
-use Rattle.std.specs.Int.{w64, w128, to_le_bytes}
+use Rattle.std.proofs.{Math.Nat.add-mod-mod, Math.Nat.mod-add-mod, Math.Nat.add-mul-mod_self_left, Math.Nat.mod-add-div, lemmas.Grind.flat_map-append, lemmas.List.take_more, lemmas.List.append-nil}
+use Rattle.std.specs.{Int.w64, Int.w128, Int.to_le_bytes, List.flat_map}
 use Rattle.pagable_model.specs.Blob.{weight, preimage}
-use Rattle.pagable_core.specs.declared.storage.weigh.WeighHash.{WeighHash}
-use Rattle.pagable_core.specs.Data.{IsWeighed}
+use Rattle.pagable_core.specs.{Data.IsWeighed, declared.storage.weigh.WeighHash.WeighHash}
 
 -- a factor may be reduced first
 mod-mul-mod : (m a b : ℕ) → (a % m * b) % m ≡ (a * b) % m

@@ -1,15 +1,8 @@
 -- The blobs of a map in memory.
-use Rattle.std.specs.Prelude.{ℕ, Bool, Option, option_map, nat_eq}
-use Rattle.std.specs.HashMap.{HashMap, get}
-use Rattle.std.specs.Arc.{arc_value}
-use Rattle.std.specs.declared.sync.Arc.{Arc}
-use Rattle.std.specs.Global.{Global}
-use Rattle.std.specs.declared.hash.FoldHasher.{FoldHasher}
-use Rattle.std.specs.declared.hash.BuildHasherDefault.{BuildHasherDefault}
+use Rattle.std.specs.{Arc.arc_value, Global.Global, HashMap.HashMap, HashMap.get, Prelude.ℕ, Prelude.Bool, Prelude.Option, Prelude.option_map, Prelude.nat_eq}
+use Rattle.std.specs.{declared.hash.BuildHasherDefault.BuildHasherDefault, declared.hash.FoldHasher.FoldHasher, declared.sync.Arc.Arc}
 use Rattle.pagable_model.specs.Blob.{Blob}
-use Rattle.pagable_core.specs.Data.{blob_of}
-use Rattle.pagable_core.specs.declared.storage.in_memory.InMemoryBlobs.{InMemoryBlobs}
-use Rattle.pagable_core.specs.declared.storage.data.PagableData.{PagableData}
+use Rattle.pagable_core.specs.{Data.blob_of, declared.storage.data.PagableData.PagableData, declared.storage.in_memory.InMemoryBlobs.InMemoryBlobs}
 
 -- what stands under a key
 abbrev pub stored_in : HashMap ℕ (Arc PagableData Global) (BuildHasherDefault FoldHasher) → ℕ → Option Blob

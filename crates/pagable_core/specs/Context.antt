@@ -1,14 +1,7 @@
 -- What a serializer and a deserializer over memory stand for.
-use Rattle.std.specs.Prelude.{ℕ, ◌+◌, List, [], ◌∷◌, Result}
-use Rattle.std.specs.Prelude.{Vec}
-use Rattle.std.specs.Global.{Global}
+use Rattle.std.specs.{Global.Global, Prelude.ℕ, Prelude.◌+◌, Prelude.List, Prelude.[], Prelude.◌∷◌, Prelude.Result, Prelude.Vec}
 use Rattle.std.proofs.Common.{arith, ap}
-use Rattle.pagable_model.specs.declared.error.Error.{Error}
-use Rattle.pagable_model.specs.declared.numbers.ArcRef.{ArcRef}
-use Rattle.pagable_model.specs.Track.{Track, GoesOn}
-use Rattle.pagable_model.specs.Reading.{Rest}
-use Rattle.pagable_model.specs.Writing.{Out}
-use Rattle.pagable_model.specs.Standing.{Answer, Standing, MovesOn}
+use Rattle.pagable_model.specs.{Reading.Rest, Standing.Answer, Standing.Standing, Standing.MovesOn, Track.Track, Track.GoesOn, Writing.Out, declared.error.Error.Error, declared.numbers.ArcRef.ArcRef}
 use Rattle.pagable_core.specs.declared.context.writing.SerializedData.{SerializedData}
 
 -- nothing was written

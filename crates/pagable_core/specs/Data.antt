@@ -1,11 +1,8 @@
 -- A blob as the code keeps it, and what the hashes have taken.
 use Rattle.std.specs.Prelude.{◌≡◌, ◌%◌, ◌^◌, ◌+◌, List, ℕ, length, take}
 use Rattle.pagable_model.specs.Blob.{Blob, weight}
-use Rattle.pagable_core.specs.declared.storage.data.PagableData.{PagableData}
-use Rattle.pagable_core.specs.declared.storage.weigh.WeighHash.{WeighHash}
-use Rattle.pagable_core.specs.declared.storage.sha256.Sha256Key.{Sha256Key}
-use Rattle.sha2.specs.Sha256.{sha256}
-use Rattle.sha2.specs.Hashers.{Holds256}
+use Rattle.pagable_core.specs.{declared.storage.data.PagableData.PagableData, declared.storage.sha256.Sha256Key.Sha256Key, declared.storage.weigh.WeighHash.WeighHash}
+use Rattle.sha2.specs.{Hashers.Holds256, Sha256.sha256}
 
 -- the blob without where it lies in memory
 abbrev pub blob_of : PagableData → Blob

@@ -1,16 +1,9 @@
 -- A part one level further down, in any environment: what writing and reading it on the deeper level says of it.
 use Rattle.std.proofs.Common.{◌≡◌, ℕ, suc, ◌+◌, ◌-◌, ◌<◌, ◌≤◌, arith, refl, Result, Ok, Err, inl}
 use Rattle.std.specs.Prelude.{IfErr}
-use Rattle.pagable.specs.Error.{Error}
+use Rattle.pagable.specs.{ArcRef.ArcRef, Error.Error, Form.nested-form, Gives.deep_or, Meaning.Meaning, Reading.Rest, Reading.deepest, Reading.read, Reading.read_with, Reading.below, Shape.Shape}
+use Rattle.pagable.specs.{Shape.nested, Standing.Answer, Standing.handles_at, Writing.Out, Writing.nesting, Writing.WritesSome, Writing.NoForm, Writing.Refused}
 use Rattle.pagable.specs.Error.TheVariants as errors
-use Rattle.pagable.specs.ArcRef.{ArcRef}
-use Rattle.pagable.specs.Gives.{deep_or}
-use Rattle.pagable.specs.Meaning.{Meaning}
-use Rattle.pagable.specs.Shape.{Shape, nested}
-use Rattle.pagable.specs.Form.{nested-form}
-use Rattle.pagable.specs.Reading.{Rest, deepest, read, read_with, below}
-use Rattle.pagable.specs.Standing.{Answer, handles_at}
-use Rattle.pagable.specs.Writing.{Out, nesting, WritesSome, NoForm, Refused}
 
 module _ (parts : ℕ → Shape) (part : ℕ) where
   pub writes-down : (M : Meaning ArcRef → Type 0) (levels : ℕ) (old new : Out) → levels < deepest → WritesSome M (nesting (levels + 1) parts) (parts part) old new → WritesSome M (nesting levels parts) (nested part) old new

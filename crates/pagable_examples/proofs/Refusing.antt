@@ -1,12 +1,10 @@
 -- The refusals of a storage that fails once.
 use Rattle.std.proofs.Common.{◌≡◌, ◌+◌, ◌-◌, ◌^◌, ◌<◌, ◌≤◌, ℕ, Bool, true, false, min, arith, Option, Result, Ok, Err, inl, inr}
-use Rattle.std.specs.Prelude.{IfErr, ◌⊎◌}
 use Rattle.std.proofs.lemmas.Bool.{cases_lt}
-use Rattle.pagable_model.specs.declared.error.Error.{Error}
-use Rattle.pagable_model.specs.declared.error.Error.TheVariants as errors
-use Rattle.pagable_model.specs.Blob.{Blob}
-use Rattle.pagable_model.specs.Stored.{HasFailed, RefusesFetch, RefusesStore, RefusesFlush}
+use Rattle.std.specs.Prelude.{IfErr, ◌⊎◌}
+use Rattle.pagable_model.specs.{Blob.Blob, Stored.HasFailed, Stored.RefusesFetch, Stored.RefusesStore, Stored.RefusesFlush, declared.error.Error.Error}
 use Rattle.pagable_examples.specs.Failing.{own_failures, failures_of}
+use Rattle.pagable_model.specs.declared.error.Error.TheVariants as errors
 
 -- counts that are cut off at the greatest
 cut : (before after : ℕ) → before < after → HasFailed (min (2 ^ 64 - 1) before) (min (2 ^ 64 - 1) after)

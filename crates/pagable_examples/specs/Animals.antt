@@ -1,16 +1,9 @@
 -- The tags of animals, and what stands under each.
-use Rattle.std.specs.Prelude.{refl, ℕ, List, [], ◌∷◌, cond}
-use Rattle.std.specs.Int.{w8}
-use Rattle.std.specs.Str.{bytes_eq}
-use Rattle.pagable.specs.ArcRef.{ArcRef}
-use Rattle.pagable.specs.Carried.{of_tagged}
-use Rattle.pagable.specs.Meaning.{Meaning, none, number}
-use Rattle.pagable.specs.Shape.{Shape, nothing, unsigned}
-use Rattle.pagable.specs.Standing.{Is, SomeMeaning}
-use Rattle.pagable.specs.Tagged.{MeansTagged}
-use Rattle.pagable_examples.specs.declared.animal.Animal.{Animal}
+use Rattle.std.specs.{Int.w8, Prelude.refl, Prelude.ℕ, Prelude.List, Prelude.[], Prelude.◌∷◌, Prelude.cond, Str.bytes_eq}
+use Rattle.pagable.specs.{ArcRef.ArcRef, Carried.of_tagged, Meaning.Meaning, Meaning.none, Meaning.number, Shape.Shape, Shape.nothing, Shape.unsigned, Standing.Is, Standing.SomeMeaning}
+use Rattle.pagable.specs.{Tagged.MeansTagged}
+use Rattle.pagable_examples.specs.{declared.animal.Animal.Animal, declared.animal.AnimalReader.AnimalReader}
 use Rattle.pagable_examples.specs.declared.animal.Animal.TheVariants as animals
-use Rattle.pagable_examples.specs.declared.animal.AnimalReader.{AnimalReader}
 use Rattle.pagable_examples.specs.declared.animal.AnimalReader.TheVariants as readers
 
 -- "Cat" and "Dog"

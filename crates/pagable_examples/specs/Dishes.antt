@@ -1,13 +1,7 @@
 -- What a dish means: its name and its weight, one after the other. So it means one thing, and may be a key.
-use Rattle.std.specs.Prelude.{◌≡◌, ◌&&◌, nat_eq, refl}
-use Rattle.std.specs.String.{string_bytes, string_eq}
-use Rattle.pagable.specs.ArcRef.{ArcRef}
-use Rattle.pagable.specs.Keyed.{number_is_same, text_is_same}
-use Rattle.pagable.specs.KeyParts.{pair_is_same}
-use Rattle.pagable.specs.Keys.{same_key}
-use Rattle.pagable.specs.Lifted.{MeansPair}
-use Rattle.pagable.specs.Meaning.{Meaning, number, text, pair}
-use Rattle.pagable.specs.Standing.{Is, SomeMeaning}
+use Rattle.std.specs.{Prelude.◌≡◌, Prelude.◌&&◌, Prelude.nat_eq, Prelude.refl, String.string_bytes, String.string_eq}
+use Rattle.pagable.specs.{ArcRef.ArcRef, KeyParts.pair_is_same, Keyed.number_is_same, Keyed.text_is_same, Keys.same_key, Lifted.MeansPair, Meaning.Meaning, Meaning.number, Meaning.text, Meaning.pair}
+use Rattle.pagable.specs.{Standing.Is, Standing.SomeMeaning}
 use Rattle.pagable_examples.specs.declared.dish.Dish.{Dish}
 
 abbrev pub dish_means : Dish → Meaning ArcRef → Type 0

@@ -1,14 +1,8 @@
 -- What expressions mean, and how they are spelled.
-use Rattle.std.specs.Prelude.{◌≡◌, ℕ, OnOk, IfErr, Result, Ok, Err}
-use Rattle.std.specs.Int.{w64}
-use Rattle.pagable.specs.Error.{Error}
-use Rattle.pagable.specs.ArcRef.{ArcRef}
-use Rattle.pagable.specs.Gives.{memory, deep_or}
-use Rattle.pagable.specs.Meaning.{Meaning, number, pair, success, failure}
-use Rattle.pagable.specs.Shape.{Shape, unsigned, both, nested, outcome}
-use Rattle.pagable.specs.Reading.{Rest, read}
-use Rattle.pagable.specs.Standing.{Answer, Standing, MovesOn, GivesSome, Is, handles_at}
-use Rattle.pagable.specs.Writing.{Out, nesting, WritesSome, Refused, Grows}
+use Rattle.std.specs.{Int.w64, Prelude.◌≡◌, Prelude.ℕ, Prelude.OnOk, Prelude.IfErr, Prelude.Result, Prelude.Ok, Prelude.Err}
+use Rattle.pagable.specs.{ArcRef.ArcRef, Error.Error, Gives.memory, Gives.deep_or, Meaning.Meaning, Meaning.number, Meaning.pair, Meaning.success, Meaning.failure, Reading.Rest, Reading.read}
+use Rattle.pagable.specs.{Shape.Shape, Shape.unsigned, Shape.both, Shape.nested, Shape.outcome, Standing.Answer, Standing.Standing, Standing.MovesOn, Standing.GivesSome, Standing.Is}
+use Rattle.pagable.specs.{Standing.handles_at, Writing.Out, Writing.nesting, Writing.WritesSome, Writing.Refused, Writing.Grows}
 use Rattle.pagable_examples.specs.declared.expression.Expression.{Expression, Number, Sum'}
 
 -- a number, or two expressions, each one level further down

@@ -1,14 +1,7 @@
 -- What a sighting means: the animal, the place, and how many there were.
-use Rattle.std.specs.Prelude.{refl, ℕ, List}
-use Rattle.std.specs.Borrow.{Bor}
-use Rattle.pagable.specs.ArcRef.{ArcRef}
-use Rattle.pagable.specs.Lifted.{MeansPair, pair_has_meaning}
-use Rattle.pagable.specs.Meaning.{Meaning, number, lifted}
-use Rattle.pagable.specs.Standing.{Is, SomeMeaning}
-use Rattle.pagable.specs.StaticValue.{StaticValue}
-use Rattle.pagable_examples.specs.Animals.{animal_means, animal_has_meaning}
-use Rattle.pagable_examples.specs.Words.{word}
-use Rattle.pagable_examples.specs.declared.sighting.Sighting.{Sighting}
+use Rattle.std.specs.{Borrow.Bor, Prelude.refl, Prelude.ℕ, Prelude.List}
+use Rattle.pagable.specs.{ArcRef.ArcRef, Lifted.MeansPair, Lifted.pair_has_meaning, Meaning.Meaning, Meaning.number, Meaning.lifted, Standing.Is, Standing.SomeMeaning, StaticValue.StaticValue}
+use Rattle.pagable_examples.specs.{Animals.animal_means, Animals.animal_has_meaning, Words.word, declared.sighting.Sighting.Sighting}
 
 -- a place means its text, whatever its index
 abbrev pub place_of : StaticValue (Bor (List ℕ)) → Meaning ArcRef

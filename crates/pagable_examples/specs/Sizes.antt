@@ -1,9 +1,6 @@
 -- The size of a glass: how many tenths of a litre it holds, where it is a large one.
 use Rattle.std.specs.Prelude.{ℕ, refl, Option, Some, None}
-use Rattle.pagable.specs.ArcRef.{ArcRef}
-use Rattle.pagable.specs.Lifted.{MeansOption, means-none, means-some}
-use Rattle.pagable.specs.Meaning.{Meaning, number, absent, present}
-use Rattle.pagable.specs.Standing.{Is, SomeMeaning}
+use Rattle.pagable.specs.{ArcRef.ArcRef, Lifted.MeansOption, Lifted.means-none, Lifted.means-some, Meaning.Meaning, Meaning.number, Meaning.absent, Meaning.present, Standing.Is, Standing.SomeMeaning}
 use Rattle.pagable_examples.specs.declared.size.Size.{Size}
 use Rattle.pagable_examples.specs.declared.size.Size.TheVariants as sizes
 

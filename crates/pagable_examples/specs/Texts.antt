@@ -1,13 +1,8 @@
 -- What the nodes of texts mean, and how they are spelled.
-use Rattle.std.specs.Prelude.{◌≡◌, refl, ℕ, zero, suc, [], Option, Some, None}
-use Rattle.std.specs.Arc.{arc_value}
-use Rattle.std.specs.String.{string_bytes}
-use Rattle.pagable.specs.Meaning.{Meaning}
-use Rattle.pagable.specs.Meaning as meanings
-use Rattle.pagable.specs.References.{references_in, SameReferences}
-use Rattle.pagable.specs.Shape.{Shape, text}
-use Rattle.pagable.specs.ArcRef.{ArcRef}
+use Rattle.std.specs.{Arc.arc_value, Prelude.◌≡◌, Prelude.refl, Prelude.ℕ, Prelude.zero, Prelude.suc, Prelude.[], Prelude.Option, Prelude.Some, Prelude.None, String.string_bytes}
+use Rattle.pagable.specs.{ArcRef.ArcRef, Meaning.Meaning, References.references_in, References.SameReferences, Shape.Shape, Shape.text}
 use Rattle.pagable_examples.specs.declared.text.TextNode.{TextNode}
+use Rattle.pagable.specs.Meaning as meanings
 
 -- the one type of texts has the number 0
 abbrev pub shape_of : ℕ → Option Shape

@@ -1,11 +1,7 @@
 -- What static texts and bytes mean.
-use Rattle.std.specs.Prelude.{◌≡◌, refl, ℕ, List, [], ◌∷◌, map, IsTrue}
-use Rattle.std.specs.Borrow.{Bor}
-use Rattle.std.specs.Str.{bytes_eq}
-use Rattle.std.proofs.Common.{ap}
-use Rattle.std.proofs.lemmas.Slice.Eq.{bytes_eq-Decides}
-use Rattle.pagable.specs.Canonical.{HasNoReference}
-use Rattle.pagable.specs.Meaning.{Meaning, text, number, sequence}
+use Rattle.std.specs.{Borrow.Bor, Prelude.◌≡◌, Prelude.refl, Prelude.ℕ, Prelude.List, Prelude.[], Prelude.◌∷◌, Prelude.map, Prelude.IsTrue, Str.bytes_eq}
+use Rattle.std.proofs.{Common.ap, lemmas.Slice.Eq.bytes_eq-Decides}
+use Rattle.pagable.specs.{Canonical.HasNoReference, Meaning.Meaning, Meaning.text, Meaning.number, Meaning.sequence}
 
 abbrev pub of_text : List ℕ → Meaning ⊥
 of_text bytes = text bytes

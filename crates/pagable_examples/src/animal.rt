@@ -1,12 +1,8 @@
 //! Animals, which are written as a tag and a body, and the readers of the bodies.
 
 ghost use Rattle.std.specs.Prelude.{◌≡◌, refl};
-ghost use Rattle.pagable.specs.Carried.{tagged_by};
 ghost use Rattle.pagable.specs.Causes.{memory_or_is_own_reading, memory_or_may_refuse_writing, long_or_may_refuse_writing, never_is_own_reading};
-ghost use Rattle.pagable.specs.Gives.{memory_or, long_or, never};
-ghost use Rattle.pagable.specs.Standing.{Is};
-ghost use Rattle.pagable.specs.Statics.{unregistered, unregistered_may_refuse_writing};
-ghost use Rattle.pagable.specs.Tagged.{grammars};
+ghost use Rattle.pagable.specs.{Carried.tagged_by, Gives.memory_or, Gives.long_or, Gives.never, Standing.Is, Statics.unregistered, Statics.unregistered_may_refuse_writing, Tagged.grammars};
 ghost use Rattle.pagable_examples.specs.Animals.{animal_means, animal_has_meaning, tag_of, written, body_of, tag_read, grammar_of};
 
 use crate::zoo::Zoo;

@@ -1,13 +1,9 @@
 //! A struct of named fields: they are written one after the other, and nothing else.
 
 ghost use Rattle.pagable.specs.Causes.{either_is_own_reading, either_may_refuse_writing, memory_is_own_reading, memory_may_refuse_writing, never_is_own_reading, text_may_refuse_writing};
-ghost use Rattle.pagable.specs.Gives.{either, long_or, memory, never};
-ghost use Rattle.pagable.specs.KeyParts.{both_refers_to_nothing};
-ghost use Rattle.pagable.specs.Keyed.{text_refers_to_nothing, unsigned_refers_to_nothing};
-ghost use Rattle.pagable.specs.Lifted.{MeansPair};
-ghost use Rattle.pagable.specs.OneForm.{both_has_one_form, text_has_one_form, unsigned_has_one_form};
-ghost use Rattle.pagable.specs.Shape.{both, text, unsigned};
-ghost use Rattle.pagable.specs.ReadBack.{both_is_read, text_is_read, unsigned_is_read};
+ghost use Rattle.pagable.specs.{Gives.either, Gives.long_or, Gives.memory, Gives.never, KeyParts.both_refers_to_nothing, Keyed.text_refers_to_nothing, Keyed.unsigned_refers_to_nothing};
+ghost use Rattle.pagable.specs.{Lifted.MeansPair, OneForm.both_has_one_form, OneForm.text_has_one_form, OneForm.unsigned_has_one_form, ReadBack.both_is_read, ReadBack.text_is_read};
+ghost use Rattle.pagable.specs.{ReadBack.unsigned_is_read, Shape.both, Shape.text, Shape.unsigned};
 ghost use Rattle.pagable_examples.specs.Dishes.{dish_means, dish_meaning, dish_is_meaning, dish_has_meaning, dish_single, dish_is_same};
 ghost use Rattle.std.specs.Int.{w16};
 

@@ -1,15 +1,10 @@
 //! A struct that holds a tagged value and a static value beside a number.
 
 ghost use Rattle.std.specs.Int.{w16};
-ghost use Rattle.pagable.specs.Carried.{tagged_by};
 ghost use Rattle.pagable.specs.Causes.{either_is_own_reading, either_may_refuse_writing, memory_may_refuse_writing, memory_or_is_own_reading, memory_or_may_refuse_writing, long_or_may_refuse_writing, never_is_own_reading};
-ghost use Rattle.pagable.specs.Gives.{either, long_or, memory, memory_or, never};
-ghost use Rattle.pagable.specs.Shape.{both, static_value, unsigned};
-ghost use Rattle.pagable.specs.Statics.{meanings_of, unregistered, unregistered_may_refuse_writing};
-ghost use Rattle.pagable.specs.Tagged.{grammars};
-ghost use Rattle.pagable_examples.specs.Animals.{written, grammar_of};
-ghost use Rattle.pagable_examples.specs.Sightings.{sighting_means, sighting_has_meaning};
-ghost use Rattle.pagable_examples.specs.Words.{word};
+ghost use Rattle.pagable.specs.{Carried.tagged_by, Gives.either, Gives.long_or, Gives.memory, Gives.memory_or, Gives.never, Shape.both, Shape.static_value, Shape.unsigned, Statics.meanings_of};
+ghost use Rattle.pagable.specs.{Statics.unregistered, Statics.unregistered_may_refuse_writing, Tagged.grammars};
+ghost use Rattle.pagable_examples.specs.{Animals.written, Animals.grammar_of, Sightings.sighting_means, Sightings.sighting_has_meaning, Words.word};
 
 use crate::animal::Animal;
 use crate::zoo::Zoo;

@@ -1,8 +1,7 @@
 //! An enum of two cases that is carried as an `Option`: the shortest way where one of them has no part.
 
 ghost use Rattle.std.specs.Prelude.{◌≡◌};
-ghost use Rattle.pagable.specs.Causes.{memory_may_refuse_writing, memory_or_may_refuse_writing, never_is_own_reading};
-ghost use Rattle.pagable.specs.Gives.{memory};
+ghost use Rattle.pagable.specs.{Causes.memory_may_refuse_writing, Causes.memory_or_may_refuse_writing, Causes.never_is_own_reading, Gives.memory};
 ghost use Rattle.pagable_examples.specs.Sizes.{tenths_of};
 
 use pagable::{

@@ -1,12 +1,7 @@
 //! A type that is written and read eagerly: it holds no reference, and needs not be carried besides.
 
-ghost use Rattle.std.specs.Prelude.{refl};
-ghost use Rattle.std.specs.Int.{w16};
-ghost use Rattle.pagable.specs.Causes.{memory_may_refuse_writing, never_is_own_reading};
-ghost use Rattle.pagable.specs.Gives.{memory, never};
-ghost use Rattle.pagable.specs.Meaning.{number};
-ghost use Rattle.pagable.specs.Shape.{unsigned};
-ghost use Rattle.pagable.specs.Standing.{Is};
+ghost use Rattle.std.specs.{Int.w16, Prelude.refl};
+ghost use Rattle.pagable.specs.{Causes.memory_may_refuse_writing, Causes.never_is_own_reading, Gives.memory, Gives.never, Meaning.number, Shape.unsigned, Standing.Is};
 
 use pagable::{
     EagerlyCarried, Env, Error, PagableDeserializer, PagableEagerDeserialize,

@@ -1,10 +1,7 @@
 //! Bytes that are read one after another.
 
 ghost use Rattle.std.specs.Prelude.{◌≡◌, ◌≤◌, length, OnErr};
-ghost use Rattle.pagable_model.specs.Track.{Track, left, GoesOn};
-ghost use Rattle.pagable_model.specs.Gives.{Gives, never};
-ghost use Rattle.pagable_model.specs.Numbers.{byte_at};
-ghost use Rattle.pagable_model.specs.Basic.{bytes_at};
+ghost use Rattle.pagable_model.specs.{Basic.bytes_at, Gives.Gives, Gives.never, Numbers.byte_at, Track.Track, Track.left, Track.GoesOn};
 
 mod numbers;
 mod signed;

@@ -4,9 +4,8 @@ use Rattle.pagable_loads.proofs.Words.{ArcRef, HandleNumber, Kind, Blob, longest
 use Rattle.pagable_loads.proofs.Words.{OwnsLoad, refused_if, load_fault, from_store, AskCall, AdoptCall, EndCall, HandOverCall, DropCall, LoadCloses, need_of, needs_nested, needs_lazy, root_frame}
 use Rattle.pagable_loads.proofs.Words.{nested_frame, with_got, handles_of, MakesNode, ReadsNode, ReadsRoot, LoadIs, IsOfCell, IsOfKey, Meets, Does, PagerState, Moves, ReadingBrings, IsNewNode}
 use Rattle.pagable_loads.proofs.Words.{IsCellOf, Told, Called, ReadingStep, Brings, IsMade, AsksFor, TakesLazily, AdoptsValue, frame_of, frames_of, onto, reading_of, is_cell, IsLoadOf, Met, Tries}
-use Rattle.pagable_loads.proofs.Words.{Steps, Drops, nat_tests}
+use Rattle.pagable_loads.proofs.{Needed.length_onto, Words.Steps, Words.Drops, Words.nat_tests}
 use Rattle.pagable_loads.specs.{declared.reading.Frame.Frame as Held, declared.reading.Reading.Reading as Own}
-use Rattle.pagable_loads.proofs.Needed.{length_onto}
 use Rattle.pagable_model.specs.declared.error.Error.TheVariants as errors
 use Rattle.either.specs.declared.Either.TheVariants as eithers
 use Rattle.pagable_world.specs.declared.calls.Want.TheVariants as wants

@@ -4,8 +4,7 @@ ghost use Rattle.std.specs.Prelude.{◌≡◌, ◌≤◌, length, IfOk, IfErr, I
 ghost use Rattle.pagable_model.specs.declared.numbers.HandleNumber.{HandleNumber as Handle};
 ghost use Rattle.pagable_world.specs.Workers.{claim_fault, is_workers_at, WorkerEnds};
 ghost use Rattle.pagable_world.specs.{World.Alike, Cascade.FallsAnyhow, Calls.ScheduleCall, Calls.TakeCall, Access.Called, Access.Told, Access.WorkerStarts, Access.EntryHas};
-ghost use Rattle.pagable_loads.specs.Working.{fault_in, TakesReference, StartsEntry, RefusesEntry, acting_after, as_caller};
-ghost use Rattle.pagable_loads.specs.Telling.{Tells, values_at};
+ghost use Rattle.pagable_loads.specs.{Telling.Tells, Telling.values_at, Working.fault_in, Working.TakesReference, Working.StartsEntry, Working.RefusesEntry, Working.acting_after, Working.as_caller};
 ghost use Rattle.pagable_model.specs.declared.error.Error.TheVariants as errors;
 
 use crate::access::Access;

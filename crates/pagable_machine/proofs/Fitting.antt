@@ -1,8 +1,7 @@
 -- What a machine keeps of a worker stays in step with the pager through each event that the worker doesn't make.
 use Rattle.pagable_machine.proofs.Words.{nat_tests, common_steps, rules, ◌≡◌, ℕ, ◌≤◌, sym, ◌∙◌, arith, ArcRef, HandleNumber, owner_worker, Core, HandlesAreWhole, StandsAt, stands-whole, Ghosts}
-use Rattle.pagable_machine.proofs.Words.{Task, HoldsPin, IsLoading, IsOfKind, TaskFits, Walk, IsWalkKept}
+use Rattle.pagable_machine.proofs.{Passing.Passes, Words.Task, Words.HoldsPin, Words.IsLoading, Words.IsOfKind, Words.TaskFits, Words.Walk, Words.IsWalkKept}
 use Rattle.pagable_loads.specs.declared.reading.Reading.{Reading as Own}
-use Rattle.pagable_machine.proofs.Passing.{Passes}
 use Rattle.pagable_walk.specs.declared.tasks.Task.TheVariants as tasks
 
 module _ {v : ℕ} {w w' : Core} (whole : HandlesAreWhole w) (passes : Passes v w w') where

@@ -3,10 +3,9 @@ use Rattle.pagable_machine.proofs.Words.{Does, CallBrings, OnlyLess, core_in, pl
 use Rattle.pagable_machine.proofs.Words.{inl, inr, refl, sym, ap, subst, ◌∙◌, Result, is_some, Arc, Global, PagableData, Error, HandleNumber, LoadNumber, Beginning, Call, Reply, LoadReply, Blob}
 use Rattle.pagable_machine.proofs.Words.{Core, Seen, Values, Written, load_fault, DropCall, fresh, Moves, PagerState, WellFormed, same-number, same_some, reading_of, PagerView, Telling, state_in}
 use Rattle.pagable_machine.proofs.Words.{ReadsAs, Ghosts, plain, Held, Serves, BeginsNoKey, Forgets, Holding, IsPrepared, IsTaken, KeepsOne, Kept, Makes, Stepped, CountsStep, rest_after, Answer}
-use Rattle.pagable_machine.proofs.Words.{Drives, Given, IsInStep, Readings, holding, kept_at, over}
+use Rattle.pagable_machine.proofs.{Keeping.call-made, Keeping.key-refused, Keeping.key-starts, Keeping.starts, Loading.faulty, Loading.never-typed, Loading.no-place, Loading.own-steps}
+use Rattle.pagable_machine.proofs.{Loading.refuses-step, Words.Drives, Words.Given, Words.IsInStep, Words.Readings, Words.holding, Words.kept_at, Words.over}
 use Rattle.pagable_loads.specs.declared.reading.Reading.{Reading as Own}
-use Rattle.pagable_machine.proofs.Keeping.{call-made, key-refused, key-starts, starts}
-use Rattle.pagable_machine.proofs.Loading.{faulty, never-typed, no-place, own-steps, refuses-step}
 use Rattle.pagable_model.specs.declared.error.Error.TheVariants as errors
 use Rattle.pagable_world.specs.declared.answers.Beginning.TheVariants as beginnings
 use Rattle.pagable_world.specs.declared.calls.Call.TheVariants as calls

@@ -1,8 +1,7 @@
 -- What a load asks for, by the tables first and then by the storage.
 use Rattle.pagable_pager.proofs.Words.{◌≡◌, ℕ, Ok, Err, Some, None, Result, refl, inl, Option, HandleNumber, Kind, LoadNumber, Owner, Error, Core, AskCall, from_cache, Spares, spares-alike, asks}
-use Rattle.pagable_pager.proofs.Words.{AsksKnown, arith, nat_tests}
+use Rattle.pagable_pager.proofs.{Shut.IsBare, Shut.bare-alike, Words.AsksKnown, Words.arith, Words.nat_tests}
 use Rattle.pagable_world.specs.Pager.{IsWhole}
-use Rattle.pagable_pager.proofs.Shut.{IsBare, bare-alike}
 use Rattle.pagable_world.specs.declared.calls.Want.TheVariants as wants
 
 module _ {w w' : Core} {me : Owner} {l : LoadNumber} {kind : Kind} {key : ℕ} where

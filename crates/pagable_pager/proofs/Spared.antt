@@ -1,8 +1,7 @@
 -- A step by which no value comes or goes leaves the pager in step.
 use Rattle.pagable_pager.proofs.Words.{◌≡◌, true, false, refl, subst, sym, LoadNumber, is_owner, MayOwnLoad, Owner, NotValues, Spares, spared, Tables, IsWhole, ArePlaced, MayHold, plain_of}
 use Rattle.pagable_pager.proofs.Words.{AreLater, is_valued, not-a-value, not-list, may-hold, placed, may-own, PagerView, Telling, Spelling, IsPager, core_in, state_in, values_of, is_at_work}
-use Rattle.pagable_pager.proofs.Words.{arith, nat_tests}
-use Rattle.pagable_pager.proofs.AtWork.{may-begin}
+use Rattle.pagable_pager.proofs.{AtWork.may-begin, Words.arith, Words.nat_tests}
 use Rattle.pagable_world.specs.Pager as pager
 use Rattle.pagable_world.specs.declared.handles.Owner.TheVariants as owners
 

@@ -2,21 +2,12 @@
 //! reference to what is static, as `&'static str`: nothing is proved yet of a `&'static T` with a type parameter `T`.
 
 ghost use Rattle.std.specs.Prelude.{◌≡◌, ◌<◌, ◌≤◌, ◌↔◌, ⊤, refl, List, length, map, Option, Some, Err, OnOk, IfOk, IfErr, IfSome, IfNone, IsTrue, vec_len};
-ghost use Rattle.std.specs.List.{slice_get};
-ghost use Rattle.std.specs.List.Sorted.{IsPermutation, IsSorted, IsStable};
+ghost use Rattle.std.specs.{Cmp.Rules.comparing, Cmp.Rules.hashing, List.slice_get, List.Sorted.IsPermutation, List.Sorted.IsSorted, List.Sorted.IsStable};
 ghost use Rattle.std.proofs.Common.{rules};
-ghost use Rattle.std.specs.Cmp.Rules.{comparing, hashing};
-ghost use Rattle.pagable_model.specs.Basic.{longest};
-ghost use Rattle.pagable_model.specs.Canonical.{HasNoReference};
-ghost use Rattle.pagable_model.specs.Gives.{Gives, never, memory_or};
-ghost use Rattle.pagable_model.specs.Meaning.{Meaning, lifted};
-ghost use Rattle.pagable_model.specs.Reading.{read, registered};
-ghost use Rattle.pagable_model.specs.Shape.{static_value};
-ghost use Rattle.pagable_model.specs.Standing.{handles_at, GivesSome, Is, MovesOn};
-ghost use Rattle.pagable_model.specs.Writing.{nesting, WritesSome, Refused, Grows};
-ghost use Rattle.pagable_model.specs.Lengths.{long_or_memory};
-ghost use Rattle.pagable_model.specs.Causes.{never_is_own_reading, memory_or_may_refuse_writing};
 ghost use Rattle.pagable_model.specs.Statics.{HasEqual, NoEqualBelow, StandsAt, meanings_of, unregistered, unregistered_may_refuse_writing};
+ghost use Rattle.pagable_model.specs.{Basic.longest, Canonical.HasNoReference, Causes.never_is_own_reading, Causes.memory_or_may_refuse_writing, Gives.Gives, Gives.never, Gives.memory_or};
+ghost use Rattle.pagable_model.specs.{Lengths.long_or_memory, Meaning.Meaning, Meaning.lifted, Reading.read, Reading.registered, Shape.static_value, Standing.handles_at, Standing.GivesSome};
+ghost use Rattle.pagable_model.specs.{Standing.Is, Standing.MovesOn, Writing.nesting, Writing.WritesSome, Writing.Refused, Writing.Grows};
 ghost use Rattle.pagable_registries.specs.StaticValues.{static_is_read, static_is_same, static_refers_to_nothing};
 
 use pagable_codec::deserializer::PagableDeserializer;

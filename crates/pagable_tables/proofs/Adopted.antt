@@ -1,7 +1,6 @@
 -- A node that the cache knows from now on.
 use Rattle.pagable_tables.proofs.Words.{◌≡◌, ℕ, ◌==◌, ◌&&◌, Bool, true, false, if◌then◌else◌, refl, ap, ◌∙◌, arith, Option, Some, inl, inr, ◌≢◌, ◌⊎◌, nat_tests, Kind}
-use Rattle.pagable_tables.proofs.Words.{NodeNumber, Core, Alike, with_cached}
-use Rattle.pagable_tables.proofs.Worlds.{usable-same}
+use Rattle.pagable_tables.proofs.{Words.NodeNumber, Words.Core, Words.Alike, Words.with_cached, Worlds.usable-same}
 
 -- the cache of the second world learns what that of the first does
 module _ (w w' : Core) (kind : Kind) (key : ℕ) (n : NodeNumber) (cache : ℕ → ℕ → Option ℕ) (a : Alike w w') (here : cache kind.0 key ≡ Some n.0) (others : (k q : ℕ) → (k ≢ kind.0) ⊎ (q ≢ key) → cache k q ≡ w'.cache k q) where

@@ -2,8 +2,7 @@
 use Rattle.pagable_tables.proofs.Words.{◌≡◌, ℕ, ◌+◌, ◌≤◌, ◌&&◌, Bool, true, false, not, if◌then◌else◌, List, [], ◌∷◌, refl, ap, sym, ◌∙◌, arith, Option, Some, None, inl, inr, zero, suc}
 use Rattle.pagable_tables.proofs.Words.{is_some, nat_lt, nat_eq, nat_tests, sum_by-cons, sum_by-append, sum_by-le-sum_by, OptionalDataKey, HandleRow, one, times, if_there, is_at, is_pin}
 use Rattle.pagable_tables.proofs.Words.{is_owned_by, owner_value, held, pins, has_key, Core, Cell, IsWithin, IsClosed, is_keyed, is_outside, left_rows, held_outside, pins_outside, Counts}
-use Rattle.pagable_tables.proofs.Words.{Holdings, live, counts_at, keyed_in, key_in, cell_in, HasFallen, SoFar}
-use Rattle.pagable_tables.proofs.Left.{times-left, entries-none}
+use Rattle.pagable_tables.proofs.{Left.times-left, Left.entries-none, Words.Holdings, Words.live, Words.counts_at, Words.keyed_in, Words.key_in, Words.cell_in, Words.HasFallen, Words.SoFar}
 
 -- what is outside the one set is outside the other, or between them
 cut : (f : HandleRow → Bool) (gone s : ℕ → Bool) (rows : List HandleRow) → times (λ h. f h && not (s h.number.0)) rows

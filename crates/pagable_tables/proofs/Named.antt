@@ -1,8 +1,7 @@
 -- Handles that references name come to another owner.
 use Rattle.pagable_tables.proofs.Words.{◌≡◌, ℕ, ◌+◌, ◌<◌, ◌≤◌, ◌==◌, ◌||◌, true, false, List, [], ◌∷◌, ◌++◌, take, drop, drop-cons, get_or, length, add-one, refl, ap, sym, ◌∙◌, arith, Some}
 use Rattle.pagable_tables.proofs.Words.{None, nat_tests, ◌≢◌, drop_all, take-suc, Error, ArcRef, HandleNumber, HandleRow, Owner, is_in, or_else, find_row, Core, reference_fault}
-use Rattle.pagable_tables.proofs.Words.{references_fault, only_handle, moved, is_named_by}
-use Rattle.pagable_tables.proofs.Owned.{owned-by}
+use Rattle.pagable_tables.proofs.{Owned.owned-by, Words.references_fault, Words.only_handle, Words.moved, Words.is_named_by}
 
 -- no row has the number
 pub moved-none : (h : HandleNumber) (owner : Owner) (rows : List HandleRow) → find_row h.0 rows ≡ None → moved (only_handle h) owner rows ≡ rows

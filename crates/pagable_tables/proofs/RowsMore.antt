@@ -1,7 +1,6 @@
 -- One handle more has gone: what rows are left, where no entry is that handle.
 use Rattle.pagable_tables.proofs.Words.{◌≡◌, ℕ, ◌+◌, ◌&&◌, Bool, List, ◌++◌, ap, ◌∙◌, append_assoc, filter-append, HandleRow, times, is_handle, Core, left_rows, only_handle, Holdings}
-use Rattle.pagable_tables.proofs.Words.{live, entries_of, is_listing, Leaves, GivesUp, SoFar, arith, nat_tests}
-use Rattle.pagable_tables.proofs.Left.{and_one, left-more, left-none}
+use Rattle.pagable_tables.proofs.{Left.and_one, Left.left-more, Left.left-none, Words.live, Words.entries_of, Words.is_listing, Words.Leaves, Words.GivesUp, Words.SoFar, Words.arith, Words.nat_tests}
 
 rows-leaves : (rows entries : List HandleRow) (gone : ℕ → Bool) (old new : Holdings) (x : HandleRow) (wanted listed : Bool) → Leaves old x wanted listed new
     → live old.handles.places.items ≡ left_rows gone rows ++ entries → times (is_handle x.number.0) entries ≡ 0

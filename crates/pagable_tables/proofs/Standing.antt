@@ -1,7 +1,6 @@
 -- How many steps are enough, and where no node falls.
 use Rattle.pagable_tables.proofs.Words.{◌≡◌, ℕ, ◌≤◌, Bool, true, false, List, [], ◌∷◌, length, ap, sym, ◌∙◌, arith, ◌≢◌, sum_by-cons, HandleRow, one, live, counts_at, refs_at, Fits, nat_tests}
-use Rattle.pagable_tables.proofs.Words.{IsFalling, falls_in, is_valued, valued, owns_nothing, Holdings}
-use Rattle.pagable_tables.proofs.Fitting.{first-waits}
+use Rattle.pagable_tables.proofs.{Fitting.first-waits, Words.IsFalling, Words.falls_in, Words.is_valued, Words.valued, Words.owns_nothing, Words.Holdings}
 
 pub valued-le : (rows : List HandleRow) → valued rows ≤ length rows
 valued-le [] = omega arith

@@ -1,9 +1,8 @@
 -- Items that are put in one after another as they are read.
 use Rattle.pagable_traits.proofs.Words.{◌≡◌, subst, List, [], ◌∷◌, ◌++◌, length, refl, sym, ap, ◌∙◌, append_assoc, ℕ, zero, suc, Result, Ok, Err, inl, inr, append-nil, ◌⊎◌, Error, ArcRef, ◌>>=◌}
 use Rattle.pagable_traits.proofs.Words.{length_at, never, Meaning, put_all, Shape, list, Rest, Gets, Context, items, bytes_of, counted, seen, read, read_with, GivesSome, MeanAll, mean-none}
-use Rattle.pagable_traits.proofs.Words.{MeansList, PutInTurn, Collected, arith}
+use Rattle.pagable_traits.proofs.{Items.mean-length, Items.mean_last, Words.MeansList, Words.PutInTurn, Words.Collected, Words.arith}
 use Rattle.std.specs.{Prelude.IfOk, Prelude.vec_len, declared.vec.Vec.Vec}
-use Rattle.pagable_traits.proofs.Items.{mean-length, mean_last}
 
 pub collected_none : {T : Type 0} (M : T → Meaning ArcRef → Type 0) (puts : List T → T → List T → Type 0) (now : List T) → now ≡ [] → Collected M puts now []
 unfolding PutInTurn

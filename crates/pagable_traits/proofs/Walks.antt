@@ -2,10 +2,9 @@
 use Rattle.pagable_traits.proofs.Words.{◌≡◌, ℕ, ◌<◌, ◌≤◌, List, [], ◌∷◌, ◌++◌, length, map, arith, refl, sym, ◌∙◌, Option, Some, Result, Ok, Err, inl, inr, Bor, OnOk, IfErr, Error, ArcRef}
 use Rattle.pagable_traits.proofs.Words.{longest, length_form, Meaning, sequence, Shape, list, list-form, Out, Nesting, FormAt, FormsAt, WritesSome, WritesSomeAll, added, NoFormOfSome}
 use Rattle.pagable_traits.proofs.Words.{NoFormsOfSome, Refused, RefusedAll, SomeMeaning, MeanAll, mean-none, mean-more, MeansList, MeansPair, items_have_meanings, then, memory_refuses, WritesEach}
-use Rattle.pagable_traits.proofs.Words.{WritesCounted, RefusedAmong, RefusedCounted}
+use Rattle.pagable_traits.proofs.{Items.mean-length, Items.no-head, Items.no-tail, Items.list-parts, Words.WritesCounted, Words.RefusedAmong, Words.RefusedCounted}
 use Rattle.std.proofs.{lemmas.Iterator.YieldsList, lemmas.Iterator.YieldsList-from_slice, lemmas.Iterator.items_from_drains, lemmas.Iterator.Consumers.YieldsList-from_rest}
 use Rattle.std.specs.{Iterator.Yields, Iterator.AlwaysYields, Map.Iter.TakesFirst, Map.Iter.deref, Map.Iter.deref_pair, Slice.Iter.iter_rest, Slice.Iter.iter_steps}
-use Rattle.pagable_traits.proofs.Items.{mean-length, no-head, no-tail, list-parts}
 
 -- ---- what a walk shows
 

@@ -1,7 +1,6 @@
 -- Results have their trees, one for each reference.
-use Rattle.std.proofs.lemmas.Grind.{common_steps}
-use Rattle.std.proofs.lemmas.Bool.Decides.{nat_tests}
 use Rattle.std.proofs.Common.{ℕ, ◌≡◌, List, [], ◌∷◌, map, length, get_or, drop, sym, ap, subst, arith}
+use Rattle.std.proofs.{lemmas.Bool.Decides.nat_tests, lemmas.Grind.common_steps}
 use mathlib.Core.Logic.{∥∥₁_elim, ∥∥₁_map, ∥∥₁_prop}
 use Rattle.std.proofs.lemmas.Grind.{merely}
 use Rattle.pagable_model.specs.{Blob.key_of, Merkle.blob_of, declared.numbers.ArcRef.ArcRef}

@@ -1,8 +1,6 @@
 -- A turn at what was written is the worker's.
-use Rattle.std.proofs.lemmas.Grind.{common_steps}
-use Rattle.std.proofs.lemmas.Bool.Decides.{nat_tests}
 use Rattle.std.proofs.Common.{ℕ, ◌≡◌, true, List, [], ◌∷◌, length, Some, None, Result, Ok, Err, inl, refl, sym, ap, subst, ◌∙◌, arith}
-use Rattle.std.proofs.lemmas.List.{length-map}
+use Rattle.std.proofs.{lemmas.Bool.Decides.nat_tests, lemmas.Grind.common_steps, lemmas.List.length-map}
 use Rattle.std.specs.{Arc.arc_value, Prelude.Option}
 use Rattle.pagable_model.specs.{Blob.key_of, Merkle.blob_of, declared.error.Error.Error}
 use Rattle.pagable_world.specs.World.{Core, Shelf, SameShelf, Todo, Values, to_publish, to_release, to_set, was_refused, answer_of_fault, published}

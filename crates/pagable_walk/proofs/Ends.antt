@@ -1,8 +1,6 @@
 -- Waits come to an end after each change of a table.
-use Rattle.std.proofs.lemmas.Grind.{common_steps}
-use Rattle.std.proofs.Common.{arith}
-use Rattle.std.proofs.lemmas.Bool.Decides.{nat_tests}
 use Rattle.std.proofs.Common.{ℕ, ◌≡◌, Bool, true, false, if◌then◌else◌, Option, Some, None, ◌⊎◌, inl, inr, refl, sym, ap, ◌∙◌, subst, nat_eq}
+use Rattle.std.proofs.{Common.arith, lemmas.Bool.Decides.nat_tests, lemmas.Grind.common_steps}
 use mathlib.Core.Logic.{∥∥₁_map}
 use Rattle.std.proofs.{lemmas.Grind.merely, lemmas.Option.none-some}
 use Rattle.pagable_world.specs.Workers.{is_open_outcome, with_outcome, IsOpenSlot, ComesToEnd, works, may-go-on, waits-on, with_slot, with_wait}

@@ -1,9 +1,7 @@
 -- What was written is a form of the node's value.
-use Rattle.std.proofs.lemmas.Grind.{common_steps}
-use Rattle.std.proofs.Common.{arith}
-use Rattle.std.proofs.lemmas.Bool.Decides.{nat_tests}
-use Rattle.std.specs.{Arc.arc_value, Prelude.IfOk, Prelude.IfErr, declared.alloc.Global.Global, declared.sync.Arc.Arc}
 use Rattle.std.proofs.Common.{ℕ, ◌≡◌, ◌++◌, List, [], ◌∷◌, true, false, Some, None, Result, Ok, Err, inl, inr, refl, sym, ap, subst, ◌∙◌}
+use Rattle.std.proofs.{Common.arith, lemmas.Bool.Decides.nat_tests, lemmas.Grind.common_steps}
+use Rattle.std.specs.{Arc.arc_value, Prelude.IfOk, Prelude.IfErr, declared.alloc.Global.Global, declared.sync.Arc.Arc}
 use Rattle.pagable_codec.specs.declared.env.Env.{Ghosts as Environments}
 use Rattle.pagable_codec.specs.declared.hash.KeyHash.{Ghosts as Hashes}
 use Rattle.pagable_codec.specs.declared.nodes.NodeSet.{Ghosts as Nodes}

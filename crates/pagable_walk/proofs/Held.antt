@@ -1,7 +1,6 @@
 -- The slots of a table after one of them came or changed.
-use Rattle.std.proofs.lemmas.Grind.{common_steps}
 use Rattle.std.proofs.Common.{ℕ, ◌≡◌, true≢false, Bool, true, false, cond, Option, Some, None, refl, sym, ap, ◌∙◌, subst, nat_eq, arith, ◌&&◌, if◌then◌else◌, inl, inr}
-use Rattle.std.proofs.lemmas.Bool.Decides.{nat_tests}
+use Rattle.std.proofs.{lemmas.Bool.Decides.nat_tests, lemmas.Grind.common_steps}
 use Rattle.std.specs.{Option.option_map, Prelude.◌⊎◌, Prelude.Result, Prelude.Ok, Prelude.Err, Prelude.OnOk, Prelude.OnErr}
 use Rattle.indexmap.specs.IndexMap.{IndexMap, get}
 use Rattle.pagable_world.specs.{Plain.Identity, Plain.SameAt, Plain.updated, Plain.if_there, World.Slot, World.is_identity}

@@ -1,8 +1,5 @@
 -- Steps of a worker's walk are joined to a run.
-use Rattle.std.proofs.lemmas.Grind.{common_steps}
-use Rattle.std.proofs.Common.{arith}
-use Rattle.std.proofs.lemmas.Bool.Decides.{nat_tests}
-use Rattle.std.proofs.Common.{ℕ, ◌≡◌, List, [], ◌∷◌, ap, subst, ◌∙◌}
+use Rattle.std.proofs.{Common.arith, Common.ℕ, Common.◌≡◌, Common.List, Common.[], Common.◌∷◌, Common.ap, Common.subst, Common.◌∙◌, lemmas.Bool.Decides.nat_tests, lemmas.Grind.common_steps}
 use Rattle.pagable_world.specs.{Access.WalkStep, Access.worker-ends, Access.worker-goes-on, Pager.PagerState, World.Shelf, World.Todo, World.Values, declared.events.WorkerAnswer.WorkerAnswer}
 use Rattle.pagable_world.specs.{declared.handles.Owner.Owner}
 use Rattle.pagable_walk.specs.{Tasks.todo_of, Turns.LeavesFit, Turns.StepsTo, Turns.answer_in, Turns.plain, Turns.plain_took, Walking.RunsTo, Walking.HasWalked, declared.results.Trees.Ghosts}

@@ -1,8 +1,7 @@
 -- Page-outs of an item and of the entries of the list, from the runs of their workers.
-use Rattle.std.proofs.lemmas.Grind.{common_steps}
-use Rattle.std.proofs.lemmas.Bool.Decides.{nat_tests}
 use Rattle.std.proofs.Common.{ℕ, ◌≡◌, ◌≤◌, ◌<◌, ◌+◌, List, ◌∷◌, length, Option, Some, None, Result, Ok, Err, inl, inr, refl, ap, subst, sym, ◌∙◌, arith, slice_get}
 use Rattle.std.proofs.{lemmas.List.Edits.length-remove, lemmas.Option.slice_get_within}
+use Rattle.std.proofs.{lemmas.Bool.Decides.nat_tests, lemmas.Grind.common_steps}
 use Rattle.pagable_model.specs.{declared.data_key.OptionalDataKey.OptionalDataKey, declared.error.Error.Error, declared.numbers.ArcRef.ArcRef, declared.numbers.HandleNumber.HandleNumber}
 use Rattle.pagable_model.specs.{declared.numbers.WorkerNumber.WorkerNumber}
 use Rattle.pagable_world.specs.Access.{AccessState, Called, WorkerStarts, WorkerRun, worker-ends, worker-goes-on, no-worker, item-is-walked, EntryHas, EntryRun}

@@ -1,7 +1,6 @@
 -- A turn that pins what was claimed, or loads it, is the worker's.
-use Rattle.std.proofs.lemmas.Grind.{common_steps}
 use Rattle.std.proofs.Common.{ℕ, ◌≡◌, ◌+◌, ◌==◌, Bool, true, false, List, [], ◌∷◌, Some, None, Ok, Err, inl, inr, refl, sym, ap, subst, ◌∙◌, arith}
-use Rattle.std.proofs.lemmas.Bool.Decides.{nat_tests}
+use Rattle.std.proofs.{lemmas.Bool.Decides.nat_tests, lemmas.Grind.common_steps}
 use Rattle.std.specs.Prelude.{Option, if◌then◌else◌, not, ◌&&◌}
 use Rattle.pagable_model.specs.declared.error.Error.{Error}
 use Rattle.pagable_world.specs.Plain.{ArcRef, HandleNumber, Kind, LoadNumber, NodeNumber, OptionalDataKey, type_of, if_there}

@@ -1,8 +1,6 @@
 -- A turn with the worker's end is its step.
-use Rattle.std.proofs.lemmas.Grind.{common_steps}
-use Rattle.std.proofs.Common.{arith}
-use Rattle.std.proofs.lemmas.Bool.Decides.{nat_tests}
-use Rattle.std.proofs.Common.{ℕ, ◌≡◌, List, inl, inr, refl, sym, subst, ◌∙◌}
+use Rattle.std.proofs.{Common.arith, Common.ℕ, Common.◌≡◌, Common.List, Common.inl, Common.inr, Common.refl, Common.sym, Common.subst, Common.◌∙◌, lemmas.Bool.Decides.nat_tests}
+use Rattle.std.proofs.{lemmas.Grind.common_steps}
 use Rattle.pagable_world.specs.{Access.Called, Events.Ends, Pager.PagerState, Pager.WellFormed, Pager.Moves, Workers.WorkerEnds, World.Shelf, World.Todo, World.Values}
 use Rattle.pagable_world.specs.{declared.events.WorkerAnswer.WorkerAnswer, declared.handles.Owner.Owner}
 use Rattle.pagable_walk.specs.{Turns.Closes, Turns.LeavesFit, Turns.StepsTo, Turns.TurnsTo, Turns.acting_then, Turns.answer_in, Turns.site, declared.results.Trees.Ghosts, declared.tasks.Moved.Moved}

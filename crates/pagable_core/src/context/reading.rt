@@ -1,8 +1,7 @@
 //! The deserializer over one blob.
 
 ghost use Rattle.std.specs.Prelude.{◌≡◌};
-ghost use Rattle.pagable_core.specs.Context.{at_front};
-ghost use Rattle.pagable_core.specs.Fields.{references_of};
+ghost use Rattle.pagable_core.specs.{Context.at_front, Fields.references_of};
 
 use crate::context::keys::PagableKeys;
 use crate::context::references::References;

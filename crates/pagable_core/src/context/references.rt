@@ -1,10 +1,9 @@
 //! What a deserializer asks for references.
 
 ghost use Rattle.std.specs.Prelude.{◌≡◌, ℕ, Option, None, Result, Err, IfOk, option_map, true};
-ghost use Rattle.pagable_model.specs.Refusals.{may_refuse_reference};
 ghost use Rattle.pagable_model.specs.declared.numbers.ArcRef.{ArcRef as Reference};
 ghost use Rattle.pagable_model.specs.declared.error.Error.{Error as Refusal};
-ghost use Rattle.pagable_model.specs.declared.error.Error.TheVariants.{WrongKind};
+ghost use Rattle.pagable_model.specs.{Refusals.may_refuse_reference, declared.error.Error.TheVariants.WrongKind};
 
 use pagable_codec::{ArcRef, Env, Kind, SessionContext};
 use pagable_flavors::{DataKey, Error};

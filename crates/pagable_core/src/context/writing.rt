@@ -1,8 +1,7 @@
 //! The serializer that collects bytes and references.
 
 ghost use Rattle.std.specs.Prelude.{◌≡◌, refl, [], length, IsOk, IfOk};
-ghost use Rattle.pagable_core.specs.Context.{nothing, out_of, pair_out};
-ghost use Rattle.pagable_core.specs.Fields.{written, levels_written, writers_environment, with_written};
+ghost use Rattle.pagable_core.specs.{Context.nothing, Context.out_of, Context.pair_out, Fields.written, Fields.levels_written, Fields.writers_environment, Fields.with_written};
 
 use pagable_codec::{ArcRef, Env, PagableCursor, PagableSerializer, SessionContext};
 use pagable_flavors::{Error, PagableVecFlavor};

@@ -1,11 +1,8 @@
 //! Blobs in memory: a storage for tests, and for stores that one run fills and forgets.
 
 ghost use Rattle.std.specs.Prelude.{◌≡◌, ◌↔◌, ◌==◌, if◌then◌else◌, ℕ, IsTrue, OnOk, OnErr, IfErr, None, Some, false, true};
-ghost use Rattle.pagable_model.specs.Gives.{memory};
-ghost use Rattle.pagable_core.specs.Data.{blob_of};
-ghost use Rattle.pagable_core.specs.Blobs.{stored_in};
-ghost use Rattle.pagable_model.specs.Stored.{IsCount};
-ghost use Rattle.pagable_core.specs.Found.{IsFound};
+ghost use Rattle.pagable_model.specs.{Gives.memory, Stored.IsCount};
+ghost use Rattle.pagable_core.specs.{Blobs.stored_in, Data.blob_of, Found.IsFound};
 
 use crate::storage::data::PagableData;
 use crate::storage::traits::PagableStorage;

@@ -1,9 +1,8 @@
 //! Links: a value that may refer to another one of its own type.
 
 ghost use Rattle.pagable_examples.specs.Linked.{chain_has_meaning, chain_has_one_form, chain_in_order, chain_is_meaning, chain_is_read, chain_meaning, chain_means, chain_single};
-ghost use Rattle.pagable_model.specs.Causes.{memory_may_refuse_writing, memory_or_may_refuse_writing, never_is_own_reading};
-ghost use Rattle.pagable_model.specs.Gives.{memory, memory_or, never};
-ghost use Rattle.pagable_model.specs.Shape.{optional, reference};
+ghost use Rattle.pagable_model.specs.{Causes.memory_may_refuse_writing, Causes.memory_or_may_refuse_writing, Causes.never_is_own_reading, Gives.memory, Gives.memory_or, Gives.never, Shape.optional};
+ghost use Rattle.pagable_model.specs.{Shape.reference};
 
 use crate::linked::Linked;
 use pagable::{

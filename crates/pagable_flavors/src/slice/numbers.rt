@@ -1,10 +1,7 @@
 //! Whole numbers are read.
 
-ghost use Rattle.std.specs.Prelude.{◌≡◌, ◌≤◌, ◌<◌, ◌^◌, IfOk, MatchOption, drop, length};
-ghost use Rattle.std.specs.Int.{w8, w16, w32, w64};
-ghost use Rattle.pagable_model.specs.Track.{left, GoesOn};
-ghost use Rattle.pagable_model.specs.Gives.{Gives, never};
-ghost use Rattle.pagable_model.specs.Numbers.{byte_at, varint_at, varint_limit, unsigned_at};
+ghost use Rattle.std.specs.{Int.w8, Int.w16, Int.w32, Int.w64, Prelude.◌≡◌, Prelude.◌≤◌, Prelude.◌<◌, Prelude.◌^◌, Prelude.IfOk, Prelude.MatchOption, Prelude.drop, Prelude.length};
+ghost use Rattle.pagable_model.specs.{Gives.Gives, Gives.never, Numbers.byte_at, Numbers.varint_at, Numbers.varint_limit, Numbers.unsigned_at, Track.left, Track.GoesOn};
 
 use super::PagableSlice;
 use pagable_model::Error;

@@ -1,10 +1,7 @@
 //! Whole numbers with a sign are read.
 
-ghost use Rattle.std.specs.Prelude.{◌≡◌};
-ghost use Rattle.std.specs.Int.{w8, w16, w32, w64};
-ghost use Rattle.pagable_model.specs.Track.{left, GoesOn};
-ghost use Rattle.pagable_model.specs.Gives.{Gives, never};
-ghost use Rattle.pagable_model.specs.Numbers.{signed_at};
+ghost use Rattle.std.specs.{Int.w8, Int.w16, Int.w32, Int.w64, Prelude.◌≡◌};
+ghost use Rattle.pagable_model.specs.{Gives.Gives, Gives.never, Numbers.signed_at, Track.left, Track.GoesOn};
 
 use super::PagableSlice;
 use crate::zigzag;

@@ -1,10 +1,7 @@
 //! Flags, lengths, texts and byte arrays are read.
 
 ghost use Rattle.std.specs.Prelude.{◌≡◌};
-ghost use Rattle.pagable_model.specs.Track.{left, GoesOn};
-ghost use Rattle.pagable_model.specs.Gives.{Gives, never};
-ghost use Rattle.pagable_model.specs.ByteArrays.{byte_array_at};
-ghost use Rattle.pagable_model.specs.Basic.{bool_at, length_at, text_at, char_at};
+ghost use Rattle.pagable_model.specs.{Basic.bool_at, Basic.length_at, Basic.text_at, Basic.char_at, ByteArrays.byte_array_at, Gives.Gives, Gives.never, Track.left, Track.GoesOn};
 
 use super::PagableSlice;
 use crate::vec_flavor::LONGEST;

@@ -1,10 +1,7 @@
 //! Numbers of 128 bits are read.
 
-ghost use Rattle.std.specs.Prelude.{◌≡◌, ◌≤◌, ◌<◌, ◌^◌, IfOk, drop, length};
-ghost use Rattle.std.specs.Int.{w128};
-ghost use Rattle.pagable_model.specs.Track.{left, GoesOn};
-ghost use Rattle.pagable_model.specs.Gives.{Gives, never};
-ghost use Rattle.pagable_model.specs.Numbers.{varint_at, varint_limit, unsigned_at, signed_at};
+ghost use Rattle.std.specs.{Int.w128, Prelude.◌≡◌, Prelude.◌≤◌, Prelude.◌<◌, Prelude.◌^◌, Prelude.IfOk, Prelude.drop, Prelude.length};
+ghost use Rattle.pagable_model.specs.{Gives.Gives, Gives.never, Numbers.varint_at, Numbers.varint_limit, Numbers.unsigned_at, Numbers.signed_at, Track.left, Track.GoesOn};
 
 use super::PagableSlice;
 use crate::zigzag;

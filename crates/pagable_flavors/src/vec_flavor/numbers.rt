@@ -1,10 +1,7 @@
 //! Whole numbers are written.
 
-ghost use Rattle.std.specs.Prelude.{◌≡◌, ◌++◌, OnOk, IfErr};
-ghost use Rattle.std.specs.Int.{w8, w16, w32, w64};
-ghost use Rattle.pagable_model.specs.Gives.{memory, Extends};
-ghost use Rattle.pagable_model.specs.Numbers.{unsigned_form};
-ghost use Rattle.pagable_model.specs.Varints.{AppendsVarint};
+ghost use Rattle.std.specs.{Int.w8, Int.w16, Int.w32, Int.w64, Prelude.◌≡◌, Prelude.◌++◌, Prelude.OnOk, Prelude.IfErr};
+ghost use Rattle.pagable_model.specs.{Gives.memory, Gives.Extends, Numbers.unsigned_form, Varints.AppendsVarint};
 
 use super::PagableVecFlavor;
 use pagable_model::Error;

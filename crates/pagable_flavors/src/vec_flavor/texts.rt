@@ -1,10 +1,8 @@
 //! Flags, lengths, texts and byte arrays are written.
 
 ghost use Rattle.std.specs.Prelude.{◌≡◌, ◌≤◌, ◌<◌, ◌++◌, length, OnOk, IfErr};
-ghost use Rattle.pagable_model.specs.Gives.{memory, Extends};
-ghost use Rattle.pagable_model.specs.Basic.{longest, bool_form, length_form, text_form, char_form};
-ghost use Rattle.pagable_model.specs.ByteArrays.{byte_array_form};
-ghost use Rattle.pagable_model.specs.Lengths.{long_or_memory};
+ghost use Rattle.pagable_model.specs.{Basic.longest, Basic.bool_form, Basic.length_form, Basic.text_form, Basic.char_form, ByteArrays.byte_array_form, Gives.memory, Gives.Extends};
+ghost use Rattle.pagable_model.specs.{Lengths.long_or_memory};
 
 use super::{LONGEST, PagableVecFlavor};
 use pagable_model::Error;

@@ -1,9 +1,7 @@
 //! Numbers of 128 bits are written.
 
-ghost use Rattle.std.specs.Prelude.{◌≡◌, ◌++◌, OnOk, IfErr};
-ghost use Rattle.std.specs.Int.{w128};
-ghost use Rattle.pagable_model.specs.Gives.{memory, Extends};
-ghost use Rattle.pagable_model.specs.Numbers.{unsigned_form, signed_form};
+ghost use Rattle.std.specs.{Int.w128, Prelude.◌≡◌, Prelude.◌++◌, Prelude.OnOk, Prelude.IfErr};
+ghost use Rattle.pagable_model.specs.{Gives.memory, Gives.Extends, Numbers.unsigned_form, Numbers.signed_form};
 
 use super::PagableVecFlavor;
 use crate::zigzag;

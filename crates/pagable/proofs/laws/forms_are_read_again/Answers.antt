@@ -1,5 +1,4 @@
-use Rattle.pagable_laws.proofs.Again.{read_again}
-use Rattle.pagable_laws.proofs.Prefix.{prefix_free}
+use Rattle.pagable_laws.proofs.{Again.read_again, Prefix.prefix_free}
 use Rattle.pagable.proofs.laws.forms_are_read_again.Goals as goal
 
 pub returns-clause-again : goal.returns-clause-again

@@ -1,7 +1,6 @@
 use Rattle.std.proofs.Common.{◌≡◌, ◌++◌}
 use Rattle.std.specs.Prelude.{map, drop}
-use Rattle.pagable_model.specs.Meaning.{sequence}
-use Rattle.pagable_model.specs.References.{references_in}
+use Rattle.pagable_model.specs.{Meaning.sequence, References.references_in}
 use Rattle.pagable_arcs.proofs.refers.list_each.Given as goal
 
 -- the references so far and those of the items that are left are those of all

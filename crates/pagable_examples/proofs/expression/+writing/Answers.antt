@@ -1,5 +1,4 @@
-use Rattle.std.proofs.Common.{refl}
-use Rattle.std.proofs.lemmas.Result.{err_from_is_err_and}
+use Rattle.std.proofs.{Common.refl, lemmas.Result.err_from_is_err_and}
 use Rattle.pagable_examples.proofs.Expressions.{deep_unwritten, written_down, number_written, left_unwritten, sum_written}
 use Rattle.pagable_examples.proofs.expression.+writing.Goals as goal
 

@@ -1,5 +1,4 @@
-use Rattle.pagable_loads.proofs.Words.{rules, blob_of, got_of}
-use Rattle.pagable_loads.proofs.NextStep.{reads_with}
+use Rattle.pagable_loads.proofs.{NextStep.reads_with, Words.rules, Words.blob_of, Words.got_of}
 use Rattle.pagable_loads.proofs.decoding.read_got.Goals as goal
 
 pub returns-clause-reads : goal.returns-clause-reads

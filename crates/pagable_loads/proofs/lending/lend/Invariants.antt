@@ -1,5 +1,4 @@
-use Rattle.pagable_loads.proofs.Words.{◌≡◌, length, arc_value, Tells}
-use Rattle.pagable_loads.proofs.Lent.{LentTo}
+use Rattle.pagable_loads.proofs.{Lent.LentTo, Words.◌≡◌, Words.length, Words.arc_value, Words.Tells}
 use Rattle.pagable_loads.proofs.lending.lend.Given as goal
 
 -- those before this one lend theirs

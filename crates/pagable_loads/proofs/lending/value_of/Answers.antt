@@ -1,5 +1,4 @@
-use Rattle.pagable_loads.proofs.Words.{arc_value}
-use Rattle.pagable_loads.proofs.Lent.{tells_map, not_shared}
+use Rattle.pagable_loads.proofs.{Lent.tells_map, Lent.not_shared, Words.arc_value}
 use Rattle.pagable_loads.proofs.lending.value_of.Goals as goal
 
 pub returns-in-Err-clause-lends : goal.returns-in-Err-clause-lends

@@ -1,5 +1,4 @@
-use Rattle.pagable_machine.proofs.Words.{values_at}
-use Rattle.pagable_machine.proofs.Happening.{call-drives}
+use Rattle.pagable_machine.proofs.{Happening.call-drives, Words.values_at}
 use Rattle.pagable_machine.proofs.events.call.Goals as goal
 
 pub returns : goal.returns

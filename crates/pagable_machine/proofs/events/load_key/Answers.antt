@@ -1,5 +1,4 @@
-use Rattle.pagable_machine.proofs.Words.{values_at}
-use Rattle.pagable_machine.proofs.Happening.{keeps-after, key-drives, key-full-drives, key-none-drives}
+use Rattle.pagable_machine.proofs.{Happening.keeps-after, Happening.key-drives, Happening.key-full-drives, Happening.key-none-drives, Words.values_at}
 use Rattle.pagable_machine.proofs.events.load_key.Goals as goal
 
 pub returns-in-Err : goal.returns-in-Err

@@ -1,5 +1,4 @@
-use Rattle.pagable_machine.proofs.Words.{values_at}
-use Rattle.pagable_machine.proofs.Happening.{start-drives}
+use Rattle.pagable_machine.proofs.{Happening.start-drives, Words.values_at}
 use Rattle.pagable_machine.proofs.events.load_start.Goals as goal
 
 pub returns : goal.returns

@@ -1,5 +1,4 @@
-use Rattle.pagable_machine.proofs.Words.{sym, ◌∙◌}
-use Rattle.pagable_machine.proofs.Happening.{begins-prepared, is-prepared, keeps-after}
+use Rattle.pagable_machine.proofs.{Happening.begins-prepared, Happening.is-prepared, Happening.keeps-after, Words.sym, Words.◌∙◌}
 use Rattle.pagable_machine.proofs.readings.prepare.Goals as goal
 
 pub returns-then-is_kept-clause-ready : goal.returns-then-is_kept-clause-ready

@@ -1,5 +1,4 @@
-use Rattle.pagable_machine.proofs.Words.{values_at, ◌∙◌}
-use Rattle.pagable_machine.proofs.Happening.{closed-drives, no-place-drives, step-drives, step-of, untyped-drives}
+use Rattle.pagable_machine.proofs.{Happening.closed-drives, Happening.no-place-drives, Happening.step-drives, Happening.step-of, Happening.untyped-drives, Words.values_at, Words.◌∙◌}
 use Rattle.pagable_machine.proofs.steps.load_step.Goals as goal
 
 pub returns-in-Err : goal.returns-in-Err

@@ -1,5 +1,4 @@
-use Rattle.pagable_machine.proofs.Words.{rules, ◌-◌, refl, arith, slice_get_read}
-use Rattle.pagable_machine.proofs.Setting.{set-at}
+use Rattle.pagable_machine.proofs.{Setting.set-at, Words.rules, Words.◌-◌, Words.refl, Words.arith, Words.slice_get_read}
 use Rattle.pagable_machine.proofs.walks.walk_on.Goals as goal
 
 pub returns : goal.returns

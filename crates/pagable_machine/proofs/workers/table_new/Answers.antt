@@ -1,5 +1,4 @@
-use Rattle.pagable_machine.proofs.Words.{rules, ◌≡◌, ◌+◌, length, values_at, ◌∙◌, ap, ◌++◌, ◌∷◌, []}
-use Rattle.pagable_machine.proofs.Driven.{no-table-drives, table-drives}
+use Rattle.pagable_machine.proofs.{Driven.no-table-drives, Driven.table-drives, Words.rules, Words.◌≡◌, Words.◌+◌, Words.length, Words.values_at, Words.◌∙◌, Words.ap, Words.◌++◌, Words.◌∷◌, Words.[]}
 use Rattle.pagable_machine.proofs.workers.table_new.Goals as goal
 
 pub returns-then-is_err : goal.returns-then-is_err

@@ -1,5 +1,4 @@
-use Rattle.pagable_machine.proofs.Words.{inr, values_at}
-use Rattle.pagable_machine.proofs.Driven.{item-refused, item-begun, nothing-done}
+use Rattle.pagable_machine.proofs.{Driven.item-refused, Driven.item-begun, Driven.nothing-done, Words.inr, Words.values_at}
 use Rattle.pagable_machine.proofs.workers.worker_item.Goals as goal
 
 pub returns-in-Err : goal.returns-in-Err

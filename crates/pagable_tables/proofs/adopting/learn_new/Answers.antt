@@ -1,6 +1,5 @@
 use Rattle.pagable_tables.proofs.Words.{◌≡◌, ℕ, ◌+◌, ◌/◌, arith, ap, sym, ◌∙◌, subst, Some, Option, not, IndexMap, spare, NodeNumber, Owner, Last, Alike, mode_of, with_handle, nat_tests}
-use Rattle.pagable_tables.proofs.Words.{with_node, next_node, Counts, Tables, key_in, core_of, option_map}
-use Rattle.pagable_tables.proofs.Adopted.{learned, if-open}
+use Rattle.pagable_tables.proofs.{Adopted.learned, Adopted.if-open, Words.with_node, Words.next_node, Words.Counts, Words.Tables, Words.key_in, Words.core_of, Words.option_map}
 use Rattle.pagable_tables.proofs.adopting.learn_new.Goals as goal
 
 abbrev number : Option NodeNumber → Option ℕ

@@ -1,5 +1,4 @@
-use Rattle.pagable_tables.proofs.Words.{◌-◌, arith, gives_row}
-use Rattle.pagable_tables.proofs.LastGiven.{none-from, below-to, place-got, row-there, up-from}
+use Rattle.pagable_tables.proofs.{LastGiven.none-from, LastGiven.below-to, LastGiven.place-got, LastGiven.row-there, LastGiven.up-from, Words.◌-◌, Words.arith, Words.gives_row}
 use Rattle.pagable_tables.proofs.giving.last_given.Goals as goal
 
 pub loop-place-init : goal.loop-place-init

@@ -1,5 +1,4 @@
-use Rattle.std.proofs.lemmas.Slice.Eq.{slice_eq-Decides}
-use Rattle.std.proofs.lemmas.Bool.Decides.{Decides-eqb}
+use Rattle.std.proofs.{lemmas.Bool.Decides.Decides-eqb, lemmas.Slice.Eq.slice_eq-Decides}
 use Rattle.pagable_core.proofs.storage.in_memory.are_same_keys.Goals as goal
 
 pub returns : goal.returns

@@ -1,11 +1,6 @@
 use Rattle.std.proofs.Common.{◌≡◌, true, false, Some, ap, sym, ◌∙◌}
-use Rattle.std.specs.Prelude.{option_map}
-use Rattle.std.specs.Arc.{arc_value}
-use Rattle.std.specs.declared.sync.Arc.{Arc}
-use Rattle.std.specs.Global.{Global}
-use Rattle.pagable_core.specs.Data.{blob_of}
-use Rattle.pagable_core.specs.declared.storage.data.PagableData.{PagableData}
-use Rattle.pagable_core.specs.Blobs.{stored_in}
+use Rattle.std.specs.{Arc.arc_value, Global.Global, Prelude.option_map, declared.sync.Arc.Arc}
+use Rattle.pagable_core.specs.{Blobs.stored_in, Data.blob_of, declared.storage.data.PagableData.PagableData}
 use Rattle.pagable_core.proofs.Adding.{is_found}
 use Rattle.pagable_core.proofs.storage.in_memory.found_under.Goals as goal
 

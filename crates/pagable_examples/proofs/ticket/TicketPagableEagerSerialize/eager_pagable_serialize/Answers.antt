@@ -1,9 +1,6 @@
 use Rattle.std.proofs.Common.{rules}
 use Rattle.std.specs.Int.{w16}
-use Rattle.pagable.specs.Form.{unsigned-form}
-use Rattle.pagable.specs.Meaning.{number}
-use Rattle.pagable.specs.Shape.{unsigned}
-use Rattle.pagable.specs.Writing.{nesting}
+use Rattle.pagable.specs.{Form.unsigned-form, Meaning.number, Shape.unsigned, Writing.nesting}
 use Rattle.pagable.proofs.Basics.{basic_written}
 use Rattle.pagable_examples.proofs.ticket.TicketPagableEagerSerialize.eager_pagable_serialize.Goals as goal
 

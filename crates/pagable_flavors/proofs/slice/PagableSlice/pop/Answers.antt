@@ -1,5 +1,4 @@
-use Rattle.std.proofs.Common.{arith}
-use Rattle.std.proofs.lemmas.Grind.{common_steps}
+use Rattle.std.proofs.{Common.arith, lemmas.Grind.common_steps}
 use Rattle.pagable_flavors.proofs.slice.PagableSlice.pop.Goals as goal
 
 pub returns-clause-gives : goal.returns-clause-gives

@@ -1,5 +1,4 @@
-use Rattle.pagable_loads.proofs.Words.{◌∙◌, values_at}
-use Rattle.pagable_loads.proofs.Stepped.{told_then, gives_up}
+use Rattle.pagable_loads.proofs.{Stepped.told_then, Stepped.gives_up, Words.◌∙◌, Words.values_at}
 use Rattle.pagable_loads.proofs.reading.Reading.step.Goals as goal
 
 pub returns-in-Err-clause-step : goal.returns-in-Err-clause-step

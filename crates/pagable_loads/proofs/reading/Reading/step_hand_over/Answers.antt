@@ -1,5 +1,4 @@
-use Rattle.pagable_loads.proofs.Words.{values_at, refl, ap, ◌∙◌, handles_of}
-use Rattle.pagable_loads.proofs.Stepped.{told_map, hands_over, hand_over_refused}
+use Rattle.pagable_loads.proofs.{Stepped.told_map, Stepped.hands_over, Stepped.hand_over_refused, Words.values_at, Words.refl, Words.ap, Words.◌∙◌, Words.handles_of}
 use Rattle.pagable_loads.proofs.reading.Reading.step_hand_over.Goals as goal
 
 pub returns-in-Ok-load_take-clause-step : goal.returns-in-Ok-load_take-clause-step

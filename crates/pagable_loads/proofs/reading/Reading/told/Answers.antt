@@ -1,5 +1,4 @@
-use Rattle.pagable_loads.proofs.Words.{[], rules, slice_index_or, slice_get-get_or, frame_of, frames_of, onto, stand_in}
-use Rattle.pagable_loads.proofs.Foreseen.{row_tells}
+use Rattle.pagable_loads.proofs.{Foreseen.row_tells, Words.[], Words.rules, Words.slice_index_or, Words.slice_get-get_or, Words.frame_of, Words.frames_of, Words.onto, Words.stand_in}
 use Rattle.pagable_loads.proofs.reading.Reading.told.Goals as goal
 
 pub returns-clause-tells : goal.returns-clause-tells

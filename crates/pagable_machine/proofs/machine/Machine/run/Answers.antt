@@ -1,5 +1,4 @@
-use Rattle.pagable_machine.proofs.Words.{rules, ◌≡◌, length, sym, arith, over}
-use Rattle.pagable_machine.proofs.Running.{at-first, one-more, all-ran}
+use Rattle.pagable_machine.proofs.{Running.at-first, Running.one-more, Running.all-ran, Words.rules, Words.◌≡◌, Words.length, Words.sym, Words.arith, Words.over}
 use Rattle.pagable_machine.proofs.machine.Machine.run.Goals as goal
 
 pub loop-event-init : goal.loop-event-init

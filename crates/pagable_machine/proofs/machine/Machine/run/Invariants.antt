@@ -1,5 +1,4 @@
-use Rattle.pagable_machine.proofs.Words.{◌+◌, ◌≤◌, length, vec_len, vec_capacity, spelling, telling, over}
-use Rattle.pagable_machine.proofs.Running.{SoFar}
+use Rattle.pagable_machine.proofs.{Running.SoFar, Words.◌+◌, Words.◌≤◌, Words.length, Words.vec_len, Words.vec_capacity, Words.spelling, Words.telling, Words.over}
 use Rattle.pagable_machine.proofs.machine.Machine.run.Given as goal
 
 -- the events so far have happened, and there is room for the replies to the rest

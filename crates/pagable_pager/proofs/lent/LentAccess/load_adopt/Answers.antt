@@ -1,5 +1,4 @@
-use Rattle.pagable_pager.proofs.Words.{values_at, telling, WellFormed, subst, state_in}
-use Rattle.pagable_pager.proofs.Lending.{adopted_refers}
+use Rattle.pagable_pager.proofs.{Lending.adopted_refers, Words.values_at, Words.telling, Words.WellFormed, Words.subst, Words.state_in}
 use Rattle.pagable_pager.proofs.lent.LentAccess.load_adopt.Goals as goal
 
 pub returns-clause-step : goal.returns-clause-step

@@ -1,5 +1,4 @@
-use Rattle.pagable_pager.proofs.Words.{values_at, telling, TakesLazily}
-use Rattle.pagable_pager.proofs.Lending.{told_same, lazy_refers}
+use Rattle.pagable_pager.proofs.{Lending.told_same, Lending.lazy_refers, Words.values_at, Words.telling, Words.TakesLazily}
 use Rattle.pagable_pager.proofs.lent.LentAccess.load_lazy.Goals as goal
 
 pub returns-clause-step : goal.returns-clause-step

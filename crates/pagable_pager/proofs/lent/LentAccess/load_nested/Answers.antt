@@ -1,5 +1,4 @@
-use Rattle.pagable_pager.proofs.Words.{values_at, telling, blob_of, arc_value, Ok, AsksFor}
-use Rattle.pagable_pager.proofs.Lending.{told_fewer, all_there, found_refers}
+use Rattle.pagable_pager.proofs.{Lending.told_fewer, Lending.all_there, Lending.found_refers, Words.values_at, Words.telling, Words.blob_of, Words.arc_value, Words.Ok, Words.AsksFor}
 use Rattle.either.specs.declared.Either.TheVariants as eithers
 use Rattle.pagable_pager.proofs.lent.LentAccess.load_nested.Goals as goal
 

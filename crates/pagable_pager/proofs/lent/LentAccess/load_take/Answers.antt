@@ -1,5 +1,4 @@
-use Rattle.pagable_pager.proofs.Words.{HandOverCall, values_at, telling}
-use Rattle.pagable_pager.proofs.Lending.{told_less}
+use Rattle.pagable_pager.proofs.{Lending.told_less, Words.HandOverCall, Words.values_at, Words.telling}
 use Rattle.pagable_pager.proofs.lent.LentAccess.load_take.Goals as goal
 
 pub returns-clause-step : goal.returns-clause-step

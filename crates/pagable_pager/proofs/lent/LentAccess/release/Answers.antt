@@ -1,5 +1,4 @@
-use Rattle.pagable_pager.proofs.Words.{ReleaseCall, values_at, telling}
-use Rattle.pagable_pager.proofs.Lending.{told_less}
+use Rattle.pagable_pager.proofs.{Lending.told_less, Words.ReleaseCall, Words.values_at, Words.telling}
 use Rattle.pagable_pager.proofs.lent.LentAccess.release.Goals as goal
 
 pub returns-clause-step : goal.returns-clause-step

@@ -1,5 +1,4 @@
-use Rattle.pagable_pager.proofs.Words.{clears, clear-whole}
-use Rattle.pagable_pager.proofs.Spared.{held}
+use Rattle.pagable_pager.proofs.{Spared.held, Words.clears, Words.clear-whole}
 use Rattle.pagable_pager.proofs.pager.Pager.cache_clear.Goals as goal
 
 pub invariant_of-self : goal.invariant_of-self

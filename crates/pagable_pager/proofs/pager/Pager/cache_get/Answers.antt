@@ -1,5 +1,4 @@
-use Rattle.pagable_pager.proofs.Words.{recalls, recall-whole}
-use Rattle.pagable_pager.proofs.Spared.{held, caller-free}
+use Rattle.pagable_pager.proofs.{Spared.held, Spared.caller-free, Words.recalls, Words.recall-whole}
 use Rattle.pagable_world.specs.declared.handles.Owner.TheVariants as owners
 use Rattle.pagable_pager.proofs.pager.Pager.cache_get.Goals as goal
 

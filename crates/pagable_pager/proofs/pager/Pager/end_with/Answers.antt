@@ -1,6 +1,5 @@
-use Rattle.pagable_pager.proofs.Words.{◌∙◌, refl, subst, inr, Installs, core_of, may-wider}
 use Rattle.pagable_pager.proofs.Putting.{owned-open, end-call, ended-so, moves, ready-told, refused-moves, refused-so, stays-alike, stays-so, unends-told}
-use Rattle.pagable_pager.proofs.Shed.{told-open}
+use Rattle.pagable_pager.proofs.{Shed.told-open, Words.◌∙◌, Words.refl, Words.subst, Words.inr, Words.Installs, Words.core_of, Words.may-wider}
 use Rattle.pagable_pager.proofs.pager.Pager.end_with.Goals as goal
 
 pub invariant_of-self : goal.invariant_of-self

@@ -1,5 +1,4 @@
-use Rattle.pagable_pager.proofs.Words.{loosens, loosen-whole}
-use Rattle.pagable_pager.proofs.Spared.{held, caller-free}
+use Rattle.pagable_pager.proofs.{Spared.held, Spared.caller-free, Words.loosens, Words.loosen-whole}
 use Rattle.pagable_world.specs.declared.handles.Owner.TheVariants as owners
 use Rattle.pagable_pager.proofs.pager.Pager.into_pagable.Goals as goal
 

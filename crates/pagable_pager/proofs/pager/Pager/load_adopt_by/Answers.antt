@@ -1,5 +1,4 @@
-use Rattle.pagable_pager.proofs.Words.{telling}
-use Rattle.pagable_pager.proofs.Adopting.{less-moves, none-so, same-moves}
+use Rattle.pagable_pager.proofs.{Adopting.less-moves, Adopting.none-so, Adopting.same-moves, Words.telling}
 use Rattle.pagable_pager.proofs.pager.Pager.load_adopt_by.Goals as goal
 
 pub returns-in-Err-clause-moves : goal.returns-in-Err-clause-moves

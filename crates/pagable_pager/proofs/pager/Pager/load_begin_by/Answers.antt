@@ -1,5 +1,4 @@
-use Rattle.pagable_pager.proofs.Words.{begins, begin-whole, telling}
-use Rattle.pagable_pager.proofs.Spared.{held, owner-begins, owner-may}
+use Rattle.pagable_pager.proofs.{Spared.held, Spared.owner-begins, Spared.owner-may, Words.begins, Words.begin-whole, Words.telling}
 use Rattle.pagable_pager.proofs.pager.Pager.load_begin_by.Goals as goal
 
 pub invariant_of-self : goal.invariant_of-self

@@ -1,5 +1,4 @@
-use Rattle.pagable_pager.proofs.Words.{pins-it, pin-whole, telling}
-use Rattle.pagable_pager.proofs.Spared.{held, owner-free, owner-held, owner-holds}
+use Rattle.pagable_pager.proofs.{Spared.held, Spared.owner-free, Spared.owner-held, Spared.owner-holds, Words.pins-it, Words.pin-whole, Words.telling}
 use Rattle.pagable_pager.proofs.pager.Pager.pin_by.Goals as goal
 
 pub invariant_of-self : goal.invariant_of-self

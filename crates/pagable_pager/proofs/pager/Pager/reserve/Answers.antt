@@ -1,5 +1,4 @@
-use Rattle.pagable_pager.proofs.Words.{reserves, reserve-whole}
-use Rattle.pagable_pager.proofs.Spared.{held}
+use Rattle.pagable_pager.proofs.{Spared.held, Words.reserves, Words.reserve-whole}
 use Rattle.pagable_pager.proofs.pager.Pager.reserve.Goals as goal
 
 pub invariant_of-self : goal.invariant_of-self

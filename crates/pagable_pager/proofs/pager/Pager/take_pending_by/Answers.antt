@@ -1,5 +1,4 @@
-use Rattle.pagable_pager.proofs.Words.{takes, take-whole, telling}
-use Rattle.pagable_pager.proofs.Spared.{held, owner-free, owner-loads, owner-held, owner-holds}
+use Rattle.pagable_pager.proofs.{Spared.held, Spared.owner-free, Spared.owner-loads, Spared.owner-held, Spared.owner-holds, Words.takes, Words.take-whole, Words.telling}
 use Rattle.pagable_pager.proofs.pager.Pager.take_pending_by.Goals as goal
 
 pub invariant_of-self : goal.invariant_of-self

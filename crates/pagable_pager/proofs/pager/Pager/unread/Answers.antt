@@ -1,5 +1,4 @@
-use Rattle.pagable_pager.proofs.Words.{ap, option_map, load_in, sym, ◌∙◌}
-use Rattle.pagable_pager.proofs.Putting.{unread-gone, unread-open}
+use Rattle.pagable_pager.proofs.{Putting.unread-gone, Putting.unread-open, Words.ap, Words.option_map, Words.load_in, Words.sym, Words.◌∙◌}
 use Rattle.pagable_pager.proofs.pager.Pager.unread.Goals as goal
 
 pub returns-in-Some : goal.returns-in-Some

@@ -1,5 +1,4 @@
-use Rattle.pagable_pager.proofs.Words.{subst, refl, core_of, Unends, told-later}
-use Rattle.pagable_pager.proofs.Putting.{vain}
+use Rattle.pagable_pager.proofs.{Putting.vain, Words.subst, Words.refl, Words.core_of, Words.Unends, Words.told-later}
 use Rattle.pagable_pager.proofs.pager.installs.give_back.Goals as goal
 
 pub returns-in-InVain-clause-refused : goal.returns-in-InVain-clause-refused

@@ -1,5 +1,4 @@
-use Rattle.pagable_traits.proofs.Words.{memory_or, items, read, handles_at}
-use Rattle.pagable_traits.proofs.Collecting.{gives_along, collected_list, list_length}
+use Rattle.pagable_traits.proofs.{Collecting.gives_along, Collecting.collected_list, Collecting.list_length, Words.memory_or, Words.items, Words.read, Words.handles_at}
 use Rattle.pagable_traits.proofs.impls.lists.read_items.Goals as goal
 
 pub returns : goal.returns

@@ -1,5 +1,4 @@
-use Rattle.pagable_traits.proofs.Words.{arith, inl, err_from_is_err_and}
-use Rattle.pagable_traits.proofs.Times.{seconds_refused, nanos_refused, span_overflows, span_read}
+use Rattle.pagable_traits.proofs.{Times.seconds_refused, Times.nanos_refused, Times.span_overflows, Times.span_read, Words.arith, Words.inl, Words.err_from_is_err_and}
 use Rattle.pagable_traits.proofs.impls.times.read_span.Goals as goal
 
 pub returns-in_err-seconds-clause-gives : goal.returns-in_err-seconds-clause-gives

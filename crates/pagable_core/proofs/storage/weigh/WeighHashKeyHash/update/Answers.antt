@@ -1,5 +1,4 @@
-use Rattle.std.proofs.Common.{refl, ◌≡◌, ◌++◌, take}
-use Rattle.std.proofs.lemmas.List.{append-nil, take_all}
+use Rattle.std.proofs.{Common.refl, Common.◌≡◌, Common.◌++◌, Common.take, lemmas.List.append-nil, lemmas.List.take_all}
 use Rattle.pagable_core.proofs.Weighing.{is_weighed_more, take_next}
 use Rattle.pagable_core.proofs.storage.weigh.WeighHashKeyHash.update.Goals as goal
 

@@ -1,5 +1,4 @@
-use Rattle.pagable_pager.proofs.Words.{values_at, telling}
-use Rattle.pagable_pager.proofs.Lending.{told_entry, told_no_entry}
+use Rattle.pagable_pager.proofs.{Lending.told_entry, Lending.told_no_entry, Words.values_at, Words.telling}
 use Rattle.pagable_pager.proofs.lent.working.LentWorkerAccess.worker_listed.Goals as goal
 
 pub returns-in-Ok-clause-begins : goal.returns-in-Ok-clause-begins

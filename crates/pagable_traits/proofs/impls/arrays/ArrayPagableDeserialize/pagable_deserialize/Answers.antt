@@ -1,5 +1,4 @@
-use Rattle.pagable_traits.proofs.Words.{err_from_is_err_and, memory_or, handles_at}
-use Rattle.pagable_traits.proofs.Joined.{array_refused, gave_array}
+use Rattle.pagable_traits.proofs.{Joined.array_refused, Joined.gave_array, Words.err_from_is_err_and, Words.memory_or, Words.handles_at}
 use Rattle.pagable_traits.proofs.impls.arrays.ArrayPagableDeserialize.pagable_deserialize.Goals as goal
 
 pub returns-in_err-values : goal.returns-in_err-values

@@ -1,6 +1,5 @@
-use Rattle.pagable_traits.proofs.Words.{bool_at}
+use Rattle.pagable_traits.proofs.{Basics.basic_read, Basics.flag_is, Words.bool_at}
 use Rattle.pagable_model.specs.Meaning.{flag}
-use Rattle.pagable_traits.proofs.Basics.{basic_read, flag_is}
 use Rattle.pagable_traits.proofs.impls.basic.BoolPagableDeserialize.pagable_deserialize.Goals as goal
 
 pub returns : goal.returns

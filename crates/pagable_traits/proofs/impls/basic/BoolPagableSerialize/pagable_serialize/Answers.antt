@@ -1,6 +1,5 @@
-use Rattle.pagable_traits.proofs.Words.{flag-form}
+use Rattle.pagable_traits.proofs.{Basics.basic_written, Words.flag-form}
 use Rattle.pagable_model.specs.Meaning.{flag}
-use Rattle.pagable_traits.proofs.Basics.{basic_written}
 use Rattle.pagable_traits.proofs.impls.basic.BoolPagableSerialize.pagable_serialize.Goals as goal
 
 pub returns : goal.returns

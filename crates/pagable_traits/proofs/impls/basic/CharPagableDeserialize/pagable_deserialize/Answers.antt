@@ -1,5 +1,4 @@
-use Rattle.pagable_traits.proofs.Words.{char_at, number}
-use Rattle.pagable_traits.proofs.Basics.{basic_read, letter_is}
+use Rattle.pagable_traits.proofs.{Basics.basic_read, Basics.letter_is, Words.char_at, Words.number}
 use Rattle.pagable_traits.proofs.impls.basic.CharPagableDeserialize.pagable_deserialize.Goals as goal
 
 pub returns : goal.returns

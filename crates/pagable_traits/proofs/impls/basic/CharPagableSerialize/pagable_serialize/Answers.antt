@@ -1,6 +1,5 @@
-use Rattle.pagable_traits.proofs.Words.{number, rules}
+use Rattle.pagable_traits.proofs.{Basics.basic_written, Words.number, Words.rules}
 use Rattle.pagable_model.specs.Form.{letter-form}
-use Rattle.pagable_traits.proofs.Basics.{basic_written}
 use Rattle.pagable_traits.proofs.impls.basic.CharPagableSerialize.pagable_serialize.Goals as goal
 
 pub returns : goal.returns

@@ -1,5 +1,4 @@
-use Rattle.pagable_traits.proofs.Words.{rules}
-use Rattle.pagable_traits.proofs.InTurn.{boxed-unread, tells}
+use Rattle.pagable_traits.proofs.{InTurn.boxed-unread, InTurn.tells, Words.rules}
 use Rattle.pagable_traits.proofs.impls.holders.BoxPagableDeserialize.pagable_deserialize.Goals as goal
 
 pub returns-in_err-value : goal.returns-in_err-value

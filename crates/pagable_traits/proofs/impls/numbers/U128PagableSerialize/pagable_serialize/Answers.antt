@@ -1,5 +1,4 @@
-use Rattle.pagable_traits.proofs.Words.{number, w128, rules, unsigned-form}
-use Rattle.pagable_traits.proofs.Basics.{basic_written}
+use Rattle.pagable_traits.proofs.{Basics.basic_written, Words.number, Words.w128, Words.rules, Words.unsigned-form}
 use Rattle.pagable_traits.proofs.impls.numbers.U128PagableSerialize.pagable_serialize.Goals as goal
 
 pub returns : goal.returns

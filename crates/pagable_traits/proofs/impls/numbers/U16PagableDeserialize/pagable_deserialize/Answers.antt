@@ -1,5 +1,4 @@
-use Rattle.pagable_traits.proofs.Words.{w16, unsigned_at, number}
-use Rattle.pagable_traits.proofs.Basics.{basic_read, unsigned_is}
+use Rattle.pagable_traits.proofs.{Basics.basic_read, Basics.unsigned_is, Words.w16, Words.unsigned_at, Words.number}
 use Rattle.pagable_traits.proofs.impls.numbers.U16PagableDeserialize.pagable_deserialize.Goals as goal
 
 pub returns : goal.returns

@@ -1,6 +1,5 @@
 use Rattle.pagable_traits.proofs.Words.{◌≡◌, true, false, Ok, Err, inl, inr, rules, err_from_is_err_and, ok-form, err-form, MeansResult, means-ok, means-err, success, failure, outcome, nesting}
-use Rattle.pagable_traits.proofs.Words.{memory_refuses}
-use Rattle.pagable_traits.proofs.Joined.{flagged, no-success, no-failure}
+use Rattle.pagable_traits.proofs.{Joined.flagged, Joined.no-success, Joined.no-failure, Words.memory_refuses}
 use Rattle.pagable_traits.proofs.impls.results.ResultPagableSerialize.pagable_serialize.Goals as goal
 
 pub returns-in_err-write_flag : goal.returns-in_err-write_flag

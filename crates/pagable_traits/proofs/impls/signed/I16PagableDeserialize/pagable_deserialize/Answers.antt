@@ -1,5 +1,4 @@
-use Rattle.pagable_traits.proofs.Words.{w16, signed_at, integer}
-use Rattle.pagable_traits.proofs.Basics.{basic_read, signed_is}
+use Rattle.pagable_traits.proofs.{Basics.basic_read, Basics.signed_is, Words.w16, Words.signed_at, Words.integer}
 use Rattle.pagable_traits.proofs.impls.signed.I16PagableDeserialize.pagable_deserialize.Goals as goal
 
 pub returns : goal.returns

@@ -1,5 +1,4 @@
-use Rattle.pagable_traits.proofs.Words.{integer, rules, to_z-of_z, w64, signed-form}
-use Rattle.pagable_traits.proofs.Basics.{basic_written}
+use Rattle.pagable_traits.proofs.{Basics.basic_written, Words.integer, Words.rules, Words.to_z-of_z, Words.w64, Words.signed-form}
 use Rattle.pagable_traits.proofs.impls.signed.I64PagableSerialize.pagable_serialize.Goals as goal
 
 pub returns : goal.returns

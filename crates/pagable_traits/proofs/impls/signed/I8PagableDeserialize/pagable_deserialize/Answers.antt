@@ -1,5 +1,4 @@
-use Rattle.pagable_traits.proofs.Words.{w8, signed_at, integer}
-use Rattle.pagable_traits.proofs.Basics.{basic_read, signed_is}
+use Rattle.pagable_traits.proofs.{Basics.basic_read, Basics.signed_is, Words.w8, Words.signed_at, Words.integer}
 use Rattle.pagable_traits.proofs.impls.signed.I8PagableDeserialize.pagable_deserialize.Goals as goal
 
 pub returns : goal.returns

@@ -1,6 +1,5 @@
-use Rattle.pagable_traits.proofs.Words.{text_at, string_bytes}
+use Rattle.pagable_traits.proofs.{Basics.basic_read, Basics.text_is, Words.text_at, Words.string_bytes}
 use Rattle.pagable_model.specs.Meaning.{text}
-use Rattle.pagable_traits.proofs.Basics.{basic_read, text_is}
 use Rattle.pagable_traits.proofs.impls.texts.StringPagableDeserialize.pagable_deserialize.Goals as goal
 
 pub returns : goal.returns

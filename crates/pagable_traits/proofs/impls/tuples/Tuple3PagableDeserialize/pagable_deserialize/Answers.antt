@@ -1,5 +1,4 @@
-use Rattle.pagable_traits.proofs.Words.{MeansPair, both}
-use Rattle.pagable_traits.proofs.InTurn.{first-unread, second-unread, both-read}
+use Rattle.pagable_traits.proofs.{InTurn.first-unread, InTurn.second-unread, InTurn.both-read, Words.MeansPair, Words.both}
 use Rattle.pagable_traits.proofs.impls.tuples.Tuple3PagableDeserialize.pagable_deserialize.Goals as goal
 
 pub returns-in_err-first : goal.returns-in_err-first

@@ -1,5 +1,4 @@
-use Rattle.pagable_traits.proofs.Words.{MeansPair, pair_has_meaning, both}
-use Rattle.pagable_traits.proofs.InTurn.{first-refused, second-after}
+use Rattle.pagable_traits.proofs.{InTurn.first-refused, InTurn.second-after, Words.MeansPair, Words.pair_has_meaning, Words.both}
 use Rattle.pagable_traits.proofs.impls.tuples.Tuple3PagableSerialize.pagable_serialize.Goals as goal
 
 pub returns-in_err-pagable_serialize : goal.returns-in_err-pagable_serialize
