@@ -1,9 +1,8 @@
 -- The references of values that hold others, one after the other.
-use Rattle.std.proofs.Common.{◌≡◌, ◌∙◌, ◌<◌, ◌≤◌, ◌+◌, ℕ, length, slice_index_or, List, [], ◌∷◌, ◌++◌, sym, ap, append_assoc, Result, Ok, Err}
-use Rattle.std.proofs.lemmas.List.{append-nil, drop_all, drop_more}
+use Rattle.std.proofs.{Common.{◌≡◌, ◌∙◌, ◌<◌, ◌≤◌, ◌+◌, ℕ, length, slice_index_or, List, [], ◌∷◌, ◌++◌, sym, ap, append_assoc, Result, Ok, Err}, lemmas.List.{append-nil, drop_all, drop_more}}
 use Rattle.std.specs.Prelude.{map, drop, OnOk, Option, Some, None}
-use Rattle.pagable_model.specs.{Carried.of_option, Meaning.Meaning, Meaning.pair, Meaning.reference, Meaning.sequence, References.references_in, Shape.Shape, Writing.Nesting, Writing.Out}
-use Rattle.pagable_model.specs.{Writing.WritesSome, declared.error.Error.Error, declared.numbers.ArcRef.ArcRef}
+use Rattle.pagable_model.specs.{Carried.of_option, Meaning.{Meaning, pair, reference, sequence}, References.references_in, Shape.Shape, Writing.{Nesting, Out, WritesSome}, declared.error.Error.Error}
+use Rattle.pagable_model.specs.declared.numbers.ArcRef.{ArcRef}
 use Rattle.pagable_arcs.specs.Refers.{ListsInOrder}
 use Rattle.pagable_model.specs.Meaning as texts
 

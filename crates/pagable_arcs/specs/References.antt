@@ -1,8 +1,7 @@
 -- References as values hold them: what they mean, and why they are read again and have one form.
-use Rattle.std.proofs.Common.{inl, inr, subst, sym}
-use Rattle.std.specs.Prelude.{◌≡◌, ◌⊎◌, refl, Bool, true, false, ℕ, ◌*◌, ◌+◌, List, codes}
-use Rattle.pagable_model.specs.{Canonical.IsCanonical, Canonical.IsReadable, Canonical.LiesIn, Causes.memory_is_own_reading, Keyed.throughout-alone, Meaning.Meaning, OneForm.HasOneFormThroughout}
-use Rattle.pagable_model.specs.{Refusals.is_own_reading, Shape.Shape, Shape.reference, declared.error.Error.Error, declared.numbers.ArcRef.ArcRef, declared.reason.Reason.Reason}
+use Rattle.std.{proofs.Common.{inl, inr, subst, sym}, specs.Prelude.{◌≡◌, ◌⊎◌, refl, Bool, true, false, ℕ, ◌*◌, ◌+◌, List, codes}}
+use Rattle.pagable_model.specs.{Canonical.{IsCanonical, IsReadable, LiesIn}, Causes.memory_is_own_reading, Keyed.throughout-alone, Meaning.Meaning, OneForm.HasOneFormThroughout}
+use Rattle.pagable_model.specs.{Refusals.is_own_reading, Shape.{Shape, reference}, declared.error.Error.Error, declared.numbers.ArcRef.ArcRef, declared.reason.Reason.Reason}
 use Rattle.pagable_traits.specs.ReadBack.{IsReadThroughout}
 use Rattle.pagable_arcs.specs.{declared.holding.HoldingArc.HoldingArc, declared.loose.PagableArc.PagableArc}
 use Rattle.pagable_model.specs.Meaning as meanings

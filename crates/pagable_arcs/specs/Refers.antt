@@ -1,8 +1,7 @@
 -- References in the order in which they are written.
 use Rattle.std.specs.Prelude.{◌≡◌, ℕ, refl, List}
-use Rattle.pagable_model.specs.Form.{Form, Forms, both-form, list-form, more-forms, no-forms, none-form, reference-form, some-form, text-form}
-use Rattle.pagable_model.specs.{Meaning.Meaning, Meaning.sequence, References.references_in, Shape.Shape, Shape.both, Shape.list, Shape.optional, Shape.reference, Shape.text, Writing.kind_of_arc}
-use Rattle.pagable_model.specs.{declared.numbers.ArcRef.ArcRef}
+use Rattle.pagable_model.specs.{Form.{Form, Forms, both-form, list-form, more-forms, no-forms, none-form, reference-form, some-form, text-form}, Meaning.{Meaning, sequence}, References.references_in}
+use Rattle.pagable_model.specs.{Shape.{Shape, both, list, optional, reference, text}, Writing.kind_of_arc, declared.numbers.ArcRef.ArcRef}
 
 -- each form of the shape lists the references of what it is a form of, in their order
 abbrev pub ListsInOrder : (ℕ → Shape) → Shape → Type 0

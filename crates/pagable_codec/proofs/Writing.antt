@@ -1,11 +1,9 @@
 -- What writing a part adds, and what has no form.
-use Rattle.std.proofs.Common.{◌≡◌, ℕ, Bool, false, subst, ◌<◌, ◌≤◌, List, [], ◌∷◌, ◌++◌, length, arith, refl, sym, ap, ◌∙◌, append_assoc, Result, Ok, Err, inl, inr}
-use Rattle.std.proofs.lemmas.List.{append-nil}
-use Rattle.std.specs.{Char.IsScalar, Int.Width, Prelude.ℤ, Prelude.IfErr, Str.IsUtf8}
-use Rattle.pagable_model.specs.Writing.{Out, Nesting, FormAt, Writes, WritesSome, Grows, added, kind_of_arc, NoForm, Refused}
-use Rattle.pagable_model.specs.{Basic.longest, Basic.bool_form, Basic.char_form, Basic.text_form, Form.nothing-form, Form.unsigned-form, Form.signed-form, Form.flag-form, Form.letter-form}
-use Rattle.pagable_model.specs.{Form.text-form, Form.reference-form, Gives.Extends, Gives.memory, Gives.long_or, Lengths.long_or_memory, Meaning.Meaning, Meaning.number, Meaning.integer}
-use Rattle.pagable_model.specs.{Numbers.bound, Numbers.IsSigned, Numbers.unsigned_form, Numbers.signed_form, Refusals.is_writing_fault, Shape.Shape, Shape.unsigned, Shape.signed, Standing.Is}
+use Rattle.std.proofs.{Common.{◌≡◌, ℕ, Bool, false, subst, ◌<◌, ◌≤◌, List, [], ◌∷◌, ◌++◌, length, arith, refl, sym, ap, ◌∙◌, append_assoc, Result, Ok, Err, inl, inr}, lemmas.List.append-nil}
+use Rattle.std.specs.{Char.IsScalar, Int.Width, Prelude.{ℤ, IfErr}, Str.IsUtf8}
+use Rattle.pagable_model.specs.{Writing.{Out, Nesting, FormAt, Writes, WritesSome, Grows, added, kind_of_arc, NoForm, Refused}, Basic.{longest, bool_form, char_form, text_form}, Form.nothing-form}
+use Rattle.pagable_model.specs.{Form.{unsigned-form, signed-form, flag-form, letter-form, text-form, reference-form}, Gives.{Extends, memory, long_or}, Lengths.long_or_memory, Meaning.Meaning}
+use Rattle.pagable_model.specs.{Meaning.{number, integer}, Numbers.{bound, IsSigned, unsigned_form, signed_form}, Refusals.is_writing_fault, Shape.{Shape, unsigned, signed}, Standing.Is}
 use Rattle.pagable_model.specs.{declared.error.Error.Error, declared.numbers.ArcRef.ArcRef}
 use Rattle.pagable_model.specs.Meaning as meanings
 use Rattle.pagable_model.specs.Shape as shapes

@@ -1,8 +1,7 @@
 -- Adding a blob to what is stored.
-use Rattle.std.proofs.Common.{◌≡◌, ℕ, Bool, true, false, cond, Option, Some, None, refl, sym, ap, ◌∙◌, inl, inr}
-use Rattle.std.proofs.{lemmas.Bool.eqb-true, lemmas.Bool.eq-eqb, lemmas.Bool.Decides.eqb_tells}
-use Rattle.std.specs.{Arc.arc_value, Global.Global, HashMap.HashMap, HashMap.get, Prelude.◌==◌, Prelude.nat_eq, Prelude.option_map, Prelude.if◌then◌else◌}
-use Rattle.std.specs.{declared.hash.BuildHasherDefault.BuildHasherDefault, declared.hash.FoldHasher.FoldHasher, declared.sync.Arc.Arc}
+use Rattle.std.proofs.{Common.{◌≡◌, ℕ, Bool, true, false, cond, Option, Some, None, refl, sym, ap, ◌∙◌, inl, inr}, lemmas.Bool.{eqb-true, eq-eqb}, lemmas.Bool.Decides.eqb_tells}
+use Rattle.std.specs.{Arc.arc_value, Global.Global, HashMap.{HashMap, get}, Prelude.{◌==◌, nat_eq, option_map, if◌then◌else◌}, declared.hash.BuildHasherDefault.BuildHasherDefault}
+use Rattle.std.specs.{declared.hash.FoldHasher.FoldHasher, declared.sync.Arc.Arc}
 use Rattle.pagable_model.specs.{Blob.Blob, Stored.Adds}
 use Rattle.pagable_core.specs.{Blobs.stored_in, Data.blob_of, declared.storage.data.PagableData.PagableData}
 

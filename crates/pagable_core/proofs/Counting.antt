@@ -1,10 +1,9 @@
 -- How many blobs a map holds.
-use Rattle.std.proofs.{Common.◌≡◌, Common.◌∙◌, Common.ℕ, Common.Option, Common.Some, Common.None, Common.refl, Common.sym, lemmas.Bool.eqb-true, lemmas.Bool.Decides.Decides-eqb}
-use Rattle.std.proofs.{lemmas.Map.Entries.length-keys_of, lemmas.Map.Made.AllPairs-from_IsDistinct, lemmas.Map.Views.IsSome-lookup_from_Contains, lemmas.Map.Views.Contains-keys_from_lookup}
-use Rattle.std.specs.{Arc.arc_value, Cmp.nat_eq_equiv, Global.Global, HashMap.IsUnique, HashMap.hash_map_len, Map.keys_of, Prelude.nat_eq, Prelude.option_map, Prelude.IsSome, declared.sync.Arc.Arc}
-use Rattle.pagable_core.specs.{Blobs.stored_in, Data.blob_of, declared.storage.data.PagableData.PagableData}
+use Rattle.std.proofs.{Common.{◌≡◌, ◌∙◌, ℕ, Option, Some, None, refl, sym}, lemmas.Bool.eqb-true, lemmas.Bool.Decides.Decides-eqb, lemmas.Map.Entries.length-keys_of}
+use Rattle.std.proofs.{lemmas.Map.Made.AllPairs-from_IsDistinct, lemmas.Map.Views.{IsSome-lookup_from_Contains, Contains-keys_from_lookup}}
+use Rattle.std.specs.{Arc.arc_value, Cmp.nat_eq_equiv, Global.Global, HashMap.{IsUnique, hash_map_len}, Map.keys_of, Prelude.{nat_eq, option_map, IsSome}, declared.sync.Arc.Arc}
+use Rattle.pagable_core.{specs.Blobs.stored_in, specs.Data.blob_of, specs.declared.storage.data.PagableData.PagableData, proofs.Adding.Blobs}
 use Rattle.pagable_model.specs.Stored.{IsCount}
-use Rattle.pagable_core.proofs.Adding.{Blobs}
 
 -- what a function makes of a value is there exactly if the value is
 some-mapped : {A B : Type 0} (f : A → B) (o : Option A) → IsSome o → IsSome (option_map f o)

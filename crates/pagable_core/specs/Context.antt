@@ -1,7 +1,6 @@
 -- What a serializer and a deserializer over memory stand for.
-use Rattle.std.specs.{Global.Global, Prelude.ℕ, Prelude.◌+◌, Prelude.List, Prelude.[], Prelude.◌∷◌, Prelude.Result, Prelude.Vec}
-use Rattle.std.proofs.Common.{arith, ap}
-use Rattle.pagable_model.specs.{Reading.Rest, Standing.Answer, Standing.Standing, Standing.MovesOn, Track.Track, Track.GoesOn, Writing.Out, declared.error.Error.Error, declared.numbers.ArcRef.ArcRef}
+use Rattle.std.{specs.Global.Global, specs.Prelude.{ℕ, ◌+◌, List, [], ◌∷◌, Result, Vec}, proofs.Common.{arith, ap}}
+use Rattle.pagable_model.specs.{Reading.Rest, Standing.{Answer, Standing, MovesOn}, Track.{Track, GoesOn}, Writing.Out, declared.error.Error.Error, declared.numbers.ArcRef.ArcRef}
 use Rattle.pagable_core.specs.declared.context.writing.SerializedData.{SerializedData}
 
 -- nothing was written

@@ -1,9 +1,8 @@
 -- What the fields of serializers, deserializers and those who answer for references stand for.
-use Rattle.std.specs.Prelude.{◌≡◌, refl, ℕ, List, Result, Err, true}
-use Rattle.std.proofs.Common.{subst}
+use Rattle.std.{specs.Prelude.{◌≡◌, refl, ℕ, List, Result, Err, true}, proofs.Common.subst}
 use Rattle.pagable_model.specs.{Refusals.may_refuse_reference, Track.Track, Writing.Out, declared.error.Error.Error, declared.numbers.ArcRef.ArcRef}
 use Rattle.pagable_core.specs.{declared.context.reading.PagableDeserializerImpl.PagableDeserializerImpl, declared.context.references.NoReferences.NoReferences}
-use Rattle.pagable_core.specs.{declared.context.writing.SerializerOver.SerializerOver}
+use Rattle.pagable_core.specs.declared.context.writing.SerializerOver.{SerializerOver}
 use Rattle.pagable_model.specs.declared.error.Error.TheVariants as errors
 
 -- Serializers and those who answer name the environment E with its types: N of nodes, H of hashes, K and V of the keys and

@@ -1,14 +1,11 @@
 -- Expressions: a number, or two expressions one level further down.
-use Rattle.std.proofs.Common.{◌≡◌, ℕ, ◌+◌, ◌-◌, ◌<◌, ◌≤◌, Bool, true, false, [], ◌∷◌, ◌++◌, ◌∙◌, arith, refl, Result, Ok, Err, inl, inr}
-use Rattle.std.specs.{Int.w64, Prelude.OnOk, Prelude.IfErr, Prelude.◌⊎◌}
-use Rattle.pagable.specs.{ArcRef.ArcRef, Basic.bool_at, Basic.bool_form, Error.Error, Form.ok-form, Form.err-form, Form.both-form, Gives.never, Gives.memory, Gives.deep_or, Meaning.Meaning}
-use Rattle.pagable.specs.{Meaning.number, Meaning.pair, Meaning.success, Meaning.failure, Reading.Rest, Reading.deepest, Reading.read, Reading.read_with, Reading.bytes_of, Shape.unsigned}
-use Rattle.pagable.specs.{Shape.nested, Standing.Answer, Standing.Standing, Standing.MovesOn, Standing.GivesSome, Standing.Gave, Standing.Is, Standing.handles_at, Writing.Out, Writing.Nesting}
-use Rattle.pagable.specs.{Writing.nesting, Writing.WritesSome, Writing.Grows, Writing.added, Writing.NoForm, Writing.Refused}
-use Rattle.pagable.proofs.{Parts.where_ok, Reading.moves_trans, Reading.moves_refl, Writing.grows_trans, Writing.grows_same, Writing.then}
+use Rattle.std.{proofs.Common.{◌≡◌, ℕ, ◌+◌, ◌-◌, ◌<◌, ◌≤◌, Bool, true, false, [], ◌∷◌, ◌++◌, ◌∙◌, arith, refl, Result, Ok, Err, inl, inr}, specs.Int.w64, specs.Prelude.{OnOk, IfErr, ◌⊎◌}}
+use Rattle.pagable.proofs.{Parts.where_ok, Reading.{moves_trans, moves_refl}, Writing.{grows_trans, grows_same, then}}
+use Rattle.pagable.specs.{ArcRef.ArcRef, Basic.{bool_at, bool_form}, Error.Error, Form.{ok-form, err-form, both-form}, Gives.{never, memory, deep_or}, Meaning.{Meaning, number, pair, success}}
+use Rattle.pagable.specs.{Meaning.failure, Reading.{Rest, deepest, read, read_with, bytes_of}, Shape.{unsigned, nested}, Standing.{Answer, Standing, MovesOn, GivesSome, Gave, Is, handles_at}}
+use Rattle.pagable.specs.Writing.{Out, Nesting, nesting, WritesSome, Grows, added, NoForm, Refused}
 use Rattle.pagable_examples.proofs.Levels.{writes-down, refused-down, refused-deep, only-deep, reads-deep, reads-down}
-use Rattle.pagable_examples.specs.declared.expression.Expression.{Expression, Number}
-use Rattle.pagable_examples.specs.Expressions.{node, nodes, of_expression, IsWritten, IsRead, IsSum}
+use Rattle.pagable_examples.specs.{declared.expression.Expression.{Expression, Number}, Expressions.{node, nodes, of_expression, IsWritten, IsRead, IsSum}}
 use Rattle.pagable.specs.Error.TheVariants as errors
 
 -- ---- one level down

@@ -1,8 +1,7 @@
 -- A part one level further down, in any environment: what writing and reading it on the deeper level says of it.
-use Rattle.std.proofs.Common.{◌≡◌, ℕ, suc, ◌+◌, ◌-◌, ◌<◌, ◌≤◌, arith, refl, Result, Ok, Err, inl}
-use Rattle.std.specs.Prelude.{IfErr}
-use Rattle.pagable.specs.{ArcRef.ArcRef, Error.Error, Form.nested-form, Gives.deep_or, Meaning.Meaning, Reading.Rest, Reading.deepest, Reading.read, Reading.read_with, Reading.below, Shape.Shape}
-use Rattle.pagable.specs.{Shape.nested, Standing.Answer, Standing.handles_at, Writing.Out, Writing.nesting, Writing.WritesSome, Writing.NoForm, Writing.Refused}
+use Rattle.std.{proofs.Common.{◌≡◌, ℕ, suc, ◌+◌, ◌-◌, ◌<◌, ◌≤◌, arith, refl, Result, Ok, Err, inl}, specs.Prelude.IfErr}
+use Rattle.pagable.specs.{ArcRef.ArcRef, Error.Error, Form.nested-form, Gives.deep_or, Meaning.Meaning, Reading.{Rest, deepest, read, read_with, below}, Shape.{Shape, nested}, Standing.Answer}
+use Rattle.pagable.specs.{Standing.handles_at, Writing.{Out, nesting, WritesSome, NoForm, Refused}}
 use Rattle.pagable.specs.Error.TheVariants as errors
 
 module _ (parts : ℕ → Shape) (part : ℕ) where

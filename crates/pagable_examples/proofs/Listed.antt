@@ -1,10 +1,9 @@
 -- What writing a link or a bundle lists, and why reading a bundle is refused.
-use Rattle.std.proofs.Common.{◌≡◌, ◌⊎◌, ◌++◌, inl, inr, ℕ, Result}
-use Rattle.std.specs.Prelude.{OnOk}
+use Rattle.std.{proofs.Common.{◌≡◌, ◌⊎◌, ◌++◌, inl, inr, ℕ, Result}, specs.Prelude.OnOk}
 use Rattle.pagable_examples.specs.Linked.{bundle_in_order, bundle_meaning, bundle_means, bundle_shape, bundle_single, chain_in_order, chain_meaning, chain_means, chain_single, no_parts}
 use Rattle.pagable_examples.specs.{declared.linked.bundle.Bundle.Bundle, declared.linked.chain.Chain.Chain}
 use Rattle.pagable_arcs.proofs.Listed.{written_listed}
-use Rattle.pagable_model.specs.{References.references_in, Shape.optional, Shape.reference, Writing.Out, Writing.WritesSome, Writing.nesting, declared.error.Error.Error}
+use Rattle.pagable_model.specs.{References.references_in, Shape.{optional, reference}, Writing.{Out, WritesSome, nesting}, declared.error.Error.Error}
 
 pub link_listed : {X : Type 0} (r : Result X Error) (v : Chain 1) (levels : ℕ) (old new : Out)
     → OnOk r (WritesSome (chain_means 1 v) (nesting levels no_parts) (optional (reference 1)) old new) → OnOk r (new.refs ≡ old.refs ++ references_in (chain_meaning 1 v))

@@ -1,8 +1,6 @@
 -- The refusals of a storage that fails once.
-use Rattle.std.proofs.Common.{◌≡◌, ◌+◌, ◌-◌, ◌^◌, ◌<◌, ◌≤◌, ℕ, Bool, true, false, min, arith, Option, Result, Ok, Err, inl, inr}
-use Rattle.std.proofs.lemmas.Bool.{cases_lt}
-use Rattle.std.specs.Prelude.{IfErr, ◌⊎◌}
-use Rattle.pagable_model.specs.{Blob.Blob, Stored.HasFailed, Stored.RefusesFetch, Stored.RefusesStore, Stored.RefusesFlush, declared.error.Error.Error}
+use Rattle.std.{proofs.Common.{◌≡◌, ◌+◌, ◌-◌, ◌^◌, ◌<◌, ◌≤◌, ℕ, Bool, true, false, min, arith, Option, Result, Ok, Err, inl, inr}, proofs.lemmas.Bool.cases_lt, specs.Prelude.{IfErr, ◌⊎◌}}
+use Rattle.pagable_model.specs.{Blob.Blob, Stored.{HasFailed, RefusesFetch, RefusesStore, RefusesFlush}, declared.error.Error.Error}
 use Rattle.pagable_examples.specs.Failing.{own_failures, failures_of}
 use Rattle.pagable_model.specs.declared.error.Error.TheVariants as errors
 

@@ -1,7 +1,6 @@
 -- The tags of animals, and what stands under each.
-use Rattle.std.specs.{Int.w8, Prelude.refl, Prelude.ℕ, Prelude.List, Prelude.[], Prelude.◌∷◌, Prelude.cond, Str.bytes_eq}
-use Rattle.pagable.specs.{ArcRef.ArcRef, Carried.of_tagged, Meaning.Meaning, Meaning.none, Meaning.number, Shape.Shape, Shape.nothing, Shape.unsigned, Standing.Is, Standing.SomeMeaning}
-use Rattle.pagable.specs.{Tagged.MeansTagged}
+use Rattle.std.specs.{Int.w8, Prelude.{refl, ℕ, List, [], ◌∷◌, cond}, Str.bytes_eq}
+use Rattle.pagable.specs.{ArcRef.ArcRef, Carried.of_tagged, Meaning.{Meaning, none, number}, Shape.{Shape, nothing, unsigned}, Standing.{Is, SomeMeaning}, Tagged.MeansTagged}
 use Rattle.pagable_examples.specs.{declared.animal.Animal.Animal, declared.animal.AnimalReader.AnimalReader}
 use Rattle.pagable_examples.specs.declared.animal.Animal.TheVariants as animals
 use Rattle.pagable_examples.specs.declared.animal.AnimalReader.TheVariants as readers

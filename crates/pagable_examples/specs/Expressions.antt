@@ -1,8 +1,7 @@
 -- What expressions mean, and how they are spelled.
-use Rattle.std.specs.{Int.w64, Prelude.◌≡◌, Prelude.ℕ, Prelude.OnOk, Prelude.IfErr, Prelude.Result, Prelude.Ok, Prelude.Err}
-use Rattle.pagable.specs.{ArcRef.ArcRef, Error.Error, Gives.memory, Gives.deep_or, Meaning.Meaning, Meaning.number, Meaning.pair, Meaning.success, Meaning.failure, Reading.Rest, Reading.read}
-use Rattle.pagable.specs.{Shape.Shape, Shape.unsigned, Shape.both, Shape.nested, Shape.outcome, Standing.Answer, Standing.Standing, Standing.MovesOn, Standing.GivesSome, Standing.Is}
-use Rattle.pagable.specs.{Standing.handles_at, Writing.Out, Writing.nesting, Writing.WritesSome, Writing.Refused, Writing.Grows}
+use Rattle.std.specs.{Int.w64, Prelude.{◌≡◌, ℕ, OnOk, IfErr, Result, Ok, Err}}
+use Rattle.pagable.specs.{ArcRef.ArcRef, Error.Error, Gives.{memory, deep_or}, Meaning.{Meaning, number, pair, success, failure}, Reading.{Rest, read}, Shape.{Shape, unsigned, both, nested, outcome}}
+use Rattle.pagable.specs.{Standing.{Answer, Standing, MovesOn, GivesSome, Is, handles_at}, Writing.{Out, nesting, WritesSome, Refused, Grows}}
 use Rattle.pagable_examples.specs.declared.expression.Expression.{Expression, Number, Sum'}
 
 -- a number, or two expressions, each one level further down

@@ -1,16 +1,13 @@
 -- What links and bundles mean and refer to, and what the nodes that hold them do.
-use Rattle.std.proofs.Common.{arith, subst}
-use Rattle.std.specs.Prelude.{◌≡◌, ◌≢◌, ◌<◌, ◌^◌, refl, true, false, ℕ, zero, suc, List, Option, Some, None}
-use Rattle.std.specs.Arc.{arc_value}
+use Rattle.std.{proofs.Common.{arith, subst}, specs.Prelude.{◌≡◌, ◌≢◌, ◌<◌, ◌^◌, refl, true, false, ℕ, zero, suc, List, Option, Some, None}, specs.Arc.arc_value}
 use Rattle.pagable_examples.specs.{declared.linked.LinkedNode.LinkedNode, declared.linked.bundle.Bundle.Bundle, declared.linked.chain.Chain.Chain}
-use Rattle.pagable_arcs.specs.References.{holding_means, loose_means, reference_has_one_form, reference_is_read, unlent, unlent_is_own}
-use Rattle.pagable_arcs.specs.{Plain.plain_means, Refers.ListsInOrder, Refers.both_in_order, Refers.list_in_order, Refers.optional_in_order, Refers.reference_in_order}
-use Rattle.pagable_model.specs.Causes.{either_is_own_reading, either_may_refuse_writing, long_or_may_refuse_writing, memory_may_refuse_writing, memory_or_is_own_reading, memory_or_may_refuse_writing, never_is_own_reading}
-use Rattle.pagable_model.specs.Lifted.{MeansList, MeansOption, MeansPair, list_is_meaning, list_single, option_is_meaning, option_single}
-use Rattle.pagable_model.specs.{Carried.of_list, Carried.of_option, Gives.either, Gives.long_or, Gives.memory, Gives.memory_or, Gives.never, Meaning.Meaning, Meaning.pair}
-use Rattle.pagable_model.specs.{OneForm.HasOneFormThroughout, OneForm.both_has_one_form, OneForm.list_has_one_form, OneForm.optional_has_one_form, References.references_in, References.SameReferences}
-use Rattle.pagable_model.specs.{Refusals.is_own_reading, Refusals.may_refuse_writing, Shape.Shape, Shape.both, Shape.list, Shape.nothing, Shape.optional, Shape.reference, Standing.Is}
-use Rattle.pagable_model.specs.{Standing.SomeMeaning, declared.error.Error.Error, declared.numbers.ArcRef.ArcRef}
+use Rattle.pagable_arcs.specs.{References.{holding_means, loose_means, reference_has_one_form, reference_is_read, unlent, unlent_is_own}, Plain.plain_means, Refers.{ListsInOrder, both_in_order}}
+use Rattle.pagable_arcs.specs.Refers.{list_in_order, optional_in_order, reference_in_order}
+use Rattle.pagable_model.specs.Causes.{either_is_own_reading, either_may_refuse_writing, long_or_may_refuse_writing, memory_may_refuse_writing, memory_or_is_own_reading, memory_or_may_refuse_writing}
+use Rattle.pagable_model.specs.{Causes.never_is_own_reading, Lifted.{MeansList, MeansOption, MeansPair, list_is_meaning, list_single, option_is_meaning, option_single}, Carried.{of_list, of_option}}
+use Rattle.pagable_model.specs.{Gives.{either, long_or, memory, memory_or, never}, Meaning.{Meaning, pair}, OneForm.{HasOneFormThroughout, both_has_one_form, list_has_one_form}}
+use Rattle.pagable_model.specs.{OneForm.optional_has_one_form, References.{references_in, SameReferences}, Refusals.{is_own_reading, may_refuse_writing}, Shape.{Shape, both, list, nothing, optional}}
+use Rattle.pagable_model.specs.{Shape.reference, Standing.{Is, SomeMeaning}, declared.error.Error.Error, declared.numbers.ArcRef.ArcRef}
 use Rattle.pagable.specs.ReadBack.{IsReadThroughout, both_is_read, list_is_read, optional_is_read}
 use Rattle.pagable_examples.specs.declared.linked.LinkedNode.TheVariants as nodes
 

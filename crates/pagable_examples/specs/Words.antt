@@ -1,7 +1,6 @@
 -- What static texts and bytes mean.
-use Rattle.std.specs.{Borrow.Bor, Prelude.◌≡◌, Prelude.refl, Prelude.ℕ, Prelude.List, Prelude.[], Prelude.◌∷◌, Prelude.map, Prelude.IsTrue, Str.bytes_eq}
-use Rattle.std.proofs.{Common.ap, lemmas.Slice.Eq.bytes_eq-Decides}
-use Rattle.pagable.specs.{Canonical.HasNoReference, Meaning.Meaning, Meaning.text, Meaning.number, Meaning.sequence}
+use Rattle.std.{specs.Borrow.Bor, specs.Prelude.{◌≡◌, refl, ℕ, List, [], ◌∷◌, map, IsTrue}, specs.Str.bytes_eq, proofs.Common.ap, proofs.lemmas.Slice.Eq.bytes_eq-Decides}
+use Rattle.pagable.specs.{Canonical.HasNoReference, Meaning.{Meaning, text, number, sequence}}
 
 abbrev pub of_text : List ℕ → Meaning ⊥
 of_text bytes = text bytes

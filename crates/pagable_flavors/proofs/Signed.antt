@@ -1,6 +1,5 @@
 -- How large the number without a sign is that stands for one with a sign.
-use Rattle.std.proofs.Common.{◌<◌, ◌^◌, ℤ, pos, negsuc, FitsSigned, arith}
-use Rattle.std.specs.Int.{w16, w32}
+use Rattle.std.{proofs.Common.{◌<◌, ◌^◌, ℤ, pos, negsuc, FitsSigned, arith}, specs.Int.{w16, w32}}
 use Rattle.pagable_model.specs.Numbers.{zigzag}
 
 pub zigzag_below-16 : (z : ℤ) → FitsSigned w16 z → zigzag z < 2 ^ 16

@@ -1,7 +1,5 @@
 -- UTF-8 as a test.
-use Rattle.std.proofs.Common.{◌≡◌, List, ℕ, Bool, true, false, refl}
-use Rattle.std.specs.Str.{IsUtf8, is_utf8}
-use Rattle.std.proofs.lemmas.Str.{IsUtf8-from_is_utf8, is_utf8-from_IsUtf8, chars_past_char, chars-nil}
+use Rattle.std.{proofs.Common.{◌≡◌, List, ℕ, Bool, true, false, refl}, specs.Str.{IsUtf8, is_utf8}, proofs.lemmas.Str.{IsUtf8-from_is_utf8, is_utf8-from_IsUtf8, chars_past_char, chars-nil}}
 
 pub not_utf8 : (bs : List ℕ) → (IsUtf8 bs → ⊥) → is_utf8 bs ≡ false
 not_utf8 bs h = go (is_utf8 bs) refl

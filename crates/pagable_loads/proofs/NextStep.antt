@@ -1,8 +1,7 @@
 -- From what reading gives to what the blob asks for next.
 use Rattle.pagable_loads.proofs.Words.{arith, nat_tests, common_steps, rules, ◌≡◌, ℕ, ◌+◌, List, [], ◌∷◌, length, true, false, Option, Some, None, Result, Ok, Err, ◌⊎◌, inl, inr, refl, ap, subst}
-use Rattle.pagable_loads.proofs.Words.{sym, ◌∙◌, slice_get, Error, ArcRef, Meaning, Blob, is_own_reading, Shape, Rest, read_typed, Answer, Standing, GivesSome, handles_at, rest_at, at_front}
-use Rattle.pagable_loads.proofs.Words.{Values, answer_of, answers_from, asks_for, next_by, next_of, read_with, is_faulty, Decodes, Answers, ReadsWith, Asks, is_asking, Decoded}
-use Rattle.pagable_loads.specs.Got.{answer_at}
+use Rattle.pagable_loads.proofs.Words.{sym, ◌∙◌, slice_get, Error, ArcRef, Meaning, Blob, is_own_reading, Shape, Rest, read_typed, Answer, Standing, GivesSome, handles_at, rest_at, at_front, Values}
+use Rattle.pagable_loads.{proofs.Words.{answer_of, answers_from, asks_for, next_by, next_of, read_with, is_faulty, Decodes, Answers, ReadsWith, Asks, is_asking, Decoded}, specs.Got.answer_at}
 use Rattle.pagable_model.specs.declared.error.Error.TheVariants as errors
 use Rattle.pagable_core.specs.Context as context
 use Rattle.pagable_loads.specs.declared.decoding.Decoded.TheVariants as decoded

@@ -1,7 +1,6 @@
 -- What those who answer from a list of got references stand for.
-use Rattle.std.specs.Prelude.{◌≡◌, refl, ℕ, ◌==◌, Bool, true, false, if◌then◌else◌, List, Option, Some, None, Result, Ok, Err, option_and_then, slice_get}
-use Rattle.std.specs.{Option.option_map, declared.alloc.Global.Global, declared.sync.Arc.Arc}
-use Rattle.std.proofs.Common.{subst}
+use Rattle.std.{specs.Prelude.{◌≡◌, refl, ℕ, ◌==◌, Bool, true, false, if◌then◌else◌, List, Option, Some, None, Result, Ok, Err, option_and_then, slice_get}, specs.Option.option_map}
+use Rattle.std.{specs.declared.alloc.Global.Global, specs.declared.sync.Arc.Arc, proofs.Common.subst}
 use Rattle.pagable_model.specs.{declared.error.Error.Error, declared.numbers.ArcRef.ArcRef, Refusals.may_refuse_reference}
 use Rattle.pagable_world.specs.Loads.{answer_of}
 use Rattle.pagable_loads.specs.declared.got.GotReferences.{GotReferences}

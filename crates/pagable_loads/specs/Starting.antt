@@ -1,10 +1,8 @@
 -- A pin that begins, and one that was begun and is taken back.
-use Rattle.std.specs.Prelude.{◌≡◌, ◌⊎◌, Bool, true, false, Option, Some, Result, Ok, Err, IfOk, IfErr}
-use Rattle.std.specs.Option.{option_map}
+use Rattle.std.specs.{Prelude.{◌≡◌, ◌⊎◌, Bool, true, false, Option, Some, Result, Ok, Err, IfOk, IfErr}, Option.option_map}
 use Rattle.pagable_model.specs.{declared.error.Error.Error, declared.numbers.HandleNumber.HandleNumber}
-use Rattle.pagable_world.specs.World.{Core, Values, row_at}
-use Rattle.pagable_world.specs.{declared.handles.HandleRow.HandleRow, declared.handles.Owner.Owner, Plain.if_there, Kinds.is_unpinned, Refusals.live_fault, Calls.PinCall, Calls.UnpinCall}
-use Rattle.pagable_world.specs.{Calls.ReleaseCall, LoadCalls.BeginCall, Workers.fresh, Events.reading_of_load, Pager.PagerState, Pager.ValueCall, Access.Called, Access.PinRun}
+use Rattle.pagable_world.specs.{World.{Core, Values, row_at}, declared.handles.HandleRow.HandleRow, declared.handles.Owner.Owner, Plain.if_there, Kinds.is_unpinned, Refusals.live_fault}
+use Rattle.pagable_world.specs.{Calls.{PinCall, UnpinCall, ReleaseCall}, LoadCalls.BeginCall, Workers.fresh, Events.reading_of_load, Pager.{PagerState, ValueCall}, Access.{Called, PinRun}}
 use Rattle.pagable_loads.specs.declared.starting.PinStart.{PinStart}
 use Rattle.pagable_model.specs.declared.error.Error.TheVariants as errors
 use Rattle.pagable_world.specs.declared.answers.Beginning.TheVariants as beginnings

@@ -1,10 +1,9 @@
 -- What a worker's calls of an access do, in the words of the world.
 use Rattle.std.specs.Prelude.{ℕ, ◌≡◌, ◌≤◌, ◌⊎◌, true, length, Option, Some, None, Result, Ok, Err, IfOk, IfErr}
 use Rattle.pagable_model.specs.{declared.error.Error.Error, declared.numbers.ArcRef.ArcRef, declared.numbers.HandleNumber.HandleNumber, declared.numbers.LoadNumber.LoadNumber}
-use Rattle.pagable_model.specs.{declared.numbers.WorkerNumber.WorkerNumber}
-use Rattle.pagable_world.specs.Kinds.{loose_kind, HasKinds, HasNoKinds}
-use Rattle.pagable_world.specs.{declared.handles.HandleRow.HandleRow, declared.handles.Owner.Owner, World.Core, World.Values, World.Alike, Workers.RowIs, Workers.PinsAtOnce, Workers.PinRefused}
-use Rattle.pagable_world.specs.{LoadCalls.BeginCall, Calls.CloneCall, Events.IsEntry, Events.with_entry_taken, Pager.PagerState, Access.Called, Access.WorkerStarts}
+use Rattle.pagable_model.specs.declared.numbers.WorkerNumber.{WorkerNumber}
+use Rattle.pagable_world.specs.{Kinds.{loose_kind, HasKinds, HasNoKinds}, declared.handles.HandleRow.HandleRow, declared.handles.Owner.Owner, World.{Core, Values, Alike}, Workers.{RowIs, PinsAtOnce}}
+use Rattle.pagable_world.specs.{Workers.PinRefused, LoadCalls.BeginCall, Calls.CloneCall, Events.{IsEntry, with_entry_taken}, Pager.PagerState, Access.{Called, WorkerStarts}}
 use Rattle.pagable_loads.specs.{declared.working.Taken.Taken, Telling.Acting}
 use Rattle.pagable_model.specs.declared.error.Error.TheVariants as errors
 use Rattle.pagable_world.specs.declared.answers.Beginning.TheVariants as beginnings

@@ -1,10 +1,9 @@
 -- Tables and workers that begin.
 use Rattle.pagable_machine.proofs.Words.{still, nat_tests, common_steps, rules, ◌≡◌, ◌≢◌, ℕ, zero, suc, ◌+◌, ◌≤◌, true, List, [], ◌∷◌, ◌++◌, Option, Some, Ok, inl, inr, refl, sym, ap, subst, ◌∙◌}
-use Rattle.pagable_machine.proofs.Words.{length, arith, is_some, slice_get, length-append, WorkerNumber, Event, TableNumber, updated, is_owner, Alike, Core, SameShelf, Seen, Happens, IsTable}
-use Rattle.pagable_machine.proofs.Words.{Starts, no_shelf, with_worker, step_of, Moves, PagerState, WellFormed, world_of, same-number, Ghosts, SlotTable, Task, shelf_of, IsPlain, TaskFits, Walk}
-use Rattle.pagable_machine.proofs.Words.{Holding, IsServing, KeepsOne, Makes, machine_of, readings_in, IsBegun, IsWalkKept, shelf_at}
-use Rattle.pagable_machine.proofs.Keeping.{are-these, as-before, at-one, kept-on, makes, makes-with, not-same, one-serves, updated-at}
-use Rattle.pagable_machine.proofs.{Leaving.Leaves, Leaving.same, Passing.Passes, Passing.event-passes}
+use Rattle.pagable_machine.proofs.Words.{length, arith, is_some, slice_get, length-append, WorkerNumber, Event, TableNumber, updated, is_owner, Alike, Core, SameShelf, Seen, Happens, IsTable, Starts}
+use Rattle.pagable_machine.proofs.Words.{no_shelf, with_worker, step_of, Moves, PagerState, WellFormed, world_of, same-number, Ghosts, SlotTable, Task, shelf_of, IsPlain, TaskFits, Walk, Holding}
+use Rattle.pagable_machine.proofs.{Words.{IsServing, KeepsOne, Makes, machine_of, readings_in, IsBegun, IsWalkKept, shelf_at}, Keeping.{are-these, as-before, at-one, kept-on, makes, makes-with}}
+use Rattle.pagable_machine.proofs.{Keeping.{not-same, one-serves, updated-at}, Leaving.{Leaves, same}, Passing.{Passes, event-passes}}
 use Rattle.pagable_world.specs.declared.events.Event.TheVariants as events
 use Rattle.pagable_world.specs.declared.events.EventReply.TheVariants as answers
 use Rattle.pagable_world.specs.declared.handles.Owner.TheVariants as owners

@@ -1,12 +1,11 @@
 -- Each event of tables and workers, by what the pager and what is kept say of it.
 use Rattle.pagable_machine.proofs.Words.{Result, IfOk, IfErr, OnErr, still, ◌≡◌, ℕ, ◌+◌, ◌<◌, ◌≤◌, Bool, true, false, List, [], ◌∷◌, ◌++◌, Option, Some, None, Ok, Err, ◌⊎◌, inl, inr, refl, sym}
-use Rattle.pagable_machine.proofs.Words.{subst, ◌∙◌, length, arith, is_none, is_some, option_map, Global, Arc, Vec, nat_tests, SerializedData, Error, ArcRef, HandleNumber, WorkerNumber}
-use Rattle.pagable_machine.proofs.Words.{TableNumber, WorkerAnswer, WorkerReply, HandleRow, Blob, if_there, HasNoKinds, identity_of, Alike, SameShelf, Seen, Values, Walking, Written, of_entry}
-use Rattle.pagable_machine.proofs.Words.{of_item, Called, WorkerStarts, IsEntry, IsNoTable, IsTable, entry_task, no_shelf, with_entry_taken, PagerState, WellFormed, world_of, RefusesEntry}
-use Rattle.pagable_machine.proofs.Words.{StartsEntry, PagerView, Telling, state_in, Ghosts, SlotTable, written_of, shelf_of, plain, Held, Walk, Holding, KeepsOne, Makes, machine_of, IsBegun}
-use Rattle.pagable_machine.proofs.Words.{WalksOn, has_task, is_table, walking_of, Answer, ByNumber, Drives, Given, IsInStep, holding, kept_at, over}
-use Rattle.pagable_machine.proofs.Keeping.{KeepsAll, refuses, stays}
-use Rattle.pagable_machine.proofs.{Happening.keeps-after, Beginning.starts-so, Beginning.table-made, Beginning.worker-made, Stepping.worker-moved, Working.entry-leaves, Working.item-leaves}
+use Rattle.pagable_machine.proofs.Words.{subst, ◌∙◌, length, arith, is_none, is_some, option_map, Global, Arc, Vec, nat_tests, SerializedData, Error, ArcRef, HandleNumber, WorkerNumber, TableNumber}
+use Rattle.pagable_machine.proofs.Words.{WorkerAnswer, WorkerReply, HandleRow, Blob, if_there, HasNoKinds, identity_of, Alike, SameShelf, Seen, Values, Walking, Written, of_entry, of_item, Called}
+use Rattle.pagable_machine.proofs.Words.{WorkerStarts, IsEntry, IsNoTable, IsTable, entry_task, no_shelf, with_entry_taken, PagerState, WellFormed, world_of, RefusesEntry, StartsEntry, PagerView}
+use Rattle.pagable_machine.proofs.Words.{Telling, state_in, Ghosts, SlotTable, written_of, shelf_of, plain, Held, Walk, Holding, KeepsOne, Makes, machine_of, IsBegun, WalksOn, has_task, is_table}
+use Rattle.pagable_machine.proofs.{Words.{walking_of, Answer, ByNumber, Drives, Given, IsInStep, holding, kept_at, over}, Keeping.{KeepsAll, refuses, stays}, Happening.keeps-after}
+use Rattle.pagable_machine.proofs.{Beginning.{starts-so, table-made, worker-made}, Stepping.worker-moved, Working.{entry-leaves, item-leaves}}
 use Rattle.pagable_model.specs.declared.error.Error.TheVariants as errors
 use Rattle.pagable_world.specs.declared.events.Event.TheVariants as events
 use Rattle.pagable_world.specs.declared.events.EventReply.TheVariants as answers

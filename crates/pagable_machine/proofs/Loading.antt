@@ -2,11 +2,10 @@
 use Rattle.pagable_machine.proofs.Words.{owner-owns, still, nat_tests, common_steps, rules, ◌≡◌, ℕ, Bool, true, false, List, [], Option, Some, None, Ok, Err, inl, inr, refl, sym, ap, subst, ◌∙◌}
 use Rattle.pagable_machine.proofs.Words.{arith, Result, is_none, is_some, not, option_map, LoadAnswer, Error, LoadNumber, LoadReply, if_there, or_else, updated, is_owner, Frame, OpenLoad, Reading}
 use Rattle.pagable_machine.proofs.Words.{Root, of_cell, of_key, Seen, one_more, OwnsLoad, earlier, load_fault, refused_if, DropCall, LoadCloses, gone_on, fresh, reading_after, reading_at}
-use Rattle.pagable_machine.proofs.Words.{reading_of_root, step_fault, FitsRoot, Moves, PagerState, WellFormed, world_of, ReadingStep, same_some, IsLoadOf, is_cell, reading_of, type_of_root}
-use Rattle.pagable_machine.proofs.Words.{Ghosts, Holding, IsKept, IsSameLoad, IsServing, IsTaken, KeepsOne, Kept, Makes, ReadsFor, Stepped, machine_of, readings_in, rest_after}
+use Rattle.pagable_machine.proofs.Words.{reading_of_root, step_fault, FitsRoot, Moves, PagerState, WellFormed, world_of, ReadingStep, same_some, IsLoadOf, is_cell, reading_of, type_of_root, Ghosts}
+use Rattle.pagable_machine.proofs.{Words.{Holding, IsKept, IsSameLoad, IsServing, IsTaken, KeepsOne, Kept, Makes, ReadsFor, Stepped, machine_of, readings_in, rest_after}, Keeping.KeepsAll}
+use Rattle.pagable_machine.proofs.{Keeping.{are-these, as-before, at-one, kept-on, one-or-old, quiet, refuses, same-work, stays}, Leaving.{IsMine, owned-mine, step-leaves}}
 use Rattle.pagable_loads.specs.declared.reading.Reading.{Reading as Own}
-use Rattle.pagable_machine.proofs.Keeping.{KeepsAll, are-these, as-before, at-one, kept-on, one-or-old, quiet, refuses, same-work, stays}
-use Rattle.pagable_machine.proofs.Leaving.{IsMine, owned-mine, step-leaves}
 use Rattle.pagable_model.specs.declared.error.Error.TheVariants as errors
 use Rattle.pagable_world.specs.declared.handles.Owner.TheVariants as owners
 use Rattle.pagable_world.specs.declared.events.LoadAnswer.TheVariants as ends

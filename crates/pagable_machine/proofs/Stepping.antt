@@ -1,13 +1,12 @@
 -- A worker's step.
 use Rattle.pagable_machine.proofs.Words.{nat_tests, common_steps, rules, ◌≡◌, ◌≢◌, ℕ, zero, suc, ◌≤◌, ◌==◌, Bool, true, false, List, [], ◌∷◌, Option, Some, None, Ok, inl, inr, if◌then◌else◌, refl}
-use Rattle.pagable_machine.proofs.Words.{sym, ap, subst, ◌∙◌, length, arith, is_none, is_some, option_map, Arc, Global, SerializedData, WorkerNumber, Took, WorkerAnswer, WorkerReply, Blob}
-use Rattle.pagable_machine.proofs.Words.{if_there, updated, is_owner, owner_worker, Core, SameShelf, Seen, Shelf, Todo, Values, Written, Site, WalkDoes, answer_after, is_counted, Ends, Happens}
-use Rattle.pagable_machine.proofs.Words.{WorkerSteps, no_shelf, steps_after, PagerState, TodoBrings, WellFormed, world_of, same-number, Ghosts, SlotTable, Task, Turn, Waiting, shelf_of, todo_of}
-use Rattle.pagable_machine.proofs.Words.{todos, LeavesFit, TaskFits, answer_in, plain, plain_took, plan, Walk, Holding, IsServing, KeepsOne, Makes, machine_of, readings_in, plain_moved}
-use Rattle.pagable_machine.proofs.Words.{IsWalkKept, SetsTable, WalksOn, shelf_at, task_in, todo_left, walking_of}
+use Rattle.pagable_machine.proofs.Words.{sym, ap, subst, ◌∙◌, length, arith, is_none, is_some, option_map, Arc, Global, SerializedData, WorkerNumber, Took, WorkerAnswer, WorkerReply, Blob, if_there}
+use Rattle.pagable_machine.proofs.Words.{updated, is_owner, owner_worker, Core, SameShelf, Seen, Shelf, Todo, Values, Written, Site, WalkDoes, answer_after, is_counted, Ends, Happens, WorkerSteps}
+use Rattle.pagable_machine.proofs.Words.{no_shelf, steps_after, PagerState, TodoBrings, WellFormed, world_of, same-number, Ghosts, SlotTable, Task, Turn, Waiting, shelf_of, todo_of, todos, LeavesFit}
+use Rattle.pagable_machine.proofs.Words.{TaskFits, answer_in, plain, plain_took, plan, Walk, Holding, IsServing, KeepsOne, Makes, machine_of, readings_in, plain_moved, IsWalkKept, SetsTable, WalksOn}
+use Rattle.pagable_machine.proofs.{Words.{shelf_at, task_in, todo_left, walking_of}, Keeping.{are-these, as-before, at-one, kept-on, makes-with, not-same, one-serves, updated-at}, Leaving.Leaves}
+use Rattle.pagable_machine.proofs.{Leaving.owned-mine, Passing.{Passes, event-passes}, Working.{FrontMine, end-leaves, walk-leaves, works_after}}
 use Rattle.pagable_walk.specs.Turns.{Stepped}
-use Rattle.pagable_machine.proofs.Keeping.{are-these, as-before, at-one, kept-on, makes-with, not-same, one-serves, updated-at}
-use Rattle.pagable_machine.proofs.{Leaving.Leaves, Leaving.owned-mine, Passing.Passes, Passing.event-passes, Working.FrontMine, Working.end-leaves, Working.walk-leaves, Working.works_after}
 use Rattle.pagable_world.specs.declared.events.Event.TheVariants as events
 use Rattle.pagable_world.specs.declared.events.EventReply.TheVariants as answers
 use Rattle.pagable_walk.specs.declared.tasks.Task.TheVariants as tasks

@@ -1,13 +1,12 @@
 -- What a machine keeps of loads, tables and workers, and when it is in step with its pager; and what one event does to both.
-use Rattle.std.specs.Prelude.{ℕ, ◌≡◌, ◌≢◌, ◌≤◌, ◌⊎◌, true, List, length, Option, Some, None, is_some}
-use Rattle.std.specs.Option.{option_map}
+use Rattle.std.specs.{Prelude.{ℕ, ◌≡◌, ◌≢◌, ◌≤◌, ◌⊎◌, true, List, length, Option, Some, None, is_some}, Option.option_map}
 use Rattle.pagable_model.specs.{declared.error.Error.Error, declared.numbers.LoadNumber.LoadNumber}
-use Rattle.pagable_world.specs.World.{Core, OpenLoad, Reading, Seen, Values, Work, one_more}
-use Rattle.pagable_world.specs.{declared.events.Event.Event, declared.events.EventReply.EventReply, Plain.if_there, declared.events.LoadAnswer.LoadAnswer, declared.events.LoadReply.LoadReply}
-use Rattle.pagable_world.specs.{declared.handles.Owner.Owner, Refusals.Refused, Refusals.spent, Access.ReadingStep, Workers.fresh, Pager.FitsRoot, Pager.MachineState, Pager.PagerState, Runs.Does}
-use Rattle.pagable_loads.specs.{declared.reading.Reading.Reading as Own, Frames.IsLoadOf, Frames.is_cell, Frames.reading_of}
+use Rattle.pagable_world.specs.{World.{Core, OpenLoad, Reading, Seen, Values, Work, one_more}, declared.events.Event.Event, declared.events.EventReply.EventReply, Plain.if_there}
+use Rattle.pagable_world.specs.{declared.events.LoadAnswer.LoadAnswer, declared.events.LoadReply.LoadReply, declared.handles.Owner.Owner, Refusals.{Refused, spent}, Access.ReadingStep, Workers.fresh}
+use Rattle.pagable_world.specs.{Pager.{FitsRoot, MachineState, PagerState}, Runs.Does}
 use Rattle.pagable_walk.specs.{declared.results.Trees.Ghosts, declared.table.SlotTable.SlotTable}
-use Rattle.pagable_machine.specs.{declared.held.Walk.Walk, Walking.IsWalkKept, Walking.shelf_at, Walking.walking_of}
+use Rattle.pagable_machine.specs.{declared.held.Walk.Walk, Walking.{IsWalkKept, shelf_at, walking_of}}
+use Rattle.pagable_loads.specs.{declared.reading.Reading.Reading as Own, Frames.IsLoadOf, Frames.is_cell, Frames.reading_of}
 use Rattle.pagable_world.specs.declared.handles.Owner.TheVariants as owners
 
 -- what is kept of loads, by their numbers

@@ -1,12 +1,11 @@
 -- What a machine keeps of tables and workers, as the plain world knows it.
-use Rattle.std.specs.Prelude.{ℕ, ◌≡◌, ◌≢◌, ◌<◌, ◌≤◌, ◌∷◌, [], zero, suc, ◌&&◌, Bool, false, true, nat_le, nat_lt, List, length, Option, Some, None, is_none, is_some, slice_get}
-use Rattle.std.specs.{Arc.arc_value, declared.alloc.Global.Global, declared.sync.Arc.Arc}
+use Rattle.std.specs.{Prelude.{ℕ, ◌≡◌, ◌≢◌, ◌<◌, ◌≤◌, ◌∷◌, [], zero, suc, ◌&&◌, Bool, false, true, nat_le, nat_lt, List, length, Option, Some, None, is_none, is_some, slice_get}, Arc.arc_value}
+use Rattle.std.specs.{declared.alloc.Global.Global, declared.sync.Arc.Arc}
 use Rattle.pagable_core.specs.declared.context.writing.SerializedData.{SerializedData}
-use Rattle.pagable_world.specs.{declared.events.WorkerReply.WorkerReply, Plain.if_there, Kinds.owner_worker, Pager.PagerState, World.Core, World.Shelf, World.Todo, World.Values, World.Walking}
-use Rattle.pagable_world.specs.{World.of_item, World.of_entry, declared.events.TableNumber.TableNumber, Events.new_walking, Events.no_shelf, Events.steps_after}
-use Rattle.pagable_walk.specs.Tasks.{IsPlain, IsWay, todo_of, todos}
-use Rattle.pagable_walk.specs.{declared.results.Trees.Ghosts, declared.table.SlotTable.SlotTable, declared.tasks.Moved.Moved, declared.tasks.Task.Task, declared.tasks.Turn.Turn}
-use Rattle.pagable_walk.specs.{declared.tasks.Waiting.Waiting, Slots.written_of, Table.shelf_of, Turns.StepsTo, Turns.TaskFits, Turns.answer_in, Turns.plan}
+use Rattle.pagable_world.specs.{declared.events.WorkerReply.WorkerReply, Plain.if_there, Kinds.owner_worker, Pager.PagerState, World.{Core, Shelf, Todo, Values, Walking, of_item, of_entry}}
+use Rattle.pagable_world.specs.{declared.events.TableNumber.TableNumber, Events.{new_walking, no_shelf, steps_after}}
+use Rattle.pagable_walk.specs.{Tasks.{IsPlain, IsWay, todo_of, todos}, declared.results.Trees.Ghosts, declared.table.SlotTable.SlotTable, declared.tasks.Moved.Moved, declared.tasks.Task.Task}
+use Rattle.pagable_walk.specs.{declared.tasks.Turn.Turn, declared.tasks.Waiting.Waiting, Slots.written_of, Table.shelf_of, Turns.{StepsTo, TaskFits, answer_in, plan}}
 use Rattle.pagable_machine.specs.{declared.held.Begun.Begun, declared.held.Walk.Walk}
 use Rattle.pagable_world.specs.World as world
 use Rattle.pagable_walk.specs.declared.tasks.Turn.TheVariants as comes

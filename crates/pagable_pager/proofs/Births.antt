@@ -1,9 +1,8 @@
 -- A node that comes, or room that was made for one, leaves the pager in step.
-use Rattle.pagable_pager.proofs.Words.{◌≡◌, ℕ, ◌==◌, ◌<◌, ◌+◌, Bool, true, if◌then◌else◌, Ok, Err, [], refl, ap, sym, ◌∙◌, Some, None, Option, inl, inr, arith, ◌≢◌, List, Result, nat_tests}
-use Rattle.pagable_pager.proofs.Words.{cases_eq, ArcRef, HandleNumber, Owner, Mode, Blob, Error, is_pinning, Core, greatest, references_fault, BirthCall, AwayBirthCall, IsNewNode, Moves}
-use Rattle.pagable_pager.proofs.Words.{same_some, born, spared, spares-alike, Tables, BearsValue, OnlyRoom, IsWhole, core_of, plain_of, AreLater, room-alike, room-fault, fault-by, next-past}
-use Rattle.pagable_pager.proofs.Words.{born-past, PagerView, Telling, Spelling, ValuesByNode, IsPager, core_in, state_in, value_in, values_of, Last}
-use Rattle.pagable_pager.proofs.{Shed.whole-over, Shut.IsBare, Shut.bare-alike, Spared.caller-free}
+use Rattle.pagable_pager.proofs.Words.{◌≡◌, ℕ, ◌==◌, ◌<◌, ◌+◌, Bool, true, if◌then◌else◌, Ok, Err, [], refl, ap, sym, ◌∙◌, Some, None, Option, inl, inr, arith, ◌≢◌, List, Result, nat_tests, cases_eq}
+use Rattle.pagable_pager.proofs.Words.{ArcRef, HandleNumber, Owner, Mode, Blob, Error, is_pinning, Core, greatest, references_fault, BirthCall, AwayBirthCall, IsNewNode, Moves, same_some, born}
+use Rattle.pagable_pager.proofs.Words.{spared, spares-alike, Tables, BearsValue, OnlyRoom, IsWhole, core_of, plain_of, AreLater, room-alike, room-fault, fault-by, next-past, born-past, PagerView}
+use Rattle.pagable_pager.proofs.{Words.{Telling, Spelling, ValuesByNode, IsPager, core_in, state_in, value_in, values_of, Last}, Shed.whole-over, Shut.{IsBare, bare-alike}, Spared.caller-free}
 use Rattle.pagable_model.specs.declared.error.Error.TheVariants as errors
 use Rattle.pagable_world.specs.declared.handles.Owner.TheVariants as owners
 

@@ -1,7 +1,6 @@
 -- A pager whose storage is closed.
 use Rattle.pagable_pager.proofs.Words.{◌≡◌, ℕ, Bool, true, None, Ok, refl, nat_eq, Option, get, Blob, CloseCall, closed, Tables, counts_at, Sheds, AreLater, IsWhole, core_of, PagerView, Telling}
-use Rattle.pagable_pager.proofs.Words.{Spelling, ValuesByNode, IsPager, core_in, arith, nat_tests}
-use Rattle.pagable_pager.proofs.{Shed.leaves, Shed.whole-over, Shut.bare-fell}
+use Rattle.pagable_pager.proofs.{Words.{Spelling, ValuesByNode, IsPager, core_in, arith, nat_tests}, Shed.{leaves, whole-over}, Shut.bare-fell}
 
 -- what the storage tells is that it is empty and closed
 pub shut-call : (stored stored' : ℕ → Option Blob) (closed closed' : Bool) (failures failures' : ℕ) (t t' : Tables) → ((key : ℕ) → stored' key ≡ None) → closed' ≡ true

@@ -1,10 +1,9 @@
 -- What contracts see of a pager, and the plain state that it tells.
-use Rattle.std.specs.{Arc.arc_value, declared.sync.Arc.Arc, Global.Global, declared.hash.FoldHasher.FoldHasher, declared.hash.BuildHasherDefault.BuildHasherDefault, HashMap.HashMap, HashMap.get}
-use Rattle.std.specs.{Option.option_map, Prelude.ℕ, Prelude.◌≡◌, Prelude.Bool, Prelude.true, Prelude.false, Prelude.List, Prelude.Option, Prelude.Some, Prelude.nat_eq}
+use Rattle.std.specs.{Arc.arc_value, declared.sync.Arc.Arc, Global.Global, declared.hash.FoldHasher.FoldHasher, declared.hash.BuildHasherDefault.BuildHasherDefault, HashMap.{HashMap, get}}
+use Rattle.std.specs.{Option.option_map, Prelude.{ℕ, ◌≡◌, Bool, true, false, List, Option, Some, nat_eq}}
 use Rattle.either.specs.declared.Either.{Either}
 use Rattle.pagable_model.specs.{declared.numbers.ArcRef.ArcRef, declared.numbers.HandleNumber.HandleNumber}
-use Rattle.pagable_world.specs.Plain.{Blob, Error, Meaning, Shape}
-use Rattle.pagable_world.specs.{declared.handles.Owner.Owner, World.Core, World.Values, LoadCalls.Given, LoadCalls.from_cache, LoadCalls.from_store, Pager.PagerState, Pager.WellFormed}
+use Rattle.pagable_world.specs.{Plain.{Blob, Error, Meaning, Shape}, declared.handles.Owner.Owner, World.{Core, Values}, LoadCalls.{Given, from_cache, from_store}, Pager.{PagerState, WellFormed}}
 use Rattle.pagable_tables.specs.{declared.tables.Tables.Tables, ByNumber.counts_at, Falling.pins_in, Core.core_of, Later.AreLater}
 use Rattle.either.specs.declared.Either.TheVariants as eithers
 use Rattle.pagable_world.specs.declared.handles.Owner.TheVariants as owners

@@ -1,10 +1,9 @@
 -- Patterns: how the text of one is written and read, and why it is refused.
 use Rattle.std.proofs.Common.{◌≡◌, ℕ, zero, suc, ◌<◌, ◌≤◌, List, [], ◌∷◌, ◌++◌, length, Bool, true, false, arith, refl, sym, ap, subst, ◌∙◌, Result, Ok, Err, inl, inr}
-use Rattle.std.specs.{Prelude.◌≢◌, Prelude.OnOk, Prelude.IfErr, Prelude.nat_le, Prelude.nat_lt, Prelude.if◌then◌else◌, Str.IsUtf8, Str.is_utf8}
-use Rattle.pagable_model.specs.{declared.error.Error.Error, declared.numbers.ArcRef.ArcRef, Basic.longest, Basic.text_form, Basic.length_at, Basic.bytes_at, Basic.checked_text, Basic.text_at}
-use Rattle.pagable_model.specs.{Form.pattern-form, Gives.Gives, Gives.memory, Lengths.long_or_memory, Meaning.Meaning, Meaning.pattern, Numbers.varint_at, Reading.Rest, Reading.Context}
-use Rattle.pagable_model.specs.{Reading.read, Reading.read_with, Refusals.is_reading_fault, Shape.Shape, Standing.Answer, Standing.GivesSome, Standing.Is, Standing.handles_at, Steps.◌>>=◌}
-use Rattle.pagable_model.specs.{Writing.Out, Writing.Nesting, Writing.FormAt, Writing.WritesSome, Writing.NoForm, Writing.Refused}
+use Rattle.std.specs.{Prelude.{◌≢◌, OnOk, IfErr, nat_le, nat_lt, if◌then◌else◌}, Str.{IsUtf8, is_utf8}}
+use Rattle.pagable_model.specs.{declared.error.Error.Error, declared.numbers.ArcRef.ArcRef, Basic.{longest, text_form, length_at, bytes_at, checked_text, text_at}, Form.pattern-form, Gives.Gives}
+use Rattle.pagable_model.specs.{Gives.memory, Lengths.long_or_memory, Meaning.{Meaning, pattern}, Numbers.varint_at, Reading.{Rest, Context, read, read_with}, Refusals.is_reading_fault, Shape.Shape}
+use Rattle.pagable_model.specs.{Standing.{Answer, GivesSome, Is, handles_at}, Steps.◌>>=◌, Writing.{Out, Nesting, FormAt, WritesSome, NoForm, Refused}}
 use Rattle.pagable_codec.proofs.Writing.{writes_is, writes_bytes, memory_refuses}
 use Rattle.pagable_traits.proofs.Basics.{gives_bytes}
 use Rattle.pagable_model.specs.declared.error.Error.TheVariants as errors

@@ -1,14 +1,11 @@
 -- Tagged values: what writing a tag and a body adds, and what reading by the registered reader gives.
-use Rattle.std.proofs.Common.{◌≡◌, ℕ, zero, suc, ◌+◌, ◌<◌, ◌≤◌, Bool, true, false, List, [], ◌∷◌, ◌++◌, length, get_or, map, Result, Some, None, Ok, Err, refl, sym, ap, subst, ◌∙◌, arith, inl}
-use Rattle.std.proofs.Common.{inr}
-use Rattle.std.proofs.{lemmas.Bool.cases_lt, lemmas.Option.slice_get_read, lemmas.Option.slice_get-map, lemmas.Slice.Eq.bytes_eq-Decides}
-use Rattle.std.specs.{Prelude.IfErr, Prelude.◌⊎◌, Str.IsUtf8, Str.bytes_eq, List.slice_get}
-use Rattle.pagable_model.specs.{declared.error.Error.Error, declared.numbers.ArcRef.ArcRef, Steps.◌>>=◌, Basic.longest, Basic.text_form, Basic.text_at, Canonical.HasNoCase, Canonical.IsReadable}
-use Rattle.pagable_model.specs.{Canonical.LiesIn, Canonical.Within, Canonical.Throughout, Gives.Gives, Gives.memory, Gives.memory_or, Reading.Rest, Reading.Context, Reading.read}
-use Rattle.pagable_model.specs.{Reading.read_with, Reading.bytes_of, Carried.of_tagged, Carried.is_registered, Carried.body_of, Carried.tagged_by, Meaning.Meaning, Shape.Shape, Shape.tagged}
-use Rattle.pagable_model.specs.{Shape.cases, Form.tagged-form, Standing.Answer, Standing.SomeMeaning, Standing.Gave, Writing.Out, Writing.Nesting, Writing.FormAt, Writing.WritesSome}
-use Rattle.pagable_model.specs.{Writing.NoForm, Writing.Refused, Writing.added, Lengths.long_or_memory, Tagged.MeansTagged, Tagged.IsLastFor, Tagged.NoneFor, Tagged.grammars}
-use Rattle.pagable_model.specs.{Tagged.HasDistinctTags, Tagged.ReadsWhatIsWritten}
+use Rattle.std.proofs.Common.{◌≡◌, ℕ, zero, suc, ◌+◌, ◌<◌, ◌≤◌, Bool, true, false, List, [], ◌∷◌, ◌++◌, length, get_or, map, Result, Some, None, Ok, Err, refl, sym, ap, subst, ◌∙◌, arith, inl, inr}
+use Rattle.std.proofs.{lemmas.Bool.cases_lt, lemmas.Option.{slice_get_read, slice_get-map}, lemmas.Slice.Eq.bytes_eq-Decides}
+use Rattle.std.specs.{Prelude.{IfErr, ◌⊎◌}, Str.{IsUtf8, bytes_eq}, List.slice_get}
+use Rattle.pagable_model.specs.{declared.error.Error.Error, declared.numbers.ArcRef.ArcRef, Steps.◌>>=◌, Basic.{longest, text_form, text_at}, Canonical.{HasNoCase, IsReadable, LiesIn, Within}}
+use Rattle.pagable_model.specs.{Canonical.Throughout, Gives.{Gives, memory, memory_or}, Reading.{Rest, Context, read, read_with, bytes_of}, Carried.{of_tagged, is_registered, body_of, tagged_by}}
+use Rattle.pagable_model.specs.{Meaning.Meaning, Shape.{Shape, tagged, cases}, Form.tagged-form, Standing.{Answer, SomeMeaning, Gave}, Writing.{Out, Nesting, FormAt, WritesSome, NoForm, Refused}}
+use Rattle.pagable_model.specs.{Writing.added, Lengths.long_or_memory, Tagged.{MeansTagged, IsLastFor, NoneFor, grammars, HasDistinctTags, ReadsWhatIsWritten}}
 use Rattle.pagable_codec.proofs.Writing.{then, memory_refuses}
 use Rattle.pagable_model.specs.declared.error.Error.TheVariants as errors
 

@@ -1,9 +1,8 @@
 -- What `regex` builds of a text, and why it builds nothing.
-use Rattle.std.specs.Prelude.{◌≡◌, ◌≢◌, ◌⊎◌, ℕ, List, true, refl, Result, Ok}
-use Rattle.std.proofs.Common.{subst, sym, inl, inr}
+use Rattle.std.{specs.Prelude.{◌≡◌, ◌≢◌, ◌⊎◌, ℕ, List, true, refl, Result, Ok}, proofs.Common.{subst, sym, inl, inr}}
+use Rattle.regex.specs.declared.string.regex.Regex.{Regex}
+use Rattle.pagable_model.specs.{declared.error.Error.Error, declared.numbers.ArcRef.ArcRef, Meaning.{Meaning, pattern}, Refusals.is_own_reading}
 use Rattle.regex.specs.{Failures.IsRightKind, Patterns.default_config, Sources.IsRefusal, Strings.regex_source, Strings.regex_config, Strings.IsReadFromSource, declared.error.Error.Error as Cause}
-use Rattle.regex.specs.{declared.string.regex.Regex.Regex}
-use Rattle.pagable_model.specs.{declared.error.Error.Error, declared.numbers.ArcRef.ArcRef, Meaning.Meaning, Meaning.pattern, Refusals.is_own_reading}
 use Rattle.regex.specs.declared.error.Error.TheVariants as causes
 use Rattle.pagable_model.specs.declared.error.Error.TheVariants as errors
 

@@ -1,7 +1,6 @@
 -- What a load asks of the tables.
-use Rattle.pagable_tables.proofs.Words.{◌≡◌, ℕ, arith, Err, Option, Some, inl, Result, Error, HandleNumber, LoadNumber, Kind, Owner, Core, OpenLoad, load_fault, OwnsLoad, is_usable}
-use Rattle.pagable_tables.proofs.Words.{recall_fault, RecallCall, AsksKnown, nat_tests}
-use Rattle.pagable_tables.proofs.{Opened.earlier-first, Opened.load-low, Opened.number-late, Worlds.still}
+use Rattle.pagable_tables.proofs.Words.{◌≡◌, ℕ, arith, Err, Option, Some, inl, Result, Error, HandleNumber, LoadNumber, Kind, Owner, Core, OpenLoad, load_fault, OwnsLoad, is_usable, recall_fault}
+use Rattle.pagable_tables.proofs.{Words.{RecallCall, AsksKnown, nat_tests}, Opened.{earlier-first, load-low, number-late}, Worlds.still}
 
 pub recalls-asked : (w : Core) (me : Owner) (l : LoadNumber) (load : OpenLoad) (kind : Kind) (key : ℕ) (r : Result (Option HandleNumber) Error) (w' : Core) → OwnsLoad w me l load → RecallCall w (Owner.Load l) kind key r w' → AsksKnown w me l kind key r w'
 recalls-asked w me l load kind key r w' own call = grind (arith, nat_tests)

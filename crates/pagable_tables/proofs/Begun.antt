@@ -2,8 +2,7 @@
 use Rattle.pagable_tables.proofs.Words.{◌≡◌, ℕ, ◌+◌, ◌≤◌, ◌&&◌, Bool, false, not, List, [], ◌∷◌, length, refl, ap, sym, ◌∙◌, subst, arith, Option, None, true, nat_tests, append-nil, sum_by-cons}
 use Rattle.pagable_tables.proofs.Words.{Error, ArcRef, HandleRow, Blob, one, times, is_at, is_share, held, sharing, Core, greatest, HasRoom, IsWithin, MustList, TellsListing, nobody, Tables, Counts}
 use Rattle.pagable_tables.proofs.Words.{Holdings, live, counts_at, refs_at, Fits, IsFalling, cell_in, is_valued, owns, owns_nothing, with_tables, told_by, is_plain_pin, Begins, SoFar, core_of}
-use Rattle.pagable_tables.specs.Core.{IsWhole}
-use Rattle.pagable_tables.proofs.{Coming.owned-by-none, Left.left-all, Left.all-kept}
+use Rattle.pagable_tables.{specs.Core.IsWhole, proofs.Coming.owned-by-none, proofs.Left.{left-all, all-kept}}
 
 -- why a cell isn't listed is told aside
 pub aside : (t : Holdings) (u : Option Error) (stack : List ℕ) (extra : ℕ → ℕ → ℕ) → IsFalling t stack extra → IsFalling (record t { unlisted = u }) stack extra

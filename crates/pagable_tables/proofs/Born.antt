@@ -1,11 +1,10 @@
 -- A node comes, and the handles that its value refers to are the value's.
-use Rattle.pagable_tables.proofs.Words.{◌≡◌, ℕ, ◌+◌, ◌<◌, ◌≤◌, ◌==◌, ◌&&◌, ◌||◌, Bool, true, false, List, [], ◌∷◌, ◌++◌, map, sum_by, refl, ap, sym, ◌∙◌, subst, arith, Option, Some, None}
-use Rattle.pagable_tables.proofs.Words.{inl, inr, if◌then◌else◌, ◌≢◌, ◌⊎◌, is_some, cases_eq, nat_tests, sum_by_push, sum_by-cons, Error, ArcRef, HandleRow, Owner, Mode, Among, is_in, one}
-use Rattle.pagable_tables.proofs.Words.{or_else, find_row, held, pins, is_handle, is_pinning, owner_value, IsHandleBefore, Core, reference_fault, references_fault, moved, is_named_by}
-use Rattle.pagable_tables.proofs.Words.{Counts, Fits, Right, is_right, is_bare, cell_in, pins_in, holds_in, falls_in, is_valued, named, owns_nothing, AllPairs, updated, key_in}
-use Rattle.pagable_tables.proofs.{Coming.owned-by-none, Fitting.pin_of, Fitting.handle_of, Fitting.is_owned, Fitting.pin-here, Fitting.held-here, Fitting.pin-other, Fitting.held-other}
-use Rattle.pagable_tables.proofs.{Owned.owned-by, keeps.BirthCalls.named-mine, keeps.Rests.found-so, keeps.Rows.found-among, keeps.Rows.sum-map, keeps.Rows.sum-none, keeps.Rows.at-most-sum}
-use Rattle.pagable_tables.proofs.{keeps.Rows.only-row}
+use Rattle.pagable_tables.proofs.Words.{◌≡◌, ℕ, ◌+◌, ◌<◌, ◌≤◌, ◌==◌, ◌&&◌, ◌||◌, Bool, true, false, List, [], ◌∷◌, ◌++◌, map, sum_by, refl, ap, sym, ◌∙◌, subst, arith, Option, Some, None, inl, inr}
+use Rattle.pagable_tables.proofs.Words.{if◌then◌else◌, ◌≢◌, ◌⊎◌, is_some, cases_eq, nat_tests, sum_by_push, sum_by-cons, Error, ArcRef, HandleRow, Owner, Mode, Among, is_in, one, or_else, find_row}
+use Rattle.pagable_tables.proofs.Words.{held, pins, is_handle, is_pinning, owner_value, IsHandleBefore, Core, reference_fault, references_fault, moved, is_named_by, Counts, Fits, Right, is_right}
+use Rattle.pagable_tables.proofs.{Words.{is_bare, cell_in, pins_in, holds_in, falls_in, is_valued, named, owns_nothing, AllPairs, updated, key_in}, Coming.owned-by-none, Fitting.{pin_of, handle_of}}
+use Rattle.pagable_tables.proofs.{Fitting.{is_owned, pin-here, held-here, pin-other, held-other}, Owned.owned-by, keeps.BirthCalls.named-mine, keeps.Rests.found-so, keeps.Rows.{found-among, sum-map}}
+use Rattle.pagable_tables.proofs.keeps.Rows.{sum-none, at-most-sum, only-row}
 
 or-none : (a b : Option Error) → or_else a b ≡ None → (a ≡ None) × (b ≡ None)
 or-none None b e = (refl, e)

@@ -1,8 +1,7 @@
 -- A handle comes to a live node, and nothing falls.
-use Rattle.pagable_tables.proofs.Words.{sum_by, ◌≡◌, ℕ, ◌+◌, ◌<◌, ◌≤◌, Bool, true, false, List, [], ◌∷◌, ◌++◌, length, refl, ap, sym, ◌∙◌, subst, arith, Option, Some, None, inl, inr, ◌≢◌}
-use Rattle.pagable_tables.proofs.Words.{not, IsSome, nat_tests, cases_eq, sum_by_push, sum_by-cons, ArcRef, HandleRow, Owner, Mode, one, SameAt, held, is_pinning, is_owner}
-use Rattle.pagable_tables.proofs.Words.{owner_value, Counts, holds_in, falls_in, Right, Fits, owns_nothing, named, is_valued, cell_in}
-use Rattle.pagable_tables.proofs.Fitting.{pin_of, handle_of, is_owned, pin-here, held-here, pin-other, held-other}
+use Rattle.pagable_tables.proofs.Words.{sum_by, ◌≡◌, ℕ, ◌+◌, ◌<◌, ◌≤◌, Bool, true, false, List, [], ◌∷◌, ◌++◌, length, refl, ap, sym, ◌∙◌, subst, arith, Option, Some, None, inl, inr, ◌≢◌, not}
+use Rattle.pagable_tables.proofs.Words.{IsSome, nat_tests, cases_eq, sum_by_push, sum_by-cons, ArcRef, HandleRow, Owner, Mode, one, SameAt, held, is_pinning, is_owner, owner_value, Counts, holds_in}
+use Rattle.pagable_tables.proofs.{Words.{falls_in, Right, Fits, owns_nothing, named, is_valued, cell_in}, Fitting.{pin_of, handle_of, is_owned, pin-here, held-here, pin-other, held-other}}
 
 pub no-value : (n : ℕ) (o : Owner) → is_valued o ≡ false → is_owner (owner_value n) o ≡ false
 no-value n (Owner.Value m) e = absurd (cc)

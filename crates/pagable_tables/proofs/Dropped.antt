@@ -1,8 +1,7 @@
 -- A load is closed, and what it still owns is given up.
-use Rattle.pagable_tables.proofs.Words.{◌≡◌, ℕ, ◌<◌, ◌≤◌, Bool, true, false, not, refl, subst, arith, Option, Some, None, ◌≢◌, Result, option_map, nat_tests, Error, HandleRow, Owner, Blob}
-use Rattle.pagable_tables.proofs.Words.{updated, if_there, is_owned_by, find_row, Core, OpenLoad, Falls, nobody, is_owned_in, LoadRow, Tables, SoFar, passes_in, core_of, load_in}
-use Rattle.pagable_tables.specs.Core.{IsWhole}
-use Rattle.pagable_tables.proofs.{Begun.begins, Begun.begun, keeps.Rows.found-among}
+use Rattle.pagable_tables.proofs.Words.{◌≡◌, ℕ, ◌<◌, ◌≤◌, Bool, true, false, not, refl, subst, arith, Option, Some, None, ◌≢◌, Result, option_map, nat_tests, Error, HandleRow, Owner, Blob, updated}
+use Rattle.pagable_tables.{proofs.Words.{if_there, is_owned_by, find_row, Core, OpenLoad, Falls, nobody, is_owned_in, LoadRow, Tables, SoFar, passes_in, core_of, load_in}, specs.Core.IsWhole}
+use Rattle.pagable_tables.{proofs.Begun.{begins, begun}, proofs.keeps.Rows.found-among}
 use Rattle.pagable_world.specs.Pager as pager
 
 -- a load isn't there any more

@@ -1,7 +1,6 @@
 -- Handles are no more after one is given up, and the list has no more entries where cells aren't listed.
-use Rattle.pagable_tables.proofs.Words.{◌≡◌, ℕ, ◌≤◌, Bool, true, false, if◌then◌else◌, List, [], ◌∷◌, length, ap, ◌∙◌, arith, inl, inr, refl, Option, append-nil, HandleNumber, nat_tests}
-use Rattle.pagable_tables.proofs.Words.{NodeNumber, HandleRow, Holdings, live, GivesUp, Steps}
-use Rattle.pagable_tables.proofs.{Leaving.leaves-sums, Going.ones}
+use Rattle.pagable_tables.proofs.Words.{◌≡◌, ℕ, ◌≤◌, Bool, true, false, if◌then◌else◌, List, [], ◌∷◌, length, ap, ◌∙◌, arith, inl, inr, refl, Option, append-nil, HandleNumber, nat_tests, NodeNumber}
+use Rattle.pagable_tables.proofs.{Words.{HandleRow, Holdings, live, GivesUp, Steps}, Leaving.leaves-sums, Going.ones}
 
 at-most : (b : Bool) → (if b then 1 else 0) ≤ 1
 at-most true = omega arith

@@ -1,7 +1,6 @@
 -- Handles are given up together, from the last to the first.
-use Rattle.pagable_tables.proofs.Words.{nat_lt, ◌≡◌, ℕ, ◌<◌, ◌≤◌, ◌-◌, ◌==◌, ◌&&◌, ◌||◌, Bool, true, false, not, [], Option, Some, None, refl, ap, sym, ◌∙◌, arith, nat_tests, NodeNumber}
-use Rattle.pagable_tables.proofs.Words.{HandleRow, Owner, if_there, is_owner, find_row, Core, OpenLoad, nobody, Giving, Holdings, live, is_valued, SoFar, gives_row, passes_in}
-use Rattle.pagable_tables.specs.Giving.{gives}
+use Rattle.pagable_tables.proofs.Words.{nat_lt, ◌≡◌, ℕ, ◌<◌, ◌≤◌, ◌-◌, ◌==◌, ◌&&◌, ◌||◌, Bool, true, false, not, [], Option, Some, None, refl, ap, sym, ◌∙◌, arith, nat_tests, NodeNumber, HandleRow}
+use Rattle.pagable_tables.{proofs.Words.{Owner, if_there, is_owner, find_row, Core, OpenLoad, nobody, Giving, Holdings, live, is_valued, SoFar, gives_row, passes_in}, specs.Giving.gives}
 use Rattle.pagable_tables.proofs.Regiven.{regiven, passes-so-far}
 
 -- a world of these loads alone

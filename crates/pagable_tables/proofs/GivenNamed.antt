@@ -1,7 +1,6 @@
 -- The handles that references name are given up one after the other.
-use Rattle.pagable_tables.proofs.Words.{◌≡◌, ℕ, ◌+◌, ◌<◌, ◌==◌, ◌&&◌, ◌||◌, Bool, true, false, List, [], ◌∷◌, ◌++◌, take, get_or, length, refl, ap, sym, ◌∙◌, arith, add-one, nat_tests}
-use Rattle.pagable_tables.proofs.Words.{take-suc, ArcRef, LoadNumber, Owner, Core, nobody, is_named_by, is_owned_in, Holdings, SoFar}
-use Rattle.pagable_tables.proofs.{Named.named-push, Regiven.regiven, Regiven.and_owned}
+use Rattle.pagable_tables.proofs.Words.{◌≡◌, ℕ, ◌+◌, ◌<◌, ◌==◌, ◌&&◌, ◌||◌, Bool, true, false, List, [], ◌∷◌, ◌++◌, take, get_or, length, refl, ap, sym, ◌∙◌, arith, add-one, nat_tests, take-suc}
+use Rattle.pagable_tables.proofs.{Words.{ArcRef, LoadNumber, Owner, Core, nobody, is_named_by, is_owned_in, Holdings, SoFar}, Named.named-push, Regiven.{regiven, and_owned}}
 
 -- what the load owns of the handles that so many references name
 abbrev pub named_owned : Core → LoadNumber → List ArcRef → ℕ → ℕ → Bool

@@ -1,11 +1,10 @@
 -- One handle more has gone, given up directly or by a value that has fallen: what has gone so far.
-use Rattle.pagable_tables.proofs.Words.{◌≡◌, ℕ, ◌+◌, ◌<◌, ◌≤◌, ◌==◌, ◌&&◌, Bool, true, false, not, if◌then◌else◌, List, [], ◌∷◌, ◌++◌, length, filter, map, sum_by, refl, ap, sym, ◌∙◌, subst}
-use Rattle.pagable_tables.proofs.Words.{arith, is_some, vec_capacity, nat_tests, append_assoc, append-nil, map-append, length-append, sum_by-cons, sum_by-append, sum_by-le-sum_by, Error}
-use Rattle.pagable_tables.proofs.Words.{HandleNumber, NodeNumber, HandleRow, Owner, one, times, is_pin, is_handle, is_owned_by, held, pins, Core, greatest, left_rows, IsWithin, IsClosed}
-use Rattle.pagable_tables.proofs.Words.{AreNewEntries, TellsListing, IsListRefusal, is_keyed, Holdings, live, counts_at, pins_in, entry, entries_of, is_listing, cell_in, first_cause}
-use Rattle.pagable_tables.proofs.Words.{IsUnlisted, GivesUp, HasPlaces, with_tables, told_by, SoFar}
-use Rattle.pagable_tables.proofs.{Left.and_one, Left.kept-more, Left.times-left, Left.entries-more, Leaving.leaves-sums, Wanted.entry-pins, NoEntry.of_list, NoEntry.none-listed}
-use Rattle.pagable_tables.proofs.{NoEntry.none-entered, RowsMore.rows-more, Telling.only-more, Telling.tells-more, Telling.refusal-now}
+use Rattle.pagable_tables.proofs.Words.{◌≡◌, ℕ, ◌+◌, ◌<◌, ◌≤◌, ◌==◌, ◌&&◌, Bool, true, false, not, if◌then◌else◌, List, [], ◌∷◌, ◌++◌, length, filter, map, sum_by, refl, ap, sym, ◌∙◌, subst, arith}
+use Rattle.pagable_tables.proofs.Words.{is_some, vec_capacity, nat_tests, append_assoc, append-nil, map-append, length-append, sum_by-cons, sum_by-append, sum_by-le-sum_by, Error, HandleNumber}
+use Rattle.pagable_tables.proofs.Words.{NodeNumber, HandleRow, Owner, one, times, is_pin, is_handle, is_owned_by, held, pins, Core, greatest, left_rows, IsWithin, IsClosed, AreNewEntries}
+use Rattle.pagable_tables.proofs.Words.{TellsListing, IsListRefusal, is_keyed, Holdings, live, counts_at, pins_in, entry, entries_of, is_listing, cell_in, first_cause, IsUnlisted, GivesUp, HasPlaces}
+use Rattle.pagable_tables.proofs.{Words.{with_tables, told_by, SoFar}, Left.{and_one, kept-more, times-left, entries-more}, Leaving.leaves-sums, Wanted.entry-pins, NoEntry.{of_list, none-listed}}
+use Rattle.pagable_tables.proofs.{NoEntry.none-entered, RowsMore.rows-more, Telling.{only-more, tells-more, refusal-now}}
 
 -- a handle of which the list has none may go, whether it had gone or not
 kept-gone : (gone : ℕ → Bool) (q : ℕ) (list : List HandleNumber) → gone q ≡ true → filter (λ (h : HandleNumber). not (and_one gone q h.0)) list ≡ filter (λ (h : HandleNumber). not (gone h.0)) list

@@ -4,13 +4,11 @@ use Rattle.pagable_tables.proofs.Words.{if◌then◌else◌, ◌≢◌, Result, 
 use Rattle.pagable_tables.proofs.Words.{Mode, Blob, Among, one, times, changed, find_row, pins, sharing, is_handle, is_owner, is_owned_by, is_pin, is_share, owner_value, IsHandleBefore, MayOwnLoad}
 use Rattle.pagable_tables.proofs.Words.{Core, Last, Alike, Falls, nobody, references_fault, moved, row_of, is_named_by, with_handle, with_mode, is_owned_in, without_load, with_pin, Installs, MayEnd}
 use Rattle.pagable_tables.proofs.Words.{Holdings, Counts, LoadRow, Tables, live, counts_at, load_at, cell_in, has_value, is_valued, pins_in, with_tables, is_plain_pin, SoFar, core_of, plain_of}
-use Rattle.pagable_tables.proofs.Words.{load_in, MayHold, IsWider, has_come}
-use Rattle.pagable_tables.specs.Core.{IsWhole}
-use Rattle.pagable_tables.proofs.{Newer.OnlyNewer, Newer.loaded-mode, Newer.newer-then, Newer.newer-moved, Newer.newer-mode, Newer.newer-handle, Newer.newer-falls, Begun.begins, Begun.begun}
-use Rattle.pagable_tables.proofs.{Coming.turned, Dropped.load-closed, Dropped.owned-given, Joined.moved-turned, Joined.turned-sum, Named.moved-nobody, Named.named-none, Regiven.loaded}
-use Rattle.pagable_tables.proofs.{Regiven.passes-here, Regiven.passes-none, Stays.seen-before, Stays.stays-pinned, Stays.not-named, Swapped.same-value, Taken.moved-times, Taken.loaded-moved}
-use Rattle.pagable_tables.proofs.{Taken.no-load, Upheld.references-placed, keeps.BirthCalls.named-unlisted, keeps.Comes.not-list, keeps.Comes.not-a-value, keeps.LoadCalls.may-hold}
-use Rattle.pagable_tables.proofs.{keeps.Moved.moved-to-value, keeps.Rows.among-map, keeps.Rows.found-among, keeps.Rows.once, keeps.Rows.ordered-map, keeps.Rows.sum-map}
+use Rattle.pagable_tables.{proofs.Words.{load_in, MayHold, IsWider, has_come}, specs.Core.IsWhole, proofs.Newer.{OnlyNewer, loaded-mode, newer-then, newer-moved, newer-mode, newer-handle}}
+use Rattle.pagable_tables.{proofs.Newer.newer-falls, proofs.Begun.{begins, begun}, proofs.Coming.turned, proofs.Dropped.{load-closed, owned-given}, proofs.Joined.{moved-turned, turned-sum}}
+use Rattle.pagable_tables.{proofs.Named.{moved-nobody, named-none}, proofs.Regiven.{loaded, passes-here, passes-none}, proofs.Stays.{seen-before, stays-pinned, not-named}, proofs.Swapped.same-value}
+use Rattle.pagable_tables.{proofs.Taken.{moved-times, loaded-moved, no-load}, proofs.Upheld.references-placed, proofs.keeps.BirthCalls.named-unlisted, proofs.keeps.Comes.{not-list, not-a-value}}
+use Rattle.pagable_tables.{proofs.keeps.LoadCalls.may-hold, proofs.keeps.Moved.moved-to-value, proofs.keeps.Rows.{among-map, found-among, once, ordered-map, sum-map}}
 
 -- Of other nodes the same handles pin, and are Shared.
 module _ (h : HandleNumber) (node : NodeNumber) (rows : List HandleRow) (of : (y : HandleRow) → Among rows y → is_handle h.0 y ≡ true → y.node ≡ node) (n : ℕ) (other : (node.0 == n) ≡ false) where

@@ -1,7 +1,6 @@
 -- A cell has got a key: nothing else has gone or come so far.
-use Rattle.pagable_tables.proofs.Words.{◌≡◌, ℕ, Bool, not, refl, sym, subst, arith, Option, None, NodeNumber, Blob, with_key, Core, nobody, Tables, Holdings, counts_at, GetsKey, Begins}
-use Rattle.pagable_tables.proofs.{Begun.begins, Begun.begun, Words.SoFar, Words.core_of}
-use Rattle.pagable_tables.specs.Core.{IsWhole}
+use Rattle.pagable_tables.proofs.Words.{◌≡◌, ℕ, Bool, not, refl, sym, subst, arith, Option, None, NodeNumber, Blob, with_key, Core, nobody, Tables, Holdings, counts_at, GetsKey, Begins, SoFar}
+use Rattle.pagable_tables.{proofs.Words.core_of, proofs.Begun.{begins, begun}, specs.Core.IsWhole}
 
 keyed-begins : (before w : Core) (node : NodeNumber) (key : ℕ) (lists : Bool) → Begins before w lists → Begins before (with_key w node key) lists
 keyed-begins before w node key lists b = record { open_storage = b.open_storage; fewer = b.fewer; shared = b.shared; uniform = b.uniform; listed = b.listed }

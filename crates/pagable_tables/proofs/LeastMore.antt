@@ -1,7 +1,6 @@
 -- One handle more has gone, which a fallen value owned: each closed set has it.
-use Rattle.pagable_tables.proofs.Words.{◌≡◌, ℕ, ◌==◌, ◌&&◌, Bool, true, false, List, ap, ◌∙◌, arith, nat_tests, HandleRow, one, times, is_at, is_owned_by, is_owner, owner_value, held, Core}
-use Rattle.pagable_tables.proofs.Words.{IsWithin, IsClosed, is_keyed, is_outside, Holdings, live, counts_at, is_listing, HasFallen, Leaves, FallsBy, SoFar}
-use Rattle.pagable_tables.proofs.{Left.and_one, Leaving.leaves-sums, Forced.forced}
+use Rattle.pagable_tables.proofs.Words.{◌≡◌, ℕ, ◌==◌, ◌&&◌, Bool, true, false, List, ap, ◌∙◌, arith, nat_tests, HandleRow, one, times, is_at, is_owned_by, is_owner, owner_value, held, Core, IsWithin}
+use Rattle.pagable_tables.proofs.{Words.{IsClosed, is_keyed, is_outside, Holdings, live, counts_at, is_listing, HasFallen, Leaves, FallsBy, SoFar}, Left.and_one, Leaving.leaves-sums, Forced.forced}
 
 -- no handle comes where there was none
 pub none-comes : (old new : Holdings) (x : HandleRow) (wanted listed : Bool) (m : ℕ) → Leaves old x wanted listed new → held m (live old.handles.places.items) ≡ 0

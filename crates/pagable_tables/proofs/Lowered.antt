@@ -1,8 +1,7 @@
 -- A handle lets its pin go: handles and nodes fit again, as if an unpinned handle came and then the pinned one left.
-use Rattle.pagable_tables.proofs.Words.{◌≡◌, ℕ, ◌+◌, ◌-◌, ◌≤◌, ◌==◌, Bool, true, false, if◌then◌else◌, List, [], ◌∷◌, ◌++◌, sum_by, refl, ap, sym, ◌∙◌, subst, arith, Option, Some, ◌≢◌}
-use Rattle.pagable_tables.proofs.Words.{nat_lt, nat_tests, sum_by_push, ArcRef, HandleRow, Mode, one, updated, is_pinning, Counts, Fits, entry, after, is_fallen_by, owns_nothing, is_valued}
-use Rattle.pagable_tables.proofs.Words.{CellsStay, unpinned}
-use Rattle.pagable_tables.proofs.{Begun.fits-unowned, Coming.come-fits, Fitting.given-fits}
+use Rattle.pagable_tables.proofs.Words.{◌≡◌, ℕ, ◌+◌, ◌-◌, ◌≤◌, ◌==◌, Bool, true, false, if◌then◌else◌, List, [], ◌∷◌, ◌++◌, sum_by, refl, ap, sym, ◌∙◌, subst, arith, Option, Some, ◌≢◌, nat_lt}
+use Rattle.pagable_tables.proofs.Words.{nat_tests, sum_by_push, ArcRef, HandleRow, Mode, one, updated, is_pinning, Counts, Fits, entry, after, is_fallen_by, owns_nothing, is_valued, CellsStay}
+use Rattle.pagable_tables.proofs.{Words.unpinned, Begun.fits-unowned, Coming.come-fits, Fitting.given-fits}
 
 pub updated-here : {X : Type 0} (n : ℕ) (x : X) (f : ℕ → X) → updated n x f n ≡ x
 updated-here n x f = let e : (n == n) ≡ true = grind (arith, nat_tests) in ap (λ b. if b then x else f n) e

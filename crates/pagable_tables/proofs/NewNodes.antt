@@ -1,10 +1,9 @@
 -- A birth, by what it is made of; and why references are refused before a number that is spent.
 use Rattle.pagable_tables.proofs.Words.{◌≡◌, ℕ, ◌<◌, ◌≤◌, ◌==◌, ◌||◌, Bool, true, false, List, [], ◌∷◌, refl, ap, ◌∙◌, subst, arith, Ok, Option, Some, None, zero, suc, if◌then◌else◌, not, nat_tests}
-use Rattle.pagable_tables.proofs.Words.{OptionalDataKey, Error, ArcRef, HandleNumber, HandleRow, Owner, Mode, is_in, if_there, or_else, type_of, is_owner, fits_mode, Core, Alike, greatest}
-use Rattle.pagable_tables.proofs.Words.{row_at, type_at, earlier, rank, refused_if, reference_fault, references_fault, row_fault, is_type, birth_fault, with_handle, with_node}
-use Rattle.pagable_tables.proofs.Words.{next_node, AwayBirthCall, IsWhole, ArePlaced, MayHold, Counts, key_in, Bears, BearsValue, OnlyRoom}
-use Rattle.pagable_tables.proofs.{keeps.BirthCalls.birth-whole, keeps.BirthCalls.no-references, Newer.OnlyNewer, Newer.newer-then, Newer.newer-alike, Newer.newer-node, Readied.next-past}
-use Rattle.pagable_tables.proofs.{Readied.born-past, Pins.earlier-first, Pins.spent-late, Offers.late}
+use Rattle.pagable_tables.proofs.Words.{OptionalDataKey, Error, ArcRef, HandleNumber, HandleRow, Owner, Mode, is_in, if_there, or_else, type_of, is_owner, fits_mode, Core, Alike, greatest, row_at}
+use Rattle.pagable_tables.proofs.Words.{type_at, earlier, rank, refused_if, reference_fault, references_fault, row_fault, is_type, birth_fault, with_handle, with_node, next_node, AwayBirthCall}
+use Rattle.pagable_tables.proofs.{Words.{IsWhole, ArePlaced, MayHold, Counts, key_in, Bears, BearsValue, OnlyRoom}, keeps.BirthCalls.{birth-whole, no-references}, Newer.{OnlyNewer, newer-then}}
+use Rattle.pagable_tables.proofs.{Newer.{newer-alike, newer-node}, Readied.{next-past, born-past}, Pins.{earlier-first, spent-late}, Offers.late}
 
 low-if : (b : Bool) (f e : Error) → rank f ≤ 3 → refused_if b f ≡ Some e → rank e ≤ 3
 low-if false f e low is = absurd (cc)

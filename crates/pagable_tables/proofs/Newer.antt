@@ -1,12 +1,10 @@
 -- What loads own is what they owned, or has come since.
-use Rattle.pagable_tables.proofs.Words.{◌≡◌, ℕ, ◌+◌, ◌<◌, ◌≤◌, ◌&&◌, ◌++◌, ◌∷◌, [], Bool, true, false, not, List, refl, ap, sym, ◌∙◌, arith, Option, Some, None, inl, inr, ◌⊎◌}
-use Rattle.pagable_tables.proofs.Words.{◌≢◌, Result, Ok, Err, is_some, option_map, cases_eq, Error, HandleNumber, LoadNumber, NodeNumber, HandleRow, Owner, Mode, Pinning, Kind, ArcRef}
-use Rattle.pagable_tables.proofs.Words.{OptionalDataKey, if_there, is_in, type_of, changed, is_handle, is_owner, is_owned_by, owner_value, find_row, mode_of, Core, Last, Alike, Falls}
-use Rattle.pagable_tables.proofs.Words.{only_handle, with_handle, with_node, next_node, with_cached_if_open, is_named_by, moved, with_mode, LoosenCall, PinCall, UnpinCall, ReleaseCall}
-use Rattle.pagable_tables.proofs.Words.{SetKeyCall, ScheduleCall, TakeCall, OfferCall, CloseCall, is_owned_in, numbers_of, adopted, first_key, Adopts, DropCall, HandOverCall, LazyCall}
-use Rattle.pagable_tables.proofs.Words.{LoadRow, Tables, load_at, plain_of, load_in, Makes, AreLater, nat_tests}
-use Rattle.pagable_tables.proofs.{Regiven.loaded, Regiven.passes-here, Regiven.passes-left, Regiven.no-entry, Regiven.unlisting, Taken.loaded-moved, Taken.and-left, Worlds.owner-same}
-use Rattle.pagable_tables.proofs.{keeps.Rows.found-among, keeps.Rows.found-push}
+use Rattle.pagable_tables.proofs.Words.{◌≡◌, ℕ, ◌+◌, ◌<◌, ◌≤◌, ◌&&◌, ◌++◌, ◌∷◌, [], Bool, true, false, not, List, refl, ap, sym, ◌∙◌, arith, Option, Some, None, inl, inr, ◌⊎◌, ◌≢◌, Result, Ok, Err}
+use Rattle.pagable_tables.proofs.Words.{is_some, option_map, cases_eq, Error, HandleNumber, LoadNumber, NodeNumber, HandleRow, Owner, Mode, Pinning, Kind, ArcRef, OptionalDataKey, if_there, is_in}
+use Rattle.pagable_tables.proofs.Words.{type_of, changed, is_handle, is_owner, is_owned_by, owner_value, find_row, mode_of, Core, Last, Alike, Falls, only_handle, with_handle, with_node, next_node}
+use Rattle.pagable_tables.proofs.Words.{with_cached_if_open, is_named_by, moved, with_mode, LoosenCall, PinCall, UnpinCall, ReleaseCall, SetKeyCall, ScheduleCall, TakeCall, OfferCall, CloseCall}
+use Rattle.pagable_tables.proofs.Words.{is_owned_in, numbers_of, adopted, first_key, Adopts, DropCall, HandOverCall, LazyCall, LoadRow, Tables, load_at, plain_of, load_in, Makes, AreLater, nat_tests}
+use Rattle.pagable_tables.proofs.{Regiven.{loaded, passes-here, passes-left, no-entry, unlisting}, Taken.{loaded-moved, and-left}, Worlds.owner-same, keeps.Rows.{found-among, found-push}}
 use Rattle.pagable_world.specs.Pager as pager
 
 pub record OnlyNewer (w w' : Core) : Type 0 where

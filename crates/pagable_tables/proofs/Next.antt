@@ -1,8 +1,7 @@
 -- What has gone so far, after one step of a cascade, and after a handle that is given.
-use Rattle.pagable_tables.proofs.Words.{◌≡◌, ℕ, ◌+◌, ◌≤◌, ◌==◌, ◌&&◌, ◌||◌, Bool, not, List, length, ap, ◌∙◌, arith, inl, inr, ◌≢◌, Option, nat_tests, sum_by-cons, sum_by-le-sum_by, false}
-use Rattle.pagable_tables.proofs.Words.{[], ◌∷◌, refl, NodeNumber, HandleRow, Owner, one, is_owned_by, is_owner, held, pins, Core, IsWithin, Holdings, live, counts_at, pins_in, is_listing}
-use Rattle.pagable_tables.proofs.Words.{IsFalling, GivesUp, Steps, FallsBy, owns_nothing, SoFar}
-use Rattle.pagable_tables.proofs.{Left.and_one, Kept.settled, LeastMore.least-more, LeastMore.none-comes, Going.IsApart, Going.unlisted-apart, Going.one-goes}
+use Rattle.pagable_tables.proofs.Words.{◌≡◌, ℕ, ◌+◌, ◌≤◌, ◌==◌, ◌&&◌, ◌||◌, Bool, not, List, length, ap, ◌∙◌, arith, inl, inr, ◌≢◌, Option, nat_tests, sum_by-cons, sum_by-le-sum_by, false, [], ◌∷◌}
+use Rattle.pagable_tables.proofs.Words.{refl, NodeNumber, HandleRow, Owner, one, is_owned_by, is_owner, held, pins, Core, IsWithin, Holdings, live, counts_at, pins_in, is_listing, IsFalling, GivesUp}
+use Rattle.pagable_tables.proofs.{Words.{Steps, FallsBy, owns_nothing, SoFar}, Left.and_one, Kept.settled, LeastMore.{least-more, none-comes}, Going.{IsApart, unlisted-apart, one-goes}}
 
 -- one handle more on both sides, or on the right
 pub within-less : (a b c d : ℕ → Bool) (rows : List HandleRow) → ((r : ℕ) → one (a r && not (b r)) ≤ one (c r && not (d r))) → IsWithin rows c d → IsWithin rows a b

@@ -1,7 +1,6 @@
 -- A handle that the list doesn't own is no entry.
-use Rattle.pagable_tables.proofs.Words.{◌≡◌, ℕ, ◌+◌, ◌==◌, ◌&&◌, Bool, true, false, not, List, [], ◌∷◌, ◌++◌, refl, ap, arith, nat_tests, sum_by-cons, sum_by-append, HandleRow, Owner, one}
-use Rattle.pagable_tables.proofs.Words.{times, is_handle, is_owned_by, is_owner, only_handle, AreNewEntries, Holdings, live, Leaves}
-use Rattle.pagable_tables.proofs.Left.{times-left, entries-none}
+use Rattle.pagable_tables.proofs.Words.{◌≡◌, ℕ, ◌+◌, ◌==◌, ◌&&◌, Bool, true, false, not, List, [], ◌∷◌, ◌++◌, refl, ap, arith, nat_tests, sum_by-cons, sum_by-append, HandleRow, Owner, one, times}
+use Rattle.pagable_tables.proofs.{Words.{is_handle, is_owned_by, is_owner, only_handle, AreNewEntries, Holdings, live, Leaves}, Left.{times-left, entries-none}}
 
 abbrev pub of_list : ℕ → HandleRow → Bool
 of_list q h = is_handle q h && is_owned_by Owner.List h

@@ -1,8 +1,7 @@
 -- Tables of nothing are whole.
 use Rattle.pagable_tables.proofs.Words.{◌≡◌, ℕ, false, [], refl, ap, subst, arith, None, nat_eq, get, HandleRow, Among, is_in, nat_tests, Core, NodeRow, Tables, live, AreSound, counts_at, refs_at}
-use Rattle.pagable_tables.proofs.Words.{load_at, known_at, cell_in, IsFalling, owns_nothing, plain_of, option_map}
+use Rattle.pagable_tables.{proofs.Words.{load_at, known_at, cell_in, IsFalling, owns_nothing, plain_of, option_map}, specs.Core.IsWhole}
 use Rattle.std.specs.Option.{option_map_or}
-use Rattle.pagable_tables.specs.Core.{IsWhole}
 
 in-none : (v : ℕ) → is_in [] v ≡ false
 unfolding is_in

@@ -1,8 +1,7 @@
 -- A handle is offered to the cache: why it is refused, and what is known then.
-use Rattle.pagable_tables.proofs.Words.{◌≡◌, ℕ, ◌<◌, ◌==◌, ◌&&◌, Bool, true, false, subst, arith, Option, Some, None, if◌then◌else◌, ◌≢◌, ◌⊎◌, not, nat_tests, Error, HandleNumber}
-use Rattle.pagable_tables.proofs.Words.{NodeNumber, Kind, HandleRow, Owner, if_there, type_of, fits_mode, Core, row_at, type_at, earlier, rank, refused_if, spent, where_so, handle_fault}
-use Rattle.pagable_tables.proofs.Words.{is_type, is_usable, offer_fault, option_map, is_owner}
-use Rattle.pagable_tables.proofs.{Pins.handle-first, Pins.spent-late}
+use Rattle.pagable_tables.proofs.Words.{◌≡◌, ℕ, ◌<◌, ◌==◌, ◌&&◌, Bool, true, false, subst, arith, Option, Some, None, if◌then◌else◌, ◌≢◌, ◌⊎◌, not, nat_tests, Error, HandleNumber, NodeNumber, Kind}
+use Rattle.pagable_tables.proofs.Words.{HandleRow, Owner, if_there, type_of, fits_mode, Core, row_at, type_at, earlier, rank, refused_if, spent, where_so, handle_fault, is_type, is_usable}
+use Rattle.pagable_tables.proofs.{Words.{offer_fault, option_map, is_owner}, Pins.{handle-first, spent-late}}
 
 -- of two late causes any is late
 pub late : (a b : Option Error) (m : ℕ) → ((f : Error) → a ≡ Some f → m < rank f) → ((f : Error) → b ≡ Some f → m < rank f) → (f : Error) → earlier a b ≡ Some f → m < rank f

@@ -1,8 +1,7 @@
 -- A handle comes to another owner. What the list has is there.
-use Rattle.pagable_tables.proofs.Words.{◌≡◌, ℕ, ◌+◌, ◌<◌, ◌≤◌, ◌==◌, ◌&&◌, true, false, List, [], length, get_or, sum_by, slice_get, refl, arith, Some, None, Option, nat_tests}
-use Rattle.pagable_tables.proofs.Words.{get_or-le-sum_by, sum_by-le-sum_by, ArcRef, HandleNumber, HandleRow, Owner, one, times, find_row, is_handle, is_owner, is_owned_by, Counts, Place}
-use Rattle.pagable_tables.proofs.Words.{live, alive, IsBefore, Fits, owns_nothing, is_valued, AllPairs}
-use Rattle.pagable_tables.proofs.{Alive.none-found, Alive.only-row, Coming.owned-by-none}
+use Rattle.pagable_tables.proofs.Words.{◌≡◌, ℕ, ◌+◌, ◌<◌, ◌≤◌, ◌==◌, ◌&&◌, true, false, List, [], length, get_or, sum_by, slice_get, refl, arith, Some, None, Option, nat_tests, get_or-le-sum_by}
+use Rattle.pagable_tables.proofs.Words.{sum_by-le-sum_by, ArcRef, HandleNumber, HandleRow, Owner, one, times, find_row, is_handle, is_owner, is_owned_by, Counts, Place, live, alive, IsBefore, Fits}
+use Rattle.pagable_tables.proofs.{Words.{owns_nothing, is_valued, AllPairs}, Alive.{none-found, only-row}, Coming.owned-by-none}
 
 abbrev pub owned-by : Owner → HandleRow → HandleRow
 owned-by owner x = record x { owner = owner }

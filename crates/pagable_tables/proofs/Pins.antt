@@ -1,8 +1,7 @@
 -- A handle is pinned, by a Pinned one that is made and by itself. Why an own handle can't be used.
-use Rattle.pagable_tables.proofs.Words.{◌≡◌, ℕ, ◌<◌, ◌≤◌, Bool, true, false, List, [], ◌∷◌, ◌++◌, refl, ap, sym, ◌∙◌, arith, Option, Some, None, if◌then◌else◌, not, nat_lt, nat_tests}
-use Rattle.pagable_tables.proofs.Words.{Error, HandleNumber, NodeNumber, HandleRow, Owner, Mode, changed, if_there, find_row, is_handle, is_owner, Core, Alike, row_at, earlier, rank}
-use Rattle.pagable_tables.proofs.Words.{refused_if, spent, where_so, handle_fault, Owns, with_handle, with_mode}
-use Rattle.pagable_tables.proofs.{Worlds.same-cache}
+use Rattle.pagable_tables.proofs.Words.{◌≡◌, ℕ, ◌<◌, ◌≤◌, Bool, true, false, List, [], ◌∷◌, ◌++◌, refl, ap, sym, ◌∙◌, arith, Option, Some, None, if◌then◌else◌, not, nat_lt, nat_tests, Error}
+use Rattle.pagable_tables.proofs.Words.{HandleNumber, NodeNumber, HandleRow, Owner, Mode, changed, if_there, find_row, is_handle, is_owner, Core, Alike, row_at, earlier, rank, refused_if, spent}
+use Rattle.pagable_tables.proofs.{Words.{where_so, handle_fault, Owns, with_handle, with_mode}, Worlds.same-cache}
 
 -- a row of another number stays
 pub changed-push : (q : ℕ) (f : HandleRow → HandleRow) (rows : List HandleRow) (x : HandleRow) → q < x.number.0 → changed (is_handle q) f (rows ++ x ∷ []) ≡ changed (is_handle q) f rows ++ x ∷ []

@@ -1,11 +1,10 @@
 -- A world with more room, and a node that is born in it.
-use Rattle.pagable_tables.proofs.Words.{◌≡◌, ℕ, ◌+◌, ◌<◌, ◌≤◌, true, false, if◌then◌else◌, List, [], ◌∷◌, refl, ap, sym, ◌∙◌, subst, arith, Option, None, inl, inr, Bool, vec_capacity}
-use Rattle.pagable_tables.proofs.Words.{nat_tests, IndexMap, OptionalDataKey, Error, ArcRef, HandleNumber, Kind, LoadNumber, Owner, Mode, Blob, or_else, type_of, mode_of, Core, Places}
-use Rattle.pagable_tables.proofs.Words.{Alike, HasRoom, greatest, earlier, spent, reference_fault, references_fault, Refused, with_handle, with_node, with_cached, next_node, adopted}
-use Rattle.pagable_tables.proofs.Words.{LoadRow, Holdings, Tables, OnlyRoom, counts_at, refs_at, load_at, known_at, Fits, owns_nothing, live, AreSound, core_of, plain_of, MayHold, AreLater}
+use Rattle.pagable_tables.proofs.Words.{◌≡◌, ℕ, ◌+◌, ◌<◌, ◌≤◌, true, false, if◌then◌else◌, List, [], ◌∷◌, refl, ap, sym, ◌∙◌, subst, arith, Option, None, inl, inr, Bool, vec_capacity, nat_tests}
+use Rattle.pagable_tables.proofs.Words.{IndexMap, OptionalDataKey, Error, ArcRef, HandleNumber, Kind, LoadNumber, Owner, Mode, Blob, or_else, type_of, mode_of, Core, Places, Alike, HasRoom, greatest}
+use Rattle.pagable_tables.proofs.Words.{earlier, spent, reference_fault, references_fault, Refused, with_handle, with_node, with_cached, next_node, adopted, LoadRow, Holdings, Tables, OnlyRoom}
+use Rattle.pagable_tables.{proofs.Words.{counts_at, refs_at, load_at, known_at, Fits, owns_nothing, live, AreSound, core_of, plain_of, MayHold, AreLater}, specs.Core.IsWhole}
+use Rattle.pagable_tables.{proofs.Newer.{newer-alike, later-so}, proofs.keeps.Told.alike-whole, proofs.keeps.Placed.whole-so}
 use Rattle.pagable_world.specs.Calls.{IsNext}
-use Rattle.pagable_tables.specs.Core.{IsWhole}
-use Rattle.pagable_tables.proofs.{Newer.newer-alike, Newer.later-so, keeps.Told.alike-whole, keeps.Placed.whole-so}
 use Rattle.pagable_tables.specs.Live as places
 
 pub room-still : (w : Core) → OnlyRoom w w

@@ -3,9 +3,8 @@ use Rattle.pagable_tables.proofs.Words.{◌≡◌, ℕ, ◌<◌, ◌≤◌, ◌=
 use Rattle.pagable_tables.proofs.Words.{Result, Ok, Err, AllPairs, nat_tests, cases_eq, sum_by-le-sum_by, sum_by_push, sum_by-append, Error, HandleRow, Among, if_there, one, times, is_loose_kind}
 use Rattle.pagable_tables.proofs.Words.{is_owner, mode_of, is_at, is_pin, is_pinning, is_owned_by, owner_value, held, pins, sharing, Core, Places, HasRoom, Alike, IsHandleBefore, HandlesAreWhole}
 use Rattle.pagable_tables.proofs.Words.{references_fault, is_owned_in, ArcRef, IsLeast, IsWithin, IsClosed, loses_value, pins_outside, held_outside, owned_outside, is_outside, is_keyed, left_rows}
-use Rattle.pagable_tables.proofs.Words.{MustList, TellsListing, IsPlaceWanting, IsListRefusal, Falls, is_named_by, is_valued, LoadNumber, Owner}
-use Rattle.pagable_tables.proofs.{Coming.no-value, Regiven.loaded, Regiven.passes-here, Regiven.passes-none, Left.times-left, Dropped.owned-given, keeps.BirthCalls.named-mine, keeps.Rows.counted}
-use Rattle.pagable_tables.proofs.{keeps.Rows.at-most-sum, keeps.Rows.once, keeps.Rows.among-last, Pins.owner-self}
+use Rattle.pagable_tables.proofs.{Words.{MustList, TellsListing, IsPlaceWanting, IsListRefusal, Falls, is_named_by, is_valued, LoadNumber, Owner}, Coming.no-value, Regiven.{loaded, passes-here}}
+use Rattle.pagable_tables.proofs.{Regiven.passes-none, Left.times-left, Dropped.owned-given, keeps.BirthCalls.named-mine, keeps.Rows.{counted, at-most-sum, once, among-last}, Pins.owner-self}
 
 zero-or : (n : ℕ) → (n ≡ 0) ⊎ (0 < n)
 zero-or n = elim (cases_eq n 0) [ inl e ↦ inl e | inr e ↦ inr (omega arith) ]

@@ -1,12 +1,10 @@
 -- A handle comes, and then another is given up: the new one stays, so that cells are listed as of the world before it came.
-use Rattle.pagable_tables.proofs.Words.{◌≡◌, ℕ, ◌+◌, ◌<◌, ◌≤◌, ◌==◌, ◌&&◌, Bool, true, false, [], ◌∷◌, refl, ap, ◌∙◌, arith, Ok, Err, Option, None, inl, inr, if◌then◌else◌}
-use Rattle.pagable_tables.proofs.Words.{Result, not, nat_eq, nat_tests, sum_by_push, sum_by-append, sum_by-le-sum_by, Error, NodeNumber, HandleRow, Owner, Mode, Blob, Among, one, times}
-use Rattle.pagable_tables.proofs.Words.{is_handle, is_at, is_pin, is_share, is_pinning, is_shared, is_owner, is_owned_by, owner_value, held, pins, sharing, HandleNumber, Core, Last, Alike}
-use Rattle.pagable_tables.proofs.Words.{Falls, IsClosed, IsWithin, MustList, TellsListing, is_keyed, nobody, pins_outside, held_outside, left_rows, row_of, with_handle, Counts, Tables, live}
-use Rattle.pagable_tables.proofs.Words.{counts_at, ValueStays, cell_in, has_value, is_valued, pins_in, SoFar, core_of}
-use Rattle.pagable_tables.specs.Core.{IsWhole}
-use Rattle.pagable_tables.proofs.{Begun.begins, Begun.begun, Left.times-left, Shedding.none-falls-in, keeps.Rests.within-goes, keeps.Rows.among-both, keeps.Rows.among-one}
-use Rattle.pagable_tables.proofs.{keeps.Rows.among-last, keeps.Rows.at-most-sum, keeps.Rows.sum-none}
+use Rattle.pagable_tables.proofs.Words.{◌≡◌, ℕ, ◌+◌, ◌<◌, ◌≤◌, ◌==◌, ◌&&◌, Bool, true, false, [], ◌∷◌, refl, ap, ◌∙◌, arith, Ok, Err, Option, None, inl, inr, if◌then◌else◌, Result, not, nat_eq}
+use Rattle.pagable_tables.proofs.Words.{nat_tests, sum_by_push, sum_by-append, sum_by-le-sum_by, Error, NodeNumber, HandleRow, Owner, Mode, Blob, Among, one, times, is_handle, is_at, is_pin}
+use Rattle.pagable_tables.proofs.Words.{is_share, is_pinning, is_shared, is_owner, is_owned_by, owner_value, held, pins, sharing, HandleNumber, Core, Last, Alike, Falls, IsClosed, IsWithin, MustList}
+use Rattle.pagable_tables.proofs.Words.{TellsListing, is_keyed, nobody, pins_outside, held_outside, left_rows, row_of, with_handle, Counts, Tables, live, counts_at, ValueStays, cell_in, has_value}
+use Rattle.pagable_tables.{proofs.Words.{is_valued, pins_in, SoFar, core_of}, specs.Core.IsWhole, proofs.Begun.{begins, begun}, proofs.Left.times-left, proofs.Shedding.none-falls-in}
+use Rattle.pagable_tables.{proofs.keeps.Rests.within-goes, proofs.keeps.Rows.{among-both, among-one, among-last, at-most-sum, sum-none}}
 
 -- a handle that doesn't pin isn't Shared
 unshared : (b : Bool) (mode : Mode) → (b && is_pinning mode) ≡ false → (b && is_shared mode) ≡ false

@@ -1,11 +1,10 @@
 -- A load hands handles over, and gives up the rest.
-use Rattle.pagable_tables.proofs.Words.{◌≡◌, ℕ, ◌<◌, ◌==◌, ◌&&◌, Bool, true, false, not, if◌then◌else◌, List, [], ◌∷◌, length, refl, ap, sym, ◌∙◌, subst, arith, Option, None, inl, inr}
-use Rattle.pagable_tables.proofs.Words.{nat_tests, sum_by-cons, HandleNumber, LoadNumber, HandleRow, Owner, Blob, Among, one, times, is_in, is_handle, is_owner, is_owned_by, is_pin}
-use Rattle.pagable_tables.proofs.Words.{is_share, find_row, pins, Core, HasRoom, MayOwnLoad, load_fault, named_fault, nobody, moved, without_load, numbers_of, hand_over_fault, Tables}
-use Rattle.pagable_tables.proofs.Words.{Holdings, live, is_valued, with_tables, is_plain_pin, SoFar, core_of, named_at, IsNamed}
+use Rattle.pagable_tables.proofs.Words.{◌≡◌, ℕ, ◌<◌, ◌==◌, ◌&&◌, Bool, true, false, not, if◌then◌else◌, List, [], ◌∷◌, length, refl, ap, sym, ◌∙◌, subst, arith, Option, None, inl, inr, nat_tests}
+use Rattle.pagable_tables.proofs.Words.{sum_by-cons, HandleNumber, LoadNumber, HandleRow, Owner, Blob, Among, one, times, is_in, is_handle, is_owner, is_owned_by, is_pin, is_share, find_row, pins}
+use Rattle.pagable_tables.proofs.Words.{Core, HasRoom, MayOwnLoad, load_fault, named_fault, nobody, moved, without_load, numbers_of, hand_over_fault, Tables, Holdings, live, is_valued, with_tables}
+use Rattle.pagable_tables.proofs.{Words.{is_plain_pin, SoFar, core_of, named_at, IsNamed}, Begun.{begins, begun}, Handed.seen-all, Regiven.loaded, Seen.in-there, keeps.Comes.not-list}
+use Rattle.pagable_tables.proofs.{keeps.EndCalls.{both-none, handed-mine, asker-owns}, keeps.LoadCalls.may-hold, keeps.Moved.moved-to-holder, keeps.Rows.{found-among, once}}
 use Rattle.pagable_tables.specs.Core.{IsWhole}
-use Rattle.pagable_tables.proofs.{Begun.begins, Begun.begun, Handed.seen-all, Regiven.loaded, Seen.in-there, keeps.Comes.not-list, keeps.EndCalls.both-none, keeps.EndCalls.handed-mine}
-use Rattle.pagable_tables.proofs.{keeps.EndCalls.asker-owns, keeps.LoadCalls.may-hold, keeps.Moved.moved-to-holder, keeps.Rows.found-among, keeps.Rows.once}
 use Rattle.pagable_world.specs.Pager as pager
 
 -- what is counted of handles whoever owns them

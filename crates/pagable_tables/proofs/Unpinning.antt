@@ -1,11 +1,10 @@
 -- A handle has let its pin go and stays: what has gone and come so far.
 use Rattle.pagable_tables.proofs.Words.{◌≡◌, ℕ, ◌+◌, ◌<◌, ◌≤◌, ◌&&◌, Bool, true, false, not, if◌then◌else◌, List, [], ◌∷◌, ◌++◌, length, filter, ap, sym, ◌∙◌, subst, arith, inl, inr, Option, Some}
-use Rattle.pagable_tables.proofs.Words.{None, slice_get, ◌≢◌, Result, Ok, Err, nat_tests, append-nil, length-append, length-map, Error, HandleNumber, HandleRow, Owner, Mode, Blob, one, times}
-use Rattle.pagable_tables.proofs.Words.{is_pin, is_share, is_handle, is_owned_by, pins, sharing, Core, greatest, with_mode, left_rows, MustList, TellsListing, IsListRefusal, nobody, Tables}
-use Rattle.pagable_tables.proofs.Words.{Holdings, live, alive, entries_of, first_cause, IsUnlisted, unpinned, Lowers, with_tables, told_by, Begins, SoFar, core_of}
-use Rattle.pagable_tables.specs.Core.{IsWhole}
-use Rattle.pagable_tables.proofs.{Alive.row-le-live, Begun.begun-whole, Begun.none-within, Going.entry-number, Going.new-more, Going.long-one, Going.within-more, Going.ones, Left.left-all}
-use Rattle.pagable_tables.proofs.{Left.all-kept, Leaving.with-entry, Wanted.listing-is, Wanted.entry-pins, Telling.only-more, Telling.tells-more, Telling.refusal-now}
+use Rattle.pagable_tables.proofs.Words.{None, slice_get, ◌≢◌, Result, Ok, Err, nat_tests, append-nil, length-append, length-map, Error, HandleNumber, HandleRow, Owner, Mode, Blob, one, times, is_pin}
+use Rattle.pagable_tables.proofs.Words.{is_share, is_handle, is_owned_by, pins, sharing, Core, greatest, with_mode, left_rows, MustList, TellsListing, IsListRefusal, nobody, Tables, Holdings, live}
+use Rattle.pagable_tables.{proofs.Words.{alive, entries_of, first_cause, IsUnlisted, unpinned, Lowers, with_tables, told_by, Begins, SoFar, core_of}, specs.Core.IsWhole, proofs.Alive.row-le-live}
+use Rattle.pagable_tables.{proofs.Begun.{begun-whole, none-within}, proofs.Going.{entry-number, new-more, long-one, within-more, ones}, proofs.Left.{left-all, all-kept}, proofs.Leaving.with-entry}
+use Rattle.pagable_tables.{proofs.Wanted.{listing-is, entry-pins}, proofs.Telling.{only-more, tells-more, refusal-now}}
 
 -- what must be listed and what is told of it, where only a mode differs
 must-moded : (before w : Core) (h : HandleNumber) (new : Holdings) (n : ℕ) → MustList before w (with_tables w new) n

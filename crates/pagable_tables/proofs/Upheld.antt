@@ -1,10 +1,9 @@
 -- Loads of cells that can end, and what is true once they do.
-use Rattle.pagable_tables.proofs.Words.{◌≡◌, ℕ, ◌<◌, ◌==◌, true, List, [], ◌∷◌, refl, ap, sym, ◌∙◌, subst, arith, Option, Some, None, ◌⊎◌, ◌≤◌, ◌+◌, not, vec_capacity, nat_tests, Error}
-use Rattle.pagable_tables.proofs.Words.{ArcRef, HandleNumber, LoadNumber, NodeNumber, HandleRow, Owner, if_there, or_else, is_owner, Core, OpenLoad, Places, of_cell, of_key, greatest}
-use Rattle.pagable_tables.proofs.Words.{row_at, AreHandlesFull, refused_if, where_so, spent, load_fault, reference_fault, references_fault, MayOwnLoad, root_fault, end_fault, is_owned_in}
-use Rattle.pagable_tables.proofs.Words.{MayEnd, Handles, Tables, live, room, AreSound, IsNext, counts_at, refs_at, plain_of, Ending, IsReady}
-use Rattle.pagable_tables.specs.Core.{IsWhole}
-use Rattle.pagable_tables.proofs.{Coming.rows-told, Worlds.alike, keeps.Told.alike-whole, keeps.Placed.whole-so, keeps.EndCalls.both-none}
+use Rattle.pagable_tables.proofs.Words.{◌≡◌, ℕ, ◌<◌, ◌==◌, true, List, [], ◌∷◌, refl, ap, sym, ◌∙◌, subst, arith, Option, Some, None, ◌⊎◌, ◌≤◌, ◌+◌, not, vec_capacity, nat_tests, Error, ArcRef}
+use Rattle.pagable_tables.proofs.Words.{HandleNumber, LoadNumber, NodeNumber, HandleRow, Owner, if_there, or_else, is_owner, Core, OpenLoad, Places, of_cell, of_key, greatest, row_at, AreHandlesFull}
+use Rattle.pagable_tables.proofs.Words.{refused_if, where_so, spent, load_fault, reference_fault, references_fault, MayOwnLoad, root_fault, end_fault, is_owned_in, MayEnd, Handles, Tables, live}
+use Rattle.pagable_tables.{proofs.Words.{room, AreSound, IsNext, counts_at, refs_at, plain_of, Ending, IsReady}, specs.Core.IsWhole, proofs.Coming.rows-told, proofs.Worlds.alike}
+use Rattle.pagable_tables.{proofs.keeps.Told.alike-whole, proofs.keeps.Placed.whole-so, proofs.keeps.EndCalls.both-none}
 
 typed-so : (a b : ℕ) → refused_if (not (a == b)) Error.WrongKind ≡ None → a ≡ b
 typed-so a b e = grind (arith, nat_tests)

@@ -2,8 +2,7 @@
 use Rattle.std.specs.Prelude.{ℕ, ◌≡◌, ◌<◌, List}
 use Rattle.indexmap.specs.IndexMap.{spare}
 use Rattle.pagable_model.specs.{declared.numbers.ArcRef.ArcRef, declared.numbers.HandleNumber.HandleNumber}
-use Rattle.pagable_world.specs.{declared.handles.Owner.Owner, declared.rows.Mode.Mode, World.Core, World.Alike, World.HasRoom, World.greatest, Calls.IsNext, Calls.with_handle}
-use Rattle.pagable_world.specs.{Calls.with_node, Calls.next_node}
+use Rattle.pagable_world.specs.{declared.handles.Owner.Owner, declared.rows.Mode.Mode, World.{Core, Alike, HasRoom, greatest}, Calls.{IsNext, with_handle, with_node, next_node}}
 use Rattle.pagable_tables.specs.{declared.rows.Counts.Counts, declared.tables.Tables.Tables, Falling.key_in, Live.room}
 use Rattle.pagable_model.specs.declared.data_key.OptionalDataKey.TheVariants as optional
 

@@ -1,12 +1,10 @@
 -- The plain world that the tables tell, and when they are whole.
-use Rattle.std.specs.Prelude.{ℕ, ◌≡◌, ◌≤◌, Bool, true, false, [], length, Option, None, is_some, Result, IfOk, IfErr, vec_capacity}
-use Rattle.std.specs.{Option.option_map}
+use Rattle.std.specs.{Prelude.{ℕ, ◌≡◌, ◌≤◌, Bool, true, false, [], length, Option, None, is_some, Result, IfOk, IfErr, vec_capacity}, Option.option_map}
 use Rattle.pagable_model.specs.{declared.error.Error.Error, declared.numbers.HandleNumber.HandleNumber, declared.numbers.NodeNumber.NodeNumber}
-use Rattle.pagable_world.specs.{Plain.Blob, Plain.Among, Plain.is_in, declared.handles.HandleRow.HandleRow, declared.handles.Owner.Owner, declared.rows.Mode.Mode, Kinds.is_shared}
-use Rattle.pagable_world.specs.{World.Core, World.OpenLoad, World.Root, World.of_cell, World.of_key, World.Alike, Calls.with_handle, Calls.IsNext, Refusals.spent, Refusals.Refused}
-use Rattle.pagable_world.specs.{Refusals.AreHandlesFull}
-use Rattle.pagable_tables.specs.{declared.rows.LoadRow.LoadRow, declared.rows.LoadRoot.LoadRoot, declared.tables.Tables.Tables, Live.live, ByNumber.counts_at, ByNumber.load_at}
-use Rattle.pagable_tables.specs.{ByNumber.known_at, Falling.cell_in, Falling.IsFalling, Falling.owns_nothing}
+use Rattle.pagable_world.specs.{Plain.{Blob, Among, is_in}, declared.handles.HandleRow.HandleRow, declared.handles.Owner.Owner, declared.rows.Mode.Mode, Kinds.is_shared, World.{Core, OpenLoad, Root}}
+use Rattle.pagable_world.specs.{World.{of_cell, of_key, Alike}, Calls.{with_handle, IsNext}, Refusals.{spent, Refused, AreHandlesFull}}
+use Rattle.pagable_tables.specs.{declared.rows.LoadRow.LoadRow, declared.rows.LoadRoot.LoadRoot, declared.tables.Tables.Tables, Live.live, ByNumber.{counts_at, load_at, known_at}, Falling.cell_in}
+use Rattle.pagable_tables.specs.Falling.{IsFalling, owns_nothing}
 use Rattle.pagable_world.specs.declared.handles.Owner.TheVariants as owners
 use Rattle.pagable_world.specs.Pager as pager
 use Rattle.pagable_tables.specs.declared.rows.LoadRoot.TheVariants as roots

@@ -1,10 +1,9 @@
 -- Handles that are given up together, and workers that begin.
-use Rattle.std.specs.Prelude.{ℕ, ◌≡◌, ◌+◌, ◌==◌, ◌&&◌, ◌||◌, Bool, false, if◌then◌else◌, List, Option, Some, None, Result, IfOk, IfErr, slice_get}
-use Rattle.std.specs.{Option.option_map}
+use Rattle.std.specs.{Prelude.{ℕ, ◌≡◌, ◌+◌, ◌==◌, ◌&&◌, ◌||◌, Bool, false, if◌then◌else◌, List, Option, Some, None, Result, IfOk, IfErr, slice_get}, Option.option_map}
 use Rattle.indexmap.specs.IndexMap.{IndexMap}
 use Rattle.pagable_model.specs.{declared.error.Error.Error, declared.numbers.HandleNumber.HandleNumber, declared.numbers.NodeNumber.NodeNumber, declared.numbers.WorkerNumber.WorkerNumber}
-use Rattle.pagable_world.specs.{declared.handles.HandleRow.HandleRow, declared.handles.Owner.Owner, Plain.if_there, Kinds.is_owner, Kinds.owner_worker, Kinds.find_row, World.Core}
-use Rattle.pagable_world.specs.{World.Alike, Workers.is_load_of, Events.with_worker, Events.with_entry_taken}
+use Rattle.pagable_world.specs.{declared.handles.HandleRow.HandleRow, declared.handles.Owner.Owner, Plain.if_there, Kinds.{is_owner, owner_worker, find_row}, World.{Core, Alike}, Workers.is_load_of}
+use Rattle.pagable_world.specs.Events.{with_worker, with_entry_taken}
 use Rattle.pagable_tables.specs.{declared.giving.Giving.Giving, declared.rows.LoadRow.LoadRow, ByNumber.load_at, Core.load_in}
 use Rattle.pagable_model.specs.declared.error.Error.TheVariants as errors
 use Rattle.pagable_world.specs.declared.handles.Owner.TheVariants as owners

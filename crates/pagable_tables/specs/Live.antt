@@ -1,6 +1,5 @@
 -- The live handles among places that may be dead.
-use Rattle.std.specs.Prelude.{ℕ, ◌≡◌, ◌+◌, ◌-◌, ◌<◌, Bool, true, if◌then◌else◌, List, [], ◌∷◌, length, All, vec_len, vec_capacity}
-use Rattle.std.specs.{List.AllPairs}
+use Rattle.std.specs.{Prelude.{ℕ, ◌≡◌, ◌+◌, ◌-◌, ◌<◌, Bool, true, if◌then◌else◌, List, [], ◌∷◌, length, All, vec_len, vec_capacity}, List.AllPairs}
 use Rattle.pagable_world.specs.declared.handles.HandleRow.{HandleRow}
 use Rattle.pagable_tables.specs.{declared.rows.Place.Place, declared.handles.Handles.Handles}
 

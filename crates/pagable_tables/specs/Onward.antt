@@ -1,9 +1,8 @@
 -- What has gone and what has come since handles began to be given up: before a call, in the world that it has made directly, and in the tables.
 use Rattle.std.specs.Prelude.{ℕ, ◌≡◌, ◌≢◌, ◌+◌, ◌<◌, ◌≤◌, ◌==◌, ◌&&◌, ◌⊎◌, ◌++◌, Bool, true, not, List, length, map, filter, Option, Some, None, is_some, Result, Ok, Err, vec_capacity}
 use Rattle.pagable_model.specs.{declared.error.Error.Error, declared.numbers.HandleNumber.HandleNumber}
-use Rattle.pagable_world.specs.{declared.handles.HandleRow.HandleRow, Plain.times, Kinds.is_shared, Kinds.is_pin, Kinds.is_handle, Kinds.is_owned_by, Kinds.held, Kinds.pins, Kinds.sharing}
-use Rattle.pagable_world.specs.{World.Core, World.greatest, World.HasRoom, Cascade.IsWithin, Cascade.IsClosed, Cascade.AreNewEntries, Cascade.is_keyed, Cascade.left_rows, Cascade.MustList}
-use Rattle.pagable_world.specs.{Cascade.TellsListing}
+use Rattle.pagable_world.specs.{declared.handles.HandleRow.HandleRow, Plain.times, Kinds.{is_shared, is_pin, is_handle, is_owned_by, held, pins, sharing}, World.{Core, greatest, HasRoom}}
+use Rattle.pagable_world.specs.Cascade.{IsWithin, IsClosed, AreNewEntries, is_keyed, left_rows, MustList, TellsListing}
 use Rattle.pagable_tables.specs.{declared.holdings.Holdings.Holdings, Live.live, ByNumber.counts_at, Falling.cell_in}
 use Rattle.pagable_world.specs.declared.handles.Owner.TheVariants as owners
 

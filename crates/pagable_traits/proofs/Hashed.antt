@@ -1,15 +1,13 @@
 -- Maps in no order: what putting in, writing and reading their entries gives, in whatever order they stand.
 use Rattle.pagable_traits.proofs.Words.{◌≡◌, ℕ, ◌≤◌, Bool, true, false, subst, List, [], ◌∷◌, ◌++◌, length, map, refl, sym, ap, ◌∙◌, Option, Some, None, is_some, Result, IsPermutation, length-map}
-use Rattle.pagable_traits.proofs.Words.{IsDistinct, keys_of, lookup, set_value, Ordering, is_eq, IsTotalOrder, Error, ArcRef, longest, length_form, Meaning, entry, Entry, ordered, same_key}
-use Rattle.pagable_traits.proofs.Words.{put_all, put_sorted, AllAfter, Apart, Differ, Shape, both, of_entries, Entries, more-entries, Rest, Context, counted, read, read_with, Nesting, FormAt}
-use Rattle.pagable_traits.proofs.Words.{FormsAt, kind_of_arc, GivesSome, PutInTurn, Collected, MeansPair, arith}
-use Rattle.std.proofs.{Common.MatchOption, lemmas.Map.Text.is_eq-slice_cmp}
-use Rattle.std.specs.Cmp.Lexicographic.{on_texts}
-use Rattle.pagable_model.specs.{Meaning.plain, Keys.code, Keys.code_order, Shape.hash_map, Carried.of_hash_map, Form.hash-map-form, Hashed.PutsAnywhere, Hashed.MeansHashMap}
-use Rattle.pagable_traits.proofs.Maps.{EntriesMean, entries-of-pairs, pairs-of-entries, same-entries, forms-of-entries, entries-mean, entries-written, reads-entries}
-use Rattle.pagable_traits.proofs.Reordered.{Reordered, no-items, same-front, two-turned, and-then, reordered, reordered-back, reordered-length, apart-with}
-use Rattle.pagable_traits.proofs.Anywhere.{OtherKey, other-back, put-late, any-order, in-order-reordered, put-value}
-use Rattle.pagable_traits.proofs.{Items.sequence-same, Walks.Wraps, Placed.IsSameOf, Placed.differ}
+use Rattle.pagable_traits.proofs.Words.{IsDistinct, keys_of, lookup, set_value, Ordering, is_eq, IsTotalOrder, Error, ArcRef, longest, length_form, Meaning, entry, Entry, ordered, same_key, put_all}
+use Rattle.pagable_traits.proofs.Words.{put_sorted, AllAfter, Apart, Differ, Shape, both, of_entries, Entries, more-entries, Rest, Context, counted, read, read_with, Nesting, FormAt, FormsAt}
+use Rattle.pagable_traits.proofs.{Words.{kind_of_arc, GivesSome, PutInTurn, Collected, MeansPair, arith}, Maps.{EntriesMean, entries-of-pairs, pairs-of-entries, same-entries, forms-of-entries}}
+use Rattle.pagable_traits.proofs.{Maps.{entries-mean, entries-written, reads-entries}, Reordered.{Reordered, no-items, same-front, two-turned, and-then, reordered, reordered-back, reordered-length}}
+use Rattle.pagable_traits.proofs.{Reordered.apart-with, Anywhere.{OtherKey, other-back, put-late, any-order, in-order-reordered, put-value}, Items.sequence-same, Walks.Wraps, Placed.IsSameOf}
+use Rattle.pagable_traits.proofs.Placed.{differ}
+use Rattle.std.{proofs.Common.MatchOption, proofs.lemmas.Map.Text.is_eq-slice_cmp, specs.Cmp.Lexicographic.on_texts}
+use Rattle.pagable_model.specs.{Meaning.plain, Keys.{code, code_order}, Shape.hash_map, Carried.of_hash_map, Form.hash-map-form, Hashed.{PutsAnywhere, MeansHashMap}}
 
 -- the order in which a hash map's entries are put in its meaning, and that it tells the keys apart
 abbrev of_keys : Meaning ArcRef → Meaning ArcRef → Ordering

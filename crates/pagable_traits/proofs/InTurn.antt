@@ -1,11 +1,10 @@
 -- One value after another: what the writers and the readers of two values owe, the writer and the reader of both owe.
 use Rattle.pagable_traits.proofs.Words.{Answer, Rest, ◌≡◌, ◌≤◌, ℕ, [], ◌∙◌, Option, Result, Ok, Err, inl, inr, err_from_is_err_and, OnOk, IfErr, ◌⊎◌, IsErrAnd, Error, ArcRef, longest, length_form}
-use Rattle.pagable_traits.proofs.Words.{either, memory_or, long_or, MeansPair, Meaning, Shape, both, read, SomeMeaning, Gave, GivesSome, MovesOn, WritesSome, Refused, Grows, added, moves_trans}
-use Rattle.pagable_traits.proofs.Words.{List, length, Nesting, grows_trans, nested_in, context_in, WritesEach, WritesCounted, RefusedAmong, RefusedCounted}
+use Rattle.pagable_traits.proofs.Words.{either, memory_or, long_or, MeansPair, Meaning, Shape, both, read, SomeMeaning, Gave, GivesSome, MovesOn, WritesSome, Refused, Grows, added, moves_trans, List}
+use Rattle.pagable_traits.proofs.{Words.{length, Nesting, grows_trans, nested_in, context_in, WritesEach, WritesCounted, RefusedAmong, RefusedCounted}, Held.{pair_first_refused, pair_second_refused}}
+use Rattle.pagable_traits.proofs.{Held.pair_gave, Joined.gave_along, Parts.{only-part, writes_pair, refuses_first, refuses_second}, Walks.{Shows, Wraps, written_counted, refused_counted}}
 use Rattle.pagable_codec.specs.{declared.env.Env.Ghosts as Environments, declared.serializer.PagableSerializer.Ghosts as Serializers}
 use Rattle.pagable_codec.specs.{declared.deserializer.PagableDeserializer.Ghosts as Deserializers}
-use Rattle.pagable_traits.proofs.{Held.pair_first_refused, Held.pair_second_refused, Held.pair_gave, Joined.gave_along, Parts.only-part, Parts.writes_pair, Parts.refuses_first}
-use Rattle.pagable_traits.proofs.{Parts.refuses_second, Walks.Shows, Walks.Wraps, Walks.written_counted, Walks.refused_counted}
 
 module _ {S E N H K V : Type 0} (env : Environments E N H K V) (s : Serializers S E N H K V) where
   -- what a writer owes: where it succeeds, and of its refusals

@@ -1,11 +1,10 @@
 -- Successes and failures, arrays, and tuples: what writing their parts one after another adds, and what reading them so gives.
-use Rattle.pagable_traits.proofs.Words.{◌≡◌, ℕ, List, [], ◌++◌, length, refl, ◌∙◌, Result, Ok, Err, inl, inr, subst, ap, ◌≤◌, IfErr, OnOk, ◌⊎◌, Bool, true, false, Error, ArcRef, bool_form}
-use Rattle.pagable_traits.proofs.Words.{bool_at, longest, text_form, either, MeanAll, MeansList, MeansPair, MeansResult, means-ok, means-err, Meaning, none, sequence, success, failure, Shape}
-use Rattle.pagable_traits.proofs.Words.{outcome, text-form, err-form, ok-form, Rest, Context, items, bytes_of, read, read_with, Answer, Gave, handles_at, Is, Out, Nesting, FormAt, FormsAt}
-use Rattle.pagable_traits.proofs.Words.{WritesSome, WritesSomeAll, added, NoForm, NoForms, Refused, RefusedAll, Grows, then, writes_is, writes_bytes, arith}
-use Rattle.pagable_model.specs.{Shape.nothing, Shape.array, Form.array-form}
+use Rattle.pagable_traits.proofs.Words.{◌≡◌, ℕ, List, [], ◌++◌, length, refl, ◌∙◌, Result, Ok, Err, inl, inr, subst, ap, ◌≤◌, IfErr, OnOk, ◌⊎◌, Bool, true, false, Error, ArcRef, bool_form, bool_at}
+use Rattle.pagable_traits.proofs.Words.{longest, text_form, either, MeanAll, MeansList, MeansPair, MeansResult, means-ok, means-err, Meaning, none, sequence, success, failure, Shape, outcome}
+use Rattle.pagable_traits.proofs.Words.{text-form, err-form, ok-form, Rest, Context, items, bytes_of, read, read_with, Answer, Gave, handles_at, Is, Out, Nesting, FormAt, FormsAt, WritesSome}
+use Rattle.pagable_traits.proofs.{Words.{WritesSomeAll, added, NoForm, NoForms, Refused, RefusedAll, Grows, then, writes_is, writes_bytes, arith}, Items.{mean-length, sequence-same}}
+use Rattle.pagable_model.specs.{Shape.{nothing, array}, Form.array-form}
 use Rattle.std.specs.Str.{IsUtf8}
-use Rattle.pagable_traits.proofs.Items.{mean-length, sequence-same}
 use Rattle.pagable_model.specs.Meaning as meanings
 use Rattle.pagable_model.specs.Shape as shapes
 

@@ -1,17 +1,14 @@
 -- What reading a JSON value gives: its case, and then its part.
 use Rattle.pagable_traits.proofs.Words.{◌≡◌, ℕ, suc, ◌-◌, ◌+◌, ◌<◌, ◌≤◌, true, false, List, arith, refl, sym, ap, ◌∙◌, Result, Ok, Err, inl, inr, String, Global, Vec, ◌⊎◌, ℤ, pos, Bool, w64}
 use Rattle.pagable_traits.proofs.Words.{string_bytes, string_cmp, view, Value, Error, ArcRef, bool_at, length_at, text_at, memory, text_order, MeanAll, MeansPair, Meaning, integer, none, variant}
-use Rattle.pagable_traits.proofs.Words.{sequence, Read, unsigned_at, signed_at, Rest, Context, flag_case, number_case, text_case, array_case, object_case, bytes_of, deepest, items, read}
-use Rattle.pagable_traits.proofs.Words.{read_with, seen, Shape, json, both, sorted_map, signed, flag, text, Answer, Gave, GivesSome, Is, MovesOn, handles_at, moves_trans, of_data, of_value}
-use Rattle.pagable_traits.proofs.Words.{of_key, Reads, context_in}
-use Rattle.std.proofs.lemmas.Bool.{ne_eqb}
-use Rattle.std.specs.Prelude.{negsuc}
+use Rattle.pagable_traits.proofs.Words.{sequence, Read, unsigned_at, signed_at, Rest, Context, flag_case, number_case, text_case, array_case, object_case, bytes_of, deepest, items, read, read_with}
+use Rattle.pagable_traits.proofs.Words.{seen, Shape, json, both, sorted_map, signed, flag, text, Answer, Gave, GivesSome, Is, MovesOn, handles_at, moves_trans, of_data, of_value, of_key, Reads}
+use Rattle.pagable_traits.{proofs.Words.context_in, specs.JsonData.part_at, specs.JsonSteps.{ObjectOf, part_of}, proofs.JsonWritten.{items-are, members-are, keys-in-order, seen-null, seen-flag}}
+use Rattle.pagable_traits.{proofs.JsonWritten.{seen-text, seen-array, seen-object}, proofs.Maps.{viewed, sorted_map_collected, sorted_map_refused}, proofs.JsonSteps.read-then}
+use Rattle.std.{proofs.lemmas.Bool.ne_eqb, specs.Prelude.negsuc}
 use Rattle.serde_json.specs.{Data.number, Find.of_integer}
-use Rattle.pagable_codec.specs.{declared.env.Env.Ghosts as Environments, declared.deserializer.PagableDeserializer.Ghosts as Deserializers}
 use Rattle.pagable_model.specs.Reading.{JsonCase, json_case, below}
-use Rattle.pagable_traits.specs.{JsonData.part_at, JsonSteps.ObjectOf, JsonSteps.part_of}
-use Rattle.pagable_traits.proofs.JsonWritten.{items-are, members-are, keys-in-order, seen-null, seen-flag, seen-text, seen-array, seen-object}
-use Rattle.pagable_traits.proofs.{Maps.viewed, Maps.sorted_map_collected, Maps.sorted_map_refused, JsonSteps.read-then}
+use Rattle.pagable_codec.specs.{declared.env.Env.Ghosts as Environments, declared.deserializer.PagableDeserializer.Ghosts as Deserializers}
 use Rattle.serde_json.specs.declared.value.Value as values
 use Rattle.pagable_model.specs.declared.error.Error.TheVariants as errors
 use Rattle.pagable_model.specs.Meaning as meanings

@@ -1,12 +1,11 @@
 -- One step after another: what each of two functions that write or read owes, both owe.
-use Rattle.pagable_traits.proofs.Words.{◌≡◌, ℕ, ◌<◌, ◌≤◌, ◌+◌, ◌-◌, [], ◌∷◌, ◌++◌, List, arith, refl, ◌∙◌, Result, Ok, Err, inl, inr, err_from_is_err_and, OnOk, IfErr, ◌⊎◌, IsErrAnd, Error}
-use Rattle.pagable_traits.proofs.Words.{ArcRef, Extends, memory, memory_or, Meaning, Context, Gets, Rest, deepest, items, Shape, Answer, Gave, MovesOn, Out, Nesting, nesting, added, WritesSome}
-use Rattle.pagable_traits.proofs.Words.{Refused, Grows, grows_bytes, grows_refl, grows_trans, moves_trans, Piece, bytes, Wrote, Reads, nested_in, context_in}
+use Rattle.pagable_traits.proofs.Words.{◌≡◌, ℕ, ◌<◌, ◌≤◌, ◌+◌, ◌-◌, [], ◌∷◌, ◌++◌, List, arith, refl, ◌∙◌, Result, Ok, Err, inl, inr, err_from_is_err_and, OnOk, IfErr, ◌⊎◌, IsErrAnd, Error, ArcRef}
+use Rattle.pagable_traits.proofs.Words.{Extends, memory, memory_or, Meaning, Context, Gets, Rest, deepest, items, Shape, Answer, Gave, MovesOn, Out, Nesting, nesting, added, WritesSome, Refused}
+use Rattle.pagable_traits.{proofs.Words.{Grows, grows_bytes, grows_refl, grows_trans, moves_trans, Piece, bytes, Wrote, Reads, nested_in, context_in}, proofs.Items.{with_front, starts, goes_on}}
+use Rattle.pagable_traits.{proofs.Items.{ends, is_done}, proofs.Maps.viewed, specs.JsonSteps.value}
+use Rattle.pagable_codec.proofs.Adding.{added_bytes}
 use Rattle.pagable_codec.specs.{declared.env.Env.Ghosts as Environments, declared.serializer.PagableSerializer.Ghosts as Serializers}
 use Rattle.pagable_codec.specs.{declared.deserializer.PagableDeserializer.Ghosts as Deserializers}
-use Rattle.pagable_codec.proofs.Adding.{added_bytes}
-use Rattle.pagable_traits.proofs.{Items.with_front, Items.starts, Items.goes_on, Items.ends, Items.is_done, Maps.viewed}
-use Rattle.pagable_traits.specs.JsonSteps.{value}
 use Rattle.pagable_model.specs.declared.error.Error.TheVariants as errors
 
 -- one level further down, where a level is left

@@ -1,20 +1,17 @@
 -- What writing a JSON value adds: its case, and a form of its part; and which values have no form.
 use Rattle.pagable_traits.proofs.Words.{◌≡◌, ℕ, ◌-◌, ◌+◌, ◌<◌, ◌≤◌, ◌^◌, true, subst, List, [], ◌∷◌, ◌++◌, length, map, arith, rules, refl, sym, ap, ◌∙◌, Result, Ok, Err, Some, None, inl, inr}
-use Rattle.pagable_traits.proofs.Words.{String, Global, Vec, OnOk, IfErr, ℤ, pos, Bool, Option, IsErrAnd, w64, string_bytes, string_cmp, keys_of, IsStrictlySortedBy, as_i64, view, number_view}
-use Rattle.pagable_traits.proofs.Words.{Value, Error, ArcRef, longest, length_form, text_form, of_entries, memory, long_or, json_causes, text_order, long_or_memory, MeanAll, MeansList, MeansPair}
+use Rattle.pagable_traits.proofs.Words.{String, Global, Vec, OnOk, IfErr, ℤ, pos, Bool, Option, IsErrAnd, w64, string_bytes, string_cmp, keys_of, IsStrictlySortedBy, as_i64, view, number_view, Value}
+use Rattle.pagable_traits.proofs.Words.{Error, ArcRef, longest, length_form, text_form, of_entries, memory, long_or, json_causes, text_order, long_or_memory, MeanAll, MeansList, MeansPair}
 use Rattle.pagable_traits.proofs.Words.{pair_has_meaning, Meaning, integer, pair, variant, sequence, none, deepest, Shape, json, list, both, sorted_map, signed, flag, text, list-form}
 use Rattle.pagable_traits.proofs.Words.{sorted-map-form, signed-form, flag-form, text-form, Is, SomeMeaning, Out, Nesting, FormAt, WritesSome, added, NoForm, Refused, Grows, then, memory_refuses}
-use Rattle.pagable_traits.proofs.Words.{grows_trans, of_data, of_value, of_key, Piece, Wrote, bytes, all}
-use Rattle.std.proofs.{lemmas.Bool.lt-ltb, Common.BTreeMap}
-use Rattle.std.specs.{Prelude.nat_lt, String.string_cmp_total}
-use Rattle.serde_json.specs.Data.{Num, Data, null, boolean, number, string, array, object}
-use Rattle.serde_json.specs.{View.items_view, View.members_view, declared.value.Value.the_lemmas, declared.number.Number.Number}
+use Rattle.pagable_traits.proofs.{Words.{grows_trans, of_data, of_value, of_key, Piece, Wrote, bytes, all}, Maps.{IsOrderOf, key-order, sorted-map-splits, writes_sorted_map, refuse-count}}
+use Rattle.pagable_traits.proofs.{Maps.{refuses-items, Written}, Items.{writes_list, refused_items, refuses-count}, JsonSteps.{deeper, below, wrote-then, wrote-err}}
+use Rattle.std.{proofs.lemmas.Bool.lt-ltb, proofs.Common.BTreeMap, specs.Prelude.nat_lt, specs.String.string_cmp_total}
 use Rattle.serde_json.proofs.Views.{view-Array, view-Object}
+use Rattle.serde_json.specs.{Data.{Num, Data, null, boolean, number, string, array, object}, View.{items_view, members_view}, declared.value.Value.the_lemmas, declared.number.Number.Number}
+use Rattle.pagable_model.specs.{Form.{json-null-form, json-flag-form, json-number-form, json-text-form, json-array-form, json-object-form}, Numbers.{unsigned_form, varint, IsSigned}}
+use Rattle.pagable_model.specs.{Lifted.{list_single, pair_single}, Keyed.text_is_ordered}
 use Rattle.pagable_codec.specs.{declared.env.Env.Ghosts as Environments, declared.serializer.PagableSerializer.Ghosts as Serializers}
-use Rattle.pagable_model.specs.Form.{json-null-form, json-flag-form, json-number-form, json-text-form, json-array-form, json-object-form}
-use Rattle.pagable_model.specs.{Numbers.unsigned_form, Numbers.varint, Numbers.IsSigned, Lifted.list_single, Lifted.pair_single, Keyed.text_is_ordered}
-use Rattle.pagable_traits.proofs.Maps.{IsOrderOf, key-order, sorted-map-splits, writes_sorted_map, refuse-count, refuses-items, Written}
-use Rattle.pagable_traits.proofs.{Items.writes_list, Items.refused_items, Items.refuses-count, JsonSteps.deeper, JsonSteps.below, JsonSteps.wrote-then, JsonSteps.wrote-err}
 use Rattle.pagable_traits.specs.{JsonData.json_items, JsonData.json_members, JsonData.long_or_no_memory, JsonSteps.front, JsonSteps.value as form}
 use Rattle.serde_json.specs.Data as kit
 use Rattle.serde_json.specs.declared.value.Value as values

@@ -1,13 +1,12 @@
 -- Entries of maps: what they mean as pairs, and what putting in, writing and reading them gives.
-use Rattle.pagable_traits.proofs.Words.{◌≡◌, ℕ, zero, suc, ◌-◌, ◌<◌, ◌≤◌, List, [], ◌∷◌, ◌++◌, length, map, arith, refl, sym, ap, ◌∙◌, append_assoc, Result, Ok, Err, inl, inr, length-map}
-use Rattle.pagable_traits.proofs.Words.{append-nil, ◌⊎◌, AllByRecursion, IsStrictlySortedBy, keys_of, Ordering, ordering_reverse, IsTotalOrder, insert_entry, Error, ArcRef, ◌>>=◌, longest}
-use Rattle.pagable_traits.proofs.Words.{length_form, length_at, long_or_memory, Meaning, pair, sequence, entry, Entry, KeyOrder, ordered, put_all, put_sorted, AllAfter, Apart, Shape, both}
-use Rattle.pagable_traits.proofs.Words.{sorted_map, of_entries, Forms, Entries, no-forms, more-forms, more-entries, both-form, sorted-map-form, Rest, Gets, Context, deepest, items, bytes_of}
-use Rattle.pagable_traits.proofs.Words.{counted, seen, read, read_with, Out, Nesting, FormAt, FormsAt, WritesSome, WritesSomeAll, added, kind_of_arc, Refused, RefusedAll, Gave, GivesSome}
-use Rattle.pagable_traits.proofs.Words.{SomeMeaning, Collected, MeanAll, mean-none, mean-more, MeansList, MeansPair, items_have_meanings, then, memory_refuses}
+use Rattle.pagable_traits.proofs.Words.{◌≡◌, ℕ, zero, suc, ◌-◌, ◌<◌, ◌≤◌, List, [], ◌∷◌, ◌++◌, length, map, arith, refl, sym, ap, ◌∙◌, append_assoc, Result, Ok, Err, inl, inr, length-map, append-nil}
+use Rattle.pagable_traits.proofs.Words.{◌⊎◌, AllByRecursion, IsStrictlySortedBy, keys_of, Ordering, ordering_reverse, IsTotalOrder, insert_entry, Error, ArcRef, ◌>>=◌, longest, length_form}
+use Rattle.pagable_traits.proofs.Words.{length_at, long_or_memory, Meaning, pair, sequence, entry, Entry, KeyOrder, ordered, put_all, put_sorted, AllAfter, Apart, Shape, both, sorted_map, of_entries}
+use Rattle.pagable_traits.proofs.Words.{Forms, Entries, no-forms, more-forms, more-entries, both-form, sorted-map-form, Rest, Gets, Context, deepest, items, bytes_of, counted, seen, read, read_with}
+use Rattle.pagable_traits.proofs.Words.{Out, Nesting, FormAt, FormsAt, WritesSome, WritesSomeAll, added, kind_of_arc, Refused, RefusedAll, Gave, GivesSome, SomeMeaning, Collected, MeanAll, mean-none}
+use Rattle.pagable_traits.proofs.{Words.{mean-more, MeansList, MeansPair, items_have_meanings, then, memory_refuses}, Items.{mean-length, mean_last, split-same, forms-last, writes_no_items}}
+use Rattle.pagable_traits.proofs.{Parts.writes_pair, Collecting.put-in-turn, Walks.{Splits, Wraps, wraps-sequence, writes-counted, refuses-among}}
 use Rattle.pagable_model.specs.{Keys.Ascends, Form.no-entries, Reading.two}
-use Rattle.pagable_traits.proofs.{Items.mean-length, Items.mean_last, Items.split-same, Items.forms-last, Items.writes_no_items, Parts.writes_pair, Collecting.put-in-turn, Walks.Splits}
-use Rattle.pagable_traits.proofs.{Walks.Wraps, Walks.wraps-sequence, Walks.writes-counted, Walks.refuses-among}
 use Rattle.std.specs.declared.cmp.Ordering.TheVariants as answers
 
 -- ---- entries and the pairs that they are

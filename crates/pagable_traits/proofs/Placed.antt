@@ -1,12 +1,11 @@
 -- Maps in order of arrival: what putting in, writing and reading their entries gives.
-use Rattle.pagable_traits.proofs.Words.{◌≡◌, ℕ, ◌≤◌, Bool, false, List, [], ◌∷◌, length, map, refl, sym, ◌∙◌, Result, length-map, AllByRecursion, IsDistinct, keys_of, Error, ArcRef, longest}
-use Rattle.pagable_traits.proofs.Words.{Meaning, sequence, entry, Entry, same_key, put_all, AllAfter, Apart, Differ, Shape, both, of_entries, Rest, Context, counted, read, read_with, Nesting}
-use Rattle.pagable_traits.proofs.Words.{FormAt, FormsAt, GivesSome, Collected, MeansList, MeansPair, arith}
+use Rattle.pagable_traits.proofs.Words.{◌≡◌, ℕ, ◌≤◌, Bool, false, List, [], ◌∷◌, length, map, refl, sym, ◌∙◌, Result, length-map, AllByRecursion, IsDistinct, keys_of, Error, ArcRef, longest, Meaning}
+use Rattle.pagable_traits.proofs.Words.{sequence, entry, Entry, same_key, put_all, AllAfter, Apart, Differ, Shape, both, of_entries, Rest, Context, counted, read, read_with, Nesting, FormAt, FormsAt}
+use Rattle.pagable_traits.proofs.{Words.{GivesSome, Collected, MeansList, MeansPair, arith}, Maps.{EntriesMean, pairs-of-entries, forms-of-entries, entries-mean, entries-written, reads-entries}}
+use Rattle.pagable_traits.proofs.{Items.split-same, Collecting.put-in-turn, Walks.{Splits, Wraps, wraps-sequence}}
 use Rattle.std.specs.Cmp.{IsEquivalence}
 use Rattle.indexmap.specs.IndexMap.{insert_entry}
 use Rattle.pagable_model.specs.{Keys.put_placed, Shape.placed_map, Form.placed-map-form}
-use Rattle.pagable_traits.proofs.Maps.{EntriesMean, pairs-of-entries, forms-of-entries, entries-mean, entries-written, reads-entries}
-use Rattle.pagable_traits.proofs.{Items.split-same, Collecting.put-in-turn, Walks.Splits, Walks.Wraps, Walks.wraps-sequence}
 
 placed-map-parts : (n : Nesting) {s t : Shape} {m : Meaning ArcRef} {b : List ℕ} {k : List ArcRef} (ms : List (Meaning ArcRef)) → FormAt n (placed_map s t) m b k → m ≡ sequence ms → (length ms ≤ longest) × ((c : List ℕ) × FormsAt n (both s t) ms c k)
 placed-map-parts n ms (placed-map-form l s t es c k le differ f) e = let short : length (map entry es) ≤ longest = rw (length-map es entry) le in split-same n e short (forms-of-entries f)

@@ -1,11 +1,8 @@
 -- Spans of time: how one is written, and what reading one gives.
 use Rattle.pagable_traits.proofs.Words.{◌≡◌, ℕ, ◌+◌, ◌*◌, ◌<◌, ◌≤◌, ◌^◌, List, ◌++◌, arith, refl, ap, ◌∙◌, Result, Ok, Err, inl, inr, OnOk, ◌⊎◌, w32, w64, Error, Gives, never, unsigned_at, Rest}
-use Rattle.pagable_traits.proofs.Words.{read, read_with, Shape, Answer, GivesSome, Is, handles_at, Out, Nesting, WritesSome, writes_is, writes_bytes}
-use Rattle.std.proofs.{Common.◌/◌, lemmas.Bool.le-ltb, lemmas.Nat.mod_below}
-use Rattle.std.specs.{Duration.as_nanos, declared.time.Duration.Duration}
-use Rattle.pagable_model.specs.{Basic.nanos_of_second, Basic.duration_form, Basic.duration_at, Carried.of_duration, Form.duration-form, Shape.duration, Spans.seconds_of, Spans.nanos_of}
-use Rattle.pagable_model.specs.{Spans.of_span}
-use Rattle.pagable_traits.proofs.Basics.{gives_bytes}
+use Rattle.pagable_traits.proofs.{Words.{read, read_with, Shape, Answer, GivesSome, Is, handles_at, Out, Nesting, WritesSome, writes_is, writes_bytes}, Basics.gives_bytes}
+use Rattle.std.{proofs.Common.◌/◌, proofs.lemmas.Bool.le-ltb, proofs.lemmas.Nat.mod_below, specs.Duration.as_nanos, specs.declared.time.Duration.Duration}
+use Rattle.pagable_model.specs.{Basic.{nanos_of_second, duration_form, duration_at}, Carried.of_duration, Form.duration-form, Shape.duration, Spans.{seconds_of, nanos_of, of_span}}
 use Rattle.pagable_model.specs.declared.error.Error.TheVariants as errors
 
 -- ---- writing

@@ -1,9 +1,8 @@
 -- What the JSON values of `serde_json` are in the words of the definitions, and how their parts are read.
-use Rattle.std.specs.{Prelude.◌≡◌, Prelude.◌<◌, Prelude.◌⊎◌, Prelude.ℕ, Prelude.◌-◌, Prelude.pos, Prelude.String, String.string_bytes, declared.alloc.Global.Global}
-use Rattle.serde_json.specs.{Data.Num, Data.Data, View.view, declared.value.Value.Value}
-use Rattle.pagable_model.specs.Reading.{Gets, JsonCase, json_part, below, deepest}
-use Rattle.pagable_model.specs.{declared.error.Error.Error, declared.numbers.ArcRef.ArcRef, Basic.longest, Canonical.IsCanonical, Canonical.LiesIn, Gives.memory, Json.Json, Json.of_json}
-use Rattle.pagable_model.specs.{Keyed.throughout-alone, Meaning.Meaning, OneForm.HasOneFormThroughout, Shape.Shape, Shape.json, Standing.Answer, Standing.answer_at}
+use Rattle.std.specs.{Prelude.{◌≡◌, ◌<◌, ◌⊎◌, ℕ, ◌-◌, pos, String}, String.string_bytes, declared.alloc.Global.Global}
+use Rattle.serde_json.specs.{Data.{Num, Data}, View.view, declared.value.Value.Value}
+use Rattle.pagable_model.specs.{Reading.{Gets, JsonCase, json_part, below, deepest}, declared.error.Error.Error, declared.numbers.ArcRef.ArcRef, Basic.longest, Canonical.{IsCanonical, LiesIn}}
+use Rattle.pagable_model.specs.{Gives.memory, Json.{Json, of_json}, Keyed.throughout-alone, Meaning.Meaning, OneForm.HasOneFormThroughout, Shape.{Shape, json}, Standing.{Answer, answer_at}}
 use Rattle.serde_json.specs.Data as kit
 use Rattle.pagable_model.specs.declared.error.Error.TheVariants as errors
 use Rattle.pagable_model.specs.Json as own

@@ -1,14 +1,12 @@
 -- What the functions that write and read JSON values owe: the clauses that the traits of values have, in one record.
-use Rattle.std.specs.Prelude.{◌≡◌, ◌≤◌, ℕ, List, [], Result, OnOk, IfErr, String}
-use Rattle.std.specs.{BTreeMap.BTreeMap, BTreeMap.insert_entry, Int.w64, String.string_cmp, declared.alloc.Global.Global}
+use Rattle.std.specs.{Prelude.{◌≡◌, ◌≤◌, ℕ, List, [], Result, OnOk, IfErr, String}, BTreeMap.{BTreeMap, insert_entry}, Int.w64, String.string_cmp, declared.alloc.Global.Global}
 use Rattle.serde_json.specs.declared.value.Value.{Value}
+use Rattle.pagable_model.specs.{Standing.{Answer, GivesSome, Is, MovesOn, handles_at}, Writing.{Out, Nesting, nesting, added, WritesSome, WritesSomeAll, Refused, RefusedAll, Grows}}
+use Rattle.pagable_model.specs.{declared.error.Error.Error, declared.numbers.ArcRef.ArcRef, Collected.Collected, Lifted.MeansPair, Basic.{longest, length_form}, Gives.memory, Meaning.Meaning}
+use Rattle.pagable_model.specs.{Numbers.unsigned_form, Reading.{Context, Gets, JsonCase}, Shape.Shape}
+use Rattle.pagable_traits.specs.JsonData.{of_key, of_value, part_at}
 use Rattle.pagable_codec.specs.{declared.env.Env.Ghosts as Environments, declared.serializer.PagableSerializer.Ghosts as Serializers}
 use Rattle.pagable_codec.specs.{declared.deserializer.PagableDeserializer.Ghosts as Deserializers}
-use Rattle.pagable_model.specs.Standing.{Answer, GivesSome, Is, MovesOn, handles_at}
-use Rattle.pagable_model.specs.Writing.{Out, Nesting, nesting, added, WritesSome, WritesSomeAll, Refused, RefusedAll, Grows}
-use Rattle.pagable_model.specs.{declared.error.Error.Error, declared.numbers.ArcRef.ArcRef, Collected.Collected, Lifted.MeansPair, Basic.longest, Basic.length_form, Gives.memory, Meaning.Meaning}
-use Rattle.pagable_model.specs.{Numbers.unsigned_form, Reading.Context, Reading.Gets, Reading.JsonCase, Shape.Shape}
-use Rattle.pagable_traits.specs.JsonData.{of_key, of_value, part_at}
 use Rattle.serde_json.specs.declared.value.Value as values
 
 -- what is added in a nesting, and what a refusal says there

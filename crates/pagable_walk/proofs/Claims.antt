@@ -1,7 +1,6 @@
 -- What a claim leaves, step by step.
 use Rattle.std.proofs.Common.{ℕ, ◌≡◌, Bool, true, false, if◌then◌else◌, Option, Some, None, refl, ap, ◌∙◌, nat_eq}
-use Rattle.pagable_world.specs.Workers.{is_open_slot, IsOpenSlot, ComesToEnd, works, may-go-on, waits-on, with_slot, with_wait}
-use Rattle.pagable_world.specs.{Plain.Identity, World.Slot, World.Shelf, World.SameShelf, World.is_identity}
+use Rattle.pagable_world.specs.{Workers.{is_open_slot, IsOpenSlot, ComesToEnd, works, may-go-on, waits-on, with_slot, with_wait}, Plain.Identity, World.{Slot, Shelf, SameShelf, is_identity}}
 
 pub same-then : (a b c : Shelf) → SameShelf a b → SameShelf b c → SameShelf a c
 same-then a b c x y = record { slots = λ i. y.slots i ∙ x.slots i; waits = λ v. y.waits v ∙ x.waits v }

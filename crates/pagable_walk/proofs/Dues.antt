@@ -1,9 +1,8 @@
 -- The number that falls with each step of a walk.
-use Rattle.std.proofs.Common.{ℕ, ◌≡◌, ◌≤◌, ◌<◌, ◌+◌, ◌*◌, ◌^◌, List, ◌∷◌, length, refl, arith}
-use Rattle.std.proofs.Math.Nat.{mul-le-mul_right}
+use Rattle.std.proofs.{Common.{ℕ, ◌≡◌, ◌≤◌, ◌<◌, ◌+◌, ◌*◌, ◌^◌, List, ◌∷◌, length, refl, arith}, Math.Nat.mul-le-mul_right}
 use Rattle.pagable_model.specs.declared.numbers.ArcRef.{ArcRef}
 use Rattle.pagable_world.specs.World.{Todo, to_start}
-use Rattle.pagable_walk.specs.{Due.IfGoes, Due.LeadsOn, Due.due, Due.far, Tasks.todo_of, declared.results.Trees.Ghosts, declared.tasks.Task.Task, declared.tasks.Turn.Turn}
+use Rattle.pagable_walk.specs.{Due.{IfGoes, LeadsOn, due, far}, Tasks.todo_of, declared.results.Trees.Ghosts, declared.tasks.Task.Task, declared.tasks.Turn.Turn}
 use Rattle.pagable_walk.specs.declared.tasks.Task.TheVariants as tasks
 use Rattle.pagable_walk.specs.declared.tasks.Turn.TheVariants as comes
 

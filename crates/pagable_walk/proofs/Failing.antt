@@ -1,11 +1,8 @@
 -- What a worker's failure makes of its claims, one after another.
-use Rattle.std.proofs.lemmas.Grind.{common_steps}
-use Rattle.std.proofs.Common.{ℕ, ◌≡◌, ◌<◌, ◌≤◌, suc, Bool, true, false, cond, if◌then◌else◌, List, [], ◌∷◌, length, Option, Some, None, refl, sym, ap, ◌∙◌, subst, nat_eq, arith, slice_get}
-use Rattle.std.proofs.{lemmas.Bool.Decides.nat_tests, lemmas.Option.none-some}
-use Rattle.std.specs.{Map.lookup, Map.keys_of, Option.option_map}
-use Rattle.pagable_world.specs.{Plain.Identity, Workers.is_open_outcome, Workers.with_outcome, World.Slot, World.failed, World.is_identity}
-use Rattle.pagable_walk.specs.{Slots.is_same, Slots.Changes, Slots.failed_by, Slots.after_failure, Slots.open_worker}
-use Rattle.pagable_walk.proofs.{Ends.outcome-less, Held.same-as, Held.same-identity, Held.same-pair}
+use Rattle.std.{proofs.lemmas.Grind.common_steps, proofs.Common.{ℕ, ◌≡◌, ◌<◌, ◌≤◌, suc, Bool, true, false, cond, if◌then◌else◌, List, [], ◌∷◌, length, Option, Some, None, refl, sym, ap, ◌∙◌, subst}}
+use Rattle.std.{proofs.Common.{nat_eq, arith, slice_get}, proofs.lemmas.Bool.Decides.nat_tests, proofs.lemmas.Option.none-some, specs.Map.{lookup, keys_of}, specs.Option.option_map}
+use Rattle.pagable_world.specs.{Plain.Identity, Workers.{is_open_outcome, with_outcome}, World.{Slot, failed, is_identity}}
+use Rattle.pagable_walk.{specs.Slots.{is_same, Changes, failed_by, after_failure, open_worker}, proofs.Ends.outcome-less, proofs.Held.{same-as, same-identity, same-pair}}
 
 -- what is failed is failed once
 again-by : (s : Slot) (b : Bool) → is_open_outcome s.outcome ≡ b → with_outcome failed (with_outcome failed s) ≡ with_outcome failed s

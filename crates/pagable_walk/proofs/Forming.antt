@@ -1,21 +1,18 @@
 -- What was written is a form of the node's value.
-use Rattle.std.proofs.Common.{ℕ, ◌≡◌, ◌++◌, List, [], ◌∷◌, true, false, Some, None, Result, Ok, Err, inl, inr, refl, sym, ap, subst, ◌∙◌}
-use Rattle.std.proofs.{Common.arith, lemmas.Bool.Decides.nat_tests, lemmas.Grind.common_steps}
-use Rattle.std.specs.{Arc.arc_value, Prelude.IfOk, Prelude.IfErr, declared.alloc.Global.Global, declared.sync.Arc.Arc}
+use Rattle.std.{proofs.Common.{ℕ, ◌≡◌, ◌++◌, List, [], ◌∷◌, true, false, Some, None, Result, Ok, Err, inl, inr, refl, sym, ap, subst, ◌∙◌, arith}, proofs.lemmas.Bool.Decides.nat_tests}
+use Rattle.std.{proofs.lemmas.Grind.common_steps, specs.Arc.arc_value, specs.Prelude.{IfOk, IfErr}, specs.declared.alloc.Global.Global, specs.declared.sync.Arc.Arc}
+use Rattle.pagable_core.specs.{Context.nothing, declared.context.writing.SerializedData.SerializedData}
+use Rattle.pagable_model.specs.{Form.Form, Reading.deepest, Refusals.is_writing_fault, Writing.{Out, WritesSome, nesting, Refused, kind_of_arc}, declared.error.Error.Error}
+use Rattle.pagable_model.specs.{declared.numbers.ArcRef.ArcRef, declared.numbers.HandleNumber.HandleNumber, declared.numbers.NodeNumber.NodeNumber}
+use Rattle.pagable_world.specs.{Kinds.{identity_of, is_pinning}, Pager.{PagerState, ValueCall, RefusesWriting}, Plain.type_of, Refusals.live_fault, Workers.{with_changed_slot, open_node}}
+use Rattle.pagable_world.specs.{World.{Values, Written, Shelf, Todo, SameShelf, seen_as, was_refused, row_at}, declared.handles.HandleRow.HandleRow, declared.handles.Owner.Owner}
+use Rattle.pagable_laws.proofs.Trees.{same_some}
+use Rattle.pagable_loads.specs.{Starting.Shares, Telling.values_at}
+use Rattle.pagable_walk.{specs.Failing.{back_of, fails}, specs.Slots.{with_written, written_of}, specs.Tasks.IsPlain, specs.Turns.{Fits, TurnsTo}, specs.Writing.{IsForm, WriteRefused, IsPinned}}
+use Rattle.pagable_walk.{specs.Writing.{Finds, Forms}, specs.declared.results.Trees.Ghosts, specs.declared.tasks.Task.Task, proofs.Turning.{alike, plain-fits}}
 use Rattle.pagable_codec.specs.declared.env.Env.{Ghosts as Environments}
 use Rattle.pagable_codec.specs.declared.hash.KeyHash.{Ghosts as Hashes}
 use Rattle.pagable_codec.specs.declared.nodes.NodeSet.{Ghosts as Nodes}
-use Rattle.pagable_core.specs.{Context.nothing, declared.context.writing.SerializedData.SerializedData}
-use Rattle.pagable_model.specs.{Form.Form, Reading.deepest, Refusals.is_writing_fault, Writing.Out, Writing.WritesSome, Writing.nesting, Writing.Refused, Writing.kind_of_arc}
-use Rattle.pagable_model.specs.{declared.error.Error.Error, declared.numbers.ArcRef.ArcRef, declared.numbers.HandleNumber.HandleNumber, declared.numbers.NodeNumber.NodeNumber}
-use Rattle.pagable_world.specs.{Kinds.identity_of, Kinds.is_pinning, Pager.PagerState, Pager.ValueCall, Pager.RefusesWriting, Plain.type_of, Refusals.live_fault, Workers.with_changed_slot}
-use Rattle.pagable_world.specs.{Workers.open_node, World.Values, World.Written, World.Shelf, World.Todo, World.SameShelf, World.seen_as, World.was_refused, World.row_at}
-use Rattle.pagable_world.specs.{declared.handles.HandleRow.HandleRow, declared.handles.Owner.Owner}
-use Rattle.pagable_laws.proofs.Trees.{same_some}
-use Rattle.pagable_loads.specs.{Starting.Shares, Telling.values_at}
-use Rattle.pagable_walk.specs.{Failing.back_of, Failing.fails, Slots.with_written, Slots.written_of, Tasks.IsPlain, Turns.Fits, Turns.TurnsTo, Writing.IsForm, Writing.WriteRefused, Writing.IsPinned}
-use Rattle.pagable_walk.specs.{Writing.Finds, Writing.Forms, declared.results.Trees.Ghosts, declared.tasks.Task.Task}
-use Rattle.pagable_walk.proofs.Turning.{alike, plain-fits}
 use Rattle.pagable_model.specs.declared.error.Error.TheVariants as errors
 use Rattle.pagable_world.specs.declared.events.Took.TheVariants as took
 use Rattle.pagable_walk.specs.declared.tasks.Task.TheVariants as tasks

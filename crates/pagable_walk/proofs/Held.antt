@@ -1,11 +1,10 @@
 -- The slots of a table after one of them came or changed.
 use Rattle.std.proofs.Common.{ℕ, ◌≡◌, true≢false, Bool, true, false, cond, Option, Some, None, refl, sym, ap, ◌∙◌, subst, nat_eq, arith, ◌&&◌, if◌then◌else◌, inl, inr}
-use Rattle.std.proofs.{lemmas.Bool.Decides.nat_tests, lemmas.Grind.common_steps}
-use Rattle.std.specs.{Option.option_map, Prelude.◌⊎◌, Prelude.Result, Prelude.Ok, Prelude.Err, Prelude.OnOk, Prelude.OnErr}
+use Rattle.std.{proofs.lemmas.Bool.Decides.nat_tests, proofs.lemmas.Grind.common_steps, specs.Option.option_map, specs.Prelude.{◌⊎◌, Result, Ok, Err, OnOk, OnErr}}
 use Rattle.indexmap.specs.IndexMap.{IndexMap, get}
-use Rattle.pagable_world.specs.{Plain.Identity, Plain.SameAt, Plain.updated, Plain.if_there, World.Slot, World.is_identity}
-use Rattle.pagable_walk.specs.{Slots.is_same, Slots.slot_of, Slots.IsOwnOutcome, Slots.IsOwn, Slots.slots_in, Slots.AreOwn, Slots.AreNamed, Slots.SlotIs, Slots.Changes}
-use Rattle.pagable_walk.specs.{declared.results.SlotResult.SlotResult, declared.results.Trees.Ghosts, declared.slots.ArcSerSlot.ArcSerSlot, declared.slots.Outcome.Outcome}
+use Rattle.pagable_world.specs.{Plain.{Identity, SameAt, updated, if_there}, World.{Slot, is_identity}}
+use Rattle.pagable_walk.specs.{Slots.{is_same, slot_of, IsOwnOutcome, IsOwn, slots_in, AreOwn, AreNamed, SlotIs, Changes}, declared.results.SlotResult.SlotResult, declared.results.Trees.Ghosts}
+use Rattle.pagable_walk.specs.{declared.slots.ArcSerSlot.ArcSerSlot, declared.slots.Outcome.Outcome}
 use Rattle.pagable_walk.specs.declared.slots.Outcome.TheVariants as outcomes
 
 pub either-way : {A B P Q : Type 0} (r : Result A B) → OnOk r P → OnErr r Q → P ⊎ Q

@@ -1,9 +1,8 @@
 -- Steps of a worker's walk are joined to a run.
-use Rattle.std.proofs.{Common.arith, Common.ℕ, Common.◌≡◌, Common.List, Common.[], Common.◌∷◌, Common.ap, Common.subst, Common.◌∙◌, lemmas.Bool.Decides.nat_tests, lemmas.Grind.common_steps}
-use Rattle.pagable_world.specs.{Access.WalkStep, Access.worker-ends, Access.worker-goes-on, Pager.PagerState, World.Shelf, World.Todo, World.Values, declared.events.WorkerAnswer.WorkerAnswer}
-use Rattle.pagable_world.specs.{declared.handles.Owner.Owner}
-use Rattle.pagable_walk.specs.{Tasks.todo_of, Turns.LeavesFit, Turns.StepsTo, Turns.answer_in, Turns.plain, Turns.plain_took, Walking.RunsTo, Walking.HasWalked, declared.results.Trees.Ghosts}
-use Rattle.pagable_walk.specs.{declared.tasks.Moved.Moved, declared.tasks.Task.Task}
+use Rattle.std.proofs.{Common.{arith, ℕ, ◌≡◌, List, [], ◌∷◌, ap, subst, ◌∙◌}, lemmas.Bool.Decides.nat_tests, lemmas.Grind.common_steps}
+use Rattle.pagable_world.specs.{Access.{WalkStep, worker-ends, worker-goes-on}, Pager.PagerState, World.{Shelf, Todo, Values}, declared.events.WorkerAnswer.WorkerAnswer, declared.handles.Owner.Owner}
+use Rattle.pagable_walk.specs.{Tasks.todo_of, Turns.{LeavesFit, StepsTo, answer_in, plain, plain_took}, Walking.{RunsTo, HasWalked}, declared.results.Trees.Ghosts, declared.tasks.Moved.Moved}
+use Rattle.pagable_walk.specs.declared.tasks.Task.{Task}
 use Rattle.pagable_walk.specs.declared.tasks.Turn.TheVariants as comes
 
 module _ {X : Type 0} {g : Ghosts X} {N E : Type 0} (v : Values N) (me : Owner) (n : ℕ) (shelf : Shelf) (first : Task X g) (below : List Todo) where

@@ -1,21 +1,17 @@
 -- Page-outs of an item and of the entries of the list, from the runs of their workers.
 use Rattle.std.proofs.Common.{ℕ, ◌≡◌, ◌≤◌, ◌<◌, ◌+◌, List, ◌∷◌, length, Option, Some, None, Result, Ok, Err, inl, inr, refl, ap, subst, sym, ◌∙◌, arith, slice_get}
-use Rattle.std.proofs.{lemmas.List.Edits.length-remove, lemmas.Option.slice_get_within}
-use Rattle.std.proofs.{lemmas.Bool.Decides.nat_tests, lemmas.Grind.common_steps}
+use Rattle.std.{proofs.lemmas.List.Edits.length-remove, proofs.lemmas.Option.slice_get_within, proofs.lemmas.Bool.Decides.nat_tests, proofs.lemmas.Grind.common_steps, specs.List.remove}
 use Rattle.pagable_model.specs.{declared.data_key.OptionalDataKey.OptionalDataKey, declared.error.Error.Error, declared.numbers.ArcRef.ArcRef, declared.numbers.HandleNumber.HandleNumber}
-use Rattle.pagable_model.specs.{declared.numbers.WorkerNumber.WorkerNumber}
-use Rattle.pagable_world.specs.Access.{AccessState, Called, WorkerStarts, WorkerRun, worker-ends, worker-goes-on, no-worker, item-is-walked, EntryHas, EntryRun}
-use Rattle.pagable_world.specs.Access.{entry-is-refused, no-entry-worker, entry-is-walked, ListRun, no-more, skips, pages, fails}
-use Rattle.pagable_world.specs.{Calls.ReleaseCall, Calls.TakeCall, Events.entry_task, Events.no_shelf, Kinds.identity_of, Kinds.owner_worker, Pager.PagerState, Pager.WellFormed, Workers.first_todo}
-use Rattle.pagable_world.specs.{World.Shelf, World.SameShelf, World.Todo, World.of_entry, World.of_item, World.Values, World.Written, World.Seen, World.Alike, declared.events.Took.Took}
+use Rattle.pagable_model.specs.declared.numbers.WorkerNumber.{WorkerNumber}
+use Rattle.pagable_world.specs.Access.{AccessState, Called, WorkerStarts, WorkerRun, worker-ends, worker-goes-on, no-worker, item-is-walked, EntryHas, EntryRun, entry-is-refused, no-entry-worker}
+use Rattle.pagable_world.specs.{Access.{entry-is-walked, ListRun, no-more, skips, pages, fails}, Calls.{ReleaseCall, TakeCall}, Events.{entry_task, no_shelf}, Kinds.{identity_of, owner_worker}}
+use Rattle.pagable_world.specs.{Pager.{PagerState, WellFormed}, Workers.first_todo, World.{Shelf, SameShelf, Todo, of_entry, of_item, Values, Written, Seen, Alike}, declared.events.Took.Took}
 use Rattle.pagable_world.specs.{declared.events.WorkerAnswer.WorkerAnswer, declared.handles.Owner.Owner}
-use Rattle.pagable_laws.proofs.{Lengths.none-shorter, Sparing.Spares, Sparing.spares-then, SparingSteps.walk-spares-list, SparingSteps.release-spares-list}
-use Rattle.std.specs.List.{remove}
-use Rattle.pagable_loads.specs.{Telling.Acting, Working.as_caller, Working.StartsEntry, Working.RefusesEntry}
-use Rattle.pagable_walk.specs.Over.{failure_of, PagesItem, PagesList, PagesEntry, Skipped, SkipsEntry, PlaceDone, PagesAt, HasPaged}
-use Rattle.pagable_walk.specs.{Slots.no_claims, Tasks.IsPlain, Tasks.todo_of, Turns.Fits, Turns.plain, Walking.RunsTo, Walking.Walked, declared.results.Trees.Ghosts}
-use Rattle.pagable_walk.specs.{declared.table.PageOutError.PageOutError, declared.tasks.Task.Task}
-use Rattle.pagable_walk.proofs.{Pinning.same-shelf, Turning.alike, Turning.plain-fits, Unanswered.item-answered, Unanswered.entry-answered}
+use Rattle.pagable_laws.proofs.{Lengths.none-shorter, Sparing.{Spares, spares-then}, SparingSteps.{walk-spares-list, release-spares-list}}
+use Rattle.pagable_loads.specs.{Telling.Acting, Working.{as_caller, StartsEntry, RefusesEntry}}
+use Rattle.pagable_walk.proofs.{Pinning.same-shelf, Turning.{alike, plain-fits}, Unanswered.{item-answered, entry-answered}}
+use Rattle.pagable_walk.specs.{Over.{failure_of, PagesItem, PagesList, PagesEntry, Skipped, SkipsEntry, PlaceDone, PagesAt, HasPaged}, Slots.no_claims, Tasks.{IsPlain, todo_of}, Turns.{Fits, plain}}
+use Rattle.pagable_walk.specs.{Walking.{RunsTo, Walked}, declared.results.Trees.Ghosts, declared.table.PageOutError.PageOutError, declared.tasks.Task.Task}
 use Rattle.pagable_model.specs.declared.data_key.OptionalDataKey.TheVariants as optional
 use Rattle.pagable_model.specs.declared.error.Error.TheVariants as errors
 use Rattle.pagable_world.specs.declared.events.WorkerAnswer.TheVariants as finals

@@ -1,24 +1,19 @@
 -- A turn that pins what was claimed, or loads it, is the worker's.
-use Rattle.std.proofs.Common.{ℕ, ◌≡◌, ◌+◌, ◌==◌, Bool, true, false, List, [], ◌∷◌, Some, None, Ok, Err, inl, inr, refl, sym, ap, subst, ◌∙◌, arith}
-use Rattle.std.proofs.{lemmas.Bool.Decides.nat_tests, lemmas.Grind.common_steps}
-use Rattle.std.specs.Prelude.{Option, if◌then◌else◌, not, ◌&&◌}
+use Rattle.std.{proofs.Common.{ℕ, ◌≡◌, ◌+◌, ◌==◌, Bool, true, false, List, [], ◌∷◌, Some, None, Ok, Err, inl, inr, refl, sym, ap, subst, ◌∙◌, arith}, proofs.lemmas.Bool.Decides.nat_tests}
+use Rattle.std.{proofs.lemmas.Grind.common_steps, specs.Prelude.{Option, if◌then◌else◌, not, ◌&&◌}}
 use Rattle.pagable_model.specs.declared.error.Error.{Error}
-use Rattle.pagable_world.specs.Plain.{ArcRef, HandleNumber, Kind, LoadNumber, NodeNumber, OptionalDataKey, type_of, if_there}
-use Rattle.pagable_world.specs.Kinds.{identity_of, is_loose, is_pinning, mode_of, owner_worker, owner_value, find_row, is_handle}
-use Rattle.pagable_world.specs.World.{Core, Cell, Shelf, SameShelf, Todo, to_pin, to_load, to_write, Frame, OpenLoad, Reading, Root, of_cell, of_key, Values, was_refused, type_at, one_more}
-use Rattle.pagable_world.specs.Calls.{with_handle, with_mode, with_node, next_node, with_cached, moved, is_named_by, CloneCall, PinCall}
-use Rattle.pagable_world.specs.{Access.Called, Access.ReadingStep, Cascade.FallsAnyhow, LoadCalls.with_pin, LoadCalls.without_load, LoadCalls.is_owned_in, LoadCalls.adopted, LoadCalls.first_key}
-use Rattle.pagable_world.specs.{Loads.GoesOn, Loads.EndsPinned, Loads.IsOfKey, Loads.gone_on, Pager.PagerState, Pager.HandlesAreWhole, Pager.Moves, Workers.PinsAtOnce, Workers.PinRefused}
-use Rattle.pagable_world.specs.{Workers.RowIs, Workers.fresh, Workers.entry_left, Workers.Does, declared.events.LoadAnswer.LoadAnswer, declared.handles.HandleRow.HandleRow}
-use Rattle.pagable_world.specs.{declared.handles.Owner.Owner}
-use Rattle.pagable_laws.specs.{KeyRuns.StandsAt, TreeSteps.Change}
-use Rattle.pagable_laws.proofs.PinSteps.{AreLow, low-whole, low-changed, low-handle, new-handle, clone-call, not-loose, owned-none}
-use Rattle.pagable_laws.proofs.{Goes.Goes, Naming.clone-stands, Outlasting.NotValues, Outlasting.Stands, Outlasting.stands-alike, Outlasting.stands-fell, Trees.same_some, WalkSteps.walk-goes}
+use Rattle.pagable_world.specs.{Plain.{ArcRef, HandleNumber, Kind, LoadNumber, NodeNumber, OptionalDataKey, type_of, if_there}, Kinds.{identity_of, is_loose, is_pinning, mode_of, owner_worker}}
+use Rattle.pagable_world.specs.{Kinds.{owner_value, find_row, is_handle}, World.{Core, Cell, Shelf, SameShelf, Todo, to_pin, to_load, to_write, Frame, OpenLoad, Reading, Root, of_cell, of_key}}
+use Rattle.pagable_world.specs.{World.{Values, was_refused, type_at, one_more}, Calls.{with_handle, with_mode, with_node, next_node, with_cached, moved, is_named_by, CloneCall, PinCall}}
+use Rattle.pagable_world.specs.{Access.{Called, ReadingStep}, Cascade.FallsAnyhow, LoadCalls.{with_pin, without_load, is_owned_in, adopted, first_key}, Loads.{GoesOn, EndsPinned, IsOfKey, gone_on}}
+use Rattle.pagable_world.specs.{Pager.{PagerState, HandlesAreWhole, Moves}, Workers.{PinsAtOnce, PinRefused, RowIs, fresh, entry_left, Does}, declared.events.LoadAnswer.LoadAnswer}
+use Rattle.pagable_world.specs.{declared.handles.HandleRow.HandleRow, declared.handles.Owner.Owner}
+use Rattle.pagable_laws.{specs.KeyRuns.StandsAt, specs.TreeSteps.Change, proofs.PinSteps.{AreLow, low-whole, low-changed, low-handle, new-handle, clone-call, not-loose, owned-none}, proofs.Goes.Goes}
+use Rattle.pagable_laws.{proofs.Naming.clone-stands, proofs.Outlasting.{NotValues, Stands, stands-alike, stands-fell}, proofs.Trees.same_some, proofs.WalkSteps.walk-goes}
+use Rattle.pagable_loads.specs.{Frames.{IsLoadOf, frames_of, reading_of}, Stepping.Steps, Working.{TakesReference, BeginsAt}}
+use Rattle.pagable_walk.{specs.Failing.{back_of, fails}, specs.Tasks.IsPlain, specs.Turns.{IsLoading, IsOfKind, HoldsPin, Fits, TurnsTo, plain, site}, specs.declared.results.Trees.Ghosts}
+use Rattle.pagable_walk.{specs.declared.tasks.Moved.Moved, specs.declared.tasks.Task.Task, proofs.Turning.plain-fits}
 use Rattle.pagable_loads.specs.declared.reading.Reading.{Reading as Own}
-use Rattle.pagable_loads.specs.{Frames.IsLoadOf, Frames.frames_of, Frames.reading_of, Stepping.Steps, Working.TakesReference, Working.BeginsAt}
-use Rattle.pagable_walk.specs.{Failing.back_of, Failing.fails, Tasks.IsPlain, Turns.IsLoading, Turns.IsOfKind, Turns.HoldsPin, Turns.Fits, Turns.TurnsTo, Turns.plain, Turns.site}
-use Rattle.pagable_walk.specs.{declared.results.Trees.Ghosts, declared.tasks.Moved.Moved, declared.tasks.Task.Task}
-use Rattle.pagable_walk.proofs.Turning.{plain-fits}
 use Rattle.pagable_model.specs.declared.data_key.OptionalDataKey.TheVariants as optional
 use Rattle.pagable_world.specs.declared.rows.Mode.TheVariants as modes
 use Rattle.pagable_world.specs.declared.handles.Owner.TheVariants as owners

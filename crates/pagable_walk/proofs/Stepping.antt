@@ -1,12 +1,10 @@
 -- A turn with the worker's end is its step.
-use Rattle.std.proofs.{Common.arith, Common.ℕ, Common.◌≡◌, Common.List, Common.inl, Common.inr, Common.refl, Common.sym, Common.subst, Common.◌∙◌, lemmas.Bool.Decides.nat_tests}
-use Rattle.std.proofs.{lemmas.Grind.common_steps}
-use Rattle.pagable_world.specs.{Access.Called, Events.Ends, Pager.PagerState, Pager.WellFormed, Pager.Moves, Workers.WorkerEnds, World.Shelf, World.Todo, World.Values}
-use Rattle.pagable_world.specs.{declared.events.WorkerAnswer.WorkerAnswer, declared.handles.Owner.Owner}
-use Rattle.pagable_walk.specs.{Turns.Closes, Turns.LeavesFit, Turns.StepsTo, Turns.TurnsTo, Turns.acting_then, Turns.answer_in, Turns.site, declared.results.Trees.Ghosts, declared.tasks.Moved.Moved}
-use Rattle.pagable_walk.specs.{declared.tasks.Task.Task, declared.tasks.Turn.Turn}
+use Rattle.std.proofs.{Common.{arith, ℕ, ◌≡◌, List, inl, inr, refl, sym, subst, ◌∙◌}, lemmas.Bool.Decides.nat_tests, lemmas.Grind.common_steps}
+use Rattle.pagable_world.specs.{Access.Called, Events.Ends, Pager.{PagerState, WellFormed, Moves}, Workers.WorkerEnds, World.{Shelf, Todo, Values}, declared.events.WorkerAnswer.WorkerAnswer}
+use Rattle.pagable_world.specs.declared.handles.Owner.{Owner}
+use Rattle.pagable_walk.{specs.Turns.{Closes, LeavesFit, StepsTo, TurnsTo, acting_then, answer_in, site}, specs.declared.results.Trees.Ghosts, specs.declared.tasks.Moved.Moved}
+use Rattle.pagable_walk.{specs.declared.tasks.Task.Task, specs.declared.tasks.Turn.Turn, proofs.Pinning.same-shelf, proofs.Turning.alike}
 use Rattle.pagable_loads.specs.Telling.{Acting}
-use Rattle.pagable_walk.proofs.{Pinning.same-shelf, Turning.alike}
 use Rattle.pagable_walk.specs.declared.tasks.Turn.TheVariants as comes
 
 moves-then : {N E : Type 0} {comes : ℕ → N → Type 0} {s mid t : PagerState N E} → Moves comes s mid → Moves (λ n x. ⊥) mid t → Moves comes s t

@@ -1,15 +1,12 @@
 -- A claim of a table is a worker's claim, and a turn of the worker.
-use Rattle.std.proofs.Common.{ℕ, ◌≡◌, true, List, [], ◌∷◌, Some, None, ◌⊎◌, inl, inr, refl, sym, ap, subst, ◌∙◌, arith}
-use Rattle.std.proofs.{lemmas.Bool.Decides.nat_tests, lemmas.Grind.common_steps}
+use Rattle.std.proofs.{Common.{ℕ, ◌≡◌, true, List, [], ◌∷◌, Some, None, ◌⊎◌, inl, inr, refl, sym, ap, subst, ◌∙◌, arith}, lemmas.Bool.Decides.nat_tests, lemmas.Grind.common_steps}
 use Rattle.std.specs.Prelude.{Result, Ok, Err, IfOk}
 use Rattle.pagable_model.specs.declared.numbers.ArcRef.{ArcRef}
-use Rattle.pagable_world.specs.Workers.{Site, claim_fault, entry_left, is_counted_claim, Claims, Finds, Turns, IsTooDeep, with_wait}
-use Rattle.pagable_world.specs.{Kinds.identity_of, Pager.PagerState, Pager.HandlesAreWhole, Plain.Error, World.Core, World.Shelf, World.Todo, World.to_start, World.SameShelf, World.Alike}
-use Rattle.pagable_world.specs.{World.Values, World.was_refused, declared.events.Claim.Claim, declared.handles.Owner.Owner}
-use Rattle.pagable_laws.proofs.{Naming.may-claim, Naming.claimed-stands, Trees.same_some}
-use Rattle.pagable_walk.specs.{Failing.back_of, Failing.fails, Slots.Would, Slots.claimed_shelf, Slots.RefusesClaim, Slots.ClaimsThere, Table.found_as, Table.IsFoundOf, Tasks.IsPlain, Turns.site}
-use Rattle.pagable_walk.specs.{Turns.claim_todo, Turns.ClaimFits, Turns.ClaimLeaves, Turns.IsOfKind, Turns.TaskFits, Turns.TurnsTo, declared.results.Trees.Ghosts, declared.table.Found.Found}
-use Rattle.pagable_walk.specs.{declared.tasks.Task.Task}
+use Rattle.pagable_world.specs.{Workers.{Site, claim_fault, entry_left, is_counted_claim, Claims, Finds, Turns, IsTooDeep, with_wait}, Kinds.identity_of, Pager.{PagerState, HandlesAreWhole}}
+use Rattle.pagable_world.specs.{Plain.Error, World.{Core, Shelf, Todo, to_start, SameShelf, Alike, Values, was_refused}, declared.events.Claim.Claim, declared.handles.Owner.Owner}
+use Rattle.pagable_laws.proofs.{Naming.{may-claim, claimed-stands}, Trees.same_some}
+use Rattle.pagable_walk.specs.{Failing.{back_of, fails}, Slots.{Would, claimed_shelf, RefusesClaim, ClaimsThere}, Table.{found_as, IsFoundOf}, Tasks.IsPlain, Turns.{site, claim_todo, ClaimFits}}
+use Rattle.pagable_walk.specs.{Turns.{ClaimLeaves, IsOfKind, TaskFits, TurnsTo}, declared.results.Trees.Ghosts, declared.table.Found.Found, declared.tasks.Task.Task}
 use Rattle.pagable_model.specs.declared.error.Error.TheVariants as errors
 use Rattle.pagable_world.specs.declared.events.Claim.TheVariants as claims
 use Rattle.pagable_world.specs.declared.events.Took.TheVariants as took

@@ -1,14 +1,12 @@
 -- At a worker's answer each claim of its table has a result, if each had one before; and another's failure is answered only where a claim had failed before.
 use Rattle.std.proofs.Common.{ℕ, ◌≡◌, Bool, true, false, if◌then◌else◌, List, [], ◌∷◌, ◌++◌, Option, Some, None, Ok, Err, inl, inr, refl, sym, ap, subst, ◌∙◌, nat_eq, arith}
-use Rattle.std.proofs.{lemmas.Bool.Decides.nat_tests, lemmas.Grind.common_steps}
-use Rattle.std.specs.Prelude.{◌⊎◌}
+use Rattle.std.{proofs.lemmas.Bool.Decides.nat_tests, proofs.lemmas.Grind.common_steps, specs.Prelude.◌⊎◌}
 use Rattle.pagable_model.specs.{declared.numbers.ArcRef.ArcRef, declared.numbers.HandleNumber.HandleNumber}
-use Rattle.pagable_world.specs.World.{Core, Shelf, Slot, Outcome, no_result, published, failed, Written, of_item, of_entry, Fault, was_refused, was_failed, Todo, to_start, to_pin, to_load, to_write, to_finish, to_item, to_set, to_publish, to_release, to_fail, Seen, SameShelf, is_identity}
-use Rattle.pagable_world.specs.Workers.{Site, Does, answer_after, first_todo, is_open_outcome, next_start, settle, give, give_known, failing, with_outcome, with_changed_slot, with_failed}
-use Rattle.pagable_world.specs.{Access.AccessState, Access.AllHaveResults, Access.WorkerRun, Access.worker-ends, Access.worker-goes-on, Kinds.identity_of, Plain.Identity, Plain.if_there}
-use Rattle.pagable_world.specs.{declared.events.Took.Took, declared.events.WorkerAnswer.WorkerAnswer}
-use Rattle.pagable_walk.specs.{Tasks.with_child, Writing.just_open}
-use Rattle.pagable_walk.proofs.Held.{same-as, same-identity, same-key}
+use Rattle.pagable_world.specs.World.{Core, Shelf, Slot, Outcome, no_result, published, failed, Written, of_item, of_entry, Fault, was_refused, was_failed, Todo, to_start, to_pin, to_load, to_write}
+use Rattle.pagable_world.specs.{World.{to_finish, to_item, to_set, to_publish, to_release, to_fail, Seen, SameShelf, is_identity}, Workers.{Site, Does, answer_after, first_todo, is_open_outcome}}
+use Rattle.pagable_world.specs.{Workers.{next_start, settle, give, give_known, failing, with_outcome, with_changed_slot, with_failed}, Access.{AccessState, AllHaveResults, WorkerRun, worker-ends}}
+use Rattle.pagable_world.specs.{Access.worker-goes-on, Kinds.identity_of, Plain.{Identity, if_there}, declared.events.Took.Took, declared.events.WorkerAnswer.WorkerAnswer}
+use Rattle.pagable_walk.{specs.Tasks.with_child, specs.Writing.just_open, proofs.Held.{same-as, same-identity, same-key}}
 use Rattle.pagable_world.specs.declared.events.Claim.TheVariants as claims
 use Rattle.pagable_world.specs.declared.events.PinStep.TheVariants as pinsteps
 use Rattle.pagable_world.specs.declared.events.Took.TheVariants as took

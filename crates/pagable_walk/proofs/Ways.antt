@@ -1,10 +1,9 @@
 -- A path that leads to what is done next goes on so.
 use Rattle.std.proofs.Common.{ℕ, zero, suc, ◌≡◌, ◌≤◌, ◌+◌, Bool, true, false, List, [], ◌∷◌, ◌++◌, length, drop, refl, sym, ap, subst, arith, Some, slice_get, if◌then◌else◌}
-use Rattle.std.proofs.{lemmas.List.length-append, lemmas.Option.slice_get_within}
-use Rattle.std.specs.Prelude.{max}
+use Rattle.std.{proofs.lemmas.List.length-append, proofs.lemmas.Option.slice_get_within, specs.Prelude.max}
 use Rattle.pagable_model.specs.declared.numbers.ArcRef.{ArcRef}
-use Rattle.pagable_world.specs.World.{Open, Todo, to_start, to_pin, to_load, to_write, to_finish, to_item, to_set, to_publish, to_release, to_fail, Written}
-use Rattle.pagable_world.specs.{Plain.above, Plain.is_eager, Plain.longest_path, Workers.give, Workers.give_known, Workers.next_start, Workers.settle}
+use Rattle.pagable_world.specs.{World.{Open, Todo, to_start, to_pin, to_load, to_write, to_finish, to_item, to_set, to_publish, to_release, to_fail, Written}, Plain.{above, is_eager, longest_path}}
+use Rattle.pagable_world.specs.Workers.{give, give_known, next_start, settle}
 use Rattle.pagable_walk.specs.Tasks.{Awaits, AwaitsLow, IsWay, with_child}
 
 -- what is left of references after so many, in both cases

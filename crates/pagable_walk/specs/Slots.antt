@@ -1,13 +1,11 @@
 -- The plain claims that a lent table tells; whom each waiting worker waits for; and what a claim finds.
-use Rattle.std.specs.Prelude.{ℕ, ◌≡◌, ◌≤◌, ◌+◌, ◌⊎◌, ◌&&◌, Bool, true, false, if◌then◌else◌, Option, Some, None, Result, IfOk, IfErr, nat_eq}
-use Rattle.std.specs.{Arc.arc_value, Option.option_map}
+use Rattle.std.specs.{Prelude.{ℕ, ◌≡◌, ◌≤◌, ◌+◌, ◌⊎◌, ◌&&◌, Bool, true, false, if◌then◌else◌, Option, Some, None, Result, IfOk, IfErr, nat_eq}, Arc.arc_value, Option.option_map}
 use Rattle.indexmap.specs.IndexMap.{IndexMap, get}
 use Rattle.pagable_core.specs.declared.context.writing.SerializedData.{SerializedData}
-use Rattle.pagable_world.specs.Workers.{with_slot, with_wait, with_outcome, is_open_outcome, IsOpenSlot, IsPublished, ComesBack, ComesToEnd, IsTooDeep}
-use Rattle.pagable_world.specs.{Plain.Error, Plain.Identity, Plain.if_there, Plain.longest_path, World.Written, World.Slot, World.Shelf, World.no_result, World.published, World.failed}
-use Rattle.pagable_world.specs.{World.SameShelf, World.is_identity, declared.events.Claim.Claim}
+use Rattle.pagable_world.specs.{Workers.{with_slot, with_wait, with_outcome, is_open_outcome, IsOpenSlot, IsPublished, ComesBack, ComesToEnd, IsTooDeep}, Plain.{Error, Identity, if_there}}
+use Rattle.pagable_world.specs.{Plain.longest_path, World.{Written, Slot, Shelf, no_result, published, failed, SameShelf, is_identity}, declared.events.Claim.Claim}
 use Rattle.pagable_walk.specs.{declared.results.SlotResult.SlotResult, declared.results.Trees.Ghosts, declared.slots.ArcSerSlot.ArcSerSlot, declared.slots.Outcome.Outcome}
-use Rattle.pagable_walk.specs.{declared.slots.Standing.Standing}
+use Rattle.pagable_walk.specs.declared.slots.Standing.{Standing}
 use Rattle.pagable_model.specs.declared.error.Error.TheVariants as errors
 use Rattle.pagable_world.specs.declared.events.Claim.TheVariants as claims
 use Rattle.pagable_world.specs.World as world

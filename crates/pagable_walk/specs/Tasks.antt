@@ -1,9 +1,8 @@
 -- A worker's task at hand and its path as plain data: what it has to do, what comes next first.
-use Rattle.std.specs.Prelude.{ℕ, ◌≡◌, ◌≤◌, ◌+◌, List, [], ◌∷◌, ◌++◌, length, max, Some, slice_get}
-use Rattle.std.specs.Arc.{arc_value}
+use Rattle.std.specs.{Prelude.{ℕ, ◌≡◌, ◌≤◌, ◌+◌, List, [], ◌∷◌, ◌++◌, length, max, Some, slice_get}, Arc.arc_value}
 use Rattle.pagable_model.specs.declared.numbers.ArcRef.{ArcRef}
-use Rattle.pagable_world.specs.World.{Todo, to_start, to_pin, to_load, to_write, to_finish, to_item, to_set, to_publish, to_release, to_fail, Fault, was_refused, was_failed}
-use Rattle.pagable_world.specs.{Plain.above, Plain.longest_path, Workers.place_below}
+use Rattle.pagable_world.specs.{World.{Todo, to_start, to_pin, to_load, to_write, to_finish, to_item, to_set, to_publish, to_release, to_fail, Fault, was_refused, was_failed}, Plain.above}
+use Rattle.pagable_world.specs.{Plain.longest_path, Workers.place_below}
 use Rattle.pagable_loads.specs.Frames.{reading_of}
 use Rattle.pagable_walk.specs.{Found.keys_of, Slots.written_of, declared.results.Trees.Ghosts, declared.table.PageOutError.PageOutError, declared.tasks.Item.Item, declared.tasks.Open.Open}
 use Rattle.pagable_walk.specs.{declared.tasks.Task.Task, declared.tasks.Waiting.Waiting}

@@ -1,18 +1,16 @@
 -- A worker's turn over the pager's plain state and its table: what it needs to hold, what it does, and what it leaves to be done.
-use Rattle.std.specs.Prelude.{ℕ, ◌≡◌, ◌≤◌, ◌+◌, true, List, [], ◌∷◌, Option, Some, None, Result, Ok, Err}
-use Rattle.std.specs.{Arc.arc_value, declared.alloc.Global.Global, declared.sync.Arc.Arc}
+use Rattle.std.specs.{Prelude.{ℕ, ◌≡◌, ◌≤◌, ◌+◌, true, List, [], ◌∷◌, Option, Some, None, Result, Ok, Err}, Arc.arc_value, declared.alloc.Global.Global, declared.sync.Arc.Arc}
 use Rattle.pagable_model.specs.{declared.error.Error.Error, declared.numbers.ArcRef.ArcRef, declared.numbers.HandleNumber.HandleNumber}
-use Rattle.pagable_world.specs.World.{Core, Shelf, Todo, to_start, to_pin, was_failed, of_cell, Written, Values, Seen, seen_as, row_at, type_at}
-use Rattle.pagable_world.specs.Workers.{Site, WalkDoes, WorkerEnds, give_known, failing, failing_by, answer_after, is_counted}
-use Rattle.pagable_world.specs.{Access.Called, Access.WalkStep, Kinds.is_pinning, Kinds.owner_worker, Kinds.identity_of, Pager.PagerState, Pager.WellFormed, Pager.Moves, Pager.TodoBrings}
-use Rattle.pagable_world.specs.{Pager.TookWrites, Plain.Blob, Plain.type_of, Plain.longest_path, declared.events.Claim.Claim, declared.events.Took.Took, declared.events.WorkerAnswer.WorkerAnswer}
-use Rattle.pagable_world.specs.{declared.handles.HandleRow.HandleRow, declared.handles.Owner.Owner}
-use Rattle.pagable_loads.specs.declared.reading.Reading.{Reading as Own}
+use Rattle.pagable_world.specs.{World.{Core, Shelf, Todo, to_start, to_pin, was_failed, of_cell, Written, Values, Seen, seen_as, row_at, type_at}, Workers.{Site, WalkDoes, WorkerEnds, give_known}}
+use Rattle.pagable_world.specs.{Workers.{failing, failing_by, answer_after, is_counted}, Access.{Called, WalkStep}, Kinds.{is_pinning, owner_worker, identity_of}, Pager.{PagerState, WellFormed}}
+use Rattle.pagable_world.specs.{Pager.{Moves, TodoBrings, TookWrites}, Plain.{Blob, type_of, longest_path}, declared.events.Claim.Claim, declared.events.Took.Took}
+use Rattle.pagable_world.specs.{declared.events.WorkerAnswer.WorkerAnswer, declared.handles.HandleRow.HandleRow, declared.handles.Owner.Owner}
 use Rattle.pagable_loads.specs.{Frames.IsLoadOf, Telling.Acting, Working.as_caller}
 use Rattle.pagable_laws.specs.KeyRuns.{StandsAt}
 use Rattle.pagable_core.specs.declared.context.writing.SerializedData.{SerializedData}
-use Rattle.pagable_walk.specs.{Slots.written_of, Tasks.IsPlain, Tasks.todo_of, Tasks.todos, declared.results.Trees.Ghosts, declared.table.Found.Found, declared.tasks.Moved.Moved}
-use Rattle.pagable_walk.specs.{declared.tasks.Task.Task, declared.tasks.Turn.Turn, declared.tasks.Waiting.Waiting}
+use Rattle.pagable_walk.specs.{Slots.written_of, Tasks.{IsPlain, todo_of, todos}, declared.results.Trees.Ghosts, declared.table.Found.Found, declared.tasks.Moved.Moved, declared.tasks.Task.Task}
+use Rattle.pagable_walk.specs.{declared.tasks.Turn.Turn, declared.tasks.Waiting.Waiting}
+use Rattle.pagable_loads.specs.declared.reading.Reading.{Reading as Own}
 use Rattle.pagable_world.specs.declared.events.Took.TheVariants as took
 use Rattle.pagable_world.specs.declared.events.Claim.TheVariants as claims
 use Rattle.pagable_walk.specs.declared.tasks.Task.TheVariants as tasks

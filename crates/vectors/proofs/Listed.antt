@@ -1,11 +1,9 @@
 -- What writing a value lists.
-use Rattle.std.proofs.Common.{◌≡◌, ◌++◌, ℕ, [], refl, Result}
-use Rattle.std.specs.{Global.Vec, Int.w8, Prelude.OnOk, Prelude.Option}
+use Rattle.std.{proofs.Common.{◌≡◌, ◌++◌, ℕ, [], refl, Result}, specs.Global.Vec, specs.Int.w8, specs.Prelude.{OnOk, Option}}
 use Rattle.pagable_arcs.proofs.Listed.{written_listed}
-use Rattle.pagable_arcs.specs.{Plain.plain_means, Refers.ListsInOrder, Refers.both_in_order, Refers.list_in_order, Refers.optional_in_order, Refers.reference_in_order, declared.plain.OfKind.OfKind}
-use Rattle.pagable_model.specs.{Carried.of_option, Form.unsigned-form, Lifted.MeansOption, Lifted.option_single, Lifted.pair_single, Meaning.number, Meaning.pair, References.references_in}
-use Rattle.pagable_model.specs.{Shape.Shape, Shape.both, Shape.list, Shape.nothing, Shape.optional, Shape.reference, Shape.unsigned, Standing.Is, Writing.Out, Writing.WritesSome, Writing.nesting}
-use Rattle.pagable_model.specs.{declared.error.Error.Error, declared.numbers.ArcRef.ArcRef}
+use Rattle.pagable_arcs.specs.{Plain.plain_means, Refers.{ListsInOrder, both_in_order, list_in_order, optional_in_order, reference_in_order}, declared.plain.OfKind.OfKind}
+use Rattle.pagable_model.specs.{Carried.of_option, Form.unsigned-form, Lifted.{MeansOption, option_single, pair_single}, Meaning.{number, pair}, References.references_in, Shape.{Shape, both, list}}
+use Rattle.pagable_model.specs.{Shape.{nothing, optional, reference, unsigned}, Standing.Is, Writing.{Out, WritesSome, nesting}, declared.error.Error.Error, declared.numbers.ArcRef.ArcRef}
 use Rattle.vectors.specs.Cells.{bytes_means, five_meaning, five_shape, list_meaning, list_means, mixed_meaning, mixed_means, mixed_refers, mixed_shape, one_list, one_mixed}
 
 -- the environment has no part with a number

@@ -1,12 +1,11 @@
 -- What the values of the rows mean, and how they are spelled.
-use Rattle.std.specs.Prelude.{ℕ, zero, suc, ◌≡◌, refl, true, Option, Some, None, List, []}
-use Rattle.std.specs.{Arc.arc_value, Global.Vec, Int.w8, String.string_bytes}
+use Rattle.std.specs.{Prelude.{ℕ, zero, suc, ◌≡◌, refl, true, Option, Some, None, List, []}, Arc.arc_value, Global.Vec, Int.w8, String.string_bytes}
 use Rattle.pagable_arcs.specs.{Plain.plain_means, declared.plain.OfKind.OfKind}
 use Rattle.pagable_model.specs.Causes.{either_may_refuse_writing, long_or_may_refuse_writing, memory_is_own_reading, memory_may_refuse_writing, memory_or_may_refuse_writing, text_may_refuse_writing}
 use Rattle.pagable_model.specs.Lifted.{MeansList, MeansOption, MeansPair, list_is_meaning, list_single, option_is_meaning, option_single, pair_has_meaning, pair_is_meaning, pair_single}
-use Rattle.pagable_model.specs.{Carried.of_list, Carried.of_option, Gives.either, Gives.long_or, Gives.memory, Gives.memory_or, Meaning.Meaning, Meaning.number, Meaning.pair, References.references_in}
-use Rattle.pagable_model.specs.{References.SameReferences, Refusals.is_own_reading, Refusals.may_refuse_writing, Shape.Shape, Shape.both, Shape.list, Shape.optional, Shape.reference, Shape.text}
-use Rattle.pagable_model.specs.{Shape.unsigned, Standing.Is, Standing.SomeMeaning, declared.error.Error.Error, declared.numbers.ArcRef.ArcRef}
+use Rattle.pagable_model.specs.{Carried.{of_list, of_option}, Gives.{either, long_or, memory, memory_or}, Meaning.{Meaning, number, pair}, References.{references_in, SameReferences}}
+use Rattle.pagable_model.specs.{Refusals.{is_own_reading, may_refuse_writing}, Shape.{Shape, both, list, optional, reference, text, unsigned}, Standing.{Is, SomeMeaning}, declared.error.Error.Error}
+use Rattle.pagable_model.specs.declared.numbers.ArcRef.{ArcRef}
 use Rattle.vectors.specs.declared.calls.nodes.CellNode.{CellNode}
 use Rattle.pagable_model.specs.Meaning as meanings
 use Rattle.vectors.specs.declared.calls.nodes.CellNode.TheVariants as nodes

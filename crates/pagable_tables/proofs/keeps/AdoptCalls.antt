@@ -2,9 +2,8 @@
 use Rattle.pagable_tables.proofs.Words.{◌≡◌, ℕ, ◌+◌, ◌<◌, Bool, true, false, if◌then◌else◌, List, [], Ok, Err, None, inl, inr, refl, ap, ◌∙◌, arith, Result, is_some, nat_tests, OptionalDataKey}
 use Rattle.pagable_tables.proofs.Words.{Error, ArcRef, HandleNumber, Kind, LoadNumber, Owner, type_of, is_loose_kind, is_shared, mode_of, has_key, Core, greatest, references_fault, OwnsLoad, row_of}
 use Rattle.pagable_tables.proofs.Words.{next_node, with_handle, with_node, with_cached, is_named_by, GetsKnown, adopted, first_key, LazyCall, AdoptCall, IsWhole, IsEntryWhole, ArePlaced, MayHold}
-use Rattle.pagable_tables.proofs.{keeps.Rows.among-last, keeps.Told.roomy, keeps.Told.settles, keeps.Told.alike-whole, keeps.Comes.handle-on, keeps.Fallen.may-fall, keeps.Opened.opened}
-use Rattle.pagable_tables.proofs.{keeps.Opened.alike-opened, keeps.Opened.falls-opened, keeps.Opened.references-opened, keeps.CacheCalls.mode-shared, keeps.CacheCalls.known-whole}
-use Rattle.pagable_tables.proofs.{keeps.CacheCalls.cached-whole, keeps.CacheCalls.shared-alike, keeps.BirthCalls.born, keeps.BirthCalls.born-whole, keeps.BirthCalls.cell-new}
+use Rattle.pagable_tables.proofs.{keeps.Rows.among-last, keeps.Told.{roomy, settles, alike-whole}, keeps.Comes.handle-on, keeps.Fallen.may-fall, keeps.Opened.{opened, alike-opened, falls-opened}}
+use Rattle.pagable_tables.proofs.{keeps.Opened.references-opened, keeps.CacheCalls.{mode-shared, known-whole, cached-whole, shared-alike}, keeps.BirthCalls.{born, born-whole, cell-new}}
 use Rattle.pagable_tables.proofs.keeps.BirthCalls.{no-references, moved-world}
 
 -- an open load may hold

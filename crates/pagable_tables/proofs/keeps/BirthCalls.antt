@@ -1,10 +1,9 @@
 -- Calls by which a node comes, with a handle, keep the world whole.
-use Rattle.pagable_tables.proofs.Words.{◌≡◌, ℕ, ◌+◌, ◌<◌, ◌==◌, ◌||◌, Bool, true, false, List, [], ◌∷◌, Ok, Err, Option, Some, None, inl, inr, refl, ap, sym, subst, ◌∙◌, arith, ◌⊎◌, ◌≢◌}
-use Rattle.pagable_tables.proofs.Words.{Result, is_some, nat_tests, OptionalDataKey, Error, ArcRef, HandleNumber, HandleRow, Owner, Mode, Among, or_else, updated, held, sharing, is_shared}
-use Rattle.pagable_tables.proofs.Words.{is_owner, is_owned_by, find_row, has_key, owner_value, Core, Cell, greatest, references_fault, reference_fault, row_of, moved, is_named_by}
-use Rattle.pagable_tables.proofs.Words.{with_handle, with_node, next_node, BirthCall, AwayBirthCall, IsWhole, ArePlaced, MayHold}
-use Rattle.pagable_tables.proofs.{keeps.Rows.found-among, keeps.Rows.once, keeps.Told.roomy, keeps.Told.settles, keeps.Told.alike-whole, keeps.Comes.grown-whole, keeps.Comes.keyed_in}
-use Rattle.pagable_tables.proofs.{keeps.Comes.not-list, keeps.Moved.moved-to-value}
+use Rattle.pagable_tables.proofs.Words.{◌≡◌, ℕ, ◌+◌, ◌<◌, ◌==◌, ◌||◌, Bool, true, false, List, [], ◌∷◌, Ok, Err, Option, Some, None, inl, inr, refl, ap, sym, subst, ◌∙◌, arith, ◌⊎◌, ◌≢◌, Result}
+use Rattle.pagable_tables.proofs.Words.{is_some, nat_tests, OptionalDataKey, Error, ArcRef, HandleNumber, HandleRow, Owner, Mode, Among, or_else, updated, held, sharing, is_shared, is_owner}
+use Rattle.pagable_tables.proofs.Words.{is_owned_by, find_row, has_key, owner_value, Core, Cell, greatest, references_fault, reference_fault, row_of, moved, is_named_by, with_handle, with_node}
+use Rattle.pagable_tables.proofs.{Words.{next_node, BirthCall, AwayBirthCall, IsWhole, ArePlaced, MayHold}, keeps.Rows.{found-among, once}, keeps.Told.{roomy, settles, alike-whole}}
+use Rattle.pagable_tables.proofs.{keeps.Comes.{grown-whole, keyed_in, not-list}, keeps.Moved.moved-to-value}
 
 -- ---- references that are good
 

@@ -1,10 +1,9 @@
 -- Calls on the cache and on room keep the world whole.
-use Rattle.pagable_tables.proofs.Words.{◌≡◌, ℕ, ◌<◌, ◌==◌, ◌&&◌, Bool, true, false, if◌then◌else◌, Ok, Err, Option, Some, None, inl, inr, refl, ap, sym, subst, ◌∙◌, arith, Result, is_some}
-use Rattle.pagable_tables.proofs.Words.{nat_tests, Error, HandleNumber, Kind, NodeNumber, HandleRow, Owner, Mode, one, Among, is_shared_kind, sharing, is_share, is_shared, fits_mode, mode_of, Core}
-use Rattle.pagable_tables.proofs.Words.{Cell, greatest, usable, only_handle, ClearCall, ReserveCall, RecallCall, OfferCall, with_cached, with_known, IsWhole, IsEntryWhole, ArePlaced, MayHold, Suits}
-use Rattle.pagable_tables.proofs.{keeps.Rows.at-most-sum, keeps.Rows.counted, keeps.Rows.found-among, keeps.Told.roomy, keeps.Told.roomy-whole, keeps.Told.settles, keeps.Told.told-whole}
-use Rattle.pagable_tables.proofs.{keeps.Told.alike-whole, keeps.Told.may-own, keeps.Comes.type_in, keeps.Comes.beside, keeps.Comes.handle-on, keeps.Comes.unshared-node, keeps.Fallen.may-fall}
-use Rattle.pagable_tables.proofs.keeps.Fallen.{falls-whole}
+use Rattle.pagable_tables.proofs.Words.{◌≡◌, ℕ, ◌<◌, ◌==◌, ◌&&◌, Bool, true, false, if◌then◌else◌, Ok, Err, Option, Some, None, inl, inr, refl, ap, sym, subst, ◌∙◌, arith, Result, is_some, nat_tests}
+use Rattle.pagable_tables.proofs.Words.{Error, HandleNumber, Kind, NodeNumber, HandleRow, Owner, Mode, one, Among, is_shared_kind, sharing, is_share, is_shared, fits_mode, mode_of, Core, Cell}
+use Rattle.pagable_tables.proofs.Words.{greatest, usable, only_handle, ClearCall, ReserveCall, RecallCall, OfferCall, with_cached, with_known, IsWhole, IsEntryWhole, ArePlaced, MayHold, Suits}
+use Rattle.pagable_tables.proofs.{keeps.Rows.{at-most-sum, counted, found-among}, keeps.Told.{roomy, roomy-whole, settles, told-whole, alike-whole, may-own}, keeps.Comes.{type_in, beside, handle-on}}
+use Rattle.pagable_tables.proofs.{keeps.Comes.unshared-node, keeps.Fallen.{may-fall, falls-whole}}
 
 pub clear-whole : {w w' : Core} (r : Result (Unit {0}) Error) → IsWhole w → ClearCall w r w' → ArePlaced w' → IsWhole w'
 clear-whole {w} {w'} r whole call placed = let a = call.leaves in

@@ -1,15 +1,13 @@
 -- Calls by which a load ends, and the close of the storage, keep the world whole.
-use Rattle.pagable_tables.proofs.Words.{◌≡◌, ℕ, suc, zero, ◌<◌, ◌==◌, ◌&&◌, ◌||◌, Bool, true, false, not, if◌then◌else◌, List, [], ◌∷◌, Ok, Err, Option, Some, None, inl, inr, refl, ap, sym}
-use Rattle.pagable_tables.proofs.Words.{subst, ◌∙◌, arith, ◌⊎◌, Result, is_some, nat_tests, Error, ArcRef, HandleNumber, LoadNumber, NodeNumber, HandleRow, Owner, Mode, Among, times}
-use Rattle.pagable_tables.proofs.Words.{if_there, is_in, updated, is_loose, is_handle, is_owner, is_owned_by, owner_value, Core, OpenLoad, greatest, row_at, Owns, references_fault}
-use Rattle.pagable_tables.proofs.Words.{named_fault, load_fault, refused_if, earlier, moved, with_mode, is_named_by, is_listed, shut, CloseCall, without_load, with_pin, is_owned_in}
-use Rattle.pagable_tables.proofs.Words.{numbers_of, cell_fault, LoadCloses, EndCall, HandOverCall, DropCall, IsWhole, MayOwnLoad, ArePlaced}
-use Rattle.pagable_tables.proofs.{Worlds.owner-same, keeps.Rows.among-both, keeps.Rows.among-one, keeps.Rows.among-map, keeps.Rows.among-to, keeps.Rows.found-among, keeps.Rows.once}
-use Rattle.pagable_tables.proofs.{keeps.Rows.ordered-map, keeps.Rests.found-so, keeps.Told.roomy, keeps.Told.roomy-whole, keeps.Told.roomy-loads, keeps.Told.alike-whole, keeps.Told.may-own}
-use Rattle.pagable_tables.proofs.{keeps.GoingOn.GoesOn, keeps.GoingOn.stays-on, keeps.GoingOn.then-on, keeps.GoingOn.on-listing, keeps.Comes.not-list, keeps.Moved.moved-number}
-use Rattle.pagable_tables.proofs.{keeps.Moved.moved-on, keeps.Moved.moved-to-value, keeps.Moved.moved-to-holder, keeps.Fallen.MayFall, keeps.Opened.opened, keeps.Opened.alike-opened}
-use Rattle.pagable_tables.proofs.{keeps.Opened.falls-opened, keeps.Opened.references-opened, keeps.HandleCalls.pin-comes, keeps.HandleCalls.pin-on, keeps.LoadCalls.may-hold}
-use Rattle.pagable_tables.proofs.{keeps.BirthCalls.IsMine, keeps.BirthCalls.named-mine, keeps.BirthCalls.named-unlisted}
+use Rattle.pagable_tables.proofs.Words.{◌≡◌, ℕ, suc, zero, ◌<◌, ◌==◌, ◌&&◌, ◌||◌, Bool, true, false, not, if◌then◌else◌, List, [], ◌∷◌, Ok, Err, Option, Some, None, inl, inr, refl, ap, sym, subst}
+use Rattle.pagable_tables.proofs.Words.{◌∙◌, arith, ◌⊎◌, Result, is_some, nat_tests, Error, ArcRef, HandleNumber, LoadNumber, NodeNumber, HandleRow, Owner, Mode, Among, times, if_there, is_in}
+use Rattle.pagable_tables.proofs.Words.{updated, is_loose, is_handle, is_owner, is_owned_by, owner_value, Core, OpenLoad, greatest, row_at, Owns, references_fault, named_fault, load_fault}
+use Rattle.pagable_tables.proofs.Words.{refused_if, earlier, moved, with_mode, is_named_by, is_listed, shut, CloseCall, without_load, with_pin, is_owned_in, numbers_of, cell_fault, LoadCloses}
+use Rattle.pagable_tables.proofs.{Words.{EndCall, HandOverCall, DropCall, IsWhole, MayOwnLoad, ArePlaced}, Worlds.owner-same, keeps.Rows.{among-both, among-one, among-map, among-to, found-among}}
+use Rattle.pagable_tables.proofs.{keeps.Rows.{once, ordered-map}, keeps.Rests.found-so, keeps.Told.{roomy, roomy-whole, roomy-loads, alike-whole, may-own}, keeps.GoingOn.{GoesOn, stays-on, then-on}}
+use Rattle.pagable_tables.proofs.{keeps.GoingOn.on-listing, keeps.Comes.not-list, keeps.Moved.{moved-number, moved-on, moved-to-value, moved-to-holder}, keeps.Fallen.MayFall, keeps.Opened.opened}
+use Rattle.pagable_tables.proofs.{keeps.Opened.{alike-opened, falls-opened, references-opened}, keeps.HandleCalls.{pin-comes, pin-on}, keeps.LoadCalls.may-hold, keeps.BirthCalls.{IsMine, named-mine}}
+use Rattle.pagable_tables.proofs.keeps.BirthCalls.{named-unlisted}
 
 -- ---- a load closes
 

@@ -1,9 +1,8 @@
 -- Calls by which handles or values fall keep the world whole.
 use Rattle.pagable_tables.proofs.Words.{◌≡◌, ℕ, ◌<◌, false, Option, Some, None, inl, inr, refl, ap, sym, ◌∙◌, arith, Result, is_some, nat_tests, OptionalDataKey, Error, HandleNumber, NodeNumber}
 use Rattle.pagable_tables.proofs.Words.{Owner, Mode, if_there, is_shared, sharing, Core, Cell, only_handle, nobody, with_key, ReleaseCall, UnpinCall, SetKeyCall, IsWhole, ArePlaced}
-use Rattle.pagable_tables.proofs.{keeps.Rows.found-among, keeps.Told.roomy-whole, keeps.Told.alike-whole, keeps.Told.may-own, keeps.GoingOn.GoesOn, keeps.GoingOn.stays-on, keeps.Turned.moded-whole}
-use Rattle.pagable_tables.proofs.{keeps.Turned.moded-on, keeps.Comes.keyed_in, keeps.Comes.type_in, keeps.Comes.unshared-node, keeps.Fallen.may-fall, keeps.Opened.opened, keeps.Opened.alike-opened}
-use Rattle.pagable_tables.proofs.{keeps.Opened.falls-opened, keeps.HandleCalls.loose-unshared}
+use Rattle.pagable_tables.proofs.{keeps.Rows.found-among, keeps.Told.{roomy-whole, alike-whole, may-own}, keeps.GoingOn.{GoesOn, stays-on}, keeps.Turned.{moded-whole, moded-on}, keeps.Comes.keyed_in}
+use Rattle.pagable_tables.proofs.{keeps.Comes.{type_in, unshared-node}, keeps.Fallen.may-fall, keeps.Opened.{opened, alike-opened, falls-opened}, keeps.HandleCalls.loose-unshared}
 
 pub release-whole : {w w' : Core} (me : Owner) (h : HandleNumber) (r : Result (Unit {0}) Error) → IsWhole (opened w) → ReleaseCall w me h r w' → ArePlaced (opened w') → IsWhole (opened w')
 release-whole {w} me h r whole call placed = elim call.does [

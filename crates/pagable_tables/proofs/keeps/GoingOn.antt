@@ -1,6 +1,5 @@
 -- What a call makes directly leaves nodes there, and those that aren't shared unshared.
-use Rattle.pagable_tables.proofs.Words.{◌≡◌, ℕ, ◌+◌, ◌<◌, ◌≤◌, true, ◌∙◌, arith, is_some, nat_tests, held, pins, sharing, Core, HandlesAreWhole, IsWhole}
-use Rattle.pagable_tables.proofs.{Fitting.pins-le-held, keeps.Told.roomy}
+use Rattle.pagable_tables.proofs.{Words.{◌≡◌, ℕ, ◌+◌, ◌<◌, ◌≤◌, true, ◌∙◌, arith, is_some, nat_tests, held, pins, sharing, Core, HandlesAreWhole, IsWhole}, Fitting.pins-le-held, keeps.Told.roomy}
 
 -- no node goes, and none has fewer handles that aren't Shared
 pub record GoesOn (before u : Core) : Type 0 where

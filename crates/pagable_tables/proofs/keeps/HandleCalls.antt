@@ -1,9 +1,8 @@
 -- Calls by which a handle comes or is pinned keep the world whole.
-use Rattle.pagable_tables.proofs.Words.{◌≡◌, ◌<◌, true, false, Ok, Err, Some, refl, ap, sym, ◌∙◌, Result, Error, HandleNumber, NodeNumber, HandleRow, Owner, Mode, is_shared, is_pinned}
-use Rattle.pagable_tables.proofs.Words.{is_loose, is_owner, is_owned_by, Pinning, Owns, with_pin, Core, row_at, greatest, with_mode, CloneCall, LoosenCall, PinCall, IsWhole, ArePlaced}
-use Rattle.pagable_tables.proofs.Words.{MayHold, Suits, Makes, arith, nat_tests}
-use Rattle.pagable_tables.proofs.{keeps.Rows.found-among, keeps.Told.roomy, keeps.Told.settles, keeps.Told.alike-whole, keeps.GoingOn.GoesOn, keeps.GoingOn.then-on, keeps.Turned.moded-whole}
-use Rattle.pagable_tables.proofs.{keeps.Turned.moded-on, keeps.Turned.moded-among, keeps.Comes.beside, keeps.Comes.handle-on, keeps.Comes.not-list, keeps.Comes.not-the-list}
+use Rattle.pagable_tables.proofs.Words.{◌≡◌, ◌<◌, true, false, Ok, Err, Some, refl, ap, sym, ◌∙◌, Result, Error, HandleNumber, NodeNumber, HandleRow, Owner, Mode, is_shared, is_pinned, is_loose}
+use Rattle.pagable_tables.proofs.Words.{is_owner, is_owned_by, Pinning, Owns, with_pin, Core, row_at, greatest, with_mode, CloneCall, LoosenCall, PinCall, IsWhole, ArePlaced, MayHold, Suits, Makes}
+use Rattle.pagable_tables.proofs.{Words.{arith, nat_tests}, keeps.Rows.found-among, keeps.Told.{roomy, settles, alike-whole}, keeps.GoingOn.{GoesOn, then-on}, keeps.Turned.{moded-whole, moded-on}}
+use Rattle.pagable_tables.proofs.{keeps.Turned.moded-among, keeps.Comes.{beside, handle-on, not-list, not-the-list}}
 
 pub makes-whole : {w w' : Core} (node : NodeNumber) (mode : Mode) (owner : Owner) (r : Result HandleNumber Error) → IsWhole w → Suits w node mode → MayHold w owner → Makes w node mode owner r w'
     → ArePlaced w' → IsWhole w'

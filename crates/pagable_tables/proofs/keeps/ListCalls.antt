@@ -1,11 +1,10 @@
 -- Calls by which handles go to the list and come from it keep the world whole.
-use Rattle.pagable_tables.proofs.Words.{◌≡◌, ℕ, ◌+◌, ◌<◌, ◌==◌, ◌&&◌, Bool, true, false, Ok, Err, if◌then◌else◌, [], ◌∷◌, ◌++◌, Option, Some, None, inl, inr, refl, ap, sym, subst, ◌∙◌}
-use Rattle.pagable_tables.proofs.Words.{arith, slice_get, get_or, Result, nat_tests, sum_by_push, sum_by-remove, get_or_from_slice_get, slice_get_within, Error, HandleNumber, HandleRow}
-use Rattle.pagable_tables.proofs.Words.{Owner, Mode, one, Among, times, is_owner, is_owned_by, is_unpinned, Core, only_handle, moved, ScheduleCall, TakeCall, IsWhole, ArePlaced, MayHold}
+use Rattle.pagable_tables.proofs.Words.{◌≡◌, ℕ, ◌+◌, ◌<◌, ◌==◌, ◌&&◌, Bool, true, false, Ok, Err, if◌then◌else◌, [], ◌∷◌, ◌++◌, Option, Some, None, inl, inr, refl, ap, sym, subst, ◌∙◌, arith}
+use Rattle.pagable_tables.proofs.Words.{slice_get, get_or, Result, nat_tests, sum_by_push, sum_by-remove, get_or_from_slice_get, slice_get_within, Error, HandleNumber, HandleRow, Owner, Mode, one}
+use Rattle.pagable_tables.proofs.{Words.{Among, times, is_owner, is_owned_by, is_unpinned, Core, only_handle, moved, ScheduleCall, TakeCall, IsWhole, ArePlaced, MayHold}, keeps.Rows.among-to}
+use Rattle.pagable_tables.proofs.{keeps.Rows.{counted, found-among, once, only-row, ordered-map, sum-map}, keeps.Told.{roomy, roomy-whole, settles, alike-whole}, keeps.GoingOn.stays-on}
+use Rattle.pagable_tables.proofs.{keeps.Comes.not-list, keeps.Moved.{lists, each-moved, moved-number, moved-so}, keeps.Fallen.{may-fall, falls-whole}}
 use Rattle.std.specs.List.{remove}
-use Rattle.pagable_tables.proofs.{keeps.Rows.among-to, keeps.Rows.counted, keeps.Rows.found-among, keeps.Rows.once, keeps.Rows.only-row, keeps.Rows.ordered-map, keeps.Rows.sum-map}
-use Rattle.pagable_tables.proofs.{keeps.Told.roomy, keeps.Told.roomy-whole, keeps.Told.settles, keeps.Told.alike-whole, keeps.GoingOn.stays-on, keeps.Comes.not-list, keeps.Moved.lists}
-use Rattle.pagable_tables.proofs.{keeps.Moved.each-moved, keeps.Moved.moved-number, keeps.Moved.moved-so, keeps.Fallen.may-fall, keeps.Fallen.falls-whole}
 
 -- The handle h of this row alone moves.
 module _ {w : Core} (whole : IsWhole w) (h : HandleNumber) (row : HandleRow) (owner : Owner) (among : Among w.rows row) (number : row.number.0 ≡ h.0) where

@@ -1,9 +1,8 @@
 -- Calls on loads keep the world whole.
-use Rattle.pagable_tables.proofs.Words.{◌≡◌, ℕ, ◌<◌, ◌+◌, ◌==◌, true, Ok, Err, Option, Some, None, inl, inr, refl, ap, sym, subst, ◌∙◌, arith, ◌⊎◌, Result}
-use Rattle.pagable_tables.proofs.Words.{is_some, nat_tests, Error, HandleNumber, NodeNumber, Beginning, Owner, updated, HandleRow, Mode, is_loose, Core, Cell, OpenLoad, Root, of_cell}
-use Rattle.pagable_tables.proofs.Words.{of_key, greatest, type_at, Owns, with_handle, with_load, IsNextLoad, BeginCall, BeginKeyCall, IsWhole, MayOwnLoad, IsRootWhole, ArePlaced, MayHold}
-use Rattle.pagable_tables.proofs.{keeps.Rows.found-among, keeps.Comes.type_in, keeps.Comes.beside, keeps.HandleCalls.loose-unshared, keeps.Told.roomy, keeps.Told.roomy-whole}
-use Rattle.pagable_tables.proofs.{keeps.Told.settles, keeps.Told.alike-whole, keeps.Told.may-own}
+use Rattle.pagable_tables.proofs.Words.{◌≡◌, ℕ, ◌<◌, ◌+◌, ◌==◌, true, Ok, Err, Option, Some, None, inl, inr, refl, ap, sym, subst, ◌∙◌, arith, ◌⊎◌, Result, is_some, nat_tests, Error, HandleNumber}
+use Rattle.pagable_tables.proofs.Words.{NodeNumber, Beginning, Owner, updated, HandleRow, Mode, is_loose, Core, Cell, OpenLoad, Root, of_cell, of_key, greatest, type_at, Owns, with_handle, with_load}
+use Rattle.pagable_tables.proofs.{Words.{IsNextLoad, BeginCall, BeginKeyCall, IsWhole, MayOwnLoad, IsRootWhole, ArePlaced, MayHold}, keeps.Rows.found-among, keeps.Comes.{type_in, beside}}
+use Rattle.pagable_tables.proofs.{keeps.HandleCalls.loose-unshared, keeps.Told.{roomy, roomy-whole, settles, alike-whole, may-own}}
 
 -- ---- one load more
 

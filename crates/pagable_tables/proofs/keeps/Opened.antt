@@ -1,7 +1,6 @@
 -- A world as it would be with the storage open: of it all is whole that is whole of tables, whether the storage was closed or not.
-use Rattle.pagable_tables.proofs.Words.{◌≡◌, ℕ, Bool, false, List, [], ◌∷◌, refl, ap, Result, Error, ArcRef, Owner, or_else, Core, Alike, references_fault, reference_fault, Falls, IsWhole}
-use Rattle.pagable_tables.proofs.Words.{ArePlaced, arith, nat_tests}
-use Rattle.pagable_tables.proofs.{keeps.Told.settles, keeps.Fallen.MayFall, keeps.Fallen.fallen-whole}
+use Rattle.pagable_tables.proofs.Words.{◌≡◌, ℕ, Bool, false, List, [], ◌∷◌, refl, ap, Result, Error, ArcRef, Owner, or_else, Core, Alike, references_fault, reference_fault, Falls, IsWhole, ArePlaced}
+use Rattle.pagable_tables.proofs.{Words.{arith, nat_tests}, keeps.Told.settles, keeps.Fallen.{MayFall, fallen-whole}}
 
 abbrev pub opened : Core → Core
 opened w = record w { closed = false }

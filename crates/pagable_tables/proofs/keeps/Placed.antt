@@ -1,6 +1,5 @@
 -- What the tables tell is in its places, since no vector is longer than its capacity.
-use Rattle.pagable_tables.proofs.{Alive.length-live-le, Words.arith, Words.[], Words.Tables, Words.IsFalling, Words.owns_nothing, Words.plain_of, Words.ArePlaced, Words.nat_tests}
-use Rattle.pagable_tables.specs.Core.{IsWhole}
+use Rattle.pagable_tables.{proofs.Alive.length-live-le, proofs.Words.{arith, [], Tables, IsFalling, owns_nothing, plain_of, ArePlaced, nat_tests}, specs.Core.IsWhole}
 use Rattle.pagable_world.specs.Pager as pager
 
 pub placed : (t : Tables) → ArePlaced (plain_of t)

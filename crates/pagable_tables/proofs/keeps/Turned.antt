@@ -1,9 +1,8 @@
 -- Rows that change, each under its own number and of its own node.
 use Rattle.pagable_tables.proofs.Words.{◌≡◌, ℕ, ◌==◌, ◌&&◌, true, false, if◌then◌else◌, List, [], Some, refl, ap, sym, subst, ◌∙◌, arith, ◌⊎◌, is_some, nat_lt, map, nat_tests, HandleNumber}
-use Rattle.pagable_tables.proofs.Words.{NodeNumber, HandleRow, Owner, Mode, one, Among, held, sharing, is_at, is_shared, is_loose, is_handle, is_owned_by, Core, row_at, with_mode}
-use Rattle.pagable_tables.proofs.Words.{OwnersAreThere, IsRootWhole, IsEntryWhole, IsWhole}
-use Rattle.pagable_tables.proofs.{keeps.Rows.among-map, keeps.Rows.among-to, keeps.Rows.sum-map, keeps.Rows.found-among, keeps.Rows.found-map, keeps.Rows.once, keeps.Rows.ordered-map}
-use Rattle.pagable_tables.proofs.{keeps.Told.roomy, keeps.Told.may-own, keeps.GoingOn.GoesOn, keeps.GoingOn.changed-on}
+use Rattle.pagable_tables.proofs.Words.{NodeNumber, HandleRow, Owner, Mode, one, Among, held, sharing, is_at, is_shared, is_loose, is_handle, is_owned_by, Core, row_at, with_mode, OwnersAreThere}
+use Rattle.pagable_tables.proofs.{Words.{IsRootWhole, IsEntryWhole, IsWhole}, keeps.Rows.{among-map, among-to, sum-map, found-among, found-map, once, ordered-map}, keeps.Told.{roomy, may-own}}
+use Rattle.pagable_tables.proofs.keeps.GoingOn.{GoesOn, changed-on}
 
 module _ {w : Core} (whole : IsWhole w) (to : HandleRow → HandleRow) (list : List HandleNumber) (number : (h : HandleRow) → (to h).number.0 ≡ h.number.0)
     (node : (h : HandleRow) → (to h).node ≡ h.node)

@@ -1,6 +1,5 @@
-use Rattle.std.specs.Arc.{arc_value}
+use Rattle.std.{specs.Arc.arc_value, proofs.Common.{rules, ◌≡◌}}
 use Rattle.pagable_walk.specs.{Over.answer_of, Slots.written_of, Table.shelf_of}
-use Rattle.std.proofs.Common.{rules, ◌≡◌}
 use Rattle.pagable.proofs.Lent.{item-out}
 use Rattle.pagable.proofs.paging.page_out_item.Goals as goal
 

@@ -1,5 +1,4 @@
-use Rattle.std.proofs.Common.{◌≡◌, ◌++◌}
-use Rattle.std.specs.Prelude.{map, drop}
+use Rattle.std.{proofs.Common.{◌≡◌, ◌++◌}, specs.Prelude.{map, drop}}
 use Rattle.pagable_model.specs.{Meaning.sequence, References.references_in}
 use Rattle.pagable_arcs.proofs.refers.list_each.Given as goal
 

@@ -1,6 +1,5 @@
-use Rattle.pagable_tables.proofs.Words.{ℕ, ap, sym, ◌∙◌, not, None, is_some, IndexMap, Adopts, load_at, LoadRow, core_of, plain_of, arith, nat_tests}
-use Rattle.pagable_tables.proofs.{Adoptions.adopts-new, Adoptions.adopts-whole, Adoptions.fitting, Adoptions.owner-of, Adoptions.early-stored, Begun.not-closed, Newer.adopt-newer}
-use Rattle.pagable_tables.proofs.{Newer.later-so, keeps.Placed.whole-so}
+use Rattle.pagable_tables.proofs.{Words.{ℕ, ap, sym, ◌∙◌, not, None, is_some, IndexMap, Adopts, load_at, LoadRow, core_of, plain_of, arith, nat_tests}, Adoptions.{adopts-new, adopts-whole, fitting}}
+use Rattle.pagable_tables.proofs.{Adoptions.{owner-of, early-stored}, Begun.not-closed, Newer.{adopt-newer, later-so}, keeps.Placed.whole-so}
 use Rattle.pagable_tables.proofs.adopting.adopt.Goals as goal
 
 pub learn_new-requires-clause-holder : goal.learn_new-requires-clause-holder

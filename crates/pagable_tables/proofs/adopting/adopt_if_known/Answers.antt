@@ -1,7 +1,6 @@
-use Rattle.pagable_tables.proofs.Words.{ℕ, ap, sym, ◌∙◌, false, not, None, is_some, IndexMap, load_at, LoadRow, core_of, plain_of}
-use Rattle.pagable_tables.proofs.{Adoptions.not-adopted, Adoptions.adopts-known, Adoptions.adopts-whole, Adoptions.refused-known, Adoptions.fitting, Adoptions.eager, Adoptions.owner-of}
-use Rattle.pagable_tables.proofs.{Begun.not-closed, Newer.adopt-newer, Newer.newer-alike, Newer.later-so, keeps.CacheCalls.known-suits, keeps.Placed.whole-so, keeps.Told.alike-whole}
-use Rattle.pagable_tables.proofs.{Shedding.sheds-still}
+use Rattle.pagable_tables.proofs.{Words.{ℕ, ap, sym, ◌∙◌, false, not, None, is_some, IndexMap, load_at, LoadRow, core_of, plain_of}, Adoptions.{not-adopted, adopts-known, adopts-whole}}
+use Rattle.pagable_tables.proofs.{Adoptions.{refused-known, fitting, eager, owner-of}, Begun.not-closed, Newer.{adopt-newer, newer-alike, later-so}, keeps.CacheCalls.known-suits}
+use Rattle.pagable_tables.proofs.{keeps.Placed.whole-so, keeps.Told.alike-whole, Shedding.sheds-still}
 use Rattle.pagable_tables.proofs.adopting.adopt_if_known.Goals as goal
 
 pub returns-in-Some-clause-refused : goal.returns-in-Some-clause-refused

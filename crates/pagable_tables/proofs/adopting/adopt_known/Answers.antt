@@ -1,7 +1,6 @@
-use Rattle.pagable_tables.proofs.Words.{◌≡◌, ℕ, ◌+◌, ◌∙◌, ap, subst, refl, arith, true, [], ◌∷◌, HandleRow, Owner, Mode, mode_of, Core, Alike, with_handle, row_of, is_named_by, Falls}
-use Rattle.pagable_tables.proofs.Words.{is_owned_in, core_of, plain_of, Tables, counts_at, has_value}
-use Rattle.pagable_tables.proofs.Stays.{stays-pinned, seen-before, retold, eager-pins, loaded-append, named-loaded, not-named}
-use Rattle.pagable_tables.proofs.{Begun.begun-whole, Regiven.loaded, Shedding.sheds-still, Shedding.stays-first}
+use Rattle.pagable_tables.proofs.Words.{◌≡◌, ℕ, ◌+◌, ◌∙◌, ap, subst, refl, arith, true, [], ◌∷◌, HandleRow, Owner, Mode, mode_of, Core, Alike, with_handle, row_of, is_named_by, Falls, is_owned_in}
+use Rattle.pagable_tables.proofs.{Words.{core_of, plain_of, Tables, counts_at, has_value}, Stays.{stays-pinned, seen-before, retold, eager-pins, loaded-append, named-loaded, not-named}}
+use Rattle.pagable_tables.proofs.{Begun.begun-whole, Regiven.loaded, Shedding.{sheds-still, stays-first}}
 use Rattle.pagable_tables.proofs.adopting.adopt_known.Goals as goal
 
 pub returns-in-Err-clause-refused : goal.returns-in-Err-clause-refused

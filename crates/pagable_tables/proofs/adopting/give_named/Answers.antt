@@ -1,5 +1,4 @@
-use Rattle.pagable_tables.proofs.Words.{[], arith, take_all, None, owns_nothing}
-use Rattle.pagable_tables.proofs.{Begun.aside, GivenNamed.none-given, GivenNamed.one-given, GivenNamed.all-given, Shedding.sheds-still, Shedding.sheds-then}
+use Rattle.pagable_tables.proofs.{Words.{[], arith, take_all, None, owns_nothing}, Begun.aside, GivenNamed.{none-given, one-given, all-given}, Shedding.{sheds-still, sheds-then}}
 use Rattle.pagable_tables.proofs.adopting.give_named.Goals as goal
 
 pub loop-reference-init : goal.loop-reference-init

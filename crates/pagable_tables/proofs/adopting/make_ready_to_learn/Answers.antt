@@ -1,5 +1,4 @@
-use Rattle.pagable_tables.proofs.Words.{◌<◌, refl, ap, subst, None, false, inr, arith, Core, greatest, Tables}
-use Rattle.pagable_tables.proofs.Readied.{room-then, room-alike, room-whole, more-room, not-spent}
+use Rattle.pagable_tables.proofs.{Words.{◌<◌, refl, ap, subst, None, false, inr, arith, Core, greatest, Tables}, Readied.{room-then, room-alike, room-whole, more-room, not-spent}}
 use Rattle.pagable_tables.proofs.adopting.make_ready_to_learn.Goals as goal
 
 pub returns-in_default-reserve-clause-room : goal.returns-in_default-reserve-clause-room

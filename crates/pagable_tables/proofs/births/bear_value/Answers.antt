@@ -1,5 +1,4 @@
-use Rattle.pagable_tables.proofs.Words.{ap, sym, ◌∙◌, false, None, Counts, Tables, load_at, core_of}
-use Rattle.pagable_tables.proofs.{NewNodes.value-born, NewNodes.value-whole, NewNodes.bears-newer, Newer.later-so, keeps.Placed.whole-so}
+use Rattle.pagable_tables.proofs.{Words.{ap, sym, ◌∙◌, false, None, Counts, Tables, load_at, core_of}, NewNodes.{value-born, value-whole, bears-newer}, Newer.later-so, keeps.Placed.whole-so}
 use Rattle.pagable_tables.proofs.births.bear_value.Goals as goal
 
 pub returns-clause-born : goal.returns-clause-born

@@ -1,6 +1,5 @@
-use Rattle.pagable_tables.proofs.Words.{ap, sym, subst, ◌∙◌, Ok, None, false, arith, Mode, Counts, Tables, Bears, load_at, core_of, plain_of}
-use Rattle.pagable_tables.proofs.{NewNodes.none-named, NewNodes.away-born, NewNodes.bears-newer, Newer.later-so, Readied.room-holder, Readied.room-newer, Readied.weaker}
-use Rattle.pagable_tables.proofs.{keeps.BirthCalls.away-birth-whole, keeps.Placed.whole-so}
+use Rattle.pagable_tables.proofs.{Words.{ap, sym, subst, ◌∙◌, Ok, None, false, arith, Mode, Counts, Tables, Bears, load_at, core_of, plain_of}, NewNodes.{none-named, away-born, bears-newer}}
+use Rattle.pagable_tables.proofs.{Newer.later-so, Readied.{room-holder, room-newer, weaker}, keeps.BirthCalls.away-birth-whole, keeps.Placed.whole-so}
 use Rattle.pagable_tables.proofs.births.new_away.Goals as goal
 
 pub bear-requires-clause-fit : goal.bear-requires-clause-fit

@@ -1,6 +1,5 @@
 use Rattle.pagable_tables.proofs.Words.{◌≡◌, ℕ, Bool, true, false, Option, Some, None, arith, ap, sym, subst, ◌∙◌, ◌≢◌, IfSome, nat_tests, NodeNumber, live, Steps, has_value, is_node, counts_at}
-use Rattle.pagable_tables.proofs.{Shedding.lasts-on, Shedding.none-falls-in, Standing.valued-le, Standing.none-falls, Standing.one-falls, Ended.ended, Fewer.steps-fewer, Fewer.steps-unlisted}
-use Rattle.pagable_tables.proofs.Next.{steps-on}
+use Rattle.pagable_tables.proofs.{Shedding.{lasts-on, none-falls-in}, Standing.{valued-le, none-falls, one-falls}, Ended.ended, Fewer.{steps-fewer, steps-unlisted}, Next.steps-on}
 use Rattle.pagable_tables.proofs.cascade.cascade.Goals as goal
 
 abbrev number-in : Option NodeNumber → ℕ

@@ -1,5 +1,4 @@
-use Rattle.pagable_tables.proofs.Words.{[], arith, GivesUp}
-use Rattle.pagable_tables.proofs.{Begun.unowned, Fewer.gives-fewer, Next.gives-on, Shedding.stays-first}
+use Rattle.pagable_tables.proofs.{Words.{[], arith, GivesUp}, Begun.unowned, Fewer.gives-fewer, Next.gives-on, Shedding.stays-first}
 use Rattle.pagable_tables.proofs.cascade.shed.Goals as goal
 
 pub give_up-requires-clause-falling : goal.give_up-requires-clause-falling

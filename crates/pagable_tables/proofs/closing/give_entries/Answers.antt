@@ -1,6 +1,5 @@
-use Rattle.pagable_tables.proofs.Words.{rules, ◌≡◌, ℕ, ◌+◌, ◌==◌, ◌||◌, List, [], ◌∷◌, length, false, refl, ap, sym, ◌∙◌, subst, arith, nat_tests, length-append, sum_by_push}
-use Rattle.pagable_tables.proofs.Words.{HandleNumber, one, Holdings, SoFar, entered, with_list}
-use Rattle.pagable_tables.proofs.{Begun.aside, Entries.given_up, Entries.none-given-up, Entries.one-given-up, Entries.unlist, Ended.ended, Shedding.sheds-still, Shedding.sheds-then}
+use Rattle.pagable_tables.proofs.Words.{rules, ◌≡◌, ℕ, ◌+◌, ◌==◌, ◌||◌, List, [], ◌∷◌, length, false, refl, ap, sym, ◌∙◌, subst, arith, nat_tests, length-append, sum_by_push, HandleNumber, one}
+use Rattle.pagable_tables.proofs.{Words.{Holdings, SoFar, entered, with_list}, Begun.aside, Entries.{given_up, none-given-up, one-given-up, unlist}, Ended.ended, Shedding.{sheds-still, sheds-then}}
 use Rattle.pagable_tables.proofs.closing.give_entries.Goals as goal
 
 empty : (list : List HandleNumber) → length list ≡ 0 → list ≡ []

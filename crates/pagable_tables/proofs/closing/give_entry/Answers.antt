@@ -1,6 +1,5 @@
-use Rattle.pagable_tables.proofs.Words.{◌≡◌, [], false, refl, ap, sym, ◌∙◌, subst, arith, if_there, HandleNumber, is_owned_by, Owner, entered, GivesUp, is_valued, SoFar}
-use Rattle.pagable_tables.proofs.{Begun.unowned, Entries.went, Entries.entry-apart, Fewer.gives-fewer, Fewer.gives-unlisted, Left.and_one, Next.gives-apart, Worlds.owner-same}
-use Rattle.pagable_tables.proofs.{Shedding.stays-first, Shedding.sheds-still}
+use Rattle.pagable_tables.proofs.{Words.{◌≡◌, [], false, refl, ap, sym, ◌∙◌, subst, arith, if_there, HandleNumber, is_owned_by, Owner, entered, GivesUp, is_valued, SoFar}, Begun.unowned}
+use Rattle.pagable_tables.proofs.{Entries.{went, entry-apart}, Fewer.{gives-fewer, gives-unlisted}, Left.and_one, Next.gives-apart, Worlds.owner-same, Shedding.{stays-first, sheds-still}}
 use Rattle.pagable_tables.proofs.closing.give_entry.Goals as goal
 
 pub returns-in_default-clause-so_far : goal.returns-in_default-clause-so_far

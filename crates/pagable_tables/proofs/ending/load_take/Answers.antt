@@ -1,8 +1,7 @@
 use Rattle.pagable_tables.proofs.Words.{◌≡◌, ℕ, ◌&&◌, false, not, length, arith, ap, sym, ◌∙◌, subst, Some, None, Error, Owner, is_in, if_there, is_owner, OpenLoad, Falls, refused_if, nat_tests}
-use Rattle.pagable_tables.proofs.Words.{is_owned_in, numbers_of, load_at, core_of, plain_of, load_in, with_tables, Holdings, option_map}
-use Rattle.pagable_tables.proofs.Taken.{moved-less, begun-moved, loaded-moved, no-load, may-hand, named-there, still-listed, and-left, MayHand}
-use Rattle.pagable_tables.proofs.{Dropped.load-closed, Dropped.owned-given, Dropped.loads-anew, keeps.Comes.not-a-value, keeps.LoadCalls.may-hold, Begun.not-closed}
-use Rattle.pagable_tables.proofs.{keeps.EndCalls.hand-over-whole, keeps.Placed.whole-so, Newer.take-newer, Newer.later-so, Newer.closed-still, Shedding.sheds-still, Worlds.still}
+use Rattle.pagable_tables.proofs.{Words.{is_owned_in, numbers_of, load_at, core_of, plain_of, load_in, with_tables, Holdings, option_map}, Taken.{moved-less, begun-moved, loaded-moved, no-load}}
+use Rattle.pagable_tables.proofs.{Taken.{may-hand, named-there, still-listed, and-left, MayHand}, Dropped.{load-closed, owned-given, loads-anew}, keeps.Comes.not-a-value, keeps.LoadCalls.may-hold}
+use Rattle.pagable_tables.proofs.{Begun.not-closed, keeps.EndCalls.hand-over-whole, keeps.Placed.whole-so, Newer.{take-newer, later-so, closed-still}, Shedding.sheds-still, Worlds.still}
 use Rattle.pagable_tables.proofs.ending.load_take.Goals as goal
 
 pub unreachable-requires : goal.unreachable-requires

@@ -1,5 +1,4 @@
-use Rattle.pagable_tables.proofs.Words.{arith, ap, HandleNumber, length-set, alive, Place, nat_tests}
-use Rattle.pagable_tables.proofs.{Order.rises-set, Alive.live-set, Alive.sum-live-set, Alive.length-live-set, Alive.next-set}
+use Rattle.pagable_tables.proofs.{Words.{arith, ap, HandleNumber, length-set, alive, Place, nat_tests}, Order.rises-set, Alive.{live-set, sum-live-set, length-live-set, next-set}}
 use Rattle.pagable_tables.proofs.handles.set.Goals as goal
 
 pub returns-clause-sound : goal.returns-clause-sound

@@ -1,7 +1,6 @@
 use Rattle.pagable_tables.proofs.Words.{cases_eq, nat_tests, false, Bool, ◌+◌, ◌-◌, ◌≡◌, ◌≤◌, ℕ, arith, refl, ap, sym, ◌∙◌, subst, Some, ◌∷◌, if◌then◌else◌, ◌≢◌, one, is_pinning, live, counts_at}
-use Rattle.pagable_tables.proofs.Words.{refs_at, Fits, pins_in, after, is_fallen_by, ValueStays, owns_nothing, Leaves, Counts}
-use Rattle.pagable_tables.proofs.{Alive.row-le-live, Leaving.leaves-sums, Fitting.given-fits, Fitting.given-cells, Fitting.new-top, Fitting.long-if, Fitting.pin-here, Fitting.held-here}
-use Rattle.pagable_tables.proofs.Fitting.{pin_of}
+use Rattle.pagable_tables.proofs.{Words.{refs_at, Fits, pins_in, after, is_fallen_by, ValueStays, owns_nothing, Leaves, Counts}, Alive.row-le-live, Leaving.leaves-sums, Fitting.given-fits}
+use Rattle.pagable_tables.proofs.Fitting.{given-cells, new-top, long-if, pin-here, held-here, pin_of}
 use Rattle.pagable_tables.proofs.holdings.give_up.Goals as goal
 
 -- a handle that leaves takes no value with it at once

@@ -1,8 +1,7 @@
-use Rattle.pagable_tables.proofs.Words.{◌≡◌, ◌+◌, ℕ, Bool, true, false, arith, refl, ap, sym, ◌∙◌, subst, Some, Option, List, [], ◌∷◌, ◌++◌, length, slice_get, if◌then◌else◌, inl, inr, ◌≢◌}
-use Rattle.pagable_tables.proofs.Words.{is_some, cases_eq, nat_tests, append-nil, ArcRef, HandleNumber, NodeNumber, HandleRow, one, live, alive, AreSound, IsNext, counts_at, refs_at}
-use Rattle.pagable_tables.proofs.Words.{IsFalling, Fits, Settles, GivesUp, CellsStay, cell_in, ValueStays, owns, owns_nothing, entry, is_valued, valued, Counts, Holdings}
-use Rattle.pagable_tables.proofs.{Alive.only-row, Alive.none-found, Leaving.leaves-sums, Fitting.is_owned, Fitting.taken-fits, Fitting.taken-owned, Fitting.taken-there, Fitting.owner-is}
-use Rattle.pagable_tables.proofs.{Fitting.fits-same, Fitting.fallen}
+use Rattle.pagable_tables.proofs.Words.{◌≡◌, ◌+◌, ℕ, Bool, true, false, arith, refl, ap, sym, ◌∙◌, subst, Some, Option, List, [], ◌∷◌, ◌++◌, length, slice_get, if◌then◌else◌, inl, inr, ◌≢◌, is_some}
+use Rattle.pagable_tables.proofs.Words.{cases_eq, nat_tests, append-nil, ArcRef, HandleNumber, NodeNumber, HandleRow, one, live, alive, AreSound, IsNext, counts_at, refs_at, IsFalling, Fits, Settles}
+use Rattle.pagable_tables.proofs.{Words.{GivesUp, CellsStay, cell_in, ValueStays, owns, owns_nothing, entry, is_valued, valued, Counts, Holdings}, Alive.{only-row, none-found}, Leaving.leaves-sums}
+use Rattle.pagable_tables.proofs.Fitting.{is_owned, taken-fits, taken-owned, taken-there, owner-is, fits-same, fallen}
 use Rattle.pagable_tables.proofs.holdings.step.Goals as goal
 
 abbrev of_value : HandleRow → ℕ

@@ -1,6 +1,5 @@
-use Rattle.pagable_tables.proofs.Words.{not, None, refl, sym, ◌∙◌, arith, inl, inr, ap, any_mode, load_at, nat_tests}
-use Rattle.pagable_tables.proofs.{Alive.row-le-live, Begun.not-closed, Coming.some-held, Fitting.held-here, Worlds.still, Worlds.owner-same, keeps.FallCalls.set-key-whole}
-use Rattle.pagable_tables.proofs.{keeps.Placed.whole-so, Shedding.sheds-still, Newer.set-key-newer, Newer.later-so}
+use Rattle.pagable_tables.proofs.{Words.{not, None, refl, sym, ◌∙◌, arith, inl, inr, ap, any_mode, load_at, nat_tests}, Alive.row-le-live, Begun.not-closed, Coming.some-held, Fitting.held-here}
+use Rattle.pagable_tables.proofs.{Worlds.{still, owner-same}, keeps.FallCalls.set-key-whole, keeps.Placed.whole-so, Shedding.sheds-still, Newer.{set-key-newer, later-so}}
 use Rattle.pagable_tables.proofs.keys.set_data_key.Goals as goal
 
 pub set_key-requires-clause-live : goal.set_key-requires-clause-live

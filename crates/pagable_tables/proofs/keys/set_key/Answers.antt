@@ -1,5 +1,4 @@
-use Rattle.pagable_tables.proofs.Words.{subst, nobody, with_key, counts_at, core_of, GetsKey}
-use Rattle.pagable_tables.proofs.{KeySet.keyed-on, Shedding.stays-first}
+use Rattle.pagable_tables.proofs.{Words.{subst, nobody, with_key, counts_at, core_of, GetsKey}, KeySet.keyed-on, Shedding.stays-first}
 use Rattle.pagable_tables.proofs.keys.set_key.Goals as goal
 
 pub returns-clause-falls : goal.returns-clause-falls

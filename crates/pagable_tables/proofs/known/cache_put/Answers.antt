@@ -1,7 +1,6 @@
-use Rattle.pagable_tables.proofs.Words.{◌≡◌, ◌∙◌, ℕ, ap, sym, subst, refl, false, None, Ok, inl, inr, arith, NodeNumber, fits_mode, Owns, offer_fault, recall_fault, nat_tests}
-use Rattle.pagable_tables.proofs.Words.{OfferCall, core_of, plain_of, Suits, option_map}
-use Rattle.pagable_tables.proofs.{Offers.offer-last, Offers.learned, Worlds.same-cache, keeps.Placed.whole-so, keeps.Told.told-whole, Pins.no-fault, Recalled.recalls, Recalled.not-recalled}
-use Rattle.pagable_tables.proofs.{keeps.CacheCalls.known-suits, keeps.CacheCalls.offer-whole}
+use Rattle.pagable_tables.proofs.Words.{◌≡◌, ◌∙◌, ℕ, ap, sym, subst, refl, false, None, Ok, inl, inr, arith, NodeNumber, fits_mode, Owns, offer_fault, recall_fault, nat_tests, OfferCall, core_of}
+use Rattle.pagable_tables.proofs.{Words.{plain_of, Suits, option_map}, Offers.{offer-last, learned}, Worlds.same-cache, keeps.Placed.whole-so, keeps.Told.told-whole, Pins.no-fault, Recalled.recalls}
+use Rattle.pagable_tables.proofs.{Recalled.not-recalled, keeps.CacheCalls.{known-suits, offer-whole}}
 use Rattle.pagable_tables.proofs.known.cache_put.Goals as goal
 
 pub make-requires-clause-suits : goal.make-requires-clause-suits

@@ -1,6 +1,5 @@
-use Rattle.pagable_tables.proofs.Words.{None, Some, false, ◌∙◌, ap, refl, arith, rules, slice_get_read, moved, only_handle, live, plain_of}
-use Rattle.pagable_tables.proofs.{keeps.Comes.not-a-value, keeps.ListCalls.take-whole, keeps.Placed.whole-so, Listed.alike-listed, Owned.entry-lives, Owned.entry-unvalued, Newer.later-so}
-use Rattle.pagable_tables.proofs.{Newer.take-pending-newer}
+use Rattle.pagable_tables.proofs.{Words.{None, Some, false, ◌∙◌, ap, refl, arith, rules, slice_get_read, moved, only_handle, live, plain_of}, keeps.Comes.not-a-value, keeps.ListCalls.take-whole}
+use Rattle.pagable_tables.proofs.{keeps.Placed.whole-so, Listed.alike-listed, Owned.{entry-lives, entry-unvalued}, Newer.{later-so, take-pending-newer}}
 use Rattle.pagable_tables.proofs.listing.take_pending.Goals as goal
 
 pub unreachable-requires : goal.unreachable-requires

@@ -1,7 +1,6 @@
 use Rattle.pagable_tables.proofs.Words.{◌≡◌, arith, ap, sym, ◌∙◌, subst, None, Some, inl, inr, false, rules, not, OptionalDataKey, HandleRow, Owner, Mode, if_there, is_loose, is_in_memory, nat_tests}
-use Rattle.pagable_tables.proofs.Words.{is_here, Cell, Alike, of_cell, Owns, is_handle_here, with_handle, with_load, live, counts_at, cell_in, key_in, core_of}
-use Rattle.pagable_tables.proofs.{Alive.row-le-live, Fitting.held-here, Worlds.still, Worlds.owner-same, Opened.handle-first, Opened.no-fault, Opened.no-begin-fault}
-use Rattle.pagable_tables.proofs.{Opened.here-told, Pins.wrong-mode, keeps.LoadCalls.begin-whole, keeps.Placed.whole-so}
+use Rattle.pagable_tables.proofs.{Words.{is_here, Cell, Alike, of_cell, Owns, is_handle_here, with_handle, with_load, live, counts_at, cell_in, key_in, core_of}, Alive.row-le-live, Fitting.held-here}
+use Rattle.pagable_tables.proofs.{Worlds.{still, owner-same}, Opened.{handle-first, no-fault, no-begin-fault, here-told}, Pins.wrong-mode, keeps.LoadCalls.begin-whole, keeps.Placed.whole-so}
 use Rattle.pagable_tables.proofs.loading.load_begin.Goals as goal
 
 pub returns-in-Err-clause-begun : goal.returns-in-Err-clause-begun

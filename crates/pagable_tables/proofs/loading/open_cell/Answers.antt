@@ -1,6 +1,5 @@
-use Rattle.pagable_tables.proofs.Words.{◌+◌, ◌∙◌, refl, arith, None, false, load_at, Owner, Mode, core_of, plain_of, nat_tests}
-use Rattle.pagable_tables.proofs.{Alive.row-le-live, Beginning.load-comes, Beginning.none-yet, Coming.some-held, Fitting.held-here, Opened.load-goes, Opened.only-memory}
-use Rattle.pagable_tables.proofs.{Newer.newer-alike, Newer.newer-handle, Newer.newer-then, Newer.later-so, Newer.later-opened, Newer.closed-still}
+use Rattle.pagable_tables.proofs.{Words.{◌+◌, ◌∙◌, refl, arith, None, false, load_at, Owner, Mode, core_of, plain_of, nat_tests}, Alive.row-le-live, Beginning.{load-comes, none-yet}}
+use Rattle.pagable_tables.proofs.{Coming.some-held, Fitting.held-here, Opened.{load-goes, only-memory}, Newer.{newer-alike, newer-handle, newer-then, later-so, later-opened, closed-still}}
 use Rattle.pagable_tables.proofs.loading.open_cell.Goals as goal
 
 pub come-requires-clause-live : goal.come-requires-clause-live

@@ -1,5 +1,4 @@
-use Rattle.pagable_tables.proofs.Words.{◌∙◌, arith, nat_tests}
-use Rattle.pagable_tables.proofs.{Alive.changed-known, Owned.owned-by, Owned.move-fits}
+use Rattle.pagable_tables.proofs.{Words.{◌∙◌, arith, nat_tests}, Alive.changed-known, Owned.{owned-by, move-fits}}
 use Rattle.pagable_tables.proofs.moving.hand_over.Goals as goal
 
 pub returns-clause-rows : goal.returns-clause-rows

@@ -1,5 +1,4 @@
-use Rattle.pagable_tables.proofs.Words.{ap, ◌∙◌, arith, take_all, moved, is_named_by, only_handle, live, nat_tests}
-use Rattle.pagable_tables.proofs.Named.{moved-nobody, moved-take}
+use Rattle.pagable_tables.proofs.{Words.{ap, ◌∙◌, arith, take_all, moved, is_named_by, only_handle, live, nat_tests}, Named.{moved-nobody, moved-take}}
 use Rattle.pagable_tables.proofs.moving.hand_over_all.Goals as goal
 
 pub loop-reference-init : goal.loop-reference-init

@@ -1,5 +1,4 @@
-use Rattle.pagable_tables.proofs.Words.{arith, None, false, Ok, nat_tests}
-use Rattle.pagable_tables.proofs.{Worlds.same-cache, keeps.CacheCalls.clear-whole, keeps.Placed.whole-so}
+use Rattle.pagable_tables.proofs.{Words.{arith, None, false, Ok, nat_tests}, Worlds.same-cache, keeps.CacheCalls.clear-whole, keeps.Placed.whole-so}
 use Rattle.pagable_tables.proofs.places.cache_clear.Goals as goal
 
 pub returns-clause-cleared : goal.returns-clause-cleared

@@ -1,5 +1,4 @@
-use Rattle.pagable_tables.proofs.Words.{◌+◌, None, false, live, counts_at, refs_at, arith, nat_tests}
-use Rattle.pagable_tables.proofs.{Coming.rows-told, Worlds.same-cache, keeps.Told.alike-whole, keeps.Placed.whole-so}
+use Rattle.pagable_tables.proofs.{Words.{◌+◌, None, false, live, counts_at, refs_at, arith, nat_tests}, Coming.rows-told, Worlds.same-cache, keeps.Told.alike-whole, keeps.Placed.whole-so}
 use Rattle.pagable_tables.proofs.places.grow.Goals as goal
 
 pub returns-clause-grown : goal.returns-clause-grown

@@ -1,5 +1,4 @@
-use Rattle.pagable_tables.proofs.Words.{[], arith, None, nobody, only_handle, GivesUp, owns_nothing, SoFar, Holdings}
-use Rattle.pagable_tables.proofs.{Begun.aside, Begun.unowned, Next.gives-on, Shedding.stays-first}
+use Rattle.pagable_tables.proofs.{Words.{[], arith, None, nobody, only_handle, GivesUp, owns_nothing, SoFar, Holdings}, Begun.{aside, unowned}, Next.gives-on, Shedding.stays-first}
 use Rattle.pagable_tables.proofs.releases.give_back.Goals as goal
 
 pub give_up-requires-clause-falling : goal.give_up-requires-clause-falling

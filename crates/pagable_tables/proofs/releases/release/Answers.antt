@@ -1,6 +1,5 @@
-use Rattle.pagable_tables.proofs.Words.{not, None, refl, subst, arith, inl, inr, any_mode, Falls, only_handle, core_of}
-use Rattle.pagable_tables.proofs.{Begun.begun-whole, Begun.not-closed, keeps.FallCalls.release-whole, keeps.Placed.whole-so, Worlds.still, Worlds.owner-same, Shedding.sheds-still}
-use Rattle.pagable_tables.proofs.{Newer.release-newer, Newer.later-so}
+use Rattle.pagable_tables.proofs.{Words.{not, None, refl, subst, arith, inl, inr, any_mode, Falls, only_handle, core_of}, Begun.{begun-whole, not-closed}, keeps.FallCalls.release-whole}
+use Rattle.pagable_tables.proofs.{keeps.Placed.whole-so, Worlds.{still, owner-same}, Shedding.sheds-still, Newer.{release-newer, later-so}}
 use Rattle.pagable_tables.proofs.releases.release.Goals as goal
 
 pub returns-in-Err-clause-released : goal.returns-in-Err-clause-released

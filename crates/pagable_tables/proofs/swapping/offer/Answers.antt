@@ -1,8 +1,7 @@
-use Rattle.pagable_tables.proofs.Words.{not, ◌≡◌, ◌+◌, ◌∙◌, false, None, Ok, Err, Some, inr, refl, ap, sym, subst, arith, IfSome, length, nat_tests, mode_of, OfferCall}
-use Rattle.pagable_tables.proofs.Words.{with_known, Falls, only_handle, Tables, core_of, plain_of, Offered, load_at}
-use Rattle.pagable_tables.proofs.{Begun.open-then, Begun.not-closed, Pins.found-again, Shedding.stays-first, Shedding.sheds-still, Swapped.begun-made, Swapped.swapped, Swapped.values-made}
-use Rattle.pagable_tables.proofs.{Swapped.values-still, Worlds.still, keeps.CacheCalls.offer-whole, keeps.Comes.not-a-value, keeps.Comes.not-list, keeps.Placed.whole-so}
-use Rattle.pagable_tables.proofs.{keeps.Rows.found-among, Newer.later-so, Newer.offer-newer}
+use Rattle.pagable_tables.proofs.Words.{not, ◌≡◌, ◌+◌, ◌∙◌, false, None, Ok, Err, Some, inr, refl, ap, sym, subst, arith, IfSome, length, nat_tests, mode_of, OfferCall, with_known, Falls}
+use Rattle.pagable_tables.proofs.{Words.{only_handle, Tables, core_of, plain_of, Offered, load_at}, Begun.{open-then, not-closed}, Pins.found-again, Shedding.{stays-first, sheds-still}}
+use Rattle.pagable_tables.proofs.{Swapped.{begun-made, swapped, values-made, values-still}, Worlds.still, keeps.CacheCalls.offer-whole, keeps.Comes.{not-a-value, not-list}, keeps.Placed.whole-so}
+use Rattle.pagable_tables.proofs.{keeps.Rows.found-among, Newer.{later-so, offer-newer}}
 use Rattle.pagable_tables.proofs.swapping.offer.Goals as goal
 
 pub give_number-requires-clause-there : goal.give_number-requires-clause-there

@@ -1,5 +1,4 @@
-use Rattle.pagable_tables.proofs.Words.{nobody, with_mode, Mode, core_of}
-use Rattle.pagable_tables.proofs.{Unpinning.lowered-on, Shedding.stays-first}
+use Rattle.pagable_tables.proofs.{Words.{nobody, with_mode, Mode, core_of}, Unpinning.lowered-on, Shedding.stays-first}
 use Rattle.pagable_tables.proofs.unpins.let_go.Goals as goal
 
 pub returns-clause-falls : goal.returns-clause-falls

@@ -1,7 +1,6 @@
-use Rattle.pagable_tables.proofs.Words.{not, refl, None, arith, core_of, plain_of, gives_row, Giving}
+use Rattle.pagable_tables.proofs.{Words.{not, refl, None, arith, core_of, plain_of, gives_row, Giving}, Begun.{begun-whole, not-closed}, Dropped.passes-given, Newer.{newer-falls, later-so}}
+use Rattle.pagable_tables.proofs.{keeps.Fallen.may-fall, keeps.GoingOn.stays-on, keeps.Opened.falls-opened, keeps.Placed.whole-so, keeps.Told.roomy-whole}
 use Rattle.pagable_world.specs.Workers.{is_workers_at}
-use Rattle.pagable_tables.proofs.{Begun.begun-whole, Begun.not-closed, Dropped.passes-given, Newer.newer-falls, Newer.later-so, keeps.Fallen.may-fall, keeps.GoingOn.stays-on}
-use Rattle.pagable_tables.proofs.{keeps.Opened.falls-opened, keeps.Placed.whole-so, keeps.Told.roomy-whole}
 use Rattle.pagable_tables.proofs.workers.release_node.Goals as goal
 
 pub returns-clause-released : goal.returns-clause-released

@@ -1,5 +1,4 @@
-use Rattle.pagable_tables.proofs.{LeftWork.begun-core, LeftWork.takes-worker, Words.refl, Words.subst, Words.arith, Words.nat_tests, Words.core_of}
-use Rattle.pagable_tables.specs.Giving.{BeginsWorker}
+use Rattle.pagable_tables.{proofs.LeftWork.{begun-core, takes-worker}, proofs.Words.{refl, subst, arith, nat_tests, core_of}, specs.Giving.BeginsWorker}
 use Rattle.pagable_tables.proofs.workers.worker_take.Goals as goal
 
 pub take_pending-requires-clause-holder : goal.take_pending-requires-clause-holder

@@ -1,7 +1,5 @@
-use Rattle.pagable_loads.specs.Telling.{values_at}
-use Rattle.pagable_loads.proofs.Stepped.{told_map}
-use Rattle.pagable_walk.specs.Table.{shelf_of}
-use Rattle.pagable_walk.proofs.Closing.{ends-failed}
+use Rattle.pagable_loads.{specs.Telling.values_at, proofs.Stepped.told_map}
+use Rattle.pagable_walk.{specs.Table.shelf_of, proofs.Closing.ends-failed}
 use Rattle.pagable_walk.proofs.ending.end.Goals as goal
 
 pub returns-clause-step : goal.returns-clause-step

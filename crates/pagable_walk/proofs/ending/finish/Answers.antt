@@ -1,8 +1,6 @@
 use Rattle.std.proofs.Common.{ap, arith}
-use Rattle.pagable_loads.specs.Telling.{values_at}
-use Rattle.pagable_loads.proofs.Stepped.{told_map}
-use Rattle.pagable_walk.specs.{Due.rank, Tasks.todos}
-use Rattle.pagable_walk.proofs.Closing.{finish-stores, finish-fails}
+use Rattle.pagable_loads.{specs.Telling.values_at, proofs.Stepped.told_map}
+use Rattle.pagable_walk.{specs.Due.rank, specs.Tasks.todos, proofs.Closing.{finish-stores, finish-fails}}
 use Rattle.pagable_walk.proofs.ending.finish.Goals as goal
 
 pub stored-requires-clause-key : goal.stored-requires-clause-key

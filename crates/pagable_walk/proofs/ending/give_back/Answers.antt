@@ -1,6 +1,5 @@
-use Rattle.pagable_loads.specs.Telling.{values_at}
-use Rattle.pagable_loads.proofs.Stepped.{told_map}
-use Rattle.pagable_walk.proofs.{Closing.back-none, Closing.back-some, Telling.told-all}
+use Rattle.pagable_loads.{specs.Telling.values_at, proofs.Stepped.told_map}
+use Rattle.pagable_walk.proofs.{Closing.{back-none, back-some}, Telling.told-all}
 use Rattle.pagable_walk.proofs.ending.give_back.Goals as goal
 
 pub returns-in_default-clause-step : goal.returns-in_default-clause-step

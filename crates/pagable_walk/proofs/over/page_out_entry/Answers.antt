@@ -1,8 +1,6 @@
 use Rattle.std.proofs.Common.{refl, ap, ◌∙◌}
-use Rattle.pagable_loads.specs.{Telling.values_at, Working.as_caller}
-use Rattle.pagable_loads.proofs.Stepped.{told_map, told_then}
-use Rattle.pagable_walk.specs.{Table.shelf_of, Tasks.todos}
-use Rattle.pagable_walk.proofs.Pages.{entry-refused, entry-walked, is-caller}
+use Rattle.pagable_loads.{specs.Telling.values_at, specs.Working.as_caller, proofs.Stepped.{told_map, told_then}}
+use Rattle.pagable_walk.{specs.Table.shelf_of, specs.Tasks.todos, proofs.Pages.{entry-refused, entry-walked, is-caller}}
 use Rattle.pagable_walk.proofs.over.page_out_entry.Goals as goal
 
 pub returns-in-Err-clause-pages : goal.returns-in-Err-clause-pages

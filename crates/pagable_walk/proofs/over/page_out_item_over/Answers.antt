@@ -1,9 +1,6 @@
-use Rattle.std.proofs.Common.{refl, ap, ◌∙◌}
-use Rattle.std.specs.Arc.{arc_value}
-use Rattle.pagable_loads.specs.{Telling.values_at, Working.as_caller}
-use Rattle.pagable_loads.proofs.Stepped.{told_map, told_then}
-use Rattle.pagable_walk.specs.{Slots.written_of, Table.shelf_of, Tasks.todos}
-use Rattle.pagable_walk.proofs.{Pages.item-unstarted, Pages.item-unbegun, Pages.item-walked, Pages.is-caller, Telling.told-all}
+use Rattle.std.{proofs.Common.{refl, ap, ◌∙◌}, specs.Arc.arc_value}
+use Rattle.pagable_loads.{specs.Telling.values_at, specs.Working.as_caller, proofs.Stepped.{told_map, told_then}}
+use Rattle.pagable_walk.{specs.Slots.written_of, specs.Table.shelf_of, specs.Tasks.todos, proofs.Pages.{item-unstarted, item-unbegun, item-walked, is-caller}, proofs.Telling.told-all}
 use Rattle.pagable_walk.proofs.over.page_out_item_over.Goals as goal
 
 pub returns-in-Err-clause-over : goal.returns-in-Err-clause-over

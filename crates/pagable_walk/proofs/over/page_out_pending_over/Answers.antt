@@ -1,7 +1,6 @@
 use Rattle.std.proofs.Common.{◌≡◌, ◌+◌, ◌-◌, refl, ◌∙◌, arith}
-use Rattle.pagable_loads.specs.Telling.{values_at}
-use Rattle.pagable_loads.proofs.Stepped.{told_map, told_then}
-use Rattle.pagable_walk.proofs.{Pages.all-paged, Pages.ends-paged, Pages.more-paged, Pages.none-paged, Telling.tells-map, Telling.told-same}
+use Rattle.pagable_loads.{specs.Telling.values_at, proofs.Stepped.{told_map, told_then}}
+use Rattle.pagable_walk.proofs.{Pages.{all-paged, ends-paged, more-paged, none-paged}, Telling.{tells-map, told-same}}
 use Rattle.pagable_walk.proofs.over.page_out_pending_over.Goals as goal
 
 pub loop-left-init : goal.loop-left-init

@@ -1,5 +1,4 @@
-use Rattle.pagable_loads.specs.Telling.{values_at}
-use Rattle.pagable_loads.proofs.Stepped.{told_map, told_then}
+use Rattle.pagable_loads.{specs.Telling.values_at, proofs.Stepped.{told_map, told_then}}
 use Rattle.pagable_walk.proofs.Pages.{took-none, took-some}
 use Rattle.pagable_walk.proofs.over.skip_entry.Goals as goal
 

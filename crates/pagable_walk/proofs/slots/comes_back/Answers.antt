@@ -1,8 +1,7 @@
-use Rattle.std.proofs.{Common.rules, Common.◌≡◌, Common.Some, Common.None, Common.false, Common.nat_eq, Common.sym, Common.arith, lemmas.Bool.Decides.nat_tests}
+use Rattle.std.proofs.{Common.{rules, ◌≡◌, Some, None, false, nat_eq, sym, arith}, lemmas.Bool.Decides.nat_tests}
 use Rattle.indexmap.specs.IndexMap.{get}
 use Rattle.pagable_world.specs.Workers.{is-asker, works}
-use Rattle.pagable_walk.specs.Slots.{shelf_in, slots_in, open_worker}
-use Rattle.pagable_walk.proofs.Waits.{next-is, back-by, end-by, end-there, waits-at, waits-none, go-on}
+use Rattle.pagable_walk.{specs.Slots.{shelf_in, slots_in, open_worker}, proofs.Waits.{next-is, back-by, end-by, end-there, waits-at, waits-none, go-on}}
 use Rattle.pagable_walk.proofs.slots.comes_back.Goals as goal
 
 pub returns-then-worker-asker : goal.returns-then-worker-asker

@@ -1,9 +1,7 @@
-use Rattle.std.proofs.Common.{ℕ, ◌≡◌, None, nat_eq}
-use Rattle.std.specs.Prelude.{◌⊎◌}
+use Rattle.std.{proofs.Common.{ℕ, ◌≡◌, None, nat_eq}, specs.Prelude.◌⊎◌}
 use Rattle.indexmap.specs.IndexMap.{get, index_map_len}
 use Rattle.pagable_world.specs.Workers.{ComesBack, ComesToEnd}
-use Rattle.pagable_walk.specs.Slots.{shelf_in}
-use Rattle.pagable_walk.proofs.Waits.{Path}
+use Rattle.pagable_walk.{specs.Slots.shelf_in, proofs.Waits.Path}
 use Rattle.pagable_walk.proofs.slots.comes_back.Given as goal
 
 -- whoever isn't left is waited for no more, or leads to the worker that was come to; and what it leads to, the first one does

@@ -1,8 +1,6 @@
-use Rattle.std.proofs.{Common.◌∷◌, Common.◌<◌, Common.◌+◌, Common.◌*◌, Common.ap, Common.◌∙◌, Common.sym, Common.arith, lemmas.Bool.Decides.nat_tests}
-use Rattle.std.specs.Prelude.{length, None}
+use Rattle.std.{proofs.Common.{◌∷◌, ◌<◌, ◌+◌, ◌*◌, ap, ◌∙◌, sym, arith}, proofs.lemmas.Bool.Decides.nat_tests, specs.Prelude.{length, None}}
 use Rattle.pagable_world.specs.World.{to_fail}
-use Rattle.pagable_walk.specs.{Failing.back_of, Failing.fails, Tasks.fault_of}
-use Rattle.pagable_walk.proofs.Stacks.{todos-none, back-none}
+use Rattle.pagable_walk.{specs.Failing.{back_of, fails}, specs.Tasks.fault_of, proofs.Stacks.{todos-none, back-none}}
 use Rattle.pagable_walk.proofs.stack.fail.Goals as goal
 
 pub returns-then-is_empty-clause-todo : goal.returns-then-is_empty-clause-todo

@@ -1,8 +1,6 @@
-use Rattle.std.proofs.{Common.◌≡◌, Common.◌∷◌, Common.ap, Common.◌∙◌, Common.subst, Common.sym, lemmas.List.length-map}
-use Rattle.std.specs.{Arc.arc_value, Prelude.Some, Prelude.slice_get}
-use Rattle.pagable_world.specs.{Workers.give, Workers.settle, World.to_finish}
-use Rattle.pagable_walk.specs.{Found.keys_of, Slots.written_of, Tasks.AwaitsLow, Tasks.open_of, Tasks.todos, Tasks.waiting_todo}
-use Rattle.pagable_walk.proofs.Ways.{node-awaits, item-awaits}
+use Rattle.std.{proofs.Common.{◌≡◌, ◌∷◌, ap, ◌∙◌, subst, sym}, proofs.lemmas.List.length-map, specs.Arc.arc_value, specs.Prelude.{Some, slice_get}}
+use Rattle.pagable_world.specs.{Workers.{give, settle}, World.to_finish}
+use Rattle.pagable_walk.{specs.Found.keys_of, specs.Slots.written_of, specs.Tasks.{AwaitsLow, open_of, todos, waiting_todo}, proofs.Ways.{node-awaits, item-awaits}}
 use Rattle.pagable_walk.proofs.stack.give.Goals as goal
 
 pub with_result-node-requires : goal.with_result-node-requires

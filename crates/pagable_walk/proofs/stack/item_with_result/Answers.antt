@@ -1,8 +1,6 @@
-use Rattle.std.proofs.{Common.◌≡◌, Common.◌∷◌, Common.[], Common.length, Common.ap, Common.◌∙◌, Common.rules, Common.arith, lemmas.List.map-append, lemmas.Option.slice_get_within}
-use Rattle.std.specs.{Arc.arc_value, Prelude.vec_len}
+use Rattle.std.{proofs.Common.{◌≡◌, ◌∷◌, [], length, ap, ◌∙◌, rules, arith}, proofs.lemmas.List.map-append, proofs.lemmas.Option.slice_get_within, specs.Arc.arc_value, specs.Prelude.vec_len}
 use Rattle.pagable_world.specs.World.{to_item}
-use Rattle.pagable_walk.specs.{Found.keys_of, Slots.written_of}
-use Rattle.pagable_walk.proofs.Stacks.{ids-more}
+use Rattle.pagable_walk.{specs.Found.keys_of, specs.Slots.written_of, proofs.Stacks.ids-more}
 use Rattle.pagable_walk.proofs.stack.item_with_result.Goals as goal
 
 pub push_reserved-requires : goal.push_reserved-requires

@@ -1,8 +1,6 @@
-use Rattle.std.proofs.{Common.◌∷◌, Common.length, Common.rules, Common.ap, Common.◌∙◌, Common.arith, lemmas.List.length-map}
-use Rattle.std.specs.Arc.{arc_value}
+use Rattle.std.{proofs.Common.{◌∷◌, length, rules, ap, ◌∙◌, arith}, proofs.lemmas.List.length-map, specs.Arc.arc_value}
 use Rattle.pagable_world.specs.World.{to_finish, to_start}
-use Rattle.pagable_walk.specs.{Found.keys_of, Tasks.todos, Tasks.open_of}
-use Rattle.pagable_walk.proofs.Stacks.{todos-more, none-next, next-starts}
+use Rattle.pagable_walk.{specs.Found.keys_of, specs.Tasks.{todos, open_of}, proofs.Stacks.{todos-more, none-next, next-starts}}
 use Rattle.pagable_walk.specs.declared.tasks.Waiting.TheVariants as waitings
 use Rattle.pagable_walk.proofs.stack.settle_open.Goals as goal
 

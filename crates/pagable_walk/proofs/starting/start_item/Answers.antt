@@ -1,8 +1,6 @@
-use Rattle.std.proofs.Common.{◌≤◌, ◌∷◌, [], length, ap, subst, sym, ◌∙◌, arith}
-use Rattle.std.specs.Arc.{arc_value}
+use Rattle.std.{proofs.Common.{◌≤◌, ◌∷◌, [], length, ap, subst, sym, ◌∙◌, arith}, specs.Arc.arc_value}
 use Rattle.pagable_world.specs.Workers.{settle}
-use Rattle.pagable_walk.specs.{Slots.written_of, Tasks.IsWay, Tasks.item_todo}
-use Rattle.pagable_walk.proofs.{Stacks.todos-none, Ways.item-way}
+use Rattle.pagable_walk.{specs.Slots.written_of, specs.Tasks.{IsWay, item_todo}, proofs.Stacks.todos-none, proofs.Ways.item-way}
 use Rattle.pagable_walk.proofs.starting.start_item.Goals as goal
 
 pub returns-in-Ok-item-clause-todo : goal.returns-in-Ok-item-clause-todo

@@ -1,6 +1,5 @@
-use Rattle.std.proofs.{Common.sym, Common.◌∙◌, Common.arith, lemmas.List.length-map}
-use Rattle.pagable_walk.specs.{Table.shelf_of, Tasks.todos}
-use Rattle.pagable_walk.proofs.Telling.{told-same}
+use Rattle.std.proofs.{Common.{sym, ◌∙◌, arith}, lemmas.List.length-map}
+use Rattle.pagable_walk.{specs.Table.shelf_of, specs.Tasks.todos, proofs.Telling.told-same}
 use Rattle.pagable_walk.proofs.step.turn.Goals as goal
 
 pub start-requires : goal.start-requires

@@ -1,6 +1,5 @@
 use Rattle.std.proofs.Common.{Ok, ap, ◌∙◌, subst, sym}
-use Rattle.pagable_walk.specs.{Tasks.IsWay, Tasks.todos, Turns.ClaimFits}
-use Rattle.pagable_walk.proofs.Ways.{known-way}
+use Rattle.pagable_walk.{specs.Tasks.{IsWay, todos}, specs.Turns.ClaimFits, proofs.Ways.known-way}
 use Rattle.pagable_walk.proofs.turns.after_claim.Goals as goal
 
 pub returns-in-Ok-Known-clause-way : goal.returns-in-Ok-Known-clause-way

@@ -1,8 +1,6 @@
 use Rattle.std.proofs.Common.{refl, arith}
-use Rattle.pagable_loads.specs.Telling.{values_at}
-use Rattle.pagable_loads.proofs.Stepped.{told_map}
-use Rattle.pagable_walk.specs.Tasks.{todos}
-use Rattle.pagable_walk.proofs.Pinning.{load-goes, load-pins, load-fails, load-reads-none}
+use Rattle.pagable_loads.{specs.Telling.values_at, proofs.Stepped.told_map}
+use Rattle.pagable_walk.{specs.Tasks.todos, proofs.Pinning.{load-goes, load-pins, load-fails, load-reads-none}}
 use Rattle.pagable_walk.proofs.turns.load.Goals as goal
 
 pub returns-in-None-clause-step : goal.returns-in-None-clause-step

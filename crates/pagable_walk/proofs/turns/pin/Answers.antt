@@ -1,9 +1,7 @@
 use Rattle.std.proofs.Common.{ap, arith}
 use Rattle.pagable_world.specs.World.{Reading}
-use Rattle.pagable_loads.specs.{Ending.to_do, Telling.values_at}
-use Rattle.pagable_loads.proofs.Stepped.{told_map}
-use Rattle.pagable_walk.specs.Tasks.{todos}
-use Rattle.pagable_walk.proofs.Pinning.{pin-holds, pin-begins, pin-fails}
+use Rattle.pagable_loads.{specs.Ending.to_do, specs.Telling.values_at, proofs.Stepped.told_map}
+use Rattle.pagable_walk.{specs.Tasks.todos, proofs.Pinning.{pin-holds, pin-begins, pin-fails}}
 use Rattle.pagable_walk.proofs.turns.pin.Goals as goal
 
 pub returns-in-Held-clause-step : goal.returns-in-Held-clause-step

@@ -1,6 +1,5 @@
 use Rattle.pagable_loads.specs.Telling.{values_at}
-use Rattle.pagable_walk.specs.{Table.shelf_of, Tasks.todos}
-use Rattle.pagable_walk.proofs.{Telling.tells-map, Turning.start-turns}
+use Rattle.pagable_walk.{specs.Table.shelf_of, specs.Tasks.todos, proofs.Telling.tells-map, proofs.Turning.start-turns}
 use Rattle.pagable_walk.proofs.turns.start.Goals as goal
 
 pub returns-clause-step : goal.returns-clause-step

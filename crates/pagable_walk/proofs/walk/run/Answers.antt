@@ -1,8 +1,6 @@
 use Rattle.std.proofs.Common.{refl, ap, ◌∙◌}
-use Rattle.pagable_loads.specs.{Telling.values_at, Working.as_caller}
-use Rattle.pagable_loads.proofs.Stepped.{told_then}
-use Rattle.pagable_walk.specs.{Table.shelf_of, Tasks.todos, Turns.acting_then, Turns.plan}
-use Rattle.pagable_walk.proofs.{Joined.none-walked, Joined.goes-walked, Joined.ends-walked, Telling.told-all}
+use Rattle.pagable_loads.{specs.Telling.values_at, specs.Working.as_caller, proofs.Stepped.told_then}
+use Rattle.pagable_walk.{specs.Table.shelf_of, specs.Tasks.todos, specs.Turns.{acting_then, plan}, proofs.Joined.{none-walked, goes-walked, ends-walked}, proofs.Telling.told-all}
 use Rattle.pagable_walk.proofs.walk.run.Goals as goal
 
 pub loop-next-init : goal.loop-next-init

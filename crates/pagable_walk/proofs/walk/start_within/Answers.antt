@@ -1,8 +1,6 @@
-use Rattle.std.proofs.Common.{◌≡◌, ◌<◌, ◌^◌, length, refl, rules, arith}
-use Rattle.std.specs.Prelude.{vec_len}
+use Rattle.std.{proofs.Common.{◌≡◌, ◌<◌, ◌^◌, length, refl, rules, arith}, specs.Prelude.vec_len}
 use Rattle.pagable_loads.specs.Telling.{values_at}
-use Rattle.pagable_walk.specs.{Table.shelf_of, Tasks.todos}
-use Rattle.pagable_walk.proofs.{Dues.start-falls, Stacks.todos-length, Stepping.steps-to, Telling.told-all, Turning.start-refused}
+use Rattle.pagable_walk.{specs.Table.shelf_of, specs.Tasks.todos, proofs.Dues.start-falls, proofs.Stacks.todos-length, proofs.Stepping.steps-to, proofs.Telling.told-all, proofs.Turning.start-refused}
 use Rattle.pagable_walk.specs.declared.tasks.Task.TheVariants as tasks
 use Rattle.pagable_walk.proofs.walk.start_within.Goals as goal
 

@@ -1,5 +1,4 @@
-use Rattle.pagable_walk.specs.Tasks.{todos}
-use Rattle.pagable_walk.proofs.Dues.{other-falls}
+use Rattle.pagable_walk.{specs.Tasks.todos, proofs.Dues.other-falls}
 use Rattle.pagable_walk.proofs.walk.step_within.Goals as goal
 
 pub returns-in_default-clause-falls : goal.returns-in_default-clause-falls

@@ -1,5 +1,4 @@
-use Rattle.std.proofs.Common.{ap, ◌∙◌}
-use Rattle.std.specs.Arc.{arc_value}
+use Rattle.std.{proofs.Common.{ap, ◌∙◌}, specs.Arc.arc_value}
 use Rattle.pagable_loads.specs.Telling.{values_at}
 use Rattle.pagable_walk.proofs.{Forming.finds-other, Telling.tells-map}
 use Rattle.pagable_walk.proofs.writing.pinned.Goals as goal

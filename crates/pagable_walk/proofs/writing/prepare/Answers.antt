@@ -1,7 +1,6 @@
 use Rattle.std.specs.Arc.{arc_value}
 use Rattle.pagable_loads.specs.Telling.{values_at}
-use Rattle.pagable_walk.specs.Slots.{written_of}
-use Rattle.pagable_walk.proofs.{Forming.kept-forms, Telling.tells-map}
+use Rattle.pagable_walk.{specs.Slots.written_of, proofs.Forming.kept-forms, proofs.Telling.tells-map}
 use Rattle.pagable_walk.proofs.writing.prepare.Goals as goal
 
 pub returns-in-Ok-clause-step : goal.returns-in-Ok-clause-step

@@ -1,9 +1,8 @@
-use Rattle.std.proofs.Common.{◌≤◌, ◌+◌, ◌∷◌, None, length, ap, ◌∙◌, subst, sym, arith}
-use Rattle.std.specs.Arc.{arc_value}
-use Rattle.pagable_world.specs.{Plain.longest_path, Workers.settle, World.to_finish, World.was_refused}
+use Rattle.std.{proofs.Common.{◌≤◌, ◌+◌, ◌∷◌, None, length, ap, ◌∙◌, subst, sym, arith}, specs.Arc.arc_value}
+use Rattle.pagable_world.specs.{Plain.longest_path, Workers.settle, World.{to_finish, was_refused}}
 use Rattle.pagable_loads.specs.Telling.{values_at}
-use Rattle.pagable_walk.specs.{Failing.back_of, Failing.fails, Slots.written_of, Table.shelf_of, Tasks.IsWay, Tasks.todos, Writing.just_open}
-use Rattle.pagable_walk.proofs.{Forming.write-turns, Forming.write-fails, Pinning.same-shelf, Telling.tells-map, Ways.settle-way}
+use Rattle.pagable_walk.proofs.{Forming.{write-turns, write-fails}, Pinning.same-shelf, Telling.tells-map, Ways.settle-way}
+use Rattle.pagable_walk.specs.{Failing.{back_of, fails}, Slots.written_of, Table.shelf_of, Tasks.{IsWay, todos}, Writing.just_open}
 use Rattle.pagable_walk.proofs.writing.write.Goals as goal
 
 pub returns-in-Ok-clause-way : goal.returns-in-Ok-clause-way

@@ -1,7 +1,5 @@
-use Rattle.std.proofs.Common.{◌≡◌, true, false, Some, ap, sym, ◌∙◌}
-use Rattle.std.specs.{Arc.arc_value, Global.Global, Prelude.option_map, declared.sync.Arc.Arc}
-use Rattle.pagable_core.specs.{Blobs.stored_in, Data.blob_of, declared.storage.data.PagableData.PagableData}
-use Rattle.pagable_core.proofs.Adding.{is_found}
+use Rattle.std.{proofs.Common.{◌≡◌, true, false, Some, ap, sym, ◌∙◌}, specs.Arc.arc_value, specs.Global.Global, specs.Prelude.option_map, specs.declared.sync.Arc.Arc}
+use Rattle.pagable_core.{specs.Blobs.stored_in, specs.Data.blob_of, specs.declared.storage.data.PagableData.PagableData, proofs.Adding.is_found}
 use Rattle.pagable_core.proofs.storage.in_memory.found_under.Goals as goal
 
 pub returns-else-is_same : goal.returns-else-is_same

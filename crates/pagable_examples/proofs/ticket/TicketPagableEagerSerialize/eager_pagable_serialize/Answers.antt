@@ -1,7 +1,5 @@
-use Rattle.std.proofs.Common.{rules}
-use Rattle.std.specs.Int.{w16}
-use Rattle.pagable.specs.{Form.unsigned-form, Meaning.number, Shape.unsigned, Writing.nesting}
-use Rattle.pagable.proofs.Basics.{basic_written}
+use Rattle.std.{proofs.Common.rules, specs.Int.w16}
+use Rattle.pagable.{specs.Form.unsigned-form, specs.Meaning.number, specs.Shape.unsigned, specs.Writing.nesting, proofs.Basics.basic_written}
 use Rattle.pagable_examples.proofs.ticket.TicketPagableEagerSerialize.eager_pagable_serialize.Goals as goal
 
 pub returns-clause-ok : goal.returns-clause-ok

@@ -1,5 +1,4 @@
-use Rattle.pagable_loads.proofs.Words.{values_at, [], frame_of, onto}
-use Rattle.pagable_loads.proofs.{Stepped.told_map, Stepped.adopt_comes, Stepped.adopt_refused, Lowering.node_leads}
+use Rattle.pagable_loads.proofs.{Words.{values_at, [], frame_of, onto}, Stepped.{told_map, adopt_comes, adopt_refused}, Lowering.node_leads}
 use Rattle.pagable_loads.proofs.reading.Reading.step_adopt.Goals as goal
 
 pub returns-in-Ok-load_adopt-clause-step : goal.returns-in-Ok-load_adopt-clause-step

@@ -1,5 +1,4 @@
-use Rattle.pagable_loads.proofs.Words.{◌∙◌, sym, subst, IsAhead, values_at}
-use Rattle.pagable_loads.proofs.{Foreseen.row_goes_on, Stepped.told_then, Stepped.gives_up}
+use Rattle.pagable_loads.proofs.{Words.{◌∙◌, sym, subst, IsAhead, values_at}, Foreseen.row_goes_on, Stepped.{told_then, gives_up}}
 use Rattle.pagable_loads.proofs.reading.Reading.step_in_row.Goals as goal
 
 pub returns-in-Err-clause-step : goal.returns-in-Err-clause-step

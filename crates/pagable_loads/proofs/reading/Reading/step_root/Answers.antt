@@ -1,5 +1,4 @@
-use Rattle.pagable_loads.proofs.Words.{values_at, arc_value, blob_of, root_frame, refl}
-use Rattle.pagable_loads.proofs.{Stepped.told_map, Stepped.root_comes, Stepped.root_refused, Lowering.root_leads}
+use Rattle.pagable_loads.proofs.{Words.{values_at, arc_value, blob_of, root_frame, refl}, Stepped.{told_map, root_comes, root_refused}, Lowering.root_leads}
 use Rattle.pagable_loads.proofs.reading.Reading.step_root.Goals as goal
 
 pub returns-in-Ok-clause-step : goal.returns-in-Ok-clause-step

@@ -1,5 +1,4 @@
-use Rattle.pagable_loads.proofs.Words.{values_at, [], frame_of, onto}
-use Rattle.pagable_loads.proofs.{Stepped.told_map, Stepped.lazy_comes, Stepped.lazy_refused, Lowering.got_leads, Lowering.lazy_wants}
+use Rattle.pagable_loads.proofs.{Words.{values_at, [], frame_of, onto}, Stepped.{told_map, lazy_comes, lazy_refused}, Lowering.{got_leads, lazy_wants}}
 use Rattle.pagable_loads.proofs.reading.Reading.take_lazy.Goals as goal
 
 pub returns-in-Ok-load_lazy-clause-step : goal.returns-in-Ok-load_lazy-clause-step

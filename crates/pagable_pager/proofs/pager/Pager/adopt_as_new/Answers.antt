@@ -1,5 +1,4 @@
-use Rattle.pagable_pager.proofs.Words.{◌≡◌, None, Ok, Err, subst, sym, usable, plain_of, PagerView}
-use Rattle.pagable_pager.proofs.{Adopting.new-so, Adopting.new-moves, Adopting.new-call, Shed.told-open}
+use Rattle.pagable_pager.proofs.{Words.{◌≡◌, None, Ok, Err, subst, sym, usable, plain_of, PagerView}, Adopting.{new-so, new-moves, new-call}, Shed.told-open}
 use Rattle.pagable_pager.proofs.pager.Pager.adopt_as_new.Goals as goal
 
 pub invariant_of-self : goal.invariant_of-self

@@ -1,5 +1,4 @@
-use Rattle.pagable_pager.proofs.Words.{refl, load_fault, adopt_fault, core_of, eager-pins}
-use Rattle.pagable_pager.proofs.{Adopting.found-so, Shed.told-open, Shed.less, Shed.known-valued}
+use Rattle.pagable_pager.proofs.{Words.{refl, load_fault, adopt_fault, core_of, eager-pins}, Adopting.found-so, Shed.{told-open, less, known-valued}}
 use Rattle.pagable_pager.proofs.pager.Pager.adopt_known.Goals as goal
 
 pub adopt_if_known-requires-clause-valued : goal.adopt_if_known-requires-clause-valued

@@ -1,5 +1,4 @@
-use Rattle.pagable_pager.proofs.Words.{refl}
-use Rattle.pagable_pager.proofs.{Closed.shut-call, Closed.shut-pager, Shed.less}
+use Rattle.pagable_pager.proofs.{Words.refl, Closed.{shut-call, shut-pager}, Shed.less}
 use Rattle.pagable_pager.proofs.pager.Pager.close.Goals as goal
 
 pub invariant_of-self : goal.invariant_of-self

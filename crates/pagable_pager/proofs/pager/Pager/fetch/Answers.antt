@@ -1,6 +1,5 @@
-use Rattle.pagable_pager.proofs.Words.{arc_value, blob_of}
+use Rattle.pagable_pager.proofs.{Words.{arc_value, blob_of}, Spared.told, Stored.{asked, fetch-call, whole-told}}
 use Rattle.pagable_steps.proofs.SparedLists.{asked as spares-asked}
-use Rattle.pagable_pager.proofs.{Spared.told, Stored.asked, Stored.fetch-call, Stored.whole-told}
 use Rattle.pagable_pager.proofs.pager.Pager.fetch.Goals as goal
 
 pub invariant_of-self : goal.invariant_of-self

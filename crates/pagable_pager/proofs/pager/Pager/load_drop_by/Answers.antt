@@ -1,5 +1,4 @@
-use Rattle.pagable_pager.proofs.Words.{refl, dropped}
-use Rattle.pagable_pager.proofs.{Shed.shed, Shed.told-open, Shed.less, Shut.dropped-bare}
+use Rattle.pagable_pager.proofs.{Words.{refl, dropped}, Shed.{shed, told-open, less}, Shut.dropped-bare}
 use Rattle.pagable_pager.proofs.pager.Pager.load_drop_by.Goals as goal
 
 pub invariant_of-self : goal.invariant_of-self

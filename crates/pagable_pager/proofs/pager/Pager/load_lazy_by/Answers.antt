@@ -1,5 +1,4 @@
-use Rattle.pagable_pager.proofs.Words.{refl, lazily}
-use Rattle.pagable_pager.proofs.{Shed.whole-over, Shed.told-open, Shut.lazy-bare}
+use Rattle.pagable_pager.proofs.{Words.{refl, lazily}, Shed.{whole-over, told-open}, Shut.lazy-bare}
 use Rattle.pagable_pager.proofs.pager.Pager.load_lazy_by.Goals as goal
 
 pub invariant_of-self : goal.invariant_of-self

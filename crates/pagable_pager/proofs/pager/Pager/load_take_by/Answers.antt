@@ -1,5 +1,4 @@
-use Rattle.pagable_pager.proofs.Words.{refl, handed_over, telling}
-use Rattle.pagable_pager.proofs.{Shed.shed, Shed.told-open, Shed.less, Shut.handed-bare, Spared.owner-free}
+use Rattle.pagable_pager.proofs.{Words.{refl, handed_over, telling}, Shed.{shed, told-open, less}, Shut.handed-bare, Spared.owner-free}
 use Rattle.pagable_pager.proofs.pager.Pager.load_take_by.Goals as goal
 
 pub invariant_of-self : goal.invariant_of-self

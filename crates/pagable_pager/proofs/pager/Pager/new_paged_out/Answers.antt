@@ -1,5 +1,4 @@
-use Rattle.pagable_pager.proofs.Words.{refl, born-away}
-use Rattle.pagable_pager.proofs.{Births.away-bare, Shed.whole-over, Spared.caller-free}
+use Rattle.pagable_pager.proofs.{Words.{refl, born-away}, Births.away-bare, Shed.whole-over, Spared.caller-free}
 use Rattle.pagable_pager.proofs.pager.Pager.new_paged_out.Goals as goal
 
 pub invariant_of-self : goal.invariant_of-self

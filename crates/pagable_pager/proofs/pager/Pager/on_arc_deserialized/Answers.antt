@@ -1,5 +1,4 @@
-use Rattle.pagable_pager.proofs.Words.{refl, offered}
-use Rattle.pagable_pager.proofs.{Shed.shed, Shed.told-open, Shed.less, Shed.known-valued, Shut.offered-bare, Spared.caller-free}
+use Rattle.pagable_pager.proofs.{Words.{refl, offered}, Shed.{shed, told-open, less, known-valued}, Shut.offered-bare, Spared.caller-free}
 use Rattle.pagable_pager.proofs.pager.Pager.on_arc_deserialized.Goals as goal
 
 pub invariant_of-self : goal.invariant_of-self

@@ -1,5 +1,4 @@
-use Rattle.pagable_pager.proofs.Words.{refl, released, telling}
-use Rattle.pagable_pager.proofs.{Shed.shed, Shed.told-open, Shed.less, Shut.released-bare, Spared.owner-free, Spared.owner-plain, Spared.owner-unlisted}
+use Rattle.pagable_pager.proofs.{Words.{refl, released, telling}, Shed.{shed, told-open, less}, Shut.released-bare, Spared.{owner-free, owner-plain, owner-unlisted}}
 use Rattle.pagable_pager.proofs.pager.Pager.release_by.Goals as goal
 
 pub invariant_of-self : goal.invariant_of-self

@@ -1,5 +1,4 @@
-use Rattle.pagable_pager.proofs.Words.{refl, worker_released}
-use Rattle.pagable_pager.proofs.{Shed.shed, Shed.told-open, Shed.less, Shut.bare-fell}
+use Rattle.pagable_pager.proofs.{Words.{refl, worker_released}, Shed.{shed, told-open, less}, Shut.bare-fell}
 use Rattle.pagable_pager.proofs.pager.Pager.release_node.Goals as goal
 
 pub invariant_of-self : goal.invariant_of-self

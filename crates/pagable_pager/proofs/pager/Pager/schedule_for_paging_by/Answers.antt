@@ -1,5 +1,4 @@
-use Rattle.pagable_pager.proofs.Words.{refl, scheduled, telling}
-use Rattle.pagable_pager.proofs.{Shed.shed, Shed.told-open, Shed.less, Shut.scheduled-bare, Spared.owner-free, Spared.owner-holds}
+use Rattle.pagable_pager.proofs.{Words.{refl, scheduled, telling}, Shed.{shed, told-open, less}, Shut.scheduled-bare, Spared.{owner-free, owner-holds}}
 use Rattle.pagable_pager.proofs.pager.Pager.schedule_for_paging_by.Goals as goal
 
 pub invariant_of-self : goal.invariant_of-self

@@ -1,5 +1,4 @@
-use Rattle.pagable_pager.proofs.Words.{refl, key_set, telling}
-use Rattle.pagable_pager.proofs.{Shed.shed, Shed.told-open, Shed.less, Shut.key-set-bare, Spared.owner-free}
+use Rattle.pagable_pager.proofs.{Words.{refl, key_set, telling}, Shed.{shed, told-open, less}, Shut.key-set-bare, Spared.owner-free}
 use Rattle.pagable_pager.proofs.pager.Pager.set_data_key_by.Goals as goal
 
 pub invariant_of-self : goal.invariant_of-self

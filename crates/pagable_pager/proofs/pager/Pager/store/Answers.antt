@@ -1,5 +1,4 @@
-use Rattle.pagable_pager.proofs.Words.{blob_of, key_of, stores}
-use Rattle.pagable_pager.proofs.{Spared.told, Stored.store-call, Stored.whole-told}
+use Rattle.pagable_pager.proofs.{Words.{blob_of, key_of, stores}, Spared.told, Stored.{store-call, whole-told}}
 use Rattle.pagable_pager.proofs.pager.Pager.store.Goals as goal
 
 pub invariant_of-self : goal.invariant_of-self

@@ -1,5 +1,4 @@
-use Rattle.pagable_pager.proofs.Words.{refl, unpinned, telling}
-use Rattle.pagable_pager.proofs.{Shed.shed, Shed.told-open, Shed.less, Shut.unpinned-bare, Spared.owner-free, Spared.owner-plain}
+use Rattle.pagable_pager.proofs.{Words.{refl, unpinned, telling}, Shed.{shed, told-open, less}, Shut.unpinned-bare, Spared.{owner-free, owner-plain}}
 use Rattle.pagable_pager.proofs.pager.Pager.unpin_by.Goals as goal
 
 pub invariant_of-self : goal.invariant_of-self

@@ -1,5 +1,4 @@
-use Rattle.pagable_pager.proofs.Words.{refl, worker_ended}
-use Rattle.pagable_pager.proofs.{Shed.shed, Shed.told-open, Shed.less, Shut.bare-fell}
+use Rattle.pagable_pager.proofs.{Words.{refl, worker_ended}, Shed.{shed, told-open, less}, Shut.bare-fell}
 use Rattle.pagable_pager.proofs.pager.Pager.worker_end.Goals as goal
 
 pub invariant_of-self : goal.invariant_of-self

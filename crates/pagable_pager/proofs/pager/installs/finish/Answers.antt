@@ -1,5 +1,4 @@
-use Rattle.pagable_pager.proofs.Words.{sym, subst, ap, ◌∙◌, Some, None, false, core_of, IsReady, PutsIn}
-use Rattle.pagable_pager.proofs.Putting.{puts, drops, beside-there}
+use Rattle.pagable_pager.proofs.{Words.{sym, subst, ap, ◌∙◌, Some, None, false, core_of, IsReady, PutsIn}, Putting.{puts, drops, beside-there}}
 use Rattle.pagable_pager.proofs.pager.installs.finish.Goals as goal
 
 pub end_beside-requires-clause-ready : goal.end_beside-requires-clause-ready

@@ -1,6 +1,4 @@
-use Rattle.std.proofs.Common.{◌≡◌, ◌∙◌, List, length, map, ap, arith, subst, rules}
-use Rattle.std.proofs.{lemmas.List.length-map, lemmas.List.Sorted.length_permutation}
-use Rattle.std.specs.List.Sorted.{IsStable}
+use Rattle.std.{proofs.Common.{◌≡◌, ◌∙◌, List, length, map, ap, arith, subst, rules}, proofs.lemmas.List.length-map, proofs.lemmas.List.Sorted.length_permutation, specs.List.Sorted.IsStable}
 use Rattle.pagable_registries.proofs.static_value.StaticValueRegistry.from_entries.Goals as goal
 
 pub returns-clause-stable : goal.returns-clause-stable

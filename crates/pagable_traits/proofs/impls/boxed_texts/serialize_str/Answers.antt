@@ -1,6 +1,5 @@
-use Rattle.pagable_traits.proofs.Words.{refl}
+use Rattle.pagable_traits.proofs.{Words.refl, Basics.wrote_on, Joined.writes_str}
 use Rattle.pagable_codec.proofs.Writing.{refused_text, only_long}
-use Rattle.pagable_traits.proofs.{Basics.wrote_on, Joined.writes_str}
 use Rattle.pagable_model.specs.Meaning as meanings
 use Rattle.pagable_traits.proofs.impls.boxed_texts.serialize_str.Goals as goal
 

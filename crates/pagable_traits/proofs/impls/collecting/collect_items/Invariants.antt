@@ -1,5 +1,4 @@
-use Rattle.pagable_traits.proofs.Words.{◌≡◌, ◌-◌, List, ArcRef, Meaning, items, read, handles_at, MovesOn, Collected}
-use Rattle.pagable_traits.proofs.Items.{with_front}
+use Rattle.pagable_traits.proofs.{Words.{◌≡◌, ◌-◌, List, ArcRef, Meaning, items, read, handles_at, MovesOn, Collected}, Items.with_front}
 use Rattle.pagable_traits.proofs.impls.collecting.collect_items.Given as goal
 
 abbrev pub invariant-loop-index : goal.invariant-loop-index

@@ -1,5 +1,4 @@
-use Rattle.pagable_traits.proofs.Words.{err_from_is_err_and, memory_or, read, handles_at}
-use Rattle.pagable_traits.proofs.{Collecting.uncounted, Collecting.gives_counted, InTurn.then-tells}
+use Rattle.pagable_traits.proofs.{Words.{err_from_is_err_and, memory_or, read, handles_at}, Collecting.{uncounted, gives_counted}, InTurn.then-tells}
 use Rattle.pagable_traits.proofs.impls.collecting.read_collected.Goals as goal
 
 pub returns-in_err-count : goal.returns-in_err-count

@@ -1,8 +1,7 @@
-use Rattle.pagable_traits.proofs.Words.{◌≡◌, ◌<◌, refl, rules, ◌∙◌, arith, inl, insert_entry, MeansPair, mean-none, variant, sequence, flag_case, number_case, text_case, array_case, object_case}
-use Rattle.pagable_traits.proofs.JsonSteps.{read-err, read-no-memory, read-then, read-below, read-deep, none-so-far, one-more, refused-so-far, all-read, seen-same}
-use Rattle.pagable_traits.proofs.JsonRead.{case-unread, case-unknown, null-read, case-then, array-unread, array-deep, array-seen, is-array, object-unread, object-deep, object-read, key-refused}
-use Rattle.pagable_traits.proofs.{Collecting.collected_none, Collecting.collected_more, Items.mean_last}
-use Rattle.pagable_traits.proofs.{JsonRead.value-refused, JsonRead.member-read, Words.Is, Words.string_cmp, Words.moves_trans, Words.of_value, Words.of_key}
+use Rattle.pagable_traits.proofs.Words.{◌≡◌, ◌<◌, refl, rules, ◌∙◌, arith, inl, insert_entry, MeansPair, mean-none, variant, sequence, flag_case, number_case, text_case, array_case, object_case, Is}
+use Rattle.pagable_traits.proofs.{Words.{string_cmp, moves_trans, of_value, of_key}, JsonSteps.{read-err, read-no-memory, read-then, read-below, read-deep, none-so-far, one-more, refused-so-far}}
+use Rattle.pagable_traits.proofs.{JsonSteps.{all-read, seen-same}, JsonRead.{case-unread, case-unknown, null-read, case-then, array-unread, array-deep, array-seen, is-array, object-unread}}
+use Rattle.pagable_traits.proofs.{JsonRead.{object-deep, object-read, key-refused, value-refused, member-read}, Collecting.{collected_none, collected_more}, Items.mean_last}
 use Rattle.pagable_codec.proofs.Reading.{moves_refl}
 use Rattle.serde_json.specs.declared.value.Value as values
 use Rattle.pagable_traits.proofs.impls.json_reading.+reading_json.Goals as goal

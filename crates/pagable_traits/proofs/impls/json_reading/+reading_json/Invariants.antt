@@ -1,5 +1,4 @@
-use Rattle.pagable_traits.proofs.Words.{◌≡◌, ◌+◌, ◌-◌, ◌*◌, insert_entry, string_cmp, Collected, MeanAll, MeansPair, deepest, read, both, json, text, Is, of_key, of_value}
-use Rattle.pagable_traits.proofs.JsonSteps.{SoFar}
+use Rattle.pagable_traits.proofs.{Words.{◌≡◌, ◌+◌, ◌-◌, ◌*◌, insert_entry, string_cmp, Collected, MeanAll, MeansPair, deepest, read, both, json, text, Is, of_key, of_value}, JsonSteps.SoFar}
 use Rattle.pagable_traits.proofs.impls.json_reading.+reading_json.Given as goal
 
 abbrev pub decreases-read_value : goal.decreases-read_value

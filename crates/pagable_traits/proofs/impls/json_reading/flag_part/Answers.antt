@@ -1,5 +1,4 @@
-use Rattle.pagable_traits.proofs.Words.{variant}
-use Rattle.pagable_traits.proofs.{JsonSteps.read-as, JsonSteps.read-err, JsonSteps.through, JsonRead.is-flag, JsonRead.flag-seen}
+use Rattle.pagable_traits.proofs.{Words.variant, JsonSteps.{read-as, read-err, through}, JsonRead.{is-flag, flag-seen}}
 use Rattle.serde_json.specs.declared.value.Value as values
 use Rattle.pagable_traits.proofs.impls.json_reading.flag_part.Goals as goal
 

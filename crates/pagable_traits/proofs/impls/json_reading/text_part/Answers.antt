@@ -1,5 +1,4 @@
-use Rattle.pagable_traits.proofs.Words.{variant}
-use Rattle.pagable_traits.proofs.{JsonSteps.read-as, JsonSteps.read-err, JsonSteps.through, JsonRead.is-text, JsonRead.text-seen}
+use Rattle.pagable_traits.proofs.{Words.variant, JsonSteps.{read-as, read-err, through}, JsonRead.{is-text, text-seen}}
 use Rattle.serde_json.specs.declared.value.Value as values
 use Rattle.pagable_traits.proofs.impls.json_reading.text_part.Goals as goal
 

@@ -1,9 +1,8 @@
-use Rattle.pagable_traits.proofs.Words.{◌≡◌, length, refl, sym, rules, ◌∙◌, Result, Ok, Err, Error, memory, long_or, MeansPair, both, json, text, Is, of_key, of_value}
-use Rattle.pagable_traits.proofs.Maps.{writes_entry, written-fewer, written-none, written-more, written-all, written-refused}
-use Rattle.pagable_traits.proofs.JsonSteps.{as-form, wrote-then, wrote-err, wrote-nothing, wrote-more, wrote-is, wrote-then-err, wrote-below, wrote-deep}
-use Rattle.pagable_traits.proofs.JsonWritten.{null-value, as-value, seen-flag, seen-number, seen-text, seen-array, seen-object, value-has, member-has, array-joins, array-lacks, array-long}
-use Rattle.pagable_traits.proofs.JsonWritten.{array-deep, object-joins, object-lacks, object-long, object-deep, json-text, json-long, json-deep}
-use Rattle.pagable_traits.proofs.{Items.writes_no_items, Items.writes_item, Items.refuses_item, Parts.refuses_first, Parts.refuses_second}
+use Rattle.pagable_traits.proofs.{Words.{◌≡◌, length, refl, sym, rules, ◌∙◌, Result, Ok, Err, Error, memory, long_or, MeansPair, both, json, text, Is, of_key, of_value}, Maps.writes_entry}
+use Rattle.pagable_traits.proofs.{Maps.{written-fewer, written-none, written-more, written-all, written-refused}, JsonSteps.{as-form, wrote-then, wrote-err, wrote-nothing, wrote-more, wrote-is}}
+use Rattle.pagable_traits.proofs.{JsonSteps.{wrote-then-err, wrote-below, wrote-deep}, JsonWritten.{null-value, as-value, seen-flag, seen-number, seen-text, seen-array, seen-object, value-has}}
+use Rattle.pagable_traits.proofs.JsonWritten.{member-has, array-joins, array-lacks, array-long, array-deep, object-joins, object-lacks, object-long, object-deep, json-text, json-long, json-deep}
+use Rattle.pagable_traits.proofs.{Items.{writes_no_items, writes_item, refuses_item}, Parts.{refuses_first, refuses_second}}
 use Rattle.pagable_traits.proofs.impls.json_writing.+writing_json.Goals as goal
 
 pub write_value-returns-in-Null : goal.write_value-returns-in-Null

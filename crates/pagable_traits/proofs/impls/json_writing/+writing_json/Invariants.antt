@@ -1,5 +1,4 @@
-use Rattle.pagable_traits.proofs.Words.{take, Result, Ok, Error, json_causes, MeanAll, json, Is, of_value, Wrote, all}
-use Rattle.pagable_traits.proofs.JsonWritten.{members-so-far}
+use Rattle.pagable_traits.proofs.{Words.{take, Result, Ok, Error, json_causes, MeanAll, json, Is, of_value, Wrote, all}, JsonWritten.members-so-far}
 use Rattle.pagable_traits.proofs.impls.json_writing.+writing_json.Given as goal
 
 abbrev pub invariant-write_items-loop-item : goal.invariant-write_items-loop-item

@@ -1,6 +1,5 @@
-use Rattle.pagable_traits.proofs.Words.{memory, flag, Is}
+use Rattle.pagable_traits.proofs.{Words.{memory, flag, Is}, JsonSteps.as-form, JsonWritten.{bytes-err, flag-wrote}}
 use Rattle.pagable_model.specs.Meaning.{flag as flag_meaning}
-use Rattle.pagable_traits.proofs.{JsonSteps.as-form, JsonWritten.bytes-err, JsonWritten.flag-wrote}
 use Rattle.pagable_traits.proofs.impls.json_writing.write_flag.Goals as goal
 
 pub returns-in_err-write_case : goal.returns-in_err-write_case

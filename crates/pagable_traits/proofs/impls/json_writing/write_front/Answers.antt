@@ -1,5 +1,4 @@
-use Rattle.pagable_traits.proofs.Words.{inr}
-use Rattle.pagable_traits.proofs.{JsonSteps.wrote-err, JsonWritten.count-wrote}
+use Rattle.pagable_traits.proofs.{Words.inr, JsonSteps.wrote-err, JsonWritten.count-wrote}
 use Rattle.pagable_traits.proofs.impls.json_writing.write_front.Goals as goal
 
 pub returns-in_err-write_case : goal.returns-in_err-write_case

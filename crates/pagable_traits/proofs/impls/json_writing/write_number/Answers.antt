@@ -1,6 +1,5 @@
 use Rattle.pagable_traits.proofs.Words.{◌≡◌, Some, None, Result, Ok, Err, rules, refl, inl, inr, [], ◌∷◌, w64, to_z-of_z, Option, ℤ, as_i64, number_view, Error, memory, integer, signed, Is}
-use Rattle.pagable_traits.proofs.Words.{grows_refl}
-use Rattle.pagable_traits.proofs.{JsonSteps.as-bytes, JsonSteps.as-form, JsonWritten.bytes-err, JsonWritten.two-bytes, JsonWritten.number-wrote, JsonWritten.refuses-number}
+use Rattle.pagable_traits.proofs.{Words.grows_refl, JsonSteps.{as-bytes, as-form}, JsonWritten.{bytes-err, two-bytes, number-wrote, refuses-number}}
 use Rattle.pagable_model.specs.declared.error.Error.TheVariants as errors
 use Rattle.pagable_traits.proofs.impls.json_writing.write_number.Goals as goal
 

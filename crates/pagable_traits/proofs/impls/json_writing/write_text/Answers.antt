@@ -1,5 +1,4 @@
-use Rattle.pagable_traits.proofs.Words.{memory, long_or, text, Is, of_key}
-use Rattle.pagable_traits.proofs.{JsonSteps.as-form, JsonWritten.bytes-err, JsonWritten.text-wrote}
+use Rattle.pagable_traits.proofs.{Words.{memory, long_or, text, Is, of_key}, JsonSteps.as-form, JsonWritten.{bytes-err, text-wrote}}
 use Rattle.pagable_traits.proofs.impls.json_writing.write_text.Goals as goal
 
 pub returns-in_err-write_case : goal.returns-in_err-write_case

@@ -1,5 +1,4 @@
-use Rattle.pagable_traits.proofs.Words.{length, refl}
-use Rattle.pagable_traits.proofs.{Walks.shows_slice, Walks.wraps_list, InTurn.owed-counted}
+use Rattle.pagable_traits.proofs.{Words.{length, refl}, Walks.{shows_slice, wraps_list}, InTurn.owed-counted}
 use Rattle.pagable_traits.proofs.impls.lists.serialize_slice.Goals as goal
 
 pub returns : goal.returns

@@ -1,5 +1,4 @@
-use Rattle.pagable_traits.proofs.Words.{inl, err_from_is_err_and}
-use Rattle.pagable_traits.proofs.{Parts.only-count, InTurn.each-after}
+use Rattle.pagable_traits.proofs.{Words.{inl, err_from_is_err_and}, Parts.only-count, InTurn.each-after}
 use Rattle.pagable_traits.proofs.impls.walks.write_counted.Goals as goal
 
 pub returns-in_err-write_count : goal.returns-in_err-write_count

@@ -1,6 +1,5 @@
 use Rattle.pagable_loads.specs.Telling.{values_at}
-use Rattle.pagable_walk.specs.Slots.{written_of}
-use Rattle.pagable_walk.proofs.Below.{node-stands}
+use Rattle.pagable_walk.{specs.Slots.written_of, proofs.Below.node-stands}
 use Rattle.pagable_walk.proofs.results.SlotResult.of_node.Goals as goal
 
 pub invariant_of-result : goal.invariant_of-result

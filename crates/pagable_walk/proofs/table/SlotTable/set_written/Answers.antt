@@ -1,7 +1,5 @@
-use Rattle.std.proofs.Common.{refl}
-use Rattle.std.specs.Arc.{arc_value}
-use Rattle.pagable_walk.specs.{Slots.shelf_in, Slots.slots_in, Slots.with_written, Slots.written_of, Table.shelf_of}
-use Rattle.pagable_walk.proofs.{Ends.less-open, Ends.changed-less, Held.from-own}
+use Rattle.std.{proofs.Common.refl, specs.Arc.arc_value}
+use Rattle.pagable_walk.{specs.Slots.{shelf_in, slots_in, with_written, written_of}, specs.Table.shelf_of, proofs.Ends.{less-open, changed-less}, proofs.Held.from-own}
 use Rattle.pagable_walk.proofs.table.SlotTable.set_written.Goals as goal
 
 pub invariant_of-self : goal.invariant_of-self

@@ -1,6 +1,5 @@
 use Rattle.std.proofs.Common.{None, refl}
-use Rattle.pagable_walk.specs.{Slots.shelf_in, Table.shelf_of}
-use Rattle.pagable_walk.proofs.{Ends.stopped, Held.wait-is}
+use Rattle.pagable_walk.{specs.Slots.shelf_in, specs.Table.shelf_of, proofs.Ends.stopped, proofs.Held.wait-is}
 use Rattle.pagable_walk.proofs.table.SlotTable.stop_waiting.Goals as goal
 
 pub invariant_of-self : goal.invariant_of-self

@@ -1,5 +1,4 @@
-use Rattle.std.proofs.{Common.◌≡◌, Common.◌++◌, Common.List, Common.ℕ, Common.[], Common.length, Common.take, Common.ap, Common.sym, Common.◌∙◌, lemmas.List.take_all}
-use Rattle.std.specs.{Int.w64, Int.w128, Int.to_le_bytes, List.flat_map}
+use Rattle.std.{proofs.Common.{◌≡◌, ◌++◌, List, ℕ, [], length, take, ap, sym, ◌∙◌}, proofs.lemmas.List.take_all, specs.Int.{w64, w128, to_le_bytes}, specs.List.flat_map}
 use Rattle.pagable_model.specs.Blob.{number_of_hash}
 use Rattle.pagable_core.proofs.Weighing.{holds_as, begins, continues, preimage_is}
 use Rattle.pagable_core.proofs.storage.data.PagableData.compute_key.Goals as goal

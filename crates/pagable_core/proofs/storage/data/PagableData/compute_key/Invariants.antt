@@ -1,5 +1,4 @@
-use Rattle.std.proofs.Common.{◌++◌, length, take}
-use Rattle.std.specs.{Int.w64, Int.w128, Int.to_le_bytes, List.flat_map}
+use Rattle.std.{proofs.Common.{◌++◌, length, take}, specs.Int.{w64, w128, to_le_bytes}, specs.List.flat_map}
 use Rattle.pagable_core.proofs.storage.data.PagableData.compute_key.Given as goal
 
 -- the hash has the count, the bytes and the keys so far

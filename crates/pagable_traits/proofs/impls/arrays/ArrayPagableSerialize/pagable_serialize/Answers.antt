@@ -1,5 +1,4 @@
-use Rattle.pagable_traits.proofs.Words.{nesting}
-use Rattle.pagable_traits.proofs.{Joined.writes_array, Joined.refused_array, InTurn.owed}
+use Rattle.pagable_traits.proofs.{Words.nesting, Joined.{writes_array, refused_array}, InTurn.owed}
 use Rattle.pagable_traits.proofs.impls.arrays.ArrayPagableSerialize.pagable_serialize.Goals as goal
 
 pub returns : goal.returns

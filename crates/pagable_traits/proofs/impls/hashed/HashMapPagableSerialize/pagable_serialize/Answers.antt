@@ -1,5 +1,4 @@
-use Rattle.pagable_traits.proofs.Words.{pair_has_meaning}
-use Rattle.pagable_traits.proofs.{Walks.shows_entries, Placed.key-same, Hashed.wraps_hash_map, InTurn.owed-counted}
+use Rattle.pagable_traits.proofs.{Words.pair_has_meaning, Walks.shows_entries, Placed.key-same, Hashed.wraps_hash_map, InTurn.owed-counted}
 use Rattle.pagable_traits.proofs.impls.hashed.HashMapPagableSerialize.pagable_serialize.Goals as goal
 
 pub returns : goal.returns

@@ -1,5 +1,4 @@
-use Rattle.pagable_traits.proofs.Words.{pair_has_meaning}
-use Rattle.pagable_traits.proofs.{Walks.shows_entries, Maps.key-order, Maps.wraps_sorted_map, InTurn.owed-counted}
+use Rattle.pagable_traits.proofs.{Words.pair_has_meaning, Walks.shows_entries, Maps.{key-order, wraps_sorted_map}, InTurn.owed-counted}
 use Rattle.pagable_traits.proofs.impls.maps.BTreeMapPagableSerialize.pagable_serialize.Goals as goal
 
 pub returns : goal.returns

@@ -1,5 +1,4 @@
-use Rattle.pagable_traits.proofs.Words.{pair_has_meaning}
-use Rattle.pagable_traits.proofs.{Walks.shows_entries, Placed.key-same, Placed.wraps_placed_map, InTurn.owed-counted}
+use Rattle.pagable_traits.proofs.{Words.pair_has_meaning, Walks.shows_entries, Placed.{key-same, wraps_placed_map}, InTurn.owed-counted}
 use Rattle.pagable_traits.proofs.impls.placed.IndexMapPagableSerialize.pagable_serialize.Goals as goal
 
 pub returns : goal.returns

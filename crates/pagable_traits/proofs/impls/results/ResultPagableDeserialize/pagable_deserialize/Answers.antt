@@ -1,5 +1,4 @@
-use Rattle.pagable_traits.proofs.Words.{either}
-use Rattle.pagable_traits.proofs.{Joined.outcome_refused, Joined.success_refused, Joined.failure_refused, Joined.gave_success, Joined.gave_failure, InTurn.then-tells, InTurn.unread}
+use Rattle.pagable_traits.proofs.{Words.either, Joined.{outcome_refused, success_refused, failure_refused, gave_success, gave_failure}, InTurn.{then-tells, unread}}
 use Rattle.pagable_traits.proofs.impls.results.ResultPagableDeserialize.pagable_deserialize.Goals as goal
 
 pub returns-in_err-good : goal.returns-in_err-good

@@ -1,5 +1,4 @@
-use Rattle.pagable_traits.proofs.Words.{refused_memory}
-use Rattle.pagable_traits.proofs.{Basics.wrote_on, Times.writes_span}
+use Rattle.pagable_traits.proofs.{Words.refused_memory, Basics.wrote_on, Times.writes_span}
 use Rattle.pagable_traits.proofs.impls.times.DurationPagableSerialize.pagable_serialize.Goals as goal
 
 pub returns : goal.returns
