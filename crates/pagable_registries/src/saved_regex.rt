@@ -1,22 +1,15 @@
 //! Regular expressions beside their texts.
 
 ghost use Rattle.std.specs.Prelude.{◌≡◌, ◌≢◌, refl, ℕ, List, IfOk, IfErr, OnOk};
-ghost use Rattle.std.specs.String.{string_bytes};
-ghost use Rattle.std.specs.Str.{bytes_eq};
+ghost use Rattle.std.specs.{String.string_bytes, Str.bytes_eq, Cmp.Rules.comparing, Cmp.Rules.hashing};
 ghost use Rattle.std.proofs.Common.{rules};
-ghost use Rattle.std.specs.Cmp.Rules.{comparing, hashing};
-ghost use Rattle.std.specs.Hash as fed;
-ghost use Rattle.pagable_model.specs.Gives.{memory, long_or};
-ghost use Rattle.pagable_model.specs.Causes.{text_may_refuse_writing};
-ghost use Rattle.pagable_model.specs.Meaning.{pattern};
-ghost use Rattle.pagable_model.specs.Patterns.{pattern_is_same, pattern_refers_to_nothing, pattern_has_one_form};
-ghost use Rattle.pagable_model.specs.Reading.{read};
-ghost use Rattle.pagable_model.specs.Shape as shapes;
-ghost use Rattle.pagable_model.specs.Standing.{handles_at, Is, MovesOn, GivesSome};
-ghost use Rattle.pagable_model.specs.Writing.{nesting, WritesSome, Refused, Grows};
+ghost use Rattle.pagable_model.specs.{Gives.memory, Gives.long_or, Causes.text_may_refuse_writing, Meaning.pattern, Patterns.pattern_is_same, Patterns.pattern_refers_to_nothing};
+ghost use Rattle.pagable_model.specs.{Patterns.pattern_has_one_form, Reading.read, Standing.handles_at, Standing.Is, Standing.MovesOn, Standing.GivesSome, Writing.nesting, Writing.WritesSome};
+ghost use Rattle.pagable_model.specs.{Writing.Refused, Writing.Grows, declared.error.Error.TheVariants.RegexRefused};
 ghost use Rattle.pagable_traits.specs.ReadBack.{pattern_is_read};
 ghost use Rattle.pagable_registries.specs.Building.{IsBuiltFrom, IsRefusedPattern, refusal_of, pattern_causes, pattern_causes_are_own, ReadsNoPattern};
-ghost use Rattle.pagable_model.specs.declared.error.Error.TheVariants.{RegexRefused};
+ghost use Rattle.std.specs.Hash as fed;
+ghost use Rattle.pagable_model.specs.Shape as shapes;
 
 use pagable_codec::{Env, PagableDeserializer, PagableSerializer, Reader};
 use pagable_flavors::Error;
