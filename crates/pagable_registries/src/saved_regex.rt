@@ -1,9 +1,9 @@
 //! Regular expressions beside their texts.
 
-ghost use Rattle.std.specs.{Cmp.Rules.comparing, Cmp.Rules.hashing, Prelude.◌≡◌, Prelude.◌≢◌, Prelude.refl, Prelude.ℕ, Prelude.List, Prelude.IfOk, Prelude.IfErr, Prelude.OnOk, Str.bytes_eq};
-ghost use Rattle.std.specs.{String.string_bytes};
+ghost use Rattle.std.specs.Prelude.{◌≡◌, ◌≢◌, refl, ℕ, List, IfOk, IfErr, OnOk};
+ghost use Rattle.std.specs.{String.string_bytes, Str.bytes_eq, Cmp.Rules.comparing, Cmp.Rules.hashing};
 ghost use Rattle.std.proofs.Common.{rules};
-ghost use Rattle.pagable_model.specs.{Causes.text_may_refuse_writing, Gives.memory, Gives.long_or, Meaning.pattern, Patterns.pattern_is_same, Patterns.pattern_refers_to_nothing};
+ghost use Rattle.pagable_model.specs.{Gives.memory, Gives.long_or, Causes.text_may_refuse_writing, Meaning.pattern, Patterns.pattern_is_same, Patterns.pattern_refers_to_nothing};
 ghost use Rattle.pagable_model.specs.{Patterns.pattern_has_one_form, Reading.read, Standing.handles_at, Standing.Is, Standing.MovesOn, Standing.GivesSome, Writing.nesting, Writing.WritesSome};
 ghost use Rattle.pagable_model.specs.{Writing.Refused, Writing.Grows, declared.error.Error.TheVariants.RegexRefused};
 ghost use Rattle.pagable_traits.specs.ReadBack.{pattern_is_read};

@@ -2,18 +2,15 @@
 //! reference to what is static, as `&'static str`: nothing is proved yet of a `&'static T` with a type parameter `T`.
 
 ghost use Rattle.std.specs.Prelude.{◌≡◌, ◌<◌, ◌≤◌, ◌↔◌, ⊤, refl, List, length, map, Option, Some, Err, OnOk, IfOk, IfErr, IfSome, IfNone, IsTrue, vec_len};
-ghost use Rattle.std.specs.{Cmp.Rules.comparing, Cmp.Rules.hashing, List.slice_get, List.Sorted.IsPermutation, List.Sorted.IsSorted, List.Sorted.IsStable};
+ghost use Rattle.std.specs.{List.slice_get, List.Sorted.IsPermutation, List.Sorted.IsSorted, List.Sorted.IsStable, Cmp.Rules.comparing, Cmp.Rules.hashing};
 ghost use Rattle.std.proofs.Common.{rules};
 ghost use Rattle.pagable_model.specs.Statics.{HasEqual, NoEqualBelow, StandsAt, meanings_of, unregistered, unregistered_may_refuse_writing};
-ghost use Rattle.pagable_model.specs.{Basic.longest, Canonical.HasNoReference, Causes.never_is_own_reading, Causes.memory_or_may_refuse_writing, Gives.Gives, Gives.never, Gives.memory_or};
-ghost use Rattle.pagable_model.specs.{Lengths.long_or_memory, Meaning.Meaning, Meaning.lifted, Reading.read, Reading.registered, Shape.static_value, Standing.handles_at, Standing.GivesSome};
-ghost use Rattle.pagable_model.specs.{Standing.Is, Standing.MovesOn, Writing.nesting, Writing.WritesSome, Writing.Refused, Writing.Grows};
+ghost use Rattle.pagable_model.specs.{Basic.longest, Canonical.HasNoReference, Gives.Gives, Gives.never, Gives.memory_or, Meaning.Meaning, Meaning.lifted, Reading.read, Reading.registered};
+ghost use Rattle.pagable_model.specs.{Shape.static_value, Standing.handles_at, Standing.GivesSome, Standing.Is, Standing.MovesOn, Writing.nesting, Writing.WritesSome, Writing.Refused};
+ghost use Rattle.pagable_model.specs.{Writing.Grows, Lengths.long_or_memory, Causes.never_is_own_reading, Causes.memory_or_may_refuse_writing};
 ghost use Rattle.pagable_registries.specs.StaticValues.{static_is_read, static_is_same, static_refers_to_nothing};
 
-use pagable_codec::deserializer::PagableDeserializer;
-use pagable_codec::env::Env;
-use pagable_codec::reader::Reader;
-use pagable_codec::serializer::PagableSerializer;
+use pagable_codec::{Env, PagableDeserializer, PagableSerializer, Reader};
 use pagable_flavors::Error;
 use pagable_traits::keys::PagableKey;
 use pagable_traits::read_back::ReadBack;

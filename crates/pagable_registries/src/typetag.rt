@@ -3,18 +3,14 @@
 
 ghost use Rattle.std.specs.Prelude.{◌≡◌, ◌≤◌, ◌∷◌, [], ℕ, List, length, map, Bool, Option, Some, None, IfOk, IfErr, IfSome, IfNone, OnOk, true};
 ghost use Rattle.std.specs.{Str.IsUtf8, String.string_bytes};
-ghost use Rattle.pagable_model.specs.declared.error.Error.{Error as Refusal};
-ghost use Rattle.pagable_model.specs.declared.numbers.ArcRef.{ArcRef as Reference};
-ghost use Rattle.pagable_model.specs.{Basic.text_form, Basic.text_at, Basic.longest, Carried.tagged_by, Gives.Gives, Gives.memory, Gives.memory_or, Gives.long_or, Lengths.long_or_memory};
-ghost use Rattle.pagable_model.specs.{Meaning.Meaning, Reading.read, Reading.bytes_of, Refusals.is_own_reading, Refusals.may_refuse_writing, Shape.Shape, Shape.tagged, Standing.handles_at};
-ghost use Rattle.pagable_model.specs.{Standing.MovesOn, Standing.GivesSome, Standing.SomeMeaning, Tagged.MeansTagged, Tagged.IsLastFor, Tagged.NoneFor, Tagged.grammars, Tagged.HasDistinctTags};
-ghost use Rattle.pagable_model.specs.{Tagged.ReadsWhatIsWritten, Writing.nesting, Writing.WritesSome, Writing.Refused, Writing.Grows, Writing.added};
+ghost use Rattle.pagable_model.specs.Tagged.{MeansTagged, IsLastFor, NoneFor, grammars, HasDistinctTags, ReadsWhatIsWritten};
+ghost use Rattle.pagable_model.specs.{Basic.text_form, Basic.text_at, Basic.longest, Carried.tagged_by, Gives.Gives, Gives.memory, Gives.memory_or, Gives.long_or, Meaning.Meaning, Reading.read};
+ghost use Rattle.pagable_model.specs.{Reading.bytes_of, Refusals.is_own_reading, Refusals.may_refuse_writing, Shape.Shape, Shape.tagged, Standing.handles_at, Standing.MovesOn, Standing.GivesSome};
+ghost use Rattle.pagable_model.specs.{Standing.SomeMeaning, Writing.nesting, Writing.WritesSome, Writing.Refused, Writing.Grows, Writing.added, declared.error.Error.Error as Refusal};
+ghost use Rattle.pagable_model.specs.{declared.numbers.ArcRef.ArcRef as Reference, Lengths.long_or_memory};
 ghost use Rattle.pagable_traits.specs.ReadBack.{IsReadThroughout};
 
-use pagable_codec::deserializer::PagableDeserializer;
-use pagable_codec::env::Env;
-use pagable_codec::reader::Reader;
-use pagable_codec::serializer::PagableSerializer;
+use pagable_codec::{Env, PagableDeserializer, PagableSerializer, Reader};
 use pagable_flavors::Error;
 use std::alloc::Global;
 use std::marker::{Model, PhantomData};
