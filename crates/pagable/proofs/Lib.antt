@@ -1,4 +1,8 @@
 pub mod Carrying
 pub mod Lent
-pub use Rattle.pagable_codec.proofs..{Adding, Reading, Writing}
-pub use Rattle.pagable_traits.proofs..{Basics, Held, Parts}
+pub use Rattle.pagable_codec.proofs.Adding
+pub use Rattle.pagable_codec.proofs.Reading
+pub use Rattle.pagable_codec.proofs.Writing
+pub use Rattle.pagable_traits.proofs.Basics
+pub use Rattle.pagable_traits.proofs.Held
+pub use Rattle.pagable_traits.proofs.Parts
