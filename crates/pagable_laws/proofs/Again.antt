@@ -60,8 +60,14 @@ module _ {A B : Type 0} {look : Look A B} {kind_of : B → ℕ} {parts : ℕ →
     form-again x r y (array-form left n s ms b k e h) u t = rw (← e, forms-again x r y h u (narrowed t (λ p. p) (λ n d l. l))) refl
     form-again x r y (both-form left s s2 m n b c k l h g) u t =
         let p = split k l u in
-        rw (p.whole, append_assoc, append_assoc, form-again (c ++ x) p.front (p.back ++ y) h p.first (narrowed t (λ p. p.0) (λ n d l. l.0)), form-again x p.back y g p.second
-            (narrowed t (λ p. p.1) (λ n d l. l.1))) refl
+        rw (
+          p.whole,
+          append_assoc,
+          append_assoc,
+          form-again (c ++ x) p.front (p.back ++ y) h p.first (narrowed t (λ p. p.0) (λ n d l. l.0)),
+          form-again x p.back y g p.second
+              (narrowed t (λ p. p.1) (λ n d l. l.1)),
+        ) refl
     form-again x r y (sorted-map-form left order s s2 es b k le up h) u t =
         rw (append_assoc, length-again (length es) (b ++ x) le, entries-again x r y h u (narrowed t (λ p. p.0) (λ n d l. l.0)) (narrowed t (λ p. p.1) (λ n d l. l.1)), ascending-kept order es up) refl
     form-again x r y (placed-map-form left s s2 es b k le up h) u t =

@@ -151,8 +151,14 @@ module _ {A B : Type 0} {F : Type 0} {R : A → B → Type 0} where
       at back Ordering.Equal q b = absurd (not_equal e.0 x.0 h.0 q)
       at back Ordering.Greater q (more-two u y us ys s g) =
           let rest = back ys g in
-          record { before = y ∷ rest.before; entry = rest.entry; each = more-two x y acc rest.before s rest.each; one = rest.one; put = rw (same_order rest.one s q)
-              (ap (λ (z : List (Entry B)). y ∷ z) rest.put) }
+          record {
+            before = y ∷ rest.before;
+            entry = rest.entry;
+            each = more-two x y acc rest.before s rest.each;
+            one = rest.one;
+            put = rw (same_order rest.one s q)
+                (ap (λ (z : List (Entry B)). y ∷ z) rest.put);
+          }
 
   unput_all : (es acc : List (Entry A)) {fs : List (Entry B)} → AllAfterThose apart acc es → Apart apart es → AllTwo (EntryAlong F R) (put_all (put_sorted code_order) acc es) fs
       → UnputAll F R acc es fs

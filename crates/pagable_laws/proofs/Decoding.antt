@@ -65,7 +65,7 @@ module _ {types : Types} {stored : ℕ → Option Blob} {trees : ℕ → Tree} {
       let here : place ≡ place + 0 = omega arith in
       let first = answer-of (slice_get got place) key (λ r is. ((place, is), h 0 key r (subst (λ n. slice_get got n ≡ Some r) here is) refl)) in
       more-two _ key _ keys first
-          (answers (place + 1) keys (λ i k r is at. let next : place + 1 + i ≡ place + suc i = omega arith in h (suc i) k r (subst (λ n. slice_get got n ≡ Some r) next is) at))
+      (answers (place + 1) keys (λ i k r is at. let next : place + 1 + i ≡ place + suc i = omega arith in h (suc i) k r (subst (λ n. slice_get got n ≡ Some r) next is) at))
 
   -- the two readings of the blob
   both-read : {own : Meaning ArcRef} {after : Rest Answer} {first : Result (Meaning ArcRef × Rest Answer) Error} {second : Result (Meaning KeyRef × Rest ℕ) Error}

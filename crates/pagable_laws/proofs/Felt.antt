@@ -133,8 +133,11 @@ module _ {N E : Type 0} {v : Values N} {s s' : PagerState N E} {trees : ℕ → 
       → ReadsTree s.core.stored v.types key (trees z.node.0) = subst (λ b. P (Call.OnArcDeserialized kind key h) b) replied (subst (λ a. P a reply) called well_asked) in
       let live = given-of well.whole.handles row.node.0 typed in
       let is_typed : (trees row.node.0).type ≡ type_of kind.0 = same_some _ _ (sym (stands.typed row.node.0 live.0) ∙ typed) in
-      record { after = trees; fits = fits-known _ kind.0 key row.node.0 (λ n y brings. nothing-brought call (Call.OnArcDeserialized kind key h) n y called (λ b. b) brings)
-          (record { typed = is_typed; reads = tree-stays goes.stored (asked row owns) }) }
+      record {
+        after = trees;
+        fits = fits-known _ kind.0 key row.node.0 (λ n y brings. nothing-brought call (Call.OnArcDeserialized kind key h) n y called (λ b. b) brings)
+            (record { typed = is_typed; reads = tree-stays goes.stored (asked row owns) });
+      }
   call-fits {B} c call reply goes well_asked (feels-adopted l kind key x k called replied typed good) =
       let P : Call N B → Reply N B → Type 0 = λ a b. AsksWell v s trees a b in
       let asked : ReadsAsValue v s x key = subst (λ b. P (Call.LoadAdopt l kind key x) b) replied (subst (λ a. P a reply) called well_asked) in

@@ -115,6 +115,6 @@ found-through g (Err x) q h = first-not x q tt
 pub read_through : {A B C D : Type 0} → IsReadThrough A B C D
 read_through {A} {B} {C} {D} f g look other levels parts s input after m h e =
     let alike : (kind : ℕ) (a : A) (c : C) → f a ≡ c → OutLook any_cause (Leads g) (look kind a) (other kind c) = λ kind a c i. found-through g (look kind a) (other kind c)
-        (λ b j. rw (← i) (h kind a b j)) in
+    (λ b j. rw (← i) (h kind a b j)) in
     let par = read_par look other alike levels s (inl tt) in
     through-out f g m after (par.out input (rest input.bytes (map f input.refs)) (record { bytes = refl; refs = all-map f input.refs })) e

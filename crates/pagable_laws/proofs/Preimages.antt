@@ -66,7 +66,7 @@ one_preimage a b h g e =
     let count : length a.keys ≡ length b.keys = same-64 _ _ h.0 g.0 counts.0 in
     let long = ap length counts.1 in
     let size : length a.bytes ≡ length b.bytes = omega
-        (arith, long, count, length-append a.bytes (flat_map (to_le_bytes w128) a.keys), length-append b.bytes (flat_map (to_le_bytes w128) b.keys), keys-length a.keys, keys-length b.keys) in
+    (arith, long, count, length-append a.bytes (flat_map (to_le_bytes w128) a.keys), length-append b.bytes (flat_map (to_le_bytes w128) b.keys), keys-length a.keys, keys-length b.keys) in
     let rest = cut a.bytes b.bytes _ _ size counts.1 in
     let keys = same-keys a.keys b.keys h.1 g.1 rest.1 in
     blob_is _ _ _ _ rest.0 keys

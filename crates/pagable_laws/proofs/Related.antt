@@ -219,19 +219,19 @@ module _ {A B C D : Type 0} {E : Error → Type 0} {F : Type 0} {S : A → B →
         then_same (λ float i. choose float (λ r. Err Error.JsonNumber) (bytes_of (signed_at w64) (λ z. variant 2 (integer z))) i)
         (λ float i. choose float (λ r. Err Error.JsonNumber) (bytes_of (signed_at w64) (λ z. variant 2 (integer z))) i) _ _
         (λ i. refl) (λ i. refl) (bytes_same bool_at)
-            (λ float. choose_par float (λ e. refuses_par (Along F R) Error.JsonNumber) (λ e. bytes_par (signed_at w64) _ _ (λ z. variant-along _ _ _ (integer-along z))))
+        (λ float. choose_par float (λ e. refuses_par (Along F R) Error.JsonNumber) (λ e. bytes_par (signed_at w64) _ _ (λ z. variant-along _ _ _ (integer-along z))))
     json_par h text_case = likewise_par (bytes_par text_at _ _ (λ t. variant-along _ _ _ (text-along t))) (λ i. refl) (λ i. refl)
     json_par {d} {d2} h array_case =
         then_same (λ count i. enter d (λ get. seen (λ ms. variant 4 (sequence ms)) (items (get json) count)) i)
         (λ count i. enter d2 (λ get. seen (λ ms. variant 4 (sequence ms)) (items (get json) count)) i) _ _
         (λ i. refl) (λ i. refl) (bytes_same length_at)
-            (λ count. enter_par _ _ h (λ get get2 g. seen_par _ _ (λ ms ns r. variant-along _ _ _ (sequence-two r)) (items_par (g json (inr (of_json tt))) count)))
+        (λ count. enter_par _ _ h (λ get get2 g. seen_par _ _ (λ ms ns r. variant-along _ _ _ (sequence-two r)) (items_par (g json (inr (of_json tt))) count)))
     json_par {d} {d2} h object_case =
         then_same (λ count i. enter d (λ get. seen (λ es. variant 5 (of_entries (put_all (put_sorted text_order) [] es))) (items (two (get shapes.text) (get json)) count)) i)
         (λ count i. enter d2 (λ get. seen (λ es. variant 5 (of_entries (put_all (put_sorted text_order) [] es))) (items (two (get shapes.text) (get json)) count)) i) _ _
         (λ i. refl) (λ i. refl) (bytes_same length_at)
-            (λ count. enter_par _ _ h
-            (λ get get2 g. seen_par _ _ (λ es fs r. variant-along _ _ _ (sorted-two text_order r)) (items_par (entry_par (g shapes.text (inr (of_text tt))) (g json (inr (of_json tt)))) count)))
+        (λ count. enter_par _ _ h
+        (λ get get2 g. seen_par _ _ (λ es fs r. variant-along _ _ _ (sorted-two text_order r)) (items_par (entry_par (g shapes.text (inr (of_text tt))) (g json (inr (of_json tt)))) count)))
 
     json_cases : {d : Deeper A C} {d2 : Deeper B D} → DeeperPar E F S R parts d d2 → (c : Result JsonCase Error)
         → Par E S (Along F R) (λ i. c >>= λ case. json_part d case i) (λ i. c >>= λ case. json_part d2 case i)
@@ -271,10 +271,10 @@ module _ {A B C D : Type 0} {E : Error → Type 0} {F : Type 0} {S : A → B →
           (λ i. refl) (λ i. refl)
       with_par h (sorted_map order s s2) t =
           likewise_par (seen_par _ _ (λ es fs r. sorted-two order r)
-              (counted_par (entry_par (with_par h s (over (λ p. p.0) (λ n d l. l.0) t)) (with_par h s2 (over (λ p. p.1) (λ n d l. l.1) t))))) (λ i. refl) (λ i. refl)
+          (counted_par (entry_par (with_par h s (over (λ p. p.0) (λ n d l. l.0) t)) (with_par h s2 (over (λ p. p.1) (λ n d l. l.1) t))))) (λ i. refl) (λ i. refl)
       with_par h (placed_map s s2) t =
           likewise_par (seen_par _ _ (λ es fs r. placed-two r) (counted_par (entry_par (with_par h s (over (λ p. p.0) (λ n d l. l.0) t)) (with_par h s2 (over (λ p. p.1) (λ n d l. l.1) t)))))
-              (λ i. refl) (λ i. refl)
+          (λ i. refl) (λ i. refl)
       with_par h (hash_map s s2) t =
           likewise_par (seen_par of_hash_map of_hash_map (λ es fs r. sorted-two code_order r)
           (counted_par (entry_par (with_par h s (over (λ p. p.0) (λ n d l. l.0) t)) (with_par h s2 (over (λ p. p.1) (λ n d l. l.1) t))))) (λ i. refl) (λ i. refl)
@@ -288,8 +288,8 @@ module _ {A B C D : Type 0} {E : Error → Type 0} {F : Type 0} {S : A → B →
           (λ tag i. choose (known tag) (seen (of_tagged tag) (read_with look2 parts d2 (body tag))) (λ r. Err Error.UnknownTag) i) _ _
           (λ i. refl) (λ i. refl) (bytes_same text_at)
           (λ tag. choose_par (known tag)
-              (λ e. seen_par (of_tagged tag) (of_tagged tag) (λ m n r. pair-along _ _ _ _ (text-along tag) r) (with_par h (body tag) (over (λ p. p.1 tag e) (λ n d l. l.1 tag e) t)))
-              (λ e. refuses_par (Along F R) Error.UnknownTag))
+          (λ e. seen_par (of_tagged tag) (of_tagged tag) (λ m n r. pair-along _ _ _ _ (text-along tag) r) (with_par h (body tag) (over (λ p. p.1 tag e) (λ n d l. l.1 tag e) t)))
+          (λ e. refuses_par (Along F R) Error.UnknownTag))
       with_par {d} {d2} h (cases w known part) t =
           then_same (λ n i. choose (known n) (seen (variant n) (read_with look parts d (part n))) (λ r. Err Error.UnknownTag) i)
           (λ n i. choose (known n) (seen (variant n) (read_with look2 parts d2 (part n))) (λ r. Err Error.UnknownTag) i) _ _

@@ -165,7 +165,7 @@ row_there w h = nat_lt 0 h.number.0 && (nat_le h.number.0 w.last.handle && owner
 abbrev pub root_fits : Core → Root → Bool
 root_fits w (of_cell node t h) =
     if_there (λ u. u == t) true (type_at w node.0) &&
-        (if_there (λ (row : HandleRow). row.node.0 == node.0 && is_loose row.mode) true (row_at w h) && (nat_le h.0 w.last.handle && nat_le node.0 w.last.node))
+    (if_there (λ (row : HandleRow). row.node.0 == node.0 && is_loose row.mode) true (row_at w h) && (nat_le h.0 w.last.handle && nat_le node.0 w.last.node))
 root_fits w of_key = true
 
 abbrev pub load_fits : Core → ℕ → Bool

@@ -42,8 +42,15 @@ sample_types = record { nodes = sample_shapes; parts = λ n. shapes.nothing }
 -- the hash is how many bytes there are, which tells the three blobs apart
 abbrev pub sample : Values Sample
 sample =
-    record { node_type = sample_type; references = sample_references; means = λ x own. own ≡ sample_meaning x; read_causes = λ t e. ⊥; write_causes = λ t e. ⊥; types = sample_types;
-    hash = λ bytes. length bytes ∷ [] }
+    record {
+      node_type = sample_type;
+      references = sample_references;
+      means = λ x own. own ≡ sample_meaning x;
+      read_causes = λ t e. ⊥;
+      write_causes = λ t e. ⊥;
+      types = sample_types;
+      hash = λ bytes. length bytes ∷ [];
+    }
 
 abbrev pub sample_seen : Seen Sample Blob Written
 sample_seen = record { values = sample; blob_of = λ b. b; written_of = λ w. w }

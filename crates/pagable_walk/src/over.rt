@@ -6,9 +6,9 @@ ghost use Rattle.pagable_loads.specs.Telling.{values_at};
 ghost use Rattle.pagable_walk.specs.{Over.answer_of, Over.PagesAt, Over.PagesEntry, Over.PagesItem, Over.PagesList, Over.SkipsEntry, Slots.written_of, Table.shelf_of};
 ghost use Rattle.pagable_world.specs.declared.handles.Owner.TheVariants as owners;
 
-use crate::{PageOutError, SlotTable};
 use crate::starting::{start_entry, start_item};
 use crate::walk::run;
+use crate::{PageOutError, SlotTable};
 use pagable_codec::{Env, NodeSet};
 use pagable_core::SerializedData;
 use pagable_loads::WorkerAccess;

@@ -105,7 +105,11 @@ fn run<H: KeyHash>(
     let events = events(alloc, line)?;
     match machine.run(alloc, events) {
         Ok(replies) => {
-            let first = if is_last { replies.len().saturating_sub(1) } else { 0 };
+            let first = if is_last {
+                replies.len().saturating_sub(1)
+            } else {
+                0
+            };
             answers::replies(alloc, &replies.as_slice()[first..])
         }
         Err(_) => bail!("no memory for the replies"),

@@ -7,7 +7,7 @@ use crate::calls::{Calls, CellPager, pager_over};
 use crate::lines;
 use anyhow::{Context, bail, ensure};
 use pagable::paging::{page_out_item, page_out_pending, pin};
-use pagable::{DataKey, Error, PageOutError, PagableSerialize, PagableVecFlavor, WeighHash};
+use pagable::{DataKey, Error, PagableSerialize, PagableVecFlavor, PageOutError, WeighHash};
 use row_values::carried::{AnyEnv, written};
 use serde_json::Value;
 use std::alloc::Global;
@@ -184,7 +184,10 @@ fn write_over(alloc: Global) -> Result<bool, Error> {
 
 /// Whether an item that refers to a shared text comes to its key by one call.
 fn is_item_paged_out(alloc: Global, pager: &mut CellPager<WeighHash>) -> anyhow::Result<bool> {
-    if pager.new_shared(alloc, node(alloc, "0 hello world")?).is_err() {
+    if pager
+        .new_shared(alloc, node(alloc, "0 hello world")?)
+        .is_err()
+    {
         bail!("a node is refused");
     }
     let item = Arc::new(alloc, item(alloc, "2a:0:1:1")?)?;

@@ -1,7 +1,7 @@
 //! What events answer, in words.
 
-use crate::calls::references::push_references;
 use crate::calls::nodes::CellNode;
+use crate::calls::references::push_references;
 use pagable::{
     Beginning, Claim, Error, EventReply, Found, Identity, LoadAnswer, LoadReply, OptionalDataKey,
     PagableData, PinStep, Pinning, Reply, SerializedData, Took, WorkerAnswer, WorkerReply,

@@ -1,8 +1,8 @@
 //! What a row asks for: events, parted by semicolons.
 
 use crate::blobs::{blob, bytes_of};
-use crate::calls::references::references;
 use crate::calls::nodes::node;
+use crate::calls::references::references;
 use crate::calls::{CellCall, CellEvent};
 use anyhow::{Context, bail};
 use pagable::{

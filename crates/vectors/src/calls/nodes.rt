@@ -5,8 +5,7 @@ use crate::calls::references::{of_kind, of_kinds, push_references, references};
 use anyhow::{bail, ensure};
 use pagable::{
     ArcRef, Env, Error, KeyHash, NodeSet, OfKind, PagableDeserialize, PagableDeserializer,
-    PagableSerialize, PagableSerializer, Reason, WeighHash,
-    references_of,
+    PagableSerialize, PagableSerializer, Reason, WeighHash, references_of,
 };
 use std::alloc::Global;
 use std::marker::PhantomData;
@@ -133,7 +132,10 @@ fn mixed(alloc: Global, spelled: &str) -> anyhow::Result<CellNode> {
     let names = of_kinds(alloc, spelled.as_slice())?;
     let lists: Lists = (own, (loose, (pinned, (loose_names, names))));
     let listed = references_of::<CellEnv<WeighHash>, Lists>(alloc, &lists)?;
-    ensure!(listed.as_slice() == spelled.as_slice(), "references of other kinds, or in another order");
+    ensure!(
+        listed.as_slice() == spelled.as_slice(),
+        "references of other kinds, or in another order"
+    );
     Ok(CellNode::Mixed((tag.parse::<u8>()?, lists)))
 }
 

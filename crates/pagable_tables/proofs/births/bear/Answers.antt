@@ -25,5 +25,15 @@ returns-clause-steady c =
 
 pub returns-clause-born : goal.returns-clause-born
 returns-clause-born c stored closed failures =
-    grind (arith, nat_tests, born-cells, same-cache, c.deref.ensures.value, c.in-Ok.ensures.rows, c.hand_over_all.ensures.rows, c.in-Ok-add.ensures.here, c.in-Ok-add.ensures.others,
-        c.requires.ready.handle_left)
+    grind (
+      arith,
+      nat_tests,
+      born-cells,
+      same-cache,
+      c.deref.ensures.value,
+      c.in-Ok.ensures.rows,
+      c.hand_over_all.ensures.rows,
+      c.in-Ok-add.ensures.here,
+      c.in-Ok-add.ensures.others,
+      c.requires.ready.handle_left,
+    )

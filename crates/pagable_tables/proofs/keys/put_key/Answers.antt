@@ -4,8 +4,20 @@ use Rattle.pagable_tables.proofs.keys.put_key.Goals as goal
 
 pub returns-clause-cells : goal.returns-clause-cells
 returns-clause-cells c =
-    grind (arith, nat_tests, key-cells, live, c.requires.steady.fits, c.counts_of.ensures, c.in-Some.is, c.requires.key, c.set_counts.ensures.here, c.counts_keyed-with_key.ensures,
-        c.set_counts.ensures.others, c.set_counts.ensures.refs)
+    grind (
+      arith,
+      nat_tests,
+      key-cells,
+      live,
+      c.requires.steady.fits,
+      c.counts_of.ensures,
+      c.in-Some.is,
+      c.requires.key,
+      c.set_counts.ensures.here,
+      c.counts_keyed-with_key.ensures,
+      c.set_counts.ensures.others,
+      c.set_counts.ensures.refs,
+    )
 
 pub returns-clause-falling : goal.returns-clause-falling
 returns-clause-falling c =
@@ -20,8 +32,19 @@ returns-clause-falling c =
         sound = c.requires.steady.sound;
         next = c.requires.steady.next;
         fits =
-            grind (arith, nat_tests, key-fits, c.requires.steady.fits, c.counts_of.ensures, c.in-Some.is, c.requires.key, c.set_counts.ensures.here, c.counts_keyed-with_key.ensures,
-                c.set_counts.ensures.others, c.set_counts.ensures.refs);
+            grind (
+              arith,
+              nat_tests,
+              key-fits,
+              c.requires.steady.fits,
+              c.counts_of.ensures,
+              c.in-Some.is,
+              c.requires.key,
+              c.set_counts.ensures.here,
+              c.counts_keyed-with_key.ensures,
+              c.set_counts.ensures.others,
+              c.set_counts.ensures.refs,
+            );
       },
       long-if b n [],
     )
