@@ -4,17 +4,10 @@ use Rattle.pagable_laws.proofs.Words.{sum_by-append, sum_by-cons, Identity, Work
 use Rattle.pagable_laws.proofs.Words.{to_start, Walking, World, Seen, is_identity, Site, Does, with_wait, Happens, WorkerSteps, step_of, steps_of, is_claim_of, is_on_table, claims_made, ◌||◌}
 use Rattle.pagable_laws.proofs.Words.{◌++◌, append_assoc, is_none, Among, WorkerAnswer, HandleRow, Owner, owner_worker, is_owned_by, is_owner, OpenLoad, is_workers_load, MachineState, world_of}
 use Rattle.pagable_laws.proofs.Words.{IsMachineWhole, IsIdle, MayOwnLoad, Moment, AreMoments, state_after, events_of, replies_of, InOrder, TableMeets, HasLetGo, WorkerIsRight, LoadsHaveStepsLeft}
-use Rattle.pagable_laws.proofs.Words.{WorkIsRight, HeadlineLaw}
-use Rattle.pagable_laws.proofs.Changing.{ShelfGrows, is-same, PutsSlot, puts-slot, grows}
-use Rattle.pagable_laws.proofs.Holding.{KeepsTask, Turned, keeps-task}
-use Rattle.pagable_laws.proofs.Coming.{updated-at, StandsIn, EventTurns, event-turns, turns-stand, idle-stands}
+use Rattle.pagable_laws.proofs.{Chains.trees_stay, Changing.ShelfGrows, Changing.is-same, Changing.PutsSlot, Changing.puts-slot, Changing.grows, Coming.updated-at, Coming.StandsIn, Coming.EventTurns}
+use Rattle.pagable_laws.proofs.{Coming.event-turns, Coming.turns-stand, Coming.idle-stands, Histories.Went, Histories.HasGone, Histories.goes-on, Holding.KeepsTask, Holding.Turned, Holding.keeps-task}
+use Rattle.pagable_laws.proofs.{Once.once_each, ReadingStepsWithin.loads-bounded, Standing.WalkingStands, Standing.is_failing, Standing.is_open_in, Sums.sum-zero, Words.WorkIsRight, Words.HeadlineLaw}
 use Rattle.std.proofs.Common.{append-nil}
-use Rattle.pagable_laws.proofs.Standing.{WalkingStands, is_failing, is_open_in}
-use Rattle.pagable_laws.proofs.Once.{once_each}
-use Rattle.pagable_laws.proofs.Histories.{Went, HasGone, goes-on}
-use Rattle.pagable_laws.proofs.Sums.{sum-zero}
-use Rattle.pagable_laws.proofs.ReadingStepsWithin.{loads-bounded}
-use Rattle.pagable_laws.proofs.Chains.{trees_stay}
 
 -- ---- claims: each event claims on a table only what wasn't claimed there, and what one worker claimed is among its table's claims
 

@@ -4,15 +4,11 @@ use Rattle.pagable_laws.proofs.Words.{identity_of, no_result, answer_of_fault, W
 use Rattle.pagable_laws.proofs.Words.{arith, Task, Seen, Site, Does, give, give_known, with_wait, answer_after, IsPublished, gone_on, ◌+◌, ◌<◌, ◌≤◌, ◌==◌, Bool, false, nat_eq, if◌then◌else◌}
 use Rattle.pagable_laws.proofs.Words.{nat_tests, WorkerNumber, updated, Call, Reply, Event, EventReply, TableNumber, WorkerReply, Owner, Core, Alike, Shelf, Slot, Walking, World, CallStep}
 use Rattle.pagable_laws.proofs.Words.{Happens, Stays, WorkStays, WorkIs, Starts, no_shelf, new_walking, WorkerSteps, Ends, MachineState, world_of, IsIdle, step_of}
-use Rattle.pagable_laws.proofs.Standing.{is_open_in, AllStand, Covers, HasNoFailed, HasClaim, WorkStands}
 use Rattle.pagable_laws.proofs.Changing.{puts-slot, SlotChanges, ShelfGrows, some-none, grows, same-slots, meets-grow}
-use Rattle.pagable_laws.proofs.Going.{CoversBy, Goes, plain, fails, swaps, gives, given-open, all-stay}
-use Rattle.pagable_laws.proofs.Turning.{claimed, written-goes, published-goes, failed-goes}
-use Rattle.pagable_laws.proofs.Holding.{SameSlots, Turned, work-stands, is-quiet, is-started, is-stepped}
-use Rattle.pagable_laws.proofs.Goes.{NotLoads}
-use Rattle.pagable_laws.proofs.Called.{calls-go}
-use Rattle.pagable_laws.proofs.ReadingSteps.{reading-feels}
-use Rattle.pagable_laws.proofs.WalkSteps.{walk-goes}
+use Rattle.pagable_laws.proofs.{Called.calls-go, Goes.NotLoads, Going.CoversBy, Going.Goes, Going.plain, Going.fails, Going.swaps, Going.gives, Going.given-open, Going.all-stay, Holding.SameSlots}
+use Rattle.pagable_laws.proofs.{Holding.Turned, Holding.work-stands, Holding.is-quiet, Holding.is-started, Holding.is-stepped, ReadingSteps.reading-feels, Standing.is_open_in, Standing.AllStand}
+use Rattle.pagable_laws.proofs.{Standing.Covers, Standing.HasNoFailed, Standing.HasClaim, Standing.WorkStands, Turning.claimed, Turning.written-goes, Turning.published-goes, Turning.failed-goes}
+use Rattle.pagable_laws.proofs.{WalkSteps.walk-goes}
 use Rattle.pagable_laws.proofs.Calling as calling
 
 -- ---- whatever a worker does, what stands of its list and of its table stands afterwards

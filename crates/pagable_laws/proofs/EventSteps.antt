@@ -6,16 +6,12 @@ use Rattle.pagable_laws.proofs.Words.{of_item, of_entry, Walking, World, Alike, 
 use Rattle.pagable_laws.proofs.Words.{BeginsKey, ReadingsAre, Stays, begun_readings, KeyStarted, Starts, new_walking, Ends, WorkerSteps, Happens, with_worker, MachineState, world_of, IsWhole}
 use Rattle.pagable_laws.proofs.Words.{HandlesAreWhole, IsMachineWhole, IsNewNode, EventBrings, TodoBrings, IsReadingOf, of_caller, of_worker, KeepsOpen, LeavesCache, Change, nothing_felt}
 use Rattle.pagable_laws.proofs.Words.{CoreGoes, SameNode, NewNode, StaysAway, KeepsReadings, EventFeels, by-call, by-reading, by-key, by-nothing, StepFeels, IsFresh, WorkFits, Waits, Walks}
-use Rattle.pagable_laws.proofs.Words.{Ground}
-use Rattle.pagable_world.specs.Runs.{Does}
-use Rattle.pagable_laws.proofs.Trees.{same_some}
 use Rattle.pagable_laws.proofs.Goes.{parts, le-self, Quiet, Goes, Kept, NotLoads, rows-self, quiet-then, quiet-goes, goes-quiet, alike, fell-anyhow, at-updated, KnowsNext}
-use Rattle.pagable_laws.proofs.GoodReferences.{alike-away}
-use Rattle.pagable_laws.proofs.Calling.{some-moved, begins, begins-key}
-use Rattle.pagable_laws.proofs.Called.{calls-go, call-knows}
-use Rattle.pagable_laws.proofs.ReadingSteps.{reading-feels, feels-alike, reading-knows}
 use Rattle.pagable_laws.proofs.ReadingStepsMachine.{reading-was, steps-load, stepped-load, steps-worker, stepped-worker}
 use Rattle.pagable_laws.proofs.WalkSteps.{NoLoad, WaitsWell, front_reading, LoadsAnew, started, WalkFeels, walk-loads, walk-sets, walk-rests, walk-goes}
+use Rattle.pagable_laws.proofs.{Called.calls-go, Called.call-knows, Calling.some-moved, Calling.begins, Calling.begins-key, GoodReferences.alike-away, ReadingSteps.reading-feels}
+use Rattle.pagable_laws.proofs.{ReadingSteps.feels-alike, ReadingSteps.reading-knows, Trees.same_some, Words.Ground}
+use Rattle.pagable_world.specs.Runs.{Does}
 
 caller-free : NotLoads Owner.Caller
 caller-free l is = absurd (cc)

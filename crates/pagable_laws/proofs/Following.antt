@@ -8,13 +8,9 @@ use Rattle.pagable_laws.proofs.Words.{is_handle, is_owned_by, owner_value, Core,
 use Rattle.pagable_laws.proofs.Words.{WellFormed, HandlesAreWhole, NodeStands, here, away, MeaningStands, number-stands, integer-stands, text-stands, pattern-stands, none-stands, pair-stands}
 use Rattle.pagable_laws.proofs.Words.{variant-stands, followed-stands, reference-stands, Represents, IsWrittenOf, kids_of, HoldsSettled, ReadsItsTypes, AreKeysOf, rest, LooksUp, no-references}
 use Rattle.pagable_laws.proofs.Words.{more-references, Ground, FollowsTo, number-follows, integer-follows, text-follows, pattern-follows, none-follows, pair-follows, variant-follows}
-use Rattle.pagable_laws.proofs.Words.{reference-follows, WroteTree, KeyStands}
-use Rattle.pagable_laws.proofs.Again.{read_again}
 use Rattle.pagable_laws.proofs.Along.{Along, pair-along, variant-along, reference-along, followed-along, AllTwo, no-two, more-two}
-use Rattle.pagable_laws.proofs.Related.{Out, both-given, both-refused, first-refused, both-looked-up, read_par}
-use Rattle.pagable_laws.proofs.Natural.{keeps_forms}
-use Rattle.pagable_laws.proofs.Trees.{same_some, one_tree}
-use Rattle.pagable_laws.proofs.Sums.{same-number, sum-le, sum-zero}
+use Rattle.pagable_laws.proofs.{Again.read_again, Natural.keeps_forms, Related.Out, Related.both-given, Related.both-refused, Related.first-refused, Related.both-looked-up, Related.read_par}
+use Rattle.pagable_laws.proofs.{Sums.same-number, Sums.sum-le, Sums.sum-zero, Trees.same_some, Trees.one_tree, Words.reference-follows, Words.WroteTree, Words.KeyStands}
 
 -- ---- the references in a form's meaning are those of the form, and none is followed
 

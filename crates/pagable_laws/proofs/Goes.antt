@@ -3,8 +3,7 @@ use Rattle.pagable_laws.proofs.Words.{◌≡◌, ℕ, ◌+◌, ◌<◌, ◌≤�
 use Rattle.pagable_laws.proofs.Words.{if◌then◌else◌, nat_tests, Blob, ArcRef, Kind, type_of, HandleNumber, LoadNumber, NodeNumber, OptionalDataKey, changed, updated, if_there, HandleRow, Owner}
 use Rattle.pagable_laws.proofs.Words.{Mode, find_row, is_handle, mode_of, is_loose, Core, Cell, OpenLoad, Root, Last, Alike, type_at, key_at, AreNewEntries, Falls, FallsAnyhow, fallen, left_rows}
 use Rattle.pagable_laws.proofs.Words.{row_of, with_handle, with_node, with_key, with_cached, next_node, moved, with_load, adopted, Change, nothing_felt, sets_key, bears_known, Sets, Knows, Bears}
-use Rattle.pagable_laws.proofs.Words.{BeginsWell}
-use Rattle.pagable_laws.proofs.Sums.{same-number}
+use Rattle.pagable_laws.proofs.{Sums.same-number, Words.BeginsWell}
 
 -- the row of a handle before: at the same node, and the same if it is a load's now; a loose handle stays loose
 pub record Was (rows : List HandleRow) (q : ℕ) (row : HandleRow) : Type 0 where

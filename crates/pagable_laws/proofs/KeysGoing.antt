@@ -7,21 +7,12 @@ use Rattle.pagable_laws.proofs.Words.{GoesTo, first_todo, answer_after, Does, Pi
 use Rattle.pagable_laws.proofs.Words.{with_failed, is_open_outcome, Owns, HandlesAreWhole, WorkerAnswer, Owner, HandleRow, StandsAt, KeyIsSet, is_publishing, AllHold, HasHandle, Change}
 use Rattle.pagable_laws.proofs.Words.{nothing_felt, nat_tests, WorkerNumber, Tree, ReadsTree, Event, EventReply, WorkerReply, find_row, Alike, Walking, World, Values, Ends, WorkerSteps}
 use Rattle.pagable_laws.proofs.Words.{MachineState, world_of, IsMachineWhole, IsIdle, ReadsItsTypes, KeepsOpen, KeysAreReady, KeysHeld, WorkFits, step_of}
-use Rattle.pagable_laws.proofs.Trees.{same_some}
-use Rattle.pagable_laws.proofs.Outlasting.{NotValues, Stands, stands-whole, stands-alike, stands-fell}
-use Rattle.pagable_laws.proofs.Goes.{Goes, fell, keyed, goes-quiet, quiet-goes}
-use Rattle.pagable_laws.proofs.Calling.{pins, begins}
-use Rattle.pagable_laws.proofs.WalkSteps.{works-free, walk-goes}
-use Rattle.pagable_laws.proofs.Changing.{PutsSlot, puts-slot, put-cases, is-same}
-use Rattle.pagable_laws.proofs.Shelves.{keys-same}
 use Rattle.pagable_laws.proofs.Coming.{updated-at, EventTurns, OwnTurn, rests, begins as begins-turn, steps}
-use Rattle.pagable_laws.proofs.Naming.{stands-on, key-on, all-on, claimed-stands, clone-stands}
+use Rattle.pagable_laws.proofs.{Answering.sets-key, Calling.pins, Calling.begins, Changing.PutsSlot, Changing.puts-slot, Changing.put-cases, Changing.is-same, EventSteps.ends-quiet}
+use Rattle.pagable_laws.proofs.{EventSteps.event-goes, Goes.Goes, Goes.fell, Goes.keyed, Goes.goes-quiet, Goes.quiet-goes, Naming.stands-on, Naming.key-on, Naming.all-on, Naming.claimed-stands}
+use Rattle.pagable_laws.proofs.{Naming.clone-stands, Outlasting.NotValues, Outlasting.Stands, Outlasting.stands-whole, Outlasting.stands-alike, Outlasting.stands-fell, Publishing.at-number}
+use Rattle.pagable_laws.proofs.{Shelves.keys-same, Sparing.Spares, SparingSteps.event-spares, Trees.same_some, WalkSteps.works-free, WalkSteps.walk-goes}
 use Rattle.pagable_world.specs.Runs.{Does as DoesMoment}
-use Rattle.pagable_laws.proofs.EventSteps.{ends-quiet, event-goes}
-use Rattle.pagable_laws.proofs.Publishing.{at-number}
-use Rattle.pagable_laws.proofs.Answering.{sets-key}
-use Rattle.pagable_laws.proofs.Sparing.{Spares}
-use Rattle.pagable_laws.proofs.SparingSteps.{event-spares}
 
 -- ---- what workers hold they hold after each event, and each cell whose key was published by a loose reference has a key
 

@@ -7,9 +7,8 @@ use Rattle.pagable_laws.proofs.Words.{IsMachineWhole, IsCellOf, sym, subst, Even
 use Rattle.pagable_laws.proofs.Tested.{alike-self, falls-alone, is_low, never, lists_none, takes_more, falls-so, Passes}
 use Rattle.pagable_laws.proofs.States.{none-there, work-whole, reads-none, only-at, evicted-passes, parent-loading-passes, got-passes, parent-loaded-passes, child-cloned-passes}
 use Rattle.pagable_laws.proofs.States.{child-loading-passes, child-loaded-passes, key-loading-passes, child-known-passes, read-back-passes, ◌⨾◌}
-use Rattle.pagable_laws.proofs.Two.{and-false}
+use Rattle.pagable_laws.proofs.{Two.and-false, Walks.paged_out, Walks.work-stays, Walks.only-pager}
 use Rattle.pagable_world.specs.Runs.{Does}
-use Rattle.pagable_laws.proofs.Walks.{paged_out, work-stays, only-pager}
 use Rattle.pagable_laws.specs.TwoLevels as two
 use Rattle.pagable_model.specs.Reading as grammar
 

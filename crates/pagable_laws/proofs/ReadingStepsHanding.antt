@@ -1,15 +1,11 @@
 -- A load of a key that answers a value hands over the value's references: each was the load's, and is the caller's then.
-use Rattle.pagable_laws.proofs.Words.{arith, nat_tests}
-use Rattle.std.proofs.lemmas.Grind.{common_steps}
-use Rattle.std.proofs.Common.{rules}
 use Rattle.pagable_laws.proofs.Words.{◌≡◌, ℕ, zero, suc, ◌==◌, ◌&&◌, ◌||◌, Bool, true, false, List, [], ◌∷◌, map, Ok, refl, ap, subst, ◌∙◌, Option, Some, None, not, Error}
 use Rattle.pagable_laws.proofs.Words.{ArcRef, HandleNumber, LoadNumber, Among, is_in, if_there, HandleRow, Owner, Event, EventReply, LoadAnswer, is_owner, Core, OpenLoad, World, Reading, row_at}
 use Rattle.pagable_laws.proofs.Words.{Seen, earlier, refused_if, load_fault, named_fault, moved, numbers_of, HandOverCall, hand_over_fault, cell_fault, is_owned_in, EndsRead, handles_of}
-use Rattle.pagable_laws.proofs.Words.{Happens, HandlesAreWhole, HandsOver, ReadHolds}
+use Rattle.pagable_laws.proofs.{Goes.found-number, Outlasting.Stands, Outlasting.stands-whole, Outlasting.stands-changed, Outlasting.stands-fell, Sums.self-number, Words.arith, Words.nat_tests}
+use Rattle.pagable_laws.proofs.{Words.Happens, Words.HandlesAreWhole, Words.HandsOver, Words.ReadHolds}
+use Rattle.std.proofs.{Common.rules, lemmas.Grind.common_steps}
 use Rattle.pagable_world.specs.Loads.{Does}
-use Rattle.pagable_laws.proofs.Goes.{found-number}
-use Rattle.pagable_laws.proofs.Outlasting.{Stands, stands-whole, stands-changed, stands-fell}
-use Rattle.pagable_laws.proofs.Sums.{self-number}
 
 -- ---- nothing is said against the handles
 

@@ -1,14 +1,9 @@
 -- Each event keeps trees: what it brings fits some trees afterwards, for which the machine stands then, with all that its loads read.
-use Rattle.pagable_laws.proofs.Words.{arith, nat_tests}
 use Rattle.pagable_laws.proofs.Words.{◌≡◌, ℕ, List, [], inl, inr, sym, ap, ◌∙◌, subst, ◌⊎◌, Event, EventReply, Tree, Among, Reading, Frame, Walking, Values, Seen, IsLawful}
 use Rattle.pagable_laws.proofs.Words.{MachineState, PagerState, world_of, IsMachineWhole, StandsFor, FramesFit, ReadingFits, ReadingBrings, TodoBrings, EventBrings, IsReadingOf, HoldsSettled}
 use Rattle.pagable_laws.proofs.Words.{ReadsItsTypes, TakesWell, TodoTakesWell, AsksWell, IsWellAsked, FramesGiven, Change, CoreGoes, IsSteppedReading, EventFeels, by-call, by-reading, by-key}
-use Rattle.pagable_laws.proofs.Words.{by-nothing, KeysAreReady, IsFresh, ChangeFits, ReadingsGiven}
-use Rattle.pagable_laws.proofs.Trees.{same_some}
-use Rattle.pagable_laws.proofs.Fitting.{tree-stays}
-use Rattle.pagable_laws.proofs.Felt.{none-comes, fits-nothing, fits-key, call-fits}
-use Rattle.pagable_laws.proofs.Brought.{reading-fits}
-use Rattle.pagable_laws.proofs.ReadingStepsMachine.{is-reading-of}
+use Rattle.pagable_laws.proofs.{Brought.reading-fits, Felt.none-comes, Felt.fits-nothing, Felt.fits-key, Felt.call-fits, Fitting.tree-stays, ReadingStepsMachine.is-reading-of, Trees.same_some}
+use Rattle.pagable_laws.proofs.{Words.arith, Words.nat_tests, Words.by-nothing, Words.KeysAreReady, Words.IsFresh, Words.ChangeFits, Words.ReadingsGiven}
 
 module _ {N E : Type 0} {v : Values N} {c : Change} {s s' : PagerState N E} {trees trees' : ℕ → Tree} where
   -- what comes is said in other words

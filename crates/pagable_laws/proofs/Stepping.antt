@@ -4,10 +4,9 @@ use Rattle.pagable_laws.proofs.Words.{ArcRef, Identity, Blob, HandleNumber, Tree
 use Rattle.pagable_laws.proofs.Words.{was_failed, was_refused, to_start, to_pin, to_load, to_write, to_finish, to_item, to_set, to_publish, to_release, to_fail, Task, Values, Seen, digest}
 use Rattle.pagable_laws.proofs.Words.{Stores, Site, Does, IsPublished, claim_fault, next_start, give, give_known, open_node, with_outcome, with_wait, answer_after, AreKeysOf, Ground, WroteTree}
 use Rattle.pagable_laws.proofs.Words.{BlobStands, SlotFits, KeysSoFar, Expects, Waits, Above, HasBlob, Walks, SlotsFit}
-use Rattle.pagable_laws.proofs.Standing.{HasClaim, AllStand}
-use Rattle.pagable_laws.proofs.Changing.{ShelfGrows, some-same, PutsSlot, puts-slot, changes-slot}
-use Rattle.pagable_laws.proofs.Following.{IdentityStands, key-stands}
 use Rattle.pagable_laws.proofs.Shelves.{GroundGoes, so-far-on, wrote-on, blob-on, slot-on, keys-grow, above-on, has-blob-on, slots-on, slots-but, slots-failed}
+use Rattle.pagable_laws.proofs.{Changing.ShelfGrows, Changing.some-same, Changing.PutsSlot, Changing.puts-slot, Changing.changes-slot, Following.IdentityStands, Following.key-stands}
+use Rattle.pagable_laws.proofs.{Standing.HasClaim, Standing.AllStand}
 
 -- ---- lists
 

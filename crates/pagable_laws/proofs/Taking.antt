@@ -5,13 +5,9 @@ use Rattle.pagable_laws.proofs.Words.{is_at, is_pin, is_pinning, held, pins, Cor
 use Rattle.pagable_laws.proofs.Words.{is_faulty, next_in, need_at, need_of, to_adopt, ReadsRoot, ReadsNode, root_frame, nested_frame, with_got, PagerState}
 use Rattle.pagable_laws.proofs.Words.{HandlesAreWhole, IsWhole, WellFormed, NodeStands, here, away, ValueStands, ReadsNodeTree, FramesFit, SameTrees, Represents, ReadsItsTypes, GivesTree}
 use Rattle.pagable_laws.proofs.Words.{ReadIsRight, Change, bears_known, CoreGoes, ReadingFeels, reads-root, reads-blob, gets-known, gets-lazy, makes-known, makes-node, reading-ends, Decoded}
-use Rattle.pagable_laws.proofs.Words.{FramesGiven}
-use Rattle.pagable_laws.proofs.Sums.{at-most-sum, self-number}
-use Rattle.pagable_laws.proofs.Trees.{same_some}
-use Rattle.pagable_laws.proofs.Following.{cell-of, given-of}
-use Rattle.pagable_laws.proofs.Decoding.{decodes, read_stands}
 use Rattle.pagable_laws.proofs.Fitting.{node-stays, first-fits, first-typed, frames-stay, got-given, made-fits, needed-fits, nested-fits, root-fits}
-use Rattle.pagable_laws.proofs.Outlasting.{among-found}
+use Rattle.pagable_laws.proofs.{Decoding.decodes, Decoding.read_stands, Following.cell-of, Following.given-of, Outlasting.among-found, Sums.at-most-sum, Sums.self-number, Trees.same_some}
+use Rattle.pagable_laws.proofs.{Words.FramesGiven}
 
 -- ---- a live handle's node
 

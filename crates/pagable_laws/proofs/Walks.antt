@@ -4,10 +4,9 @@ use Rattle.pagable_laws.proofs.Words.{Owner, Mode, Pinning, Claim, PinStep, nat_
 use Rattle.pagable_laws.proofs.Words.{to_finish, to_item, Open, row_at, is_here, digest, nobody, row_of, with_key, CloneCall, PinCall, StoreCall, WalkDoes, claim_fault, open_node, give}
 use Rattle.pagable_laws.proofs.Words.{is_workers_at, nothing-form, reference-form, preimage, find_row, owner_value, is_named_by, FallsAnyhow, without_worker, is_workers, no_shelf, MachineState}
 use Rattle.pagable_laws.proofs.Words.{IsWrittenOf, AreMoments, zero, suc, ◌<◌, Option, ◌⊎◌, is_in, Reading, Work, references_fault, WorkStays, OnlyCore, no_work}
-use Rattle.pagable_laws.proofs.Tested.{alike-self, falls-alone, is_low, never, lists_none, takes_more}
 use Rattle.pagable_laws.proofs.States.{same-shelf, ◌⨾◌, worker-does, begun-passes, parent-pinned-passes, both-pinned-passes, child-stored-passes, child-keyed-passes, child-released-passes}
 use Rattle.pagable_laws.proofs.States.{parent-stored-passes, parent-keyed-passes, parent-released-passes, answered-passes, none-there, child-passes, both-passes, idle-whole, work-whole}
-use Rattle.pagable_laws.proofs.States.{reads-none}
+use Rattle.pagable_laws.proofs.{States.reads-none, Tested.alike-self, Tested.falls-alone, Tested.is_low, Tested.never, Tested.lists_none, Tested.takes_more}
 use Rattle.pagable_laws.specs.TwoLevels as two
 
 -- a step of the worker at pager, table and list

@@ -4,13 +4,9 @@ use Rattle.pagable_steps.proofs.Words.{◌≡◌, ℕ, ◌<◌, ◌==◌, ◌&&�
 use Rattle.pagable_steps.proofs.Words.{HandleRow, Owner, Mode, HandleNumber, LoadNumber, NodeNumber, if_there, updated, find_row, is_handle, is_owner, is_owned_by, owner_value, is_loose}
 use Rattle.pagable_steps.proofs.Words.{is_in_memory, held, pins, Core, Cell, Values, row_at, type_at, key_at, is_here, Owns, is_named_by, with_mode, without_load, is_owned_in, with_pin, MayEnd}
 use Rattle.pagable_steps.proofs.Words.{Installs, PagerState, MayOwnLoad, IsWhole, WellFormed, self-number, NotLoads, found-number, row-held, row-pins, NotValues, Stands, among-found, found-after}
-use Rattle.pagable_steps.proofs.Words.{stands-whole, stands-changed}
-use Rattle.pagable_steps.proofs.Spared.{owns, Spares}
-use Rattle.pagable_steps.proofs.SparedParts.{and-false, spares-then, spares-same, spares-handle}
-use Rattle.pagable_steps.proofs.SparedHandles.{pinned-here, turned}
-use Rattle.pagable_steps.proofs.Falling.{Sits, Sweeps, fell-from}
 use Rattle.pagable_steps.proofs.Keeping.{OwnsAlike, Keeps, owns-then, spares-owned, sits-on, fell, spares-keeps, mode-owned, mode-others}
-use Rattle.pagable_steps.proofs.FallingCalls.{load-free}
+use Rattle.pagable_steps.proofs.{Falling.Sits, Falling.Sweeps, Falling.fell-from, FallingCalls.load-free, Spared.owns, Spared.Spares, SparedHandles.pinned-here, SparedHandles.turned}
+use Rattle.pagable_steps.proofs.{SparedParts.and-false, SparedParts.spares-then, SparedParts.spares-same, SparedParts.spares-handle, Words.stands-whole, Words.stands-changed}
 use Rattle.pagable_steps.proofs.Moving as moving
 
 -- who begins a load is no value, and no load

@@ -1,8 +1,7 @@
 -- Calls on handles, by which no value comes or goes.
 use Rattle.pagable_steps.proofs.Words.{◌≡◌, ℕ, ◌<◌, Bool, true, Some, Ok, Err, refl, sym, subst, ◌∙◌, arith, Result, nat_lt, nat_tests, Pinning, HandleRow, Owner, Mode, Error, HandleNumber}
 use Rattle.pagable_steps.proofs.Words.{is_pinning, is_pinned, pins, Core, row_at, is_here, Owns, with_mode, CloneCall, PinCall, LoosenCall, IsWhole, row-pins, NotValues, stands-whole}
-use Rattle.pagable_steps.proofs.Spared.{Spares}
-use Rattle.pagable_steps.proofs.SparedParts.{spares-then, spares-alike, spares-made, spares-mode}
+use Rattle.pagable_steps.proofs.{Spared.Spares, SparedParts.spares-then, SparedParts.spares-alike, SparedParts.spares-made, SparedParts.spares-mode}
 
 -- a node that is pinned has its value in memory
 pub pinned-here : (w : Core) (n : ℕ) → 0 < pins n w.rows → is_here w n ≡ true
