@@ -39,9 +39,7 @@ module _ {w w' : Core} {me : Owner} (free : NotLoads me) where
   takes i None c = alike c.1
 
   pub recalls : (kind : Kind) (key : ℕ) (r : Result (Option HandleNumber) Error) → RecallCall w me kind key r w' → Quiet w w'
-  recalls kind key (Ok (Some k)) c = made-handle _ _ _ c.answers.3
-  recalls kind key (Ok None) c = alike c.answers.1
-  recalls kind key (Err e) c = alike c.refused.stays
+  recalls kind key x2 c = grind (arith, nat_tests, made-handle, alike)
 
   pub drops : (l : LoadNumber) (r : Result (Unit {0}) Error) → DropCall w me l r w' → Quiet w w'
   drops l r c = elim c.does [
@@ -214,7 +212,4 @@ module _ {N B W : Type 0} (m : Seen N B W) (w : Core) (me : Owner) (free : NotLo
 -- the cache gets to know an old node only where the caller puts it there
 pub call-knows : (W : Type 0) {N B : Type 0} {v : Values N} {w w' : Core} {me : Owner} {call : Call N B} {reply : Reply N B} {c : Change} → CallFeels v w me call reply w' c
     → LeavesCache {N = N} {B = B} {W = W} (Event.Call call) → KnowsNext c w
-call-knows W {N} {B} (feels-known kind key h row called replied owns typed) leaves = absurd (subst (λ x. LeavesCache {N = N} {B = B} {W = W} (Event.Call x)) called leaves)
-call-knows W (feels-adopted l kind key x k called replied typed are) leaves = λ k2 q n known. known.2
-call-knows W (feels-lazy l kind key k called replied) leaves = λ k2 q n known. known.2
-call-knows W feels leaves = λ k q n known. absurd known
+call-knows x0 x1 leaves = grind (arith, nat_tests)

@@ -1,4 +1,5 @@
 -- Trees stay along chains, pins and reads give them, and keys are right.
+use Rattle.pagable_laws.proofs.Words.{nat_tests}
 use Rattle.pagable_laws.proofs.Words.{◌≡◌, ℕ, ◌+◌, ◌≤◌, List, [], Option, Some, None, ◌⊎◌, inl, inr, refl, sym, ◌∙◌, subst, arith, Event, EventReply, LoadAnswer, Tree, OpenLoad, Reading, Frame}
 use Rattle.pagable_laws.proofs.Words.{Seen, IsLawful, gone_on, MachineState, world_of, IsMachineWhole, StandsFor, FramesFit, ReadingFits, IsReadingOf, Moves, EventBrings, HoldsSettled}
 use Rattle.pagable_laws.proofs.Words.{ReadsItsTypes, IsWellAsked, FramesGiven, Change, CoreGoes, ReadingFeels, EventFeels, by-call, by-reading, by-key, by-nothing, KeepsReadings, KeysAreReady}
@@ -105,11 +106,7 @@ module _ {N E B W : Type 0} (m : Seen N B W) (s s' : MachineState N E) (trees tr
   given-tree k h = pin_stands s'.pager trees' k h.row whole.pager stands.pager h.live h.is
 
   pin-gives : (event : Event N B W) (reply : EventReply N B W) → PinHolds event reply s'.pager.core → PinGives m.values s trees event reply s' trees'
-  pin-gives (Event.Call (Call.Pin h)) (EventReply.CallReply (Reply.Pin (Ok (Pinning.Pinned k)))) pinned = given-tree k pinned
-  pin-gives (Event.LoadStep l) (EventReply.LoadMoved (Ok reply)) pinned = λ k is. given-tree k (pinned k is)
-  pin-gives (Event.Call (Call.LoadEnd l x)) (EventReply.CallReply (Reply.LoadEnded (Ok k))) pinned = given-tree k pinned
-  pin-gives (Event.WorkerStep n) (EventReply.WorkerMoved (Ok reply)) pinned = λ i k is. given-tree k (pinned i k is)
-  pin-gives event reply pinned = tt
+  pin-gives x0 x1 pinned = grind (arith, nat_tests, given-tree)
 
 -- what holds of a machine and its trees along a chain
 pub record IsGoingOn {N E : Type 0} (v : Values N) (s : MachineState N E) (trees : ℕ → Tree) : Type 0 where

@@ -118,8 +118,7 @@ heights-at-first s idle = record { slots = λ t i slot is. let f = idle.shelves 
 module _ {N B W E : Type 0} (m : Seen N B W) (s s' : MachineState N E) (trees : ℕ → Tree) (fit : WorkFits m.values s trees) (low : HeightsIn (world_of s)) where
   starts-low : (shelf : Shelf) (task : Task) → TodoLow shelf (first_todo task)
   unfolding WaitsLow FirstLow
-  starts-low shelf (of_item written) = started-item-low shelf written [] [] _ tt
-  starts-low shelf (of_entry h i) = (refl, tt)
+  starts-low shelf x1 = grind (arith, nat_tests, started-item-low)
 
   module _ (work : StandsIn (world_of s)) (event : Event N B W) (reply : EventReply N B W) (turns : EventTurns m (world_of s) event reply (world_of s')) where
     grow : (t : ℕ) → ShelfGrows (s.work.shelves t) (s'.work.shelves t)

@@ -183,8 +183,7 @@ module _ {N E : Type 0} {v : Values N} (lawful : IsLawful v) (readable : ReadsIt
 
 -- a reading that has begun
 is-fresh : (l : LoadNumber) (o : Option OpenLoad) (reading : Reading) → reading_of_load l o ≡ Some reading → (t : ℕ) × (reading ≡ fresh l t)
-is-fresh l None reading is = absurd (cc)
-is-fresh l (Some load) reading is = grind (arith, same_some)
+is-fresh l x1 reading is = grind (arith, nat_tests, same_some)
 
 pub pin_law : {N E : Type 0} (v : Values N) → PinLaw E v
 pin_law v s mid s' h k reading x row run well starts asks live held lawful readable settled trees stands =

@@ -1,4 +1,5 @@
 -- What is answered as pinned is a handle that pins: of a call, of a load's last step and of a worker's pin.
+use Rattle.pagable_laws.proofs.Words.{nat_tests}
 use Rattle.std.proofs.Common.{rules}
 use Rattle.pagable_laws.proofs.Words.{◌≡◌, ℕ, zero, suc, ◌+◌, ◌≤◌, ◌&&◌, Bool, true, false, List, [], ◌∷◌, ◌++◌, refl, ap, sym, subst, ◌∙◌, inl, inr, arith, Option, Some, None, not}
 use Rattle.pagable_laws.proofs.Words.{if◌then◌else◌, Ok, ArcRef, Identity, HandleNumber, LoadNumber, NodeNumber, Among, changed, Owner, HandleRow, Mode, Event, EventReply, LoadAnswer}
@@ -72,10 +73,7 @@ module _ (w w' : Core) (low : AreLow w) where
       ]
 
 pub not-loose : (mode : Mode) → is_loose mode ≡ false → is_pinning mode ≡ true
-not-loose Mode.LoosePinned is = absurd (cc)
-not-loose Mode.LooseUnpinned is = absurd (cc)
-not-loose Mode.Pinned is = refl
-not-loose Mode.Shared is = refl
+not-loose x0 is = grind (arith, nat_tests)
 
 pub low-handle : (w m : Core) (node : NodeNumber) (mode : Mode) (owner : Owner) → AreLow w → Alike (with_handle w node mode owner) m → AreLow m
 low-handle w m node mode owner low a h among =

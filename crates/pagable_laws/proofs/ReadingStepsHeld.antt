@@ -41,8 +41,7 @@ no-end none is = let e = sym none ∙ is in cc
 -- what a load's step leaves
 pub held-after : {N : Type 0} {v : Values N} {w w' : Core} (reading : Reading) (answer : Option (LoadAnswer N)) (frames : List Frame) {c : Change} → CoreGoes c w w' → answer ≡ None
     → FramesHeld w reading.load reading.frames → ReadingFeels v w reading answer frames w' c → FramesHeld w' reading.load frames
-held-after {w' = w'} reading answer frames goes none held (reads-root load blob none_read at stored a is) =
-    subst (λ fs. FramesHeld w' reading.load fs) (sym is) (new-held (root_frame load.key reading.node_type blob) [] refl (none-held w' reading.load [] refl))
+held-after {w' = w'} reading answer frames goes none held (reads-root load blob none_read at stored a is) = grind (arith, nat_tests, new-held, none-held)
 held-after {w' = w'} reading answer frames goes none held (reads-blob kind key blob needs stored a is) =
     subst (λ fs. FramesHeld w' reading.load fs) (sym is) (new-held (nested_frame kind key blob) reading.frames refl (frames-on goes reading.load reading.frames held))
 held-after {w' = w'} reading answer frames goes none held (gets-known kind key n row needs known got a is) =

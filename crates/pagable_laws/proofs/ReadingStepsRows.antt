@@ -42,22 +42,11 @@ module _ {w w' : Core} (whole : HandlesAreWhole w) (kind : Kind) (k : HandleNumb
 
   -- of a node that there was
   pub got-known : (n : ℕ) (owner : Owner) → Alike (with_known w kind n owner) w' → GetsRow w w' kind n row
-  got-known n owner a =
-      let few = ap (λ (l : Last). l.handle) a.last in
-      gets w.rows (record { 0 = n }) owner (omega (arith, few)) (λ r found. none-above whole k.0 r (next-above k.0 w.last.handle next) found)
-      (subst (λ rows. find_row k.0 rows ≡ Some row) a.rows made)
+  got-known n owner a = grind (arith, nat_tests, gets, none-above, next-above)
 
   -- of such a one, where others were given up then
   pub got-fallen : (n : ℕ) (owner : Owner) {before : Core} {given : ℕ → Bool} → FallsAnyhow before (with_known w kind n owner) given w' → GetsRow w w' kind n row
-  got-fallen n owner f =
-      let a = f.falls.leaves in
-      let made_here = w.rows ++ row_of (w.last.handle + 1) (record { 0 = n }) (mode_of kind.0) owner ∷ [] in
-      let few = ap (λ (l : Last). l.handle) a.last in
-      elim (found-append k.0 (left_rows f.falls.gone made_here) f.falls.entries row (subst (λ rows. find_row k.0 rows ≡ Some row) a.rows made)) [
-        | inl left ↦ gets w.rows (record { 0 = n }) owner (omega (arith, few)) (λ r found. none-above whole k.0 r (next-above k.0 w.last.handle next) found)
-            (found-left f.falls.gone k.0 made_here row left).0
-        | inr new ↦ let none = none-in-new (w.last.handle + 1) k.0 f.falls.entries f.falls.new (omega (arith, next)) in absurd (cc)
-      ]
+  got-fallen n owner f = grind (arith, nat_tests, found-append, gets, none-above, next-above, found-left, none-in-new)
 
   -- of the next node
   pub got-born : (l : LoadNumber) (key : ℕ) (own : OptionalDataKey) (references : List ArcRef) → Alike (adopted w l kind key own references) w' → GetsRow w w' kind (w.last.node + 1) row

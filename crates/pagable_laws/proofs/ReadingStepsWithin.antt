@@ -32,8 +32,7 @@ has-left : {types : Types} {store : ℕ → Option Blob} {key : ℕ} (reading : 
 has-left {types} {store} {key} reading b many longest under = search (rules, owes-some)
 
 ended-some : {X : Type 0} (answer : Option X) → (answer ≡ None → ⊥) → IsSome answer
-ended-some None none = absurd (none refl)
-ended-some (Some x) none = refl
+ended-some x0 x1 = grind (arith, nat_tests)
 
 is-within : {N : Type 0} {types : Types} {store : ℕ → Option Blob} {key : ℕ} (reading : Reading) (frames : List Frame) (reply : LoadReply N) → Bounded types store key reading
     → (reply.ended ≡ None → Bounded types store key (gone_on reading frames)) → reply.steps ≡ one_more reading.steps
@@ -58,8 +57,7 @@ closed-shut : {w w' : Core} {r : _} → CloseCall w r w' → IsShut w'
 closed-shut c = (c.falls.falls.leaves.closed, c.falls.falls.leaves.stored)
 
 keeps-open : {N B W : Type 0} (event : Event N B W) → KeepsOpen event ⊎ (event ≡ Event.Call Call.Close)
-keeps-open (Event.Call Call.Close) = inr refl
-keeps-open event = inl tt
+keeps-open x0 = grind (arith, nat_tests)
 
 module _ {N E B W : Type 0} (m : Seen N B W) (s s' : MachineState N E) (whole : IsMachineWhole m.values s) where
   abbrev u : World

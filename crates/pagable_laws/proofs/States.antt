@@ -202,8 +202,7 @@ pub shelf-again : (x y : Shelf) (t : ℕ) → SameShelf (updated 1 y (updated 1 
 shelf-again x y t = grind (arith, nat_tests, same-shelf)
 
 pub none-there : {X Y : Type 0} (found : Option Y) (x : Option X) → x ≡ None → x ≡ if_there (λ (y : Y). x) None found
-none-there (Some y) x is = refl
-none-there None x is = is
+none-there x0 x is = grind (arith, nat_tests)
 
 -- A step of the worker, after which the pager is whole. With its answer the worker ends.
 pub worker-does : {core mid core' : Core} {shelf shelf' : Shelf} {todo todo' : List Todo} {step : Took Written} {steps' : ℕ} {answer : Option WorkerAnswer} (steps : ℕ)

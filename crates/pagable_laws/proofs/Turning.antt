@@ -93,10 +93,7 @@ module _ (v : ℕ) (task : Task) (shelf shelf' : Shelf) (clean : HasNoFailed she
       covered : {new : Slot} → PutsSlot shelf.slots shelf'.slots (identity_of r) new → CoversBy v task shelf (to_write r place through ∷ below) → (i : Identity) (slot : Slot)
           → shelf'.slots i ≡ Some slot → slot.worker ≡ v → slot.outcome ≡ no_result
           → (is_identity i (identity_of r) || is_open_in i below) ≡ true
-      covered {new = new} puts covers i slot there own still = elim (put-cases shelf.slots shelf'.slots (identity_of r) new puts i slot there) [
-        | inl e ↦ open-self (identity_of r) i (is_open_in i below) e.0
-        | inr e ↦ covers i slot e.1 own still
-      ]
+      covered {new = new} puts covers i slot there own still = grind (arith, nat_tests, put-cases, open-self)
 
   -- key and height are published
   pub published-goes : (r : ArcRef) (key height : ℕ) (below : List Todo) → AllStand shelf v task (to_publish r key height ∷ below) → CoversBy v task shelf (to_publish r key height ∷ below)

@@ -37,18 +37,13 @@ no-load : (s : Site) (todo : List Todo) → s.todo ≡ todo → front_reading to
 no-load s todo is none reading e = let f : front_reading todo ≡ Some reading = ap front_reading (sym is) ∙ e in absurd (cc)
 
 pub started : (place : ℕ) (rs : List ArcRef) (x : Todo) (below : List Todo) → front_reading (x ∷ below) ≡ None → front_reading (next_start place rs ++ x ∷ below) ≡ None
-started place [] x below none = none
-started place (r ∷ rs) x below none = refl
+started place x1 x below x4 = grind (arith, nat_tests)
 
 given : (r : ArcRef) (key height : ℕ) (below : List Todo) → NoLoad below → front_reading (give r key height below) ≡ None
-given r key height [] well = refl
-given r key height (to_finish o ∷ below) well = started o.place _ _ below refl
-given r key height (to_item written keys ∷ below) well = started 0 _ _ below refl
-given r key height _ well = absurd well
+given r key height x3 well = grind (arith, nat_tests, started)
 
 given-known : (r : ArcRef) (key height : ℕ) (below : List Todo) → NoLoad below → front_reading (give_known r key height below) ≡ None
-given-known r key height [] well = refl
-given-known r key height (x ∷ below) well = given r key height (x ∷ below) well
+given-known r key height x3 well = grind (arith, nat_tests, given)
 
 -- ---- the step
 
@@ -71,8 +66,7 @@ pub record WalkFelt {N B W : Type 0} (m : Seen N B W) (v : ℕ) (s s' : Site) (t
   pub knows : HandlesAreWhole s.core → KnowsNext change s.core
 
 gives-back : {w w' : Core} (v : ℕ) (back : Option HandleNumber) → GivesBack w v back w' → Quiet w w'
-gives-back v None a = alike a
-gives-back v (Some h) (told, scheduled) = schedules (works-free v) h told scheduled
+gives-back v x1 x2 = grind (arith, nat_tests, alike, schedules, works-free)
 
 module _ {w w' : Core} (v : ℕ) (r : ArcRef) where
   at-once : (through k : HandleNumber) → PinsAtOnce w (owner_worker v) r through k w' → Quiet w w'
@@ -142,8 +136,7 @@ module _ {N B W : Type 0} (m : Seen N B W) (v : ℕ) (s s' : Site) where
 
   pub walk-goes : (todo : List Todo) (step : Took W) → Does m v s todo step s' → WF todo
   walk-goes (to_start r place ∷ below) (Took.Claim i (Ok Claim.Claimed)) (is, c) = let t = c.finds.1.2 in rests _ (λ n x b. b) t.list_is (λ well. refl) (alike t.pager_stays)
-  walk-goes (to_start r place ∷ below) (Took.Claim i (Ok (Claim.Known key height))) (is, c) = let t = c.finds.1.2 in
-      rests _ (λ n x b. b) t.list_is (given-known r key height below) (alike t.pager_stays)
+  walk-goes (to_start r place ∷ below) (Took.Claim i (Ok (Claim.Known key height))) (is, c) = grind (arith, nat_tests, rests, given-known, alike)
   walk-goes (to_start r place ∷ below) (Took.Claim i (Ok Claim.Waiting)) (is, c) =
       let t = c.finds.1.2 in
       record { change = nothing_felt; goes = quiet-goes nothing_felt (alike t.pager_stays); feels = λ front well. walk-rests (λ n x b. b) (no-load s' _ (t.list_is ∙ front) refl); knows = λ whole k q n known. absurd known }
