@@ -29,11 +29,7 @@ module _ {w : Core} (whole : IsWhole w) where
 
   -- what the list owns
   all-listed-free : AreFree w (is_listed w)
-  all-listed-free h among is =
-      let some : 0 < times (λ (q : HandleNumber). q.0 == h.number.0) w.list = grind (arith, nat_tests) in
-      let c = counted (λ (q : HandleNumber). one (q.0 == h.number.0)) w.list some in
-      let same : c.0.0 ≡ h.number.0 = same-number _ _ (one-true _ c.2) in
-      listed-free whole c.1.0 c.0 c.1.1 h among (let e : (h.number.0 == c.0.0) ≡ true = grind (arith, nat_tests) in e)
+  all-listed-free h among is = grind (arith, nat_tests, counted, listed-free)
 
   -- what a load hands over
   handed-free : (l : LoadNumber) (hs : List HandleNumber) (seen : List ℕ) → named_fault w (Owner.Load l) seen hs ≡ None → AreFree w (is_in (numbers_of hs))

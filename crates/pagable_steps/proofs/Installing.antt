@@ -11,9 +11,7 @@ use Rattle.pagable_steps.proofs.Moving as moving
 
 -- who begins a load is no value, and no load
 asker-free : (w : Core) (o : Owner) → MayOwnLoad w o → NotValues o × NotLoads o
-asker-free w Owner.Caller may = (λ n e. absurd (cc), λ l e. absurd (cc))
-asker-free w (Owner.Worker v) may = (λ n e. absurd (cc), λ l e. absurd (cc))
-asker-free w _ may = absurd may
+asker-free w x1 may = grind (arith, nat_tests)
 
 live-type : (w : Core) (n : ℕ) → is_some (w.cells n) ≡ true → (t : ℕ) × (type_at w n ≡ Some t)
 live-type w n is = at (w.cells n) is
@@ -106,10 +104,7 @@ module _ {N E : Type 0} {v : Values N} {s : PagerState N E} (is : WellFormed v s
         at row live own true e =
             let f : is_named_by (v.references x) q ≡ true = sym (ap (is_named_by (v.references x)) (found-number q w.rows row live)) ∙ e in
             ap (λ b. is_owned_in w (Owner.Load l) q && not b) f ∙ and-false (is_owned_in w (Owner.Load l) q)
-        at row live own false e =
-            let f : row.owner ≡ owner_value n = sym (ap (λ b. (if b then record row { owner = owner_value node.0 } else row).owner) e) ∙ own in
-            let g : is_owned_in w (Owner.Load l) q ≡ false = ap (if_there (is_owned_by (Owner.Load l)) false) live ∙ ap (is_owner (Owner.Load l)) f in
-            ap (λ b. b && not (is_named_by (v.references x) q)) g
+        at row live own false e = grind (arith, nat_tests)
 
 -- ---- the law
 

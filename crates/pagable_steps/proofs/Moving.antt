@@ -69,8 +69,7 @@ module _ {N E : Type 0} {v : Values N} {s : PagerState N E} (is : WellFormed v s
   turned-round n e = grind (arith, nat_tests)
 
   typed-at : (n : ℕ) (y : N) (b : Bool) → (n == node.0) ≡ b → (if b then Some x else s.values n) ≡ Some y → type_at w n ≡ Some (v.node_type y)
-  typed-at n y true e had = ap (type_at w) (same-number n node.0 e) ∙ (typed ∙ ap (λ z. Some (v.node_type z)) (same_some x y had))
-  typed-at n y false e had = is.typed n y had
+  typed-at n y x2 e had = grind (arith, nat_tests)
 
   inside-at : (n : ℕ) (y : N) (q : ℕ) (b : Bool) → (n == node.0) ≡ b → (if b then Some x else s.values n) ≡ Some y → times (λ (r : ArcRef). r.handle.0 == q) (v.references y) ≡ owns n q given_to.rows
   inside-at n y q true e had = ap (λ z. times (λ (r : ArcRef). r.handle.0 == q) (v.references z)) (sym (same_some x y had))

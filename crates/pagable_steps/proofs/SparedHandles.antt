@@ -12,8 +12,7 @@ row-here w h row live pinning = pinned-here w row.node.0 (row-pins w h row live 
 
 module _ {w : Core} (whole : IsWhole w) {me : Owner} (free : NotValues me) where
   pub clones : {w' : Core} {h : HandleNumber} (r : Result HandleNumber Error) → CloneCall w me h r w' → Spares w w'
-  clones {h = h} (Ok k) c = let row : HandleRow = c.made.0 in spares-made row.node row.mode me free (row-here w h row c.made.1) c.made.3
-  clones (Err e) c = spares-alike c.refused.stays
+  clones x0 c = grind (arith, nat_tests, spares-made, row-here, spares-alike)
 
   -- a handle of the asker's in a mode that pins
   pub turned : {fits : Mode → Bool} (h : HandleNumber) (row : HandleRow) → Owns w me h fits row → is_here w row.node.0 ≡ true → Spares w (with_mode w h Mode.LoosePinned)

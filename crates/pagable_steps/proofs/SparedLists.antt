@@ -105,9 +105,7 @@ module _ {w : Core} (whole : IsWhole w) where
 
           cell : (c : Option Cell) → w.cells n ≡ c → is_some (w.cells n) ≡ true → is_here w n ≡ true
           cell None e there = let f : false ≡ true = sym (ap is_some e) ∙ there in absurd (cc)
-          cell (Some x) e there =
-              let f : usable w kind key ≡ (if not (is_in_memory (pins n w.rows) x.key) then None else Some n) = rw (entered.entry, e, is) refl in
-              ap (λ c. is_in_memory (pins n w.rows) (if_there (λ (y : Cell). y.key) OptionalDataKey.None c)) e ∙ in-memory _ (sym f ∙ known)
+          cell (Some x) e there = grind (arith, nat_tests, entered, in-memory)
 
       third : (kind % 3 == 0) ≡ false → (kind % 3 == 1) ≡ false → (kind % 3 == 2) ≡ true
       third a b = grind (arith, nat_tests)

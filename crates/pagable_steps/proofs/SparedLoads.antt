@@ -17,9 +17,7 @@ module _ {w w' : Core} where
   begins (Err e) c = spares-alike c.refused.stays
 
   pub begins-key : {me : Owner} {key : ℕ} (r : Result Beginning Error) → BeginKeyCall w me key r w' → Spares w w'
-  begins-key (Ok Beginning.InMemory) c = absurd c.begins
-  begins-key (Ok (Beginning.Load l k)) c = let a = c.begins.2 in spares-same a.rows a.cells
-  begins-key (Err e) c = spares-alike c.refused.stays
+  begins-key x0 c = grind (arith, nat_tests, spares-same, spares-alike)
 
   module _ (whole : IsWhole w) where
     pub gets-known : {l : LoadNumber} {kind : Kind} {key : ℕ} {k : HandleNumber} → GetsKnown w l kind key k w' → Spares w w'

@@ -100,11 +100,7 @@ times-left t gone (x ∷ xs) = at (gone x.number.0) (times-left t gone xs) ∙ s
 entries-none : (t : HandleRow → Bool) → ((h : HandleRow) → h.mode ≡ Mode.LooseUnpinned → h.owner ≡ Owner.List → t h ≡ false) → (last : ℕ) (entries : List HandleRow)
     → AreNewEntries last entries → times t entries ≡ 0
 entries-none t none last [] new = refl
-entries-none t none last (x ∷ xs) (number, mode, owner, new) =
-    let a = sum_by-cons (λ h. one (t h)) x xs in
-    let b : one (t x) ≡ 0 = ap one (none x mode owner) in
-    let rest = entries-none t none (last + 1) xs new in
-    omega (arith, a, b, rest)
+entries-none t none last (x ∷ xs) (number, mode, owner, new) = grind (arith, nat_tests, entries-none t none (last + 1) xs new)
 
 module _ {before w w' : Core} {given : ℕ → Bool} {r : _} (f : Falls before w given r w') where
   -- what is counted of the rows left and of the entries
