@@ -4,23 +4,15 @@ use Rattle.pagable_laws.proofs.Words.{sum_by-append, sum_by-cons, Identity, Work
 use Rattle.pagable_laws.proofs.Words.{to_start, Walking, World, Seen, is_identity, Site, Does, with_wait, Happens, WorkerSteps, step_of, steps_of, is_claim_of, is_on_table, claims_made, ◌||◌}
 use Rattle.pagable_laws.proofs.Words.{◌++◌, append_assoc, is_none, Among, WorkerAnswer, HandleRow, Owner, owner_worker, is_owned_by, is_owner, OpenLoad, is_workers_load, MachineState, world_of}
 use Rattle.pagable_laws.proofs.Words.{IsMachineWhole, IsIdle, MayOwnLoad, Moment, AreMoments, state_after, events_of, replies_of, InOrder, TableMeets, HasLetGo, WorkerIsRight, LoadsHaveStepsLeft}
-use Rattle.pagable_laws.proofs.Words.{WorkIsRight, HeadlineLaw}
-use Rattle.pagable_laws.proofs.Changing.{ShelfGrows, is-same, PutsSlot, puts-slot, grows}
-use Rattle.pagable_laws.proofs.Holding.{KeepsTask, Turned, keeps-task}
-use Rattle.pagable_laws.proofs.Coming.{updated-at, StandsIn, EventTurns, event-turns, turns-stand, idle-stands}
+use Rattle.pagable_laws.proofs.{Chains.trees_stay, Changing.ShelfGrows, Changing.is-same, Changing.PutsSlot, Changing.puts-slot, Changing.grows, Coming.updated-at, Coming.StandsIn, Coming.EventTurns}
+use Rattle.pagable_laws.proofs.{Coming.event-turns, Coming.turns-stand, Coming.idle-stands, Histories.Went, Histories.HasGone, Histories.goes-on, Holding.KeepsTask, Holding.Turned, Holding.keeps-task}
+use Rattle.pagable_laws.proofs.{Once.once_each, ReadingStepsWithin.loads-bounded, Standing.WalkingStands, Standing.is_failing, Standing.is_open_in, Sums.sum-zero, Words.WorkIsRight, Words.HeadlineLaw}
 use Rattle.std.proofs.Common.{append-nil}
-use Rattle.pagable_laws.proofs.Standing.{WalkingStands, is_failing, is_open_in}
-use Rattle.pagable_laws.proofs.Once.{once_each}
-use Rattle.pagable_laws.proofs.Histories.{Went, HasGone, goes-on}
-use Rattle.pagable_laws.proofs.Sums.{sum-zero}
-use Rattle.pagable_laws.proofs.ReadingStepsWithin.{loads-bounded}
-use Rattle.pagable_laws.proofs.Chains.{trees_stay}
 
 -- ---- claims: each event claims on a table only what wasn't claimed there, and what one worker claimed is among its table's claims
 
 is-there-still : (a b : Option Slot) → ((slot : Slot) → a ≡ Some slot → (new : Slot) × (b ≡ Some new)) → one (is_some a) ≤ one (is_some b)
-is-there-still None b more = omega arith
-is-there-still (Some slot) b more = let n = more slot refl in let e = ap is_some n.1 in rw e (omega arith)
+is-there-still x0 b more = grind (arith, nat_tests)
 
 slots-stay : (shelf shelf' : Shelf) → ShelfGrows shelf shelf' → (i : Identity) → one (is_some (shelf.slots i)) ≤ one (is_some (shelf'.slots i))
 slots-stay shelf shelf' more i = is-there-still (shelf.slots i) (shelf'.slots i) (λ slot there. let a = more i slot there in (a.0, a.1))
@@ -36,9 +28,7 @@ none-more a b le = omega arith
 claim-comes : {N B W : Type 0} (m : Seen N B W) (v : ℕ) (s s' : Site) (i : Identity) (todo : List Todo) (step : Took W) → Does m v s todo step s'
     → one (is_some (s.shelf.slots i)) ≤ one (is_some (s'.shelf.slots i))
     → one (is_some (s.shelf.slots i)) + one (is_claim_of i step) ≤ one (is_some (s'.shelf.slots i))
-claim-comes m v s s' i (to_start r place ∷ below) (Took.Claim j (Ok Claim.Claimed)) (is, c) more = grind (arith, puts-slot, none-more, is-same)
-claim-comes m v s s' i todo (Took.Claim j (Ok Claim.Claimed)) does more = absurd does
-claim-comes m v s s' i todo step does more = none-more _ _ more
+claim-comes m v s s' i x5 x6 x7 more = grind (arith, nat_tests, puts-slot, none-more, is-same)
 
 -- the claims of one event
 abbrev pub claim_made : {N B W : Type 0} → (ℕ → Option Walking) → ℕ → Identity → Event N B W → EventReply N B W → ℕ
@@ -49,15 +39,12 @@ module _ {N B W : Type 0} (walkings : ℕ → Option Walking) (t : ℕ) (i : Ide
   pub claims-cons : (event : Event N B W) (reply : EventReply N B W) (more : List (Event N B W)) (rest : List (EventReply N B W))
       → claims_made walkings t i (event ∷ more) (reply ∷ rest) ≡ claim_made walkings t i event reply + claims_made walkings t i more rest
   unfolding claims_made
-  claims-cons (Event.WorkerStep v) (EventReply.WorkerMoved (Ok reply)) more rest = refl
-  claims-cons event reply more rest = sym (plus-none _)
+  claims-cons x0 x1 more rest = grind (arith, nat_tests, plus-none)
 
   -- what one worker of the table claimed is among them
   pub own-claims : (n : ℕ) (w : Walking) → walkings n ≡ Some w → w.table ≡ t → (happened : List (Event N B W)) (replied : List (EventReply N B W))
       → times (is_claim_of {W = W} i) (steps_of n happened replied) ≤ claims_made walkings t i happened replied
   unfolding steps_of claims_made
-  own-claims n w there on [] replied = omega arith
-  own-claims n w there on (event ∷ more) [] = omega arith
   own-claims n w there on (event ∷ more) (reply ∷ rest) =
       sum _ _ _ _ _ _ (sum_by-append (λ s. one (is_claim_of {W = W} i s)) (step_of n event reply) (steps_of n more rest))
       (claims-cons event reply more rest) (own event reply) (own-claims n w there on more rest)
@@ -79,6 +66,7 @@ module _ {N B W : Type 0} (walkings : ℕ → Option Walking) (t : ℕ) (i : Ide
       own : (event : Event N B W) (reply : EventReply N B W) → times (is_claim_of {W = W} i) (step_of n event reply) ≤ claim_made walkings t i event reply
       own (Event.WorkerStep v) (EventReply.WorkerMoved (Ok reply)) = one-at-once v.0 reply.took (v.0 == n) refl
       own event reply = omega arith
+  own-claims n w there on x4 x5 = grind (arith, nat_tests)
 
   -- each event claims what wasn't claimed, where workers keep their tables
   module _ (m : Seen N B W) (u u' : World) (grow : (q : ℕ) → ShelfGrows (u.work.shelves q) (u'.work.shelves q))
@@ -113,8 +101,7 @@ module _ {N B W : Type 0} (walkings : ℕ → Option Walking) (t : ℕ) (i : Ide
 
     pub event-claims : (event : Event N B W) (reply : EventReply N B W) → Happens m u event reply u'
         → one (is_some ((u.work.shelves t).slots i)) + claim_made walkings t i event reply ≤ one (is_some ((u'.work.shelves t).slots i))
-    event-claims (Event.WorkerStep v) (EventReply.WorkerMoved (Ok reply)) h = step-claims reply h.moves
-    event-claims event reply h = none-more _ _ stay
+    event-claims x0 x1 h = grind (arith, nat_tests, step-claims, none-more, stay)
 
 -- ---- together
 
@@ -171,8 +158,7 @@ module _ {N E B W : Type 0} (m : Seen N B W) where
           record { now = l.now; there = l.there; table = l.table ∙ k.table; task = l.task ∙ k.task }
 
 owner-is : (n : ℕ) (o : Owner) → is_owner (owner_worker n) o ≡ true → o ≡ owner_worker n
-owner-is n (Owner.Worker v) is = let e : v.0 ≡ n = grind (arith, nat_tests) in ap (λ q. Owner.Worker (record { 0 = q })) e
-owner-is n _ is = absurd (cc)
+owner-is n x1 is = grind (arith, nat_tests)
 
 not-both : {A : Type 0} {b : Bool} → b ≡ true → b ≡ false → A
 not-both is other = absurd (cc)

@@ -4,13 +4,11 @@ use Rattle.pagable_laws.proofs.Words.{LoadNumber, NodeNumber, Owner, HandleRow, 
 use Rattle.pagable_laws.proofs.Words.{only_handle, with_mode, next_node, moved, is_named_by, BirthCall, UnpinCall, ReleaseCall, SetKeyCall, ScheduleCall, TakeCall, RecallCall, OfferCall}
 use Rattle.pagable_laws.proofs.Words.{IsRefused, ClearCall, AdoptCall, LazyCall, EndCall, Installs, HandOverCall, DropCall, with_pin, without_load, first_key, CallBrings, IsNewNode, KeepsOpen}
 use Rattle.pagable_laws.proofs.Words.{LeavesCache, Change, nothing_felt, sets_key, knows_node, bears_node, bears_known, CallFeels, feels-nothing, feels-birth, feels-away, feels-key, feels-known}
-use Rattle.pagable_laws.proofs.Words.{arith, feels-adopted, feels-lazy, feels-end, StaysAway}
-use Rattle.pagable_world.specs.Events.{Does}
-use Rattle.pagable_laws.proofs.Trees.{same_some}
 use Rattle.pagable_laws.proofs.Goes.{parts, quiet-self, le-self, Quiet, Goes, NotLoads, rows-self, rows-mode, Changed, found-changed, quiet-then, alike, only-rows, fell, fell-anyhow, a-handle, quiet-goes}
-use Rattle.pagable_laws.proofs.Goes.{goes-quiet, born, keyed, goes-known, adopts, KnowsNext}
-use Rattle.pagable_laws.proofs.GoodReferences.{good, alike-away, fell-away}
 use Rattle.pagable_laws.proofs.Calling.{own-mode, made-handle, some-moved, closed-load, was-asked, stores, clones, pins, begins, begins-key, gets-known, asks, closes}
+use Rattle.pagable_laws.proofs.{Goes.goes-quiet, Goes.born, Goes.keyed, Goes.goes-known, Goes.adopts, Goes.KnowsNext, GoodReferences.good, GoodReferences.alike-away, GoodReferences.fell-away}
+use Rattle.pagable_laws.proofs.{Trees.same_some, Words.arith, Words.feels-adopted, Words.feels-lazy, Words.feels-end, Words.StaysAway}
+use Rattle.pagable_world.specs.Events.{Does}
 
 pub refused-call : {cause : Option Error} {w w' : Core} (r : Result (Unit {0}) Error) → IsRefused cause w r w' → Quiet w w'
 refused-call r c = alike c.stays
@@ -41,9 +39,7 @@ module _ {w w' : Core} {me : Owner} (free : NotLoads me) where
   takes i None c = alike c.1
 
   pub recalls : (kind : Kind) (key : ℕ) (r : Result (Option HandleNumber) Error) → RecallCall w me kind key r w' → Quiet w w'
-  recalls kind key (Ok (Some k)) c = made-handle _ _ _ c.answers.3
-  recalls kind key (Ok None) c = alike c.answers.1
-  recalls kind key (Err e) c = alike c.refused.stays
+  recalls kind key x2 c = grind (arith, nat_tests, made-handle, alike)
 
   pub drops : (l : LoadNumber) (r : Result (Unit {0}) Error) → DropCall w me l r w' → Quiet w w'
   drops l r c = elim c.does [
@@ -216,7 +212,4 @@ module _ {N B W : Type 0} (m : Seen N B W) (w : Core) (me : Owner) (free : NotLo
 -- the cache gets to know an old node only where the caller puts it there
 pub call-knows : (W : Type 0) {N B : Type 0} {v : Values N} {w w' : Core} {me : Owner} {call : Call N B} {reply : Reply N B} {c : Change} → CallFeels v w me call reply w' c
     → LeavesCache {N = N} {B = B} {W = W} (Event.Call call) → KnowsNext c w
-call-knows W {N} {B} (feels-known kind key h row called replied owns typed) leaves = absurd (subst (λ x. LeavesCache {N = N} {B = B} {W = W} (Event.Call x)) called leaves)
-call-knows W (feels-adopted l kind key x k called replied typed are) leaves = λ k2 q n known. known.2
-call-knows W (feels-lazy l kind key k called replied) leaves = λ k2 q n known. known.2
-call-knows W feels leaves = λ k q n known. absurd known
+call-knows x0 x1 leaves = grind (arith, nat_tests)

@@ -3,16 +3,14 @@ use Rattle.pagable_laws.proofs.Words.{◌≡◌, ℕ, ◌==◌, Bool, true, fals
 use Rattle.pagable_laws.proofs.Words.{HandleNumber, LoadNumber, NodeNumber, Owner, HandleRow, Mode, Want, Pinning, Beginning, OptionalDataKey, is_loose, Core, OpenLoad, of_cell, of_key, type_at}
 use Rattle.pagable_laws.proofs.Words.{key_at, Alike, Owns, with_handle, with_mode, moved, CloneCall, PinCall, Asked, StoreCall, without_load, BeginCall, BeginKeyCall, Given, from_cache}
 use Rattle.pagable_laws.proofs.Words.{arith, nat_tests, from_store, AskCall, AsksInVain, GetsKnown, LoadCloses, nothing_felt, BeginsWell}
-use Rattle.pagable_laws.proofs.Trees.{same_some}
-use Rattle.pagable_laws.proofs.Sums.{same-number}
 use Rattle.pagable_laws.proofs.Goes.{parts, le-self, Quiet, Goes, NotLoads, rows-self, rows-mode, rows-moved, quiet-then, alike, only-rows, fell, a-handle, quiet-goes, quiet-begins, goes-quiet, begun}
+use Rattle.pagable_laws.proofs.{Sums.same-number, Trees.same_some}
 
 -- ---- what is done to an own handle
 
 pub own-mode : (w : Core) (me : Owner) (h : HandleNumber) (fits : Mode → Bool) (row : HandleRow) (mode : Mode) → is_loose mode ≡ true → NotLoads me → Owns w me h fits row
     → Quiet w (with_mode w h mode)
-own-mode w me h fits row mode is_so free owns =
-    only-rows (rows-mode w.last.handle w.rows h mode is_so (λ r live l is. let e : row ≡ r = same_some _ _ (sym owns.live ∙ live) in free l (sym owns.own ∙ (ap (λ (x : HandleRow). x.owner) e ∙ is)))) (le-self _)
+own-mode w me h fits row mode is_so free owns = grind (arith, nat_tests, only-rows, rows-mode, same_some, le-self)
 
 pub made-handle : {w w' : Core} (node : NodeNumber) (mode : Mode) (owner : Owner) → Alike (with_handle w node mode owner) w' → Quiet w w'
 made-handle {w} {w'} node mode owner a = quiet-then (a-handle w node mode owner) (alike a)
@@ -38,12 +36,10 @@ stays-open : {b : Bool} → b ≡ false → b ≡ true → ⊥
 stays-open still closed = cc
 
 pub stores : {digest : Blob → ℕ} {w w' : Core} {blob : Blob} → (r : Result ℕ Error) → StoreCall digest w blob r w' → Quiet w w'
-stores {digest} {w} {w'} {blob} (Ok key) c = grind (arith, nat_tests, same_some, alike, was-stored, stays-open)
-stores (Err e) c = was-asked c.refused.0
+stores x0 c = grind (arith, nat_tests, same_some, alike, was-stored, stays-open, was-asked)
 
 pub clones : {w w' : Core} {me : Owner} {h : HandleNumber} (r : Result HandleNumber Error) → CloneCall w me h r w' → Quiet w w'
-clones (Ok k) c = made-handle _ _ _ c.made.3
-clones (Err e) c = alike c.refused.stays
+clones x0 c = grind (arith, nat_tests, made-handle, alike)
 
 pub pins : {w w' : Core} {me : Owner} {h : HandleNumber} (free : NotLoads me) (r : Result Pinning Error) → PinCall w me h r w' → Quiet w w'
 pins {w} {w'} {me} {h} free (Ok (Pinning.Pinned k)) c = quiet-then (own-mode w me h is_loose c.pins.0 Mode.LoosePinned refl free c.pins.1) (made-handle _ _ _ c.pins.2.2)
@@ -71,19 +67,13 @@ begins {w} {w'} {me} {h} (Ok (Beginning.Load l key)) c =
 begins (Err e) c = quiet-goes nothing_felt (alike c.refused.stays)
 
 pub begins-key : {w w' : Core} {me : Owner} {key : ℕ} (r : Result Beginning Error) → BeginKeyCall w me key r w' → Goes nothing_felt w w'
-begins-key (Ok Beginning.InMemory) c = absurd c.begins
-begins-key {w} {w'} {me} {key} (Ok (Beginning.Load l k)) c = goes-quiet (begun nothing_felt w key of_key me (λ node t h root. absurd (cc))) (alike c.begins.2)
-begins-key (Err e) c = quiet-goes nothing_felt (alike c.refused.stays)
+begins-key x0 c = grind (arith, nat_tests, goes-quiet, begun, alike, quiet-goes)
 
 pub gets-known : {w w' : Core} {l : LoadNumber} {kind : Kind} {key : ℕ} {k : HandleNumber} → GetsKnown w l kind key k w' → Quiet w w'
 gets-known g = made-handle _ _ _ g.leaves
 
 pub asks : {w w' : Core} {me : Owner} {l : LoadNumber} {want : Want} (r : Result Given Error) → AskCall w me l want r w' → Quiet w w'
-asks {want = Want.Root} (Ok (from_store blob)) c = was-asked c.gives.2.asked
-asks {want = Want.Root} (Ok (from_cache k)) c = absurd c.gives.2
-asks {want = Want.Nested kind key} (Ok (from_cache k)) c = gets-known c.gives.2
-asks {want = Want.Nested kind key} (Ok (from_store blob)) c = was-asked c.gives.2.1.asked
-asks {w} {w'} {me} {l} {want} (Err e) c = grind (arith, nat_tests, same_some, alike, was-asked)
+asks x0 c = grind (arith, nat_tests, was-asked, gets-known, same_some, alike)
 
 pub closes : {w w' : Core} (l : LoadNumber) {r : Result (Unit {0}) Error} → LoadCloses w l r w' → Quiet w w'
 closes {w} {w'} l c = quiet-then (closed-load w l) (fell c)

@@ -1,24 +1,15 @@
 -- Trees stay along chains, pins and reads give them, and keys are right.
+use Rattle.pagable_laws.proofs.Words.{nat_tests}
 use Rattle.pagable_laws.proofs.Words.{◌≡◌, ℕ, ◌+◌, ◌≤◌, List, [], Option, Some, None, ◌⊎◌, inl, inr, refl, sym, ◌∙◌, subst, arith, Event, EventReply, LoadAnswer, Tree, OpenLoad, Reading, Frame}
 use Rattle.pagable_laws.proofs.Words.{Seen, IsLawful, gone_on, MachineState, world_of, IsMachineWhole, StandsFor, FramesFit, ReadingFits, IsReadingOf, Moves, EventBrings, HoldsSettled}
 use Rattle.pagable_laws.proofs.Words.{ReadsItsTypes, IsWellAsked, FramesGiven, Change, CoreGoes, ReadingFeels, EventFeels, by-call, by-reading, by-key, by-nothing, KeepsReadings, KeysAreReady}
 use Rattle.pagable_laws.proofs.Words.{StepFeels, IsFresh, ChangeFits, ReadingsGiven, TreesAfterEvent, ◌∷◌, Ok, Call, Reply, Pinning, HandleNumber, Values, IsIdle, of_caller, of_worker, IsPremised}
 use Rattle.pagable_laws.proofs.Words.{Moment, AreMoments, TreesAfter, TreesAlong, GivesTree, PinGives, IsRight, HasPin, PinHolds, WorkFits, KeysHeld, ReadingsHeld}
-use Rattle.pagable_laws.proofs.Trees.{same_some}
-use Rattle.pagable_laws.proofs.TreesGoing.{trees-go-on}
-use Rattle.pagable_laws.proofs.Taking.{AtStep, fit-still, fit-after, pin_stands}
-use Rattle.pagable_laws.proofs.ReadingStepsMachine.{is-reading-of}
-use Rattle.pagable_laws.proofs.Staying.{nothing-yet, none-given, fits-of, given-of, event-fits}
+use Rattle.pagable_laws.proofs.{Answering.keys-right, Coming.StandsIn, Coming.event-turns, Coming.turns-stand, Coming.idle-stands, EventSteps.does-feels, KeysGoing.held-at-first, KeysGoing.held-on}
+use Rattle.pagable_laws.proofs.{KeysGoing.keys-ready, KnownSteps.ReadingsAsked, KnownSteps.event-asked, PinSteps.pins-hold, Publishing.fits-at-first, Publishing.fits-on, ReadingStepsGive.reads-give}
+use Rattle.pagable_laws.proofs.{ReadingStepsHeld.event-held, ReadingStepsMachine.is-reading-of, Staying.nothing-yet, Staying.none-given, Staying.fits-of, Staying.given-of, Staying.event-fits}
+use Rattle.pagable_laws.proofs.{Taking.AtStep, Taking.fit-still, Taking.fit-after, Taking.pin_stands, Trees.same_some, TreesGoing.trees-go-on}
 use Rattle.pagable_world.specs.Runs.{Does}
-use Rattle.pagable_laws.proofs.Coming.{StandsIn, event-turns, turns-stand, idle-stands}
-use Rattle.pagable_laws.proofs.Publishing.{fits-at-first, fits-on}
-use Rattle.pagable_laws.proofs.Answering.{keys-right}
-use Rattle.pagable_laws.proofs.KeysGoing.{held-at-first, held-on, keys-ready}
-use Rattle.pagable_laws.proofs.PinSteps.{pins-hold}
-use Rattle.pagable_laws.proofs.EventSteps.{does-feels}
-use Rattle.pagable_laws.proofs.ReadingStepsHeld.{event-held}
-use Rattle.pagable_laws.proofs.ReadingStepsGive.{reads-give}
-use Rattle.pagable_laws.proofs.KnownSteps.{ReadingsAsked, event-asked}
 
 -- ---- a machine that stands for trees stands for them after each event, with all that its loads read
 
@@ -115,11 +106,7 @@ module _ {N E B W : Type 0} (m : Seen N B W) (s s' : MachineState N E) (trees tr
   given-tree k h = pin_stands s'.pager trees' k h.row whole.pager stands.pager h.live h.is
 
   pin-gives : (event : Event N B W) (reply : EventReply N B W) → PinHolds event reply s'.pager.core → PinGives m.values s trees event reply s' trees'
-  pin-gives (Event.Call (Call.Pin h)) (EventReply.CallReply (Reply.Pin (Ok (Pinning.Pinned k)))) pinned = given-tree k pinned
-  pin-gives (Event.LoadStep l) (EventReply.LoadMoved (Ok reply)) pinned = λ k is. given-tree k (pinned k is)
-  pin-gives (Event.Call (Call.LoadEnd l x)) (EventReply.CallReply (Reply.LoadEnded (Ok k))) pinned = given-tree k pinned
-  pin-gives (Event.WorkerStep n) (EventReply.WorkerMoved (Ok reply)) pinned = λ i k is. given-tree k (pinned i k is)
-  pin-gives event reply pinned = tt
+  pin-gives x0 x1 pinned = grind (arith, nat_tests, given-tree)
 
 -- what holds of a machine and its trees along a chain
 pub record IsGoingOn {N E : Type 0} (v : Values N) (s : MachineState N E) (trees : ℕ → Tree) : Type 0 where

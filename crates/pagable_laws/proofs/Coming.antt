@@ -4,15 +4,11 @@ use Rattle.pagable_laws.proofs.Words.{identity_of, no_result, answer_of_fault, W
 use Rattle.pagable_laws.proofs.Words.{arith, Task, Seen, Site, Does, give, give_known, with_wait, answer_after, IsPublished, gone_on, ◌+◌, ◌<◌, ◌≤◌, ◌==◌, Bool, false, nat_eq, if◌then◌else◌}
 use Rattle.pagable_laws.proofs.Words.{nat_tests, WorkerNumber, updated, Call, Reply, Event, EventReply, TableNumber, WorkerReply, Owner, Core, Alike, Shelf, Slot, Walking, World, CallStep}
 use Rattle.pagable_laws.proofs.Words.{Happens, Stays, WorkStays, WorkIs, Starts, no_shelf, new_walking, WorkerSteps, Ends, MachineState, world_of, IsIdle, step_of}
-use Rattle.pagable_laws.proofs.Standing.{is_open_in, AllStand, Covers, HasNoFailed, HasClaim, WorkStands}
 use Rattle.pagable_laws.proofs.Changing.{puts-slot, SlotChanges, ShelfGrows, some-none, grows, same-slots, meets-grow}
-use Rattle.pagable_laws.proofs.Going.{CoversBy, Goes, plain, fails, swaps, gives, given-open, all-stay}
-use Rattle.pagable_laws.proofs.Turning.{claimed, written-goes, published-goes, failed-goes}
-use Rattle.pagable_laws.proofs.Holding.{SameSlots, Turned, work-stands, is-quiet, is-started, is-stepped}
-use Rattle.pagable_laws.proofs.Goes.{NotLoads}
-use Rattle.pagable_laws.proofs.Called.{calls-go}
-use Rattle.pagable_laws.proofs.ReadingSteps.{reading-feels}
-use Rattle.pagable_laws.proofs.WalkSteps.{walk-goes}
+use Rattle.pagable_laws.proofs.{Called.calls-go, Goes.NotLoads, Going.CoversBy, Going.Goes, Going.plain, Going.fails, Going.swaps, Going.gives, Going.given-open, Going.all-stay, Holding.SameSlots}
+use Rattle.pagable_laws.proofs.{Holding.Turned, Holding.work-stands, Holding.is-quiet, Holding.is-started, Holding.is-stepped, ReadingSteps.reading-feels, Standing.is_open_in, Standing.AllStand}
+use Rattle.pagable_laws.proofs.{Standing.Covers, Standing.HasNoFailed, Standing.HasClaim, Standing.WorkStands, Turning.claimed, Turning.written-goes, Turning.published-goes, Turning.failed-goes}
+use Rattle.pagable_laws.proofs.{WalkSteps.walk-goes}
 use Rattle.pagable_laws.proofs.Calling as calling
 
 -- ---- whatever a worker does, what stands of its list and of its table stands afterwards
@@ -51,28 +47,22 @@ module _ {N B W : Type 0} (m : Seen N B W) (v : ℕ) (task : Task) (s s' : Site)
       (plain v task s.shelf s'.shelf c.finds.1.2.table_is.slots clean None (to_start r place ∷ below) (λ a is. absurd (cc)) all covers)
   go (to_start r place ∷ below) e all covers (Took.Claim i (Ok Claim.AlreadyFailed)) (is, c) = to-list c.finds.1.2.list_is (fails v task s.shelf s'.shelf c.finds.1.2.table_is.slots clean _ _)
   go (to_start r place ∷ below) e all covers (Took.Claim i (Err f)) (is, c) = to-list c.refused.1.list_is (fails v task s.shelf s'.shelf c.refused.1.table_is.slots clean _ _)
-  go (to_pin r place ∷ below) e all covers (Took.Pin i (Ok (PinStep.Held k))) (is, p) =
-      to-list p.pins.2.list_is (swaps v task s.shelf s'.shelf p.pins.2.table_stays.slots clean (to_pin r place) (to_write r place p.pins.0) below all covers (λ i. refl) (λ stands. stands))
-  go (to_pin r place ∷ below) e all covers (Took.Pin i (Ok (PinStep.LoadBegun l))) (is, p) =
-      to-list p.pins.2.list_is (swaps v task s.shelf s'.shelf p.pins.2.table_stays.slots clean (to_pin r place) (to_load r place p.pins.0 _) below all covers (λ i. refl) (λ stands. stands))
+  go (to_pin r place ∷ below) e all covers (Took.Pin i (Ok (PinStep.Held k))) (is, p) = grind (arith, nat_tests, to-list, swaps)
+  go (to_pin r place ∷ below) e all covers (Took.Pin i (Ok (PinStep.LoadBegun l))) (is, p) = grind (arith, nat_tests, to-list, swaps)
   go (to_pin r place ∷ below) e all covers (Took.Pin i (Ok PinStep.LoadWent)) (is, p) = absurd p.pins
   go (to_pin r place ∷ below) e all covers (Took.Pin i (Err f)) (is, p) = to-list p.refused.1.list_is (fails v task s.shelf s'.shelf p.refused.1.table_stays.slots clean _ _)
-  go (to_load r place through reading ∷ below) e all covers (Took.Pin i (Ok (PinStep.Held k))) (is, p) =
-      to-list p.goes.1.list_is (swaps v task s.shelf s'.shelf p.goes.1.table_stays.slots clean (to_load r place through reading) (to_write r place through) below all covers (λ i. refl) (λ stands. stands))
+  go (to_load r place through reading ∷ below) e all covers (Took.Pin i (Ok (PinStep.Held k))) (is, p) = grind (arith, nat_tests, to-list, swaps)
   go (to_load r place through reading ∷ below) e all covers (Took.Pin i (Ok (PinStep.LoadBegun l))) (is, p) = absurd p.goes
-  go (to_load r place through reading ∷ below) e all covers (Took.Pin i (Ok PinStep.LoadWent)) (is, p) =
-      to-list p.goes.2.list_is (swaps v task s.shelf s'.shelf p.goes.2.table_stays.slots clean (to_load r place through reading) (to_load r place through (gone_on reading p.goes.0)) below all covers (λ i. refl) (λ stands. stands))
+  go (to_load r place through reading ∷ below) e all covers (Took.Pin i (Ok PinStep.LoadWent)) (is, p) = grind (arith, nat_tests, to-list, swaps)
   go (to_load r place through reading ∷ below) e all covers (Took.Pin i (Err f)) (is, p) = to-list p.refused.1.list_is (fails v task s.shelf s'.shelf p.refused.1.table_stays.slots clean _ _)
   go (to_write r place through ∷ below) e all covers (Took.Write i (Ok out)) (is, p) = to-list p.writes.list_is
       (written-goes v task s.shelf s'.shelf clean r place through (m.written_of out) below all covers p.writes.table_is)
   go (to_write r place through ∷ below) e all covers (Took.Write i (Err f)) (is, p) = to-list p.refused.1.list_is (fails v task s.shelf s'.shelf p.refused.1.table_is.slots clean _ _)
   go (to_finish o ∷ below) e all covers (Took.Store i (Ok key)) (is, p) = grind (arith, to-list, swaps)
   go (to_finish o ∷ below) e all covers (Took.Store i (Err f)) (is, p) = to-list p.refused.list_is (fails v task s.shelf s'.shelf p.refused.table_stays.slots clean _ _)
-  go (to_item written keys ∷ below) e ((is_of, last), apart, rest) covers (Took.Store i (Ok key)) (is, p) =
-      to-list p.goes.list_is (plain v task s.shelf s'.shelf p.goes.table_stays.slots clean _ [] (λ a is. refl) tt (λ i slot there own still. subst (λ b. is_open_in i b ≡ true) last (covers i slot there own still)))
+  go (to_item written keys ∷ below) e ((is_of, last), apart, rest) covers (Took.Store i (Ok key)) (is, p) = grind (arith, nat_tests, to-list, plain)
   go (to_item written keys ∷ below) e all covers (Took.Store i (Err f)) (is, p) = to-list p.refused.list_is (fails v task s.shelf s'.shelf p.refused.table_stays.slots clean _ _)
-  go (to_set r through key height ∷ below) e all covers (Took.SetKey i (Ok u)) (is, p) =
-      to-list p.goes.list_is (swaps v task s.shelf s'.shelf p.goes.table_stays.slots clean (to_set r through key height) (to_publish r key height) below all covers (λ i. refl) (λ stands. stands))
+  go (to_set r through key height ∷ below) e all covers (Took.SetKey i (Ok u)) (is, p) = grind (arith, nat_tests, to-list, swaps)
   go (to_set r through key height ∷ below) e all covers (Took.SetKey i (Err f)) (is, p) = to-list p.refused.list_is (fails v task s.shelf s'.shelf p.refused.table_stays.slots clean _ _)
   go (to_publish r key height ∷ below) e all covers (Took.Publish i k h) (is, same_key, same_height, t) = to-list t.list_is
       (published-goes v task s.shelf s'.shelf clean r key height below all covers t.table_is)
@@ -197,13 +187,10 @@ module _ {N B W : Type 0} (m : Seen N B W) (u u' : World) (work : StandsIn u) wh
   caller-free l is = absurd (cc)
 
   ends-last : (answer : Option WorkerAnswer) (v : ℕ) (w w' : Core) → Ends answer v w w' → w'.last.worker ≡ w.last.worker
-  ends-last None v w w' e = ap (λ l. l.worker) e.last
-  ends-last (Some a) v w w' e = ap (λ l. l.worker) e.falls.leaves.last
+  ends-last x0 v w w' e = grind (arith, nat_tests)
 
   call-last : (call : Call N B) (r : Reply N B) → CallStep m u.core Owner.Caller call r u'.core → NoFewer u.core u'.core
-  call-last Call.Close (Reply.Done r) c = le-of (ap (λ l. l.worker) c.does.falls.falls.leaves.last)
-  call-last Call.Close r c = absurd c.does
-  call-last call r c = (calls-go m u.core Owner.Caller caller-free u'.core call r tt c.does).goes.workers_last
+  call-last x0 x1 c = grind (arith, nat_tests, le-of, calls-go, caller-free)
 
   stepped : (v : WorkerNumber) (reply : WorkerReply W) → WorkerSteps m u v reply u' → EventTurns m u (Event.WorkerStep v) (EventReply.WorkerMoved (Ok reply)) u'
   stepped v reply s =
@@ -235,8 +222,7 @@ module _ {N B W : Type 0} (m : Seen N B W) (u u' : World) (work : StandsIn u) wh
   event-turns tables (Event.Call call) (EventReply.CallReply r) h = by-work _ _ (λ n. refl) (call-last call r h.step) h.work
   event-turns tables (Event.LoadStart q) (EventReply.Started r) h = by-work _ _ (λ n. refl) (calling.begins r h.step).workers_last h.work
   event-turns tables (Event.LoadKey key t) (EventReply.Started r) h = by-work _ _ (λ n. refl) (calling.begins-key r h.step).workers_last h.work
-  event-turns tables (Event.LoadStep l) (EventReply.LoadMoved (Ok r)) h =
-      by-work _ _ (λ n. refl) (reading-feels m u.core Owner.Caller caller-free u'.core h.moves.reading r.ended h.moves.frames h.moves.does).goes.workers_last h.moves.work
+  event-turns tables (Event.LoadStep l) (EventReply.LoadMoved (Ok r)) h = grind (arith, nat_tests, by-work, reading-feels, caller-free)
   event-turns tables (Event.LoadStep l) (EventReply.LoadMoved (Err e)) h = unchanged _ _ (λ n. refl) h.refused.1
   event-turns tables Event.TableNew (EventReply.TableMade (Ok t)) h = tabled _ _ (λ n. refl) tables t h.made.0 h.made.1 h.made.3
   event-turns tables Event.TableNew (EventReply.TableMade (Err e)) h = unchanged _ _ (λ n. refl) h.refused.1

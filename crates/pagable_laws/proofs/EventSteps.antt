@@ -1,4 +1,5 @@
 -- What trees feel of each event that doesn't close the storage.
+use Rattle.pagable_laws.proofs.Words.{nat_tests}
 use Rattle.pagable_laws.proofs.Words.{◌≡◌, ℕ, ◌+◌, ◌<◌, ◌≤◌, Bool, true, false, List, [], ◌∷◌, refl, sym, ap, subst, ◌∙◌, inl, inr, arith, Option, Some, None, ◌⊎◌, Ok, Err, Result, is_some}
 use Rattle.pagable_laws.proofs.Words.{if◌then◌else◌, OptionalDataKey, Error, HandleNumber, LoadNumber, WorkerNumber, Tree, updated, if_there, Owner, Beginning, Event, EventReply, LoadReply}
 use Rattle.pagable_laws.proofs.Words.{TableNumber, WorkerAnswer, WorkerReply, only_handle, Core, Cell, Last, OpenLoad, Reading, Shelf, Todo, to_start, to_finish, to_item, to_release, Task}
@@ -6,16 +7,12 @@ use Rattle.pagable_laws.proofs.Words.{of_item, of_entry, Walking, World, Alike, 
 use Rattle.pagable_laws.proofs.Words.{BeginsKey, ReadingsAre, Stays, begun_readings, KeyStarted, Starts, new_walking, Ends, WorkerSteps, Happens, with_worker, MachineState, world_of, IsWhole}
 use Rattle.pagable_laws.proofs.Words.{HandlesAreWhole, IsMachineWhole, IsNewNode, EventBrings, TodoBrings, IsReadingOf, of_caller, of_worker, KeepsOpen, LeavesCache, Change, nothing_felt}
 use Rattle.pagable_laws.proofs.Words.{CoreGoes, SameNode, NewNode, StaysAway, KeepsReadings, EventFeels, by-call, by-reading, by-key, by-nothing, StepFeels, IsFresh, WorkFits, Waits, Walks}
-use Rattle.pagable_laws.proofs.Words.{Ground}
-use Rattle.pagable_world.specs.Runs.{Does}
-use Rattle.pagable_laws.proofs.Trees.{same_some}
 use Rattle.pagable_laws.proofs.Goes.{parts, le-self, Quiet, Goes, Kept, NotLoads, rows-self, quiet-then, quiet-goes, goes-quiet, alike, fell-anyhow, at-updated, KnowsNext}
-use Rattle.pagable_laws.proofs.GoodReferences.{alike-away}
-use Rattle.pagable_laws.proofs.Calling.{some-moved, begins, begins-key}
-use Rattle.pagable_laws.proofs.Called.{calls-go, call-knows}
-use Rattle.pagable_laws.proofs.ReadingSteps.{reading-feels, feels-alike, reading-knows}
 use Rattle.pagable_laws.proofs.ReadingStepsMachine.{reading-was, steps-load, stepped-load, steps-worker, stepped-worker}
 use Rattle.pagable_laws.proofs.WalkSteps.{NoLoad, WaitsWell, front_reading, LoadsAnew, started, WalkFeels, walk-loads, walk-sets, walk-rests, walk-goes}
+use Rattle.pagable_laws.proofs.{Called.calls-go, Called.call-knows, Calling.some-moved, Calling.begins, Calling.begins-key, GoodReferences.alike-away, ReadingSteps.reading-feels}
+use Rattle.pagable_laws.proofs.{ReadingSteps.feels-alike, ReadingSteps.reading-knows, Trees.same_some, Words.Ground}
+use Rattle.pagable_world.specs.Runs.{Does}
 
 caller-free : NotLoads Owner.Caller
 caller-free l is = absurd (cc)
@@ -35,8 +32,7 @@ worker-ends {w} {w'} v f = quiet-then (others-work w (without_worker w v).loads 
     left false x y is = is
 
 pub ends-quiet : {w w' : Core} (answer : Option WorkerAnswer) (v : ℕ) → Ends answer v w w' → Quiet w w'
-ends-quiet None v e = alike e
-ends-quiet (Some a) v e = worker-ends v e
+ends-quiet x0 v e = grind (arith, nat_tests, alike, worker-ends)
 
 starts-quiet : (u u' : World) (t : TableNumber) (task : Task) (core : Core) (v : WorkerNumber) → Quiet u.core core → Starts u t task core v u' → Quiet u.core u'.core
 starts-quiet u u' t task core v q s = quiet-then q (quiet-then (others-work core core.loads (with_worker core).workers (core.last.worker + 1) (omega arith) (λ l load is. is)) (alike s.pager))
@@ -72,8 +68,7 @@ module _ (u u' : World) where
 
 -- a new worker has no load
 first-no-load : (task : Task) → front_reading (first_todo task) ≡ None
-first-no-load (of_entry h i) = refl
-first-no-load (of_item written) = started 0 _ _ [] refl
+first-no-load x0 = grind (arith, nat_tests, started)
 
 -- ---- events
 
@@ -114,11 +109,7 @@ module _ {N B W : Type 0} (m : Seen N B W) (u u' : World) where
     where
       within : (b : Beginning) → BeginsKey u.core Owner.Caller key b u'.core → (l : LoadNumber) (k : ℕ) → b ≡ Beginning.Load l k → l.0 ≤ u'.core.last.load
       within Beginning.InMemory does l k is = absurd does
-      within (Beginning.Load l2 k2) does l k is =
-          let same : l2 ≡ l = cc in
-          let above = does.1.above in
-          let last : u'.core.last.load ≡ u.core.last.load + 1 = ap (λ (x : Last). x.load) does.2.last in
-          subst (λ (x : LoadNumber). x.0 ≤ u'.core.last.load) same (omega (arith, above, last))
+      within (Beginning.Load l2 k2) does l k is = grind (arith, nat_tests)
 
   load-steps : (l : LoadNumber) (reply : LoadReply N) → Happens m u (Event.LoadStep l) (EventReply.LoadMoved (Ok reply)) u' → EG (Event.LoadStep l) (EventReply.LoadMoved (Ok reply))
   load-steps l reply is =
@@ -201,15 +192,7 @@ core-goes {w} {w'} c whole g =
     key-is x n cell is = ap (λ (y : Option Cell). if_there (λ (z : Cell). z.key) OptionalDataKey.None y) is
 
     same : (n : ℕ) (cell : Cell) → w'.cells n ≡ Some cell → Kept c w n cell → SameNode c w w' n
-    same n cell is k =
-        record {
-          was = ap is_some k.live;
-          typed = type-is w' n cell is ∙ (ap (λ (x : ℕ). Some x) k.typed ∙ sym (type-is w n k.was k.live));
-          key = elim k.key [
-            | inl stays ↦ inl (key-is w' n cell is ∙ (stays ∙ sym (key-is w n k.was k.live)))
-            | inr (key, sets, now) ↦ inr (key, sets, key-is w' n cell is ∙ now)
-          ];
-        }
+    same n cell is k = grind (arith, nat_tests, type-is, key-is, now)
 
     was-there : (n : ℕ) (found : Option Cell) → w'.cells n ≡ found → is_some (w'.cells n) ≡ true → n ≤ w.last.node → SameNode c w w' n
     was-there n None is there few = let e : is_some (w'.cells n) ≡ false = ap is_some is in absurd (cc)
@@ -225,15 +208,10 @@ core-goes {w} {w'} c whole g =
 -- where what workers do fits trees, no load waits below
 waits-well : (shelf : Shelf) (task : Task) (below : List Todo) → Waits shelf task below → NoLoad below
 unfolding Waits
-waits-well shelf task [] waits = tt
-waits-well shelf task (to_finish o ∷ below) waits = tt
-waits-well shelf task (to_item written keys ∷ below) waits = tt
-waits-well shelf task (x ∷ below) waits = absurd waits
+waits-well shelf task x2 waits = grind (arith, nat_tests)
 
 walks-well : {N : Type 0} (v : Values N) (g : Ground) (shelf : Shelf) (task : Task) (todo : List Todo) → Walks v g shelf task todo → WaitsWell todo
-walks-well v g shelf task (to_start r place ∷ below) walks = waits-well shelf task below walks.1
-walks-well v g shelf task (to_release r key height ∷ below) walks = waits-well shelf task below walks.1.1
-walks-well v g shelf task todo walks = tt
+walks-well v g shelf task x4 walks = grind (arith, nat_tests, waits-well)
 
 -- each event of a whole machine is felt
 pub does-feels : {N B W E : Type 0} (m : Seen N B W) (s s' : MachineState N E) (trees : ℕ → Tree) (event : Event N B W) (reply : EventReply N B W)

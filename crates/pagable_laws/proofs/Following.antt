@@ -8,13 +8,9 @@ use Rattle.pagable_laws.proofs.Words.{is_handle, is_owned_by, owner_value, Core,
 use Rattle.pagable_laws.proofs.Words.{WellFormed, HandlesAreWhole, NodeStands, here, away, MeaningStands, number-stands, integer-stands, text-stands, pattern-stands, none-stands, pair-stands}
 use Rattle.pagable_laws.proofs.Words.{variant-stands, followed-stands, reference-stands, Represents, IsWrittenOf, kids_of, HoldsSettled, ReadsItsTypes, AreKeysOf, rest, LooksUp, no-references}
 use Rattle.pagable_laws.proofs.Words.{more-references, Ground, FollowsTo, number-follows, integer-follows, text-follows, pattern-follows, none-follows, pair-follows, variant-follows}
-use Rattle.pagable_laws.proofs.Words.{reference-follows, WroteTree, KeyStands}
-use Rattle.pagable_laws.proofs.Again.{read_again}
 use Rattle.pagable_laws.proofs.Along.{Along, pair-along, variant-along, reference-along, followed-along, AllTwo, no-two, more-two}
-use Rattle.pagable_laws.proofs.Related.{Out, both-given, both-refused, first-refused, both-looked-up, read_par}
-use Rattle.pagable_laws.proofs.Natural.{keeps_forms}
-use Rattle.pagable_laws.proofs.Trees.{same_some, one_tree}
-use Rattle.pagable_laws.proofs.Sums.{same-number, sum-le, sum-zero}
+use Rattle.pagable_laws.proofs.{Again.read_again, Natural.keeps_forms, Related.Out, Related.both-given, Related.both-refused, Related.first-refused, Related.both-looked-up, Related.read_par}
+use Rattle.pagable_laws.proofs.{Sums.same-number, Sums.sum-le, Sums.sum-zero, Trees.same_some, Trees.one_tree, Words.reference-follows, Words.WroteTree, Words.KeyStands}
 
 -- ---- the references in a form's meaning are those of the form, and none is followed
 
@@ -33,9 +29,7 @@ module _ {A : Type 0} where
 
   along-out : {S : A → A → Type 0} {R : A → A → Type 0} {m : Meaning A} {after : Rest A} {first second : Result (Meaning A × Rest A) Error} → Out no_cause S (Along ⊥ R) first second
       → first ≡ Ok (m, after) → (n : Meaning A) × Along ⊥ R m n
-  along-out {R = R} {m} {after} (both-given p q v s) e = let same : p ≡ (m, after) = cc in (q.0, subst (λ (x : Meaning A × Rest A). Along ⊥ R x.0 q.0) same v)
-  along-out (both-refused x) e = absurd (cc)
-  along-out (first-refused x r c) e = absurd c
+  along-out x0 e = grind (arith, nat_tests)
 
   pub references-among : {kind_of : A → ℕ} {parts : ℕ → Shape} {s : Shape} {m : Meaning A} {b : List ℕ} {k : List A} → Throughout IsReadable parts s
       → Form A kind_of parts deepest s m b k → (n : Meaning A) × Along ⊥ (λ a c. Among k a) m n
@@ -87,8 +81,7 @@ module _ {w : Core} (whole : HandlesAreWhole w) (n : ℕ) where
   given-of is = let there = nothing-typed w n _ is in (held-of there, (whole.nodes_numbered n there).1)
 
 first-true : (a b : Bool) → (a && b) ≡ true → a ≡ true
-first-true true b is = refl
-first-true false b is = absurd (cc)
+first-true x0 b is = grind (arith, nat_tests)
 
 -- ---- what was written
 
@@ -104,10 +97,7 @@ rows-once q (h ∷ hs) apart =
 
     at : (b : Bool) → is_handle q h ≡ b → times (is_handle q) hs ≤ 1 → times (is_handle q) (h ∷ hs) ≡ one (is_handle q h) + times (is_handle q) hs → times (is_handle q) (h ∷ hs) ≤ 1
     at false e le sum = let f : one (is_handle q h) ≡ 0 = ap one e in omega (arith, le, sum, f)
-    at true e le sum =
-        let none = sum-zero (λ (x : HandleRow). one (is_handle q x)) hs (λ x among. off (same-number h.number.0 q e) x among.0 among.1 (is_handle q x) refl) in
-        let f : one (is_handle q h) ≡ 1 = ap one e in
-        omega (arith, none, sum, f)
+    at true e le sum = grind (arith, nat_tests, sum-zero, one, off, same-number)
 
 pub handles-once : {w : Core} → HandlesAreWhole w → (q : ℕ) → times (is_handle q) w.rows ≤ 1
 handles-once {w} whole q = rows-once q w.rows (λ i j a b lt at there.
@@ -120,9 +110,7 @@ handles-once {w} whole q = rows-once q w.rows (λ i j a b lt at there.
     less x y a b lt = omega (arith, a, b, lt)
 
 one-less : (a b : Bool) → one (a && b) ≤ one a
-one-less true true = omega arith
-one-less true false = omega arith
-one-less false b = omega arith
+one-less x0 x1 = grind (arith, nat_tests)
 
 module _ {N E : Type 0} {v : Values N} {s : PagerState N E} {trees : ℕ → Tree} (rs : List ArcRef)
     (heads : (r : ArcRef) (b : Meaning ⊥) → Among rs r → NodeStands v s r.node.0 (tree (type_of r.kind.0) b) → (trees r.node.0).meaning ≡ b) where
@@ -197,17 +185,13 @@ module _ (shelf : Shelf) where
   known-key r k h p = ap (λ (slot : Option Slot). if_there (λ (slot : Slot). key_of_outcome slot.outcome) 0 slot) p.claimed ∙ ap key_of_outcome p.known
 
   keys-are : (rs : List ArcRef) (keys : List ℕ) → AreKeysOf shelf rs keys → keys ≡ map key_of_ref (map (keyed_by shelf) rs)
-  keys-are [] [] known = refl
-  keys-are [] (k ∷ ks) known = absurd known
-  keys-are (r ∷ rs) [] known = absurd known
   keys-are (r ∷ rs) (k ∷ ks) ((h, p), known) = rw (known-key r k h p, ← keys-are rs ks known) refl
+  keys-are x0 x1 x2 = grind (arith, nat_tests)
 
   -- of each reference a key is known
   pub known-of : (rs : List ArcRef) (keys : List ℕ) → AreKeysOf shelf rs keys → (r : ArcRef) → Among rs r → (k : ℕ) × ((h : ℕ) × IsPublished shelf (identity_of r) k h)
-  known-of [] keys known r (i, e) = absurd (cc)
-  known-of (x ∷ rs) [] known r among = absurd known
-  known-of (x ∷ rs) (k ∷ ks) (p, known) r (zero, e) = let same : x ≡ r = cc in (k, (p.0, subst (λ (z : ArcRef). IsPublished shelf (identity_of z) k p.0) same p.1))
   known-of (x ∷ rs) (k ∷ ks) (p, known) r (suc i, e) = known-of rs ks known r (i, e)
+  known-of x0 x1 x2 r x4 = grind (arith, nat_tests)
 
 -- a known key stands for the tree of its node, which is of its kind's type
 pub record IdentityStands {N : Type 0} (v : Values N) (g : Ground) (i : Identity) (key : ℕ) : Type 0 where

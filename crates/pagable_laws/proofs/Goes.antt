@@ -3,8 +3,7 @@ use Rattle.pagable_laws.proofs.Words.{◌≡◌, ℕ, ◌+◌, ◌<◌, ◌≤�
 use Rattle.pagable_laws.proofs.Words.{if◌then◌else◌, nat_tests, Blob, ArcRef, Kind, type_of, HandleNumber, LoadNumber, NodeNumber, OptionalDataKey, changed, updated, if_there, HandleRow, Owner}
 use Rattle.pagable_laws.proofs.Words.{Mode, find_row, is_handle, mode_of, is_loose, Core, Cell, OpenLoad, Root, Last, Alike, type_at, key_at, AreNewEntries, Falls, FallsAnyhow, fallen, left_rows}
 use Rattle.pagable_laws.proofs.Words.{row_of, with_handle, with_node, with_key, with_cached, next_node, moved, with_load, adopted, Change, nothing_felt, sets_key, bears_known, Sets, Knows, Bears}
-use Rattle.pagable_laws.proofs.Words.{BeginsWell}
-use Rattle.pagable_laws.proofs.Sums.{same-number}
+use Rattle.pagable_laws.proofs.{Sums.same-number, Words.BeginsWell}
 
 -- the row of a handle before: at the same node, and the same if it is a load's now; a loose handle stays loose
 pub record Was (rows : List HandleRow) (q : ℕ) (row : HandleRow) : Type 0 where
@@ -222,8 +221,7 @@ pub only-rows : {w : Core} {rows : List HandleRow} {list : List HandleNumber} {l
 only-rows go le = parts le (le-self _) (λ n cell is. is) (λ l load is. is) (λ kind key n is. is) go
 
 if-some : {X : Type 0} (b : Bool) (x : Option X) (y : X) → (if b then x else None) ≡ Some y → x ≡ Some y
-if-some true x y is = is
-if-some false x y is = absurd (cc)
+if-some x0 x y is = grind (arith, nat_tests)
 
 pub fell : {before w w' : Core} {given : ℕ → Bool} {r : _} → Falls before w given r w' → Quiet w w'
 fell {before} {w} {w'} f = quiet-then {m = fallen w f.gone f.entries} falls (alike f.leaves)
@@ -329,21 +327,16 @@ quiet-begins {w} {m} {w'} a b =
 
     both : (n t key : ℕ) (found : Option Cell) → m.cells n ≡ found → type_at m n ≡ Some t → key_at m n ≡ OptionalDataKey.Some key → (type_at w n ≡ Some t) × (key_at w n ≡ OptionalDataKey.Some key)
     both n t key None there typed own = let e : type_at m n ≡ None = rw there refl in absurd (cc)
-    both n t key (Some cell) there typed own =
-        let e : w.cells n ≡ m.cells n = a.cells n cell there ∙ sym there in
-        (ap (λ (x : Option Cell). if_there (λ (c : Cell). Some c.node_type) None x) e ∙ typed, ap (λ (x : Option Cell). if_there (λ (c : Cell). c.key) OptionalDataKey.None x) e ∙ own)
+    both n t key (Some cell) there typed own = grind (arith, nat_tests)
 
 at-cached : (k q m kind key n : ℕ) (old : Option ℕ) (b d : Bool) → (kind == k) ≡ b → (key == q) ≡ d → (if b && d then Some m else old) ≡ Some n → ((kind ≡ k) × (key ≡ q) × (n ≡ m)) ⊎ (old ≡ Some n)
-at-cached k q m kind key n old true true e f is = let g : m ≡ n = cc in inl (same-number _ _ e, same-number _ _ f, sym g)
-at-cached k q m kind key n old true false e f is = inr is
-at-cached k q m kind key n old false d e f is = inr is
+at-cached k q m kind key n old x7 x8 e f is = grind (arith, nat_tests, same-number)
 
 pub goes-known : {c : Change} {w m : Core} → Goes c w m → (kind : Kind) (key : ℕ) (n : NodeNumber) → Knows c w kind.0 key n.0 → Goes c w (with_cached m kind key n)
 goes-known {c} {w} {m} a kind key n knows = grind (arith, at-cached)
 
 pub goes-known-if : {c : Change} {w m : Core} → Goes c w m → (kind : Kind) (key : ℕ) (n : NodeNumber) → Knows c w kind.0 key n.0 → (b : Bool) → Goes c w (if b then m else with_cached m kind key n)
-goes-known-if a kind key n knows true = a
-goes-known-if a kind key n knows false = goes-known a kind key n knows
+goes-known-if a kind key n knows x5 = grind (arith, nat_tests, goes-known)
 
 pub adopts : (w : Core) (l : LoadNumber) (kind : Kind) (key : ℕ) (own : OptionalDataKey) (references : List ArcRef) → Goes (bears_known kind.0 key own) w (adopted w l kind key own references)
 adopts w l kind key own references =

@@ -1,4 +1,5 @@
 -- A worker's step keeps what stands of its to-do list and of its table.
+use Rattle.pagable_laws.proofs.Words.{nat_tests}
 use Rattle.pagable_laws.proofs.Words.{◌≡◌, ℕ, zero, suc, ◌||◌, ◌⊎◌, Bool, true, false, List, [], ◌∷◌, ◌++◌, refl, ap, sym, ◌∙◌, inl, inr, Option, Some, None, drop, length, max, ArcRef, Identity}
 use Rattle.pagable_laws.proofs.Words.{HandleNumber, Among, above, WorkerAnswer, identity_of, Shelf, Slot, no_result, Written, Open, Fault, Todo, to_start, to_pin, to_load, to_write, to_finish}
 use Rattle.pagable_laws.proofs.Words.{arith, to_item, to_set, to_publish, to_release, to_fail, Task, is_identity, next_start, settle, give, Meets, meets-of-item, meets-below}
@@ -8,23 +9,19 @@ use Rattle.pagable_laws.proofs.Changing.{Changes, ShelfGrows, some-none, grows, 
 -- ---- or
 
 pub or-cases : (a b : Bool) → (a || b) ≡ true → (a ≡ true) ⊎ (b ≡ true)
-or-cases true b is = inl refl
-or-cases false b is = inr is
+or-cases x0 b is = grind (arith, nat_tests)
 
 pub or-left : (a b : Bool) → a ≡ true → (a || b) ≡ true
-or-left true b is = refl
-or-left false b is = absurd (cc)
+or-left x0 b is = grind (arith, nat_tests)
 
 pub or-right : (a b : Bool) → b ≡ true → (a || b) ≡ true
-or-right true b is = refl
-or-right false b is = is
+or-right x0 b is = grind (arith, nat_tests)
 
 pub true-false : {A : Type 0} {b : Bool} → b ≡ true → b ≡ false → A
 true-false is other = absurd (cc)
 
 pub not-true : (b : Bool) → (b ≡ true → ⊥) → b ≡ false
-not-true true never = absurd (never refl)
-not-true false never = refl
+not-true x0 never = grind (arith, nat_tests)
 
 -- ---- what stands goes on to stand
 
@@ -38,16 +35,7 @@ module _ (u : ℕ) (task : Task) (shelf shelf' : Shelf) (more : ShelfGrows shelf
   KeepsOf test = (i : Identity) → test i ≡ true → (slot : Slot) → shelf.slots i ≡ Some slot → slot.worker ≡ u → shelf'.slots i ≡ Some slot
 
   one-stays : (x : Todo) (below : List Todo) → KeepsOf (λ i. is_open_of i x) → Stands shelf u task x below → Stands shelf' u task x below
-  one-stays (to_start r place) below keeps meets = meets-grow shelf shelf' task (identity_of r) more meets
-  one-stays (to_pin r place) below keeps stands = claim-stays (identity_of r) (keeps (identity_of r) (is-self (identity_of r))) stands
-  one-stays (to_load r place through reading) below keeps stands = claim-stays (identity_of r) (keeps (identity_of r) (is-self (identity_of r))) stands
-  one-stays (to_write r place through) below keeps stands = claim-stays (identity_of r) (keeps (identity_of r) (is-self (identity_of r))) stands
-  one-stays (to_finish o) below keeps stands = claim-stays (identity_of o.reference) (keeps (identity_of o.reference) (is-self (identity_of o.reference))) stands
-  one-stays (to_item written keys) below keeps stands = stands
-  one-stays (to_set r through key height) below keeps stands = claim-stays (identity_of r) (keeps (identity_of r) (is-self (identity_of r))) stands
-  one-stays (to_publish r key height) below keeps stands = claim-stays (identity_of r) (keeps (identity_of r) (is-self (identity_of r))) stands
-  one-stays (to_release r key height) below keeps (meets, known) = (meets-grow shelf shelf' task (identity_of r) more meets, published-stays shelf shelf' (identity_of r) key height more known)
-  one-stays (to_fail fault back) below keeps stands = tt
+  one-stays x0 below keeps x3 = grind (arith, nat_tests, meets-grow, claim-stays, is-self, published-stays)
 
   pub all-stay : (todo : List Todo) → KeepsOf (λ i. is_open_in i todo) → AllStand shelf u task todo → AllStand shelf' u task todo
   unfolding AllStand is_open_in
@@ -69,16 +57,7 @@ module _ (v : ℕ) (task : Task) where
     of-claim j c is = (c.slot, sym (ap shelf.slots (is-same i j is)) ∙ c.claimed)
 
     of-one : (x : Todo) (below : List Todo) → Stands shelf v task x below → is_open_of i x ≡ true → IsSlot
-    of-one (to_start r place) below stands is = absurd (cc)
-    of-one (to_pin r place) below stands is = of-claim (identity_of r) stands.1 is
-    of-one (to_load r place through reading) below stands is = of-claim (identity_of r) stands.1 is
-    of-one (to_write r place through) below stands is = of-claim (identity_of r) stands.1 is
-    of-one (to_finish o) below stands is = of-claim (identity_of o.reference) stands.1 is
-    of-one (to_item written keys) below stands is = absurd (cc)
-    of-one (to_set r through key height) below stands is = of-claim (identity_of r) stands.1 is
-    of-one (to_publish r key height) below stands is = of-claim (identity_of r) stands.1 is
-    of-one (to_release r key height) below stands is = absurd (cc)
-    of-one (to_fail fault back) below stands is = absurd (cc)
+    of-one x0 below stands is = grind (arith, nat_tests, of-claim)
 
     -- what is open has a slot
     pub open-slot : (todo : List Todo) → AllStand shelf v task todo → is_open_in i todo ≡ true → IsSlot
@@ -136,21 +115,18 @@ module _ (v : ℕ) (task : Task) where
   -- ---- references are started
 
   among-drop : (k : ℕ) (rs : List ArcRef) (r : ArcRef) → Among (drop k rs) r → Among rs r
-  among-drop zero rs r among = among
-  among-drop (suc k) [] r among = among
   among-drop (suc k) (x ∷ rs) r among = let a = among-drop k rs r among in (suc a.0, a.1)
+  among-drop x0 x1 r among = grind (arith, nat_tests)
 
   module _ (shelf : Shelf) where
     started : (place : ℕ) (rs : List ArcRef) (todo : List Todo) → ((r : ArcRef) → Among rs r → Meets shelf task (identity_of r)) → AllStand shelf v task todo
         → AllStand shelf v task (next_start place rs ++ todo)
     unfolding AllStand
-    started place [] todo meets all = all
-    started place (r ∷ rs) todo meets all = (meets r (zero, refl), (λ i is. absurd (cc)), all)
+    started place x1 todo meets all = grind (arith, nat_tests)
 
     pub started-open : (i : Identity) (place : ℕ) (rs : List ArcRef) (todo : List Todo) → is_open_in i (next_start place rs ++ todo) ≡ is_open_in i todo
     unfolding is_open_in
-    started-open i place [] todo = refl
-    started-open i place (r ∷ rs) todo = refl
+    started-open i place x2 todo = grind (arith, nat_tests)
 
     pub settles : (o : Open) (below : List Todo) → AllStand shelf v task (to_finish o ∷ below) → AllStand shelf v task (settle (to_finish o ∷ below))
     unfolding AllStand
@@ -173,9 +149,4 @@ module _ (v : ℕ) (task : Task) where
 
     pub given-open : (i : Identity) (r : ArcRef) (key height : ℕ) (todo : List Todo) → is_open_in i (give r key height todo) ≡ is_open_in i todo
     unfolding is_open_in
-    given-open i r key height [] = refl
-    given-open i r key height (to_finish o ∷ below) =
-        let p : Open = record o { keys = o.keys ++ key ∷ []; height = max o.height (above r.kind.0 height) } in
-        started-open i p.place (drop (length p.keys) p.written.references) (to_finish p ∷ below)
-    given-open i r key height (to_item written keys ∷ below) = started-open i 0 (drop (length (keys ++ key ∷ [])) written.references) (to_item written (keys ++ key ∷ []) ∷ below)
-    given-open i r key height (_ ∷ below) = refl
+    given-open i r key height x4 = grind (arith, nat_tests, above, started-open)

@@ -3,16 +3,12 @@ use Rattle.pagable_laws.proofs.Words.{◌≡◌, ℕ, ◌+◌, ◌≤◌, Bool, 
 use Rattle.pagable_laws.proofs.Words.{Identity, HandleNumber, Tree, WorkerNumber, Among, longest_path, Claim, PinStep, Took, Event, EventReply, WorkerReply, identity_of, step_of, Shelf, Slot}
 use Rattle.pagable_laws.proofs.Words.{no_result, published, Written, Open, Fault, was_failed, was_refused, Todo, to_start, to_pin, to_load, to_write, to_finish, to_item, to_set, to_publish}
 use Rattle.pagable_laws.proofs.Words.{to_release, to_fail, Task, of_item, of_entry, Walking, World, Seen, Site, Does, give, give_known, open_node, with_outcome, with_wait, first_todo}
-use Rattle.pagable_laws.proofs.Words.{WorkerSteps, MachineState, world_of, IsIdle, Ground, ground_of, Walks, WorkFits}
-use Rattle.pagable_laws.proofs.Trees.{same_some}
-use Rattle.pagable_laws.proofs.Standing.{AllStand, HasClaim}
 use Rattle.pagable_laws.proofs.Changing.{ShelfGrows, some-same, grows, same-slots, PutsSlot, puts-slot, changes-slot}
-use Rattle.pagable_laws.proofs.Holding.{SameSlots}
-use Rattle.pagable_laws.proofs.Coming.{StandsIn, OwnTurn, rests, begins, steps, EventTurns, updated-at}
-use Rattle.pagable_laws.proofs.Shelves.{keys-grow}
-use Rattle.pagable_laws.proofs.Publishing.{at-number}
 use Rattle.pagable_laws.proofs.Heights.{IsLow, IsAttained, FirstLow, SlotLow, SlotsLow, place_over, WaitsLow, WroteLow, TodoLow, low-on, attained-on, slots-low-on, slots-low-but}
 use Rattle.pagable_laws.proofs.Heights.{slots-low-failed, todo-low-on, all-low, started-low, started-item-low, given-low, given-known-low, opened-low}
+use Rattle.pagable_laws.proofs.{Coming.StandsIn, Coming.OwnTurn, Coming.rests, Coming.begins, Coming.steps, Coming.EventTurns, Coming.updated-at, Holding.SameSlots, Publishing.at-number}
+use Rattle.pagable_laws.proofs.{Shelves.keys-grow, Standing.AllStand, Standing.HasClaim, Trees.same_some, Words.WorkerSteps, Words.MachineState, Words.world_of, Words.IsIdle, Words.Ground}
+use Rattle.pagable_laws.proofs.{Words.ground_of, Words.Walks, Words.WorkFits}
 
 -- what one step of a worker leaves
 record DidLow (shelf : Shelf) (todo : List Todo) : Type 0 where
@@ -122,8 +118,7 @@ heights-at-first s idle = record { slots = λ t i slot is. let f = idle.shelves 
 module _ {N B W E : Type 0} (m : Seen N B W) (s s' : MachineState N E) (trees : ℕ → Tree) (fit : WorkFits m.values s trees) (low : HeightsIn (world_of s)) where
   starts-low : (shelf : Shelf) (task : Task) → TodoLow shelf (first_todo task)
   unfolding WaitsLow FirstLow
-  starts-low shelf (of_item written) = started-item-low shelf written [] [] _ tt
-  starts-low shelf (of_entry h i) = (refl, tt)
+  starts-low shelf x1 = grind (arith, nat_tests, started-item-low)
 
   module _ (work : StandsIn (world_of s)) (event : Event N B W) (reply : EventReply N B W) (turns : EventTurns m (world_of s) event reply (world_of s')) where
     grow : (t : ℕ) → ShelfGrows (s.work.shelves t) (s'.work.shelves t)

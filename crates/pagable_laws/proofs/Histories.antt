@@ -4,13 +4,10 @@ use Rattle.pagable_laws.proofs.Words.{ArcRef, one, times, above, Claim, PinStep,
 use Rattle.pagable_laws.proofs.Words.{Task, of_item, of_entry, Written, next_start, give, first_todo, is_counted, Follows, is_claim, references_written, own_references, zero, suc, ◌==◌, subst}
 use Rattle.pagable_laws.proofs.Words.{Error, Identity, Among, WorkerAnswer, Shelf, answer_of_fault, answer_after, is_open_outcome, MetError, FailedElsewhere, IsMetFailure, Bool, true, false, sym}
 use Rattle.pagable_laws.proofs.Words.{Option, nat_eq, min, nat_tests, WorkerNumber, Event, EventReply, TableNumber, WorkerReply, Walking, World, Seen, greatest, Site, Does, new_walking}
-use Rattle.pagable_laws.proofs.Words.{steps_after, WorkerSteps, Leads, step_of}
+use Rattle.pagable_laws.proofs.{Changing.ShelfGrows, Changing.grows, Coming.StandsIn, Coming.OwnTurn, Coming.rests, Coming.begins, Coming.steps, Coming.EventTurns, Coming.updated-at}
+use Rattle.pagable_laws.proofs.{Nexts.steps_follow, Standing.is_failed, Standing.HasNoFailed, Words.steps_after, Words.WorkerSteps, Words.Leads, Words.step_of}
 use Rattle.std.proofs.Common.{length-append, append-nil}
 use Rattle.std.specs.List.{sum_by}
-use Rattle.pagable_laws.proofs.Changing.{ShelfGrows, grows}
-use Rattle.pagable_laws.proofs.Standing.{is_failed, HasNoFailed}
-use Rattle.pagable_laws.proofs.Nexts.{steps_follow}
-use Rattle.pagable_laws.proofs.Coming.{StandsIn, OwnTurn, rests, begins, steps, EventTurns, updated-at}
 
 -- ---- bounded steps: what a worker has counted, with what it still has to do, is at most what its claims and references allow
 
@@ -35,14 +32,12 @@ all-due (x ∷ below) = due x below + all-due below
 -- something is to be done
 some-due : (x : Todo) (below : List Todo) → 1 ≤ all-due (x ∷ below)
 unfolding all-due
-some-due (to_start r place) [] = omega arith
-some-due _ _ = omega arith
+some-due x0 x1 = grind (arith, nat_tests)
 
 -- what waits starts the first of the references that are left, if there is one
 started-due : (place : ℕ) (rs : List ArcRef) (x : Todo) (below : List Todo) → all-due (next_start place rs ++ x ∷ below) + (length rs - 1) ≤ length rs + all-due (x ∷ below)
 unfolding all-due
-started-due place [] x below = omega arith
-started-due place (r ∷ rs) x below = omega arith
+started-due place x1 x below = grind (arith, nat_tests)
 
 settled-node : (o : Open) (k : ℕ) (below : List Todo) → length o.keys ≡ k
     → all-due (next_start o.place (drop (length o.keys) o.written.references) ++ to_finish o ∷ below) ≤ 4 + (length o.written.references - k) + all-due below
@@ -110,8 +105,7 @@ module _ {W : Type 0} (f : W → Written) where
 
   pub within-first : (task : Task) → IsWithin task (first_todo task) 0 []
   unfolding all-due
-  within-first (of_item written) = grind (arith, settled-item)
-  within-first (of_entry h i) = omega arith
+  within-first x0 = grind (arith, nat_tests, settled-item)
 
   pub within-after : (task : Task) (todo next : List Todo) (n n' : ℕ) (past : List (Took W)) (step : Took W) → n' ≤ n + one (is_counted todo step) → Follows f todo step next
       → IsWithin task todo n past → IsWithin task next n' (past ++ step ∷ [])
@@ -120,9 +114,8 @@ module _ {W : Type 0} (f : W → Written) where
 -- ---- what a worker fails with: a refusal that a step of its own met, or that another's claim has failed where its walk came
 
 among-left : {X : Type 0} (xs ys : List X) (x : X) → Among xs x → Among (xs ++ ys) x
-among-left [] ys x (i, is) = absurd (cc)
-among-left (y ∷ xs) ys x (zero, is) = (zero, is)
 among-left (y ∷ xs) ys x (suc i, is) = let a = among-left xs ys x (i, is) in (suc a.0, a.1)
+among-left x0 ys x x3 = grind (arith, nat_tests)
 
 pub among-last : {X : Type 0} (xs : List X) (x : X) → Among (xs ++ x ∷ []) x
 among-last [] x = (zero, refl)
@@ -134,9 +127,7 @@ failed-stays n shelf shelf' i more was = grind arith
 
 module _ {W : Type 0} (n : ℕ) where
   pub met-stays : (shelf shelf' : Shelf) (past more : List (Took W)) (answer : WorkerAnswer) → ShelfGrows shelf shelf' → IsMetFailure shelf n past answer → IsMetFailure shelf' n (past ++ more) answer
-  met-stays shelf shelf' past more (WorkerAnswer.Key key) grown met = tt
-  met-stays shelf shelf' past more (WorkerAnswer.Failed e) grown (step, among, met) = (step, among-left past more step among, met)
-  met-stays shelf shelf' past more WorkerAnswer.AlreadyFailed grown (i, among, was) = (i, among-left past more (Took.Claim i (Ok Claim.AlreadyFailed)) among, failed-stays n shelf shelf' i grown was)
+  met-stays shelf shelf' past more x4 grown x6 = grind (arith, nat_tests, among-left, failed-stays)
 
   -- ---- what is to be done
 
@@ -149,29 +140,21 @@ module _ {W : Type 0} (n : ℕ) where
   pub fails-stay : (shelf shelf' : Shelf) (past more : List (Took W)) (todo : List Todo) → ShelfGrows shelf shelf' → FailsMet shelf past todo → FailsMet shelf' (past ++ more) todo
   unfolding FailsMet
   fails-stay shelf shelf' past more [] grown met = tt
-  fails-stay shelf shelf' past more (to_fail fault back ∷ below) grown (met, rest) = (
-    met-stays shelf shelf' past more (answer_of_fault fault) grown met,
-    fails-stay shelf shelf' past more below grown rest,
-  )
+  fails-stay shelf shelf' past more (to_fail fault back ∷ below) grown (met, rest) = grind (arith, nat_tests, met-stays, fails-stay shelf shelf' past more below grown rest)
   fails-stay shelf shelf' past more (x ∷ below) grown met = fails-stay shelf shelf' past more below grown met
 
   module _ (shelf : Shelf) (past : List (Took W)) where
     started : (place : ℕ) (rs : List ArcRef) (todo : List Todo) → FailsMet shelf past todo → FailsMet shelf past (next_start place rs ++ todo)
     unfolding FailsMet
-    started place [] todo met = met
-    started place (r ∷ rs) todo met = met
+    started place x1 todo met = grind (arith, nat_tests)
 
     given : (r : ArcRef) (key height : ℕ) (todo : List Todo) → FailsMet shelf past todo → FailsMet shelf past (give r key height todo)
     unfolding FailsMet
-    given r key height [] met = met
-    given r key height (to_finish o ∷ below) met = started o.place (drop (length (o.keys ++ key ∷ [])) o.written.references) _ met
-    given r key height (to_item written keys ∷ below) met = started 0 (drop (length (keys ++ key ∷ [])) written.references) _ met
-    given r key height (_ ∷ below) met = met
+    given r key height x3 met = grind (arith, nat_tests, started)
 
     pub first-met : (task : Task) → FailsMet shelf past (first_todo task)
     unfolding FailsMet
-    first-met (of_item written) = started 0 (drop 0 written.references) (to_item written [] ∷ []) tt
-    first-met (of_entry h i) = tt
+    first-met x0 = grind (arith, nat_tests, started)
 
     -- the last step was refused
     refused : (step : Took W) (e : Error) → Among past step → MetError step e → IsMetFailure shelf n past (WorkerAnswer.Failed e) × Unit {0}
@@ -209,11 +192,7 @@ module _ {W : Type 0} (n : ℕ) where
     -- the answer is what the list was about to fail with, or a key
     pub answered : (todo : List Todo) (step : Took W) (answer : WorkerAnswer) → answer_after todo step ≡ Some answer → FailsMet shelf past todo → IsMetFailure shelf n past answer
     unfolding FailsMet
-    answered (to_fail fault back ∷ below) step answer is (met, rest) = let e : answer_of_fault fault ≡ answer = cc in subst (λ a. IsMetFailure shelf n past a) e met
-    answered (to_item written keys ∷ below) (Took.Store i (Ok key)) answer is met = let e : WorkerAnswer.Key key ≡ answer = cc in subst (λ a. IsMetFailure shelf n past a) e tt
-    answered (to_item written keys ∷ below) (Took.Store i (Err fault)) answer is met = absurd (cc)
-    answered (to_release r key height ∷ []) step answer is met = let e : WorkerAnswer.Key key ≡ answer = cc in subst (λ a. IsMetFailure shelf n past a) e tt
-    answered todo step answer is met = absurd (cc)
+    answered x0 x1 answer is x4 = grind (arith, nat_tests)
 
 -- ---- together
 
@@ -235,8 +214,7 @@ leads-more f todo [] mid step last is follows = (last, subst (λ t. Follows f t 
 leads-more f todo (x ∷ past) mid step last (next, first, leads) follows = (next, first, leads-more f next past mid step last leads follows)
 
 counted : (n : ℕ) (b : Bool) → steps_after n b ≤ n + one b
-counted n true = grind arith
-counted n false = omega arith
+counted n x1 = grind (arith, nat_tests)
 
 -- where a claim finds one that has failed, it is another's
 failed-elsewhere : {N B W : Type 0} (m : Seen N B W) (v : ℕ) (s s' : Site) (todo : List Todo) (i : Identity) → Does m v s todo (Took.Claim i (Ok Claim.AlreadyFailed)) s'
@@ -324,9 +302,7 @@ module _ {N B W : Type 0} (m : Seen N B W) (u u' : World) (grow : (t : ℕ) → 
 
   own-goes : StandsIn u → (v : ℕ) (past taken : List (Took W)) → OwnTurn m u v taken u' → HasGone f v u.work.shelves (u.work.walkings v) past
       → HasGone f v u'.work.shelves (u'.work.walkings v) (past ++ taken)
-  own-goes work v past taken (rests none slots same) gone = stays v (u.work.walkings v) (u'.work.walkings v) past taken same none gone
-  own-goes work v past taken (begins t task none slots nobody new) gone = begun v t task past taken none nobody new gone
-  own-goes work v past taken (steps k reply is taken_is s) gone = grind (arith, went-on)
+  own-goes work v past taken x4 gone = grind (arith, nat_tests, stays, begun, went-on)
 
 -- whatever an event does, its steps are added
 pub goes-on : {N B W : Type 0} (m : Seen N B W) (u u' : World) (event : Event N B W) (reply : EventReply N B W) → StandsIn u → EventTurns m u event reply u' → (n : ℕ) (past : List (Took W))

@@ -7,21 +7,12 @@ use Rattle.pagable_laws.proofs.Words.{GoesTo, first_todo, answer_after, Does, Pi
 use Rattle.pagable_laws.proofs.Words.{with_failed, is_open_outcome, Owns, HandlesAreWhole, WorkerAnswer, Owner, HandleRow, StandsAt, KeyIsSet, is_publishing, AllHold, HasHandle, Change}
 use Rattle.pagable_laws.proofs.Words.{nothing_felt, nat_tests, WorkerNumber, Tree, ReadsTree, Event, EventReply, WorkerReply, find_row, Alike, Walking, World, Values, Ends, WorkerSteps}
 use Rattle.pagable_laws.proofs.Words.{MachineState, world_of, IsMachineWhole, IsIdle, ReadsItsTypes, KeepsOpen, KeysAreReady, KeysHeld, WorkFits, step_of}
-use Rattle.pagable_laws.proofs.Trees.{same_some}
-use Rattle.pagable_laws.proofs.Outlasting.{NotValues, Stands, stands-whole, stands-alike, stands-fell}
-use Rattle.pagable_laws.proofs.Goes.{Goes, fell, keyed, goes-quiet, quiet-goes}
-use Rattle.pagable_laws.proofs.Calling.{pins, begins}
-use Rattle.pagable_laws.proofs.WalkSteps.{works-free, walk-goes}
-use Rattle.pagable_laws.proofs.Changing.{PutsSlot, puts-slot, put-cases, is-same}
-use Rattle.pagable_laws.proofs.Shelves.{keys-same}
 use Rattle.pagable_laws.proofs.Coming.{updated-at, EventTurns, OwnTurn, rests, begins as begins-turn, steps}
-use Rattle.pagable_laws.proofs.Naming.{stands-on, key-on, all-on, claimed-stands, clone-stands}
+use Rattle.pagable_laws.proofs.{Answering.sets-key, Calling.pins, Calling.begins, Changing.PutsSlot, Changing.puts-slot, Changing.put-cases, Changing.is-same, EventSteps.ends-quiet}
+use Rattle.pagable_laws.proofs.{EventSteps.event-goes, Goes.Goes, Goes.fell, Goes.keyed, Goes.goes-quiet, Goes.quiet-goes, Naming.stands-on, Naming.key-on, Naming.all-on, Naming.claimed-stands}
+use Rattle.pagable_laws.proofs.{Naming.clone-stands, Outlasting.NotValues, Outlasting.Stands, Outlasting.stands-whole, Outlasting.stands-alike, Outlasting.stands-fell, Publishing.at-number}
+use Rattle.pagable_laws.proofs.{Shelves.keys-same, Sparing.Spares, SparingSteps.event-spares, Trees.same_some, WalkSteps.works-free, WalkSteps.walk-goes}
 use Rattle.pagable_world.specs.Runs.{Does as DoesMoment}
-use Rattle.pagable_laws.proofs.EventSteps.{ends-quiet, event-goes}
-use Rattle.pagable_laws.proofs.Publishing.{at-number}
-use Rattle.pagable_laws.proofs.Answering.{sets-key}
-use Rattle.pagable_laws.proofs.Sparing.{Spares}
-use Rattle.pagable_laws.proofs.SparingSteps.{event-spares}
 
 -- ---- what workers hold they hold after each event, and each cell whose key was published by a loose reference has a key
 
@@ -30,51 +21,39 @@ use Rattle.pagable_laws.proofs.SparingSteps.{event-spares}
 module _ (w : Core) where
   started : (place : ℕ) (rs : List ArcRef) (todo : List Todo) → is_publishing todo ≡ false → AllHold w todo → AllHold w (next_start place rs ++ todo)
   unfolding AllHold
-  started place [] todo quiet all = all
-  started place (r ∷ rs) todo quiet all = (tt, quiet, all)
+  started place x1 todo quiet all = grind (arith, nat_tests)
 
   settled : (o : Open) (below : List Todo) → AllHold w (to_finish o ∷ below) → AllHold w (settle (to_finish o ∷ below))
   settled o below all = started o.place (drop (length o.keys) o.written.references) (to_finish o ∷ below) refl all
 
   given : (r : ArcRef) (key height : ℕ) (todo : List Todo) → AllHold w todo → AllHold w (give r key height todo)
   unfolding AllHold
-  given r key height [] all = all
-  given r key height (to_finish o ∷ below) all = settled (record o { keys = o.keys ++ key ∷ []; height = max o.height (above r.kind.0 height) }) below all
-  given r key height (to_item written keys ∷ below) all = started 0 (drop (length (keys ++ key ∷ [])) written.references) (to_item written (keys ++ key ∷ []) ∷ below) refl all
-  given r key height (_ ∷ below) all = all
+  given r key height x3 all = grind (arith, nat_tests, settled, above, started)
 
   known : (r : ArcRef) (key height : ℕ) (todo : List Todo) → AllHold w todo → AllHold w (give_known r key height todo)
   unfolding AllHold
-  known r key height [] all = (tt, refl, all)
-  known r key height (x ∷ below) all = given r key height (x ∷ below) all
+  known r key height x3 all = grind (arith, nat_tests, given)
 
   pub item-started : (written : Written) → AllHold w (settle (to_item written [] ∷ []))
   unfolding AllHold
   item-started written = started 0 (drop 0 written.references) (to_item written [] ∷ []) refl (tt, refl, tt)
 
 started-quiet : (place : ℕ) (rs : List ArcRef) (todo : List Todo) → is_publishing todo ≡ false → is_publishing (next_start place rs ++ todo) ≡ false
-started-quiet place [] todo quiet = quiet
-started-quiet place (r ∷ rs) todo quiet = refl
+started-quiet place x1 todo quiet = grind (arith, nat_tests)
 
 given-quiet : (r : ArcRef) (key height : ℕ) (todo : List Todo) → is_publishing todo ≡ false → is_publishing (give r key height todo) ≡ false
-given-quiet r key height [] quiet = refl
-given-quiet r key height (to_finish o ∷ below) quiet = started-quiet o.place (drop (length (o.keys ++ key ∷ [])) o.written.references) _ refl
-given-quiet r key height (to_item written keys ∷ below) quiet = started-quiet 0 (drop (length (keys ++ key ∷ [])) written.references) _ refl
-given-quiet r key height (_ ∷ below) quiet = quiet
+given-quiet r key height x3 quiet = grind (arith, nat_tests, started-quiet)
 
 known-quiet : (r : ArcRef) (key height : ℕ) (todo : List Todo) → is_publishing todo ≡ false → is_publishing (give_known r key height todo) ≡ false
-known-quiet r key height [] quiet = refl
-known-quiet r key height (x ∷ below) quiet = given-quiet r key height (x ∷ below) quiet
+known-quiet r key height x3 quiet = grind (arith, nat_tests, given-quiet)
 
 pub first-quiet : (task : Task) → is_publishing (first_todo task) ≡ false
-first-quiet (of_item written) = started-quiet 0 (drop 0 written.references) (to_item written [] ∷ []) refl
-first-quiet (of_entry h i) = refl
+first-quiet x0 = grind (arith, nat_tests, started-quiet)
 
 -- ---- keys that are set
 
 cell-keyed : (key : ℕ) (found : Option Cell) (cell : Cell) → if_there (λ (x : Cell). Some (record x { key = OptionalDataKey.Some key })) None found ≡ Some cell → has_key cell.key ≡ true
-cell-keyed key None cell is = absurd (cc)
-cell-keyed key (Some was) cell is = let e : record was { key = OptionalDataKey.Some key } ≡ cell = cc in ap (λ (x : Cell). has_key x.key) (sym e)
+cell-keyed key x1 cell is = grind (arith, nat_tests)
 
 key-set : {w w' : Core} (v : ℕ) (r : ArcRef) (through : HandleNumber) (key : ℕ) (u : Unit {0}) → StandsAt w r through → SetKeyCall w (owner_worker v) through key (Ok u) w'
     → is_loose_kind r.kind.0 ≡ true → KeyIsSet w' r.node.0
@@ -111,8 +90,7 @@ module _ (shelf shelf' : Shelf) (P : Identity → Type 0) where
   new-reveals i new none puts j key height p = grind (arith, put-cases, known)
 
   of-some : (f : Slot → Slot) (o : Option Slot) (slot : Slot) → if_there (λ (z : Slot). Some (f z)) None o ≡ Some slot → (old : Slot) × (o ≡ Some old) × (f old ≡ slot)
-  of-some f None slot e = absurd (cc)
-  of-some f (Some old) slot e = (old, refl, same_some _ _ e)
+  of-some f x1 slot e = grind (arith, nat_tests, same_some)
 
   -- one slot changes
   changed-reveals : (i : Identity) (f : Slot → Slot) → SameShelf (with_changed_slot shelf i f) shelf'
@@ -238,8 +216,7 @@ module _ {N B W : Type 0} (m : Seen N B W) (u u' : World) {c : Change} (goes : G
 
   first-hold : (w : Core) (task : Task) → AllHold w (first_todo task)
   unfolding AllHold
-  first-hold w (of_item written) = item-started w written
-  first-hold w (of_entry h i) = (tt, refl, tt)
+  first-hold w x1 = grind (arith, nat_tests, item-started)
 
   module _ (event : Event N B W) (reply : EventReply N B W) (turns : EventTurns m u event reply u') (spares : (n : ℕ) → step_of n event reply ≡ [] → Spares (owner_worker n) u.core u'.core) where
     abbrev WalkHolds : ℕ → Walking → Type 0

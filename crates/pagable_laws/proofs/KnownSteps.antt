@@ -1,18 +1,14 @@
 -- What a load has got goes on to be what its blobs asked for, whatever happens.
+use Rattle.pagable_laws.proofs.Words.{nat_tests}
 use Rattle.pagable_laws.proofs.Words.{◌≡◌, ℕ, Bool, true, false, List, [], ◌∷◌, refl, sym, subst, inl, inr, if◌then◌else◌, Option, Some, None, Kind, Types, is_eager, HandleRow, Event, EventReply}
 use Rattle.pagable_laws.proofs.Words.{LoadAnswer, Core, Frame, Reading, World, Values, Next, reads, asks, is_faulty, next_in, need_at, need_of, needs_nested, needs_lazy, nested_frame, with_got}
 use Rattle.pagable_laws.proofs.Words.{IsReadingOf, Change, KeepsReadings, ReadingFeels, reads-root, reads-blob, gets-known, gets-lazy, makes-known, makes-node, reading-ends, EventFeels, by-call}
-use Rattle.pagable_laws.proofs.Words.{arith, by-reading, by-key, by-nothing, Needs}
-use Rattle.pagable_laws.proofs.Fitting.{asked}
-use Rattle.pagable_laws.proofs.ReadingStepsMachine.{is-reading-of}
-use Rattle.pagable_laws.proofs.Asking.{none-got, one-got, FramesAsked}
+use Rattle.pagable_laws.proofs.{Asking.none-got, Asking.one-got, Asking.FramesAsked, Fitting.asked, ReadingStepsMachine.is-reading-of, Words.arith, Words.by-reading, Words.by-key, Words.by-nothing}
+use Rattle.pagable_laws.proofs.{Words.Needs}
 
 -- what is read together with a value is asked for through a reference that isn't loose
 pub eager-nested : (below : List Frame) (next : Next) (kind : Kind) (key : ℕ) → need_at below next ≡ needs_nested kind key → is_eager kind.0 ≡ true
-eager-nested below (asks k q) kind key is = grind arith
-eager-nested [] (reads own) kind key is = absurd (cc)
-eager-nested (x ∷ xs) (reads own) kind key is = absurd (cc)
-eager-nested below (is_faulty e) kind key is = absurd (cc)
+eager-nested x0 x1 kind key is = grind (arith, nat_tests)
 
 module _ (types : Types) where
   -- one more reference was got that the innermost blob asked for
@@ -24,25 +20,20 @@ module _ (types : Types) where
 
   needed-asked : (frames : List Frame) (kind : Kind) (key : ℕ) (row : HandleRow) → FramesAsked types frames → Needs types frames kind key → FramesAsked types (with_got kind row frames)
   unfolding FramesAsked
-  needed-asked [] kind key row got needs = tt
-  needed-asked (frame ∷ below) kind key row got needs = with-asked frame below kind key row got (asked below (next_in types frame) kind key needs)
+  needed-asked x0 kind key row got needs = grind (arith, nat_tests, with-asked, asked)
 
   nested-asked : (frames : List Frame) (kind : Kind) (key : ℕ) (blob : _) → FramesAsked types frames → need_of types frames ≡ needs_nested kind key
       → FramesAsked types (nested_frame kind key blob ∷ frames)
   unfolding FramesAsked
-  nested-asked [] kind key blob got needs = absurd (cc)
-  nested-asked (frame ∷ below) kind key blob got needs =
-      (none-got [] refl, eager-nested below (next_in types frame) kind key needs, asked below (next_in types frame) kind key (inl needs), got)
+  nested-asked x0 kind key blob got needs = grind (arith, nat_tests, none-got, eager-nested, asked)
 
   made-asked : (top : Frame) (below : List Frame) (row : HandleRow) → FramesAsked types (top ∷ below) → FramesAsked types (with_got top.kind row below)
   unfolding FramesAsked
-  made-asked top [] row got = tt
-  made-asked top (under ∷ rest) row (got, eager, next, more) = with-asked under rest top.kind top.key row more next
+  made-asked top x1 row x3 = grind (arith, nat_tests, with-asked)
 
   none-asked : (frames : List Frame) → frames ≡ [] → FramesAsked types frames
   unfolding FramesAsked
-  none-asked [] is = tt
-  none-asked (x ∷ xs) is = absurd (cc)
+  none-asked x0 is = grind (arith, nat_tests)
 
 no-end : {X : Type 0} {answer : Option X} {x : X} → answer ≡ None → answer ≡ Some x → ⊥
 no-end none is = cc
@@ -53,16 +44,13 @@ pub asked-after : {N : Type 0} {v : Values N} {w w' : Core} (reading : Reading) 
     → ReadingFeels v w reading answer frames w' c → FramesAsked v.types frames
 unfolding FramesAsked
 asked-after {v = v} reading answer frames none got (reads-root load blob none_read at stored a is) = subst (λ fs. FramesAsked v.types fs) (sym is) (none-got [] refl)
-asked-after {v = v} reading answer frames none got (reads-blob kind key blob needs stored a is) =
-    subst (λ fs. FramesAsked v.types fs) (sym is) (nested-asked v.types reading.frames kind key blob got needs)
+asked-after {v = v} reading answer frames none got (reads-blob kind key blob needs stored a is) = grind (arith, nat_tests, nested-asked)
 asked-after {v = v} reading answer frames none got (gets-known kind key n row needs known gets a is) =
     subst (λ fs. FramesAsked v.types fs) (sym is) (needed-asked v.types reading.frames kind key row got needs)
 asked-after {v = v} reading answer frames none got (gets-lazy kind key row needs gets a is) =
     subst (λ fs. FramesAsked v.types fs) (sym is) (needed-asked v.types reading.frames kind key row got (inr needs))
-asked-after {v = v} reading answer frames none got (makes-known x r n row known gets a is) =
-    subst (λ fs. FramesAsked v.types fs) (sym is) (made-asked v.types r.top r.below row (subst (λ fs. FramesAsked v.types fs) r.frames got))
-asked-after {v = v} reading answer frames none got (makes-node x r row gets a is) =
-    subst (λ fs. FramesAsked v.types fs) (sym is) (made-asked v.types r.top r.below row (subst (λ fs. FramesAsked v.types fs) r.frames got))
+asked-after {v = v} reading answer frames none got (makes-known x r n row known gets a is) = grind (arith, nat_tests, made-asked)
+asked-after {v = v} reading answer frames none got (makes-node x r row gets a is) = grind (arith, nat_tests, made-asked)
 asked-after reading answer frames none got (reading-ends end a is) = absurd (no-end none a)
 
 -- so it is of all that is read

@@ -1,42 +1,19 @@
 -- A load from its begin to its end keeps trees: what it pins stands for its node's tree, and what it reads for the tree that its key reads as.
 use Rattle.std.proofs.Common.{◌≡◌, ℕ, zero, ◌+◌, ◌<◌, ◌≤◌, ◌==◌, true, List, [], Option, Some, None, if◌then◌else◌, inl, inr, refl, sym, ap, subst, ◌∙◌, arith}
 use Rattle.std.proofs.lemmas.Bool.Decides.{nat_tests}
-use Rattle.pagable_world.specs.declared.events.LoadAnswer.{LoadAnswer}
-use Rattle.pagable_world.specs.declared.events.LoadAnswer.TheVariants as ends
-use Rattle.pagable_world.specs.declared.handles.HandleRow.{HandleRow}
-use Rattle.pagable_world.specs.declared.handles.Owner.TheVariants as owners
-use Rattle.pagable_world.specs.Plain.{ArcRef, Blob, LoadNumber, NodeNumber, Tree, Among}
-use Rattle.pagable_world.specs.Kinds.{held}
-use Rattle.pagable_world.specs.declared.rows.Mode.TheVariants as modes
 use Rattle.pagable_world.specs.World.{Core, Last, Alike, Root, of_cell, of_key, OpenLoad, Frame, Reading, Written, Values, Seen, IsLawful, type_at}
-use Rattle.pagable_world.specs.Refusals.{IsReference}
-use Rattle.pagable_world.specs.Calls.{with_handle}
-use Rattle.pagable_world.specs.LoadCalls.{with_load}
-use Rattle.pagable_world.specs.Loads.{Does, EndsRead, ReadsRoot, gone_on}
-use Rattle.pagable_world.specs.Workers.{fresh}
-use Rattle.pagable_world.specs.Events.{reading_of_root, reading_of_load}
 use Rattle.pagable_world.specs.Pager.{PagerState, WellFormed, Moves, ReadingBrings, Represents, ReadingFits, FramesFit, SameTrees}
-use Rattle.pagable_world.specs.Runs.{ReadsItsTypes, HoldsSettled, TakesWell}
-use Rattle.pagable_world.specs.Headline.{ReadIsRight}
-use Rattle.pagable_world.specs.Access.{ReadingStep, LoadRun, load-ends, load-goes-on, LoadAsksWell, PinLaw, ReadLaw}
-use Rattle.pagable_laws.specs.ReadLaws.{FramesGiven}
-use Rattle.pagable_laws.specs.ReadRuns.{FramesHeld}
-use Rattle.pagable_laws.specs.TreeSteps.{nothing_felt, CoreGoes, ReadingFeels, HandsOver}
-use Rattle.pagable_laws.specs.TreeRuns.{ChangeFits}
-use Rattle.pagable_laws.proofs.Trees.{same_some}
-use Rattle.pagable_laws.proofs.Goes.{Goes}
-use Rattle.pagable_laws.proofs.Calling.{begins, begins-key}
-use Rattle.pagable_laws.proofs.Decoding.{decodes}
-use Rattle.pagable_laws.proofs.Fitting.{first-fits, frames-stay}
-use Rattle.pagable_laws.proofs.Felt.{fits-nothing}
-use Rattle.pagable_laws.proofs.Brought.{reading-fits}
-use Rattle.pagable_laws.proofs.TreesGoing.{trees-go-on}
-use Rattle.pagable_laws.proofs.Taking.{AtStep, FitAfter, fit-after, row-held, root-right, stands-here}
-use Rattle.pagable_laws.proofs.ReadingSteps.{ReadingFelt, caller-free, reading-feels}
-use Rattle.pagable_laws.proofs.ReadingStepsHanding.{hands}
-use Rattle.pagable_laws.proofs.ReadingStepsHeld.{held-after}
-use Rattle.pagable_laws.proofs.ReadingStepsGive.{got-typed}
-use Rattle.pagable_laws.proofs.EventSteps.{core-goes}
+use Rattle.pagable_world.specs.{Access.ReadingStep, Access.LoadRun, Access.load-ends, Access.load-goes-on, Access.LoadAsksWell, Access.PinLaw, Access.ReadLaw, Calls.with_handle}
+use Rattle.pagable_world.specs.{Events.reading_of_root, Events.reading_of_load, Headline.ReadIsRight, Kinds.held, LoadCalls.with_load, Loads.Does, Loads.EndsRead, Loads.ReadsRoot, Loads.gone_on}
+use Rattle.pagable_world.specs.{Plain.ArcRef, Plain.Blob, Plain.LoadNumber, Plain.NodeNumber, Plain.Tree, Plain.Among, Refusals.IsReference, Runs.ReadsItsTypes, Runs.HoldsSettled, Runs.TakesWell}
+use Rattle.pagable_world.specs.{Workers.fresh, declared.events.LoadAnswer.LoadAnswer, declared.handles.HandleRow.HandleRow}
+use Rattle.pagable_laws.specs.{ReadLaws.FramesGiven, ReadRuns.FramesHeld, TreeRuns.ChangeFits, TreeSteps.nothing_felt, TreeSteps.CoreGoes, TreeSteps.ReadingFeels, TreeSteps.HandsOver}
+use Rattle.pagable_laws.proofs.{Brought.reading-fits, Calling.begins, Calling.begins-key, Decoding.decodes, EventSteps.core-goes, Felt.fits-nothing, Fitting.first-fits, Fitting.frames-stay, Goes.Goes}
+use Rattle.pagable_laws.proofs.{ReadingSteps.ReadingFelt, ReadingSteps.caller-free, ReadingSteps.reading-feels, ReadingStepsGive.got-typed, ReadingStepsHanding.hands, ReadingStepsHeld.held-after}
+use Rattle.pagable_laws.proofs.{Taking.AtStep, Taking.FitAfter, Taking.fit-after, Taking.row-held, Taking.root-right, Taking.stands-here, Trees.same_some, TreesGoing.trees-go-on}
+use Rattle.pagable_world.specs.declared.events.LoadAnswer.TheVariants as ends
+use Rattle.pagable_world.specs.declared.handles.Owner.TheVariants as owners
+use Rattle.pagable_world.specs.declared.rows.Mode.TheVariants as modes
 
 abbrev seen : {N : Type 0} → Values N → Seen N Blob Written
 seen v = record { values = v; blob_of = λ b. b; written_of = λ w. w }
@@ -206,8 +183,7 @@ module _ {N E : Type 0} {v : Values N} (lawful : IsLawful v) (readable : ReadsIt
 
 -- a reading that has begun
 is-fresh : (l : LoadNumber) (o : Option OpenLoad) (reading : Reading) → reading_of_load l o ≡ Some reading → (t : ℕ) × (reading ≡ fresh l t)
-is-fresh l None reading is = absurd (cc)
-is-fresh l (Some load) reading is = grind (arith, same_some)
+is-fresh l x1 reading is = grind (arith, nat_tests, same_some)
 
 pub pin_law : {N E : Type 0} (v : Values N) → PinLaw E v
 pin_law v s mid s' h k reading x row run well starts asks live held lawful readable settled trees stands =

@@ -7,17 +7,15 @@ use Rattle.pagable_laws.proofs.Words.{IsMachineWhole, IsCellOf, sym, subst, Even
 use Rattle.pagable_laws.proofs.Tested.{alike-self, falls-alone, is_low, never, lists_none, takes_more, falls-so, Passes}
 use Rattle.pagable_laws.proofs.States.{none-there, work-whole, reads-none, only-at, evicted-passes, parent-loading-passes, got-passes, parent-loaded-passes, child-cloned-passes}
 use Rattle.pagable_laws.proofs.States.{child-loading-passes, child-loaded-passes, key-loading-passes, child-known-passes, read-back-passes, ◌⨾◌}
-use Rattle.pagable_laws.proofs.Two.{and-false}
+use Rattle.pagable_laws.proofs.{Two.and-false, Walks.paged_out, Walks.work-stays, Walks.only-pager}
 use Rattle.pagable_world.specs.Runs.{Does}
-use Rattle.pagable_laws.proofs.Walks.{paged_out, work-stays, only-pager}
 use Rattle.pagable_laws.specs.TwoLevels as two
 use Rattle.pagable_model.specs.Reading as grammar
 
 -- ---- readings
 
 some-there : {X Y : Type 0} (found : Option Y) (x : Option X) → is_some found ≡ true → x ≡ if_there (λ (y : Y). x) None found
-some-there (Some y) x is = refl
-some-there None x is = absurd (cc)
+some-there x0 x is = grind (arith, nat_tests)
 
 -- the one reading goes on
 pub reads-on : (core : Core) (n : ℕ) (r : Reading) (f : ℕ → Option Reading) → is_some (core.loads n) ≡ true → ((l : ℕ) → (l == n) ≡ false → f l ≡ None) → (l : ℕ)
@@ -212,15 +210,12 @@ reads-child = record { root = root_frame 8 1 two.leaf_blob; frames = refl; decod
 
 pub parent-back : (n : ℕ) (x : two.Sample) → two.value_at two.parent_value n ≡ Some x → (n ≡ 2) × (x ≡ two.parent (two.to_leaf 3 8))
 unfolding two.value_at
-parent-back (suc (suc zero)) x is = (refl, cc)
-parent-back _ x is = absurd (cc)
+parent-back x0 x is = grind (arith, nat_tests)
 
 pub child-back : (n : ℕ) (x : two.Sample) → two.value_at two.last_values n ≡ Some x
     → (two.value_at two.parent_value n ≡ Some x) ⊎ ((two.value_at two.parent_value n ≡ None) × (n ≡ 3) × (x ≡ two.leaf))
 unfolding two.value_at
-child-back (suc (suc zero)) x is = inl is
-child-back (suc (suc (suc zero))) x is = inr (refl, refl, cc)
-child-back _ x is = absurd (cc)
+child-back x0 x is = grind (arith, nat_tests)
 
 pub of-parent : IsCellOf two.child_got (two.load_number 1) 2
 unfolding find_row is_named_by

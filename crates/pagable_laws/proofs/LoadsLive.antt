@@ -1,14 +1,11 @@
 -- What a load has got stays live and the load's own, each handle once, as long as the load makes its own steps; and so does the handle that began it.
+use Rattle.pagable_laws.proofs.Words.{nat_tests}
 use Rattle.pagable_laws.proofs.Words.{◌≡◌, ℕ, zero, suc, ◌+◌, ◌<◌, ◌≤◌, ◌==◌, ◌||◌, Bool, true, false, List, [], ◌∷◌, ◌++◌, Some, inl, inr, refl, sym, ap, subst, ◌∙◌, if◌then◌else◌, arith}
 use Rattle.pagable_laws.proofs.Words.{slice_get, sum_by, sum_by-cons, sum_by_push, HandleRow, Owner, Mode, ArcRef, Kind, HandleNumber, LoadNumber, NodeNumber, OptionalDataKey, Among, type_of}
 use Rattle.pagable_laws.proofs.Words.{one, times, mode_of, Core, Last, OpenLoad, of_cell, Frame, Alike, row_at, row_of, with_handle, with_node, next_node, is_named_by, Asked, adopted, GetsKnown}
-use Rattle.pagable_laws.proofs.Words.{with_got, HandlesAreWhole}
-use Rattle.pagable_laws.proofs.Sums.{self-number, same-number, at-most-sum, sum-zero}
-use Rattle.pagable_laws.proofs.Goes.{found-number, none-in-next}
 use Rattle.pagable_laws.proofs.Outlasting.{Stands, AreUpTo, stands-alike, stands-changed, stands-more, stands-new, among-changed}
-use Rattle.pagable_laws.proofs.ReadingStepsRows.{cached-rows}
-use Rattle.pagable_laws.proofs.Fitting.{pushed}
-use Rattle.pagable_laws.proofs.Apart.{AreApart}
+use Rattle.pagable_laws.proofs.{Apart.AreApart, Fitting.pushed, Goes.found-number, Goes.none-in-next, ReadingStepsRows.cached-rows, Sums.self-number, Sums.same-number, Sums.at-most-sum, Sums.sum-zero}
+use Rattle.pagable_laws.proofs.{Words.with_got, Words.HandlesAreWhole}
 
 -- ---- each handle once
 
@@ -116,9 +113,7 @@ module _ (w w' : Core) where
     known = adopted w l kind key own references
 
     to-known : {q : ℕ} {row : HandleRow} → Stands made.last.handle made.rows q row → Stands known.last.handle known.rows q row
-    to-known {q} {row} s =
-        let c = cached-rows made kind key (next_node w) in
-        subst (λ (last : Last). Stands last.handle known.rows q row) (sym c.1) (subst (λ rows. Stands made.last.handle rows q row) (sym c.0) s)
+    to-known {q} {row} s = grind (arith, nat_tests, cached-rows)
 
     pub adopted-keeps : {q : ℕ} {row : HandleRow} → Alike known w' → is_named_by references q ≡ false → Stands w.last.handle w.rows q row → Stands w'.last.handle w'.rows q row
     adopted-keeps {q} {row} a free s =

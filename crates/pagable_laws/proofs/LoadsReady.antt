@@ -2,15 +2,10 @@
 use Rattle.pagable_laws.proofs.Words.{◌≡◌, ℕ, zero, suc, ◌+◌, ◌==◌, false, List, [], ◌∷◌, Some, inl, inr, refl, sym, ap, subst, ◌∙◌, arith, OptionalDataKey, HandleRow, Owner, ArcRef, Kind}
 use Rattle.pagable_laws.proofs.Words.{HandleNumber, LoadNumber, NodeNumber, Tree, Among, times, one, find_row, mode_of, Core, OpenLoad, of_cell, Frame, Reading, Values, IsLawful, row_at}
 use Rattle.pagable_laws.proofs.Words.{is_named_by, with_got, root_frame, nested_frame, GoesOn, GetsLazy, MakesNode, GetsKnown, HandlesAreWhole, FramesFit, ReadsItsTypes, FramesHeld}
-use Rattle.pagable_laws.proofs.Trees.{same_some}
-use Rattle.pagable_laws.proofs.Sums.{self-number, at-most-sum}
-use Rattle.pagable_laws.proofs.Goes.{found-number}
-use Rattle.pagable_laws.proofs.GoodReferences.{good}
-use Rattle.pagable_laws.proofs.Outlasting.{NotValues, Stands, stands-whole, stands-alike, stands-fell}
-use Rattle.pagable_laws.proofs.Fitting.{first-fits}
-use Rattle.pagable_laws.proofs.Decoding.{decodes}
 use Rattle.pagable_laws.proofs.LoadsLive.{GotOnce, AllBelow, got-cons, once-new, once-below, once-none, once-got, with-one, new-one, asked-keeps, known-keeps, adopted-keeps, adopted-new}
-use Rattle.pagable_laws.proofs.LoadsLive.{not-named, Live, LoadReady, live-new, live-got}
+use Rattle.pagable_laws.proofs.{Decoding.decodes, Fitting.first-fits, Goes.found-number, GoodReferences.good, LoadsLive.not-named, LoadsLive.Live, LoadsLive.LoadReady, LoadsLive.live-new}
+use Rattle.pagable_laws.proofs.{LoadsLive.live-got, Outlasting.NotValues, Outlasting.Stands, Outlasting.stands-whole, Outlasting.stands-alike, Outlasting.stands-fell, Sums.self-number}
+use Rattle.pagable_laws.proofs.{Sums.at-most-sum, Trees.same_some}
 
 module _ {N : Type 0} (v : Values N) (lawful : IsLawful v) (readable : ReadsItsTypes v.types) (w w' : Core) (reading : Reading) (load : OpenLoad) (trees : ℕ → Tree) (root_key root_type : ℕ)
     (whole : HandlesAreWhole w)

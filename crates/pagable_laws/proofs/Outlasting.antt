@@ -1,24 +1,18 @@
 -- A handle that is live, that no value owns and that isn't given up outlasts a cascade, with its row.
-use Rattle.std.proofs.lemmas.Grind.{common_steps}
-use Rattle.std.proofs.Common.{rules}
+use Rattle.std.proofs.{Common.rules, lemmas.Grind.common_steps}
 use Rattle.pagable_laws.proofs.Words.{◌≡◌, ℕ, zero, suc, ◌+◌, ◌<◌, ◌≤◌, ◌==◌, ◌&&◌, Bool, true, false, List, [], ◌∷◌, ◌++◌, cond, refl, ap, sym, subst, ◌∙◌, inl, inr, arith, Option, Some, None}
 use Rattle.pagable_laws.proofs.Words.{not, if◌then◌else◌, filter, map, slice_get, cases_order, nat_tests, get_or_from_slice_get, slice_get_within, HandleNumber, NodeNumber, Among, changed, one}
 use Rattle.pagable_laws.proofs.Words.{or_else, Owner, HandleRow, find_row, is_handle, is_owner, is_owned_by, owner_value, Core, Last, Alike, IsWithin, IsClosed, IsLeast, is_keyed, Falls}
-use Rattle.pagable_laws.proofs.Words.{left_rows, fallen, owned_outside, IsHandleBefore, HandlesAreWhole}
+use Rattle.pagable_laws.proofs.{Decoding.among-either, Existing.inside, Existing.wider, Goes.le-more, Goes.found-number, Goes.none-in-new, Sums.same-number, Sums.self-number, Sums.sum-zero}
+use Rattle.pagable_laws.proofs.{Sums.at-most-sum, Trees.same_some, Words.left_rows, Words.fallen, Words.owned_outside, Words.IsHandleBefore, Words.HandlesAreWhole}
 use Rattle.std.specs.List.{AllPairs}
-use Rattle.pagable_laws.proofs.Sums.{same-number, self-number, sum-zero, at-most-sum}
-use Rattle.pagable_laws.proofs.Existing.{inside, wider}
-use Rattle.pagable_laws.proofs.Decoding.{among-either}
-use Rattle.pagable_laws.proofs.Trees.{same_some}
-use Rattle.pagable_laws.proofs.Goes.{le-more, found-number, none-in-new}
 
 -- no value's
 abbrev pub NotValues : Owner → Type 0
 NotValues o = (n : NodeNumber) → o ≡ Owner.Value n → ⊥
 
 pub not-owned : (n : ℕ) (o : Owner) → NotValues o → is_owner (owner_value n) o ≡ false
-not-owned n (Owner.Value m) free = absurd (free m refl)
-not-owned n _ free = refl
+not-owned n x1 free = grind (arith, nat_tests)
 
 -- ---- what doesn't fall
 
@@ -95,10 +89,7 @@ none-found q (x ∷ xs) h none among is = at (λ none a. none-found q xs h none 
     at : (find_row q xs ≡ None → Among xs h → ⊥) → (b : Bool) → is_handle q x ≡ b → (if b then Some x else find_row q xs) ≡ None → Among (x ∷ xs) h → ⊥
     at rest true e none among = absurd (cc)
     at rest false e none (suc i, a) = rest none (i, a)
-    at rest false e none (zero, a) =
-        let same : x ≡ h = cc in
-        let f : is_handle q x ≡ true = ap (λ (y : HandleRow). y.number.0 == q) same ∙ (ap (λ n. n == q) is ∙ self-number q) in
-        absurd (cc)
+    at rest false e none (zero, a) = grind (arith, nat_tests, self-number)
 
 -- no number of a row is above this one
 abbrev pub AreUpTo : ℕ → List HandleRow → Type 0
@@ -137,9 +128,8 @@ stands-alike {w} {w'} {q} {row} a s = subst (λ l. Stands l w'.rows q row) (sym 
 
 -- the element of a changed list was one before
 pub among-changed : {X : Type 0} (f : X → X) (xs : List X) (x : X) → Among (map f xs) x → (y : X) × Among xs y × (x ≡ f y)
-among-changed f [] x among = absurd (cc)
-among-changed f (y ∷ ys) x (zero, is) = (y, (zero, refl), cc)
 among-changed f (y ∷ ys) x (suc i, is) = let r = among-changed f ys x (i, is) in (r.0, (suc r.1.0, r.1.1), r.2)
+among-changed f x1 x x3 = grind (arith, nat_tests)
 
 module _ (test : HandleRow → Bool) (f : HandleRow → HandleRow) (same : (h : HandleRow) → (f h).number ≡ h.number) where
   abbrev after : HandleRow → HandleRow

@@ -1,16 +1,15 @@
 -- What is answered as pinned is a handle that pins: of a call, of a load's last step and of a worker's pin.
+use Rattle.pagable_laws.proofs.Words.{nat_tests}
 use Rattle.std.proofs.Common.{rules}
 use Rattle.pagable_laws.proofs.Words.{◌≡◌, ℕ, zero, suc, ◌+◌, ◌≤◌, ◌&&◌, Bool, true, false, List, [], ◌∷◌, ◌++◌, refl, ap, sym, subst, ◌∙◌, inl, inr, arith, Option, Some, None, not}
 use Rattle.pagable_laws.proofs.Words.{if◌then◌else◌, Ok, ArcRef, Identity, HandleNumber, LoadNumber, NodeNumber, Among, changed, Owner, HandleRow, Mode, Event, EventReply, LoadAnswer}
 use Rattle.pagable_laws.proofs.Words.{WorkerAnswer, Took, Call, Reply, Pinning, PinStep, find_row, is_handle, is_pinning, is_loose, owner_worker, Core, Last, World, Seen, Todo, to_pin}
-use Rattle.pagable_laws.proofs.Words.{to_load, row_at, Alike, FallsAnyhow, row_of, with_handle, with_mode, moved}
 use Rattle.pagable_laws.proofs.Words.{is_named_by, CloneCall, PinCall, with_pin, without_load, is_owned_in, EndCall, Site, PinsAtOnce, answer_after, Ends, Happens, HandlesAreWhole, HasPin}
-use Rattle.pagable_laws.proofs.Words.{PinHolds}
+use Rattle.pagable_laws.proofs.Outlasting.{AreUpTo, after-number, NotValues, Stands, stands-new, stands-alike, stands-fell, among-changed, none-above}
+use Rattle.pagable_laws.proofs.{Decoding.among-either, Trees.same_some, Words.to_load, Words.row_at, Words.Alike, Words.FallsAnyhow, Words.row_of, Words.with_handle, Words.with_mode, Words.moved}
+use Rattle.pagable_laws.proofs.{Words.PinHolds}
 use Rattle.pagable_world.specs.Loads.{Does}
 use Rattle.pagable_world.specs.Workers as workers
-use Rattle.pagable_laws.proofs.Trees.{same_some}
-use Rattle.pagable_laws.proofs.Outlasting.{AreUpTo, after-number, NotValues, Stands, stands-new, stands-alike, stands-fell, among-changed, none-above}
-use Rattle.pagable_laws.proofs.Decoding.{among-either}
 
 -- no row has a number above the last one
 abbrev pub AreLow : Core → Type 0
@@ -74,10 +73,7 @@ module _ (w w' : Core) (low : AreLow w) where
       ]
 
 pub not-loose : (mode : Mode) → is_loose mode ≡ false → is_pinning mode ≡ true
-not-loose Mode.LoosePinned is = absurd (cc)
-not-loose Mode.LooseUnpinned is = absurd (cc)
-not-loose Mode.Pinned is = refl
-not-loose Mode.Shared is = refl
+not-loose x0 is = grind (arith, nat_tests)
 
 pub low-handle : (w m : Core) (node : NodeNumber) (mode : Mode) (owner : Owner) → AreLow w → Alike (with_handle w node mode owner) m → AreLow m
 low-handle w m node mode owner low a h among =

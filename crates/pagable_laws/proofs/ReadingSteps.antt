@@ -1,15 +1,14 @@
 -- A load's step, as trees feel it: one change, what it does to the plain world with it, and how the load's own blobs grow.
+use Rattle.pagable_laws.proofs.Words.{arith, nat_tests}
 use Rattle.std.proofs.Common.{rules}
 use Rattle.pagable_laws.proofs.Words.{◌≡◌, List, [], refl, sym, subst, ◌∙◌, inl, inr, Option, Some, None, ◌⊎◌, Ok, Err, OptionalDataKey, Error, Owner, LoadAnswer, Core, OpenLoad, Frame, Reading}
 use Rattle.pagable_laws.proofs.Words.{Alike, Seen, Values, EndCall, HandOverCall, first_key, Fails, RefusesRoot, LoadIs, IsOfCell, IsOfKey, handles_of, GetsRoot, GetsCached, GetsBlob, GetsLazy}
 use Rattle.pagable_laws.proofs.Words.{MakesNode, ReadingDoes, HandlesAreWhole, Change, nothing_felt, bears_known, ReadingFeels, reads-root, reads-blob, gets-known, gets-lazy, makes-known}
-use Rattle.pagable_laws.proofs.Words.{makes-node, reading-ends, ℕ, Want, AskCall, AsksInVain}
-use Rattle.pagable_world.specs.Loads.{Does, Meets}
-use Rattle.pagable_laws.proofs.Trees.{same_some}
 use Rattle.pagable_laws.proofs.Goes.{Quiet, Goes, NotLoads, quiet-then, quiet-goes, goes-quiet, alike, a-handle, fell-anyhow, adopts, KnowsNext}
 use Rattle.pagable_laws.proofs.Calling.{noted, asks, closes, gets-known as was-known}
-use Rattle.pagable_laws.proofs.Called.{hands-over, ends-quiet}
 use Rattle.pagable_laws.proofs.ReadingStepsRows.{got-known, got-fallen, got-born, gets-alike, is-cached}
+use Rattle.pagable_laws.proofs.{Called.hands-over, Called.ends-quiet, Trees.same_some, Words.makes-node, Words.reading-ends, Words.ℕ, Words.Want, Words.AskCall, Words.AsksInVain}
+use Rattle.pagable_world.specs.Loads.{Does, Meets}
 
 -- some change, what the step does to the world with it, and how it is felt; a load that goes on is open
 pub record ReadingFelt {N : Type 0} (v : Values N) (w : Core) (reading : Reading) (answer : Option (LoadAnswer N)) (frames : List Frame) (w' : Core) : Type 0 where
@@ -27,8 +26,7 @@ module _ {N : Type 0} (v : Values N) (w : Core) (me : Owner) (reading : Reading)
   Notes = (f : ℕ) × Alike (record w { failures = f }) u
 
   asks-in-vain : (want : Want) (load : OpenLoad) → AsksInVain w load want e u → Notes
-  asks-in-vain Want.Root load vain = (u.failures, vain.asked.leaves)
-  asks-in-vain (Want.Nested k q) load vain = (u.failures, vain.1.asked.leaves)
+  asks-in-vain x0 load vain = grind (arith, nat_tests)
 
   ask-refused : (want : Want) → AskCall w me reading.load want (Err e) u → Notes
   ask-refused want c = elim c.refused [ inl refused ↦ (w.failures, refused.stays) | inr (load, owned, vain) ↦ asks-in-vain want load vain ]
@@ -36,8 +34,7 @@ module _ {N : Type 0} (v : Values N) (w : Core) (me : Owner) (reading : Reading)
   refused-root : (root : RefusesRoot v w me reading e u)
       → (LoadIs w reading IsOfCell × EndCall w me reading.load root.x (v.node_type root.x) (v.references root.x) (Err (e, Some root.x)) u)
       ⊎ (LoadIs w reading IsOfKey × HandOverCall w me reading.load (handles_of (v.references root.x)) (Err e) u) → Notes
-  refused-root root (inl (is, ended)) = (w.failures, ended.refused.1.stays)
-  refused-root root (inr (is, handed)) = (w.failures, handed.refused.1)
+  refused-root root x1 = grind (arith, nat_tests)
 
   pub meets : Meets v w me reading e u → Notes
   meets does = search (rules, ask-refused, refused-root)
@@ -150,6 +147,4 @@ feels-alike (reading-ends end answer is) a = reading-ends end answer is
 
 pub reading-knows : {N : Type 0} {v : Values N} {w w' : Core} {reading : Reading} {answer : Option (LoadAnswer N)} {frames : List Frame} {c : Change}
     → ReadingFeels v w reading answer frames w' c → KnowsNext c w
-reading-knows (gets-lazy kind key row needs got answer is) = λ k q n known. known.2
-reading-knows (makes-node x reads row got answer is) = λ k q n known. known.2
-reading-knows feels = λ k q n known. absurd known
+reading-knows x0 = grind (arith, nat_tests)

@@ -1,15 +1,11 @@
 -- How many steps an open load still needs: at most two for each reference that its blobs still take, with all that it leads to, and one for each of its blobs.
-use Rattle.pagable_laws.proofs.Words.{nat_tests}
-use Rattle.std.proofs.Common.{rules}
 use Rattle.pagable_laws.proofs.Words.{◌≡◌, ℕ, ◌+◌, ◌*◌, ◌≤◌, ◌⊎◌, true, List, [], ◌∷◌, ◌++◌, refl, sym, subst, ◌∙◌, inl, inr, arith, Option, Some, None, Kind}
 use Rattle.pagable_laws.proofs.Words.{Blob, Types, type_of, is_eager, HandleRow, Core, OpenLoad, Frame, Reading, Values, asks, next_in, need_of, needs_nested}
 use Rattle.pagable_laws.proofs.Words.{needs_lazy, to_adopt, root_frame, nested_frame, with_got, after_kinds, Unfolds, unfolds, UnfoldsFrom, ends-here, takes-next, leaves-next, KeepsStored}
 use Rattle.pagable_laws.proofs.Words.{Change, ReadingFeels, reads-root, reads-blob, gets-known, gets-lazy, makes-known, makes-node, reading-ends}
-use Rattle.pagable_laws.proofs.Trees.{same_some}
-use Rattle.pagable_laws.proofs.Fitting.{asked}
-use Rattle.pagable_laws.proofs.Taking.{adopted-over}
-use Rattle.pagable_laws.proofs.ReadingStepsKinds.{kinds_of, asks-by-kinds, kinds-pushed}
-use Rattle.pagable_laws.proofs.KnownSteps.{eager-nested}
+use Rattle.pagable_laws.proofs.{Fitting.asked, KnownSteps.eager-nested, ReadingStepsKinds.kinds_of, ReadingStepsKinds.asks-by-kinds, ReadingStepsKinds.kinds-pushed, Taking.adopted-over}
+use Rattle.pagable_laws.proofs.{Trees.same_some, Words.nat_tests}
+use Rattle.std.proofs.Common.{rules}
 
 -- ---- what a blob still takes
 
@@ -33,9 +29,7 @@ one-rest rest = omega arith
 
 takes : {types : Types} {store : ℕ → Option Blob} {t many longest : ℕ} {blob : Blob} {kinds : List ℕ} → UnfoldsFrom types store t blob kinds many longest → (kind : Kind) (key : ℕ)
     → after_kinds types t blob kinds ≡ asks kind key → Takes types store t blob kinds many kind key
-takes (ends-here t blob kinds own is) kind key asked_is = absurd (cc)
-takes {types} {store} (takes-next t child below rest deep longest blob kinds k is eager under from) kind key asked_is = grind (arith, nat_tests)
-takes {types} {store} (leaves-next t child rest longest blob kinds k is lazy from) kind key asked_is = grind (arith, nat_tests)
+takes x0 kind key asked_is = grind (arith, nat_tests)
 
 -- ---- what the open blobs still need
 
@@ -64,8 +58,7 @@ owes-first types store many frames none = subst (λ fs. Owes types store many fs
 
 pub owes-some : (types : Types) (store : ℕ → Option Blob) (many : ℕ) (frames : List Frame) (owed : ℕ) → Owes types store many frames owed → 1 ≤ owed
 unfolding Owes
-owes-some types store many [] owed is = omega arith
-owes-some types store many (frame ∷ below) owed o = let e = o.sum in omega (arith, e)
+owes-some types store many x3 owed x5 = grind (arith, nat_tests)
 
 -- it needs less afterwards
 pub record OwesLess (types : Types) (store : ℕ → Option Blob) (many : ℕ) (frames : List Frame) (owed : ℕ) : Type 0 where
@@ -109,16 +102,14 @@ module _ (types : Types) (store : ℕ → Option Blob) (many : ℕ) where
   owes-made : (top : Frame) (below : List Frame) (owed : ℕ) (row : HandleRow) → need_of types (top ∷ below) ≡ to_adopt → Owes types store many (top ∷ below) owed
       → OwesLess types store many (with_got top.kind row below) owed
   unfolding Owes Waits
-  owes-made top [] owed row needs o = let over = adopted-over [] (next_in types top) needs in absurd (let e = over.2 in cc)
-  owes-made top (frame ∷ below) owed row needs o = search (rules, kinds-pushed)
+  owes-made top x1 owed row needs o = grind (arith, nat_tests, adopted-over, kinds-pushed)
 
 -- a load's step, where what was stored is still
 pub owes-less : {N : Type 0} {v : Values N} {w w' : Core} (store : ℕ → Option Blob) → KeepsStored w.stored store
     → (reading : Reading) (load : OpenLoad) (frames : List Frame) (many longest owed : ℕ) {c : Change} → w.loads reading.load.0 ≡ Some load
     → Unfolds v.types store reading.node_type load.key many longest → Owes v.types store many reading.frames owed → ReadingFeels v w reading None frames w' c → OwesLess v.types store many frames owed
 owes-less {v = v} {w} store kept reading load frames many longest owed open_load under o (reads-root l blob none_read at stored answer is) = search (rules, reads-root, owes-root)
-owes-less {v = v} store kept reading load frames many longest owed open_load under o (reads-blob kind key blob needs stored answer is) =
-    subst (λ fs. OwesLess v.types store many fs owed) (sym is) (owes-blob v.types store many reading.frames kind key owed blob needs (kept key blob stored) o)
+owes-less {v = v} store kept reading load frames many longest owed open_load under o (reads-blob kind key blob needs stored answer is) = grind (arith, nat_tests, owes-blob)
 owes-less {v = v} store kept reading load frames many longest owed open_load under o (gets-known kind key n row needs known got answer is) =
     subst (λ fs. OwesLess v.types store many fs owed) (sym is) (owes-got v.types store many reading.frames kind key owed row needs o)
 owes-less {v = v} store kept reading load frames many longest owed open_load under o (gets-lazy kind key row needs got answer is) =

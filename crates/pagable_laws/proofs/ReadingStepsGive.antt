@@ -2,14 +2,9 @@
 use Rattle.pagable_laws.proofs.Words.{◌≡◌, ℕ, zero, ◌<◌, [], Ok, refl, sym, ap, subst, ◌∙◌, inl, inr, arith, Option, Some, slice_get-get_or, ArcRef, Blob, LoadNumber, NodeNumber, Tree, Types}
 use Rattle.pagable_laws.proofs.Words.{Among, type_of, HandleRow, Owner, Event, EventReply, LoadReply, held, OpenLoad, Reading, Frame, type_at, Seen, IsLawful, IsReference, ReadsRoot, reading_at}
 use Rattle.pagable_laws.proofs.Words.{LoadSteps, MachineState, world_of, IsMachineWhole, IsReadingOf, of_caller, StandsFor, SameTrees, FrameFits, FramesFit, ReadsItsTypes, ReadIsRight, ReadGives}
-use Rattle.pagable_laws.proofs.Words.{HandsOver, ReadingsGiven, ReadingsHeld}
+use Rattle.pagable_laws.proofs.{Decoding.decodes, Fitting.inside, Fitting.first-fits, Fitting.frames-stay, ReadingSteps.caller-free, ReadingSteps.reading-feels, ReadingStepsHanding.reads-hold}
+use Rattle.pagable_laws.proofs.{ReadingStepsMachine.reading-stands, Taking.row-held, Taking.root-right, Words.HandsOver, Words.ReadingsGiven, Words.ReadingsHeld}
 use Rattle.pagable_world.specs.Runs.{Does}
-use Rattle.pagable_laws.proofs.Fitting.{inside, first-fits, frames-stay}
-use Rattle.pagable_laws.proofs.Decoding.{decodes}
-use Rattle.pagable_laws.proofs.Taking.{row-held, root-right}
-use Rattle.pagable_laws.proofs.ReadingSteps.{caller-free, reading-feels}
-use Rattle.pagable_laws.proofs.ReadingStepsMachine.{reading-stands}
-use Rattle.pagable_laws.proofs.ReadingStepsHanding.{reads-hold}
 
 -- the tree of each node that was got is of its kind's type
 pub got-typed : {types : Types} {stored : ℕ → Option Blob} {trees : ℕ → Tree} (frame : Frame) → FrameFits types stored trees frame → (r : ArcRef) → Among frame.got r

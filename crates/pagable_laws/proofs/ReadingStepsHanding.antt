@@ -1,22 +1,16 @@
 -- A load of a key that answers a value hands over the value's references: each was the load's, and is the caller's then.
-use Rattle.pagable_laws.proofs.Words.{arith, nat_tests}
-use Rattle.std.proofs.lemmas.Grind.{common_steps}
-use Rattle.std.proofs.Common.{rules}
 use Rattle.pagable_laws.proofs.Words.{◌≡◌, ℕ, zero, suc, ◌==◌, ◌&&◌, ◌||◌, Bool, true, false, List, [], ◌∷◌, map, Ok, refl, ap, subst, ◌∙◌, Option, Some, None, not, Error}
 use Rattle.pagable_laws.proofs.Words.{ArcRef, HandleNumber, LoadNumber, Among, is_in, if_there, HandleRow, Owner, Event, EventReply, LoadAnswer, is_owner, Core, OpenLoad, World, Reading, row_at}
 use Rattle.pagable_laws.proofs.Words.{Seen, earlier, refused_if, load_fault, named_fault, moved, numbers_of, HandOverCall, hand_over_fault, cell_fault, is_owned_in, EndsRead, handles_of}
-use Rattle.pagable_laws.proofs.Words.{Happens, HandlesAreWhole, HandsOver, ReadHolds}
+use Rattle.pagable_laws.proofs.{Goes.found-number, Outlasting.Stands, Outlasting.stands-whole, Outlasting.stands-changed, Outlasting.stands-fell, Sums.self-number, Words.arith, Words.nat_tests}
+use Rattle.pagable_laws.proofs.{Words.Happens, Words.HandlesAreWhole, Words.HandsOver, Words.ReadHolds}
+use Rattle.std.proofs.{Common.rules, lemmas.Grind.common_steps}
 use Rattle.pagable_world.specs.Loads.{Does}
-use Rattle.pagable_laws.proofs.Goes.{found-number}
-use Rattle.pagable_laws.proofs.Outlasting.{Stands, stands-whole, stands-changed, stands-fell}
-use Rattle.pagable_laws.proofs.Sums.{self-number}
 
 -- ---- nothing is said against the handles
 
 pub neither : (a b : Option Error) → earlier a b ≡ None → (a ≡ None) × (b ≡ None)
-neither None b is = (refl, is)
-neither (Some e) None is = absurd (cc)
-neither (Some e) (Some f) is = grind (arith, nat_tests)
+neither x0 x1 is = grind (arith, nat_tests)
 
 -- the handle is live, and the owner's
 record IsNamed (w : Core) (owner : Owner) (h : HandleNumber) : Type 0 where
@@ -36,23 +30,19 @@ module _ (w : Core) (owner : Owner) where
   named seen (x ∷ hs) none h (suc i, is) = named (x.0 ∷ seen) hs (neither _ _ none).1 h (i, is)
 
 named-none : (w : Core) (l : LoadNumber) (hs : List HandleNumber) → hand_over_fault w Owner.Caller l hs ≡ None → named_fault w (Owner.Load l) [] hs ≡ None
-named-none w l hs none = let a = neither (load_fault w Owner.Caller l) _ none in
-    (neither (if_there (λ (load : OpenLoad). cell_fault load.root) None (w.loads l.0)) (named_fault w (Owner.Load l) [] hs) a.1).1
+named-none w l hs none = grind (arith, nat_tests, neither)
 
 among-map : {X Y : Type 0} (f : X → Y) (xs : List X) (x : X) → Among xs x → Among (map f xs) (f x)
-among-map f [] x (i, is) = absurd (cc)
-among-map f (y ∷ ys) x (zero, is) = (zero, cc)
 among-map f (y ∷ ys) x (suc i, is) = let a = among-map f ys x (i, is) in (suc a.0, a.1)
+among-map f x1 x x3 = grind (arith, nat_tests)
 
 in-numbers : (hs : List HandleNumber) (h : HandleNumber) → Among hs h → is_in (numbers_of hs) h.0 ≡ true
 unfolding is_in
-in-numbers [] h (i, is) = absurd (cc)
-in-numbers (x ∷ hs) h (zero, is) = let same : x ≡ h = cc in let e : (x.0 == h.0) ≡ true = ap (λ (z : HandleNumber). z.0 == h.0) same ∙ self-number h.0 in rw e refl
 in-numbers (x ∷ hs) h (suc i, is) = grind (arith, nat_tests, in-numbers hs h)
+in-numbers x0 h x2 = grind (arith, nat_tests, self-number)
 
 not-given : (a b : Bool) → b ≡ true → (a && not b) ≡ false
-not-given true b is = rw is refl
-not-given false b is = refl
+not-given x0 b is = grind (arith, nat_tests)
 
 caller-free : (n : _) → Owner.Caller ≡ Owner.Value n → ⊥
 caller-free n is = cc
@@ -80,8 +70,4 @@ module _ {N B W : Type 0} (m : Seen N B W) (u u' : World) (whole : HandlesAreWho
   read-ends reading answer frames does x is = (let P : Option (LoadAnswer N) → Type 0 = λ a. Does m.values u.core Owner.Caller reading a frames u'.core in subst P is does).0
 
   pub reads-hold : (event : Event N B W) (reply : EventReply N B W) → Happens m u event reply u' → ReadHolds m.values u event reply u'
-  reads-hold (Event.LoadStep l) (EventReply.LoadMoved (Ok reply)) h = λ x is.
-      let s = h.moves in
-      let e = read-ends s.reading reply.ended s.frames s.does.does x is in
-      (s.reading, s.at, e.reads_root, hands s.reading.load (m.values.references x) whole e.handed)
-  reads-hold event reply h = tt
+  reads-hold x0 x1 h = grind (arith, nat_tests, read-ends, hands)

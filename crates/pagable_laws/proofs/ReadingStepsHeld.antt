@@ -1,11 +1,8 @@
 -- What loads got goes on naming nodes as it should, whatever happens.
-use Rattle.pagable_laws.proofs.Words.{nat_tests}
 use Rattle.pagable_laws.proofs.Words.{◌≡◌, ℕ, zero, suc, List, [], ◌∷◌, ◌++◌, refl, sym, subst, ◌∙◌, inl, inr, arith, Option, Some, None, slice_get, ArcRef, Kind, LoadNumber, Among}
 use Rattle.pagable_laws.proofs.Words.{HandleRow, Event, EventReply, LoadAnswer, Core, Frame, Reading, World, Values, with_got, root_frame, nested_frame, Change, CoreGoes, GetsRow}
 use Rattle.pagable_laws.proofs.Words.{KeepsReadings, ReadingFeels, reads-root, reads-blob, gets-known, gets-lazy, makes-known, makes-node, reading-ends, EventFeels, by-call, by-reading, by-key}
-use Rattle.pagable_laws.proofs.Words.{by-nothing, GotStands, FramesHeld, ReadingsHeld}
-use Rattle.pagable_laws.proofs.Fitting.{pushed}
-use Rattle.pagable_laws.proofs.ReadingStepsMachine.{is-reading-of}
+use Rattle.pagable_laws.proofs.{Fitting.pushed, ReadingStepsMachine.is-reading-of, Words.nat_tests, Words.by-nothing, Words.GotStands, Words.FramesHeld, Words.ReadingsHeld}
 
 none-held : (w : Core) (l : LoadNumber) (frames : List Frame) → frames ≡ [] → FramesHeld w l frames
 none-held w l frames none frame r among got = let there = subst (λ fs. Among fs frame) none among in absurd (let e = there.1 in cc)
@@ -44,8 +41,7 @@ no-end none is = let e = sym none ∙ is in cc
 -- what a load's step leaves
 pub held-after : {N : Type 0} {v : Values N} {w w' : Core} (reading : Reading) (answer : Option (LoadAnswer N)) (frames : List Frame) {c : Change} → CoreGoes c w w' → answer ≡ None
     → FramesHeld w reading.load reading.frames → ReadingFeels v w reading answer frames w' c → FramesHeld w' reading.load frames
-held-after {w' = w'} reading answer frames goes none held (reads-root load blob none_read at stored a is) =
-    subst (λ fs. FramesHeld w' reading.load fs) (sym is) (new-held (root_frame load.key reading.node_type blob) [] refl (none-held w' reading.load [] refl))
+held-after {w' = w'} reading answer frames goes none held (reads-root load blob none_read at stored a is) = grind (arith, nat_tests, new-held, none-held)
 held-after {w' = w'} reading answer frames goes none held (reads-blob kind key blob needs stored a is) =
     subst (λ fs. FramesHeld w' reading.load fs) (sym is) (new-held (nested_frame kind key blob) reading.frames refl (frames-on goes reading.load reading.frames held))
 held-after {w' = w'} reading answer frames goes none held (gets-known kind key n row needs known got a is) =

@@ -1,10 +1,10 @@
 -- What a blob asks for next depends on no more of the references that were got than their kinds.
+use Rattle.pagable_laws.proofs.Words.{nat_tests}
 use Rattle.std.proofs.Common.{rules}
 use Rattle.pagable_laws.proofs.Words.{◌≡◌, ℕ, zero, suc, ◌+◌, ◌==◌, Bool, true, false, List, [], ◌∷◌, ◌++◌, map, length, Result, Ok, Err, refl, ap, inl, arith, if◌then◌else◌, Option}
 use Rattle.pagable_laws.proofs.Words.{Some, None, slice_get, Error, Rest, read_typed, Answer, answer_at, handles_at, ArcRef, Kind, Blob, Shape, Types, Meaning, answer_of, answers_from, Next}
-use Rattle.pagable_laws.proofs.Words.{reads, asks, is_faulty, next_by, next_of, some_of, after_kinds}
-use Rattle.pagable_laws.proofs.Along.{Along, AllTwo, no-two, more-two}
 use Rattle.pagable_laws.proofs.Related.{Out, both-given, both-refused, first-refused, OutLook, both-looked-up, both-not, read_par}
+use Rattle.pagable_laws.proofs.{Along.Along, Along.AllTwo, Along.no-two, Along.more-two, Words.reads, Words.asks, Words.is_faulty, Words.next_by, Words.next_of, Words.some_of, Words.after_kinds}
 
 abbrev pub kinds_of : List ArcRef → List ℕ
 kinds_of got = map (λ (r : ArcRef). r.kind.0) got
@@ -31,13 +31,11 @@ abbrev AnswersAlike : Answer → Answer → Type 0
 AnswersAlike a b = (kind : ℕ) → OutLook no_cause AnyTwo (a kind) (b kind)
 
 as-kind : (t : Bool) (r q : ArcRef) → OutLook no_cause AnyTwo (if t then Ok r else Err Error.WrongKind) (if t then Ok q else Err Error.WrongKind)
-as-kind true r q = both-looked-up r q tt
-as-kind false r q = both-not Error.WrongKind
+as-kind x0 r q = grind (arith, nat_tests, both-looked-up, both-not)
 
 got-alike : (got : List ArcRef) (place : ℕ) → AnswersAlike (answer_of (slice_get got place)) (answer_of (slice_get (some_of (kinds_of got)) place))
-got-alike [] place kind = both-not (Error.Storage kind)
-got-alike (r ∷ rs) zero kind = as-kind (r.kind.0 == kind) r (record { kind = record { 0 = r.kind.0 }; node = record { 0 = 0 }; handle = record { 0 = 0 } })
 got-alike (r ∷ rs) (suc place) kind = got-alike rs place kind
+got-alike x0 x1 kind = grind (arith, nat_tests, both-not, as-kind)
 
 answers-alike : (got : List ArcRef) (place : ℕ) (keys : List ℕ) → AllTwo AnswersAlike (answers_from got place keys) (answers_from (some_of (kinds_of got)) place keys)
 unfolding answers_from
@@ -66,9 +64,7 @@ next-alike : (types : Types) (t : ℕ) (blob : Blob) (got : List ArcRef) → Sam
 next-alike types t blob got = search (rules, as-many, by-alike, read-alike)
 
 ask-alike : {a b : Next} (kind : Kind) (key : ℕ) → SameNext a b → a ≡ asks kind key → b ≡ asks kind key
-ask-alike kind key (both-read a b) is = absurd (cc)
-ask-alike kind key (both-ask k q) is = is
-ask-alike kind key (both-faulty e) is = absurd (cc)
+ask-alike kind key x2 is = grind (arith, nat_tests)
 
 pub asks-by-kinds : (types : Types) (t : ℕ) (blob : Blob) (got : List ArcRef) (kind : Kind) (key : ℕ) → next_of types t blob got ≡ asks kind key
     → after_kinds types t blob (kinds_of got) ≡ asks kind key

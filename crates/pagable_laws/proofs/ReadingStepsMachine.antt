@@ -1,12 +1,10 @@
 -- A load's step in the machine: which reading makes it, and that no other goes on by it.
-use Rattle.pagable_laws.proofs.Words.{arith, nat_tests}
 use Rattle.pagable_laws.proofs.Words.{◌≡◌, ℕ, ◌≤◌, true, List, [], ◌∷◌, refl, sym, ap, subst, ◌∙◌, inl, inr, Option, Some, None, ◌⊎◌, Ok, Err, is_some, ArcRef, HandleNumber, LoadNumber}
 use Rattle.pagable_laws.proofs.Words.{WorkerNumber, updated, Owner, LoadAnswer, LoadReply, WorkerReply, PinStep, Took, Event, owner_worker, Frame}
 use Rattle.pagable_laws.proofs.Words.{Reading, Todo, to_load, to_write, Walking, World, Seen, Values, ReadingDoes, gone_on, Site, ReadingsAre, reading_at}
 use Rattle.pagable_laws.proofs.Words.{reading_after, LoadSteps, WorkerSteps, IsWhole, IsReadingOf, of_caller, of_worker, IsSteppedReading, StepsReading, IsFresh}
+use Rattle.pagable_laws.proofs.{Goes.at-updated, Trees.same_some, Words.arith, Words.nat_tests}
 use Rattle.pagable_world.specs.Workers as workers
-use Rattle.pagable_laws.proofs.Trees.{same_some}
-use Rattle.pagable_laws.proofs.Goes.{at-updated}
 
 -- what stands among the readings afterwards
 pub reading-was : (readings : ℕ → Option Reading) (u' : World) → ReadingsAre readings u' → (q : ℕ) (after : Reading) → u'.work.readings q ≡ Some after
@@ -22,15 +20,11 @@ reading-stands u whole l reading at = grind (arith, nat_tests)
 
 module _ {N : Type 0} {v : Values N} {u u' : World} {l : LoadNumber} {reply : LoadReply N} (s : LoadSteps v u l reply u') where
   went : (answer : Option (LoadAnswer N)) (after : Reading) → reading_after answer s.reading s.frames ≡ Some after → (answer ≡ None) × (after ≡ gone_on s.reading s.frames)
-  went None after e = (refl, sym (same_some _ _ e))
-  went (Some end) after e = absurd (cc)
+  went x0 after e = grind (arith, nat_tests, same_some)
 
   -- a reading of the caller's was there, or is this one
   pub caller-was : (q : ℕ) (after : Reading) → u'.work.readings q ≡ Some after → (u.work.readings q ≡ Some after) ⊎ ((q ≡ l.0) × (reply.ended ≡ None) × (after ≡ gone_on s.reading s.frames))
-  caller-was q after is = elim (at-updated l.0 (reading_after reply.ended s.reading s.frames) u.work.readings q after (reading-was (updated l.0 (reading_after reply.ended s.reading s.frames) u.work.readings) u' s.readings q after is).0) [
-    | inl (here, e) ↦ let w = went reply.ended after e in inr (here, w.0, w.1)
-    | inr old ↦ inl old
-  ]
+  caller-was q after is = grind (arith, nat_tests, at-updated, reading-was, went)
 
   pub steps-load : StepsReading u s.reading reply.ended s.frames u'
   steps-load after (of_caller q is) = elim (caller-was q after is) [ inl old ↦ inl (of_caller q old) | inr new ↦ inr (new.1, new.2) ]

@@ -1,13 +1,10 @@
 -- The row of a handle that a load has got: it is new, of its node, and its mode fits the kind.
-use Rattle.std.proofs.lemmas.Grind.{common_steps}
-use Rattle.std.proofs.Common.{rules}
+use Rattle.std.proofs.{Common.rules, lemmas.Grind.common_steps}
 use Rattle.pagable_laws.proofs.Words.{◌≡◌, ℕ, ◌+◌, ◌<◌, ◌≤◌, Bool, true, List, [], ◌∷◌, ◌++◌, refl, ap, subst, ◌∙◌, inl, inr, arith, Some, ◌⊎◌}
 use Rattle.pagable_laws.proofs.Words.{nat_tests, ArcRef, Kind, HandleNumber, LoadNumber, NodeNumber, OptionalDataKey, type_of}
 use Rattle.pagable_laws.proofs.Words.{HandleRow, Owner, find_row, mode_of, fits_mode, owner_value, Core, Last, Alike, row_at, usable}
 use Rattle.pagable_laws.proofs.Words.{FallsAnyhow, left_rows, row_of, with_handle, with_node, with_cached_if_open, with_known, next_node, is_named_by, moved, adopted}
-use Rattle.pagable_laws.proofs.Words.{HandlesAreWhole, GetsRow}
-use Rattle.pagable_laws.proofs.Goes.{found-number, found-changed, found-left, none-in-new}
-use Rattle.pagable_laws.proofs.Outlasting.{among-found}
+use Rattle.pagable_laws.proofs.{Goes.found-number, Goes.found-changed, Goes.found-left, Goes.none-in-new, Outlasting.among-found, Words.HandlesAreWhole, Words.GetsRow}
 
 pub fits-kind : (kind : ℕ) → fits_mode kind (mode_of kind) ≡ true
 fits-kind kind = grind (arith, nat_tests)
@@ -45,22 +42,11 @@ module _ {w w' : Core} (whole : HandlesAreWhole w) (kind : Kind) (k : HandleNumb
 
   -- of a node that there was
   pub got-known : (n : ℕ) (owner : Owner) → Alike (with_known w kind n owner) w' → GetsRow w w' kind n row
-  got-known n owner a =
-      let few = ap (λ (l : Last). l.handle) a.last in
-      gets w.rows (record { 0 = n }) owner (omega (arith, few)) (λ r found. none-above whole k.0 r (next-above k.0 w.last.handle next) found)
-      (subst (λ rows. find_row k.0 rows ≡ Some row) a.rows made)
+  got-known n owner a = grind (arith, nat_tests, gets, none-above, next-above)
 
   -- of such a one, where others were given up then
   pub got-fallen : (n : ℕ) (owner : Owner) {before : Core} {given : ℕ → Bool} → FallsAnyhow before (with_known w kind n owner) given w' → GetsRow w w' kind n row
-  got-fallen n owner f =
-      let a = f.falls.leaves in
-      let made_here = w.rows ++ row_of (w.last.handle + 1) (record { 0 = n }) (mode_of kind.0) owner ∷ [] in
-      let few = ap (λ (l : Last). l.handle) a.last in
-      elim (found-append k.0 (left_rows f.falls.gone made_here) f.falls.entries row (subst (λ rows. find_row k.0 rows ≡ Some row) a.rows made)) [
-        | inl left ↦ gets w.rows (record { 0 = n }) owner (omega (arith, few)) (λ r found. none-above whole k.0 r (next-above k.0 w.last.handle next) found)
-            (found-left f.falls.gone k.0 made_here row left).0
-        | inr new ↦ let none = none-in-new (w.last.handle + 1) k.0 f.falls.entries f.falls.new (omega (arith, next)) in absurd (cc)
-      ]
+  got-fallen n owner f = grind (arith, nat_tests, found-append, gets, none-above, next-above, found-left, none-in-new)
 
   -- of the next node
   pub got-born : (l : LoadNumber) (key : ℕ) (own : OptionalDataKey) (references : List ArcRef) → Alike (adopted w l kind key own references) w' → GetsRow w w' kind (w.last.node + 1) row

@@ -1,18 +1,12 @@
 -- Each step of a load of the caller's is within its bound, and one that is open has a step left, along every chain.
-use Rattle.pagable_laws.proofs.Words.{nat_tests}
-use Rattle.std.proofs.Common.{rules}
 use Rattle.pagable_laws.proofs.Words.{◌≡◌, ℕ, ◌+◌, ◌*◌, ◌≤◌, ◌⊎◌, List, [], ◌∷◌, Ok, refl, sym, ap, subst, ◌∙◌, inl, inr, arith, Option, Some, None, IsSome, Blob, Types, LoadNumber, Call, Reply}
 use Rattle.pagable_laws.proofs.Words.{Event, EventReply, LoadReply, Core, OpenLoad, Reading, Frame, World, Values, Seen, one_more, gone_on, CloseCall, Happens, LoadSteps, MachineState}
 use Rattle.pagable_laws.proofs.Words.{world_of, IsReadingOf, of_caller, IsMachineWhole, IsIdle, KeepsOpen, Moment, AreMoments, state_after, Unfolds, unfolds, HasStepLeft}
 use Rattle.pagable_laws.proofs.Words.{IsWithinBound, StepIsWithin, StepsAreWithin, LoadsHaveStepsLeft, KeepsStored, Change, IsFresh, KeepsReadings, ReadingFeels, EventFeels, by-call, by-reading}
-use Rattle.pagable_laws.proofs.Words.{by-key, by-nothing}
-use Rattle.pagable_laws.proofs.Trees.{same_some}
-use Rattle.pagable_laws.proofs.Goes.{IsShut, Goes}
-use Rattle.pagable_laws.proofs.EventSteps.{EventGoes, event-goes}
-use Rattle.pagable_laws.proofs.ReadingSteps.{caller-free, reading-feels}
-use Rattle.pagable_laws.proofs.ReadingStepsMachine.{reading-stands, is-reading-of}
-use Rattle.pagable_laws.proofs.ReadingStepsWaiting.{AllBelowWait, waits-well, event-waits}
-use Rattle.pagable_laws.proofs.ReadingStepsBound.{Owes, owes-first, owes-some, owes-less}
+use Rattle.pagable_laws.proofs.{EventSteps.EventGoes, EventSteps.event-goes, Goes.IsShut, Goes.Goes, ReadingSteps.caller-free, ReadingSteps.reading-feels, ReadingStepsBound.Owes}
+use Rattle.pagable_laws.proofs.{ReadingStepsBound.owes-first, ReadingStepsBound.owes-some, ReadingStepsBound.owes-less, ReadingStepsMachine.reading-stands, ReadingStepsMachine.is-reading-of}
+use Rattle.pagable_laws.proofs.{ReadingStepsWaiting.AllBelowWait, ReadingStepsWaiting.waits-well, ReadingStepsWaiting.event-waits, Trees.same_some, Words.nat_tests, Words.by-key, Words.by-nothing}
+use Rattle.std.proofs.Common.{rules}
 
 -- ---- one load
 
@@ -38,8 +32,7 @@ has-left : {types : Types} {store : ℕ → Option Blob} {key : ℕ} (reading : 
 has-left {types} {store} {key} reading b many longest under = search (rules, owes-some)
 
 ended-some : {X : Type 0} (answer : Option X) → (answer ≡ None → ⊥) → IsSome answer
-ended-some None none = absurd (none refl)
-ended-some (Some x) none = refl
+ended-some x0 x1 = grind (arith, nat_tests)
 
 is-within : {N : Type 0} {types : Types} {store : ℕ → Option Blob} {key : ℕ} (reading : Reading) (frames : List Frame) (reply : LoadReply N) → Bounded types store key reading
     → (reply.ended ≡ None → Bounded types store key (gone_on reading frames)) → reply.steps ≡ one_more reading.steps
@@ -64,8 +57,7 @@ closed-shut : {w w' : Core} {r : _} → CloseCall w r w' → IsShut w'
 closed-shut c = (c.falls.falls.leaves.closed, c.falls.falls.leaves.stored)
 
 keeps-open : {N B W : Type 0} (event : Event N B W) → KeepsOpen event ⊎ (event ≡ Event.Call Call.Close)
-keeps-open (Event.Call Call.Close) = inr refl
-keeps-open event = inl tt
+keeps-open x0 = grind (arith, nat_tests)
 
 module _ {N E B W : Type 0} (m : Seen N B W) (s s' : MachineState N E) (whole : IsMachineWhole m.values s) where
   abbrev u : World

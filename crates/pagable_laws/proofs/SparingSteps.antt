@@ -1,18 +1,13 @@
 -- Each event leaves each handle of a worker as it is that doesn't make it, and what the cache gives for a kind and a key, where the node is held before and after. What a load's and
 -- a worker's step do leaves the handles of the list too.
 use Rattle.pagable_laws.proofs.Words.{Falls, NodeNumber, AdoptCall, Alike, Among, ArcRef, AreGood, AskCall, Asked, AsksInVain, BeginCall, BeginKeyCall, Beginning, BirthCall, Blob, Bool, Call, Claim, CloneCall, Core, DropCall, EndCall, Ends, Err, Error, Event, EventReply, Frame, Given, HandOverCall, HandleNumber, HandleRow, Happens, Installs, KeepsOpen, Kind, LazyCall, LeavesCache, List, LoadAnswer, LoadCloses, LoadNumber, Mode, None, OfferCall, Ok, OpenLoad, Option, OptionalDataKey, Owner, OwnersAreThere, PinCall, PinRefused, PinStep, Pinning, Reading, ReadingDoes, RecallCall, ReleaseCall, Reply, Result, ScheduleCall, Seen, SetKeyCall, Site, Some, Starts, StoreCall, TableNumber, Task, Todo, Took, UnpinCall, Values, Want, WorkerAnswer, WorkerNumber, World, [], adopted, ap, arith, false, find_row, from_cache, from_store, if_there, if◌then◌else◌, inl, inr, is_at, is_in, is_load_of, is_named_by, is_owned_by, is_owned_in, is_owner, is_workers, is_workers_at, mode_of, moved, named_fault, nat_tests, next_node, not, numbers_of, owner_value, owner_worker, refl, refused_if, row_at, step_of, subst, sym, to_fail, to_finish, to_item, to_load, to_pin, to_publish, to_release, to_set, to_start, to_write, true, type_of, usable, with_cached, with_handle, with_mode, with_node, with_pin, without_load, ℕ, ◌&&◌, ◌+◌, ◌==◌, ◌||◌, ◌∙◌, ◌∷◌, ◌≡◌}
+use Rattle.pagable_laws.proofs.Sparing.{IsApart, worker-apart, list-apart, Spares, Free, spares-then, spares-alike, then-alike, then-fell, itself, spares-handle, moved-free, other-handle, mode-free, spares-mode}
+use Rattle.pagable_laws.proofs.Usable.{IsEntered, IsHeldFor, Lasts, can-use, stays-alike, by-alike, by-fell, up-then, then-down, held-fell, born, keyed}
+use Rattle.pagable_laws.proofs.{Decoding.among-left, GoodReferences.good, GoodReferences.same-owner, Outlasting.Stands, ReadingSteps.meets, ReadingStepsHanding.neither, Sparing.named-free}
+use Rattle.pagable_laws.proofs.{Sparing.load-free, Sparing.both-free, Sparing.nobody-free, Sparing.listed-free, Sums.same-number, Sums.self-number}
 use Rattle.pagable_world.specs.Events.{Does}
 use Rattle.pagable_world.specs.Loads as loads
 use Rattle.pagable_world.specs.Workers as workers
-use Rattle.pagable_laws.proofs.GoodReferences.{good, same-owner}
-use Rattle.pagable_laws.proofs.Sums.{same-number, self-number}
-use Rattle.pagable_laws.proofs.Outlasting.{Stands}
-use Rattle.pagable_laws.proofs.Decoding.{among-left}
-use Rattle.pagable_laws.proofs.ReadingSteps.{meets}
-use Rattle.pagable_laws.proofs.ReadingStepsHanding.{neither}
-use Rattle.pagable_laws.proofs.Sparing.{IsApart, worker-apart, list-apart, Spares, Free, spares-then, spares-alike, then-alike, then-fell, itself, spares-handle, moved-free, other-handle, mode-free, spares-mode}
-use Rattle.pagable_laws.proofs.Sparing.{named-free, load-free, both-free, nobody-free, listed-free}
-use Rattle.pagable_laws.proofs.Usable.{IsEntered, IsHeldFor, Lasts, can-use, stays-alike, by-alike, by-fell, up-then, then-down, held-fell, born, keyed}
 
 module _ (mine : Owner) (apart : IsApart mine) (kind key n : ℕ) where
   -- the owner's handles stay where this is so of who makes the step, and what the cache gives does where that is
@@ -51,12 +46,7 @@ module _ (mine : Owner) (apart : IsApart mine) (kind key n : ℕ) where
           (Owner.Load l) (h.0 ∷ seen) hs ≡ None)
           → (b || is_in (numbers_of hs) q) ≡ false
       by more false e (first, rest) = more rest
-      by more true e (first, rest) =
-          let found : row_at w h ≡ Some row = ap (λ n. find_row n w.rows) (same-number _ _ e) ∙ s.live in
-          let f : refused_if (not (is_owner (Owner.Load l) row.owner) || is_in seen h.0) Error.NotYours ≡ None = rw found at first in
-          let g : is_owner (Owner.Load l) row.owner ≡ false = ap (is_owner (Owner.Load l)) own ∙ apart.no_load l in
-          let k : Some Error.NotYours ≡ None = rw g at f in
-          absurd (cc)
+      by more true e (first, rest) = grind (arith, nat_tests, same-number)
 
   offers : {w w' : Core} {me : Owner} {k : Kind} {q : ℕ} {h : HandleNumber} → NotMine me → (r : Result (Option HandleNumber) Error) → OfferCall w me k q h r w' → Spares mine w w'
   offers other (Ok None) c = then-alike mine c.answers.3.2 (record { each = λ q row own s. s })
@@ -69,29 +59,17 @@ module _ (mine : Owner) (apart : IsApart mine) (kind key n : ℕ) where
   -- what a worker gives up isn't the owner's, who is another
   module _ (u : ℕ) (other : NotMine (owner_worker u)) where
     not-mine : is_owner (owner_worker u) mine ≡ false
-    not-mine = by (is_owner (owner_worker u) mine) refl
-      where
-        by : (b : Bool) → is_owner (owner_worker u) mine ≡ b → is_owner (owner_worker u) mine ≡ false
-        by false e = e
-        by true e = absurd (other (sym (same-owner _ _ e)))
+    not-mine = grind (arith, nat_tests, same-owner)
 
     no-load : (w : Core) (o : Owner) → IsApart o → is_load_of w u o ≡ false
     no-load w (Owner.Load l) a = let f = a.no_load l in let g = self-number l.0 in absurd (cc)
     no-load w o a = refl
 
     ended-free : (w : Core) → Free mine w (is_workers w u)
-    ended-free w = record {
-      each = λ q row own s.
-          ap (λ (f : Option HandleRow). if_there (λ (row : HandleRow). is_owner (owner_worker u) row.owner || is_load_of w u row.owner) false f) s.live
-          ∙ ap (λ z. is_owner (owner_worker u) z || is_load_of w u z) own ∙ ap (λ b. b || is_load_of w u mine) not-mine ∙ no-load w mine apart;
-    }
+    ended-free w = grind (arith, nat_tests, not-mine, no-load)
 
     released-free : (w : Core) (p : ℕ) → Free mine w (is_workers_at w u p)
-    released-free w p = record {
-      each = λ q row own s.
-          ap (λ (f : Option HandleRow). if_there (λ row. is_owned_by (owner_worker u) row && is_at p row) false f) s.live
-          ∙ ap (λ z. is_owner (owner_worker u) z && is_at p row) own ∙ ap (λ b. b && is_at p row) not-mine;
-    }
+    released-free w p = grind (arith, nat_tests, not-mine)
 
   module _ {O C : Type 0} where
     pub stays : {w w' : Core} → Alike w w' → Leaves O C w w'
@@ -121,15 +99,7 @@ module _ (mine : Owner) (apart : IsApart mine) (kind key n : ℕ) where
     stores (Err e) c = asked c.refused.0
 
     asks : {w w' : Core} {me : Owner} {l : LoadNumber} {want : Want} (r : Result Given Error) → AskCall w me l want r w' → Leaves O C w w'
-    asks {want = Want.Root} (Ok (from_store blob)) c = asked c.gives.2.asked
-    asks {want = Want.Root} (Ok (from_cache k)) c = absurd c.gives.2
-    asks {want = Want.Nested k q} (Ok (from_cache h)) c = a-handle _ _ _ c.gives.2.leaves
-    asks {want = Want.Nested k q} (Ok (from_store blob)) c = asked c.gives.2.1.asked
-    asks {w} {w'} {want = want} (Err e) c = elim c.refused [ inl refused ↦ stays refused.stays | inr (load, owned, vain) ↦ in-vain want load vain ]
-      where
-        in-vain : (want : Want) (load : OpenLoad) → AsksInVain w load want e w' → Leaves O C w w'
-        in-vain Want.Root load vain = asked vain.asked
-        in-vain (Want.Nested k q) load vain = asked vain.1.asked
+    asks x0 c = grind (arith, nat_tests, asked, a-handle, stays)
 
     recalls : {w w' : Core} {me : Owner} {k : Kind} {q : ℕ} (r : Result (Option HandleNumber) Error) → RecallCall w me k q r w' → Leaves O C w w'
     recalls (Ok (Some h)) c = a-handle _ _ _ c.answers.3
@@ -139,8 +109,7 @@ module _ (mine : Owner) (apart : IsApart mine) (kind key n : ℕ) where
     -- ---- handles and loads
 
     clones : {w w' : Core} {me : Owner} {h : HandleNumber} (r : Result HandleNumber Error) → CloneCall w me h r w' → Leaves O C w w'
-    clones (Ok k) c = a-handle _ _ _ c.made.3
-    clones (Err e) c = stays c.refused.stays
+    clones x0 c = grind (arith, nat_tests, a-handle, stays)
 
     -- what is held before a handle is cloned is held then
     then-clone : {w m w' : Core} {me : Owner} {h k : HandleNumber} → CloneCall w me h (Ok k) m → Leaves O C m w' → Leaves O C w w'
@@ -407,9 +376,7 @@ module _ (mine : Owner) (apart : IsApart mine) (kind key n : ℕ) where
 
     -- who makes no step isn't the one that makes this
     isnt-own : {X : Type 0} (x : X) (k : ℕ) → (if k == v then x ∷ [] else []) ≡ [] → NotMine (owner_worker k)
-    isnt-own x k none is =
-        let e : (k == v) ≡ true = ap (is_owner (owner_worker v)) (is ∙ mine_is) ∙ self-number v in
-        let f : (if true then x ∷ [] else []) ≡ [] = subst (λ b. (if b then x ∷ [] else []) ≡ []) e none in absurd (cc)
+    isnt-own x k none is = grind (arith, nat_tests, self-number)
 
     module _ {N B W : Type 0} (m : Seen N B W) (u u' : World) where
       events : (event : Event N B W) (reply : EventReply N B W) → KeepsOpen event → Happens m u event reply u'

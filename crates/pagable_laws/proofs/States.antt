@@ -3,8 +3,7 @@ use Rattle.pagable_laws.proofs.Words.{◌≡◌, ℕ, zero, suc, ◌<◌, ◌≤
 use Rattle.pagable_laws.proofs.Words.{Mode, Core, Shelf, Reading, Walking, fallen, nobody, with_mode, with_key, is_named_by, without_worker, is_workers, is_workers_at, IsMachineWhole}
 use Rattle.pagable_laws.proofs.Words.{IsReadingWhole, IsWalkingWhole, find_row, no_work, value_at, ended, gives_up, inl, Ok, updated, if_there, Took, WorkerAnswer, Event, EventReply, Written}
 use Rattle.pagable_laws.proofs.Words.{Todo, SameShelf, WalkDoes, answer_after, is_counted, no_shelf, steps_after, Ends, TookWrites, sample, sample_seen, two_values, machine, walking, table_work}
-use Rattle.pagable_laws.proofs.Words.{walk_work}
-use Rattle.pagable_laws.proofs.Tested.{is_low, held-past, updated-past, IsFew, Passes, whole-so, KnowsThird}
+use Rattle.pagable_laws.proofs.{Tested.is_low, Tested.held-past, Tested.updated-past, Tested.IsFew, Tested.Passes, Tested.whole-so, Tested.KnowsThird, Words.walk_work}
 use Rattle.pagable_world.specs.Runs.{Does}
 use Rattle.pagable_laws.specs.TwoLevels as two
 
@@ -203,8 +202,7 @@ pub shelf-again : (x y : Shelf) (t : ℕ) → SameShelf (updated 1 y (updated 1 
 shelf-again x y t = grind (arith, nat_tests, same-shelf)
 
 pub none-there : {X Y : Type 0} (found : Option Y) (x : Option X) → x ≡ None → x ≡ if_there (λ (y : Y). x) None found
-none-there (Some y) x is = refl
-none-there None x is = is
+none-there x0 x is = grind (arith, nat_tests)
 
 -- A step of the worker, after which the pager is whole. With its answer the worker ends.
 pub worker-does : {core mid core' : Core} {shelf shelf' : Shelf} {todo todo' : List Todo} {step : Took Written} {steps' : ℕ} {answer : Option WorkerAnswer} (steps : ℕ)

@@ -1,34 +1,24 @@
 -- Each event keeps trees: what it brings fits some trees afterwards, for which the machine stands then, with all that its loads read.
-use Rattle.pagable_laws.proofs.Words.{arith, nat_tests}
 use Rattle.pagable_laws.proofs.Words.{◌≡◌, ℕ, List, [], inl, inr, sym, ap, ◌∙◌, subst, ◌⊎◌, Event, EventReply, Tree, Among, Reading, Frame, Walking, Values, Seen, IsLawful}
 use Rattle.pagable_laws.proofs.Words.{MachineState, PagerState, world_of, IsMachineWhole, StandsFor, FramesFit, ReadingFits, ReadingBrings, TodoBrings, EventBrings, IsReadingOf, HoldsSettled}
 use Rattle.pagable_laws.proofs.Words.{ReadsItsTypes, TakesWell, TodoTakesWell, AsksWell, IsWellAsked, FramesGiven, Change, CoreGoes, IsSteppedReading, EventFeels, by-call, by-reading, by-key}
-use Rattle.pagable_laws.proofs.Words.{by-nothing, KeysAreReady, IsFresh, ChangeFits, ReadingsGiven}
-use Rattle.pagable_laws.proofs.Trees.{same_some}
-use Rattle.pagable_laws.proofs.Fitting.{tree-stays}
-use Rattle.pagable_laws.proofs.Felt.{none-comes, fits-nothing, fits-key, call-fits}
-use Rattle.pagable_laws.proofs.Brought.{reading-fits}
-use Rattle.pagable_laws.proofs.ReadingStepsMachine.{is-reading-of}
+use Rattle.pagable_laws.proofs.{Brought.reading-fits, Felt.none-comes, Felt.fits-nothing, Felt.fits-key, Felt.call-fits, Fitting.tree-stays, ReadingStepsMachine.is-reading-of, Trees.same_some}
+use Rattle.pagable_laws.proofs.{Words.arith, Words.nat_tests, Words.by-nothing, Words.KeysAreReady, Words.IsFresh, Words.ChangeFits, Words.ReadingsGiven}
 
 module _ {N E : Type 0} {v : Values N} {c : Change} {s s' : PagerState N E} {trees trees' : ℕ → Tree} where
   -- what comes is said in other words
   comes-from : (comes other : ℕ → N → Type 0) → ((n : ℕ) (x : N) → other n x → comes n x) → ChangeFits v c comes s s' trees trees' → ChangeFits v c other s s' trees trees'
-  comes-from comes other from f =
-      record { same = f.same; sets = f.sets; born = f.born; keyed = f.keyed; knows = f.knows; comes_well = λ n x is none here. f.comes_well n x (from n x is) none here }
+  comes-from comes other from f = grind (arith, nat_tests)
 
 module _ {N E B W : Type 0} (m : Seen N B W) (s : MachineState N E) (trees : ℕ → Tree) where
   -- the reading that makes the step is what brings values
   reading-brings : (event : Event N B W) (reading : Reading) (n : ℕ) (x : N) → IsSteppedReading (world_of s) event reading → EventBrings m.values (world_of s) event n x
       → ReadingBrings m.values s.pager.core reading n x
-  reading-brings (Event.LoadStep l) reading n x stepped (other, at, brings) = grind (arith, nat_tests)
-  reading-brings (Event.WorkerStep k) reading n x (walking, r, place, through, below, there, todo) (other, at, brings) = grind (arith, nat_tests)
-  reading-brings event reading n x stepped brings = absurd stepped
+  reading-brings x0 reading n x x4 x5 = grind (arith, nat_tests)
 
   reading-takes : (event : Event N B W) (reply : EventReply N B W) (reading : Reading) → IsSteppedReading (world_of s) event reading → IsWellAsked m.values s trees event reply
       → TakesWell m.values s.pager reading
-  reading-takes (Event.LoadStep l) reply reading stepped well = well reading stepped.0
-  reading-takes (Event.WorkerStep k) reply reading (walking, r, place, through, below, there, todo) well = subst (λ z. TodoTakesWell m.values s.pager z) todo (well walking there)
-  reading-takes event reply reading stepped well = absurd stepped
+  reading-takes x0 reply reading x3 well = grind (arith, nat_tests)
 
   pub nothing-yet : (reading : Reading) → reading.frames ≡ [] → ReadingFits m.values s.pager trees reading
   unfolding FramesFit
@@ -68,9 +58,7 @@ module _ {N E B W : Type 0} (m : Seen N B W) (s : MachineState N E) (trees : ℕ
     )
       where
         no-value : (n : ℕ) (x : N) → EventBrings m.values (world_of s) (let e : Event N B W = Event.WorkerStep k in e) n x → ⊥
-        no-value n x (other, at, brings) =
-            let same : other ≡ sets.walking = same_some _ _ (sym at ∙ sets.there) in
-            subst (λ z. TodoBrings m.values s.pager.core z n x) (ap (λ (z : Walking). z.todo) same ∙ sets.sets) brings
+        no-value n x (other, at, brings) = grind (arith, nat_tests, same_some)
     event-fits lawful readable s' settled whole whole' ready event reply goes well (by-nothing stays keeps) = (
       trees,
       fits-nothing lawful settled whole.pager whole'.pager stands.pager _

@@ -4,10 +4,9 @@ use Rattle.pagable_laws.proofs.Words.{ArcRef, Identity, Blob, HandleNumber, Tree
 use Rattle.pagable_laws.proofs.Words.{was_failed, was_refused, to_start, to_pin, to_load, to_write, to_finish, to_item, to_set, to_publish, to_release, to_fail, Task, Values, Seen, digest}
 use Rattle.pagable_laws.proofs.Words.{Stores, Site, Does, IsPublished, claim_fault, next_start, give, give_known, open_node, with_outcome, with_wait, answer_after, AreKeysOf, Ground, WroteTree}
 use Rattle.pagable_laws.proofs.Words.{BlobStands, SlotFits, KeysSoFar, Expects, Waits, Above, HasBlob, Walks, SlotsFit}
-use Rattle.pagable_laws.proofs.Standing.{HasClaim, AllStand}
-use Rattle.pagable_laws.proofs.Changing.{ShelfGrows, some-same, PutsSlot, puts-slot, changes-slot}
-use Rattle.pagable_laws.proofs.Following.{IdentityStands, key-stands}
 use Rattle.pagable_laws.proofs.Shelves.{GroundGoes, so-far-on, wrote-on, blob-on, slot-on, keys-grow, above-on, has-blob-on, slots-on, slots-but, slots-failed}
+use Rattle.pagable_laws.proofs.{Changing.ShelfGrows, Changing.some-same, Changing.PutsSlot, Changing.puts-slot, Changing.changes-slot, Following.IdentityStands, Following.key-stands}
+use Rattle.pagable_laws.proofs.{Standing.HasClaim, Standing.AllStand}
 
 -- ---- lists
 
@@ -24,21 +23,17 @@ module _ (shelf : Shelf) where
   -- all keys are known
   pub all-known : (rs : List ArcRef) (ks : List ℕ) → length ks ≡ length rs → KeysSoFar shelf rs ks → AreKeysOf shelf rs ks
   unfolding KeysSoFar
-  all-known [] [] e known = tt
-  all-known [] (k ∷ ks) e known = absurd known
-  all-known (r ∷ rs) [] e known = absurd (omega arith)
   all-known (r ∷ rs) (k ∷ ks) e (q, known) = (q, all-known rs ks (omega arith) known)
+  all-known x0 x1 e x3 = grind (arith, nat_tests)
 
 module _ {N : Type 0} (v : Values N) (g : Ground) (shelf : Shelf) (task : Task) where
   pub started-node : (o : Open) (below : List Todo) (rs : List ArcRef) → drop (length o.keys) o.written.references ≡ rs → Waits shelf task (to_finish o ∷ below)
       → Walks v g shelf task (next_start o.place rs ++ to_finish o ∷ below)
-  started-node o below [] e waits = waits
-  started-node o below (r ∷ rs) e waits = ((rs, e), waits)
+  started-node o below x2 e waits = grind (arith, nat_tests)
 
   pub started-item : (written : Written) (ks : List ℕ) (below : List Todo) (rs : List ArcRef) → drop (length ks) written.references ≡ rs → Waits shelf task (to_item written ks ∷ below)
       → Walks v g shelf task (next_start 0 rs ++ to_item written ks ∷ below)
-  started-item written ks below [] e waits = waits
-  started-item written ks below (r ∷ rs) e waits = ((rs, e), waits)
+  started-item written ks below x3 e waits = grind (arith, nat_tests)
 
   -- a key goes to what waits for it
   pub given : (r : ArcRef) (key height : ℕ) → IsPublished shelf (identity_of r) key height → (below : List Todo) → Expects task r below → Waits shelf task below
@@ -181,11 +176,7 @@ module _ {N B W : Type 0} (m : Seen N B W) (n : ℕ) {g g' : Ground} (task : Tas
         writes r place through below (m.written_of out) claim w
         (changes-slot s.shelf s'.shelf (identity_of r) claim.slot (λ slot. record slot { written = Some (m.written_of out) }) claim.claimed t.table_is) above t.list_is
     stepped (to_write r place through ∷ below) e (Took.Write i (Err f)) st (is, p) all walks = let t = p.refused.1 in fails t.table_is.slots (was_refused f) t.list_is
-    stepped (to_finish o ∷ below) e (Took.Store i (Ok key)) st (is, p) (stands, apart, all) waits =
-        let t = p.goes in
-        let b = p.stored.stores in
-        let goes_on = let P : List Todo → Took W → Type 0 = λ x k. answer_after x k ≡ None in subst (λ x. P x step) (sym e) (subst (λ k. P (to_finish o ∷ below) k) (sym st) refl) in
-        did (kept t.table_stays.slots) t.list_is (finishes t.table_stays.slots o below key stands.1 waits p.all b.0 (ends goes_on key _ (stored-so key _ b.1)))
+    stepped (to_finish o ∷ below) e (Took.Store i (Ok key)) st (is, p) (stands, apart, all) waits = grind (arith, nat_tests, did, kept, finishes, stored-so)
     stepped (to_finish o ∷ below) e (Took.Store i (Err f)) st (is, p) all walks = let t = p.refused in fails t.table_stays.slots (was_refused f) t.list_is
     stepped (to_item written ks ∷ below) e (Took.Store i (Ok key)) st (is, p) all walks = let t = p.goes in did (kept t.table_stays.slots) t.list_is tt
     stepped (to_item written ks ∷ below) e (Took.Store i (Err f)) st (is, p) all walks = let t = p.refused in fails t.table_stays.slots (was_refused f) t.list_is

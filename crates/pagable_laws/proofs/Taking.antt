@@ -5,13 +5,9 @@ use Rattle.pagable_laws.proofs.Words.{is_at, is_pin, is_pinning, held, pins, Cor
 use Rattle.pagable_laws.proofs.Words.{is_faulty, next_in, need_at, need_of, to_adopt, ReadsRoot, ReadsNode, root_frame, nested_frame, with_got, PagerState}
 use Rattle.pagable_laws.proofs.Words.{HandlesAreWhole, IsWhole, WellFormed, NodeStands, here, away, ValueStands, ReadsNodeTree, FramesFit, SameTrees, Represents, ReadsItsTypes, GivesTree}
 use Rattle.pagable_laws.proofs.Words.{ReadIsRight, Change, bears_known, CoreGoes, ReadingFeels, reads-root, reads-blob, gets-known, gets-lazy, makes-known, makes-node, reading-ends, Decoded}
-use Rattle.pagable_laws.proofs.Words.{FramesGiven}
-use Rattle.pagable_laws.proofs.Sums.{at-most-sum, self-number}
-use Rattle.pagable_laws.proofs.Trees.{same_some}
-use Rattle.pagable_laws.proofs.Following.{cell-of, given-of}
-use Rattle.pagable_laws.proofs.Decoding.{decodes, read_stands}
 use Rattle.pagable_laws.proofs.Fitting.{node-stays, first-fits, first-typed, frames-stay, got-given, made-fits, needed-fits, nested-fits, root-fits}
-use Rattle.pagable_laws.proofs.Outlasting.{among-found}
+use Rattle.pagable_laws.proofs.{Decoding.decodes, Decoding.read_stands, Following.cell-of, Following.given-of, Outlasting.among-found, Sums.at-most-sum, Sums.self-number, Trees.same_some}
+use Rattle.pagable_laws.proofs.{Words.FramesGiven}
 
 -- ---- a live handle's node
 
@@ -33,13 +29,11 @@ row-given {w} whole k row is = (whole.nodes_numbered row.node.0 (cell-of whole r
 -- ---- a pin gives its tree
 
 some-value : {N : Type 0} (o : Option N) → is_some o ≡ true → (x : N) × (o ≡ Some x)
-some-value None is = absurd (cc)
-some-value (Some x) is = (x, refl)
+some-value x0 is = grind (arith, nat_tests)
 
 module _ {N E : Type 0} {v : Values N} {s : PagerState N E} where
   pub stands-here : {n : ℕ} {t : Tree} {x : N} → NodeStands v s n t → s.values n ≡ Some x → ValueStands v s x t
-  stands-here (here n y own t held typed means stands fits) is = grind (arith, nat_tests)
-  stands-here (away n key t none_there keyed fits) is = absurd (cc)
+  stands-here x0 is = grind (arith, nat_tests)
 
   valued-here : WellFormed v s → (n : ℕ) → is_some (s.core.cells n) ≡ true → 0 < pins n s.core.rows → is_some (s.values n) ≡ true
   valued-here whole n live pinned = let a : nat_lt 0 (pins n s.core.rows) ≡ true = grind (arith, nat_tests) in whole.valued n ∙ rw (live, a) refl
@@ -141,10 +135,7 @@ module _ {N : Type 0} {v : Values N} {w w' : Core} {trees trees' : ℕ → Tree}
 -- ---- what is read
 
 pub adopted-over : (below : List Frame) (next : Next) → need_at below next ≡ to_adopt → (frame : Frame) × (rest : List Frame) × (below ≡ frame ∷ rest)
-adopted-over (frame ∷ rest) next is = (frame, rest, refl)
-adopted-over [] (asks kind key) is = grind (arith, nat_tests)
-adopted-over [] (reads own) is = absurd (cc)
-adopted-over [] (is_faulty e) is = absurd (cc)
+adopted-over x0 x1 is = grind (arith, nat_tests)
 
 pub root-key : (types : Types) (stored : ℕ → Option Blob) (trees : ℕ → Tree) (k t : ℕ) (frame : Frame) → FramesFit types stored trees k t (frame ∷ []) → frame.key ≡ k
 unfolding FramesFit
@@ -154,11 +145,7 @@ module _ {N : Type 0} {v : Values N} (lawful : IsLawful v) (readable : ReadsItsT
   -- what becomes a node leads to a tree of its kind's type, as which its key reads
   pub node-decoded : (stored : ℕ → Option Blob) (trees : ℕ → Tree) (k t : ℕ) (reading : Reading) (x : N) (r : ReadsNode v reading x) → FramesFit v.types stored trees k t reading.frames
       → Decoded v stored trees r.top x × (r.top.node_type ≡ type_of r.top.kind.0)
-  node-decoded stored trees k t reading x r fit =
-      let here = subst (λ fs. FramesFit v.types stored trees k t fs) r.frames fit in
-      let over = adopted-over r.below (next_in v.types r.top) (sym (ap (need_of v.types) r.frames) ∙ r.needs) in
-      let there = subst (λ fs. FramesFit v.types stored trees k t (r.top ∷ fs)) over.2 here in
-      (decodes lawful readable r.top x (first-fits v.types k t stored trees r.top r.below here) r.decoded, first-typed v.types k t stored trees r.top over.0 over.1 there)
+  node-decoded stored trees k t reading x r fit = grind (arith, nat_tests, adopted-over, decodes, first-fits, first-typed)
 
   -- what a load of a key answers stands for the tree that the key reads as
   pub root-right : {E : Type 0} (s : PagerState N E) (trees : ℕ → Tree) (reading : Reading) (x : N) (key : ℕ) → WellFormed v s → Represents v s trees

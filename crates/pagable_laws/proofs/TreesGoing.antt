@@ -3,10 +3,8 @@ use Rattle.std.proofs.Common.{rules}
 use Rattle.pagable_laws.proofs.Words.{◌≡◌, ℕ, ◌<◌, ◌≤◌, Some, ◌⊎◌, inl, inr, sym, ap, ◌∙◌, subst, arith, nat_tests, OptionalDataKey, NodeNumber, HandleNumber}
 use Rattle.pagable_laws.proofs.Words.{Tree, ReadsTree, type_of, held, OpenLoad, of_cell, Values, IsLawful, type_at, PagerState, WellFormed, Moves, Represents, ReadsNodeTree, KeyFits}
 use Rattle.pagable_laws.proofs.Words.{HoldsSettled, LeadsTo, ValueLeads, Change, CoreGoes, SameNode, NewNode, NodeLeads, ChangeFits}
-use Rattle.pagable_laws.proofs.Trees.{same_some}
-use Rattle.pagable_laws.proofs.Following.{given-of, held-of, cell-of}
-use Rattle.pagable_laws.proofs.Fitting.{tree-stays}
-use Rattle.pagable_laws.proofs.Leading.{leads-on, own-refs, leads-all, stands-again}
+use Rattle.pagable_laws.proofs.{Fitting.tree-stays, Following.given-of, Following.held-of, Following.cell-of, Leading.leads-on, Leading.own-refs, Leading.leads-all, Leading.stands-again}
+use Rattle.pagable_laws.proofs.{Trees.same_some}
 
 pub either-side : (n last : ℕ) → (n ≤ last) ⊎ (last < n)
 either-side n last = grind (arith, nat_tests)

@@ -1,12 +1,11 @@
 -- Each kind of a worker's step: what it does to its list and to the slots.
-use Rattle.pagable_laws.proofs.Words.{arith, nat_tests}
 use Rattle.pagable_laws.proofs.Words.{◌≡◌, ℕ, ◌||◌, Bool, true, false, List, [], ◌∷◌, refl, ap, sym, subst, ◌∙◌, inl, inr, Some, None, drop, ArcRef, Identity, HandleNumber, WorkerAnswer}
 use Rattle.pagable_laws.proofs.Words.{identity_of, Shelf, Slot, no_result, published, Written, Open, Todo, to_start, to_pin, to_write, to_finish, to_publish, to_release, Task, is_identity}
 use Rattle.pagable_laws.proofs.Words.{SameShelf, open_node, with_changed_slot, with_failed, with_outcome, is_open_outcome, Meets}
-use Rattle.pagable_laws.proofs.Standing.{is_open_in, is_failing, is_failed, AllStand, HasNoFailed}
 use Rattle.pagable_laws.proofs.Changing.{SlotGrows, ShelfGrows, Changes, some-none, grows, meets-grow, is-self, is-same, PutsSlot, changes-slot, put-cases, puts-new, puts-own, outcome-grows}
-use Rattle.pagable_laws.proofs.Changing.{all-failed, none-fails, fails-own}
 use Rattle.pagable_laws.proofs.Going.{or-left, or-right, true-false, not-true, all-stay, open-slot, CoversBy, Goes, settles, started-open}
+use Rattle.pagable_laws.proofs.{Changing.all-failed, Changing.none-fails, Changing.fails-own, Standing.is_open_in, Standing.is_failing, Standing.is_failed, Standing.AllStand, Standing.HasNoFailed}
+use Rattle.pagable_laws.proofs.{Words.arith, Words.nat_tests}
 
 -- what is open about the identity itself
 open-self : (i j : Identity) (rest : Bool) → j ≡ i → (is_identity j i || rest) ≡ true
@@ -94,10 +93,7 @@ module _ (v : ℕ) (task : Task) (shelf shelf' : Shelf) (clean : HasNoFailed she
       covered : {new : Slot} → PutsSlot shelf.slots shelf'.slots (identity_of r) new → CoversBy v task shelf (to_write r place through ∷ below) → (i : Identity) (slot : Slot)
           → shelf'.slots i ≡ Some slot → slot.worker ≡ v → slot.outcome ≡ no_result
           → (is_identity i (identity_of r) || is_open_in i below) ≡ true
-      covered {new = new} puts covers i slot there own still = elim (put-cases shelf.slots shelf'.slots (identity_of r) new puts i slot there) [
-        | inl e ↦ open-self (identity_of r) i (is_open_in i below) e.0
-        | inr e ↦ covers i slot e.1 own still
-      ]
+      covered {new = new} puts covers i slot there own still = grind (arith, nat_tests, put-cases, open-self)
 
   -- key and height are published
   pub published-goes : (r : ArcRef) (key height : ℕ) (below : List Todo) → AllStand shelf v task (to_publish r key height ∷ below) → CoversBy v task shelf (to_publish r key height ∷ below)

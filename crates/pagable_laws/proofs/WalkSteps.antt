@@ -1,15 +1,11 @@
 -- What a worker's step does to the plain world, as trees feel it, and which loads it begins.
-use Rattle.pagable_laws.proofs.Words.{nat_tests}
 use Rattle.pagable_laws.proofs.Words.{◌≡◌, ℕ, ◌≤◌, true, List, [], ◌∷◌, ◌++◌, refl, sym, ap, subst, ◌∙◌, inl, inr, arith, Option, Some, None, Ok, Err, Result, Error, ArcRef, HandleNumber}
 use Rattle.pagable_laws.proofs.Words.{LoadNumber, HandleRow, Pinning, Beginning, Claim, PinStep, Took, owner_worker, is_loose, Core, OpenLoad, Reading, Todo, to_start, to_pin, to_load}
 use Rattle.pagable_laws.proofs.Words.{to_write, to_finish, to_item, to_set, to_publish, to_release, to_fail, row_at, Seen, SetKeyCall, Site, Does, PinsAtOnce, PinsByLoad, PinRefused, GivesBack}
 use Rattle.pagable_laws.proofs.Words.{next_start, give, give_known, fresh, HandlesAreWhole, TodoBrings, Change, nothing_felt, sets_key, ReadingFeels, IsFresh}
-use Rattle.pagable_laws.proofs.Trees.{same_some}
 use Rattle.pagable_laws.proofs.Goes.{Quiet, Goes, NotLoads, quiet-then, quiet-goes, quiet-begins, goes-quiet, alike, fell, fell-anyhow, keyed, KnowsNext}
-use Rattle.pagable_laws.proofs.Calling.{clones, pins, begins, stores}
-use Rattle.pagable_laws.proofs.Called.{schedules}
-use Rattle.pagable_laws.proofs.ReadingSteps.{reading-feels, reading-knows}
-use Rattle.pagable_laws.proofs.ReadingStepsMachine.{LoadsTodo, loads-todo}
+use Rattle.pagable_laws.proofs.{Called.schedules, Calling.clones, Calling.pins, Calling.begins, Calling.stores, ReadingSteps.reading-feels, ReadingSteps.reading-knows, ReadingStepsMachine.LoadsTodo}
+use Rattle.pagable_laws.proofs.{ReadingStepsMachine.loads-todo, Trees.same_some, Words.nat_tests}
 
 pub works-free : (v : ℕ) → NotLoads (owner_worker v)
 works-free v l is = absurd (cc)
@@ -41,18 +37,13 @@ no-load : (s : Site) (todo : List Todo) → s.todo ≡ todo → front_reading to
 no-load s todo is none reading e = let f : front_reading todo ≡ Some reading = ap front_reading (sym is) ∙ e in absurd (cc)
 
 pub started : (place : ℕ) (rs : List ArcRef) (x : Todo) (below : List Todo) → front_reading (x ∷ below) ≡ None → front_reading (next_start place rs ++ x ∷ below) ≡ None
-started place [] x below none = none
-started place (r ∷ rs) x below none = refl
+started place x1 x below x4 = grind (arith, nat_tests)
 
 given : (r : ArcRef) (key height : ℕ) (below : List Todo) → NoLoad below → front_reading (give r key height below) ≡ None
-given r key height [] well = refl
-given r key height (to_finish o ∷ below) well = started o.place _ _ below refl
-given r key height (to_item written keys ∷ below) well = started 0 _ _ below refl
-given r key height _ well = absurd well
+given r key height x3 well = grind (arith, nat_tests, started)
 
 given-known : (r : ArcRef) (key height : ℕ) (below : List Todo) → NoLoad below → front_reading (give_known r key height below) ≡ None
-given-known r key height [] well = refl
-given-known r key height (x ∷ below) well = given r key height (x ∷ below) well
+given-known r key height x3 well = grind (arith, nat_tests, given)
 
 -- ---- the step
 
@@ -75,8 +66,7 @@ pub record WalkFelt {N B W : Type 0} (m : Seen N B W) (v : ℕ) (s s' : Site) (t
   pub knows : HandlesAreWhole s.core → KnowsNext change s.core
 
 gives-back : {w w' : Core} (v : ℕ) (back : Option HandleNumber) → GivesBack w v back w' → Quiet w w'
-gives-back v None a = alike a
-gives-back v (Some h) (told, scheduled) = schedules (works-free v) h told scheduled
+gives-back v x1 x2 = grind (arith, nat_tests, alike, schedules, works-free)
 
 module _ {w w' : Core} (v : ℕ) (r : ArcRef) where
   at-once : (through k : HandleNumber) → PinsAtOnce w (owner_worker v) r through k w' → Quiet w w'
@@ -146,8 +136,7 @@ module _ {N B W : Type 0} (m : Seen N B W) (v : ℕ) (s s' : Site) where
 
   pub walk-goes : (todo : List Todo) (step : Took W) → Does m v s todo step s' → WF todo
   walk-goes (to_start r place ∷ below) (Took.Claim i (Ok Claim.Claimed)) (is, c) = let t = c.finds.1.2 in rests _ (λ n x b. b) t.list_is (λ well. refl) (alike t.pager_stays)
-  walk-goes (to_start r place ∷ below) (Took.Claim i (Ok (Claim.Known key height))) (is, c) = let t = c.finds.1.2 in
-      rests _ (λ n x b. b) t.list_is (given-known r key height below) (alike t.pager_stays)
+  walk-goes (to_start r place ∷ below) (Took.Claim i (Ok (Claim.Known key height))) (is, c) = grind (arith, nat_tests, rests, given-known, alike)
   walk-goes (to_start r place ∷ below) (Took.Claim i (Ok Claim.Waiting)) (is, c) =
       let t = c.finds.1.2 in
       record { change = nothing_felt; goes = quiet-goes nothing_felt (alike t.pager_stays); feels = λ front well. walk-rests (λ n x b. b) (no-load s' _ (t.list_is ∙ front) refl); knows = λ whole k q n known. absurd known }

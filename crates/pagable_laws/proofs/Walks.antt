@@ -4,10 +4,9 @@ use Rattle.pagable_laws.proofs.Words.{Owner, Mode, Pinning, Claim, PinStep, nat_
 use Rattle.pagable_laws.proofs.Words.{to_finish, to_item, Open, row_at, is_here, digest, nobody, row_of, with_key, CloneCall, PinCall, StoreCall, WalkDoes, claim_fault, open_node, give}
 use Rattle.pagable_laws.proofs.Words.{is_workers_at, nothing-form, reference-form, preimage, find_row, owner_value, is_named_by, FallsAnyhow, without_worker, is_workers, no_shelf, MachineState}
 use Rattle.pagable_laws.proofs.Words.{IsWrittenOf, AreMoments, zero, suc, ◌<◌, Option, ◌⊎◌, is_in, Reading, Work, references_fault, WorkStays, OnlyCore, no_work}
-use Rattle.pagable_laws.proofs.Tested.{alike-self, falls-alone, is_low, never, lists_none, takes_more}
 use Rattle.pagable_laws.proofs.States.{same-shelf, ◌⨾◌, worker-does, begun-passes, parent-pinned-passes, both-pinned-passes, child-stored-passes, child-keyed-passes, child-released-passes}
 use Rattle.pagable_laws.proofs.States.{parent-stored-passes, parent-keyed-passes, parent-released-passes, answered-passes, none-there, child-passes, both-passes, idle-whole, work-whole}
-use Rattle.pagable_laws.proofs.States.{reads-none}
+use Rattle.pagable_laws.proofs.{States.reads-none, Tested.alike-self, Tested.falls-alone, Tested.is_low, Tested.never, Tested.lists_none, Tested.takes_more}
 use Rattle.pagable_laws.specs.TwoLevels as two
 
 -- a step of the worker at pager, table and list
@@ -18,8 +17,7 @@ Walks core shelf todo step core' shelf' todo' = WalkDoes two.sample_seen 1 (reco
 
 pub claims-it : (core : Core) (shelf : Shelf) (r : ArcRef) (below : List Todo) → claim_fault core r ≡ None → shelf.slots (identity_of r) ≡ None
     → Walks core shelf (to_start r 0 ∷ below) (Took.Claim (identity_of r) (Ok Claim.Claimed)) core (two.claimed shelf r) (to_pin r 0 ∷ below)
-claims-it core shelf r below good free =
-    record { does = (refl, record { finds = (good, (omega arith, free, record { pager_stays = alike-self core; table_is = same-shelf (two.claimed shelf r); list_is = refl })); refused = tt }) }
+claims-it core shelf r below good free = grind (arith, nat_tests, alike-self, same-shelf)
 
 -- a loose pinned handle is cloned, and the clone is pinned
 pub pins-it : (core : Core) (shelf : Shelf) (n : ℕ) (r : ArcRef) (owner : Owner) (below : List Todo) → let q = core.last.handle + 1 in
@@ -48,21 +46,11 @@ pins-it core shelf n r owner below live clone_live is_there few =
     }
 
     clone_pinned : PinCall (two.cloned core n) two.worker (two.handle (core.last.handle + 1)) (Ok (Pinning.Pinned (two.handle (core.last.handle + 1 + 1)))) (two.pinned_at core n)
-    clone_pinned =
-        let left : core.last.handle ≤ 10 = grind (arith, nat_tests) in
-        record {
-          pins = (
-            row_of (core.last.handle + 1) (two.node n) Mode.LoosePinned two.worker,
-            record { live = clone_live; own = refl; as_asked = refl },
-            (is_there, record { above = refl; is_left = omega arith }, alike-self (two.pinned_at core n)),
-          );
-          refused = tt;
-        }
+    clone_pinned = grind (arith, nat_tests, alike-self)
 
 pub writes-it : (core : Core) (shelf : Shelf) (r : ArcRef) (through : HandleNumber) (written : Written) (below : List Todo)
     → Walks core shelf (to_write r 0 through ∷ below) (Took.Write (identity_of r) (Ok written)) core (two.wrote shelf r written) (open_node r 0 through written below)
-writes-it core shelf r through written below =
-    record { does = (refl, record { writes = record { pager_stays = alike-self core; table_is = same-shelf (two.wrote shelf r written); list_is = refl }; refused = tt }) }
+writes-it core shelf r through written below = grind (arith, nat_tests, alike-self, same-shelf)
 
 pub stored-so : (core : Core) (key : ℕ) (blob : Blob) → key ≡ digest two.sample blob → core.closed ≡ false → core.stored key ≡ None
     → StoreCall (digest two.sample) core blob (Ok key) (two.with_blob core key blob)
@@ -186,17 +174,12 @@ work-stays work readings = record { shelves = λ t. same-shelf (work.shelves t);
 -- the first value comes to the first node, the second to the second
 leaf-comes : (n : ℕ) (x : two.Sample) → two.value_at two.one_value n ≡ Some x → (two.value_at [] n ≡ Some x) ⊎ ((two.value_at [] n ≡ None) × ((x ≡ two.leaf) × (0 < n)))
 unfolding two.value_at
-leaf-comes zero x is = absurd (cc)
-leaf-comes (suc zero) x is = inr (refl, (cc, omega arith))
-leaf-comes (suc (suc n)) x is = absurd (cc)
+leaf-comes x0 x is = grind (arith, nat_tests)
 
 parent-comes : (n : ℕ) (x : two.Sample) → two.value_at two.two_values n ≡ Some x
     → (two.value_at two.one_value n ≡ Some x) ⊎ ((two.value_at two.one_value n ≡ None) × ((x ≡ two.parent two.to_child) × (1 < n)))
 unfolding two.value_at
-parent-comes zero x is = absurd (cc)
-parent-comes (suc zero) x is = inl is
-parent-comes (suc (suc zero)) x is = inr (refl, (cc, omega arith))
-parent-comes (suc (suc (suc n))) x is = absurd (cc)
+parent-comes x0 x is = grind (arith, nat_tests)
 
 -- what is done to the pager alone, while nothing is read
 pub only-pager : (core core' : Core) (work : Work) (does : Core → Type 0) → let quiet = record work { readings = λ l. None } in does core'

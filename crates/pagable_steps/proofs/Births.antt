@@ -3,11 +3,8 @@ use Rattle.std.proofs.Common.{rules}
 use Rattle.pagable_steps.proofs.Words.{◌≡◌, ℕ, ◌+◌, ◌<◌, ◌≤◌, ◌==◌, ◌&&◌, Bool, true, false, List, [], Option, Some, None, refl, ap, sym, subst, ◌∙◌, if◌then◌else◌, arith, nat_lt, is_some}
 use Rattle.pagable_steps.proofs.Words.{nat_tests, OptionalDataKey, Owner, Mode, ArcRef, Among, one, times, if_there, is_owned_by, is_pinning, is_pin, is_at, owner_value, pins, is_in_memory, Core}
 use Rattle.pagable_steps.proofs.Words.{Cell, Values, key_at, is_here, type_at, IsReference, is_named_by, PagerState, IsWhole, WellFormed, self-number, same-number, sum-le, same_some, NotValues}
-use Rattle.pagable_steps.proofs.Words.{not-owned}
-use Rattle.pagable_steps.proofs.Spared.{owns, owns_any}
-use Rattle.pagable_steps.proofs.SparedParts.{and-false, sum-mapped}
-use Rattle.pagable_steps.proofs.SparedHandles.{pinned-here}
 use Rattle.pagable_steps.proofs.Coming.{Comes, no-cell, new-cell, other-cell, typed-on, pins-now, other-here, count-now, other-owned, other-bare, other-refers, new-refers, new-inside}
+use Rattle.pagable_steps.proofs.{Spared.owns, Spared.owns_any, SparedHandles.pinned-here, SparedParts.and-false, SparedParts.sum-mapped, Words.not-owned}
 
 -- what is so of the new node and of each other one
 by-node : {next : ℕ} (P : ℕ → Type 0) → P next → ((n : ℕ) → (n == next) ≡ false → P n) → (n : ℕ) → P n

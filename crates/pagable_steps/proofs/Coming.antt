@@ -4,10 +4,8 @@ use Rattle.pagable_steps.proofs.Words.{◌≡◌, ℕ, ◌+◌, ◌≤◌, ◌==
 use Rattle.pagable_steps.proofs.Words.{nat_tests, sum_by_push, OptionalDataKey, HandleRow, Owner, Mode, ArcRef, SameAt, Among, one, times, if_there, or_else, find_row, is_handle, is_owned_by}
 use Rattle.pagable_steps.proofs.Words.{owner_value, is_pin, is_pinning, pins, is_in_memory, Core, Cell, type_at, key_at, is_here, references_fault, IsReference, row_of, is_named_by}
 use Rattle.pagable_steps.proofs.Words.{with_node, next_node, with_handle, IsWhole, self-number, same-number, good, NotValues, not-owned, find-both, among-found}
-use Rattle.pagable_steps.proofs.Spared.{owns, owns_any}
-use Rattle.pagable_steps.proofs.SparedParts.{push-none, and-false}
-use Rattle.pagable_steps.proofs.Words.{fits_mode, found-number}
 use Rattle.pagable_steps.proofs.Naming.{among-named, after, given, given-found, given-pins, unnamed, given-owned, given-bare, given-inside}
+use Rattle.pagable_steps.proofs.{Spared.owns, Spared.owns_any, SparedParts.push-none, SparedParts.and-false, Words.fits_mode, Words.found-number}
 
 -- A node of this type and key came, with a handle of this mode, of the one who owns what its value names.
 pub record Comes (w w' : Core) (me : Owner) (t : ℕ) (own : OptionalDataKey) (references : List ArcRef) (mode : Mode) : Type 0 where

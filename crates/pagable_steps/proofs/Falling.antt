@@ -3,9 +3,7 @@ use Rattle.pagable_steps.proofs.Words.{◌≡◌, ℕ, ◌<◌, ◌≤◌, ◌==
 use Rattle.pagable_steps.proofs.Words.{nat_tests, ArcRef, HandleRow, Owner, NodeNumber, Among, one, times, if_there, or_else, find_row, is_handle, is_owner, is_owned_by, owner_value, held, pins}
 use Rattle.pagable_steps.proofs.Words.{Core, Cell, Values, type_at, is_here, is_outside, owned_outside, loses_value, is_keyed, left_rows, Falls, IsReference, PagerState, IsWhole, WellFormed}
 use Rattle.pagable_steps.proofs.Words.{self-number, sum-le, counted, found-number, found-kept, find-both, row-held, fell-away}
-use Rattle.pagable_steps.proofs.Spared.{owns, owns_any}
-use Rattle.pagable_steps.proofs.SparedParts.{and-false}
-use Rattle.pagable_steps.proofs.Staying.{owned-some, keeps, sum-same, counts-left, loses}
+use Rattle.pagable_steps.proofs.{Spared.owns, Spared.owns_any, SparedParts.and-false, Staying.owned-some, Staying.keeps, Staying.sum-same, Staying.counts-left, Staying.loses}
 
 -- Values stand in the world: each node in memory has one, of its type, which owns the handles that it refers to; no two own one handle.
 pub record Sits {N : Type 0} (v : Values N) (w : Core) (values : ℕ → Option N) : Type 0 where

@@ -5,12 +5,9 @@ use Rattle.pagable_steps.proofs.Words.{nat_tests, Error, HandleRow, Owner, ArcRe
 use Rattle.pagable_steps.proofs.Words.{owner_worker, is_at, Core, Values, Alike, row_at, usable, FallsAnyhow, refused_if, named_fault, is_listed, UnpinCall, ReleaseCall}
 use Rattle.pagable_steps.proofs.Words.{SetKeyCall, ScheduleCall, OfferCall, CloseCall, is_owned_in, numbers_of, Adopts, EndCall, HandOverCall, DropCall, LoadCloses, is_workers_at, is_load_of}
 use Rattle.pagable_steps.proofs.Words.{WorkerEnds, PagerState, IsWhole, WellFormed, same-number, one-true, counted, same-owner, good, NotValues, neither}
-use Rattle.pagable_steps.proofs.Spared.{Spares}
-use Rattle.pagable_steps.proofs.SparedParts.{spares-then, spares-same, spares-alike, spares-moved}
-use Rattle.pagable_steps.proofs.SparedLists.{own-free, listed-free, schedules, offers, spares-known}
-use Rattle.pagable_steps.proofs.SparedLoads.{not-load}
-use Rattle.pagable_steps.proofs.Naming.{named-owner}
 use Rattle.pagable_steps.proofs.Keeping.{AreFree, Leaves, found-whole, fell, stayed, spares-keeps, unpin-keeps, keyed-keeps}
+use Rattle.pagable_steps.proofs.{Naming.named-owner, Spared.Spares, SparedLists.own-free, SparedLists.listed-free, SparedLists.schedules, SparedLists.offers, SparedLists.spares-known}
+use Rattle.pagable_steps.proofs.{SparedLoads.not-load, SparedParts.spares-then, SparedParts.spares-same, SparedParts.spares-alike, SparedParts.spares-moved}
 
 -- ---- what no value owns
 
@@ -32,11 +29,7 @@ module _ {w : Core} (whole : IsWhole w) where
 
   -- what the list owns
   all-listed-free : AreFree w (is_listed w)
-  all-listed-free h among is =
-      let some : 0 < times (λ (q : HandleNumber). q.0 == h.number.0) w.list = grind (arith, nat_tests) in
-      let c = counted (λ (q : HandleNumber). one (q.0 == h.number.0)) w.list some in
-      let same : c.0.0 ≡ h.number.0 = same-number _ _ (one-true _ c.2) in
-      listed-free whole c.1.0 c.0 c.1.1 h among (let e : (h.number.0 == c.0.0) ≡ true = grind (arith, nat_tests) in e)
+  all-listed-free h among is = grind (arith, nat_tests, counted, listed-free)
 
   -- what a load hands over
   handed-free : (l : LoadNumber) (hs : List HandleNumber) (seen : List ℕ) → named_fault w (Owner.Load l) seen hs ≡ None → AreFree w (is_in (numbers_of hs))

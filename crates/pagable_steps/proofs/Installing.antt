@@ -4,20 +4,14 @@ use Rattle.pagable_steps.proofs.Words.{◌≡◌, ℕ, ◌<◌, ◌==◌, ◌&&�
 use Rattle.pagable_steps.proofs.Words.{HandleRow, Owner, Mode, HandleNumber, LoadNumber, NodeNumber, if_there, updated, find_row, is_handle, is_owner, is_owned_by, owner_value, is_loose}
 use Rattle.pagable_steps.proofs.Words.{is_in_memory, held, pins, Core, Cell, Values, row_at, type_at, key_at, is_here, Owns, is_named_by, with_mode, without_load, is_owned_in, with_pin, MayEnd}
 use Rattle.pagable_steps.proofs.Words.{Installs, PagerState, MayOwnLoad, IsWhole, WellFormed, self-number, NotLoads, found-number, row-held, row-pins, NotValues, Stands, among-found, found-after}
-use Rattle.pagable_steps.proofs.Words.{stands-whole, stands-changed}
-use Rattle.pagable_steps.proofs.Spared.{owns, Spares}
-use Rattle.pagable_steps.proofs.SparedParts.{and-false, spares-then, spares-same, spares-handle}
-use Rattle.pagable_steps.proofs.SparedHandles.{pinned-here, turned}
-use Rattle.pagable_steps.proofs.Falling.{Sits, Sweeps, fell-from}
 use Rattle.pagable_steps.proofs.Keeping.{OwnsAlike, Keeps, owns-then, spares-owned, sits-on, fell, spares-keeps, mode-owned, mode-others}
-use Rattle.pagable_steps.proofs.FallingCalls.{load-free}
+use Rattle.pagable_steps.proofs.{Falling.Sits, Falling.Sweeps, Falling.fell-from, FallingCalls.load-free, Spared.owns, Spared.Spares, SparedHandles.pinned-here, SparedHandles.turned}
+use Rattle.pagable_steps.proofs.{SparedParts.and-false, SparedParts.spares-then, SparedParts.spares-same, SparedParts.spares-handle, Words.stands-whole, Words.stands-changed}
 use Rattle.pagable_steps.proofs.Moving as moving
 
 -- who begins a load is no value, and no load
 asker-free : (w : Core) (o : Owner) → MayOwnLoad w o → NotValues o × NotLoads o
-asker-free w Owner.Caller may = (λ n e. absurd (cc), λ l e. absurd (cc))
-asker-free w (Owner.Worker v) may = (λ n e. absurd (cc), λ l e. absurd (cc))
-asker-free w _ may = absurd may
+asker-free w x1 may = grind (arith, nat_tests)
 
 live-type : (w : Core) (n : ℕ) → is_some (w.cells n) ≡ true → (t : ℕ) × (type_at w n ≡ Some t)
 live-type w n is = at (w.cells n) is
@@ -110,10 +104,7 @@ module _ {N E : Type 0} {v : Values N} {s : PagerState N E} (is : WellFormed v s
         at row live own true e =
             let f : is_named_by (v.references x) q ≡ true = sym (ap (is_named_by (v.references x)) (found-number q w.rows row live)) ∙ e in
             ap (λ b. is_owned_in w (Owner.Load l) q && not b) f ∙ and-false (is_owned_in w (Owner.Load l) q)
-        at row live own false e =
-            let f : row.owner ≡ owner_value n = sym (ap (λ b. (if b then record row { owner = owner_value node.0 } else row).owner) e) ∙ own in
-            let g : is_owned_in w (Owner.Load l) q ≡ false = ap (if_there (is_owned_by (Owner.Load l)) false) live ∙ ap (is_owner (Owner.Load l)) f in
-            ap (λ b. b && not (is_named_by (v.references x) q)) g
+        at row live own false e = grind (arith, nat_tests)
 
 -- ---- the law
 

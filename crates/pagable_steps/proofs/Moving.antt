@@ -3,13 +3,9 @@ use Rattle.pagable_steps.proofs.Words.{◌≡◌, ℕ, ◌<◌, ◌==◌, ◌&&�
 use Rattle.pagable_steps.proofs.Words.{nat_tests, HandleRow, Owner, ArcRef, LoadNumber, NodeNumber, Among, one, times, updated, find_row, is_handle, is_owned_by, owner_value}
 use Rattle.pagable_steps.proofs.Words.{pins, is_in_memory, Core, Values, type_at, key_at, is_here, references_fault, IsReference, moved, is_named_by, without_load, PagerState, WellFormed}
 use Rattle.pagable_steps.proofs.Words.{same_some, same-number, one-true, counted, found-number, same-owner, good, among-found, among-changed}
-use Rattle.pagable_steps.proofs.Words.{after-number}
-use Rattle.pagable_steps.proofs.Spared.{owns, owns_any}
-use Rattle.pagable_steps.proofs.SparedParts.{and-false}
-use Rattle.pagable_steps.proofs.SparedLoads.{not-load}
 use Rattle.pagable_steps.proofs.Naming.{among-named, named-owner, given-found, given-pins, unnamed, given-owned, given-bare, given-inside}
-use Rattle.pagable_steps.proofs.Falling.{Sits}
-use Rattle.pagable_steps.proofs.Keeping.{found-whole, one-value, valued-there}
+use Rattle.pagable_steps.proofs.{Falling.Sits, Keeping.found-whole, Keeping.one-value, Keeping.valued-there, Spared.owns, Spared.owns_any, SparedLoads.not-load, SparedParts.and-false}
+use Rattle.pagable_steps.proofs.{Words.after-number}
 
 module _ {N E : Type 0} {v : Values N} {s : PagerState N E} (is : WellFormed v s) (l : LoadNumber) (node : NodeNumber) (x : N)
     (fine : references_fault s.core (Owner.Load l) [] (v.references x) ≡ None) (typed : type_at s.core node.0 ≡ Some (v.node_type x)) (away : is_here s.core node.0 ≡ false) where
@@ -73,8 +69,7 @@ module _ {N E : Type 0} {v : Values N} {s : PagerState N E} (is : WellFormed v s
   turned-round n e = grind (arith, nat_tests)
 
   typed-at : (n : ℕ) (y : N) (b : Bool) → (n == node.0) ≡ b → (if b then Some x else s.values n) ≡ Some y → type_at w n ≡ Some (v.node_type y)
-  typed-at n y true e had = ap (type_at w) (same-number n node.0 e) ∙ (typed ∙ ap (λ z. Some (v.node_type z)) (same_some x y had))
-  typed-at n y false e had = is.typed n y had
+  typed-at n y x2 e had = grind (arith, nat_tests)
 
   inside-at : (n : ℕ) (y : N) (q : ℕ) (b : Bool) → (n == node.0) ≡ b → (if b then Some x else s.values n) ≡ Some y → times (λ (r : ArcRef). r.handle.0 == q) (v.references y) ≡ owns n q given_to.rows
   inside-at n y q true e had = ap (λ z. times (λ (r : ArcRef). r.handle.0 == q) (v.references z)) (sym (same_some x y had))

@@ -2,10 +2,8 @@
 use Rattle.pagable_steps.proofs.Words.{◌≡◌, ℕ, suc, zero, ◌+◌, ◌<◌, ◌==◌, ◌||◌, Bool, true, false, List, [], ◌∷◌, get_or, length, refl, ap, subst, ◌∙◌, if◌then◌else◌, arith, Option, Some, None}
 use Rattle.pagable_steps.proofs.Words.{not, nat_tests, sum_by-cons, get_or_from_slice_get, slice_get_within, Error, HandleRow, Owner, ArcRef, Among, is_in, one, times, if_there, or_else}
 use Rattle.pagable_steps.proofs.Words.{find_row, is_handle, is_owner, Core, row_at, refused_if, row_fault, reference_fault, references_fault, is_named_by, IsHandleBefore, self-number}
-use Rattle.pagable_steps.proofs.Words.{same-number, sum-zero, or-none}
 use Rattle.pagable_steps.proofs.Words.{◌≤◌, ◌&&◌, sym, sum_by, pins, is_pin, is_owned_by, owner_value, moved, IsWhole, AreGood, good, named-among, NotValues, not-owned, found-after, stands-whole, at-most-sum}
-use Rattle.pagable_steps.proofs.Spared.{owns, owns_any}
-use Rattle.pagable_steps.proofs.SparedParts.{sum-mapped, and-false}
+use Rattle.pagable_steps.proofs.{Spared.owns, Spared.owns_any, SparedParts.sum-mapped, SparedParts.and-false, Words.same-number, Words.sum-zero, Words.or-none}
 use Rattle.std.specs.List.{AllPairs}
 
 -- a handle that is found has one row
@@ -29,17 +27,12 @@ one-row q (h ∷ hs) row ordered found = at (λ f. one-row q hs row (λ i j d le
         let b : one (is_handle q h) ≡ 1 = ap one is in
         let c = sum-zero (λ x. one (is_handle q x)) hs (λ y among. unlike y among is) in
         omega arith
-    at rest false is found =
-        let a = sum_by-cons (λ x. one (is_handle q x)) h hs in
-        let b : one (is_handle q h) ≡ 0 = ap one is in
-        let c = rest found in
-        omega arith
+    at rest false is found = grind (arith, nat_tests)
 
 pub among-named : (rs : List ArcRef) (r : ArcRef) → Among rs r → is_named_by rs r.handle.0 ≡ true
 unfolding is_named_by
-among-named [] r among = absurd (let e = among.1 in cc)
-among-named (x ∷ xs) r (zero, is) = grind (arith, nat_tests)
 among-named (x ∷ xs) r (suc i, is) = grind (arith, nat_tests, among-named xs r)
+among-named x0 r x2 = grind (arith, nat_tests)
 
 module _ (w : Core) (owner : Owner) where
   unseen : (seen : List ℕ) (r : ArcRef) → reference_fault w owner seen r ≡ None → is_in seen r.handle.0 ≡ false
@@ -65,11 +58,7 @@ module _ (w : Core) (owner : Owner) where
       at : times (λ (x : ArcRef). x.handle.0 == q) rs ≡ one (is_named_by rs q) → (b : Bool) → (r.handle.0 == q) ≡ b
           → times (λ (x : ArcRef). x.handle.0 == q) (r ∷ rs) ≡ one (r.handle.0 == q) + times (λ (x : ArcRef). x.handle.0 == q) rs
           → times (λ (x : ArcRef). x.handle.0 == q) (r ∷ rs) ≡ one (b || is_named_by rs q)
-      at more true e sum =
-          let f : one (r.handle.0 == q) ≡ 1 = ap one e in
-          let rest = (or-none (reference_fault w owner seen r) (references_fault w owner (r.handle.0 ∷ seen) rs) none).1 in
-          let g : one (is_named_by rs q) ≡ 0 = ap one (seen-unnamed (r.handle.0 ∷ seen) rs q rest (ap (λ b. b || is_in seen q) e)) in
-          omega (arith, more, f, g, sum)
+      at more true e sum = grind (arith, nat_tests, seen-unnamed)
       at more false e sum = let f : one (r.handle.0 == q) ≡ 0 = ap one e in omega (arith, more, f, sum)
 
 -- ---- the handles that good references name move to a value
@@ -95,11 +84,7 @@ module _ {w : Core} (whole : IsWhole w) {me : Owner} (free : NotValues me) (refe
   given-found q row b live e = found-after (named references) (λ h. record h { owner = owner_value p }) (λ h. refl) q w.rows row live ∙ ap (λ b. Some (after p row b)) e
 
   pub given-pins : (n : ℕ) → pins n (given w references p) ≡ pins n w.rows
-  given-pins n = sum-mapped (λ h. after p h (named references h)) (λ h. one (is_pin n h)) (λ h. one (is_pin n h)) w.rows (λ h among. at h (named references h))
-    where
-      at : (h : HandleRow) (b : Bool) → one (is_pin n (after p h b)) ≡ one (is_pin n h)
-      at h true = refl
-      at h false = refl
+  given-pins n = grind (arith, nat_tests, sum-mapped)
 
   -- none of it was a value's
   pub unnamed : (n : ℕ) (h : HandleRow) → Among w.rows h → h.owner ≡ owner_value n → named references h ≡ false
@@ -144,8 +129,7 @@ module _ {w : Core} (whole : IsWhole w) {me : Owner} (free : NotValues me) (refe
       named-by h b e false is = refl
 
       counts : (f : HandleRow → ℕ) (b : Bool) → is_named_by references q ≡ b → ((h : HandleRow) → one (is_handle q h && b) ≡ f h) → owns p q (given w references p) ≡ sum_by f w.rows
-      counts f b e same = sum-mapped (λ h. after p h (named references h)) (λ h. one (is_handle q h && is_owned_by (owner_value p) h)) f w.rows
-          (λ h among. ap one (its-now h among (named references h) refl ∙ named-by h b e (is_handle q h) refl) ∙ same h)
+      counts f b e same = grind (arith, nat_tests, sum-mapped, its-now, named-by)
 
       and-true : (b : Bool) → one (b && true) ≡ one b
       and-true true = refl

@@ -1,8 +1,7 @@
 -- Calls on handles, by which no value comes or goes.
 use Rattle.pagable_steps.proofs.Words.{◌≡◌, ℕ, ◌<◌, Bool, true, Some, Ok, Err, refl, sym, subst, ◌∙◌, arith, Result, nat_lt, nat_tests, Pinning, HandleRow, Owner, Mode, Error, HandleNumber}
 use Rattle.pagable_steps.proofs.Words.{is_pinning, is_pinned, pins, Core, row_at, is_here, Owns, with_mode, CloneCall, PinCall, LoosenCall, IsWhole, row-pins, NotValues, stands-whole}
-use Rattle.pagable_steps.proofs.Spared.{Spares}
-use Rattle.pagable_steps.proofs.SparedParts.{spares-then, spares-alike, spares-made, spares-mode}
+use Rattle.pagable_steps.proofs.{Spared.Spares, SparedParts.spares-then, SparedParts.spares-alike, SparedParts.spares-made, SparedParts.spares-mode}
 
 -- a node that is pinned has its value in memory
 pub pinned-here : (w : Core) (n : ℕ) → 0 < pins n w.rows → is_here w n ≡ true
@@ -13,8 +12,7 @@ row-here w h row live pinning = pinned-here w row.node.0 (row-pins w h row live 
 
 module _ {w : Core} (whole : IsWhole w) {me : Owner} (free : NotValues me) where
   pub clones : {w' : Core} {h : HandleNumber} (r : Result HandleNumber Error) → CloneCall w me h r w' → Spares w w'
-  clones {h = h} (Ok k) c = let row : HandleRow = c.made.0 in spares-made row.node row.mode me free (row-here w h row c.made.1) c.made.3
-  clones (Err e) c = spares-alike c.refused.stays
+  clones x0 c = grind (arith, nat_tests, spares-made, row-here, spares-alike)
 
   -- a handle of the asker's in a mode that pins
   pub turned : {fits : Mode → Bool} (h : HandleNumber) (row : HandleRow) → Owns w me h fits row → is_here w row.node.0 ≡ true → Spares w (with_mode w h Mode.LoosePinned)

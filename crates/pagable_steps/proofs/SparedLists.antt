@@ -4,9 +4,8 @@ use Rattle.pagable_steps.proofs.Words.{Result, not, nat_lt, is_some, slice_get, 
 use Rattle.pagable_steps.proofs.Words.{Among, one, if_there, is_shared_kind, is_loose_kind, is_pinned_kind, is_handle, is_at, is_owner, is_owned_by, is_pinning, is_shared, is_share, mode_of}
 use Rattle.pagable_steps.proofs.Words.{held, pins, is_in_memory, Core, Cell, Alike, usable, is_here, only_handle, Owns, with_known, ScheduleCall, TakeCall, ReserveCall, RecallCall, OfferCall}
 use Rattle.pagable_steps.proofs.Words.{ClearCall, Asked, FetchCall, StoreCall, with_worker, with_entry_taken, IsWhole, self-number, same-number, at-most-sum, counted, one-true}
-use Rattle.pagable_steps.proofs.Words.{NotValues, stands-whole, once, IsEntered, entered-of}
-use Rattle.pagable_steps.proofs.Spared.{Spares}
-use Rattle.pagable_steps.proofs.SparedParts.{spares-then, spares-same, spares-alike, spares-handle, spares-moved}
+use Rattle.pagable_steps.proofs.{Spared.Spares, SparedParts.spares-then, SparedParts.spares-same, SparedParts.spares-alike, SparedParts.spares-handle, SparedParts.spares-moved, Words.NotValues}
+use Rattle.pagable_steps.proofs.{Words.stands-whole, Words.once, Words.IsEntered, Words.entered-of}
 
 not-list : NotValues Owner.List
 not-list n e = cc
@@ -106,9 +105,7 @@ module _ {w : Core} (whole : IsWhole w) where
 
           cell : (c : Option Cell) → w.cells n ≡ c → is_some (w.cells n) ≡ true → is_here w n ≡ true
           cell None e there = let f : false ≡ true = sym (ap is_some e) ∙ there in absurd (cc)
-          cell (Some x) e there =
-              let f : usable w kind key ≡ (if not (is_in_memory (pins n w.rows) x.key) then None else Some n) = rw (entered.entry, e, is) refl in
-              ap (λ c. is_in_memory (pins n w.rows) (if_there (λ (y : Cell). y.key) OptionalDataKey.None c)) e ∙ in-memory _ (sym f ∙ known)
+          cell (Some x) e there = grind (arith, nat_tests, entered, in-memory)
 
       third : (kind % 3 == 0) ≡ false → (kind % 3 == 1) ≡ false → (kind % 3 == 2) ≡ true
       third a b = grind (arith, nat_tests)

@@ -1,10 +1,8 @@
 -- Calls on loads, by which no value comes or goes.
-use Rattle.pagable_steps.proofs.Words.{arith, nat_tests}
 use Rattle.pagable_steps.proofs.Words.{◌≡◌, ℕ, true, false, Ok, Err, inl, inr, Result, Beginning, Want, HandleRow, Owner, Mode, Error, Kind, HandleNumber, LoadNumber, Core, OpenLoad, BeginCall}
 use Rattle.pagable_steps.proofs.Words.{BeginKeyCall, GetsKnown, Given, from_cache, from_store, AskCall, AsksInVain, IsWhole, NotValues}
-use Rattle.pagable_steps.proofs.Spared.{Spares}
-use Rattle.pagable_steps.proofs.SparedParts.{spares-then, spares-same, spares-alike, spares-handle}
-use Rattle.pagable_steps.proofs.SparedLists.{asked, spares-known}
+use Rattle.pagable_steps.proofs.{Spared.Spares, SparedLists.asked, SparedLists.spares-known, SparedParts.spares-then, SparedParts.spares-same, SparedParts.spares-alike, SparedParts.spares-handle}
+use Rattle.pagable_steps.proofs.{Words.arith, Words.nat_tests}
 
 pub not-load : (l : LoadNumber) → NotValues (Owner.Load l)
 not-load l n e = cc
@@ -19,9 +17,7 @@ module _ {w w' : Core} where
   begins (Err e) c = spares-alike c.refused.stays
 
   pub begins-key : {me : Owner} {key : ℕ} (r : Result Beginning Error) → BeginKeyCall w me key r w' → Spares w w'
-  begins-key (Ok Beginning.InMemory) c = absurd c.begins
-  begins-key (Ok (Beginning.Load l k)) c = let a = c.begins.2 in spares-same a.rows a.cells
-  begins-key (Err e) c = spares-alike c.refused.stays
+  begins-key x0 c = grind (arith, nat_tests, spares-same, spares-alike)
 
   module _ (whole : IsWhole w) where
     pub gets-known : {l : LoadNumber} {kind : Kind} {key : ℕ} {k : HandleNumber} → GetsKnown w l kind key k w' → Spares w w'

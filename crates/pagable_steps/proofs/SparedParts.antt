@@ -38,15 +38,13 @@ sum-mapped f g h (x ∷ xs) each =
     omega arith
 
 pub and-false : (b : Bool) → (b && false) ≡ false
-and-false true = refl
-and-false false = refl
+and-false x0 = grind (arith, nat_tests)
 
 -- ---- one more handle
 
 -- one more pin brings no value where there is one
 pub pinned-more : (p : ℕ) (key : OptionalDataKey) (b : Bool) → (b ≡ true → is_in_memory p key ≡ true) → is_in_memory (p + one b) key ≡ is_in_memory p key
-pinned-more p key false may = grind (arith, nat_tests)
-pinned-more p key true may = let some : nat_lt 0 (p + 1) ≡ true = grind (arith, nat_tests) in rw some (sym (may refl))
+pinned-more p key x2 may = grind (arith, nat_tests)
 
 -- a handle that is no value's; if it pins, its node's value is in memory
 pub spares-handle : (w : Core) (node : NodeNumber) (mode : Mode) (me : Owner) → NotValues me → (is_pinning mode ≡ true → is_here w node.0 ≡ true) → Spares w (with_handle w node mode me)
@@ -112,8 +110,7 @@ spares-moved w set owner free before =
 
 -- more pins keep a value in memory
 pub here-by : (p q : ℕ) (key : OptionalDataKey) → p ≤ q → is_in_memory p key ≡ true → is_in_memory q key ≡ true
-here-by zero q key le is = grind (arith, nat_tests)
-here-by (suc p) q key le is = let some : nat_lt 0 q ≡ true = grind (arith, nat_tests) in rw some refl
+here-by x0 q key le is = grind (arith, nat_tests)
 
 -- the one row of a handle takes a mode that pins, where its node's value is in memory
 pub spares-mode : (w : Core) (h : HandleNumber) (mode : Mode) (row : HandleRow) → NotValues row.owner → ((x : HandleRow) → Among w.rows x → x.number.0 ≡ h.0 → x ≡ row)

@@ -4,9 +4,7 @@ use Rattle.pagable_steps.proofs.Words.{◌≡◌, ℕ, ◌+◌, ◌<◌, ◌≤�
 use Rattle.pagable_steps.proofs.Words.{nat_eq, cond, sum_by, and_parts, nat_tests, sum_by-cons, sum_by-append, OptionalDataKey, HandleRow, Owner, Mode, Among, one, times, if_there, is_handle}
 use Rattle.pagable_steps.proofs.Words.{is_at, is_pin, is_owned_by, owner_value, held, has_key, is_in_memory, Core, Cell, is_here, is_outside, held_outside, pins_outside, owned_outside}
 use Rattle.pagable_steps.proofs.Words.{loses_value, IsClosed, IsWithin, IsLeast, AreNewEntries, is_keyed, left_rows, Falls, same-number, self-number, one-true, sum-le, sum-zero, at-most-sum}
-use Rattle.pagable_steps.proofs.Words.{counted, inside, wider}
-use Rattle.pagable_steps.proofs.Spared.{owns}
-use Rattle.pagable_steps.proofs.SparedParts.{and-false}
+use Rattle.pagable_steps.proofs.{Spared.owns, SparedParts.and-false, Words.counted, Words.inside, Words.wider}
 
 above : (n : ℕ) → nat_lt 0 n ≡ true → 0 < n
 above n e = grind (arith, nat_tests)
@@ -102,11 +100,7 @@ times-left t gone (x ∷ xs) = at (gone x.number.0) (times-left t gone xs) ∙ s
 entries-none : (t : HandleRow → Bool) → ((h : HandleRow) → h.mode ≡ Mode.LooseUnpinned → h.owner ≡ Owner.List → t h ≡ false) → (last : ℕ) (entries : List HandleRow)
     → AreNewEntries last entries → times t entries ≡ 0
 entries-none t none last [] new = refl
-entries-none t none last (x ∷ xs) (number, mode, owner, new) =
-    let a = sum_by-cons (λ h. one (t h)) x xs in
-    let b : one (t x) ≡ 0 = ap one (none x mode owner) in
-    let rest = entries-none t none (last + 1) xs new in
-    omega (arith, a, b, rest)
+entries-none t none last (x ∷ xs) (number, mode, owner, new) = grind (arith, nat_tests, entries-none t none (last + 1) xs new)
 
 module _ {before w w' : Core} {given : ℕ → Bool} {r : _} (f : Falls before w given r w') where
   -- what is counted of the rows left and of the entries
