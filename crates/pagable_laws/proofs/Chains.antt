@@ -1,14 +1,13 @@
 -- Trees stay along chains, pins and reads give them, and keys are right.
-use Rattle.pagable_laws.proofs.Words.{nat_tests}
-use Rattle.pagable_laws.proofs.Words.{◌≡◌, ℕ, ◌+◌, ◌≤◌, List, [], Option, Some, None, ◌⊎◌, inl, inr, refl, sym, ◌∙◌, subst, arith, Event, EventReply, LoadAnswer, Tree, OpenLoad, Reading, Frame}
-use Rattle.pagable_laws.proofs.Words.{Seen, IsLawful, gone_on, MachineState, world_of, IsMachineWhole, StandsFor, FramesFit, ReadingFits, IsReadingOf, Moves, EventBrings, HoldsSettled}
+use Rattle.pagable_laws.proofs.Words.{nat_tests, ◌≡◌, ℕ, ◌+◌, ◌≤◌, List, [], Option, Some, None, ◌⊎◌, inl, inr, refl, sym, ◌∙◌, subst, arith, Event, EventReply, LoadAnswer, Tree, OpenLoad, Reading}
+use Rattle.pagable_laws.proofs.Words.{Frame, Seen, IsLawful, gone_on, MachineState, world_of, IsMachineWhole, StandsFor, FramesFit, ReadingFits, IsReadingOf, Moves, EventBrings, HoldsSettled}
 use Rattle.pagable_laws.proofs.Words.{ReadsItsTypes, IsWellAsked, FramesGiven, Change, CoreGoes, ReadingFeels, EventFeels, by-call, by-reading, by-key, by-nothing, KeepsReadings, KeysAreReady}
 use Rattle.pagable_laws.proofs.Words.{StepFeels, IsFresh, ChangeFits, ReadingsGiven, TreesAfterEvent, ◌∷◌, Ok, Call, Reply, Pinning, HandleNumber, Values, IsIdle, of_caller, of_worker, IsPremised}
-use Rattle.pagable_laws.proofs.Words.{Moment, AreMoments, TreesAfter, TreesAlong, GivesTree, PinGives, IsRight, HasPin, PinHolds, WorkFits, KeysHeld, ReadingsHeld}
-use Rattle.pagable_laws.proofs.{Answering.keys-right, Coming.StandsIn, Coming.event-turns, Coming.turns-stand, Coming.idle-stands, EventSteps.does-feels, KeysGoing.held-at-first, KeysGoing.held-on}
-use Rattle.pagable_laws.proofs.{KeysGoing.keys-ready, KnownSteps.ReadingsAsked, KnownSteps.event-asked, PinSteps.pins-hold, Publishing.fits-at-first, Publishing.fits-on, ReadingStepsGive.reads-give}
-use Rattle.pagable_laws.proofs.{ReadingStepsHeld.event-held, ReadingStepsMachine.is-reading-of, Staying.nothing-yet, Staying.none-given, Staying.fits-of, Staying.given-of, Staying.event-fits}
-use Rattle.pagable_laws.proofs.{Taking.AtStep, Taking.fit-still, Taking.fit-after, Taking.pin_stands, Trees.same_some, TreesGoing.trees-go-on}
+use Rattle.pagable_laws.proofs.{Words.{Moment, AreMoments, TreesAfter, TreesAlong, GivesTree, PinGives, IsRight, HasPin, PinHolds, WorkFits, KeysHeld, ReadingsHeld}, Answering.keys-right}
+use Rattle.pagable_laws.proofs.{Coming.{StandsIn, event-turns, turns-stand, idle-stands}, EventSteps.does-feels, KeysGoing.{held-at-first, held-on, keys-ready}, KnownSteps.ReadingsAsked}
+use Rattle.pagable_laws.proofs.{KnownSteps.event-asked, PinSteps.pins-hold, Publishing.{fits-at-first, fits-on}, ReadingStepsGive.reads-give, ReadingStepsHeld.event-held}
+use Rattle.pagable_laws.proofs.{ReadingStepsMachine.is-reading-of, Staying.{nothing-yet, none-given, fits-of, given-of, event-fits}, Taking.{AtStep, fit-still, fit-after, pin_stands}}
+use Rattle.pagable_laws.proofs.{Trees.same_some, TreesGoing.trees-go-on}
 use Rattle.pagable_world.specs.Runs.{Does}
 
 -- ---- a machine that stands for trees stands for them after each event, with all that its loads read

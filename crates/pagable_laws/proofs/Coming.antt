@@ -1,14 +1,12 @@
 -- What each event does to workers and tables: it touches one worker, and claims of its own.
-use Rattle.pagable_laws.proofs.Words.{◌≡◌, ℕ, true, List, [], ◌∷◌, refl, ap, sym, subst, ◌∙◌, Ok, Err, Option, Some, None, is_some, ArcRef, Identity, WorkerAnswer, Claim, PinStep, Took}
-use Rattle.pagable_laws.proofs.Words.{identity_of, no_result, answer_of_fault, Written, Todo, to_start, to_pin, to_load, to_write, to_finish, to_item, to_set, to_publish, to_release, to_fail}
-use Rattle.pagable_laws.proofs.Words.{arith, Task, Seen, Site, Does, give, give_known, with_wait, answer_after, IsPublished, gone_on, ◌+◌, ◌<◌, ◌≤◌, ◌==◌, Bool, false, nat_eq, if◌then◌else◌}
-use Rattle.pagable_laws.proofs.Words.{nat_tests, WorkerNumber, updated, Call, Reply, Event, EventReply, TableNumber, WorkerReply, Owner, Core, Alike, Shelf, Slot, Walking, World, CallStep}
-use Rattle.pagable_laws.proofs.Words.{Happens, Stays, WorkStays, WorkIs, Starts, no_shelf, new_walking, WorkerSteps, Ends, MachineState, world_of, IsIdle, step_of}
-use Rattle.pagable_laws.proofs.Changing.{puts-slot, SlotChanges, ShelfGrows, some-none, grows, same-slots, meets-grow}
-use Rattle.pagable_laws.proofs.{Called.calls-go, Goes.NotLoads, Going.CoversBy, Going.Goes, Going.plain, Going.fails, Going.swaps, Going.gives, Going.given-open, Going.all-stay, Holding.SameSlots}
-use Rattle.pagable_laws.proofs.{Holding.Turned, Holding.work-stands, Holding.is-quiet, Holding.is-started, Holding.is-stepped, ReadingSteps.reading-feels, Standing.is_open_in, Standing.AllStand}
-use Rattle.pagable_laws.proofs.{Standing.Covers, Standing.HasNoFailed, Standing.HasClaim, Standing.WorkStands, Turning.claimed, Turning.written-goes, Turning.published-goes, Turning.failed-goes}
-use Rattle.pagable_laws.proofs.{WalkSteps.walk-goes}
+use Rattle.pagable_laws.proofs.Words.{◌≡◌, ℕ, true, List, [], ◌∷◌, refl, ap, sym, subst, ◌∙◌, Ok, Err, Option, Some, None, is_some, ArcRef, Identity, WorkerAnswer, Claim, PinStep, Took, identity_of}
+use Rattle.pagable_laws.proofs.Words.{no_result, answer_of_fault, Written, Todo, to_start, to_pin, to_load, to_write, to_finish, to_item, to_set, to_publish, to_release, to_fail, arith, Task, Seen}
+use Rattle.pagable_laws.proofs.Words.{Site, Does, give, give_known, with_wait, answer_after, IsPublished, gone_on, ◌+◌, ◌<◌, ◌≤◌, ◌==◌, Bool, false, nat_eq, if◌then◌else◌, nat_tests, WorkerNumber}
+use Rattle.pagable_laws.proofs.Words.{updated, Call, Reply, Event, EventReply, TableNumber, WorkerReply, Owner, Core, Alike, Shelf, Slot, Walking, World, CallStep, Happens, Stays, WorkStays, WorkIs}
+use Rattle.pagable_laws.proofs.{Words.{Starts, no_shelf, new_walking, WorkerSteps, Ends, MachineState, world_of, IsIdle, step_of}, Changing.{puts-slot, SlotChanges, ShelfGrows, some-none, grows}}
+use Rattle.pagable_laws.proofs.{Changing.{same-slots, meets-grow}, Called.calls-go, Goes.NotLoads, Going.{CoversBy, Goes, plain, fails, swaps, gives, given-open, all-stay}, Holding.SameSlots}
+use Rattle.pagable_laws.proofs.{Holding.{Turned, work-stands, is-quiet, is-started, is-stepped}, ReadingSteps.reading-feels, Standing.{is_open_in, AllStand, Covers, HasNoFailed, HasClaim}}
+use Rattle.pagable_laws.proofs.{Standing.WorkStands, Turning.{claimed, written-goes, published-goes, failed-goes}, WalkSteps.walk-goes}
 use Rattle.pagable_laws.proofs.Calling as calling
 
 -- ---- whatever a worker does, what stands of its list and of its table stands afterwards

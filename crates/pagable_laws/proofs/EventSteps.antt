@@ -1,17 +1,15 @@
 -- What trees feel of each event that doesn't close the storage.
-use Rattle.pagable_laws.proofs.Words.{nat_tests}
-use Rattle.pagable_laws.proofs.Words.{◌≡◌, ℕ, ◌+◌, ◌<◌, ◌≤◌, Bool, true, false, List, [], ◌∷◌, refl, sym, ap, subst, ◌∙◌, inl, inr, arith, Option, Some, None, ◌⊎◌, Ok, Err, Result, is_some}
-use Rattle.pagable_laws.proofs.Words.{if◌then◌else◌, OptionalDataKey, Error, HandleNumber, LoadNumber, WorkerNumber, Tree, updated, if_there, Owner, Beginning, Event, EventReply, LoadReply}
-use Rattle.pagable_laws.proofs.Words.{TableNumber, WorkerAnswer, WorkerReply, only_handle, Core, Cell, Last, OpenLoad, Reading, Shelf, Todo, to_start, to_finish, to_item, to_release, Task}
-use Rattle.pagable_laws.proofs.Words.{of_item, of_entry, Walking, World, Alike, Seen, Values, type_at, key_at, Site, first_todo, fresh, without_worker, WorkerEnds, is_workers_load, answer_after}
-use Rattle.pagable_laws.proofs.Words.{BeginsKey, ReadingsAre, Stays, begun_readings, KeyStarted, Starts, new_walking, Ends, WorkerSteps, Happens, with_worker, MachineState, world_of, IsWhole}
-use Rattle.pagable_laws.proofs.Words.{HandlesAreWhole, IsMachineWhole, IsNewNode, EventBrings, TodoBrings, IsReadingOf, of_caller, of_worker, KeepsOpen, LeavesCache, Change, nothing_felt}
-use Rattle.pagable_laws.proofs.Words.{CoreGoes, SameNode, NewNode, StaysAway, KeepsReadings, EventFeels, by-call, by-reading, by-key, by-nothing, StepFeels, IsFresh, WorkFits, Waits, Walks}
-use Rattle.pagable_laws.proofs.Goes.{parts, le-self, Quiet, Goes, Kept, NotLoads, rows-self, quiet-then, quiet-goes, goes-quiet, alike, fell-anyhow, at-updated, KnowsNext}
-use Rattle.pagable_laws.proofs.ReadingStepsMachine.{reading-was, steps-load, stepped-load, steps-worker, stepped-worker}
-use Rattle.pagable_laws.proofs.WalkSteps.{NoLoad, WaitsWell, front_reading, LoadsAnew, started, WalkFeels, walk-loads, walk-sets, walk-rests, walk-goes}
-use Rattle.pagable_laws.proofs.{Called.calls-go, Called.call-knows, Calling.some-moved, Calling.begins, Calling.begins-key, GoodReferences.alike-away, ReadingSteps.reading-feels}
-use Rattle.pagable_laws.proofs.{ReadingSteps.feels-alike, ReadingSteps.reading-knows, Trees.same_some, Words.Ground}
+use Rattle.pagable_laws.proofs.Words.{nat_tests, ◌≡◌, ℕ, ◌+◌, ◌<◌, ◌≤◌, Bool, true, false, List, [], ◌∷◌, refl, sym, ap, subst, ◌∙◌, inl, inr, arith, Option, Some, None, ◌⊎◌, Ok, Err, Result}
+use Rattle.pagable_laws.proofs.Words.{is_some, if◌then◌else◌, OptionalDataKey, Error, HandleNumber, LoadNumber, WorkerNumber, Tree, updated, if_there, Owner, Beginning, Event, EventReply, LoadReply}
+use Rattle.pagable_laws.proofs.Words.{TableNumber, WorkerAnswer, WorkerReply, only_handle, Core, Cell, Last, OpenLoad, Reading, Shelf, Todo, to_start, to_finish, to_item, to_release, Task, of_item}
+use Rattle.pagable_laws.proofs.Words.{of_entry, Walking, World, Alike, Seen, Values, type_at, key_at, Site, first_todo, fresh, without_worker, WorkerEnds, is_workers_load, answer_after, BeginsKey}
+use Rattle.pagable_laws.proofs.Words.{ReadingsAre, Stays, begun_readings, KeyStarted, Starts, new_walking, Ends, WorkerSteps, Happens, with_worker, MachineState, world_of, IsWhole, HandlesAreWhole}
+use Rattle.pagable_laws.proofs.Words.{IsMachineWhole, IsNewNode, EventBrings, TodoBrings, IsReadingOf, of_caller, of_worker, KeepsOpen, LeavesCache, Change, nothing_felt, CoreGoes, SameNode, NewNode}
+use Rattle.pagable_laws.proofs.{Words.{StaysAway, KeepsReadings, EventFeels, by-call, by-reading, by-key, by-nothing, StepFeels, IsFresh, WorkFits, Waits, Walks, Ground}, Goes.{parts, le-self}}
+use Rattle.pagable_laws.proofs.{Goes.{Quiet, Goes, Kept, NotLoads, rows-self, quiet-then, quiet-goes, goes-quiet, alike, fell-anyhow, at-updated, KnowsNext}, ReadingStepsMachine.reading-was}
+use Rattle.pagable_laws.proofs.{ReadingStepsMachine.{steps-load, stepped-load, steps-worker, stepped-worker}, WalkSteps.{NoLoad, WaitsWell, front_reading, LoadsAnew, started, WalkFeels, walk-loads}}
+use Rattle.pagable_laws.proofs.{WalkSteps.{walk-sets, walk-rests, walk-goes}, Called.{calls-go, call-knows}, Calling.{some-moved, begins, begins-key}, GoodReferences.alike-away}
+use Rattle.pagable_laws.proofs.{ReadingSteps.{reading-feels, feels-alike, reading-knows}, Trees.same_some}
 use Rattle.pagable_world.specs.Runs.{Does}
 
 caller-free : NotLoads Owner.Caller

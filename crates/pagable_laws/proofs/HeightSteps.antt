@@ -1,14 +1,12 @@
 -- A worker's step keeps heights low, and so does each event.
-use Rattle.pagable_laws.proofs.Words.{◌≡◌, ℕ, ◌+◌, ◌≤◌, Bool, true, false, List, [], ◌∷◌, length, Option, Some, None, Ok, Err, refl, sym, ap, subst, ◌∙◌, arith, nat_eq, nat_tests, ArcRef}
-use Rattle.pagable_laws.proofs.Words.{Identity, HandleNumber, Tree, WorkerNumber, Among, longest_path, Claim, PinStep, Took, Event, EventReply, WorkerReply, identity_of, step_of, Shelf, Slot}
-use Rattle.pagable_laws.proofs.Words.{no_result, published, Written, Open, Fault, was_failed, was_refused, Todo, to_start, to_pin, to_load, to_write, to_finish, to_item, to_set, to_publish}
-use Rattle.pagable_laws.proofs.Words.{to_release, to_fail, Task, of_item, of_entry, Walking, World, Seen, Site, Does, give, give_known, open_node, with_outcome, with_wait, first_todo}
-use Rattle.pagable_laws.proofs.Changing.{ShelfGrows, some-same, grows, same-slots, PutsSlot, puts-slot, changes-slot}
-use Rattle.pagable_laws.proofs.Heights.{IsLow, IsAttained, FirstLow, SlotLow, SlotsLow, place_over, WaitsLow, WroteLow, TodoLow, low-on, attained-on, slots-low-on, slots-low-but}
-use Rattle.pagable_laws.proofs.Heights.{slots-low-failed, todo-low-on, all-low, started-low, started-item-low, given-low, given-known-low, opened-low}
-use Rattle.pagable_laws.proofs.{Coming.StandsIn, Coming.OwnTurn, Coming.rests, Coming.begins, Coming.steps, Coming.EventTurns, Coming.updated-at, Holding.SameSlots, Publishing.at-number}
-use Rattle.pagable_laws.proofs.{Shelves.keys-grow, Standing.AllStand, Standing.HasClaim, Trees.same_some, Words.WorkerSteps, Words.MachineState, Words.world_of, Words.IsIdle, Words.Ground}
-use Rattle.pagable_laws.proofs.{Words.ground_of, Words.Walks, Words.WorkFits}
+use Rattle.pagable_laws.proofs.Words.{◌≡◌, ℕ, ◌+◌, ◌≤◌, Bool, true, false, List, [], ◌∷◌, length, Option, Some, None, Ok, Err, refl, sym, ap, subst, ◌∙◌, arith, nat_eq, nat_tests, ArcRef, Identity}
+use Rattle.pagable_laws.proofs.Words.{HandleNumber, Tree, WorkerNumber, Among, longest_path, Claim, PinStep, Took, Event, EventReply, WorkerReply, identity_of, step_of, Shelf, Slot, no_result}
+use Rattle.pagable_laws.proofs.Words.{published, Written, Open, Fault, was_failed, was_refused, Todo, to_start, to_pin, to_load, to_write, to_finish, to_item, to_set, to_publish, to_release, to_fail}
+use Rattle.pagable_laws.proofs.Words.{Task, of_item, of_entry, Walking, World, Seen, Site, Does, give, give_known, open_node, with_outcome, with_wait, first_todo, WorkerSteps, MachineState, world_of}
+use Rattle.pagable_laws.proofs.{Words.{IsIdle, Ground, ground_of, Walks, WorkFits}, Changing.{ShelfGrows, some-same, grows, same-slots, PutsSlot, puts-slot, changes-slot}, Heights.IsLow}
+use Rattle.pagable_laws.proofs.Heights.{IsAttained, FirstLow, SlotLow, SlotsLow, place_over, WaitsLow, WroteLow, TodoLow, low-on, attained-on, slots-low-on, slots-low-but, slots-low-failed}
+use Rattle.pagable_laws.proofs.{Heights.{todo-low-on, all-low, started-low, started-item-low, given-low, given-known-low, opened-low}, Coming.{StandsIn, OwnTurn, rests, begins, steps, EventTurns}}
+use Rattle.pagable_laws.proofs.{Coming.updated-at, Holding.SameSlots, Publishing.at-number, Shelves.keys-grow, Standing.{AllStand, HasClaim}, Trees.same_some}
 
 -- what one step of a worker leaves
 record DidLow (shelf : Shelf) (todo : List Todo) : Type 0 where

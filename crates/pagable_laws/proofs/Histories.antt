@@ -1,13 +1,12 @@
 -- A worker with all its steps so far: what an event adds to them keeps what they come to.
-use Rattle.pagable_laws.proofs.Words.{◌≡◌, ℕ, ◌+◌, ◌*◌, ◌-◌, ◌≤◌, List, [], ◌∷◌, ◌++◌, refl, ap, ◌∙◌, arith, Ok, Err, Some, None, drop, length, max, length-drop, sum_by-cons, sum_by-append}
-use Rattle.pagable_laws.proofs.Words.{ArcRef, one, times, above, Claim, PinStep, Took, Open, Todo, to_start, to_pin, to_load, to_write, to_finish, to_item, to_set, to_publish, to_release, to_fail}
-use Rattle.pagable_laws.proofs.Words.{Task, of_item, of_entry, Written, next_start, give, first_todo, is_counted, Follows, is_claim, references_written, own_references, zero, suc, ◌==◌, subst}
-use Rattle.pagable_laws.proofs.Words.{Error, Identity, Among, WorkerAnswer, Shelf, answer_of_fault, answer_after, is_open_outcome, MetError, FailedElsewhere, IsMetFailure, Bool, true, false, sym}
-use Rattle.pagable_laws.proofs.Words.{Option, nat_eq, min, nat_tests, WorkerNumber, Event, EventReply, TableNumber, WorkerReply, Walking, World, Seen, greatest, Site, Does, new_walking}
-use Rattle.pagable_laws.proofs.{Changing.ShelfGrows, Changing.grows, Coming.StandsIn, Coming.OwnTurn, Coming.rests, Coming.begins, Coming.steps, Coming.EventTurns, Coming.updated-at}
-use Rattle.pagable_laws.proofs.{Nexts.steps_follow, Standing.is_failed, Standing.HasNoFailed, Words.steps_after, Words.WorkerSteps, Words.Leads, Words.step_of}
-use Rattle.std.proofs.Common.{length-append, append-nil}
-use Rattle.std.specs.List.{sum_by}
+use Rattle.pagable_laws.proofs.Words.{◌≡◌, ℕ, ◌+◌, ◌*◌, ◌-◌, ◌≤◌, List, [], ◌∷◌, ◌++◌, refl, ap, ◌∙◌, arith, Ok, Err, Some, None, drop, length, max, length-drop, sum_by-cons, sum_by-append, ArcRef}
+use Rattle.pagable_laws.proofs.Words.{one, times, above, Claim, PinStep, Took, Open, Todo, to_start, to_pin, to_load, to_write, to_finish, to_item, to_set, to_publish, to_release, to_fail, Task}
+use Rattle.pagable_laws.proofs.Words.{of_item, of_entry, Written, next_start, give, first_todo, is_counted, Follows, is_claim, references_written, own_references, zero, suc, ◌==◌, subst, Error}
+use Rattle.pagable_laws.proofs.Words.{Identity, Among, WorkerAnswer, Shelf, answer_of_fault, answer_after, is_open_outcome, MetError, FailedElsewhere, IsMetFailure, Bool, true, false, sym, Option}
+use Rattle.pagable_laws.proofs.Words.{nat_eq, min, nat_tests, WorkerNumber, Event, EventReply, TableNumber, WorkerReply, Walking, World, Seen, greatest, Site, Does, new_walking, steps_after}
+use Rattle.pagable_laws.proofs.{Words.{WorkerSteps, Leads, step_of}, Changing.{ShelfGrows, grows}, Coming.{StandsIn, OwnTurn, rests, begins, steps, EventTurns, updated-at}, Nexts.steps_follow}
+use Rattle.pagable_laws.proofs.Standing.{is_failed, HasNoFailed}
+use Rattle.std.{proofs.Common.{length-append, append-nil}, specs.List.sum_by}
 
 -- ---- bounded steps: what a worker has counted, with what it still has to do, is at most what its claims and references allow
 

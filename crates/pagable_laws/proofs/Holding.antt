@@ -1,8 +1,7 @@
 -- What stands of all workers and tables goes on to stand, by what an event does to them.
-use Rattle.pagable_laws.proofs.Words.{◌≡◌, ℕ, ◌<◌, ◌≤◌, Bool, true, false, [], refl, ap, sym, subst, ◌∙◌, arith, Option, Some, None, nat_eq, nat_tests, Identity, Shelf, Slot, Task, of_item}
-use Rattle.pagable_laws.proofs.Changing.{Changes, ShelfGrows, stays, is-new, is-changed, some-same, some-none, grows, others-stay, others-were, meets-grow, same-slots}
-use Rattle.pagable_laws.proofs.{Going.Goes, Going.all-stay, Going.item-settles, Standing.AllStand, Standing.is_open_in, Standing.WalkingStands, Standing.SlotStands, Standing.WorkStands}
-use Rattle.pagable_laws.proofs.{Words.of_entry, Words.Walking, Words.first_todo, Words.Meets, Words.meets-entry}
+use Rattle.pagable_laws.proofs.Words.{◌≡◌, ℕ, ◌<◌, ◌≤◌, Bool, true, false, [], refl, ap, sym, subst, ◌∙◌, arith, Option, Some, None, nat_eq, nat_tests, Identity, Shelf, Slot, Task, of_item, of_entry}
+use Rattle.pagable_laws.proofs.{Words.{Walking, first_todo, Meets, meets-entry}, Changing.{Changes, ShelfGrows, stays, is-new, is-changed, some-same, some-none, grows, others-stay, others-were}}
+use Rattle.pagable_laws.proofs.{Changing.{meets-grow, same-slots}, Going.{Goes, all-stay, item-settles}, Standing.{AllStand, is_open_in, WalkingStands, SlotStands, WorkStands}}
 
 same-number : (a b : ℕ) → nat_eq a b ≡ true → a ≡ b
 same-number a b e = grind (arith, nat_tests)

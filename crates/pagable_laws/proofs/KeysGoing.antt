@@ -1,17 +1,16 @@
 -- Workers go on holding what they hold.
-use Rattle.pagable_laws.proofs.Words.{◌≡◌, ℕ, Bool, true, false, List, [], ◌∷◌, ◌++◌, ◌⊎◌, inl, inr, Option, Some, None, Ok, Err, refl, sym, ap, subst, ◌∙◌, if◌then◌else◌, arith, drop, length}
-use Rattle.pagable_laws.proofs.Words.{max, nat_eq, OptionalDataKey, Pinning, Beginning, Claim, PinStep, Took, ArcRef, Identity, NodeNumber, HandleNumber, LoadNumber, is_loose_kind, above}
-use Rattle.pagable_laws.proofs.Words.{if_there, any_mode, identity_of, has_key, owner_worker, Core, Cell, Shelf, Slot, no_result, published, failed, Written, Open, Todo, to_start, to_pin, to_load}
-use Rattle.pagable_laws.proofs.Words.{to_write, to_finish, to_item, to_set, to_publish, to_release, to_fail, Task, of_item, of_entry, is_identity, SameShelf, Seen, with_key, SetKeyCall, Site}
-use Rattle.pagable_laws.proofs.Words.{GoesTo, first_todo, answer_after, Does, PinsAtOnce, PinsByLoad, IsPublished, next_start, settle, give, give_known, with_wait, with_changed_slot, with_outcome}
-use Rattle.pagable_laws.proofs.Words.{with_failed, is_open_outcome, Owns, HandlesAreWhole, WorkerAnswer, Owner, HandleRow, StandsAt, KeyIsSet, is_publishing, AllHold, HasHandle, Change}
-use Rattle.pagable_laws.proofs.Words.{nothing_felt, nat_tests, WorkerNumber, Tree, ReadsTree, Event, EventReply, WorkerReply, find_row, Alike, Walking, World, Values, Ends, WorkerSteps}
-use Rattle.pagable_laws.proofs.Words.{MachineState, world_of, IsMachineWhole, IsIdle, ReadsItsTypes, KeepsOpen, KeysAreReady, KeysHeld, WorkFits, step_of}
+use Rattle.pagable_laws.proofs.Words.{◌≡◌, ℕ, Bool, true, false, List, [], ◌∷◌, ◌++◌, ◌⊎◌, inl, inr, Option, Some, None, Ok, Err, refl, sym, ap, subst, ◌∙◌, if◌then◌else◌, arith, drop, length, max}
+use Rattle.pagable_laws.proofs.Words.{nat_eq, OptionalDataKey, Pinning, Beginning, Claim, PinStep, Took, ArcRef, Identity, NodeNumber, HandleNumber, LoadNumber, is_loose_kind, above, if_there}
+use Rattle.pagable_laws.proofs.Words.{any_mode, identity_of, has_key, owner_worker, Core, Cell, Shelf, Slot, no_result, published, failed, Written, Open, Todo, to_start, to_pin, to_load, to_write}
+use Rattle.pagable_laws.proofs.Words.{to_finish, to_item, to_set, to_publish, to_release, to_fail, Task, of_item, of_entry, is_identity, SameShelf, Seen, with_key, SetKeyCall, Site, GoesTo}
+use Rattle.pagable_laws.proofs.Words.{first_todo, answer_after, Does, PinsAtOnce, PinsByLoad, IsPublished, next_start, settle, give, give_known, with_wait, with_changed_slot, with_outcome}
+use Rattle.pagable_laws.proofs.Words.{with_failed, is_open_outcome, Owns, HandlesAreWhole, WorkerAnswer, Owner, HandleRow, StandsAt, KeyIsSet, is_publishing, AllHold, HasHandle, Change, nothing_felt}
+use Rattle.pagable_laws.proofs.Words.{nat_tests, WorkerNumber, Tree, ReadsTree, Event, EventReply, WorkerReply, find_row, Alike, Walking, World, Values, Ends, WorkerSteps, MachineState, world_of}
+use Rattle.pagable_laws.proofs.{Words.{IsMachineWhole, IsIdle, ReadsItsTypes, KeepsOpen, KeysAreReady, KeysHeld, WorkFits, step_of}, Answering.sets-key, Calling.{pins, begins}, Changing.PutsSlot}
+use Rattle.pagable_laws.proofs.{Changing.{puts-slot, put-cases, is-same}, EventSteps.{ends-quiet, event-goes}, Goes.{Goes, fell, keyed, goes-quiet, quiet-goes}, Naming.{stands-on, key-on, all-on}}
+use Rattle.pagable_laws.proofs.{Naming.{claimed-stands, clone-stands}, Outlasting.{NotValues, Stands, stands-whole, stands-alike, stands-fell}, Publishing.at-number, Shelves.keys-same}
+use Rattle.pagable_laws.proofs.{Sparing.Spares, SparingSteps.event-spares, Trees.same_some, WalkSteps.{works-free, walk-goes}}
 use Rattle.pagable_laws.proofs.Coming.{updated-at, EventTurns, OwnTurn, rests, begins as begins-turn, steps}
-use Rattle.pagable_laws.proofs.{Answering.sets-key, Calling.pins, Calling.begins, Changing.PutsSlot, Changing.puts-slot, Changing.put-cases, Changing.is-same, EventSteps.ends-quiet}
-use Rattle.pagable_laws.proofs.{EventSteps.event-goes, Goes.Goes, Goes.fell, Goes.keyed, Goes.goes-quiet, Goes.quiet-goes, Naming.stands-on, Naming.key-on, Naming.all-on, Naming.claimed-stands}
-use Rattle.pagable_laws.proofs.{Naming.clone-stands, Outlasting.NotValues, Outlasting.Stands, Outlasting.stands-whole, Outlasting.stands-alike, Outlasting.stands-fell, Publishing.at-number}
-use Rattle.pagable_laws.proofs.{Shelves.keys-same, Sparing.Spares, SparingSteps.event-spares, Trees.same_some, WalkSteps.works-free, WalkSteps.walk-goes}
 use Rattle.pagable_world.specs.Runs.{Does as DoesMoment}
 
 -- ---- what workers hold they hold after each event, and each cell whose key was published by a loose reference has a key

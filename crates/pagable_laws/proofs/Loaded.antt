@@ -1,13 +1,12 @@
 -- The eviction and the loads of the chain of two levels: how each begins, fetches and ends, over any of its pagers.
-use Rattle.pagable_laws.proofs.Words.{◌++◌, ◌≡◌, ℕ, ◌+◌, ◌≤◌, ◌==◌, Bool, true, false, [], ◌∷◌, refl, ap, inl, arith, ◌∙◌, Option, Some, None, Ok, is_some, nat_le, agree_below, nat_tests, Blob, updated}
-use Rattle.pagable_laws.proofs.Words.{if_there, OptionalDataKey, Owner, Mode, Beginning, LoadAnswer, Core, OpenLoad, of_cell, Frame, Reading, row_at, type_at, key_at, is_here, references_fault}
-use Rattle.pagable_laws.proofs.Words.{row_of, BeginCall, ReadingDoes, root_frame, next_in, reads, fresh, inr, find_row, is_keyed, owned_outside, IsClosed, IsWithin, IsLeast, nobody, with_mode}
-use Rattle.pagable_laws.proofs.Words.{is_named_by, UnpinCall, zero, suc, List, ◌⊎◌, is_in, WorkerAnswer, of_key, Walking, named_fault, answers_from, ReadsRoot, FitsRoot, IsReadingWhole}
+use Rattle.pagable_laws.proofs.Words.{◌++◌, ◌≡◌, ℕ, ◌+◌, ◌≤◌, ◌==◌, Bool, true, false, [], ◌∷◌, refl, ap, inl, arith, ◌∙◌, Option, Some, None, Ok, is_some, nat_le, agree_below, nat_tests, Blob}
+use Rattle.pagable_laws.proofs.Words.{updated, if_there, OptionalDataKey, Owner, Mode, Beginning, LoadAnswer, Core, OpenLoad, of_cell, Frame, Reading, row_at, type_at, key_at, is_here}
+use Rattle.pagable_laws.proofs.Words.{references_fault, row_of, BeginCall, ReadingDoes, root_frame, next_in, reads, fresh, inr, find_row, is_keyed, owned_outside, IsClosed, IsWithin, IsLeast, nobody}
+use Rattle.pagable_laws.proofs.Words.{with_mode, is_named_by, UnpinCall, zero, suc, List, ◌⊎◌, is_in, WorkerAnswer, of_key, Walking, named_fault, answers_from, ReadsRoot, FitsRoot, IsReadingWhole}
 use Rattle.pagable_laws.proofs.Words.{IsMachineWhole, IsCellOf, sym, subst, Event, EventReply, one_more, load_fault, reading_at, reading_after, ReadingsAre, ReadingBrings, world_of, AreMoments}
-use Rattle.pagable_laws.proofs.Tested.{alike-self, falls-alone, is_low, never, lists_none, takes_more, falls-so, Passes}
-use Rattle.pagable_laws.proofs.States.{none-there, work-whole, reads-none, only-at, evicted-passes, parent-loading-passes, got-passes, parent-loaded-passes, child-cloned-passes}
-use Rattle.pagable_laws.proofs.States.{child-loading-passes, child-loaded-passes, key-loading-passes, child-known-passes, read-back-passes, ◌⨾◌}
-use Rattle.pagable_laws.proofs.{Two.and-false, Walks.paged_out, Walks.work-stays, Walks.only-pager}
+use Rattle.pagable_laws.proofs.{Tested.{alike-self, falls-alone, is_low, never, lists_none, takes_more, falls-so, Passes}, States.{none-there, work-whole, reads-none, only-at, evicted-passes}}
+use Rattle.pagable_laws.proofs.States.{parent-loading-passes, got-passes, parent-loaded-passes, child-cloned-passes, child-loading-passes, child-loaded-passes, key-loading-passes, child-known-passes}
+use Rattle.pagable_laws.proofs.{States.{read-back-passes, ◌⨾◌}, Two.and-false, Walks.{paged_out, work-stays, only-pager}}
 use Rattle.pagable_world.specs.Runs.{Does}
 use Rattle.pagable_laws.specs.TwoLevels as two
 use Rattle.pagable_model.specs.Reading as grammar

@@ -1,11 +1,10 @@
 -- A load's own step leaves it ready: what it has got is its own, and the caller has the handle that began it.
 use Rattle.pagable_laws.proofs.Words.{◌≡◌, ℕ, zero, suc, ◌+◌, ◌==◌, false, List, [], ◌∷◌, Some, inl, inr, refl, sym, ap, subst, ◌∙◌, arith, OptionalDataKey, HandleRow, Owner, ArcRef, Kind}
-use Rattle.pagable_laws.proofs.Words.{HandleNumber, LoadNumber, NodeNumber, Tree, Among, times, one, find_row, mode_of, Core, OpenLoad, of_cell, Frame, Reading, Values, IsLawful, row_at}
-use Rattle.pagable_laws.proofs.Words.{is_named_by, with_got, root_frame, nested_frame, GoesOn, GetsLazy, MakesNode, GetsKnown, HandlesAreWhole, FramesFit, ReadsItsTypes, FramesHeld}
-use Rattle.pagable_laws.proofs.LoadsLive.{GotOnce, AllBelow, got-cons, once-new, once-below, once-none, once-got, with-one, new-one, asked-keeps, known-keeps, adopted-keeps, adopted-new}
-use Rattle.pagable_laws.proofs.{Decoding.decodes, Fitting.first-fits, Goes.found-number, GoodReferences.good, LoadsLive.not-named, LoadsLive.Live, LoadsLive.LoadReady, LoadsLive.live-new}
-use Rattle.pagable_laws.proofs.{LoadsLive.live-got, Outlasting.NotValues, Outlasting.Stands, Outlasting.stands-whole, Outlasting.stands-alike, Outlasting.stands-fell, Sums.self-number}
-use Rattle.pagable_laws.proofs.{Sums.at-most-sum, Trees.same_some}
+use Rattle.pagable_laws.proofs.Words.{HandleNumber, LoadNumber, NodeNumber, Tree, Among, times, one, find_row, mode_of, Core, OpenLoad, of_cell, Frame, Reading, Values, IsLawful, row_at, is_named_by}
+use Rattle.pagable_laws.proofs.{Words.{with_got, root_frame, nested_frame, GoesOn, GetsLazy, MakesNode, GetsKnown, HandlesAreWhole, FramesFit, ReadsItsTypes, FramesHeld}, LoadsLive.GotOnce}
+use Rattle.pagable_laws.proofs.LoadsLive.{AllBelow, got-cons, once-new, once-below, once-none, once-got, with-one, new-one, asked-keeps, known-keeps, adopted-keeps, adopted-new, not-named, Live}
+use Rattle.pagable_laws.proofs.{LoadsLive.{LoadReady, live-new, live-got}, Decoding.decodes, Fitting.first-fits, Goes.found-number, GoodReferences.good, Outlasting.{NotValues, Stands, stands-whole}}
+use Rattle.pagable_laws.proofs.{Outlasting.{stands-alike, stands-fell}, Sums.{self-number, at-most-sum}, Trees.same_some}
 
 module _ {N : Type 0} (v : Values N) (lawful : IsLawful v) (readable : ReadsItsTypes v.types) (w w' : Core) (reading : Reading) (load : OpenLoad) (trees : ℕ → Tree) (root_key root_type : ℕ)
     (whole : HandlesAreWhole w)

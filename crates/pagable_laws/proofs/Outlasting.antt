@@ -1,11 +1,10 @@
 -- A handle that is live, that no value owns and that isn't given up outlasts a cascade, with its row.
-use Rattle.std.proofs.{Common.rules, lemmas.Grind.common_steps}
-use Rattle.pagable_laws.proofs.Words.{◌≡◌, ℕ, zero, suc, ◌+◌, ◌<◌, ◌≤◌, ◌==◌, ◌&&◌, Bool, true, false, List, [], ◌∷◌, ◌++◌, cond, refl, ap, sym, subst, ◌∙◌, inl, inr, arith, Option, Some, None}
-use Rattle.pagable_laws.proofs.Words.{not, if◌then◌else◌, filter, map, slice_get, cases_order, nat_tests, get_or_from_slice_get, slice_get_within, HandleNumber, NodeNumber, Among, changed, one}
-use Rattle.pagable_laws.proofs.Words.{or_else, Owner, HandleRow, find_row, is_handle, is_owner, is_owned_by, owner_value, Core, Last, Alike, IsWithin, IsClosed, IsLeast, is_keyed, Falls}
-use Rattle.pagable_laws.proofs.{Decoding.among-either, Existing.inside, Existing.wider, Goes.le-more, Goes.found-number, Goes.none-in-new, Sums.same-number, Sums.self-number, Sums.sum-zero}
-use Rattle.pagable_laws.proofs.{Sums.at-most-sum, Trees.same_some, Words.left_rows, Words.fallen, Words.owned_outside, Words.IsHandleBefore, Words.HandlesAreWhole}
-use Rattle.std.specs.List.{AllPairs}
+use Rattle.std.{proofs.Common.rules, proofs.lemmas.Grind.common_steps, specs.List.AllPairs}
+use Rattle.pagable_laws.proofs.Words.{◌≡◌, ℕ, zero, suc, ◌+◌, ◌<◌, ◌≤◌, ◌==◌, ◌&&◌, Bool, true, false, List, [], ◌∷◌, ◌++◌, cond, refl, ap, sym, subst, ◌∙◌, inl, inr, arith, Option, Some, None, not}
+use Rattle.pagable_laws.proofs.Words.{if◌then◌else◌, filter, map, slice_get, cases_order, nat_tests, get_or_from_slice_get, slice_get_within, HandleNumber, NodeNumber, Among, changed, one, or_else}
+use Rattle.pagable_laws.proofs.Words.{Owner, HandleRow, find_row, is_handle, is_owner, is_owned_by, owner_value, Core, Last, Alike, IsWithin, IsClosed, IsLeast, is_keyed, Falls, left_rows, fallen}
+use Rattle.pagable_laws.proofs.{Words.{owned_outside, IsHandleBefore, HandlesAreWhole}, Decoding.among-either, Existing.{inside, wider}, Goes.{le-more, found-number, none-in-new}, Sums.same-number}
+use Rattle.pagable_laws.proofs.{Sums.{self-number, sum-zero, at-most-sum}, Trees.same_some}
 
 -- no value's
 abbrev pub NotValues : Owner → Type 0

@@ -1,13 +1,11 @@
 -- What is answered as pinned is a handle that pins: of a call, of a load's last step and of a worker's pin.
-use Rattle.pagable_laws.proofs.Words.{nat_tests}
+use Rattle.pagable_laws.proofs.Words.{nat_tests, ◌≡◌, ℕ, zero, suc, ◌+◌, ◌≤◌, ◌&&◌, Bool, true, false, List, [], ◌∷◌, ◌++◌, refl, ap, sym, subst, ◌∙◌, inl, inr, arith, Option, Some, None, not}
+use Rattle.pagable_laws.proofs.Words.{if◌then◌else◌, Ok, ArcRef, Identity, HandleNumber, LoadNumber, NodeNumber, Among, changed, Owner, HandleRow, Mode, Event, EventReply, LoadAnswer, WorkerAnswer}
+use Rattle.pagable_laws.proofs.Words.{Took, Call, Reply, Pinning, PinStep, find_row, is_handle, is_pinning, is_loose, owner_worker, Core, Last, World, Seen, Todo, to_pin, is_named_by, CloneCall}
+use Rattle.pagable_laws.proofs.Words.{PinCall, with_pin, without_load, is_owned_in, EndCall, Site, PinsAtOnce, answer_after, Ends, Happens, HandlesAreWhole, HasPin, to_load, row_at, Alike}
+use Rattle.pagable_laws.proofs.{Words.{FallsAnyhow, row_of, with_handle, with_mode, moved, PinHolds}, Outlasting.{AreUpTo, after-number, NotValues, Stands, stands-new, stands-alike, stands-fell}}
+use Rattle.pagable_laws.proofs.{Outlasting.{among-changed, none-above}, Decoding.among-either, Trees.same_some}
 use Rattle.std.proofs.Common.{rules}
-use Rattle.pagable_laws.proofs.Words.{◌≡◌, ℕ, zero, suc, ◌+◌, ◌≤◌, ◌&&◌, Bool, true, false, List, [], ◌∷◌, ◌++◌, refl, ap, sym, subst, ◌∙◌, inl, inr, arith, Option, Some, None, not}
-use Rattle.pagable_laws.proofs.Words.{if◌then◌else◌, Ok, ArcRef, Identity, HandleNumber, LoadNumber, NodeNumber, Among, changed, Owner, HandleRow, Mode, Event, EventReply, LoadAnswer}
-use Rattle.pagable_laws.proofs.Words.{WorkerAnswer, Took, Call, Reply, Pinning, PinStep, find_row, is_handle, is_pinning, is_loose, owner_worker, Core, Last, World, Seen, Todo, to_pin}
-use Rattle.pagable_laws.proofs.Words.{is_named_by, CloneCall, PinCall, with_pin, without_load, is_owned_in, EndCall, Site, PinsAtOnce, answer_after, Ends, Happens, HandlesAreWhole, HasPin}
-use Rattle.pagable_laws.proofs.Outlasting.{AreUpTo, after-number, NotValues, Stands, stands-new, stands-alike, stands-fell, among-changed, none-above}
-use Rattle.pagable_laws.proofs.{Decoding.among-either, Trees.same_some, Words.to_load, Words.row_at, Words.Alike, Words.FallsAnyhow, Words.row_of, Words.with_handle, Words.with_mode, Words.moved}
-use Rattle.pagable_laws.proofs.{Words.PinHolds}
 use Rattle.pagable_world.specs.Loads.{Does}
 use Rattle.pagable_world.specs.Workers as workers
 

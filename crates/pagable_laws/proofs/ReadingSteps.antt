@@ -1,14 +1,12 @@
 -- A load's step, as trees feel it: one change, what it does to the plain world with it, and how the load's own blobs grow.
-use Rattle.pagable_laws.proofs.Words.{arith, nat_tests}
+use Rattle.pagable_laws.proofs.Words.{arith, nat_tests, ◌≡◌, List, [], refl, sym, subst, ◌∙◌, inl, inr, Option, Some, None, ◌⊎◌, Ok, Err, OptionalDataKey, Error, Owner, LoadAnswer, Core, OpenLoad}
+use Rattle.pagable_laws.proofs.Words.{Frame, Reading, Alike, Seen, Values, EndCall, HandOverCall, first_key, Fails, RefusesRoot, LoadIs, IsOfCell, IsOfKey, handles_of, GetsRoot, GetsCached, GetsBlob}
+use Rattle.pagable_laws.proofs.Words.{GetsLazy, MakesNode, ReadingDoes, HandlesAreWhole, Change, nothing_felt, bears_known, ReadingFeels, reads-root, reads-blob, gets-known, gets-lazy, makes-known}
+use Rattle.pagable_laws.proofs.{Words.{makes-node, reading-ends, ℕ, Want, AskCall, AsksInVain}, Goes.{Quiet, Goes, NotLoads, quiet-then, quiet-goes, goes-quiet, alike, a-handle, fell-anyhow, adopts}}
+use Rattle.pagable_laws.proofs.{Goes.KnowsNext, ReadingStepsRows.{got-known, got-fallen, got-born, gets-alike, is-cached}, Called.{hands-over, ends-quiet}, Trees.same_some}
 use Rattle.std.proofs.Common.{rules}
-use Rattle.pagable_laws.proofs.Words.{◌≡◌, List, [], refl, sym, subst, ◌∙◌, inl, inr, Option, Some, None, ◌⊎◌, Ok, Err, OptionalDataKey, Error, Owner, LoadAnswer, Core, OpenLoad, Frame, Reading}
-use Rattle.pagable_laws.proofs.Words.{Alike, Seen, Values, EndCall, HandOverCall, first_key, Fails, RefusesRoot, LoadIs, IsOfCell, IsOfKey, handles_of, GetsRoot, GetsCached, GetsBlob, GetsLazy}
-use Rattle.pagable_laws.proofs.Words.{MakesNode, ReadingDoes, HandlesAreWhole, Change, nothing_felt, bears_known, ReadingFeels, reads-root, reads-blob, gets-known, gets-lazy, makes-known}
-use Rattle.pagable_laws.proofs.Goes.{Quiet, Goes, NotLoads, quiet-then, quiet-goes, goes-quiet, alike, a-handle, fell-anyhow, adopts, KnowsNext}
-use Rattle.pagable_laws.proofs.Calling.{noted, asks, closes, gets-known as was-known}
-use Rattle.pagable_laws.proofs.ReadingStepsRows.{got-known, got-fallen, got-born, gets-alike, is-cached}
-use Rattle.pagable_laws.proofs.{Called.hands-over, Called.ends-quiet, Trees.same_some, Words.makes-node, Words.reading-ends, Words.ℕ, Words.Want, Words.AskCall, Words.AsksInVain}
 use Rattle.pagable_world.specs.Loads.{Does, Meets}
+use Rattle.pagable_laws.proofs.Calling.{noted, asks, closes, gets-known as was-known}
 
 -- some change, what the step does to the world with it, and how it is felt; a load that goes on is open
 pub record ReadingFelt {N : Type 0} (v : Values N) (w : Core) (reading : Reading) (answer : Option (LoadAnswer N)) (frames : List Frame) (w' : Core) : Type 0 where

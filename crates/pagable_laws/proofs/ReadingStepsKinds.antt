@@ -1,10 +1,9 @@
 -- What a blob asks for next depends on no more of the references that were got than their kinds.
-use Rattle.pagable_laws.proofs.Words.{nat_tests}
+use Rattle.pagable_laws.proofs.Words.{nat_tests, ◌≡◌, ℕ, zero, suc, ◌+◌, ◌==◌, Bool, true, false, List, [], ◌∷◌, ◌++◌, map, length, Result, Ok, Err, refl, ap, inl, arith, if◌then◌else◌, Option, Some}
+use Rattle.pagable_laws.proofs.Words.{None, slice_get, Error, Rest, read_typed, Answer, answer_at, handles_at, ArcRef, Kind, Blob, Shape, Types, Meaning, answer_of, answers_from, Next, reads, asks}
+use Rattle.pagable_laws.proofs.{Words.{is_faulty, next_by, next_of, some_of, after_kinds}, Related.{Out, both-given, both-refused, first-refused, OutLook, both-looked-up, both-not, read_par}}
+use Rattle.pagable_laws.proofs.Along.{Along, AllTwo, no-two, more-two}
 use Rattle.std.proofs.Common.{rules}
-use Rattle.pagable_laws.proofs.Words.{◌≡◌, ℕ, zero, suc, ◌+◌, ◌==◌, Bool, true, false, List, [], ◌∷◌, ◌++◌, map, length, Result, Ok, Err, refl, ap, inl, arith, if◌then◌else◌, Option}
-use Rattle.pagable_laws.proofs.Words.{Some, None, slice_get, Error, Rest, read_typed, Answer, answer_at, handles_at, ArcRef, Kind, Blob, Shape, Types, Meaning, answer_of, answers_from, Next}
-use Rattle.pagable_laws.proofs.Related.{Out, both-given, both-refused, first-refused, OutLook, both-looked-up, both-not, read_par}
-use Rattle.pagable_laws.proofs.{Along.Along, Along.AllTwo, Along.no-two, Along.more-two, Words.reads, Words.asks, Words.is_faulty, Words.next_by, Words.next_of, Words.some_of, Words.after_kinds}
 
 abbrev pub kinds_of : List ArcRef → List ℕ
 kinds_of got = map (λ (r : ArcRef). r.kind.0) got

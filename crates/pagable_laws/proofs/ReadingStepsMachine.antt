@@ -1,9 +1,8 @@
 -- A load's step in the machine: which reading makes it, and that no other goes on by it.
-use Rattle.pagable_laws.proofs.Words.{◌≡◌, ℕ, ◌≤◌, true, List, [], ◌∷◌, refl, sym, ap, subst, ◌∙◌, inl, inr, Option, Some, None, ◌⊎◌, Ok, Err, is_some, ArcRef, HandleNumber, LoadNumber}
-use Rattle.pagable_laws.proofs.Words.{WorkerNumber, updated, Owner, LoadAnswer, LoadReply, WorkerReply, PinStep, Took, Event, owner_worker, Frame}
-use Rattle.pagable_laws.proofs.Words.{Reading, Todo, to_load, to_write, Walking, World, Seen, Values, ReadingDoes, gone_on, Site, ReadingsAre, reading_at}
-use Rattle.pagable_laws.proofs.Words.{reading_after, LoadSteps, WorkerSteps, IsWhole, IsReadingOf, of_caller, of_worker, IsSteppedReading, StepsReading, IsFresh}
-use Rattle.pagable_laws.proofs.{Goes.at-updated, Trees.same_some, Words.arith, Words.nat_tests}
+use Rattle.pagable_laws.proofs.Words.{◌≡◌, ℕ, ◌≤◌, true, List, [], ◌∷◌, refl, sym, ap, subst, ◌∙◌, inl, inr, Option, Some, None, ◌⊎◌, Ok, Err, is_some, ArcRef, HandleNumber, LoadNumber, WorkerNumber}
+use Rattle.pagable_laws.proofs.Words.{updated, Owner, LoadAnswer, LoadReply, WorkerReply, PinStep, Took, Event, owner_worker, Frame, Reading, Todo, to_load, to_write, Walking, World, Seen, Values}
+use Rattle.pagable_laws.proofs.Words.{ReadingDoes, gone_on, Site, ReadingsAre, reading_at, reading_after, LoadSteps, WorkerSteps, IsWhole, IsReadingOf, of_caller, of_worker, IsSteppedReading}
+use Rattle.pagable_laws.proofs.{Words.{StepsReading, IsFresh, arith, nat_tests}, Goes.at-updated, Trees.same_some}
 use Rattle.pagable_world.specs.Workers as workers
 
 -- what stands among the readings afterwards

@@ -1,10 +1,9 @@
 -- The row of a handle that a load has got: it is new, of its node, and its mode fits the kind.
 use Rattle.std.proofs.{Common.rules, lemmas.Grind.common_steps}
-use Rattle.pagable_laws.proofs.Words.{◌≡◌, ℕ, ◌+◌, ◌<◌, ◌≤◌, Bool, true, List, [], ◌∷◌, ◌++◌, refl, ap, subst, ◌∙◌, inl, inr, arith, Some, ◌⊎◌}
-use Rattle.pagable_laws.proofs.Words.{nat_tests, ArcRef, Kind, HandleNumber, LoadNumber, NodeNumber, OptionalDataKey, type_of}
-use Rattle.pagable_laws.proofs.Words.{HandleRow, Owner, find_row, mode_of, fits_mode, owner_value, Core, Last, Alike, row_at, usable}
-use Rattle.pagable_laws.proofs.Words.{FallsAnyhow, left_rows, row_of, with_handle, with_node, with_cached_if_open, with_known, next_node, is_named_by, moved, adopted}
-use Rattle.pagable_laws.proofs.{Goes.found-number, Goes.found-changed, Goes.found-left, Goes.none-in-new, Outlasting.among-found, Words.HandlesAreWhole, Words.GetsRow}
+use Rattle.pagable_laws.proofs.Words.{◌≡◌, ℕ, ◌+◌, ◌<◌, ◌≤◌, Bool, true, List, [], ◌∷◌, ◌++◌, refl, ap, subst, ◌∙◌, inl, inr, arith, Some, ◌⊎◌, nat_tests, ArcRef, Kind, HandleNumber, LoadNumber}
+use Rattle.pagable_laws.proofs.Words.{NodeNumber, OptionalDataKey, type_of, HandleRow, Owner, find_row, mode_of, fits_mode, owner_value, Core, Last, Alike, row_at, usable, FallsAnyhow, left_rows}
+use Rattle.pagable_laws.proofs.{Words.{row_of, with_handle, with_node, with_cached_if_open, with_known, next_node, is_named_by, moved, adopted, HandlesAreWhole, GetsRow}, Goes.found-number}
+use Rattle.pagable_laws.proofs.{Goes.{found-changed, found-left, none-in-new}, Outlasting.among-found}
 
 pub fits-kind : (kind : ℕ) → fits_mode kind (mode_of kind) ≡ true
 fits-kind kind = grind (arith, nat_tests)

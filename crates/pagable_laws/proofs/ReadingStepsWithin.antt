@@ -1,11 +1,10 @@
 -- Each step of a load of the caller's is within its bound, and one that is open has a step left, along every chain.
 use Rattle.pagable_laws.proofs.Words.{◌≡◌, ℕ, ◌+◌, ◌*◌, ◌≤◌, ◌⊎◌, List, [], ◌∷◌, Ok, refl, sym, ap, subst, ◌∙◌, inl, inr, arith, Option, Some, None, IsSome, Blob, Types, LoadNumber, Call, Reply}
-use Rattle.pagable_laws.proofs.Words.{Event, EventReply, LoadReply, Core, OpenLoad, Reading, Frame, World, Values, Seen, one_more, gone_on, CloseCall, Happens, LoadSteps, MachineState}
-use Rattle.pagable_laws.proofs.Words.{world_of, IsReadingOf, of_caller, IsMachineWhole, IsIdle, KeepsOpen, Moment, AreMoments, state_after, Unfolds, unfolds, HasStepLeft}
-use Rattle.pagable_laws.proofs.Words.{IsWithinBound, StepIsWithin, StepsAreWithin, LoadsHaveStepsLeft, KeepsStored, Change, IsFresh, KeepsReadings, ReadingFeels, EventFeels, by-call, by-reading}
-use Rattle.pagable_laws.proofs.{EventSteps.EventGoes, EventSteps.event-goes, Goes.IsShut, Goes.Goes, ReadingSteps.caller-free, ReadingSteps.reading-feels, ReadingStepsBound.Owes}
-use Rattle.pagable_laws.proofs.{ReadingStepsBound.owes-first, ReadingStepsBound.owes-some, ReadingStepsBound.owes-less, ReadingStepsMachine.reading-stands, ReadingStepsMachine.is-reading-of}
-use Rattle.pagable_laws.proofs.{ReadingStepsWaiting.AllBelowWait, ReadingStepsWaiting.waits-well, ReadingStepsWaiting.event-waits, Trees.same_some, Words.nat_tests, Words.by-key, Words.by-nothing}
+use Rattle.pagable_laws.proofs.Words.{Event, EventReply, LoadReply, Core, OpenLoad, Reading, Frame, World, Values, Seen, one_more, gone_on, CloseCall, Happens, LoadSteps, MachineState, world_of}
+use Rattle.pagable_laws.proofs.Words.{IsReadingOf, of_caller, IsMachineWhole, IsIdle, KeepsOpen, Moment, AreMoments, state_after, Unfolds, unfolds, HasStepLeft, IsWithinBound, StepIsWithin}
+use Rattle.pagable_laws.proofs.Words.{StepsAreWithin, LoadsHaveStepsLeft, KeepsStored, Change, IsFresh, KeepsReadings, ReadingFeels, EventFeels, by-call, by-reading, nat_tests, by-key, by-nothing}
+use Rattle.pagable_laws.proofs.{EventSteps.{EventGoes, event-goes}, Goes.{IsShut, Goes}, ReadingSteps.{caller-free, reading-feels}, ReadingStepsBound.{Owes, owes-first, owes-some, owes-less}}
+use Rattle.pagable_laws.proofs.{ReadingStepsMachine.{reading-stands, is-reading-of}, ReadingStepsWaiting.{AllBelowWait, waits-well, event-waits}, Trees.same_some}
 use Rattle.std.proofs.Common.{rules}
 
 -- ---- one load

@@ -2,9 +2,8 @@
 use Rattle.pagable_laws.proofs.Words.{◌≡◌, ℕ, suc, zero, ◌+◌, ◌<◌, ◌≤◌, ◌==◌, ◌&&◌, ◌||◌, Bool, true, false, List, [], ◌∷◌, Option, Some, refl, sym, ap, subst, ◌∙◌, if◌then◌else◌, arith, not}
 use Rattle.pagable_laws.proofs.Words.{slice_get, and_parts, nat_tests, HandleRow, Owner, Mode, ArcRef, HandleNumber, LoadNumber, NodeNumber, Among, changed, if_there, one, find_row, is_handle}
 use Rattle.pagable_laws.proofs.Words.{is_owner, is_owned_by, owner_worker, Core, Alike, Falls, nobody, only_handle, Owns, row_of, with_handle, with_mode, moved, is_named_by, is_owned_in}
-use Rattle.pagable_laws.proofs.Outlasting.{NotValues, Stands, stands-alike, stands-changed, stands-more, stands-fell}
-use Rattle.pagable_laws.proofs.{Goes.found-number, Goes.none-in-next, Sums.same-number, Sums.self-number, Sums.at-most-sum, Sums.counted, Sums.one-true, Trees.same_some, Words.OwnersAreThere}
-use Rattle.pagable_laws.proofs.{Words.AreGood}
+use Rattle.pagable_laws.proofs.{Words.{OwnersAreThere, AreGood}, Outlasting.{NotValues, Stands, stands-alike, stands-changed, stands-more, stands-fell}, Goes.{found-number, none-in-next}}
+use Rattle.pagable_laws.proofs.{Sums.{same-number, self-number, at-most-sum, counted, one-true}, Trees.same_some}
 
 -- neither a value nor a load
 pub record IsApart (mine : Owner) : Type 0 where

@@ -1,12 +1,11 @@
 -- A worker's step, case by case: its table and its to-do list fit afterwards.
 use Rattle.pagable_laws.proofs.Words.{◌≡◌, ℕ, ◌≤◌, ◌==◌, true, List, [], ◌∷◌, ◌++◌, length, Option, Some, None, Ok, Err, if◌then◌else◌, refl, sym, ap, subst, ◌∙◌, arith, drop, nat_tests, blob_of}
 use Rattle.pagable_laws.proofs.Words.{ArcRef, Identity, Blob, HandleNumber, Tree, type_of, Claim, PinStep, Took, identity_of, Shelf, Slot, no_result, published, Written, Open, Fault, Todo}
-use Rattle.pagable_laws.proofs.Words.{was_failed, was_refused, to_start, to_pin, to_load, to_write, to_finish, to_item, to_set, to_publish, to_release, to_fail, Task, Values, Seen, digest}
-use Rattle.pagable_laws.proofs.Words.{Stores, Site, Does, IsPublished, claim_fault, next_start, give, give_known, open_node, with_outcome, with_wait, answer_after, AreKeysOf, Ground, WroteTree}
-use Rattle.pagable_laws.proofs.Words.{BlobStands, SlotFits, KeysSoFar, Expects, Waits, Above, HasBlob, Walks, SlotsFit}
-use Rattle.pagable_laws.proofs.Shelves.{GroundGoes, so-far-on, wrote-on, blob-on, slot-on, keys-grow, above-on, has-blob-on, slots-on, slots-but, slots-failed}
-use Rattle.pagable_laws.proofs.{Changing.ShelfGrows, Changing.some-same, Changing.PutsSlot, Changing.puts-slot, Changing.changes-slot, Following.IdentityStands, Following.key-stands}
-use Rattle.pagable_laws.proofs.{Standing.HasClaim, Standing.AllStand}
+use Rattle.pagable_laws.proofs.Words.{was_failed, was_refused, to_start, to_pin, to_load, to_write, to_finish, to_item, to_set, to_publish, to_release, to_fail, Task, Values, Seen, digest, Stores}
+use Rattle.pagable_laws.proofs.Words.{Site, Does, IsPublished, claim_fault, next_start, give, give_known, open_node, with_outcome, with_wait, answer_after, AreKeysOf, Ground, WroteTree, BlobStands}
+use Rattle.pagable_laws.proofs.{Words.{SlotFits, KeysSoFar, Expects, Waits, Above, HasBlob, Walks, SlotsFit}, Shelves.{GroundGoes, so-far-on, wrote-on, blob-on, slot-on, keys-grow, above-on}}
+use Rattle.pagable_laws.proofs.{Shelves.{has-blob-on, slots-on, slots-but, slots-failed}, Changing.{ShelfGrows, some-same, PutsSlot, puts-slot, changes-slot}, Following.{IdentityStands, key-stands}}
+use Rattle.pagable_laws.proofs.Standing.{HasClaim, AllStand}
 
 -- ---- lists
 

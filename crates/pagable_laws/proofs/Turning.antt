@@ -1,11 +1,10 @@
 -- Each kind of a worker's step: what it does to its list and to the slots.
-use Rattle.pagable_laws.proofs.Words.{◌≡◌, ℕ, ◌||◌, Bool, true, false, List, [], ◌∷◌, refl, ap, sym, subst, ◌∙◌, inl, inr, Some, None, drop, ArcRef, Identity, HandleNumber, WorkerAnswer}
-use Rattle.pagable_laws.proofs.Words.{identity_of, Shelf, Slot, no_result, published, Written, Open, Todo, to_start, to_pin, to_write, to_finish, to_publish, to_release, Task, is_identity}
-use Rattle.pagable_laws.proofs.Words.{SameShelf, open_node, with_changed_slot, with_failed, with_outcome, is_open_outcome, Meets}
-use Rattle.pagable_laws.proofs.Changing.{SlotGrows, ShelfGrows, Changes, some-none, grows, meets-grow, is-self, is-same, PutsSlot, changes-slot, put-cases, puts-new, puts-own, outcome-grows}
-use Rattle.pagable_laws.proofs.Going.{or-left, or-right, true-false, not-true, all-stay, open-slot, CoversBy, Goes, settles, started-open}
-use Rattle.pagable_laws.proofs.{Changing.all-failed, Changing.none-fails, Changing.fails-own, Standing.is_open_in, Standing.is_failing, Standing.is_failed, Standing.AllStand, Standing.HasNoFailed}
-use Rattle.pagable_laws.proofs.{Words.arith, Words.nat_tests}
+use Rattle.pagable_laws.proofs.Words.{◌≡◌, ℕ, ◌||◌, Bool, true, false, List, [], ◌∷◌, refl, ap, sym, subst, ◌∙◌, inl, inr, Some, None, drop, ArcRef, Identity, HandleNumber, WorkerAnswer, identity_of}
+use Rattle.pagable_laws.proofs.Words.{Shelf, Slot, no_result, published, Written, Open, Todo, to_start, to_pin, to_write, to_finish, to_publish, to_release, Task, is_identity, SameShelf, open_node}
+use Rattle.pagable_laws.proofs.{Words.{with_changed_slot, with_failed, with_outcome, is_open_outcome, Meets, arith, nat_tests}, Changing.{SlotGrows, ShelfGrows, Changes, some-none, grows}}
+use Rattle.pagable_laws.proofs.{Changing.{meets-grow, is-self, is-same, PutsSlot, changes-slot, put-cases, puts-new, puts-own, outcome-grows, all-failed, none-fails, fails-own}, Going.or-left}
+use Rattle.pagable_laws.proofs.{Going.{or-right, true-false, not-true, all-stay, open-slot, CoversBy, Goes, settles, started-open}, Standing.{is_open_in, is_failing, is_failed, AllStand}}
+use Rattle.pagable_laws.proofs.Standing.{HasNoFailed}
 
 -- what is open about the identity itself
 open-self : (i j : Identity) (rest : Bool) → j ≡ i → (is_identity j i || rest) ≡ true

@@ -1,11 +1,10 @@
 -- What a worker's step does to the plain world, as trees feel it, and which loads it begins.
-use Rattle.pagable_laws.proofs.Words.{◌≡◌, ℕ, ◌≤◌, true, List, [], ◌∷◌, ◌++◌, refl, sym, ap, subst, ◌∙◌, inl, inr, arith, Option, Some, None, Ok, Err, Result, Error, ArcRef, HandleNumber}
-use Rattle.pagable_laws.proofs.Words.{LoadNumber, HandleRow, Pinning, Beginning, Claim, PinStep, Took, owner_worker, is_loose, Core, OpenLoad, Reading, Todo, to_start, to_pin, to_load}
-use Rattle.pagable_laws.proofs.Words.{to_write, to_finish, to_item, to_set, to_publish, to_release, to_fail, row_at, Seen, SetKeyCall, Site, Does, PinsAtOnce, PinsByLoad, PinRefused, GivesBack}
-use Rattle.pagable_laws.proofs.Words.{next_start, give, give_known, fresh, HandlesAreWhole, TodoBrings, Change, nothing_felt, sets_key, ReadingFeels, IsFresh}
-use Rattle.pagable_laws.proofs.Goes.{Quiet, Goes, NotLoads, quiet-then, quiet-goes, quiet-begins, goes-quiet, alike, fell, fell-anyhow, keyed, KnowsNext}
-use Rattle.pagable_laws.proofs.{Called.schedules, Calling.clones, Calling.pins, Calling.begins, Calling.stores, ReadingSteps.reading-feels, ReadingSteps.reading-knows, ReadingStepsMachine.LoadsTodo}
-use Rattle.pagable_laws.proofs.{ReadingStepsMachine.loads-todo, Trees.same_some, Words.nat_tests}
+use Rattle.pagable_laws.proofs.Words.{◌≡◌, ℕ, ◌≤◌, true, List, [], ◌∷◌, ◌++◌, refl, sym, ap, subst, ◌∙◌, inl, inr, arith, Option, Some, None, Ok, Err, Result, Error, ArcRef, HandleNumber, LoadNumber}
+use Rattle.pagable_laws.proofs.Words.{HandleRow, Pinning, Beginning, Claim, PinStep, Took, owner_worker, is_loose, Core, OpenLoad, Reading, Todo, to_start, to_pin, to_load, to_write, to_finish}
+use Rattle.pagable_laws.proofs.Words.{to_item, to_set, to_publish, to_release, to_fail, row_at, Seen, SetKeyCall, Site, Does, PinsAtOnce, PinsByLoad, PinRefused, GivesBack, next_start, give}
+use Rattle.pagable_laws.proofs.{Words.{give_known, fresh, HandlesAreWhole, TodoBrings, Change, nothing_felt, sets_key, ReadingFeels, IsFresh, nat_tests}, Goes.{Quiet, Goes, NotLoads, quiet-then}}
+use Rattle.pagable_laws.proofs.{Goes.{quiet-goes, quiet-begins, goes-quiet, alike, fell, fell-anyhow, keyed, KnowsNext}, Called.schedules, Calling.{clones, pins, begins, stores}}
+use Rattle.pagable_laws.proofs.{ReadingSteps.{reading-feels, reading-knows}, ReadingStepsMachine.{LoadsTodo, loads-todo}, Trees.same_some}
 
 pub works-free : (v : ℕ) → NotLoads (owner_worker v)
 works-free v l is = absurd (cc)

@@ -2,12 +2,11 @@
 use Rattle.std.proofs.Common.{rules}
 use Rattle.pagable_steps.proofs.Words.{◌≡◌, ℕ, ◌<◌, ◌==◌, ◌&&◌, ◌||◌, Bool, true, false, List, [], ◌∷◌, Option, Some, None, Ok, Err, inl, inr, refl, ap, sym, ◌∙◌, arith, Result, not, and_parts}
 use Rattle.pagable_steps.proofs.Words.{nat_tests, Error, HandleRow, Owner, ArcRef, Kind, HandleNumber, LoadNumber, NodeNumber, is_in, one, times, if_there, find_row, is_owner, is_owned_by}
-use Rattle.pagable_steps.proofs.Words.{owner_worker, is_at, Core, Values, Alike, row_at, usable, FallsAnyhow, refused_if, named_fault, is_listed, UnpinCall, ReleaseCall}
-use Rattle.pagable_steps.proofs.Words.{SetKeyCall, ScheduleCall, OfferCall, CloseCall, is_owned_in, numbers_of, Adopts, EndCall, HandOverCall, DropCall, LoadCloses, is_workers_at, is_load_of}
-use Rattle.pagable_steps.proofs.Words.{WorkerEnds, PagerState, IsWhole, WellFormed, same-number, one-true, counted, same-owner, good, NotValues, neither}
-use Rattle.pagable_steps.proofs.Keeping.{AreFree, Leaves, found-whole, fell, stayed, spares-keeps, unpin-keeps, keyed-keeps}
-use Rattle.pagable_steps.proofs.{Naming.named-owner, Spared.Spares, SparedLists.own-free, SparedLists.listed-free, SparedLists.schedules, SparedLists.offers, SparedLists.spares-known}
-use Rattle.pagable_steps.proofs.{SparedLoads.not-load, SparedParts.spares-then, SparedParts.spares-same, SparedParts.spares-alike, SparedParts.spares-moved}
+use Rattle.pagable_steps.proofs.Words.{owner_worker, is_at, Core, Values, Alike, row_at, usable, FallsAnyhow, refused_if, named_fault, is_listed, UnpinCall, ReleaseCall, SetKeyCall, ScheduleCall}
+use Rattle.pagable_steps.proofs.Words.{OfferCall, CloseCall, is_owned_in, numbers_of, Adopts, EndCall, HandOverCall, DropCall, LoadCloses, is_workers_at, is_load_of, WorkerEnds, PagerState, IsWhole}
+use Rattle.pagable_steps.proofs.{Words.{WellFormed, same-number, one-true, counted, same-owner, good, NotValues, neither}, Keeping.{AreFree, Leaves, found-whole, fell, stayed, spares-keeps}}
+use Rattle.pagable_steps.proofs.{Keeping.{unpin-keeps, keyed-keeps}, Naming.named-owner, Spared.Spares, SparedLists.{own-free, listed-free, schedules, offers, spares-known}, SparedLoads.not-load}
+use Rattle.pagable_steps.proofs.SparedParts.{spares-then, spares-same, spares-alike, spares-moved}
 
 -- ---- what no value owns
 

@@ -1,11 +1,10 @@
 -- Calls on the list, the cache and the storage, by which no value comes or goes.
-use Rattle.pagable_steps.proofs.Words.{◌≡◌, ℕ, ◌+◌, ◌<◌, ◌≤◌, ◌==◌, ◌&&◌, ◌||◌, ◌%◌, Bool, true, false, Option, Some, None, Ok, Err, inl, inr, refl, ap, sym, subst, ◌∙◌, if◌then◌else◌, arith}
-use Rattle.pagable_steps.proofs.Words.{Result, not, nat_lt, is_some, slice_get, and_parts, nat_tests, OptionalDataKey, HandleRow, Owner, Mode, Error, Blob, Kind, HandleNumber, WorkerNumber}
-use Rattle.pagable_steps.proofs.Words.{Among, one, if_there, is_shared_kind, is_loose_kind, is_pinned_kind, is_handle, is_at, is_owner, is_owned_by, is_pinning, is_shared, is_share, mode_of}
-use Rattle.pagable_steps.proofs.Words.{held, pins, is_in_memory, Core, Cell, Alike, usable, is_here, only_handle, Owns, with_known, ScheduleCall, TakeCall, ReserveCall, RecallCall, OfferCall}
-use Rattle.pagable_steps.proofs.Words.{ClearCall, Asked, FetchCall, StoreCall, with_worker, with_entry_taken, IsWhole, self-number, same-number, at-most-sum, counted, one-true}
-use Rattle.pagable_steps.proofs.{Spared.Spares, SparedParts.spares-then, SparedParts.spares-same, SparedParts.spares-alike, SparedParts.spares-handle, SparedParts.spares-moved, Words.NotValues}
-use Rattle.pagable_steps.proofs.{Words.stands-whole, Words.once, Words.IsEntered, Words.entered-of}
+use Rattle.pagable_steps.proofs.Words.{◌≡◌, ℕ, ◌+◌, ◌<◌, ◌≤◌, ◌==◌, ◌&&◌, ◌||◌, ◌%◌, Bool, true, false, Option, Some, None, Ok, Err, inl, inr, refl, ap, sym, subst, ◌∙◌, if◌then◌else◌, arith, Result}
+use Rattle.pagable_steps.proofs.Words.{not, nat_lt, is_some, slice_get, and_parts, nat_tests, OptionalDataKey, HandleRow, Owner, Mode, Error, Blob, Kind, HandleNumber, WorkerNumber, Among, one}
+use Rattle.pagable_steps.proofs.Words.{if_there, is_shared_kind, is_loose_kind, is_pinned_kind, is_handle, is_at, is_owner, is_owned_by, is_pinning, is_shared, is_share, mode_of, held, pins}
+use Rattle.pagable_steps.proofs.Words.{is_in_memory, Core, Cell, Alike, usable, is_here, only_handle, Owns, with_known, ScheduleCall, TakeCall, ReserveCall, RecallCall, OfferCall, ClearCall, Asked}
+use Rattle.pagable_steps.proofs.Words.{FetchCall, StoreCall, with_worker, with_entry_taken, IsWhole, self-number, same-number, at-most-sum, counted, one-true, NotValues, stands-whole, once}
+use Rattle.pagable_steps.proofs.{Words.{IsEntered, entered-of}, Spared.Spares, SparedParts.{spares-then, spares-same, spares-alike, spares-handle, spares-moved}}
 
 not-list : NotValues Owner.List
 not-list n e = cc

@@ -1,8 +1,7 @@
 -- Calls on loads, by which no value comes or goes.
 use Rattle.pagable_steps.proofs.Words.{◌≡◌, ℕ, true, false, Ok, Err, inl, inr, Result, Beginning, Want, HandleRow, Owner, Mode, Error, Kind, HandleNumber, LoadNumber, Core, OpenLoad, BeginCall}
-use Rattle.pagable_steps.proofs.Words.{BeginKeyCall, GetsKnown, Given, from_cache, from_store, AskCall, AsksInVain, IsWhole, NotValues}
-use Rattle.pagable_steps.proofs.{Spared.Spares, SparedLists.asked, SparedLists.spares-known, SparedParts.spares-then, SparedParts.spares-same, SparedParts.spares-alike, SparedParts.spares-handle}
-use Rattle.pagable_steps.proofs.{Words.arith, Words.nat_tests}
+use Rattle.pagable_steps.proofs.{Words.{BeginKeyCall, GetsKnown, Given, from_cache, from_store, AskCall, AsksInVain, IsWhole, NotValues, arith, nat_tests}, Spared.Spares, SparedLists.asked}
+use Rattle.pagable_steps.proofs.{SparedLists.spares-known, SparedParts.{spares-then, spares-same, spares-alike, spares-handle}}
 
 pub not-load : (l : LoadNumber) → NotValues (Owner.Load l)
 not-load l n e = cc

@@ -1,9 +1,8 @@
 -- Parts of steps by which no value comes or goes: one more handle, a handle in another mode, handles that move.
-use Rattle.pagable_steps.proofs.Words.{◌≡◌, ℕ, suc, zero, ◌+◌, ◌≤◌, ◌==◌, ◌&&◌, ◌||◌, Bool, true, false, List, [], ◌∷◌, ◌++◌, sum_by, map, refl, ap, sym, subst, ◌∙◌, if◌then◌else◌, arith, Some}
-use Rattle.pagable_steps.proofs.Words.{not, nat_lt, and_parts, nat_tests, sum_by-cons, sum_by_push, OptionalDataKey, HandleRow, Owner, Mode, HandleNumber, NodeNumber, SameAt, Among, changed, one}
-use Rattle.pagable_steps.proofs.Words.{if_there, or_else, find_row, is_handle, is_owned_by, owner_value, is_pin, is_pinning, pins, is_in_memory, has_key, Core, Cell, Alike, key_at, is_here}
-use Rattle.pagable_steps.proofs.Words.{row_of, with_handle, with_mode, moved, same-number, sum-le, NotValues, not-owned, find-both, found-after, among-found}
-use Rattle.pagable_steps.proofs.Spared.{owns, owns_any, Spares}
+use Rattle.pagable_steps.proofs.Words.{◌≡◌, ℕ, suc, zero, ◌+◌, ◌≤◌, ◌==◌, ◌&&◌, ◌||◌, Bool, true, false, List, [], ◌∷◌, ◌++◌, sum_by, map, refl, ap, sym, subst, ◌∙◌, if◌then◌else◌, arith, Some, not}
+use Rattle.pagable_steps.proofs.Words.{nat_lt, and_parts, nat_tests, sum_by-cons, sum_by_push, OptionalDataKey, HandleRow, Owner, Mode, HandleNumber, NodeNumber, SameAt, Among, changed, one}
+use Rattle.pagable_steps.proofs.Words.{if_there, or_else, find_row, is_handle, is_owned_by, owner_value, is_pin, is_pinning, pins, is_in_memory, has_key, Core, Cell, Alike, key_at, is_here, row_of}
+use Rattle.pagable_steps.proofs.{Words.{with_handle, with_mode, moved, same-number, sum-le, NotValues, not-owned, find-both, found-after, among-found}, Spared.{owns, owns_any, Spares}}
 
 pub spares-then : {w m w' : Core} → Spares w m → Spares m w' → Spares w w'
 spares-then a b =
