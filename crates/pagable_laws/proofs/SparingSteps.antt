@@ -1,7 +1,16 @@
 -- Each event leaves each handle of a worker as it is that doesn't make it, and what the cache gives for a kind and a key, where the node is held before and after. What a load's and
 -- a worker's step do leaves the handles of the list too.
-use Rattle.pagable_laws.proofs.Words.{Falls, NodeNumber, AdoptCall, Alike, Among, ArcRef, AreGood, AskCall, Asked, AsksInVain, BeginCall, BeginKeyCall, Beginning, BirthCall, Blob, Bool, Call, Claim, CloneCall, Core, DropCall, EndCall, Ends, Err, Error, Event, EventReply, Frame, Given, HandOverCall, HandleNumber, HandleRow, Happens, Installs, KeepsOpen, Kind, LazyCall, LeavesCache, List, LoadAnswer, LoadCloses, LoadNumber, Mode, None, OfferCall, Ok, OpenLoad, Option, OptionalDataKey, Owner, OwnersAreThere, PinCall, PinRefused, PinStep, Pinning, Reading, ReadingDoes, RecallCall, ReleaseCall, Reply, Result, ScheduleCall, Seen, SetKeyCall, Site, Some, Starts, StoreCall, TableNumber, Task, Todo, Took, UnpinCall, Values, Want, WorkerAnswer, WorkerNumber, World, [], adopted, ap, arith, false, find_row, from_cache, from_store, if_there, if◌then◌else◌, inl, inr, is_at, is_in, is_load_of, is_named_by, is_owned_by, is_owned_in, is_owner, is_workers, is_workers_at, mode_of, moved, named_fault, nat_tests, next_node, not, numbers_of, owner_value, owner_worker, refl, refused_if, row_at, step_of, subst, sym, to_fail, to_finish, to_item, to_load, to_pin, to_publish, to_release, to_set, to_start, to_write, true, type_of, usable, with_cached, with_handle, with_mode, with_node, with_pin, without_load, ℕ, ◌&&◌, ◌+◌, ◌==◌, ◌||◌, ◌∙◌, ◌∷◌, ◌≡◌}
-use Rattle.pagable_laws.proofs.Sparing.{IsApart, worker-apart, list-apart, Spares, Free, spares-then, spares-alike, then-alike, then-fell, itself, spares-handle, moved-free, other-handle, mode-free, spares-mode}
+use Rattle.pagable_laws.proofs.Words.{Falls, NodeNumber, AdoptCall, Alike, Among, ArcRef, AreGood, AskCall, Asked, AsksInVain, BeginCall, BeginKeyCall, Beginning, BirthCall, Blob, Bool, Call, Claim}
+use Rattle.pagable_laws.proofs.Words.{CloneCall, Core, DropCall, EndCall, Ends, Err, Error, Event, EventReply, Frame, Given, HandOverCall, HandleNumber, HandleRow, Happens, Installs, KeepsOpen, Kind}
+use Rattle.pagable_laws.proofs.Words.{LazyCall, LeavesCache, List, LoadAnswer, LoadCloses, LoadNumber, Mode, None, OfferCall, Ok, OpenLoad, Option, OptionalDataKey, Owner, OwnersAreThere, PinCall}
+use Rattle.pagable_laws.proofs.Words.{PinRefused, PinStep, Pinning, Reading, ReadingDoes, RecallCall, ReleaseCall, Reply, Result, ScheduleCall, Seen, SetKeyCall, Site, Some, Starts, StoreCall}
+use Rattle.pagable_laws.proofs.Words.{TableNumber, Task, Todo, Took, UnpinCall, Values, Want, WorkerAnswer, WorkerNumber, World, [], adopted, ap, arith, false, find_row, from_cache, from_store}
+use Rattle.pagable_laws.proofs.Words.{if_there, if◌then◌else◌, inl, inr, is_at, is_in, is_load_of, is_named_by, is_owned_by, is_owned_in, is_owner, is_workers, is_workers_at, mode_of, moved}
+use Rattle.pagable_laws.proofs.Words.{named_fault, nat_tests, next_node, not, numbers_of, owner_value, owner_worker, refl, refused_if, row_at, step_of, subst, sym, to_fail, to_finish, to_item}
+use Rattle.pagable_laws.proofs.Words.{to_load, to_pin, to_publish, to_release, to_set, to_start, to_write, true, type_of, usable, with_cached, with_handle, with_mode, with_node, with_pin}
+use Rattle.pagable_laws.proofs.Words.{without_load, ℕ, ◌&&◌, ◌+◌, ◌==◌, ◌||◌, ◌∙◌, ◌∷◌, ◌≡◌}
+use Rattle.pagable_laws.proofs.Sparing.{IsApart, worker-apart, list-apart, Spares, Free, spares-then, spares-alike, then-alike, then-fell, itself, spares-handle, moved-free, other-handle, mode-free}
+use Rattle.pagable_laws.proofs.Sparing.{spares-mode}
 use Rattle.pagable_laws.proofs.Usable.{IsEntered, IsHeldFor, Lasts, can-use, stays-alike, by-alike, by-fell, up-then, then-down, held-fell, born, keyed}
 use Rattle.pagable_laws.proofs.{Decoding.among-left, GoodReferences.good, GoodReferences.same-owner, Outlasting.Stands, ReadingSteps.meets, ReadingStepsHanding.neither, Sparing.named-free}
 use Rattle.pagable_laws.proofs.{Sparing.load-free, Sparing.both-free, Sparing.nobody-free, Sparing.listed-free, Sums.same-number, Sums.self-number}
