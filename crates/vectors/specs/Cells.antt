@@ -149,20 +149,20 @@ type_of (nodes.Bytes first second) = 7
 abbrev pub means : CellNode → Meaning ArcRef → Type 0
 means (nodes.Name t) m = m ≡ meanings.text (string_bytes (arc_value t))
 means (nodes.Note t) m = m ≡ meanings.text (string_bytes (arc_value t))
-means (nodes.Mixed mixed) m = mixed_means mixed m
+means (nodes.Mixed mixed) m = mixed_means (arc_value mixed) m
 means (nodes.Link next) m = MeansOption (Is (plain_means 10)) next m
 means (nodes.ArcLink next) m = MeansOption (Is (plain_means 12)) next m
-means (nodes.Names names) m = list_means 0 names m
+means (nodes.Names names) m = list_means 0 (arc_value names) m
 means (nodes.Holder name) m = m ≡ plain_means 0 name
 means (nodes.Bytes first second) m = bytes_means (first, second) m
 
 abbrev pub refs_of : CellNode → List ArcRef
 refs_of (nodes.Name t) = []
 refs_of (nodes.Note t) = []
-refs_of (nodes.Mixed mixed) = references_in (five_meaning mixed.1)
+refs_of (nodes.Mixed mixed) = references_in (five_meaning (arc_value mixed).1)
 refs_of (nodes.Link next) = references_in (of_option (plain_means 10) next)
 refs_of (nodes.ArcLink next) = references_in (of_option (plain_means 12) next)
-refs_of (nodes.Names names) = references_in (list_meaning 0 names)
+refs_of (nodes.Names names) = references_in (list_meaning 0 (arc_value names))
 refs_of (nodes.Holder name) = references_in (plain_means 0 name)
 refs_of (nodes.Bytes first second) = []
 
@@ -217,10 +217,10 @@ has_shape (nodes.Bytes first second) = refl
 pub has_meaning : (n : CellNode) → SomeMeaning (means n)
 has_meaning (nodes.Name t) = (meanings.text (string_bytes (arc_value t)), refl)
 has_meaning (nodes.Note t) = (meanings.text (string_bytes (arc_value t)), refl)
-has_meaning (nodes.Mixed mixed) = (mixed_meaning mixed, pair_is_meaning (Is number) five_means number five_meaning (λ x. refl) five-is mixed)
+has_meaning (nodes.Mixed mixed) = (mixed_meaning (arc_value mixed), pair_is_meaning (Is number) five_means number five_meaning (λ x. refl) five-is (arc_value mixed))
 has_meaning (nodes.Link next) = (of_option (plain_means 10) next, option_is_meaning (Is (plain_means 10)) (plain_means 10) (λ a. refl) next)
 has_meaning (nodes.ArcLink next) = (of_option (plain_means 12) next, option_is_meaning (Is (plain_means 12)) (plain_means 12) (λ a. refl) next)
-has_meaning (nodes.Names names) = (list_meaning 0 names, list-is 0 names)
+has_meaning (nodes.Names names) = (list_meaning 0 (arc_value names), list-is 0 (arc_value names))
 has_meaning (nodes.Holder name) = (plain_means 0 name, refl)
 has_meaning (nodes.Bytes first second) = pair_has_meaning (Is number) (Is number) (λ x. (number x, refl)) (λ x. (number x, refl)) (first, second)
 
@@ -236,9 +236,9 @@ bytes-refer x y = refl
 pub refers : (n : CellNode) (m : Meaning ArcRef) → means n m → SameReferences (refs_of n) (references_in m)
 refers (nodes.Name t) m h = rw (h, text-refers (string_bytes (arc_value t))) (λ test. refl)
 refers (nodes.Note t) m h = rw (h, text-refers (string_bytes (arc_value t))) (λ test. refl)
-refers (nodes.Mixed mixed) m h = rw (one_mixed mixed m h, mixed_refers mixed) (λ test. refl)
+refers (nodes.Mixed mixed) m h = rw (one_mixed (arc_value mixed) m h, mixed_refers (arc_value mixed)) (λ test. refl)
 refers (nodes.Link next) m h = rw (option_single (Is (plain_means 10)) (plain_means 10) (λ a m is. is) next m h) (λ test. refl)
 refers (nodes.ArcLink next) m h = rw (option_single (Is (plain_means 12)) (plain_means 12) (λ a m is. is) next m h) (λ test. refl)
-refers (nodes.Names names) m h = rw (one_list 0 names m h) (λ test. refl)
+refers (nodes.Names names) m h = rw (one_list 0 (arc_value names) m h) (λ test. refl)
 refers (nodes.Holder name) m h = rw h (λ test. refl)
 refers (nodes.Bytes first second) m h = rw (pair_single (Is number) (Is number) number number (λ x m is. is) (λ x m is. is) (first, second) m h, bytes-refer first second) (λ test. refl)

@@ -60,13 +60,13 @@ pub enum CellNode {
     /// Of the type 1: a text that can be read, and whose writer refuses.
     Note(Arc<String>),
     /// Of the type 2: a byte and lists.
-    Mixed((u8, Lists)),
+    Mixed(Arc<(u8, Lists)>),
     /// Of the type 3.
     Link(Link),
     /// Of the type 4.
     ArcLink(ArcLink),
     /// Of the type 5.
-    Names(Names),
+    Names(Arc<Names>),
     /// Of the type 6: a shared reference to a name, and no byte.
     Holder(OfKind<0>),
     /// Of the type 7: two bytes.
@@ -93,7 +93,7 @@ impl CellNode {
     /// Adds the byte before lists, if it isn't 0.
     fn push_tag(&self, alloc: Global, text: &mut String) -> Result<(), Error> {
         if let CellNode::Mixed(mixed) = self {
-            let tag = mixed.0;
+            let tag = mixed.as_ref().0;
             if tag != 0 {
                 text.push_str(format!(in alloc; "{tag}/")?.as_str())?;
             }
@@ -111,7 +111,7 @@ pub fn node(alloc: Global, spelled: &str) -> anyhow::Result<CellNode> {
         "1" => Ok(CellNode::Note(text(alloc, rest)?)),
         "2" => mixed(alloc, rest),
         "7" => bytes(alloc, rest),
-        "5" => Ok(CellNode::Names(of_kinds(alloc, references(alloc, rest)?.as_slice())?)),
+        "5" => names(alloc, rest),
         _ => referring(node_type, references(alloc, rest)?.as_slice()),
     }
 }
@@ -136,7 +136,13 @@ fn mixed(alloc: Global, spelled: &str) -> anyhow::Result<CellNode> {
         listed.as_slice() == spelled.as_slice(),
         "references of other kinds, or in another order"
     );
-    Ok(CellNode::Mixed((tag.parse::<u8>()?, lists)))
+    Ok(CellNode::Mixed(Arc::new(alloc, (tag.parse::<u8>()?, lists))?))
+}
+
+/// Shared references to texts.
+fn names(alloc: Global, spelled: &str) -> anyhow::Result<CellNode> {
+    let names = of_kinds(alloc, references(alloc, spelled)?.as_slice())?;
+    Ok(CellNode::Names(Arc::new(alloc, names)?))
 }
 
 /// Two bytes.
@@ -201,10 +207,10 @@ impl<H: KeyHash> NodeSet<CellEnv<H>> for CellNode {
 
     fn refs(&self, alloc: Global) -> Result<Vec<ArcRef>, Error> {
         match self {
-            CellNode::Mixed(mixed) => references_of::<CellEnv<H>, Lists>(alloc, &mixed.1),
+            CellNode::Mixed(mixed) => references_of::<CellEnv<H>, Lists>(alloc, &mixed.as_ref().1),
             CellNode::Link(next) => references_of::<CellEnv<H>, Link>(alloc, next),
             CellNode::ArcLink(next) => references_of::<CellEnv<H>, ArcLink>(alloc, next),
-            CellNode::Names(names) => references_of::<CellEnv<H>, Names>(alloc, names),
+            CellNode::Names(names) => references_of::<CellEnv<H>, Names>(alloc, names.as_ref()),
             CellNode::Holder(name) => references_of::<CellEnv<H>, OfKind<0>>(alloc, name),
             CellNode::Name(_) | CellNode::Note(_) | CellNode::Bytes(_, _) => Ok(Vec::new(alloc)),
         }
@@ -215,10 +221,10 @@ impl<H: KeyHash> NodeSet<CellEnv<H>> for CellNode {
         match self {
             CellNode::Name(text) => text.as_ref().pagable_serialize(serializer),
             CellNode::Note(_) => Err(Error::Custom(Reason::new("writing is refused"))),
-            CellNode::Mixed(mixed) => mixed.pagable_serialize(serializer),
+            CellNode::Mixed(mixed) => mixed.as_ref().pagable_serialize(serializer),
             CellNode::Link(next) => next.pagable_serialize(serializer),
             CellNode::ArcLink(next) => next.pagable_serialize(serializer),
-            CellNode::Names(names) => names.pagable_serialize(serializer),
+            CellNode::Names(names) => names.as_ref().pagable_serialize(serializer),
             CellNode::Holder(name) => name.pagable_serialize(serializer),
             CellNode::Bytes(first, second) => (*first, *second).pagable_serialize(serializer),
         }
@@ -243,11 +249,14 @@ impl<H: KeyHash> NodeSet<CellEnv<H>> for CellNode {
                     alloc,
                     deserializer,
                 )?;
-                Ok(CellNode::Mixed(mixed))
+                Ok(CellNode::Mixed(Arc::new(alloc, mixed)?))
             }
             3 => Ok(CellNode::Link(Link::pagable_deserialize(alloc, deserializer)?)),
             4 => Ok(CellNode::ArcLink(ArcLink::pagable_deserialize(alloc, deserializer)?)),
-            5 => Ok(CellNode::Names(Names::pagable_deserialize(alloc, deserializer)?)),
+            5 => {
+                let names = Names::pagable_deserialize(alloc, deserializer)?;
+                Ok(CellNode::Names(Arc::new(alloc, names)?))
+            }
             6 => Ok(CellNode::Holder(OfKind::<0>::pagable_deserialize(alloc, deserializer)?)),
             7 => {
                 let (first, second): (u8, u8) = PagableDeserialize::pagable_deserialize(
