@@ -1,4 +1,5 @@
-//! The worked rows. What they expect was worked out by hand from the rules of the wire format, of keys and of cells.
+//! The worked rows. What they expect was worked out from the rules of the wire format, of keys and of cells: by hand, but for keys by SHA-256, which
+//! Python's hashlib made of the preimages.
 
 use crate::blobs::bytes_of;
 use crate::calls::asked::item;
