@@ -8,8 +8,8 @@ WORK, together with tools/original_speed.rs as one of its examples, and built by
 LTO, one codegen unit and the processor level for which `vectors` is built (x86-64-v2). Nothing of it comes into the repository. `vectors`
 has to be built before: (cd crates/vectors && rt run -- time).
 
-The values come from tools/speed_sums.py, which `vectors` is held against too; both programs fail where they write another form than they
-read. Each row is timed ROUNDS times (5 if left out), by all three in turn, each time in a process of its own; a row's time is the least
+The values of the first five rows come from tools/speed_sums.py, which `vectors` is held against too; both programs fail where they write another form
+than they read. Each row is timed ROUNDS times (5 if left out), by all three in turn, each time in a process of its own; a row's time is the least
 of all. The peak of memory is that of a process that reads the row's value and writes it once, by GNU time.
 """
 import datetime
@@ -24,7 +24,7 @@ TOP = pathlib.Path(__file__).resolve().parent.parent
 VECTORS = TOP / "crates" / "vectors" / "out" / "vectors"
 PAGE = TOP / "docs" / "PROOFS.md"
 BEGIN, END = "<!-- table -->", "<!-- end of the table -->"
-ROWS = ["numbers", "bytes", "texts", "maps", "ordered", "cells"]
+ROWS = ["numbers", "bytes", "texts", "maps", "ordered", "cells", "items", "trees", "cell_trees"]
 TIMES = re.compile(r"(\w+) (\d+) bytes write ([\d.]+) s \d+ MiB/s(?: read ([\d.]+) s \d+ MiB/s)?")
 TUNED = {"CARGO_PROFILE_RELEASE_LTO": "fat", "CARGO_PROFILE_RELEASE_CODEGEN_UNITS": "1", "RUSTFLAGS": "-C target-cpu=x86-64-v2"}
 

@@ -2,7 +2,7 @@
 """Works out large values that are drawn, as the wire format spells them. It shares no code with the crates.
 
     tools/speed_sums.py            # the part of crates/vectors/stdout that answers crates/vectors/data/drawn.txt: their check sums
-    tools/speed_sums.py FOLDER     # the values themselves, a file for each in FOLDER, and the texts of the cells of `vectors time`
+    tools/speed_sums.py FOLDER     # the values themselves, a file for each in FOLDER
 """
 
 import pathlib
@@ -88,16 +88,6 @@ def ordered():
     return list_form([text_form(k) + varint(v) for k, v in entries.items()])
 
 
-def cells():
-    """Texts of which no two have one weighed key: the sum of each byte times its place behind a count and a length, nine bytes."""
-    draws = Draws(7)
-    drawn = {}
-    while len(drawn) < 10_000:
-        text = draws.text(100)
-        drawn.setdefault(sum(place * byte for place, byte in enumerate(text, 10)), text)
-    return list_form([text_form(text) for text in drawn.values()])
-
-
 FORMS = {"numbers": numbers, "bytes": drawn_bytes, "texts": texts, "maps": maps, "ordered": ordered}
 
 if __name__ == "__main__":
@@ -106,5 +96,3 @@ if __name__ == "__main__":
             (pathlib.Path(sys.argv[1]) / name).write_bytes(form)
         else:
             print(f"{name} {len(form)} bytes wrote {sum_of([len(form), *form]):016x}")
-    if len(sys.argv) > 1:
-        (pathlib.Path(sys.argv[1]) / "cells").write_bytes(cells())

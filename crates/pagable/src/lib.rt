@@ -73,15 +73,15 @@ pub mod storage {
         pub use pagable_core::InMemoryBlobs;
     }
 
-    /// The serializer of one cell's value, and why a page-out fails.
+    /// The serializer of one cell's value.
     pub mod support {
         pub use pagable_core::SerializerForPaging;
-        pub use pagable_walk::PageOutError;
     }
 
-    /// What a store answers.
+    /// What a store answers, what is known of the nodes that items refer to, and why a page-out fails.
     pub mod traits {
         pub use pagable_core::PagableStorage;
+        pub use pagable_walk::{PageOutError, SlotTable};
     }
 }
 
@@ -196,6 +196,7 @@ pub use pagable_traits::Thin;
 pub use pagable_traits::serialize_slice;
 pub use pagable_traits::serialize_str;
 pub use pagable_walk::PageOutError;
+pub use pagable_walk::SlotTable;
 pub use pagable_world::Beginning;
 pub use pagable_world::Call;
 pub use pagable_world::Claim;

@@ -122,22 +122,22 @@ where
     page_out_item_over(lent, alloc, table, item)
 }
 
-/// Pages out what an item refers to, on a table of its own, and then the item itself: answers its key, or why it failed. Whatever it answers,
-/// the caller owns afterwards the handles that it owned before.
+/// Pages out what an item refers to, and then the item itself: answers its key, or why it failed. What the table knows from the items before it
+/// isn't written again. Whatever it answers, the caller owns afterwards the handles that it owned before.
 pub fn page_out_item<E: Env, S: PagableStorage<E>>(
     alloc: Global,
     pager: &mut Pager<E, S>,
+    table: &mut SlotTable<E>,
     item: Arc<SerializedData>,
 ) -> Result<DataKey, PageOutError>
 where
     E::Node: NodeSet<E>,
     ensures pages { PagesOutItem (values_at E.Node.NodeSet E.Env E.Hash.KeyHash pager.old.environment) (state_in (telling S.stored S.is_closed S.failed) pager.old)
-        (written_of (arc_value item)) (answer_of result) (state_in (telling S.stored S.is_closed S.failed) pager.new) }
+        (shelf_of table.old) (written_of (arc_value item)) (answer_of result) (state_in (telling S.stored S.is_closed S.failed) pager.new) (shelf_of table.new) }
 {
     pager.is_whole();
     let mut lent = Lent::new(pager);
-    let mut table = SlotTable::new(alloc);
-    page_out_item_by(&mut lent, alloc, &mut table, item)
+    page_out_item_by(&mut lent, alloc, table, item)
 }
 
 // A page-out of the list by a lent pager.

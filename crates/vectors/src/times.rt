@@ -1,9 +1,9 @@
 //! How long it takes to write and to read values. What is written and read of the same values is checked by rows of data.
 
-mod cells;
+mod graphs;
 mod outcome;
 
-use crate::times::cells::cells;
+use crate::times::graphs::graphs;
 use crate::times::outcome::Outcome;
 use anyhow::{bail, ensure};
 use indexmap::IndexMap;
@@ -18,13 +18,16 @@ use std::collections::BTreeMap;
 use std::time::{Clock, Instant};
 
 /// All rows in their order, and how many values each has.
-const ROWS: [(&'static str, u32); 6] = [
+const ROWS: [(&'static str, u32); 9] = [
     ("numbers", 1_000_000),
     ("bytes", 1_000_000),
     ("texts", 200_000),
     ("maps", 400),
     ("ordered", 100_000),
-    ("cells", 10_000),
+    ("cells", 100_000),
+    ("items", 500),
+    ("trees", 300),
+    ("cell_trees", 300),
 ];
 
 /// The `T` at the front of these bytes.
@@ -95,7 +98,7 @@ fn run_row(
     runs: u64,
 ) -> anyhow::Result<Outcome> {
     let Some((name_of_type, mut bytes)) = input_of(alloc, name, count)? else {
-        return cells(clock, alloc, count, runs);
+        return graphs(clock, alloc, name, count, runs);
     };
     // A map is drawn in another order than it is written in, so the bytes that are timed are those of a first writing.
     let (written, _) = once_of(clock, alloc, name_of_type, bytes.as_slice())?;

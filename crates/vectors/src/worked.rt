@@ -8,7 +8,9 @@ use crate::calls::{Calls, CellPager, pager_over};
 use crate::lines;
 use anyhow::{Context, bail, ensure};
 use pagable::paging::{page_out_item, page_out_pending, pin};
-use pagable::{DataKey, Error, PagableSerialize, PagableVecFlavor, PageOutError, WeighHash};
+use pagable::{
+    DataKey, Error, PagableSerialize, PagableVecFlavor, PageOutError, SlotTable, WeighHash,
+};
 use row_values::carried::{AnyEnv, written};
 use serde_json::Value;
 use std::alloc::Global;
@@ -192,7 +194,8 @@ fn is_item_paged_out(alloc: Global, pager: &mut CellPager<WeighHash>) -> anyhow:
         bail!("a node is refused");
     }
     let item = Arc::new(alloc, item(alloc, "2a:0:1:1")?)?;
-    Ok(page_out_item(alloc, pager, item).ok() == DataKey::new(3484))
+    let mut table = SlotTable::new(alloc);
+    Ok(page_out_item(alloc, pager, &mut table, item).ok() == DataKey::new(3484))
 }
 
 /// Makes a cell that is listed twice.

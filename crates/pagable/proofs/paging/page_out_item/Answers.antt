@@ -8,4 +8,4 @@ returns g c =
     let ends : c.page_out_item_by.new.lent.pager.now ≡ c.pager-1.given.0 = search rules in
     let pages = rw c.new-lent.ensures.same at c.page_out_item_by.ensures.pages in
     let pages = rw ends at pages in
-    record { pages = item-out _ _ c.is_whole.ensures (shelf_of c.new-table.result) (shelf_of c.page_out_item_by.new.table) (written_of (arc_value c.args.item)) (answer_of c.page_out_item_by.result) c.new-table.ensures _ pages }
+    record { pages = item-out _ _ c.is_whole.ensures (shelf_of c.args.table.now) (shelf_of c.page_out_item_by.new.table) (written_of (arc_value c.args.item)) (answer_of c.page_out_item_by.result) _ pages }
