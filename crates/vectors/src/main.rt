@@ -1,6 +1,6 @@
-//! `vectors` runs the worked rows, and prints a line for each. `vectors WORD..` does so for the word `rows`, and answers each line of
-//! the file for another word with one line, but for comments and lines that only make a pager. What it has to answer stands in
-//! `stdout`, and comes from outside the program. `vectors time [ROW [RUNS]]` prints how long it takes to write and to read values.
+//! `vectors FILE..` answers each line of each file with one line, but for comments and lines that only make a pager; of the file `worked.txt` it
+//! runs the rows, and prints a line for each. What it has to answer stands in `stdout`, and comes from outside the program.
+//! `vectors time [ROW [RUNS]]` prints how long it takes to write and to read values.
 #![tactic(auto)]
 
 mod blobs;
@@ -15,12 +15,12 @@ use crate::calls::Calls;
 use anyhow::Context;
 use std::{env, fs};
 
-/// Answers the lines of a file, or runs the worked rows.
+/// Answers the lines of a file, or runs the worked rows that stand in it.
 fn answer(rt: &HostRuntime, calls: &mut Calls, word: &str) -> anyhow::Result<()> {
-    if word == "rows" {
-        return worked::run(rt);
-    }
     let text = fs::read_to_string(rt, word)?;
+    if word.ends_with("worked.txt") {
+        return worked::run(rt, text.as_str());
+    }
     for line in text.lines() {
         if line.starts_with('#') {
             continue;
@@ -52,7 +52,6 @@ fn time(rt: &HostRuntime, words: &[String]) -> anyhow::Result<()> {
 /// Does what the words after the program's name ask for.
 fn run(rt: &HostRuntime, words: &[String]) -> anyhow::Result<()> {
     match words {
-        [] => worked::run(rt),
         [first, rest @ ..] if first.as_str() == "time" => time(rt, rest),
         _ => {
             let mut calls = Calls::new(rt.alloc());

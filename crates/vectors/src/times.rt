@@ -17,18 +17,20 @@ use std::alloc::Global;
 use std::collections::BTreeMap;
 use std::time::{Clock, Instant};
 
-/// All rows in their order, and how many values each has.
-const ROWS: [(&'static str, u32); 9] = [
-    ("numbers", 1_000_000),
-    ("bytes", 1_000_000),
-    ("texts", 200_000),
-    ("maps", 400),
-    ("ordered", 100_000),
-    ("cells", 100_000),
-    ("items", 500),
-    ("trees", 300),
-    ("cell_trees", 300),
-];
+/// All rows in their order.
+const ROWS: &'static str = "numbers bytes texts maps ordered cells items trees cell_trees";
+
+/// How many values a row has.
+fn count_of(row: &str) -> u32 {
+    match row {
+        "texts" => 200_000,
+        "maps" => 400,
+        "ordered" | "cells" => 100_000,
+        "items" => 20_000,
+        "trees" | "cell_trees" => 300,
+        _ => 1_000_000,
+    }
+}
 
 /// The `T` at the front of these bytes.
 fn read_of<'de, T: PagableDeserialize<'de, AnyEnv>>(
@@ -112,9 +114,9 @@ fn run_row(
 
 /// Runs the row of this name, or every one, so often, and prints the shortest times.
 pub fn run(rt: &HostRuntime, wanted: Option<&str>, runs: u64) -> anyhow::Result<()> {
-    for (name, count) in ROWS {
+    for name in ROWS.split(' ') {
         if wanted.is_none() || wanted == Some(name) {
-            run_row(rt, rt.alloc(), name, count, runs)?.print(rt, name)?;
+            run_row(rt, rt.alloc(), name, count_of(name), runs)?.print(rt, name)?;
         }
     }
     Ok(())

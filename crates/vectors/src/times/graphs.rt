@@ -18,9 +18,6 @@ type HashedPager = CellPager<Sha256Key>;
 
 type Item = Arc<SerializedData>;
 
-/// How many nodes the level of a tree has, from its root on.
-const WIDTHS: [usize; 10] = [1, 2, 4, 8, 16, 32, 64, 64, 64, 64];
-
 /// How many texts the values of `items` share.
 const SHARED: u64 = 2_000;
 
@@ -32,14 +29,6 @@ struct Filling<'a> {
     bytes: usize,
 }
 
-/// The handle of a new node.
-fn born(made: Result<HandleNumber, (Error, CellNode)>) -> anyhow::Result<HandleNumber> {
-    match made {
-        Ok(handle) => Ok(handle),
-        Err((e, _)) => Err(e.into()),
-    }
-}
-
 impl Filling<'_> {
     /// A text as a value.
     fn name(&mut self, text: String) -> anyhow::Result<CellNode> {
@@ -49,15 +38,27 @@ impl Filling<'_> {
 
     /// A new cell that waits for its page-out.
     fn listed(&mut self, node: CellNode) -> anyhow::Result<HandleNumber> {
-        let cell = born(self.pager.new_loose(self.alloc, node))?;
+        let cell = self
+            .pager
+            .new_loose(self.alloc, node)
+            .map_err(|refused| refused.0)?;
         self.pager.unpin(cell)?;
         Ok(cell)
+    }
+
+    /// A new node that values share.
+    fn shared_node(&mut self, node: CellNode) -> anyhow::Result<HandleNumber> {
+        Ok(
+            self.pager
+                .new_shared(self.alloc, node)
+                .map_err(|refused| refused.0)?,
+        )
     }
 
     /// A new text that values share.
     fn shared(&mut self, text: String) -> anyhow::Result<HandleNumber> {
         let node = self.name(text)?;
-        born(self.pager.new_shared(self.alloc, node))
+        self.shared_node(node)
     }
 
     /// A reference of this kind by this handle.
@@ -147,7 +148,7 @@ impl Filling<'_> {
         Ok(CellNode::Mixed(Arc::new(self.alloc, (0, lists))?))
     }
 
-    /// The nodes of one level of a tree, over those of the level below.
+    /// The nodes of one level of a tree, over those of the level below: twice as many as of the level above, and at most 64.
     fn level(
         &mut self,
         tree: u32,
@@ -156,13 +157,13 @@ impl Filling<'_> {
         is_loose: bool,
     ) -> anyhow::Result<Vec<HandleNumber>> {
         let mut nodes = Vec::new(self.alloc);
-        for place in 0..WIDTHS[level] {
+        for place in 0..1usize << level.min(6) {
             let text = format!(in self.alloc; "tree {tree} level {level} node {place}")?;
             let node = self.branch(below, place, is_loose, text)?;
             let handle = if is_loose || level == 0 {
                 self.listed(node)?
             } else {
-                born(self.pager.new_shared(self.alloc, node))?
+                self.shared_node(node)?
             };
             nodes.push(handle)?;
         }
@@ -172,7 +173,7 @@ impl Filling<'_> {
     /// The root of a tree of 319 nodes in ten levels.
     fn tree(&mut self, tree: u32, is_loose: bool) -> anyhow::Result<HandleNumber> {
         let mut below = Vec::new(self.alloc);
-        for level in (0..WIDTHS.len()).rev() {
+        for level in (0..10).rev() {
             let nodes = self.level(tree, level, below.as_slice(), is_loose)?;
             for handle in &below {
                 self.pager.release(*handle)?;
