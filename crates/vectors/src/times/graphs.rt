@@ -133,7 +133,9 @@ impl Filling<'_> {
             Vec::new(self.alloc),
         );
         for next in 0..2 {
-            if let Some(kid) = below.get((2 * place + next) % below.len().max(1)) {
+            if let Some(kid) = below.get(
+                place.wrapping_mul(2).wrapping_add(next) % below.len().max(1),
+            ) {
                 if is_loose {
                     loose.push(self.copied(*kid)?)?;
                 } else {
