@@ -1,11 +1,10 @@
 -- Why what a load has read can't become a node, and what becomes of it.
-use Rattle.pagable_tables.proofs.Words.{◌≡◌, ℕ, ◌<◌, ◌≤◌, ◌==◌, ◌||◌, Bool, true, false, if◌then◌else◌, List, [], ◌∷◌, refl, ap, sym, ◌∙◌, arith, Ok, Option, Some, None, inl, inr, not, is_some}
-use Rattle.pagable_tables.proofs.Words.{nat_tests, Error, ArcRef, HandleNumber, LoadNumber, NodeNumber, Kind, HandleRow, Owner, Blob, is_loose_kind, type_of, if_there, or_else, is_in, is_owner}
-use Rattle.pagable_tables.proofs.Words.{fits_mode, mode_of, Core, OpenLoad, greatest, row_at, type_at, usable, Alike, rank, earlier, refused_if, spent, is_type, load_fault, reference_fault}
-use Rattle.pagable_tables.proofs.Words.{references_fault, row_fault, OwnsLoad, Refused, AreHandlesFull, FallsAnyhow, with_handle, is_named_by, birth_fault, node_fault, adopt_fault, adopted}
-use Rattle.pagable_tables.proofs.Words.{first_key, Adopts, early_fault, OnlyRoom, Tables, ArePlaced, core_of, plain_of}
+use Rattle.pagable_tables.proofs.Words.{◌≡◌, ℕ, ◌<◌, ◌≤◌, ◌==◌, Bool, true, false, if◌then◌else◌, List, [], refl, ap, ◌∙◌, arith, Ok, Option, Some, None, inl, inr, not, is_some, nat_tests, Error}
+use Rattle.pagable_tables.proofs.Words.{ArcRef, HandleNumber, LoadNumber, NodeNumber, Kind, Owner, Blob, is_loose_kind, type_of, or_else, mode_of, Core, OpenLoad, greatest, usable, Alike, rank}
+use Rattle.pagable_tables.proofs.Words.{earlier, refused_if, spent, load_fault, references_fault, OwnsLoad, Refused, AreHandlesFull, FallsAnyhow, with_handle, is_named_by, birth_fault, node_fault}
+use Rattle.pagable_tables.proofs.{Words.{adopt_fault, adopted, first_key, Adopts, early_fault, OnlyRoom, Tables, ArePlaced, core_of, plain_of}, Lazily.node-late, Readied.{fault-by, room-alike}}
+use Rattle.pagable_tables.proofs.{Opened.{load-low, references-low}, Worlds.still, keeps.AdoptCalls.adopt-whole, keeps.Opened.opened, keeps.EndCalls.both-none}
 use Rattle.pagable_world.specs.Calls.{IsNext}
-use Rattle.pagable_tables.proofs.{Lazily.node-late, Readied.fault-by, Readied.room-alike, Opened.load-low, Worlds.still, keeps.AdoptCalls.adopt-whole, keeps.Opened.opened, keeps.EndCalls.both-none}
 use Rattle.pagable_world.specs.Pager as pager
 
 abbrev Early : Option Error → Type 0
@@ -23,34 +22,6 @@ next c d n early late = grind (arith, nat_tests)
 last-of : (a b c d n : Option Error) → Early a → Early b → Early c → Early d → Late n → earlier a (earlier b (earlier c (earlier d n))) ≡ or_else (earlier a (earlier b (earlier c d))) n
 last-of a b c d n ea eb ec ed late = grind (arith, nat_tests, earlier, first, next)
 
-named : (b : Bool) (e f : Error) → refused_if b e ≡ Some f → rank f ≡ rank e
-named true e f is = sym (ap (if_there rank 0) is)
-named false e f is = absurd (cc)
-
-or-early : (a b : Option Error) → Early a → Early b → Early (or_else a b)
-or-early None b ea eb = eb
-or-early (Some x) b ea eb = ea
-
-one-early : (w : Core) (o : Owner) (seen : List ℕ) (r : ArcRef) → Early (reference_fault w o seen r)
-one-early w o seen r e is = split (row_at w r.handle) is
-  where
-    rest : (fits typed : Bool) → Early (if not fits then Some Error.WrongMode else refused_if (not typed) Error.WrongKind)
-    rest false typed e is = let a : rank Error.WrongMode ≡ rank e = ap (if_there rank 0) is in omega arith
-    rest true typed e is = let a = named (not typed) Error.WrongKind e is in omega arith
-
-    of : (at mine : Bool) (more : Option Error) → Early more → Early (if not at then Some Error.NoSuchHandle else or_else (refused_if mine Error.NotYours) more)
-    of false mine more early e is = let a : rank Error.NoSuchHandle ≡ rank e = ap (if_there rank 0) is in omega arith
-    of true mine more early e is = or-early (refused_if mine Error.NotYours) more (λ g s. let a = named mine Error.NotYours g s in omega arith) early e is
-
-    split : (o' : Option HandleRow) → if_there (λ (row : HandleRow). row_fault w r (refused_if (not (is_owner o row.owner) || is_in seen r.handle.0) Error.NotYours) row) (Some Error.NoSuchHandle) o' ≡ Some e → rank e ≤ 3
-    split None is = let a : rank Error.NoSuchHandle ≡ rank e = ap (if_there rank 0) is in omega arith
-    split (Some row) is = of (row.node.0 == r.node.0) (not (is_owner o row.owner) || is_in seen r.handle.0) _ (rest (fits_mode r.kind.0 row.mode) (is_type (type_of r.kind.0) (type_at w r.node.0))) e is
-
-fit-early : (w : Core) (o : Owner) (seen : List ℕ) (refs : List ArcRef) → Early (references_fault w o seen refs)
-unfolding references_fault
-fit-early w o seen [] e is = absurd (cc)
-fit-early w o seen (r ∷ rs) e is = or-early (reference_fault w o seen r) (references_fault w o (r.handle.0 ∷ seen) rs) (one-early w o seen r) (fit-early w o (r.handle.0 ∷ seen) rs) e is
-
 -- the load is an own open one where it has no fault
 owns-then : (w : Core) (me : Owner) (l : LoadNumber) → load_fault w me l ≡ None → (load : OpenLoad) × OwnsLoad w me l load
 owns-then w me l none = grind (arith, nat_tests)
@@ -64,7 +35,7 @@ module _ (w : Core) (me : Owner) (l : LoadNumber) (kind : Kind) (key node_type :
   early = early_fault w me l kind node_type refs
 
   cause : adopt_fault w me l kind key node_type refs ≡ or_else early (node_fault w kind key)
-  cause = grind (arith, nat_tests, last-of, load-low, fit-early, node-late)
+  cause = grind (arith, nat_tests, last-of, load-low, references-low, node-late)
 
   -- one of the causes that come first
   pub not-adopted : (e : Error) → early ≡ Some e → Refused (adopt_fault w me l kind key node_type refs) (load_fault w me l) (Unit {0}) w e w

@@ -1,7 +1,7 @@
 -- A handle comes to a live node, and nothing falls.
-use Rattle.pagable_tables.proofs.Words.{sum_by, ◌≡◌, ℕ, ◌+◌, ◌<◌, ◌≤◌, Bool, true, false, List, [], ◌∷◌, ◌++◌, length, refl, ap, sym, ◌∙◌, subst, arith, Option, Some, None, inl, inr, ◌≢◌, not}
-use Rattle.pagable_tables.proofs.Words.{IsSome, nat_tests, cases_eq, sum_by_push, sum_by-cons, ArcRef, HandleRow, Owner, Mode, one, SameAt, held, is_pinning, is_owner, owner_value, Counts, holds_in}
-use Rattle.pagable_tables.proofs.{Words.{falls_in, Right, Fits, owns_nothing, named, is_valued, cell_in}, Fitting.{pin_of, handle_of, is_owned, pin-here, held-here, pin-other, held-other}}
+use Rattle.pagable_tables.proofs.Words.{sum_by, ◌≡◌, ℕ, ◌+◌, ◌<◌, ◌≤◌, false, List, [], ◌∷◌, ◌++◌, length, refl, ap, sym, ◌∙◌, subst, arith, Option, Some, None, inl, inr, ◌≢◌, not, IsSome, nat_tests}
+use Rattle.pagable_tables.proofs.Words.{cases_eq, sum_by_push, sum_by-cons, ArcRef, HandleRow, Owner, Mode, one, SameAt, held, is_pinning, is_owner, owner_value, Counts, holds_in, falls_in, Right}
+use Rattle.pagable_tables.proofs.{Words.{Fits, owns_nothing, named, is_valued, cell_in}, Fitting.{pin_of, handle_of, is_owned, pin-here, held-here, pin-other, held-other}}
 
 pub no-value : (n : ℕ) (o : Owner) → is_valued o ≡ false → is_owner (owner_value n) o ≡ false
 no-value n (Owner.Value m) e = absurd (cc)
@@ -18,12 +18,6 @@ module _ (at at' : ℕ → Option Counts) (refs refs' : ℕ → List ArcRef) (ro
     (fits : Fits at refs rows top [] owns_nothing) (is : at x.node.0 ≡ Some c)
     (here : at' x.node.0 ≡ Some (record c { pins = c.pins + one (is_pinning x.mode); holds = c.holds + 1 }))
     (others : (n : ℕ) → n ≢ x.node.0 → at' n ≡ at n) (same : (n : ℕ) → refs' n ≡ refs n) (owner : is_valued x.owner ≡ false) where
-  abbrev more : Counts
-  more = record c { pins = c.pins + one (is_pinning x.mode); holds = c.holds + 1 }
-
-  free : c.is_falling ≡ false
-  free = is-free at refs rows top x.node.0 c fits is
-
   right-here : Right (at' x.node.0) (refs' x.node.0)
   right-here = grind (arith, nat_tests)
 
@@ -72,10 +66,6 @@ pin-turned x = grind (arith, nat_tests)
 
 pin-turned-other : (n : ℕ) (x : HandleRow) → n ≢ x.node.0 → pin_of n (turned x) ≡ 0
 pin-turned-other n x other = grind (arith, nat_tests)
-
-both : (b : Bool) → one b + one (not b) ≡ 1
-both true = refl
-both false = refl
 
 module _ (at at' : ℕ → Option Counts) (refs refs' : ℕ → List ArcRef) (rows rows' : List HandleRow) (top : ℕ) (x : HandleRow) (c : Counts)
     (fits : Fits at refs rows top [] owns_nothing) (is : at x.node.0 ≡ Some c)

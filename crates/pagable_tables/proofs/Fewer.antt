@@ -28,11 +28,11 @@ none-came : (listed : Bool) (q : HandleNumber) → (listed ≡ true → false �
 none-came true q only = absurd (let e = only refl in cc)
 none-came false q only = refl
 
-pub gives-unlisted : (t new : Holdings) (stack : List ℕ) (x : HandleRow) → GivesUp t stack x false new → new.list.items ≡ t.list.items
-gives-unlisted t new stack x g = grind (arith, nat_tests, none-came, append-nil)
+pub gives-unlisted : (t new : Holdings) (stack : List ℕ) (x : HandleRow) (lists : Bool) → lists ≡ false → GivesUp t stack x lists new → new.list.items ≡ t.list.items
+gives-unlisted t new stack x lists shut g = grind (arith, nat_tests, none-came, append-nil)
 
-pub steps-unlisted : (t new : Holdings) (stack : List ℕ) (r : Option NodeNumber) → Steps t stack false r new → new.list.items ≡ t.list.items
-steps-unlisted t new stack r s = elim s.what [
+pub steps-unlisted : (t new : Holdings) (stack : List ℕ) (lists : Bool) (r : Option NodeNumber) → lists ≡ false → Steps t stack lists r new → new.list.items ≡ t.list.items
+steps-unlisted t new stack lists r shut s = elim s.what [
   | inl done ↦ ap (λ (u : Holdings). u.list.items) done.1
-  | inr gone ↦ gives-unlisted gone.3.popped new gone.3.stack gone.0 gone.3.gives ∙ ap (λ (u : Holdings). u.list.items) gone.3.same
+  | inr gone ↦ gives-unlisted gone.3.popped new gone.3.stack gone.0 lists shut gone.3.gives ∙ ap (λ (u : Holdings). u.list.items) gone.3.same
 ]

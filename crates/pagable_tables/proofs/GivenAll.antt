@@ -1,7 +1,7 @@
 -- Handles are given up together, from the last to the first.
 use Rattle.pagable_tables.proofs.Words.{nat_lt, ◌≡◌, ℕ, ◌<◌, ◌≤◌, ◌-◌, ◌==◌, ◌&&◌, ◌||◌, Bool, true, false, not, [], Option, Some, None, refl, ap, sym, ◌∙◌, arith, nat_tests, NodeNumber, HandleRow}
-use Rattle.pagable_tables.{proofs.Words.{Owner, if_there, is_owner, find_row, Core, OpenLoad, nobody, Giving, Holdings, live, is_valued, SoFar, gives_row, passes_in}, specs.Giving.gives}
-use Rattle.pagable_tables.proofs.Regiven.{regiven, passes-so-far}
+use Rattle.pagable_tables.proofs.{Words.{Owner, if_there, is_owner, find_row, Core, OpenLoad, nobody, Giving, Holdings, live, is_valued, SoFar, gives_row, passes_in}, Regiven.{regiven, passes-so-far}}
+use Rattle.pagable_tables.specs.Giving.{gives}
 
 -- a world of these loads alone
 abbrev pub bare : (ℕ → Option OpenLoad) → Core
@@ -19,9 +19,6 @@ bare loads =
       last = record { node = 0; handle = 0; load = 0; worker = 0 };
       places = record { handles = 0; entries = 0 };
     }
-
-no-value : (w : Core) (giving : Giving) (m node : NodeNumber) → gives w giving (Owner.Value m) node ≡ false
-no-value w giving m node = grind (arith, nat_tests)
 
 no-list : (w : Core) (giving : Giving) (node : NodeNumber) → gives w giving Owner.List node ≡ false
 no-list w giving node = grind (arith, nat_tests)

@@ -1,9 +1,9 @@
 -- One handle more has gone, given up directly or by a value that has fallen: what has gone so far.
 use Rattle.pagable_tables.proofs.Words.{◌≡◌, ℕ, ◌+◌, ◌<◌, ◌≤◌, ◌==◌, ◌&&◌, Bool, true, false, not, if◌then◌else◌, List, [], ◌∷◌, ◌++◌, length, filter, map, sum_by, refl, ap, sym, ◌∙◌, subst, arith}
 use Rattle.pagable_tables.proofs.Words.{is_some, vec_capacity, nat_tests, append_assoc, append-nil, map-append, length-append, sum_by-cons, sum_by-append, sum_by-le-sum_by, Error, HandleNumber}
-use Rattle.pagable_tables.proofs.Words.{NodeNumber, HandleRow, Owner, one, times, is_pin, is_handle, is_owned_by, held, pins, Core, greatest, left_rows, IsWithin, IsClosed, AreNewEntries}
-use Rattle.pagable_tables.proofs.Words.{TellsListing, IsListRefusal, is_keyed, Holdings, live, counts_at, pins_in, entry, entries_of, is_listing, cell_in, first_cause, IsUnlisted, GivesUp, HasPlaces}
-use Rattle.pagable_tables.proofs.{Words.{with_tables, told_by, SoFar}, Left.{and_one, kept-more, times-left, entries-more}, Leaving.leaves-sums, Wanted.entry-pins, NoEntry.{of_list, none-listed}}
+use Rattle.pagable_tables.proofs.Words.{NodeNumber, HandleRow, Owner, one, times, is_pin, is_owned_by, held, pins, Core, greatest, left_rows, IsWithin, IsClosed, AreNewEntries, TellsListing}
+use Rattle.pagable_tables.proofs.Words.{IsListRefusal, is_keyed, Holdings, live, counts_at, pins_in, entry, entries_of, is_listing, cell_in, first_cause, IsUnlisted, GivesUp, HasPlaces, with_tables}
+use Rattle.pagable_tables.proofs.{Words.{told_by, SoFar, IsApart}, Left.{and_one, kept-more, times-left, entries-more}, Leaving.leaves-sums, Wanted.entry-pins, NoEntry.{of_list, none-listed}}
 use Rattle.pagable_tables.proofs.{NoEntry.none-entered, RowsMore.rows-more, Telling.{only-more, tells-more, refusal-now}}
 
 -- a handle of which the list has none may go, whether it had gone or not
@@ -40,12 +40,7 @@ one-more : (listed : Bool) → (if listed then 1 else 0) ≤ 1
 one-more true = omega arith
 one-more false = omega arith
 
--- A handle may go apart from the list: no entry that came has its number, and what is left of the list is the same without it.
-pub record IsApart (before w : Core) (given : ℕ → Bool) (lists : Bool) (t : Holdings) (f : SoFar before w given lists t) (q : ℕ) : Type 0 where
-  pub unentered : times (is_handle q) f.entries ≡ 0
-  pub kept : filter (λ (h : HandleNumber). not (and_one f.gone q h.0)) w.list ≡ filter (λ (h : HandleNumber). not (f.gone h.0)) w.list
-
--- so may one that the list doesn't own
+-- a handle that the list doesn't own may go apart from it
 pub unlisted-apart : (before w : Core) (given : ℕ → Bool) (lists : Bool) (t popped new : Holdings) (stack : List ℕ) (x : HandleRow) (f : SoFar before w given lists t) → GivesUp popped stack x lists new
     → popped ≡ record t { nodes = popped.nodes } → is_owned_by Owner.List x ≡ false → IsApart before w given lists t f x.number.0
 unlisted-apart before w given lists t popped new stack x f g same owner =

@@ -4,17 +4,14 @@ use Rattle.pagable_tables.proofs.Words.{if◌then◌else◌, ◌≢◌, Result, 
 use Rattle.pagable_tables.proofs.Words.{Mode, Blob, Among, one, times, changed, find_row, pins, sharing, is_handle, is_owner, is_owned_by, is_pin, is_share, owner_value, IsHandleBefore, MayOwnLoad}
 use Rattle.pagable_tables.proofs.Words.{Core, Last, Alike, Falls, nobody, references_fault, moved, row_of, is_named_by, with_handle, with_mode, is_owned_in, without_load, with_pin, Installs, MayEnd}
 use Rattle.pagable_tables.proofs.Words.{Holdings, Counts, LoadRow, Tables, live, counts_at, load_at, cell_in, has_value, is_valued, pins_in, with_tables, is_plain_pin, SoFar, core_of, plain_of}
-use Rattle.pagable_tables.{proofs.Words.{load_in, MayHold, IsWider, has_come}, specs.Core.IsWhole, proofs.Newer.{OnlyNewer, loaded-mode, newer-then, newer-moved, newer-mode, newer-handle}}
-use Rattle.pagable_tables.{proofs.Newer.newer-falls, proofs.Begun.{begins, begun}, proofs.Coming.turned, proofs.Dropped.{load-closed, owned-given}, proofs.Joined.{moved-turned, turned-sum}}
-use Rattle.pagable_tables.{proofs.Named.{moved-nobody, named-none}, proofs.Regiven.{loaded, passes-here, passes-none}, proofs.Stays.{seen-before, stays-pinned, not-named}, proofs.Swapped.same-value}
-use Rattle.pagable_tables.{proofs.Taken.{moved-times, loaded-moved, no-load}, proofs.Upheld.references-placed, proofs.keeps.BirthCalls.named-unlisted, proofs.keeps.Comes.{not-list, not-a-value}}
-use Rattle.pagable_tables.{proofs.keeps.LoadCalls.may-hold, proofs.keeps.Moved.moved-to-value, proofs.keeps.Rows.{among-map, found-among, once, ordered-map, sum-map}}
+use Rattle.pagable_tables.proofs.{Words.{load_in, MayHold, IsWider, has_come}, Newer.{OnlyNewer, loaded-mode, newer-then, newer-moved, newer-mode, newer-handle, newer-falls}, Begun.{begins, begun}}
+use Rattle.pagable_tables.proofs.{Coming.turned, Dropped.{load-closed, owned-given}, Joined.{moved-turned, turned-sum}, Named.{moved-nobody, named-none}, Regiven.{loaded, passes-here, passes-none}}
+use Rattle.pagable_tables.{proofs.{Stays.{seen-before, stays-pinned, not-named}, Swapped.same-value, Taken.{moved-times, loaded-moved, no-load}, Upheld.references-placed}, specs.Core.IsWhole}
+use Rattle.pagable_tables.proofs.{keeps.BirthCalls.named-unlisted, keeps.Comes.{not-list, not-a-value}, keeps.LoadCalls.may-hold, keeps.Moved.moved-to-value, keeps.Rows.{among-map, found-among, once}}
+use Rattle.pagable_tables.proofs.keeps.Rows.{ordered-map, sum-map}
 
 -- Of other nodes the same handles pin, and are Shared.
 module _ (h : HandleNumber) (node : NodeNumber) (rows : List HandleRow) (of : (y : HandleRow) → Among rows y → is_handle h.0 y ≡ true → y.node ≡ node) (n : ℕ) (other : (node.0 == n) ≡ false) where
-  abbrev to : HandleRow → HandleRow
-  to y = if is_handle h.0 y then turned y else y
-
   pub other-pins : pins n (changed (is_handle h.0) turned rows) ≡ pins n rows
   other-pins = grind (arith, nat_tests, sum-map, of)
 
@@ -158,7 +155,7 @@ module _ (t t1 : Tables) (stored : ℕ → Option Blob) (closed lists : Bool) (f
       where
         to-before : (n : ℕ) → pins n w'.rows ≡ 0 → (pins n u.rows ≡ pins n w.rows) × (sharing n u.rows ≡ sharing n w.rows)
         to-before n none =
-            let stays = stays-pinned (record w { rows = mid }) u w' given r x refl ordered unvalued refl spared-pin falls n none in
+            let stays = stays-pinned (record w { rows = mid }) u w' given r x refl ordered unvalued spared-pin falls n none in
             let more = sum_by_push (λ y. one (is_pin n y)) mid x in
             let z : one (is_pin n x) ≡ 0 = (let b = stays.0 in omega arith) in
             let other : (row.node.0 == n) ≡ false = grind (arith, nat_tests) in (

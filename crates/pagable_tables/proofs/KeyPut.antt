@@ -1,7 +1,6 @@
 -- A node gets a key: handles and nodes fit again.
 use Rattle.pagable_tables.proofs.Words.{◌≡◌, ℕ, ◌<◌, ◌==◌, ◌&&◌, ◌||◌, Bool, true, false, if◌then◌else◌, List, [], ◌∷◌, refl, ap, sym, ◌∙◌, subst, arith, inl, inr, Option, Some, ◌≢◌, nat_lt, not}
-use Rattle.pagable_tables.proofs.Words.{cases_eq, nat_tests, ArcRef, HandleRow, one, Counts, Fits, Chain, Right, is_new, falls_in, next_in, often, named, owns_nothing, keyed, GetsKey}
-use Rattle.pagable_tables.proofs.Coming.{is-free}
+use Rattle.pagable_tables.proofs.{Words.{cases_eq, nat_tests, ArcRef, HandleRow, one, Counts, Fits, Chain, Right, is_new, falls_in, next_in, often, named, owns_nothing, keyed}, Coming.is-free}
 
 keyed-right : (w bare : Bool) (p h : ℕ) (k key : ℕ) → w ≡ false → 0 < key → (if w then h == 0 || (p == 0 && nat_lt 0 k) else nat_lt 0 h && (nat_lt 0 p || not (nat_lt 0 k) || bare)) ≡ true
     → (if p == 0 then h == 0 || (p == 0 && nat_lt 0 key) else nat_lt 0 h && (nat_lt 0 p || not (nat_lt 0 key) || bare)) ≡ true
@@ -36,6 +35,3 @@ module _ (at at' : ℕ → Option Counts) (refs refs' : ℕ → List ArcRef) (ro
 
   pub key-fits : (b : Bool) → (c.pins == 0) ≡ b → Fits at' refs' rows (if b then n else top) (if b then n ∷ [] else []) owns_nothing
   key-fits b e = grind (arith, nat_tests, told, named, key-chain, key-marked, key-right, real)
-
-  pub key-cells : GetsKey at at' n key
-  key-cells m = grind (arith, nat_tests)

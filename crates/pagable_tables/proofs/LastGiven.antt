@@ -1,7 +1,7 @@
 -- No live row of a number passes a test.
-use Rattle.pagable_tables.proofs.Words.{◌≡◌, ℕ, ◌+◌, ◌<◌, ◌≤◌, Bool, true, false, if◌then◌else◌, List, [], ◌∷◌, suc, length, get_or, refl, ap, sym, ◌∙◌, arith, Some, slice_get}
-use Rattle.pagable_tables.proofs.Words.{◌⊎◌, AllPairs, slice_get-get_or, HandleRow, is_handle, find_row, nat_tests, get_or_default, Place, live, alive, IsBefore, passes_in}
-use Rattle.pagable_tables.proofs.{Alive.row-live, Order.smaller-up, Order.greater-from, Regiven.passes-here, Regiven.passes-none}
+use Rattle.pagable_tables.proofs.Words.{◌≡◌, ℕ, ◌+◌, ◌<◌, ◌≤◌, Bool, true, false, if◌then◌else◌, List, [], ◌∷◌, suc, length, get_or, refl, ap, sym, ◌∙◌, arith, Some, slice_get, ◌⊎◌, AllPairs}
+use Rattle.pagable_tables.proofs.{Words.{slice_get-get_or, HandleRow, is_handle, find_row, nat_tests, Place, live, alive, IsBefore, passes_in}, Alive.row-live, Order.{smaller-up, greater-from}}
+use Rattle.pagable_tables.proofs.Regiven.{passes-here, passes-none}
 
 none-passes : (test : HandleRow → Bool) (q : ℕ) (ss : List Place) → ((k : ℕ) (d : Place) → k < length ss → (get_or ss k d).row.number.0 ≡ q → (get_or ss k d).is_live ≡ true → test (get_or ss k d).row ≡ false)
     → passes_in test (live ss) q ≡ false
@@ -43,12 +43,3 @@ module _ (ss : List Place) (m : ℕ) (p : Place) (within : m < length ss) (is : 
 
   pub row-there : AllPairs IsBefore ss → p.is_live ≡ true → find_row p.row.number.0 (live ss) ≡ Some p.row
   row-there ordered lives = row-live ss m p.row ordered (place-got lives)
-
-  same-or-past : (k : ℕ) → m ≤ k → (k ≡ m) ⊎ (m + 1 ≤ k)
-  same-or-past k le = grind arith
-
-  -- what is so at a place and from the next one on is so from that place on
-  pub up-from : {L : Type 0} (left : ℕ) (test : HandleRow → Bool) → (L → p.is_live ≡ true → test p.row ≡ true → left < p.row.number.0)
-      → (L → (k : ℕ) (d : Place) → m + 1 ≤ k → k < length ss → (get_or ss k d).is_live ≡ true → test (get_or ss k d).row ≡ true → left < (get_or ss k d).row.number.0)
-      → (k : ℕ) (d : Place) → L → m ≤ k → k < length ss → (get_or ss k d).is_live ≡ true → test (get_or ss k d).row ≡ true → left < (get_or ss k d).row.number.0
-  up-from left test here rest k d loads from lt lives passes = grind (arith, nat_tests, same-or-past, get_or_default)

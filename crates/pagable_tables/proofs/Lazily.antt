@@ -1,25 +1,15 @@
 -- Why a load can't make a node, and what it gets.
-use Rattle.pagable_tables.proofs.Words.{◌≡◌, ℕ, ◌<◌, ◌≤◌, Bool, true, false, if◌then◌else◌, refl, ap, ◌∙◌, arith, Ok, Err, Option, Some, None, inl, inr, not, is_some, Result, [], zero, suc, Error}
-use Rattle.pagable_tables.proofs.Words.{HandleNumber, LoadNumber, NodeNumber, Kind, Owner, Mode, is_loose_kind, if_there, mode_of, Core, OpenLoad, greatest, usable, Alike, rank, earlier, refused_if}
-use Rattle.pagable_tables.proofs.Words.{spent, load_fault, OwnsLoad, Refused, birth_fault, node_fault, lazy_fault, adopted, LazyCall, OptionalDataKey, key_in, Makes, nat_tests}
+use Rattle.pagable_tables.proofs.Words.{◌≡◌, ℕ, ◌<◌, ◌≤◌, Bool, true, false, if◌then◌else◌, refl, ap, ◌∙◌, arith, Ok, Err, Some, None, inl, inr, not, is_some, Result, [], zero, suc, Error}
+use Rattle.pagable_tables.proofs.Words.{HandleNumber, LoadNumber, NodeNumber, Kind, Owner, Mode, is_loose_kind, mode_of, Core, OpenLoad, greatest, usable, Alike, rank, earlier, refused_if, spent}
+use Rattle.pagable_tables.proofs.{Words.{load_fault, OwnsLoad, Refused, birth_fault, node_fault, lazy_fault, adopted, LazyCall, OptionalDataKey, key_in, Makes, nat_tests}, Opened.earlier-first}
+use Rattle.pagable_tables.proofs.{Opened.{load-low, no-load-fault, late, kind-late}, Worlds.still}
 use Rattle.pagable_world.specs.Calls.{IsNext}
-use Rattle.pagable_tables.proofs.{Opened.earlier-first, Opened.load-low, Opened.no-load-fault, Worlds.still}
-
--- of two causes that come late each is
-earlier-late : (a b : Option Error) (f : Error) (n : ℕ) → ((g : Error) → a ≡ Some g → n ≤ rank g) → ((g : Error) → b ≡ Some g → n ≤ rank g) → earlier a b ≡ Some f → n ≤ rank f
-earlier-late None b f n first second is = second f is
-earlier-late (Some x) None f n first second is = first f is
-earlier-late (Some x) (Some y) f n first second is = grind (arith, nat_tests)
-
-pub kind-late : (b : Bool) (f : Error) → refused_if b Error.WrongKind ≡ Some f → 3 ≤ rank f
-kind-late true f is = let a : rank Error.WrongKind ≡ rank f = ap (if_there rank 0) is in omega arith
-kind-late false f is = absurd (cc)
 
 pub node-late : (w : Core) (kind : Kind) (key : ℕ) (f : Error) → node_fault w kind key ≡ Some f → 4 ≤ rank f
 node-late w kind key f is = grind (arith, nat_tests)
 
 pub kind-or-node-late : (w : Core) (b : Bool) (kind : Kind) (key : ℕ) (f : Error) → earlier (refused_if b Error.WrongKind) (node_fault w kind key) ≡ Some f → 3 ≤ rank f
-kind-or-node-late w b kind key f is = earlier-late (refused_if b Error.WrongKind) (node_fault w kind key) f 3 (kind-late b) (λ g e. let a = node-late w kind key g e in omega arith) is
+kind-or-node-late w b kind key f is = late (refused_if b Error.WrongKind) (node_fault w kind key) 3 (kind-late b) (λ g e. let a = node-late w kind key g e in omega arith) f is
 
 pub lazy-not-own : (w : Core) (me : Owner) (l : LoadNumber) (kind : Kind) (key : ℕ) (e : Error) → load_fault w me l ≡ Some e → LazyCall w me l kind key (Err e) w
 lazy-not-own w me l kind key e is =

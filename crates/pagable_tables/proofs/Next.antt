@@ -1,7 +1,7 @@
 -- What has gone so far, after one step of a cascade, and after a handle that is given.
 use Rattle.pagable_tables.proofs.Words.{◌≡◌, ℕ, ◌+◌, ◌≤◌, ◌==◌, ◌&&◌, ◌||◌, Bool, not, List, length, ap, ◌∙◌, arith, inl, inr, ◌≢◌, Option, nat_tests, sum_by-cons, sum_by-le-sum_by, false, [], ◌∷◌}
 use Rattle.pagable_tables.proofs.Words.{refl, NodeNumber, HandleRow, Owner, one, is_owned_by, is_owner, held, pins, Core, IsWithin, Holdings, live, counts_at, pins_in, is_listing, IsFalling, GivesUp}
-use Rattle.pagable_tables.proofs.{Words.{Steps, FallsBy, owns_nothing, SoFar}, Left.and_one, Kept.settled, LeastMore.{least-more, none-comes}, Going.{IsApart, unlisted-apart, one-goes}}
+use Rattle.pagable_tables.proofs.{Words.{Steps, FallsBy, owns_nothing, SoFar, ◌⊎◌, IsApart}, Left.and_one, Kept.settled, LeastMore.{least-more, none-comes}, Going.{unlisted-apart, one-goes}}
 
 -- one handle more on both sides, or on the right
 pub within-less : (a b c d : ℕ → Bool) (rows : List HandleRow) → ((r : ℕ) → one (a r && not (b r)) ≤ one (c r && not (d r))) → IsWithin rows c d → IsWithin rows a b
@@ -39,12 +39,13 @@ steps-on before w given lists t new stack r f falling some s =
         (within-less given (and_one f.gone x.number.0) given f.gone w.rows (λ r. bits (given r) (f.gone r) (r == x.number.0)) f.holds)
         (least-more before w given lists t new x n f by)
 
--- a handle is given, apart from the list
-pub gives-apart : (before w : Core) (given : ℕ → Bool) (lists : Bool) (t new : Holdings) (stack : List ℕ) (x : HandleRow) → (f : SoFar before w given lists t)
-    → ((n : ℕ) → pins_in (counts_at t.nodes n) ≡ pins n (live t.handles.places.items)) → IsApart before w given lists t f x.number.0 → length (live t.handles.places.items) ≤ length w.rows
-    → GivesUp t stack x lists new → SoFar before w (and_one given x.number.0) lists new
-gives-apart before w given lists t new stack x f pinned apart few g =
-    one-goes before w given (and_one given x.number.0) lists t t new stack x f g refl (λ n. refl) pinned few apart
+-- a handle is given that the list doesn't own, or one apart from the list
+pub gives-on : (before w : Core) (given : ℕ → Bool) (lists : Bool) (t new : Holdings) (stack : List ℕ) (x : HandleRow) → (f : SoFar before w given lists t)
+    → ((n : ℕ) → pins_in (counts_at t.nodes n) ≡ pins n (live t.handles.places.items)) → (is_owned_by Owner.List x ≡ false) ⊎ IsApart before w given lists t f x.number.0
+    → length (live t.handles.places.items) ≤ length w.rows → GivesUp t stack x lists new → SoFar before w (and_one given x.number.0) lists new
+gives-on before w given lists t new stack x f pinned free few g =
+    one-goes before w given (and_one given x.number.0) lists t t new stack x f g refl (λ n. refl) pinned few
+    (elim free [ inl other ↦ unlisted-apart before w given lists t t new stack x f g refl other | inr apart ↦ apart ])
     (within-less (and_one given x.number.0) (and_one f.gone x.number.0) given f.gone w.rows (λ r. grind (arith, nat_tests)) f.holds)
     (λ s final bare has closed. within-both f.gone given s x.number.0 w.rows (f.least s final
     (λ n none. bare n (ap (held n) after ∙ none-comes t g.between x (lists && is_listing g.counts x.mode) g.listed n g.leaves none))
@@ -52,10 +53,3 @@ gives-apart before w given lists t new stack x f pinned apart few g =
   where
     after : live new.handles.places.items ≡ live g.between.handles.places.items
     after = ap (λ (h : Holdings). live h.handles.places.items) g.same
-
--- a handle is given that the list doesn't own
-pub gives-on : (before w : Core) (given : ℕ → Bool) (lists : Bool) (t new : Holdings) (stack : List ℕ) (x : HandleRow) → SoFar before w given lists t
-    → ((n : ℕ) → pins_in (counts_at t.nodes n) ≡ pins n (live t.handles.places.items)) → is_owned_by Owner.List x ≡ false → length (live t.handles.places.items) ≤ length w.rows
-    → GivesUp t stack x lists new → SoFar before w (and_one given x.number.0) lists new
-gives-on before w given lists t new stack x f pinned owner few g =
-    gives-apart before w given lists t new stack x f pinned (unlisted-apart before w given lists t t new stack x f g refl owner) few g

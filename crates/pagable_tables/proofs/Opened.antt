@@ -1,12 +1,70 @@
--- A load is opened and closed again. Why a handle can't come while numbers are left.
-use Rattle.pagable_tables.proofs.Words.{◌≡◌, ℕ, ◌<◌, ◌≤◌, Bool, true, false, List, refl, ap, sym, ◌∙◌, arith, Option, Some, None, inl, inr, ◌≢◌, ◌⊎◌, nat_lt, nat_tests, Error, OptionalDataKey}
-use Rattle.pagable_tables.proofs.Words.{HandleNumber, LoadNumber, HandleRow, Owner, Mode, if_there, is_owner, is_loose, is_in_memory, pins, Core, Cell, OpenLoad, greatest, row_at, rank, earlier}
-use Rattle.pagable_tables.proofs.Words.{where_so, refused_if, spent, handle_fault, load_fault, closed_fault, OwnsLoad, Refused, Counts, LoadRow, pins_in, cell_in, key_in, load_in, option_map}
-use Rattle.pagable_tables.proofs.Pins.{owner-self, fault-rank}
+-- Why calls are refused, and which of several causes is told. A load is opened and closed again.
+use Rattle.pagable_tables.proofs.Words.{◌≡◌, ℕ, ◌<◌, ◌≤◌, Bool, true, List, sym, ◌∙◌, arith, Option, Some, None, inl, inr, ◌≢◌, ◌⊎◌, nat_tests, Error, OptionalDataKey, HandleNumber, LoadNumber}
+use Rattle.pagable_tables.proofs.Words.{HandleRow, Owner, Mode, if_there, is_owner, is_loose, is_in_memory, pins, Core, Cell, OpenLoad, greatest, row_at, rank, earlier, where_so, refused_if, spent}
+use Rattle.pagable_tables.proofs.Words.{handle_fault, load_fault, closed_fault, OwnsLoad, Refused, Counts, LoadRow, pins_in, cell_in, key_in, load_in, option_map, or_else, not, if◌then◌else◌}
+use Rattle.pagable_tables.proofs.Words.{reference_fault, row_fault, references_fault, is_in, fits_mode, is_type, type_of, type_at, ArcRef, [], ◌∷◌, ◌||◌, ◌==◌}
 
 -- a load that wasn't open comes and goes
 pub load-goes : (at at' at'' : ℕ → Option LoadRow) (l : ℕ) → at l ≡ None → ((q : ℕ) → q ≢ l → at' q ≡ at q) → at'' l ≡ None → ((q : ℕ) → q ≢ l → at'' q ≡ at' q) → (q : ℕ) → option_map load_in (at'' q) ≡ option_map load_in (at q)
 load-goes at at' at'' l none others gone others' q = grind (arith, nat_tests)
+
+-- of two causes the first is told unless the other comes before it
+pub earlier-first : (a x : Option Error) (e : Error) → a ≡ Some e → ((f : Error) → x ≡ Some f → rank e ≤ rank f) → earlier a x ≡ Some e
+earlier-first a x e is late = grind (arith, nat_tests)
+
+-- of two late causes any is late
+pub late : (a b : Option Error) (m : ℕ) → ((f : Error) → a ≡ Some f → m ≤ rank f) → ((f : Error) → b ≡ Some f → m ≤ rank f) → (f : Error) → earlier a b ≡ Some f → m ≤ rank f
+late None b m one two f is = two f is
+late (Some e) None m one two f is = one f is
+late (Some e) (Some g) m one two f is = grind (arith, nat_tests)
+
+pub kind-late : (b : Bool) (f : Error) → refused_if b Error.WrongKind ≡ Some f → 3 ≤ rank f
+kind-late b f is = grind (arith, nat_tests)
+
+-- a cause of numbers, where it is asked
+pub spent-late : (l : ℕ) (b : Bool) (f : Error) → where_so b (spent l) ≡ Some f → 4 ≤ rank f
+spent-late l b f is = grind (arith, nat_tests)
+
+-- why references are refused comes before numbers
+row-low : (at mine fits typed : Bool) (e : Error)
+    → (if not at then Some Error.NoSuchHandle else or_else (refused_if mine Error.NotYours) (if not fits then Some Error.WrongMode else refused_if (not typed) Error.WrongKind)) ≡ Some e → rank e ≤ 3
+row-low at mine fits typed e is = grind (arith, nat_tests)
+
+reference-low : (w : Core) (o : Owner) (seen : List ℕ) (r : ArcRef) (e : Error) → reference_fault w o seen r ≡ Some e → rank e ≤ 3
+reference-low w o seen r e is = split (row_at w r.handle) is
+  where
+    split : (o' : Option HandleRow) → if_there (λ (row : HandleRow). row_fault w r (refused_if (not (is_owner o row.owner) || is_in seen r.handle.0) Error.NotYours) row) (Some Error.NoSuchHandle) o' ≡ Some e → rank e ≤ 3
+    split None is = grind (arith, nat_tests)
+    split (Some row) is = row-low (row.node.0 == r.node.0) (not (is_owner o row.owner) || is_in seen r.handle.0) (fits_mode r.kind.0 row.mode) (is_type (type_of r.kind.0) (type_at w r.node.0)) e is
+
+pub references-low : (w : Core) (o : Owner) (seen : List ℕ) (refs : List ArcRef) (e : Error) → references_fault w o seen refs ≡ Some e → rank e ≤ 3
+unfolding references_fault
+references-low w o seen [] e is = absurd (cc)
+references-low w o seen (r ∷ rs) e is = grind (arith, nat_tests, reference-low, references-low w o (r.handle.0 ∷ seen) rs)
+
+abbrev fault-of : Owner → (Mode → Bool) → Option HandleRow → Option Error
+fault-of me fits o = if_there (λ (row : HandleRow). if not (is_owner me row.owner) then Some Error.NotYours else refused_if (not (fits row.mode)) Error.WrongMode) (Some Error.NoSuchHandle) o
+
+fault-rank : (o : Option HandleRow) (me : Owner) (fits : Mode → Bool) (e : Error) → fault-of me fits o ≡ Some e → rank e ≤ 2
+fault-rank o me fits e is = grind (arith, nat_tests)
+
+-- a cause that tells of the handle comes before a later one
+pub handle-first : (w : Core) (me : Owner) (h : HandleNumber) (fits : Mode → Bool) (e : Error) (x : Option Error) → handle_fault w me h fits ≡ Some e
+    → ((f : Error) → x ≡ Some f → 3 ≤ rank f) → earlier (handle_fault w me h fits) x ≡ Some e
+handle-first w me h fits e x is late = grind (arith, nat_tests, earlier-first, fault-rank)
+
+pub owner-self : (o : Owner) → is_owner o o ≡ true
+owner-self o = grind (arith, nat_tests)
+
+-- an own handle that fits has no fault
+pub no-fault : (w : Core) (me : Owner) (h : HandleNumber) (fits : Mode → Bool) (row : HandleRow) → row_at w h ≡ Some row → is_owner me row.owner ≡ true → fits row.mode ≡ true → handle_fault w me h fits ≡ None
+no-fault w me h fits row found own fit = grind (arith, nat_tests)
+
+numbers-late : (so : Bool) (m n : ℕ) (f : Error) → where_so so (earlier (spent m) (spent n)) ≡ Some f → 3 ≤ rank f
+numbers-late so m n f is = grind (arith, nat_tests)
+
+pub begin-first : (w : Core) (me : Owner) (h : HandleNumber) (fits : Mode → Bool) (e : Error) (so : Bool) (m n : ℕ) → handle_fault w me h fits ≡ Some e → earlier (handle_fault w me h fits) (where_so so (earlier (spent m) (spent n))) ≡ Some e
+begin-first w me h fits e so m n is = handle-first w me h fits e _ is (numbers-late so m n)
 
 pub unspent : (last : ℕ) → last < greatest → spent last ≡ None
 unspent last lt = grind (arith, nat_tests)
@@ -16,16 +74,6 @@ pub only-memory : (last : ℕ) (e : Error) {A B : Type 0} → last < greatest �
 only-memory last e lt (inl is) = absurd (let a = sym (unspent last lt) ∙ is in cc)
 only-memory last e lt (inr is) = is.0
 
-before-numbers : (e : Error) (so a b : Bool) → rank e ≤ 2 → earlier (Some e) (where_so so (earlier (refused_if a Error.NumbersSpent) (refused_if b Error.NumbersSpent))) ≡ Some e
-before-numbers e so a b le = grind (arith, nat_tests)
-
-pub handle-first : (w : Core) (me : Owner) (h : HandleNumber) (fits : Mode → Bool) (e : Error) (so : Bool) (m n : ℕ) → handle_fault w me h fits ≡ Some e → earlier (handle_fault w me h fits) (where_so so (earlier (spent m) (spent n))) ≡ Some e
-handle-first w me h fits e so m n is = grind (arith, nat_tests, earlier, before-numbers, fault-rank)
-
--- an own handle that fits has no fault
-pub no-fault : (w : Core) (me : Owner) (h : HandleNumber) (fits : Mode → Bool) (row : HandleRow) → row_at w h ≡ Some row → is_owner me row.owner ≡ true → fits row.mode ≡ true → handle_fault w me h fits ≡ None
-no-fault w me h fits row found own fit = grind (arith, nat_tests)
-
 pub no-begin-fault : (w : Core) (me : Owner) (h : HandleNumber) (so : Bool) → handle_fault w me h is_loose ≡ None → w.last.load < greatest → w.last.handle < greatest → earlier (handle_fault w me h is_loose) (where_so so (earlier (spent w.last.load) (spent w.last.handle))) ≡ None
 no-begin-fault w me h so none load handle = grind (arith, nat_tests)
 
@@ -33,21 +81,12 @@ no-begin-fault w me h so none load handle = grind (arith, nat_tests)
 pub here-told : (at : ℕ → Option Counts) (rows : List HandleRow) (n : ℕ) (c : Counts) → pins_in (at n) ≡ pins n rows → at n ≡ Some c → is_in_memory (pins n rows) (if_there (λ (cell : Cell). cell.key) OptionalDataKey.None (cell_in (at n))) ≡ is_in_memory c.pins (key_in c.key)
 here-told at rows n c pinned is = grind (arith, nat_tests)
 
--- of two causes the first is told unless the other comes before it
-pub earlier-first : (a x : Option Error) (e : Error) → a ≡ Some e → ((f : Error) → x ≡ Some f → rank e ≤ rank f) → earlier a x ≡ Some e
-earlier-first a None e is late = ap (λ a. earlier a None) is ∙ refl
-earlier-first a (Some f) e is late = ap (λ a. earlier a (Some f)) is ∙ (let le = late f refl in let h : nat_lt (rank f) (rank e) ≡ false = grind (arith, nat_tests) in rw h refl)
-
 -- the causes of a load come before those of modes, kinds and numbers
 pub load-low : (w : Core) (me : Owner) (l : LoadNumber) (e : Error) → load_fault w me l ≡ Some e → rank e ≤ 1
 load-low w me l e is = grind (arith, nat_tests)
 
 pub no-load-fault : (w : Core) (me : Owner) (l : LoadNumber) (load : OpenLoad) → OwnsLoad w me l load → load_fault w me l ≡ None
 no-load-fault w me l load own = grind (arith, nat_tests, owner-self)
-
--- a cause of numbers, where it is asked
-pub number-late : (so : Bool) (last : ℕ) (f : Error) → where_so so (spent last) ≡ Some f → 4 ≤ rank f
-number-late so last f is = grind (arith, nat_tests)
 
 -- a load that may be used, or is another's, is open
 pub open-by : (w : Core) (me : Owner) (l : LoadNumber) → load_fault w me l ≢ Some Error.NoSuchHandle → closed_fault w l ≡ None

@@ -1,6 +1,6 @@
 -- Values that go as nodes fall.
-use Rattle.pagable_tables.proofs.Words.{◌≡◌, ℕ, Bool, true, false, [], refl, sym, ◌∙◌, arith, inl, None, Option, if◌then◌else◌, ◌⊎◌, is_some, nat_tests, Counts, Holdings, counts_at}
-use Rattle.pagable_tables.proofs.Words.{IsFalling, ValueStays, Sheds, falls_in, has_value, owns_nothing}
+use Rattle.pagable_tables.proofs.Words.{◌≡◌, ℕ, Bool, true, false, [], refl, sym, ◌∙◌, arith, inl, None, Option, if◌then◌else◌, ◌⊎◌, is_some, nat_tests, Counts, Holdings, counts_at, IsFalling}
+use Rattle.pagable_tables.proofs.Words.{ValueStays, Sheds, falls_in, has_value, owns_nothing}
 
 -- the value that a node had is there or gone, and it is there exactly where the node has it, unless the node falls
 abbrev pub Lasting : {X : Type 0} → Option Counts → Option X → Option X → Type 0

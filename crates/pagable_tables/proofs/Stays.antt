@@ -1,10 +1,10 @@
 -- A handle that comes and pins stays, while others that are given go with all that follows.
-use Rattle.pagable_tables.proofs.Words.{◌≡◌, ℕ, ◌<◌, ◌≤◌, ◌==◌, ◌&&◌, ◌++◌, Bool, true, false, not, if◌then◌else◌, List, [], ◌∷◌, refl, ap, sym, ◌∙◌, subst, arith, inl, inr, None, ◌⊎◌, nat_eq}
-use Rattle.pagable_tables.proofs.Words.{Result, Ok, Err, AllPairs, nat_tests, cases_eq, sum_by-le-sum_by, sum_by_push, sum_by-append, Error, HandleRow, Among, if_there, one, times, is_loose_kind}
-use Rattle.pagable_tables.proofs.Words.{is_owner, mode_of, is_at, is_pin, is_pinning, is_owned_by, owner_value, held, pins, sharing, Core, Places, HasRoom, Alike, IsHandleBefore, HandlesAreWhole}
-use Rattle.pagable_tables.proofs.Words.{references_fault, is_owned_in, ArcRef, IsLeast, IsWithin, IsClosed, loses_value, pins_outside, held_outside, owned_outside, is_outside, is_keyed, left_rows}
-use Rattle.pagable_tables.proofs.{Words.{MustList, TellsListing, IsPlaceWanting, IsListRefusal, Falls, is_named_by, is_valued, LoadNumber, Owner}, Coming.no-value, Regiven.{loaded, passes-here}}
-use Rattle.pagable_tables.proofs.{Regiven.passes-none, Left.times-left, Dropped.owned-given, keeps.BirthCalls.named-mine, keeps.Rows.{counted, at-most-sum, once, among-last}, Pins.owner-self}
+use Rattle.pagable_tables.proofs.Words.{◌≡◌, ℕ, ◌<◌, ◌≤◌, ◌==◌, ◌&&◌, ◌++◌, Bool, true, false, not, if◌then◌else◌, List, [], ◌∷◌, refl, ap, sym, ◌∙◌, subst, arith, inl, inr, None, ◌⊎◌, nat_eq, Result}
+use Rattle.pagable_tables.proofs.Words.{AllPairs, nat_tests, cases_eq, sum_by-le-sum_by, sum_by_push, sum_by-append, Error, HandleRow, Among, if_there, one, times, is_loose_kind, is_owner, mode_of}
+use Rattle.pagable_tables.proofs.Words.{is_at, is_pin, is_pinning, is_shared, is_owned_by, owner_value, held, pins, sharing, Core, Places, HasRoom, IsHandleBefore, HandlesAreWhole, references_fault}
+use Rattle.pagable_tables.proofs.Words.{is_owned_in, ArcRef, IsLeast, IsWithin, IsClosed, loses_value, pins_outside, held_outside, owned_outside, is_outside, is_keyed, left_rows, Falls, is_named_by}
+use Rattle.pagable_tables.proofs.{Words.{is_valued, LoadNumber, Mode, Owner}, Coming.no-value, Regiven.{loaded, passes-here, passes-none}, Left.times-left, Dropped.owned-given}
+use Rattle.pagable_tables.proofs.{keeps.BirthCalls.named-mine, keeps.Rows.{counted, at-most-sum, once, among-last}, Opened.owner-self}
 
 zero-or : (n : ℕ) → (n ≡ 0) ⊎ (0 < n)
 zero-or n = elim (cases_eq n 0) [ inl e ↦ inl e | inr e ↦ inr (omega arith) ]
@@ -52,33 +52,20 @@ module _ (rows : List HandleRow) (keyed : ℕ → Bool) (entries : List HandleRo
       let e : (x.number.0 == x.number.0) ≡ true = grind (arith, nat_tests) in
       grind (arith, nat_tests)
 
-wanting : (u w' : Core) (places : Places) → HasRoom u.places places → IsPlaceWanting (record u { places = places }) w' → IsPlaceWanting u w'
-wanting u w' places more (inl full) = inl (let m = more.handles in omega arith)
-wanting u w' places more (inr full) = inr (let m = more.entries in omega arith)
-
-refusal : (u w' : Core) (places : Places) → HasRoom u.places places → (e : Error) → IsListRefusal (record u { places = places }) w' e → IsListRefusal u w' e
-refusal u w' places more h r = grind (arith, nat_tests)
-
 -- why a cell must be listed, seen from another world before
 module _ {b w u w' : Core} {given : ℕ → Bool} {r : Result (Unit {0}) Error} (places : Places) (more : HasRoom u.places places)
     (to : (n : ℕ) → pins n w'.rows ≡ 0 → (pins n b.rows ≡ pins n w.rows) × (sharing n b.rows ≡ sharing n w.rows)) (falls : Falls b (record u { places = places }) given r w') where
-  there : (n : ℕ) → MustList b (record u { places = places }) w' n → MustList w u w' n
-  there n m = let e = to n m.unpinned in record { pinned = (let a = m.pinned in let d = e.0 in omega arith); unpinned = m.unpinned; unkeyed = m.unkeyed; unshared = sym e.1 ∙ m.unshared; stands_open = m.stands_open }
-
-  back : (n : ℕ) → MustList w u w' n → MustList b (record u { places = places }) w' n
-  back n m = let e = to n m.unpinned in record { pinned = (let a = m.pinned in let d = e.0 in omega arith); unpinned = m.unpinned; unkeyed = m.unkeyed; unshared = e.1 ∙ m.unshared; stands_open = m.stands_open }
-
-  telling : (r : Result (Unit {0}) Error) → TellsListing b (record u { places = places }) falls.entries r w' → TellsListing w u falls.entries r w'
-  telling (Ok k) t = record { all = λ n m. t.all n (back n m); not_all = tt }
-  telling (Err e) t = let n = t.not_all in record { all = tt; not_all = (n.0, there n.0 n.1, n.2, refusal u w' places more e n.3) }
-
   pub seen-before : Falls w u given r w'
   seen-before = grind (arith, nat_tests)
 
--- where a handle of w has come that pins and stays, pins go to 0 just where they would have
-pub stays-pinned : (w u w' : Core) (given : ℕ → Bool) (r : Result (Unit {0}) Error) (x : HandleRow) → u.rows ≡ w.rows ++ x ∷ [] → AllPairs IsHandleBefore u.rows → is_valued x.owner ≡ false → is_pinning x.mode ≡ true → given x.number.0 ≡ false → Falls u u given r w'
+-- a handle that doesn't pin isn't Shared
+unshared : (b : Bool) (mode : Mode) → (b && is_pinning mode) ≡ false → (b && is_shared mode) ≡ false
+unshared b mode e = grind (arith, nat_tests)
+
+-- where a handle of w has come and stays, pins go to 0 just where they would have
+pub stays-pinned : (w u w' : Core) (given : ℕ → Bool) (r : Result (Unit {0}) Error) (x : HandleRow) → u.rows ≡ w.rows ++ x ∷ [] → AllPairs IsHandleBefore u.rows → is_valued x.owner ≡ false → given x.number.0 ≡ false → Falls u u given r w'
     → (n : ℕ) → pins n w'.rows ≡ 0 → (pins n u.rows ≡ pins n w.rows) × (sharing n u.rows ≡ sharing n w.rows)
-stays-pinned w u w' given r x rows ordered plain pinning kept falls n none = split (x.node.0 == n) refl
+stays-pinned w u w' given r x rows ordered plain kept falls n none = split (is_pin n x) refl
   where
     among : Among u.rows x
     among = subst (λ l. Among l x) (sym rows) (among-last w.rows x)
@@ -86,7 +73,7 @@ stays-pinned w u w' given r x rows ordered plain pinning kept falls n none = spl
     stands : falls.gone x.number.0 ≡ false
     stands = not-least u.rows (is_keyed u) falls.entries given falls.gone falls.set ordered x among plain kept
 
-    split : (b : Bool) → (x.node.0 == n) ≡ b → (pins n u.rows ≡ pins n w.rows) × (sharing n u.rows ≡ sharing n w.rows)
+    split : (b : Bool) → is_pin n x ≡ b → (pins n u.rows ≡ pins n w.rows) × (sharing n u.rows ≡ sharing n w.rows)
     split true e =
         let a = at-most-sum (λ h. one (is_pin n h && not (falls.gone h.number.0))) u.rows x among in
         let b = times-left (is_pin n) falls.gone u.rows in
@@ -95,11 +82,7 @@ stays-pinned w u w' given r x rows ordered plain pinning kept falls n none = spl
         let kept : falls.gone x.number.0 ≡ false = stands in
         let here : one (is_pin n x && not (falls.gone x.number.0)) ≡ 1 = grind (arith, nat_tests) in
         absurd (omega arith)
-    split false e = grind (arith, nat_tests, sum_by_push)
-
--- a world that is told alike, with the same cache, has but more room
-pub retold : (u b : Core) → Alike u b → b.cache ≡ u.cache → b ≡ record u { places = b.places }
-retold u b a cache = grind (arith, nat_tests)
+    split false e = let s = unshared (x.node.0 == n) x.mode e in grind (arith, nat_tests, sum_by_push)
 
 pub eager-pins : (kind : ℕ) → is_loose_kind kind ≡ false → is_pinning (mode_of kind) ≡ true
 eager-pins kind eager = grind (arith, nat_tests)

@@ -1,8 +1,8 @@
 -- A handle has gone and an entry may have come: entries stand for what must be listed, and the answer tells of it.
-use Rattle.pagable_tables.proofs.Words.{◌≡◌, ℕ, ◌+◌, ◌<◌, ◌≤◌, ◌&&◌, Bool, true, false, if◌then◌else◌, ◌++◌, length, refl, ap, sym, ◌∙◌, subst, arith, inl, inr, Option, Some, None, ◌⊎◌}
-use Rattle.pagable_tables.proofs.Words.{vec_capacity, cases_Bool, and_parts, nat_tests, Error, NodeNumber, HandleRow, one, times, is_at, is_pin, held, pins, Core, MustList, TellsListing}
-use Rattle.pagable_tables.proofs.Words.{IsListRefusal, Counts, Holdings, live, counts_at, pins_in, entry, entries_of, is_listing, IsUnlisted, first_cause, with_tables, told_by, SoFar}
-use Rattle.pagable_tables.proofs.{Leaving.with-entry, Wanted.listing-is, Wanted.must-now, Wanted.must-before}
+use Rattle.pagable_tables.proofs.Words.{◌≡◌, ℕ, ◌+◌, ◌<◌, ◌≤◌, ◌&&◌, Bool, true, false, if◌then◌else◌, ◌++◌, length, ap, sym, ◌∙◌, subst, arith, inl, inr, Option, Some, None, ◌⊎◌, vec_capacity}
+use Rattle.pagable_tables.proofs.Words.{cases_Bool, and_parts, nat_tests, Error, HandleRow, one, times, is_at, is_pin, held, pins, Core, MustList, TellsListing, IsListRefusal, Counts, Holdings, live}
+use Rattle.pagable_tables.proofs.{Words.{counts_at, pins_in, entry, entries_of, is_listing, IsUnlisted, first_cause, with_tables, told_by, SoFar}, Leaving.with-entry, Wanted.{listing-is, must-now}}
+use Rattle.pagable_tables.proofs.Wanted.{must-before}
 
 -- a cause stays
 refusal-kept : (w : Core) (t new : Holdings) (e : Error) → IsListRefusal w (with_tables w t) e → t.last_handle ≤ new.last_handle → length t.list.items ≤ length new.list.items
@@ -14,10 +14,6 @@ pub refusal-now : (w : Core) (b new : Holdings) (e : Error) → IsUnlisted b e �
     → w.last.handle ≤ b.last_handle → w.places.handles ≤ vec_capacity b.handles.places → w.places.entries ≤ vec_capacity b.list
     → length (live b.handles.places.items) ≤ length w.rows → IsListRefusal w (with_tables w new) e
 refusal-now w b new e why last list since handles entries rows = grind (arith, nat_tests)
-
-came : (listed : Bool) (k n : ℕ) (node : NodeNumber) → 0 < (if listed then one (is_at n (entry k node)) else 0) → (listed ≡ true) × (n ≡ node.0)
-came true k n node some = (refl, grind (arith, nat_tests))
-came false k n node some = absurd (omega arith)
 
 -- an entry came or none was wanted; or one was and didn't come
 which : (listed wanted : Bool) → ((listed ≡ true) ⊎ (wanted ≡ false)) ⊎ ((listed ≡ false) × (wanted ≡ true))

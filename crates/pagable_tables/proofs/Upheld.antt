@@ -1,9 +1,9 @@
 -- Loads of cells that can end, and what is true once they do.
-use Rattle.pagable_tables.proofs.Words.{◌≡◌, ℕ, ◌<◌, ◌==◌, true, List, [], ◌∷◌, refl, ap, sym, ◌∙◌, subst, arith, Option, Some, None, ◌⊎◌, ◌≤◌, ◌+◌, not, vec_capacity, nat_tests, Error, ArcRef}
-use Rattle.pagable_tables.proofs.Words.{HandleNumber, LoadNumber, NodeNumber, HandleRow, Owner, if_there, or_else, is_owner, Core, OpenLoad, Places, of_cell, of_key, greatest, row_at, AreHandlesFull}
-use Rattle.pagable_tables.proofs.Words.{refused_if, where_so, spent, load_fault, reference_fault, references_fault, MayOwnLoad, root_fault, end_fault, is_owned_in, MayEnd, Handles, Tables, live}
-use Rattle.pagable_tables.{proofs.Words.{room, AreSound, IsNext, counts_at, refs_at, plain_of, Ending, IsReady}, specs.Core.IsWhole, proofs.Coming.rows-told, proofs.Worlds.alike}
-use Rattle.pagable_tables.{proofs.keeps.Told.alike-whole, proofs.keeps.Placed.whole-so, proofs.keeps.EndCalls.both-none}
+use Rattle.pagable_tables.proofs.Words.{◌≡◌, ℕ, ◌<◌, ◌==◌, List, [], ◌∷◌, refl, ap, sym, ◌∙◌, subst, arith, Option, Some, None, ◌⊎◌, ◌≤◌, ◌+◌, not, vec_capacity, nat_tests, Error, ArcRef}
+use Rattle.pagable_tables.proofs.Words.{HandleNumber, LoadNumber, NodeNumber, HandleRow, Owner, if_there, or_else, Core, OpenLoad, Places, of_cell, of_key, greatest, AreHandlesFull, refused_if}
+use Rattle.pagable_tables.proofs.Words.{where_so, spent, load_fault, reference_fault, references_fault, MayOwnLoad, root_fault, end_fault, is_owned_in, MayEnd, Handles, Tables, live, room, AreSound}
+use Rattle.pagable_tables.{proofs.{Words.{IsNext, counts_at, refs_at, plain_of, Ending, IsReady}, Coming.rows-told, Worlds.alike, keeps.Told.alike-whole, keeps.Placed.whole-so}, specs.Core.IsWhole}
+use Rattle.pagable_tables.proofs.keeps.EndCalls.{both-none}
 
 typed-so : (a b : ℕ) → refused_if (not (a == b)) Error.WrongKind ≡ None → a ≡ b
 typed-so a b e = grind (arith, nat_tests)
@@ -42,10 +42,6 @@ module _ (w : Core) (me : Owner) (l : LoadNumber) (node_type : ℕ) (refs : List
             of_node = cell ∙ ap (λ u. of_cell node u h) (sym (typed-so node_type t fits.0));
             good = parts.2;
           }
-
-      -- a number is left, where the handle is there
-      pub number-left : (row : HandleRow) → row_at w h ≡ Some row → is_owner me row.owner ≡ true → w.last.handle < greatest
-      number-left row found own = grind (arith, nat_tests)
 
 -- references are as good where there are other places
 pub references-placed : (w : Core) (places : Places) (owner : Owner) (seen : List ℕ) (refs : List ArcRef) → references_fault (record w { places = places }) owner seen refs ≡ references_fault w owner seen refs

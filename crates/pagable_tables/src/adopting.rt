@@ -148,37 +148,6 @@ fn give_named<N: Drop>(
     let _ = fall(t, values, lists);
 }
 
-/// A handle of the load's of the node that the cache gives. What was read is dropped, and the handles that its references name are given up.
-fn adopt_known<N: Drop>(
-    t: &mut Tables,
-    values: &mut IndexMap<u64, Arc<N>>,
-    load: LoadNumber,
-    node: NodeNumber,
-    kind: Kind,
-    references: &[ArcRef],
-    lists: bool,
-) -> Result<HandleNumber, Error>
-    requires whole { IsWhole t.old }
-    requires suits { Suits (plain_of t.old) node (mode_of kind.0) }
-    requires holder { MayHold (plain_of t.old) (owners.Load load) }
-    requires eager { is_loose_kind kind.0 ≡ false }
-    requires valued { has_value (counts_at t.old.holdings.nodes node.0) ≡ true }
-    requires fit { references_fault (plain_of t.old) (owners.Load load) [] references.now ≡ None }
-    ensures known { (stored : ℕ → Option Blob) (closed : Bool) (failures : ℕ) → lists ≡ not closed → IfOk result (λ k. IsNext k (core_of t.old stored closed failures) × FallsAnyhow (core_of t.old stored closed failures) (with_handle (core_of t.old stored closed failures) node (mode_of kind.0) (owners.Load load)) (is_named_by references.now) (core_of t.new stored closed failures)) }
-    ensures refused { (stored : ℕ → Option Blob) (closed : Bool) (failures : ℕ) → IfErr result (λ e. Refused (spent t.old.holdings.last_handle) (spent t.old.holdings.last_handle) (AreHandlesFull (core_of t.old stored closed failures)) (core_of t.old stored closed failures) e (core_of t.new stored closed failures)) }
-    ensures steady { IsFalling t.new.holdings [] owns_nothing }
-    ensures loads { t.new.loads ≡ t.old.loads }
-    ensures sheds { Sheds (counts_at t.old.holdings.nodes) (get nat_eq values.old) (counts_at t.new.holdings.nodes) (get nat_eq values.new) }
-{
-    match make(t, node, mode_of(kind), Owner::Load(load)) {
-        Ok(handle) => {
-            give_named(&mut t.holdings, values, load, references, lists);
-            Ok(handle)
-        }
-        Err(e) => Err(e),
-    }
-}
-
 /// The number of the key that a node of this kind has from the first, 0 for none: a cell's is the one that it was read under.
 fn first_key(kind: Kind, key: DataKey) -> u128
     ensures key { key_in result ≡ first_key kind.0 key }
@@ -221,8 +190,11 @@ pub fn adopt_if_known<N: Drop>(
     let Some(node) = usable_of(t, kind, key) else {
         return Ok(None);
     };
-    match adopt_known(t, values, load, node, kind, references, lists) {
-        Ok(handle) => Ok(Some(handle)),
+    match make(t, node, mode_of(kind), Owner::Load(load)) {
+        Ok(handle) => {
+            give_named(&mut t.holdings, values, load, references, lists);
+            Ok(Some(handle))
+        }
         Err(e) => Err(e),
     }
 }

@@ -7,8 +7,7 @@ ghost use Rattle.pagable_tables.specs.{Onward.SoFar, Core.core_of, Core.IsWhole,
 ghost use Rattle.indexmap.specs.IndexMap.{get};
 ghost use Rattle.pagable_world.specs.declared.handles.Owner.TheVariants as owners;
 
-use crate::cascade::fall;
-use crate::holdings;
+use crate::cascade::{fall, shed};
 use crate::holdings::Holdings;
 use crate::rows::HandleAt;
 use crate::tables::Tables;
@@ -35,7 +34,7 @@ pub fn give_back<N: Drop>(
     ensures sheds { Sheds (counts_at t.old.nodes) (get nat_eq values.old) (counts_at t.new.nodes) (get nat_eq values.new) }
 {
     t.unlisted = None;
-    holdings::give_up(t, at, lists);
+    shed(t, values, at, lists);
     fall(t, values, lists)
 }
 

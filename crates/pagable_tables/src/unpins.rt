@@ -50,28 +50,6 @@ fn lower(t: &mut Holdings, at: HandleAt, lists: bool)
     t.top = top_after(counts.is_falling, left.is_falling, node, t.top);
 }
 
-/// The loose handle at this place lets its pin go, and what goes with that goes. NumbersSpent or OutOfMemory where a cell that had to be listed isn't.
-fn let_go<N: Drop>(
-    t: &mut Tables,
-    values: &mut IndexMap<u64, Arc<N>>,
-    at: HandleAt,
-    lists: bool,
-) -> Result<(), Error>
-    requires whole { IsWhole t.old }
-    requires place { slice_get t.old.holdings.handles.places.items at.place ≡ Some (alive at.row) }
-    requires pinned { at.row.mode ≡ modes.LoosePinned }
-    requires plain { is_valued at.row.owner ≡ false }
-    ensures falls { (stored : ℕ → Option Blob) (closed : Bool) (failures : ℕ) → lists ≡ not closed
-        → Falls (core_of t.old stored closed failures) (with_mode (core_of t.old stored closed failures) at.row.number modes.LooseUnpinned) nobody result (core_of t.new stored closed failures) }
-    ensures steady { IsFalling t.new.holdings [] owns_nothing }
-    ensures loads { t.new.loads ≡ t.old.loads }
-    ensures sheds { Sheds (counts_at t.old.holdings.nodes) (get nat_eq values.old) (counts_at t.new.holdings.nodes) (get nat_eq values.new) }
-{
-    t.holdings.unlisted = None;
-    lower(&mut t.holdings, at, lists);
-    fall(&mut t.holdings, values, lists)
-}
-
 /// An own loose handle lets its pin go, or has none. NumbersSpent or OutOfMemory where a cell that had to be listed isn't.
 pub fn unpin<N: Drop>(
     t: &mut Tables,
@@ -94,7 +72,11 @@ pub fn unpin<N: Drop>(
     };
     match at.row.mode {
         Mode::LooseUnpinned => Ok(()),
-        Mode::LoosePinned => let_go(t, values, at, lists),
+        Mode::LoosePinned => {
+            t.holdings.unlisted = None;
+            lower(&mut t.holdings, at, lists);
+            fall(&mut t.holdings, values, lists)
+        }
         Mode::Pinned | Mode::Shared => Err(Error::WrongMode),
     }
 }

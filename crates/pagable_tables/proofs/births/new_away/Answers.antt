@@ -1,12 +1,9 @@
 use Rattle.pagable_tables.proofs.{Words.{ap, sym, subst, ◌∙◌, Ok, None, false, arith, Mode, Counts, Tables, Bears, load_at, core_of, plain_of}, NewNodes.{none-named, away-born, bears-newer}}
-use Rattle.pagable_tables.proofs.{Newer.later-so, Readied.{room-holder, room-newer, weaker}, keeps.BirthCalls.away-birth-whole, keeps.Placed.whole-so}
+use Rattle.pagable_tables.proofs.{Newer.later-so, Readied.{room-newer, weaker}, keeps.BirthCalls.away-birth-whole, keeps.Placed.whole-so}
 use Rattle.pagable_tables.proofs.births.new_away.Goals as goal
 
 pub bear-requires-clause-fit : goal.bear-requires-clause-fit
 bear-requires-clause-fit c = none-named (plain_of c.make_ready.new.t) c.args.me _ c.new.ensures.items
-
-pub bear-requires-clause-holder : goal.bear-requires-clause-holder
-bear-requires-clause-holder c = room-holder c.args.me (c.make_ready.ensures.room (λ key. None) false 0) c.requires.holder
 
 pub returns-in-Ok-clause-born : goal.returns-in-Ok-clause-born
 returns-in-Ok-clause-born c stored closed failures =

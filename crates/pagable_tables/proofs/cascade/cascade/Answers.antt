@@ -1,4 +1,4 @@
-use Rattle.pagable_tables.proofs.Words.{◌≡◌, ℕ, Bool, true, false, Option, Some, None, arith, ap, sym, subst, ◌∙◌, ◌≢◌, IfSome, nat_tests, NodeNumber, live, Steps, has_value, is_node, counts_at}
+use Rattle.pagable_tables.proofs.Words.{◌≡◌, ℕ, Bool, true, false, Option, Some, None, arith, ap, sym, ◌∙◌, ◌≢◌, IfSome, nat_tests, NodeNumber, live, Steps, has_value, is_node, counts_at}
 use Rattle.pagable_tables.proofs.{Shedding.{lasts-on, none-falls-in}, Standing.{valued-le, none-falls, one-falls}, Ended.ended, Fewer.{steps-fewer, steps-unlisted}, Next.steps-on}
 use Rattle.pagable_tables.proofs.cascade.cascade.Goals as goal
 
@@ -35,7 +35,7 @@ fall-preserved g c =
           (counts_at c.step-done.new.t.nodes n) _ _ _ (c.let_go.ensures n) (λ other. s.values n (not-node c.step-done.result n other))
           (gone-node (λ m. has_value (counts_at c.step-done.new.t.nodes m)) c.step-done.result n s.gone) (c.fall.invariant.2 kept n),
       omega arith,
-      λ none. steps-unlisted c.fall.t c.step-done.new.t i.0 c.step-done.result (subst (λ b. Steps c.fall.t i.0 b c.step-done.result c.step-done.new.t) none s) ∙ c.fall.invariant.4 none,
+      λ none. steps-unlisted c.fall.t c.step-done.new.t i.0 c.args.lists c.step-done.result none s ∙ c.fall.invariant.4 none,
     )
 
 pub returns-clause-whole : goal.returns-clause-whole

@@ -41,6 +41,3 @@ returns-clause-pinned c stored closed failures =
     let numbered = c.requires.whole.core.handles.numbered row (found-among row.number.0 w.rows row c.requires.owns.live).0 in
     let same = λ (kind key : ℕ). ap (λ (u : Tables). cache u kind key) c.turn.ensures.same ∙ ap (λ (u : Tables). cache u kind key) c.in-Ok.ensures.same in
     record { pinned = (record { above = m.made.0.above; is_left = m.made.0.is_left }, pinned-alike w u w' row.number row.node c.args.me numbered.1 same m.made.1 turned); refused = tt }
-
-pub returns-clause-same : goal.returns-clause-same
-returns-clause-same c = c.turn.ensures.same ∙ ap (λ (u : Tables). record u { holdings = c.turn.new.t.holdings }) c.in-Ok.ensures.same
