@@ -2,9 +2,9 @@
 use Rattle.pagable_tables.proofs.Words.{◌≡◌, ℕ, ◌+◌, ◌<◌, ◌≤◌, ◌==◌, ◌&&◌, ◌||◌, Bool, true, false, List, [], ◌∷◌, ◌++◌, map, sum_by, refl, ap, sym, ◌∙◌, subst, arith, Option, Some, None, inl, inr}
 use Rattle.pagable_tables.proofs.Words.{if◌then◌else◌, ◌≢◌, ◌⊎◌, is_some, cases_eq, nat_tests, sum_by_push, sum_by-cons, Error, ArcRef, HandleRow, Owner, Mode, Among, is_in, one, or_else, find_row}
 use Rattle.pagable_tables.proofs.Words.{held, pins, is_handle, is_pinning, owner_value, IsHandleBefore, Core, reference_fault, references_fault, moved, is_named_by, Counts, Fits, Right, is_right}
-use Rattle.pagable_tables.proofs.{Words.{is_bare, cell_in, pins_in, holds_in, falls_in, is_valued, named, owns_nothing, AllPairs}, Coming.owned-by-none, Fitting.{pin_of, handle_of, is_owned}}
-use Rattle.pagable_tables.proofs.{Fitting.{pin-here, held-here, pin-other, held-other}, Owned.owned-by, keeps.BirthCalls.named-mine, keeps.Rests.found-so, keeps.Rows.{found-among, sum-map, sum-none}}
-use Rattle.pagable_tables.proofs.keeps.Rows.{at-most-sum, only-row}
+use Rattle.pagable_tables.proofs.{Words.{is_bare, cell_in, pins_in, holds_in, falls_in, is_valued, named, owns_nothing, AllPairs}, Coming.{owned-by-none, owned-by}, Fitting.{pin_of, handle_of}}
+use Rattle.pagable_tables.proofs.{Fitting.{is_owned, pin-here, held-here, pin-other, held-other}, keeps.HandleCalls.named-mine, keeps.Rows.{found-so, found-among, sum-map, sum-none, at-most-sum}}
+use Rattle.pagable_tables.proofs.keeps.Rows.{only-row}
 
 or-none : (a b : Option Error) → or_else a b ≡ None → (a ≡ None) × (b ≡ None)
 or-none None b e = (refl, e)

@@ -2,8 +2,8 @@
 use Rattle.pagable_tables.proofs.Words.{◌≡◌, ℕ, ◌+◌, ◌<◌, ◌≤◌, ◌==◌, ◌&&◌, ◌||◌, Bool, true, false, not, if◌then◌else◌, List, [], ◌∷◌, ◌++◌, suc, zero, filter, length, map, None, refl, ap, sym, ◌∙◌}
 use Rattle.pagable_tables.proofs.Words.{subst, arith, Option, Result, Ok, Err, nat_lt, vec_capacity, nat_tests, append-nil, sum_by-cons, sum_by-append, sum_by_push, Error, HandleNumber, HandleRow}
 use Rattle.pagable_tables.proofs.Words.{Owner, Blob, Among, one, times, if_there, is_at, is_handle, is_owned_by, find_row, held, Core, FallsAnyhow, left_rows, nobody, TellsListing, is_owned_in}
-use Rattle.pagable_tables.proofs.{Words.{Holdings, Tables, core_of, live, told_by, SoFar, entered, with_list, AreEntries, IsApart}, keeps.Rests.found-so, keeps.Rows.{counted, only-row}, Begun.begins}
-use Rattle.pagable_tables.{proofs.{Begun.{begun, shut-then}, Left.{and_one, kept-more}, Regiven.regiven}, specs.Core.IsWhole}
+use Rattle.pagable_tables.proofs.{Words.{Holdings, Tables, core_of, live, told_by, SoFar, entered, with_list, AreEntries, IsApart}, keeps.Rows.{found-so, counted, only-row}, Begun.{begins, begun}}
+use Rattle.pagable_tables.{proofs.{Begun.shut-then, Left.{and_one, kept-more}, Regiven.regiven}, specs.Core.IsWhole}
 use Rattle.pagable_world.specs.Calls.{shut as shut_world}
 use Rattle.pagable_world.specs.Pager as pager
 

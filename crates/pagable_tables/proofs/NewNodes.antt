@@ -1,7 +1,7 @@
 -- A birth, by what it is made of; and why references are refused before a number that is spent.
 use Rattle.pagable_tables.proofs.Words.{◌≡◌, ℕ, ◌<◌, true, List, [], refl, ap, ◌∙◌, subst, arith, Ok, Some, None, zero, suc, nat_tests, OptionalDataKey, Error, ArcRef, HandleNumber, Owner, Mode, Core}
 use Rattle.pagable_tables.proofs.Words.{Alike, greatest, earlier, references_fault, birth_fault, with_handle, with_node, next_node, AwayBirthCall, IsWhole, ArePlaced, MayHold, Counts, key_in, Bears}
-use Rattle.pagable_tables.proofs.{Words.{BearsValue, OnlyRoom}, keeps.BirthCalls.{birth-whole, no-references}, Newer.{OnlyNewer, newer-then, newer-alike, newer-node}, Readied.{next-past, born-past}}
+use Rattle.pagable_tables.proofs.{Words.{BearsValue, OnlyRoom}, keeps.HandleCalls.{birth-whole, no-references}, Newer.{OnlyNewer, newer-then, newer-alike, newer-node}, Readied.{next-past, born-past}}
 use Rattle.pagable_tables.proofs.Opened.{earlier-first, spent-late, late, references-low}
 
 -- a cause that tells of a reference comes before a number that is spent

@@ -1,8 +1,9 @@
--- Why calls are refused, and which of several causes is told. A load is opened and closed again.
+-- Why calls are refused, and which of several causes is told. Loads that are opened and closed again, and what is offered to the cache.
 use Rattle.pagable_tables.proofs.Words.{◌≡◌, ℕ, ◌<◌, ◌≤◌, Bool, true, List, sym, ◌∙◌, arith, Option, Some, None, inl, inr, ◌≢◌, ◌⊎◌, nat_tests, Error, OptionalDataKey, HandleNumber, LoadNumber}
 use Rattle.pagable_tables.proofs.Words.{HandleRow, Owner, Mode, if_there, is_owner, is_loose, is_in_memory, pins, Core, Cell, OpenLoad, greatest, row_at, rank, earlier, where_so, refused_if, spent}
 use Rattle.pagable_tables.proofs.Words.{handle_fault, load_fault, closed_fault, OwnsLoad, Refused, Counts, LoadRow, pins_in, cell_in, key_in, load_in, option_map, or_else, not, if◌then◌else◌}
-use Rattle.pagable_tables.proofs.Words.{reference_fault, row_fault, references_fault, is_in, fits_mode, is_type, type_of, type_at, ArcRef, [], ◌∷◌, ◌||◌, ◌==◌}
+use Rattle.pagable_tables.proofs.Words.{reference_fault, row_fault, references_fault, is_in, fits_mode, is_type, type_of, type_at, ArcRef, [], ◌∷◌, ◌||◌, ◌==◌, ◌+◌, refl, is_some, updated, ◌&&◌}
+use Rattle.pagable_tables.proofs.Words.{NodeNumber, Kind, is_usable, offer_fault, ap, subst, Ok, Err, mode_of, usable, Alike, with_handle, recall_fault, RecallCall, Makes}
 
 -- a load that wasn't open comes and goes
 pub load-goes : (at at' at'' : ℕ → Option LoadRow) (l : ℕ) → at l ≡ None → ((q : ℕ) → q ≢ l → at' q ≡ at q) → at'' l ≡ None → ((q : ℕ) → q ≢ l → at'' q ≡ at' q) → (q : ℕ) → option_map load_in (at'' q) ≡ option_map load_in (at q)
@@ -95,3 +96,50 @@ open-by w me l other = grind (arith, nat_tests)
 -- memory may be told to be wanting where it was asked for only of an own load
 pub told-later : {cause : Option Error} {full : Type 0} {w w' : Core} {e : Error} (me : Owner) (l : LoadNumber) → Refused cause (load_fault w me l) full w e w' → Refused cause (closed_fault w l) full w e w'
 told-later {cause} {full} {w} {w'} {e} me l r = grind (arith, nat_tests, open-by)
+
+-- one load more, and the others stay
+pub load-comes : (at at' : ℕ → Option LoadRow) (l : ℕ) (row : LoadRow) → at' l ≡ Some row → ((q : ℕ) → q ≢ l → at' q ≡ at q) → (q : ℕ) → option_map load_in (at' q) ≡ updated l (Some (load_in row)) (λ q. option_map load_in (at q)) q
+load-comes at at' l row here others q = grind (arith, nat_tests)
+
+-- no load has a number that wasn't given yet
+pub none-yet : (o : Option LoadRow) (last : ℕ) → (is_some (option_map load_in o) ≡ true → last + 1 ≤ last) → o ≡ None
+none-yet None last h = refl
+none-yet (Some row) last h = let a = h refl in absurd (omega arith)
+
+module _ (w : Core) (me : Owner) (kind : Kind) (key : ℕ) (h : HandleNumber) where
+  abbrev kind-fault : Option Error
+  kind-fault = refused_if (not (is_type (type_of kind.0) (if_there (λ (row : HandleRow). type_at w row.node.0) None (row_at w h)))) Error.WrongKind
+
+  abbrev last-fault : Option Error
+  last-fault = where_so (not w.closed && is_usable w kind key) (spent w.last.handle)
+
+  last-late : (f : Error) → last-fault ≡ Some f → 4 ≤ rank f
+  last-late = spent-late w.last.handle (not w.closed && is_usable w kind key)
+
+  -- a handle that can't be used is refused first
+  pub offer-first : (e : Error) → handle_fault w me h (fits_mode kind.0) ≡ Some e → offer_fault w me kind key h ≡ Some e
+  offer-first e is =
+      handle-first w me h (fits_mode kind.0) e (earlier kind-fault last-fault) is (late kind-fault last-fault 3 (kind-late _) (λ f so. let a = last-late f so in omega arith))
+
+  -- where handle and type are as asked, the last cause is left
+  pub offer-last : (row : HandleRow) → handle_fault w me h (fits_mode kind.0) ≡ None → row_at w h ≡ Some row → type_at w row.node.0 ≡ Some (type_of kind.0) → offer_fault w me kind key h ≡ last-fault
+  offer-last row none at typed = grind (arith, nat_tests)
+
+-- the cache knows the node under the kind and the key, and all else as before
+pub learned : (known known' : ℕ → ℕ → Option NodeNumber) (kind key : ℕ) (n : NodeNumber) → known' kind key ≡ Some n → ((k q : ℕ) → (k ≢ kind) ⊎ (q ≢ key) → known' k q ≡ known k q)
+    → (k q : ℕ) → option_map (λ (n : NodeNumber). n.0) (known' k q) ≡ (if k == kind && q == key then Some n.0 else option_map (λ (n : NodeNumber). n.0) (known k q))
+learned known known' kind key n here others k q = grind (arith, nat_tests)
+
+module _ (w : Core) (me : Owner) (kind : Kind) (key : ℕ) (node : NodeNumber) (mode : Mode) (w' : Core)
+    (is : usable w kind.0 key ≡ Some node.0) (fits : mode ≡ mode_of kind.0) where
+  so : is_usable w kind key ≡ true
+  so = ap is_some is
+
+  cause : recall_fault w kind key ≡ spent w.last.handle
+  cause = ap (λ b. where_so b (spent w.last.handle)) so
+
+  pub recalls : (k : HandleNumber) → Makes w node mode me (Ok k) w' → RecallCall w me kind key (Ok (Some k)) w'
+  recalls k m = record { answers = (node.0, is, m.made.0, subst (λ x. Alike (with_handle w node x me) w') fits m.made.1); refused = tt }
+
+  pub not-recalled : (e : Error) → Makes w node mode me (Err e) w' → RecallCall w me kind key (Err e) w'
+  not-recalled e m = grind (arith, nat_tests, cause, so)

@@ -1,9 +1,9 @@
 -- A handle comes, under the next number.
 use Rattle.pagable_tables.proofs.Words.{◌≡◌, ℕ, ◌≤◌, ◌<◌, ◌+◌, ◌==◌, ◌&&◌, Bool, true, false, [], ◌∷◌, ◌++◌, Option, Some, None, inl, inr, refl, ap, sym, subst, ◌∙◌, arith, ◌⊎◌, ◌≢◌, is_some, nat_lt}
-use Rattle.pagable_tables.proofs.Words.{cases_eq, nat_tests, sum_by_push, OptionalDataKey, HandleNumber, NodeNumber, HandleRow, Owner, Mode, one, Among, if_there, is_shared_kind, held, sharing}
-use Rattle.pagable_tables.proofs.Words.{is_at, is_share, is_shared, is_handle, is_owner, is_owned_by, has_key, Core, Cell, greatest, with_handle, row_of, OwnersAreThere, IsRootWhole, IsEntryWhole}
-use Rattle.pagable_tables.proofs.{Words.{IsWhole, is_valued, MayHold, Suits}, keeps.Rows.{among-both, among-one, at-most-sum, sum-less, found-among, found-push, ordered-push}, keeps.Told.roomy}
-use Rattle.pagable_tables.proofs.{keeps.Told.may-own, keeps.GoingOn.GoesOn}
+use Rattle.pagable_tables.proofs.Words.{cases_eq, nat_tests, sum_by_push, OptionalDataKey, HandleNumber, NodeNumber, HandleRow, Owner, Mode, one, Among, if_there, is_shared_kind, held, sharing, is_at}
+use Rattle.pagable_tables.proofs.Words.{is_share, is_shared, is_handle, is_owner, is_owned_by, has_key, Core, Cell, greatest, with_handle, row_of, OwnersAreThere, IsRootWhole, IsEntryWhole, IsWhole}
+use Rattle.pagable_tables.proofs.{Words.{is_valued, MayHold, Suits}, keeps.Rows.{among-both, among-one, at-most-sum, sum-less, found-among, found-push, ordered-push}, keeps.Told.{roomy, may-own}}
+use Rattle.pagable_tables.proofs.keeps.Told.{GoesOn}
 
 -- who may hold is neither the list nor a value
 pub not-list : (w : Core) (o : Owner) → MayHold w o → is_owner Owner.List o ≡ false

@@ -1,11 +1,10 @@
 -- The world is whole once handles have fallen.
-use Rattle.pagable_tables.proofs.Words.{◌≡◌, ℕ, suc, zero, ◌+◌, ◌<◌, ◌≤◌, ◌==◌, ◌&&◌, Bool, true, false, not, List, [], ◌∷◌, length, filter, if◌then◌else◌, Option, Some, None, inl, inr, refl, ap}
-use Rattle.pagable_tables.proofs.Words.{sym, subst, ◌∙◌, arith, ◌⊎◌, map, is_some, nat_lt, Result, nat_tests, AllPairs-filter, sum_by-append, Error, HandleNumber, LoadNumber, NodeNumber, HandleRow}
-use Rattle.pagable_tables.proofs.Words.{Owner, Mode, one, Among, times, is_shared_kind, held, pins, sharing, is_at, is_share, is_shared, is_loose, is_handle, is_owned_by, Core, Cell, greatest, Falls}
-use Rattle.pagable_tables.proofs.Words.{fallen, left_rows, IsWithin, AreNewEntries, IsHandleBefore, HandlesAreWhole, OwnersAreThere, LoadsAreWhole, IsRootWhole, IsEntryWhole, IsWhole, ArePlaced}
-use Rattle.pagable_tables.proofs.{keeps.Rests.{found-so, same-left, one-left, within-goes, IsEntry, entry-is, entries-listed, ordered-entries}, Left.{left-le, entries-none}, keeps.Rows.among-both}
-use Rattle.pagable_tables.proofs.{keeps.Rows.{among-left, at-most-sum, counted, found-among}, keeps.Told.{roomy, roomy-loads, may-own, settles}, keeps.GoingOn.{GoesOn, on-listing}}
-use Rattle.pagable_tables.proofs.keeps.Comes.{keyed_in, type_in}
+use Rattle.pagable_tables.proofs.Words.{◌≡◌, ℕ, suc, zero, ◌+◌, ◌<◌, ◌≤◌, ◌==◌, ◌&&◌, Bool, true, false, not, List, [], ◌∷◌, length, filter, if◌then◌else◌, Option, Some, None, inl, inr, refl, ap, sym}
+use Rattle.pagable_tables.proofs.Words.{subst, ◌∙◌, arith, ◌⊎◌, map, is_some, nat_lt, Result, nat_tests, AllPairs-filter, sum_by-append, Error, HandleNumber, LoadNumber, NodeNumber, HandleRow, Owner}
+use Rattle.pagable_tables.proofs.Words.{Mode, one, Among, times, is_shared_kind, held, pins, sharing, is_at, is_share, is_shared, is_loose, is_handle, is_owned_by, Core, Cell, greatest, Falls, fallen}
+use Rattle.pagable_tables.proofs.Words.{left_rows, IsWithin, AreNewEntries, IsHandleBefore, HandlesAreWhole, OwnersAreThere, LoadsAreWhole, IsRootWhole, IsEntryWhole, IsWhole, ArePlaced}
+use Rattle.pagable_tables.proofs.keeps.Rows.{found-so, same-left, one-left, within-goes, IsEntry, entry-is, entries-listed, ordered-entries, among-both, among-left, at-most-sum, counted, found-among}
+use Rattle.pagable_tables.proofs.{Left.{left-le, entries-none}, keeps.Told.{roomy, roomy-loads, may-own, settles, GoesOn, on-listing}, keeps.Comes.{keyed_in, type_in}}
 
 -- What is whole of a world before handles fall: all, but that owners of the given handles may have gone. And a cell that must be listed is there still, and unshared.
 pub record MayFall (before u : Core) (given : ℕ → Bool) : Type 0 where

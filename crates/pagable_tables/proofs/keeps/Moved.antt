@@ -1,7 +1,7 @@
 -- Handles move to another owner.
 use Rattle.pagable_tables.proofs.Words.{◌≡◌, ℕ, ◌==◌, ◌&&◌, Bool, true, false, if◌then◌else◌, List, [], refl, ap, sym, subst, ◌∙◌, is_some, HandleNumber, LoadNumber, HandleRow, Owner, Mode, Among}
 use Rattle.pagable_tables.proofs.{Words.{times, is_shared, is_loose, is_handle, is_owner, is_owned_by, owner_value, Core, moved, IsWhole, MayHold, arith, nat_tests}, keeps.Rows.{among-map, sum-map}}
-use Rattle.pagable_tables.proofs.{keeps.Told.roomy, keeps.GoingOn.{GoesOn, changed-on}, keeps.Turned.{turned-whole, same-held, same-sharing}}
+use Rattle.pagable_tables.proofs.keeps.Told.{roomy, GoesOn, changed-on, turned-whole, same-held, same-sharing}
 
 -- the list's handles of one number
 abbrev pub lists : ℕ → HandleRow → Bool

@@ -1,7 +1,7 @@
 use Rattle.pagable_tables.proofs.Words.{ap, sym, ◌∙◌, false, not, None, is_some, load_at, core_of, plain_of, subst, Suits, Owner, mode_of, with_handle, Alike, Mode, length, arith, ◌+◌, AllPairs}
 use Rattle.pagable_tables.proofs.{Words.{IsHandleBefore, refl, Falls, is_named_by, Tables, has_value, counts_at}, Adoptions.{not-adopted, adopts-known, adopts-whole, refused-known, fitting, eager}}
-use Rattle.pagable_tables.proofs.{Adoptions.owner-of, Begun.not-closed, Newer.{adopt-newer, later-so}, keeps.CacheCalls.known-suits, keeps.Placed.whole-so, Swapped.{begun-made, swapped}}
-use Rattle.pagable_tables.proofs.{Stays.{loaded-append, named-loaded, not-named}, Shedding.{stays-first, sheds-still}}
+use Rattle.pagable_tables.proofs.{Adoptions.owner-of, Begun.not-closed, Newer.{adopt-newer, later-so}, keeps.CacheCalls.known-suits, keeps.Placed.whole-so, Stays.{begun-made, swapped, loaded-append}}
+use Rattle.pagable_tables.proofs.{Stays.{named-loaded, not-named}, Ended.{stays-first, sheds-still}}
 use Rattle.pagable_tables.proofs.adopting.adopt_if_known.Goals as goal
 
 pub returns-in-Some-clause-refused : goal.returns-in-Some-clause-refused
@@ -48,7 +48,7 @@ returns-in-Ok-clause-whole g c =
 pub returns-in-Ok-clause-later : goal.returns-in-Ok-clause-later
 returns-in-Ok-clause-later g c =
     let n = adopt-newer c.args.me c.args.load c.args.kind c.args.key c.args.node_type c.args.references.now c.in-Ok.handle (returns-in-Ok-clause-known g c (λ key. None) (not c.args.lists) 0 (not-closed c.args.lists)) in
-    later-so c.requires.later (record { last = n.last; owned = n.owned }) (λ l load is. sym (ap (λ (u : Tables). load_at u.loads l) c.in-Ok.ensures.same) ∙ is)
+    later-so c.requires.later n (λ l load is. sym (ap (λ (u : Tables). load_at u.loads l) c.in-Ok.ensures.same) ∙ is)
 
 pub returns-in-Err-clause-refused : goal.returns-in-Err-clause-refused
 returns-in-Err-clause-refused g c stored closed failures =

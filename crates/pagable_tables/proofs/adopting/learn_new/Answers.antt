@@ -1,5 +1,5 @@
 use Rattle.pagable_tables.proofs.Words.{◌≡◌, ℕ, ◌+◌, ◌/◌, arith, ap, sym, ◌∙◌, subst, Some, Option, not, IndexMap, NodeNumber, Owner, Last, Alike, mode_of, with_handle, nat_tests, with_node}
-use Rattle.pagable_tables.proofs.{Words.{next_node, Counts, key_in, core_of, option_map}, Adopted.{learned, if-open}}
+use Rattle.pagable_tables.proofs.{Words.{next_node, Counts, key_in, core_of, option_map}, Adoptions.{learned, if-open}}
 use Rattle.pagable_tables.proofs.adopting.learn_new.Goals as goal
 
 abbrev number : Option NodeNumber → Option ℕ

@@ -1,4 +1,4 @@
-use Rattle.pagable_tables.proofs.{Words.{◌+◌, refl, ap, arith, None, false, Ok, inl, Beginning, load_at, load_in, option_map, nat_tests}, Beginning.{load-comes, none-yet}, Worlds.same-cache}
+use Rattle.pagable_tables.proofs.{Words.{◌+◌, refl, ap, arith, None, false, Ok, inl, Beginning, load_at, load_in, option_map, nat_tests}, Opened.{load-comes, none-yet}, Worlds.same-cache}
 use Rattle.pagable_tables.proofs.{keeps.LoadCalls.begin-key-whole, keeps.Told.told-whole, keeps.Placed.whole-so, Newer.later-opened}
 use Rattle.pagable_tables.proofs.begins.load_key.Goals as goal
 

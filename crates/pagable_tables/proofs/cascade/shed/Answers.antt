@@ -1,5 +1,5 @@
-use Rattle.pagable_tables.proofs.{Words.{[], arith, GivesUp, Holdings, HandleRow, IsFalling, owns_nothing, is_valued, ◌≡◌, Bool, List, ℕ, false, owns, ◌∙◌}, Begun.unowned, Fewer.gives-fewer}
-use Rattle.pagable_tables.proofs.{Fewer.gives-unlisted, Next.gives-on, Shedding.stays-first}
+use Rattle.pagable_tables.proofs.{Words.{[], arith, GivesUp, Holdings, HandleRow, IsFalling, owns_nothing, is_valued, ◌≡◌, Bool, List, ℕ, false, owns, ◌∙◌}, Begun.unowned, Next.gives-fewer}
+use Rattle.pagable_tables.proofs.{Next.{gives-unlisted, gives-on}, Ended.stays-first}
 use Rattle.pagable_tables.proofs.cascade.shed.Goals as goal
 
 -- nothing fell before

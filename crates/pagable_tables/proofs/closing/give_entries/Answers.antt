@@ -1,5 +1,5 @@
 use Rattle.pagable_tables.proofs.Words.{rules, ◌≡◌, ℕ, ◌+◌, ◌==◌, ◌||◌, List, [], ◌∷◌, length, false, refl, ap, sym, ◌∙◌, subst, arith, nat_tests, sum_by_push, HandleNumber, one, Holdings, SoFar}
-use Rattle.pagable_tables.proofs.{Words.{entered, with_list}, Begun.aside, Entries.{given_up, none-given-up, one-given-up, unlist}, Ended.ended, Shedding.{sheds-still, sheds-then}}
+use Rattle.pagable_tables.proofs.{Words.{entered, with_list}, Begun.aside, Entries.{given_up, none-given-up, one-given-up, unlist}, Ended.{ended, sheds-still, sheds-then}}
 use Rattle.pagable_tables.proofs.closing.give_entries.Goals as goal
 
 empty : (list : List HandleNumber) → length list ≡ 0 → list ≡ []

@@ -1,5 +1,5 @@
-use Rattle.pagable_tables.proofs.{Words.{arith, refl, inl, inr, None, not, Owner, is_owned_in, without_load, load_at, core_of, plain_of, load_in, with_tables}, Dropped.{load-closed, begun-less}}
-use Rattle.pagable_tables.proofs.{Dropped.{owned-given, loads-anew}, Worlds.still, Begun.not-closed, keeps.EndCalls.drop-whole, keeps.Placed.whole-so, Newer.{drop-newer, later-so, closed-still}}
+use Rattle.pagable_tables.proofs.{Words.{arith, refl, inl, inr, None, not, Owner, is_owned_in, without_load, load_at, core_of, plain_of, load_in, with_tables}, Taken.{load-closed, begun-less}}
+use Rattle.pagable_tables.proofs.{Taken.{owned-given, loads-anew}, Worlds.still, Begun.not-closed, keeps.EndCalls.drop-whole, keeps.Placed.whole-so, Newer.{drop-newer, later-so, closed-still}}
 use Rattle.pagable_tables.proofs.ending.load_drop.Goals as goal
 
 pub returns-in-Err-clause-dropped : goal.returns-in-Err-clause-dropped
@@ -28,5 +28,5 @@ returns-clause-whole g c = whole-so c.give_up_load.ensures.steady (drop-whole c.
 pub returns-clause-later : goal.returns-clause-later
 returns-clause-later g c =
     let t = c.args.t.now in
-    let n = drop-newer c.args.me c.args.load c.give_up_load.result (returns-clause-dropped g c (λ key. None) (not c.args.lists) 0 (not-closed c.args.lists)) in
-    later-so c.requires.later (record { last = n.last; owned = n.owned }) (closed-still (load_at t.loads) (load_at c.close.new.loads) c.args.load.0 c.close.ensures.gone c.close.ensures.others)
+    later-so c.requires.later (drop-newer c.args.me c.args.load c.give_up_load.result (returns-clause-dropped g c (λ key. None) (not c.args.lists) 0 (not-closed c.args.lists)))
+    (closed-still (load_at t.loads) (load_at c.close.new.loads) c.args.load.0 c.close.ensures.gone c.close.ensures.others)

@@ -1,5 +1,5 @@
-use Rattle.pagable_tables.proofs.{Words.{refl, arith, option_map, load_at, load_in, nat_tests, inl}, Begun.aside, GivenAll.{bare, given-plain, none-past, one-past, all-past}, Shedding.sheds-still}
-use Rattle.pagable_tables.proofs.Shedding.{sheds-then}
+use Rattle.pagable_tables.proofs.{Words.{refl, arith, option_map, load_at, load_in, nat_tests, inl}, Begun.aside, GivenAll.{bare, given-plain, none-past, one-past, all-past}, Ended.sheds-still}
+use Rattle.pagable_tables.proofs.Ended.{sheds-then}
 use Rattle.pagable_tables.proofs.giving.give_all.Goals as goal
 
 pub loop-at-init : goal.loop-at-init

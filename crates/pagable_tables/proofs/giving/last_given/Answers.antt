@@ -1,4 +1,4 @@
-use Rattle.pagable_tables.proofs.{Words.{◌-◌, arith, gives_row}, LastGiven.{none-from, below-to, place-got, row-there}}
+use Rattle.pagable_tables.proofs.{Words.{◌-◌, arith, gives_row}, GivenAll.{none-from, below-to, place-got, row-there}}
 use Rattle.pagable_tables.proofs.giving.last_given.Goals as goal
 
 pub returns-then-found-since-clause-none : goal.returns-then-found-since-clause-none

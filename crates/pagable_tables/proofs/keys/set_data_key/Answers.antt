@@ -1,6 +1,6 @@
 use Rattle.pagable_tables.proofs.{Words.{not, None, refl, sym, ◌∙◌, arith, inl, inr, any_mode, nat_tests, subst, GetsKey, counts_at, nobody, core_of}, Alive.row-le-live, Begun.not-closed}
-use Rattle.pagable_tables.proofs.{Coming.some-held, Fitting.held-here, Worlds.{still, owner-same}, keeps.FallCalls.set-key-whole, keeps.Placed.whole-so, Newer.{set-key-newer, later-so}}
-use Rattle.pagable_tables.proofs.{Shedding.stays-first, KeySet.keyed-on}
+use Rattle.pagable_tables.proofs.{Coming.some-held, Fitting.held-here, Worlds.{still, owner-same}, keeps.ListCalls.set-key-whole, keeps.Placed.whole-so, Newer.{set-key-newer, later-so}}
+use Rattle.pagable_tables.proofs.{Ended.stays-first, KeyPut.keyed-on}
 use Rattle.pagable_tables.proofs.keys.set_data_key.Goals as goal
 
 pub put_key-requires-clause-live : goal.put_key-requires-clause-live
@@ -32,8 +32,7 @@ returns-clause-whole g c = whole-so c.fall.ensures.steady (set-key-whole c.args.
 
 pub returns-clause-later : goal.returns-clause-later
 returns-clause-later g c later =
-    let n = set-key-newer c.args.me c.args.handle c.args.key c.fall.result (returns-clause-set g c (λ key. None) (not c.args.lists) 0 (not-closed c.args.lists)) in
-    later-so later (record { last = n.last; owned = n.owned }) (λ l load is. is)
+    later-so later (set-key-newer c.args.me c.args.handle c.args.key c.fall.result (returns-clause-set g c (λ key. None) (not c.args.lists) 0 (not-closed c.args.lists))) (λ l load is. is)
 
 pub returns-clause-sheds : goal.returns-clause-sheds
 returns-clause-sheds g c = stays-first c.put_key.ensures.values c.fall.ensures.sheds

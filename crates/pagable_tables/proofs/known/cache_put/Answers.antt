@@ -1,5 +1,5 @@
 use Rattle.pagable_tables.proofs.Words.{◌≡◌, ◌∙◌, ℕ, ap, sym, subst, refl, false, None, Ok, inl, inr, arith, NodeNumber, fits_mode, Owns, offer_fault, recall_fault, nat_tests, OfferCall, core_of}
-use Rattle.pagable_tables.proofs.{Words.{plain_of, Suits, option_map}, Offers.{offer-last, learned}, Worlds.same-cache, keeps.Placed.whole-so, keeps.Told.told-whole, Recalled.{recalls, not-recalled}}
+use Rattle.pagable_tables.proofs.{Words.{plain_of, Suits, option_map}, Opened.{offer-last, learned, recalls, not-recalled}, Worlds.same-cache, keeps.Placed.whole-so, keeps.Told.told-whole}
 use Rattle.pagable_tables.proofs.keeps.CacheCalls.{known-suits, offer-whole}
 use Rattle.pagable_tables.proofs.known.cache_put.Goals as goal
 

@@ -1,4 +1,4 @@
-use Rattle.pagable_tables.proofs.{Words.{fits_mode, core_of}, Offers.offer-first}
+use Rattle.pagable_tables.proofs.{Words.{fits_mode, core_of}, Opened.offer-first}
 use Rattle.pagable_tables.proofs.known.offered.Goals as goal
 
 pub returns-in-Err-clause-fault : goal.returns-in-Err-clause-fault

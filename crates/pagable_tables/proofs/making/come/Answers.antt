@@ -1,6 +1,6 @@
-use Rattle.pagable_tables.proofs.Words.{Bool, true, subst, inl, inr, ◌+◌, ◌≡◌, ◌∷◌, [], ◌++◌, arith, refl, ap, sym, ◌∙◌, Some, rules, one, is_pinning, HandleRow, live, counts_at, refs_at}
-use Rattle.pagable_tables.proofs.Words.{falls_in, has_value, ValueStays, Counts, cases_eq, nat_tests}
-use Rattle.pagable_tables.proofs.{Alive.length-live-le, Fitting.pins-le-held, Coming.come-fits, Coming.come-cells, Coming.rows-told, Coming.held-few, Worlds.alike}
+use Rattle.pagable_tables.proofs.Words.{Bool, true, subst, inl, inr, ◌+◌, ◌≡◌, ◌∷◌, [], ◌++◌, arith, refl, ap, sym, ◌∙◌, Some, rules, one, is_pinning, HandleRow, live, counts_at, refs_at, falls_in}
+use Rattle.pagable_tables.proofs.{Words.{has_value, ValueStays, Counts, cases_eq, nat_tests}, Alive.length-live-le, Fitting.pins-le-held, Coming.{come-fits, come-cells, rows-told, held-few}}
+use Rattle.pagable_tables.proofs.Worlds.{alike}
 use Rattle.pagable_tables.proofs.making.come.Goals as goal
 
 pub counts_more-more-requires-clause-pins : goal.counts_more-more-requires-clause-pins

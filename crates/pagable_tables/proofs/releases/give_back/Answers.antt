@@ -1,4 +1,4 @@
-use Rattle.pagable_tables.proofs.{Words.{[], arith, inl, nobody, only_handle}, Shedding.sheds-then}
+use Rattle.pagable_tables.proofs.{Words.{[], arith, inl, nobody, only_handle}, Ended.sheds-then}
 use Rattle.pagable_tables.proofs.releases.give_back.Goals as goal
 
 pub fall-requires : goal.fall-requires

@@ -1,4 +1,4 @@
-use Rattle.pagable_tables.proofs.{Words.{not, None, refl, subst, arith, inl, inr, any_mode, Falls, only_handle, core_of}, Begun.{begun-whole, not-closed}, keeps.FallCalls.release-whole}
+use Rattle.pagable_tables.proofs.{Words.{not, None, refl, subst, arith, inl, inr, any_mode, Falls, only_handle, core_of}, Begun.{begun-whole, not-closed}, keeps.ListCalls.release-whole}
 use Rattle.pagable_tables.proofs.{keeps.Placed.whole-so, Worlds.{still, owner-same}, Newer.{release-newer, later-so}}
 use Rattle.pagable_tables.proofs.releases.release.Goals as goal
 
@@ -32,5 +32,4 @@ returns-clause-whole g c =
 
 pub returns-clause-later : goal.returns-clause-later
 returns-clause-later g c later =
-    let n = release-newer c.args.me c.args.handle c.give_back.result (returns-clause-released g c (λ key. None) (not c.args.lists) 0 (not-closed c.args.lists)) in
-    later-so later (record { last = n.last; owned = n.owned }) (λ l load is. is)
+    later-so later (release-newer c.args.me c.args.handle c.give_back.result (returns-clause-released g c (λ key. None) (not c.args.lists) 0 (not-closed c.args.lists))) (λ l load is. is)

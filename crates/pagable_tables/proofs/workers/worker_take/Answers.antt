@@ -1,4 +1,4 @@
-use Rattle.pagable_tables.{proofs.{Words.{subst, core_of}, LeftWork.{begun-core, takes-worker}}, specs.Giving.BeginsWorker}
+use Rattle.pagable_tables.{proofs.{Words.{subst, core_of}, Taken.{begun-core, takes-worker}}, specs.Giving.BeginsWorker}
 use Rattle.pagable_tables.proofs.workers.worker_take.Goals as goal
 
 pub returns-clause-taken : goal.returns-clause-taken
