@@ -4,7 +4,7 @@ use Rattle.pagable_tables.proofs.Words.{if◌then◌else◌, ◌≢◌, ◌⊎�
 use Rattle.pagable_tables.proofs.Words.{held, pins, is_handle, is_pinning, owner_value, IsHandleBefore, Core, reference_fault, references_fault, moved, is_named_by, Counts, Fits, Right, is_right}
 use Rattle.pagable_tables.proofs.{Words.{is_bare, cell_in, pins_in, holds_in, falls_in, is_valued, named, owns_nothing, AllPairs}, Coming.{owned-by-none, owned-by}, Fitting.{pin_of, handle_of}}
 use Rattle.pagable_tables.proofs.{Fitting.{is_owned, pin-here, held-here, pin-other, held-other}, keeps.HandleCalls.named-mine, keeps.Rows.{found-so, found-among, sum-map, sum-none, at-most-sum}}
-use Rattle.pagable_tables.proofs.keeps.Rows.{only-row}
+use Rattle.pagable_tables.proofs.{keeps.Rows.only-row, Bits.and-zero}
 
 or-none : (a b : Option Error) → or_else a b ≡ None → (a ≡ None) × (b ≡ None)
 or-none None b e = (refl, e)
@@ -56,11 +56,7 @@ module _ (w : Core) (me : Owner) (n : ℕ) (rs : List ArcRef) (ordered : AllPair
       let a = only-row (both q) w.rows o.row ordered there (λ x other. let e : (x.number.0 == q) ≡ false = ap (λ k. x.number.0 == k) (sym number) ∙ other in ap (λ b. one (b && is_named_by rs q)) e) in
       let b : is_handle q o.row ≡ true = grind (arith, nat_tests) in
       a ∙ ap (λ d. one (d && is_named_by rs q)) b ∙ ap one is
-  sum-both q false is = sum-none (both q) w.rows (λ h among. ap (λ b. one (is_handle q h && b)) is ∙ none (is_handle q h))
-    where
-      none : (b : Bool) → one (b && false) ≡ 0
-      none true = refl
-      none false = refl
+  sum-both q false is = sum-none (both q) w.rows (λ h among. ap (λ b. one (is_handle q h && b)) is ∙ and-zero (is_handle q h))
 
   pub own-own : (q : ℕ) → sum_by (is_owned n q) w.rows ≡ 0 → sum_by (is_owned n q) (map to w.rows) ≡ named q rs
   own-own q before =

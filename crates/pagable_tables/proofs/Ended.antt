@@ -4,7 +4,7 @@ use Rattle.pagable_tables.proofs.Words.{is_some, nat_lt, nat_eq, Result, Ok, Err
 use Rattle.pagable_tables.proofs.Words.{is_pinned_kind, is_at, is_pin, is_owned_by, owner_value, held, pins, has_key, is_in_memory, Core, Cell, greatest, Alike, left_rows, IsClosed, is_keyed}
 use Rattle.pagable_tables.proofs.Words.{MustList, TellsListing, CannotList, IsListRefusal, Falls, fallen, pins_outside, held_outside, Counts, Holdings, live, counts_at, refs_at, Fits, IsFalling}
 use Rattle.pagable_tables.proofs.Words.{Right, holds_in, falls_in, keyed_in, cell_in, HasFallen, owns, owns_nothing, with_tables, told_by, SoFar, length, is_valued, valued, ValueStays, Sheds}
-use Rattle.pagable_tables.proofs.{Words.has_value, Left.{times-left, entries-none}, Telling.keyed-cell, Fitting.first-waits}
+use Rattle.pagable_tables.proofs.{Words.has_value, Left.{times-left, entries-none}, Telling.keyed-cell, Fitting.first-waits, Bits.one-le}
 
 stands : (at : ℕ → Option Counts) (refs : ℕ → List ArcRef) (rows : List HandleRow) (top : ℕ) → Fits at refs rows top [] owns_nothing → (n : ℕ) → falls_in (at n) ≡ false
 stands at refs rows top fits n = let a = fits.marked n in grind (arith, nat_tests)
@@ -92,10 +92,6 @@ module _ (before w : Core) (given : ℕ → Bool) (lists : Bool) (t : Holdings) 
 pub valued-le : (rows : List HandleRow) → valued rows ≤ length rows
 valued-le [] = omega arith
 valued-le (x ∷ xs) = let a = valued-le xs in let b = sum_by-cons (λ (h : HandleRow). one (is_valued h.owner)) x xs in let d = one-le (is_valued x.owner) in omega arith
-  where
-    one-le : (b : Bool) → one b ≤ 1
-    one-le true = omega arith
-    one-le false = omega arith
 
 -- where no node is first, none falls
 pub none-falls : (t : Holdings) (stack : List ℕ) → IsFalling t stack owns_nothing → t.top ≡ 0 → IsFalling t [] owns_nothing

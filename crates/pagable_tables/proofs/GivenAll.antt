@@ -2,8 +2,8 @@
 use Rattle.pagable_tables.proofs.Words.{nat_lt, ◌≡◌, ℕ, ◌<◌, ◌≤◌, ◌-◌, ◌==◌, ◌&&◌, ◌||◌, Bool, true, false, not, [], Option, Some, None, refl, ap, sym, ◌∙◌, arith, nat_tests, NodeNumber, HandleRow}
 use Rattle.pagable_tables.proofs.Words.{Owner, if_there, is_owner, find_row, Core, OpenLoad, nobody, Giving, Holdings, live, is_valued, SoFar, gives_row, passes_in, ◌+◌, if◌then◌else◌, List, ◌∷◌, suc}
 use Rattle.pagable_tables.proofs.Words.{length, get_or, slice_get, ◌⊎◌, AllPairs, slice_get-get_or, is_handle, Place, alive, IsBefore, ◌++◌, take, add-one, take-suc, ArcRef, LoadNumber, is_named_by}
-use Rattle.pagable_tables.proofs.{Words.is_owned_in, Regiven.{regiven, passes-so-far, passes-here, passes-none, and_owned}, Alive.{row-live, smaller-up, greater-from}, Named.named-push}
-use Rattle.pagable_tables.specs.Giving.{gives}
+use Rattle.pagable_tables.proofs.{Words.is_owned_in, Regiven.{regiven, passes-so-far, passes-here, passes-none, and_owned}, Alive.{row-live, smaller-up, greater-from}, Named.named-push, Bits.had}
+use Rattle.pagable_tables.{proofs.Bits.and-left, specs.Giving.gives}
 
 -- a world of these loads alone
 abbrev pub bare : (ℕ → Option OpenLoad) → Core
@@ -32,13 +32,8 @@ given-plain w giving o node is = grind (arith, nat_tests)
 unlisting : (w : Core) (giving : Giving) (h : HandleRow) → h.owner ≡ Owner.List → gives_row w giving h ≡ false
 unlisting w giving h is = ap (λ o. gives w giving o h.node) is ∙ no-list w giving h.node
 
-had : (g o : Bool) → (not g && o) ≡ true → o ≡ true
-had true o e = absurd (cc)
-had false o e = e
-
 went : (g o : Bool) → (not g && o) ≡ false → o ≡ true → g ≡ true
-went true o e is = refl
-went false o e is = absurd (let a : true ≡ false = sym is ∙ e in cc)
+went g o e is = grind (arith, nat_tests)
 
 -- what has been given, while those up to a number are left
 abbrev pub past_of : Core → Core → Giving → ℕ → ℕ → Bool
@@ -152,13 +147,9 @@ unfolding is_named_by
 named-nothing [] q = refl
 named-nothing (r ∷ rs) q = refl
 
-both-left : (a b : Bool) → (a && b) ≡ true → a ≡ true
-both-left true b e = refl
-both-left false b e = absurd (cc)
-
 module _ (before w : Core) (lists : Bool) (t : Holdings) (l : LoadNumber) (rs : List ArcRef) where
   pub none-given : SoFar before w nobody lists t → SoFar before w (named_owned w l rs 0) lists t
-  none-given f = regiven before w nobody (named_owned w l rs 0) lists t f (λ r e. absurd (let a = both-left (is_named_by (take 0 rs) r) _ e in let b = named-nothing rs r in cc)) (λ r e. absurd (cc))
+  none-given f = regiven before w nobody (named_owned w l rs 0) lists t f (λ r e. absurd (let a = and-left (is_named_by (take 0 rs) r) _ e in let b = named-nothing rs r in cc)) (λ r e. absurd (cc))
 
   pub one-given : (i : ℕ) (d : ArcRef) → i < length rs → SoFar before w (and_owned w l (named_owned w l rs i) (get_or rs i d).handle.0) lists t → SoFar before w (named_owned w l rs (i + 1)) lists t
   one-given i d lt f =
@@ -167,4 +158,4 @@ module _ (before w : Core) (lists : Bool) (t : Holdings) (l : LoadNumber) (rs : 
       (λ r e. let p = named-more rs i d r lt in let s : ((get_or rs i d).handle.0 == r) ≡ (r == (get_or rs i d).handle.0) = grind (arith, nat_tests) in grind (arith, nat_tests))
 
   pub all-given : (i : ℕ) → take i rs ≡ rs → ((q : ℕ) → is_named_by rs q ≡ true → is_owned_in w (Owner.Load l) q ≡ true) → SoFar before w (named_owned w l rs i) lists t → SoFar before w (is_named_by rs) lists t
-  all-given i all owned f = grind (arith, nat_tests, both-left)
+  all-given i all owned f = grind (arith, nat_tests, and-left)

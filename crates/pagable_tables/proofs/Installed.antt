@@ -10,7 +10,7 @@ use Rattle.pagable_tables.proofs.{keeps.Told.alike-whole, keeps.Placed.whole-so,
 use Rattle.pagable_tables.proofs.{Newer.newer-falls, Begun.{begins, begun}, Taken.{load-closed, owned-given, moved-times, loaded-moved, no-load}, Joined.{moved-turned, turned-sum}, Named.moved-nobody}
 use Rattle.pagable_tables.proofs.{Named.named-none, Regiven.{loaded, passes-here, passes-none}, Stays.{seen-before, stays-pinned, not-named, same-value}, keeps.HandleCalls.named-unlisted}
 use Rattle.pagable_tables.proofs.{keeps.Comes.{not-list, not-a-value}, keeps.LoadCalls.may-hold, keeps.Moved.moved-to-value, keeps.Rows.{among-map, found-among, once, ordered-map, sum-map}}
-use Rattle.pagable_tables.specs.Core.{IsWhole}
+use Rattle.pagable_tables.{proofs.Bits.{and-zero, and-left, and-all}, specs.Core.IsWhole}
 
 typed-so : (a b : ℕ) → refused_if (not (a == b)) Error.WrongKind ≡ None → a ≡ b
 typed-so a b e = grind (arith, nat_tests)
@@ -91,10 +91,6 @@ loaded-beside : (l : LoadNumber) (q : ℕ) (rows : List HandleRow) (x : HandleRo
 loaded-beside l q [] x other = grind (arith, nat_tests, passes-here, passes-none)
 loaded-beside l q (y ∷ ys) x other = grind (arith, nat_tests, passes-here, loaded-beside l q ys x other)
 
-and-none : (b : Bool) → one (b && false) ≡ 0
-and-none true = refl
-and-none false = refl
-
 row-of : (rows : List HandleRow) → AllPairs IsHandleBefore rows → (row : HandleRow) → find_row row.number.0 rows ≡ Some row → (z : HandleRow) → Among rows z → is_handle row.number.0 z ≡ true
     → z.node ≡ row.node
 row-of rows ordered row found z among is =
@@ -168,7 +164,7 @@ module _ (t t1 : Tables) (stored : ℕ → Option Blob) (closed lists : Bool) (f
   list-has q =
       let b = sum_by_push (λ (h : HandleRow). one (is_handle q h && is_owned_by Owner.List h)) mid x in
       let d = turned-sum (λ (h : HandleRow). one (is_handle q h && is_owned_by Owner.List h)) h.0 rows0 (λ y. refl) in
-      let z : one (is_handle q x && is_owned_by Owner.List x) ≡ 0 = ap (λ b. one (is_handle q x && b)) unlisted ∙ and-none (is_handle q x) in
+      let z : one (is_handle q x && is_owned_by Owner.List x) ≡ 0 = ap (λ b. one (is_handle q x && b)) unlisted ∙ and-zero (is_handle q x) in
       let g = listed q in
       omega arith
 
@@ -197,17 +193,13 @@ module _ (t t1 : Tables) (stored : ℕ → Option Blob) (closed lists : Bool) (f
     owned-pinned : (q : ℕ) → is_owned_in u (Owner.Load l) q ≡ given q
     owned-pinned q = loaded-beside l q mid x unloaded ∙ loaded-mode l q (is_handle h.0) Mode.LoosePinned rows0 ∙ loaded-moved s o l q w.rows refl
 
-    and-first : (b d : Bool) → (b && d) ≡ true → b ≡ true
-    and-first true d eq = refl
-    and-first false d eq = absurd (cc)
-
     spared-pin : given (t.holdings.last_handle + 1) ≡ false
     spared-pin = by (given (t.holdings.last_handle + 1)) refl
       where
         by : (b : Bool) → given (t.holdings.last_handle + 1) ≡ b → b ≡ false
         by false eq = refl
         by true eq =
-            let own = and-first (is_owned_in w (Owner.Load l) (t.holdings.last_handle + 1)) (not (s (t.holdings.last_handle + 1))) eq in
+            let own = and-left (is_owned_in w (Owner.Load l) (t.holdings.last_handle + 1)) (not (s (t.holdings.last_handle + 1))) eq in
             absurd (let g = owned-given (plain_of t) (Owner.Load l) (t.holdings.last_handle + 1) was.core.handles own in omega arith)
 
     ordered : AllPairs IsHandleBefore u.rows
@@ -240,7 +232,7 @@ module _ (t t1 : Tables) (stored : ℕ → Option Blob) (closed lists : Bool) (f
         → Falls w u given r (record (core_of (record t1 { holdings = new }) stored closed failures) { loads = λ q. option_map load_in (loads q) })
     ended since new loads r gives later gone others =
         let falls = gives u u begun-pinned (let b = ap length (rows ∙ come) in omega arith)
-        (λ q own. let mine = and-first (is_owned_in w (Owner.Load l) q) (not (s q)) (sym (owned-pinned q) ∙ own) in
+        (λ q own. let mine = and-left (is_owned_in w (Owner.Load l) q) (not (s q)) (sym (owned-pinned q) ∙ own) in
         (later q mine, (let g = owned-given (plain_of t) (Owner.Load l) q was.core.handles mine in let b = ap (λ (v : Last). v.handle) a.last in omega arith))) in
         let fell = as-before (subst (λ g. Falls u u g r (with_tables u new)) (λ i q. owned-pinned q i) falls) in
         let closed-one = load-closed (load_at t.loads) loads l.0 gone (λ q other. others q other ∙ ap (λ (v : Tables). load_at v.loads q) same) in
@@ -273,10 +265,6 @@ none-moves w l row me r w' falls =
     subst (λ rows. Falls w (with_pin (record (without_load w l) { rows = rows }) row.number row.node me) (is_owned_in w (Owner.Load l)) r w') (moved-nobody (owner_value row.node.0) w.rows)
     (subst (λ given. Falls w (with_pin (record (without_load w l) { rows = moved (is_named_by []) (owner_value row.node.0) w.rows }) row.number row.node me) given r w') (λ i q. all q i) falls)
   where
-    and-all : (b : Bool) → (b && true) ≡ b
-    and-all true = refl
-    and-all false = refl
-
     all : (q : ℕ) → (is_owned_in w (Owner.Load l) q && not (is_named_by [] q)) ≡ is_owned_in w (Owner.Load l) q
     all q = ap (λ b. is_owned_in w (Owner.Load l) q && not b) (named-none q) ∙ and-all (is_owned_in w (Owner.Load l) q)
 

@@ -1,7 +1,7 @@
 -- Rows that are left when a set of handles goes, counted and listed, and handles that leave.
 use Rattle.pagable_tables.proofs.Words.{◌≡◌, ℕ, ◌+◌, ◌≤◌, ◌==◌, ◌&&◌, ◌||◌, Bool, true, false, not, if◌then◌else◌, List, [], ◌∷◌, ◌++◌, length, filter, refl, ap, ◌∙◌, arith, nat_tests, sum_by-cons}
 use Rattle.pagable_tables.proofs.Words.{sum_by-le-sum_by, HandleNumber, HandleRow, Owner, Mode, one, times, is_handle, left_rows, AreNewEntries, sum_by, append-nil, sum_by_push, NodeNumber, Holdings}
-use Rattle.pagable_tables.proofs.Words.{live, entry, entries_of, Leaves, sum_by-append, is_owned_by, is_owner, only_handle}
+use Rattle.pagable_tables.proofs.{Words.{live, entry, entries_of, Leaves, sum_by-append, is_owned_by, is_owner, only_handle}, Bits.{and-zero, and-all}}
 
 -- one handle more is in the set
 abbrev pub and_one : (ℕ → Bool) → ℕ → ℕ → Bool
@@ -17,22 +17,14 @@ times-left f gone (x ∷ xs) = split (times-left f gone xs) (gone x.number.0) re
     split rest true e =
         let a = sum_by-cons (λ h. one (f h && not (gone h.number.0))) x xs in
         let l : times f (left_rows gone (x ∷ xs)) ≡ times f (left_rows gone xs) = ap (λ b. times f (if not b then x ∷ left_rows gone xs else left_rows gone xs)) e in
-        let z : one (f x && not (gone x.number.0)) ≡ 0 = ap (λ b. one (f x && not b)) e ∙ and-false (f x) in
+        let z : one (f x && not (gone x.number.0)) ≡ 0 = ap (λ b. one (f x && not b)) e ∙ and-zero (f x) in
         omega arith
-      where
-        and-false : (b : Bool) → one (b && false) ≡ 0
-        and-false true = refl
-        and-false false = refl
     split rest false e =
         let a = sum_by-cons (λ h. one (f h && not (gone h.number.0))) x xs in
         let l : times f (left_rows gone (x ∷ xs)) ≡ times f (x ∷ left_rows gone xs) = ap (λ b. times f (if not b then x ∷ left_rows gone xs else left_rows gone xs)) e in
         let c = sum_by-cons (λ h. one (f h)) x (left_rows gone xs) in
-        let z : one (f x && not (gone x.number.0)) ≡ one (f x) = ap (λ b. one (f x && not b)) e ∙ and-true (f x) in
+        let z : one (f x && not (gone x.number.0)) ≡ one (f x) = ap (λ b. one (f x && not b)) e ∙ ap one (and-all (f x)) in
         omega arith
-      where
-        and-true : (b : Bool) → one (b && true) ≡ one b
-        and-true true = refl
-        and-true false = refl
 
 times-le : (f g : HandleRow → Bool) (rows : List HandleRow) → ((h : HandleRow) → one (f h) ≤ one (g h)) → times f rows ≤ times g rows
 times-le f g rows h = sum_by-le-sum_by (λ x. one (f x)) (λ x. one (g x)) rows h

@@ -1,4 +1,5 @@
 mod Words
+mod Bits
 mod Alive
 mod Fitting
 mod Left

@@ -1,10 +1,10 @@
 -- What loads own is what they owned, or has come since.
-use Rattle.pagable_tables.proofs.Words.{◌≡◌, ℕ, ◌+◌, ◌<◌, ◌≤◌, ◌&&◌, ◌++◌, ◌∷◌, [], Bool, true, false, not, List, refl, ap, sym, ◌∙◌, arith, Option, Some, None, inl, inr, ◌⊎◌, ◌≢◌, Result, Ok, Err}
-use Rattle.pagable_tables.proofs.Words.{is_some, option_map, cases_eq, Error, HandleNumber, LoadNumber, NodeNumber, HandleRow, Owner, Mode, Pinning, Kind, ArcRef, OptionalDataKey, if_there, is_in}
-use Rattle.pagable_tables.proofs.Words.{type_of, changed, is_handle, is_owner, is_owned_by, owner_value, find_row, mode_of, Core, Last, Alike, Falls, only_handle, with_handle, with_node, next_node}
+use Rattle.pagable_tables.proofs.Words.{◌≡◌, ℕ, ◌+◌, ◌<◌, ◌≤◌, ◌++◌, ◌∷◌, [], Bool, true, false, not, List, refl, ap, sym, ◌∙◌, arith, Option, Some, None, inl, inr, ◌⊎◌, ◌≢◌, Result, Ok, Err, is_some}
+use Rattle.pagable_tables.proofs.Words.{option_map, cases_eq, Error, HandleNumber, LoadNumber, NodeNumber, HandleRow, Owner, Mode, Pinning, Kind, ArcRef, OptionalDataKey, if_there, is_in, type_of}
+use Rattle.pagable_tables.proofs.Words.{changed, is_handle, is_owner, is_owned_by, owner_value, find_row, mode_of, Core, Last, Alike, Falls, only_handle, with_handle, with_node, next_node}
 use Rattle.pagable_tables.proofs.Words.{with_cached_if_open, is_named_by, moved, with_mode, LoosenCall, PinCall, UnpinCall, ReleaseCall, SetKeyCall, ScheduleCall, TakeCall, OfferCall, CloseCall}
 use Rattle.pagable_tables.proofs.Words.{is_owned_in, numbers_of, adopted, first_key, Adopts, DropCall, HandOverCall, LazyCall, LoadRow, Tables, load_at, plain_of, load_in, Makes, AreLater, nat_tests}
-use Rattle.pagable_tables.proofs.{Regiven.{loaded, passes-here, passes-left, no-entry, unlisting}, Taken.{loaded-moved, and-left}, Worlds.owner-same, keeps.Rows.{found-among, found-push}}
+use Rattle.pagable_tables.proofs.{Regiven.{loaded, passes-here, passes-left, no-entry, unlisting}, Taken.loaded-moved, Bits.{and-left, had}, Worlds.owner-same, keeps.Rows.{found-among, found-push}}
 use Rattle.pagable_world.specs.Pager as pager
 
 pub record IsNewer (rows rows' : List HandleRow) (given given' : ℕ) : Type 0 where
@@ -43,10 +43,6 @@ newer-falls {before} {u} {w'} falls =
       last = (let e = ap (λ (l : Last). l.handle) falls.leaves.last in omega arith);
       owned = λ l q own. inl (had (falls.gone q) (loaded l q u.rows) (sym (ap (loaded l q) falls.leaves.rows ∙ passes-left (is_owned_by (Owner.Load l)) q falls.gone falls.entries u.rows (no-entry (is_owned_by (Owner.Load l)) q (unlisting l) u.last.handle falls.entries falls.new)) ∙ own));
     }
-  where
-    had : (g o : Bool) → (not g && o) ≡ true → o ≡ true
-    had true o e = absurd (cc)
-    had false o e = e
 
 -- the open loads are ones that were open
 pub later-so : {t t' : Tables} → AreLater t → OnlyNewer (plain_of t) (plain_of t') → ((l : ℕ) (load : LoadRow) → load_at t'.loads l ≡ Some load → load_at t.loads l ≡ Some load) → AreLater t'

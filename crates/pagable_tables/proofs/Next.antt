@@ -5,7 +5,7 @@ use Rattle.pagable_tables.proofs.Words.{sym, subst, is_some, vec_capacity, appen
 use Rattle.pagable_tables.proofs.Words.{one, is_pin, is_owned_by, held, pins, greatest, IsWithin, IsClosed, AreNewEntries, TellsListing, IsListRefusal, is_keyed, counts_at, pins_in, entry, cell_in}
 use Rattle.pagable_tables.proofs.Words.{first_cause, IsUnlisted, HasPlaces, with_tables, told_by, IsApart, ◌≢◌, Result, Ok, Err, MustList, CellsStay, is_at, is_owner, owner_value, is_outside}
 use Rattle.pagable_tables.proofs.{Words.{HasFallen, FallsBy, ◌||◌, inl, inr, Option, IsFalling, Steps, owns_nothing, ◌⊎◌}, Left.{and_one, left-more, left-none, kept-more, times-left, entries-more}}
-use Rattle.pagable_tables.proofs.{Left.{leaves-sums, of_list, none-listed, none-entered}, Telling.{entry-pins, only-more, tells-more, refusal-now, forced}}
+use Rattle.pagable_tables.proofs.{Left.{leaves-sums, of_list, none-listed, none-entered}, Telling.{entry-pins, only-more, tells-more, refusal-now, forced}, Bits.one-le}
 
 rows-leaves : (rows entries : List HandleRow) (gone : ℕ → Bool) (old new : Holdings) (x : HandleRow) (wanted listed : Bool) → Leaves old x wanted listed new
     → live old.handles.places.items ≡ left_rows gone rows ++ entries → times (is_handle x.number.0) entries ≡ 0
@@ -61,8 +61,7 @@ ones [] = refl
 ones (x ∷ xs) = let a = sum_by-cons (λ (h : HandleRow). 1) x xs in let b = ones xs in omega arith
 
 one-more : (listed : Bool) → (if listed then 1 else 0) ≤ 1
-one-more true = omega arith
-one-more false = omega arith
+one-more listed = one-le listed
 
 -- a handle that the list doesn't own may go apart from it
 pub unlisted-apart : (before w : Core) (given : ℕ → Bool) (lists : Bool) (t popped new : Holdings) (stack : List ℕ) (x : HandleRow) (f : SoFar before w given lists t) → GivesUp popped stack x lists new
@@ -285,17 +284,13 @@ gives-on before w given lists t new stack x f pinned free few g =
     after : live new.handles.places.items ≡ live g.between.handles.places.items
     after = ap (λ (h : Holdings). live h.handles.places.items) g.same
 
-at-most : (b : Bool) → (if b then 1 else 0) ≤ 1
-at-most true = omega arith
-at-most false = omega arith
-
 pub gives-fewer : (t new : Holdings) (stack : List ℕ) (x : HandleRow) (lists : Bool) → GivesUp t stack x lists new → length (live new.handles.places.items) ≤ length (live t.handles.places.items)
 gives-fewer t new stack x lists g =
     let a = leaves-sums t g.between x _ g.listed g.leaves (λ h. 1) in
     let b = ap (λ (u : Holdings). length (live u.handles.places.items)) g.same in
     let d = ones (live t.handles.places.items) in
     let e = ones (live g.between.handles.places.items) in
-    let i = at-most g.listed in
+    let i = one-le g.listed in
     omega arith
 
 pub steps-fewer : (t new : Holdings) (stack : List ℕ) (lists : Bool) (r : Option NodeNumber) → Steps t stack lists r new → length (live new.handles.places.items) ≤ length (live t.handles.places.items)

@@ -86,10 +86,6 @@ still-listed {w} whole me l hs can =
         let a = found-among x.number.0 w.rows m.row m.live in
         ap (is_owned_by Owner.List) (once w.rows whole.handles.ordered x m.row among a.0 (sym a.1)) ∙ ap (is_owner Owner.List) m.own
 
-pub and-left : (a b : Bool) → (a && b) ≡ true → a ≡ true
-and-left true b e = refl
-and-left false b e = absurd (cc)
-
 -- a load isn't there any more
 pub load-closed : (at at' : ℕ → Option LoadRow) (l : ℕ) → at' l ≡ None → ((q : ℕ) → q ≢ l → at' q ≡ at q) → (q : ℕ) → updated l None (λ q. option_map load_in (at q)) q ≡ option_map load_in (at' q)
 load-closed at at' l gone others q = grind (arith, nat_tests)

@@ -4,7 +4,8 @@ use Rattle.pagable_tables.proofs.Words.{subst, ◌∙◌, arith, ◌⊎◌, map,
 use Rattle.pagable_tables.proofs.Words.{Mode, one, Among, times, is_shared_kind, held, pins, sharing, is_at, is_share, is_shared, is_loose, is_handle, is_owned_by, Core, Cell, greatest, Falls, fallen}
 use Rattle.pagable_tables.proofs.Words.{left_rows, IsWithin, AreNewEntries, IsHandleBefore, HandlesAreWhole, OwnersAreThere, LoadsAreWhole, IsRootWhole, IsEntryWhole, IsWhole, ArePlaced}
 use Rattle.pagable_tables.proofs.keeps.Rows.{found-so, same-left, one-left, within-goes, IsEntry, entry-is, entries-listed, ordered-entries, among-both, among-left, at-most-sum, counted, found-among}
-use Rattle.pagable_tables.proofs.{Left.{left-le, entries-none}, keeps.Told.{roomy, roomy-loads, may-own, settles, GoesOn, on-listing}, keeps.Comes.{keyed_in, type_in}}
+use Rattle.pagable_tables.proofs.{Left.{left-le, entries-none}, keeps.Told.{roomy, roomy-loads, may-own, settles, GoesOn, on-listing}, keeps.Comes.{keyed_in, type_in}, Bits.{not-so, and-false}}
+use Rattle.pagable_tables.proofs.Bits.{one-true}
 
 -- What is whole of a world before handles fall: all, but that owners of the given handles may have gone. And a cell that must be listed is there still, and unshared.
 pub record MayFall (before u : Core) (given : ℕ → Bool) : Type 0 where
@@ -30,11 +31,7 @@ module _ {before u : Core} {given : ℕ → Bool} (may : MayFall before u given)
   left = left_rows gone u.rows
 
   was : (h : HandleRow) → Among left h → Among u.rows h × (gone h.number.0 ≡ false)
-  was h among = let a = among-left (λ (x : HandleRow). not (gone x.number.0)) u.rows h among in (a.0, not-true (gone h.number.0) a.1)
-    where
-      not-true : (b : Bool) → not b ≡ true → b ≡ false
-      not-true true e = sym e
-      not-true false e = refl
+  was h among = let a = among-left (λ (x : HandleRow). not (gone x.number.0)) u.rows h among in (a.0, not-so (gone h.number.0) a.1)
 
   is-entry : (h : HandleRow) → Among entries h → IsEntry u.last.handle (length entries) h
   is-entry h among = entry-is u.last.handle entries h new among
@@ -52,10 +49,6 @@ module _ {before u : Core} {given : ℕ → Bool} (may : MayFall before u given)
       let a = sum_by-append (λ h. one (is_share n h)) left entries in
       let b = entries-none (is_share n) (λ h mode owner. ap (λ (m : Mode). h.node.0 == n && is_shared m) mode ∙ and-false (h.node.0 == n)) u.last.handle entries new in
       omega arith
-    where
-      and-false : (b : Bool) → (b && false) ≡ false
-      and-false true = refl
-      and-false false = refl
 
   -- a node with an entry is there, and unshared
   entered : (n : ℕ) → 0 < held n entries → (is_some (u.cells n) ≡ true) × (sharing n u.rows ≡ 0)
@@ -143,10 +136,6 @@ module _ {before u : Core} {given : ℕ → Bool} (may : MayFall before u given)
               let number = lists-only q found.0 (one-true (lists q found.0) found.2) in
               let f = within-goes u.rows given gone found.0 within found.1 (ap given number ∙ is) in
               absurd (cc)
-            where
-              one-true : (b : Bool) → 0 < one b → b ≡ true
-              one-true true p = refl
-              one-true false p = absurd (omega arith)
 
   after-owners : OwnersAreThere after
   after-owners =
@@ -204,14 +193,8 @@ module _ {before u : Core} {given : ℕ → Bool} (may : MayFall before u given)
           let l = at-most-sum (λ x. one (is_share n x)) u.rows y g.1 in
           sym (e.shares y g.1 (grind (arith, nat_tests))) ∙ none-of (y.node.0 == n) (is_shared y.mode) k (omega arith)
         where
-          one-true : (b : Bool) → 0 < one b → b ≡ true
-          one-true true p = refl
-          one-true false p = absurd (omega arith)
-
           none-of : (a b : Bool) → a ≡ true → one (a && b) ≡ 0 → b ≡ false
-          none-of true true e z = absurd (omega arith)
-          none-of true false e z = refl
-          none-of false b e z = absurd (cc)
+          none-of a b e z = grind (arith, nat_tests)
 
   no-entry : u.closed ≡ true → entries ≡ []
   no-entry closed = at entries refl

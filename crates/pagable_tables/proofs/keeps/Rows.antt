@@ -2,7 +2,7 @@
 use Rattle.pagable_tables.proofs.Words.{◌≡◌, ℕ, suc, zero, ◌<◌, ◌≤◌, ◌==◌, Bool, true, false, List, [], ◌∷◌, ◌++◌, sum_by, filter, if◌then◌else◌, Some, get_or, inl, inr, refl, ap, sym, ◌∙◌, arith}
 use Rattle.pagable_tables.proofs.Words.{◌⊎◌, map, cases_order, nat_tests, get_or-map, length-map, sum_by-cons, sum_by-le-sum_by, all_pairs_push, get_or_from_slice_get, slice_get_within}
 use Rattle.pagable_tables.proofs.Words.{slice_get-get_or, HandleRow, Among, find_row, is_handle, IsHandleBefore, AllPairs, ◌+◌, ◌&&◌, not, length, Option, None, subst, append_assoc, HandleNumber}
-use Rattle.pagable_tables.proofs.{Words.{Owner, Mode, one, times, is_owned_by, AreNewEntries, IsWithin}, Alive.none-found}
+use Rattle.pagable_tables.proofs.{Words.{Owner, Mode, one, times, is_owned_by, AreNewEntries, IsWithin}, Alive.none-found, Bits.and-all}
 
 -- ---- one by one
 
@@ -228,12 +228,8 @@ entries-listed q last (x ∷ xs) new =
     let rest = entries-listed q (last + 1) xs new.3 in
     let a = sum_by-cons (λ (h : HandleNumber). one (h.0 == q)) x.number (map (λ (h : HandleRow). h.number) xs) in
     let b = sum_by-cons (λ h. one (is_handle q h && is_owned_by Owner.List h)) x xs in
-    let c : one (is_handle q x) ≡ one (is_handle q x && is_owned_by Owner.List x) = grind (arith, nat_tests, and-true) in
+    let c : one (is_handle q x) ≡ one (is_handle q x && is_owned_by Owner.List x) = grind (arith, nat_tests, and-all) in
     omega arith
-  where
-    and-true : (b : Bool) → one (b && true) ≡ one b
-    and-true true = refl
-    and-true false = refl
 
 pub ordered-entries : (last : ℕ) (rows entries : List HandleRow) → ((h : HandleRow) → Among rows h → h.number.0 ≤ last) → AreNewEntries last entries → AllPairs IsHandleBefore rows
     → AllPairs IsHandleBefore (rows ++ entries)

@@ -1,6 +1,6 @@
 use Rattle.pagable_tables.proofs.Words.{◌≡◌, ℕ, ◌&&◌, false, not, length, arith, ap, sym, ◌∙◌, subst, Some, None, Error, Owner, is_in, if_there, is_owner, OpenLoad, Falls, refused_if, is_owned_in}
 use Rattle.pagable_tables.proofs.{Words.{numbers_of, load_at, core_of, plain_of, load_in, with_tables, Holdings, option_map}, Taken.{moved-less, begun-moved, loaded-moved, no-load, may-hand}}
-use Rattle.pagable_tables.proofs.{Taken.{named-there, still-listed, and-left, MayHand, load-closed, owned-given, loads-anew}, keeps.Comes.not-a-value, keeps.LoadCalls.may-hold, Begun.not-closed}
+use Rattle.pagable_tables.proofs.{Taken.{named-there, still-listed, MayHand, load-closed, owned-given, loads-anew}, Bits.and-left, keeps.Comes.not-a-value, keeps.LoadCalls.may-hold, Begun.not-closed}
 use Rattle.pagable_tables.proofs.{keeps.EndCalls.hand-over-whole, keeps.Placed.whole-so, Newer.{take-newer, later-so, closed-still}}
 use Rattle.pagable_tables.proofs.ending.load_take.Goals as goal
 
