@@ -1,26 +1,23 @@
 //! What a load reads becomes nodes.
 
 ghost use Rattle.std.specs.Prelude.{nat_eq, ◌≡◌, ℕ, ◌⊎◌, ◌<◌, ◌≤◌, length, [], Bool, Option, IfOk, IfErr, IfSome, IfNone, OnOk, Some, None, not, true, false};
-ghost use Rattle.pagable_world.specs.{Plain.Blob, Plain.is_loose_kind, Kinds.is_pinning, Kinds.mode_of, Cascade.FallsAnyhow, Cascade.nobody, World.Core, World.Alike, World.usable};
-ghost use Rattle.pagable_world.specs.{Refusals.load_fault, Refusals.references_fault, Refusals.spent, Refusals.AreHandlesFull, Refusals.Refused, Calls.IsNext, Calls.with_handle};
-ghost use Rattle.pagable_world.specs.{Calls.is_named_by, Calls.birth_fault, LoadCalls.adopt_fault, LoadCalls.adopted, LoadCalls.first_key, LoadCalls.is_owned_in, LoadCalls.Adopts};
-ghost use Rattle.pagable_world.specs.{LoadCalls.LazyCall};
-ghost use Rattle.pagable_tables.specs.{Live.live, Onward.with_tables, Onward.SoFar, Falling.has_value, Falling.IsFalling, Falling.owns_nothing, Falling.key_in, Falling.Sheds};
-ghost use Rattle.pagable_tables.specs.{Bearing.IsReady, Bearing.OnlyRoom, ByNumber.counts_at, Core.core_of, Core.plain_of, Core.IsWhole, Core.MayHold, Core.Suits, Later.AreLater};
-ghost use Rattle.pagable_tables.specs.{Asking.early_fault};
+ghost use Rattle.pagable_world.specs.{Plain.{Blob, is_loose_kind}, Kinds.{is_pinning, mode_of}, Cascade.{FallsAnyhow, nobody}, World.{Core, Alike, usable}, Refusals.{load_fault, references_fault}};
+ghost use Rattle.pagable_world.specs.{Refusals.{spent, Refused, AreHandlesFull}, Calls.{IsNext, is_named_by, birth_fault, with_handle}, LoadCalls.{adopt_fault, adopted, first_key, is_owned_in}};
+ghost use Rattle.pagable_world.specs.LoadCalls.{Adopts, LazyCall};
+ghost use Rattle.pagable_tables.specs.{Live.live, Onward.{with_tables, SoFar}, Falling.{has_value, IsFalling, owns_nothing, key_in, Sheds}, Bearing.{IsReady, OnlyRoom}, ByNumber.counts_at};
+ghost use Rattle.pagable_tables.specs.{Core.{core_of, plain_of, IsWhole, MayHold, Suits}, Later.AreLater, Asking.early_fault};
 ghost use Rattle.indexmap.specs.IndexMap.{get, spare};
 ghost use Rattle.pagable_world.specs.declared.handles.Owner.TheVariants as owners;
 
 use crate::births::{bear, first_counts, make_ready};
 use crate::cascade::fall;
-use crate::causes::{earlier, load_fault, refused_if};
 use crate::ending::give_next;
 use crate::holdings::Holdings;
 use crate::kinds::{is_loose_kind, is_pinned_kind, mode_of};
 use crate::known::usable_of;
 use crate::loading::load_row;
 use crate::making::make;
-use crate::references::references_fault;
+use crate::references::{earlier, load_fault, references_fault, refused_if};
 use crate::tables::Tables;
 use crate::{cache, loads};
 use indexmap::IndexMap;

@@ -1,9 +1,8 @@
 //! Cells that get keys.
 
 ghost use Rattle.std.specs.Prelude.{◌≡◌, ℕ, ◌<◌, ◌≤◌, Bool, not, [], List, length, Option, IsSome, nat_eq};
-ghost use Rattle.pagable_world.specs.{Plain.Blob, Calls.SetKeyCall, Calls.with_key, Cascade.Falls, Cascade.nobody};
-ghost use Rattle.pagable_tables.specs.{Core.core_of, Core.IsWhole, ByNumber.counts_at, Falling.IsFalling, Falling.owns_nothing, Falling.ValueStays, Falling.Sheds, Keyed.keyed};
-ghost use Rattle.pagable_tables.specs.{Keyed.GetsKey, Later.AreLater};
+ghost use Rattle.pagable_world.specs.{Plain.Blob, Calls.{SetKeyCall, with_key}, Cascade.{Falls, nobody}};
+ghost use Rattle.pagable_tables.specs.{Core.{core_of, IsWhole}, ByNumber.counts_at, Falling.{IsFalling, owns_nothing, ValueStays, Sheds}, Keyed.{keyed, GetsKey}, Later.AreLater};
 ghost use Rattle.indexmap.specs.IndexMap.{get};
 
 use crate::cascade::fall;

@@ -1,9 +1,8 @@
 //! Loose handles that let their pins go.
 
 ghost use Rattle.std.specs.Prelude.{◌≡◌, ℕ, [], Bool, false, not, Option, slice_get, Some, nat_eq};
-ghost use Rattle.pagable_world.specs.{Plain.Blob, Calls.UnpinCall, Calls.with_mode, Cascade.Falls, Cascade.nobody};
-ghost use Rattle.pagable_tables.specs.{Core.core_of, Core.IsWhole, Live.alive, ByNumber.counts_at, Falling.IsFalling, Falling.is_valued, Falling.owns_nothing, Falling.Sheds};
-ghost use Rattle.pagable_tables.specs.{Lowering.Lowers, Later.AreLater};
+ghost use Rattle.pagable_world.specs.{Plain.Blob, Calls.{UnpinCall, with_mode}, Cascade.{Falls, nobody}};
+ghost use Rattle.pagable_tables.specs.{Core.{core_of, IsWhole}, Live.alive, ByNumber.counts_at, Falling.{IsFalling, is_valued, owns_nothing, Sheds}, Lowering.Lowers, Later.AreLater};
 ghost use Rattle.indexmap.specs.IndexMap.{get};
 ghost use Rattle.pagable_world.specs.declared.rows.Mode.TheVariants as modes;
 
