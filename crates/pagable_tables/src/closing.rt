@@ -3,7 +3,7 @@
 ghost use Rattle.std.specs.Prelude.{◌≡◌, ℕ, ◌≤◌, ◌||◌, ◌==◌, [], length, Bool, true, false, None, Option, Ok, nat_eq};
 ghost use Rattle.pagable_world.specs.{Plain.Blob, World.Core, Cascade.{FallsAnyhow, nobody}, Calls.{CloseCall, is_listed}, LoadCalls.is_owned_in};
 ghost use Rattle.indexmap.specs.IndexMap.{get};
-ghost use Rattle.pagable_tables.specs.{Live.live, ByNumber.counts_at, Falling.{IsFalling, owns_nothing, Sheds}, Onward.{with_tables, SoFar}, Closing.{entered, with_list, AreEntries}, Core.core_of};
+ghost use Rattle.pagable_tables.specs.{Live.live, ByNumber.counts_at, Falling.{IsFalling, owns_nothing, Sheds}, Onward.{with_tables, SoFar, entered, with_list, AreEntries}, Core.core_of};
 ghost use Rattle.pagable_tables.specs.{Core.IsWhole, Later.AreLater};
 ghost use Rattle.pagable_world.specs.declared.handles.Owner.TheVariants as owners;
 

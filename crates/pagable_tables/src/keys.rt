@@ -2,7 +2,7 @@
 
 ghost use Rattle.std.specs.Prelude.{◌≡◌, ℕ, ◌<◌, ◌≤◌, Bool, not, [], List, length, Option, IsSome, nat_eq};
 ghost use Rattle.pagable_world.specs.{Plain.Blob, Calls.{SetKeyCall, with_key}, Cascade.{Falls, nobody}};
-ghost use Rattle.pagable_tables.specs.{Core.{core_of, IsWhole}, ByNumber.counts_at, Falling.{IsFalling, owns_nothing, ValueStays, Sheds}, Keyed.{keyed, GetsKey}, Later.AreLater};
+ghost use Rattle.pagable_tables.specs.{Core.{core_of, IsWhole}, ByNumber.counts_at, Falling.{IsFalling, owns_nothing, ValueStays, Sheds}, Lowering.{keyed, GetsKey}, Later.AreLater};
 ghost use Rattle.indexmap.specs.IndexMap.{get};
 
 use crate::cascade::fall;

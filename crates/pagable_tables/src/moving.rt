@@ -3,8 +3,8 @@
 ghost use Rattle.std.specs.Prelude.{◌≡◌, ℕ, slice_get, Some, vec_capacity, false, ◌<◌, ◌≤◌, ◌||◌, [], length, not};
 ghost use Rattle.pagable_world.specs.{Cascade.only_handle, Calls.{moved, is_named_by}, Plain.{is_in, if_there}, Kinds.{is_owner, find_row}, Refusals.{named_fault, refused_if}, LoadCalls.numbers_of};
 ghost use Rattle.pagable_world.specs.{declared.handles.HandleRow.HandleRow, World.Core};
-ghost use Rattle.pagable_tables.specs.{Falling.{is_valued, IsFalling, owns_nothing}, Owning.StandsWith, Live.{live, alive, AreSound, IsNext}, declared.holdings.Holdings.Holdings, Named.seen};
-ghost use Rattle.pagable_tables.specs.Named.{named_at, IsNamed};
+ghost use Rattle.pagable_tables.specs.{Falling.{is_valued, IsFalling, owns_nothing}, Owning.{StandsWith, seen}, Live.{live, alive, AreSound, IsNext}, declared.holdings.Holdings.Holdings};
+ghost use Rattle.pagable_tables.specs.Owning.{named_at, IsNamed};
 ghost use Rattle.pagable_model.specs.declared.error.Error.TheVariants as errors;
 
 use crate::handles;

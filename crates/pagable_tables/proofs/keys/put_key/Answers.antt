@@ -7,26 +7,14 @@ returns-clause-falling c =
     let n = c.args.node in
     let counts = c.in-Some.counts in
     let b = counts.pins == 0 in
+    let e = c.set_counts.ensures in
     let top : c.top_after-t.result ≡ (if b then n else t.top) = c.top_after-t.ensures ∙ ap
     (λ (l : Counts). if is_new false l.is_falling then n else t.top) c.counts_keyed-with_key.ensures ∙ key-top b n t.top in (
       if b then n ∷ [] else [],
       record {
         sound = c.requires.steady.sound;
         next = c.requires.steady.next;
-        fits =
-            grind (
-              arith,
-              nat_tests,
-              key-fits,
-              c.requires.steady.fits,
-              c.counts_of.ensures,
-              c.in-Some.is,
-              c.requires.key,
-              c.set_counts.ensures.here,
-              c.counts_keyed-with_key.ensures,
-              c.set_counts.ensures.others,
-              c.set_counts.ensures.refs,
-            );
+        fits = grind (arith, nat_tests, key-fits, c.requires.steady.fits, c.counts_of.ensures, c.in-Some.is, c.requires.key, e.here, c.counts_keyed-with_key.ensures, e.others, e.refs);
       },
       long-if b n [],
     )

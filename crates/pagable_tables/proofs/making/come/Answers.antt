@@ -5,19 +5,8 @@ use Rattle.pagable_tables.proofs.making.come.Goals as goal
 
 pub counts_more-more-requires-clause-pins : goal.counts_more-more-requires-clause-pins
 counts_more-more-requires-clause-pins c =
-    grind (
-      arith,
-      nat_tests,
-      live,
-      pins-le-held,
-      held-few,
-      length-live-le,
-      c.counts_of.ensures,
-      c.in-Some.is,
-      c.requires.steady.fits.pinned,
-      c.places_taken.ensures.count,
-      c.places_taken.ensures.small,
-    )
+    let p = c.places_taken.ensures in
+    grind (arith, nat_tests, live, pins-le-held, held-few, length-live-le, c.counts_of.ensures, c.in-Some.is, c.requires.steady.fits.pinned, p.count, p.small)
 
 pub counts_more-more-requires-clause-holds : goal.counts_more-more-requires-clause-holds
 counts_more-more-requires-clause-holds c =

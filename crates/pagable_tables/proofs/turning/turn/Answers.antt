@@ -8,18 +8,8 @@ unreachable-requires c = grind (arith, nat_tests, row-le-live, held-here, c.requ
 
 pub counts_pinned-pinned-requires : goal.counts_pinned-pinned-requires
 counts_pinned-pinned-requires c =
-    grind (
-      arith,
-      nat_tests,
-      pins-le-held,
-      held-few,
-      length-live-le,
-      c.counts_of.ensures,
-      c.in-Some.is,
-      c.requires.whole.steady.fits.pinned,
-      c.places_taken.ensures.count,
-      c.places_taken.ensures.small,
-    )
+    let p = c.places_taken.ensures in
+    grind (arith, nat_tests, pins-le-held, held-few, length-live-le, c.counts_of.ensures, c.in-Some.is, c.requires.whole.steady.fits.pinned, p.count, p.small)
 
 pub returns-clause-turned : goal.returns-clause-turned
 returns-clause-turned c stored closed failures =
