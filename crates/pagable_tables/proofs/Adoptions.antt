@@ -5,7 +5,7 @@ use Rattle.pagable_tables.proofs.Words.{load_fault, OwnsLoad, Refused, birth_fau
 use Rattle.pagable_tables.proofs.Words.{Blob, type_of, or_else, references_fault, AreHandlesFull, FallsAnyhow, with_handle, is_named_by, adopt_fault, first_key, Adopts, early_fault, OnlyRoom, Tables}
 use Rattle.pagable_tables.proofs.{Words.{ArePlaced, core_of, plain_of, ◌&&◌, ◌≢◌, ◌⊎◌, with_cached, is_usable, recall_fault, RecallCall, AsksKnown}, Opened.{earlier-first, load-low, no-load-fault}}
 use Rattle.pagable_tables.proofs.{Opened.{late, kind-late, references-low, spent-late}, Worlds.{still, usable-same}, Readied.{fault-by, room-alike}, keeps.EndCalls.{adopt-whole, both-none}}
-use Rattle.pagable_tables.proofs.keeps.Opened.{opened}
+use Rattle.pagable_tables.proofs.keeps.Fallen.{opened}
 use Rattle.pagable_world.specs.Calls.{IsNext}
 use Rattle.pagable_world.specs.Pager as pager
 

@@ -9,7 +9,7 @@ use Rattle.pagable_tables.proofs.{Words.{has_value, is_valued, pins_in, with_tab
 use Rattle.pagable_tables.proofs.{keeps.Told.alike-whole, keeps.Placed.whole-so, keeps.EndCalls.both-none, Newer.{OnlyNewer, loaded-mode, newer-then, newer-moved, newer-mode, newer-handle}}
 use Rattle.pagable_tables.proofs.{Newer.newer-falls, Begun.{begins, begun}, Taken.{load-closed, owned-given, moved-times, loaded-moved, no-load}, Joined.{moved-turned, turned-sum}, Named.moved-nobody}
 use Rattle.pagable_tables.proofs.{Named.named-none, Regiven.{loaded, passes-here, passes-none}, Stays.{seen-before, stays-pinned, not-named, same-value}, keeps.HandleCalls.named-unlisted}
-use Rattle.pagable_tables.proofs.{keeps.Comes.{not-list, not-a-value}, keeps.LoadCalls.may-hold, keeps.Moved.moved-to-value, keeps.Rows.{among-map, found-among, once, ordered-map, sum-map}}
+use Rattle.pagable_tables.proofs.{keeps.HandleCalls.moved-to-value, keeps.Comes.{not-list, not-a-value}, keeps.LoadCalls.may-hold, keeps.Rows.{among-map, found-among, once, ordered-map, sum-map}}
 use Rattle.pagable_tables.{proofs.Bits.{and-zero, and-left, and-all}, specs.Core.IsWhole}
 
 typed-so : (a b : ℕ) → refused_if (not (a == b)) Error.WrongKind ≡ None → a ≡ b

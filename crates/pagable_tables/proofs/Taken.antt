@@ -4,8 +4,8 @@ use Rattle.pagable_tables.proofs.Words.{sum_by-cons, HandleNumber, LoadNumber, H
 use Rattle.pagable_tables.proofs.Words.{Core, HasRoom, MayOwnLoad, load_fault, named_fault, nobody, moved, without_load, numbers_of, hand_over_fault, Tables, Holdings, live, is_valued, with_tables}
 use Rattle.pagable_tables.proofs.Words.{is_plain_pin, SoFar, core_of, named_at, IsNamed, ◌≤◌, Some, ◌≢◌, Result, option_map, Error, updated, if_there, OpenLoad, Falls, is_owned_in, LoadRow, passes_in}
 use Rattle.pagable_tables.proofs.{Words.{load_in, ◌+◌, ◌++◌, filter, Ok, TakeCall, is_workers_load, with_worker, left_load}, Begun.{begins, begun}, Handed.{seen-all, in-there}, Regiven.loaded}
-use Rattle.pagable_tables.proofs.{keeps.Comes.not-list, keeps.EndCalls.{both-none, handed-mine, asker-owns}, keeps.LoadCalls.may-hold, keeps.Moved.moved-to-holder, keeps.Rows.{found-among, once}}
-use Rattle.pagable_tables.specs.{Core.IsWhole, Giving.TakesWorker}
+use Rattle.pagable_tables.proofs.{keeps.Comes.not-list, keeps.EndCalls.{both-none, handed-mine, asker-owns}, keeps.LoadCalls.may-hold, keeps.HandleCalls.moved-to-holder, keeps.Rows.found-among}
+use Rattle.pagable_tables.{proofs.keeps.Rows.once, specs.{Core.IsWhole, Giving.TakesWorker}}
 use Rattle.pagable_model.specs.declared.numbers.WorkerNumber.{WorkerNumber}
 use Rattle.pagable_world.specs.Pager as pager
 

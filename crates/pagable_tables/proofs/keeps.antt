@@ -4,8 +4,6 @@ pub mod Told
 pub mod Placed
 pub mod Comes
 pub mod Fallen
-pub mod Opened
-pub mod Moved
 pub mod HandleCalls
 pub mod ListCalls
 pub mod CacheCalls

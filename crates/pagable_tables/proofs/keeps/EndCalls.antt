@@ -6,10 +6,10 @@ use Rattle.pagable_tables.proofs.Words.{earlier, moved, with_mode, is_named_by, 
 use Rattle.pagable_tables.proofs.Words.{HandOverCall, DropCall, IsWhole, MayOwnLoad, ArePlaced, ◌+◌, OptionalDataKey, Kind, type_of, is_loose_kind, is_shared, mode_of, has_key, OwnsLoad, row_of}
 use Rattle.pagable_tables.proofs.{Words.{next_node, with_handle, with_node, with_cached, GetsKnown, adopted, first_key, LazyCall, AdoptCall, IsEntryWhole, MayHold}, Worlds.owner-same}
 use Rattle.pagable_tables.proofs.{keeps.Rows.{among-both, among-one, among-map, among-to, found-among, once, ordered-map, among-last, found-so}, keeps.Told.{roomy, roomy-whole, roomy-loads}}
-use Rattle.pagable_tables.proofs.{keeps.Told.{alike-whole, may-own, settles, GoesOn, stays-on, then-on, on-listing}, keeps.Comes.{not-list, handle-on}, keeps.Moved.{moved-number, moved-on}}
-use Rattle.pagable_tables.proofs.{keeps.Moved.{moved-to-value, moved-to-holder}, keeps.Fallen.{MayFall, may-fall}, keeps.Opened.{opened, alike-opened, falls-opened, references-opened}}
-use Rattle.pagable_tables.proofs.{keeps.HandleCalls.{pin-comes, pin-on, IsMine, named-mine, named-unlisted, born, born-whole, cell-new, no-references, moved-world}, keeps.LoadCalls.may-hold}
-use Rattle.pagable_tables.proofs.keeps.CacheCalls.{mode-shared, known-whole, cached-whole, shared-alike}
+use Rattle.pagable_tables.proofs.{keeps.Told.{alike-whole, may-own, settles, GoesOn, stays-on, then-on, on-listing}, keeps.Comes.{not-list, handle-on}, keeps.HandleCalls.{moved-number, moved-on}}
+use Rattle.pagable_tables.proofs.keeps.HandleCalls.{moved-to-value, moved-to-holder, pin-comes, pin-on, IsMine, named-mine, named-unlisted, born, born-whole, cell-new, no-references, moved-world}
+use Rattle.pagable_tables.proofs.{keeps.Fallen.{MayFall, may-fall, opened, alike-opened, falls-opened, references-opened}, keeps.LoadCalls.may-hold, keeps.CacheCalls.{mode-shared, known-whole}}
+use Rattle.pagable_tables.proofs.keeps.CacheCalls.{cached-whole, shared-alike}
 
 -- ---- a load closes
 

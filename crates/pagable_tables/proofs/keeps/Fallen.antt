@@ -1,11 +1,11 @@
--- The world is whole once handles have fallen.
+-- The world is whole once handles have fallen, whether the storage was closed or not.
 use Rattle.pagable_tables.proofs.Words.{◌≡◌, ℕ, suc, zero, ◌+◌, ◌<◌, ◌≤◌, ◌==◌, ◌&&◌, Bool, true, false, not, List, [], ◌∷◌, length, filter, if◌then◌else◌, Option, Some, None, inl, inr, refl, ap, sym}
 use Rattle.pagable_tables.proofs.Words.{subst, ◌∙◌, arith, ◌⊎◌, map, is_some, nat_lt, Result, nat_tests, AllPairs-filter, sum_by-append, Error, HandleNumber, LoadNumber, NodeNumber, HandleRow, Owner}
 use Rattle.pagable_tables.proofs.Words.{Mode, one, Among, times, is_shared_kind, held, pins, sharing, is_at, is_share, is_shared, is_loose, is_handle, is_owned_by, Core, Cell, greatest, Falls, fallen}
-use Rattle.pagable_tables.proofs.Words.{left_rows, IsWithin, AreNewEntries, IsHandleBefore, HandlesAreWhole, OwnersAreThere, LoadsAreWhole, IsRootWhole, IsEntryWhole, IsWhole, ArePlaced}
-use Rattle.pagable_tables.proofs.keeps.Rows.{found-so, same-left, one-left, within-goes, IsEntry, entry-is, entries-listed, ordered-entries, among-both, among-left, at-most-sum, counted, found-among}
-use Rattle.pagable_tables.proofs.{Left.{left-le, entries-none}, keeps.Told.{roomy, roomy-loads, may-own, settles, GoesOn, on-listing}, keeps.Comes.{keyed_in, type_in}, Bits.{not-so, and-false}}
-use Rattle.pagable_tables.proofs.Bits.{one-true}
+use Rattle.pagable_tables.proofs.Words.{left_rows, IsWithin, AreNewEntries, IsHandleBefore, HandlesAreWhole, OwnersAreThere, LoadsAreWhole, IsRootWhole, IsEntryWhole, IsWhole, ArePlaced, ArcRef}
+use Rattle.pagable_tables.proofs.{Words.{or_else, Alike, references_fault, reference_fault}, keeps.Rows.{found-so, same-left, one-left, within-goes, IsEntry, entry-is, entries-listed}}
+use Rattle.pagable_tables.proofs.{keeps.Rows.{ordered-entries, among-both, among-left, at-most-sum, counted, found-among}, Left.{left-le, entries-none}, keeps.Told.{roomy, roomy-loads, may-own}}
+use Rattle.pagable_tables.proofs.{keeps.Told.{settles, GoesOn, on-listing}, keeps.Comes.{keyed_in, type_in}, Bits.{not-so, and-false, one-true}}
 
 -- What is whole of a world before handles fall: all, but that owners of the given handles may have gone. And a cell that must be listed is there still, and unshared.
 pub record MayFall (before u : Core) (given : ℕ → Bool) : Type 0 where
@@ -242,3 +242,20 @@ may-fall {before} {u} given was whole on =
       shut = whole.shut;
       listing = on-listing was whole.handles on;
     }
+
+abbrev pub opened : Core → Core
+opened w = record w { closed = false }
+
+pub alike-opened : {w w' : Core} → Alike w w' → Alike (opened w) (opened w')
+alike-opened a = grind (arith, nat_tests)
+
+-- what has fallen leaves it whole
+pub falls-opened : {before u w' : Core} {given : ℕ → Bool} {r : Result (Unit {0}) Error} → MayFall (opened before) (opened u) given → Falls before u given r w' → ArePlaced (opened w')
+    → IsWhole (opened w')
+falls-opened may f placed = settles (fallen-whole may f.gone f.entries f.set.holds f.new (λ n some. let m = (f.only n some).0 in (m.pinned, m.unshared, refl)) f.within) (alike-opened f.leaves) placed
+
+-- references are as good as they are
+pub references-opened : (w : Core) (owner : Owner) (seen : List ℕ) (refs : List ArcRef) → references_fault (opened w) owner seen refs ≡ references_fault w owner seen refs
+unfolding references_fault
+references-opened w owner seen [] = refl
+references-opened w owner seen (r ∷ rs) = ap (or_else (reference_fault w owner seen r)) (references-opened w owner (r.handle.0 ∷ seen) rs)

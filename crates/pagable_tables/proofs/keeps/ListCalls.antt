@@ -4,8 +4,8 @@ use Rattle.pagable_tables.proofs.Words.{slice_get, get_or, Result, nat_tests, su
 use Rattle.pagable_tables.proofs.Words.{Among, times, is_owner, is_owned_by, is_unpinned, Core, only_handle, moved, ScheduleCall, TakeCall, IsWhole, ArePlaced, MayHold, is_some, OptionalDataKey}
 use Rattle.pagable_tables.proofs.{Words.{NodeNumber, if_there, is_shared, sharing, Cell, nobody, with_key, ReleaseCall, UnpinCall, SetKeyCall}, keeps.Rows.{among-to, counted, found-among, once}}
 use Rattle.pagable_tables.proofs.{keeps.Rows.{only-row, ordered-map, sum-map}, keeps.Told.{roomy, roomy-whole, settles, alike-whole, may-own, stays-on, GoesOn, moded-whole, moded-on}}
-use Rattle.pagable_tables.proofs.{keeps.Comes.{not-list, keyed_in, type_in, unshared-node}, keeps.Moved.{lists, each-moved, moved-number, moved-so}, keeps.Fallen.{may-fall, falls-whole}}
-use Rattle.pagable_tables.proofs.{keeps.Opened.{opened, alike-opened, falls-opened}, keeps.HandleCalls.loose-unshared}
+use Rattle.pagable_tables.proofs.{keeps.Comes.{not-list, keyed_in, type_in, unshared-node}, keeps.HandleCalls.{lists, each-moved, moved-number, moved-so, loose-unshared}, keeps.Fallen.may-fall}
+use Rattle.pagable_tables.proofs.keeps.Fallen.{falls-whole, opened, alike-opened, falls-opened}
 use Rattle.std.specs.List.{remove}
 
 -- The handle h of this row alone moves.

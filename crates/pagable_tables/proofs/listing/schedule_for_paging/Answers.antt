@@ -1,5 +1,5 @@
 use Rattle.pagable_tables.proofs.Words.{◌∙◌, ap, refl, subst, false, inl, inr, arith, rules, Ok, None, not, is_unpinned, only_handle, Falls, is_valued, plain_of, core_of, nat_tests}
-use Rattle.pagable_tables.proofs.{keeps.Comes.not-a-value, keeps.Fallen.may-fall, keeps.Told.{stays-on, roomy-whole, alike-whole}, keeps.ListCalls.schedule-whole, keeps.Opened.falls-opened}
+use Rattle.pagable_tables.proofs.{keeps.Comes.not-a-value, keeps.Fallen.{may-fall, falls-opened}, keeps.Told.{stays-on, roomy-whole, alike-whole}, keeps.ListCalls.schedule-whole}
 use Rattle.pagable_tables.proofs.{keeps.Placed.whole-so, Begun.{begun-whole, not-closed, shut-then, open-then}, Named.alike-listed, Worlds.{still, owner-same}, Newer.{later-so, schedule-newer}}
 use Rattle.pagable_tables.proofs.listing.schedule_for_paging.Goals as goal
 

@@ -1,5 +1,5 @@
 use Rattle.pagable_tables.proofs.{Words.{not, refl, None, arith, core_of, plain_of, gives_row, Giving}, Begun.{begun-whole, not-closed}, Taken.passes-given, Newer.{newer-falls, later-so}}
-use Rattle.pagable_tables.proofs.{keeps.Fallen.may-fall, keeps.Told.{stays-on, roomy-whole}, keeps.Opened.falls-opened, keeps.Placed.whole-so}
+use Rattle.pagable_tables.proofs.{keeps.Fallen.{may-fall, falls-opened}, keeps.Told.{stays-on, roomy-whole}, keeps.Placed.whole-so}
 use Rattle.pagable_world.specs.Workers.{is_workers_at}
 use Rattle.pagable_tables.proofs.workers.release_node.Goals as goal
 
