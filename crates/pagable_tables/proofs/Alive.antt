@@ -99,7 +99,8 @@ changed-none : (q : ℕ) (f : HandleRow → HandleRow) (xs : List HandleRow) →
 changed-none q f [] none = refl
 changed-none q f (x ∷ xs) none = let a = sum_by-cons (λ h. one (is_handle q h)) x xs in grind (arith, nat_tests, changed-none q f xs)
 
-changed-one : (q : ℕ) (f : HandleRow → HandleRow) (xs ys : List HandleRow) (x : HandleRow) → x.number.0 ≡ q → times (is_handle q) xs ≡ 0 → times (is_handle q) ys ≡ 0 → changed (is_handle q) f (xs ++ x ∷ ys) ≡ xs ++ f x ∷ ys
+changed-one : (q : ℕ) (f : HandleRow → HandleRow) (xs ys : List HandleRow) (x : HandleRow) → x.number.0 ≡ q → times (is_handle q) xs ≡ 0 → times (is_handle q) ys ≡ 0
+    → changed (is_handle q) f (xs ++ x ∷ ys) ≡ xs ++ f x ∷ ys
 changed-one q f [] ys x here below above = grind (arith, nat_tests, changed-none q f ys)
 changed-one q f (y ∷ xs) ys x here below above = let a = sum_by-cons (λ h. one (is_handle q h)) y xs in grind (arith, nat_tests, changed-one q f xs ys x)
 

@@ -18,7 +18,10 @@ pub newer-alike : {w w' : Core} → Alike w w' → OnlyNewer w w'
 newer-alike {w} {w'} a = record { last = (let e = ap (λ (l : Last). l.handle) a.last in omega arith); owned = λ l q own. inl (sym (ap (loaded l q) a.rows) ∙ own) }
 
 pub newer-then : {r s t : List HandleRow} {i j k : ℕ} → IsNewer r s i j → IsNewer s t j k → IsNewer r t i k
-newer-then p q = record { last = (let x = p.last in let y = q.last in omega arith); owned = λ l n own. elim (q.owned l n own) [ inl there ↦ p.owned l n there | inr past ↦ inr (let x = p.last in omega arith) ] }
+newer-then p q = record {
+  last = (let x = p.last in let y = q.last in omega arith);
+  owned = λ l n own. elim (q.owned l n own) [ inl there ↦ p.owned l n there | inr past ↦ inr (let x = p.last in omega arith) ];
+}
 
 loaded-push : (l : LoadNumber) (q : ℕ) (rows : List HandleRow) (x : HandleRow) → loaded l q (rows ++ x ∷ []) ≡ true → (loaded l q rows ≡ true) ⊎ (x.number.0 ≡ q)
 loaded-push l q rows x own = grind (arith, nat_tests, found-push, found-among)

@@ -64,7 +64,8 @@ no-fault w me h fits row found own fit = grind (arith, nat_tests)
 numbers-late : (so : Bool) (m n : ℕ) (f : Error) → where_so so (earlier (spent m) (spent n)) ≡ Some f → 3 ≤ rank f
 numbers-late so m n f is = grind (arith, nat_tests)
 
-pub begin-first : (w : Core) (me : Owner) (h : HandleNumber) (fits : Mode → Bool) (e : Error) (so : Bool) (m n : ℕ) → handle_fault w me h fits ≡ Some e → earlier (handle_fault w me h fits) (where_so so (earlier (spent m) (spent n))) ≡ Some e
+pub begin-first : (w : Core) (me : Owner) (h : HandleNumber) (fits : Mode → Bool) (e : Error) (so : Bool) (m n : ℕ)
+    → handle_fault w me h fits ≡ Some e → earlier (handle_fault w me h fits) (where_so so (earlier (spent m) (spent n))) ≡ Some e
 begin-first w me h fits e so m n is = handle-first w me h fits e _ is (numbers-late so m n)
 
 pub unspent : (last : ℕ) → last < greatest → spent last ≡ None

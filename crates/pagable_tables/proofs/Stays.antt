@@ -65,7 +65,8 @@ unshared : (b : Bool) (mode : Mode) → (b && is_pinning mode) ≡ false → (b 
 unshared b mode e = grind (arith, nat_tests)
 
 -- where a handle of w has come and stays, pins go to 0 just where they would have
-pub stays-pinned : (w u w' : Core) (given : ℕ → Bool) (r : Result (Unit {0}) Error) (x : HandleRow) → u.rows ≡ w.rows ++ x ∷ [] → AllPairs IsHandleBefore u.rows → is_valued x.owner ≡ false → given x.number.0 ≡ false → Falls u u given r w'
+pub stays-pinned : (w u w' : Core) (given : ℕ → Bool) (r : Result (Unit {0}) Error) (x : HandleRow) → u.rows ≡ w.rows ++ x ∷ [] → AllPairs IsHandleBefore u.rows
+    → is_valued x.owner ≡ false → given x.number.0 ≡ false → Falls u u given r w'
     → (n : ℕ) → pins n w'.rows ≡ 0 → (pins n u.rows ≡ pins n w.rows) × (sharing n u.rows ≡ sharing n w.rows)
 stays-pinned w u w' given r x rows ordered plain kept falls n none = split (is_pin n x) refl
   where
@@ -106,7 +107,8 @@ not-named w l refs whole good q above = split (is_named_by refs q) refl
     split false e = refl
     split true e = absurd (let g = owned-given w (Owner.Load l) q whole (named-loaded w l refs good q e) in omega arith)
 
-pub swapped : (w : Core) (node : NodeNumber) (mode : Mode) (me : Owner) → AllPairs IsHandleBefore (with_handle w node mode me).rows → is_valued me ≡ false → {w' : Core} {given : ℕ → Bool} {r : Result (Unit {0}) Error}
+pub swapped : (w : Core) (node : NodeNumber) (mode : Mode) (me : Owner) → AllPairs IsHandleBefore (with_handle w node mode me).rows
+    → is_valued me ≡ false → {w' : Core} {given : ℕ → Bool} {r : Result (Unit {0}) Error}
     → Falls (with_handle w node mode me) (with_handle w node mode me) given r w' → given (w.last.handle + 1) ≡ false → Falls w (with_handle w node mode me) given r w'
 swapped w node mode me ordered plain {w'} {given} {r} f spared =
     let u = with_handle w node mode me in
@@ -124,7 +126,8 @@ values-still t new was after rows cells n falls = grind (arith, nat_tests)
 module _ (t new : Tables) (stored : ℕ → Option Blob) (closed : Bool) (failures : ℕ) (node : NodeNumber) (mode : Mode) (me : Owner) (after : IsWhole new)
     (a : Alike (with_handle (core_of t stored closed failures) node mode me) (core_of new stored closed failures)) where
   -- nothing has gone since the handle came
-  pub begun-made : (lists : Bool) → lists ≡ not closed → SoFar (with_handle (core_of t stored closed failures) node mode me) (with_handle (core_of t stored closed failures) node mode me) nobody lists (record new.holdings { unlisted = None })
+  pub begun-made : (lists : Bool) → lists ≡ not closed
+      → SoFar (with_handle (core_of t stored closed failures) node mode me) (with_handle (core_of t stored closed failures) node mode me) nobody lists (record new.holdings { unlisted = None })
   begun-made lists e =
       let u = with_handle (core_of t stored closed failures) node mode me in
       let b = begins new stored closed lists failures after e in

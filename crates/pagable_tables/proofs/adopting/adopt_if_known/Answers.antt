@@ -14,7 +14,8 @@ make-requires-clause-suits g c =
     (known-suits c.requires.whole.core c.args.kind.0 c.args.key c.in-Some-usable_of.node.0 (sym (c.in-Some-usable_of.ensures (λ key. None) false 0)))
 
 pub make-requires-clause-holder : goal.make-requires-clause-holder
-make-requires-clause-holder g c = ap is_some (owner-of (plain_of c.args.t.now) c.args.me c.args.load c.args.kind c.args.key c.args.node_type c.args.references.now (sym (c.adopt_fault.ensures (λ key. None) false 0) ∙ c.in_default.is)).1.stands_open
+make-requires-clause-holder g c =
+    ap is_some (owner-of (plain_of c.args.t.now) c.args.me c.args.load c.args.kind c.args.key c.args.node_type c.args.references.now (sym (c.adopt_fault.ensures (λ key. None) false 0) ∙ c.in_default.is)).1.stands_open
 
 pub returns-in-Ok-clause-known : goal.returns-in-Ok-clause-known
 returns-in-Ok-clause-known g c stored closed failures e =
@@ -34,7 +35,8 @@ returns-in-Ok-clause-known g c stored closed failures e =
     let a : Alike u (core_of t1 stored closed failures) = subst (λ (mode : Mode). Alike (with_handle w node mode owner) (core_of t1 stored closed failures)) c.mode_of.ensures m.1 in
     let some = c.give_named.ensures.falls u u (begun-made t t1 stored closed failures node mode owner c.in-Ok.ensures.whole a c.args.lists e) (let b = ap length a.rows in omega arith)
     (λ q named. loaded-append l q w.rows _ (named-loaded w l rs fit q named)) in
-    let kept = not-named (plain_of t) l rs c.requires.whole.core.handles (fitting (plain_of t) c.args.me l kind c.args.key c.args.node_type rs (sym (c.adopt_fault.ensures (λ key. None) false 0) ∙ c.in_default.is)) (t.holdings.last_handle + 1) (omega arith) in
+    let kept = not-named (plain_of t) l rs c.requires.whole.core.handles
+    (fitting (plain_of t) c.args.me l kind c.args.key c.args.node_type rs (sym (c.adopt_fault.ensures (λ key. None) false 0) ∙ c.in_default.is)) (t.holdings.last_handle + 1) (omega arith) in
     let falls = swapped w node mode owner (subst (AllPairs IsHandleBefore) a.rows c.in-Ok.ensures.whole.core.handles.ordered) refl some.falls kept in
     let anew : Falls w u (is_named_by rs) some.told (core_of (record t1 { holdings = c.give_named.new.t }) stored closed failures) =
     subst (λ (z : Tables). Falls w u (is_named_by rs) some.told (core_of (record z { holdings = c.give_named.new.t }) stored closed failures)) (sym c.in-Ok.ensures.same) falls in

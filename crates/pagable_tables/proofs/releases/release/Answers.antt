@@ -3,7 +3,8 @@ use Rattle.pagable_tables.proofs.{keeps.Placed.whole-so, Worlds.{still, owner-sa
 use Rattle.pagable_tables.proofs.releases.release.Goals as goal
 
 pub returns-in-Err-clause-released : goal.returns-in-Err-clause-released
-returns-in-Err-clause-released g c stored closed failures e = record { does = inl (record { e = c.in-Err.e; why = c.in-Err.ensures.fault stored closed failures any_mode; told = refl; stays = still _ }) }
+returns-in-Err-clause-released g c stored closed failures e =
+    record { does = inl (record { e = c.in-Err.e; why = c.in-Err.ensures.fault stored closed failures any_mode; told = refl; stays = still _ }) }
 
 pub returns-clause-released : goal.returns-clause-released
 returns-clause-released g c stored closed failures e =

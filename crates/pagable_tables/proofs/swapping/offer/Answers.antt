@@ -22,7 +22,8 @@ returns-in-Ok-Some-clause-offered g c stored closed failures e =
     let fell = c.give_number.ensures.falls u u made (let a = ap length alike.rows in omega arith) in
     let given = found-among c.args.handle.0 w.rows row owns.live in
     let spared : only_handle c.args.handle (w.last.handle + 1) ≡ false = let a = (c.requires.whole.core.handles.numbered row given.0).1 in let b = given.1 in grind (arith, nat_tests) in
-    let falls = swapped w (record { 0 = n }) (mode_of c.args.kind.0) c.args.me (subst (AllPairs IsHandleBefore) alike.rows c.cache_put.ensures.whole.core.handles.ordered) (not-a-value (plain_of t) c.args.me c.requires.holder) fell.falls spared in
+    let falls = swapped w (record { 0 = n }) (mode_of c.args.kind.0) c.args.me (subst (AllPairs IsHandleBefore) alike.rows c.cache_put.ensures.whole.core.handles.ordered)
+    (not-a-value (plain_of t) c.args.me c.requires.holder) fell.falls spared in
     let anew : Falls w u (only_handle c.args.handle) fell.told (core_of (record t1 { holdings = c.give_number.new.t }) stored false failures) =
     subst (λ (z : Tables). Falls w u (only_handle c.args.handle) fell.told (core_of (record z { holdings = c.give_number.new.t }) stored false failures)) (sym (subst (λ f. IfSome f (λ k. t1 ≡ record t { holdings = t1.holdings })) c.in-Ok-Some.field-0-is c.in-Ok-Some.ensures.known)) falls in
     subst (λ b. OfferCall (core_of t stored b failures) c.args.me c.args.kind c.args.key c.args.handle (Ok (Some c.in-Ok-Some.known)) (core_of (record t1 { holdings = c.give_number.new.t }) stored b failures))
@@ -36,7 +37,8 @@ returns-in-Ok-Some-clause-whole g c =
 pub returns-in-Ok-Some-clause-sheds : goal.returns-in-Ok-Some-clause-sheds
 returns-in-Ok-Some-clause-sheds g c there =
     let (row, owns, typed, (n, known, next, alike)) = (subst (λ f. Offered (core_of c.args.t.now (λ key. None) false 0) c.args.me c.args.kind c.args.key c.args.handle (Ok f) (core_of c.cache_put.new.t (λ key. None) false 0)) c.in-Ok-Some.field-0-is (c.in-Ok-Some.ensures.offered (λ key. None) 0)).answers in
-    stays-first (values-made c.args.t.now c.cache_put.new.t (λ key. None) false 0 (record { 0 = n }) (mode_of c.args.kind.0) c.args.me c.cache_put.ensures.whole alike c.requires.whole (there n known)) c.give_number.ensures.sheds
+    stays-first (values-made c.args.t.now c.cache_put.new.t (λ key. None) false 0 (record { 0 = n })
+    (mode_of c.args.kind.0) c.args.me c.cache_put.ensures.whole alike c.requires.whole (there n known)) c.give_number.ensures.sheds
 
 pub returns-in-Ok-None-clause-offered : goal.returns-in-Ok-None-clause-offered
 returns-in-Ok-None-clause-offered g c stored closed failures e =

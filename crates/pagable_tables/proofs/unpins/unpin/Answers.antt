@@ -3,7 +3,8 @@ use Rattle.pagable_tables.proofs.{keeps.ListCalls.unpin-whole, keeps.Placed.whol
 use Rattle.pagable_tables.proofs.unpins.unpin.Goals as goal
 
 pub returns-in-Err-clause-unpinned : goal.returns-in-Err-clause-unpinned
-returns-in-Err-clause-unpinned g c stored closed failures e = record { does = inl (record { e = c.in-Err.e; why = c.in-Err.ensures.fault stored closed failures is_loose; told = refl; stays = still _ }) }
+returns-in-Err-clause-unpinned g c stored closed failures e =
+    record { does = inl (record { e = c.in-Err.e; why = c.in-Err.ensures.fault stored closed failures is_loose; told = refl; stays = still _ }) }
 
 pub returns-in-LoosePinned-clause-unpinned : goal.returns-in-LoosePinned-clause-unpinned
 returns-in-LoosePinned-clause-unpinned g c stored closed failures e =
@@ -12,7 +13,8 @@ returns-in-LoosePinned-clause-unpinned g c stored closed failures e =
     let falls = c.fall.ensures.falls w (with_mode w at.row.number Mode.LooseUnpinned) nobody
     (lowered-on c.args.t.now stored closed c.args.lists failures c.requires.whole e at.row at.place c.in-Ok.ensures.place c.lower.new.t c.lower.ensures) in
     let w' = core_of (record c.args.t.now { holdings = c.fall.new.t }) stored closed failures in
-    let own : Owns w c.args.me c.args.handle is_loose at.row = record { live = c.in-Ok.ensures.found; own = owner-same c.args.me at.row.owner c.in-Ok.ensures.owner; as_asked = ap is_loose c.in-LoosePinned.is } in
+    let own : Owns w c.args.me c.args.handle is_loose at.row =
+    record { live = c.in-Ok.ensures.found; own = owner-same c.args.me at.row.owner c.in-Ok.ensures.owner; as_asked = ap is_loose c.in-LoosePinned.is } in
     record { does = inr (at.row, own, inr (c.in-LoosePinned.is, subst (λ q. Falls w (with_mode w q Mode.LooseUnpinned) nobody c.fall.result w') c.in-Ok.ensures.number falls)) }
 
 pub returns-in-LoosePinned-clause-whole : goal.returns-in-LoosePinned-clause-whole
