@@ -1,12 +1,58 @@
--- Why what a load has read can't become a node, and what becomes of it.
-use Rattle.pagable_tables.proofs.Words.{◌≡◌, ℕ, ◌<◌, ◌≤◌, ◌==◌, ◌||◌, Bool, true, false, if◌then◌else◌, List, [], ◌∷◌, refl, ap, sym, ◌∙◌, arith, Ok, Option, Some, None, inl, inr, not, is_some}
-use Rattle.pagable_tables.proofs.Words.{nat_tests, Error, ArcRef, HandleNumber, LoadNumber, NodeNumber, Kind, HandleRow, Owner, Blob, is_loose_kind, type_of, if_there, or_else, is_in, is_owner}
-use Rattle.pagable_tables.proofs.Words.{fits_mode, mode_of, Core, OpenLoad, greatest, row_at, type_at, usable, Alike, rank, earlier, refused_if, spent, is_type, load_fault, reference_fault}
-use Rattle.pagable_tables.proofs.Words.{references_fault, row_fault, OwnsLoad, Refused, AreHandlesFull, FallsAnyhow, with_handle, is_named_by, birth_fault, node_fault, adopt_fault, adopted}
-use Rattle.pagable_tables.proofs.Words.{first_key, Adopts, early_fault, OnlyRoom, Tables, ArePlaced, core_of, plain_of}
+-- What a load asks and reads: why it can't become a node, and what becomes of it.
+use Rattle.pagable_tables.proofs.Words.{◌≡◌, ℕ, ◌<◌, ◌≤◌, Bool, true, false, if◌then◌else◌, refl, ap, ◌∙◌, arith, Ok, Err, Some, None, inl, inr, not, is_some, Result, [], zero, suc, Error}
+use Rattle.pagable_tables.proofs.Words.{HandleNumber, LoadNumber, NodeNumber, Kind, Owner, Mode, is_loose_kind, mode_of, Core, OpenLoad, greatest, usable, Alike, rank, earlier, refused_if, spent}
+use Rattle.pagable_tables.proofs.Words.{load_fault, OwnsLoad, Refused, birth_fault, node_fault, lazy_fault, adopted, LazyCall, OptionalDataKey, key_in, Makes, nat_tests, ◌==◌, List, Option, ArcRef}
+use Rattle.pagable_tables.proofs.Words.{Blob, type_of, or_else, references_fault, AreHandlesFull, FallsAnyhow, with_handle, is_named_by, adopt_fault, first_key, Adopts, early_fault, OnlyRoom, Tables}
+use Rattle.pagable_tables.proofs.{Words.{ArePlaced, core_of, plain_of, ◌&&◌, ◌≢◌, ◌⊎◌, with_cached, is_usable, recall_fault, RecallCall, AsksKnown}, Opened.{earlier-first, load-low, no-load-fault}}
+use Rattle.pagable_tables.proofs.{Opened.{late, kind-late, references-low, spent-late}, Worlds.{still, usable-same}, Readied.{fault-by, room-alike}, keeps.EndCalls.{adopt-whole, both-none}}
+use Rattle.pagable_tables.proofs.keeps.Fallen.{opened}
 use Rattle.pagable_world.specs.Calls.{IsNext}
-use Rattle.pagable_tables.proofs.{Lazily.node-late, Readied.fault-by, Readied.room-alike, Opened.load-low, Worlds.still, keeps.AdoptCalls.adopt-whole, keeps.Opened.opened, keeps.EndCalls.both-none}
 use Rattle.pagable_world.specs.Pager as pager
+
+pub node-late : (w : Core) (kind : Kind) (key : ℕ) (f : Error) → node_fault w kind key ≡ Some f → 4 ≤ rank f
+node-late w kind key f is = grind (arith, nat_tests)
+
+pub kind-or-node-late : (w : Core) (b : Bool) (kind : Kind) (key : ℕ) (f : Error) → earlier (refused_if b Error.WrongKind) (node_fault w kind key) ≡ Some f → 3 ≤ rank f
+kind-or-node-late w b kind key f is = late (refused_if b Error.WrongKind) (node_fault w kind key) 3 (kind-late b) (λ g e. let a = node-late w kind key g e in omega arith) f is
+
+pub lazy-not-own : (w : Core) (me : Owner) (l : LoadNumber) (kind : Kind) (key : ℕ) (e : Error) → load_fault w me l ≡ Some e → LazyCall w me l kind key (Err e) w
+lazy-not-own w me l kind key e is =
+    record {
+      makes = tt;
+      refused = record {
+        why = inl (earlier-first (load_fault w me l) (earlier (refused_if (not (is_loose_kind kind.0)) Error.WrongKind) (node_fault w kind key)) e is (λ f late. let a = load-low w me l e is in let b = kind-or-node-late w (not (is_loose_kind kind.0)) kind key f late in omega arith));
+        stays = still w;
+      };
+    }
+
+module _ (w : Core) (me : Owner) (l : LoadNumber) (load : OpenLoad) (kind : Kind) (key : ℕ) (own : OwnsLoad w me l load) where
+  pub lazy-not-loose : is_loose_kind kind.0 ≡ false → LazyCall w me l kind key (Err Error.WrongKind) w
+  lazy-not-loose tight = grind (arith, nat_tests, earlier, no-load-fault, earlier-first, node-late, still)
+
+  module _ (loose : is_loose_kind kind.0 ≡ true) where
+    lazy-cause : lazy_fault w me l kind key ≡ node_fault w kind key
+    lazy-cause =
+        ap (λ f. earlier f (earlier (refused_if (not (is_loose_kind kind.0)) Error.WrongKind) (node_fault w kind key))) (no-load-fault w me l load own)
+        ∙ ap (λ b. earlier (refused_if (not b) Error.WrongKind) (node_fault w kind key)) loose
+
+    -- a handle of the node that the cache gives
+    pub lazy-known : (node : NodeNumber) (mode : Mode) (r : Result HandleNumber Error) (w' : Core) → usable w kind.0 key ≡ Some node.0 → mode ≡ mode_of kind.0 → Makes w node mode (Owner.Load l) r w' → LazyCall w me l kind key r w'
+    lazy-known node mode r w' is fits m = grind (arith, nat_tests)
+
+    module _ (none : usable w kind.0 key ≡ None) where
+      fresh : lazy_fault w me l kind key ≡ birth_fault w
+      fresh = lazy-cause ∙ ap (λ b. if b then spent w.last.handle else birth_fault w) (ap is_some none)
+
+      pub lazy-not-new : {e : Error} {w' : Core} → Refused (birth_fault w) (birth_fault w) (Unit {0}) w e w' → LazyCall w me l kind key (Err e) w'
+      lazy-not-new r = record { makes = tt; refused = record { why = elim r.why [ inl a ↦ inl (fresh ∙ a) | inr b ↦ inr (b.0, fresh ∙ b.1, inl none) ]; stays = r.stays } }
+
+      pub lazy-new : (k : HandleNumber) {w' : Core} → w.last.node < greatest → IsNext k w → Alike (adopted w l kind key (OptionalDataKey.Some key) []) w' → LazyCall w me l kind key (Ok k) w'
+      lazy-new k node_left next made = record { makes = (load, own, loose, inr (none, node_left, next, made)); refused = tt }
+
+-- the number of a key
+pub key-there : (n : ℕ) → 0 < n → key_in n ≡ OptionalDataKey.Some n
+key-there zero lt = absurd (omega arith)
+key-there (suc n) lt = refl
 
 abbrev Early : Option Error → Type 0
 Early a = (e : Error) → a ≡ Some e → rank e ≤ 3
@@ -23,34 +69,6 @@ next c d n early late = grind (arith, nat_tests)
 last-of : (a b c d n : Option Error) → Early a → Early b → Early c → Early d → Late n → earlier a (earlier b (earlier c (earlier d n))) ≡ or_else (earlier a (earlier b (earlier c d))) n
 last-of a b c d n ea eb ec ed late = grind (arith, nat_tests, earlier, first, next)
 
-named : (b : Bool) (e f : Error) → refused_if b e ≡ Some f → rank f ≡ rank e
-named true e f is = sym (ap (if_there rank 0) is)
-named false e f is = absurd (cc)
-
-or-early : (a b : Option Error) → Early a → Early b → Early (or_else a b)
-or-early None b ea eb = eb
-or-early (Some x) b ea eb = ea
-
-one-early : (w : Core) (o : Owner) (seen : List ℕ) (r : ArcRef) → Early (reference_fault w o seen r)
-one-early w o seen r e is = split (row_at w r.handle) is
-  where
-    rest : (fits typed : Bool) → Early (if not fits then Some Error.WrongMode else refused_if (not typed) Error.WrongKind)
-    rest false typed e is = let a : rank Error.WrongMode ≡ rank e = ap (if_there rank 0) is in omega arith
-    rest true typed e is = let a = named (not typed) Error.WrongKind e is in omega arith
-
-    of : (at mine : Bool) (more : Option Error) → Early more → Early (if not at then Some Error.NoSuchHandle else or_else (refused_if mine Error.NotYours) more)
-    of false mine more early e is = let a : rank Error.NoSuchHandle ≡ rank e = ap (if_there rank 0) is in omega arith
-    of true mine more early e is = or-early (refused_if mine Error.NotYours) more (λ g s. let a = named mine Error.NotYours g s in omega arith) early e is
-
-    split : (o' : Option HandleRow) → if_there (λ (row : HandleRow). row_fault w r (refused_if (not (is_owner o row.owner) || is_in seen r.handle.0) Error.NotYours) row) (Some Error.NoSuchHandle) o' ≡ Some e → rank e ≤ 3
-    split None is = let a : rank Error.NoSuchHandle ≡ rank e = ap (if_there rank 0) is in omega arith
-    split (Some row) is = of (row.node.0 == r.node.0) (not (is_owner o row.owner) || is_in seen r.handle.0) _ (rest (fits_mode r.kind.0 row.mode) (is_type (type_of r.kind.0) (type_at w r.node.0))) e is
-
-fit-early : (w : Core) (o : Owner) (seen : List ℕ) (refs : List ArcRef) → Early (references_fault w o seen refs)
-unfolding references_fault
-fit-early w o seen [] e is = absurd (cc)
-fit-early w o seen (r ∷ rs) e is = or-early (reference_fault w o seen r) (references_fault w o (r.handle.0 ∷ seen) rs) (one-early w o seen r) (fit-early w o (r.handle.0 ∷ seen) rs) e is
-
 -- the load is an own open one where it has no fault
 owns-then : (w : Core) (me : Owner) (l : LoadNumber) → load_fault w me l ≡ None → (load : OpenLoad) × OwnsLoad w me l load
 owns-then w me l none = grind (arith, nat_tests)
@@ -64,7 +82,7 @@ module _ (w : Core) (me : Owner) (l : LoadNumber) (kind : Kind) (key node_type :
   early = early_fault w me l kind node_type refs
 
   cause : adopt_fault w me l kind key node_type refs ≡ or_else early (node_fault w kind key)
-  cause = grind (arith, nat_tests, last-of, load-low, fit-early, node-late)
+  cause = grind (arith, nat_tests, last-of, load-low, references-low, node-late)
 
   -- one of the causes that come first
   pub not-adopted : (e : Error) → early ≡ Some e → Refused (adopt_fault w me l kind key node_type refs) (load_fault w me l) (Unit {0}) w e w
@@ -131,3 +149,39 @@ early-stored t stored closed failures me l kind node_type refs =
 -- it keeps the world whole
 pub adopts-whole : {w w' : Core} (me : Owner) (l : LoadNumber) (kind : Kind) (key node_type : ℕ) (refs : List ArcRef) (k : HandleNumber) → pager.IsWhole (opened w) → Adopts w me l kind key node_type refs k w' → ArePlaced (opened w') → pager.IsWhole (opened w')
 adopts-whole {w} {w'} me l kind key node_type refs k whole a placed = adopt-whole {N = Unit {0}} me l kind key tt node_type refs (Ok k) whole (record { adopts = a; refused = tt }) placed
+
+-- the cache of the second world learns what that of the first does
+module _ (w w' : Core) (kind : Kind) (key : ℕ) (n : NodeNumber) (cache : ℕ → ℕ → Option ℕ) (a : Alike w w') (here : cache kind.0 key ≡ Some n.0) (others : (k q : ℕ) → (k ≢ kind.0) ⊎ (q ≢ key) → cache k q ≡ w'.cache k q) where
+  abbrev known : ℕ → ℕ → Option ℕ
+  known k q = if k == kind.0 && q == key then Some n.0 else w.cache k q
+
+  known-here : (k q : ℕ) → k ≡ kind.0 → q ≡ key → known k q ≡ Some n.0
+  known-here k q e f = let h : (k == kind.0 && q == key) ≡ true = grind (arith, nat_tests) in rw h refl
+
+  known-other : (k q : ℕ) → (k ≢ kind.0) ⊎ (q ≢ key) → known k q ≡ w.cache k q
+  known-other k q (inl e) = let h : (k == kind.0 && q == key) ≡ false = grind (arith, nat_tests) in rw h refl
+  known-other k q (inr e) = let h : (k == kind.0 && q == key) ≡ false = grind (arith, nat_tests) in rw h refl
+
+  split : (k q : ℕ) → ((k ≡ kind.0) × (q ≡ key)) ⊎ ((k ≢ kind.0) ⊎ (q ≢ key))
+  split k q = grind (arith, nat_tests)
+
+  found : (k q : ℕ) → k ≡ kind.0 → q ≡ key → cache k q ≡ Some n.0
+  found k q e f = ap (λ k. cache k q) e ∙ ap (cache kind.0) f ∙ here
+
+  pub learned : Alike (with_cached w kind key n) (record w' { cache = cache })
+  learned = grind (arith, nat_tests, split, usable-same, found, known-here, known-other)
+
+-- the cache learns while the storage is open
+pub if-open : (closed : Bool) (w w' : Core) (kind : Kind) (key : ℕ) (n : NodeNumber) → (closed ≡ true → Alike w w') → (closed ≡ false → Alike (with_cached w kind key n) w') → Alike (if closed then w else with_cached w kind key n) w'
+if-open true w w' kind key n shut stands = shut refl
+if-open false w w' kind key n shut stands = stands refl
+
+pub recalls-asked : (w : Core) (me : Owner) (l : LoadNumber) (load : OpenLoad) (kind : Kind) (key : ℕ) (r : Result (Option HandleNumber) Error) (w' : Core) → OwnsLoad w me l load → RecallCall w (Owner.Load l) kind key r w' → AsksKnown w me l kind key r w'
+recalls-asked w me l load kind key r w' own call = grind (arith, nat_tests)
+
+pub not-asked : (w : Core) (me : Owner) (l : LoadNumber) (kind : Kind) (key : ℕ) (e : Error) → load_fault w me l ≡ Some e → AsksKnown w me l kind key (Err e) w
+not-asked w me l kind key e is =
+    record {
+      gives = tt;
+      refused = record { why = inl (earlier-first (load_fault w me l) (recall_fault w kind key) e is (λ f late. let a = load-low w me l e is in let b = spent-late w.last.handle (is_usable w kind key) f late in omega arith)); stays = still w };
+    }

@@ -1,15 +1,12 @@
--- The live rows after a place changes.
-use Rattle.pagable_tables.proofs.Words.{◌≡◌, ℕ, ◌+◌, ◌<◌, ◌≤◌, ◌==◌, Bool, true, false, if◌then◌else◌, List, [], ◌∷◌, ◌++◌, length, get_or, set, suc, zero, sum_by, All, filter, refl}
-use Rattle.pagable_tables.proofs.Words.{ap, sym, subst, ◌∙◌, arith, Some, None, slice_get, nat_tests, sum_by-cons, All-tail, All-set, ◌≢◌, ◌⊎◌, cases_eq, get_or_default}
-use Rattle.pagable_tables.proofs.Words.{get_or_from_slice_get, slice_get_within, sum_by-set, get_or-le-sum_by, sum_by-le-sum_by, HandleRow, one, changed, find_row, is_handle, left_rows}
-use Rattle.pagable_tables.proofs.Words.{IsNext, live, alive, is_live_place, IsBefore, Place, AllPairs}
+-- The live rows after a place changes, and how halving finds one.
+use Rattle.pagable_tables.proofs.Words.{◌≡◌, ℕ, ◌+◌, ◌<◌, ◌≤◌, ◌==◌, Bool, true, false, if◌then◌else◌, List, [], ◌∷◌, ◌++◌, length, get_or, set, suc, zero, sum_by, All, filter, refl, ap, sym, subst}
+use Rattle.pagable_tables.proofs.Words.{◌∙◌, arith, Some, None, slice_get, nat_tests, sum_by-cons, All-tail, All-set, ◌≢◌, ◌⊎◌, cases_eq, get_or_default, get_or_from_slice_get, slice_get_within}
+use Rattle.pagable_tables.proofs.Words.{sum_by-set, get_or-le-sum_by, sum_by-le-sum_by, HandleRow, one, changed, find_row, is_handle, left_rows, IsNext, live, alive, is_live_place, IsBefore, Place}
+use Rattle.pagable_tables.proofs.{Words.{AllPairs, times, get_or-set_other, length-set, get_or-set_at}, Left.left-none}
 
--- the rows but for one number, and with another row in its place
+-- the rows but for one number
 abbrev without : ℕ → List HandleRow → List HandleRow
 without q rows = left_rows (λ n. n == q) rows
-
-abbrev replaced : ℕ → HandleRow → List HandleRow → List HandleRow
-replaced q row rows = changed (is_handle q) (λ _. row) rows
 
 -- clearing the dead away leaves the live
 pub live-filter : (ss : List Place) → live (filter is_live_place ss) ≡ live ss
@@ -40,82 +37,104 @@ sum-live f (s ∷ ss) = by s.is_live (sum-live f ss) ∙ sym (sum_by-cons (weigh
     by true h = sum_by-cons f s.row (live ss) ∙ ap (λ n. f s.row + n) h
     by false h = omega arith
 
--- rows of other numbers stay, whatever goes or is replaced
-without-rest : (q : ℕ) (ss : List Place) → All (λ s. q < s.row.number.0) ss → without q (live ss) ≡ live ss
-without-rest q [] h = refl
-without-rest q (s ∷ ss) h = by s.is_live (without-rest q ss (All-tail (λ s. q < s.row.number.0) s ss h))
-  where
-    here : (s.row.number.0 == q) ≡ false
-    here = let a : q < s.row.number.0 = h 0 s (omega arith) in grind (arith, nat_tests)
-
-    by : (b : Bool) → without q (live ss) ≡ live ss → without q (if b then s.row ∷ live ss else live ss) ≡ (if b then s.row ∷ live ss else live ss)
-    by true rest = rw here (ap (λ l. s.row ∷ l) rest)
-    by false rest = rest
-
-replaced-rest : (q : ℕ) (row : HandleRow) (ss : List Place) → All (λ s. q < s.row.number.0) ss → replaced q row (live ss) ≡ live ss
-replaced-rest q row [] h = refl
-replaced-rest q row (s ∷ ss) h = by s.is_live (replaced-rest q row ss (All-tail (λ s. q < s.row.number.0) s ss h))
-  where
-    here : (s.row.number.0 == q) ≡ false
-    here = let a : q < s.row.number.0 = h 0 s (omega arith) in grind (arith, nat_tests)
-
-    by : (b : Bool) → replaced q row (live ss) ≡ live ss → replaced q row (if b then s.row ∷ live ss else live ss) ≡ (if b then s.row ∷ live ss else live ss)
-    by true rest = rw here (ap (λ l. s.row ∷ l) rest)
-    by false rest = rest
-
 later : (s : Place) (ss : List Place) → AllPairs IsBefore (s ∷ ss) → All (λ x. s.row.number.0 < x.row.number.0) ss
 later s ss ordered k d lt = ordered 0 (suc k) d (omega arith) (omega arith)
 
 pub pairs-tail : (s : Place) (ss : List Place) → AllPairs IsBefore (s ∷ ss) → AllPairs IsBefore ss
 pairs-tail s ss ordered j k d less lt = ordered (suc j) (suc k) d (omega arith) (omega arith)
 
--- the first place's number is below that of a later one
-earlier : (s : Place) (ss : List Place) (i : ℕ) (row : HandleRow) → AllPairs IsBefore (s ∷ ss) → slice_get ss i ≡ Some (alive row) → s.row.number.0 < row.number.0
-earlier s ss i row ordered at =
+-- The live rows before a place and after it, of other numbers.
+record Stands (ss : List Place) (i : ℕ) (row : HandleRow) : Type 0 where
+  before : List HandleRow
+  after : List HandleRow
+  is : live ss ≡ before ++ row ∷ after
+  set : (new : Place) → live (set ss i new) ≡ before ++ (if new.is_live then new.row ∷ after else after)
+  below : times (is_handle row.number.0) before ≡ 0
+  above : times (is_handle row.number.0) after ≡ 0
+
+none-above : (q : ℕ) (ss : List Place) → All (λ s. q < s.row.number.0) ss → times (is_handle q) (live ss) ≡ 0
+none-above q [] h = refl
+none-above q (s ∷ ss) h =
+    let a : q < s.row.number.0 = h 0 s (omega arith) in
+    let rest = none-above q ss (All-tail (λ s. q < s.row.number.0) s ss h) in
+    grind (arith, nat_tests, sum_by-cons)
+
+put : (b : Bool) (x : HandleRow) (xs ys zs : List HandleRow) → xs ≡ ys ++ zs → (if b then x ∷ xs else xs) ≡ (if b then x ∷ ys else ys) ++ zs
+put true x xs ys zs e = ap (λ l. x ∷ l) e
+put false x xs ys zs e = e
+
+stands : (ss : List Place) (i : ℕ) (row : HandleRow) → AllPairs IsBefore ss → slice_get ss i ≡ Some (alive row) → Stands ss i row
+stands [] i row ordered at = absurd (cc)
+stands (s ∷ ss) zero row ordered at =
+    let same : s ≡ alive row = cc in
+    let number = ap (λ (s : Place). s.row.number.0) same in
+    record {
+      before = [];
+      after = live ss;
+      is = ap (λ (s : Place). if s.is_live then s.row ∷ live ss else live ss) same;
+      set = λ new. refl;
+      below = refl;
+      above = none-above row.number.0 ss (λ k d lt. let a = later s ss ordered k d lt in omega arith);
+    }
+stands (s ∷ ss) (suc i) row ordered at =
+    let r = stands ss i row (pairs-tail s ss ordered) at in
     let lt : i < length ss = slice_get_within ss i (alive row) at in
     let less : s.row.number.0 < (get_or ss i s).row.number.0 = ordered 0 (suc i) s (omega arith) (omega arith) in
-    let is : (get_or ss i s).row.number.0 ≡ row.number.0 = ap (λ (x : Place). x.row.number.0) (get_or_from_slice_get ss i (alive row) s at) in
-    omega arith
-
--- a place that is killed
-pub live-kill : (ss : List Place) (i : ℕ) (row : HandleRow) → AllPairs IsBefore ss → slice_get ss i ≡ Some (alive row)
-    → live (set ss i (record { row = row; is_live = false })) ≡ without row.number.0 (live ss)
-live-kill [] i row ordered at = absurd (cc)
-live-kill (s ∷ ss) zero row ordered at =
-    let live' : s.is_live ≡ true = cc in
-    let number : s.row.number.0 ≡ row.number.0 = cc in
-    let here : (s.row.number.0 == row.number.0) ≡ true = grind (arith, nat_tests) in
-    let rest : without s.row.number.0 (live ss) ≡ live ss = without-rest s.row.number.0 ss (later s ss ordered) in
-    rw (live', here) (sym rest ∙ ap (λ q. without q (live ss)) number)
-live-kill (s ∷ ss) (suc i) row ordered at = by s.is_live (live-kill ss i row (pairs-tail s ss ordered) at)
+    let number : (get_or ss i s).row.number.0 ≡ row.number.0 = ap (λ (x : Place). x.row.number.0) (get_or_from_slice_get ss i (alive row) s at) in
+    let other : (s.row.number.0 == row.number.0) ≡ false = grind (arith, nat_tests) in
+    record {
+      before = if s.is_live then s.row ∷ r.before else r.before;
+      after = r.after;
+      is = put s.is_live s.row (live ss) r.before (row ∷ r.after) r.is;
+      set = λ new. put s.is_live s.row (live (set ss i new)) r.before (if new.is_live then new.row ∷ r.after else r.after) (r.set new);
+      below = none s.is_live other r.before r.below;
+      above = r.above;
+    }
   where
-    here : (s.row.number.0 == row.number.0) ≡ false
-    here = let a = earlier s ss i row ordered at in grind (arith, nat_tests)
+    none : (b : Bool) → (s.row.number.0 == row.number.0) ≡ false → (xs : List HandleRow) → times (is_handle row.number.0) xs ≡ 0 → times (is_handle row.number.0) (if b then s.row ∷ xs else xs) ≡ 0
+    none b other xs z = let a = sum_by-cons (λ h. one (is_handle row.number.0 h)) s.row xs in grind (arith, nat_tests)
 
-    by : (b : Bool) → live (set ss i (record { row = row; is_live = false })) ≡ without row.number.0 (live ss)
-        → (if b then s.row ∷ live (set ss i (record { row = row; is_live = false })) else live (set ss i (record { row = row; is_live = false })))
-        ≡ without row.number.0 (if b then s.row ∷ live ss else live ss)
-    by true rest = rw here (ap (λ l. s.row ∷ l) rest)
-    by false rest = rest
+-- what is done to the rows of one number, where the rows before and after have others
+changed-none : (q : ℕ) (f : HandleRow → HandleRow) (xs : List HandleRow) → times (is_handle q) xs ≡ 0 → changed (is_handle q) f xs ≡ xs
+changed-none q f [] none = refl
+changed-none q f (x ∷ xs) none = let a = sum_by-cons (λ h. one (is_handle q h)) x xs in grind (arith, nat_tests, changed-none q f xs)
 
--- a row that is replaced
-pub live-set : (ss : List Place) (i : ℕ) (row new : HandleRow) → AllPairs IsBefore ss → slice_get ss i ≡ Some (alive row) → live (set ss i (alive new)) ≡ replaced row.number.0 new (live ss)
-live-set [] i row new ordered at = absurd (cc)
-live-set (s ∷ ss) zero row new ordered at =
-    let live' : s.is_live ≡ true = cc in
-    let number : s.row.number.0 ≡ row.number.0 = cc in
-    let here : (s.row.number.0 == row.number.0) ≡ true = grind (arith, nat_tests) in
-    let above : All (λ x. row.number.0 < x.row.number.0) ss = λ k d lt. (let a = later s ss ordered k d lt in omega arith) in
-    rw (live', here) (ap (λ l. new ∷ l) (sym (replaced-rest row.number.0 new ss above)))
-live-set (s ∷ ss) (suc i) row new ordered at = by s.is_live (live-set ss i row new (pairs-tail s ss ordered) at)
-  where
-    here : (s.row.number.0 == row.number.0) ≡ false
-    here = let a = earlier s ss i row ordered at in grind (arith, nat_tests)
+changed-one : (q : ℕ) (f : HandleRow → HandleRow) (xs ys : List HandleRow) (x : HandleRow) → x.number.0 ≡ q → times (is_handle q) xs ≡ 0 → times (is_handle q) ys ≡ 0
+    → changed (is_handle q) f (xs ++ x ∷ ys) ≡ xs ++ f x ∷ ys
+changed-one q f [] ys x here below above = grind (arith, nat_tests, changed-none q f ys)
+changed-one q f (y ∷ xs) ys x here below above = let a = sum_by-cons (λ h. one (is_handle q h)) y xs in grind (arith, nat_tests, changed-one q f xs ys x)
 
-    by : (b : Bool) → live (set ss i (alive new)) ≡ replaced row.number.0 new (live ss) → (if b then s.row ∷ live (set ss i (alive new)) else live (set ss i (alive new)))
-        ≡ replaced row.number.0 new (if b then s.row ∷ live ss else live ss)
-    by true rest = rw here (ap (λ l. s.row ∷ l) rest)
-    by false rest = rest
+left-one : (q : ℕ) (xs ys : List HandleRow) (x : HandleRow) → x.number.0 ≡ q → times (is_handle q) xs ≡ 0 → times (is_handle q) ys ≡ 0 → without q (xs ++ x ∷ ys) ≡ xs ++ ys
+left-one q [] ys x here below above = grind (arith, nat_tests, left-none q ys)
+left-one q (y ∷ xs) ys x here below above = let a = sum_by-cons (λ h. one (is_handle q h)) y xs in grind (arith, nat_tests, left-one q xs ys x)
+
+find-one : (q : ℕ) (xs ys : List HandleRow) (x : HandleRow) → x.number.0 ≡ q → times (is_handle q) xs ≡ 0 → find_row q (xs ++ x ∷ ys) ≡ Some x
+unfolding find_row
+find-one q [] ys x here below = grind (arith, nat_tests)
+find-one q (y ∷ xs) ys x here below = let a = sum_by-cons (λ h. one (is_handle q h)) y xs in grind (arith, nat_tests, find-one q xs ys x)
+
+module _ (ss : List Place) (i : ℕ) (row : HandleRow) (ordered : AllPairs IsBefore ss) (at : slice_get ss i ≡ Some (alive row)) where
+  abbrev s : Stands ss i row
+  s = stands ss i row ordered at
+
+  -- a place that is killed
+  pub live-kill : live (set ss i (record { row = row; is_live = false })) ≡ without row.number.0 (live ss)
+  live-kill = s.set (record { row = row; is_live = false }) ∙ sym (ap (without row.number.0) s.is ∙ left-one row.number.0 s.before s.after row refl s.below s.above)
+
+  -- a number is one row's, so what is done to rows of the number is done to that row
+  changed-live : (f : HandleRow → HandleRow) → changed (is_handle row.number.0) f (live ss) ≡ s.before ++ f row ∷ s.after
+  changed-live f = ap (changed (is_handle row.number.0) f) s.is ∙ changed-one row.number.0 f s.before s.after row refl s.below s.above
+
+  -- a row that is replaced
+  pub live-set : (new : HandleRow) → live (set ss i (alive new)) ≡ changed (is_handle row.number.0) (λ _. new) (live ss)
+  live-set new = s.set (alive new) ∙ sym (changed-live (λ _. new))
+
+  pub changed-known : (f : HandleRow → HandleRow) → changed (is_handle row.number.0) (λ _. f row) (live ss) ≡ changed (is_handle row.number.0) f (live ss)
+  changed-known f = changed-live (λ _. f row) ∙ sym (changed-live f)
+
+  -- the row at a live place is the one of its number
+  pub row-live : find_row row.number.0 (live ss) ≡ Some row
+  row-live = ap (find_row row.number.0) s.is ∙ find-one row.number.0 s.before s.after row refl s.below
 
 -- sums after a place changes
 pub sum-live-set : (f : HandleRow → ℕ) (ss : List Place) (i : ℕ) (row : HandleRow) (new : Place) → slice_get ss i ≡ Some (alive row)
@@ -155,24 +174,6 @@ none-live q (s ∷ ss) h = by s.is_live refl (none-live q ss (λ k d lt e. h (su
   where
     by : (b : Bool) → s.is_live ≡ b → find_row q (live ss) ≡ None → find_row q (if b then s.row ∷ live ss else live ss) ≡ None
     by b e rest = grind (arith, nat_tests)
-
--- the row at a live place is the one of its number
-pub row-live : (ss : List Place) (i : ℕ) (row : HandleRow) → AllPairs IsBefore ss → slice_get ss i ≡ Some (alive row) → find_row row.number.0 (live ss) ≡ Some row
-unfolding find_row
-row-live [] i row ordered at = absurd (cc)
-row-live (s ∷ ss) zero row ordered at =
-    let live' : s.is_live ≡ true = cc in
-    let same : s.row ≡ row = cc in
-    let here : (s.row.number.0 == row.number.0) ≡ true = let number : s.row.number.0 ≡ row.number.0 = cc in grind (arith, nat_tests) in
-    rw (live', here) (ap Some same)
-row-live (s ∷ ss) (suc i) row ordered at = by s.is_live (row-live ss i row (pairs-tail s ss ordered) at)
-  where
-    here : (s.row.number.0 == row.number.0) ≡ false
-    here = let a = earlier s ss i row ordered at in grind (arith, nat_tests)
-
-    by : (b : Bool) → find_row row.number.0 (live ss) ≡ Some row → find_row row.number.0 (if b then s.row ∷ live ss else live ss) ≡ Some row
-    by true rest = rw here rest
-    by false rest = rest
 
 pub row-got : (ss : List Place) (i : ℕ) (p : Place) (q : ℕ) → AllPairs IsBefore ss → slice_get ss i ≡ Some p → p.is_live ≡ true → p.row.number.0 ≡ q → find_row q (live ss) ≡ Some p.row
 row-got ss i p q ordered at is number = subst (λ n. find_row n (live ss) ≡ Some p.row) number (row-live ss i p.row ordered (at ∙ ap (λ b. Some (record { row = p.row; is_live = b })) is))
@@ -217,36 +218,42 @@ only-row f ss i row ordered at less =
     let z = sum-without row.number.0 (live ss) in
     omega arith
 
--- what is done to the rows of a number that is below all changes nothing
-changed-rest : (q : ℕ) (f : HandleRow → HandleRow) (ss : List Place) → All (λ s. q < s.row.number.0) ss → changed (is_handle q) f (live ss) ≡ live ss
-changed-rest q f [] h = refl
-changed-rest q f (s ∷ ss) h = by s.is_live (changed-rest q f ss (All-tail (λ s. q < s.row.number.0) s ss h))
-  where
-    here : (s.row.number.0 == q) ≡ false
-    here = let a : q < s.row.number.0 = h 0 s (omega arith) in grind (arith, nat_tests)
+split_less : (k m : ℕ) → k < m + 1 → (k < m) ⊎ (k ≡ m)
+split_less k m h = grind arith
 
-    by : (b : Bool) → changed (is_handle q) f (live ss) ≡ live ss → changed (is_handle q) f (if b then s.row ∷ live ss else live ss) ≡ (if b then s.row ∷ live ss else live ss)
-    by true rest = rw here (ap (λ l. s.row ∷ l) rest)
-    by false rest = rest
+-- all rows up to a smaller one are smaller
+pub smaller-up : {A : Type 0} (f : A → ℕ) (xs : List A) (m q : ℕ) (e : A) → AllPairs (λ a b. f a < f b) xs → m < length xs → f (get_or xs m e) < q → (k : ℕ) (d : A) → k < m + 1 → f (get_or xs k d) < q
+smaller-up f xs m q e ordered lt less k d h =
+    let at : f (get_or xs m e) ≡ f (get_or xs m d) = ap f (get_or_default xs m e d lt) in
+    grind (arith, nat_tests, split_less)
 
--- a number is one row's, so what is done to rows of the number is done to that row
-pub changed-known : (f : HandleRow → HandleRow) (ss : List Place) (i : ℕ) (row : HandleRow) → AllPairs IsBefore ss → slice_get ss i ≡ Some (alive row)
-    → changed (is_handle row.number.0) (λ _. f row) (live ss) ≡ changed (is_handle row.number.0) f (live ss)
-changed-known f [] i row ordered at = absurd (cc)
-changed-known f (s ∷ ss) zero row ordered at =
-    let live' : s.is_live ≡ true = cc in
-    let same : s.row ≡ row = cc in
-    let number : s.row.number.0 ≡ row.number.0 = cc in
-    let here : (s.row.number.0 == row.number.0) ≡ true = grind (arith, nat_tests) in
-    let above : All (λ x. row.number.0 < x.row.number.0) ss = λ k d lt. (let a = later s ss ordered k d lt in omega arith) in
-    let rest = changed-rest row.number.0 (λ _. f row) ss above ∙ sym (changed-rest row.number.0 f ss above) in
-    rw (live', here) (ap (λ l. f row ∷ l) rest ∙ ap (λ r. f r ∷ changed (is_handle row.number.0) f (live ss)) (sym same))
-changed-known f (s ∷ ss) (suc i) row ordered at = by s.is_live (changed-known f ss i row (pairs-tail s ss ordered) at)
-  where
-    here : (s.row.number.0 == row.number.0) ≡ false
-    here = let a = earlier s ss i row ordered at in grind (arith, nat_tests)
+split_more : (k m : ℕ) → m ≤ k → (m < k) ⊎ (k ≡ m)
+split_more k m h = grind arith
 
-    by : (b : Bool) → changed (is_handle row.number.0) (λ _. f row) (live ss) ≡ changed (is_handle row.number.0) f (live ss)
-        → changed (is_handle row.number.0) (λ _. f row) (if b then s.row ∷ live ss else live ss) ≡ changed (is_handle row.number.0) f (if b then s.row ∷ live ss else live ss)
-    by true rest = rw here (ap (λ l. s.row ∷ l) rest)
-    by false rest = rest
+-- all rows from a greater one on are greater
+pub greater-from : {A : Type 0} (f : A → ℕ) (xs : List A) (m q : ℕ) (e : A) → AllPairs (λ a b. f a < f b) xs → m < length xs → q ≤ f (get_or xs m e) → (f (get_or xs m e) ≡ q → ⊥)
+    → (k : ℕ) (d : A) → m ≤ k → k < length xs → q < f (get_or xs k d)
+greater-from f xs m q e ordered lt more other k d h within =
+    let at : f (get_or xs m e) ≡ f (get_or xs m d) = ap f (get_or_default xs m e d lt) in
+    grind (arith, nat_tests, split_more)
+
+le_or_lt : (a b : ℕ) → (a ≤ b) ⊎ (b < a)
+le_or_lt a b = grind arith
+
+-- what is smaller below a place and greater from one that isn't above it on has the number nowhere
+pub outside : {A : Type 0} (f : A → ℕ) (xs : List A) (q low high : ℕ) → high ≤ low → ((k : ℕ) (d : A) → k < low → f (get_or xs k d) < q)
+    → ((k : ℕ) (d : A) → high ≤ k → k < length xs → q < f (get_or xs k d)) → (k : ℕ) (d : A) → k < length xs → (f (get_or xs k d) ≡ q → ⊥)
+outside f xs q low high meet below above k d lt e = grind (arith, nat_tests, le_or_lt)
+
+-- each row keeps its number
+number-set : {A : Type 0} (f : A → ℕ) (xs : List A) (i : ℕ) (x y : A) (k : ℕ) (d : A) → slice_get xs i ≡ Some x → f y ≡ f x → k < length xs → f (get_or (set xs i y) k d) ≡ f (get_or xs k d)
+number-set f xs i x y k d at same lt = grind (arith, nat_tests, cases_eq, get_or-set_at, slice_get_within, get_or_from_slice_get, get_or-set_other)
+
+-- a row changes, but not its number
+pub rises-set : {A : Type 0} (f : A → ℕ) (xs : List A) (i : ℕ) (x y : A) → AllPairs (λ a b. f a < f b) xs → slice_get xs i ≡ Some x → f y ≡ f x → AllPairs (λ a b. f a < f b) (set xs i y)
+rises-set f xs i x y ordered at same j k d less within =
+    let lt : k < length xs = let n = length-set xs i y in omega arith in
+    let a = number-set f xs i x y j d at same (omega arith) in
+    let b = number-set f xs i x y k d at same lt in
+    let c = ordered j k d less lt in
+    omega arith

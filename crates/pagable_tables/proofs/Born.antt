@@ -2,9 +2,9 @@
 use Rattle.pagable_tables.proofs.Words.{◌≡◌, ℕ, ◌+◌, ◌<◌, ◌≤◌, ◌==◌, ◌&&◌, ◌||◌, Bool, true, false, List, [], ◌∷◌, ◌++◌, map, sum_by, refl, ap, sym, ◌∙◌, subst, arith, Option, Some, None, inl, inr}
 use Rattle.pagable_tables.proofs.Words.{if◌then◌else◌, ◌≢◌, ◌⊎◌, is_some, cases_eq, nat_tests, sum_by_push, sum_by-cons, Error, ArcRef, HandleRow, Owner, Mode, Among, is_in, one, or_else, find_row}
 use Rattle.pagable_tables.proofs.Words.{held, pins, is_handle, is_pinning, owner_value, IsHandleBefore, Core, reference_fault, references_fault, moved, is_named_by, Counts, Fits, Right, is_right}
-use Rattle.pagable_tables.proofs.{Words.{is_bare, cell_in, pins_in, holds_in, falls_in, is_valued, named, owns_nothing, AllPairs, updated, key_in}, Coming.owned-by-none, Fitting.{pin_of, handle_of}}
-use Rattle.pagable_tables.proofs.{Fitting.{is_owned, pin-here, held-here, pin-other, held-other}, Owned.owned-by, keeps.BirthCalls.named-mine, keeps.Rests.found-so, keeps.Rows.{found-among, sum-map}}
-use Rattle.pagable_tables.proofs.keeps.Rows.{sum-none, at-most-sum, only-row}
+use Rattle.pagable_tables.proofs.{Words.{is_bare, cell_in, pins_in, holds_in, falls_in, is_valued, named, owns_nothing, AllPairs}, Coming.{owned-by-none, owned-by}, Fitting.{pin_of, handle_of}}
+use Rattle.pagable_tables.proofs.{Fitting.{is_owned, pin-here, held-here, pin-other, held-other}, keeps.HandleCalls.named-mine, keeps.Rows.{found-so, found-among, sum-map, sum-none, at-most-sum}}
+use Rattle.pagable_tables.proofs.{keeps.Rows.only-row, Bits.and-zero}
 
 or-none : (a b : Option Error) → or_else a b ≡ None → (a ≡ None) × (b ≡ None)
 or-none None b e = (refl, e)
@@ -56,11 +56,7 @@ module _ (w : Core) (me : Owner) (n : ℕ) (rs : List ArcRef) (ordered : AllPair
       let a = only-row (both q) w.rows o.row ordered there (λ x other. let e : (x.number.0 == q) ≡ false = ap (λ k. x.number.0 == k) (sym number) ∙ other in ap (λ b. one (b && is_named_by rs q)) e) in
       let b : is_handle q o.row ≡ true = grind (arith, nat_tests) in
       a ∙ ap (λ d. one (d && is_named_by rs q)) b ∙ ap one is
-  sum-both q false is = sum-none (both q) w.rows (λ h among. ap (λ b. one (is_handle q h && b)) is ∙ none (is_handle q h))
-    where
-      none : (b : Bool) → one (b && false) ≡ 0
-      none true = refl
-      none false = refl
+  sum-both q false is = sum-none (both q) w.rows (λ h among. ap (λ b. one (is_handle q h && b)) is ∙ and-zero (is_handle q h))
 
   pub own-own : (q : ℕ) → sum_by (is_owned n q) w.rows ≡ 0 → sum_by (is_owned n q) (map to w.rows) ≡ named q rs
   own-own q before =
@@ -160,8 +156,3 @@ module _ (w : Core) (me : Owner) (rs : List ArcRef) (ordered : AllPairs IsHandle
 pub no-node : (o : Option Counts) (last : ℕ) → (is_some (cell_in o) ≡ true → (0 < last + 1) × (last + 1 ≤ last)) → o ≡ None
 no-node None last h = refl
 no-node (Some c) last h = let a = (h refl).1 in absurd (omega arith)
-
--- one cell more, and all others as before
-pub born-cells : (at at' : ℕ → Option Counts) (n : ℕ) (c : Counts) → at' n ≡ Some c → ((q : ℕ) → q ≢ n → at' q ≡ at q)
-    → (q : ℕ) → cell_in (at' q) ≡ updated n (Some (record { node_type = c.node_type; key = key_in c.key })) (λ m. cell_in (at m)) q
-born-cells at at' n c here others q = grind (arith, nat_tests)

@@ -1,7 +1,9 @@
--- A handle comes to a live node, and nothing falls.
-use Rattle.pagable_tables.proofs.Words.{sum_by, ◌≡◌, ℕ, ◌+◌, ◌<◌, ◌≤◌, Bool, true, false, List, [], ◌∷◌, ◌++◌, length, refl, ap, sym, ◌∙◌, subst, arith, Option, Some, None, inl, inr, ◌≢◌, not}
-use Rattle.pagable_tables.proofs.Words.{IsSome, nat_tests, cases_eq, sum_by_push, sum_by-cons, ArcRef, HandleRow, Owner, Mode, one, SameAt, held, is_pinning, is_owner, owner_value, Counts, holds_in}
-use Rattle.pagable_tables.proofs.{Words.{falls_in, Right, Fits, owns_nothing, named, is_valued, cell_in}, Fitting.{pin_of, handle_of, is_owned, pin-here, held-here, pin-other, held-other}}
+-- A handle comes to a live node or to another owner, and nothing falls.
+use Rattle.pagable_tables.proofs.Words.{sum_by, ◌≡◌, ℕ, ◌+◌, ◌<◌, ◌≤◌, false, List, [], ◌∷◌, ◌++◌, length, refl, ap, sym, ◌∙◌, subst, arith, Option, Some, None, inl, inr, ◌≢◌, not, IsSome, nat_tests}
+use Rattle.pagable_tables.proofs.Words.{cases_eq, sum_by_push, sum_by-cons, ArcRef, HandleRow, Owner, Mode, one, SameAt, held, is_pinning, is_owner, owner_value, Counts, holds_in, falls_in, Right}
+use Rattle.pagable_tables.proofs.Words.{Fits, owns_nothing, named, is_valued, cell_in, ◌==◌, ◌&&◌, true, get_or, slice_get, get_or-le-sum_by, sum_by-le-sum_by, HandleNumber, times, find_row}
+use Rattle.pagable_tables.proofs.{Words.{is_handle, is_owned_by, Place, live, alive, IsBefore, AllPairs}, Fitting.{pin_of, handle_of, is_owned, pin-here, held-here, pin-other, held-other}}
+use Rattle.pagable_tables.proofs.Alive.{none-found, only-row}
 
 pub no-value : (n : ℕ) (o : Owner) → is_valued o ≡ false → is_owner (owner_value n) o ≡ false
 no-value n (Owner.Value m) e = absurd (cc)
@@ -18,12 +20,6 @@ module _ (at at' : ℕ → Option Counts) (refs refs' : ℕ → List ArcRef) (ro
     (fits : Fits at refs rows top [] owns_nothing) (is : at x.node.0 ≡ Some c)
     (here : at' x.node.0 ≡ Some (record c { pins = c.pins + one (is_pinning x.mode); holds = c.holds + 1 }))
     (others : (n : ℕ) → n ≢ x.node.0 → at' n ≡ at n) (same : (n : ℕ) → refs' n ≡ refs n) (owner : is_valued x.owner ≡ false) where
-  abbrev more : Counts
-  more = record c { pins = c.pins + one (is_pinning x.mode); holds = c.holds + 1 }
-
-  free : c.is_falling ≡ false
-  free = is-free at refs rows top x.node.0 c fits is
-
   right-here : Right (at' x.node.0) (refs' x.node.0)
   right-here = grind (arith, nat_tests)
 
@@ -73,10 +69,6 @@ pin-turned x = grind (arith, nat_tests)
 pin-turned-other : (n : ℕ) (x : HandleRow) → n ≢ x.node.0 → pin_of n (turned x) ≡ 0
 pin-turned-other n x other = grind (arith, nat_tests)
 
-both : (b : Bool) → one b + one (not b) ≡ 1
-both true = refl
-both false = refl
-
 module _ (at at' : ℕ → Option Counts) (refs refs' : ℕ → List ArcRef) (rows rows' : List HandleRow) (top : ℕ) (x : HandleRow) (c : Counts)
     (fits : Fits at refs rows top [] owns_nothing) (is : at x.node.0 ≡ Some c)
     (sums : (f : HandleRow → ℕ) → sum_by f rows' + f x ≡ sum_by f rows + f (turned x))
@@ -93,3 +85,32 @@ module _ (at at' : ℕ → Option Counts) (refs refs' : ℕ → List ArcRef) (ro
 
   pub turn-cells : SameAt (λ n. cell_in (at n)) (λ n. cell_in (at' n))
   turn-cells n = grind (arith, nat_tests)
+
+abbrev pub owned-by : Owner → HandleRow → HandleRow
+owned-by owner x = record x { owner = owner }
+
+-- the list's owner is none, and what it has is there
+pub list-owner : (o : Owner) → is_owner Owner.List o ≡ true → is_valued o ≡ false
+list-owner (Owner.Value n) e = absurd (cc)
+list-owner _ e = refl
+
+abbrev entry-at : ℕ → HandleRow → ℕ
+entry-at q h = one (is_handle q h && is_owned_by Owner.List h)
+
+entry-less : (q : ℕ) (h : HandleRow) → entry-at q h ≤ one (is_handle q h)
+entry-less q h = grind (arith, nat_tests)
+
+module _ (list : List HandleNumber) (ss : List Place) (i : ℕ) (h : HandleNumber) (lt : i < length list) (is : h ≡ get_or list i h)
+    (listed : times (λ (x : HandleNumber). x.0 == h.0) list ≡ sum_by (entry-at h.0) (live ss)) where
+  some-entry : 1 ≤ sum_by (entry-at h.0) (live ss)
+  some-entry = grind (arith, nat_tests, get_or-le-sum_by)
+
+  pub entry-lives : find_row h.0 (live ss) ≡ None → ⊥
+  entry-lives none =
+      let a = none-found h.0 (live ss) none in
+      let b = sum_by-le-sum_by (entry-at h.0) (λ r. one (is_handle h.0 r)) (live ss) (entry-less h.0) in
+      let d = some-entry in
+      absurd (omega arith)
+
+  pub entry-unvalued : (place : ℕ) (row : HandleRow) → AllPairs IsBefore ss → slice_get ss place ≡ Some (alive row) → row.number ≡ h → is_valued row.owner ≡ false
+  entry-unvalued place row ordered at number = grind (arith, nat_tests, entry-less, only-row, some-entry, list-owner)

@@ -1,9 +1,10 @@
--- Where no node falls any more, all has gone that had to go, and no more.
+-- Where no node falls any more, all has gone that had to go, and no more. Values that go as nodes fall.
 use Rattle.pagable_tables.proofs.Words.{◌≡◌, ℕ, ◌+◌, ◌≤◌, ◌&&◌, Bool, true, false, not, if◌then◌else◌, List, [], ◌∷◌, sum_by, refl, ap, sym, ◌∙◌, subst, arith, inl, inr, Option, Some, None, ◌⊎◌}
 use Rattle.pagable_tables.proofs.Words.{is_some, nat_lt, nat_eq, Result, Ok, Err, nat_tests, sum_by-cons, sum_by-append, Error, OptionalDataKey, ArcRef, HandleRow, one, times, if_there}
 use Rattle.pagable_tables.proofs.Words.{is_pinned_kind, is_at, is_pin, is_owned_by, owner_value, held, pins, has_key, is_in_memory, Core, Cell, greatest, Alike, left_rows, IsClosed, is_keyed}
 use Rattle.pagable_tables.proofs.Words.{MustList, TellsListing, CannotList, IsListRefusal, Falls, fallen, pins_outside, held_outside, Counts, Holdings, live, counts_at, refs_at, Fits, IsFalling}
-use Rattle.pagable_tables.proofs.{Words.{Right, holds_in, falls_in, keyed_in, cell_in, HasFallen, owns, owns_nothing, with_tables, told_by, SoFar}, Left.{times-left, entries-none}, Forced.keyed-cell}
+use Rattle.pagable_tables.proofs.Words.{Right, holds_in, falls_in, keyed_in, cell_in, HasFallen, owns, owns_nothing, with_tables, told_by, SoFar, length, is_valued, valued, ValueStays, Sheds}
+use Rattle.pagable_tables.proofs.{Words.has_value, Left.{times-left, entries-none}, Telling.keyed-cell, Fitting.first-waits, Bits.one-le}
 
 stands : (at : ℕ → Option Counts) (refs : ℕ → List ArcRef) (rows : List HandleRow) (top : ℕ) → Fits at refs rows top [] owns_nothing → (n : ℕ) → falls_in (at n) ≡ false
 stands at refs rows top fits n = let a = fits.marked n in grind (arith, nat_tests)
@@ -87,3 +88,42 @@ module _ (before w : Core) (given : ℕ → Bool) (lists : Bool) (t : Holdings) 
         within = subst (λ k. k ≤ greatest) f.last f.within;
         leaves = leaves;
       }
+
+pub valued-le : (rows : List HandleRow) → valued rows ≤ length rows
+valued-le [] = omega arith
+valued-le (x ∷ xs) = let a = valued-le xs in let b = sum_by-cons (λ (h : HandleRow). one (is_valued h.owner)) x xs in let d = one-le (is_valued x.owner) in omega arith
+
+-- where no node is first, none falls
+pub none-falls : (t : Holdings) (stack : List ℕ) → IsFalling t stack owns_nothing → t.top ≡ 0 → IsFalling t [] owns_nothing
+none-falls t [] w z = w
+none-falls t (n ∷ ns) w z =
+    let top : t.top ≡ n = w.fits.chain.0 in
+    let f : Fits (counts_at t.nodes) (refs_at t.nodes) (live t.handles.places.items) n (n ∷ ns) owns_nothing = grind (arith, nat_tests) in
+    let waits = first-waits (counts_at t.nodes) (refs_at t.nodes) (live t.handles.places.items) n ns owns_nothing f in
+    let zero' : n ≡ 0 = sym top ∙ z in
+    absurd (let a : falls_in (counts_at t.nodes n) ≡ false = ap (λ k. falls_in (counts_at t.nodes k)) zero' ∙ ap falls_in f.from_one in cc)
+
+-- the value that a node had is there or gone, and it is there exactly where the node has it, unless the node falls
+abbrev pub Lasting : {X : Type 0} → Option Counts → Option X → Option X → Type 0
+Lasting o old now = ((now ≡ old) ⊎ (now ≡ None)) × (falls_in o ≡ false → is_some now ≡ has_value o)
+
+pub lasts-on : {X : Type 0} (done : Bool) (o o' : Option Counts) (old now now' : Option X) → now' ≡ (if done then None else now) → (done ≡ false → ValueStays o o')
+    → (done ≡ true → has_value o' ≡ false) → Lasting o old now → Lasting o' old now'
+lasts-on done o o' old now now' is stays gone l = grind (arith, nat_tests)
+
+-- nothing falls
+pub none-falls-in : (t : Holdings) → IsFalling t [] owns_nothing → (n : ℕ) → falls_in (counts_at t.nodes n) ≡ false
+none-falls-in t w n = let m = w.fits.marked n in grind (arith, nat_tests)
+
+module _ {X : Type 0} where
+  -- nothing has happened
+  pub sheds-still : (t : Holdings) (values : ℕ → Option X) → IsFalling t [] owns_nothing → Sheds (counts_at t.nodes) values (counts_at t.nodes) values
+  sheds-still t values w = record { left = λ kept n. (inl refl, kept n (none-falls-in t w n)) }
+
+  -- one after another
+  pub sheds-then : {at at1 at2 : ℕ → Option Counts} {old mid new : ℕ → Option X} → Sheds at old at1 mid → Sheds at1 mid at2 new → Sheds at old at2 new
+  sheds-then {old = old} {mid} {new} a b = grind (arith, nat_tests)
+
+  -- what takes no value comes first
+  pub stays-first : {at at1 at2 : ℕ → Option Counts} {old new : ℕ → Option X} → ((n : ℕ) → ValueStays (at n) (at1 n)) → Sheds at1 old at2 new → Sheds at old at2 new
+  stays-first stays b = record { left = λ kept. b.left (λ k falls. let s = stays k falls in kept k s.0 ∙ sym s.1) }

@@ -2,8 +2,8 @@
 use Rattle.pagable_tables.proofs.Words.{◌≡◌, ℕ, ◌+◌, ◌<◌, ◌≤◌, ◌==◌, ◌&&◌, ◌||◌, Bool, true, false, not, if◌then◌else◌, List, [], ◌∷◌, ◌++◌, suc, zero, filter, length, map, None, refl, ap, sym, ◌∙◌}
 use Rattle.pagable_tables.proofs.Words.{subst, arith, Option, Result, Ok, Err, nat_lt, vec_capacity, nat_tests, append-nil, sum_by-cons, sum_by-append, sum_by_push, Error, HandleNumber, HandleRow}
 use Rattle.pagable_tables.proofs.Words.{Owner, Blob, Among, one, times, if_there, is_at, is_handle, is_owned_by, find_row, held, Core, FallsAnyhow, left_rows, nobody, TellsListing, is_owned_in}
-use Rattle.pagable_tables.{proofs.Words.{Holdings, Tables, core_of, live, told_by, SoFar, entered, with_list, AreEntries}, specs.Core.IsWhole, proofs.keeps.Rests.found-so, proofs.keeps.Rows.counted}
-use Rattle.pagable_tables.{proofs.keeps.Rows.only-row, proofs.Begun.{begins, begun, shut-then}, proofs.Going.IsApart, proofs.Left.{and_one, kept-more}, proofs.Regiven.regiven}
+use Rattle.pagable_tables.proofs.{Words.{Holdings, Tables, core_of, live, told_by, SoFar, entered, with_list, AreEntries, IsApart}, keeps.Rows.{found-so, counted, only-row}, Begun.{begins, begun}}
+use Rattle.pagable_tables.{proofs.{Begun.shut-then, Left.{and_one, kept-more}, Regiven.regiven, Bits.one-le}, specs.Core.IsWhole}
 use Rattle.pagable_world.specs.Calls.{shut as shut_world}
 use Rattle.pagable_world.specs.Pager as pager
 
@@ -143,9 +143,7 @@ are-entries {w} whole =
     row q some = let (x, among, counts) = counted (λ h. one (lists q h)) w.rows some in let (a, b) = both (is_handle q x) (is_owned_by Owner.List x) counts in (x, among, grind (arith, nat_tests), b)
       where
         both : (a b : Bool) → 0 < one (a && b) → (a ≡ true) × (b ≡ true)
-        both true true p = (refl, refl)
-        both true false p = absurd (omega arith)
-        both false b p = absurd (omega arith)
+        both a b p = grind (arith, nat_tests)
 
     at : (q k : ℕ) → times (lists q) w.rows ≡ k → entered q w.list ≤ 1
     at q zero e = let a = whole.owners_there.listed q in omega arith
@@ -153,12 +151,8 @@ are-entries {w} whole =
         let (x, among, number, own) = row q (omega arith) in
         let a = only-row (λ h. one (lists q h)) w.rows x whole.handles.ordered among (λ y other. let o : (y.number.0 == q) ≡ false = grind (arith, nat_tests) in ap (λ b. one (b && is_owned_by Owner.List y)) o) in
         let b = whole.owners_there.listed q in
-        let c = small (lists q x) in
+        let c = one-le (lists q x) in
         omega arith
-      where
-        small : (b : Bool) → one b ≤ 1
-        small true = omega arith
-        small false = omega arith
 
 -- where nothing has gone of a whole world, nothing has of the one that is shut, while the list is still there
 pub begun-shut : (t : Tables) (stored : ℕ → Option Blob) (closed : Bool) (failures failures' : ℕ) → IsWhole t

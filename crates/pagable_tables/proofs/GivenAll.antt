@@ -1,7 +1,9 @@
--- Handles are given up together, from the last to the first.
+-- Handles are given up together, those that pass a test or that references name.
 use Rattle.pagable_tables.proofs.Words.{nat_lt, ◌≡◌, ℕ, ◌<◌, ◌≤◌, ◌-◌, ◌==◌, ◌&&◌, ◌||◌, Bool, true, false, not, [], Option, Some, None, refl, ap, sym, ◌∙◌, arith, nat_tests, NodeNumber, HandleRow}
-use Rattle.pagable_tables.{proofs.Words.{Owner, if_there, is_owner, find_row, Core, OpenLoad, nobody, Giving, Holdings, live, is_valued, SoFar, gives_row, passes_in}, specs.Giving.gives}
-use Rattle.pagable_tables.proofs.Regiven.{regiven, passes-so-far}
+use Rattle.pagable_tables.proofs.Words.{Owner, if_there, is_owner, find_row, Core, OpenLoad, nobody, Giving, Holdings, live, is_valued, SoFar, gives_row, passes_in, ◌+◌, if◌then◌else◌, List, ◌∷◌, suc}
+use Rattle.pagable_tables.proofs.Words.{length, get_or, slice_get, ◌⊎◌, AllPairs, slice_get-get_or, is_handle, Place, alive, IsBefore, ◌++◌, take, add-one, take-suc, ArcRef, LoadNumber, is_named_by}
+use Rattle.pagable_tables.proofs.{Words.is_owned_in, Regiven.{regiven, passes-so-far, passes-here, passes-none, and_owned}, Alive.{row-live, smaller-up, greater-from}, Named.named-push, Bits.had}
+use Rattle.pagable_tables.{proofs.Bits.and-left, specs.Giving.gives}
 
 -- a world of these loads alone
 abbrev pub bare : (ℕ → Option OpenLoad) → Core
@@ -20,9 +22,6 @@ bare loads =
       places = record { handles = 0; entries = 0 };
     }
 
-no-value : (w : Core) (giving : Giving) (m node : NodeNumber) → gives w giving (Owner.Value m) node ≡ false
-no-value w giving m node = grind (arith, nat_tests)
-
 no-list : (w : Core) (giving : Giving) (node : NodeNumber) → gives w giving Owner.List node ≡ false
 no-list w giving node = grind (arith, nat_tests)
 
@@ -33,13 +32,8 @@ given-plain w giving o node is = grind (arith, nat_tests)
 unlisting : (w : Core) (giving : Giving) (h : HandleRow) → h.owner ≡ Owner.List → gives_row w giving h ≡ false
 unlisting w giving h is = ap (λ o. gives w giving o h.node) is ∙ no-list w giving h.node
 
-had : (g o : Bool) → (not g && o) ≡ true → o ≡ true
-had true o e = absurd (cc)
-had false o e = e
-
 went : (g o : Bool) → (not g && o) ≡ false → o ≡ true → g ≡ true
-went true o e is = refl
-went false o e is = absurd (let a : true ≡ false = sym is ∙ e in cc)
+went g o e is = grind (arith, nat_tests)
 
 -- what has been given, while those up to a number are left
 abbrev pub past_of : Core → Core → Giving → ℕ → ℕ → Bool
@@ -97,3 +91,71 @@ module _ (before u w : Core) (lists : Bool) (giving : Giving) where
           let below : r ≤ left = grind (arith, nat_tests) in
           let g : f.gone r ≡ true = went (f.gone r) (passes r) (sym (passes-so-far before u (past left) lists t f (gives_row w giving) (unlisting w giving) r) ∙ none r (over r p) below) p in
           grind (arith, nat_tests)
+
+none-passes : (test : HandleRow → Bool) (q : ℕ) (ss : List Place) → ((k : ℕ) (d : Place) → k < length ss → (get_or ss k d).row.number.0 ≡ q → (get_or ss k d).is_live ≡ true → test (get_or ss k d).row ≡ false)
+    → passes_in test (live ss) q ≡ false
+none-passes test q [] h = passes-none test q
+none-passes test q (s ∷ ss) h = by s.is_live refl (none-passes test q ss (λ k d lt e. h (suc k) d (omega arith) e))
+  where
+    here : s.is_live ≡ true → (b : Bool) → is_handle q s.row ≡ b → passes_in test (live ss) q ≡ false → (if b then test s.row else passes_in test (live ss) q) ≡ false
+    here e true is rest = h 0 s (omega arith) (grind (arith, nat_tests)) e
+    here e false is rest = rest
+
+    by : (b : Bool) → s.is_live ≡ b → passes_in test (live ss) q ≡ false → passes_in test (if b then s.row ∷ live ss else live ss) q ≡ false
+    by true e rest = passes-here test q s.row (live ss) ∙ here e (is_handle q s.row) refl rest
+    by false e rest = rest
+
+before-or-not : (k p : ℕ) → (k < p) ⊎ (p ≤ k)
+before-or-not k p = grind arith
+
+-- below a place numbers are smaller, and from there on those that pass are too great
+pub none-from : (test : HandleRow → Bool) (ss : List Place) (p q left : ℕ) → ((k : ℕ) (d : Place) → k < p → (get_or ss k d).row.number.0 < q) → q ≤ left
+    → ((k : ℕ) (d : Place) → p ≤ k → k < length ss → (get_or ss k d).is_live ≡ true → test (get_or ss k d).row ≡ true → left < (get_or ss k d).row.number.0) → passes_in test (live ss) q ≡ false
+none-from test ss p q left below within above = grind (arith, nat_tests, none-passes, before-or-not)
+
+module _ (ss : List Place) (m : ℕ) (p : Place) (within : m < length ss) (is : p ≡ get_or ss m p) where
+  number : p.row.number.0 ≡ (get_or ss m p).row.number.0
+  number = ap (λ (x : Place). x.row.number.0) is
+
+  -- all places from one above a number on are above it
+  pub above-from : (q : ℕ) → AllPairs IsBefore ss → q < p.row.number.0 → (k : ℕ) (d : Place) → m ≤ k → k < length ss → q < (get_or ss k d).row.number.0
+  above-from q ordered more =
+      let n = number in
+      greater-from (λ (x : Place). x.row.number.0) ss m q p ordered within (omega arith) (λ (same : (get_or ss m p).row.number.0 ≡ q). absurd (omega arith))
+
+  -- all places up to one that isn't above a number are below each greater one
+  pub below-to : (since q : ℕ) → AllPairs IsBefore ss → p.row.number.0 ≤ since → since < q → (k : ℕ) (d : Place) → k < m + 1 → (get_or ss k d).row.number.0 < q
+  below-to since q ordered up over = let n = number in smaller-up (λ (x : Place). x.row.number.0) ss m q p ordered within (omega arith)
+
+  pub place-got : p.is_live ≡ true → slice_get ss m ≡ Some (alive p.row)
+  place-got lives = slice_get-get_or ss m p within ∙ ap Some (sym is) ∙ ap (λ b. Some (record { row = p.row; is_live = b })) lives
+
+  pub row-there : AllPairs IsBefore ss → p.is_live ≡ true → find_row p.row.number.0 (live ss) ≡ Some p.row
+  row-there ordered lives = row-live ss m p.row ordered (place-got lives)
+
+-- what the load owns of the handles that so many references name
+abbrev pub named_owned : Core → LoadNumber → List ArcRef → ℕ → ℕ → Bool
+named_owned w l rs i q = is_named_by (take i rs) q && is_owned_in w (Owner.Load l) q
+
+named-more : (rs : List ArcRef) (i : ℕ) (d : ArcRef) (q : ℕ) → i < length rs → is_named_by (take (i + 1) rs) q ≡ ((get_or rs i d).handle.0 == q || is_named_by (take i rs) q)
+named-more rs i d q lt =
+    let a : take i rs ++ get_or rs i d ∷ [] ≡ take (i + 1) rs = sym (take-suc rs i d lt) ∙ ap (λ n. take n rs) (sym (add-one i)) in
+    sym (ap (λ l. is_named_by l q) a) ∙ named-push (take i rs) (get_or rs i d) q
+
+named-nothing : (rs : List ArcRef) (q : ℕ) → is_named_by (take 0 rs) q ≡ false
+unfolding is_named_by
+named-nothing [] q = refl
+named-nothing (r ∷ rs) q = refl
+
+module _ (before w : Core) (lists : Bool) (t : Holdings) (l : LoadNumber) (rs : List ArcRef) where
+  pub none-given : SoFar before w nobody lists t → SoFar before w (named_owned w l rs 0) lists t
+  none-given f = regiven before w nobody (named_owned w l rs 0) lists t f (λ r e. absurd (let a = and-left (is_named_by (take 0 rs) r) _ e in let b = named-nothing rs r in cc)) (λ r e. absurd (cc))
+
+  pub one-given : (i : ℕ) (d : ArcRef) → i < length rs → SoFar before w (and_owned w l (named_owned w l rs i) (get_or rs i d).handle.0) lists t → SoFar before w (named_owned w l rs (i + 1)) lists t
+  one-given i d lt f =
+      regiven before w (and_owned w l (named_owned w l rs i) (get_or rs i d).handle.0) (named_owned w l rs (i + 1)) lists t f
+      (λ r e. let p = named-more rs i d r lt in let s : ((get_or rs i d).handle.0 == r) ≡ (r == (get_or rs i d).handle.0) = grind (arith, nat_tests) in grind (arith, nat_tests))
+      (λ r e. let p = named-more rs i d r lt in let s : ((get_or rs i d).handle.0 == r) ≡ (r == (get_or rs i d).handle.0) = grind (arith, nat_tests) in grind (arith, nat_tests))
+
+  pub all-given : (i : ℕ) → take i rs ≡ rs → ((q : ℕ) → is_named_by rs q ≡ true → is_owned_in w (Owner.Load l) q ≡ true) → SoFar before w (named_owned w l rs i) lists t → SoFar before w (is_named_by rs) lists t
+  all-given i all owned f = grind (arith, nat_tests, and-left)

@@ -1,20 +1,86 @@
 -- A load of a cell ends with a pin, and gives up what it still owns. The pin stays, so that cells are listed as of the world before.
-use Rattle.pagable_tables.proofs.Words.{◌≡◌, ℕ, ◌+◌, ◌<◌, ◌≤◌, ◌==◌, ◌&&◌, Bool, true, false, not, List, [], ◌∷◌, ◌++◌, length, refl, ap, sym, ◌∙◌, subst, arith, Option, Some, None, inl, inr}
-use Rattle.pagable_tables.proofs.Words.{if◌then◌else◌, ◌≢◌, Result, vec_capacity, option_map, AllPairs, nat_tests, sum_by_push, Error, ArcRef, HandleNumber, LoadNumber, NodeNumber, HandleRow, Owner}
-use Rattle.pagable_tables.proofs.Words.{Mode, Blob, Among, one, times, changed, find_row, pins, sharing, is_handle, is_owner, is_owned_by, is_pin, is_share, owner_value, IsHandleBefore, MayOwnLoad}
-use Rattle.pagable_tables.proofs.Words.{Core, Last, Alike, Falls, nobody, references_fault, moved, row_of, is_named_by, with_handle, with_mode, is_owned_in, without_load, with_pin, Installs, MayEnd}
-use Rattle.pagable_tables.proofs.Words.{Holdings, Counts, LoadRow, Tables, live, counts_at, load_at, cell_in, has_value, is_valued, pins_in, with_tables, is_plain_pin, SoFar, core_of, plain_of}
-use Rattle.pagable_tables.{proofs.Words.{load_in, MayHold, IsWider, has_come}, specs.Core.IsWhole, proofs.Newer.{OnlyNewer, loaded-mode, newer-then, newer-moved, newer-mode, newer-handle}}
-use Rattle.pagable_tables.{proofs.Newer.newer-falls, proofs.Begun.{begins, begun}, proofs.Coming.turned, proofs.Dropped.{load-closed, owned-given}, proofs.Joined.{moved-turned, turned-sum}}
-use Rattle.pagable_tables.{proofs.Named.{moved-nobody, named-none}, proofs.Regiven.{loaded, passes-here, passes-none}, proofs.Stays.{seen-before, stays-pinned, not-named}, proofs.Swapped.same-value}
-use Rattle.pagable_tables.{proofs.Taken.{moved-times, loaded-moved, no-load}, proofs.Upheld.references-placed, proofs.keeps.BirthCalls.named-unlisted, proofs.keeps.Comes.{not-list, not-a-value}}
-use Rattle.pagable_tables.{proofs.keeps.LoadCalls.may-hold, proofs.keeps.Moved.moved-to-value, proofs.keeps.Rows.{among-map, found-among, once, ordered-map, sum-map}}
+use Rattle.pagable_tables.proofs.Words.{◌≡◌, ℕ, ◌<◌, ◌==◌, List, [], ◌∷◌, refl, ap, sym, ◌∙◌, subst, arith, Option, Some, None, ◌⊎◌, ◌≤◌, ◌+◌, not, vec_capacity, nat_tests, Error, ArcRef}
+use Rattle.pagable_tables.proofs.Words.{HandleNumber, LoadNumber, NodeNumber, HandleRow, Owner, if_there, or_else, Core, OpenLoad, Places, of_cell, of_key, greatest, AreHandlesFull, refused_if}
+use Rattle.pagable_tables.proofs.Words.{where_so, spent, load_fault, reference_fault, references_fault, MayOwnLoad, root_fault, end_fault, is_owned_in, MayEnd, Handles, Tables, live, room, AreSound}
+use Rattle.pagable_tables.proofs.Words.{IsNext, counts_at, refs_at, plain_of, Ending, IsReady, ◌&&◌, Bool, true, false, ◌++◌, length, inl, inr, if◌then◌else◌, ◌≢◌, Result, option_map, AllPairs}
+use Rattle.pagable_tables.proofs.Words.{sum_by_push, Mode, Blob, Among, one, times, changed, find_row, pins, sharing, is_handle, is_owner, is_owned_by, is_pin, is_share, owner_value, IsHandleBefore}
+use Rattle.pagable_tables.proofs.Words.{Last, Alike, Falls, nobody, moved, row_of, is_named_by, with_handle, with_mode, without_load, with_pin, Installs, Holdings, Counts, LoadRow, load_at, cell_in}
+use Rattle.pagable_tables.proofs.{Words.{has_value, is_valued, pins_in, with_tables, is_plain_pin, SoFar, core_of, load_in, MayHold, IsWider, has_come}, Coming.{rows-told, turned}, Worlds.alike}
+use Rattle.pagable_tables.proofs.{keeps.Told.alike-whole, keeps.Placed.whole-so, keeps.EndCalls.both-none, Newer.{OnlyNewer, loaded-mode, newer-then, newer-moved, newer-mode, newer-handle}}
+use Rattle.pagable_tables.proofs.{Newer.newer-falls, Begun.{begins, begun}, Taken.{load-closed, owned-given, moved-times, loaded-moved, no-load}, Joined.{moved-turned, turned-sum}, Named.moved-nobody}
+use Rattle.pagable_tables.proofs.{Named.named-none, Regiven.{loaded, passes-here, passes-none}, Stays.{seen-before, stays-pinned, not-named, same-value}, keeps.HandleCalls.named-unlisted}
+use Rattle.pagable_tables.proofs.{keeps.HandleCalls.moved-to-value, keeps.Comes.{not-list, not-a-value}, keeps.LoadCalls.may-hold, keeps.Rows.{among-map, found-among, once, ordered-map, sum-map}}
+use Rattle.pagable_tables.{proofs.Bits.{and-zero, and-left, and-all}, specs.Core.IsWhole}
+
+typed-so : (a b : ℕ) → refused_if (not (a == b)) Error.WrongKind ≡ None → a ≡ b
+typed-so a b e = grind (arith, nat_tests)
+
+own-so : (w : Core) (me : Owner) (l : LoadNumber) (load : OpenLoad) → w.loads l.0 ≡ Some load → load_fault w me l ≡ None → load.owner ≡ me
+own-so w me l load is none = grind (arith, nat_tests)
+
+module _ (w : Core) (me : Owner) (l : LoadNumber) (node_type : ℕ) (refs : List ArcRef) (none : end_fault w me l node_type refs ≡ None) where
+  abbrev root : Option Error
+  root = if_there (λ (load : OpenLoad). root_fault w me node_type load.root) None (w.loads l.0)
+
+  parts : (load_fault w me l ≡ None) × (root ≡ None) × (references_fault w (Owner.Load l) [] refs ≡ None)
+  parts = grind (arith, nat_tests, both-none)
+
+  -- it is open
+  pub opens : w.loads l.0 ≡ None → ⊥
+  opens gone = grind (arith, nat_tests, parts)
+
+  module _ (load : OpenLoad) (is : w.loads l.0 ≡ Some load) where
+    rooted : root_fault w me node_type load.root ≡ None
+    rooted = sym (ap (if_there (λ (load : OpenLoad). root_fault w me node_type load.root) None) is) ∙ parts.1
+
+    -- it is of a cell
+    pub celled : load.root ≡ of_key → ⊥
+    celled key = let a : Some Error.WrongMode ≡ None = sym (ap (root_fault w me node_type) key) ∙ rooted in cc
+
+    module _ (node : NodeNumber) (t : ℕ) (h : HandleNumber) (cell : load.root ≡ of_cell node t h) where
+      fits : (refused_if (not (node_type == t)) Error.WrongKind ≡ None) × (where_so (is_owned_in w me h.0) (spent w.last.handle) ≡ None)
+      fits = both-none (refused_if (not (node_type == t)) Error.WrongKind) (where_so (is_owned_in w me h.0) (spent w.last.handle)) (sym (ap (root_fault w me node_type) cell) ∙ rooted)
+
+      pub may-end : MayEnd w me l node h node_type refs
+      may-end =
+          record {
+            load = load;
+            owned = record { stands_open = is; own = own-so w me l load is parts.0 };
+            of_node = cell ∙ ap (λ u. of_cell node u h) (sym (typed-so node_type t fits.0));
+            good = parts.2;
+          }
+
+-- references are as good where there are other places
+pub references-placed : (w : Core) (places : Places) (owner : Owner) (seen : List ℕ) (refs : List ArcRef) → references_fault (record w { places = places }) owner seen refs ≡ references_fault w owner seen refs
+unfolding references_fault
+references-placed w places owner seen [] = refl
+references-placed w places owner seen (r ∷ rs) = ap (or_else (reference_fault w owner seen r)) (references-placed w places owner (r.handle.0 ∷ seen) rs)
+
+-- more places, and all as it was
+pub placed-whole : (t : Tables) (h : Handles) → IsWhole t → AreSound h → ((q : ℕ) → IsNext q t.holdings.handles.places.items → IsNext q h.places.items)
+    → live h.places.items ≡ live t.holdings.handles.places.items → vec_capacity t.holdings.handles.places ≤ vec_capacity h.places → IsWhole (record t { holdings = record t.holdings { handles = h } })
+placed-whole t h w sound next rows more =
+    let k = t.holdings in
+    whole-so
+    (record { sound = sound; next = next (k.last_handle + 1) w.steady.next; fits = rows-told (counts_at k.nodes) (refs_at k.nodes) (live k.handles.places.items) (live h.places.items) k.top rows w.steady.fits })
+    (alike-whole w.core (alike (plain_of t) (plain_of (record t { holdings = record t.holdings { handles = h } })) rows (λ n. refl) (record { handles = more; entries = omega arith }) refl))
+
+-- neither number nor place is wanting
+pub no-wanting : (t : Tables) (e : Error) → AreSound t.holdings.handles → t.holdings.last_handle < greatest → 1 ≤ room t.holdings.handles
+    → (spent t.holdings.last_handle ≡ Some e) ⊎ ((e ≡ Error.OutOfMemory) × (spent t.holdings.last_handle ≡ None) × AreHandlesFull (plain_of t)) → ⊥
+no-wanting t e sound left place h = grind (arith, nat_tests)
+
+-- a load that can end can where there are other places
+pub ready-placed : (w : Core) (places : Places) (rows : List HandleRow) (me : Owner) (l : LoadNumber) (node_type : ℕ) (refs : List ArcRef) (e : Ending) → rows ≡ w.rows → IsReady w me l node_type refs e
+    → IsReady (record w { rows = rows; places = places }) me l node_type refs e
+ready-placed w places rows me l node_type refs e same r = grind (arith, nat_tests, references-placed)
+
+-- who ends a load may own one
+pub ready-owner : (t : Tables) (me : Owner) (l : LoadNumber) (node_type : ℕ) (refs : List ArcRef) (e : Ending) → IsWhole t → IsReady (plain_of t) me l node_type refs e → MayOwnLoad (plain_of t) me
+ready-owner t me l node_type refs e whole r = subst (MayOwnLoad (plain_of t)) r.may.owned.own (whole.core.loads.owned l.0 r.may.load r.may.owned.stands_open)
 
 -- Of other nodes the same handles pin, and are Shared.
 module _ (h : HandleNumber) (node : NodeNumber) (rows : List HandleRow) (of : (y : HandleRow) → Among rows y → is_handle h.0 y ≡ true → y.node ≡ node) (n : ℕ) (other : (node.0 == n) ≡ false) where
-  abbrev to : HandleRow → HandleRow
-  to y = if is_handle h.0 y then turned y else y
-
   pub other-pins : pins n (changed (is_handle h.0) turned rows) ≡ pins n rows
   other-pins = grind (arith, nat_tests, sum-map, of)
 
@@ -24,10 +90,6 @@ module _ (h : HandleNumber) (node : NodeNumber) (rows : List HandleRow) (of : (y
 loaded-beside : (l : LoadNumber) (q : ℕ) (rows : List HandleRow) (x : HandleRow) → is_owner (Owner.Load l) x.owner ≡ false → loaded l q (rows ++ x ∷ []) ≡ loaded l q rows
 loaded-beside l q [] x other = grind (arith, nat_tests, passes-here, passes-none)
 loaded-beside l q (y ∷ ys) x other = grind (arith, nat_tests, passes-here, loaded-beside l q ys x other)
-
-and-none : (b : Bool) → one (b && false) ≡ 0
-and-none true = refl
-and-none false = refl
 
 row-of : (rows : List HandleRow) → AllPairs IsHandleBefore rows → (row : HandleRow) → find_row row.number.0 rows ≡ Some row → (z : HandleRow) → Among rows z → is_handle row.number.0 z ≡ true
     → z.node ≡ row.node
@@ -102,7 +164,7 @@ module _ (t t1 : Tables) (stored : ℕ → Option Blob) (closed lists : Bool) (f
   list-has q =
       let b = sum_by_push (λ (h : HandleRow). one (is_handle q h && is_owned_by Owner.List h)) mid x in
       let d = turned-sum (λ (h : HandleRow). one (is_handle q h && is_owned_by Owner.List h)) h.0 rows0 (λ y. refl) in
-      let z : one (is_handle q x && is_owned_by Owner.List x) ≡ 0 = ap (λ b. one (is_handle q x && b)) unlisted ∙ and-none (is_handle q x) in
+      let z : one (is_handle q x && is_owned_by Owner.List x) ≡ 0 = ap (λ b. one (is_handle q x && b)) unlisted ∙ and-zero (is_handle q x) in
       let g = listed q in
       omega arith
 
@@ -131,17 +193,13 @@ module _ (t t1 : Tables) (stored : ℕ → Option Blob) (closed lists : Bool) (f
     owned-pinned : (q : ℕ) → is_owned_in u (Owner.Load l) q ≡ given q
     owned-pinned q = loaded-beside l q mid x unloaded ∙ loaded-mode l q (is_handle h.0) Mode.LoosePinned rows0 ∙ loaded-moved s o l q w.rows refl
 
-    and-first : (b d : Bool) → (b && d) ≡ true → b ≡ true
-    and-first true d eq = refl
-    and-first false d eq = absurd (cc)
-
     spared-pin : given (t.holdings.last_handle + 1) ≡ false
     spared-pin = by (given (t.holdings.last_handle + 1)) refl
       where
         by : (b : Bool) → given (t.holdings.last_handle + 1) ≡ b → b ≡ false
         by false eq = refl
         by true eq =
-            let own = and-first (is_owned_in w (Owner.Load l) (t.holdings.last_handle + 1)) (not (s (t.holdings.last_handle + 1))) eq in
+            let own = and-left (is_owned_in w (Owner.Load l) (t.holdings.last_handle + 1)) (not (s (t.holdings.last_handle + 1))) eq in
             absurd (let g = owned-given (plain_of t) (Owner.Load l) (t.holdings.last_handle + 1) was.core.handles own in omega arith)
 
     ordered : AllPairs IsHandleBefore u.rows
@@ -158,7 +216,7 @@ module _ (t t1 : Tables) (stored : ℕ → Option Blob) (closed lists : Bool) (f
       where
         to-before : (n : ℕ) → pins n w'.rows ≡ 0 → (pins n u.rows ≡ pins n w.rows) × (sharing n u.rows ≡ sharing n w.rows)
         to-before n none =
-            let stays = stays-pinned (record w { rows = mid }) u w' given r x refl ordered unvalued refl spared-pin falls n none in
+            let stays = stays-pinned (record w { rows = mid }) u w' given r x refl ordered unvalued spared-pin falls n none in
             let more = sum_by_push (λ y. one (is_pin n y)) mid x in
             let z : one (is_pin n x) ≡ 0 = (let b = stays.0 in omega arith) in
             let other : (row.node.0 == n) ≡ false = grind (arith, nat_tests) in (
@@ -174,7 +232,7 @@ module _ (t t1 : Tables) (stored : ℕ → Option Blob) (closed lists : Bool) (f
         → Falls w u given r (record (core_of (record t1 { holdings = new }) stored closed failures) { loads = λ q. option_map load_in (loads q) })
     ended since new loads r gives later gone others =
         let falls = gives u u begun-pinned (let b = ap length (rows ∙ come) in omega arith)
-        (λ q own. let mine = and-first (is_owned_in w (Owner.Load l) q) (not (s q)) (sym (owned-pinned q) ∙ own) in
+        (λ q own. let mine = and-left (is_owned_in w (Owner.Load l) q) (not (s q)) (sym (owned-pinned q) ∙ own) in
         (later q mine, (let g = owned-given (plain_of t) (Owner.Load l) q was.core.handles mine in let b = ap (λ (v : Last). v.handle) a.last in omega arith))) in
         let fell = as-before (subst (λ g. Falls u u g r (with_tables u new)) (λ i q. owned-pinned q i) falls) in
         let closed-one = load-closed (load_at t.loads) loads l.0 gone (λ q other. others q other ∙ ap (λ (v : Tables). load_at v.loads q) same) in
@@ -207,24 +265,19 @@ none-moves w l row me r w' falls =
     subst (λ rows. Falls w (with_pin (record (without_load w l) { rows = rows }) row.number row.node me) (is_owned_in w (Owner.Load l)) r w') (moved-nobody (owner_value row.node.0) w.rows)
     (subst (λ given. Falls w (with_pin (record (without_load w l) { rows = moved (is_named_by []) (owner_value row.node.0) w.rows }) row.number row.node me) given r w') (λ i q. all q i) falls)
   where
-    and-all : (b : Bool) → (b && true) ≡ b
-    and-all true = refl
-    and-all false = refl
-
     all : (q : ℕ) → (is_owned_in w (Owner.Load l) q && not (is_named_by [] q)) ≡ is_owned_in w (Owner.Load l) q
     all q = ap (λ b. is_owned_in w (Owner.Load l) q && not b) (named-none q) ∙ and-all (is_owned_in w (Owner.Load l) q)
 
 -- what loads own has come since they began
 pub install-newer : {w w' : Core} (me : Owner) (l : LoadNumber) (node : NodeNumber) (h k : HandleNumber) (refs : List ArcRef) → Installs w me l node h k refs w' → OnlyNewer w w'
 install-newer {w} {w'} me l node h k refs i = elim i.falls [
-  | inl (away, f) ↦ (let m = newer-moved w (is_named_by refs) (owner_value node.0) (λ l. refl) in
-      let v : Core = record (without_load w l) { rows = moved (is_named_by refs) (owner_value node.0) w.rows } in
-      let first : OnlyNewer w v = record { last = m.last; owned = m.owned } in
-      newer-then first (newer-then (newer-mode v h Mode.LoosePinned) (newer-then (newer-handle (with_mode v h Mode.LoosePinned) node Mode.Pinned me) (newer-falls f.falls))))
-  | inr (here, f) ↦ (let v = without_load w l in
-      let first : OnlyNewer w v = record { last = omega arith; owned = λ l q own. inl own } in
-      newer-then first (newer-then (newer-mode v h Mode.LoosePinned) (newer-then (newer-handle (with_mode v h Mode.LoosePinned) node Mode.Pinned me) (newer-falls f.falls))))
+  | inl (away, f) ↦ (let v : Core = record (without_load w l) { rows = moved (is_named_by refs) (owner_value node.0) w.rows } in
+      newer-then (newer-moved w (is_named_by refs) (owner_value node.0) (λ l. refl)) (pinned v f.falls))
+  | inr (here, f) ↦ pinned (without_load w l) f.falls
 ]
+  where
+    pinned : (v : Core) {before w' : Core} {given : ℕ → Bool} {r : Result (Unit {0}) Error} → Falls before (with_pin v h node me) given r w' → OnlyNewer v w'
+    pinned v falls = newer-then (newer-mode v h Mode.LoosePinned) (newer-then (newer-handle (with_mode v h Mode.LoosePinned) node Mode.Pinned me) (newer-falls falls))
 
 pinned-value : (c : Option Counts) → 0 < pins_in c → has_value c ≡ true
 pinned-value None some = absurd (omega arith)

@@ -1,6 +1,7 @@
--- Rows that are left when a set of handles goes, counted and listed.
-use Rattle.pagable_tables.proofs.Words.{◌≡◌, ℕ, ◌+◌, ◌≤◌, ◌==◌, ◌&&◌, ◌||◌, Bool, true, false, not, if◌then◌else◌, List, [], ◌∷◌, ◌++◌, length, filter, refl, ap, ◌∙◌, arith, nat_tests}
-use Rattle.pagable_tables.proofs.Words.{sum_by-cons, sum_by-le-sum_by, HandleNumber, HandleRow, Owner, Mode, one, times, is_handle, left_rows, AreNewEntries}
+-- Rows that are left when a set of handles goes, counted and listed, and handles that leave.
+use Rattle.pagable_tables.proofs.Words.{◌≡◌, ℕ, ◌+◌, ◌≤◌, ◌==◌, ◌&&◌, ◌||◌, Bool, true, false, not, if◌then◌else◌, List, [], ◌∷◌, ◌++◌, length, filter, refl, ap, ◌∙◌, arith, nat_tests, sum_by-cons}
+use Rattle.pagable_tables.proofs.Words.{sum_by-le-sum_by, HandleNumber, HandleRow, Owner, Mode, one, times, is_handle, left_rows, AreNewEntries, sum_by, append-nil, sum_by_push, NodeNumber, Holdings}
+use Rattle.pagable_tables.proofs.{Words.{live, entry, entries_of, Leaves, sum_by-append, is_owned_by, is_owner, only_handle}, Bits.{and-zero, and-all}}
 
 -- one handle more is in the set
 abbrev pub and_one : (ℕ → Bool) → ℕ → ℕ → Bool
@@ -16,22 +17,14 @@ times-left f gone (x ∷ xs) = split (times-left f gone xs) (gone x.number.0) re
     split rest true e =
         let a = sum_by-cons (λ h. one (f h && not (gone h.number.0))) x xs in
         let l : times f (left_rows gone (x ∷ xs)) ≡ times f (left_rows gone xs) = ap (λ b. times f (if not b then x ∷ left_rows gone xs else left_rows gone xs)) e in
-        let z : one (f x && not (gone x.number.0)) ≡ 0 = ap (λ b. one (f x && not b)) e ∙ and-false (f x) in
+        let z : one (f x && not (gone x.number.0)) ≡ 0 = ap (λ b. one (f x && not b)) e ∙ and-zero (f x) in
         omega arith
-      where
-        and-false : (b : Bool) → one (b && false) ≡ 0
-        and-false true = refl
-        and-false false = refl
     split rest false e =
         let a = sum_by-cons (λ h. one (f h && not (gone h.number.0))) x xs in
         let l : times f (left_rows gone (x ∷ xs)) ≡ times f (x ∷ left_rows gone xs) = ap (λ b. times f (if not b then x ∷ left_rows gone xs else left_rows gone xs)) e in
         let c = sum_by-cons (λ h. one (f h)) x (left_rows gone xs) in
-        let z : one (f x && not (gone x.number.0)) ≡ one (f x) = ap (λ b. one (f x && not b)) e ∙ and-true (f x) in
+        let z : one (f x && not (gone x.number.0)) ≡ one (f x) = ap (λ b. one (f x && not b)) e ∙ ap one (and-all (f x)) in
         omega arith
-      where
-        and-true : (b : Bool) → one (b && true) ≡ one b
-        and-true true = refl
-        and-true false = refl
 
 times-le : (f g : HandleRow → Bool) (rows : List HandleRow) → ((h : HandleRow) → one (f h) ≤ one (g h)) → times f rows ≤ times g rows
 times-le f g rows h = sum_by-le-sum_by (λ x. one (f x)) (λ x. one (g x)) rows h
@@ -88,3 +81,52 @@ pub entries-more : (last : ℕ) (entries : List HandleRow) (x : HandleRow) → A
     → x.owner ≡ Owner.List → AreNewEntries last (entries ++ x ∷ [])
 entries-more last [] x e number mode owner = (omega arith, mode, owner, tt)
 entries-more last (y ∷ ys) x e number mode owner = (e.0, e.1, e.2, entries-more (last + 1) ys x e.3 (omega arith) mode owner)
+
+pub with-entry : (f : HandleRow → ℕ) (rows : List HandleRow) (listed : Bool) (k : ℕ) (node : NodeNumber)
+    → sum_by f (rows ++ entries_of listed k node) ≡ sum_by f rows + (if listed then f (entry k node) else 0)
+with-entry f rows true k node = sum_by_push f rows (entry k node)
+with-entry f rows false k node = let a = ap (sum_by f) (append-nil rows) in omega arith
+
+pub leaves-sums : (old new : Holdings) (x : HandleRow) (wanted listed : Bool) → Leaves old x wanted listed new → (f : HandleRow → ℕ)
+    → sum_by f (live new.handles.places.items) + f x ≡ sum_by f (live old.handles.places.items) + (if listed then f (entry (old.last_handle + 1) x.node) else 0)
+leaves-sums old new x wanted listed leaves f = grind (arith, nat_tests, with-entry)
+
+abbrev pub of_list : ℕ → HandleRow → Bool
+of_list q h = is_handle q h && is_owned_by Owner.List h
+
+abbrev of_other : ℕ → HandleRow → Bool
+of_other q h = is_handle q h && not (is_owned_by Owner.List h)
+
+parts : (q : ℕ) (rows : List HandleRow) → times (is_handle q) rows ≡ times (of_list q) rows + times (of_other q) rows
+parts q [] = refl
+parts q (x ∷ xs) =
+    let a = sum_by-cons (λ h. one (is_handle q h)) x xs in
+    let b = sum_by-cons (λ h. one (of_list q h)) x xs in
+    let d = sum_by-cons (λ h. one (of_other q h)) x xs in
+    let rest = parts q xs in
+    let here = bits (is_handle q x) (is_owned_by Owner.List x) in
+    omega arith
+  where
+    bits : (a b : Bool) → one a ≡ one (a && b) + one (a && not b)
+    bits a b = grind (arith, nat_tests)
+
+none-of : (p : HandleRow → Bool) (q : ℕ) (rows : List HandleRow) → times (λ h. (is_handle q h && p h) && not (h.number.0 == q)) rows ≡ 0
+none-of p q [] = refl
+none-of p q (x ∷ xs) = grind (arith, nat_tests, none-of p q xs)
+
+pub none-listed : (old new : Holdings) (x : HandleRow) (wanted listed : Bool) → Leaves old x wanted listed new → is_owned_by Owner.List x ≡ false
+    → times (of_list x.number.0) (live old.handles.places.items) ≡ 0
+none-listed old new x wanted listed leaves owner =
+    let b = ap (times (of_list x.number.0)) leaves.rows in
+    let d = times-left (of_list x.number.0) (only_handle x.number) (live old.handles.places.items) in
+    let e = none-of (is_owned_by Owner.List) x.number.0 (live old.handles.places.items) in
+    let z : one (of_list x.number.0 x) ≡ 0 = grind (arith, nat_tests) in
+    omega arith
+
+pub none-entered : (q last : ℕ) (rows left entries : List HandleRow) → rows ≡ left ++ entries → AreNewEntries last entries → times (of_list q) rows ≡ 0 → times (is_handle q) entries ≡ 0
+none-entered q last rows left entries is new none =
+    let a = ap (times (of_list q)) is in
+    let b = sum_by-append (λ h. one (of_list q h)) left entries in
+    let d = parts q entries in
+    let e = entries-none (of_other q) (λ h mode owner. let l : is_owned_by Owner.List h ≡ true = ap (is_owner Owner.List) owner in grind (arith, nat_tests)) last entries new in
+    omega arith

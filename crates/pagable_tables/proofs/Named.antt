@@ -1,7 +1,7 @@
 -- Handles that references name come to another owner.
-use Rattle.pagable_tables.proofs.Words.{◌≡◌, ℕ, ◌+◌, ◌<◌, ◌≤◌, ◌==◌, ◌||◌, true, false, List, [], ◌∷◌, ◌++◌, take, drop, drop-cons, get_or, length, add-one, refl, ap, sym, ◌∙◌, arith, Some}
-use Rattle.pagable_tables.proofs.Words.{None, nat_tests, ◌≢◌, drop_all, take-suc, Error, ArcRef, HandleNumber, HandleRow, Owner, is_in, or_else, find_row, Core, reference_fault}
-use Rattle.pagable_tables.proofs.{Owned.owned-by, Words.references_fault, Words.only_handle, Words.moved, Words.is_named_by}
+use Rattle.pagable_tables.proofs.Words.{◌≡◌, ℕ, ◌+◌, ◌<◌, ◌≤◌, ◌==◌, ◌||◌, true, false, List, [], ◌∷◌, ◌++◌, take, drop, drop-cons, get_or, length, add-one, refl, ap, sym, ◌∙◌, arith, Some, None}
+use Rattle.pagable_tables.proofs.Words.{nat_tests, ◌≢◌, drop_all, take-suc, Error, ArcRef, HandleNumber, HandleRow, Owner, is_in, or_else, find_row, Core, reference_fault, references_fault}
+use Rattle.pagable_tables.proofs.{Words.{only_handle, moved, is_named_by, Alike, HasRoom}, Coming.owned-by, Worlds.same-cache}
 
 -- no row has the number
 pub moved-none : (h : HandleNumber) (owner : Owner) (rows : List HandleRow) → find_row h.0 rows ≡ None → moved (only_handle h) owner rows ≡ rows
@@ -83,3 +83,6 @@ module _ (w : Core) (me : Owner) (seen : List ℕ) (rs : List ArcRef) (i : ℕ) 
   pub fault-end : length rs ≤ i → references_fault w me seen (drop i rs) ≡ None
   unfolding references_fault
   fault-end past = ap (references_fault w me seen) (drop_all i rs past)
+
+pub alike-listed : (w w' : Core) → w'.rows ≡ w.rows → w'.list ≡ w.list → HasRoom w.places w'.places → w' ≡ record w { rows = w'.rows; list = w'.list; places = w'.places } → Alike w w'
+alike-listed w w' rows list places same = grind (arith, nat_tests, same-cache)

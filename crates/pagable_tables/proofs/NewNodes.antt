@@ -1,44 +1,13 @@
 -- A birth, by what it is made of; and why references are refused before a number that is spent.
-use Rattle.pagable_tables.proofs.Words.{◌≡◌, ℕ, ◌<◌, ◌≤◌, ◌==◌, ◌||◌, Bool, true, false, List, [], ◌∷◌, refl, ap, ◌∙◌, subst, arith, Ok, Option, Some, None, zero, suc, if◌then◌else◌, not, nat_tests}
-use Rattle.pagable_tables.proofs.Words.{OptionalDataKey, Error, ArcRef, HandleNumber, HandleRow, Owner, Mode, is_in, if_there, or_else, type_of, is_owner, fits_mode, Core, Alike, greatest, row_at}
-use Rattle.pagable_tables.proofs.Words.{type_at, earlier, rank, refused_if, reference_fault, references_fault, row_fault, is_type, birth_fault, with_handle, with_node, next_node, AwayBirthCall}
-use Rattle.pagable_tables.proofs.{Words.{IsWhole, ArePlaced, MayHold, Counts, key_in, Bears, BearsValue, OnlyRoom}, keeps.BirthCalls.{birth-whole, no-references}, Newer.{OnlyNewer, newer-then}}
-use Rattle.pagable_tables.proofs.{Newer.{newer-alike, newer-node}, Readied.{next-past, born-past}, Pins.{earlier-first, spent-late}, Offers.late}
-
-low-if : (b : Bool) (f e : Error) → rank f ≤ 3 → refused_if b f ≡ Some e → rank e ≤ 3
-low-if false f e low is = absurd (cc)
-low-if true f e low is = let same : f ≡ e = cc in subst (λ x. rank x ≤ 3) same low
-
-low-or : (a b : Option Error) (e : Error) → ((f : Error) → a ≡ Some f → rank f ≤ 3) → ((f : Error) → b ≡ Some f → rank f ≤ 3) → or_else a b ≡ Some e → rank e ≤ 3
-low-or None b e one two is = two e is
-low-or (Some x) b e one two is = one e is
-
-low-row : (b : Bool) (f e : Error) (rest : Option Error) → rank f ≤ 3 → ((g : Error) → rest ≡ Some g → rank g ≤ 3) → (if b then Some f else rest) ≡ Some e → rank e ≤ 3
-low-row false f e rest low more is = more e is
-low-row true f e rest low more is = let same : f ≡ e = cc in subst (λ x. rank x ≤ 3) same low
-
-reference-low : (w : Core) (me : Owner) (seen : List ℕ) (r : ArcRef) (e : Error) → reference_fault w me seen r ≡ Some e → rank e ≤ 3
-reference-low w me seen r e is = by (row_at w r.handle) is
-  where
-    by : (o : Option HandleRow) → if_there (λ (row : HandleRow). row_fault w r (refused_if (not (is_owner me row.owner) || is_in seen r.handle.0) Error.NotYours) row) (Some Error.NoSuchHandle) o ≡ Some e → rank e ≤ 3
-    by None is = let same : Error.NoSuchHandle ≡ e = cc in subst (λ x. rank x ≤ 3) same (omega arith)
-    by (Some row) is =
-        let seen-first : Option Error = refused_if (not (is_owner me row.owner) || is_in seen r.handle.0) Error.NotYours in
-        let kind-last : Option Error = refused_if (not (is_type (type_of r.kind.0) (type_at w r.node.0))) Error.WrongKind in
-        let mode-next : Option Error = if not (fits_mode r.kind.0 row.mode) then Some Error.WrongMode else kind-last in
-        let first = λ (f : Error). low-if (not (is_owner me row.owner) || is_in seen r.handle.0) Error.NotYours f (omega arith) in
-        let last = λ (f : Error). low-if (not (is_type (type_of r.kind.0) (type_at w r.node.0))) Error.WrongKind f (omega arith) in
-        let next = λ (f : Error). low-row (not (fits_mode r.kind.0 row.mode)) Error.WrongMode f kind-last (omega arith) last in
-        low-row (not (row.node.0 == r.node.0)) Error.NoSuchHandle e (or_else seen-first mode-next) (omega arith) (λ g. low-or seen-first mode-next g first next) is
-
-references-low : (w : Core) (me : Owner) (seen : List ℕ) (rs : List ArcRef) (e : Error) → references_fault w me seen rs ≡ Some e → rank e ≤ 3
-unfolding references_fault
-references-low w me seen [] e is = absurd (cc)
-references-low w me seen (r ∷ rs) e is = low-or _ _ e (reference-low w me seen r) (references-low w me (r.handle.0 ∷ seen) rs) is
+use Rattle.pagable_tables.proofs.Words.{◌≡◌, ℕ, ◌<◌, true, List, [], refl, ap, ◌∙◌, subst, arith, Ok, Some, None, zero, suc, nat_tests, OptionalDataKey, Error, ArcRef, HandleNumber, Owner, Mode, Core}
+use Rattle.pagable_tables.proofs.Words.{Alike, greatest, earlier, references_fault, birth_fault, with_handle, with_node, next_node, AwayBirthCall, IsWhole, ArePlaced, MayHold, Counts, key_in, Bears}
+use Rattle.pagable_tables.proofs.{Words.{BearsValue, OnlyRoom}, keeps.HandleCalls.{birth-whole, no-references}, Newer.{OnlyNewer, newer-then, newer-alike, newer-node}, Readied.{next-past, born-past}}
+use Rattle.pagable_tables.proofs.Opened.{earlier-first, spent-late, late, references-low}
 
 -- a cause that tells of a reference comes before a number that is spent
 pub references-first : (w : Core) (me : Owner) (rs : List ArcRef) (e : Error) → references_fault w me [] rs ≡ Some e → earlier (references_fault w me [] rs) (birth_fault w) ≡ Some e
-references-first w me rs e is = grind (arith, nat_tests, late, spent-late, earlier-first, references-low)
+references-first w me rs e is =
+    earlier-first _ (birth_fault w) e is (λ f so. let a = references-low w me [] rs e is in let b = late _ _ 4 (spent-late w.last.node true) (spent-late w.last.handle true) f so in omega arith)
 
 pub none-named : (w : Core) (me : Owner) (rs : List ArcRef) → rs ≡ [] → references_fault w me [] rs ≡ None
 none-named w me rs is = ap (references_fault w me []) is ∙ no-references w me

@@ -1,21 +1,27 @@
 -- What loads own is what they owned, or has come since.
-use Rattle.pagable_tables.proofs.Words.{◌≡◌, ℕ, ◌+◌, ◌<◌, ◌≤◌, ◌&&◌, ◌++◌, ◌∷◌, [], Bool, true, false, not, List, refl, ap, sym, ◌∙◌, arith, Option, Some, None, inl, inr, ◌⊎◌, ◌≢◌, Result, Ok, Err}
-use Rattle.pagable_tables.proofs.Words.{is_some, option_map, cases_eq, Error, HandleNumber, LoadNumber, NodeNumber, HandleRow, Owner, Mode, Pinning, Kind, ArcRef, OptionalDataKey, if_there, is_in}
-use Rattle.pagable_tables.proofs.Words.{type_of, changed, is_handle, is_owner, is_owned_by, owner_value, find_row, mode_of, Core, Last, Alike, Falls, only_handle, with_handle, with_node, next_node}
+use Rattle.pagable_tables.proofs.Words.{◌≡◌, ℕ, ◌+◌, ◌<◌, ◌≤◌, ◌++◌, ◌∷◌, [], Bool, true, false, not, List, refl, ap, sym, ◌∙◌, arith, Option, Some, None, inl, inr, ◌⊎◌, ◌≢◌, Result, Ok, Err, is_some}
+use Rattle.pagable_tables.proofs.Words.{option_map, cases_eq, Error, HandleNumber, LoadNumber, NodeNumber, HandleRow, Owner, Mode, Pinning, Kind, ArcRef, OptionalDataKey, if_there, is_in, type_of}
+use Rattle.pagable_tables.proofs.Words.{changed, is_handle, is_owner, is_owned_by, owner_value, find_row, mode_of, Core, Last, Alike, Falls, only_handle, with_handle, with_node, next_node}
 use Rattle.pagable_tables.proofs.Words.{with_cached_if_open, is_named_by, moved, with_mode, LoosenCall, PinCall, UnpinCall, ReleaseCall, SetKeyCall, ScheduleCall, TakeCall, OfferCall, CloseCall}
 use Rattle.pagable_tables.proofs.Words.{is_owned_in, numbers_of, adopted, first_key, Adopts, DropCall, HandOverCall, LazyCall, LoadRow, Tables, load_at, plain_of, load_in, Makes, AreLater, nat_tests}
-use Rattle.pagable_tables.proofs.{Regiven.{loaded, passes-here, passes-left, no-entry, unlisting}, Taken.{loaded-moved, and-left}, Worlds.owner-same, keeps.Rows.{found-among, found-push}}
+use Rattle.pagable_tables.proofs.{Regiven.{loaded, passes-here, passes-left, no-entry, unlisting}, Taken.loaded-moved, Bits.{and-left, had}, Worlds.owner-same, keeps.Rows.{found-among, found-push}}
 use Rattle.pagable_world.specs.Pager as pager
 
-pub record OnlyNewer (w w' : Core) : Type 0 where
-  pub last : w.last.handle ≤ w'.last.handle
-  pub owned : (l : LoadNumber) (q : ℕ) → is_owned_in w' (Owner.Load l) q ≡ true → (is_owned_in w (Owner.Load l) q ≡ true) ⊎ (w.last.handle < q)
+pub record IsNewer (rows rows' : List HandleRow) (given given' : ℕ) : Type 0 where
+  pub last : given ≤ given'
+  pub owned : (l : LoadNumber) (q : ℕ) → loaded l q rows' ≡ true → (loaded l q rows ≡ true) ⊎ (given < q)
+
+abbrev pub OnlyNewer : Core → Core → Type 0
+OnlyNewer w w' = IsNewer w.rows w'.rows w.last.handle w'.last.handle
 
 pub newer-alike : {w w' : Core} → Alike w w' → OnlyNewer w w'
 newer-alike {w} {w'} a = record { last = (let e = ap (λ (l : Last). l.handle) a.last in omega arith); owned = λ l q own. inl (sym (ap (loaded l q) a.rows) ∙ own) }
 
-pub newer-then : {a b c : Core} → OnlyNewer a b → OnlyNewer b c → OnlyNewer a c
-newer-then {a} p q = record { last = (let x = p.last in let y = q.last in omega arith); owned = λ l n own. elim (q.owned l n own) [ inl there ↦ p.owned l n there | inr past ↦ inr (let x = p.last in omega arith) ] }
+pub newer-then : {r s t : List HandleRow} {i j k : ℕ} → IsNewer r s i j → IsNewer s t j k → IsNewer r t i k
+newer-then p q = record {
+  last = (let x = p.last in let y = q.last in omega arith);
+  owned = λ l n own. elim (q.owned l n own) [ inl there ↦ p.owned l n there | inr past ↦ inr (let x = p.last in omega arith) ];
+}
 
 loaded-push : (l : LoadNumber) (q : ℕ) (rows : List HandleRow) (x : HandleRow) → loaded l q (rows ++ x ∷ []) ≡ true → (loaded l q rows ≡ true) ⊎ (x.number.0 ≡ q)
 loaded-push l q rows x own = grind (arith, nat_tests, found-push, found-among)
@@ -40,10 +46,6 @@ newer-falls {before} {u} {w'} falls =
       last = (let e = ap (λ (l : Last). l.handle) falls.leaves.last in omega arith);
       owned = λ l q own. inl (had (falls.gone q) (loaded l q u.rows) (sym (ap (loaded l q) falls.leaves.rows ∙ passes-left (is_owned_by (Owner.Load l)) q falls.gone falls.entries u.rows (no-entry (is_owned_by (Owner.Load l)) q (unlisting l) u.last.handle falls.entries falls.new)) ∙ own));
     }
-  where
-    had : (g o : Bool) → (not g && o) ≡ true → o ≡ true
-    had true o e = absurd (cc)
-    had false o e = e
 
 -- the open loads are ones that were open
 pub later-so : {t t' : Tables} → AreLater t → OnlyNewer (plain_of t) (plain_of t') → ((l : ℕ) (load : LoadRow) → load_at t'.loads l ≡ Some load → load_at t.loads l ≡ Some load) → AreLater t'
@@ -86,13 +88,11 @@ later-opened {t} {t'} whole later newer m row none here since others =
 -- ---- calls
 
 pub drop-newer : {w w' : Core} (me : Owner) (l : LoadNumber) (r : Result (Unit {0}) Error) → DropCall w me l r w' → OnlyNewer w w'
-drop-newer me l r call = elim call.does [ inl refused ↦ newer-alike refused.stays | inr (load, own, falls) ↦ (let n = newer-falls falls in record { last = n.last; owned = n.owned }) ]
+drop-newer me l r call = elim call.does [ inl refused ↦ newer-alike refused.stays | inr (load, own, falls) ↦ newer-falls falls ]
 
 pub take-newer : {w w' : Core} (me : Owner) (l : LoadNumber) (hs : List HandleNumber) (r : Result (Unit {0}) Error) → ((m : LoadNumber) → is_owner (Owner.Load m) me ≡ false) → HandOverCall w me l hs r w' → OnlyNewer w w'
 take-newer {w} me l hs (Ok u) other call =
-    let n = newer-falls call.hands.1.falls in
-    let m = newer-moved w (is_in (numbers_of hs)) me other in
-    newer-then m (record { last = n.last; owned = n.owned })
+    newer-then (newer-moved w (is_in (numbers_of hs)) me other) (newer-falls call.hands.1.falls)
 take-newer me l hs (Err e) other call = newer-alike call.refused.1
 
 pub makes-newer : {w w' : Core} (node : NodeNumber) (mode : Mode) (owner : Owner) (r : Result HandleNumber Error) → Makes w node mode owner r w' → OnlyNewer w w'
@@ -105,8 +105,7 @@ newer-cached w kind key n = grind (arith, nat_tests)
 -- a node comes with its references and a handle
 pub newer-node : (w : Core) (node_type : ℕ) (own_key : OptionalDataKey) (references : List ArcRef) (mode : Mode) (owner : Owner) → OnlyNewer w (with_handle (with_node w node_type own_key references) (next_node w) mode owner)
 newer-node w node_type own_key references mode owner =
-    let m = newer-moved w (is_named_by references) (owner_value (w.last.node + 1)) (λ l. refl) in
-    newer-then (record { last = m.last; owned = m.owned }) (newer-handle (with_node w node_type own_key references) (next_node w) mode owner)
+    newer-then (newer-moved w (is_named_by references) (owner_value (w.last.node + 1)) (λ l. refl)) (newer-handle (with_node w node_type own_key references) (next_node w) mode owner)
 
 pub newer-adopted : (w : Core) (l : LoadNumber) (kind : Kind) (key : ℕ) (own_key : OptionalDataKey) (references : List ArcRef) → OnlyNewer w (adopted w l kind key own_key references)
 newer-adopted w l kind key own_key references =
@@ -144,7 +143,7 @@ pub set-key-newer : {w w' : Core} (me : Owner) (h : HandleNumber) (key : ℕ) (r
 set-key-newer me h key r call = elim call.does [
   | inl refused ↦ newer-alike refused.stays
   | inr (row, own, inl (mode, told, stays)) ↦ newer-alike stays
-  | inr (row, own, inr (loose, falls)) ↦ (let n = newer-falls falls in record { last = n.last; owned = n.owned })
+  | inr (row, own, inr (loose, falls)) ↦ newer-falls falls
 ]
 
 pub adopt-newer : {w w' : Core} (me : Owner) (l : LoadNumber) (kind : Kind) (key node_type : ℕ) (refs : List ArcRef) (k : HandleNumber) → Adopts w me l kind key node_type refs k w' → OnlyNewer w w'
@@ -155,17 +154,17 @@ adopt-newer {w} me l kind key node_type refs k a = elim a.makes [
 
 pub schedule-newer : {w w' : Core} (me : Owner) (h : HandleNumber) (r : Result (Unit {0}) Error) → ScheduleCall w me h r w' → OnlyNewer w w'
 schedule-newer {w} me h (Ok u) call = elim call.moves.2 [
-  | inl (stands_open, leaves) ↦ (let n = newer-alike leaves in newer-then (newer-moved w (only_handle h) Owner.List (λ l. refl)) (record { last = n.last; owned = n.owned }))
+  | inl (stands_open, leaves) ↦ newer-then (newer-moved w (only_handle h) Owner.List (λ l. refl)) (newer-alike leaves)
   | inr (shut, falls) ↦ newer-falls falls.falls
 ]
 schedule-newer me h (Err e) call = newer-alike call.refused.stays
 
-pub take-pending-newer : {w w' : Core} (me : Owner) (i : ℕ) (found : Option HandleNumber) → ((m : LoadNumber) → is_owner (Owner.Load m) me ≡ false) → TakeCall w me i found w' → OnlyNewer w w'
-take-pending-newer {w} me i (Some h) other call = let n = newer-alike call.1 in newer-then (newer-moved w (only_handle h) me other) (record { last = n.last; owned = n.owned })
-take-pending-newer me i None other call = newer-alike call.1
+pub take-pending-newer : (w w' : Core) (me : Owner) (i : ℕ) (found : Option HandleNumber) → ((m : LoadNumber) → is_owner (Owner.Load m) me ≡ false) → TakeCall w me i found w' → OnlyNewer w w'
+take-pending-newer w w' me i (Some h) other call = newer-then (newer-moved w (only_handle h) me other) (newer-alike call.1)
+take-pending-newer w w' me i None other call = newer-alike call.1
 
 pub offer-newer : {w w' : Core} (me : Owner) (kind : Kind) (key : ℕ) (h : HandleNumber) (r : Result (Option HandleNumber) Error) → OfferCall w me kind key h r w' → OnlyNewer w w'
-offer-newer {w} me kind key h (Ok None) call = let n = newer-alike call.answers.3.2 in record { last = n.last; owned = n.owned }
+offer-newer {w} me kind key h (Ok None) call = newer-alike call.answers.3.2
 offer-newer {w} me kind key h (Ok (Some k)) call = elim call.answers.3 [
   | inl (shut, same, leaves) ↦ newer-alike leaves
   | inr (stands_open, (n, is, next, falls)) ↦ newer-then (newer-handle w (record { 0 = n }) (mode_of kind.0) me) (newer-falls falls.falls)
@@ -173,4 +172,4 @@ offer-newer {w} me kind key h (Ok (Some k)) call = elim call.answers.3 [
 offer-newer me kind key h (Err e) call = newer-alike call.refused.stays
 
 pub close-newer : {w w' : Core} (r : Result (Unit {0}) Error) → CloseCall w r w' → OnlyNewer w w'
-close-newer r call = let n = newer-falls call.falls.falls in record { last = n.last; owned = n.owned }
+close-newer r call = newer-falls call.falls.falls

@@ -1,7 +1,237 @@
 -- What has gone so far, after one step of a cascade, and after a handle that is given.
-use Rattle.pagable_tables.proofs.Words.{◌≡◌, ℕ, ◌+◌, ◌≤◌, ◌==◌, ◌&&◌, ◌||◌, Bool, not, List, length, ap, ◌∙◌, arith, inl, inr, ◌≢◌, Option, nat_tests, sum_by-cons, sum_by-le-sum_by, false, [], ◌∷◌}
-use Rattle.pagable_tables.proofs.Words.{refl, NodeNumber, HandleRow, Owner, one, is_owned_by, is_owner, held, pins, Core, IsWithin, Holdings, live, counts_at, pins_in, is_listing, IsFalling, GivesUp}
-use Rattle.pagable_tables.proofs.{Words.{Steps, FallsBy, owns_nothing, SoFar}, Left.and_one, Kept.settled, LeastMore.{least-more, none-comes}, Going.{IsApart, unlisted-apart, one-goes}}
+use Rattle.pagable_tables.proofs.Words.{◌≡◌, ℕ, ◌+◌, ◌&&◌, Bool, List, ◌++◌, ap, ◌∙◌, append_assoc, filter-append, HandleRow, times, is_handle, Core, left_rows, only_handle, Holdings, live}
+use Rattle.pagable_tables.proofs.Words.{entries_of, is_listing, Leaves, GivesUp, SoFar, arith, nat_tests, ◌<◌, ◌≤◌, ◌==◌, true, false, not, if◌then◌else◌, [], ◌∷◌, length, filter, map, sum_by, refl}
+use Rattle.pagable_tables.proofs.Words.{sym, subst, is_some, vec_capacity, append-nil, map-append, length-append, sum_by-cons, sum_by-append, sum_by-le-sum_by, Error, HandleNumber, NodeNumber, Owner}
+use Rattle.pagable_tables.proofs.Words.{one, is_pin, is_owned_by, held, pins, greatest, IsWithin, IsClosed, AreNewEntries, TellsListing, IsListRefusal, is_keyed, counts_at, pins_in, entry, cell_in}
+use Rattle.pagable_tables.proofs.Words.{first_cause, IsUnlisted, HasPlaces, with_tables, told_by, IsApart, ◌≢◌, Result, Ok, Err, MustList, CellsStay, is_at, is_owner, owner_value, is_outside}
+use Rattle.pagable_tables.proofs.{Words.{HasFallen, FallsBy, ◌||◌, inl, inr, Option, IsFalling, Steps, owns_nothing, ◌⊎◌}, Left.{and_one, left-more, left-none, kept-more, times-left, entries-more}}
+use Rattle.pagable_tables.proofs.{Left.{leaves-sums, of_list, none-listed, none-entered}, Telling.{entry-pins, only-more, tells-more, refusal-now, forced}, Bits.one-le}
+
+rows-leaves : (rows entries : List HandleRow) (gone : ℕ → Bool) (old new : Holdings) (x : HandleRow) (wanted listed : Bool) → Leaves old x wanted listed new
+    → live old.handles.places.items ≡ left_rows gone rows ++ entries → times (is_handle x.number.0) entries ≡ 0
+    → live new.handles.places.items ≡ left_rows (and_one gone x.number.0) rows ++ (entries ++ entries_of listed (old.last_handle + 1) x.node)
+rows-leaves rows entries gone old new x wanted listed leaves is none =
+    let last : leaves.between.last_handle ≡ old.last_handle = ap (λ (t : Holdings). t.last_handle) leaves.same in
+    let split : left_rows (only_handle x.number) (left_rows gone rows ++ entries) ≡ left_rows (only_handle x.number) (left_rows gone rows) ++ left_rows (only_handle x.number) entries = grind (arith, nat_tests, filter-append) in
+    let left : live leaves.between.handles.places.items ≡ left_rows (and_one gone x.number.0) rows ++ entries =
+    leaves.rows ∙ ap (left_rows (only_handle x.number)) is ∙ split ∙ ap (λ r. r ++ left_rows (only_handle x.number) entries) (left-more gone x.number.0 rows)
+    ∙ ap (λ r. left_rows (and_one gone x.number.0) rows ++ r) (left-none x.number.0 entries none) in
+    leaves.lists.comes.rows ∙ ap (λ r. r ++ entries_of listed (leaves.between.last_handle + 1) x.node) left
+    ∙ ap (λ k. (left_rows (and_one gone x.number.0) rows ++ entries) ++ entries_of listed (k + 1) x.node) last
+    ∙ append_assoc (left_rows (and_one gone x.number.0) rows) entries (entries_of listed (old.last_handle + 1) x.node)
+
+pub rows-more : (before w : Core) (given : ℕ → Bool) (lists : Bool) (t popped new : Holdings) (stack : List ℕ) (x : HandleRow) (f : SoFar before w given lists t)
+    (g : GivesUp popped stack x lists new) → popped ≡ record t { nodes = popped.nodes } → times (is_handle x.number.0) f.entries ≡ 0
+    → live new.handles.places.items ≡ left_rows (and_one f.gone x.number.0) w.rows ++ (f.entries ++ entries_of g.listed (t.last_handle + 1) x.node)
+rows-more before w given lists t popped new stack x f g same none =
+    let last : popped.last_handle ≡ t.last_handle = ap (λ (h : Holdings). h.last_handle) same in
+    let handles : live popped.handles.places.items ≡ live t.handles.places.items = ap (λ (h : Holdings). live h.handles.places.items) same in
+    let kept : live new.handles.places.items ≡ live g.between.handles.places.items = ap (λ (h : Holdings). live h.handles.places.items) g.same in
+    kept ∙ rows-leaves w.rows f.entries f.gone popped g.between x (lists && is_listing g.counts x.mode) g.listed g.leaves (handles ∙ f.rows) none
+    ∙ ap (λ k. left_rows (and_one f.gone x.number.0) w.rows ++ (f.entries ++ entries_of g.listed (k + 1) x.node)) last
+
+-- a handle of which the list has none may go, whether it had gone or not
+kept-gone : (gone : ℕ → Bool) (q : ℕ) (list : List HandleNumber) → gone q ≡ true → filter (λ (h : HandleNumber). not (and_one gone q h.0)) list ≡ filter (λ (h : HandleNumber). not (gone h.0)) list
+kept-gone gone q list e = grind (arith, nat_tests)
+
+list-kept : (gone : ℕ → Bool) (q : ℕ) (rows : List HandleRow) (list : List HandleNumber) → times (λ (h : HandleNumber). h.0 == q) list ≤ times (of_list q) rows
+    → times (λ h. of_list q h && not (gone h.number.0)) rows ≡ 0
+    → filter (λ (h : HandleNumber). not (and_one gone q h.0)) list ≡ filter (λ (h : HandleNumber). not (gone h.0)) list
+list-kept gone q rows list listed none = grind (arith, nat_tests, kept-gone, sum_by-le-sum_by, kept-more)
+
+pub entry-number : (listed : Bool) (k : ℕ) (node : NodeNumber) → map (λ (h : HandleRow). h.number) (entries_of listed k node) ≡ (if listed then record { 0 = k } ∷ [] else [])
+entry-number true k node = refl
+entry-number false k node = refl
+
+pub new-more : (last : ℕ) (entries : List HandleRow) (listed : Bool) (k : ℕ) (node : NodeNumber) → AreNewEntries last entries → k ≡ last + length entries + 1
+    → AreNewEntries last (entries ++ entries_of listed k node)
+new-more last entries true k node new is = entries-more last entries (entry k node) new is refl refl
+new-more last entries false k node new is = subst (AreNewEntries last) (sym (append-nil entries)) new
+
+pub long-one : (listed : Bool) (k : ℕ) (node : NodeNumber) → length (entries_of listed k node) ≡ one listed
+long-one true k node = refl
+long-one false k node = refl
+
+pub within-more : (listed : Bool) (last : ℕ) → last ≤ greatest → (listed ≡ true → last < greatest) → last + one listed ≤ greatest
+within-more true last within left = let a = left refl in omega arith
+within-more false last within left = omega arith
+
+pub ones : (rows : List HandleRow) → sum_by (λ (h : HandleRow). 1) rows ≡ length rows
+ones [] = refl
+ones (x ∷ xs) = let a = sum_by-cons (λ (h : HandleRow). 1) x xs in let b = ones xs in omega arith
+
+one-more : (listed : Bool) → (if listed then 1 else 0) ≤ 1
+one-more listed = one-le listed
+
+-- a handle that the list doesn't own may go apart from it
+pub unlisted-apart : (before w : Core) (given : ℕ → Bool) (lists : Bool) (t popped new : Holdings) (stack : List ℕ) (x : HandleRow) (f : SoFar before w given lists t) → GivesUp popped stack x lists new
+    → popped ≡ record t { nodes = popped.nodes } → is_owned_by Owner.List x ≡ false → IsApart before w given lists t f x.number.0
+unlisted-apart before w given lists t popped new stack x f g same owner =
+    let q = x.number.0 in
+    let rows : live popped.handles.places.items ≡ live t.handles.places.items = ap (λ (h : Holdings). live h.handles.places.items) same in
+    let none : times (of_list q) (live t.handles.places.items) ≡ 0 = sym (ap (times (of_list q)) rows) ∙ none-listed popped g.between x (lists && is_listing g.counts x.mode) g.listed g.leaves owner in
+    let a = ap (times (of_list q)) f.rows in
+    let b = sum_by-append (λ h. one (of_list q h)) (left_rows f.gone w.rows) f.entries in
+    let d = times-left (of_list q) f.gone w.rows in
+    record {
+      unentered = none-entered q w.last.handle (live t.handles.places.items) (left_rows f.gone w.rows) f.entries f.rows f.new none;
+      kept = list-kept f.gone q w.rows w.list (f.begins.listed q) (omega arith);
+    }
+
+module _ (before w : Core) (given given' : ℕ → Bool) (lists : Bool) (t popped new : Holdings) (stack : List ℕ) (x : HandleRow) (f : SoFar before w given lists t)
+    (g : GivesUp popped stack x lists new) (same : popped ≡ record t { nodes = popped.nodes })
+    (counts : (n : ℕ) → counts_at popped.nodes n ≡ counts_at t.nodes n) (pinned : (n : ℕ) → pins_in (counts_at t.nodes n) ≡ pins n (live t.handles.places.items))
+    (few : length (live t.handles.places.items) ≤ length w.rows) (apart : IsApart before w given lists t f x.number.0) where
+  before-rows : live popped.handles.places.items ≡ live t.handles.places.items
+  before-rows = ap (λ (h : Holdings). live h.handles.places.items) same
+
+  after-rows : live new.handles.places.items ≡ live g.between.handles.places.items
+  after-rows = ap (λ (h : Holdings). live h.handles.places.items) g.same
+
+  sums : (s : HandleRow → ℕ) → sum_by s (live new.handles.places.items) + s x ≡ sum_by s (live t.handles.places.items) + (if g.listed then s (entry (t.last_handle + 1) x.node) else 0)
+  sums s =
+      let a = leaves-sums popped g.between x (lists && is_listing g.counts x.mode) g.listed g.leaves s in
+      let b = ap (sum_by s) before-rows in
+      let d = ap (sum_by s) after-rows in
+      let e = ap (λ (h : Holdings). if g.listed then s (entry (h.last_handle + 1) x.node) else 0) same in
+      omega arith
+
+  left : (n : ℕ) → pins n (live new.handles.places.items) + one (is_pin n x) ≡ pins n (live t.handles.places.items)
+  left n = let a = sums (λ h. one (is_pin n h)) in let b = entry-pins g.listed (t.last_handle + 1) n x.node in omega arith
+
+  here : (p : HandleRow → Bool) → one (p x) ≤ times p (live t.handles.places.items)
+  here p = let a = g.leaves.sums (λ h. one (p h)) in let b = ap (times p) before-rows in omega arith
+
+  since : g.leaves.between.last_handle ≡ t.last_handle
+  since = ap (λ (h : Holdings). h.last_handle) g.leaves.same ∙ ap (λ (h : Holdings). h.last_handle) same
+
+  last : new.last_handle ≡ t.last_handle + one g.listed
+  last = grind (arith, nat_tests)
+
+  abbrev came : List HandleNumber
+  came = if g.listed then record { 0 = t.last_handle + 1 } ∷ [] else []
+
+  added : new.list.items ≡ t.list.items ++ came
+  added = grind (arith, nat_tests)
+
+  list-more : new.list.items ≡ filter (λ (q : HandleNumber). not (and_one f.gone x.number.0 q.0)) w.list ++ map (λ (h : HandleRow). h.number)
+      (f.entries ++ entries_of g.listed (t.last_handle + 1) x.node)
+  list-more = grind (arith, nat_tests, map-append, entry-number, added, append_assoc)
+
+  room : HasPlaces popped new
+  room = grind (arith, nat_tests)
+
+  -- why none came
+  wanting : (e : Error) → g.listed ≡ false → IsUnlisted g.leaves.between e → IsListRefusal w (with_tables w new) e
+  wanting e none why =
+      let b = g.leaves.between in
+      let listed = ap one none in
+      let k = last in
+      let s = since in
+      let handles = ap (λ (h : Holdings). vec_capacity h.handles.places) same in
+      let entries = ap (λ (h : Holdings). vec_capacity h.list) same in
+      let list : length b.list.items ≡ length t.list.items = ap (λ (h : Holdings). length h.list.items) g.leaves.same ∙ ap (λ (h : Holdings). length h.list.items) same in
+      let more = ap length added in
+      let long = length-append t.list.items came in
+      let fewer = ones (live b.handles.places.items) in
+      let all = ones (live popped.handles.places.items) in
+      let rows = ap length before-rows in
+      refusal-now w b new e why (omega arith) (omega arith) (omega arith) (omega arith) (omega arith) (omega arith)
+
+  told : TellsListing before w (f.entries ++ entries_of g.listed (t.last_handle + 1) x.node) (told_by new.unlisted) (with_tables w new)
+  told =
+      let b = g.leaves.between in
+      let l = g.leaves.lists in
+      let unlisted : b.unlisted ≡ t.unlisted = ap (λ (h : Holdings). h.unlisted) g.leaves.same ∙ ap (λ (h : Holdings). h.unlisted) same in
+      let kept : new.unlisted ≡ g.between.unlisted = ap (λ (h : Holdings). h.unlisted) g.same in
+      tells-more before w given lists t f x g.counts (sym (counts x.node.0) ∙ g.is) (pinned x.node.0) here new left g.listed (t.last_handle + 1) l.only t.unlisted new.unlisted b f.tells
+      (λ s. kept ∙ l.told s ∙ unlisted)
+      (λ none wanted. let y = l.why none wanted in (y.0, y.1, kept ∙ y.2 ∙ ap (λ u. first_cause u y.0) unlisted))
+      wanting
+      (let a = last in omega arith)
+      (let a = ap length added in let b = length-append t.list.items came in omega arith)
+
+  pub one-goes : IsWithin w.rows given' (and_one f.gone x.number.0) → ((s : ℕ → Bool) (final : List HandleRow)
+      → ((n : ℕ) → held n (live new.handles.places.items) ≡ 0 → held n final ≡ 0) → IsWithin w.rows given' s → IsClosed w.rows (is_keyed w) final s
+      → IsWithin w.rows (and_one f.gone x.number.0) s) → SoFar before w given' lists new
+  one-goes holds least =
+      record {
+        begins = f.begins;
+        gone = and_one f.gone x.number.0;
+        entries = f.entries ++ entries_of g.listed (t.last_handle + 1) x.node;
+        rows = rows-more before w given lists t popped new stack x f g same apart.unentered;
+        list = list-more;
+        last = grind (arith, nat_tests, last, length-append, long-one);
+        within = subst (λ k. k ≤ greatest) (sym last) (within-more g.listed t.last_handle f.within (λ l. subst (λ k. k < greatest) since (g.leaves.lists.comes.left l)));
+        places = grind (arith, nat_tests, room);
+        cells = λ n there. let s = g.cells n there in s.1 ∙ ap cell_in (counts n) ∙ f.cells n (sym (ap is_some (counts n)) ∙ s.0);
+        holds = holds;
+        least = least;
+        new = new-more w.last.handle f.entries g.listed (t.last_handle + 1) x.node f.new (let a = f.last in omega arith);
+        only = only-more before w given lists t f x g.counts (sym (counts x.node.0) ∙ g.is) (pinned x.node.0) here new left g.listed (t.last_handle + 1) g.leaves.lists.only;
+        tells = told;
+        few = λ falls. let a = sums (λ h. 1) in let b = ones (live new.handles.places.items) in let d = ones (live t.handles.places.items) in let e = one-more g.listed in omega arith;
+      }
+
+-- what is asked of handles and list, where only nodes differ
+must-same : (before w : Core) (t new : Holdings) (n : ℕ) → MustList before w (with_tables w t) n → MustList before w (with_tables w (record t { nodes = new.nodes; top = new.top })) n
+must-same before w t new n m = record { pinned = m.pinned; unpinned = m.unpinned; unkeyed = m.unkeyed; unshared = m.unshared; stands_open = m.stands_open }
+
+must-back : (before w : Core) (t new : Holdings) (n : ℕ) → MustList before w (with_tables w (record t { nodes = new.nodes; top = new.top })) n → MustList before w (with_tables w t) n
+must-back before w t new n m = record { pinned = m.pinned; unpinned = m.unpinned; unkeyed = m.unkeyed; unshared = m.unshared; stands_open = m.stands_open }
+
+refusal-same : (w : Core) (t new : Holdings) (e : Error) → IsListRefusal w (with_tables w t) e → IsListRefusal w (with_tables w (record t { nodes = new.nodes; top = new.top })) e
+refusal-same w t new e r = grind (arith, nat_tests)
+
+tells-same : (before w : Core) (entries : List HandleRow) (t new : Holdings) (r : Result (Unit {0}) Error) → TellsListing before w entries r (with_tables w t)
+    → TellsListing before w entries r (with_tables w (record t { nodes = new.nodes; top = new.top }))
+tells-same before w entries t new (Ok u) tells = record { all = λ n m. tells.all n (must-back before w t new n m); not_all = tells.not_all }
+tells-same before w entries t new (Err e) tells = record { all = tells.all; not_all = let a = tells.not_all in (a.0, must-same before w t new a.0 a.1, a.2, refusal-same w t new e a.3) }
+
+-- nothing happened to the handles and the list
+same-handles : (before w : Core) (given : ℕ → Bool) (lists : Bool) (t new : Holdings) → SoFar before w given lists t → CellsStay (counts_at t.nodes) (counts_at new.nodes) → t.top ≢ 0
+    → SoFar before w given lists (record t { nodes = new.nodes; top = new.top })
+same-handles before w given lists t new f stay some = grind (arith, nat_tests, must-same, tells-same)
+
+-- the first node that falls is done
+pub settled : (before w : Core) (given : ℕ → Bool) (lists : Bool) (t new : Holdings) → SoFar before w given lists t → CellsStay (counts_at t.nodes) (counts_at new.nodes) → t.top ≢ 0
+    → new ≡ record t { nodes = new.nodes; top = new.top } → SoFar before w given lists new
+settled before w given lists t new f stay some same = subst (SoFar before w given lists) (sym same) (same-handles before w given lists t new f stay some)
+
+-- no handle comes where there was none
+pub none-comes : (old new : Holdings) (x : HandleRow) (wanted listed : Bool) (m : ℕ) → Leaves old x wanted listed new → held m (live old.handles.places.items) ≡ 0
+    → held m (live new.handles.places.items) ≡ 0
+none-comes old new x wanted true m leaves none = let a = leaves-sums old new x wanted true leaves (λ h. one (is_at m h)) in omega arith
+none-comes old new x wanted false m leaves none = let a = leaves-sums old new x wanted false leaves (λ h. one (is_at m h)) in omega arith
+
+in-set : (n : ℕ) (x : HandleRow) (s : ℕ → Bool) → x.owner ≡ owner_value n → one (is_owned_by (owner_value n) x && is_outside s x) ≡ 0 → s x.number.0 ≡ true
+in-set n x s owner none = let is : is_owned_by (owner_value n) x ≡ (n == n) = ap (λ o. is_owner (owner_value n) o) owner in grind (arith, nat_tests)
+
+with-one : (gone s : ℕ → Bool) (q : ℕ) (rows : List HandleRow) → s q ≡ true → IsWithin rows gone s → IsWithin rows (and_one gone q) s
+with-one gone s q rows is within = grind (arith, nat_tests)
+
+least-leaves : (before w : Core) (given : ℕ → Bool) (lists : Bool) (t popped mid : Holdings) (x : HandleRow) (n : ℕ) (wanted listed : Bool) → popped.handles ≡ t.handles
+    → Leaves popped x wanted listed mid → x.owner ≡ owner_value n → HasFallen (counts_at t.nodes) (live t.handles.places.items) n → (f : SoFar before w given lists t)
+    → (s : ℕ → Bool) (final : List HandleRow) → ((m : ℕ) → held m (live mid.handles.places.items) ≡ 0 → held m final ≡ 0) → IsWithin w.rows given s
+    → IsClosed w.rows (is_keyed w) final s → IsWithin w.rows (and_one f.gone x.number.0) s
+least-leaves before w given lists t popped mid x n wanted listed same leaves owner down f s final bare has closed =
+    let handles : live popped.handles.places.items ≡ live t.handles.places.items = ap (λ h. live h.places.items) same in
+    let bare-before : (m : ℕ) → held m (live t.handles.places.items) ≡ 0 → held m final ≡ 0 = λ m none. bare m (none-comes popped mid x wanted listed m leaves (ap (held m) handles ∙ none)) in
+    let rest = f.least s final bare-before has closed in
+    let none = forced before w given lists t f s rest final n (bare-before n) down closed in
+    let a = leaves.sums (λ h. one (is_owned_by (owner_value n) h && is_outside s h)) in
+    let b = ap (times (λ h. is_owned_by (owner_value n) h && is_outside s h)) handles in
+    with-one f.gone s x.number.0 w.rows (in-set n x s owner (omega arith)) rest
+
+-- the least set, over the whole step
+pub least-more : (before w : Core) (given : ℕ → Bool) (lists : Bool) (t new : Holdings) (x : HandleRow) (n : ℕ) → (f : SoFar before w given lists t) → FallsBy t x n lists new
+    → (s : ℕ → Bool) (final : List HandleRow) → ((m : ℕ) → held m (live new.handles.places.items) ≡ 0 → held m final ≡ 0) → IsWithin w.rows given s
+    → IsClosed w.rows (is_keyed w) final s → IsWithin w.rows (and_one f.gone x.number.0) s
+least-more before w given lists t new x n f by s final bare has closed =
+    let g = by.gives in
+    let kept : live new.handles.places.items ≡ live g.between.handles.places.items = ap (λ (h : Holdings). live h.handles.places.items) g.same in
+    least-leaves before w given lists t by.popped g.between x n (lists && is_listing g.counts x.mode) g.listed
+    (ap (λ (h : Holdings). h.handles) by.same) g.leaves by.owner by.fallen f s final (λ m none. bare m (ap (held m) kept ∙ none)) has closed
 
 -- one handle more on both sides, or on the right
 pub within-less : (a b c d : ℕ → Bool) (rows : List HandleRow) → ((r : ℕ) → one (a r && not (b r)) ≤ one (c r && not (d r))) → IsWithin rows c d → IsWithin rows a b
@@ -39,12 +269,13 @@ steps-on before w given lists t new stack r f falling some s =
         (within-less given (and_one f.gone x.number.0) given f.gone w.rows (λ r. bits (given r) (f.gone r) (r == x.number.0)) f.holds)
         (least-more before w given lists t new x n f by)
 
--- a handle is given, apart from the list
-pub gives-apart : (before w : Core) (given : ℕ → Bool) (lists : Bool) (t new : Holdings) (stack : List ℕ) (x : HandleRow) → (f : SoFar before w given lists t)
-    → ((n : ℕ) → pins_in (counts_at t.nodes n) ≡ pins n (live t.handles.places.items)) → IsApart before w given lists t f x.number.0 → length (live t.handles.places.items) ≤ length w.rows
-    → GivesUp t stack x lists new → SoFar before w (and_one given x.number.0) lists new
-gives-apart before w given lists t new stack x f pinned apart few g =
-    one-goes before w given (and_one given x.number.0) lists t t new stack x f g refl (λ n. refl) pinned few apart
+-- a handle is given that the list doesn't own, or one apart from the list
+pub gives-on : (before w : Core) (given : ℕ → Bool) (lists : Bool) (t new : Holdings) (stack : List ℕ) (x : HandleRow) → (f : SoFar before w given lists t)
+    → ((n : ℕ) → pins_in (counts_at t.nodes n) ≡ pins n (live t.handles.places.items)) → (is_owned_by Owner.List x ≡ false) ⊎ IsApart before w given lists t f x.number.0
+    → length (live t.handles.places.items) ≤ length w.rows → GivesUp t stack x lists new → SoFar before w (and_one given x.number.0) lists new
+gives-on before w given lists t new stack x f pinned free few g =
+    one-goes before w given (and_one given x.number.0) lists t t new stack x f g refl (λ n. refl) pinned few
+    (elim free [ inl other ↦ unlisted-apart before w given lists t t new stack x f g refl other | inr apart ↦ apart ])
     (within-less (and_one given x.number.0) (and_one f.gone x.number.0) given f.gone w.rows (λ r. grind (arith, nat_tests)) f.holds)
     (λ s final bare has closed. within-both f.gone given s x.number.0 w.rows (f.least s final
     (λ n none. bare n (ap (held n) after ∙ none-comes t g.between x (lists && is_listing g.counts x.mode) g.listed n g.leaves none))
@@ -53,9 +284,33 @@ gives-apart before w given lists t new stack x f pinned apart few g =
     after : live new.handles.places.items ≡ live g.between.handles.places.items
     after = ap (λ (h : Holdings). live h.handles.places.items) g.same
 
--- a handle is given that the list doesn't own
-pub gives-on : (before w : Core) (given : ℕ → Bool) (lists : Bool) (t new : Holdings) (stack : List ℕ) (x : HandleRow) → SoFar before w given lists t
-    → ((n : ℕ) → pins_in (counts_at t.nodes n) ≡ pins n (live t.handles.places.items)) → is_owned_by Owner.List x ≡ false → length (live t.handles.places.items) ≤ length w.rows
-    → GivesUp t stack x lists new → SoFar before w (and_one given x.number.0) lists new
-gives-on before w given lists t new stack x f pinned owner few g =
-    gives-apart before w given lists t new stack x f pinned (unlisted-apart before w given lists t t new stack x f g refl owner) few g
+pub gives-fewer : (t new : Holdings) (stack : List ℕ) (x : HandleRow) (lists : Bool) → GivesUp t stack x lists new → length (live new.handles.places.items) ≤ length (live t.handles.places.items)
+gives-fewer t new stack x lists g =
+    let a = leaves-sums t g.between x _ g.listed g.leaves (λ h. 1) in
+    let b = ap (λ (u : Holdings). length (live u.handles.places.items)) g.same in
+    let d = ones (live t.handles.places.items) in
+    let e = ones (live g.between.handles.places.items) in
+    let i = one-le g.listed in
+    omega arith
+
+pub steps-fewer : (t new : Holdings) (stack : List ℕ) (lists : Bool) (r : Option NodeNumber) → Steps t stack lists r new → length (live new.handles.places.items) ≤ length (live t.handles.places.items)
+steps-fewer t new stack lists r s = elim s.what [
+  | inl done ↦ let a = ap (λ (u : Holdings). length (live u.handles.places.items)) done.1 in omega arith
+  | inr gone ↦
+      let a = ap (λ (u : Holdings). length (live u.handles.places.items)) gone.3.same in
+      let b = gives-fewer gone.3.popped new gone.3.stack gone.0 lists gone.3.gives in
+      omega arith
+]
+
+none-came : (listed : Bool) (q : HandleNumber) → (listed ≡ true → false ≡ true) → (if listed then q ∷ [] else []) ≡ []
+none-came true q only = absurd (let e = only refl in cc)
+none-came false q only = refl
+
+pub gives-unlisted : (t new : Holdings) (stack : List ℕ) (x : HandleRow) (lists : Bool) → lists ≡ false → GivesUp t stack x lists new → new.list.items ≡ t.list.items
+gives-unlisted t new stack x lists shut g = grind (arith, nat_tests, none-came, append-nil)
+
+pub steps-unlisted : (t new : Holdings) (stack : List ℕ) (lists : Bool) (r : Option NodeNumber) → lists ≡ false → Steps t stack lists r new → new.list.items ≡ t.list.items
+steps-unlisted t new stack lists r shut s = elim s.what [
+  | inl done ↦ ap (λ (u : Holdings). u.list.items) done.1
+  | inr gone ↦ gives-unlisted gone.3.popped new gone.3.stack gone.0 lists shut gone.3.gives ∙ ap (λ (u : Holdings). u.list.items) gone.3.same
+]

@@ -1,7 +1,6 @@
 -- Tables of nothing are whole.
-use Rattle.pagable_tables.proofs.Words.{◌≡◌, ℕ, false, [], refl, ap, subst, arith, None, nat_eq, get, HandleRow, Among, is_in, nat_tests, Core, NodeRow, Tables, live, AreSound, counts_at, refs_at}
-use Rattle.pagable_tables.{proofs.Words.{load_at, known_at, cell_in, IsFalling, owns_nothing, plain_of, option_map}, specs.Core.IsWhole}
-use Rattle.std.specs.Option.{option_map_or}
+use Rattle.pagable_tables.proofs.Words.{◌≡◌, ℕ, false, [], refl, ap, subst, arith, None, nat_eq, get, HandleRow, Among, is_in, nat_tests, Core, NodeRow, Tables, live, AreSound, counts_at, load_at}
+use Rattle.pagable_tables.{proofs.Words.{known_at, cell_in, IsFalling, owns_nothing, plain_of, option_map}, specs.Core.IsWhole}
 
 in-none : (v : ℕ) → is_in [] v ≡ false
 unfolding is_in
@@ -12,9 +11,6 @@ module _ (t : Tables) (sound : AreSound t.holdings.handles) (rows : t.holdings.h
     (last : (t.holdings.top ≡ 0) × (t.holdings.last_handle ≡ 0) × (t.last_node ≡ 0) × (t.last_load ≡ 0)) where
   none : (n : ℕ) → counts_at t.holdings.nodes n ≡ None
   none n = ap (option_map (λ (r : NodeRow). r.counts)) (found n)
-
-  bare : (n : ℕ) → refs_at t.holdings.nodes n ≡ []
-  bare n = ap (λ o. option_map_or (λ (r : NodeRow). r.references.items) o []) (found n)
 
   empty : live t.holdings.handles.places.items ≡ []
   empty = ap live rows

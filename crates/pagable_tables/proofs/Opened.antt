@@ -1,12 +1,72 @@
--- A load is opened and closed again. Why a handle can't come while numbers are left.
-use Rattle.pagable_tables.proofs.Words.{◌≡◌, ℕ, ◌<◌, ◌≤◌, Bool, true, false, List, refl, ap, sym, ◌∙◌, arith, Option, Some, None, inl, inr, ◌≢◌, ◌⊎◌, nat_lt, nat_tests, Error, OptionalDataKey}
-use Rattle.pagable_tables.proofs.Words.{HandleNumber, LoadNumber, HandleRow, Owner, Mode, if_there, is_owner, is_loose, is_in_memory, pins, Core, Cell, OpenLoad, greatest, row_at, rank, earlier}
-use Rattle.pagable_tables.proofs.Words.{where_so, refused_if, spent, handle_fault, load_fault, closed_fault, OwnsLoad, Refused, Counts, LoadRow, pins_in, cell_in, key_in, load_in, option_map}
-use Rattle.pagable_tables.proofs.Pins.{owner-self, fault-rank}
+-- Why calls are refused, and which of several causes is told. Loads that are opened and closed again, and what is offered to the cache.
+use Rattle.pagable_tables.proofs.Words.{◌≡◌, ℕ, ◌<◌, ◌≤◌, Bool, true, List, sym, ◌∙◌, arith, Option, Some, None, inl, inr, ◌≢◌, ◌⊎◌, nat_tests, Error, OptionalDataKey, HandleNumber, LoadNumber}
+use Rattle.pagable_tables.proofs.Words.{HandleRow, Owner, Mode, if_there, is_owner, is_loose, is_in_memory, pins, Core, Cell, OpenLoad, greatest, row_at, rank, earlier, where_so, refused_if, spent}
+use Rattle.pagable_tables.proofs.Words.{handle_fault, load_fault, closed_fault, OwnsLoad, Refused, Counts, LoadRow, pins_in, cell_in, key_in, load_in, option_map, or_else, not, if◌then◌else◌}
+use Rattle.pagable_tables.proofs.Words.{reference_fault, row_fault, references_fault, is_in, fits_mode, is_type, type_of, type_at, ArcRef, [], ◌∷◌, ◌||◌, ◌==◌, ◌+◌, refl, is_some, updated, ◌&&◌}
+use Rattle.pagable_tables.proofs.Words.{NodeNumber, Kind, is_usable, offer_fault, ap, subst, Ok, Err, mode_of, usable, Alike, with_handle, recall_fault, RecallCall, Makes}
 
 -- a load that wasn't open comes and goes
 pub load-goes : (at at' at'' : ℕ → Option LoadRow) (l : ℕ) → at l ≡ None → ((q : ℕ) → q ≢ l → at' q ≡ at q) → at'' l ≡ None → ((q : ℕ) → q ≢ l → at'' q ≡ at' q) → (q : ℕ) → option_map load_in (at'' q) ≡ option_map load_in (at q)
 load-goes at at' at'' l none others gone others' q = grind (arith, nat_tests)
+
+-- of two causes the first is told unless the other comes before it
+pub earlier-first : (a x : Option Error) (e : Error) → a ≡ Some e → ((f : Error) → x ≡ Some f → rank e ≤ rank f) → earlier a x ≡ Some e
+earlier-first a x e is late = grind (arith, nat_tests)
+
+-- of two late causes any is late
+pub late : (a b : Option Error) (m : ℕ) → ((f : Error) → a ≡ Some f → m ≤ rank f) → ((f : Error) → b ≡ Some f → m ≤ rank f) → (f : Error) → earlier a b ≡ Some f → m ≤ rank f
+late None b m one two f is = two f is
+late (Some e) None m one two f is = one f is
+late (Some e) (Some g) m one two f is = grind (arith, nat_tests)
+
+pub kind-late : (b : Bool) (f : Error) → refused_if b Error.WrongKind ≡ Some f → 3 ≤ rank f
+kind-late b f is = grind (arith, nat_tests)
+
+-- a cause of numbers, where it is asked
+pub spent-late : (l : ℕ) (b : Bool) (f : Error) → where_so b (spent l) ≡ Some f → 4 ≤ rank f
+spent-late l b f is = grind (arith, nat_tests)
+
+-- why references are refused comes before numbers
+row-low : (at mine fits typed : Bool) (e : Error)
+    → (if not at then Some Error.NoSuchHandle else or_else (refused_if mine Error.NotYours) (if not fits then Some Error.WrongMode else refused_if (not typed) Error.WrongKind)) ≡ Some e → rank e ≤ 3
+row-low at mine fits typed e is = grind (arith, nat_tests)
+
+reference-low : (w : Core) (o : Owner) (seen : List ℕ) (r : ArcRef) (e : Error) → reference_fault w o seen r ≡ Some e → rank e ≤ 3
+reference-low w o seen r e is = split (row_at w r.handle) is
+  where
+    split : (o' : Option HandleRow) → if_there (λ (row : HandleRow). row_fault w r (refused_if (not (is_owner o row.owner) || is_in seen r.handle.0) Error.NotYours) row) (Some Error.NoSuchHandle) o' ≡ Some e → rank e ≤ 3
+    split None is = grind (arith, nat_tests)
+    split (Some row) is = row-low (row.node.0 == r.node.0) (not (is_owner o row.owner) || is_in seen r.handle.0) (fits_mode r.kind.0 row.mode) (is_type (type_of r.kind.0) (type_at w r.node.0)) e is
+
+pub references-low : (w : Core) (o : Owner) (seen : List ℕ) (refs : List ArcRef) (e : Error) → references_fault w o seen refs ≡ Some e → rank e ≤ 3
+unfolding references_fault
+references-low w o seen [] e is = absurd (cc)
+references-low w o seen (r ∷ rs) e is = grind (arith, nat_tests, reference-low, references-low w o (r.handle.0 ∷ seen) rs)
+
+abbrev fault-of : Owner → (Mode → Bool) → Option HandleRow → Option Error
+fault-of me fits o = if_there (λ (row : HandleRow). if not (is_owner me row.owner) then Some Error.NotYours else refused_if (not (fits row.mode)) Error.WrongMode) (Some Error.NoSuchHandle) o
+
+fault-rank : (o : Option HandleRow) (me : Owner) (fits : Mode → Bool) (e : Error) → fault-of me fits o ≡ Some e → rank e ≤ 2
+fault-rank o me fits e is = grind (arith, nat_tests)
+
+-- a cause that tells of the handle comes before a later one
+pub handle-first : (w : Core) (me : Owner) (h : HandleNumber) (fits : Mode → Bool) (e : Error) (x : Option Error) → handle_fault w me h fits ≡ Some e
+    → ((f : Error) → x ≡ Some f → 3 ≤ rank f) → earlier (handle_fault w me h fits) x ≡ Some e
+handle-first w me h fits e x is late = grind (arith, nat_tests, earlier-first, fault-rank)
+
+pub owner-self : (o : Owner) → is_owner o o ≡ true
+owner-self o = grind (arith, nat_tests)
+
+-- an own handle that fits has no fault
+pub no-fault : (w : Core) (me : Owner) (h : HandleNumber) (fits : Mode → Bool) (row : HandleRow) → row_at w h ≡ Some row → is_owner me row.owner ≡ true → fits row.mode ≡ true → handle_fault w me h fits ≡ None
+no-fault w me h fits row found own fit = grind (arith, nat_tests)
+
+numbers-late : (so : Bool) (m n : ℕ) (f : Error) → where_so so (earlier (spent m) (spent n)) ≡ Some f → 3 ≤ rank f
+numbers-late so m n f is = grind (arith, nat_tests)
+
+pub begin-first : (w : Core) (me : Owner) (h : HandleNumber) (fits : Mode → Bool) (e : Error) (so : Bool) (m n : ℕ)
+    → handle_fault w me h fits ≡ Some e → earlier (handle_fault w me h fits) (where_so so (earlier (spent m) (spent n))) ≡ Some e
+begin-first w me h fits e so m n is = handle-first w me h fits e _ is (numbers-late so m n)
 
 pub unspent : (last : ℕ) → last < greatest → spent last ≡ None
 unspent last lt = grind (arith, nat_tests)
@@ -16,27 +76,12 @@ pub only-memory : (last : ℕ) (e : Error) {A B : Type 0} → last < greatest �
 only-memory last e lt (inl is) = absurd (let a = sym (unspent last lt) ∙ is in cc)
 only-memory last e lt (inr is) = is.0
 
-before-numbers : (e : Error) (so a b : Bool) → rank e ≤ 2 → earlier (Some e) (where_so so (earlier (refused_if a Error.NumbersSpent) (refused_if b Error.NumbersSpent))) ≡ Some e
-before-numbers e so a b le = grind (arith, nat_tests)
-
-pub handle-first : (w : Core) (me : Owner) (h : HandleNumber) (fits : Mode → Bool) (e : Error) (so : Bool) (m n : ℕ) → handle_fault w me h fits ≡ Some e → earlier (handle_fault w me h fits) (where_so so (earlier (spent m) (spent n))) ≡ Some e
-handle-first w me h fits e so m n is = grind (arith, nat_tests, earlier, before-numbers, fault-rank)
-
--- an own handle that fits has no fault
-pub no-fault : (w : Core) (me : Owner) (h : HandleNumber) (fits : Mode → Bool) (row : HandleRow) → row_at w h ≡ Some row → is_owner me row.owner ≡ true → fits row.mode ≡ true → handle_fault w me h fits ≡ None
-no-fault w me h fits row found own fit = grind (arith, nat_tests)
-
 pub no-begin-fault : (w : Core) (me : Owner) (h : HandleNumber) (so : Bool) → handle_fault w me h is_loose ≡ None → w.last.load < greatest → w.last.handle < greatest → earlier (handle_fault w me h is_loose) (where_so so (earlier (spent w.last.load) (spent w.last.handle))) ≡ None
 no-begin-fault w me h so none load handle = grind (arith, nat_tests)
 
 -- whether a node of these counts has its value in memory
 pub here-told : (at : ℕ → Option Counts) (rows : List HandleRow) (n : ℕ) (c : Counts) → pins_in (at n) ≡ pins n rows → at n ≡ Some c → is_in_memory (pins n rows) (if_there (λ (cell : Cell). cell.key) OptionalDataKey.None (cell_in (at n))) ≡ is_in_memory c.pins (key_in c.key)
 here-told at rows n c pinned is = grind (arith, nat_tests)
-
--- of two causes the first is told unless the other comes before it
-pub earlier-first : (a x : Option Error) (e : Error) → a ≡ Some e → ((f : Error) → x ≡ Some f → rank e ≤ rank f) → earlier a x ≡ Some e
-earlier-first a None e is late = ap (λ a. earlier a None) is ∙ refl
-earlier-first a (Some f) e is late = ap (λ a. earlier a (Some f)) is ∙ (let le = late f refl in let h : nat_lt (rank f) (rank e) ≡ false = grind (arith, nat_tests) in rw h refl)
 
 -- the causes of a load come before those of modes, kinds and numbers
 pub load-low : (w : Core) (me : Owner) (l : LoadNumber) (e : Error) → load_fault w me l ≡ Some e → rank e ≤ 1
@@ -45,10 +90,6 @@ load-low w me l e is = grind (arith, nat_tests)
 pub no-load-fault : (w : Core) (me : Owner) (l : LoadNumber) (load : OpenLoad) → OwnsLoad w me l load → load_fault w me l ≡ None
 no-load-fault w me l load own = grind (arith, nat_tests, owner-self)
 
--- a cause of numbers, where it is asked
-pub number-late : (so : Bool) (last : ℕ) (f : Error) → where_so so (spent last) ≡ Some f → 4 ≤ rank f
-number-late so last f is = grind (arith, nat_tests)
-
 -- a load that may be used, or is another's, is open
 pub open-by : (w : Core) (me : Owner) (l : LoadNumber) → load_fault w me l ≢ Some Error.NoSuchHandle → closed_fault w l ≡ None
 open-by w me l other = grind (arith, nat_tests)
@@ -56,3 +97,50 @@ open-by w me l other = grind (arith, nat_tests)
 -- memory may be told to be wanting where it was asked for only of an own load
 pub told-later : {cause : Option Error} {full : Type 0} {w w' : Core} {e : Error} (me : Owner) (l : LoadNumber) → Refused cause (load_fault w me l) full w e w' → Refused cause (closed_fault w l) full w e w'
 told-later {cause} {full} {w} {w'} {e} me l r = grind (arith, nat_tests, open-by)
+
+-- one load more, and the others stay
+pub load-comes : (at at' : ℕ → Option LoadRow) (l : ℕ) (row : LoadRow) → at' l ≡ Some row → ((q : ℕ) → q ≢ l → at' q ≡ at q) → (q : ℕ) → option_map load_in (at' q) ≡ updated l (Some (load_in row)) (λ q. option_map load_in (at q)) q
+load-comes at at' l row here others q = grind (arith, nat_tests)
+
+-- no load has a number that wasn't given yet
+pub none-yet : (o : Option LoadRow) (last : ℕ) → (is_some (option_map load_in o) ≡ true → last + 1 ≤ last) → o ≡ None
+none-yet None last h = refl
+none-yet (Some row) last h = let a = h refl in absurd (omega arith)
+
+module _ (w : Core) (me : Owner) (kind : Kind) (key : ℕ) (h : HandleNumber) where
+  abbrev kind-fault : Option Error
+  kind-fault = refused_if (not (is_type (type_of kind.0) (if_there (λ (row : HandleRow). type_at w row.node.0) None (row_at w h)))) Error.WrongKind
+
+  abbrev last-fault : Option Error
+  last-fault = where_so (not w.closed && is_usable w kind key) (spent w.last.handle)
+
+  last-late : (f : Error) → last-fault ≡ Some f → 4 ≤ rank f
+  last-late = spent-late w.last.handle (not w.closed && is_usable w kind key)
+
+  -- a handle that can't be used is refused first
+  pub offer-first : (e : Error) → handle_fault w me h (fits_mode kind.0) ≡ Some e → offer_fault w me kind key h ≡ Some e
+  offer-first e is =
+      handle-first w me h (fits_mode kind.0) e (earlier kind-fault last-fault) is (late kind-fault last-fault 3 (kind-late _) (λ f so. let a = last-late f so in omega arith))
+
+  -- where handle and type are as asked, the last cause is left
+  pub offer-last : (row : HandleRow) → handle_fault w me h (fits_mode kind.0) ≡ None → row_at w h ≡ Some row → type_at w row.node.0 ≡ Some (type_of kind.0) → offer_fault w me kind key h ≡ last-fault
+  offer-last row none at typed = grind (arith, nat_tests)
+
+-- the cache knows the node under the kind and the key, and all else as before
+pub learned : (known known' : ℕ → ℕ → Option NodeNumber) (kind key : ℕ) (n : NodeNumber) → known' kind key ≡ Some n → ((k q : ℕ) → (k ≢ kind) ⊎ (q ≢ key) → known' k q ≡ known k q)
+    → (k q : ℕ) → option_map (λ (n : NodeNumber). n.0) (known' k q) ≡ (if k == kind && q == key then Some n.0 else option_map (λ (n : NodeNumber). n.0) (known k q))
+learned known known' kind key n here others k q = grind (arith, nat_tests)
+
+module _ (w : Core) (me : Owner) (kind : Kind) (key : ℕ) (node : NodeNumber) (mode : Mode) (w' : Core)
+    (is : usable w kind.0 key ≡ Some node.0) (fits : mode ≡ mode_of kind.0) where
+  so : is_usable w kind key ≡ true
+  so = ap is_some is
+
+  cause : recall_fault w kind key ≡ spent w.last.handle
+  cause = ap (λ b. where_so b (spent w.last.handle)) so
+
+  pub recalls : (k : HandleNumber) → Makes w node mode me (Ok k) w' → RecallCall w me kind key (Ok (Some k)) w'
+  recalls k m = record { answers = (node.0, is, m.made.0, subst (λ x. Alike (with_handle w node x me) w') fits m.made.1); refused = tt }
+
+  pub not-recalled : (e : Error) → Makes w node mode me (Err e) w' → RecallCall w me kind key (Err e) w'
+  not-recalled e m = grind (arith, nat_tests, cause, so)

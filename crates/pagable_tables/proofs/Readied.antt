@@ -2,13 +2,10 @@
 use Rattle.pagable_tables.proofs.Words.{◌≡◌, ℕ, ◌+◌, ◌<◌, ◌≤◌, true, false, if◌then◌else◌, List, [], ◌∷◌, refl, ap, sym, ◌∙◌, subst, arith, Option, None, inl, inr, Bool, vec_capacity, nat_tests}
 use Rattle.pagable_tables.proofs.Words.{IndexMap, OptionalDataKey, Error, ArcRef, HandleNumber, Kind, LoadNumber, Owner, Mode, Blob, or_else, type_of, mode_of, Core, Places, Alike, HasRoom, greatest}
 use Rattle.pagable_tables.proofs.Words.{earlier, spent, reference_fault, references_fault, Refused, with_handle, with_node, with_cached, next_node, adopted, LoadRow, Holdings, Tables, OnlyRoom}
-use Rattle.pagable_tables.{proofs.Words.{counts_at, refs_at, load_at, known_at, Fits, owns_nothing, live, AreSound, core_of, plain_of, MayHold, AreLater}, specs.Core.IsWhole}
-use Rattle.pagable_tables.{proofs.Newer.{newer-alike, later-so}, proofs.keeps.Told.alike-whole, proofs.keeps.Placed.whole-so}
+use Rattle.pagable_tables.proofs.{Words.{counts_at, refs_at, load_at, known_at, Fits, owns_nothing, live, AreSound, core_of, plain_of, AreLater}, Newer.{newer-alike, later-so}, keeps.Told.alike-whole}
+use Rattle.pagable_tables.{proofs.keeps.Placed.whole-so, specs.Core.IsWhole}
 use Rattle.pagable_world.specs.Calls.{IsNext}
 use Rattle.pagable_tables.specs.Live as places
-
-pub room-still : (w : Core) → OnlyRoom w w
-room-still w = record { same = refl; more = record { handles = omega arith; entries = omega arith } }
 
 pub room-then : {a b c : Core} → OnlyRoom a b → OnlyRoom b c → OnlyRoom a c
 room-then {a} {b} {c} p q = grind (arith, nat_tests)
@@ -59,14 +56,6 @@ room-whole t t' whole sound next rows counts refs top room =
 
     fits : Fits (counts_at new.nodes) (refs_at new.nodes) (live new.handles.places.items) new.top [] owns_nothing
     fits = grind (arith, nat_tests, new, old)
-
-holder-past : (w : Core) (p : Places) (me : Owner) → MayHold w me → MayHold (record w { places = p }) me
-holder-past w p Owner.Caller h = h
-holder-past w p _ h = h
-
--- who may get a handle still may
-pub room-holder : {w w' : Core} (me : Owner) → OnlyRoom w w' → MayHold w me → MayHold w' me
-room-holder {w} {w'} me o h = subst (λ (u : Core). MayHold u me) (sym o.same) (holder-past w w'.places me h)
 
 pub room-newer : {t t' : Tables} → OnlyRoom (plain_of t) (plain_of t') → t'.loads ≡ t.loads → AreLater t → AreLater t'
 room-newer {t} {t'} room loads later = later-so later (newer-alike (room-alike room)) (λ l load is. sym (ap (λ (m : IndexMap ℕ LoadRow _). load_at m l) loads) ∙ is)

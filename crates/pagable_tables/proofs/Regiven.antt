@@ -1,7 +1,7 @@
 -- What was given is told by another set. Handles of a load that are left are those that it had and that haven't gone.
-use Rattle.pagable_tables.proofs.Words.{◌≡◌, ℕ, ◌≤◌, ◌==◌, ◌&&◌, ◌||◌, Bool, true, false, not, if◌then◌else◌, List, [], ◌∷◌, ◌++◌, refl, ap, sym, ◌∙◌, arith, ◌+◌, nat_tests, LoadNumber}
-use Rattle.pagable_tables.proofs.Words.{HandleRow, Owner, one, is_handle, is_owner, is_owned_by, find_row, Core, left_rows, AreNewEntries, is_owned_in, Holdings, live, SoFar, passes_in}
-use Rattle.pagable_tables.proofs.{Left.and_one, Next.within-less}
+use Rattle.pagable_tables.proofs.Words.{◌≡◌, ℕ, ◌≤◌, ◌==◌, ◌&&◌, ◌||◌, Bool, true, false, not, if◌then◌else◌, List, [], ◌∷◌, ◌++◌, refl, ap, sym, ◌∙◌, arith, ◌+◌, nat_tests, LoadNumber, HandleRow}
+use Rattle.pagable_tables.proofs.{Words.{Owner, one, is_handle, is_owner, is_owned_by, find_row, Core, left_rows, AreNewEntries, is_owned_in, Holdings, live, SoFar, passes_in}, Left.and_one}
+use Rattle.pagable_tables.proofs.{Next.within-less, Bits.{and-false, had}}
 
 less-unless : (a g b : Bool) → (a ≡ true → (b || g) ≡ true) → one (a && not g) ≤ one (b && not g)
 less-unless true false false h = absurd (let e = h refl in cc)
@@ -37,10 +37,6 @@ loaded l q rows = passes_in (is_owned_by (Owner.Load l)) rows q
 
 pub unlisting : (l : LoadNumber) (h : HandleRow) → h.owner ≡ Owner.List → is_owned_by (Owner.Load l) h ≡ false
 unlisting l h is = ap (is_owner (Owner.Load l)) is
-
-and-none : (b : Bool) → (b && false) ≡ false
-and-none true = refl
-and-none false = refl
 
 module _ (test : HandleRow → Bool) (q : ℕ) where
   pub passes-here : (x : HandleRow) (xs : List HandleRow) → passes_in test (x ∷ xs) q ≡ (if is_handle q x then test x else passes_in test xs q)
@@ -80,7 +76,7 @@ module _ (test : HandleRow → Bool) (q : ℕ) where
       split-left true false e f = left e ∙ rest ∙ sym (ap (λ b. not (gone q) && b) (there false f))
 
     pub passes-left : (rows : List HandleRow) → passes_in test entries q ≡ false → passes_in test (left_rows gone rows ++ entries) q ≡ (not (gone q) && passes_in test rows q)
-    passes-left [] none = none ∙ sym (ap (λ b. not (gone q) && b) passes-none ∙ and-none (not (gone q)))
+    passes-left [] none = none ∙ sym (ap (λ b. not (gone q) && b) passes-none ∙ and-false (not (gone q)))
     passes-left (x ∷ xs) none = split-left x xs (passes-left xs none) (gone x.number.0) (is_handle q x) refl refl
 
 -- of what passes and isn't an entry, what hasn't gone is there
@@ -97,13 +93,10 @@ pub given-none : (before w : Core) (given : ℕ → Bool) (lists : Bool) (t : Ho
 given-none before w given lists t l n f none = regiven before w given (and_owned w l given n) lists t f less (λ r e. first (given r) _ e)
   where
     first : (a b : Bool) → a ≡ true → (a || b) ≡ true
-    first true b e = refl
-    first false b e = absurd (cc)
+    first a b e = grind (arith, nat_tests)
 
     went : (g o v : Bool) → (not g && o) ≡ false → (v || o) ≡ true → (v || g) ≡ true
-    went g o true h e = refl
-    went true o false h e = refl
-    went false o false h e = absurd (cc)
+    went g o v h e = grind (arith, nat_tests)
 
     less : (r : ℕ) → and_owned w l given n r ≡ true → (given r || f.gone r) ≡ true
     less r e = split (r == n) refl
@@ -118,10 +111,6 @@ given-none before w given lists t l n f none = regiven before w given (and_owned
 pub given-one : (before w : Core) (given : ℕ → Bool) (lists : Bool) (t new : Holdings) (l : LoadNumber) (n : ℕ) → SoFar before w given lists t → loaded l n (live t.handles.places.items) ≡ true → SoFar before w (and_one given n) lists new → SoFar before w (and_owned w l given n) lists new
 given-one before w given lists t new l n f some g = regiven before w (and_one given n) (and_owned w l given n) lists new g less more
   where
-    had : (g o : Bool) → (not g && o) ≡ true → o ≡ true
-    had true o e = absurd (cc)
-    had false o e = e
-
     owned : is_owned_in w (Owner.Load l) n ≡ true
     owned = had (f.gone n) _ (sym (passes-so-far before w given lists t f (is_owned_by (Owner.Load l)) (unlisting l) n) ∙ some)
 

@@ -1,10 +1,12 @@
--- A handle that comes and pins stays, while others that are given go with all that follows.
-use Rattle.pagable_tables.proofs.Words.{◌≡◌, ℕ, ◌<◌, ◌≤◌, ◌==◌, ◌&&◌, ◌++◌, Bool, true, false, not, if◌then◌else◌, List, [], ◌∷◌, refl, ap, sym, ◌∙◌, subst, arith, inl, inr, None, ◌⊎◌, nat_eq}
-use Rattle.pagable_tables.proofs.Words.{Result, Ok, Err, AllPairs, nat_tests, cases_eq, sum_by-le-sum_by, sum_by_push, sum_by-append, Error, HandleRow, Among, if_there, one, times, is_loose_kind}
-use Rattle.pagable_tables.proofs.Words.{is_owner, mode_of, is_at, is_pin, is_pinning, is_owned_by, owner_value, held, pins, sharing, Core, Places, HasRoom, Alike, IsHandleBefore, HandlesAreWhole}
-use Rattle.pagable_tables.proofs.Words.{references_fault, is_owned_in, ArcRef, IsLeast, IsWithin, IsClosed, loses_value, pins_outside, held_outside, owned_outside, is_outside, is_keyed, left_rows}
-use Rattle.pagable_tables.proofs.{Words.{MustList, TellsListing, IsPlaceWanting, IsListRefusal, Falls, is_named_by, is_valued, LoadNumber, Owner}, Coming.no-value, Regiven.{loaded, passes-here}}
-use Rattle.pagable_tables.proofs.{Regiven.passes-none, Left.times-left, Dropped.owned-given, keeps.BirthCalls.named-mine, keeps.Rows.{counted, at-most-sum, once, among-last}, Pins.owner-self}
+-- A handle that comes stays, while others that are given go with all that follows.
+use Rattle.pagable_tables.proofs.Words.{◌≡◌, ℕ, ◌<◌, ◌≤◌, ◌==◌, ◌&&◌, ◌++◌, Bool, true, false, not, if◌then◌else◌, List, [], ◌∷◌, refl, ap, sym, ◌∙◌, subst, arith, inl, inr, None, ◌⊎◌, nat_eq, Result}
+use Rattle.pagable_tables.proofs.Words.{AllPairs, nat_tests, cases_eq, sum_by-le-sum_by, sum_by_push, sum_by-append, Error, HandleRow, Among, if_there, one, times, is_loose_kind, is_owner, mode_of}
+use Rattle.pagable_tables.proofs.Words.{is_at, is_pin, is_pinning, is_shared, is_owned_by, owner_value, held, pins, sharing, Core, Places, HasRoom, IsHandleBefore, HandlesAreWhole, references_fault}
+use Rattle.pagable_tables.proofs.Words.{is_owned_in, ArcRef, IsLeast, IsWithin, IsClosed, loses_value, pins_outside, held_outside, owned_outside, is_outside, is_keyed, left_rows, Falls, is_named_by}
+use Rattle.pagable_tables.proofs.Words.{is_valued, LoadNumber, Mode, Owner, ◌+◌, Option, NodeNumber, Blob, is_handle, HandleNumber, Last, Alike, nobody, row_of, with_handle, Counts, Tables, live}
+use Rattle.pagable_tables.proofs.{Words.{counts_at, ValueStays, cell_in, has_value, pins_in, SoFar, core_of, Some, changed, find_row, with_mode}, Coming.no-value, Regiven.{loaded, passes-here}}
+use Rattle.pagable_tables.proofs.{Regiven.passes-none, Left.times-left, Taken.owned-given, keeps.HandleCalls.named-mine, keeps.Rows.{counted, at-most-sum, once, among-last}, Opened.owner-self}
+use Rattle.pagable_tables.{proofs.{Begun.{begins, begun}, Ended.none-falls-in, Worlds.same-cache}, specs.Core.IsWhole}
 
 zero-or : (n : ℕ) → (n ≡ 0) ⊎ (0 < n)
 zero-or n = elim (cases_eq n 0) [ inl e ↦ inl e | inr e ↦ inr (omega arith) ]
@@ -52,33 +54,21 @@ module _ (rows : List HandleRow) (keyed : ℕ → Bool) (entries : List HandleRo
       let e : (x.number.0 == x.number.0) ≡ true = grind (arith, nat_tests) in
       grind (arith, nat_tests)
 
-wanting : (u w' : Core) (places : Places) → HasRoom u.places places → IsPlaceWanting (record u { places = places }) w' → IsPlaceWanting u w'
-wanting u w' places more (inl full) = inl (let m = more.handles in omega arith)
-wanting u w' places more (inr full) = inr (let m = more.entries in omega arith)
-
-refusal : (u w' : Core) (places : Places) → HasRoom u.places places → (e : Error) → IsListRefusal (record u { places = places }) w' e → IsListRefusal u w' e
-refusal u w' places more h r = grind (arith, nat_tests)
-
 -- why a cell must be listed, seen from another world before
 module _ {b w u w' : Core} {given : ℕ → Bool} {r : Result (Unit {0}) Error} (places : Places) (more : HasRoom u.places places)
     (to : (n : ℕ) → pins n w'.rows ≡ 0 → (pins n b.rows ≡ pins n w.rows) × (sharing n b.rows ≡ sharing n w.rows)) (falls : Falls b (record u { places = places }) given r w') where
-  there : (n : ℕ) → MustList b (record u { places = places }) w' n → MustList w u w' n
-  there n m = let e = to n m.unpinned in record { pinned = (let a = m.pinned in let d = e.0 in omega arith); unpinned = m.unpinned; unkeyed = m.unkeyed; unshared = sym e.1 ∙ m.unshared; stands_open = m.stands_open }
-
-  back : (n : ℕ) → MustList w u w' n → MustList b (record u { places = places }) w' n
-  back n m = let e = to n m.unpinned in record { pinned = (let a = m.pinned in let d = e.0 in omega arith); unpinned = m.unpinned; unkeyed = m.unkeyed; unshared = e.1 ∙ m.unshared; stands_open = m.stands_open }
-
-  telling : (r : Result (Unit {0}) Error) → TellsListing b (record u { places = places }) falls.entries r w' → TellsListing w u falls.entries r w'
-  telling (Ok k) t = record { all = λ n m. t.all n (back n m); not_all = tt }
-  telling (Err e) t = let n = t.not_all in record { all = tt; not_all = (n.0, there n.0 n.1, n.2, refusal u w' places more e n.3) }
-
   pub seen-before : Falls w u given r w'
   seen-before = grind (arith, nat_tests)
 
--- where a handle of w has come that pins and stays, pins go to 0 just where they would have
-pub stays-pinned : (w u w' : Core) (given : ℕ → Bool) (r : Result (Unit {0}) Error) (x : HandleRow) → u.rows ≡ w.rows ++ x ∷ [] → AllPairs IsHandleBefore u.rows → is_valued x.owner ≡ false → is_pinning x.mode ≡ true → given x.number.0 ≡ false → Falls u u given r w'
+-- a handle that doesn't pin isn't Shared
+unshared : (b : Bool) (mode : Mode) → (b && is_pinning mode) ≡ false → (b && is_shared mode) ≡ false
+unshared b mode e = grind (arith, nat_tests)
+
+-- where a handle of w has come and stays, pins go to 0 just where they would have
+pub stays-pinned : (w u w' : Core) (given : ℕ → Bool) (r : Result (Unit {0}) Error) (x : HandleRow) → u.rows ≡ w.rows ++ x ∷ [] → AllPairs IsHandleBefore u.rows
+    → is_valued x.owner ≡ false → given x.number.0 ≡ false → Falls u u given r w'
     → (n : ℕ) → pins n w'.rows ≡ 0 → (pins n u.rows ≡ pins n w.rows) × (sharing n u.rows ≡ sharing n w.rows)
-stays-pinned w u w' given r x rows ordered plain pinning kept falls n none = split (x.node.0 == n) refl
+stays-pinned w u w' given r x rows ordered plain kept falls n none = split (is_pin n x) refl
   where
     among : Among u.rows x
     among = subst (λ l. Among l x) (sym rows) (among-last w.rows x)
@@ -86,7 +76,7 @@ stays-pinned w u w' given r x rows ordered plain pinning kept falls n none = spl
     stands : falls.gone x.number.0 ≡ false
     stands = not-least u.rows (is_keyed u) falls.entries given falls.gone falls.set ordered x among plain kept
 
-    split : (b : Bool) → (x.node.0 == n) ≡ b → (pins n u.rows ≡ pins n w.rows) × (sharing n u.rows ≡ sharing n w.rows)
+    split : (b : Bool) → is_pin n x ≡ b → (pins n u.rows ≡ pins n w.rows) × (sharing n u.rows ≡ sharing n w.rows)
     split true e =
         let a = at-most-sum (λ h. one (is_pin n h && not (falls.gone h.number.0))) u.rows x among in
         let b = times-left (is_pin n) falls.gone u.rows in
@@ -95,11 +85,7 @@ stays-pinned w u w' given r x rows ordered plain pinning kept falls n none = spl
         let kept : falls.gone x.number.0 ≡ false = stands in
         let here : one (is_pin n x && not (falls.gone x.number.0)) ≡ 1 = grind (arith, nat_tests) in
         absurd (omega arith)
-    split false e = grind (arith, nat_tests, sum_by_push)
-
--- a world that is told alike, with the same cache, has but more room
-pub retold : (u b : Core) → Alike u b → b.cache ≡ u.cache → b ≡ record u { places = b.places }
-retold u b a cache = grind (arith, nat_tests)
+    split false e = let s = unshared (x.node.0 == n) x.mode e in grind (arith, nat_tests, sum_by_push)
 
 pub eager-pins : (kind : ℕ) → is_loose_kind kind ≡ false → is_pinning (mode_of kind) ≡ true
 eager-pins kind eager = grind (arith, nat_tests)
@@ -120,3 +106,61 @@ not-named w l refs whole good q above = split (is_named_by refs q) refl
     split : (b : Bool) → is_named_by refs q ≡ b → b ≡ false
     split false e = refl
     split true e = absurd (let g = owned-given w (Owner.Load l) q whole (named-loaded w l refs good q e) in omega arith)
+
+pub swapped : (w : Core) (node : NodeNumber) (mode : Mode) (me : Owner) → AllPairs IsHandleBefore (with_handle w node mode me).rows
+    → is_valued me ≡ false → {w' : Core} {given : ℕ → Bool} {r : Result (Unit {0}) Error}
+    → Falls (with_handle w node mode me) (with_handle w node mode me) given r w' → given (w.last.handle + 1) ≡ false → Falls w (with_handle w node mode me) given r w'
+swapped w node mode me ordered plain {w'} {given} {r} f spared =
+    let u = with_handle w node mode me in
+    seen-before {b = u} {w = w} {u = u} u.places (record { handles = omega arith; entries = omega arith })
+    (stays-pinned w u w' given r (row_of (w.last.handle + 1) node mode me) refl ordered plain spared f) f
+
+pub same-value : (o o' : Option Counts) (b : Bool) → cell_in o' ≡ cell_in o → pins_in o' ≡ pins_in o + one b → (b ≡ true → has_value o ≡ true) → has_value o' ≡ has_value o
+same-value o o' b cell pinned there = grind (arith, nat_tests)
+
+-- where rows and cells stay no value comes or goes
+pub values-still : (t new : Tables) → IsWhole t → IsWhole new → live new.holdings.handles.places.items ≡ live t.holdings.handles.places.items
+    → ((n : ℕ) → cell_in (counts_at new.holdings.nodes n) ≡ cell_in (counts_at t.holdings.nodes n)) → (n : ℕ) → ValueStays (counts_at t.holdings.nodes n) (counts_at new.holdings.nodes n)
+values-still t new was after rows cells n falls = grind (arith, nat_tests)
+
+module _ (t new : Tables) (stored : ℕ → Option Blob) (closed : Bool) (failures : ℕ) (node : NodeNumber) (mode : Mode) (me : Owner) (after : IsWhole new)
+    (a : Alike (with_handle (core_of t stored closed failures) node mode me) (core_of new stored closed failures)) where
+  -- nothing has gone since the handle came
+  pub begun-made : (lists : Bool) → lists ≡ not closed
+      → SoFar (with_handle (core_of t stored closed failures) node mode me) (with_handle (core_of t stored closed failures) node mode me) nobody lists (record new.holdings { unlisted = None })
+  begun-made lists e =
+      let u = with_handle (core_of t stored closed failures) node mode me in
+      let b = begins new stored closed lists failures after e in
+      begun u u lists (record new.holdings { unlisted = None })
+      (record {
+        open_storage = e;
+        fewer = λ n. omega arith;
+        shared = λ n. omega arith;
+        uniform = λ n. grind (arith, nat_tests);
+        listed = λ q. let d = ap (times (λ (h : HandleNumber). h.0 == q)) a.list in let e = ap (times (λ h. is_handle q h && is_owned_by Owner.List h)) a.rows in let f = b.listed q in omega arith;
+      })
+      a.rows a.list (ap (λ (l : Last). l.handle) a.last) after.core.handles.within.0 (record { handles = a.places.handles; entries = a.places.entries }) a.cells refl
+      (λ n must. let p = must.pinned in let z = must.unpinned in let s = ap (pins n) a.rows in absurd (omega arith))
+
+  -- and no value came or went
+  pub values-made : IsWhole t → (is_pinning mode ≡ true → has_value (counts_at t.holdings.nodes node.0) ≡ true) → (n : ℕ) → ValueStays (counts_at t.holdings.nodes n) (counts_at new.holdings.nodes n)
+  values-made was there n falls = grind (arith, nat_tests, none-falls-in, same-value, sum_by_push, live)
+
+-- a row of another number stays
+pub changed-push : (q : ℕ) (f : HandleRow → HandleRow) (rows : List HandleRow) (x : HandleRow) → q < x.number.0 → changed (is_handle q) f (rows ++ x ∷ []) ≡ changed (is_handle q) f rows ++ x ∷ []
+changed-push q f [] x less = let other : is_handle q x ≡ false = grind (arith, nat_tests) in rw other refl
+changed-push q f (y ∷ ys) x less = ap (λ l. (if is_handle q y then f y else y) ∷ l) (changed-push q f ys x less)
+
+-- the tables' cache stays, and so what it gives is told of the whole
+pub pinned-alike : (w u w' : Core) (h : HandleNumber) (node : NodeNumber) (me : Owner) → h.0 ≤ w.last.handle → ((kind key : ℕ) → w'.cache kind key ≡ w.cache kind key)
+    → Alike (with_handle w node Mode.Pinned me) u → Alike (with_mode u h Mode.LoosePinned) w' → Alike (with_handle (with_mode w h Mode.LoosePinned) node Mode.Pinned me) w'
+pinned-alike w u w' h node me given cache a b = grind (arith, nat_tests, changed-push, same-cache)
+
+-- who is found stays found when more rows come
+found-more : (q : ℕ) (rows more : List HandleRow) (row : HandleRow) → find_row q rows ≡ Some row → find_row q (rows ++ more) ≡ Some row
+unfolding find_row
+found-more q [] more row is = absurd (cc)
+found-more q (h ∷ hs) more row is = grind (arith, nat_tests, found-more q hs more row)
+
+pub found-again : (q : ℕ) (rows rows' more : List HandleRow) (row : HandleRow) (o : Option HandleRow) → find_row q rows ≡ Some row → rows' ≡ rows ++ more → find_row q rows' ≡ o → o ≡ Some row
+found-again q rows rows' more row o is came again = sym again ∙ ap (find_row q) came ∙ found-more q rows more row is

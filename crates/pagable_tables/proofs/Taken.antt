@@ -1,10 +1,12 @@
--- A load hands handles over, and gives up the rest.
+-- A load is closed or hands handles over, or a worker leaves, and what they still own is given up.
 use Rattle.pagable_tables.proofs.Words.{◌≡◌, ℕ, ◌<◌, ◌==◌, ◌&&◌, Bool, true, false, not, if◌then◌else◌, List, [], ◌∷◌, length, refl, ap, sym, ◌∙◌, subst, arith, Option, None, inl, inr, nat_tests}
 use Rattle.pagable_tables.proofs.Words.{sum_by-cons, HandleNumber, LoadNumber, HandleRow, Owner, Blob, Among, one, times, is_in, is_handle, is_owner, is_owned_by, is_pin, is_share, find_row, pins}
 use Rattle.pagable_tables.proofs.Words.{Core, HasRoom, MayOwnLoad, load_fault, named_fault, nobody, moved, without_load, numbers_of, hand_over_fault, Tables, Holdings, live, is_valued, with_tables}
-use Rattle.pagable_tables.proofs.{Words.{is_plain_pin, SoFar, core_of, named_at, IsNamed}, Begun.{begins, begun}, Handed.seen-all, Regiven.loaded, Seen.in-there, keeps.Comes.not-list}
-use Rattle.pagable_tables.proofs.{keeps.EndCalls.{both-none, handed-mine, asker-owns}, keeps.LoadCalls.may-hold, keeps.Moved.moved-to-holder, keeps.Rows.{found-among, once}}
-use Rattle.pagable_tables.specs.Core.{IsWhole}
+use Rattle.pagable_tables.proofs.Words.{is_plain_pin, SoFar, core_of, named_at, IsNamed, ◌≤◌, Some, ◌≢◌, Result, option_map, Error, updated, if_there, OpenLoad, Falls, is_owned_in, LoadRow, passes_in}
+use Rattle.pagable_tables.proofs.{Words.{load_in, ◌+◌, ◌++◌, filter, Ok, TakeCall, is_workers_load, with_worker, left_load}, Begun.{begins, begun}, Handed.{seen-all, in-there}, Regiven.loaded}
+use Rattle.pagable_tables.proofs.{keeps.Comes.not-list, keeps.EndCalls.{both-none, handed-mine, asker-owns}, keeps.LoadCalls.may-hold, keeps.HandleCalls.moved-to-holder, keeps.Rows.found-among}
+use Rattle.pagable_tables.{proofs.keeps.Rows.once, specs.{Core.IsWhole, Giving.TakesWorker}}
+use Rattle.pagable_model.specs.declared.numbers.WorkerNumber.{WorkerNumber}
 use Rattle.pagable_world.specs.Pager as pager
 
 -- what is counted of handles whoever owns them
@@ -84,6 +86,68 @@ still-listed {w} whole me l hs can =
         let a = found-among x.number.0 w.rows m.row m.live in
         ap (is_owned_by Owner.List) (once w.rows whole.handles.ordered x m.row among a.0 (sym a.1)) ∙ ap (is_owner Owner.List) m.own
 
-pub and-left : (a b : Bool) → (a && b) ≡ true → a ≡ true
-and-left true b e = refl
-and-left false b e = absurd (cc)
+-- a load isn't there any more
+pub load-closed : (at at' : ℕ → Option LoadRow) (l : ℕ) → at' l ≡ None → ((q : ℕ) → q ≢ l → at' q ≡ at q) → (q : ℕ) → updated l None (λ q. option_map load_in (at q)) q ≡ option_map load_in (at' q)
+load-closed at at' l gone others q = grind (arith, nat_tests)
+
+-- where nothing has gone of a whole world, nothing has of the one with other loads and workers
+pub begun-less : (t : Tables) (loads : ℕ → Option OpenLoad) (workers : ℕ → Bool) (stored : ℕ → Option Blob) (closed lists : Bool) (failures : ℕ) → IsWhole t → lists ≡ not closed
+    → SoFar (core_of t stored closed failures) (record (core_of t stored closed failures) { loads = loads; workers = workers }) nobody lists (record t.holdings { unlisted = None })
+begun-less t loads workers stored closed lists failures w e =
+    let b = begins t stored closed lists failures w e in
+    begun (core_of t stored closed failures) (record (core_of t stored closed failures) { loads = loads; workers = workers }) lists (record t.holdings { unlisted = None })
+    (record { open_storage = b.open_storage; fewer = b.fewer; shared = b.shared; uniform = b.uniform; listed = b.listed })
+    refl refl refl w.core.handles.within.0 (record { handles = omega arith; entries = omega arith }) (λ n. refl) refl
+    (λ n must. let a = must.pinned in let z = must.unpinned in absurd (omega arith))
+
+-- a handle whose row passes a test was given
+pub passes-given : (test : HandleRow → Bool) (w : Core) (q : ℕ) → pager.HandlesAreWhole w → passes_in test w.rows q ≡ true → (0 < q) × (q ≤ w.last.handle)
+passes-given test w q whole passes = split (find_row q w.rows) refl passes
+  where
+    split : (found : Option HandleRow) → find_row q w.rows ≡ found → if_there test false found ≡ true → (0 < q) × (q ≤ w.last.handle)
+    split None e passes = absurd (cc)
+    split (Some h) e passes = let f = found-among q w.rows h e in let n = whole.numbered h f.0 in let n0 = n.0 in let n1 = n.1 in let same = f.1 in (omega arith, omega arith)
+
+pub owned-given : (w : Core) (o : Owner) (q : ℕ) → pager.HandlesAreWhole w → is_owned_in w o q ≡ true → q ≤ w.last.handle
+owned-given w o q whole own = (passes-given (is_owned_by o) w q whole own).1
+
+-- loads and workers are told anew
+pub loads-anew : (before u w' : Core) (given : ℕ → Bool) (r : Result (Unit {0}) Error) (loads : ℕ → Option OpenLoad) → ((q : ℕ) → w'.loads q ≡ loads q) → Falls before u given r w' → Falls before u given r (record w' { loads = loads })
+loads-anew before u w' given r loads same falls = subst (λ l. Falls before u given r (record w' { loads = l })) (λ i q. same q i) falls
+
+pub workers-anew : (before u w' : Core) (given : ℕ → Bool) (r : Result (Unit {0}) Error) (workers : ℕ → Bool) → ((v : ℕ) → w'.workers v ≡ workers v) → Falls before u given r w' → Falls before u given r (record w' { workers = workers })
+workers-anew before u w' given r workers same falls = subst (λ v. Falls before u given r (record w' { workers = v })) (λ i q. same q i) falls
+
+pushed : (vs : List ℕ) (n q : ℕ) → is_in (vs ++ n ∷ []) q ≡ (if q == n then true else is_in vs q)
+unfolding is_in
+pushed [] n q = grind (arith, nat_tests)
+pushed (x ∷ xs) n q = grind (arith, nat_tests, pushed xs n q)
+
+pub worker-comes : (vs vs' : List ℕ) (n : ℕ) → vs' ≡ vs ++ n ∷ [] → (q : ℕ) → is_in vs' q ≡ updated n true (is_in vs) q
+worker-comes vs vs' n is q = ap (λ l. is_in l q) is ∙ pushed vs n q
+
+-- one leaves
+pub worker-leaves : (vs : List ℕ) (n q : ℕ) → is_in (filter (λ x. not (x == n)) vs) q ≡ updated n false (is_in vs) q
+unfolding is_in
+worker-leaves [] n q = grind (arith, nat_tests)
+worker-leaves (x ∷ xs) n q = grind (arith, nat_tests, worker-leaves xs n q)
+
+-- what is told of loads once those of a worker are closed
+pub load-leaves : (v : ℕ) (row : Option LoadRow) → (if is_workers_load v (option_map load_in row) then None else option_map load_in row) ≡ option_map load_in (left_load v row)
+load-leaves v row = grind (arith, nat_tests)
+
+-- a load that is left was open
+pub left-was : (v : ℕ) (row : Option LoadRow) (load : LoadRow) → left_load v row ≡ Some load → row ≡ Some load
+left-was v row load is = grind (arith, nat_tests)
+
+-- the world of tables that have one worker more
+pub begun-core : (t t1 : Tables) (stored : ℕ → Option Blob) (closed : Bool) (failures : ℕ) → t1 ≡ record t { workers = t1.workers; last_worker = t1.last_worker } → t1.last_worker ≡ t.last_worker + 1
+    → ((q : ℕ) → is_in t1.workers.items q ≡ updated (t.last_worker + 1) true (is_in t.workers.items) q) → core_of t1 stored closed failures ≡ with_worker (core_of t stored closed failures)
+begun-core t t1 stored closed failures same last more = grind (arith, nat_tests)
+
+-- the entry moves to it
+pub takes-worker : (w w1 w' : Core) (place : ℕ) (v : WorkerNumber) (found : Option HandleNumber) → w1 ≡ with_worker w → v.0 ≡ w.last.worker + 1 → place < length w.list → TakeCall w1 (Owner.Worker v) place found w' → TakesWorker w place (Ok v) w'
+takes-worker w w1 w' place v (Some h) is next within call =
+    let (listed, leaves) = subst (λ u. TakeCall u (Owner.Worker v) place (Some h) w') is call in
+    record { taken = (h, listed, next, leaves); refused = tt }
+takes-worker w w1 w' place v None is next within call = let (past, leaves) = subst (λ u. TakeCall u (Owner.Worker v) place None w') is call in absurd (omega arith)

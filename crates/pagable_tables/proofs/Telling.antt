@@ -1,8 +1,140 @@
--- A handle has gone and an entry may have come: entries stand for what must be listed, and the answer tells of it.
-use Rattle.pagable_tables.proofs.Words.{◌≡◌, ℕ, ◌+◌, ◌<◌, ◌≤◌, ◌&&◌, Bool, true, false, if◌then◌else◌, ◌++◌, length, refl, ap, sym, ◌∙◌, subst, arith, inl, inr, Option, Some, None, ◌⊎◌}
-use Rattle.pagable_tables.proofs.Words.{vec_capacity, cases_Bool, and_parts, nat_tests, Error, NodeNumber, HandleRow, one, times, is_at, is_pin, held, pins, Core, MustList, TellsListing}
-use Rattle.pagable_tables.proofs.Words.{IsListRefusal, Counts, Holdings, live, counts_at, pins_in, entry, entries_of, is_listing, IsUnlisted, first_cause, with_tables, told_by, SoFar}
-use Rattle.pagable_tables.proofs.{Leaving.with-entry, Wanted.listing-is, Wanted.must-now, Wanted.must-before}
+-- A handle has gone and an entry may have come: which cells must be listed then, and what is told of it.
+use Rattle.pagable_tables.proofs.Words.{◌≡◌, ℕ, ◌+◌, ◌≤◌, ◌&&◌, Bool, true, false, not, if◌then◌else◌, List, [], ◌∷◌, refl, ap, sym, ◌∙◌, arith, Option, Some, None, inl, inr, zero, suc, is_some}
+use Rattle.pagable_tables.proofs.Words.{nat_lt, nat_eq, nat_tests, sum_by-cons, sum_by-append, sum_by-le-sum_by, OptionalDataKey, HandleRow, one, times, if_there, is_at, is_pin, is_owned_by}
+use Rattle.pagable_tables.proofs.Words.{owner_value, held, pins, has_key, Core, Cell, IsWithin, IsClosed, is_keyed, is_outside, left_rows, held_outside, pins_outside, Counts, Holdings, live}
+use Rattle.pagable_tables.proofs.Words.{counts_at, keyed_in, key_in, cell_in, HasFallen, SoFar, ◌⊎◌, cases_Bool, and_parts, NodeNumber, Owner, Mode, is_share, is_shared, is_pinning, MustList, pins_in}
+use Rattle.pagable_tables.proofs.Words.{entry, is_listing, with_tables, is_plain_pin, ◌<◌, ◌++◌, length, subst, vec_capacity, Error, TellsListing, IsListRefusal, entries_of, IsUnlisted, first_cause}
+use Rattle.pagable_tables.proofs.{Words.told_by, Left.{times-left, entries-none, left-le, with-entry}}
+
+-- what is outside the one set is outside the other, or between them
+cut : (f : HandleRow → Bool) (gone s : ℕ → Bool) (rows : List HandleRow) → times (λ h. f h && not (s h.number.0)) rows
+    ≤ times (λ h. f h && not (gone h.number.0)) rows + times (λ h. gone h.number.0 && not (s h.number.0)) rows
+cut f gone s [] = omega arith
+cut f gone s (x ∷ xs) =
+    let a = sum_by-cons (λ h. one (f h && not (s h.number.0))) x xs in
+    let b = sum_by-cons (λ h. one (f h && not (gone h.number.0))) x xs in
+    let d = sum_by-cons (λ h. one (gone h.number.0 && not (s h.number.0))) x xs in
+    let rest = cut f gone s xs in
+    let here = bits (f x) (gone x.number.0) (s x.number.0) in
+    omega arith
+  where
+    bits : (p g s : Bool) → one (p && not s) ≤ one (p && not g) + one (g && not s)
+    bits p g s = grind (arith, nat_tests)
+
+le : (f g : HandleRow → Bool) (rows : List HandleRow) → ((h : HandleRow) → one (f h) ≤ one (g h)) → times f rows ≤ times g rows
+le f g rows h = sum_by-le-sum_by (λ x. one (f x)) (λ x. one (g x)) rows h
+
+pub keyed-cell : (k : ℕ) → has_key (key_in k) ≡ nat_lt 0 k
+keyed-cell zero = refl
+keyed-cell (suc n) = let some : nat_lt 0 (suc n) ≡ true = grind (arith, nat_tests) in sym some
+
+up-keyed : (o : Option Counts) (cell : Option Cell) → (is_some o ≡ true → cell_in o ≡ cell) → keyed_in o ≡ true → has_key (if_there (λ (c : Cell). c.key) OptionalDataKey.None cell) ≡ true
+up-keyed None cell same e = absurd (cc)
+up-keyed (Some c) cell same e = ap (λ (o : Option Cell). has_key (if_there (λ (c : Cell). c.key) OptionalDataKey.None o)) (sym (same refl)) ∙ keyed-cell c.key ∙ e
+
+module _ (before w : Core) (given : ℕ → Bool) (lists : Bool) (t : Holdings) (f : SoFar before w given lists t) (s : ℕ → Bool) (within : IsWithin w.rows f.gone s) where
+  counted : (p : HandleRow → Bool) → times p (live t.handles.places.items) ≡ times (λ h. p h && not (f.gone h.number.0)) w.rows + times p f.entries
+  counted p = ap (times p) f.rows ∙ sum_by-append (λ h. one (p h)) (left_rows f.gone w.rows) f.entries ∙ ap (λ k. k + times p f.entries) (times-left p f.gone w.rows)
+
+  lost : (final : List HandleRow) (n : ℕ) (keyed : Bool) → is_keyed w n ≡ keyed → (held n (live t.handles.places.items) ≡ 0 → held n final ≡ 0)
+      → HasFallen (counts_at t.nodes) (live t.handles.places.items) n
+      → (if keyed then nat_eq (pins_outside w.rows s n) 0 else nat_eq (held n final) 0 && nat_eq (held_outside w.rows s n) 0) ≡ true
+  lost final n true e bare down =
+      let a = counted (is_pin n) in
+      let b = cut (is_pin n) f.gone s w.rows in
+      let d : pins n (live t.handles.places.items) ≤ held n (live t.handles.places.items) = le (is_pin n) (is_at n) (live t.handles.places.items) (λ h. grind (arith, nat_tests)) in
+      grind (arith, nat_tests)
+  lost final n false e bare (inl none) =
+      let a = counted (is_at n) in
+      let b = cut (is_at n) f.gone s w.rows in
+      grind (arith, nat_tests)
+  lost final n false e bare (inr both) = let k = up-keyed (counts_at t.nodes n) (w.cells n) (f.cells n) both.0 in absurd (cc)
+
+  -- no handle outside the set is left that the value owned
+  pub forced : (final : List HandleRow) (n : ℕ) → (held n (live t.handles.places.items) ≡ 0 → held n final ≡ 0) → HasFallen (counts_at t.nodes) (live t.handles.places.items) n
+      → IsClosed w.rows (is_keyed w) final s
+      → times (λ h. is_owned_by (owner_value n) h && is_outside s h) (live t.handles.places.items) ≡ 0
+  forced final n bare down closed =
+      let none = closed n (lost final n (is_keyed w n) refl bare down) in
+      let a = counted (λ h. is_owned_by (owner_value n) h && is_outside s h) in
+      let b = entries-none (λ h. is_owned_by (owner_value n) h && is_outside s h) (λ h mode owner. grind (arith, nat_tests)) w.last.handle f.entries f.new in
+      let d = le (λ h. (is_owned_by (owner_value n) h && is_outside s h) && not (f.gone h.number.0)) (λ h. is_owned_by (owner_value n) h && is_outside s h) w.rows (λ h. grind (arith, nat_tests)) in
+      omega arith
+
+-- what a listing handle is: the last pin of a cell without a key
+pub listing-is : (c : Counts) (m : Mode) → is_listing c m ≡ true → (is_pinning m ≡ true) × (is_shared m ≡ false) × (c.pins ≡ 1) × (nat_lt 0 c.key ≡ false)
+listing-is c m e = grind (arith, nat_tests)
+
+pub is-listing : (c : Counts) (m : Mode) → is_pinning m ≡ true → is_shared m ≡ false → c.pins ≡ 1 → nat_lt 0 c.key ≡ false → is_listing c m ≡ true
+is-listing c m p s one k = grind (arith, nat_tests)
+
+-- a new entry pins nothing
+pub entry-pins : (listed : Bool) (k n : ℕ) (node : NodeNumber) → (if listed then one (is_pin n (entry k node)) else 0) ≡ 0
+entry-pins true k n node = grind (arith, nat_tests)
+entry-pins false k n node = refl
+
+cell-keyed : (o : Option Counts) (c : Counts) (cell : Option Cell) → o ≡ Some c → (is_some o ≡ true → cell_in o ≡ cell) → has_key (if_there (λ (c : Cell). c.key) OptionalDataKey.None cell) ≡ nat_lt 0 c.key
+cell-keyed o c cell is same = grind (arith, nat_tests, keyed-cell)
+
+not-closed : (lists closed : Bool) → lists ≡ not closed → lists ≡ true → closed ≡ false
+not-closed lists true e l = absurd (cc)
+not-closed lists false e l = refl
+
+open-lists : (lists closed : Bool) → lists ≡ not closed → closed ≡ false → lists ≡ true
+open-lists lists true e c = absurd (cc)
+open-lists lists false e c = e
+
+both : (a b : Bool) → a ≡ true → b ≡ true → (a && b) ≡ true
+both true b e h = h
+both false b e h = absurd (cc)
+
+module _ (before w : Core) (given : ℕ → Bool) (lists : Bool) (t : Holdings) (f : SoFar before w given lists t) where
+  -- what no new entry is, is in the tables no more often than at first
+  pub no-more : (p : HandleRow → Bool) → ((h : HandleRow) → h.mode ≡ Mode.LooseUnpinned → h.owner ≡ Owner.List → p h ≡ false) → times p (live t.handles.places.items) ≤ times p w.rows
+  no-more p none = grind (arith, nat_tests, sum_by-append, entries-none, left-le)
+
+  -- the last pin of a cell without a key has gone
+  pub must-now : (x : HandleRow) (c : Counts) (new : Holdings) → counts_at t.nodes x.node.0 ≡ Some c
+      → pins_in (counts_at t.nodes x.node.0) ≡ pins x.node.0 (live t.handles.places.items) → ((p : HandleRow → Bool) → one (p x) ≤ times p (live t.handles.places.items))
+      → (lists && is_listing c x.mode) ≡ true → pins x.node.0 (live new.handles.places.items) ≡ 0 → MustList before w (with_tables w new) x.node.0
+  must-now x c new is pinned here wanted none =
+      let w' = and_parts lists (is_listing c x.mode) wanted in
+      let l = listing-is c x.mode w'.1 in
+      let n = x.node.0 in
+      let a = ap pins_in is in
+      let b = no-more (is_pin n) (λ h mode owner. grind (arith, nat_tests)) in
+      let d = f.begins.fewer n in
+      let p = no-more (is_plain_pin n) (λ h mode owner. grind (arith, nat_tests)) in
+      let plain : one (is_plain_pin n x) ≡ 1 = grind (arith, nat_tests) in
+      grind (arith, nat_tests, cell-keyed, not-closed)
+
+  -- a cell must be listed: its last pin had gone before, or it has gone now
+  pub must-before : (x : HandleRow) (c : Counts) (new : Holdings) (n : ℕ) → counts_at t.nodes x.node.0 ≡ Some c
+      → pins_in (counts_at t.nodes x.node.0) ≡ pins x.node.0 (live t.handles.places.items) → ((p : HandleRow → Bool) → one (p x) ≤ times p (live t.handles.places.items))
+      → pins n (live new.handles.places.items) + one (is_pin n x) ≡ pins n (live t.handles.places.items) → MustList before w (with_tables w new) n
+      → (MustList before w (with_tables w t) n) ⊎ ((n ≡ x.node.0) × ((lists && is_listing c x.mode) ≡ true))
+  must-before x c new n is pinned here left must =
+      elim (cases_Bool (is_pin n x)) [
+        | inr other ↦ let z = must.unpinned in let k = ap one other in inl (record {
+          pinned = must.pinned;
+          unpinned = omega arith;
+          unkeyed = must.unkeyed;
+          unshared = must.unshared;
+          stands_open = must.stands_open;
+        })
+        | inl pin ↦ inr (now pin)
+      ]
+    where
+      now : is_pin n x ≡ true → (n ≡ x.node.0) × ((lists && is_listing c x.mode) ≡ true)
+      now pin =
+          let at : n ≡ x.node.0 = grind (arith, nat_tests) in
+          let pinning : is_pinning x.mode ≡ true = grind (arith, nat_tests) in
+          let a = no-more (is_share n) (λ h mode owner. let m : is_shared h.mode ≡ false = ap is_shared mode in grind (arith, nat_tests)) in
+          let unshared : is_shared x.mode ≡ false = grind (arith, nat_tests) in
+          let o = ap one pin in
+          let p : c.pins ≡ 1 = sym (ap pins_in is) ∙ pinned ∙ ap (λ m. pins m (live t.handles.places.items)) (sym at) ∙ (omega arith) in
+          let k : nat_lt 0 c.key ≡ false = sym (cell-keyed (counts_at t.nodes x.node.0) c (w.cells x.node.0) is (f.cells x.node.0)) ∙ ap (λ m. is_keyed w m) (sym at) ∙ must.unkeyed in
+          (at, both lists (is_listing c x.mode) (open-lists lists w.closed f.begins.open_storage must.stands_open) (is-listing c x.mode pinning unshared p k))
 
 -- a cause stays
 refusal-kept : (w : Core) (t new : Holdings) (e : Error) → IsListRefusal w (with_tables w t) e → t.last_handle ≤ new.last_handle → length t.list.items ≤ length new.list.items
@@ -14,10 +146,6 @@ pub refusal-now : (w : Core) (b new : Holdings) (e : Error) → IsUnlisted b e �
     → w.last.handle ≤ b.last_handle → w.places.handles ≤ vec_capacity b.handles.places → w.places.entries ≤ vec_capacity b.list
     → length (live b.handles.places.items) ≤ length w.rows → IsListRefusal w (with_tables w new) e
 refusal-now w b new e why last list since handles entries rows = grind (arith, nat_tests)
-
-came : (listed : Bool) (k n : ℕ) (node : NodeNumber) → 0 < (if listed then one (is_at n (entry k node)) else 0) → (listed ≡ true) × (n ≡ node.0)
-came true k n node some = (refl, grind (arith, nat_tests))
-came false k n node some = absurd (omega arith)
 
 -- an entry came or none was wanted; or one was and didn't come
 which : (listed wanted : Bool) → ((listed ≡ true) ⊎ (wanted ≡ false)) ⊎ ((listed ≡ false) × (wanted ≡ true))

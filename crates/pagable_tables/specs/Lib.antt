@@ -7,10 +7,7 @@ pub mod Owning
 pub mod Lowering
 pub mod Later
 pub mod Asking
-pub mod Keyed
-pub mod Named
 pub mod Offering
 pub mod Bearing
-pub mod Closing
 pub mod Ready
 pub mod Giving

@@ -1,9 +1,10 @@
--- A handle lets its pin go and stays.
-use Rattle.std.specs.Prelude.{ℕ, ◌≡◌, ◌≢◌, ◌+◌, ◌≤◌, ◌&&◌, Bool, true, List, length, sum_by, Some, nat_lt}
-use Rattle.pagable_world.specs.{declared.handles.HandleRow.HandleRow, Plain.changed, Kinds.is_handle}
-use Rattle.pagable_tables.specs.{declared.rows.Counts.Counts, declared.holdings.Holdings.Holdings, Live.live, ByNumber.counts_at, Falling.is_listing, Falling.owns_nothing}
-use Rattle.pagable_tables.specs.{Falling.CellsStay, Falling.HasPlaces, Falling.MayList, Falling.IsFalling, Falling.ValueStays}
+-- A handle lets its pin go and stays, or a node gets a key.
+use Rattle.std.specs.Prelude.{ℕ, ◌≡◌, ◌≢◌, ◌+◌, ◌≤◌, ◌&&◌, Bool, true, List, length, sum_by, Some, nat_lt, ◌==◌, if◌then◌else◌, Option, None}
+use Rattle.pagable_world.specs.{declared.handles.HandleRow.HandleRow, Plain.{changed, SameAt, updated, if_there}, Kinds.is_handle, World.Cell}
+use Rattle.pagable_tables.specs.{declared.rows.Counts.Counts, declared.holdings.Holdings.Holdings, Live.live, ByNumber.counts_at, Falling.{is_listing, owns_nothing, CellsStay, HasPlaces, MayList}}
+use Rattle.pagable_tables.specs.Falling.{IsFalling, ValueStays, cell_in}
 use Rattle.pagable_world.specs.declared.rows.Mode.TheVariants as modes
+use Rattle.pagable_model.specs.declared.data_key.OptionalDataKey.TheVariants as optional
 
 -- the row of a loose handle without its pin
 abbrev pub unpinned : HandleRow → HandleRow
@@ -28,3 +29,11 @@ pub record Lowers (old : Holdings) (x : HandleRow) (lists : Bool) (new : Holding
   pub more : List ℕ
   pub falling : IsFalling new more owns_nothing
   pub long : length more ≤ 1
+
+-- the counts of the node then: it falls if nothing pins it
+abbrev pub keyed : Counts → ℕ → ℕ → Counts
+keyed c key top = record c { key = key; is_falling = c.pins == 0; next = if c.pins == 0 then top else c.next }
+
+-- the cells, with this key at one
+abbrev pub GetsKey : (ℕ → Option Counts) → (ℕ → Option Counts) → ℕ → ℕ → Type 0
+GetsKey old new n key = SameAt (updated n (if_there (λ (cell : Cell). Some (record cell { key = optional.Some key })) None (cell_in (old n))) (λ m. cell_in (old m))) (λ m. cell_in (new m))

@@ -1,26 +1,23 @@
 //! What a load reads becomes nodes.
 
 ghost use Rattle.std.specs.Prelude.{nat_eq, ◌≡◌, ℕ, ◌⊎◌, ◌<◌, ◌≤◌, length, [], Bool, Option, IfOk, IfErr, IfSome, IfNone, OnOk, Some, None, not, true, false};
-ghost use Rattle.pagable_world.specs.{Plain.Blob, Plain.is_loose_kind, Kinds.is_pinning, Kinds.mode_of, Cascade.FallsAnyhow, Cascade.nobody, World.Core, World.Alike, World.usable};
-ghost use Rattle.pagable_world.specs.{Refusals.load_fault, Refusals.references_fault, Refusals.spent, Refusals.AreHandlesFull, Refusals.Refused, Calls.IsNext, Calls.with_handle};
-ghost use Rattle.pagable_world.specs.{Calls.is_named_by, Calls.birth_fault, LoadCalls.adopt_fault, LoadCalls.adopted, LoadCalls.first_key, LoadCalls.is_owned_in, LoadCalls.Adopts};
-ghost use Rattle.pagable_world.specs.{LoadCalls.LazyCall};
-ghost use Rattle.pagable_tables.specs.{Live.live, Onward.with_tables, Onward.SoFar, Falling.has_value, Falling.IsFalling, Falling.owns_nothing, Falling.key_in, Falling.Sheds};
-ghost use Rattle.pagable_tables.specs.{Bearing.IsReady, Bearing.OnlyRoom, ByNumber.counts_at, Core.core_of, Core.plain_of, Core.IsWhole, Core.MayHold, Core.Suits, Later.AreLater};
-ghost use Rattle.pagable_tables.specs.{Asking.early_fault};
+ghost use Rattle.pagable_world.specs.{Plain.{Blob, is_loose_kind}, Kinds.{is_pinning, mode_of}, Cascade.{FallsAnyhow, nobody}, World.{Core, Alike, usable}, Refusals.{load_fault, references_fault}};
+ghost use Rattle.pagable_world.specs.{Refusals.{spent, Refused, AreHandlesFull}, Calls.{IsNext, is_named_by, birth_fault, with_handle}, LoadCalls.{adopt_fault, adopted, first_key, is_owned_in}};
+ghost use Rattle.pagable_world.specs.LoadCalls.{Adopts, LazyCall};
+ghost use Rattle.pagable_tables.specs.{Live.live, Onward.{with_tables, SoFar}, Falling.{has_value, IsFalling, owns_nothing, key_in, Sheds}, Bearing.{IsReady, OnlyRoom}, ByNumber.counts_at};
+ghost use Rattle.pagable_tables.specs.{Core.{core_of, plain_of, IsWhole, MayHold, Suits}, Later.AreLater, Asking.early_fault};
 ghost use Rattle.indexmap.specs.IndexMap.{get, spare};
 ghost use Rattle.pagable_world.specs.declared.handles.Owner.TheVariants as owners;
 
 use crate::births::{bear, first_counts, make_ready};
 use crate::cascade::fall;
-use crate::causes::{earlier, load_fault, refused_if};
 use crate::ending::give_next;
 use crate::holdings::Holdings;
 use crate::kinds::{is_loose_kind, is_pinned_kind, mode_of};
 use crate::known::usable_of;
 use crate::loading::load_row;
 use crate::making::make;
-use crate::references::references_fault;
+use crate::references::{earlier, load_fault, references_fault, refused_if};
 use crate::tables::Tables;
 use crate::{cache, loads};
 use indexmap::IndexMap;
@@ -148,37 +145,6 @@ fn give_named<N: Drop>(
     let _ = fall(t, values, lists);
 }
 
-/// A handle of the load's of the node that the cache gives. What was read is dropped, and the handles that its references name are given up.
-fn adopt_known<N: Drop>(
-    t: &mut Tables,
-    values: &mut IndexMap<u64, Arc<N>>,
-    load: LoadNumber,
-    node: NodeNumber,
-    kind: Kind,
-    references: &[ArcRef],
-    lists: bool,
-) -> Result<HandleNumber, Error>
-    requires whole { IsWhole t.old }
-    requires suits { Suits (plain_of t.old) node (mode_of kind.0) }
-    requires holder { MayHold (plain_of t.old) (owners.Load load) }
-    requires eager { is_loose_kind kind.0 ≡ false }
-    requires valued { has_value (counts_at t.old.holdings.nodes node.0) ≡ true }
-    requires fit { references_fault (plain_of t.old) (owners.Load load) [] references.now ≡ None }
-    ensures known { (stored : ℕ → Option Blob) (closed : Bool) (failures : ℕ) → lists ≡ not closed → IfOk result (λ k. IsNext k (core_of t.old stored closed failures) × FallsAnyhow (core_of t.old stored closed failures) (with_handle (core_of t.old stored closed failures) node (mode_of kind.0) (owners.Load load)) (is_named_by references.now) (core_of t.new stored closed failures)) }
-    ensures refused { (stored : ℕ → Option Blob) (closed : Bool) (failures : ℕ) → IfErr result (λ e. Refused (spent t.old.holdings.last_handle) (spent t.old.holdings.last_handle) (AreHandlesFull (core_of t.old stored closed failures)) (core_of t.old stored closed failures) e (core_of t.new stored closed failures)) }
-    ensures steady { IsFalling t.new.holdings [] owns_nothing }
-    ensures loads { t.new.loads ≡ t.old.loads }
-    ensures sheds { Sheds (counts_at t.old.holdings.nodes) (get nat_eq values.old) (counts_at t.new.holdings.nodes) (get nat_eq values.new) }
-{
-    match make(t, node, mode_of(kind), Owner::Load(load)) {
-        Ok(handle) => {
-            give_named(&mut t.holdings, values, load, references, lists);
-            Ok(handle)
-        }
-        Err(e) => Err(e),
-    }
-}
-
 /// The number of the key that a node of this kind has from the first, 0 for none: a cell's is the one that it was read under.
 fn first_key(kind: Kind, key: DataKey) -> u128
     ensures key { key_in result ≡ first_key kind.0 key }
@@ -221,8 +187,11 @@ pub fn adopt_if_known<N: Drop>(
     let Some(node) = usable_of(t, kind, key) else {
         return Ok(None);
     };
-    match adopt_known(t, values, load, node, kind, references, lists) {
-        Ok(handle) => Ok(Some(handle)),
+    match make(t, node, mode_of(kind), Owner::Load(load)) {
+        Ok(handle) => {
+            give_named(&mut t.holdings, values, load, references, lists);
+            Ok(Some(handle))
+        }
         Err(e) => Err(e),
     }
 }

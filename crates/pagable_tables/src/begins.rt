@@ -1,8 +1,8 @@
 //! Loads that begin.
 
-ghost use Rattle.std.specs.Prelude.{◌≡◌, ℕ, Bool, Option};
+ghost use Rattle.std.specs.Prelude.{ℕ, Bool, Option, ◌≡◌};
 ghost use Rattle.pagable_world.specs.{Plain.Blob, LoadCalls.BeginKeyCall, Pager.MayOwnLoad};
-ghost use Rattle.pagable_tables.specs.{Core.core_of, Core.plain_of, Core.IsWhole, Later.AreLater};
+ghost use Rattle.pagable_tables.specs.{Core.{core_of, plain_of, IsWhole}, Later.AreLater};
 
 use crate::loads;
 use crate::rows::{LoadRoot, LoadRow};

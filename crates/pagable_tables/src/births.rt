@@ -1,9 +1,8 @@
 //! Nodes that come.
 
 ghost use Rattle.std.specs.Prelude.{true, ◌≡◌, ℕ, ◌⊎◌, [], Bool, Option, None, false, IfErr, OnOk};
-ghost use Rattle.pagable_world.specs.{Plain.Blob, Plain.one, Kinds.is_pinning, Refusals.earlier, Refusals.references_fault, Refusals.Refused, Calls.AwayBirthCall, Calls.birth_fault};
-ghost use Rattle.pagable_tables.specs.{Falling.IsFalling, Falling.owns_nothing, Bearing.Bears, Bearing.BearsValue, Bearing.IsReady, Bearing.OnlyRoom, Core.core_of, Core.plain_of};
-ghost use Rattle.pagable_tables.specs.{Core.IsWhole, Core.MayHold, Later.AreLater};
+ghost use Rattle.pagable_world.specs.{Plain.{Blob, one}, Kinds.is_pinning, Refusals.{earlier, references_fault, Refused}, Calls.{AwayBirthCall, birth_fault}};
+ghost use Rattle.pagable_tables.specs.{Falling.{IsFalling, owns_nothing}, Bearing.{Bears, BearsValue, IsReady, OnlyRoom}, Core.{core_of, plain_of, IsWhole, MayHold}, Later.AreLater};
 
 use crate::holdings::pins;
 use crate::moving::hand_over_all;

@@ -1,17 +1,17 @@
 //! The close of the storage, as far as tables go: nothing is listed or known any more.
 
 ghost use Rattle.std.specs.Prelude.{◌≡◌, ℕ, ◌≤◌, ◌||◌, ◌==◌, [], length, Bool, true, false, None, Option, Ok, nat_eq};
-ghost use Rattle.pagable_world.specs.{Plain.Blob, World.Core, Cascade.FallsAnyhow, Cascade.nobody, Calls.CloseCall, Calls.is_listed, LoadCalls.is_owned_in};
+ghost use Rattle.pagable_world.specs.{Plain.Blob, World.Core, Cascade.{FallsAnyhow, nobody}, Calls.{CloseCall, is_listed}, LoadCalls.is_owned_in};
 ghost use Rattle.indexmap.specs.IndexMap.{get};
-ghost use Rattle.pagable_tables.specs.{Live.live, ByNumber.counts_at, Falling.IsFalling, Falling.owns_nothing, Falling.Sheds, Onward.with_tables, Onward.SoFar, Closing.entered};
-ghost use Rattle.pagable_tables.specs.{Closing.with_list, Closing.AreEntries, Core.core_of, Core.IsWhole, Later.AreLater};
+ghost use Rattle.pagable_tables.specs.{Live.live, ByNumber.counts_at, Falling.{IsFalling, owns_nothing, Sheds}, Onward.{with_tables, SoFar, entered, with_list, AreEntries}, Core.core_of};
+ghost use Rattle.pagable_tables.specs.{Core.IsWhole, Later.AreLater};
 ghost use Rattle.pagable_world.specs.declared.handles.Owner.TheVariants as owners;
 
-use crate::cascade::cascade;
+use crate::cascade::shed;
 use crate::holdings::Holdings;
 use crate::tables::Tables;
 use crate::turning::is_owner;
-use crate::{cache, handles, holdings};
+use crate::{cache, handles};
 use indexmap::IndexMap;
 use pagable_model::HandleNumber;
 use pagable_world::handles::Owner;
@@ -32,8 +32,7 @@ fn give_entry<N: Drop>(t: &mut Holdings, values: &mut IndexMap<u64, Arc<N>>, ent
     if !is_owner(Owner::List, at.row.owner) {
         return;
     }
-    holdings::give_up(t, at, false);
-    cascade(t, values, false);
+    shed(t, values, at, false);
 }
 
 /// The list gives up its entries, the last one first, with all that goes with them. No cell is listed by that.

@@ -1,18 +1,17 @@
 //! Loads that end: what they still own is given up.
 
-ghost use Rattle.std.specs.Prelude.{◌≡◌, ℕ, ◌<◌, ◌≤◌, ◌==◌, ◌&&◌, ◌||◌, [], length, Bool, true, None, Option, not, nat_eq};
-ghost use Rattle.pagable_world.specs.{Plain.Blob, World.Core, Cascade.Falls, Cascade.nobody, LoadCalls.is_owned_in, LoadCalls.hand_over_fault, LoadCalls.DropCall, LoadCalls.HandOverCall};
-ghost use Rattle.pagable_tables.specs.{Live.live, ByNumber.counts_at, Falling.IsFalling, Falling.owns_nothing, Falling.Sheds, Onward.with_tables, Onward.SoFar, Core.core_of, Core.IsWhole};
-ghost use Rattle.pagable_tables.specs.{Later.AreLater};
+ghost use Rattle.std.specs.Prelude.{◌≡◌, ℕ, ◌<◌, ◌≤◌, ◌==◌, ◌||◌, [], length, Bool, true, None, Option, not, nat_eq, ◌&&◌};
+ghost use Rattle.pagable_world.specs.{Plain.Blob, World.Core, Cascade.{Falls, nobody}, LoadCalls.{is_owned_in, hand_over_fault, DropCall, HandOverCall}};
+ghost use Rattle.pagable_tables.specs.{Live.live, ByNumber.counts_at, Falling.{IsFalling, owns_nothing, Sheds}, Onward.{with_tables, SoFar}, Core.{core_of, IsWhole}, Later.AreLater};
 ghost use Rattle.indexmap.specs.IndexMap.{get};
 ghost use Rattle.pagable_world.specs.declared.handles.Owner.TheVariants as owners;
 
 use crate::cascade::shed;
-use crate::causes::{cell_fault, earlier, load_fault};
 use crate::giving::{Giving, give_all};
-use crate::handing::{hand_each, named_fault};
 use crate::holdings::Holdings;
 use crate::loading::load_row;
+use crate::moving::{hand_each, named_fault};
+use crate::references::{cell_fault, earlier, load_fault};
 use crate::rows::LoadRow;
 use crate::tables::Tables;
 use crate::turning::is_owner;

@@ -2,9 +2,9 @@
 
 ghost use Rattle.std.specs.Prelude.{◌≡◌, ℕ, ◌<◌, ◌≤◌, [], length, get_or, slice_get, Some, None, IfSome, IfNone, true, false, nat_eq};
 ghost use Rattle.indexmap.specs.IndexMap.{get};
-ghost use Rattle.pagable_world.specs.{Kinds.find_row, World.Core, Cascade.Falls, Cascade.nobody, Workers.is_load_of};
-ghost use Rattle.pagable_tables.specs.{declared.rows.Place.Place, Live.live, Live.alive, Live.AreSound, ByNumber.counts_at, Falling.IsFalling, Falling.owns_nothing, Falling.Sheds};
-ghost use Rattle.pagable_tables.specs.{Onward.with_tables, Onward.SoFar, Giving.gives_row, Giving.passes_in, Giving.LoadsAre};
+ghost use Rattle.pagable_world.specs.{Kinds.find_row, World.Core, Cascade.{Falls, nobody}, Workers.is_load_of};
+ghost use Rattle.pagable_tables.specs.{declared.rows.Place.Place, Live.{live, alive, AreSound}, ByNumber.counts_at, Falling.{IsFalling, owns_nothing, Sheds}, Onward.{with_tables, SoFar}};
+ghost use Rattle.pagable_tables.specs.Giving.{gives_row, passes_in, LoadsAre};
 
 use crate::cascade::{fall, shed};
 use crate::handles::Handles;

@@ -1,8 +1,8 @@
 //! Live handles in the order of their numbers, found by halving. A dead row stays in its place until more than half are dead.
 
-ghost use Rattle.std.specs.Prelude.{vec_len, vec_capacity, ◌≡◌, ℕ, ◌+◌, ◌-◌, ◌*◌, ◌<◌, ◌≤◌, ◌++◌, ◌∷◌, [], length, sum_by, slice_get, Option, Some, None, IfNone, IfSome, OnOk, OnErr, IsOk, true, false};
-ghost use Rattle.std.specs.{List.AllPairs};
-ghost use Rattle.pagable_world.specs.{Plain.changed, Kinds.find_row, Kinds.is_handle, Cascade.left_rows, Cascade.only_handle, declared.handles.HandleRow.HandleRow};
+ghost use Rattle.std.specs.Prelude.{vec_len, vec_capacity, ◌≡◌, ℕ, ◌+◌, ◌-◌, ◌<◌, ◌≤◌, ◌++◌, ◌∷◌, [], length, sum_by, slice_get, Some, None, IfNone, IfSome, OnOk, OnErr, true, false, ◌*◌, Option};
+ghost use Rattle.std.specs.{Prelude.IsOk, List.AllPairs};
+ghost use Rattle.pagable_world.specs.{Plain.changed, Kinds.{find_row, is_handle}, Cascade.{left_rows, only_handle}, declared.handles.HandleRow.HandleRow};
 ghost use Rattle.pagable_tables.specs.Live.{IsBefore, AreSound, live, alive, room, IsNext};
 
 use crate::rows::{HandleAt, Place};

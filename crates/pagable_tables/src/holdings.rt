@@ -1,11 +1,12 @@
 //! Who holds what: handles, nodes with what their values refer to, and the list of cells that wait for page-out. Handles are given up here, with all
 //! that goes with them.
 
-ghost use Rattle.std.specs.Prelude.{◌≡◌, ◌≢◌, ◌&&◌, ℕ, ◌+◌, ◌-◌, ◌*◌, ◌<◌, ◌≤◌, ◌++◌, ◌∷◌, [], if◌then◌else◌, List, length, sum_by, slice_get, Some, None, IsSome, OnOk, OnErr, true, Bool, vec_len, vec_capacity};
+ghost use Rattle.std.specs.Prelude.{◌≡◌, ◌≢◌, ℕ, ◌+◌, ◌-◌, ◌<◌, ◌≤◌, [], if◌then◌else◌, List, slice_get, Some, None, OnOk, OnErr, true, vec_len, vec_capacity, ◌&&◌, ◌*◌, ◌++◌, ◌∷◌, length, sum_by};
+ghost use Rattle.std.specs.Prelude.{IsSome, Bool};
 ghost use Rattle.pagable_model.specs.declared.numbers.HandleNumber.{HandleNumber};
-ghost use Rattle.pagable_world.specs.{declared.handles.HandleRow.HandleRow, Plain.one, Kinds.is_pinning, Cascade.left_rows, Cascade.only_handle};
-ghost use Rattle.pagable_tables.specs.Falling.{Lists, MayList, Leaves, is_listing, after, is_new, IsFalling, GivesUp, Settles, Steps, owns, owns_nothing};
-ghost use Rattle.pagable_tables.specs.{Live.live, Live.alive, Live.AreSound, Live.IsNext, ByNumber.counts_at, ByNumber.refs_at, declared.rows.Counts.Counts};
+ghost use Rattle.pagable_world.specs.{declared.handles.HandleRow.HandleRow, Plain.one, Kinds.is_pinning, Cascade.{left_rows, only_handle}};
+ghost use Rattle.pagable_tables.specs.{Falling.{Lists, MayList, Leaves, is_listing, after, is_new, IsFalling, GivesUp, Settles, Steps, owns, owns_nothing}, Live.{alive, AreSound, IsNext, live}};
+ghost use Rattle.pagable_tables.specs.{ByNumber.{refs_at, counts_at}, declared.rows.Counts.Counts};
 
 use crate::handles::Handles;
 use crate::rows::{Counts, HandleAt, NodeRow};

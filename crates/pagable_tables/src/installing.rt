@@ -1,20 +1,17 @@
 //! Loads of cells that end with a value.
 
-ghost use Rattle.std.specs.Prelude.{◌≡◌, ◌≤◌, ◌<◌, ℕ, Bool, Option, None, IfOk, IfErr, [], not, true, false, nat_eq};
+ghost use Rattle.std.specs.Prelude.{◌≡◌, ◌≤◌, ◌<◌, ℕ, Bool, Option, None, IfOk, IfErr, not, true, false, nat_eq, []};
 ghost use Rattle.indexmap.specs.IndexMap.{get};
-ghost use Rattle.pagable_world.specs.{Plain.Blob, Plain.if_there, Kinds.is_loose, World.Core, World.Alike, World.OpenLoad, World.greatest, Calls.IsNext, Calls.with_handle};
-ghost use Rattle.pagable_world.specs.{Calls.with_mode, LoadCalls.root_fault, LoadCalls.end_fault, LoadCalls.is_owned_in, LoadCalls.Installs, Refusals.where_so, Refusals.spent};
-ghost use Rattle.pagable_world.specs.{Refusals.Owns};
-ghost use Rattle.pagable_tables.specs.{ByNumber.counts_at, ByNumber.load_at, Live.room, Core.core_of, Core.plain_of, Core.IsWhole, Core.MayHold, Later.AreLater, Ready.IsWider};
-ghost use Rattle.pagable_tables.specs.{Ready.IsReady, Ready.HasPlace, Ready.Unends, Ready.ShedsBeside};
+ghost use Rattle.pagable_world.specs.{Plain.{Blob, if_there}, Kinds.is_loose, World.{Alike, OpenLoad, greatest, Core}, Calls.{IsNext, with_handle, with_mode}, LoadCalls.{root_fault, end_fault}};
+ghost use Rattle.pagable_world.specs.{LoadCalls.{is_owned_in, Installs}, Refusals.{where_so, spent, Owns}};
+ghost use Rattle.pagable_tables.specs.{ByNumber.{counts_at, load_at}, Live.room, Core.{core_of, plain_of, IsWhole, MayHold}, Later.AreLater, Ready.{IsWider, IsReady, HasPlace, Unends, ShedsBeside}};
 ghost use Rattle.pagable_world.specs.declared.rows.Mode.TheVariants as modes;
 
-use crate::causes::{earlier, load_fault, refused_if};
 use crate::ending::give_up_load;
 use crate::lookups::is_here;
 use crate::moving::hand_over_all;
 use crate::pinning::pin_here;
-use crate::references::references_fault;
+use crate::references::{earlier, load_fault, references_fault, refused_if};
 use crate::rows::{LoadRoot, LoadRow};
 use crate::tables::Tables;
 use crate::turning::{is_owner, own};

@@ -1,9 +1,8 @@
 //! Cells that get keys.
 
 ghost use Rattle.std.specs.Prelude.{◌≡◌, ℕ, ◌<◌, ◌≤◌, Bool, not, [], List, length, Option, IsSome, nat_eq};
-ghost use Rattle.pagable_world.specs.{Plain.Blob, Calls.SetKeyCall, Calls.with_key, Cascade.Falls, Cascade.nobody};
-ghost use Rattle.pagable_tables.specs.{Core.core_of, Core.IsWhole, ByNumber.counts_at, Falling.IsFalling, Falling.owns_nothing, Falling.ValueStays, Falling.Sheds, Keyed.keyed};
-ghost use Rattle.pagable_tables.specs.{Keyed.GetsKey, Later.AreLater};
+ghost use Rattle.pagable_world.specs.{Plain.Blob, Calls.{SetKeyCall, with_key}, Cascade.{Falls, nobody}};
+ghost use Rattle.pagable_tables.specs.{Core.{core_of, IsWhole}, ByNumber.counts_at, Falling.{IsFalling, owns_nothing, ValueStays, Sheds}, Lowering.{keyed, GetsKey}, Later.AreLater};
 ghost use Rattle.indexmap.specs.IndexMap.{get};
 
 use crate::cascade::fall;
@@ -55,27 +54,6 @@ fn put_key(t: &mut Holdings, node: u64, key: u128)
     t.top = top_after(false, with_key.is_falling, node, t.top);
 }
 
-/// The cell of this number gets a key, and what goes with that goes. NumbersSpent or OutOfMemory where a cell that had to be listed isn't.
-fn set_key<N: Drop>(
-    t: &mut Tables,
-    values: &mut IndexMap<u64, Arc<N>>,
-    node: NodeNumber,
-    key: DataKey,
-    lists: bool,
-) -> Result<(), Error>
-    requires whole { IsWhole t.old }
-    requires live { IsSome (counts_at t.old.holdings.nodes node.0) }
-    ensures falls { (stored : ℕ → Option Blob) (closed : Bool) (failures : ℕ) → lists ≡ not closed
-        → Falls (core_of t.old stored closed failures) (with_key (core_of t.old stored closed failures) node key) nobody result (core_of t.new stored closed failures) }
-    ensures steady { IsFalling t.new.holdings [] owns_nothing }
-    ensures loads { t.new.loads ≡ t.old.loads }
-    ensures sheds { Sheds (counts_at t.old.holdings.nodes) (get nat_eq values.old) (counts_at t.new.holdings.nodes) (get nat_eq values.new) }
-{
-    t.holdings.unlisted = None;
-    put_key(&mut t.holdings, node.0, key.get());
-    fall(&mut t.holdings, values, lists)
-}
-
 /// The cell of an own loose handle gets a key, and its value goes if nothing pins it. Through a handle of another mode nothing happens. NumbersSpent or
 /// OutOfMemory where a cell that had to be listed isn't.
 pub fn set_data_key<N: Drop>(
@@ -100,5 +78,7 @@ pub fn set_data_key<N: Drop>(
     if !is_loose(at.row.mode) {
         return Ok(());
     }
-    set_key(t, values, at.row.node, key, lists)
+    t.holdings.unlisted = None;
+    put_key(&mut t.holdings, at.row.node.0, key.get());
+    fall(&mut t.holdings, values, lists)
 }

@@ -1,10 +1,9 @@
 //! What the cache gives and learns.
 
-ghost use Rattle.std.specs.{Prelude.◌≡◌, Prelude.ℕ, Prelude.[], Prelude.Bool, Prelude.Option, Prelude.Some, Prelude.IfSome, Prelude.IfNone, Prelude.IfOk, Prelude.IfErr, Prelude.false};
-ghost use Rattle.std.specs.{Option.option_map};
+ghost use Rattle.std.specs.{Prelude.{◌≡◌, ℕ, Bool, Option, Some, IfSome, IfNone, IfOk, IfErr, false, []}, Option.option_map};
 ghost use Rattle.pagable_model.specs.declared.numbers.NodeNumber.{NodeNumber};
-ghost use Rattle.pagable_world.specs.{Plain.Blob, Plain.type_of, Kinds.fits_mode, World.usable, World.type_at, Refusals.Owns, Calls.RecallCall, Calls.offer_fault};
-ghost use Rattle.pagable_tables.specs.{Offering.Offered, Core.core_of, Core.plain_of, Core.IsWhole, Core.MayHold, Later.AreLater};
+ghost use Rattle.pagable_world.specs.{Plain.{Blob, type_of}, Kinds.fits_mode, World.{usable, type_at}, Refusals.Owns, Calls.{RecallCall, offer_fault}};
+ghost use Rattle.pagable_tables.specs.{Offering.Offered, Core.{core_of, plain_of, IsWhole, MayHold}, Later.AreLater};
 
 use crate::kinds::{fits_mode, is_of, is_pinned_kind, mode_of};
 use crate::lookups::is_here;

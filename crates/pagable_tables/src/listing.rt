@@ -1,9 +1,9 @@
 //! The list of cells that wait for page-out: entries come and are taken.
 
-ghost use Rattle.std.specs.Prelude.{◌≡◌, ℕ, Bool, Option, length, nat_eq, not, false};
-ghost use Rattle.pagable_world.specs.{Plain.Blob, Calls.ScheduleCall, Calls.TakeCall, Kinds.is_owner};
+ghost use Rattle.std.specs.Prelude.{◌≡◌, ℕ, Bool, Option, nat_eq, not, false, length};
+ghost use Rattle.pagable_world.specs.{Plain.Blob, Calls.{ScheduleCall, TakeCall}, Kinds.is_owner};
 ghost use Rattle.indexmap.specs.IndexMap.{get};
-ghost use Rattle.pagable_tables.specs.{ByNumber.counts_at, Falling.Sheds, Later.AreLater, Core.core_of, Core.plain_of, Core.IsWhole, Core.MayHold};
+ghost use Rattle.pagable_tables.specs.{ByNumber.counts_at, Falling.Sheds, Later.AreLater, Core.{core_of, plain_of, IsWhole, MayHold}};
 ghost use Rattle.pagable_model.specs.declared.numbers.LoadNumber.{LoadNumber};
 ghost use Rattle.pagable_world.specs.declared.handles.Owner.TheVariants as owners;
 

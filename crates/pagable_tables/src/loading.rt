@@ -1,10 +1,9 @@
 //! Loads of cells that begin, and whose an open load is.
 
 ghost use Rattle.std.specs.Prelude.{◌≡◌, ◌<◌, ℕ, Bool, Option, Some, [], IfOk, IfErr, IfNone, IfSome, slice_get, true, false};
-ghost use Rattle.pagable_world.specs.{Plain.Blob, Kinds.is_loose, Kinds.is_in_memory, World.greatest, World.of_cell, World.Alike, Pager.MayOwnLoad, Refusals.load_fault, Refusals.OwnsLoad};
-ghost use Rattle.pagable_world.specs.{Calls.with_handle, LoadCalls.BeginCall, LoadCalls.IsNextLoad, LoadCalls.with_load};
-ghost use Rattle.pagable_tables.specs.{Live.alive, ByNumber.load_at, Falling.key_in, Falling.IsFalling, Falling.owns_nothing, Core.core_of, Core.plain_of, Core.IsWhole, Core.load_in};
-ghost use Rattle.pagable_tables.specs.{Asking.AsksKnown, Later.AreLater};
+ghost use Rattle.pagable_world.specs.{Plain.Blob, Kinds.{is_in_memory, is_loose}, World.{greatest, of_cell, Alike}, Pager.MayOwnLoad, Refusals.{load_fault, OwnsLoad}, Calls.with_handle};
+ghost use Rattle.pagable_world.specs.LoadCalls.{BeginCall, IsNextLoad, with_load};
+ghost use Rattle.pagable_tables.specs.{Live.alive, ByNumber.load_at, Falling.{key_in, IsFalling, owns_nothing}, Core.{core_of, plain_of, IsWhole, load_in}, Asking.AsksKnown, Later.AreLater};
 ghost use Rattle.pagable_model.specs.declared.data_key.OptionalDataKey.TheVariants as optional;
 ghost use Rattle.pagable_world.specs.declared.handles.Owner.TheVariants as owners;
 ghost use Rattle.pagable_world.specs.declared.rows.Mode.TheVariants as modes;

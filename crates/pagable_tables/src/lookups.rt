@@ -1,11 +1,10 @@
 //! What is asked of handles and nodes. Nothing changes by that.
 
-ghost use Rattle.std.specs.{Prelude.◌≡◌, Prelude.ℕ, Prelude.◌≤◌, Prelude.length, Prelude.Bool, Prelude.Option, Prelude.Some, Prelude.None, Prelude.IfNone, Prelude.IfSome};
-ghost use Rattle.std.specs.{Prelude.if◌then◌else◌, Option.option_map};
+ghost use Rattle.std.specs.{Prelude.{◌≡◌, ℕ, ◌≤◌, length, Bool, Option, Some, None, IfNone, IfSome, if◌then◌else◌}, Option.option_map};
 ghost use Rattle.pagable_model.specs.declared.data_key.OptionalDataKey.{OptionalDataKey};
-ghost use Rattle.pagable_world.specs.{Plain.Blob, Plain.if_there, Kinds.is_in_memory, Kinds.is_loose, Kinds.is_pinning, World.Cell, World.key_at, Events.IsEntry, Calls.Looks};
-ghost use Rattle.pagable_world.specs.{Calls.CountCall, Calls.KeyCall, Calls.AwayCall, Calls.NodeCall, Calls.TypeCall};
-ghost use Rattle.pagable_tables.specs.{ByNumber.counts_at, Falling.pins_in, Falling.cell_in, Falling.key_in, Core.core_of, Core.IsWhole};
+ghost use Rattle.pagable_world.specs.{Plain.{Blob, if_there}, Kinds.{is_in_memory, is_loose, is_pinning}, World.{Cell, key_at}, Events.IsEntry, Calls.{Looks, CountCall, KeyCall, AwayCall, NodeCall}};
+ghost use Rattle.pagable_world.specs.Calls.{TypeCall};
+ghost use Rattle.pagable_tables.specs.{Falling.{pins_in, cell_in, key_in}, Core.{core_of, IsWhole}, ByNumber.counts_at};
 ghost use Rattle.pagable_model.specs.declared.data_key.OptionalDataKey.TheVariants as optional;
 
 use crate::holdings::pins;

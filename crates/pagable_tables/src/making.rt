@@ -1,9 +1,9 @@
 //! Handles that come to live nodes.
 
 ghost use Rattle.std.specs.Prelude.{◌≡◌, ℕ, ◌<◌, ◌^◌, ◌+◌, [], Bool, Option, IsSome, true, false, length};
-ghost use Rattle.pagable_world.specs.{Plain.Blob, Plain.one, World.Core, Calls.CloneCall};
-ghost use Rattle.pagable_tables.specs.{ByNumber.counts_at, Falling.is_valued, Falling.has_value, Falling.IsFalling, Falling.ValueStays, Falling.owns_nothing, Onward.with_tables};
-ghost use Rattle.pagable_tables.specs.{Core.core_of, Core.plain_of, Core.IsWhole, Core.MayHold, Core.Suits, Core.Makes, Later.AreLater};
+ghost use Rattle.pagable_world.specs.{Plain.{Blob, one}, World.Core, Calls.CloneCall};
+ghost use Rattle.pagable_tables.specs.{ByNumber.counts_at, Falling.{is_valued, has_value, IsFalling, ValueStays, owns_nothing}, Onward.with_tables, Core.{core_of, plain_of, IsWhole, MayHold, Suits}};
+ghost use Rattle.pagable_tables.specs.{Core.Makes, Later.AreLater};
 
 use crate::holdings::{Holdings, pins};
 use crate::rows::{Counts, Place};

@@ -2,7 +2,7 @@
 
 ghost use Rattle.std.specs.Prelude.{◌≡◌, ℕ, Bool, Option};
 ghost use Rattle.pagable_world.specs.{Plain.Blob, Kinds.is_loose, Refusals.Owns, Calls.PinCall};
-ghost use Rattle.pagable_tables.specs.{Owning.PinsHere, Core.core_of, Core.plain_of, Core.IsWhole, Core.MayHold, Later.AreLater};
+ghost use Rattle.pagable_tables.specs.{Owning.PinsHere, Core.{core_of, plain_of, IsWhole, MayHold}, Later.AreLater};
 
 use crate::kinds::is_loose;
 use crate::lookups::{is_here, key_in};

@@ -1,8 +1,8 @@
 //! Room for handles and for entries of the list; and the cache forgets all.
 
 ghost use Rattle.std.specs.Prelude.{◌≡◌, ℕ, ◌≤◌, Bool, Option, vec_capacity};
-ghost use Rattle.pagable_world.specs.{Plain.Blob, World.Alike, Calls.ReserveCall, Calls.ClearCall, Calls.room_of};
-ghost use Rattle.pagable_tables.specs.{Core.core_of, Core.IsWhole, Later.AreLater};
+ghost use Rattle.pagable_world.specs.{Plain.Blob, World.Alike, Calls.{ReserveCall, ClearCall, room_of}};
+ghost use Rattle.pagable_tables.specs.{Core.{core_of, IsWhole}, Later.AreLater};
 
 use crate::tables::Tables;
 use crate::{cache, handles};

@@ -1,12 +1,13 @@
-//! Why the references of a value that is handed in are refused.
+//! Why calls are refused: the references of a value that is handed in, and which of several causes is told.
 
-ghost use Rattle.std.specs.Prelude.{◌≡◌, ◌||◌, not, ℕ, Bool, List, Option, Some, None, OnOk, IfErr, [], ◌<◌, false};
-ghost use Rattle.pagable_world.specs.{Plain.Blob, Plain.is_in, Kinds.is_owner, Refusals.refused_if, Refusals.row_fault, Refusals.reference_fault, Refusals.references_fault};
-ghost use Rattle.pagable_world.specs.{Workers.claim_fault, Calls.is_named_by};
-ghost use Rattle.pagable_tables.specs.Core.{core_of, IsWhole};
+ghost use Rattle.std.specs.{Prelude.{◌≡◌, ◌||◌, not, ℕ, Bool, List, Option, Some, None, OnOk, IfErr, [], ◌<◌, false}, Option.option_map};
+ghost use Rattle.pagable_world.specs.{Plain.{Blob, is_in, if_there}, Kinds.is_owner, Refusals.{refused_if, row_fault, reference_fault, references_fault, rank, earlier}, Workers.claim_fault};
+ghost use Rattle.pagable_world.specs.{Calls.is_named_by, World.OpenLoad, LoadCalls.cell_fault};
+ghost use Rattle.pagable_tables.specs.Core.{core_of, IsWhole, load_in};
 ghost use Rattle.pagable_model.specs.declared.error.Error.TheVariants as errors;
 
 use crate::kinds::{fits_mode, is_of};
+use crate::rows::{LoadRoot, LoadRow};
 use crate::tables::Tables;
 use crate::turning::is_owner;
 use crate::{handles, nodes};
@@ -112,4 +113,71 @@ pub fn references_fault(t: &Tables, me: Owner, references: &[ArcRef]) -> Option<
         Ok(()) => None,
         Err(e) => Some(e),
     }
+}
+
+/// The place of a refusal in the order: nothing has the number; it is another's; its mode doesn't fit; its type doesn't; no number is left; all others.
+fn rank(error: &Error) -> u32
+    ensures { result ≡ rank error.now }
+{
+    match error {
+        Error::NoSuchHandle => 0,
+        Error::NotYours => 1,
+        Error::WrongMode => 2,
+        Error::WrongKind => 3,
+        Error::NumbersSpent => 4,
+        _ => 5,
+    }
+}
+
+/// Of two causes that there may be the one that comes first in the order.
+pub fn earlier(a: Option<Error>, b: Option<Error>) -> Option<Error>
+    ensures { result ≡ earlier a b }
+{
+    match (a, b) {
+        (Some(e), Some(f)) => {
+            if rank(&f) < rank(&e) {
+                Some(f)
+            } else {
+                Some(e)
+            }
+        }
+        (Some(e), None) => Some(e),
+        (None, other) => other,
+    }
+}
+
+/// Why the load of this row can't be used by this owner, if it can't: there is none, or another began it.
+pub fn load_fault(row: Option<LoadRow>, me: Owner) -> Option<Error>
+    ensures { result ≡ if_there (λ (load : OpenLoad). refused_if (not (is_owner me load.owner)) errors.NotYours) (Some errors.NoSuchHandle) (option_map load_in row) }
+{
+    match row {
+        Some(row) => {
+            if is_owner(me, row.owner) {
+                None
+            } else {
+                Some(Error::NotYours)
+            }
+        }
+        None => Some(Error::NoSuchHandle),
+    }
+}
+
+/// Why the load of this row can't hand handles over, if it can't: it is of a cell.
+pub fn cell_fault(row: Option<LoadRow>) -> Option<Error>
+    ensures { result ≡ if_there (λ (load : OpenLoad). cell_fault load.root) None (option_map load_in row) }
+{
+    match row {
+        Some(row) => match row.root {
+            LoadRoot::Cell(_, _, _) => Some(Error::WrongMode),
+            LoadRoot::Key => None,
+        },
+        None => None,
+    }
+}
+
+/// This refusal, if it is so.
+pub fn refused_if(so: bool, error: Error) -> Option<Error>
+    ensures { result ≡ refused_if so error }
+{
+    if so { Some(error) } else { None }
 }

@@ -1,14 +1,13 @@
 //! Handles that are given up.
 
 ghost use Rattle.std.specs.Prelude.{◌≡◌, ℕ, ◌≤◌, [], length, Bool, Option, None, not, false, slice_get, Some, nat_eq};
-ghost use Rattle.pagable_world.specs.{Plain.Blob, Kinds.is_owner, World.Core, Calls.ReleaseCall, Cascade.Falls, Cascade.nobody, Cascade.only_handle};
-ghost use Rattle.pagable_tables.specs.{Live.live, Live.alive, ByNumber.counts_at, Falling.IsFalling, Falling.is_valued, Falling.owns_nothing, Falling.Sheds, Onward.with_tables};
-ghost use Rattle.pagable_tables.specs.{Onward.SoFar, Core.core_of, Core.IsWhole, Later.AreLater};
+ghost use Rattle.pagable_world.specs.{Plain.Blob, Kinds.is_owner, World.Core, Calls.ReleaseCall, Cascade.{Falls, nobody, only_handle}};
+ghost use Rattle.pagable_tables.specs.{Live.{live, alive}, ByNumber.counts_at, Falling.{IsFalling, is_valued, owns_nothing, Sheds}, Onward.{with_tables, SoFar}, Core.{core_of, IsWhole}};
+ghost use Rattle.pagable_tables.specs.Later.{AreLater};
 ghost use Rattle.indexmap.specs.IndexMap.{get};
 ghost use Rattle.pagable_world.specs.declared.handles.Owner.TheVariants as owners;
 
-use crate::cascade::fall;
-use crate::holdings;
+use crate::cascade::{fall, shed};
 use crate::holdings::Holdings;
 use crate::rows::HandleAt;
 use crate::tables::Tables;
@@ -35,7 +34,7 @@ pub fn give_back<N: Drop>(
     ensures sheds { Sheds (counts_at t.old.nodes) (get nat_eq values.old) (counts_at t.new.nodes) (get nat_eq values.new) }
 {
     t.unlisted = None;
-    holdings::give_up(t, at, lists);
+    shed(t, values, at, lists);
     fall(t, values, lists)
 }
 

@@ -1,7 +1,7 @@
 //! Tables of nothing.
 
 ghost use Rattle.std.specs.Prelude.{◌≡◌, ℕ, [], None};
-ghost use Rattle.pagable_tables.specs.{ByNumber.counts_at, ByNumber.load_at, ByNumber.known_at, Core.IsWhole};
+ghost use Rattle.pagable_tables.specs.{ByNumber.{counts_at, load_at, known_at}, Core.IsWhole};
 
 use crate::handles;
 use crate::holdings::Holdings;

@@ -1,10 +1,10 @@
 //! A handle that is offered to the cache, and is given up where the cache gives a node already.
 
 ghost use Rattle.std.specs.Prelude.{◌≡◌, ℕ, ◌≤◌, [], length, Bool, Option, None, Some, not, true, false, nat_eq};
-ghost use Rattle.pagable_world.specs.{declared.handles.HandleRow.HandleRow, Plain.Blob, Kinds.find_row, Kinds.is_owner, Kinds.is_pinning, Kinds.mode_of, World.Core, World.usable};
-ghost use Rattle.pagable_world.specs.{Calls.OfferCall, Cascade.FallsAnyhow, Cascade.nobody, Cascade.only_handle};
-ghost use Rattle.pagable_tables.specs.{Live.live, ByNumber.counts_at, Falling.IsFalling, Falling.has_value, Falling.is_valued, Falling.owns_nothing, Falling.Sheds, Onward.with_tables};
-ghost use Rattle.pagable_tables.specs.{Onward.SoFar, Later.AreLater, Core.core_of, Core.plain_of, Core.IsWhole, Core.MayHold};
+ghost use Rattle.pagable_world.specs.{declared.handles.HandleRow.HandleRow, Plain.Blob, Kinds.{find_row, is_owner, is_pinning, mode_of}, World.{Core, usable}, Calls.OfferCall, Cascade.FallsAnyhow};
+ghost use Rattle.pagable_world.specs.Cascade.{nobody, only_handle};
+ghost use Rattle.pagable_tables.specs.{Live.live, ByNumber.counts_at, Falling.{IsFalling, has_value, is_valued, owns_nothing, Sheds}, Onward.{with_tables, SoFar}, Later.AreLater, Core.core_of};
+ghost use Rattle.pagable_tables.specs.Core.{plain_of, IsWhole, MayHold};
 ghost use Rattle.indexmap.specs.IndexMap.{get};
 ghost use Rattle.pagable_world.specs.declared.handles.Owner.TheVariants as owners;
 

@@ -1,9 +1,8 @@
 //! Loose handles that let their pins go.
 
 ghost use Rattle.std.specs.Prelude.{◌≡◌, ℕ, [], Bool, false, not, Option, slice_get, Some, nat_eq};
-ghost use Rattle.pagable_world.specs.{Plain.Blob, Calls.UnpinCall, Calls.with_mode, Cascade.Falls, Cascade.nobody};
-ghost use Rattle.pagable_tables.specs.{Core.core_of, Core.IsWhole, Live.alive, ByNumber.counts_at, Falling.IsFalling, Falling.is_valued, Falling.owns_nothing, Falling.Sheds};
-ghost use Rattle.pagable_tables.specs.{Lowering.Lowers, Later.AreLater};
+ghost use Rattle.pagable_world.specs.{Plain.Blob, Calls.{UnpinCall, with_mode}, Cascade.{Falls, nobody}};
+ghost use Rattle.pagable_tables.specs.{Core.{core_of, IsWhole}, Live.alive, ByNumber.counts_at, Falling.{IsFalling, is_valued, owns_nothing, Sheds}, Lowering.Lowers, Later.AreLater};
 ghost use Rattle.indexmap.specs.IndexMap.{get};
 ghost use Rattle.pagable_world.specs.declared.rows.Mode.TheVariants as modes;
 
@@ -50,28 +49,6 @@ fn lower(t: &mut Holdings, at: HandleAt, lists: bool)
     t.top = top_after(counts.is_falling, left.is_falling, node, t.top);
 }
 
-/// The loose handle at this place lets its pin go, and what goes with that goes. NumbersSpent or OutOfMemory where a cell that had to be listed isn't.
-fn let_go<N: Drop>(
-    t: &mut Tables,
-    values: &mut IndexMap<u64, Arc<N>>,
-    at: HandleAt,
-    lists: bool,
-) -> Result<(), Error>
-    requires whole { IsWhole t.old }
-    requires place { slice_get t.old.holdings.handles.places.items at.place ≡ Some (alive at.row) }
-    requires pinned { at.row.mode ≡ modes.LoosePinned }
-    requires plain { is_valued at.row.owner ≡ false }
-    ensures falls { (stored : ℕ → Option Blob) (closed : Bool) (failures : ℕ) → lists ≡ not closed
-        → Falls (core_of t.old stored closed failures) (with_mode (core_of t.old stored closed failures) at.row.number modes.LooseUnpinned) nobody result (core_of t.new stored closed failures) }
-    ensures steady { IsFalling t.new.holdings [] owns_nothing }
-    ensures loads { t.new.loads ≡ t.old.loads }
-    ensures sheds { Sheds (counts_at t.old.holdings.nodes) (get nat_eq values.old) (counts_at t.new.holdings.nodes) (get nat_eq values.new) }
-{
-    t.holdings.unlisted = None;
-    lower(&mut t.holdings, at, lists);
-    fall(&mut t.holdings, values, lists)
-}
-
 /// An own loose handle lets its pin go, or has none. NumbersSpent or OutOfMemory where a cell that had to be listed isn't.
 pub fn unpin<N: Drop>(
     t: &mut Tables,
@@ -94,7 +71,11 @@ pub fn unpin<N: Drop>(
     };
     match at.row.mode {
         Mode::LooseUnpinned => Ok(()),
-        Mode::LoosePinned => let_go(t, values, at, lists),
+        Mode::LoosePinned => {
+            t.holdings.unlisted = None;
+            lower(&mut t.holdings, at, lists);
+            fall(&mut t.holdings, values, lists)
+        }
         Mode::Pinned | Mode::Shared => Err(Error::WrongMode),
     }
 }

@@ -1,10 +1,9 @@
 //! Page-out workers: they begin, give up what they have at a node, and end.
 
 ghost use Rattle.std.specs.Prelude.{◌≡◌, ◌==◌, ◌<◌, ◌+◌, ℕ, length, Bool, Option, IfOk, not, nat_eq, true, false};
-ghost use Rattle.pagable_world.specs.{Plain.Blob, Plain.is_in, Plain.updated, Kinds.is_owner, Kinds.owner_worker, Cascade.FallsAnyhow, Workers.WorkerEnds, Workers.is_workers_at};
+ghost use Rattle.pagable_world.specs.{Plain.{Blob, is_in, updated}, Kinds.{is_owner, owner_worker}, Cascade.FallsAnyhow, Workers.{WorkerEnds, is_workers_at}};
 ghost use Rattle.indexmap.specs.IndexMap.{get};
-ghost use Rattle.pagable_tables.specs.{ByNumber.counts_at, ByNumber.load_at, Falling.Sheds, Core.core_of, Core.IsWhole, Giving.BeginsWorker, Giving.TakesWorker, Giving.LeavesOthers};
-ghost use Rattle.pagable_tables.specs.{Later.AreLater};
+ghost use Rattle.pagable_tables.specs.{ByNumber.{counts_at, load_at}, Falling.Sheds, Core.{core_of, IsWhole}, Giving.{BeginsWorker, TakesWorker, LeavesOthers}, Later.AreLater};
 
 use crate::giving::{Giving, give_all};
 use crate::listing::take_pending;

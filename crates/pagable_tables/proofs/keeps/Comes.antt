@@ -1,9 +1,9 @@
 -- A handle comes, under the next number.
 use Rattle.pagable_tables.proofs.Words.{◌≡◌, ℕ, ◌≤◌, ◌<◌, ◌+◌, ◌==◌, ◌&&◌, Bool, true, false, [], ◌∷◌, ◌++◌, Option, Some, None, inl, inr, refl, ap, sym, subst, ◌∙◌, arith, ◌⊎◌, ◌≢◌, is_some, nat_lt}
-use Rattle.pagable_tables.proofs.Words.{cases_eq, nat_tests, sum_by_push, OptionalDataKey, HandleNumber, NodeNumber, HandleRow, Owner, Mode, one, Among, if_there, is_shared_kind, held, sharing}
-use Rattle.pagable_tables.proofs.Words.{is_at, is_share, is_shared, is_handle, is_owner, is_owned_by, has_key, Core, Cell, greatest, with_handle, row_of, OwnersAreThere, IsRootWhole, IsEntryWhole}
-use Rattle.pagable_tables.proofs.{Words.{IsWhole, is_valued, MayHold, Suits}, keeps.Rows.{among-both, among-one, at-most-sum, sum-less, found-among, found-push, ordered-push}, keeps.Told.roomy}
-use Rattle.pagable_tables.proofs.{keeps.Told.may-own, keeps.GoingOn.GoesOn}
+use Rattle.pagable_tables.proofs.Words.{cases_eq, nat_tests, sum_by_push, OptionalDataKey, HandleNumber, NodeNumber, HandleRow, Owner, Mode, one, Among, if_there, is_shared_kind, held, sharing, is_at}
+use Rattle.pagable_tables.proofs.Words.{is_share, is_shared, is_handle, is_owner, is_owned_by, has_key, Core, Cell, greatest, with_handle, row_of, OwnersAreThere, IsRootWhole, IsEntryWhole, IsWhole}
+use Rattle.pagable_tables.proofs.{Words.{is_valued, MayHold, Suits}, keeps.Rows.{among-both, among-one, at-most-sum, sum-less, found-among, found-push, ordered-push}, keeps.Told.{roomy, may-own}}
+use Rattle.pagable_tables.proofs.{keeps.Told.GoesOn, Bits.and-zero}
 
 -- who may hold is neither the list nor a value
 pub not-list : (w : Core) (o : Owner) → MayHold w o → is_owner Owner.List o ≡ false
@@ -61,7 +61,7 @@ module _ {w : Core} (whole : IsWhole w) (x : HandleRow) (cells : ℕ → Option 
       let o = whole.owners_there in
       record {
         listed = λ q. let a = sum_by_push (λ h. one (is_handle q h && is_owned_by Owner.List h)) w.rows x in let b = o.listed q in let c = not-list w x.owner holder in
-            let d : one (is_handle q x && is_owned_by Owner.List x) ≡ 0 = ap (λ b. one (is_handle q x && b)) c ∙ and-false (is_handle q x) in omega arith;
+            let d : one (is_handle q x && is_owned_by Owner.List x) ≡ 0 = ap (λ b. one (is_handle q x && b)) c ∙ and-zero (is_handle q x) in omega arith;
         waiting = λ h among is. elim (among-both w.rows (x ∷ []) h among) [
           | inl old ↦ o.waiting h old is
           | inr new ↦ absurd (not-the-list w x.owner holder (ap (λ (y : HandleRow). y.owner) (sym (among-one x h new)) ∙ is))
@@ -75,10 +75,6 @@ module _ {w : Core} (whole : IsWhole w) (x : HandleRow) (cells : ℕ → Option 
           | inr new ↦ subst (MayHold w) (ap (λ (y : HandleRow). y.owner) (sym (among-one x h new)) ∙ is) holder
         ];
       }
-    where
-      and-false : (b : Bool) → one (b && false) ≡ 0
-      and-false true = refl
-      and-false false = refl
 
   -- a node that was there before has its type still
   old-type : (n t : ℕ) → n ≤ w.last.node → type_in (cells n) ≡ Some t → type_in (w.cells n) ≡ Some t

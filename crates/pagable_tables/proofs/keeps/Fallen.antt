@@ -1,11 +1,11 @@
--- The world is whole once handles have fallen.
-use Rattle.pagable_tables.proofs.Words.{◌≡◌, ℕ, suc, zero, ◌+◌, ◌<◌, ◌≤◌, ◌==◌, ◌&&◌, Bool, true, false, not, List, [], ◌∷◌, length, filter, if◌then◌else◌, Option, Some, None, inl, inr, refl, ap}
-use Rattle.pagable_tables.proofs.Words.{sym, subst, ◌∙◌, arith, ◌⊎◌, map, is_some, nat_lt, Result, nat_tests, AllPairs-filter, sum_by-append, Error, HandleNumber, LoadNumber, NodeNumber, HandleRow}
-use Rattle.pagable_tables.proofs.Words.{Owner, Mode, one, Among, times, is_shared_kind, held, pins, sharing, is_at, is_share, is_shared, is_loose, is_handle, is_owned_by, Core, Cell, greatest, Falls}
-use Rattle.pagable_tables.proofs.Words.{fallen, left_rows, IsWithin, AreNewEntries, IsHandleBefore, HandlesAreWhole, OwnersAreThere, LoadsAreWhole, IsRootWhole, IsEntryWhole, IsWhole, ArePlaced}
-use Rattle.pagable_tables.proofs.{keeps.Rests.{found-so, same-left, one-left, within-goes, IsEntry, entry-is, entries-listed, ordered-entries}, Left.{left-le, entries-none}, keeps.Rows.among-both}
-use Rattle.pagable_tables.proofs.{keeps.Rows.{among-left, at-most-sum, counted, found-among}, keeps.Told.{roomy, roomy-loads, may-own, settles}, keeps.GoingOn.{GoesOn, on-listing}}
-use Rattle.pagable_tables.proofs.keeps.Comes.{keyed_in, type_in}
+-- The world is whole once handles have fallen, whether the storage was closed or not.
+use Rattle.pagable_tables.proofs.Words.{◌≡◌, ℕ, suc, zero, ◌+◌, ◌<◌, ◌≤◌, ◌==◌, ◌&&◌, Bool, true, false, not, List, [], ◌∷◌, length, filter, if◌then◌else◌, Option, Some, None, inl, inr, refl, ap, sym}
+use Rattle.pagable_tables.proofs.Words.{subst, ◌∙◌, arith, ◌⊎◌, map, is_some, nat_lt, Result, nat_tests, AllPairs-filter, sum_by-append, Error, HandleNumber, LoadNumber, NodeNumber, HandleRow, Owner}
+use Rattle.pagable_tables.proofs.Words.{Mode, one, Among, times, is_shared_kind, held, pins, sharing, is_at, is_share, is_shared, is_loose, is_handle, is_owned_by, Core, Cell, greatest, Falls, fallen}
+use Rattle.pagable_tables.proofs.Words.{left_rows, IsWithin, AreNewEntries, IsHandleBefore, HandlesAreWhole, OwnersAreThere, LoadsAreWhole, IsRootWhole, IsEntryWhole, IsWhole, ArePlaced, ArcRef}
+use Rattle.pagable_tables.proofs.{Words.{or_else, Alike, references_fault, reference_fault}, keeps.Rows.{found-so, same-left, one-left, within-goes, IsEntry, entry-is, entries-listed}}
+use Rattle.pagable_tables.proofs.{keeps.Rows.{ordered-entries, among-both, among-left, at-most-sum, counted, found-among}, Left.{left-le, entries-none}, keeps.Told.{roomy, roomy-loads, may-own}}
+use Rattle.pagable_tables.proofs.{keeps.Told.{settles, GoesOn, on-listing}, keeps.Comes.{keyed_in, type_in}, Bits.{not-so, and-false, one-true}}
 
 -- What is whole of a world before handles fall: all, but that owners of the given handles may have gone. And a cell that must be listed is there still, and unshared.
 pub record MayFall (before u : Core) (given : ℕ → Bool) : Type 0 where
@@ -31,11 +31,7 @@ module _ {before u : Core} {given : ℕ → Bool} (may : MayFall before u given)
   left = left_rows gone u.rows
 
   was : (h : HandleRow) → Among left h → Among u.rows h × (gone h.number.0 ≡ false)
-  was h among = let a = among-left (λ (x : HandleRow). not (gone x.number.0)) u.rows h among in (a.0, not-true (gone h.number.0) a.1)
-    where
-      not-true : (b : Bool) → not b ≡ true → b ≡ false
-      not-true true e = sym e
-      not-true false e = refl
+  was h among = let a = among-left (λ (x : HandleRow). not (gone x.number.0)) u.rows h among in (a.0, not-so (gone h.number.0) a.1)
 
   is-entry : (h : HandleRow) → Among entries h → IsEntry u.last.handle (length entries) h
   is-entry h among = entry-is u.last.handle entries h new among
@@ -53,10 +49,6 @@ module _ {before u : Core} {given : ℕ → Bool} (may : MayFall before u given)
       let a = sum_by-append (λ h. one (is_share n h)) left entries in
       let b = entries-none (is_share n) (λ h mode owner. ap (λ (m : Mode). h.node.0 == n && is_shared m) mode ∙ and-false (h.node.0 == n)) u.last.handle entries new in
       omega arith
-    where
-      and-false : (b : Bool) → (b && false) ≡ false
-      and-false true = refl
-      and-false false = refl
 
   -- a node with an entry is there, and unshared
   entered : (n : ℕ) → 0 < held n entries → (is_some (u.cells n) ≡ true) × (sharing n u.rows ≡ 0)
@@ -144,10 +136,6 @@ module _ {before u : Core} {given : ℕ → Bool} (may : MayFall before u given)
               let number = lists-only q found.0 (one-true (lists q found.0) found.2) in
               let f = within-goes u.rows given gone found.0 within found.1 (ap given number ∙ is) in
               absurd (cc)
-            where
-              one-true : (b : Bool) → 0 < one b → b ≡ true
-              one-true true p = refl
-              one-true false p = absurd (omega arith)
 
   after-owners : OwnersAreThere after
   after-owners =
@@ -205,14 +193,8 @@ module _ {before u : Core} {given : ℕ → Bool} (may : MayFall before u given)
           let l = at-most-sum (λ x. one (is_share n x)) u.rows y g.1 in
           sym (e.shares y g.1 (grind (arith, nat_tests))) ∙ none-of (y.node.0 == n) (is_shared y.mode) k (omega arith)
         where
-          one-true : (b : Bool) → 0 < one b → b ≡ true
-          one-true true p = refl
-          one-true false p = absurd (omega arith)
-
           none-of : (a b : Bool) → a ≡ true → one (a && b) ≡ 0 → b ≡ false
-          none-of true true e z = absurd (omega arith)
-          none-of true false e z = refl
-          none-of false b e z = absurd (cc)
+          none-of a b e z = grind (arith, nat_tests)
 
   no-entry : u.closed ≡ true → entries ≡ []
   no-entry closed = at entries refl
@@ -260,3 +242,20 @@ may-fall {before} {u} given was whole on =
       shut = whole.shut;
       listing = on-listing was whole.handles on;
     }
+
+abbrev pub opened : Core → Core
+opened w = record w { closed = false }
+
+pub alike-opened : {w w' : Core} → Alike w w' → Alike (opened w) (opened w')
+alike-opened a = grind (arith, nat_tests)
+
+-- what has fallen leaves it whole
+pub falls-opened : {before u w' : Core} {given : ℕ → Bool} {r : Result (Unit {0}) Error} → MayFall (opened before) (opened u) given → Falls before u given r w' → ArePlaced (opened w')
+    → IsWhole (opened w')
+falls-opened may f placed = settles (fallen-whole may f.gone f.entries f.set.holds f.new (λ n some. let m = (f.only n some).0 in (m.pinned, m.unshared, refl)) f.within) (alike-opened f.leaves) placed
+
+-- references are as good as they are
+pub references-opened : (w : Core) (owner : Owner) (seen : List ℕ) (refs : List ArcRef) → references_fault (opened w) owner seen refs ≡ references_fault w owner seen refs
+unfolding references_fault
+references-opened w owner seen [] = refl
+references-opened w owner seen (r ∷ rs) = ap (or_else (reference_fault w owner seen r)) (references-opened w owner (r.handle.0 ∷ seen) rs)

@@ -1,9 +1,11 @@
--- Calls by which handles go to the list and come from it keep the world whole.
+-- Calls by which handles go to the list, come from it or fall keep the world whole.
 use Rattle.pagable_tables.proofs.Words.{◌≡◌, ℕ, ◌+◌, ◌<◌, ◌==◌, ◌&&◌, Bool, true, false, Ok, Err, if◌then◌else◌, [], ◌∷◌, ◌++◌, Option, Some, None, inl, inr, refl, ap, sym, subst, ◌∙◌, arith}
 use Rattle.pagable_tables.proofs.Words.{slice_get, get_or, Result, nat_tests, sum_by_push, sum_by-remove, get_or_from_slice_get, slice_get_within, Error, HandleNumber, HandleRow, Owner, Mode, one}
-use Rattle.pagable_tables.proofs.{Words.{Among, times, is_owner, is_owned_by, is_unpinned, Core, only_handle, moved, ScheduleCall, TakeCall, IsWhole, ArePlaced, MayHold}, keeps.Rows.among-to}
-use Rattle.pagable_tables.proofs.{keeps.Rows.{counted, found-among, once, only-row, ordered-map, sum-map}, keeps.Told.{roomy, roomy-whole, settles, alike-whole}, keeps.GoingOn.stays-on}
-use Rattle.pagable_tables.proofs.{keeps.Comes.not-list, keeps.Moved.{lists, each-moved, moved-number, moved-so}, keeps.Fallen.{may-fall, falls-whole}}
+use Rattle.pagable_tables.proofs.Words.{Among, times, is_owner, is_owned_by, is_unpinned, Core, only_handle, moved, ScheduleCall, TakeCall, IsWhole, ArePlaced, MayHold, is_some, OptionalDataKey}
+use Rattle.pagable_tables.proofs.{Words.{NodeNumber, if_there, is_shared, sharing, Cell, nobody, with_key, ReleaseCall, UnpinCall, SetKeyCall}, keeps.Rows.{among-to, counted, found-among, once}}
+use Rattle.pagable_tables.proofs.{keeps.Rows.{only-row, ordered-map, sum-map}, keeps.Told.{roomy, roomy-whole, settles, alike-whole, may-own, stays-on, GoesOn, moded-whole, moded-on}}
+use Rattle.pagable_tables.proofs.{keeps.Comes.{not-list, keyed_in, type_in, unshared-node}, keeps.HandleCalls.{lists, each-moved, moved-number, moved-so, loose-unshared}, keeps.Fallen.may-fall}
+use Rattle.pagable_tables.proofs.keeps.Fallen.{falls-whole, opened, alike-opened, falls-opened}
 use Rattle.std.specs.List.{remove}
 
 -- The handle h of this row alone moves.
@@ -126,3 +128,80 @@ take-whole {w} {w'} me i (Some h) whole holder call placed = settles taken call.
         (λ v own. subst (MayHold w) own holder)
         (λ closed. let f : None ≡ Some h = ap (λ l. slice_get l i) (sym (whole.shut closed).0) ∙ call.0 in absurd (cc))
 take-whole me i None whole holder call placed = alike-whole whole call.1 placed
+
+pub release-whole : {w w' : Core} (me : Owner) (h : HandleNumber) (r : Result (Unit {0}) Error) → IsWhole (opened w) → ReleaseCall w me h r w' → ArePlaced (opened w') → IsWhole (opened w')
+release-whole {w} me h r whole call placed = elim call.does [
+  | inl refused ↦ alike-whole whole (alike-opened refused.stays) placed
+  | inr (row, owns, falls) ↦ falls-opened (may-fall (only_handle h) whole (roomy-whole whole) (stays-on (opened w))) falls placed
+]
+
+pub unpin-whole : {w w' : Core} (me : Owner) (h : HandleNumber) (r : Result (Unit {0}) Error) → IsWhole (opened w) → UnpinCall w me h r w' → ArePlaced (opened w') → IsWhole (opened w')
+unpin-whole me h r whole call placed = elim call.does [
+  | inl refused ↦ alike-whole whole (alike-opened refused.stays) placed
+  | inr (row, owns, inl stays) ↦ alike-whole whole (alike-opened stays.2) placed
+  | inr (row, owns, inr (pinned, falls)) ↦
+      let unshared : is_shared Mode.LooseUnpinned ≡ is_shared row.mode = ap is_shared (sym pinned) in
+      falls-opened (may-fall nobody whole (moded-whole whole h row Mode.LooseUnpinned owns.live unshared (λ loose. refl) (λ is. refl))
+      (moded-on whole h row Mode.LooseUnpinned owns.live unshared (λ loose. refl) (λ is. refl))) falls placed
+]
+
+-- ---- a key
+
+-- a cell that isn't shared gets a key
+module _ {w : Core} (whole : IsWhole w) (node : NodeNumber) (key : ℕ) (unshared : sharing node.0 w.rows ≡ 0) where
+  abbrev rekey : Option Cell → Option Cell
+  rekey cell = if_there (λ (cell : Cell). Some (record cell { key = OptionalDataKey.Some key })) None cell
+
+  kept : {X : Type 0} (f : Option Cell → X) → ((cell : Option Cell) → f (rekey cell) ≡ f cell) → (n : ℕ) → f ((with_key w node key).cells n) ≡ f (w.cells n)
+  kept {X} f same n = grind (arith, nat_tests)
+
+  same-there : (cell : Option Cell) → is_some (rekey cell) ≡ is_some cell
+  same-there None = refl
+  same-there (Some cell) = refl
+
+  same-type : (cell : Option Cell) → type_in (rekey cell) ≡ type_in cell
+  same-type None = refl
+  same-type (Some cell) = refl
+
+  keyless : (n : ℕ) → 0 < sharing n w.rows → keyed_in ((with_key w node key).cells n) ≡ false
+  keyless n some = grind (arith, nat_tests)
+
+  pub keyed-whole : IsWhole (with_key w node key)
+  keyed-whole =
+      let h = whole.handles in
+      let o = whole.owners_there in
+      record {
+        handles = record {
+          ordered = h.ordered;
+          numbered = h.numbered;
+          nodes_numbered = λ n some. h.nodes_numbered n (sym (kept is_some same-there n) ∙ some);
+          within = h.within;
+          live = λ n. kept is_some same-there n ∙ h.live n;
+          uniform = h.uniform;
+          unkeyed = keyless;
+          places = h.places;
+        };
+        owners_there = record { listed = o.listed; waiting = o.waiting; loads = o.loads; workers = o.workers };
+        loads = record {
+          numbered = whole.loads.numbered;
+          owned = λ l load is. may-own w (with_key w node key) (λ v at. at) load.owner (whole.loads.owned l load is);
+          roots = λ l load n t k is root. let r = whole.loads.roots l load n t k is root in
+              record { typed = λ type named. r.typed type (sym (kept type_in same-type n.0) ∙ named); begun = r.begun; given = r.given };
+        };
+        cache = λ kind q n is. let e = whole.cache kind q n is in record { given = e.given; typed = λ t named. e.typed t (sym (kept type_in same-type n) ∙ named); shares = e.shares };
+        workers_numbered = whole.workers_numbered;
+        shut = whole.shut;
+      }
+
+  pub keyed-on : GoesOn w (with_key w node key)
+  keyed-on = record { cells = λ n is. kept is_some same-there n ∙ is; rows = λ n. omega arith }
+
+pub set-key-whole : {w w' : Core} (me : Owner) (h : HandleNumber) (key : ℕ) (r : Result (Unit {0}) Error) → IsWhole (opened w) → SetKeyCall w me h key r w' → ArePlaced (opened w')
+    → IsWhole (opened w')
+set-key-whole {w} me h key r whole call placed = elim call.does [
+  | inl refused ↦ alike-whole whole (alike-opened refused.stays) placed
+  | inr (row, owns, inl stays) ↦ alike-whole whole (alike-opened stays.2) placed
+  | inr (row, owns, inr (loose, falls)) ↦
+      let unshared = unshared-node whole row (found-among h.0 w.rows row owns.live).0 (loose-unshared row.mode loose) in
+      falls-opened (may-fall nobody whole (roomy-whole (keyed-whole whole row.node key unshared)) (keyed-on whole row.node key unshared)) falls placed
+]

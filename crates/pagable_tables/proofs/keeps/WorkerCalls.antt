@@ -1,8 +1,7 @@
 -- A worker that begins or ends keeps the world whole.
 use Rattle.pagable_tables.proofs.Words.{◌≡◌, ℕ, ◌+◌, ◌≤◌, ◌==◌, ◌||◌, Bool, true, false, if◌then◌else◌, Option, Some, None, inl, inr, refl, ap, ◌∙◌, arith, ◌⊎◌, is_some, nat_tests, LoadNumber}
 use Rattle.pagable_tables.proofs.Words.{HandleRow, Owner, Among, if_there, is_owner, owner_worker, Core, OpenLoad, is_workers, is_workers_load, without_worker, with_worker, IsWhole, MayOwnLoad}
-use Rattle.pagable_tables.proofs.{Words.ArePlaced, keeps.Rests.found-so, keeps.Told.{roomy-whole, may-own}, keeps.GoingOn.{stays-on, on-listing}, keeps.Fallen.MayFall, keeps.Opened.opened}
-use Rattle.pagable_tables.proofs.keeps.Opened.{falls-opened}
+use Rattle.pagable_tables.proofs.{Words.ArePlaced, keeps.Rows.found-so, keeps.Told.{roomy-whole, may-own, stays-on, on-listing}, keeps.Fallen.{MayFall, opened, falls-opened}}
 use Rattle.pagable_world.specs.Workers.{is_load_of, WorkerEnds}
 
 -- ---- one worker more

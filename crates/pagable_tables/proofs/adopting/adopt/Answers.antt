@@ -1,9 +1,6 @@
-use Rattle.pagable_tables.proofs.{Words.{ℕ, ap, sym, ◌∙◌, not, None, is_some, IndexMap, Adopts, load_at, LoadRow, core_of, plain_of, arith, nat_tests}, Adoptions.{adopts-new, adopts-whole, fitting}}
-use Rattle.pagable_tables.proofs.{Adoptions.{owner-of, early-stored}, Begun.not-closed, Newer.{adopt-newer, later-so}, keeps.Placed.whole-so}
+use Rattle.pagable_tables.proofs.{Words.{ℕ, ap, sym, ◌∙◌, not, None, IndexMap, Adopts, load_at, LoadRow, core_of, plain_of, arith, nat_tests}, Adoptions.{adopts-new, adopts-whole, fitting}}
+use Rattle.pagable_tables.proofs.{Adoptions.early-stored, Begun.not-closed, Newer.{adopt-newer, later-so}, keeps.Placed.whole-so}
 use Rattle.pagable_tables.proofs.adopting.adopt.Goals as goal
-
-pub learn_new-requires-clause-holder : goal.learn_new-requires-clause-holder
-learn_new-requires-clause-holder c = ap is_some (owner-of (plain_of c.args.t.now) c.requires.asked.0 c.args.load c.args.kind c.args.key c.requires.asked.1 c.args.references.items c.requires.asked.2).1.stands_open
 
 pub learn_new-requires-clause-fit : goal.learn_new-requires-clause-fit
 learn_new-requires-clause-fit c = fitting (plain_of c.args.t.now) c.requires.asked.0 c.args.load c.args.kind c.args.key c.requires.asked.1 c.args.references.items c.requires.asked.2
@@ -31,5 +28,5 @@ returns-clause-later c =
     let made : Adopts w a.0 c.args.load c.args.kind c.args.key a.1 rs c.learn_new.result w' =
     adopts-new w a.0 c.args.load c.args.kind c.args.key a.1 rs (early-stored c.args.t.now (λ key. None) (not c.args.lists) 0 a.0 c.args.load c.args.kind a.1 rs ∙ a.2) c.requires.unknown c.learn_new.result c.requires.ready.node_left
     (c.learn_new.ensures.next (λ key. None) (not c.args.lists) 0) (returns-clause-adopted c (λ key. None) (not c.args.lists) 0 (not-closed c.args.lists)) in
-    let n = adopt-newer a.0 c.args.load c.args.kind c.args.key a.1 rs c.learn_new.result made in
-    later-so c.requires.later (record { last = n.last; owned = n.owned }) (λ l load is. sym (ap (λ (m : IndexMap ℕ LoadRow _). load_at m l) c.learn_new.ensures.loads) ∙ is)
+    later-so c.requires.later (adopt-newer a.0 c.args.load c.args.kind c.args.key a.1 rs c.learn_new.result made)
+    (λ l load is. sym (ap (λ (m : IndexMap ℕ LoadRow _). load_at m l) c.learn_new.ensures.loads) ∙ is)

@@ -1,62 +1,70 @@
-use Rattle.pagable_tables.proofs.{Words.{ℕ, ap, sym, ◌∙◌, false, not, None, is_some, IndexMap, load_at, LoadRow, core_of, plain_of}, Adoptions.{not-adopted, adopts-known, adopts-whole}}
-use Rattle.pagable_tables.proofs.{Adoptions.{refused-known, fitting, eager, owner-of}, Begun.not-closed, Newer.{adopt-newer, newer-alike, later-so}, keeps.CacheCalls.known-suits}
-use Rattle.pagable_tables.proofs.{keeps.Placed.whole-so, keeps.Told.alike-whole, Shedding.sheds-still}
+use Rattle.pagable_tables.proofs.Words.{ap, sym, ◌∙◌, false, not, None, is_some, load_at, core_of, plain_of, subst, Suits, Owner, mode_of, with_handle, Alike, Mode, length, arith, ◌+◌, AllPairs}
+use Rattle.pagable_tables.proofs.{Words.{IsHandleBefore, refl, Falls, is_named_by, Tables, has_value, counts_at}, Adoptions.{not-adopted, adopts-known, adopts-whole, refused-known, fitting, eager}}
+use Rattle.pagable_tables.proofs.{Adoptions.owner-of, Begun.not-closed, Newer.{adopt-newer, later-so}, keeps.CacheCalls.known-suits, keeps.Placed.whole-so, Stays.{begun-made, swapped, loaded-append}}
+use Rattle.pagable_tables.proofs.{Stays.{named-loaded, not-named}, Ended.{stays-first, sheds-still}}
 use Rattle.pagable_tables.proofs.adopting.adopt_if_known.Goals as goal
 
 pub returns-in-Some-clause-refused : goal.returns-in-Some-clause-refused
 returns-in-Some-clause-refused g c stored closed failures =
     not-adopted (core_of c.args.t.now stored closed failures) c.args.me c.args.load c.args.kind c.args.key c.args.node_type c.args.references.now c.in-Some.e (sym (c.adopt_fault.ensures stored closed failures) ∙ c.in-Some.is)
 
-pub adopt_known-requires-clause-suits : goal.adopt_known-requires-clause-suits
-adopt_known-requires-clause-suits g c = known-suits c.requires.whole.core c.args.kind.0 c.args.key c.in-Some-usable_of.node.0 (sym (c.in-Some-usable_of.ensures (λ key. None) false 0))
+pub make-requires-clause-suits : goal.make-requires-clause-suits
+make-requires-clause-suits g c =
+    subst (Suits (plain_of c.args.t.now) c.in-Some-usable_of.node) (sym c.mode_of.ensures)
+    (known-suits c.requires.whole.core c.args.kind.0 c.args.key c.in-Some-usable_of.node.0 (sym (c.in-Some-usable_of.ensures (λ key. None) false 0)))
 
-pub adopt_known-requires-clause-holder : goal.adopt_known-requires-clause-holder
-adopt_known-requires-clause-holder g c = ap is_some (owner-of (plain_of c.args.t.now) c.args.me c.args.load c.args.kind c.args.key c.args.node_type c.args.references.now (sym (c.adopt_fault.ensures (λ key. None) false 0) ∙ c.in_default.is)).1.stands_open
-
-pub adopt_known-requires-clause-eager : goal.adopt_known-requires-clause-eager
-adopt_known-requires-clause-eager g c = eager (plain_of c.args.t.now) c.args.me c.args.load c.args.kind c.args.key c.args.node_type c.args.references.now (sym (c.adopt_fault.ensures (λ key. None) false 0) ∙ c.in_default.is)
-
-pub adopt_known-requires-clause-valued : goal.adopt_known-requires-clause-valued
-adopt_known-requires-clause-valued g c =
-    c.requires.valued c.in-Some-usable_of.node.0 (sym (c.in-Some-usable_of.ensures (λ key. None) false 0)) (eager (plain_of c.args.t.now) c.args.me c.args.load c.args.kind c.args.key c.args.node_type c.args.references.now (sym (c.adopt_fault.ensures (λ key. None) false 0) ∙ c.in_default.is))
-
-pub adopt_known-requires-clause-fit : goal.adopt_known-requires-clause-fit
-adopt_known-requires-clause-fit g c = fitting (plain_of c.args.t.now) c.args.me c.args.load c.args.kind c.args.key c.args.node_type c.args.references.now (sym (c.adopt_fault.ensures (λ key. None) false 0) ∙ c.in_default.is)
+pub make-requires-clause-holder : goal.make-requires-clause-holder
+make-requires-clause-holder g c =
+    ap is_some (owner-of (plain_of c.args.t.now) c.args.me c.args.load c.args.kind c.args.key c.args.node_type c.args.references.now (sym (c.adopt_fault.ensures (λ key. None) false 0) ∙ c.in_default.is)).1.stands_open
 
 pub returns-in-Ok-clause-known : goal.returns-in-Ok-clause-known
 returns-in-Ok-clause-known g c stored closed failures e =
-    let w = core_of c.args.t.now stored closed failures in
-    let made = c.in-Ok.ensures.known stored closed failures e in
-    adopts-known w c.args.me c.args.load c.args.kind c.args.key c.args.node_type c.args.references.now (sym (c.adopt_fault.ensures stored closed failures) ∙ c.in_default.is)
-    c.in-Some-usable_of.node c.in-Ok.handle (sym (c.in-Some-usable_of.ensures stored closed failures)) made.0 made.1
+    let t = c.args.t.now in
+    let l = c.args.load in
+    let kind = c.args.kind in
+    let rs = c.args.references.now in
+    let node = c.in-Some-usable_of.node in
+    let w = core_of t stored closed failures in
+    let owner = Owner.Load l in
+    let mode = mode_of kind.0 in
+    let t1 = c.make.new.t in
+    let u = with_handle w node mode owner in
+    let good = sym (c.adopt_fault.ensures stored closed failures) ∙ c.in_default.is in
+    let fit = fitting w c.args.me l kind c.args.key c.args.node_type rs good in
+    let m = (c.in-Ok.ensures.made stored closed failures).made in
+    let a : Alike u (core_of t1 stored closed failures) = subst (λ (mode : Mode). Alike (with_handle w node mode owner) (core_of t1 stored closed failures)) c.mode_of.ensures m.1 in
+    let some = c.give_named.ensures.falls u u (begun-made t t1 stored closed failures node mode owner c.in-Ok.ensures.whole a c.args.lists e) (let b = ap length a.rows in omega arith)
+    (λ q named. loaded-append l q w.rows _ (named-loaded w l rs fit q named)) in
+    let kept = not-named (plain_of t) l rs c.requires.whole.core.handles
+    (fitting (plain_of t) c.args.me l kind c.args.key c.args.node_type rs (sym (c.adopt_fault.ensures (λ key. None) false 0) ∙ c.in_default.is)) (t.holdings.last_handle + 1) (omega arith) in
+    let falls = swapped w node mode owner (subst (AllPairs IsHandleBefore) a.rows c.in-Ok.ensures.whole.core.handles.ordered) refl some.falls kept in
+    let anew : Falls w u (is_named_by rs) some.told (core_of (record t1 { holdings = c.give_named.new.t }) stored closed failures) =
+    subst (λ (z : Tables). Falls w u (is_named_by rs) some.told (core_of (record z { holdings = c.give_named.new.t }) stored closed failures)) (sym c.in-Ok.ensures.same) falls in
+    adopts-known w c.args.me l kind c.args.key c.args.node_type rs good node c.in-Ok.handle (sym (c.in-Some-usable_of.ensures stored closed failures)) m.0 (record { told = some.told; falls = anew })
 
 pub returns-in-Ok-clause-whole : goal.returns-in-Ok-clause-whole
 returns-in-Ok-clause-whole g c =
-    whole-so c.in-Ok.ensures.steady
+    whole-so c.give_named.ensures.steady
     (adopts-whole c.args.me c.args.load c.args.kind c.args.key c.args.node_type c.args.references.now c.in-Ok.handle c.requires.whole.core (returns-in-Ok-clause-known g c (λ key. None) (not c.args.lists) 0 (not-closed c.args.lists)))
 
 pub returns-in-Ok-clause-later : goal.returns-in-Ok-clause-later
 returns-in-Ok-clause-later g c =
     let n = adopt-newer c.args.me c.args.load c.args.kind c.args.key c.args.node_type c.args.references.now c.in-Ok.handle (returns-in-Ok-clause-known g c (λ key. None) (not c.args.lists) 0 (not-closed c.args.lists)) in
-    later-so c.requires.later (record { last = n.last; owned = n.owned }) (λ l load is. sym (ap (λ (m : IndexMap ℕ LoadRow _). load_at m l) c.in-Ok.ensures.loads) ∙ is)
+    later-so c.requires.later n (λ l load is. sym (ap (λ (u : Tables). load_at u.loads l) c.in-Ok.ensures.same) ∙ is)
 
 pub returns-in-Err-clause-refused : goal.returns-in-Err-clause-refused
 returns-in-Err-clause-refused g c stored closed failures =
     refused-known (core_of c.args.t.now stored closed failures) c.args.me c.args.load c.args.kind c.args.key c.args.node_type c.args.references.now (sym (c.adopt_fault.ensures stored closed failures) ∙ c.in_default.is)
-    c.in-Some-usable_of.node.0 (sym (c.in-Some-usable_of.ensures stored closed failures)) (c.in-Err.ensures.refused stored closed failures)
+    c.in-Some-usable_of.node.0 (sym (c.in-Some-usable_of.ensures stored closed failures)) (c.in-Err.ensures.made stored closed failures).refused
 
-pub returns-in-Err-clause-whole : goal.returns-in-Err-clause-whole
-returns-in-Err-clause-whole g c = whole-so c.in-Err.ensures.steady (alike-whole c.requires.whole.core (c.in-Err.ensures.refused (λ key. None) false 0).stays)
+pub returns-in-Ok-clause-sheds : goal.returns-in-Ok-clause-sheds
+returns-in-Ok-clause-sheds g c =
+    let valued = c.requires.valued c.in-Some-usable_of.node.0 (sym (c.in-Some-usable_of.ensures (λ key. None) false 0))
+    (eager (plain_of c.args.t.now) c.args.me c.args.load c.args.kind c.args.key c.args.node_type c.args.references.now (sym (c.adopt_fault.ensures (λ key. None) false 0) ∙ c.in_default.is)) in
+    stays-first (λ n. c.in-Ok.ensures.values n (λ eq. ap (λ k. has_value (counts_at c.args.t.now.holdings.nodes k)) eq ∙ valued)) c.give_named.ensures.sheds
 
-pub returns-in-Err-clause-later : goal.returns-in-Err-clause-later
-returns-in-Err-clause-later g c =
-    later-so c.requires.later (newer-alike (c.in-Err.ensures.refused (λ key. None) false 0).stays) (λ l load is. sym (ap (λ (m : IndexMap ℕ LoadRow _). load_at m l) c.in-Err.ensures.loads) ∙ is)
-
-pub returns-in-Ok-clause-given : goal.returns-in-Ok-clause-given
-returns-in-Ok-clause-given g c = (c.in-Some-usable_of.node.0, sym (c.in-Some-usable_of.ensures (λ key. None) false 0))
-
-pub returns-in-Some-clause-sheds : goal.returns-in-Some-clause-sheds
-returns-in-Some-clause-sheds g c = sheds-still c.args.t.now.holdings _ c.requires.whole.steady
-
-pub returns-in_default-usable_of-clause-sheds : goal.returns-in_default-usable_of-clause-sheds
-returns-in_default-usable_of-clause-sheds g c = sheds-still c.args.t.now.holdings _ c.requires.whole.steady
+pub returns-in-Err-clause-sheds : goal.returns-in-Err-clause-sheds
+returns-in-Err-clause-sheds g c =
+    let valued = c.requires.valued c.in-Some-usable_of.node.0 (sym (c.in-Some-usable_of.ensures (λ key. None) false 0))
+    (eager (plain_of c.args.t.now) c.args.me c.args.load c.args.kind c.args.key c.args.node_type c.args.references.now (sym (c.adopt_fault.ensures (λ key. None) false 0) ∙ c.in_default.is)) in
+    stays-first (λ n. c.in-Err.ensures.values n (λ eq. ap (λ k. has_value (counts_at c.args.t.now.holdings.nodes k)) eq ∙ valued)) (sheds-still c.make.new.t.holdings _ c.in-Err.ensures.whole.steady)

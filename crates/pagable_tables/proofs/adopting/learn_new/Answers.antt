@@ -1,12 +1,9 @@
-use Rattle.pagable_tables.proofs.Words.{◌≡◌, ℕ, ◌+◌, ◌/◌, arith, ap, sym, ◌∙◌, subst, Some, Option, not, IndexMap, spare, NodeNumber, Owner, Last, Alike, mode_of, with_handle, nat_tests}
-use Rattle.pagable_tables.proofs.{Adopted.learned, Adopted.if-open, Words.with_node, Words.next_node, Words.Counts, Words.Tables, Words.key_in, Words.core_of, Words.option_map}
+use Rattle.pagable_tables.proofs.Words.{◌≡◌, ℕ, ◌+◌, ◌/◌, arith, ap, sym, ◌∙◌, subst, Some, Option, not, IndexMap, NodeNumber, Owner, Last, Alike, mode_of, with_handle, nat_tests, with_node}
+use Rattle.pagable_tables.proofs.{Words.{next_node, Counts, key_in, core_of, option_map}, Adoptions.{learned, if-open}}
 use Rattle.pagable_tables.proofs.adopting.learn_new.Goals as goal
 
 abbrev number : Option NodeNumber → Option ℕ
 number o = option_map (λ (n : NodeNumber). n.0) o
-
-pub learn_if-requires : goal.learn_if-requires
-learn_if-requires c = let a = ap (λ (t : Tables). spare t.cache) c.bear-handle.ensures.same in let b = c.requires.learns in omega arith
 
 pub returns-clause-next : goal.returns-clause-next
 returns-clause-next c stored closed failures = let n = (c.bear-handle.ensures.born stored closed failures).next in record { above = n.above; is_left = n.is_left }

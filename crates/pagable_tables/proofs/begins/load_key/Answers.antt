@@ -1,9 +1,6 @@
-use Rattle.pagable_tables.proofs.Words.{◌+◌, refl, ap, arith, None, false, Ok, inl, Beginning, load_at, load_in, option_map, nat_tests}
-use Rattle.pagable_tables.proofs.{Beginning.load-comes, Beginning.none-yet, Worlds.same-cache, keeps.LoadCalls.begin-key-whole, keeps.Told.told-whole, keeps.Placed.whole-so, Newer.later-opened}
+use Rattle.pagable_tables.proofs.{Words.{◌+◌, refl, ap, arith, None, false, Ok, inl, Beginning, load_at, load_in, option_map, nat_tests}, Opened.{load-comes, none-yet}, Worlds.same-cache}
+use Rattle.pagable_tables.proofs.{keeps.LoadCalls.begin-key-whole, keeps.Told.told-whole, keeps.Placed.whole-so, Newer.later-opened}
 use Rattle.pagable_tables.proofs.begins.load_key.Goals as goal
-
-pub open-requires : goal.open-requires
-open-requires c = none-yet (load_at c.args.t.now.loads (c.args.t.now.last_load + 1)) c.args.t.now.last_load (λ some. (c.requires.whole.core.loads.numbered (c.args.t.now.last_load + 1) some).1)
 
 pub returns-clause-begun : goal.returns-clause-begun
 returns-clause-begun c stored closed failures = grind (arith, nat_tests, same-cache, load-comes, c.in-Ok.ensures.here, c.in-Ok.ensures.others)

@@ -1,5 +1,5 @@
-use Rattle.pagable_tables.proofs.Words.{◌≡◌, ◌+◌, ◌++◌, ◌∷◌, [], refl, ap, ◌∙◌, arith, None, HandleRow, owner_value, moved, is_named_by, live, counts_at, refs_at, plain_of, nat_tests}
-use Rattle.pagable_tables.proofs.{Born.born-fits, Born.no-node, Born.born-cells, Worlds.same-cache, Coming.rows-told, keeps.Comes.not-a-value}
+use Rattle.pagable_tables.proofs.{Words.{◌≡◌, ◌+◌, ◌++◌, ◌∷◌, [], refl, ap, ◌∙◌, arith, None, HandleRow, owner_value, moved, is_named_by, live, counts_at, refs_at, plain_of}, Born.born-fits}
+use Rattle.pagable_tables.proofs.{Born.no-node, Coming.rows-told, keeps.Comes.not-a-value}
 use Rattle.pagable_tables.proofs.births.bear.Goals as goal
 
 pub returns-clause-steady : goal.returns-clause-steady
@@ -22,18 +22,3 @@ returns-clause-steady c =
     let fits = born-fits (plain_of u) me rs w.core.handles.ordered c.requires.fit unvalued at (counts_at c.add.new.nodes) refs (refs_at c.add.new.nodes) t.top x c.args.counts w.steady.fits refl
     c.requires.counts c.requires.bare (omega arith) free added.here added.others added.refs added.other_refs in
     record { sound = c.push.ensures.sound; next = c.in-Ok.ensures.next; fits = rows-told (counts_at c.add.new.nodes) (refs_at c.add.new.nodes) _ _ t.top rows fits }
-
-pub returns-clause-born : goal.returns-clause-born
-returns-clause-born c stored closed failures =
-    grind (
-      arith,
-      nat_tests,
-      born-cells,
-      same-cache,
-      c.deref.ensures.value,
-      c.in-Ok.ensures.rows,
-      c.hand_over_all.ensures.rows,
-      c.in-Ok-add.ensures.here,
-      c.in-Ok-add.ensures.others,
-      c.requires.ready.handle_left,
-    )

@@ -15,5 +15,5 @@ returns-clause-whole c =
 
 pub returns-clause-later : goal.returns-clause-later
 returns-clause-later c later =
-    let n = bears-newer c.args.me c.first_counts.result c.args.references.items c.args.mode c.bear.result (c.bear.ensures.born (λ key. None) false 0) in
-    later-so later (record { last = n.last; owned = n.owned }) (λ l load is. sym (ap (λ (t : Tables). load_at t.loads l) c.bear.ensures.same) ∙ is)
+    later-so later (bears-newer c.args.me c.first_counts.result c.args.references.items c.args.mode c.bear.result (c.bear.ensures.born (λ key. None) false 0))
+    (λ l load is. sym (ap (λ (t : Tables). load_at t.loads l) c.bear.ensures.same) ∙ is)

@@ -1,4 +1,4 @@
-use Rattle.pagable_tables.proofs.{Readied.more-room, Readied.room-whole, Words.◌+◌, Words.refl, Words.None, Words.false}
+use Rattle.pagable_tables.proofs.{Words.{◌+◌, refl, None, false}, Readied.{more-room, room-whole}}
 use Rattle.pagable_tables.proofs.births.make_ready.Goals as goal
 
 pub returns-in_default-clause-whole : goal.returns-in_default-clause-whole

@@ -1,9 +1,6 @@
-use Rattle.pagable_tables.proofs.Words.{ap, sym, subst, ◌∙◌, false, None, earlier, Refused, birth_fault, Tables, core_of, arith, nat_tests}
-use Rattle.pagable_tables.proofs.{NewNodes.references-first, Readied.room-still, Readied.room-fault, Readied.room-newer, Readied.weaker, Worlds.still}
+use Rattle.pagable_tables.proofs.{Words.{ap, sym, subst, ◌∙◌, false, None, earlier, Refused, birth_fault, Tables, core_of, arith, nat_tests}, NewNodes.references-first, Readied.room-fault}
+use Rattle.pagable_tables.proofs.{Readied.{room-newer, weaker}, Worlds.still}
 use Rattle.pagable_tables.proofs.births.prepare.Goals as goal
-
-pub returns-in-Err-clause-room : goal.returns-in-Err-clause-room
-returns-in-Err-clause-room c stored closed failures = room-still _
 
 pub returns-in-Err-clause-refused : goal.returns-in-Err-clause-refused
 returns-in-Err-clause-refused c stored closed failures = grind (arith, nat_tests, references-first, still, c.in-Err.ensures.fault)

@@ -1,5 +1,5 @@
-use Rattle.pagable_tables.proofs.Words.{◌≡◌, ℕ, Bool, true, false, Option, Some, None, arith, ap, sym, subst, ◌∙◌, ◌≢◌, IfSome, nat_tests, NodeNumber, live, Steps, has_value, is_node, counts_at}
-use Rattle.pagable_tables.proofs.{Shedding.{lasts-on, none-falls-in}, Standing.{valued-le, none-falls, one-falls}, Ended.ended, Fewer.{steps-fewer, steps-unlisted}, Next.steps-on}
+use Rattle.pagable_tables.proofs.Words.{◌≡◌, ℕ, Bool, true, false, Option, Some, None, arith, ap, sym, ◌∙◌, ◌≢◌, IfSome, nat_tests, NodeNumber, live, Steps, has_value, is_node, counts_at}
+use Rattle.pagable_tables.proofs.{Ended.{lasts-on, none-falls-in, valued-le, none-falls, ended}, Next.{steps-fewer, steps-unlisted, steps-on}}
 use Rattle.pagable_tables.proofs.cascade.cascade.Goals as goal
 
 abbrev number-in : Option NodeNumber → ℕ
@@ -17,9 +17,6 @@ gone-node at (Some m) n gone is = let same : m.0 ≡ n = grind (arith, nat_tests
 pub fall-init : goal.fall-init
 fall-init g c = grind (arith, nat_tests, valued-le, live, c.requires.falling, c.budget-left.ensures)
 
-pub overflow_sub-left : goal.overflow_sub-left
-overflow_sub-left g c = grind (arith, nat_tests, one-falls, c.fall-test.true)
-
 pub fall-preserved : goal.fall-preserved
 fall-preserved g c =
     let i = c.fall.invariant.0 in
@@ -35,14 +32,11 @@ fall-preserved g c =
           (counts_at c.step-done.new.t.nodes n) _ _ _ (c.let_go.ensures n) (λ other. s.values n (not-node c.step-done.result n other))
           (gone-node (λ m. has_value (counts_at c.step-done.new.t.nodes m)) c.step-done.result n s.gone) (c.fall.invariant.2 kept n),
       omega arith,
-      λ none. steps-unlisted c.fall.t c.step-done.new.t i.0 c.step-done.result (subst (λ b. Steps c.fall.t i.0 b c.step-done.result c.step-done.new.t) none s) ∙ c.fall.invariant.4 none,
+      λ none. steps-unlisted c.fall.t c.step-done.new.t i.0 c.args.lists c.step-done.result none s ∙ c.fall.invariant.4 none,
     )
 
 pub returns-clause-whole : goal.returns-clause-whole
 returns-clause-whole g c = let w = c.fall.invariant.0 in none-falls c.fall.t w.0 w.1 (omega arith)
-
-pub returns-clause-unlisting : goal.returns-clause-unlisting
-returns-clause-unlisting g c = c.fall.invariant.4
 
 pub returns-clause-falls : goal.returns-clause-falls
 returns-clause-falls g c before w given so-far =

@@ -1,5 +1,5 @@
-use Rattle.pagable_tables.proofs.Words.{None, false, Ok, arith, shut, core_of, nat_tests}
-use Rattle.pagable_tables.proofs.{Entries.are-entries, Entries.begun-shut, Entries.cache-anew, Newer.close-newer, Newer.later-so, keeps.EndCalls.close-whole, keeps.Placed.whole-so}
+use Rattle.pagable_tables.proofs.{Words.{None, false, Ok, arith, shut, core_of, nat_tests}, Entries.{are-entries, begun-shut, cache-anew}, Newer.{close-newer, later-so}, keeps.EndCalls.close-whole}
+use Rattle.pagable_tables.proofs.keeps.Placed.{whole-so}
 use Rattle.pagable_tables.proofs.closing.close.Goals as goal
 
 pub returns-clause-closed : goal.returns-clause-closed
@@ -16,5 +16,4 @@ returns-clause-whole g c = whole-so c.give_entries.ensures.steady (close-whole (
 
 pub returns-clause-later : goal.returns-clause-later
 returns-clause-later g c later =
-    let n = close-newer (Ok tt) (returns-clause-closed g c (λ key. None) false 0 0 (omega arith)) in
-    later-so later (record { last = n.last; owned = n.owned }) (λ l load is. is)
+    later-so later (close-newer (Ok tt) (returns-clause-closed g c (λ key. None) false 0 0 (omega arith))) (λ l load is. is)

@@ -1,5 +1,5 @@
-use Rattle.pagable_tables.proofs.Words.{rules, ◌≡◌, ℕ, ◌+◌, ◌==◌, ◌||◌, List, [], ◌∷◌, length, false, refl, ap, sym, ◌∙◌, subst, arith, nat_tests, length-append, sum_by_push, HandleNumber, one}
-use Rattle.pagable_tables.proofs.{Words.{Holdings, SoFar, entered, with_list}, Begun.aside, Entries.{given_up, none-given-up, one-given-up, unlist}, Ended.ended, Shedding.{sheds-still, sheds-then}}
+use Rattle.pagable_tables.proofs.Words.{rules, ◌≡◌, ℕ, ◌+◌, ◌==◌, ◌||◌, List, [], ◌∷◌, length, false, refl, ap, sym, ◌∙◌, subst, arith, nat_tests, sum_by_push, HandleNumber, one, Holdings, SoFar}
+use Rattle.pagable_tables.proofs.{Words.{entered, with_list}, Begun.aside, Entries.{given_up, none-given-up, one-given-up, unlist}, Ended.{ended, sheds-still, sheds-then}}
 use Rattle.pagable_tables.proofs.closing.give_entries.Goals as goal
 
 empty : (list : List HandleNumber) → length list ≡ 0 → list ≡ []
@@ -8,12 +8,6 @@ empty (x ∷ xs) none = absurd (omega arith)
 
 pub loop-entry-init : goal.loop-entry-init
 loop-entry-init g c = grind (arith, nat_tests, aside, none-given-up, sheds-still, c.requires)
-
-pub loop-entry-smaller : goal.loop-entry-smaller
-loop-entry-smaller g c = grind (arith, nat_tests, length-append, c.in-Some.ensures.items, c.give_entry.ensures.list)
-
-pub give_entry-requires : goal.give_entry-requires
-give_entry-requires g c = let i = c.loop-entry.invariant.0 in record { sound = i.sound; next = i.next; fits = i.fits }
 
 pub loop-entry-preserved : goal.loop-entry-preserved
 loop-entry-preserved g c =
@@ -57,6 +51,3 @@ returns-clause-falls g c before w f few entries =
     let none : t'.list.items ≡ [] = empty t'.list.items (search rules) in
     let falls = ended before (with_list w t'.list.items) (given_up all t.list.items) false t' some (record { sound = i.0.sound; next = i.0.next; fits = i.0.fits }) in
     grind (arith, nat_tests)
-
-pub returns-clause-sheds : goal.returns-clause-sheds
-returns-clause-sheds g c = c.loop-entry.invariant.4

@@ -1,5 +1,5 @@
-use Rattle.pagable_tables.proofs.Words.{◌≡◌, false, ap, sym, ◌∙◌, subst, if_there, HandleNumber, is_owner, is_owned_by, Owner, is_valued, SoFar}
-use Rattle.pagable_tables.proofs.{Left.and_one, Regiven.given-none, Regiven.given-one, Worlds.owner-same, Shedding.sheds-still}
+use Rattle.pagable_tables.proofs.{Words.{◌≡◌, false, ap, sym, ◌∙◌, subst, if_there, HandleNumber, is_owner, is_owned_by, Owner, SoFar, inl}, Left.and_one, Regiven.{given-none, given-one}}
+use Rattle.pagable_tables.proofs.Worlds.{owner-same}
 use Rattle.pagable_tables.proofs.ending.give_next.Goals as goal
 
 pub returns-in_default-clause-so_far : goal.returns-in_default-clause-so_far
@@ -10,20 +10,11 @@ pub returns-then-not-is_owner-clause-so_far : goal.returns-then-not-is_owner-cla
 returns-then-not-is_owner-clause-so_far g c before w given f few =
     given-none before w given c.args.lists c.args.t.now c.args.load c.args.handle.0 f (ap (if_there (is_owned_by (Owner.Load c.args.load)) false) c.in-Some.ensures.found ∙ sym c.if-not-is_owner.ensures)
 
-pub shed-requires-clause-plain : goal.shed-requires-clause-plain
-shed-requires-clause-plain g c = ap is_valued (owner-same (Owner.Load c.args.load) c.in-Some.at.row.owner (sym c.if-not-is_owner.ensures))
-
 pub returns-clause-so_far : goal.returns-clause-so_far
 returns-clause-so_far g c before w given f few =
     let load = c.args.load in
     let own : c.in-Some.at.row.owner ≡ Owner.Load load = owner-same (Owner.Load load) c.in-Some.at.row.owner (sym c.if-not-is_owner.ensures) in
     let some = ap (if_there (is_owned_by (Owner.Load load)) false) c.in-Some.ensures.found ∙ sym c.if-not-is_owner.ensures in
-    let on = c.shed.ensures.so_far before w given f few (ap (is_owner Owner.List) own) in
+    let on = c.shed.ensures.so_far before w given f few (inl (ap (is_owner Owner.List) own)) in
     let here = subst (λ (q : HandleNumber). SoFar before w (and_one given q.0) c.args.lists c.shed.new.t) c.in-Some.ensures.number on in
     given-one before w given c.args.lists c.args.t.now c.shed.new.t load c.args.handle.0 f some here
-
-pub returns-in_default-clause-sheds : goal.returns-in_default-clause-sheds
-returns-in_default-clause-sheds g c = sheds-still c.args.t.now _ c.requires
-
-pub returns-then-not-is_owner-clause-sheds : goal.returns-then-not-is_owner-clause-sheds
-returns-then-not-is_owner-clause-sheds g c = sheds-still c.args.t.now _ c.requires

@@ -1,4 +1,4 @@
-use Rattle.pagable_tables.proofs.{GivenAll.bare, Words.refl, Words.option_map, Words.load_at, Words.load_in}
+use Rattle.pagable_tables.proofs.{Words.{refl, option_map, load_at, load_in}, GivenAll.bare}
 use Rattle.pagable_tables.proofs.ending.give_up_load.Goals as goal
 
 pub returns-clause-falls : goal.returns-clause-falls

@@ -1,6 +1,5 @@
-use Rattle.pagable_tables.proofs.Words.{arith, refl, inl, inr, None, not, Owner, is_owned_in, without_load, load_at, core_of, plain_of, load_in, with_tables}
-use Rattle.pagable_tables.proofs.{Dropped.load-closed, Dropped.begun-less, Dropped.owned-given, Dropped.loads-anew, Worlds.still, Shedding.sheds-still, Begun.not-closed}
-use Rattle.pagable_tables.proofs.{keeps.EndCalls.drop-whole, keeps.Placed.whole-so, Newer.drop-newer, Newer.later-so, Newer.closed-still}
+use Rattle.pagable_tables.proofs.{Words.{arith, refl, inl, inr, None, not, Owner, is_owned_in, without_load, load_at, core_of, plain_of, load_in, with_tables}, Taken.{load-closed, begun-less}}
+use Rattle.pagable_tables.proofs.{Taken.{owned-given, loads-anew}, Worlds.still, Begun.not-closed, keeps.EndCalls.drop-whole, keeps.Placed.whole-so, Newer.{drop-newer, later-so, closed-still}}
 use Rattle.pagable_tables.proofs.ending.load_drop.Goals as goal
 
 pub returns-in-Err-clause-dropped : goal.returns-in-Err-clause-dropped
@@ -23,14 +22,11 @@ returns-clause-dropped g c stored closed failures e =
       );
     }
 
-pub returns-in-Err-clause-sheds : goal.returns-in-Err-clause-sheds
-returns-in-Err-clause-sheds g c = sheds-still c.args.t.now.holdings _ c.requires.whole.steady
-
 pub returns-clause-whole : goal.returns-clause-whole
 returns-clause-whole g c = whole-so c.give_up_load.ensures.steady (drop-whole c.args.me c.args.load c.give_up_load.result c.requires.whole.core (returns-clause-dropped g c (λ key. None) (not c.args.lists) 0 (not-closed c.args.lists)))
 
 pub returns-clause-later : goal.returns-clause-later
 returns-clause-later g c =
     let t = c.args.t.now in
-    let n = drop-newer c.args.me c.args.load c.give_up_load.result (returns-clause-dropped g c (λ key. None) (not c.args.lists) 0 (not-closed c.args.lists)) in
-    later-so c.requires.later (record { last = n.last; owned = n.owned }) (closed-still (load_at t.loads) (load_at c.close.new.loads) c.args.load.0 c.close.ensures.gone c.close.ensures.others)
+    later-so c.requires.later (drop-newer c.args.me c.args.load c.give_up_load.result (returns-clause-dropped g c (λ key. None) (not c.args.lists) 0 (not-closed c.args.lists)))
+    (closed-still (load_at t.loads) (load_at c.close.new.loads) c.args.load.0 c.close.ensures.gone c.close.ensures.others)

@@ -1,7 +1,7 @@
-use Rattle.pagable_tables.proofs.Words.{◌≡◌, ℕ, ◌&&◌, false, not, length, arith, ap, sym, ◌∙◌, subst, Some, None, Error, Owner, is_in, if_there, is_owner, OpenLoad, Falls, refused_if, nat_tests}
-use Rattle.pagable_tables.proofs.{Words.{is_owned_in, numbers_of, load_at, core_of, plain_of, load_in, with_tables, Holdings, option_map}, Taken.{moved-less, begun-moved, loaded-moved, no-load}}
-use Rattle.pagable_tables.proofs.{Taken.{may-hand, named-there, still-listed, and-left, MayHand}, Dropped.{load-closed, owned-given, loads-anew}, keeps.Comes.not-a-value, keeps.LoadCalls.may-hold}
-use Rattle.pagable_tables.proofs.{Begun.not-closed, keeps.EndCalls.hand-over-whole, keeps.Placed.whole-so, Newer.{take-newer, later-so, closed-still}, Shedding.sheds-still, Worlds.still}
+use Rattle.pagable_tables.proofs.Words.{◌≡◌, ℕ, ◌&&◌, false, not, length, arith, ap, sym, ◌∙◌, subst, Some, None, Error, Owner, is_in, if_there, is_owner, OpenLoad, Falls, refused_if, is_owned_in}
+use Rattle.pagable_tables.proofs.{Words.{numbers_of, load_at, core_of, plain_of, load_in, with_tables, Holdings, option_map}, Taken.{moved-less, begun-moved, loaded-moved, no-load, may-hand}}
+use Rattle.pagable_tables.proofs.{Taken.{named-there, still-listed, MayHand, load-closed, owned-given, loads-anew}, Bits.and-left, keeps.Comes.not-a-value, keeps.LoadCalls.may-hold, Begun.not-closed}
+use Rattle.pagable_tables.proofs.{keeps.EndCalls.hand-over-whole, keeps.Placed.whole-so, Newer.{take-newer, later-so, closed-still}}
 use Rattle.pagable_tables.proofs.ending.load_take.Goals as goal
 
 pub unreachable-requires : goal.unreachable-requires
@@ -66,13 +66,4 @@ returns-clause-later g c =
     let p = plain_of t in
     let can : MayHand p c.args.me c.args.load c.args.named.now = may-hand c.requires.whole.core c.args.me c.args.load c.args.named.now (sym (c.hand_over_fault.ensures (λ key. None) false 0) ∙ c.in_default.is) in
     let n = take-newer c.args.me c.args.load c.args.named.now _ (λ m. no-load p c.args.me m can.may) (returns-clause-taken g c (λ key. None) (not c.args.lists) 0 (not-closed c.args.lists)) in
-    later-so c.requires.later (record { last = n.last; owned = n.owned }) (closed-still (load_at t.loads) (load_at c.close.new.loads) c.args.load.0 c.close.ensures.gone c.close.ensures.others)
-
-pub returns-clause-sheds : goal.returns-clause-sheds
-returns-clause-sheds g c = grind (arith, nat_tests, c.hand_each.ensures.same, c.give_up_load.ensures.sheds)
-
-pub returns-in-Some-clause-sheds : goal.returns-in-Some-clause-sheds
-returns-in-Some-clause-sheds g c = sheds-still c.args.t.now.holdings _ c.requires.whole.steady
-
-pub returns-in-Some-clause-taken : goal.returns-in-Some-clause-taken
-returns-in-Some-clause-taken g c stored closed failures e = grind (arith, nat_tests, still, c.hand_over_fault.ensures, c.in-Some.is)
+    later-so c.requires.later n (closed-still (load_at t.loads) (load_at c.close.new.loads) c.args.load.0 c.close.ensures.gone c.close.ensures.others)

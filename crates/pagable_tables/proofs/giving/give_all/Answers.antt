@@ -1,20 +1,14 @@
-use Rattle.pagable_tables.proofs.Words.{[], refl, arith, option_map, load_at, load_in, nat_tests}
-use Rattle.pagable_tables.proofs.{Begun.aside, GivenAll.bare, GivenAll.given-plain, GivenAll.none-past, GivenAll.one-past, GivenAll.all-past, Shedding.sheds-still, Shedding.sheds-then}
+use Rattle.pagable_tables.proofs.{Words.{refl, arith, option_map, load_at, load_in, nat_tests, inl}, Begun.aside, GivenAll.{bare, given-plain, none-past, one-past, all-past}, Ended.sheds-still}
+use Rattle.pagable_tables.proofs.Ended.{sheds-then}
 use Rattle.pagable_tables.proofs.giving.give_all.Goals as goal
 
 pub loop-at-init : goal.loop-at-init
 loop-at-init g c = grind (arith, nat_tests, aside, none-past, sheds-still, c.requires)
 
-pub loop-at-smaller : goal.loop-at-smaller
-loop-at-smaller g c = let b = c.in-Some.ensures.between in let b0 = b.0 in let b1 = b.1 in omega arith
-
 pub shed-requires-clause-plain : goal.shed-requires-clause-plain
 shed-requires-clause-plain g c =
     let w = bare (λ l. option_map load_in (load_at c.args.loads.now l)) in
     (given-plain w c.args.giving c.in-Some.at.row.owner c.in-Some.at.row.node (c.in-Some.ensures.gives w (λ l. refl))).0
-
-pub shed-requires-clause-steady : goal.shed-requires-clause-steady
-shed-requires-clause-steady g c = c.loop-at.invariant.0
 
 pub loop-at-preserved : goal.loop-at-preserved
 loop-at-preserved g c =
@@ -26,12 +20,9 @@ loop-at-preserved g c =
       omega arith,
       λ before u w loads f few between. one-past before u w c.args.lists c.args.giving c.loop-at.t c.shed.new.t c.args.since c.loop-at.left x b.0 b.1 c.in-Some.ensures.found (c.in-Some.ensures.gives w loads)
           (λ q above below. c.in-Some.ensures.last w q loads above below)
-          (λ given s. c.shed.ensures.so_far before u given s (omega arith) (given-plain w c.args.giving x.owner x.node (c.in-Some.ensures.gives w loads)).1) (i.2 before u w loads f few between),
+          (λ given s. c.shed.ensures.so_far before u given s (omega arith) (inl (given-plain w c.args.giving x.owner x.node (c.in-Some.ensures.gives w loads)).1)) (i.2 before u w loads f few between),
       sheds-then i.3 c.shed.ensures.sheds,
     )
-
-pub fall-requires : goal.fall-requires
-fall-requires g c = record { falling = ([], c.loop-at.invariant.0, omega arith) }
 
 pub returns-clause-falls : goal.returns-clause-falls
 returns-clause-falls g c before u w loads f few between =

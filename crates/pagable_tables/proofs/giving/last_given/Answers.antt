@@ -1,17 +1,5 @@
-use Rattle.pagable_tables.proofs.{LastGiven.none-from, LastGiven.below-to, LastGiven.place-got, LastGiven.row-there, LastGiven.up-from, Words.◌-◌, Words.arith, Words.gives_row}
+use Rattle.pagable_tables.proofs.{Words.{◌-◌, arith, gives_row}, GivenAll.{none-from, below-to, place-got, row-there}}
 use Rattle.pagable_tables.proofs.giving.last_given.Goals as goal
-
-pub loop-place-init : goal.loop-place-init
-loop-place-init c = record { within = omega arith; passed = λ w k d loads from lt lives gives. c.up_to-place.ensures.above k d from lt }
-
-pub loop-place-preserved : goal.loop-place-preserved
-loop-place-preserved c =
-    let i = c.loop-place.invariant in
-    record {
-      within = omega arith;
-      passed = λ w. up-from c.args.handles.now.places.items (c.loop-place.place - 1) c.index-found.result.now (omega arith) c.index-found.ensures c.args.left (gives_row w c.args.giving)
-          (λ loads. c.is_given.ensures.no c.if-is_given.false w loads) (λ loads k d from lt lives gives. i.passed w k d loads (omega arith) lt lives gives);
-    }
 
 pub returns-then-found-since-clause-none : goal.returns-then-found-since-clause-none
 returns-then-found-since-clause-none c w q loads above below =

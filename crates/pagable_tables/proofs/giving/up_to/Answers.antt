@@ -1,4 +1,4 @@
-use Rattle.pagable_tables.proofs.{LastGiven.above-from, Words.arith, Words.nat_tests}
+use Rattle.pagable_tables.proofs.{Words.{arith, nat_tests}, GivenAll.above-from}
 use Rattle.pagable_tables.proofs.giving.up_to.Goals as goal
 
 pub loop-low-preserved : goal.loop-low-preserved

@@ -1,4 +1,4 @@
-use Rattle.pagable_tables.proofs.{Alive.row-got, Words.arith, Words.slice_get-get_or}
+use Rattle.pagable_tables.proofs.{Words.{arith, slice_get-get_or}, Alive.row-got}
 use Rattle.pagable_tables.proofs.handles.at_once.Goals as goal
 
 pub returns-then-place-clause-found : goal.returns-then-place-clause-found

@@ -1,5 +1,5 @@
-use Rattle.pagable_tables.proofs.Words.{◌<◌, arith, sym, ap, ◌∙◌, ◌≡◌, filter, length, subst, rules, filter_from_retain, All-filter, AllPairs-filter, live, is_live_place, IsBefore, IsNext}
-use Rattle.pagable_tables.proofs.{Alive.live-filter, Alive.length-live-filter, Words.Place, Words.AllPairs}
+use Rattle.pagable_tables.proofs.Words.{◌<◌, arith, sym, ap, ◌∙◌, ◌≡◌, filter, length, subst, rules, filter_from_retain, All-filter, AllPairs-filter, live, is_live_place, IsBefore, IsNext, Place}
+use Rattle.pagable_tables.proofs.{Words.AllPairs, Alive.{live-filter, length-live-filter}}
 use Rattle.pagable_tables.proofs.handles.compact.Goals as goal
 
 pub returns-clause-sound : goal.returns-clause-sound

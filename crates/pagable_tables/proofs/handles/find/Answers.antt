@@ -1,4 +1,4 @@
-use Rattle.pagable_tables.proofs.{Words.{arith, Place, slice_get-get_or, get_or_default, nat_tests}, Order.{smaller-up, greater-from, outside}, Alive.{none-live, dead-only, row-got}}
+use Rattle.pagable_tables.proofs.{Words.{arith, Place, slice_get-get_or, get_or_default, nat_tests}, Alive.{smaller-up, greater-from, outside, none-live, dead-only, row-got}}
 use Rattle.pagable_tables.proofs.handles.find.Goals as goal
 
 pub returns-then-place-number-clause-none : goal.returns-then-place-number-clause-none

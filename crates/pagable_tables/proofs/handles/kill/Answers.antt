@@ -1,4 +1,4 @@
-use Rattle.pagable_tables.proofs.{Words.{arith, refl, ◌∙◌, false, length-set, Place, nat_tests}, Order.rises-set, Alive.{live-kill, sum-live-set, length-live-set, next-set}}
+use Rattle.pagable_tables.proofs.{Words.{arith, refl, ◌∙◌, false, length-set, Place, nat_tests}, Alive.{rises-set, live-kill, sum-live-set, length-live-set, next-set}}
 use Rattle.pagable_tables.proofs.handles.kill.Goals as goal
 
 pub overflow_sub-len : goal.overflow_sub-len

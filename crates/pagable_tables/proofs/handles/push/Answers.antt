@@ -1,5 +1,5 @@
 use Rattle.pagable_tables.proofs.Words.{◌<◌, subst, rules, arith, sym, ap, ◌≡◌, ◌∷◌, [], ◌++◌, ◌+◌, length, get_or, live, alive, IsBefore, IsNext, Place, All-push, all_pairs_push, nat_tests}
-use Rattle.pagable_tables.proofs.{Alive.live-push, Words.length-append, Words.AllPairs}
+use Rattle.pagable_tables.proofs.{Words.{length-append, AllPairs}, Alive.live-push}
 use Rattle.pagable_tables.proofs.handles.push.Goals as goal
 
 pub returns-clause-sound : goal.returns-clause-sound

@@ -1,4 +1,4 @@
-use Rattle.pagable_tables.proofs.{Words.{arith, ap, HandleNumber, length-set, alive, Place, nat_tests}, Order.rises-set, Alive.{live-set, sum-live-set, length-live-set, next-set}}
+use Rattle.pagable_tables.proofs.{Words.{arith, ap, HandleNumber, length-set, alive, Place, nat_tests}, Alive.{rises-set, live-set, sum-live-set, length-live-set, next-set}}
 use Rattle.pagable_tables.proofs.handles.set.Goals as goal
 
 pub returns-clause-sound : goal.returns-clause-sound
@@ -12,7 +12,7 @@ returns-clause-sound c =
     }
 
 pub returns-clause-rows : goal.returns-clause-rows
-returns-clause-rows c = live-set c.args.handles.now.places.items c.args.at.place c.args.at.row c.args.row c.requires.sound.ordered c.requires.place
+returns-clause-rows c = live-set c.args.handles.now.places.items c.args.at.place c.args.at.row c.requires.sound.ordered c.requires.place c.args.row
 
 pub returns-clause-sums : goal.returns-clause-sums
 returns-clause-sums c f = grind (arith, nat_tests, sum-live-set, c.requires.place)

@@ -1,6 +1,6 @@
 use Rattle.pagable_tables.proofs.Words.{cases_eq, nat_tests, false, Bool, ◌+◌, ◌-◌, ◌≡◌, ◌≤◌, ℕ, arith, refl, ap, sym, ◌∙◌, subst, Some, ◌∷◌, if◌then◌else◌, ◌≢◌, one, is_pinning, live, counts_at}
-use Rattle.pagable_tables.proofs.{Words.{refs_at, Fits, pins_in, after, is_fallen_by, ValueStays, owns_nothing, Leaves, Counts}, Alive.row-le-live, Leaving.leaves-sums, Fitting.given-fits}
-use Rattle.pagable_tables.proofs.Fitting.{given-cells, new-top, long-if, pin-here, held-here, pin_of}
+use Rattle.pagable_tables.proofs.{Words.{refs_at, Fits, pins_in, after, is_fallen_by, ValueStays, owns_nothing, Leaves, Counts}, Alive.row-le-live, Left.leaves-sums, Fitting.{given-fits, given-cells}}
+use Rattle.pagable_tables.proofs.Fitting.{new-top, long-if, pin-here, held-here, pin_of}
 use Rattle.pagable_tables.proofs.holdings.give_up.Goals as goal
 
 -- a handle that leaves takes no value with it at once
@@ -9,13 +9,6 @@ after-value y pinning listed top some falls = let stood : y.is_falling ≡ false
 
 pub unreachable-requires : goal.unreachable-requires
 unreachable-requires c = grind (arith, nat_tests, row-le-live, held-here, c.requires.falling.1.fits.holding, c.counts_of.ensures, c.in_default.is, c.requires.place)
-
-pub counts_after-left-requires-clause-holds : goal.counts_after-left-requires-clause-holds
-counts_after-left-requires-clause-holds c = grind (arith, nat_tests, row-le-live, held-here, c.requires.falling.1.fits.holding, c.counts_of.ensures, c.in-Some.is, c.requires.place)
-
-pub counts_after-left-requires-clause-pins : goal.counts_after-left-requires-clause-pins
-counts_after-left-requires-clause-pins c =
-    grind (arith, nat_tests, row-le-live, pin-here, c.requires.falling.1.fits.pinned, c.counts_of.ensures, c.in-Some.is, c.requires.place, c.pins-pinning.ensures)
 
 pub returns : goal.returns
 returns c stack w =

@@ -1,6 +1,6 @@
-use Rattle.pagable_tables.proofs.Words.{nat_tests, ◌≡◌, ℕ, Bool, true, false, arith, refl, ap, sym, ◌∙◌, subst, Some, None, List, [], ◌∷◌, ◌≢◌, cases_eq, inl, inr, live, counts_at}
-use Rattle.pagable_tables.proofs.Words.{refs_at, IsFalling, Fits, pins_in, holds_in, falls_in, has_value, is_right, is_bare, Right, owns_nothing, Counts, Holdings}
-use Rattle.pagable_tables.proofs.Fitting.{done-fits, first-waits, pins-le-held, settled-right}
+use Rattle.pagable_tables.proofs.Words.{nat_tests, ◌≡◌, ℕ, Bool, true, false, arith, refl, ap, sym, ◌∙◌, subst, Some, None, List, [], ◌∷◌, ◌≢◌, cases_eq, inl, inr, live, counts_at, refs_at, IsFalling}
+use Rattle.pagable_tables.proofs.{Words.{Fits, pins_in, holds_in, falls_in, has_value, is_right, is_bare, Right, owns_nothing, Counts, Holdings}, Fitting.{done-fits, first-waits, pins-le-held}}
+use Rattle.pagable_tables.proofs.Fitting.{settled-right}
 use Rattle.pagable_tables.proofs.holdings.settle.Goals as goal
 
 there : (t : Holdings) (stack : List ℕ) → IsFalling t stack owns_nothing → t.top ≢ 0 → counts_at t.nodes t.top ≡ None → ⊥

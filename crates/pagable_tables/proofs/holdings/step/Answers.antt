@@ -1,6 +1,6 @@
 use Rattle.pagable_tables.proofs.Words.{◌≡◌, ◌+◌, ℕ, Bool, true, false, arith, refl, ap, sym, ◌∙◌, subst, Some, Option, List, [], ◌∷◌, ◌++◌, length, slice_get, if◌then◌else◌, inl, inr, ◌≢◌, is_some}
 use Rattle.pagable_tables.proofs.Words.{cases_eq, nat_tests, append-nil, ArcRef, HandleNumber, NodeNumber, HandleRow, one, live, alive, AreSound, IsNext, counts_at, refs_at, IsFalling, Fits, Settles}
-use Rattle.pagable_tables.proofs.{Words.{GivesUp, CellsStay, cell_in, ValueStays, owns, owns_nothing, entry, is_valued, valued, Counts, Holdings}, Alive.{only-row, none-found}, Leaving.leaves-sums}
+use Rattle.pagable_tables.proofs.{Words.{GivesUp, CellsStay, cell_in, ValueStays, owns, owns_nothing, entry, is_valued, valued, Counts, Holdings}, Alive.{only-row, none-found}, Left.leaves-sums}
 use Rattle.pagable_tables.proofs.Fitting.{is_owned, taken-fits, taken-owned, taken-there, owner-is, fits-same, fallen}
 use Rattle.pagable_tables.proofs.holdings.step.Goals as goal
 

@@ -1,5 +1,5 @@
-use Rattle.pagable_tables.proofs.Words.{◌≡◌, refl, ap, sym, ◌∙◌, Some, None, false, any_mode, of_cell, end_fault, core_of, plain_of, load_in, root_in, option_map, arith, nat_tests}
-use Rattle.pagable_tables.proofs.{Upheld.opens, Upheld.celled, Upheld.may-end, Worlds.owner-same}
+use Rattle.pagable_tables.proofs.{Words.{◌≡◌, refl, ap, sym, ◌∙◌, Some, None, false, any_mode, of_cell, end_fault, core_of, plain_of, load_in, root_in, option_map, arith, nat_tests}, Installed.opens}
+use Rattle.pagable_tables.proofs.{Installed.{celled, may-end}, Worlds.owner-same}
 use Rattle.pagable_tables.proofs.installing.ending_of.Goals as goal
 
 pub unreachable-requires : goal.unreachable-requires

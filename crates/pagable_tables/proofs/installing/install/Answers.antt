@@ -1,8 +1,7 @@
-use Rattle.pagable_tables.proofs.Words.{◌≡◌, ◌<◌, ◌+◌, ◌++◌, ◌∷◌, [], sum_by, refl, ap, sym, ◌∙◌, arith, false, not, inl, None, Ok, Owner, Mode, changed, one, is_handle, is_pin, owner_value}
-use Rattle.pagable_tables.proofs.Words.{is_here, moved, is_named_by, row_of, live, counts_at, refs_at, load_at, has_value, cell_in, core_of, plain_of, nat_tests}
-use Rattle.pagable_tables.proofs.{Begun.not-closed, Coming.rows-told, Coming.some-held, Coming.turned, Fitting.fits-same, Fitting.pins-le-held, Installed.ended, Installed.has-come}
-use Rattle.pagable_tables.proofs.{Installed.install-newer, Installed.pins-here, Installed.not-so, Joined.joined-fits, Joined.owns-none, Newer.closed-still, Newer.later-so, Stays.not-named}
-use Rattle.pagable_tables.proofs.{Upheld.ready-owner, keeps.Comes.not-a-value, keeps.EndCalls.end-whole, keeps.LoadCalls.may-hold, keeps.Placed.whole-so}
+use Rattle.pagable_tables.proofs.Words.{◌≡◌, ◌<◌, ◌+◌, ◌++◌, ◌∷◌, [], sum_by, refl, ap, sym, ◌∙◌, arith, false, not, inl, None, Ok, Owner, Mode, changed, one, is_handle, is_pin, owner_value, is_here}
+use Rattle.pagable_tables.proofs.{Words.{moved, is_named_by, row_of, live, counts_at, refs_at, load_at, has_value, cell_in, core_of, plain_of, nat_tests}, Begun.not-closed, Coming.rows-told}
+use Rattle.pagable_tables.proofs.{Coming.{some-held, turned}, Fitting.{fits-same, pins-le-held}, Installed.{ended, has-come, install-newer, pins-here, not-so, ready-owner}, Joined.joined-fits}
+use Rattle.pagable_tables.proofs.{Joined.owns-none, Newer.{closed-still, later-so}, Stays.not-named, keeps.Comes.not-a-value, keeps.EndCalls.end-whole, keeps.LoadCalls.may-hold, keeps.Placed.whole-so}
 use Rattle.pagable_tables.proofs.installing.install.Goals as goal
 
 pub pin_ready-handle-requires-clause-holder : goal.pin_ready-handle-requires-clause-holder

@@ -1,4 +1,4 @@
-use Rattle.pagable_tables.proofs.{Upheld.no-wanting, Words.None, Words.false}
+use Rattle.pagable_tables.proofs.{Words.{None, false}, Installed.no-wanting}
 use Rattle.pagable_tables.proofs.installing.pin_ready.Goals as goal
 
 pub unreachable-requires : goal.unreachable-requires

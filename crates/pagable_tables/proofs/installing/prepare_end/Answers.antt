@@ -1,4 +1,4 @@
-use Rattle.pagable_tables.proofs.{Words.{arith, core_of, nat_tests}, Upheld.{placed-whole, ready-placed}, Worlds.alike, Opened.no-load-fault}
+use Rattle.pagable_tables.proofs.{Words.{arith, core_of, nat_tests}, Installed.{placed-whole, ready-placed}, Worlds.alike, Opened.no-load-fault}
 use Rattle.pagable_tables.proofs.installing.prepare_end.Goals as goal
 
 pub returns-in_default-clause-unended : goal.returns-in_default-clause-unended

@@ -1,23 +1,5 @@
-use Rattle.pagable_tables.proofs.Words.{◌≡◌, ◌==◌, if◌then◌else◌, [], ◌∷◌, ap, ◌∙◌, false, Counts, live, is_new, arith, cases_eq, nat_tests}
-use Rattle.pagable_tables.proofs.{Shedding.none-falls-in, Fitting.long-if, KeyPut.key-fits, KeyPut.key-cells, KeyPut.key-top}
+use Rattle.pagable_tables.proofs.{Words.{◌≡◌, ◌==◌, if◌then◌else◌, [], ◌∷◌, ap, ◌∙◌, false, Counts, is_new, arith, nat_tests}, Fitting.long-if, KeyPut.{key-fits, key-top}}
 use Rattle.pagable_tables.proofs.keys.put_key.Goals as goal
-
-pub returns-clause-cells : goal.returns-clause-cells
-returns-clause-cells c =
-    grind (
-      arith,
-      nat_tests,
-      key-cells,
-      live,
-      c.requires.steady.fits,
-      c.counts_of.ensures,
-      c.in-Some.is,
-      c.requires.key,
-      c.set_counts.ensures.here,
-      c.counts_keyed-with_key.ensures,
-      c.set_counts.ensures.others,
-      c.set_counts.ensures.refs,
-    )
 
 pub returns-clause-falling : goal.returns-clause-falling
 returns-clause-falling c =
@@ -25,30 +7,14 @@ returns-clause-falling c =
     let n = c.args.node in
     let counts = c.in-Some.counts in
     let b = counts.pins == 0 in
+    let e = c.set_counts.ensures in
     let top : c.top_after-t.result ≡ (if b then n else t.top) = c.top_after-t.ensures ∙ ap
     (λ (l : Counts). if is_new false l.is_falling then n else t.top) c.counts_keyed-with_key.ensures ∙ key-top b n t.top in (
       if b then n ∷ [] else [],
       record {
         sound = c.requires.steady.sound;
         next = c.requires.steady.next;
-        fits =
-            grind (
-              arith,
-              nat_tests,
-              key-fits,
-              c.requires.steady.fits,
-              c.counts_of.ensures,
-              c.in-Some.is,
-              c.requires.key,
-              c.set_counts.ensures.here,
-              c.counts_keyed-with_key.ensures,
-              c.set_counts.ensures.others,
-              c.set_counts.ensures.refs,
-            );
+        fits = grind (arith, nat_tests, key-fits, c.requires.steady.fits, c.counts_of.ensures, c.in-Some.is, c.requires.key, e.here, c.counts_keyed-with_key.ensures, e.others, e.refs);
       },
       long-if b n [],
     )
-
-pub returns-clause-values : goal.returns-clause-values
-returns-clause-values c m =
-    grind (arith, nat_tests, none-falls-in, cases_eq, c.counts_of.ensures, c.in-Some.is, c.set_counts.ensures.here, c.counts_keyed-with_key.ensures, c.requires.steady, c.set_counts.ensures.others)

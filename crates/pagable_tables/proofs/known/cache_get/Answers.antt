@@ -1,4 +1,4 @@
-use Rattle.pagable_tables.proofs.{Words.{sym, subst, false, None, plain_of, Suits}, Recalled.{recalls, not-recalled}, keeps.CacheCalls.known-suits}
+use Rattle.pagable_tables.proofs.{Words.{sym, subst, false, None, plain_of, Suits}, Opened.{recalls, not-recalled}, keeps.CacheCalls.known-suits}
 use Rattle.pagable_tables.proofs.known.cache_get.Goals as goal
 
 pub make-requires-clause-suits : goal.make-requires-clause-suits

@@ -1,6 +1,6 @@
 use Rattle.pagable_tables.proofs.Words.{◌≡◌, ◌∙◌, ℕ, ap, sym, subst, refl, false, None, Ok, inl, inr, arith, NodeNumber, fits_mode, Owns, offer_fault, recall_fault, nat_tests, OfferCall, core_of}
-use Rattle.pagable_tables.proofs.{Words.{plain_of, Suits, option_map}, Offers.{offer-last, learned}, Worlds.same-cache, keeps.Placed.whole-so, keeps.Told.told-whole, Pins.no-fault, Recalled.recalls}
-use Rattle.pagable_tables.proofs.{Recalled.not-recalled, keeps.CacheCalls.{known-suits, offer-whole}}
+use Rattle.pagable_tables.proofs.{Words.{plain_of, Suits, option_map}, Opened.{offer-last, learned, recalls, not-recalled}, Worlds.same-cache, keeps.Placed.whole-so, keeps.Told.told-whole}
+use Rattle.pagable_tables.proofs.keeps.CacheCalls.{known-suits, offer-whole}
 use Rattle.pagable_tables.proofs.known.cache_put.Goals as goal
 
 pub make-requires-clause-suits : goal.make-requires-clause-suits
@@ -43,6 +43,3 @@ returns-in_default-learn-clause-whole c =
     let w = c.requires.whole in
     let same = λ (kind key : ℕ). ap (option_map (λ (n : NodeNumber). n.0)) (c.in_default-learn.ensures.err kind key) in
     whole-so w.steady (told-whole w.core refl (λ n. refl) refl (λ kind key n is. sym (same kind key) ∙ is) refl (λ l. refl) (λ v. refl) refl)
-
-pub returns-in_default-learn-clause-offered : goal.returns-in_default-learn-clause-offered
-returns-in_default-learn-clause-offered c stored failures = grind (arith, nat_tests, no-fault, offer-last, same-cache, c.in-Ok.ensures.owns, c.in-Ok.ensures.typed, c.in_default-learn.ensures.err)

@@ -1,17 +1,10 @@
-use Rattle.pagable_tables.proofs.Words.{◌∙◌, ap, refl, subst, false, inl, inr, arith, rules, Ok, None, not, is_unpinned, is_owner, Owner, only_handle, Falls, is_valued, plain_of, core_of, nat_tests}
-use Rattle.pagable_tables.proofs.{keeps.Comes.not-a-value, keeps.Comes.not-list, keeps.Fallen.may-fall, keeps.GoingOn.stays-on, keeps.ListCalls.schedule-whole, keeps.Opened.falls-opened}
-use Rattle.pagable_tables.proofs.{keeps.Placed.whole-so, keeps.Told.roomy-whole, keeps.Told.alike-whole, Begun.begun-whole, Begun.not-closed, Begun.shut-then, Begun.open-then, Listed.alike-listed}
-use Rattle.pagable_tables.proofs.{Pins.wrong-mode, Worlds.still, Worlds.owner-same, Shedding.sheds-still, Newer.later-so, Newer.schedule-newer}
+use Rattle.pagable_tables.proofs.Words.{◌∙◌, ap, refl, subst, false, inl, inr, arith, rules, Ok, None, not, is_unpinned, only_handle, Falls, is_valued, plain_of, core_of, nat_tests}
+use Rattle.pagable_tables.proofs.{keeps.Comes.not-a-value, keeps.Fallen.{may-fall, falls-opened}, keeps.Told.{stays-on, roomy-whole, alike-whole}, keeps.ListCalls.schedule-whole}
+use Rattle.pagable_tables.proofs.{keeps.Placed.whole-so, Begun.{begun-whole, not-closed, shut-then, open-then}, Named.alike-listed, Worlds.{still, owner-same}, Newer.{later-so, schedule-newer}}
 use Rattle.pagable_tables.proofs.listing.schedule_for_paging.Goals as goal
 
 pub returns-in-Err-clause-scheduled : goal.returns-in-Err-clause-scheduled
 returns-in-Err-clause-scheduled g c stored closed failures e = record { moves = tt; refused = record { why = inl (c.in-Err.ensures.fault stored closed failures is_unpinned); stays = still _ } }
-
-pub give_back-requires-clause-plain : goal.give_back-requires-clause-plain
-give_back-requires-clause-plain g c = ap is_valued (owner-same c.args.me c.in-Ok.at.row.owner c.in-Ok.ensures.owner) ∙ not-a-value (plain_of c.args.t.now) c.args.me c.requires.holder
-
-pub give_back-requires-clause-free : goal.give_back-requires-clause-free
-give_back-requires-clause-free g c = ap (is_owner Owner.List) (owner-same c.args.me c.in-Ok.at.row.owner c.in-Ok.ensures.owner) ∙ not-list (plain_of c.args.t.now) c.args.me c.requires.holder
 
 pub returns-then-not-lists-clause-scheduled : goal.returns-then-not-lists-clause-scheduled
 returns-then-not-lists-clause-scheduled g c stored closed failures e =
@@ -52,27 +45,10 @@ returns-in_default-clause-whole g c =
     let w = c.requires.whole.steady in
     whole-so (record { sound = w.sound; next = w.next; fits = w.fits }) (alike-whole c.requires.whole.core (alike-listed (plain_of c.args.t.now) _ refl c.make_place.ensures.items (record { handles = omega arith; entries = c.make_place.ensures.capacity }) refl))
 
-pub returns-clause-sheds : goal.returns-clause-sheds
-returns-clause-sheds g c = sheds-still c.args.t.now.holdings _ c.requires.whole.steady
-
 pub returns-then-not-lists-clause-later : goal.returns-then-not-lists-clause-later
 returns-then-not-lists-clause-later g c later =
-    let n = schedule-newer c.args.me c.args.handle (Ok tt) (returns-then-not-lists-clause-scheduled g c (λ key. None) (not c.args.lists) 0 (not-closed c.args.lists)) in
-    later-so later (record { last = n.last; owned = n.owned }) (λ l load is. is)
+    later-so later (schedule-newer c.args.me c.args.handle (Ok tt) (returns-then-not-lists-clause-scheduled g c (λ key. None) (not c.args.lists) 0 (not-closed c.args.lists))) (λ l load is. is)
 
 pub returns-clause-later : goal.returns-clause-later
 returns-clause-later g c later =
-    let n = schedule-newer c.args.me c.args.handle (Ok tt) (returns-clause-scheduled g c (λ key. None) (not c.args.lists) 0 (not-closed c.args.lists)) in
-    later-so later (record { last = n.last; owned = n.owned }) (λ l load is. is)
-
-pub returns-in-Err-clause-sheds : goal.returns-in-Err-clause-sheds
-returns-in-Err-clause-sheds g c = sheds-still c.args.t.now.holdings _ c.requires.whole.steady
-
-pub returns-then-not-is_unpinned-clause-sheds : goal.returns-then-not-is_unpinned-clause-sheds
-returns-then-not-is_unpinned-clause-sheds g c = sheds-still c.args.t.now.holdings _ c.requires.whole.steady
-
-pub returns-in_default-clause-sheds : goal.returns-in_default-clause-sheds
-returns-in_default-clause-sheds g c = sheds-still c.args.t.now.holdings _ c.requires.whole.steady
-
-pub returns-then-not-is_unpinned-clause-scheduled : goal.returns-then-not-is_unpinned-clause-scheduled
-returns-then-not-is_unpinned-clause-scheduled g c stored closed failures e = grind (arith, nat_tests, wrong-mode, still, c.in-Ok.ensures.found, c.in-Ok.ensures.owner)
+    later-so later (schedule-newer c.args.me c.args.handle (Ok tt) (returns-clause-scheduled g c (λ key. None) (not c.args.lists) 0 (not-closed c.args.lists))) (λ l load is. is)

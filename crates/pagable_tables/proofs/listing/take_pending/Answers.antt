@@ -1,5 +1,5 @@
 use Rattle.pagable_tables.proofs.{Words.{None, Some, false, ◌∙◌, ap, refl, arith, rules, slice_get_read, moved, only_handle, live, plain_of}, keeps.Comes.not-a-value, keeps.ListCalls.take-whole}
-use Rattle.pagable_tables.proofs.{keeps.Placed.whole-so, Listed.alike-listed, Owned.{entry-lives, entry-unvalued}, Newer.{later-so, take-pending-newer}}
+use Rattle.pagable_tables.proofs.{keeps.Placed.whole-so, Named.alike-listed, Coming.{entry-lives, entry-unvalued}, Newer.{later-so, take-pending-newer}}
 use Rattle.pagable_tables.proofs.listing.take_pending.Goals as goal
 
 pub unreachable-requires : goal.unreachable-requires
@@ -32,5 +32,4 @@ returns-clause-whole c =
 
 pub returns-clause-later : goal.returns-clause-later
 returns-clause-later c other later =
-    let n = take-pending-newer c.args.me c.args.place (Some c.remove-handle.result) other (returns-clause-taken c (λ key. None) false 0) in
-    later-so later (record { last = n.last; owned = n.owned }) (λ l load is. is)
+    later-so later (take-pending-newer _ _ c.args.me c.args.place (Some c.remove-handle.result) other (returns-clause-taken c (λ key. None) false 0)) (λ l load is. is)

@@ -1,13 +1,13 @@
 use Rattle.pagable_tables.proofs.Words.{◌≡◌, arith, ap, sym, ◌∙◌, subst, None, Some, inl, inr, false, rules, not, OptionalDataKey, HandleRow, Owner, Mode, if_there, is_loose, is_in_memory, nat_tests}
 use Rattle.pagable_tables.proofs.{Words.{is_here, Cell, Alike, of_cell, Owns, is_handle_here, with_handle, with_load, live, counts_at, cell_in, key_in, core_of}, Alive.row-le-live, Fitting.held-here}
-use Rattle.pagable_tables.proofs.{Worlds.{still, owner-same}, Opened.{handle-first, no-fault, no-begin-fault, here-told}, Pins.wrong-mode, keeps.LoadCalls.begin-whole, keeps.Placed.whole-so}
+use Rattle.pagable_tables.proofs.{Worlds.{still, owner-same}, Opened.{begin-first, no-fault, no-begin-fault, here-told}, keeps.LoadCalls.begin-whole, keeps.Placed.whole-so}
 use Rattle.pagable_tables.proofs.loading.load_begin.Goals as goal
 
 pub returns-in-Err-clause-begun : goal.returns-in-Err-clause-begun
 returns-in-Err-clause-begun c stored closed failures =
     let t = c.args.t.now in
     let w = core_of t stored closed failures in
-    record { begins = tt; refused = record { why = inl (handle-first w c.args.me c.args.handle is_loose c.in-Err.e (not (is_handle_here w c.args.handle)) t.last_load t.holdings.last_handle (c.in-Err.ensures.fault stored closed failures is_loose)); stays = still w } }
+    record { begins = tt; refused = record { why = inl (begin-first w c.args.me c.args.handle is_loose c.in-Err.e (not (is_handle_here w c.args.handle)) t.last_load t.holdings.last_handle (c.in-Err.ensures.fault stored closed failures is_loose)); stays = still w } }
 
 pub unreachable-requires : goal.unreachable-requires
 unreachable-requires c = grind (arith, nat_tests, row-le-live, held-here, c.requires.whole.steady.fits.holding, c.counts_of.ensures, c.in_default.is, c.in-Ok.ensures.place)
@@ -45,6 +45,3 @@ returns-in-Ok-open_cell-clause-whole c = whole-so c.open_cell.ensures.steady (be
 
 pub returns-in-Err-open_cell-clause-whole : goal.returns-in-Err-open_cell-clause-whole
 returns-in-Err-open_cell-clause-whole c = whole-so c.open_cell.ensures.steady (begin-whole c.args.me c.args.handle _ c.requires.whole.core c.requires.owner (returns-in-Err-open_cell-clause-begun c (λ key. None) false 0))
-
-pub returns-then-not-is_loose-clause-begun : goal.returns-then-not-is_loose-clause-begun
-returns-then-not-is_loose-clause-begun c stored closed failures = grind (arith, nat_tests, wrong-mode, handle-first, still, c.in-Ok.ensures.found, c.in-Ok.ensures.owner)

@@ -1,4 +1,4 @@
-use Rattle.pagable_tables.proofs.{Asked.recalls-asked, Asked.not-asked, Words.load_in}
+use Rattle.pagable_tables.proofs.{Words.load_in, Adoptions.{recalls-asked, not-asked}}
 use Rattle.pagable_tables.proofs.loading.load_known.Goals as goal
 
 pub returns-in-Err-clause-asked : goal.returns-in-Err-clause-asked

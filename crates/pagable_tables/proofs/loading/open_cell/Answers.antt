@@ -1,5 +1,5 @@
-use Rattle.pagable_tables.proofs.{Words.{◌+◌, ◌∙◌, refl, arith, None, false, load_at, Owner, Mode, core_of, plain_of, nat_tests}, Alive.row-le-live, Beginning.{load-comes, none-yet}}
-use Rattle.pagable_tables.proofs.{Coming.some-held, Fitting.held-here, Opened.{load-goes, only-memory}, Newer.{newer-alike, newer-handle, newer-then, later-so, later-opened, closed-still}}
+use Rattle.pagable_tables.proofs.{Words.{◌+◌, ◌∙◌, refl, arith, None, false, load_at, Owner, Mode, core_of, plain_of, nat_tests}, Alive.row-le-live, Opened.{load-comes, none-yet, load-goes}}
+use Rattle.pagable_tables.proofs.{Opened.only-memory, Coming.some-held, Fitting.held-here, Newer.{newer-alike, newer-handle, newer-then, later-so, later-opened, closed-still}}
 use Rattle.pagable_tables.proofs.loading.open_cell.Goals as goal
 
 pub come-requires-clause-live : goal.come-requires-clause-live
@@ -26,8 +26,7 @@ returns-in-Ok-come-clause-later c =
     let t = c.args.t.now in
     let l = t.last_load + 1 in
     let w = plain_of t in
-    let a = newer-alike (returns-in-Ok-come-clause-opened c (λ key. None) false 0) in
-    let n = newer-then (newer-handle w c.args.at.row.node Mode.LooseUnpinned (Owner.Load (record { 0 = l }))) (record { last = a.last; owned = a.owned }) in
+    let n = newer-then (newer-handle w c.args.at.row.node Mode.LooseUnpinned (Owner.Load (record { 0 = l }))) (newer-alike (returns-in-Ok-come-clause-opened c (λ key. None) false 0)) in
     later-opened c.requires.whole.core c.requires.later n l _ (none-yet (load_at t.loads l) t.last_load (λ some. (c.requires.whole.core.loads.numbered l some).1)) c.in-Ok.ensures.here refl c.in-Ok.ensures.others
 
 pub returns-in-Err-clause-later : goal.returns-in-Err-clause-later

@@ -1,4 +1,4 @@
-use Rattle.pagable_tables.proofs.{Words.{arith, slice_get-get_or, nat_tests}, Alive.row-le-live, Fitting.held-here, Owned.entry-lives}
+use Rattle.pagable_tables.proofs.{Words.{arith, slice_get-get_or, nat_tests}, Alive.row-le-live, Fitting.held-here, Coming.entry-lives}
 use Rattle.pagable_tables.proofs.lookups.entry.Goals as goal
 
 pub unreachable-requires : goal.unreachable-requires

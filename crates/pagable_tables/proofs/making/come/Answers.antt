@@ -1,23 +1,12 @@
-use Rattle.pagable_tables.proofs.Words.{Bool, true, subst, inl, inr, ◌+◌, ◌≡◌, ◌∷◌, [], ◌++◌, arith, refl, ap, sym, ◌∙◌, Some, rules, one, is_pinning, HandleRow, live, counts_at, refs_at}
-use Rattle.pagable_tables.proofs.Words.{falls_in, has_value, ValueStays, Counts, cases_eq, nat_tests}
-use Rattle.pagable_tables.proofs.{Alive.length-live-le, Fitting.pins-le-held, Coming.come-fits, Coming.come-cells, Coming.rows-told, Coming.held-few, Worlds.alike}
+use Rattle.pagable_tables.proofs.Words.{Bool, true, subst, inl, inr, ◌+◌, ◌≡◌, ◌∷◌, [], ◌++◌, arith, refl, ap, sym, ◌∙◌, Some, rules, one, is_pinning, HandleRow, live, counts_at, refs_at, falls_in}
+use Rattle.pagable_tables.proofs.{Words.{has_value, ValueStays, Counts, cases_eq, nat_tests}, Alive.length-live-le, Fitting.pins-le-held, Coming.{come-fits, come-cells, rows-told, held-few}}
+use Rattle.pagable_tables.proofs.Worlds.{alike}
 use Rattle.pagable_tables.proofs.making.come.Goals as goal
 
 pub counts_more-more-requires-clause-pins : goal.counts_more-more-requires-clause-pins
 counts_more-more-requires-clause-pins c =
-    grind (
-      arith,
-      nat_tests,
-      live,
-      pins-le-held,
-      held-few,
-      length-live-le,
-      c.counts_of.ensures,
-      c.in-Some.is,
-      c.requires.steady.fits.pinned,
-      c.places_taken.ensures.count,
-      c.places_taken.ensures.small,
-    )
+    let p = c.places_taken.ensures in
+    grind (arith, nat_tests, live, pins-le-held, held-few, length-live-le, c.counts_of.ensures, c.in-Some.is, c.requires.steady.fits.pinned, p.count, p.small)
 
 pub counts_more-more-requires-clause-holds : goal.counts_more-more-requires-clause-holds
 counts_more-more-requires-clause-holds c =

@@ -1,5 +1,5 @@
-use Rattle.pagable_tables.proofs.Words.{arith, counts_at, core_of, plain_of}
-use Rattle.pagable_tables.proofs.{Coming.some-held, Newer.makes-newer, Newer.later-so, keeps.Comes.not-a-value, keeps.Comes.suits-held, keeps.HandleCalls.makes-whole, keeps.Placed.whole-so}
+use Rattle.pagable_tables.proofs.{Words.{arith, counts_at, core_of, plain_of}, Coming.some-held, Newer.{makes-newer, later-so}, keeps.Comes.suits-held, keeps.HandleCalls.makes-whole}
+use Rattle.pagable_tables.proofs.keeps.Placed.{whole-so}
 use Rattle.pagable_tables.proofs.making.make.Goals as goal
 
 pub come-requires-clause-live : goal.come-requires-clause-live
@@ -9,9 +9,6 @@ come-requires-clause-live c =
     let d = c.requires.whole.steady.fits.holding n in
     let e = suits-held c.requires.whole.core c.args.node c.args.mode c.requires.suits in
     some-held (counts_at t.holdings.nodes n) (omega arith)
-
-pub come-requires-clause-owner : goal.come-requires-clause-owner
-come-requires-clause-owner c = not-a-value (plain_of c.args.t.now) c.args.owner c.requires.holder
 
 pub returns-clause-made : goal.returns-clause-made
 returns-clause-made c stored closed failures = c.come.ensures.made (core_of c.args.t.now stored closed failures)

@@ -1,4 +1,4 @@
-use Rattle.pagable_tables.proofs.{Named.moved-none, Words.sym, Words.live}
+use Rattle.pagable_tables.proofs.{Words.{sym, live}, Named.moved-none}
 use Rattle.pagable_tables.proofs.moving.hand_over_live.Goals as goal
 
 pub returns-in-None-clause-rows : goal.returns-in-None-clause-rows

@@ -1,6 +1,5 @@
 use Rattle.pagable_tables.proofs.Words.{◌≡◌, ◌∙◌, ap, subst, false, true, inl, inr, arith, rules, sym, None, is_loose, if_there, Alike, is_here, with_handle, with_mode, is_handle_here, nat_tests}
-use Rattle.pagable_tables.proofs.Words.{pin_fault, spent, Owns, HandleRow, Mode, Tables, core_of, load_at}
-use Rattle.pagable_tables.proofs.{Pins.handle-first, Pins.spent-late, Pins.wrong-mode, Worlds.still, Worlds.owner-same, Newer.pin-newer, Newer.later-so}
+use Rattle.pagable_tables.proofs.{Words.{pin_fault, spent, Owns, HandleRow, Mode, Tables, core_of, load_at}, Opened.{handle-first, spent-late}, Worlds.{still, owner-same}, Newer.{pin-newer, later-so}}
 use Rattle.pagable_tables.proofs.pinning.pin.Goals as goal
 
 pub returns-in-Err-clause-pinned : goal.returns-in-Err-clause-pinned
@@ -38,6 +37,3 @@ returns-in-Ok-pin_here-clause-later c later =
 pub returns-in-Err-pin_here-clause-later : goal.returns-in-Err-pin_here-clause-later
 returns-in-Err-pin_here-clause-later c later =
     later-so later (pin-newer c.args.me c.args.handle _ (returns-in-Err-pin_here-clause-pinned c (λ key. None) false 0)) (λ l load is. sym (ap (λ (u : Tables). load_at u.loads l) c.in-Err-pin_here.ensures.same) ∙ is)
-
-pub returns-then-not-is_loose-clause-pinned : goal.returns-then-not-is_loose-clause-pinned
-returns-then-not-is_loose-clause-pinned c stored closed failures = grind (arith, nat_tests, wrong-mode, handle-first, spent-late, still, c.in-Ok.ensures.found, c.in-Ok.ensures.owner)

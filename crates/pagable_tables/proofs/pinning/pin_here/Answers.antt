@@ -1,5 +1,5 @@
 use Rattle.pagable_tables.proofs.Words.{◌≡◌, ◌∙◌, ℕ, ap, subst, false, Some, None, is_owner, is_shared, is_owned_by, Alike, with_mode, HandleRow, Owner, Mode, Tables, core_of, plain_of, arith}
-use Rattle.pagable_tables.proofs.{Words.nat_tests, Pins.{pinned-alike, found-again}, keeps.Comes.not-list, keeps.HandleCalls.loose-unshared, keeps.Rows.found-among}
+use Rattle.pagable_tables.proofs.{Words.nat_tests, Stays.{pinned-alike, found-again}, keeps.Comes.not-list, keeps.HandleCalls.loose-unshared, keeps.Rows.found-among}
 use Rattle.pagable_tables.proofs.pinning.pin_here.Goals as goal
 
 pub make-requires-clause-suits : goal.make-requires-clause-suits
@@ -41,6 +41,3 @@ returns-clause-pinned c stored closed failures =
     let numbered = c.requires.whole.core.handles.numbered row (found-among row.number.0 w.rows row c.requires.owns.live).0 in
     let same = λ (kind key : ℕ). ap (λ (u : Tables). cache u kind key) c.turn.ensures.same ∙ ap (λ (u : Tables). cache u kind key) c.in-Ok.ensures.same in
     record { pinned = (record { above = m.made.0.above; is_left = m.made.0.is_left }, pinned-alike w u w' row.number row.node c.args.me numbered.1 same m.made.1 turned); refused = tt }
-
-pub returns-clause-same : goal.returns-clause-same
-returns-clause-same c = c.turn.ensures.same ∙ ap (λ (u : Tables). record u { holdings = c.turn.new.t.holdings }) c.in-Ok.ensures.same

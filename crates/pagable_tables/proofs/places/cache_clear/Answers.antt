@@ -6,6 +6,3 @@ returns-clause-cleared c stored closed failures = grind (arith, nat_tests, same-
 
 pub returns-clause-whole : goal.returns-clause-whole
 returns-clause-whole c = whole-so c.requires.steady (clear-whole (Ok tt) c.requires.core (returns-clause-cleared c (λ key. None) false 0))
-
-pub returns-clause-later : goal.returns-clause-later
-returns-clause-later c later = record { given = later.given; since = later.since }

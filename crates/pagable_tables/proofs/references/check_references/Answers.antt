@@ -1,5 +1,5 @@
-use Rattle.pagable_tables.proofs.Words.{ℕ, Bool, Option, get_or, sym, ◌∙◌, refl, arith, [], ◌∷◌, ArcRef, Blob, core_of, nat_tests}
-use Rattle.pagable_tables.proofs.Named.{seen-more, seen-none, named-none, above-named, fault-some, fault-none, fault-end}
+use Rattle.pagable_tables.proofs.{Words.{ℕ, Bool, Option, get_or, sym, ◌∙◌, refl, arith, [], ◌∷◌, ArcRef, Blob, core_of, nat_tests}, Named.{seen-more, seen-none, named-none, above-named, fault-some}}
+use Rattle.pagable_tables.proofs.Named.{fault-none, fault-end}
 use Rattle.pagable_tables.proofs.references.check_references.Goals as goal
 
 abbrev blank : ArcRef

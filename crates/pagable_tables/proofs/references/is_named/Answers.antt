@@ -1,4 +1,4 @@
-use Rattle.pagable_tables.proofs.{Named.named-here, Named.named-past, Named.named-end, Words.sym, Words.◌∙◌, Words.arith}
+use Rattle.pagable_tables.proofs.{Words.{sym, ◌∙◌, arith}, Named.{named-here, named-past, named-end}}
 use Rattle.pagable_tables.proofs.references.is_named.Goals as goal
 
 pub returns-then-reference-handle : goal.returns-then-reference-handle

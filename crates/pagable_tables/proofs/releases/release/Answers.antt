@@ -1,16 +1,10 @@
-use Rattle.pagable_tables.proofs.{Words.{not, None, refl, subst, arith, inl, inr, any_mode, Falls, only_handle, core_of}, Begun.{begun-whole, not-closed}, keeps.FallCalls.release-whole}
-use Rattle.pagable_tables.proofs.{keeps.Placed.whole-so, Worlds.{still, owner-same}, Shedding.sheds-still, Newer.{release-newer, later-so}}
+use Rattle.pagable_tables.proofs.{Words.{not, None, refl, subst, arith, inl, inr, any_mode, Falls, only_handle, core_of}, Begun.{begun-whole, not-closed}, keeps.ListCalls.release-whole}
+use Rattle.pagable_tables.proofs.{keeps.Placed.whole-so, Worlds.{still, owner-same}, Newer.{release-newer, later-so}}
 use Rattle.pagable_tables.proofs.releases.release.Goals as goal
 
 pub returns-in-Err-clause-released : goal.returns-in-Err-clause-released
-returns-in-Err-clause-released g c stored closed failures e = record {
-  does = inl (record {
-    e = c.in-Err.e;
-    why = c.in-Err.ensures.fault stored closed failures any_mode;
-    told = refl;
-    stays = still _;
-  });
-}
+returns-in-Err-clause-released g c stored closed failures e =
+    record { does = inl (record { e = c.in-Err.e; why = c.in-Err.ensures.fault stored closed failures any_mode; told = refl; stays = still _ }) }
 
 pub returns-clause-released : goal.returns-clause-released
 returns-clause-released g c stored closed failures e =
@@ -30,10 +24,6 @@ returns-clause-whole g c =
     whole-so c.give_back.ensures.steady (release-whole c.args.me c.args.handle c.give_back.result c.requires.whole.core
     (returns-clause-released g c (λ key. None) (not c.args.lists) 0 (not-closed c.args.lists)))
 
-pub returns-in-Err-clause-sheds : goal.returns-in-Err-clause-sheds
-returns-in-Err-clause-sheds g c = sheds-still c.args.t.now.holdings _ c.requires.whole.steady
-
 pub returns-clause-later : goal.returns-clause-later
 returns-clause-later g c later =
-    let n = release-newer c.args.me c.args.handle c.give_back.result (returns-clause-released g c (λ key. None) (not c.args.lists) 0 (not-closed c.args.lists)) in
-    later-so later (record { last = n.last; owned = n.owned }) (λ l load is. is)
+    later-so later (release-newer c.args.me c.args.handle c.give_back.result (returns-clause-released g c (λ key. None) (not c.args.lists) 0 (not-closed c.args.lists))) (λ l load is. is)

@@ -1,4 +1,4 @@
-use Rattle.pagable_tables.proofs.{Nothing.nothing-whole, Words.refl}
+use Rattle.pagable_tables.proofs.{Words.refl, Nothing.nothing-whole}
 use Rattle.pagable_tables.proofs.start.new.Goals as goal
 
 pub returns-clause-whole : goal.returns-clause-whole

@@ -1,6 +1,6 @@
-use Rattle.pagable_tables.proofs.Words.{not, ◌≡◌, ◌+◌, ◌∙◌, false, None, Ok, Err, Some, inr, refl, ap, sym, subst, arith, IfSome, length, nat_tests, mode_of, OfferCall, with_known, Falls}
-use Rattle.pagable_tables.proofs.{Words.{only_handle, Tables, core_of, plain_of, Offered, load_at}, Begun.{open-then, not-closed}, Pins.found-again, Shedding.{stays-first, sheds-still}}
-use Rattle.pagable_tables.proofs.{Swapped.{begun-made, swapped, values-made, values-still}, Worlds.still, keeps.CacheCalls.offer-whole, keeps.Comes.{not-a-value, not-list}, keeps.Placed.whole-so}
+use Rattle.pagable_tables.proofs.Words.{not, ◌≡◌, ◌+◌, ◌∙◌, false, None, Ok, Err, Some, inr, refl, ap, sym, subst, arith, IfSome, length, nat_tests, mode_of, OfferCall, with_known, Falls, only_handle}
+use Rattle.pagable_tables.proofs.{Words.{Tables, core_of, plain_of, Offered, load_at, AllPairs, IsHandleBefore, true}, Begun.{open-then, not-closed}, Stays.{found-again, begun-made, swapped}}
+use Rattle.pagable_tables.proofs.{Stays.{values-made, values-still}, Ended.{stays-first, sheds-still}, keeps.CacheCalls.offer-whole, keeps.Comes.{not-a-value, not-list}, keeps.Placed.whole-so}
 use Rattle.pagable_tables.proofs.{keeps.Rows.found-among, Newer.{later-so, offer-newer}}
 use Rattle.pagable_tables.proofs.swapping.offer.Goals as goal
 
@@ -18,12 +18,12 @@ returns-in-Ok-Some-clause-offered g c stored closed failures e =
     let t1 = c.cache_put.new.t in
     let w = core_of t stored false failures in
     let u = with_known w c.args.kind n c.args.me in
-    let numbered = c.requires.whole.core.handles.numbered in
-    let made = begun-made t t1 stored failures (record { 0 = n }) (mode_of c.args.kind.0) c.args.me c.cache_put.ensures.whole alike in
+    let made = begun-made t t1 stored false failures (record { 0 = n }) (mode_of c.args.kind.0) c.args.me c.cache_put.ensures.whole alike true refl in
     let fell = c.give_number.ensures.falls u u made (let a = ap length alike.rows in omega arith) in
     let given = found-among c.args.handle.0 w.rows row owns.live in
-    let spared : only_handle c.args.handle (w.last.handle + 1) ≡ false = let a = (numbered row given.0).1 in let b = given.1 in grind (arith, nat_tests) in
-    let falls = swapped w (record { 0 = n }) (mode_of c.args.kind.0) c.args.me (λ h among. (numbered h among).1) (not-a-value (plain_of t) c.args.me c.requires.holder) fell.falls spared in
+    let spared : only_handle c.args.handle (w.last.handle + 1) ≡ false = let a = (c.requires.whole.core.handles.numbered row given.0).1 in let b = given.1 in grind (arith, nat_tests) in
+    let falls = swapped w (record { 0 = n }) (mode_of c.args.kind.0) c.args.me (subst (AllPairs IsHandleBefore) alike.rows c.cache_put.ensures.whole.core.handles.ordered)
+    (not-a-value (plain_of t) c.args.me c.requires.holder) fell.falls spared in
     let anew : Falls w u (only_handle c.args.handle) fell.told (core_of (record t1 { holdings = c.give_number.new.t }) stored false failures) =
     subst (λ (z : Tables). Falls w u (only_handle c.args.handle) fell.told (core_of (record z { holdings = c.give_number.new.t }) stored false failures)) (sym (subst (λ f. IfSome f (λ k. t1 ≡ record t { holdings = t1.holdings })) c.in-Ok-Some.field-0-is c.in-Ok-Some.ensures.known)) falls in
     subst (λ b. OfferCall (core_of t stored b failures) c.args.me c.args.kind c.args.key c.args.handle (Ok (Some c.in-Ok-Some.known)) (core_of (record t1 { holdings = c.give_number.new.t }) stored b failures))
@@ -37,7 +37,8 @@ returns-in-Ok-Some-clause-whole g c =
 pub returns-in-Ok-Some-clause-sheds : goal.returns-in-Ok-Some-clause-sheds
 returns-in-Ok-Some-clause-sheds g c there =
     let (row, owns, typed, (n, known, next, alike)) = (subst (λ f. Offered (core_of c.args.t.now (λ key. None) false 0) c.args.me c.args.kind c.args.key c.args.handle (Ok f) (core_of c.cache_put.new.t (λ key. None) false 0)) c.in-Ok-Some.field-0-is (c.in-Ok-Some.ensures.offered (λ key. None) 0)).answers in
-    stays-first (values-made c.args.t.now c.cache_put.new.t (λ key. None) 0 (record { 0 = n }) (mode_of c.args.kind.0) c.args.me c.cache_put.ensures.whole alike c.requires.whole (there n known)) c.give_number.ensures.sheds
+    stays-first (values-made c.args.t.now c.cache_put.new.t (λ key. None) false 0 (record { 0 = n })
+    (mode_of c.args.kind.0) c.args.me c.cache_put.ensures.whole alike c.requires.whole (there n known)) c.give_number.ensures.sheds
 
 pub returns-in-Ok-None-clause-offered : goal.returns-in-Ok-None-clause-offered
 returns-in-Ok-None-clause-offered g c stored closed failures e =
@@ -57,28 +58,15 @@ returns-in-Err-cache_put-clause-offered g c stored closed failures e =
 
 pub returns-in-Ok-Some-clause-later : goal.returns-in-Ok-Some-clause-later
 returns-in-Ok-Some-clause-later g c later =
-    let n = offer-newer c.args.me c.args.kind c.args.key c.args.handle _ (returns-in-Ok-Some-clause-offered g c (λ key. None) (not c.args.lists) 0 (not-closed c.args.lists)) in
-    later-so later (record { last = n.last; owned = n.owned }) (λ l load is. sym (ap (λ m. load_at m l) c.cache_put.ensures.loads) ∙ is)
+    later-so later (offer-newer c.args.me c.args.kind c.args.key c.args.handle _ (returns-in-Ok-Some-clause-offered g c (λ key. None) (not c.args.lists) 0 (not-closed c.args.lists)))
+    (λ l load is. sym (ap (λ m. load_at m l) c.cache_put.ensures.loads) ∙ is)
 
 pub returns-in-Ok-None-clause-later : goal.returns-in-Ok-None-clause-later
 returns-in-Ok-None-clause-later g c later =
-    let n = offer-newer c.args.me c.args.kind c.args.key c.args.handle _ (returns-in-Ok-None-clause-offered g c (λ key. None) (not c.args.lists) 0 (not-closed c.args.lists)) in
-    later-so later (record { last = n.last; owned = n.owned }) (λ l load is. sym (ap (λ m. load_at m l) c.cache_put.ensures.loads) ∙ is)
+    later-so later (offer-newer c.args.me c.args.kind c.args.key c.args.handle _ (returns-in-Ok-None-clause-offered g c (λ key. None) (not c.args.lists) 0 (not-closed c.args.lists)))
+    (λ l load is. sym (ap (λ m. load_at m l) c.cache_put.ensures.loads) ∙ is)
 
 pub returns-in-Err-cache_put-clause-later : goal.returns-in-Err-cache_put-clause-later
 returns-in-Err-cache_put-clause-later g c later =
-    let n = offer-newer c.args.me c.args.kind c.args.key c.args.handle _ (returns-in-Err-cache_put-clause-offered g c (λ key. None) (not c.args.lists) 0 (not-closed c.args.lists)) in
-    later-so later (record { last = n.last; owned = n.owned }) (λ l load is. sym (ap (λ m. load_at m l) c.cache_put.ensures.loads) ∙ is)
-
-pub returns-in-Err-cache_put-clause-sheds : goal.returns-in-Err-cache_put-clause-sheds
-returns-in-Err-cache_put-clause-sheds g c there =
-    grind (arith, nat_tests, stays-first, values-still, sheds-still, c.in-Err-cache_put.ensures.offered, c.requires.whole, c.cache_put.ensures.whole, c.cache_put.ensures.whole.steady)
-
-pub returns-in-Err-clause-sheds : goal.returns-in-Err-clause-sheds
-returns-in-Err-clause-sheds g c there = sheds-still c.args.t.now.holdings _ c.requires.whole.steady
-
-pub returns-in-Ok-clause-sheds : goal.returns-in-Ok-clause-sheds
-returns-in-Ok-clause-sheds g c there = sheds-still c.args.t.now.holdings _ c.requires.whole.steady
-
-pub returns-in-Err-clause-offered : goal.returns-in-Err-clause-offered
-returns-in-Err-clause-offered g c stored closed failures e = grind (arith, nat_tests, still, c.in-Err.ensures.fault)
+    later-so later (offer-newer c.args.me c.args.kind c.args.key c.args.handle _ (returns-in-Err-cache_put-clause-offered g c (λ key. None) (not c.args.lists) 0 (not-closed c.args.lists)))
+    (λ l load is. sym (ap (λ m. load_at m l) c.cache_put.ensures.loads) ∙ is)

@@ -1,5 +1,5 @@
-use Rattle.pagable_tables.proofs.Words.{ap, subst, rules, sym, None, false, ◌∙◌, is_pinned, is_shared, Alike, with_mode, Mode, core_of, Tables, load_at}
-use Rattle.pagable_tables.proofs.{Worlds.still, Worlds.owner-same, keeps.HandleCalls.is-pinned, keeps.HandleCalls.pinned-unlisted, Newer.loosen-newer, Newer.later-so}
+use Rattle.pagable_tables.proofs.{Words.{ap, subst, rules, sym, None, false, ◌∙◌, is_pinned, Alike, with_mode, Mode, core_of, Tables, load_at}, Worlds.{still, owner-same}}
+use Rattle.pagable_tables.proofs.{keeps.HandleCalls.pinned-unlisted, Newer.{loosen-newer, later-so}}
 use Rattle.pagable_tables.proofs.turning.into_pagable.Goals as goal
 
 pub returns-in-Err-clause-loosened : goal.returns-in-Err-clause-loosened
@@ -18,9 +18,6 @@ returns-clause-loosened c stored closed failures =
       );
       refused = tt;
     }
-
-pub turn-requires-clause-unshared : goal.turn-requires-clause-unshared
-turn-requires-clause-unshared c = ap is_shared (is-pinned c.in-Ok.at.row.mode (search rules))
 
 pub turn-requires-clause-unlisted : goal.turn-requires-clause-unlisted
 turn-requires-clause-unlisted c = pinned-unlisted c.args.handle c.in-Ok.at.row c.requires.core c.in-Ok.ensures.found (search rules)

@@ -1,6 +1,6 @@
-use Rattle.pagable_tables.proofs.Words.{◌+◌, ◌≡◌, arith, refl, ap, sym, ◌∙◌, Some, None, false, not, one, is_pinning, live, counts_at, refs_at, nat_tests}
-use Rattle.pagable_tables.proofs.{Alive.length-live-le, Alive.changed-known, Alive.row-le-live, Alive.row-live, Fitting.pins-le-held, Fitting.held-here, Coming.turn-fits}
-use Rattle.pagable_tables.proofs.{Coming.turn-cells, Coming.turned, Coming.held-few, Worlds.alike, keeps.Told.settles, keeps.Placed.whole-so, keeps.HandleCalls.pins-whole}
+use Rattle.pagable_tables.proofs.{Words.{◌+◌, ◌≡◌, arith, refl, ap, sym, ◌∙◌, Some, None, false, not, one, is_pinning, live, counts_at, refs_at, nat_tests}, Alive.{length-live-le, changed-known}}
+use Rattle.pagable_tables.proofs.{Alive.{row-le-live, row-live}, Fitting.{pins-le-held, held-here}, Coming.{turn-fits, turn-cells, turned, held-few}, Worlds.alike, keeps.Told.settles}
+use Rattle.pagable_tables.proofs.{keeps.Placed.whole-so, keeps.HandleCalls.pins-whole}
 use Rattle.pagable_tables.proofs.turning.turn.Goals as goal
 
 pub unreachable-requires : goal.unreachable-requires
@@ -8,18 +8,8 @@ unreachable-requires c = grind (arith, nat_tests, row-le-live, held-here, c.requ
 
 pub counts_pinned-pinned-requires : goal.counts_pinned-pinned-requires
 counts_pinned-pinned-requires c =
-    grind (
-      arith,
-      nat_tests,
-      pins-le-held,
-      held-few,
-      length-live-le,
-      c.counts_of.ensures,
-      c.in-Some.is,
-      c.requires.whole.steady.fits.pinned,
-      c.places_taken.ensures.count,
-      c.places_taken.ensures.small,
-    )
+    let p = c.places_taken.ensures in
+    grind (arith, nat_tests, pins-le-held, held-few, length-live-le, c.counts_of.ensures, c.in-Some.is, c.requires.whole.steady.fits.pinned, p.count, p.small)
 
 pub returns-clause-turned : goal.returns-clause-turned
 returns-clause-turned c stored closed failures =
@@ -30,7 +20,7 @@ returns-clause-turned c stored closed failures =
     let made : c.counts_pinned-pinned.result ≡ record y { pins = y.pins + one (not (is_pinning x.mode)) } =
     c.counts_pinned-pinned.ensures ∙ ap (λ p. record y { pins = y.pins + one (not p) }) c.pins.ensures in
     let e = c.set_counts.ensures in
-    alike _ _ (c.set.ensures.rows ∙ changed-known turned t.handles.places.items c.args.at.place x c.requires.whole.steady.sound.ordered c.requires.place)
+    alike _ _ (c.set.ensures.rows ∙ changed-known t.handles.places.items c.args.at.place x c.requires.whole.steady.sound.ordered c.requires.place turned)
     (turn-cells (counts_at t.nodes) (counts_at c.set_counts.new.nodes) (refs_at t.nodes) (refs_at c.set_counts.new.nodes) (live t.handles.places.items)
     (live c.set.new.handles.places.items) t.top x y c.requires.whole.steady.fits is c.set.ensures.sums (e.here ∙ ap Some made) e.others e.refs)
     (record { handles = omega arith; entries = omega arith }) refl

@@ -1,7 +1,7 @@
 use Rattle.pagable_tables.proofs.Words.{◌≡◌, ℕ, Bool, ◌+◌, ◌-◌, ◌≤◌, true, false, if◌then◌else◌, [], ◌∷◌, sum_by, refl, ap, sym, ◌∙◌, subst, arith, Some, ◌≢◌, cases_eq, nat_tests, HandleRow, one}
-use Rattle.pagable_tables.proofs.Words.{is_pinning, Counts, live, counts_at, refs_at, Fits, pins_in, after, is_fallen_by, owns_nothing, entry, ValueStays, MayList, unpinned}
-use Rattle.pagable_tables.proofs.{Alive.length-live-le, Alive.changed-known, Alive.row-le-live, Coming.held-few, Fitting.new-top, Fitting.long-if, Fitting.pin_of, Fitting.pin-here}
-use Rattle.pagable_tables.proofs.{Fitting.held-here, Leaving.with-entry, Lowered.lower-fits, Lowered.lower-cells, Lowered.keyed-then}
+use Rattle.pagable_tables.proofs.{Words.{is_pinning, Counts, live, counts_at, refs_at, Fits, pins_in, after, is_fallen_by, owns_nothing, entry, ValueStays, MayList, unpinned}, Alive.length-live-le}
+use Rattle.pagable_tables.proofs.{Alive.{changed-known, row-le-live}, Coming.held-few, Fitting.{new-top, long-if, pin_of, pin-here, held-here}, Left.with-entry, Unpinning.{lower-fits, lower-cells}}
+use Rattle.pagable_tables.proofs.Unpinning.{keyed-then}
 use Rattle.pagable_tables.proofs.unpins.lower.Goals as goal
 
 -- no value goes at once
@@ -55,7 +55,7 @@ returns c =
       is = is;
       listed = listed;
       lowered = record old { handles = c.set.new.handles };
-      rows = c.set.ensures.rows ∙ changed-known unpinned old.handles.places.items c.args.at.place x w.sound.ordered c.requires.place;
+      rows = c.set.ensures.rows ∙ changed-known old.handles.places.items c.args.at.place x w.sound.ordered c.requires.place unpinned;
       sums = c.set.ensures.sums;
       places = record { handles = omega arith; entries = omega arith };
       handles = refl;

@@ -1,4 +1,4 @@
-use Rattle.pagable_tables.proofs.{LeftWork.worker-leaves, Words.◌≡◌, Words.◌==◌, Words.◌∙◌, Words.ap, Words.filter, Words.not, Words.rules, Words.is_in}
+use Rattle.pagable_tables.proofs.{Words.{◌≡◌, ◌==◌, ◌∙◌, ap, filter, not, rules, is_in}, Taken.worker-leaves}
 use Rattle.std.proofs.lemmas.Fn.{filter_same}
 use Rattle.pagable_tables.proofs.workers.leave.Goals as goal
 

@@ -1,5 +1,5 @@
-use Rattle.pagable_tables.proofs.{Words.{not, refl, None, arith, core_of, plain_of, gives_row, Giving}, Begun.{begun-whole, not-closed}, Dropped.passes-given, Newer.{newer-falls, later-so}}
-use Rattle.pagable_tables.proofs.{keeps.Fallen.may-fall, keeps.GoingOn.stays-on, keeps.Opened.falls-opened, keeps.Placed.whole-so, keeps.Told.roomy-whole}
+use Rattle.pagable_tables.proofs.{Words.{not, refl, None, arith, core_of, plain_of, gives_row, Giving}, Begun.{begun-whole, not-closed}, Taken.passes-given, Newer.{newer-falls, later-so}}
+use Rattle.pagable_tables.proofs.{keeps.Fallen.{may-fall, falls-opened}, keeps.Told.{stays-on, roomy-whole}, keeps.Placed.whole-so}
 use Rattle.pagable_world.specs.Workers.{is_workers_at}
 use Rattle.pagable_tables.proofs.workers.release_node.Goals as goal
 
@@ -22,5 +22,4 @@ returns-clause-whole g c =
 
 pub returns-clause-later : goal.returns-clause-later
 returns-clause-later g c later =
-    let n = newer-falls (returns-clause-released g c (λ key. None) (not c.args.lists) 0 (not-closed c.args.lists)).falls in
-    later-so later (record { last = n.last; owned = n.owned }) (λ l load is. is)
+    later-so later (newer-falls (returns-clause-released g c (λ key. None) (not c.args.lists) 0 (not-closed c.args.lists)).falls) (λ l load is. is)

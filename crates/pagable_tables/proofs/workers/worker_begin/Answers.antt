@@ -1,5 +1,5 @@
-use Rattle.pagable_tables.proofs.Words.{◌+◌, arith, rules, None, false, nat_tests}
-use Rattle.pagable_tables.proofs.{Worlds.same-cache, LeftWork.worker-comes, keeps.Told.settles, keeps.Told.alike-whole, keeps.Told.roomy-whole, keeps.WorkerCalls.worker-whole, keeps.Placed.whole-so}
+use Rattle.pagable_tables.proofs.{Words.{◌+◌, arith, rules, None, false, nat_tests}, Worlds.same-cache, Taken.worker-comes, keeps.Told.{settles, alike-whole, roomy-whole}}
+use Rattle.pagable_tables.proofs.{keeps.WorkerCalls.worker-whole, keeps.Placed.whole-so}
 use Rattle.pagable_tables.proofs.workers.worker_begin.Goals as goal
 
 pub returns-clause-begun : goal.returns-clause-begun

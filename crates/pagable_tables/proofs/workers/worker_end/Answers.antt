@@ -1,6 +1,6 @@
 use Rattle.pagable_tables.proofs.Words.{◌∙◌, ap, sym, not, refl, None, arith, option_map, without_worker, is_workers, load_at, core_of, plain_of, load_in, with_tables, gives_row, Giving}
-use Rattle.pagable_tables.proofs.{Begun.not-closed, Dropped.begun-less, Dropped.passes-given, Dropped.loads-anew, Dropped.workers-anew, LeftWork.load-leaves, LeftWork.left-was}
-use Rattle.pagable_tables.proofs.{Newer.newer-falls, Newer.later-so, keeps.Placed.whole-so, keeps.WorkerCalls.worker-end-whole}
+use Rattle.pagable_tables.proofs.{Begun.not-closed, Taken.{begun-less, passes-given, loads-anew, workers-anew, load-leaves, left-was}, Newer.{newer-falls, later-so}, keeps.Placed.whole-so}
+use Rattle.pagable_tables.proofs.keeps.WorkerCalls.{worker-end-whole}
 use Rattle.pagable_tables.proofs.workers.worker_end.Goals as goal
 
 pub returns-clause-ended : goal.returns-clause-ended
@@ -22,5 +22,5 @@ returns-clause-whole g c = whole-so c.give_all.ensures.steady (worker-end-whole 
 
 pub returns-clause-later : goal.returns-clause-later
 returns-clause-later g c later =
-    let n = newer-falls (returns-clause-ended g c (λ key. None) (not c.args.lists) 0 (not-closed c.args.lists)).falls in
-    later-so later (record { last = n.last; owned = n.owned }) (λ l load is. left-was c.args.worker.0 (load_at c.args.t.now.loads l) load (sym (c.close_loads.ensures l) ∙ is))
+    later-so later (newer-falls (returns-clause-ended g c (λ key. None) (not c.args.lists) 0 (not-closed c.args.lists)).falls)
+    (λ l load is. left-was c.args.worker.0 (load_at c.args.t.now.loads l) load (sym (c.close_loads.ensures l) ∙ is))

@@ -1,8 +1,5 @@
-use Rattle.pagable_tables.{proofs.LeftWork.{begun-core, takes-worker}, proofs.Words.{refl, subst, arith, nat_tests, core_of}, specs.Giving.BeginsWorker}
+use Rattle.pagable_tables.{proofs.{Words.{subst, core_of}, Taken.{begun-core, takes-worker}}, specs.Giving.BeginsWorker}
 use Rattle.pagable_tables.proofs.workers.worker_take.Goals as goal
-
-pub take_pending-requires-clause-holder : goal.take_pending-requires-clause-holder
-take_pending-requires-clause-holder c = grind (arith, nat_tests, c.in-Ok.ensures.number.0, c.in-Ok.ensures.more)
 
 pub returns-clause-taken : goal.returns-clause-taken
 returns-clause-taken c stored closed failures =
@@ -17,6 +14,3 @@ returns-in-Err-clause-taken c stored closed failures =
     let w = core_of c.args.t.now stored closed failures in
     let w1 = core_of c.worker_begin.new.t stored closed failures in
     record { taken = tt; refused = (subst (λ r. BeginsWorker w r w1) c.in-Err.is (c.worker_begin.ensures.begun stored closed failures)).refused }
-
-pub returns-clause-later : goal.returns-clause-later
-returns-clause-later c later = c.take_pending.ensures.later (λ m. refl) (c.worker_begin.ensures.later later)

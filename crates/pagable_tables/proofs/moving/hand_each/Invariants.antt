@@ -1,5 +1,5 @@
 use Rattle.pagable_tables.proofs.Words.{◌≡◌, ◌≤◌, [], length, vec_capacity, is_in, moved, live, seen, IsFalling, owns_nothing}
-use Rattle.pagable_tables.proofs.handing.hand_each.Given as goal
+use Rattle.pagable_tables.proofs.moving.hand_each.Given as goal
 
 abbrev pub invariant-loop-place : goal.invariant-loop-place
 invariant-loop-place l =

@@ -1,6 +1,6 @@
-use Rattle.pagable_tables.proofs.Words.{◌≡◌, ◌+◌, ◌-◌, ◌||◌, drop, arith, sym, ◌∙◌, ap, subst, Some, not, Error, HandleRow, is_in, if_there, is_owner, find_row, named_fault, refused_if}
-use Rattle.pagable_tables.proofs.{Seen.last-named, Seen.one-named, Seen.all-named, Words.seen, Words.named_at}
-use Rattle.pagable_tables.proofs.handing.named_fault.Goals as goal
+use Rattle.pagable_tables.proofs.Words.{◌≡◌, ◌+◌, ◌-◌, ◌||◌, drop, arith, sym, ◌∙◌, ap, subst, Some, not, Error, HandleRow, is_in, if_there, is_owner, find_row, named_fault, refused_if, seen}
+use Rattle.pagable_tables.proofs.{Words.named_at, Handed.{last-named, one-named, all-named}}
+use Rattle.pagable_tables.proofs.moving.named_fault.Goals as goal
 
 pub loop-place-init : goal.loop-place-init
 loop-place-init c = (omega arith, λ w is. last-named w c.args.owner c.args.named.now)

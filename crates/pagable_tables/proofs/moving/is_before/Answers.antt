@@ -1,5 +1,5 @@
-use Rattle.pagable_tables.proofs.{Seen.in-none, Seen.in-more, Seen.in-there, Words.sym, Words.arith, Words.nat_tests}
-use Rattle.pagable_tables.proofs.handing.is_before.Goals as goal
+use Rattle.pagable_tables.proofs.{Words.{sym, arith, nat_tests}, Handed.{in-none, in-more, in-there}}
+use Rattle.pagable_tables.proofs.moving.is_before.Goals as goal
 
 pub loop-at-init : goal.loop-at-init
 loop-at-init c = in-none c.args.named.now c.args.number

@@ -1,0 +1,26 @@
+-- Truth values, and what they count.
+use Rattle.pagable_tables.proofs.Words.{◌≡◌, ◌<◌, ◌≤◌, ◌&&◌, Bool, true, false, not, arith, nat_tests, one}
+
+pub and-zero : (b : Bool) → one (b && false) ≡ 0
+and-zero b = grind (arith, nat_tests)
+
+pub and-false : (b : Bool) → (b && false) ≡ false
+and-false b = grind (arith, nat_tests)
+
+pub and-all : (b : Bool) → (b && true) ≡ b
+and-all b = grind (arith, nat_tests)
+
+pub and-left : (a b : Bool) → (a && b) ≡ true → a ≡ true
+and-left a b e = grind (arith, nat_tests)
+
+pub had : (g o : Bool) → (not g && o) ≡ true → o ≡ true
+had g o e = grind (arith, nat_tests)
+
+pub one-le : (b : Bool) → one b ≤ 1
+one-le b = grind (arith, nat_tests)
+
+pub one-true : (b : Bool) → 0 < one b → b ≡ true
+one-true b some = grind (arith, nat_tests)
+
+pub not-so : (b : Bool) → not b ≡ true → b ≡ false
+not-so b e = grind (arith, nat_tests)
