@@ -1,13 +1,9 @@
 //! An access to a pager: its calls, each one step, over a pager that is lent or behind a lock. Loads and page-out workers step over it.
 
-ghost use Rattle.std.specs.{Prelude.◌≡◌, Prelude.ℕ, Prelude.Option, Prelude.IfOk, Arc.arc_value};
-ghost use Rattle.pagable_core.specs.Data.{blob_of};
-ghost use Rattle.pagable_model.specs.Blob.{key_of};
-ghost use Rattle.pagable_world.specs.{Pager.PagerState, Pager.IsNewNode, Pager.IsCellOf, Calls.CloneCall, Calls.PinCall, Calls.UnpinCall, Calls.ReleaseCall, Calls.SetKeyCall, Calls.StoreCall};
-ghost use Rattle.pagable_world.specs.{LoadCalls.BeginCall, LoadCalls.BeginKeyCall, LoadCalls.AskCall, LoadCalls.EndCall, LoadCalls.HandOverCall, LoadCalls.DropCall, Access.Called, Access.Told};
-ghost use Rattle.pagable_loads.specs.Telling.{Acting, Tells, Brings, AsksFor, TakesLazily, AdoptsValue, values_at, begun_as, blob_as};
-ghost use Rattle.pagable_loads.specs.Starting.{Shares, StartsPin};
-ghost use Rattle.pagable_world.specs.declared.calls.Want.TheVariants as wants;
+ghost use Rattle.{std.specs.{Prelude.{◌≡◌, ℕ, Option, IfOk}, Arc.arc_value}, pagable_core.specs.Data.blob_of, pagable_model.specs.Blob.key_of, pagable_world.specs.Pager.{PagerState, IsNewNode}};
+ghost use Rattle.pagable_world.specs.{Pager.IsCellOf, Calls.{CloneCall, PinCall, UnpinCall, ReleaseCall, SetKeyCall, StoreCall}, LoadCalls.{BeginCall, BeginKeyCall, AskCall, EndCall, HandOverCall}};
+ghost use Rattle.{pagable_world.specs.{LoadCalls.DropCall, Access.{Called, Told}, declared.calls.Want.Want}, pagable_loads.specs.Telling.{Acting, Tells, Brings, AsksFor, TakesLazily, AdoptsValue}};
+ghost use Rattle.pagable_loads.specs.{Telling.{values_at, begun_as, blob_as}, Starting.{Shares, StartsPin}};
 
 use crate::starting::PinStart;
 use either::Either;
@@ -102,7 +98,7 @@ where
 
     /// The blob of the load's own key. Refused with NoSuchHandle and NotYours, and as the storage refuses it.
     fn load_root(&mut self, alloc: Global, load: LoadNumber) -> Result<Arc<PagableData>, Error>
-        ensures step { Told (told self.old) (told self.new) (λ s t. Called (values_at E.Node.NodeSet E.Env E.Hash.KeyHash (acting self.old).environment) (λ w'. AskCall s.core (acting self.old).me load wants.Root (blob_as (λ d. blob_of (arc_value d)) result) w') s t) }
+        ensures step { Told (told self.old) (told self.new) (λ s t. Called (values_at E.Node.NodeSet E.Env E.Hash.KeyHash (acting self.old).environment) (λ w'. AskCall s.core (acting self.old).me load Want.Root (blob_as (λ d. blob_of (arc_value d)) result) w') s t) }
         ensures acting { acting self.new ≡ acting self.old }
         ensures lender { lender self.new ≡ lender self.old };
 

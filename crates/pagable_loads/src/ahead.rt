@@ -1,10 +1,8 @@
 //! A row of references that the innermost blob asks for, one after the other, known before they are got. It is found by two readings with stand-ins: one that
 //! notes them, and one that asks for the last of them with all that are before it.
 
-ghost use Rattle.std.specs.Prelude.{◌≡◌, IfSome, IsSome, slice_get};
-ghost use Rattle.pagable_core.specs.Data.{blob_of};
-ghost use Rattle.pagable_world.specs.Plain.{Types};
-ghost use Rattle.pagable_loads.specs.{Ahead.IsAhead, Ahead.AskedIf, Ahead.RowTells, Ahead.Kept, Frames.frames_of, Telling.values_at};
+ghost use Rattle.{std.specs.Prelude.{◌≡◌, IfSome, IsSome, slice_get}, pagable_core.specs.Data.blob_of, pagable_world.specs.Plain.Types, pagable_loads.specs.Ahead.{IsAhead, AskedIf, RowTells, Kept}};
+ghost use Rattle.pagable_loads.specs.{Frames.frames_of, Telling.values_at};
 
 use crate::access::Access;
 use crate::decoding::{Decoded, decode};

@@ -21,9 +21,8 @@ pub struct StandIns<'g, E: Env> {
 }
 
 impl<'g, E: Env> References<E> for StandIns<'g, E> {
-    ghost use Rattle.std.specs.{Prelude.◌||◌, Prelude.nat_lt, Prelude.slice_get, Arc.arc_value};
-    ghost use Rattle.pagable_model.specs.Deep.{is_eager};
-    ghost use Rattle.pagable_loads.specs.{Got.got_of, Got.lent_of, Got.lent_by, StandIns.lends_environment, StandIns.answer_or_stand_in, StandIns.or_may_refuse};
+    ghost use Rattle.{std.specs.{Prelude.{◌||◌, nat_lt, slice_get}, Arc.arc_value}, pagable_model.specs.Deep.is_eager, pagable_loads.specs.Got.{got_of, lent_of, lent_by}};
+    ghost use Rattle.pagable_loads.specs.StandIns.{lends_environment, answer_or_stand_in, or_may_refuse};
 
     ghost environment = { lends_environment };
 

@@ -1,8 +1,7 @@
 //! What a load lends to the reader of its innermost blob: the values of the references that were got.
 
-ghost use Rattle.std.specs.{Prelude.◌≡◌, Prelude.◌≢◌, Prelude.None, Prelude.IfOk, Prelude.IfErr, Arc.arc_value, List.list_any, Option.option_map};
-ghost use Rattle.pagable_model.specs.Deep.{is_eager};
-ghost use Rattle.pagable_loads.specs.{Frames.reading_of, Lending.Lends, Lending.LendsEach, Needing.Needs, Needing.HasFrames, Telling.Tells, Telling.values_at};
+ghost use Rattle.{std.specs.{Prelude.{◌≡◌, ◌≢◌, None, IfOk, IfErr}, Arc.arc_value, List.list_any, Option.option_map}, pagable_model.specs.Deep.is_eager, pagable_loads.specs.Frames.reading_of};
+ghost use Rattle.pagable_loads.specs.{Lending.{Lends, LendsEach}, Needing.{Needs, HasFrames}, Telling.{Tells, values_at}};
 
 use crate::access::Access;
 use crate::reading::{Need, Reading, is_read_at_once};

@@ -1,8 +1,7 @@
 //! How far a load is: the blobs that it reads, and what it needs next.
 
-ghost use Rattle.std.specs.Prelude.{◌≡◌, ◌<◌, [], length, IsSome, true, false};
-ghost use Rattle.pagable_model.specs.Deep.{is_eager};
-ghost use Rattle.pagable_loads.specs.{Frames.reading_of, Frames.frames_of, Needing.Needs, Needing.HasFrames, Needing.IsRead, Needing.need_wanted, Telling.values_at};
+ghost use Rattle.{std.specs.Prelude.{◌≡◌, ◌<◌, [], length, IsSome, true, false}, pagable_model.specs.Deep.is_eager, pagable_loads.specs.{Frames.{reading_of, frames_of}, Needing.{Needs, HasFrames}}};
+ghost use Rattle.pagable_loads.specs.{Needing.{IsRead, need_wanted}, Telling.values_at};
 
 use crate::decoding::{Decoded, decode};
 use pagable_codec::{ArcRef, Env, Kind, NodeSet};

@@ -1,8 +1,7 @@
 //! A load that is driven to its end.
 
-ghost use Rattle.std.specs.Prelude.{◌≡◌, IsSome, Ok};
-ghost use Rattle.pagable_world.specs.{Access.Told, World.one_more};
-ghost use Rattle.pagable_loads.specs.{Ahead.IsAhead, Ahead.RowTells, Ending.EndsAs, Ending.LeadsOn, Frames.frames_of, Running.Runs, Stepping.Steps, Telling.values_at};
+ghost use Rattle.{std.specs.Prelude.{◌≡◌, IsSome, Ok}, pagable_world.specs.{Access.Told, World.one_more}, pagable_loads.specs.{Ahead.{IsAhead, RowTells}, Ending.{EndsAs, LeadsOn}, Frames.frames_of}};
+ghost use Rattle.pagable_loads.specs.{Running.Runs, Stepping.Steps, Telling.values_at};
 
 use crate::access::Access;
 use crate::ahead::keep_if;
@@ -39,13 +38,13 @@ impl Reading {
     {
         match self.take_lazy(access, alloc, kind, key) {
             Ok(reference) => {
-                self.count();
+                self.steps = self.steps.saturating_add(1);
                 keep_if(row, kind, reference);
                 None
             }
             Err(e) => {
                 self.give_up(access);
-                self.count();
+                self.steps = self.steps.saturating_add(1);
                 row.clear();
                 Some(LoadAnswer::Refused(e))
             }

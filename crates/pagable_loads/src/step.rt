@@ -1,10 +1,8 @@
 //! A load's steps, over an access to a pager.
 
-ghost use Rattle.std.specs.Prelude.{◌≡◌, ◌<◌, [], length, IsSome, IfOk, Some, Result, Ok, true, false};
-ghost use Rattle.pagable_world.specs.{World.one_more, Loads.need_of, Loads.needs_nested, Loads.needs_lazy, Loads.ReadsNode, Loads.ReadsRoot, Access.Told};
-ghost use Rattle.pagable_loads.specs.Stepping.{IsSameLoad, Tries, Steps, Drops};
-ghost use Rattle.pagable_loads.specs.{Ahead.GotMore, Ahead.goes_on_with, Ending.LeadsOn, Frames.reading_of, Frames.frames_of, Needing.Needs, Needing.HasFrames, Telling.values_at};
-ghost use Rattle.pagable_world.specs.declared.events.LoadAnswer.TheVariants as ends;
+ghost use Rattle.{std.specs.Prelude.{◌≡◌, ◌<◌, [], length, IsSome, IfOk, Some, Result, Ok, true, false}, pagable_world.specs.{World.one_more, Loads.{need_of, needs_nested, needs_lazy, ReadsNode}}};
+ghost use Rattle.{pagable_world.specs.{Loads.ReadsRoot, Access.Told}, pagable_loads.specs.{Stepping.{IsSameLoad, Tries, Steps, Drops}, Ahead.{GotMore, goes_on_with}, Ending.LeadsOn}};
+ghost use Rattle.pagable_loads.specs.{Frames.{reading_of, frames_of}, Needing.{Needs, HasFrames}, Telling.values_at};
 
 use crate::access::Access;
 use crate::reading::{Need, Reading};
@@ -59,10 +57,7 @@ impl Reading {
         ensures lender { A.lender access.new ≡ A.lender access.old }
     {
         let load = self.load;
-        let top = match self.take_top() {
-            Ok(top) => top,
-            Err(e) => return Err(e),
-        };
+        let top = self.take_top()?;
         match access.load_nested(alloc, load, kind, key) {
             Ok(Either::Left(reference)) => {
                 self.put_got(top, reference);
@@ -96,39 +91,12 @@ impl Reading {
         ensures lender { A.lender access.new ≡ A.lender access.old }
     {
         let load = self.load;
-        let top = match self.take_top() {
-            Ok(top) => top,
-            Err(e) => return Err(e),
-        };
+        let top = self.take_top()?;
         match access.load_lazy(alloc, load, kind, key) {
             Ok(taken) => {
                 self.put_got(top, taken);
                 Ok(taken)
             }
-            Err(e) => Err(e),
-        }
-    }
-
-    // A reference comes that is read later.
-    fn step_lazy<E: Env, A: Access<E>>(
-        &mut self,
-        access: &mut A,
-        alloc: Global,
-        kind: Kind,
-        key: DataKey,
-    ) -> Result<Option<LoadAnswer<E::Node>>, Error>
-    where
-        E::Node: NodeSet<E>,
-        requires top { IsSome self.old.top }
-        requires need { need_of (values_at E.Node.NodeSet E.Env E.Hash.KeyHash (A.acting access.old).environment).types (frames_of self.old.top self.old.below.items) ≡ needs_lazy kind key }
-        ensures step { Told (A.told access.old) (A.told access.new) (λ s t. Tries (values_at E.Node.NodeSet E.Env E.Hash.KeyHash (A.acting access.old).environment) (A.acting access.old).me self.old s result (frames_of self.new.top self.new.below.items) t) }
-        ensures leads { LeadsOn self.old.for_cell (frames_of self.old.top self.old.below.items) (frames_of self.new.top self.new.below.items) result }
-        ensures same { IsSameLoad self.old self.new }
-        ensures acting { A.acting access.new ≡ A.acting access.old }
-        ensures lender { A.lender access.new ≡ A.lender access.old }
-    {
-        match self.take_lazy(access, alloc, kind, key) {
-            Ok(_) => Ok(None),
             Err(e) => Err(e),
         }
     }
@@ -152,10 +120,7 @@ impl Reading {
         ensures lender { A.lender access.new ≡ A.lender access.old }
     {
         let load = self.load;
-        let (top, under) = match self.take_two() {
-            Ok(two) => two,
-            Err(e) => return Err(e),
-        };
+        let (top, under) = self.take_two()?;
         match access.load_adopt(alloc, load, top.kind, top.key, value) {
             Ok(reference) => {
                 self.put_got(under, reference);
@@ -214,14 +179,8 @@ impl Reading {
         ensures acting { A.acting access.new ≡ A.acting access.old }
         ensures lender { A.lender access.new ≡ A.lender access.old }
     {
-        let references = match value.refs(alloc) {
-            Ok(references) => references,
-            Err(e) => return Err(e),
-        };
-        let named = match handles_of(alloc, references.as_slice()) {
-            Ok(named) => named,
-            Err(e) => return Err(e),
-        };
+        let references = value.refs(alloc)?;
+        let named = handles_of(alloc, references.as_slice())?;
         match access.load_take(self.load, named.as_slice()) {
             Ok(()) => {
                 self.top = None;
@@ -251,7 +210,10 @@ impl Reading {
         match need {
             Need::Root => self.step_root(access, alloc),
             Need::Nested(kind, key) => self.step_nested(access, alloc, kind, key),
-            Need::Lazy(kind, key) => self.step_lazy(access, alloc, kind, key),
+            Need::Lazy(kind, key) => match self.take_lazy(access, alloc, kind, key) {
+                Ok(_) => Ok(None),
+                Err(e) => Err(e),
+            },
             Need::Adopt(value) => self.step_adopt(access, alloc, value),
             Need::End(value) => self.step_end(access, alloc, value),
             Need::HandOver(value) => self.step_hand_over(access, alloc, value),
@@ -296,12 +258,12 @@ impl Reading {
         let need = self.next_over::<E, A>(access, alloc);
         match self.meet(access, alloc, need) {
             Ok(answer) => {
-                self.count();
+                self.steps = self.steps.saturating_add(1);
                 answer
             }
             Err(e) => {
                 self.give_up(access);
-                self.count();
+                self.steps = self.steps.saturating_add(1);
                 Some(LoadAnswer::Refused(e))
             }
         }
