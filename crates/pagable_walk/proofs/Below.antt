@@ -1,5 +1,5 @@
 -- Results have their trees, one for each reference.
-use Rattle.std.proofs.{Common.{ℕ, ◌≡◌, List, [], ◌∷◌, map, length, get_or, drop, sym, ap, subst, arith}, lemmas.Bool.Decides.nat_tests, lemmas.Grind.{common_steps, merely}}
+use Rattle.std.proofs.{Common.{ℕ, ◌≡◌, List, [], ◌∷◌, map, length, get_or, drop, sym, ap, subst, arith}, lemmas.Grind.{merely}}
 use Rattle.pagable_model.specs.{Blob.key_of, Merkle.blob_of, declared.numbers.ArcRef.ArcRef}
 use Rattle.pagable_world.specs.{Kinds.identity_of, Plain.Identity, World.{Written, Values}}
 use Rattle.pagable_walk.specs.{Found.{ids_of, keys_of}, Results.{HasFormOf, ResultStands, stands-over, ResultsStand, no-results, more-results}, declared.results.SlotResult.SlotResult}

@@ -1,11 +1,11 @@
 -- A turn at what was written is the worker's.
-use Rattle.std.{proofs.Common.{ℕ, ◌≡◌, true, List, [], ◌∷◌, length, Some, None, Result, Ok, Err, inl, refl, sym, ap, subst, ◌∙◌, arith}, proofs.lemmas.Bool.Decides.nat_tests}
+use Rattle.std.{proofs.Common.{ℕ, ◌≡◌, true, List, [], ◌∷◌, length, Some, None, Result, Ok, Err, inl, refl, sym, subst, arith}, proofs.lemmas.Bool.Decides.nat_tests}
 use Rattle.std.{proofs.lemmas.Grind.common_steps, proofs.lemmas.List.length-map, specs.Arc.arc_value, specs.Prelude.Option}
 use Rattle.pagable_model.specs.{Blob.key_of, Merkle.blob_of, declared.error.Error.Error}
 use Rattle.pagable_world.specs.{World.{Core, Shelf, SameShelf, Todo, Values, to_publish, to_release, to_set, was_refused, answer_of_fault, published}, Access.Called, Calls.{Asked, ScheduleCall}}
-use Rattle.pagable_world.specs.{Calls.{SetKeyCall, StoreCall}, Cascade.FallsAnyhow, Kinds.{identity_of, owner_worker}, Pager.PagerState, Plain.{Blob, HandleNumber, Identity}, Workers.GivesBack}
+use Rattle.pagable_world.specs.{Calls.{SetKeyCall, StoreCall}, Cascade.FallsAnyhow, Kinds.{identity_of}, Pager.PagerState, Plain.{Blob, HandleNumber, Identity}}
 use Rattle.pagable_world.specs.{Workers.{is_workers_at, give, with_changed_slot, with_failed, with_outcome}, declared.handles.Owner.Owner}
-use Rattle.pagable_walk.{specs.Ending.{Stores, GoesBack, Back}, specs.Failing.{back_of, fails}, specs.Found.keys_of, specs.Slots.written_of, specs.Tasks.{IsPlain, fault_of, todo_of}}
+use Rattle.pagable_walk.{specs.Ending.{Stores, GoesBack}, specs.Failing.{back_of, fails}, specs.Found.keys_of, specs.Slots.written_of, specs.Tasks.{IsPlain, fault_of, todo_of}}
 use Rattle.pagable_walk.{specs.Turns.TurnsTo, specs.declared.results.Trees.Ghosts, specs.declared.table.PageOutError.PageOutError, specs.declared.tasks.Done.Done, specs.declared.tasks.Item.Item}
 use Rattle.pagable_walk.{specs.declared.tasks.Open.Open, specs.declared.tasks.Task.Task, proofs.Forming.none-back, proofs.Pinning.{comes-none, same-shelf}, proofs.Turning.{alike, plain-fits}}
 use Rattle.pagable_model.specs.declared.error.Error.TheVariants as errors

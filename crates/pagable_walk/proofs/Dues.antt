@@ -22,15 +22,7 @@ module _ {X : Type 0} {g : Ghosts X} where
   other-leads : (task : Task X g) → ((r : ArcRef) (place : ℕ) → task ≡ tasks.Start r place → ⊥) → (turn : Turn X g) (below after : List Todo) → LeadsOn (todo_of task ∷ below) turn after
       → IfGoes turn (due after < due (todo_of task ∷ below))
   other-leads (tasks.Start r place) other turn below after leads = absurd (other r place refl)
-  other-leads (tasks.Pin r place) other turn below after leads = leads
-  other-leads (tasks.Load r place through reading) other turn below after leads = leads
-  other-leads (tasks.Write r place through pin) other turn below after leads = leads
-  other-leads (tasks.Finish o) other turn below after leads = leads
-  other-leads (tasks.Item i) other turn below after leads = leads
-  other-leads (tasks.SetKey d through) other turn below after leads = leads
-  other-leads (tasks.Publish d) other turn below after leads = leads
-  other-leads (tasks.Release d) other turn below after leads = leads
-  other-leads (tasks.Fail e back) other turn below after leads = leads
+  other-leads task other turn below after leads = leads
 
   pub other-falls : (task : Task X g) → ((r : ArcRef) (place : ℕ) → task ≡ tasks.Start r place → ⊥) → (turn : Turn X g) (l : ℕ) (below after : List Todo) → LeadsOn (todo_of task ∷ below) turn after
       → IfGoes turn (l * far + due after < l * far + due (todo_of task ∷ below))

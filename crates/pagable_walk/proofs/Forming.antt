@@ -2,9 +2,9 @@
 use Rattle.std.{proofs.Common.{ℕ, ◌≡◌, ◌++◌, List, [], ◌∷◌, true, false, Some, None, Result, Ok, Err, inl, inr, refl, sym, ap, subst, ◌∙◌, arith}, proofs.lemmas.Bool.Decides.nat_tests}
 use Rattle.std.{proofs.lemmas.Grind.common_steps, specs.Arc.arc_value, specs.Prelude.{IfOk, IfErr}, specs.declared.alloc.Global.Global, specs.declared.sync.Arc.Arc}
 use Rattle.pagable_core.specs.{Context.nothing, declared.context.writing.SerializedData.SerializedData}
-use Rattle.pagable_model.specs.{Form.Form, Reading.deepest, Refusals.is_writing_fault, Writing.{Out, WritesSome, nesting, Refused, kind_of_arc}, declared.error.Error.Error}
+use Rattle.pagable_model.specs.{Refusals.is_writing_fault, Writing.{Out, WritesSome, nesting, Refused}, declared.error.Error.Error}
 use Rattle.pagable_model.specs.{declared.numbers.ArcRef.ArcRef, declared.numbers.HandleNumber.HandleNumber, declared.numbers.NodeNumber.NodeNumber}
-use Rattle.pagable_world.specs.{Kinds.{identity_of, is_pinning}, Pager.{PagerState, ValueCall, RefusesWriting}, Plain.type_of, Refusals.live_fault, Workers.{with_changed_slot, open_node}}
+use Rattle.pagable_world.specs.{Kinds.{identity_of}, Pager.{PagerState, ValueCall, RefusesWriting}, Plain.type_of, Refusals.live_fault, Workers.{with_changed_slot, open_node}}
 use Rattle.pagable_world.specs.{World.{Values, Written, Shelf, Todo, SameShelf, seen_as, was_refused, row_at}, declared.handles.HandleRow.HandleRow, declared.handles.Owner.Owner}
 use Rattle.pagable_laws.proofs.Trees.{same_some}
 use Rattle.pagable_loads.specs.{Starting.Shares, Telling.values_at}

@@ -2,7 +2,7 @@
 use Rattle.std.proofs.Common.{ℕ, ◌≡◌, true≢false, Bool, true, false, cond, Option, Some, None, refl, sym, ap, ◌∙◌, subst, nat_eq, arith, ◌&&◌, if◌then◌else◌, inl, inr}
 use Rattle.std.{proofs.lemmas.Bool.Decides.nat_tests, proofs.lemmas.Grind.common_steps, specs.Option.option_map, specs.Prelude.{◌⊎◌, Result, Ok, Err, OnOk, OnErr}}
 use Rattle.indexmap.specs.IndexMap.{IndexMap, get}
-use Rattle.pagable_world.specs.{Plain.{Identity, SameAt, updated, if_there}, World.{Slot, is_identity}}
+use Rattle.pagable_world.specs.{Plain.{Identity, SameAt, updated}, World.{Slot, is_identity}}
 use Rattle.pagable_walk.specs.{Slots.{is_same, slot_of, IsOwnOutcome, IsOwn, slots_in, AreOwn, AreNamed, SlotIs, Changes}, declared.results.SlotResult.SlotResult, declared.results.Trees.Ghosts}
 use Rattle.pagable_walk.specs.{declared.slots.ArcSerSlot.ArcSerSlot, declared.slots.Outcome.Outcome}
 use Rattle.pagable_walk.specs.declared.slots.Outcome.TheVariants as outcomes

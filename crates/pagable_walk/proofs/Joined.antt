@@ -1,5 +1,5 @@
 -- Steps of a worker's walk are joined to a run.
-use Rattle.std.proofs.{Common.{arith, ℕ, ◌≡◌, List, [], ◌∷◌, ap, subst, ◌∙◌}, lemmas.Bool.Decides.nat_tests, lemmas.Grind.common_steps}
+use Rattle.std.proofs.{Common.{ℕ, ◌≡◌, List, [], ◌∷◌, ap, subst, ◌∙◌}}
 use Rattle.pagable_world.specs.{Access.{WalkStep, worker-ends, worker-goes-on}, Pager.PagerState, World.{Shelf, Todo, Values}, declared.events.WorkerAnswer.WorkerAnswer, declared.handles.Owner.Owner}
 use Rattle.pagable_walk.specs.{Tasks.todo_of, Turns.{LeavesFit, StepsTo, answer_in, plain, plain_took}, Walking.{RunsTo, HasWalked}, declared.results.Trees.Ghosts, declared.tasks.Moved.Moved}
 use Rattle.pagable_walk.specs.declared.tasks.Task.{Task}

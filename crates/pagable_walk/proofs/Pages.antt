@@ -1,7 +1,7 @@
 -- Page-outs of an item and of the entries of the list, from the runs of their workers.
-use Rattle.std.proofs.Common.{ℕ, ◌≡◌, ◌≤◌, ◌<◌, ◌+◌, List, ◌∷◌, length, Option, Some, None, Result, Ok, Err, inl, inr, refl, ap, subst, sym, ◌∙◌, arith, slice_get}
+use Rattle.std.proofs.Common.{ℕ, ◌≡◌, ◌≤◌, ◌<◌, ◌+◌, List, ◌∷◌, length, Option, Some, None, Result, Ok, Err, inl, inr, refl, ap, subst, sym, ◌∙◌, arith}
 use Rattle.std.{proofs.lemmas.List.Edits.length-remove, proofs.lemmas.Option.slice_get_within, proofs.lemmas.Bool.Decides.nat_tests, proofs.lemmas.Grind.common_steps, specs.List.remove}
-use Rattle.pagable_model.specs.{declared.data_key.OptionalDataKey.OptionalDataKey, declared.error.Error.Error, declared.numbers.ArcRef.ArcRef, declared.numbers.HandleNumber.HandleNumber}
+use Rattle.pagable_model.specs.{declared.error.Error.Error, declared.numbers.ArcRef.ArcRef, declared.numbers.HandleNumber.HandleNumber}
 use Rattle.pagable_model.specs.declared.numbers.WorkerNumber.{WorkerNumber}
 use Rattle.pagable_world.specs.Access.{AccessState, Called, WorkerStarts, WorkerRun, worker-ends, worker-goes-on, no-worker, item-is-walked, EntryHas, EntryRun, entry-is-refused, no-entry-worker}
 use Rattle.pagable_world.specs.{Access.{entry-is-walked, ListRun, no-more, skips, pages, fails}, Calls.{ReleaseCall, TakeCall}, Events.{entry_task, no_shelf}, Kinds.{identity_of, owner_worker}}
@@ -10,7 +10,7 @@ use Rattle.pagable_world.specs.{declared.events.WorkerAnswer.WorkerAnswer, decla
 use Rattle.pagable_laws.proofs.{Lengths.none-shorter, Sparing.{Spares, spares-then}, SparingSteps.{walk-spares-list, release-spares-list}}
 use Rattle.pagable_loads.specs.{Telling.Acting, Working.{as_caller, StartsEntry, RefusesEntry}}
 use Rattle.pagable_walk.proofs.{Pinning.same-shelf, Turning.{alike, plain-fits}, Unanswered.{item-answered, entry-answered}}
-use Rattle.pagable_walk.specs.{Over.{failure_of, PagesItem, PagesList, PagesEntry, Skipped, SkipsEntry, PlaceDone, PagesAt, HasPaged}, Slots.no_claims, Tasks.{IsPlain, todo_of}, Turns.{Fits, plain}}
+use Rattle.pagable_walk.specs.{Over.{failure_of, PagesItem, PagesList, PagesEntry, Skipped, SkipsEntry, PagesAt, HasPaged}, Slots.no_claims, Tasks.{IsPlain, todo_of}, Turns.{Fits, plain}}
 use Rattle.pagable_walk.specs.{Walking.{RunsTo, Walked}, declared.results.Trees.Ghosts, declared.table.PageOutError.PageOutError, declared.tasks.Task.Task}
 use Rattle.pagable_model.specs.declared.data_key.OptionalDataKey.TheVariants as optional
 use Rattle.pagable_model.specs.declared.error.Error.TheVariants as errors

@@ -2,11 +2,11 @@
 use Rattle.std.{proofs.Common.{ℕ, ◌≡◌, ◌+◌, ◌==◌, Bool, true, false, List, [], ◌∷◌, Some, None, Ok, Err, inl, inr, refl, sym, ap, subst, ◌∙◌, arith}, proofs.lemmas.Bool.Decides.nat_tests}
 use Rattle.std.{proofs.lemmas.Grind.common_steps, specs.Prelude.{Option, if◌then◌else◌, not, ◌&&◌}}
 use Rattle.pagable_model.specs.declared.error.Error.{Error}
-use Rattle.pagable_world.specs.{Plain.{ArcRef, HandleNumber, Kind, LoadNumber, NodeNumber, OptionalDataKey, type_of, if_there}, Kinds.{identity_of, is_loose, is_pinning, mode_of, owner_worker}}
+use Rattle.pagable_world.specs.{Plain.{ArcRef, HandleNumber, Kind, LoadNumber, NodeNumber, OptionalDataKey, type_of, if_there}, Kinds.{identity_of, is_loose, is_pinning, owner_worker}}
 use Rattle.pagable_world.specs.{Kinds.{owner_value, find_row, is_handle}, World.{Core, Cell, Shelf, SameShelf, Todo, to_pin, to_load, to_write, Frame, OpenLoad, Reading, Root, of_cell, of_key}}
-use Rattle.pagable_world.specs.{World.{Values, was_refused, type_at, one_more}, Calls.{with_handle, with_mode, with_node, next_node, with_cached, moved, is_named_by, CloneCall, PinCall}}
-use Rattle.pagable_world.specs.{Access.{Called, ReadingStep}, Cascade.FallsAnyhow, LoadCalls.{with_pin, without_load, is_owned_in, adopted, first_key}, Loads.{GoesOn, EndsPinned, IsOfKey, gone_on}}
-use Rattle.pagable_world.specs.{Pager.{PagerState, HandlesAreWhole, Moves}, Workers.{PinsAtOnce, PinRefused, RowIs, fresh, entry_left, Does}, declared.events.LoadAnswer.LoadAnswer}
+use Rattle.pagable_world.specs.{World.{Values, was_refused, type_at, one_more}, Calls.{with_handle, with_mode, moved, is_named_by, CloneCall, PinCall}}
+use Rattle.pagable_world.specs.{Access.{Called, ReadingStep}, Cascade.FallsAnyhow, LoadCalls.{with_pin, without_load, is_owned_in, adopted}, Loads.{GoesOn, EndsPinned, IsOfKey, gone_on}}
+use Rattle.pagable_world.specs.{Pager.{PagerState, HandlesAreWhole, Moves}, Workers.{PinsAtOnce, RowIs, fresh, entry_left, Does}, declared.events.LoadAnswer.LoadAnswer}
 use Rattle.pagable_world.specs.{declared.handles.HandleRow.HandleRow, declared.handles.Owner.Owner}
 use Rattle.pagable_laws.{specs.KeyRuns.StandsAt, specs.TreeSteps.Change, proofs.PinSteps.{AreLow, low-whole, low-changed, low-handle, new-handle, clone-call, not-loose, owned-none}, proofs.Goes.Goes}
 use Rattle.pagable_laws.{proofs.Naming.clone-stands, proofs.Outlasting.{NotValues, Stands, stands-alike, stands-fell}, proofs.Trees.same_some, proofs.WalkSteps.walk-goes}
@@ -14,7 +14,6 @@ use Rattle.pagable_loads.specs.{Frames.{IsLoadOf, frames_of, reading_of}, Steppi
 use Rattle.pagable_walk.{specs.Failing.{back_of, fails}, specs.Tasks.IsPlain, specs.Turns.{IsLoading, IsOfKind, HoldsPin, Fits, TurnsTo, plain, site}, specs.declared.results.Trees.Ghosts}
 use Rattle.pagable_walk.{specs.declared.tasks.Moved.Moved, specs.declared.tasks.Task.Task, proofs.Turning.plain-fits}
 use Rattle.pagable_loads.specs.declared.reading.Reading.{Reading as Own}
-use Rattle.pagable_model.specs.declared.data_key.OptionalDataKey.TheVariants as optional
 use Rattle.pagable_world.specs.declared.rows.Mode.TheVariants as modes
 use Rattle.pagable_world.specs.declared.handles.Owner.TheVariants as owners
 use Rattle.pagable_world.specs.declared.answers.Pinning.TheVariants as pinnings
@@ -102,10 +101,7 @@ adopted-loads w l kind key own references q = grind (arith, nat_tests, common_st
 
 goes-open : {N : Type 0} (v : Values N) (w w' : Core) (me : Owner) (reading : Reading) (frames : List Frame) (l : ℕ) → GoesOn v w me reading frames w' → w'.loads l ≡ w.loads l
 goes-open v w w' me reading frames l (inl g) = grind (arith, nat_tests, common_steps)
-goes-open v w w' me reading frames l (inr (inl g)) = grind (arith, nat_tests, common_steps)
-goes-open v w w' me reading frames l (inr (inr (inl g))) = grind (arith, nat_tests, common_steps)
-goes-open v w w' me reading frames l (inr (inr (inr (inl g)))) = grind (arith, nat_tests, common_steps, adopted-loads)
-goes-open v w w' me reading frames l (inr (inr (inr (inr g)))) = grind (arith, nat_tests, common_steps, adopted-loads)
+goes-open v w w' me reading frames l (inr g) = grind (arith, nat_tests, common_steps, adopted-loads)
 
 worker-free : (n : ℕ) → NotValues (owner_worker n)
 worker-free n m is = absurd (cc)

@@ -1,5 +1,5 @@
 -- A turn with the worker's end is its step.
-use Rattle.std.proofs.{Common.{arith, ℕ, ◌≡◌, List, inl, inr, refl, sym, subst, ◌∙◌}, lemmas.Bool.Decides.nat_tests, lemmas.Grind.common_steps}
+use Rattle.std.proofs.{Common.{ℕ, ◌≡◌, List, inl, inr, refl, sym, subst, ◌∙◌}}
 use Rattle.pagable_world.specs.{Access.Called, Events.Ends, Pager.{PagerState, WellFormed, Moves}, Workers.WorkerEnds, World.{Shelf, Todo, Values}, declared.events.WorkerAnswer.WorkerAnswer}
 use Rattle.pagable_world.specs.declared.handles.Owner.{Owner}
 use Rattle.pagable_walk.{specs.Turns.{Closes, LeavesFit, StepsTo, TurnsTo, acting_then, answer_in, site}, specs.declared.results.Trees.Ghosts, specs.declared.tasks.Moved.Moved}

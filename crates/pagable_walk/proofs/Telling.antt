@@ -1,6 +1,6 @@
 -- What is told of one state.
 use Rattle.std.{proofs.Common.arith, proofs.lemmas.Bool.Decides.nat_tests, proofs.lemmas.Grind.common_steps, specs.Prelude.{Option, Some, None}}
-use Rattle.pagable_world.specs.Access.{Told, tells}
+use Rattle.pagable_world.specs.Access.{Told}
 use Rattle.pagable_loads.specs.Telling.{Tells, holds_of}
 
 module _ {S : Type 0} where

@@ -1,5 +1,5 @@
 -- A claim of a table is a worker's claim, and a turn of the worker.
-use Rattle.std.proofs.{Common.{ℕ, ◌≡◌, true, List, [], ◌∷◌, Some, None, ◌⊎◌, inl, inr, refl, sym, ap, subst, ◌∙◌, arith}, lemmas.Bool.Decides.nat_tests, lemmas.Grind.common_steps}
+use Rattle.std.proofs.{Common.{ℕ, ◌≡◌, true, List, [], ◌∷◌, Some, None, ◌⊎◌, inl, inr, refl, sym, subst, arith}, lemmas.Bool.Decides.nat_tests, lemmas.Grind.common_steps}
 use Rattle.std.specs.Prelude.{Result, Ok, Err, IfOk}
 use Rattle.pagable_model.specs.declared.numbers.ArcRef.{ArcRef}
 use Rattle.pagable_world.specs.{Workers.{Site, claim_fault, entry_left, is_counted_claim, Claims, Finds, Turns, IsTooDeep, with_wait}, Kinds.identity_of, Pager.{PagerState, HandlesAreWhole}}
@@ -24,9 +24,7 @@ module _ (core : Core) (v : ℕ) (s s' : Shelf) (r : ArcRef) (place : ℕ) (belo
   finds : (c : Claim) → Would v s (identity_of r) place c → SameShelf (claimed_shelf v s (identity_of r) c) s'
       → Finds v (site core s (to_start r place ∷ below)) r place below c (site core s' (claim_todo r place below (Ok c)))
   finds claims.Claimed w same = (w.0, w.1, turns _ _ same)
-  finds (claims.Known key height) w same = (w.0, w.1, turns _ _ same)
-  finds claims.Waiting w same = (w.0, w.1, turns _ _ same)
-  finds claims.AlreadyFailed w same = (w.0, w.1, turns _ _ same)
+  finds c w same = (w.0, w.1, turns _ _ same)
 
   why : (e : Error) → claim_fault core r ≡ None → RefusesClaim v s (identity_of r) place e
       → (claim_fault core r ≡ Some e) ⊎ ((claim_fault core r ≡ None) × (e ≡ errors.TooDeep) × IsTooDeep s v (identity_of r) place) ⊎ (e ≡ errors.OutOfMemory)
@@ -56,31 +54,20 @@ module _ {X : Type 0} {g : Ghosts X} where
       → IfOk claim (IsFoundOf (identity_of r)) → ClaimFits r place claim
   claim-fits v s s' r place (Ok founds.Claimed) there own = there.finds.0.0
   claim-fits v s s' r place (Ok (founds.Known found)) there own = (own, there.finds.0.0)
-  claim-fits v s s' r place (Ok founds.Waiting) there own = tt
-  claim-fits v s s' r place (Ok founds.AlreadyFailed) there own = tt
-  claim-fits v s s' r place (Err e) there own = tt
+  claim-fits v s s' r place claim there own = tt
 
   -- a task that needs nothing fits
   pub plain-fits : (n : ℕ) (w : Core) (t : Task X g) → IsPlain t → TaskFits n w t
-  plain-fits n w (tasks.Start r place) plain = tt
   plain-fits n w (tasks.Pin r place) plain = absurd plain
   plain-fits n w (tasks.Load r place through reading) plain = absurd plain
   plain-fits n w (tasks.Write r place through pin) plain = absurd plain
-  plain-fits n w (tasks.Finish o) plain = tt
-  plain-fits n w (tasks.Item i) plain = tt
-  plain-fits n w (tasks.SetKey d through) plain = tt
-  plain-fits n w (tasks.Publish d) plain = tt
-  plain-fits n w (tasks.Release d) plain = tt
-  plain-fits n w (tasks.Fail e back) plain = tt
+  plain-fits n w task plain = tt
 
   claim-leaves : (n : ℕ) (w : Core) (shelf : Shelf) (s' : Site) (r : ArcRef) (place : ℕ) (below : List Todo) (claim : Result (Found X g) Error) (task : Task X g) → HandlesAreWhole w
       → ClaimLeaves r place claim task
       → Claims n (site w shelf (to_start r place ∷ below)) r place below (found_as claim) s' → TaskFits n w task
   claim-leaves n w shelf s' r place below (Ok founds.Claimed) task whole leaves c = subst (TaskFits n w) (sym leaves) (claimed-stands whole r c.finds.0, kind-claimed w r whole c.finds.0)
-  claim-leaves n w shelf s' r place below (Ok (founds.Known found)) task whole leaves c = plain-fits n w task leaves
-  claim-leaves n w shelf s' r place below (Ok founds.Waiting) task whole leaves c = plain-fits n w task leaves
-  claim-leaves n w shelf s' r place below (Ok founds.AlreadyFailed) task whole leaves c = plain-fits n w task leaves
-  claim-leaves n w shelf s' r place below (Err e) task whole leaves c = plain-fits n w task leaves
+  claim-leaves n w shelf s' r place below claim task whole leaves c = plain-fits n w task leaves
 
   pub start-turns : {N E : Type 0} (v : Values N) (me : Owner) (n : ℕ) (shelf shelf' : Shelf) (r : ArcRef) (place : ℕ) (below after : List Todo) (claim : Result (Found X g) Error) (task : Task X g) → after ≡ claim_todo r place below (found_as claim)
       → ClaimLeaves r place claim task

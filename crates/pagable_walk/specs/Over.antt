@@ -1,10 +1,9 @@
 -- Page-outs of an item and of the list, where the access tells its state.
 use Rattle.std.specs.Prelude.{ℕ, ◌≡◌, ◌≤◌, ◌<◌, ◌+◌, length, Some, Result, Ok, Err, IfOk, IfErr, slice_get}
 use Rattle.pagable_model.specs.{declared.error.Error.Error, declared.numbers.HandleNumber.HandleNumber}
-use Rattle.pagable_world.specs.{Access.AllHaveResults, Access.Called, Access.EntryHas, Access.EntryRun, Access.ListRun, Access.PagesOutItemOver, Calls.ReleaseCall, Calls.TakeCall, Pager.PagerState}
-use Rattle.pagable_world.specs.{Pager.WellFormed, World.Shelf, World.Values, World.Written, World.Seen, declared.events.WorkerAnswer.WorkerAnswer}
+use Rattle.pagable_world.specs.{Access.AllHaveResults, Access.Called, Access.EntryRun, Access.ListRun, Access.PagesOutItemOver, Calls.ReleaseCall, Calls.TakeCall, Pager.PagerState}
+use Rattle.pagable_world.specs.{Pager.WellFormed, World.Shelf, World.Values, World.Written, declared.events.WorkerAnswer.WorkerAnswer}
 use Rattle.pagable_walk.specs.{Turns.plain, declared.table.PageOutError.PageOutError}
-use Rattle.pagable_model.specs.declared.data_key.OptionalDataKey.TheVariants as optional
 use Rattle.pagable_world.specs.declared.events.WorkerAnswer.TheVariants as finals
 use Rattle.pagable_world.specs.declared.handles.Owner.TheVariants as owners
 use Rattle.pagable_walk.specs.declared.table.PageOutError.TheVariants as failures

@@ -24,10 +24,7 @@ fn keys<E: Trees>(alloc: Global, children: &[SlotResult<E>]) -> Result<Vec<DataK
     ensures keys { IfOk result (λ keys. keys.items ≡ keys_of children.now) }
     ensures only { IfErr result (λ e. e ≡ Error.OutOfMemory) }
 {
-    match children.iter().map(|found| found.key).collect(alloc) {
-        Ok(keys) => Ok(keys),
-        Err(_) => Err(Error::OutOfMemory),
-    }
+    Ok(children.iter().map(|found| found.key).collect(alloc)?)
 }
 
 // The blob of what was written over the results of its references. Refused by want of memory alone.
@@ -39,14 +36,9 @@ fn blob<E: Trees>(
     ensures blob { IfOk result (λ blob. blob_of blob ≡ blob_over (written_of written.now).bytes (keys_of children.now)) }
     ensures only { IfErr result (λ e. e ≡ Error.OutOfMemory) }
 {
-    let arcs = match keys(alloc, children) {
-        Ok(keys) => keys,
-        Err(e) => return Err(e),
-    };
-    match Vec::from_slice(alloc, written.bytes.as_slice()) {
-        Ok(bytes) => Ok(PagableData { bytes, arcs }),
-        Err(_) => Err(Error::OutOfMemory),
-    }
+    let arcs = keys(alloc, children)?;
+    let bytes = Vec::from_slice(alloc, written.bytes.as_slice())?;
+    Ok(PagableData { bytes, arcs })
 }
 
 // Stores the blob of what was written over the results of its references.
@@ -63,10 +55,8 @@ where
     ensures acting { A.acting access.new ≡ A.acting access.old }
     ensures lender { A.lender access.new ≡ A.lender access.old }
 {
-    match blob(alloc, written, children) {
-        Ok(blob) => access.store(alloc, blob),
-        Err(e) => Err(e),
-    }
+    let blob = blob(alloc, written, children)?;
+    access.store(alloc, blob)
 }
 
 // The result of a node whose blob was stored is known: its key is set next.

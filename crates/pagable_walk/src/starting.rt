@@ -18,10 +18,8 @@ fn item<E: Trees>(alloc: Global, written: Arc<SerializedData>) -> Result<Item<E>
     ensures item { IfOk result (λ i. item_todo i ≡ to_item (written_of (arc_value written)) []) }
     ensures only { IfErr result (λ e. e ≡ errors.OutOfMemory) }
 {
-    match Vec::with_capacity(alloc, written.arcs.len()) {
-        Ok(children) => Ok(Item { written, children }),
-        Err(_) => Err(Error::OutOfMemory),
-    }
+    let children = Vec::with_capacity(alloc, written.arcs.len())?;
+    Ok(Item { written, children })
 }
 
 /// The first task for an item, and a path with places for it. Refused by want of memory alone.
@@ -34,14 +32,9 @@ pub fn start_item<E: Trees>(
     ensures plain { IfOk result (λ w. IsPlain w.0) }
     ensures only { IfErr result (λ e. e ≡ errors.OutOfMemory) }
 {
-    let mut path = match Vec::with_capacity(alloc, 1) {
-        Ok(path) => path,
-        Err(_) => return Err(Error::OutOfMemory),
-    };
-    match item(alloc, written) {
-        Ok(item) => Ok((settle_item(&mut path, item), path)),
-        Err(e) => Err(e),
-    }
+    let mut path = Vec::with_capacity(alloc, 1)?;
+    let item = item(alloc, written)?;
+    Ok((settle_item(&mut path, item), path))
 }
 
 /// The first task for an entry of the list, which this reference names, and an empty path. It takes no memory.

@@ -92,22 +92,12 @@ fn kept<E: Trees>(
     ensures told { IfOk result (λ p. written_of (arc_value p.2) ≡ written_of once) }
     ensures only { IfErr result (λ e. e ≡ Error.OutOfMemory) }
 {
-    let children = match Vec::with_capacity(alloc, once.arcs.len()) {
-        Ok(children) => children,
-        Err(_) => return Err(Error::OutOfMemory),
+    let children = Vec::with_capacity(alloc, once.arcs.len())?;
+    let Ok(written) = Arc::new(alloc, once) else {
+        return Err(Error::OutOfMemory);
     };
-    let written = match Arc::new(alloc, once) {
-        Ok(written) => written,
-        Err(_) => return Err(Error::OutOfMemory),
-    };
-    let shared = match Arc::try_clone(&written) {
-        Ok(shared) => shared,
-        Err(_) => return Err(Error::OutOfMemory),
-    };
-    let told = match Arc::try_clone(&written) {
-        Ok(told) => told,
-        Err(_) => return Err(Error::OutOfMemory),
-    };
+    let shared = Arc::try_clone(&written)?;
+    let told = Arc::try_clone(&written)?;
     let node = Open {
         reference,
         place,
