@@ -1,10 +1,8 @@
 -- A path that leads to what is done next goes on so.
 use Rattle.std.proofs.Common.{ℕ, zero, suc, ◌≡◌, ◌≤◌, ◌+◌, Bool, true, false, List, [], ◌∷◌, ◌++◌, length, drop, refl, sym, ap, subst, arith, Some, slice_get, if◌then◌else◌}
-use Rattle.std.{proofs.lemmas.List.length-append, proofs.lemmas.Option.slice_get_within, specs.Prelude.max}
-use Rattle.pagable_model.specs.declared.numbers.ArcRef.{ArcRef}
-use Rattle.pagable_world.specs.{World.{Open, Todo, to_start, to_finish, to_item, Written}, Plain.{above, is_eager, longest_path}}
-use Rattle.pagable_world.specs.Workers.{give, give_known, next_start, settle}
-use Rattle.pagable_walk.specs.Tasks.{Awaits, AwaitsLow, IsWay, with_child}
+use Rattle.{std.{proofs.lemmas.{List.length-append, Option.slice_get_within}, specs.Prelude.max}, pagable_model.specs.declared.numbers.ArcRef.ArcRef, pagable_world.specs.World.{Open, Todo, to_start}}
+use Rattle.{pagable_world.specs.{World.{to_finish, to_item, Written}, Plain.{above, is_eager, longest_path}, Workers.{give, give_known, next_start, settle}}, pagable_walk.specs.Tasks.Awaits}
+use Rattle.pagable_walk.specs.Tasks.{AwaitsLow, IsWay, with_child}
 
 -- what is left of references after so many, in both cases
 left-by : (Q : List ArcRef → Type 0) (n : ℕ) (refs : List ArcRef) → n ≤ length refs → (n ≡ length refs → Q []) → ((r : ArcRef) (rest : List ArcRef) → slice_get refs n ≡ Some r → Q (r ∷ rest))

@@ -1,9 +1,8 @@
 //! Claims of a lent table, and what is known of them.
 
-ghost use Rattle.std.specs.{Arc.arc_value, Prelude.◌≡◌, Prelude.Some, Prelude.None, Prelude.OnOk, Prelude.OnErr, Prelude.IfOk, Prelude.IfErr};
-ghost use Rattle.pagable_world.specs.World.{Slot, SameShelf, published};
-ghost use Rattle.pagable_world.specs.Workers.{with_slot, with_wait, IsOpenSlot, ComesToEnd, with_changed_slot, with_failed, with_outcome};
-ghost use Rattle.pagable_walk.specs.{Slots.no_claims, Slots.claimed_by, Slots.Judges, Slots.ClaimsThere, Slots.with_written, Slots.written_of, Table.shelf_of, Table.found_as, Table.IsFoundOf};
+ghost use Rattle.{std.specs.{Arc.arc_value, Prelude.{◌≡◌, Some, None, OnOk, OnErr, IfOk, IfErr}}, pagable_world.specs.{World.{Slot, SameShelf, published}, Workers.{with_slot, with_wait, IsOpenSlot}}};
+ghost use Rattle.{pagable_world.specs.Workers.{ComesToEnd, with_changed_slot, with_failed, with_outcome}, pagable_walk.specs.Slots.{no_claims, claimed_by, Judges, ClaimsThere, with_written}};
+ghost use Rattle.pagable_walk.specs.{Slots.written_of, Table.{shelf_of, found_as, IsFoundOf}};
 
 use crate::slots::{comes_back, look_up};
 use crate::{Found, SlotResult, SlotTable, Standing, Trees, slots};

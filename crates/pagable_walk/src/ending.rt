@@ -1,13 +1,9 @@
 //! A worker's turns at what it has written: its blob is stored, its key set and published, and its handles given up. And the end of a walk.
 
-ghost use Rattle.std.specs.{Arc.arc_value, Prelude.◌≡◌, Prelude.◌∷◌, Prelude.[], Prelude.ℕ, Prelude.List, Prelude.IfOk, Prelude.IfErr, Prelude.length};
-ghost use Rattle.pagable_core.specs.Data.{blob_of};
-ghost use Rattle.pagable_model.specs.Merkle.{blob_of as blob_over};
-ghost use Rattle.pagable_model.specs.Blob.{key_of};
-ghost use Rattle.pagable_world.specs.{Access.Told, World.Shelf, World.Todo, World.answer_of_fault, World.to_finish, World.to_release, World.to_set};
-ghost use Rattle.pagable_loads.specs.Telling.{Tells, values_at};
-ghost use Rattle.pagable_walk.specs.Tasks.{Awaits, AwaitsLow, IsPlain, IsWay, fault_of, item_todo, open_of, todo_of, todos};
-ghost use Rattle.pagable_walk.specs.{Due.LeadsOn, Ending.Stores, Ending.GoesBack, Found.keys_of, Slots.written_of, Table.shelf_of, Turns.TurnsTo, Turns.plan};
+ghost use Rattle.{std.specs.{Arc.arc_value, Prelude.{◌≡◌, ◌∷◌, [], ℕ, List, IfOk, IfErr, length}}, pagable_core.specs.Data.blob_of, pagable_model.specs.{Merkle.blob_of as blob_over, Blob.key_of}};
+ghost use Rattle.{pagable_world.specs.{Access.Told, World.{Shelf, Todo, answer_of_fault, to_finish, to_release, to_set}}, pagable_loads.specs.Telling.{Tells, values_at}};
+ghost use Rattle.pagable_walk.specs.{Tasks.{Awaits, AwaitsLow, IsPlain, IsWay, fault_of, item_todo, open_of, todo_of, todos}, Due.LeadsOn, Ending.{Stores, GoesBack}, Found.keys_of, Slots.written_of};
+ghost use Rattle.pagable_walk.specs.{Table.shelf_of, Turns.{TurnsTo, plan}};
 
 use crate::stack::{give, refuse};
 use crate::tasks::{Done, Item, Moved, Open, Task, Turn, Waiting, named};

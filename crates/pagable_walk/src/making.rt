@@ -1,10 +1,7 @@
 //! How a result is made: from a form of a node's value and the results of its references alone.
 
-ghost use Rattle.std.specs.Prelude.{◌≡◌, ◌≤◌, map};
-ghost use Rattle.pagable_model.specs.{Blob.key_of, Merkle.blob_of};
-ghost use Rattle.pagable_world.specs.{Kinds.identity_of, Plain.longest_path};
-ghost use Rattle.pagable_loads.specs.Telling.{values_at};
-ghost use Rattle.pagable_walk.specs.{Found.ids_of, Found.keys_of, Results.HasFormOf, Slots.written_of};
+ghost use Rattle.{std.specs.Prelude.{◌≡◌, ◌≤◌, map}, pagable_model.specs.{Blob.key_of, Merkle.blob_of}, pagable_world.specs.{Kinds.identity_of, Plain.longest_path}};
+ghost use Rattle.{pagable_loads.specs.Telling.values_at, pagable_walk.specs.{Found.{ids_of, keys_of}, Results.HasFormOf, Slots.written_of}};
 
 use crate::SlotResult;
 use pagable_codec::{Env, NodeSet};

@@ -1,10 +1,9 @@
 //! The slots of claimed identities, and whom a waiting worker waits for.
 
-ghost use Rattle.std.specs.{Arc.arc_value, Option.option_map, Prelude.◌≡◌, Prelude.ℕ, Prelude.Some, Prelude.OnOk, Prelude.OnErr, Prelude.IfOk, Prelude.cond, Prelude.nat_eq, Prelude.slice_get};
-ghost use Rattle.indexmap.specs.IndexMap.{get, keys};
-ghost use Rattle.pagable_model.specs.declared.numbers.Identity.{Identity as Named};
-ghost use Rattle.pagable_world.specs.{Workers.with_outcome, World.published, World.failed};
-ghost use Rattle.pagable_walk.specs.Slots.{written_of, claimed_by, slot_of, IsOwn, slots_in, AreOwn, shelf_in, Stands, SlotIs, SameSlots, open_worker, EachEnds, Leads, Changes, failed_by, after_failure, with_written};
+ghost use Rattle.{std.specs.{Arc.arc_value, Option.option_map, Prelude.{◌≡◌, ℕ, Some, OnOk, OnErr, IfOk, cond, nat_eq, slice_get}}, indexmap.specs.IndexMap.{get, keys}};
+ghost use Rattle.{pagable_model.specs.declared.numbers.Identity.Identity as Named, pagable_world.specs.{Workers.with_outcome, World.{published, failed}}, pagable_walk.specs.Slots.written_of};
+ghost use Rattle.pagable_walk.specs.Slots.{claimed_by, slot_of, IsOwn, slots_in, AreOwn, shelf_in, Stands, SlotIs, SameSlots, open_worker, EachEnds, Leads, Changes, failed_by, after_failure};
+ghost use Rattle.pagable_walk.specs.Slots.{with_written};
 
 use crate::{SlotResult, Trees};
 use indexmap::IndexMap;

@@ -1,9 +1,7 @@
 //! A worker's step: what is to be done next is done, and with its answer the worker ends.
 
-ghost use Rattle.std.specs.Prelude.{◌≡◌, ◌∷◌};
-ghost use Rattle.pagable_world.specs.Access.{Told};
-ghost use Rattle.pagable_loads.specs.Telling.{values_at};
-ghost use Rattle.pagable_walk.specs.{Due.LeadsOn, Table.shelf_of, Tasks.IsWay, Tasks.todo_of, Tasks.todos, Turns.Closes, Turns.TurnsTo, Turns.StepsTo, Turns.acting_then, Turns.plan};
+ghost use Rattle.{std.specs.Prelude.{◌≡◌, ◌∷◌}, pagable_world.specs.Access.Told, pagable_loads.specs.Telling.values_at, pagable_walk.specs.{Due.LeadsOn, Table.shelf_of, Tasks.{IsWay, todo_of}}};
+ghost use Rattle.pagable_walk.specs.{Tasks.todos, Turns.{Closes, TurnsTo, StepsTo, acting_then, plan}};
 
 use crate::SlotTable;
 use crate::ending::{end, finish, finish_item, publish, release, set_key};

@@ -1,11 +1,8 @@
 //! A worker's turns at a reference that it has come to: it claims what the reference names, and pins it, by a load where it is needed.
 
-ghost use Rattle.std.specs.Prelude.{◌≡◌, ◌≤◌, ◌+◌, ◌*◌, ◌∷◌, ℕ, List, length};
-ghost use Rattle.pagable_world.specs.{Access.Told, Plain.longest_path, Workers.claim_fault, Workers.is_counted_claim, Workers.Claims, World.Core, World.Shelf, World.Todo, World.to_start};
-ghost use Rattle.pagable_world.specs.{World.to_pin, World.to_load};
-ghost use Rattle.pagable_loads.specs.{Frames.reading_of, Telling.Tells, Telling.values_at, Working.fault_in};
-ghost use Rattle.pagable_walk.specs.{Due.due, Due.most, Due.LeadsOn, Table.shelf_of, Table.found_as, Tasks.Awaits, Tasks.IsWay, Tasks.todo_of, Tasks.todos, Turns.site, Turns.claim_todo};
-ghost use Rattle.pagable_walk.specs.{Turns.ClaimFits, Turns.ClaimLeaves, Turns.TurnsTo, Turns.plan};
+ghost use Rattle.{std.specs.Prelude.{◌≡◌, ◌≤◌, ◌+◌, ◌*◌, ◌∷◌, ℕ, List, length}, pagable_world.specs.{Access.Told, Plain.longest_path, Workers.{claim_fault, is_counted_claim, Claims}, World.Core}};
+ghost use Rattle.{pagable_world.specs.World.{Shelf, Todo, to_start, to_pin, to_load}, pagable_loads.specs.{Frames.reading_of, Telling.{Tells, values_at}, Working.fault_in}};
+ghost use Rattle.pagable_walk.specs.{Due.{due, most, LeadsOn}, Table.{shelf_of, found_as}, Tasks.{Awaits, IsWay, todo_of, todos}, Turns.{site, claim_todo, ClaimFits, ClaimLeaves, TurnsTo, plan}};
 
 use crate::stack::{fail, give_known, refuse};
 use crate::tasks::{Done, Moved, Task, Turn, Waiting, named};

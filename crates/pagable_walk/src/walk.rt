@@ -1,10 +1,7 @@
 //! A worker's walk, from its first task to its answer.
 
-ghost use Rattle.std.specs.Prelude.{◌≡◌, ◌<◌, ◌≤◌, ◌+◌, ◌*◌, ◌∷◌};
-ghost use Rattle.pagable_world.specs.{Access.Told, World.to_start};
-ghost use Rattle.pagable_loads.specs.{Telling.values_at, Working.as_caller};
-ghost use Rattle.pagable_walk.specs.{Due.IfGoes, Due.due, Due.far, Table.shelf_of, Tasks.Awaits, Tasks.IsWay, Tasks.todo_of, Tasks.todos, Turns.StepsTo, Turns.acting_then, Turns.plan, Walking.RunsTo};
-ghost use Rattle.pagable_walk.specs.{declared.tasks.Task.Task};
+ghost use Rattle.{std.specs.Prelude.{◌≡◌, ◌<◌, ◌≤◌, ◌+◌, ◌*◌, ◌∷◌}, pagable_world.specs.{Access.Told, World.to_start}, pagable_loads.specs.{Telling.values_at, Working.as_caller}};
+ghost use Rattle.pagable_walk.specs.{Due.{IfGoes, due, far}, Table.shelf_of, Tasks.{Awaits, IsWay, todo_of, todos}, Turns.{StepsTo, acting_then, plan}, Walking.RunsTo, declared.tasks.Task.Task};
 
 use crate::SlotTable;
 use crate::stack::refuse;

@@ -1,11 +1,8 @@
 //! A worker's turn at a node that it has pinned: its value is written.
 
-ghost use Rattle.std.specs.Prelude.{◌≡◌, ◌≤◌, ◌<◌, ◌∷◌, ℕ, IfOk, IfErr, OnOk, vec_len, vec_capacity};
-ghost use Rattle.std.specs.Arc.{arc_value};
-ghost use Rattle.pagable_world.specs.{Kinds.identity_of, Plain.longest_path, Plain.type_of, World.seen_as, World.to_write};
-ghost use Rattle.pagable_loads.specs.Telling.{Tells, values_at};
-ghost use Rattle.pagable_walk.specs.{Due.LeadsOn, Results.HasFormOf, Slots.written_of, Table.shelf_of, Tasks.Awaits, Tasks.IsWay, Tasks.open_of, Tasks.todos, Turns.TurnsTo, Turns.plan};
-ghost use Rattle.pagable_walk.specs.{Writing.IsForm, Writing.WriteRefused, Writing.Finds, Writing.Forms, Writing.just_open};
+ghost use Rattle.{std.specs.{Prelude.{◌≡◌, ◌≤◌, ◌<◌, ◌∷◌, ℕ, IfOk, IfErr, OnOk, vec_len, vec_capacity}, Arc.arc_value}, pagable_world.specs.{Kinds.identity_of, Plain.{longest_path, type_of}}};
+ghost use Rattle.{pagable_world.specs.World.{seen_as, to_write}, pagable_loads.specs.Telling.{Tells, values_at}, pagable_walk.specs.{Due.LeadsOn, Results.HasFormOf, Slots.written_of, Table.shelf_of}};
+ghost use Rattle.pagable_walk.specs.{Tasks.{Awaits, IsWay, open_of, todos}, Turns.{TurnsTo, plan}, Writing.{IsForm, WriteRefused, Finds, Forms, just_open}};
 
 use crate::stack::{refuse, settle_open};
 use crate::tasks::{Moved, Open, Task, Turn, Waiting, named};

@@ -1,5 +1,4 @@
-use Rattle.pagable_loads.proofs.Stepped.{told_map}
-use Rattle.pagable_walk.{specs.Table.shelf_of, proofs.Closing.ends-failed}
+use Rattle.{pagable_loads.proofs.Stepped.told_map, pagable_walk.{specs.Table.shelf_of, proofs.Closing.ends-failed}}
 use Rattle.pagable_walk.proofs.ending.end.Goals as goal
 
 pub returns-clause-step : goal.returns-clause-step

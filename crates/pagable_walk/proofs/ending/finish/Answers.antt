@@ -1,6 +1,4 @@
-use Rattle.std.proofs.Common.{ap, arith}
-use Rattle.pagable_loads.proofs.Stepped.{told_map}
-use Rattle.pagable_walk.{specs.Due.rank, specs.Tasks.todos, proofs.Closing.{finish-stores, finish-fails}}
+use Rattle.{std.proofs.Common.{ap, arith}, pagable_loads.proofs.Stepped.told_map, pagable_walk.{specs.{Due.rank, Tasks.todos}, proofs.Closing.{finish-stores, finish-fails}}}
 use Rattle.pagable_walk.proofs.ending.finish.Goals as goal
 
 pub stored-requires-clause-key : goal.stored-requires-clause-key

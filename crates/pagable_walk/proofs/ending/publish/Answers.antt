@@ -1,5 +1,4 @@
-use Rattle.std.proofs.Common.{◌∙◌}
-use Rattle.pagable_walk.{specs.Table.shelf_of, proofs.Closing.publishes, proofs.Telling.tells-all}
+use Rattle.{std.proofs.Common.◌∙◌, pagable_walk.{specs.Table.shelf_of, proofs.{Closing.publishes, Telling.tells-all}}}
 use Rattle.pagable_walk.proofs.ending.publish.Goals as goal
 
 pub returns-clause-step : goal.returns-clause-step

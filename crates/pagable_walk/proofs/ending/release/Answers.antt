@@ -1,7 +1,5 @@
-use Rattle.std.proofs.Common.{ap, ◌∙◌, rules, subst, sym, length, arith}
-use Rattle.pagable_loads.proofs.Stepped.{told_map}
-use Rattle.pagable_walk.{specs.Tasks.{todos, AwaitsLow, IsWay, waiting_todo}, proofs.Closing.{release-ends, release-gives}, proofs.Stacks.{todos-more, todos-none}, proofs.Ways.give-way}
-use Rattle.pagable_world.specs.Workers.{give}
+use Rattle.{std.proofs.Common.{ap, ◌∙◌, rules, subst, sym, length, arith}, pagable_loads.proofs.Stepped.told_map, pagable_walk.specs.Tasks.{todos, AwaitsLow, IsWay, waiting_todo}}
+use Rattle.{pagable_walk.proofs.{Closing.{release-ends, release-gives}, Stacks.{todos-more, todos-none}, Ways.give-way}, pagable_world.specs.Workers.give}
 use Rattle.pagable_walk.proofs.ending.release.Goals as goal
 
 pub give-requires-clause-way : goal.give-requires-clause-way

@@ -1,5 +1,4 @@
-use Rattle.pagable_loads.proofs.Stepped.{told_map}
-use Rattle.pagable_walk.{specs.Tasks.todos, proofs.Closing.{set-goes, set-fails}}
+use Rattle.{pagable_loads.proofs.Stepped.told_map, pagable_walk.{specs.Tasks.todos, proofs.Closing.{set-goes, set-fails}}}
 use Rattle.pagable_walk.proofs.ending.set_key.Goals as goal
 
 pub returns-in-Ok-clause-step : goal.returns-in-Ok-clause-step

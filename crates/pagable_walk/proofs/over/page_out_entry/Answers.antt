@@ -1,6 +1,5 @@
-use Rattle.std.proofs.Common.{refl, ap, ◌∙◌}
-use Rattle.pagable_loads.{specs.Working.as_caller, proofs.Stepped.{told_map, told_then}}
-use Rattle.pagable_walk.{specs.Table.shelf_of, specs.Tasks.todos, proofs.Pages.{entry-refused, entry-walked, is-caller}}
+use Rattle.{std.proofs.Common.{refl, ap, ◌∙◌}, pagable_loads.{specs.Working.as_caller, proofs.Stepped.{told_map, told_then}}, pagable_walk.specs.{Table.shelf_of, Tasks.todos}}
+use Rattle.pagable_walk.proofs.Pages.{entry-refused, entry-walked, is-caller}
 use Rattle.pagable_walk.proofs.over.page_out_entry.Goals as goal
 
 pub returns-in-Err-clause-pages : goal.returns-in-Err-clause-pages

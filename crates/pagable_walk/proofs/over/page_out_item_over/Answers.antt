@@ -1,6 +1,5 @@
-use Rattle.std.{proofs.Common.{refl, ap, ◌∙◌}, specs.Arc.arc_value}
-use Rattle.pagable_loads.{specs.Working.as_caller, proofs.Stepped.{told_map, told_then}}
-use Rattle.pagable_walk.{specs.Slots.written_of, specs.Table.shelf_of, specs.Tasks.todos, proofs.Pages.{item-unstarted, item-unbegun, item-walked, is-caller}, proofs.Telling.told-all}
+use Rattle.{std.{proofs.Common.{refl, ap, ◌∙◌}, specs.Arc.arc_value}, pagable_loads.{specs.Working.as_caller, proofs.Stepped.{told_map, told_then}}, pagable_walk.specs.Slots.written_of}
+use Rattle.pagable_walk.{specs.{Table.shelf_of, Tasks.todos}, proofs.{Pages.{item-unstarted, item-unbegun, item-walked, is-caller}, Telling.told-all}}
 use Rattle.pagable_walk.proofs.over.page_out_item_over.Goals as goal
 
 pub returns-in-Err-clause-over : goal.returns-in-Err-clause-over

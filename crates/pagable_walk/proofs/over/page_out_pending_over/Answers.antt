@@ -1,6 +1,5 @@
-use Rattle.std.proofs.Common.{◌≡◌, ◌+◌, ◌-◌, refl, ◌∙◌, arith}
-use Rattle.pagable_loads.proofs.Stepped.{told_map, told_then}
-use Rattle.pagable_walk.proofs.{Pages.{all-paged, ends-paged, more-paged, none-paged}, Telling.{tells-map, told-same}}
+use Rattle.{std.proofs.Common.{◌≡◌, ◌+◌, ◌-◌, refl, ◌∙◌, arith}, pagable_loads.proofs.Stepped.{told_map, told_then}, pagable_walk.proofs.Pages.{all-paged, ends-paged, more-paged, none-paged}}
+use Rattle.pagable_walk.proofs.Telling.{tells-map, told-same}
 use Rattle.pagable_walk.proofs.over.page_out_pending_over.Goals as goal
 
 pub loop-left-init : goal.loop-left-init

@@ -1,5 +1,4 @@
-use Rattle.pagable_loads.proofs.Stepped.{told_map, told_then}
-use Rattle.pagable_walk.proofs.Pages.{took-none, took-some}
+use Rattle.{pagable_loads.proofs.Stepped.{told_map, told_then}, pagable_walk.proofs.Pages.{took-none, took-some}}
 use Rattle.pagable_walk.proofs.over.skip_entry.Goals as goal
 
 pub returns-in_default-clause-skips : goal.returns-in_default-clause-skips

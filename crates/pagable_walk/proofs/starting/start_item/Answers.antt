@@ -1,6 +1,5 @@
-use Rattle.std.{proofs.Common.{◌≤◌, ◌∷◌, [], length, ap, subst, sym, ◌∙◌, arith}, specs.Arc.arc_value}
-use Rattle.pagable_world.specs.Workers.{settle}
-use Rattle.pagable_walk.{specs.Slots.written_of, specs.Tasks.{IsWay, item_todo}, proofs.Stacks.todos-none, proofs.Ways.item-way}
+use Rattle.{std.{proofs.Common.{◌≤◌, ◌∷◌, [], length, ap, subst, sym, ◌∙◌, arith}, specs.Arc.arc_value}, pagable_world.specs.Workers.settle, pagable_walk.specs.{Slots.written_of, Tasks.IsWay}}
+use Rattle.pagable_walk.{specs.Tasks.item_todo, proofs.{Stacks.todos-none, Ways.item-way}}
 use Rattle.pagable_walk.proofs.starting.start_item.Goals as goal
 
 pub returns-clause-todo : goal.returns-clause-todo

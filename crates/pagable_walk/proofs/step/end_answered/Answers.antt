@@ -1,5 +1,4 @@
-use Rattle.pagable_loads.proofs.Stepped.{told_map}
-use Rattle.pagable_walk.proofs.{Stepping.{closes-none, closes-ends, acts-on}, Telling.told-all}
+use Rattle.{pagable_loads.proofs.Stepped.told_map, pagable_walk.proofs.{Stepping.{closes-none, closes-ends, acts-on}, Telling.told-all}}
 use Rattle.pagable_walk.proofs.step.end_answered.Goals as goal
 
 pub returns-in_default-clause-step : goal.returns-in_default-clause-step

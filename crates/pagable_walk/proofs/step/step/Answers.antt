@@ -1,6 +1,4 @@
-use Rattle.std.proofs.Common.{ap, ◌∙◌}
-use Rattle.pagable_loads.proofs.Stepped.{told_then}
-use Rattle.pagable_walk.{specs.Table.shelf_of, specs.Tasks.todos, specs.Turns.acting_then, proofs.Stepping.steps-to}
+use Rattle.{std.proofs.Common.{ap, ◌∙◌}, pagable_loads.proofs.Stepped.told_then, pagable_walk.{specs.{Table.shelf_of, Tasks.todos, Turns.acting_then}, proofs.Stepping.steps-to}}
 use Rattle.pagable_walk.proofs.step.step.Goals as goal
 
 pub returns-clause-step : goal.returns-clause-step

@@ -1,6 +1,4 @@
-use Rattle.std.proofs.Common.{refl, arith}
-use Rattle.pagable_loads.proofs.Stepped.{told_map}
-use Rattle.pagable_walk.{specs.Tasks.todos, proofs.Pinning.{load-goes, load-pins, load-fails, load-reads-none}}
+use Rattle.{std.proofs.Common.{refl, arith}, pagable_loads.proofs.Stepped.told_map, pagable_walk.{specs.Tasks.todos, proofs.Pinning.{load-goes, load-pins, load-fails, load-reads-none}}}
 use Rattle.pagable_walk.proofs.turns.load.Goals as goal
 
 pub returns-in-None-clause-step : goal.returns-in-None-clause-step

@@ -1,7 +1,5 @@
-use Rattle.std.proofs.Common.{ap, arith}
-use Rattle.pagable_world.specs.World.{Reading}
-use Rattle.pagable_loads.{specs.Ending.to_do, proofs.Stepped.told_map}
-use Rattle.pagable_walk.{specs.Tasks.todos, proofs.Pinning.{pin-holds, pin-begins, pin-fails}}
+use Rattle.{std.proofs.Common.{ap, arith}, pagable_world.specs.World.Reading, pagable_loads.{specs.Ending.to_do, proofs.Stepped.told_map}, pagable_walk.{specs.Tasks.todos, proofs.Pinning.pin-holds}}
+use Rattle.pagable_walk.proofs.Pinning.{pin-begins, pin-fails}
 use Rattle.pagable_walk.proofs.turns.pin.Goals as goal
 
 pub returns-in-Held-clause-step : goal.returns-in-Held-clause-step

@@ -1,7 +1,5 @@
-use Rattle.std.proofs.Common.{◌≡◌, ◌∷◌, ◌+◌, ◌*◌}
-use Rattle.pagable_world.specs.Access.{Told}
-use Rattle.pagable_loads.specs.Telling.{values_at}
-use Rattle.pagable_walk.specs.{Due.due, Due.far, Table.shelf_of, Tasks.IsWay, Tasks.todo_of, Tasks.todos, Walking.HasWalked}
+use Rattle.{std.proofs.Common.{◌≡◌, ◌∷◌, ◌+◌, ◌*◌}, pagable_world.specs.Access.Told, pagable_loads.specs.Telling.values_at, pagable_walk.specs.{Due.{due, far}, Table.shelf_of, Tasks.{IsWay, todo_of}}}
+use Rattle.pagable_walk.specs.{Tasks.todos, Walking.HasWalked}
 use Rattle.pagable_walk.proofs.walk.run.Given as goal
 
 -- the path leads to the task, and a run from here is one from the beginning

@@ -1,6 +1,5 @@
-use Rattle.std.{proofs.Common.{◌≡◌, ◌<◌, ◌^◌, length, refl, rules, arith}, specs.Prelude.vec_len}
-use Rattle.pagable_walk.{specs.Table.shelf_of, specs.Tasks.todos, proofs.Dues.start-falls, proofs.Stacks.todos-length, proofs.Stepping.steps-to, proofs.Telling.told-all, proofs.Turning.start-refused}
-use Rattle.pagable_walk.specs.declared.tasks.Task.TheVariants as tasks
+use Rattle.{std.{proofs.Common.{◌≡◌, ◌<◌, ◌^◌, length, refl, rules, arith}, specs.Prelude.vec_len}, pagable_walk.specs.{Table.shelf_of, Tasks.todos, declared.tasks.Task.Task}}
+use Rattle.pagable_walk.proofs.{Dues.start-falls, Stacks.todos-length, Stepping.steps-to, Telling.told-all, Turning.start-refused}
 use Rattle.pagable_walk.proofs.walk.start_within.Goals as goal
 
 pub returns-then-left-eq0-clause-step : goal.returns-then-left-eq0-clause-step
@@ -8,7 +7,7 @@ returns-then-left-eq0-clause-step g c =
     let below = todos c.args.path.now.items in
     let shelf = shelf_of c.args.table.now in
     let shelf' = shelf_of c.stop_waiting.new.self in
-    rw c.named.ensures (told-all (λ s. steps-to _ c.args.worker.0 _ shelf shelf' (tasks.Start c.args.reference c.args.place) below _ _ s s s
+    rw c.named.ensures (told-all (λ s. steps-to _ c.args.worker.0 _ shelf shelf' (Task.Start c.args.reference c.args.place) below _ _ s s s
     (start-refused _ _ c.args.worker.0 shelf shelf' c.args.reference c.args.place below _ c.refuse.result c.refuse.ensures.todo c.refuse.ensures.plain c.stop_waiting.ensures s) (record { closes = refl })))
 
 pub returns-clause-falls : goal.returns-clause-falls

@@ -1,5 +1,4 @@
-use Rattle.std.specs.Arc.{arc_value}
-use Rattle.pagable_walk.{specs.Slots.written_of, proofs.Forming.{forms-from, unfound-refuses}, proofs.Telling.tells-map}
+use Rattle.{std.specs.Arc.arc_value, pagable_walk.{specs.Slots.written_of, proofs.{Forming.{forms-from, unfound-refuses}, Telling.tells-map}}}
 use Rattle.pagable_walk.proofs.writing.form.Goals as goal
 
 pub returns-in-Ok-clause-step : goal.returns-in-Ok-clause-step

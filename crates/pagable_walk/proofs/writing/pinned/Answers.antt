@@ -1,5 +1,4 @@
-use Rattle.std.{proofs.Common.{ap, ◌∙◌}, specs.Arc.arc_value}
-use Rattle.pagable_walk.proofs.{Forming.finds-other, Telling.tells-map}
+use Rattle.{std.{proofs.Common.{ap, ◌∙◌}, specs.Arc.arc_value}, pagable_walk.proofs.{Forming.finds-other, Telling.tells-map}}
 use Rattle.pagable_walk.proofs.writing.pinned.Goals as goal
 
 pub returns-then-node_type-reference-clause-step : goal.returns-then-node_type-reference-clause-step
