@@ -1,6 +1,6 @@
 -- A step of a load leaves less to do.
 use Rattle.pagable_loads.proofs.Words.{◌≡◌, ℕ, zero, suc, ◌+◌, ◌-◌, ◌*◌, ◌<◌, Bool, List, [], ◌∷◌, ◌++◌, length, Option, Some, None, Result, Ok, Err, refl, ap, sym, subst, ◌∙◌, arith, slice_get}
-use Rattle.pagable_loads.proofs.Words.{◌^◌, slice_get_within, Error, ArcRef, Kind, Meaning, Rest, Answer, Types, Frame, Next, reads, asks, is_faulty, next_by, next_in, need_at, need_of}
+use Rattle.pagable_loads.proofs.Words.{◌^◌, slice_get_within, Error, ArcRef, Kind, Meaning, Rest, Answer, Types, Frame, Next, reads, asks, next_by, next_in, need_at, need_of}
 use Rattle.pagable_loads.proofs.Words.{length-append, needs_nested, needs_lazy, left_in, waits_for, many, waiting, widened, to_do, LeadsOn, nat_tests}
 
 widened_less : (k a b : ℕ) → a < b → widened k a < widened k b

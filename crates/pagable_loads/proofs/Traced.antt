@@ -1,6 +1,6 @@
 -- What a reading asks for is told by its bytes alone: kinds, one after the other, up to its end or its fault, whatever is answered.
 use Rattle.pagable_loads.proofs.Words.{◌≡◌, ℕ, zero, suc, ◌+◌, ◌-◌, ◌/◌, ◌^◌, Bool, true, false, if◌then◌else◌, List, [], ◌∷◌, ◌++◌, length, Option, Some, None, Result, Ok, Err, refl, subst, nat_lt}
-use Rattle.pagable_loads.proofs.Words.{nat_le, ◌==◌, append-nil, Width, w8, w16, w32, w64, w128, is_utf8, chars, Error, ArcRef, ◌>>=◌, Read, byte_at, varint_at, unsigned_at, signed_at, length_at}
+use Rattle.pagable_loads.proofs.Words.{nat_le, ◌==◌, append-nil, Width, w8, w32, w64, is_utf8, chars, Error, ArcRef, ◌>>=◌, Read, byte_at, varint_at, unsigned_at, signed_at, length_at}
 use Rattle.pagable_loads.proofs.Words.{bytes_at, text_at, bool_at, one_char, char_at, duration_at, longest, nanos_of_second, Meaning, integer, none, variant, sequence, entry, absent, present, success}
 use Rattle.pagable_loads.proofs.Words.{failure, lifted, text_order, put_all, put_sorted, of_entries, of_tagged, of_hash_map, Shape, nothing, unsigned, signed, flag, letter, duration, json, optional}
 use Rattle.pagable_loads.proofs.Words.{outcome, list, run, array, both, sorted_map, placed_map, hash_map, sorted_set, placed_set, static_value, tagged, cases, nested, Rest, Gets, bytes_of}

@@ -9,7 +9,6 @@ pub mod got;
 mod lending;
 pub mod over;
 pub mod reading;
-pub mod running;
 mod stack;
 pub mod starting;
 pub mod step;
