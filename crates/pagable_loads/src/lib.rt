@@ -2,11 +2,9 @@
 #![tactic(auto)]
 
 pub mod access;
-mod ahead;
 pub mod decoding;
 mod foreseeing;
 pub mod got;
-mod lending;
 pub mod over;
 pub mod reading;
 mod stack;

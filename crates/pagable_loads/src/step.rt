@@ -5,7 +5,7 @@ ghost use Rattle.{pagable_world.specs.{Loads.ReadsRoot, Access.Told}, pagable_lo
 ghost use Rattle.pagable_loads.specs.{Ending.{LeadsOn, EndsAs}, Frames.{reading_of, frames_of}, Needing.{Needs, HasFrames}, Telling.values_at, Running.Runs};
 
 use crate::access::Access;
-use crate::ahead::keep_if;
+use crate::foreseeing::keep_if;
 use crate::reading::{Need, Reading};
 use crate::stack::handles_of;
 use either::Either;

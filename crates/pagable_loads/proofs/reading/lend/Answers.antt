@@ -1,5 +1,5 @@
 use Rattle.pagable_loads.proofs.{Words.{ap, arith, length, subst, sym, ◌∙◌, slice_get-get_or, arc_value, LendsEach}, Lent.{tells_all, tells_both, tells_map, none_lent, longer, more_lent, all_lent}}
-use Rattle.pagable_loads.proofs.lending.lend.Goals as goal
+use Rattle.pagable_loads.proofs.reading.lend.Goals as goal
 
 pub returns-then-not-is_any_read_at_once-clause-lends : goal.returns-then-not-is_any_read_at_once-clause-lends
 returns-then-not-is_any_read_at_once-clause-lends g c =

@@ -1,5 +1,5 @@
 use Rattle.pagable_loads.proofs.{Lent.LentTo, Words.◌≡◌, Words.length, Words.arc_value, Words.Tells}
-use Rattle.pagable_loads.proofs.lending.lend.Given as goal
+use Rattle.pagable_loads.proofs.reading.lend.Given as goal
 
 -- those before this one lend theirs
 abbrev pub invariant-loop-reference : goal.invariant-loop-reference
