@@ -1,8 +1,6 @@
 //! A pager that is lent, as an access.
 
-ghost use Rattle.std.specs.Prelude.{◌≡◌, true};
-ghost use Rattle.pagable_pager.specs.View.{core_in, telling, is_at_work};
-ghost use Rattle.pagable_world.specs.declared.handles.Owner.TheVariants as owners;
+ghost use Rattle.{std.specs.Prelude.{◌≡◌, true}, pagable_pager.specs.View.{core_in, telling, is_at_work}};
 
 mod working;
 
@@ -36,7 +34,7 @@ where
     pub fn new(pager: &'a mut Pager<E, S>) -> Lent<'a, E, S>
         ensures lent { result.pager.ghost_name ≡ pager.entry.ghost_name }
         ensures same { result.pager.now ≡ pager.old }
-        ensures me { result.me ≡ owners.Caller }
+        ensures me { result.me ≡ Owner.Caller }
     {
         Lent {
             pager,
@@ -49,7 +47,7 @@ where
         requires { (core_in (telling S.stored S.is_closed S.failed) pager.old).workers worker.0 ≡ true }
         ensures lent { result.pager.ghost_name ≡ pager.entry.ghost_name }
         ensures same { result.pager.now ≡ pager.old }
-        ensures me { result.me ≡ owners.Worker worker }
+        ensures me { result.me ≡ Owner.Worker worker }
     {
         Lent {
             pager,
@@ -62,8 +60,7 @@ impl<'a, E: Env, S: PagableStorage<E>> Access<E> for Lent<'a, E, S>
 where
     E::Node: NodeSet<E>,
 {
-    ghost use Rattle.std.specs.Prelude.{Some};
-    ghost use Rattle.pagable_pager.specs.View.{state_in, telling};
+    ghost use Rattle.{std.specs.Prelude.Some, pagable_pager.specs.View.{state_in, telling}};
     ghost use Rattle.pagable_world.specs.declared.handles.Owner.TheVariants as owners;
 
     ghost told = { λ l. Some (state_in (telling S.stored S.is_closed S.failed) l.pager.now) };

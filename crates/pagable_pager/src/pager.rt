@@ -1,22 +1,13 @@
 //! The pager: values in memory, in step with tables of who holds them, over a storage of blobs.
 
-ghost use Rattle.std.specs.{Prelude.◌≡◌, Arc.arc_value, Option.option_map};
-ghost use Rattle.pagable_world.specs.{World.seen_as, Pager.IsNew, Pager.ValueCall, Pager.WellFormed};
-ghost use Rattle.pagable_loads.specs.Starting.{Shares};
+ghost use Rattle.{std.specs.{Prelude.◌≡◌, Arc.arc_value, Option.option_map}, pagable_world.specs.{World.seen_as, Pager.{IsNew, ValueCall, WellFormed}}, pagable_loads.specs.Starting.Shares};
 ghost use Rattle.pagable_pager.specs.View.{state_in, telling, spelling, values_of};
 
-pub mod adopts;
 pub mod births;
-pub mod closes;
-pub mod ends;
 pub mod handles;
 pub mod installs;
-pub mod known;
 pub mod lists;
 pub mod loads;
-pub mod opened;
-pub mod pins;
-pub mod places;
 pub mod releases;
 pub mod stores;
 pub mod workers;
@@ -48,9 +39,7 @@ impl<E: Env, S: PagableStorage<E>> Model for Pager<E, S>
 where
     E::Node: NodeSet<E>,
 {
-    ghost use Rattle.pagable_pager.specs.View.{PagerView, IsPager, telling, spelling};
-    ghost use Rattle.std.specs.Coded.{codes};
-    ghost use Rattle.indexmap.specs.Layout.{hash_map_code};
+    ghost use Rattle.{pagable_pager.specs.View.{PagerView, IsPager, telling, spelling}, std.specs.Coded.codes, indexmap.specs.Layout.hash_map_code};
 
     ghost Value = { PagerView E.Node S E };
 

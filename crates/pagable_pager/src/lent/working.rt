@@ -68,10 +68,8 @@ where
     }
 
     fn entry_key(&self, place: usize) -> Option<OptionalDataKey> {
-        match self.pager.entry(place) {
-            Some((_, _, key)) => Some(key),
-            None => None,
-        }
+        let (_, _, key) = self.pager.entry(place)?;
+        Some(key)
     }
 
     fn take_pending(&mut self, place: usize) -> Option<HandleNumber> {

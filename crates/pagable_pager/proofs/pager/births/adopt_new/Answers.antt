@@ -1,6 +1,6 @@
 use Rattle.pagable_pager.proofs.Words.{◌<◌, ap, sym, subst, ◌∙◌, Some, None, false, not, ◌≢◌, Core, greatest, usable, first_key, core_of, adopts-new, early-past, refused-memory, refused-new}
 use Rattle.pagable_pager.proofs.{Adopting.adopted-node, Words.not-closed, Words.adopted-past, Words.next-past, Words.room-newer, Words.value_in}
-use Rattle.pagable_pager.proofs.pager.adopts.adopt_new.Goals as goal
+use Rattle.pagable_pager.proofs.pager.births.adopt_new.Goals as goal
 
 pub returns-in-Err-clause-refused : goal.returns-in-Err-clause-refused
 returns-in-Err-clause-refused g c stored closed failures =
