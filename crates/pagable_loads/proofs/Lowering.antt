@@ -1,7 +1,8 @@
 -- A step of a load leaves less to do.
-use Rattle.pagable_loads.proofs.Words.{◌≡◌, ℕ, zero, suc, ◌+◌, ◌-◌, ◌*◌, ◌<◌, Bool, List, [], ◌∷◌, ◌++◌, length, Option, Some, None, Result, Ok, Err, refl, ap, sym, subst, ◌∙◌, arith, slice_get}
-use Rattle.pagable_loads.proofs.Words.{◌^◌, slice_get_within, Error, ArcRef, Kind, Meaning, Rest, Answer, Types, Frame, Next, reads, asks, next_by, next_in, need_at, need_of}
-use Rattle.pagable_loads.proofs.Words.{length-append, needs_nested, needs_lazy, left_in, waits_for, many, waiting, widened, to_do, LeadsOn, nat_tests}
+use Rattle.std.proofs.Common.{◌≡◌, ℕ, zero, suc, ◌+◌, ◌-◌, ◌*◌, ◌<◌, Bool, List, [], ◌∷◌, ◌++◌, length, Option, Some, None, Result, Ok, Err, refl, ap, sym, subst, ◌∙◌, arith, slice_get, ◌^◌}
+use Rattle.{std.proofs.lemmas.{Option.slice_get_within, List.length-append, Bool.Decides.nat_tests}, pagable_model.specs.declared.{error.Error.Error, numbers.{ArcRef.ArcRef, Kind.Kind}}}
+use Rattle.{pagable_model.specs.{Meaning.Meaning, Reading.Rest, Standing.Answer}, pagable_world.specs.{Plain.Types, World.Frame, Loads.{Next, reads, asks, next_by, next_in, need_at, need_of}}}
+use Rattle.{pagable_world.specs.Loads.{needs_nested, needs_lazy}, pagable_loads.specs.Ending.{left_in, waits_for, many, waiting, widened, to_do, LeadsOn}}
 
 widened_less : (k a b : ℕ) → a < b → widened k a < widened k b
 unfolding widened

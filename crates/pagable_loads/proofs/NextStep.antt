@@ -1,7 +1,9 @@
 -- From what reading gives to what the blob asks for next.
-use Rattle.pagable_loads.proofs.Words.{arith, nat_tests, common_steps, rules, ◌≡◌, ℕ, ◌+◌, List, [], ◌∷◌, length, true, false, Option, Some, None, Result, Ok, Err, ◌⊎◌, inl, inr, refl, ap, subst}
-use Rattle.pagable_loads.proofs.Words.{sym, ◌∙◌, slice_get, Error, ArcRef, Meaning, Blob, is_own_reading, Shape, Rest, read_typed, Answer, Standing, GivesSome, handles_at, rest_at, at_front, Values}
-use Rattle.pagable_loads.{proofs.Words.{answer_of, answers_from, asks_for, next_by, next_of, read_with, is_faulty, Decodes, Answers, ReadsWith, Asks, is_asking, Decoded}, specs.Got.answer_at}
+use Rattle.std.proofs.Common.{arith, rules, ◌≡◌, ℕ, ◌+◌, List, [], ◌∷◌, length, true, false, Option, Some, None, Result, Ok, Err, ◌⊎◌, inl, inr, refl, ap, subst, sym, ◌∙◌, slice_get}
+use Rattle.{std.proofs.lemmas.{Bool.Decides.nat_tests, Grind.common_steps}, pagable_model.specs.{declared.{error.Error.Error, numbers.ArcRef.ArcRef}, Meaning.Meaning, Blob.Blob}}
+use Rattle.{pagable_model.specs.{Refusals.is_own_reading, Shape.Shape, Reading.{Rest, read_typed}, Standing.{Answer, Standing, GivesSome, handles_at, rest_at}}, pagable_core.specs.Context.at_front}
+use Rattle.{pagable_world.specs.{World.Values, Loads.{answer_of, answers_from, asks_for, next_by, next_of, read_with, is_faulty}}, pagable_loads.specs.Decoding.{Decodes, Answers, ReadsWith, Asks}}
+use Rattle.pagable_loads.specs.{Decoding.is_asking, declared.decoding.Decoded.Decoded, Got.answer_at}
 use Rattle.pagable_core.specs.Context as context
 
 -- answers by place, key and kind are those of the references got

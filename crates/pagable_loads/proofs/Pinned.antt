@@ -1,10 +1,11 @@
 -- A pin with its loads, and how it is taken back; and the reading of a key.
-use Rattle.pagable_loads.proofs.Words.{common_steps, rules, ◌≡◌, ℕ, ◌+◌, Bool, true, false, Option, Some, Result, Ok, Err, inl, inr, refl, ap, sym, subst, ◌∙◌, arith, nat_tests, Error, HandleNumber}
-use Rattle.pagable_loads.proofs.Words.{LoadNumber, LoadAnswer, HandleRow, Owner, Mode, if_there, is_loose, is_unpinned, Core, Reading, Root, of_key, Values, Alike, row_at, PinCall, ReleaseCall}
-use Rattle.pagable_loads.proofs.Words.{BeginCall, BeginKeyCall, with_load, fresh, PagerState, WellFormed, Told, Called, LoadRun, load-ends, load-goes-on, PinRun, pins-at-once, pin-is-refused}
-use Rattle.pagable_loads.proofs.Words.{load-is-refused, load-pins, load-fails, reading-is-refused, load-reads, reading-fails, IsUnpinnedBack, PinsOver, ReadsOver, IsLoadOf, reading_of, is_cell, Runs}
-use Rattle.pagable_loads.{proofs.Words.{StartsPin, Shares, PinsFirst, Unpins, TakesBack, Tells, begun_as}, specs.declared.{starting.PinStart.PinStart, reading.Reading.Reading as Own}}
-use Rattle.pagable_world.specs.declared.answers.{Pinning.Pinning, Beginning.Beginning}
+use Rattle.std.proofs.{lemmas.{Grind.common_steps, Bool.Decides.nat_tests}, Common.{rules, ◌≡◌, ℕ, ◌+◌, Bool, true, false, Option, Some, Result, Ok, Err, inl, inr, refl, ap, sym, subst, ◌∙◌, arith}}
+use Rattle.{pagable_model.specs.declared.{error.Error.Error, numbers.{HandleNumber.HandleNumber, LoadNumber.LoadNumber}}, pagable_world.specs.declared.events.LoadAnswer.LoadAnswer}
+use Rattle.pagable_world.specs.{declared.{handles.{HandleRow.HandleRow, Owner.Owner}, rows.Mode.Mode, answers.{Pinning.Pinning, Beginning.Beginning}}, Plain.if_there, Kinds.{is_loose, is_unpinned}}
+use Rattle.pagable_world.specs.{World.{Core, Reading, Root, of_key, Values, Alike, row_at}, Calls.{PinCall, ReleaseCall}, LoadCalls.{BeginCall, BeginKeyCall, with_load}, Workers.fresh}
+use Rattle.pagable_world.specs.{Pager.{PagerState, WellFormed}, Access.{Told, Called, LoadRun, load-ends, load-goes-on, PinRun, pins-at-once, pin-is-refused, load-is-refused, load-pins, load-fails}}
+use Rattle.{pagable_world.specs.Access.{reading-is-refused, load-reads, reading-fails, IsUnpinnedBack, PinsOver, ReadsOver}, pagable_loads.specs.{Frames.{IsLoadOf, reading_of, is_cell}, Running.Runs}}
+use Rattle.pagable_loads.specs.{Starting.{StartsPin, Shares, PinsFirst, Unpins, TakesBack}, Telling.{Tells, begun_as}, declared.{starting.PinStart.PinStart, reading.Reading.Reading as Own}}
 
 -- what is told of a state, beside what led to it
 pub told_with : {S : Type 0} {o n : Option S} {R Q : S → S → Type 0} {P : S → Type 0} → ((s t : S) → R s t → P t → Q s t) → Told o n R → Tells n P → Told o n Q

@@ -1,11 +1,12 @@
 -- What a step's call did is what the step is said to do.
-use Rattle.pagable_loads.proofs.Words.{◌≡◌, ℕ, ◌+◌, ◌<◌, ◌≤◌, List, [], ◌∷◌, ◌++◌, length, true, false, Option, Some, None, Result, Ok, Err, inl, inr, refl, ap, sym, subst, ◌∙◌, arith, not, Error}
-use Rattle.pagable_loads.proofs.Words.{ArcRef, HandleNumber, Kind, Blob, longest_path, LoadAnswer, Owner, is_owner, if_there, Core, Root, of_cell, of_key, OpenLoad, Frame, Reading, Values, OwnsLoad}
-use Rattle.pagable_loads.proofs.Words.{refused_if, load_fault, from_store, AskCall, AdoptCall, EndCall, HandOverCall, DropCall, LoadCloses, need_of, needs_nested, needs_lazy, root_frame, nested_frame}
-use Rattle.pagable_loads.proofs.Words.{with_got, handles_of, MakesNode, ReadsNode, ReadsRoot, LoadIs, IsOfCell, IsOfKey, Meets, Does, PagerState, Moves, ReadingBrings, IsNewNode, IsCellOf, Told}
-use Rattle.pagable_loads.proofs.Words.{Called, ReadingStep, Brings, IsMade, AsksFor, TakesLazily, AdoptsValue, frame_of, frames_of, onto, reading_of, is_cell, IsLoadOf, Met, Tries, Steps, Drops}
-use Rattle.{pagable_loads.{proofs.{Words.nat_tests, Needed.length_onto}, specs.declared.reading.{Frame.Frame as Held, Reading.Reading as Own}}, pagable_world.specs.declared.calls.Want.Want}
-use Rattle.either.specs.declared.Either.{Either}
+use Rattle.std.proofs.Common.{◌≡◌, ℕ, ◌+◌, ◌<◌, ◌≤◌, List, [], ◌∷◌, ◌++◌, length, true, false, Option, Some, None, Result, Ok, Err, inl, inr, refl, ap, sym, subst, ◌∙◌, arith}
+use Rattle.{std.{proofs.lemmas.Bool.Decides.nat_tests, specs.Prelude.not}, pagable_model.specs.{declared.{error.Error.Error, numbers.{ArcRef.ArcRef, HandleNumber.HandleNumber, Kind.Kind}}, Blob.Blob}}
+use Rattle.{pagable_model.specs.Deep.longest_path, pagable_world.specs.{declared.{events.LoadAnswer.LoadAnswer, handles.Owner.Owner, calls.Want.Want}, Kinds.is_owner, Plain.if_there, World.Core}}
+use Rattle.pagable_world.specs.{World.{Root, of_cell, of_key, OpenLoad, Frame, Reading, Values}, Refusals.{OwnsLoad, refused_if, load_fault}, LoadCalls.{from_store, AskCall, AdoptCall, EndCall}}
+use Rattle.pagable_world.specs.{LoadCalls.{HandOverCall, DropCall, LoadCloses}, Loads.{need_of, needs_nested, needs_lazy, root_frame, nested_frame, with_got, handles_of, MakesNode, ReadsNode}}
+use Rattle.pagable_world.specs.{Loads.{ReadsRoot, LoadIs, IsOfCell, IsOfKey, Meets, Does}, Pager.{PagerState, Moves, ReadingBrings, IsNewNode, IsCellOf}, Access.{Told, Called, ReadingStep}}
+use Rattle.pagable_loads.specs.{Telling.{Brings, IsMade, AsksFor, TakesLazily, AdoptsValue}, Frames.{frame_of, frames_of, onto, reading_of, is_cell, IsLoadOf}, Stepping.{Met, Tries, Steps, Drops}}
+use Rattle.{pagable_loads.{specs.declared.reading.{Frame.Frame as Held, Reading.Reading as Own}, proofs.Needed.length_onto}, either.specs.declared.Either.Either}
 
 module _ {S : Type 0} where
   pub told_map : {o n : Option S} {R Q : S → S → Type 0} → ((s t : S) → R s t → Q s t) → Told o n R → Told o n Q

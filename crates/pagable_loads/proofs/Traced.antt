@@ -1,11 +1,12 @@
 -- What a reading asks for is told by its bytes alone: kinds, one after the other, up to its end or its fault, whatever is answered.
-use Rattle.pagable_loads.proofs.Words.{◌≡◌, ℕ, zero, suc, ◌+◌, ◌-◌, ◌/◌, ◌^◌, Bool, true, false, if◌then◌else◌, List, [], ◌∷◌, ◌++◌, length, Option, Some, None, Result, Ok, Err, refl, subst, nat_lt}
-use Rattle.pagable_loads.proofs.Words.{nat_le, ◌==◌, append-nil, Width, w8, w32, w64, is_utf8, chars, Error, ArcRef, ◌>>=◌, Read, byte_at, varint_at, unsigned_at, signed_at, length_at}
-use Rattle.pagable_loads.proofs.Words.{bytes_at, text_at, bool_at, one_char, char_at, duration_at, longest, nanos_of_second, Meaning, integer, none, variant, sequence, entry, absent, present, success}
-use Rattle.pagable_loads.proofs.Words.{failure, lifted, text_order, put_all, put_sorted, of_entries, of_tagged, of_hash_map, Shape, nothing, unsigned, signed, flag, letter, duration, json, optional}
-use Rattle.pagable_loads.proofs.Words.{outcome, list, run, array, both, sorted_map, placed_map, hash_map, sorted_set, placed_set, static_value, tagged, cases, nested, Rest, Gets, bytes_of}
-use Rattle.pagable_loads.proofs.Words.{reference_at, seen, two, choose, items, counted, registered, Deeper, enter, JsonCase, null_case, flag_case, number_case, text_case, array_case, object_case}
-use Rattle.{pagable_loads.proofs.Words.{json_case, json_part, below, deepest, read, read_typed, Answer, answer_at, handles_at, is_asking}, pagable_model.specs.Reading.read_with}
+use Rattle.std.proofs.Common.{◌≡◌, ℕ, zero, suc, ◌+◌, ◌-◌, ◌/◌, ◌^◌, Bool, true, false, if◌then◌else◌, List, [], ◌∷◌, ◌++◌, length, Option, Some, None, Result, Ok, Err, refl, subst, ◌==◌}
+use Rattle.{std.{proofs.lemmas.List.append-nil, specs.{Prelude.{nat_lt, nat_le}, Int.{Width, w8, w32, w64}, Str.{is_utf8, chars}}}, pagable_model.specs.declared.error.Error.Error}
+use Rattle.pagable_model.specs.{declared.numbers.ArcRef.ArcRef, Steps.◌>>=◌, Numbers.{Read, byte_at, varint_at, unsigned_at, signed_at}, Basic.{length_at, bytes_at, text_at, bool_at, one_char}}
+use Rattle.pagable_model.specs.{Basic.{char_at, duration_at, longest, nanos_of_second}, Meaning.{Meaning, integer, none, variant, sequence, entry, absent, present, success, failure, lifted}}
+use Rattle.pagable_model.specs.{Keys.{text_order, put_all, put_sorted}, Carried.{of_entries, of_tagged, of_hash_map}, Shape.{Shape, nothing, unsigned, signed, flag, letter, duration, json, optional}}
+use Rattle.pagable_model.specs.{Shape.{outcome, list, run, array, both, sorted_map, placed_map, hash_map, sorted_set, placed_set, static_value, tagged, cases, nested}, Reading.{Rest, Gets, bytes_of}}
+use Rattle.pagable_model.specs.Reading.{reference_at, seen, two, choose, items, counted, registered, Deeper, enter, JsonCase, null_case, flag_case, number_case, text_case, array_case, object_case}
+use Rattle.{pagable_model.specs.{Reading.{json_case, json_part, below, deepest, read, read_typed, read_with}, Standing.{Answer, answer_at, handles_at}}, pagable_loads.specs.Decoding.is_asking}
 use Rattle.pagable_model.specs.Meaning as meanings
 use Rattle.pagable_model.specs.Shape as shapes
 

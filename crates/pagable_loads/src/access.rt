@@ -14,8 +14,7 @@ use pagable_world::{Beginning, Pinning};
 use std::alloc::Global;
 use std::sync::Arc;
 
-/// The calls of a pager for one owner: the caller, or a page-out worker. Where the pager's plain state is told, each call says what it does to it; behind a lock
-/// nothing is told.
+/// The calls of a pager for one owner: the caller, or a page-out worker. Where the pager's plain state is told, each call says what it does to it; behind a lock nothing is told.
 pub trait Access<E: Env>
 where
     E::Node: NodeSet<E>,
@@ -39,15 +38,13 @@ where
         ensures acting { acting self.new ≡ acting self.old }
         ensures lender { lender self.new ≡ lender self.old };
 
-    /// Pins a loose handle, and answers a new Pinned one; or the key under which the value has to be loaded first. Refused with NoSuchHandle, NotYours,
-    /// WrongMode, NumbersSpent and OutOfMemory.
+    /// Pins a loose handle, and answers a new Pinned one; or the key under which the value has to be loaded first. Refused with NoSuchHandle, NotYours, WrongMode, NumbersSpent and OutOfMemory.
     fn pin(&mut self, handle: HandleNumber) -> Result<Pinning, Error>
         ensures step { Told (told self.old) (told self.new) (λ s t. Called (values_at E.Node.NodeSet E.Env E.Hash.KeyHash (acting self.old).environment) (λ w'. PinCall s.core (acting self.old).me handle result w') s t) }
         ensures acting { acting self.new ≡ acting self.old }
         ensures lender { lender self.new ≡ lender self.old };
 
-    /// A pin of a loose handle, where its value is in memory, and else a load of its cell. Refused with NoSuchHandle, NotYours, WrongMode, NumbersSpent and
-    /// OutOfMemory.
+    /// A pin of a loose handle, where its value is in memory, and else a load of its cell. Refused with NoSuchHandle, NotYours, WrongMode, NumbersSpent and OutOfMemory.
     fn begin_pin(&mut self, handle: HandleNumber) -> Result<PinStart, Error>
         ensures step { Told (told self.old) (told self.new) (λ s t. Called (values_at E.Node.NodeSet E.Env E.Hash.KeyHash (acting self.old).environment) (λ w'. StartsPin s.core (acting self.old).me handle result w') s t) }
         ensures acting { acting self.new ≡ acting self.old }

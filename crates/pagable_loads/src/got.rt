@@ -7,9 +7,8 @@ use pagable_core::References;
 use pagable_flavors::{DataKey, Error};
 use std::sync::Arc;
 
-/// Answers for a blob's references from a list of those that were got so far, the first of the blob's first. One that wasn't got is refused with Storage of
-/// its kind, and one that was got as another kind with WrongKind. It lends the value of the reference that it answered last, from a list of values by the
-/// references' places, which may be shorter.
+/// Answers for a blob's references from a list of those that were got so far, the first of the blob's first. One that wasn't got is refused with Storage of its kind, and one that was got as another
+/// kind with WrongKind. It lends the value of the reference that it answered last, from a list of values by the references' places, which may be shorter.
 #[derive(Drop)]
 pub struct GotReferences<'g, E: Env> {
     env: &'g E,

@@ -12,8 +12,7 @@ use pagable_model::LoadNumber;
 use std::alloc::Global;
 use std::sync::Arc;
 
-/// A blob that a load has got and reads: the kind as which its node will stand, its key, the type of its value, and the references that were got for it so
-/// far, in the order in which they are read.
+/// A blob that a load has got and reads: the kind as which its node will stand, its key, the type of its value, and the references that were got for it so far, in the order in which they are read.
 #[derive(Drop)]
 pub struct Frame {
     pub kind: Kind,
@@ -87,8 +86,7 @@ impl Reading {
         }
     }
 
-    /// What the load needs next. The innermost blob is read from its front for it, with these values of the references that it has got, and nothing else is
-    /// touched.
+    /// What the load needs next. The innermost blob is read from its front for it, with these values of the references that it has got, and nothing else is touched.
     pub fn next<E: Env>(
         &self,
         env: &E,

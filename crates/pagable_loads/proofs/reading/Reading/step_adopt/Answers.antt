@@ -1,4 +1,4 @@
-use Rattle.pagable_loads.proofs.{Words.{[], frame_of, onto}, Stepped.{told_map, adopt_comes, adopt_refused}, Lowering.node_leads}
+use Rattle.{std.proofs.Common.[], pagable_loads.{specs.Frames.{frame_of, onto}, proofs.{Stepped.{told_map, adopt_comes, adopt_refused}, Lowering.node_leads}}}
 use Rattle.pagable_loads.proofs.reading.Reading.step_adopt.Goals as goal
 
 pub returns-in-Ok-clause-step : goal.returns-in-Ok-clause-step

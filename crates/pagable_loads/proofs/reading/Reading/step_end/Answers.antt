@@ -1,4 +1,4 @@
-use Rattle.pagable_loads.proofs.{Stepped.told_map, Stepped.end_pins, Stepped.end_closed, Stepped.end_refused, Words.refl}
+use Rattle.{pagable_loads.proofs.Stepped.{told_map, end_pins, end_closed, end_refused}, std.proofs.Common.refl}
 use Rattle.pagable_loads.proofs.reading.Reading.step_end.Goals as goal
 
 pub returns-in-Ok-clause-step : goal.returns-in-Ok-clause-step

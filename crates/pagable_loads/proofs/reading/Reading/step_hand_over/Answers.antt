@@ -1,4 +1,4 @@
-use Rattle.pagable_loads.proofs.{Stepped.told_map, Stepped.hands_over, Stepped.hand_over_refused, Words.refl, Words.ap, Words.◌∙◌, Words.handles_of}
+use Rattle.{pagable_loads.proofs.Stepped.{told_map, hands_over, hand_over_refused}, std.proofs.Common.{refl, ap, ◌∙◌}, pagable_world.specs.Loads.handles_of}
 use Rattle.pagable_loads.proofs.reading.Reading.step_hand_over.Goals as goal
 
 pub returns-in-Ok-clause-step : goal.returns-in-Ok-clause-step

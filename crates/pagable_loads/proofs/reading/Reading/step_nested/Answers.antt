@@ -1,5 +1,5 @@
-use Rattle.pagable_loads.proofs.{Words.{arc_value, blob_of, refl, [], nested_frame, frame_of, onto}, Stepped.{told_map, nested_known, nested_blob, nested_deep, nested_refused}}
-use Rattle.pagable_loads.proofs.{Lowering.{got_leads, blob_leads, nested_wants}, Needed.below_short}
+use Rattle.{std.{specs.Arc.arc_value, proofs.Common.{refl, []}}, pagable_core.specs.Data.blob_of, pagable_world.specs.Loads.nested_frame, pagable_loads.specs.Frames.{frame_of, onto}}
+use Rattle.pagable_loads.proofs.{Stepped.{told_map, nested_known, nested_blob, nested_deep, nested_refused}, Lowering.{got_leads, blob_leads, nested_wants}, Needed.below_short}
 use Rattle.pagable_loads.proofs.reading.Reading.step_nested.Goals as goal
 
 pub returns-in-Ok-Left-clause-step : goal.returns-in-Ok-Left-clause-step

@@ -1,4 +1,5 @@
-use Rattle.pagable_loads.proofs.{Words.{arc_value, blob_of, root_frame, refl}, Stepped.{told_map, root_comes, root_refused}, Lowering.root_leads}
+use Rattle.{std.{specs.Arc.arc_value, proofs.Common.refl}, pagable_core.specs.Data.blob_of, pagable_world.specs.Loads.root_frame, pagable_loads.proofs.Stepped.{told_map, root_comes, root_refused}}
+use Rattle.pagable_loads.proofs.Lowering.{root_leads}
 use Rattle.pagable_loads.proofs.reading.Reading.step_root.Goals as goal
 
 pub returns-in-Ok-clause-step : goal.returns-in-Ok-clause-step

@@ -1,4 +1,4 @@
-use Rattle.pagable_loads.proofs.{Words.{[], frame_of, onto}, Stepped.{told_map, lazy_comes, lazy_refused}, Lowering.{got_leads, lazy_wants}}
+use Rattle.{std.proofs.Common.[], pagable_loads.{specs.Frames.{frame_of, onto}, proofs.{Stepped.{told_map, lazy_comes, lazy_refused}, Lowering.{got_leads, lazy_wants}}}}
 use Rattle.pagable_loads.proofs.reading.Reading.take_lazy.Goals as goal
 
 pub returns-in-Ok-clause-step : goal.returns-in-Ok-clause-step
