@@ -4,7 +4,7 @@ ghost use Rattle.{std.specs.{Arc.arc_value, Prelude.◌≡◌}, pagable_world.sp
 ghost use Rattle.pagable_walk.specs.{Over.{PagesAt, PagesEntry, PagesItem, PagesList, SkipsEntry}, Slots.written_of, Table.shelf_of};
 
 use crate::starting::{start_entry, start_item};
-use crate::walk::run;
+use crate::step::run;
 use crate::{PageOutError, SlotTable};
 use pagable_codec::{Env, NodeSet};
 use pagable_core::SerializedData;

@@ -1,7 +1,7 @@
 use Rattle.{std.{proofs.Common.{◌≤◌, ◌+◌, ◌∷◌, None, length, ap, ◌∙◌, subst, sym, arith}, specs.Arc.arc_value}, pagable_world.specs.{Plain.longest_path, Workers.settle, World.to_finish}}
 use Rattle.{pagable_world.specs.World.was_refused, pagable_walk.{proofs.{Forming.{write-turns, write-fails}, Pinning.same-shelf, Telling.tells-map, Ways.settle-way}, specs.Failing.{back_of, fails}}}
 use Rattle.pagable_walk.specs.{Slots.written_of, Table.shelf_of, Tasks.{IsWay, todos}, Writing.just_open}
-use Rattle.pagable_walk.proofs.writing.write.Goals as goal
+use Rattle.pagable_walk.proofs.turns.write.Goals as goal
 
 pub returns-in-Ok-clause-way : goal.returns-in-Ok-clause-way
 returns-in-Ok-clause-way g c =

@@ -1,6 +1,6 @@
 use Rattle.{std.proofs.Common.{refl, ap, ◌∙◌}, pagable_loads.{specs.Working.as_caller, proofs.Stepped.told_then}, pagable_walk.specs.{Table.shelf_of, Tasks.todos, Turns.{acting_then, plan}}}
 use Rattle.pagable_walk.proofs.{Joined.{none-walked, goes-walked, ends-walked}, Telling.told-all}
-use Rattle.pagable_walk.proofs.walk.run.Goals as goal
+use Rattle.pagable_walk.proofs.step.run.Goals as goal
 
 pub loop-next-init : goal.loop-next-init
 loop-next-init g c =

@@ -1,5 +1,5 @@
 use Rattle.{std.{proofs.Common.{ap, ◌∙◌}, specs.Arc.arc_value}, pagable_walk.proofs.{Forming.finds-other, Telling.tells-map}}
-use Rattle.pagable_walk.proofs.writing.pinned.Goals as goal
+use Rattle.pagable_walk.proofs.turns.pinned.Goals as goal
 
 pub returns-then-node_type-reference-clause-step : goal.returns-then-node_type-reference-clause-step
 returns-then-node_type-reference-clause-step g c =

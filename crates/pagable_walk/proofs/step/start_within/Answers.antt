@@ -1,6 +1,6 @@
 use Rattle.{std.{proofs.Common.{◌≡◌, ◌<◌, ◌^◌, length, refl, rules, arith}, specs.Prelude.vec_len}, pagable_walk.specs.{Table.shelf_of, Tasks.todos, declared.tasks.Task.Task}}
 use Rattle.pagable_walk.proofs.{Dues.start-falls, Stacks.todos-length, Stepping.steps-to, Telling.told-all, Turning.start-refused}
-use Rattle.pagable_walk.proofs.walk.start_within.Goals as goal
+use Rattle.pagable_walk.proofs.step.start_within.Goals as goal
 
 pub returns-then-left-eq0-clause-step : goal.returns-then-left-eq0-clause-step
 returns-then-left-eq0-clause-step g c =

@@ -1,5 +1,5 @@
 use Rattle.{std.specs.Arc.arc_value, pagable_walk.{specs.Slots.written_of, proofs.{Forming.kept-forms, Telling.tells-map}}}
-use Rattle.pagable_walk.proofs.writing.prepare.Goals as goal
+use Rattle.pagable_walk.proofs.turns.prepare.Goals as goal
 
 pub returns-in-Ok-clause-step : goal.returns-in-Ok-clause-step
 returns-in-Ok-clause-step g c =

@@ -1,6 +1,6 @@
 use Rattle.{std.proofs.Common.{◌≡◌, ◌∷◌, ◌+◌, ◌*◌}, pagable_world.specs.Access.Told, pagable_loads.specs.Telling.values_at, pagable_walk.specs.{Due.{due, far}, Table.shelf_of, Tasks.{IsWay, todo_of}}}
 use Rattle.pagable_walk.specs.{Tasks.todos, Walking.HasWalked}
-use Rattle.pagable_walk.proofs.walk.run.Given as goal
+use Rattle.pagable_walk.proofs.step.run.Given as goal
 
 -- the path leads to the task, and a run from here is one from the beginning
 abbrev pub invariant-loop-next : goal.invariant-loop-next
