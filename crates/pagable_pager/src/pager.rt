@@ -22,8 +22,7 @@ use std::alloc::Global;
 use std::marker::Model;
 use std::sync::Arc;
 
-/// Shared values, their handles and their loads, over a storage of blobs. A call that is refused leaves all as it was and gives its value back, but where
-/// its own page says more.
+/// Shared values, their handles and their loads, over a storage of blobs. A call that is refused leaves all as it was and gives its value back, but where its own page says more.
 #[derive(Drop)]
 pub struct Pager<E: Env, S: PagableStorage<E>>
 where
@@ -118,8 +117,7 @@ where
         &self.env
     }
 
-    /// What is true of every pager: each kept count is the number of pinning handles, a value is in memory exactly while its node is pinned or has no key, and
-    /// it owns the handles of its references.
+    /// What is true of every pager: each kept count is the number of pinning handles, a value is in memory exactly while its node is pinned or has no key, and it owns the handles of its references.
     pub fn is_whole(&self)
         ensures { WellFormed (values_of (spelling E.Node.type_of E.Node.refs_of E.Node.means E.Node.read_causes E.Node.write_causes E.Node.shape_of E.parts E.Hash.digest) self.now.environment)
             (state_in (telling S.stored S.is_closed S.failed) self.now) }

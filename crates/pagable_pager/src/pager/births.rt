@@ -164,8 +164,7 @@ where
         self.new_node(alloc, node, Mode::Shared)
     }
 
-    /// A new cell that has a key and no value, with an unpinned handle of the caller's. Asks that the key reads as a value of this type. Refused with
-    /// NumbersSpent and OutOfMemory.
+    /// A new cell that has a key and no value, with an unpinned handle of the caller's. Asks that the key reads as a value of this type. Refused with NumbersSpent and OutOfMemory.
     pub fn new_paged_out(
         &mut self,
         alloc: Global,
@@ -245,10 +244,9 @@ where
         }
     }
 
-    /// What a load has read becomes a node, which the cache knows from now on, with a handle of the load's, and the handles of its references move to it. Where the
-    /// cache gives a node already, what was read is dropped, the handles that its references name are given up, and the load gets a handle of that node. Asks that
-    /// the value is what the key reads as. A refusal gives the value back: NoSuchHandle and NotYours, of the load and of the references; WrongMode for a loose kind;
-    /// WrongKind where the kind isn't the value's; NumbersSpent and OutOfMemory.
+    /// What a load has read becomes a node, which the cache knows from now on, with a handle of the load's, and the handles of its references move to it. Where the cache gives a node already, what
+    /// was read is dropped, the handles that its references name are given up, and the load gets a handle of that node. Asks that the value is what the key reads as. A refusal gives the value back:
+    /// NoSuchHandle and NotYours, of the load and of the references; WrongMode for a loose kind; WrongKind where the kind isn't the value's; NumbersSpent and OutOfMemory.
     pub fn load_adopt(
         &mut self,
         alloc: Global,

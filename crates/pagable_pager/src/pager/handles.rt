@@ -18,8 +18,7 @@ impl<E: Env, S: PagableStorage<E>> Pager<E, S>
 where
     E::Node: NodeSet<E>,
 {
-    /// One more handle of the node of a live handle, of the same mode, which is the caller's: a clone of a pinning handle pins. Refused with NoSuchHandle,
-    /// NumbersSpent and OutOfMemory.
+    /// One more handle of the node of a live handle, of the same mode, which is the caller's: a clone of a pinning handle pins. Refused with NoSuchHandle, NumbersSpent and OutOfMemory.
     pub fn clone(&mut self, handle: HandleNumber) -> Result<HandleNumber, Error>
         ensures step { CloneCall (core_in (telling S.stored S.is_closed S.failed) self.old) Owner.Caller handle result (core_in (telling S.stored S.is_closed S.failed) self.new) }
         ensures only { OnlyTables self.old self.new }
@@ -40,8 +39,7 @@ where
         making::clone(&mut self.tables, me, handle)
     }
 
-    /// A Pinned handle becomes a loose pinned one, and keeps its number. It takes no memory. Refused with NoSuchHandle, NotYours, and WrongMode where the handle
-    /// isn't Pinned.
+    /// A Pinned handle becomes a loose pinned one, and keeps its number. It takes no memory. Refused with NoSuchHandle, NotYours, and WrongMode where the handle isn't Pinned.
     pub fn into_pagable(&mut self, handle: HandleNumber) -> Result<HandleNumber, Error>
         ensures step { LoosenCall (core_in (telling S.stored S.is_closed S.failed) self.old) Owner.Caller handle result (core_in (telling S.stored S.is_closed S.failed) self.new) }
         ensures only { OnlyTables self.old self.new }

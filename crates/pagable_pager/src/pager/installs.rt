@@ -137,11 +137,10 @@ where
         }
     }
 
-    /// Ends a load of a cell with its value, which the load read: the handle that began it is pinned, a Pinned one is made and answered, and what the load still owns
-    /// is given up. The value comes into the cell with the handles of its references; where the cell has its value already, it is dropped. Asks that the value is
-    /// what the cell's key reads as. A refusal gives the value back and leaves the load open: NoSuchHandle and NotYours, of the load and of the references;
-    /// WrongMode where the load is of a key, and of a reference; WrongKind of another type; NumbersSpent and OutOfMemory. Where the handle that began it is gone or
-    /// another's, the load is closed with all that it owns, the value is dropped, and NoSuchHandle or NotYours comes alone.
+    /// Ends a load of a cell with its value, which the load read: the handle that began it is pinned, a Pinned one is made and answered, and what the load still owns is given up. The value comes into
+    /// the cell with the handles of its references; where the cell has its value already, it is dropped. Asks that the value is what the cell's key reads as. A refusal gives the value back and leaves
+    /// the load open: NoSuchHandle and NotYours, of the load and of the references; WrongMode where the load is of a key, and of a reference; WrongKind of another type; NumbersSpent and OutOfMemory.
+    /// Where the handle that began it is gone or another's, the load is closed with all that it owns, the value is dropped, and NoSuchHandle or NotYours comes alone.
     pub fn load_end(
         &mut self,
         alloc: Global,

@@ -63,9 +63,8 @@ where
         known::cache_get(&mut self.tables, Owner::Caller, kind, key)
     }
 
-    /// The cache learns a handle's node under a kind and a key. Where it gives a node already, a new handle of that is answered, in the kind's mode, and the
-    /// handle is given up as `release` does. Once the storage is closed the handle itself is answered. Refused with NoSuchHandle, NotYours, WrongMode and
-    /// WrongKind where the handle can't stand under the kind, NumbersSpent and OutOfMemory.
+    /// The cache learns a handle's node under a kind and a key. Where it gives a node already, a new handle of that is answered, in the kind's mode, and the handle is given up as `release` does. Once
+    /// the storage is closed the handle itself is answered. Refused with NoSuchHandle, NotYours, WrongMode and WrongKind where the handle can't stand under the kind, NumbersSpent and OutOfMemory.
     pub fn on_arc_deserialized(
         &mut self,
         kind: Kind,

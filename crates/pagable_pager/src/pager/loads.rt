@@ -129,9 +129,8 @@ where
         Ok(Either::Right(blob))
     }
 
-    /// What a load asks for: the blob of its own key; of a reference a handle of the node that the cache gives, which the load owns, or else the blob. Refused
-    /// with NoSuchHandle and NotYours; with NumbersSpent and OutOfMemory where a handle can't be made; and with NoData, OutOfMemory and Storage, as the storage
-    /// refuses a blob.
+    /// What a load asks for: the blob of its own key; of a reference a handle of the node that the cache gives, which the load owns, or else the blob. Refused with NoSuchHandle and NotYours; with
+    /// NumbersSpent and OutOfMemory where a handle can't be made; and with NoData, OutOfMemory and Storage, as the storage refuses a blob.
     pub fn load_fetch(
         &mut self,
         alloc: Global,

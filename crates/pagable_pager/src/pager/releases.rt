@@ -14,9 +14,8 @@ impl<E: Env, S: PagableStorage<E>> Pager<E, S>
 where
     E::Node: NodeSet<E>,
 {
-    /// A loose handle lets its pin go, and stays; one that is unpinned already does nothing. With its last pin a cell loses its value where it has a key, and is
-    /// listed for page-out where it has none. Refused with NoSuchHandle, NotYours and WrongMode, and nothing changes; NumbersSpent and OutOfMemory say that a
-    /// cell couldn't be listed: the pin is let go all the same.
+    /// A loose handle lets its pin go, and stays; one that is unpinned already does nothing. With its last pin a cell loses its value where it has a key, and is listed for page-out where it has none.
+    /// Refused with NoSuchHandle, NotYours and WrongMode, and nothing changes; NumbersSpent and OutOfMemory say that a cell couldn't be listed: the pin is let go all the same.
     pub fn unpin(&mut self, handle: HandleNumber) -> Result<(), Error>
         ensures step { UnpinCall (core_in (telling S.stored S.is_closed S.failed) self.old) Owner.Caller handle result (core_in (telling S.stored S.is_closed S.failed) self.new) }
         ensures only { OnlyLess self.old self.new }
