@@ -1,5 +1,5 @@
 use Rattle.pagable_machine.proofs.Words.{rules, ◌≡◌}
-use Rattle.pagable_machine.proofs.walks.step_lent.Goals as goal
+use Rattle.pagable_machine.proofs.workers.step_lent.Goals as goal
 
 pub returns-clause-step : goal.returns-clause-step
 returns-clause-step g c =

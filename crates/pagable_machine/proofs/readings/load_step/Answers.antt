@@ -1,5 +1,5 @@
 use Rattle.pagable_machine.proofs.{Happening.closed-drives, Happening.no-place-drives, Happening.step-drives, Happening.step-of, Happening.untyped-drives, Words.values_at, Words.◌∙◌}
-use Rattle.pagable_machine.proofs.steps.load_step.Goals as goal
+use Rattle.pagable_machine.proofs.readings.load_step.Goals as goal
 
 pub returns-in-Err : goal.returns-in-Err
 returns-in-Err g c = closed-drives (values_at g.E.Node.NodeSet g.E.Env g.E.Hash.KeyHash) _ _ c.args.pager.now _ c.args.held.now.readings c.requires c.is_whole.ensures _ _ c.in-Err.ensures.fault
@@ -16,8 +16,7 @@ returns-in-Ok-prepare g c =
       again = moved.again;
       counts = moved.counts;
       counted = moved.counted;
-      keeps =
-          record { here = c.put_in.ensures.here; others = λ q other. c.put_in.ensures.others q other ∙ c.take_out-own.ensures.others q other };
+      keeps = record { here = c.put_in.ensures.here; others = λ q other. c.put_in.ensures.others q other ∙ c.take_out-own.ensures.others q other };
     })
     (λ own new was here. step-of c.take_out-own.ensures.was c.put_in.ensures.here moved.step was here) c.end.ensures
 

@@ -1,5 +1,5 @@
 use Rattle.pagable_machine.proofs.{Words.{rules, ◌≡◌, true, false, sym, ◌∙◌, is_some, values_at, has_task, kept_at}, Driven.{no-step-drives, step-drives}}
-use Rattle.pagable_machine.proofs.walks.worker_step.Goals as goal
+use Rattle.pagable_machine.proofs.workers.worker_step.Goals as goal
 
 pub returns-then-not-has_task : goal.returns-then-not-has_task
 returns-then-not-has_task g c =

@@ -1,5 +1,5 @@
 use Rattle.pagable_machine.proofs.{Setting.set-at, Words.rules, Words.◌-◌, Words.refl, Words.arith, Words.slice_get_read}
-use Rattle.pagable_machine.proofs.walks.walk_on.Goals as goal
+use Rattle.pagable_machine.proofs.workers.walk_on.Goals as goal
 
 pub returns : goal.returns
 returns g c =
