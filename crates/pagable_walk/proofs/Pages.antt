@@ -119,7 +119,8 @@ module _ {N E : Type 0} (v : Values N) where
         };
       }
 
-  pub at-paged : (place key : ℕ) (s t : PagerState N E) → (h : HandleNumber) × EntryHas s.core place h OptionalDataKey.None → PagesEntry v place (WorkerAnswer.Key key) s t → PagesAt v place (Ok tt) s t
+  pub at-paged : (place key : ℕ) (s t : PagerState N E) → (h : HandleNumber) × EntryHas s.core place h OptionalDataKey.None
+      → PagesEntry v place (WorkerAnswer.Key key) s t → PagesAt v place (Ok tt) s t
   at-paged place key s t (h, has) pages_it = record {
     done = λ whole within.
         let p = pages_it.pages whole within in
@@ -133,7 +134,8 @@ module _ {N E : Type 0} (v : Values N) where
         record { whole = p.whole; long = p.long; goes = tt; stops = λ i next. fails i place h e s t next has p.run };
   }
 
-  pub at-other : (place : ℕ) (s t : PagerState N E) → (h : HandleNumber) × EntryHas s.core place h OptionalDataKey.None → PagesEntry v place WorkerAnswer.AlreadyFailed s t → PagesAt v place (Err PageOutError.AlreadyFailed) s t
+  pub at-other : (place : ℕ) (s t : PagerState N E) → (h : HandleNumber) × EntryHas s.core place h OptionalDataKey.None
+      → PagesEntry v place WorkerAnswer.AlreadyFailed s t → PagesAt v place (Err PageOutError.AlreadyFailed) s t
   at-other place s t (h, has) pages_it = record { done = λ whole within. let p = pages_it.pages whole within in absurd (p.unfailed refl) }
 
   -- ---- the list

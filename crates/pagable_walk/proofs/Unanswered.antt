@@ -171,7 +171,8 @@ module _ (F : Type 0) where
             subst (λ (s : Slot). ByOutcome F ((s.worker ≡ n) × IsHeld (identity_of r) (to_pin r place ∷ below)) s.outcome) e (is-open (refl, inl refl))
     goes (to_start r place ∷ below) (Took.Claim i (Ok (Claim.Known key height))) (is, c) none good =
         let t = c.finds.1.2 in to-list t.list_is (stays n _ (give_known r key height below) shelf s'.shelf good (known-blamed r key height below) t.table_is.slots (λ i. known-held i r key height below))
-    goes (to_start r place ∷ below) (Took.Claim i (Ok Claim.Waiting)) (is, c) none good = let t = c.finds.1.2 in to-list t.list_is (stays n _ _ shelf s'.shelf good (λ b. b) t.table_is.slots (λ i h. h))
+    goes (to_start r place ∷ below) (Took.Claim i (Ok Claim.Waiting)) (is, c) none good =
+        let t = c.finds.1.2 in to-list t.list_is (stays n _ _ shelf s'.shelf good (λ b. b) t.table_is.slots (λ i h. h))
     goes (to_start r place ∷ below) (Took.Claim i (Ok Claim.AlreadyFailed)) (is, c) none good =
         let t = c.finds.1.2 in
         let was = c.finds.1.1 in
