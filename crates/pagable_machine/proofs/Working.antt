@@ -38,7 +38,8 @@ module _ {N B W : Type 0} (m : Seen N B W) (u : ℕ) where
   walk-leaves s s' (to_pin r place ∷ below) (Took.Pin i (Ok (PinStep.LoadBegun l))) mine (is, p) = by-load s.core s'.core r p.pins.0 l p.pins.1
   walk-leaves s s' (to_pin r place ∷ below) (Took.Pin i (Ok PinStep.LoadWent)) mine (is, p) = absurd p.pins
   walk-leaves s s' (to_pin r place ∷ below) (Took.Pin i (Err f)) mine (is, p) = pin-refused s.core s'.core r f p.refused.0
-  walk-leaves s s' (to_load r place through reading ∷ below) (Took.Pin i (Ok (PinStep.Held k))) mine (is, p) = step-leaves s.core s'.core me m.values reading mine (Some (LoadAnswer.Pinned k)) [] p.goes.0
+  walk-leaves s s' (to_load r place through reading ∷ below) (Took.Pin i (Ok (PinStep.Held k))) mine (is, p) =
+      step-leaves s.core s'.core me m.values reading mine (Some (LoadAnswer.Pinned k)) [] p.goes.0
   walk-leaves s s' (to_load r place through reading ∷ below) (Took.Pin i (Ok (PinStep.LoadBegun l))) mine (is, p) = absurd p.goes
   walk-leaves s s' (to_load r place through reading ∷ below) (Took.Pin i (Ok PinStep.LoadWent)) mine (is, p) = step-leaves s.core s'.core me m.values reading mine None p.goes.0 p.goes.1
   walk-leaves s s' (to_load r place through reading ∷ below) (Took.Pin i (Err f)) mine (is, p) = step-leaves s.core s'.core me m.values reading mine (Some (LoadAnswer.Refused f)) [] p.refused.0
