@@ -1,9 +1,9 @@
 -- A load's steps, one after another up to its end.
-use Rattle.pagable_loads.proofs.Words.{arith, nat_tests, common_steps, rules, ◌≡◌, ℕ, Bool, true, false, List, [], Option, Some, None, inl, inr, refl, ap, sym, subst, ◌∙◌, if◌then◌else◌, Kind}
-use Rattle.pagable_loads.proofs.Words.{LoadNumber, NodeNumber, LoadAnswer, Owner, Core, Frame, Reading, Values, one_more, with_cached, GoesOn, Does, gone_on, PagerState, Told, LoadRun, load-ends}
-use Rattle.pagable_loads.proofs.Words.{load-goes-on, IsLoadOf, frames_of, reading_of, Steps, Runs, HasGone}
-use Rattle.pagable_loads.specs.declared.reading.Reading.{Reading as Own}
-use Rattle.pagable_world.specs.declared.events.LoadAnswer.TheVariants as ends
+use Rattle.std.proofs.{Common.{arith, rules, ◌≡◌, ℕ, Bool, true, false, List, [], Option, Some, None, inl, inr, refl, ap, sym, subst, ◌∙◌, if◌then◌else◌}, lemmas.Bool.Decides.nat_tests}
+use Rattle.{std.proofs.lemmas.Grind.common_steps, pagable_model.specs.declared.numbers.{Kind.Kind, LoadNumber.LoadNumber, NodeNumber.NodeNumber}}
+use Rattle.pagable_world.specs.{declared.{events.LoadAnswer.LoadAnswer, handles.Owner.Owner}, World.{Core, Frame, Reading, Values, one_more}, Calls.with_cached, Loads.{GoesOn, Does, gone_on}}
+use Rattle.{pagable_world.specs.{Pager.PagerState, Access.{Told, LoadRun, load-ends, load-goes-on}}, pagable_loads.specs.{Frames.{IsLoadOf, frames_of, reading_of}, Stepping.Steps, Running.Runs}}
+use Rattle.pagable_loads.specs.{Running.HasGone, declared.reading.Reading.Reading as Own}
 
 pub told_same : {S : Type 0} {o : Option S} {R : S → S → Type 0} → ((s : S) → R s s) → Told o o R
 told_same {o = None} f = record { holds = tt }
@@ -24,9 +24,9 @@ module _ {N : Type 0} (v : Values N) (me : Owner) where
 
   -- and what ends it leaves no blob
   ended : (w w' : Core) (reading : Reading) (answer : LoadAnswer N) (frames : List Frame) → Does v w me reading (Some answer) frames w' → frames ≡ []
-  ended w w' reading (ends.Pinned k) frames d = d.1
-  ended w w' reading (ends.Read x) frames d = d.1
-  ended w w' reading (ends.Refused e) frames d = d.1
+  ended w w' reading (LoadAnswer.Pinned k) frames d = d.1
+  ended w w' reading (LoadAnswer.Read x) frames d = d.1
+  ended w w' reading (LoadAnswer.Refused e) frames d = d.1
 
 module _ {N E : Type 0} (v : Values N) (me : Owner) where
   pub not_yet : (own : Own) (s : PagerState N E) → HasGone v me own own s s

@@ -1,9 +1,9 @@
 -- From one reading with stand-ins to what a blob asks for ahead.
-use Rattle.pagable_loads.proofs.Words.{◌≡◌, ℕ, ◌+◌, ◌<◌, Bool, true, false, if◌then◌else◌, List, [], ◌∷◌, ◌++◌, length, Option, Some, None, Result, Ok, Err, inl, inr, refl, ap, sym, subst, ◌∙◌}
-use Rattle.pagable_loads.proofs.Words.{arith, slice_get, ◌==◌, slice_get_within, slice_get-get_or, Error, ArcRef, Kind, Blob, Meaning, Rest, Answer, Types, Frame, is_eager, asks, answers_from}
-use Rattle.pagable_loads.proofs.Words.{next_by, next_of, read_with, need_at, need_of, needs_nested, needs_lazy, kinds_of, AsksNext, Foresees, IsAhead, AskedIf, RowTells, GotMore, Kept, nat_tests}
-use Rattle.pagable_loads.proofs.Traced.{End, done, faulty, Answered, Goes, Trace, typed_traced}
-use Rattle.pagable_model.specs.declared.error.Error.TheVariants as errors
+use Rattle.std.proofs.Common.{◌≡◌, ℕ, ◌+◌, ◌<◌, Bool, true, false, if◌then◌else◌, List, [], ◌∷◌, ◌++◌, length, Option, Some, None, Result, Ok, Err, inl, inr, refl, ap, sym, subst, ◌∙◌, arith}
+use Rattle.std.proofs.{Common.{slice_get, ◌==◌}, lemmas.{Option.{slice_get_within, slice_get-get_or}, Bool.Decides.nat_tests, List.{append_assoc, length-append, length-map, map-append}}}
+use Rattle.pagable_model.specs.{declared.{error.Error.Error, numbers.{ArcRef.ArcRef, Kind.Kind}}, Blob.Blob, Meaning.Meaning, Reading.Rest, Standing.Answer, Deep.is_eager}
+use Rattle.{pagable_world.specs.{Plain.Types, World.Frame, Loads.{asks, answers_from, next_by, next_of, read_with, need_at, need_of, needs_nested, needs_lazy}}, pagable_loads.specs.Ahead.kinds_of}
+use Rattle.pagable_loads.{specs.Ahead.{AsksNext, Foresees, IsAhead, AskedIf, RowTells, GotMore, Kept}, proofs.Traced.{End, done, faulty, Answered, Goes, Trace, typed_traced}}
 
 -- ---- lists
 
@@ -16,34 +16,27 @@ at_place [] g back = refl
 at_place (x ∷ xs) g back = at_place xs g back
 
 longer : (front : List ArcRef) (g : ArcRef) → length (front ++ g ∷ []) ≡ length front + 1
-longer [] g = refl
-longer (x ∷ xs) g = let e = longer xs g in omega (arith, e)
-
-assoc : {X : Type 0} (xs ys zs : List X) → (xs ++ ys) ++ zs ≡ xs ++ (ys ++ zs)
-assoc [] ys zs = refl
-assoc (x ∷ xs) ys zs = ap (λ zs. x ∷ zs) (assoc xs ys zs)
+longer front g = length-append front (g ∷ [])
 
 kinds_joined : (xs ys : List ArcRef) → kinds_of (xs ++ ys) ≡ kinds_of xs ++ kinds_of ys
-kinds_joined [] ys = refl
-kinds_joined (x ∷ xs) ys = ap (λ ks. x.kind.0 ∷ ks) (kinds_joined xs ys)
+kinds_joined xs ys = map-append (λ (r : ArcRef). r.kind.0) xs ys
 
 as_many : (rs : List ArcRef) → length (kinds_of rs) ≡ length rs
-as_many [] = refl
-as_many (r ∷ rs) = let e = as_many rs in omega (arith, e)
+as_many rs = length-map rs (λ (r : ArcRef). r.kind.0)
 
 -- ---- what the answers say of the kinds
 
 module _ {X : Type 0} (r : Result (X × Rest Answer) Error) (k : ℕ) where
   -- a reading that stops at the first reference that wasn't got asked for all that were, by their kinds
-  asked_kinds : (ks : List ℕ) (end : End) (front xs : List ArcRef) (keys : List ℕ) → Goes ks end (answers_from (front ++ xs) (length front) keys) r → r ≡ Err (errors.Storage k)
+  asked_kinds : (ks : List ℕ) (end : End) (front xs : List ArcRef) (keys : List ℕ) → Goes ks end (answers_from (front ++ xs) (length front) keys) r → r ≡ Err (Error.Storage k)
       → (more : List ℕ) × (ks ≡ kinds_of xs ++ k ∷ more)
   unfolding Goes answers_from
-  asked_kinds [] (done b) front xs keys (x, is) e = absurd (let f : Err (errors.Storage k) ≡ Ok (x, record { bytes = b; refs = answers_from (front ++ xs) (length front) keys }) = sym e ∙ is in cc)
-  asked_kinds [] (faulty f sober) front xs keys h e = absurd (let g : Err f ≡ Err (errors.Storage k) = sym h ∙ e in cc)
-  asked_kinds (n ∷ ks) end front xs [] h e = absurd (let g : Err errors.NoMoreKeys ≡ Err (errors.Storage k) = sym h ∙ e in cc)
+  asked_kinds [] (done b) front xs keys (x, is) e = absurd (let f : Err (Error.Storage k) ≡ Ok (x, record { bytes = b; refs = answers_from (front ++ xs) (length front) keys }) = sym e ∙ is in cc)
+  asked_kinds [] (faulty f sober) front xs keys h e = absurd (let g : Err f ≡ Err (Error.Storage k) = sym h ∙ e in cc)
+  asked_kinds (n ∷ ks) end front xs [] h e = absurd (let g : Err Error.NoMoreKeys ≡ Err (Error.Storage k) = sym h ∙ e in cc)
   asked_kinds (n ∷ ks) end front [] (key ∷ keys) h e =
       let g = rw (behind front) at h in
-      let f : Err (errors.Storage n) ≡ Err (errors.Storage k) = sym g ∙ e in
+      let f : Err (Error.Storage n) ≡ Err (Error.Storage k) = sym g ∙ e in
       let same : n ≡ k = cc in
       (ks, ap (λ z. z ∷ ks) same)
   asked_kinds (n ∷ ks) end front (x ∷ xs) (key ∷ keys) h e =
@@ -51,19 +44,19 @@ module _ {X : Type 0} (r : Result (X × Rest Answer) Error) (k : ℕ) where
       at (x.kind.0 == n) refl g (λ tail. asked_kinds ks end (front ++ x ∷ []) xs keys tail e)
     where
       at : (b : Bool) → (x.kind.0 == n) ≡ b
-          → Answered (if b then Ok x else Err errors.WrongKind) (Goes ks end (answers_from (front ++ x ∷ xs) (length front + 1) keys) r) (λ f. r ≡ Err f)
+          → Answered (if b then Ok x else Err Error.WrongKind) (Goes ks end (answers_from (front ++ x ∷ xs) (length front + 1) keys) r) (λ f. r ≡ Err f)
           → (Goes ks end (answers_from ((front ++ x ∷ []) ++ xs) (length (front ++ x ∷ [])) keys) r → (more : List ℕ) × (ks ≡ kinds_of xs ++ k ∷ more))
           → (more : List ℕ) × (n ∷ ks ≡ x.kind.0 ∷ kinds_of xs ++ k ∷ more)
       at true same g onward =
           let one : x.kind.0 ≡ n = grind arith in
           let moved = subst (λ l. Goes ks end (answers_from (front ++ x ∷ xs) l keys) r) (sym (longer front x)) g in
-          let tail = onward (subst (λ rs. Goes ks end (answers_from rs (length (front ++ x ∷ [])) keys) r) (sym (assoc front (x ∷ []) xs)) moved) in
+          let tail = onward (subst (λ rs. Goes ks end (answers_from rs (length (front ++ x ∷ [])) keys) r) (sym (append_assoc front (x ∷ []) xs)) moved) in
           (tail.0, ap (λ z. z ∷ ks) (sym one) ∙ ap (λ zs. x.kind.0 ∷ zs) tail.1)
-      at false other g onward = absurd (let f : Err errors.WrongKind ≡ Err (errors.Storage k) = sym g ∙ e in cc)
+      at false other g onward = absurd (let f : Err Error.WrongKind ≡ Err (Error.Storage k) = sym g ∙ e in cc)
 
   -- and one that asks for those kinds stops there, whatever of the kinds was got
   asks_so : (ks : List ℕ) (end : End) (front ys : List ArcRef) (keys more : List ℕ) → ks ≡ kinds_of ys ++ k ∷ more → length ys < length keys
-      → Goes ks end (answers_from (front ++ ys) (length front) keys) r → r ≡ Err (errors.Storage k)
+      → Goes ks end (answers_from (front ++ ys) (length front) keys) r → r ≡ Err (Error.Storage k)
   unfolding Goes answers_from
   asks_so [] end front [] keys more is few h = absurd (cc)
   asks_so [] end front (y ∷ ys) keys more is few h = absurd (cc)
@@ -71,27 +64,25 @@ module _ {X : Type 0} (r : Result (X × Rest Answer) Error) (k : ℕ) where
   asks_so (n ∷ ks) end front [] (key ∷ keys) more is few h =
       let g = rw (behind front) at h in
       let same : n ≡ k = cc in
-      g ∙ ap (λ z. let o : Result (X × Rest Answer) Error = Err (errors.Storage z) in o) same
+      g ∙ ap (λ z. let o : Result (X × Rest Answer) Error = Err (Error.Storage z) in o) same
   asks_so (n ∷ ks) end front (y ∷ ys) (key ∷ keys) more is few h =
       let g = rw (at_place front y ys) at h in
       let same : y.kind.0 ≡ n = cc in
       at (y.kind.0 == n) refl same g (asks_so ks end (front ++ y ∷ []) ys keys more (cc) (omega (arith, few)))
     where
       at : (b : Bool) → (y.kind.0 == n) ≡ b → y.kind.0 ≡ n
-          → Answered (if b then Ok y else Err errors.WrongKind) (Goes ks end (answers_from (front ++ y ∷ ys) (length front + 1) keys) r) (λ f. r ≡ Err f)
-          → (Goes ks end (answers_from ((front ++ y ∷ []) ++ ys) (length (front ++ y ∷ [])) keys) r → r ≡ Err (errors.Storage k)) → r ≡ Err (errors.Storage k)
+          → Answered (if b then Ok y else Err Error.WrongKind) (Goes ks end (answers_from (front ++ y ∷ ys) (length front + 1) keys) r) (λ f. r ≡ Err f)
+          → (Goes ks end (answers_from ((front ++ y ∷ []) ++ ys) (length (front ++ y ∷ [])) keys) r → r ≡ Err (Error.Storage k)) → r ≡ Err (Error.Storage k)
       at true is same g onward =
           let moved = subst (λ l. Goes ks end (answers_from (front ++ y ∷ ys) l keys) r) (sym (longer front y)) g in
-          onward (subst (λ rs. Goes ks end (answers_from rs (length (front ++ y ∷ [])) keys) r) (sym (assoc front (y ∷ []) ys)) moved)
+          onward (subst (λ rs. Goes ks end (answers_from rs (length (front ++ y ∷ [])) keys) r) (sym (append_assoc front (y ∷ []) ys)) moved)
       at false is same g onward = absurd (grind arith)
 
 -- ---- what comes next
 
-stopped_at : (found : Option ℕ) (r : Result (Meaning ArcRef × Rest Answer) Error) (kind : Kind) (key : ℕ) → next_by found r ≡ asks kind key → (r ≡ Err (errors.Storage kind.0)) × (found ≡ Some key)
-stopped_at found (Ok x) kind key e = grind (arith, nat_tests)
-stopped_at None (Err (errors.Storage k)) kind key e = grind (arith, nat_tests)
-stopped_at (Some q) (Err (errors.Storage k)) kind key e = grind (arith, nat_tests)
-stopped_at found (Err f) kind key e = grind (arith, nat_tests)
+stopped_at : (found : Option ℕ) (r : Result (Meaning ArcRef × Rest Answer) Error) (kind : Kind) (key : ℕ) → next_by found r ≡ asks kind key → (r ≡ Err (Error.Storage kind.0)) × (found ≡ Some key)
+stopped_at None (Err (Error.Storage k)) kind key e = grind (arith, nat_tests)
+stopped_at found r kind key e = grind (arith, nat_tests)
 
 module _ (types : Types) (t : ℕ) (blob : Blob) where
   trace : Trace (λ i. Rattle.pagable_model.specs.Reading.read_typed (Rattle.pagable_model.specs.Standing.handles_at 0 types.parts) (types.nodes t) i) blob.bytes
@@ -107,18 +98,14 @@ module _ (types : Types) (t : ℕ) (blob : Blob) where
       let short : length got < length blob.keys = fewer many within in
       let there = slice_get-get_or blob.keys (length got) 0 short in
       let all : trace.kinds ≡ kinds_of got ++ k ∷ (back ++ a.0) =
-      a.1 ∙ sym (assoc (kinds_of xs) (kind.0 ∷ []) a.0) ∙ ap (λ ks. ks ++ a.0) is ∙ assoc (kinds_of got) (k ∷ back) a.0 in
+      a.1 ∙ sym (append_assoc (kinds_of xs) (kind.0 ∷ []) a.0) ∙ ap (λ ks. ks ++ a.0) is ∙ append_assoc (kinds_of got) (k ∷ back) a.0 in
       let stop = asks_so (read_with types t blob got) k trace.kinds trace.end [] got blob.keys (back ++ a.0) all short (trace.goes (answers_from got 0 blob.keys)) in
-      record { key = _; there = there; next = ap (next_by (slice_get blob.keys (length got))) stop ∙ ap (λ o. next_by o (Err (errors.Storage k))) there }
+      record { key = _; there = there; next = ap (next_by (slice_get blob.keys (length got))) stop ∙ ap (λ o. next_by o (Err (Error.Storage k))) there }
     where
-      counted : {X : Type 0} (xs ys : List X) → length (xs ++ ys) ≡ length xs + length ys
-      counted [] ys = omega arith
-      counted (x ∷ xs) ys = let e = counted xs ys in omega (arith, e)
-
       fewer : length (kinds_of xs ++ kind.0 ∷ []) ≡ length (kinds_of got ++ k ∷ back) → length xs < length blob.keys → length got < length blob.keys
       fewer many within =
-          let a = counted (kinds_of xs) (kind.0 ∷ []) in
-          let b = counted (kinds_of got) (k ∷ back) in
+          let a = length-append (kinds_of xs) (kind.0 ∷ []) in
+          let b = length-append (kinds_of got) (k ∷ back) in
           let c = as_many xs in
           let d = as_many got in
           omega (arith, many, within, a, b, c, d)
@@ -154,7 +141,7 @@ known types f row r h at = let n = next_in_row row f.got r h.ahead h.split at in
 -- a reference of the kind is got
 pub still_ahead : (types : Types) (f : Frame) (row : List ArcRef) (r s : ArcRef) → Foresees types f (kinds_of row) → slice_get row (length f.got) ≡ Some r → s.kind.0 ≡ r.kind.0
     → Foresees types (record f { got = f.got ++ s ∷ [] }) (kinds_of row)
-still_ahead types f row r s h at same = grind (arith, nat_tests, assoc, kinds_joined, next_in_row)
+still_ahead types f row r s h at same = grind (arith, nat_tests, append_assoc, kinds_joined, next_in_row)
 
 lazy_need : (types : Types) (f : Frame) (fs : List Frame) (kind : Kind) (key : ℕ) → next_of types f.node_type f.blob f.got ≡ asks kind key → is_eager kind.0 ≡ false → need_of types (f ∷ fs) ≡ needs_lazy kind key
 lazy_need types f fs kind key next is = ap (need_at fs) next ∙ ap (λ b. if b then needs_nested kind key else needs_lazy kind key) is

@@ -1,8 +1,9 @@
 -- What the references that were got lend, one after the other.
-use Rattle.pagable_loads.proofs.Words.{nat_tests, common_steps, rules, ◌≡◌, ◌≢◌, ℕ, ◌+◌, ◌<◌, ◌≤◌, List, [], ◌∷◌, ◌++◌, length, false, Option, Some, None, Result, Ok, Err, IfOk, ◌⊎◌, inl, inr, ap}
-use Rattle.pagable_loads.proofs.Words.{sym, subst, ◌∙◌, arith, slice_get, get_or-append, get_or-append_seam, length-append, any_passes_from_place, slice_get_within, slice_get-get_or, list_any}
-use Rattle.pagable_loads.proofs.Words.{option_map, option_and_then, Error, ArcRef, is_eager, PagerState, lent_at, Lends, LendsEach, Shares, Tells}
-use Rattle.pagable_model.specs.declared.error.Error.TheVariants as errors
+use Rattle.std.proofs.{lemmas.{Bool.Decides.nat_tests, Grind.common_steps, List.length-append, Map.Keys.any_passes_from_place, Option.{slice_get_within, slice_get-get_or}}, Common.{rules, ◌≡◌, ◌≢◌}}
+use Rattle.std.proofs.Common.{ℕ, ◌+◌, ◌<◌, ◌≤◌, List, [], ◌∷◌, ◌++◌, length, false, Option, Some, None, Result, Ok, Err, IfOk, ◌⊎◌, inl, inr, ap, sym, subst, ◌∙◌, arith, slice_get}
+use Rattle.{std.{proofs.Math.{ListN.get_or-append, Seq.get_or-append_seam}, specs.{List.list_any, Option.option_map, Prelude.option_and_then}}, pagable_model.specs.declared.error.Error.Error}
+use Rattle.{pagable_model.specs.{declared.numbers.ArcRef.ArcRef, Deep.is_eager}, pagable_world.specs.Pager.PagerState, pagable_loads.specs.{Got.lent_at, Lending.{Lends, LendsEach}, Starting.Shares}}
+use Rattle.pagable_loads.specs.Telling.{Tells}
 
 module _ {S : Type 0} where
   pub tells_all : {o : Option S} {P : S → Type 0} → ((s : S) → P s) → Tells o P
@@ -16,7 +17,7 @@ module _ {S : Type 0} where
 
 module _ {A N E : Type 0} (see : A → N) (s : PagerState N E) where
   -- a share is refused
-  pub not_shared : (r : ArcRef) (e : Error) (result : Result (Option A) Error) → Shares see s r.handle (Err e) → IfOk result (λ found. (found ≡ None) × (e ≢ errors.OutOfMemory)) → IfOk result (λ found. Lends s r (option_map see found))
+  pub not_shared : (r : ArcRef) (e : Error) (result : Result (Option A) Error) → Shares see s r.handle (Err e) → IfOk result (λ found. (found ≡ None) × (e ≢ Error.OutOfMemory)) → IfOk result (λ found. Lends s r (option_map see found))
   not_shared r e (Err f) h none = tt
   not_shared r e (Ok found) h none = first_of (grind (arith, common_steps, nat_tests), search (rules))
 

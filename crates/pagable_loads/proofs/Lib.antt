@@ -1,4 +1,3 @@
-mod Words
 mod NextStep
 mod Traced
 mod Foreseen

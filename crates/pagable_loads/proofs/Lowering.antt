@@ -1,8 +1,8 @@
 -- A step of a load leaves less to do.
-use Rattle.pagable_loads.proofs.Words.{◌≡◌, ℕ, zero, suc, ◌+◌, ◌-◌, ◌*◌, ◌<◌, Bool, List, [], ◌∷◌, ◌++◌, length, Option, Some, None, Result, Ok, Err, refl, ap, sym, subst, ◌∙◌, arith, slice_get}
-use Rattle.pagable_loads.proofs.Words.{◌^◌, slice_get_within, Error, ArcRef, Kind, Meaning, Rest, Answer, Types, Frame, Next, reads, asks, is_faulty, next_by, next_in, need_at, need_of}
-use Rattle.pagable_loads.proofs.Words.{needs_nested, needs_lazy, left_in, waits_for, many, waiting, widened, to_do, LeadsOn, nat_tests}
-use Rattle.pagable_model.specs.declared.error.Error.TheVariants as errors
+use Rattle.std.proofs.Common.{◌≡◌, ℕ, zero, suc, ◌+◌, ◌-◌, ◌*◌, ◌<◌, Bool, List, [], ◌∷◌, ◌++◌, length, Option, Some, None, Result, Ok, Err, refl, ap, sym, subst, ◌∙◌, arith, slice_get, ◌^◌}
+use Rattle.{std.proofs.lemmas.{Option.slice_get_within, List.length-append, Bool.Decides.nat_tests}, pagable_model.specs.declared.{error.Error.Error, numbers.{ArcRef.ArcRef, Kind.Kind}}}
+use Rattle.{pagable_model.specs.{Meaning.Meaning, Reading.Rest, Standing.Answer}, pagable_world.specs.{Plain.Types, World.Frame, Loads.{Next, reads, asks, next_by, next_in, need_at, need_of}}}
+use Rattle.{pagable_world.specs.Loads.{needs_nested, needs_lazy}, pagable_loads.specs.Ending.{left_in, waits_for, many, waiting, widened, to_do, LeadsOn}}
 
 widened_less : (k a b : ℕ) → a < b → widened k a < widened k b
 unfolding widened
@@ -25,16 +25,12 @@ waiting_more : (f : Frame) (fs : List Frame) → waiting (f ∷ fs) ≡ waiting 
 unfolding waiting
 waiting_more f fs = refl
 
-length_more : (got : List ArcRef) (r : ArcRef) → length (got ++ r ∷ []) ≡ length got + 1
-length_more [] r = refl
-length_more (x ∷ xs) r = let e = length_more xs r in omega (arith, e)
-
 -- ---- what is asked for stands in the blob
 
 asked_is : (found : Option ℕ) (r : Result (Meaning ArcRef × Rest Answer) Error) (kind : Kind) (key : ℕ) → next_by found r ≡ asks kind key → (q : ℕ) × (found ≡ Some q)
 asked_is found (Ok x) kind key e = absurd (cc)
-asked_is None (Err (errors.Storage k)) kind key e = absurd (cc)
-asked_is (Some q) (Err (errors.Storage k)) kind key e = (q, refl)
+asked_is None (Err (Error.Storage k)) kind key e = absurd (cc)
+asked_is (Some q) (Err (Error.Storage k)) kind key e = (q, refl)
 asked_is found (Err f) kind key e = absurd (cc)
 
 asked_of : (types : Types) (f : Frame) (kind : Kind) (key : ℕ) → next_in types f ≡ asks kind key → length f.got < length f.blob.keys
@@ -43,14 +39,12 @@ asked_of types f kind key e = grind (arith, nat_tests, asked_is, slice_get, slic
 nested_asks : (fs : List Frame) (next : Next) (kind : Kind) (key : ℕ) → need_at fs next ≡ needs_nested kind key → (k : Kind) × (q : ℕ) × (next ≡ asks k q)
 nested_asks fs (asks k q) kind key e = (k, q, refl)
 nested_asks [] (reads own) kind key e = absurd (cc)
-nested_asks (g ∷ gs) (reads own) kind key e = absurd (cc)
-nested_asks fs (is_faulty f) kind key e = absurd (cc)
+nested_asks fs next kind key e = absurd (cc)
 
 lazy_asks : (fs : List Frame) (next : Next) (kind : Kind) (key : ℕ) → need_at fs next ≡ needs_lazy kind key → (k : Kind) × (q : ℕ) × (next ≡ asks k q)
 lazy_asks fs (asks k q) kind key e = (k, q, refl)
 lazy_asks [] (reads own) kind key e = absurd (cc)
-lazy_asks (g ∷ gs) (reads own) kind key e = absurd (cc)
-lazy_asks fs (is_faulty f) kind key e = absurd (cc)
+lazy_asks fs next kind key e = absurd (cc)
 
 module _ (types : Types) (old : List Frame) (f : Frame) (fs : List Frame) (is : old ≡ f ∷ fs) (kind : Kind) (key : ℕ) where
   pub nested_wants : need_of types old ≡ needs_nested kind key → length f.got < length f.blob.keys
@@ -69,7 +63,7 @@ first f none few =
 
 more : (f : Frame) (fs : List Frame) (r : ArcRef) → length f.got < length f.blob.keys → to_do (record f { got = f.got ++ r ∷ [] } ∷ fs) < to_do (f ∷ fs)
 more f fs r left =
-    let n = length_more f.got r in
+    let n = length-append f.got (r ∷ []) in
     widened_less (129 - length fs) (waiting fs * many + (length f.blob.keys - length (f.got ++ r ∷ [])) + 1) (waiting fs * many + left_in f + 1) (omega (arith, n, left))
 
 above : (g f : Frame) (fs : List Frame) → g.got ≡ [] → length g.blob.keys < 2 ^ 63 → length fs < 128 → length f.got < length f.blob.keys → to_do (g ∷ f ∷ fs) < to_do (f ∷ fs)
@@ -92,14 +86,14 @@ below t u fs r = by (129 - length fs) refl
 
     by : (k : ℕ) → 129 - length fs ≡ k → to_do (record u { got = u.got ++ r ∷ [] } ∷ fs) < to_do (t ∷ u ∷ fs)
     by zero e =
-        let n = length_more u.got r in
+        let n = length-append u.got (r ∷ []) in
         let w = waiting_more u fs in
         let k : 129 - length (u ∷ fs) ≡ zero = omega (arith, e) in
         let a : to_do (record u { got = u.got ++ r ∷ [] } ∷ fs) ≡ new-digits = ap (λ k. widened k new-digits) e ∙ widened_none new-digits in
         let b : to_do (t ∷ u ∷ fs) ≡ old-digits = ap (λ k. widened k old-digits) k ∙ widened_none old-digits in
         omega (arith, n, w, a, b)
     by (suc j) e =
-        let n = length_more u.got r in
+        let n = length-append u.got (r ∷ []) in
         let w = waiting_more u fs in
         let k : 129 - length (u ∷ fs) ≡ j = omega (arith, e) in
         let a : to_do (record u { got = u.got ++ r ∷ [] } ∷ fs) ≡ widened j (new-digits * many) = ap (λ k. widened k new-digits) e ∙ widened_once j new-digits in

@@ -1,7 +1,8 @@
 -- What was read is what a load needs next.
-use Rattle.pagable_loads.proofs.Words.{◌≡◌, ◌+◌, ◌<◌, List, [], ◌∷◌, ◌++◌, length, Option, Some, refl, ap, sym, ◌∙◌, arith, arc_value, blob_of, ArcRef, longest_path, Meaning, Frame, Values, reads}
-use Rattle.pagable_loads.proofs.Words.{IsDecoded, to_adopt, need_at, need_of, ReadsNode, ReadsRoot, Need, frame_of, frames_of, onto, reading_of, IsReadAs, Needs, IsRead, nat_tests}
-use Rattle.pagable_loads.specs.{declared.reading.Frame.Frame as Held, declared.reading.Reading.Reading as Own}
+use Rattle.std.{proofs.{Common.{◌≡◌, ◌+◌, ◌<◌, List, [], ◌∷◌, ◌++◌, length, Option, Some, refl, ap, sym, ◌∙◌, arith}, lemmas.Bool.Decides.nat_tests}, specs.Arc.arc_value}
+use Rattle.{pagable_core.specs.Data.blob_of, pagable_model.specs.{declared.numbers.ArcRef.ArcRef, Deep.longest_path, Meaning.Meaning}, pagable_world.specs.{World.{Frame, Values}, Loads.reads}}
+use Rattle.{pagable_world.specs.Loads.{IsDecoded, to_adopt, need_at, need_of, ReadsNode, ReadsRoot}, pagable_loads.specs.declared.reading.{Need.Need, Frame.Frame as Held, Reading.Reading as Own}}
+use Rattle.pagable_loads.specs.{Frames.{frame_of, frames_of, onto, reading_of}, Decoding.IsReadAs, Needing.{Needs, IsRead}}
 
 pub length_onto : (below : List Frame) (fs : List Held) → length (onto below fs) ≡ length below + length fs
 unfolding onto

@@ -1,10 +1,10 @@
 -- From what reading gives to what the blob asks for next.
-use Rattle.pagable_loads.proofs.Words.{arith, nat_tests, common_steps, rules, ◌≡◌, ℕ, ◌+◌, List, [], ◌∷◌, length, true, false, Option, Some, None, Result, Ok, Err, ◌⊎◌, inl, inr, refl, ap, subst}
-use Rattle.pagable_loads.proofs.Words.{sym, ◌∙◌, slice_get, Error, ArcRef, Meaning, Blob, is_own_reading, Shape, Rest, read_typed, Answer, Standing, GivesSome, handles_at, rest_at, at_front, Values}
-use Rattle.pagable_loads.{proofs.Words.{answer_of, answers_from, asks_for, next_by, next_of, read_with, is_faulty, Decodes, Answers, ReadsWith, Asks, is_asking, Decoded}, specs.Got.answer_at}
-use Rattle.pagable_model.specs.declared.error.Error.TheVariants as errors
+use Rattle.std.proofs.Common.{arith, rules, ◌≡◌, ℕ, ◌+◌, List, [], ◌∷◌, length, true, false, Option, Some, None, Result, Ok, Err, ◌⊎◌, inl, inr, refl, ap, subst, sym, ◌∙◌, slice_get}
+use Rattle.{std.proofs.lemmas.{Bool.Decides.nat_tests, Grind.common_steps}, pagable_model.specs.{declared.{error.Error.Error, numbers.ArcRef.ArcRef}, Meaning.Meaning, Blob.Blob}}
+use Rattle.{pagable_model.specs.{Refusals.is_own_reading, Shape.Shape, Reading.{Rest, read_typed}, Standing.{Answer, Standing, GivesSome, handles_at, rest_at}}, pagable_core.specs.Context.at_front}
+use Rattle.{pagable_world.specs.{World.Values, Loads.{answer_of, answers_from, asks_for, next_by, next_of, read_with, is_faulty}}, pagable_loads.specs.Decoding.{Decodes, Answers, ReadsWith, Asks}}
+use Rattle.pagable_loads.specs.{Decoding.is_asking, declared.decoding.Decoded.Decoded, Got.answer_at}
 use Rattle.pagable_core.specs.Context as context
-use Rattle.pagable_loads.specs.declared.decoding.Decoded.TheVariants as decoded
 
 -- answers by place, key and kind are those of the references got
 same_answers : (got : List ArcRef) (place : ℕ) (keys : List ℕ) → context.answers_from (answer_at got) place keys ≡ answers_from got place keys
@@ -24,34 +24,34 @@ reads_with own means nodes parts t env other levels got found bytes keys blob st
 
 -- each other refusal is a fault
 faulty : (key : Option ℕ) (e : Error) → is_asking e ≡ false → next_by key (Err e) ≡ is_faulty e
-faulty key (errors.Storage k) other = absurd (cc)
+faulty key (Error.Storage k) other = absurd (cc)
 faulty key e other = refl
 
 -- a refusal that is none of Storage asks for nothing
-pub asks_nothing : (e : Error) → ((kind : ℕ) → e ≡ errors.Storage kind → ⊥) → is_asking e ≡ false
-asks_nothing (errors.Storage k) other = absurd (other k refl)
+pub asks_nothing : (e : Error) → ((kind : ℕ) → e ≡ Error.Storage kind → ⊥) → is_asking e ≡ false
+asks_nothing (Error.Storage k) other = absurd (other k refl)
 asks_nothing e other = refl
 
 module _ {N : Type 0} (v : Values N) (t : ℕ) (blob : Blob) (got : List ArcRef) where
   abbrev pub key : Option ℕ
   key = slice_get blob.keys (length got)
 
-  pub is_read : (x : N) → v.node_type x ≡ t → ReadsWith v t blob got (Ok x) → Decodes v t blob got (decoded.Read x)
+  pub is_read : (x : N) → v.node_type x ≡ t → ReadsWith v t blob got (Ok x) → Decodes v t blob got (Decoded.Read x)
   is_read x typed h = record { answers = record { own = h.gives.m; read = ap (next_by key) h.gives.gave; typed = typed; means = h.gives.is } }
 
-  wanted : (kind : ℕ) → ((e : Error) → v.read_causes t e → is_own_reading e ≡ true) → ReadsWith v t blob got (Err (errors.Storage kind)) → read_with v.types t blob got ≡ Err (errors.Storage kind)
-  wanted kind law r = elim r.gives [ inl h ↦ h | inr h ↦ absurd (let f = law (errors.Storage kind) h in cc) ]
+  wanted : (kind : ℕ) → ((e : Error) → v.read_causes t e → is_own_reading e ≡ true) → ReadsWith v t blob got (Err (Error.Storage kind)) → read_with v.types t blob got ≡ Err (Error.Storage kind)
+  wanted kind law r = elim r.gives [ inl h ↦ h | inr h ↦ absurd (let f = law (Error.Storage kind) h in cc) ]
 
   asked : (kind : ℕ) (o : Option ℕ) (d : Decoded N) → next_of v.types t blob got ≡ asks_for kind o → Asks kind o d → Answers v t blob got d
   asked kind None d next a = subst (Answers v t blob got) (sym a.asks_from) (inl next)
   asked kind (Some k) d next a = subst (Answers v t blob got) (sym a.asks_from) next
 
-  pub is_wanted : (kind : ℕ) (e : Error) (d : Decoded N) → e ≡ errors.Storage kind → ((f : Error) → v.read_causes t f → is_own_reading f ≡ true) → Asks kind key d → ReadsWith v t blob got (Err e) → Decodes v t blob got d
+  pub is_wanted : (kind : ℕ) (e : Error) (d : Decoded N) → e ≡ Error.Storage kind → ((f : Error) → v.read_causes t f → is_own_reading f ≡ true) → Asks kind key d → ReadsWith v t blob got (Err e) → Decodes v t blob got d
   is_wanted kind e d is law a h = first_of (grind (arith, common_steps, nat_tests), search (rules))
 
-  refused : (e : Error) → is_asking e ≡ false → (read_with v.types t blob got ≡ Err e) ⊎ v.read_causes t e → Answers v t blob got (decoded.Refused e)
+  refused : (e : Error) → is_asking e ≡ false → (read_with v.types t blob got ≡ Err e) ⊎ v.read_causes t e → Answers v t blob got (Decoded.Refused e)
   refused e other (inl h) = inl (ap (next_by key) h ∙ faulty key e other)
   refused e other (inr h) = inr h
 
-  pub is_refused : (e : Error) → is_asking e ≡ false → ReadsWith v t blob got (Err e) → Decodes v t blob got (decoded.Refused e)
+  pub is_refused : (e : Error) → is_asking e ≡ false → ReadsWith v t blob got (Err e) → Decodes v t blob got (Decoded.Refused e)
   is_refused e other h = record { answers = refused e other h.gives }

@@ -1,17 +1,11 @@
 -- A pin with its loads, and how it is taken back; and the reading of a key.
-use Rattle.pagable_loads.proofs.Words.{common_steps, rules, ◌≡◌, ℕ, ◌+◌, Bool, true, false, Option, Some, Result, Ok, Err, inl, inr, refl, ap, sym, subst, ◌∙◌, arith, nat_tests, Error}
-use Rattle.pagable_loads.proofs.Words.{HandleNumber, LoadNumber, LoadAnswer, HandleRow, Owner, Mode, if_there, is_loose, is_unpinned, Core, Reading, Root, of_key, Values, Alike, row_at, PinCall}
-use Rattle.pagable_loads.proofs.Words.{ReleaseCall, BeginCall, BeginKeyCall, with_load, fresh, PagerState, WellFormed, Told, Called, LoadRun, load-ends, load-goes-on, PinRun, pins-at-once}
-use Rattle.pagable_loads.proofs.Words.{pin-is-refused, load-is-refused, load-pins, load-fails, reading-is-refused, load-reads, reading-fails, IsUnpinnedBack, PinsOver, ReadsOver, IsLoadOf}
-use Rattle.pagable_loads.proofs.Words.{reading_of, is_cell, Runs, StartsPin, Shares, PinsFirst, Unpins, TakesBack, Tells, begun_as}
-use Rattle.pagable_loads.specs.declared.reading.Reading.{Reading as Own}
-use Rattle.pagable_model.specs.declared.error.Error.TheVariants as errors
-use Rattle.pagable_world.specs.declared.answers.Beginning.TheVariants as beginnings
-use Rattle.pagable_world.specs.declared.answers.Pinning.TheVariants as pinnings
-use Rattle.pagable_world.specs.declared.events.LoadAnswer.TheVariants as ends
-use Rattle.pagable_world.specs.declared.handles.Owner.TheVariants as owners
-use Rattle.pagable_world.specs.declared.rows.Mode.TheVariants as modes
-use Rattle.pagable_loads.specs.declared.starting.PinStart.TheVariants as starts
+use Rattle.std.proofs.{lemmas.{Grind.common_steps, Bool.Decides.nat_tests}, Common.{rules, ◌≡◌, ℕ, ◌+◌, Bool, true, false, Option, Some, Result, Ok, Err, inl, inr, refl, ap, sym, subst, ◌∙◌, arith}}
+use Rattle.{pagable_model.specs.declared.{error.Error.Error, numbers.{HandleNumber.HandleNumber, LoadNumber.LoadNumber}}, pagable_world.specs.declared.events.LoadAnswer.LoadAnswer}
+use Rattle.pagable_world.specs.{declared.{handles.{HandleRow.HandleRow, Owner.Owner}, rows.Mode.Mode, answers.{Pinning.Pinning, Beginning.Beginning}}, Plain.if_there, Kinds.{is_loose, is_unpinned}}
+use Rattle.pagable_world.specs.{World.{Core, Reading, Root, of_key, Values, Alike, row_at}, Calls.{PinCall, ReleaseCall}, LoadCalls.{BeginCall, BeginKeyCall, with_load}, Workers.fresh}
+use Rattle.pagable_world.specs.{Pager.{PagerState, WellFormed}, Access.{Told, Called, LoadRun, load-ends, load-goes-on, PinRun, pins-at-once, pin-is-refused, load-is-refused, load-pins, load-fails}}
+use Rattle.{pagable_world.specs.Access.{reading-is-refused, load-reads, reading-fails, IsUnpinnedBack, PinsOver, ReadsOver}, pagable_loads.specs.{Frames.{IsLoadOf, reading_of, is_cell}, Running.Runs}}
+use Rattle.pagable_loads.specs.{Starting.{StartsPin, Shares, PinsFirst, Unpins, TakesBack}, Telling.{Tells, begun_as}, declared.{starting.PinStart.PinStart, reading.Reading.Reading as Own}}
 
 -- what is told of a state, beside what led to it
 pub told_with : {S : Type 0} {o n : Option S} {R Q : S → S → Type 0} {P : S → Type 0} → ((s t : S) → R s t → P t → Q s t) → Told o n R → Tells n P → Told o n Q
@@ -37,38 +31,38 @@ module _ (me : Owner) (own : Own) (l : LoadNumber) (key t : ℕ) (is : reading_o
         sort = sym sort;
       }
 
-module _ {N E : Type 0} (v : Values N) (me : Owner) (mine : me ≡ owners.Caller) where
+module _ {N E : Type 0} (v : Values N) (me : Owner) (mine : me ≡ Owner.Caller) where
   module _ (own : Own) (l : LoadNumber) (key t : ℕ) (is : reading_of own ≡ fresh l t) (under : own.key ≡ key) where
-    runs_on : {s t' : PagerState N E} {answer : LoadAnswer N} → IsLoadOf s.core me own → Runs v me own s answer t' → LoadRun v owners.Caller (fresh l t) s answer t'
+    runs_on : {s t' : PagerState N E} {answer : LoadAnswer N} → IsLoadOf s.core me own → Runs v me own s answer t' → LoadRun v Owner.Caller (fresh l t) s answer t'
     runs_on {s} {t'} {answer} o r = subst (λ m. LoadRun v m (fresh l t) s answer t') mine (subst (λ x. LoadRun v me x s answer t') is (r.run o))
 
-    module _ (h : HandleNumber) (cell : own.for_cell ≡ true) (s mid : PagerState N E) (c : Called v (λ w'. StartsPin s.core me h (Ok (starts.Load l key t)) w') s mid) where
-      begun : BeginCall s.core me h (Ok (beginnings.Load l key)) mid.core
+    module _ (h : HandleNumber) (cell : own.for_cell ≡ true) (s mid : PagerState N E) (c : Called v (λ w'. StartsPin s.core me h (Ok (PinStart.Load l key t)) w') s mid) where
+      begun : BeginCall s.core me h (Ok (Beginning.Load l key)) mid.core
       begun = c.step.starts.0
 
       open_load : IsLoadOf mid.core me own
       open_load = first_of (grind (arith, common_steps, nat_tests), search (rules))
 
-      calls : Called v (λ w'. BeginCall s.core owners.Caller h (Ok (beginnings.Load l key)) w') s mid
-      calls = record { step = subst (λ m. BeginCall s.core m h (Ok (beginnings.Load l key)) mid.core) mine begun; moves = c.moves; whole = c.whole }
+      calls : Called v (λ w'. BeginCall s.core Owner.Caller h (Ok (Beginning.Load l key)) w') s mid
+      calls = record { step = subst (λ m. BeginCall s.core m h (Ok (Beginning.Load l key)) mid.core) mine begun; moves = c.moves; whole = c.whole }
 
-      pub load_pinned : (k : HandleNumber) (s' : PagerState N E) → Runs v me own mid (ends.Pinned k) s' → PinsFirst v s h (Ok (k, true)) s'
+      pub load_pinned : (k : HandleNumber) (s' : PagerState N E) → Runs v me own mid (LoadAnswer.Pinned k) s' → PinsFirst v s h (Ok (k, true)) s'
       load_pinned k s' r = record { pinned = (load-pins k (fresh l t) mid s' (record { key = key; begins = calls; is = c.step.starts.2 }) (runs_on open_load r), sym c.step.starts.1); refused = tt }
 
-      pub load_failed : (e : Error) (s' : PagerState N E) → Runs v me own mid (ends.Refused e) s' → PinsFirst v s h (Err e) s'
+      pub load_failed : (e : Error) (s' : PagerState N E) → Runs v me own mid (LoadAnswer.Refused e) s' → PinsFirst v s h (Err e) s'
       load_failed e s' r = record { pinned = tt; refused = load-fails e (fresh l t) mid s' (record { key = key; begins = calls; is = c.step.starts.2 }) (runs_on open_load r) }
 
     module _ (sort : own.for_cell ≡ false) (s mid : PagerState N E) (c : Called v (λ w'. BeginKeyCall s.core me key (begun_as key (Ok l)) w') s mid) where
       open_key : IsLoadOf mid.core me own
       open_key = let b = c.step.begins in opens me own l key t is under mid.core of_key sort (begun_is s.core mid.core l key of_key me b.1.above b.2)
 
-      key_calls : Called v (λ w'. BeginKeyCall s.core owners.Caller key (Ok (beginnings.Load l key)) w') s mid
-      key_calls = record { step = subst (λ m. BeginKeyCall s.core m key (Ok (beginnings.Load l key)) mid.core) mine c.step; moves = c.moves; whole = c.whole }
+      key_calls : Called v (λ w'. BeginKeyCall s.core Owner.Caller key (Ok (Beginning.Load l key)) w') s mid
+      key_calls = record { step = subst (λ m. BeginKeyCall s.core m key (Ok (Beginning.Load l key)) mid.core) mine c.step; moves = c.moves; whole = c.whole }
 
-      pub key_read : (x : N) (s' : PagerState N E) → Runs v me own mid (ends.Read x) s' → ReadsOver v s key t (Ok x) s'
+      pub key_read : (x : N) (s' : PagerState N E) → Runs v me own mid (LoadAnswer.Read x) s' → ReadsOver v s key t (Ok x) s'
       key_read x s' r = record { run = load-reads x l mid s' key_calls (runs_on open_key r) }
 
-      pub key_failed : (e : Error) (s' : PagerState N E) → Runs v me own mid (ends.Refused e) s' → ReadsOver v s key t (Err e) s'
+      pub key_failed : (e : Error) (s' : PagerState N E) → Runs v me own mid (LoadAnswer.Refused e) s' → ReadsOver v s key t (Err e) s'
       key_failed e s' r = record { run = reading-fails e l mid s' key_calls (runs_on open_key r) }
 
   pub key_refused : (key t : ℕ) (e : Error) (s s' : PagerState N E) → Called v (λ w'. BeginKeyCall s.core me key (begun_as key (Err e)) w') s s' → ReadsOver v s key t (Err e) s'
@@ -77,26 +71,22 @@ module _ {N E : Type 0} (v : Values N) (me : Owner) (mine : me ≡ owners.Caller
   -- ---- a pin
 
   module _ (h : HandleNumber) where
-    pub start_pinned : (k : HandleNumber) (was : Bool) (s s' : PagerState N E) → Called v (λ w'. StartsPin s.core me h (Ok (starts.Pinned k was)) w') s s' → PinsFirst v s h (Ok (k, was)) s'
+    pub start_pinned : (k : HandleNumber) (was : Bool) (s s' : PagerState N E) → Called v (λ w'. StartsPin s.core me h (Ok (PinStart.Pinned k was)) w') s s' → PinsFirst v s h (Ok (k, was)) s'
     start_pinned k was s s' c =
-        record { pinned = (pins-at-once k s' (record { step = subst (λ m. PinCall s.core m h (Ok (pinnings.Pinned k)) s'.core) mine c.step.starts.0; moves = c.moves; whole = c.whole }), c.step.starts.1); refused = tt }
+        record { pinned = (pins-at-once k s' (record { step = subst (λ m. PinCall s.core m h (Ok (Pinning.Pinned k)) s'.core) mine c.step.starts.0; moves = c.moves; whole = c.whole }), c.step.starts.1); refused = tt }
 
     pub start_refused : (e : Error) (s s' : PagerState N E) → Called v (λ w'. StartsPin s.core me h (Err e) w') s s' → PinsFirst v s h (Err e) s'
     start_refused e s s' c = first_of (grind (arith, common_steps, nat_tests), grind (arith, nat_tests, pin-is-refused, load-is-refused), search (rules, pin-is-refused, load-is-refused))
 
 -- ---- how it is taken back
 
-unpinned_so : (m : Mode) → is_unpinned m ≡ true → m ≡ modes.LooseUnpinned
-unpinned_so modes.LooseUnpinned is = refl
-unpinned_so modes.LoosePinned is = absurd (cc)
-unpinned_so modes.Pinned is = absurd (cc)
-unpinned_so modes.Shared is = absurd (cc)
+unpinned_so : (m : Mode) → is_unpinned m ≡ true → m ≡ Mode.LooseUnpinned
+unpinned_so Mode.LooseUnpinned is = refl
+unpinned_so m is = absurd (cc)
 
-pinned_so : (m : Mode) → is_loose m ≡ true → is_unpinned m ≡ false → m ≡ modes.LoosePinned
-pinned_so modes.LooseUnpinned loose is = absurd (cc)
-pinned_so modes.LoosePinned loose is = refl
-pinned_so modes.Pinned loose is = absurd (cc)
-pinned_so modes.Shared loose is = absurd (cc)
+pinned_so : (m : Mode) → is_loose m ≡ true → is_unpinned m ≡ false → m ≡ Mode.LoosePinned
+pinned_so Mode.LoosePinned loose is = refl
+pinned_so m loose is = absurd (cc)
 
 module _ {N E : Type 0} (v : Values N) (h : HandleNumber) where
   run_whole : {me : Owner} {reading : Reading} {s t : PagerState N E} {answer : LoadAnswer N} → LoadRun v me reading s answer t → WellFormed v t
@@ -114,9 +104,7 @@ module _ {N E : Type 0} (v : Values N) (h : HandleNumber) where
   pin_loose : {s t : PagerState N E} (r : Result HandleNumber Error) {k : HandleNumber} → r ≡ Ok k → PinRun v s h r t → (row : HandleRow) × (row_at s.core h ≡ Some row) × (is_loose row.mode ≡ true)
   pin_loose r is (pins-at-once k t c) = let p = c.step.pins in (p.0, p.1.live, p.1.as_asked)
   pin_loose r is (load-pins k reading mid t starts run) = let p = starts.begins.step.begins in (p.0, p.1.live, p.1.as_asked)
-  pin_loose r is (pin-is-refused e t c) = absurd (cc)
-  pin_loose r is (load-is-refused e t c) = absurd (cc)
-  pin_loose r is (load-fails e reading mid t starts run) = absurd (cc)
+  pin_loose r is run = absurd (cc)
 
   nothing_goes : (s low : PagerState N E) → WellFormed v s → low ≡ s → Called v (λ w'. Alike s.core w') s low
   nothing_goes s low whole is = subst (λ x. Called v (λ w'. Alike s.core w') s x) (sym is) (record { step = still s.core; moves = record { each = λ n x has. inl has; environment = refl }; whole = whole })
@@ -133,11 +121,11 @@ module _ {N E : Type 0} (v : Values N) (h : HandleNumber) where
   pub shares_it : {X : Type 0} (see : X → N) (k : HandleNumber) (was : Bool) (x : X) (s t : PagerState N E) → PinsFirst v s h (Ok (k, was)) t → Shares see t k (Ok (Some x)) → PinsOver v s h (Ok (k, see x)) t
   shares_it see k was x s t p shares = let f = shares.given.found in record { pins = (p.pinned.0, record { row = f.0; live = f.1; held = f.2.1 }); refused = tt }
 
-  pub taken_back : (k : HandleNumber) (was : Bool) (s mid t : PagerState N E) → PinsFirst v s h (Ok (k, was)) mid → TakesBack v was h k mid t → PinsOver v s h (Err errors.OutOfMemory) t
+  pub taken_back : (k : HandleNumber) (was : Bool) (s mid t : PagerState N E) → PinsFirst v s h (Ok (k, was)) mid → TakesBack v was h k mid t → PinsOver v s h (Err Error.OutOfMemory) t
   taken_back k was s mid t p b =
       let l = pin_loose (Ok k) refl p.pinned.0 in
       let is = p.pinned.1 ∙ ap (if_there (λ (row : HandleRow). is_unpinned row.mode) false) l.1 in
       record { pins = tt; refused = inr (refl, record { k = k; mid = mid; low = b.low; told = b.told; pins = p.pinned.0; unpins = back s mid b.low was l.0 l.1 l.2 is (pin_whole p.pinned.0) b.unpins; releases = b.releases }) }
 
-  pub takes_back : (k : HandleNumber) (was : Bool) (s low t : PagerState N E) (told : Result (Unit {0}) Error) → Unpins v was h s low → Called v (λ w'. ReleaseCall low.core owners.Caller k told w') low t → TakesBack v was h k s t
+  pub takes_back : (k : HandleNumber) (was : Bool) (s low t : PagerState N E) (told : Result (Unit {0}) Error) → Unpins v was h s low → Called v (λ w'. ReleaseCall low.core Owner.Caller k told w') low t → TakesBack v was h k s t
   takes_back k was s low t told u c = record { low = low; unpins = u; told = told; releases = c }

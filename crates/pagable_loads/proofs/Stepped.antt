@@ -1,16 +1,12 @@
 -- What a step's call did is what the step is said to do.
-use Rattle.pagable_loads.proofs.Words.{◌≡◌, ℕ, ◌+◌, ◌<◌, ◌≤◌, List, [], ◌∷◌, ◌++◌, length, true, false, Option, Some, None, Result, Ok, Err, inl, inr, refl, ap, sym, subst, ◌∙◌, arith, not, Error}
-use Rattle.pagable_loads.proofs.Words.{ArcRef, HandleNumber, Kind, Blob, longest_path, LoadAnswer, Owner, is_owner, if_there, Core, Root, of_cell, of_key, OpenLoad, Frame, Reading, Values}
-use Rattle.pagable_loads.proofs.Words.{OwnsLoad, refused_if, load_fault, from_store, AskCall, AdoptCall, EndCall, HandOverCall, DropCall, LoadCloses, need_of, needs_nested, needs_lazy, root_frame}
-use Rattle.pagable_loads.proofs.Words.{nested_frame, with_got, handles_of, MakesNode, ReadsNode, ReadsRoot, LoadIs, IsOfCell, IsOfKey, Meets, Does, PagerState, Moves, ReadingBrings, IsNewNode}
-use Rattle.pagable_loads.proofs.Words.{IsCellOf, Told, Called, ReadingStep, Brings, IsMade, AsksFor, TakesLazily, AdoptsValue, frame_of, frames_of, onto, reading_of, is_cell, IsLoadOf, Met, Tries}
-use Rattle.pagable_loads.proofs.{Needed.length_onto, Words.Steps, Words.Drops, Words.nat_tests}
-use Rattle.pagable_loads.specs.{declared.reading.Frame.Frame as Held, declared.reading.Reading.Reading as Own}
-use Rattle.pagable_model.specs.declared.error.Error.TheVariants as errors
-use Rattle.either.specs.declared.Either.TheVariants as eithers
-use Rattle.pagable_world.specs.declared.calls.Want.TheVariants as wants
-use Rattle.pagable_world.specs.declared.events.LoadAnswer.TheVariants as ends
-use Rattle.pagable_world.specs.declared.handles.Owner.TheVariants as owners
+use Rattle.std.proofs.Common.{◌≡◌, ℕ, ◌+◌, ◌<◌, ◌≤◌, List, [], ◌∷◌, ◌++◌, length, true, false, Option, Some, None, Result, Ok, Err, inl, inr, refl, ap, sym, subst, ◌∙◌, arith}
+use Rattle.{std.{proofs.lemmas.Bool.Decides.nat_tests, specs.Prelude.not}, pagable_model.specs.{declared.{error.Error.Error, numbers.{ArcRef.ArcRef, HandleNumber.HandleNumber, Kind.Kind}}, Blob.Blob}}
+use Rattle.{pagable_model.specs.Deep.longest_path, pagable_world.specs.{declared.{events.LoadAnswer.LoadAnswer, handles.Owner.Owner, calls.Want.Want}, Kinds.is_owner, Plain.if_there, World.Core}}
+use Rattle.pagable_world.specs.{World.{Root, of_cell, of_key, OpenLoad, Frame, Reading, Values}, Refusals.{OwnsLoad, refused_if, load_fault}, LoadCalls.{from_store, AskCall, AdoptCall, EndCall}}
+use Rattle.pagable_world.specs.{LoadCalls.{HandOverCall, DropCall, LoadCloses}, Loads.{need_of, needs_nested, needs_lazy, root_frame, nested_frame, with_got, handles_of, MakesNode, ReadsNode}}
+use Rattle.pagable_world.specs.{Loads.{ReadsRoot, LoadIs, IsOfCell, IsOfKey, Meets, Does}, Pager.{PagerState, Moves, ReadingBrings, IsNewNode, IsCellOf}, Access.{Told, Called, ReadingStep}}
+use Rattle.pagable_loads.specs.{Telling.{Brings, IsMade, AsksFor, TakesLazily, AdoptsValue}, Frames.{frame_of, frames_of, onto, reading_of, is_cell, IsLoadOf}, Stepping.{Met, Tries, Steps, Drops}}
+use Rattle.{pagable_loads.{specs.declared.reading.{Frame.Frame as Held, Reading.Reading as Own}, proofs.Needed.length_onto}, either.specs.declared.Either.Either}
 
 module _ {S : Type 0} where
   pub told_map : {o n : Option S} {R Q : S → S → Type 0} → ((s t : S) → R s t → Q s t) → Told o n R → Told o n Q
@@ -42,10 +38,10 @@ module _ {N : Type 0} (E : Type 0) (v : Values N) (me : Owner) (own : Own) where
   fails f = record { does = λ is. tt; meets = f }
 
   module _ (first : frames_of own.top own.below.items ≡ []) where
-    pub root_comes : (blob : Blob) (frames : List Frame) → frames ≡ root_frame own.key own.node_type blob ∷ [] → (s t : PagerState N E) → Called v (λ w'. AskCall s.core me own.load wants.Root (Ok (from_store blob)) w') s t → Tries v me own s (Ok None) frames t
+    pub root_comes : (blob : Blob) (frames : List Frame) → frames ≡ root_frame own.key own.node_type blob ∷ [] → (s t : PagerState N E) → Called v (λ w'. AskCall s.core me own.load Want.Root (Ok (from_store blob)) w') s t → Tries v me own s (Ok None) frames t
     root_comes blob frames is s t c = goes (λ o. went c (inl (record { load = o.load; blob = blob; first = first; open_load = o.owned.stands_open; asked = c.step; goes = is ∙ ap (λ k. root_frame k own.node_type blob ∷ []) (sym o.key) })))
 
-    pub root_refused : (e : Error) (frames : List Frame) (s t : PagerState N E) → Called v (λ w'. AskCall s.core me own.load wants.Root (Err e) w') s t → Tries v me own s (Err e) frames t
+    pub root_refused : (e : Error) (frames : List Frame) (s t : PagerState N E) → Called v (λ w'. AskCall s.core me own.load Want.Root (Err e) w') s t → Tries v me own s (Err e) frames t
     root_refused e frames s t c = fails (λ o. met c (inr (inl (first, c.step))))
 
   module _ (kind : Kind) (key : ℕ) (top : Held) (under : List Held) (was : frames_of own.top own.below.items ≡ frame_of top ∷ onto [] under) where
@@ -56,13 +52,13 @@ module _ {N : Type 0} (E : Type 0) (v : Values N) (me : Owner) (own : Own) where
     deep = let l = length_onto [] under in ap length was ∙ omega (arith, l)
 
     module _ {B : Type 0} (see : B → Blob) (need : need_of v.types reading.frames ≡ needs_nested kind key) where
-      pub nested_known : (r : ArcRef) (frames : List Frame) → frames ≡ record (frame_of top) { got = top.got.items ++ r ∷ [] } ∷ onto [] under → (s t : PagerState N E) → Called v (λ w'. AsksFor see s.core me own.load kind key (Ok (eithers.Left r)) w') s t → Tries v me own s (Ok None) frames t
+      pub nested_known : (r : ArcRef) (frames : List Frame) → frames ≡ record (frame_of top) { got = top.got.items ++ r ∷ [] } ∷ onto [] under → (s t : PagerState N E) → Called v (λ w'. AsksFor see s.core me own.load kind key (Ok (Either.Left r)) w') s t → Tries v me own s (Ok None) frames t
       nested_known r frames is s t c = goes (λ o. went c (inr (inl (record { kind = kind; key = key; k = r.handle; row = c.step.made.row; needs = need; asked = c.step.asked; made = c.step.made.live; goes = got_goes t.core r frames is c.step.made }))))
 
-      pub nested_blob : (blob : B) (frames : List Frame) → frames ≡ nested_frame kind key (see blob) ∷ frame_of top ∷ onto [] under → length under < longest_path → (s t : PagerState N E) → Called v (λ w'. AsksFor see s.core me own.load kind key (Ok (eithers.Right blob)) w') s t → Tries v me own s (Ok None) frames t
+      pub nested_blob : (blob : B) (frames : List Frame) → frames ≡ nested_frame kind key (see blob) ∷ frame_of top ∷ onto [] under → length under < longest_path → (s t : PagerState N E) → Called v (λ w'. AsksFor see s.core me own.load kind key (Ok (Either.Right blob)) w') s t → Tries v me own s (Ok None) frames t
       nested_blob blob frames is short s t c = goes (λ o. went c (inr (inr (inl (record { kind = kind; key = key; blob = see blob; needs = need; short = omega (arith, deep, short); asked = c.step.asked; goes = is ∙ ap (λ fs. nested_frame kind key (see blob) ∷ fs) (sym was) })))))
 
-      pub nested_deep : (blob : B) (e : Error) (frames : List Frame) → e ≡ errors.TooDeep → longest_path ≤ length under → (s t : PagerState N E) → Called v (λ w'. AsksFor see s.core me own.load kind key (Ok (eithers.Right blob)) w') s t → Tries v me own s (Err e) frames t
+      pub nested_deep : (blob : B) (e : Error) (frames : List Frame) → e ≡ Error.TooDeep → longest_path ≤ length under → (s t : PagerState N E) → Called v (λ w'. AsksFor see s.core me own.load kind key (Ok (Either.Right blob)) w') s t → Tries v me own s (Err e) frames t
       nested_deep blob e frames is long s t c = fails (λ o. met c (inr (inr (inl (kind, key, need, inr (see blob, is, (omega (arith, deep, long)), c.step.asked))))))
 
       pub nested_refused : (e : Error) (frames : List Frame) → (s t : PagerState N E) → Called v (λ w'. AsksFor see s.core me own.load kind key (Err e) w') s t → Tries v me own s (Err e) frames t
@@ -143,10 +139,10 @@ module _ {N : Type 0} (E : Type 0) (v : Values N) (me : Owner) (own : Own) where
     comes : {s t : PagerState N E} → Moves (λ n y. (y ≡ x) × IsCellOf s.core own.load n) s t → Moves (ReadingBrings v s.core reading) s t
     comes {s} m = comes_as (λ n y came. inr (subst (ReadsRoot v reading) (sym came.0) root, came.1)) m
 
-    pub end_pins : (k : HandleNumber) (frames : List Frame) → frames ≡ [] → (s t : PagerState N E) → Brings v (λ w'. EndCall s.core me own.load x (v.node_type x) (v.references x) (Ok k) w') (λ n y. (y ≡ x) × IsCellOf s.core own.load n) s t → Tries v me own s (Ok (Some (ends.Pinned k))) frames t
+    pub end_pins : (k : HandleNumber) (frames : List Frame) → frames ≡ [] → (s t : PagerState N E) → Brings v (λ w'. EndCall s.core me own.load x (v.node_type x) (v.references x) (Ok k) w') (λ n y. (y ≡ x) × IsCellOf s.core own.load n) s t → Tries v me own s (Ok (Some (LoadAnswer.Pinned k))) frames t
     end_pins k frames none s t c = goes (λ o. record { does = record { does = (record { x = x; reads_root = root; of_cell_load = for_cell s.core o; ended = c.step }, none) }; moves = comes c.moves; whole = c.whole })
 
-    pub end_closed : (e : Error) (frames : List Frame) → frames ≡ [] → (s t : PagerState N E) → Brings v (λ w'. EndCall s.core me own.load x (v.node_type x) (v.references x) (Err (e, None)) w') (λ n y. (y ≡ x) × IsCellOf s.core own.load n) s t → Tries v me own s (Ok (Some (ends.Refused e))) frames t
+    pub end_closed : (e : Error) (frames : List Frame) → frames ≡ [] → (s t : PagerState N E) → Brings v (λ w'. EndCall s.core me own.load x (v.node_type x) (v.references x) (Err (e, None)) w') (λ n y. (y ≡ x) × IsCellOf s.core own.load n) s t → Tries v me own s (Ok (Some (LoadAnswer.Refused e))) frames t
     end_closed e frames none s t c = goes (λ o. record { does = record { does = (inr (record { x = x; reads_root = root; ended = c.step }), none) }; moves = comes c.moves; whole = c.whole })
 
     pub end_refused : (e : Error) (y : N) (frames : List Frame) (s t : PagerState N E) → Brings v (λ w'. EndCall s.core me own.load x (v.node_type x) (v.references x) (Err (e, Some y)) w') (λ n z. (z ≡ x) × IsCellOf s.core own.load n) s t → Tries v me own s (Err e) frames t
@@ -156,7 +152,7 @@ module _ {N : Type 0} (E : Type 0) (v : Values N) (me : Owner) (own : Own) where
     for_key : (w : Core) → IsLoadOf w me own → LoadIs w reading IsOfKey
     for_key w o = record { load = o.load; open_load = o.owned.stands_open; sort = key_of o.load.root (o.sort ∙ sort) }
 
-    pub hands_over : (frames : List Frame) → frames ≡ [] → (s t : PagerState N E) → Called v (λ w'. HandOverCall s.core me own.load named (Ok tt) w') s t → Tries v me own s (Ok (Some (ends.Read x))) frames t
+    pub hands_over : (frames : List Frame) → frames ≡ [] → (s t : PagerState N E) → Called v (λ w'. HandOverCall s.core me own.load named (Ok tt) w') s t → Tries v me own s (Ok (Some (LoadAnswer.Read x))) frames t
     hands_over frames none s t c = goes (λ o. went c (record { reads_root = root; of_key_load = for_key s.core o; handed = subst (λ hs. HandOverCall s.core me own.load hs (Ok tt) t.core) is c.step }, none))
 
     pub hand_over_refused : (e : Error) (frames : List Frame) (s t : PagerState N E) → Called v (λ w'. HandOverCall s.core me own.load named (Err e) w') s t → Tries v me own s (Err e) frames t
@@ -165,14 +161,12 @@ module _ {N : Type 0} (E : Type 0) (v : Values N) (me : Owner) (own : Own) where
   -- ---- a refusal gives the load up
 
   owner_self : (o : Owner) → is_owner o o ≡ true
-  owner_self owners.Caller = refl
-  owner_self (owners.Value n) = grind arith
-  owner_self owners.List = refl
-  owner_self (owners.Load l) = grind arith
-  owner_self (owners.Worker n) = grind arith
+  owner_self Owner.Caller = refl
+  owner_self Owner.List = refl
+  owner_self o = grind arith
 
   usable_load : (w : Core) (load : OpenLoad) → OwnsLoad w me own.load load → load_fault w me own.load ≡ None
-  usable_load w load o = ap (λ (l : Option OpenLoad). if_there (λ (load : OpenLoad). refused_if (not (is_owner me load.owner)) errors.NotYours) (Some errors.NoSuchHandle) l) o.stands_open ∙ ap (λ owner. refused_if (not (is_owner me owner)) errors.NotYours) o.own ∙ ap (λ b. refused_if (not b) errors.NotYours) (owner_self me)
+  usable_load w load o = ap (λ (l : Option OpenLoad). if_there (λ (load : OpenLoad). refused_if (not (is_owner me load.owner)) Error.NotYours) (Some Error.NoSuchHandle) l) o.stands_open ∙ ap (λ owner. refused_if (not (is_owner me owner)) Error.NotYours) o.own ∙ ap (λ b. refused_if (not b) Error.NotYours) (owner_self me)
 
   -- while it is met the load stays open
   stays_open : (w w' : Core) (e : Error) → Meets v w me reading e w' → w'.loads own.load.0 ≡ w.loads own.load.0
@@ -190,7 +184,7 @@ module _ {N : Type 0} (E : Type 0) (v : Values N) (me : Owner) (own : Own) where
   closes : (mid t : Core) (told : Result (Unit {0}) Error) (load : OpenLoad) → OwnsLoad mid me own.load load → DropCall mid me own.load told t → LoadCloses mid own.load told t
   closes mid t told load o d = grind (arith, nat_tests, usable_load)
 
-  pub gives_up : (e : Error) (frames none : List Frame) → none ≡ [] → (s mid t : PagerState N E) → Tries v me own s (Err e) frames mid → Drops v me own.load mid t → Steps v me own s (Some (ends.Refused e)) none t
+  pub gives_up : (e : Error) (frames none : List Frame) → none ≡ [] → (s mid t : PagerState N E) → Tries v me own s (Err e) frames mid → Drops v me own.load mid t → Steps v me own s (Some (LoadAnswer.Refused e)) none t
   gives_up e frames none is s mid t tried d = record {
     does = λ o.
         let m = tried.meets o in

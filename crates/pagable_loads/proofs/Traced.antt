@@ -1,13 +1,12 @@
 -- What a reading asks for is told by its bytes alone: kinds, one after the other, up to its end or its fault, whatever is answered.
-use Rattle.pagable_loads.proofs.Words.{◌≡◌, ℕ, zero, suc, ◌+◌, ◌-◌, ◌/◌, ◌^◌, Bool, true, false, if◌then◌else◌, List, [], ◌∷◌, ◌++◌, length, Option, Some, None, Result, Ok, Err, refl, subst}
-use Rattle.pagable_loads.proofs.Words.{nat_lt, nat_le, ◌==◌, append-nil, Width, w8, w16, w32, w64, w128, is_utf8, chars, Error, ArcRef, ◌>>=◌, Read, byte_at, varint_at, unsigned_at, signed_at}
-use Rattle.pagable_loads.proofs.Words.{length_at, bytes_at, text_at, bool_at, one_char, char_at, duration_at, longest, nanos_of_second, Meaning, integer, none, variant, sequence, entry, absent}
-use Rattle.pagable_loads.proofs.Words.{present, success, failure, lifted, text_order, put_all, put_sorted, of_entries, of_tagged, of_hash_map, Shape, nothing, unsigned, signed, flag, letter}
-use Rattle.pagable_loads.proofs.Words.{duration, json, optional, outcome, list, run, array, both, sorted_map, placed_map, hash_map, sorted_set, placed_set, static_value, tagged, cases, nested}
-use Rattle.pagable_loads.proofs.Words.{Rest, Gets, bytes_of, reference_at, seen, two, choose, items, counted, registered, Deeper, enter, JsonCase, null_case, flag_case, number_case, text_case}
-use Rattle.pagable_loads.proofs.Words.{array_case, object_case, json_case, json_part, below, deepest, read, read_typed, Answer, answer_at, handles_at, is_asking}
-use Rattle.pagable_model.specs.Reading.{read_with}
-use Rattle.pagable_model.specs.declared.error.Error.TheVariants as errors
+use Rattle.std.proofs.Common.{◌≡◌, ℕ, zero, suc, ◌+◌, ◌-◌, ◌/◌, ◌^◌, Bool, true, false, if◌then◌else◌, List, [], ◌∷◌, ◌++◌, length, Option, Some, None, Result, Ok, Err, refl, subst, ◌==◌}
+use Rattle.{std.{proofs.lemmas.List.append-nil, specs.{Prelude.{nat_lt, nat_le}, Int.{Width, w8, w32, w64}, Str.{is_utf8, chars}}}, pagable_model.specs.declared.error.Error.Error}
+use Rattle.pagable_model.specs.{declared.numbers.ArcRef.ArcRef, Steps.◌>>=◌, Numbers.{Read, byte_at, varint_at, unsigned_at, signed_at}, Basic.{length_at, bytes_at, text_at, bool_at, one_char}}
+use Rattle.pagable_model.specs.{Basic.{char_at, duration_at, longest, nanos_of_second}, Meaning.{Meaning, integer, none, variant, sequence, entry, absent, present, success, failure, lifted}}
+use Rattle.pagable_model.specs.{Keys.{text_order, put_all, put_sorted}, Carried.{of_entries, of_tagged, of_hash_map}, Shape.{Shape, nothing, unsigned, signed, flag, letter, duration, json, optional}}
+use Rattle.pagable_model.specs.{Shape.{outcome, list, run, array, both, sorted_map, placed_map, hash_map, sorted_set, placed_set, static_value, tagged, cases, nested}, Reading.{Rest, Gets, bytes_of}}
+use Rattle.pagable_model.specs.Reading.{reference_at, seen, two, choose, items, counted, registered, Deeper, enter, JsonCase, null_case, flag_case, number_case, text_case, array_case, object_case}
+use Rattle.{pagable_model.specs.{Reading.{json_case, json_part, below, deepest, read, read_typed, read_with}, Standing.{Answer, answer_at, handles_at}}, pagable_loads.specs.Decoding.is_asking}
 use Rattle.pagable_model.specs.Meaning as meanings
 use Rattle.pagable_model.specs.Shape as shapes
 
@@ -38,10 +37,7 @@ sober_varint (suc more) last (b ∷ bytes) = sober_if (nat_lt b 128) _ _ tt (sob
 
 sober_unsigned : (w : Width) (bytes : List ℕ) → Sober (unsigned_at w bytes)
 sober_unsigned w8 bytes = sober_byte bytes
-sober_unsigned w16 bytes = sober_varint _ _ bytes
-sober_unsigned w32 bytes = sober_varint _ _ bytes
-sober_unsigned w64 bytes = sober_varint _ _ bytes
-sober_unsigned w128 bytes = sober_varint _ _ bytes
+sober_unsigned w bytes = sober_varint _ _ bytes
 
 sober_signed : (w : Width) (bytes : List ℕ) → Sober (signed_at w bytes)
 sober_signed w bytes = sober_then (unsigned_at w bytes) _ (sober_unsigned w bytes) (λ x. tt)
@@ -103,7 +99,7 @@ Ends (faulty e sober) refs r = r ≡ Err e
 -- It asks for these kinds, and then ends so; the first that is refused is its refusal.
 unfoldable pub Goes : {X : Type 0} → List ℕ → End → List Answer → Result (X × Rest Answer) Error → Type 0
 Goes [] end refs r = Ends end refs r
-Goes (k ∷ ks) end [] r = r ≡ Err errors.NoMoreKeys
+Goes (k ∷ ks) end [] r = r ≡ Err Error.NoMoreKeys
 Goes (k ∷ ks) end (a ∷ refs) r = Answered (a k) (Goes ks end refs r) (λ e. r ≡ Err e)
 
 pub record Trace {X : Type 0} (get : Gets Answer X) (bytes : List ℕ) : Type 0 where
@@ -128,7 +124,7 @@ module _ {X Y : Type 0} (f : X × Rest Answer → Result (Y × Rest Answer) Erro
       → (refs : List Answer) (r : Result (X × Rest Answer) Error) → Goes ks first refs r → Goes (ks ++ more) end refs (r >>= f)
   unfolding Goes
   goes_then [] more first end k refs r h = k refs r h
-  goes_then (n ∷ ks) more first end k [] r h = refused_then r errors.NoMoreKeys h
+  goes_then (n ∷ ks) more first end k [] r h = refused_then r Error.NoMoreKeys h
   goes_then (n ∷ ks) more first end k (a ∷ refs) r h = answered_map (a n) (goes_then ks more first end k refs r) (refused_then r) h
 
 -- seen by view
@@ -239,15 +235,15 @@ pub data DeeperTraced : Deeper Answer ArcRef → Type 0 where
 
 entering : {X : Type 0} {d : Deeper Answer ArcRef} (part : (Shape → Gets Answer (Meaning ArcRef)) → Gets Answer X) → DeeperTraced d
     → ((get : Shape → Gets Answer (Meaning ArcRef)) → ((s : Shape) → Traced (get s)) → Traced (part get)) → Traced (enter d part)
-entering part no-deeper k = likewise (refuses errors.TooDeep refl) (λ i. refl)
+entering part no-deeper k = likewise (refuses Error.TooDeep refl) (λ i. refl)
 entering part (one-deeper get h) k = likewise (k get h) (λ i. refl)
 
 json_traced : {d : Deeper Answer ArcRef} → DeeperTraced d → (case : JsonCase) → Traced (json_part d case)
 json_traced h null_case = likewise (gives (variant 0 none)) (λ i. refl)
 json_traced h flag_case = likewise (of_bytes bool_at sober_flag (λ b. variant 1 (meanings.flag b))) (λ i. refl)
 json_traced h number_case =
-    after_bytes bool_at sober_flag (λ float i. choose float (λ r. Err errors.JsonNumber) (bytes_of (signed_at w64) (λ z. variant 2 (integer z))) i) _ (λ i. refl)
-    (λ float. choice float (refuses errors.JsonNumber refl) (of_bytes (signed_at w64) (sober_signed w64) (λ z. variant 2 (integer z))))
+    after_bytes bool_at sober_flag (λ float i. choose float (λ r. Err Error.JsonNumber) (bytes_of (signed_at w64) (λ z. variant 2 (integer z))) i) _ (λ i. refl)
+    (λ float. choice float (refuses Error.JsonNumber refl) (of_bytes (signed_at w64) (sober_signed w64) (λ z. variant 2 (integer z))))
 json_traced h text_case = likewise (of_bytes text_at sober_text (λ t. variant 3 (meanings.text t))) (λ i. refl)
 json_traced {d} h array_case =
     after_bytes length_at sober_length (λ count i. enter d (λ get. seen (λ ms. variant 4 (sequence ms)) (items (get json) count)) i) _ (λ i. refl)
@@ -286,7 +282,7 @@ module _ (parts : ℕ → Shape) where
       after_bytes bool_at sober_flag (λ ok i. choose ok (seen success (read_with answer_at parts d s)) (seen failure (read_with answer_at parts d t)) i) _ (λ i. refl)
       (λ ok. choice ok (sees success (with_traced h s)) (sees failure (with_traced h t)))
   with_traced h (list s) = likewise (sees sequence (as_many (with_traced h s))) (λ i. refl)
-  with_traced h (run s) = likewise (refuses errors.WrongKind refl) (λ i. refl)
+  with_traced h (run s) = likewise (refuses Error.WrongKind refl) (λ i. refl)
   with_traced h (array n s) = likewise (sees sequence (each_of (with_traced h s) n)) (λ i. refl)
   with_traced h (both s t) = likewise (sees entry (both_of (with_traced h s) (with_traced h t))) (λ i. refl)
   with_traced h (sorted_map order s t) = likewise (sees _ (as_many (both_of (with_traced h s) (with_traced h t)))) (λ i. refl)
@@ -297,11 +293,11 @@ module _ (parts : ℕ → Shape) where
   with_traced h (static_value registry) =
       after_bytes (unsigned_at w32) (sober_unsigned w32) (λ n i. registered registry n >>= λ m. Ok (lifted m, i)) _ (λ i. refl) (λ n. static_any (registered registry n) (sober_registered registry n))
   with_traced {d} h (tagged written known body) =
-      after_bytes text_at sober_text (λ tag i. choose (known tag) (seen (of_tagged tag) (read_with answer_at parts d (body tag))) (λ r. Err errors.UnknownTag) i) _ (λ i. refl)
-      (λ tag. choice (known tag) (sees (of_tagged tag) (with_traced h (body tag))) (refuses errors.UnknownTag refl))
+      after_bytes text_at sober_text (λ tag i. choose (known tag) (seen (of_tagged tag) (read_with answer_at parts d (body tag))) (λ r. Err Error.UnknownTag) i) _ (λ i. refl)
+      (λ tag. choice (known tag) (sees (of_tagged tag) (with_traced h (body tag))) (refuses Error.UnknownTag refl))
   with_traced {d} h (cases w known part) =
-      after_bytes (unsigned_at w) (sober_unsigned w) (λ n i. choose (known n) (seen (variant n) (read_with answer_at parts d (part n))) (λ r. Err errors.UnknownTag) i) _ (λ i. refl)
-      (λ n. choice (known n) (sees (variant n) (with_traced h (part n))) (refuses errors.UnknownTag refl))
+      after_bytes (unsigned_at w) (sober_unsigned w) (λ n i. choose (known n) (seen (variant n) (read_with answer_at parts d (part n))) (λ r. Err Error.UnknownTag) i) _ (λ i. refl)
+      (λ n. choice (known n) (sees (variant n) (with_traced h (part n))) (refuses Error.UnknownTag refl))
   with_traced h (shapes.reference kind) = likewise (asks_one kind) (λ i. refl)
   with_traced h (nested n) = likewise (entering _ h (λ get g. g (parts n))) (λ i. refl)
 
@@ -312,5 +308,5 @@ module _ (parts : ℕ → Shape) where
 
   pub typed_traced : (o : Option Shape) → Traced (read_typed (handles_at 0 parts) o)
   unfolding read
-  typed_traced None = likewise (refuses errors.WrongKind refl) (λ i. refl)
+  typed_traced None = likewise (refuses Error.WrongKind refl) (λ i. refl)
   typed_traced (Some s) = likewise (with_traced (below_traced (deepest - 0)) s) (λ i. refl)

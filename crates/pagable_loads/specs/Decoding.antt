@@ -1,10 +1,7 @@
 -- What decoding answers, in the words of loads.
-use Rattle.std.specs.Prelude.{ℕ, ◌≡◌, ◌⊎◌, Bool, true, false, List, Option, Some, None, Result}
-use Rattle.pagable_model.specs.{declared.error.Error.Error, declared.numbers.ArcRef.ArcRef, Blob.Blob, Meaning.Meaning, Reading.Rest, Standing.Answer, Standing.GivesSome}
-use Rattle.pagable_world.specs.{World.Values, Loads.reads, Loads.asks, Loads.is_faulty, Loads.next_of, Loads.read_with}
+use Rattle.{std.specs.Prelude.{ℕ, ◌≡◌, ◌⊎◌, Bool, true, false, List, Option, Some, None, Result}, pagable_model.specs.{declared.{error.Error.Error, numbers.ArcRef.ArcRef}, Blob.Blob, Meaning.Meaning}}
+use Rattle.{pagable_model.specs.{Reading.Rest, Standing.{Answer, GivesSome}}, pagable_world.specs.{World.Values, Loads.{reads, asks, is_faulty, next_of, read_with}}}
 use Rattle.pagable_loads.specs.declared.decoding.Decoded.{Decoded}
-use Rattle.pagable_model.specs.declared.error.Error.TheVariants as errors
-use Rattle.pagable_loads.specs.declared.decoding.Decoded.TheVariants as decoded
 
 -- the value is of the type, and means what the blob reads as
 pub record IsReadAs {N : Type 0} (v : Values N) (t : ℕ) (blob : Blob) (got : List ArcRef) (x : N) : Type 0 where
@@ -15,9 +12,9 @@ pub record IsReadAs {N : Type 0} (v : Values N) (t : ℕ) (blob : Blob) (got : L
 
 -- What decoding answers is what the blob asks for next, or a cause of the type's own.
 abbrev pub Answers : {N : Type 0} → Values N → ℕ → Blob → List ArcRef → Decoded N → Type 0
-Answers v t blob got (decoded.Read x) = IsReadAs v t blob got x
-Answers v t blob got (decoded.Wants kind key) = next_of v.types t blob got ≡ asks kind key
-Answers v t blob got (decoded.Refused e) = (next_of v.types t blob got ≡ is_faulty e) ⊎ v.read_causes t e
+Answers v t blob got (Decoded.Read x) = IsReadAs v t blob got x
+Answers v t blob got (Decoded.Wants kind key) = next_of v.types t blob got ≡ asks kind key
+Answers v t blob got (Decoded.Refused e) = (next_of v.types t blob got ≡ is_faulty e) ⊎ v.read_causes t e
 
 pub record Decodes {N : Type 0} (v : Values N) (t : ℕ) (blob : Blob) (got : List ArcRef) (d : Decoded N) : Type 0 where
   pub answers : Answers v t blob got d
@@ -29,12 +26,12 @@ pub record ReadsWith {N : Type 0} (v : Values N) (t : ℕ) (blob : Blob) (got : 
 
 -- whether a refusal is the one by which a reference is asked for
 abbrev pub is_asking : Error → Bool
-is_asking (errors.Storage kind) = true
+is_asking (Error.Storage kind) = true
 is_asking e = false
 
 abbrev pub AsksFrom : {N : Type 0} → ℕ → Option ℕ → Decoded N → Type 0
-AsksFrom kind None d = d ≡ decoded.Refused errors.NoMoreKeys
-AsksFrom kind (Some key) d = d ≡ decoded.Wants (record { 0 = kind }) key
+AsksFrom kind None d = d ≡ Decoded.Refused Error.NoMoreKeys
+AsksFrom kind (Some key) d = d ≡ Decoded.Wants (record { 0 = kind }) key
 
 -- a reference of this kind is asked for, under the key that is left, if one is
 pub record Asks {N : Type 0} (kind : ℕ) (key : Option ℕ) (d : Decoded N) : Type 0 where

@@ -1,8 +1,6 @@
 -- Why a load comes to an end, whatever it meets: each step lowers a number. And what ends it.
 use Rattle.std.specs.Prelude.{ℕ, ◌≡◌, ◌+◌, ◌-◌, ◌*◌, ◌<◌, ◌^◌, Bool, true, false, zero, suc, List, [], ◌∷◌, length, Option, Some, None, Result, Ok, Err}
-use Rattle.pagable_model.specs.declared.error.Error.{Error}
-use Rattle.pagable_world.specs.{declared.events.LoadAnswer.LoadAnswer, World.Frame}
-use Rattle.pagable_world.specs.declared.events.LoadAnswer.TheVariants as ends
+use Rattle.{pagable_model.specs.declared.error.Error.Error, pagable_world.specs.{declared.events.LoadAnswer.LoadAnswer, World.Frame}}
 
 -- how many references a blob has still to get; and so, and one more, of one that waits for the blob above it
 abbrev pub left_in : Frame → ℕ
@@ -33,9 +31,9 @@ to_do (f ∷ fs) = widened (129 - length fs) (waiting fs * many + left_in f + 1)
 -- a load of a cell ends with a pin, one of a key with a value; and a step that ends nothing leaves less to do
 abbrev pub Leads : {N : Type 0} → Bool → List Frame → List Frame → Result (Option (LoadAnswer N)) Error → Type 0
 Leads for_cell old new (Ok None) = to_do new < to_do old
-Leads for_cell old new (Ok (Some (ends.Pinned k))) = for_cell ≡ true
-Leads for_cell old new (Ok (Some (ends.Read x))) = for_cell ≡ false
-Leads for_cell old new (Ok (Some (ends.Refused e))) = Unit {0}
+Leads for_cell old new (Ok (Some (LoadAnswer.Pinned k))) = for_cell ≡ true
+Leads for_cell old new (Ok (Some (LoadAnswer.Read x))) = for_cell ≡ false
+Leads for_cell old new (Ok (Some (LoadAnswer.Refused e))) = Unit {0}
 Leads for_cell old new (Err e) = Unit {0}
 
 pub record LeadsOn {N : Type 0} (for_cell : Bool) (old new : List Frame) (r : Result (Option (LoadAnswer N)) Error) : Type 0 where

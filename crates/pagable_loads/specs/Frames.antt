@@ -1,8 +1,6 @@
 -- The blobs of a load, as the world knows them.
-use Rattle.std.specs.{Prelude.◌≡◌, Prelude.Bool, Prelude.true, Prelude.false, Prelude.List, Prelude.[], Prelude.◌∷◌, Prelude.Option, Prelude.Some, Prelude.None, Arc.arc_value}
-use Rattle.pagable_core.specs.Data.{blob_of}
-use Rattle.pagable_world.specs.{declared.handles.Owner.Owner, World.Core, World.Root, World.of_cell, World.of_key, World.OpenLoad, World.Frame, World.Reading, Refusals.OwnsLoad}
-use Rattle.pagable_loads.specs.{declared.reading.Frame.Frame as Held, declared.reading.Reading.Reading as Own}
+use Rattle.{std.specs.{Prelude.{◌≡◌, Bool, true, false, List, [], ◌∷◌, Option, Some, None}, Arc.arc_value}, pagable_core.specs.Data.blob_of, pagable_world.specs.declared.handles.Owner.Owner}
+use Rattle.{pagable_world.specs.{World.{Core, Root, of_cell, of_key, OpenLoad, Frame, Reading}, Refusals.OwnsLoad}, pagable_loads.specs.declared.reading.{Frame.Frame as Held, Reading.Reading as Own}}
 
 abbrev pub frame_of : Held → Frame
 frame_of f = record { kind = f.kind; key = f.key; node_type = f.node_type; blob = blob_of (arc_value f.blob); got = f.got.items }

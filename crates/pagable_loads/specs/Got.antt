@@ -1,10 +1,7 @@
 -- What those who answer from a list of got references stand for.
-use Rattle.std.{specs.Prelude.{◌≡◌, refl, ℕ, ◌==◌, Bool, true, false, if◌then◌else◌, List, Option, Some, None, Result, Ok, Err, option_and_then, slice_get}, specs.Option.option_map}
-use Rattle.std.{specs.declared.alloc.Global.Global, specs.declared.sync.Arc.Arc, proofs.Common.subst}
-use Rattle.pagable_model.specs.{declared.error.Error.Error, declared.numbers.ArcRef.ArcRef, Refusals.may_refuse_reference}
-use Rattle.pagable_world.specs.Loads.{answer_of}
-use Rattle.pagable_loads.specs.declared.got.GotReferences.{GotReferences}
-use Rattle.pagable_model.specs.declared.error.Error.TheVariants as errors
+use Rattle.std.specs.{Prelude.{◌≡◌, refl, ℕ, ◌==◌, Bool, true, false, if◌then◌else◌, List, Option, Some, None, Result, Ok, Err, option_and_then, slice_get}, Option.option_map}
+use Rattle.{std.{specs.declared.{alloc.Global.Global, sync.Arc.Arc}, proofs.Common.subst}, pagable_model.specs.{declared.{error.Error.Error, numbers.ArcRef.ArcRef}, Refusals.may_refuse_reference}}
+use Rattle.{pagable_world.specs.Loads.answer_of, pagable_loads.specs.declared.got.GotReferences.GotReferences}
 
 abbrev pub environment_of : {E N H K V : Type 0} → GotReferences E N H K V → E
 environment_of s = s.env.now
@@ -36,10 +33,10 @@ may_of e f may is =
     let P : Error → Type 0 = λ x. may_refuse_reference x ≡ true in
     subst P same may
 
-choice : (b : Bool) (r : ArcRef) (e : Error) → (if b then Ok r else Err errors.WrongKind) ≡ Err e → may_refuse_reference e ≡ true
+choice : (b : Bool) (r : ArcRef) (e : Error) → (if b then Ok r else Err Error.WrongKind) ≡ Err e → may_refuse_reference e ≡ true
 choice true r e is = cc
-choice false r e is = may_of e errors.WrongKind refl is
+choice false r e is = may_of e Error.WrongKind refl is
 
 pub may_refuse : (found : Option ArcRef) (kind : ℕ) (e : Error) → answer_of found kind ≡ Err e → may_refuse_reference e ≡ true
-may_refuse None kind e is = may_of e (errors.Storage kind) refl is
+may_refuse None kind e is = may_of e (Error.Storage kind) refl is
 may_refuse (Some r) kind e is = choice (r.kind.0 == kind) r e is

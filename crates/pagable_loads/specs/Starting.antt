@@ -1,14 +1,9 @@
 -- A pin that begins, and one that was begun and is taken back.
-use Rattle.std.specs.{Prelude.{◌≡◌, ◌⊎◌, Bool, true, false, Option, Some, Result, Ok, Err, IfOk, IfErr}, Option.option_map}
-use Rattle.pagable_model.specs.{declared.error.Error.Error, declared.numbers.HandleNumber.HandleNumber}
-use Rattle.pagable_world.specs.{World.{Core, Values, row_at}, declared.handles.HandleRow.HandleRow, declared.handles.Owner.Owner, Plain.if_there, Kinds.is_unpinned, Refusals.live_fault}
-use Rattle.pagable_world.specs.{Calls.{PinCall, UnpinCall, ReleaseCall}, LoadCalls.BeginCall, Workers.fresh, Events.reading_of_load, Pager.{PagerState, ValueCall}, Access.{Called, PinRun}}
+use Rattle.{std.specs.{Prelude.{◌≡◌, ◌⊎◌, Bool, true, false, Option, Some, Result, Ok, Err, IfOk, IfErr}, Option.option_map}, pagable_model.specs.declared.error.Error.Error}
+use Rattle.{pagable_model.specs.declared.numbers.HandleNumber.HandleNumber, pagable_world.specs.{World.{Core, Values, row_at}, declared.handles.{HandleRow.HandleRow, Owner.Owner}}}
+use Rattle.pagable_world.specs.{declared.answers.{Pinning.Pinning, Beginning.Beginning}, Plain.if_there, Kinds.is_unpinned, Refusals.live_fault, Calls.{PinCall, UnpinCall, ReleaseCall}}
+use Rattle.pagable_world.specs.{LoadCalls.BeginCall, Workers.fresh, Events.reading_of_load, Pager.{PagerState, ValueCall}, Access.{Called, PinRun}}
 use Rattle.pagable_loads.specs.declared.starting.PinStart.{PinStart}
-use Rattle.pagable_model.specs.declared.error.Error.TheVariants as errors
-use Rattle.pagable_world.specs.declared.answers.Beginning.TheVariants as beginnings
-use Rattle.pagable_world.specs.declared.answers.Pinning.TheVariants as pinnings
-use Rattle.pagable_world.specs.declared.handles.Owner.TheVariants as owners
-use Rattle.pagable_loads.specs.declared.starting.PinStart.TheVariants as starts
 
 -- whether the handle is live, loose and pins nothing
 abbrev pub is_unpinned_at : Core → HandleNumber → Bool
@@ -16,8 +11,8 @@ is_unpinned_at w h = if_there (λ (row : HandleRow). is_unpinned row.mode) false
 
 -- a pin, and whether the handle pinned nothing before; or a load of its cell, which is of this type
 abbrev pub Starts : Core → Owner → HandleNumber → PinStart → Core → Type 0
-Starts w me h (starts.Pinned k was_unpinned) w' = PinCall w me h (Ok (pinnings.Pinned k)) w' × (was_unpinned ≡ is_unpinned_at w h)
-Starts w me h (starts.Load l key t) w' = BeginCall w me h (Ok (beginnings.Load l key)) w' × (is_unpinned_at w h ≡ true) × (reading_of_load l (w'.loads l.0) ≡ Some (fresh l t))
+Starts w me h (PinStart.Pinned k was_unpinned) w' = PinCall w me h (Ok (Pinning.Pinned k)) w' × (was_unpinned ≡ is_unpinned_at w h)
+Starts w me h (PinStart.Load l key t) w' = BeginCall w me h (Ok (Beginning.Load l key)) w' × (is_unpinned_at w h ≡ true) × (reading_of_load l (w'.loads l.0) ≡ Some (fresh l t))
 
 pub record StartsPin (w : Core) (me : Owner) (h : HandleNumber) (r : Result PinStart Error) (w' : Core) : Type 0 where
   pub starts : IfOk r (λ p. Starts w me h p w')
@@ -26,7 +21,7 @@ pub record StartsPin (w : Core) (me : Owner) (h : HandleNumber) (r : Result PinS
 -- The value of a handle's node, where the handle pins it. Memory may be wanting to share it.
 pub record Shares {N E X : Type 0} (see : X → N) (s : PagerState N E) (h : HandleNumber) (r : Result (Option X) Error) : Type 0 where
   pub given : IfOk r (λ found. ValueCall s h (Ok (option_map see found)))
-  pub refused : IfErr r (λ e. (live_fault (row_at s.core h) ≡ Some e) ⊎ (e ≡ errors.OutOfMemory))
+  pub refused : IfErr r (λ e. (live_fault (row_at s.core h) ≡ Some e) ⊎ (e ≡ Error.OutOfMemory))
 
 -- a pin with its loads; and whether the handle pinned nothing before
 pub record PinsFirst {N E : Type 0} (v : Values N) (s : PagerState N E) (h : HandleNumber) (r : Result (HandleNumber × Bool) Error) (s' : PagerState N E) : Type 0 where
@@ -35,11 +30,11 @@ pub record PinsFirst {N E : Type 0} (v : Values N) (s : PagerState N E) (h : Han
 
 -- the handle lets its pin go, if it pinned nothing before, and the new one is given up
 abbrev pub Unpins : {N E : Type 0} → Values N → Bool → HandleNumber → PagerState N E → PagerState N E → Type 0
-Unpins v true h s low = (told : Result (Unit {0}) Error) × Called v (λ w'. UnpinCall s.core owners.Caller h told w') s low
+Unpins v true h s low = (told : Result (Unit {0}) Error) × Called v (λ w'. UnpinCall s.core Owner.Caller h told w') s low
 Unpins v false h s low = low ≡ s
 
 pub record TakesBack {N E : Type 0} (v : Values N) (was_unpinned : Bool) (h k : HandleNumber) (s s' : PagerState N E) : Type 0 where
   pub low : PagerState N E
   pub unpins : Unpins v was_unpinned h s low
   pub told : Result (Unit {0}) Error
-  pub releases : Called v (λ w'. ReleaseCall low.core owners.Caller k told w') low s'
+  pub releases : Called v (λ w'. ReleaseCall low.core Owner.Caller k told w') low s'

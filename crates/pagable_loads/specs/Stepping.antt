@@ -1,9 +1,8 @@
 -- What a load's step does, up to its refusal and with it, in the words of the world.
-use Rattle.std.specs.Prelude.{◌≡◌, ◌<◌, ◌++◌, List, [], ◌∷◌, Option, Result, IfOk, IfErr, vec_len, vec_capacity}
-use Rattle.pagable_model.specs.{declared.error.Error.Error, declared.numbers.ArcRef.ArcRef, declared.numbers.LoadNumber.LoadNumber}
-use Rattle.pagable_world.specs.{declared.events.LoadAnswer.LoadAnswer, declared.handles.Owner.Owner, World.Frame, World.Reading, World.Values, LoadCalls.DropCall, Loads.Meets, Pager.PagerState}
-use Rattle.pagable_world.specs.{Pager.Moves, Pager.ReadingBrings, Access.Called, Access.ReadingStep}
-use Rattle.pagable_loads.specs.{declared.reading.Frame.Frame as Held, declared.reading.Reading.Reading as Own, Frames.IsLoadOf, Frames.reading_of, Frames.frame_of, Frames.frames_of, Frames.onto}
+use Rattle.{std.specs.Prelude.{◌≡◌, ◌<◌, ◌++◌, List, [], ◌∷◌, Option, Result, IfOk, IfErr, vec_len, vec_capacity}, pagable_model.specs.declared.{error.Error.Error, numbers.ArcRef.ArcRef}}
+use Rattle.{pagable_model.specs.declared.numbers.LoadNumber.LoadNumber, pagable_world.specs.{declared.{events.LoadAnswer.LoadAnswer, handles.Owner.Owner}, World.{Frame, Reading, Values}}}
+use Rattle.{pagable_world.specs.{LoadCalls.DropCall, Loads.Meets, Pager.{PagerState, Moves, ReadingBrings}, Access.{Called, ReadingStep}}, pagable_loads.specs.declared.reading.Frame.Frame as Held}
+use Rattle.pagable_loads.specs.{declared.reading.Reading.Reading as Own, Frames.{IsLoadOf, reading_of, frame_of, frames_of, onto}}
 
 -- a refusal was met, and the load is still open
 pub record Met {N E : Type 0} (v : Values N) (me : Owner) (reading : Reading) (s : PagerState N E) (e : Error) (t : PagerState N E) : Type 0 where

@@ -1,14 +1,9 @@
 -- What a worker's calls of an access do, in the words of the world.
-use Rattle.std.specs.Prelude.{ℕ, ◌≡◌, ◌≤◌, ◌⊎◌, true, length, Option, Some, None, Result, Ok, Err, IfOk, IfErr}
-use Rattle.pagable_model.specs.{declared.error.Error.Error, declared.numbers.ArcRef.ArcRef, declared.numbers.HandleNumber.HandleNumber, declared.numbers.LoadNumber.LoadNumber}
-use Rattle.pagable_model.specs.declared.numbers.WorkerNumber.{WorkerNumber}
-use Rattle.pagable_world.specs.{Kinds.{loose_kind, HasKinds, HasNoKinds}, declared.handles.HandleRow.HandleRow, declared.handles.Owner.Owner, World.{Core, Values, Alike}, Workers.{RowIs, PinsAtOnce}}
-use Rattle.pagable_world.specs.{Workers.PinRefused, LoadCalls.BeginCall, Calls.CloneCall, Events.{IsEntry, with_entry_taken}, Pager.PagerState, Access.{Called, WorkerStarts}}
-use Rattle.pagable_loads.specs.{declared.working.Taken.Taken, Telling.Acting}
-use Rattle.pagable_model.specs.declared.error.Error.TheVariants as errors
-use Rattle.pagable_world.specs.declared.answers.Beginning.TheVariants as beginnings
-use Rattle.pagable_world.specs.declared.handles.Owner.TheVariants as owners
-use Rattle.pagable_loads.specs.declared.working.Taken.TheVariants as takens
+use Rattle.{std.specs.Prelude.{ℕ, ◌≡◌, ◌≤◌, ◌⊎◌, true, length, Option, Some, None, Result, Ok, Err, IfOk, IfErr}, pagable_model.specs.declared.{error.Error.Error, numbers.ArcRef.ArcRef}}
+use Rattle.{pagable_model.specs.declared.numbers.{HandleNumber.HandleNumber, LoadNumber.LoadNumber, WorkerNumber.WorkerNumber}, pagable_world.specs.Kinds.{loose_kind, HasKinds, HasNoKinds}}
+use Rattle.pagable_world.specs.{declared.handles.{HandleRow.HandleRow, Owner.Owner}, World.{Core, Values, Alike}, Workers.{RowIs, PinsAtOnce, PinRefused}, LoadCalls.BeginCall, Calls.CloneCall}
+use Rattle.pagable_world.specs.declared.answers.Beginning.{Beginning}
+use Rattle.{pagable_world.specs.{Events.{IsEntry, with_entry_taken}, Pager.PagerState, Access.{Called, WorkerStarts}}, pagable_loads.specs.{declared.working.Taken.Taken, Telling.Acting}}
 
 -- why something was refused, if it was
 abbrev pub fault_in : {X : Type 0} → Result X Error → Option Error
@@ -17,11 +12,11 @@ fault_in (Err e) = Some e
 
 -- the clone's value is away under this key, and a load of it begins
 abbrev pub BeginsAt : Core → Owner → ArcRef → HandleNumber → LoadNumber → ℕ → Core → Type 0
-BeginsAt w me r through l key w' = RowIs w r.handle true × ((mid : Core) × CloneCall w me r.handle (Ok through) mid × BeginCall mid me through (Ok (beginnings.Load l key)) w')
+BeginsAt w me r through l key w' = RowIs w r.handle true × ((mid : Core) × CloneCall w me r.handle (Ok through) mid × BeginCall mid me through (Ok (Beginning.Load l key)) w')
 
 abbrev pub Takes : Core → Owner → ArcRef → Taken → Core → Type 0
-Takes w me r (takens.Held through k) w' = PinsAtOnce w me r through k w'
-Takes w me r (takens.Begun through l key) w' = BeginsAt w me r through l key w'
+Takes w me r (Taken.Held through k) w' = PinsAtOnce w me r through k w'
+Takes w me r (Taken.Begun through l key) w' = BeginsAt w me r through l key w'
 
 -- a reference that was claimed is cloned and pinned for its worker, or a load of its cell begins
 pub record TakesReference (w : Core) (me : Owner) (r : ArcRef) (result : Result Taken Error) (w' : Core) : Type 0 where
@@ -40,9 +35,9 @@ pub record StartsEntry {N E : Type 0} (v : Values N) (s : PagerState N E) (place
 
 abbrev pub EntryFault : Core → ℕ → Error → Type 0
 EntryFault w place e =
-    ((e ≡ errors.NoSuchHandle) × (length w.list ≤ place))
-    ⊎ ((e ≡ errors.WrongKind) × ((h : HandleNumber) × (row : HandleRow) × (type : ℕ) × IsEntry w place h row type × HasNoKinds type))
-    ⊎ (e ≡ errors.OutOfMemory)
+    ((e ≡ Error.NoSuchHandle) × (length w.list ≤ place))
+    ⊎ ((e ≡ Error.WrongKind) × ((h : HandleNumber) × (row : HandleRow) × (type : ℕ) × IsEntry w place h row type × HasNoKinds type))
+    ⊎ (e ≡ Error.OutOfMemory)
 
 -- no worker begins for an entry, and nothing changes
 pub record RefusesEntry {N E : Type 0} (v : Values N) (s : PagerState N E) (place : ℕ) (e : Error) (t : PagerState N E) : Type 0 where
@@ -51,8 +46,8 @@ pub record RefusesEntry {N E : Type 0} (v : Values N) (s : PagerState N E) (plac
 
 -- for whom it acts once a worker has begun; and once the worker has ended
 abbrev pub acting_after : {E X F : Type 0} → (X → WorkerNumber) → Result X F → Acting E → Acting E
-acting_after worker (Ok x) a = record a { me = owners.Worker (worker x) }
+acting_after worker (Ok x) a = record a { me = Owner.Worker (worker x) }
 acting_after worker (Err e) a = a
 
 abbrev pub as_caller : {E : Type 0} → Acting E → Acting E
-as_caller a = record a { me = owners.Caller }
+as_caller a = record a { me = Owner.Caller }

@@ -1,13 +1,9 @@
 //! An access to a pager: its calls, each one step, over a pager that is lent or behind a lock. Loads and page-out workers step over it.
 
-ghost use Rattle.std.specs.{Prelude.◌≡◌, Prelude.ℕ, Prelude.Option, Prelude.IfOk, Arc.arc_value};
-ghost use Rattle.pagable_core.specs.Data.{blob_of};
-ghost use Rattle.pagable_model.specs.Blob.{key_of};
-ghost use Rattle.pagable_world.specs.{Pager.PagerState, Pager.IsNewNode, Pager.IsCellOf, Calls.CloneCall, Calls.PinCall, Calls.UnpinCall, Calls.ReleaseCall, Calls.SetKeyCall, Calls.StoreCall};
-ghost use Rattle.pagable_world.specs.{LoadCalls.BeginCall, LoadCalls.BeginKeyCall, LoadCalls.AskCall, LoadCalls.EndCall, LoadCalls.HandOverCall, LoadCalls.DropCall, Access.Called, Access.Told};
-ghost use Rattle.pagable_loads.specs.Telling.{Acting, Tells, Brings, AsksFor, TakesLazily, AdoptsValue, values_at, begun_as, blob_as};
-ghost use Rattle.pagable_loads.specs.Starting.{Shares, StartsPin};
-ghost use Rattle.pagable_world.specs.declared.calls.Want.TheVariants as wants;
+ghost use Rattle.{std.specs.{Prelude.{◌≡◌, ℕ, Option, IfOk}, Arc.arc_value}, pagable_core.specs.Data.blob_of, pagable_model.specs.Blob.key_of, pagable_world.specs.Pager.{PagerState, IsNewNode}};
+ghost use Rattle.pagable_world.specs.{Pager.IsCellOf, Calls.{CloneCall, PinCall, UnpinCall, ReleaseCall, SetKeyCall, StoreCall}, LoadCalls.{BeginCall, BeginKeyCall, AskCall, EndCall, HandOverCall}};
+ghost use Rattle.{pagable_world.specs.{LoadCalls.DropCall, Access.{Called, Told}, declared.calls.Want.Want}, pagable_loads.specs.Telling.{Acting, Tells, Brings, AsksFor, TakesLazily, AdoptsValue}};
+ghost use Rattle.pagable_loads.specs.{Telling.{values_at, begun_as, blob_as}, Starting.{Shares, StartsPin}};
 
 use crate::starting::PinStart;
 use either::Either;
@@ -18,8 +14,7 @@ use pagable_world::{Beginning, Pinning};
 use std::alloc::Global;
 use std::sync::Arc;
 
-/// The calls of a pager for one owner: the caller, or a page-out worker. Where the pager's plain state is told, each call says what it does to it; behind a lock
-/// nothing is told.
+/// The calls of a pager for one owner: the caller, or a page-out worker. Where the pager's plain state is told, each call says what it does to it; behind a lock nothing is told.
 pub trait Access<E: Env>
 where
     E::Node: NodeSet<E>,
@@ -43,15 +38,13 @@ where
         ensures acting { acting self.new ≡ acting self.old }
         ensures lender { lender self.new ≡ lender self.old };
 
-    /// Pins a loose handle, and answers a new Pinned one; or the key under which the value has to be loaded first. Refused with NoSuchHandle, NotYours,
-    /// WrongMode, NumbersSpent and OutOfMemory.
+    /// Pins a loose handle, and answers a new Pinned one; or the key under which the value has to be loaded first. Refused with NoSuchHandle, NotYours, WrongMode, NumbersSpent and OutOfMemory.
     fn pin(&mut self, handle: HandleNumber) -> Result<Pinning, Error>
         ensures step { Told (told self.old) (told self.new) (λ s t. Called (values_at E.Node.NodeSet E.Env E.Hash.KeyHash (acting self.old).environment) (λ w'. PinCall s.core (acting self.old).me handle result w') s t) }
         ensures acting { acting self.new ≡ acting self.old }
         ensures lender { lender self.new ≡ lender self.old };
 
-    /// A pin of a loose handle, where its value is in memory, and else a load of its cell. Refused with NoSuchHandle, NotYours, WrongMode, NumbersSpent and
-    /// OutOfMemory.
+    /// A pin of a loose handle, where its value is in memory, and else a load of its cell. Refused with NoSuchHandle, NotYours, WrongMode, NumbersSpent and OutOfMemory.
     fn begin_pin(&mut self, handle: HandleNumber) -> Result<PinStart, Error>
         ensures step { Told (told self.old) (told self.new) (λ s t. Called (values_at E.Node.NodeSet E.Env E.Hash.KeyHash (acting self.old).environment) (λ w'. StartsPin s.core (acting self.old).me handle result w') s t) }
         ensures acting { acting self.new ≡ acting self.old }
@@ -102,7 +95,7 @@ where
 
     /// The blob of the load's own key. Refused with NoSuchHandle and NotYours, and as the storage refuses it.
     fn load_root(&mut self, alloc: Global, load: LoadNumber) -> Result<Arc<PagableData>, Error>
-        ensures step { Told (told self.old) (told self.new) (λ s t. Called (values_at E.Node.NodeSet E.Env E.Hash.KeyHash (acting self.old).environment) (λ w'. AskCall s.core (acting self.old).me load wants.Root (blob_as (λ d. blob_of (arc_value d)) result) w') s t) }
+        ensures step { Told (told self.old) (told self.new) (λ s t. Called (values_at E.Node.NodeSet E.Env E.Hash.KeyHash (acting self.old).environment) (λ w'. AskCall s.core (acting self.old).me load Want.Root (blob_as (λ d. blob_of (arc_value d)) result) w') s t) }
         ensures acting { acting self.new ≡ acting self.old }
         ensures lender { lender self.new ≡ lender self.old };
 

@@ -1,16 +1,14 @@
 //! The references that were got so far.
 
-ghost use Rattle.std.specs.Prelude.{◌≡◌};
-ghost use Rattle.pagable_loads.specs.Got.{environment_of, got_of, lent_of};
+ghost use Rattle.{std.specs.Prelude.◌≡◌, pagable_loads.specs.Got.{environment_of, got_of, lent_of}};
 
 use pagable_codec::{ArcRef, Env, Kind, SessionContext};
 use pagable_core::References;
 use pagable_flavors::{DataKey, Error};
 use std::sync::Arc;
 
-/// Answers for a blob's references from a list of those that were got so far, the first of the blob's first. One that wasn't got is refused with Storage of
-/// its kind, and one that was got as another kind with WrongKind. It lends the value of the reference that it answered last, from a list of values by the
-/// references' places, which may be shorter.
+/// Answers for a blob's references from a list of those that were got so far, the first of the blob's first. One that wasn't got is refused with Storage of its kind, and one that was got as another
+/// kind with WrongKind. It lends the value of the reference that it answered last, from a list of values by the references' places, which may be shorter.
 #[derive(Drop)]
 pub struct GotReferences<'g, E: Env> {
     env: &'g E,
@@ -44,8 +42,7 @@ impl<'g, E: Env> GotReferences<'g, E> {
 }
 
 impl<'g, E: Env> References<E> for GotReferences<'g, E> {
-    ghost use Rattle.std.specs.{Prelude.slice_get, Arc.arc_value};
-    ghost use Rattle.pagable_loads.specs.Got.{environment_of, got_of, lent_of, answer_at, lent_by, may_refuse};
+    ghost use Rattle.{std.specs.{Prelude.slice_get, Arc.arc_value}, pagable_loads.specs.Got.{environment_of, got_of, lent_of, answer_at, lent_by, may_refuse}};
 
     ghost environment = { environment_of };
 

@@ -2,14 +2,11 @@
 #![tactic(auto)]
 
 pub mod access;
-mod ahead;
 pub mod decoding;
 mod foreseeing;
 pub mod got;
-mod lending;
 pub mod over;
 pub mod reading;
-pub mod running;
 mod stack;
 pub mod starting;
 pub mod step;

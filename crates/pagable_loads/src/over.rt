@@ -1,9 +1,7 @@
 //! Whole operations over an access: a pin, with the load that it may need, and the reading of a key.
 
-ghost use Rattle.std.specs.{Prelude.◌≡◌, Prelude.Bool, Arc.arc_value};
-ghost use Rattle.pagable_world.specs.{World.seen_as, Access.Told, Access.PinsOver, Access.ReadsOver};
-ghost use Rattle.pagable_loads.specs.{Starting.PinsFirst, Starting.Unpins, Telling.values_at};
-ghost use Rattle.pagable_world.specs.declared.handles.Owner.TheVariants as owners;
+ghost use Rattle.{std.specs.{Prelude.{◌≡◌, Bool}, Arc.arc_value}, pagable_world.specs.{World.seen_as, Access.{Told, PinsOver, ReadsOver}, declared.handles.Owner.Owner}};
+ghost use Rattle.pagable_loads.specs.{Starting.{PinsFirst, Unpins}, Telling.values_at};
 
 use crate::access::Access;
 use crate::reading::Reading;
@@ -23,7 +21,7 @@ fn pin_first<E: Env, A: Access<E>>(
 ) -> Result<(HandleNumber, bool), Error>
 where
     E::Node: NodeSet<E>,
-    requires caller { (A.acting access.old).me ≡ owners.Caller }
+    requires caller { (A.acting access.old).me ≡ Owner.Caller }
     ensures pins { Told (A.told access.old) (A.told access.new) (λ s t. PinsFirst (values_at E.Node.NodeSet E.Env E.Hash.KeyHash (A.acting access.old).environment) s handle result t) }
     ensures acting { A.acting access.new ≡ A.acting access.old }
     ensures lender { A.lender access.new ≡ A.lender access.old }
@@ -49,7 +47,7 @@ where
 fn unpin_again<E: Env, A: Access<E>>(access: &mut A, handle: HandleNumber, was_unpinned: bool)
 where
     E::Node: NodeSet<E>,
-    requires caller { (A.acting access.old).me ≡ owners.Caller }
+    requires caller { (A.acting access.old).me ≡ Owner.Caller }
     ensures unpins { Told (A.told access.old) (A.told access.new) (λ s t. Unpins (values_at E.Node.NodeSet E.Env E.Hash.KeyHash (A.acting access.old).environment) was_unpinned handle s t) }
     ensures acting { A.acting access.new ≡ A.acting access.old }
     ensures lender { A.lender access.new ≡ A.lender access.old }
@@ -68,7 +66,7 @@ pub fn pin_over<E: Env, A: Access<E>>(
 ) -> Result<(HandleNumber, Arc<E::Node>), Error>
 where
     E::Node: NodeSet<E>,
-    requires caller { (A.acting access.old).me ≡ owners.Caller }
+    requires caller { (A.acting access.old).me ≡ Owner.Caller }
     ensures pins { Told (A.told access.old) (A.told access.new) (λ s t. PinsOver (values_at E.Node.NodeSet E.Env E.Hash.KeyHash (A.acting access.old).environment) s handle (seen_as (λ a. (a.0, arc_value a.1)) result) t) }
     ensures acting { A.acting access.new ≡ A.acting access.old }
     ensures lender { A.lender access.new ≡ A.lender access.old }
@@ -95,7 +93,7 @@ pub fn read_over<E: Env, A: Access<E>>(
 ) -> Result<E::Node, Error>
 where
     E::Node: NodeSet<E>,
-    requires caller { (A.acting access.old).me ≡ owners.Caller }
+    requires caller { (A.acting access.old).me ≡ Owner.Caller }
     ensures reads { Told (A.told access.old) (A.told access.new) (λ s t. ReadsOver (values_at E.Node.NodeSet E.Env E.Hash.KeyHash (A.acting access.old).environment) s key node_type result t) }
     ensures acting { A.acting access.new ≡ A.acting access.old }
     ensures lender { A.lender access.new ≡ A.lender access.old }

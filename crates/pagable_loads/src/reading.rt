@@ -1,9 +1,9 @@
-//! How far a load is: the blobs that it reads, and what it needs next.
+//! How far a load is: the blobs that it reads, what it needs next, and the values of the references that were got, which it lends to the reader of its innermost blob.
 
-ghost use Rattle.std.specs.Prelude.{◌≡◌, ◌<◌, [], length, IsSome, true, false};
-ghost use Rattle.pagable_model.specs.Deep.{is_eager};
-ghost use Rattle.pagable_loads.specs.{Frames.reading_of, Frames.frames_of, Needing.Needs, Needing.HasFrames, Needing.IsRead, Needing.need_wanted, Telling.values_at};
+ghost use Rattle.{std.specs.{Prelude.{◌≡◌, ◌<◌, [], length, IsSome, true, false, ◌≢◌, None, IfOk, IfErr}, Arc.arc_value, List.list_any, Option.option_map}, pagable_model.specs.Deep.is_eager};
+ghost use Rattle.pagable_loads.specs.{Frames.{reading_of, frames_of}, Needing.{Needs, HasFrames, IsRead, need_wanted}, Telling.{values_at, Tells}, Lending.{Lends, LendsEach}};
 
+use crate::access::Access;
 use crate::decoding::{Decoded, decode};
 use pagable_codec::{ArcRef, Env, Kind, NodeSet};
 use pagable_core::PagableData;
@@ -12,8 +12,7 @@ use pagable_model::LoadNumber;
 use std::alloc::Global;
 use std::sync::Arc;
 
-/// A blob that a load has got and reads: the kind as which its node will stand, its key, the type of its value, and the references that were got for it so
-/// far, in the order in which they are read.
+/// A blob that a load has got and reads: the kind as which its node will stand, its key, the type of its value, and the references that were got for it so far, in the order in which they are read.
 #[derive(Drop)]
 pub struct Frame {
     pub kind: Kind,
@@ -87,8 +86,7 @@ impl Reading {
         }
     }
 
-    /// What the load needs next. The innermost blob is read from its front for it, with these values of the references that it has got, and nothing else is
-    /// touched.
+    /// What the load needs next. The innermost blob is read from its front for it, with these values of the references that it has got, and nothing else is touched.
     pub fn next<E: Env>(
         &self,
         env: &E,
@@ -140,5 +138,83 @@ fn wanted<N: Drop>(kind: Kind, key: DataKey) -> Need<N>
         Need::Nested(kind, key)
     } else {
         Need::Lazy(kind, key)
+    }
+}
+
+// A value that isn't shared isn't lent, but want of memory is told.
+fn unshared<N>(e: Error) -> Result<Option<N>, Error>
+    ensures none { IfOk result (λ found. (found ≡ None) × (e ≢ Error.OutOfMemory)) }
+    ensures only { IfErr result (λ e. e ≡ Error.OutOfMemory) }
+{
+    match e {
+        Error::OutOfMemory => Err(Error::OutOfMemory),
+        _ => Ok(None),
+    }
+}
+
+// The value of a reference that is read together with it. What its handle doesn't share isn't lent, and its reader refuses it. Refused with OutOfMemory.
+fn value_of<E: Env, A: Access<E>>(
+    access: &A,
+    reference: ArcRef,
+) -> Result<Option<Arc<E::Node>>, Error>
+where
+    E::Node: NodeSet<E>,
+    ensures lends { Tells (A.told access.now) (λ s. IfOk result (λ found. Lends s reference (option_map arc_value found))) }
+    ensures only { IfErr result (λ e. e ≡ Error.OutOfMemory) }
+{
+    if !is_read_at_once(reference.kind) {
+        return Ok(None);
+    }
+    match access.share(reference.handle) {
+        Ok(found) => Ok(found),
+        Err(e) => unshared(e),
+    }
+}
+
+// Whether one of these is read together with its value.
+fn is_any_read_at_once(got: &[ArcRef]) -> bool
+    ensures { result ≡ list_any (λ r. is_eager r.kind.0) got.now }
+{
+    got.iter().any(|reference| is_read_at_once(reference.kind))
+}
+
+// The values of these references, each at its reference's place; no list is made where none of them is read together with its value. Refused with OutOfMemory.
+pub(crate) fn lend<E: Env, A: Access<E>>(
+    access: &A,
+    alloc: Global,
+    got: &[ArcRef],
+) -> Result<Vec<Option<Arc<E::Node>>>, Error>
+where
+    E::Node: NodeSet<E>,
+    ensures lends { Tells (A.told access.now) (λ s. IfOk result (λ lent. LendsEach arc_value s got.now lent.items)) }
+    ensures only { IfErr result (λ e. e ≡ Error.OutOfMemory) }
+{
+    let mut lent = Vec::new(alloc);
+    if !is_any_read_at_once(got) {
+        return Ok(lent);
+    }
+    for reference in got {
+        let value = value_of::<E, A>(access, *reference)?;
+        lent.push(value)?;
+    }
+    Ok(lent)
+}
+
+impl Reading {
+    /// What the load needs next, with the values of what its innermost blob has got; want of memory for these refuses the blob.
+    pub(crate) fn next_over<E: Env, A: Access<E>>(&self, access: &A, alloc: Global) -> Need<E::Node>
+    where
+        E::Node: NodeSet<E>,
+        ensures needs { Needs (values_at E.Node.NodeSet E.Env E.Hash.KeyHash (A.acting access.now).environment) (reading_of self.now) self.now.for_cell result }
+        ensures stack { HasFrames self.now.top self.now.below.items result }
+    {
+        let got = match &self.top {
+            Some(top) => top.got.as_slice(),
+            None => &[],
+        };
+        match lend::<E, A>(access, alloc, got) {
+            Ok(lent) => self.next(access.env(), alloc, lent.as_slice()),
+            Err(e) => Need::Refuse(e),
+        }
     }
 }

@@ -1,11 +1,8 @@
 //! The blobs of a load, the innermost apart from those below it.
 
-ghost use Rattle.std.specs.Prelude.{◌≡◌, ◌<◌, ◌≤◌, ◌∷◌, ◌^◌, [], length, vec_len, vec_capacity, IsSome, IfOk, IfErr, OnOk};
-ghost use Rattle.std.specs.Arc.{arc_value};
-ghost use Rattle.pagable_core.specs.Data.{blob_of};
-ghost use Rattle.pagable_model.specs.Deep.{longest_path};
-ghost use Rattle.pagable_world.specs.{Loads.root_frame, Loads.nested_frame, Loads.handles_of as all_handles, World.one_more};
-ghost use Rattle.pagable_loads.specs.{Frames.frame_of, Frames.frames_of, Frames.onto, Stepping.IsSameLoad, Stepping.TakenOff, Stepping.TakenTwo, Stepping.Gets};
+ghost use Rattle.{std.specs.{Prelude.{◌≡◌, ◌<◌, ◌≤◌, ◌∷◌, ◌^◌, [], length, vec_len, vec_capacity, IsSome, IfOk, IfErr, OnOk}, Arc.arc_value}, pagable_core.specs.Data.blob_of};
+ghost use Rattle.{pagable_model.specs.Deep.longest_path, pagable_world.specs.Loads.{root_frame, nested_frame, handles_of as all_handles}, pagable_loads.specs.Frames.{frame_of, frames_of, onto}};
+ghost use Rattle.pagable_loads.specs.Stepping.{IsSameLoad, TakenOff, TakenTwo, Gets};
 
 use crate::reading::{Frame, Reading};
 use pagable_codec::{ArcRef, Kind};
@@ -114,18 +111,6 @@ impl Reading {
             got: Vec::new(alloc),
         });
         Ok(())
-    }
-
-    /// Counts a step.
-    pub(crate) fn count(&mut self)
-        ensures steps { self.new.steps ≡ one_more self.old.steps }
-        ensures load { self.new.load ≡ self.old.load }
-        ensures key { self.new.key ≡ self.old.key }
-        ensures node_type { self.new.node_type ≡ self.old.node_type }
-        ensures for_cell { self.new.for_cell ≡ self.old.for_cell }
-        ensures frames { frames_of self.new.top self.new.below.items ≡ frames_of self.old.top self.old.below.items }
-    {
-        self.steps = self.steps.saturating_add(1);
     }
 }
 

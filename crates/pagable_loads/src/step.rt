@@ -1,12 +1,11 @@
-//! A load's steps, over an access to a pager.
+//! A load's steps, over an access to a pager, and a load that is driven to its end.
 
-ghost use Rattle.std.specs.Prelude.{◌≡◌, ◌<◌, [], length, IsSome, IfOk, Some, Result, Ok, true, false};
-ghost use Rattle.pagable_world.specs.{World.one_more, Loads.need_of, Loads.needs_nested, Loads.needs_lazy, Loads.ReadsNode, Loads.ReadsRoot, Access.Told};
-ghost use Rattle.pagable_loads.specs.Stepping.{IsSameLoad, Tries, Steps, Drops};
-ghost use Rattle.pagable_loads.specs.{Ahead.GotMore, Ahead.goes_on_with, Ending.LeadsOn, Frames.reading_of, Frames.frames_of, Needing.Needs, Needing.HasFrames, Telling.values_at};
-ghost use Rattle.pagable_world.specs.declared.events.LoadAnswer.TheVariants as ends;
+ghost use Rattle.{std.specs.Prelude.{◌≡◌, ◌<◌, [], length, IsSome, IfOk, Some, Result, Ok, true, false}, pagable_world.specs.{World.one_more, Loads.{need_of, needs_nested, needs_lazy, ReadsNode}}};
+ghost use Rattle.{pagable_world.specs.{Loads.ReadsRoot, Access.Told}, pagable_loads.specs.{Stepping.{IsSameLoad, Tries, Steps, Drops}, Ahead.{GotMore, goes_on_with, IsAhead, RowTells}}};
+ghost use Rattle.pagable_loads.specs.{Ending.{LeadsOn, EndsAs}, Frames.{reading_of, frames_of}, Needing.{Needs, HasFrames}, Telling.values_at, Running.Runs};
 
 use crate::access::Access;
+use crate::foreseeing::keep_if;
 use crate::reading::{Need, Reading};
 use crate::stack::handles_of;
 use either::Either;
@@ -59,10 +58,7 @@ impl Reading {
         ensures lender { A.lender access.new ≡ A.lender access.old }
     {
         let load = self.load;
-        let top = match self.take_top() {
-            Ok(top) => top,
-            Err(e) => return Err(e),
-        };
+        let top = self.take_top()?;
         match access.load_nested(alloc, load, kind, key) {
             Ok(Either::Left(reference)) => {
                 self.put_got(top, reference);
@@ -96,39 +92,12 @@ impl Reading {
         ensures lender { A.lender access.new ≡ A.lender access.old }
     {
         let load = self.load;
-        let top = match self.take_top() {
-            Ok(top) => top,
-            Err(e) => return Err(e),
-        };
+        let top = self.take_top()?;
         match access.load_lazy(alloc, load, kind, key) {
             Ok(taken) => {
                 self.put_got(top, taken);
                 Ok(taken)
             }
-            Err(e) => Err(e),
-        }
-    }
-
-    // A reference comes that is read later.
-    fn step_lazy<E: Env, A: Access<E>>(
-        &mut self,
-        access: &mut A,
-        alloc: Global,
-        kind: Kind,
-        key: DataKey,
-    ) -> Result<Option<LoadAnswer<E::Node>>, Error>
-    where
-        E::Node: NodeSet<E>,
-        requires top { IsSome self.old.top }
-        requires need { need_of (values_at E.Node.NodeSet E.Env E.Hash.KeyHash (A.acting access.old).environment).types (frames_of self.old.top self.old.below.items) ≡ needs_lazy kind key }
-        ensures step { Told (A.told access.old) (A.told access.new) (λ s t. Tries (values_at E.Node.NodeSet E.Env E.Hash.KeyHash (A.acting access.old).environment) (A.acting access.old).me self.old s result (frames_of self.new.top self.new.below.items) t) }
-        ensures leads { LeadsOn self.old.for_cell (frames_of self.old.top self.old.below.items) (frames_of self.new.top self.new.below.items) result }
-        ensures same { IsSameLoad self.old self.new }
-        ensures acting { A.acting access.new ≡ A.acting access.old }
-        ensures lender { A.lender access.new ≡ A.lender access.old }
-    {
-        match self.take_lazy(access, alloc, kind, key) {
-            Ok(_) => Ok(None),
             Err(e) => Err(e),
         }
     }
@@ -152,10 +121,7 @@ impl Reading {
         ensures lender { A.lender access.new ≡ A.lender access.old }
     {
         let load = self.load;
-        let (top, under) = match self.take_two() {
-            Ok(two) => two,
-            Err(e) => return Err(e),
-        };
+        let (top, under) = self.take_two()?;
         match access.load_adopt(alloc, load, top.kind, top.key, value) {
             Ok(reference) => {
                 self.put_got(under, reference);
@@ -214,14 +180,8 @@ impl Reading {
         ensures acting { A.acting access.new ≡ A.acting access.old }
         ensures lender { A.lender access.new ≡ A.lender access.old }
     {
-        let references = match value.refs(alloc) {
-            Ok(references) => references,
-            Err(e) => return Err(e),
-        };
-        let named = match handles_of(alloc, references.as_slice()) {
-            Ok(named) => named,
-            Err(e) => return Err(e),
-        };
+        let references = value.refs(alloc)?;
+        let named = handles_of(alloc, references.as_slice())?;
         match access.load_take(self.load, named.as_slice()) {
             Ok(()) => {
                 self.top = None;
@@ -251,7 +211,10 @@ impl Reading {
         match need {
             Need::Root => self.step_root(access, alloc),
             Need::Nested(kind, key) => self.step_nested(access, alloc, kind, key),
-            Need::Lazy(kind, key) => self.step_lazy(access, alloc, kind, key),
+            Need::Lazy(kind, key) => match self.take_lazy(access, alloc, kind, key) {
+                Ok(_) => Ok(None),
+                Err(e) => Err(e),
+            },
             Need::Adopt(value) => self.step_adopt(access, alloc, value),
             Need::End(value) => self.step_end(access, alloc, value),
             Need::HandOver(value) => self.step_hand_over(access, alloc, value),
@@ -296,13 +259,105 @@ impl Reading {
         let need = self.next_over::<E, A>(access, alloc);
         match self.meet(access, alloc, need) {
             Ok(answer) => {
-                self.count();
+                self.steps = self.steps.saturating_add(1);
                 answer
             }
             Err(e) => {
                 self.give_up(access);
-                self.count();
+                self.steps = self.steps.saturating_add(1);
                 Some(LoadAnswer::Refused(e))
+            }
+        }
+    }
+
+    // Makes the step that takes the next reference of the row, which is read later, without reading the blob.
+    fn step_in_row<E: Env, A: Access<E>>(
+        &mut self,
+        access: &mut A,
+        alloc: Global,
+        row: &mut Vec<ArcRef>,
+        kind: Kind,
+        key: DataKey,
+    ) -> Option<LoadAnswer<E::Node>>
+    where
+        E::Node: NodeSet<E>,
+        requires top { IsSome self.old.top }
+        requires tells { RowTells (values_at E.Node.NodeSet E.Env E.Hash.KeyHash (A.acting access.old).environment).types (frames_of self.old.top self.old.below.items) row.old.items kind key }
+        ensures step { Told (A.told access.old) (A.told access.new) (λ s t. Steps (values_at E.Node.NodeSet E.Env E.Hash.KeyHash (A.acting access.old).environment) (A.acting access.old).me self.old s result (frames_of self.new.top self.new.below.items) t) }
+        ensures leads { LeadsOn self.old.for_cell (frames_of self.old.top self.old.below.items) (frames_of self.new.top self.new.below.items) (Ok result) }
+        ensures steps { self.new.steps ≡ one_more self.old.steps }
+        ensures load { self.new.load ≡ self.old.load }
+        ensures key { self.new.key ≡ self.old.key }
+        ensures node_type { self.new.node_type ≡ self.old.node_type }
+        ensures for_cell { self.new.for_cell ≡ self.old.for_cell }
+        ensures ahead { IsAhead (values_at E.Node.NodeSet E.Env E.Hash.KeyHash (A.acting access.old).environment).types (frames_of self.new.top self.new.below.items) row.new.items }
+        ensures acting { A.acting access.new ≡ A.acting access.old }
+        ensures lender { A.lender access.new ≡ A.lender access.old }
+    {
+        match self.take_lazy(access, alloc, kind, key) {
+            Ok(reference) => {
+                self.steps = self.steps.saturating_add(1);
+                keep_if(row, kind, reference);
+                None
+            }
+            Err(e) => {
+                self.give_up(access);
+                self.steps = self.steps.saturating_add(1);
+                row.clear();
+                Some(LoadAnswer::Refused(e))
+            }
+        }
+    }
+
+    // Makes the load's next step, as `step` does, and reads the innermost blob for it only where no row that is ahead tells what is needed.
+    fn step_on<E: Env, A: Access<E>>(
+        &mut self,
+        access: &mut A,
+        alloc: Global,
+        row: &mut Vec<ArcRef>,
+    ) -> Option<LoadAnswer<E::Node>>
+    where
+        E::Node: NodeSet<E>,
+        requires ahead { IsAhead (values_at E.Node.NodeSet E.Env E.Hash.KeyHash (A.acting access.old).environment).types (frames_of self.old.top self.old.below.items) row.old.items }
+        ensures step { Told (A.told access.old) (A.told access.new) (λ s t. Steps (values_at E.Node.NodeSet E.Env E.Hash.KeyHash (A.acting access.old).environment) (A.acting access.old).me self.old s result (frames_of self.new.top self.new.below.items) t) }
+        ensures leads { LeadsOn self.old.for_cell (frames_of self.old.top self.old.below.items) (frames_of self.new.top self.new.below.items) (Ok result) }
+        ensures steps { self.new.steps ≡ one_more self.old.steps }
+        ensures load { self.new.load ≡ self.old.load }
+        ensures key { self.new.key ≡ self.old.key }
+        ensures node_type { self.new.node_type ≡ self.old.node_type }
+        ensures for_cell { self.new.for_cell ≡ self.old.for_cell }
+        ensures ahead { IsAhead (values_at E.Node.NodeSet E.Env E.Hash.KeyHash (A.acting access.old).environment).types (frames_of self.new.top self.new.below.items) row.new.items }
+        ensures acting { A.acting access.new ≡ A.acting access.old }
+        ensures lender { A.lender access.new ≡ A.lender access.old }
+    {
+        self.look_ahead(access, alloc, row);
+        match self.told(row.as_slice()) {
+            Some((kind, key)) => self.step_in_row(access, alloc, row, kind, key),
+            None => {
+                row.clear();
+                self.step(access, alloc)
+            }
+        }
+    }
+
+    /// Makes the load's steps up to its end, and answers what ended it. A load of a cell ends with a pin, one of a key with its value; either may be refused.
+    /// A row of references that are read later is taken without reading its blob in between.
+    pub fn run<E: Env, A: Access<E>>(
+        &mut self,
+        access: &mut A,
+        alloc: Global,
+    ) -> LoadAnswer<E::Node>
+    where
+        E::Node: NodeSet<E>,
+        ensures run { Told (A.told access.old) (A.told access.new) (λ s t. Runs (values_at E.Node.NodeSet E.Env E.Hash.KeyHash (A.acting access.old).environment) (A.acting access.old).me self.old s result t) }
+        ensures ends { EndsAs self.old.for_cell result }
+        ensures acting { A.acting access.new ≡ A.acting access.old }
+        ensures lender { A.lender access.new ≡ A.lender access.old }
+    {
+        let mut row = Vec::new(alloc);
+        loop {
+            if let Some(answer) = self.step_on(access, alloc, &mut row) {
+                return answer;
             }
         }
     }

@@ -1,11 +1,8 @@
 //! What a page-out worker asks of an access besides: each call one step for the worker.
 
-ghost use Rattle.std.specs.Prelude.{◌≡◌, ◌≤◌, length, IfOk, IfErr, IfSome, IfNone};
-ghost use Rattle.pagable_model.specs.declared.numbers.HandleNumber.{HandleNumber as Handle};
-ghost use Rattle.pagable_world.specs.Workers.{claim_fault, is_workers_at, WorkerEnds};
-ghost use Rattle.pagable_world.specs.{World.Alike, Cascade.FallsAnyhow, Calls.ScheduleCall, Calls.TakeCall, Access.Called, Access.Told, Access.WorkerStarts, Access.EntryHas};
-ghost use Rattle.pagable_loads.specs.{Telling.Tells, Telling.values_at, Working.fault_in, Working.TakesReference, Working.StartsEntry, Working.RefusesEntry, Working.acting_after, Working.as_caller};
-ghost use Rattle.pagable_model.specs.declared.error.Error.TheVariants as errors;
+ghost use Rattle.{std.specs.Prelude.{◌≡◌, ◌≤◌, length, IfOk, IfErr, IfSome, IfNone}, pagable_model.specs.declared.numbers.HandleNumber.HandleNumber as Handle, pagable_world.specs.Workers.claim_fault};
+ghost use Rattle.pagable_world.specs.{Workers.{is_workers_at, WorkerEnds}, World.Alike, Cascade.FallsAnyhow, Calls.{ScheduleCall, TakeCall}, Access.{Called, Told, WorkerStarts, EntryHas}};
+ghost use Rattle.pagable_loads.specs.{Telling.{Tells, values_at}, Working.{fault_in, TakesReference, StartsEntry, RefusesEntry, acting_after, as_caller}};
 
 use crate::access::Access;
 use pagable_codec::{Env, NodeSet};
@@ -54,7 +51,7 @@ where
     /// A worker begins, and the calls are its own from now on. Refused with OutOfMemory; then nothing changes.
     fn worker_begin(&mut self) -> Result<WorkerNumber, Error>
         ensures begins { IfOk result (λ n. Told (Self.told self.old) (Self.told self.new) (λ s t. WorkerStarts (values_at E.Node.NodeSet E.Env E.Hash.KeyHash (Self.acting self.old).environment) s.core s n.0 t)) }
-        ensures refused { IfErr result (λ e. (e ≡ errors.OutOfMemory) × Told (Self.told self.old) (Self.told self.new) (λ s t. Called (values_at E.Node.NodeSet E.Env E.Hash.KeyHash (Self.acting self.old).environment) (λ w'. Alike s.core w') s t)) }
+        ensures refused { IfErr result (λ e. (e ≡ Error.OutOfMemory) × Told (Self.told self.old) (Self.told self.new) (λ s t. Called (values_at E.Node.NodeSet E.Env E.Hash.KeyHash (Self.acting self.old).environment) (λ w'. Alike s.core w') s t)) }
         ensures acting { Self.acting self.new ≡ acting_after (λ n. n) result (Self.acting self.old) }
         ensures lender { Self.lender self.new ≡ Self.lender self.old };
 

@@ -1,14 +1,11 @@
 -- Tables and workers that begin.
 use Rattle.pagable_machine.proofs.Words.{still, nat_tests, common_steps, rules, ◌≡◌, ◌≢◌, ℕ, zero, suc, ◌+◌, ◌≤◌, true, List, [], ◌∷◌, ◌++◌, Option, Some, Ok, inl, inr, refl, sym, ap, subst, ◌∙◌}
 use Rattle.pagable_machine.proofs.Words.{length, arith, is_some, slice_get, length-append, WorkerNumber, Event, TableNumber, updated, is_owner, Alike, Core, SameShelf, Seen, Happens, IsTable, Starts}
-use Rattle.pagable_machine.proofs.Words.{no_shelf, with_worker, step_of, Moves, PagerState, WellFormed, world_of, same-number, Ghosts, SlotTable, Task, shelf_of, IsPlain, TaskFits, Walk, Holding}
+use Rattle.pagable_machine.proofs.Words.{no_shelf, with_worker, step_of, Moves, PagerState, WellFormed, world_of, same-number, Ghosts, SlotTable, Task, shelf_of, Walk, Holding}
 use Rattle.pagable_machine.proofs.{Words.{IsServing, KeepsOne, Makes, machine_of, readings_in, IsBegun, IsWalkKept, shelf_at}, Keeping.{are-these, as-before, at-one, kept-on, makes, makes-with}}
-use Rattle.pagable_machine.proofs.{Keeping.{not-same, one-serves, updated-at}, Leaving.{Leaves, same}, Passing.{Passes, event-passes}}
-use Rattle.pagable_world.specs.declared.events.Event.TheVariants as events
-use Rattle.pagable_world.specs.declared.events.EventReply.TheVariants as answers
-use Rattle.pagable_world.specs.declared.handles.Owner.TheVariants as owners
+use Rattle.{pagable_machine.proofs.{Keeping.{not-same, one-serves, updated-at}, Leaving.{Leaves, same}, Passing.{Passes, event-passes}}, pagable_walk.proofs.Turning.plain-fits}
+use Rattle.pagable_world.specs.declared.{handles.Owner.Owner, events.EventReply.EventReply}
 use Rattle.pagable_world.specs.World as world
-use Rattle.pagable_walk.specs.declared.tasks.Task.TheVariants as tasks
 
 -- ---- a table
 
@@ -35,9 +32,9 @@ module _ {X : Type 0} {g : Ghosts X} where
     abbrev with_table : Holding g
     with_table = record h { tables = h.tables ++ new ∷ [] }
 
-    pub table-made : (t : TableNumber) → t.0 ≡ length h.tables + 1 → SameShelf no_shelf (shelf_of new) → Makes m s h events.TableNew (answers.TableMade (Ok t)) s with_table
+    pub table-made : (t : TableNumber) → t.0 ≡ length h.tables + 1 → SameShelf no_shelf (shelf_of new) → Makes m s h Event.TableNew (EventReply.TableMade (Ok t)) s with_table
     table-made t number empty =
-        makes m s s {h' = with_table} serving was was (let more = length-append h.tables (new ∷ []) in omega (arith, more)) (λ v. refl) (same s.core) events.TableNew (answers.TableMade (Ok t))
+        makes m s s {h' = with_table} serving was was (let more = length-append h.tables (new ∷ []) in omega (arith, more)) (λ v. refl) (same s.core) Event.TableNew (EventReply.TableMade (Ok t))
         (λ v. refl)
         (record {
           made = (
@@ -54,20 +51,14 @@ module _ {X : Type 0} {g : Ghosts X} where
         })
         (record { each = λ n x is. inl is; environment = refl }) tt serving.readings
       where
-        on : Leaves owners.Caller s.core.workers s.core s.core
+        on : Leaves Owner.Caller s.core.workers s.core s.core
         on = same s.core
 
 -- ---- a worker
 
-plain-fits : {X : Type 0} {g : Ghosts X} (n : ℕ) (w : Core) (task : Task X g) → IsPlain task → TaskFits n w task
-plain-fits n w (tasks.Pin r place) plain = absurd plain
-plain-fits n w (tasks.Load r place through own) plain = absurd plain
-plain-fits n w (tasks.Write r place through pin) plain = absurd plain
-plain-fits n w task plain = tt
-
 module _ {X : Type 0} {g : Ghosts X} {N B W E : Type 0} (m : Seen N B W) (s s' : PagerState N E) (h : Holding g) {walks' : ℕ → Option (Walk X g)} (serving : IsServing s.core h)
     (was : WellFormed m.values s)
-    (formed : WellFormed m.values s') (on : Leaves owners.Caller (updated (s.core.last.worker + 1) true s.core.workers) s.core s'.core)
+    (formed : WellFormed m.values s') (on : Leaves Owner.Caller (updated (s.core.last.worker + 1) true s.core.workers) s.core s'.core)
     (t : TableNumber) (task : world.Task) (n : WorkerNumber) (k : Walk X g) (table : IsTable (world_of (machine_of s h)) t) (next : n.0 ≡ s.core.last.worker + 1) (begun : IsBegun t task k)
     (keeps : KeepsOne h.walks n.0 (Some k) walks') where
   abbrev with_walk : Holding g
@@ -84,11 +75,11 @@ module _ {X : Type 0} {g : Ghosts X} {N B W E : Type 0} (m : Seen N B W) (s s' :
   new-walk = first_of (grind (arith, common_steps, nat_tests), grind (arith, nat_tests, updated-at, plain-fits), search (rules, updated-at, plain-fits))
 
   -- it is kept from now on
-  pub worker-made : (event : Event N B W) → ((v : ℕ) → step_of v event (answers.WorkerMade (Ok n)) ≡ [])
-      → Happens m (world_of (machine_of s h)) event (answers.WorkerMade (Ok n)) (world_of (machine_of s' with_walk))
-      → Moves (λ q x. ⊥) s s' → Makes m s h event (answers.WorkerMade (Ok n)) s' with_walk
+  pub worker-made : (event : Event N B W) → ((v : ℕ) → step_of v event (EventReply.WorkerMade (Ok n)) ≡ [])
+      → Happens m (world_of (machine_of s h)) event (EventReply.WorkerMade (Ok n)) (world_of (machine_of s' with_walk))
+      → Moves (λ q x. ⊥) s s' → Makes m s h event (EventReply.WorkerMade (Ok n)) s' with_walk
   worker-made event none happens moves =
-      makes-with m s s' {h' = with_walk} formed event (answers.WorkerMade (Ok n)) happens
+      makes-with m s s' {h' = with_walk} formed event (EventReply.WorkerMade (Ok n)) happens
       (record { each = λ q x is. elim (moves.each q x is) [ inl there ↦ inl there | inr came ↦ absurd came.1 ]; environment = moves.environment }) tt
       (one-serves {h' = with_walk} serving was.whole.handles n.0 k keeps (le-self _) (kept-on serving.readings on (λ l own is. inl is)) (λ q other. passes q) at-work new-walk)
     where
@@ -96,5 +87,5 @@ module _ {X : Type 0} {g : Ghosts X} {N B W E : Type 0} (m : Seen N B W) (s s' :
       le-self a = omega arith
 
       passes : (v : ℕ) → Passes v s.core s'.core
-      passes v = event-passes m v (world_of (machine_of s h)) (world_of (machine_of s' with_walk)) was.whole event (answers.WorkerMade (Ok n)) (none v) happens
-          (λ l load is own. on.others l load is (was.whole.loads.numbered l (ap is_some is)).1 (ap (is_owner owners.Caller) own))
+      passes v = event-passes m v (world_of (machine_of s h)) (world_of (machine_of s' with_walk)) was.whole event (EventReply.WorkerMade (Ok n)) (none v) happens
+          (λ l load is own. on.others l load is (was.whole.loads.numbered l (ap is_some is)).1 (ap (is_owner Owner.Caller) own))

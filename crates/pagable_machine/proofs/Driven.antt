@@ -1,14 +1,12 @@
 -- Each event of tables and workers, by what the pager and what is kept say of it.
-use Rattle.pagable_machine.proofs.Words.{Result, IfOk, IfErr, OnErr, still, ◌≡◌, ℕ, ◌+◌, ◌<◌, ◌≤◌, Bool, true, false, List, [], ◌∷◌, ◌++◌, Option, Some, None, Ok, Err, ◌⊎◌, inl, inr, refl, sym}
-use Rattle.pagable_machine.proofs.Words.{subst, ◌∙◌, length, arith, is_none, is_some, option_map, Global, Arc, Vec, nat_tests, SerializedData, Error, ArcRef, HandleNumber, WorkerNumber, TableNumber}
+use Rattle.pagable_machine.proofs.Words.{Result, IfOk, IfErr, OnErr, still, ◌≡◌, ℕ, ◌+◌, ◌<◌, ◌≤◌, Bool, true, false, List, [], ◌∷◌, ◌++◌, Option, Some, None, Ok, Err, ◌⊎◌, inl, inr, refl, sym, subst}
+use Rattle.pagable_machine.proofs.Words.{◌∙◌, length, arith, is_none, is_some, option_map, Global, Arc, Vec, nat_tests, SerializedData, Error, ArcRef, HandleNumber, WorkerNumber, TableNumber}
 use Rattle.pagable_machine.proofs.Words.{WorkerAnswer, WorkerReply, HandleRow, Blob, if_there, HasNoKinds, identity_of, Alike, SameShelf, Seen, Values, Walking, Written, of_entry, of_item, Called}
 use Rattle.pagable_machine.proofs.Words.{WorkerStarts, IsEntry, IsNoTable, IsTable, entry_task, no_shelf, with_entry_taken, PagerState, WellFormed, world_of, RefusesEntry, StartsEntry, PagerView}
 use Rattle.pagable_machine.proofs.Words.{Telling, state_in, Ghosts, SlotTable, written_of, shelf_of, plain, Held, Walk, Holding, KeepsOne, Makes, machine_of, IsBegun, WalksOn, has_task, is_table}
 use Rattle.pagable_machine.proofs.{Words.{walking_of, Answer, ByNumber, Drives, Given, IsInStep, holding, kept_at, over}, Keeping.{KeepsAll, refuses, stays}, Happening.keeps-after}
 use Rattle.pagable_machine.proofs.{Beginning.{starts-so, table-made, worker-made}, Stepping.worker-moved, Working.{entry-leaves, item-leaves}}
-use Rattle.pagable_model.specs.declared.error.Error.TheVariants as errors
-use Rattle.pagable_world.specs.declared.events.Event.TheVariants as events
-use Rattle.pagable_world.specs.declared.events.EventReply.TheVariants as answers
+use Rattle.pagable_world.specs.declared.events.{EventReply.EventReply, Event.Event}
 use Rattle.pagable_world.specs.World as world
 
 there-is : {X : Type 0} {g : Ghosts X} (t : ℕ) (tables : List (SlotTable X g)) → is_table t tables ≡ true → (0 < t) × (t ≤ length tables)
@@ -40,19 +38,19 @@ module _ {X : Type 0} {g : Ghosts X} {N S E : Type 0} (v : E → Values N) (tell
   -- ---- tables
 
   pub table-drives : (tables' : Vec (SlotTable X g) Global) (table : SlotTable X g) (t : TableNumber) → tables'.items ≡ held.tables.items ++ table ∷ [] → t.0 ≡ length held.tables.items + 1
-      → SameShelf no_shelf (shelf_of table) → Happens events.TableNew (answers.TableMade (Ok t)) old (record held { tables = tables' })
+      → SameShelf no_shelf (shelf_of table) → Happens Event.TableNew (EventReply.TableMade (Ok t)) old (record held { tables = tables' })
   table-drives tables' table t is number empty =
       record {
-        makes = subst (λ (items : List (SlotTable X g)). Makes m s h events.TableNew (answers.TableMade (Ok t)) s (record h { tables = items })) (sym is)
+        makes = subst (λ (items : List (SlotTable X g)). Makes m s h Event.TableNew (EventReply.TableMade (Ok t)) s (record h { tables = items })) (sym is)
             (table-made m s h table serving was t number empty);
       }
 
   pub no-table-drives : (tables' : Vec (SlotTable X g) Global) → tables'.items ≡ held.tables.items
-      → Happens events.TableNew (answers.TableMade (Err errors.OutOfMemory)) old (record held { tables = tables' })
+      → Happens Event.TableNew (EventReply.TableMade (Err Error.OutOfMemory)) old (record held { tables = tables' })
   no-table-drives tables' is =
       let keeps : KeepsAll h (record h { tables = tables'.items }) = record { readings = λ l. refl; tables = is; walks = λ q. refl } in
       record {
-        makes = refuses m s s serving was was (still s.core) keeps events.TableNew (answers.TableMade (Err errors.OutOfMemory)) (λ q. refl)
+        makes = refuses m s s serving was was (still s.core) keeps Event.TableNew (EventReply.TableMade (Err Error.OutOfMemory)) (λ q. refl)
             (record { made = tt; refused = (refl, stays m s s serving was was (still s.core) keeps) }) (record { each = λ n x is. inl is; environment = refl }) tt;
       }
 
@@ -66,34 +64,34 @@ module _ {X : Type 0} {g : Ghosts X} {N S E : Type 0} (v : E → Values N) (tell
       same-held : KeepsAll h (record h { walks = kept_at walks' })
       same-held = record { readings = λ l. refl; tables = refl; walks = same_walks }
 
-      pub item-refused : (item : SerializedData) → ((e ≡ errors.NoSuchHandle) × (is_table t.0 held.tables.items ≡ false)) ⊎ ((e ≡ errors.OutOfMemory) × (is_table t.0 held.tables.items ≡ true))
-          → Happens (events.WorkerItem t item) (answers.WorkerMade (Err e)) new left
+      pub item-refused : (item : SerializedData) → ((e ≡ Error.NoSuchHandle) × (is_table t.0 held.tables.items ≡ false)) ⊎ ((e ≡ Error.OutOfMemory) × (is_table t.0 held.tables.items ≡ true))
+          → Happens (Event.WorkerItem t item) (EventReply.WorkerMade (Err e)) new left
       item-refused item why =
           record {
-            makes = refuses m s s' serving was done.whole done.step same-held (events.WorkerItem t (written_of item)) (answers.WorkerMade (Err e)) (λ q. refl)
+            makes = refuses m s s' serving was done.whole done.step same-held (Event.WorkerItem t (written_of item)) (EventReply.WorkerMade (Err e)) (λ q. refl)
                 (record { starts = tt; refused = (cause, stays m s s' serving was done.whole done.step same-held) }) done.moves tt;
           }
         where
-          cause : ((e ≡ errors.NoSuchHandle) × IsNoTable (world_of (machine_of s h)) t) ⊎ ((e ≡ errors.OutOfMemory) × IsTable (world_of (machine_of s h)) t)
+          cause : ((e ≡ Error.NoSuchHandle) × IsNoTable (world_of (machine_of s h)) t) ⊎ ((e ≡ Error.OutOfMemory) × IsTable (world_of (machine_of s h)) t)
           cause = elim why [ inl (is, none) ↦ inl (is, none-is t.0 held.tables.items none) | inr (is, there) ↦ inr (is, there-is t.0 held.tables.items there) ]
 
       pub listed-refused : (i : ℕ)
-          → ((e ≡ errors.NoSuchHandle) × ((is_table t.0 held.tables.items ≡ false) ⊎ (length s.core.list ≤ i)))
+          → ((e ≡ Error.NoSuchHandle) × ((is_table t.0 held.tables.items ≡ false) ⊎ (length s.core.list ≤ i)))
           ⊎ ((is_table t.0 held.tables.items ≡ true) × (i < length s.core.list)
-          × ((e ≡ errors.OutOfMemory) ⊎ ((e ≡ errors.WrongKind) × ((q : HandleNumber) × (row : HandleRow) × (type : ℕ) × IsEntry s.core i q row type × HasNoKinds type))))
-          → Happens (events.WorkerListed t i) (answers.WorkerMade (Err e)) new left
+          × ((e ≡ Error.OutOfMemory) ⊎ ((e ≡ Error.WrongKind) × ((q : HandleNumber) × (row : HandleRow) × (type : ℕ) × IsEntry s.core i q row type × HasNoKinds type))))
+          → Happens (Event.WorkerListed t i) (EventReply.WorkerMade (Err e)) new left
       listed-refused i why =
           record {
-            makes = refuses m s s' serving was done.whole done.step same-held (events.WorkerListed t i) (answers.WorkerMade (Err e)) (λ q. refl)
+            makes = refuses m s s' serving was done.whole done.step same-held (Event.WorkerListed t i) (EventReply.WorkerMade (Err e)) (λ q. refl)
                 (record { starts = tt; refused = (cause, stays m s s' serving was done.whole done.step same-held) }) done.moves tt;
           }
         where
           u : world.World
           u = world_of (machine_of s h)
 
-          cause : ((e ≡ errors.NoSuchHandle) × (IsNoTable u t ⊎ (length s.core.list ≤ i)))
-              ⊎ ((e ≡ errors.WrongKind) × IsTable u t × ((q : HandleNumber) × (row : HandleRow) × (type : ℕ) × IsEntry s.core i q row type × HasNoKinds type))
-              ⊎ ((e ≡ errors.OutOfMemory) × IsTable u t × (i < length s.core.list))
+          cause : ((e ≡ Error.NoSuchHandle) × (IsNoTable u t ⊎ (length s.core.list ≤ i)))
+              ⊎ ((e ≡ Error.WrongKind) × IsTable u t × ((q : HandleNumber) × (row : HandleRow) × (type : ℕ) × IsEntry s.core i q row type × HasNoKinds type))
+              ⊎ ((e ≡ Error.OutOfMemory) × IsTable u t × (i < length s.core.list))
           cause = elim why [
             | inl (is, inl none) ↦ inl (is, inl (none-is t.0 held.tables.items none))
             | inl (is, inr past) ↦ inl (is, inr past)
@@ -102,7 +100,7 @@ module _ {X : Type 0} {g : Ghosts X} {N S E : Type 0} (v : E → Values N) (tell
           ]
 
     pub entry-refused : (e : Error) (i : ℕ) → is_table t.0 held.tables.items ≡ true → i < length s.core.list → RefusesEntry (v old.environment) s i e s'
-        → ((q : ℕ) → kept_at walks' q ≡ kept_at held.walks q) → Happens (events.WorkerListed t i) (answers.WorkerMade (Err e)) new left
+        → ((q : ℕ) → kept_at walks' q ≡ kept_at held.walks q) → Happens (Event.WorkerListed t i) (EventReply.WorkerMade (Err e)) new left
     entry-refused e i there within r same_walks = listed-refused e r.stays same_walks i (elim r.why [
       | inl (is, past) ↦ inl (is, inr past)
       | inr (inl (is, entry)) ↦ inr (there, within, inr (is, entry))
@@ -111,19 +109,19 @@ module _ {X : Type 0} {g : Ghosts X} {N S E : Type 0} (v : E → Values N) (tell
 
     module _ (n : WorkerNumber) (k : Walk X g) (there : is_table t.0 held.tables.items ≡ true) (keeps : KeepsOne (kept_at held.walks) n.0 (Some k) (kept_at walks')) where
       pub item-started : (item : SerializedData) → WorkerStarts (v old.environment) s.core s n.0 s' → IsBegun t (of_item (written_of item)) k
-          → Happens (events.WorkerItem t item) (answers.WorkerMade (Ok n)) new left
+          → Happens (Event.WorkerItem t item) (EventReply.WorkerMade (Ok n)) new left
       item-started item starts begun =
           let formed = starts.begins.whole in
           let on = item-leaves starts.begins.step in
           let table = there-is t.0 held.tables.items there in
           let task = of_item (written_of item) in
           record {
-            makes = worker-made m s s' h serving was formed on t task n k table starts.next begun keeps (events.WorkerItem t (written_of item)) (λ q. refl)
+            makes = worker-made m s s' h serving was formed on t task n k table starts.next begun keeps (Event.WorkerItem t (written_of item)) (λ q. refl)
                 (record { starts = starts-so m s s' h serving was formed on t task n k table starts.next begun keeps s.core starts.begins.step; refused = tt }) starts.begins.moves;
           }
 
       pub listed-started : (i : ℕ) (r : ArcRef) → StartsEntry (v old.environment) s i n r s' → IsBegun t (of_entry r.handle (identity_of r)) k
-          → Happens (events.WorkerListed t i) (answers.WorkerMade (Ok n)) new left
+          → Happens (Event.WorkerListed t i) (EventReply.WorkerMade (Ok n)) new left
       listed-started i r entry begun =
           let starts = entry.starts in
           let formed = starts.begins.whole in
@@ -132,7 +130,7 @@ module _ {X : Type 0} {g : Ghosts X} {N S E : Type 0} (v : E → Values N) (tell
           let task : world.Task = entry_task entry.h entry.row entry.type in
           let own : IsBegun t task k = subst (λ (x : ArcRef). IsBegun t (of_entry x.handle (identity_of x)) k) entry.is begun in
           record {
-            makes = worker-made m s s' h serving was formed on t task n k table starts.next own keeps (events.WorkerListed t i) (λ q. refl)
+            makes = worker-made m s s' h serving was formed on t task n k table starts.next own keeps (Event.WorkerListed t i) (λ q. refl)
                 (record {
                   starts = (
                     entry.h,
@@ -149,18 +147,18 @@ module _ {X : Type 0} {g : Ghosts X} {N S E : Type 0} (v : E → Values N) (tell
     -- by what the begin of a worker answers
     pub item-begun : (mid : ByNumber (Walk X g)) → ((q : ℕ) → kept_at mid q ≡ kept_at held.walks q) → (item : SerializedData) (k : Walk X g) (r : Result WorkerNumber Error)
         → is_table t.0 held.tables.items ≡ true → IsBegun t (of_item (written_of item)) k → IfOk r (λ n. WorkerStarts (v old.environment) s.core s n.0 s')
-        → IfErr r (λ e. (e ≡ errors.OutOfMemory) × Called (v old.environment) (λ w'. Alike s.core w') s s') → IfOk r (λ n. KeepsOne (kept_at mid) n.0 (Some k) (kept_at walks'))
-        → OnErr r ((q : ℕ) → kept_at walks' q ≡ kept_at mid q) → Happens (events.WorkerItem t item) (answers.WorkerMade r) new left
+        → IfErr r (λ e. (e ≡ Error.OutOfMemory) × Called (v old.environment) (λ w'. Alike s.core w') s s') → IfOk r (λ n. KeepsOne (kept_at mid) n.0 (Some k) (kept_at walks'))
+        → OnErr r ((q : ℕ) → kept_at walks' q ≡ kept_at mid q) → Happens (Event.WorkerItem t item) (EventReply.WorkerMade r) new left
     item-begun mid as_was item k (Ok n) there begun starts refused keeps stays = item-started n k there (keeps-after as_was keeps) item starts begun
     item-begun mid as_was item k (Err e) there begun starts refused keeps stays = item-refused e refused.1 (λ q. stays q ∙ as_was q) item (inr (refused.0, there))
 
   -- ---- a worker's step
 
-  pub no-step-drives : (n : WorkerNumber) → has_task (kept_at held.walks n.0) ≡ false → Happens (events.WorkerStep n) (answers.WorkerMoved (Err errors.NoSuchHandle)) old held
+  pub no-step-drives : (n : WorkerNumber) → has_task (kept_at held.walks n.0) ≡ false → Happens (Event.WorkerStep n) (EventReply.WorkerMoved (Err Error.NoSuchHandle)) old held
   no-step-drives n none =
       let keeps : KeepsAll h h = record { readings = λ l. refl; tables = refl; walks = λ q. refl } in
       record {
-        makes = refuses m s s serving was was (still s.core) keeps (events.WorkerStep n) (answers.WorkerMoved (Err errors.NoSuchHandle)) (λ q. refl)
+        makes = refuses m s s serving was was (still s.core) keeps (Event.WorkerStep n) (EventReply.WorkerMoved (Err Error.NoSuchHandle)) (λ q. refl)
             (record { moves = tt; refused = (refl, by (kept_at held.walks n.0) refl none, stays m s s serving was was (still s.core) keeps) })
             (record { each = λ q x is. inl is; environment = refl }) tt;
       }
@@ -179,5 +177,5 @@ module _ {X : Type 0} {g : Ghosts X} {N S E : Type 0} (v : E → Values N) (tell
   pub step-drives : (n : WorkerNumber) (k k' : Walk X g) (reply : WorkerReply (Arc SerializedData Global)) (tables' : Vec (SlotTable X g) Global) (walks' : ByNumber (Walk X g))
       → kept_at held.walks n.0 ≡ Some k
       → WalksOn (v old.environment) n.0 held.tables.items k s reply tables'.items k' s' → KeepsOne (kept_at held.walks) n.0 (Some k') (kept_at walks')
-      → Happens (events.WorkerStep n) (answers.WorkerMoved (Ok reply)) new (record held { tables = tables'; walks = walks' })
+      → Happens (Event.WorkerStep n) (EventReply.WorkerMoved (Ok reply)) new (record held { tables = tables'; walks = walks' })
   step-drives n k k' reply tables' walks' kept on keeps = record { makes = worker-moved (v old.environment) s s' h serving was n k k' kept reply on keeps }

@@ -1,8 +1,6 @@
 -- What a machine keeps of a worker stays in step with the pager through each event that the worker doesn't make.
-use Rattle.pagable_machine.proofs.Words.{nat_tests, common_steps, rules, ◌≡◌, ℕ, ◌≤◌, sym, ◌∙◌, arith, ArcRef, HandleNumber, owner_worker, Core, HandlesAreWhole, StandsAt, stands-whole, Ghosts}
-use Rattle.pagable_machine.proofs.{Passing.Passes, Words.Task, Words.HoldsPin, Words.IsLoading, Words.IsOfKind, Words.TaskFits, Words.Walk, Words.IsWalkKept}
-use Rattle.pagable_loads.specs.declared.reading.Reading.{Reading as Own}
-use Rattle.pagable_walk.specs.declared.tasks.Task.TheVariants as tasks
+use Rattle.pagable_machine.proofs.Words.{nat_tests, common_steps, rules, ◌≡◌, ℕ, ◌≤◌, sym, ◌∙◌, arith, ArcRef, HandleNumber, owner_worker, Core, HandlesAreWhole, StandsAt, stands-whole, Ghosts, Task}
+use Rattle.{pagable_machine.proofs.{Words.{HoldsPin, IsLoading, IsOfKind, TaskFits, Walk, IsWalkKept}, Passing.Passes}, pagable_loads.specs.declared.reading.Reading.Reading as Own}
 
 module _ {v : ℕ} {w w' : Core} (whole : HandlesAreWhole w) (passes : Passes v w w') where
   stands-on : {r : ArcRef} {h : HandleNumber} → StandsAt w r h → StandsAt w' r h
@@ -36,9 +34,9 @@ module _ {v : ℕ} {w w' : Core} (whole : HandlesAreWhole w) (passes : Passes v 
       record { pins = record { row = p.pins.row; live = s.live; at = p.pins.at; pins = p.pins.pins }; own = p.own }
 
   fits-on : {X : Type 0} {g : Ghosts X} (task : Task X g) → TaskFits v w task → TaskFits v w' task
-  fits-on (tasks.Pin r place) (stands, kind) = (stands-on stands, kind-on kind)
-  fits-on (tasks.Load r place through own) (kind, loading) = (kind-on kind, load-on loading)
-  fits-on (tasks.Write r place through pin) (kind, holds) = (kind-on kind, pin-on holds)
+  fits-on (Task.Pin r place) (stands, kind) = (stands-on stands, kind-on kind)
+  fits-on (Task.Load r place through own) (kind, loading) = (kind-on kind, load-on loading)
+  fits-on (Task.Write r place through pin) (kind, holds) = (kind-on kind, pin-on holds)
   fits-on task fits = tt
 
   pub walk-on : {X : Type 0} {g : Ghosts X} {last last' : ℕ} {k : Walk X g} → last ≤ last' → w'.workers v ≡ w.workers v → IsWalkKept w last v k → IsWalkKept w' last' v k

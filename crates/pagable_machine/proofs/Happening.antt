@@ -1,23 +1,15 @@
 -- Each event of the machine, by what the pager and what is kept of loads say of it.
 use Rattle.pagable_machine.proofs.Words.{Does, CallBrings, OnlyLess, core_in, plain_call, plain_reply, arith, nat_tests, common_steps, rules, ◌≡◌, ℕ, true, false, Option, Some, None, Ok, Err, ◌⊎◌}
-use Rattle.pagable_machine.proofs.Words.{inl, inr, refl, sym, ap, subst, ◌∙◌, Result, is_some, Arc, Global, PagableData, Error, HandleNumber, LoadNumber, Beginning, Call, Reply, LoadReply, Blob}
-use Rattle.pagable_machine.proofs.Words.{Core, Seen, Values, Written, load_fault, DropCall, fresh, Moves, PagerState, WellFormed, same-number, same_some, reading_of, PagerView, Telling, state_in}
-use Rattle.pagable_machine.proofs.Words.{ReadsAs, Ghosts, plain, Held, Serves, BeginsNoKey, Forgets, Holding, IsPrepared, IsTaken, KeepsOne, Kept, Makes, Stepped, CountsStep, rest_after, Answer}
-use Rattle.pagable_machine.proofs.{Keeping.call-made, Keeping.key-refused, Keeping.key-starts, Keeping.starts, Loading.faulty, Loading.never-typed, Loading.no-place, Loading.own-steps}
-use Rattle.pagable_machine.proofs.{Loading.refuses-step, Words.Drives, Words.Given, Words.IsInStep, Words.Readings, Words.holding, Words.kept_at, Words.over}
+use Rattle.pagable_machine.proofs.Words.{inl, inr, refl, sym, ap, subst, ◌∙◌, Result, is_some, Arc, Global, PagableData, Error, HandleNumber, LoadNumber, Beginning, Call, Reply, LoadReply, Blob, Core}
+use Rattle.pagable_machine.proofs.Words.{Seen, Values, Written, load_fault, DropCall, fresh, Moves, PagerState, WellFormed, same-number, same_some, reading_of, PagerView, Telling, state_in, ReadsAs}
+use Rattle.pagable_machine.proofs.Words.{Ghosts, plain, Held, Serves, BeginsNoKey, Forgets, Holding, IsPrepared, IsTaken, KeepsOne, Kept, Makes, Stepped, CountsStep, rest_after, Answer, Drives, Given}
+use Rattle.pagable_machine.proofs.{Words.{IsInStep, Readings, holding, kept_at, over}, Keeping.{call-made, key-refused, key-starts, starts}, Loading.{faulty, never-typed, no-place, own-steps}}
+use Rattle.{pagable_machine.proofs.Loading.refuses-step, pagable_world.specs.declared.{handles.Owner.Owner, events.{LoadAnswer.LoadAnswer, EventReply.EventReply, Event.Event}}}
 use Rattle.pagable_loads.specs.declared.reading.Reading.{Reading as Own}
-use Rattle.pagable_model.specs.declared.error.Error.TheVariants as errors
-use Rattle.pagable_world.specs.declared.answers.Beginning.TheVariants as beginnings
-use Rattle.pagable_world.specs.declared.calls.Call.TheVariants as calls
-use Rattle.pagable_world.specs.declared.calls.Reply.TheVariants as replies
-use Rattle.pagable_world.specs.declared.events.Event.TheVariants as events
-use Rattle.pagable_world.specs.declared.events.EventReply.TheVariants as answers
-use Rattle.pagable_world.specs.declared.events.LoadAnswer.TheVariants as ends
-use Rattle.pagable_world.specs.declared.handles.Owner.TheVariants as owners
 
 -- a call by which values come, and one by which they only go
 module _ {N S E : Type 0} {v : Values N} {tells : Telling S} {old new : PagerView N S E} {call : Call N PagableData} {r : Reply N (Arc PagableData Global)}
-    (does : Does (plain v) (core_in tells old) owners.Caller (plain_call call) (plain_reply r) (core_in tells new)) where
+    (does : Does (plain v) (core_in tells old) Owner.Caller (plain_call call) (plain_reply r) (core_in tells new)) where
   pub serves : Moves (CallBrings (core_in tells old) (plain_call call)) (state_in tells old) (state_in tells new) → Serves v tells old call r new
   serves moves = record { step = record { does = does }; moves = moves }
 
@@ -29,7 +21,7 @@ pub forgets-none : (w : Core) {kept kept' : Kept} → ((q : ℕ) → kept' q ≡
 forgets-none w as_was = record { still = λ l load is. as_was l; only = λ l own is. sym (as_was l) ∙ is }
 
 -- a load that nothing has the number of isn't open
-closed : (w : Core) (l : LoadNumber) → load_fault w owners.Caller l ≡ Some errors.NoSuchHandle → w.loads l.0 ≡ None
+closed : (w : Core) (l : LoadNumber) → load_fault w Owner.Caller l ≡ Some Error.NoSuchHandle → w.loads l.0 ≡ None
 closed w l why = first_of (grind (arith, common_steps, nat_tests), search (rules))
 
 -- what is kept anew after what was kept stayed
@@ -54,7 +46,7 @@ begins-prepared {kept} l key t type own none typed is key_is sort keeps = record
     unkept (Some x) e = absurd (cc)
 
 -- what was kept of a closed load goes
-pub forgets-closed : (w : Core) (l : LoadNumber) {kept kept' : Kept} → load_fault w owners.Caller l ≡ Some errors.NoSuchHandle → KeepsOne kept l.0 None kept' → Forgets w kept kept'
+pub forgets-closed : (w : Core) (l : LoadNumber) {kept kept' : Kept} → load_fault w Owner.Caller l ≡ Some Error.NoSuchHandle → KeepsOne kept l.0 None kept' → Forgets w kept kept'
 forgets-closed w l {kept} {kept'} why keeps = first_of (grind (arith, common_steps, nat_tests), grind (arith, nat_tests, same-number), search (rules, same-number))
 
 module _ {X : Type 0} {g : Ghosts X} {N S E : Type 0} (v : E → Values N) (tells : Telling S) (old new : PagerView N S E) (held : Held X g) (kept' : Readings) (serving : IsInStep tells (over old held))
@@ -81,17 +73,17 @@ module _ {X : Type 0} {g : Ghosts X} {N S E : Type 0} (v : E → Values N) (tell
   whole-still moves formed = subst (λ e. WellFormed (v e) s') moves.environment formed
 
   pub call-drives : (call : Call N PagableData) (reply : Reply N (Arc PagableData Global)) → Serves (v old.environment) tells old call reply new → WellFormed (v new.environment) s'
-      → Forgets s'.core (kept_at kept) (kept_at kept') → Happens (events.Call call) (answers.CallReply reply) new kept'
+      → Forgets s'.core (kept_at kept) (kept_at kept') → Happens (Event.Call call) (EventReply.CallReply reply) new kept'
   call-drives call reply serves formed f = record { makes = call-made m s s' h (kept_at kept') serving was (whole-still serves.moves formed) _ _ serves.step serves.moves f }
 
-  pub start-drives : (through : HandleNumber) (r : Result Beginning Error) → Serves (v old.environment) tells old (calls.LoadBegin through) (replies.Begun r) new → WellFormed (v new.environment) s'
-      → Happens (events.LoadStart through) (answers.Started r) new kept
+  pub start-drives : (through : HandleNumber) (r : Result Beginning Error) → Serves (v old.environment) tells old (Call.LoadBegin through) (Reply.Begun r) new → WellFormed (v new.environment) s'
+      → Happens (Event.LoadStart through) (EventReply.Started r) new kept
   start-drives through r serves formed = record
       { makes = starts m s s' h h.readings serving was (whole-still serves.moves formed) through r serves.step serves.moves (forgets-none s'.core (λ q. refl)) }
 
   -- a load of a key is refused before it begins
   pub key-full-drives : (key t : ℕ) (e : Error) → BeginsNoKey s.core e → ((q : ℕ) → kept_at kept' q ≡ kept_at kept q)
-      → Happens (events.LoadKey key t) (answers.Started (Err e)) old kept'
+      → Happens (Event.LoadKey key t) (EventReply.Started (Err e)) old kept'
   key-full-drives key t e refused as_was =
       record {
         makes = key-refused m s s h (kept_at kept') serving was was key t e (record { does = record { begins = tt; refused = refused } })
@@ -99,27 +91,27 @@ module _ {X : Type 0} {g : Ghosts X} {N S E : Type 0} (v : E → Values N) (tell
       }
 
   -- it has begun, or hasn't
-  pub key-drives : (key t : ℕ) (r : Result Beginning Error) (l : LoadNumber) (own : Own) → (k : ℕ) × (r ≡ Ok (beginnings.Load l k))
-      → Serves (v old.environment) tells old (calls.LoadKey key) (replies.Begun r) new → WellFormed (v new.environment) s' → reading_of own ≡ fresh l t → own.key ≡ key → own.for_cell ≡ false
-      → KeepsOne (kept_at kept) l.0 (Some own) (kept_at kept') → Happens (events.LoadKey key t) (answers.Started r) new kept'
+  pub key-drives : (key t : ℕ) (r : Result Beginning Error) (l : LoadNumber) (own : Own) → (k : ℕ) × (r ≡ Ok (Beginning.Load l k))
+      → Serves (v old.environment) tells old (Call.LoadKey key) (Reply.Begun r) new → WellFormed (v new.environment) s' → reading_of own ≡ fresh l t → own.key ≡ key → own.for_cell ≡ false
+      → KeepsOne (kept_at kept) l.0 (Some own) (kept_at kept') → Happens (Event.LoadKey key t) (EventReply.Started r) new kept'
   key-drives key t r l own (k, is) serves formed reads key_is sort keeps =
-      let made = subst (λ x. Serves (v old.environment) tells old (calls.LoadKey key) (replies.Begun x) new) is serves in
-      subst (λ x. Happens (events.LoadKey key t) (answers.Started x) new kept') (sym is)
+      let made = subst (λ x. Serves (v old.environment) tells old (Call.LoadKey key) (Reply.Begun x) new) is serves in
+      subst (λ x. Happens (Event.LoadKey key t) (EventReply.Started x) new kept') (sym is)
       (record { makes = key-starts m s s' h (kept_at kept') serving was (whole-still made.moves formed) key t l k own made.step made.moves reads key_is sort keeps })
 
-  pub key-none-drives : (key t : ℕ) (r : Result Beginning Error) → ((e : Error) × (r ≡ Err e)) ⊎ (r ≡ Ok beginnings.InMemory)
-      → Serves (v old.environment) tells old (calls.LoadKey key) (replies.Begun r) new → WellFormed (v new.environment) s' → ((q : ℕ) → kept_at kept' q ≡ kept_at kept q)
-      → Happens (events.LoadKey key t) (answers.Started r) new kept'
+  pub key-none-drives : (key t : ℕ) (r : Result Beginning Error) → ((e : Error) × (r ≡ Err e)) ⊎ (r ≡ Ok Beginning.InMemory)
+      → Serves (v old.environment) tells old (Call.LoadKey key) (Reply.Begun r) new → WellFormed (v new.environment) s' → ((q : ℕ) → kept_at kept' q ≡ kept_at kept q)
+      → Happens (Event.LoadKey key t) (EventReply.Started r) new kept'
   key-none-drives key t (Err e) why serves formed as_was =
       record { makes = key-refused m s s' h (kept_at kept') serving was (whole-still serves.moves formed) key t e serves.step serves.moves (forgets-none s'.core as_was) }
-  key-none-drives key t (Ok beginnings.InMemory) why serves formed as_was = absurd serves.step.does.begins
-  key-none-drives key t (Ok (beginnings.Load l k)) (inl (e, is)) serves formed as_was = absurd (cc)
-  key-none-drives key t (Ok (beginnings.Load l k)) (inr is) serves formed as_was = absurd (cc)
+  key-none-drives key t (Ok Beginning.InMemory) why serves formed as_was = absurd serves.step.does.begins
+  key-none-drives key t (Ok (Beginning.Load l k)) (inl (e, is)) serves formed as_was = absurd (cc)
+  key-none-drives key t (Ok (Beginning.Load l k)) (inr is) serves formed as_was = absurd (cc)
 
   module _ (l : LoadNumber) (key : ℕ) (t : Option ℕ) (reads : ReadsAs s.core l key t) where
     pub step-drives : (kept1 kept2 : Readings) (reply : LoadReply N) → IsPrepared (kept_at kept) l key t (kept_at kept1) → CountsStep (kept_at kept1) l.0 reply (kept_at kept2)
-        → ((own new : Own) → kept_at kept1 l.0 ≡ Some own → kept_at kept2 l.0 ≡ Some new → Stepped (v old.environment) owners.Caller own reply new s s')
-        → KeepsOne (kept_at kept2) l.0 (rest_after reply.ended (kept_at kept2 l.0)) (kept_at kept') → Happens (events.LoadStep l) (answers.LoadMoved (Ok reply)) new kept'
+        → ((own new : Own) → kept_at kept1 l.0 ≡ Some own → kept_at kept2 l.0 ≡ Some new → Stepped (v old.environment) Owner.Caller own reply new s s')
+        → KeepsOne (kept_at kept2) l.0 (rest_after reply.ended (kept_at kept2 l.0)) (kept_at kept') → Happens (Event.LoadStep l) (EventReply.LoadMoved (Ok reply)) new kept'
     step-drives kept1 kept2 reply ready step stepped ends =
         let same : ready.own ≡ step.own = same_some _ _ (sym ready.keeps.here ∙ step.was) in
         let taken = subst (λ x. IsTaken (kept_at kept) l key t x) same ready.taken in
@@ -130,25 +122,24 @@ module _ {X : Type 0} {g : Ghosts X} {N S E : Type 0} (v : E → Values N) (tell
               (stepped step.own step.new step.was step.keeps.here) step.again step.counts step.counted keeps;
         }
 
-    pub no-place-drives : (type : ℕ) (reply : LoadReply N) → t ≡ Some type → kept_at kept l.0 ≡ None → reply ≡ record { ended = Some (ends.Refused errors.OutOfMemory); steps = 1 }
-        → (told : Result (Unit {0}) Error) → DropCall s.core owners.Caller l told s'.core → Moves (λ n x. ⊥) s s' → WellFormed (v new.environment) s' → ((q : ℕ) → kept_at kept' q ≡ kept_at kept q)
-        → Happens (events.LoadStep l) (answers.LoadMoved (Ok reply)) new kept'
+    pub no-place-drives : (type : ℕ) (reply : LoadReply N) → t ≡ Some type → kept_at kept l.0 ≡ None → reply ≡ record { ended = Some (LoadAnswer.Refused Error.OutOfMemory); steps = 1 }
+        → (told : Result (Unit {0}) Error) → DropCall s.core Owner.Caller l told s'.core → Moves (λ n x. ⊥) s s' → WellFormed (v new.environment) s' → ((q : ℕ) → kept_at kept' q ≡ kept_at kept q)
+        → Happens (Event.LoadStep l) (EventReply.LoadMoved (Ok reply)) new kept'
     no-place-drives type reply typed none is told drop moves formed as_was =
         record {
-          makes = subst (λ x. Makes m s h (events.LoadStep l) (answers.LoadMoved (Ok x)) s' (record h { readings = kept_at kept' })) (sym is)
+          makes = subst (λ x. Makes m s h (Event.LoadStep l) (EventReply.LoadMoved (Ok x)) s' (record h { readings = kept_at kept' })) (sym is)
               (no-place m s s' h (kept_at kept') serving was l reads.load type told reads.owned (reads.type_is ∙ typed) none drop moves (whole-still moves formed) as_was);
         }
 
-    pub untyped-drives : t ≡ None → kept_at kept l.0 ≡ None → ((q : ℕ) → kept_at kept' q ≡ kept_at kept q) → Happens (events.LoadStep l) (answers.LoadMoved (Err errors.WrongMode)) old kept'
-    untyped-drives untyped none as_was =
-        record { makes = refuses-step m s h serving was l errors.WrongMode as_was (never-typed s h l reads.load reads.owned none (reads.type_is ∙ untyped)) }
+    pub untyped-drives : t ≡ None → kept_at kept l.0 ≡ None → ((q : ℕ) → kept_at kept' q ≡ kept_at kept q) → Happens (Event.LoadStep l) (EventReply.LoadMoved (Err Error.WrongMode)) old kept'
+    untyped-drives untyped none as_was = record { makes = refuses-step m s h serving was l Error.WrongMode as_was (never-typed s h l reads.load reads.owned none (reads.type_is ∙ untyped)) }
 
-  pub closed-drives : (l : LoadNumber) (e : Error) → load_fault s.core owners.Caller l ≡ Some e → Happens (events.LoadStep l) (answers.LoadMoved (Err e)) old kept
+  pub closed-drives : (l : LoadNumber) (e : Error) → load_fault s.core Owner.Caller l ≡ Some e → Happens (Event.LoadStep l) (EventReply.LoadMoved (Err e)) old kept
   closed-drives l e why = record { makes = refuses-step m s h serving was l e (λ q. refl) (faulty s h l e why) }
 
 -- a step of what was kept, which is kept again
-pub step-of : {N E : Type 0} {v : Values N} {a b : Option Own} {x y own new : Own} {reply : LoadReply N} {s s' : PagerState N E} → a ≡ Some x → b ≡ Some y → Stepped v owners.Caller x reply y s s'
+pub step-of : {N E : Type 0} {v : Values N} {a b : Option Own} {x y own new : Own} {reply : LoadReply N} {s s' : PagerState N E} → a ≡ Some x → b ≡ Some y → Stepped v Owner.Caller x reply y s s'
     → a ≡ Some own → b ≡ Some new
-    → Stepped v owners.Caller own reply new s s'
+    → Stepped v Owner.Caller own reply new s s'
 step-of {v = v} {y = y} {own = own} {reply = reply} {s = s} {s'} was here step is now =
-    subst (λ z. Stepped v owners.Caller own reply z s s') (same_some _ _ (sym here ∙ now)) (subst (λ z. Stepped v owners.Caller z reply y s s') (same_some _ _ (sym was ∙ is)) step)
+    subst (λ z. Stepped v Owner.Caller own reply z s s') (same_some _ _ (sym here ∙ now)) (subst (λ z. Stepped v Owner.Caller z reply y s s') (same_some _ _ (sym was ∙ is)) step)

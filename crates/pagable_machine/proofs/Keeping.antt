@@ -6,12 +6,6 @@ use Rattle.pagable_machine.proofs.Words.{EventBrings, HandlesAreWhole, IsMachine
 use Rattle.pagable_machine.proofs.Words.{self-number, reading_of, Ghosts, Walk, AllKept, Forgets, Holding, IsKept, IsServing, KeepsOne, Kept, Makes, ReadsFor, machine_of, readings_in, work_of}
 use Rattle.pagable_machine.proofs.{Words.{IsWalkKept, walking_of}, Leaving.{Leaves, call-leaves, like}, Passing.{Passes, event-passes}, Fitting.walk-on}
 use Rattle.pagable_loads.specs.declared.reading.Reading.{Reading as Own}
-use Rattle.pagable_world.specs.declared.handles.Owner.TheVariants as owners
-use Rattle.pagable_world.specs.declared.answers.Beginning.TheVariants as beginnings
-use Rattle.pagable_world.specs.declared.calls.Call.TheVariants as calls
-use Rattle.pagable_world.specs.declared.calls.Reply.TheVariants as replies
-use Rattle.pagable_world.specs.declared.events.Event.TheVariants as events
-use Rattle.pagable_world.specs.declared.events.EventReply.TheVariants as answers
 
 -- ---- what is kept
 
@@ -125,7 +119,7 @@ one-serves {X} {g} {w} {w'} {h} {h'} serving whole v k keeps more readings passe
 
 -- no worker steps, and nothing else is kept of any
 module _ {X : Type 0} {g : Ghosts X} {N B W E : Type 0} (m : Seen N B W) (s s' : PagerState N E) {h h' : Holding g} (serving : IsServing s.core h) (was : WellFormed m.values s)
-    (formed : WellFormed m.values s') (more : length h.tables ≤ length h'.tables) (walks : (v : ℕ) → h'.walks v ≡ h.walks v) (on : Leaves owners.Caller s.core.workers s.core s'.core) where
+    (formed : WellFormed m.values s') (more : length h.tables ≤ length h'.tables) (walks : (v : ℕ) → h'.walks v ≡ h.walks v) (on : Leaves Owner.Caller s.core.workers s.core s'.core) where
   pub makes : (event : Event N B W) (reply : EventReply N B W) → ((v : ℕ) → step_of v event reply ≡ []) → Happens m (world_of (machine_of s h)) event reply (world_of (machine_of s' h'))
       → Moves (EventBrings m.values (world_of (machine_of s h)) event) s s' → ReplyWrites m s reply → AllKept s'.core h'.readings → Makes m s h event reply s' h'
   makes event reply none happens moves writes now = makes-with m s s' formed event reply happens moves writes (record {
@@ -136,7 +130,7 @@ module _ {X : Type 0} {g : Ghosts X} {N B W E : Type 0} (m : Seen N B W) (s s' :
     where
       passes : (v : ℕ) → Passes v s.core s'.core
       passes v = event-passes m v (world_of (machine_of s h)) (world_of (machine_of s' h')) was.whole event reply (none v) happens
-          (λ l load is own. on.others l load is (was.whole.loads.numbered l (ap is_some is)).1 (ap (is_owner owners.Caller) own))
+          (λ l load is own. on.others l load is (was.whole.loads.numbered l (ap is_some is)).1 (ap (is_owner Owner.Caller) own))
 
 le-self : (n : ℕ) → n ≤ n
 le-self n = omega arith
@@ -151,17 +145,17 @@ module _ {X : Type 0} {g : Ghosts X} {N B W E : Type 0} (m : Seen N B W) (s s' :
   pub same-work : WorkStays (work_of h s.core) (work_of after s'.core)
   same-work = record { shelves = λ t. record { slots = λ i. refl; waits = λ v. refl }; last_table = refl; walkings = λ v. refl }
 
-  pub quiet : Leaves owners.Caller s.core.workers s.core s'.core → (event : Event N B W) (reply : EventReply N B W) → ((v : ℕ) → step_of v event reply ≡ [])
+  pub quiet : Leaves Owner.Caller s.core.workers s.core s'.core → (event : Event N B W) (reply : EventReply N B W) → ((v : ℕ) → step_of v event reply ≡ [])
       → Happens m (world_of (machine_of s h)) event reply (world_of (machine_of s' after)) → Moves (EventBrings m.values (world_of (machine_of s h)) event) s s' → ReplyWrites m s reply
       → AllKept s'.core kept' → Makes m s h event reply s' after
   quiet on = makes m s s' {h' = after} serving was formed (le-self _) (λ v. refl) on
 
   -- a call
-  pub call-made : (call : Call N B) (reply : Reply N B) → CallStep m s.core owners.Caller call reply s'.core → Moves (CallBrings s.core call) s s' → Forgets s'.core h.readings kept'
-      → Makes m s h (events.Call call) (answers.CallReply reply) s' after
+  pub call-made : (call : Call N B) (reply : Reply N B) → CallStep m s.core Owner.Caller call reply s'.core → Moves (CallBrings s.core call) s s' → Forgets s'.core h.readings kept'
+      → Makes m s h (Event.Call call) (EventReply.CallReply reply) s' after
   call-made call reply step moves f =
-      let on = call-leaves s.core s'.core owners.Caller m call reply step.does in
-      quiet on (events.Call call) (answers.CallReply reply) (λ v. refl)
+      let on = call-leaves s.core s'.core Owner.Caller m call reply step.does in
+      quiet on (Event.Call call) (EventReply.CallReply reply) (λ v. refl)
       (record {
         step = step;
         readings = are-these s'.core kept' (readings_in h.readings s.core) (λ l load is. ap (option_map reading_of) (f.still l load is) ∙ as-before serving.readings on l load is);
@@ -169,12 +163,12 @@ module _ {X : Type 0} {g : Ghosts X} {N B W E : Type 0} (m : Seen N B W) (s s' :
       }) moves tt (kept-on serving.readings on (λ l own is. inl (f.only l own is)))
 
   -- a load of a cell begins: of it nothing is kept yet
-  pub starts : (through : HandleNumber) (r : Result Beginning Error) → CallStep m s.core owners.Caller (calls.LoadBegin through) (replies.Begun r) s'.core → Moves (λ n x. ⊥) s s'
+  pub starts : (through : HandleNumber) (r : Result Beginning Error) → CallStep m s.core Owner.Caller (Call.LoadBegin through) (Reply.Begun r) s'.core → Moves (λ n x. ⊥) s s'
       → Forgets s'.core h.readings kept'
-      → Makes m s h (events.LoadStart through) (answers.Started r) s' after
+      → Makes m s h (Event.LoadStart through) (EventReply.Started r) s' after
   starts through r step moves f =
-      let on = call-leaves s.core s'.core owners.Caller m (calls.LoadBegin through) (replies.Begun r) step.does in
-      quiet on (events.LoadStart through) (answers.Started r) (λ v. refl)
+      let on = call-leaves s.core s'.core Owner.Caller m (Call.LoadBegin through) (Reply.Begun r) step.does in
+      quiet on (Event.LoadStart through) (EventReply.Started r) (λ v. refl)
       (record {
         step = step.does;
         readings = are-these s'.core kept' (readings_in h.readings s.core) (λ l load is. ap (option_map reading_of) (f.still l load is) ∙ as-before serving.readings on l load is);
@@ -182,11 +176,11 @@ module _ {X : Type 0} {g : Ghosts X} {N B W E : Type 0} (m : Seen N B W) (s s' :
       }) moves tt (kept-on serving.readings on (λ l own is. inl (f.only l own is)))
 
   -- a load of a key is refused
-  pub key-refused : (key t : ℕ) (e : Error) → CallStep m s.core owners.Caller (calls.LoadKey key) (replies.Begun (Err e)) s'.core → Moves (λ n x. ⊥) s s' → Forgets s'.core h.readings kept'
-      → Makes m s h (events.LoadKey key t) (answers.Started (Err e)) s' after
+  pub key-refused : (key t : ℕ) (e : Error) → CallStep m s.core Owner.Caller (Call.LoadKey key) (Reply.Begun (Err e)) s'.core → Moves (λ n x. ⊥) s s' → Forgets s'.core h.readings kept'
+      → Makes m s h (Event.LoadKey key t) (EventReply.Started (Err e)) s' after
   key-refused key t e step moves f =
-      let on = call-leaves s.core s'.core owners.Caller m (calls.LoadKey key) (replies.Begun (Err e)) step.does in
-      quiet on (events.LoadKey key t) (answers.Started (Err e)) (λ v. refl)
+      let on = call-leaves s.core s'.core Owner.Caller m (Call.LoadKey key) (Reply.Begun (Err e)) step.does in
+      quiet on (Event.LoadKey key t) (EventReply.Started (Err e)) (λ v. refl)
       (record {
         step = step.does;
         begun = tt;
@@ -195,15 +189,15 @@ module _ {X : Type 0} {g : Ghosts X} {N B W E : Type 0} (m : Seen N B W) (s s' :
       }) moves tt (kept-on serving.readings on (λ l own is. inl (f.only l own is)))
 
   -- it begins, and is kept
-  pub key-starts : (key t : ℕ) (l : LoadNumber) (k : ℕ) (own : Own) → CallStep m s.core owners.Caller (calls.LoadKey key) (replies.Begun (Ok (beginnings.Load l k))) s'.core → Moves (λ n x. ⊥) s s'
+  pub key-starts : (key t : ℕ) (l : LoadNumber) (k : ℕ) (own : Own) → CallStep m s.core Owner.Caller (Call.LoadKey key) (Reply.Begun (Ok (Beginning.Load l k))) s'.core → Moves (λ n x. ⊥) s s'
       → reading_of own ≡ fresh l t → own.key ≡ key → own.for_cell ≡ false → KeepsOne h.readings l.0 (Some own) kept'
-      → Makes m s h (events.LoadKey key t) (answers.Started (Ok (beginnings.Load l k))) s' after
+      → Makes m s h (Event.LoadKey key t) (EventReply.Started (Ok (Beginning.Load l k))) s' after
   key-starts key t l k own step moves is key_is sort keeps =
-      let on = call-leaves s.core s'.core owners.Caller m (calls.LoadKey key) (replies.Begun (Ok (beginnings.Load l k))) step.does in
+      let on = call-leaves s.core s'.core Owner.Caller m (Call.LoadKey key) (Reply.Begun (Ok (Beginning.Load l k))) step.does in
       let next = step.does.begins.1.above in
       let a = step.does.begins.2 in
       let last : s'.core.last.load ≡ s.core.last.load + 1 = ap (λ (x : Last). x.load) a.last in
-      let load : OpenLoad = record { owner = owners.Caller; key = key; root = of_key } in
+      let load : OpenLoad = record { owner = Owner.Caller; key = key; root = of_key } in
       let there : s'.core.loads l.0 ≡ Some load = ap s'.core.loads next ∙ a.loads (s.core.last.load + 1) ∙ updated-at (s.core.last.load + 1) (Some load) s.core.loads in
       let reads : ReadsFor load own = record { owned = refl; key = sym key_is; sort = sym sort; typed = tt } in
       let new : IsKept s'.core l.0 own =
@@ -212,7 +206,7 @@ module _ {X : Type 0} {g : Ghosts X} {N B W E : Type 0} (m : Seen N B W) (s s' :
         given = omega (arith, next, last);
         reads = λ other open_load. subst (λ x. ReadsFor x own) (same_some _ _ (sym there ∙ open_load)) reads;
       } in
-      quiet on (events.LoadKey key t) (answers.Started (Ok (beginnings.Load l k))) (λ v. refl)
+      quiet on (Event.LoadKey key t) (EventReply.Started (Ok (Beginning.Load l k))) (λ v. refl)
       (record {
         step = step.does;
         begun = are-these s'.core kept' (updated l.0 (Some (fresh l t)) (readings_in h.readings s.core))
@@ -235,7 +229,7 @@ pub record KeepsAll {X : Type 0} {g : Ghosts X} (h h' : Holding g) : Type 0 wher
 
 module _ {X : Type 0} {g : Ghosts X} {N B W E : Type 0} (m : Seen N B W) (s s' : PagerState N E) {h h' : Holding g} (serving : IsServing s.core h) (was : WellFormed m.values s)
     (formed : WellFormed m.values s') (same_pager : Alike s.core s'.core) (keeps : KeepsAll h h') where
-  on : Leaves owners.Caller s.core.workers s.core s'.core
+  on : Leaves Owner.Caller s.core.workers s.core s'.core
   on = like same_pager refl refl refl
 
   pub stays : Stays (world_of (machine_of s h)) (world_of (machine_of s' h'))

@@ -1,18 +1,10 @@
 -- What each call and each step of a load or of a worker leaves: who is at work, no load but new ones beside those that were open, and each open load that isn't the asker's.
-use Rattle.pagable_machine.proofs.Words.{own-self, common_steps, rules, ◌≡◌, ℕ, Bool, true, false, List, [], Ok, Err, Some, None, inl, inr, refl, ◌∙◌, ◌⊎◌, ◌<◌, ◌≤◌, ap, sym, arith, nat_tests}
-use Rattle.pagable_machine.proofs.Words.{Option, Result, OptionalDataKey, Error, ArcRef, HandleNumber, LoadNumber, Kind, Blob, SameAt, Call, Reply, Owner, HandleRow, Mode, Beginning, Want}
-use Rattle.pagable_machine.proofs.Words.{Pinning, LoadAnswer, is_owner, OwnsLoad, load_fault, Alike, Core, Frame, OpenLoad, Reading, Root, Seen, Values, of_cell, of_key, Falls, fallen, BirthCall}
+use Rattle.pagable_machine.proofs.Words.{own-self, common_steps, rules, ◌≡◌, ℕ, Bool, true, false, List, [], Ok, Err, Some, None, inl, inr, refl, ◌∙◌, ◌⊎◌, ◌<◌, ◌≤◌, ap, sym, arith, nat_tests, Option}
+use Rattle.pagable_machine.proofs.Words.{Result, OptionalDataKey, Error, ArcRef, HandleNumber, LoadNumber, Kind, Blob, SameAt, Call, Reply, Owner, HandleRow, Mode, Beginning, Want, Pinning}
+use Rattle.pagable_machine.proofs.Words.{LoadAnswer, is_owner, OwnsLoad, load_fault, Alike, Core, Frame, OpenLoad, Reading, Root, Seen, Values, of_cell, of_key, Falls, fallen, BirthCall}
 use Rattle.pagable_machine.proofs.Words.{AwayBirthCall, PinCall, UnpinCall, ReleaseCall, SetKeyCall, ScheduleCall, TakeCall, RecallCall, OfferCall, StoreCall, with_load, without_load, from_cache}
 use Rattle.pagable_machine.proofs.Words.{from_store, BeginCall, BeginKeyCall, AskCall, AdoptCall, adopted, first_key, LazyCall, EndCall, HandOverCall, GoesOn, Meets, ReadingDoes, at-updated}
-use Rattle.pagable_machine.proofs.Words.{same-number, same_some, neither, Does}
-use Rattle.pagable_world.specs.LoadCalls.{Given}
-use Rattle.pagable_model.specs.declared.data_key.OptionalDataKey.TheVariants as optional
-use Rattle.pagable_world.specs.declared.answers.Beginning.TheVariants as beginnings
-use Rattle.pagable_world.specs.declared.answers.Pinning.TheVariants as pinnings
-use Rattle.pagable_world.specs.declared.events.LoadAnswer.TheVariants as ends
-use Rattle.pagable_world.specs.declared.calls.Call.TheVariants as calls
-use Rattle.pagable_world.specs.declared.calls.Reply.TheVariants as replies
-use Rattle.pagable_world.specs.declared.calls.Want.TheVariants as wants
+use Rattle.{pagable_machine.proofs.Words.{same-number, same_some, neither, Does}, pagable_world.specs.LoadCalls.Given}
 
 -- of loads and workers, as far as the machine sees them
 pub record Leaves (me : Owner) (works : ℕ → Bool) (w w' : Core) : Type 0 where
@@ -75,8 +67,8 @@ module _ (w w' : Core) (me : Owner) where
   born-away (Err e) c = like c.refused.stays refl refl refl
 
   pub pinned : {h : HandleNumber} (r : Result Pinning Error) → PinCall w me h r w' → Leaves me w.workers w w'
-  pinned (Ok (pinnings.Pinned k)) c = like c.pins.2.2 refl refl refl
-  pinned (Ok (pinnings.NeedsLoad key)) c = like c.pins.2.2 refl refl refl
+  pinned (Ok (Pinning.Pinned k)) c = like c.pins.2.2 refl refl refl
+  pinned (Ok (Pinning.NeedsLoad key)) c = like c.pins.2.2 refl refl refl
   pinned (Err e) c = like c.refused.stays refl refl refl
 
   unpinned : {h : HandleNumber} {r : Result (Unit {0}) Error} → UnpinCall w me h r w' → Leaves me w.workers w w'
@@ -111,22 +103,22 @@ module _ (w w' : Core) (me : Owner) where
   stored (Err e) c = like c.refused.0.leaves refl refl refl
 
   pub begun : {h : HandleNumber} (r : Result Beginning Error) → BeginCall w me h r w' → Leaves me w.workers w w'
-  begun (Ok beginnings.InMemory) c = like c.begins.2.1 refl refl refl
-  begun {h} (Ok (beginnings.Load l key)) c = let row : HandleRow = c.begins.0 in after (over (opened w key (of_cell row.node c.begins.2.4.0 h) me) refl refl refl) c.begins.2.4.2
+  begun (Ok Beginning.InMemory) c = like c.begins.2.1 refl refl refl
+  begun {h} (Ok (Beginning.Load l key)) c = let row : HandleRow = c.begins.0 in after (over (opened w key (of_cell row.node c.begins.2.4.0 h) me) refl refl refl) c.begins.2.4.2
   begun (Err e) c = like c.refused.stays refl refl refl
 
   key-begun : {key : ℕ} (r : Result Beginning Error) → BeginKeyCall w me key r w' → Leaves me w.workers w w'
-  key-begun (Ok beginnings.InMemory) c = absurd c.begins
-  key-begun {key} (Ok (beginnings.Load l k)) c = after (opened w key of_key me) c.begins.2
+  key-begun (Ok Beginning.InMemory) c = absurd c.begins
+  key-begun {key} (Ok (Beginning.Load l k)) c = after (opened w key of_key me) c.begins.2
   key-begun (Err e) c = like c.refused.stays refl refl refl
 
   asked : {l : LoadNumber} (want : Want) (r : Result Given Error) → AskCall w me l want r w' → Leaves me w.workers w w'
-  asked wants.Root (Ok (from_cache k)) c = absurd c.gives.2
-  asked wants.Root (Ok (from_store b)) c = like c.gives.2.asked.leaves refl refl refl
-  asked wants.Root (Err e) c = elim c.refused [ inl refused ↦ like refused.stays refl refl refl | inr (load, owns, f) ↦ like f.asked.leaves refl refl refl ]
-  asked (wants.Nested kind key) (Ok (from_cache k)) c = like c.gives.2.leaves refl refl refl
-  asked (wants.Nested kind key) (Ok (from_store b)) c = like c.gives.2.1.asked.leaves refl refl refl
-  asked (wants.Nested kind key) (Err e) c = elim c.refused [ inl refused ↦ like refused.stays refl refl refl | inr (load, owns, f) ↦ like f.1.asked.leaves refl refl refl ]
+  asked Want.Root (Ok (from_cache k)) c = absurd c.gives.2
+  asked Want.Root (Ok (from_store b)) c = like c.gives.2.asked.leaves refl refl refl
+  asked Want.Root (Err e) c = elim c.refused [ inl refused ↦ like refused.stays refl refl refl | inr (load, owns, f) ↦ like f.asked.leaves refl refl refl ]
+  asked (Want.Nested kind key) (Ok (from_cache k)) c = like c.gives.2.leaves refl refl refl
+  asked (Want.Nested kind key) (Ok (from_store b)) c = like c.gives.2.1.asked.leaves refl refl refl
+  asked (Want.Nested kind key) (Err e) c = elim c.refused [ inl refused ↦ like refused.stays refl refl refl | inr (load, owns, f) ↦ like f.1.asked.leaves refl refl refl ]
 
   was-adopted : {N : Type 0} {l : LoadNumber} {kind : Kind} {key : ℕ} {x : N} {t : ℕ} {rs : List ArcRef} (r : Result HandleNumber (Error × N)) → AdoptCall w me l kind key x t rs r w'
       → Leaves me w.workers w w'
@@ -135,7 +127,7 @@ module _ (w w' : Core) (me : Owner) where
   was-adopted (Err e) c = like c.refused.1.stays refl refl refl
 
   lazily : {l : LoadNumber} {kind : Kind} {key : ℕ} (r : Result HandleNumber Error) → LazyCall w me l kind key r w' → Leaves me w.workers w w'
-  lazily {l = l} {kind} {key} (Ok k) c = elim c.makes.3 [ inl gets ↦ like gets.leaves refl refl refl | inr (none, few, next, a) ↦ after (known w l kind key (optional.Some key) []) a ]
+  lazily {l = l} {kind} {key} (Ok k) c = elim c.makes.3 [ inl gets ↦ like gets.leaves refl refl refl | inr (none, few, next, a) ↦ after (known w l kind key (OptionalDataKey.Some key) []) a ]
   lazily (Err e) c = like c.refused.stays refl refl refl
 
   ended : {N : Type 0} {l : LoadNumber} {x : N} {t : ℕ} {rs : List ArcRef} (r : Result HandleNumber (Error × Option N)) → EndCall w me l x t rs r w' → Leaves me w.workers w w'
@@ -149,66 +141,66 @@ module _ (w w' : Core) (me : Owner) where
 
   -- a call
   pub call-leaves : {N : Type 0} {B : Type 0} {W : Type 0} (m : Seen N B W) (call : Call N B) (reply : Reply N B) → Does m w me call reply w' → Leaves me w.workers w w'
-  call-leaves m (calls.NewPinned x) (replies.Made r) c = born r c
-  call-leaves m (calls.NewLoose x) (replies.Made r) c = born r c
-  call-leaves m (calls.NewShared x) (replies.Made r) c = born r c
-  call-leaves m (calls.NewPagedOut t key) (replies.Handle r) c = born-away r c
-  call-leaves m (calls.Clone h) (replies.Handle (Ok k)) c = like c.made.3 refl refl refl
-  call-leaves m (calls.Clone h) (replies.Handle (Err e)) c = like c.refused.stays refl refl refl
-  call-leaves m (calls.Pin h) (replies.Pin r) c = pinned r c
-  call-leaves m (calls.Unpin h) (replies.Done r) c = unpinned c
-  call-leaves m (calls.Release h) (replies.Done r) c = released c
-  call-leaves m (calls.IntoPagable h) (replies.Handle (Ok k)) c = like c.turned.3 refl refl refl
-  call-leaves m (calls.IntoPagable h) (replies.Handle (Err e)) c = like c.refused.1 refl refl refl
-  call-leaves m (calls.SetDataKey h key) (replies.Done r) c = key-set c
-  call-leaves m (calls.Count h) (replies.Count r) c = like c.1 refl refl refl
-  call-leaves m (calls.Key h) (replies.KeyFound r) c = like c.1 refl refl refl
-  call-leaves m (calls.IsPagedOut h) (replies.Away r) c = like c.1 refl refl refl
-  call-leaves m (calls.NodeOf h) (replies.Node r) c = like c.1 refl refl refl
-  call-leaves m (calls.NodeLive n) (replies.NodeType t) c = like c.1 refl refl refl
-  call-leaves m (calls.ScheduleForPaging h) (replies.Done r) c = scheduled r c
-  call-leaves m calls.Pending (replies.Length n) c = like c.1 refl refl refl
-  call-leaves m (calls.TakePending i) (replies.Taken h) c = took i h c
-  call-leaves m (calls.CacheGet kind key) (replies.FromCache r) c = recalled r c
-  call-leaves m (calls.OnArcDeserialized kind key h) (replies.FromCache r) c = offered r c
-  call-leaves m calls.CacheClear (replies.Done r) c = like c.leaves refl refl refl
-  call-leaves m (calls.Fetch key) (replies.Fetched r) c = like c.asked.leaves refl refl refl
-  call-leaves m (calls.Store b) (replies.Stored r) c = stored r c
-  call-leaves m calls.Flush (replies.Done r) c = like c.asked.leaves refl refl refl
-  call-leaves m (calls.LoadBegin h) (replies.Begun r) c = begun r c
-  call-leaves m (calls.LoadKey key) (replies.Begun r) c = key-begun r c
-  call-leaves m (calls.LoadFetch l want) (replies.LoadFound r) c = asked want _ c
-  call-leaves m (calls.LoadAdopt l kind key x) (replies.Made r) c = was-adopted r c
-  call-leaves m (calls.LoadLazy l kind key) (replies.Handle r) c = lazily r c
-  call-leaves m (calls.LoadEnd l x) (replies.LoadEnded r) c = ended r c
-  call-leaves m (calls.LoadTake l hs) (replies.Done r) c = handed r c
-  call-leaves m (calls.LoadDrop l) (replies.Done r) c = elim c.does [ inl refused ↦ like refused.stays refl refl refl | inr (load, owns, f) ↦ fell (shut (same w) l (owned-mine owns)) f ]
-  call-leaves m (calls.Reserve n) (replies.Done r) c = like c.stays refl refl refl
-  call-leaves m calls.Room (replies.Length n) c = like c.1 refl refl refl
-  call-leaves m calls.Close (replies.Done r) c = falls c.falls.falls refl refl refl
+  call-leaves m (Call.NewPinned x) (Reply.Made r) c = born r c
+  call-leaves m (Call.NewLoose x) (Reply.Made r) c = born r c
+  call-leaves m (Call.NewShared x) (Reply.Made r) c = born r c
+  call-leaves m (Call.NewPagedOut t key) (Reply.Handle r) c = born-away r c
+  call-leaves m (Call.Clone h) (Reply.Handle (Ok k)) c = like c.made.3 refl refl refl
+  call-leaves m (Call.Clone h) (Reply.Handle (Err e)) c = like c.refused.stays refl refl refl
+  call-leaves m (Call.Pin h) (Reply.Pin r) c = pinned r c
+  call-leaves m (Call.Unpin h) (Reply.Done r) c = unpinned c
+  call-leaves m (Call.Release h) (Reply.Done r) c = released c
+  call-leaves m (Call.IntoPagable h) (Reply.Handle (Ok k)) c = like c.turned.3 refl refl refl
+  call-leaves m (Call.IntoPagable h) (Reply.Handle (Err e)) c = like c.refused.1 refl refl refl
+  call-leaves m (Call.SetDataKey h key) (Reply.Done r) c = key-set c
+  call-leaves m (Call.Count h) (Reply.Count r) c = like c.1 refl refl refl
+  call-leaves m (Call.Key h) (Reply.KeyFound r) c = like c.1 refl refl refl
+  call-leaves m (Call.IsPagedOut h) (Reply.Away r) c = like c.1 refl refl refl
+  call-leaves m (Call.NodeOf h) (Reply.Node r) c = like c.1 refl refl refl
+  call-leaves m (Call.NodeLive n) (Reply.NodeType t) c = like c.1 refl refl refl
+  call-leaves m (Call.ScheduleForPaging h) (Reply.Done r) c = scheduled r c
+  call-leaves m Call.Pending (Reply.Length n) c = like c.1 refl refl refl
+  call-leaves m (Call.TakePending i) (Reply.Taken h) c = took i h c
+  call-leaves m (Call.CacheGet kind key) (Reply.FromCache r) c = recalled r c
+  call-leaves m (Call.OnArcDeserialized kind key h) (Reply.FromCache r) c = offered r c
+  call-leaves m Call.CacheClear (Reply.Done r) c = like c.leaves refl refl refl
+  call-leaves m (Call.Fetch key) (Reply.Fetched r) c = like c.asked.leaves refl refl refl
+  call-leaves m (Call.Store b) (Reply.Stored r) c = stored r c
+  call-leaves m Call.Flush (Reply.Done r) c = like c.asked.leaves refl refl refl
+  call-leaves m (Call.LoadBegin h) (Reply.Begun r) c = begun r c
+  call-leaves m (Call.LoadKey key) (Reply.Begun r) c = key-begun r c
+  call-leaves m (Call.LoadFetch l want) (Reply.LoadFound r) c = asked want _ c
+  call-leaves m (Call.LoadAdopt l kind key x) (Reply.Made r) c = was-adopted r c
+  call-leaves m (Call.LoadLazy l kind key) (Reply.Handle r) c = lazily r c
+  call-leaves m (Call.LoadEnd l x) (Reply.LoadEnded r) c = ended r c
+  call-leaves m (Call.LoadTake l hs) (Reply.Done r) c = handed r c
+  call-leaves m (Call.LoadDrop l) (Reply.Done r) c = elim c.does [ inl refused ↦ like refused.stays refl refl refl | inr (load, owns, f) ↦ fell (shut (same w) l (owned-mine owns)) f ]
+  call-leaves m (Call.Reserve n) (Reply.Done r) c = like c.stays refl refl refl
+  call-leaves m Call.Room (Reply.Length n) c = like c.1 refl refl refl
+  call-leaves m Call.Close (Reply.Done r) c = falls c.falls.falls refl refl refl
   call-leaves m call reply c = absurd c
 
   -- a step that is refused, up to its refusal
   met : {N : Type 0} (v : Values N) (reading : Reading) (e : Error) → Meets v w me reading e w' → Leaves me w.workers w w'
   met v reading e (inl (why, a)) = like a refl refl refl
-  met v reading e (inr (inl (first, c))) = asked wants.Root (Err e) c
-  met v reading e (inr (inr (inl (kind, key, need, inl c)))) = asked (wants.Nested kind key) (Err e) c
-  met v reading e (inr (inr (inl (kind, key, need, inr (blob, is, long, c))))) = asked (wants.Nested kind key) (Ok (from_store blob)) c
+  met v reading e (inr (inl (first, c))) = asked Want.Root (Err e) c
+  met v reading e (inr (inr (inl (kind, key, need, inl c)))) = asked (Want.Nested kind key) (Err e) c
+  met v reading e (inr (inr (inl (kind, key, need, inr (blob, is, long, c))))) = asked (Want.Nested kind key) (Ok (from_store blob)) c
   met v reading e (inr (inr (inr (inl (kind, key, need, c))))) = lazily (Err e) c
   met v reading e (inr (inr (inr (inr (inl r))))) = was-adopted (Err (e, r.x)) r.adopted
   met v reading e (inr (inr (inr (inr (inr r))))) = elim r.refuses [ inl (is, c) ↦ ended (Err (e, Some r.x)) c | inr (is, c) ↦ handed (Err e) c ]
 
 module _ (w w' : Core) (me : Owner) {N : Type 0} (v : Values N) (reading : Reading) (mine : IsMine w me reading.load) where
   went-on : (frames : List Frame) → GoesOn v w me reading frames w' → Leaves me w.workers w w'
-  went-on frames (inl g) = asked w w' me wants.Root (Ok (from_store g.blob)) g.asked
-  went-on frames (inr (inl g)) = asked w w' me (wants.Nested g.kind g.key) (Ok (from_cache g.k)) g.asked
-  went-on frames (inr (inr (inl g))) = asked w w' me (wants.Nested g.kind g.key) (Ok (from_store g.blob)) g.asked
+  went-on frames (inl g) = asked w w' me Want.Root (Ok (from_store g.blob)) g.asked
+  went-on frames (inr (inl g)) = asked w w' me (Want.Nested g.kind g.key) (Ok (from_cache g.k)) g.asked
+  went-on frames (inr (inr (inl g))) = asked w w' me (Want.Nested g.kind g.key) (Ok (from_store g.blob)) g.asked
   went-on frames (inr (inr (inr (inl g)))) = lazily w w' me (Ok g.k) g.asked
   went-on frames (inr (inr (inr (inr g)))) = was-adopted w w' me (Ok g.k) g.adopted
 
   -- a load's step
   pub step-leaves : (answer : Option (LoadAnswer N)) (frames : List Frame) → ReadingDoes v w me reading answer frames w' → Leaves me w.workers w w'
   step-leaves None frames d = went-on frames d.does
-  step-leaves (Some (ends.Pinned k)) frames d = ended w w' me (Ok k) d.does.0.ended
-  step-leaves (Some (ends.Read x)) frames d = handed w w' me (Ok tt) d.does.0.handed
-  step-leaves (Some (ends.Refused e)) frames d = first_of (grind (arith, common_steps, nat_tests), search (rules))
+  step-leaves (Some (LoadAnswer.Pinned k)) frames d = ended w w' me (Ok k) d.does.0.ended
+  step-leaves (Some (LoadAnswer.Read x)) frames d = handed w w' me (Ok tt) d.does.0.handed
+  step-leaves (Some (LoadAnswer.Refused e)) frames d = first_of (grind (arith, common_steps, nat_tests), search (rules))

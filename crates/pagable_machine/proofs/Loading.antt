@@ -5,18 +5,13 @@ use Rattle.pagable_machine.proofs.Words.{Root, of_cell, of_key, Seen, one_more, 
 use Rattle.pagable_machine.proofs.Words.{reading_of_root, step_fault, FitsRoot, Moves, PagerState, WellFormed, world_of, ReadingStep, same_some, IsLoadOf, is_cell, reading_of, type_of_root, Ghosts}
 use Rattle.pagable_machine.proofs.{Words.{Holding, IsKept, IsSameLoad, IsServing, IsTaken, KeepsOne, Kept, Makes, ReadsFor, Stepped, machine_of, readings_in, rest_after}, Keeping.KeepsAll}
 use Rattle.pagable_machine.proofs.{Keeping.{are-these, as-before, at-one, kept-on, one-or-old, quiet, refuses, same-work, stays}, Leaving.{IsMine, owned-mine, step-leaves}}
-use Rattle.pagable_loads.specs.declared.reading.Reading.{Reading as Own}
-use Rattle.pagable_model.specs.declared.error.Error.TheVariants as errors
-use Rattle.pagable_world.specs.declared.handles.Owner.TheVariants as owners
-use Rattle.pagable_world.specs.declared.events.LoadAnswer.TheVariants as ends
-use Rattle.pagable_world.specs.declared.events.Event.TheVariants as events
-use Rattle.pagable_world.specs.declared.events.EventReply.TheVariants as answers
+use Rattle.{pagable_world.specs.declared.{events.{EventReply.EventReply, Event.Event}, handles.Owner.Owner}, pagable_loads.specs.declared.reading.Reading.Reading as Own}
 
 fits : (root : Root) (a b : Reading) → b.node_type ≡ a.node_type → FitsRoot root a → FitsRoot root b
 fits (of_cell node t h) a b same fit = same ∙ fit
 fits of_key a b same fit = tt
 
-module _ {X : Type 0} {g : Ghosts X} {N E : Type 0} (s : PagerState N E) (h : Holding g) (l : LoadNumber) (load : OpenLoad) (o : OwnsLoad s.core owners.Caller l load) where
+module _ {X : Type 0} {g : Ghosts X} {N E : Type 0} (s : PagerState N E) (h : Holding g) (l : LoadNumber) (load : OpenLoad) (o : OwnsLoad s.core Owner.Caller l load) where
   at-found : (own : Option Own) → h.readings l.0 ≡ own → reading_at (world_of (machine_of s h)) l ≡ or_else (option_map reading_of own) (reading_of_root l load.root)
   at-found own is = first_of (grind (arith, common_steps, nat_tests), search (rules))
 
@@ -30,7 +25,7 @@ module _ {X : Type 0} {g : Ghosts X} {N E : Type 0} (s : PagerState N E) (h : Ho
   at-first own t none root is = at-found None none ∙ root ∙ ap Some (sym is)
 
   -- one of a key that a call began
-  pub never : h.readings l.0 ≡ None → reading_of_root l load.root ≡ None → step_fault (world_of (machine_of s h)) l ≡ Some errors.WrongMode
+  pub never : h.readings l.0 ≡ None → reading_of_root l load.root ≡ None → step_fault (world_of (machine_of s h)) l ≡ Some Error.WrongMode
   never none root = first_of (grind (arith, common_steps, nat_tests), grind (arith, nat_tests, at-found), search (rules, at-found))
 
 -- the same load reads for the same
@@ -40,7 +35,7 @@ still-reads {load} {own} {now} reads e =
 
 module _ {X : Type 0} {g : Ghosts X} {N E : Type 0} (s : PagerState N E) {h : Holding g} (serving : IsServing s.core h) where
   -- what is taken is of the load
-  reads-taken : (l : LoadNumber) (load : OpenLoad) (key : ℕ) (t : Option ℕ) (own : Own) → OwnsLoad s.core owners.Caller l load → load.key ≡ key → type_of_root load.root ≡ t
+  reads-taken : (l : LoadNumber) (load : OpenLoad) (key : ℕ) (t : Option ℕ) (own : Own) → OwnsLoad s.core Owner.Caller l load → load.key ≡ key → type_of_root load.root ≡ t
       → IsTaken h.readings l key t own
       → (own.load ≡ l) × ReadsFor load own × (reading_at (world_of (machine_of s h)) l ≡ Some (reading_of own))
   reads-taken l load key t own o key_is root taken = elim taken.why [
@@ -59,9 +54,9 @@ module _ {X : Type 0} {g : Ghosts X} {N E : Type 0} (s : PagerState N E) {h : Ho
       of_root of_key type is = absurd (cc)
 
 -- a load of a key that a call began
-pub never-typed : {X : Type 0} {g : Ghosts X} {N E : Type 0} (s : PagerState N E) (h : Holding g) (l : LoadNumber) (load : OpenLoad) → OwnsLoad s.core owners.Caller l load → h.readings l.0 ≡ None
+pub never-typed : {X : Type 0} {g : Ghosts X} {N E : Type 0} (s : PagerState N E) (h : Holding g) (l : LoadNumber) (load : OpenLoad) → OwnsLoad s.core Owner.Caller l load → h.readings l.0 ≡ None
     → type_of_root load.root ≡ None
-    → step_fault (world_of (machine_of s h)) l ≡ Some errors.WrongMode
+    → step_fault (world_of (machine_of s h)) l ≡ Some Error.WrongMode
 never-typed s h l load o none untyped = first_of (grind (arith, common_steps, nat_tests), search (rules))
 
 module _ {X : Type 0} {g : Ghosts X} {N B W E : Type 0} (m : Seen N B W) (s s' : PagerState N E) (h : Holding g) (kept' : Kept) (serving : IsServing s.core h) (was : WellFormed m.values s) where
@@ -69,12 +64,12 @@ module _ {X : Type 0} {g : Ghosts X} {N B W E : Type 0} (m : Seen N B W) (s s' :
   left = record h { readings = kept' }
 
   steps : (l : LoadNumber) (load : OpenLoad) (reading : Reading) (x : Option Own) (reply : LoadReply N) (frames : List Frame)
-      → OwnsLoad s.core owners.Caller l load → reading_at (world_of (machine_of s h)) l ≡ Some reading → ReadingStep m.values owners.Caller reading s reply.ended frames s'
-      → reply.steps ≡ one_more reading.steps → IsMine s.core owners.Caller reading.load
+      → OwnsLoad s.core Owner.Caller l load → reading_at (world_of (machine_of s h)) l ≡ Some reading → ReadingStep m.values Owner.Caller reading s reply.ended frames s'
+      → reply.steps ≡ one_more reading.steps → IsMine s.core Owner.Caller reading.load
       → KeepsOne h.readings l.0 x kept' → option_map reading_of x ≡ reading_after reply.ended reading frames → ((now : Own) → x ≡ Some now → (now.load ≡ l) × ReadsFor load now)
-      → Makes m s h (events.LoadStep l) (answers.LoadMoved (Ok reply)) s' left
+      → Makes m s h (Event.LoadStep l) (EventReply.LoadMoved (Ok reply)) s' left
   steps l load reading x reply frames o at step counts mine keeps goes again =
-      let on = step-leaves s.core s'.core owners.Caller m.values reading mine reply.ended frames step.does in
+      let on = step-leaves s.core s'.core Owner.Caller m.values reading mine reply.ended frames step.does in
       let given = (was.whole.loads.numbered l.0 (ap is_some o.stands_open)).1 in
       let more = on.last in
       let new : (now : Own) → x ≡ Some now → IsKept s'.core l.0 now =
@@ -88,7 +83,7 @@ module _ {X : Type 0} {g : Ghosts X} {N B W E : Type 0} (m : Seen N B W) (s s' :
         ];
       }
       in
-      quiet m s s' h kept' serving was step.whole on (events.LoadStep l) (answers.LoadMoved (Ok reply)) (λ v. refl)
+      quiet m s s' h kept' serving was step.whole on (Event.LoadStep l) (EventReply.LoadMoved (Ok reply)) (λ v. refl)
       (record {
         moves = record {
           reading = reading;
@@ -113,13 +108,13 @@ module _ {X : Type 0} {g : Ghosts X} {N B W E : Type 0} (m : Seen N B W) (s s' :
 
   -- a load that is taken makes a step
   pub own-steps : (l : LoadNumber) (load : OpenLoad) (key : ℕ) (t : Option ℕ) (own new : Own) (reply : LoadReply N)
-      → OwnsLoad s.core owners.Caller l load → load.key ≡ key → type_of_root load.root ≡ t → IsTaken h.readings l key t own
-      → Stepped m.values owners.Caller own reply new s s' → IsSameLoad own new → reply.steps ≡ one_more own.steps → new.steps ≡ one_more own.steps
+      → OwnsLoad s.core Owner.Caller l load → load.key ≡ key → type_of_root load.root ≡ t → IsTaken h.readings l key t own
+      → Stepped m.values Owner.Caller own reply new s s' → IsSameLoad own new → reply.steps ≡ one_more own.steps → new.steps ≡ one_more own.steps
       → KeepsOne h.readings l.0 (rest_after reply.ended (Some new)) kept'
-      → Makes m s h (events.LoadStep l) (answers.LoadMoved (Ok reply)) s' left
+      → Makes m s h (Event.LoadStep l) (EventReply.LoadMoved (Ok reply)) s' left
   own-steps l load key t own new reply o key_is root taken stepped again counts counted keeps =
       let r = reads-taken s serving l load key t own o key_is root taken in
-      let of : IsLoadOf s.core owners.Caller own = record { load = load; owned = subst (λ n. OwnsLoad s.core owners.Caller n load) (sym r.0) o; key = r.1.key; sort = r.1.sort } in
+      let of : IsLoadOf s.core Owner.Caller own = record { load = load; owned = subst (λ n. OwnsLoad s.core Owner.Caller n load) (sym r.0) o; key = r.1.key; sort = r.1.sort } in
       steps l load (reading_of own) (rest_after reply.ended (Some new)) reply (reading_of new).frames o r.2 (stepped.does of) counts (owned-mine of.owned) keeps (goes-on reply.ended) (λ now is.
       let e = only reply.ended now is in
       (ap (λ (x : Own). x.load) (sym e) ∙ again.load ∙ r.0, subst (λ x. ReadsFor load x) e (still-reads r.1 again)))
@@ -142,12 +137,12 @@ module _ {X : Type 0} {g : Ghosts X} {N B W E : Type 0} (m : Seen N B W) (s s' :
       only (Some answer) now is = absurd (cc)
 
   -- a load that has no place is given up
-  pub no-place : (l : LoadNumber) (load : OpenLoad) (type : ℕ) (told : Result (Unit {0}) Error) → OwnsLoad s.core owners.Caller l load → type_of_root load.root ≡ Some type → h.readings l.0 ≡ None
-      → DropCall s.core owners.Caller l told s'.core
+  pub no-place : (l : LoadNumber) (load : OpenLoad) (type : ℕ) (told : Result (Unit {0}) Error) → OwnsLoad s.core Owner.Caller l load → type_of_root load.root ≡ Some type → h.readings l.0 ≡ None
+      → DropCall s.core Owner.Caller l told s'.core
       → Moves (λ n x. ⊥) s s' → WellFormed m.values s' → ((q : ℕ) → kept' q ≡ h.readings q)
-      → Makes m s h (events.LoadStep l) (answers.LoadMoved (Ok (record { ended = Some (ends.Refused errors.OutOfMemory); steps = 1 }))) s' left
+      → Makes m s h (Event.LoadStep l) (EventReply.LoadMoved (Ok (record { ended = Some (LoadAnswer.Refused Error.OutOfMemory); steps = 1 }))) s' left
   no-place l load type told o root none drop moves formed as_was =
-      steps l load (fresh l type) None (record { ended = Some (ends.Refused errors.OutOfMemory); steps = 1 }) [] o (at-found s h l load o None none ∙ root-is load.root root)
+      steps l load (fresh l type) None (record { ended = Some (LoadAnswer.Refused Error.OutOfMemory); steps = 1 }) [] o (at-found s h l load o None none ∙ root-is load.root root)
       (record {
         does = record { does = (inl (record { mid = s.core; meets = inl (inr (inr refl), still s.core); told = told; closes = closes }), refl) };
         moves = record { each = λ n x is. elim (moves.each n x is) [ inl there ↦ inl there | inr came ↦ absurd came.1 ]; environment = moves.environment };
@@ -163,21 +158,21 @@ module _ {X : Type 0} {g : Ghosts X} {N B W E : Type 0} (m : Seen N B W) (s s' :
 
 -- a load that can't be looked at can't step
 fault-first : (found : Option OpenLoad) (b : Bool) (e : Error)
-    → if_there (λ (load : OpenLoad). refused_if (not (is_owner owners.Caller load.owner)) errors.NotYours) (Some errors.NoSuchHandle) found ≡ Some e
-    → earlier (if_there (λ (load : OpenLoad). refused_if (not (is_owner owners.Caller load.owner)) errors.NotYours) (Some errors.NoSuchHandle) found) (refused_if b errors.WrongMode) ≡ Some e
+    → if_there (λ (load : OpenLoad). refused_if (not (is_owner Owner.Caller load.owner)) Error.NotYours) (Some Error.NoSuchHandle) found ≡ Some e
+    → earlier (if_there (λ (load : OpenLoad). refused_if (not (is_owner Owner.Caller load.owner)) Error.NotYours) (Some Error.NoSuchHandle) found) (refused_if b Error.WrongMode) ≡ Some e
 fault-first None true e is = is
 fault-first None false e is = is
 fault-first (Some load) b e is = first_of (grind (arith, common_steps, nat_tests), search (rules))
 
-pub faulty : {X : Type 0} {g : Ghosts X} {N E : Type 0} (s : PagerState N E) (h : Holding g) (l : LoadNumber) (e : Error) → load_fault s.core owners.Caller l ≡ Some e
+pub faulty : {X : Type 0} {g : Ghosts X} {N E : Type 0} (s : PagerState N E) (h : Holding g) (l : LoadNumber) (e : Error) → load_fault s.core Owner.Caller l ≡ Some e
     → step_fault (world_of (machine_of s h)) l ≡ Some e
 faulty s h l e is = fault-first (s.core.loads l.0) (is_none (reading_at (world_of (machine_of s h)) l)) e is
 
 -- a load's step is refused
 pub refuses-step : {X : Type 0} {g : Ghosts X} {N B W E : Type 0} (m : Seen N B W) (s : PagerState N E) (h : Holding g) {kept' : Kept} → IsServing s.core h → WellFormed m.values s
     → (l : LoadNumber) (e : Error)
-    → ((q : ℕ) → kept' q ≡ h.readings q) → step_fault (world_of (machine_of s h)) l ≡ Some e → Makes m s h (events.LoadStep l) (answers.LoadMoved (Err e)) s (record h { readings = kept' })
+    → ((q : ℕ) → kept' q ≡ h.readings q) → step_fault (world_of (machine_of s h)) l ≡ Some e → Makes m s h (Event.LoadStep l) (EventReply.LoadMoved (Err e)) s (record h { readings = kept' })
 refuses-step m s h {kept'} serving was l e as_was why =
     let keeps : KeepsAll h (record h { readings = kept' }) = record { readings = as_was; tables = refl; walks = λ v. refl } in
-    refuses m s s serving was was (still s.core) keeps (events.LoadStep l) (answers.LoadMoved (Err e)) (λ v. refl)
+    refuses m s s serving was was (still s.core) keeps (Event.LoadStep l) (EventReply.LoadMoved (Err e)) (λ v. refl)
     (record { moves = tt; refused = (why, stays m s s serving was was (still s.core) keeps) }) (record { each = λ n x is. inl is; environment = refl }) tt

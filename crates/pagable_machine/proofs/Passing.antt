@@ -1,13 +1,8 @@
 -- What an event leaves to a worker that doesn't make it: its handles and its open loads, and that what a handle stands for goes on to be so.
-use Rattle.pagable_machine.proofs.Words.{◌≡◌, ℕ, ◌<◌, ◌≤◌, ◌&&◌, Bool, true, false, [], Some, inl, inr, refl, sym, ap, ◌∙◌, arith, Result, nat_lt, and_parts, nat_tests, Event, EventReply}
-use Rattle.pagable_machine.proofs.Words.{HandleRow, one, is_handle, is_owned_by, is_owner, owner_worker, Cell, Core, OpenLoad, Seen, World, CloseCall, is_listed, shut, Happens, step_of, IsWhole}
-use Rattle.pagable_machine.proofs.Words.{OwnersAreThere, Change, nothing_felt, event-goes, Goes, RowsGo, fell-anyhow, quiet-goes, Stands, Free, Spares, then-fell, event-spares, counted, one-true}
-use Rattle.pagable_machine.proofs.Words.{same-number, worker-apart}
-use Rattle.pagable_world.specs.declared.calls.Call.TheVariants as calls
-use Rattle.pagable_world.specs.declared.calls.Reply.TheVariants as replies
-use Rattle.pagable_world.specs.declared.events.Event.TheVariants as events
-use Rattle.pagable_world.specs.declared.events.EventReply.TheVariants as answers
-use Rattle.pagable_world.specs.declared.handles.Owner.TheVariants as owners
+use Rattle.pagable_machine.proofs.Words.{◌≡◌, ℕ, ◌<◌, ◌≤◌, ◌&&◌, Bool, true, false, [], Some, inl, inr, refl, sym, ap, ◌∙◌, arith, Result, nat_lt, and_parts, nat_tests, Event, EventReply, HandleRow}
+use Rattle.pagable_machine.proofs.Words.{one, is_handle, is_owned_by, is_owner, owner_worker, Cell, Core, OpenLoad, Seen, World, CloseCall, is_listed, shut, Happens, step_of, IsWhole, OwnersAreThere}
+use Rattle.pagable_machine.proofs.Words.{Change, nothing_felt, event-goes, Goes, RowsGo, fell-anyhow, quiet-goes, Stands, Free, Spares, then-fell, event-spares, counted, one-true, same-number}
+use Rattle.{pagable_machine.proofs.Words.worker-apart, pagable_world.specs.declared.{handles.Owner.Owner, calls.{Reply.Reply, Call.Call}}}
 
 -- the worker's handles and open loads are as they were, and handles and nodes that are there stay what they are
 pub record Passes (v : ℕ) (w w' : Core) : Type 0 where
@@ -43,10 +38,10 @@ list-free v w there = record { each = λ q row own s. by q row own s (is_listed 
     by : (q : ℕ) (row : HandleRow) → row.owner ≡ owner_worker v → Stands w.last.handle w.rows q row → (b : Bool) → is_listed w q ≡ b → is_listed w q ≡ false
     by q row own s false e = e
     by q row own s true e =
-        let owned = counted (λ (x : HandleRow). one (is_handle q x && is_owned_by owners.List x)) w.rows (above _ _ e (there.listed q)) in
-        let both = and_parts (is_handle q owned.0) (is_owned_by owners.List owned.0) (one-true _ owned.2) in
+        let owned = counted (λ (x : HandleRow). one (is_handle q x && is_owned_by Owner.List x)) w.rows (above _ _ e (there.listed q)) in
+        let both = and_parts (is_handle q owned.0) (is_owned_by Owner.List owned.0) (one-true _ owned.2) in
         let it = s.only owned.0 owned.1 (same-number _ _ both.0) in
-        let f : is_owner owners.List (owner_worker v) ≡ true = sym (ap (λ (x : HandleRow). is_owner owners.List x.owner) it ∙ ap (is_owner owners.List) own) ∙ both.1 in
+        let f : is_owner Owner.List (owner_worker v) ≡ true = sym (ap (λ (x : HandleRow). is_owner Owner.List x.owner) it ∙ ap (is_owner Owner.List) own) ∙ both.1 in
         absurd (cc)
 
 -- the storage is closed
@@ -60,8 +55,7 @@ close-passes v w w' there c loads =
 pub event-passes : {N B W : Type 0} (m : Seen N B W) (v : ℕ) (u u' : World) → IsWhole u.core → (event : Event N B W) (reply : EventReply N B W) → step_of v event reply ≡ []
     → Happens m u event reply u'
     → LoadsStay v u.core u'.core → Passes v u.core u'.core
-event-passes m v u u' whole (events.Call calls.Close) (answers.CallReply (replies.Done r)) others h loads = close-passes v u.core u'.core whole.owners_there h.step.does loads
-event-passes m v u u' whole (events.Call calls.Close) (answers.CallReply reply) others h loads = absurd h.step.does
-event-passes m v u u' whole (events.Call calls.Close) reply others h loads = absurd h
-event-passes m v u u' whole event reply others h loads =
-    by-goes v u.core u'.core (event-goes m u u' event reply tt h).goes (event-spares m v u u' whole.owners_there event reply others tt h) loads
+event-passes m v u u' whole (Event.Call Call.Close) (EventReply.CallReply (Reply.Done r)) others h loads = close-passes v u.core u'.core whole.owners_there h.step.does loads
+event-passes m v u u' whole (Event.Call Call.Close) (EventReply.CallReply reply) others h loads = absurd h.step.does
+event-passes m v u u' whole (Event.Call Call.Close) reply others h loads = absurd h
+event-passes m v u u' whole event reply others h loads = by-goes v u.core u'.core (event-goes m u u' event reply tt h).goes (event-spares m v u u' whole.owners_there event reply others tt h) loads

@@ -1,8 +1,7 @@
 -- A run goes on by one event more, and the headline holds of it after whatever came before.
 use Rattle.pagable_machine.proofs.Words.{◌≡◌, List, [], ◌∷◌, ◌++◌, length, map, refl, ap, sym, ◌∙◌, subst, append-nil, append_assoc, map-append, Event, EventReply, Seen, MachineState, Moment}
 use Rattle.pagable_machine.proofs.Words.{AreMoments, HasRun, state_after, headline_law, Telling, Spelling, values_of, Ghosts, plain, plain_answer, plain_event, Answer, Drives, Given, IsInStep}
-use Rattle.pagable_machine.proofs.{Seeing.raw_in, Seeing.view-is, Words.MachineView, Words.Over, Words.Runs, Words.machine_in, Words.view_of}
-use Rattle.pagable_world.specs.Runs.{Does}
+use Rattle.{pagable_machine.proofs.{Words.{MachineView, Over, Runs, machine_in, view_of}, Seeing.{raw_in, view-is}}, pagable_world.specs.Runs.Does}
 
 module _ {N E B W : Type 0} (m : Seen N B W) where
   joins : (s : MachineState N E) (xs ys : List (Moment N E B W)) → AreMoments m s xs → AreMoments m (state_after s xs) ys → AreMoments m s (xs ++ ys)

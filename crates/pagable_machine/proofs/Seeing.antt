@@ -32,6 +32,5 @@ module _ {X : Type 0} {g : Ghosts X} where
         with-work shelves last walkings =
             record {
               pager = state_in tells s.pager;
-              work =
-                  record { shelves = shelves; last_table = last; readings = readings_in (kept_at s.held.readings) (core_in tells s.pager); walkings = walkings };
+              work = record { shelves = shelves; last_table = last; readings = readings_in (kept_at s.held.readings) (core_in tells s.pager); walkings = walkings };
             }

@@ -6,30 +6,26 @@ use Rattle.pagable_machine.proofs.Words.{no_shelf, steps_after, PagerState, Todo
 use Rattle.pagable_machine.proofs.Words.{TaskFits, answer_in, plain, plain_took, plan, Walk, Holding, IsServing, KeepsOne, Makes, machine_of, readings_in, plain_moved, IsWalkKept, SetsTable, WalksOn}
 use Rattle.pagable_machine.proofs.{Words.{shelf_at, task_in, todo_left, walking_of}, Keeping.{are-these, as-before, at-one, kept-on, makes-with, not-same, one-serves, updated-at}, Leaving.Leaves}
 use Rattle.pagable_machine.proofs.{Leaving.owned-mine, Passing.{Passes, event-passes}, Working.{FrontMine, end-leaves, walk-leaves, works_after}}
-use Rattle.pagable_walk.specs.Turns.{Stepped}
-use Rattle.pagable_world.specs.declared.events.Event.TheVariants as events
-use Rattle.pagable_world.specs.declared.events.EventReply.TheVariants as answers
-use Rattle.pagable_walk.specs.declared.tasks.Task.TheVariants as tasks
-use Rattle.pagable_walk.specs.declared.tasks.Turn.TheVariants as comes
+use Rattle.{pagable_world.specs.declared.events.{EventReply.EventReply, Event.Event}, pagable_walk.specs.Turns.Stepped}
 
 -- the load that it goes on with is its own
 front-mine : {X : Type 0} {g : Ghosts X} (n : ℕ) (w : Core) (task : Task X g) (below : List Todo) → TaskFits n w task → FrontMine w (owner_worker n) (todo_of task ∷ below)
-front-mine n w (tasks.Load r place through own) below (kind, loading) = owned-mine loading.is.owned
+front-mine n w (Task.Load r place through own) below (kind, loading) = owned-mine loading.is.owned
 front-mine n w task below fits = tt
 
 module _ {X : Type 0} {g : Ghosts X} where
   -- what is left to be done is the plan
   left-is : (turn : Turn X g) (path : List (Waiting X g)) → todo_left (task_in turn) path ≡ plan turn path
-  left-is (comes.Goes task) path = refl
-  left-is (comes.Answers answer) path = refl
+  left-is (Turn.Goes task) path = refl
+  left-is (Turn.Answers answer) path = refl
 
   either-is : (turn : Turn X g) → is_some (task_in turn) ≡ is_none (answer_in turn)
-  either-is (comes.Goes task) = refl
-  either-is (comes.Answers answer) = refl
+  either-is (Turn.Goes task) = refl
+  either-is (Turn.Answers answer) = refl
 
   fits-then : (n : ℕ) (w : Core) (turn : Turn X g) (task : Task X g) → LeavesFit n w turn → task_in turn ≡ Some task → TaskFits n w task
-  fits-then n w (comes.Goes own) task fits is = let e : own ≡ task = cc in subst (λ x. TaskFits n w x) e fits
-  fits-then n w (comes.Answers answer) task fits is = absurd (cc)
+  fits-then n w (Turn.Goes own) task fits is = let e : own ≡ task = cc in subst (λ x. TaskFits n w x) e fits
+  fits-then n w (Turn.Answers answer) task fits is = absurd (cc)
 
   -- the shelf of a table that is set, and of the others
   shelf-set : (tables tables' : List (SlotTable X g)) (place : ℕ) (table : SlotTable X g) (after : Shelf) → SetsTable tables place table tables' → SameShelf after (shelf_of table) → (t : ℕ)
@@ -43,8 +39,8 @@ apart q n other = first_of (grind (arith, common_steps, nat_tests), grind (arith
 
 -- who is at work after its answer
 works-then : {X : Type 0} {g : Ghosts X} (turn : Turn X g) (n : ℕ) (works : ℕ → Bool) → works n ≡ true → works_after (answer_in turn) n works n ≡ is_none (answer_in turn)
-works-then (comes.Goes task) n works at_work = at_work
-works-then (comes.Answers answer) n works at_work = updated-at n false works
+works-then (Turn.Goes task) n works at_work = at_work
+works-then (Turn.Answers answer) n works at_work = updated-at n false works
 
 works-others : (answer : Option WorkerAnswer) (n q : ℕ) (works : ℕ → Bool) → (q == n) ≡ false → works_after answer n works q ≡ works q
 works-others None n q works other = refl
@@ -124,12 +120,12 @@ module _ {X : Type 0} {g : Ghosts X} {N E : Type 0} (v : Values N) (s s' : Pager
         };
       }
 
-  happens : Happens m (world_of (machine_of s h)) (events.WorkerStep n) (answers.WorkerMoved (Ok told)) (world_of (machine_of s' after))
+  happens : Happens m (world_of (machine_of s h)) (Event.WorkerStep n) (EventReply.WorkerMoved (Ok told)) (world_of (machine_of s' after))
   happens = record { moves = steps-so; refused = tt }
 
   passes : (q : ℕ) → q ≢ n.0 → Passes q s.core s'.core
   passes q other =
-      event-passes m q (world_of (machine_of s h)) (world_of (machine_of s' after)) was.whole (events.WorkerStep n) (answers.WorkerMoved (Ok told))
+      event-passes m q (world_of (machine_of s h)) (world_of (machine_of s' after)) was.whole (Event.WorkerStep n) (EventReply.WorkerMoved (Ok told))
       (ap (λ b. if b then step ∷ [] else []) (apart n.0 q (λ is. other (sym is)))) happens
       (λ l load is own. leaves.others l load is (was.whole.loads.numbered l (ap is_some is)).1 (ap (is_owner (owner_worker n.0)) own ∙ apart q n.0 other))
 
@@ -139,9 +135,9 @@ module _ {X : Type 0} {g : Ghosts X} {N E : Type 0} (v : Values N) (s s' : Pager
   still : IsWalkKept s'.core (length tables') n.0 k'
   still = grind (arith, nat_tests, at-work, done, either-is, fits, fits-then, leaves, left-is, mine, works-then)
 
-  pub worker-moved : Makes m s h (events.WorkerStep n) (answers.WorkerMoved (Ok (plain_moved reply))) s' after
+  pub worker-moved : Makes m s h (Event.WorkerStep n) (EventReply.WorkerMoved (Ok (plain_moved reply))) s' after
   worker-moved =
-      rw on.replies (makes-with m s s' {h' = after} done.does.whole (events.WorkerStep n) (answers.WorkerMoved (Ok told)) happens
+      rw on.replies (makes-with m s s' {h' = after} done.does.whole (Event.WorkerStep n) (EventReply.WorkerMoved (Ok told)) happens
       (record {
         each = λ q x is. elim (done.does.moves.each q x is)
             [ inl there ↦ inl there | inr (none, came) ↦ inr (none, (walking_of k, ap (option_map walking_of) kept, subst (λ (list : List Todo). TodoBrings v s.core list q x) (sym todo-is) came)) ];

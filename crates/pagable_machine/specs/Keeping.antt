@@ -1,13 +1,10 @@
 -- What a machine keeps of loads, tables and workers, and when it is in step with its pager; and what one event does to both.
-use Rattle.std.specs.{Prelude.{ℕ, ◌≡◌, ◌≢◌, ◌≤◌, ◌⊎◌, true, List, length, Option, Some, None, is_some}, Option.option_map}
-use Rattle.pagable_model.specs.{declared.error.Error.Error, declared.numbers.LoadNumber.LoadNumber}
-use Rattle.pagable_world.specs.{World.{Core, OpenLoad, Reading, Seen, Values, Work, one_more}, declared.events.Event.Event, declared.events.EventReply.EventReply, Plain.if_there}
-use Rattle.pagable_world.specs.{declared.events.LoadAnswer.LoadAnswer, declared.events.LoadReply.LoadReply, declared.handles.Owner.Owner, Refusals.{Refused, spent}, Access.ReadingStep, Workers.fresh}
-use Rattle.pagable_world.specs.{Pager.{FitsRoot, MachineState, PagerState}, Runs.Does}
-use Rattle.pagable_walk.specs.{declared.results.Trees.Ghosts, declared.table.SlotTable.SlotTable}
-use Rattle.pagable_machine.specs.{declared.held.Walk.Walk, Walking.{IsWalkKept, shelf_at, walking_of}}
-use Rattle.pagable_loads.specs.{declared.reading.Reading.Reading as Own, Frames.IsLoadOf, Frames.is_cell, Frames.reading_of}
-use Rattle.pagable_world.specs.declared.handles.Owner.TheVariants as owners
+use Rattle.{std.specs.{Prelude.{ℕ, ◌≡◌, ◌≢◌, ◌≤◌, ◌⊎◌, true, List, length, Option, Some, None, is_some}, Option.option_map}, pagable_model.specs.declared.error.Error.Error}
+use Rattle.{pagable_model.specs.declared.numbers.LoadNumber.LoadNumber, pagable_world.specs.{World.{Core, OpenLoad, Reading, Seen, Values, Work, one_more}, declared.events.Event.Event}}
+use Rattle.pagable_world.specs.{declared.{events.{EventReply.EventReply, LoadAnswer.LoadAnswer, LoadReply.LoadReply}, handles.Owner.Owner}, Plain.if_there, Refusals.{Refused, spent}}
+use Rattle.{pagable_world.specs.{Access.ReadingStep, Workers.fresh, Pager.{FitsRoot, MachineState, PagerState}, Runs.Does}, pagable_walk.specs.declared.results.Trees.Ghosts}
+use Rattle.{pagable_walk.specs.declared.table.SlotTable.SlotTable, pagable_machine.specs.{declared.held.Walk.Walk, Walking.{IsWalkKept, shelf_at, walking_of}}}
+use Rattle.pagable_loads.specs.{declared.reading.Reading.Reading as Own, Frames.{IsLoadOf, is_cell, reading_of}}
 
 -- what is kept of loads, by their numbers
 abbrev pub Kept : Type 0
@@ -31,7 +28,7 @@ machine_of s h = record { pager = s; work = work_of h s.core }
 
 -- the caller's load, of this key and root
 pub record ReadsFor (load : OpenLoad) (own : Own) : Type 0 where
-  pub owned : load.owner ≡ owners.Caller
+  pub owned : load.owner ≡ Owner.Caller
   pub key : load.key ≡ own.key
   pub sort : is_cell load.root ≡ own.for_cell
   pub typed : FitsRoot load.root (reading_of own)

@@ -1,19 +1,15 @@
 -- What a machine keeps of tables and workers, as the plain world knows it.
 use Rattle.std.specs.{Prelude.{ℕ, ◌≡◌, ◌≢◌, ◌<◌, ◌≤◌, ◌∷◌, [], zero, suc, ◌&&◌, Bool, false, true, nat_le, nat_lt, List, length, Option, Some, None, is_none, is_some, slice_get}, Arc.arc_value}
-use Rattle.std.specs.{declared.alloc.Global.Global, declared.sync.Arc.Arc}
-use Rattle.pagable_core.specs.declared.context.writing.SerializedData.{SerializedData}
-use Rattle.pagable_world.specs.{declared.events.WorkerReply.WorkerReply, Plain.if_there, Kinds.owner_worker, Pager.PagerState, World.{Core, Shelf, Todo, Values, Walking, of_item, of_entry}}
-use Rattle.pagable_world.specs.{declared.events.TableNumber.TableNumber, Events.{new_walking, no_shelf, steps_after}}
-use Rattle.pagable_walk.specs.{Tasks.{IsPlain, IsWay, todo_of, todos}, declared.results.Trees.Ghosts, declared.table.SlotTable.SlotTable, declared.tasks.Moved.Moved, declared.tasks.Task.Task}
-use Rattle.pagable_walk.specs.{declared.tasks.Turn.Turn, declared.tasks.Waiting.Waiting, Slots.written_of, Table.shelf_of, Turns.{StepsTo, TaskFits, answer_in, plan}}
-use Rattle.pagable_machine.specs.{declared.held.Begun.Begun, declared.held.Walk.Walk}
+use Rattle.{std.specs.declared.{alloc.Global.Global, sync.Arc.Arc}, pagable_core.specs.declared.context.writing.SerializedData.SerializedData}
+use Rattle.pagable_world.specs.{declared.events.{WorkerReply.WorkerReply, TableNumber.TableNumber}, Plain.if_there, Kinds.owner_worker, Pager.PagerState, World.{Core, Shelf, Todo, Values, Walking}}
+use Rattle.{pagable_world.specs.{World.{of_item, of_entry}, Events.{new_walking, no_shelf, steps_after}}, pagable_walk.specs.{Tasks.{IsPlain, IsWay, todo_of, todos}, declared.results.Trees.Ghosts}}
+use Rattle.pagable_walk.specs.{declared.{table.SlotTable.SlotTable, tasks.{Moved.Moved, Task.Task, Turn.Turn, Waiting.Waiting}}, Slots.written_of, Table.shelf_of, Turns.{StepsTo, TaskFits, answer_in}}
+use Rattle.{pagable_walk.specs.Turns.plan, pagable_machine.specs.declared.held.{Begun.Begun, Walk.Walk}}
 use Rattle.pagable_world.specs.World as world
-use Rattle.pagable_walk.specs.declared.tasks.Turn.TheVariants as comes
-use Rattle.pagable_machine.specs.declared.held.Begun.TheVariants as beguns
 
 abbrev pub task_of : Begun → world.Task
-task_of (beguns.Item item) = of_item (written_of (arc_value item))
-task_of (beguns.Entry h i) = of_entry h i
+task_of (Begun.Item item) = of_item (written_of (arc_value item))
+task_of (Begun.Entry h i) = of_entry h i
 
 module _ {X : Type 0} {g : Ghosts X} where
   -- tables, the first of number 1
@@ -44,8 +40,8 @@ module _ {X : Type 0} {g : Ghosts X} where
     pub plain : (x : Task X g) → k.task ≡ Some x → IsPlain x
 
   abbrev pub task_in : Turn X g → Option (Task X g)
-  task_in (comes.Goes task) = Some task
-  task_in (comes.Answers answer) = None
+  task_in (Turn.Goes task) = Some task
+  task_in (Turn.Answers answer) = None
 
   -- the worker after a step
   pub record IsAfter (k : Walk X g) (moved : Moved X g) (k' : Walk X g) : Type 0 where

@@ -1,12 +1,7 @@
 //! Each call of the pager as the machine makes it: a step of the plain world, with a reply of the call's type.
 
-ghost use Rattle.std.specs.Prelude.{◌≡◌};
-ghost use Rattle.pagable_world.specs.{Events.given_of, World.seen_as};
-ghost use Rattle.pagable_loads.specs.Telling.{values_at};
-ghost use Rattle.pagable_pager.specs.View.{telling, given_as};
+ghost use Rattle.{std.specs.Prelude.◌≡◌, pagable_world.specs.{Events.given_of, World.seen_as}, pagable_loads.specs.Telling.values_at, pagable_pager.specs.View.{telling, given_as}};
 ghost use Rattle.pagable_machine.specs.Serving.{Serves, plain_blob};
-ghost use Rattle.pagable_world.specs.declared.calls.Call.TheVariants as calls;
-ghost use Rattle.pagable_world.specs.declared.calls.Reply.TheVariants as replies;
 
 use either::Either;
 use pagable_codec::{Env, NodeSet};
@@ -37,7 +32,7 @@ pub fn begin<E: Env, S: PagableStorage<E>>(
 ) -> Result<Beginning, Error>
 where
     E::Node: NodeSet<E>,
-    ensures { Serves (values_at E.Node.NodeSet E.Env E.Hash.KeyHash pager.old.environment) (telling S.stored S.is_closed S.failed) pager.old (calls.LoadBegin handle) (replies.Begun result) pager.new }
+    ensures { Serves (values_at E.Node.NodeSet E.Env E.Hash.KeyHash pager.old.environment) (telling S.stored S.is_closed S.failed) pager.old (Call.LoadBegin handle) (Reply.Begun result) pager.new }
 {
     pager.load_begin(handle)
 }
@@ -49,7 +44,7 @@ pub fn begin_key<E: Env, S: PagableStorage<E>>(
 ) -> Result<Beginning, Error>
 where
     E::Node: NodeSet<E>,
-    ensures { Serves (values_at E.Node.NodeSet E.Env E.Hash.KeyHash pager.old.environment) (telling S.stored S.is_closed S.failed) pager.old (calls.LoadKey key) (replies.Begun result) pager.new }
+    ensures { Serves (values_at E.Node.NodeSet E.Env E.Hash.KeyHash pager.old.environment) (telling S.stored S.is_closed S.failed) pager.old (Call.LoadKey key) (Reply.Begun result) pager.new }
 {
     pager.load_key(key)
 }

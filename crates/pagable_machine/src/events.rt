@@ -1,20 +1,12 @@
 //! Each event of the machine: a step of the plain world that leaves the machine whole.
 
-ghost use Rattle.std.specs.{Prelude.◌≡◌, Prelude.◌⊎◌, Prelude.◌<◌, Prelude.ℕ, Prelude.Ok, Prelude.Err, Prelude.IfErr, Prelude.IfSome, Prelude.IfNone, Prelude.OnOk, HashMap.spare};
-ghost use Rattle.pagable_model.specs.declared.error.Error.{Error};
-ghost use Rattle.pagable_loads.specs.Telling.{values_at};
-ghost use Rattle.pagable_pager.specs.View.{core_in, telling};
-ghost use Rattle.pagable_machine.specs.{Keeping.BeginsNoKey, Keeping.Forgets, Driving.Drives, Driving.IsInStep, Driving.kept_at, Driving.over};
-ghost use Rattle.pagable_world.specs.declared.answers.Beginning.TheVariants as beginnings;
-ghost use Rattle.pagable_world.specs.declared.events.Event.TheVariants as events;
-ghost use Rattle.pagable_world.specs.declared.events.EventReply.TheVariants as answers;
+ghost use Rattle.{std.specs.{Prelude.{◌≡◌, ◌⊎◌, ◌<◌, ℕ, Ok, Err, IfErr, IfSome, IfNone, OnOk}, HashMap.spare}, pagable_model.specs.declared.error.Error.Error, pagable_loads.specs.Telling.values_at};
+ghost use Rattle.{pagable_pager.specs.View.{core_in, telling}, pagable_machine.specs.{Keeping.{BeginsNoKey, Forgets}, Driving.{Drives, IsInStep, kept_at, over}}};
 
 use crate::calls;
 use crate::held::Held;
-use crate::readings::{put, remove, reserve};
-use crate::steps::load_step;
-use crate::walks::worker_step;
-use crate::workers::{table_new, worker_item, worker_listed};
+use crate::readings::{load_step, put, remove, reserve};
+use crate::workers::{table_new, worker_item, worker_listed, worker_step};
 use indexmap::IndexMap;
 use pagable_codec::{Env, NodeSet};
 use pagable_core::{PagableData, PagableStorage, SerializedData};
@@ -64,7 +56,7 @@ where
     E::Node: NodeSet<E>,
     requires { IsInStep (telling S.stored S.is_closed S.failed) (over pager.old held.old) }
     ensures { Drives (values_at E.Node.NodeSet E.Env E.Hash.KeyHash pager.old.environment) (telling S.stored S.is_closed S.failed)
-        (over pager.old held.old) (events.Call call) (answers.CallReply result) (over pager.new held.new) }
+        (over pager.old held.old) (Event.Call call) (EventReply.CallReply result) (over pager.new held.new) }
 {
     pager.is_whole();
     let closed = closed_by(&call);
@@ -84,7 +76,7 @@ where
     E::Node: NodeSet<E>,
     requires { IsInStep (telling S.stored S.is_closed S.failed) (over pager.old held.now) }
     ensures { Drives (values_at E.Node.NodeSet E.Env E.Hash.KeyHash pager.old.environment) (telling S.stored S.is_closed S.failed)
-        (over pager.old held.now) (events.LoadStart handle) (answers.Started result) (over pager.new held.now) }
+        (over pager.old held.now) (Event.LoadStart handle) (EventReply.Started result) (over pager.new held.now) }
 {
     pager.is_whole();
     let begun = calls::begin(pager, handle);
@@ -106,16 +98,14 @@ where
     if !pager.has_load_number() {
         return Err(Error::NumbersSpent);
     }
-    match reserve(readings) {
-        Ok(()) => Ok(()),
-        Err(_) => Err(Error::OutOfMemory),
-    }
+    reserve(readings)?;
+    Ok(())
 }
 
 // The load that has begun, if one has.
 fn begun_load(begun: &Result<Beginning, Error>) -> Option<LoadNumber>
-    ensures some { IfSome result (λ l. (k : ℕ) × (begun.now ≡ Ok (beginnings.Load l k))) }
-    ensures none { IfNone result (((e : Error) × (begun.now ≡ Err e)) ⊎ (begun.now ≡ Ok beginnings.InMemory)) }
+    ensures some { IfSome result (λ l. (k : ℕ) × (begun.now ≡ Ok (Beginning.Load l k))) }
+    ensures none { IfNone result (((e : Error) × (begun.now ≡ Err e)) ⊎ (begun.now ≡ Ok Beginning.InMemory)) }
 {
     match begun {
         Ok(Beginning::Load(load, _)) => Some(*load),
@@ -135,7 +125,7 @@ where
     E::Node: NodeSet<E>,
     requires { IsInStep (telling S.stored S.is_closed S.failed) (over pager.old held.old) }
     ensures { Drives (values_at E.Node.NodeSet E.Env E.Hash.KeyHash pager.old.environment) (telling S.stored S.is_closed S.failed)
-        (over pager.old held.old) (events.LoadKey key node_type) (answers.Started result) (over pager.new held.new) }
+        (over pager.old held.old) (Event.LoadKey key node_type) (EventReply.Started result) (over pager.new held.new) }
 {
     pager.is_whole();
     match key_place(pager, &mut held.readings) {

@@ -7,8 +7,6 @@ mod held;
 mod list;
 pub mod machine;
 mod readings;
-mod steps;
-mod walks;
 mod workers;
 
 pub use machine::Machine;

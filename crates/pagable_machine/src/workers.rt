@@ -1,14 +1,10 @@
-//! Tables of page-out, and workers on them.
+//! Tables of page-out, workers on them, and a worker's step.
 
-ghost use Rattle.std.specs.{Prelude.◌≡◌, Prelude.◌<◌, Prelude.◌⊎◌, Prelude.ℕ, Prelude.Some, Prelude.IfOk, Prelude.IfErr, Prelude.OnOk, Prelude.OnErr, Prelude.true, Prelude.false, HashMap.spare};
-ghost use Rattle.pagable_world.specs.{Kinds.identity_of, World.Alike, World.of_entry, World.of_item, Access.Called, Access.WorkerStarts};
-ghost use Rattle.pagable_loads.specs.{Telling.values_at, Working.RefusesEntry, Working.StartsEntry};
-ghost use Rattle.pagable_pager.specs.View.{core_in, state_in, telling};
-ghost use Rattle.pagable_walk.specs.Slots.{written_of};
-ghost use Rattle.pagable_machine.specs.{Walking.IsBegun, Walking.is_table, Keeping.KeepsOne, Driving.Drives, Driving.IsInStep, Driving.kept_at, Driving.over};
-ghost use Rattle.pagable_model.specs.declared.error.Error.TheVariants as errors;
-ghost use Rattle.pagable_world.specs.declared.events.Event.TheVariants as events;
-ghost use Rattle.pagable_world.specs.declared.events.EventReply.TheVariants as answers;
+ghost use Rattle.{std.specs.{Prelude.{◌≡◌, ◌<◌, ◌⊎◌, ℕ, Some, IfOk, IfErr, OnOk, OnErr, true, false, ◌≤◌, ◌∷◌, length, is_some}, HashMap.spare}, pagable_world.specs.Kinds.{identity_of, owner_worker}};
+ghost use Rattle.pagable_world.specs.{World.{Alike, of_entry, of_item}, Access.{Called, WorkerStarts}, declared.events.{EventReply.EventReply, Event.Event}, Events.steps_after};
+ghost use Rattle.{pagable_loads.specs.{Telling.values_at, Working.{RefusesEntry, StartsEntry}}, pagable_pager.specs.View.{core_in, state_in, telling}, pagable_walk.specs.Slots.written_of};
+ghost use Rattle.{pagable_walk.specs.{Table.shelf_of, Tasks.{IsWay, todo_of, todos}, Turns.{StepsTo, answer_in, plan}}, pagable_machine.specs.Walking.{IsBegun, is_table, IsAfter, WalksOn, has_task}};
+ghost use Rattle.pagable_machine.specs.{Walking.{task_in, todo_left}, Keeping.KeepsOne, Driving.{Drives, IsInStep, kept_at, over}};
 
 use crate::held::{Begun, Held, Walk};
 use crate::list;
@@ -20,9 +16,11 @@ use pagable_loads::WorkerAccess;
 use pagable_model::{ArcRef, Error, Identity, WorkerNumber};
 use pagable_pager::{Lent, Pager};
 use pagable_walk::starting::{start_entry, start_item};
-use pagable_walk::{SlotTable, Trees};
-use pagable_world::TableNumber;
+use pagable_walk::step::step;
+use pagable_walk::{Moved, SlotTable, Task, Trees, Turn, Waiting};
+use pagable_world::{TableNumber, WorkerAnswer, WorkerReply};
 use std::alloc::Global;
+use std::mem::replace;
 use std::sync::Arc;
 
 /// A new table, under the next number. Refused by want of memory alone; then nothing changes.
@@ -35,7 +33,7 @@ where
     E::Node: NodeSet<E>,
     requires { IsInStep (telling S.stored S.is_closed S.failed) (over pager.now held.old) }
     ensures { Drives (values_at E.Node.NodeSet E.Env E.Hash.KeyHash pager.now.environment) (telling S.stored S.is_closed S.failed)
-        (over pager.now held.old) events.TableNew (answers.TableMade result) (over pager.now held.new) }
+        (over pager.now held.old) Event.TableNew (EventReply.TableMade result) (over pager.now held.new) }
 {
     pager.is_whole();
     if held.tables.reserve(1).is_err() {
@@ -61,15 +59,13 @@ fn ready<E: Trees>(
     ensures same { (q : ℕ) → kept_at walks.new q ≡ kept_at walks.old q }
     ensures there { OnOk result (is_table table.0 tables.now.items ≡ true) }
     ensures room { OnOk result (0 < spare walks.new) }
-    ensures refused { IfErr result (λ e. ((e ≡ errors.NoSuchHandle) × (is_table table.0 tables.now.items ≡ false)) ⊎ ((e ≡ errors.OutOfMemory) × (is_table table.0 tables.now.items ≡ true))) }
+    ensures refused { IfErr result (λ e. ((e ≡ Error.NoSuchHandle) × (is_table table.0 tables.now.items ≡ false)) ⊎ ((e ≡ Error.OutOfMemory) × (is_table table.0 tables.now.items ≡ true))) }
 {
     if !is_table(tables, table) {
         return Err(Error::NoSuchHandle);
     }
-    match reserve(walks) {
-        Ok(()) => Ok(()),
-        Err(_) => Err(Error::OutOfMemory),
-    }
+    reserve(walks)?;
+    Ok(())
 }
 
 // What a worker has to do is kept of it, if it has begun.
@@ -99,27 +95,21 @@ fn item_walk<E: Trees>(
     item: SerializedData,
 ) -> Result<Walk<E>, Error>
     ensures begun { IfOk result (λ k. IsBegun table (of_item (written_of item)) k) }
-    ensures only { IfErr result (λ e. e ≡ errors.OutOfMemory) }
+    ensures only { IfErr result (λ e. e ≡ Error.OutOfMemory) }
 {
-    let item = match Arc::new(alloc, item) {
-        Ok(item) => item,
-        Err(_) => return Err(Error::OutOfMemory),
+    let Ok(item) = Arc::new(alloc, item) else {
+        return Err(Error::OutOfMemory);
     };
-    let shared = match Arc::try_clone(&item) {
-        Ok(shared) => shared,
-        Err(_) => return Err(Error::OutOfMemory),
-    };
-    match start_item(alloc, shared) {
-        Ok((task, path)) => Ok(Walk {
-            table: table.0,
-            begun: Begun::Item(item),
-            steps: 0,
-            path,
-            task: Some(task),
-            answer: None,
-        }),
-        Err(e) => Err(e),
-    }
+    let shared = Arc::try_clone(&item)?;
+    let (task, path) = start_item(alloc, shared)?;
+    Ok(Walk {
+        table: table.0,
+        begun: Begun::Item(item),
+        steps: 0,
+        path,
+        task: Some(task),
+        answer: None,
+    })
 }
 
 // What a worker for an entry of the list has to do.
@@ -147,7 +137,7 @@ where
     E::Node: NodeSet<E>,
     ensures begins { IfOk result (λ n. WorkerStarts (values_at E.Node.NodeSet E.Env E.Hash.KeyHash pager.old.environment) (core_in (telling S.stored S.is_closed S.failed) pager.old)
         (state_in (telling S.stored S.is_closed S.failed) pager.old) n.0 (state_in (telling S.stored S.is_closed S.failed) pager.new)) }
-    ensures refused { IfErr result (λ e. (e ≡ errors.OutOfMemory) × Called (values_at E.Node.NodeSet E.Env E.Hash.KeyHash pager.old.environment)
+    ensures refused { IfErr result (λ e. (e ≡ Error.OutOfMemory) × Called (values_at E.Node.NodeSet E.Env E.Hash.KeyHash pager.old.environment)
         (λ w'. Alike (core_in (telling S.stored S.is_closed S.failed) pager.old) w') (state_in (telling S.stored S.is_closed S.failed) pager.old)
         (state_in (telling S.stored S.is_closed S.failed) pager.new)) }
 {
@@ -183,7 +173,7 @@ where
     E::Node: NodeSet<E>,
     requires { IsInStep (telling S.stored S.is_closed S.failed) (over pager.old held.old) }
     ensures { Drives (values_at E.Node.NodeSet E.Env E.Hash.KeyHash pager.old.environment) (telling S.stored S.is_closed S.failed)
-        (over pager.old held.old) (events.WorkerItem table item) (answers.WorkerMade result) (over pager.new held.new) }
+        (over pager.old held.old) (Event.WorkerItem table item) (EventReply.WorkerMade result) (over pager.new held.new) }
 {
     pager.is_whole();
     if let Err(e) = ready(&mut held.walks, &held.tables, table) {
@@ -210,7 +200,7 @@ where
     E::Node: NodeSet<E>,
     requires { IsInStep (telling S.stored S.is_closed S.failed) (over pager.old held.old) }
     ensures { Drives (values_at E.Node.NodeSet E.Env E.Hash.KeyHash pager.old.environment) (telling S.stored S.is_closed S.failed)
-        (over pager.old held.old) (events.WorkerListed table place) (answers.WorkerMade result) (over pager.new held.new) }
+        (over pager.old held.old) (Event.WorkerListed table place) (EventReply.WorkerMade result) (over pager.new held.new) }
 {
     pager.is_whole();
     if place >= pager.pending() as u64 {
@@ -230,4 +220,155 @@ where
         }
         Err(e) => Err(e),
     }
+}
+
+// One step over a lent pager: the borrow checker takes a lent struct where its own type is asked, and not where any access is.
+fn step_by<'a, E: Env, S: PagableStorage<E>>(
+    lent: &mut Lent<'a, E, S>,
+    alloc: Global,
+    table: &mut SlotTable<E>,
+    worker: WorkerNumber,
+    path: &mut Vec<Waiting<E>>,
+    task: Task<E>,
+) -> Moved<E>
+where
+    E::Node: NodeSet<E>,
+    requires me { lent.old.me ≡ owner_worker worker.0 }
+    requires way { IsWay (todo_of task ∷ todos path.old.items) }
+    ensures way { IsWay (plan result.turn path.new.items) }
+    ensures step { StepsTo (values_at E.Node.NodeSet E.Env E.Hash.KeyHash lent.old.pager.now.environment) (owner_worker worker.0) worker.0 (shelf_of table.old) task (todos path.old.items)
+        (shelf_of table.new) result
+        (plan result.turn path.new.items) (state_in (telling S.stored S.is_closed S.failed) lent.old.pager.now) (state_in (telling S.stored S.is_closed S.failed) lent.new.pager.now) }
+    ensures lender { lent.new.pager.ghost_name ≡ lent.old.pager.ghost_name }
+{
+    step(lent, alloc, table, worker, path, task)
+}
+
+// The same for a worker at work.
+fn step_lent<E: Env, S: PagableStorage<E>>(
+    pager: &mut Pager<E, S>,
+    alloc: Global,
+    table: &mut SlotTable<E>,
+    worker: WorkerNumber,
+    path: &mut Vec<Waiting<E>>,
+    task: Task<E>,
+) -> Moved<E>
+where
+    E::Node: NodeSet<E>,
+    requires at_work { (core_in (telling S.stored S.is_closed S.failed) pager.old).workers worker.0 ≡ true }
+    requires way { IsWay (todo_of task ∷ todos path.old.items) }
+    ensures way { IsWay (plan result.turn path.new.items) }
+    ensures step { StepsTo (values_at E.Node.NodeSet E.Env E.Hash.KeyHash pager.old.environment) (owner_worker worker.0) worker.0 (shelf_of table.old) task (todos path.old.items)
+        (shelf_of table.new) result
+        (plan result.turn path.new.items) (state_in (telling S.stored S.is_closed S.failed) pager.old) (state_in (telling S.stored S.is_closed S.failed) pager.new) }
+{
+    let mut lent = Lent::for_worker(pager, worker);
+    step_by(&mut lent, alloc, table, worker, path, task)
+}
+
+// The worker's answer, if a step came to one.
+fn answer_of<E: Trees>(turn: &Turn<E>) -> Option<WorkerAnswer>
+    ensures { result ≡ answer_in turn.now }
+{
+    match turn {
+        Turn::Goes(_) => None,
+        Turn::Answers(answer) => Some(*answer),
+    }
+}
+
+// What is to be done after a step, if there is more.
+fn task_left<E: Trees>(turn: Turn<E>) -> Option<Task<E>>
+    ensures { result ≡ task_in turn }
+{
+    match turn {
+        Turn::Goes(task) => Some(task),
+        Turn::Answers(_) => None,
+    }
+}
+
+// How many steps a worker has made after one more.
+fn count(steps: u64, counted: bool) -> u64
+    ensures { result ≡ steps_after steps counted }
+{
+    if counted {
+        steps.saturating_add(1)
+    } else {
+        steps
+    }
+}
+
+// What a step came to is kept of the worker, and answered.
+fn settle<E: Trees>(walk: &mut Walk<E>, moved: Moved<E>) -> WorkerReply<Arc<SerializedData>>
+    ensures after { IsAfter walk.old moved walk.new }
+    ensures path { walk.new.path ≡ walk.old.path }
+    ensures reply { result ≡ record { took = moved.took; answer = answer_in moved.turn; steps = walk.new.steps } }
+{
+    let answer = answer_of(&moved.turn);
+    walk.answer = answer_of(&moved.turn);
+    let steps = count(walk.steps, moved.counted);
+    walk.steps = steps;
+    walk.task = task_left(moved.turn);
+    WorkerReply {
+        took: moved.took,
+        answer,
+        steps,
+    }
+}
+
+// A worker that has a task makes a step on its table.
+fn walk_on<E: Env, S: PagableStorage<E>>(
+    pager: &mut Pager<E, S>,
+    alloc: Global,
+    tables: &mut Vec<SlotTable<E>>,
+    worker: WorkerNumber,
+    walk: &mut Walk<E>,
+) -> WorkerReply<Arc<SerializedData>>
+where
+    E::Node: NodeSet<E>,
+    requires has { is_some walk.old.task ≡ true }
+    requires table { (0 < walk.old.table) × (walk.old.table ≤ length tables.old.items) }
+    requires way { IsWay (todo_left walk.old.task walk.old.path.items) }
+    requires at_work { (core_in (telling S.stored S.is_closed S.failed) pager.old).workers worker.0 ≡ true }
+    ensures { WalksOn (values_at E.Node.NodeSet E.Env E.Hash.KeyHash pager.old.environment) worker.0 tables.old.items walk.old (state_in (telling S.stored S.is_closed S.failed) pager.old) result
+        tables.new.items walk.new (state_in (telling S.stored S.is_closed S.failed) pager.new) }
+{
+    let Some(task) = replace(&mut walk.task, None) else {
+        unreachable!();
+    };
+    let table = &mut tables[(walk.table - 1) as usize];
+    let moved = step_lent(pager, alloc, table, worker, &mut walk.path, task);
+    settle(walk, moved)
+}
+
+// Whether there is a worker of this number that hasn't answered.
+fn has_task<E: Trees>(walks: &IndexMap<u64, Walk<E>>, worker: u64) -> bool
+    ensures { result ≡ has_task (kept_at walks.now worker) }
+{
+    match walks.get(&worker) {
+        Some(walk) => walk.task.is_some(),
+        None => false,
+    }
+}
+
+/// A worker's next step. Refused with NoSuchHandle where there is no such worker or it has answered; then nothing changes.
+pub fn worker_step<E: Env, S: PagableStorage<E>>(
+    pager: &mut Pager<E, S>,
+    held: &mut Held<E>,
+    alloc: Global,
+    worker: WorkerNumber,
+) -> Result<WorkerReply<Arc<SerializedData>>, Error>
+where
+    E::Node: NodeSet<E>,
+    requires { IsInStep (telling S.stored S.is_closed S.failed) (over pager.old held.old) }
+    ensures { Drives (values_at E.Node.NodeSet E.Env E.Hash.KeyHash pager.old.environment) (telling S.stored S.is_closed S.failed)
+        (over pager.old held.old) (Event.WorkerStep worker) (EventReply.WorkerMoved result) (over pager.new held.new) }
+{
+    pager.is_whole();
+    if !has_task(&held.walks, worker.0) {
+        return Err(Error::NoSuchHandle);
+    }
+    let Some(walk) = held.walks.get_mut(&worker.0) else {
+        unreachable!();
+    };
+    Ok(walk_on(pager, alloc, &mut held.tables, worker, walk))
 }

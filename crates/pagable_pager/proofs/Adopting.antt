@@ -3,9 +3,8 @@ use Rattle.pagable_pager.proofs.Words.{◌≡◌, ℕ, ◌+◌, List, ap, sym, s
 use Rattle.pagable_pager.proofs.Words.{OptionalDataKey, ArcRef, Kind, LoadNumber, HandleNumber, Owner, Error, if_there, is_owner, Core, OpenLoad, Alike, usable, Refused, load_fault, closed_fault}
 use Rattle.pagable_pager.proofs.Words.{refused_if, adopted, adopt_fault, AdoptCall, Adopts, IsNewNode, Moves, adopted_known, stayed, spares-alike, Tables, counts_at, IsWhole, Sheds, AreLater}
 use Rattle.pagable_pager.proofs.Words.{OnlyRoom, earlier-first, told-later, still, PagerView, Telling, Spelling, ValuesByNode, IsPager, OnlyLess, core_in, state_in, value_in, values_of, nat_tests}
+use Rattle.pagable_pager.proofs.{Words.{Blob, Bool, core_of}, Shed.{shed, whole-over}, Births.{told, roomier, moved-in, unmoved}, Shut.{adopts-bare, bare-alike}}
 use Rattle.pagable_steps.proofs.BirthCalls.{adopts-new}
-use Rattle.pagable_pager.proofs.{Shed.shed, Shed.whole-over, Births.told, Births.roomier, Births.moved-in, Births.unmoved, Shut.adopts-bare, Shut.bare-alike}
-use Rattle.pagable_model.specs.declared.error.Error.TheVariants as errors
 
 -- the new node has the next number
 pub adopted-node : (w : Core) {w' : Core} (l : LoadNumber) (kind : Kind) (key : ℕ) (own : OptionalDataKey) (rs : List ArcRef) → Alike (adopted w l kind key own rs) w' → w'.last.node ≡ w.last.node + 1
@@ -33,10 +32,10 @@ module _ {N S E : Type 0} (tells : Telling S) (g : Spelling N E) (p : PagerView 
   found-so me l kind key u rs cause before (Err e) known given same refused = stays-so refused.stays
 
 -- why what a load has read becomes no node, where its references weren't had
-pub unlisted-gone : (w : Core) (me : Owner) (l : LoadNumber) (kind : Kind) (key u : ℕ) (rs : List ArcRef) → w.loads l.0 ≡ None → Refused (adopt_fault w me l kind key u rs) (closed_fault w l) (Unit {0}) w errors.NoSuchHandle w
+pub unlisted-gone : (w : Core) (me : Owner) (l : LoadNumber) (kind : Kind) (key u : ℕ) (rs : List ArcRef) → w.loads l.0 ≡ None → Refused (adopt_fault w me l kind key u rs) (closed_fault w l) (Unit {0}) w Error.NoSuchHandle w
 unlisted-gone w me l kind key u rs gone =
-    let is : load_fault w me l ≡ Some errors.NoSuchHandle = ap (if_there (λ (load : OpenLoad). refused_if (not (is_owner me load.owner)) errors.NotYours) (Some errors.NoSuchHandle)) gone in
-    record { why = inl (earlier-first (load_fault w me l) _ errors.NoSuchHandle is (λ f late. omega (arith))); stays = still w }
+    let is : load_fault w me l ≡ Some Error.NoSuchHandle = ap (if_there (λ (load : OpenLoad). refused_if (not (is_owner me load.owner)) Error.NotYours) (Some Error.NoSuchHandle)) gone in
+    record { why = inl (earlier-first (load_fault w me l) _ Error.NoSuchHandle is (λ f late. omega (arith))); stays = still w }
 
 -- the value of a load is read as a node that the cache gives
 pub known-call : {N : Type 0} (w w' : Core) (x : N) (me : Owner) (l : LoadNumber) (kind : Kind) (key u v : ℕ) (rs qs : List ArcRef) (k : HandleNumber) → u ≡ v → rs ≡ qs → Adopts w me l kind key u rs k w' → AdoptCall w me l kind key x v qs (Ok k) w'
@@ -63,42 +62,45 @@ pub same-moves : {N S E : Type 0} (tells : Telling S) (p q r : PagerView N S E) 
 same-moves tells p q r x same moves = subst (λ u. Moves (λ n y. (y ≡ x) × IsNewNode (core_in tells u) n) (state_in tells u) (state_in tells r)) same moves
 
 module _ {N S E : Type 0} (tells : Telling S) (g : Spelling N E) (p : PagerView N S E) (is : IsPager tells g p) (t : Tables) (values : ValuesByNode N) (whole : IsWhole t) (later : AreLater t)
-    (me : Owner) (l : LoadNumber) (kind : Kind) (key u : ℕ) (rs : List ArcRef) (x : N) (typed : u ≡ g.type_of x) (listed : rs ≡ g.refs_of x) (unknown : usable (core_in tells p) kind.0 key ≡ None) where
+    (me : Owner) (l : LoadNumber) (kind : Kind) (key u : ℕ) (rs : List ArcRef) (x : N) (typed : u ≡ g.type_of x) (listed : rs ≡ g.refs_of x) (unknown : usable (core_in tells p) kind.0 key ≡ None)
+    (lists : Bool) (open_so : lists ≡ not (tells.closed p.storage)) where
   abbrev afterwards : PagerView N S E
   afterwards = record p { tables = t; values = values }
 
   abbrev next : ℕ
   next = p.tables.last_node + 1
 
-  abbrev Adopted : Result HandleNumber (Error × N) → Type 0
-  Adopted r = IfOk r (λ k. Adopts (core_in tells p) me l kind key u rs k (core_in tells afterwards))
+  abbrev old : (ℕ → Option Blob) → Bool → ℕ → Core
+  old stored closed failures = core_of p.tables stored closed failures
 
-  abbrev Room : Result HandleNumber (Error × N) → Type 0
-  Room r = OnErr r (OnlyRoom (core_in tells p) (core_in tells afterwards))
+  abbrev new : (ℕ → Option Blob) → Bool → ℕ → Core
+  new stored closed failures = core_of t stored closed failures
 
-  abbrev Here : Result HandleNumber (Error × N) → Type 0
-  Here r = OnOk r (value_in values next ≡ Some x)
-
-  abbrev Others : Result HandleNumber (Error × N) → Type 0
-  Others r = OnOk r ((n : ℕ) → n ≢ next → value_in values n ≡ value_in p.values n)
-
-  abbrev Kept : Result HandleNumber (Error × N) → Type 0
-  Kept r = OnErr r ((n : ℕ) → value_in values n ≡ value_in p.values n)
+  -- what is said of the tables, whatever is stored, and of the values
+  pub record Answered (r : Result HandleNumber (Error × N)) : Type 0 where
+    pub adopts : IfOk r (λ k. (stored : ℕ → Option Blob) (closed : Bool) (failures : ℕ) → lists ≡ not closed → Adopts (old stored closed failures) me l kind key u rs k (new stored closed failures))
+    pub refused : IfErr r (λ e. (stored : ℕ → Option Blob) (closed : Bool) (failures : ℕ)
+        → Refused (adopt_fault (old stored closed failures) me l kind key u rs) (load_fault (old stored closed failures) me l) (Unit {0}) (old stored closed failures) e.0 (new stored closed failures))
+    pub back : IfErr r (λ e. e.1 ≡ x)
+    pub room : OnErr r ((stored : ℕ → Option Blob) (closed : Bool) (failures : ℕ) → OnlyRoom (old stored closed failures) (new stored closed failures))
+    pub here : OnOk r (value_in values next ≡ Some x)
+    pub others : OnOk r ((n : ℕ) → n ≢ next → value_in values n ≡ value_in p.values n)
+    pub kept : OnErr r ((n : ℕ) → value_in values n ≡ value_in p.values n)
 
   -- the pager is in step
-  pub new-so : (r : Result HandleNumber (Error × N)) → Adopted r → Room r → Here r → Others r → Kept r → IsPager tells g afterwards
-  new-so (Ok k) adopts room here others kept =
+  pub new-so : (r : Result HandleNumber (Error × N)) → Answered r → IsPager tells g afterwards
+  new-so (Ok k) e =
+      let adopts = e.adopts (tells.stored p.storage) (tells.closed p.storage) (tells.failed p.storage) open_so in
       let a : Adopts (core_in tells p) me l kind key (g.type_of x) (g.refs_of x) k (core_in tells afterwards) =
       subst (λ v. Adopts (core_in tells p) me l kind key v (g.refs_of x) k (core_in tells afterwards)) typed (subst (λ z. Adopts (core_in tells p) me l kind key u z k (core_in tells afterwards)) listed adopts) in
       let core = whole-over t (tells.stored p.storage) (tells.closed p.storage) (tells.failed p.storage) whole (λ shut. adopts-bare shut (is.state.whole.shut shut) a) in
-      record { tables = whole; later = later; state = adopts-new {v = values_of g p.environment} {s = state_in tells p} {s' = state_in tells afterwards} is.state a unknown (told tells g p is t values x here others) whole.steady.fits.pinned core }
-  new-so (Err (e, y)) adopts room here others kept = roomier tells g p is t values whole later room kept
+      record { tables = whole; later = later; state = adopts-new {v = values_of g p.environment} {s = state_in tells p} {s' = state_in tells afterwards} is.state a unknown (told tells g p is t values x e.here e.others) whole.steady.fits.pinned core }
+  new-so (Err (f, y)) e = roomier tells g p is t values whole later (e.room _ _ _) e.kept
 
-  pub new-moves : (r : Result HandleNumber (Error × N)) → Here r → Others r → Kept r → Moves (λ n y. (y ≡ x) × IsNewNode (core_in tells p) n) (state_in tells p) (state_in tells afterwards)
-  new-moves (Ok k) here others kept = moved-in tells g p is t values x here others
-  new-moves (Err (e, y)) here others kept = unmoved tells g p is t values kept
+  pub new-moves : (r : Result HandleNumber (Error × N)) → Answered r → Moves (λ n y. (y ≡ x) × IsNewNode (core_in tells p) n) (state_in tells p) (state_in tells afterwards)
+  new-moves (Ok k) e = moved-in tells g p is t values x e.here e.others
+  new-moves (Err (f, y)) e = unmoved tells g p is t values e.kept
 
-  pub new-call : (r : Result HandleNumber (Error × N)) → Adopted r → IfErr r (λ e. Refused (adopt_fault (core_in tells p) me l kind key u rs) (load_fault (core_in tells p) me l) (Unit {0}) (core_in tells p) e.0 (core_in tells afterwards)) → IfErr r (λ e. e.1 ≡ x)
-      → AdoptCall (core_in tells p) me l kind key x (g.type_of x) (g.refs_of x) r (core_in tells afterwards)
-  new-call (Ok k) adopts refused back = known-call (core_in tells p) (core_in tells afterwards) x me l kind key u (g.type_of x) rs (g.refs_of x) k typed listed adopts
-  new-call (Err (e, y)) adopts refused back = refused-call (core_in tells p) (core_in tells afterwards) x y me l kind key u (g.type_of x) rs (g.refs_of x) e back typed listed refused
+  pub new-call : (r : Result HandleNumber (Error × N)) → Answered r → AdoptCall (core_in tells p) me l kind key x (g.type_of x) (g.refs_of x) r (core_in tells afterwards)
+  new-call (Ok k) e = known-call (core_in tells p) (core_in tells afterwards) x me l kind key u (g.type_of x) rs (g.refs_of x) k typed listed (e.adopts _ _ _ open_so)
+  new-call (Err (f, y)) e = refused-call (core_in tells p) (core_in tells afterwards) x y me l kind key u (g.type_of x) rs (g.refs_of x) f e.back typed listed (e.refused _ _ _)

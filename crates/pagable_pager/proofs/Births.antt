@@ -3,8 +3,6 @@ use Rattle.pagable_pager.proofs.Words.{◌≡◌, ℕ, ◌==◌, ◌<◌, ◌+�
 use Rattle.pagable_pager.proofs.Words.{ArcRef, HandleNumber, Owner, Mode, Blob, Error, is_pinning, Core, greatest, references_fault, BirthCall, AwayBirthCall, IsNewNode, Moves, same_some, born}
 use Rattle.pagable_pager.proofs.Words.{spared, spares-alike, Tables, BearsValue, OnlyRoom, IsWhole, core_of, plain_of, AreLater, room-alike, room-fault, fault-by, next-past, born-past, PagerView}
 use Rattle.pagable_pager.proofs.{Words.{Telling, Spelling, ValuesByNode, IsPager, core_in, state_in, value_in, values_of, Last}, Shed.whole-over, Shut.{IsBare, bare-alike}, Spared.caller-free}
-use Rattle.pagable_model.specs.declared.error.Error.TheVariants as errors
-use Rattle.pagable_world.specs.declared.handles.Owner.TheVariants as owners
 
 -- nothing comes to the list or the cache with a cell that is away
 pub away-bare : {w w' : Core} {me : Owner} {node_type key : ℕ} (r : Result HandleNumber Error) → AwayBirthCall w me node_type key r w' → IsBare w → IsBare w'
@@ -42,7 +40,7 @@ module _ {N S E : Type 0} (tells : Telling S) (g : Spelling N E) (p : PagerView 
   unmoved same = record { each = λ n x has. inl (sym (same n) ∙ has); environment = refl }
 
   -- memory is wanting
-  pub no-memory : (x y : N) → y ≡ x → (node_type : ℕ) (references : List ArcRef) (mode : Mode) → OnlyRoom (core_in tells p) (core_in tells after) → BirthCall (core_in tells p) owners.Caller x node_type references mode (Err (errors.OutOfMemory, y)) (core_in tells after)
+  pub no-memory : (x y : N) → y ≡ x → (node_type : ℕ) (references : List ArcRef) (mode : Mode) → OnlyRoom (core_in tells p) (core_in tells after) → BirthCall (core_in tells p) Owner.Caller x node_type references mode (Err (Error.OutOfMemory, y)) (core_in tells after)
   no-memory x y same node_type references mode room = record { made = tt; refused = (same, record { why = inr (refl, refl, tt); stays = room-alike room }) }
 
   module _ (x : N) (here : value_in values next ≡ Some x) (others : (n : ℕ) → n ≢ next → value_in values n ≡ value_in p.values n) where
@@ -50,7 +48,7 @@ module _ {N S E : Type 0} (tells : Telling S) (g : Spelling N E) (p : PagerView 
     told n = grind (arith, nat_tests, cases_eq)
 
     -- the node came with its value
-    pub comes-in : (mode : Mode) (k : HandleNumber) → is_pinning mode ≡ true → IsWhole t → AreLater t → BirthCall (core_in tells p) owners.Caller x (g.type_of x) (g.refs_of x) mode (Ok k) (core_in tells after) → IsPager tells g after
+    pub comes-in : (mode : Mode) (k : HandleNumber) → is_pinning mode ≡ true → IsWhole t → AreLater t → BirthCall (core_in tells p) Owner.Caller x (g.type_of x) (g.refs_of x) mode (Ok k) (core_in tells after) → IsPager tells g after
     comes-in mode k pinning whole later call =
         let core = whole-over t (tells.stored p.storage) (tells.closed p.storage) (tells.failed p.storage) whole (λ shut. bare-alike call.made.3 (is.state.whole.shut shut)) in
         record { tables = whole; later = later; state = born {v = values_of g p.environment} {s = state_in tells p} {s' = state_in tells after} is.state caller-free pinning call told whole.steady.fits.pinned core }

@@ -6,8 +6,6 @@ use Rattle.pagable_pager.proofs.Words.{WellFormed, row-held, installed_away, ins
 use Rattle.pagable_pager.proofs.Words.{ShedsBeside, Unends, has_come, Unended, installs-wider, may-wider, not-so, so-then, earlier-first, still, end_refused, spared, spares-alike, PagerView}
 use Rattle.pagable_pager.proofs.Words.{Telling, Spelling, ValuesByNode, IsPager, core_in, state_in, value_in, values_of, PutsIn, with_value}
 use Rattle.pagable_pager.proofs.{Shed.here-in, Shed.here-told, Shed.less, Shed.shed, Shed.some-map, Shed.left-map, Shed.whole-over, Shut.bare-alike, Shut.end-refused-bare, Shut.installed-bare}
-use Rattle.pagable_world.specs.declared.handles.Owner.TheVariants as owners
-use Rattle.pagable_model.specs.declared.error.Error.TheVariants as errors
 use Rattle.pagable_world.specs.Pager as pager
 
 -- the value comes
@@ -117,25 +115,23 @@ module _ {N S E : Type 0} (tells : Telling S) (g : Spelling N E) (p : PagerView 
       by n y false e true some = inl some
 
 pub own-self : (o : Owner) → is_owner o o ≡ true
-own-self owners.Caller = refl
-own-self (owners.Value n) = grind (arith, nat_tests)
-own-self owners.List = refl
-own-self (owners.Load l) = grind (arith, nat_tests)
-own-self (owners.Worker v) = grind (arith, nat_tests)
+own-self Owner.Caller = refl
+own-self Owner.List = refl
+own-self o = grind (arith, nat_tests)
 
 pub owner-owns : {w : Core} {me : Owner} {l : LoadNumber} {load : OpenLoad} → OwnsLoad w me l load → load_fault w me l ≡ None
 owner-owns {me = me} o = grind (arith, nat_tests, own-self)
 
 -- an own load is open
 pub owned-open : {w : Core} {me : Owner} {l : LoadNumber} {load : OpenLoad} → OwnsLoad w me l load → closed_fault w l ≡ None
-owned-open o = ap (if_there (λ (load : OpenLoad). None) (Some errors.NoSuchHandle)) o.stands_open
+owned-open o = ap (if_there (λ (load : OpenLoad). None) (Some Error.NoSuchHandle)) o.stands_open
 
 -- why a load doesn't end with a value whose references weren't had
-pub unread-gone : (w : Core) (me : Owner) (l : LoadNumber) (t : ℕ) (refs : List ArcRef) → w.loads l.0 ≡ None → Refused (end_fault w me l t refs) (closed_fault w l) (Unit {0}) w errors.NoSuchHandle w
+pub unread-gone : (w : Core) (me : Owner) (l : LoadNumber) (t : ℕ) (refs : List ArcRef) → w.loads l.0 ≡ None → Refused (end_fault w me l t refs) (closed_fault w l) (Unit {0}) w Error.NoSuchHandle w
 unread-gone w me l t refs gone = grind (arith, nat_tests, earlier-first, still)
 
-pub unread-open : (w : Core) (l : LoadNumber) (load : OpenLoad) (cause : Option Error) → w.loads l.0 ≡ Some load → Refused cause (closed_fault w l) (Unit {0}) w errors.OutOfMemory w
-unread-open w l load cause is = record { why = inr (refl, ap (if_there (λ (load : OpenLoad). None) (Some errors.NoSuchHandle)) is, tt); stays = still w }
+pub unread-open : (w : Core) (l : LoadNumber) (load : OpenLoad) (cause : Option Error) → w.loads l.0 ≡ Some load → Refused cause (closed_fault w l) (Unit {0}) w Error.OutOfMemory w
+unread-open w l load cause is = record { why = inr (refl, ap (if_there (λ (load : OpenLoad). None) (Some Error.NoSuchHandle)) is, tt); stays = still w }
 
 -- a load whose end is in vain is closed
 pub vain : {N : Type 0} {w v w' : Core} {me : Owner} {l : LoadNumber} {t : ℕ} {refs : List ArcRef} {e : Error} (x : N) (r : Result (Unit {0}) Error) → IsVain w me l t refs e × (v ≡ w) → DropCall v me l r w'

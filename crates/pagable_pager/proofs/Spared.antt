@@ -3,10 +3,9 @@ use Rattle.pagable_pager.proofs.Words.{◌≡◌, true, false, refl, subst, sym,
 use Rattle.pagable_pager.proofs.Words.{AreLater, is_valued, not-a-value, not-list, may-hold, placed, may-own, PagerView, Telling, Spelling, IsPager, core_in, state_in, values_of, is_at_work}
 use Rattle.pagable_pager.proofs.{AtWork.may-begin, Words.arith, Words.nat_tests}
 use Rattle.pagable_world.specs.Pager as pager
-use Rattle.pagable_world.specs.declared.handles.Owner.TheVariants as owners
 
 -- the caller is no value
-pub caller-free : NotValues owners.Caller
+pub caller-free : NotValues Owner.Caller
 caller-free n is = absurd (cc)
 
 -- nor is who is at work, and it may hold handles and begin loads
@@ -26,13 +25,13 @@ module _ {N S E : Type 0} (tells : Telling S) (p q : PagerView N S E) (me : Owne
   pub owner-plain : is_valued me ≡ false
   owner-plain = not-a-value (plain_of p.tables) me owner-holds
 
-  pub owner-unlisted : is_owner owners.List me ≡ false
+  pub owner-unlisted : is_owner Owner.List me ≡ false
   owner-unlisted = not-list (plain_of p.tables) me owner-holds
 
   pub owner-free : NotValues me
   owner-free n is = subst (MayOwnLoad (core_in tells p)) is owner-may
 
-  pub owner-loads : (m : LoadNumber) → is_owner (owners.Load m) me ≡ false
+  pub owner-loads : (m : LoadNumber) → is_owner (Owner.Load m) me ≡ false
   owner-loads m = grind (arith, nat_tests, owner-may)
 
 module _ {N S E : Type 0} (tells : Telling S) (g : Spelling N E) (p : PagerView N S E) (is : IsPager tells g p) where

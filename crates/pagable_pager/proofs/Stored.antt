@@ -1,7 +1,6 @@
 -- What the storage is asked leaves the plain world whole.
-use Rattle.pagable_pager.proofs.Words.{rules, ◌≡◌, ℕ, ◌≤◌, Bool, false, Ok, Err, Some, Option, Result, IfOk, IfErr, OnOk, OnErr, Adds, RefusesFetch, RefusesStore, Core, seen_as, Blob, Error}
-use Rattle.pagable_pager.proofs.Words.{Asked, FetchCall, StoreCall, Tables, core_of, still, placed, told-whole, arith, nat_tests}
-use Rattle.pagable_world.specs.Pager.{IsWhole}
+use Rattle.pagable_pager.proofs.Words.{rules, ◌≡◌, ℕ, ◌≤◌, Bool, false, Ok, Err, Some, Option, Result, IfOk, IfErr, OnOk, OnErr, Adds, RefusesFetch, RefusesStore, Core, seen_as, Blob, Error, Asked}
+use Rattle.{pagable_pager.proofs.Words.{FetchCall, StoreCall, Tables, core_of, still, placed, told-whole, arith, nat_tests}, pagable_world.specs.Pager.IsWhole}
 
 module _ (t : Tables) (stored stored' : ℕ → Option Blob) (closed closed' : Bool) (failures failures' : ℕ) where
   pub whole-told : closed' ≡ closed → IsWhole (core_of t stored closed failures) → IsWhole (core_of t stored' closed' failures')

@@ -1,9 +1,8 @@
 -- A worker comes, for an entry of the list or without one.
-use Rattle.pagable_pager.proofs.Words.{◌≡◌, ◌+◌, ◌==◌, true, if◌then◌else◌, Ok, Err, Some, ap, arith, ℕ, Result, nat_tests, Error, WorkerNumber, Core, with_worker, Spares, with-worker}
-use Rattle.pagable_pager.proofs.Words.{starts-listed, spares-alike, ArePlaced, MayHold, BeginsWorker, TakesWorker, take-whole, settles, alike-whole, roomy-whole, worker-whole, ArcRef, HandleRow}
-use Rattle.pagable_pager.proofs.Words.{Kind, sym, subst, ◌∙◌, same_some, HandleNumber, TakesEntry, loose_kind, HasKinds, IsEntry, with_entry_taken, Alike}
-use Rattle.pagable_world.specs.Pager.{IsWhole}
-use Rattle.pagable_world.specs.declared.handles.Owner.TheVariants as owners
+use Rattle.pagable_pager.proofs.Words.{◌≡◌, ◌+◌, ◌==◌, true, if◌then◌else◌, Ok, Err, Some, ap, arith, ℕ, Result, nat_tests, Error, WorkerNumber, Core, with_worker, Spares, with-worker, starts-listed}
+use Rattle.pagable_pager.proofs.Words.{spares-alike, ArePlaced, MayHold, BeginsWorker, TakesWorker, take-whole, settles, alike-whole, roomy-whole, worker-whole, ArcRef, HandleRow, Kind, sym, subst}
+use Rattle.pagable_world.specs.declared.handles.Owner.{Owner}
+use Rattle.{pagable_pager.proofs.Words.{◌∙◌, same_some, HandleNumber, TakesEntry, loose_kind, HasKinds, IsEntry, with_entry_taken, Alike}, pagable_world.specs.Pager.IsWhole}
 
 module _ {w w' : Core} (whole : IsWhole w) where
   pub begins : (r : Result WorkerNumber Error) → BeginsWorker w r w' → Spares w w'
@@ -22,8 +21,8 @@ module _ {w w' : Core} (whole : IsWhole w) where
   takes-whole place (Ok v) b placed =
       let (h, listed, next, leaves) = b.taken in
       let here : (v.0 == w.last.worker + 1) ≡ true = grind (arith, nat_tests) in
-      let holder : MayHold (with_worker w) (owners.Worker v) = ap (λ b. if b then true else w.workers v.0) here in
-      take-whole {w = with_worker w} (owners.Worker v) place (Some h) (worker-whole whole) holder (listed, leaves) placed
+      let holder : MayHold (with_worker w) (Owner.Worker v) = ap (λ b. if b then true else w.workers v.0) here in
+      take-whole {w = with_worker w} (Owner.Worker v) place (Some h) (worker-whole whole) holder (listed, leaves) placed
   takes-whole place (Err e) b placed = alike-whole whole b.refused.1 placed
 
 -- the entry that was looked at is the one that the worker takes

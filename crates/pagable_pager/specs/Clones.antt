@@ -1,15 +1,11 @@
 -- The clone through which a worker takes a reference.
-use Rattle.std.specs.Prelude.{◌≡◌, ◌⊎◌, Result, Ok, Err, IfOk, IfErr}
-use Rattle.pagable_model.specs.{declared.error.Error.Error, declared.numbers.HandleNumber.HandleNumber}
-use Rattle.pagable_world.specs.{declared.handles.Owner.Owner, World.Core, Calls.PinCall, LoadCalls.BeginCall}
+use Rattle.{std.specs.Prelude.{◌≡◌, ◌⊎◌, Result, Ok, Err, IfOk, IfErr}, pagable_model.specs.declared.{error.Error.Error, numbers.HandleNumber.HandleNumber}}
+use Rattle.pagable_world.specs.{declared.{answers.{Pinning.Pinning, Beginning.Beginning}, handles.Owner.Owner}, World.Core, Calls.PinCall, LoadCalls.BeginCall}
 use Rattle.pagable_loads.specs.declared.working.Taken.{Taken}
-use Rattle.pagable_world.specs.declared.answers.Beginning.TheVariants as beginnings
-use Rattle.pagable_world.specs.declared.answers.Pinning.TheVariants as pinnings
-use Rattle.pagable_loads.specs.declared.working.Taken.TheVariants as takens
 
 abbrev pub Pins : Core → Owner → HandleNumber → Taken → Core → Type 0
-Pins w me through (takens.Held h k) w' = (through ≡ h) × PinCall w me through (Ok (pinnings.Pinned k)) w'
-Pins w me through (takens.Begun h l key) w' = (through ≡ h) × BeginCall w me through (Ok (beginnings.Load l key)) w'
+Pins w me through (Taken.Held h k) w' = (through ≡ h) × PinCall w me through (Ok (Pinning.Pinned k)) w'
+Pins w me through (Taken.Begun h l key) w' = (through ≡ h) × BeginCall w me through (Ok (Beginning.Load l key)) w'
 
 -- the clone is pinned, or a load of its cell begins
 pub record PinsClone (w : Core) (me : Owner) (through : HandleNumber) (r : Result Taken Error) (w' : Core) : Type 0 where

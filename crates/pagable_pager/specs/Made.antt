@@ -1,9 +1,7 @@
 -- What a lent pager makes: the reference that stands for a handle, and a worker that an entry of the list moves to.
-use Rattle.std.specs.Prelude.{ℕ, ◌≡◌, ◌+◌, Result, Ok, Err, IsSome}
-use Rattle.pagable_model.specs.{declared.error.Error.Error, declared.numbers.ArcRef.ArcRef, declared.numbers.HandleNumber.HandleNumber, declared.numbers.Kind.Kind}
-use Rattle.pagable_model.specs.declared.numbers.WorkerNumber.{WorkerNumber}
-use Rattle.pagable_world.specs.{World.{Core, Alike, row_at}, declared.handles.HandleRow.HandleRow, Kinds.{loose_kind, HasKinds}, Events.{IsEntry, with_entry_taken, with_worker}}
-use Rattle.pagable_loads.specs.{Telling.IsMade, Working.EntryFault}
+use Rattle.{std.specs.Prelude.{ℕ, ◌≡◌, ◌+◌, Result, Ok, Err, IsSome}, pagable_model.specs.declared.{error.Error.Error, numbers.{ArcRef.ArcRef, HandleNumber.HandleNumber, Kind.Kind}}}
+use Rattle.{pagable_model.specs.declared.numbers.WorkerNumber.WorkerNumber, pagable_world.specs.{World.{Core, Alike, row_at}, declared.handles.HandleRow.HandleRow, Kinds.{loose_kind, HasKinds}}}
+use Rattle.{pagable_world.specs.Events.{IsEntry, with_entry_taken, with_worker}, pagable_loads.specs.{Telling.IsMade, Working.EntryFault}}
 
 -- the reference stands for the handle that was made
 abbrev pub Refers : {X : Type 0} → Core → Kind → Result HandleNumber X → Result ArcRef X → Type 0

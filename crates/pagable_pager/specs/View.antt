@@ -1,12 +1,9 @@
 -- What contracts see of a pager, and the plain state that it tells.
-use Rattle.std.specs.{Arc.arc_value, declared.sync.Arc.Arc, Global.Global, declared.hash.FoldHasher.FoldHasher, declared.hash.BuildHasherDefault.BuildHasherDefault, HashMap.{HashMap, get}}
-use Rattle.std.specs.{Option.option_map, Prelude.{ℕ, ◌≡◌, Bool, true, false, List, Option, Some, nat_eq}}
-use Rattle.either.specs.declared.Either.{Either}
-use Rattle.pagable_model.specs.{declared.numbers.ArcRef.ArcRef, declared.numbers.HandleNumber.HandleNumber}
-use Rattle.pagable_world.specs.{Plain.{Blob, Error, Meaning, Shape}, declared.handles.Owner.Owner, World.{Core, Values}, LoadCalls.{Given, from_cache, from_store}, Pager.{PagerState, WellFormed}}
-use Rattle.pagable_tables.specs.{declared.tables.Tables.Tables, ByNumber.counts_at, Falling.pins_in, Core.core_of, Later.AreLater}
-use Rattle.either.specs.declared.Either.TheVariants as eithers
-use Rattle.pagable_world.specs.declared.handles.Owner.TheVariants as owners
+use Rattle.std.specs.{Arc.arc_value, declared.{sync.Arc.Arc, hash.{FoldHasher.FoldHasher, BuildHasherDefault.BuildHasherDefault}}, Global.Global, HashMap.{HashMap, get}, Option.option_map, Prelude.ℕ}
+use Rattle.{std.specs.Prelude.{◌≡◌, Bool, true, false, List, Option, Some, nat_eq}, either.specs.declared.Either.Either, pagable_model.specs.declared.numbers.ArcRef.ArcRef}
+use Rattle.{pagable_model.specs.declared.numbers.HandleNumber.HandleNumber, pagable_world.specs.{Plain.{Blob, Error, Meaning, Shape}, declared.handles.Owner.Owner, World.{Core, Values}}}
+use Rattle.{pagable_world.specs.{LoadCalls.{Given, from_cache, from_store}, Pager.{PagerState, WellFormed}}, pagable_tables.specs.{declared.tables.Tables.Tables, ByNumber.counts_at, Falling.pins_in}}
+use Rattle.pagable_tables.specs.{Core.core_of, Later.AreLater}
 use Rattle.pagable_tables.specs.Core as tables
 
 abbrev pub ValuesByNode : Type 0 → Type 0
@@ -102,11 +99,11 @@ pub record SameValues {N S E : Type 0} (old new : PagerView N S E) : Type 0 wher
 
 -- what a load's asking gives, as it is seen
 abbrev pub given_as : {B : Type 0} → (B → Blob) → Either HandleNumber B → Given
-given_as see (eithers.Left k) = from_cache k
-given_as see (eithers.Right blob) = from_store (see blob)
+given_as see (Either.Left k) = from_cache k
+given_as see (Either.Right blob) = from_store (see blob)
 
 -- whether the owner is the caller, or a worker at work
 abbrev pub is_at_work : Core → Owner → Bool
-is_at_work w owners.Caller = true
-is_at_work w (owners.Worker v) = w.workers v.0
+is_at_work w Owner.Caller = true
+is_at_work w (Owner.Worker v) = w.workers v.0
 is_at_work w _ = false

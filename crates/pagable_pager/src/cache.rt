@@ -1,9 +1,7 @@
 //! The cache of a lent pager.
 
-ghost use Rattle.std.specs.Prelude.{◌≡◌, IfOk};
-ghost use Rattle.pagable_world.specs.{World.seen_as, Calls.ClearCall, Calls.OfferCall, Calls.RecallCall};
-ghost use Rattle.pagable_pager.specs.View.{core_in, telling, OnlyLess, OnlyTables};
-ghost use Rattle.pagable_world.specs.declared.handles.Owner.TheVariants as owners;
+ghost use Rattle.pagable_world.specs.declared.handles.Owner.{Owner};
+ghost use Rattle.{std.specs.Prelude.{◌≡◌, IfOk}, pagable_world.specs.{World.seen_as, Calls.{ClearCall, OfferCall, RecallCall}}, pagable_pager.specs.View.{core_in, telling, OnlyLess, OnlyTables}};
 
 use crate::pager::Pager;
 use pagable_codec::{Env, NodeSet};
@@ -42,7 +40,7 @@ where
     /// A new handle of the node that is known, as `cache_get` answers it. Refused with NumbersSpent and OutOfMemory.
     pub fn get(&mut self, kind: Kind, key: DataKey) -> Result<Option<HandleNumber>, Error>
         ensures lent { self.new.pager.ghost_name ≡ self.old.pager.ghost_name }
-        ensures step { RecallCall (core_in (telling S.stored S.is_closed S.failed) self.old.pager.now) owners.Caller kind key result (core_in (telling S.stored S.is_closed S.failed) self.new.pager.now) }
+        ensures step { RecallCall (core_in (telling S.stored S.is_closed S.failed) self.old.pager.now) Owner.Caller kind key result (core_in (telling S.stored S.is_closed S.failed) self.new.pager.now) }
         ensures only { OnlyTables self.old.pager.now self.new.pager.now }
     {
         self.pager.cache_get(kind, key)
@@ -52,7 +50,7 @@ where
     pub fn get_or_create_cell(&mut self, kind: Kind, key: DataKey) -> Result<ArcCell, Error>
         ensures lent { self.new.pager.ghost_name ≡ self.old.pager.ghost_name }
         ensures place { IfOk result (λ cell. (cell.kind ≡ kind) × (cell.key ≡ key)) }
-        ensures step { RecallCall (core_in (telling S.stored S.is_closed S.failed) self.old.pager.now) owners.Caller kind key (seen_as (λ cell. cell.handle) result) (core_in (telling S.stored S.is_closed S.failed) self.new.pager.now) }
+        ensures step { RecallCall (core_in (telling S.stored S.is_closed S.failed) self.old.pager.now) Owner.Caller kind key (seen_as (λ cell. cell.handle) result) (core_in (telling S.stored S.is_closed S.failed) self.new.pager.now) }
         ensures only { OnlyTables self.old.pager.now self.new.pager.now }
     {
         match self.pager.cache_get(kind, key) {
@@ -69,7 +67,7 @@ where
         handle: HandleNumber,
     ) -> Result<Option<HandleNumber>, Error>
         ensures lent { self.new.pager.ghost_name ≡ self.old.pager.ghost_name }
-        ensures step { OfferCall (core_in (telling S.stored S.is_closed S.failed) self.old.pager.now) owners.Caller kind key handle result (core_in (telling S.stored S.is_closed S.failed) self.new.pager.now) }
+        ensures step { OfferCall (core_in (telling S.stored S.is_closed S.failed) self.old.pager.now) Owner.Caller kind key handle result (core_in (telling S.stored S.is_closed S.failed) self.new.pager.now) }
         ensures only { OnlyLess self.old.pager.now self.new.pager.now }
     {
         self.pager.on_arc_deserialized(kind, key, handle)

@@ -1,17 +1,16 @@
-//! A pager that is lent, as an access.
+//! A pager that is lent, as an access, and as that of a page-out worker.
 
-ghost use Rattle.std.specs.Prelude.{◌≡◌, true};
-ghost use Rattle.pagable_pager.specs.View.{core_in, telling, is_at_work};
-ghost use Rattle.pagable_world.specs.declared.handles.Owner.TheVariants as owners;
-
-mod working;
+ghost use Rattle.{std.specs.Prelude.{◌≡◌, true}, pagable_pager.specs.View.{core_in, telling, is_at_work}};
 
 use crate::pager::Pager;
 use either::Either;
 use pagable_codec::{Env, NodeSet};
 use pagable_core::{PagableData, PagableStorage};
-use pagable_loads::{Access, PinStart};
-use pagable_model::{ArcRef, DataKey, Error, HandleNumber, Kind, LoadNumber, WorkerNumber};
+use pagable_loads::{Access, PinStart, Taken, WorkerAccess};
+use pagable_model::{
+    ArcRef, DataKey, Error, HandleNumber, Kind, LoadNumber, NodeNumber, OptionalDataKey,
+    WorkerNumber,
+};
 use pagable_world::handles::Owner;
 use pagable_world::{Beginning, Pinning, Want};
 use std::alloc::Global;
@@ -36,7 +35,7 @@ where
     pub fn new(pager: &'a mut Pager<E, S>) -> Lent<'a, E, S>
         ensures lent { result.pager.ghost_name ≡ pager.entry.ghost_name }
         ensures same { result.pager.now ≡ pager.old }
-        ensures me { result.me ≡ owners.Caller }
+        ensures me { result.me ≡ Owner.Caller }
     {
         Lent {
             pager,
@@ -49,7 +48,7 @@ where
         requires { (core_in (telling S.stored S.is_closed S.failed) pager.old).workers worker.0 ≡ true }
         ensures lent { result.pager.ghost_name ≡ pager.entry.ghost_name }
         ensures same { result.pager.now ≡ pager.old }
-        ensures me { result.me ≡ owners.Worker worker }
+        ensures me { result.me ≡ Owner.Worker worker }
     {
         Lent {
             pager,
@@ -62,8 +61,7 @@ impl<'a, E: Env, S: PagableStorage<E>> Access<E> for Lent<'a, E, S>
 where
     E::Node: NodeSet<E>,
 {
-    ghost use Rattle.std.specs.Prelude.{Some};
-    ghost use Rattle.pagable_pager.specs.View.{state_in, telling};
+    ghost use Rattle.{std.specs.Prelude.Some, pagable_pager.specs.View.{state_in, telling}};
     ghost use Rattle.pagable_world.specs.declared.handles.Owner.TheVariants as owners;
 
     ghost told = { λ l. Some (state_in (telling S.stored S.is_closed S.failed) l.pager.now) };
@@ -217,5 +215,77 @@ where
         let dropped = self.pager.load_drop_by(self.me, load);
         self.pager.is_whole();
         dropped
+    }
+}
+
+impl<'a, E: Env, S: PagableStorage<E>> WorkerAccess<E> for Lent<'a, E, S>
+where
+    E::Node: NodeSet<E>,
+{
+    fn check_reference(&self, reference: ArcRef) -> Result<(), Error> {
+        match self.pager.claim_fault(reference) {
+            Some(e) => Err(e),
+            None => Ok(()),
+        }
+    }
+
+    fn take_reference(&mut self, reference: ArcRef) -> Result<Taken, Error> {
+        let taken = self.pager.take_reference(self.me, reference);
+        self.pager.is_whole();
+        taken
+    }
+
+    fn give_up(&mut self, worker: WorkerNumber, node: NodeNumber) {
+        self.pager.release_node(worker, node);
+        self.pager.is_whole();
+    }
+
+    fn schedule_for_paging(&mut self, handle: HandleNumber) -> Result<(), Error> {
+        let scheduled = self.pager.schedule_for_paging_by(self.me, handle);
+        self.pager.is_whole();
+        scheduled
+    }
+
+    fn worker_begin(&mut self) -> Result<WorkerNumber, Error> {
+        let begun = self.pager.worker_begin();
+        self.pager.is_whole();
+        let Ok(worker) = begun else {
+            return begun;
+        };
+        self.me = Owner::Worker(worker);
+        Ok(worker)
+    }
+
+    fn worker_listed(&mut self, place: usize) -> Result<(WorkerNumber, ArcRef), Error> {
+        let begun = self.pager.worker_listed(place);
+        self.pager.is_whole();
+        match begun {
+            Ok((worker, reference)) => {
+                self.me = Owner::Worker(worker);
+                Ok((worker, reference))
+            }
+            Err(e) => Err(e),
+        }
+    }
+
+    fn worker_end(&mut self, worker: WorkerNumber) {
+        self.pager.worker_end(worker);
+        self.pager.is_whole();
+        self.me = Owner::Caller;
+    }
+
+    fn pending(&self) -> usize {
+        self.pager.pending()
+    }
+
+    fn entry_key(&self, place: usize) -> Option<OptionalDataKey> {
+        let (_, _, key) = self.pager.entry(place)?;
+        Some(key)
+    }
+
+    fn take_pending(&mut self, place: usize) -> Option<HandleNumber> {
+        let taken = self.pager.take_pending_by(self.me, place);
+        self.pager.is_whole();
+        taken
     }
 }

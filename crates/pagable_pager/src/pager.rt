@@ -1,22 +1,13 @@
 //! The pager: values in memory, in step with tables of who holds them, over a storage of blobs.
 
-ghost use Rattle.std.specs.{Prelude.◌≡◌, Arc.arc_value, Option.option_map};
-ghost use Rattle.pagable_world.specs.{World.seen_as, Pager.IsNew, Pager.ValueCall, Pager.WellFormed};
-ghost use Rattle.pagable_loads.specs.Starting.{Shares};
+ghost use Rattle.{std.specs.{Prelude.◌≡◌, Arc.arc_value, Option.option_map}, pagable_world.specs.{World.seen_as, Pager.{IsNew, ValueCall, WellFormed}}, pagable_loads.specs.Starting.Shares};
 ghost use Rattle.pagable_pager.specs.View.{state_in, telling, spelling, values_of};
 
-pub mod adopts;
 pub mod births;
-pub mod closes;
-pub mod ends;
 pub mod handles;
 pub mod installs;
-pub mod known;
 pub mod lists;
 pub mod loads;
-pub mod opened;
-pub mod pins;
-pub mod places;
 pub mod releases;
 pub mod stores;
 pub mod workers;
@@ -31,8 +22,7 @@ use std::alloc::Global;
 use std::marker::Model;
 use std::sync::Arc;
 
-/// Shared values, their handles and their loads, over a storage of blobs. A call that is refused leaves all as it was and gives its value back, but where
-/// its own page says more.
+/// Shared values, their handles and their loads, over a storage of blobs. A call that is refused leaves all as it was and gives its value back, but where its own page says more.
 #[derive(Drop)]
 pub struct Pager<E: Env, S: PagableStorage<E>>
 where
@@ -48,9 +38,7 @@ impl<E: Env, S: PagableStorage<E>> Model for Pager<E, S>
 where
     E::Node: NodeSet<E>,
 {
-    ghost use Rattle.pagable_pager.specs.View.{PagerView, IsPager, telling, spelling};
-    ghost use Rattle.std.specs.Coded.{codes};
-    ghost use Rattle.indexmap.specs.Layout.{hash_map_code};
+    ghost use Rattle.{pagable_pager.specs.View.{PagerView, IsPager, telling, spelling}, std.specs.Coded.codes, indexmap.specs.Layout.hash_map_code};
 
     ghost Value = { PagerView E.Node S E };
 
@@ -129,8 +117,7 @@ where
         &self.env
     }
 
-    /// What is true of every pager: each kept count is the number of pinning handles, a value is in memory exactly while its node is pinned or has no key, and
-    /// it owns the handles of its references.
+    /// What is true of every pager: each kept count is the number of pinning handles, a value is in memory exactly while its node is pinned or has no key, and it owns the handles of its references.
     pub fn is_whole(&self)
         ensures { WellFormed (values_of (spelling E.Node.type_of E.Node.refs_of E.Node.means E.Node.read_causes E.Node.write_causes E.Node.shape_of E.parts E.Hash.digest) self.now.environment)
             (state_in (telling S.stored S.is_closed S.failed) self.now) }

@@ -1,9 +1,7 @@
 -- Results have their trees, one for each reference.
-use Rattle.std.proofs.{Common.{ℕ, ◌≡◌, List, [], ◌∷◌, map, length, get_or, drop, sym, ap, subst, arith}, lemmas.Bool.Decides.nat_tests, lemmas.Grind.{common_steps, merely}}
-use Rattle.pagable_model.specs.{Blob.key_of, Merkle.blob_of, declared.numbers.ArcRef.ArcRef}
-use Rattle.pagable_world.specs.{Kinds.identity_of, Plain.Identity, World.{Written, Values}}
-use Rattle.pagable_walk.specs.{Found.{ids_of, keys_of}, Results.{HasFormOf, ResultStands, stands-over, ResultsStand, no-results, more-results}, declared.results.SlotResult.SlotResult}
-use Rattle.pagable_walk.specs.declared.results.Trees.{Ghosts}
+use Rattle.{std.proofs.{Common.{ℕ, ◌≡◌, List, [], ◌∷◌, map, length, get_or, drop, sym, ap, subst, arith}, lemmas.Grind.merely}, pagable_model.specs.{Blob.key_of, Merkle.blob_of}}
+use Rattle.{pagable_model.specs.declared.numbers.ArcRef.ArcRef, pagable_world.specs.{Kinds.identity_of, Plain.Identity, World.{Written, Values}}, pagable_walk.specs.Found.{ids_of, keys_of}}
+use Rattle.pagable_walk.specs.{Results.{HasFormOf, ResultStands, stands-over, ResultsStand, no-results, more-results}, declared.results.{SlotResult.SlotResult, Trees.Ghosts}}
 use mathlib.Core.Logic.{∥∥₁_elim, ∥∥₁_map, ∥∥₁_prop}
 
 module _ {N E X : Type 0} (hash : List ℕ → List ℕ) (values : E → Values N) {g : Ghosts X} (h : (i : Identity) (key : ℕ) → g.has_result i key → ResultStands hash values i key) where

@@ -1,10 +1,6 @@
 -- The number that falls with each step of a walk.
-use Rattle.std.proofs.{Common.{ℕ, ◌≡◌, ◌≤◌, ◌<◌, ◌+◌, ◌*◌, ◌^◌, List, ◌∷◌, length, refl, arith}, Math.Nat.mul-le-mul_right}
-use Rattle.pagable_model.specs.declared.numbers.ArcRef.{ArcRef}
-use Rattle.pagable_world.specs.World.{Todo, to_start}
-use Rattle.pagable_walk.specs.{Due.{IfGoes, LeadsOn, due, far}, Tasks.todo_of, declared.results.Trees.Ghosts, declared.tasks.Task.Task, declared.tasks.Turn.Turn}
-use Rattle.pagable_walk.specs.declared.tasks.Task.TheVariants as tasks
-use Rattle.pagable_walk.specs.declared.tasks.Turn.TheVariants as comes
+use Rattle.{std.proofs.{Common.{ℕ, ◌≡◌, ◌≤◌, ◌<◌, ◌+◌, ◌*◌, ◌^◌, List, ◌∷◌, length, refl, arith}, Math.Nat.mul-le-mul_right}, pagable_model.specs.declared.numbers.ArcRef.ArcRef}
+use Rattle.{pagable_world.specs.World.{Todo, to_start}, pagable_walk.specs.{Due.{IfGoes, LeadsOn, due, far}, Tasks.todo_of, declared.{results.Trees.Ghosts, tasks.{Task.Task, Turn.Turn}}}}
 
 falls-by : (l l' d d' b : ℕ) → l' + 1 ≤ l → d' < b → l' * b + d' < l * b + d
 falls-by l l' d d' b less low = let a : (l' + 1) * b ≤ l * b = mul-le-mul_right b less in omega (arith, a)
@@ -12,26 +8,18 @@ falls-by l l' d d' b less low = let a : (l' + 1) * b ≤ l * b = mul-le-mul_righ
 module _ {X : Type 0} {g : Ghosts X} where
   pub start-falls : (turn : Turn X g) (l l' : ℕ) (r : ArcRef) (place : ℕ) (below after : List Todo) → l' + 1 ≤ l → length below < 2 ^ 64 → LeadsOn (to_start r place ∷ below) turn after
       → IfGoes turn (l' * far + due after < l * far + due (to_start r place ∷ below))
-  start-falls (comes.Goes t) l l' r place below after less few leads = let low : due after < far = omega arith in falls-by l l' (due (to_start r place ∷ below)) (due after) far less low
-  start-falls (comes.Answers a) l l' r place below after less few leads = tt
+  start-falls (Turn.Goes t) l l' r place below after less few leads = let low : due after < far = omega arith in falls-by l l' (due (to_start r place ∷ below)) (due after) far less low
+  start-falls (Turn.Answers a) l l' r place below after less few leads = tt
 
   same-falls : (turn : Turn X g) (l : ℕ) (todo after : List Todo) → IfGoes turn (due after < due todo) → IfGoes turn (l * far + due after < l * far + due todo)
-  same-falls (comes.Goes t) l todo after less = omega (arith, less)
-  same-falls (comes.Answers a) l todo after less = tt
+  same-falls (Turn.Goes t) l todo after less = omega (arith, less)
+  same-falls (Turn.Answers a) l todo after less = tt
 
-  other-leads : (task : Task X g) → ((r : ArcRef) (place : ℕ) → task ≡ tasks.Start r place → ⊥) → (turn : Turn X g) (below after : List Todo) → LeadsOn (todo_of task ∷ below) turn after
+  other-leads : (task : Task X g) → ((r : ArcRef) (place : ℕ) → task ≡ Task.Start r place → ⊥) → (turn : Turn X g) (below after : List Todo) → LeadsOn (todo_of task ∷ below) turn after
       → IfGoes turn (due after < due (todo_of task ∷ below))
-  other-leads (tasks.Start r place) other turn below after leads = absurd (other r place refl)
-  other-leads (tasks.Pin r place) other turn below after leads = leads
-  other-leads (tasks.Load r place through reading) other turn below after leads = leads
-  other-leads (tasks.Write r place through pin) other turn below after leads = leads
-  other-leads (tasks.Finish o) other turn below after leads = leads
-  other-leads (tasks.Item i) other turn below after leads = leads
-  other-leads (tasks.SetKey d through) other turn below after leads = leads
-  other-leads (tasks.Publish d) other turn below after leads = leads
-  other-leads (tasks.Release d) other turn below after leads = leads
-  other-leads (tasks.Fail e back) other turn below after leads = leads
+  other-leads (Task.Start r place) other turn below after leads = absurd (other r place refl)
+  other-leads task other turn below after leads = leads
 
-  pub other-falls : (task : Task X g) → ((r : ArcRef) (place : ℕ) → task ≡ tasks.Start r place → ⊥) → (turn : Turn X g) (l : ℕ) (below after : List Todo) → LeadsOn (todo_of task ∷ below) turn after
+  pub other-falls : (task : Task X g) → ((r : ArcRef) (place : ℕ) → task ≡ Task.Start r place → ⊥) → (turn : Turn X g) (l : ℕ) (below after : List Todo) → LeadsOn (todo_of task ∷ below) turn after
       → IfGoes turn (l * far + due after < l * far + due (todo_of task ∷ below))
   other-falls task other turn l below after leads = same-falls turn l (todo_of task ∷ below) after (other-leads task other turn below after leads)

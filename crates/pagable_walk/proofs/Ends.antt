@@ -1,10 +1,8 @@
 -- Waits come to an end after each change of a table.
 use Rattle.std.proofs.{Common.{ℕ, ◌≡◌, Bool, true, false, if◌then◌else◌, Option, Some, None, ◌⊎◌, inl, inr, refl, sym, ap, ◌∙◌, subst, nat_eq, arith}, lemmas.Bool.Decides.nat_tests}
-use Rattle.std.proofs.{lemmas.Grind.{common_steps, merely}, lemmas.Option.none-some}
-use Rattle.pagable_world.specs.{Workers.{is_open_outcome, with_outcome, IsOpenSlot, ComesToEnd, works, may-go-on, waits-on, with_slot, with_wait}, Plain.{Identity, SameAt, if_there, updated}}
-use Rattle.pagable_world.specs.World.{Outcome, Slot, Shelf, no_result, SameShelf, is_identity}
-use Rattle.pagable_walk.proofs.{Held.{same-as, same-identity}, Waits.{some-same, as-told, closed}}
-use Rattle.pagable_walk.specs.Slots.{open_worker, next, Ends, ends-at, EachEnds, claimed_by, SlotIs, SameSlots, Changes}
+use Rattle.{std.proofs.lemmas.{Grind.{common_steps, merely}, Option.none-some}, pagable_world.specs.Workers.{is_open_outcome, with_outcome, IsOpenSlot, ComesToEnd, works, may-go-on, waits-on}}
+use Rattle.pagable_world.specs.{Workers.{with_slot, with_wait}, Plain.{Identity, SameAt, if_there, updated}, World.{Outcome, Slot, Shelf, no_result, SameShelf, is_identity}}
+use Rattle.pagable_walk.{proofs.{Held.{same-as, same-identity}, Waits.{some-same, as-told, closed}}, specs.Slots.{open_worker, next, Ends, ends-at, EachEnds, claimed_by, SlotIs, SameSlots, Changes}}
 use mathlib.Core.Logic.{∥∥₁_map}
 
 or-ends : {A B : Type 0} → (A → B) → A ⊎ B → B

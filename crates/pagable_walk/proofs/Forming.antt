@@ -1,22 +1,13 @@
 -- What was written is a form of the node's value.
-use Rattle.std.{proofs.Common.{ℕ, ◌≡◌, ◌++◌, List, [], ◌∷◌, true, false, Some, None, Result, Ok, Err, inl, inr, refl, sym, ap, subst, ◌∙◌, arith}, proofs.lemmas.Bool.Decides.nat_tests}
-use Rattle.std.{proofs.lemmas.Grind.common_steps, specs.Arc.arc_value, specs.Prelude.{IfOk, IfErr}, specs.declared.alloc.Global.Global, specs.declared.sync.Arc.Arc}
-use Rattle.pagable_core.specs.{Context.nothing, declared.context.writing.SerializedData.SerializedData}
-use Rattle.pagable_model.specs.{Form.Form, Reading.deepest, Refusals.is_writing_fault, Writing.{Out, WritesSome, nesting, Refused, kind_of_arc}, declared.error.Error.Error}
-use Rattle.pagable_model.specs.{declared.numbers.ArcRef.ArcRef, declared.numbers.HandleNumber.HandleNumber, declared.numbers.NodeNumber.NodeNumber}
-use Rattle.pagable_world.specs.{Kinds.{identity_of, is_pinning}, Pager.{PagerState, ValueCall, RefusesWriting}, Plain.type_of, Refusals.live_fault, Workers.{with_changed_slot, open_node}}
-use Rattle.pagable_world.specs.{World.{Values, Written, Shelf, Todo, SameShelf, seen_as, was_refused, row_at}, declared.handles.HandleRow.HandleRow, declared.handles.Owner.Owner}
-use Rattle.pagable_laws.proofs.Trees.{same_some}
-use Rattle.pagable_loads.specs.{Starting.Shares, Telling.values_at}
-use Rattle.pagable_walk.{specs.Failing.{back_of, fails}, specs.Slots.{with_written, written_of}, specs.Tasks.IsPlain, specs.Turns.{Fits, TurnsTo}, specs.Writing.{IsForm, WriteRefused, IsPinned}}
-use Rattle.pagable_walk.{specs.Writing.{Finds, Forms}, specs.declared.results.Trees.Ghosts, specs.declared.tasks.Task.Task, proofs.Turning.{alike, plain-fits}}
-use Rattle.pagable_codec.specs.declared.env.Env.{Ghosts as Environments}
-use Rattle.pagable_codec.specs.declared.hash.KeyHash.{Ghosts as Hashes}
-use Rattle.pagable_codec.specs.declared.nodes.NodeSet.{Ghosts as Nodes}
-use Rattle.pagable_model.specs.declared.error.Error.TheVariants as errors
-use Rattle.pagable_world.specs.declared.events.Took.TheVariants as took
-use Rattle.pagable_walk.specs.declared.tasks.Task.TheVariants as tasks
-use Rattle.pagable_walk.specs.declared.tasks.Turn.TheVariants as comes
+use Rattle.std.proofs.{Common.{ℕ, ◌≡◌, ◌++◌, List, [], ◌∷◌, true, false, Some, None, Result, Ok, Err, inl, inr, refl, sym, ap, subst, ◌∙◌, arith}, lemmas.{Bool.Decides.nat_tests, Grind.common_steps}}
+use Rattle.{std.specs.{Arc.arc_value, Prelude.{IfOk, IfErr}, declared.{alloc.Global.Global, sync.Arc.Arc}}, pagable_core.specs.Context.nothing}
+use Rattle.{pagable_core.specs.declared.context.writing.SerializedData.SerializedData, pagable_model.specs.{Refusals.is_writing_fault, Writing.{Out, WritesSome, nesting, Refused}}}
+use Rattle.{pagable_model.specs.declared.{error.Error.Error, numbers.{ArcRef.ArcRef, HandleNumber.HandleNumber, NodeNumber.NodeNumber}}, pagable_world.specs.{Kinds.identity_of, Pager.PagerState}}
+use Rattle.pagable_world.specs.{Pager.{ValueCall, RefusesWriting}, Plain.type_of, Refusals.live_fault, Workers.{with_changed_slot, open_node}, World.{Values, Written, Shelf, Todo, SameShelf, seen_as}}
+use Rattle.{pagable_world.specs.{World.{was_refused, row_at}, declared.{handles.{HandleRow.HandleRow, Owner.Owner}, events.Took.Took}}, pagable_laws.proofs.Trees.same_some}
+use Rattle.{pagable_loads.specs.{Starting.Shares, Telling.values_at}, pagable_walk.specs.{Failing.{back_of, fails}, Slots.{with_written, written_of}, Tasks.IsPlain, Turns.{Fits, TurnsTo}}}
+use Rattle.pagable_walk.{specs.{Writing.{IsForm, WriteRefused, IsPinned, Finds, Forms}, declared.{results.Trees.Ghosts, tasks.{Task.Task, Turn.Turn}}}, proofs.Turning.{alike, plain-fits}}
+use Rattle.pagable_codec.specs.declared.{env.Env.Ghosts as Environments, hash.KeyHash.Ghosts as Hashes, nodes.NodeSet.Ghosts as Nodes}
 
 module _ {N E H K V : Type 0} (n : Nodes N E N H K V) (e : Environments E N H K V) (h : Hashes H) (env : E) (x : N) (shaped : n.shape_of env (n.type_of x) ≡ Some (n.own_shape env x)) where
   pub is-form : (env' : E) (levels : ℕ) (old new : Out) (w : Written) → env' ≡ env → levels ≡ 0 → old ≡ nothing
@@ -64,10 +55,10 @@ module _ {N E : Type 0} (v : Values N) (s : PagerState N E) (r : ArcRef) (pin : 
   pub pinned-refuses : (x : N) (e : Error) → Finds v s r pin (Ok x) → WriteRefused v x e → Forms v s r pin (Err e)
   pinned-refuses x e finds why = grind (arith, nat_tests, common_steps)
 
-  none-written : (e : Error) → e ≡ errors.OutOfMemory → RefusesWriting v s r.node.0 e
+  none-written : (e : Error) → e ≡ Error.OutOfMemory → RefusesWriting v s r.node.0 e
   none-written e oom is = let no : false ≡ true = sym (ap is_writing_fault oom) ∙ is in absurd (cc)
 
-  pub memory-refuses : (e : Error) → e ≡ errors.OutOfMemory → Forms v s r pin (Err e)
+  pub memory-refuses : (e : Error) → e ≡ Error.OutOfMemory → Forms v s r pin (Err e)
   memory-refuses e oom = record { written = λ p. tt; refused = λ p. (inr oom, none-written e oom) }
 
   pub unfound-refuses : (e : Error) → Finds v s r pin (Err e) → Forms v s r pin (Err e)
@@ -78,7 +69,7 @@ module _ {N E : Type 0} (v : Values N) (s : PagerState N E) (r : ArcRef) (pin : 
   forms-from x (Ok d) is why finds = pinned-forms v s r pin x (see d) finds is
   forms-from x (Err e) is why finds = pinned-refuses v s r pin x e finds why
 
-  pub kept-forms : (w : Written) (result : Result W Error) → IfOk result (λ p. see p ≡ w) → IfErr result (λ e. e ≡ errors.OutOfMemory) → Forms v s r pin (Ok w) → Forms v s r pin (seen_as see result)
+  pub kept-forms : (w : Written) (result : Result W Error) → IfOk result (λ p. see p ≡ w) → IfErr result (λ e. e ≡ Error.OutOfMemory) → Forms v s r pin (Ok w) → Forms v s r pin (seen_as see result)
   kept-forms w (Ok p) same only forms = subst (λ x. Forms v s r pin (Ok x)) (sym same) forms
   kept-forms w (Err e) same only forms = memory-refuses v s r pin e only
 
@@ -89,14 +80,14 @@ none-back [] = refl
 none-back (x ∷ below) = refl
 
 module _ {X : Type 0} {g : Ghosts X} {N E : Type 0} (v : Values N) (me : Owner) (n : ℕ) (shelf shelf' : Shelf) (r : ArcRef) (place : ℕ) (through pin : HandleNumber) (below after : List Todo) (task : Task X g) (plain : IsPlain task) (s : PagerState N E) where
-  is-pinned : Fits {g = g} v me n (tasks.Write r place through pin) s → IsPinned v s r pin
+  is-pinned : Fits {g = g} v me n (Task.Write r place through pin) s → IsPinned v s r pin
   is-pinned f = record { whole = f.whole; kind = f.task_fits.0; pins = f.task_fits.1.pins }
 
   pub write-turns : (told : Arc SerializedData Global) → Forms v s r pin (Ok (written_of (arc_value told))) → SameShelf (with_changed_slot shelf (identity_of r) (with_written (written_of (arc_value told)))) shelf'
       → after ≡ open_node r place through (written_of (arc_value told)) below
-      → TurnsTo v me n shelf (tasks.Write r place through pin) below shelf' (record { took = took.Write (identity_of r) (Ok told); turn = comes.Goes task; counted = true }) after s s
+      → TurnsTo v me n shelf (Task.Write r place through pin) below shelf' (record { took = Took.Write (identity_of r) (Ok told); turn = Turn.Goes task; counted = true }) after s s
   write-turns told forms same is = grind (arith, nat_tests, common_steps, alike, is-pinned, plain-fits)
 
   pub write-fails : (e : Error) → Forms v s r pin (Err e) → SameShelf shelf shelf' → after ≡ fails (was_refused e) (back_of None below)
-      → TurnsTo v me n shelf (tasks.Write r place through pin) below shelf' (record { took = took.Write (identity_of r) (Err e); turn = comes.Goes task; counted = true }) after s s
+      → TurnsTo v me n shelf (Task.Write r place through pin) below shelf' (record { took = Took.Write (identity_of r) (Err e); turn = Turn.Goes task; counted = true }) after s s
   write-fails e forms same is = grind (arith, nat_tests, common_steps, is-pinned, alike, none-back, plain-fits)

@@ -1,11 +1,8 @@
 -- The slots of a table after one of them came or changed.
-use Rattle.std.proofs.Common.{ℕ, ◌≡◌, true≢false, Bool, true, false, cond, Option, Some, None, refl, sym, ap, ◌∙◌, subst, nat_eq, arith, ◌&&◌, if◌then◌else◌, inl, inr}
-use Rattle.std.{proofs.lemmas.Bool.Decides.nat_tests, proofs.lemmas.Grind.common_steps, specs.Option.option_map, specs.Prelude.{◌⊎◌, Result, Ok, Err, OnOk, OnErr}}
-use Rattle.indexmap.specs.IndexMap.{IndexMap, get}
-use Rattle.pagable_world.specs.{Plain.{Identity, SameAt, updated, if_there}, World.{Slot, is_identity}}
-use Rattle.pagable_walk.specs.{Slots.{is_same, slot_of, IsOwnOutcome, IsOwn, slots_in, AreOwn, AreNamed, SlotIs, Changes}, declared.results.SlotResult.SlotResult, declared.results.Trees.Ghosts}
-use Rattle.pagable_walk.specs.{declared.slots.ArcSerSlot.ArcSerSlot, declared.slots.Outcome.Outcome}
-use Rattle.pagable_walk.specs.declared.slots.Outcome.TheVariants as outcomes
+use Rattle.std.proofs.{Common.{ℕ, ◌≡◌, true≢false, Bool, true, false, cond, Option, Some, None, refl, sym, ap, ◌∙◌, subst, nat_eq, arith, ◌&&◌, if◌then◌else◌, inl, inr}, lemmas.Bool.Decides.nat_tests}
+use Rattle.{std.{proofs.lemmas.Grind.common_steps, specs.{Option.option_map, Prelude.{◌⊎◌, Result, Ok, Err, OnOk, OnErr}}}, indexmap.specs.IndexMap.{IndexMap, get}, pagable_world.specs.Plain.Identity}
+use Rattle.{pagable_world.specs.{Plain.{SameAt, updated}, World.{Slot, is_identity}}, pagable_walk.specs.Slots.{is_same, slot_of, IsOwnOutcome, IsOwn, slots_in, AreOwn, AreNamed, SlotIs, Changes}}
+use Rattle.pagable_walk.specs.declared.{results.{SlotResult.SlotResult, Trees.Ghosts}, slots.{ArcSerSlot.ArcSerSlot, Outcome.Outcome}}
 
 pub either-way : {A B P Q : Type 0} (r : Result A B) → OnOk r P → OnErr r Q → P ⊎ Q
 either-way (Ok x) p q = inl p
@@ -62,10 +59,10 @@ module _ {E : Type 0} {g : Ghosts E} where
       own-changed own f = own-is own (λ j e. subst (λ k. IsOwn k (Some s)) (same-identity i j e) (f (subst (IsOwn i) (sym at) (own i))))
 
   module _ {S : Type 0} (slots : IndexMap (ℕ × ℕ) (ArcSerSlot E g) S) where
-    own-outcome : (i : Identity) (o : Outcome E g) → ((r : SlotResult E g) → o ≡ outcomes.Published r → (r.identity.kind.0 ≡ i.kind.0) × (r.identity.node.0 ≡ i.node.0)) → IsOwnOutcome i o
-    own-outcome i outcomes.Open h = tt
-    own-outcome i (outcomes.Published r) h = let n = h r refl in same-numbers r.identity i n.0 n.1
-    own-outcome i outcomes.Failed h = tt
+    own-outcome : (i : Identity) (o : Outcome E g) → ((r : SlotResult E g) → o ≡ Outcome.Published r → (r.identity.kind.0 ≡ i.kind.0) × (r.identity.node.0 ≡ i.node.0)) → IsOwnOutcome i o
+    own-outcome i Outcome.Open h = tt
+    own-outcome i (Outcome.Published r) h = let n = h r refl in same-numbers r.identity i n.0 n.1
+    own-outcome i Outcome.Failed h = tt
 
     own-there : (i : Identity) (o : Option (ArcSerSlot E g)) → ((s : ArcSerSlot E g) → o ≡ Some s → IsOwnOutcome i s.outcome) → IsOwn i o
     own-there i None h = tt

@@ -1,16 +1,14 @@
 -- Steps of a worker's walk are joined to a run.
-use Rattle.std.proofs.{Common.{arith, ℕ, ◌≡◌, List, [], ◌∷◌, ap, subst, ◌∙◌}, lemmas.Bool.Decides.nat_tests, lemmas.Grind.common_steps}
-use Rattle.pagable_world.specs.{Access.{WalkStep, worker-ends, worker-goes-on}, Pager.PagerState, World.{Shelf, Todo, Values}, declared.events.WorkerAnswer.WorkerAnswer, declared.handles.Owner.Owner}
-use Rattle.pagable_walk.specs.{Tasks.todo_of, Turns.{LeavesFit, StepsTo, answer_in, plain, plain_took}, Walking.{RunsTo, HasWalked}, declared.results.Trees.Ghosts, declared.tasks.Moved.Moved}
-use Rattle.pagable_walk.specs.declared.tasks.Task.{Task}
-use Rattle.pagable_walk.specs.declared.tasks.Turn.TheVariants as comes
+use Rattle.{std.proofs.Common.{ℕ, ◌≡◌, List, [], ◌∷◌, ap, subst, ◌∙◌}, pagable_world.specs.{Access.{WalkStep, worker-ends, worker-goes-on}, Pager.PagerState, World.{Shelf, Todo, Values}}}
+use Rattle.{pagable_world.specs.declared.{events.WorkerAnswer.WorkerAnswer, handles.Owner.Owner}, pagable_walk.specs.{Tasks.todo_of, Turns.{LeavesFit, StepsTo, answer_in, plain, plain_took}}}
+use Rattle.pagable_walk.specs.{declared.{tasks.{Turn.Turn, Moved.Moved, Task.Task}, results.Trees.Ghosts}, Walking.{RunsTo, HasWalked}}
 
 module _ {X : Type 0} {g : Ghosts X} {N E : Type 0} (v : Values N) (me : Owner) (n : ℕ) (shelf : Shelf) (first : Task X g) (below : List Todo) where
   pub none-walked : (s : PagerState N E) → HasWalked v me n shelf first below shelf first below s s
   none-walked s = record { fits = λ f. f; then = λ f answer u shelf' w. w }
 
   module _ (now_shelf next_shelf : Shelf) (now : Task X g) (now_below after : List Todo) (moved : Moved X g) where
-    pub goes-walked : (next : Task X g) (next_below : List Todo) → moved.turn ≡ comes.Goes next → after ≡ todo_of next ∷ next_below → (s mid t : PagerState N E) → HasWalked v me n shelf first below now_shelf now now_below s mid
+    pub goes-walked : (next : Task X g) (next_below : List Todo) → moved.turn ≡ Turn.Goes next → after ≡ todo_of next ∷ next_below → (s mid t : PagerState N E) → HasWalked v me n shelf first below now_shelf now now_below s mid
         → StepsTo v me n now_shelf now now_below next_shelf moved after mid t
         → HasWalked v me n shelf first below next_shelf next next_below s t
     goes-walked next next_below goes is s mid t walked step = record {
@@ -24,7 +22,7 @@ module _ {X : Type 0} {g : Ghosts X} {N E : Type 0} (v : Values N) (me : Owner) 
           });
     }
 
-    pub ends-walked : (answer : WorkerAnswer) → moved.turn ≡ comes.Answers answer → (s mid t : PagerState N E) → HasWalked v me n shelf first below now_shelf now now_below s mid → StepsTo v me n now_shelf now now_below next_shelf moved after mid t
+    pub ends-walked : (answer : WorkerAnswer) → moved.turn ≡ Turn.Answers answer → (s mid t : PagerState N E) → HasWalked v me n shelf first below now_shelf now now_below s mid → StepsTo v me n now_shelf now now_below next_shelf moved after mid t
         → RunsTo v me n shelf first below next_shelf answer s t
     ends-walked answer ends s mid t walked step = record {
       runs = λ f.

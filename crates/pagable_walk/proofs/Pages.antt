@@ -1,25 +1,17 @@
 -- Page-outs of an item and of the entries of the list, from the runs of their workers.
-use Rattle.std.proofs.Common.{ℕ, ◌≡◌, ◌≤◌, ◌<◌, ◌+◌, List, ◌∷◌, length, Option, Some, None, Result, Ok, Err, inl, inr, refl, ap, subst, sym, ◌∙◌, arith, slice_get}
-use Rattle.std.{proofs.lemmas.List.Edits.length-remove, proofs.lemmas.Option.slice_get_within, proofs.lemmas.Bool.Decides.nat_tests, proofs.lemmas.Grind.common_steps, specs.List.remove}
-use Rattle.pagable_model.specs.{declared.data_key.OptionalDataKey.OptionalDataKey, declared.error.Error.Error, declared.numbers.ArcRef.ArcRef, declared.numbers.HandleNumber.HandleNumber}
-use Rattle.pagable_model.specs.declared.numbers.WorkerNumber.{WorkerNumber}
-use Rattle.pagable_world.specs.Access.{AccessState, Called, WorkerStarts, WorkerRun, worker-ends, worker-goes-on, no-worker, item-is-walked, EntryHas, EntryRun, entry-is-refused, no-entry-worker}
-use Rattle.pagable_world.specs.{Access.{entry-is-walked, ListRun, no-more, skips, pages, fails}, Calls.{ReleaseCall, TakeCall}, Events.{entry_task, no_shelf}, Kinds.{identity_of, owner_worker}}
-use Rattle.pagable_world.specs.{Pager.{PagerState, WellFormed}, Workers.first_todo, World.{Shelf, SameShelf, Todo, of_entry, of_item, Values, Written, Seen, Alike}, declared.events.Took.Took}
-use Rattle.pagable_world.specs.{declared.events.WorkerAnswer.WorkerAnswer, declared.handles.Owner.Owner}
-use Rattle.pagable_laws.proofs.{Lengths.none-shorter, Sparing.{Spares, spares-then}, SparingSteps.{walk-spares-list, release-spares-list}}
-use Rattle.pagable_loads.specs.{Telling.Acting, Working.{as_caller, StartsEntry, RefusesEntry}}
-use Rattle.pagable_walk.proofs.{Pinning.same-shelf, Turning.{alike, plain-fits}, Unanswered.{item-answered, entry-answered}}
-use Rattle.pagable_walk.specs.{Over.{failure_of, PagesItem, PagesList, PagesEntry, Skipped, SkipsEntry, PlaceDone, PagesAt, HasPaged}, Slots.no_claims, Tasks.{IsPlain, todo_of}, Turns.{Fits, plain}}
-use Rattle.pagable_walk.specs.{Walking.{RunsTo, Walked}, declared.results.Trees.Ghosts, declared.table.PageOutError.PageOutError, declared.tasks.Task.Task}
-use Rattle.pagable_model.specs.declared.data_key.OptionalDataKey.TheVariants as optional
-use Rattle.pagable_model.specs.declared.error.Error.TheVariants as errors
-use Rattle.pagable_world.specs.declared.events.WorkerAnswer.TheVariants as finals
-use Rattle.pagable_world.specs.declared.handles.Owner.TheVariants as owners
-use Rattle.pagable_walk.specs.declared.table.PageOutError.TheVariants as failures
+use Rattle.std.proofs.{Common.{ℕ, ◌≡◌, ◌≤◌, ◌<◌, ◌+◌, List, ◌∷◌, length, Option, Some, None, Result, Ok, Err, inl, inr, refl, ap, subst, sym, ◌∙◌, arith}, lemmas.List.Edits.length-remove}
+use Rattle.{std.{proofs.lemmas.{Option.slice_get_within, Bool.Decides.nat_tests, Grind.common_steps}, specs.List.remove}, pagable_model.specs.declared.{error.Error.Error, numbers.ArcRef.ArcRef}}
+use Rattle.{pagable_model.specs.declared.{numbers.{HandleNumber.HandleNumber, WorkerNumber.WorkerNumber}, data_key.OptionalDataKey.OptionalDataKey}, pagable_world.specs.Access.{AccessState, Called}}
+use Rattle.pagable_world.specs.Access.{WorkerStarts, WorkerRun, worker-ends, worker-goes-on, no-worker, item-is-walked, EntryHas, EntryRun, entry-is-refused, no-entry-worker, entry-is-walked, ListRun}
+use Rattle.pagable_world.specs.{Access.{no-more, skips, pages, fails}, Calls.{ReleaseCall, TakeCall}, Events.{entry_task, no_shelf}, Kinds.{identity_of, owner_worker}, Pager.{PagerState, WellFormed}}
+use Rattle.pagable_world.specs.{Workers.first_todo, World.{Shelf, SameShelf, Todo, of_entry, of_item, Values, Written, Seen, Alike}, declared.events.{Took.Took, WorkerAnswer.WorkerAnswer}}
+use Rattle.{pagable_world.specs.declared.handles.Owner.Owner, pagable_laws.proofs.{Lengths.none-shorter, Sparing.{Spares, spares-then}, SparingSteps.{walk-spares-list, release-spares-list}}}
+use Rattle.{pagable_loads.specs.{Telling.Acting, Working.{as_caller, StartsEntry, RefusesEntry}}, pagable_walk.proofs.{Pinning.same-shelf, Turning.{alike, plain-fits}, Unanswered.item-answered}}
+use Rattle.pagable_walk.{proofs.Unanswered.entry-answered, specs.{Over.{failure_of, PagesItem, PagesList, PagesEntry, Skipped, SkipsEntry, PagesAt, HasPaged}, Slots.no_claims, Tasks.IsPlain}}
+use Rattle.pagable_walk.specs.{Tasks.todo_of, Turns.{Fits, plain}, Walking.{RunsTo, Walked}, declared.{results.Trees.Ghosts, table.PageOutError.PageOutError, tasks.Task.Task}}
 
 -- whoever acts for the caller does so again after a worker
-pub is-caller : {E : Type 0} (acting : Acting E) → acting.me ≡ owners.Caller → as_caller acting ≡ acting
+pub is-caller : {E : Type 0} (acting : Acting E) → acting.me ≡ Owner.Caller → as_caller acting ≡ acting
 is-caller acting mine = ap (λ me. record acting { me = me }) (sym mine)
 
 module _ {N E : Type 0} (v : Values N) where
@@ -27,11 +19,11 @@ module _ {N E : Type 0} (v : Values N) where
   stays-called s whole = record { step = alike s.core; moves = record { each = λ n x is. inl is; environment = refl }; whole = whole }
 
   module _ (shelf : Shelf) (item : Written) where
-    pub item-unbegun : (e : Error) → e ≡ errors.OutOfMemory → (s t : PagerState N E) → Called v (λ w'. Alike s.core w') s t → PagesItem v shelf item shelf (finals.Failed e) s t
-    item-unbegun e is s t call = subst (λ x. PagesItem v shelf item shelf (finals.Failed x) s t) (sym is) (record { over = λ whole all. record { run = no-worker _ call (same-shelf shelf); all_have_results = all } })
+    pub item-unbegun : (e : Error) → e ≡ Error.OutOfMemory → (s t : PagerState N E) → Called v (λ w'. Alike s.core w') s t → PagesItem v shelf item shelf (WorkerAnswer.Failed e) s t
+    item-unbegun e is s t call = subst (λ x. PagesItem v shelf item shelf (WorkerAnswer.Failed x) s t) (sym is) (record { over = λ whole all. record { run = no-worker _ call (same-shelf shelf); all_have_results = all } })
 
-    pub item-unstarted : (e : Error) → e ≡ errors.OutOfMemory → (s : PagerState N E) → PagesItem v shelf item shelf (finals.Failed e) s s
-    item-unstarted e is s = subst (λ x. PagesItem v shelf item shelf (finals.Failed x) s s) (sym is) (record { over = λ whole all. record { run = no-worker _ (stays-called s whole) (same-shelf shelf); all_have_results = all } })
+    pub item-unstarted : (e : Error) → e ≡ Error.OutOfMemory → (s : PagerState N E) → PagesItem v shelf item shelf (WorkerAnswer.Failed e) s s
+    item-unstarted e is s = subst (λ x. PagesItem v shelf item shelf (WorkerAnswer.Failed x) s s) (sym is) (record { over = λ whole all. record { run = no-worker _ (stays-called s whole) (same-shelf shelf); all_have_results = all } })
 
     pub item-walked : {X : Type 0} {g : Ghosts X} (me : Owner) (n : ℕ) (task : Task X g) (below : List Todo) (shelf' : Shelf) (answer : WorkerAnswer) → me ≡ owner_worker n → IsPlain task
         → todo_of task ∷ below ≡ first_todo (of_item item) → (s mid t : PagerState N E) → WorkerStarts v s.core s n mid → RunsTo v me n shelf task below shelf' answer mid t
@@ -52,23 +44,23 @@ module _ {N E : Type 0} (v : Values N) where
 
   -- a worker leaves the handles of the list
   run-spares : {B W : Type 0} {m : Seen N B W} {n : ℕ} {todo : List Todo} {s s' : AccessState N E} {steps : List (Took W)} {answer : WorkerAnswer} → WorkerRun m n todo s steps answer s'
-      → Spares owners.List s.pager.core s'.pager.core
+      → Spares Owner.List s.pager.core s'.pager.core
   run-spares {m = m} {n} (worker-ends todo next step answer s s' w is) = walk-spares-list m n (record { core = s.pager.core; shelf = s.shelf; todo = todo }) w.after s'.pager.core step _ w.does w.ends
   run-spares {m = m} {n} (worker-goes-on todo next step steps answer s mid s' w is more) =
-      spares-then owners.List (walk-spares-list m n (record { core = s.pager.core; shelf = s.shelf; todo = todo }) w.after mid.pager.core step _ w.does w.ends) (run-spares more)
+      spares-then Owner.List (walk-spares-list m n (record { core = s.pager.core; shelf = s.shelf; todo = todo }) w.after mid.pager.core step _ w.does w.ends) (run-spares more)
 
   -- the list without one entry, and what comes then
   entries-stay : (place : ℕ) (s mid t : PagerState N E) → place < length s.core.list → mid.core.list ≡ remove s.core.list place → length mid.core.list ≤ length t.core.list → place ≤ length t.core.list
   entries-stay place s mid t within is longer = grind (arith, nat_tests, common_steps, length-remove)
 
-  pub entry-refused : (place : ℕ) (e : Error) (s t : PagerState N E) → RefusesEntry v s place e t → PagesEntry v place (finals.Failed e) s t
+  pub entry-refused : (place : ℕ) (e : Error) (s t : PagerState N E) → RefusesEntry v s place e t → PagesEntry v place (WorkerAnswer.Failed e) s t
   entry-refused place e s t r = record {
     pages = λ whole listed. record {
       run = elim r.why [
         | inl past ↦ absurd (omega (arith, listed, past.1))
         | inr other ↦ elim other [
-          | inl kind ↦ subst (λ x. EntryRun (plain v) s place (finals.Failed x) t) (sym kind.0) (entry-is-refused kind.1.0 kind.1.1 kind.1.2 t kind.1.3 kind.1.4 r.stays)
-          | inr is ↦ subst (λ x. EntryRun (plain v) s place (finals.Failed x) t) (sym is) (no-entry-worker t r.stays)
+          | inl kind ↦ subst (λ x. EntryRun (plain v) s place (WorkerAnswer.Failed x) t) (sym kind.0) (entry-is-refused kind.1.0 kind.1.1 kind.1.2 t kind.1.3 kind.1.4 r.stays)
+          | inr is ↦ subst (λ x. EntryRun (plain v) s place (WorkerAnswer.Failed x) t) (sym is) (no-entry-worker t r.stays)
         ]
       ];
       whole = r.stays.whole;
@@ -97,12 +89,12 @@ module _ {N E : Type 0} (v : Values N) where
 
   -- ---- a place of the list
 
-  pub took-none : (place : ℕ) (taken : Option HandleNumber) → ((h : HandleNumber) → taken ≡ Some h → ⊥) → (s t : PagerState N E) → Called v (λ w'. TakeCall s.core owners.Caller place taken w') s t → SkipsEntry v place s t
+  pub took-none : (place : ℕ) (taken : Option HandleNumber) → ((h : HandleNumber) → taken ≡ Some h → ⊥) → (s t : PagerState N E) → Called v (λ w'. TakeCall s.core Owner.Caller place taken w') s t → SkipsEntry v place s t
   took-none place (Some h) none s t call = absurd (none h refl)
   took-none place None none s t call = record { skips = λ h listed. absurd (let within = slice_get_within s.core.list place h listed in omega (arith, within, call.step.0)) }
 
-  pub took-some : (place : ℕ) (h : HandleNumber) (told : Result (Unit {0}) Error) (s mid t : PagerState N E) → Called v (λ w'. TakeCall s.core owners.Caller place (Some h) w') s mid
-      → Called v (λ w'. ReleaseCall mid.core owners.Caller h told w') mid t → SkipsEntry v place s t
+  pub took-some : (place : ℕ) (h : HandleNumber) (told : Result (Unit {0}) Error) (s mid t : PagerState N E) → Called v (λ w'. TakeCall s.core Owner.Caller place (Some h) w') s mid
+      → Called v (λ w'. ReleaseCall mid.core Owner.Caller h told w') mid t → SkipsEntry v place s t
   took-some place h told s mid t takes releases = record {
     skips = λ k listed.
         let e : h ≡ k = cc-some takes.step.0 listed in
@@ -115,7 +107,7 @@ module _ {N E : Type 0} (v : Values N) where
   pub at-past : (place : ℕ) (s : PagerState N E) → length s.core.list ≤ place → PagesAt v place (Ok tt) s s
   at-past place s past = record { done = λ whole within. absurd (omega (arith, past, within)) }
 
-  pub at-skipped : (place key : ℕ) (s t : PagerState N E) → (h : HandleNumber) × EntryHas s.core place h (optional.Some key) → SkipsEntry v place s t → PagesAt v place (Ok tt) s t
+  pub at-skipped : (place key : ℕ) (s t : PagerState N E) → (h : HandleNumber) × EntryHas s.core place h (OptionalDataKey.Some key) → SkipsEntry v place s t → PagesAt v place (Ok tt) s t
   at-skipped place key s t (h, has) skip =
       let k = skip.skips h has.listed in
       record {
@@ -127,21 +119,23 @@ module _ {N E : Type 0} (v : Values N) where
         };
       }
 
-  pub at-paged : (place key : ℕ) (s t : PagerState N E) → (h : HandleNumber) × EntryHas s.core place h optional.None → PagesEntry v place (finals.Key key) s t → PagesAt v place (Ok tt) s t
+  pub at-paged : (place key : ℕ) (s t : PagerState N E) → (h : HandleNumber) × EntryHas s.core place h OptionalDataKey.None
+      → PagesEntry v place (WorkerAnswer.Key key) s t → PagesAt v place (Ok tt) s t
   at-paged place key s t (h, has) pages_it = record {
     done = λ whole within.
         let p = pages_it.pages whole within in
         record { whole = p.whole; long = p.long; goes = λ i next answer s' more. pages i place key h answer s t s' next has p.run more; stops = tt };
   }
 
-  pub at-failed : (place : ℕ) (e : Error) (s t : PagerState N E) → (h : HandleNumber) × EntryHas s.core place h optional.None → PagesEntry v place (finals.Failed e) s t → PagesAt v place (Err (failures.Failed e)) s t
+  pub at-failed : (place : ℕ) (e : Error) (s t : PagerState N E) → (h : HandleNumber) × EntryHas s.core place h OptionalDataKey.None → PagesEntry v place (WorkerAnswer.Failed e) s t → PagesAt v place (Err (PageOutError.Failed e)) s t
   at-failed place e s t (h, has) pages_it = record {
     done = λ whole within.
         let p = pages_it.pages whole within in
         record { whole = p.whole; long = p.long; goes = tt; stops = λ i next. fails i place h e s t next has p.run };
   }
 
-  pub at-other : (place : ℕ) (s t : PagerState N E) → (h : HandleNumber) × EntryHas s.core place h optional.None → PagesEntry v place finals.AlreadyFailed s t → PagesAt v place (Err failures.AlreadyFailed) s t
+  pub at-other : (place : ℕ) (s t : PagerState N E) → (h : HandleNumber) × EntryHas s.core place h OptionalDataKey.None
+      → PagesEntry v place WorkerAnswer.AlreadyFailed s t → PagesAt v place (Err PageOutError.AlreadyFailed) s t
   at-other place s t (h, has) pages_it = record { done = λ whole within. let p = pages_it.pages whole within in absurd (p.unfailed refl) }
 
   -- ---- the list

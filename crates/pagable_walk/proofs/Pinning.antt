@@ -1,29 +1,16 @@
 -- A turn that pins what was claimed, or loads it, is the worker's.
-use Rattle.std.{proofs.Common.{ℕ, ◌≡◌, ◌+◌, ◌==◌, Bool, true, false, List, [], ◌∷◌, Some, None, Ok, Err, inl, inr, refl, sym, ap, subst, ◌∙◌, arith}, proofs.lemmas.Bool.Decides.nat_tests}
-use Rattle.std.{proofs.lemmas.Grind.common_steps, specs.Prelude.{Option, if◌then◌else◌, not, ◌&&◌}}
-use Rattle.pagable_model.specs.declared.error.Error.{Error}
-use Rattle.pagable_world.specs.{Plain.{ArcRef, HandleNumber, Kind, LoadNumber, NodeNumber, OptionalDataKey, type_of, if_there}, Kinds.{identity_of, is_loose, is_pinning, mode_of, owner_worker}}
-use Rattle.pagable_world.specs.{Kinds.{owner_value, find_row, is_handle}, World.{Core, Cell, Shelf, SameShelf, Todo, to_pin, to_load, to_write, Frame, OpenLoad, Reading, Root, of_cell, of_key}}
-use Rattle.pagable_world.specs.{World.{Values, was_refused, type_at, one_more}, Calls.{with_handle, with_mode, with_node, next_node, with_cached, moved, is_named_by, CloneCall, PinCall}}
-use Rattle.pagable_world.specs.{Access.{Called, ReadingStep}, Cascade.FallsAnyhow, LoadCalls.{with_pin, without_load, is_owned_in, adopted, first_key}, Loads.{GoesOn, EndsPinned, IsOfKey, gone_on}}
-use Rattle.pagable_world.specs.{Pager.{PagerState, HandlesAreWhole, Moves}, Workers.{PinsAtOnce, PinRefused, RowIs, fresh, entry_left, Does}, declared.events.LoadAnswer.LoadAnswer}
-use Rattle.pagable_world.specs.{declared.handles.HandleRow.HandleRow, declared.handles.Owner.Owner}
-use Rattle.pagable_laws.{specs.KeyRuns.StandsAt, specs.TreeSteps.Change, proofs.PinSteps.{AreLow, low-whole, low-changed, low-handle, new-handle, clone-call, not-loose, owned-none}, proofs.Goes.Goes}
-use Rattle.pagable_laws.{proofs.Naming.clone-stands, proofs.Outlasting.{NotValues, Stands, stands-alike, stands-fell}, proofs.Trees.same_some, proofs.WalkSteps.walk-goes}
-use Rattle.pagable_loads.specs.{Frames.{IsLoadOf, frames_of, reading_of}, Stepping.Steps, Working.{TakesReference, BeginsAt}}
-use Rattle.pagable_walk.{specs.Failing.{back_of, fails}, specs.Tasks.IsPlain, specs.Turns.{IsLoading, IsOfKind, HoldsPin, Fits, TurnsTo, plain, site}, specs.declared.results.Trees.Ghosts}
-use Rattle.pagable_walk.{specs.declared.tasks.Moved.Moved, specs.declared.tasks.Task.Task, proofs.Turning.plain-fits}
-use Rattle.pagable_loads.specs.declared.reading.Reading.{Reading as Own}
-use Rattle.pagable_model.specs.declared.data_key.OptionalDataKey.TheVariants as optional
-use Rattle.pagable_world.specs.declared.rows.Mode.TheVariants as modes
-use Rattle.pagable_world.specs.declared.handles.Owner.TheVariants as owners
-use Rattle.pagable_world.specs.declared.answers.Pinning.TheVariants as pinnings
-use Rattle.pagable_world.specs.declared.events.LoadAnswer.TheVariants as ends
-use Rattle.pagable_world.specs.declared.events.PinStep.TheVariants as pinsteps
-use Rattle.pagable_world.specs.declared.events.Took.TheVariants as took
-use Rattle.pagable_loads.specs.declared.working.Taken.TheVariants as takens
-use Rattle.pagable_walk.specs.declared.tasks.Task.TheVariants as tasks
-use Rattle.pagable_walk.specs.declared.tasks.Turn.TheVariants as comes
+use Rattle.std.proofs.{Common.{ℕ, ◌≡◌, ◌+◌, ◌==◌, Bool, true, false, List, [], ◌∷◌, Some, None, Ok, Err, inl, inr, refl, sym, ap, subst, ◌∙◌, arith}, lemmas.Bool.Decides.nat_tests}
+use Rattle.{std.{proofs.lemmas.Grind.common_steps, specs.Prelude.{Option, if◌then◌else◌, not, ◌&&◌}}, pagable_model.specs.declared.error.Error.Error, pagable_world.specs.Plain.{ArcRef, HandleNumber}}
+use Rattle.pagable_world.specs.{Plain.{Kind, LoadNumber, NodeNumber, OptionalDataKey, type_of, if_there}, Kinds.{identity_of, is_loose, is_pinning, owner_worker, owner_value, find_row, is_handle}}
+use Rattle.pagable_world.specs.World.{Core, Cell, Shelf, SameShelf, Todo, to_pin, to_load, to_write, Frame, OpenLoad, Reading, Root, of_cell, of_key, Values, was_refused, type_at, one_more}
+use Rattle.pagable_world.specs.{Calls.{with_handle, with_mode, moved, is_named_by, CloneCall, PinCall}, Access.{Called, ReadingStep}, Cascade.FallsAnyhow, LoadCalls.{with_pin, without_load}}
+use Rattle.pagable_world.specs.{LoadCalls.{is_owned_in, adopted}, Loads.{GoesOn, EndsPinned, IsOfKey, gone_on}, Pager.{PagerState, HandlesAreWhole, Moves}, Workers.{PinsAtOnce, RowIs, fresh}}
+use Rattle.pagable_world.specs.{Workers.{entry_left, Does}, declared.{events.{LoadAnswer.LoadAnswer, Took.Took, PinStep.PinStep}, handles.{HandleRow.HandleRow, Owner.Owner}, answers.Pinning.Pinning}}
+use Rattle.{pagable_world.specs.declared.rows.Mode.Mode, pagable_laws.{specs.{KeyRuns.StandsAt, TreeSteps.Change}, proofs.PinSteps.{AreLow, low-whole, low-changed, low-handle, new-handle}}}
+use Rattle.pagable_laws.proofs.{PinSteps.{clone-call, not-loose, owned-none}, Goes.Goes, Naming.clone-stands, Outlasting.{NotValues, Stands, stands-alike, stands-fell}, Trees.same_some}
+use Rattle.{pagable_laws.proofs.WalkSteps.walk-goes, pagable_loads.specs.{Frames.{IsLoadOf, frames_of, reading_of}, Stepping.Steps, Working.{TakesReference, BeginsAt}}}
+use Rattle.{pagable_loads.specs.declared.{reading.Reading.Reading as Own, working.Taken.Taken}, pagable_walk.specs.{Failing.{back_of, fails}, Tasks.IsPlain, declared.tasks.{Turn.Turn, Moved.Moved}}}
+use Rattle.pagable_walk.{specs.{declared.{tasks.Task.Task, results.Trees.Ghosts}, Turns.{IsLoading, IsOfKind, HoldsPin, Fits, TurnsTo, plain, site}}, proofs.Turning.plain-fits}
 
 -- ---- what stays
 
@@ -56,12 +43,12 @@ clone-pins w w' me r k whole stands is clone =
     let same : is.row ≡ row = same_some _ _ (sym is.live ∙ c.1) in
     pins-by w' r k (w.last.handle + 1) clone.made.2.above c.2 (stands.is row c.1).0 (not-loose row.mode (ap (λ (h : HandleRow). is_loose h.mode) (sym same) ∙ is.sort))
 
-pin-pins : (w w' : Core) (me : Owner) (r : ArcRef) (h k : HandleNumber) → AreLow w → StandsAt w r h → PinCall w me h (Ok (pinnings.Pinned k)) w' → HoldsPin w' me r k
+pin-pins : (w w' : Core) (me : Owner) (r : ArcRef) (h k : HandleNumber) → AreLow w → StandsAt w r h → PinCall w me h (Ok (Pinning.Pinned k)) w' → HoldsPin w' me r k
 pin-pins w w' me r h k low stands c =
     let row : HandleRow = c.pins.0 in
-    let low' = low-changed w.last.handle w.rows (is_handle h.0) (λ r. record r { mode = modes.LoosePinned }) (λ r. refl) low in
-    let s = new-handle (with_mode w h modes.LoosePinned) row.node modes.Pinned me low' in
-    pins-by w' r k (w.last.handle + 1) c.pins.2.1.above (stands-alike {w = with_handle (with_mode w h modes.LoosePinned) row.node modes.Pinned me} c.pins.2.2 s) (stands.is row c.pins.1.live).0 refl
+    let low' = low-changed w.last.handle w.rows (is_handle h.0) (λ r. record r { mode = Mode.LoosePinned }) (λ r. refl) low in
+    let s = new-handle (with_mode w h Mode.LoosePinned) row.node Mode.Pinned me low' in
+    pins-by w' r k (w.last.handle + 1) c.pins.2.1.above (stands-alike {w = with_handle (with_mode w h Mode.LoosePinned) row.node Mode.Pinned me} c.pins.2.2 s) (stands.is row c.pins.1.live).0 refl
 
 low-cloned : (w w' : Core) (me : Owner) (h k : HandleNumber) → HandlesAreWhole w → CloneCall w me h (Ok k) w' → AreLow w'
 low-cloned w w' me h k whole c = let row : HandleRow = c.made.0 in low-handle w w' row.node row.mode me (low-whole whole) c.made.3
@@ -102,10 +89,7 @@ adopted-loads w l kind key own references q = grind (arith, nat_tests, common_st
 
 goes-open : {N : Type 0} (v : Values N) (w w' : Core) (me : Owner) (reading : Reading) (frames : List Frame) (l : ℕ) → GoesOn v w me reading frames w' → w'.loads l ≡ w.loads l
 goes-open v w w' me reading frames l (inl g) = grind (arith, nat_tests, common_steps)
-goes-open v w w' me reading frames l (inr (inl g)) = grind (arith, nat_tests, common_steps)
-goes-open v w w' me reading frames l (inr (inr (inl g))) = grind (arith, nat_tests, common_steps)
-goes-open v w w' me reading frames l (inr (inr (inr (inl g)))) = grind (arith, nat_tests, common_steps, adopted-loads)
-goes-open v w w' me reading frames l (inr (inr (inr (inr g)))) = grind (arith, nat_tests, common_steps, adopted-loads)
+goes-open v w w' me reading frames l (inr g) = grind (arith, nat_tests, common_steps, adopted-loads)
 
 worker-free : (n : ℕ) → NotValues (owner_worker n)
 worker-free n m is = absurd (cc)
@@ -119,8 +103,8 @@ module _ (w w' : Core) (n : ℕ) (r : ArcRef) (whole : HandlesAreWhole w) where
       → given (w.last.handle + 1) ≡ false → node ≡ r.node
       → FallsAnyhow w (with_pin u h node (owner_worker n)) given w' → HoldsPin w' (owner_worker n) r k
   stays-pinned u h node k given low same next kept at f =
-      let low' = low-changed u.last.handle u.rows (is_handle h.0) (λ r. record r { mode = modes.LoosePinned }) (λ r. refl) low in
-      let s = new-handle (with_mode u h modes.LoosePinned) node modes.Pinned (owner_worker n) low' in
+      let low' = low-changed u.last.handle u.rows (is_handle h.0) (λ r. record r { mode = Mode.LoosePinned }) (λ r. refl) low in
+      let s = new-handle (with_mode u h Mode.LoosePinned) node Mode.Pinned (owner_worker n) low' in
       let q : u.last.handle + 1 ≡ w.last.handle + 1 = ap (λ n. n + 1) same in
       pins-by w' r k (u.last.handle + 1) (next ∙ sym q) (stands-fell f.falls (worker-free n) (ap given q ∙ kept) s) at refl
 
@@ -139,7 +123,7 @@ module _ (w w' : Core) (n : ℕ) (r : ArcRef) (whole : HandlesAreWhole w) where
       elim i.falls [
         | inl (away, f) ↦ stays-pinned (record (without_load w l) { rows = moved (is_named_by references) (owner_value node.0) w.rows }) h node k _
             (low-changed w.last.handle w.rows (λ r. is_named_by references r.number.0) (λ r. record r { owner = owner_value node.0 }) (λ r. refl) low) refl i.next.above (ap (λ b. b && not (is_named_by references (w.last.handle + 1))) (owned-none w w low l)) at f
-        | inr (there, f) ↦ stays-pinned (without_load w l) h node k (is_owned_in w (owners.Load l)) low refl i.next.above (owned-none w w low l) at f
+        | inr (there, f) ↦ stays-pinned (without_load w l) h node k (is_owned_in w (Owner.Load l)) low refl i.next.above (owned-none w w low l) at f
       ]
 
 -- ---- the turns
@@ -163,15 +147,15 @@ load-back r place through reading [] = refl
 load-back r place through reading (x ∷ below) = refl
 
 module _ {X : Type 0} {g : Ghosts X} {N E : Type 0} (v : Values N) (me : Owner) (n : ℕ) (shelf : Shelf) (r : ArcRef) (place : ℕ) (below : List Todo) where
-  pub pin-holds : (through k : HandleNumber) (s t : PagerState N E) → Called v (λ w'. TakesReference s.core me r (Ok (takens.Held through k)) w') s t
-      → TurnsTo {g = g} v me n shelf (tasks.Pin r place) below shelf (record { took = took.Pin (identity_of r) (Ok (pinsteps.Held k)); turn = comes.Goes (tasks.Write r place through k); counted = true }) (to_write r place through ∷ below) s t
+  pub pin-holds : (through k : HandleNumber) (s t : PagerState N E) → Called v (λ w'. TakesReference s.core me r (Ok (Taken.Held through k)) w') s t
+      → TurnsTo {g = g} v me n shelf (Task.Pin r place) below shelf (record { took = Took.Pin (identity_of r) (Ok (PinStep.Held k)); turn = Turn.Goes (Task.Write r place through k); counted = true }) (to_write r place through ∷ below) s t
   pin-holds through k s t call = record {
     counts = refl;
     turns = λ f.
         let takes = subst (λ o. PinsAtOnce s.core o r through k t.core) f.me_is call.step.takes in
-        let does : Does (plain v) n (site s.core shelf (to_pin r place ∷ below)) (to_pin r place ∷ below) (took.Pin (identity_of r) (Ok (pinsteps.Held k))) (site t.core shelf (to_write r place through ∷ below)) =
+        let does : Does (plain v) n (site s.core shelf (to_pin r place ∷ below)) (to_pin r place ∷ below) (Took.Pin (identity_of r) (Ok (PinStep.Held k))) (site t.core shelf (to_write r place through ∷ below)) =
         (refl, record { pins = (through, takes, record { table_stays = same-shelf shelf; list_is = refl }); refused = tt }) in
-        let goes = walk-goes (plain v) n (site s.core shelf (to_pin r place ∷ below)) (site t.core shelf (to_write r place through ∷ below)) (to_pin r place ∷ below) (took.Pin (identity_of r) (Ok (pinsteps.Held k))) does in
+        let goes = walk-goes (plain v) n (site s.core shelf (to_pin r place ∷ below)) (site t.core shelf (to_write r place through ∷ below)) (to_pin r place ∷ below) (Took.Pin (identity_of r) (Ok (PinStep.Held k))) does in
         record {
           does = record { does = does };
           answers = refl;
@@ -183,14 +167,14 @@ module _ {X : Type 0} {g : Ghosts X} {N E : Type 0} (v : Values N) (me : Owner) 
   }
 
   pub pin-begins : (through : HandleNumber) (l : LoadNumber) (key : ℕ) (own : Own) → reading_of own ≡ fresh l (type_of r.kind.0) → own.key ≡ key → own.for_cell ≡ true → (s t : PagerState N E)
-      → Called v (λ w'. TakesReference s.core me r (Ok (takens.Begun through l key)) w') s t → TurnsTo {g = g} v me n shelf (tasks.Pin r place) below shelf (record { took = took.Pin (identity_of r) (Ok (pinsteps.LoadBegun l)); turn = comes.Goes (tasks.Load r place through own); counted = true }) (to_load r place through (reading_of own) ∷ below) s t
+      → Called v (λ w'. TakesReference s.core me r (Ok (Taken.Begun through l key)) w') s t → TurnsTo {g = g} v me n shelf (Task.Pin r place) below shelf (record { took = Took.Pin (identity_of r) (Ok (PinStep.LoadBegun l)); turn = Turn.Goes (Task.Load r place through own); counted = true }) (to_load r place through (reading_of own) ∷ below) s t
   pin-begins through l key own is same_key cell s t call = record {
     counts = refl;
     turns = λ f.
         let takes = subst (λ o. BeginsAt s.core o r through l key t.core) f.me_is call.step.takes in
-        let does : Does (plain v) n (site s.core shelf (to_pin r place ∷ below)) (to_pin r place ∷ below) (took.Pin (identity_of r) (Ok (pinsteps.LoadBegun l))) (site t.core shelf (to_load r place through (reading_of own) ∷ below)) =
+        let does : Does (plain v) n (site s.core shelf (to_pin r place ∷ below)) (to_pin r place ∷ below) (Took.Pin (identity_of r) (Ok (PinStep.LoadBegun l))) (site t.core shelf (to_load r place through (reading_of own) ∷ below)) =
         (refl, record { pins = (through, (takes.0, (takes.1.0, key, takes.1.1, takes.1.2)), record { table_stays = same-shelf shelf; list_is = ap (λ x. to_load r place through x ∷ below) is }); refused = tt }) in
-        let goes = walk-goes (plain v) n (site s.core shelf (to_pin r place ∷ below)) (site t.core shelf (to_load r place through (reading_of own) ∷ below)) (to_pin r place ∷ below) (took.Pin (identity_of r) (Ok (pinsteps.LoadBegun l))) does in
+        let goes = walk-goes (plain v) n (site s.core shelf (to_pin r place ∷ below)) (site t.core shelf (to_load r place through (reading_of own) ∷ below)) (to_pin r place ∷ below) (Took.Pin (identity_of r) (Ok (PinStep.LoadBegun l))) does in
         record {
           does = record { does = does };
           answers = refl;
@@ -203,25 +187,25 @@ module _ {X : Type 0} {g : Ghosts X} {N E : Type 0} (v : Values N) (me : Owner) 
 
   pub pin-fails : (e : Error) (task : Task X g) (after : List Todo) → IsPlain task → after ≡ fails (was_refused e) (back_of (Some r.handle) below) → (s t : PagerState N E)
       → Called v (λ w'. TakesReference s.core me r (Err e) w') s t
-      → TurnsTo v me n shelf (tasks.Pin r place) below shelf (record { took = took.Pin (identity_of r) (Err e); turn = comes.Goes task; counted = true }) after s t
+      → TurnsTo v me n shelf (Task.Pin r place) below shelf (record { took = Took.Pin (identity_of r) (Err e); turn = Turn.Goes task; counted = true }) after s t
   pin-fails e task after plain-task is s t call = grind (arith, nat_tests, common_steps, same-shelf, pin-back, comes-none, plain-fits)
 
   module _ (through : HandleNumber) (own : Own) where
-    stepped : {s t : PagerState N E} {answer : Option (LoadAnswer N)} {frames : List Frame} → Fits {g = g} v me n (tasks.Load r place through own) s → Steps v me own s answer frames t
+    stepped : {s t : PagerState N E} {answer : Option (LoadAnswer N)} {frames : List Frame} → Fits {g = g} v me n (Task.Load r place through own) s → Steps v me own s answer frames t
         → ReadingStep v (owner_worker n) (reading_of own) s answer frames t
     stepped {s} {t} {answer} {frames} f steps = subst (λ o. IsLoadOf s.core o own → ReadingStep v o (reading_of own) s answer frames t) f.me_is steps.does f.task_fits.1.is
 
     pub load-goes : (new : Own) (frames : List Frame) → frames ≡ frames_of new.top new.below.items → new.load ≡ own.load → new.node_type ≡ own.node_type → new.steps ≡ one_more own.steps
         → new.key ≡ own.key → new.for_cell ≡ own.for_cell → (s t : PagerState N E)
-        → Steps v me own s None frames t → TurnsTo {g = g} v me n shelf (tasks.Load r place through own) below shelf (record { took = took.Pin (identity_of r) (Ok pinsteps.LoadWent); turn = comes.Goes (tasks.Load r place through new); counted = false }) (to_load r place through (reading_of new) ∷ below) s t
+        → Steps v me own s None frames t → TurnsTo {g = g} v me n shelf (Task.Load r place through own) below shelf (record { took = Took.Pin (identity_of r) (Ok PinStep.LoadWent); turn = Turn.Goes (Task.Load r place through new); counted = false }) (to_load r place through (reading_of new) ∷ below) s t
     load-goes new frames at load node_type steps key cell s t call = record {
       counts = refl;
       turns = λ f.
           let step = stepped f call in
           let same : reading_of new ≡ gone_on (reading_of own) frames = λ i. record { load = load i; node_type = node_type i; frames = sym at i; steps = steps i } in
-          let does : Does (plain v) n (site s.core shelf (to_load r place through (reading_of own) ∷ below)) (to_load r place through (reading_of own) ∷ below) (took.Pin (identity_of r) (Ok pinsteps.LoadWent)) (site t.core shelf (to_load r place through (reading_of new) ∷ below)) =
+          let does : Does (plain v) n (site s.core shelf (to_load r place through (reading_of own) ∷ below)) (to_load r place through (reading_of own) ∷ below) (Took.Pin (identity_of r) (Ok PinStep.LoadWent)) (site t.core shelf (to_load r place through (reading_of new) ∷ below)) =
           (refl, record { goes = (frames, step.does, record { table_stays = same-shelf shelf; list_is = ap (λ x. to_load r place through x ∷ below) same }); refused = tt }) in
-          let goes = walk-goes (plain v) n (site s.core shelf (to_load r place through (reading_of own) ∷ below)) (site t.core shelf (to_load r place through (reading_of new) ∷ below)) (to_load r place through (reading_of own) ∷ below) (took.Pin (identity_of r) (Ok pinsteps.LoadWent)) does in
+          let goes = walk-goes (plain v) n (site s.core shelf (to_load r place through (reading_of own) ∷ below)) (site t.core shelf (to_load r place through (reading_of new) ∷ below)) (to_load r place through (reading_of own) ∷ below) (Took.Pin (identity_of r) (Ok PinStep.LoadWent)) does in
           let old = f.task_fits.1 in
           let open_load : t.core.loads new.load.0 ≡ Some old.is.load = ap (λ (x : LoadNumber). t.core.loads x.0) load ∙ goes-open v s.core t.core (owner_worker n) (reading_of own) frames own.load.0 step.does.does ∙ old.is.owned.stands_open in
           record {
@@ -242,16 +226,16 @@ module _ {X : Type 0} {g : Ghosts X} {N E : Type 0} (v : Values N) (me : Owner) 
           };
     }
 
-    pub load-pins : (k : HandleNumber) (frames : List Frame) (s t : PagerState N E) → Steps v me own s (Some (ends.Pinned k)) frames t
-        → TurnsTo {g = g} v me n shelf (tasks.Load r place through own) below shelf (record { took = took.Pin (identity_of r) (Ok (pinsteps.Held k)); turn = comes.Goes (tasks.Write r place through k); counted = false }) (to_write r place through ∷ below) s t
+    pub load-pins : (k : HandleNumber) (frames : List Frame) (s t : PagerState N E) → Steps v me own s (Some (LoadAnswer.Pinned k)) frames t
+        → TurnsTo {g = g} v me n shelf (Task.Load r place through own) below shelf (record { took = Took.Pin (identity_of r) (Ok (PinStep.Held k)); turn = Turn.Goes (Task.Write r place through k); counted = false }) (to_write r place through ∷ below) s t
     load-pins k frames s t call = record {
       counts = refl;
       turns = λ f.
           let step = stepped f call in
           let end = step.does.does in
-          let does : Does (plain v) n (site s.core shelf (to_load r place through (reading_of own) ∷ below)) (to_load r place through (reading_of own) ∷ below) (took.Pin (identity_of r) (Ok (pinsteps.Held k))) (site t.core shelf (to_write r place through ∷ below)) =
+          let does : Does (plain v) n (site s.core shelf (to_load r place through (reading_of own) ∷ below)) (to_load r place through (reading_of own) ∷ below) (Took.Pin (identity_of r) (Ok (PinStep.Held k))) (site t.core shelf (to_write r place through ∷ below)) =
           (refl, record { goes = (record { does = (end.0, refl) }, record { table_stays = same-shelf shelf; list_is = refl }); refused = tt }) in
-          let goes = walk-goes (plain v) n (site s.core shelf (to_load r place through (reading_of own) ∷ below)) (site t.core shelf (to_write r place through ∷ below)) (to_load r place through (reading_of own) ∷ below) (took.Pin (identity_of r) (Ok (pinsteps.Held k))) does in
+          let goes = walk-goes (plain v) n (site s.core shelf (to_load r place through (reading_of own) ∷ below)) (site t.core shelf (to_write r place through ∷ below)) (to_load r place through (reading_of own) ∷ below) (Took.Pin (identity_of r) (Ok (PinStep.Held k))) does in
           record {
             does = record { does = does };
             answers = refl;
@@ -263,11 +247,11 @@ module _ {X : Type 0} {g : Ghosts X} {N E : Type 0} (v : Values N) (me : Owner) 
     }
 
     pub load-fails : (e : Error) (frames : List Frame) (task : Task X g) (after : List Todo) → IsPlain task → after ≡ fails (was_refused e) (back_of (Some r.handle) below)
-        → (s t : PagerState N E) → Steps v me own s (Some (ends.Refused e)) frames t
-        → TurnsTo v me n shelf (tasks.Load r place through own) below shelf (record { took = took.Pin (identity_of r) (Err e); turn = comes.Goes task; counted = false }) after s t
+        → (s t : PagerState N E) → Steps v me own s (Some (LoadAnswer.Refused e)) frames t
+        → TurnsTo v me n shelf (Task.Load r place through own) below shelf (record { took = Took.Pin (identity_of r) (Err e); turn = Turn.Goes task; counted = false }) after s t
     load-fails e frames task after plain-task is s t call = grind (arith, nat_tests, common_steps, stepped, same-shelf, load-back, plain-fits)
 
     -- a load of a cell reads out nothing
-    pub load-reads-none : (x : N) (frames : List Frame) (moved : Moved X g) (after : List Todo) → moved.counted ≡ false → (s t : PagerState N E) → Steps v me own s (Some (ends.Read x)) frames t
-        → TurnsTo v me n shelf (tasks.Load r place through own) below shelf moved after s t
+    pub load-reads-none : (x : N) (frames : List Frame) (moved : Moved X g) (after : List Todo) → moved.counted ≡ false → (s t : PagerState N E) → Steps v me own s (Some (LoadAnswer.Read x)) frames t
+        → TurnsTo v me n shelf (Task.Load r place through own) below shelf moved after s t
     load-reads-none x frames moved after uncounted s t call = grind (arith, nat_tests, common_steps, stepped, same_some, no-key)

@@ -1,11 +1,9 @@
 -- What a worker has to do, after a reference was done.
 use Rattle.std.proofs.{Common.{ℕ, ◌≡◌, ◌≤◌, ◌<◌, ◌+◌, List, [], ◌∷◌, ◌++◌, length, drop, take, map, get_or, refl, sym, ap, ◌∙◌, arith, Some, slice_get}, lemmas.Bool.Decides.nat_tests}
-use Rattle.std.proofs.{lemmas.Grind.common_steps, lemmas.List.{at_drop_more, at_drop_all, take_more, length-append, map-append}, lemmas.Option.{get_or_from_slice_get, slice_get_within}}
-use Rattle.std.specs.Prelude.{Option, None}
-use Rattle.pagable_model.specs.{declared.numbers.ArcRef.ArcRef, declared.numbers.HandleNumber.HandleNumber}
-use Rattle.pagable_world.specs.{Kinds.identity_of, Workers.{place_below, next_start}, World.{Open, Todo, to_start}}
-use Rattle.pagable_walk.specs.{Failing.back_of, Found.ids_of, Tasks.{waiting_todo, todos_onto, todos}, declared.results.SlotResult.SlotResult, declared.results.Trees.Ghosts}
-use Rattle.pagable_walk.specs.declared.tasks.Waiting.{Waiting}
+use Rattle.std.{proofs.lemmas.{Grind.common_steps, List.{at_drop_more, at_drop_all, take_more, length-append, map-append}, Option.{get_or_from_slice_get, slice_get_within}}, specs.Prelude.Option}
+use Rattle.{std.specs.Prelude.None, pagable_model.specs.declared.numbers.{ArcRef.ArcRef, HandleNumber.HandleNumber}, pagable_world.specs.{Kinds.identity_of, Workers.{place_below, next_start}}}
+use Rattle.{pagable_world.specs.World.{Open, Todo, to_start}, pagable_walk.specs.{Failing.back_of, Found.ids_of, Tasks.{waiting_todo, todos_onto, todos}, declared.results.SlotResult.SlotResult}}
+use Rattle.pagable_walk.specs.declared.{results.Trees.Ghosts, tasks.Waiting.Waiting}
 
 module _ {E : Type 0} {g : Ghosts E} where
   onto-more : (ws : List (Waiting E g)) (w : Waiting E g) (below : List Todo) → todos_onto (ws ++ w ∷ []) below ≡ waiting_todo w ∷ todos_onto ws below

@@ -1,11 +1,8 @@
 -- A turn with the worker's end is its step.
-use Rattle.std.proofs.{Common.{arith, ℕ, ◌≡◌, List, inl, inr, refl, sym, subst, ◌∙◌}, lemmas.Bool.Decides.nat_tests, lemmas.Grind.common_steps}
-use Rattle.pagable_world.specs.{Access.Called, Events.Ends, Pager.{PagerState, WellFormed, Moves}, Workers.WorkerEnds, World.{Shelf, Todo, Values}, declared.events.WorkerAnswer.WorkerAnswer}
-use Rattle.pagable_world.specs.declared.handles.Owner.{Owner}
-use Rattle.pagable_walk.{specs.Turns.{Closes, LeavesFit, StepsTo, TurnsTo, acting_then, answer_in, site}, specs.declared.results.Trees.Ghosts, specs.declared.tasks.Moved.Moved}
-use Rattle.pagable_walk.{specs.declared.tasks.Task.Task, specs.declared.tasks.Turn.Turn, proofs.Pinning.same-shelf, proofs.Turning.alike}
+use Rattle.{std.proofs.Common.{ℕ, ◌≡◌, List, inl, inr, refl, sym, subst, ◌∙◌}, pagable_world.specs.{Access.Called, Events.Ends, Pager.{PagerState, WellFormed, Moves}, Workers.WorkerEnds, World.Shelf}}
+use Rattle.{pagable_world.specs.{World.{Todo, Values}, declared.{events.WorkerAnswer.WorkerAnswer, handles.Owner.Owner}}, pagable_walk.specs.Turns.{Closes, LeavesFit, StepsTo, TurnsTo, acting_then}}
+use Rattle.pagable_walk.{specs.{Turns.{answer_in, site}, declared.{results.Trees.Ghosts, tasks.{Moved.Moved, Task.Task, Turn.Turn}}}, proofs.{Pinning.same-shelf, Turning.alike}}
 use Rattle.pagable_loads.specs.Telling.{Acting}
-use Rattle.pagable_walk.specs.declared.tasks.Turn.TheVariants as comes
 
 moves-then : {N E : Type 0} {comes : ℕ → N → Type 0} {s mid t : PagerState N E} → Moves comes s mid → Moves (λ n x. ⊥) mid t → Moves comes s t
 moves-then m k = record { each = λ n x is. elim (k.each n x is) [ inl was ↦ m.each n x was | inr came ↦ absurd came.1 ]; environment = k.environment ∙ m.environment }
@@ -19,13 +16,13 @@ record Closed {X : Type 0} {g : Ghosts X} {N E : Type 0} (v : Values N) (n : ℕ
 
 module _ {X : Type 0} {g : Ghosts X} {N E : Type 0} (v : Values N) (n : ℕ) where
   closed : (turn : Turn X g) (s t : PagerState N E) → Closes v n turn s t → Closed v n turn s t
-  closed (comes.Goes task) s t close = subst (Closed v n (comes.Goes task) s) (sym close.closes) (record {
+  closed (Turn.Goes task) s t close = subst (Closed v n (Turn.Goes task) s) (sym close.closes) (record {
     ends = alike s.core;
     moves = record { each = λ q x is. inl is; environment = refl };
     whole = λ w. w;
     fits = λ f. f;
   })
-  closed (comes.Answers answer) s t close = record { ends = close.closes.step; moves = close.closes.moves; whole = λ w. close.closes.whole; fits = λ f. tt }
+  closed (Turn.Answers answer) s t close = record { ends = close.closes.step; moves = close.closes.moves; whole = λ w. close.closes.whole; fits = λ f. tt }
 
   pub steps-to : (me : Owner) (shelf shelf' : Shelf) (task : Task X g) (below after : List Todo) (moved : Moved X g) (s mid t : PagerState N E)
       → TurnsTo v me n shelf task below shelf' moved after s mid → Closes v n moved.turn mid t
@@ -53,14 +50,14 @@ module _ {X : Type 0} {g : Ghosts X} {N E : Type 0} (v : Values N) (n : ℕ) whe
 
 -- a turn that has answered ends the worker, and another doesn't
 module _ {X : Type 0} {g : Ghosts X} where
-  pub closes-none : {N E : Type 0} (v : Values N) (n : ℕ) (turn : Turn X g) → ((a : WorkerAnswer) → turn ≡ comes.Answers a → ⊥) → (s : PagerState N E) → Closes v n turn s s
-  closes-none v n (comes.Goes t) none s = record { closes = refl }
-  closes-none v n (comes.Answers a) none s = absurd (none a refl)
+  pub closes-none : {N E : Type 0} (v : Values N) (n : ℕ) (turn : Turn X g) → ((a : WorkerAnswer) → turn ≡ Turn.Answers a → ⊥) → (s : PagerState N E) → Closes v n turn s s
+  closes-none v n (Turn.Goes t) none s = record { closes = refl }
+  closes-none v n (Turn.Answers a) none s = absurd (none a refl)
 
-  pub closes-ends : {N E : Type 0} (v : Values N) (n : ℕ) (turn : Turn X g) (a : WorkerAnswer) → turn ≡ comes.Answers a → (s t : PagerState N E) → Called v (λ w'. WorkerEnds s.core n w') s t
+  pub closes-ends : {N E : Type 0} (v : Values N) (n : ℕ) (turn : Turn X g) (a : WorkerAnswer) → turn ≡ Turn.Answers a → (s t : PagerState N E) → Called v (λ w'. WorkerEnds s.core n w') s t
       → Closes v n turn s t
   closes-ends v n turn a is s t call = subst (λ x. Closes v n x s t) (sym is) (record { closes = call })
 
-  pub acts-on : {E : Type 0} (turn : Turn X g) → ((a : WorkerAnswer) → turn ≡ comes.Answers a → ⊥) → (acting : Acting E) → acting ≡ acting_then turn acting
-  acts-on (comes.Goes t) none acting = refl
-  acts-on (comes.Answers a) none acting = absurd (none a refl)
+  pub acts-on : {E : Type 0} (turn : Turn X g) → ((a : WorkerAnswer) → turn ≡ Turn.Answers a → ⊥) → (acting : Acting E) → acting ≡ acting_then turn acting
+  acts-on (Turn.Goes t) none acting = refl
+  acts-on (Turn.Answers a) none acting = absurd (none a refl)

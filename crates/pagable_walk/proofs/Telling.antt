@@ -1,7 +1,6 @@
 -- What is told of one state.
-use Rattle.std.{proofs.Common.arith, proofs.lemmas.Bool.Decides.nat_tests, proofs.lemmas.Grind.common_steps, specs.Prelude.{Option, Some, None}}
-use Rattle.pagable_world.specs.Access.{Told, tells}
-use Rattle.pagable_loads.specs.Telling.{Tells, holds_of}
+use Rattle.{std.{proofs.{Common.arith, lemmas.{Bool.Decides.nat_tests, Grind.common_steps}}, specs.Prelude.{Option, Some, None}}, pagable_world.specs.Access.Told, pagable_loads.specs.Telling.Tells}
+use Rattle.pagable_loads.specs.Telling.{holds_of}
 
 module _ {S : Type 0} where
   through : {P Q : S → Type 0} (o : Option S) → ((s : S) → P s → Q s) → holds_of o P → holds_of o Q

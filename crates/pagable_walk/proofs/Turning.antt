@@ -1,18 +1,10 @@
 -- A claim of a table is a worker's claim, and a turn of the worker.
-use Rattle.std.proofs.{Common.{ℕ, ◌≡◌, true, List, [], ◌∷◌, Some, None, ◌⊎◌, inl, inr, refl, sym, ap, subst, ◌∙◌, arith}, lemmas.Bool.Decides.nat_tests, lemmas.Grind.common_steps}
-use Rattle.std.specs.Prelude.{Result, Ok, Err, IfOk}
-use Rattle.pagable_model.specs.declared.numbers.ArcRef.{ArcRef}
-use Rattle.pagable_world.specs.{Workers.{Site, claim_fault, entry_left, is_counted_claim, Claims, Finds, Turns, IsTooDeep, with_wait}, Kinds.identity_of, Pager.{PagerState, HandlesAreWhole}}
-use Rattle.pagable_world.specs.{Plain.Error, World.{Core, Shelf, Todo, to_start, SameShelf, Alike, Values, was_refused}, declared.events.Claim.Claim, declared.handles.Owner.Owner}
-use Rattle.pagable_laws.proofs.{Naming.{may-claim, claimed-stands}, Trees.same_some}
+use Rattle.std.{proofs.{Common.{ℕ, ◌≡◌, true, List, [], ◌∷◌, Some, None, ◌⊎◌, inl, inr, refl, sym, subst, arith}, lemmas.{Bool.Decides.nat_tests, Grind.common_steps}}, specs.Prelude.{Result, Ok, Err}}
+use Rattle.{std.specs.Prelude.IfOk, pagable_model.specs.declared.numbers.ArcRef.ArcRef, pagable_world.specs.Workers.{Site, claim_fault, entry_left, is_counted_claim, Claims, Finds, Turns, IsTooDeep}}
+use Rattle.pagable_world.specs.{Workers.with_wait, Kinds.identity_of, Pager.{PagerState, HandlesAreWhole}, Plain.Error, World.{Core, Shelf, Todo, to_start, SameShelf, Alike, Values, was_refused}}
+use Rattle.{pagable_world.specs.declared.{events.{Claim.Claim, Took.Took}, handles.Owner.Owner}, pagable_laws.proofs.{Naming.{may-claim, claimed-stands}, Trees.same_some}}
 use Rattle.pagable_walk.specs.{Failing.{back_of, fails}, Slots.{Would, claimed_shelf, RefusesClaim, ClaimsThere}, Table.{found_as, IsFoundOf}, Tasks.IsPlain, Turns.{site, claim_todo, ClaimFits}}
-use Rattle.pagable_walk.specs.{Turns.{ClaimLeaves, IsOfKind, TaskFits, TurnsTo}, declared.results.Trees.Ghosts, declared.table.Found.Found, declared.tasks.Task.Task}
-use Rattle.pagable_model.specs.declared.error.Error.TheVariants as errors
-use Rattle.pagable_world.specs.declared.events.Claim.TheVariants as claims
-use Rattle.pagable_world.specs.declared.events.Took.TheVariants as took
-use Rattle.pagable_walk.specs.declared.table.Found.TheVariants as founds
-use Rattle.pagable_walk.specs.declared.tasks.Task.TheVariants as tasks
-use Rattle.pagable_walk.specs.declared.tasks.Turn.TheVariants as comes
+use Rattle.pagable_walk.specs.{Turns.{ClaimLeaves, IsOfKind, TaskFits, TurnsTo}, declared.{tasks.{Turn.Turn, Task.Task}, results.Trees.Ghosts, table.Found.Found}}
 
 pub alike : (w : Core) → Alike w w
 alike w = grind (arith, nat_tests, common_steps)
@@ -23,13 +15,11 @@ module _ (core : Core) (v : ℕ) (s s' : Shelf) (r : ArcRef) (place : ℕ) (belo
 
   finds : (c : Claim) → Would v s (identity_of r) place c → SameShelf (claimed_shelf v s (identity_of r) c) s'
       → Finds v (site core s (to_start r place ∷ below)) r place below c (site core s' (claim_todo r place below (Ok c)))
-  finds claims.Claimed w same = (w.0, w.1, turns _ _ same)
-  finds (claims.Known key height) w same = (w.0, w.1, turns _ _ same)
-  finds claims.Waiting w same = (w.0, w.1, turns _ _ same)
-  finds claims.AlreadyFailed w same = (w.0, w.1, turns _ _ same)
+  finds Claim.Claimed w same = (w.0, w.1, turns _ _ same)
+  finds c w same = (w.0, w.1, turns _ _ same)
 
   why : (e : Error) → claim_fault core r ≡ None → RefusesClaim v s (identity_of r) place e
-      → (claim_fault core r ≡ Some e) ⊎ ((claim_fault core r ≡ None) × (e ≡ errors.TooDeep) × IsTooDeep s v (identity_of r) place) ⊎ (e ≡ errors.OutOfMemory)
+      → (claim_fault core r ≡ Some e) ⊎ ((claim_fault core r ≡ None) × (e ≡ Error.TooDeep) × IsTooDeep s v (identity_of r) place) ⊎ (e ≡ Error.OutOfMemory)
   why e none (inl h) = inr (inl (none, h.0, h.1))
   why e none (inr h) = inr (inr h)
 
@@ -54,42 +44,31 @@ start-back r place (x ∷ below) = refl
 module _ {X : Type 0} {g : Ghosts X} where
   pub claim-fits : (v : ℕ) (s s' : Shelf) (r : ArcRef) (place : ℕ) (claim : Result (Found X g) Error) → ClaimsThere v s (identity_of r) place (found_as claim) s'
       → IfOk claim (IsFoundOf (identity_of r)) → ClaimFits r place claim
-  claim-fits v s s' r place (Ok founds.Claimed) there own = there.finds.0.0
-  claim-fits v s s' r place (Ok (founds.Known found)) there own = (own, there.finds.0.0)
-  claim-fits v s s' r place (Ok founds.Waiting) there own = tt
-  claim-fits v s s' r place (Ok founds.AlreadyFailed) there own = tt
-  claim-fits v s s' r place (Err e) there own = tt
+  claim-fits v s s' r place (Ok Found.Claimed) there own = there.finds.0.0
+  claim-fits v s s' r place (Ok (Found.Known found)) there own = (own, there.finds.0.0)
+  claim-fits v s s' r place claim there own = tt
 
   -- a task that needs nothing fits
   pub plain-fits : (n : ℕ) (w : Core) (t : Task X g) → IsPlain t → TaskFits n w t
-  plain-fits n w (tasks.Start r place) plain = tt
-  plain-fits n w (tasks.Pin r place) plain = absurd plain
-  plain-fits n w (tasks.Load r place through reading) plain = absurd plain
-  plain-fits n w (tasks.Write r place through pin) plain = absurd plain
-  plain-fits n w (tasks.Finish o) plain = tt
-  plain-fits n w (tasks.Item i) plain = tt
-  plain-fits n w (tasks.SetKey d through) plain = tt
-  plain-fits n w (tasks.Publish d) plain = tt
-  plain-fits n w (tasks.Release d) plain = tt
-  plain-fits n w (tasks.Fail e back) plain = tt
+  plain-fits n w (Task.Pin r place) plain = absurd plain
+  plain-fits n w (Task.Load r place through reading) plain = absurd plain
+  plain-fits n w (Task.Write r place through pin) plain = absurd plain
+  plain-fits n w task plain = tt
 
   claim-leaves : (n : ℕ) (w : Core) (shelf : Shelf) (s' : Site) (r : ArcRef) (place : ℕ) (below : List Todo) (claim : Result (Found X g) Error) (task : Task X g) → HandlesAreWhole w
       → ClaimLeaves r place claim task
       → Claims n (site w shelf (to_start r place ∷ below)) r place below (found_as claim) s' → TaskFits n w task
-  claim-leaves n w shelf s' r place below (Ok founds.Claimed) task whole leaves c = subst (TaskFits n w) (sym leaves) (claimed-stands whole r c.finds.0, kind-claimed w r whole c.finds.0)
-  claim-leaves n w shelf s' r place below (Ok (founds.Known found)) task whole leaves c = plain-fits n w task leaves
-  claim-leaves n w shelf s' r place below (Ok founds.Waiting) task whole leaves c = plain-fits n w task leaves
-  claim-leaves n w shelf s' r place below (Ok founds.AlreadyFailed) task whole leaves c = plain-fits n w task leaves
-  claim-leaves n w shelf s' r place below (Err e) task whole leaves c = plain-fits n w task leaves
+  claim-leaves n w shelf s' r place below (Ok Found.Claimed) task whole leaves c = subst (TaskFits n w) (sym leaves) (claimed-stands whole r c.finds.0, kind-claimed w r whole c.finds.0)
+  claim-leaves n w shelf s' r place below claim task whole leaves c = plain-fits n w task leaves
 
   pub start-turns : {N E : Type 0} (v : Values N) (me : Owner) (n : ℕ) (shelf shelf' : Shelf) (r : ArcRef) (place : ℕ) (below after : List Todo) (claim : Result (Found X g) Error) (task : Task X g) → after ≡ claim_todo r place below (found_as claim)
       → ClaimLeaves r place claim task
       → (s : PagerState N E) → Claims n (site s.core shelf (to_start r place ∷ below)) r place below (found_as claim) (site s.core shelf' (claim_todo r place below (found_as claim)))
-      → TurnsTo v me n shelf (tasks.Start r place) below shelf' (record { took = took.Claim (identity_of r) (found_as claim); turn = comes.Goes task; counted = is_counted_claim (found_as claim) }) after s s
+      → TurnsTo v me n shelf (Task.Start r place) below shelf' (record { took = Took.Claim (identity_of r) (found_as claim); turn = Turn.Goes task; counted = is_counted_claim (found_as claim) }) after s s
   start-turns v me n shelf shelf' r place below after claim task is leaves s c = grind (arith, nat_tests, common_steps, turns, claim-leaves)
 
   -- a claim that isn't made
-  pub start-refused : {N E : Type 0} (v : Values N) (me : Owner) (n : ℕ) (shelf shelf' : Shelf) (r : ArcRef) (place : ℕ) (below after : List Todo) (task : Task X g) → after ≡ fails (was_refused errors.OutOfMemory) (back_of (Some r.handle) below)
+  pub start-refused : {N E : Type 0} (v : Values N) (me : Owner) (n : ℕ) (shelf shelf' : Shelf) (r : ArcRef) (place : ℕ) (below after : List Todo) (task : Task X g) → after ≡ fails (was_refused Error.OutOfMemory) (back_of (Some r.handle) below)
       → IsPlain task → SameShelf (with_wait shelf n None) shelf' → (s : PagerState N E)
-      → TurnsTo v me n shelf (tasks.Start r place) below shelf' (record { took = took.Claim (identity_of r) (Err errors.OutOfMemory); turn = comes.Goes task; counted = true }) after s s
+      → TurnsTo v me n shelf (Task.Start r place) below shelf' (record { took = Took.Claim (identity_of r) (Err Error.OutOfMemory); turn = Turn.Goes task; counted = true }) after s s
   start-refused v me n shelf shelf' r place below after task is plain same s = grind (arith, nat_tests, common_steps, start-turns, start-back, finds, alike)

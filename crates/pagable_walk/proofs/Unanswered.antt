@@ -1,16 +1,11 @@
 -- At a worker's answer each claim of its table has a result, if each had one before; and another's failure is answered only where a claim had failed before.
 use Rattle.std.proofs.Common.{ℕ, ◌≡◌, Bool, true, false, if◌then◌else◌, List, [], ◌∷◌, ◌++◌, Option, Some, None, Ok, Err, inl, inr, refl, sym, ap, subst, ◌∙◌, nat_eq, arith}
-use Rattle.std.{proofs.lemmas.Bool.Decides.nat_tests, proofs.lemmas.Grind.common_steps, specs.Prelude.◌⊎◌}
-use Rattle.pagable_model.specs.{declared.numbers.ArcRef.ArcRef, declared.numbers.HandleNumber.HandleNumber}
+use Rattle.{std.{proofs.lemmas.{Bool.Decides.nat_tests, Grind.common_steps}, specs.Prelude.◌⊎◌}, pagable_model.specs.declared.numbers.{ArcRef.ArcRef, HandleNumber.HandleNumber}}
 use Rattle.pagable_world.specs.World.{Core, Shelf, Slot, Outcome, no_result, published, failed, Written, of_item, of_entry, Fault, was_refused, was_failed, Todo, to_start, to_pin, to_load, to_write}
 use Rattle.pagable_world.specs.{World.{to_finish, to_item, to_set, to_publish, to_release, to_fail, Seen, SameShelf, is_identity}, Workers.{Site, Does, answer_after, first_todo, is_open_outcome}}
 use Rattle.pagable_world.specs.{Workers.{next_start, settle, give, give_known, failing, with_outcome, with_changed_slot, with_failed}, Access.{AccessState, AllHaveResults, WorkerRun, worker-ends}}
-use Rattle.pagable_world.specs.{Access.worker-goes-on, Kinds.identity_of, Plain.{Identity, if_there}, declared.events.Took.Took, declared.events.WorkerAnswer.WorkerAnswer}
-use Rattle.pagable_walk.{specs.Tasks.with_child, specs.Writing.just_open, proofs.Held.{same-as, same-identity, same-key}}
-use Rattle.pagable_world.specs.declared.events.Claim.TheVariants as claims
-use Rattle.pagable_world.specs.declared.events.PinStep.TheVariants as pinsteps
-use Rattle.pagable_world.specs.declared.events.Took.TheVariants as took
-use Rattle.pagable_world.specs.declared.events.WorkerAnswer.TheVariants as finals
+use Rattle.pagable_world.specs.{Access.worker-goes-on, Kinds.identity_of, Plain.{Identity, if_there}, declared.events.{Took.Took, WorkerAnswer.WorkerAnswer, PinStep.PinStep, Claim.Claim}}
+use Rattle.pagable_walk.{specs.{Tasks.with_child, Writing.just_open}, proofs.Held.{same-as, same-identity, same-key}}
 
 -- something is to be done about a claim of the identity that has no result yet; or all of it fails
 unfoldable IsHeld : Identity → List Todo → Type 0
@@ -168,58 +163,59 @@ module _ (F : Type 0) where
 
     goes : (todo : List Todo) (step : Took W) → Does m n (record { core = core; shelf = shelf; todo = todo }) todo step s' → answer_after todo step ≡ None → Good n todo shelf → Good n s'.todo s'.shelf
     unfolding IsHeld IsBlamed
-    goes (to_start r place ∷ below) (took.Claim i (Ok claims.Claimed)) (is, c) none good =
+    goes (to_start r place ∷ below) (Took.Claim i (Ok Claim.Claimed)) (is, c) none good =
         let t = c.finds.1.2 in to-list t.list_is (puts n _ (to_pin r place ∷ below) shelf s'.shelf good (λ b. b) (identity_of r) _ t.table_is.slots (λ slot is. new slot is) (λ i no h. inr h))
       where
         new : (slot : Slot) → Some (let x : Slot = record { worker = n; written = None; outcome = no_result } in x) ≡ Some slot → ByOutcome F ((slot.worker ≡ n) × IsHeld (identity_of r) (to_pin r place ∷ below)) slot.outcome
         new slot is = let e : (let x : Slot = record { worker = n; written = None; outcome = no_result } in x) ≡ slot = cc in
             subst (λ (s : Slot). ByOutcome F ((s.worker ≡ n) × IsHeld (identity_of r) (to_pin r place ∷ below)) s.outcome) e (is-open (refl, inl refl))
-    goes (to_start r place ∷ below) (took.Claim i (Ok (claims.Known key height))) (is, c) none good =
+    goes (to_start r place ∷ below) (Took.Claim i (Ok (Claim.Known key height))) (is, c) none good =
         let t = c.finds.1.2 in to-list t.list_is (stays n _ (give_known r key height below) shelf s'.shelf good (known-blamed r key height below) t.table_is.slots (λ i. known-held i r key height below))
-    goes (to_start r place ∷ below) (took.Claim i (Ok claims.Waiting)) (is, c) none good = let t = c.finds.1.2 in to-list t.list_is (stays n _ _ shelf s'.shelf good (λ b. b) t.table_is.slots (λ i h. h))
-    goes (to_start r place ∷ below) (took.Claim i (Ok claims.AlreadyFailed)) (is, c) none good =
+    goes (to_start r place ∷ below) (Took.Claim i (Ok Claim.Waiting)) (is, c) none good =
+        let t = c.finds.1.2 in to-list t.list_is (stays n _ _ shelf s'.shelf good (λ b. b) t.table_is.slots (λ i h. h))
+    goes (to_start r place ∷ below) (Took.Claim i (Ok Claim.AlreadyFailed)) (is, c) none good =
         let t = c.finds.1.2 in
         let was = c.finds.1.1 in
         to-list t.list_is (fails n _ shelf s'.shelf was_failed good (failed-so (subst (ByOutcome F _) was.2 (good.fits (identity_of r) was.0 was.1))) t.table_is.slots)
-    goes (to_start r place ∷ below) (took.Claim i (Err e)) (is, c) none good = to-list c.refused.1.list_is (fails n _ shelf s'.shelf (was_refused e) good tt c.refused.1.table_is.slots)
-    goes (to_pin r place ∷ below) (took.Pin i (Ok (pinsteps.Held k))) (is, p) none good = to-list p.pins.2.list_is (stays n _ _ shelf s'.shelf good (λ b. b) p.pins.2.table_stays.slots (λ i h. h))
-    goes (to_pin r place ∷ below) (took.Pin i (Ok (pinsteps.LoadBegun l))) (is, p) none good = to-list p.pins.2.list_is (stays n _ _ shelf s'.shelf good (λ b. b) p.pins.2.table_stays.slots (λ i h. h))
-    goes (to_pin r place ∷ below) (took.Pin i (Ok pinsteps.LoadWent)) (is, p) none good = absurd p.pins
-    goes (to_pin r place ∷ below) (took.Pin i (Err e)) (is, p) none good = to-list p.refused.1.list_is (fails n _ shelf s'.shelf (was_refused e) good tt p.refused.1.table_stays.slots)
-    goes (to_load r place through reading ∷ below) (took.Pin i (Ok (pinsteps.Held k))) (is, p) none good = to-list p.goes.1.list_is (stays n _ _ shelf s'.shelf good (λ b. b) p.goes.1.table_stays.slots (λ i h. h))
-    goes (to_load r place through reading ∷ below) (took.Pin i (Ok (pinsteps.LoadBegun l))) (is, p) none good = absurd p.goes
-    goes (to_load r place through reading ∷ below) (took.Pin i (Ok pinsteps.LoadWent)) (is, p) none good = to-list p.goes.2.list_is (stays n _ _ shelf s'.shelf good (λ b. b) p.goes.2.table_stays.slots (λ i h. h))
-    goes (to_load r place through reading ∷ below) (took.Pin i (Err e)) (is, p) none good = to-list p.refused.1.list_is (fails n _ shelf s'.shelf (was_refused e) good tt p.refused.1.table_stays.slots)
-    goes (to_write r place through ∷ below) (took.Write i (Ok out)) (is, p) none good =
+    goes (to_start r place ∷ below) (Took.Claim i (Err e)) (is, c) none good = to-list c.refused.1.list_is (fails n _ shelf s'.shelf (was_refused e) good tt c.refused.1.table_is.slots)
+    goes (to_pin r place ∷ below) (Took.Pin i (Ok (PinStep.Held k))) (is, p) none good = to-list p.pins.2.list_is (stays n _ _ shelf s'.shelf good (λ b. b) p.pins.2.table_stays.slots (λ i h. h))
+    goes (to_pin r place ∷ below) (Took.Pin i (Ok (PinStep.LoadBegun l))) (is, p) none good = to-list p.pins.2.list_is (stays n _ _ shelf s'.shelf good (λ b. b) p.pins.2.table_stays.slots (λ i h. h))
+    goes (to_pin r place ∷ below) (Took.Pin i (Ok PinStep.LoadWent)) (is, p) none good = absurd p.pins
+    goes (to_pin r place ∷ below) (Took.Pin i (Err e)) (is, p) none good = to-list p.refused.1.list_is (fails n _ shelf s'.shelf (was_refused e) good tt p.refused.1.table_stays.slots)
+    goes (to_load r place through reading ∷ below) (Took.Pin i (Ok (PinStep.Held k))) (is, p) none good = to-list p.goes.1.list_is (stays n _ _ shelf s'.shelf good (λ b. b) p.goes.1.table_stays.slots (λ i h. h))
+    goes (to_load r place through reading ∷ below) (Took.Pin i (Ok (PinStep.LoadBegun l))) (is, p) none good = absurd p.goes
+    goes (to_load r place through reading ∷ below) (Took.Pin i (Ok PinStep.LoadWent)) (is, p) none good = to-list p.goes.2.list_is (stays n _ _ shelf s'.shelf good (λ b. b) p.goes.2.table_stays.slots (λ i h. h))
+    goes (to_load r place through reading ∷ below) (Took.Pin i (Err e)) (is, p) none good = to-list p.refused.1.list_is (fails n _ shelf s'.shelf (was_refused e) good tt p.refused.1.table_stays.slots)
+    goes (to_write r place through ∷ below) (Took.Write i (Ok out)) (is, p) none good =
         let opened = to_finish (just_open r place through (m.written_of out)) ∷ below in
         to-list p.writes.list_is (changes n _ _ shelf s'.shelf good (settle-blamed opened) (identity_of r) _ p.writes.table_is
         (λ slot. by-more (λ h. (h.0, settle-held (identity_of r) opened h.1))) (λ i no. settle-held i opened))
-    goes (to_write r place through ∷ below) (took.Write i (Err e)) (is, p) none good = to-list p.refused.1.list_is (fails n _ shelf s'.shelf (was_refused e) good tt p.refused.1.table_is.slots)
-    goes (to_finish o ∷ below) (took.Store i (Ok key)) (is, p) none good = to-list p.goes.list_is (stays n _ _ shelf s'.shelf good (λ b. b) p.goes.table_stays.slots (λ i h. h))
-    goes (to_finish o ∷ below) (took.Store i (Err e)) (is, p) none good = to-list p.refused.list_is (fails n _ shelf s'.shelf (was_refused e) good tt p.refused.table_stays.slots)
-    goes (to_item written keys ∷ below) (took.Store i (Ok key)) (is, p) none good = absurd (cc)
-    goes (to_item written keys ∷ below) (took.Store i (Err e)) (is, p) none good = to-list p.refused.list_is (fails n _ shelf s'.shelf (was_refused e) good tt p.refused.table_stays.slots)
-    goes (to_set r through key height ∷ below) (took.SetKey i (Ok u)) (is, p) none good = to-list p.goes.list_is (stays n _ _ shelf s'.shelf good (λ b. b) p.goes.table_stays.slots (λ i h. h))
-    goes (to_set r through key height ∷ below) (took.SetKey i (Err e)) (is, p) none good = to-list p.refused.list_is (fails n _ shelf s'.shelf (was_refused e) good tt p.refused.table_stays.slots)
-    goes (to_publish r key height ∷ below) (took.Publish i k h) (is, same_key, same_height, t) none good =
+    goes (to_write r place through ∷ below) (Took.Write i (Err e)) (is, p) none good = to-list p.refused.1.list_is (fails n _ shelf s'.shelf (was_refused e) good tt p.refused.1.table_is.slots)
+    goes (to_finish o ∷ below) (Took.Store i (Ok key)) (is, p) none good = to-list p.goes.list_is (stays n _ _ shelf s'.shelf good (λ b. b) p.goes.table_stays.slots (λ i h. h))
+    goes (to_finish o ∷ below) (Took.Store i (Err e)) (is, p) none good = to-list p.refused.list_is (fails n _ shelf s'.shelf (was_refused e) good tt p.refused.table_stays.slots)
+    goes (to_item written keys ∷ below) (Took.Store i (Ok key)) (is, p) none good = absurd (cc)
+    goes (to_item written keys ∷ below) (Took.Store i (Err e)) (is, p) none good = to-list p.refused.list_is (fails n _ shelf s'.shelf (was_refused e) good tt p.refused.table_stays.slots)
+    goes (to_set r through key height ∷ below) (Took.SetKey i (Ok u)) (is, p) none good = to-list p.goes.list_is (stays n _ _ shelf s'.shelf good (λ b. b) p.goes.table_stays.slots (λ i h. h))
+    goes (to_set r through key height ∷ below) (Took.SetKey i (Err e)) (is, p) none good = to-list p.refused.list_is (fails n _ shelf s'.shelf (was_refused e) good tt p.refused.table_stays.slots)
+    goes (to_publish r key height ∷ below) (Took.Publish i k h) (is, same_key, same_height, t) none good =
         to-list t.list_is (changes n _ (to_release r key height ∷ below) shelf s'.shelf good (λ b. b) (identity_of r) _ t.table_is
         (λ slot. settled slot (published key height) (is-known key height)) (λ i other held. elim held [ inl e ↦ absurd (not-itself i other e) | inr h ↦ h ]))
       where
         not-itself : (i : Identity) → is_identity (identity_of r) i ≡ false → i ≡ identity_of r → ⊥
         not-itself i other e = let at : is_identity (identity_of r) i ≡ true = ap (is_identity (identity_of r)) e ∙ same-key (identity_of r) in absurd (cc)
-    goes (to_release r key height ∷ below) (took.Release i) (is, falls, g) none good = to-list g.list_is (stays n _ _ shelf s'.shelf good (give-blamed r key height below) g.table_stays.slots (λ i. give-held i r key height below))
-    goes (to_fail fault back ∷ below) took.Fail does none good = absurd (cc)
+    goes (to_release r key height ∷ below) (Took.Release i) (is, falls, g) none good = to-list g.list_is (stays n _ _ shelf s'.shelf good (give-blamed r key height below) g.table_stays.slots (λ i. give-held i r key height below))
+    goes (to_fail fault back ∷ below) Took.Fail does none good = absurd (cc)
     goes todo step does none good = absurd does
 
     ends : (todo : List Todo) (step : Took W) (a : WorkerAnswer) → Does m n (record { core = core; shelf = shelf; todo = todo }) todo step s' → answer_after todo step ≡ Some a → Good n todo shelf
-        → AllHaveResults s'.shelf × (a ≡ finals.AlreadyFailed → F)
+        → AllHaveResults s'.shelf × (a ≡ WorkerAnswer.AlreadyFailed → F)
     unfolding IsHeld IsBlamed
-    ends (to_item written keys ∷ below) (took.Store i (Ok key)) a (is, p) e good = (λ i slot there. closed (λ h. h.1) (good.fits i slot (sym (p.goes.table_stays.slots i) ∙ there)), λ f. absurd (cc))
-    ends (to_item written keys ∷ below) (took.Store i (Err f)) a does e good = absurd (cc)
-    ends (to_release r key height ∷ []) (took.Release i) a (is, falls, g) e good = (λ i slot there. closed (λ h. h.1) (good.fits i slot (sym (g.table_stays.slots i) ∙ there)), λ f. absurd (cc))
-    ends (to_release r key height ∷ x ∷ below) (took.Release i) a does e good = absurd (cc)
-    ends (to_fail (was_refused f) back ∷ below) took.Fail a (back_is, table_is, list_is) e good = (all-failed n _ shelf s'.shelf good table_is, λ f. absurd (cc))
-    ends (to_fail was_failed back ∷ below) took.Fail a (back_is, table_is, list_is) e good = (all-failed n _ shelf s'.shelf good table_is, λ f. good.blamed)
+    ends (to_item written keys ∷ below) (Took.Store i (Ok key)) a (is, p) e good = (λ i slot there. closed (λ h. h.1) (good.fits i slot (sym (p.goes.table_stays.slots i) ∙ there)), λ f. absurd (cc))
+    ends (to_item written keys ∷ below) (Took.Store i (Err f)) a does e good = absurd (cc)
+    ends (to_release r key height ∷ []) (Took.Release i) a (is, falls, g) e good = (λ i slot there. closed (λ h. h.1) (good.fits i slot (sym (g.table_stays.slots i) ∙ there)), λ f. absurd (cc))
+    ends (to_release r key height ∷ x ∷ below) (Took.Release i) a does e good = absurd (cc)
+    ends (to_fail (was_refused f) back ∷ below) Took.Fail a (back_is, table_is, list_is) e good = (all-failed n _ shelf s'.shelf good table_is, λ f. absurd (cc))
+    ends (to_fail was_failed back ∷ below) Took.Fail a (back_is, table_is, list_is) e good = (all-failed n _ shelf s'.shelf good table_is, λ f. good.blamed)
     ends (to_item written keys ∷ below) step a does e good = absurd does
     ends (to_release r key height ∷ []) step a does e good = absurd does
     ends (to_fail fault back ∷ below) step a does e good = absurd does
@@ -227,7 +223,7 @@ module _ (F : Type 0) where
 
   module _ {N E B W : Type 0} (m : Seen N B W) (n : ℕ) where
     at-answer : {todo : List Todo} {s s' : AccessState N E} {steps : List (Took W)} {answer : WorkerAnswer} → WorkerRun m n todo s steps answer s' → Good n todo s.shelf
-        → AllHaveResults s'.shelf × (answer ≡ finals.AlreadyFailed → F)
+        → AllHaveResults s'.shelf × (answer ≡ WorkerAnswer.AlreadyFailed → F)
     at-answer (worker-ends todo next step answer s s' w is) good =
         let e = ends m n s.pager.core s.shelf w.after todo step answer w.does.does is good in
         (λ i slot there. e.0 i slot (sym (w.shelf_is.slots i) ∙ there), e.1)
@@ -245,6 +241,6 @@ item-answered m n item run all =
 
 -- of an entry, on a table of no claims
 pub entry-answered : {N E B W : Type 0} (m : Seen N B W) (n : ℕ) (h : HandleNumber) (j : Identity) {s s' : AccessState N E} {steps : List (Took W)} {answer : WorkerAnswer}
-    → WorkerRun m n (first_todo (of_entry h j)) s steps answer s' → ((i : Identity) → s.shelf.slots i ≡ None) → answer ≡ finals.AlreadyFailed → ⊥
+    → WorkerRun m n (first_todo (of_entry h j)) s steps answer s' → ((i : Identity) → s.shelf.slots i ≡ None) → answer ≡ WorkerAnswer.AlreadyFailed → ⊥
 unfolding IsBlamed
 entry-answered m n h j run none = (at-answer ⊥ m n run (record { fits = λ i slot there. let no = none i in absurd (cc); blamed = tt })).1

@@ -1,9 +1,7 @@
 -- Whom a worker waits for; and that a wait that comes to an end leads to no worker twice.
-use Rattle.std.proofs.{lemmas.Grind.common_steps, Common.{ℕ, ◌≡◌, Bool, true, false, cond, if◌then◌else◌, Option, Some, None, ◌⊎◌, inl, inr, refl, sym, ap, ◌∙◌, subst, nat_eq, arith, true≢false}}
-use Rattle.std.proofs.{lemmas.Bool.Decides.nat_tests, lemmas.Option.none-some}
-use Rattle.pagable_world.specs.{Workers.{is_open_outcome, is_open_slot, ComesBack, waits-back, ComesToEnd, may-go-on, waits-on}, Plain.{Identity, if_there}, World.{Outcome, Slot, Shelf, no_result}}
-use Rattle.pagable_world.specs.World.{published, failed}
-use Rattle.pagable_walk.specs.Slots.{open_worker, next, Ends, ends-at}
+use Rattle.std.proofs.{Common.{ℕ, ◌≡◌, Bool, true, false, cond, if◌then◌else◌, Option, Some, None, ◌⊎◌, inl, inr, refl, sym, ap, ◌∙◌, subst, nat_eq, arith, true≢false}, lemmas.Bool.Decides.nat_tests}
+use Rattle.{std.proofs.lemmas.Option.none-some, pagable_world.specs.{Workers.{is_open_outcome, is_open_slot, ComesBack, waits-back, ComesToEnd, may-go-on, waits-on}, Plain.{Identity, if_there}}}
+use Rattle.{pagable_world.specs.World.{Outcome, Slot, Shelf, no_result, published, failed}, pagable_walk.specs.Slots.{open_worker, next, Ends, ends-at}}
 use mathlib.Core.Logic.{∥∥₁_elim}
 
 pub some-same : {A : Type 0} {x y : A} → Some x ≡ Some y → x ≡ y

@@ -1,10 +1,8 @@
 -- A path that leads to what is done next goes on so.
 use Rattle.std.proofs.Common.{ℕ, zero, suc, ◌≡◌, ◌≤◌, ◌+◌, Bool, true, false, List, [], ◌∷◌, ◌++◌, length, drop, refl, sym, ap, subst, arith, Some, slice_get, if◌then◌else◌}
-use Rattle.std.{proofs.lemmas.List.length-append, proofs.lemmas.Option.slice_get_within, specs.Prelude.max}
-use Rattle.pagable_model.specs.declared.numbers.ArcRef.{ArcRef}
-use Rattle.pagable_world.specs.{World.{Open, Todo, to_start, to_pin, to_load, to_write, to_finish, to_item, to_set, to_publish, to_release, to_fail, Written}, Plain.{above, is_eager, longest_path}}
-use Rattle.pagable_world.specs.Workers.{give, give_known, next_start, settle}
-use Rattle.pagable_walk.specs.Tasks.{Awaits, AwaitsLow, IsWay, with_child}
+use Rattle.{std.{proofs.lemmas.{List.length-append, Option.slice_get_within}, specs.Prelude.max}, pagable_model.specs.declared.numbers.ArcRef.ArcRef, pagable_world.specs.World.{Open, Todo, to_start}}
+use Rattle.{pagable_world.specs.{World.{to_finish, to_item, Written}, Plain.{above, is_eager, longest_path}, Workers.{give, give_known, next_start, settle}}, pagable_walk.specs.Tasks.Awaits}
+use Rattle.pagable_walk.specs.Tasks.{AwaitsLow, IsWay, with_child}
 
 -- what is left of references after so many, in both cases
 left-by : (Q : List ArcRef → Type 0) (n : ℕ) (refs : List ArcRef) → n ≤ length refs → (n ≡ length refs → Q []) → ((r : ArcRef) (rest : List ArcRef) → slice_get refs n ≡ Some r → Q (r ∷ rest))
@@ -58,14 +56,7 @@ give-way (to_finish o ∷ below) r key h up =
 give-way (to_item written keys ∷ below) r key h up =
     let a = item-awaits written keys below r h up in
     subst (λ bs. IsWay (settle (to_item written (keys ++ key ∷ []) ∷ bs))) (sym a.1) (item-way written (keys ++ key ∷ []) (one-more written.references keys key r a.0))
-give-way (to_start x place ∷ below) r key h up = absurd up.1
-give-way (to_pin x place ∷ below) r key h up = absurd up.1
-give-way (to_load x place through reading ∷ below) r key h up = absurd up.1
-give-way (to_write x place through ∷ below) r key h up = absurd up.1
-give-way (to_set x through k height ∷ below) r key h up = absurd up.1
-give-way (to_publish x k height ∷ below) r key h up = absurd up.1
-give-way (to_release x k height ∷ below) r key h up = absurd up.1
-give-way (to_fail fault back ∷ below) r key h up = absurd up.1
+give-way (x ∷ below) r key h up = absurd up.1
 
 pub known-way : (below : List Todo) (r : ArcRef) (key h : ℕ) → AwaitsLow below r h → IsWay (give_known r key h below)
 known-way [] r key h up = up

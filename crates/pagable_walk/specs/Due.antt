@@ -1,9 +1,6 @@
 -- Why a walk comes to an end, whatever it meets: up to the next claim each step leaves less to do.
-use Rattle.std.specs.Prelude.{ℕ, ◌+◌, ◌*◌, ◌^◌, ◌≤◌, ◌<◌, List, [], ◌∷◌, length}
-use Rattle.pagable_world.specs.World.{Todo, to_start, to_pin, to_load, to_write, to_finish, to_item, to_set, to_publish, to_release, to_fail}
-use Rattle.pagable_loads.specs.Ending.{to_do}
-use Rattle.pagable_walk.specs.{declared.results.Trees.Ghosts, declared.tasks.Turn.Turn}
-use Rattle.pagable_walk.specs.declared.tasks.Turn.TheVariants as comes
+use Rattle.{std.specs.Prelude.{ℕ, ◌+◌, ◌*◌, ◌^◌, ◌≤◌, ◌<◌, List, [], ◌∷◌, length}, pagable_world.specs.World.{Todo, to_start, to_pin, to_load, to_write, to_finish, to_item, to_set, to_publish}}
+use Rattle.{pagable_world.specs.World.{to_release, to_fail}, pagable_loads.specs.Ending.to_do, pagable_walk.specs.declared.{results.Trees.Ghosts, tasks.Turn.Turn}}
 
 -- how much there is at most before a load has begun
 abbrev pub most : ℕ
@@ -37,8 +34,8 @@ Leads todo after = due after < due todo
 
 module _ {X : Type 0} {g : Ghosts X} where
   abbrev pub IfGoes : Turn X g → Type 0 → Type 0
-  IfGoes (comes.Goes t) P = P
-  IfGoes (comes.Answers a) P = Unit {0}
+  IfGoes (Turn.Goes t) P = P
+  IfGoes (Turn.Answers a) P = Unit {0}
 
   abbrev pub LeadsOn : List Todo → Turn X g → List Todo → Type 0
   LeadsOn todo turn after = IfGoes turn (Leads todo after)

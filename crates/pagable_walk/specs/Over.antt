@@ -1,22 +1,16 @@
 -- Page-outs of an item and of the list, where the access tells its state.
-use Rattle.std.specs.Prelude.{ℕ, ◌≡◌, ◌≤◌, ◌<◌, ◌+◌, length, Some, Result, Ok, Err, IfOk, IfErr, slice_get}
-use Rattle.pagable_model.specs.{declared.error.Error.Error, declared.numbers.HandleNumber.HandleNumber}
-use Rattle.pagable_world.specs.{Access.AllHaveResults, Access.Called, Access.EntryHas, Access.EntryRun, Access.ListRun, Access.PagesOutItemOver, Calls.ReleaseCall, Calls.TakeCall, Pager.PagerState}
-use Rattle.pagable_world.specs.{Pager.WellFormed, World.Shelf, World.Values, World.Written, World.Seen, declared.events.WorkerAnswer.WorkerAnswer}
-use Rattle.pagable_walk.specs.{Turns.plain, declared.table.PageOutError.PageOutError}
-use Rattle.pagable_model.specs.declared.data_key.OptionalDataKey.TheVariants as optional
-use Rattle.pagable_world.specs.declared.events.WorkerAnswer.TheVariants as finals
-use Rattle.pagable_world.specs.declared.handles.Owner.TheVariants as owners
-use Rattle.pagable_walk.specs.declared.table.PageOutError.TheVariants as failures
+use Rattle.{std.specs.Prelude.{ℕ, ◌≡◌, ◌≤◌, ◌<◌, ◌+◌, length, Some, Result, Ok, Err, IfOk, IfErr, slice_get}, pagable_model.specs.declared.{error.Error.Error, numbers.HandleNumber.HandleNumber}}
+use Rattle.pagable_world.specs.{Access.{AllHaveResults, Called, EntryRun, ListRun, PagesOutItemOver}, Calls.{ReleaseCall, TakeCall}, Pager.{PagerState, WellFormed}, World.{Shelf, Values, Written}}
+use Rattle.{pagable_world.specs.declared.{handles.Owner.Owner, events.WorkerAnswer.WorkerAnswer}, pagable_walk.specs.{Turns.plain, declared.table.PageOutError.PageOutError}}
 
 -- the answer of a worker that came to this failure
 abbrev pub failure_of : PageOutError → WorkerAnswer
-failure_of (failures.Failed e) = finals.Failed e
-failure_of failures.AlreadyFailed = finals.AlreadyFailed
+failure_of (PageOutError.Failed e) = WorkerAnswer.Failed e
+failure_of PageOutError.AlreadyFailed = WorkerAnswer.AlreadyFailed
 
 -- or to this key
 abbrev pub answer_of : Result ℕ PageOutError → WorkerAnswer
-answer_of (Ok key) = finals.Key key
+answer_of (Ok key) = WorkerAnswer.Key key
 answer_of (Err e) = failure_of e
 
 -- and of the list's page-out
@@ -38,7 +32,7 @@ pub record EntryPaged {N E : Type 0} (v : Values N) (s : PagerState N E) (place 
   pub whole : WellFormed v t
   -- the entries before it stay
   pub long : place ≤ length t.core.list
-  pub unfailed : answer ≡ finals.AlreadyFailed → ⊥
+  pub unfailed : answer ≡ WorkerAnswer.AlreadyFailed → ⊥
 
 pub record PagesEntry {N E : Type 0} (v : Values N) (place : ℕ) (answer : WorkerAnswer) (s t : PagerState N E) : Type 0 where
   pub pages : WellFormed v s → place < length s.core.list → EntryPaged v s place answer t
@@ -47,8 +41,8 @@ pub record PagesEntry {N E : Type 0} (v : Values N) (place : ℕ) (answer : Work
 pub record Skipped {N E : Type 0} (v : Values N) (s : PagerState N E) (place : ℕ) (h : HandleNumber) (t : PagerState N E) : Type 0 where
   pub mid : PagerState N E
   pub told : Result (Unit {0}) Error
-  pub takes : Called v (λ w'. TakeCall s.core owners.Caller place (Some h) w') s mid
-  pub releases : Called v (λ w'. ReleaseCall mid.core owners.Caller h told w') mid t
+  pub takes : Called v (λ w'. TakeCall s.core Owner.Caller place (Some h) w') s mid
+  pub releases : Called v (λ w'. ReleaseCall mid.core Owner.Caller h told w') mid t
 
 pub record SkipsEntry {N E : Type 0} (v : Values N) (place : ℕ) (s t : PagerState N E) : Type 0 where
   pub skips : (h : HandleNumber) → slice_get s.core.list place ≡ Some h → Skipped v s place h t

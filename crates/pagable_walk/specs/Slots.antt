@@ -1,16 +1,10 @@
 -- The plain claims that a lent table tells; whom each waiting worker waits for; and what a claim finds.
 use Rattle.std.specs.{Prelude.{ℕ, ◌≡◌, ◌≤◌, ◌+◌, ◌⊎◌, ◌&&◌, Bool, true, false, if◌then◌else◌, Option, Some, None, Result, IfOk, IfErr, nat_eq}, Arc.arc_value, Option.option_map}
-use Rattle.indexmap.specs.IndexMap.{IndexMap, get}
-use Rattle.pagable_core.specs.declared.context.writing.SerializedData.{SerializedData}
-use Rattle.pagable_world.specs.{Workers.{with_slot, with_wait, with_outcome, is_open_outcome, IsOpenSlot, IsPublished, ComesBack, ComesToEnd, IsTooDeep}, Plain.{Error, Identity, if_there}}
-use Rattle.pagable_world.specs.{Plain.longest_path, World.{Written, Slot, Shelf, no_result, published, failed, SameShelf, is_identity}, declared.events.Claim.Claim}
-use Rattle.pagable_walk.specs.{declared.results.SlotResult.SlotResult, declared.results.Trees.Ghosts, declared.slots.ArcSerSlot.ArcSerSlot, declared.slots.Outcome.Outcome}
-use Rattle.pagable_walk.specs.declared.slots.Standing.{Standing}
-use Rattle.pagable_model.specs.declared.error.Error.TheVariants as errors
-use Rattle.pagable_world.specs.declared.events.Claim.TheVariants as claims
+use Rattle.{indexmap.specs.IndexMap.{IndexMap, get}, pagable_core.specs.declared.context.writing.SerializedData.SerializedData, pagable_world.specs.Workers.{with_slot, with_wait, with_outcome}}
+use Rattle.pagable_world.specs.{Workers.{is_open_outcome, IsOpenSlot, IsPublished, ComesBack, ComesToEnd, IsTooDeep}, Plain.{Error, Identity, if_there, longest_path}, World.{Written, Slot, Shelf}}
+use Rattle.{pagable_world.specs.{World.{no_result, published, failed, SameShelf, is_identity}, declared.events.Claim.Claim}, pagable_walk.specs.declared.results.{SlotResult.SlotResult, Trees.Ghosts}}
+use Rattle.pagable_walk.specs.declared.slots.{ArcSerSlot.ArcSerSlot, Outcome.Outcome, Standing.Standing}
 use Rattle.pagable_world.specs.World as world
-use Rattle.pagable_walk.specs.declared.slots.Outcome.TheVariants as outcomes
-use Rattle.pagable_walk.specs.declared.slots.Standing.TheVariants as standings
 
 -- whether kind and node are the same
 abbrev pub is_same : ℕ × ℕ → ℕ × ℕ → Bool
@@ -37,16 +31,16 @@ claimed_by v = record { worker = v; written = None; outcome = no_result }
 
 module _ {E : Type 0} {g : Ghosts E} where
   abbrev pub outcome_of : Outcome E g → world.Outcome
-  outcome_of outcomes.Open = no_result
-  outcome_of (outcomes.Published r) = published r.key r.height
-  outcome_of outcomes.Failed = failed
+  outcome_of Outcome.Open = no_result
+  outcome_of (Outcome.Published r) = published r.key r.height
+  outcome_of Outcome.Failed = failed
 
   abbrev pub slot_of : ArcSerSlot E g → Slot
   slot_of s = record { worker = s.worker.0; written = option_map (λ d. written_of (arc_value d)) s.written; outcome = outcome_of s.outcome }
 
   -- a result that stands is of this identity
   abbrev pub IsOwnOutcome : Identity → Outcome E g → Type 0
-  IsOwnOutcome i (outcomes.Published r) = r.identity ≡ i
+  IsOwnOutcome i (Outcome.Published r) = r.identity ≡ i
   IsOwnOutcome i _ = Unit {0}
 
   abbrev pub IsOwn : Identity → Option (ArcSerSlot E g) → Type 0
@@ -62,17 +56,17 @@ module _ {E : Type 0} {g : Ghosts E} where
 
     -- the same in numbers, as a table keeps it
     abbrev pub AreNamed : IndexMap (ℕ × ℕ) (ArcSerSlot E g) S → Type 0
-    AreNamed slots = (i : Identity) (s : ArcSerSlot E g) (r : SlotResult E g) → get is_same slots (i.kind.0, i.node.0) ≡ Some s → s.outcome ≡ outcomes.Published r → (r.identity.kind.0 ≡ i.kind.0) × (r.identity.node.0 ≡ i.node.0)
+    AreNamed slots = (i : Identity) (s : ArcSerSlot E g) (r : SlotResult E g) → get is_same slots (i.kind.0, i.node.0) ≡ Some s → s.outcome ≡ Outcome.Published r → (r.identity.kind.0 ≡ i.kind.0) × (r.identity.node.0 ≡ i.node.0)
 
     abbrev pub shelf_in : {T : Type 0} → IndexMap (ℕ × ℕ) (ArcSerSlot E g) S → IndexMap ℕ Identity T → Shelf
     shelf_in slots waits = record { slots = slots_in slots; waits = λ v. get nat_eq waits v }
 
   -- what stands at an identity, whose slot is this
   abbrev pub Stands : Identity → Option Slot → Standing E g → Type 0
-  Stands i slot standings.Free = slot ≡ None
-  Stands i slot (standings.Open w) = (x : Slot) × (slot ≡ Some x) × (x.outcome ≡ no_result) × (x.worker ≡ w)
-  Stands i slot (standings.Known r) = (r.identity ≡ i) × ((x : Slot) × (slot ≡ Some x) × (x.outcome ≡ published r.key r.height))
-  Stands i slot standings.Failed = (x : Slot) × (slot ≡ Some x) × (x.outcome ≡ failed)
+  Stands i slot Standing.Free = slot ≡ None
+  Stands i slot (Standing.Open w) = (x : Slot) × (slot ≡ Some x) × (x.outcome ≡ no_result) × (x.worker ≡ w)
+  Stands i slot (Standing.Known r) = (r.identity ≡ i) × ((x : Slot) × (slot ≡ Some x) × (x.outcome ≡ published r.key r.height))
+  Stands i slot Standing.Failed = (x : Slot) × (slot ≡ Some x) × (x.outcome ≡ failed)
 
 -- the slots with this one at an identity
 abbrev pub SlotIs : (Identity → Option Slot) → Identity → Option Slot → (Identity → Option Slot) → Type 0
@@ -113,20 +107,20 @@ Leads s v u false = ComesToEnd s v u
 
 -- what a claim of this identity at this place on a path would find
 abbrev pub Would : ℕ → Shelf → Identity → ℕ → Claim → Type 0
-Would v s i place claims.Claimed = (place ≤ longest_path) × (s.slots i ≡ None)
-Would v s i place (claims.Known key height) = (place + height ≤ longest_path) × IsPublished s i key height
-Would v s i place claims.Waiting = (place ≤ longest_path) × ((slot : Slot) × IsOpenSlot s i slot × ComesToEnd s v slot.worker)
-Would v s i place claims.AlreadyFailed = (place ≤ longest_path) × ((slot : Slot) × (s.slots i ≡ Some slot) × (slot.outcome ≡ failed))
+Would v s i place Claim.Claimed = (place ≤ longest_path) × (s.slots i ≡ None)
+Would v s i place (Claim.Known key height) = (place + height ≤ longest_path) × IsPublished s i key height
+Would v s i place Claim.Waiting = (place ≤ longest_path) × ((slot : Slot) × IsOpenSlot s i slot × ComesToEnd s v slot.worker)
+Would v s i place Claim.AlreadyFailed = (place ≤ longest_path) × ((slot : Slot) × (s.slots i ≡ Some slot) × (slot.outcome ≡ failed))
 
 -- the table after it; that a worker waits is forgotten as soon as a claim answers something else
 abbrev pub claimed_shelf : ℕ → Shelf → Identity → Claim → Shelf
-claimed_shelf v s i claims.Claimed = with_slot (with_wait s v None) i (Some (claimed_by v))
-claimed_shelf v s i claims.Waiting = with_wait s v (Some i)
+claimed_shelf v s i Claim.Claimed = with_slot (with_wait s v None) i (Some (claimed_by v))
+claimed_shelf v s i Claim.Waiting = with_wait s v (Some i)
 claimed_shelf v s i _ = with_wait s v None
 
 -- why a claim is refused
 abbrev pub RefusesClaim : ℕ → Shelf → Identity → ℕ → Error → Type 0
-RefusesClaim v s i place e = ((e ≡ errors.TooDeep) × IsTooDeep s v i place) ⊎ (e ≡ errors.OutOfMemory)
+RefusesClaim v s i place e = ((e ≡ Error.TooDeep) × IsTooDeep s v i place) ⊎ (e ≡ Error.OutOfMemory)
 
 -- what a claim would find, or why it is refused
 pub record Judges (v : ℕ) (s : Shelf) (i : Identity) (place : ℕ) (result : Result Claim Error) : Type 0 where

@@ -1,19 +1,13 @@
 -- A worker's task at hand and its path as plain data: what it has to do, what comes next first.
-use Rattle.std.specs.{Prelude.{ℕ, ◌≡◌, ◌≤◌, ◌+◌, List, [], ◌∷◌, ◌++◌, length, max, Some, slice_get}, Arc.arc_value}
-use Rattle.pagable_model.specs.declared.numbers.ArcRef.{ArcRef}
+use Rattle.{std.specs.{Prelude.{ℕ, ◌≡◌, ◌≤◌, ◌+◌, List, [], ◌∷◌, ◌++◌, length, max, Some, slice_get}, Arc.arc_value}, pagable_model.specs.declared.numbers.ArcRef.ArcRef}
 use Rattle.pagable_world.specs.{World.{Todo, to_start, to_pin, to_load, to_write, to_finish, to_item, to_set, to_publish, to_release, to_fail, Fault, was_refused, was_failed}, Plain.above}
-use Rattle.pagable_world.specs.{Plain.longest_path, Workers.place_below}
-use Rattle.pagable_loads.specs.Frames.{reading_of}
-use Rattle.pagable_walk.specs.{Found.keys_of, Slots.written_of, declared.results.Trees.Ghosts, declared.table.PageOutError.PageOutError, declared.tasks.Item.Item, declared.tasks.Open.Open}
-use Rattle.pagable_walk.specs.{declared.tasks.Task.Task, declared.tasks.Waiting.Waiting}
+use Rattle.{pagable_world.specs.{Plain.longest_path, Workers.place_below}, pagable_loads.specs.Frames.reading_of, pagable_walk.specs.{Found.keys_of, Slots.written_of, declared.results.Trees.Ghosts}}
+use Rattle.pagable_walk.specs.declared.{table.PageOutError.PageOutError, tasks.{Item.Item, Open.Open, Task.Task, Waiting.Waiting}}
 use Rattle.pagable_world.specs.World as world
-use Rattle.pagable_walk.specs.declared.table.PageOutError.TheVariants as causes
-use Rattle.pagable_walk.specs.declared.tasks.Waiting.TheVariants as waitings
-use Rattle.pagable_walk.specs.declared.tasks.Task.TheVariants as tasks
 
 abbrev pub fault_of : PageOutError → Fault
-fault_of (causes.Failed e) = was_refused e
-fault_of causes.AlreadyFailed = was_failed
+fault_of (PageOutError.Failed e) = was_refused e
+fault_of PageOutError.AlreadyFailed = was_failed
 
 -- a written node with one result more
 abbrev pub with_child : ArcRef → ℕ → ℕ → world.Open → world.Open
@@ -27,27 +21,27 @@ module _ {E : Type 0} {g : Ghosts E} where
   item_todo i = to_item (written_of (arc_value i.written)) (keys_of i.children.items)
 
   abbrev pub todo_of : Task E g → Todo
-  todo_of (tasks.Start r place) = to_start r place
-  todo_of (tasks.Pin r place) = to_pin r place
-  todo_of (tasks.Load r place through reading) = to_load r place through (reading_of reading)
-  todo_of (tasks.Write r place through pin) = to_write r place through
-  todo_of (tasks.Finish o) = to_finish (open_of o)
-  todo_of (tasks.Item i) = item_todo i
-  todo_of (tasks.SetKey d through) = to_set d.reference through d.found.key d.found.height
-  todo_of (tasks.Publish d) = to_publish d.reference d.found.key d.found.height
-  todo_of (tasks.Release d) = to_release d.reference d.found.key d.found.height
-  todo_of (tasks.Fail e back) = to_fail (fault_of e) back
+  todo_of (Task.Start r place) = to_start r place
+  todo_of (Task.Pin r place) = to_pin r place
+  todo_of (Task.Load r place through reading) = to_load r place through (reading_of reading)
+  todo_of (Task.Write r place through pin) = to_write r place through
+  todo_of (Task.Finish o) = to_finish (open_of o)
+  todo_of (Task.Item i) = item_todo i
+  todo_of (Task.SetKey d through) = to_set d.reference through d.found.key d.found.height
+  todo_of (Task.Publish d) = to_publish d.reference d.found.key d.found.height
+  todo_of (Task.Release d) = to_release d.reference d.found.key d.found.height
+  todo_of (Task.Fail e back) = to_fail (fault_of e) back
 
   -- a task that needs nothing of the pager
   abbrev pub IsPlain : Task E g → Type 0
-  IsPlain (tasks.Pin r place) = ⊥
-  IsPlain (tasks.Load r place through reading) = ⊥
-  IsPlain (tasks.Write r place through pin) = ⊥
+  IsPlain (Task.Pin r place) = ⊥
+  IsPlain (Task.Load r place through reading) = ⊥
+  IsPlain (Task.Write r place through pin) = ⊥
   IsPlain task = Unit {0}
 
   abbrev pub waiting_todo : Waiting E g → Todo
-  waiting_todo (waitings.Node o) = to_finish (open_of o)
-  waiting_todo (waitings.Item i) = item_todo i
+  waiting_todo (Waiting.Node o) = to_finish (open_of o)
+  waiting_todo (Waiting.Item i) = item_todo i
 
   -- what waits on a path, the last first, and then these
   unfoldable pub todos_onto : List (Waiting E g) → List Todo → List Todo

@@ -1,31 +1,22 @@
 -- A worker's turn over the pager's plain state and its table: what it needs to hold, what it does, and what it leaves to be done.
-use Rattle.std.specs.{Prelude.{ℕ, ◌≡◌, ◌≤◌, ◌+◌, true, List, [], ◌∷◌, Option, Some, None, Result, Ok, Err}, Arc.arc_value, declared.alloc.Global.Global, declared.sync.Arc.Arc}
-use Rattle.pagable_model.specs.{declared.error.Error.Error, declared.numbers.ArcRef.ArcRef, declared.numbers.HandleNumber.HandleNumber}
-use Rattle.pagable_world.specs.{World.{Core, Shelf, Todo, to_start, to_pin, was_failed, of_cell, Written, Values, Seen, seen_as, row_at, type_at}, Workers.{Site, WalkDoes, WorkerEnds, give_known}}
-use Rattle.pagable_world.specs.{Workers.{failing, failing_by, answer_after, is_counted}, Access.{Called, WalkStep}, Kinds.{is_pinning, owner_worker, identity_of}, Pager.{PagerState, WellFormed}}
-use Rattle.pagable_world.specs.{Pager.{Moves, TodoBrings, TookWrites}, Plain.{Blob, type_of, longest_path}, declared.events.Claim.Claim, declared.events.Took.Took}
-use Rattle.pagable_world.specs.{declared.events.WorkerAnswer.WorkerAnswer, declared.handles.HandleRow.HandleRow, declared.handles.Owner.Owner}
-use Rattle.pagable_loads.specs.{Frames.IsLoadOf, Telling.Acting, Working.as_caller}
-use Rattle.pagable_laws.specs.KeyRuns.{StandsAt}
-use Rattle.pagable_core.specs.declared.context.writing.SerializedData.{SerializedData}
-use Rattle.pagable_walk.specs.{Slots.written_of, Tasks.{IsPlain, todo_of, todos}, declared.results.Trees.Ghosts, declared.table.Found.Found, declared.tasks.Moved.Moved, declared.tasks.Task.Task}
-use Rattle.pagable_walk.specs.{declared.tasks.Turn.Turn, declared.tasks.Waiting.Waiting}
-use Rattle.pagable_loads.specs.declared.reading.Reading.{Reading as Own}
-use Rattle.pagable_world.specs.declared.events.Took.TheVariants as took
-use Rattle.pagable_world.specs.declared.events.Claim.TheVariants as claims
-use Rattle.pagable_walk.specs.declared.tasks.Task.TheVariants as tasks
-use Rattle.pagable_walk.specs.declared.tasks.Turn.TheVariants as comes
-use Rattle.pagable_walk.specs.declared.table.Found.TheVariants as founds
+use Rattle.std.specs.{Prelude.{ℕ, ◌≡◌, ◌≤◌, ◌+◌, true, List, [], ◌∷◌, Option, Some, None, Result, Ok, Err}, Arc.arc_value, declared.{alloc.Global.Global, sync.Arc.Arc}}
+use Rattle.{pagable_model.specs.declared.{error.Error.Error, numbers.{ArcRef.ArcRef, HandleNumber.HandleNumber}}, pagable_world.specs.World.{Core, Shelf, Todo, to_start, to_pin, was_failed, of_cell}}
+use Rattle.pagable_world.specs.{World.{Written, Values, Seen, seen_as, row_at, type_at}, Workers.{Site, WalkDoes, WorkerEnds, give_known, failing, failing_by, answer_after, is_counted}, Access.Called}
+use Rattle.pagable_world.specs.{Access.WalkStep, Kinds.{is_pinning, owner_worker, identity_of}, Pager.{PagerState, WellFormed, Moves, TodoBrings, TookWrites}, Plain.{Blob, type_of, longest_path}}
+use Rattle.{pagable_world.specs.declared.{events.{Claim.Claim, Took.Took, WorkerAnswer.WorkerAnswer}, handles.{HandleRow.HandleRow, Owner.Owner}}, pagable_loads.specs.Frames.IsLoadOf}
+use Rattle.{pagable_loads.specs.{Telling.Acting, Working.as_caller, declared.reading.Reading.Reading as Own}, pagable_laws.specs.KeyRuns.StandsAt}
+use Rattle.{pagable_core.specs.declared.context.writing.SerializedData.SerializedData, pagable_walk.specs.{Slots.written_of, Tasks.{IsPlain, todo_of, todos}, declared.results.Trees.Ghosts}}
+use Rattle.pagable_walk.specs.declared.{table.Found.Found, tasks.{Moved.Moved, Task.Task, Turn.Turn, Waiting.Waiting}}
 
 abbrev pub site : Core → Shelf → List Todo → Site
 site core shelf todo = record { core = core; shelf = shelf; todo = todo }
 
 -- what is to be done after a claim
 abbrev pub claim_todo : ArcRef → ℕ → List Todo → Result Claim Error → List Todo
-claim_todo r place below (Ok claims.Claimed) = to_pin r place ∷ below
-claim_todo r place below (Ok (claims.Known key height)) = give_known r key height below
-claim_todo r place below (Ok claims.Waiting) = to_start r place ∷ below
-claim_todo r place below (Ok claims.AlreadyFailed) = failing was_failed (to_start r place ∷ below)
+claim_todo r place below (Ok Claim.Claimed) = to_pin r place ∷ below
+claim_todo r place below (Ok (Claim.Known key height)) = give_known r key height below
+claim_todo r place below (Ok Claim.Waiting) = to_start r place ∷ below
+claim_todo r place below (Ok Claim.AlreadyFailed) = failing was_failed (to_start r place ∷ below)
 claim_todo r place below (Err e) = failing_by e (to_start r place ∷ below)
 
 -- plain blobs, and what is written, as they are
@@ -34,14 +25,14 @@ plain v = record { values = v; blob_of = λ b. b; written_of = λ w. w }
 
 -- a step without where what it wrote lies in memory
 abbrev pub plain_took : Took (Arc SerializedData Global) → Took Written
-plain_took (took.Claim i r) = took.Claim i r
-plain_took (took.Pin i r) = took.Pin i r
-plain_took (took.Write i out) = took.Write i (seen_as (λ a. written_of (arc_value a)) out)
-plain_took (took.Store i r) = took.Store i r
-plain_took (took.SetKey i r) = took.SetKey i r
-plain_took (took.Publish i key height) = took.Publish i key height
-plain_took (took.Release i) = took.Release i
-plain_took took.Fail = took.Fail
+plain_took (Took.Claim i r) = Took.Claim i r
+plain_took (Took.Pin i r) = Took.Pin i r
+plain_took (Took.Write i out) = Took.Write i (seen_as (λ a. written_of (arc_value a)) out)
+plain_took (Took.Store i r) = Took.Store i r
+plain_took (Took.SetKey i r) = Took.SetKey i r
+plain_took (Took.Publish i key height) = Took.Publish i key height
+plain_took (Took.Release i) = Took.Release i
+plain_took Took.Fail = Took.Fail
 
 -- while the reference's node lives it has the type of the reference's kind
 pub record IsOfKind (w : Core) (r : ArcRef) : Type 0 where
@@ -70,19 +61,19 @@ pub record IsLoading (w : Core) (n : ℕ) (r : ArcRef) (through : HandleNumber) 
 module _ {X : Type 0} {g : Ghosts X} where
   -- what a task needs of the pager
   abbrev pub TaskFits : ℕ → Core → Task X g → Type 0
-  TaskFits n w (tasks.Pin r place) = StandsAt w r r.handle × IsOfKind w r
-  TaskFits n w (tasks.Load r place through own) = IsOfKind w r × IsLoading w n r through own
-  TaskFits n w (tasks.Write r place through pin) = IsOfKind w r × HoldsPin w (owner_worker n) r pin
+  TaskFits n w (Task.Pin r place) = StandsAt w r r.handle × IsOfKind w r
+  TaskFits n w (Task.Load r place through own) = IsOfKind w r × IsLoading w n r through own
+  TaskFits n w (Task.Write r place through pin) = IsOfKind w r × HoldsPin w (owner_worker n) r pin
   TaskFits n w task = Unit {0}
 
   -- what a claim found is the reference's, and fits at its place
   abbrev pub ClaimFits : ArcRef → ℕ → Result (Found X g) Error → Type 0
-  ClaimFits r place (Ok founds.Claimed) = place ≤ longest_path
-  ClaimFits r place (Ok (founds.Known found)) = (found.identity ≡ identity_of r) × (place + found.height ≤ longest_path)
+  ClaimFits r place (Ok Found.Claimed) = place ≤ longest_path
+  ClaimFits r place (Ok (Found.Known found)) = (found.identity ≡ identity_of r) × (place + found.height ≤ longest_path)
   ClaimFits r place claim = Unit {0}
 
   abbrev pub ClaimLeaves : ArcRef → ℕ → Result (Found X g) Error → Task X g → Type 0
-  ClaimLeaves r place (Ok founds.Claimed) task = task ≡ tasks.Pin r place
+  ClaimLeaves r place (Ok Found.Claimed) task = task ≡ Task.Pin r place
   ClaimLeaves r place claim task = IsPlain task
 
   -- the pager is whole, the calls are the worker's, and the task fits
@@ -93,16 +84,16 @@ module _ {X : Type 0} {g : Ghosts X} where
 
   -- what a turn comes to
   abbrev pub plan : Turn X g → List (Waiting X g) → List Todo
-  plan (comes.Goes t) path = todo_of t ∷ todos path
-  plan (comes.Answers a) path = []
+  plan (Turn.Goes t) path = todo_of t ∷ todos path
+  plan (Turn.Answers a) path = []
 
   abbrev pub answer_in : Turn X g → Option WorkerAnswer
-  answer_in (comes.Goes t) = None
-  answer_in (comes.Answers a) = Some a
+  answer_in (Turn.Goes t) = None
+  answer_in (Turn.Answers a) = Some a
 
   abbrev pub LeavesFit : ℕ → Core → Turn X g → Type 0
-  LeavesFit n w (comes.Goes t) = TaskFits n w t
-  LeavesFit n w (comes.Answers a) = Unit {0}
+  LeavesFit n w (Turn.Goes t) = TaskFits n w t
+  LeavesFit n w (Turn.Answers a) = Unit {0}
 
   -- a step of the worker, up to its end
   pub record Turned {N E : Type 0} (v : Values N) (n : ℕ) (shelf : Shelf) (todo : List Todo) (s : PagerState N E) (shelf' : Shelf) (moved : Moved X g) (after : List Todo) (t : PagerState N E) : Type 0 where
@@ -120,15 +111,15 @@ module _ {X : Type 0} {g : Ghosts X} where
 
   -- with an answer the worker ends
   abbrev pub Closing : {N E : Type 0} → Values N → ℕ → Turn X g → PagerState N E → PagerState N E → Type 0
-  Closing v n (comes.Goes t) s s' = s' ≡ s
-  Closing v n (comes.Answers a) s s' = Called v (λ w'. WorkerEnds s.core n w') s s'
+  Closing v n (Turn.Goes t) s s' = s' ≡ s
+  Closing v n (Turn.Answers a) s s' = Called v (λ w'. WorkerEnds s.core n w') s s'
 
   pub record Closes {N E : Type 0} (v : Values N) (n : ℕ) (turn : Turn X g) (s s' : PagerState N E) : Type 0 where
     pub closes : Closing v n turn s s'
 
   abbrev pub acting_then : {E : Type 0} → Turn X g → Acting E → Acting E
-  acting_then (comes.Goes t) a = a
-  acting_then (comes.Answers answer) a = as_caller a
+  acting_then (Turn.Goes t) a = a
+  acting_then (Turn.Answers answer) a = as_caller a
 
   -- a step of the worker, with its end
   pub record Stepped {N E : Type 0} (v : Values N) (n : ℕ) (shelf : Shelf) (todo : List Todo) (s : PagerState N E) (shelf' : Shelf) (moved : Moved X g) (after : List Todo) (t : PagerState N E) : Type 0 where

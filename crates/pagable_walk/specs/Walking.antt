@@ -1,8 +1,6 @@
 -- A worker's walk from a task to its answer.
-use Rattle.std.specs.Prelude.{ℕ, List, ◌∷◌}
-use Rattle.pagable_world.specs.{Access.WorkerRun, Pager.PagerState, World.Shelf, World.Todo, World.Values, World.Written, declared.events.Took.Took, declared.events.WorkerAnswer.WorkerAnswer}
-use Rattle.pagable_world.specs.{declared.handles.Owner.Owner}
-use Rattle.pagable_walk.specs.{Tasks.todo_of, Turns.Fits, Turns.plain, declared.results.Trees.Ghosts, declared.tasks.Task.Task}
+use Rattle.{std.specs.Prelude.{ℕ, List, ◌∷◌}, pagable_world.specs.{Access.WorkerRun, Pager.PagerState, World.{Shelf, Todo, Values, Written}, declared.events.{Took.Took, WorkerAnswer.WorkerAnswer}}}
+use Rattle.{pagable_world.specs.declared.handles.Owner.Owner, pagable_walk.specs.{Tasks.todo_of, Turns.{Fits, plain}, declared.{results.Trees.Ghosts, tasks.Task.Task}}}
 
 -- some steps from what is to be done to this answer
 pub record Walked {N E : Type 0} (v : Values N) (n : ℕ) (todo : List Todo) (s : PagerState N E) (shelf : Shelf) (answer : WorkerAnswer) (t : PagerState N E) (shelf' : Shelf) : Type 0 where

@@ -1,9 +1,7 @@
 -- What a worker writes of a node that it has pinned.
-use Rattle.std.specs.Prelude.{ℕ, ◌≡◌, ◌⊎◌, true, [], Some, Result, IfOk, IfErr}
-use Rattle.pagable_model.specs.{Refusals.is_writing_fault, declared.error.Error.Error, declared.numbers.ArcRef.ArcRef, declared.numbers.HandleNumber.HandleNumber}
-use Rattle.pagable_world.specs.{Pager.PagerState, Pager.WellFormed, Pager.IsWrittenOf, Pager.IsFormless, Pager.RefusesWriting, Plain.type_of, World.Open, World.Written, World.Values, World.HasForm}
-use Rattle.pagable_walk.specs.Turns.{IsOfKind, PinsAt}
-use Rattle.pagable_model.specs.declared.error.Error.TheVariants as errors
+use Rattle.{std.specs.Prelude.{ℕ, ◌≡◌, ◌⊎◌, true, [], Some, Result, IfOk, IfErr}, pagable_model.specs.{Refusals.is_writing_fault, declared.{error.Error.Error, numbers.ArcRef.ArcRef}}}
+use Rattle.{pagable_model.specs.declared.numbers.HandleNumber.HandleNumber, pagable_world.specs.{Pager.{PagerState, WellFormed, IsWrittenOf, IsFormless, RefusesWriting}, Plain.type_of, World.Open}}
+use Rattle.{pagable_world.specs.World.{Written, Values, HasForm}, pagable_walk.specs.Turns.{IsOfKind, PinsAt}}
 
 -- a form of the value, with exactly its references
 pub record IsForm {N : Type 0} (v : Values N) (x : N) (written : Written) : Type 0 where
@@ -24,12 +22,12 @@ pub record IsPinned {N E : Type 0} (v : Values N) (s : PagerState N E) (r : ArcR
 -- The value that the handle pins. Memory may be wanting to share it.
 pub record Finds {N E : Type 0} (v : Values N) (s : PagerState N E) (r : ArcRef) (pin : HandleNumber) (result : Result N Error) : Type 0 where
   pub found : IsPinned v s r pin → IfOk result (λ x. (s.values r.node.0 ≡ Some x) × (v.node_type x ≡ type_of r.kind.0))
-  pub refused : IsPinned v s r pin → IfErr result (λ e. e ≡ errors.OutOfMemory)
+  pub refused : IsPinned v s r pin → IfErr result (λ e. e ≡ Error.OutOfMemory)
 
 -- a form of it, or why it isn't written
 pub record Forms {N E : Type 0} (v : Values N) (s : PagerState N E) (r : ArcRef) (pin : HandleNumber) (result : Result Written Error) : Type 0 where
   pub written : IsPinned v s r pin → IfOk result (λ w. IsWrittenOf v s r.node.0 w)
-  pub refused : IsPinned v s r pin → IfErr result (λ e. (v.write_causes (type_of r.kind.0) e ⊎ (e ≡ errors.OutOfMemory)) × RefusesWriting v s r.node.0 e)
+  pub refused : IsPinned v s r pin → IfErr result (λ e. (v.write_causes (type_of r.kind.0) e ⊎ (e ≡ Error.OutOfMemory)) × RefusesWriting v s r.node.0 e)
 
 -- a node that was just written
 abbrev pub just_open : ArcRef → ℕ → HandleNumber → Written → Open

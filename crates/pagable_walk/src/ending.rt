@@ -1,13 +1,9 @@
-//! A worker's turns at what it has written: its blob is stored, its key set and published, and its handles given up. And the end of a walk.
+//! A worker's turns at what it has written: its blob is stored, its key set and published, and its handles given up. How a result is made, and the end of a walk.
 
-ghost use Rattle.std.specs.{Arc.arc_value, Prelude.◌≡◌, Prelude.◌∷◌, Prelude.[], Prelude.ℕ, Prelude.List, Prelude.IfOk, Prelude.IfErr, Prelude.length};
-ghost use Rattle.pagable_core.specs.Data.{blob_of};
-ghost use Rattle.pagable_model.specs.Merkle.{blob_of as blob_over};
-ghost use Rattle.pagable_model.specs.Blob.{key_of};
-ghost use Rattle.pagable_world.specs.{Access.Told, World.Shelf, World.Todo, World.answer_of_fault, World.to_finish, World.to_release, World.to_set};
-ghost use Rattle.pagable_loads.specs.Telling.{Tells, values_at};
-ghost use Rattle.pagable_walk.specs.Tasks.{Awaits, AwaitsLow, IsPlain, IsWay, fault_of, item_todo, open_of, todo_of, todos};
-ghost use Rattle.pagable_walk.specs.{Due.LeadsOn, Ending.Stores, Ending.GoesBack, Found.keys_of, Slots.written_of, Table.shelf_of, Turns.TurnsTo, Turns.plan};
+ghost use Rattle.{std.specs.{Arc.arc_value, Prelude.{◌≡◌, ◌∷◌, [], ℕ, List, IfOk, IfErr, length, ◌≤◌, map}}, pagable_core.specs.Data.blob_of, pagable_model.specs.Merkle.blob_of as blob_over};
+ghost use Rattle.{pagable_model.specs.Blob.key_of, pagable_world.specs.{Access.Told, World.{Shelf, Todo, answer_of_fault, to_finish, to_release, to_set}, Kinds.identity_of, Plain.longest_path}};
+ghost use Rattle.{pagable_loads.specs.Telling.{Tells, values_at}, pagable_walk.specs.{Tasks.{Awaits, AwaitsLow, IsPlain, IsWay, fault_of, item_todo, open_of, todo_of, todos}, Due.LeadsOn}};
+ghost use Rattle.pagable_walk.specs.{Ending.{Stores, GoesBack}, Found.{keys_of, ids_of}, Slots.written_of, Table.shelf_of, Turns.{TurnsTo, plan}, Results.HasFormOf};
 
 use crate::stack::{give, refuse};
 use crate::tasks::{Done, Item, Moved, Open, Task, Turn, Waiting, named};
@@ -15,19 +11,17 @@ use crate::{PageOutError, SlotResult, SlotTable, Trees};
 use pagable_codec::{Env, NodeSet};
 use pagable_core::{PagableData, SerializedData};
 use pagable_loads::WorkerAccess;
-use pagable_model::{DataKey, Error, HandleNumber, WorkerNumber};
+use pagable_model::{DataKey, Error, HandleNumber, Identity, WorkerNumber};
 use pagable_world::{Took, WorkerAnswer};
 use std::alloc::Global;
+use std::marker::PhantomData;
 
 // The keys of results, in their order.
 fn keys<E: Trees>(alloc: Global, children: &[SlotResult<E>]) -> Result<Vec<DataKey>, Error>
     ensures keys { IfOk result (λ keys. keys.items ≡ keys_of children.now) }
     ensures only { IfErr result (λ e. e ≡ Error.OutOfMemory) }
 {
-    match children.iter().map(|found| found.key).collect(alloc) {
-        Ok(keys) => Ok(keys),
-        Err(_) => Err(Error::OutOfMemory),
-    }
+    Ok(children.iter().map(|found| found.key).collect(alloc)?)
 }
 
 // The blob of what was written over the results of its references. Refused by want of memory alone.
@@ -39,14 +33,9 @@ fn blob<E: Trees>(
     ensures blob { IfOk result (λ blob. blob_of blob ≡ blob_over (written_of written.now).bytes (keys_of children.now)) }
     ensures only { IfErr result (λ e. e ≡ Error.OutOfMemory) }
 {
-    let arcs = match keys(alloc, children) {
-        Ok(keys) => keys,
-        Err(e) => return Err(e),
-    };
-    match Vec::from_slice(alloc, written.bytes.as_slice()) {
-        Ok(bytes) => Ok(PagableData { bytes, arcs }),
-        Err(_) => Err(Error::OutOfMemory),
-    }
+    let arcs = keys(alloc, children)?;
+    let bytes = Vec::from_slice(alloc, written.bytes.as_slice())?;
+    Ok(PagableData { bytes, arcs })
 }
 
 // Stores the blob of what was written over the results of its references.
@@ -63,10 +52,8 @@ where
     ensures acting { A.acting access.new ≡ A.acting access.old }
     ensures lender { A.lender access.new ≡ A.lender access.old }
 {
-    match blob(alloc, written, children) {
-        Ok(blob) => access.store(alloc, blob),
-        Err(e) => Err(e),
-    }
+    let blob = blob(alloc, written, children)?;
+    access.store(alloc, blob)
 }
 
 // The result of a node whose blob was stored is known: its key is set next.
@@ -290,5 +277,34 @@ where
         took: Took::Fail,
         turn: Turn::Answers(answer(why)),
         counted: true,
+    }
+}
+
+impl<E: Env> SlotResult<E>
+where
+    E::Node: NodeSet<E>,
+{
+    /// The result of an identity of which some value has this form, over one result for each of its references. It takes no memory.
+    pub fn of_node(
+        identity: Identity,
+        written: &SerializedData,
+        children: &[SlotResult<E>],
+        key: DataKey,
+        height: u64,
+    ) -> SlotResult<E>
+        requires form { ∥ HasFormOf (values_at E.Node.NodeSet E.Env E.Hash.KeyHash) identity (written_of written.now) ∥₁ }
+        requires each { map identity_of (written_of written.now).references ≡ ids_of children.now }
+        requires key { key ≡ key_of E.Hash.digest (blob_over (written_of written.now).bytes (keys_of children.now)) }
+        requires low { height ≤ longest_path }
+        ensures identity { result.identity ≡ identity }
+        ensures key { result.key ≡ key }
+        ensures height { result.height ≡ height }
+    {
+        SlotResult {
+            identity,
+            key,
+            height,
+            of: PhantomData,
+        }
     }
 }

@@ -1,9 +1,7 @@
 //! Page-out of what values refer to: the claims of a table, and a worker's walk over them with a stack of tasks.
 #![tactic(auto)]
 
-pub mod claiming;
 pub mod ending;
-pub mod making;
 pub mod over;
 pub mod results;
 pub mod slots;
@@ -13,8 +11,6 @@ pub mod step;
 pub mod table;
 pub mod tasks;
 pub mod turns;
-pub mod walk;
-pub mod writing;
 
 pub use over::{page_out_item_over, page_out_pending_over};
 pub use results::{SlotResult, Trees};

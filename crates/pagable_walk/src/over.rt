@@ -1,13 +1,10 @@
 //! Page-out of an item, and of the entries of the list, over an access, each by workers of its own.
 
-ghost use Rattle.std.specs.{Arc.arc_value, Prelude.◌≡◌};
-ghost use Rattle.pagable_world.specs.Access.{Told};
-ghost use Rattle.pagable_loads.specs.Telling.{values_at};
-ghost use Rattle.pagable_walk.specs.{Over.answer_of, Over.PagesAt, Over.PagesEntry, Over.PagesItem, Over.PagesList, Over.SkipsEntry, Slots.written_of, Table.shelf_of};
-ghost use Rattle.pagable_world.specs.declared.handles.Owner.TheVariants as owners;
+ghost use Rattle.{std.specs.{Arc.arc_value, Prelude.◌≡◌}, pagable_world.specs.{Access.Told, declared.handles.Owner.Owner}, pagable_loads.specs.Telling.values_at, pagable_walk.specs.Over.answer_of};
+ghost use Rattle.pagable_walk.specs.{Over.{PagesAt, PagesEntry, PagesItem, PagesList, SkipsEntry}, Slots.written_of, Table.shelf_of};
 
 use crate::starting::{start_entry, start_item};
-use crate::walk::run;
+use crate::step::run;
 use crate::{PageOutError, SlotTable};
 use pagable_codec::{Env, NodeSet};
 use pagable_core::SerializedData;
@@ -38,7 +35,7 @@ pub fn page_out_item_over<E: Env, A: WorkerAccess<E>>(
 ) -> Result<DataKey, PageOutError>
 where
     E::Node: NodeSet<E>,
-    requires caller { (A.acting access.old).me ≡ owners.Caller }
+    requires caller { (A.acting access.old).me ≡ Owner.Caller }
     ensures over { Told (A.told access.old) (A.told access.new) (PagesItem (values_at E.Node.NodeSet E.Env E.Hash.KeyHash (A.acting access.old).environment) (shelf_of table.old) (written_of (arc_value item)) (shelf_of table.new) (answer_of result)) }
     ensures acting { A.acting access.new ≡ A.acting access.old }
     ensures lender { A.lender access.new ≡ A.lender access.old }
@@ -61,7 +58,7 @@ fn page_out_entry<E: Env, A: WorkerAccess<E>>(
 ) -> WorkerAnswer
 where
     E::Node: NodeSet<E>,
-    requires caller { (A.acting access.old).me ≡ owners.Caller }
+    requires caller { (A.acting access.old).me ≡ Owner.Caller }
     ensures pages { Told (A.told access.old) (A.told access.new) (PagesEntry (values_at E.Node.NodeSet E.Env E.Hash.KeyHash (A.acting access.old).environment) place result) }
     ensures acting { A.acting access.new ≡ A.acting access.old }
     ensures lender { A.lender access.new ≡ A.lender access.old }
@@ -79,7 +76,7 @@ where
 fn skip_entry<E: Env, A: WorkerAccess<E>>(access: &mut A, place: usize)
 where
     E::Node: NodeSet<E>,
-    requires caller { (A.acting access.old).me ≡ owners.Caller }
+    requires caller { (A.acting access.old).me ≡ Owner.Caller }
     ensures skips { Told (A.told access.old) (A.told access.new) (SkipsEntry (values_at E.Node.NodeSet E.Env E.Hash.KeyHash (A.acting access.old).environment) place) }
     ensures acting { A.acting access.new ≡ A.acting access.old }
     ensures lender { A.lender access.new ≡ A.lender access.old }
@@ -98,7 +95,7 @@ fn page_out_at<E: Env, A: WorkerAccess<E>>(
 ) -> Result<(), PageOutError>
 where
     E::Node: NodeSet<E>,
-    requires caller { (A.acting access.old).me ≡ owners.Caller }
+    requires caller { (A.acting access.old).me ≡ Owner.Caller }
     ensures pages { Told (A.told access.old) (A.told access.new) (PagesAt (values_at E.Node.NodeSet E.Env E.Hash.KeyHash (A.acting access.old).environment) place result) }
     ensures acting { A.acting access.new ≡ A.acting access.old }
     ensures lender { A.lender access.new ≡ A.lender access.old }
@@ -125,7 +122,7 @@ pub fn page_out_pending_over<E: Env, A: WorkerAccess<E>>(
 ) -> Result<(), PageOutError>
 where
     E::Node: NodeSet<E>,
-    requires caller { (A.acting access.old).me ≡ owners.Caller }
+    requires caller { (A.acting access.old).me ≡ Owner.Caller }
     ensures over { Told (A.told access.old) (A.told access.new) (PagesList (values_at E.Node.NodeSet E.Env E.Hash.KeyHash (A.acting access.old).environment) result) }
     ensures acting { A.acting access.new ≡ A.acting access.old }
     ensures lender { A.lender access.new ≡ A.lender access.old }

@@ -1,16 +1,16 @@
-//! The slots of claimed identities, and whom a waiting worker waits for.
+//! The slots of claimed identities, and whom a waiting worker waits for; claims of a lent table, and what is known of them.
 
-ghost use Rattle.std.specs.{Arc.arc_value, Option.option_map, Prelude.◌≡◌, Prelude.ℕ, Prelude.Some, Prelude.OnOk, Prelude.OnErr, Prelude.IfOk, Prelude.cond, Prelude.nat_eq, Prelude.slice_get};
-ghost use Rattle.indexmap.specs.IndexMap.{get, keys};
-ghost use Rattle.pagable_model.specs.declared.numbers.Identity.{Identity as Named};
-ghost use Rattle.pagable_world.specs.{Workers.with_outcome, World.published, World.failed};
-ghost use Rattle.pagable_walk.specs.Slots.{written_of, claimed_by, slot_of, IsOwn, slots_in, AreOwn, shelf_in, Stands, SlotIs, SameSlots, open_worker, EachEnds, Leads, Changes, failed_by, after_failure, with_written};
+ghost use Rattle.{std.specs.{Arc.arc_value, Option.option_map, Prelude.{◌≡◌, ℕ, Some, OnOk, OnErr, IfOk, cond, nat_eq, slice_get, None, IfErr}}, indexmap.specs.IndexMap.{get, keys}};
+ghost use Rattle.{pagable_model.specs.declared.numbers.Identity.Identity as Named, pagable_world.specs.Workers.{with_outcome, with_slot, with_wait, IsOpenSlot, ComesToEnd, with_changed_slot}};
+ghost use Rattle.{pagable_world.specs.{Workers.with_failed, World.{published, failed, Slot, SameShelf}}, pagable_walk.specs.Slots.{written_of, claimed_by, slot_of, IsOwn, slots_in, AreOwn, shelf_in}};
+ghost use Rattle.pagable_walk.specs.{Slots.{Stands, SlotIs, SameSlots, open_worker, EachEnds, Leads, Changes, failed_by, after_failure, with_written, no_claims, Judges, ClaimsThere}, Table.shelf_of};
+ghost use Rattle.pagable_walk.specs.Table.{found_as, IsFoundOf};
 
-use crate::{SlotResult, Trees};
+use crate::{Found, SlotResult, SlotTable, Trees};
 use indexmap::IndexMap;
 use pagable_core::SerializedData;
-use pagable_model::{Identity, Kind, NodeNumber, WorkerNumber};
-use std::alloc::AllocError;
+use pagable_model::{Error, Identity, Kind, NodeNumber, WorkerNumber};
+use std::alloc::{AllocError, Global};
 use std::sync::Arc;
 
 /// What is known of a claim.
@@ -270,5 +270,122 @@ pub fn comes_back<E: Trees>(
             return Ok(false);
         };
         worker = next;
+    }
+}
+
+impl<E: Trees> SlotTable<E> {
+    // What a claim of an identity at this place on a path would find.
+    fn judge(&self, worker: WorkerNumber, identity: Identity, place: u64) -> Result<Found<E>, Error>
+        ensures judges { Judges worker.0 (shelf_of self.now) identity place (found_as result) }
+        ensures own { IfOk result (IsFoundOf identity) }
+    {
+        if place > 128 {
+            return Err(Error::TooDeep);
+        }
+        match look_up(&self.slots, identity) {
+            Standing::Free => Ok(Found::Claimed),
+            Standing::Failed => Ok(Found::AlreadyFailed),
+            Standing::Known(found) => {
+                if found.height > 128 - place {
+                    return Err(Error::TooDeep);
+                }
+                Ok(Found::Known(found))
+            }
+            Standing::Open(other) => {
+                if comes_back(&self.slots, &self.waits, worker.0, other)? {
+                    return Err(Error::TooDeep);
+                }
+                Ok(Found::Waiting)
+            }
+        }
+    }
+
+    /// A worker doesn't wait any more.
+    pub fn stop_waiting(&mut self, worker: WorkerNumber)
+        ensures { SameShelf (with_wait (shelf_of self.old) worker.0 None) (shelf_of self.new) }
+    {
+        self.waits.swap_remove(&worker.0);
+    }
+
+    // A worker that doesn't wait claims a free identity.
+    fn take(&mut self, worker: WorkerNumber, identity: Identity) -> Result<(), Error>
+        requires free { (shelf_of self.old).slots identity ≡ None }
+        requires works { (shelf_of self.old).waits worker.0 ≡ None }
+        ensures ok { OnOk result (SameShelf (with_slot (shelf_of self.old) identity (Some (claimed_by worker.0))) (shelf_of self.new)) }
+        ensures err { OnErr result (SameShelf (shelf_of self.old) (shelf_of self.new)) }
+        ensures only { IfErr result (λ e. e ≡ Error.OutOfMemory) }
+    {
+        add(&mut self.slots, identity, worker)?;
+        Ok(())
+    }
+
+    // A worker waits for the result of an identity whose worker doesn't come to wait for it.
+    fn wait_for(&mut self, worker: WorkerNumber, identity: Identity) -> Result<(), Error>
+        requires { (slot : Slot) × IsOpenSlot (shelf_of self.old) identity slot × ComesToEnd (shelf_of self.old) worker.0 slot.worker }
+        ensures ok { OnOk result (SameShelf (with_wait (shelf_of self.old) worker.0 (Some identity)) (shelf_of self.new)) }
+        ensures err { OnErr result (SameShelf (shelf_of self.old) (shelf_of self.new)) }
+        ensures only { IfErr result (λ e. e ≡ Error.OutOfMemory) }
+    {
+        add_wait(&mut self.waits, worker.0, identity)?;
+        Ok(())
+    }
+
+    /// A table of no claims. It takes no memory.
+    pub fn new(alloc: Global) -> SlotTable<E>
+        ensures { SameShelf no_claims (shelf_of result) }
+    {
+        SlotTable {
+            slots: IndexMap::new(alloc),
+            waits: IndexMap::new(alloc),
+        }
+    }
+
+    /// A worker claims an identity at this place on a path, or learns what is known there. It waits only for a worker that doesn't come to wait for it. Refused with TooDeep where the path is too
+    /// long, also with the height that is known there, or where workers would wait in a ring; and with OutOfMemory. No claim is made then, and the worker waits for nothing.
+    pub fn try_claim(
+        &mut self,
+        worker: WorkerNumber,
+        identity: Identity,
+        place: u64,
+    ) -> Result<Found<E>, Error>
+        ensures claims { ClaimsThere worker.0 (shelf_of self.old) identity place (found_as result) (shelf_of self.new) }
+        ensures own { IfOk result (IsFoundOf identity) }
+    {
+        let judged = self.judge(worker, identity, place);
+        self.stop_waiting(worker);
+        match judged {
+            Err(e) => Err(e),
+            Ok(Found::Claimed) => {
+                self.take(worker, identity)?;
+                Ok(Found::Claimed)
+            }
+            Ok(Found::Waiting) => {
+                self.wait_for(worker, identity)?;
+                Ok(Found::Waiting)
+            }
+            Ok(Found::Known(found)) => Ok(Found::Known(found)),
+            Ok(Found::AlreadyFailed) => Ok(Found::AlreadyFailed),
+        }
+    }
+
+    /// What was written of a claimed node is known from now on.
+    pub fn set_written(&mut self, identity: Identity, written: Arc<SerializedData>)
+        ensures { SameShelf (with_changed_slot (shelf_of self.old) identity (with_written (written_of (arc_value written)))) (shelf_of self.new) }
+    {
+        write(&mut self.slots, identity, written);
+    }
+
+    /// The result of a claimed identity is put where others see it. Where one stands there, it stays. It takes no memory.
+    pub fn set_success(&mut self, found: SlotResult<E>)
+        ensures { SameShelf (with_changed_slot (shelf_of self.old) found.identity (with_outcome (published found.key found.height))) (shelf_of self.new) }
+    {
+        publish(&mut self.slots, found);
+    }
+
+    /// A worker fails: its claims without a result are failed. It takes no memory.
+    pub fn fail(&mut self, worker: WorkerNumber)
+        ensures { SameShelf (with_failed (shelf_of self.old) worker.0) (shelf_of self.new) }
+    {
+        fail_all(&mut self.slots, worker.0);
     }
 }

@@ -1,10 +1,8 @@
 //! A worker's path: what was written and waits for the next of its references.
 
-ghost use Rattle.std.specs.Prelude.{◌≡◌, ◌≤◌, ◌<◌, ◌+◌, ◌*◌, ◌∷◌, ◌++◌, [], Some, max, length, slice_get, vec_len, vec_capacity};
-ghost use Rattle.std.specs.Arc.{arc_value};
-ghost use Rattle.pagable_world.specs.{Plain.above, Plain.longest_path, Workers.place_below, Workers.settle, Workers.give, Workers.give_known, World.to_finish, World.to_item, World.was_refused};
-ghost use Rattle.pagable_walk.specs.Tasks.{AwaitsLow, IsPlain, fault_of, item_todo, open_of, todo_of, todos, waiting_todo, with_child};
-ghost use Rattle.pagable_walk.specs.{Due.due, Failing.back_of, Failing.fails, Found.keys_of, Slots.written_of};
+ghost use Rattle.{std.specs.{Prelude.{◌≡◌, ◌≤◌, ◌<◌, ◌+◌, ◌*◌, ◌∷◌, ◌++◌, [], Some, max, length, slice_get, vec_len, vec_capacity}, Arc.arc_value}, pagable_world.specs.Plain.{above, longest_path}};
+ghost use Rattle.{pagable_world.specs.{Workers.{place_below, settle, give, give_known}, World.{to_finish, to_item, was_refused}}, pagable_walk.specs.Tasks.{AwaitsLow, IsPlain, fault_of, item_todo}};
+ghost use Rattle.pagable_walk.specs.{Tasks.{open_of, todo_of, todos, waiting_todo, with_child}, Due.due, Failing.{back_of, fails}, Found.keys_of, Slots.written_of};
 
 use crate::tasks::{Done, Item, Open, Task, Waiting};
 use crate::{PageOutError, Trees};

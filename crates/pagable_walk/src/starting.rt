@@ -1,9 +1,7 @@
 //! What a worker does first.
 
-ghost use Rattle.std.specs.{Arc.arc_value, Prelude.◌≡◌, Prelude.◌∷◌, Prelude.[], Prelude.IfOk, Prelude.IfErr};
-ghost use Rattle.pagable_world.specs.{Kinds.identity_of, Workers.first_todo, World.of_item, World.of_entry, World.to_item};
-ghost use Rattle.pagable_walk.specs.{Slots.written_of, Tasks.IsPlain, Tasks.IsWay, Tasks.item_todo, Tasks.todo_of, Tasks.todos};
-ghost use Rattle.pagable_model.specs.declared.error.Error.TheVariants as errors;
+ghost use Rattle.{std.specs.{Arc.arc_value, Prelude.{◌≡◌, ◌∷◌, [], IfOk, IfErr}}, pagable_world.specs.{Kinds.identity_of, Workers.first_todo, World.{of_item, of_entry, to_item}}};
+ghost use Rattle.pagable_walk.specs.{Slots.written_of, Tasks.{IsPlain, IsWay, item_todo, todo_of, todos}};
 
 use crate::Trees;
 use crate::stack::settle_item;
@@ -16,12 +14,10 @@ use std::sync::Arc;
 // An item before its references are walked, with places for their results.
 fn item<E: Trees>(alloc: Global, written: Arc<SerializedData>) -> Result<Item<E>, Error>
     ensures item { IfOk result (λ i. item_todo i ≡ to_item (written_of (arc_value written)) []) }
-    ensures only { IfErr result (λ e. e ≡ errors.OutOfMemory) }
+    ensures only { IfErr result (λ e. e ≡ Error.OutOfMemory) }
 {
-    match Vec::with_capacity(alloc, written.arcs.len()) {
-        Ok(children) => Ok(Item { written, children }),
-        Err(_) => Err(Error::OutOfMemory),
-    }
+    let children = Vec::with_capacity(alloc, written.arcs.len())?;
+    Ok(Item { written, children })
 }
 
 /// The first task for an item, and a path with places for it. Refused by want of memory alone.
@@ -32,16 +28,11 @@ pub fn start_item<E: Trees>(
     ensures todo { IfOk result (λ w. todo_of w.0 ∷ todos w.1.items ≡ first_todo (of_item (written_of (arc_value written)))) }
     ensures way { IfOk result (λ w. IsWay (todo_of w.0 ∷ todos w.1.items)) }
     ensures plain { IfOk result (λ w. IsPlain w.0) }
-    ensures only { IfErr result (λ e. e ≡ errors.OutOfMemory) }
+    ensures only { IfErr result (λ e. e ≡ Error.OutOfMemory) }
 {
-    let mut path = match Vec::with_capacity(alloc, 1) {
-        Ok(path) => path,
-        Err(_) => return Err(Error::OutOfMemory),
-    };
-    match item(alloc, written) {
-        Ok(item) => Ok((settle_item(&mut path, item), path)),
-        Err(e) => Err(e),
-    }
+    let mut path = Vec::with_capacity(alloc, 1)?;
+    let item = item(alloc, written)?;
+    Ok((settle_item(&mut path, item), path))
 }
 
 /// The first task for an entry of the list, which this reference names, and an empty path. It takes no memory.

@@ -1,19 +1,21 @@
-//! A worker's step: what is to be done next is done, and with its answer the worker ends.
+//! A worker's step: what is to be done next is done, and with its answer the worker ends. And its walk, from its first task to its answer.
 
-ghost use Rattle.std.specs.Prelude.{◌≡◌, ◌∷◌};
-ghost use Rattle.pagable_world.specs.Access.{Told};
-ghost use Rattle.pagable_loads.specs.Telling.{values_at};
-ghost use Rattle.pagable_walk.specs.{Due.LeadsOn, Table.shelf_of, Tasks.IsWay, Tasks.todo_of, Tasks.todos, Turns.Closes, Turns.TurnsTo, Turns.StepsTo, Turns.acting_then, Turns.plan};
+ghost use Rattle.{std.specs.Prelude.{◌≡◌, ◌∷◌, ◌<◌, ◌≤◌, ◌+◌, ◌*◌}, pagable_world.specs.{Access.Told, World.to_start}, pagable_loads.specs.{Telling.values_at, Working.as_caller}};
+ghost use Rattle.pagable_walk.specs.{Due.{LeadsOn, IfGoes, due, far}, Table.shelf_of, Tasks.{IsWay, todo_of, todos, Awaits}, Turns.{Closes, TurnsTo, StepsTo, acting_then, plan}, Walking.RunsTo};
+ghost use Rattle.pagable_walk.specs.declared.tasks.Task.{Task};
 
 use crate::SlotTable;
 use crate::ending::{end, finish, finish_item, publish, release, set_key};
-use crate::tasks::{Moved, Task, Turn, Waiting};
-use crate::turns::{load, pin, start};
-use crate::writing::write;
+use crate::stack::refuse;
+use crate::tasks::{Moved, Task, Turn, Waiting, named};
+use crate::turns::{load, pin, start, write};
 use pagable_codec::{Env, NodeSet};
+use pagable_core::SerializedData;
 use pagable_loads::WorkerAccess;
-use pagable_model::WorkerNumber;
+use pagable_model::{ArcRef, Error, WorkerNumber};
+use pagable_world::{Claim, Took, WorkerAnswer};
 use std::alloc::Global;
+use std::sync::Arc;
 
 /// Does what is to be done next: one task, by one step of the access at most.
 pub fn turn<E: Env, A: WorkerAccess<E>>(
@@ -87,4 +89,110 @@ where
     let moved = turn(access, alloc, table, worker, path, task);
     end_answered(access, worker, &moved.turn);
     moved
+}
+
+// How many claims are left after one more. One that waits leaves none: nobody else goes on meanwhile.
+fn left_after(left: u64, took: &Took<Arc<SerializedData>>) -> u64
+    requires { 0 < left }
+    ensures { result + 1 ≤ left }
+{
+    match took {
+        Took::Claim(_, Ok(Claim::Waiting)) => 0,
+        _ => left - 1,
+    }
+}
+
+// Claims what a reference names, if a claim is left. Where none is, it is refused as one for which memory is wanting.
+fn start_within<E: Env, A: WorkerAccess<E>>(
+    access: &mut A,
+    alloc: Global,
+    table: &mut SlotTable<E>,
+    worker: WorkerNumber,
+    path: &mut Vec<Waiting<E>>,
+    left: &mut u64,
+    reference: ArcRef,
+    place: u64,
+) -> Moved<E>
+where
+    E::Node: NodeSet<E>,
+    requires { Awaits (todos path.old.items) reference place }
+    ensures way { IsWay (plan result.turn path.new.items) }
+    ensures falls { IfGoes result.turn (left.new * far + due (plan result.turn path.new.items) < left.old * far + due (to_start reference place ∷ todos path.old.items)) }
+    ensures step { Told (A.told access.old) (A.told access.new) (StepsTo (values_at E.Node.NodeSet E.Env E.Hash.KeyHash (A.acting access.old).environment) (A.acting access.old).me worker.0 (shelf_of table.old) (Task.Start reference place) (todos path.old.items) (shelf_of table.new) result (plan result.turn path.new.items)) }
+    ensures acting { A.acting access.new ≡ acting_then result.turn (A.acting access.old) }
+    ensures lender { A.lender access.new ≡ A.lender access.old }
+{
+    if *left == 0 {
+        table.stop_waiting(worker);
+        return Moved {
+            took: Took::Claim(named(reference), Err(Error::OutOfMemory)),
+            turn: Turn::Goes(refuse(path, &Error::OutOfMemory, Some(reference.handle))),
+            counted: true,
+        };
+    }
+    // (by its count the path is known to be no longer than numbers go)
+    let _entries = path.len();
+    let start = Task::Start(reference, place);
+    let moved = step(access, alloc, table, worker, path, start);
+    *left = left_after(*left, &moved.took);
+    moved
+}
+
+// A step of a walk to which so many claims are left.
+fn step_within<E: Env, A: WorkerAccess<E>>(
+    access: &mut A,
+    alloc: Global,
+    table: &mut SlotTable<E>,
+    worker: WorkerNumber,
+    path: &mut Vec<Waiting<E>>,
+    left: &mut u64,
+    task: Task<E>,
+) -> Moved<E>
+where
+    E::Node: NodeSet<E>,
+    requires { IsWay (todo_of task ∷ todos path.old.items) }
+    ensures way { IsWay (plan result.turn path.new.items) }
+    ensures falls { IfGoes result.turn (left.new * far + due (plan result.turn path.new.items) < left.old * far + due (todo_of task ∷ todos path.old.items)) }
+    ensures step { Told (A.told access.old) (A.told access.new) (StepsTo (values_at E.Node.NodeSet E.Env E.Hash.KeyHash (A.acting access.old).environment) (A.acting access.old).me worker.0 (shelf_of table.old) task (todos path.old.items) (shelf_of table.new) result (plan result.turn path.new.items)) }
+    ensures acting { A.acting access.new ≡ acting_then result.turn (A.acting access.old) }
+    ensures lender { A.lender access.new ≡ A.lender access.old }
+{
+    match task {
+        Task::Start(reference, place) => {
+            start_within(access, alloc, table, worker, path, left, reference, place)
+        }
+        other => step(access, alloc, table, worker, path, other),
+    }
+}
+
+/// Makes a worker's steps from its task and its path on, up to its answer. It waits for no other worker, and makes no more claims than there are numbers: a claim that would
+/// have to wait, or that is one too many, is refused as one for which memory is wanting.
+pub fn run<E: Env, A: WorkerAccess<E>>(
+    access: &mut A,
+    alloc: Global,
+    table: &mut SlotTable<E>,
+    worker: WorkerNumber,
+    path: &mut Vec<Waiting<E>>,
+    first: Task<E>,
+) -> WorkerAnswer
+where
+    E::Node: NodeSet<E>,
+    requires { IsWay (todo_of first ∷ todos path.old.items) }
+    ensures run { Told (A.told access.old) (A.told access.new) (RunsTo (values_at E.Node.NodeSet E.Env E.Hash.KeyHash (A.acting access.old).environment) (A.acting access.old).me worker.0 (shelf_of table.old) first (todos path.old.items) (shelf_of table.new) result) }
+    ensures acting { A.acting access.new ≡ as_caller (A.acting access.old) }
+    ensures lender { A.lender access.new ≡ A.lender access.old }
+{
+    let mut task = first;
+    let mut left = u64::MAX;
+    loop {
+        let Moved {
+            turn,
+            took: _,
+            counted: _,
+        } = step_within(access, alloc, table, worker, path, &mut left, task);
+        match turn {
+            Turn::Goes(next) => task = next,
+            Turn::Answers(answer) => return answer,
+        }
+    }
 }

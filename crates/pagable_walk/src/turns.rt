@@ -1,20 +1,21 @@
-//! A worker's turns at a reference that it has come to: it claims what the reference names, and pins it, by a load where it is needed.
+//! A worker's turns at a reference that it has come to: it claims what the reference names, pins it, by a load where it is needed, and writes its value.
 
-ghost use Rattle.std.specs.Prelude.{◌≡◌, ◌≤◌, ◌+◌, ◌*◌, ◌∷◌, ℕ, List, length};
-ghost use Rattle.pagable_world.specs.{Access.Told, Plain.longest_path, Workers.claim_fault, Workers.is_counted_claim, Workers.Claims, World.Core, World.Shelf, World.Todo, World.to_start};
-ghost use Rattle.pagable_world.specs.{World.to_pin, World.to_load};
-ghost use Rattle.pagable_loads.specs.{Frames.reading_of, Telling.Tells, Telling.values_at, Working.fault_in};
-ghost use Rattle.pagable_walk.specs.{Due.due, Due.most, Due.LeadsOn, Table.shelf_of, Table.found_as, Tasks.Awaits, Tasks.IsWay, Tasks.todo_of, Tasks.todos, Turns.site, Turns.claim_todo};
-ghost use Rattle.pagable_walk.specs.{Turns.ClaimFits, Turns.ClaimLeaves, Turns.TurnsTo, Turns.plan};
+ghost use Rattle.{std.specs.{Prelude.{◌≡◌, ◌≤◌, ◌+◌, ◌*◌, ◌∷◌, ℕ, List, length, ◌<◌, IfOk, IfErr, OnOk, vec_len, vec_capacity}, Arc.arc_value}, pagable_world.specs.{Access.Told, Plain.longest_path}};
+ghost use Rattle.pagable_world.specs.{Plain.type_of, Workers.{claim_fault, is_counted_claim, Claims}, World.{Core, Shelf, Todo, to_start, to_pin, to_load, seen_as, to_write}, Kinds.identity_of};
+ghost use Rattle.{pagable_loads.specs.{Frames.reading_of, Telling.{Tells, values_at}, Working.fault_in}, pagable_walk.specs.{Due.{due, most, LeadsOn}, Table.{shelf_of, found_as}, Tasks.Awaits}};
+ghost use Rattle.pagable_walk.specs.{Tasks.{IsWay, todo_of, todos, open_of}, Turns.{site, claim_todo, ClaimFits, ClaimLeaves, TurnsTo, plan}, Results.HasFormOf, Slots.written_of, Writing.IsForm};
+ghost use Rattle.pagable_walk.specs.Writing.{WriteRefused, Finds, Forms, just_open};
 
-use crate::stack::{fail, give_known, refuse};
-use crate::tasks::{Done, Moved, Task, Turn, Waiting, named};
+use crate::stack::{fail, give_known, refuse, settle_open};
+use crate::tasks::{Done, Moved, Open, Task, Turn, Waiting, named};
 use crate::{Found, PageOutError, SlotTable, Trees};
-use pagable_codec::{Env, NodeSet};
+use pagable_codec::{Env, NodeSet, SessionContext};
+use pagable_core::{SerializedData, SerializerForPaging};
 use pagable_loads::{Reading, Taken, WorkerAccess};
 use pagable_model::{ArcRef, Error, HandleNumber, WorkerNumber};
 use pagable_world::{Claim, LoadAnswer, PinStep, Took};
 use std::alloc::Global;
+use std::sync::Arc;
 
 // A claim of what a reference names, at this place on the path. `checked` is why the reference itself can't be claimed. It is refused so first, and then as `try_claim`.
 // A claim that is refused leaves the claims as they were, and the worker waits for nothing.
@@ -198,6 +199,162 @@ where
             took: Took::Pin(identity, Err(Error::WrongMode)),
             turn: Turn::Goes(refuse(path, &Error::WrongMode, Some(reference.handle))),
             counted: false,
+        },
+    }
+}
+
+// Writes a value, in a session of its own.
+fn written<E: Env>(env: &E, alloc: Global, node: &E::Node) -> Result<SerializedData, Error>
+where
+    E::Node: NodeSet<E>,
+    ensures form { IfOk result (λ d. IsForm (values_at E.Node.NodeSet E.Env E.Hash.KeyHash env.now) node.now (written_of d)) }
+    ensures refused { IfErr result (λ e. WriteRefused (values_at E.Node.NodeSet E.Env E.Hash.KeyHash env.now) node.now e) }
+{
+    let session = SessionContext::new(alloc);
+    let mut serializer = SerializerForPaging::new(alloc, env, &session);
+    match node.write(&mut serializer) {
+        Ok(()) => {
+            let (bytes, arcs) = serializer.finish();
+            Ok(SerializedData { bytes, arcs })
+        }
+        Err(e) => Err(e),
+    }
+}
+
+// The value that a handle pins, of this kind's type.
+fn pinned<E: Env, A: WorkerAccess<E>>(
+    access: &A,
+    reference: ArcRef,
+    pin: HandleNumber,
+) -> Result<Arc<E::Node>, Error>
+where
+    E::Node: NodeSet<E>,
+    ensures typed { IfOk result (λ x. E.Node.type_of (arc_value x) ≡ type_of reference.kind.0) }
+    ensures step { Tells (A.told access.now) (λ s. Finds (values_at E.Node.NodeSet E.Env E.Hash.KeyHash (A.acting access.now).environment) s reference pin (seen_as arc_value result)) }
+{
+    match access.share(pin) {
+        Ok(Some(node)) => {
+            if node.node_type() != reference.kind.0 / 3 {
+                return Err(Error::WrongKind);
+            }
+            Ok(node)
+        }
+        Ok(None) => Err(Error::WrongMode),
+        Err(e) => Err(e),
+    }
+}
+
+// A form of the value that a handle pins.
+fn form<E: Env, A: WorkerAccess<E>>(
+    access: &A,
+    alloc: Global,
+    reference: ArcRef,
+    pin: HandleNumber,
+) -> Result<SerializedData, Error>
+where
+    E::Node: NodeSet<E>,
+    ensures form { IfOk result (λ d. ∥ HasFormOf (values_at E.Node.NodeSet E.Env E.Hash.KeyHash) (identity_of reference) (written_of d) ∥₁) }
+    ensures step { Tells (A.told access.now) (λ s. Forms (values_at E.Node.NodeSet E.Env E.Hash.KeyHash (A.acting access.now).environment) s reference pin (seen_as written_of result)) }
+{
+    match pinned(access, reference, pin) {
+        Ok(node) => written(access.env(), alloc, node.as_ref()),
+        Err(e) => Err(e),
+    }
+}
+
+// What was written is kept three times, with places for the results of its references. Refused by want of memory alone.
+fn kept<E: Trees>(
+    alloc: Global,
+    reference: ArcRef,
+    place: u64,
+    through: HandleNumber,
+    once: SerializedData,
+) -> Result<(Open<E>, Arc<SerializedData>, Arc<SerializedData>), Error>
+    requires near { place ≤ longest_path }
+    requires form { ∥ E.has_form (identity_of reference) (written_of once) ∥₁ }
+    ensures open { IfOk result (λ p. open_of p.0 ≡ just_open reference place through (written_of once)) }
+    ensures shared { IfOk result (λ p. arc_value p.1 ≡ arc_value p.2) }
+    ensures told { IfOk result (λ p. written_of (arc_value p.2) ≡ written_of once) }
+    ensures only { IfErr result (λ e. e ≡ Error.OutOfMemory) }
+{
+    let children = Vec::with_capacity(alloc, once.arcs.len())?;
+    let Ok(written) = Arc::new(alloc, once) else {
+        return Err(Error::OutOfMemory);
+    };
+    let shared = Arc::try_clone(&written)?;
+    let told = Arc::try_clone(&written)?;
+    let node = Open {
+        reference,
+        place,
+        through,
+        written,
+        children,
+        height: 0,
+    };
+    Ok((node, shared, told))
+}
+
+// The written node with what was written of it, twice, for a path that has room for it then.
+fn prepare<E: Env, A: WorkerAccess<E>>(
+    access: &A,
+    alloc: Global,
+    path: &mut Vec<Waiting<E>>,
+    reference: ArcRef,
+    place: u64,
+    through: HandleNumber,
+    pin: HandleNumber,
+) -> Result<(Open<E>, Arc<SerializedData>, Arc<SerializedData>), Error>
+where
+    E::Node: NodeSet<E>,
+    requires near { place ≤ longest_path }
+    ensures path { path.new.items ≡ path.old.items }
+    ensures room { OnOk result (vec_len path.new < vec_capacity path.new) }
+    ensures open { IfOk result (λ p. open_of p.0 ≡ just_open reference place through (written_of (arc_value p.2))) }
+    ensures shared { IfOk result (λ p. arc_value p.1 ≡ arc_value p.2) }
+    ensures step { Tells (A.told access.now) (λ s. Forms (values_at E.Node.NodeSet E.Env E.Hash.KeyHash (A.acting access.now).environment) s reference pin (seen_as (λ p. written_of (arc_value p.2)) result)) }
+{
+    if path.reserve(1).is_err() {
+        return Err(Error::OutOfMemory);
+    }
+    match form(access, alloc, reference, pin) {
+        Ok(data) => kept(alloc, reference, place, through, data),
+        Err(e) => Err(e),
+    }
+}
+
+/// Writes the value that is pinned, and comes to its references.
+pub fn write<E: Env, A: WorkerAccess<E>>(
+    access: &A,
+    alloc: Global,
+    table: &mut SlotTable<E>,
+    path: &mut Vec<Waiting<E>>,
+    reference: ArcRef,
+    place: u64,
+    through: HandleNumber,
+    pin: HandleNumber,
+) -> Moved<E>
+where
+    E::Node: NodeSet<E>,
+    requires way { Awaits (todos path.old.items) reference place }
+    requires near { place ≤ longest_path }
+    ensures way { IsWay (plan result.turn path.new.items) }
+    ensures leads { LeadsOn (to_write reference place through ∷ todos path.old.items) result.turn (plan result.turn path.new.items) }
+    ensures step { (n : ℕ) → Tells (A.told access.now) (λ s. TurnsTo (values_at E.Node.NodeSet E.Env E.Hash.KeyHash (A.acting access.now).environment) (A.acting access.now).me n (shelf_of table.old) (Task.Write reference place through pin) (todos path.old.items) (shelf_of table.new) result (plan result.turn path.new.items) s s) }
+{
+    let identity = named(reference);
+    match prepare(access, alloc, path, reference, place, through, pin) {
+        Ok((node, shared, told)) => {
+            table.set_written(identity, shared);
+            Moved {
+                took: Took::Write(identity, Ok(told)),
+                turn: Turn::Goes(settle_open(path, node)),
+                counted: true,
+            }
+        }
+        Err(e) => Moved {
+            turn: Turn::Goes(refuse(path, &e, None)),
+            took: Took::Write(identity, Err(e)),
+            counted: true,
         },
     }
 }

@@ -1,13 +1,9 @@
 //! Loads of cells that end with a value.
 
-ghost use Rattle.std.specs.Prelude.{◌≡◌, ◌≢◌, ◌<◌, ℕ, Bool, Option, Some, IfOk, IfErr, OnOk, OnErr, List, [], not, nat_eq, true, false};
-ghost use Rattle.std.specs.{Arc.arc_value, HashMap.get, HashMap.spare};
-ghost use Rattle.pagable_world.specs.LoadCalls.{EndCall, EndRefused, Installs, end_fault};
-ghost use Rattle.pagable_world.specs.{Plain.Blob, World.Core, Refusals.Refused, Refusals.closed_fault, Pager.IsCellOf, Pager.Moves};
-ghost use Rattle.pagable_model.specs.declared.numbers.ArcRef.{ArcRef};
-ghost use Rattle.pagable_tables.specs.{Core.core_of, Core.IsWhole, Later.AreLater, ByNumber.counts_at, Falling.Sheds, Ready.IsReady, Ready.HasPlace, Ready.Unends};
-ghost use Rattle.pagable_pager.specs.{View.core_in, View.state_in, View.telling, View.value_in, View.is_at_work, Puts.PutsIn};
-ghost use Rattle.pagable_world.specs.declared.handles.Owner.TheVariants as owners;
+ghost use Rattle.std.specs.{Prelude.{◌≡◌, ◌≢◌, ◌<◌, ℕ, Bool, Option, Some, IfOk, IfErr, OnOk, OnErr, List, [], not, nat_eq, true, false}, Arc.arc_value, HashMap.{get, spare}};
+ghost use Rattle.pagable_world.specs.{LoadCalls.{EndCall, EndRefused, Installs, end_fault}, Plain.Blob, World.Core, Refusals.{Refused, closed_fault}, Pager.{IsCellOf, Moves}};
+ghost use Rattle.{pagable_model.specs.declared.numbers.ArcRef.ArcRef, pagable_tables.specs.{Core.{core_of, IsWhole}, Later.AreLater, ByNumber.counts_at, Falling.Sheds, Ready.{IsReady, HasPlace}}};
+ghost use Rattle.{pagable_tables.specs.Ready.Unends, pagable_pager.specs.{View.{core_in, state_in, telling, value_in, is_at_work}, Puts.PutsIn}};
 
 use crate::pager::Pager;
 use crate::pager::births::{keep, share_with_room};
@@ -141,18 +137,17 @@ where
         }
     }
 
-    /// Ends a load of a cell with its value, which the load read: the handle that began it is pinned, a Pinned one is made and answered, and what the load still owns
-    /// is given up. The value comes into the cell with the handles of its references; where the cell has its value already, it is dropped. Asks that the value is
-    /// what the cell's key reads as. A refusal gives the value back and leaves the load open: NoSuchHandle and NotYours, of the load and of the references;
-    /// WrongMode where the load is of a key, and of a reference; WrongKind of another type; NumbersSpent and OutOfMemory. Where the handle that began it is gone or
-    /// another's, the load is closed with all that it owns, the value is dropped, and NoSuchHandle or NotYours comes alone.
+    /// Ends a load of a cell with its value, which the load read: the handle that began it is pinned, a Pinned one is made and answered, and what the load still owns is given up. The value comes into
+    /// the cell with the handles of its references; where the cell has its value already, it is dropped. Asks that the value is what the cell's key reads as. A refusal gives the value back and leaves
+    /// the load open: NoSuchHandle and NotYours, of the load and of the references; WrongMode where the load is of a key, and of a reference; WrongKind of another type; NumbersSpent and OutOfMemory.
+    /// Where the handle that began it is gone or another's, the load is closed with all that it owns, the value is dropped, and NoSuchHandle or NotYours comes alone.
     pub fn load_end(
         &mut self,
         alloc: Global,
         load: LoadNumber,
         value: E::Node,
     ) -> Result<HandleNumber, (Error, Option<E::Node>)>
-        ensures step { EndCall (core_in (telling S.stored S.is_closed S.failed) self.old) owners.Caller load value (E.Node.type_of value) (E.Node.refs_of value) result (core_in (telling S.stored S.is_closed S.failed) self.new) }
+        ensures step { EndCall (core_in (telling S.stored S.is_closed S.failed) self.old) Owner.Caller load value (E.Node.type_of value) (E.Node.refs_of value) result (core_in (telling S.stored S.is_closed S.failed) self.new) }
         ensures moves { Moves (λ n x. (x ≡ value) × IsCellOf (core_in (telling S.stored S.is_closed S.failed) self.old) load n) (state_in (telling S.stored S.is_closed S.failed) self.old) (state_in (telling S.stored S.is_closed S.failed) self.new) }
     {
         self.load_end_by(Owner::Caller, alloc, load, value)

@@ -1,23 +1,30 @@
-//! Loads, by steps.
+//! Loads, by steps, and what is asked of them before they begin or go on.
 
-ghost use Rattle.std.specs.{Prelude.◌≡◌, Prelude.IfOk, Prelude.IfNone, Prelude.true, Arc.arc_value};
-ghost use Rattle.pagable_core.specs.Data.{blob_of};
-ghost use Rattle.pagable_world.specs.{World.seen_as, LoadCalls.AskCall, LoadCalls.BeginCall, LoadCalls.BeginKeyCall, LoadCalls.LazyCall};
-ghost use Rattle.pagable_tables.specs.Asking.{AsksKnown};
-ghost use Rattle.pagable_pager.specs.View.{core_in, telling, given_as, OnlyTables, OnlyStorage, SameValues, is_at_work};
-ghost use Rattle.pagable_world.specs.declared.handles.Owner.TheVariants as owners;
-ghost use Rattle.pagable_world.specs.declared.calls.Want.TheVariants as wants;
+ghost use Rattle.{std.specs.{Prelude.{◌≡◌, IfOk, IfNone, true, IfErr, Some, nat_lt}, Arc.arc_value}, pagable_core.specs.Data.blob_of, pagable_world.specs.World.{seen_as, greatest}};
+ghost use Rattle.{pagable_world.specs.{LoadCalls.{AskCall, BeginCall, BeginKeyCall, LazyCall}, Refusals.load_fault}, pagable_tables.specs.{Asking.AsksKnown, Core.root_in}};
+ghost use Rattle.pagable_pager.specs.{View.{core_in, telling, given_as, OnlyTables, OnlyStorage, SameValues, is_at_work}, Opened.{ReadsAs, type_of_root}};
 
 use crate::pager::Pager;
 use either::Either;
 use pagable_codec::{Env, NodeSet};
 use pagable_core::{PagableData, PagableStorage};
 use pagable_model::{DataKey, Error, HandleNumber, Kind, LoadNumber};
+use pagable_tables::rows::LoadRoot;
 use pagable_tables::{adopting, begins, loading};
 use pagable_world::handles::Owner;
 use pagable_world::{Beginning, Want};
 use std::alloc::Global;
 use std::sync::Arc;
+
+/// The type of the cell's value, where it is a load of one.
+fn cell_type(root: LoadRoot) -> Option<u32>
+    ensures { result ≡ type_of_root (root_in root) }
+{
+    match root {
+        LoadRoot::Cell(_, node_type, _) => Some(node_type),
+        LoadRoot::Key => None,
+    }
+}
 
 impl<E: Env, S: PagableStorage<E>> Pager<E, S>
 where
@@ -25,7 +32,7 @@ where
 {
     /// A load of a key, without a cell. Refused with NumbersSpent and OutOfMemory.
     pub fn load_key(&mut self, key: DataKey) -> Result<Beginning, Error>
-        ensures step { BeginKeyCall (core_in (telling S.stored S.is_closed S.failed) self.old) owners.Caller key result (core_in (telling S.stored S.is_closed S.failed) self.new) }
+        ensures step { BeginKeyCall (core_in (telling S.stored S.is_closed S.failed) self.old) Owner.Caller key result (core_in (telling S.stored S.is_closed S.failed) self.new) }
         ensures only { OnlyTables self.old self.new }
     {
         self.load_key_by(Owner::Caller, key)
@@ -43,7 +50,7 @@ where
     /// A load of a loose handle's cell, with an unpinned clone of the handle; or InMemory, where the value needn't be read. Refused with NoSuchHandle, NotYours,
     /// WrongMode where the handle isn't loose, NumbersSpent and OutOfMemory.
     pub fn load_begin(&mut self, handle: HandleNumber) -> Result<Beginning, Error>
-        ensures step { BeginCall (core_in (telling S.stored S.is_closed S.failed) self.old) owners.Caller handle result (core_in (telling S.stored S.is_closed S.failed) self.new) }
+        ensures step { BeginCall (core_in (telling S.stored S.is_closed S.failed) self.old) Owner.Caller handle result (core_in (telling S.stored S.is_closed S.failed) self.new) }
         ensures only { OnlyTables self.old self.new }
     {
         self.load_begin_by(Owner::Caller, handle)
@@ -69,7 +76,7 @@ where
         alloc: Global,
         load: LoadNumber,
     ) -> Result<Either<HandleNumber, Arc<PagableData>>, Error>
-        ensures step { AskCall (core_in (telling S.stored S.is_closed S.failed) self.old) me load wants.Root (seen_as (given_as (λ d. blob_of (arc_value d))) result) (core_in (telling S.stored S.is_closed S.failed) self.new) }
+        ensures step { AskCall (core_in (telling S.stored S.is_closed S.failed) self.old) me load Want.Root (seen_as (given_as (λ d. blob_of (arc_value d))) result) (core_in (telling S.stored S.is_closed S.failed) self.new) }
         ensures only { OnlyStorage self.old self.new }
     {
         let row = match loading::load_row(&self.tables, me, load) {
@@ -107,7 +114,7 @@ where
         kind: Kind,
         key: DataKey,
     ) -> Result<Either<HandleNumber, Arc<PagableData>>, Error>
-        ensures step { AskCall (core_in (telling S.stored S.is_closed S.failed) self.old) me load (wants.Nested kind key) (seen_as (given_as (λ d. blob_of (arc_value d))) result) (core_in (telling S.stored S.is_closed S.failed) self.new) }
+        ensures step { AskCall (core_in (telling S.stored S.is_closed S.failed) self.old) me load (Want.Nested kind key) (seen_as (given_as (λ d. blob_of (arc_value d))) result) (core_in (telling S.stored S.is_closed S.failed) self.new) }
         ensures only { SameValues self.old self.new }
     {
         match self.load_known(me, load, kind, key) {
@@ -122,16 +129,15 @@ where
         Ok(Either::Right(blob))
     }
 
-    /// What a load asks for: the blob of its own key; of a reference a handle of the node that the cache gives, which the load owns, or else the blob. Refused
-    /// with NoSuchHandle and NotYours; with NumbersSpent and OutOfMemory where a handle can't be made; and with NoData, OutOfMemory and Storage, as the storage
-    /// refuses a blob.
+    /// What a load asks for: the blob of its own key; of a reference a handle of the node that the cache gives, which the load owns, or else the blob. Refused with NoSuchHandle and NotYours; with
+    /// NumbersSpent and OutOfMemory where a handle can't be made; and with NoData, OutOfMemory and Storage, as the storage refuses a blob.
     pub fn load_fetch(
         &mut self,
         alloc: Global,
         load: LoadNumber,
         want: Want,
     ) -> Result<Either<HandleNumber, Arc<PagableData>>, Error>
-        ensures step { AskCall (core_in (telling S.stored S.is_closed S.failed) self.old) owners.Caller load want (seen_as (given_as (λ d. blob_of (arc_value d))) result) (core_in (telling S.stored S.is_closed S.failed) self.new) }
+        ensures step { AskCall (core_in (telling S.stored S.is_closed S.failed) self.old) Owner.Caller load want (seen_as (given_as (λ d. blob_of (arc_value d))) result) (core_in (telling S.stored S.is_closed S.failed) self.new) }
         ensures only { SameValues self.old self.new }
     {
         self.load_fetch_by(Owner::Caller, alloc, load, want)
@@ -164,7 +170,7 @@ where
         kind: Kind,
         key: DataKey,
     ) -> Result<HandleNumber, Error>
-        ensures step { LazyCall (core_in (telling S.stored S.is_closed S.failed) self.old) owners.Caller load kind key result (core_in (telling S.stored S.is_closed S.failed) self.new) }
+        ensures step { LazyCall (core_in (telling S.stored S.is_closed S.failed) self.old) Owner.Caller load kind key result (core_in (telling S.stored S.is_closed S.failed) self.new) }
         ensures only { OnlyTables self.old self.new }
     {
         self.load_lazy_by(Owner::Caller, alloc, load, kind, key)
@@ -185,5 +191,23 @@ where
     {
         let lists = !self.storage.has_closed();
         adopting::load_lazy(&mut self.tables, me, load, kind, key, lists, alloc)
+    }
+
+    /// Whether a number is left for a load.
+    pub fn has_load_number(&self) -> bool
+        ensures { result ≡ nat_lt (core_in (telling S.stored S.is_closed S.failed) self.now).last.load greatest }
+    {
+        self.tables.last_load < u64::MAX
+    }
+
+    /// What an open load of the caller's reads: its key; and as which type, where it is a load of a cell. Refused with NoSuchHandle and NotYours.
+    pub fn load_of(&self, load: LoadNumber) -> Result<(DataKey, Option<u32>), Error>
+        ensures reads { IfOk result (λ r. ReadsAs (core_in (telling S.stored S.is_closed S.failed) self.now) load r.0 r.1) }
+        ensures fault { IfErr result (λ e. load_fault (core_in (telling S.stored S.is_closed S.failed) self.now) Owner.Caller load ≡ Some e) }
+    {
+        match loading::load_row(&self.tables, Owner::Caller, load) {
+            Ok(row) => Ok((row.key, cell_type(row.root))),
+            Err(e) => Err(e),
+        }
     }
 }

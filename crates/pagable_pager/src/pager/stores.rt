@@ -1,15 +1,13 @@
-//! What is asked of the storage.
+//! What is asked of the storage, and its close.
 
-ghost use Rattle.std.specs.{Prelude.◌≡◌, Arc.arc_value};
-ghost use Rattle.pagable_core.specs.Data.{blob_of};
-ghost use Rattle.pagable_model.specs.Blob.{key_of};
-ghost use Rattle.pagable_world.specs.{World.seen_as, Calls.FetchCall, Calls.StoreCall, Calls.FlushCall};
-ghost use Rattle.pagable_pager.specs.View.{core_in, telling, OnlyStorage};
+ghost use Rattle.{std.specs.{Prelude.◌≡◌, Arc.arc_value}, pagable_core.specs.Data.blob_of, pagable_model.specs.Blob.key_of, pagable_world.specs.{World.seen_as, Calls.{FetchCall, StoreCall}}};
+ghost use Rattle.{pagable_world.specs.Calls.{FlushCall, CloseCall}, pagable_pager.specs.View.{core_in, telling, OnlyStorage, FewerValues}};
 
 use crate::pager::Pager;
 use pagable_codec::{Env, NodeSet};
 use pagable_core::{PagableData, PagableStorage};
 use pagable_model::{DataKey, Error};
+use pagable_tables::closing;
 use std::alloc::Global;
 use std::sync::Arc;
 
@@ -39,5 +37,16 @@ where
         ensures only { OnlyStorage self.old self.new }
     {
         self.storage.flush()
+    }
+
+    /// Closes the storage, which lets all blobs go. The list gives up all entries, with all that goes with them, and the cache forgets all that it knows; from then
+    /// on nothing is listed or known. It isn't refused, and takes no memory.
+    pub fn close(&mut self) -> Result<(), Error>
+        ensures step { CloseCall (core_in (telling S.stored S.is_closed S.failed) self.old) result (core_in (telling S.stored S.is_closed S.failed) self.new) }
+        ensures only { FewerValues self.old self.new }
+    {
+        self.storage.close();
+        closing::close(&mut self.tables, &mut self.values);
+        Ok(())
     }
 }

@@ -1,11 +1,8 @@
 //! What page-out workers ask of the pager.
 
-ghost use Rattle.std.specs.Prelude.{◌≡◌, true, ◌<◌, ◌≤◌, length, IfSome, IfNone, IfOk, IfErr};
-ghost use Rattle.pagable_world.specs.Kinds.{is_loose, loose_kind, HasKinds, HasNoKinds};
-ghost use Rattle.pagable_world.specs.{World.key_at, Cascade.FallsAnyhow, Calls.Looks, Workers.claim_fault, Workers.is_workers_at, Workers.WorkerEnds, Events.IsEntry};
-ghost use Rattle.pagable_tables.specs.Giving.{BeginsWorker, TakesWorker};
-ghost use Rattle.pagable_loads.specs.Working.{TakesReference};
-ghost use Rattle.pagable_pager.specs.{Clones.PinsClone, Made.TakesEntry, Made.LeavesEntry, View.core_in, View.telling, View.OnlyTables, View.OnlyLess, View.is_at_work};
+ghost use Rattle.{std.specs.Prelude.{◌≡◌, true, ◌<◌, ◌≤◌, length, IfSome, IfNone, IfOk, IfErr}, pagable_world.specs.{Kinds.{is_loose, loose_kind, HasKinds, HasNoKinds}, World.key_at}};
+ghost use Rattle.{pagable_world.specs.{Cascade.FallsAnyhow, Calls.Looks, Workers.{claim_fault, is_workers_at, WorkerEnds}, Events.IsEntry}, pagable_tables.specs.Giving.{BeginsWorker, TakesWorker}};
+ghost use Rattle.{pagable_loads.specs.Working.TakesReference, pagable_pager.specs.{Clones.PinsClone, Made.{TakesEntry, LeavesEntry}, View.{core_in, telling, OnlyTables, OnlyLess, is_at_work}}};
 
 use crate::pager::Pager;
 use pagable_codec::{Env, NodeSet};
@@ -86,10 +83,7 @@ where
         let Some(kind) = loose_kind_of(node_type) else {
             return Err(Error::WrongKind);
         };
-        let worker = match self.worker_take(place) {
-            Ok(worker) => worker,
-            Err(e) => return Err(e),
-        };
+        let worker = self.worker_take(place)?;
         let reference = ArcRef {
             kind,
             node: row.node,
@@ -123,10 +117,7 @@ where
         ensures step { PinsClone (core_in (telling S.stored S.is_closed S.failed) self.old) me through result (core_in (telling S.stored S.is_closed S.failed) self.new) }
         ensures only { OnlyTables self.old self.new }
     {
-        let start = match self.begin_pin_by(me, through) {
-            Ok(start) => start,
-            Err(e) => return Err(e),
-        };
+        let start = self.begin_pin_by(me, through)?;
         let taken = match start {
             PinStart::Pinned(pinned, _) => Taken::Held(through, pinned),
             PinStart::Load(load, key, _) => Taken::Begun(through, load, key),
@@ -141,10 +132,7 @@ where
         ensures only { OnlyTables self.old self.new }
     {
         let loose = self.is_loose(reference.handle);
-        let through = match self.clone_by(me, reference.handle) {
-            Ok(through) => through,
-            Err(e) => return Err(e),
-        };
+        let through = self.clone_by(me, reference.handle)?;
         match loose {
             Ok(true) => self.pin_clone(me, through),
             Ok(false) => Ok(Taken::Held(through, through)),

@@ -1,4 +1,4 @@
-use Rattle.pagable_loads.proofs.{Words.values_at, Pinned.{start_pinned, start_refused, load_pinned, load_failed}, Stepped.{told_map, told_then}}
+use Rattle.pagable_loads.{specs.Telling.values_at, proofs.{Pinned.{start_pinned, start_refused, load_pinned, load_failed}, Stepped.{told_map, told_then}}}
 use Rattle.pagable_loads.proofs.over.pin_first.Goals as goal
 
 pub returns-in-Err-clause-pins : goal.returns-in-Err-clause-pins

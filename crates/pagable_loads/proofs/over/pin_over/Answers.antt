@@ -1,4 +1,4 @@
-use Rattle.pagable_loads.proofs.{Words.values_at, Pinned.{takes_back, taken_back}, Stepped.told_then}
+use Rattle.pagable_loads.{specs.Telling.values_at, proofs.{Pinned.{takes_back, taken_back}, Stepped.told_then}}
 use Rattle.pagable_loads.proofs.over.pin_over.Goals as goal
 
 pub returns-clause-pins : goal.returns-clause-pins

@@ -1,4 +1,4 @@
-use Rattle.pagable_loads.proofs.{Words.values_at, Pinned.{key_refused, key_read, key_failed}, Stepped.{told_map, told_then}}
+use Rattle.pagable_loads.{specs.Telling.values_at, proofs.{Pinned.{key_refused, key_read, key_failed}, Stepped.{told_map, told_then}}}
 use Rattle.pagable_loads.proofs.over.read_over.Goals as goal
 
 pub returns-in-Err-clause-reads : goal.returns-in-Err-clause-reads

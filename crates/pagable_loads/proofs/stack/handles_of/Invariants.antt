@@ -1,4 +1,4 @@
-use Rattle.pagable_loads.proofs.Words.{◌≡◌, ◌++◌, drop, handles_of}
+use Rattle.{std.proofs.Common.{◌≡◌, ◌++◌, drop}, pagable_world.specs.Loads.handles_of}
 use Rattle.pagable_loads.proofs.stack.handles_of.Given as goal
 
 -- the handles so far and those of what is left

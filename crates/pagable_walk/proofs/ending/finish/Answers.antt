@@ -1,6 +1,4 @@
-use Rattle.std.proofs.Common.{ap, arith}
-use Rattle.pagable_loads.{specs.Telling.values_at, proofs.Stepped.told_map}
-use Rattle.pagable_walk.{specs.Due.rank, specs.Tasks.todos, proofs.Closing.{finish-stores, finish-fails}}
+use Rattle.{std.proofs.Common.{ap, arith}, pagable_loads.proofs.Stepped.told_map, pagable_walk.{specs.{Due.rank, Tasks.todos}, proofs.Closing.{finish-stores, finish-fails}}}
 use Rattle.pagable_walk.proofs.ending.finish.Goals as goal
 
 pub stored-requires-clause-key : goal.stored-requires-clause-key
@@ -8,13 +6,11 @@ stored-requires-clause-key g c = rw (c.as_ref.ensures, c.as_slice.ensures.value)
 
 pub returns-in-Ok-clause-step : goal.returns-in-Ok-clause-step
 returns-in-Ok-clause-step g c n shelf =
-    let acting = g.A.Access.acting c.args.access.now in
-    rw c.named-identity.ensures (told_map (finish-stores (values_at g.E.Node.NodeSet g.E.Env g.E.Hash.KeyHash acting.environment) acting.me n shelf (todos c.args.path.now.items) c.args.node c.requires.all c.in-Ok.key c.stored.result c.stored.ensures.plain c.stored.ensures.todo) (rw (c.as_ref.ensures, c.as_slice.ensures.value) at c.in-Ok.ensures.step))
+    rw c.named-identity.ensures (told_map (finish-stores _ _ n shelf (todos c.args.path.now.items) c.args.node c.requires.all c.in-Ok.key c.stored.result c.stored.ensures.plain c.stored.ensures.todo) (rw (c.as_ref.ensures, c.as_slice.ensures.value) at c.in-Ok.ensures.step))
 
 pub returns-in-Err-clause-step : goal.returns-in-Err-clause-step
 returns-in-Err-clause-step g c n shelf =
-    let acting = g.A.Access.acting c.args.access.now in
-    rw c.named-identity.ensures (told_map (finish-fails (values_at g.E.Node.NodeSet g.E.Env g.E.Hash.KeyHash acting.environment) acting.me n shelf (todos c.args.path.now.items) c.args.node c.requires.all c.in-Err.e c.refuse.result _ c.refuse.ensures.plain c.refuse.ensures.todo) (rw (c.as_ref.ensures, c.as_slice.ensures.value) at c.in-Err.ensures.step))
+    rw c.named-identity.ensures (told_map (finish-fails _ _ n shelf (todos c.args.path.now.items) c.args.node c.requires.all c.in-Err.e c.refuse.result _ c.refuse.ensures.plain c.refuse.ensures.todo) (rw (c.as_ref.ensures, c.as_slice.ensures.value) at c.in-Err.ensures.step))
 
 pub returns-in-Ok-clause-leads : goal.returns-in-Ok-clause-leads
 returns-in-Ok-clause-leads g c = let e = ap rank c.stored.ensures.todo in omega (arith, e)

@@ -1,7 +1,5 @@
-use Rattle.std.proofs.Common.{ap, ◌∙◌, rules, subst, sym, length, arith}
-use Rattle.pagable_loads.{specs.Telling.values_at, proofs.Stepped.told_map}
-use Rattle.pagable_walk.{specs.Tasks.{todos, AwaitsLow, IsWay, waiting_todo}, proofs.Closing.{release-ends, release-gives}, proofs.Stacks.{todos-more, todos-none}, proofs.Ways.give-way}
-use Rattle.pagable_world.specs.Workers.{give}
+use Rattle.{std.proofs.Common.{ap, ◌∙◌, rules, subst, sym, length, arith}, pagable_loads.proofs.Stepped.told_map, pagable_walk.specs.Tasks.{todos, AwaitsLow, IsWay, waiting_todo}}
+use Rattle.{pagable_walk.proofs.{Closing.{release-ends, release-gives}, Stacks.{todos-more, todos-none}, Ways.give-way}, pagable_world.specs.Workers.give}
 use Rattle.pagable_walk.proofs.ending.release.Goals as goal
 
 pub give-requires-clause-way : goal.give-requires-clause-way
@@ -12,9 +10,8 @@ give-requires-clause-way g c =
 
 pub returns-in_default-clause-step : goal.returns-in_default-clause-step
 returns-in_default-clause-step g c shelf =
-    let acting = g.A.Access.acting c.args.access.now in
     let call = rw c.named-identity.ensures at c.give_up.ensures.step in
-    rw (c.named-identity.ensures, c.key.ensures) (told_map (release-ends (values_at g.E.Node.NodeSet g.E.Env g.E.Hash.KeyHash acting.environment) acting.me c.args.worker.0 shelf c.args.done (todos c.args.path.now.items) (todos-none c.args.path.now.items (search rules))) call)
+    rw (c.named-identity.ensures, c.key.ensures) (told_map (release-ends _ _ c.args.worker.0 shelf c.args.done (todos c.args.path.now.items) (todos-none c.args.path.now.items (search rules))) call)
 
 pub returns-clause-way : goal.returns-clause-way
 returns-clause-way g c =
@@ -25,10 +22,9 @@ returns-clause-way g c =
 
 pub returns-clause-step : goal.returns-clause-step
 returns-clause-step g c shelf =
-    let acting = g.A.Access.acting c.args.access.now in
     let e = ap todos c.in-Some.ensures.items ∙ todos-more c.pop.new.self.items c.in-Some.waiting in
     let call = rw c.named-identity.ensures at c.give_up.ensures.step in
-    rw c.named-identity.ensures (told_map (release-gives (values_at g.E.Node.NodeSet g.E.Env g.E.Hash.KeyHash acting.environment) acting.me c.args.worker.0 shelf c.args.done (todos c.args.path.now.items) (waiting_todo c.in-Some.waiting) (todos c.pop.new.self.items) c.give.result _ e c.give.ensures.plain c.give.ensures.todo) call)
+    rw c.named-identity.ensures (told_map (release-gives _ _ c.args.worker.0 shelf c.args.done (todos c.args.path.now.items) (waiting_todo c.in-Some.waiting) (todos c.pop.new.self.items) c.give.result _ e c.give.ensures.plain c.give.ensures.todo) call)
 
 pub returns-clause-leads : goal.returns-clause-leads
 returns-clause-leads g c = let e = ap length (ap todos c.in-Some.ensures.items ∙ todos-more c.pop.new.self.items c.in-Some.waiting) in let less = c.give.ensures.less in omega (arith, e, less)

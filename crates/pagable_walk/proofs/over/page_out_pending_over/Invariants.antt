@@ -1,7 +1,4 @@
-use Rattle.std.proofs.Common.{◌≡◌}
-use Rattle.pagable_world.specs.Access.{Told}
-use Rattle.pagable_loads.specs.Telling.{values_at}
-use Rattle.pagable_walk.specs.Over.{HasPaged}
+use Rattle.{std.proofs.Common.◌≡◌, pagable_world.specs.Access.Told, pagable_loads.specs.Telling.values_at, pagable_walk.specs.Over.HasPaged}
 use Rattle.pagable_walk.proofs.over.page_out_pending_over.Given as goal
 
 -- the entries above this place are paged out

@@ -1,6 +1,4 @@
-use Rattle.std.proofs.{Common.{rules, ◌≡◌, Some, None, false, nat_eq, sym, arith}, lemmas.Bool.Decides.nat_tests}
-use Rattle.indexmap.specs.IndexMap.{get}
-use Rattle.pagable_world.specs.Workers.{is-asker, works}
+use Rattle.{std.proofs.{Common.{rules, ◌≡◌, Some, None, false, nat_eq, sym, arith}, lemmas.Bool.Decides.nat_tests}, indexmap.specs.IndexMap.get, pagable_world.specs.Workers.{is-asker, works}}
 use Rattle.pagable_walk.{specs.Slots.{shelf_in, slots_in, open_worker}, proofs.Waits.{next-is, back-by, end-by, end-there, waits-at, waits-none, go-on}}
 use Rattle.pagable_walk.proofs.slots.comes_back.Goals as goal
 

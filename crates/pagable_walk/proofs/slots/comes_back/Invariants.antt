@@ -1,6 +1,4 @@
-use Rattle.std.{proofs.Common.{ℕ, ◌≡◌, None, nat_eq}, specs.Prelude.◌⊎◌}
-use Rattle.indexmap.specs.IndexMap.{get, index_map_len}
-use Rattle.pagable_world.specs.Workers.{ComesBack, ComesToEnd}
+use Rattle.{std.{proofs.Common.{ℕ, ◌≡◌, None, nat_eq}, specs.Prelude.◌⊎◌}, indexmap.specs.IndexMap.{get, index_map_len}, pagable_world.specs.Workers.{ComesBack, ComesToEnd}}
 use Rattle.pagable_walk.{specs.Slots.shelf_in, proofs.Waits.Path}
 use Rattle.pagable_walk.proofs.slots.comes_back.Given as goal
 

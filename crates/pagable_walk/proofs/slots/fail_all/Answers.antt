@@ -1,6 +1,5 @@
-use Rattle.std.proofs.{Common.{ap, ◌∙◌, refl, arith, length}, lemmas.List.length-map}
-use Rattle.indexmap.specs.IndexMap.{keys}
-use Rattle.pagable_walk.{specs.Slots.{slot_of, slots_in}, proofs.Failing.{all-after, done-more}}
+use Rattle.{std.proofs.{Common.{ap, ◌∙◌, refl, arith, length}, lemmas.List.length-map}, indexmap.specs.IndexMap.keys, pagable_walk.{specs.Slots.{slot_of, slots_in}, proofs.Failing.all-after}}
+use Rattle.pagable_walk.proofs.Failing.{done-more}
 use Rattle.pagable_walk.proofs.slots.fail_all.Goals as goal
 
 pub loop-place-init : goal.loop-place-init

@@ -1,7 +1,4 @@
-use Rattle.std.proofs.Common.{ℕ, ◌≡◌, ◌<◌, Some, slice_get}
-use Rattle.indexmap.specs.IndexMap.{keys}
-use Rattle.pagable_world.specs.Plain.{Identity}
-use Rattle.pagable_walk.specs.Slots.{AreOwn, slots_in, after_failure}
+use Rattle.{std.proofs.Common.{ℕ, ◌≡◌, ◌<◌, Some, slice_get}, indexmap.specs.IndexMap.keys, pagable_world.specs.Plain.Identity, pagable_walk.specs.Slots.{AreOwn, slots_in, after_failure}}
 use Rattle.pagable_walk.proofs.slots.fail_all.Given as goal
 
 -- each place so far is done, and what is still to be done comes to the same

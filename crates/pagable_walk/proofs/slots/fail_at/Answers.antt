@@ -1,6 +1,5 @@
-use Rattle.std.proofs.Common.{◌≡◌, ℕ, true, Option, Some, ap, ◌∙◌, subst}
-use Rattle.pagable_world.specs.{Plain.Identity, World.is_identity}
-use Rattle.pagable_walk.{specs.Slots.slots_in, proofs.Failing.{each-after, still-after, here-after}, proofs.Held.{same-numbers, same-key}, proofs.Waits.some-same}
+use Rattle.{std.proofs.Common.{◌≡◌, ℕ, true, Option, Some, ap, ◌∙◌, subst}, pagable_world.specs.{Plain.Identity, World.is_identity}, pagable_walk.{specs.Slots.slots_in, proofs.Failing.each-after}}
+use Rattle.pagable_walk.proofs.{Failing.{still-after, here-after}, Held.{same-numbers, same-key}, Waits.some-same}
 use Rattle.pagable_walk.proofs.slots.fail_at.Goals as goal
 
 named : (i j : Identity) → ◌≡◌ {A = Option (ℕ × ℕ)} (Some (i.kind.0, i.node.0)) (Some (j.kind.0, j.node.0)) → is_identity i j ≡ true

@@ -1,5 +1,4 @@
-use Rattle.std.proofs.Common.{rules}
-use Rattle.pagable_walk.proofs.Held.{changed-is, own-changed}
+use Rattle.{std.proofs.Common.rules, pagable_walk.proofs.Held.{changed-is, own-changed}}
 use Rattle.pagable_walk.proofs.slots.fail_identity.Goals as goal
 
 pub returns-in-Some-clause-slots : goal.returns-in-Some-clause-slots

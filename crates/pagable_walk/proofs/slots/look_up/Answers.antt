@@ -1,5 +1,4 @@
-use Rattle.std.{proofs.Common.{◌∙◌, refl, sym, ap, subst}, specs.Option.option_map}
-use Rattle.pagable_walk.specs.Slots.{slot_of, outcome_of, IsOwn, IsOwnOutcome}
+use Rattle.{std.{proofs.Common.{◌∙◌, refl, sym, ap, subst}, specs.Option.option_map}, pagable_walk.specs.Slots.{slot_of, outcome_of, IsOwn, IsOwnOutcome}}
 use Rattle.pagable_walk.proofs.slots.look_up.Goals as goal
 
 pub returns-in-Open : goal.returns-in-Open

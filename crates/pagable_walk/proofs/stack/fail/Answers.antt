@@ -1,6 +1,5 @@
-use Rattle.std.{proofs.Common.{◌∷◌, ◌<◌, ◌+◌, ◌*◌, ap, ◌∙◌, sym, arith}, proofs.lemmas.Bool.Decides.nat_tests, specs.Prelude.{length, None}}
-use Rattle.pagable_world.specs.World.{to_fail}
-use Rattle.pagable_walk.{specs.Failing.{back_of, fails}, specs.Tasks.fault_of, proofs.Stacks.{todos-none, back-none}}
+use Rattle.{std.{proofs.{Common.{◌∷◌, ◌<◌, ◌+◌, ◌*◌, ap, ◌∙◌, sym, arith}, lemmas.Bool.Decides.nat_tests}, specs.Prelude.{length, None}}, pagable_world.specs.World.to_fail}
+use Rattle.pagable_walk.{specs.{Failing.{back_of, fails}, Tasks.fault_of}, proofs.Stacks.{todos-none, back-none}}
 use Rattle.pagable_walk.proofs.stack.fail.Goals as goal
 
 pub returns-then-is_empty-clause-todo : goal.returns-then-is_empty-clause-todo

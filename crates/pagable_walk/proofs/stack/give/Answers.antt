@@ -1,6 +1,5 @@
-use Rattle.std.{proofs.Common.{◌≡◌, ◌∷◌, ap, ◌∙◌, subst, sym}, proofs.lemmas.List.length-map, specs.Arc.arc_value, specs.Prelude.{Some, slice_get}}
-use Rattle.pagable_world.specs.{Workers.{give, settle}, World.to_finish}
-use Rattle.pagable_walk.{specs.Found.keys_of, specs.Slots.written_of, specs.Tasks.{AwaitsLow, open_of, todos, waiting_todo}, proofs.Ways.{node-awaits, item-awaits}}
+use Rattle.{std.{proofs.{Common.{◌≡◌, ◌∷◌, ap, ◌∙◌, subst, sym}, lemmas.List.length-map}, specs.{Arc.arc_value, Prelude.{Some, slice_get}}}, pagable_world.specs.Workers.{give, settle}}
+use Rattle.{pagable_world.specs.World.to_finish, pagable_walk.{specs.{Found.keys_of, Slots.written_of, Tasks.{AwaitsLow, open_of, todos, waiting_todo}}, proofs.Ways.{node-awaits, item-awaits}}}
 use Rattle.pagable_walk.proofs.stack.give.Goals as goal
 
 pub with_result-node-requires : goal.with_result-node-requires

@@ -1,6 +1,5 @@
-use Rattle.std.proofs.Common.{◌∷◌, length, arith, ap, ◌∙◌, subst, sym, rules}
-use Rattle.pagable_world.specs.{Workers.give_known, World.to_release}
-use Rattle.pagable_walk.{specs.Tasks.{AwaitsLow, todos}, proofs.Stacks.{todos-more, todos-none}}
+use Rattle.{std.proofs.Common.{◌∷◌, length, arith, ap, ◌∙◌, subst, sym, rules}, pagable_world.specs.{Workers.give_known, World.to_release}, pagable_walk.specs.Tasks.{AwaitsLow, todos}}
+use Rattle.pagable_walk.proofs.Stacks.{todos-more, todos-none}
 use Rattle.pagable_walk.proofs.stack.give_known.Goals as goal
 
 pub give-requires-clause-way : goal.give-requires-clause-way

@@ -1,6 +1,5 @@
-use Rattle.std.{proofs.Common.{◌≡◌, ◌∷◌, [], length, ap, ◌∙◌, rules, arith}, proofs.lemmas.List.map-append, proofs.lemmas.Option.slice_get_within, specs.Arc.arc_value, specs.Prelude.vec_len}
-use Rattle.pagable_world.specs.World.{to_item}
-use Rattle.pagable_walk.{specs.Found.keys_of, specs.Slots.written_of, proofs.Stacks.ids-more}
+use Rattle.std.{proofs.{Common.{◌≡◌, ◌∷◌, [], length, ap, ◌∙◌, rules, arith}, lemmas.{List.map-append, Option.slice_get_within}}, specs.{Arc.arc_value, Prelude.vec_len}}
+use Rattle.{pagable_world.specs.World.to_item, pagable_walk.{specs.{Found.keys_of, Slots.written_of}, proofs.Stacks.ids-more}}
 use Rattle.pagable_walk.proofs.stack.item_with_result.Goals as goal
 
 pub push_reserved-requires : goal.push_reserved-requires

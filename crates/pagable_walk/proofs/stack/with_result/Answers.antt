@@ -1,7 +1,5 @@
-use Rattle.std.proofs.{Common.{◌≡◌, ◌≤◌, ◌+◌, ◌∷◌, [], length, sym, ap, ◌∙◌, subst, rules, arith}, lemmas.List.map-append, lemmas.Option.slice_get_within}
-use Rattle.std.specs.{Arc.arc_value, Prelude.vec_len}
-use Rattle.pagable_world.specs.Plain.{longest_path}
-use Rattle.pagable_walk.{specs.Found.keys_of, specs.Tasks.open_of, proofs.Stacks.{ids-more, child-same}}
+use Rattle.std.{proofs.{Common.{◌≡◌, ◌≤◌, ◌+◌, ◌∷◌, [], length, sym, ap, ◌∙◌, subst, rules, arith}, lemmas.{List.map-append, Option.slice_get_within}}, specs.{Arc.arc_value, Prelude.vec_len}}
+use Rattle.{pagable_world.specs.Plain.longest_path, pagable_walk.{specs.{Found.keys_of, Tasks.open_of}, proofs.Stacks.{ids-more, child-same}}}
 use Rattle.pagable_walk.proofs.stack.with_result.Goals as goal
 
 pub push_reserved-requires : goal.push_reserved-requires

@@ -1,6 +1,4 @@
-use Rattle.std.proofs.Common.{◌∷◌, rules, ap, subst, sym}
-use Rattle.pagable_world.specs.World.{to_start}
-use Rattle.pagable_walk.{specs.Tasks.IsWay, proofs.Stacks.todos-none, proofs.Ways.start-way}
+use Rattle.{std.proofs.Common.{◌∷◌, rules, ap, subst, sym}, pagable_world.specs.World.to_start, pagable_walk.{specs.Tasks.IsWay, proofs.{Stacks.todos-none, Ways.start-way}}}
 use Rattle.pagable_walk.proofs.starting.start_entry.Goals as goal
 
 pub returns-clause-todo : goal.returns-clause-todo

@@ -1,16 +1,11 @@
-use Rattle.pagable_loads.{specs.Telling.values_at, proofs.Stepped.told_map}
-use Rattle.pagable_walk.proofs.{Stepping.{closes-none, closes-ends, acts-on}, Telling.told-all}
+use Rattle.{pagable_loads.proofs.Stepped.told_map, pagable_walk.proofs.{Stepping.{closes-none, closes-ends, acts-on}, Telling.told-all}}
 use Rattle.pagable_walk.proofs.step.end_answered.Goals as goal
 
 pub returns-in_default-clause-step : goal.returns-in_default-clause-step
-returns-in_default-clause-step g c =
-    let acting = g.A.Access.acting c.args.access.now in
-    told-all (closes-none (values_at g.E.Node.NodeSet g.E.Env g.E.Hash.KeyHash acting.environment) c.args.worker.0 c.args.turn.now c.in_default.not-Answers)
+returns-in_default-clause-step g c = told-all (closes-none _ c.args.worker.0 c.args.turn.now c.in_default.not-Answers)
 
 pub returns-in_default-clause-acting : goal.returns-in_default-clause-acting
 returns-in_default-clause-acting g c = acts-on c.args.turn.now c.in_default.not-Answers _
 
 pub returns-clause-step : goal.returns-clause-step
-returns-clause-step g c =
-    let acting = g.A.Access.acting c.args.access.now in
-    told_map (closes-ends (values_at g.E.Node.NodeSet g.E.Env g.E.Hash.KeyHash acting.environment) c.args.worker.0 c.args.turn.now _ c.in-Answers.is) c.worker_end.ensures.step
+returns-clause-step g c = told_map (closes-ends _ c.args.worker.0 c.args.turn.now _ c.in-Answers.is) c.worker_end.ensures.step

@@ -1,13 +1,10 @@
-use Rattle.std.proofs.Common.{ap, ◌∙◌}
-use Rattle.pagable_loads.{specs.Telling.values_at, proofs.Stepped.told_then}
-use Rattle.pagable_walk.{specs.Table.shelf_of, specs.Tasks.todos, specs.Turns.acting_then, proofs.Stepping.steps-to}
+use Rattle.{std.proofs.Common.{ap, ◌∙◌}, pagable_loads.proofs.Stepped.told_then, pagable_walk.{specs.{Table.shelf_of, Tasks.todos, Turns.acting_then}, proofs.Stepping.steps-to}}
 use Rattle.pagable_walk.proofs.step.step.Goals as goal
 
 pub returns-clause-step : goal.returns-clause-step
 returns-clause-step g c =
-    let acting = g.A.Access.acting c.args.access.now in
     let closes = rw c.turn-moved.ensures.acting at c.end_answered.ensures.step in
-    told_then (λ s mid t turns close. steps-to (values_at g.E.Node.NodeSet g.E.Env g.E.Hash.KeyHash acting.environment) c.args.worker.0 acting.me (shelf_of c.args.table.now) (shelf_of c.turn-moved.new.table) c.args.task (todos c.args.path.now.items) _ c.turn-moved.result s mid t turns close) c.turn-moved.ensures.step closes
+    told_then (λ s mid t turns close. steps-to _ c.args.worker.0 _ (shelf_of c.args.table.now) (shelf_of c.turn-moved.new.table) c.args.task (todos c.args.path.now.items) _ c.turn-moved.result s mid t turns close) c.turn-moved.ensures.step closes
 
 pub returns-clause-acting : goal.returns-clause-acting
 returns-clause-acting g c = c.end_answered.ensures.acting ∙ ap (acting_then c.turn-moved.result.turn) c.turn-moved.ensures.acting

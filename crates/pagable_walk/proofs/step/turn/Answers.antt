@@ -1,5 +1,4 @@
-use Rattle.std.proofs.{Common.{sym, ◌∙◌, arith}, lemmas.List.length-map}
-use Rattle.pagable_walk.{specs.Table.shelf_of, specs.Tasks.todos, proofs.Telling.told-same}
+use Rattle.{std.proofs.{Common.{sym, ◌∙◌, arith}, lemmas.List.length-map}, pagable_walk.{specs.{Table.shelf_of, Tasks.todos}, proofs.Telling.told-same}}
 use Rattle.pagable_walk.proofs.step.turn.Goals as goal
 
 pub start-requires : goal.start-requires

@@ -1,5 +1,4 @@
-use Rattle.std.proofs.Common.{Ok, ap, ◌∙◌, subst, sym}
-use Rattle.pagable_walk.{specs.Tasks.{IsWay, todos}, specs.Turns.ClaimFits, proofs.Ways.known-way}
+use Rattle.{std.proofs.Common.{Ok, ap, ◌∙◌, subst, sym}, pagable_walk.{specs.{Tasks.{IsWay, todos}, Turns.ClaimFits}, proofs.Ways.known-way}}
 use Rattle.pagable_walk.proofs.turns.after_claim.Goals as goal
 
 pub returns-in-Ok-Known-clause-way : goal.returns-in-Ok-Known-clause-way

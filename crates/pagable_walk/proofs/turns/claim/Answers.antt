@@ -1,6 +1,4 @@
-use Rattle.std.proofs.Common.{sym, ap, ◌∙◌}
-use Rattle.pagable_loads.specs.Working.{fault_in}
-use Rattle.pagable_walk.{specs.Table.{shelf_of, found_as}, proofs.Turning.{claims-there, refuses, claim-fits}}
+use Rattle.{std.proofs.Common.{sym, ap, ◌∙◌}, pagable_loads.specs.Working.fault_in, pagable_walk.{specs.Table.{shelf_of, found_as}, proofs.Turning.{claims-there, refuses, claim-fits}}}
 use Rattle.pagable_walk.proofs.turns.claim.Goals as goal
 
 pub returns-in-Ok-clause-step : goal.returns-in-Ok-clause-step

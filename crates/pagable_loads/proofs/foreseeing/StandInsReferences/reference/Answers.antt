@@ -1,4 +1,5 @@
-use Rattle.pagable_loads.proofs.Words.{ap, ℕ, ◌||◌, nat_lt, Result, is_eager, Error, ArcRef, answered_or}
+use Rattle.{std.{proofs.Common.{ap, ℕ, Result}, specs.Prelude.{◌||◌, nat_lt}}, pagable_model.specs.{Deep.is_eager, declared.{error.Error.Error, numbers.ArcRef.ArcRef}}}
+use Rattle.pagable_loads.specs.StandIns.{answered_or}
 use Rattle.pagable_loads.proofs.foreseeing.StandInsReferences.reference.Goals as goal
 
 pub returns-then-place-self-clause-same_answers : goal.returns-then-place-self-clause-same_answers

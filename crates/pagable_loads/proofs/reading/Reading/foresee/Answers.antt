@@ -1,4 +1,4 @@
-use Rattle.pagable_loads.proofs.{Foreseen.row_found, Words.[], Words.rules, Words.frame_of, Words.frames_of, Words.onto}
+use Rattle.{pagable_loads.{proofs.Foreseen.row_found, specs.Frames.{frame_of, frames_of, onto}}, std.proofs.Common.{[], rules}}
 use Rattle.pagable_loads.proofs.reading.Reading.foresee.Goals as goal
 
 pub returns-then-is_ok : goal.returns-then-is_ok

@@ -1,4 +1,4 @@
-use Rattle.pagable_loads.proofs.{Needed.read_needs, Words.values_at}
+use Rattle.pagable_loads.{proofs.Needed.read_needs, specs.Telling.values_at}
 use Rattle.pagable_loads.proofs.reading.Reading.next.Goals as goal
 
 pub returns-in-Read-clause-needs : goal.returns-in-Read-clause-needs

@@ -1,4 +1,4 @@
-use Rattle.pagable_loads.proofs.{Needed.pushed_frames, Words.rules, Words.◌≡◌, Words.◌/◌, Words.◌++◌, Words.◌∷◌, Words.[]}
+use Rattle.{pagable_loads.proofs.Needed.pushed_frames, std.proofs.Common.{rules, ◌≡◌, ◌/◌, ◌++◌, ◌∷◌, []}}
 use Rattle.pagable_loads.proofs.reading.Reading.put_blob.Goals as goal
 
 pub returns-clause-ok : goal.returns-clause-ok

@@ -1,4 +1,4 @@
-use Rattle.pagable_loads.proofs.{Words.{◌∙◌, refl, frames_of, values_at}, Driven.{went_on, ends_so}, Stepped.told_then}
+use Rattle.{std.proofs.Common.{◌∙◌, refl}, pagable_loads.{specs.{Frames.frames_of, Telling.values_at}, proofs.{Driven.{went_on, ends_so}, Stepped.told_then}}}
 use Rattle.pagable_loads.proofs.reading.Reading.run.Goals as goal
 
 pub returns-in-Some-clause-run : goal.returns-in-Some-clause-run

@@ -1,4 +1,4 @@
-use Rattle.pagable_loads.proofs.Words.{◌≡◌, Told, IsAhead, to_do, frames_of, HasGone, values_at}
+use Rattle.{std.proofs.Common.◌≡◌, pagable_world.specs.Access.Told, pagable_loads.specs.{Ahead.IsAhead, Ending.to_do, Frames.frames_of, Running.HasGone, Telling.values_at}}
 use Rattle.pagable_loads.proofs.reading.Reading.run.Given as goal
 
 abbrev pub invariant-loop-answer : goal.invariant-loop-answer

@@ -1,8 +1,12 @@
-use Rattle.pagable_loads.proofs.{Stepped.told_map, Stepped.hands_over, Stepped.hand_over_refused, Words.values_at, Words.refl, Words.ap, Words.◌∙◌, Words.handles_of}
+use Rattle.{pagable_loads.proofs.Stepped.{told_map, hands_over, hand_over_refused}, std.proofs.Common.{refl, ap, ◌∙◌}, pagable_world.specs.Loads.handles_of}
 use Rattle.pagable_loads.proofs.reading.Reading.step_hand_over.Goals as goal
 
-pub returns-in-Ok-load_take-clause-step : goal.returns-in-Ok-load_take-clause-step
-returns-in-Ok-load_take-clause-step g c = told_map (hands_over _ (values_at g.E.Node.NodeSet g.E.Env g.E.Hash.KeyHash (g.A.Access.acting c.args.access.now).environment) (g.A.Access.acting c.args.access.now).me c.args.self.now c.args.value c.requires.root c.requires.sort c.as_slice-2.result.now (c.as_slice-2.ensures.value ∙ c.in-Ok-handles_of.ensures.ok ∙ ap handles_of (c.as_slice.ensures.value ∙ c.in-Ok.ensures.ok)) _ refl) c.in-Ok-load_take.ensures.step
+pub returns-in-Ok-clause-step : goal.returns-in-Ok-clause-step
+returns-in-Ok-clause-step g c =
+    let named = c.as_slice-2.ensures.value ∙ c.in_ok-named.ensures.ok ∙ ap handles_of (c.as_slice.ensures.value ∙ c.in_ok-references.ensures.ok) in
+    told_map (hands_over _ _ _ c.args.self.now c.args.value c.requires.root c.requires.sort _ named _ refl) c.in-Ok.ensures.step
 
-pub returns-in-Err-load_take-clause-step : goal.returns-in-Err-load_take-clause-step
-returns-in-Err-load_take-clause-step g c = told_map (hand_over_refused _ (values_at g.E.Node.NodeSet g.E.Env g.E.Hash.KeyHash (g.A.Access.acting c.args.access.now).environment) (g.A.Access.acting c.args.access.now).me c.args.self.now c.args.value c.requires.root c.requires.sort c.as_slice-2.result.now (c.as_slice-2.ensures.value ∙ c.in-Ok-handles_of.ensures.ok ∙ ap handles_of (c.as_slice.ensures.value ∙ c.in-Ok.ensures.ok)) c.in-Err-load_take.e _) c.in-Err-load_take.ensures.step
+pub returns-in-Err-clause-step : goal.returns-in-Err-clause-step
+returns-in-Err-clause-step g c =
+    let named = c.as_slice-2.ensures.value ∙ c.in_ok-named.ensures.ok ∙ ap handles_of (c.as_slice.ensures.value ∙ c.in_ok-references.ensures.ok) in
+    told_map (hand_over_refused _ _ _ c.args.self.now c.args.value c.requires.root c.requires.sort _ named c.in-Err.e _) c.in-Err.ensures.step

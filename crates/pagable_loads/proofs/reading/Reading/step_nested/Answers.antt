@@ -1,23 +1,31 @@
-use Rattle.pagable_loads.proofs.{Words.{values_at, arc_value, blob_of, refl, [], nested_frame, frame_of, onto}, Stepped.{told_map, nested_known, nested_blob, nested_deep, nested_refused}}
-use Rattle.pagable_loads.proofs.{Lowering.{got_leads, blob_leads, nested_wants}, Needed.below_short}
+use Rattle.{std.{specs.Arc.arc_value, proofs.Common.{refl, []}}, pagable_core.specs.Data.blob_of, pagable_world.specs.Loads.nested_frame, pagable_loads.specs.Frames.{frame_of, onto}}
+use Rattle.pagable_loads.proofs.{Stepped.{told_map, nested_known, nested_blob, nested_deep, nested_refused}, Lowering.{got_leads, blob_leads, nested_wants}, Needed.below_short}
 use Rattle.pagable_loads.proofs.reading.Reading.step_nested.Goals as goal
 
 pub returns-in-Ok-Left-clause-step : goal.returns-in-Ok-Left-clause-step
-returns-in-Ok-Left-clause-step g c = told_map (nested_known _ (values_at g.E.Node.NodeSet g.E.Env g.E.Hash.KeyHash (g.A.Access.acting c.args.access.now).environment) (g.A.Access.acting c.args.access.now).me c.args.self.now c.args.kind c.args.key c.in-Ok.top c.take_top.new.self.below.items c.in-Ok.ensures.ok.frames (λ d. blob_of (arc_value d)) c.requires.need c.in-Ok-Left.reference _ c.put_got.ensures.gets.frames) (rw c.in-Ok-Left.field-0-is at c.in-Ok-Left.ensures.step)
+returns-in-Ok-Left-clause-step g c =
+    told_map (nested_known _ _ _ c.args.self.now c.args.kind c.args.key c.in_ok-top.top _ c.in_ok-top.ensures.ok.frames (λ d. blob_of (arc_value d)) c.requires.need c.in-Ok-Left.reference _ c.put_got.ensures.gets.frames)
+    (rw c.in-Ok-Left.field-0-is at c.in-Ok-Left.ensures.step)
 
-pub returns-in-Ok-put_blob-clause-step : goal.returns-in-Ok-put_blob-clause-step
-returns-in-Ok-put_blob-clause-step g c = told_map (nested_blob _ (values_at g.E.Node.NodeSet g.E.Env g.E.Hash.KeyHash (g.A.Access.acting c.args.access.now).environment) (g.A.Access.acting c.args.access.now).me c.args.self.now c.args.kind c.args.key c.in-Ok.top c.take_top.new.self.below.items c.in-Ok.ensures.ok.frames (λ d. blob_of (arc_value d)) c.requires.need c.in-Ok-Right.blob _ c.in-Ok-put_blob.ensures.ok c.in-Ok-put_blob.ensures.short) (rw c.in-Ok-Right.field-0-is at c.in-Ok-Right.ensures.step)
+pub returns-in-Ok-clause-step : goal.returns-in-Ok-clause-step
+returns-in-Ok-clause-step g c =
+    told_map (nested_blob _ _ _ c.args.self.now c.args.kind c.args.key c.in_ok-top.top _ c.in_ok-top.ensures.ok.frames (λ d. blob_of (arc_value d)) c.requires.need c.in-Ok-Right.blob _ c.in-Ok.ensures.ok c.in-Ok.ensures.short)
+    (rw c.in-Ok-Right.field-0-is at c.in-Ok-Right.ensures.step)
 
 pub returns-in-Err-put_blob-clause-step : goal.returns-in-Err-put_blob-clause-step
-returns-in-Err-put_blob-clause-step g c = told_map (nested_deep _ (values_at g.E.Node.NodeSet g.E.Env g.E.Hash.KeyHash (g.A.Access.acting c.args.access.now).environment) (g.A.Access.acting c.args.access.now).me c.args.self.now c.args.kind c.args.key c.in-Ok.top c.take_top.new.self.below.items c.in-Ok.ensures.ok.frames (λ d. blob_of (arc_value d)) c.requires.need c.in-Ok-Right.blob c.in-Err-put_blob.e _ c.in-Err-put_blob.ensures.deep c.in-Err-put_blob.ensures.long) (rw c.in-Ok-Right.field-0-is at c.in-Ok-Right.ensures.step)
+returns-in-Err-put_blob-clause-step g c =
+    told_map (nested_deep _ _ _ c.args.self.now c.args.kind c.args.key c.in_ok-top.top _ c.in_ok-top.ensures.ok.frames (λ d. blob_of (arc_value d)) c.requires.need c.in-Ok-Right.blob c.in-Err-put_blob.e _ c.in-Err-put_blob.ensures.deep c.in-Err-put_blob.ensures.long)
+    (rw c.in-Ok-Right.field-0-is at c.in-Ok-Right.ensures.step)
 
-pub returns-in-Err-load_nested-clause-step : goal.returns-in-Err-load_nested-clause-step
-returns-in-Err-load_nested-clause-step g c = told_map (nested_refused _ (values_at g.E.Node.NodeSet g.E.Env g.E.Hash.KeyHash (g.A.Access.acting c.args.access.now).environment) (g.A.Access.acting c.args.access.now).me c.args.self.now c.args.kind c.args.key c.in-Ok.top c.take_top.new.self.below.items c.in-Ok.ensures.ok.frames (λ d. blob_of (arc_value d)) c.requires.need c.in-Err-load_nested.e _) c.in-Err-load_nested.ensures.step
+pub returns-in-Err-clause-step : goal.returns-in-Err-clause-step
+returns-in-Err-clause-step g c =
+    told_map (nested_refused _ _ _ c.args.self.now c.args.kind c.args.key c.in_ok-top.top _ c.in_ok-top.ensures.ok.frames (λ d. blob_of (arc_value d)) c.requires.need c.in-Err.e _) c.in-Err.ensures.step
 
 pub returns-in-Ok-Left-clause-leads : goal.returns-in-Ok-Left-clause-leads
-returns-in-Ok-Left-clause-leads g c = got_leads (frame_of c.in-Ok.top) (onto [] c.take_top.new.self.below.items) c.in-Ok-Left.reference
-    (nested_wants _ _ (frame_of c.in-Ok.top) (onto [] c.take_top.new.self.below.items) c.in-Ok.ensures.ok.frames c.args.kind c.args.key c.requires.need) c.in-Ok.ensures.ok.frames c.put_got.ensures.gets.frames
+returns-in-Ok-Left-clause-leads g c = got_leads (frame_of c.in_ok-top.top) (onto [] c.take_top.new.self.below.items) c.in-Ok-Left.reference
+    (nested_wants _ _ (frame_of c.in_ok-top.top) (onto [] c.take_top.new.self.below.items) c.in_ok-top.ensures.ok.frames c.args.kind c.args.key c.requires.need) c.in_ok-top.ensures.ok.frames c.put_got.ensures.gets.frames
 
-pub returns-in-Ok-put_blob-clause-leads : goal.returns-in-Ok-put_blob-clause-leads
-returns-in-Ok-put_blob-clause-leads g c = blob_leads (nested_frame c.args.kind c.args.key (blob_of (arc_value c.in-Ok-Right.blob))) (frame_of c.in-Ok.top) (onto [] c.take_top.new.self.below.items) refl c.in-Ok-put_blob.ensures.few (below_short c.take_top.new.self.below.items c.in-Ok-put_blob.ensures.short)
-    (nested_wants _ _ (frame_of c.in-Ok.top) (onto [] c.take_top.new.self.below.items) c.in-Ok.ensures.ok.frames c.args.kind c.args.key c.requires.need) c.in-Ok.ensures.ok.frames c.in-Ok-put_blob.ensures.ok
+pub returns-in-Ok-clause-leads : goal.returns-in-Ok-clause-leads
+returns-in-Ok-clause-leads g c =
+    blob_leads (nested_frame c.args.kind c.args.key (blob_of (arc_value c.in-Ok-Right.blob))) (frame_of c.in_ok-top.top) (onto [] c.take_top.new.self.below.items) refl c.in-Ok.ensures.few (below_short _ c.in-Ok.ensures.short)
+    (nested_wants _ _ (frame_of c.in_ok-top.top) (onto [] c.take_top.new.self.below.items) c.in_ok-top.ensures.ok.frames c.args.kind c.args.key c.requires.need) c.in_ok-top.ensures.ok.frames c.in-Ok.ensures.ok

@@ -1,4 +1,4 @@
-use Rattle.pagable_loads.proofs.{Needed.two_frames, Words.rules}
+use Rattle.{pagable_loads.proofs.Needed.two_frames, std.proofs.Common.rules}
 use Rattle.pagable_loads.proofs.reading.Reading.take_two.Goals as goal
 
 pub returns-clause-ok : goal.returns-clause-ok

@@ -1,4 +1,4 @@
-use Rattle.pagable_loads.proofs.{Foreseen.row_tells, Words.[], Words.rules, Words.slice_index_or, Words.slice_get-get_or, Words.frame_of, Words.frames_of, Words.onto, Words.stand_in}
+use Rattle.{pagable_loads.{proofs.Foreseen.row_tells, specs.{Frames.{frame_of, frames_of, onto}, StandIns.stand_in}}, std.proofs.{Common.{[], rules, slice_index_or}, lemmas.Option.slice_get-get_or}}
 use Rattle.pagable_loads.proofs.reading.Reading.told.Goals as goal
 
 pub returns-clause-tells : goal.returns-clause-tells

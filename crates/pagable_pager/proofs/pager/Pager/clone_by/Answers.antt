@@ -3,9 +3,8 @@ use Rattle.pagable_pager.proofs.pager.Pager.clone_by.Goals as goal
 
 pub invariant_of-self : goal.invariant_of-self
 invariant_of-self g c =
-    let is = c.self.invariant in
     let step = c.clone.ensures.cloned _ _ _ in
-    held _ _ _ is c.clone.new.t c.clone.ensures.whole (c.clone.ensures.later is.later) (clones is.state.whole (owner-free (telling g.S.PagableStorage.stored g.S.PagableStorage.is_closed g.S.PagableStorage.failed) _ _ c.args.me c.self.view_is c.requires) c.clone.result step) (clone-whole c.args.me c.args.handle c.clone.result is.state.whole (owner-held (telling g.S.PagableStorage.stored g.S.PagableStorage.is_closed g.S.PagableStorage.failed) _ _ c.args.me c.self.view_is c.requires) step)
+    held _ _ _ c.self.invariant c.clone.new.t c.clone.ensures.whole (c.clone.ensures.later c.self.invariant.later) (clones c.self.invariant.state.whole (owner-free (telling g.S.PagableStorage.stored g.S.PagableStorage.is_closed g.S.PagableStorage.failed) _ _ c.args.me c.self.view_is c.requires) c.clone.result step) (clone-whole c.args.me c.args.handle c.clone.result c.self.invariant.state.whole (owner-held (telling g.S.PagableStorage.stored g.S.PagableStorage.is_closed g.S.PagableStorage.failed) _ _ c.args.me c.self.view_is c.requires) step)
 
 pub clone-requires-clause-holder : goal.clone-requires-clause-holder
 clone-requires-clause-holder g c = owner-holds (telling g.S.PagableStorage.stored g.S.PagableStorage.is_closed g.S.PagableStorage.failed) _ _ c.args.me c.self.view_is c.requires

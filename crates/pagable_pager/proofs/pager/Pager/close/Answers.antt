@@ -3,10 +3,9 @@ use Rattle.pagable_pager.proofs.pager.Pager.close.Goals as goal
 
 pub invariant_of-self : goal.invariant_of-self
 invariant_of-self g c =
-    let is = c.self.invariant in
     let e = c.close-2.ensures in
     let s = c.close.ensures in
-    shut-pager _ _ _ is c.close.new.self c.close-2.new.t c.close-2.new.values e.whole (e.later is.later) e.sheds
+    shut-pager _ _ _ c.self.invariant c.close.new.self c.close-2.new.t c.close-2.new.values e.whole (e.later c.self.invariant.later) e.sheds
     (shut-call (g.S.PagableStorage.stored c.self.inside.storage) (g.S.PagableStorage.stored c.close.new.self) (g.S.PagableStorage.is_closed c.self.inside.storage) (g.S.PagableStorage.is_closed c.close.new.self) (g.S.PagableStorage.failed c.self.inside.storage) (g.S.PagableStorage.failed c.close.new.self)
     c.self.inside.tables c.close-2.new.t s.empty s.closed (e.closed _ _ _ _ s.later))
 

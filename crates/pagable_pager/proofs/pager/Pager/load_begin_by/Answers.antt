@@ -3,9 +3,8 @@ use Rattle.pagable_pager.proofs.pager.Pager.load_begin_by.Goals as goal
 
 pub invariant_of-self : goal.invariant_of-self
 invariant_of-self g c =
-    let is = c.self.invariant in
     let step = c.load_begin.ensures.begun _ _ _ in
-    held _ _ _ is c.load_begin.new.t c.load_begin.ensures.whole c.load_begin.ensures.later (begins c.load_begin.result step) (begin-whole c.args.me c.args.handle c.load_begin.result is.state.whole (owner-may (telling g.S.PagableStorage.stored g.S.PagableStorage.is_closed g.S.PagableStorage.failed) _ _ c.args.me c.self.view_is c.requires) step)
+    held _ _ _ c.self.invariant c.load_begin.new.t c.load_begin.ensures.whole c.load_begin.ensures.later (begins c.load_begin.result step) (begin-whole c.args.me c.args.handle c.load_begin.result c.self.invariant.state.whole (owner-may (telling g.S.PagableStorage.stored g.S.PagableStorage.is_closed g.S.PagableStorage.failed) _ _ c.args.me c.self.view_is c.requires) step)
 
 pub load_begin-requires-clause-owner : goal.load_begin-requires-clause-owner
 load_begin-requires-clause-owner g c = owner-begins (telling g.S.PagableStorage.stored g.S.PagableStorage.is_closed g.S.PagableStorage.failed) _ _ c.args.me c.self.view_is c.requires

@@ -3,9 +3,8 @@ use Rattle.pagable_pager.proofs.pager.Pager.load_key_by.Goals as goal
 
 pub invariant_of-self : goal.invariant_of-self
 invariant_of-self g c =
-    let is = c.self.invariant in
     let step = c.load_key.ensures.begun _ _ _ in
-    held _ _ _ is c.load_key.new.t c.load_key.ensures.whole c.load_key.ensures.later (begins-key c.load_key.result step) (begin-key-whole c.args.me c.args.key c.load_key.result is.state.whole (owner-may (telling g.S.PagableStorage.stored g.S.PagableStorage.is_closed g.S.PagableStorage.failed) _ _ c.args.me c.self.view_is c.requires) step)
+    held _ _ _ c.self.invariant c.load_key.new.t c.load_key.ensures.whole c.load_key.ensures.later (begins-key c.load_key.result step) (begin-key-whole c.args.me c.args.key c.load_key.result c.self.invariant.state.whole (owner-may (telling g.S.PagableStorage.stored g.S.PagableStorage.is_closed g.S.PagableStorage.failed) _ _ c.args.me c.self.view_is c.requires) step)
 
 pub load_key-requires-clause-owner : goal.load_key-requires-clause-owner
 load_key-requires-clause-owner g c = owner-begins (telling g.S.PagableStorage.stored g.S.PagableStorage.is_closed g.S.PagableStorage.failed) _ _ c.args.me c.self.view_is c.requires

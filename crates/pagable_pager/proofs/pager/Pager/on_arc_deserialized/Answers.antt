@@ -3,17 +3,15 @@ use Rattle.pagable_pager.proofs.pager.Pager.on_arc_deserialized.Goals as goal
 
 pub invariant_of-self : goal.invariant_of-self
 invariant_of-self g c =
-    let is = c.self.invariant in
     let e = c.offer.ensures in
     let step = e.offered _ _ _ (told-open c.has_closed-lists.ensures) in
-    let sheds = e.sheds (λ n known pinning. known-valued _ _ _ is c.args.kind.0 c.args.key n known pinning) in
-    shed _ _ _ is c.offer.new.t c.offer.new.values e.whole (e.later is.later) sheds (λ shut. offered-bare shut (is.state.whole.shut shut) c.offer.result step) (λ left. offered is.state left caller-free c.offer.result step)
+    let sheds = e.sheds (λ n known pinning. known-valued _ _ _ c.self.invariant c.args.kind.0 c.args.key n known pinning) in
+    shed _ _ _ c.self.invariant c.offer.new.t c.offer.new.values e.whole (e.later c.self.invariant.later) sheds (λ shut. offered-bare shut (c.self.invariant.state.whole.shut shut) c.offer.result step) (λ left. offered c.self.invariant.state left caller-free c.offer.result step)
 
 pub returns-clause-step : goal.returns-clause-step
 returns-clause-step g c = rw (← c.self.view_is) (c.offer.ensures.offered _ _ _ (told-open c.has_closed-lists.ensures))
 
 pub returns-clause-only : goal.returns-clause-only
 returns-clause-only g c =
-    let is = c.self.invariant in
-    let sheds = c.offer.ensures.sheds (λ n known pinning. known-valued _ _ _ is c.args.kind.0 c.args.key n known pinning) in
-    rw (← c.self.view_is) (record { values = less _ _ _ is c.offer.new.t c.offer.new.values sheds; storage = refl; environment = refl })
+    let sheds = c.offer.ensures.sheds (λ n known pinning. known-valued _ _ _ c.self.invariant c.args.kind.0 c.args.key n known pinning) in
+    rw (← c.self.view_is) (record { values = less _ _ _ c.self.invariant c.offer.new.t c.offer.new.values sheds; storage = refl; environment = refl })

@@ -3,9 +3,8 @@ use Rattle.pagable_pager.proofs.pager.Pager.pin_by.Goals as goal
 
 pub invariant_of-self : goal.invariant_of-self
 invariant_of-self g c =
-    let is = c.self.invariant in
     let step = c.pin.ensures.pinned _ _ _ in
-    held _ _ _ is c.pin.new.t c.pin.ensures.whole (c.pin.ensures.later is.later) (pins-it is.state.whole (owner-free (telling g.S.PagableStorage.stored g.S.PagableStorage.is_closed g.S.PagableStorage.failed) _ _ c.args.me c.self.view_is c.requires) c.pin.result step) (pin-whole c.args.me c.args.handle c.pin.result is.state.whole (owner-held (telling g.S.PagableStorage.stored g.S.PagableStorage.is_closed g.S.PagableStorage.failed) _ _ c.args.me c.self.view_is c.requires) step)
+    held _ _ _ c.self.invariant c.pin.new.t c.pin.ensures.whole (c.pin.ensures.later c.self.invariant.later) (pins-it c.self.invariant.state.whole (owner-free (telling g.S.PagableStorage.stored g.S.PagableStorage.is_closed g.S.PagableStorage.failed) _ _ c.args.me c.self.view_is c.requires) c.pin.result step) (pin-whole c.args.me c.args.handle c.pin.result c.self.invariant.state.whole (owner-held (telling g.S.PagableStorage.stored g.S.PagableStorage.is_closed g.S.PagableStorage.failed) _ _ c.args.me c.self.view_is c.requires) step)
 
 pub pin-requires-clause-holder : goal.pin-requires-clause-holder
 pin-requires-clause-holder g c = owner-holds (telling g.S.PagableStorage.stored g.S.PagableStorage.is_closed g.S.PagableStorage.failed) _ _ c.args.me c.self.view_is c.requires

@@ -3,10 +3,9 @@ use Rattle.pagable_pager.proofs.pager.Pager.release_node.Goals as goal
 
 pub invariant_of-self : goal.invariant_of-self
 invariant_of-self g c =
-    let is = c.self.invariant in
     let e = c.release_node.ensures in
     let step = e.released _ _ _ (told-open c.has_closed-lists.ensures) in
-    shed _ _ _ is c.release_node.new.t c.release_node.new.values e.whole (e.later is.later) e.sheds (λ shut. bare-fell step.falls shut (is.state.whole.shut shut)) (λ left. worker_released is.state left c.args.worker.0 c.args.node.0 step)
+    shed _ _ _ c.self.invariant c.release_node.new.t c.release_node.new.values e.whole (e.later c.self.invariant.later) e.sheds (λ shut. bare-fell step.falls shut (c.self.invariant.state.whole.shut shut)) (λ left. worker_released c.self.invariant.state left c.args.worker.0 c.args.node.0 step)
 
 pub returns-clause-step : goal.returns-clause-step
 returns-clause-step g c = rw (← c.self.view_is) (c.release_node.ensures.released _ _ _ (told-open c.has_closed-lists.ensures))

@@ -3,10 +3,9 @@ use Rattle.pagable_pager.proofs.pager.Pager.schedule_for_paging_by.Goals as goal
 
 pub invariant_of-self : goal.invariant_of-self
 invariant_of-self g c =
-    let is = c.self.invariant in
     let e = c.schedule_for_paging.ensures in
     let step = e.scheduled _ _ _ (told-open c.has_closed-lists.ensures) in
-    shed _ _ _ is c.schedule_for_paging.new.t c.schedule_for_paging.new.values e.whole (e.later is.later) e.sheds (λ shut. scheduled-bare shut (is.state.whole.shut shut) c.schedule_for_paging.result step) (λ left. scheduled is.state left (owner-free (telling g.S.PagableStorage.stored g.S.PagableStorage.is_closed g.S.PagableStorage.failed) _ _ c.args.me c.self.view_is c.requires) c.schedule_for_paging.result step)
+    shed _ _ _ c.self.invariant c.schedule_for_paging.new.t c.schedule_for_paging.new.values e.whole (e.later c.self.invariant.later) e.sheds (λ shut. scheduled-bare shut (c.self.invariant.state.whole.shut shut) c.schedule_for_paging.result step) (λ left. scheduled c.self.invariant.state left (owner-free (telling g.S.PagableStorage.stored g.S.PagableStorage.is_closed g.S.PagableStorage.failed) _ _ c.args.me c.self.view_is c.requires) c.schedule_for_paging.result step)
 
 pub returns-clause-step : goal.returns-clause-step
 returns-clause-step g c = rw (← c.self.view_is) (c.schedule_for_paging.ensures.scheduled _ _ _ (told-open c.has_closed-lists.ensures))

@@ -1,5 +1,4 @@
-use Rattle.pagable_loads.specs.Telling.{values_at}
-use Rattle.pagable_walk.{specs.Slots.written_of, proofs.Below.node-stands}
+use Rattle.{pagable_loads.specs.Telling.values_at, pagable_walk.{specs.Slots.written_of, proofs.Below.node-stands}}
 use Rattle.pagable_walk.proofs.results.SlotResult.of_node.Goals as goal
 
 pub invariant_of-result : goal.invariant_of-result

@@ -1,5 +1,4 @@
-use Rattle.std.proofs.Common.{refl, sym, ap, ◌∙◌}
-use Rattle.pagable_walk.{specs.Slots.{shelf_in, slots_in, open_worker}, specs.Table.shelf_of, proofs.Ends.less-open, proofs.Failing.failure-less, proofs.Held.from-own}
+use Rattle.{std.proofs.Common.{refl, sym, ap, ◌∙◌}, pagable_walk.{specs.{Slots.{shelf_in, slots_in, open_worker}, Table.shelf_of}, proofs.{Ends.less-open, Failing.failure-less, Held.from-own}}}
 use Rattle.pagable_walk.proofs.table.SlotTable.fail.Goals as goal
 
 pub invariant_of-self : goal.invariant_of-self

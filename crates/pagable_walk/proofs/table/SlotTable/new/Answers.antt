@@ -1,6 +1,4 @@
-use Rattle.std.proofs.{Common.{rules, ◌≡◌, None, nat_eq, sym, ◌∙◌}, lemmas.Option.none-some}
-use Rattle.indexmap.specs.IndexMap.{get}
-use Rattle.pagable_walk.{specs.Slots.{is_same, shelf_in}, proofs.Ends.no-waits}
+use Rattle.{std.proofs.{Common.{rules, ◌≡◌, None, nat_eq, sym, ◌∙◌}, lemmas.Option.none-some}, indexmap.specs.IndexMap.get, pagable_walk.{specs.Slots.{is_same, shelf_in}, proofs.Ends.no-waits}}
 use Rattle.pagable_walk.proofs.table.SlotTable.new.Goals as goal
 
 pub invariant_of-result : goal.invariant_of-result

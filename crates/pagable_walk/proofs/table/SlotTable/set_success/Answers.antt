@@ -1,6 +1,5 @@
-use Rattle.std.proofs.Common.{refl}
-use Rattle.pagable_world.specs.{Workers.with_outcome, World.published}
-use Rattle.pagable_walk.{specs.Slots.{shelf_in, slots_in}, specs.Table.shelf_of, proofs.Ends.{less-open, changed-less, outcome-less}, proofs.Held.from-own}
+use Rattle.{std.proofs.Common.refl, pagable_world.specs.{Workers.with_outcome, World.published}, pagable_walk.{specs.{Slots.{shelf_in, slots_in}, Table.shelf_of}, proofs.Ends.less-open}}
+use Rattle.pagable_walk.proofs.{Ends.{changed-less, outcome-less}, Held.from-own}
 use Rattle.pagable_walk.proofs.table.SlotTable.set_success.Goals as goal
 
 pub invariant_of-self : goal.invariant_of-self

@@ -1,5 +1,4 @@
-use Rattle.std.proofs.Common.{None, refl}
-use Rattle.pagable_walk.{specs.Slots.shelf_in, specs.Table.shelf_of, proofs.Ends.stopped, proofs.Held.wait-is}
+use Rattle.{std.proofs.Common.{None, refl}, pagable_walk.{specs.{Slots.shelf_in, Table.shelf_of}, proofs.{Ends.stopped, Held.wait-is}}}
 use Rattle.pagable_walk.proofs.table.SlotTable.stop_waiting.Goals as goal
 
 pub invariant_of-self : goal.invariant_of-self

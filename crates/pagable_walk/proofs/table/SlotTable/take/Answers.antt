@@ -1,5 +1,4 @@
-use Rattle.std.proofs.Common.{refl}
-use Rattle.pagable_walk.{specs.Slots.shelf_in, specs.Table.shelf_of, proofs.Ends.taken-or-not, proofs.Held.{from-own, either-way}}
+use Rattle.{std.proofs.Common.refl, pagable_walk.{specs.{Slots.shelf_in, Table.shelf_of}, proofs.{Ends.taken-or-not, Held.{from-own, either-way}}}}
 use Rattle.pagable_walk.proofs.table.SlotTable.take.Goals as goal
 
 pub invariant_of-self : goal.invariant_of-self

@@ -1,5 +1,4 @@
-use Rattle.std.proofs.Common.{subst}
-use Rattle.pagable_walk.{specs.Slots.Would, specs.Table.{shelf_of, claim_of}, proofs.Claims.{open-still, end-still}}
+use Rattle.{std.proofs.Common.subst, pagable_walk.{specs.{Slots.Would, Table.{shelf_of, claim_of}}, proofs.Claims.{open-still, end-still}}}
 use Rattle.pagable_walk.proofs.table.SlotTable.try_claim.Goals as goal
 
 pub wait_for-requires : goal.wait_for-requires

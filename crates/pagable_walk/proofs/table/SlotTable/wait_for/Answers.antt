@@ -1,7 +1,5 @@
-use Rattle.std.{proofs.Common.{Some, refl, inl, inr, nat_eq, cond, ◌≡◌, ℕ}, specs.Prelude.◌⊎◌}
-use Rattle.indexmap.specs.IndexMap.{IndexMap, get}
-use Rattle.pagable_world.specs.Plain.{Identity, SameAt, updated}
-use Rattle.pagable_walk.{specs.Slots.shelf_in, specs.Table.shelf_of, proofs.Ends.waiting-or-not, proofs.Held.{wait-is, either-way}}
+use Rattle.{std.{proofs.Common.{Some, refl, inl, inr, nat_eq, cond, ◌≡◌, ℕ}, specs.Prelude.◌⊎◌}, indexmap.specs.IndexMap.{IndexMap, get}, pagable_world.specs.Plain.{Identity, SameAt, updated}}
+use Rattle.pagable_walk.{specs.{Slots.shelf_in, Table.shelf_of}, proofs.{Ends.waiting-or-not, Held.{wait-is, either-way}}}
 use Rattle.pagable_walk.proofs.table.SlotTable.wait_for.Goals as goal
 
 noted : {T : Type 0} (old new : IndexMap ℕ Identity T) (v : ℕ) (i : Identity) → ((q : ℕ) → get nat_eq new q ≡ cond (nat_eq v q) (Some i) (get nat_eq old q)) ⊎ ((q : ℕ) → get nat_eq new q ≡ get nat_eq old q)

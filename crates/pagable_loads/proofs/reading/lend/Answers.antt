@@ -1,0 +1,21 @@
+use Rattle.{std.{proofs.{Common.{ap, arith, length, subst, sym, ◌∙◌}, lemmas.Option.slice_get-get_or}, specs.Arc.arc_value}, pagable_loads.{specs.Lending.LendsEach, proofs.Lent.tells_all}}
+use Rattle.pagable_loads.proofs.Lent.{tells_both, tells_map, none_lent, longer, more_lent, all_lent}
+use Rattle.pagable_loads.proofs.reading.lend.Goals as goal
+
+pub returns-then-not-is_any_read_at_once-clause-lends : goal.returns-then-not-is_any_read_at_once-clause-lends
+returns-then-not-is_any_read_at_once-clause-lends g c =
+    tells_all (λ s. subst (LendsEach arc_value s c.args.got.now) (sym c.new-lent.ensures.items) (none_lent arc_value s c.args.got.now (sym c.is_any_read_at_once.ensures ∙ c.if-not-is_any_read_at_once.true)))
+
+pub loop-reference-init : goal.loop-reference-init
+loop-reference-init g c = record { long = ap length c.new-lent.ensures.items; lent = tells_all (λ s place r less here. absurd (omega (arith, less))) }
+
+pub loop-reference-preserved : goal.loop-reference-preserved
+loop-reference-preserved g c =
+    let l = c.loop-reference in
+    record {
+      long = longer l.reference-index l.lent.items _ c.in_ok-value.value c.in_ok-push.ensures.items l.invariant.long;
+      lent = tells_both (λ s to lends. more_lent arc_value s c.args.got.now l.reference-index _ l.lent.items _ c.in_ok-value.value c.in_ok-push.ensures.items l.invariant.long (slice_get-get_or c.args.got.now l.reference-index _ c.loop-reference-test.true) to lends) l.invariant.lent c.in_ok-value.ensures.lends;
+    }
+
+pub returns-clause-lends : goal.returns-clause-lends
+returns-clause-lends g c = tells_map (λ s to. all_lent arc_value s c.args.got.now c.loop-reference.reference-index c.loop-reference.lent.items (omega arith) to) c.loop-reference.invariant.lent

@@ -1,4 +1,0 @@
-use Rattle.pagable_machine.proofs.steps.step_by.Goals as goal
-
-pub returns-clause-step : goal.returns-clause-step
-returns-clause-step g c = let step = rw c.requires at c.step-ended.ensures.step.holds in record { does = step.does }

@@ -1,0 +1,26 @@
+use Rattle.pagable_machine.proofs.{Setting.set-at, Words.rules, Words.◌-◌, Words.refl, Words.arith, Words.slice_get_read}
+use Rattle.pagable_machine.proofs.workers.walk_on.Goals as goal
+
+pub returns : goal.returns
+returns g c =
+    record {
+      task = c.in-Some.task;
+      table = c.index_mut-table.result.now;
+      table' = c.step_lent-moved.new.table;
+      moved = c.step_lent-moved.result;
+      place = c.args.walk.now.table - 1;
+      had = search rules;
+      on = omega (arith, c.requires.table);
+      there = slice_get_read c.args.tables.now.items _ _ c.index_mut-table.result.now refl (omega (arith, c.requires.table)) c.index_mut-table.ensures.value;
+      sets = set-at c.args.tables.now.items _ (c.args.walk.now.table - 1) c.step_lent-moved.new.table (omega (arith, c.requires.table)) refl;
+      steps = rw c.settle.ensures.path c.step_lent-moved.ensures.step;
+      way = rw c.settle.ensures.path c.step_lent-moved.ensures.way;
+      after = record {
+        table = c.settle.ensures.after.table;
+        begun = c.settle.ensures.after.begun;
+        steps = c.settle.ensures.after.steps;
+        task = c.settle.ensures.after.task;
+        answer = c.settle.ensures.after.answer;
+      };
+      replies = c.settle.ensures.reply;
+    }

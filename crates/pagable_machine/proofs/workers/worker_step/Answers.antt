@@ -1,0 +1,24 @@
+use Rattle.pagable_machine.proofs.{Words.{rules, ◌≡◌, true, false, sym, ◌∙◌, is_some, values_at, has_task, kept_at}, Driven.{no-step-drives, step-drives}}
+use Rattle.pagable_machine.proofs.workers.worker_step.Goals as goal
+
+pub returns-then-not-has_task : goal.returns-then-not-has_task
+returns-then-not-has_task g c =
+    let none : has_task (kept_at c.args.held.now.walks c.args.worker.0) ≡ false = search rules in
+    no-step-drives (values_at g.E.Node.NodeSet g.E.Env g.E.Hash.KeyHash) _ _ c.args.pager.now _ c.requires c.is_whole.ensures c.args.worker none
+
+pub walk_on-requires-clause-table : goal.walk_on-requires-clause-table
+walk_on-requires-clause-table g c = (c.requires.walks _ _ (sym c.in-Some.ensures.value)).table
+
+pub walk_on-requires-clause-way : goal.walk_on-requires-clause-way
+walk_on-requires-clause-way g c = (c.requires.walks _ _ (sym c.in-Some.ensures.value)).way
+
+pub walk_on-requires-clause-at_work : goal.walk_on-requires-clause-at_work
+walk_on-requires-clause-at_work g c =
+    let mine = c.requires.walks _ _ (sym c.in-Some.ensures.value) in
+    let has : is_some c.in-Some.walk.now.task ≡ true = search rules in
+    mine.at_work ∙ sym mine.either ∙ has
+
+pub returns : goal.returns
+returns g c =
+    step-drives (values_at g.E.Node.NodeSet g.E.Env g.E.Hash.KeyHash) _ _ _ _ c.requires c.is_whole.ensures c.args.worker _ c.walk_on.new.walk c.walk_on.result c.walk_on.new.tables _
+    (sym c.in-Some.ensures.value) c.walk_on.ensures (record { here = search rules; others = search rules })

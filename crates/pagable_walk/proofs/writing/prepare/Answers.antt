@@ -1,9 +1,0 @@
-use Rattle.std.specs.Arc.{arc_value}
-use Rattle.pagable_loads.specs.Telling.{values_at}
-use Rattle.pagable_walk.{specs.Slots.written_of, proofs.Forming.kept-forms, proofs.Telling.tells-map}
-use Rattle.pagable_walk.proofs.writing.prepare.Goals as goal
-
-pub returns-in-Ok-clause-step : goal.returns-in-Ok-clause-step
-returns-in-Ok-clause-step g c =
-    let acting = g.A.Access.acting c.args.access.now in
-    tells-map (λ s forms. kept-forms (values_at g.E.Node.NodeSet g.E.Env g.E.Hash.KeyHash acting.environment) s c.args.reference c.args.pin (λ p. written_of (arc_value p.2)) (written_of c.in-Ok.data) c.kept.result c.kept.ensures.told c.kept.ensures.only forms) c.in-Ok.ensures.step
