@@ -42,7 +42,7 @@ impl<E: Env, T> PagableSerialize<E> for PhantomData<T> {
 
     ghost write_causes_may_refuse = { never_may_refuse_writing };
 
-    fn pagable_serialize<S: PagableSerializer<E>>(&self, _serializer: &mut S) -> Result<(), Error> {
-        Ok(())
+    fn pagable_serialize<S: PagableSerializer<E>>(&self, serializer: &mut S) -> Result<(), Error> {
+        PagableSerialize::<E>::pagable_serialize(&(), serializer)
     }
 }

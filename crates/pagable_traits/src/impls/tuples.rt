@@ -58,8 +58,7 @@ impl<
     ghost write_causes_may_refuse = { either_may_refuse_writing A.write_causes (either B.write_causes C.write_causes) A.write_causes_may_refuse (either_may_refuse_writing B.write_causes C.write_causes B.write_causes_may_refuse C.write_causes_may_refuse) };
 
     fn pagable_serialize<S: PagableSerializer<E>>(&self, serializer: &mut S) -> Result<(), Error> {
-        self.0.pagable_serialize(serializer)?;
-        write_entry(&self.1, &self.2, serializer)
+        write_entry(&self.0, &(&self.1, &self.2), serializer)
     }
 }
 
@@ -75,9 +74,7 @@ impl<
     ghost write_causes_may_refuse = { either_may_refuse_writing A.write_causes (either B.write_causes (either C.write_causes D.write_causes)) A.write_causes_may_refuse (either_may_refuse_writing B.write_causes (either C.write_causes D.write_causes) B.write_causes_may_refuse (either_may_refuse_writing C.write_causes D.write_causes C.write_causes_may_refuse D.write_causes_may_refuse)) };
 
     fn pagable_serialize<S: PagableSerializer<E>>(&self, serializer: &mut S) -> Result<(), Error> {
-        self.0.pagable_serialize(serializer)?;
-        self.1.pagable_serialize(serializer)?;
-        write_entry(&self.2, &self.3, serializer)
+        write_entry(&self.0, &(&self.1, &(&self.2, &self.3)), serializer)
     }
 }
 
@@ -94,9 +91,10 @@ impl<
     ghost write_causes_may_refuse = { either_may_refuse_writing A.write_causes (either B.write_causes (either C.write_causes (either D.write_causes F.write_causes))) A.write_causes_may_refuse (either_may_refuse_writing B.write_causes (either C.write_causes (either D.write_causes F.write_causes)) B.write_causes_may_refuse (either_may_refuse_writing C.write_causes (either D.write_causes F.write_causes) C.write_causes_may_refuse (either_may_refuse_writing D.write_causes F.write_causes D.write_causes_may_refuse F.write_causes_may_refuse))) };
 
     fn pagable_serialize<S: PagableSerializer<E>>(&self, serializer: &mut S) -> Result<(), Error> {
-        self.0.pagable_serialize(serializer)?;
-        self.1.pagable_serialize(serializer)?;
-        self.2.pagable_serialize(serializer)?;
-        write_entry(&self.3, &self.4, serializer)
+        write_entry(
+            &self.0,
+            &(&self.1, &(&self.2, &(&self.3, &self.4))),
+            serializer,
+        )
     }
 }
