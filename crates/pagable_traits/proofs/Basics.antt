@@ -37,7 +37,8 @@ module _ (context : Context Answer ArcRef) (rest last : Rest Answer) (given used
   unfolding read read_with
   reads_letter r told = reads never (λ l. l) number char_at r told
 
-  pub reads_text : {Z : Type 0} (r : Result (String Z) Error) → Gives memory (λ t. (string_bytes t, left used)) r (text_at (left given)) → GivesSome memory (Is (λ t. text (string_bytes t))) last r (read context text_shape rest)
+  pub reads_text : {Z : Type 0} (r : Result (String Z) Error) → Gives memory (λ t. (string_bytes t, left used)) r (text_at (left given))
+      → GivesSome memory (Is (λ t. text (string_bytes t))) last r (read context text_shape rest)
   unfolding read read_with
   reads_text r told = reads memory string_bytes text text_at r told
 
