@@ -3,4 +3,5 @@ use Rattle.pagable_traits.proofs.impls.tuples.Tuple5PagableSerialize.pagable_ser
 
 pub returns : goal.returns
 returns g c =
-    written_along _ _ _ _ _ _ c.write_entry.ensures (pair_along _ _ _ _ _ _ (λ m h. h) (pair_along _ _ _ _ _ _ (λ m h. h) (pair_along _ _ _ _ _ _ (λ m h. h) (pair_along _ _ _ _ _ _ (λ m h. h) (λ m h. h)))))
+    written_along _ _ _ _ _ _ c.write_entry.ensures
+    (pair_along _ _ _ _ _ _ (λ m h. h) (pair_along _ _ _ _ _ _ (λ m h. h) (pair_along _ _ _ _ _ _ (λ m h. h) (pair_along _ _ _ _ _ _ (λ m h. h) (λ m h. h)))))
