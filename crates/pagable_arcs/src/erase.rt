@@ -1,8 +1,7 @@
 //! What the three sorts of references have in common, whatever the type of their values.
 
 ghost use Rattle.std.specs.Prelude.{◌≡◌, ℕ, List, codes, refl};
-ghost use Rattle.pagable_model.specs.declared.numbers.ArcRef.{ArcRef as Reference};
-ghost use Rattle.pagable_model.specs.{Reading.read, Standing.handles_at, Standing.GivesSome, Standing.MovesOn};
+ghost use Rattle.pagable_model.specs.{declared.numbers.ArcRef.ArcRef as Reference, Reading.read, Standing.{handles_at, GivesSome, MovesOn}};
 ghost use Rattle.pagable_arcs.specs.References.{holding, holding_kind, holding_name, loose, loose_kind};
 
 use crate::holding::{HoldingArc, holding_kind_of};

@@ -1,9 +1,7 @@
 //! References that hold their shared value.
 
-ghost use Rattle.std.specs.{Arc.arc_value, Cmp.Rules.comparing, Prelude.◌≡◌, Prelude.◌≢◌, Prelude.⊤, Prelude.refl, Prelude.nat_eq, Prelude.Some, Prelude.option_and_then, Prelude.IfOk, Prelude.IfErr};
-ghost use Rattle.std.proofs.Common.{rules};
-ghost use Rattle.pagable_model.specs.Shape.{reference as reference_shape};
-ghost use Rattle.pagable_model.specs.{Causes.memory_may_refuse_writing, Gives.memory, Reading.read, Standing.handles_at, Standing.GivesSome, Standing.Is, Standing.MovesOn};
+ghost use Rattle.std.{specs.Arc.arc_value, specs.Cmp.Rules.comparing, specs.Prelude.{◌≡◌, ◌≢◌, ⊤, refl, nat_eq, Some, option_and_then, IfOk, IfErr}, proofs.Common.rules};
+ghost use Rattle.pagable_model.specs.{Shape.reference as reference_shape, Causes.memory_may_refuse_writing, Gives.memory, Reading.read, Standing.{handles_at, GivesSome, Is, MovesOn}};
 ghost use Rattle.pagable_arcs.specs.References.{holding_kind, holding, holding_means, reference_has_one_form, reference_is_read, unlent, unlent_is_own};
 
 use crate::plain::read_reference;

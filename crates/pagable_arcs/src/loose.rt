@@ -1,8 +1,7 @@
 //! Loose references.
 
 ghost use Rattle.std.specs.Prelude.{◌≡◌, ◌≢◌, refl, IfSome, IfNone, nat_eq};
-ghost use Rattle.pagable_model.specs.Shape.{reference as reference_shape};
-ghost use Rattle.pagable_model.specs.{Causes.memory_may_refuse_writing, Causes.never_is_own_reading, Gives.memory, Gives.never, Standing.Is};
+ghost use Rattle.pagable_model.specs.{Shape.reference as reference_shape, Causes.{memory_may_refuse_writing, never_is_own_reading}, Gives.{memory, never}, Standing.Is};
 ghost use Rattle.pagable_arcs.specs.References.{loose, loose_kind, loose_means, reference_is_read, reference_has_one_form};
 
 use pagable_codec::{

@@ -1,11 +1,9 @@
 //! Plain references: a reference by its kind alone, whatever the type of the value that it refers to is called.
 
 ghost use Rattle.std.specs.Prelude.{◌≡◌, ◌≢◌, refl, OnOk, IfOk, IfErr, IfSome, IfNone};
-ghost use Rattle.pagable_model.specs.Meaning.{reference as meaning_of};
-ghost use Rattle.pagable_model.specs.Shape.{reference as reference_shape};
-ghost use Rattle.pagable_model.specs.{Causes.memory_may_refuse_writing, Causes.never_is_own_reading, Gives.memory, Gives.never, Reading.read, Standing.handles_at, Standing.GivesSome, Standing.Is};
-ghost use Rattle.pagable_model.specs.{Standing.MovesOn, Writing.nesting, Writing.Grows, Writing.Refused, Writing.WritesSome};
-ghost use Rattle.pagable_arcs.specs.{Plain.plain, Plain.plain_means, References.reference_has_one_form, References.reference_is_read};
+ghost use Rattle.pagable_model.specs.{Meaning.reference as meaning_of, Shape.reference as reference_shape, Causes.{memory_may_refuse_writing, never_is_own_reading}, Gives.{memory, never}};
+ghost use Rattle.pagable_model.specs.{Reading.read, Standing.{handles_at, GivesSome, Is, MovesOn}, Writing.{nesting, Grows, Refused, WritesSome}};
+ghost use Rattle.pagable_arcs.specs.{Plain.{plain, plain_means}, References.{reference_has_one_form, reference_is_read}};
 
 use pagable_codec::{
     ArcRef, Env, HandleNumber, Kind, NodeNumber, PagableDeserializer, PagableSerializer,

@@ -1,9 +1,9 @@
 //! What static and tagged values and saved regular expressions mean and how they are spelled, as laws that callers can cite: each is a function that does
 //! nothing, whose contract holds for every environment and every value.
 
-ghost use Rattle.std.specs.{Prelude.◌≡◌, Prelude.◌↔◌, Prelude.◌⊎◌, Prelude.ℕ, Prelude.List, Prelude.Some, Prelude.Ok, List.slice_get};
-ghost use Rattle.pagable_model.specs.{Gives.never, Gives.memory, Gives.memory_or, Gives.long_or, Meaning.Meaning, Meaning.lifted, Reading.registered, Shape.static_value, Standing.SomeMeaning};
-ghost use Rattle.pagable_model.specs.{Statics.meanings_of, Statics.unregistered, Tagged.MeansTagged, declared.error.Error.Error as Refusal, declared.numbers.ArcRef.ArcRef as Reference};
+ghost use Rattle.std.{specs.Prelude.{◌≡◌, ◌↔◌, ◌⊎◌, ℕ, List, Some, Ok}, specs.List.slice_get};
+ghost use Rattle.pagable_model.specs.{Gives.{never, memory, memory_or, long_or}, Meaning.{Meaning, lifted}, Reading.registered, Shape.static_value, Standing.SomeMeaning, Statics.meanings_of};
+ghost use Rattle.pagable_model.specs.{Statics.unregistered, Tagged.MeansTagged, declared.error.Error.Error as Refusal, declared.numbers.ArcRef.ArcRef as Reference};
 ghost use Rattle.pagable_registries.specs.declared.static_value.StaticValue.{StaticValue as Static};
 ghost use Rattle.pagable_model.specs.Meaning as meanings;
 ghost use Rattle.pagable_model.specs.Shape as shapes;

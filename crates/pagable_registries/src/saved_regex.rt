@@ -1,11 +1,8 @@
 //! Regular expressions beside their texts.
 
-ghost use Rattle.std.specs.Prelude.{◌≡◌, ◌≢◌, refl, ℕ, List, IfOk, IfErr, OnOk};
-ghost use Rattle.std.specs.{String.string_bytes, Str.bytes_eq, Cmp.Rules.comparing, Cmp.Rules.hashing};
-ghost use Rattle.std.proofs.Common.{rules};
-ghost use Rattle.pagable_model.specs.{Gives.memory, Gives.long_or, Causes.text_may_refuse_writing, Meaning.pattern, Patterns.pattern_is_same, Patterns.pattern_refers_to_nothing};
-ghost use Rattle.pagable_model.specs.{Patterns.pattern_has_one_form, Reading.read, Standing.handles_at, Standing.Is, Standing.MovesOn, Standing.GivesSome, Writing.nesting, Writing.WritesSome};
-ghost use Rattle.pagable_model.specs.{Writing.Refused, Writing.Grows, declared.error.Error.TheVariants.RegexRefused};
+ghost use Rattle.std.{specs.Prelude.{◌≡◌, ◌≢◌, refl, ℕ, List, IfOk, IfErr, OnOk}, specs.String.string_bytes, specs.Str.bytes_eq, specs.Cmp.Rules.{comparing, hashing}, proofs.Common.rules};
+ghost use Rattle.pagable_model.specs.{Gives.{memory, long_or}, Causes.text_may_refuse_writing, Meaning.pattern, Patterns.{pattern_is_same, pattern_refers_to_nothing, pattern_has_one_form}};
+ghost use Rattle.pagable_model.specs.{Reading.read, Standing.{handles_at, Is, MovesOn, GivesSome}, Writing.{nesting, WritesSome, Refused, Grows}, declared.error.Error.TheVariants.RegexRefused};
 ghost use Rattle.pagable_traits.specs.ReadBack.{pattern_is_read};
 ghost use Rattle.pagable_registries.specs.Building.{IsBuiltFrom, IsRefusedPattern, refusal_of, pattern_causes, pattern_causes_are_own, ReadsNoPattern};
 ghost use Rattle.std.specs.Hash as fed;
@@ -158,6 +155,7 @@ impl<E: Env> PagableKey<E> for SavedRegex {
 
 /// Writes the text of a pattern: its length in bytes, and its bytes. TooLong above 4,294,967,295 bytes; else refused by
 /// want of memory alone.
+#[tactic(auto, using(pagable_codec::proofs::Writing::parts, crate::proofs::Patterns::writes_pattern, crate::proofs::Patterns::refused_pattern))]
 fn write_text<E: Env, S: PagableSerializer<E>>(text: &str, serializer: &mut S) -> Result<(), Error>
     ensures ok { OnOk result (WritesSome (Is pattern text.now) (nesting (S.levels serializer.old) (E.parts (S.environment serializer.old))) shapes.pattern (S.out serializer.old) (S.out serializer.new)) }
     ensures refused { IfErr result (Refused (Is pattern text.now) (nesting (S.levels serializer.old) (E.parts (S.environment serializer.old))) shapes.pattern) }

@@ -1,13 +1,11 @@
 //! Static values: they stand in a registry that the environment holds, and are written as their index there. `T` is the
 //! reference to what is static, as `&'static str`: nothing is proved yet of a `&'static T` with a type parameter `T`.
 
-ghost use Rattle.std.specs.Prelude.{◌≡◌, ◌<◌, ◌≤◌, ◌↔◌, ⊤, refl, List, length, map, Option, Some, Err, OnOk, IfOk, IfErr, IfSome, IfNone, IsTrue, vec_len};
-ghost use Rattle.std.specs.{List.slice_get, List.Sorted.IsPermutation, List.Sorted.IsSorted, List.Sorted.IsStable, Cmp.Rules.comparing, Cmp.Rules.hashing};
-ghost use Rattle.std.proofs.Common.{rules};
-ghost use Rattle.pagable_model.specs.Statics.{HasEqual, NoEqualBelow, StandsAt, meanings_of, unregistered, unregistered_may_refuse_writing};
-ghost use Rattle.pagable_model.specs.{Basic.longest, Canonical.HasNoReference, Gives.Gives, Gives.never, Gives.memory_or, Meaning.Meaning, Meaning.lifted, Reading.read, Reading.registered};
-ghost use Rattle.pagable_model.specs.{Shape.static_value, Standing.handles_at, Standing.GivesSome, Standing.Is, Standing.MovesOn, Writing.nesting, Writing.WritesSome, Writing.Refused};
-ghost use Rattle.pagable_model.specs.{Writing.Grows, Lengths.long_or_memory, Causes.never_is_own_reading, Causes.memory_or_may_refuse_writing};
+ghost use Rattle.std.{specs.Prelude.{◌≡◌, ◌<◌, ◌≤◌, ◌↔◌, ⊤, refl, List, length, map, Option, Some, Err, OnOk, IfOk, IfErr, IfSome, IfNone, IsTrue, vec_len}, specs.List.slice_get};
+ghost use Rattle.std.{specs.List.Sorted.{IsPermutation, IsSorted, IsStable}, specs.Cmp.Rules.{comparing, hashing}, proofs.Common.rules};
+ghost use Rattle.pagable_model.specs.{Statics.{HasEqual, NoEqualBelow, StandsAt, meanings_of, unregistered, unregistered_may_refuse_writing}, Basic.longest, Canonical.HasNoReference, Gives.Gives};
+ghost use Rattle.pagable_model.specs.{Gives.{never, memory_or}, Meaning.{Meaning, lifted}, Reading.{read, registered}, Shape.static_value, Standing.{handles_at, GivesSome, Is, MovesOn}};
+ghost use Rattle.pagable_model.specs.{Writing.{nesting, WritesSome, Refused, Grows}, Lengths.long_or_memory, Causes.{never_is_own_reading, memory_or_may_refuse_writing}};
 ghost use Rattle.pagable_registries.specs.StaticValues.{static_is_read, static_is_same, static_refers_to_nothing};
 
 use pagable_codec::{Env, PagableDeserializer, PagableSerializer, Reader};

@@ -1,12 +1,10 @@
 //! Tagged values: a value of one of several types is written as its type's tag and its body, and read by the reader
 //! that is registered for the tag. Registries are handed in; there are no globals.
 
-ghost use Rattle.std.specs.Prelude.{◌≡◌, ◌≤◌, ◌∷◌, [], ℕ, List, length, map, Bool, Option, Some, None, IfOk, IfErr, IfSome, IfNone, OnOk, true};
-ghost use Rattle.std.specs.{Str.IsUtf8, String.string_bytes};
-ghost use Rattle.pagable_model.specs.Tagged.{MeansTagged, IsLastFor, NoneFor, grammars, HasDistinctTags, ReadsWhatIsWritten};
-ghost use Rattle.pagable_model.specs.{Basic.text_form, Basic.text_at, Basic.longest, Carried.tagged_by, Gives.Gives, Gives.memory, Gives.memory_or, Gives.long_or, Meaning.Meaning, Reading.read};
-ghost use Rattle.pagable_model.specs.{Reading.bytes_of, Refusals.is_own_reading, Refusals.may_refuse_writing, Shape.Shape, Shape.tagged, Standing.handles_at, Standing.MovesOn, Standing.GivesSome};
-ghost use Rattle.pagable_model.specs.{Standing.SomeMeaning, Writing.nesting, Writing.WritesSome, Writing.Refused, Writing.Grows, Writing.added, declared.error.Error.Error as Refusal};
+ghost use Rattle.std.{specs.Prelude.{◌≡◌, ◌≤◌, [], ℕ, List, length, map, Bool, Option, Some, None, IfOk, IfErr, IfSome, IfNone, OnOk, true}, specs.Str.IsUtf8, specs.String.string_bytes};
+ghost use Rattle.pagable_model.specs.{Tagged.{MeansTagged, IsLastFor, NoneFor, grammars, HasDistinctTags, ReadsWhatIsWritten}, Basic.{text_form, text_at, longest}, Carried.tagged_by, Gives.Gives};
+ghost use Rattle.pagable_model.specs.{Gives.{memory, memory_or, long_or}, Meaning.Meaning, Reading.{read, bytes_of}, Refusals.{is_own_reading, may_refuse_writing}, Shape.{Shape, tagged}};
+ghost use Rattle.pagable_model.specs.{Standing.{handles_at, MovesOn, GivesSome, SomeMeaning}, Writing.{nesting, WritesSome, Refused, Grows, added}, declared.error.Error.Error as Refusal};
 ghost use Rattle.pagable_model.specs.{declared.numbers.ArcRef.ArcRef as Reference, Lengths.long_or_memory};
 ghost use Rattle.pagable_traits.specs.ReadBack.{IsReadThroughout};
 

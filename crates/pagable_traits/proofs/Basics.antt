@@ -1,33 +1,13 @@
 -- How a basic value is read and written: all that its reader and its writer owe, from what the reader or the writer of its bytes tells.
-use Rattle.pagable_traits.proofs.Words.{◌≡◌, ℕ, ◌++◌, List, [], refl, Result, Ok, Err, inl, inr, OnOk, IfErr, Error, ArcRef, bool_at, char_at, text_at, Gives, Extends, memory, Meaning, number}
-use Rattle.pagable_traits.proofs.Words.{integer, Read, unsigned_at, signed_at, Rest, Context, bytes_of, read, read_with, Shape, signed, Out, Nesting, FormAt, WritesSome, Refused, Grows, Answer}
-use Rattle.pagable_traits.proofs.Words.{MovesOn, GivesSome, Is, writes_is, writes_bytes, grows_bytes, refused_memory, arith}
-use Rattle.std.specs.Int.{Width}
-use Rattle.pagable_model.specs.{Meaning.text, Meaning.flag, Shape.unsigned, Shape.letter, Shape.flag as flag_shape, Shape.text as text_shape, Track.Track, Track.left, Track.GoesOn}
-use Rattle.pagable_model.specs.{Standing.Standing}
+use Rattle.pagable_traits.proofs.Words.{to_z-of_z, never, ℤ, Bool, String, string_bytes, ◌≡◌, ℕ, ◌++◌, List, [], refl, Result, Ok, Err, inl, inr, OnOk, IfErr, Error, ArcRef, bool_at, char_at, text_at}
+use Rattle.pagable_traits.proofs.Words.{Gives, Extends, memory, Meaning, number, integer, Read, unsigned_at, signed_at, Rest, Context, bytes_of, read, read_with, Shape, signed, Out, Nesting, FormAt}
+use Rattle.pagable_traits.proofs.Words.{WritesSome, Refused, Grows, Answer, GivesSome, Is, writes_is, writes_bytes, grows_bytes, refused_memory}
+use Rattle.std.{specs.Int.{Width, w8}, specs.Char.IsScalar, proofs.Common.{◌<◌, rules, FitsSigned, to_z, of_z}}
+use Rattle.pagable_codec.proofs.Writing.{writes_unsigned, writes_signed, writes_flag, writes_letter}
+use Rattle.pagable_model.specs.{Basic.{bool_form, char_form}, Numbers.{bound, IsSigned, unsigned_form, signed_form}, Meaning.{text, flag}, Shape.{unsigned, letter, flag as flag_shape}}
+use Rattle.pagable_model.specs.{Shape.text as text_shape, Track.{Track, left}}
 
 -- ---- reading
-
--- the bytes of a value give what it means
-pub unsigned_is : {A B : Type 0} (context : Context A B) (w : Width) (rest : Rest A) → read context (unsigned w) rest ≡ bytes_of (unsigned_at w) number rest
-unfolding read read_with
-unsigned_is context w rest = refl
-
-pub signed_is : {A B : Type 0} (context : Context A B) (w : Width) (rest : Rest A) → read context (signed w) rest ≡ bytes_of (signed_at w) integer rest
-unfolding read read_with
-signed_is context w rest = refl
-
-pub flag_is : {A B : Type 0} (context : Context A B) (rest : Rest A) → read context flag_shape rest ≡ bytes_of bool_at flag rest
-unfolding read read_with
-flag_is context rest = refl
-
-pub letter_is : {A B : Type 0} (context : Context A B) (rest : Rest A) → read context letter rest ≡ bytes_of char_at number rest
-unfolding read read_with
-letter_is context rest = refl
-
-pub text_is : {A B : Type 0} (context : Context A B) (rest : Rest A) → read context text_shape rest ≡ bytes_of text_at text rest
-unfolding read read_with
-text_is context rest = refl
 
 pub gives_bytes : {X Y : Type 0} (own : Error → Type 0) (view : X → Y) (meaning : Y → Meaning ArcRef) (at : List ℕ → Read Y) (r : Result X Error) (rest : Rest Answer) (after : List ℕ) → Gives own (λ x. (view x, after)) r (at rest.bytes)
     → GivesSome own (Is (λ x. meaning (view x))) (record rest { bytes = after }) r (bytes_of at meaning rest)
@@ -36,12 +16,33 @@ gives_bytes own view meaning at (Err e) rest after (inl h) = inl (rw h refl)
 gives_bytes own view meaning at (Err e) rest after (inr h) = inr h
 
 -- by what a deserializer says of itself with another reader
-pub basic_read : {X Y E : Type 0} (own : Error → Type 0) (view : X → Y) (meaning : Y → Meaning ArcRef) (at : List ℕ → Read Y) (r : Result X Error) (reading : Result (Meaning ArcRef × Rest Answer) Error)
-    {rest last : Rest Answer} {old new : Standing} {env env_after : E} {levels levels_after : ℕ} {given used : Track} → reading ≡ bytes_of at meaning rest
-    → rest.bytes ≡ left given → last ≡ record rest { bytes = left used } → (GoesOn given used → MovesOn old new) → env_after ≡ env → levels_after ≡ levels
-    → record { gives : Gives own (λ x. (view x, left used)) r (at (left given)); goes : GoesOn given used }
-    → record { gives : GivesSome own (Is (λ x. meaning (view x))) last r reading; moves : MovesOn old new; same_env : env_after ≡ env; same_levels : levels_after ≡ levels }
-basic_read own view meaning at r reading {rest = rest} {used = used} is e f moves same_env same_levels told = grind (arith, gives_bytes)
+module _ (context : Context Answer ArcRef) (rest last : Rest Answer) (given used : Track) (same : rest.bytes ≡ left given) (moved : last ≡ record rest { bytes = left used }) where
+  reads : {X Y : Type 0} (own : Error → Type 0) (view : X → Y) (meaning : Y → Meaning ArcRef) (at : List ℕ → Read Y) (r : Result X Error) → Gives own (λ x. (view x, left used)) r (at (left given))
+      → GivesSome own (Is (λ x. meaning (view x))) last r (bytes_of at meaning rest)
+  reads own view meaning at r told = rw moved (gives_bytes own view meaning at r rest (left used) (rw same told))
+
+  pub reads_unsigned : (w : Width) (r : Result ℕ Error) → Gives never (λ n. (n, left used)) r (unsigned_at w (left given)) → GivesSome never (Is number) last r (read context (unsigned w) rest)
+  unfolding read read_with
+  reads_unsigned w r told = reads never (λ n. n) number (unsigned_at w) r told
+
+  pub reads_signed : (w : Width) (r : Result ℤ Error) → Gives never (λ z. (z, left used)) r (signed_at w (left given)) → GivesSome never (Is integer) last r (read context (signed w) rest)
+  unfolding read read_with
+  reads_signed w r told = reads never (λ z. z) integer (signed_at w) r told
+
+  pub reads_flag : (r : Result Bool Error) → Gives never (λ b. (b, left used)) r (bool_at (left given)) → GivesSome never (Is flag) last r (read context flag_shape rest)
+  unfolding read read_with
+  reads_flag r told = reads never (λ b. b) flag bool_at r told
+
+  pub reads_letter : (r : Result ℕ Error) → Gives never (λ l. (l, left used)) r (char_at (left given)) → GivesSome never (Is number) last r (read context letter rest)
+  unfolding read read_with
+  reads_letter r told = reads never (λ l. l) number char_at r told
+
+  pub reads_text : {Z : Type 0} (r : Result (String Z) Error) → Gives memory (λ t. (string_bytes t, left used)) r (text_at (left given))
+      → GivesSome memory (Is (λ t. text (string_bytes t))) last r (read context text_shape rest)
+  unfolding read read_with
+  reads_text r told = reads memory string_bytes text text_at r told
+
+pub ruleset read_steps = (reads_unsigned, reads_signed, reads_flag, reads_letter)
 
 -- ---- writing
 
@@ -67,3 +68,24 @@ basic_written r n s meaning x form {old = old} {new = new} {given = given} {byte
   same_env = same_env;
   same_levels = same_levels;
 }
+
+-- what a number's range in Rust is here
+is-signed : (w : Width) (z : ℤ) → FitsSigned w z → IsSigned w z
+is-signed w8 z h = search rules
+is-signed _ z h = search rules
+
+-- the same of each basic value
+module _ (n : Nesting) (old new : Out) (given bytes : List ℕ) (same : given ≡ old.bytes) (grown : new ≡ record old { bytes = bytes }) where
+  pub wrote_unsigned : (w : Width) (x limit : ℕ) → bytes ≡ given ++ unsigned_form w x → x < limit → limit ≡ bound w → WritesSome (Is number x) n (unsigned w) old new
+  wrote_unsigned w x limit is lt e = rw grown (writes_unsigned n w x old bytes (rw e at lt) (rw same at is))
+
+  pub wrote_signed : (w : Width) (z : ℤ) → FitsSigned w z → bytes ≡ given ++ signed_form w (to_z w (of_z w z)) → WritesSome (Is integer z) n (signed w) old new
+  wrote_signed w z fits is = rw grown (writes_signed n w z old bytes (is-signed w z fits) (rw (to_z-of_z w z fits, same) at is))
+
+  pub wrote_flag : (b : Bool) → bytes ≡ given ++ bool_form b → WritesSome (Is flag b) n flag_shape old new
+  wrote_flag b is = rw grown (writes_flag n b old bytes (rw same at is))
+
+  pub wrote_letter : (c : ℕ) → IsScalar c → bytes ≡ given ++ char_form c → WritesSome (Is number c) n letter old new
+  wrote_letter c scalar is = rw grown (writes_letter n c old bytes scalar (rw same at is))
+
+pub ruleset write_steps = (wrote_unsigned, wrote_signed, wrote_flag, wrote_letter)

@@ -1,9 +1,9 @@
 -- Successes and failures, arrays, and tuples: what writing their parts one after another adds, and what reading them so gives.
 use Rattle.pagable_traits.proofs.Words.{◌≡◌, ℕ, List, [], ◌++◌, length, refl, ◌∙◌, Result, Ok, Err, inl, inr, subst, ap, ◌≤◌, IfErr, OnOk, ◌⊎◌, Bool, true, false, Error, ArcRef, bool_form, bool_at}
 use Rattle.pagable_traits.proofs.Words.{longest, text_form, either, MeanAll, MeansList, MeansPair, MeansResult, means-ok, means-err, Meaning, none, sequence, success, failure, Shape, outcome}
-use Rattle.pagable_traits.proofs.Words.{text-form, err-form, ok-form, Rest, Context, items, bytes_of, read, read_with, Answer, Gave, handles_at, Is, Out, Nesting, FormAt, FormsAt, WritesSome}
-use Rattle.pagable_traits.proofs.{Words.{WritesSomeAll, added, NoForm, NoForms, Refused, RefusedAll, Grows, then, writes_is, writes_bytes, arith}, Items.{mean-length, sequence-same}}
-use Rattle.pagable_model.specs.{Shape.{nothing, array}, Form.array-form}
+use Rattle.pagable_traits.proofs.Words.{text-form, err-form, ok-form, Rest, Context, items, bytes_of, read, read_with, Gave, Is, Out, Nesting, FormAt, FormsAt, WritesSome, WritesSomeAll, added}
+use Rattle.pagable_traits.proofs.{Words.{NoForm, NoForms, Refused, RefusedAll, Grows, then, writes_is, writes_bytes, arith}, Items.{mean-length, sequence-same}}
+use Rattle.pagable_model.specs.{Shape.array, Form.array-form}
 use Rattle.std.specs.Str.{IsUtf8}
 use Rattle.pagable_model.specs.Meaning as meanings
 use Rattle.pagable_model.specs.Shape as shapes
@@ -31,12 +31,6 @@ pub writes_str : {Y : Type 0} (r : Result Y Error) (t : List ℕ) (n : Nesting) 
     → OnOk r (WritesSome (Is meanings.text t) n shapes.text old last)
 writes_str (Ok y) t n old last now w e f utf8 short h = rw f (writes_is meanings.text t n shapes.text old _ (writes_bytes n shapes.text (meanings.text t) old w (text_form t) (h ∙ ap (λ (b : List ℕ). b ++ text_form t) e) (text-form _ t utf8 short)))
 writes_str (Err y) t n old last now w e f utf8 short h = tt
-
--- ---- nothing
-
-pub gives_nothing : (levels : ℕ) (parts : ℕ → Shape) (rest : Rest Answer) → Gave (λ m. m ≡ none) rest (read (handles_at levels parts) nothing rest)
-unfolding read read_with
-gives_nothing levels parts rest = record { m = none; is = refl; gave = refl }
 
 -- ---- a success or a failure
 

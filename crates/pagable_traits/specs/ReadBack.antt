@@ -1,7 +1,7 @@
 -- Why the forms of the carried types are read again.
-use Rattle.std.specs.{Prelude.{ℕ, zero, suc}, Int.Width}
-use Rattle.pagable_model.specs.Shape.{Shape, nothing, unsigned, signed, flag, text, letter, duration, pattern, json, optional, outcome, list, array, both, sorted_map, placed_map, hash_map}
-use Rattle.pagable_model.specs.{Shape.{sorted_set, placed_set}, Canonical.{IsReadable, LiesIn, Within, Throughout}, Keyed.{throughout-alone, throughout-over, throughout-two}, Keys.KeyOrder}
+use Rattle.std.{specs.Prelude.ℕ, specs.Int.Width}
+use Rattle.pagable_model.specs.Shape.{Shape, nothing, unsigned, signed, flag, text, letter, duration, pattern, json, optional, outcome, list, array, both, sorted_map, placed_map, hash_map, sorted_set}
+use Rattle.pagable_model.specs.{Shape.placed_set, Canonical.{IsReadable, LiesIn, Throughout}, Keyed.{throughout-alone, throughout-over, throughout-two}, Keys.KeyOrder}
 
 -- the forms of the shape, and those of all parts of its values in one blob, are read again
 abbrev pub IsReadThroughout : (ℕ → Shape) → Shape → Type 0

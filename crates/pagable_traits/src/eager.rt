@@ -2,9 +2,8 @@
 //! values are carried.
 
 ghost use Rattle.std.specs.Prelude.{◌≡◌, true, OnOk, IfErr};
-ghost use Rattle.pagable_model.specs.{Reading.read, Refusals.is_own_reading, Refusals.may_refuse_writing, Shape.Shape, Meaning.Meaning, Standing.handles_at, Standing.MovesOn, Standing.GivesSome};
-ghost use Rattle.pagable_model.specs.{Standing.SomeMeaning, Writing.nesting, Writing.WritesSome, Writing.Refused, Writing.Grows, declared.error.Error.Error as Refusal};
-ghost use Rattle.pagable_model.specs.{declared.numbers.ArcRef.ArcRef as Reference};
+ghost use Rattle.pagable_model.specs.{Reading.read, Refusals.{is_own_reading, may_refuse_writing}, Shape.Shape, Meaning.Meaning, Standing.{handles_at, MovesOn, GivesSome, SomeMeaning}};
+ghost use Rattle.pagable_model.specs.{Writing.{nesting, WritesSome, Refused, Grows}, declared.error.Error.Error as Refusal, declared.numbers.ArcRef.ArcRef as Reference};
 
 use pagable_codec::{Env, PagableDeserializer, PagableSerializer};
 use pagable_flavors::Error;

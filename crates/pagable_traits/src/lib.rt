@@ -1,6 +1,7 @@
 //! What can be written and read: the traits of values, and the carried types.
 #![tactic(auto)]
 
+pub mod alike;
 pub mod boxes;
 pub mod eager;
 pub mod impls;

@@ -3,8 +3,7 @@
 ghost use Rattle.std.specs.Int.{w8, w16, w32, w64, w128};
 ghost use Rattle.pagable_model.specs.OneForm.{HasOneFormThroughout, nothing_has_one_form, unsigned_has_one_form, signed_has_one_form, flag_has_one_form, text_has_one_form, letter_has_one_form};
 ghost use Rattle.pagable_model.specs.OneForm.{optional_has_one_form, list_has_one_form, both_has_one_form, sorted_map_has_one_form, placed_map_has_one_form, sorted_set_has_one_form};
-ghost use Rattle.pagable_model.specs.OneForm.{placed_set_has_one_form, run_has_one_form, duration_has_one_form, outcome_has_one_form, array_has_one_form};
-ghost use Rattle.pagable_model.specs.{Shape.both, Shape.list};
+ghost use Rattle.pagable_model.specs.{OneForm.{placed_set_has_one_form, run_has_one_form, duration_has_one_form, outcome_has_one_form, array_has_one_form}, Shape.list};
 ghost use Rattle.pagable_traits.specs.JsonData.{json_has_one_form};
 
 use crate::impls::paths::PathText;
@@ -18,7 +17,6 @@ use smallvec::SmallVec;
 use std::boxed::{BoxedSlice, BoxedStr};
 use std::collections::{BTreeMap, BTreeSet};
 use std::hash::Hash;
-use std::marker::PhantomData;
 use std::time::Duration;
 
 /// A type of which each value has one meaning, and each meaning at most one form, in all parts of a value that lie in
@@ -60,10 +58,6 @@ impl<E: Env> Canonical<E> for u128 {
     ghost one_form = { λ e. unsigned_has_one_form (E.parts e) w128 };
 }
 
-impl<E: Env> Canonical<E> for usize {
-    ghost one_form = { λ e. unsigned_has_one_form (E.parts e) w64 };
-}
-
 impl<E: Env> Canonical<E> for i8 {
     ghost one_form = { λ e. signed_has_one_form (E.parts e) w8 };
 }
@@ -92,19 +86,11 @@ impl<E: Env, T: Canonical<E>> Canonical<E> for Option<T> {
     ghost one_form = { λ e. optional_has_one_form (E.parts e) (T.Carried.shape e) (T.one_form e) };
 }
 
-impl<E: Env, T: Canonical<E>> Canonical<E> for Box<T> {
-    ghost one_form = { λ e. T.one_form e };
-}
-
 impl<E: Env, A: Canonical<E>, B: Canonical<E>> Canonical<E> for (A, B) {
     ghost one_form = { λ e. both_has_one_form (E.parts e) (A.Carried.shape e) (B.Carried.shape e) (A.one_form e) (B.one_form e) };
 }
 
 impl<E: Env, T: Canonical<E>> Canonical<E> for Vec<T> {
-    ghost one_form = { λ e. list_has_one_form (E.parts e) (T.Carried.shape e) (T.one_form e) };
-}
-
-impl<E: Env, T: Canonical<E>> Canonical<E> for BoxedSlice<T> {
     ghost one_form = { λ e. list_has_one_form (E.parts e) (T.Carried.shape e) (T.one_form e) };
 }
 
@@ -141,28 +127,16 @@ impl<E: Env, T: Canonical<E>, X: Canonical<E>> Canonical<E> for Result<T, X> {
     ghost one_form = { λ e. outcome_has_one_form (E.parts e) (T.Carried.shape e) (X.Carried.shape e) (T.one_form e) (X.one_form e) };
 }
 
-impl<E: Env, A: Canonical<E>, B: Canonical<E>, C: Canonical<E>> Canonical<E> for (A, B, C) {
-    ghost one_form = { λ e. both_has_one_form (E.parts e) (A.Carried.shape e) (both (B.Carried.shape e) (C.Carried.shape e)) (A.one_form e) (both_has_one_form (E.parts e) (B.Carried.shape e) (C.Carried.shape e) (B.one_form e) (C.one_form e)) };
-}
-
-impl<E: Env, A: Canonical<E>, B: Canonical<E>, C: Canonical<E>, D: Canonical<E>> Canonical<E>
-    for (A, B, C, D) {
-    ghost one_form = { λ e. both_has_one_form (E.parts e) (A.Carried.shape e) (both (B.Carried.shape e) (both (C.Carried.shape e) (D.Carried.shape e))) (A.one_form e) (both_has_one_form (E.parts e) (B.Carried.shape e) (both (C.Carried.shape e) (D.Carried.shape e)) (B.one_form e) (both_has_one_form (E.parts e) (C.Carried.shape e) (D.Carried.shape e) (C.one_form e) (D.one_form e))) };
-}
-
-impl<
-    E: Env,
-    A: Canonical<E>,
-    B: Canonical<E>,
-    C: Canonical<E>,
-    D: Canonical<E>,
-    F: Canonical<E>,
-> Canonical<E> for (A, B, C, D, F) {
-    ghost one_form = { λ e. both_has_one_form (E.parts e) (A.Carried.shape e) (both (B.Carried.shape e) (both (C.Carried.shape e) (both (D.Carried.shape e) (F.Carried.shape e)))) (A.one_form e) (both_has_one_form (E.parts e) (B.Carried.shape e) (both (C.Carried.shape e) (both (D.Carried.shape e) (F.Carried.shape e))) (B.one_form e) (both_has_one_form (E.parts e) (C.Carried.shape e) (both (D.Carried.shape e) (F.Carried.shape e)) (C.one_form e) (both_has_one_form (E.parts e) (D.Carried.shape e) (F.Carried.shape e) (D.one_form e) (F.one_form e)))) };
-}
-
 impl<E: Env, T: Canonical<E>, const N: usize> Canonical<E> for [T; N] {
     ghost one_form = { λ e. array_has_one_form (E.parts e) N (T.Carried.shape e) (T.one_form e) };
+}
+
+impl<E: Env> Canonical<E> for Value {
+    ghost one_form = { λ e. json_has_one_form (E.parts e) };
+}
+
+impl<E: Env, T: Canonical<E>> Canonical<E> for BoxedSlice<T> {
+    ghost one_form = { λ e. list_has_one_form (E.parts e) (T.Carried.shape e) (T.one_form e) };
 }
 
 impl<E: Env> Canonical<E> for BoxedStr {
@@ -173,18 +147,6 @@ impl<E: Env> Canonical<E> for PathText {
     ghost one_form = { λ e. text_has_one_form (E.parts e) };
 }
 
-impl<E: Env, T> Canonical<E> for PhantomData<T> {
-    ghost one_form = { λ e. nothing_has_one_form (E.parts e) };
-}
-
-impl<'a, E: Env, T: Canonical<E>> Canonical<E> for &'a T {
-    ghost one_form = { λ e. T.one_form e };
-}
-
 impl<E: Env, H: Canonical<E>, T: Canonical<E>> Canonical<E> for Thin<H, T> {
     ghost one_form = { λ e. both_has_one_form (E.parts e) (H.Carried.shape e) (list (T.Carried.shape e)) (H.one_form e) (list_has_one_form (E.parts e) (T.Carried.shape e) (T.one_form e)) };
-}
-
-impl<E: Env> Canonical<E> for Value {
-    ghost one_form = { λ e. json_has_one_form (E.parts e) };
 }

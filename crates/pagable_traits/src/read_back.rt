@@ -1,7 +1,7 @@
 //! The types whose forms are read again.
 
 ghost use Rattle.std.specs.Int.{w8, w16, w32, w64, w128};
-ghost use Rattle.pagable_model.specs.Shape.{both, list};
+ghost use Rattle.pagable_model.specs.Shape.{list};
 ghost use Rattle.pagable_traits.specs.ReadBack.{IsReadThroughout, nothing_is_read, unsigned_is_read, signed_is_read, flag_is_read, text_is_read, letter_is_read, duration_is_read, json_is_read};
 ghost use Rattle.pagable_traits.specs.ReadBack.{optional_is_read, outcome_is_read, list_is_read, array_is_read, both_is_read, sorted_map_is_read, placed_map_is_read, hash_map_is_read};
 ghost use Rattle.pagable_traits.specs.ReadBack.{sorted_set_is_read, placed_set_is_read};
@@ -17,7 +17,6 @@ use smallvec::SmallVec;
 use std::boxed::{BoxedSlice, BoxedStr};
 use std::collections::{BTreeMap, BTreeSet, HashMap};
 use std::hash::Hash;
-use std::marker::PhantomData;
 use std::sync::OnceLock;
 use std::sync::atomic::AtomicI64;
 use std::time::Duration;
@@ -61,10 +60,6 @@ impl<E: Env> ReadBack<E> for u128 {
     ghost is_read = { λ e. unsigned_is_read (E.parts e) w128 };
 }
 
-impl<E: Env> ReadBack<E> for usize {
-    ghost is_read = { λ e. unsigned_is_read (E.parts e) w64 };
-}
-
 impl<E: Env> ReadBack<E> for i8 {
     ghost is_read = { λ e. signed_is_read (E.parts e) w8 };
 }
@@ -93,24 +88,12 @@ impl<E: Env> ReadBack<E> for String {
     ghost is_read = { λ e. text_is_read (E.parts e) };
 }
 
-impl<E: Env> ReadBack<E> for BoxedStr {
-    ghost is_read = { λ e. text_is_read (E.parts e) };
-}
-
-impl<E: Env> ReadBack<E> for PathText {
-    ghost is_read = { λ e. text_is_read (E.parts e) };
-}
-
 impl<E: Env> ReadBack<E> for Duration {
     ghost is_read = { λ e. duration_is_read (E.parts e) };
 }
 
 impl<E: Env> ReadBack<E> for Value {
     ghost is_read = { λ e. json_is_read (E.parts e) };
-}
-
-impl<E: Env, T> ReadBack<E> for PhantomData<T> {
-    ghost is_read = { λ e. nothing_is_read (E.parts e) };
 }
 
 impl<E: Env, T: ReadBack<E>> ReadBack<E> for Option<T> {
@@ -121,15 +104,7 @@ impl<E: Env, T: ReadBack<E>> ReadBack<E> for OnceLock<T> {
     ghost is_read = { λ e. optional_is_read (E.parts e) (T.Carried.shape e) (T.is_read e) };
 }
 
-impl<E: Env, T: ReadBack<E>> ReadBack<E> for Box<T> {
-    ghost is_read = { λ e. T.is_read e };
-}
-
 impl<E: Env, T: ReadBack<E>> ReadBack<E> for Vec<T> {
-    ghost is_read = { λ e. list_is_read (E.parts e) (T.Carried.shape e) (T.is_read e) };
-}
-
-impl<E: Env, T: ReadBack<E>> ReadBack<E> for BoxedSlice<T> {
     ghost is_read = { λ e. list_is_read (E.parts e) (T.Carried.shape e) (T.is_read e) };
 }
 
@@ -165,30 +140,22 @@ impl<E: Env, K: PagableKey<E> + Hash + ReadBack<E>, V: ReadBack<E>> ReadBack<E> 
     ghost is_read = { λ e. hash_map_is_read (E.parts e) (K.Carried.shape e) (V.Carried.shape e) (K.is_read e) (V.is_read e) };
 }
 
-impl<E: Env, H: ReadBack<E>, T: ReadBack<E>> ReadBack<E> for Thin<H, T> {
-    ghost is_read = { λ e. both_is_read (E.parts e) (H.Carried.shape e) (list (T.Carried.shape e)) (H.is_read e) (list_is_read (E.parts e) (T.Carried.shape e) (T.is_read e)) };
-}
-
 impl<E: Env, A: ReadBack<E>, B: ReadBack<E>> ReadBack<E> for (A, B) {
     ghost is_read = { λ e. both_is_read (E.parts e) (A.Carried.shape e) (B.Carried.shape e) (A.is_read e) (B.is_read e) };
 }
 
-impl<E: Env, A: ReadBack<E>, B: ReadBack<E>, C: ReadBack<E>> ReadBack<E> for (A, B, C) {
-    ghost is_read = { λ e. both_is_read (E.parts e) (A.Carried.shape e) (both (B.Carried.shape e) (C.Carried.shape e)) (A.is_read e) (both_is_read (E.parts e) (B.Carried.shape e) (C.Carried.shape e) (B.is_read e) (C.is_read e)) };
+impl<E: Env> ReadBack<E> for BoxedStr {
+    ghost is_read = { λ e. text_is_read (E.parts e) };
 }
 
-impl<E: Env, A: ReadBack<E>, B: ReadBack<E>, C: ReadBack<E>, D: ReadBack<E>> ReadBack<E>
-    for (A, B, C, D) {
-    ghost is_read = { λ e. both_is_read (E.parts e) (A.Carried.shape e) (both (B.Carried.shape e) (both (C.Carried.shape e) (D.Carried.shape e))) (A.is_read e) (both_is_read (E.parts e) (B.Carried.shape e) (both (C.Carried.shape e) (D.Carried.shape e)) (B.is_read e) (both_is_read (E.parts e) (C.Carried.shape e) (D.Carried.shape e) (C.is_read e) (D.is_read e))) };
+impl<E: Env> ReadBack<E> for PathText {
+    ghost is_read = { λ e. text_is_read (E.parts e) };
 }
 
-impl<
-    E: Env,
-    A: ReadBack<E>,
-    B: ReadBack<E>,
-    C: ReadBack<E>,
-    D: ReadBack<E>,
-    F: ReadBack<E>,
-> ReadBack<E> for (A, B, C, D, F) {
-    ghost is_read = { λ e. both_is_read (E.parts e) (A.Carried.shape e) (both (B.Carried.shape e) (both (C.Carried.shape e) (both (D.Carried.shape e) (F.Carried.shape e)))) (A.is_read e) (both_is_read (E.parts e) (B.Carried.shape e) (both (C.Carried.shape e) (both (D.Carried.shape e) (F.Carried.shape e))) (B.is_read e) (both_is_read (E.parts e) (C.Carried.shape e) (both (D.Carried.shape e) (F.Carried.shape e)) (C.is_read e) (both_is_read (E.parts e) (D.Carried.shape e) (F.Carried.shape e) (D.is_read e) (F.is_read e)))) };
+impl<E: Env, T: ReadBack<E>> ReadBack<E> for BoxedSlice<T> {
+    ghost is_read = { λ e. list_is_read (E.parts e) (T.Carried.shape e) (T.is_read e) };
+}
+
+impl<E: Env, H: ReadBack<E>, T: ReadBack<E>> ReadBack<E> for Thin<H, T> {
+    ghost is_read = { λ e. both_is_read (E.parts e) (H.Carried.shape e) (list (T.Carried.shape e)) (H.is_read e) (list_is_read (E.parts e) (T.Carried.shape e) (T.is_read e)) };
 }

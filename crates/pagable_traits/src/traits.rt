@@ -1,9 +1,8 @@
 //! The types that can be written and read.
 
 ghost use Rattle.std.specs.Prelude.{◌≡◌, true, OnOk, IfErr};
-ghost use Rattle.pagable_model.specs.{Refusals.is_own_reading, Refusals.may_refuse_writing, Shape.Shape, Meaning.Meaning, Writing.nesting, Writing.WritesSome, Writing.Refused, Writing.Grows};
-ghost use Rattle.pagable_model.specs.{Reading.read, Standing.handles_at, Standing.MovesOn, Standing.GivesSome, Standing.SomeMeaning, declared.numbers.ArcRef.ArcRef as Reference};
-ghost use Rattle.pagable_model.specs.{declared.error.Error.Error as Refusal};
+ghost use Rattle.pagable_model.specs.{Refusals.{is_own_reading, may_refuse_writing}, Shape.Shape, Meaning.Meaning, Writing.{nesting, WritesSome, Refused, Grows}, Reading.read, Standing.handles_at};
+ghost use Rattle.pagable_model.specs.{Standing.{MovesOn, GivesSome, SomeMeaning}, declared.numbers.ArcRef.ArcRef as Reference, declared.error.Error.Error as Refusal};
 
 use pagable_codec::{Env, PagableDeserializer, PagableSerializer};
 use pagable_flavors::Error;

@@ -1,8 +1,7 @@
 //! Arrays, which are written without a length.
 
 ghost use Rattle.std.specs.Prelude.{map};
-ghost use Rattle.pagable_model.specs.{Gives.memory_or, Meaning.sequence, Shape.array, Causes.memory_or_is_own_reading, Lifted.MeansList, Lifted.list_has_meaning, Lifted.list_is_meaning};
-ghost use Rattle.pagable_model.specs.{Lifted.list_single};
+ghost use Rattle.pagable_model.specs.{Gives.memory_or, Meaning.sequence, Shape.array, Causes.memory_or_is_own_reading, Lifted.{MeansList, list_has_meaning, list_is_meaning, list_single}};
 
 use crate::impls::lists::{read_items, write_items};
 use crate::traits::{Carried, OneMeaning, PagableDeserialize, PagableSerialize};

@@ -1,4 +1,5 @@
 //! Flags, characters and nothing.
+#![tactic(auto, using(pagable_codec::proofs::Writing::parts, crate::proofs::Basics::read_steps, crate::proofs::Basics::write_steps))]
 
 ghost use Rattle.std.specs.Prelude.{refl};
 ghost use Rattle.pagable_model.specs.{Gives.never, Gives.memory, Meaning.number, Meaning.none, Meaning.flag as flag_meaning, Shape.flag, Shape.letter, Shape.nothing, Standing.Is};

@@ -1,4 +1,5 @@
 //! Texts that are lent or boxed.
+#![tactic(auto, using(pagable_codec::proofs::Writing::parts, crate::proofs::Joined::writes_str))]
 
 ghost use Rattle.std.specs.{Prelude.◌≡◌, Prelude.OnOk, Prelude.IfErr, Prelude.refl, Box.boxed_str_bytes};
 ghost use Rattle.pagable_model.specs.{Gives.memory, Gives.long_or, Shape.text as text_shape, Meaning.text as text_meaning, Standing.Is, Writing.nesting, Writing.WritesSome, Writing.Refused};

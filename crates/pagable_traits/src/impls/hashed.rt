@@ -1,9 +1,9 @@
 //! Maps in no order.
 
-ghost use Rattle.std.specs.{Prelude.◌≡◌, Prelude.◌≤◌, Prelude.map, HashMap.spare};
-ghost use Rattle.pagable_model.specs.{Gives.memory_or, Gives.either, Gives.long_or, Shape.hash_map, Carried.of_hash_map, Causes.memory_or_is_own_reading, Causes.memory_or_may_refuse_writing};
-ghost use Rattle.pagable_model.specs.{Causes.long_or_may_refuse_writing, Causes.either_is_own_reading, Causes.either_may_refuse_writing, Hashed.PutsAnywhere, Hashed.MeansHashMap};
-ghost use Rattle.pagable_model.specs.{Hashed.hash_map_has_meaning, Hashed.hash_map_is_meaning, Hashed.hash_map_single};
+ghost use Rattle.std.{specs.Prelude.{◌≤◌, map}, specs.HashMap.spare};
+ghost use Rattle.pagable_model.specs.{Gives.{memory_or, either, long_or}, Shape.hash_map, Carried.of_hash_map, Causes.{memory_or_is_own_reading, memory_or_may_refuse_writing}};
+ghost use Rattle.pagable_model.specs.{Causes.{long_or_may_refuse_writing, either_is_own_reading, either_may_refuse_writing}, Hashed.{PutsAnywhere, MeansHashMap, hash_map_has_meaning}};
+ghost use Rattle.pagable_model.specs.Hashed.{hash_map_is_meaning, hash_map_single};
 
 use crate::impls::collecting::{Collects, read_collected};
 use crate::impls::walks::write_counted;

@@ -4,6 +4,7 @@ ghost use Rattle.pagable_model.specs.Lifted.{MeansOption, option_has_meaning, op
 ghost use Rattle.pagable_model.specs.{Carried.of_option, Gives.memory_or, Gives.either, Meaning.pair, Shape.optional, Shape.both, Causes.memory_or_is_own_reading};
 ghost use Rattle.pagable_model.specs.{Causes.memory_or_may_refuse_writing, Causes.either_is_own_reading, Causes.either_may_refuse_writing};
 
+use crate::alike::CarriedAs;
 use crate::impls::maps::write_entry;
 use crate::traits::{Carried, OneMeaning, PagableDeserialize, PagableSerialize};
 use pagable_codec::parts::{read_flag, write_flag};
@@ -60,20 +61,10 @@ impl<'de, E: Env, T: PagableDeserialize<'de, E>> PagableDeserialize<'de, E> for 
     }
 }
 
-impl<E: Env, T: Carried<E>> Carried<E> for Box<T> {
-    ghost shape = { λ e. T.shape e };
+impl<T> CarriedAs for Box<T> {
+    type Other = T;
 
-    ghost means = { λ b. T.means b.value };
-
-    ghost has_meaning = { λ b. T.has_meaning b.value };
-}
-
-impl<E: Env, T: OneMeaning<E>> OneMeaning<E> for Box<T> {
-    ghost meaning = { λ b. T.meaning b.value };
-
-    ghost is_meaning = { λ b. T.is_meaning b.value };
-
-    ghost single = { λ b m is. T.single b.value m is };
+    ghost other = { λ b. b.value };
 }
 
 impl<E: Env, T: PagableSerialize<E>> PagableSerialize<E> for Box<T> {

@@ -1,10 +1,10 @@
 //! How JSON values are read: the case, and then its part. Arrays and objects are one level further down, which is
 //! entered after their length was read.
 
-ghost use Rattle.std.specs.{Prelude.◌≡◌, Int.w64};
-ghost use Rattle.pagable_model.specs.Reading.{bytes_of, items as items_at, read, seen, flag_case, number_case, text_case, array_case, object_case};
-ghost use Rattle.pagable_model.specs.{Gives.Gives, Gives.never, Meaning.sequence, Meaning.variant, Numbers.unsigned_at, Shape.both, Shape.json, Shape.text, Standing.Is, Standing.MovesOn};
-ghost use Rattle.pagable_traits.specs.{JsonData.of_value, JsonData.of_key, JsonSteps.Reads, JsonSteps.part_of, JsonSteps.ObjectOf};
+ghost use Rattle.std.{specs.Prelude.◌≡◌, specs.Int.w64};
+ghost use Rattle.pagable_model.specs.{Reading.{bytes_of, items as items_at, read, seen, flag_case, number_case, text_case, array_case, object_case}, Gives.{Gives, never}, Meaning.{sequence, variant}};
+ghost use Rattle.pagable_model.specs.{Numbers.unsigned_at, Shape.{both, json, text}, Standing.{Is, MovesOn}};
+ghost use Rattle.pagable_traits.specs.{JsonData.of_value, JsonSteps.{Reads, part_of, ObjectOf}};
 
 use crate::traits::PagableDeserialize;
 use pagable_codec::parts::{places_for, read_count, read_flag};

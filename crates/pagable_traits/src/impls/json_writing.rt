@@ -1,11 +1,10 @@
 //! How JSON values are written: the case, and then its part. Arrays and objects are one level further down, which is
 //! entered after their length was written.
 
-ghost use Rattle.std.specs.{Int.w64, String.string_bytes};
-ghost use Rattle.pagable_model.specs.{Gives.memory, Gives.json_causes, Lifted.MeanAll, Lifted.MeansPair, Numbers.unsigned_form, Shape.both, Shape.json, Shape.text, Standing.Is};
-ghost use Rattle.serde_json.specs.{Data.boolean, Data.number, Data.string, Data.array, Data.object, View.number_view, View.items_view, View.members_view};
-ghost use Rattle.pagable_traits.specs.{JsonData.of_data, JsonData.of_value, JsonData.of_key, JsonData.long_or_no_memory, JsonSteps.Wrote, JsonSteps.bytes, JsonSteps.front};
-ghost use Rattle.pagable_traits.specs.{JsonSteps.value as form, JsonSteps.all};
+ghost use Rattle.std.{specs.Int.w64, specs.String.string_bytes};
+ghost use Rattle.pagable_model.specs.{Gives.{memory, json_causes}, Lifted.{MeanAll, MeansPair}, Numbers.unsigned_form, Shape.{both, json, text}, Standing.Is};
+ghost use Rattle.serde_json.specs.{Data.{boolean, number, string, array, object}, View.{number_view, items_view, members_view}};
+ghost use Rattle.pagable_traits.specs.{JsonData.{of_data, of_value, of_key, long_or_no_memory}, JsonSteps.{Wrote, bytes, front, value as form, all}};
 
 use crate::traits::PagableSerialize;
 use pagable_codec::{Env, PagableSerializer, parts};

@@ -1,10 +1,9 @@
 //! Lists, and the items of a list in turn.
 
-ghost use Rattle.std.specs.{Prelude.◌≡◌, Prelude.◌≤◌, Prelude.◌++◌, Prelude.◌∷◌, Prelude.[], Prelude.map, Prelude.OnOk, Prelude.IfOk, Prelude.IfErr, Prelude.vec_len, Vec.vec_capacity};
-ghost use Rattle.pagable_model.specs.Writing.{nesting, WritesSome, WritesSomeAll, Refused, RefusedAll, Grows};
-ghost use Rattle.pagable_model.specs.{Gives.memory_or, Gives.long_or, Meaning.sequence, Shape.list, Reading.items, Reading.read, Standing.handles_at, Standing.MovesOn, Standing.GivesSome};
-ghost use Rattle.pagable_model.specs.{Causes.memory_or_is_own_reading, Causes.memory_or_may_refuse_writing, Causes.long_or_may_refuse_writing, Lifted.MeanAll, Lifted.MeansList};
-ghost use Rattle.pagable_model.specs.{Lifted.list_has_meaning, Lifted.list_is_meaning, Lifted.list_single};
+ghost use Rattle.std.{specs.Prelude.{◌≡◌, ◌++◌, ◌∷◌, [], map, OnOk, IfOk, IfErr, vec_len}, specs.Vec.vec_capacity};
+ghost use Rattle.pagable_model.specs.{Writing.{nesting, WritesSome, WritesSomeAll, Refused, RefusedAll, Grows}, Gives.{memory_or, long_or}, Meaning.sequence, Shape.list, Reading.{items, read}};
+ghost use Rattle.pagable_model.specs.{Standing.{handles_at, MovesOn, GivesSome}, Causes.{memory_or_is_own_reading, memory_or_may_refuse_writing, long_or_may_refuse_writing}, Lifted.MeanAll};
+ghost use Rattle.pagable_model.specs.Lifted.{MeansList, list_has_meaning, list_is_meaning, list_single};
 
 use crate::impls::collecting::{Collects, collect_items, read_collected};
 use crate::impls::walks::{write_counted, write_each};

@@ -1,10 +1,9 @@
 //! Maps.
 
-ghost use Rattle.std.specs.{Prelude.◌≡◌, Prelude.map, Prelude.OnOk, Prelude.IfErr, BTreeMap.insert_entry};
-ghost use Rattle.pagable_model.specs.Lifted.{MeansList, MeansPair, list_has_meaning, pair_has_meaning, list_is_meaning, pair_is_meaning, list_single, pair_single};
-ghost use Rattle.pagable_model.specs.{Gives.memory_or, Gives.either, Gives.long_or, Meaning.pair, Meaning.sequence, Shape.both, Shape.sorted_map, Writing.nesting, Writing.WritesSome};
-ghost use Rattle.pagable_model.specs.{Writing.Refused, Writing.Grows, Causes.memory_or_is_own_reading, Causes.memory_or_may_refuse_writing, Causes.long_or_may_refuse_writing};
-ghost use Rattle.pagable_model.specs.{Causes.either_is_own_reading, Causes.either_may_refuse_writing};
+ghost use Rattle.std.{specs.Prelude.{◌≡◌, map, OnOk, IfErr}, specs.BTreeMap.insert_entry};
+ghost use Rattle.pagable_model.specs.{Lifted.{MeansList, MeansPair, list_has_meaning, pair_has_meaning, list_is_meaning, pair_is_meaning, list_single, pair_single}, Gives.{memory_or, either}};
+ghost use Rattle.pagable_model.specs.{Gives.long_or, Meaning.{pair, sequence}, Shape.{both, sorted_map}, Writing.{nesting, WritesSome, Refused, Grows}, Causes.memory_or_is_own_reading};
+ghost use Rattle.pagable_model.specs.Causes.{memory_or_may_refuse_writing, long_or_may_refuse_writing, either_is_own_reading, either_may_refuse_writing};
 
 use crate::impls::collecting::{Collects, read_collected};
 use crate::impls::walks::write_counted;

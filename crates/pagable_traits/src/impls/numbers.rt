@@ -1,8 +1,10 @@
 //! Whole numbers without a sign.
+#![tactic(auto, using(pagable_codec::proofs::Writing::parts, crate::proofs::Basics::read_steps, crate::proofs::Basics::write_steps))]
 
 ghost use Rattle.std.specs.{Prelude.refl, Int.w8, Int.w16, Int.w32, Int.w64, Int.w128};
 ghost use Rattle.pagable_model.specs.{Gives.never, Gives.memory, Meaning.number, Shape.unsigned, Standing.Is, Causes.never_is_own_reading, Causes.memory_may_refuse_writing};
 
+use crate::alike::CarriedAs;
 use crate::traits::{Carried, OneMeaning, PagableDeserialize, PagableSerialize};
 use pagable_codec::{Env, PagableDeserializer, PagableSerializer, Reader};
 use pagable_flavors::Error;
@@ -203,20 +205,10 @@ impl<'de, E: Env> PagableDeserialize<'de, E> for u128 {
     }
 }
 
-impl<E: Env> Carried<E> for usize {
-    ghost shape = { λ e. unsigned w64 };
+impl CarriedAs for usize {
+    type Other = u64;
 
-    ghost means = { Is number };
-
-    ghost has_meaning = { λ x. (number x, refl) };
-}
-
-impl<E: Env> OneMeaning<E> for usize {
-    ghost meaning = { number };
-
-    ghost is_meaning = { λ x. refl };
-
-    ghost single = { λ x m is. is };
+    ghost other = { λ x. x };
 }
 
 impl<E: Env> PagableSerialize<E> for usize {

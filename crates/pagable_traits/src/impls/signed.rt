@@ -1,4 +1,5 @@
 //! Whole numbers with a sign.
+#![tactic(auto, using(pagable_codec::proofs::Writing::parts, crate::proofs::Basics::read_steps, crate::proofs::Basics::write_steps))]
 
 ghost use Rattle.std.specs.{Prelude.refl, Int.w8, Int.w16, Int.w32, Int.w64, Int.w128};
 ghost use Rattle.pagable_model.specs.{Gives.never, Gives.memory, Meaning.integer, Shape.signed, Standing.Is, Causes.never_is_own_reading, Causes.memory_may_refuse_writing};

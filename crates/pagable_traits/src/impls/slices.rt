@@ -1,9 +1,8 @@
 //! Slices, and lists that are kept in another way than in a `Vec`.
 
-ghost use Rattle.std.specs.{Prelude.◌≡◌, Prelude.map, Prelude.OnOk, Prelude.IfErr, Box.boxed_slice_items};
-ghost use Rattle.pagable_model.specs.{Gives.memory_or, Gives.long_or, Meaning.sequence, Shape.list, Shape.run, Writing.nesting, Writing.WritesSome, Writing.Refused, Writing.Grows};
-ghost use Rattle.pagable_model.specs.{Causes.memory_or_is_own_reading, Causes.memory_or_may_refuse_writing, Causes.long_or_may_refuse_writing, Lifted.MeansList, Lifted.list_has_meaning};
-ghost use Rattle.pagable_model.specs.{Lifted.list_is_meaning, Lifted.list_single};
+ghost use Rattle.std.{specs.Prelude.map, specs.Box.boxed_slice_items};
+ghost use Rattle.pagable_model.specs.{Gives.{memory_or, long_or}, Meaning.sequence, Shape.{list, run}, Causes.{memory_or_is_own_reading, memory_or_may_refuse_writing, long_or_may_refuse_writing}};
+ghost use Rattle.pagable_model.specs.Lifted.{MeansList, list_has_meaning, list_is_meaning, list_single};
 
 use crate::impls::lists::{serialize_slice, write_items};
 use crate::traits::{Carried, OneMeaning, PagableDeserialize, PagableSerialize};

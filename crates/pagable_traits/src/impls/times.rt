@@ -1,4 +1,5 @@
 //! Spans of time.
+#![tactic(auto, using(pagable_codec::proofs::Writing::parts, crate::proofs::Times::writes_span))]
 
 ghost use Rattle.std.specs.Prelude.{◌≡◌, ◌++◌, ◌<◌, ◌^◌, OnOk, IfErr, refl};
 ghost use Rattle.pagable_model.specs.{Basic.duration_at, Basic.duration_form, Gives.Gives, Gives.never, Gives.memory, Gives.Extends, Shape.duration, Standing.Is, Track.left, Track.GoesOn};

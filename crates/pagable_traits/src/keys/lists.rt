@@ -1,10 +1,9 @@
 //! Lists, and maps and sets in the order of their keys, as keys: they stand in the order of the first items that differ,
 //! and a list stands before one that goes on. Maps and sets in order of arrival are none, since these are equal in any order.
 
-ghost use Rattle.std.specs.{Prelude.◌&&◌, Prelude.map, Cmp.Lexicographic.pointwise, Cmp.Lexicographic.slice_cmp, Ordering.ordering_then, Box.boxed_slice_items};
+ghost use Rattle.std.{specs.Prelude.{◌&&◌, map}, specs.Cmp.Lexicographic.{pointwise, slice_cmp}, specs.Ordering.ordering_then, specs.Box.boxed_slice_items};
 ghost use Rattle.pagable_model.specs.KeyParts.{list_is_same, list_is_ordered, list_refers_to_nothing, array_refers_to_nothing, pair_is_same, pair_is_ordered, both_refers_to_nothing};
-ghost use Rattle.pagable_model.specs.KeyParts.{sorted_map_refers_to_nothing, sorted_set_refers_to_nothing};
-ghost use Rattle.pagable_model.specs.{Meaning.pair, Meaning.sequence, Shape.list, Keys.list_order, Keys.pair_order};
+ghost use Rattle.pagable_model.specs.{KeyParts.{sorted_map_refers_to_nothing, sorted_set_refers_to_nothing}, Meaning.{pair, sequence}, Shape.list, Keys.{list_order, pair_order}};
 
 use crate::impls::thin::Thin;
 use crate::keys::{PagableKey, PagableOrdKey};

@@ -2,8 +2,7 @@
 
 ghost use Rattle.pagable_model.specs.KeyParts.{option_is_same, option_is_ordered, optional_refers_to_nothing, result_is_same, result_is_ordered, outcome_refers_to_nothing, pair_is_same};
 ghost use Rattle.pagable_model.specs.KeyParts.{triple_is_same, quadruple_is_same, quintuple_is_same, pair_is_ordered, triple_is_ordered, quadruple_is_ordered, quintuple_is_ordered};
-ghost use Rattle.pagable_model.specs.KeyParts.{both_refers_to_nothing};
-ghost use Rattle.pagable_model.specs.{Keys.optional_order, Keys.outcome_order, Keys.pair_order, Shape.both};
+ghost use Rattle.pagable_model.specs.{KeyParts.both_refers_to_nothing, Keys.{optional_order, outcome_order, pair_order}, Shape.both};
 
 use crate::keys::{PagableKey, PagableOrdKey};
 use pagable_codec::env::Env;

@@ -1,7 +1,9 @@
-use Rattle.pagable_traits.proofs.{Basics.basic_read, Basics.unsigned_is, Words.w64, Words.unsigned_at, Words.number}
+use Rattle.pagable_traits.proofs.{Basics.reads_unsigned, Words.w64}
 use Rattle.pagable_traits.proofs.impls.numbers.UsizePagableDeserialize.pagable_deserialize.Goals as goal
 
-pub returns : goal.returns
-returns g c =
+pub returns-clause-gives : goal.returns-clause-gives
+returns-clause-gives g c =
     let law = g.met.D.PagableDeserializer in
-    basic_read _ (λ n. n) number (unsigned_at w64) _ _ (unsigned_is _ _ _) (law.bytes_are _) (law.rest_of_with _ _) (law.moves_of_with _ _) (law.environment_of_with _ _) (law.levels_of_with _ _) (rw c.serde.ensures.value at c.read_usize.ensures)
+    let track = g.D.Reader.Reader.track in
+    let told = rw c.serde.ensures.value at c.read_usize.ensures in
+    reads_unsigned _ _ _ (track (g.D.PagableDeserializer.reader c.args.deserializer.now)) (track c.read_usize.new.self) (law.bytes_are _) (law.rest_of_with _ _) w64 _ told.gives

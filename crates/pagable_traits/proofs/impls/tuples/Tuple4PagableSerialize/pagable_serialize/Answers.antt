@@ -1,11 +1,5 @@
-use Rattle.pagable_traits.proofs.{InTurn.first-refused, InTurn.second-after, Words.MeansPair, Words.pair_has_meaning, Words.both}
+use Rattle.pagable_traits.proofs.Joined.{pair_along, written_along}
 use Rattle.pagable_traits.proofs.impls.tuples.Tuple4PagableSerialize.pagable_serialize.Goals as goal
 
-pub returns-in_err-pagable_serialize : goal.returns-in_err-pagable_serialize
-returns-in_err-pagable_serialize g c = first-refused g.E.Env g.S.PagableSerializer (Unit {0}) g.A.Carried.means (MeansPair g.B.Carried.means (MeansPair g.C.Carried.means g.D.Carried.means)) (pair_has_meaning g.B.Carried.means (MeansPair g.C.Carried.means g.D.Carried.means) g.B.Carried.has_meaning (pair_has_meaning g.C.Carried.means g.D.Carried.means g.C.Carried.has_meaning g.D.Carried.has_meaning)) c.args.self.now.0 (c.args.self.now.1, (c.args.self.now.2, c.args.self.now.3)) g.A.Carried.shape (λ k. both (g.B.Carried.shape k) (both (g.C.Carried.shape k) (g.D.Carried.shape k))) _ _ c.from_residual.result c.from_residual.ensures.1 c.in_err-pagable_serialize.ensures
-
-pub returns-in_err-pagable_serialize-2 : goal.returns-in_err-pagable_serialize-2
-returns-in_err-pagable_serialize-2 g c = second-after g.E.Env g.S.PagableSerializer (tt {0}) g.A.Carried.means (MeansPair g.B.Carried.means (MeansPair g.C.Carried.means g.D.Carried.means)) g.A.Carried.has_meaning c.args.self.now.0 (c.args.self.now.1, (c.args.self.now.2, c.args.self.now.3)) g.A.Carried.shape (λ k. both (g.B.Carried.shape k) (both (g.C.Carried.shape k) (g.D.Carried.shape k))) _ _ c.from_residual-in_err-pagable_serialize-2.result c.in_ok-pagable_serialize.ensures (first-refused g.E.Env g.S.PagableSerializer (Unit {0}) g.B.Carried.means (MeansPair g.C.Carried.means g.D.Carried.means) (pair_has_meaning g.C.Carried.means g.D.Carried.means g.C.Carried.has_meaning g.D.Carried.has_meaning) c.args.self.now.1 (c.args.self.now.2, c.args.self.now.3) g.B.Carried.shape (λ k. both (g.C.Carried.shape k) (g.D.Carried.shape k)) _ _ c.from_residual-in_err-pagable_serialize-2.result c.from_residual-in_err-pagable_serialize-2.ensures.1 c.in_err-pagable_serialize-2.ensures)
-
 pub returns : goal.returns
-returns g c = second-after g.E.Env g.S.PagableSerializer (tt {0}) g.A.Carried.means (MeansPair g.B.Carried.means (MeansPair g.C.Carried.means g.D.Carried.means)) g.A.Carried.has_meaning c.args.self.now.0 (c.args.self.now.1, (c.args.self.now.2, c.args.self.now.3)) g.A.Carried.shape (λ k. both (g.B.Carried.shape k) (both (g.C.Carried.shape k) (g.D.Carried.shape k))) _ _ c.write_entry.result c.in_ok-pagable_serialize.ensures (second-after g.E.Env g.S.PagableSerializer (tt {0}) g.B.Carried.means (MeansPair g.C.Carried.means g.D.Carried.means) g.B.Carried.has_meaning c.args.self.now.1 (c.args.self.now.2, c.args.self.now.3) g.B.Carried.shape (λ k. both (g.C.Carried.shape k) (g.D.Carried.shape k)) _ _ c.write_entry.result c.in_ok-pagable_serialize-2.ensures c.write_entry.ensures)
+returns g c = written_along _ _ _ _ _ _ c.write_entry.ensures (pair_along _ _ _ _ _ _ (λ m h. h) (pair_along _ _ _ _ _ _ (λ m h. h) (pair_along _ _ _ _ _ _ (λ m h. h) (λ m h. h))))

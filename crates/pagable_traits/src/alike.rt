@@ -1,0 +1,66 @@
+//! Values that are carried as those of another type: lent and boxed values as they are, and tuples as pairs.
+
+ghost use Rattle.std.specs.Prelude.{◌≡◌};
+
+use crate::one_form::Canonical;
+use crate::read_back::ReadBack;
+use crate::traits::{Carried, OneMeaning, PagableDeserialize};
+use pagable_codec::{Env, PagableDeserializer};
+use pagable_flavors::Error;
+use std::alloc::Global;
+
+/// A type whose values are spelled, and mean, as those of another.
+pub trait CarriedAs {
+    type Other;
+
+    // What a value is carried as.
+    ghost other: { Self → Self.Other };
+}
+
+/// A type whose values are also read as those of another.
+pub trait ReadAs: CarriedAs + Sized {
+    /// The value that is carried as this one.
+    fn of_other(value: Self::Other) -> Self
+        ensures { Self.other result ≡ value };
+}
+
+impl<E: Env, O: Carried<E>, X: CarriedAs<Other = O>> Carried<E> for X {
+    ghost shape = { λ e. O.shape e };
+
+    ghost means = { λ x. O.means (X.other x) };
+
+    ghost has_meaning = { λ x. O.has_meaning (X.other x) };
+}
+
+impl<E: Env, O: OneMeaning<E>, X: CarriedAs<Other = O>> OneMeaning<E> for X {
+    ghost meaning = { λ x. O.meaning (X.other x) };
+
+    ghost is_meaning = { λ x. O.is_meaning (X.other x) };
+
+    ghost single = { λ x. O.single (X.other x) };
+}
+
+impl<E: Env, O: Canonical<E>, X: CarriedAs<Other = O>> Canonical<E> for X {
+    ghost one_form = { λ e. O.one_form e };
+}
+
+impl<E: Env, O: ReadBack<E>, X: CarriedAs<Other = O>> ReadBack<E> for X {
+    ghost is_read = { λ e. O.is_read e };
+}
+
+impl<'de, E: Env, O: PagableDeserialize<'de, E>, X: ReadAs<Other = O>> PagableDeserialize<'de, E>
+    for X {
+    ghost read_causes = { O.read_causes };
+
+    ghost read_causes_are_own = { O.read_causes_are_own };
+
+    fn pagable_deserialize<D: PagableDeserializer<E>>(
+        alloc: Global,
+        deserializer: &mut D,
+    ) -> Result<Self, Error> {
+        match <O as PagableDeserialize<E>>::pagable_deserialize(alloc, deserializer) {
+            Ok(value) => Ok(X::of_other(value)),
+            Err(refusal) => Err(refusal),
+        }
+    }
+}
