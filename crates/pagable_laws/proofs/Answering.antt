@@ -168,15 +168,7 @@ module _ {N B W E : Type 0} (m : Seen N B W) (s s' : MachineState N E) (trees tr
         leaves = λ walking key there e. is-after n reply w (λ x. LeavesAll m.values s'.pager (s'.work.shelves x.table) trees' x.task)
             (left-all w.walking.table w.walking.task key (done n reply w key e)) walking there;
       }
-  keys-right (Event.WorkerStep n) (EventReply.WorkerMoved (Err e)) is = record { publishes = tt; key = tt; leaves = tt }
-  keys-right (Event.WorkerStep n) reply is = absurd is
-  keys-right (Event.Call call) reply is = record { publishes = tt; key = tt; leaves = tt }
-  keys-right (Event.LoadStart h) reply is = record { publishes = tt; key = tt; leaves = tt }
-  keys-right (Event.LoadKey key t) reply is = record { publishes = tt; key = tt; leaves = tt }
-  keys-right (Event.LoadStep l) reply is = record { publishes = tt; key = tt; leaves = tt }
-  keys-right Event.TableNew reply is = record { publishes = tt; key = tt; leaves = tt }
-  keys-right (Event.WorkerItem t item) reply is = record { publishes = tt; key = tt; leaves = tt }
-  keys-right (Event.WorkerListed t i) reply is = record { publishes = tt; key = tt; leaves = tt }
+  keys-right event reply is = record { publishes = tt; key = tt; leaves = tt }
 
 -- ---- what a worker is about to set
 

@@ -180,15 +180,7 @@ module _ {N B W E : Type 0} (m : Seen N B W) (lawful : IsLawful m.values) (s s' 
       let step = subst (λ (t : List Todo). workers.Does m n.0 (record { core = s.pager.core; shelf = s.work.shelves x.walking.table; todo = x.walking.todo }) t (Took.Pin i
       (Err Error.TooDeep)) x.after) front does in
       by-reading (owner_worker n.0) reading load (of_worker n.0 place walking r through below there todo) open_load x.after.core step.1.refused.0.does.0
-  load-deep (Event.LoadStep l) (EventReply.LoadMoved (Err e)) is = tt
-  load-deep (Event.WorkerStep n) (EventReply.WorkerMoved (Err e)) is = tt
-  load-deep (Event.Call call) reply is = tt
-  load-deep (Event.LoadStart h) reply is = tt
-  load-deep (Event.LoadKey key t) reply is = tt
-  load-deep Event.TableNew reply is = tt
-  load-deep (Event.WorkerItem t item) reply is = tt
-  load-deep (Event.WorkerListed t i) reply is = tt
-  load-deep _ reply is = absurd is
+  load-deep event reply is = tt
 
 pub deep_load_law : {N B W : Type 0} (E : Type 0) (m : Seen N B W) → DeepLoadLaw E m
 deep_load_law E m start moments trees whole idle chain stands lawful readable settled = grind (arith, along-first, load-deep)

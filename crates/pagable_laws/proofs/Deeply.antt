@@ -19,15 +19,7 @@ module _ {N B W E : Type 0} (m : Seen N B W) (s s' : MachineState N E) (trees tr
         task-not-deep m.values s trees fit low w.walking.table w.walking.task l,
         task-has-forms m.values s trees fit w.walking.table w.walking.task key a.done,
       )
-  key-is-shallow (Event.WorkerStep n) (EventReply.WorkerMoved (Err e)) is = tt
-  key-is-shallow (Event.WorkerStep n) reply is = absurd is
-  key-is-shallow (Event.Call call) reply is = tt
-  key-is-shallow (Event.LoadStart h) reply is = tt
-  key-is-shallow (Event.LoadKey key t) reply is = tt
-  key-is-shallow (Event.LoadStep l) reply is = tt
-  key-is-shallow Event.TableNew reply is = tt
-  key-is-shallow (Event.WorkerItem t item) reply is = tt
-  key-is-shallow (Event.WorkerListed t i) reply is = tt
+  key-is-shallow event reply is = tt
 
 -- what a worker answers that leads down so, and met no other refusal
 module _ {N B W E : Type 0} (m : Seen N B W) (s s' : MachineState N E) (trees trees' : ℕ → Tree) where
@@ -51,15 +43,7 @@ module _ {N B W E : Type 0} (m : Seen N B W) (s s' : MachineState N E) (trees tr
       of shelf steps (WorkerAnswer.Key key) alone e met none = absurd (none key e)
       of shelf steps (WorkerAnswer.Failed f) alone e (step, among, is) none = ap WorkerAnswer.Failed (alone.0 step f among is)
       of shelf steps WorkerAnswer.AlreadyFailed alone e (i, among, elsewhere) none = absurd (alone.1 i among)
-  depth-is-told (Event.WorkerStep n) (EventReply.WorkerMoved (Err e)) is shallow = tt
-  depth-is-told (Event.WorkerStep n) reply is shallow = absurd is
-  depth-is-told (Event.Call call) reply is shallow = tt
-  depth-is-told (Event.LoadStart h) reply is shallow = tt
-  depth-is-told (Event.LoadKey key t) reply is shallow = tt
-  depth-is-told (Event.LoadStep l) reply is shallow = tt
-  depth-is-told Event.TableNew reply is shallow = tt
-  depth-is-told (Event.WorkerItem t item) reply is shallow = tt
-  depth-is-told (Event.WorkerListed t i) reply is shallow = tt
+  depth-is-told event reply is shallow = tt
 
 -- a claim that is refused as too deep
 module _ {N B W E : Type 0} (m : Seen N B W) (s s' : MachineState N E) (trees trees' : ℕ → Tree) (fit : WorkFits m.values s trees) (low : HeightsIn (world_of s)) (work : StandsIn (world_of s)) where

@@ -73,7 +73,6 @@ mod Asking
 mod KnownSteps
 mod Chains
 mod Tested
-mod States
 mod Walks
 mod Loaded
 mod Level

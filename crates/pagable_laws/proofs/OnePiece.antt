@@ -305,15 +305,7 @@ module _ {N B W E : Type 0} (m : Seen N B W) where
           by load e open_load paged ended (going ready turns) = sound m lawful readable s x.after trees on whole' low l reply h.moves ready load e open_load paged ended
           by load e open_load paged ended (off none) = absurd (none 0 x refl (ap (λ (v : Event N B W). turn_of v x.reply) same))
           by load e open_load paged ended (ahead first) = absurd (let b = first 0 x refl same in let lt = b.before in omega (arith, lt))
-      load-sound low stage trees' (Event.LoadStep l) (EventReply.LoadMoved (Err e)) same h = tt
-      load-sound low stage trees' (Event.LoadStep l) reply same h = absurd h
-      load-sound low stage trees' (Event.Call call) reply same h = tt
-      load-sound low stage trees' (Event.LoadStart k) reply same h = tt
-      load-sound low stage trees' (Event.LoadKey key t) reply same h = tt
-      load-sound low stage trees' (Event.WorkerStep n) reply same h = tt
-      load-sound low stage trees' Event.TableNew reply same h = tt
-      load-sound low stage trees' (Event.WorkerItem t item) reply same h = tt
-      load-sound low stage trees' (Event.WorkerListed t i) reply same h = tt
+      load-sound low stage trees' event reply same h = tt
 
     sound-along : (s : MachineState N E) (trees : ℕ → Tree) (xs : List (Moment N E B W)) → IsGoingOn m.values s trees → HeightsIn (world_of s) → StandTogether xs
         → ((l : LoadNumber) → Stage s l xs) → AreMoments m s xs

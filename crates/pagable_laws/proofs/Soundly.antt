@@ -47,15 +47,7 @@ module _ {N B W E : Type 0} (m : Seen N B W) (lawful : IsLawful m.values) (reada
     | by-references frame below x frames decoded form fault ↦ inr (by-all s.pager.core _ [] (m.values.references x) e fault)
     | by-handle node t h root fault ↦ inr (by-handle-row s.pager.core Owner.Caller h any_mode e fault)
   ]
-  load-faultless (Event.LoadStep l) (EventReply.LoadMoved (Err e)) is = tt
-  load-faultless (Event.LoadStep l) reply is = absurd is
-  load-faultless (Event.Call call) reply is = tt
-  load-faultless (Event.LoadStart h) reply is = tt
-  load-faultless (Event.LoadKey key t) reply is = tt
-  load-faultless (Event.WorkerStep n) reply is = tt
-  load-faultless Event.TableNew reply is = tt
-  load-faultless (Event.WorkerItem t item) reply is = tt
-  load-faultless (Event.WorkerListed t i) reply is = tt
+  load-faultless event reply is = tt
 
 pub faultless_law : {N B W : Type 0} (E : Type 0) (m : Seen N B W) → FaultlessLaw E m
 faultless_law E m start moments trees whole idle chain stands lawful readable settled = search (rules, along-first, load-faultless)

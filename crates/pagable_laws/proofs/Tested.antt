@@ -90,7 +90,7 @@ never n = false
 abbrev pub is_low : Core → Bool
 is_low w = all_pass row_low w.rows
 
-pub falls-so : (before w : Core) (given gone : ℕ → Bool) → is_low before ≡ true → nat_le w.last.handle 13 ≡ true → agree_below (lists_none before w gone) never 4 ≡ true
+pub falls-so : (before w : Core) (given gone : ℕ → Bool) → is_low before ≡ true → nat_le w.last.handle 9 ≡ true → agree_below (lists_none before w gone) never 4 ≡ true
     → IsLeast w.rows (is_keyed w) [] given gone → Falls before w given (Ok tt) (fallen w gone [])
 falls-so before w given gone low few none least =
     record {
@@ -101,7 +101,7 @@ falls-so before w given gone low few none least =
       only = λ n some. absurd (omega arith);
       each = λ n must. absurd (no-must n must);
       tells = record { all = λ n must. absurd (no-must n must); not_all = tt };
-      within = let b : w.last.handle ≤ 13 = grind (arith, nat_tests) in omega arith;
+      within = let b : w.last.handle ≤ 9 = grind (arith, nat_tests) in omega arith;
       leaves = alike-self (fallen w gone []);
     }
   where
@@ -111,10 +111,12 @@ falls-so before w given gone low few none least =
         let a = must.pinned in let b = must.unpinned in let c = must.unkeyed in grind (arith, nat_tests)
 
 -- the given handles fall alone, if no value that goes owns another
-pub falls-alone : (before w : Core) (given : ℕ → Bool) → is_low before ≡ true → is_low w ≡ true → nat_le w.last.handle 13 ≡ true → agree_below (lists_none before w given) never 4 ≡ true
-    → agree_below (takes_more w given) never 4 ≡ true
-    → Falls before w given (Ok tt) (fallen w given [])
-falls-alone before w given low_before low few none ok =
+abbrev pub AreAlone : Core → Core → (ℕ → Bool) → Type 0
+AreAlone before w given =
+    (is_low before ≡ true) × (is_low w ≡ true) × (nat_le w.last.handle 9 ≡ true) × (agree_below (lists_none before w given) never 4 ≡ true) × (agree_below (takes_more w given) never 4 ≡ true)
+
+pub falls-alone : (before w : Core) (given : ℕ → Bool) → AreAlone before w given → Falls before w given (Ok tt) (fallen w given [])
+falls-alone before w given (low_before, low, few, none, ok) =
     falls-so before w given given low_before few none (record {
       holds = sum-zero (λ h. one (given h.number.0 && not (given h.number.0))) w.rows (λ h among. self (given h.number.0));
       closed = λ n goes. let a = by-number 3 (takes_more w given) never ok (λ n lt. past (loses_value w.rows (is_keyed w) [] given n) (owned-past w.rows low n lt (is_outside given))) n in
@@ -132,11 +134,11 @@ falls-alone before w given low_before low few none ok =
 
 -- ---- what is whole
 
--- no row or value past the node 3, no load past 3, no worker past 1
-pub record IsFew (w : Core) : Type 0 where
-  pub cells : (n : ℕ) → 3 < n → w.cells n ≡ None
-  pub loads : (l : ℕ) → 3 < l → w.loads l ≡ None
-  pub workers : (v : ℕ) → 1 < v → w.workers v ≡ false
+-- no cell past the node 3, no load past 3, no worker past 1; and the cache knows the node 3 at most, by the kind 4 and the key 8
+abbrev pub Few : Core → Type 0
+Few w =
+    ((n : ℕ) → 3 < n → w.cells n ≡ None) × ((l : ℕ) → 3 < l → w.loads l ≡ None) × ((v : ℕ) → 1 < v → w.workers v ≡ false)
+    × ((kind key n : ℕ) → w.cache kind key ≡ Some n → (kind ≡ 4) × (key ≡ 8) × (n ≡ 3))
 
 abbrev pub numbers_rise : ℕ → List HandleRow → Bool
 numbers_rise low [] = true
@@ -189,41 +191,36 @@ abbrev pub owns : Core → ℕ → ℕ → ℕ
 owns w n q = times (λ h. is_handle q h && is_owned_by (owner_value n) h) w.rows
 
 abbrev pub refers_to_own : Core → List (Option Sample) → ℕ → Bool
-refers_to_own w vs n = if_there (λ x. agree_below (λ q. nat_eq (refers x q) (owns w n q)) (λ q. true) 14) (nat_eq (times (is_owned_by (owner_value n)) w.rows) 0) (value_at vs n)
+refers_to_own w vs n = if_there (λ x. agree_below (λ q. nat_eq (refers x q) (owns w n q)) (λ q. true) 10) (nat_eq (times (is_owned_by (owner_value n)) w.rows) 0) (value_at vs n)
 
 abbrev pub row_refers : ℕ → ArcRef → HandleRow → Bool
 row_refers n r h = nat_eq h.node.0 r.node.0 && (is_owner (owner_value n) h.owner && fits_mode r.kind.0 h.mode)
 
 abbrev pub reference_stands : Core → ℕ → ArcRef → Bool
-reference_stands w n r = nat_le r.handle.0 13 && (if_there (row_refers n r) false (row_at w r.handle) && is_type (type_of r.kind.0) (type_at w r.node.0))
+reference_stands w n r = nat_le r.handle.0 9 && (if_there (row_refers n r) false (row_at w r.handle) && is_type (type_of r.kind.0) (type_at w r.node.0))
 
 abbrev pub references_stand : Core → List (Option Sample) → ℕ → Bool
 references_stand w vs n = if_there (λ x. all_pass (reference_stands w n) (sample_references x)) true (value_at vs n)
 
--- the cache knows the third node at most, as one of kind 4
-pub record KnowsThird (w : Core) : Type 0 where
-  pub knows : (kind key n : ℕ) → w.cache kind key ≡ Some n → (kind ≡ 4) × (n ≡ 3) × (3 ≤ w.last.node)
-
 -- all that is tested of a pager
 pub record Passes (w : Core) (vs : List (Option Sample)) : Type 0 where
-  pub few : IsFew w
   pub short : nat_le (length vs) 4 ≡ true
-  pub cache : KnowsThird w
   pub list : w.list ≡ []
   pub stands_open : w.closed ≡ false
   pub low : is_low w ≡ true
   pub rise : numbers_rise 0 w.rows ≡ true
   pub rows : all_pass (row_there w) w.rows ≡ true
-  pub room : (nat_le w.last.handle 13 ≡ true) × (nat_le w.last.node 3 ≡ true) × (nat_le w.last.load 3 ≡ true) × (nat_le (length w.rows) w.places.handles ≡ true)
+  pub room : (nat_le w.last.handle 9 ≡ true) × (nat_le w.last.node 3 ≡ true) × (nat_le w.last.load 3 ≡ true) × (nat_le (length w.rows) w.places.handles ≡ true)
   pub given : agree_below (node_given w) never 4 ≡ true
   pub live : agree_below (λ n. is_some (w.cells n)) (λ n. nat_lt 0 (held n w.rows)) 4 ≡ true
   pub loads : agree_below (load_fits w) (λ l. true) 4 ≡ true
+  pub first : w.workers 0 ≡ false
   pub workers : agree_below (λ v. w.workers v && not (nat_le v w.last.worker)) never 2 ≡ true
   pub valued : agree_below (λ n. is_some (value_at vs n)) (λ n. is_some (w.cells n) && is_here w n) 4 ≡ true
   pub typed : agree_below (value_typed w vs) (λ n. true) 4 ≡ true
   pub inside : agree_below (refers_to_own w vs) (λ n. true) 4 ≡ true
   pub references : agree_below (references_stand w vs) (λ n. true) 4 ≡ true
-  pub third : if_there (λ t. t == 1) true (type_at w 3) ≡ true
+  pub third : (if_there (λ t. t == 1) true (type_at w 3) ≡ true) × (if_there (λ n. nat_le n w.last.node) true (w.cache 4 8) ≡ true)
 
 -- ---- what the tests tell
 
@@ -238,7 +235,7 @@ some-of test x1 y ok is = grind (arith, nat_tests)
 is-caller : (o : Owner) → is_owner Owner.Caller o ≡ true → o ≡ Owner.Caller
 is-caller x0 ok = grind (arith, nat_tests)
 
-module _ (w : Core) (vs : List (Option Sample)) (p : Passes w vs) where
+module _ (w : Core) (vs : List (Option Sample)) (few : Few w) (p : Passes w vs) where
   short : (n : ℕ) → 3 < n → value_at vs n ≡ None
   short n lt = let a = p.short in past-end vs n (grind (arith, nat_tests))
 
@@ -256,11 +253,11 @@ module _ (w : Core) (vs : List (Option Sample)) (p : Passes w vs) where
   node-given n some = grind (arith, nat_tests, and_parts, by-number)
 
   live : (n : ℕ) → is_some (w.cells n) ≡ nat_lt 0 (held n w.rows)
-  live = by-number 3 (λ n. is_some (w.cells n)) (λ n. nat_lt 0 (held n w.rows)) p.live (λ n lt. let e = p.few.cells n lt in let f = held-past w.rows p.low n lt in rw (e, f) refl)
+  live = by-number 3 (λ n. is_some (w.cells n)) (λ n. nat_lt 0 (held n w.rows)) p.live (λ n lt. let e = few.0 n lt in let f = held-past w.rows p.low n lt in rw (e, f) refl)
 
   load-parts : (l : ℕ) (load : OpenLoad) → w.loads l ≡ Some load → (0 < l) × (l ≤ w.last.load) × (load.owner ≡ Owner.Caller) × (root_fits w load.root ≡ true)
   load-parts l load is =
-      let test = by-number 3 (load_fits w) (λ l. true) p.loads (λ l lt. let e = p.few.loads l lt in rw e refl) l in
+      let test = by-number 3 (load_fits w) (λ l. true) p.loads (λ l lt. let e = few.1 l lt in rw e refl) l in
       let a = some-of (λ (load : OpenLoad). nat_lt 0 l && (nat_le l w.last.load && (is_owner Owner.Caller load.owner && root_fits w load.root))) (w.loads l) load test is in
       let b = and_parts (nat_lt 0 l) (nat_le l w.last.load && (is_owner Owner.Caller load.owner && root_fits w load.root)) a in
       let c = and_parts (nat_le l w.last.load) (is_owner Owner.Caller load.owner && root_fits w load.root) b.1 in
@@ -279,25 +276,25 @@ module _ (w : Core) (vs : List (Option Sample)) (p : Passes w vs) where
   refers-to = of-value (λ n x. all_pass (reference_stands w n) (sample_references x)) p.references
 
   own-test : (n : ℕ) (found : Option Sample) → value_at vs n ≡ found
-      → if_there (λ x. agree_below (λ q. nat_eq (refers x q) (owns w n q)) (λ q. true) 14) (nat_eq (times (is_owned_by (owner_value n)) w.rows) 0) found ≡ true
-  own-test n found is = subst (λ f. if_there (λ x. agree_below (λ q. nat_eq (refers x q) (owns w n q)) (λ q. true) 14) (nat_eq (times (is_owned_by (owner_value n)) w.rows) 0) f ≡ true) is
+      → if_there (λ x. agree_below (λ q. nat_eq (refers x q) (owns w n q)) (λ q. true) 10) (nat_eq (times (is_owned_by (owner_value n)) w.rows) 0) found ≡ true
+  own-test n found is = subst (λ f. if_there (λ x. agree_below (λ q. nat_eq (refers x q) (owns w n q)) (λ q. true) 10) (nat_eq (times (is_owned_by (owner_value n)) w.rows) 0) f ≡ true) is
       (by-number 3 (refers_to_own w vs) (λ n. true) p.inside past n)
     where
       past : (n : ℕ) → 3 < n → refers_to_own w vs n ≡ true
       past n lt = let e = short n lt in let f = owns-past w.rows p.low n lt in rw (e, f) refl
 
   inside : (n : ℕ) (x : Sample) (q : ℕ) → value_at vs n ≡ Some x → refers x q ≡ owns w n q
-  inside n x q is = let a = by-number 13 (λ q. nat_eq (refers x q) (owns w n q)) (λ q. true) (own-test n (Some x) is) past q in grind (arith, nat_tests)
+  inside n x q is = let a = by-number 9 (λ q. nat_eq (refers x q) (owns w n q)) (λ q. true) (own-test n (Some x) is) past q in grind (arith, nat_tests)
     where
       and-false : (a b : Bool) → a ≡ false → (a && b) ≡ false
       and-false true b e = absurd (cc)
       and-false false b e = refl
 
-      past : (q : ℕ) → 13 < q → nat_eq (refers x q) (owns w n q) ≡ true
+      past : (q : ℕ) → 9 < q → nat_eq (refers x q) (owns w n q) ≡ true
       past q lt =
           let few = p.room.0 in
           let a : refers x q ≡ 0 = none-pass (reference_stands w n) (λ (r : ArcRef). r.handle.0 == q) (sample_references x) (refers-to n x is)
-          (λ r ok. let b = (and_parts (nat_le r.handle.0 13) (if_there (row_refers n r) false (row_at w r.handle) && is_type (type_of r.kind.0) (type_at w r.node.0)) ok).0 in
+          (λ r ok. let b = (and_parts (nat_le r.handle.0 9) (if_there (row_refers n r) false (row_at w r.handle) && is_type (type_of r.kind.0) (type_at w r.node.0)) ok).0 in
           grind (arith, nat_tests)) in
           let c : owns w n q ≡ 0 = none-pass (row_there w) (λ h. is_handle q h && is_owned_by (owner_value n) h) w.rows p.rows
           (λ h ok. let b = and_parts (nat_lt 0 h.number.0) (nat_le h.number.0 w.last.handle && owner_there w h.owner) ok in
@@ -335,7 +332,7 @@ module _ (w : Core) (vs : List (Option Sample)) (p : Passes w vs) where
             ordered = (ordered 0 w.rows p.rise).0;
             numbered = λ h among. let a = row-parts h among in (a.0, a.1);
             nodes_numbered = node-given;
-            within = let a : w.last.handle ≤ 13 = grind (arith, nat_tests) in let b : w.last.node ≤ 3 = grind (arith, nat_tests) in let c : w.last.load ≤ 3 = grind (arith, nat_tests) in
+            within = let a : w.last.handle ≤ 9 = grind (arith, nat_tests) in let b : w.last.node ≤ 3 = grind (arith, nat_tests) in let c : w.last.load ≤ 3 = grind (arith, nat_tests) in
                 (omega arith, omega arith, omega arith);
             live = live;
             uniform = λ n. inl (unshared w.rows p.low n);
@@ -353,19 +350,19 @@ module _ (w : Core) (vs : List (Option Sample)) (p : Passes w vs) where
             owned = λ l load is. subst (λ o. MayOwnLoad w o) (sym (load-parts l load is).2) tt;
             roots = λ l load node t h is root. root-whole node t h (subst (λ r. root_fits w r ≡ true) root (load-parts l load is).3);
           };
-          cache = λ kind key n is. let (four, three, given) = p.cache.knows kind key n is in
+          cache = λ kind key n is. let (four, eight, three) = few.3 kind key n is in
               record {
-                given = omega arith;
-                typed = λ t at. let a : type_at w 3 ≡ Some t = subst (λ k. type_at w k ≡ Some t) three at in let b = some-of (λ t. t == 1) (type_at w 3) t p.third a in
+                given = let a : w.cache 4 8 ≡ Some n = cc in let b = some-of (λ n. nat_le n w.last.node) (w.cache 4 8) n p.third.1 a in grind (arith, nat_tests);
+                typed = λ t at. let a : type_at w 3 ≡ Some t = subst (λ k. type_at w k ≡ Some t) three at in let b = some-of (λ t. t == 1) (type_at w 3) t p.third.0 a in
                     let c : t ≡ 1 = grind (arith, nat_tests) in c ∙ ap type_of (sym four);
                 shares = λ h among at. entry-shares h among ∙ ap is_shared_kind (sym four);
               };
-          workers_numbered = λ v is. let a = by-number 1 (λ v. w.workers v && not (nat_le v w.last.worker)) never p.workers (λ v lt. let e = p.few.workers v lt in rw e refl) v in
+          workers_numbered = λ v is. let a = by-number 1 (λ v. w.workers v && not (nat_le v w.last.worker)) never p.workers (λ v lt. let e = few.2 v lt in rw e refl) v in
               grind (arith, nat_tests);
           shut = λ closed. let e = p.stands_open in absurd (cc);
         };
         counted = λ n. refl;
-        valued = by-number 3 (λ n. is_some (value_at vs n)) (λ n. is_some (w.cells n) && is_here w n) p.valued (λ n lt. let e = short n lt in let f = p.few.cells n lt in rw (e, f) refl);
+        valued = by-number 3 (λ n. is_some (value_at vs n)) (λ n. is_some (w.cells n) && is_here w n) p.valued (λ n lt. let e = short n lt in let f = few.0 n lt in rw (e, f) refl);
         typed = λ n x is. typed-by (sample_type x) (type_at w n) (of-value (λ n x. is_type (sample_type x) (type_at w n)) p.typed n x is);
         inside = λ n x q is. inside n x q is;
         bare = λ n is. let a = own-test n None is in grind (arith, nat_tests);

@@ -1,241 +1,249 @@
--- The births and the page-out of the chain of two levels, step by step.
-use Rattle.pagable_laws.proofs.Words.{◌++◌, ◌≡◌, ℕ, ◌+◌, ◌≤◌, true, false, List, [], ◌∷◌, length, refl, inl, inr, arith, Some, None, Ok, nat_le, agree_below, blob_of, ArcRef, HandleNumber, Blob, Took}
-use Rattle.pagable_laws.proofs.Words.{Owner, Mode, Pinning, Claim, PinStep, nat_tests, identity_of, Core, Shelf, Written, Todo, to_start, to_pin, to_write, to_set, to_publish, to_release}
-use Rattle.pagable_laws.proofs.Words.{to_finish, to_item, Open, row_at, is_here, digest, nobody, row_of, with_key, CloneCall, PinCall, StoreCall, WalkDoes, claim_fault, open_node, give}
-use Rattle.pagable_laws.proofs.Words.{is_workers_at, nothing-form, reference-form, preimage, find_row, owner_value, is_named_by, FallsAnyhow, without_worker, is_workers, no_shelf, MachineState}
-use Rattle.pagable_laws.proofs.Words.{IsWrittenOf, AreMoments, zero, suc, ◌<◌, Option, ◌⊎◌, is_in, Reading, Work, references_fault, WorkStays, OnlyCore, no_work}
-use Rattle.pagable_laws.proofs.States.{same-shelf, ◌⨾◌, worker-does, begun-passes, parent-pinned-passes, both-pinned-passes, child-stored-passes, child-keyed-passes, child-released-passes}
-use Rattle.pagable_laws.proofs.States.{parent-stored-passes, parent-keyed-passes, parent-released-passes, answered-passes, none-there, child-passes, both-passes, idle-whole, work-whole}
-use Rattle.pagable_laws.proofs.{States.reads-none, Tested.alike-self, Tested.falls-alone, Tested.is_low, Tested.never, Tested.lists_none, Tested.takes_more}
+-- The page-out of the chain of two levels: what a step of its worker asks of pager, table and list, and that it is then one of the machine.
+use Rattle.pagable_laws.proofs.Words.{◌++◌, ◌≡◌, ◌==◌, ℕ, zero, suc, ◌+◌, ◌<◌, ◌≤◌, Bool, true, false, List, [], ◌∷◌, length, refl, inl, inr, arith, Some, None, Option, Ok, nat_le, is_some, is_none, if_there}
+use Rattle.pagable_laws.proofs.Words.{blob_of, HandleNumber, NodeNumber, Blob, Took, Owner, Mode, Pinning, PinStep, WorkerAnswer, HandleRow, PagerState, TodoTakesWell, ArePremised, find_row, is_named_by, preimage, IsSettled, sym, ◌∙◌, nat_tests, identity_of, Core, Shelf, Written, Todo, Reading}
+use Rattle.pagable_laws.proofs.Words.{to_start, to_pin, to_load, to_write, to_set, to_publish, to_release, to_finish, to_item, row_at, is_here, digest, nobody, row_of, with_key, CloneCall, PinCall, StoreCall}
+use Rattle.pagable_laws.proofs.Words.{WalkDoes, claim_fault, is_workers_at, nothing-form, reference-form, fallen, without_worker, is_workers, IsWrittenOf, AreMoments, Walking, updated, MachineState, Ends}
+use Rattle.pagable_laws.proofs.Words.{answer_after, is_counted, steps_after, TookWrites, SameShelf, no_shelf, IsMachineWhole, IsReadingWhole, IsWalkingWhole, value_at, owner_worker, Values}
+use Rattle.pagable_laws.proofs.Tested.{alike-self, falls-alone, AreAlone, Few, Passes, whole-so, updated-past}
+use Rattle.pagable_world.specs.{Workers.Site, World.HasForm, Runs.Does}
 use Rattle.pagable_laws.specs.TwoLevels as two
 
+-- ---- the machine over a pager that passes
+
+-- the worker is at work exactly until it has answered; what is read is a load of the caller's
+abbrev pub FitsWalking : Core → Option Walking → Type 0
+FitsWalking w None = w.workers 1 ≡ false
+FitsWalking w (Some x) = (x.table ≡ 1) × (w.workers 1 ≡ is_none x.answer)
+
+abbrev pub FitsReading : Core → Option Reading → Type 0
+FitsReading w None = Unit {0}
+FitsReading w (Some r) = IsReadingWhole w r.load.0 r
+
+-- all that is asked of a pager with these values
+abbrev pub Good : Core → List (Option two.Sample) → Type 0
+Good w vs = Few w × Passes w vs
+
+pub whole-at : (w : Core) (vs : List (Option two.Sample)) (shelf : Shelf) (walking : Option Walking) (reading : Option Reading) → Good w vs → FitsWalking w walking → FitsReading w reading
+    → IsMachineWhole two.sample (two.machine w vs (two.work_of shelf walking reading))
+whole-at w vs shelf walking reading (few, p) walks reads = record { pager = whole-so w vs few p; readings = read-so reading reads; walkings = walk-so walking walks; all_there = there walking walks }
+  where
+    read-so : (reading : Option Reading) → FitsReading w reading → (l : ℕ) (r : Reading) → two.reads reading l ≡ Some r → IsReadingWhole w l r
+    read-so reading fits l r is = grind (arith, nat_tests)
+
+    walk-so : (walking : Option Walking) → FitsWalking w walking → (n : ℕ) (x : Walking) → updated 1 walking (λ v. None) n ≡ Some x → IsWalkingWhole w (two.work_of shelf walking reading) n x
+    walk-so walking fits n x is = grind (arith, nat_tests)
+
+    there : (walking : Option Walking) → FitsWalking w walking → (n : ℕ) → w.workers n ≡ true → is_some (updated 1 walking (λ v. None) n) ≡ true
+    there walking fits zero is = let e = p.first in absurd (cc)
+    there None fits (suc zero) is = absurd (cc)
+    there (Some x) fits (suc zero) is = refl
+    there walking fits (suc (suc n)) is = let e = few.2 (suc (suc n)) (omega arith) in absurd (cc)
+
+-- what is few stays few
+pub few-key : (w : Core) (n : NodeNumber) (key : ℕ) → Few w → Few (with_key w n key)
+few-key w n key few = (keyed, few.1, few.2, few.3)
+  where
+    keyed : (m : ℕ) → 3 < m → (with_key w n key).cells m ≡ None
+    keyed m lt = let e = few.0 m lt in grind (arith, nat_tests)
+
+pub few-fallen : (w : Core) (gone : ℕ → Bool) → Few w → Few (fallen w gone [])
+few-fallen w gone few = (λ n lt. let e = few.0 n lt in grind (arith, nat_tests), few.1, few.2, few.3)
+
+few-ended : (answer : Option WorkerAnswer) (w : Core) → Few w → Few (two.ended answer w)
+few-ended None w few = few
+few-ended (Some answer) w few =
+    few-fallen (without_worker w 1) (is_workers w 1) (few.0, λ l lt. let e = few.1 l lt in grind (arith, nat_tests), updated-past 1 1 false false w.workers (omega arith) few.2, few.3)
+
+-- ---- each step
+
+pub same-shelf : (s : Shelf) → SameShelf s s
+same-shelf s = record { slots = λ i. refl; waits = λ v. refl }
+
+abbrev site : Core → Shelf → List Todo → Site
+site w s todo = record { core = w; shelf = s; todo = todo }
+
 -- a step of the worker at pager, table and list
-abbrev pub Walks : Core → Shelf → List Todo → Took Written → Core → Shelf → List Todo → Type 0
-Walks core shelf todo step core' shelf' todo' = WalkDoes two.sample_seen 1 (record { core = core; shelf = shelf; todo = todo }) step (record { core = core'; shelf = shelf'; todo = todo' })
+abbrev Walks : Core → Shelf → List Todo → Took Written → Core → Shelf → List Todo → Type 0
+Walks w s todo step w' s' todo' = WalkDoes two.sample_seen 1 (site w s todo) step (site w' s' todo')
 
--- ---- each step, of any pager
+-- what a store asks; and what a step does
+abbrev CanStore : Core → Written → List ℕ → Type 0
+CanStore w written keys = (length keys ≡ length written.references) × (w.closed ≡ false) × (w.stored (digest two.sample (blob_of written.bytes keys)) ≡ None)
 
-pub claims-it : (core : Core) (shelf : Shelf) (r : ArcRef) (below : List Todo) → claim_fault core r ≡ None → shelf.slots (identity_of r) ≡ None
-    → Walks core shelf (to_start r 0 ∷ below) (Took.Claim (identity_of r) (Ok Claim.Claimed)) core (two.claimed shelf r) (to_pin r 0 ∷ below)
-claims-it core shelf r below good free = grind (arith, nat_tests, alike-self, same-shelf)
+abbrev owner_at : Core → HandleNumber → Owner
+owner_at w h = if_there (λ (row : HandleRow). row.owner) Owner.Caller (row_at w h)
 
--- a loose pinned handle is cloned, and the clone is pinned
-pub pins-it : (core : Core) (shelf : Shelf) (n : ℕ) (r : ArcRef) (owner : Owner) (below : List Todo) → let q = core.last.handle + 1 in
-    row_at core r.handle ≡ Some (row_of r.handle.0 (two.node n) Mode.LoosePinned owner)
-    → row_at (two.cloned core n) (two.handle q) ≡ Some (row_of q (two.node n) Mode.LoosePinned two.worker) → is_here (two.cloned core n) n ≡ true → nat_le core.last.handle 10 ≡ true
-    → Walks core shelf (to_pin r 0 ∷ below) (Took.Pin (identity_of r) (Ok (PinStep.Held (two.handle (q + 1))))) (two.pinned_at core n) shelf (to_write r 0 (two.handle q) ∷ below)
-pins-it core shelf n r owner below live clone_live is_there few =
+abbrev HasKind : two.Sample → Type 0
+HasKind two.leaf = Unit {0}
+HasKind (two.parent r) = r.kind.0 ≡ 4
+
+abbrev Asks : Core → Shelf → List Todo → Type 0
+Asks w s (to_start r place ∷ below) = (nat_le place 0 ≡ true) × (claim_fault w r ≡ None) × (s.slots (identity_of r) ≡ None)
+Asks w s (to_pin r place ∷ below) =
+    (row_at w r.handle ≡ Some (row_of r.handle.0 r.node Mode.LoosePinned (owner_at w r.handle)))
+    × (row_at (two.cloned w r.node) (two.handle (w.last.handle + 1)) ≡ Some (row_of (w.last.handle + 1) r.node Mode.LoosePinned (owner_worker 1)))
+    × (is_here (two.cloned w r.node) r.node.0 ≡ true)
+    × (nat_le w.last.handle 6 ≡ true)
+Asks w s (to_write r place through ∷ below) = (value_at two.two_values r.node.0 ≡ Some (two.value_of r.node)) × HasKind (two.value_of r.node)
+Asks w s (to_finish o ∷ below) = CanStore w o.written o.keys
+Asks w s (to_set r through key height ∷ below) = (row_at w through ≡ Some (row_of through.0 r.node Mode.LoosePinned (owner_worker 1))) × AreAlone w (with_key w r.node key) nobody
+Asks w s (to_publish r key height ∷ below) = Unit {0}
+Asks w s (to_release r key height ∷ below) = AreAlone w w (is_workers_at w 1 r.node.0)
+Asks w s (to_item written keys ∷ below) = CanStore w written keys
+Asks w s todo = ⊥
+
+claims-it : (w : Core) (s : Shelf) (r : _) (place : ℕ) (below : List Todo) → nat_le place 0 ≡ true → claim_fault w r ≡ None → s.slots (identity_of r) ≡ None
+    → let a = two.next_step w s (to_start r place ∷ below) in Walks w s (to_start r place ∷ below) a.took a.core a.shelf a.todo
+claims-it w s r place below first good free = grind (arith, nat_tests, alike-self, same-shelf)
+
+pinned-again : (w : Core) (n : NodeNumber) → let q = w.last.handle + 1 in row_at (two.cloned w n) (two.handle q) ≡ Some (row_of q n Mode.LoosePinned (owner_worker 1)) → is_here (two.cloned w n) n.0 ≡ true
+    → nat_le w.last.handle 6 ≡ true → PinCall (two.cloned w n) (owner_worker 1) (two.handle q) (Ok (Pinning.Pinned (two.handle (q + 1)))) (two.pinned_at w n)
+pinned-again w n live here few = grind (arith, nat_tests, alike-self)
+
+stored-so : (w : Core) (blob : Blob) → w.closed ≡ false → w.stored (digest two.sample blob) ≡ None → StoreCall (digest two.sample) w blob (Ok (digest two.sample blob)) (two.with_blob w blob)
+stored-so w blob is_open free = grind (arith, nat_tests, alike-self)
+
+does-so : (w : Core) (s : Shelf) (todo : List Todo) → Asks w s todo → let a = two.next_step w s todo in Walks w s todo a.took a.core a.shelf a.todo
+does-so w s (to_start r place ∷ below) (first, good, free) = claims-it w s r place below first good free
+does-so w s (to_pin r place ∷ below) (live, clone_live, here, few) =
+    let left : w.last.handle ≤ 6 = grind (arith, nat_tests) in
+    let row = row_of r.handle.0 r.node Mode.LoosePinned (owner_at w r.handle) in
+    let cloned : CloneCall w (owner_worker 1) r.handle (Ok (two.handle (w.last.handle + 1))) (two.cloned w r.node) =
+    record { made = (row, live, record { above = refl; is_left = omega arith }, alike-self (two.cloned w r.node)); refused = tt } in
     record {
       does = (
         refl,
         record {
           pins = (
-            two.handle (core.last.handle + 1),
-            inr (record { row = row_of r.handle.0 (two.node n) Mode.LoosePinned owner; live = live; sort = refl }, (two.cloned core n, cloned, clone_pinned)),
-            record { table_stays = same-shelf shelf; list_is = refl },
+            two.handle (w.last.handle + 1),
+            inr (record { row = row; live = live; sort = refl }, (two.cloned w r.node, cloned, pinned-again w r.node clone_live here few)),
+            record { table_stays = same-shelf s; list_is = refl },
           );
           refused = tt;
         },
       );
     }
-  where
-    cloned : CloneCall core two.worker r.handle (Ok (two.handle (core.last.handle + 1))) (two.cloned core n)
-    cloned = let left : core.last.handle ≤ 10 = grind (arith, nat_tests) in record {
-      made = (row_of r.handle.0 (two.node n) Mode.LoosePinned owner, live, record { above = refl; is_left = omega arith }, alike-self (two.cloned core n));
-      refused = tt;
-    }
-
-    clone_pinned : PinCall (two.cloned core n) two.worker (two.handle (core.last.handle + 1)) (Ok (Pinning.Pinned (two.handle (core.last.handle + 1 + 1)))) (two.pinned_at core n)
-    clone_pinned = grind (arith, nat_tests, alike-self)
-
-pub writes-it : (core : Core) (shelf : Shelf) (r : ArcRef) (through : HandleNumber) (written : Written) (below : List Todo)
-    → Walks core shelf (to_write r 0 through ∷ below) (Took.Write (identity_of r) (Ok written)) core (two.wrote shelf r written) (open_node r 0 through written below)
-writes-it core shelf r through written below = grind (arith, nat_tests, alike-self, same-shelf)
-
-pub stored-so : (core : Core) (key : ℕ) (blob : Blob) → key ≡ digest two.sample blob → core.closed ≡ false → core.stored key ≡ None
-    → StoreCall (digest two.sample) core blob (Ok key) (two.with_blob core key blob)
-stored-so core key blob is open_still free = grind (arith, nat_tests, alike-self)
-
-pub stores-it : (core : Core) (shelf : Shelf) (o : Open) (key : ℕ) (below : List Todo) → let blob = blob_of o.written.bytes o.keys in
-    length o.keys ≡ length o.written.references → key ≡ digest two.sample blob → core.closed ≡ false → core.stored key ≡ None
-    → Walks core shelf (to_finish o ∷ below) (Took.Store (Some (identity_of o.reference)) (Ok key)) (two.with_blob core key blob) shelf (to_set o.reference o.through key o.height ∷ below)
-stores-it core shelf o key below all is open_still free = grind (arith, nat_tests, stored-so, same-shelf)
-
--- the key is set through a loose handle of the worker's, and nothing falls
-pub keys-it : (core : Core) (shelf : Shelf) (n : ℕ) (r : ArcRef) (through : HandleNumber) (key height : ℕ) (below : List Todo) → let w = with_key core (two.node n) key in
-    row_at core through ≡ Some (row_of through.0 (two.node n) Mode.LoosePinned two.worker)
-    → is_low core ≡ true → is_low w ≡ true → nat_le w.last.handle 13 ≡ true → agree_below (lists_none core w nobody) never 4 ≡ true → agree_below (takes_more w nobody) never 4 ≡ true
-    → Walks core shelf (to_set r through key height ∷ below) (Took.SetKey (identity_of r) (Ok tt)) (two.keyed_at core n key) shelf (to_publish r key height ∷ below)
-keys-it core shelf n r through key height below live low low_then few none ok =
+does-so w s (to_write r place through ∷ below) ok = search (alike-self w, same-shelf)
+does-so w s (to_finish o ∷ below) (all, is_open, free) = search (stored-so w (blob_of o.written.bytes o.keys), same-shelf)
+does-so w s (to_set r through key height ∷ below) (live, alone) =
     record {
       does = (
         refl,
         record {
           sets = record {
-            does = inr (
-              row_of through.0 (two.node n) Mode.LoosePinned two.worker,
-              record { live = live; own = refl; as_asked = refl },
-              inr (refl, falls-alone core (with_key core (two.node n) key) nobody low low_then few none ok),
-            );
+            does = inr (row_of through.0 r.node Mode.LoosePinned (owner_worker 1), record { live = live; own = refl; as_asked = refl }, inr (refl, falls-alone w (with_key w r.node key) nobody alone));
           };
-          goes = record { table_stays = same-shelf shelf; list_is = refl };
+          goes = record { table_stays = same-shelf s; list_is = refl };
           refused = tt;
         },
       );
     }
+does-so w s (to_publish r key height ∷ below) ok = search (alike-self w, same-shelf)
+does-so w s (to_release r key height ∷ below) alone = record { does = (refl, record { told = Ok tt; falls = falls-alone w w (is_workers_at w 1 r.node.0) alone }, record { table_stays = same-shelf s; list_is = refl }) }
+does-so w s (to_item written keys ∷ below) (all, is_open, free) = search (stored-so w (blob_of written.bytes keys), same-shelf)
+does-so w s todo ok = absurd ok
 
-pub publishes-it : (core : Core) (shelf : Shelf) (r : ArcRef) (key : ℕ) (below : List Todo)
-    → Walks core shelf (to_publish r key 0 ∷ below) (Took.Publish (identity_of r) key 0) core (two.shown shelf r key) (to_release r key 0 ∷ below)
-publishes-it core shelf r key below = record { does = (refl, refl, refl, record { pager_stays = alike-self core; table_is = same-shelf (two.shown shelf r key); list_is = refl }) }
+few-next : (w : Core) (s : Shelf) (todo : List Todo) → Few w → let a = two.next_step w s todo in Few a.core
+few-next w s (to_set r through key height ∷ below) few = few-fallen (with_key w r.node key) nobody (few-key w r.node key few)
+few-next w s (to_release r key height ∷ below) few = few-fallen w (is_workers_at w 1 r.node.0) few
+few-next w s todo few = few
 
-pub releases-it : (core : Core) (shelf : Shelf) (r : ArcRef) (key : ℕ) (below : List Todo) → let given = is_workers_at core 1 r.node.0 in
-    is_low core ≡ true → nat_le core.last.handle 13 ≡ true → agree_below (lists_none core core given) never 4 ≡ true → agree_below (takes_more core given) never 4 ≡ true
-    → Walks core shelf (to_release r key 0 ∷ below) (Took.Release (identity_of r)) (two.released_at core r.node.0) shelf (give r key 0 below)
-releases-it core shelf r key below low few none ok =
-    record { does = (refl, record { told = Ok tt; falls = falls-alone core core (is_workers_at core 1 r.node.0) low low few none ok }, record { table_stays = same-shelf shelf; list_is = refl }) }
+-- what is written is a form of the value
+writes-so : (w : Core) (s : Shelf) (work : _) (todo : List Todo) → Asks w s todo → let a = two.next_step w s todo in TookWrites two.sample (λ w. w) (two.machine w two.two_values work).pager a.took
+writes-so w s work (to_write r place through ∷ below) (held, kind) = record { x = two.value_of r.node; held = held; form = form-of (two.value_of r.node) kind; listed = refl }
+  where
+    form-of : (x : two.Sample) → HasKind x → HasForm two.sample x (two.sample_written x)
+    form-of two.leaf ok = record { shape = _; own = _; is = refl; means = refl; form = nothing-form _ }
+    form-of (two.parent r) four = record { shape = _; own = _; is = refl; means = refl; form = reference-form _ 4 r four }
+writes-so w s work todo ok = tt
 
-pub ends-it : (core : Core) (shelf : Shelf) (written : Written) (keys : List ℕ) (key : ℕ) → let blob = blob_of written.bytes keys in
-    length keys ≡ length written.references → key ≡ digest two.sample blob → core.closed ≡ false → core.stored key ≡ None
-    → Walks core shelf (to_item written keys ∷ []) (Took.Store None (Ok key)) (two.with_blob core key blob) shelf []
-ends-it core shelf written keys key all is open_still free = grind (arith, nat_tests, stored-so, same-shelf)
+-- with its answer the worker ends
+abbrev EndsSo : Option WorkerAnswer → Core → Type 0
+EndsSo None w = Unit {0}
+EndsSo (Some answer) w = AreAlone w (without_worker w 1) (is_workers w 1)
 
--- ---- the page-out of the chain of two levels is one of the machine
+ends-so : (answer : Option WorkerAnswer) (w : Core) → EndsSo answer w → Ends answer 1 w (two.ended answer w)
+ends-so None w ok = alike-self w
+ends-so (Some answer) w alone = record { told = Ok tt; falls = falls-alone w (without_worker w 1) (is_workers w 1) alone }
 
--- what is written is a form of each value
-parent-written : IsWrittenOf two.sample (two.machine two.parent_pinned two.two_values (two.table_work two.parent_claimed)).pager 2 two.parent_written
-unfolding two.value_at
-parent-written = record { x = two.parent two.to_child; held = refl; form = record { shape = _; own = _; is = refl; means = refl; form = reference-form _ 4 two.to_child refl }; listed = refl }
+takes-so : (s : Core) (shelf : Shelf) (pager : PagerState two.Sample (Unit {0})) (todo : List Todo) → Asks s shelf todo → TodoTakesWell two.sample pager todo
+takes-so w s pager (to_load r place through reading ∷ below) ok = absurd ok
+takes-so w s pager todo ok = tt
 
-leaf-written : IsWrittenOf two.sample (two.machine two.both_pinned two.two_values (two.table_work two.child_claimed)).pager 1 two.leaf_written
-unfolding two.value_at
-leaf-written = record { x = two.leaf; held = refl; form = record { shape = _; own = _; is = refl; means = refl; form = nothing-form _ }; listed = refl }
+-- ---- the page-out, step by step
 
-worker-gone : FallsAnyhow two.item_stored (without_worker two.item_stored 1) (is_workers two.item_stored 1) two.answered
-unfolding is_named_by find_row
-worker-gone = record { told = Ok tt; falls = falls-alone two.item_stored (without_worker two.item_stored 1) (is_workers two.item_stored 1) refl refl refl refl refl }
+pub two-settled : (x : two.Sample) → IsSettled two.sample x
+two-settled x a b is other = other ∙ sym is
 
-abbrev opened : ArcRef → ℕ → Written → List ℕ → Open
-opened r through written keys = record { reference = r; place = 0; through = two.handle through; written = written; keys = keys; height = 0 }
+-- what so many steps ask
+unfoldable pub AllAsk : ℕ → two.Working → Type 0
+AllAsk zero x = Unit {0}
+AllAsk (suc n) x =
+    let a = two.next_step x.core x.shelf x.todo in let y = two.next x in
+    (x.answer ≡ None) × Asks x.core x.shelf x.todo × (y.steps ≡ steps_after x.steps (is_counted x.todo a.took)) × EndsSo y.answer a.core × Passes y.core two.two_values
+    × (y.core.workers 1 ≡ is_none y.answer) × AllAsk n y
 
-abbrev pub at_work : MachineState two.Sample (Unit {0})
-at_work = two.machine two.begun two.two_values (two.walk_work no_shelf (two.walking (to_start two.to_parent 0 ∷ two.item_waits []) 0 None))
+pub none-there : {X Y : Type 0} (found : Option Y) (x : Option X) → x ≡ None → x ≡ if_there (λ (y : Y). x) None found
+none-there x0 x is = grind (arith, nat_tests)
 
-abbrev pub paged_out : MachineState two.Sample (Unit {0})
-paged_out = two.machine two.answered two.two_values two.done_work
+pub again : {X : Type 0} (n : ℕ) (x y : X) (f : ℕ → X) (q : ℕ) → updated n y f q ≡ updated n y (updated n x f) q
+again n x y f q = grind (arith, nat_tests)
 
-pub pages-out : (xs : List two.Happening) → AreMoments two.sample_seen paged_out xs → AreMoments two.sample_seen at_work (two.page_out ++ xs)
-unfolding is_named_by find_row preimage
-pages-out xs rest =
-    worker-does 0 (claims-it two.begun no_shelf two.to_parent (two.item_waits []) refl refl) refl refl (alike-self two.begun) tt begun-passes refl refl
-    ⨾ worker-does 1
-    (pins-it two.begun two.parent_claimed 2 two.to_parent Owner.Caller (two.item_waits []) refl refl refl refl)
-    refl refl (alike-self two.parent_pinned) tt parent-pinned-passes refl refl
-    ⨾ worker-does 2
-    (writes-it two.parent_pinned two.parent_claimed two.to_parent (two.handle 3) two.parent_written (two.item_waits []))
-    refl refl (alike-self two.parent_pinned) parent-written parent-pinned-passes refl refl
-    ⨾ worker-does 3 (claims-it two.parent_pinned two.parent_wrote two.to_child (two.parent_waits []) refl refl) refl refl (alike-self two.parent_pinned) tt parent-pinned-passes refl refl
-    ⨾ worker-does 4
-    (pins-it two.parent_pinned two.child_claimed 1 two.to_child (owner_value 2) (two.parent_waits []) refl refl refl refl)
-    refl refl (alike-self two.both_pinned) tt both-pinned-passes refl refl
-    ⨾ worker-does 5
-    (writes-it two.both_pinned two.child_claimed two.to_child (two.handle 5) two.leaf_written (two.parent_waits []))
-    refl refl (alike-self two.both_pinned) leaf-written both-pinned-passes refl refl
-    ⨾ worker-does 6
-    (stores-it two.both_pinned two.child_wrote (opened two.to_child 5 two.leaf_written []) 8 (two.parent_waits []) refl refl refl refl)
-    refl refl (alike-self two.child_stored) tt child-stored-passes refl refl
-    ⨾ worker-does 7
-    (keys-it two.child_stored two.child_wrote 1 two.to_child (two.handle 5) 8 0 (two.parent_waits []) refl refl refl refl refl refl)
-    refl refl (alike-self two.child_keyed) tt child-keyed-passes refl refl
-    ⨾ worker-does 8 (publishes-it two.child_keyed two.child_wrote two.to_child 8 (two.parent_waits [])) refl refl (alike-self two.child_keyed) tt child-keyed-passes refl refl
-    ⨾ worker-does 9
-    (releases-it two.child_keyed two.child_shown two.to_child 8 (two.parent_waits []) refl refl refl refl)
-    refl refl (alike-self two.child_released) tt child-released-passes refl refl
-    ⨾ worker-does 10
-    (stores-it two.child_released two.child_shown (opened two.to_parent 3 two.parent_written (8 ∷ [])) 24 (two.item_waits []) refl refl refl refl)
-    refl refl (alike-self two.parent_stored) tt parent-stored-passes refl refl
-    ⨾ worker-does 11
-    (keys-it two.parent_stored two.child_shown 2 two.to_parent (two.handle 3) 24 0 (two.item_waits []) refl refl refl refl refl refl)
-    refl refl (alike-self two.parent_keyed) tt parent-keyed-passes refl refl
-    ⨾ worker-does 12
-    (publishes-it two.parent_keyed two.child_shown two.to_parent 24 (two.item_waits []))
-    refl refl (alike-self two.parent_keyed) tt parent-keyed-passes refl refl
-    ⨾ worker-does 13
-    (releases-it two.parent_keyed two.both_shown two.to_parent 24 (two.item_waits []) refl refl refl refl)
-    refl refl (alike-self two.parent_released) tt parent-released-passes refl refl
-    ⨾ worker-does 14 (ends-it two.parent_released two.both_shown two.item (24 ∷ []) 25 refl refl refl refl) refl refl worker-gone tt answered-passes refl refl
-    ⨾ rest
+pub few-walked : (n : ℕ) (x : two.Working) → Few x.core → let y = two.walked n x in Few y.core
+unfolding two.walked
+few-walked zero x few = few
+few-walked (suc n) x few = let a = two.next_step x.core x.shelf x.todo in let y = two.next x in few-walked n y (few-ended y.answer a.core (few-next x.core x.shelf x.todo few))
 
--- ---- the births of the chain of two levels, and the begin of its page-out
-
--- tables and workers stay
-pub work-stays : (work : Work) (readings : ℕ → Option Reading) → WorkStays work (record work { readings = readings })
-work-stays work readings = record { shelves = λ t. same-shelf (work.shelves t); last_table = refl; walkings = λ v. refl }
-
--- the first value comes to the first node, the second to the second
-leaf-comes : (n : ℕ) (x : two.Sample) → two.value_at two.one_value n ≡ Some x → (two.value_at [] n ≡ Some x) ⊎ ((two.value_at [] n ≡ None) × ((x ≡ two.leaf) × (0 < n)))
-unfolding two.value_at
-leaf-comes x0 x is = grind (arith, nat_tests)
-
-parent-comes : (n : ℕ) (x : two.Sample) → two.value_at two.two_values n ≡ Some x
-    → (two.value_at two.one_value n ≡ Some x) ⊎ ((two.value_at two.one_value n ≡ None) × ((x ≡ two.parent two.to_child) × (1 < n)))
-unfolding two.value_at
-parent-comes x0 x is = grind (arith, nat_tests)
-
--- what is done to the pager alone, while nothing is read
-pub only-pager : (core core' : Core) (work : Work) (does : Core → Type 0) → let quiet = record work { readings = λ l. None } in does core'
-    → OnlyCore (record { core = core; work = quiet }) does (record { core = core'; work = quiet })
-only-pager core core' work does step = record { step = step; readings = λ l. none-there (core'.loads l) None refl; work = work-stays (record work { readings = λ l. None }) (λ l. None) }
-
-pub bears : (xs : List two.Happening) → AreMoments two.sample_seen at_work xs → AreMoments two.sample_seen two.new_one (two.births ++ xs)
-unfolding find_row is_named_by is_in references_fault two.value_at
-bears xs rest =
-    record {
-      step = record {
-        happens = only-pager two.new_core two.child_born no_work _ (record {
-          does = record { made = (refl, omega arith, record { above = refl; is_left = omega arith }, alike-self two.child_born); refused = tt };
-        });
-      };
-      moves = record { each = leaf-comes; environment = refl };
-      writes = tt;
-      whole = idle-whole two.child_born two.one_value (λ t. no_shelf) 0 child-passes refl;
-    }
-    ⨾ record {
-      step = record {
-        happens = only-pager two.child_born two.both_born no_work _ (record {
-          does = record { made = (refl, omega arith, record { above = refl; is_left = omega arith }, alike-self two.both_born); refused = tt };
-        });
-      };
-      moves = record { each = parent-comes; environment = refl };
-      writes = tt;
-      whole = idle-whole two.both_born two.two_values (λ t. no_shelf) 0 both-passes refl;
-    }
-    ⨾ record {
-      step = record {
-        happens = record {
-          made = (refl, alike-self two.both_born, λ l. none-there (two.both_born.loads l) None refl, record { same_shelves = λ t. same-shelf _; last_is = refl; same_walkings = λ v. refl });
-          refused = tt;
-        };
-      };
-      moves = record { each = λ n x is. inl is; environment = refl };
-      writes = tt;
-      whole = idle-whole two.both_born two.two_values (two.table_work no_shelf).shelves 1 both-passes refl;
-    }
-    ⨾ record {
-      step = record {
-        happens = record {
-          starts = record {
-            table = (omega arith, omega arith);
-            next = refl;
-            pager = alike-self two.begun;
-            readings = λ l. none-there (two.begun.loads l) None refl;
-            work = record { same_shelves = λ t. same-shelf _; last_is = refl; same_walkings = λ v. refl };
+pub pages-out : (n : ℕ) (x : two.Working) (xs : List two.Happening) → Few x.core → AllAsk n x → AreMoments two.sample_seen (two.at_work (two.walked n x)) xs → AreMoments two.sample_seen (two.at_work x) (two.page_out n x ++ xs)
+unfolding two.page_out two.walked AllAsk
+pages-out zero x xs few ok rest = rest
+pages-out (suc n) x xs few (works, asks, counts, ends, passes, at_work, ok) rest =
+    let a = two.next_step x.core x.shelf x.todo in let y = two.next x in let few_then = few-ended y.answer a.core (few-next x.core x.shelf x.todo few) in (
+      record {
+        step = record {
+          happens = record {
+            moves = record {
+              walking = two.walking x;
+              after = site a.core a.shelf a.todo;
+              at = refl;
+              at_work = works;
+              does = does-so x.core x.shelf x.todo asks;
+              answers = refl;
+              counts = counts;
+              ends = ends-so y.answer a.core ends;
+              readings = λ l. none-there (y.core.loads l) None refl;
+              work = record { same_shelves = λ t. shelf-again x.shelf y.shelf t; last_is = refl; same_walkings = again 1 (Some (two.walking x)) (Some (two.walking y)) (λ q. None) };
+            };
+            refused = tt;
           };
-          refused = tt;
         };
-      };
-      moves = record { each = λ n x is. inl is; environment = refl };
-      writes = tt;
-      whole = work-whole two.begun two.two_values no_shelf (two.walking (to_start two.to_parent 0 ∷ two.item_waits []) 0 None)
-          (λ l. None) begun-passes refl refl refl (λ l r is. reads-none two.begun l r is);
-    }
-    ⨾ rest
+        moves = record { each = λ n x is. inl is; environment = refl };
+        writes = writes-so x.core x.shelf (two.work_after x None) x.todo asks;
+        whole = whole-at y.core two.two_values y.shelf (Some (two.walking y)) None (few_then, passes) (refl, at_work) tt;
+      },
+      pages-out n y xs few_then ok rest,
+    )
+  where
+    shelf-again : (x y : Shelf) (t : ℕ) → SameShelf (updated 1 y (updated 1 x (λ q. no_shelf)) t) (updated 1 y (λ q. no_shelf) t)
+    shelf-again x y t = grind (arith, nat_tests, same-shelf)
+
+some-is : {X : Type 0} (P : X → Type 0) (x y : X) → Some x ≡ Some y → P x → P y
+some-is P x y is holds = grind arith
+
+pub pages-asked : (n : ℕ) (x : two.Working) (xs : List two.Happening) → AllAsk n x → ArePremised (two.at_work (two.walked n x)) xs → ArePremised (two.at_work x) (two.page_out n x ++ xs)
+unfolding two.page_out two.walked AllAsk
+pages-asked zero x xs ok rest = rest
+pages-asked (suc n) x xs (works, asks, counts, ends, passes, at_work, ok) rest =
+    let y = two.next x in (
+      λ trees. record {
+        settled = λ n x is. two-settled x;
+        reads_settled = λ x is. two-settled x;
+        stays_open = tt;
+        well = λ w is. some-is (λ (w : Walking). TodoTakesWell two.sample (two.at_work x).pager w.todo) (two.walking x) w is (takes-so x.core x.shelf (two.at_work x).pager x.todo asks);
+      },
+      pages-asked n y xs ok rest,
+    )
+
+pub begun-asks : AllAsk 15 two.begun
+unfolding AllAsk value_at is_named_by find_row preimage
+begun-asks = search arith

@@ -83,5 +83,5 @@ pub use Rattle.pagable_laws.specs.TreeSteps.{Change, nothing_felt, bears_known, 
 pub use Rattle.pagable_laws.specs.TreeSteps.{CoreGoes, EventFeels, by-call, by-reading, by-key, by-nothing, KeepsReadings, KeysAreReady, StepFeels, knows_node, bears_node, StaysAway, AreGood}
 pub use Rattle.pagable_laws.specs.TreeSteps.{CallFeels, feels-nothing, feels-birth, feels-away, feels-key, feels-known, feels-adopted, feels-lazy, feels-end, HandsOver, ReadHolds, IsSteppedReading}
 pub use Rattle.pagable_laws.specs.{TreeSteps.{StepsReading, BeginsWell, GetsRow, HasPin, PinHolds, NodeLeads, Sets, Knows, Bears, SameNode, NewNode}, TwoLevels.{Sample, sample, sample_type}}
-pub use Rattle.pagable_laws.specs.TwoLevels.{sample_references, machine, ended, gives_up, sample_seen, two_values, walking, table_work, walk_work}
+pub use Rattle.pagable_laws.specs.TwoLevels.{sample_references, machine}
 unfoldable pub use Rattle.pagable_laws.specs.{KeyRuns.AllHold, PageOutLaws.{KeysSoFar, Waits}, TwoLevels.value_at}
