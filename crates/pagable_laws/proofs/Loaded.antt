@@ -12,7 +12,7 @@ use Rattle.pagable_model.specs.Reading as grammar
 -- ---- each pager is good
 
 pub births-good : Good two.new_core [] × Good two.child_born (None ∷ Some two.leaf ∷ []) × Good two.both_born two.two_values × Good two.begun.core two.two_values
-unfolding value_at is_named_by find_row
+unfolding value_at is_named_by find_row references_fault is_in
 births-good =
     let none : Few two.new_core = (λ n lt. refl, λ l lt. refl, λ v lt. refl, λ kind key n is. absurd (cc)) in
     let child : Few two.child_born = (updated-past 3 1 _ None (λ n. None) (omega arith) (λ n lt. refl), none.1, none.2, none.3) in
@@ -20,8 +20,53 @@ births-good =
     let begun : Few two.begun.core = (both.0, none.1, updated-past 1 1 true false (λ v. false) (omega arith) none.2, none.3) in
     ((none, search arith), (child, search arith), (both, search arith), (begun, search arith))
 
+loaded-passes : Passes two.loaded two.last_values
+unfolding two.walked value_at is_named_by find_row preimage references_fault is_in
+loaded-passes = record {
+  short = refl;
+  list = refl;
+  stands_open = refl;
+  low = search arith;
+  rise = search arith;
+  rows = search arith;
+  room = search arith;
+  workers = search arith;
+  third = search arith;
+  numbers = (search arith, search arith, search arith, search arith);
+}
+
+key-passes : Passes two.key_loading two.last_values
+unfolding two.walked value_at is_named_by find_row preimage references_fault is_in
+key-passes = record {
+  short = refl;
+  list = refl;
+  stands_open = refl;
+  low = search arith;
+  rise = search arith;
+  rows = search arith;
+  room = search arith;
+  workers = search arith;
+  third = search arith;
+  numbers = (search arith, search arith, search arith, search arith);
+}
+
+back-passes : Passes two.read_back two.last_values
+unfolding two.walked value_at is_named_by find_row preimage references_fault is_in
+back-passes = record {
+  short = refl;
+  list = refl;
+  stands_open = refl;
+  low = search arith;
+  rise = search arith;
+  rows = search arith;
+  room = search arith;
+  workers = search arith;
+  third = search arith;
+  numbers = (search arith, search arith, search arith, search arith);
+}
+
 loads-good : Good two.evicted [] × Good two.loading [] × Good two.child_got [] × Good two.loaded two.last_values × Good two.key_loading two.last_values × Good two.read_back two.last_values
-unfolding two.walked value_at is_named_by find_row preimage is_in
+unfolding two.walked value_at is_named_by find_row preimage references_fault is_in
 loads-good =
     let gone : Few two.evicted = few-fallen (with_mode two.answered.core (two.handle 2) Mode.LooseUnpinned) two.child_handle (few-walked 15 two.begun births-good.3.0) in
     let begun : Few two.loading = (gone.0, updated-past 3 1 _ None two.evicted.loads (omega arith) gone.1, gone.2, gone.3) in
@@ -29,7 +74,7 @@ loads-good =
     let loaded : Few two.loaded = few-fallen two.installed two.given_up (got.0, updated-past 3 1 None None two.loading.loads (omega arith) begun.1, gone.2, got.3) in
     let key : Few two.key_loading = (loaded.0, updated-past 3 2 _ None two.loaded.loads (omega arith) loaded.1, gone.2, loaded.3) in
     let back : Few two.read_back = few-fallen two.handed two.not_handed (key.0, updated-past 3 2 None None two.key_loading.loads (omega arith) key.1, gone.2, key.3) in
-    ((gone, search arith), (begun, search arith), (got, search arith), (loaded, search arith), (key, search arith), (back, search arith))
+    ((gone, search arith), (begun, search arith), (got, search arith), (loaded, loaded-passes), (key, key-passes), (back, back-passes))
 
 -- ---- a moment of the machine
 
@@ -54,9 +99,9 @@ same-work : (shelf : Shelf) (walking : Option Walking) (reading reading' : Optio
 same-work shelf walking reading reading' = record { shelves = λ t. same-shelf _; last_table = refl; walkings = λ v. refl }
 
 -- what is done to the pager alone, while nothing is read
-only-core : (w w' : Core) (shelf : Shelf) (walking : Option Walking) (does : Core → Type 0) → does w'
-    → OnlyCore (record { core = w; work = two.work_of shelf walking None }) does (record { core = w'; work = two.work_of shelf walking None })
-only-core w w' shelf walking does step = record { step = step; readings = λ l. none-there (w'.loads l) None refl; work = same-work shelf walking None None }
+only-core : (w w' : Core) (shelf : Shelf) (walking : Option Walking) (P : Core → Type 0) → P w'
+    → OnlyCore (record { core = w; work = two.work_of shelf walking None }) P (record { core = w'; work = two.work_of shelf walking None })
+only-core w w' shelf walking P step = record { step = step; readings = λ l. none-there (w'.loads l) None refl; work = same-work shelf walking None None }
 
 -- the one reading goes on, or is over
 reads-on : (w : Core) (r : Reading) (before : ℕ → Option Reading) → is_some (w.loads r.load.0) ≡ true → ((l : ℕ) → (l == r.load.0) ≡ false → before l ≡ None) → (l : ℕ)
@@ -113,7 +158,7 @@ evicts = record {
   does = inr (
     row_of 2 (two.node 2) Mode.LoosePinned Owner.Caller,
     record { live = refl; own = refl; as_asked = refl },
-    inr (refl, falls-so two.answered.core unpinned nobody two.child_handle refl refl refl (record { holds = refl; closed = closed; least = least })),
+    inr (refl, falls-so two.answered.core unpinned nobody two.child_handle (search arith) refl refl (record { holds = refl; closed = closed; least = least })),
   );
 }
   where

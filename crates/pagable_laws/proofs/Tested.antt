@@ -1,27 +1,43 @@
--- A world of few nodes, handles and loads is whole if tests of these say so; and handles fall alone if tests do.
+-- A world of few nodes, handles and loads is whole if closed facts of it say so; and handles fall alone if such facts do.
 use Rattle.pagable_laws.proofs.Words.{◌≡◌, ℕ, zero, suc, ◌<◌, ◌≤◌, ◌==◌, ◌&&◌, Bool, true, false, List, [], ◌∷◌, refl, ap, sym, subst, arith, All, not, Ok, None, is_some, nat_lt, nat_le, nat_eq}
-use Rattle.pagable_laws.proofs.Words.{and_parts, agree_below, agree_below_at, nat_tests, AllPairs-cons, Among, times, one, updated, if_there, Owner, HandleRow, is_shared, is_loose, is_owner}
+use Rattle.pagable_laws.proofs.Words.{and_parts, agree_below, agree_below_at, nat_tests, AllPairs-cons, Among, times, one, updated, Owner, HandleRow, is_shared, is_loose, is_owner, type_of}
 use Rattle.pagable_laws.proofs.Words.{is_owned_by, owner_value, is_at, is_pin, is_share, held, pins, sharing, Core, OpenLoad, Root, of_cell, of_key, row_at, type_at, Alike, loses_value}
-use Rattle.pagable_laws.proofs.Words.{owned_outside, is_outside, is_keyed, IsLeast, MustList, Falls, fallen, IsHandleBefore, length, ◌∙◌, inl, Option, Some, ArcRef, type_of}
-use Rattle.pagable_laws.proofs.Words.{is_shared_kind, is_handle, fits_mode, is_here, is_type, IsReference, WellFormed, MayOwnLoad, IsRootWhole, no_work, Sample, sample, sample_type}
-use Rattle.pagable_laws.proofs.{Words.{sample_references, value_at, machine}, Sums.sum-zero, GoodReferences.typed-by}
+use Rattle.pagable_laws.proofs.Words.{owned_outside, is_outside, is_keyed, IsLeast, MustList, Falls, fallen, IsHandleBefore, length, ◌∙◌, inl, Option, Some, ArcRef, sample_references, value_at}
+use Rattle.pagable_laws.proofs.Words.{is_shared_kind, is_handle, is_here, references_fault, WellFormed, MayOwnLoad, IsRootWhole, no_work, Sample, sample, sample_type, machine}
+use Rattle.pagable_laws.proofs.{Sums.sum-zero, GoodReferences.good}
 use Rattle.std.specs.List.{AllPairs}
 
--- ---- lists and numbers
+-- ---- lists, options and numbers
 
-abbrev pub all_pass : {X : Type 0} → (X → Bool) → List X → Bool
-all_pass test [] = true
-all_pass test (x ∷ xs) = test x && all_pass test xs
+-- P of each; and of what there is
+abbrev pub Each : {X : Type 0} → (X → Type 0) → List X → Type 0
+Each P [] = Unit {0}
+Each P (x ∷ xs) = P x × Each P xs
 
-pub all-among : {X : Type 0} (test : X → Bool) (xs : List X) (x : X) → all_pass test xs ≡ true → Among xs x → test x ≡ true
-all-among test (y ∷ ys) x ok (suc i, is) = all-among test ys x (and_parts _ _ ok).1 (i, is)
-all-among test x1 x ok x4 = grind (arith, nat_tests)
+abbrev pub OfSome : {X : Type 0} → (X → Type 0) → Option X → Type 0
+OfSome P None = Unit {0}
+OfSome P (Some x) = P x
 
-pub none-pass : {X : Type 0} (p q : X → Bool) (xs : List X) → all_pass p xs ≡ true → ((x : X) → p x ≡ true → q x ≡ false) → times q xs ≡ 0
-none-pass p q xs ok h = sum-zero (λ x. one (q x)) xs (λ x among. ap one (h x (all-among p xs x ok among)))
+of-some : {X : Type 0} (P : X → Type 0) {x : Option X} {y : X} → OfSome P x → x ≡ Some y → P y
+of-some P {x} {y} h is = subst (λ o. OfSome P o) is h
+
+each-among : {X : Type 0} (P : X → Type 0) (xs : List X) (x : X) → Each P xs → Among xs x → P x
+each-among P [] x h (i, is) = absurd (cc)
+each-among P (y ∷ ys) x h (zero, is) = of-some P {x = Some y} h.0 is
+each-among P (y ∷ ys) x h (suc i, is) = each-among P ys x h.1 (i, is)
+
+none-pass : {X : Type 0} (P : X → Type 0) (q : X → Bool) (xs : List X) → Each P xs → ((x : X) → P x → q x ≡ false) → times q xs ≡ 0
+none-pass P q xs all h = sum-zero (λ x. one (q x)) xs (λ x among. ap one (h x (each-among P xs x all among)))
 
 -- what holds of the first numbers and past them holds of all
-pub by-number : (k : ℕ) (f g : ℕ → Bool) → agree_below f g (suc k) ≡ true → ((n : ℕ) → k < n → f n ≡ g n) → (n : ℕ) → f n ≡ g n
+by-four : (P : ℕ → Type 0) → P 0 × P 1 × P 2 × P 3 → ((n : ℕ) → 3 < n → P n) → (n : ℕ) → P n
+by-four P h past zero = h.0
+by-four P h past (suc zero) = h.1
+by-four P h past (suc (suc zero)) = h.2
+by-four P h past (suc (suc (suc zero))) = h.3
+by-four P h past (suc (suc (suc (suc n)))) = past (suc (suc (suc (suc n)))) (omega arith)
+
+by-number : (k : ℕ) (f g : ℕ → Bool) → agree_below f g (suc k) ≡ true → ((n : ℕ) → k < n → f n ≡ g n) → (n : ℕ) → f n ≡ g n
 by-number k f g ok past n = part (nat_le n k) refl
   where
     part : (b : Bool) → nat_le n k ≡ b → f n ≡ g n
@@ -33,43 +49,42 @@ updated-past k m x d f le past n lt = let a : (n == m) ≡ false = grind (arith,
 
 -- ---- rows
 
-abbrev pub owner_low : Owner → Bool
-owner_low (Owner.Value n) = nat_le n.0 3
-owner_low Owner.List = false
-owner_low owner = true
+-- of the nodes up to 3, not shared, and owned by the values of these or by one who isn't the list
+abbrev pub OwnerLow : Owner → Type 0
+OwnerLow (Owner.Value n) = nat_le n.0 3 ≡ true
+OwnerLow Owner.List = ⊥
+OwnerLow owner = Unit {0}
 
--- of the nodes up to 3, and owned by these or by one who isn't the list
-abbrev pub row_low : HandleRow → Bool
-row_low h = nat_le h.node.0 3 && (not (is_shared h.mode) && owner_low h.owner)
+abbrev pub RowLow : HandleRow → Type 0
+RowLow h = (nat_le h.node.0 3 ≡ true) × (is_shared h.mode ≡ false) × OwnerLow h.owner
 
-pub low-parts : (h : HandleRow) → row_low h ≡ true → (nat_le h.node.0 3 ≡ true) × (not (is_shared h.mode) ≡ true) × (owner_low h.owner ≡ true)
-low-parts h ok = let a = and_parts (nat_le h.node.0 3) (not (is_shared h.mode) && owner_low h.owner) ok in let b = and_parts (not (is_shared h.mode)) (owner_low h.owner) a.1 in (a.0, b.0, b.1)
+abbrev pub IsLow : Core → Type 0
+IsLow w = Each RowLow w.rows
 
-module _ (rows : List HandleRow) (low : all_pass row_low rows ≡ true) where
-  node-low : (n : ℕ) → 3 < n → (h : HandleRow) → row_low h ≡ true → is_at n h ≡ false
-  node-low n lt h ok = let a = (low-parts h ok).0 in grind (arith, nat_tests)
+module _ (rows : List HandleRow) (low : Each RowLow rows) where
+  node-low : (n : ℕ) → 3 < n → (h : HandleRow) → RowLow h → is_at n h ≡ false
+  node-low n lt h ok = let a = ok.0 in grind (arith, nat_tests)
 
-  pub held-past : (n : ℕ) → 3 < n → held n rows ≡ 0
-  held-past n lt = none-pass row_low (is_at n) rows low (node-low n lt)
+  held-past : (n : ℕ) → 3 < n → held n rows ≡ 0
+  held-past n lt = none-pass RowLow (is_at n) rows low (node-low n lt)
 
-  pub pins-past : (n : ℕ) → 3 < n → pins n rows ≡ 0
-  pins-past n lt = none-pass row_low (is_pin n) rows low (λ h ok. let a = node-low n lt h ok in rw a refl)
+  pins-past : (n : ℕ) → 3 < n → pins n rows ≡ 0
+  pins-past n lt = none-pass RowLow (is_pin n) rows low (λ h ok. let a = node-low n lt h ok in rw a refl)
 
-  pub unshared : (n : ℕ) → sharing n rows ≡ 0
-  unshared n = none-pass row_low (is_share n) rows low (λ h ok. and-not (is_at n h) (is_shared h.mode) (low-parts h ok).1)
+  unshared : (n : ℕ) → sharing n rows ≡ 0
+  unshared n = none-pass RowLow (is_share n) rows low (λ h ok. and-false (is_at n h) (is_shared h.mode) ok.1)
     where
-      and-not : (a b : Bool) → not b ≡ true → (a && b) ≡ false
-      and-not true true e = sym e
-      and-not _ _ e = refl
+      and-false : (a b : Bool) → b ≡ false → (a && b) ≡ false
+      and-false a b is = grind (arith, nat_tests)
 
-  owner-past : (n : ℕ) → 3 < n → (o : Owner) → owner_low o ≡ true → is_owner (owner_value n) o ≡ false
+  owner-past : (n : ℕ) → 3 < n → (o : Owner) → OwnerLow o → is_owner (owner_value n) o ≡ false
   owner-past n lt x2 ok = grind (arith, nat_tests)
 
-  pub owned-past : (n : ℕ) → 3 < n → (more : HandleRow → Bool) → times (λ h. is_owned_by (owner_value n) h && more h) rows ≡ 0
-  owned-past n lt more = none-pass row_low (λ h. is_owned_by (owner_value n) h && more h) rows low (λ h ok. let a = owner-past n lt h.owner (low-parts h ok).2 in rw a refl)
+  owned-past : (n : ℕ) → 3 < n → (more : HandleRow → Bool) → times (λ h. is_owned_by (owner_value n) h && more h) rows ≡ 0
+  owned-past n lt more = none-pass RowLow (λ h. is_owned_by (owner_value n) h && more h) rows low (λ h ok. let a = owner-past n lt h.owner ok.2 in rw a refl)
 
-  pub owns-past : (n : ℕ) → 3 < n → times (is_owned_by (owner_value n)) rows ≡ 0
-  owns-past n lt = none-pass row_low (is_owned_by (owner_value n)) rows low (λ h ok. owner-past n lt h.owner (low-parts h ok).2)
+  owns-past : (n : ℕ) → 3 < n → times (is_owned_by (owner_value n)) rows ≡ 0
+  owns-past n lt = none-pass RowLow (is_owned_by (owner_value n)) rows low (λ h ok. owner-past n lt h.owner ok.2)
 
 -- ---- what falls
 
@@ -87,10 +102,7 @@ takes_more w given n = loses_value w.rows (is_keyed w) [] given n && nat_lt 0 (o
 abbrev pub never : ℕ → Bool
 never n = false
 
-abbrev pub is_low : Core → Bool
-is_low w = all_pass row_low w.rows
-
-pub falls-so : (before w : Core) (given gone : ℕ → Bool) → is_low before ≡ true → nat_le w.last.handle 9 ≡ true → agree_below (lists_none before w gone) never 4 ≡ true
+pub falls-so : (before w : Core) (given gone : ℕ → Bool) → IsLow before → nat_le w.last.handle 9 ≡ true → agree_below (lists_none before w gone) never 4 ≡ true
     → IsLeast w.rows (is_keyed w) [] given gone → Falls before w given (Ok tt) (fallen w gone [])
 falls-so before w given gone low few none least =
     record {
@@ -113,7 +125,7 @@ falls-so before w given gone low few none least =
 -- the given handles fall alone, if no value that goes owns another
 abbrev pub AreAlone : Core → Core → (ℕ → Bool) → Type 0
 AreAlone before w given =
-    (is_low before ≡ true) × (is_low w ≡ true) × (nat_le w.last.handle 9 ≡ true) × (agree_below (lists_none before w given) never 4 ≡ true) × (agree_below (takes_more w given) never 4 ≡ true)
+    IsLow before × IsLow w × (nat_le w.last.handle 9 ≡ true) × (agree_below (lists_none before w given) never 4 ≡ true) × (agree_below (takes_more w given) never 4 ≡ true)
 
 pub falls-alone : (before w : Core) (given : ℕ → Bool) → AreAlone before w given → Falls before w given (Ok tt) (fallen w given [])
 falls-alone before w given (low_before, low, few, none, ok) =
@@ -140,48 +152,37 @@ Few w =
     ((n : ℕ) → 3 < n → w.cells n ≡ None) × ((l : ℕ) → 3 < l → w.loads l ≡ None) × ((v : ℕ) → 1 < v → w.workers v ≡ false)
     × ((kind key n : ℕ) → w.cache kind key ≡ Some n → (kind ≡ 4) × (key ≡ 8) × (n ≡ 3))
 
-abbrev pub numbers_rise : ℕ → List HandleRow → Bool
-numbers_rise low [] = true
-numbers_rise low (h ∷ hs) = nat_lt low h.number.0 && numbers_rise h.number.0 hs
+-- the handles stand in the order of their numbers, which are above this one
+abbrev pub Rises : ℕ → List HandleRow → Type 0
+Rises low [] = Unit {0}
+Rises low (h ∷ hs) = (nat_lt low h.number.0 ≡ true) × Rises h.number.0 hs
 
-pub ordered : (low : ℕ) (rows : List HandleRow) → numbers_rise low rows ≡ true → AllPairs IsHandleBefore rows × All (λ (h : HandleRow). low < h.number.0) rows
+ordered : (low : ℕ) (rows : List HandleRow) → Rises low rows → AllPairs IsHandleBefore rows × All (λ (h : HandleRow). low < h.number.0) rows
 ordered low [] ok = (λ i j d lt within. absurd (omega arith), λ j d within. absurd (omega arith))
-ordered low (h ∷ hs) ok =
-    let p = and_parts (nat_lt low h.number.0) (numbers_rise h.number.0 hs) ok in
-    let a : low < h.number.0 = let b = p.0 in grind (arith, nat_tests) in
-    let rest = ordered h.number.0 hs p.1 in
-    (AllPairs-cons IsHandleBefore h hs rest.1 rest.0, at a rest.1)
+ordered low (h ∷ hs) (first, more) =
+    let rest = ordered h.number.0 hs more in (AllPairs-cons IsHandleBefore h hs rest.1 rest.0, at (grind (arith, nat_tests)) rest.1)
   where
     at : low < h.number.0 → All (λ (x : HandleRow). h.number.0 < x.number.0) hs → All (λ (x : HandleRow). low < x.number.0) (h ∷ hs)
     at first others zero d within = first
     at first others (suc j) d within = let a = others j d (omega arith) in omega arith
 
-abbrev pub owner_there : Core → Owner → Bool
-owner_there w (Owner.Load l) = is_some (w.loads l.0)
-owner_there w (Owner.Worker v) = w.workers v.0
-owner_there w owner = true
+-- a handle's number was given, and its owner is there
+abbrev pub OwnerThere : Core → Owner → Type 0
+OwnerThere w (Owner.Load l) = is_some (w.loads l.0) ≡ true
+OwnerThere w (Owner.Worker v) = w.workers v.0 ≡ true
+OwnerThere w owner = Unit {0}
 
-abbrev pub row_there : Core → HandleRow → Bool
-row_there w h = nat_lt 0 h.number.0 && (nat_le h.number.0 w.last.handle && owner_there w h.owner)
+abbrev pub RowThere : Core → HandleRow → Type 0
+RowThere w h = (nat_lt 0 h.number.0 ≡ true) × (nat_le h.number.0 w.last.handle ≡ true) × OwnerThere w h.owner
 
-abbrev pub root_fits : Core → Root → Bool
-root_fits w (of_cell node t h) =
-    if_there (λ u. u == t) true (type_at w node.0) &&
-    (if_there (λ (row : HandleRow). row.node.0 == node.0 && is_loose row.mode) true (row_at w h) && (nat_le h.0 w.last.handle && nat_le node.0 w.last.node))
-root_fits w of_key = true
+abbrev pub RootFits : Core → Root → Type 0
+RootFits w (of_cell node t h) =
+    OfSome (λ u. u ≡ t) (type_at w node.0) × OfSome (λ (row : HandleRow). (row.node ≡ node) × (is_loose row.mode ≡ true)) (row_at w h)
+    × (nat_le h.0 w.last.handle ≡ true) × (nat_le node.0 w.last.node ≡ true)
+RootFits w of_key = Unit {0}
 
-abbrev pub load_fits : Core → ℕ → Bool
-load_fits w l = if_there (λ (load : OpenLoad). nat_lt 0 l && (nat_le l w.last.load && (is_owner Owner.Caller load.owner && root_fits w load.root))) true (w.loads l)
-
--- ---- a pager of few nodes, handles and loads is whole, if tests of these say so
-
--- ---- tests of nodes
-
-abbrev pub node_given : Core → ℕ → Bool
-node_given w n = is_some (w.cells n) && not (nat_lt 0 n && nat_le n w.last.node)
-
-abbrev pub value_typed : Core → List (Option Sample) → ℕ → Bool
-value_typed w vs n = if_there (λ x. is_type (sample_type x) (type_at w n)) true (value_at vs n)
+abbrev pub LoadFits : Core → ℕ → OpenLoad → Type 0
+LoadFits w l load = (nat_lt 0 l ≡ true) × (nat_le l w.last.load ≡ true) × (load.owner ≡ Owner.Caller) × RootFits w load.root
 
 -- how often a value refers to a handle, and the value of the node owns it; which is the same
 abbrev pub refers : Sample → ℕ → ℕ
@@ -190,138 +191,88 @@ refers x q = times (λ (r : ArcRef). r.handle.0 == q) (sample_references x)
 abbrev pub owns : Core → ℕ → ℕ → ℕ
 owns w n q = times (λ h. is_handle q h && is_owned_by (owner_value n) h) w.rows
 
-abbrev pub refers_to_own : Core → List (Option Sample) → ℕ → Bool
-refers_to_own w vs n = if_there (λ x. agree_below (λ q. nat_eq (refers x q) (owns w n q)) (λ q. true) 10) (nat_eq (times (is_owned_by (owner_value n)) w.rows) 0) (value_at vs n)
+abbrev pub ValueFits : Core → ℕ → Option Sample → Type 0
+ValueFits w n None = times (is_owned_by (owner_value n)) w.rows ≡ 0
+ValueFits w n (Some x) =
+    (type_at w n ≡ Some (sample_type x)) × (agree_below (λ q. nat_eq (refers x q) (owns w n q)) (λ q. true) 10 ≡ true)
+    × Each (λ (r : ArcRef). nat_le r.handle.0 9 ≡ true) (sample_references x) × (references_fault w (owner_value n) [] (sample_references x) ≡ None)
 
-abbrev pub row_refers : ℕ → ArcRef → HandleRow → Bool
-row_refers n r h = nat_eq h.node.0 r.node.0 && (is_owner (owner_value n) h.owner && fits_mode r.kind.0 h.mode)
+-- what is asked of the node and of the load of this number
+abbrev pub NumberFits : Core → List (Option Sample) → ℕ → Type 0
+NumberFits w vs n =
+    ((is_some (w.cells n) && not (nat_lt 0 n && nat_le n w.last.node)) ≡ false) × (is_some (w.cells n) ≡ nat_lt 0 (held n w.rows))
+    × (is_some (value_at vs n) ≡ (is_some (w.cells n) && is_here w n)) × ValueFits w n (value_at vs n) × OfSome (LoadFits w n) (w.loads n)
 
-abbrev pub reference_stands : Core → ℕ → ArcRef → Bool
-reference_stands w n r = nat_le r.handle.0 9 && (if_there (row_refers n r) false (row_at w r.handle) && is_type (type_of r.kind.0) (type_at w r.node.0))
-
-abbrev pub references_stand : Core → List (Option Sample) → ℕ → Bool
-references_stand w vs n = if_there (λ x. all_pass (reference_stands w n) (sample_references x)) true (value_at vs n)
-
--- all that is tested of a pager
+-- all that is asked of a pager with few of each, and closed
 pub record Passes (w : Core) (vs : List (Option Sample)) : Type 0 where
   pub short : nat_le (length vs) 4 ≡ true
   pub list : w.list ≡ []
   pub stands_open : w.closed ≡ false
-  pub low : is_low w ≡ true
-  pub rise : numbers_rise 0 w.rows ≡ true
-  pub rows : all_pass (row_there w) w.rows ≡ true
+  pub low : IsLow w
+  pub rise : Rises 0 w.rows
+  pub rows : Each (RowThere w) w.rows
   pub room : (nat_le w.last.handle 9 ≡ true) × (nat_le w.last.node 3 ≡ true) × (nat_le w.last.load 3 ≡ true) × (nat_le (length w.rows) w.places.handles ≡ true)
-  pub given : agree_below (node_given w) never 4 ≡ true
-  pub live : agree_below (λ n. is_some (w.cells n)) (λ n. nat_lt 0 (held n w.rows)) 4 ≡ true
-  pub loads : agree_below (load_fits w) (λ l. true) 4 ≡ true
-  pub first : w.workers 0 ≡ false
-  pub workers : agree_below (λ v. w.workers v && not (nat_le v w.last.worker)) never 2 ≡ true
-  pub valued : agree_below (λ n. is_some (value_at vs n)) (λ n. is_some (w.cells n) && is_here w n) 4 ≡ true
-  pub typed : agree_below (value_typed w vs) (λ n. true) 4 ≡ true
-  pub inside : agree_below (refers_to_own w vs) (λ n. true) 4 ≡ true
-  pub references : agree_below (references_stand w vs) (λ n. true) 4 ≡ true
-  pub third : (if_there (λ t. t == 1) true (type_at w 3) ≡ true) × (if_there (λ n. nat_le n w.last.node) true (w.cache 4 8) ≡ true)
-
--- ---- what the tests tell
+  pub numbers : NumberFits w vs 0 × NumberFits w vs 1 × NumberFits w vs 2 × NumberFits w vs 3
+  pub workers : (w.workers 0 ≡ false) × ((w.workers 1 && not (nat_le 1 w.last.worker)) ≡ false)
+  pub third : OfSome (λ t. t ≡ 1) (type_at w 3) × OfSome (λ n. nat_le n w.last.node ≡ true) (w.cache 4 8)
 
 past-end : (vs : List (Option Sample)) (n : ℕ) → length vs ≤ n → value_at vs n ≡ None
 unfolding value_at
 past-end (x ∷ xs) (suc n) few = past-end xs n (omega arith)
 past-end x0 x1 few = grind (arith, nat_tests)
 
-some-of : {X : Type 0} (test : X → Bool) (x : Option X) (y : X) → if_there test true x ≡ true → x ≡ Some y → test y ≡ true
-some-of test x1 y ok is = grind (arith, nat_tests)
-
-is-caller : (o : Owner) → is_owner Owner.Caller o ≡ true → o ≡ Owner.Caller
-is-caller x0 ok = grind (arith, nat_tests)
-
 module _ (w : Core) (vs : List (Option Sample)) (few : Few w) (p : Passes w vs) where
-  short : (n : ℕ) → 3 < n → value_at vs n ≡ None
-  short n lt = let a = p.short in past-end vs n (grind (arith, nat_tests))
-
-  row-parts : (h : HandleRow) → Among w.rows h → (0 < h.number.0) × (h.number.0 ≤ w.last.handle) × (owner_there w h.owner ≡ true)
-  row-parts h among =
-      let a = and_parts (nat_lt 0 h.number.0) (nat_le h.number.0 w.last.handle && owner_there w h.owner) (all-among (row_there w) w.rows h p.rows among) in
-      let b = and_parts (nat_le h.number.0 w.last.handle) (owner_there w h.owner) a.1 in
-      let c = a.0 in let d = b.0 in
-      (grind (arith, nat_tests), grind (arith, nat_tests), b.1)
-
-  owner-low : (h : HandleRow) → Among w.rows h → owner_low h.owner ≡ true
-  owner-low h among = (low-parts h (all-among row_low w.rows h p.low among)).2
-
-  node-given : (n : ℕ) → is_some (w.cells n) ≡ true → (0 < n) × (n ≤ w.last.node)
-  node-given n some = grind (arith, nat_tests, and_parts, by-number)
-
-  live : (n : ℕ) → is_some (w.cells n) ≡ nat_lt 0 (held n w.rows)
-  live = by-number 3 (λ n. is_some (w.cells n)) (λ n. nat_lt 0 (held n w.rows)) p.live (λ n lt. let e = few.0 n lt in let f = held-past w.rows p.low n lt in rw (e, f) refl)
-
-  load-parts : (l : ℕ) (load : OpenLoad) → w.loads l ≡ Some load → (0 < l) × (l ≤ w.last.load) × (load.owner ≡ Owner.Caller) × (root_fits w load.root ≡ true)
-  load-parts l load is =
-      let test = by-number 3 (load_fits w) (λ l. true) p.loads (λ l lt. let e = few.1 l lt in rw e refl) l in
-      let a = some-of (λ (load : OpenLoad). nat_lt 0 l && (nat_le l w.last.load && (is_owner Owner.Caller load.owner && root_fits w load.root))) (w.loads l) load test is in
-      let b = and_parts (nat_lt 0 l) (nat_le l w.last.load && (is_owner Owner.Caller load.owner && root_fits w load.root)) a in
-      let c = and_parts (nat_le l w.last.load) (is_owner Owner.Caller load.owner && root_fits w load.root) b.1 in
-      let d = and_parts (is_owner Owner.Caller load.owner) (root_fits w load.root) c.1 in
-      let e = b.0 in let f = c.0 in
-      (grind (arith, nat_tests), grind (arith, nat_tests), is-caller load.owner d.0, d.1)
-
-  root-whole : (node : _) (t : ℕ) (h : _) → root_fits w (of_cell node t h) ≡ true → IsRootWhole w node t h
-  root-whole node t h ok = grind (arith, nat_tests, and_parts, some-of)
-
-  -- a test of a node's value
-  of-value : (test : ℕ → Sample → Bool) → agree_below (λ n. if_there (test n) true (value_at vs n)) (λ n. true) 4 ≡ true → (n : ℕ) (x : Sample) → value_at vs n ≡ Some x → test n x ≡ true
-  of-value test ok n x is = some-of (test n) (value_at vs n) x (by-number 3 (λ n. if_there (test n) true (value_at vs n)) (λ n. true) ok (λ n lt. let e = short n lt in rw e refl) n) is
-
-  refers-to : (n : ℕ) (x : Sample) → value_at vs n ≡ Some x → all_pass (reference_stands w n) (sample_references x) ≡ true
-  refers-to = of-value (λ n x. all_pass (reference_stands w n) (sample_references x)) p.references
-
-  own-test : (n : ℕ) (found : Option Sample) → value_at vs n ≡ found
-      → if_there (λ x. agree_below (λ q. nat_eq (refers x q) (owns w n q)) (λ q. true) 10) (nat_eq (times (is_owned_by (owner_value n)) w.rows) 0) found ≡ true
-  own-test n found is = subst (λ f. if_there (λ x. agree_below (λ q. nat_eq (refers x q) (owns w n q)) (λ q. true) 10) (nat_eq (times (is_owned_by (owner_value n)) w.rows) 0) f ≡ true) is
-      (by-number 3 (refers_to_own w vs) (λ n. true) p.inside past n)
+  number : (n : ℕ) → NumberFits w vs n
+  number = by-four (NumberFits w vs) p.numbers past
     where
-      past : (n : ℕ) → 3 < n → refers_to_own w vs n ≡ true
-      past n lt = let e = short n lt in let f = owns-past w.rows p.low n lt in rw (e, f) refl
+      past : (n : ℕ) → 3 < n → NumberFits w vs n
+      past n lt =
+          let short = p.short in let none : value_at vs n ≡ None = past-end vs n (grind (arith, nat_tests)) in
+          let a = few.0 n lt in let b = few.1 n lt in let c = held-past w.rows p.low n lt in rw (a, b, c, none) (refl, refl, refl, owns-past w.rows p.low n lt, tt)
+
+  row : (h : HandleRow) → Among w.rows h → RowThere w h
+  row h among = each-among (RowThere w) w.rows h p.rows among
+
+  low : (h : HandleRow) → Among w.rows h → RowLow h
+  low h among = each-among RowLow w.rows h p.low among
+
+  load : (l : ℕ) (load : OpenLoad) → w.loads l ≡ Some load → LoadFits w l load
+  load l x is = of-some (LoadFits w l) (number l).4 is
+
+  load-numbered : (l : ℕ) (found : Option OpenLoad) → OfSome (LoadFits w l) found → is_some found ≡ true → (0 < l) × (l ≤ w.last.load)
+  load-numbered l x1 fits some = grind (arith, nat_tests)
+
+  node-numbered : (n : ℕ) → is_some (w.cells n) ≡ true → (0 < n) × (n ≤ w.last.node)
+  node-numbered n some = let a = (number n).0 in grind (arith, nat_tests, and_parts)
+
+  root-whole : (node : _) (t : ℕ) (h : _) → RootFits w (of_cell node t h) → IsRootWhole w node t h
+  root-whole node t h (typed, begun, given, node_given) =
+      record { typed = λ type at. of-some (λ u. u ≡ t) typed at; begun = λ r at. of-some _ begun at; given = (grind (arith, nat_tests), grind (arith, nat_tests)) }
+
+  value : (n : ℕ) (x : Sample) → value_at vs n ≡ Some x → ValueFits w n (Some x)
+  value n x is = subst (λ o. ValueFits w n o) is (number n).3
 
   inside : (n : ℕ) (x : Sample) (q : ℕ) → value_at vs n ≡ Some x → refers x q ≡ owns w n q
-  inside n x q is = let a = by-number 9 (λ q. nat_eq (refers x q) (owns w n q)) (λ q. true) (own-test n (Some x) is) past q in grind (arith, nat_tests)
+  inside n x q is = let a = by-number 9 (λ q. nat_eq (refers x q) (owns w n q)) (λ q. true) (value n x is).1 past q in grind (arith, nat_tests)
     where
-      and-false : (a b : Bool) → a ≡ false → (a && b) ≡ false
-      and-false true b e = absurd (cc)
-      and-false false b e = refl
-
       past : (q : ℕ) → 9 < q → nat_eq (refers x q) (owns w n q) ≡ true
       past q lt =
           let few = p.room.0 in
-          let a : refers x q ≡ 0 = none-pass (reference_stands w n) (λ (r : ArcRef). r.handle.0 == q) (sample_references x) (refers-to n x is)
-          (λ r ok. let b = (and_parts (nat_le r.handle.0 9) (if_there (row_refers n r) false (row_at w r.handle) && is_type (type_of r.kind.0) (type_at w r.node.0)) ok).0 in
-          grind (arith, nat_tests)) in
-          let c : owns w n q ≡ 0 = none-pass (row_there w) (λ h. is_handle q h && is_owned_by (owner_value n) h) w.rows p.rows
-          (λ h ok. let b = and_parts (nat_lt 0 h.number.0) (nat_le h.number.0 w.last.handle && owner_there w h.owner) ok in
-          let d = (and_parts (nat_le h.number.0 w.last.handle) (owner_there w h.owner) b.1).0 in and-false (is_handle q h) (is_owned_by (owner_value n) h) (grind (arith, nat_tests))) in
-          rw (a, c) refl
-
-  refers-well : (n : ℕ) (r : ArcRef) → reference_stands w n r ≡ true → IsReference w (owner_value n) r
-  refers-well n r ok = grind (arith, nat_tests, and_parts, live, typed-by)
-
-  entry-shares : (h : HandleRow) → Among w.rows h → is_shared h.mode ≡ false
-  entry-shares h among = not-true (is_shared h.mode) (low-parts h (all-among row_low w.rows h p.low among)).1
-    where
-      not-true : (b : Bool) → not b ≡ true → b ≡ false
-      not-true true e = sym e
-      not-true false e = refl
-
-  load-there : (o : Owner) (l : _) → owner_there w o ≡ true → o ≡ Owner.Load l → is_some (w.loads l.0) ≡ true
-  load-there o l ok is = subst (λ o. owner_there w o ≡ true) is ok
-
-  worker-there : (o : Owner) (v : ℕ) → owner_there w o ≡ true → o ≡ Owner.Worker (record { 0 = v }) → w.workers v ≡ true
-  worker-there o v ok is = subst (λ o. owner_there w o ≡ true) is ok
-
-  no-list : (o : Owner) → owner_low o ≡ true → o ≡ Owner.List → ⊥
-  no-list o ok is = let a : owner_low Owner.List ≡ true = subst (λ o. owner_low o ≡ true) is ok in absurd (cc)
+          let a : refers x q ≡ 0 = none-pass (λ (r : ArcRef). nat_le r.handle.0 9 ≡ true) (λ r. r.handle.0 == q) (sample_references x) (value n x is).2 (λ r ok. grind (arith, nat_tests)) in
+          let b : owns w n q ≡ 0 = none-pass (RowThere w) (λ h. is_handle q h && is_owned_by (owner_value n) h) w.rows p.rows
+          (λ h ok. let c = ok.1 in let d : is_handle q h ≡ false = grind (arith, nat_tests) in rw d refl) in
+          rw (a, b) refl
 
   list-owns-none : (q : ℕ) → times (λ h. is_handle q h && is_owned_by Owner.List h) w.rows ≡ 0
-  list-owns-none q = grind (arith, nat_tests, and_parts, none-pass, low-parts)
+  list-owns-none q = none-pass RowLow (λ h. is_handle q h && is_owned_by Owner.List h) w.rows p.low (λ h ok. not-list (is_handle q h) h.owner ok.2)
+    where
+      not-list : (b : Bool) (o : Owner) → OwnerLow o → (b && is_owner Owner.List o) ≡ false
+      not-list x0 x1 ok = grind (arith, nat_tests)
+
+  worker-numbered : (v : ℕ) → w.workers v ≡ true → v ≤ w.last.worker
+  worker-numbered zero is = omega arith
+  worker-numbered (suc zero) is = let a = p.workers.1 in grind (arith, nat_tests)
+  worker-numbered (suc (suc v)) is = let e = few.2 (suc (suc v)) (omega arith) in absurd (cc)
 
   pub whole-so : WellFormed sample (machine w vs no_work).pager
   whole-so =
@@ -330,48 +281,39 @@ module _ (w : Core) (vs : List (Option Sample)) (few : Few w) (p : Passes w vs) 
         whole = record {
           handles = record {
             ordered = (ordered 0 w.rows p.rise).0;
-            numbered = λ h among. let a = row-parts h among in (a.0, a.1);
-            nodes_numbered = node-given;
+            numbered = λ h among. let (a, b, c) = row h among in (grind (arith, nat_tests), grind (arith, nat_tests));
+            nodes_numbered = node-numbered;
             within = let a : w.last.handle ≤ 9 = grind (arith, nat_tests) in let b : w.last.node ≤ 3 = grind (arith, nat_tests) in let c : w.last.load ≤ 3 = grind (arith, nat_tests) in
                 (omega arith, omega arith, omega arith);
-            live = live;
+            live = λ n. (number n).1;
             uniform = λ n. inl (unshared w.rows p.low n);
             unkeyed = λ n some. let a = unshared w.rows p.low n in absurd (omega arith);
             places = (grind (arith, nat_tests), let e : length w.list ≡ 0 = ap length p.list in omega arith);
           };
           owners_there = record {
             listed = λ q. subst (λ hs. times (λ h. h.0 == q) hs ≡ times (λ h. is_handle q h && is_owned_by Owner.List h) w.rows) (sym p.list) (sym (list-owns-none q));
-            waiting = λ h among is. absurd (no-list h.owner (owner-low h among) is);
-            loads = λ h l among is. load-there h.owner l (row-parts h among).2 is;
-            workers = λ h v among is. worker-there h.owner v (row-parts h among).2 is;
+            waiting = λ h among is. absurd (subst (λ o. OwnerLow o) is (low h among).2);
+            loads = λ h l among is. subst (λ o. OwnerThere w o) is (row h among).2;
+            workers = λ h v among is. subst (λ o. OwnerThere w o) is (row h among).2;
           };
           loads = record {
-            numbered = numbered;
-            owned = λ l load is. subst (λ o. MayOwnLoad w o) (sym (load-parts l load is).2) tt;
-            roots = λ l load node t h is root. root-whole node t h (subst (λ r. root_fits w r ≡ true) root (load-parts l load is).3);
+            numbered = λ l some. load-numbered l (w.loads l) (number l).4 some;
+            owned = λ l x is. subst (λ o. MayOwnLoad w o) (sym (load l x is).2) tt;
+            roots = λ l x node t h is root. root-whole node t h (subst (λ r. RootFits w r) root (load l x is).3);
           };
           cache = λ kind key n is. let (four, eight, three) = few.3 kind key n is in
               record {
-                given = let a : w.cache 4 8 ≡ Some n = cc in let b = some-of (λ n. nat_le n w.last.node) (w.cache 4 8) n p.third.1 a in grind (arith, nat_tests);
-                typed = λ t at. let a : type_at w 3 ≡ Some t = subst (λ k. type_at w k ≡ Some t) three at in let b = some-of (λ t. t == 1) (type_at w 3) t p.third.0 a in
-                    let c : t ≡ 1 = grind (arith, nat_tests) in c ∙ ap type_of (sym four);
-                shares = λ h among at. entry-shares h among ∙ ap is_shared_kind (sym four);
+                given = let a : w.cache 4 8 ≡ Some n = cc in let b = of-some (λ n. nat_le n w.last.node ≡ true) p.third.1 a in grind (arith, nat_tests);
+                typed = λ t at. of-some (λ t. t ≡ 1) p.third.0 (subst (λ k. type_at w k ≡ Some t) three at) ∙ ap type_of (sym four);
+                shares = λ h among at. (low h among).1 ∙ ap is_shared_kind (sym four);
               };
-          workers_numbered = λ v is. let a = by-number 1 (λ v. w.workers v && not (nat_le v w.last.worker)) never p.workers (λ v lt. let e = few.2 v lt in rw e refl) v in
-              grind (arith, nat_tests);
+          workers_numbered = worker-numbered;
           shut = λ closed. let e = p.stands_open in absurd (cc);
         };
         counted = λ n. refl;
-        valued = by-number 3 (λ n. is_some (value_at vs n)) (λ n. is_some (w.cells n) && is_here w n) p.valued (λ n lt. let e = short n lt in let f = few.0 n lt in rw (e, f) refl);
-        typed = λ n x is. typed-by (sample_type x) (type_at w n) (of-value (λ n x. is_type (sample_type x) (type_at w n)) p.typed n x is);
+        valued = λ n. (number n).2;
+        typed = λ n x is. (value n x is).0;
         inside = λ n x q is. inside n x q is;
-        bare = λ n is. let a = own-test n None is in grind (arith, nat_tests);
-        references = λ n x r is among. refers-well n r (all-among (reference_stands w n) (sample_references x) r (refers-to n x is) among);
+        bare = λ n is. subst (λ o. ValueFits w n o) is (number n).3;
+        references = λ n x r is among. good w (owner_value n) [] (sample_references x) (value n x is).3 r among;
       }
-    where
-      numbered : (l : ℕ) → is_some (w.loads l) ≡ true → (0 < l) × (l ≤ w.last.load)
-      numbered l some = part (w.loads l) refl some
-        where
-          part : (found : Option OpenLoad) → w.loads l ≡ found → is_some found ≡ true → (0 < l) × (l ≤ w.last.load)
-          part (Some load) is some = let a = load-parts l load is in (a.0, a.1)
-          part None is some = absurd (cc)

@@ -1,6 +1,6 @@
 -- The page-out of the chain of two levels: what a step of its worker asks of pager, table and list, and that it is then one of the machine.
 use Rattle.pagable_laws.proofs.Words.{◌++◌, ◌≡◌, ◌==◌, ℕ, zero, suc, ◌+◌, ◌<◌, ◌≤◌, Bool, true, false, List, [], ◌∷◌, length, refl, inl, inr, arith, Some, None, Option, Ok, nat_le, is_some, is_none, if_there}
-use Rattle.pagable_laws.proofs.Words.{blob_of, HandleNumber, NodeNumber, Blob, Took, Owner, Mode, Pinning, PinStep, WorkerAnswer, HandleRow, PagerState, TodoTakesWell, ArePremised, find_row, is_named_by, preimage, IsSettled, sym, ◌∙◌, nat_tests, identity_of, Core, Shelf, Written, Todo, Reading}
+use Rattle.pagable_laws.proofs.Words.{blob_of, HandleNumber, NodeNumber, Blob, Took, Owner, Mode, Pinning, PinStep, WorkerAnswer, HandleRow, PagerState, TodoTakesWell, ArePremised, find_row, is_named_by, preimage, IsSettled, sym, references_fault, is_in, ◌∙◌, nat_tests, identity_of, Core, Shelf, Written, Todo, Reading}
 use Rattle.pagable_laws.proofs.Words.{to_start, to_pin, to_load, to_write, to_set, to_publish, to_release, to_finish, to_item, row_at, is_here, digest, nobody, row_of, with_key, CloneCall, PinCall, StoreCall}
 use Rattle.pagable_laws.proofs.Words.{WalkDoes, claim_fault, is_workers_at, nothing-form, reference-form, fallen, without_worker, is_workers, IsWrittenOf, AreMoments, Walking, updated, MachineState, Ends}
 use Rattle.pagable_laws.proofs.Words.{answer_after, is_counted, steps_after, TookWrites, SameShelf, no_shelf, IsMachineWhole, IsReadingWhole, IsWalkingWhole, value_at, owner_worker, Values}
@@ -34,7 +34,7 @@ whole-at w vs shelf walking reading (few, p) walks reads = record { pager = whol
     walk-so walking fits n x is = grind (arith, nat_tests)
 
     there : (walking : Option Walking) → FitsWalking w walking → (n : ℕ) → w.workers n ≡ true → is_some (updated 1 walking (λ v. None) n) ≡ true
-    there walking fits zero is = let e = p.first in absurd (cc)
+    there walking fits zero is = let e = p.workers.0 in absurd (cc)
     there None fits (suc zero) is = absurd (cc)
     there (Some x) fits (suc zero) is = refl
     there walking fits (suc (suc n)) is = let e = few.2 (suc (suc n)) (omega arith) in absurd (cc)
@@ -245,5 +245,5 @@ pages-asked (suc n) x xs (works, asks, counts, ends, passes, at_work, ok) rest =
     )
 
 pub begun-asks : AllAsk 15 two.begun
-unfolding AllAsk value_at is_named_by find_row preimage
+unfolding AllAsk value_at is_named_by find_row preimage references_fault is_in
 begun-asks = search arith
