@@ -55,11 +55,6 @@ module _ {A B : Type 0} {F : Type 0} {R : A → B → Type 0} where
 
   pub lifted-along : (m : Meaning ⊥) → F ⊎ HasNoReference m → Along F R (lifted m) (lifted m)
   unfolding rename HasNoReference
-  lifted-along (number n) h = number-along n
-  lifted-along (integer z) h = integer-along z
-  lifted-along (text t) h = text-along t
-  lifted-along (pattern t) h = pattern-along t
-  lifted-along none h = none-along
   lifted-along (pair a b) (inl f) = pair-along _ _ _ _ (lifted-along a (inl f)) (lifted-along b (inl f))
   lifted-along (pair a b) (inr h) = pair-along _ _ _ _ (lifted-along a (inr h.0)) (lifted-along b (inr h.1))
   lifted-along (variant n a) (inl f) = variant-along _ _ _ (lifted-along a (inl f))
@@ -67,6 +62,7 @@ module _ {A B : Type 0} {F : Type 0} {R : A → B → Type 0} where
   lifted-along (reference a) h = absurd a
   lifted-along (followed kind a) (inl f) = followed-along _ _ _ f (lifted-along a (inl f))
   lifted-along (followed kind a) (inr h) = absurd h
+  lifted-along m h = search (number-along, integer-along, text-along, pattern-along, none-along)
 
 -- entries whose keys and values are along
 pub record EntryAlong {A B : Type 0} (F : Type 0) (R : A → B → Type 0) (e : Entry A) (f : Entry B) : Type 0 where
@@ -231,15 +227,15 @@ module _ {A B : Type 0} {F : Type 0} {R : A → B → Type 0} where
 
   lifted-same : (m : Meaning ⊥) {n : Meaning B} → Along F R (lifted m) n → n ≡ lifted m
   unfolding rename
+  lifted-same (pair a b) (pair-along x y c d h g) = rw (lifted-same a h, lifted-same b g) refl
+  lifted-same (variant n a) (variant-along k x c h) = rw (lifted-same a h) refl
+  lifted-same (reference a) h = absurd a
+  lifted-same (followed kind a) (followed-along k x c f h) = rw (lifted-same a h) refl
   lifted-same (number n) (number-along x) = refl
   lifted-same (integer z) (integer-along x) = refl
   lifted-same (text t) (text-along x) = refl
   lifted-same (pattern t) (pattern-along x) = refl
   lifted-same none none-along = refl
-  lifted-same (pair a b) (pair-along x y c d h g) = rw (lifted-same a h, lifted-same b g) refl
-  lifted-same (variant n a) (variant-along k x c h) = rw (lifted-same a h) refl
-  lifted-same (reference a) h = absurd a
-  lifted-same (followed kind a) (followed-along k x c f h) = rw (lifted-same a h) refl
 
 module _ {A B : Type 0} {F : Type 0} {R : A → B → Type 0} {kind_of : A → ℕ} {kind_of2 : B → ℕ} {parts : ℕ → Shape} (kinds : (a : A) (b : B) → R a b → kind_of2 b ≡ kind_of a) where
   mutual

@@ -5,7 +5,7 @@ use Rattle.pagable_laws.proofs.Words.{EventReply, Took, WorkerAnswer, WorkerRepl
 use Rattle.pagable_laws.proofs.Words.{to_set, to_publish, to_release, to_fail, Task, of_item, of_entry, Walking, Values, Seen, Site, Does, IsPublished, answer_after, WorkerSteps, Happens, PagerState}
 use Rattle.pagable_laws.proofs.Words.{MachineState, world_of, kids_of, HandlesAreWhole, IsMachineWhole, KeyFits, NodeStands, Represents, StandsFor, ReadsItsTypes, Meets, meets-of-item}
 use Rattle.pagable_laws.proofs.Words.{meets-entry, meets-below, AreKeysOf, IsLeftPagedOut, HasKeyOf, LeavesAll, IsKeyOfTask, Ground, ground_of, IsOfEntry, Waits, Walks, WorkFits, IsDone, KeyIsSet}
-use Rattle.pagable_laws.proofs.{Words.{AllHold, HasHandle, KeysHeld, KeysAreRight}, Merkle.{one_key, one_item_key, tree_readable}, Trees.same_some, Following.{IdentityStands, known-of, keys-of}}
+use Rattle.pagable_laws.proofs.{Words.{AllHold, HasHandle, KeysHeld, KeysAreRight}, Merkle.{one_key, one_item_key, tree_readable}, Trees.{same_some, each-type}, Following.{IdentityStands, known-of, keys-of}}
 use Rattle.pagable_laws.proofs.{Following.{tree-form, held-of, cell-of}, Taking.row-held, Coming.updated-at, Shelves.{KeepsKeys, keys-on, keys-same}, Stepping.{all-known, stands-for}}
 
 -- ---- one step of a worker
@@ -171,13 +171,6 @@ module _ {N B W E : Type 0} (m : Seen N B W) (s s' : MachineState N E) (trees tr
   keys-right event reply is = record { publishes = tt; key = tt; leaves = tt }
 
 -- ---- what a worker is about to set
-
-each-type : {P : ℕ → Type 0} → ((t : ℕ) → P t) → (m : Meaning ⊥) → EachType P m
-unfolding EachType
-each-type all (pair a b) = (each-type all a, each-type all b)
-each-type all (variant n a) = each-type all a
-each-type all (followed kind a) = (all (type_of kind), each-type all a)
-each-type all x1 = grind (arith, nat_tests)
 
 -- a key that a worker is about to set reads as its node's tree
 pub sets-key : {N E : Type 0} (v : Values N) (s : MachineState N E) (trees : ℕ → Tree) → ReadsItsTypes v.types → WorkFits v s trees

@@ -3,17 +3,13 @@ use Rattle.pagable_laws.proofs.Words.{nat_tests, ◌≡◌, ℕ, zero, suc, ◌+
 use Rattle.pagable_laws.proofs.Words.{if◌then◌else◌, slice_get, append-nil, sum_by-cons, Error, Meaning, references_in, Rest, read, kind_of_arc, Answer, answer_at, handles_at, Owner, ArcRef, Blob}
 use Rattle.pagable_laws.proofs.Words.{Types, Among, is_in, one, times, Core, answer_of, answers_from, reads, next_of, reference_fault, references_fault, IsReference, rest, LooksUp, no-references}
 use Rattle.pagable_laws.proofs.{Words.more-references, Again.read_again, Along.{Along, pair-along, variant-along, reference-along, followed-along, AllTwo, no-two, more-two, append-two}, Related.Out}
-use Rattle.pagable_laws.proofs.{Related.{OutLook, both-looked-up, both-not, read_par}, Sums.{self-number, same-number, at-most-sum, counted, one-true}}
+use Rattle.pagable_laws.proofs.{Related.{no_cause, OutLook, both-looked-up, both-not, read_par}, Sums.{self-number, same-number, at-most-sum, counted, one-true}}
 use Rattle.pagable_laws.proofs.{Decoding.read-gives, ReadingStepsKinds.kinds_of, Asking.IsFormOf}
 use Rattle.pagable_world.specs.Loads.{read_with}
 
 -- no handle was got twice
 abbrev pub AreApart : List ArcRef → Type 0
 AreApart got = (i j : ℕ) (r q : ArcRef) → slice_get got i ≡ Some r → slice_get got j ≡ Some q → r.handle.0 ≡ q.handle.0 → i ≡ j
-
--- no cause
-abbrev no_cause : Error → Type 0
-no_cause e = ⊥
 
 -- the one was got in the place of the other
 record InPlace (got refs : List ArcRef) (g r : ArcRef) : Type 0 where

@@ -5,7 +5,7 @@ use Rattle.pagable_laws.proofs.Words.{owner_worker, Core, OpenLoad, Frame, Readi
 use Rattle.pagable_laws.proofs.Words.{node_fault, root_fault, cell_fault, Next, asks, is_faulty, next_in, need_at, need_of, needs_nested, is_broken, RefusesBlob, RefusesNested}
 use Rattle.pagable_laws.proofs.Words.{RefusesRoot, Fails, handles_of, Happens, after_kinds, LeadsDown, is-there, goes-down, ReadsTooDeep, MachineState, world_of, FramesFit, IsReadingOf, of_caller}
 use Rattle.pagable_laws.proofs.{Words.{of_worker, LoadIsDeep, DeepLoadLaw}, Trees.same_some, Fitting.asked, Chains.IsGoingOn, Deeply.along-first, ReadingStepsKinds.{kinds_of, asks-by-kinds}}
-use Rattle.pagable_laws.proofs.{ReadingStepsKinds.faulty-by-kinds, ReadingStepsMachine.reading-stands, Asking.FramesAsked, KnownSteps.eager-nested, Sound.either, Soundly.{by-all, by-handle-row}}
+use Rattle.pagable_laws.proofs.{ReadingStepsKinds.faulty-by-kinds, ReadingStepsMachine.reading-stands, Asking.FramesAsked, Known.broken-is, KnownSteps.eager-nested, Sound.either, Soundly.{by-all, by-handle-row}}
 use Rattle.pagable_world.specs.Loads.{Does}
 use Rattle.pagable_world.specs.Workers as workers
 
@@ -78,9 +78,6 @@ module _ (types : Types) (stored : ℕ → Option Blob) where
               (length rest + 1) q frame.key) (sym of_type) d);
           is = fits.is;
         }
-
-    broken-is : (below : List Frame) (next : Next) (e : Error) → need_at below next ≡ is_broken e → next ≡ is_faulty e
-    broken-is x0 x1 e is = grind (arith, nat_tests)
 
     of-blob : (frames : List Frame) → FramesFit types stored trees root_key root_type frames → FramesAsked types frames → need_of types frames ≡ is_broken Error.TooDeep
         → ReadsTooDeep types stored root_type root_key

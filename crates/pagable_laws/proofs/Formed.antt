@@ -56,12 +56,10 @@ module _ {N E : Type 0} (v : Values N) (s : MachineState N E) (trees : ℕ → T
   below-has-form rs each (pair-follows x y a b h g) (in-first c d u reach) e formless = below-has-form rs each h reach (cc) formless
   below-has-form rs each (pair-follows x y a b h g) (in-rest c d u reach) e formless = below-has-form rs each g reach (cc) formless
   below-has-form rs each (variant-follows i x a h) (in-part n c u reach) e formless = below-has-form rs each h reach (cc) formless
-  below-has-form rs each (number-follows i) reach e formless = more-held reach e refl
-  below-has-form rs each (integer-follows z) reach e formless = more-held reach e refl
-  below-has-form rs each (text-follows x) reach e formless = more-held reach e refl
-  below-has-form rs each (pattern-follows x) reach e formless = more-held reach e refl
-  below-has-form rs each none-follows reach e formless = more-held reach e refl
-  below-has-form rs each follows reach e formless = absurd (cc)
+  below-has-form rs each (reference-follows r a among is) reach e formless = absurd (cc)
+  below-has-form rs each (pair-follows x y a b h g) reach e formless = absurd (cc)
+  below-has-form rs each (variant-follows i x a h) reach e formless = absurd (cc)
+  below-has-form rs each follows reach e formless = more-held reach e refl
 
   has-forms : (i : Identity) (key height : ℕ) → IsPublished shelf i key height → LeadsToNoForm v.types (trees i.node.0) → ⊥
   has-forms i key height p (inl formless) = has-form i (known i key height p) formless

@@ -5,6 +5,9 @@ use Rattle.pagable_laws.proofs.Words.{Values, Next, reads, asks, is_faulty, next
 use Rattle.pagable_laws.proofs.{Words.{ReadsItsTypes, AreKeysOf, WorkFits, Needs}, Trees.same_some, Fitting.asked, Heights.AllLow, HeightSteps.HeightsIn, Asking.{IsFormOf, GotAsked, FramesAsked}}
 use Rattle.pagable_laws.proofs.{Asking.{NextOf, asks-known, all-read, next-known, all-got}, ReadingStepsKinds.kinds_of}
 
+pub broken-is : (below : List Frame) (next : Next) (e : Error) → need_at below next ≡ is_broken e → next ≡ is_faulty e
+broken-is x0 x1 e is = grind (arith, nat_tests)
+
 -- the blob is a form of some value, and all of its references were got
 pub record IsForm {N : Type 0} (v : Values N) (frame : Frame) : Type 0 where
   pub refs : List ArcRef
@@ -158,22 +161,8 @@ module _ {N E : Type 0} (v : Values N) (s : MachineState N E) (trees : ℕ → T
     not-broken [] fits got e is = cc
     not-broken (frame ∷ below) fits got e is =
         let t = top-known frame below fits got in
-        by below (next_in v.types frame) (next-known v.types frame.node_type frame.blob t.known.refs t.known.form (first-asked frame below got)) is
+        by (next-known v.types frame.node_type frame.blob t.known.refs t.known.form (first-asked frame below got))
       where
-        eager-or : (b : Bool) (kind : Kind) (key : ℕ) → (if b then needs_nested kind key else needs_lazy kind key) ≡ is_broken e → ⊥
-        eager-or true kind key is = cc
-        eager-or false kind key is = cc
-
-        whole : (below : List Frame) (next : Next) (own : _) → next ≡ reads own → need_at below next ≡ is_broken e → ⊥
-        whole [] (reads own) o same is = cc
-        whole (x ∷ xs) (reads own) o same is = cc
-        whole below (asks kind key) o same is = cc
-        whole below (is_faulty f) o same is = cc
-
-        wants : (below : List Frame) (next : Next) (kind : Kind) (key : ℕ) → next ≡ asks kind key → need_at below next ≡ is_broken e → ⊥
-        wants below (asks k q) kind key same is = eager-or (is_eager k.0) k q is
-        wants _ _ kind key same is = cc
-
-        by : (below : List Frame) (next : Next) {blob : Blob} {refs : List ArcRef} → NextOf blob refs next → need_at below next ≡ is_broken e → ⊥
-        by below next (asks-known place r key at there same) is = wants below next r.kind key same is
-        by below next (all-read own same) is = whole below next own same is
+        by : {refs : List ArcRef} → NextOf frame.blob refs (next_in v.types frame) → ⊥
+        by (asks-known place r key at there same) = let f = broken-is below (next_in v.types frame) e is in cc
+        by (all-read own same) = let f = broken-is below (next_in v.types frame) e is in cc

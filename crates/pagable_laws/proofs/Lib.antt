@@ -18,7 +18,6 @@ mod Paths
 mod AnyOrder
 mod JsonNumbers
 mod Inside
-mod Computed
 pub mod Sums
 pub mod Existing
 mod Two

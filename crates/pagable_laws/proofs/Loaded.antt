@@ -2,8 +2,8 @@
 use Rattle.pagable_laws.proofs.Words.{◌≡◌, ℕ, ◌+◌, ◌≤◌, ◌<◌, ◌==◌, Bool, true, false, List, [], ◌∷◌, refl, sym, subst, inl, inr, arith, ◌⊎◌, Option, Some, None, Ok, is_some, nat_tests, updated, if_there, Owner, Mode}
 use Rattle.pagable_laws.proofs.Words.{LoadAnswer, Core, OpenLoad, of_cell, of_key, Frame, Reading, references_fault, row_of, BeginCall, ReadingDoes, root_frame, find_row, is_keyed, owned_outside, IsClosed}
 use Rattle.pagable_laws.proofs.Words.{IsWithin, IsLeast, nobody, with_mode, is_named_by, UnpinCall, value_at, is_in, named_fault, answers_from, ReadsRoot, IsCellOf, Event, EventReply, one_more, load_fault}
-use Rattle.pagable_laws.proofs.Words.{reading_at, reading_after, ReadingsAre, ReadingBrings, world_of, AreMoments, Walking, WorkStays, OnlyCore, no_shelf, zero, suc, ◌++◌, Beginning, MachineState, Shelf, Work, Blob, Written, fresh, preimage}
-use Rattle.pagable_laws.proofs.{Tested.{alike-self, falls-alone, falls-so, Passes, Few, updated-past}, Two.and-false}
+use Rattle.pagable_laws.proofs.Words.{reading_at, reading_after, ReadingsAre, ReadingBrings, world_of, AreMoments, Walking, WorkStays, OnlyCore, no_shelf, zero, suc, ◌++◌, Beginning, nat_le, length, MachineState, Shelf, Work, Blob, Written, fresh, preimage}
+use Rattle.pagable_laws.proofs.{Tested.{alike-self, falls-alone, falls-so, Passes, Few, updated-past, Stands, IsLow, Rises, Each, RowThere, HasRoom, FitsWorkers, FitsThird}, Two.and-false}
 use Rattle.pagable_laws.proofs.Walks.{same-shelf, none-there, few-fallen, few-walked, whole-at, Good, again, FitsWalking, FitsReading, begun-asks, pages-out}
 use Rattle.pagable_world.specs.{Runs.Does, Events.Happens, LoadCalls.IsNextLoad, Pager.EventBrings, Pager.ReplyWrites}
 use Rattle.pagable_laws.specs.TwoLevels as two
@@ -20,48 +20,15 @@ births-good =
     let begun : Few two.begun.core = (both.0, none.1, updated-past 1 1 true false (λ v. false) (omega arith) none.2, none.3) in
     ((none, search arith), (child, search arith), (both, search arith), (begun, search arith))
 
-loaded-passes : Passes two.loaded two.last_values
-unfolding two.walked value_at is_named_by find_row preimage references_fault is_in
-loaded-passes = record {
-  short = refl;
-  list = refl;
-  stands_open = refl;
-  low = search arith;
-  rise = search arith;
-  rows = search arith;
-  room = search arith;
-  workers = search arith;
-  third = search arith;
-  numbers = (search arith, search arith, search arith, search arith);
-}
-
-key-passes : Passes two.key_loading two.last_values
-unfolding two.walked value_at is_named_by find_row preimage references_fault is_in
-key-passes = record {
-  short = refl;
-  list = refl;
-  stands_open = refl;
-  low = search arith;
-  rise = search arith;
-  rows = search arith;
-  room = search arith;
-  workers = search arith;
-  third = search arith;
-  numbers = (search arith, search arith, search arith, search arith);
-}
+stands-so : {w : Core} {vs : List (Option two.Sample)} → nat_le (length vs) 4 ≡ true → w.list ≡ [] → w.closed ≡ false → IsLow w → Rises 0 w.rows → Each (RowThere w) w.rows → HasRoom w → FitsWorkers w
+    → FitsThird w → Stands w vs
+stands-so short list open_still low rise rows room workers third =
+    record { short = short; list = list; stands_open = open_still; low = low; rise = rise; rows = rows; room = room; workers = workers; third = third }
 
 back-passes : Passes two.read_back two.last_values
 unfolding two.walked value_at is_named_by find_row preimage references_fault is_in
 back-passes = record {
-  short = refl;
-  list = refl;
-  stands_open = refl;
-  low = search arith;
-  rise = search arith;
-  rows = search arith;
-  room = search arith;
-  workers = search arith;
-  third = search arith;
+  stands = stands-so refl refl refl (search arith) (search arith) (search arith) (search arith) (search arith) (search arith);
   numbers = (search arith, search arith, search arith, search arith);
 }
 
@@ -71,10 +38,10 @@ loads-good =
     let gone : Few two.evicted = few-fallen (with_mode two.answered.core (two.handle 2) Mode.LooseUnpinned) two.child_handle (few-walked 15 two.begun births-good.3.0) in
     let begun : Few two.loading = (gone.0, updated-past 3 1 _ None two.evicted.loads (omega arith) gone.1, gone.2, gone.3) in
     let got : Few two.child_got = (updated-past 3 3 _ None two.loading.cells (omega arith) begun.0, begun.1, gone.2, λ kind key n is. grind (arith, nat_tests)) in
-    let loaded : Few two.loaded = few-fallen two.installed two.given_up (got.0, updated-past 3 1 None None two.loading.loads (omega arith) begun.1, gone.2, got.3) in
+    let loaded : Few two.loaded = few-fallen (two.installed two.child_got) (two.given_up two.child_got) (got.0, updated-past 3 1 None None two.loading.loads (omega arith) begun.1, gone.2, got.3) in
     let key : Few two.key_loading = (loaded.0, updated-past 3 2 _ None two.loaded.loads (omega arith) loaded.1, gone.2, loaded.3) in
-    let back : Few two.read_back = few-fallen two.handed two.not_handed (key.0, updated-past 3 2 None None two.key_loading.loads (omega arith) key.1, gone.2, key.3) in
-    ((gone, search arith), (begun, search arith), (got, search arith), (loaded, loaded-passes), (key, key-passes), (back, back-passes))
+    let back : Few two.read_back = few-fallen (two.handed two.key_loading) (two.not_handed two.key_loading) (key.0, updated-past 3 2 None None two.key_loading.loads (omega arith) key.1, gone.2, key.3) in
+    ((gone, search arith), (begun, search arith), (got, search arith), (loaded, record { stands = search arith; numbers = search arith }), (key, record { stands = search arith; numbers = search arith }), (back, back-passes))
 
 -- ---- a moment of the machine
 
@@ -232,7 +199,7 @@ ends-pinned = record {
             owned = record { live = refl; own = refl; as_asked = refl };
             at = refl;
             next = record { above = refl; is_left = omega arith };
-            falls = inl (refl, record { told = Ok tt; falls = falls-alone two.child_got two.installed two.given_up (search arith) });
+            falls = inl (refl, record { told = Ok tt; falls = falls-alone two.child_got (two.installed two.child_got) (two.given_up two.child_got) (search arith) });
           },
         );
         refused = tt;
@@ -250,7 +217,7 @@ reads-out = record {
     record {
       reads_root = record { root = root_frame 8 1 two.leaf_blob; frames = refl; decoded = record { own = two.sample_meaning two.leaf; read = refl; typed = refl; means = refl } };
       of_key_load = record { load = key_load; open_load = refl; sort = tt };
-      handed = record { hands = (refl, record { told = Ok tt; falls = falls-alone two.key_loading two.handed two.not_handed (search arith) }); refused = tt };
+      handed = record { hands = (refl, record { told = Ok tt; falls = falls-alone two.key_loading (two.handed two.key_loading) (two.not_handed two.key_loading) (search arith) }); refused = tt };
     },
     refl,
   );

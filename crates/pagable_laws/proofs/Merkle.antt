@@ -5,7 +5,7 @@ use Rattle.pagable_laws.proofs.Words.{text-followed, pattern-followed, none-foll
 use Rattle.pagable_laws.proofs.Words.{unfolded, TreeForm, blob_of, KeyOf, key-of, KeysOf, no-keys, more-keys, kind_of_ref, key_of_ref, StoredAs, HasOwnKeys, SharesNoKey, EachType, IsCanonicalType}
 use Rattle.pagable_laws.proofs.Words.{IsCanonicalTree, IsReadableType, rest, LooksUp, no-references, more-references, IsOneKey, IsOneItemKey, IsStoredKey, IsTreeReadable, IsKeyOfOneTree}
 use Rattle.pagable_laws.proofs.{Again.form-again, OneForm.one-form, Along.{Along, number-along, integer-along, text-along, pattern-along, none-along, pair-along, variant-along, reference-along}}
-use Rattle.pagable_laws.proofs.{Along.{AllTwo, no-two, more-two, form-along}, Trees.{same_some, same_result, tree_is}}
+use Rattle.pagable_laws.proofs.{Along.{AllTwo, no-two, more-two, form-along}, Trees.{same_some, same_result, tree_is, one-followed}}
 use Rattle.std.proofs.Common.{rules}
 
 -- ---- what a tree's references are
@@ -18,15 +18,11 @@ record CanonicalKid (types : Types) (x y : Kid) : Type 0 where
 module _ {types : Types} where
   canonical-along : (m : Meaning ⊥) → EachType (IsCanonicalType types) m → Along ⊥ (CanonicalKid types) (unfolded m) (unfolded m)
   unfolding EachType unfolded
-  canonical-along (number n) h = number-along n
-  canonical-along (integer z) h = integer-along z
-  canonical-along (text t) h = text-along t
-  canonical-along (pattern t) h = pattern-along t
-  canonical-along none h = none-along
   canonical-along (pair a b) h = pair-along _ _ _ _ (canonical-along a h.0) (canonical-along b h.1)
   canonical-along (variant n a) h = variant-along _ _ _ (canonical-along a h)
   canonical-along (reference a) h = absurd a
   canonical-along (followed kind a) h = reference-along _ _ (record { same = refl; canonical = h })
+  canonical-along m h = search (number-along, integer-along, text-along, pattern-along, none-along)
 
   same_kind : (x y : Kid) → CanonicalKid types x y → kind_of_kid y ≡ kind_of_kid x
   same_kind x y h = ap kind_of_kid (sym h.same)
@@ -83,14 +79,10 @@ stored-reads store types type key m can h =
 module _ {store : ℕ → Option Blob} {types : Types} where
   followed-reads : {m : Meaning KeyRef} {a : Meaning ⊥} → EachType (IsReadableType types) a → IsFollowed (StoredAs store types) m a → IsFollowed (ReadsAs store types) m a
   unfolding EachType
-  followed-reads h (number-followed n) = number-followed n
-  followed-reads h (integer-followed z) = integer-followed z
-  followed-reads h (text-followed t) = text-followed t
-  followed-reads h (pattern-followed t) = pattern-followed t
-  followed-reads h none-followed = none-followed
   followed-reads h (pair-followed x y a b f g) = pair-followed x y a b (followed-reads h.0 f) (followed-reads h.1 g)
   followed-reads h (variant-followed n x a f) = variant-followed n x a (followed-reads h f)
   followed-reads h (reference-followed r x a o f) = reference-followed r x a (stored-reads store types (type_of r.kind) r.key x h.0 o) (followed-reads h.1 f)
+  followed-reads h f = search (number-followed, integer-followed, text-followed, pattern-followed, none-followed)
 
 pub tree_readable : IsTreeReadable
 tree_readable store types t key can h = grind (arith, nat_tests, stored-reads, followed-reads)
@@ -135,28 +127,13 @@ module _ {store other : ℕ → Option Blob} {types : Types} (shares : SharesNoK
       let moved = ap (λ (b : Blob). read_typed (blob_context types) (types.nodes type) (rest_of b)) blobs in
       same_result _ m n _ _ first.reads (moved ∙ second.reads)
 
-  same-trees : {m n : Meaning KeyRef} {a b : Meaning ⊥} → EachType (IsReadableType types) a → IsFollowed (StoredAs store types) m a → IsFollowed (StoredAs other types) n b → m ≡ n → a ≡ b
-  unfolding EachType
-  same-trees can (number-followed x) (number-followed y) e = let same : x ≡ y = cc in rw same refl
-  same-trees can (integer-followed x) (integer-followed y) e = let same : x ≡ y = cc in rw same refl
-  same-trees can (text-followed x) (text-followed y) e = let same : x ≡ y = cc in rw same refl
-  same-trees can (pattern-followed x) (pattern-followed y) e = let same : x ≡ y = cc in rw same refl
-  same-trees can none-followed none-followed e = refl
-  same-trees can (pair-followed x y a b h g) (pair-followed x2 y2 a2 b2 h2 g2) e = rw (same-trees can.0 h h2 cc, same-trees can.1 g g2 cc) refl
-  same-trees can (variant-followed x m a h) (variant-followed y n b h2) e = let same : x ≡ y = cc in rw (same, same-trees can h h2 cc) refl
-  same-trees can (reference-followed r x a p h) (reference-followed r2 x2 a2 p2 h2) e =
-      let same : r ≡ r2 = cc in
-      let p3 = let P : KeyRef → Type 0 = λ q. StoredAs other types (type_of q.kind) q.key x2 in subst P (sym same) p2 in
-      rw (same, same-trees can.1 h h2 (same-stored can.0 p p3)) refl
-  same-trees can h g e = absurd cc
-
 pub key_of_one_tree : IsKeyOfOneTree
 key_of_one_tree hash store other types t u k l first second shares type can readable h g = (to, from)
   where
     to : k ≡ l → t ≡ u
     to e =
         let stands = let P : ℕ → ℕ → Type 0 = λ n key. StoredAs other types n key g.own in subst (λ (n : ℕ). P n k) (sym type) (subst (λ (key : ℕ). P u.type key) (sym e) g.stands) in
-        tree_is _ _ _ _ type (same-trees shares readable.1 h.follows g.follows (same-stored shares readable.0 h.stands stands))
+        tree_is _ _ _ _ type (one-followed (IsReadableType types) (λ t key m n can p q. same-stored shares can p q) readable.1 h.follows g.follows (same-stored shares readable.0 h.stands stands))
 
     from : t ≡ u → k ≡ l
     from e =

@@ -2,11 +2,7 @@
 use Rattle.pagable_laws.proofs.Words.{arith, nat_tests, ◌≡◌, ℕ, List, [], ◌∷◌, map, Result, Ok, Err, refl, sym, ap, ◌∙◌, inl, subst, Error, ◌>>=◌, Meaning, pair, variant, followed, rename, Rest}
 use Rattle.pagable_laws.proofs.{Words.{read, Form, rest, at, IsNatural, IsReadOver, IsRenamed, IsReadThrough, KeepsForms}, Along.{Along, number-along, integer-along, text-along, pattern-along}}
 use Rattle.pagable_laws.proofs.{Along.{none-along, pair-along, variant-along, reference-along, followed-along, AllTwo, no-two, more-two, form-along}, Related.{Out, both-given, both-refused}}
-use Rattle.pagable_laws.proofs.Related.{first-refused, OutLook, both-looked-up, both-not, first-not, read_par}
-
--- no cause
-abbrev no_cause : Error → Type 0
-no_cause e = ⊥
+use Rattle.pagable_laws.proofs.Related.{no_cause, any_cause, first-refused, OutLook, both-looked-up, both-not, first-not, read_par}
 
 -- f leads from one to the other
 abbrev Leads : {A C : Type 0} → (A → C) → A → C → Type 0
@@ -98,10 +94,6 @@ pub keeps_forms : {A B : Type 0} → KeepsForms A B
 keeps_forms {A} {B} f kind_of kind_of2 parts left s m b k kinds h =
     let p = form-along {R = Leads f} (λ a c e. rw (← e) (kinds a)) h (along-rename f m) in
     let P : List B → Type 0 = λ l. Form B kind_of2 parts left s (rename f m) b l in subst P (map-all f p.each) p.form
-
--- any cause
-abbrev any_cause : Error → Type 0
-any_cause e = Unit {0}
 
 through-out : {A B C D : Type 0} (f : A → C) (g : B → D) (m : Meaning B) (after : Rest A) {first : Result (Meaning B × Rest A) Error} {second : Result (Meaning D × Rest C) Error}
     → Out any_cause (Leads f) (Along (Unit {0}) (Leads g)) first second

@@ -66,6 +66,13 @@ module _ {A B : Type 0} {F : Type 0} {R : A → B → Type 0} where
 
 -- ---- readers
 
+-- no cause; and any, where what comes of a refusal isn't asked
+abbrev pub no_cause : Error → Type 0
+no_cause e = ⊥
+
+abbrev pub any_cause : Error → Type 0
+any_cause e = Unit {0}
+
 -- as many bytes, and what stands for references as S says
 pub record SameRest {A B : Type 0} (S : A → B → Type 0) (r : Rest A) (q : Rest B) : Type 0 where
   pub bytes : q.bytes ≡ r.bytes

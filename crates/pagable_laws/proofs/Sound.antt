@@ -16,6 +16,10 @@ either None b e is = inr is
 either (Some x) None e is = inl is
 either (Some x) (Some y) e is = grind (arith, nat_tests)
 
+-- the second, where the first isn't it
+past : (a b : Option Error) (e : Error) → (a ≡ Some e → ⊥) → earlier a b ≡ Some e → b ≡ Some e
+past a b e isnt is = elim (either a b e is) [ inl first ↦ absurd (isnt first) | inr second ↦ second ]
+
 chance-if : (b : Bool) (e : Error) → refused_if b Error.NumbersSpent ≡ Some e → IsOfChance e
 chance-if x0 e is = grind (arith, nat_tests)
 
@@ -153,11 +157,7 @@ module _ {N B W E : Type 0} (m : Seen N B W) (s : MachineState N E) (trees : ℕ
     ask-chance : (want : Want) (mid : Core) (e : Error)
         → Refused (ask_fault w Owner.Caller reading.load want) (ask_fault w Owner.Caller reading.load want) ((is_known w want ≡ true) × AreHandlesFull w) w e mid → IsOfChance e
     ask-chance want mid e r = elim r.why [
-      | inl is ↦ elim (either (load_fault w Owner.Caller reading.load) (where_so (is_known w want) (spent w.last.handle)) e is) [
-        | inl a ↦ absurd (no-load-fault e a)
-        | inr b ↦ where-chance
-            (is_known w want) w.last.handle e b
-      ]
+      | inl is ↦ where-chance (is_known w want) w.last.handle e (past (load_fault w Owner.Caller reading.load) _ e (no-load-fault e) is)
       | inr memory ↦ memory-chance e memory.0
     ]
 
@@ -184,13 +184,9 @@ module _ {N B W E : Type 0} (m : Seen N B W) (s : MachineState N E) (trees : ℕ
     of-lazy : (mid : Core) (e : Error) (kind : Kind) (key : ℕ) → need_of v.types reading.frames ≡ needs_lazy kind key → LazyCall w Owner.Caller reading.load kind key (Err e) mid → IsOfChance e
     of-lazy mid e kind key needs c = elim c.refused.why [
       | inr memory ↦ memory-chance e memory.0
-      | inl is ↦ elim (either (load_fault w Owner.Caller reading.load) _ e is) [
-        | inl a ↦ absurd (no-load-fault e a)
-        | inr b ↦ elim (either (refused_if (not (is_loose_kind kind.0)) Error.WrongKind) (node_fault w kind key) e b) [
-          | inl a ↦ absurd (never (not (is_loose_kind kind.0)) Error.WrongKind e (front-lazy reading.frames kind key needs) a)
-          | inr b ↦ node-chance w kind key e b
-        ]
-      ]
+      | inl is ↦
+          let kinds = past (load_fault w Owner.Caller reading.load) _ e (no-load-fault e) is in
+          node-chance w kind key e (past (refused_if (not (is_loose_kind kind.0)) Error.WrongKind) (node_fault w kind key) e (never _ Error.WrongKind e (front-lazy reading.frames kind key needs)) kinds)
     ]
 
     -- the blob that becomes a node is read through a reference that isn't loose, and is of its kind's type
@@ -203,19 +199,15 @@ module _ {N B W E : Type 0} (m : Seen N B W) (s : MachineState N E) (trees : ℕ
         let right = node-right n.top n.below n.frames n.needs in
         elim r.adopted.refused.1.why [
           | inr memory ↦ by-chance (memory-chance e memory.0)
-          | inl is ↦ elim (either (load_fault w Owner.Caller reading.load) _ e is) [
-            | inl a ↦ absurd (no-load-fault e a)
-            | inr b ↦ elim (either (refused_if (is_loose_kind n.top.kind.0) Error.WrongMode) _ e b) [
-              | inl a ↦ absurd (never (is_loose_kind n.top.kind.0) Error.WrongMode e (loose-not n.top.kind.0 right.0) a)
-              | inr c ↦ elim (either (refused_if (not (v.node_type r.x == type_of n.top.kind.0)) Error.WrongKind) _ e c) [
-                | inl a ↦ absurd (never (not (v.node_type r.x == type_of n.top.kind.0)) Error.WrongKind e (same-type (v.node_type r.x) (type_of n.top.kind.0) (n.decoded.typed ∙ right.1)) a)
-                | inr d ↦ elim (either (references_fault w (Owner.Load reading.load) [] (v.references r.x)) (node_fault w n.top.kind n.top.key) e d) [
-                  | inl a ↦ by-references n.top n.below r.x n.frames n.decoded (form-of n.top n.below n.frames r.x n.decoded) a
-                  | inr f ↦ by-chance (node-chance w n.top.kind n.top.key e f)
-                ]
+          | inl is ↦
+              let modes = past (load_fault w Owner.Caller reading.load) _ e (no-load-fault e) is in
+              let kinds = past (refused_if (is_loose_kind n.top.kind.0) Error.WrongMode) _ e (never _ Error.WrongMode e (loose-not n.top.kind.0 right.0)) modes in
+              let rest = past (refused_if (not (v.node_type r.x == type_of n.top.kind.0)) Error.WrongKind) _ e (never _ Error.WrongKind e (same-type (v.node_type r.x)
+              (type_of n.top.kind.0) (n.decoded.typed ∙ right.1))) kinds in
+              elim (either (references_fault w (Owner.Load reading.load) [] (v.references r.x)) (node_fault w n.top.kind n.top.key) e rest) [
+                | inl a ↦ by-references n.top n.below r.x n.frames n.decoded (form-of n.top n.below n.frames r.x n.decoded) a
+                | inr f ↦ by-chance (node-chance w n.top.kind n.top.key e f)
               ]
-            ]
-          ]
         ]
 
     of-root : (mid : Core) (e : Error) → RefusesRoot v w Owner.Caller reading e mid → C e
@@ -225,14 +217,13 @@ module _ {N B W E : Type 0} (m : Seen N B W) (s : MachineState N E) (trees : ℕ
           absurd (subst IsOfKey (ap (λ (x : OpenLoad). x.root) same ∙ paged.3) is.sort)
       | inl (is, ended) ↦ elim ended.refused.1.why [
         | inr memory ↦ by-chance (memory-chance e memory.0)
-        | inl why ↦ elim (either (load_fault w Owner.Caller reading.load) _ e why) [
-          | inl a ↦ absurd (no-load-fault e a)
-          | inr b ↦ elim (either (if_there (λ (x : OpenLoad). root_fault w Owner.Caller (v.node_type r.x) x.root) None (w.loads reading.load.0)) (references_fault w
-              (Owner.Load reading.load) [] (v.references r.x)) e b) [
-                | inl a ↦ by-chance (root-chance r a)
-                | inr f ↦ by-references r.reads_root.root [] r.x r.reads_root.frames r.reads_root.decoded (form-of r.reads_root.root [] r.reads_root.frames r.x r.reads_root.decoded) f
-              ]
-        ]
+        | inl why ↦
+            let rest = past (load_fault w Owner.Caller reading.load) _ e (no-load-fault e) why in
+            elim (either (if_there (λ (x : OpenLoad). root_fault w Owner.Caller (v.node_type r.x) x.root) None (w.loads reading.load.0)) (references_fault w (Owner.Load reading.load) []
+            (v.references r.x)) e rest) [
+              | inl a ↦ by-chance (root-chance r a)
+              | inr f ↦ by-references r.reads_root.root [] r.x r.reads_root.frames r.reads_root.decoded (form-of r.reads_root.root [] r.reads_root.frames r.x r.reads_root.decoded) f
+            ]
       ]
     ]
       where

@@ -203,18 +203,31 @@ NumberFits w vs n =
     ((is_some (w.cells n) && not (nat_lt 0 n && nat_le n w.last.node)) ≡ false) × (is_some (w.cells n) ≡ nat_lt 0 (held n w.rows))
     × (is_some (value_at vs n) ≡ (is_some (w.cells n) && is_here w n)) × ValueFits w n (value_at vs n) × OfSome (LoadFits w n) (w.loads n)
 
--- all that is asked of a pager with few of each, and closed
-pub record Passes (w : Core) (vs : List (Option Sample)) : Type 0 where
+-- of the numbers that were given and of the places; of the workers 0 and 1; and of what the cache knows
+abbrev pub HasRoom : Core → Type 0
+HasRoom w = (nat_le w.last.handle 9 ≡ true) × (nat_le w.last.node 3 ≡ true) × (nat_le w.last.load 3 ≡ true) × (nat_le (length w.rows) w.places.handles ≡ true)
+
+abbrev pub FitsWorkers : Core → Type 0
+FitsWorkers w = (w.workers 0 ≡ false) × ((w.workers 1 && not (nat_le 1 w.last.worker)) ≡ false)
+
+abbrev pub FitsThird : Core → Type 0
+FitsThird w = OfSome (λ t. t ≡ 1) (type_at w 3) × OfSome (λ n. nat_le n w.last.node ≡ true) (w.cache 4 8)
+
+-- all that is asked of a pager with few of each: of it as a whole, and of each number
+pub record Stands (w : Core) (vs : List (Option Sample)) : Type 0 where
   pub short : nat_le (length vs) 4 ≡ true
   pub list : w.list ≡ []
   pub stands_open : w.closed ≡ false
   pub low : IsLow w
   pub rise : Rises 0 w.rows
   pub rows : Each (RowThere w) w.rows
-  pub room : (nat_le w.last.handle 9 ≡ true) × (nat_le w.last.node 3 ≡ true) × (nat_le w.last.load 3 ≡ true) × (nat_le (length w.rows) w.places.handles ≡ true)
+  pub room : HasRoom w
+  pub workers : FitsWorkers w
+  pub third : FitsThird w
+
+pub record Passes (w : Core) (vs : List (Option Sample)) : Type 0 where
+  pub stands : Stands w vs
   pub numbers : NumberFits w vs 0 × NumberFits w vs 1 × NumberFits w vs 2 × NumberFits w vs 3
-  pub workers : (w.workers 0 ≡ false) × ((w.workers 1 && not (nat_le 1 w.last.worker)) ≡ false)
-  pub third : OfSome (λ t. t ≡ 1) (type_at w 3) × OfSome (λ n. nat_le n w.last.node ≡ true) (w.cache 4 8)
 
 past-end : (vs : List (Option Sample)) (n : ℕ) → length vs ≤ n → value_at vs n ≡ None
 unfolding value_at
@@ -227,14 +240,14 @@ module _ (w : Core) (vs : List (Option Sample)) (few : Few w) (p : Passes w vs) 
     where
       past : (n : ℕ) → 3 < n → NumberFits w vs n
       past n lt =
-          let short = p.short in let none : value_at vs n ≡ None = past-end vs n (grind (arith, nat_tests)) in
-          let a = few.0 n lt in let b = few.1 n lt in let c = held-past w.rows p.low n lt in rw (a, b, c, none) (refl, refl, refl, owns-past w.rows p.low n lt, tt)
+          let short = p.stands.short in let none : value_at vs n ≡ None = past-end vs n (grind (arith, nat_tests)) in
+          let a = few.0 n lt in let b = few.1 n lt in let c = held-past w.rows p.stands.low n lt in rw (a, b, c, none) (refl, refl, refl, owns-past w.rows p.stands.low n lt, tt)
 
   row : (h : HandleRow) → Among w.rows h → RowThere w h
-  row h among = each-among (RowThere w) w.rows h p.rows among
+  row h among = each-among (RowThere w) w.rows h p.stands.rows among
 
   low : (h : HandleRow) → Among w.rows h → RowLow h
-  low h among = each-among RowLow w.rows h p.low among
+  low h among = each-among RowLow w.rows h p.stands.low among
 
   load : (l : ℕ) (load : OpenLoad) → w.loads l ≡ Some load → LoadFits w l load
   load l x is = of-some (LoadFits w l) (number l).4 is
@@ -257,41 +270,41 @@ module _ (w : Core) (vs : List (Option Sample)) (few : Few w) (p : Passes w vs) 
     where
       past : (q : ℕ) → 9 < q → nat_eq (refers x q) (owns w n q) ≡ true
       past q lt =
-          let few = p.room.0 in
+          let few = p.stands.room.0 in
           let a : refers x q ≡ 0 = none-pass (λ (r : ArcRef). nat_le r.handle.0 9 ≡ true) (λ r. r.handle.0 == q) (sample_references x) (value n x is).2 (λ r ok. grind (arith, nat_tests)) in
-          let b : owns w n q ≡ 0 = none-pass (RowThere w) (λ h. is_handle q h && is_owned_by (owner_value n) h) w.rows p.rows
+          let b : owns w n q ≡ 0 = none-pass (RowThere w) (λ h. is_handle q h && is_owned_by (owner_value n) h) w.rows p.stands.rows
           (λ h ok. let c = ok.1 in let d : is_handle q h ≡ false = grind (arith, nat_tests) in rw d refl) in
           rw (a, b) refl
 
   list-owns-none : (q : ℕ) → times (λ h. is_handle q h && is_owned_by Owner.List h) w.rows ≡ 0
-  list-owns-none q = none-pass RowLow (λ h. is_handle q h && is_owned_by Owner.List h) w.rows p.low (λ h ok. not-list (is_handle q h) h.owner ok.2)
+  list-owns-none q = none-pass RowLow (λ h. is_handle q h && is_owned_by Owner.List h) w.rows p.stands.low (λ h ok. not-list (is_handle q h) h.owner ok.2)
     where
       not-list : (b : Bool) (o : Owner) → OwnerLow o → (b && is_owner Owner.List o) ≡ false
       not-list x0 x1 ok = grind (arith, nat_tests)
 
   worker-numbered : (v : ℕ) → w.workers v ≡ true → v ≤ w.last.worker
   worker-numbered zero is = omega arith
-  worker-numbered (suc zero) is = let a = p.workers.1 in grind (arith, nat_tests)
+  worker-numbered (suc zero) is = let a = p.stands.workers.1 in grind (arith, nat_tests)
   worker-numbered (suc (suc v)) is = let e = few.2 (suc (suc v)) (omega arith) in absurd (cc)
 
   pub whole-so : WellFormed sample (machine w vs no_work).pager
   whole-so =
-      let (few_handles, few_nodes, few_loads, enough) = p.room in
+      let (few_handles, few_nodes, few_loads, enough) = p.stands.room in
       record {
         whole = record {
           handles = record {
-            ordered = (ordered 0 w.rows p.rise).0;
+            ordered = (ordered 0 w.rows p.stands.rise).0;
             numbered = λ h among. let (a, b, c) = row h among in (grind (arith, nat_tests), grind (arith, nat_tests));
             nodes_numbered = node-numbered;
             within = let a : w.last.handle ≤ 9 = grind (arith, nat_tests) in let b : w.last.node ≤ 3 = grind (arith, nat_tests) in let c : w.last.load ≤ 3 = grind (arith, nat_tests) in
                 (omega arith, omega arith, omega arith);
             live = λ n. (number n).1;
-            uniform = λ n. inl (unshared w.rows p.low n);
-            unkeyed = λ n some. let a = unshared w.rows p.low n in absurd (omega arith);
-            places = (grind (arith, nat_tests), let e : length w.list ≡ 0 = ap length p.list in omega arith);
+            uniform = λ n. inl (unshared w.rows p.stands.low n);
+            unkeyed = λ n some. let a = unshared w.rows p.stands.low n in absurd (omega arith);
+            places = (grind (arith, nat_tests), let e : length w.list ≡ 0 = ap length p.stands.list in omega arith);
           };
           owners_there = record {
-            listed = λ q. subst (λ hs. times (λ h. h.0 == q) hs ≡ times (λ h. is_handle q h && is_owned_by Owner.List h) w.rows) (sym p.list) (sym (list-owns-none q));
+            listed = λ q. subst (λ hs. times (λ h. h.0 == q) hs ≡ times (λ h. is_handle q h && is_owned_by Owner.List h) w.rows) (sym p.stands.list) (sym (list-owns-none q));
             waiting = λ h among is. absurd (subst (λ o. OwnerLow o) is (low h among).2);
             loads = λ h l among is. subst (λ o. OwnerThere w o) is (row h among).2;
             workers = λ h v among is. subst (λ o. OwnerThere w o) is (row h among).2;
@@ -303,12 +316,12 @@ module _ (w : Core) (vs : List (Option Sample)) (few : Few w) (p : Passes w vs) 
           };
           cache = λ kind key n is. let (four, eight, three) = few.3 kind key n is in
               record {
-                given = let a : w.cache 4 8 ≡ Some n = cc in let b = of-some (λ n. nat_le n w.last.node ≡ true) p.third.1 a in grind (arith, nat_tests);
-                typed = λ t at. of-some (λ t. t ≡ 1) p.third.0 (subst (λ k. type_at w k ≡ Some t) three at) ∙ ap type_of (sym four);
+                given = let a : w.cache 4 8 ≡ Some n = cc in let b = of-some (λ n. nat_le n w.last.node ≡ true) p.stands.third.1 a in grind (arith, nat_tests);
+                typed = λ t at. of-some (λ t. t ≡ 1) p.stands.third.0 (subst (λ k. type_at w k ≡ Some t) three at) ∙ ap type_of (sym four);
                 shares = λ h among at. (low h among).1 ∙ ap is_shared_kind (sym four);
               };
           workers_numbered = worker-numbered;
-          shut = λ closed. let e = p.stands_open in absurd (cc);
+          shut = λ closed. let e = p.stands.stands_open in absurd (cc);
         };
         counted = λ n. refl;
         valued = λ n. (number n).2;

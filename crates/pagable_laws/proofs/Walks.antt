@@ -34,7 +34,7 @@ whole-at w vs shelf walking reading (few, p) walks reads = record { pager = whol
     walk-so walking fits n x is = grind (arith, nat_tests)
 
     there : (walking : Option Walking) → FitsWalking w walking → (n : ℕ) → w.workers n ≡ true → is_some (updated 1 walking (λ v. None) n) ≡ true
-    there walking fits zero is = let e = p.workers.0 in absurd (cc)
+    there walking fits zero is = let e = p.stands.workers.0 in absurd (cc)
     there None fits (suc zero) is = absurd (cc)
     there (Some x) fits (suc zero) is = refl
     there walking fits (suc (suc n)) is = let e = few.2 (suc (suc n)) (omega arith) in absurd (cc)
@@ -93,7 +93,7 @@ Asks w s (to_item written keys ∷ below) = CanStore w written keys
 Asks w s todo = ⊥
 
 claims-it : (w : Core) (s : Shelf) (r : _) (place : ℕ) (below : List Todo) → nat_le place 0 ≡ true → claim_fault w r ≡ None → s.slots (identity_of r) ≡ None
-    → let a = two.next_step w s (to_start r place ∷ below) in Walks w s (to_start r place ∷ below) a.took a.core a.shelf a.todo
+    → let a = two.next_step w s (to_start r place ∷ below) in Walks w s (to_start r place ∷ below) a.0 a.1 a.2 a.3
 claims-it w s r place below first good free = grind (arith, nat_tests, alike-self, same-shelf)
 
 pinned-again : (w : Core) (n : NodeNumber) → let q = w.last.handle + 1 in row_at (two.cloned w n) (two.handle q) ≡ Some (row_of q n Mode.LoosePinned (owner_worker 1)) → is_here (two.cloned w n) n.0 ≡ true
@@ -103,7 +103,7 @@ pinned-again w n live here few = grind (arith, nat_tests, alike-self)
 stored-so : (w : Core) (blob : Blob) → w.closed ≡ false → w.stored (digest two.sample blob) ≡ None → StoreCall (digest two.sample) w blob (Ok (digest two.sample blob)) (two.with_blob w blob)
 stored-so w blob is_open free = grind (arith, nat_tests, alike-self)
 
-does-so : (w : Core) (s : Shelf) (todo : List Todo) → Asks w s todo → let a = two.next_step w s todo in Walks w s todo a.took a.core a.shelf a.todo
+does-so : (w : Core) (s : Shelf) (todo : List Todo) → Asks w s todo → let a = two.next_step w s todo in Walks w s todo a.0 a.1 a.2 a.3
 does-so w s (to_start r place ∷ below) (first, good, free) = claims-it w s r place below first good free
 does-so w s (to_pin r place ∷ below) (live, clone_live, here, few) =
     let left : w.last.handle ≤ 6 = grind (arith, nat_tests) in
@@ -143,13 +143,13 @@ does-so w s (to_release r key height ∷ below) alone = record { does = (refl, r
 does-so w s (to_item written keys ∷ below) (all, is_open, free) = search (stored-so w (blob_of written.bytes keys), same-shelf)
 does-so w s todo ok = absurd ok
 
-few-next : (w : Core) (s : Shelf) (todo : List Todo) → Few w → let a = two.next_step w s todo in Few a.core
+few-next : (w : Core) (s : Shelf) (todo : List Todo) → Few w → let a = two.next_step w s todo in Few a.1
 few-next w s (to_set r through key height ∷ below) few = few-fallen (with_key w r.node key) nobody (few-key w r.node key few)
 few-next w s (to_release r key height ∷ below) few = few-fallen w (is_workers_at w 1 r.node.0) few
 few-next w s todo few = few
 
 -- what is written is a form of the value
-writes-so : (w : Core) (s : Shelf) (work : _) (todo : List Todo) → Asks w s todo → let a = two.next_step w s todo in TookWrites two.sample (λ w. w) (two.machine w two.two_values work).pager a.took
+writes-so : (w : Core) (s : Shelf) (work : _) (todo : List Todo) → Asks w s todo → let a = two.next_step w s todo in TookWrites two.sample (λ w. w) (two.machine w two.two_values work).pager a.0
 writes-so w s work (to_write r place through ∷ below) (held, kind) = record { x = two.value_of r.node; held = held; form = form-of (two.value_of r.node) kind; listed = refl }
   where
     form-of : (x : two.Sample) → HasKind x → HasForm two.sample x (two.sample_written x)
@@ -180,7 +180,7 @@ unfoldable pub AllAsk : ℕ → two.Working → Type 0
 AllAsk zero x = Unit {0}
 AllAsk (suc n) x =
     let a = two.next_step x.core x.shelf x.todo in let y = two.next x in
-    (x.answer ≡ None) × Asks x.core x.shelf x.todo × (y.steps ≡ steps_after x.steps (is_counted x.todo a.took)) × EndsSo y.answer a.core × Passes y.core two.two_values
+    (x.answer ≡ None) × Asks x.core x.shelf x.todo × (y.steps ≡ steps_after x.steps (is_counted x.todo a.0)) × EndsSo y.answer a.1 × Passes y.core two.two_values
     × (y.core.workers 1 ≡ is_none y.answer) × AllAsk n y
 
 pub none-there : {X Y : Type 0} (found : Option Y) (x : Option X) → x ≡ None → x ≡ if_there (λ (y : Y). x) None found
@@ -192,25 +192,25 @@ again n x y f q = grind (arith, nat_tests)
 pub few-walked : (n : ℕ) (x : two.Working) → Few x.core → let y = two.walked n x in Few y.core
 unfolding two.walked
 few-walked zero x few = few
-few-walked (suc n) x few = let a = two.next_step x.core x.shelf x.todo in let y = two.next x in few-walked n y (few-ended y.answer a.core (few-next x.core x.shelf x.todo few))
+few-walked (suc n) x few = let a = two.next_step x.core x.shelf x.todo in let y = two.next x in few-walked n y (few-ended y.answer a.1 (few-next x.core x.shelf x.todo few))
 
 pub pages-out : (n : ℕ) (x : two.Working) (xs : List two.Happening) → Few x.core → AllAsk n x → AreMoments two.sample_seen (two.at_work (two.walked n x)) xs → AreMoments two.sample_seen (two.at_work x) (two.page_out n x ++ xs)
 unfolding two.page_out two.walked AllAsk
 pages-out zero x xs few ok rest = rest
 pages-out (suc n) x xs few (works, asks, counts, ends, passes, at_work, ok) rest =
-    let a = two.next_step x.core x.shelf x.todo in let y = two.next x in let few_then = few-ended y.answer a.core (few-next x.core x.shelf x.todo few) in (
+    let a = two.next_step x.core x.shelf x.todo in let y = two.next x in let few_then = few-ended y.answer a.1 (few-next x.core x.shelf x.todo few) in (
       record {
         step = record {
           happens = record {
             moves = record {
-              walking = two.walking x;
-              after = site a.core a.shelf a.todo;
+              walking = (two.walking x);
+              after = site a.1 a.2 a.3;
               at = refl;
               at_work = works;
               does = does-so x.core x.shelf x.todo asks;
               answers = refl;
               counts = counts;
-              ends = ends-so y.answer a.core ends;
+              ends = ends-so y.answer a.1 ends;
               readings = λ l. none-there (y.core.loads l) None refl;
               work = record { same_shelves = λ t. shelf-again x.shelf y.shelf t; last_is = refl; same_walkings = again 1 (Some (two.walking x)) (Some (two.walking y)) (λ q. None) };
             };

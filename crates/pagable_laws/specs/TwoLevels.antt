@@ -1,14 +1,14 @@
 -- A chain of moments of two levels. A value is a leaf, of the type 1, which has no byte; or a parent, of the type 0, which is a reference to a leaf
 -- through a loose handle. Both are born, an item that refers to the parent is paged out, the parent is evicted with its child and is read again, and the
 -- child's key is read.
-use Rattle.std.specs.Prelude.{ℕ, zero, suc, ◌≡◌, ◌+◌, ◌==◌, ◌&&◌, not, if◌then◌else◌, Bool, [], ◌∷◌, List, ◌++◌, length, Option, Some, None, Ok, Result}
+use Rattle.std.specs.Prelude.{ℕ, zero, suc, ◌≡◌, ◌+◌, ◌==◌, ◌&&◌, not, if◌then◌else◌, Bool, [], ◌∷◌, List, ◌++◌, length, Option, Some, None, Ok}
 use Rattle.pagable_model.specs.{Meaning.{none, reference}, Merkle.blob_of}
 use Rattle.pagable_world.specs.{Plain.{ArcRef, HandleNumber, LoadNumber, NodeNumber, Blob, Meaning, Types, is_in, updated, if_there, OptionalDataKey}, declared.rows.Mode.Mode}
 use Rattle.pagable_world.specs.{declared.answers.Beginning.Beginning, declared.calls.Call.Call, declared.calls.Reply.Reply, declared.events.Claim.Claim, declared.events.PinStep.PinStep}
 use Rattle.pagable_world.specs.{declared.handles.Owner.Owner, declared.events.Took.Took, declared.events.WorkerAnswer.WorkerAnswer, declared.events.LoadAnswer.LoadAnswer, declared.events.Event.Event}
-use Rattle.pagable_world.specs.{declared.events.EventReply.EventReply, declared.handles.HandleRow.HandleRow, Kinds.{pins, identity_of, owner_value, owner_worker}}
+use Rattle.pagable_world.specs.{declared.events.EventReply.EventReply, Kinds.{pins, identity_of, owner_value, owner_worker}}
 use Rattle.pagable_world.specs.World.{Core, Written, Values, Seen, Shelf, no_result, published, Todo, to_start, to_pin, to_write, to_finish, to_item, to_set, to_publish, to_release, of_item, of_cell, of_key}
-use Rattle.pagable_world.specs.{World.{Walking, Work, Reading, digest, row_at}, Cascade.{fallen, nobody}, Calls.{with_handle, with_mode, with_key, with_node, next_node, moved, is_named_by}}
+use Rattle.pagable_world.specs.{World.{Walking, Work, Reading, digest}, Cascade.{fallen, nobody}, Calls.{with_handle, with_mode, with_key, with_node, next_node, moved, is_named_by}}
 use Rattle.pagable_world.specs.{LoadCalls.{with_load, without_load, with_pin, is_owned_in, adopted}, Loads.{root_frame, gone_on}, Events.{no_shelf, with_worker}, Pager.MachineState, Runs.Moment}
 use Rattle.pagable_world.specs.Workers.{with_slot, with_wait, with_changed_slot, with_outcome, without_worker, is_workers, is_workers_at, fresh, give, open_node, first_todo, answer_after}
 use Rattle.pagable_laws.specs.SmallWorlds.{empty, no_work}
@@ -140,41 +140,25 @@ with_blob w blob = record w { stored = λ q. if q == digest sample blob then Som
 abbrev pub value_of : NodeNumber → Sample
 value_of n = if_there (λ x. x) leaf (value_at two_values n.0)
 
--- what a step takes, and what it leaves
-pub record Stepped : Type 0 where
-  pub took : Took Written
-  pub core : Core
-  pub shelf : Shelf
-  pub todo : List Todo
-
-abbrev pub next_step : Core → Shelf → List Todo → Stepped
+-- what a step takes; and what it leaves of pager, table and list
+abbrev pub next_step : Core → Shelf → List Todo → Took Written × Core × Shelf × List Todo
 next_step w s (to_start r place ∷ below) =
     let claimed = with_slot (with_wait s 1 None) (identity_of r) (Some (record { worker = 1; written = None; outcome = no_result })) in
-    record { took = Took.Claim (identity_of r) (Ok Claim.Claimed); core = w; shelf = claimed; todo = to_pin r place ∷ below }
+    (Took.Claim (identity_of r) (Ok Claim.Claimed), w, claimed, to_pin r place ∷ below)
 next_step w s (to_pin r place ∷ below) =
-    record {
-      took = Took.Pin (identity_of r) (Ok (PinStep.Held (handle (w.last.handle + 1 + 1))));
-      core = pinned_at w r.node;
-      shelf = s;
-      todo = to_write r place (handle (w.last.handle + 1)) ∷ below;
-    }
+    (Took.Pin (identity_of r) (Ok (PinStep.Held (handle (w.last.handle + 1 + 1)))), pinned_at w r.node, s, to_write r place (handle (w.last.handle + 1)) ∷ below)
 next_step w s (to_write r place through ∷ below) =
     let written = sample_written (value_of r.node) in
-    let wrote = with_changed_slot s (identity_of r) (λ slot. record slot { written = Some written }) in
-    record { took = Took.Write (identity_of r) (Ok written); core = w; shelf = wrote; todo = open_node r place through written below }
+    (Took.Write (identity_of r) (Ok written), w, with_changed_slot s (identity_of r) (λ slot. record slot { written = Some written }), open_node r place through written below)
 next_step w s (to_finish o ∷ below) =
     let blob = blob_of o.written.bytes o.keys in let key = digest sample blob in
-    record { took = Took.Store (Some (identity_of o.reference)) (Ok key); core = with_blob w blob; shelf = s; todo = to_set o.reference o.through key o.height ∷ below }
-next_step w s (to_set r through key height ∷ below) =
-    record { took = Took.SetKey (identity_of r) (Ok tt); core = fallen (with_key w r.node key) nobody []; shelf = s; todo = to_publish r key height ∷ below }
+    (Took.Store (Some (identity_of o.reference)) (Ok key), with_blob w blob, s, to_set o.reference o.through key o.height ∷ below)
+next_step w s (to_set r through key height ∷ below) = (Took.SetKey (identity_of r) (Ok tt), fallen (with_key w r.node key) nobody [], s, to_publish r key height ∷ below)
 next_step w s (to_publish r key height ∷ below) =
-    let shown = with_changed_slot s (identity_of r) (with_outcome (published key height)) in
-    record { took = Took.Publish (identity_of r) key height; core = w; shelf = shown; todo = to_release r key height ∷ below }
-next_step w s (to_release r key height ∷ below) =
-    record { took = Took.Release (identity_of r); core = fallen w (is_workers_at w 1 r.node.0) []; shelf = s; todo = give r key height below }
-next_step w s (to_item written keys ∷ below) =
-    let blob = blob_of written.bytes keys in record { took = Took.Store None (Ok (digest sample blob)); core = with_blob w blob; shelf = s; todo = [] }
-next_step w s todo = record { took = Took.Fail; core = w; shelf = s; todo = [] }
+    (Took.Publish (identity_of r) key height, w, with_changed_slot s (identity_of r) (with_outcome (published key height)), to_release r key height ∷ below)
+next_step w s (to_release r key height ∷ below) = (Took.Release (identity_of r), fallen w (is_workers_at w 1 r.node.0) [], s, give r key height below)
+next_step w s (to_item written keys ∷ below) = let blob = blob_of written.bytes keys in (Took.Store None (Ok (digest sample blob)), with_blob w blob, s, [])
+next_step w s todo = (Took.Fail, w, s, [])
 
 -- with its answer the worker ends
 abbrev pub ended : Option WorkerAnswer → Core → Core
@@ -183,8 +167,8 @@ ended (Some answer) w = fallen (without_worker w 1) (is_workers w 1) []
 
 abbrev pub next : Working → Working
 next x =
-    let step = next_step x.core x.shelf x.todo in let answer = answer_after x.todo step.took in
-    record { core = ended answer step.core; shelf = step.shelf; todo = step.todo; steps = x.steps + 1; answer = answer }
+    let (took, core, shelf, todo) = next_step x.core x.shelf x.todo in let answer = answer_after x.todo took in
+    record { core = ended answer core; shelf = shelf; todo = todo; steps = x.steps + 1; answer = answer }
 
 -- so many steps later
 unfoldable pub walked : ℕ → Working → Working
@@ -211,27 +195,27 @@ abbrev pub child_got : Core
 child_got = adopted loading (load_number 1) (record { 0 = 4 }) 8 (OptionalDataKey.Some 8) []
 
 -- it ends with a pin by the caller's handle, its value gets what it refers to, and it gives up its own handle
-abbrev pub installed : Core
-installed = with_pin (record (without_load child_got (load_number 1)) { rows = moved (is_named_by (to_leaf 3 8 ∷ [])) (owner_value 2) child_got.rows }) (handle 2) (node 2) Owner.Caller
+abbrev pub installed : Core → Core
+installed w = with_pin (record (without_load w (load_number 1)) { rows = moved (is_named_by (to_leaf 3 8 ∷ [])) (owner_value 2) w.rows }) (handle 2) (node 2) Owner.Caller
 
-abbrev pub given_up : ℕ → Bool
-given_up q = is_owned_in child_got (Owner.Load (load_number 1)) q && not (is_named_by (to_leaf 3 8 ∷ []) q)
+abbrev pub given_up : Core → ℕ → Bool
+given_up w q = is_owned_in w (Owner.Load (load_number 1)) q && not (is_named_by (to_leaf 3 8 ∷ []) q)
 
 abbrev pub loaded : Core
-loaded = fallen installed given_up []
+loaded = let w = child_got in fallen (installed w) (given_up w) []
 
 -- the caller's load of the child's key, which ends with no handle
 abbrev pub key_loading : Core
 key_loading = with_load loaded 8 of_key Owner.Caller
 
-abbrev pub handed : Core
-handed = record (without_load key_loading (load_number 2)) { rows = moved (is_in []) Owner.Caller key_loading.rows }
+abbrev pub handed : Core → Core
+handed w = record (without_load w (load_number 2)) { rows = moved (is_in []) Owner.Caller w.rows }
 
-abbrev pub not_handed : ℕ → Bool
-not_handed q = is_owned_in key_loading (Owner.Load (load_number 2)) q && not (is_in [] q)
+abbrev pub not_handed : Core → ℕ → Bool
+not_handed w q = is_owned_in w (Owner.Load (load_number 2)) q && not (is_in [] q)
 
 abbrev pub read_back : Core
-read_back = fallen handed not_handed []
+read_back = let w = key_loading in fallen (handed w) (not_handed w) []
 
 abbrev pub parent_fetched : Reading
 parent_fetched = gone_on (fresh (load_number 1) 0) (root_frame 24 0 parent_blob ∷ [])
@@ -292,7 +276,7 @@ page_out zero x = []
 page_out (suc n) x =
     let y = next x in
     moment (Event.WorkerStep (record { 0 = 1 }))
-    (EventReply.WorkerMoved (Ok (record { took = (next_step x.core x.shelf x.todo).took; answer = y.answer; steps = y.steps }))) (at_work y) ∷ page_out n y
+    (EventReply.WorkerMoved (Ok (record { took = (next_step x.core x.shelf x.todo).0; answer = y.answer; steps = y.steps }))) (at_work y) ∷ page_out n y
 
 -- a load's step, and the machine after it, for which the worker has answered
 abbrev pub afterwards : Core → List (Option Sample) → Option Reading → MachineState Sample (Unit {0})
