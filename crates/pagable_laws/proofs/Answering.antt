@@ -1,6 +1,6 @@
 -- What follows for keys: each that is published is its tree's, each that is answered is its task's, and what a worker met that answers one is left paged out.
-use Rattle.pagable_laws.proofs.Words.{arith, nat_tests, ◌≡◌, ℕ, true, List, [], ◌∷◌, Option, Some, None, Ok, Err, refl, sym, ap, subst, ◌∙◌, is_some, OptionalDataKey, pair, variant}
-use Rattle.pagable_laws.proofs.Words.{followed, EachType, blob_of, KeyOf, KeyOfItem, ArcRef, Identity, is_loose_kind, Meaning, Tree, HandleNumber, ReadsTree, WorkerNumber, type_of, if_there, Event}
+use Rattle.pagable_laws.proofs.Words.{arith, nat_tests, ◌≡◌, ℕ, true, List, [], ◌∷◌, Option, Some, None, Ok, Err, refl, sym, ap, subst, ◌∙◌, is_some, OptionalDataKey}
+use Rattle.pagable_laws.proofs.Words.{blob_of, KeyOf, KeyOfItem, ArcRef, Identity, is_loose_kind, Tree, HandleNumber, ReadsTree, WorkerNumber, if_there, Event}
 use Rattle.pagable_laws.proofs.Words.{EventReply, Took, WorkerAnswer, WorkerReply, identity_of, has_key, Core, Cell, key_at, Shelf, Slot, Written, Fault, Todo, to_item}
 use Rattle.pagable_laws.proofs.Words.{to_set, to_publish, to_release, to_fail, Task, of_item, of_entry, Walking, Values, Seen, Site, Does, IsPublished, answer_after, WorkerSteps, Happens, PagerState}
 use Rattle.pagable_laws.proofs.Words.{MachineState, world_of, kids_of, HandlesAreWhole, IsMachineWhole, KeyFits, NodeStands, Represents, StandsFor, ReadsItsTypes, Meets, meets-of-item}

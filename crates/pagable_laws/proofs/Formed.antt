@@ -1,7 +1,7 @@
 -- Where a key is known, the tree has a form, and so has each that it reaches.
 use Rattle.pagable_laws.proofs.Words.{arith, nat_tests, ◌≡◌, ℕ, Bool, true, false, List, refl, sym, ap, subst, ◌∙◌, inl, inr, pair, variant, followed, TreeForm, ArcRef, Identity, Meaning, Tree, tree}
 use Rattle.pagable_laws.proofs.Words.{type_of, Among, identity_of, Shelf, Written, Task, of_item, of_entry, Values, IsPublished, MachineState, kids_of, Reaches, refers, refers-on, in-first, in-rest}
-use Rattle.pagable_laws.proofs.Words.{in-part, HasNoForm, LeadsToNoForm, IsFormlessTask, ground_of, FollowsTo, number-follows, integer-follows, text-follows, pattern-follows, none-follows}
+use Rattle.pagable_laws.proofs.Words.{in-part, HasNoForm, LeadsToNoForm, IsFormlessTask, ground_of, FollowsTo}
 use Rattle.pagable_laws.proofs.{Words.{pair-follows, variant-follows, reference-follows, WroteTree, WorkFits, IsDone}, Trees.{same_some, tree_is}, Following.{known-of, tree-form}}
 
 -- whether anything stands in the meaning that may refer

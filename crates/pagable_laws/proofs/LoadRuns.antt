@@ -2,7 +2,7 @@
 use Rattle.std.proofs.{Common.{◌≡◌, ℕ, zero, ◌+◌, ◌<◌, ◌≤◌, ◌==◌, true, List, [], Option, Some, None, if◌then◌else◌, inl, inr, refl, sym, ap, subst, ◌∙◌, arith}, lemmas.Bool.Decides.nat_tests}
 use Rattle.pagable_world.specs.{World.{Core, Last, Alike, Root, of_cell, of_key, OpenLoad, Frame, Reading, Written, Values, Seen, IsLawful, type_at}, Pager.{PagerState, WellFormed, Moves}}
 use Rattle.pagable_world.specs.{Pager.{ReadingBrings, Represents, ReadingFits, FramesFit, SameTrees}, Access.{ReadingStep, LoadRun, load-ends, load-goes-on, LoadAsksWell, PinLaw, ReadLaw}}
-use Rattle.pagable_world.specs.{Calls.with_handle, Events.{reading_of_root, reading_of_load}, Headline.ReadIsRight, Kinds.held, LoadCalls.with_load, Loads.{Does, EndsRead, ReadsRoot, gone_on}}
+use Rattle.pagable_world.specs.{Calls.with_handle, Events.{reading_of_load}, Headline.ReadIsRight, Kinds.held, LoadCalls.with_load, Loads.{Does, EndsRead, ReadsRoot, gone_on}}
 use Rattle.pagable_world.specs.{Plain.{ArcRef, Blob, LoadNumber, NodeNumber, Tree, Among}, Refusals.IsReference, Runs.{ReadsItsTypes, HoldsSettled, TakesWell}, Workers.fresh}
 use Rattle.pagable_world.specs.{declared.events.LoadAnswer.LoadAnswer, declared.handles.HandleRow.HandleRow}
 use Rattle.pagable_laws.proofs.{Brought.reading-fits, Calling.{begins, begins-key}, Decoding.decodes, EventSteps.core-goes, Felt.fits-nothing, Fitting.{first-fits, frames-stay}, Goes.Goes}

@@ -1,10 +1,10 @@
 -- The births, the eviction and the loads of the chain of two levels are moments of the machine.
-use Rattle.pagable_laws.proofs.Words.{◌≡◌, ℕ, ◌+◌, ◌≤◌, ◌<◌, ◌==◌, Bool, true, false, List, [], ◌∷◌, refl, sym, subst, inl, inr, arith, ◌⊎◌, Option, Some, None, Ok, is_some, nat_tests, updated, if_there, Owner, Mode}
+use Rattle.pagable_laws.proofs.Words.{◌≡◌, ℕ, ◌<◌, ◌==◌, Bool, true, false, List, [], ◌∷◌, refl, sym, subst, inl, inr, arith, ◌⊎◌, Option, Some, None, Ok, is_some, nat_tests, updated, if_there, Owner, Mode}
 use Rattle.pagable_laws.proofs.Words.{LoadAnswer, Core, OpenLoad, of_cell, of_key, Frame, Reading, references_fault, row_of, BeginCall, ReadingDoes, root_frame, find_row, is_keyed, owned_outside, IsClosed}
-use Rattle.pagable_laws.proofs.Words.{IsWithin, IsLeast, nobody, with_mode, is_named_by, UnpinCall, value_at, is_in, named_fault, answers_from, ReadsRoot, IsCellOf, Event, EventReply, one_more, load_fault}
-use Rattle.pagable_laws.proofs.Words.{reading_at, reading_after, ReadingsAre, ReadingBrings, world_of, AreMoments, Walking, WorkStays, OnlyCore, no_shelf, zero, suc, ◌++◌, Beginning, nat_le, length, MachineState, Shelf, Work, Blob, Written, fresh, preimage}
+use Rattle.pagable_laws.proofs.Words.{IsWithin, nobody, with_mode, is_named_by, UnpinCall, value_at, is_in, named_fault, answers_from, ReadsRoot, IsCellOf, Event, EventReply, one_more, load_fault}
+use Rattle.pagable_laws.proofs.Words.{reading_at, reading_after, ReadingsAre, ReadingBrings, world_of, AreMoments, Walking, WorkStays, OnlyCore, no_shelf, ◌++◌, Beginning, nat_le, length, MachineState, Shelf, Blob, Written, fresh, preimage}
 use Rattle.pagable_laws.proofs.{Tested.{alike-self, falls-alone, falls-so, Passes, Few, updated-past, Stands, IsLow, Rises, Each, RowThere, HasRoom, FitsWorkers, FitsThird}, Two.and-false}
-use Rattle.pagable_laws.proofs.Walks.{same-shelf, none-there, few-fallen, few-walked, whole-at, Good, again, FitsWalking, FitsReading, begun-asks, pages-out}
+use Rattle.pagable_laws.proofs.Walks.{same-shelf, none-there, few-fallen, few-walked, whole-at, Good, again, FitsWalking, FitsReading}
 use Rattle.pagable_world.specs.{Runs.Does, Events.Happens, LoadCalls.IsNextLoad, Pager.EventBrings, Pager.ReplyWrites}
 use Rattle.pagable_laws.specs.TwoLevels as two
 use Rattle.pagable_model.specs.Reading as grammar

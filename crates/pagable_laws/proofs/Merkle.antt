@@ -1,5 +1,5 @@
 -- A tree of canonical types has one key, a stored tree has the key that it stands under, and keys tell trees apart.
-use Rattle.pagable_laws.proofs.Words.{arith, nat_tests, ◌≡◌, ℕ, List, [], ◌∷◌, map, Option, Ok, refl, sym, ap, ◌∙◌, subst, append-nil, Meaning, number, integer, text, pattern, none, pair, variant}
+use Rattle.pagable_laws.proofs.Words.{arith, nat_tests, ◌≡◌, ℕ, List, [], ◌∷◌, map, Option, Ok, refl, sym, ap, ◌∙◌, subst, append-nil, Meaning, pair, variant}
 use Rattle.pagable_laws.proofs.Words.{reference, followed, Shape, read, read_typed, Blob, key_of, Tree, KeyRef, Types, tree, key_ref, type_of, ReadsAs, IsFollowed, number-followed, integer-followed}
 use Rattle.pagable_laws.proofs.Words.{text-followed, pattern-followed, none-followed, pair-followed, variant-followed, reference-followed, blob_context, rest_of, Kid, kind_of_kid, tree_of_kid}
 use Rattle.pagable_laws.proofs.Words.{unfolded, TreeForm, blob_of, KeyOf, key-of, KeysOf, no-keys, more-keys, kind_of_ref, key_of_ref, StoredAs, HasOwnKeys, SharesNoKey, EachType, IsCanonicalType}

@@ -1,11 +1,11 @@
 -- The page-out of the chain of two levels: what a step of its worker asks of pager, table and list, and that it is then one of the machine.
-use Rattle.pagable_laws.proofs.Words.{◌++◌, ◌≡◌, ◌==◌, ℕ, zero, suc, ◌+◌, ◌<◌, ◌≤◌, Bool, true, false, List, [], ◌∷◌, length, refl, inl, inr, arith, Some, None, Option, Ok, nat_le, is_some, is_none, if_there}
-use Rattle.pagable_laws.proofs.Words.{blob_of, HandleNumber, NodeNumber, Blob, Took, Owner, Mode, Pinning, PinStep, WorkerAnswer, HandleRow, PagerState, TodoTakesWell, ArePremised, find_row, is_named_by, preimage, IsSettled, sym, references_fault, is_in, ◌∙◌, nat_tests, identity_of, Core, Shelf, Written, Todo, Reading}
+use Rattle.pagable_laws.proofs.Words.{◌++◌, ◌≡◌, ℕ, zero, suc, ◌+◌, ◌<◌, ◌≤◌, Bool, true, false, List, [], ◌∷◌, length, refl, inl, inr, arith, Some, None, Option, Ok, nat_le, is_some, is_none, if_there}
+use Rattle.pagable_laws.proofs.Words.{blob_of, HandleNumber, NodeNumber, Blob, Took, Owner, Mode, Pinning, WorkerAnswer, HandleRow, PagerState, TodoTakesWell, ArePremised, find_row, is_named_by, preimage, IsSettled, sym, references_fault, is_in, ◌∙◌, nat_tests, identity_of, Core, Shelf, Written, Todo, Reading}
 use Rattle.pagable_laws.proofs.Words.{to_start, to_pin, to_load, to_write, to_set, to_publish, to_release, to_finish, to_item, row_at, is_here, digest, nobody, row_of, with_key, CloneCall, PinCall, StoreCall}
-use Rattle.pagable_laws.proofs.Words.{WalkDoes, claim_fault, is_workers_at, nothing-form, reference-form, fallen, without_worker, is_workers, IsWrittenOf, AreMoments, Walking, updated, MachineState, Ends}
-use Rattle.pagable_laws.proofs.Words.{answer_after, is_counted, steps_after, TookWrites, SameShelf, no_shelf, IsMachineWhole, IsReadingWhole, IsWalkingWhole, value_at, owner_worker, Values}
+use Rattle.pagable_laws.proofs.Words.{WalkDoes, claim_fault, is_workers_at, nothing-form, reference-form, fallen, without_worker, is_workers, AreMoments, Walking, updated, Ends}
+use Rattle.pagable_laws.proofs.Words.{is_counted, steps_after, TookWrites, SameShelf, no_shelf, IsMachineWhole, IsReadingWhole, IsWalkingWhole, value_at, owner_worker}
 use Rattle.pagable_laws.proofs.Tested.{alike-self, falls-alone, AreAlone, Few, Passes, whole-so, updated-past}
-use Rattle.pagable_world.specs.{Workers.Site, World.HasForm, Runs.Does}
+use Rattle.pagable_world.specs.{Workers.Site, World.HasForm}
 use Rattle.pagable_laws.specs.TwoLevels as two
 
 -- ---- the machine over a pager that passes
