@@ -1,11 +1,11 @@
 -- A form goes along: where each reference is replaced by one of the same kind, the bytes are a form of what results.
 use Rattle.pagable_laws.proofs.Words.{nat_tests, ◌≡◌, ℕ, ℤ, Bool, true, false, List, [], ◌∷◌, ◌++◌, length, ◌⊎◌, inl, inr, refl, sym, ap, ◌∙◌, arith, Ordering, is_eq-slice_cmp, Meaning, number}
 use Rattle.pagable_laws.proofs.Words.{integer, text, pattern, none, pair, variant, reference, followed, sequence, plain, lifted, rename, Entry, KeyOrder, ordered, same_key, code, code_order}
-use Rattle.pagable_laws.proofs.Words.{text_order, put_all, put_sorted, Apart, AllAfter, Ascends, ItemsAscend, Differ, ItemsDiffer, of_entries, of_hash_map, Shape, Form, Forms, Entries, nothing-form}
-use Rattle.pagable_laws.proofs.Words.{unsigned-form, signed-form, flag-form, text-form, letter-form, duration-form, pattern-form, none-form, some-form, err-form, ok-form, list-form, run-form}
-use Rattle.pagable_laws.proofs.Words.{array-form, both-form, sorted-map-form, placed-map-form, hash-map-form, sorted-set-form, placed-set-form, static-form, tagged-form, case-form, reference-form}
-use Rattle.pagable_laws.proofs.Words.{nested-form, json-null-form, json-flag-form, json-number-form, json-text-form, json-array-form, json-object-form, no-forms, more-forms, no-entries, more-entries}
-use Rattle.pagable_laws.proofs.{Words.HasNoReference, Putting.{After, AllAfterThose, after_none}}
+use Rattle.pagable_laws.proofs.Words.{text_order, put_all, put_sorted, Apart, AllAfter, Ascends, ItemsAscend, Differ, ItemsDiffer, of_entries, of_hash_map, Shape, Form, Forms, Entries}
+use Rattle.pagable_laws.proofs.Words.{nothing-form, unsigned-form, signed-form, flag-form, text-form, letter-form, duration-form, pattern-form, none-form, some-form, err-form, ok-form, list-form}
+use Rattle.pagable_laws.proofs.Words.{run-form, array-form, both-form, sorted-map-form, placed-map-form, hash-map-form, sorted-set-form, placed-set-form, static-form, tagged-form, case-form}
+use Rattle.pagable_laws.proofs.Words.{reference-form, nested-form, json-null-form, json-flag-form, json-number-form, json-text-form, json-array-form, json-object-form, no-forms, more-forms}
+use Rattle.pagable_laws.proofs.{Words.{no-entries, more-entries, HasNoReference, Among, references_in, zero, suc, subst}, Again.{After, AllAfterThose, after_none}}
 use Rattle.std.specs.{declared.cmp.Ordering.Ordering, Ordering.{match_ordering, eq_by_cmp}}
 use Rattle.pagable_model.specs.Meaning as meanings
 
@@ -33,6 +33,21 @@ length-two (more-two x y xs ys r h) = omega (arith, length-two h)
 pub append-two : {X Y : Type 0} {R : X → Y → Type 0} {xs us : List X} {ys vs : List Y} → AllTwo R xs ys → AllTwo R us vs → AllTwo R (xs ++ us) (ys ++ vs)
 append-two no-two g = g
 append-two (more-two x y xs ys r h) g = more-two x y _ _ r (append-two h g)
+
+-- each has its other
+pub each-two : {X Y : Type 0} {R : X → Y → Type 0} {xs : List X} {ys : List Y} → AllTwo R xs ys → (x : X) → Among xs x → (y : Y) × R x y
+each-two no-two x (i, e) = absurd (cc)
+each-two {R = R} (more-two a b xs ys h g) x (zero, e) = let same : a ≡ x = cc in (b, subst (λ z. R z b) same h)
+each-two (more-two a b xs ys h g) x (suc i, e) = each-two g x (i, e)
+
+-- references of meanings that are along, one by one
+pub refs-two : {A B : Type 0} {R : A → B → Type 0} {m : Meaning A} {n : Meaning B} → Along ⊥ R m n → AllTwo R (references_in m) (references_in n)
+unfolding references_in
+refs-two (pair-along x y a b h g) = append-two (refs-two h) (refs-two g)
+refs-two (variant-along n x a h) = refs-two h
+refs-two (reference-along a b r) = more-two a b [] [] r no-two
+refs-two (followed-along kind x a n h) = absurd n
+refs-two _ = no-two
 
 -- a relation of items goes over to those that they are along with
 pub apart-two : {X Y : Type 0} {V : X → Y → Type 0} (R : X → X → Type 0) (S : Y → Y → Type 0) → ((x x2 : X) (y y2 : Y) → V x y → V x2 y2 → R x x2 → S y y2) → {xs : List X} {ys : List Y}

@@ -2,10 +2,10 @@
 use Rattle.pagable_laws.proofs.Words.{nat_tests, ◌≡◌, ℕ, ◌+◌, ◌<◌, Bool, true, List, [], ◌∷◌, length, Option, Some, None, Ok, Err, inl, inr, refl, sym, ap, subst, ◌∙◌, arith, not, Error, Want}
 use Rattle.pagable_laws.proofs.Words.{Owner, Took, Event, EventReply, Kind, HandleNumber, LoadNumber, Blob, Tree, Types, type_of, is_eager, is_loose_kind, longest_path, if_there, any_mode}
 use Rattle.pagable_laws.proofs.Words.{owner_worker, Core, OpenLoad, Frame, Reading, Todo, Walking, Seen, IsLawful, earlier, refused_if, spent, load_fault, named_fault, Refused, AskCall}
-use Rattle.pagable_laws.proofs.Words.{node_fault, root_fault, cell_fault, asks, next_in, need_of, needs_nested, is_broken, RefusesBlob, RefusesNested}
-use Rattle.pagable_laws.proofs.Words.{RefusesRoot, Fails, handles_of, Happens, after_kinds, LeadsDown, is-there, goes-down, ReadsTooDeep, MachineState, world_of, FramesFit, IsReadingOf, of_caller}
-use Rattle.pagable_laws.proofs.{Words.{of_worker, LoadIsDeep, DeepLoadLaw}, Trees.same_some, Fitting.asked, Chains.IsGoingOn, Deeply.along-first, ReadingStepsKinds.{kinds_of, asks-by-kinds}}
-use Rattle.pagable_laws.proofs.{ReadingStepsKinds.faulty-by-kinds, ReadingStepsMachine.reading-stands, Asking.FramesAsked, Known.broken-is, KnownSteps.eager-nested, Sound.either, Soundly.{by-all, by-handle-row}}
+use Rattle.pagable_laws.proofs.Words.{node_fault, root_fault, cell_fault, asks, next_in, need_of, needs_nested, is_broken, RefusesBlob, RefusesNested, RefusesRoot, Fails, handles_of, Happens}
+use Rattle.pagable_laws.proofs.Words.{after_kinds, LeadsDown, is-there, goes-down, ReadsTooDeep, MachineState, world_of, FramesFit, IsReadingOf, of_caller, of_worker, LoadIsDeep, DeepLoadLaw}
+use Rattle.pagable_laws.proofs.{Trees.same_some, Fitting.asked, Chains.IsGoingOn, Deeply.along-first, ReadingStepsKinds.{kinds_of, asks-by-kinds, faulty-by-kinds}}
+use Rattle.pagable_laws.proofs.{ReadingStepsMachine.reading-stands, Apart.FramesAsked, Sound.{broken-is, either, by-all, by-handle-row}, KnownSteps.eager-nested}
 use Rattle.pagable_world.specs.Loads.{Does}
 use Rattle.pagable_world.specs.Workers as workers
 

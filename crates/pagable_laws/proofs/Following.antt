@@ -1,16 +1,15 @@
 -- A form of a node's value is one of its tree: over its references it is followed to their nodes' trees, and with their keys it stands under the tree's own.
-use Rattle.pagable_laws.proofs.Words.{◌≡◌, ℕ, suc, ◌+◌, ◌<◌, ◌≤◌, ◌==◌, ◌&&◌, Bool, true, false, List, [], ◌∷◌, map, Option, Some, Result, Ok, refl, sym, ap, subst, ◌∙◌, inr, arith}
-use Rattle.pagable_laws.proofs.Words.{is_some, nat_lt, slice_get, nat_tests, append-nil, sum_by-cons, get_or_from_slice_get, slice_get_within, Error, reference, rename, references_in, Rest}
-use Rattle.pagable_laws.proofs.Words.{deepest, Form, kind_of_arc, IsReadable, Throughout, Kid, kid, kind_of_kid, KeyRef, key_ref, IsFollowed, number-followed, integer-followed, text-followed}
-use Rattle.pagable_laws.proofs.Words.{pattern-followed, none-followed, pair-followed, variant-followed, reference-followed, unfolded, TreeForm, blob_of, KeyOf, key-of, KeysOf, no-keys, more-keys}
-use Rattle.pagable_laws.proofs.Words.{kind_of_ref, key_of_ref, StoredAs, ArcRef, Identity, Meaning, Shape, Tree, tree, Types, type_of, Among, if_there, one, times, HandleRow, identity_of, held}
-use Rattle.pagable_laws.proofs.Words.{is_handle, is_owned_by, owner_value, Core, Shelf, Slot, Outcome, published, Written, Values, IsLawful, digest, type_at, IsPublished, PagerState}
-use Rattle.pagable_laws.proofs.Words.{WellFormed, HandlesAreWhole, NodeStands, here, away, MeaningStands, number-stands, integer-stands, text-stands, pattern-stands, none-stands, pair-stands}
-use Rattle.pagable_laws.proofs.Words.{variant-stands, followed-stands, reference-stands, Represents, IsWrittenOf, kids_of, HoldsSettled, ReadsItsTypes, AreKeysOf, rest, LooksUp, no-references}
-use Rattle.pagable_laws.proofs.Words.{more-references, Ground, FollowsTo, number-follows, integer-follows, text-follows, pattern-follows, none-follows, pair-follows, variant-follows}
-use Rattle.pagable_laws.proofs.Along.{Along, pair-along, variant-along, reference-along, followed-along, AllTwo, no-two, more-two}
-use Rattle.pagable_laws.proofs.{Again.read_again, Natural.keeps_forms, Related.no_cause, Related.Out, Related.both-looked-up, Related.read_par}
-use Rattle.pagable_laws.proofs.{Sums.same-number, Sums.sum-le, Sums.sum-zero, Trees.same_some, Trees.one_tree, Words.reference-follows, Words.WroteTree, Words.KeyStands}
+use Rattle.pagable_laws.proofs.Words.{◌≡◌, ℕ, suc, ◌+◌, ◌<◌, ◌≤◌, ◌==◌, ◌&&◌, Bool, true, false, List, [], ◌∷◌, map, Option, Some, Result, Ok, refl, sym, ap, subst, ◌∙◌, inr, arith, is_some}
+use Rattle.pagable_laws.proofs.Words.{nat_lt, slice_get, nat_tests, append-nil, sum_by-cons, get_or_from_slice_get, slice_get_within, Error, reference, rename, references_in, Rest, deepest, Form}
+use Rattle.pagable_laws.proofs.Words.{kind_of_arc, IsReadable, Throughout, Kid, kid, kind_of_kid, KeyRef, key_ref, IsFollowed, number-followed, integer-followed, text-followed, pattern-followed}
+use Rattle.pagable_laws.proofs.Words.{none-followed, pair-followed, variant-followed, reference-followed, unfolded, TreeForm, blob_of, KeyOf, key-of, KeysOf, no-keys, more-keys, kind_of_ref}
+use Rattle.pagable_laws.proofs.Words.{key_of_ref, StoredAs, ArcRef, Identity, Meaning, Shape, Tree, tree, Types, type_of, Among, if_there, one, times, HandleRow, identity_of, held, is_handle}
+use Rattle.pagable_laws.proofs.Words.{is_owned_by, owner_value, Core, Shelf, Slot, Outcome, published, Written, Values, IsLawful, digest, type_at, IsPublished, PagerState, WellFormed}
+use Rattle.pagable_laws.proofs.Words.{HandlesAreWhole, NodeStands, here, away, MeaningStands, number-stands, integer-stands, text-stands, pattern-stands, none-stands, pair-stands, variant-stands}
+use Rattle.pagable_laws.proofs.Words.{followed-stands, reference-stands, Represents, IsWrittenOf, kids_of, HoldsSettled, ReadsItsTypes, AreKeysOf, rest, LooksUp, no-references, more-references}
+use Rattle.pagable_laws.proofs.Words.{Ground, FollowsTo, number-follows, integer-follows, text-follows, pattern-follows, none-follows, pair-follows, variant-follows, reference-follows, WroteTree}
+use Rattle.pagable_laws.proofs.{Words.KeyStands, Along.{Along, pair-along, variant-along, reference-along, followed-along, AllTwo, no-two, more-two}, Again.read_again, Related.keeps_forms}
+use Rattle.pagable_laws.proofs.{Related.{no_cause, Out, both-looked-up, read_par}, Sums.{same-number, sum-le, sum-zero}, Trees.{same_some, one_tree}}
 
 -- ---- the references in a form's meaning are those of the form, and none is followed
 

@@ -1,11 +1,11 @@
 -- Where a pager stands for trees, each value and key leads to its node's tree by its own references alone; and from this it stands for them again. So
 -- that a node keeps its tree is shown at each node by itself.
-use Rattle.pagable_laws.proofs.Words.{nat_tests, ◌≡◌, ℕ, zero, ◌<◌, ◌&&◌, Bool, true, false, Option, Some, None, refl, sym, ap, ◌∙◌, subst, is_some, OptionalDataKey, number, integer}
-use Rattle.pagable_laws.proofs.Words.{text, pattern, none, pair, variant, reference, followed, references_in, ArcRef, Meaning, Tree, tree, type_of, ReadsTree, Among, held, is_in_memory, Core, Values}
+use Rattle.pagable_laws.proofs.Words.{nat_tests, ◌≡◌, ℕ, zero, ◌<◌, ◌&&◌, Bool, true, false, Option, Some, None, refl, sym, ap, ◌∙◌, subst, is_some, OptionalDataKey, number, integer, text}
+use Rattle.pagable_laws.proofs.Words.{pattern, none, pair, variant, reference, followed, references_in, ArcRef, Meaning, Tree, tree, type_of, ReadsTree, Among, held, is_in_memory, Core, Values}
 use Rattle.pagable_laws.proofs.Words.{IsLawful, key_at, IsReference, PagerState, WellFormed, NodeStands, here, away, MeaningStands, number-stands, integer-stands, text-stands, pattern-stands}
-use Rattle.pagable_laws.proofs.Words.{none-stands, pair-stands, variant-stands, followed-stands, reference-stands, Represents, HoldsSettled, LeadsTo, number-leads, integer-leads, text-leads, arith}
-use Rattle.pagable_laws.proofs.{Words.{pattern-leads, none-leads, pair-leads, variant-leads, followed-leads, reference-leads, ValueLeads, NodeLeads}, Trees.{same_some, tree_is}, Decoding.among-left}
-use Rattle.pagable_laws.proofs.{Decoding.{among-right, meant-refs}, Following.{one-node, given-of, cell-of}}
+use Rattle.pagable_laws.proofs.Words.{none-stands, pair-stands, variant-stands, followed-stands, reference-stands, Represents, HoldsSettled, LeadsTo, number-leads, integer-leads, text-leads}
+use Rattle.pagable_laws.proofs.{Words.{arith, pattern-leads, none-leads, pair-leads, variant-leads, followed-leads, reference-leads, ValueLeads, NodeLeads}, Trees.{same_some, tree_is}}
+use Rattle.pagable_laws.proofs.{Decoding.{among-left, among-right, meant-refs}, Following.{one-node, given-of, cell-of}}
 
 -- ---- other trees, the same at the nodes that are referred to
 

@@ -1,23 +1,12 @@
 mod Words
-mod Wholes
-mod Basic
-mod Putting
-mod Within
 pub mod Again
-pub mod Prefix
-mod OneForm
-mod Preimages
 mod Along
 pub mod Trees
 mod Merkle
 mod Tame
-mod Local
-mod Related
-pub mod Natural
-mod Paths
+pub mod Related
 mod AnyOrder
 mod JsonNumbers
-mod Inside
 pub mod Sums
 pub mod Existing
 mod Two
@@ -67,26 +56,17 @@ mod Felt
 mod Answering
 mod Brought
 mod Staying
-mod Stopping
-mod Asking
 mod KnownSteps
 mod Chains
-mod Tested
-mod Walks
-mod Loaded
 mod Level
 pub mod Lengths
 mod Heights
 mod HeightSteps
-mod Shallow
 mod Climbing
-mod Formed
 mod Deeply
 pub mod Usable
 mod Identities
-mod Known
 mod Sound
-mod Soundly
 mod Apart
 mod LoadsLive
 mod LoadsReady

@@ -10,6 +10,7 @@ use Rattle.pagable_world.specs.{declared.events.EventReply.EventReply, Kinds.{pi
 use Rattle.pagable_world.specs.World.{Core, Written, Values, Seen, Shelf, no_result, published, Todo, to_start, to_pin, to_write, to_finish, to_item, to_set, to_publish, to_release, of_item, of_cell, of_key}
 use Rattle.pagable_world.specs.{World.{Walking, Work, Reading, digest}, Cascade.{fallen, nobody}, Calls.{with_handle, with_mode, with_key, with_node, next_node, moved, is_named_by}}
 use Rattle.pagable_world.specs.{LoadCalls.{with_load, without_load, with_pin, is_owned_in, adopted}, Loads.{root_frame, gone_on}, Events.{no_shelf, with_worker}, Pager.MachineState, Runs.Moment}
+use Rattle.pagable_world.specs.{Plain.Tree, World.IsLawful, Pager.{IsMachineWhole, IsIdle, StandsFor}, Runs.{AreMoments, ReadsItsTypes, HoldsSettled, IsPremised}, Headline.Headline}
 use Rattle.pagable_world.specs.Workers.{with_slot, with_wait, with_changed_slot, with_outcome, without_worker, is_workers, is_workers_at, fresh, give, open_node, first_todo, answer_after}
 use Rattle.pagable_laws.specs.SmallWorlds.{empty, no_work}
 use Rattle.pagable_model.specs.Shape as shapes
@@ -304,3 +305,23 @@ counts n = moment (Event.Call (Call.Count (handle 2))) (EventReply.CallReply (Re
 
 abbrev pub moments : ℕ → List Happening
 moments n = births ++ (page_out 15 begun ++ (loads ++ counts n))
+
+-- ---- that the headline is met with all that it asks
+
+-- what is asked of each moment, whatever trees its nodes have
+abbrev pub ArePremised : MachineState Sample (Unit {0}) → List Happening → Type 0
+ArePremised s [] = Unit {0}
+ArePremised s (x ∷ xs) = ((trees : ℕ → Tree) → IsPremised sample s trees x.event x.reply x.after) × ArePremised x.after xs
+
+-- It meets the headline, from a new machine that stands for whatever trees; and all that the headline asks of values, of where a chain begins and of its
+-- moments is so. Where another count is answered at its end, it is no chain.
+pub record TwoLevelsMeetTheHeadline : Type 0 where
+  pub lawful : IsLawful sample
+  pub types : ReadsItsTypes sample_types
+  pub whole : IsMachineWhole sample new_one
+  pub idle : IsIdle new_one
+  pub stands : (trees : ℕ → Tree) → StandsFor sample new_one trees
+  pub settled : HoldsSettled sample new_one.pager
+  pub premised : ArePremised new_one (moments 2)
+  pub headline : Headline sample_seen new_one (moments 2)
+  pub no_other : (n : ℕ) → AreMoments sample_seen new_one (moments n) → n ≡ 2
