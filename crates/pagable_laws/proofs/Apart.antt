@@ -8,8 +8,6 @@ use Rattle.pagable_laws.proofs.{Related.{keeps_forms, Out, no_cause, OutLook, bo
 use Rattle.pagable_laws.proofs.{ReadingStepsKinds.{kinds_of, kinds-pushed}, Fitting.longer, Along.{Along, AllTwo, no-two, more-two, refs-two, each-two}, Decoding.read-gives}
 use Rattle.pagable_world.specs.Loads.{read_with}
 
--- ---- what a blob asks for that is a form of some value: one reference of the form after another, each as its own kind, and when all are got it is read
-
 -- ---- what is answered
 
 -- an answer, by the kind of its reference

@@ -157,8 +157,6 @@ module _ {N E : Type 0} (v : Values N) (s : MachineState N E) (trees : ℕ → T
   task-has-forms (of_item written) key (keys, each, is) (r, among, formless) = let p = known-of known_shelf written.references keys each r among in has-forms (identity_of r) p.0 p.1.0 p.1.1 formless
   task-has-forms (of_entry h i) key (height, p) formless = has-forms i key height p formless
 
--- ---- no key is answered of what leads down too long a path, or to a value that has no form; and why a claim is too deep
-
 module _ {N B W E : Type 0} (m : Seen N B W) (s s' : MachineState N E) (trees trees' : ℕ → Tree) (fit : WorkFits m.values s trees) (low : HeightsIn (world_of s)) where
   key-is-shallow : (event : Event N B W) (reply : EventReply N B W) → Happens m (world_of s) event reply (world_of s') → KeyIsShallow m.values s trees event reply s' trees'
   key-is-shallow (Event.WorkerStep n) (EventReply.WorkerMoved (Ok reply)) is = λ walking key there e.

@@ -21,8 +21,6 @@ use Rattle.pagable_model.specs.Reading as grammar
 use Rattle.pagable_model.specs.Shape as shapes
 use Rattle.pagable_model.specs.Meaning as meanings
 
--- ---- a world of few nodes, handles and loads is whole if closed facts of it say so; and handles fall alone if such facts do
-
 -- ---- lists, options and numbers
 
 -- P of each; and of what there is
@@ -219,29 +217,22 @@ NumberFits w vs n =
     ((is_some (w.cells n) && not (nat_lt 0 n && nat_le n w.last.node)) ≡ false) × (is_some (w.cells n) ≡ nat_lt 0 (held n w.rows))
     × (is_some (value_at vs n) ≡ (is_some (w.cells n) && is_here w n)) × ValueFits w n (value_at vs n) × OfSome (LoadFits w n) (w.loads n)
 
--- of the numbers that were given and of the places; of the workers 0 and 1; and of what the cache knows
-abbrev pub HasRoom : Core → Type 0
-HasRoom w = (nat_le w.last.handle 9 ≡ true) × (nat_le w.last.node 3 ≡ true) × (nat_le w.last.load 3 ≡ true) × (nat_le (length w.rows) w.places.handles ≡ true)
+-- all that is asked of a pager with few of each: of its handles, of it as a whole, and of each number
+pub record HandlesFit (w : Core) : Type 0 where
+  pub low : IsLow w
+  pub rise : Rises 0 w.rows
+  pub there : Each (RowThere w) w.rows
 
-abbrev pub FitsWorkers : Core → Type 0
-FitsWorkers w = (w.workers 0 ≡ false) × ((w.workers 1 && not (nat_le 1 w.last.worker)) ≡ false)
-
-abbrev pub FitsThird : Core → Type 0
-FitsThird w = OfSome (λ t. t ≡ 1) (type_at w 3) × OfSome (λ n. nat_le n w.last.node ≡ true) (w.cache 4 8)
-
--- all that is asked of a pager with few of each: of it as a whole, and of each number
 pub record Stands (w : Core) (vs : List (Option Sample)) : Type 0 where
   pub short : nat_le (length vs) 4 ≡ true
   pub list : w.list ≡ []
   pub stands_open : w.closed ≡ false
-  pub low : IsLow w
-  pub rise : Rises 0 w.rows
-  pub rows : Each (RowThere w) w.rows
-  pub room : HasRoom w
-  pub workers : FitsWorkers w
-  pub third : FitsThird w
+  pub room : (nat_le w.last.handle 9 ≡ true) × (nat_le w.last.node 3 ≡ true) × (nat_le w.last.load 3 ≡ true) × (nat_le (length w.rows) w.places.handles ≡ true)
+  pub workers : (w.workers 0 ≡ false) × ((w.workers 1 && not (nat_le 1 w.last.worker)) ≡ false)
+  pub third : OfSome (λ t. t ≡ 1) (type_at w 3) × OfSome (λ n. nat_le n w.last.node ≡ true) (w.cache 4 8)
 
 pub record Passes (w : Core) (vs : List (Option Sample)) : Type 0 where
+  pub handles : HandlesFit w
   pub stands : Stands w vs
   pub numbers : NumberFits w vs 0 × NumberFits w vs 1 × NumberFits w vs 2 × NumberFits w vs 3
 
@@ -257,13 +248,13 @@ module _ (w : Core) (vs : List (Option Sample)) (few : Few w) (p : Passes w vs) 
       past : (n : ℕ) → 3 < n → NumberFits w vs n
       past n lt =
           let short = p.stands.short in let none : value_at vs n ≡ None = past-end vs n (grind (arith, nat_tests)) in
-          let a = few.0 n lt in let b = few.1 n lt in let c = held-past w.rows p.stands.low n lt in rw (a, b, c, none) (refl, refl, refl, owns-past w.rows p.stands.low n lt, tt)
+          let a = few.0 n lt in let b = few.1 n lt in let c = held-past w.rows p.handles.low n lt in rw (a, b, c, none) (refl, refl, refl, owns-past w.rows p.handles.low n lt, tt)
 
   row : (h : HandleRow) → Among w.rows h → RowThere w h
-  row h among = each-among (RowThere w) w.rows h p.stands.rows among
+  row h among = each-among (RowThere w) w.rows h p.handles.there among
 
   low : (h : HandleRow) → Among w.rows h → RowLow h
-  low h among = each-among RowLow w.rows h p.stands.low among
+  low h among = each-among RowLow w.rows h p.handles.low among
 
   load : (l : ℕ) (load : OpenLoad) → w.loads l ≡ Some load → LoadFits w l load
   load l x is = of-some (LoadFits w l) (number l).4 is
@@ -288,12 +279,12 @@ module _ (w : Core) (vs : List (Option Sample)) (few : Few w) (p : Passes w vs) 
       past q lt =
           let few = p.stands.room.0 in
           let a : refers x q ≡ 0 = none-pass (λ (r : ArcRef). nat_le r.handle.0 9 ≡ true) (λ r. r.handle.0 == q) (sample_references x) (value n x is).2 (λ r ok. grind (arith, nat_tests)) in
-          let b : owns w n q ≡ 0 = none-pass (RowThere w) (λ h. is_handle q h && is_owned_by (owner_value n) h) w.rows p.stands.rows
+          let b : owns w n q ≡ 0 = none-pass (RowThere w) (λ h. is_handle q h && is_owned_by (owner_value n) h) w.rows p.handles.there
           (λ h ok. let c = ok.1 in let d : is_handle q h ≡ false = grind (arith, nat_tests) in rw d refl) in
           rw (a, b) refl
 
   list-owns-none : (q : ℕ) → times (λ h. is_handle q h && is_owned_by Owner.List h) w.rows ≡ 0
-  list-owns-none q = none-pass RowLow (λ h. is_handle q h && is_owned_by Owner.List h) w.rows p.stands.low (λ h ok. not-list (is_handle q h) h.owner ok.2)
+  list-owns-none q = none-pass RowLow (λ h. is_handle q h && is_owned_by Owner.List h) w.rows p.handles.low (λ h ok. not-list (is_handle q h) h.owner ok.2)
     where
       not-list : (b : Bool) (o : Owner) → OwnerLow o → (b && is_owner Owner.List o) ≡ false
       not-list x0 x1 ok = grind (arith, nat_tests)
@@ -309,14 +300,14 @@ module _ (w : Core) (vs : List (Option Sample)) (few : Few w) (p : Passes w vs) 
       record {
         whole = record {
           handles = record {
-            ordered = (ordered 0 w.rows p.stands.rise).0;
+            ordered = (ordered 0 w.rows p.handles.rise).0;
             numbered = λ h among. let (a, b, c) = row h among in (grind (arith, nat_tests), grind (arith, nat_tests));
             nodes_numbered = node-numbered;
             within = let a : w.last.handle ≤ 9 = grind (arith, nat_tests) in let b : w.last.node ≤ 3 = grind (arith, nat_tests) in let c : w.last.load ≤ 3 = grind (arith, nat_tests) in
                 (omega arith, omega arith, omega arith);
             live = λ n. (number n).1;
-            uniform = λ n. inl (unshared w.rows p.stands.low n);
-            unkeyed = λ n some. let a = unshared w.rows p.stands.low n in absurd (omega arith);
+            uniform = λ n. inl (unshared w.rows p.handles.low n);
+            unkeyed = λ n some. let a = unshared w.rows p.handles.low n in absurd (omega arith);
             places = (grind (arith, nat_tests), let e : length w.list ≡ 0 = ap length p.stands.list in omega arith);
           };
           owners_there = record {
@@ -346,8 +337,6 @@ module _ (w : Core) (vs : List (Option Sample)) (few : Few w) (p : Passes w vs) 
         bare = λ n is. subst (λ o. ValueFits w n o) is (number n).3;
         references = λ n x r is among. good w (owner_value n) [] (sample_references x) (value n x is).3 r among;
       }
-
--- ---- the page-out of the chain of two levels: what a step of its worker asks of pager, table and list, and that it is then one of the machine
 
 -- ---- the machine over a pager that passes
 
@@ -589,8 +578,6 @@ pub begun-asks : AllAsk 15 two.begun
 unfolding AllAsk value_at is_named_by find_row preimage references_fault is_in
 begun-asks = search arith
 
--- ---- the births, the eviction and the loads of the chain of two levels are moments of the machine
-
 -- ---- each pager is good
 
 pub births-good : Good two.new_core [] × Good two.child_born (None ∷ Some two.leaf ∷ []) × Good two.both_born two.two_values × Good two.begun.core two.two_values
@@ -602,18 +589,6 @@ births-good =
     let begun : Few two.begun.core = (both.0, none.1, updated-past 1 1 true false (λ v. false) (omega arith) none.2, none.3) in
     ((none, search arith), (child, search arith), (both, search arith), (begun, search arith))
 
-stands-so : {w : Core} {vs : List (Option two.Sample)} → nat_le (length vs) 4 ≡ true → w.list ≡ [] → w.closed ≡ false → IsLow w → Rises 0 w.rows → Each (RowThere w) w.rows → HasRoom w → FitsWorkers w
-    → FitsThird w → Stands w vs
-stands-so short list open_still low rise rows room workers third =
-    record { short = short; list = list; stands_open = open_still; low = low; rise = rise; rows = rows; room = room; workers = workers; third = third }
-
-back-passes : Passes two.read_back two.last_values
-unfolding two.walked value_at is_named_by find_row preimage references_fault is_in
-back-passes = record {
-  stands = stands-so refl refl refl (search arith) (search arith) (search arith) (search arith) (search arith) (search arith);
-  numbers = (search arith, search arith, search arith, search arith);
-}
-
 loads-good : Good two.evicted [] × Good two.loading [] × Good two.child_got [] × Good two.loaded two.last_values × Good two.key_loading two.last_values × Good two.read_back two.last_values
 unfolding two.walked value_at is_named_by find_row preimage references_fault is_in
 loads-good =
@@ -622,8 +597,14 @@ loads-good =
     let got : Few two.child_got = (updated-past 3 3 _ None two.loading.cells (omega arith) begun.0, begun.1, gone.2, λ kind key n is. grind (arith, nat_tests)) in
     let loaded : Few two.loaded = few-fallen (two.installed two.child_got) (two.given_up two.child_got) (got.0, updated-past 3 1 None None two.loading.loads (omega arith) begun.1, gone.2, got.3) in
     let key : Few two.key_loading = (loaded.0, updated-past 3 2 _ None two.loaded.loads (omega arith) loaded.1, gone.2, loaded.3) in
-    let back : Few two.read_back = few-fallen (two.handed two.key_loading) (two.not_handed two.key_loading) (key.0, updated-past 3 2 None None two.key_loading.loads (omega arith) key.1, gone.2, key.3) in
-    ((gone, search arith), (begun, search arith), (got, search arith), (loaded, record { stands = search arith; numbers = search arith }), (key, record { stands = search arith; numbers = search arith }), (back, back-passes))
+    let back : Few two.read_back = few-fallen (two.handed two.key_loading) (two.not_handed two.key_loading) (key.0, updated-past 3 2 None None two.key_loading.loads (omega arith) key.1, gone.2, key.3) in (
+      (gone, search arith),
+      (begun, search arith),
+      (got, search arith),
+      (loaded, record { handles = search arith; stands = search arith; numbers = search arith }),
+      (key, record { handles = search arith; stands = search arith; numbers = search arith }),
+      (back, record { handles = search arith; stands = search arith; numbers = search arith }),
+    )
 
 -- ---- a moment of the machine
 
@@ -856,8 +837,6 @@ loads-do =
 
     parent-comes : (n : ℕ) (x : two.Sample) → value_at two.last_values n ≡ Some x → (value_at [] n ≡ Some x) ⊎ ((value_at [] n ≡ None) × ReadingBrings two.sample two.child_got two.parent_read n x)
     parent-comes n x is = let (at, read) = back n x is in inr (refl, inr (subst (λ y. ReadsRoot two.sample two.parent_read y) (sym read) reads-parent, cell_of n at))
-
--- ---- the chain of two levels is one of the machine, and meets the headline with all that it asks
 
 -- ---- values
 

@@ -388,8 +388,6 @@ path-from x0 x1 h = grind (arith, nat_tests)
 pub longest_path : IsLongestPath
 longest_path m n = (path-to m n, path-from m n)
 
--- ---- a tree of canonical types has one key, a stored tree has the key that it stands under, and keys tell trees apart
-
 -- ---- what a tree's references are
 
 -- the kid itself, of canonical types

@@ -15,8 +15,6 @@ use Rattle.pagable_model.specs.Meaning as meanings
 use Rattle.pagable_model.specs.Shape as shapes
 use Rattle.std.specs.Int.{w32, w64}
 
--- ---- reading does the same whatever stands for references: two readers over related inputs give related meanings
-
 -- ---- what is put into maps and sets
 
 module _ {A B : Type 0} {F : Type 0} {R : A → B → Type 0} where

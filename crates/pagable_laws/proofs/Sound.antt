@@ -177,8 +177,6 @@ module _ {N E : Type 0} (v : Values N) (s : MachineState N E) (trees : ℕ → T
         by (asks-known place r key at there same) = let f = broken-is below (next_in v.types frame) e is in cc
         by (all-read own same) = let f = broken-is below (next_in v.types frame) e is in cc
 
--- ---- why a load is refused whose key a page-out has published: by chance, or by a handle
-
 -- ---- refusals
 
 pub either : (a b : Option Error) (e : Error) → earlier a b ≡ Some e → (a ≡ Some e) ⊎ (b ≡ Some e)
@@ -417,8 +415,6 @@ module _ {N B W E : Type 0} (m : Seen N B W) (s : MachineState N E) (trees : ℕ
       | inr (inr (inr (inr (inl node)))) ↦ of-node gives.mid e node
       | inr (inr (inr (inr (inr root)))) ↦ of-root gives.mid e root
     ]
-
--- ---- a load of a cell whose key a page-out set is refused by chance or by a handle alone
 
 -- ---- what is told of handles
 
