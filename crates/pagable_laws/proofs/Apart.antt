@@ -144,12 +144,11 @@ FramesAsked types (frame ∷ []) = GotAsked types frame.node_type frame.blob fra
 FramesAsked types (frame ∷ below ∷ rest) =
     GotAsked types frame.node_type frame.blob frame.got × (is_eager frame.kind.0 ≡ true) × (next_in types below ≡ asks frame.kind frame.key) × FramesAsked types (below ∷ rest)
 
--- the first of the form's references were got
-record Matches (refs got : List ArcRef) : Type 0 where
-  done : List ArcRef
-  left : List ArcRef
-  split : refs ≡ done ++ left
-  same : kinds_of got ≡ kinds_of done
+-- What comes next where the first of the form's references were got: it is read, and all were got, or it asks for one more.
+data Ahead (types : Types) (t : ℕ) (blob : Blob) (refs got : List ArcRef) : Type 0 where
+  all-done : (own : Meaning ArcRef) → next_of types t blob got ≡ reads own → kinds_of got ≡ kinds_of refs → Ahead types t blob refs got
+  one-left : (done left : List ArcRef) (q : ArcRef) (key : ℕ) → refs ≡ done ++ q ∷ left → kinds_of got ≡ kinds_of done → slice_get blob.keys (length done) ≡ Some key
+      → next_of types t blob got ≡ asks q.kind key → Ahead types t blob refs got
 
 -- what it asks for next is one of the form's references, or it is read
 pub data NextOf (blob : Blob) (refs : List ArcRef) (next : Next) : Type 0 where
@@ -157,53 +156,35 @@ pub data NextOf (blob : Blob) (refs : List ArcRef) (next : Next) : Type 0 where
   all-read : (own : Meaning ArcRef) → next ≡ reads own → NextOf blob refs next
 
 module _ (types : Types) (t : ℕ) (blob : Blob) (refs : List ArcRef) (f : IsFormOf types t blob refs) where
-  whole-then : (got done : List ArcRef) → refs ≡ done ++ [] → kinds_of got ≡ kinds_of done → (own : Meaning ArcRef) × (next_of types t blob got ≡ reads own)
-  whole-then got done split same = reads-all types t blob refs f got (same ∙ ap kinds_of (sym (split ∙ append-nil done)))
+  ahead : (got done left : List ArcRef) → refs ≡ done ++ left → kinds_of got ≡ kinds_of done → Ahead types t blob refs got
+  ahead got done [] split same =
+      let all = same ∙ ap kinds_of (sym (split ∙ append-nil done)) in let w = reads-all types t blob refs f got all in all-done w.0 w.1 all
+  ahead got done (q ∷ left) split same = let a = asks-next types t blob refs f got done q left split same in one-left done left q a.0 split same a.1 a.2
 
-  one-more : (got : List ArcRef) (r : ArcRef) (key : ℕ) → Matches refs got → next_of types t blob got ≡ asks r.kind key → Matches refs (got ++ r ∷ [])
-  one-more got r key m next = by m.left m.split
+  comes-to : {got : List ArcRef} → GotAsked types t blob got → Ahead types t blob refs got
+  comes-to (none-got got is) = ahead got [] refs refl (ap kinds_of is)
+  comes-to (one-got got more r key h next is) = subst (Ahead types t blob refs) (sym is) (by (comes-to h))
     where
-      by : (left : List ArcRef) → refs ≡ m.done ++ left → Matches refs (got ++ r ∷ [])
-      by [] split = absurd (let w = whole-then got m.done split m.same in let e : reads w.0 ≡ asks r.kind key = sym w.1 ∙ next in cc)
-      by (q ∷ left) split =
-          let a = asks-next types t blob refs f got m.done q left split m.same in
-          let e : asks q.kind a.0 ≡ asks r.kind key = sym a.2 ∙ next in
+      by : Ahead types t blob refs got → Ahead types t blob refs (got ++ r ∷ [])
+      by (all-done own read all) = absurd (let e : reads own ≡ asks r.kind key = sym read ∙ next in cc)
+      by (one-left done left q k split same there asked) =
+          let e : asks q.kind k ≡ asks r.kind key = sym asked ∙ next in
           let kinds : q.kind ≡ r.kind = cc in
-          record {
-            done = m.done ++ q ∷ [];
-            left = left;
-            split = split ∙ sym (append_assoc m.done (q ∷ []) left);
-            same = kinds-pushed got r ∙ ap (λ ks. ks ++ r.kind.0 ∷ []) m.same ∙ ap (λ (k : Kind). kinds_of m.done ++ k.0 ∷ []) (sym kinds) ∙ sym (kinds-pushed m.done q);
-          }
-
-  matches : {got : List ArcRef} → GotAsked types t blob got → Matches refs got
-  matches (none-got got is) = record { done = []; left = refs; split = refl; same = ap kinds_of is }
-  matches (one-got got more r key h next is) = subst (Matches refs) (sym is) (one-more got r key (matches h) next)
+          ahead (got ++ r ∷ []) (done ++ q ∷ []) left (split ∙ sym (append_assoc done (q ∷ []) left))
+          (kinds-pushed got r ∙ ap (λ ks. ks ++ r.kind.0 ∷ []) same ∙ ap (λ (k : Kind). kinds_of done ++ k.0 ∷ []) (sym kinds) ∙ sym (kinds-pushed done q))
 
   pub next-known : {got : List ArcRef} → GotAsked types t blob got → NextOf blob refs (next_of types t blob got)
-  next-known {got} h = by (matches h)
-    where
-      by-left : (m : Matches refs got) (left : List ArcRef) → refs ≡ m.done ++ left → NextOf blob refs (next_of types t blob got)
-      by-left m [] split = let w = whole-then got m.done split m.same in all-read w.0 w.1
-      by-left m (q ∷ left) split =
-          let a = asks-next types t blob refs f got m.done q left split m.same in
-          asks-known (length m.done) q a.0 (ap (λ (rs : List ArcRef). slice_get rs (length m.done)) split ∙ at-place m.done q left) a.1 a.2
-
-      by : Matches refs got → NextOf blob refs (next_of types t blob got)
-      by m = by-left m m.left m.split
+  next-known {got} h = elim (comes-to h) [
+    | all-done own read all ↦ all-read own read
+    | one-left done left q key split same there asked ↦ asks-known (length done) q key (ap (λ (rs : List ArcRef). slice_get rs (length done)) split ∙ at-place done q left) there asked
+  ]
 
   -- where it is read, all were got
   pub all-got : {got : List ArcRef} → GotAsked types t blob got → (own : Meaning ArcRef) → next_of types t blob got ≡ reads own → kinds_of got ≡ kinds_of refs
-  all-got {got} h own is = by (matches h)
-    where
-      by-left : (m : Matches refs got) (left : List ArcRef) → refs ≡ m.done ++ left → kinds_of got ≡ kinds_of refs
-      by-left m [] split = m.same ∙ ap kinds_of (sym (split ∙ append-nil m.done))
-      by-left m (q ∷ left) split =
-          let a = asks-next types t blob refs f got m.done q left split m.same in
-          absurd (let e : asks q.kind a.0 ≡ reads own = sym a.2 ∙ is in cc)
-
-      by : Matches refs got → kinds_of got ≡ kinds_of refs
-      by m = by-left m m.left m.split
+  all-got {got} h own is = elim (comes-to h) [
+    | all-done own2 read all ↦ all
+    | one-left done left q key split same there asked ↦ absurd (let e : asks q.kind key ≡ reads own = sym asked ∙ is in cc)
+  ]
 
 -- ---- a value that was read of a form names no handle twice, where the handles that were got are apart. So nothing is to be said against its references, where each is good
 
