@@ -235,7 +235,8 @@ module _ {A B : Type 0} {F : Type 0} {R : A → B → Type 0} where
 
 module _ {A B : Type 0} {F : Type 0} {R : A → B → Type 0} {kind_of : A → ℕ} {kind_of2 : B → ℕ} {parts : ℕ → Shape} (kinds : (a : A) (b : B) → R a b → kind_of2 b ≡ kind_of a) where
   mutual
-    pub form-along : {left : ℕ} {s : Shape} {m : Meaning A} {n : Meaning B} {b : List ℕ} {k : List A} → Form A kind_of parts left s m b k → Along F R m n → To R k (λ refs. Form B kind_of2 parts left s n b refs)
+    pub form-along : {left : ℕ} {s : Shape} {m : Meaning A} {n : Meaning B} {b : List ℕ} {k : List A} → Form A kind_of parts left s m b k → Along F R m n
+        → To R k (λ refs. Form B kind_of2 parts left s n b refs)
     form-along (nothing-form left) none-along = to_nothing (nothing-form left)
     form-along (unsigned-form left w n h) (number-along x) = to_nothing (unsigned-form left w n h)
     form-along (signed-form left w z h) (integer-along x) = to_nothing (signed-form left w z h)

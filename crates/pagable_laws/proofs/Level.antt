@@ -426,7 +426,8 @@ claims-it : (w : Core) (s : Shelf) (r : _) (place : ℕ) (below : List Todo) →
     → let a = two.next_step w s (to_start r place ∷ below) in Walks w s (to_start r place ∷ below) a.0 a.1 a.2 a.3
 claims-it w s r place below first good free = grind (arith, nat_tests, alike-self, same-shelf)
 
-pinned-again : (w : Core) (n : NodeNumber) → let q = w.last.handle + 1 in row_at (two.cloned w n) (two.handle q) ≡ Some (row_of q n Mode.LoosePinned (owner_worker 1)) → is_here (two.cloned w n) n.0 ≡ true
+pinned-again : (w : Core) (n : NodeNumber) → let q = w.last.handle + 1 in row_at (two.cloned w n) (two.handle q) ≡ Some (row_of q n Mode.LoosePinned (owner_worker 1))
+    → is_here (two.cloned w n) n.0 ≡ true
     → nat_le w.last.handle 6 ≡ true → PinCall (two.cloned w n) (owner_worker 1) (two.handle q) (Ok (Pinning.Pinned (two.handle (q + 1)))) (two.pinned_at w n)
 pinned-again w n live here few = grind (arith, nat_tests, alike-self)
 
@@ -469,7 +470,8 @@ does-so w s (to_set r through key height ∷ below) (live, alone) =
       );
     }
 does-so w s (to_publish r key height ∷ below) ok = search (alike-self w, same-shelf)
-does-so w s (to_release r key height ∷ below) alone = record { does = (refl, record { told = Ok tt; falls = falls-alone w w (is_workers_at w 1 r.node.0) alone }, record { table_stays = same-shelf s; list_is = refl }) }
+does-so w s (to_release r key height ∷ below) alone =
+    record { does = (refl, record { told = Ok tt; falls = falls-alone w w (is_workers_at w 1 r.node.0) alone }, record { table_stays = same-shelf s; list_is = refl }) }
 does-so w s (to_item written keys ∷ below) (all, is_open, free) = search (stored-so w (blob_of written.bytes keys), same-shelf)
 does-so w s todo ok = absurd ok
 
@@ -524,7 +526,8 @@ unfolding two.walked
 few-walked zero x few = few
 few-walked (suc n) x few = let a = two.next_step x.core x.shelf x.todo in let y = two.next x in few-walked n y (few-ended y.answer a.1 (few-next x.core x.shelf x.todo few))
 
-pub pages-out : (n : ℕ) (x : two.Working) (xs : List two.Happening) → Few x.core → AllAsk n x → AreMoments two.sample_seen (two.at_work (two.walked n x)) xs → AreMoments two.sample_seen (two.at_work x) (two.page_out n x ++ xs)
+pub pages-out : (n : ℕ) (x : two.Working) (xs : List two.Happening) → Few x.core → AllAsk n x → AreMoments two.sample_seen (two.at_work (two.walked n x)) xs
+    → AreMoments two.sample_seen (two.at_work x) (two.page_out n x ++ xs)
 unfolding two.page_out two.walked AllAsk
 pages-out zero x xs few ok rest = rest
 pages-out (suc n) x xs few (works, asks, counts, ends, passes, at_work, ok) rest =
@@ -597,7 +600,8 @@ loads-good =
     let got : Few two.child_got = (updated-past 3 3 _ None two.loading.cells (omega arith) begun.0, begun.1, gone.2, λ kind key n is. grind (arith, nat_tests)) in
     let loaded : Few two.loaded = few-fallen (two.installed two.child_got) (two.given_up two.child_got) (got.0, updated-past 3 1 None None two.loading.loads (omega arith) begun.1, gone.2, got.3) in
     let key : Few two.key_loading = (loaded.0, updated-past 3 2 _ None two.loaded.loads (omega arith) loaded.1, gone.2, loaded.3) in
-    let back : Few two.read_back = few-fallen (two.handed two.key_loading) (two.not_handed two.key_loading) (key.0, updated-past 3 2 None None two.key_loading.loads (omega arith) key.1, gone.2, key.3) in (
+    let back : Few two.read_back =
+    few-fallen (two.handed two.key_loading) (two.not_handed two.key_loading) (key.0, updated-past 3 2 None None two.key_loading.loads (omega arith) key.1, gone.2, key.3) in (
       (gone, search arith),
       (begun, search arith),
       (got, search arith),
@@ -791,8 +795,8 @@ reads-step : (w w' : Core) (vs vs' : List (Option two.Sample)) (before after : O
     → let s = two.afterwards w vs before in let s' = two.afterwards w' vs' after in load_fault w Owner.Caller (two.load_number l) ≡ None
     → reading_at (world_of s) (two.load_number l) ≡ Some reading → ReadingDoes two.sample w Owner.Caller reading ended frames w' → steps ≡ one_more reading.steps
     → ReadingsAre (updated l (reading_after ended reading frames) (two.reads before)) (world_of s')
-    → ((n : ℕ) (x : two.Sample) → value_at vs' n ≡ Some x → (value_at vs n ≡ Some x) ⊎ ((value_at vs n ≡ None) × ReadingBrings two.sample w reading n x)) → Good w' vs' → FitsWalking w' (Some (two.walking two.answered))
-    → FitsReading w' after → Does two.sample_seen s (Event.LoadStep (two.load_number l)) (EventReply.LoadMoved (Ok (record { ended = ended; steps = steps }))) s'
+    → ((n : ℕ) (x : two.Sample) → value_at vs' n ≡ Some x → (value_at vs n ≡ Some x) ⊎ ((value_at vs n ≡ None) × ReadingBrings two.sample w reading n x))
+    → Good w' vs' → FitsWalking w' (Some (two.walking two.answered)) → FitsReading w' after → Does two.sample_seen s (Event.LoadStep (two.load_number l)) (EventReply.LoadMoved (Ok (record { ended = ended; steps = steps }))) s'
 reads-step w w' vs vs' before after l steps reading frames ended may at read counts readings come good walks reads =
     does (two.afterwards w vs before) _ _ w' vs' _ _ after (record {
       moves = record { reading = reading; frames = frames; may = may; at = at; does = read; counts = counts; readings = readings; work = same-work _ _ _ _ };
@@ -819,7 +823,8 @@ loads-do =
       refused = tt;
       work = same-work _ _ None (Some (fresh (two.load_number 2) 1));
     }) (λ n x is. inl is) tt loads-good.4 (refl, refl) (record { number = refl; load = key_load; open_load = refl; owned = refl; typed = tt })
-    ⨾ reads-step two.key_loading two.key_loading two.last_values two.last_values (Some (fresh (two.load_number 2) 1)) (Some two.child_fetched) 2 1 (fresh (two.load_number 2) 1) two.child_fetched.frames None refl refl
+    ⨾ reads-step two.key_loading two.key_loading two.last_values two.last_values (Some (fresh (two.load_number 2) 1)) (Some two.child_fetched) 2 1 (fresh (two.load_number 2) 1)
+    two.child_fetched.frames None refl refl
     (fetches two.key_loading 2 1 key_load two.leaf_blob refl refl refl) refl (reads-on two.key_loading two.child_fetched (two.reads (Some (fresh (two.load_number 2) 1))) refl (λ l e. rw e refl))
     (λ n x is. inl is) loads-good.4 (refl, refl) (record { number = refl; load = key_load; open_load = refl; owned = refl; typed = tt })
     ⨾ reads-step two.key_loading two.read_back two.last_values two.last_values (Some two.child_fetched) None 2 2 two.child_fetched [] (Some (LoadAnswer.Read two.leaf)) refl refl reads-out refl

@@ -330,7 +330,8 @@ module _ {A B C D : Type 0} {E : Error → Type 0} {F : Type 0} {S : A → B →
       with_par h duration t = likewise_par (bytes_par duration_at duration_tame _ _ (λ p. pair-along _ _ _ _ (number-along p.0) (number-along p.1))) (λ i. refl) (λ i. refl)
       with_par h shapes.pattern t = likewise_par (bytes_par text_at text_tame _ _ (λ b. pattern-along b)) (λ i. refl) (λ i. refl)
       with_par {d} {d2} h json t =
-          then_same (λ n i. json_case n >>= λ case. json_part d case i) (λ n i. json_case n >>= λ case. json_part d2 case i) _ _ (λ i. refl) (λ i. refl) (bytes_same (unsigned_at w64) (unsigned_tame w64))
+          then_same (λ n i. json_case n >>= λ case. json_part d case i) (λ n i. json_case n >>= λ case. json_part d2 case i) _ _ (λ i. refl) (λ i. refl)
+          (bytes_same (unsigned_at w64) (unsigned_tame w64))
           (λ n. json_cases h (json_case n))
       with_par {d} {d2} h (optional s) t =
           then_same (λ some i. choose some (seen present (read_with look parts d s)) (λ r. Ok (absent, r)) i)
@@ -361,7 +362,8 @@ module _ {A B C D : Type 0} {E : Error → Type 0} {F : Type 0} {S : A → B →
       with_par h (sorted_set order s) t = likewise_par (seen_par _ _ (λ ms ns r. sorted_items-two order r) (counted_par (with_par h s (over (λ p. p) (λ n d l. l) t)))) (λ i. refl) (λ i. refl)
       with_par h (placed_set s) t = likewise_par (seen_par _ _ (λ ms ns r. placed_items-two r) (counted_par (with_par h s (over (λ p. p) (λ n d l. l) t)))) (λ i. refl) (λ i. refl)
       with_par h (static_value registry) t =
-          then_same (λ n i. registered registry n >>= λ m. Ok (lifted m, i)) (λ n i. registered registry n >>= λ m. Ok (lifted m, i)) _ _ (λ i. refl) (λ i. refl) (bytes_same (unsigned_at w32) (unsigned_tame w32))
+          then_same (λ n i. registered registry n >>= λ m. Ok (lifted m, i)) (λ n i. registered registry n >>= λ m. Ok (lifted m, i)) _ _ (λ i. refl) (λ i. refl)
+          (bytes_same (unsigned_at w32) (unsigned_tame w32))
           (λ n. registered_par registry (static-covers registry t) n (registered registry n) refl)
       with_par {d} {d2} h (tagged written known body) t =
           then_same (λ tag i. choose (known tag) (seen (of_tagged tag) (read_with look parts d (body tag))) (λ r. Err Error.UnknownTag) i)

@@ -354,7 +354,8 @@ module _ {N B W E : Type 0} (m : Seen N B W) (s : MachineState N E) (trees : ℕ
       | inr memory ↦ memory-chance e memory.0
       | inl is ↦
           let kinds = past (load_fault w Owner.Caller reading.load) _ e (no-load-fault e) is in
-          node-chance w kind key e (past (refused_if (not (is_loose_kind kind.0)) Error.WrongKind) (node_fault w kind key) e (never _ Error.WrongKind e (front-lazy reading.frames kind key needs)) kinds)
+          node-chance w kind key e (past (refused_if (not (is_loose_kind kind.0)) Error.WrongKind) (node_fault w kind key) e
+          (never _ Error.WrongKind e (front-lazy reading.frames kind key needs)) kinds)
     ]
 
     -- the blob that becomes a node is read through a reference that isn't loose, and is of its kind's type

@@ -7,8 +7,8 @@ use Rattle.pagable_world.specs.{Plain.{ArcRef, HandleNumber, LoadNumber, NodeNum
 use Rattle.pagable_world.specs.{declared.answers.Beginning.Beginning, declared.calls.Call.Call, declared.calls.Reply.Reply, declared.events.Claim.Claim, declared.events.PinStep.PinStep}
 use Rattle.pagable_world.specs.{declared.handles.Owner.Owner, declared.events.Took.Took, declared.events.WorkerAnswer.WorkerAnswer, declared.events.LoadAnswer.LoadAnswer, declared.events.Event.Event}
 use Rattle.pagable_world.specs.{declared.events.EventReply.EventReply, Kinds.{pins, identity_of, owner_value, owner_worker}}
-use Rattle.pagable_world.specs.World.{Core, Written, Values, Seen, Shelf, no_result, published, Todo, to_start, to_pin, to_write, to_finish, to_item, to_set, to_publish, to_release, of_item, of_cell, of_key}
-use Rattle.pagable_world.specs.{World.{Walking, Work, Reading, digest}, Cascade.{fallen, nobody}, Calls.{with_handle, with_mode, with_key, with_node, next_node, moved, is_named_by}}
+use Rattle.pagable_world.specs.World.{Core, Written, Values, Seen, Shelf, no_result, published, Todo, to_start, to_pin, to_write, to_finish, to_item, to_set, to_publish, to_release, of_item, of_cell}
+use Rattle.pagable_world.specs.{World.{of_key, Walking, Work, Reading, digest}, Cascade.{fallen, nobody}, Calls.{with_handle, with_mode, with_key, with_node, next_node, moved, is_named_by}}
 use Rattle.pagable_world.specs.{LoadCalls.{with_load, without_load, with_pin, is_owned_in, adopted}, Loads.{root_frame, gone_on}, Events.{no_shelf, with_worker}, Pager.MachineState, Runs.Moment}
 use Rattle.pagable_world.specs.{Plain.Tree, World.IsLawful, Pager.{IsMachineWhole, IsIdle, StandsFor}, Runs.{AreMoments, ReadsItsTypes, HoldsSettled, IsPremised}, Headline.Headline}
 use Rattle.pagable_world.specs.Workers.{with_slot, with_wait, with_changed_slot, with_outcome, without_worker, is_workers, is_workers_at, fresh, give, open_node, first_todo, answer_after}
