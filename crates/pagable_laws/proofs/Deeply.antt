@@ -102,21 +102,21 @@ more-held : {m n : Meaning ⊥} {u : Tree} → Reaches n u → n ≡ m → holds
 more-held x0 e x2 = grind (arith, nat_tests)
 
 module _ {N E : Type 0} (v : Values N) (s : MachineState N E) (trees : ℕ → Tree) (fit : WorkFits v s trees) (t : ℕ) where
-  abbrev held : Shelf
-  held = s.work.shelves t
+  abbrev the_shelf : Shelf
+  the_shelf = s.work.shelves t
 
   -- what was written of an identity whose key is known, and that the keys of its references are
   pub record Known (i : Identity) : Type 0 where
     pub written : Written
     pub wrote : WroteTree v.types (ground_of s trees) i.node.0 written
     pub typed : (trees i.node.0).type ≡ type_of i.kind.0
-    pub below : (r : ArcRef) → Among written.references r → (key : ℕ) × ((height : ℕ) × IsPublished held (identity_of r) key height)
+    pub below : (r : ArcRef) → Among written.references r → (key : ℕ) × ((height : ℕ) × IsPublished the_shelf (identity_of r) key height)
 
-  pub known : (i : Identity) (key height : ℕ) → IsPublished held i key height → Known i
+  pub known : (i : Identity) (key height : ℕ) → IsPublished the_shelf i key height → Known i
   known i key height p =
       let f = fit.slots t i p.slot p.claimed in
       let b = f.publishes key height p.known in
-      record { written = b.0; wrote = f.writes b.0 b.1; typed = f.typed; below = known-of held b.0.references b.2.keys b.2.known }
+      record { written = b.0; wrote = f.writes b.0 b.1; typed = f.typed; below = known-of the_shelf b.0.references b.2.keys b.2.known }
 
   -- its own value has a form
   has-form : (i : Identity) → Known i → HasNoForm v.types (trees i.node.0) → ⊥
@@ -126,8 +126,8 @@ module _ {N E : Type 0} (v : Values N) (s : MachineState N E) (trees : ℕ → T
       formless.none_within k.written.bytes kids (subst (λ x. TreeForm v.types x (trees i.node.0).meaning k.written.bytes kids) same (tree-form k.wrote))
 
   -- and so has each that it reaches
-  below-has-form : (rs : List ArcRef) → ((r : ArcRef) → Among rs r → (key : ℕ) × ((height : ℕ) × IsPublished held (identity_of r) key height)) → {own : Meaning ArcRef} {m n : Meaning ⊥} {u : Tree}
-      → FollowsTo trees rs own m → Reaches n u → n ≡ m → HasNoForm v.types u → ⊥
+  below-has-form : (rs : List ArcRef) → ((r : ArcRef) → Among rs r → (key : ℕ) × ((height : ℕ) × IsPublished the_shelf (identity_of r) key height))
+      → {own : Meaning ArcRef} {m n : Meaning ⊥} {u : Tree} → FollowsTo trees rs own m → Reaches n u → n ≡ m → HasNoForm v.types u → ⊥
   below-has-form rs each (reference-follows r a among is) (refers kind b) e formless =
       let p = each r among in
       let k = known (identity_of r) p.0 p.1.0 p.1.1 in
@@ -148,13 +148,13 @@ module _ {N E : Type 0} (v : Values N) (s : MachineState N E) (trees : ℕ → T
   below-has-form rs each (variant-follows i x a h) reach e formless = absurd (cc)
   below-has-form rs each follows reach e formless = more-held reach e refl
 
-  has-forms : (i : Identity) (key height : ℕ) → IsPublished held i key height → LeadsToNoForm v.types (trees i.node.0) → ⊥
+  has-forms : (i : Identity) (key height : ℕ) → IsPublished the_shelf i key height → LeadsToNoForm v.types (trees i.node.0) → ⊥
   has-forms i key height p (inl formless) = has-form i (known i key height p) formless
   has-forms i key height p (inr (u, reach, formless)) = let k = known i key height p in below-has-form k.written.references k.below k.wrote.follows reach refl formless
 
   -- a task that has come to a key is of no value that has no form
-  pub task-has-forms : (task : Task) (key : ℕ) → IsDone v held task key → IsFormlessTask v.types trees task → ⊥
-  task-has-forms (of_item written) key (keys, each, is) (r, among, formless) = let p = known-of held written.references keys each r among in has-forms (identity_of r) p.0 p.1.0 p.1.1 formless
+  pub task-has-forms : (task : Task) (key : ℕ) → IsDone v the_shelf task key → IsFormlessTask v.types trees task → ⊥
+  task-has-forms (of_item written) key (keys, each, is) (r, among, formless) = let p = known-of the_shelf written.references keys each r among in has-forms (identity_of r) p.0 p.1.0 p.1.1 formless
   task-has-forms (of_entry h i) key (height, p) formless = has-forms i key height p formless
 
 module _ {N B W E : Type 0} (m : Seen N B W) (s s' : MachineState N E) (trees trees' : ℕ → Tree) (fit : WorkFits m.values s trees) (low : HeightsIn (world_of s)) where

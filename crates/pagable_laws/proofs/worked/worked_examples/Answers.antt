@@ -18,7 +18,8 @@ unfolding IsCanonical
 cat_canonical tag = grind arith
 
 pub returns : goal.returns
-unfolding read read_with below varint varint_at duration_at length_at items text_at char_at bool_at is_utf8 put_all code plain rename chars encode_utf8 preimage weight unfolded IsReadable IsCanonical LiesIn
+unfolding read read_with below varint varint_at duration_at length_at items text_at char_at bool_at is_utf8 put_all code plain rename chars encode_utf8 preimage weight unfolded
+    IsReadable IsCanonical LiesIn
 returns c = record {
   numbers = (refl, refl, refl);
   numbers_read = (refl, refl, refl, refl, refl, refl, refl, refl);
