@@ -205,6 +205,14 @@ module _ {A B : Type 0} {E : Error → Type 0} {S : A → B → Type 0} where
       → (t ≡ false → Par E S V other other2) → Par E S V (choose t get other) (choose t get2 other2)
   choose_par x0 h g = grind (arith, nat_tests, likewise_par)
 
+  -- what is read first says which of two is read then
+  known_par : {X Y Z : Type 0} {V : X → Y → Type 0} (read : List ℕ → Read Z) → TameBytes read → (known : Z → Bool) {get other : Z → Gets A X} {get2 other2 : Z → Gets B Y} {whole : Gets A X} {whole2 : Gets B Y}
+      → ((i : Rest A) → whole i ≡ (bytes_of read (λ z. z) i >>= λ p. choose (known p.0) (get p.0) (other p.0) p.1))
+      → ((i : Rest B) → whole2 i ≡ (bytes_of read (λ z. z) i >>= λ p. choose (known p.0) (get2 p.0) (other2 p.0) p.1))
+      → ((z : Z) → known z ≡ true → Par E S V (get z) (get2 z)) → ((z : Z) → Par E S V (other z) (other2 z)) → Par E S V whole whole2
+  known_par read t known {get} {other} {get2} {other2} is is2 h g =
+      then_same (λ z. choose (known z) (get z) (other z)) (λ z. choose (known z) (get2 z) (other2 z)) _ _ is is2 (bytes_same read t) (λ z. choose_par (known z) (h z) (λ e. g z))
+
   pub items_par : {X Y : Type 0} {V : X → Y → Type 0} {get : Gets A X} {get2 : Gets B Y} → Par E S V get get2 → (n : ℕ) → Par E S (AllTwo V) (items get n) (items get2 n)
   unfolding items
   items_par h zero = gives_par [] [] no-two
@@ -333,16 +341,12 @@ module _ {A B C D : Type 0} {E : Error → Type 0} {F : Type 0} {S : A → B →
           then_same (λ n i. json_case n >>= λ case. json_part d case i) (λ n i. json_case n >>= λ case. json_part d2 case i) _ _ (λ i. refl) (λ i. refl)
           (bytes_same (unsigned_at w64) (unsigned_tame w64))
           (λ n. json_cases h (json_case n))
-      with_par {d} {d2} h (optional s) t =
-          then_same (λ some i. choose some (seen present (read_with look parts d s)) (λ r. Ok (absent, r)) i)
-          (λ some i. choose some (seen present (read_with look2 parts d2 s)) (λ r. Ok (absent, r)) i) _ _ (λ i. refl) (λ i. refl) (bytes_same bool_at bool_tame)
-          (λ some. choose_par some (λ e. seen_par present present (λ m n r. variant-along _ _ _ r) (with_par h s (over (λ p. p) (λ n d l. l) t)))
-          (λ e. gives_par absent absent (variant-along _ _ _ none-along)))
-      with_par {d} {d2} h (outcome s s2) t =
-          then_same (λ ok i. choose ok (seen success (read_with look parts d s)) (seen failure (read_with look parts d s2)) i)
-          (λ ok i. choose ok (seen success (read_with look2 parts d2 s)) (seen failure (read_with look2 parts d2 s2)) i) _ _ (λ i. refl) (λ i. refl) (bytes_same bool_at bool_tame)
-          (λ ok. choose_par ok (λ e. seen_par success success (λ m n r. variant-along _ _ _ r) (with_par h s (over (λ p. p.0) (λ n d l. l.0) t)))
-          (λ e. seen_par failure failure (λ m n r. variant-along _ _ _ r) (with_par h s2 (over (λ p. p.1) (λ n d l. l.1) t))))
+      with_par h (optional s) t =
+          known_par bool_at bool_tame (λ some. some) (λ i. refl) (λ i. refl) (λ some e. seen_par present present (λ m n r. variant-along _ _ _ r) (with_par h s (over (λ p. p) (λ n d l. l) t)))
+          (λ some. gives_par absent absent (variant-along _ _ _ none-along))
+      with_par h (outcome s s2) t =
+          known_par bool_at bool_tame (λ ok. ok) (λ i. refl) (λ i. refl) (λ ok e. seen_par success success (λ m n r. variant-along _ _ _ r) (with_par h s (over (λ p. p.0) (λ n d l. l.0) t)))
+          (λ ok. seen_par failure failure (λ m n r. variant-along _ _ _ r) (with_par h s2 (over (λ p. p.1) (λ n d l. l.1) t)))
       with_par h (list s) t = likewise_par (seen_par sequence sequence (λ ms ns r. sequence-two r) (counted_par (with_par h s (over (λ p. p) (λ n d l. l) t)))) (λ i. refl) (λ i. refl)
       with_par h (run s) t = likewise_par (refuses_par (Along F R) Error.WrongKind) (λ i. refl) (λ i. refl)
       with_par h (array n s) t = likewise_par (seen_par sequence sequence (λ ms ns r. sequence-two r) (items_par (with_par h s (over (λ p. p) (λ n d l. l) t)) n)) (λ i. refl) (λ i. refl)
@@ -365,19 +369,13 @@ module _ {A B C D : Type 0} {E : Error → Type 0} {F : Type 0} {S : A → B →
           then_same (λ n i. registered registry n >>= λ m. Ok (lifted m, i)) (λ n i. registered registry n >>= λ m. Ok (lifted m, i)) _ _ (λ i. refl) (λ i. refl)
           (bytes_same (unsigned_at w32) (unsigned_tame w32))
           (λ n. registered_par registry (static-covers registry t) n (registered registry n) refl)
-      with_par {d} {d2} h (tagged written known body) t =
-          then_same (λ tag i. choose (known tag) (seen (of_tagged tag) (read_with look parts d (body tag))) (λ r. Err Error.UnknownTag) i)
-          (λ tag i. choose (known tag) (seen (of_tagged tag) (read_with look2 parts d2 (body tag))) (λ r. Err Error.UnknownTag) i) _ _
-          (λ i. refl) (λ i. refl) (bytes_same text_at text_tame)
-          (λ tag. choose_par (known tag)
-          (λ e. seen_par (of_tagged tag) (of_tagged tag) (λ m n r. pair-along _ _ _ _ (text-along tag) r) (with_par h (body tag) (over (λ p. p.1 tag e) (λ n d l. l.1 tag e) t)))
-          (λ e. refuses_par (Along F R) Error.UnknownTag))
-      with_par {d} {d2} h (cases w known part) t =
-          then_same (λ n i. choose (known n) (seen (variant n) (read_with look parts d (part n))) (λ r. Err Error.UnknownTag) i)
-          (λ n i. choose (known n) (seen (variant n) (read_with look2 parts d2 (part n))) (λ r. Err Error.UnknownTag) i) _ _
-          (λ i. refl) (λ i. refl) (bytes_same (unsigned_at w) (unsigned_tame w))
-          (λ n. choose_par (known n) (λ e. seen_par (variant n) (variant n) (λ x y r. variant-along _ _ _ r) (with_par h (part n) (over (λ p. p n e) (λ nodes d l. l n e) t)))
-          (λ e. refuses_par (Along F R) Error.UnknownTag))
+      with_par h (tagged written known body) t =
+          known_par text_at text_tame known (λ i. refl) (λ i. refl)
+          (λ tag e. seen_par (of_tagged tag) (of_tagged tag) (λ m n r. pair-along _ _ _ _ (text-along tag) r) (with_par h (body tag) (over (λ p. p.1 tag e) (λ n d l. l.1 tag e) t)))
+          (λ tag. refuses_par (Along F R) Error.UnknownTag)
+      with_par h (cases w known part) t =
+          known_par (unsigned_at w) (unsigned_tame w) known (λ i. refl) (λ i. refl)
+          (λ n e. seen_par (variant n) (variant n) (λ x y r. variant-along _ _ _ r) (with_par h (part n) (over (λ p. p n e) (λ nodes d l. l n e) t))) (λ n. refuses_par (Along F R) Error.UnknownTag)
       with_par h (shapes.reference kind) t = likewise_par (reference_par look look2 alike kind) (λ i. refl) (λ i. refl)
       with_par h (nested n) t = likewise_par (enter_par _ _ h (λ get get2 g. g (parts n) (covers-part t))) (λ i. refl) (λ i. refl)
 
