@@ -180,7 +180,7 @@ module _ {A B : Type 0} {E : Error → Type 0} {S : A → B → Type 0} where
     then_par = record { out = λ r q s. rw (is, is2) (bind-out _ _ (h.out r q s) (λ p o v t. (k p.0 o.0 v).out p.1 o.1 t)); tame = and_then joins f whole is h.tame t }
 
   -- one after the other, where both give the same first
-  module _ {X U W : Type 0} {V2 : U → W → Type 0} {get : Gets A X} {get2 : Gets B X} (f : X → Gets A U) (g : X → Gets B W) (whole : Gets A U) (whole2 : Gets B W)
+  module _ {X U W : Type 0} {V2 : U → W → Type 0} {get : Gets A X} {get2 : Gets B X} {f : X → Gets A U} {g : X → Gets B W} {whole : Gets A U} {whole2 : Gets B W}
       (is : (i : Rest A) → whole i ≡ (get i >>= λ p. f p.0 p.1)) (is2 : (i : Rest B) → whole2 i ≡ (get2 i >>= λ p. g p.0 p.1)) (h : Par E S (λ (v w : X). v ≡ w) get get2)
       (k : (v : X) → Par E S V2 (f v) (g v)) where
     pub then_same : Par E S V2 whole whole2
@@ -211,7 +211,7 @@ module _ {A B : Type 0} {E : Error → Type 0} {S : A → B → Type 0} where
       → ((i : Rest B) → whole2 i ≡ (bytes_of read (λ z. z) i >>= λ p. choose (known p.0) (get2 p.0) (other2 p.0) p.1))
       → ((z : Z) → known z ≡ true → Par E S V (get z) (get2 z)) → ((z : Z) → Par E S V (other z) (other2 z)) → Par E S V whole whole2
   known_par read t known {get} {other} {get2} {other2} is is2 h g =
-      then_same (λ z. choose (known z) (get z) (other z)) (λ z. choose (known z) (get2 z) (other2 z)) _ _ is is2 (bytes_same read t) (λ z. choose_par (known z) (h z) (λ e. g z))
+      then_same {f = λ z. choose (known z) (get z) (other z)} {g = λ z. choose (known z) (get2 z) (other2 z)} is is2 (bytes_same read t) (λ z. choose_par (known z) (h z) (λ e. g z))
 
   pub items_par : {X Y : Type 0} {V : X → Y → Type 0} {get : Gets A X} {get2 : Gets B Y} → Par E S V get get2 → (n : ℕ) → Par E S (AllTwo V) (items get n) (items get2 n)
   unfolding items
@@ -223,7 +223,7 @@ module _ {A B : Type 0} {E : Error → Type 0} {S : A → B → Type 0} where
       (λ v. and_then joins (λ others i. Ok (v ∷ others, i)) _ (λ i. refl) (items_par h n).tame (λ others. gives joins (v ∷ others)))
 
   pub counted_par : {X Y : Type 0} {V : X → Y → Type 0} {get : Gets A X} {get2 : Gets B Y} → Par E S V get get2 → Par E S (AllTwo V) (counted get) (counted get2)
-  counted_par {X} {Y} {V} {get} {get2} h = then_same (λ n i. items get n i) (λ n i. items get2 n i) _ _ (λ i. refl) (λ i. refl) (bytes_same length_at length_tame) (λ n. items_par h n)
+  counted_par h = then_same (λ i. refl) (λ i. refl) (bytes_same length_at length_tame) (λ n. items_par h n)
 
 -- ---- values
 
@@ -304,20 +304,17 @@ module _ {A B C D : Type 0} {E : Error → Type 0} {F : Type 0} {S : A → B →
     json_par h null_case = likewise_par (gives_par _ _ (variant-along _ _ _ none-along)) (λ i. refl) (λ i. refl)
     json_par h flag_case = likewise_par (bytes_par bool_at bool_tame _ _ (λ b. variant-along _ _ _ (flag-same b))) (λ i. refl) (λ i. refl)
     json_par h number_case =
-        then_same (λ float i. choose float (λ r. Err Error.JsonNumber) (bytes_of (signed_at w64) (λ z. variant 2 (integer z))) i)
-        (λ float i. choose float (λ r. Err Error.JsonNumber) (bytes_of (signed_at w64) (λ z. variant 2 (integer z))) i) _ _
-        (λ i. refl) (λ i. refl) (bytes_same bool_at bool_tame)
-        (λ float. choose_par float (λ e. refuses_par (Along F R) Error.JsonNumber) (λ e. bytes_par (signed_at w64) (signed_tame w64) _ _ (λ z. variant-along _ _ _ (integer-along z))))
+        known_par bool_at bool_tame (λ float. float) (λ i. refl) (λ i. refl) (λ float e. refuses_par (Along F R) Error.JsonNumber)
+        (λ float. bytes_par (signed_at w64) (signed_tame w64) _ _ (λ z. variant-along _ _ _ (integer-along z)))
     json_par h text_case = likewise_par (bytes_par text_at text_tame _ _ (λ t. variant-along _ _ _ (text-along t))) (λ i. refl) (λ i. refl)
     json_par {d} {d2} h array_case =
-        then_same (λ count i. enter d (λ get. seen (λ ms. variant 4 (sequence ms)) (items (get json) count)) i)
-        (λ count i. enter d2 (λ get. seen (λ ms. variant 4 (sequence ms)) (items (get json) count)) i) _ _
-        (λ i. refl) (λ i. refl) (bytes_same length_at length_tame)
+        then_same {f = λ count. enter d (λ get. seen (λ ms. variant 4 (sequence ms)) (items (get json) count))}
+        {g = λ count. enter d2 (λ get. seen (λ ms. variant 4 (sequence ms)) (items (get json) count))} (λ i. refl) (λ i. refl) (bytes_same length_at length_tame)
         (λ count. enter_par _ _ h (λ get get2 g. seen_par _ _ (λ ms ns r. variant-along _ _ _ (sequence-two r)) (items_par (g json (inr (of_json tt))) count)))
     json_par {d} {d2} h object_case =
-        then_same (λ count i. enter d (λ get. seen (λ es. variant 5 (of_entries (put_all (put_sorted text_order) [] es))) (items (two (get shapes.text) (get json)) count)) i)
-        (λ count i. enter d2 (λ get. seen (λ es. variant 5 (of_entries (put_all (put_sorted text_order) [] es))) (items (two (get shapes.text) (get json)) count)) i) _ _
-        (λ i. refl) (λ i. refl) (bytes_same length_at length_tame)
+        then_same {f = λ count. enter d (λ get. seen (λ es. variant 5 (of_entries (put_all (put_sorted text_order) [] es))) (items (two (get shapes.text) (get json)) count))}
+        {g = λ count. enter d2 (λ get. seen (λ es. variant 5 (of_entries (put_all (put_sorted text_order) [] es))) (items (two (get shapes.text) (get json)) count))} (λ i. refl)
+        (λ i. refl) (bytes_same length_at length_tame)
         (λ count. enter_par _ _ h
         (λ get get2 g. seen_par _ _ (λ es fs r. variant-along _ _ _ (sorted-two text_order r)) (items_par (entry_par (g shapes.text (inr (of_text tt))) (g json (inr (of_json tt)))) count)))
 
@@ -338,9 +335,7 @@ module _ {A B C D : Type 0} {E : Error → Type 0} {F : Type 0} {S : A → B →
       with_par h duration t = likewise_par (bytes_par duration_at duration_tame _ _ (λ p. pair-along _ _ _ _ (number-along p.0) (number-along p.1))) (λ i. refl) (λ i. refl)
       with_par h shapes.pattern t = likewise_par (bytes_par text_at text_tame _ _ (λ b. pattern-along b)) (λ i. refl) (λ i. refl)
       with_par {d} {d2} h json t =
-          then_same (λ n i. json_case n >>= λ case. json_part d case i) (λ n i. json_case n >>= λ case. json_part d2 case i) _ _ (λ i. refl) (λ i. refl)
-          (bytes_same (unsigned_at w64) (unsigned_tame w64))
-          (λ n. json_cases h (json_case n))
+          then_same (λ i. refl) (λ i. refl) (bytes_same (unsigned_at w64) (unsigned_tame w64)) (λ n. json_cases h (json_case n))
       with_par h (optional s) t =
           known_par bool_at bool_tame (λ some. some) (λ i. refl) (λ i. refl) (λ some e. seen_par present present (λ m n r. variant-along _ _ _ r) (with_par h s (over (λ p. p) (λ n d l. l) t)))
           (λ some. gives_par absent absent (variant-along _ _ _ none-along))
@@ -366,9 +361,7 @@ module _ {A B C D : Type 0} {E : Error → Type 0} {F : Type 0} {S : A → B →
       with_par h (sorted_set order s) t = likewise_par (seen_par _ _ (λ ms ns r. sorted_items-two order r) (counted_par (with_par h s (over (λ p. p) (λ n d l. l) t)))) (λ i. refl) (λ i. refl)
       with_par h (placed_set s) t = likewise_par (seen_par _ _ (λ ms ns r. placed_items-two r) (counted_par (with_par h s (over (λ p. p) (λ n d l. l) t)))) (λ i. refl) (λ i. refl)
       with_par h (static_value registry) t =
-          then_same (λ n i. registered registry n >>= λ m. Ok (lifted m, i)) (λ n i. registered registry n >>= λ m. Ok (lifted m, i)) _ _ (λ i. refl) (λ i. refl)
-          (bytes_same (unsigned_at w32) (unsigned_tame w32))
-          (λ n. registered_par registry (static-covers registry t) n (registered registry n) refl)
+          then_same (λ i. refl) (λ i. refl) (bytes_same (unsigned_at w32) (unsigned_tame w32)) (λ n. registered_par registry (static-covers registry t) n (registered registry n) refl)
       with_par h (tagged written known body) t =
           known_par text_at text_tame known (λ i. refl) (λ i. refl)
           (λ tag e. seen_par (of_tagged tag) (of_tagged tag) (λ m n r. pair-along _ _ _ _ (text-along tag) r) (with_par h (body tag) (over (λ p. p.1 tag e) (λ n d l. l.1 tag e) t)))
