@@ -796,7 +796,8 @@ reads-step : (w w' : Core) (vs vs' : List (Option two.Sample)) (before after : O
     → reading_at (world_of s) (two.load_number l) ≡ Some reading → ReadingDoes two.sample w Owner.Caller reading ended frames w' → steps ≡ one_more reading.steps
     → ReadingsAre (updated l (reading_after ended reading frames) (two.reads before)) (world_of s')
     → ((n : ℕ) (x : two.Sample) → value_at vs' n ≡ Some x → (value_at vs n ≡ Some x) ⊎ ((value_at vs n ≡ None) × ReadingBrings two.sample w reading n x))
-    → Good w' vs' → FitsWalking w' (Some (two.walking two.answered)) → FitsReading w' after → Does two.sample_seen s (Event.LoadStep (two.load_number l)) (EventReply.LoadMoved (Ok (record { ended = ended; steps = steps }))) s'
+    → Good w' vs' → FitsWalking w' (Some (two.walking two.answered)) → FitsReading w' after
+    → Does two.sample_seen s (Event.LoadStep (two.load_number l)) (EventReply.LoadMoved (Ok (record { ended = ended; steps = steps }))) s'
 reads-step w w' vs vs' before after l steps reading frames ended may at read counts readings come good walks reads =
     does (two.afterwards w vs before) _ _ w' vs' _ _ after (record {
       moves = record { reading = reading; frames = frames; may = may; at = at; does = read; counts = counts; readings = readings; work = same-work _ _ _ _ };

@@ -206,7 +206,8 @@ module _ {A B : Type 0} {E : Error → Type 0} {S : A → B → Type 0} where
   choose_par x0 h g = grind (arith, nat_tests, likewise_par)
 
   -- what is read first says which of two is read then
-  known_par : {X Y Z : Type 0} {V : X → Y → Type 0} (read : List ℕ → Read Z) → TameBytes read → (known : Z → Bool) {get other : Z → Gets A X} {get2 other2 : Z → Gets B Y} {whole : Gets A X} {whole2 : Gets B Y}
+  known_par : {X Y Z : Type 0} {V : X → Y → Type 0} (read : List ℕ → Read Z) → TameBytes read → (known : Z → Bool) {get other : Z → Gets A X} {get2 other2 : Z → Gets B Y}
+      {whole : Gets A X} {whole2 : Gets B Y}
       → ((i : Rest A) → whole i ≡ (bytes_of read (λ z. z) i >>= λ p. choose (known p.0) (get p.0) (other p.0) p.1))
       → ((i : Rest B) → whole2 i ≡ (bytes_of read (λ z. z) i >>= λ p. choose (known p.0) (get2 p.0) (other2 p.0) p.1))
       → ((z : Z) → known z ≡ true → Par E S V (get z) (get2 z)) → ((z : Z) → Par E S V (other z) (other2 z)) → Par E S V whole whole2
