@@ -63,7 +63,7 @@ pub fn next_is_one()
     ensures { NextIsOneOf }
 {}
 
-/// The headline is met with all that it asks by a chain of two levels: births, a page-out, an eviction, and loads of cells and of a key.
+/// The headline is met with all that it asks by a chain of two levels: births, a page-out, an eviction, and loads of a cell and of a key.
 #[tactic(auto, using(crate::proofs::Level::headline_met))]
 pub fn two_levels_meet_the_headline()
     ensures { TwoLevelsMeetTheHeadline }
