@@ -1,10 +1,10 @@
 -- What trees feel of each call that doesn't close the storage, by the call and its reply.
-use Rattle.pagable_laws.proofs.Words.{nat_tests, ◌≡◌, ℕ, Bool, true, false, List, [], refl, ap, sym, subst, ◌∙◌, inl, inr, Option, Some, None, ◌⊎◌, Result, Ok, Err, Error, Kind, ArcRef, HandleNumber}
+use Rattle.pagable_laws.proofs.Words.{nat_tests, ◌≡◌, ℕ, Bool, List, [], refl, inl, inr, Option, Some, None, ◌⊎◌, Result, Ok, Err, Error, Kind, ArcRef, HandleNumber}
 use Rattle.pagable_laws.proofs.Words.{LoadNumber, NodeNumber, Owner, HandleRow, Mode, Call, Reply, Event, OptionalDataKey, find_row, is_loose, is_pinned, owner_value, Core, Seen, Values, Owns}
 use Rattle.pagable_laws.proofs.Words.{only_handle, with_mode, next_node, moved, is_named_by, BirthCall, UnpinCall, ReleaseCall, SetKeyCall, ScheduleCall, TakeCall, RecallCall, OfferCall}
 use Rattle.pagable_laws.proofs.Words.{IsRefused, ClearCall, AdoptCall, LazyCall, EndCall, Installs, HandOverCall, DropCall, with_pin, without_load, first_key, CallBrings, IsNewNode, KeepsOpen}
 use Rattle.pagable_laws.proofs.Words.{LeavesCache, Change, nothing_felt, sets_key, knows_node, bears_node, bears_known, CallFeels, feels-nothing, feels-birth, feels-away, feels-key, feels-known}
-use Rattle.pagable_laws.proofs.Goes.{parts, quiet-self, le-self, Quiet, Goes, NotLoads, rows-self, rows-mode, Changed, found-changed, quiet-then, alike, only-rows, fell, fell-anyhow, a-handle}
+use Rattle.pagable_laws.proofs.Goes.{parts, quiet-self, le-self, Quiet, Goes, NotLoads, rows-self, rows-mode, found-changed, quiet-then, alike, only-rows, fell, fell-anyhow, a-handle}
 use Rattle.pagable_laws.proofs.Goes.{quiet-goes}
 use Rattle.pagable_laws.proofs.Calling.{own-mode, made-handle, some-moved, closed-load, was-asked, stores, clones, pins, begins, begins-key, gets-known, asks, closes}
 use Rattle.pagable_laws.proofs.{Goes.goes-quiet, Goes.born, Goes.keyed, Goes.goes-known, Goes.adopts, Goes.KnowsNext, GoodReferences.good, GoodReferences.alike-away, GoodReferences.fell-away}

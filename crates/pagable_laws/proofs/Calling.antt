@@ -1,8 +1,8 @@
 -- What trees feel of each call, by the call and its reply.
-use Rattle.pagable_laws.proofs.Words.{◌≡◌, ℕ, ◌==◌, Bool, true, false, List, refl, ap, sym, subst, ◌∙◌, inl, inr, Option, Some, None, Result, Ok, Err, if◌then◌else◌, Adds, Error, Kind, Blob}
-use Rattle.pagable_laws.proofs.Words.{HandleNumber, LoadNumber, NodeNumber, Owner, HandleRow, Mode, Want, Pinning, Beginning, OptionalDataKey, is_loose, Core, OpenLoad, of_cell, of_key, type_at}
-use Rattle.pagable_laws.proofs.Words.{key_at, Alike, Owns, with_handle, with_mode, moved, CloneCall, PinCall, Asked, StoreCall, without_load, BeginCall, BeginKeyCall, Given, from_cache, arith}
-use Rattle.pagable_laws.proofs.{Words.{nat_tests, from_store, AskCall, AsksInVain, GetsKnown, LoadCloses, nothing_felt, BeginsWell}, Goes.{parts, le-self, Quiet, Goes, NotLoads, rows-self}}
+use Rattle.pagable_laws.proofs.Words.{◌≡◌, ℕ, Bool, true, false, List, refl, Option, Some, Result, Ok, Err, Adds, Error, Kind, Blob}
+use Rattle.pagable_laws.proofs.Words.{HandleNumber, LoadNumber, NodeNumber, Owner, HandleRow, Mode, Want, Pinning, Beginning, OptionalDataKey, is_loose, Core, of_cell, type_at}
+use Rattle.pagable_laws.proofs.Words.{key_at, Alike, Owns, with_handle, with_mode, moved, CloneCall, PinCall, Asked, StoreCall, without_load, BeginCall, BeginKeyCall, Given, arith}
+use Rattle.pagable_laws.proofs.{Words.{nat_tests, AskCall, GetsKnown, LoadCloses, nothing_felt, BeginsWell}, Goes.{parts, le-self, Quiet, Goes, NotLoads, rows-self}}
 use Rattle.pagable_laws.proofs.{Goes.{rows-mode, rows-moved, quiet-then, alike, only-rows, fell, a-handle, quiet-goes, quiet-begins, goes-quiet, begun}, Sums.same-number, Trees.same_some}
 
 -- ---- what is done to an own handle

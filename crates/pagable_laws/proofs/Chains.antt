@@ -2,7 +2,7 @@
 use Rattle.pagable_laws.proofs.Words.{nat_tests, ◌≡◌, ℕ, ◌+◌, ◌≤◌, List, [], Option, Some, None, ◌⊎◌, inl, inr, refl, sym, ◌∙◌, subst, arith, Event, EventReply, LoadAnswer, Tree, OpenLoad, Reading}
 use Rattle.pagable_laws.proofs.Words.{Frame, Seen, IsLawful, gone_on, MachineState, world_of, IsMachineWhole, StandsFor, FramesFit, ReadingFits, IsReadingOf, Moves, EventBrings, HoldsSettled}
 use Rattle.pagable_laws.proofs.Words.{ReadsItsTypes, IsWellAsked, FramesGiven, Change, CoreGoes, ReadingFeels, EventFeels, by-call, by-reading, by-key, by-nothing, KeepsReadings, KeysAreReady}
-use Rattle.pagable_laws.proofs.Words.{StepFeels, IsFresh, ChangeFits, ReadingsGiven, TreesAfterEvent, ◌∷◌, Ok, Call, Reply, Pinning, HandleNumber, Values, IsIdle, of_caller, of_worker, IsPremised}
+use Rattle.pagable_laws.proofs.Words.{StepFeels, IsFresh, ChangeFits, ReadingsGiven, TreesAfterEvent, ◌∷◌, HandleNumber, Values, IsIdle, IsPremised}
 use Rattle.pagable_laws.proofs.{Words.{Moment, AreMoments, TreesAfter, TreesAlong, GivesTree, PinGives, IsRight, HasPin, PinHolds, WorkFits, KeysHeld, ReadingsHeld}, Answering.keys-right}
 use Rattle.pagable_laws.proofs.{Coming.{StandsIn, event-turns, turns-stand, idle-stands}, EventSteps.does-feels, KeysGoing.{held-at-first, held-on, keys-ready}, KnownSteps.ReadingsAsked}
 use Rattle.pagable_laws.proofs.{KnownSteps.event-asked, PinSteps.pins-hold, Publishing.{fits-at-first, fits-on}, ReadingStepsGive.reads-give, ReadingStepsHeld.event-held}

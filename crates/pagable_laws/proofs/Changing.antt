@@ -1,5 +1,5 @@
 -- What a worker's step does to the slots of its table: each grows, and only those of the worker change.
-use Rattle.pagable_laws.proofs.Words.{◌≡◌, ℕ, ◌==◌, ◌⊎◌, Bool, true, false, refl, ap, sym, subst, ◌∙◌, inl, inr, arith, Option, Some, None, nat_eq, if◌then◌else◌, nat_tests, and_parts, Identity}
+use Rattle.pagable_laws.proofs.Words.{◌≡◌, ℕ, ◌==◌, ◌⊎◌, Bool, true, false, refl, ap, sym, subst, ◌∙◌, arith, Option, Some, None, nat_eq, if◌then◌else◌, nat_tests, and_parts, Identity}
 use Rattle.pagable_laws.proofs.Words.{if_there, Shelf, Slot, Outcome, failed, Written, Task, is_identity, SameShelf, with_slot, with_changed_slot, with_outcome, with_failed, is_open_outcome}
 use Rattle.pagable_laws.proofs.{Sums.same-number, Words.IsPublished, Words.Meets, Words.meets-of-item, Words.meets-entry, Words.meets-below}
 

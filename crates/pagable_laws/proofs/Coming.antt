@@ -1,11 +1,11 @@
 -- What each event does to workers and tables: it touches one worker, and claims of its own.
-use Rattle.pagable_laws.proofs.Words.{◌≡◌, ℕ, true, List, [], ◌∷◌, refl, ap, sym, subst, ◌∙◌, Ok, Err, Option, Some, None, is_some, ArcRef, Identity, WorkerAnswer, Claim, PinStep, Took, identity_of}
-use Rattle.pagable_laws.proofs.Words.{no_result, answer_of_fault, Written, Todo, to_start, to_pin, to_load, to_write, to_finish, to_item, to_set, to_publish, to_release, to_fail, arith, Task, Seen}
-use Rattle.pagable_laws.proofs.Words.{Site, Does, give, give_known, with_wait, answer_after, IsPublished, gone_on, ◌+◌, ◌<◌, ◌≤◌, ◌==◌, Bool, false, nat_eq, if◌then◌else◌, nat_tests, WorkerNumber}
+use Rattle.pagable_laws.proofs.Words.{◌≡◌, ℕ, true, List, [], ◌∷◌, refl, ap, sym, subst, ◌∙◌, Ok, Err, Option, Some, None, ArcRef, Identity, WorkerAnswer, Claim, PinStep, Took, identity_of}
+use Rattle.pagable_laws.proofs.Words.{no_result, answer_of_fault, Todo, to_start, to_pin, to_load, to_write, to_finish, to_item, to_set, to_publish, to_release, to_fail, arith, Task, Seen}
+use Rattle.pagable_laws.proofs.Words.{Site, Does, give, give_known, with_wait, answer_after, IsPublished, ◌+◌, ◌<◌, ◌≤◌, ◌==◌, Bool, false, nat_eq, if◌then◌else◌, nat_tests, WorkerNumber}
 use Rattle.pagable_laws.proofs.Words.{updated, Call, Reply, Event, EventReply, TableNumber, WorkerReply, Owner, Core, Alike, Shelf, Slot, Walking, World, CallStep, Happens, Stays, WorkStays, WorkIs}
-use Rattle.pagable_laws.proofs.{Words.{Starts, no_shelf, new_walking, WorkerSteps, Ends, MachineState, world_of, IsIdle, step_of}, Changing.{puts-slot, SlotChanges, ShelfGrows, some-none, grows}}
+use Rattle.pagable_laws.proofs.{Words.{Starts, no_shelf, new_walking, WorkerSteps, Ends, MachineState, world_of, IsIdle, step_of}, Changing.{puts-slot, SlotChanges, ShelfGrows, some-none, some-same, grows}}
 use Rattle.pagable_laws.proofs.{Changing.{same-slots, meets-grow}, Called.calls-go, Goes.NotLoads, Going.{CoversBy, Goes, plain, fails, swaps, gives, given-open, all-stay}, Holding.SameSlots}
-use Rattle.pagable_laws.proofs.{Holding.{Turned, work-stands, is-quiet, is-started, is-stepped}, ReadingSteps.reading-feels, Standing.{is_open_in, AllStand, Covers, HasNoFailed, HasClaim}}
+use Rattle.pagable_laws.proofs.{Holding.{Turned, work-stands, is-quiet, is-started, is-stepped}, ReadingSteps.reading-feels, Standing.{is_open_in, AllStand, Covers, HasNoFailed}}
 use Rattle.pagable_laws.proofs.{Standing.WorkStands, Turning.{claimed, written-goes, published-goes, failed-goes}, WalkSteps.walk-goes}
 use Rattle.pagable_laws.proofs.Calling as calling
 
@@ -236,6 +236,64 @@ module _ {N B W : Type 0} (m : Seen N B W) (u u' : World) (work : StandsIn u) wh
 pub turns-stand : {N B W : Type 0} (m : Seen N B W) {u u' : World} {event : Event N B W} {reply : EventReply N B W} → EventTurns m u event reply u' → StandsIn u → StandsIn u'
 turns-stand m {u} {u'} turns work =
     work-stands turns.who u.work.shelves u'.work.shelves u.work.walkings u'.work.walkings turns.turned u.core.last.worker u'.core.last.worker turns.last turns.small work
+
+-- one of two: at the number, or elsewhere
+at-number : {X : Type 0} (P : X → Type 0) (k : ℕ) (x : X) (f : ℕ → X) (q : ℕ) → P x → P (f q) → P (updated k x f q)
+at-number P k x f q here there = grind (arith, nat_tests)
+
+abbrev SameAs : Shelf → Shelf → Type 0
+SameAs a b = (i : Identity) → b.slots i ≡ a.slots i
+
+pub same-grow : (a b : Shelf) → SameAs a b → ShelfGrows a b
+same-grow a b same = grows 0 a b (same-slots 0 a b same)
+
+-- what holds of each table, and of each worker on its table
+pub record HoldsOfAll (u : World) (Slots : Shelf → Type 0) (Walk : ℕ → Shelf → Walking → Type 0) : Type 0 where
+  pub slots : (t : ℕ) → Slots (u.work.shelves t)
+  pub walks : (n : ℕ) (w : Walking) → u.work.walkings n ≡ Some w → Walk n (u.work.shelves w.table) w
+
+module _ {N B W : Type 0} (m : Seen N B W) {u u' : World} {event : Event N B W} {reply : EventReply N B W} (turns : EventTurns m u event reply u') where
+  pub turns-grow : (t : ℕ) → ShelfGrows (u.work.shelves t) (u'.work.shelves t)
+  turns-grow t = let turned = turns.turned in grows turns.who (u.work.shelves t) (u'.work.shelves t) (turned.changes t)
+
+  -- so it holds afterwards: of tables that stay, of workers that make no step, of one that begins, and of the table and the worker of a step
+  module _ (Slots : Shelf → Type 0) (Walk : ℕ → Shelf → Walking → Type 0) (alike : (a b : Shelf) → SameAs a b → Slots a → Slots b)
+      (onward : (a b : Shelf) → ShelfGrows a b → Slots a → (n : ℕ) (w : Walking) → Walk n a w → Walk n b w) (stay : (t : ℕ) (shelf : Shelf) → ShelfGrows (u.work.shelves t) shelf → SameAs (u.work.shelves t) shelf → Slots shelf)
+      (rest : (n : ℕ) (w : Walking) → step_of n event reply ≡ [] → u.work.walkings n ≡ Some w → Walk n (u'.work.shelves w.table) w)
+      (begin : (n : ℕ) (shelf : Shelf) (t : TableNumber) (task : Task) → Walk n shelf (new_walking t task))
+      (step : (k : WorkerNumber) (r : WorkerReply W) (s : WorkerSteps m u k r u') → step_of turns.who event reply ≡ r.took ∷ [] → ShelfGrows (u.work.shelves s.walking.table) s.after.shelf
+      → Slots s.after.shelf × Walk k.0 s.after.shelf (record s.walking { todo = s.after.todo; steps = r.steps; answer = r.answer })) where
+    abbrev Of : ℕ → Walking → Type 0
+    Of n w = Walk n (u'.work.shelves w.table) w
+
+    stays-so : (t : ℕ) → SameAs (u.work.shelves t) (u'.work.shelves t) → Slots (u'.work.shelves t)
+    stays-so t same = stay t (u'.work.shelves t) (turns-grow t) same
+
+    all-hold : ((t : ℕ) → Slots (u'.work.shelves t)) → ((w : Walking) → u'.work.walkings turns.who ≡ Some w → Of turns.who w) → HoldsOfAll u' Slots Walk
+    all-hold slots own = record { slots = slots; walks = λ n w there. of n w there (nat_eq n turns.who) refl }
+      where
+        of : (n : ℕ) (w : Walking) → u'.work.walkings n ≡ Some w → (b : Bool) → nat_eq n turns.who ≡ b → Of n w
+        of n w there true e = let f : n ≡ turns.who = grind (arith, nat_tests) in subst (λ k. Of k w) (sym f) (own w (sym (ap u'.work.walkings f) ∙ there))
+        of n w there false e = let turned = turns.turned in rest n w (turns.others n e) (sym (turned.others n e) ∙ there)
+
+    pub turns-keep : HoldsOfAll u' Slots Walk
+    turns-keep = by turns.own
+      where
+        by : OwnTurn m u turns.who (step_of turns.who event reply) u' → HoldsOfAll u' Slots Walk
+        by (rests none same still) = all-hold (λ t. stays-so t (same t)) (λ w there. rest turns.who w none (sym still ∙ there))
+        by (begins t task none same nobody new) = all-hold (λ q. stays-so q (same q)) (λ w there. subst (Of turns.who) (some-same new there) (begin turns.who (u'.work.shelves t.0) t task))
+        by (steps k r at one s) =
+            let w = s.walking in
+            let now : Walking = record w { todo = s.after.todo; steps = r.steps; answer = r.answer } in
+            let at_now : u'.work.walkings turns.who ≡ Some now = sym (ap u'.work.walkings at) ∙ s.work.same_walkings k.0 ∙ updated-at k.0 (Some now) u.work.walkings in
+            let table : SameAs s.after.shelf (u'.work.shelves w.table) =
+            λ i. (s.work.same_shelves w.table).slots i ∙ ap (λ (z : Shelf). z.slots i) (updated-at w.table s.after.shelf u.work.shelves) in
+            let d = step k r s one (λ i slot there. let a = turns-grow w.table i slot there in (a.0, sym (table i) ∙ a.1, a.2)) in
+            all-hold
+            (λ t. at-number (λ shelf. SameAs shelf (u'.work.shelves t) → Slots (u'.work.shelves t)) w.table s.after.shelf u.work.shelves t (λ same. alike s.after.shelf (u'.work.shelves t) same d.0)
+            (stays-so t) (s.work.same_shelves t).slots)
+            (λ x there. subst (Of turns.who) (some-same at_now there)
+            (subst (λ n. Of n now) at (onward s.after.shelf (u'.work.shelves w.table) (same-grow s.after.shelf (u'.work.shelves w.table) table) d.0 k.0 now d.1)))
 
 -- and so it does where nobody works yet
 pub idle-stands : {N E : Type 0} (s : MachineState N E) → IsIdle s → StandsIn (world_of s)

@@ -1,8 +1,8 @@
 -- What trees feel of each event that doesn't close the storage.
-use Rattle.pagable_laws.proofs.Words.{nat_tests, ◌≡◌, ℕ, ◌+◌, ◌<◌, ◌≤◌, Bool, true, false, List, [], ◌∷◌, refl, sym, ap, subst, ◌∙◌, inl, inr, arith, Option, Some, None, ◌⊎◌, Ok, Err, Result}
+use Rattle.pagable_laws.proofs.Words.{nat_tests, ◌≡◌, ℕ, ◌+◌, ◌<◌, ◌≤◌, Bool, true, false, List, refl, sym, ap, subst, ◌∙◌, inl, inr, arith, Option, Some, None, ◌⊎◌, Ok, Err, Result}
 use Rattle.pagable_laws.proofs.Words.{is_some, if◌then◌else◌, OptionalDataKey, Error, HandleNumber, LoadNumber, WorkerNumber, Tree, updated, if_there, Owner, Beginning, Event, EventReply, LoadReply}
-use Rattle.pagable_laws.proofs.Words.{TableNumber, WorkerAnswer, WorkerReply, only_handle, Core, Cell, Last, OpenLoad, Reading, Shelf, Todo, to_start, to_finish, to_item, to_release, Task, of_item}
-use Rattle.pagable_laws.proofs.Words.{of_entry, Walking, World, Alike, Seen, Values, type_at, key_at, Site, first_todo, fresh, without_worker, WorkerEnds, is_workers_load, answer_after, BeginsKey}
+use Rattle.pagable_laws.proofs.Words.{TableNumber, WorkerAnswer, WorkerReply, only_handle, Core, Cell, OpenLoad, Reading, Shelf, Todo, Task}
+use Rattle.pagable_laws.proofs.Words.{Walking, World, Alike, Seen, Values, type_at, key_at, Site, first_todo, fresh, without_worker, WorkerEnds, is_workers_load, answer_after, BeginsKey}
 use Rattle.pagable_laws.proofs.Words.{ReadingsAre, Stays, begun_readings, KeyStarted, Starts, new_walking, Ends, WorkerSteps, Happens, with_worker, MachineState, world_of, IsWhole, HandlesAreWhole}
 use Rattle.pagable_laws.proofs.Words.{IsMachineWhole, IsNewNode, EventBrings, TodoBrings, IsReadingOf, of_caller, of_worker, KeepsOpen, LeavesCache, Change, nothing_felt, CoreGoes, SameNode, NewNode}
 use Rattle.pagable_laws.proofs.{Words.{StaysAway, KeepsReadings, EventFeels, by-call, by-reading, by-key, by-nothing, StepFeels, IsFresh, WorkFits, Waits, Walks, Ground}, Goes.{parts, le-self}}

@@ -1,7 +1,7 @@
 -- A worker's step keeps what stands of its to-do list and of its table.
-use Rattle.pagable_laws.proofs.Words.{nat_tests, ◌≡◌, ℕ, zero, suc, ◌||◌, ◌⊎◌, Bool, true, false, List, [], ◌∷◌, ◌++◌, refl, ap, sym, ◌∙◌, inl, inr, Option, Some, None, drop, length, max, ArcRef}
-use Rattle.pagable_laws.proofs.Words.{Identity, HandleNumber, Among, above, WorkerAnswer, identity_of, Shelf, Slot, no_result, Written, Open, Fault, Todo, to_start, to_pin, to_load, to_write}
-use Rattle.pagable_laws.proofs.Words.{to_finish, arith, to_item, to_set, to_publish, to_release, to_fail, Task, is_identity, next_start, settle, give, Meets, meets-of-item, meets-below}
+use Rattle.pagable_laws.proofs.Words.{nat_tests, ◌≡◌, ℕ, suc, ◌||◌, ◌⊎◌, Bool, true, false, List, [], ◌∷◌, ◌++◌, refl, ap, sym, ◌∙◌, inl, inr, Option, Some, None, drop, length, max, ArcRef}
+use Rattle.pagable_laws.proofs.Words.{Identity, HandleNumber, Among, above, WorkerAnswer, identity_of, Shelf, Slot, no_result, Written, Open, Fault, Todo}
+use Rattle.pagable_laws.proofs.Words.{to_finish, arith, to_item, to_fail, Task, is_identity, next_start, settle, give, Meets, meets-of-item, meets-below}
 use Rattle.pagable_laws.proofs.{Standing.{is_open_of, is_open_in, is_failing, HasClaim, IsMetClaim, Stands, AllStand, Covers, HasNoFailed}, Changing.{Changes, ShelfGrows, some-none, grows}}
 use Rattle.pagable_laws.proofs.Changing.{meets-grow, published-stays, same-slots, is-self, is-same}
 

@@ -1,12 +1,12 @@
 -- A worker's step keeps heights low, and so does each event.
-use Rattle.pagable_laws.proofs.Words.{◌≡◌, ℕ, ◌+◌, ◌≤◌, Bool, true, false, List, [], ◌∷◌, length, Option, Some, None, Ok, Err, refl, sym, ap, subst, ◌∙◌, arith, nat_eq, nat_tests, ArcRef, Identity}
-use Rattle.pagable_laws.proofs.Words.{HandleNumber, Tree, WorkerNumber, Among, longest_path, Claim, PinStep, Took, Event, EventReply, WorkerReply, identity_of, step_of, Shelf, Slot, no_result}
+use Rattle.pagable_laws.proofs.Words.{◌≡◌, ℕ, ◌+◌, ◌≤◌, List, [], ◌∷◌, length, Option, Some, None, Ok, Err, refl, sym, ap, subst, ◌∙◌, arith, nat_tests, ArcRef, Identity}
+use Rattle.pagable_laws.proofs.Words.{HandleNumber, Tree, Among, longest_path, Claim, PinStep, Took, Event, EventReply, identity_of, Shelf, Slot, no_result}
 use Rattle.pagable_laws.proofs.Words.{published, Written, Open, Fault, was_failed, was_refused, Todo, to_start, to_pin, to_load, to_write, to_finish, to_item, to_set, to_publish, to_release, to_fail}
-use Rattle.pagable_laws.proofs.Words.{Task, of_item, of_entry, Walking, World, Seen, Site, Does, give, give_known, open_node, with_outcome, with_wait, first_todo, WorkerSteps, MachineState, world_of}
-use Rattle.pagable_laws.proofs.{Words.{IsIdle, Ground, ground_of, Walks, WorkFits}, Changing.{ShelfGrows, some-same, grows, same-slots, PutsSlot, puts-slot, changes-slot}, Heights.IsLow}
+use Rattle.pagable_laws.proofs.Words.{Task, Walking, World, Seen, Site, Does, give, give_known, open_node, with_outcome, with_wait, first_todo, MachineState, world_of}
+use Rattle.pagable_laws.proofs.{Words.{IsIdle, Ground, ground_of, Walks, WorkFits}, Changing.{ShelfGrows, some-same, PutsSlot, puts-slot, changes-slot}, Heights.IsLow}
 use Rattle.pagable_laws.proofs.Heights.{IsAttained, FirstLow, SlotLow, SlotsLow, place_over, WaitsLow, WroteLow, TodoLow, low-on, attained-on, slots-low-on, slots-low-but, slots-low-failed}
-use Rattle.pagable_laws.proofs.{Heights.{todo-low-on, all-low, started-low, started-item-low, given-low, given-known-low, opened-low}, Coming.{StandsIn, OwnTurn, rests, begins, steps, EventTurns}}
-use Rattle.pagable_laws.proofs.{Coming.updated-at, Holding.SameSlots, Publishing.at-number, Shelves.keys-grow, Standing.{AllStand, HasClaim}, Trees.same_some}
+use Rattle.pagable_laws.proofs.{Heights.{todo-low-on, all-low, started-low, started-item-low, given-low, given-known-low, opened-low}, Coming.{StandsIn, EventTurns, turns-grow, turns-keep}}
+use Rattle.pagable_laws.proofs.{Shelves.{keys-grow, keys-same}, Standing.{AllStand, HasClaim}, Trees.same_some}
 
 -- what one step of a worker leaves
 record DidLow (shelf : Shelf) (todo : List Todo) : Type 0 where
@@ -118,64 +118,14 @@ module _ {N B W E : Type 0} (m : Seen N B W) (s s' : MachineState N E) (trees : 
   unfolding WaitsLow FirstLow
   starts-low shelf x1 = grind (arith, nat_tests, started-item-low)
 
-  module _ (work : StandsIn (world_of s)) (event : Event N B W) (reply : EventReply N B W) (turns : EventTurns m (world_of s) event reply (world_of s')) where
-    grow : (t : ℕ) → ShelfGrows (s.work.shelves t) (s'.work.shelves t)
-    grow t = let turned = turns.turned in grows turns.who (s.work.shelves t) (s'.work.shelves t) (turned.changes t)
-
-    abbrev WalkLow : Walking → Type 0
-    WalkLow w = TodoLow (s'.work.shelves w.table) w.todo
-
-    stays-so : (n : ℕ) (w : Walking) → s.work.walkings n ≡ Some w → WalkLow w
-    stays-so n w there = todo-low-on (s.work.shelves w.table) (s'.work.shelves w.table) (grow w.table) w.todo (low.todos n w there)
-
-    all-low-then : ((t : ℕ) → SlotsLow (s'.work.shelves t)) → ((w : Walking) → s'.work.walkings turns.who ≡ Some w → WalkLow w) → HeightsIn (world_of s')
-    all-low-then slots own = record { slots = slots; todos = λ n w there. of n w there (nat_eq n turns.who) refl }
-      where
-        of : (n : ℕ) (w : Walking) → s'.work.walkings n ≡ Some w → (b : Bool) → nat_eq n turns.who ≡ b → WalkLow w
-        of n w there true e = let f : n ≡ turns.who = grind (arith, nat_tests) in own w (sym (ap s'.work.walkings f) ∙ there)
-        of n w there false e = let turned = turns.turned in stays-so n w (sym (turned.others n e) ∙ there)
-
-    slots-same : SameSlots s.work.shelves s'.work.shelves → (t : ℕ) → SlotsLow (s'.work.shelves t)
-    slots-same same t = slots-low-on (keys-grow (grow t)) (low.slots t) (same t)
-
-    a-step : (k : WorkerNumber) (r : WorkerReply W) → k.0 ≡ turns.who → WorkerSteps m (world_of s) k r (world_of s') → HeightsIn (world_of s')
-    a-step k r at w =
-        all-low-then slots (λ x there. subst WalkLow (same_some _ _ (sym at_now ∙ there))
-        (todo-low-on w.after.shelf (s'.work.shelves now.table) (grow-same w.after.shelf (s'.work.shelves now.table) table) now.todo d.todos))
-      where
-        site : Site
-        site = record { core = s.pager.core; shelf = s.work.shelves w.walking.table; todo = w.walking.todo }
-
-        now : Walking
-        now = record w.walking { todo = w.after.todo; steps = r.steps; answer = r.answer }
-
-        at_now : s'.work.walkings turns.who ≡ Some now
-        at_now = sym (ap s'.work.walkings at) ∙ w.work.same_walkings k.0 ∙ updated-at k.0 (Some now) s.work.walkings
-
-        table : (i : Identity) → (s'.work.shelves w.walking.table).slots i ≡ w.after.shelf.slots i
-        table i = (w.work.same_shelves w.walking.table).slots i ∙ ap (λ (z : Shelf). z.slots i) (updated-at w.walking.table w.after.shelf s.work.shelves)
-
-        grow-same : (shelf shelf' : Shelf) → ((i : Identity) → shelf'.slots i ≡ shelf.slots i) → ShelfGrows shelf shelf'
-        grow-same shelf shelf' same = grows 0 shelf shelf' (same-slots 0 shelf shelf' same)
-
-        more : ShelfGrows site.shelf w.after.shelf
-        more i slot there = let a = grow w.walking.table i slot there in (a.0, sym (table i) ∙ a.1, a.2)
-
-        d : DidLow w.after.shelf w.after.todo
-        d = stepped m k.0 (ground_of s trees) w.walking.task site w.after more (low.slots w.walking.table) w.walking.todo refl r.took w.does.does
-            (work.workers k.0 w.walking w.at).all (fit.walks k.0 w.walking w.at)
-            (low.todos k.0 w.walking w.at)
-
-        slots : (t : ℕ) → SlotsLow (s'.work.shelves t)
-        slots t = at-number (λ old. ((j : Identity) → (s'.work.shelves t).slots j ≡ old.slots j) → SlotsLow (s'.work.shelves t)) w.walking.table w.after.shelf s.work.shelves t
-            (λ here same. slots-low-on (keys-grow (grow-same w.after.shelf (s'.work.shelves t) same)) d.slots same) (λ other same. slots-low-on (keys-grow (grow t))
-            (low.slots t) same) (w.work.same_shelves t).slots
-
-    by-own : OwnTurn m (world_of s) turns.who (step_of turns.who event reply) (world_of s') → HeightsIn (world_of s')
-    by-own (rests none same still) = all-low-then (slots-same same) (λ w there. stays-so turns.who w (sym still ∙ there))
-    by-own (begins t task none same nobody new) = all-low-then (slots-same same) (λ w there. subst WalkLow (same_some _ _ (sym new ∙ there)) (starts-low (s'.work.shelves t.0) task))
-    by-own (steps k r at one w) = a-step k r at w
-
-    -- each event keeps it
-    pub heights-on : HeightsIn (world_of s')
-    heights-on = by-own turns.own
+  -- each event keeps it
+  pub heights-on : StandsIn (world_of s) → (event : Event N B W) (reply : EventReply N B W) → EventTurns m (world_of s) event reply (world_of s') → HeightsIn (world_of s')
+  heights-on work event reply turns =
+      let h = turns-keep m turns SlotsLow (λ n shelf w. TodoLow shelf w.todo) (λ a b same lows. slots-low-on (keys-same same) lows same) (λ a b more lows n w. todo-low-on a b more w.todo)
+      (λ t shelf more same. slots-low-on (keys-grow more) (low.slots t) same)
+      (λ n w none there. todo-low-on (s.work.shelves w.table) (s'.work.shelves w.table) (turns-grow m turns w.table) w.todo (low.todos n w there)) (λ n shelf t task. starts-low shelf task)
+      (λ k r w one more.
+      let d = stepped m k.0 (ground_of s trees) w.walking.task (record { core = s.pager.core; shelf = s.work.shelves w.walking.table; todo = w.walking.todo }) w.after more
+      (low.slots w.walking.table) w.walking.todo refl r.took w.does.does (work.workers k.0 w.walking w.at).all (fit.walks k.0 w.walking w.at) (low.todos k.0 w.walking w.at) in
+      (d.slots, d.todos)) in
+      record { slots = h.slots; todos = h.walks }

@@ -1,10 +1,10 @@
 -- A worker with all its steps so far: what an event adds to them keeps what they come to.
 use Rattle.pagable_laws.proofs.Words.{◌≡◌, ℕ, ◌+◌, ◌*◌, ◌-◌, ◌≤◌, List, [], ◌∷◌, ◌++◌, refl, ap, ◌∙◌, arith, Ok, Err, Some, None, drop, length, max, length-drop, sum_by-cons, sum_by-append, ArcRef}
 use Rattle.pagable_laws.proofs.Words.{one, times, above, Claim, PinStep, Took, Open, Todo, to_start, to_pin, to_load, to_write, to_finish, to_item, to_set, to_publish, to_release, to_fail, Task}
-use Rattle.pagable_laws.proofs.Words.{of_item, of_entry, Written, next_start, give, first_todo, is_counted, Follows, is_claim, references_written, own_references, zero, suc, ◌==◌, subst, Error}
-use Rattle.pagable_laws.proofs.Words.{Identity, Among, WorkerAnswer, Shelf, answer_of_fault, answer_after, is_open_outcome, MetError, FailedElsewhere, IsMetFailure, Bool, true, false, sym, Option}
-use Rattle.pagable_laws.proofs.Words.{nat_eq, min, nat_tests, WorkerNumber, Event, EventReply, TableNumber, WorkerReply, Walking, World, Seen, greatest, Site, Does, new_walking, steps_after}
-use Rattle.pagable_laws.proofs.{Words.{WorkerSteps, Leads, step_of}, Changing.{ShelfGrows, grows}, Coming.{StandsIn, OwnTurn, rests, begins, steps, EventTurns, updated-at}, Nexts.steps_follow}
+use Rattle.pagable_laws.proofs.Words.{Written, next_start, give, first_todo, is_counted, Follows, is_claim, references_written, own_references, zero, suc, ◌==◌, subst, Error}
+use Rattle.pagable_laws.proofs.Words.{Identity, Among, WorkerAnswer, Shelf, answer_of_fault, answer_after, MetError, FailedElsewhere, IsMetFailure, Bool, true, false, sym, Option}
+use Rattle.pagable_laws.proofs.Words.{nat_eq, nat_tests, WorkerNumber, Event, EventReply, TableNumber, WorkerReply, Walking, World, Seen, Site, Does, new_walking, steps_after}
+use Rattle.pagable_laws.proofs.{Words.{WorkerSteps, Leads, step_of}, Changing.{ShelfGrows, grows}, Coming.{StandsIn, OwnTurn, EventTurns, updated-at}, Nexts.steps_follow}
 use Rattle.pagable_laws.proofs.Standing.{is_failed, HasNoFailed}
 use Rattle.std.{proofs.Common.{length-append, append-nil}, specs.List.sum_by}
 

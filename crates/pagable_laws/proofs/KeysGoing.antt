@@ -1,16 +1,16 @@
 -- Workers go on holding what they hold.
-use Rattle.pagable_laws.proofs.Words.{◌≡◌, ℕ, Bool, true, false, List, [], ◌∷◌, ◌++◌, ◌⊎◌, inl, inr, Option, Some, None, Ok, Err, refl, sym, ap, subst, ◌∙◌, if◌then◌else◌, arith, drop, length, max}
-use Rattle.pagable_laws.proofs.Words.{nat_eq, OptionalDataKey, Pinning, Beginning, Claim, PinStep, Took, ArcRef, Identity, NodeNumber, HandleNumber, LoadNumber, is_loose_kind, above, if_there}
-use Rattle.pagable_laws.proofs.Words.{any_mode, identity_of, has_key, owner_worker, Core, Cell, Shelf, Slot, no_result, published, failed, Written, Open, Todo, to_start, to_pin, to_load, to_write}
-use Rattle.pagable_laws.proofs.Words.{to_finish, to_item, to_set, to_publish, to_release, to_fail, Task, of_item, of_entry, is_identity, SameShelf, Seen, with_key, SetKeyCall, Site, GoesTo}
+use Rattle.pagable_laws.proofs.Words.{◌≡◌, ℕ, true, false, List, [], ◌∷◌, ◌++◌, ◌⊎◌, inl, inr, Option, Some, None, Ok, Err, refl, sym, ap, subst, ◌∙◌, arith, drop, length}
+use Rattle.pagable_laws.proofs.Words.{OptionalDataKey, Pinning, Beginning, Claim, PinStep, Took, ArcRef, Identity, NodeNumber, HandleNumber, LoadNumber, is_loose_kind, above, if_there}
+use Rattle.pagable_laws.proofs.Words.{any_mode, identity_of, has_key, owner_worker, Core, Cell, Shelf, Slot, no_result, published, Written, Open, Todo, to_start, to_pin, to_load, to_write}
+use Rattle.pagable_laws.proofs.Words.{to_finish, to_item, to_set, to_publish, to_release, to_fail, Task, SameShelf, Seen, with_key, SetKeyCall, Site, GoesTo}
 use Rattle.pagable_laws.proofs.Words.{first_todo, answer_after, Does, PinsAtOnce, PinsByLoad, IsPublished, next_start, settle, give, give_known, with_wait, with_changed_slot, with_outcome}
-use Rattle.pagable_laws.proofs.Words.{with_failed, is_open_outcome, Owns, HandlesAreWhole, WorkerAnswer, Owner, HandleRow, StandsAt, KeyIsSet, is_publishing, AllHold, HasHandle, Change, nothing_felt}
-use Rattle.pagable_laws.proofs.Words.{nat_tests, WorkerNumber, Tree, ReadsTree, Event, EventReply, WorkerReply, find_row, Alike, Walking, World, Values, Ends, WorkerSteps, MachineState, world_of}
-use Rattle.pagable_laws.proofs.{Words.{IsMachineWhole, IsIdle, ReadsItsTypes, KeepsOpen, KeysAreReady, KeysHeld, WorkFits, step_of}, Answering.sets-key, Calling.{pins, begins}, Changing.PutsSlot}
-use Rattle.pagable_laws.proofs.{Changing.{puts-slot, put-cases, is-same}, EventSteps.{ends-quiet, event-goes}, Goes.{Goes, fell, keyed, goes-quiet, quiet-goes}, Naming.{stands-on, key-on, all-on}}
-use Rattle.pagable_laws.proofs.{Naming.{claimed-stands, clone-stands}, Outlasting.{NotValues, Stands, stands-whole, stands-alike, stands-fell}, Publishing.at-number, Shelves.keys-same}
+use Rattle.pagable_laws.proofs.Words.{with_failed, Owns, HandlesAreWhole, WorkerAnswer, Owner, HandleRow, StandsAt, KeyIsSet, is_publishing, AllHold, HasHandle, Change, nothing_felt}
+use Rattle.pagable_laws.proofs.Words.{nat_tests, WorkerNumber, Tree, Event, EventReply, WorkerReply, find_row, Alike, Walking, World, Values, Ends, WorkerSteps, MachineState, world_of}
+use Rattle.pagable_laws.proofs.{Words.{IsMachineWhole, IsIdle, ReadsItsTypes, KeepsOpen, KeysAreReady, KeysHeld, WorkFits, new_walking, step_of, TableNumber}, Answering.sets-key, Calling.{pins, begins}, Changing.PutsSlot}
+use Rattle.pagable_laws.proofs.{Changing.{puts-slot, put-cases, is-same}, EventSteps.{ends-quiet, event-goes}, Goes.{Goes, fell, goes-quiet, quiet-goes}, Naming.{stands-on, key-on, all-on}}
+use Rattle.pagable_laws.proofs.{Naming.{claimed-stands, clone-stands}, Outlasting.{NotValues, Stands, stands-whole, stands-alike, stands-fell}, Shelves.keys-same}
 use Rattle.pagable_laws.proofs.{Sparing.Spares, SparingSteps.event-spares, Trees.same_some, WalkSteps.{works-free, walk-goes}}
-use Rattle.pagable_laws.proofs.Coming.{updated-at, EventTurns, OwnTurn, rests, begins as begins-turn, steps}
+use Rattle.pagable_laws.proofs.Coming.{updated-at, EventTurns, turns-keep}
 use Rattle.pagable_world.specs.Runs.{Does as DoesMoment}
 
 -- ---- what workers hold they hold after each event, and each cell whose key was published by a loose reference has a key
@@ -209,70 +209,42 @@ module _ {N B W : Type 0} (m : Seen N B W) (u u' : World) {c : Change} (goes : G
   abbrev SlotsHeld : Shelf → Type 0
   SlotsHeld shelf = (i : Identity) (key height : ℕ) → IsPublished shelf i key height → is_loose_kind i.kind.0 ≡ true → KeyIsSet u'.core i.node.0
 
-  -- a table that stays
-  slots-stay : (t : ℕ) (shelf : Shelf) → ((i : Identity) → shelf.slots i ≡ (u.work.shelves t).slots i) → SlotsHeld shelf
-  slots-stay t shelf same i key height p kind = key-on goes (held.slots t i key height (keys-same (λ j. sym (same j)) i key height p) kind)
+  abbrev WalkHolds : ℕ → Walking → Type 0
+  WalkHolds n w = AllHold u'.core w.todo × ((r : ArcRef) (key height : ℕ) (below : List Todo) → w.todo ≡ to_publish r key height ∷ below → HasHandle u'.core n r.node.0)
 
-  first-hold : (w : Core) (task : Task) → AllHold w (first_todo task)
+  first-hold : (task : Task) → AllHold u'.core (first_todo task)
   unfolding AllHold
-  first-hold w x1 = grind (arith, nat_tests, item-started)
+  first-hold x0 = grind (arith, nat_tests, item-started)
 
-  module _ (event : Event N B W) (reply : EventReply N B W) (turns : EventTurns m u event reply u') (spares : (n : ℕ) → step_of n event reply ≡ [] → Spares (owner_worker n) u.core u'.core) where
-    abbrev WalkHolds : ℕ → Walking → Type 0
-    WalkHolds n w = AllHold u'.core w.todo × ((r : ArcRef) (key height : ℕ) (below : List Todo) → w.todo ≡ to_publish r key height ∷ below → HasHandle u'.core n r.node.0)
+  first-holds : (n : ℕ) (t : TableNumber) (task : Task) → WalkHolds n (new_walking t task)
+  first-holds n t task = (first-hold task, λ r key height below front. let f : true ≡ false = sym (ap is_publishing front) ∙ first-quiet task in absurd (cc))
 
-    stays-so : (n : ℕ) → step_of n event reply ≡ [] → (w : Walking) → u.work.walkings n ≡ Some w → WalkHolds n w
-    stays-so n none w there = (all-on goes w.todo (held.walks n w there), λ r key height below front. handle-on whole (spares n none) (held.publishing n w r key height below there front))
-
-    all-hold : ((t : ℕ) → SlotsHeld (u'.work.shelves t)) → ((w : Walking) → u'.work.walkings turns.who ≡ Some w → WalkHolds turns.who w) → KeysHeld u'
-    all-hold slots own =
-        record {
-          publishing = λ n w r key height below there. let h = of n w there (nat_eq n turns.who) refl in h.1 r key height below;
-          walks = λ n w there. let h = of n w there (nat_eq n turns.who) refl in h.0;
-          slots = slots;
-        }
-      where
-        of : (n : ℕ) (w : Walking) → u'.work.walkings n ≡ Some w → (b : Bool) → nat_eq n turns.who ≡ b → WalkHolds n w
-        of n w there true e = let f : n ≡ turns.who = grind (arith, nat_tests) in subst (λ k. WalkHolds k w) (sym f) (own w (sym (ap u'.work.walkings f) ∙ there))
-        of n w there false e = let turned = turns.turned in stays-so n (turns.others n e) w (sym (turned.others n e) ∙ there)
-
-    a-step : (k : WorkerNumber) (r : WorkerReply W) → k.0 ≡ turns.who → WorkerSteps m u k r u' → KeysHeld u'
-    a-step k r at s =
-        let w : Walking = s.walking in
-        let site : Site = record { core = u.core; shelf = u.work.shelves w.table; todo = w.todo } in
-        let l = walk-leaves m k.0 site s.after whole r.took s.does.does (held.walks k.0 w s.at) in
-        let ends = quiet-goes nothing_felt (ends-quiet r.answer k.0 s.ends) in
-        let now : Walking = record w { todo = s.after.todo; steps = r.steps; answer = r.answer } in
-        let at_now : u'.work.walkings turns.who ≡ Some now = sym (ap u'.work.walkings at) ∙ s.work.same_walkings k.0 ∙ updated-at k.0 (Some now) u.work.walkings in
-        let holds : WalkHolds k.0 now = (all-on ends s.after.todo l.all, λ q key height below front. mine l.front front) in
-        all-hold
-        (λ t. at-number (λ shelf. ((j : Identity) → (u'.work.shelves t).slots j ≡ shelf.slots j) → SlotsHeld (u'.work.shelves t)) w.table s.after.shelf u.work.shelves t
-        (λ here same i key height p kind. elim (l.reveals i key height (keys-same (λ j. sym (same j)) i key height p)) [
+  a-step : (k : WorkerNumber) (r : WorkerReply W) (s : WorkerSteps m u k r u') → SlotsHeld s.after.shelf × WalkHolds k.0 (record s.walking { todo = s.after.todo; steps = r.steps; answer = r.answer })
+  a-step k r s =
+      let w : Walking = s.walking in
+      let site : Site = record { core = u.core; shelf = u.work.shelves w.table; todo = w.todo } in
+      let l = walk-leaves m k.0 site s.after whole r.took s.does.does (held.walks k.0 w s.at) in
+      let ends = quiet-goes nothing_felt (ends-quiet r.answer k.0 s.ends) in (
+        λ i key height p kind. elim (l.reveals i key height p) [
           | inl was ↦ key-on goes (held.slots w.table i key height was kind)
           | inr set ↦ key-on ends (set kind)
-        ])
-        (λ other same. slots-stay t (u'.work.shelves t) same) (s.work.same_shelves t).slots)
-        (λ x there. subst (λ (z : Walking). WalkHolds turns.who z) (same_some _ _ (sym at_now ∙ there)) (subst (λ n. WalkHolds n now) at holds))
-      where
-        -- its answer is none yet, so what it has stays
-        mine : {q : ArcRef} {key height : ℕ} {below : List Todo}
-            → ((q : ArcRef) (key height : ℕ) (below : List Todo) → s.after.todo ≡ to_publish q key height ∷ below → HasHandle s.after.core k.0 q.node.0 × (answer_after s.walking.todo r.took ≡ None))
-            → s.after.todo ≡ to_publish q key height ∷ below → HasHandle u'.core k.0 q.node.0
-        mine {q} {key} {height} {below} front is =
-            let f = front q key height below is in
-            let a : Alike s.after.core u'.core = subst (λ z. Ends z k.0 s.after.core u'.core) (s.answers ∙ f.1) s.ends in
-            record { h = f.0.h; row = f.0.row; live = subst (λ rows. find_row f.0.h.0 rows ≡ Some f.0.row) (sym a.rows) f.0.live; own = f.0.own; at = f.0.at }
+        ],
+        (all-on ends s.after.todo l.all, λ q key height below is. mine (l.front q key height below is)),
+      )
+    where
+      -- its answer is none yet, so what it has stays
+      mine : {n : ℕ} → HasHandle s.after.core k.0 n × (answer_after s.walking.todo r.took ≡ None) → HasHandle u'.core k.0 n
+      mine f =
+          let a : Alike s.after.core u'.core = subst (λ z. Ends z k.0 s.after.core u'.core) (s.answers ∙ f.1) s.ends in
+          record { h = f.0.h; row = f.0.row; live = subst (λ rows. find_row f.0.h.0 rows ≡ Some f.0.row) (sym a.rows) f.0.live; own = f.0.own; at = f.0.at }
 
-    by-own : OwnTurn m u turns.who (step_of turns.who event reply) u' → KeysHeld u'
-    by-own (rests none same still) = all-hold (λ t. slots-stay t (u'.work.shelves t) (same t)) (λ w there. stays-so turns.who none w (sym still ∙ there))
-    by-own (begins-turn t task none same nobody new) =
-        all-hold (λ q. slots-stay q (u'.work.shelves q) (same q))
-        (λ w there. subst (λ (z : Walking). WalkHolds turns.who z) (same_some _ _ (sym new ∙ there))
-        (first-hold u'.core task, λ r key height below front. let f : true ≡ false = sym (ap is_publishing front) ∙ first-quiet task in absurd (cc)))
-    by-own (steps k r at one s) = a-step k r at s
-
-    keys-hold : KeysHeld u'
-    keys-hold = by-own turns.own
+  keys-hold : (event : Event N B W) (reply : EventReply N B W) → EventTurns m u event reply u' → ((n : ℕ) → step_of n event reply ≡ [] → Spares (owner_worker n) u.core u'.core) → KeysHeld u'
+  keys-hold event reply turns spares =
+      let h = turns-keep m turns SlotsHeld (λ n shelf w. WalkHolds n w) (λ a b same slots i key height p. slots i key height (keys-same (λ j. sym (same j)) i key height p)) (λ a b more slots n w all. all)
+      (λ t shelf more same i key height p kind. key-on goes (held.slots t i key height (keys-same (λ j. sym (same j)) i key height p) kind))
+      (λ n w none there. (all-on goes w.todo (held.walks n w there), λ r key height below front. handle-on whole (spares n none) (held.publishing n w r key height below there front)))
+      (λ n shelf t task. first-holds n t task) (λ k r s one more. a-step k r s) in
+      record { walks = λ n w there. (h.walks n w there).0; publishing = λ n w r key height below there. (h.walks n w there).1 r key height below; slots = h.slots }
 
 -- and after each event of a whole machine that doesn't close the storage
 pub held-on : {N B W E : Type 0} (m : Seen N B W) (s s' : MachineState N E) (event : Event N B W) (reply : EventReply N B W) → EventTurns m (world_of s) event reply (world_of s')

@@ -1,5 +1,5 @@
 -- A list of whose handles none goes gets no shorter.
-use Rattle.pagable_laws.proofs.Words.{◌≡◌, ℕ, suc, zero, ◌+◌, ◌<◌, ◌≤◌, ◌==◌, ◌&&◌, Bool, true, false, List, [], ◌∷◌, length, Option, Some, None, refl, sym, ap, subst, ◌∙◌, arith, nat_tests}
+use Rattle.pagable_laws.proofs.Words.{◌≡◌, ℕ, suc, zero, ◌+◌, ◌<◌, ◌≤◌, ◌==◌, ◌&&◌, Bool, true, false, List, [], ◌∷◌, length, Option, Some, None, refl, sym, ap, ◌∙◌, arith, nat_tests}
 use Rattle.pagable_laws.proofs.Words.{sum_by-cons, and_parts, HandleRow, HandleNumber, Owner, Among, times, one, find_row, is_handle, is_owned_by, Core, HandlesAreWhole, IsWhole}
 use Rattle.pagable_laws.proofs.{Following.handles-once, GoodReferences.same-owner, Goes.found-number, Outlasting.{among-found, none-found, once, stands-whole}, Sparing.Spares, Sums.at-most-sum}
 use Rattle.pagable_laws.proofs.Sums.{counted, one-true, same-number, self-number, sum-le}

@@ -1,7 +1,7 @@
 -- What a load has got stays live and the load's own, each handle once, as long as the load makes its own steps; and so does the handle that began it.
 use Rattle.pagable_laws.proofs.Words.{nat_tests, ◌≡◌, ℕ, zero, suc, ◌+◌, ◌<◌, ◌≤◌, ◌==◌, ◌||◌, Bool, true, false, List, [], ◌∷◌, ◌++◌, Some, inl, inr, refl, sym, ap, subst, ◌∙◌, if◌then◌else◌, arith}
 use Rattle.pagable_laws.proofs.Words.{slice_get, sum_by, sum_by-cons, sum_by_push, HandleRow, Owner, Mode, ArcRef, Kind, HandleNumber, LoadNumber, NodeNumber, OptionalDataKey, Among, type_of, one}
-use Rattle.pagable_laws.proofs.Words.{times, mode_of, Core, Last, OpenLoad, of_cell, Frame, Alike, row_at, row_of, with_handle, with_node, next_node, is_named_by, Asked, adopted, GetsKnown, with_got}
+use Rattle.pagable_laws.proofs.Words.{times, mode_of, Core, OpenLoad, of_cell, Frame, Alike, row_at, row_of, with_handle, with_node, next_node, is_named_by, Asked, adopted, GetsKnown, with_got}
 use Rattle.pagable_laws.proofs.{Words.HandlesAreWhole, Outlasting.{Stands, AreUpTo, stands-alike, stands-changed, stands-more, stands-new, among-changed}, Apart.AreApart, Fitting.pushed}
 use Rattle.pagable_laws.proofs.{Goes.{found-number, none-in-next}, ReadingStepsRows.cached-rows, Sums.{self-number, same-number, at-most-sum, sum-zero}}
 

@@ -1,7 +1,7 @@
 -- A load's own step leaves it ready: what it has got is its own, and the caller has the handle that began it.
 use Rattle.pagable_laws.proofs.Words.{◌≡◌, ℕ, zero, suc, ◌+◌, ◌==◌, false, List, [], ◌∷◌, Some, inl, inr, refl, sym, ap, subst, ◌∙◌, arith, OptionalDataKey, HandleRow, Owner, ArcRef, Kind}
 use Rattle.pagable_laws.proofs.Words.{HandleNumber, LoadNumber, NodeNumber, Tree, Among, times, one, find_row, mode_of, Core, OpenLoad, of_cell, Frame, Reading, Values, IsLawful, row_at, is_named_by}
-use Rattle.pagable_laws.proofs.{Words.{with_got, root_frame, nested_frame, GoesOn, GetsLazy, MakesNode, GetsKnown, HandlesAreWhole, FramesFit, ReadsItsTypes, FramesHeld}, LoadsLive.GotOnce}
+use Rattle.pagable_laws.proofs.{Words.{with_got, nested_frame, GoesOn, GetsLazy, MakesNode, GetsKnown, HandlesAreWhole, FramesFit, ReadsItsTypes, FramesHeld}, LoadsLive.GotOnce}
 use Rattle.pagable_laws.proofs.LoadsLive.{AllBelow, got-cons, once-new, once-below, once-none, once-got, with-one, new-one, asked-keeps, known-keeps, adopted-keeps, adopted-new, not-named, Live}
 use Rattle.pagable_laws.proofs.{LoadsLive.{LoadReady, live-new, live-got}, Decoding.decodes, Fitting.first-fits, Goes.found-number, GoodReferences.good, Outlasting.{NotValues, Stands, stands-whole}}
 use Rattle.pagable_laws.proofs.{Outlasting.{stands-alike, stands-fell}, Sums.{self-number, at-most-sum}, Trees.same_some}

@@ -1,5 +1,5 @@
 -- A handle that is live, that no value owns and that isn't given up outlasts a cascade, with its row.
-use Rattle.std.{proofs.Common.rules, proofs.lemmas.Grind.common_steps, specs.List.AllPairs}
+use Rattle.std.{specs.List.AllPairs}
 use Rattle.pagable_laws.proofs.Words.{◌≡◌, ℕ, zero, suc, ◌+◌, ◌<◌, ◌≤◌, ◌==◌, ◌&&◌, Bool, true, false, List, [], ◌∷◌, ◌++◌, cond, refl, ap, sym, subst, ◌∙◌, inl, inr, arith, Option, Some, None, not}
 use Rattle.pagable_laws.proofs.Words.{if◌then◌else◌, filter, map, slice_get, cases_order, nat_tests, get_or_from_slice_get, slice_get_within, HandleNumber, NodeNumber, Among, changed, one, or_else}
 use Rattle.pagable_laws.proofs.Words.{Owner, HandleRow, find_row, is_handle, is_owner, is_owned_by, owner_value, Core, Last, Alike, IsWithin, IsClosed, IsLeast, is_keyed, Falls, left_rows, fallen}

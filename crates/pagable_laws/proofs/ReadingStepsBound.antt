@@ -1,7 +1,7 @@
 -- How many steps an open load still needs: at most two for each reference that its blobs still take, with all that it leads to, and one for each of its blobs.
 use Rattle.pagable_laws.proofs.Words.{◌≡◌, ℕ, ◌+◌, ◌*◌, ◌≤◌, ◌⊎◌, true, List, [], ◌∷◌, ◌++◌, refl, sym, subst, ◌∙◌, inl, inr, arith, Option, Some, None, Kind, Blob, Types, type_of, is_eager}
 use Rattle.pagable_laws.proofs.Words.{HandleRow, Core, OpenLoad, Frame, Reading, Values, asks, next_in, need_of, needs_nested, needs_lazy, to_adopt, root_frame, nested_frame, with_got, after_kinds}
-use Rattle.pagable_laws.proofs.Words.{Unfolds, unfolds, UnfoldsFrom, ends-here, takes-next, leaves-next, KeepsStored, Change, ReadingFeels, reads-root, reads-blob, gets-known, gets-lazy, makes-known}
+use Rattle.pagable_laws.proofs.Words.{Unfolds, unfolds, UnfoldsFrom, KeepsStored, Change, ReadingFeels, reads-root, reads-blob, gets-known, gets-lazy, makes-known}
 use Rattle.pagable_laws.proofs.{Words.{makes-node, reading-ends, nat_tests}, Fitting.asked, KnownSteps.eager-nested, ReadingStepsKinds.{kinds_of, asks-by-kinds, kinds-pushed}, Taking.adopted-over}
 use Rattle.pagable_laws.proofs.Trees.{same_some}
 use Rattle.std.proofs.Common.{rules}

@@ -1,9 +1,8 @@
 -- A load of a key that answers a value hands over the value's references: each was the load's, and is the caller's then.
-use Rattle.pagable_laws.proofs.Words.{◌≡◌, ℕ, zero, suc, ◌==◌, ◌&&◌, ◌||◌, Bool, true, false, List, [], ◌∷◌, map, Ok, refl, ap, subst, ◌∙◌, Option, Some, None, not, Error, ArcRef, HandleNumber}
-use Rattle.pagable_laws.proofs.Words.{LoadNumber, Among, is_in, if_there, HandleRow, Owner, Event, EventReply, LoadAnswer, is_owner, Core, OpenLoad, World, Reading, row_at, Seen, earlier, refused_if}
-use Rattle.pagable_laws.proofs.Words.{load_fault, named_fault, moved, numbers_of, HandOverCall, hand_over_fault, cell_fault, is_owned_in, EndsRead, handles_of, arith, nat_tests, Happens}
+use Rattle.pagable_laws.proofs.Words.{◌≡◌, ℕ, zero, suc, ◌&&◌, ◌||◌, Bool, true, false, List, [], ◌∷◌, map, Ok, refl, ap, subst, ◌∙◌, Option, Some, None, not, Error, ArcRef, HandleNumber}
+use Rattle.pagable_laws.proofs.Words.{LoadNumber, Among, is_in, if_there, HandleRow, Owner, Event, EventReply, LoadAnswer, is_owner, Core, World, Reading, row_at, Seen, earlier, refused_if}
+use Rattle.pagable_laws.proofs.Words.{named_fault, moved, numbers_of, HandOverCall, hand_over_fault, is_owned_in, EndsRead, handles_of, arith, nat_tests, Happens}
 use Rattle.pagable_laws.proofs.{Words.{HandlesAreWhole, HandsOver, ReadHolds}, Goes.found-number, Outlasting.{Stands, stands-whole, stands-changed, stands-fell}, Sums.self-number}
-use Rattle.std.proofs.{Common.rules, lemmas.Grind.common_steps}
 use Rattle.pagable_world.specs.Loads.{Does}
 
 -- ---- nothing is said against the handles

@@ -1,6 +1,6 @@
 -- What loads got goes on naming nodes as it should, whatever happens.
 use Rattle.pagable_laws.proofs.Words.{◌≡◌, ℕ, zero, suc, List, [], ◌∷◌, ◌++◌, refl, sym, subst, ◌∙◌, inl, inr, arith, Option, Some, None, slice_get, ArcRef, Kind, LoadNumber, Among}
-use Rattle.pagable_laws.proofs.Words.{HandleRow, Event, EventReply, LoadAnswer, Core, Frame, Reading, World, Values, with_got, root_frame, nested_frame, Change, CoreGoes, GetsRow}
+use Rattle.pagable_laws.proofs.Words.{HandleRow, Event, EventReply, LoadAnswer, Core, Frame, Reading, World, Values, with_got, nested_frame, Change, CoreGoes, GetsRow}
 use Rattle.pagable_laws.proofs.Words.{KeepsReadings, ReadingFeels, reads-root, reads-blob, gets-known, gets-lazy, makes-known, makes-node, reading-ends, EventFeels, by-call, by-reading, by-key}
 use Rattle.pagable_laws.proofs.{Fitting.pushed, ReadingStepsMachine.is-reading-of, Words.nat_tests, Words.by-nothing, Words.GotStands, Words.FramesHeld, Words.ReadingsHeld}
 

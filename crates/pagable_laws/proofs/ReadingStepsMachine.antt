@@ -1,6 +1,6 @@
 -- A load's step in the machine: which reading makes it, and that no other goes on by it.
-use Rattle.pagable_laws.proofs.Words.{◌≡◌, ℕ, ◌≤◌, true, List, [], ◌∷◌, refl, sym, ap, subst, ◌∙◌, inl, inr, Option, Some, None, ◌⊎◌, Ok, Err, is_some, ArcRef, HandleNumber, LoadNumber, WorkerNumber}
-use Rattle.pagable_laws.proofs.Words.{updated, Owner, LoadAnswer, LoadReply, WorkerReply, PinStep, Took, Event, owner_worker, Frame, Reading, Todo, to_load, to_write, Walking, World, Seen, Values}
+use Rattle.pagable_laws.proofs.Words.{◌≡◌, ℕ, ◌≤◌, true, List, [], ◌∷◌, sym, ap, subst, ◌∙◌, inl, inr, Option, Some, None, ◌⊎◌, Ok, Err, is_some, ArcRef, HandleNumber, LoadNumber, WorkerNumber}
+use Rattle.pagable_laws.proofs.Words.{Owner, LoadAnswer, LoadReply, WorkerReply, PinStep, Took, Event, owner_worker, Frame, Reading, Todo, to_load, to_write, Walking, World, Seen, Values}
 use Rattle.pagable_laws.proofs.Words.{ReadingDoes, gone_on, Site, ReadingsAre, reading_at, reading_after, LoadSteps, WorkerSteps, IsWhole, IsReadingOf, of_caller, of_worker, IsSteppedReading}
 use Rattle.pagable_laws.proofs.{Words.{StepsReading, IsFresh, arith, nat_tests}, Goes.at-updated, Trees.same_some}
 use Rattle.pagable_world.specs.Workers as workers

@@ -1,7 +1,7 @@
 -- The row of a handle that a load has got: it is new, of its node, and its mode fits the kind.
-use Rattle.std.proofs.{Common.rules, lemmas.Grind.common_steps}
-use Rattle.pagable_laws.proofs.Words.{◌≡◌, ℕ, ◌+◌, ◌<◌, ◌≤◌, Bool, true, List, [], ◌∷◌, ◌++◌, refl, ap, subst, ◌∙◌, inl, inr, arith, Some, ◌⊎◌, nat_tests, ArcRef, Kind, HandleNumber, LoadNumber}
-use Rattle.pagable_laws.proofs.Words.{NodeNumber, OptionalDataKey, type_of, HandleRow, Owner, find_row, mode_of, fits_mode, owner_value, Core, Last, Alike, row_at, usable, FallsAnyhow, left_rows}
+use Rattle.std.proofs.{Common.rules}
+use Rattle.pagable_laws.proofs.Words.{◌≡◌, ℕ, ◌+◌, ◌<◌, ◌≤◌, Bool, true, List, [], ◌∷◌, ◌++◌, refl, ap, subst, ◌∙◌, inr, arith, Some, ◌⊎◌, nat_tests, ArcRef, Kind, HandleNumber, LoadNumber}
+use Rattle.pagable_laws.proofs.Words.{NodeNumber, OptionalDataKey, type_of, HandleRow, Owner, find_row, mode_of, fits_mode, owner_value, Core, Last, Alike, row_at, usable, FallsAnyhow}
 use Rattle.pagable_laws.proofs.{Words.{row_of, with_handle, with_node, with_cached_if_open, with_known, next_node, is_named_by, moved, adopted, HandlesAreWhole, GetsRow}, Goes.found-number}
 use Rattle.pagable_laws.proofs.{Goes.{found-changed, found-left, none-in-new}, Outlasting.among-found}
 

@@ -1,6 +1,6 @@
 -- Below what a worker does next only written nodes and an item wait: no load.
-use Rattle.pagable_laws.proofs.Words.{◌≡◌, ℕ, List, [], ◌∷◌, ◌++◌, sym, subst, ◌∙◌, Ok, Err, Some, None, drop, length, max, ArcRef, updated, above, Claim, PinStep, Took, Event, EventReply, Written}
-use Rattle.pagable_laws.proofs.Words.{Todo, to_start, to_pin, to_load, to_write, to_finish, to_item, to_set, to_publish, to_release, to_fail, Task, of_item, of_entry, Walking, World, Seen}
+use Rattle.pagable_laws.proofs.Words.{◌≡◌, ℕ, List, [], ◌∷◌, ◌++◌, sym, subst, ◌∙◌, Ok, Err, Some, ArcRef, updated, above, Took, Event, EventReply, Written}
+use Rattle.pagable_laws.proofs.Words.{Todo, to_finish, to_item, Task, of_item, Walking, World, Seen}
 use Rattle.pagable_laws.proofs.{Words.{next_start, settle, give, first_todo, Happens, entry_task, new_walking, Follows, arith, nat_tests}, Nexts.steps_follow, WalkSteps.{NoLoad, WaitsWell}}
 
 unfoldable pub AllWait : List Todo → Type 0

@@ -1,5 +1,5 @@
 -- Each step of a load of the caller's is within its bound, and one that is open has a step left, along every chain.
-use Rattle.pagable_laws.proofs.Words.{◌≡◌, ℕ, ◌+◌, ◌*◌, ◌≤◌, ◌⊎◌, List, [], ◌∷◌, Ok, refl, sym, ap, subst, ◌∙◌, inl, inr, arith, Option, Some, None, IsSome, Blob, Types, LoadNumber, Call, Reply}
+use Rattle.pagable_laws.proofs.Words.{◌≡◌, ℕ, ◌+◌, ◌*◌, ◌≤◌, ◌⊎◌, List, [], ◌∷◌, Ok, sym, ap, subst, ◌∙◌, inl, inr, arith, Option, Some, None, IsSome, Blob, Types, LoadNumber, Call, Reply}
 use Rattle.pagable_laws.proofs.Words.{Event, EventReply, LoadReply, Core, OpenLoad, Reading, Frame, World, Values, Seen, one_more, gone_on, CloseCall, Happens, LoadSteps, MachineState, world_of}
 use Rattle.pagable_laws.proofs.Words.{IsReadingOf, of_caller, IsMachineWhole, IsIdle, KeepsOpen, Moment, AreMoments, state_after, Unfolds, unfolds, HasStepLeft, IsWithinBound, StepIsWithin}
 use Rattle.pagable_laws.proofs.Words.{StepsAreWithin, LoadsHaveStepsLeft, KeepsStored, Change, IsFresh, KeepsReadings, ReadingFeels, EventFeels, by-call, by-reading, nat_tests, by-key, by-nothing}

@@ -1,11 +1,11 @@
 -- Each event leaves each handle of a worker as it is that doesn't make it, and what the cache gives for a kind and a key, where the node is held before and after. What a load's and
 -- a worker's step do leaves the handles of the list too.
-use Rattle.pagable_laws.proofs.Words.{Falls, NodeNumber, AdoptCall, Alike, Among, ArcRef, AreGood, AskCall, Asked, AsksInVain, BeginCall, BeginKeyCall, Beginning, BirthCall, Blob, Bool, Call, Claim}
+use Rattle.pagable_laws.proofs.Words.{Falls, NodeNumber, AdoptCall, Alike, Among, ArcRef, AreGood, AskCall, Asked, BeginCall, BeginKeyCall, Beginning, BirthCall, Blob, Bool, Call, Claim}
 use Rattle.pagable_laws.proofs.Words.{CloneCall, Core, DropCall, EndCall, Ends, Err, Error, Event, EventReply, Frame, Given, HandOverCall, HandleNumber, HandleRow, Happens, Installs, KeepsOpen, Kind}
-use Rattle.pagable_laws.proofs.Words.{LazyCall, LeavesCache, List, LoadAnswer, LoadCloses, LoadNumber, Mode, None, OfferCall, Ok, OpenLoad, Option, OptionalDataKey, Owner, OwnersAreThere, PinCall}
+use Rattle.pagable_laws.proofs.Words.{LazyCall, LeavesCache, List, LoadAnswer, LoadCloses, LoadNumber, Mode, None, OfferCall, Ok, Option, OptionalDataKey, Owner, OwnersAreThere, PinCall}
 use Rattle.pagable_laws.proofs.Words.{PinRefused, PinStep, Pinning, Reading, ReadingDoes, RecallCall, ReleaseCall, Reply, Result, ScheduleCall, Seen, SetKeyCall, Site, Some, Starts, StoreCall}
-use Rattle.pagable_laws.proofs.Words.{TableNumber, Task, Todo, Took, UnpinCall, Values, Want, WorkerAnswer, WorkerNumber, World, [], adopted, ap, arith, false, find_row, from_cache, from_store}
-use Rattle.pagable_laws.proofs.Words.{if_there, if◌then◌else◌, inl, inr, is_at, is_in, is_load_of, is_named_by, is_owned_by, is_owned_in, is_owner, is_workers, is_workers_at, mode_of, moved}
+use Rattle.pagable_laws.proofs.Words.{TableNumber, Task, Todo, Took, UnpinCall, Values, Want, WorkerAnswer, WorkerNumber, World, [], adopted, ap, arith, false}
+use Rattle.pagable_laws.proofs.Words.{if_there, if◌then◌else◌, inl, inr, is_in, is_load_of, is_named_by, is_owned_in, is_owner, is_workers, is_workers_at, mode_of, moved}
 use Rattle.pagable_laws.proofs.Words.{named_fault, nat_tests, next_node, not, numbers_of, owner_value, owner_worker, refl, refused_if, row_at, step_of, subst, sym, to_fail, to_finish, to_item}
 use Rattle.pagable_laws.proofs.Words.{to_load, to_pin, to_publish, to_release, to_set, to_start, to_write, true, type_of, usable, with_cached, with_handle, with_mode, with_node, with_pin}
 use Rattle.pagable_laws.proofs.Words.{without_load, ℕ, ◌&&◌, ◌+◌, ◌==◌, ◌||◌, ◌∙◌, ◌∷◌, ◌≡◌}

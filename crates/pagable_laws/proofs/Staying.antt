@@ -1,7 +1,7 @@
 -- Each event keeps trees: what it brings fits some trees afterwards, for which the machine stands then, with all that its loads read.
-use Rattle.pagable_laws.proofs.Words.{◌≡◌, ℕ, List, [], inl, inr, sym, ap, ◌∙◌, subst, ◌⊎◌, Event, EventReply, Tree, Among, Reading, Frame, Walking, Values, Seen, IsLawful}
-use Rattle.pagable_laws.proofs.Words.{MachineState, PagerState, world_of, IsMachineWhole, StandsFor, FramesFit, ReadingFits, ReadingBrings, TodoBrings, EventBrings, IsReadingOf, HoldsSettled}
-use Rattle.pagable_laws.proofs.Words.{ReadsItsTypes, TakesWell, TodoTakesWell, AsksWell, IsWellAsked, FramesGiven, Change, CoreGoes, IsSteppedReading, EventFeels, by-call, by-reading, by-key}
+use Rattle.pagable_laws.proofs.Words.{◌≡◌, ℕ, List, [], inl, inr, sym, subst, ◌⊎◌, Event, EventReply, Tree, Among, Reading, Frame, Values, Seen, IsLawful}
+use Rattle.pagable_laws.proofs.Words.{MachineState, PagerState, world_of, IsMachineWhole, StandsFor, FramesFit, ReadingFits, ReadingBrings, EventBrings, IsReadingOf, HoldsSettled}
+use Rattle.pagable_laws.proofs.Words.{ReadsItsTypes, TakesWell, AsksWell, IsWellAsked, FramesGiven, Change, CoreGoes, IsSteppedReading, EventFeels, by-call, by-reading, by-key}
 use Rattle.pagable_laws.proofs.{Brought.reading-fits, Felt.none-comes, Felt.fits-nothing, Felt.fits-key, Felt.call-fits, Fitting.tree-stays, ReadingStepsMachine.is-reading-of, Trees.same_some}
 use Rattle.pagable_laws.proofs.{Words.arith, Words.nat_tests, Words.by-nothing, Words.KeysAreReady, Words.IsFresh, Words.ChangeFits, Words.ReadingsGiven}
 
