@@ -5,7 +5,7 @@ use Rattle.pagable_laws.proofs.Words.{Walking, World, Seen, Site, Does, Happens,
 use Rattle.pagable_laws.proofs.Words.{◌++◌, append_assoc, is_none, Among, WorkerAnswer, HandleRow, Owner, owner_worker, is_owned_by, is_owner, OpenLoad, is_workers_load, MachineState, world_of}
 use Rattle.pagable_laws.proofs.Words.{IsMachineWhole, IsIdle, MayOwnLoad, Moment, AreMoments, state_after, events_of, replies_of, InOrder, TableMeets, HasLetGo, WorkerIsRight, LoadsHaveStepsLeft}
 use Rattle.pagable_laws.proofs.{Chains.trees_stay, Changing.ShelfGrows, Changing.is-same, Changing.puts-slot, Changing.grows, Coming.updated-at, Coming.StandsIn, Coming.EventTurns}
-use Rattle.pagable_laws.proofs.{Coming.event-turns, Coming.turns-stand, Coming.idle-stands, Histories.Went, Histories.HasGone, Histories.goes-on, Holding.KeepsTask, Holding.Turned, Holding.keeps-task}
+use Rattle.pagable_laws.proofs.{Going.true-false, Coming.event-turns, Coming.turns-stand, Coming.idle-stands, Histories.Went, Histories.HasGone, Histories.goes-on, Holding.KeepsTask, Holding.Turned, Holding.keeps-task}
 use Rattle.pagable_laws.proofs.{Once.once_each, ReadingStepsWithin.loads-bounded, Standing.WalkingStands, Standing.is_failing, Standing.is_open_in, Sums.sum-zero, Words.WorkIsRight, Words.HeadlineLaw}
 use Rattle.std.proofs.Common.{append-nil}
 
@@ -160,9 +160,6 @@ module _ {N E B W : Type 0} (m : Seen N B W) where
 owner-is : (n : ℕ) (o : Owner) → is_owner (owner_worker n) o ≡ true → o ≡ owner_worker n
 owner-is n x1 is = grind (arith, nat_tests)
 
-not-both : {A : Type 0} {b : Bool} → b ≡ true → b ≡ false → A
-not-both is other = absurd (cc)
-
 module _ {N E B W : Type 0} (m : Seen N B W) (s : MachineState N E) (work : StandsIn (world_of s)) (whole : IsMachineWhole m.values s) where
   is-met : (t : ℕ) (i : Identity) → is_some ((s.work.shelves t).slots i) ≡ true → TableMeets (world_of s) t i
   is-met t i is = by ((s.work.shelves t).slots i) refl is
@@ -187,7 +184,7 @@ module _ {N E B W : Type 0} (m : Seen N B W) (s : MachineState N E) (work : Stan
       rests = (whole.walkings n walking there).at_work ∙ ap is_none is
 
       own : (h : HandleRow) → Among s.pager.core.rows h → (b : Bool) → is_owner (owner_worker n) h.owner ≡ b → one (is_owner (owner_worker n) h.owner) ≡ 0
-      own h among true e = not-both (whole.pager.whole.owners_there.workers h n among (owner-is n h.owner e)) rests
+      own h among true e = true-false (whole.pager.whole.owners_there.workers h n among (owner-is n h.owner e)) rests
       own h among false e = ap one e
 
       load : (l : ℕ) (o : Option OpenLoad) → s.pager.core.loads l ≡ o → is_workers_load n (s.pager.core.loads l) ≡ false
@@ -195,7 +192,7 @@ module _ {N E B W : Type 0} (m : Seen N B W) (s : MachineState N E) (work : Stan
       load l (Some q) e = ap (is_workers_load n) e ∙ of (is_owner (owner_worker n) q.owner) refl
         where
           of : (b : Bool) → is_owner (owner_worker n) q.owner ≡ b → is_owner (owner_worker n) q.owner ≡ false
-          of true f = not-both (subst (λ o. MayOwnLoad s.pager.core o) (owner-is n q.owner f) (whole.pager.whole.loads.owned l q e)) rests
+          of true f = true-false (subst (λ o. MayOwnLoad s.pager.core o) (owner-is n q.owner f) (whole.pager.whole.loads.owned l q e)) rests
           of false f = f
 
 -- all that steps have come to, where open loads have a step left

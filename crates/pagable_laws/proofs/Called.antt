@@ -88,7 +88,7 @@ module _ {N B W : Type 0} (m : Seen N B W) (w : Core) (me : Owner) (free : NotLo
     | inr (row, owns, inr (loose, f)) ↦ record {
       change = sets_key row.node.0 key;
       goes = goes-quiet (keyed w row.node key) (fell f);
-      feels = feels-key h key row refl (record { live = owns.live; own = owns.own; as_asked = loose });
+      feels = feels-key h key row (record { live = owns.live; own = owns.own; as_asked = loose });
     }
   ]
 
@@ -99,7 +99,7 @@ module _ {N B W : Type 0} (m : Seen N B W) (w : Core) (me : Owner) (free : NotLo
       record {
         change = knows_node kind.0 key row.node.0;
         goes = goes-quiet (goes-known (quiet-goes (knows_node kind.0 key row.node.0) (quiet-self w)) kind key row.node (refl, refl, refl)) (alike c.answers.3.2);
-        feels = feels-known kind key h row refl refl (record { live = owns.live; own = owns.own; as_asked = refl }) c.answers.2;
+        feels = feels-known kind key h row (record { live = owns.live; own = owns.own; as_asked = refl }) c.answers.2;
       }
   offers kind key h (Ok (Some k)) c = elim c.answers.3 [
     | inl (closed, same, a) ↦ quiet (λ n x b. absurd b) (alike a)
@@ -114,7 +114,7 @@ module _ {N B W : Type 0} (m : Seen N B W) (w : Core) (me : Owner) (free : NotLo
     | inr (none, few, a) ↦ record {
       change = bears_known kind.0 key (first_key kind.0 key);
       goes = goes-quiet (adopts w l kind key (first_key kind.0 key) (m.values.references x)) (alike a);
-      feels = feels-adopted l kind key x k refl refl c.adopts.typed (good w (Owner.Load l) [] (m.values.references x) c.adopts.good);
+      feels = feels-adopted l kind key x k c.adopts.typed (good w (Owner.Load l) [] (m.values.references x) c.adopts.good);
     }
   ]
   adopting l kind key x (Err e) c = quiet (λ n y b. inl b.1) (alike c.refused.1.stays)
@@ -125,7 +125,7 @@ module _ {N B W : Type 0} (m : Seen N B W) (w : Core) (me : Owner) (free : NotLo
     | inr (none, few, next, a) ↦ record {
       change = bears_known kind.0 key (OptionalDataKey.Some key);
       goes = goes-quiet (adopts w l kind key (OptionalDataKey.Some key) []) (alike a);
-      feels = feels-lazy l kind key k refl refl;
+      feels = feels-lazy l kind key k;
     }
   ]
   lazily l kind key (Err e) c = quiet (λ n x b. absurd b) (alike c.refused.stays)
@@ -161,7 +161,7 @@ module _ {N B W : Type 0} (m : Seen N B W) (w : Core) (me : Owner) (free : NotLo
 
   ends-load : (l : LoadNumber) (x : N) (r : Result HandleNumber (Error × Option N)) → EndCall w me l x (m.values.node_type x) (m.values.references x) r w' → CG (Call.LoadEnd l x) (Reply.LoadEnded r)
   ends-load l x (Ok k) c =
-      record { change = nothing_felt; goes = quiet-goes nothing_felt (ends-quiet l x (Ok k) c); feels = feels-end l x k refl refl (good w (Owner.Load l) [] (m.values.references x) c.installs.2.good) }
+      record { change = nothing_felt; goes = quiet-goes nothing_felt (ends-quiet l x (Ok k) c); feels = feels-end l x k (good w (Owner.Load l) [] (m.values.references x) c.installs.2.good) }
   ends-load l x (Err (e, Some y)) c = quiet (λ n z b. inr (alike-away c.refused.1.stays n)) (alike c.refused.1.stays)
   ends-load l x (Err (e, None)) c = quiet (λ n z b. inr (fell-away c.refused.closes n)) (closes l c.refused.closes)
 
@@ -173,30 +173,20 @@ module _ {N B W : Type 0} (m : Seen N B W) (w : Core) (me : Owner) (free : NotLo
       record {
         change = bears_node t (OptionalDataKey.Some key);
         goes = goes-quiet (born (bears_node t (OptionalDataKey.Some key)) w t (OptionalDataKey.Some key) [] (refl, refl)) (made-handle (next_node w) Mode.LooseUnpinned me c.made.2);
-        feels = feels-away t key k refl refl;
+        feels = feels-away t key k;
       }
-  calls-go (Call.NewPagedOut t key) (Reply.Handle (Err e)) stays c = quiet (λ n x b. absurd b) (alike c.refused.stays)
   calls-go (Call.Clone h) (Reply.Handle r) stays c = quiet (λ n x b. absurd b) (clones r c)
   calls-go (Call.Pin h) (Reply.Pin r) stays c = quiet (λ n x b. absurd b) (pins free r c)
   calls-go (Call.Unpin h) (Reply.Done r) stays c = quiet (λ n x b. absurd b) (unpins free h r c)
   calls-go (Call.Release h) (Reply.Done r) stays c = quiet (λ n x b. absurd b) (releases free h r c)
   calls-go (Call.IntoPagable h) (Reply.Handle (Ok k)) stays c = quiet (λ n x b. absurd b) (quiet-then (own-mode w me h is_pinned c.turned.0 Mode.LoosePinned refl free c.turned.1) (alike c.turned.3))
-  calls-go (Call.IntoPagable h) (Reply.Handle (Err e)) stays c = quiet (λ n x b. absurd b) (alike c.refused.1)
   calls-go (Call.SetDataKey h key) (Reply.Done r) stays c = sets h key r c
-  calls-go (Call.Count h) (Reply.Count r) stays c = quiet (λ n x b. absurd b) (alike c.1)
-  calls-go (Call.Key h) (Reply.KeyFound r) stays c = quiet (λ n x b. absurd b) (alike c.1)
-  calls-go (Call.IsPagedOut h) (Reply.Away r) stays c = quiet (λ n x b. absurd b) (alike c.1)
-  calls-go (Call.NodeOf h) (Reply.Node r) stays c = quiet (λ n x b. absurd b) (alike c.1)
-  calls-go (Call.NodeLive k) (Reply.NodeType t) stays c = quiet (λ n x b. absurd b) (alike c.1)
   calls-go (Call.ScheduleForPaging h) (Reply.Done r) stays c = quiet (λ n x b. absurd b) (schedules free h r c)
-  calls-go Call.Pending (Reply.Length n) stays c = quiet (λ n x b. absurd b) (alike c.1)
   calls-go (Call.TakePending i) (Reply.Taken h) stays c = quiet (λ n x b. absurd b) (takes free i h c)
   calls-go (Call.CacheGet kind key) (Reply.FromCache r) stays c = quiet (λ n x b. absurd b) (recalls free kind key r c)
   calls-go (Call.OnArcDeserialized kind key h) (Reply.FromCache r) stays c = offers kind key h r c
   calls-go Call.CacheClear (Reply.Done r) stays c = quiet (λ n x b. absurd b) (cleared r c)
-  calls-go (Call.Fetch key) (Reply.Fetched r) stays c = quiet (λ n x b. absurd b) (was-asked c.asked)
   calls-go (Call.Store b) (Reply.Stored r) stays c = quiet (λ n x b. absurd b) (stores r c)
-  calls-go Call.Flush (Reply.Done r) stays c = quiet (λ n x b. absurd b) (was-asked c.asked)
   calls-go (Call.LoadBegin h) (Reply.Begun r) stays c = record { change = nothing_felt; goes = begins r c; feels = feels-nothing (λ n x b. absurd b) }
   calls-go (Call.LoadKey key) (Reply.Begun r) stays c = record { change = nothing_felt; goes = begins-key r c; feels = feels-nothing (λ n x b. absurd b) }
   calls-go (Call.LoadFetch l want) (Reply.LoadFound r) stays c = quiet (λ n x b. absurd b) (asks _ c)
@@ -205,10 +195,8 @@ module _ {N B W : Type 0} (m : Seen N B W) (w : Core) (me : Owner) (free : NotLo
   calls-go (Call.LoadEnd l x) (Reply.LoadEnded r) stays c = ends-load l x r c
   calls-go (Call.LoadTake l hs) (Reply.Done r) stays c = quiet (λ n x b. absurd b) (hands-over free l hs.items r c)
   calls-go (Call.LoadDrop l) (Reply.Done r) stays c = quiet (λ n x b. absurd b) (drops free l r c)
-  calls-go (Call.Reserve k) (Reply.Done r) stays c = quiet (λ n x b. absurd b) (alike c.stays)
-  calls-go Call.Room (Reply.Length n) stays c = quiet (λ n x b. absurd b) (alike c.1)
   calls-go Call.Close reply stays c = absurd stays
-  calls-go _ reply stays c = absurd c
+  calls-go _ reply stays c = grind (arith, nat_tests, quiet, alike, was-asked)
 
 -- the cache gets to know an old node only where the caller puts it there
 pub call-knows : (W : Type 0) {N B : Type 0} {v : Values N} {w w' : Core} {me : Owner} {call : Call N B} {reply : Reply N B} {c : Change} → CallFeels v w me call reply w' c

@@ -2,7 +2,7 @@
 use Rattle.pagable_laws.proofs.Words.{nat_tests, ◌≡◌, ℕ, zero, suc, ◌+◌, ◌<◌, ◌≤◌, Bool, true, List, [], ◌∷◌, ◌⊎◌, inl, inr, if◌then◌else◌, sym, ap, subst, arith, max, Some, Err, pair}
 use Rattle.pagable_laws.proofs.Words.{variant, followed, is_eager, longest_path, above, height, deepest_path, kind_of_arc, Error, ArcRef, Identity, Meaning, Tree, Types, Among}
 use Rattle.pagable_laws.proofs.Words.{identity_of, Core, Shelf, Written, Todo, to_start, to_finish, to_item, Task, of_entry, Values, is_identity, Site, Claims, IsPublished, IsTooDeep, claim_fault}
-use Rattle.pagable_laws.proofs.Words.{MachineState, world_of, IsTooDeepTask, WaitsForAsker, Ground, ground_of, FollowsTo, number-follows, integer-follows, text-follows, pattern-follows, none-follows}
+use Rattle.pagable_laws.proofs.Words.{MachineState, world_of, IsTooDeepTask, WaitsForAsker, Ground, ground_of, FollowsTo}
 use Rattle.pagable_laws.proofs.{Words.{pair-follows, variant-follows, reference-follows, WroteTree, Expects, Waits, WorkFits}, Along.{Along, number-along, integer-along, text-along, pattern-along}}
 use Rattle.pagable_laws.proofs.{Along.{none-along, pair-along, variant-along, reference-along, AllTwo, no-two, more-two, form-along}, Standing.{AllStand, Covers, is_open_in}, Changing.is-same}
 use Rattle.pagable_laws.proofs.{Heights.{IsAttained, place_over, WaitsLow, next-among}, HeightSteps.HeightsIn, Going.or-cases}
@@ -37,14 +37,10 @@ module _ (trees : ℕ → Tree) (rs : List ArcRef) (whole : Meaning ⊥) where
   parts-along : {own : Meaning ArcRef} {n : Meaning ⊥} → FollowsTo trees rs own n → height n ≤ height whole → deepest_path n ≤ deepest_path whole → size n ≤ size whole
       → Along ⊥ (SamePart trees whole) own own
   unfolding height deepest_path size
-  parts-along (number-follows i) h d s = number-along i
-  parts-along (integer-follows z) h d s = integer-along z
-  parts-along (text-follows t) h d s = text-along t
-  parts-along (pattern-follows t) h d s = pattern-along t
-  parts-along none-follows h d s = none-along
   parts-along (pair-follows x y a b f g) h d s = pair-along _ _ _ _ (parts-along f (omega arith) (omega arith) (omega arith)) (parts-along g (omega arith) (omega arith) (omega arith))
   parts-along (variant-follows i x a f) h d s = variant-along _ _ _ (parts-along f h d s)
   parts-along (reference-follows r a among is) h d s = grind (arith, reference-along, size)
+  parts-along x0 h d s = grind (arith, nat_tests, number-along, integer-along, text-along, pattern-along, none-along)
 
 each-two : {X Y : Type 0} {R : X → Y → Type 0} {xs : List X} {ys : List Y} → AllTwo R xs ys → (x : X) → Among xs x → (y : Y) × R x y
 each-two no-two x (i, e) = absurd (cc)

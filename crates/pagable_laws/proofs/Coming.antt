@@ -1,11 +1,11 @@
 -- What each event does to workers and tables: it touches one worker, and claims of its own.
-use Rattle.pagable_laws.proofs.Words.{◌≡◌, ℕ, true, List, [], ◌∷◌, refl, ap, sym, subst, ◌∙◌, Ok, Err, Option, Some, None, ArcRef, Identity, WorkerAnswer, Claim, PinStep, Took, identity_of}
-use Rattle.pagable_laws.proofs.Words.{no_result, answer_of_fault, Todo, to_start, to_pin, to_load, to_write, to_finish, to_item, to_set, to_publish, to_release, to_fail, arith, Task, Seen}
+use Rattle.pagable_laws.proofs.Words.{◌≡◌, ℕ, true, List, [], ◌∷◌, refl, ap, sym, subst, ◌∙◌, Ok, Option, Some, None, ArcRef, Identity, WorkerAnswer, Claim, Took, identity_of}
+use Rattle.pagable_laws.proofs.Words.{no_result, answer_of_fault, Todo, to_start, to_write, to_item, to_publish, to_release, to_fail, arith, Task, Seen}
 use Rattle.pagable_laws.proofs.Words.{Site, Does, give, give_known, with_wait, answer_after, IsPublished, ◌+◌, ◌<◌, ◌≤◌, ◌==◌, Bool, false, nat_eq, if◌then◌else◌, nat_tests, WorkerNumber}
 use Rattle.pagable_laws.proofs.Words.{updated, Call, Reply, Event, EventReply, TableNumber, WorkerReply, Owner, Core, Alike, Shelf, Slot, Walking, World, CallStep, Happens, Stays, WorkStays, WorkIs}
 use Rattle.pagable_laws.proofs.{Words.{Starts, no_shelf, new_walking, WorkerSteps, Ends, MachineState, world_of, IsIdle, step_of}, Changing.{puts-slot, SlotChanges, ShelfGrows, some-none, some-same, grows}}
-use Rattle.pagable_laws.proofs.{Changing.{same-slots, meets-grow}, Called.calls-go, Goes.NotLoads, Going.{CoversBy, Goes, plain, fails, swaps, gives, given-open, all-stay}, Holding.SameSlots}
-use Rattle.pagable_laws.proofs.{Holding.{Turned, work-stands, is-quiet, is-started, is-stepped}, ReadingSteps.reading-feels, Standing.{is_open_in, AllStand, Covers, HasNoFailed}}
+use Rattle.pagable_laws.proofs.{Changing.{same-slots, meets-grow}, Called.calls-go, Going.{CoversBy, Goes, plain, fails, swaps, gives, given-open, all-stay}, Holding.SameSlots}
+use Rattle.pagable_laws.proofs.{Holding.{Turned, work-stands, is-quiet, is-started, is-stepped}, ReadingSteps.{caller-free, reading-feels}, Standing.{is_open_in, AllStand, Covers, HasNoFailed}}
 use Rattle.pagable_laws.proofs.{Standing.WorkStands, Turning.{claimed, written-goes, published-goes, failed-goes}, WalkSteps.walk-goes}
 use Rattle.pagable_laws.proofs.Calling as calling
 
@@ -43,30 +43,14 @@ module _ {N B W : Type 0} (m : Seen N B W) (v : ℕ) (task : Task) (s s' : Site)
       (known r place key height below all covers c.finds.1.1 c.finds.1.2.table_is.slots)
   go (to_start r place ∷ below) e all covers (Took.Claim i (Ok Claim.Waiting)) (is, c) = to-list (c.finds.1.2.list_is ∙ e)
       (plain v task s.shelf s'.shelf c.finds.1.2.table_is.slots clean None (to_start r place ∷ below) (λ a is. absurd (cc)) all covers)
-  go (to_start r place ∷ below) e all covers (Took.Claim i (Ok Claim.AlreadyFailed)) (is, c) = to-list c.finds.1.2.list_is (fails v task s.shelf s'.shelf c.finds.1.2.table_is.slots clean _ _)
-  go (to_start r place ∷ below) e all covers (Took.Claim i (Err f)) (is, c) = to-list c.refused.1.list_is (fails v task s.shelf s'.shelf c.refused.1.table_is.slots clean _ _)
-  go (to_pin r place ∷ below) e all covers (Took.Pin i (Ok (PinStep.Held k))) (is, p) = grind (arith, nat_tests, to-list, swaps)
-  go (to_pin r place ∷ below) e all covers (Took.Pin i (Ok (PinStep.LoadBegun l))) (is, p) = grind (arith, nat_tests, to-list, swaps)
-  go (to_pin r place ∷ below) e all covers (Took.Pin i (Ok PinStep.LoadWent)) (is, p) = absurd p.pins
-  go (to_pin r place ∷ below) e all covers (Took.Pin i (Err f)) (is, p) = to-list p.refused.1.list_is (fails v task s.shelf s'.shelf p.refused.1.table_stays.slots clean _ _)
-  go (to_load r place through reading ∷ below) e all covers (Took.Pin i (Ok (PinStep.Held k))) (is, p) = grind (arith, nat_tests, to-list, swaps)
-  go (to_load r place through reading ∷ below) e all covers (Took.Pin i (Ok (PinStep.LoadBegun l))) (is, p) = absurd p.goes
-  go (to_load r place through reading ∷ below) e all covers (Took.Pin i (Ok PinStep.LoadWent)) (is, p) = grind (arith, nat_tests, to-list, swaps)
-  go (to_load r place through reading ∷ below) e all covers (Took.Pin i (Err f)) (is, p) = to-list p.refused.1.list_is (fails v task s.shelf s'.shelf p.refused.1.table_stays.slots clean _ _)
   go (to_write r place through ∷ below) e all covers (Took.Write i (Ok out)) (is, p) = to-list p.writes.list_is
       (written-goes v task s.shelf s'.shelf clean r place through (m.written_of out) below all covers p.writes.table_is)
-  go (to_write r place through ∷ below) e all covers (Took.Write i (Err f)) (is, p) = to-list p.refused.1.list_is (fails v task s.shelf s'.shelf p.refused.1.table_is.slots clean _ _)
-  go (to_finish o ∷ below) e all covers (Took.Store i (Ok key)) (is, p) = grind (arith, to-list, swaps)
-  go (to_finish o ∷ below) e all covers (Took.Store i (Err f)) (is, p) = to-list p.refused.list_is (fails v task s.shelf s'.shelf p.refused.table_stays.slots clean _ _)
   go (to_item written keys ∷ below) e ((is_of, last), apart, rest) covers (Took.Store i (Ok key)) (is, p) = grind (arith, nat_tests, to-list, plain)
-  go (to_item written keys ∷ below) e all covers (Took.Store i (Err f)) (is, p) = to-list p.refused.list_is (fails v task s.shelf s'.shelf p.refused.table_stays.slots clean _ _)
-  go (to_set r through key height ∷ below) e all covers (Took.SetKey i (Ok u)) (is, p) = grind (arith, nat_tests, to-list, swaps)
-  go (to_set r through key height ∷ below) e all covers (Took.SetKey i (Err f)) (is, p) = to-list p.refused.list_is (fails v task s.shelf s'.shelf p.refused.table_stays.slots clean _ _)
   go (to_publish r key height ∷ below) e all covers (Took.Publish i k h) (is, same_key, same_height, t) = to-list t.list_is
       (published-goes v task s.shelf s'.shelf clean r key height below all covers t.table_is)
   go (to_release r key height ∷ below) e all covers (Took.Release i) (is, falls, g) = to-list g.list_is (released r key height below all covers g.table_stays.slots (Took.Release i))
   go (to_fail fault back ∷ below) e all covers Took.Fail (back_is, table_is, list_is) = to-list list_is (failed-goes v task s.shelf s'.shelf clean (answer_of_fault fault) table_is)
-  go _ e all covers step does = absurd does
+  go _ e all covers step does = grind (arith, nat_tests, to-list, fails, swaps, plain)
 
   pub stands-on : AllStand s.shelf v task s.todo → Covers s.shelf v s.todo → (step : Took W) → Does m v s s.todo step s' → Goes v task s.shelf (answer_after s.todo step) s'.shelf s'.todo
   stands-on all covers step does = go s.todo refl all covers step does
@@ -181,9 +165,6 @@ module _ {N B W : Type 0} (m : Seen N B W) (u u' : World) (work : StandsIn u) wh
             ((w.same_shelves t.0).slots i ∙ (ap (λ (s : Shelf). s.slots i) (updated-at t.0 no_shelf u.work.shelves) ∙ nothing i ((u.work.shelves t.0).slots i) refl))
         same q i false e = (w.same_shelves q).slots i ∙ ap (λ (s : Shelf). s.slots i) (updated-off t.0 no_shelf u.work.shelves q e)
 
-  caller-free : NotLoads Owner.Caller
-  caller-free l is = absurd (cc)
-
   ends-last : (answer : Option WorkerAnswer) (v : ℕ) (w w' : Core) → Ends answer v w w' → w'.last.worker ≡ w.last.worker
   ends-last x0 v w w' e = grind (arith, nat_tests)
 
@@ -221,16 +202,11 @@ module _ {N B W : Type 0} (m : Seen N B W) (u u' : World) (work : StandsIn u) wh
   event-turns tables (Event.LoadStart q) (EventReply.Started r) h = by-work _ _ (λ n. refl) (calling.begins r h.step).workers_last h.work
   event-turns tables (Event.LoadKey key t) (EventReply.Started r) h = by-work _ _ (λ n. refl) (calling.begins-key r h.step).workers_last h.work
   event-turns tables (Event.LoadStep l) (EventReply.LoadMoved (Ok r)) h = grind (arith, nat_tests, by-work, reading-feels, caller-free)
-  event-turns tables (Event.LoadStep l) (EventReply.LoadMoved (Err e)) h = unchanged _ _ (λ n. refl) h.refused.1
   event-turns tables Event.TableNew (EventReply.TableMade (Ok t)) h = tabled _ _ (λ n. refl) tables t h.made.0 h.made.1 h.made.3
-  event-turns tables Event.TableNew (EventReply.TableMade (Err e)) h = unchanged _ _ (λ n. refl) h.refused.1
   event-turns tables (Event.WorkerItem t item) (EventReply.WorkerMade (Ok v)) h = starts _ _ (λ n. refl) t _ u.core v refl h.starts
-  event-turns tables (Event.WorkerItem t item) (EventReply.WorkerMade (Err e)) h = unchanged _ _ (λ n. refl) h.refused.1
   event-turns tables (Event.WorkerListed t i) (EventReply.WorkerMade (Ok v)) h = starts _ _ (λ n. refl) t _ _ v refl h.starts.5
-  event-turns tables (Event.WorkerListed t i) (EventReply.WorkerMade (Err e)) h = unchanged _ _ (λ n. refl) h.refused.1
   event-turns tables (Event.WorkerStep v) (EventReply.WorkerMoved (Ok reply)) h = stepped v reply h.moves
-  event-turns tables (Event.WorkerStep v) (EventReply.WorkerMoved (Err e)) h = unchanged _ _ (λ n. refl) h.refused.2
-  event-turns tables event reply h = absurd h
+  event-turns tables event reply h = grind (arith, nat_tests, unchanged)
 
 -- what stands goes on to stand
 pub turns-stand : {N B W : Type 0} (m : Seen N B W) {u u' : World} {event : Event N B W} {reply : EventReply N B W} → EventTurns m u event reply u' → StandsIn u → StandsIn u'

@@ -6,14 +6,11 @@ use Rattle.pagable_laws.proofs.Words.{Walking, World, Alike, Seen, Values, type_
 use Rattle.pagable_laws.proofs.Words.{ReadingsAre, Stays, begun_readings, KeyStarted, Starts, new_walking, Ends, WorkerSteps, Happens, with_worker, MachineState, world_of, IsWhole, HandlesAreWhole}
 use Rattle.pagable_laws.proofs.Words.{IsMachineWhole, IsNewNode, EventBrings, TodoBrings, IsReadingOf, of_caller, of_worker, KeepsOpen, LeavesCache, Change, nothing_felt, CoreGoes, SameNode, NewNode}
 use Rattle.pagable_laws.proofs.{Words.{StaysAway, KeepsReadings, EventFeels, by-call, by-reading, by-key, by-nothing, StepFeels, IsFresh, WorkFits, Waits, Walks, Ground}, Goes.{parts, le-self}}
-use Rattle.pagable_laws.proofs.{Goes.{Quiet, Goes, Kept, NotLoads, rows-self, quiet-then, quiet-goes, goes-quiet, alike, fell-anyhow, at-updated, KnowsNext}, ReadingStepsMachine.reading-was}
+use Rattle.pagable_laws.proofs.{Goes.{Quiet, Goes, Kept, rows-self, quiet-then, quiet-goes, goes-quiet, alike, fell-anyhow, at-updated, KnowsNext}, ReadingStepsMachine.reading-was}
 use Rattle.pagable_laws.proofs.{ReadingStepsMachine.{steps-load, stepped-load, steps-worker, stepped-worker}, WalkSteps.{NoLoad, WaitsWell, front_reading, LoadsAnew, started, WalkFeels, walk-loads}}
 use Rattle.pagable_laws.proofs.{WalkSteps.{walk-sets, walk-rests, walk-goes}, Called.{calls-go, call-knows}, Calling.{some-moved, begins, begins-key}, GoodReferences.alike-away}
-use Rattle.pagable_laws.proofs.{ReadingSteps.{reading-feels, feels-alike, reading-knows}, Trees.same_some}
+use Rattle.pagable_laws.proofs.{ReadingSteps.{caller-free, reading-feels, feels-alike, reading-knows}, Trees.same_some}
 use Rattle.pagable_world.specs.Runs.{Does}
-
-caller-free : NotLoads Owner.Caller
-caller-free l is = absurd (cc)
 
 -- ---- workers that come and go
 
@@ -150,21 +147,12 @@ module _ {N B W : Type 0} (m : Seen N B W) (u u' : World) where
   event-goes (Event.Call call) (EventReply.CallReply r) open_still is =
       let g = calls-go m u.core Owner.Caller caller-free u'.core call r open_still is.step.does in
       record { change = g.change; goes = g.goes; feels = λ whole well. by-call g.change call r refl refl g.feels (keeps-all u u' is.readings is.work.walkings); knows = λ whole leaves. call-knows W g.feels leaves }
-  event-goes (Event.LoadStart h) (EventReply.Started r) open_still is = load-starts h r is
-  event-goes (Event.LoadKey key t) (EventReply.Started r) open_still is = key-starts key t r is
-  event-goes (Event.LoadStep l) (EventReply.LoadMoved (Ok reply)) open_still is = load-steps l reply is
-  event-goes (Event.LoadStep l) (EventReply.LoadMoved (Err e)) open_still is = stays is.refused.1
   event-goes Event.TableNew (EventReply.TableMade (Ok t)) open_still is = let x = is.made in rests (λ n x b. absurd b) (keeps-all u u' x.2 x.3.same_walkings) (alike x.1)
-  event-goes Event.TableNew (EventReply.TableMade (Err e)) open_still is = stays is.refused.1
   event-goes (Event.WorkerItem t item) (EventReply.WorkerMade (Ok v)) open_still is = starts (λ n x b. b) t _ u.core v
       (others-work u.core u.core.loads u.core.workers u.core.last.worker (omega arith) (λ l load is. is)) is.starts
-  event-goes (Event.WorkerItem t item) (EventReply.WorkerMade (Err e)) open_still is = stays is.refused.1
   event-goes (Event.WorkerListed t i) (EventReply.WorkerMade (Ok v)) open_still is = let x = is.starts in
       starts (λ n x b. b) t _ _ v (some-moved u.core (only_handle x.0) (Owner.Worker v) _ (λ l is. absurd (cc))) x.5
-  event-goes (Event.WorkerListed t i) (EventReply.WorkerMade (Err e)) open_still is = stays is.refused.1
-  event-goes (Event.WorkerStep v) (EventReply.WorkerMoved (Ok reply)) open_still is = worker-steps v reply is.moves
-  event-goes (Event.WorkerStep v) (EventReply.WorkerMoved (Err e)) open_still is = stays is.refused.2
-  event-goes event reply open_still is = absurd is
+  event-goes event reply open_still is = grind (arith, nat_tests, stays, load-starts, key-starts, load-steps, worker-steps)
 
 -- ---- the plain world, as trees feel it
 

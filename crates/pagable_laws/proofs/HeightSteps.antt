@@ -1,7 +1,7 @@
 -- A worker's step keeps heights low, and so does each event.
-use Rattle.pagable_laws.proofs.Words.{◌≡◌, ℕ, ◌+◌, ◌≤◌, List, [], ◌∷◌, length, Option, Some, None, Ok, Err, refl, sym, ap, subst, ◌∙◌, arith, nat_tests, ArcRef, Identity}
+use Rattle.pagable_laws.proofs.Words.{◌≡◌, ℕ, ◌+◌, ◌≤◌, List, [], ◌∷◌, length, Option, Some, None, Ok, refl, sym, ap, subst, ◌∙◌, arith, nat_tests, ArcRef, Identity}
 use Rattle.pagable_laws.proofs.Words.{HandleNumber, Tree, Among, longest_path, Claim, PinStep, Took, Event, EventReply, identity_of, Shelf, Slot, no_result}
-use Rattle.pagable_laws.proofs.Words.{published, Written, Open, Fault, was_failed, was_refused, Todo, to_start, to_pin, to_load, to_write, to_finish, to_item, to_set, to_publish, to_release, to_fail}
+use Rattle.pagable_laws.proofs.Words.{published, Written, Open, Fault, Todo, to_start, to_pin, to_load, to_write, to_finish, to_item, to_set, to_publish, to_release, to_fail}
 use Rattle.pagable_laws.proofs.Words.{Task, Walking, World, Seen, Site, Does, give, give_known, open_node, with_outcome, with_wait, first_todo, MachineState, world_of}
 use Rattle.pagable_laws.proofs.{Words.{IsIdle, Ground, ground_of, Walks, WorkFits}, Changing.{ShelfGrows, some-same, PutsSlot, puts-slot, changes-slot}, Heights.IsLow}
 use Rattle.pagable_laws.proofs.Heights.{IsAttained, FirstLow, SlotLow, SlotsLow, place_over, WaitsLow, WroteLow, TodoLow, low-on, attained-on, slots-low-on, slots-low-but, slots-low-failed}
@@ -69,16 +69,10 @@ module _ {N B W : Type 0} (m : Seen N B W) (n : ℕ) (g : Ground) (task : Task) 
       ))
   stepped (to_start r place ∷ below) e (Took.Claim i (Ok Claim.Waiting)) (is, c) all walks low =
       let t = c.finds.1.2 in did (kept (λ j. t.table_is.slots j)) (to_start r place ∷ below) (t.list_is ∙ e) low
-  stepped (to_start r place ∷ below) e (Took.Claim i (Ok Claim.AlreadyFailed)) (is, c) all walks low = let t = c.finds.1.2 in fails (λ j. t.table_is.slots j) was_failed t.list_is
-  stepped (to_start r place ∷ below) e (Took.Claim i (Err f)) (is, c) all walks low = let t = c.refused.1 in fails (λ j. t.table_is.slots j) (was_refused f) t.list_is
   stepped (to_pin r place ∷ below) e (Took.Pin i (Ok (PinStep.Held k))) (is, p) all walks low = let t = p.pins.2 in did (kept t.table_stays.slots) _ t.list_is low
   stepped (to_pin r place ∷ below) e (Took.Pin i (Ok (PinStep.LoadBegun l))) (is, p) all walks low = let t = p.pins.2 in did (kept t.table_stays.slots) _ t.list_is low
-  stepped (to_pin r place ∷ below) e (Took.Pin i (Ok PinStep.LoadWent)) (is, p) all walks low = absurd p.pins
-  stepped (to_pin r place ∷ below) e (Took.Pin i (Err f)) (is, p) all walks low = let t = p.refused.1 in fails t.table_stays.slots (was_refused f) t.list_is
   stepped (to_load r place through reading ∷ below) e (Took.Pin i (Ok (PinStep.Held k))) (is, p) all walks low = let t = p.goes.1 in did (kept t.table_stays.slots) _ t.list_is low
-  stepped (to_load r place through reading ∷ below) e (Took.Pin i (Ok (PinStep.LoadBegun l))) (is, p) all walks low = absurd p.goes
   stepped (to_load r place through reading ∷ below) e (Took.Pin i (Ok PinStep.LoadWent)) (is, p) all walks low = let t = p.goes.2 in did (kept t.table_stays.slots) _ t.list_is low
-  stepped (to_load r place through reading ∷ below) e (Took.Pin i (Err f)) (is, p) all walks low = let t = p.refused.1 in fails t.table_stays.slots (was_refused f) t.list_is
   stepped (to_write r place through ∷ below) e (Took.Write i (Ok out)) (is, p) (stands, apart, all) walks low =
       let t = p.writes in
       let claim = stands.1 in
@@ -87,21 +81,17 @@ module _ {N B W : Type 0} (m : Seen N B W) (n : ℕ) (g : Ground) (task : Task) 
       did (slots-low-but (keys-grow more) lows puts (no-key (record claim.slot { written = Some (m.written_of out) }) claim.no_result_yet)) (open_node r place through
       (m.written_of out) below) t.list_is
       (started-low s.shelf o below _ (opened-low s.shelf r place o below refl refl refl refl low))
-  stepped (to_write r place through ∷ below) e (Took.Write i (Err f)) (is, p) all walks low = let t = p.refused.1 in fails t.table_is.slots (was_refused f) t.list_is
   stepped (to_finish o ∷ below) e (Took.Store i (Ok key)) (is, p) (stands, apart, all) walks low =
       let t = p.goes in did (kept t.table_stays.slots) _ t.list_is (finishes o below key stands.1 low p.all)
-  stepped (to_finish o ∷ below) e (Took.Store i (Err f)) (is, p) all walks low = let t = p.refused in fails t.table_stays.slots (was_refused f) t.list_is
   stepped (to_item written ks ∷ below) e (Took.Store i (Ok key)) (is, p) all walks low = let t = p.goes in did (kept t.table_stays.slots) [] t.list_is tt
-  stepped (to_item written ks ∷ below) e (Took.Store i (Err f)) (is, p) all walks low = let t = p.refused in fails t.table_stays.slots (was_refused f) t.list_is
   stepped (to_set r through key height ∷ below) e (Took.SetKey i (Ok u)) (is, p) all walks low = let t = p.goes in did (kept t.table_stays.slots) _ t.list_is low
-  stepped (to_set r through key height ∷ below) e (Took.SetKey i (Err f)) (is, p) all walks low = let t = p.refused in fails t.table_stays.slots (was_refused f) t.list_is
   stepped (to_publish r key height ∷ below) e (Took.Publish i k h) (is, same_key, same_height, t) (stands, apart, all) walks (wrote, (reach, low)) =
       did (publishes r key height below stands.1 wrote reach (λ slot there. changes-slot s.shelf s'.shelf (identity_of r) slot (with_outcome
       (published key height)) there t.table_is)) (to_release r key height ∷ below) t.list_is (reach, low)
   stepped (to_release r key height ∷ below) e (Took.Release i) (is, falls, t) all (p, above) low =
       did (kept t.table_stays.slots) (give r key height below) t.list_is (given-low s.shelf task r key height p below above.0 low)
   stepped (to_fail fault back ∷ below) e Took.Fail (back_is, table_is, list_is) all walks low = did (slots-low-failed (keys-grow more) lows n table_is.slots) [] list_is tt
-  stepped _ e step does all walks low = absurd does
+  stepped _ e step does all walks low = grind (arith, nat_tests, fails)
 
 -- ---- an event
 

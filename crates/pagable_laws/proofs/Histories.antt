@@ -1,6 +1,6 @@
 -- A worker with all its steps so far: what an event adds to them keeps what they come to.
 use Rattle.pagable_laws.proofs.Words.{◌≡◌, ℕ, ◌+◌, ◌*◌, ◌-◌, ◌≤◌, List, [], ◌∷◌, ◌++◌, refl, ap, ◌∙◌, arith, Ok, Err, Some, None, drop, length, max, length-drop, sum_by-cons, sum_by-append, ArcRef}
-use Rattle.pagable_laws.proofs.Words.{one, times, above, Claim, PinStep, Took, Open, Todo, to_start, to_pin, to_load, to_write, to_finish, to_item, to_set, to_publish, to_release, to_fail, Task}
+use Rattle.pagable_laws.proofs.Words.{one, times, above, Claim, Took, Open, Todo, to_start, to_pin, to_load, to_write, to_finish, to_item, to_set, to_publish, to_release, to_fail, Task}
 use Rattle.pagable_laws.proofs.Words.{Written, next_start, give, first_todo, is_counted, Follows, is_claim, references_written, own_references, zero, suc, ◌==◌, subst, Error}
 use Rattle.pagable_laws.proofs.Words.{Identity, Among, WorkerAnswer, Shelf, answer_of_fault, answer_after, MetError, FailedElsewhere, IsMetFailure, Bool, true, false, sym, Option}
 use Rattle.pagable_laws.proofs.Words.{nat_eq, nat_tests, WorkerNumber, Event, EventReply, TableNumber, WorkerReply, Walking, World, Seen, Site, Does, new_walking, steps_after}
@@ -67,6 +67,10 @@ module _ {W : Type 0} (f : W → Written) where
   ends : (d : ℕ) → 1 ≤ d → 1 + (1 + 0) ≤ 8 * 0 + 0 + (1 + d)
   ends d some = omega arith
 
+  due-cons : (x : Todo) (below : List Todo) → all-due (x ∷ below) ≡ due x below + all-due below
+  unfolding all-due
+  due-cons x below = refl
+
   pub pays : (todo : List Todo) (step : Took W) (next : List Todo) → Follows f todo step next → Pays todo step next
   unfolding all-due
   pays (to_start r place ∷ []) (Took.Claim j (Ok Claim.Claimed)) next (is, e) = rw e (omega arith)
@@ -79,24 +83,11 @@ module _ {W : Type 0} (f : W → Written) where
   pays (to_start r place ∷ x ∷ xs) (Took.Claim j (Ok Claim.Waiting)) next (is, e) = rw e (omega arith)
   pays (to_start r place ∷ x ∷ xs) (Took.Claim j (Ok Claim.AlreadyFailed)) next (is, e) = rw e (ends _ (some-due x xs))
   pays (to_start r place ∷ x ∷ xs) (Took.Claim j (Err fault)) next (is, e) = rw e (ends _ (some-due x xs))
-  pays (to_pin r place ∷ below) (Took.Pin j (Ok (PinStep.Held h))) next (is, (through, e)) = rw e (omega arith)
-  pays (to_pin r place ∷ below) (Took.Pin j (Ok (PinStep.LoadBegun l))) next (is, (through, e)) = rw e (omega arith)
-  pays (to_pin r place ∷ below) (Took.Pin j (Err fault)) next (is, e) = rw e (omega arith)
-  pays (to_load r place through reading ∷ below) (Took.Pin j (Ok PinStep.LoadWent)) next (is, (frames, e)) = rw e (omega arith)
-  pays (to_load r place through reading ∷ below) (Took.Pin j (Ok (PinStep.Held h))) next (is, e) = rw e (omega arith)
-  pays (to_load r place through reading ∷ below) (Took.Pin j (Err fault)) next (is, e) = rw e (omega arith)
   pays (to_write r place through ∷ below) (Took.Write j (Ok out)) next (is, e) = grind (arith, settled-node)
-  pays (to_write r place through ∷ below) (Took.Write j (Err fault)) next (is, e) = rw e (omega arith)
-  pays (to_finish o ∷ below) (Took.Store (Some j) (Ok key)) next (is, e) = rw e (omega arith)
-  pays (to_finish o ∷ below) (Took.Store (Some j) (Err fault)) next (is, e) = rw e (omega arith)
   pays (to_item written keys ∷ below) (Took.Store None (Ok key)) next e = rw e (omega arith)
   pays (to_item written keys ∷ below) (Took.Store None (Err fault)) next e = rw e (omega arith)
-  pays (to_set r through key height ∷ below) (Took.SetKey j (Ok u)) next (is, e) = rw e (omega arith)
-  pays (to_set r through key height ∷ below) (Took.SetKey j (Err fault)) next (is, e) = rw e (omega arith)
-  pays (to_publish r key height ∷ below) (Took.Publish j k h) next (is, same_key, same_height, e) = rw e (omega arith)
   pays (to_release r key height ∷ below) (Took.Release j) next (is, e) = rw e (known 0 _ _ (given-due r key height below))
-  pays (to_fail fault back ∷ below) Took.Fail next e = rw e (omega arith)
-  pays _ step next follows = absurd follows
+  pays _ step next follows = grind (arith, nat_tests, due-cons, some-due, known, given-due)
 
   -- the steps that were counted, with those that are due, are within the bound
   abbrev pub IsWithin : Task → List Todo → ℕ → List (Took W) → Type 0
@@ -159,34 +150,24 @@ module _ {W : Type 0} (n : ℕ) where
     refused : (step : Took W) (e : Error) → Among past step → MetError step e → IsMetFailure shelf n past (WorkerAnswer.Failed e) × Unit {0}
     refused step e among met = ((step, among, met), tt)
 
+    on : {next other : List Todo} → next ≡ other → FailsMet shelf past other → FailsMet shelf past next
+    on e met = subst (λ t. FailsMet shelf past t) (sym e) met
+
     -- what follows a step, where the other's claim has failed if that is what was found
     pub follows-met : (f : W → Written) (todo : List Todo) (step : Took W) (next : List Todo) → Follows f todo step next → Among past step
         → ((i : Identity) → step ≡ Took.Claim i (Ok Claim.AlreadyFailed) → FailedElsewhere shelf n i) → FailsMet shelf past todo → FailsMet shelf past next
     unfolding FailsMet
-    follows-met f (to_start r place ∷ below) (Took.Claim j (Ok Claim.Claimed)) next (is, e) among already met = rw e met
-    follows-met f (to_start r place ∷ []) (Took.Claim j (Ok (Claim.Known key height))) next (is, e) among already met = rw e met
     follows-met f (to_start r place ∷ x ∷ below) (Took.Claim j (Ok (Claim.Known key height))) next (is, e) among already met = rw e (given r key height (x ∷ below) met)
-    follows-met f (to_start r place ∷ below) (Took.Claim j (Ok Claim.Waiting)) next (is, e) among already met = rw e met
     follows-met f (to_start r place ∷ below) (Took.Claim j (Ok Claim.AlreadyFailed)) next (is, e) among already met = rw e ((j, among, already j refl), tt)
     follows-met f (to_start r place ∷ below) (Took.Claim j (Err fault)) next (is, e) among already met = rw e (refused _ fault among refl)
-    follows-met f (to_pin r place ∷ below) (Took.Pin j (Ok (PinStep.Held h))) next (is, (through, e)) among already met = rw e met
-    follows-met f (to_pin r place ∷ below) (Took.Pin j (Ok (PinStep.LoadBegun l))) next (is, (through, e)) among already met = rw e met
     follows-met f (to_pin r place ∷ below) (Took.Pin j (Err fault)) next (is, e) among already met = rw e (refused _ fault among refl)
-    follows-met f (to_load r place through reading ∷ below) (Took.Pin j (Ok PinStep.LoadWent)) next (is, (frames, e)) among already met = rw e met
-    follows-met f (to_load r place through reading ∷ below) (Took.Pin j (Ok (PinStep.Held h))) next (is, e) among already met = rw e met
     follows-met f (to_load r place through reading ∷ below) (Took.Pin j (Err fault)) next (is, e) among already met = rw e (refused _ fault among refl)
     follows-met f (to_write r place through ∷ below) (Took.Write j (Ok out)) next (is, e) among already met = rw e (started place (drop 0 (f out).references) _ met)
     follows-met f (to_write r place through ∷ below) (Took.Write j (Err fault)) next (is, e) among already met = rw e (refused _ fault among refl)
-    follows-met f (to_finish o ∷ below) (Took.Store (Some j) (Ok key)) next (is, e) among already met = rw e met
     follows-met f (to_finish o ∷ below) (Took.Store (Some j) (Err fault)) next (is, e) among already met = rw e (refused _ fault among refl)
-    follows-met f (to_item written keys ∷ below) (Took.Store None (Ok key)) next e among already met = rw e tt
     follows-met f (to_item written keys ∷ below) (Took.Store None (Err fault)) next e among already met = rw e (refused _ fault among refl)
-    follows-met f (to_set r through key height ∷ below) (Took.SetKey j (Ok u)) next (is, e) among already met = rw e met
     follows-met f (to_set r through key height ∷ below) (Took.SetKey j (Err fault)) next (is, e) among already met = rw e (refused _ fault among refl)
-    follows-met f (to_publish r key height ∷ below) (Took.Publish j k h) next (is, same_key, same_height, e) among already met = rw e met
-    follows-met f (to_release r key height ∷ below) (Took.Release j) next (is, e) among already met = rw e (given r key height below met)
-    follows-met f (to_fail fault back ∷ below) Took.Fail next e among already met = rw e tt
-    follows-met f _ step next follows among already met = absurd follows
+    follows-met f _ step next follows among already met = grind (arith, nat_tests, on, given)
 
     -- the answer is what the list was about to fail with, or a key
     pub answered : (todo : List Todo) (step : Took W) (answer : WorkerAnswer) → answer_after todo step ≡ Some answer → FailsMet shelf past todo → IsMetFailure shelf n past answer

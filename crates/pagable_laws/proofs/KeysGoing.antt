@@ -1,5 +1,5 @@
 -- Workers go on holding what they hold.
-use Rattle.pagable_laws.proofs.Words.{◌≡◌, ℕ, true, false, List, [], ◌∷◌, ◌++◌, ◌⊎◌, inl, inr, Option, Some, None, Ok, Err, refl, sym, ap, subst, ◌∙◌, arith, drop, length}
+use Rattle.pagable_laws.proofs.Words.{◌≡◌, ℕ, true, false, List, [], ◌∷◌, ◌++◌, ◌⊎◌, inl, inr, Option, Some, None, Ok, refl, sym, ap, subst, ◌∙◌, arith, drop, length}
 use Rattle.pagable_laws.proofs.Words.{OptionalDataKey, Pinning, Beginning, Claim, PinStep, Took, ArcRef, Identity, NodeNumber, HandleNumber, LoadNumber, is_loose_kind, above, if_there}
 use Rattle.pagable_laws.proofs.Words.{any_mode, identity_of, has_key, owner_worker, Core, Cell, Shelf, Slot, no_result, published, Written, Open, Todo, to_start, to_pin, to_load, to_write}
 use Rattle.pagable_laws.proofs.Words.{to_finish, to_item, to_set, to_publish, to_release, to_fail, Task, SameShelf, Seen, with_key, SetKeyCall, Site, GoesTo}
@@ -157,38 +157,28 @@ module _ {N B W : Type 0} (m : Seen N B W) (v : ℕ) (s s' : Site) (whole : Hand
   stepped (to_start r place ∷ below) (Took.Claim i (Ok (Claim.Known key height))) e (is, c) f (h, quiet, all) = let t = c.finds.1.2 in
       stays t.table_is.slots t.list_is (known-quiet r key height below quiet) (known s'.core r key height below (all-on f below all))
   stepped (to_start r place ∷ below) (Took.Claim i (Ok Claim.Waiting)) e (is, c) f (h, quiet, all) = let t = c.finds.1.2 in stays t.table_is.slots (t.list_is ∙ e) refl (tt, quiet, all-on f below all)
-  stepped (to_start r place ∷ below) (Took.Claim i (Ok Claim.AlreadyFailed)) e (is, c) f all = let t = c.finds.1.2 in stays t.table_is.slots t.list_is refl (tt, refl, tt)
-  stepped (to_start r place ∷ below) (Took.Claim i (Err x)) e (is, c) f all = let t = c.refused.1 in stays t.table_is.slots t.list_is refl (tt, refl, tt)
   stepped (to_pin r place ∷ below) (Took.Pin i (Ok (PinStep.Held k))) e (is, p) f (h, quiet, all) = let t = p.pins.2 in
       stays t.table_stays.slots t.list_is refl (pinned-stands r p.pins.0 k h p.pins.1, quiet, all-on f below all)
   stepped (to_pin r place ∷ below) (Took.Pin i (Ok (PinStep.LoadBegun l))) e (is, p) f (h, quiet, all) = let t = p.pins.2 in
       stays t.table_stays.slots t.list_is refl (begun-stands r p.pins.0 l h p.pins.1, quiet, all-on f below all)
-  stepped (to_pin r place ∷ below) (Took.Pin i (Ok PinStep.LoadWent)) e (is, p) f all = absurd p.pins
-  stepped (to_pin r place ∷ below) (Took.Pin i (Err x)) e (is, p) f all = let t = p.refused.1 in stays t.table_stays.slots t.list_is refl (tt, refl, tt)
   stepped (to_load r place through reading ∷ below) (Took.Pin i (Ok (PinStep.Held k))) e (is, p) f (h, quiet, all) = let t = p.goes.1 in
       stays t.table_stays.slots t.list_is refl (stands-on f h, quiet, all-on f below all)
-  stepped (to_load r place through reading ∷ below) (Took.Pin i (Ok (PinStep.LoadBegun l))) e (is, p) f all = absurd p.goes
   stepped (to_load r place through reading ∷ below) (Took.Pin i (Ok PinStep.LoadWent)) e (is, p) f (h, quiet, all) = let t = p.goes.2 in
       stays t.table_stays.slots t.list_is refl (stands-on f h, quiet, all-on f below all)
-  stepped (to_load r place through reading ∷ below) (Took.Pin i (Err x)) e (is, p) f all = let t = p.refused.1 in stays t.table_stays.slots t.list_is refl (tt, refl, tt)
   stepped (to_write r place through ∷ below) (Took.Write i (Ok out)) e (is, p) f (h, quiet, all) =
       let t = p.writes in
       leaves t.list_is (started-quiet place (m.written_of out).references _ refl)
       (settled s'.core (record { reference = r; place = place; through = through; written = m.written_of out; keys = []; height = 0 }) below (stands-on f h, quiet, all-on f below all))
       (changed-reveals s.shelf s'.shelf KeyThere (identity_of r) (λ slot. record slot { written = Some (m.written_of out) }) t.table_is (λ old key height is. inl is))
-  stepped (to_write r place through ∷ below) (Took.Write i (Err x)) e (is, p) f all = let t = p.refused.1 in stays t.table_is.slots t.list_is refl (tt, refl, tt)
   stepped (to_finish o ∷ below) (Took.Store i (Ok key)) e (is, p) f (h, quiet, all) = let t = p.goes in stays t.table_stays.slots t.list_is refl (stands-on f h, quiet, all-on f below all)
-  stepped (to_finish o ∷ below) (Took.Store i (Err x)) e (is, p) f all = let t = p.refused in stays t.table_stays.slots t.list_is refl (tt, refl, tt)
   stepped (to_item written ks ∷ below) (Took.Store i (Ok key)) e (is, p) f all = let t = p.goes in stays t.table_stays.slots t.list_is refl tt
-  stepped (to_item written ks ∷ below) (Took.Store i (Err x)) e (is, p) f all = let t = p.refused in stays t.table_stays.slots t.list_is refl (tt, refl, tt)
   stepped (to_set r through key height ∷ below) (Took.SetKey i (Ok u)) e (is, p) f (h, quiet, all) = sets i u r through key height below e h p.sets p.goes quiet (all-on f below all)
-  stepped (to_set r through key height ∷ below) (Took.SetKey i (Err x)) e (is, p) f all = let t = p.refused in stays t.table_stays.slots t.list_is refl (tt, refl, tt)
   stepped (to_publish r key height ∷ below) (Took.Publish i k q) e (is, same_key, same_height, t) f (h, quiet, all) =
       leaves t.list_is refl (tt, quiet, all-on f below all) (changed-reveals s.shelf s'.shelf KeyThere (identity_of r) (with_outcome (published key height)) t.table_is (λ old k2 h2 known. inr (λ kind. key-on f (h kind))))
   stepped (to_release r key height ∷ below) (Took.Release i) e (is, falls, t) f (h, quiet, all) = stays t.table_stays.slots t.list_is (given-quiet r key height below quiet)
       (given s'.core r key height below (all-on f below all))
   stepped (to_fail fault back ∷ below) Took.Fail e (gives, same, list_is) f all = leaves list_is refl tt (failed-reveals s.shelf s'.shelf KeyThere v same)
-  stepped _ step e does f all = absurd does
+  stepped _ step e does f all = grind (arith, nat_tests, stays)
 
   pub walk-leaves : (step : Took W) → Does m v s s.todo step s' → AllHold s.core s.todo → Leaves step
   walk-leaves step does all = stepped s.todo step refl does (walk-goes m v s s' s.todo step does).goes all

@@ -3,7 +3,7 @@ use Rattle.pagable_laws.proofs.Words.{nat_tests, ◌≡◌, ℕ, zero, suc, ◌+
 use Rattle.pagable_laws.proofs.Words.{slice_get, sum_by, sum_by-cons, sum_by_push, HandleRow, Owner, Mode, ArcRef, Kind, HandleNumber, LoadNumber, NodeNumber, OptionalDataKey, Among, type_of, one}
 use Rattle.pagable_laws.proofs.Words.{times, mode_of, Core, OpenLoad, of_cell, Frame, Alike, row_at, row_of, with_handle, with_node, next_node, is_named_by, Asked, adopted, GetsKnown, with_got}
 use Rattle.pagable_laws.proofs.{Words.HandlesAreWhole, Outlasting.{Stands, AreUpTo, stands-alike, stands-changed, stands-more, stands-new, among-changed}, Apart.AreApart, Fitting.pushed}
-use Rattle.pagable_laws.proofs.{Goes.{found-number, none-in-next}, ReadingStepsRows.cached-rows, Sums.{self-number, same-number, at-most-sum, sum-zero}}
+use Rattle.pagable_laws.proofs.{Goes.{found-number, le-more, none-in-next}, ReadingStepsRows.cached-rows, Sums.{self-number, same-number, at-most-sum, sum-zero}}
 
 -- ---- each handle once
 
@@ -77,19 +77,11 @@ apart-once (x ∷ xs) once (suc i) (suc j) r q is at same =
 
 -- ---- rows
 
-le-more : (a b : ℕ) → a ≤ a + b
-le-more a b = omega arith
-
 -- a row stays where a handle comes
 pub with-one : (w : Core) {q : ℕ} {row : HandleRow} (node : NodeNumber) (mode : Mode) (owner : Owner) → Stands w.last.handle w.rows q row
     → Stands (with_handle w node mode owner).last.handle (with_handle w node mode owner).rows q row
 with-one w {q} {row} node mode owner s =
     stands-more (row_of (w.last.handle + 1) node mode owner ∷ []) (le-more _ _) (none-in-next w.last.handle q (row_of (w.last.handle + 1) node mode owner) refl s.given) s
-
--- and that handle's own row
-pub new-one : (w : Core) (node : NodeNumber) (mode : Mode) (owner : Owner) → HandlesAreWhole w
-    → Stands (with_handle w node mode owner).last.handle (with_handle w node mode owner).rows (w.last.handle + 1) (row_of (w.last.handle + 1) node mode owner)
-new-one w node mode owner whole = stands-new w.last.handle w.rows (row_of (w.last.handle + 1) node mode owner) (λ h among. (whole.numbered h among).1) refl
 
 module _ (w w' : Core) where
   pub asked-keeps : {q : ℕ} {row : HandleRow} → Asked w w' → Stands w.last.handle w.rows q row → Stands w'.last.handle w'.rows q row

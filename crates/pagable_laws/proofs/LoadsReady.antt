@@ -2,8 +2,8 @@
 use Rattle.pagable_laws.proofs.Words.{◌≡◌, ℕ, zero, suc, ◌+◌, ◌==◌, false, List, [], ◌∷◌, Some, inl, inr, refl, sym, ap, subst, ◌∙◌, arith, OptionalDataKey, HandleRow, Owner, ArcRef, Kind}
 use Rattle.pagable_laws.proofs.Words.{HandleNumber, LoadNumber, NodeNumber, Tree, Among, times, one, find_row, mode_of, Core, OpenLoad, of_cell, Frame, Reading, Values, IsLawful, row_at, is_named_by}
 use Rattle.pagable_laws.proofs.{Words.{with_got, nested_frame, GoesOn, GetsLazy, MakesNode, GetsKnown, HandlesAreWhole, FramesFit, ReadsItsTypes, FramesHeld}, LoadsLive.GotOnce}
-use Rattle.pagable_laws.proofs.LoadsLive.{AllBelow, got-cons, once-new, once-below, once-none, once-got, with-one, new-one, asked-keeps, known-keeps, adopted-keeps, adopted-new, not-named, Live}
-use Rattle.pagable_laws.proofs.{LoadsLive.{LoadReady, live-new, live-got}, Decoding.decodes, Fitting.first-fits, Goes.found-number, GoodReferences.good, Outlasting.{NotValues, Stands, stands-whole}}
+use Rattle.pagable_laws.proofs.LoadsLive.{AllBelow, got-cons, once-new, once-below, once-none, once-got, with-one, asked-keeps, known-keeps, adopted-keeps, adopted-new, not-named, Live}
+use Rattle.pagable_laws.proofs.{PinSteps.{new-handle, low-whole}, LoadsLive.{LoadReady, live-new, live-got}, Decoding.decodes, Fitting.first-fits, Goes.found-number, GoodReferences.good, Outlasting.{NotValues, Stands, stands-whole}}
 use Rattle.pagable_laws.proofs.{Outlasting.{stands-alike, stands-fell}, Sums.{self-number, at-most-sum}, Trees.same_some}
 
 module _ {N : Type 0} (v : Values N) (lawful : IsLawful v) (readable : ReadsItsTypes v.types) (w w' : Core) (reading : Reading) (load : OpenLoad) (trees : ℕ → Tree) (root_key root_type : ℕ)
@@ -57,7 +57,7 @@ module _ {N : Type 0} (v : Values N) (lawful : IsLawful v) (readable : ReadsItsT
 
   known-ready : (kind : Kind) (key : ℕ) (k : HandleNumber) (row : HandleRow) → GetsKnown w l kind key k w' → row_at w' k ≡ Some row → LoadReady w' l load (with_got kind row reading.frames)
   known-ready kind key k row c made =
-      let new = stands-alike c.leaves (new-one w (record { 0 = c.n }) (mode_of kind.0) (Owner.Load l) whole) in
+      let new = stands-alike c.leaves (new-handle w (record { 0 = c.n }) (mode_of kind.0) (Owner.Load l) (low-whole whole)) in
       got-ready reading.frames kind row k _ made c.next.above new refl (λ frame r among got x free s. known-keeps w w' c s)
       (λ h x there own y free s. known-keeps w w' c s) ready.live ready.once small
 
@@ -78,7 +78,7 @@ module _ {N : Type 0} (v : Values N) (lawful : IsLawful v) (readable : ReadsItsT
   node-ready : (frames : List Frame) (g : MakesNode v w Owner.Caller reading frames w') → LoadReady w' l load (with_got g.reads_node.top.kind g.row g.reads_node.below)
   node-ready frames g = elim c.makes [
     | inl (n, usable, f) ↦
-        got-ready below top.kind g.row g.k _ g.made c.next.above (stands-fell f.falls (λ m e. cc) new-free (new-one w (record { 0 = n }) (mode_of top.kind.0) (Owner.Load l) whole)) refl
+        got-ready below top.kind g.row g.k _ g.made c.next.above (stands-fell f.falls (λ m e. cc) new-free (new-handle w (record { 0 = n }) (mode_of top.kind.0) (Owner.Load l) (low-whole whole))) refl
         (λ frame r among got x free s. stands-fell f.falls free (below-free frame r among got) (with-one w (record { 0 = n }) (mode_of top.kind.0) (Owner.Load l) s))
         (λ h x there own y free s. stands-fell f.falls free (caller-free h x there own) (with-one w (record { 0 = n }) (mode_of top.kind.0) (Owner.Load l) s)) live_below once_below small_below
     | inr (none, few, a) ↦

@@ -1,5 +1,5 @@
 -- Below what a worker does next only written nodes and an item wait: no load.
-use Rattle.pagable_laws.proofs.Words.{◌≡◌, ℕ, List, [], ◌∷◌, ◌++◌, sym, subst, ◌∙◌, Ok, Err, Some, ArcRef, updated, above, Took, Event, EventReply, Written}
+use Rattle.pagable_laws.proofs.Words.{◌≡◌, ℕ, List, [], ◌∷◌, ◌++◌, sym, subst, ◌∙◌, Ok, Some, ArcRef, updated, above, Took, Event, EventReply, Written}
 use Rattle.pagable_laws.proofs.Words.{Todo, to_finish, to_item, Task, of_item, Walking, World, Seen}
 use Rattle.pagable_laws.proofs.{Words.{next_start, settle, give, first_todo, Happens, entry_task, new_walking, Follows, arith, nat_tests}, Nexts.steps_follow, WalkSteps.{NoLoad, WaitsWell}}
 
@@ -58,21 +58,11 @@ module _ {N B W : Type 0} (m : Seen N B W) (u u' : World) (waits : AllBelowWait 
   but k changed are new n walking is = grind (arith, nat_tests)
 
   pub event-waits : (event : Event N B W) (reply : EventReply N B W) → Happens m u event reply u' → AllBelowWait u'
-  event-waits (Event.Call call) (EventReply.CallReply r) h = same h.work.walkings
-  event-waits (Event.LoadStart k) (EventReply.Started r) h = same h.work.walkings
-  event-waits (Event.LoadKey key t) (EventReply.Started r) h = same h.work.walkings
-  event-waits (Event.LoadStep l) (EventReply.LoadMoved (Ok reply)) h = same h.moves.work.walkings
-  event-waits (Event.LoadStep l) (EventReply.LoadMoved (Err e)) h = same h.refused.1.work.walkings
-  event-waits Event.TableNew (EventReply.TableMade (Ok t)) h = same h.made.3.same_walkings
-  event-waits Event.TableNew (EventReply.TableMade (Err e)) h = same h.refused.1.work.walkings
   event-waits (Event.WorkerItem t item) (EventReply.WorkerMade (Ok v)) h = but v.0 (new_walking t _) h.starts.work.same_walkings (first-waits (of_item (m.written_of item)))
-  event-waits (Event.WorkerItem t item) (EventReply.WorkerMade (Err e)) h = same h.refused.1.work.walkings
   event-waits (Event.WorkerListed t i) (EventReply.WorkerMade (Ok v)) h = but v.0 (new_walking t _) h.starts.5.work.same_walkings (first-waits (entry_task h.starts.0 h.starts.1 h.starts.2))
-  event-waits (Event.WorkerListed t i) (EventReply.WorkerMade (Err e)) h = same h.refused.1.work.walkings
   event-waits (Event.WorkerStep v) (EventReply.WorkerMoved (Ok reply)) h =
       let s = h.moves in
       but v.0 (record s.walking { todo = s.after.todo; steps = reply.steps; answer = reply.answer }) s.work.same_walkings
       (follows-waits m.written_of s.walking.todo reply.took s.after.todo
       (steps_follow m v.0 (record { core = u.core; shelf = u.work.shelves s.walking.table; todo = s.walking.todo }) s.after reply.took s.does) (waits v.0 s.walking s.at))
-  event-waits (Event.WorkerStep v) (EventReply.WorkerMoved (Err e)) h = same h.refused.2.work.walkings
-  event-waits event reply h = absurd h
+  event-waits event reply h = grind (arith, nat_tests, same)

@@ -19,25 +19,17 @@ abbrev pub KeepsKeys : Shelf → Shelf → Type 0
 KeepsKeys shelf shelf' = (i : Identity) (key height : ℕ) → IsPublished shelf i key height → IsPublished shelf' i key height
 
 followed-on : {P Q : ℕ → ℕ → Meaning KeyRef → Type 0} → ((t k : ℕ) (m : Meaning KeyRef) → P t k m → Q t k m) → {x : Meaning KeyRef} {a : Meaning ⊥} → IsFollowed P x a → IsFollowed Q x a
-followed-on to (number-followed n) = number-followed n
-followed-on to (integer-followed z) = integer-followed z
-followed-on to (text-followed t) = text-followed t
-followed-on to (pattern-followed t) = pattern-followed t
-followed-on to none-followed = none-followed
 followed-on to (pair-followed x y a b h g) = pair-followed x y a b (followed-on to h) (followed-on to g)
 followed-on to (variant-followed n x a h) = variant-followed n x a (followed-on to h)
 followed-on to (reference-followed r x a p h) = reference-followed r x a (to _ _ x p) (followed-on to h)
+followed-on to x0 = grind (arith, nat_tests, number-followed, integer-followed, text-followed, pattern-followed, none-followed)
 
 follows-on : {trees trees' : ℕ → Tree} {rs : List ArcRef} → ((r : ArcRef) → Among rs r → trees' r.node.0 ≡ trees r.node.0) → {x : Meaning ArcRef} {a : Meaning ⊥}
     → FollowsTo trees rs x a → FollowsTo trees' rs x a
-follows-on same (number-follows i) = number-follows i
-follows-on same (integer-follows z) = integer-follows z
-follows-on same (text-follows t) = text-follows t
-follows-on same (pattern-follows t) = pattern-follows t
-follows-on same none-follows = none-follows
 follows-on same (pair-follows x y a b h g) = pair-follows x y a b (follows-on same h) (follows-on same g)
 follows-on same (variant-follows i x a h) = variant-follows i x a (follows-on same h)
 follows-on same (reference-follows r a among is) = reference-follows r a among (ap (λ (t : Tree). t.meaning) (same r among) ∙ is)
+follows-on same x0 = grind (arith, nat_tests, number-follows, integer-follows, text-follows, pattern-follows, none-follows)
 
 module _ {shelf shelf' : Shelf} (keys : KeepsKeys shelf shelf') where
   pub keys-on : (rs : List ArcRef) (ks : List ℕ) → AreKeysOf shelf rs ks → AreKeysOf shelf' rs ks

@@ -1,8 +1,8 @@
 -- A call leaves each handle of an owner as it is that doesn't ask: it is there afterwards, with its row. The owner is a worker, or the list.
-use Rattle.pagable_laws.proofs.Words.{◌≡◌, ℕ, suc, zero, ◌+◌, ◌<◌, ◌≤◌, ◌==◌, ◌&&◌, ◌||◌, Bool, true, false, List, [], ◌∷◌, Option, Some, refl, sym, ap, subst, ◌∙◌, if◌then◌else◌, arith, not}
+use Rattle.pagable_laws.proofs.Words.{◌≡◌, ℕ, suc, zero, ◌<◌, ◌≤◌, ◌==◌, ◌&&◌, ◌||◌, Bool, true, false, List, [], ◌∷◌, Option, Some, refl, sym, ap, subst, ◌∙◌, if◌then◌else◌, arith, not}
 use Rattle.pagable_laws.proofs.Words.{slice_get, and_parts, nat_tests, HandleRow, Owner, Mode, ArcRef, HandleNumber, LoadNumber, NodeNumber, Among, changed, if_there, one, find_row, is_handle}
-use Rattle.pagable_laws.proofs.Words.{is_owner, is_owned_by, owner_worker, Core, Alike, Falls, nobody, only_handle, Owns, row_of, with_handle, with_mode, moved, is_named_by, is_owned_in}
-use Rattle.pagable_laws.proofs.{Words.{OwnersAreThere, AreGood}, Outlasting.{NotValues, Stands, stands-alike, stands-changed, stands-more, stands-fell}, Goes.{found-number, none-in-next}}
+use Rattle.pagable_laws.proofs.Words.{is_owner, is_owned_by, owner_worker, Core, Alike, Falls, nobody, only_handle, Owns, with_handle, with_mode, moved, is_named_by, is_owned_in}
+use Rattle.pagable_laws.proofs.{Words.{OwnersAreThere, AreGood}, Outlasting.{NotValues, Stands, stands-alike, stands-changed, stands-fell}, Goes.found-number, LoadsLive.with-one}
 use Rattle.pagable_laws.proofs.{Sums.{same-number, self-number, at-most-sum, counted, one-true}, Trees.same_some}
 
 -- neither a value nor a load
@@ -52,13 +52,8 @@ module _ (mine : Owner) where
   pub itself : {w : Core} → Spares w w
   itself = record { each = λ q row own s. s }
 
-  le-more : (a b : ℕ) → a ≤ a + b
-  le-more a b = omega arith
-
   pub spares-handle : (w : Core) (node : NodeNumber) (mode : Mode) (owner : Owner) → Spares w (with_handle w node mode owner)
-  spares-handle w node mode owner =
-      let new = row_of (w.last.handle + 1) node mode owner in
-      record { each = λ q row own s. stands-more (new ∷ []) (le-more _ _) (none-in-next w.last.handle q new refl s.given) s }
+  spares-handle w node mode owner = record { each = λ q row own s. with-one w node mode owner s }
 
   pub spares-made : {w w' : Core} (node : NodeNumber) (mode : Mode) (owner : Owner) → Alike (with_handle w node mode owner) w' → Spares w w'
   spares-made {w} node mode owner a = then-alike a (spares-handle w node mode owner)

@@ -1,13 +1,13 @@
 -- Each event leaves each handle of a worker as it is that doesn't make it, and what the cache gives for a kind and a key, where the node is held before and after. What a load's and
 -- a worker's step do leaves the handles of the list too.
-use Rattle.pagable_laws.proofs.Words.{Falls, NodeNumber, AdoptCall, Alike, Among, ArcRef, AreGood, AskCall, Asked, BeginCall, BeginKeyCall, Beginning, BirthCall, Blob, Bool, Call, Claim}
+use Rattle.pagable_laws.proofs.Words.{Falls, NodeNumber, AdoptCall, Alike, Among, ArcRef, AreGood, AskCall, Asked, BeginCall, BeginKeyCall, Beginning, BirthCall, Blob, Bool, Call}
 use Rattle.pagable_laws.proofs.Words.{CloneCall, Core, DropCall, EndCall, Ends, Err, Error, Event, EventReply, Frame, Given, HandOverCall, HandleNumber, HandleRow, Happens, Installs, KeepsOpen, Kind}
 use Rattle.pagable_laws.proofs.Words.{LazyCall, LeavesCache, List, LoadAnswer, LoadCloses, LoadNumber, Mode, None, OfferCall, Ok, Option, OptionalDataKey, Owner, OwnersAreThere, PinCall}
 use Rattle.pagable_laws.proofs.Words.{PinRefused, PinStep, Pinning, Reading, ReadingDoes, RecallCall, ReleaseCall, Reply, Result, ScheduleCall, Seen, SetKeyCall, Site, Some, Starts, StoreCall}
 use Rattle.pagable_laws.proofs.Words.{TableNumber, Task, Todo, Took, UnpinCall, Values, Want, WorkerAnswer, WorkerNumber, World, [], adopted, ap, arith, false}
 use Rattle.pagable_laws.proofs.Words.{if_there, if◌then◌else◌, inl, inr, is_in, is_load_of, is_named_by, is_owned_in, is_owner, is_workers, is_workers_at, mode_of, moved}
-use Rattle.pagable_laws.proofs.Words.{named_fault, nat_tests, next_node, not, numbers_of, owner_value, owner_worker, refl, refused_if, row_at, step_of, subst, sym, to_fail, to_finish, to_item}
-use Rattle.pagable_laws.proofs.Words.{to_load, to_pin, to_publish, to_release, to_set, to_start, to_write, true, type_of, usable, with_cached, with_handle, with_mode, with_node, with_pin}
+use Rattle.pagable_laws.proofs.Words.{named_fault, nat_tests, next_node, not, numbers_of, owner_value, owner_worker, refl, refused_if, row_at, step_of, subst, sym, to_fail}
+use Rattle.pagable_laws.proofs.Words.{to_load, to_pin, to_release, to_set, to_write, true, type_of, usable, with_cached, with_handle, with_mode, with_node, with_pin}
 use Rattle.pagable_laws.proofs.Words.{without_load, ℕ, ◌&&◌, ◌+◌, ◌==◌, ◌||◌, ◌∙◌, ◌∷◌, ◌≡◌}
 use Rattle.pagable_laws.proofs.Sparing.{IsApart, worker-apart, list-apart, Spares, Free, spares-then, spares-alike, then-alike, then-fell, itself, spares-handle, moved-free, other-handle, mode-free}
 use Rattle.pagable_laws.proofs.Sparing.{spares-mode}
@@ -301,29 +301,18 @@ module _ (mine : Owner) (apart : IsApart mine) (kind key n : ℕ) where
 
       module _ {N B W : Type 0} (m : Seen N B W) (s s' : Site) where
         walks : (todo : List Todo) (step : Took W) → workers.Does m u s todo step s' → Leaves O C s.core s'.core
-        walks (to_start r place ∷ below) (Took.Claim i (Ok Claim.Claimed)) (is, c) = stays c.finds.1.2.pager_stays
-        walks (to_start r place ∷ below) (Took.Claim i (Ok (Claim.Known k h))) (is, c) = stays c.finds.1.2.pager_stays
-        walks (to_start r place ∷ below) (Took.Claim i (Ok Claim.Waiting)) (is, c) = stays c.finds.1.2.pager_stays
-        walks (to_start r place ∷ below) (Took.Claim i (Ok Claim.AlreadyFailed)) (is, c) = stays c.finds.1.2.pager_stays
-        walks (to_start r place ∷ below) (Took.Claim i (Err f)) (is, c) = stays c.refused.1.pager_stays
         walks (to_pin r place ∷ below) (Took.Pin i (Ok (PinStep.Held k))) (is, p) = elim p.pins.1 [ inl (row, same, clone) ↦ clones _ clone | inr (row, (mid, clone, pin)) ↦ then-clone clone (pins other _ pin) ]
         walks (to_pin r place ∷ below) (Took.Pin i (Ok (PinStep.LoadBegun l))) (is, p) = let b = p.pins.1.1 in then-clone b.2 (begins _ b.3)
-        walks (to_pin r place ∷ below) (Took.Pin i (Ok PinStep.LoadWent)) (is, p) = absurd p.pins
         walks (to_pin r place ∷ below) (Took.Pin i (Err f)) (is, p) = pin-refused r f p.refused.0
         walks (to_load r place through reading ∷ below) (Took.Pin i (Ok (PinStep.Held k))) (is, p) = reads other m.values reading p.goes.0
-        walks (to_load r place through reading ∷ below) (Took.Pin i (Ok (PinStep.LoadBegun l))) (is, p) = absurd p.goes
         walks (to_load r place through reading ∷ below) (Took.Pin i (Ok PinStep.LoadWent)) (is, p) = reads other m.values reading p.goes.1
         walks (to_load r place through reading ∷ below) (Took.Pin i (Err f)) (is, p) = reads other m.values reading p.refused.0
         walks (to_write r place through ∷ below) (Took.Write i (Ok out)) (is, p) = stays p.writes.pager_stays
         walks (to_write r place through ∷ below) (Took.Write i (Err f)) (is, p) = stays p.refused.1.pager_stays
-        walks (to_finish o ∷ below) (Took.Store i k) (is, p) = stores k p.stored
-        walks (to_item written keys ∷ below) (Took.Store i k) (is, p) = stores k p.stored
         walks (to_set r through k h ∷ below) (Took.SetKey i done) (is, p) = sets other done p.sets
-        walks (to_publish r k h ∷ below) (Took.Publish i k2 h2) (is, same_key, same_height, t) = stays t.pager_stays
         walks (to_release r k h ∷ below) (Took.Release i) (is, f, g) = fell f.falls (λ o. itself mine) (λ o. released-free u (other o) s.core r.node.0) (λ e. e)
-        walks (to_fail fault None ∷ below) Took.Fail (a, shelf, list_is) = stays a
         walks (to_fail fault (Some h) ∷ below) Took.Fail ((told, scheduled), shelf, list_is) = schedules other told scheduled
-        walks todo step does = absurd does
+        walks todo step does = grind (arith, nat_tests, stays, stores)
 
   -- ---- calls
 
@@ -335,29 +324,16 @@ module _ (mine : Owner) (apart : IsApart mine) (kind key n : ℕ) where
     calls (Call.NewShared x) (Reply.Made r) open_still c = births (λ o. o.1) Mode.Shared r c
     calls (Call.NewPagedOut t q) (Reply.Handle (Ok k)) open_still c =
         made c.made.2 (λ o. spares-then mine (node w t (OptionalDataKey.Some q) [] me o.1 (none-named w me)) (spares-handle mine _ (next_node w) Mode.LooseUnpinned me)) (born kind key n _ _)
-    calls (Call.NewPagedOut t q) (Reply.Handle (Err e)) open_still c = stays c.refused.stays
     calls (Call.Clone h) (Reply.Handle r) open_still c = clones r c
     calls (Call.Pin h) (Reply.Pin r) open_still c = pins (λ o. o.1) r c
     calls (Call.Unpin h) (Reply.Done r) open_still c = unpins (λ o. o.1) r c
     calls (Call.Release h) (Reply.Done r) open_still c = releases (λ o. o.1) r c
     calls (Call.IntoPagable h) (Reply.Handle (Ok k)) open_still c = made c.turned.3 (λ o. spares-mode mine h c.turned.0 Mode.LoosePinned o.1 c.turned.1) (λ e. e)
-    calls (Call.IntoPagable h) (Reply.Handle (Err e)) open_still c = stays c.refused.1
     calls (Call.SetDataKey h q) (Reply.Done r) open_still c = sets (λ o. o.1) r c
-    calls (Call.Count h) (Reply.Count r) open_still c = stays c.1
-    calls (Call.Key h) (Reply.KeyFound r) open_still c = stays c.1
-    calls (Call.IsPagedOut h) (Reply.Away r) open_still c = stays c.1
-    calls (Call.NodeOf h) (Reply.Node r) open_still c = stays c.1
-    calls (Call.NodeLive k) (Reply.NodeType t) open_still c = stays c.1
     calls (Call.ScheduleForPaging h) (Reply.Done r) open_still c = schedules (λ o. o.1) r c
-    calls Call.Pending (Reply.Length k) open_still c = stays c.1
     calls (Call.TakePending i) (Reply.Taken (Some h)) open_still c = made c.1 (λ o. record { each = moved-free mine me (listed-free mine unlisted o.0 i h c.0) }) (λ e. e)
-    calls (Call.TakePending i) (Reply.Taken None) open_still c = stays c.1
-    calls (Call.CacheGet k q) (Reply.FromCache r) open_still c = recalls r c
     calls (Call.OnArcDeserialized k q h) (Reply.FromCache r) open_still c = record { spares = λ o. offers o.1 r c; lasts = λ leaves. absurd leaves }
     calls Call.CacheClear (Reply.Done r) open_still c = record { spares = λ o. then-alike mine c.leaves (record { each = λ q row own s. s }); lasts = λ leaves. absurd leaves }
-    calls (Call.Fetch q) (Reply.Fetched r) open_still c = asked c.asked
-    calls (Call.Store b) (Reply.Stored r) open_still c = stores r c
-    calls Call.Flush (Reply.Done r) open_still c = asked c.asked
     calls (Call.LoadBegin h) (Reply.Begun r) open_still c = begins r c
     calls (Call.LoadKey q) (Reply.Begun r) open_still c = begins-key r c
     calls (Call.LoadFetch l want) (Reply.LoadFound r) open_still c = asks _ c
@@ -366,10 +342,11 @@ module _ (mine : Owner) (apart : IsApart mine) (kind key n : ℕ) where
     calls (Call.LoadEnd l x) (Reply.LoadEnded r) open_still c = ends-load (λ o. o.1) l r c
     calls (Call.LoadTake l hs) (Reply.Done r) open_still c = hands-over (λ o. o.1) l hs.items r c
     calls (Call.LoadDrop l) (Reply.Done r) open_still c = drops (λ o. o.1) l r c
-    calls (Call.Reserve k) (Reply.Done r) open_still c = stays c.stays
-    calls Call.Room (Reply.Length k) open_still c = stays c.1
-    calls Call.Close reply open_still c = absurd open_still
-    calls call reply open_still c = absurd c
+    calls (Call.CacheGet k q) (Reply.FromCache r) open_still c = recalls r c
+    calls (Call.Fetch q) (Reply.Fetched r) open_still c = asked c.asked
+    calls (Call.Store b) (Reply.Stored r) open_still c = stores r c
+    calls Call.Flush (Reply.Done r) open_still c = asked c.asked
+    calls call reply open_still c = grind (arith, nat_tests, stays)
 
   -- ---- events
 
@@ -394,32 +371,27 @@ module _ (mine : Owner) (apart : IsApart mine) (kind key n : ℕ) where
       events (Event.LoadStart k) (EventReply.Started r) open_still h = begins r h.step
       events (Event.LoadKey k t) (EventReply.Started r) open_still h = begins-key r h.step
       events (Event.LoadStep l) (EventReply.LoadMoved (Ok reply)) open_still h = reads (λ o. callers) m.values h.moves.reading h.moves.does
-      events (Event.LoadStep l) (EventReply.LoadMoved (Err e)) open_still h = stays h.refused.1.core
       events Event.TableNew (EventReply.TableMade (Ok t)) open_still h = stays h.made.1
       events Event.TableNew (EventReply.TableMade (Err e)) open_still h = stays h.refused.1.core
       events (Event.WorkerItem t item) (EventReply.WorkerMade (Ok k)) open_still h = started t _ k (λ o. itself mine) (λ e. e) h.starts
-      events (Event.WorkerItem t item) (EventReply.WorkerMade (Err e)) open_still h = stays h.refused.1.core
       events (Event.WorkerListed t i) (EventReply.WorkerMade (Ok k)) open_still h =
           let x = h.starts in started t _ k (λ o. record { each = moved-free mine (Owner.Worker k) (listed-free mine unlisted o.0 i x.0 x.3.listed) }) (λ e. e) x.5
-      events (Event.WorkerListed t i) (EventReply.WorkerMade (Err e)) open_still h = stays h.refused.1.core
       events (Event.WorkerStep k) (EventReply.WorkerMoved (Ok reply)) open_still h =
           let x = h.moves in
           then-ends k.0 (λ o. isnt-own reply.took k.0 o.1) reply.answer
           (walks k.0 (λ o. isnt-own reply.took k.0 o.1) m (record { core = u.core; shelf = u.work.shelves x.walking.table; todo = x.walking.todo }) x.after x.walking.todo reply.took x.does.does) x.ends
-      events (Event.WorkerStep k) (EventReply.WorkerMoved (Err e)) open_still h = stays h.refused.2.core
-      events event reply open_still h = absurd h
+      events event reply open_still h = grind (arith, nat_tests, stays, begins, begins-key)
 
 pub event-spares : {N B W : Type 0} (m : Seen N B W) (v : ℕ) (u u' : World) → OwnersAreThere u.core → (event : Event N B W) (reply : EventReply N B W) → step_of v event reply ≡ [] → KeepsOpen event
     → Happens m u event reply u' → Spares (owner_worker v) u.core u'.core
 event-spares m v u u' there event reply others stays h = (events (owner_worker v) (worker-apart v) 0 0 0 v refl m u u' event reply stays h).spares (there, others)
 
+pub keeps-open : {N B W : Type 0} (event : Event N B W) → LeavesCache event → KeepsOpen event
+keeps-open x0 leaves = grind (arith, nat_tests)
+
 pub event-lasts : (kind key n : ℕ) {N B W : Type 0} (m : Seen N B W) (u u' : World) (event : Event N B W) (reply : EventReply N B W) → LeavesCache event → Happens m u event reply u'
     → Lasts kind key n u.core u'.core
-event-lasts kind key n {N} {B} {W} m u u' event reply leaves h = (events (owner_worker 0) (worker-apart 0) kind key n 0 refl m u u' event reply (open-still event leaves) h).lasts leaves
-  where
-    open-still : (event : Event N B W) → LeavesCache event → KeepsOpen event
-    open-still (Event.Call Call.Close) leaves = leaves
-    open-still event leaves = tt
+event-lasts kind key n {N} {B} {W} m u u' event reply leaves h = (events (owner_worker 0) (worker-apart 0) kind key n 0 refl m u u' event reply (keeps-open event leaves) h).lasts leaves
 
 -- ---- the list
 

@@ -1,7 +1,7 @@
 -- A worker's step, case by case: its table and its to-do list fit afterwards.
-use Rattle.pagable_laws.proofs.Words.{◌≡◌, ℕ, ◌≤◌, ◌==◌, true, List, [], ◌∷◌, ◌++◌, length, Option, Some, None, Ok, Err, if◌then◌else◌, refl, sym, ap, subst, ◌∙◌, arith, drop, nat_tests, blob_of}
-use Rattle.pagable_laws.proofs.Words.{ArcRef, Identity, Blob, HandleNumber, Tree, type_of, Claim, PinStep, Took, identity_of, Shelf, Slot, no_result, published, Written, Open, Fault, Todo}
-use Rattle.pagable_laws.proofs.Words.{was_failed, was_refused, to_start, to_pin, to_load, to_write, to_finish, to_item, to_set, to_publish, to_release, to_fail, Task, Values, Seen, digest, Stores}
+use Rattle.pagable_laws.proofs.Words.{◌≡◌, ℕ, ◌≤◌, ◌==◌, true, List, [], ◌∷◌, ◌++◌, length, Option, Some, None, Ok, if◌then◌else◌, refl, sym, ap, subst, ◌∙◌, arith, drop, nat_tests, blob_of}
+use Rattle.pagable_laws.proofs.Words.{ArcRef, Identity, Blob, HandleNumber, Tree, type_of, Claim, Took, identity_of, Shelf, Slot, no_result, published, Written, Open, Fault, Todo}
+use Rattle.pagable_laws.proofs.Words.{to_start, to_pin, to_write, to_finish, to_item, to_set, to_publish, to_release, to_fail, Task, Values, Seen, digest, Stores}
 use Rattle.pagable_laws.proofs.Words.{Site, Does, IsPublished, claim_fault, next_start, give, give_known, open_node, with_outcome, with_wait, answer_after, AreKeysOf, Ground, WroteTree, BlobStands}
 use Rattle.pagable_laws.proofs.{Words.{SlotFits, KeysSoFar, Expects, Waits, Above, HasBlob, Walks, SlotsFit}, Shelves.{GroundGoes, so-far-on, wrote-on, blob-on, slot-on, keys-grow, above-on}}
 use Rattle.pagable_laws.proofs.{Shelves.{has-blob-on, slots-on, slots-but, slots-failed}, Changing.{ShelfGrows, some-same, PutsSlot, puts-slot, changes-slot}, Following.{IdentityStands, key-stands}}
@@ -157,31 +157,14 @@ module _ {N B W : Type 0} (m : Seen N B W) (n : ℕ) {g g' : Ground} (task : Tas
     stepped (to_start r place ∷ below) e (Took.Claim i (Ok (Claim.Known key height))) st (is, c) all above =
         let t = c.finds.1.2 in let a = still r below above in
         did (kept (λ j. t.table_is.slots j)) t.list_is (given-known m.values g' s'.shelf task r key height (keys-grow more _ _ _ c.finds.1.1) below a.0 a.1)
-    stepped (to_start r place ∷ below) e (Took.Claim i (Ok Claim.Waiting)) st (is, c) all above = let t = c.finds.1.2 in did (kept (λ j. t.table_is.slots j)) (t.list_is ∙ e) (still r below above)
-    stepped (to_start r place ∷ below) e (Took.Claim i (Ok Claim.AlreadyFailed)) st (is, c) all walks = let t = c.finds.1.2 in fails (λ j. t.table_is.slots j) was_failed t.list_is
-    stepped (to_start r place ∷ below) e (Took.Claim i (Err f)) st (is, c) all walks = let t = c.refused.1 in fails (λ j. t.table_is.slots j) (was_refused f) t.list_is
-    stepped (to_pin r place ∷ below) e (Took.Pin i (Ok (PinStep.Held k))) st (is, p) all above = let t = p.pins.2 in did (kept t.table_stays.slots) t.list_is (still r below above)
-    stepped (to_pin r place ∷ below) e (Took.Pin i (Ok (PinStep.LoadBegun l))) st (is, p) all above = let t = p.pins.2 in did (kept t.table_stays.slots) t.list_is (still r below above)
-    stepped (to_pin r place ∷ below) e (Took.Pin i (Ok PinStep.LoadWent)) st (is, p) all walks = absurd p.pins
-    stepped (to_pin r place ∷ below) e (Took.Pin i (Err f)) st (is, p) all walks = let t = p.refused.1 in fails t.table_stays.slots (was_refused f) t.list_is
-    stepped (to_load r place through reading ∷ below) e (Took.Pin i (Ok (PinStep.Held k))) st (is, p) all above = let t = p.goes.1 in did (kept t.table_stays.slots) t.list_is (still r below above)
-    stepped (to_load r place through reading ∷ below) e (Took.Pin i (Ok (PinStep.LoadBegun l))) st (is, p) all walks = absurd p.goes
-    stepped (to_load r place through reading ∷ below) e (Took.Pin i (Ok PinStep.LoadWent)) st (is, p) all above = let t = p.goes.2 in did (kept t.table_stays.slots) t.list_is (still r below above)
-    stepped (to_load r place through reading ∷ below) e (Took.Pin i (Err f)) st (is, p) all walks = let t = p.refused.1 in fails t.table_stays.slots (was_refused f) t.list_is
     stepped (to_write r place through ∷ below) e (Took.Write i (Ok out)) st (is, p) (stands, apart, all) above =
         let t = p.writes in
         let w = subst (λ (j : Identity). WroteTree m.values.types g j.node.0 (m.written_of out)) is (wrote i out st) in
         let claim = stands.1 in
         writes r place through below (m.written_of out) claim w
         (changes-slot s.shelf s'.shelf (identity_of r) claim.slot (λ slot. record slot { written = Some (m.written_of out) }) claim.claimed t.table_is) above t.list_is
-    stepped (to_write r place through ∷ below) e (Took.Write i (Err f)) st (is, p) all walks = let t = p.refused.1 in fails t.table_is.slots (was_refused f) t.list_is
-    stepped (to_finish o ∷ below) e (Took.Store i (Ok key)) st (is, p) (stands, apart, all) waits = grind (arith, nat_tests, did, kept, finishes, stored-so)
-    stepped (to_finish o ∷ below) e (Took.Store i (Err f)) st (is, p) all walks = let t = p.refused in fails t.table_stays.slots (was_refused f) t.list_is
-    stepped (to_item written ks ∷ below) e (Took.Store i (Ok key)) st (is, p) all walks = let t = p.goes in did (kept t.table_stays.slots) t.list_is tt
-    stepped (to_item written ks ∷ below) e (Took.Store i (Err f)) st (is, p) all walks = let t = p.refused in fails t.table_stays.slots (was_refused f) t.list_is
     stepped (to_set r through key height ∷ below) e (Took.SetKey i (Ok u)) st (is, p) all (blob, above) =
         let t = p.goes in did (kept t.table_stays.slots) t.list_is (has-blob-on goes more fits blob, still r below above)
-    stepped (to_set r through key height ∷ below) e (Took.SetKey i (Err f)) st (is, p) all walks = let t = p.refused in fails t.table_stays.slots (was_refused f) t.list_is
     stepped (to_publish r key height ∷ below) e (Took.Publish i k h) st (is, same_key, same_height, t) (stands, apart, all) (blob, above) =
         let claim = stands.1 in
         let still : blob.slot.outcome ≡ no_result = ap (λ (z : Slot). z.outcome) (some-same blob.claimed claim.claimed) ∙ claim.no_result_yet in
@@ -191,7 +174,7 @@ module _ {N B W : Type 0} (m : Seen N B W) (n : ℕ) {g g' : Ground} (task : Tas
     stepped (to_release r key height ∷ below) e (Took.Release i) st (is, falls, t) all (p, above) =
         let a = still r below above in did (kept t.table_stays.slots) t.list_is (given m.values g' s'.shelf task r key height (keys-grow more _ _ _ p) below a.0 a.1)
     stepped (to_fail fault back ∷ below) e Took.Fail st (gives, same, list_is) all walks = did (slots-failed goes more fits n same.slots) list_is tt
-    stepped _ e step st does all walks = absurd does
+    stepped _ e step st does all walks = grind (arith, nat_tests, fails, did, kept, still, finishes, stored-so, given-known, given, keys-grow, has-blob-on, slots-failed)
 
   -- a step leaves what fits
   pub walk-steps : (step : Took W) → Does m n s s.todo step s' → ((i : Identity) (out : W) → step ≡ Took.Write i (Ok out) → WroteTree m.values.types g i.node.0 (m.written_of out))

@@ -1,7 +1,7 @@
 -- What a worker's step does to the plain world, as trees feel it, and which loads it begins.
 use Rattle.pagable_laws.proofs.Words.{◌≡◌, ℕ, ◌≤◌, true, List, [], ◌∷◌, ◌++◌, refl, sym, ap, subst, ◌∙◌, inl, inr, arith, Option, Some, None, Ok, Err, Result, Error, ArcRef, HandleNumber, LoadNumber}
 use Rattle.pagable_laws.proofs.Words.{HandleRow, Pinning, Beginning, Claim, PinStep, Took, owner_worker, is_loose, Core, OpenLoad, Reading, Todo, to_start, to_pin, to_load, to_write, to_finish}
-use Rattle.pagable_laws.proofs.Words.{to_item, to_set, to_publish, to_release, to_fail, row_at, Seen, SetKeyCall, Site, Does, PinsAtOnce, PinsByLoad, PinRefused, GivesBack, next_start, give}
+use Rattle.pagable_laws.proofs.Words.{to_item, to_set, to_release, to_fail, row_at, Seen, SetKeyCall, Site, Does, PinsAtOnce, PinsByLoad, PinRefused, GivesBack, next_start, give}
 use Rattle.pagable_laws.proofs.{Words.{give_known, fresh, HandlesAreWhole, TodoBrings, Change, nothing_felt, sets_key, ReadingFeels, IsFresh, nat_tests}, Goes.{Quiet, Goes, NotLoads, quiet-then}}
 use Rattle.pagable_laws.proofs.{Goes.{quiet-goes, quiet-begins, goes-quiet, alike, fell, fell-anyhow, keyed, KnowsNext}, Called.schedules, Calling.{clones, pins, begins, stores}}
 use Rattle.pagable_laws.proofs.{ReadingSteps.{reading-feels, reading-knows}, ReadingStepsMachine.{LoadsTodo, loads-todo}, Trees.same_some}
@@ -134,27 +134,17 @@ module _ {N B W : Type 0} (m : Seen N B W) (v : ℕ) (s s' : Site) where
       }
 
   pub walk-goes : (todo : List Todo) (step : Took W) → Does m v s todo step s' → WF todo
-  walk-goes (to_start r place ∷ below) (Took.Claim i (Ok Claim.Claimed)) (is, c) = let t = c.finds.1.2 in rests _ (λ n x b. b) t.list_is (λ well. refl) (alike t.pager_stays)
   walk-goes (to_start r place ∷ below) (Took.Claim i (Ok (Claim.Known key height))) (is, c) = grind (arith, nat_tests, rests, given-known, alike)
   walk-goes (to_start r place ∷ below) (Took.Claim i (Ok Claim.Waiting)) (is, c) =
       let t = c.finds.1.2 in
       record { change = nothing_felt; goes = quiet-goes nothing_felt (alike t.pager_stays); feels = λ front well. walk-rests (λ n x b. b) (no-load s' _ (t.list_is ∙ front) refl); knows = λ whole k q n known. absurd known }
-  walk-goes (to_start r place ∷ below) (Took.Claim i (Ok Claim.AlreadyFailed)) (is, c) = let t = c.finds.1.2 in rests _ (λ n x b. b) t.list_is (λ well. refl) (alike t.pager_stays)
-  walk-goes (to_start r place ∷ below) (Took.Claim i (Err f)) (is, c) = let t = c.refused.1 in rests _ (λ n x b. b) t.list_is (λ well. refl) (alike t.pager_stays)
   walk-goes (to_pin r place ∷ below) (Took.Pin i (Ok (PinStep.Held k))) (is, p) = rests _ (λ n x b. b) p.pins.2.list_is (λ well. refl) (at-once v r p.pins.0 k p.pins.1)
   walk-goes (to_pin r place ∷ below) (Took.Pin i (Ok (PinStep.LoadBegun l))) (is, p) = load-begins r place _ below p.pins.0 l p.pins.1 p.pins.2.list_is
-  walk-goes (to_pin r place ∷ below) (Took.Pin i (Ok PinStep.LoadWent)) (is, p) = absurd p.pins
   walk-goes (to_pin r place ∷ below) (Took.Pin i (Err f)) (is, p) = begun _ (λ n x b. b) p.refused.1.list_is (λ well. refl) (pin-refused v r f p.refused.0)
   walk-goes (to_load r place through reading ∷ below) step does = loads-on r place through reading below step does
   walk-goes (to_write r place through ∷ below) (Took.Write i (Ok out)) (is, p) = rests _ (λ n x b. b) p.writes.list_is (λ well. started place _ _ below refl) (alike p.writes.pager_stays)
-  walk-goes (to_write r place through ∷ below) (Took.Write i (Err f)) (is, p) = rests _ (λ n x b. b) p.refused.1.list_is (λ well. refl) (alike p.refused.1.pager_stays)
-  walk-goes (to_finish o ∷ below) (Took.Store i (Ok key)) (is, p) = rests _ (λ n x b. b) p.goes.list_is (λ well. refl) (stores (Ok key) p.stored)
-  walk-goes (to_finish o ∷ below) (Took.Store i (Err f)) (is, p) = rests _ (λ n x b. b) p.refused.list_is (λ well. refl) (stores (Err f) p.stored)
-  walk-goes (to_item written keys ∷ below) (Took.Store i (Ok key)) (is, p) = rests _ (λ n x b. b) p.goes.list_is (λ well. refl) (stores (Ok key) p.stored)
-  walk-goes (to_item written keys ∷ below) (Took.Store i (Err f)) (is, p) = rests _ (λ n x b. b) p.refused.list_is (λ well. refl) (stores (Err f) p.stored)
   walk-goes (to_set r through key height ∷ below) (Took.SetKey i (Ok u)) (is, p) = sets r through key height below _ (Ok u) p.sets p.goes.list_is refl
   walk-goes (to_set r through key height ∷ below) (Took.SetKey i (Err f)) (is, p) = sets r through key height below _ (Err f) p.sets p.refused.list_is refl
-  walk-goes (to_publish r key height ∷ below) (Took.Publish i k h) (is, same_key, same_height, t) = rests _ (λ n x b. b) t.list_is (λ well. refl) (alike t.pager_stays)
   walk-goes (to_release r key height ∷ below) (Took.Release i) (is, falls, g) = rests _ (λ n x b. b) g.list_is (given r key height below) (fell-anyhow falls)
   walk-goes (to_fail fault back ∷ below) Took.Fail (gives, shelf, list_is) = rests _ (λ n x b. b) list_is (λ well. refl) (gives-back v back gives)
-  walk-goes _ step does = absurd does
+  walk-goes _ step does = grind (arith, nat_tests, rests, alike, stores)
