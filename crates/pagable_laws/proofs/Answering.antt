@@ -6,7 +6,7 @@ use Rattle.pagable_laws.proofs.Words.{to_set, to_publish, to_release, to_fail, T
 use Rattle.pagable_laws.proofs.Words.{MachineState, world_of, kids_of, HandlesAreWhole, IsMachineWhole, KeyFits, NodeStands, Represents, StandsFor, ReadsItsTypes, Meets, meets-of-item}
 use Rattle.pagable_laws.proofs.Words.{meets-entry, meets-below, AreKeysOf, IsLeftPagedOut, HasKeyOf, LeavesAll, IsKeyOfTask, Ground, ground_of, IsOfEntry, Waits, Walks, WorkFits, IsDone, KeyIsSet}
 use Rattle.pagable_laws.proofs.{Words.{AllHold, HasHandle, KeysHeld, KeysAreRight}, Merkle.{one_key, one_item_key, tree_readable}, Trees.same_some, Following.{IdentityStands, known-of, keys-of}}
-use Rattle.pagable_laws.proofs.{Following.{tree-form, held-of, cell-of}, Taking.row-held, Coming.updated-at, Shelves.{KeepsKeys, keys-on, keys-same}, Stepping.{all-known, stands-for}}
+use Rattle.pagable_laws.proofs.{Following.{tree-form, held-of, cell-of}, Taking.row-held, Coming.updated-at, Stepping.{KeepsKeys, keys-on, keys-same, all-known, stands-for}}
 
 -- ---- one step of a worker
 

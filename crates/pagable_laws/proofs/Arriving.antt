@@ -1,12 +1,11 @@
 -- What each chain comes to: claims, workers and loads; and with trees, the headline.
 use Rattle.pagable_laws.proofs.Words.{◌≡◌, ℕ, ◌+◌, ◌≤◌, ◌==◌, ◌&&◌, Bool, true, false, List, [], ◌∷◌, refl, ap, sym, subst, ◌∙◌, arith, Ok, Option, Some, None, is_some, if◌then◌else◌, nat_tests}
-use Rattle.pagable_laws.proofs.Words.{sum_by-append, sum_by-cons, Identity, WorkerNumber, one, times, Event, EventReply, Took, WorkerReply, Shelf, Slot, Todo}
-use Rattle.pagable_laws.proofs.Words.{Walking, World, Seen, Site, Does, Happens, WorkerSteps, step_of, steps_of, is_claim_of, is_on_table, claims_made, ◌||◌}
-use Rattle.pagable_laws.proofs.Words.{◌++◌, append_assoc, is_none, Among, WorkerAnswer, HandleRow, Owner, owner_worker, is_owned_by, is_owner, OpenLoad, is_workers_load, MachineState, world_of}
-use Rattle.pagable_laws.proofs.Words.{IsMachineWhole, IsIdle, MayOwnLoad, Moment, AreMoments, state_after, events_of, replies_of, InOrder, TableMeets, HasLetGo, WorkerIsRight, LoadsHaveStepsLeft}
-use Rattle.pagable_laws.proofs.{Chains.trees_stay, Changing.ShelfGrows, Changing.is-same, Changing.puts-slot, Changing.grows, Coming.updated-at, Coming.StandsIn, Coming.EventTurns}
-use Rattle.pagable_laws.proofs.{Going.true-false, Coming.event-turns, Coming.turns-stand, Coming.idle-stands, Histories.Went, Histories.HasGone, Histories.goes-on, Holding.KeepsTask, Holding.Turned, Holding.keeps-task}
-use Rattle.pagable_laws.proofs.{Once.once_each, ReadingStepsWithin.loads-bounded, Standing.WalkingStands, Standing.is_failing, Standing.is_open_in, Sums.sum-zero, Words.WorkIsRight, Words.HeadlineLaw}
+use Rattle.pagable_laws.proofs.Words.{sum_by-append, sum_by-cons, Identity, WorkerNumber, one, times, Event, EventReply, Took, WorkerReply, Shelf, Slot, Todo, Walking, World, Seen, Site, Does}
+use Rattle.pagable_laws.proofs.Words.{Happens, WorkerSteps, step_of, steps_of, is_claim_of, is_on_table, claims_made, ◌||◌, ◌++◌, append_assoc, is_none, Among, WorkerAnswer, HandleRow, Owner}
+use Rattle.pagable_laws.proofs.Words.{owner_worker, is_owned_by, is_owner, OpenLoad, is_workers_load, MachineState, world_of, IsMachineWhole, IsIdle, MayOwnLoad, Moment, AreMoments, state_after}
+use Rattle.pagable_laws.proofs.{Words.{events_of, replies_of, InOrder, TableMeets, HasLetGo, WorkerIsRight, LoadsHaveStepsLeft, WorkIsRight, HeadlineLaw}, Chains.trees_stay, Standing.ShelfGrows}
+use Rattle.pagable_laws.proofs.{Standing.{is-same, puts-slot, grows, true-false, KeepsTask, Turned, keeps-task, WalkingStands, is_failing, is_open_in}, Coming.{updated-at, StandsIn, EventTurns}}
+use Rattle.pagable_laws.proofs.{Coming.{event-turns, turns-stand, idle-stands, Went, HasGone, goes-on}, Once.once_each, ReadingStepsWithin.loads-bounded, Sums.sum-zero}
 use Rattle.std.proofs.Common.{append-nil}
 
 -- ---- claims: each event claims on a table only what wasn't claimed there, and what one worker claimed is among its table's claims

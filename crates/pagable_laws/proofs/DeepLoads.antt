@@ -5,7 +5,7 @@ use Rattle.pagable_laws.proofs.Words.{owner_worker, Core, OpenLoad, Frame, Readi
 use Rattle.pagable_laws.proofs.Words.{node_fault, root_fault, cell_fault, Next, asks, is_faulty, next_in, need_at, need_of, needs_nested, is_broken, RefusesBlob, RefusesNested}
 use Rattle.pagable_laws.proofs.Words.{RefusesRoot, Fails, handles_of, Happens, after_kinds, LeadsDown, is-there, goes-down, ReadsTooDeep, MachineState, world_of, FramesFit, IsReadingOf, of_caller}
 use Rattle.pagable_laws.proofs.{Words.{of_worker, LoadIsDeep, DeepLoadLaw}, Trees.same_some, Fitting.asked, Chains.IsGoingOn, Deeply.along-first, ReadingStepsKinds.{kinds_of, asks-by-kinds}}
-use Rattle.pagable_laws.proofs.{ReadingStepsKinds.faulty-by-kinds, ReadingStepsMachine.reading-stands, Asking.FramesAsked, KnownSteps.eager-nested, Sound.either, Soundly.{by-all, by-handle-row}}
+use Rattle.pagable_laws.proofs.{ReadingStepsKinds.faulty-by-kinds, ReadingSteps.reading-stands, Asking.FramesAsked, KnownSteps.eager-nested, Sound.either, Soundly.{by-all, by-handle-row}}
 use Rattle.pagable_world.specs.Loads.{Does}
 use Rattle.pagable_world.specs.Workers as workers
 

@@ -3,8 +3,8 @@ use Rattle.pagable_laws.proofs.Words.{nat_tests, ◌≡◌, ℕ, ◌⊎◌, inl,
 use Rattle.pagable_laws.proofs.Words.{to_start, Walking, Seen, IsLawful, Site, Does, Happens, IsMetFailure, MachineState, world_of, IsMachineWhole, IsIdle, StandsFor, ReadsItsTypes, HoldsSettled}
 use Rattle.pagable_laws.proofs.Words.{Moment, AreMoments, Fact, TreesAlong, IsTooDeepTask, IsFormlessTask, KeyIsShallow, ShallowLaw, MetDepthAlone, DepthIsTold, ToldDepthLaw, WaitsForAsker, arith}
 use Rattle.pagable_laws.proofs.{Words.{ClaimIsDeep, DeepClaimLaw, ground_of, Walks, WorkFits}, Trees.same_some, Coming.{StandsIn, event-turns, updated-at}, Answering.answered, Arriving.headline_law}
-use Rattle.pagable_laws.proofs.{Chains.{IsGoingOn, idle-goes, goes}, Standing.{AllStand, Covers}, Heights.TodoLow, Climbing.claim-deep, Formed.task-has-forms, HeightSteps.HeightsIn}
-use Rattle.pagable_laws.proofs.{HeightSteps.{heights-at-first, heights-on}, Shallow.{task-not-deep, answered-low}}
+use Rattle.pagable_laws.proofs.{Chains.{IsGoingOn, idle-goes, goes}, Standing.{AllStand, Covers}, Heights.{TodoLow, claim-deep, HeightsIn, heights-at-first, heights-on}, Formed.task-has-forms}
+use Rattle.pagable_laws.proofs.Shallow.{task-not-deep, answered-low}
 
 module _ {N B W E : Type 0} (m : Seen N B W) (s s' : MachineState N E) (trees trees' : ℕ → Tree) (fit : WorkFits m.values s trees) (low : HeightsIn (world_of s)) where
   key-is-shallow : (event : Event N B W) (reply : EventReply N B W) → Happens m (world_of s) event reply (world_of s') → KeyIsShallow m.values s trees event reply s' trees'

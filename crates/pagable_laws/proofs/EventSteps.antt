@@ -1,15 +1,14 @@
 -- What trees feel of each event that doesn't close the storage.
-use Rattle.pagable_laws.proofs.Words.{nat_tests, ◌≡◌, ℕ, ◌+◌, ◌<◌, ◌≤◌, Bool, true, false, List, refl, sym, ap, subst, ◌∙◌, inl, inr, arith, Option, Some, None, ◌⊎◌, Ok, Err, Result}
-use Rattle.pagable_laws.proofs.Words.{is_some, if◌then◌else◌, OptionalDataKey, Error, HandleNumber, LoadNumber, WorkerNumber, Tree, updated, if_there, Owner, Beginning, Event, EventReply, LoadReply}
-use Rattle.pagable_laws.proofs.Words.{TableNumber, WorkerAnswer, WorkerReply, only_handle, Core, Cell, OpenLoad, Reading, Shelf, Todo, Task}
-use Rattle.pagable_laws.proofs.Words.{Walking, World, Alike, Seen, Values, type_at, key_at, Site, first_todo, fresh, without_worker, WorkerEnds, is_workers_load, answer_after, BeginsKey}
-use Rattle.pagable_laws.proofs.Words.{ReadingsAre, Stays, begun_readings, KeyStarted, Starts, new_walking, Ends, WorkerSteps, Happens, with_worker, MachineState, world_of, IsWhole, HandlesAreWhole}
-use Rattle.pagable_laws.proofs.Words.{IsMachineWhole, IsNewNode, EventBrings, TodoBrings, IsReadingOf, of_caller, of_worker, KeepsOpen, LeavesCache, Change, nothing_felt, CoreGoes, SameNode, NewNode}
-use Rattle.pagable_laws.proofs.{Words.{StaysAway, KeepsReadings, EventFeels, by-call, by-reading, by-key, by-nothing, StepFeels, IsFresh, WorkFits, Waits, Walks, Ground}, Goes.{parts, le-self}}
-use Rattle.pagable_laws.proofs.{Goes.{Quiet, Goes, Kept, rows-self, quiet-then, quiet-goes, goes-quiet, alike, fell-anyhow, at-updated, KnowsNext}, ReadingStepsMachine.reading-was}
-use Rattle.pagable_laws.proofs.{ReadingStepsMachine.{steps-load, stepped-load, steps-worker, stepped-worker}, WalkSteps.{NoLoad, WaitsWell, front_reading, LoadsAnew, started, WalkFeels, walk-loads}}
-use Rattle.pagable_laws.proofs.{WalkSteps.{walk-sets, walk-rests, walk-goes}, Called.{calls-go, call-knows}, Calling.{some-moved, begins, begins-key}, GoodReferences.alike-away}
-use Rattle.pagable_laws.proofs.{ReadingSteps.{caller-free, reading-feels, feels-alike, reading-knows}, Trees.same_some}
+use Rattle.pagable_laws.proofs.Words.{nat_tests, ◌≡◌, ℕ, ◌+◌, ◌<◌, ◌≤◌, Bool, true, false, List, refl, sym, ap, subst, ◌∙◌, inl, inr, arith, Option, Some, None, ◌⊎◌, Ok, Err, Result, is_some}
+use Rattle.pagable_laws.proofs.Words.{if◌then◌else◌, OptionalDataKey, Error, HandleNumber, LoadNumber, WorkerNumber, Tree, updated, if_there, Owner, Beginning, Event, EventReply, LoadReply}
+use Rattle.pagable_laws.proofs.Words.{TableNumber, WorkerAnswer, WorkerReply, only_handle, Core, Cell, OpenLoad, Reading, Shelf, Todo, Task, Walking, World, Alike, Seen, Values, type_at, key_at, Site}
+use Rattle.pagable_laws.proofs.Words.{first_todo, fresh, without_worker, WorkerEnds, is_workers_load, answer_after, BeginsKey, ReadingsAre, Stays, begun_readings, KeyStarted, Starts, new_walking}
+use Rattle.pagable_laws.proofs.Words.{Ends, WorkerSteps, Happens, with_worker, MachineState, world_of, IsWhole, HandlesAreWhole, IsMachineWhole, IsNewNode, EventBrings, TodoBrings, IsReadingOf}
+use Rattle.pagable_laws.proofs.Words.{of_caller, of_worker, KeepsOpen, LeavesCache, Change, nothing_felt, CoreGoes, SameNode, NewNode, StaysAway, KeepsReadings, EventFeels, by-call, by-reading}
+use Rattle.pagable_laws.proofs.{Words.{by-key, by-nothing, StepFeels, IsFresh, WorkFits, Waits, Walks, Ground}, Goes.{parts, le-self, Quiet, Goes, Kept, rows-self, quiet-then, quiet-goes, goes-quiet}}
+use Rattle.pagable_laws.proofs.{Goes.{alike, fell-anyhow, at-updated, KnowsNext}, ReadingSteps.{reading-was, steps-load, stepped-load, steps-worker, stepped-worker, NoLoad, WaitsWell, front_reading}}
+use Rattle.pagable_laws.proofs.{ReadingSteps.{LoadsAnew, started, WalkFeels, walk-loads, walk-sets, walk-rests, walk-goes, caller-free, reading-feels, feels-alike, reading-knows}, Called.calls-go}
+use Rattle.pagable_laws.proofs.{Called.{call-knows, some-moved, begins, begins-key}, GoodReferences.alike-away, Trees.same_some}
 use Rattle.pagable_world.specs.Runs.{Does}
 
 -- ---- workers that come and go

@@ -1,10 +1,9 @@
 -- What each sort of step brings fits trees: which trees the nodes have afterwards, and that values, keys and what becomes known fit them.
-use Rattle.pagable_laws.proofs.Words.{◌≡◌, ℕ, ◌+◌, ◌≤◌, ◌==◌, Bool, true, false, Some, None, ◌⊎◌, refl, sym, ap, ◌∙◌, subst, arith, if◌then◌else◌, is_some, nat_tests, OptionalDataKey}
-use Rattle.pagable_laws.proofs.Words.{Owner, Call, Reply, ArcRef, Tree, tree, ReadsTree, type_of, Among, updated, is_pinned_kind, Values, IsLawful, is_here}
-use Rattle.pagable_laws.proofs.Words.{first_key, PagerState, WellFormed, Represents, ReadsNodeTree, SameTrees, CallBrings, IsNewNode, HoldsSettled, AsksWell}
-use Rattle.pagable_laws.proofs.Words.{ValueLeads, Change, nothing_felt, sets_key, knows_node, bears_node, bears_known, CoreGoes, StaysAway, AreGood, CallFeels, feels-nothing}
-use Rattle.pagable_laws.proofs.{Words.{feels-birth, feels-away, feels-key, feels-known, feels-adopted, feels-lazy, feels-end, ChangeFits}, Trees.same_some, Following.{given-of, cell-of}}
-use Rattle.pagable_laws.proofs.{Fitting.tree-stays, Leading.{leads-on, led, own-refs, value-leads}, TreesGoing.either-side, Coming.updated-at}
+use Rattle.pagable_laws.proofs.Words.{◌≡◌, ℕ, ◌+◌, ◌≤◌, ◌==◌, Bool, true, false, Some, None, ◌⊎◌, refl, sym, ap, ◌∙◌, subst, arith, if◌then◌else◌, is_some, nat_tests, OptionalDataKey, Owner, Call}
+use Rattle.pagable_laws.proofs.Words.{Reply, ArcRef, Tree, tree, ReadsTree, type_of, Among, updated, is_pinned_kind, Values, IsLawful, is_here, first_key, PagerState, WellFormed, Represents}
+use Rattle.pagable_laws.proofs.Words.{ReadsNodeTree, SameTrees, CallBrings, IsNewNode, HoldsSettled, AsksWell, ValueLeads, Change, nothing_felt, sets_key, knows_node, bears_node, bears_known}
+use Rattle.pagable_laws.proofs.Words.{CoreGoes, StaysAway, AreGood, CallFeels, feels-nothing, feels-birth, feels-away, feels-key, feels-known, feels-adopted, feels-lazy, feels-end, ChangeFits}
+use Rattle.pagable_laws.proofs.{Trees.same_some, Following.{given-of, cell-of}, Fitting.tree-stays, Leading.{leads-on, led, own-refs, value-leads}, TreesGoing.either-side, Coming.updated-at}
 
 -- ---- trees with one more
 

@@ -2,7 +2,7 @@
 use Rattle.pagable_laws.proofs.Words.{nat_tests, ◌≡◌, ℕ, suc, ◌+◌, ◌≤◌, Bool, true, false, List, [], ◌∷◌, length, Option, Some, sym, ap, subst, ◌∙◌, inl, inr, if◌then◌else◌, arith}
 use Rattle.pagable_laws.proofs.Words.{slice_get, blob_of, Error, ArcRef, Kind, Identity, Blob, Meaning, Tree, type_of, is_eager, above, longest_path, identity_of, Shelf, Written, Frame}
 use Rattle.pagable_laws.proofs.Words.{Values, Next, reads, asks, is_faulty, next_in, need_at, need_of, needs_nested, needs_lazy, is_broken, IsPublished, MachineState, world_of, FramesFit}
-use Rattle.pagable_laws.proofs.{Words.{ReadsItsTypes, AreKeysOf, WorkFits, Needs}, Trees.same_some, Fitting.asked, Heights.AllLow, HeightSteps.HeightsIn, Asking.{IsFormOf, GotAsked, FramesAsked}}
+use Rattle.pagable_laws.proofs.{Words.{ReadsItsTypes, AreKeysOf, WorkFits, Needs}, Trees.same_some, Fitting.asked, Heights.{AllLow, HeightsIn}, Asking.{IsFormOf, GotAsked, FramesAsked}}
 use Rattle.pagable_laws.proofs.{Asking.{NextOf, asks-known, all-read, next-known, all-got}, ReadingStepsKinds.kinds_of}
 
 -- the blob is a form of some value, and all of its references were got

@@ -28,46 +28,27 @@ pub mod Goes
 pub mod Outlasting
 pub mod PinSteps
 pub mod GoodReferences
-mod Calling
 mod Called
-mod ReadingStepsRows
-mod ReadingSteps
-mod ReadingStepsMachine
 mod ReadingStepsKinds
-mod ReadingStepsBound
-mod ReadingStepsWaiting
 mod ReadingStepsWithin
-pub mod ReadingStepsHanding
-mod ReadingStepsHeld
-mod ReadingStepsGive
-pub mod WalkSteps
+pub mod ReadingStepsGive
+pub mod ReadingSteps
 pub mod EventSteps
 mod Once
 mod Standing
-mod Changing
-mod Going
-mod Turning
-mod Holding
 mod Coming
-mod Histories
 pub mod Arriving
 mod Decoding
 mod Fitting
 mod Following
 pub mod Naming
-mod KeysGoing
-pub mod Sparing
-pub mod SparingSteps
-mod Shelves
 mod Stepping
-mod Publishing
 mod Leading
 mod TreesGoing
 pub mod Taking
 mod Felt
 mod Answering
 mod Brought
-mod Staying
 mod Stopping
 mod Asking
 mod KnownSteps
@@ -77,20 +58,16 @@ mod States
 mod Walks
 mod Loaded
 mod Level
-pub mod Lengths
-mod Heights
-mod HeightSteps
 mod Shallow
-mod Climbing
+mod Heights
 mod Formed
 mod Deeply
-pub mod Usable
+pub mod SparingSteps
 mod Identities
 mod Known
 mod Sound
 mod Soundly
 mod Apart
-mod LoadsLive
 mod LoadsReady
 mod OnePiece
 mod DeepLoads

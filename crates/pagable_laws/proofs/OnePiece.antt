@@ -6,8 +6,8 @@ use Rattle.pagable_laws.proofs.Words.{references_fault, handle_fault, BeginCall,
 use Rattle.pagable_laws.proofs.Words.{MachineState, world_of, IsMachineWhole, of_caller, FrameFits, FramesFit, ReadsItsTypes, Moment, AreMoments, TreesAlong, Turn, of_load, of_nobody, turn_of}
 use Rattle.pagable_laws.proofs.{Words.{StandTogether, IsOfChance, IsLoadOfPagedOut, LoadIsSound, IsBeginOf, HasBegun, SoundLaw, FramesHeld}, Trees.same_some, Sums.{self-number, same-number}}
 use Rattle.pagable_laws.proofs.{Coming.{event-turns, updated-at}, Chains.{IsGoingOn, idle-goes, goes}, Taking.row-held, Fitting.first-fits, Decoding.decodes, Outlasting.{stands-whole, stands-alike}}
-use Rattle.pagable_laws.proofs.{ReadingStepsMachine.reading-stands, ReadingStepsGive.got-typed, HeightSteps.{HeightsIn, heights-at-first, heights-on}, Sound.{by-chance, by-references, by-handle}}
-use Rattle.pagable_laws.proofs.{Known.IsForm, Soundly.load-cause, Apart.{fine, reads-once}, LoadsLive.{times_got, LoadReady, once-none, apart-once, got-cons, with-one}, LoadsReady.goes-ready}
+use Rattle.pagable_laws.proofs.{ReadingSteps.reading-stands, ReadingStepsGive.got-typed, Heights.{HeightsIn, heights-at-first, heights-on}, Sound.{by-chance, by-references, by-handle}}
+use Rattle.pagable_laws.proofs.{Known.IsForm, Soundly.load-cause, Apart.{fine, reads-once}, LoadsReady.{times_got, LoadReady, once-none, apart-once, got-cons, with-one, goes-ready}}
 use Rattle.pagable_world.specs.{Loads.Does}
 
 -- ---- whose turn it is

@@ -2,7 +2,7 @@
 use Rattle.pagable_laws.proofs.Words.{nat_tests, ◌≡◌, ℕ, ◌<◌, ◌≤◌, List, refl, sym, subst, ◌∙◌, arith, max, Some, pair, variant, reference, followed, longest_path, above, height}
 use Rattle.pagable_laws.proofs.Words.{deepest_path, ArcRef, Identity, Meaning, Tree, Took, WorkerAnswer, identity_of, Shelf, Todo, Task, of_item, of_entry, Values, Seen}
 use Rattle.pagable_laws.proofs.Words.{Site, Does, IsPublished, answer_after, MachineState, world_of, IsLongBelow, IsTooDeepTask, Ground, FollowsTo, pair-follows, variant-follows, reference-follows}
-use Rattle.pagable_laws.proofs.{Words.{Waits, Walks, WorkFits}, Heights.{IsLow, AllLow, WaitsLow, TodoLow, all-low}, HeightSteps.HeightsIn}
+use Rattle.pagable_laws.proofs.{Words.{Waits, Walks, WorkFits}, Heights.{IsLow, AllLow, WaitsLow, TodoLow, all-low, HeightsIn}}
 
 -- the height of the meaning is within this, and no path in it is too long
 record IsShallow (limit : ℕ) (m : Meaning ⊥) : Type 0 where

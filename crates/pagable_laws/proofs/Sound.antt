@@ -6,7 +6,7 @@ use Rattle.pagable_laws.proofs.Words.{references_fault, load_fault, AreHandlesFu
 use Rattle.pagable_laws.proofs.Words.{need_of, needs_nested, needs_lazy, to_adopt, is_broken, IsDecoded, RefusesBlob, RefusesNested, RefusesNode}
 use Rattle.pagable_laws.proofs.Words.{RefusesRoot, IsOfKey, EndsClosed, Fails, reading_at, MachineState, world_of, IsMachineWhole, StandsFor, FitsRoot, FramesFit, of_caller}
 use Rattle.pagable_laws.proofs.{Words.{ReadsItsTypes, IsOfChance, IsPagedOutAs, IsLoadOfPagedOut, WorkFits}, Trees.same_some, Sums.self-number, Taking.adopted-over, Fitting.first-typed}
-use Rattle.pagable_laws.proofs.{HeightSteps.HeightsIn, Asking.FramesAsked, Known.{IsForm, root-there, needed, not-broken, formed}, KnownSteps.{ReadingsAsked, eager-nested}}
+use Rattle.pagable_laws.proofs.{Heights.HeightsIn, Asking.FramesAsked, Known.{IsForm, root-there, needed, not-broken, formed}, KnownSteps.{ReadingsAsked, eager-nested}}
 use Rattle.std.proofs.Common.{rules}
 
 -- ---- refusals

@@ -2,7 +2,7 @@
 use Rattle.pagable_laws.proofs.Words.{arith, nat_tests, ◌≡◌, ℕ, Bool, List, [], ◌∷◌, Option, Some, None, Ok, Err, inl, inr, refl, subst, ◌∙◌, Error, HandleRow, Owner, Mode, LoadAnswer}
 use Rattle.pagable_laws.proofs.Words.{LoadReply, Event, EventReply, ArcRef, HandleNumber, LoadNumber, Tree, or_else, any_mode, Core, OpenLoad, Seen, IsLawful, refused_if, row_fault, reference_fault}
 use Rattle.pagable_laws.proofs.Words.{references_fault, handle_fault, LoadSteps, Happens, MachineState, world_of, ReadsItsTypes, IsLoadOfPagedOut, IsOfHandles, LoadIsFaultless, FaultlessLaw}
-use Rattle.pagable_laws.proofs.{Chains.IsGoingOn, HeightSteps.HeightsIn, Deeply.along-first, Sound.{Cause, by-chance, by-references, by-handle, cause}}
+use Rattle.pagable_laws.proofs.{Chains.IsGoingOn, Heights.HeightsIn, Deeply.along-first, Sound.{Cause, by-chance, by-references, by-handle, cause}}
 use Rattle.std.proofs.Common.{rules}
 use Rattle.pagable_world.specs.Loads.{Does}
 
