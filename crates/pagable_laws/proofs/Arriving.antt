@@ -6,7 +6,7 @@ use Rattle.pagable_laws.proofs.Words.{owner_worker, is_owned_by, is_owner, OpenL
 use Rattle.pagable_laws.proofs.{Words.{events_of, replies_of, InOrder, TableMeets, HasLetGo, WorkerIsRight, LoadsHaveStepsLeft, WorkIsRight, HeadlineLaw}, Chains.trees_stay, Standing.ShelfGrows}
 use Rattle.pagable_laws.proofs.{Standing.{is-same, puts-slot, grows, true-false, KeepsTask, Turned, keeps-task, WalkingStands, is_failing, is_open_in}, Coming.{updated-at, StandsIn, EventTurns}}
 use Rattle.pagable_laws.proofs.{Coming.{event-turns, turns-stand, idle-stands, Went, HasGone, goes-on}, Once.once_each, ReadingStepsWithin.loads-bounded, Sums.sum-zero}
-use Rattle.std.proofs.Common.{append-nil}
+use Rattle.std.{proofs.Common.append-nil, proofs.lemmas.Bool.false_from_ne_true}
 
 -- ---- claims: each event claims on a table only what wasn't claimed there, and what one worker claimed is among its table's claims
 
@@ -188,11 +188,8 @@ module _ {N E B W : Type 0} (m : Seen N B W) (s : MachineState N E) (work : Stan
 
       load : (l : ℕ) (o : Option OpenLoad) → s.pager.core.loads l ≡ o → is_workers_load n (s.pager.core.loads l) ≡ false
       load l None e = ap (is_workers_load n) e
-      load l (Some q) e = ap (is_workers_load n) e ∙ of (is_owner (owner_worker n) q.owner) refl
-        where
-          of : (b : Bool) → is_owner (owner_worker n) q.owner ≡ b → is_owner (owner_worker n) q.owner ≡ false
-          of true f = true-false (subst (λ o. MayOwnLoad s.pager.core o) (owner-is n q.owner f) (whole.pager.whole.loads.owned l q e)) rests
-          of false f = f
+      load l (Some q) e = ap (is_workers_load n) e ∙ false_from_ne_true (is_owner (owner_worker n) q.owner) (λ f.
+          true-false (subst (λ o. MayOwnLoad s.pager.core o) (owner-is n q.owner f) (whole.pager.whole.loads.owned l q e)) rests)
 
 -- all that steps have come to, where open loads have a step left
 work-right : {N E B W : Type 0} (m : Seen N B W) (s : MachineState N E) (moments : List (Moment N E B W)) → IsMachineWhole m.values s → IsIdle s → AreMoments m s moments

@@ -1,15 +1,15 @@
 -- What each event does to workers and tables: it touches one worker, and claims of its own.
-use Rattle.pagable_laws.proofs.Words.{◌≡◌, ℕ, true, List, [], ◌∷◌, refl, ap, sym, subst, ◌∙◌, Ok, Option, Some, None, ArcRef, Identity, WorkerAnswer, Claim, Took, identity_of, no_result}
+use Rattle.pagable_laws.proofs.Words.{◌≡◌, ℕ, inl, inr, true, List, [], ◌∷◌, refl, ap, sym, subst, ◌∙◌, Ok, Option, Some, None, ArcRef, Identity, WorkerAnswer, Claim, Took, identity_of, no_result}
 use Rattle.pagable_laws.proofs.Words.{answer_of_fault, Todo, to_start, to_write, to_item, to_publish, to_release, to_fail, arith, Task, Seen, Site, Does, give, give_known, with_wait, answer_after}
 use Rattle.pagable_laws.proofs.Words.{IsPublished, ◌+◌, ◌<◌, ◌≤◌, ◌==◌, Bool, false, nat_eq, if◌then◌else◌, nat_tests, WorkerNumber, updated, Call, Reply, Event, EventReply, TableNumber, WorkerReply}
 use Rattle.pagable_laws.proofs.Words.{Owner, Core, Alike, Shelf, Slot, Walking, World, CallStep, Happens, Stays, WorkStays, WorkIs, Starts, no_shelf, new_walking, WorkerSteps, Ends, MachineState}
 use Rattle.pagable_laws.proofs.Words.{world_of, IsIdle, step_of, ◌*◌, ◌-◌, ◌++◌, Err, drop, length, max, length-drop, sum_by-cons, sum_by-append, one, times, above, Open, to_pin, to_load, to_finish}
 use Rattle.pagable_laws.proofs.Words.{to_set, Written, next_start, first_todo, is_counted, Follows, is_claim, references_written, own_references, zero, suc, Error, Among, MetError, FailedElsewhere}
-use Rattle.pagable_laws.proofs.{Words.{IsMetFailure, steps_after, Leads}, Standing.{puts-slot, SlotChanges, ShelfGrows, some-none, some-same, grows, same-slots, meets-grow, CoversBy, Goes, plain}}
-use Rattle.pagable_laws.proofs.Standing.{fails, swaps, gives, given-open, all-stay, SameSlots, Turned, work-stands, is-quiet, is-started, is-stepped, is_open_in, AllStand, Covers, HasNoFailed}
-use Rattle.pagable_laws.proofs.{Standing.{WorkStands, claimed, written-goes, published-goes, failed-goes, is_failed}, Called.calls-go, ReadingSteps.{caller-free, reading-feels, walk-goes}}
-use Rattle.pagable_laws.proofs.Nexts.{steps_follow}
-use Rattle.std.{proofs.Common.{length-append, append-nil}, specs.List.sum_by}
+use Rattle.pagable_laws.proofs.{Words.{IsMetFailure, steps_after, Leads}, Standing.{same-worker, puts-slot, SlotChanges, ShelfGrows, some-none, some-same, grows, same-slots, meets-grow, CoversBy}}
+use Rattle.pagable_laws.proofs.Standing.{Goes, plain, fails, swaps, gives, given-open, all-stay, SameSlots, Turned, work-stands, is-quiet, is-started, is-stepped, is_open_in, AllStand, Covers}
+use Rattle.pagable_laws.proofs.{Standing.{HasNoFailed, WorkStands, claimed, written-goes, published-goes, failed-goes, is_failed}, Called.calls-go, ReadingSteps.{caller-free, reading-feels}}
+use Rattle.pagable_laws.proofs.{ReadingSteps.walk-goes, Nexts.steps_follow}
+use Rattle.std.{proofs.Common.{length-append, append-nil}, specs.List.sum_by, proofs.lemmas.Bool.{false_from_ne_true, cases_Bool}}
 use Rattle.pagable_laws.proofs.Called as calling
 
 -- ---- whatever a worker does, what stands of its list and of its table stands afterwards
@@ -474,11 +474,9 @@ failed-elsewhere : {N B W : Type 0} (m : Seen N B W) (v : ℕ) (s s' : Site) (to
 failed-elsewhere m v s s' (to_start r place ∷ below) i (is, c) clean =
     let found = c.finds.1.1 in
     let claimed = ap s.shelf.slots is ∙ found.1 in
-    record { slot = found.0; claimed = claimed; of_another = by (found.0.worker == v) refl (λ own. clean i found.0 claimed own); is_failed = found.2 }
-  where
-    by : (b : Bool) → (c.finds.1.1.0.worker == v) ≡ b → (c.finds.1.1.0.worker ≡ v → is_failed c.finds.1.1.0.outcome ≡ false) → (c.finds.1.1.0.worker == v) ≡ false
-    by false e so = e
-    by true e so = let a = so (grind (arith, nat_tests)) in let b = ap is_failed c.finds.1.1.2 in absurd (cc)
+    let other : (found.0.worker == v) ≡ false =
+    false_from_ne_true (found.0.worker == v) (λ e. let a = clean i found.0 claimed (same-worker found.0.worker v e) in let b = ap is_failed found.2 in cc) in
+    record { slot = found.0; claimed = claimed; of_another = other; is_failed = found.2 }
 failed-elsewhere m v s s' todo i does clean = absurd does
 
 module _ {N B W : Type 0} (m : Seen N B W) (u u' : World) (grow : (t : ℕ) → ShelfGrows (u.work.shelves t) (u'.work.shelves t)) where
@@ -560,14 +558,10 @@ module _ {N B W : Type 0} (m : Seen N B W) (u u' : World) (grow : (t : ℕ) → 
 pub goes-on : {N B W : Type 0} (m : Seen N B W) (u u' : World) (event : Event N B W) (reply : EventReply N B W) → StandsIn u → EventTurns m u event reply u' → (n : ℕ) (past : List (Took W))
     → HasGone m.written_of n u.work.shelves (u.work.walkings n) past
     → HasGone m.written_of n u'.work.shelves (u'.work.walkings n) (past ++ step_of n event reply)
-goes-on {W = W} m u u' event reply work turns n past gone = by (nat_eq n turns.who) refl
-  where
-    grow : (t : ℕ) → ShelfGrows (u.work.shelves t) (u'.work.shelves t)
-    grow t = grows turns.who (u.work.shelves t) (u'.work.shelves t) (turns.turned.changes t)
-
-    by : (b : Bool) → nat_eq n turns.who ≡ b → HasGone m.written_of n u'.work.shelves (u'.work.walkings n) (past ++ step_of n event reply)
-    by true e =
-        let is : turns.who ≡ n = grind (arith, nat_tests) in
-        subst (λ x. HasGone m.written_of x u.work.shelves (u.work.walkings x) past → HasGone m.written_of x u'.work.shelves (u'.work.walkings x) (past ++ step_of x event reply)) is
-        (own-goes m u u' grow work turns.who past (step_of turns.who event reply) turns.own) gone
-    by false e = stays m u u' grow n (u.work.walkings n) (u'.work.walkings n) past (step_of n event reply) (turns.turned.others n e) (turns.others n e) gone
+goes-on {W = W} m u u' event reply work turns n past gone = elim (cases_Bool (nat_eq n turns.who)) [
+  | inl e ↦
+      let is : turns.who ≡ n = sym (same-worker n turns.who e) in
+      subst (λ x. HasGone m.written_of x u.work.shelves (u.work.walkings x) past → HasGone m.written_of x u'.work.shelves (u'.work.walkings x) (past ++ step_of x event reply)) is
+      (own-goes m u u' (turns-grow m turns) work turns.who past (step_of turns.who event reply) turns.own) gone
+  | inr e ↦ stays m u u' (turns-grow m turns) n (u.work.walkings n) (u'.work.walkings n) past (step_of n event reply) (turns.turned.others n e) (turns.others n e) gone
+]

@@ -6,9 +6,9 @@ use Rattle.pagable_laws.proofs.Words.{with_outcome, with_failed, Expects, Ok, Ha
 use Rattle.pagable_laws.proofs.Words.{open_node, with_wait, first_todo, MachineState, world_of, IsIdle, Ground, ground_of, Walks, WorkFits, zero, ◌<◌, Err, pair, variant, followed, height}
 use Rattle.pagable_laws.proofs.Words.{deepest_path, kind_of_arc, Error, Meaning, Types, Core, of_entry, Values, is_identity, Claims, IsTooDeep, claim_fault, IsTooDeepTask, WaitsForAsker, FollowsTo}
 use Rattle.pagable_laws.proofs.{Words.{pair-follows, variant-follows, reference-follows, WroteTree, Waits}, Standing.{ShelfGrows, some-same, PutsSlot, put-cases, puts-slot, changes-slot, is-same}}
-use Rattle.pagable_laws.proofs.{Standing.{AllStand, HasClaim, Covers, is_open_in, or-cases}, Stepping.{KeepsKeys, keys-grow, keys-same}, Coming.{StandsIn, EventTurns, turns-grow, turns-keep}}
-use Rattle.pagable_laws.proofs.Trees.{same_some}
+use Rattle.pagable_laws.proofs.{Standing.{AllStand, HasClaim, Covers, is_open_in}, Stepping.{KeepsKeys, keys-grow, keys-same}, Coming.{StandsIn, EventTurns, turns-grow, turns-keep}, Trees.same_some}
 use Rattle.pagable_laws.proofs.Along.{Along, number-along, integer-along, text-along, pattern-along, none-along, pair-along, variant-along, reference-along, AllTwo, no-two, more-two, form-along}
+use Rattle.std.proofs.lemmas.Bool.{or_cases}
 
 -- the reference's key is known, with a height to which it adds no more than this
 pub record IsLow (shelf : Shelf) (height : ℕ) (r : ArcRef) : Type 0 where
@@ -477,7 +477,7 @@ module _ {N E : Type 0} (v : Values N) (s : MachineState N E) (trees : ℕ → T
       let f = fit.slots t (identity_of o.reference) claim.slot claim.claimed in
       let part = part-of (f.writes o.written claim.written_so) r (next-among shelf o.written.references o.keys r more e) in
       let small = part.small in
-      elim (or-cases (is_identity q (identity_of o.reference)) (is_open_in q below) is) [
+      elim (or_cases (is_identity q (identity_of o.reference)) (is_open_in q below) is) [
         | inl same ↦ less-still small few (ap (λ (j : Identity). size (trees j.node.0).meaning) (is-same q (identity_of o.reference) same))
         | inr rest ↦ not-below n task q o.reference below (omega arith) expects waits all rest
       ]

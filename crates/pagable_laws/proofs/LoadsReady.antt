@@ -6,6 +6,7 @@ use Rattle.pagable_laws.proofs.{Words.{HandlesAreWhole, Tree, find_row, Reading,
 use Rattle.pagable_laws.proofs.{Outlasting.{AreUpTo, stands-alike, stands-changed, stands-more, stands-new, among-changed, NotValues, stands-whole, stands-fell}, Apart.AreApart, Fitting.pushed}
 use Rattle.pagable_laws.proofs.{Fitting.first-fits, Goes.{found-number, le-more, none-in-next}, ReadingSteps.cached-rows, Sums.{self-number, same-number, at-most-sum, sum-zero}}
 use Rattle.pagable_laws.proofs.{PinSteps.{new-handle, low-whole}, Decoding.decodes, GoodReferences.good, Trees.same_some}
+use Rattle.std.proofs.lemmas.Bool.{cases_Bool}
 
 -- ---- each handle once
 
@@ -36,27 +37,22 @@ once-got [] kind row small once q = once q
 once-got (top ∷ below) kind row small once q =
     let new : ArcRef = record { kind = kind; node = row.node; handle = row.number } in
     let grown : Frame = record top { got = top.got ++ new ∷ [] } in
-    at (row.number.0 == q) refl (got-cons q grown below) (got-cons q top below) (sum_by_push (λ (r : ArcRef). one (r.handle.0 == q)) top.got new) (once q)
+    let sum = got-cons q grown below in
+    let old = got-cons q top below in
+    let push = sum_by_push (λ (r : ArcRef). one (r.handle.0 == q)) top.got new in
+    let few = once q in
+    elim (cases_Bool (row.number.0 == q)) [
+      | inl e ↦
+          let z : one (row.number.0 == q) ≡ 1 = ap one e in
+          let none = sum-zero (λ (f : Frame). times (λ (r : ArcRef). r.handle.0 == q) f.got) (top ∷ below) (λ f fs. sum-zero (λ (r : ArcRef). one (r.handle.0 == q)) f.got
+          (λ r rs. off (same-number row.number.0 q e) f fs r rs (r.handle.0 == q) refl)) in
+          omega (arith, z, sum, old, push, none)
+      | inr e ↦ let z : one (row.number.0 == q) ≡ 0 = ap one e in omega (arith, z, sum, old, push, few)
+    ]
   where
     off : row.number.0 ≡ q → (f : Frame) → Among (top ∷ below) f → (r : ArcRef) → Among f.got r → (b : Bool) → (r.handle.0 == q) ≡ b → one (r.handle.0 == q) ≡ 0
     off same f fs r rs false e = ap one e
     off same f fs r rs true e = absurd (let lt = small f r fs rs in let is = same-number r.handle.0 q e in omega (arith, lt, is, same))
-
-    at : (b : Bool) → (row.number.0 == q) ≡ b
-        → times_got q (record top { got = top.got ++ record { kind = kind; node = row.node; handle = row.number } ∷ [] } ∷ below) ≡ times (λ (r : ArcRef). r.handle.0 == q)
-        (top.got ++ record { kind = kind; node = row.node; handle = row.number } ∷ []) + times_got q below
-        → times_got q (top ∷ below) ≡ times (λ (r : ArcRef). r.handle.0 == q) top.got + times_got q below
-        → times (λ (r : ArcRef). r.handle.0 == q) (top.got ++ record { kind = kind; node = row.node; handle = row.number } ∷ []) ≡ times (λ (r : ArcRef). r.handle.0 == q) top.got + one
-        (row.number.0 == q)
-        → times_got q (top ∷ below) ≤ 1
-        → times_got q (with_got kind row (top ∷ below)) ≤ 1
-    at false e grown old push few = let z : one (row.number.0 == q) ≡ 0 = ap one e in omega (arith, z, grown, old, push, few)
-    at true e grown old push few =
-        let z : one (row.number.0 == q) ≡ 1 = ap one e in
-        let is = same-number row.number.0 q e in
-        let none = sum-zero (λ (f : Frame). times (λ (r : ArcRef). r.handle.0 == q) f.got) (top ∷ below) (λ f fs. sum-zero (λ (r : ArcRef). one (r.handle.0 == q)) f.got
-        (λ r rs. off is f fs r rs (r.handle.0 == q) refl)) in
-        omega (arith, z, grown, old, push, none)
 
 -- what was got once isn't got again
 twice : (x : ArcRef) (xs : List ArcRef) → ((q : ℕ) → times (λ (r : ArcRef). r.handle.0 == q) (x ∷ xs) ≤ 1) → (y : ArcRef) → Among xs y → x.handle.0 ≡ y.handle.0 → ⊥

@@ -1,10 +1,10 @@
 -- A handle that is live, that no value owns and that isn't given up outlasts a cascade, with its row.
-use Rattle.std.{specs.List.AllPairs}
 use Rattle.pagable_laws.proofs.Words.{◌≡◌, ℕ, zero, suc, ◌+◌, ◌<◌, ◌≤◌, ◌==◌, ◌&&◌, Bool, true, false, List, [], ◌∷◌, ◌++◌, cond, refl, ap, sym, subst, ◌∙◌, inl, inr, arith, Option, Some, None, not}
 use Rattle.pagable_laws.proofs.Words.{if◌then◌else◌, filter, map, slice_get, cases_order, nat_tests, get_or_from_slice_get, slice_get_within, HandleNumber, NodeNumber, Among, changed, one, or_else}
 use Rattle.pagable_laws.proofs.Words.{Owner, HandleRow, find_row, is_handle, is_owner, is_owned_by, owner_value, Core, Last, Alike, IsWithin, IsClosed, IsLeast, is_keyed, Falls, left_rows, fallen}
 use Rattle.pagable_laws.proofs.{Words.{owned_outside, IsHandleBefore, HandlesAreWhole}, Decoding.among-either, Existing.{inside, wider}, Goes.{le-more, found-number, none-in-new}, Sums.same-number}
 use Rattle.pagable_laws.proofs.{Sums.{self-number, sum-zero, at-most-sum}, Trees.same_some}
+use Rattle.std.{specs.List.AllPairs, proofs.lemmas.Bool.false_from_ne_true}
 
 -- no value's
 abbrev pub NotValues : Owner → Type 0
@@ -37,15 +37,12 @@ module _ (rows : List HandleRow) (keyed : ℕ → Bool) (entries : List HandleRo
       part h among none false f = let g = at-most-sum (λ h. one (is_owned_by (owner_value n) h && not (gone h.number.0))) rows h among in grind (arith, nat_tests)
 
   pub outlasts : (h : HandleRow) → Among rows h → h.number.0 ≡ q → gone q ≡ false
-  outlasts h among is = at (gone q) refl
-    where
-      at : (b : Bool) → gone q ≡ b → gone q ≡ false
-      at false e = e
-      at true e =
-          let goes : less h.number.0 ≡ true = inside rows keyed entries gone less h (least.least less less-holds less-closed) among (ap gone is ∙ e) in
-          let same = self-number q in
-          let stays : less q ≡ false = rw (same, e) refl in
-          absurd (let f : less q ≡ true = sym (ap less is) ∙ goes in cc)
+  outlasts h among is = false_from_ne_true (gone q) (λ e.
+      let goes : less h.number.0 ≡ true = inside rows keyed entries gone less h (least.least less less-holds less-closed) among (ap gone is ∙ e) in
+      let same = self-number q in
+      let stays : less q ≡ false = rw (same, e) refl in
+      let f : less q ≡ true = sym (ap less is) ∙ goes in
+      cc)
 
 -- ---- the one row of a number
 

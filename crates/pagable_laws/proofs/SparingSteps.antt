@@ -14,6 +14,7 @@ use Rattle.pagable_laws.proofs.{Goes.found-number, LoadsReady.with-one, Trees.sa
 use Rattle.pagable_world.specs.Events.{Does}
 use Rattle.pagable_world.specs.Loads as loads
 use Rattle.pagable_world.specs.Workers as workers
+use Rattle.std.proofs.lemmas.Bool.{false_from_ne_true}
 
 module _ (kind key n : ℕ) where
   -- the cache has the node under kind and key, and it is there
@@ -204,14 +205,12 @@ module _ (mine : Owner) where
 
   -- references of another's name none of the owner's handles
   pub named-free : (w : Core) (owner : Owner) (rs : List ArcRef) → (owner ≡ mine → ⊥) → AreGood w owner rs → Free w (is_named_by rs)
-  named-free w owner rs other right = record { each = λ q row own s. by q row own s (is_named_by rs q) refl }
-    where
-      by : (q : ℕ) (row : HandleRow) → row.owner ≡ mine → Stands w.last.handle w.rows q row → (b : Bool) → is_named_by rs q ≡ b → is_named_by rs q ≡ false
-      by q row own s false e = e
-      by q row own s true e =
-          let a = named-among rs q e in
-          let is = right a.0 a.1 in
-          absurd (other (sym is.owned ∙ (sym (same-row is.row s is.live (sym a.2)) ∙ own)))
+  named-free w owner rs other right = record {
+    each = λ q row own s. false_from_ne_true (is_named_by rs q) (λ e.
+        let a = named-among rs q e in
+        let is = right a.0 a.1 in
+        other (sym is.owned ∙ (sym (same-row is.row s is.live (sym a.2)) ∙ own)));
+  }
 
   -- what a load owns isn't the owner's
   pub load-free : IsApart mine → (w : Core) (l : LoadNumber) → Free w (is_owned_in w (Owner.Load l))
@@ -225,22 +224,20 @@ module _ (mine : Owner) where
 
   -- an entry of the list isn't the owner's
   pub listed-free : is_owner Owner.List mine ≡ false → {w : Core} → OwnersAreThere w → (i : ℕ) (h : HandleNumber) → slice_get w.list i ≡ Some h → Free w (only_handle h)
-  listed-free unlisted {w} there i h at = record { each = λ q row own s. by q row own s (q == h.0) refl }
+  listed-free unlisted {w} there i h at = record {
+    each = λ q row own s. false_from_ne_true (q == h.0) (λ e.
+        let same : h.0 ≡ q = sym (same-number q h.0 e) in
+        let here : one (h.0 == q) ≡ 1 = ap (λ n. one (n == q)) same ∙ ap one (self-number q) in
+        let owned = counted (λ (x : HandleRow). one (is_handle q x && is_owned_by Owner.List x)) w.rows
+        (above _ _ _ here (at-most-sum (λ (x : HandleNumber). one (x.0 == q)) w.list h (i, at)) (there.listed q)) in
+        let both = and_parts (is_handle q owned.0) (is_owned_by Owner.List owned.0) (one-true _ owned.2) in
+        let it = s.only owned.0 owned.1 (same-number _ _ both.0) in
+        let f : is_owner Owner.List mine ≡ true = sym (ap (λ (x : HandleRow). is_owner Owner.List x.owner) it ∙ ap (is_owner Owner.List) own) ∙ both.1 in
+        cc);
+  }
     where
       above : (a b c : ℕ) → a ≡ 1 → a ≤ b → b ≡ c → 0 < c
       above a b c e le same = omega arith
-
-      by : (q : ℕ) (row : HandleRow) → row.owner ≡ mine → Stands w.last.handle w.rows q row → (b : Bool) → (q == h.0) ≡ b → (q == h.0) ≡ false
-      by q row own s false e = e
-      by q row own s true e =
-          let same : h.0 ≡ q = sym (same-number q h.0 e) in
-          let here : one (h.0 == q) ≡ 1 = ap (λ n. one (n == q)) same ∙ ap one (self-number q) in
-          let owned = counted (λ (x : HandleRow). one (is_handle q x && is_owned_by Owner.List x)) w.rows
-          (above _ _ _ here (at-most-sum (λ (x : HandleNumber). one (x.0 == q)) w.list h (i, at)) (there.listed q)) in
-          let both = and_parts (is_handle q owned.0) (is_owned_by Owner.List owned.0) (one-true _ owned.2) in
-          let it = s.only owned.0 owned.1 (same-number _ _ both.0) in
-          let f : is_owner Owner.List mine ≡ true = sym (ap (λ (x : HandleRow). is_owner Owner.List x.owner) it ∙ ap (is_owner Owner.List) own) ∙ both.1 in
-          absurd (cc)
 
 -- Each event leaves each handle of a worker as it is that doesn't make it, and what the cache gives for a kind and a key, where the node is held before and after. What a load's and
 -- a worker's step do leaves the handles of the list too.

@@ -4,6 +4,7 @@ use Rattle.pagable_laws.proofs.Words.{Shelf, Slot, Outcome, failed, Written, Tas
 use Rattle.pagable_laws.proofs.Words.{meets-of-item, meets-entry, meets-below, ◌≤◌, ◌||◌, List, [], ◌∷◌, is_some, WorkerAnswer, identity_of, no_result, Todo, to_start, to_pin, to_load, to_write}
 use Rattle.pagable_laws.proofs.Words.{to_finish, to_item, to_set, to_publish, to_release, to_fail, of_item, Walking, suc, ◌++◌, inl, inr, drop, length, max, ArcRef, HandleNumber, Among, above, Open}
 use Rattle.pagable_laws.proofs.{Words.{Fault, next_start, settle, give, published, open_node, ◌<◌, of_entry, first_todo}, Sums.same-number}
+use Rattle.std.proofs.lemmas.Bool.{or_cases, or_left, or_right, false_from_ne_true, cases_Bool}
 
 -- the slot has the same worker, and what was written and the result stay
 pub record SlotGrows (slot slot' : Slot) : Type 0 where
@@ -85,11 +86,10 @@ pub put-cases : (slots slots' : Identity → Option Slot) (i : Identity) (new : 
 put-cases slots slots' i new puts j slot there = grind (arith, is-same, some-same)
 
 put-by : (v : ℕ) (shelf shelf' : Shelf) (i : Identity) (slot : Slot) → PutsSlot shelf.slots shelf'.slots i slot → SlotChanges v (shelf.slots i) (Some slot) → Changes v shelf shelf'
-put-by v shelf shelf' i slot puts at j = by (is_identity i j) refl
-  where
-    by : (b : Bool) → is_identity i j ≡ b → SlotChanges v (shelf.slots j) (shelf'.slots j)
-    by false e = stays (puts.elsewhere j e)
-    by true e = subst (λ k. SlotChanges v (shelf.slots k) (shelf'.slots k)) (sym (is-same i j e)) (subst (λ o. SlotChanges v (shelf.slots i) o) (sym puts.at) at)
+put-by v shelf shelf' i slot puts at j = elim (cases_Bool (is_identity i j)) [
+  | inr e ↦ stays (puts.elsewhere j e)
+  | inl e ↦ subst (λ k. SlotChanges v (shelf.slots k) (shelf'.slots k)) (sym (is-same i j e)) (subst (λ o. SlotChanges v (shelf.slots i) o) (sym puts.at) at)
+]
 
 pub puts-new : (v : ℕ) (shelf shelf' : Shelf) (i : Identity) (slot : Slot) → PutsSlot shelf.slots shelf'.slots i slot → shelf.slots i ≡ None → slot.worker ≡ v → Changes v shelf shelf'
 puts-new v shelf shelf' i slot puts none of_it = put-by v shelf shelf' i slot puts (is-new slot none refl of_it)
@@ -212,22 +212,8 @@ pub record WorkStands (shelves : ℕ → Shelf) (walkings : ℕ → Option Walki
 
 -- A worker's step keeps what stands of its to-do list and of its table.
 
--- ---- or
-
-pub or-cases : (a b : Bool) → (a || b) ≡ true → (a ≡ true) ⊎ (b ≡ true)
-or-cases x0 b is = grind (arith, nat_tests)
-
-pub or-left : (a b : Bool) → a ≡ true → (a || b) ≡ true
-or-left x0 b is = grind (arith, nat_tests)
-
-pub or-right : (a b : Bool) → b ≡ true → (a || b) ≡ true
-or-right x0 b is = grind (arith, nat_tests)
-
 pub true-false : {A : Type 0} {b : Bool} → b ≡ true → b ≡ false → A
 true-false is other = absurd (cc)
-
-pub not-true : (b : Bool) → (b ≡ true → ⊥) → b ≡ false
-not-true x0 never = grind (arith, nat_tests)
 
 -- ---- what stands goes on to stand
 
@@ -247,9 +233,9 @@ module _ (u : ℕ) (task : Task) (shelf shelf' : Shelf) (more : ShelfGrows shelf
   unfolding AllStand is_open_in
   all-stay [] keeps all = tt
   all-stay (x ∷ below) keeps (stands, apart, rest) = (
-    one-stays x below (λ i is. keeps i (or-left (is_open_of i x) (is_open_in i below) is)) stands,
+    one-stays x below (λ i is. keeps i (or_left (is_open_of i x) (is_open_in i below) is)) stands,
     apart,
-    all-stay below (λ i is. keeps i (or-right (is_open_of i x) (is_open_in i below) is)) rest,
+    all-stay below (λ i is. keeps i (or_right (is_open_of i x) (is_open_in i below) is)) rest,
   )
 
 -- ---- one worker
@@ -269,7 +255,7 @@ module _ (v : ℕ) (task : Task) where
     pub open-slot : (todo : List Todo) → AllStand shelf v task todo → is_open_in i todo ≡ true → IsSlot
     unfolding AllStand is_open_in
     open-slot [] all is = absurd (cc)
-    open-slot (x ∷ below) (stands, apart, rest) is = elim (or-cases (is_open_of i x) (is_open_in i below) is) [ inl a ↦ of-one x below stands a | inr b ↦ open-slot below rest b ]
+    open-slot (x ∷ below) (stands, apart, rest) is = elim (or_cases (is_open_of i x) (is_open_in i below) is) [ inl a ↦ of-one x below stands a | inr b ↦ open-slot below rest b ]
 
   -- each claim without a result is worked at
   abbrev pub CoversBy : Shelf → List Todo → Type 0
@@ -292,7 +278,7 @@ module _ (v : ℕ) (task : Task) where
         record {
           changes = same-slots v shelf shelf' same;
           all = all-stay v task shelf shelf' (grows v shelf shelf' (same-slots v shelf shelf' same)) todo (λ i is slot there own. same i ∙ there) all;
-          covers = λ i slot there own still. or-right (is_failing todo) (is_open_in i todo) (covers i slot (sym (same i) ∙ there) own still);
+          covers = λ i slot there own still. or_right (is_failing todo) (is_open_in i todo) (covers i slot (sym (same i) ∙ there) own still);
           unfailed = λ none i slot there own. clean i slot (sym (same i) ∙ there) own;
           done = done;
           met = λ i slot none there. some-none (sym (same i) ∙ there) none;
@@ -361,13 +347,13 @@ module _ (v : ℕ) (task : Task) where
 
 -- what is open about the identity itself
 open-self : (i j : Identity) (rest : Bool) → j ≡ i → (is_identity j i || rest) ≡ true
-open-self i j rest is = subst (λ k. (is_identity k i || rest) ≡ true) (sym is) (or-left (is_identity i i) rest (is-self i))
+open-self i j rest is = subst (λ k. (is_identity k i || rest) ≡ true) (sym is) (or_left (is_identity i i) rest (is-self i))
 
 module _ (v : ℕ) (task : Task) (shelf shelf' : Shelf) (clean : HasNoFailed shelf v) where
   -- what is to be done below stands where the slot of another claim changes
   below-stays : (i : Identity) (slot : Slot) (below : List Todo) → PutsSlot shelf.slots shelf'.slots i slot → Changes v shelf shelf' → is_open_in i below ≡ false
       → AllStand shelf v task below → AllStand shelf' v task below
-  below-stays i slot below puts changes apart all = grind (arith, nat_tests, all-stay, not-true, true-false, is-same)
+  below-stays i slot below puts changes apart all = grind (arith, nat_tests, all-stay, false_from_ne_true, true-false, is-same)
 
   -- an own slot changes, or comes, that hasn't failed
   clean-still : (i : Identity) (new : Slot) → PutsSlot shelf.slots shelf'.slots i new → is_failed new.outcome ≡ false → HasNoFailed shelf' v
@@ -384,7 +370,7 @@ module _ (v : ℕ) (task : Task) (shelf shelf' : Shelf) (clean : HasNoFailed she
       let changes : Changes v shelf shelf' = puts-new v shelf shelf' (identity_of r) new-slot puts none refl in
       let more : ShelfGrows shelf shelf' = grows v shelf shelf' changes in
       let meets_now : Meets shelf' task (identity_of r) = meets-grow shelf shelf' task (identity_of r) more meets in
-      let free : is_open_in (identity_of r) below ≡ false = not-true (is_open_in (identity_of r) below) (λ is. let a = open-slot v task shelf (identity_of r) below rest is in some-none a.1 none) in
+      let free : is_open_in (identity_of r) below ≡ false = false_from_ne_true (is_open_in (identity_of r) below) (λ is. let a = open-slot v task shelf (identity_of r) below rest is in some-none a.1 none) in
       record {
         changes = changes;
         all = (
@@ -394,7 +380,7 @@ module _ (v : ℕ) (task : Task) (shelf shelf' : Shelf) (clean : HasNoFailed she
         );
         covers = λ i slot there own still. elim (put-cases shelf.slots shelf'.slots (identity_of r) new-slot puts i slot there) [
           | inl e ↦ open-self (identity_of r) i (is_open_in i below) e.0
-          | inr e ↦ or-right (is_identity i (identity_of r)) (is_open_in i below) (covers i slot e.1 own still)
+          | inr e ↦ or_right (is_identity i (identity_of r)) (is_open_in i below) (covers i slot e.1 own still)
         ];
         unfailed = λ nothing. clean-still (identity_of r) new-slot puts refl;
         done = λ a is. absurd (cc);
@@ -435,7 +421,7 @@ module _ (v : ℕ) (task : Task) (shelf shelf' : Shelf) (clean : HasNoFailed she
           apart,
           below-stays (identity_of r) new below puts changes free rest,
         );
-        covers = λ i slot there own still. or-right (is_failing (open_node r place through written below)) (is_open_in i (open_node r place through written below))
+        covers = λ i slot there own still. or_right (is_failing (open_node r place through written below)) (is_open_in i (open_node r place through written below))
             (started-open v task shelf' i place (drop 0 written.references) (to_finish o ∷ below) ∙ covered puts covers i slot there own still);
         unfailed = λ nothing. clean-still (identity_of r) new puts (ap is_failed c.no_result_yet);
         done = λ a is. absurd (cc);
@@ -478,11 +464,10 @@ module _ (v : ℕ) (task : Task) (shelf shelf' : Shelf) (clean : HasNoFailed she
       is-known slot still = rw still refl
 
       not-here : (i : Identity) → is_identity (identity_of r) i ≡ false → (is_identity i (identity_of r) || is_open_in i below) ≡ true → is_open_in i below ≡ true
-      not-here i other is = by (is_identity i (identity_of r)) refl is
-        where
-          by : (b : Bool) → is_identity i (identity_of r) ≡ b → (b || is_open_in i below) ≡ true → is_open_in i below ≡ true
-          by true e is = let f : identity_of r ≡ i = is-same i (identity_of r) e in true-false (subst (λ k. is_identity (identity_of r) k ≡ true) f (is-self (identity_of r))) other
-          by false e is = is
+      not-here i other is = elim (or_cases (is_identity i (identity_of r)) (is_open_in i below) is) [
+        | inl e ↦ true-false (subst (λ k. is_identity (identity_of r) k ≡ true) (is-same i (identity_of r) e) (is-self (identity_of r))) other
+        | inr e ↦ e
+      ]
 
   -- all goes
   pub failed-goes : (answer : WorkerAnswer) → SameShelf (with_failed shelf v) shelf' → Goes v task shelf (Some answer) shelf' []
@@ -502,7 +487,7 @@ module _ (v : ℕ) (task : Task) (shelf shelf' : Shelf) (clean : HasNoFailed she
 
 -- What stands of all workers and tables goes on to stand, by what an event does to them.
 
-same-worker : (a b : ℕ) → nat_eq a b ≡ true → a ≡ b
+pub same-worker : (a b : ℕ) → nat_eq a b ≡ true → a ≡ b
 same-worker a b e = grind (arith, nat_tests)
 
 -- one worker, where what it claimed stays as it was
@@ -552,21 +537,18 @@ module _ (v : ℕ) (shelves shelves' : ℕ → Shelf) (walkings walkings' : ℕ 
               record { walking = m.walking; there = ap walkings' e ∙ m.there; on_table = m.on_table; meets = m.meets }
           | is-changed old new was own is more ↦ slot-stays t i old slot (ap (λ (s : Slot). s.worker) (some-same there is) ∙ more.worker) (work.slots t i old was)
         ];
-        workers = λ u w there. worker u w there (nat_eq u v) refl;
-        numbered = λ u w there. number u w there (nat_eq u v) refl;
+        workers = λ u w there. elim (cases_Bool (nat_eq u v)) [
+          | inl e ↦ let is = same-worker u v e in subst (λ n. WalkingStands (shelves' w.table) n w) (sym is) (turned.stands w (sym (ap walkings' is) ∙ there))
+          | inr e ↦
+              let c = turned.changes w.table in
+              walking-stays u w (shelves w.table) (shelves' w.table) (grows v (shelves w.table) (shelves' w.table) c) (others-stay v u (shelves w.table) (shelves' w.table) c e)
+              (others-were v u (shelves w.table) (shelves' w.table) c e) (work.workers u w (sym (turned.others u e) ∙ there))
+        ];
+        numbered = λ u w there. elim (cases_Bool (nat_eq u v)) [
+          | inl e ↦ let is = same-worker u v e in omega (arith, is, small)
+          | inr e ↦ let few_then = work.numbered u w (sym (turned.others u e) ∙ there) in omega (arith, few_then, few)
+        ];
       }
-    where
-      worker : (u : ℕ) (w : Walking) → walkings' u ≡ Some w → (b : Bool) → nat_eq u v ≡ b → WalkingStands (shelves' w.table) u w
-      worker u w there true e = let is = same-worker u v e in subst (λ n. WalkingStands (shelves' w.table) n w) (sym is) (turned.stands w (sym (ap walkings' is) ∙ there))
-      worker u w there false e =
-          let c = turned.changes w.table in
-          walking-stays u w (shelves w.table) (shelves' w.table) (grows v (shelves w.table) (shelves' w.table) c) (others-stay v u (shelves w.table) (shelves' w.table) c e)
-          (others-were v u (shelves w.table) (shelves' w.table) c e)
-          (work.workers u w (sym (turned.others u e) ∙ there))
-
-      number : (u : ℕ) (w : Walking) → walkings' u ≡ Some w → (b : Bool) → nat_eq u v ≡ b → u ≤ last'
-      number u w there true e = let is = same-worker u v e in omega arith
-      number u w there false e = let few_then = work.numbered u w (sym (turned.others u e) ∙ there) in omega arith
 
 -- ---- the events
 
