@@ -2,7 +2,7 @@
 use Rattle.pagable_laws.proofs.Words.{nat_tests, ◌≡◌, ℕ, ◌⊎◌, inl, inr, List, [], ◌∷◌, Some, Ok, Err, sym, subst, ap, ◌∙◌, Identity, Tree, WorkerAnswer, Event, EventReply, Error, Took, Shelf, Todo}
 use Rattle.pagable_laws.proofs.Words.{to_start, Walking, Seen, IsLawful, Site, Does, Happens, IsMetFailure, MachineState, world_of, IsMachineWhole, IsIdle, StandsFor, ReadsItsTypes, HoldsSettled}
 use Rattle.pagable_laws.proofs.Words.{Moment, AreMoments, Fact, TreesAlong, IsTooDeepTask, IsFormlessTask, KeyIsShallow, ShallowLaw, MetDepthAlone, DepthIsTold, ToldDepthLaw, WaitsForAsker, arith}
-use Rattle.pagable_laws.proofs.{Words.{ClaimIsDeep, DeepClaimLaw, ground_of, Walks, WorkFits}, Trees.same_some, Coming.{StandsIn, event-turns, updated-at}, Answering.answered, Arriving.headline_law}
+use Rattle.pagable_laws.proofs.{Words.{ClaimIsDeep, DeepClaimLaw, ground_of, Walks, WorkFits}, Trees.same_some, Coming.{StandsIn, event-turns, updated-at}, Answering.answered, Chains.headline_law}
 use Rattle.pagable_laws.proofs.{Chains.{IsGoingOn, idle-goes, goes}, Standing.{AllStand, Covers}, Heights.{TodoLow, claim-deep, HeightsIn, heights-at-first, heights-on}, Formed.task-has-forms}
 use Rattle.pagable_laws.proofs.Shallow.{task-not-deep, answered-low}
 

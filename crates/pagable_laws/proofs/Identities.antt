@@ -4,7 +4,7 @@ use Rattle.pagable_laws.proofs.Words.{Owner, Mode, Kind, ArcRef, LoadNumber, typ
 use Rattle.pagable_laws.proofs.Words.{with_node, with_cached, next_node, GetsKnown, adopted, first_key, MachineState, world_of, IsWhole, IsMachineWhole, Moment, AreMoments, state_after}
 use Rattle.pagable_laws.proofs.{Words.{GetsReference, IsFilledByReading, LeavesCache, StaysAlive, OneIdentityLaw, Change, GetsRow}, Goes.{Quiet, Goes, KnowsNext, quiet-then, quiet-goes, goes-quiet}}
 use Rattle.pagable_laws.proofs.{Goes.{alike, a-handle, fell-anyhow, adopts}, Called.gets-known, Outlasting.among-found, ReadingSteps.{cached-rows, got-known, got-fallen, got-born, is-cached}}
-use Rattle.pagable_laws.proofs.{EventSteps.event-goes, Sums.self-number, SparingSteps.{IsEntered, IsHeldFor, can-use, entered-of, stays-alike, stays-fell, keeps-open, event-lasts}}
+use Rattle.pagable_laws.proofs.{ReadingSteps.event-goes, Sums.self-number, SparingSteps.{IsEntered, IsHeldFor, can-use, entered-of, stays-alike, stays-fell, keeps-open, event-lasts}}
 
 -- ---- what is got
 

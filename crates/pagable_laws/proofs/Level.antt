@@ -2,7 +2,7 @@
 use Rattle.pagable_laws.proofs.Words.{nat_tests, arith, ◌≡◌, ℕ, List, [], ◌∷◌, ◌++◌, refl, sym, subst, ◌∙◌, Some, none, references_in, SameReferences, IsReadable, LiesIn, Throughout, throughout-in}
 use Rattle.pagable_laws.proofs.Words.{none-followed, rest_of, Tree, tree, IsLawful, IsSettled, PagerState, MachineState, ReadsItsTypes, KeepsOpen, ReadsAsType, IsWellAsked, IsPremised, state_after}
 use Rattle.pagable_laws.proofs.{Words.{ArePremised, find_row, is_named_by, answers_from, inl, is_in, HandleRow, Owner, Mode, pins, row_of, AreMoments, TwoLevelsMeetTheHeadline}, States.only-at}
-use Rattle.pagable_laws.proofs.{States.{◌⨾◌, read-back-passes}, Walks.{paged_out, at_work, only-pager, bears, pages-out}, Tested.alike-self, Joining.new_whole, Arriving.headline_law}
+use Rattle.pagable_laws.proofs.{States.{◌⨾◌, read-back-passes}, Walks.{paged_out, at_work, only-pager, bears, pages-out}, Tested.alike-self, Joining.new_whole, Chains.headline_law}
 use Rattle.pagable_laws.proofs.Loaded.{done-whole, loads-parent, loads-child, loads-key}
 use Rattle.pagable_model.specs.Reading as grammar
 use Rattle.pagable_model.specs.Shape as shapes

@@ -26,18 +26,14 @@ mod Joining
 mod Nexts
 pub mod Goes
 pub mod Outlasting
-pub mod PinSteps
 pub mod GoodReferences
 mod Called
 mod ReadingStepsKinds
-mod ReadingStepsWithin
 pub mod ReadingStepsGive
 pub mod ReadingSteps
-pub mod EventSteps
 mod Once
 mod Standing
 mod Coming
-pub mod Arriving
 mod Decoding
 mod Fitting
 mod Following
@@ -52,7 +48,7 @@ mod Brought
 mod Stopping
 mod Asking
 mod KnownSteps
-mod Chains
+pub mod Chains
 mod Tested
 mod States
 mod Walks

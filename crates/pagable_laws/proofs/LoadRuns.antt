@@ -5,7 +5,7 @@ use Rattle.pagable_world.specs.{Pager.{ReadingBrings, Represents, ReadingFits, F
 use Rattle.pagable_world.specs.{Calls.with_handle, Events.{reading_of_root, reading_of_load}, Headline.ReadIsRight, Kinds.held, LoadCalls.with_load, Loads.{Does, EndsRead, ReadsRoot, gone_on}}
 use Rattle.pagable_world.specs.{Plain.{ArcRef, Blob, LoadNumber, NodeNumber, Tree, Among}, Refusals.IsReference, Runs.{ReadsItsTypes, HoldsSettled, TakesWell}, Workers.fresh}
 use Rattle.pagable_world.specs.{declared.events.LoadAnswer.LoadAnswer, declared.handles.HandleRow.HandleRow}
-use Rattle.pagable_laws.proofs.{Brought.reading-fits, Called.{begins, begins-key}, Decoding.decodes, EventSteps.core-goes, Felt.fits-nothing, Fitting.{first-fits, frames-stay}, Goes.Goes}
+use Rattle.pagable_laws.proofs.{Brought.reading-fits, Called.{begins, begins-key}, Decoding.decodes, ReadingSteps.core-goes, Felt.fits-nothing, Fitting.{first-fits, frames-stay}, Goes.Goes}
 use Rattle.pagable_laws.proofs.{ReadingSteps.{ReadingFelt, caller-free, reading-feels}, ReadingStepsGive.{got-typed, hands, held-after}, Taking.{AtStep, FitAfter}}
 use Rattle.pagable_laws.proofs.{Taking.{fit-after, row-held, root-right, stands-here}, Trees.same_some, TreesGoing.trees-go-on}
 use Rattle.pagable_laws.specs.{ReadLaws.FramesGiven, ReadRuns.FramesHeld, TreeRuns.ChangeFits, TreeSteps.{nothing_felt, CoreGoes, ReadingFeels, HandsOver}}

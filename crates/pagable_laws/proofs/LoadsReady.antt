@@ -5,7 +5,7 @@ use Rattle.pagable_laws.proofs.Words.{times, mode_of, Core, OpenLoad, of_cell, F
 use Rattle.pagable_laws.proofs.{Words.{HandlesAreWhole, Tree, find_row, Reading, Values, IsLawful, nested_frame, GoesOn, GetsLazy, MakesNode, FramesFit, ReadsItsTypes, FramesHeld}, Outlasting.Stands}
 use Rattle.pagable_laws.proofs.{Outlasting.{AreUpTo, stands-alike, stands-changed, stands-more, stands-new, among-changed, NotValues, stands-whole, stands-fell}, Apart.AreApart, Fitting.pushed}
 use Rattle.pagable_laws.proofs.{Fitting.first-fits, Goes.{found-number, le-more, none-in-next}, ReadingSteps.cached-rows, Sums.{self-number, same-number, at-most-sum, sum-zero}}
-use Rattle.pagable_laws.proofs.{PinSteps.{new-handle, low-whole}, Decoding.decodes, GoodReferences.good, Trees.same_some}
+use Rattle.pagable_laws.proofs.{Outlasting.{new-handle, low-whole}, Decoding.decodes, GoodReferences.good, Trees.same_some}
 use Rattle.std.proofs.lemmas.Bool.{cases_Bool}
 
 -- ---- each handle once

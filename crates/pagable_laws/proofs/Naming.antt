@@ -8,7 +8,7 @@ use Rattle.pagable_laws.proofs.Words.{IsPublished, next_start, settle, give, giv
 use Rattle.pagable_laws.proofs.Words.{nothing_felt, WorkerNumber, Tree, Event, EventReply, WorkerReply, Alike, Walking, World, Values, Ends, WorkerSteps, MachineState, world_of, IsMachineWhole}
 use Rattle.pagable_laws.proofs.{Words.{IsIdle, ReadsItsTypes, KeepsOpen, KeysAreReady, KeysHeld, WorkFits, new_walking, step_of, TableNumber}, Goes.{Goes, Kept, found-number, fell, goes-quiet}}
 use Rattle.pagable_laws.proofs.{Goes.quiet-goes, Outlasting.{stands-new, among-found, NotValues, Stands, stands-whole, stands-alike, stands-fell}, Following.given-of, Answering.sets-key, Called.pins}
-use Rattle.pagable_laws.proofs.{Called.begins, Standing.{PutsSlot, puts-slot, put-cases, is-same}, EventSteps.{ends-quiet, event-goes}, Stepping.keys-same, SparingSteps.{Spares, event-spares}}
+use Rattle.pagable_laws.proofs.{Called.begins, Standing.{PutsSlot, puts-slot, put-cases, is-same}, ReadingSteps.{ends-quiet, event-goes}, Stepping.keys-same, SparingSteps.{Spares, event-spares}}
 use Rattle.pagable_laws.proofs.{Trees.same_some, ReadingSteps.{works-free, walk-goes}, Coming.{updated-at, EventTurns, turns-keep}}
 use Rattle.pagable_world.specs.Runs.{Does as DoesMoment}
 use Rattle.std.proofs.Common.{rules}
