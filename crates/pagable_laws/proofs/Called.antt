@@ -47,8 +47,7 @@ clones x0 c = grind (arith, nat_tests, made-handle, alike)
 
 pub pins : {w w' : Core} {me : Owner} {h : HandleNumber} (free : NotLoads me) (r : Result Pinning Error) → PinCall w me h r w' → Quiet w w'
 pins {w} {w'} {me} {h} free (Ok (Pinning.Pinned k)) c = quiet-then (own-mode w me h is_loose c.pins.0 Mode.LoosePinned refl free c.pins.1) (made-handle _ _ _ c.pins.2.2)
-pins free (Ok (Pinning.NeedsLoad key)) c = alike c.pins.2.2
-pins free (Err e) c = alike c.refused.stays
+pins free x1 c = grind (arith, nat_tests, alike)
 
 node-is : {a b : NodeNumber} {t u : ℕ} {h k : HandleNumber} → of_cell a t h ≡ of_cell b u k → a ≡ b
 node-is is = cc
@@ -61,14 +60,13 @@ begun-well : (w : Core) (me : Owner) (node : NodeNumber) (t : ℕ) (h : HandleNu
 begun-well w me node t h key typed own a u k root = grind (arith, node-is, type-is)
 
 pub begins : {w w' : Core} {me : Owner} {h : HandleNumber} (r : Result Beginning Error) → BeginCall w me h r w' → Goes nothing_felt w w'
-begins (Ok Beginning.InMemory) c = quiet-goes nothing_felt (alike c.begins.2.1)
 begins {w} {w'} {me} {h} (Ok (Beginning.Load l key)) c =
     let row : HandleRow = c.begins.0 in
     let a = c.begins.2 in
     let made = with_handle w row.node Mode.LooseUnpinned (Owner.Load l) in
     goes-quiet (quiet-begins (a-handle w row.node Mode.LooseUnpinned (Owner.Load l))
     (begun nothing_felt made key (of_cell row.node a.4.0 h) me (begun-well made me row.node a.4.0 h key a.4.1 a.1))) (alike a.4.2)
-begins (Err e) c = quiet-goes nothing_felt (alike c.refused.stays)
+begins x0 c = grind (arith, nat_tests, quiet-goes, alike)
 
 pub begins-key : {w w' : Core} {me : Owner} {key : ℕ} (r : Result Beginning Error) → BeginKeyCall w me key r w' → Goes nothing_felt w w'
 begins-key x0 c = grind (arith, nat_tests, goes-quiet, begun, alike, quiet-goes)

@@ -8,11 +8,10 @@ use Rattle.pagable_laws.proofs.Words.{◌==◌, ◌&&◌, Bool, true, false, ap,
 use Rattle.pagable_laws.proofs.Words.{Todo, Walking, World, Site, Does, Happens, WorkerSteps, step_of, steps_of, is_claim_of, is_on_table, claims_made, ◌||◌, ◌++◌, append_assoc, is_none, WorkerAnswer}
 use Rattle.pagable_laws.proofs.Words.{HandleRow, Owner, owner_worker, is_owned_by, is_owner, is_workers_load, MayOwnLoad, state_after, events_of, replies_of, InOrder, TableMeets, HasLetGo}
 use Rattle.pagable_laws.proofs.{Words.{WorkerIsRight, LoadsHaveStepsLeft, WorkIsRight, HeadlineLaw}, Brought.reading-fits, Felt.{none-comes, fits-nothing, fits-key, call-fits}, Fitting.tree-stays}
-use Rattle.pagable_laws.proofs.{ReadingSteps.is-reading-of, Trees.same_some, Answering.keys-right, Coming.{StandsIn, event-turns, turns-stand, idle-stands, updated-at, EventTurns, Went, HasGone}}
-use Rattle.pagable_laws.proofs.{Coming.goes-on, ReadingSteps.does-feels, Naming.{held-at-first, held-on, keys-ready}, KnownSteps.{ReadingsAsked, event-asked}, Outlasting.pins-hold}
-use Rattle.pagable_laws.proofs.Stepping.{fits-at-first}
-use Rattle.pagable_laws.proofs.{Stepping.fits-on, ReadingStepsGive.{reads-give, event-held}, Taking.{AtStep, fit-still, fit-after, pin_stands}, TreesGoing.trees-go-on, Standing.{ShelfGrows, is-same}}
-use Rattle.pagable_laws.proofs.{Standing.{puts-slot, grows, true-false, KeepsTask, Turned, keeps-task, WalkingStands, is_failing, is_open_in}, Once.once_each, ReadingStepsGive.loads-bounded}
+use Rattle.pagable_laws.proofs.{ReadingSteps.{is-reading-of, does-feels}, Trees.same_some, Answering.keys-right, Coming.{StandsIn, event-turns, turns-stand, idle-stands, updated-at, EventTurns, Went}}
+use Rattle.pagable_laws.proofs.{Coming.{HasGone, goes-on}, Naming.{held-at-first, held-on, keys-ready}, KnownSteps.{ReadingsAsked, event-asked}, Outlasting.pins-hold, Stepping.fits-at-first}
+use Rattle.pagable_laws.proofs.{Stepping.fits-on, ReadingStepsGive.{reads-give, event-held, loads-bounded}, Taking.{AtStep, fit-still, fit-after, pin_stands}, TreesGoing.trees-go-on}
+use Rattle.pagable_laws.proofs.{Standing.{ShelfGrows, is-same, puts-slot, grows, true-false, KeepsTask, Turned, keeps-task, WalkingStands, is_failing, is_open_in}, Once.{once_each, plus-none}}
 use Rattle.pagable_laws.proofs.Sums.{sum-zero}
 use Rattle.pagable_world.specs.Runs.{Does as DoesMoment}
 use Rattle.std.{proofs.Common.append-nil, proofs.lemmas.Bool.false_from_ne_true}
@@ -236,9 +235,6 @@ is-there-still x0 b more = grind (arith, nat_tests)
 
 slots-stay : (shelf shelf' : Shelf) → ShelfGrows shelf shelf' → (i : Identity) → one (is_some (shelf.slots i)) ≤ one (is_some (shelf'.slots i))
 slots-stay shelf shelf' more i = is-there-still (shelf.slots i) (shelf'.slots i) (λ slot there. let a = more i slot there in (a.0, a.1))
-
-plus-none : (n : ℕ) → 0 + n ≡ n
-plus-none n = omega arith
 
 -- none more than there was
 none-more : (a b : ℕ) → a ≤ b → a + 0 ≤ b

@@ -12,7 +12,7 @@ from k p b = one (nat_le p k && b)
 at-most : (x b : Bool) → one (x && b) ≤ one b
 at-most x0 x1 = grind (arith, nat_tests)
 
-plus-none : (n : ℕ) → 0 + n ≡ n
+pub plus-none : (n : ℕ) → 0 + n ≡ n
 plus-none n = omega arith
 
 -- ---- what is to be done

@@ -336,8 +336,7 @@ module _ (mine : Owner) (apart : IsApart mine) (kind key n : ℕ) where
 
     recalls : {w w' : Core} {me : Owner} {k : Kind} {q : ℕ} (r : Result (Option HandleNumber) Error) → RecallCall w me k q r w' → Leaves O C w w'
     recalls (Ok (Some h)) c = a-handle _ _ _ c.answers.3
-    recalls (Ok None) c = stays c.answers.1
-    recalls (Err e) c = stays c.refused.stays
+    recalls x0 c = grind (arith, nat_tests, stays)
 
     -- ---- handles and loads
 
@@ -349,14 +348,12 @@ module _ (mine : Owner) (apart : IsApart mine) (kind key n : ℕ) where
     then-clone {w} c rest = after (λ h. record { row = h.row; live = subst (λ rows. Among rows h.row) (sym c.made.3.rows) (among-left w.rows _ h.live.0 h.row h.live.1); at = h.at; pins_it = h.pins_it }) (clones _ c) rest
 
     begins : {w w' : Core} {me : Owner} {h : HandleNumber} (r : Result Beginning Error) → BeginCall w me h r w' → Leaves O C w w'
-    begins (Ok Beginning.InMemory) c = stays c.begins.2.1
     begins {w} (Ok (Beginning.Load l q)) c = made c.begins.2.4.2 (λ o. record { each = (spares-handle mine w c.begins.0.node Mode.LooseUnpinned (Owner.Load l)).each }) (λ e. e)
-    begins (Err e) c = stays c.refused.stays
+    begins x0 c = grind (arith, nat_tests, stays)
 
     begins-key : {w w' : Core} {me : Owner} {q : ℕ} (r : Result Beginning Error) → BeginKeyCall w me q r w' → Leaves O C w w'
-    begins-key (Ok Beginning.InMemory) c = absurd c.begins
     begins-key (Ok (Beginning.Load l k)) c = made c.begins.2 (λ o. record { each = λ q row own s. s }) (λ e. e)
-    begins-key (Err e) c = stays c.refused.stays
+    begins-key x0 c = grind (arith, nat_tests, stays)
 
     -- a node that a load adopts, which the cache may know: it gave none, and so not this one
     adopts : {w w' : Core} (l : LoadNumber) (k : Kind) (q : ℕ) (own : OptionalDataKey) (references : List ArcRef) → usable w k.0 q ≡ None → AreGood w (Owner.Load l) references
@@ -416,8 +413,7 @@ module _ (mine : Owner) (apart : IsApart mine) (kind key n : ℕ) where
 
       pin-calls : {w w' : Core} {h : HandleNumber} (r : Result Pinning Error) → PinCall w me h r w' → Leaves O C w w'
       pin-calls {h = h} (Ok (Pinning.Pinned k)) c = made c.pins.2.2 (λ o. spares-then mine (spares-mode mine h c.pins.0 Mode.LoosePinned (other o) c.pins.1) (spares-handle mine _ _ _ _)) (λ e. e)
-      pin-calls (Ok (Pinning.NeedsLoad q)) c = stays c.pins.2.2
-      pin-calls (Err e) c = stays c.refused.stays
+      pin-calls x0 c = grind (arith, nat_tests, stays)
 
       unpins : {w w' : Core} {h : HandleNumber} (r : Result (Unit {0}) Error) → UnpinCall w me h r w' → Leaves O C w w'
       unpins {h = h} r c = elim c.does [
