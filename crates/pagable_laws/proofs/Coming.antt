@@ -237,7 +237,8 @@ module _ {N B W : Type 0} (m : Seen N B W) {u u' : World} {event : Event N B W} 
 
   -- so it holds afterwards: of tables that stay, of workers that make no step, of one that begins, and of the table and the worker of a step
   module _ (Slots : Shelf → Type 0) (Walk : ℕ → Shelf → Walking → Type 0) (alike : (a b : Shelf) → SameAs a b → Slots a → Slots b)
-      (onward : (a b : Shelf) → ShelfGrows a b → Slots a → (n : ℕ) (w : Walking) → Walk n a w → Walk n b w) (stay : (t : ℕ) (shelf : Shelf) → ShelfGrows (u.work.shelves t) shelf → SameAs (u.work.shelves t) shelf → Slots shelf)
+      (onward : (a b : Shelf) → ShelfGrows a b → Slots a → (n : ℕ) (w : Walking) → Walk n a w → Walk n b w)
+      (stay : (t : ℕ) (shelf : Shelf) → ShelfGrows (u.work.shelves t) shelf → SameAs (u.work.shelves t) shelf → Slots shelf)
       (rest : (n : ℕ) (w : Walking) → step_of n event reply ≡ [] → u.work.walkings n ≡ Some w → Walk n (u'.work.shelves w.table) w)
       (begin : (n : ℕ) (shelf : Shelf) (t : TableNumber) (task : Task) → Walk n shelf (new_walking t task))
       (step : (k : WorkerNumber) (r : WorkerReply W) (s : WorkerSteps m u k r u') → step_of turns.who event reply ≡ r.took ∷ [] → ShelfGrows (u.work.shelves s.walking.table) s.after.shelf

@@ -315,7 +315,8 @@ module _ {N B W : Type 0} (m : Seen N B W) (u u' : World) {c : Change} (goes : G
 
   keys-hold : (event : Event N B W) (reply : EventReply N B W) → EventTurns m u event reply u' → ((n : ℕ) → step_of n event reply ≡ [] → Spares (owner_worker n) u.core u'.core) → KeysHeld u'
   keys-hold event reply turns spares =
-      let h = turns-keep m turns SlotsHeld (λ n shelf w. WalkHolds n w) (λ a b same slots i key height p. slots i key height (keys-same (λ j. sym (same j)) i key height p)) (λ a b more slots n w all. all)
+      let h = turns-keep m turns SlotsHeld (λ n shelf w. WalkHolds n w) (λ a b same slots i key height p. slots i key height (keys-same (λ j. sym (same j)) i key height p))
+      (λ a b more slots n w all. all)
       (λ t shelf more same i key height p kind. key-on goes (held.slots t i key height (keys-same (λ j. sym (same j)) i key height p) kind))
       (λ n w none there. (all-on goes w.todo (held.walks n w there), λ r key height below front. handle-on whole (spares n none) (held.publishing n w r key height below there front)))
       (λ n shelf t task. first-holds n t task) (λ k r s one more. a-step k r s) in

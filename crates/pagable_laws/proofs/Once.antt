@@ -1,7 +1,7 @@
 -- Each stage once: what is still to be done of it, with what was done, is at most what was claimed.
-use Rattle.pagable_laws.proofs.Words.{◌≡◌, ℕ, ◌+◌, ◌≤◌, ◌==◌, ◌&&◌, Bool, List, [], ◌∷◌, ◌++◌, refl, sym, subst, ◌∙◌, arith, Ok, Err, Some, nat_le, nat_tests, sum_by-cons, ArcRef}
-use Rattle.pagable_laws.proofs.Words.{Identity, one, times, Claim, PinStep, Took, identity_of, Open, Todo, to_start, to_pin, to_load, to_write, to_finish, to_item, to_set, to_publish, to_release}
-use Rattle.pagable_laws.proofs.Words.{to_fail, Fault, Option, HandleNumber, false, Task, Written, is_identity, next_start, give, first_todo, Follows, Leads, InOrder, OnceEach, is_claim_of, is_later_of}
+use Rattle.pagable_laws.proofs.Words.{◌≡◌, ℕ, ◌+◌, ◌≤◌, ◌==◌, ◌&&◌, Bool, List, [], ◌∷◌, ◌++◌, refl, sym, subst, ◌∙◌, arith, Ok, Err, Some, nat_le, nat_tests, sum_by-cons, ArcRef, Identity, one}
+use Rattle.pagable_laws.proofs.Words.{times, Claim, PinStep, Took, identity_of, Open, Todo, to_start, to_pin, to_load, to_write, to_finish, to_item, to_set, to_publish, to_release, to_fail, Fault}
+use Rattle.pagable_laws.proofs.Words.{Option, HandleNumber, false, Task, Written, is_identity, next_start, give, first_todo, Follows, Leads, InOrder, OnceEach, is_claim_of, is_later_of}
 
 -- ---- numbers
 

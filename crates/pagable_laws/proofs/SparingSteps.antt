@@ -521,7 +521,10 @@ module _ (mine : Owner) (apart : IsApart mine) (kind key n : ℕ) where
 
       module _ {N B W : Type 0} (m : Seen N B W) (s s' : Site) where
         walks : (todo : List Todo) (step : Took W) → workers.Does m u s todo step s' → Leaves O C s.core s'.core
-        walks (to_pin r place ∷ below) (Took.Pin i (Ok (PinStep.Held k))) (is, p) = elim p.pins.1 [ inl (row, same, clone) ↦ clones _ clone | inr (row, (mid, clone, pin)) ↦ then-clone clone (pin-calls other _ pin) ]
+        walks (to_pin r place ∷ below) (Took.Pin i (Ok (PinStep.Held k))) (is, p) = elim p.pins.1 [
+          | inl (row, same, clone) ↦ clones _ clone
+          | inr (row, (mid, clone, pin)) ↦ then-clone clone (pin-calls other _ pin)
+        ]
         walks (to_pin r place ∷ below) (Took.Pin i (Ok (PinStep.LoadBegun l))) (is, p) = let b = p.pins.1.1 in then-clone b.2 (begins _ b.3)
         walks (to_pin r place ∷ below) (Took.Pin i (Err f)) (is, p) = pin-refused r f p.refused.0
         walks (to_load r place through reading ∷ below) (Took.Pin i (Ok (PinStep.Held k))) (is, p) = reads other m.values reading p.goes.0

@@ -370,7 +370,8 @@ module _ (v : ℕ) (task : Task) (shelf shelf' : Shelf) (clean : HasNoFailed she
       let changes : Changes v shelf shelf' = puts-new v shelf shelf' (identity_of r) new-slot puts none refl in
       let more : ShelfGrows shelf shelf' = grows v shelf shelf' changes in
       let meets_now : Meets shelf' task (identity_of r) = meets-grow shelf shelf' task (identity_of r) more meets in
-      let free : is_open_in (identity_of r) below ≡ false = false_from_ne_true (is_open_in (identity_of r) below) (λ is. let a = open-slot v task shelf (identity_of r) below rest is in some-none a.1 none) in
+      let free : is_open_in (identity_of r) below ≡ false =
+      false_from_ne_true (is_open_in (identity_of r) below) (λ is. let a = open-slot v task shelf (identity_of r) below rest is in some-none a.1 none) in
       record {
         changes = changes;
         all = (

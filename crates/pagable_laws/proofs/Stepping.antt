@@ -330,7 +330,8 @@ module _ {N B W E : Type 0} (m : Seen N B W) (s s' : MachineState N E) (trees tr
   starts-well shelf (of_entry h i) = (refl, tt)
 
   -- each event keeps it
-  pub fits-on : StandsIn (world_of s) → (event : Event N B W) (reply : EventReply N B W) → EventTurns m (world_of s) event reply (world_of s') → ReplyWrites m s.pager reply → WorkFits m.values s' trees'
+  pub fits-on : StandsIn (world_of s) → (event : Event N B W) (reply : EventReply N B W) → EventTurns m (world_of s) event reply (world_of s') → ReplyWrites m s.pager reply
+      → WorkFits m.values s' trees'
   fits-on work event reply turns writes =
       let stay : GroundGoes g' g' = record { kept = λ key b e. e; last = omega arith; trees = λ n le. refl } in
       let h = turns-keep m turns (SlotsFit m.values g') (λ n shelf w. Walks m.values g' shelf w.task w.todo) (λ a b same fits. slots-on stay (same-grow a b same) fits same)

@@ -92,7 +92,8 @@ pub data CallFeels {N B : Type 0} (v : Values N) (w : Core) (me : Owner) : Call 
       → CallFeels v w me (Call.OnArcDeserialized kind key h) (Reply.FromCache (Ok None)) w' (knows_node kind.0 key row.node.0)
   feels-adopted : {w' : Core} (l : LoadNumber) (kind : Kind) (key : ℕ) (x : N) (k : HandleNumber) → v.node_type x ≡ type_of kind.0 → AreGood w (Owner.Load l) (v.references x)
       → CallFeels v w me (Call.LoadAdopt l kind key x) (Reply.Made (Ok k)) w' (bears_known kind.0 key (first_key kind.0 key))
-  feels-lazy : {w' : Core} (l : LoadNumber) (kind : Kind) (key : ℕ) (k : HandleNumber) → CallFeels v w me (Call.LoadLazy l kind key) (Reply.Handle (Ok k)) w' (bears_known kind.0 key (OptionalDataKey.Some key))
+  feels-lazy : {w' : Core} (l : LoadNumber) (kind : Kind) (key : ℕ) (k : HandleNumber)
+      → CallFeels v w me (Call.LoadLazy l kind key) (Reply.Handle (Ok k)) w' (bears_known kind.0 key (OptionalDataKey.Some key))
   feels-end : {w' : Core} (l : LoadNumber) (x : N) (k : HandleNumber) → AreGood w (Owner.Load l) (v.references x) → CallFeels v w me (Call.LoadEnd l x) (Reply.LoadEnded (Ok k)) w' nothing_felt
 
 -- the row of a handle that a load has got now, of this node
