@@ -6,7 +6,7 @@ use Rattle.pagable_laws.proofs.Words.{Seen, Site, Does, IsPublished, answer_afte
 use Rattle.pagable_laws.proofs.Words.{NodeStands, Represents, StandsFor, ReadsItsTypes, Meets, meets-of-item, meets-entry, meets-below, AreKeysOf, IsLeftPagedOut, HasKeyOf, LeavesAll, IsKeyOfTask}
 use Rattle.pagable_laws.proofs.{Words.{Ground, ground_of, IsOfEntry, Waits, Walks, WorkFits, IsDone, KeyIsSet, AllHold, HasHandle, KeysHeld, KeysAreRight}, Merkle.{one_key, one_item_key}}
 use Rattle.pagable_laws.proofs.{Merkle.tree_readable, Trees.{same_some, each-type}, Following.{IdentityStands, known-of, keys-of, tree-form, held-of, cell-of}, Taking.row-held, Coming.updated-at}
-use Rattle.pagable_laws.proofs.{Shelves.{KeepsKeys, keys-on, keys-same}, Stepping.{all-known, stands-for}}
+use Rattle.pagable_laws.proofs.Stepping.{KeepsKeys, keys-on, keys-same, all-known, stands-for}
 
 -- ---- one step of a worker
 

@@ -5,7 +5,7 @@ use Rattle.pagable_laws.proofs.Words.{owner_worker, Core, OpenLoad, Frame, Readi
 use Rattle.pagable_laws.proofs.Words.{node_fault, root_fault, cell_fault, asks, next_in, need_of, needs_nested, is_broken, RefusesBlob, RefusesNested, RefusesRoot, Fails, handles_of, Happens}
 use Rattle.pagable_laws.proofs.Words.{after_kinds, LeadsDown, is-there, goes-down, ReadsTooDeep, MachineState, world_of, FramesFit, IsReadingOf, of_caller, of_worker, LoadIsDeep, DeepLoadLaw}
 use Rattle.pagable_laws.proofs.{Trees.same_some, Fitting.asked, Chains.IsGoingOn, Deeply.along-first, ReadingStepsKinds.{kinds_of, asks-by-kinds, faulty-by-kinds}}
-use Rattle.pagable_laws.proofs.{ReadingStepsMachine.reading-stands, Apart.FramesAsked, Sound.{broken-is, either, by-all, by-handle-row}, KnownSteps.eager-nested}
+use Rattle.pagable_laws.proofs.{ReadingSteps.reading-stands, Apart.FramesAsked, Sound.{broken-is, either, by-all, by-handle-row}, KnownSteps.eager-nested}
 use Rattle.pagable_world.specs.Loads.{Does}
 use Rattle.pagable_world.specs.Workers as workers
 

@@ -5,9 +5,9 @@ use Rattle.pagable_laws.proofs.Words.{MachineState, world_of, IsLongBelow, IsToo
 use Rattle.pagable_laws.proofs.Words.{false, ap, inl, inr, TreeForm, tree, type_of, Among, Written, kids_of, Reaches, refers, refers-on, in-first, in-rest, in-part, HasNoForm, LeadsToNoForm}
 use Rattle.pagable_laws.proofs.Words.{IsFormlessTask, ground_of, WroteTree, IsDone, ◌⊎◌, [], ◌∷◌, Ok, Err, Event, EventReply, Error, to_start, Walking, IsLawful, Happens, IsMetFailure}
 use Rattle.pagable_laws.proofs.Words.{IsMachineWhole, IsIdle, StandsFor, ReadsItsTypes, HoldsSettled, Moment, AreMoments, Fact, TreesAlong, KeyIsShallow, ShallowLaw, MetDepthAlone, DepthIsTold}
-use Rattle.pagable_laws.proofs.{Words.{ToldDepthLaw, WaitsForAsker, ClaimIsDeep, DeepClaimLaw}, Heights.{IsLow, AllLow, WaitsLow, TodoLow, all-low}, HeightSteps.{HeightsIn, heights-at-first}}
-use Rattle.pagable_laws.proofs.{HeightSteps.heights-on, Trees.{same_some, tree_is}, Following.{known-of, tree-form}, Coming.{StandsIn, event-turns, updated-at}, Answering.answered}
-use Rattle.pagable_laws.proofs.{Arriving.headline_law, Chains.{IsGoingOn, idle-goes, goes}, Standing.{AllStand, Covers}, Climbing.claim-deep}
+use Rattle.pagable_laws.proofs.{Words.{ToldDepthLaw, WaitsForAsker, ClaimIsDeep, DeepClaimLaw}, Heights.{IsLow, AllLow, WaitsLow, TodoLow, all-low, HeightsIn, heights-at-first}}
+use Rattle.pagable_laws.proofs.{Heights.heights-on, Trees.{same_some, tree_is}, Following.{known-of, tree-form}, Coming.{StandsIn, event-turns, updated-at}, Answering.answered}
+use Rattle.pagable_laws.proofs.{Chains.{headline_law, IsGoingOn, idle-goes, goes}, Standing.{AllStand, Covers}, Heights.claim-deep}
 
 -- ---- where heights are low, no path from a tree whose key is known is too long
 

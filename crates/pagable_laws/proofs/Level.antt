@@ -12,7 +12,7 @@ use Rattle.pagable_laws.proofs.Words.{◌⊎◌, LoadAnswer, Frame, BeginCall, R
 use Rattle.pagable_laws.proofs.Words.{EventReply, one_more, load_fault, reading_at, reading_after, ReadingsAre, ReadingBrings, world_of, WorkStays, OnlyCore, Beginning, MachineState, fresh}
 use Rattle.pagable_laws.proofs.Words.{references_in, SameReferences, IsReadable, LiesIn, Throughout, throughout-in, none-followed, rest_of, Tree, tree, IsLawful, ReadsItsTypes, KeepsOpen}
 use Rattle.pagable_laws.proofs.{Words.{ReadsAsType, IsWellAsked, IsPremised, state_after, TwoLevelsMeetTheHeadline}, Sums.sum-zero, GoodReferences.good, Two.and-false, Joining.new_whole}
-use Rattle.pagable_laws.proofs.Arriving.{headline_law}
+use Rattle.pagable_laws.proofs.Chains.{headline_law}
 use Rattle.std.specs.List.{AllPairs}
 use Rattle.pagable_world.specs.{Workers.Site, World.HasForm}
 use Rattle.pagable_laws.specs.TwoLevels as two

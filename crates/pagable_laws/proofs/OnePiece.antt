@@ -5,9 +5,9 @@ use Rattle.pagable_laws.proofs.Words.{NodeNumber, Tree, Among, if_there, is_in, 
 use Rattle.pagable_laws.proofs.Words.{IsReference, references_fault, handle_fault, BeginCall, BeginKeyCall, IsDecoded, gone_on, fresh, ReadingsAre, reading_at, reading_after, LoadSteps, Stays}
 use Rattle.pagable_laws.proofs.Words.{Happens, MachineState, world_of, IsMachineWhole, of_caller, FrameFits, FramesFit, ReadsItsTypes, Moment, Turn, of_load, of_nobody, turn_of, StandTogether}
 use Rattle.pagable_laws.proofs.{Words.{IsOfChance, IsLoadOfPagedOut, LoadIsSound, IsBeginOf, HasBegun, SoundLaw, FramesHeld}, Trees.same_some, Sums.{self-number, same-number}, Coming.updated-at}
-use Rattle.pagable_laws.proofs.{Chains.{IsGoingOn, idle-goes}, Taking.row-held, Fitting.first-fits, Decoding.decodes, Outlasting.{stands-whole, stands-alike}, ReadingStepsMachine.reading-stands}
-use Rattle.pagable_laws.proofs.{ReadingStepsGive.got-typed, HeightSteps.{HeightsIn, heights-at-first}, Sound.{by-chance, by-references, by-handle, IsForm, load-cause}, Apart.{fine, reads-once}}
-use Rattle.pagable_laws.proofs.{LoadsLive.{times_got, LoadReady, once-none, apart-once, got-cons, with-one}, LoadsReady.goes-ready, Deeply.along-with}
+use Rattle.pagable_laws.proofs.{Chains.{IsGoingOn, idle-goes}, Taking.row-held, Fitting.first-fits, Decoding.decodes, Outlasting.{stands-whole, stands-alike}, ReadingSteps.reading-stands}
+use Rattle.pagable_laws.proofs.{ReadingStepsGive.got-typed, Heights.{HeightsIn, heights-at-first}, Sound.{by-chance, by-references, by-handle, IsForm, load-cause}, Apart.{fine, reads-once}}
+use Rattle.pagable_laws.proofs.{LoadsReady.{times_got, LoadReady, once-none, apart-once, got-cons, with-one, goes-ready}, Deeply.along-with}
 use Rattle.pagable_world.specs.{Loads.Does}
 
 -- ---- whose turn it is

@@ -1,6 +1,6 @@
 -- Reading does the same whatever stands for references: two readers over related inputs give related meanings.
 use Rattle.pagable_laws.proofs.Words.{arith, nat_tests, ◌≡◌, ℕ, zero, suc, ◌-◌, Bool, true, false, List, [], ◌∷◌, Some, None, Result, Ok, Err, ◌⊎◌, inl, inr, refl, subst, Error, ◌>>=◌, Read}
-use Rattle.pagable_laws.proofs.Words.{unsigned_at, signed_at, length_at, text_at, bool_at, char_at, duration_at, Meaning, integer, none, variant, sequence, entry, absent, present, success}
+use Rattle.pagable_laws.proofs.Words.{unsigned_at, signed_at, length_at, text_at, bool_at, char_at, duration_at, Meaning, none, variant, sequence, entry, absent, present, success}
 use Rattle.pagable_laws.proofs.Words.{failure, lifted, Entry, KeyOrder, code_order, text_order, put_all, put_sorted, put_placed, put_sorted_item, put_placed_item, of_entries, of_tagged}
 use Rattle.pagable_laws.proofs.Words.{of_hash_map, Shape, nothing, unsigned, signed, flag, letter, duration, json, optional, outcome, list, run, array, both, sorted_map, placed_map, hash_map}
 use Rattle.pagable_laws.proofs.Words.{sorted_set, placed_set, static_value, tagged, cases, nested, Rest, Look, Gets, bytes_of, reference_at, seen, two, choose, items, counted, registered, Deeper}

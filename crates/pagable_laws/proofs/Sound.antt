@@ -7,7 +7,7 @@ use Rattle.pagable_laws.proofs.Words.{OpenLoad, of_cell, Reading, Seen, IsLawful
 use Rattle.pagable_laws.proofs.Words.{FetchCall, birth_fault, AskCall, LazyCall, ask_fault, is_known, node_fault, root_fault, needs_nested, needs_lazy, to_adopt, IsDecoded, RefusesBlob}
 use Rattle.pagable_laws.proofs.Words.{RefusesNested, RefusesNode, RefusesRoot, IsOfKey, EndsClosed, Fails, reading_at, IsMachineWhole, StandsFor, FitsRoot, of_caller, IsOfChance, IsPagedOutAs}
 use Rattle.pagable_laws.proofs.Words.{IsLoadOfPagedOut, Ok, HandleRow, Mode, LoadAnswer, LoadReply, Event, EventReply, or_else, row_fault, reference_fault, LoadSteps, Happens, IsOfHandles}
-use Rattle.pagable_laws.proofs.{Words.{LoadIsFaultless, FaultlessLaw}, Trees.same_some, Fitting.{asked, first-typed}, Heights.AllLow, HeightSteps.HeightsIn, Apart.{IsFormOf, GotAsked}}
+use Rattle.pagable_laws.proofs.{Words.{LoadIsFaultless, FaultlessLaw}, Trees.same_some, Fitting.{asked, first-typed}, Heights.{AllLow, HeightsIn}, Apart.{IsFormOf, GotAsked}}
 use Rattle.pagable_laws.proofs.{Apart.{FramesAsked, NextOf, asks-known, all-read, next-known, all-got}, ReadingStepsKinds.kinds_of, Sums.self-number, Taking.adopted-over, KnownSteps.ReadingsAsked}
 use Rattle.pagable_laws.proofs.{KnownSteps.eager-nested, Chains.IsGoingOn, Deeply.along-first}
 use Rattle.std.proofs.Common.{rules}

@@ -6,8 +6,8 @@ pub use Rattle.std.proofs.{lemmas.Bool.and_parts, lemmas.Bool.Decides.nat_tests,
 pub use Rattle.std.specs.{Prelude.{is_some, slice_get, Result, IfOk, IfErr, OnErr, is_none, not, nat_lt, nat_eq}, Map.lookup, Option.option_map, Vec.vec_capacity, declared.alloc.Global.Global}
 pub use Rattle.std.specs.{declared.sync.Arc.Arc, declared.vec.Vec.Vec}
 pub use Rattle.pagable_core.specs.{declared.context.writing.SerializedData.SerializedData, declared.storage.data.PagableData.PagableData}
-pub use Rattle.pagable_laws.{proofs.Goes.{at-updated, Goes, RowsGo, fell-anyhow, quiet-goes}, proofs.Arriving.headline_law, proofs.EventSteps.event-goes, proofs.Outlasting.{stands-whole, Stands}}
-pub use Rattle.pagable_laws.{proofs.ReadingStepsHanding.neither, proofs.Sparing.{Free, Spares, then-fell, worker-apart}, proofs.SparingSteps.event-spares, proofs.Sums.{same-number, self-number}}
+pub use Rattle.pagable_laws.{proofs.Goes.{at-updated, Goes, RowsGo, fell-anyhow, quiet-goes}, proofs.Chains.headline_law, proofs.ReadingSteps.event-goes, proofs.Outlasting.{stands-whole, Stands}}
+pub use Rattle.pagable_laws.{proofs.ReadingStepsGive.neither, proofs.SparingSteps.{Free, Spares, then-fell, worker-apart, event-spares}, proofs.Sums.{same-number, self-number}}
 pub use Rattle.pagable_laws.{proofs.Sums.{counted, one-true}, proofs.Trees.same_some, specs.KeyRuns.StandsAt, specs.TreeSteps.{Change, nothing_felt}}
 pub use Rattle.pagable_loads.specs.{Frames.{reading_of, IsLoadOf, is_cell}, Telling.values_at, Working.{RefusesEntry, StartsEntry}}
 pub use Rattle.pagable_machine.specs.Driving.{Answer, ByNumber, Drives, Given, IsInStep, holding, kept_at, over, Readings, MachineView, Over, Runs, machine_in, view_of, claims_at, claims_of}

@@ -4,7 +4,7 @@ pub use Rattle.std.proofs.{Common.{rules, ◌&&◌, ◌||◌, suc, zero, ◌++�
 pub use Rattle.std.specs.{Prelude.{◌≢◌, IfOk, IfErr, IfSome, IfNone, OnOk, OnErr, IsSome, is_some, ◌⊎◌, nat_lt, map, filter}, Arc.arc_value, HashMap.get, Option.{option_map, option_copied}}
 pub use Rattle.pagable_core.specs.Data.{blob_of}
 pub use Rattle.pagable_laws.proofs.{Outlasting.{NotValues, Stands, AreUpTo, stands-new, stands-alike, stands-fell, among-changed, among-found}, Goes.found-number, GoodReferences.good}
-pub use Rattle.pagable_laws.proofs.{Sparing.named-among, Taking.{row-pins, row-held}, Trees.same_some, Usable.entered-of}
+pub use Rattle.pagable_laws.{proofs.SparingSteps.{named-among, entered-of}, proofs.Taking.{row-pins, row-held}, proofs.Trees.same_some}
 pub use Rattle.pagable_loads.{proofs.Pinned.begun_is, specs.Telling.{AsksFor, TakesLazily, AdoptsValue, IsMade, values_at}, specs.Starting.{StartsPin, is_unpinned_at}, specs.Working.StartsEntry}
 pub use Rattle.pagable_loads.{specs.Working.{RefusesEntry, TakesReference, BeginsAt}, specs.declared.working.Taken.Taken}
 pub use Rattle.pagable_model.specs.{Stored.{Adds, RefusesFetch, RefusesStore}, Blob.key_of, declared.data_key.OptionalDataKey.OptionalDataKey, declared.numbers.ArcRef.ArcRef}

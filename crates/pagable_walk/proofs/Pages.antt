@@ -7,7 +7,7 @@ use Rattle.pagable_world.specs.Access.{AccessState, Called, WorkerStarts, Worker
 use Rattle.pagable_world.specs.{Access.{entry-is-walked, ListRun, no-more, skips, pages, fails}, Calls.{ReleaseCall, TakeCall}, Events.{entry_task, no_shelf}, Kinds.{identity_of, owner_worker}}
 use Rattle.pagable_world.specs.{Pager.{PagerState, WellFormed}, Workers.first_todo, World.{Shelf, SameShelf, Todo, of_entry, of_item, Values, Written, Seen, Alike}, declared.events.Took.Took}
 use Rattle.pagable_world.specs.{declared.events.WorkerAnswer.WorkerAnswer, declared.handles.Owner.Owner}
-use Rattle.pagable_laws.proofs.{Lengths.none-shorter, Sparing.{Spares, spares-then}, SparingSteps.{walk-spares-list, release-spares-list}}
+use Rattle.pagable_laws.proofs.SparingSteps.{none-shorter, Spares, spares-then, walk-spares-list, release-spares-list}
 use Rattle.pagable_loads.specs.{Telling.Acting, Working.{as_caller, StartsEntry, RefusesEntry}}
 use Rattle.pagable_walk.proofs.{Pinning.same-shelf, Turning.{alike, plain-fits}, Unanswered.{item-answered, entry-answered}}
 use Rattle.pagable_walk.specs.{Over.{failure_of, PagesItem, PagesList, PagesEntry, Skipped, SkipsEntry, PlaceDone, PagesAt, HasPaged}, Slots.no_claims, Tasks.{IsPlain, todo_of}, Turns.{Fits, plain}}

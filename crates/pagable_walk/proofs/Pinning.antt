@@ -8,8 +8,8 @@ use Rattle.pagable_world.specs.{World.{Values, was_refused, type_at, one_more}, 
 use Rattle.pagable_world.specs.{Access.{Called, ReadingStep}, Cascade.FallsAnyhow, LoadCalls.{with_pin, without_load, is_owned_in, adopted, first_key}, Loads.{GoesOn, EndsPinned, IsOfKey, gone_on}}
 use Rattle.pagable_world.specs.{Pager.{PagerState, HandlesAreWhole, Moves}, Workers.{PinsAtOnce, PinRefused, RowIs, fresh, entry_left, Does}, declared.events.LoadAnswer.LoadAnswer}
 use Rattle.pagable_world.specs.{declared.handles.HandleRow.HandleRow, declared.handles.Owner.Owner}
-use Rattle.pagable_laws.{specs.KeyRuns.StandsAt, specs.TreeSteps.Change, proofs.PinSteps.{AreLow, low-whole, low-changed, low-handle, new-handle, clone-call, not-loose, owned-none}, proofs.Goes.Goes}
-use Rattle.pagable_laws.{proofs.Naming.clone-stands, proofs.Outlasting.{NotValues, Stands, stands-alike, stands-fell}, proofs.Trees.same_some, proofs.WalkSteps.walk-goes}
+use Rattle.pagable_laws.{specs.KeyRuns.StandsAt, specs.TreeSteps.Change, proofs.Outlasting.{AreLow, low-whole, low-changed, low-handle, new-handle, clone-call, not-loose, owned-none}}
+use Rattle.pagable_laws.{proofs.Goes.Goes, proofs.Naming.clone-stands, proofs.Outlasting.{NotValues, Stands, stands-alike, stands-fell}, proofs.Trees.same_some, proofs.ReadingSteps.walk-goes}
 use Rattle.pagable_loads.specs.{Frames.{IsLoadOf, frames_of, reading_of}, Stepping.Steps, Working.{TakesReference, BeginsAt}}
 use Rattle.pagable_walk.{specs.Failing.{back_of, fails}, specs.Tasks.IsPlain, specs.Turns.{IsLoading, IsOfKind, HoldsPin, Fits, TurnsTo, plain, site}, specs.declared.results.Trees.Ghosts}
 use Rattle.pagable_walk.{specs.declared.tasks.Moved.Moved, specs.declared.tasks.Task.Task, proofs.Turning.plain-fits}

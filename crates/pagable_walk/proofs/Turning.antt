@@ -4,7 +4,7 @@ use Rattle.std.specs.Prelude.{Result, Ok, Err, IfOk}
 use Rattle.pagable_model.specs.declared.numbers.ArcRef.{ArcRef}
 use Rattle.pagable_world.specs.{Workers.{Site, claim_fault, entry_left, is_counted_claim, Claims, Finds, Turns, IsTooDeep, with_wait}, Kinds.identity_of, Pager.{PagerState, HandlesAreWhole}}
 use Rattle.pagable_world.specs.{Plain.Error, World.{Core, Shelf, Todo, to_start, SameShelf, Alike, Values, was_refused}, declared.events.Claim.Claim, declared.handles.Owner.Owner}
-use Rattle.pagable_laws.proofs.{Naming.{may-claim, claimed-stands}, Trees.same_some}
+use Rattle.pagable_laws.{proofs.Naming.{may-claim, claimed-stands}, proofs.Trees.same_some}
 use Rattle.pagable_walk.specs.{Failing.{back_of, fails}, Slots.{Would, claimed_shelf, RefusesClaim, ClaimsThere}, Table.{found_as, IsFoundOf}, Tasks.IsPlain, Turns.{site, claim_todo, ClaimFits}}
 use Rattle.pagable_walk.specs.{Turns.{ClaimLeaves, IsOfKind, TaskFits, TurnsTo}, declared.results.Trees.Ghosts, declared.table.Found.Found, declared.tasks.Task.Task}
 use Rattle.pagable_model.specs.declared.error.Error.TheVariants as errors
