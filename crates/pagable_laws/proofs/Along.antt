@@ -1,11 +1,11 @@
 -- A form goes along: where each reference is replaced by one of the same kind, the bytes are a form of what results.
 use Rattle.pagable_laws.proofs.Words.{nat_tests, ◌≡◌, ℕ, ℤ, Bool, true, false, List, [], ◌∷◌, ◌++◌, length, ◌⊎◌, inl, inr, refl, sym, ap, ◌∙◌, arith, Ordering, is_eq-slice_cmp, Meaning, number}
 use Rattle.pagable_laws.proofs.Words.{integer, text, pattern, none, pair, variant, reference, followed, sequence, plain, lifted, rename, Entry, KeyOrder, ordered, same_key, code, code_order}
-use Rattle.pagable_laws.proofs.Words.{text_order, put_all, put_sorted, Apart, AllAfter, Ascends, ItemsAscend, Differ, ItemsDiffer, of_entries, of_hash_map, Shape, Form, Forms, Entries, nothing-form}
-use Rattle.pagable_laws.proofs.Words.{unsigned-form, signed-form, flag-form, text-form, letter-form, duration-form, pattern-form, none-form, some-form, err-form, ok-form, list-form, run-form}
-use Rattle.pagable_laws.proofs.Words.{array-form, both-form, sorted-map-form, placed-map-form, hash-map-form, sorted-set-form, placed-set-form, static-form, tagged-form, case-form, reference-form}
-use Rattle.pagable_laws.proofs.Words.{nested-form, json-null-form, json-flag-form, json-number-form, json-text-form, json-array-form, json-object-form, no-forms, more-forms, no-entries, more-entries}
-use Rattle.pagable_laws.proofs.{Words.HasNoReference, Putting.{After, AllAfterThose, after_none}}
+use Rattle.pagable_laws.proofs.Words.{text_order, put_all, put_sorted, Apart, AllAfter, Ascends, ItemsAscend, Differ, ItemsDiffer, of_entries, of_hash_map, Shape, Form, Forms, Entries}
+use Rattle.pagable_laws.proofs.Words.{nothing-form, unsigned-form, signed-form, flag-form, text-form, letter-form, duration-form, pattern-form, none-form, some-form, err-form, ok-form, list-form}
+use Rattle.pagable_laws.proofs.Words.{run-form, array-form, both-form, sorted-map-form, placed-map-form, hash-map-form, sorted-set-form, placed-set-form, static-form, tagged-form, case-form}
+use Rattle.pagable_laws.proofs.Words.{reference-form, nested-form, json-null-form, json-flag-form, json-number-form, json-text-form, json-array-form, json-object-form, no-forms, more-forms}
+use Rattle.pagable_laws.proofs.{Words.{no-entries, more-entries, HasNoReference, Among, references_in, zero, suc, subst}, Again.{After, AllAfterThose, after_none}}
 use Rattle.std.specs.{declared.cmp.Ordering.Ordering, Ordering.{match_ordering, eq_by_cmp}}
 use Rattle.pagable_model.specs.Meaning as meanings
 
@@ -34,6 +34,21 @@ pub append-two : {X Y : Type 0} {R : X → Y → Type 0} {xs us : List X} {ys vs
 append-two no-two g = g
 append-two (more-two x y xs ys r h) g = more-two x y _ _ r (append-two h g)
 
+-- each has its other
+pub each-two : {X Y : Type 0} {R : X → Y → Type 0} {xs : List X} {ys : List Y} → AllTwo R xs ys → (x : X) → Among xs x → (y : Y) × R x y
+each-two no-two x (i, e) = absurd (cc)
+each-two {R = R} (more-two a b xs ys h g) x (zero, e) = let same : a ≡ x = cc in (b, subst (λ z. R z b) same h)
+each-two (more-two a b xs ys h g) x (suc i, e) = each-two g x (i, e)
+
+-- references of meanings that are along, one by one
+pub refs-two : {A B : Type 0} {R : A → B → Type 0} {m : Meaning A} {n : Meaning B} → Along ⊥ R m n → AllTwo R (references_in m) (references_in n)
+unfolding references_in
+refs-two (pair-along x y a b h g) = append-two (refs-two h) (refs-two g)
+refs-two (variant-along n x a h) = refs-two h
+refs-two (reference-along a b r) = more-two a b [] [] r no-two
+refs-two (followed-along kind x a n h) = absurd n
+refs-two _ = no-two
+
 -- a relation of items goes over to those that they are along with
 pub apart-two : {X Y : Type 0} {V : X → Y → Type 0} (R : X → X → Type 0) (S : Y → Y → Type 0) → ((x x2 : X) (y y2 : Y) → V x y → V x2 y2 → R x x2 → S y y2) → {xs : List X} {ys : List Y}
     → AllTwo V xs ys → Apart R xs → Apart S ys
@@ -55,11 +70,6 @@ module _ {A B : Type 0} {F : Type 0} {R : A → B → Type 0} where
 
   pub lifted-along : (m : Meaning ⊥) → F ⊎ HasNoReference m → Along F R (lifted m) (lifted m)
   unfolding rename HasNoReference
-  lifted-along (number n) h = number-along n
-  lifted-along (integer z) h = integer-along z
-  lifted-along (text t) h = text-along t
-  lifted-along (pattern t) h = pattern-along t
-  lifted-along none h = none-along
   lifted-along (pair a b) (inl f) = pair-along _ _ _ _ (lifted-along a (inl f)) (lifted-along b (inl f))
   lifted-along (pair a b) (inr h) = pair-along _ _ _ _ (lifted-along a (inr h.0)) (lifted-along b (inr h.1))
   lifted-along (variant n a) (inl f) = variant-along _ _ _ (lifted-along a (inl f))
@@ -67,35 +77,31 @@ module _ {A B : Type 0} {F : Type 0} {R : A → B → Type 0} where
   lifted-along (reference a) h = absurd a
   lifted-along (followed kind a) (inl f) = followed-along _ _ _ f (lifted-along a (inl f))
   lifted-along (followed kind a) (inr h) = absurd h
+  lifted-along m h = search (number-along, integer-along, text-along, pattern-along, none-along)
 
 -- entries whose keys and values are along
 pub record EntryAlong {A B : Type 0} (F : Type 0) (R : A → B → Type 0) (e : Entry A) (f : Entry B) : Type 0 where
   pub key : Along F R e.0 f.0
   pub value : Along F R e.1 f.1
 
--- what a list of items is along with
-pub record Items {A B : Type 0} (F : Type 0) (R : A → B → Type 0) (ms : List (Meaning A)) (n : Meaning B) : Type 0 where
-  pub items : List (Meaning B)
-  pub each : AllTwo (Along F R) ms items
-  pub whole : n ≡ sequence items
-
-pub record EntriesAlong {A B : Type 0} (F : Type 0) (R : A → B → Type 0) (es : List (Entry A)) (n : Meaning B) : Type 0 where
-  pub entries : List (Entry B)
-  pub each : AllTwo (EntryAlong F R) es entries
-  pub whole : n ≡ of_entries entries
+-- what a list is along with, of which the meaning is made
+pub record Made {X Y B : Type 0} (V : X → Y → Type 0) (make : List Y → Meaning B) (xs : List X) (n : Meaning B) : Type 0 where
+  pub items : List Y
+  pub each : AllTwo V xs items
+  pub whole : n ≡ make items
 
 module _ {A B : Type 0} {F : Type 0} {R : A → B → Type 0} where
-  pub sequence-along : (ms : List (Meaning A)) {n : Meaning B} → Along F R (sequence ms) n → Items F R ms n
+  pub sequence-along : (ms : List (Meaning A)) {n : Meaning B} → Along F R (sequence ms) n → Made (Along F R) sequence ms n
   sequence-along [] none-along = record { items = []; each = no-two; whole = refl }
   sequence-along (m ∷ ms) (pair-along x y a b h g) =
       let rest = sequence-along ms g in
       record { items = a ∷ rest.items; each = more-two m a ms rest.items h rest.each; whole = ap (λ (z : Meaning B). pair a z) rest.whole }
 
-  pub entries-along : (es : List (Entry A)) {n : Meaning B} → Along F R (of_entries es) n → EntriesAlong F R es n
-  entries-along [] none-along = record { entries = []; each = no-two; whole = refl }
+  pub entries-along : (es : List (Entry A)) {n : Meaning B} → Along F R (of_entries es) n → Made (EntryAlong F R) of_entries es n
+  entries-along [] none-along = record { items = []; each = no-two; whole = refl }
   entries-along (e ∷ es) (pair-along x y a b (pair-along u v c d h k) g) =
       let rest = entries-along es g in
-      record { entries = (c, d) ∷ rest.entries; each = more-two e (c, d) es rest.entries (record { key = h; value = k }) rest.each; whole = ap (λ (z : Meaning B). pair (pair c d) z) rest.whole }
+      record { items = (c, d) ∷ rest.items; each = more-two e (c, d) es rest.items (record { key = h; value = k }) rest.each; whole = ap (λ (z : Meaning B). pair (pair c d) z) rest.whole }
 
 -- ---- a hash map's entries, put in order
 
@@ -175,43 +181,29 @@ module _ {A B : Type 0} {F : Type 0} {R : A → B → Type 0} where
         put = ap (λ (z : List (Entry B)). put_all (put_sorted code_order) z rest.entries) one.put ∙ rest.put;
       }
 
--- what a hash map's meaning is along with
-pub record MapAlong {A B : Type 0} (F : Type 0) (R : A → B → Type 0) (es : List (Entry A)) (n : Meaning B) : Type 0 where
-  pub entries : List (Entry B)
-  pub each : AllTwo (EntryAlong F R) es entries
-  pub whole : n ≡ of_hash_map entries
-
 from_none : {A B : Type 0} {F : Type 0} {R : A → B → Type 0} {fs : List (Entry B)} (gs hs : List (Entry B)) → AllTwo (EntryAlong F R) [] fs → put_all (put_sorted code_order) fs gs ≡ hs
     → put_all (put_sorted code_order) [] gs ≡ hs
 from_none gs hs no-two p = p
 
-pub hash_map-along : {A B : Type 0} {F : Type 0} {R : A → B → Type 0} (es : List (Entry A)) {n : Meaning B} → Differ es → Along F R (of_hash_map es) n → MapAlong F R es n
+pub hash_map-along : {A B : Type 0} {F : Type 0} {R : A → B → Type 0} (es : List (Entry A)) {n : Meaning B} → Differ es → Along F R (of_hash_map es) n → Made (EntryAlong F R) of_hash_map es n
 hash_map-along es d a =
     let sorted = entries-along _ a in
     let back = unput_all es [] (after_none apart es) d sorted.each in
-    record { entries = back.entries; each = back.each; whole = sorted.whole ∙ ap of_entries (sym (from_none back.entries sorted.entries back.first back.put)) }
+    record { items = back.entries; each = back.each; whole = sorted.whole ∙ ap of_entries (sym (from_none back.entries sorted.items back.first back.put)) }
 
 -- ---- forms
 
--- a form of n of these bytes, over references that k goes along with
-pub record FormTo {A B : Type 0} (R : A → B → Type 0) (kind_of : B → ℕ) (parts : ℕ → Shape) (left : ℕ) (s : Shape) (n : Meaning B) (b : List ℕ) (k : List A) : Type 0 where
+-- references that k goes along with, over which G is so
+pub record To {A B : Type 0} (R : A → B → Type 0) (k : List A) (G : List B → Type 0) : Type 0 where
   pub refs : List B
   pub each : AllTwo R k refs
-  pub form : Form B kind_of parts left s n b refs
+  pub form : G refs
 
-pub record FormsTo {A B : Type 0} (R : A → B → Type 0) (kind_of : B → ℕ) (parts : ℕ → Shape) (left : ℕ) (s : Shape) (ns : List (Meaning B)) (b : List ℕ) (k : List A) : Type 0 where
-  pub refs : List B
-  pub each : AllTwo R k refs
-  pub form : Forms B kind_of parts left s ns b refs
-
-pub record EntriesTo {A B : Type 0} (R : A → B → Type 0) (kind_of : B → ℕ) (parts : ℕ → Shape) (left : ℕ) (s t : Shape) (fs : List (Entry B)) (b : List ℕ) (k : List A) : Type 0 where
-  pub refs : List B
-  pub each : AllTwo R k refs
-  pub form : Entries B kind_of parts left s t fs b refs
-
-to_nothing : {A B : Type 0} {R : A → B → Type 0} {kind_of : B → ℕ} {parts : ℕ → Shape} {left : ℕ} {s : Shape} {n : Meaning B} {b : List ℕ} → Form B kind_of parts left s n b []
-    → FormTo R kind_of parts left s n b []
+to_nothing : {A B : Type 0} {R : A → B → Type 0} {G : List B → Type 0} → G [] → To R [] G
 to_nothing f = record { refs = []; each = no-two; form = f }
+
+then_to : {A B : Type 0} {R : A → B → Type 0} {k : List A} {G H : List B → Type 0} → To R k G → ((refs : List B) → G refs → H refs) → To R k H
+then_to p f = record { refs = p.refs; each = p.each; form = f p.refs p.form }
 
 module _ {A B : Type 0} {F : Type 0} {R : A → B → Type 0} where
   pub ascend-two : (order : KeyOrder) {es : List (Entry A)} {fs : List (Entry B)} → AllTwo (EntryAlong F R) es fs → Ascends order es → Ascends order fs
@@ -231,19 +223,20 @@ module _ {A B : Type 0} {F : Type 0} {R : A → B → Type 0} where
 
   lifted-same : (m : Meaning ⊥) {n : Meaning B} → Along F R (lifted m) n → n ≡ lifted m
   unfolding rename
+  lifted-same (pair a b) (pair-along x y c d h g) = rw (lifted-same a h, lifted-same b g) refl
+  lifted-same (variant n a) (variant-along k x c h) = rw (lifted-same a h) refl
+  lifted-same (reference a) h = absurd a
+  lifted-same (followed kind a) (followed-along k x c f h) = rw (lifted-same a h) refl
   lifted-same (number n) (number-along x) = refl
   lifted-same (integer z) (integer-along x) = refl
   lifted-same (text t) (text-along x) = refl
   lifted-same (pattern t) (pattern-along x) = refl
   lifted-same none none-along = refl
-  lifted-same (pair a b) (pair-along x y c d h g) = rw (lifted-same a h, lifted-same b g) refl
-  lifted-same (variant n a) (variant-along k x c h) = rw (lifted-same a h) refl
-  lifted-same (reference a) h = absurd a
-  lifted-same (followed kind a) (followed-along k x c f h) = rw (lifted-same a h) refl
 
 module _ {A B : Type 0} {F : Type 0} {R : A → B → Type 0} {kind_of : A → ℕ} {kind_of2 : B → ℕ} {parts : ℕ → Shape} (kinds : (a : A) (b : B) → R a b → kind_of2 b ≡ kind_of a) where
   mutual
-    pub form-along : {left : ℕ} {s : Shape} {m : Meaning A} {n : Meaning B} {b : List ℕ} {k : List A} → Form A kind_of parts left s m b k → Along F R m n → FormTo R kind_of2 parts left s n b k
+    pub form-along : {left : ℕ} {s : Shape} {m : Meaning A} {n : Meaning B} {b : List ℕ} {k : List A} → Form A kind_of parts left s m b k → Along F R m n
+        → To R k (λ refs. Form B kind_of2 parts left s n b refs)
     form-along (nothing-form left) none-along = to_nothing (nothing-form left)
     form-along (unsigned-form left w n h) (number-along x) = to_nothing (unsigned-form left w n h)
     form-along (signed-form left w z h) (integer-along x) = to_nothing (signed-form left w z h)
@@ -253,75 +246,55 @@ module _ {A B : Type 0} {F : Type 0} {R : A → B → Type 0} {kind_of : A → �
     form-along (duration-form left seconds nanos h l) (pair-along x y a b (number-along i) (number-along j)) = to_nothing (duration-form left seconds nanos h l)
     form-along (pattern-form left t u h) (pattern-along x) = to_nothing (pattern-form left t u h)
     form-along (none-form left s) (variant-along n x a none-along) = to_nothing (none-form left s)
-    form-along (some-form left s m b k h) (variant-along n x y a) = let p = form-along h a in record { refs = p.refs; each = p.each; form = some-form left s y b p.refs p.form }
-    form-along (err-form left s t m b k h) (variant-along n x y a) = let p = form-along h a in record { refs = p.refs; each = p.each; form = err-form left s t y b p.refs p.form }
-    form-along (ok-form left s t m b k h) (variant-along n x y a) = let p = form-along h a in record { refs = p.refs; each = p.each; form = ok-form left s t y b p.refs p.form }
+    form-along (some-form left s m b k h) (variant-along n x y a) = then_to (form-along h a) (λ refs f. some-form left s y b refs f)
+    form-along (err-form left s t m b k h) (variant-along n x y a) = then_to (form-along h a) (λ refs f. err-form left s t y b refs f)
+    form-along (ok-form left s t m b k h) (variant-along n x y a) = then_to (form-along h a) (λ refs f. ok-form left s t y b refs f)
     form-along (list-form left s ms b k le h) a =
-        let q = sequence-along ms a in
-        let p = forms-along h q.each in
-        let long = length-two q.each in
-        rw (q.whole, long) (record { refs = p.refs; each = p.each; form = list-form left s q.items b p.refs (rw long at le) p.form })
+        let q = sequence-along ms a in let long = length-two q.each in
+        rw (q.whole, long) (then_to (forms-along h q.each) (λ refs f. list-form left s q.items b refs (rw long at le) f))
     form-along (run-form left s ms b k le h) a =
-        let q = sequence-along ms a in
-        let p = forms-along h q.each in
-        rw q.whole (record { refs = p.refs; each = p.each; form = run-form left s q.items b p.refs (rw (length-two q.each) at le) p.form })
+        let q = sequence-along ms a in rw q.whole (then_to (forms-along h q.each) (λ refs f. run-form left s q.items b refs (rw (length-two q.each) at le) f))
     form-along (array-form left n s ms b k e h) a =
-        let q = sequence-along ms a in
-        let p = forms-along h q.each in
-        rw q.whole (record { refs = p.refs; each = p.each; form = array-form left n s q.items b p.refs (sym (length-two q.each) ∙ e) p.form })
+        let q = sequence-along ms a in rw q.whole (then_to (forms-along h q.each) (λ refs f. array-form left n s q.items b refs (sym (length-two q.each) ∙ e) f))
     form-along (both-form left s t m n b c k l h g) (pair-along x y u v a d) =
         let p = form-along h a in
         let q = form-along g d in
         record { refs = p.refs ++ q.refs; each = append-two p.each q.each; form = both-form left s t u v b c p.refs q.refs p.form q.form }
     form-along (sorted-map-form left o s t es b k le up h) a =
-        let q = entries-along es a in
-        let p = entries_form-along h q.each in
-        let long = length-two q.each in
-        rw (q.whole, long) (record { refs = p.refs; each = p.each; form = sorted-map-form left o s t q.entries b p.refs (rw long at le) (ascend-two o q.each up) p.form })
+        let q = entries-along es a in let long = length-two q.each in
+        rw (q.whole, long) (then_to (entries_form-along h q.each) (λ refs f. sorted-map-form left o s t q.items b refs (rw long at le) (ascend-two o q.each up) f))
     form-along (placed-map-form left s t es b k le up h) a =
-        let q = entries-along es a in
-        let p = entries_form-along h q.each in
-        let long = length-two q.each in
-        rw (q.whole, long) (record { refs = p.refs; each = p.each; form = placed-map-form left s t q.entries b p.refs (rw long at le) (differ-two q.each up) p.form })
+        let q = entries-along es a in let long = length-two q.each in
+        rw (q.whole, long) (then_to (entries_form-along h q.each) (λ refs f. placed-map-form left s t q.items b refs (rw long at le) (differ-two q.each up) f))
     form-along (hash-map-form left s t es b k le up h) a =
-        let q = hash_map-along es up a in
-        let p = entries_form-along h q.each in
-        let long = length-two q.each in
-        rw (q.whole, long) (record { refs = p.refs; each = p.each; form = hash-map-form left s t q.entries b p.refs (rw long at le) (differ-two q.each up) p.form })
+        let q = hash_map-along es up a in let long = length-two q.each in
+        rw (q.whole, long) (then_to (entries_form-along h q.each) (λ refs f. hash-map-form left s t q.items b refs (rw long at le) (differ-two q.each up) f))
     form-along (sorted-set-form left o s ms b k le up h) a =
-        let q = sequence-along ms a in
-        let p = forms-along h q.each in
-        let long = length-two q.each in
-        rw (q.whole, long) (record { refs = p.refs; each = p.each; form = sorted-set-form left o s q.items b p.refs (rw long at le) (items_ascend-two o q.each up) p.form })
+        let q = sequence-along ms a in let long = length-two q.each in
+        rw (q.whole, long) (then_to (forms-along h q.each) (λ refs f. sorted-set-form left o s q.items b refs (rw long at le) (items_ascend-two o q.each up) f))
     form-along (placed-set-form left s ms b k le up h) a =
-        let q = sequence-along ms a in
-        let p = forms-along h q.each in
-        let long = length-two q.each in
-        rw (q.whole, long) (record { refs = p.refs; each = p.each; form = placed-set-form left s q.items b p.refs (rw long at le) (items_differ-two q.each up) p.form })
+        let q = sequence-along ms a in let long = length-two q.each in
+        rw (q.whole, long) (then_to (forms-along h q.each) (λ refs f. placed-set-form left s q.items b refs (rw long at le) (items_differ-two q.each up) f))
     form-along (static-form left registry i m lt e) a = rw (lifted-same m a) (to_nothing (static-form left registry i m lt e))
     form-along (tagged-form left written known body tag m b k u le h) (pair-along x y c d (text-along t) a) =
-        let p = form-along h a in record { refs = p.refs; each = p.each; form = tagged-form left written known body tag d b p.refs u le p.form }
+        then_to (form-along h a) (λ refs f. tagged-form left written known body tag d b refs u le f)
     form-along (case-form left w known part n m b k lt is h) (variant-along i x y a) =
-        let p = form-along h a in record { refs = p.refs; each = p.each; form = case-form left w known part n y b p.refs lt is p.form }
+        then_to (form-along h a) (λ refs f. case-form left w known part n y b refs lt is f)
     form-along (reference-form left kind x e) (reference-along x2 y r) = record { refs = y ∷ []; each = more-two x y [] [] r no-two; form = reference-form left kind y (kinds x y r ∙ e) }
-    form-along (nested-form left less n m b k e h) a = let p = form-along h a in record { refs = p.refs; each = p.each; form = nested-form left less n _ b p.refs e p.form }
+    form-along (nested-form left less n m b k e h) a = then_to (form-along h a) (λ refs f. nested-form left less n _ b refs e f)
     form-along (json-null-form left) (variant-along n x a none-along) = to_nothing (json-null-form left)
     form-along (json-flag-form left b) (variant-along n x y a) = rw (flag-along b a) (to_nothing (json-flag-form left b))
     form-along (json-number-form left z h) (variant-along n x y (integer-along i)) = to_nothing (json-number-form left z h)
     form-along (json-text-form left t u h) (variant-along n x y (text-along i)) = to_nothing (json-text-form left t u h)
     form-along (json-array-form left less ms b k e le h) (variant-along n x y a) =
-        let q = sequence-along ms a in
-        let p = forms-along h q.each in
-        let long = length-two q.each in
-        rw (q.whole, long) (record { refs = p.refs; each = p.each; form = json-array-form left less q.items b p.refs e (rw long at le) p.form })
+        let q = sequence-along ms a in let long = length-two q.each in
+        rw (q.whole, long) (then_to (forms-along h q.each) (λ refs f. json-array-form left less q.items b refs e (rw long at le) f))
     form-along (json-object-form left less es b k e le up h) (variant-along n x y a) =
-        let q = entries-along es a in
-        let p = entries_form-along h q.each in
-        let long = length-two q.each in
-        rw (q.whole, long) (record { refs = p.refs; each = p.each; form = json-object-form left less q.entries b p.refs e (rw long at le) (ascend-two text_order q.each up) p.form })
+        let q = entries-along es a in let long = length-two q.each in
+        rw (q.whole, long) (then_to (entries_form-along h q.each) (λ refs f. json-object-form left less q.items b refs e (rw long at le) (ascend-two text_order q.each up) f))
 
     pub forms-along : {left : ℕ} {s : Shape} {ms : List (Meaning A)} {ns : List (Meaning B)} {b : List ℕ} {k : List A} → Forms A kind_of parts left s ms b k → AllTwo (Along F R) ms ns
-        → FormsTo R kind_of2 parts left s ns b k
+        → To R k (λ refs. Forms B kind_of2 parts left s ns b refs)
     forms-along (no-forms left s) no-two = record { refs = []; each = no-two; form = no-forms left s }
     forms-along (more-forms left s m ms b c k l h g) (more-two x y xs ys a d) =
         let p = form-along h a in
@@ -329,7 +302,7 @@ module _ {A B : Type 0} {F : Type 0} {R : A → B → Type 0} {kind_of : A → �
         record { refs = p.refs ++ q.refs; each = append-two p.each q.each; form = more-forms left s y ys b c p.refs q.refs p.form q.form }
 
     pub entries_form-along : {left : ℕ} {s t : Shape} {es : List (Entry A)} {fs : List (Entry B)} {b : List ℕ} {k : List A} → Entries A kind_of parts left s t es b k
-        → AllTwo (EntryAlong F R) es fs → EntriesTo R kind_of2 parts left s t fs b k
+        → AllTwo (EntryAlong F R) es fs → To R k (λ refs. Entries B kind_of2 parts left s t fs b refs)
     entries_form-along (no-entries left s t) no-two = record { refs = []; each = no-two; form = no-entries left s t }
     entries_form-along (more-entries left s t m n es b c d j k l h g f) (more-two x y xs ys a i) =
         let p = form-along h a.key in

@@ -1,12 +1,12 @@
 -- What follows for keys: each that is published is its tree's, each that is answered is its task's, and what a worker met that answers one is left paged out.
-use Rattle.pagable_laws.proofs.Words.{arith, nat_tests, ◌≡◌, ℕ, true, List, [], ◌∷◌, Option, Some, None, Ok, Err, refl, sym, ap, subst, ◌∙◌, is_some, OptionalDataKey, pair, variant}
-use Rattle.pagable_laws.proofs.Words.{followed, EachType, blob_of, KeyOf, KeyOfItem, ArcRef, Identity, is_loose_kind, Meaning, Tree, HandleNumber, ReadsTree, WorkerNumber, type_of, if_there, Event}
-use Rattle.pagable_laws.proofs.Words.{EventReply, Took, WorkerAnswer, WorkerReply, identity_of, has_key, Core, Cell, key_at, Shelf, Slot, Written, Fault, Todo, to_item}
-use Rattle.pagable_laws.proofs.Words.{to_set, to_publish, to_release, to_fail, Task, of_item, of_entry, Walking, Values, Seen, Site, Does, IsPublished, answer_after, WorkerSteps, Happens, PagerState}
-use Rattle.pagable_laws.proofs.Words.{MachineState, world_of, kids_of, HandlesAreWhole, IsMachineWhole, KeyFits, NodeStands, Represents, StandsFor, ReadsItsTypes, Meets, meets-of-item}
-use Rattle.pagable_laws.proofs.Words.{meets-entry, meets-below, AreKeysOf, IsLeftPagedOut, HasKeyOf, LeavesAll, IsKeyOfTask, Ground, ground_of, IsOfEntry, Waits, Walks, WorkFits, IsDone, KeyIsSet}
-use Rattle.pagable_laws.proofs.{Words.{AllHold, HasHandle, KeysHeld, KeysAreRight}, Merkle.{one_key, one_item_key, tree_readable}, Trees.same_some, Following.{IdentityStands, known-of, keys-of}}
-use Rattle.pagable_laws.proofs.{Following.{tree-form, held-of, cell-of}, Taking.row-held, Coming.updated-at, Shelves.{KeepsKeys, keys-on, keys-same}, Stepping.{all-known, stands-for}}
+use Rattle.pagable_laws.proofs.Words.{arith, nat_tests, ◌≡◌, ℕ, true, List, [], ◌∷◌, Option, Some, None, Ok, Err, refl, sym, ap, subst, ◌∙◌, is_some, OptionalDataKey, blob_of, KeyOf, KeyOfItem}
+use Rattle.pagable_laws.proofs.Words.{ArcRef, Identity, is_loose_kind, Tree, HandleNumber, ReadsTree, WorkerNumber, if_there, Event, EventReply, Took, WorkerAnswer, WorkerReply, identity_of}
+use Rattle.pagable_laws.proofs.Words.{has_key, Core, Cell, key_at, Shelf, Slot, Written, Fault, Todo, to_item, to_set, to_publish, to_release, to_fail, Task, of_item, of_entry, Walking, Values}
+use Rattle.pagable_laws.proofs.Words.{Seen, Site, Does, IsPublished, answer_after, WorkerSteps, Happens, PagerState, MachineState, world_of, kids_of, HandlesAreWhole, IsMachineWhole, KeyFits}
+use Rattle.pagable_laws.proofs.Words.{NodeStands, Represents, StandsFor, ReadsItsTypes, Meets, meets-of-item, meets-entry, meets-below, AreKeysOf, IsLeftPagedOut, HasKeyOf, LeavesAll, IsKeyOfTask}
+use Rattle.pagable_laws.proofs.{Words.{Ground, ground_of, IsOfEntry, Waits, Walks, WorkFits, IsDone, KeyIsSet, AllHold, HasHandle, KeysHeld, KeysAreRight}, Merkle.{one_key, one_item_key}}
+use Rattle.pagable_laws.proofs.{Merkle.tree_readable, Trees.{same_some, each-type}, Following.{IdentityStands, known-of, keys-of, tree-form, held-of, cell-of}, Taking.row-held, Coming.updated-at}
+use Rattle.pagable_laws.proofs.Stepping.{KeepsKeys, keys-on, keys-same, all-known, stands-for}
 
 -- ---- one step of a worker
 
@@ -168,24 +168,9 @@ module _ {N B W E : Type 0} (m : Seen N B W) (s s' : MachineState N E) (trees tr
         leaves = λ walking key there e. is-after n reply w (λ x. LeavesAll m.values s'.pager (s'.work.shelves x.table) trees' x.task)
             (left-all w.walking.table w.walking.task key (done n reply w key e)) walking there;
       }
-  keys-right (Event.WorkerStep n) (EventReply.WorkerMoved (Err e)) is = record { publishes = tt; key = tt; leaves = tt }
-  keys-right (Event.WorkerStep n) reply is = absurd is
-  keys-right (Event.Call call) reply is = record { publishes = tt; key = tt; leaves = tt }
-  keys-right (Event.LoadStart h) reply is = record { publishes = tt; key = tt; leaves = tt }
-  keys-right (Event.LoadKey key t) reply is = record { publishes = tt; key = tt; leaves = tt }
-  keys-right (Event.LoadStep l) reply is = record { publishes = tt; key = tt; leaves = tt }
-  keys-right Event.TableNew reply is = record { publishes = tt; key = tt; leaves = tt }
-  keys-right (Event.WorkerItem t item) reply is = record { publishes = tt; key = tt; leaves = tt }
-  keys-right (Event.WorkerListed t i) reply is = record { publishes = tt; key = tt; leaves = tt }
+  keys-right event reply is = record { publishes = tt; key = tt; leaves = tt }
 
 -- ---- what a worker is about to set
-
-each-type : {P : ℕ → Type 0} → ((t : ℕ) → P t) → (m : Meaning ⊥) → EachType P m
-unfolding EachType
-each-type all (pair a b) = (each-type all a, each-type all b)
-each-type all (variant n a) = each-type all a
-each-type all (followed kind a) = (all (type_of kind), each-type all a)
-each-type all x1 = grind (arith, nat_tests)
 
 -- a key that a worker is about to set reads as its node's tree
 pub sets-key : {N E : Type 0} (v : Values N) (s : MachineState N E) (trees : ℕ → Tree) → ReadsItsTypes v.types → WorkFits v s trees

@@ -1,19 +1,196 @@
--- A value that was read of a form names no handle twice, where the handles that were got are apart. So nothing is to be said against its references, where each is good.
-use Rattle.pagable_laws.proofs.Words.{nat_tests, ◌≡◌, ℕ, zero, suc, ◌+◌, ◌≤◌, ◌==◌, ◌||◌, Bool, true, false, List, [], ◌∷◌, length, Some, None, Result, Ok, Err, inr, refl, sym, ap, subst, ◌∙◌, arith}
-use Rattle.pagable_laws.proofs.Words.{if◌then◌else◌, slice_get, append-nil, sum_by-cons, Error, Meaning, references_in, Rest, read, kind_of_arc, Answer, answer_at, handles_at, Owner, ArcRef, Blob}
-use Rattle.pagable_laws.proofs.Words.{Types, Among, is_in, one, times, Core, answer_of, answers_from, reads, next_of, reference_fault, references_fault, IsReference, rest, LooksUp, no-references}
-use Rattle.pagable_laws.proofs.{Words.more-references, Again.read_again, Along.{Along, pair-along, variant-along, reference-along, followed-along, AllTwo, no-two, more-two, append-two}, Related.Out}
-use Rattle.pagable_laws.proofs.{Related.{OutLook, both-looked-up, both-not, read_par}, Sums.{self-number, same-number, at-most-sum, counted, one-true}}
-use Rattle.pagable_laws.proofs.{Decoding.read-gives, ReadingStepsKinds.kinds_of, Asking.IsFormOf}
+-- What a blob asks for that is a form of some value; and that what was read of it names no handle twice, where the handles that were got are apart.
+use Rattle.pagable_laws.proofs.Words.{nat_tests, ◌≡◌, ℕ, ◌<◌, ◌≤◌, ◌==◌, true, List, [], ◌∷◌, ◌++◌, map, length, Option, Some, None, Result, Ok, Err, refl, sym, ap, subst, ◌∙◌, arith}
+use Rattle.pagable_laws.proofs.Words.{append_assoc, slice_get, slice_get-get_or, append-nil, Error, ◌>>=◌, Meaning, rename, Rest, read, deepest, references_in, Form, kind_of_arc, Answer}
+use Rattle.pagable_laws.proofs.Words.{answer_at, handles_at, IsReadable, Throughout, ArcRef, Kind, Blob, Shape, Types, is_eager, times, Frame, answer_of, answers_from, Next, reads, asks, next_by}
+use Rattle.pagable_laws.proofs.Words.{next_of, next_in, rest, at, LooksUp, no-references, more-references, zero, suc, ◌+◌, ◌||◌, Bool, false, inr, if◌then◌else◌, sum_by-cons, Owner, Among, is_in}
+use Rattle.pagable_laws.proofs.{Words.{one, Core, reference_fault, references_fault, IsReference}, Again.{form-again, read_again, Stops, stops-here, stops-later, form-stops}, Related.renamed}
+use Rattle.pagable_laws.proofs.{Related.{keeps_forms, Out, no_cause, OutLook, both-looked-up, both-not, read_par}, Sums.{self-number, same-number, at-most-sum, counted, one-true}}
+use Rattle.pagable_laws.proofs.{ReadingStepsKinds.{kinds_of, kinds-pushed}, Fitting.longer, Along.{Along, AllTwo, no-two, more-two, refs-two, each-two}, Decoding.read-gives}
 use Rattle.pagable_world.specs.Loads.{read_with}
+
+-- ---- what is answered
+
+-- an answer, by the kind of its reference
+look_kind : ℕ → Answer → Result ℕ Error
+look_kind kind a = answer_at kind a >>= λ r. Ok (kind_of_arc r)
+
+-- a kind stands for itself
+abbrev own_kind : ℕ → ℕ
+own_kind kind = kind
+
+behind-end : (front : List ArcRef) → slice_get (front ++ []) (length front) ≡ None
+behind-end [] = refl
+behind-end (x ∷ xs) = behind-end xs
+
+at-place : (front : List ArcRef) (g : ArcRef) (back : List ArcRef) → slice_get (front ++ g ∷ back) (length front) ≡ Some g
+at-place [] g back = refl
+at-place (x ∷ xs) g back = at-place xs g back
+
+answered : (g : ArcRef) (o : Option ArcRef) (kind : ℕ) → o ≡ Some g → g.kind.0 ≡ kind → look_kind kind (answer_of o) ≡ Ok kind
+unfolding look_kind
+answered g o kind is same = grind (arith, self-number)
+
+unanswered : (o : Option ArcRef) (kind : ℕ) → o ≡ None → look_kind kind (answer_of o) ≡ Err (Error.Storage kind)
+unfolding look_kind
+unanswered o kind is = rw is refl
+
+-- the references are these, and the first of them were got
+first-kind : (g d : ArcRef) (gs ds : List ArcRef) → kinds_of (g ∷ gs) ≡ kinds_of (d ∷ ds) → (g.kind.0 ≡ d.kind.0) × (kinds_of gs ≡ kinds_of ds)
+first-kind g d gs ds e = (cc, cc)
+
+stops-at : (front back done : List ArcRef) (q : ArcRef) (more : List ArcRef) (keys : List ℕ) → kinds_of back ≡ kinds_of done → length keys ≡ length (done ++ q ∷ more)
+    → Stops look_kind own_kind (Error.Storage q.kind.0) (answers_from (front ++ back) (length front) keys) (map kind_of_arc (done ++ q ∷ more))
+unfolding answers_from
+stops-at front [] [] q more (key ∷ keys) same few = stops-here _ _ _ _ (unanswered (slice_get (front ++ []) (length front)) q.kind.0 (behind-end front))
+stops-at front (g ∷ back) (d ∷ done) q more (key ∷ keys) same few =
+    let both = first-kind g d back done same in
+    let tail = stops-at (front ++ g ∷ []) back done q more keys both.1 (omega arith) in
+    let moved = subst (λ gs. Stops look_kind own_kind (Error.Storage q.kind.0) (answers_from gs (length (front ++ g ∷ [])) keys) (map kind_of_arc (done ++ q ∷ more))) (append_assoc front
+    (g ∷ []) back) tail in
+    stops-later _ _ _ _ (answered g (slice_get (front ++ g ∷ back) (length front)) d.kind.0 (at-place front g back) both.0)
+    (subst (λ n. Stops look_kind own_kind (Error.Storage q.kind.0) (answers_from (front ++ g ∷ back) n keys) (map kind_of_arc (done ++ q ∷ more))) (longer front g) moved)
+stops-at front _ _ q more [] same few = absurd (omega arith)
+stops-at front _ _ q more keys same few = absurd (cc)
+
+looks-all : (front back done : List ArcRef) (keys : List ℕ) → kinds_of back ≡ kinds_of done → length keys ≡ length done
+    → LooksUp look_kind own_kind (answers_from (front ++ back) (length front) keys) (map kind_of_arc done)
+unfolding answers_from
+looks-all front [] [] [] same few = no-references
+looks-all front (g ∷ back) [] keys same few = absurd (cc)
+looks-all front [] (d ∷ done) keys same few = absurd (cc)
+looks-all front (g ∷ back) (d ∷ done) (key ∷ keys) same few =
+    let both = first-kind g d back done same in
+    let tail = looks-all (front ++ g ∷ []) back done keys both.1 (omega arith) in
+    let moved = subst (λ gs. LooksUp look_kind own_kind (answers_from gs (length (front ++ g ∷ [])) keys) (map kind_of_arc done)) (append_assoc front (g ∷ []) back) tail in
+    more-references _ _ _ _ (answered g (slice_get (front ++ g ∷ back) (length front)) d.kind.0 (at-place front g back) both.0)
+    (subst (λ n. LooksUp look_kind own_kind (answers_from (front ++ g ∷ back) n keys) (map kind_of_arc done)) (longer front g) moved)
+looks-all front _ _ _ same few = absurd (omega arith)
+
+-- ---- what comes next
+
+err-of : {X Y R : Type 0} (f : X × R → Y × R) (r : Result (X × R) Error) (e : Error) → (r >>= λ x. Ok (f x)) ≡ Err e → r ≡ Err e
+err-of f x1 e is = grind (arith, nat_tests)
+
+ok-of : {X Y R : Type 0} (f : X × R → Y × R) (r : Result (X × R) Error) (y : Y × R) → (r >>= λ x. Ok (f x)) ≡ Ok y → (x : X × R) × (r ≡ Ok x)
+ok-of f (Ok x) y is = (x, refl)
+ok-of f (Err d) y is = absurd (cc)
+
+-- A blob that is a form of a value of the type, which names no handle twice: its bytes, and a key for each reference.
+pub record IsFormOf (types : Types) (t : ℕ) (blob : Blob) (refs : List ArcRef) : Type 0 where
+  pub shape : Shape
+  pub own : Meaning ArcRef
+  pub is : types.nodes t ≡ Some shape
+  pub can : Throughout IsReadable types.parts shape
+  pub form : Form ArcRef kind_of_arc types.parts deepest shape own blob.bytes refs
+  pub as_many : length blob.keys ≡ length refs
+  pub once : (q : ℕ) → times (λ (r : ArcRef). r.handle.0 == q) (references_in own) ≤ 1
+
+module _ (types : Types) (t : ℕ) (blob : Blob) (refs : List ArcRef) (f : IsFormOf types t blob refs) where
+  abbrev input : List ArcRef → Rest Answer
+  input got = rest blob.bytes (answers_from got 0 blob.keys)
+
+  kinds-form : Form ℕ own_kind types.parts deepest f.shape (rename kind_of_arc f.own) blob.bytes (map kind_of_arc refs)
+  kinds-form = keeps_forms kind_of_arc kind_of_arc own_kind types.parts deepest f.shape f.own blob.bytes refs (λ a. refl) f.form
+
+  by-shape : (got : List ArcRef) → read_with types t blob got ≡ read (handles_at 0 types.parts) f.shape (input got)
+  by-shape got = rw f.is refl
+
+  -- with the first of its references it asks for the next
+  asks-next : (got done : List ArcRef) (q : ArcRef) (more : List ArcRef) → refs ≡ done ++ q ∷ more → kinds_of got ≡ kinds_of done
+      → (key : ℕ) × (slice_get blob.keys (length done) ≡ Some key) × (next_of types t blob got ≡ asks q.kind key)
+  unfolding read look_kind
+  asks-next got done q more split same =
+      let few : length blob.keys ≡ length (done ++ q ∷ more) = f.as_many ∙ ap length split in
+      let stops = subst (λ (rs : List ArcRef). Stops look_kind own_kind (Error.Storage q.kind.0) (answers_from got 0 blob.keys) (map kind_of_arc rs)) (sym split)
+      (stops-at [] got done q more blob.keys same few) in
+      let stopped = form-stops [] (answers_from got 0 blob.keys) kinds-form stops f.can in
+      let refused : read (at 0 look_kind types.parts) f.shape (input got) ≡ Err (Error.Storage q.kind.0) = rw append-nil at stopped in
+      let first = err-of _ (read (handles_at 0 types.parts) f.shape (input got)) (Error.Storage q.kind.0) (sym (renamed kind_of_arc answer_at 0 types.parts f.shape (input got)) ∙ refused) in
+      let n = length done in
+      let there = slice_get-get_or blob.keys n 0 (shorter done q more few) in
+      let gotten : length got ≡ n = as-long got done same in
+      (_, there, ap (λ r. next_by (slice_get blob.keys (length got)) r) (by-shape got ∙ first) ∙ ap (λ o. next_by o (Err (Error.Storage q.kind.0))) (ap (slice_get blob.keys) gotten ∙ there))
+    where
+      as-long : (xs ys : List ArcRef) → kinds_of xs ≡ kinds_of ys → length xs ≡ length ys
+      as-long [] [] e = refl
+      as-long (x ∷ xs) (y ∷ ys) e = let a = as-long xs ys (first-kind x y xs ys e).1 in omega (arith, a)
+      as-long _ _ e = absurd (cc)
+
+      shorter : (xs : List ArcRef) (q : ArcRef) (more : List ArcRef) {n : ℕ} → n ≡ length (xs ++ q ∷ more) → length xs < n
+      shorter [] q more is = omega arith
+      shorter (x ∷ xs) q more {n} is = let a = shorter xs q more refl in omega (arith, a)
+
+  -- with all of them it is read
+  reads-all : (got : List ArcRef) → kinds_of got ≡ kinds_of refs → (own : Meaning ArcRef) × (next_of types t blob got ≡ reads own)
+  unfolding read look_kind
+  reads-all got same =
+      let looks = looks-all [] got refs blob.keys same f.as_many in
+      let again = form-again [] (answers_from got 0 blob.keys) [] kinds-form looks f.can in
+      let given : read (at 0 look_kind types.parts) f.shape (input got) ≡ Ok (rename kind_of_arc f.own, rest [] []) = rw (append-nil, append-nil) at again in
+      let first = ok-of _ (read (handles_at 0 types.parts) f.shape (input got)) _ (sym (renamed kind_of_arc answer_at 0 types.parts f.shape (input got)) ∙ given) in
+      (first.0.0, ap (λ r. next_by (slice_get blob.keys (length got)) r) (by-shape got ∙ first.1))
+
+-- ---- what was got
+
+-- What was got for a blob was asked for, one reference after another.
+pub data GotAsked (types : Types) (t : ℕ) (blob : Blob) : List ArcRef → Type 0 where
+  none-got : (got : List ArcRef) → got ≡ [] → GotAsked types t blob got
+  one-got : (got more : List ArcRef) (r : ArcRef) (key : ℕ) → GotAsked types t blob got → next_of types t blob got ≡ asks r.kind key → more ≡ got ++ r ∷ [] → GotAsked types t blob more
+
+-- What each blob has got was asked for, and each blob but the root's was asked for by the one below it, through a reference that is read together with it.
+unfoldable pub FramesAsked : Types → List Frame → Type 0
+FramesAsked types [] = Unit {0}
+FramesAsked types (frame ∷ []) = GotAsked types frame.node_type frame.blob frame.got
+FramesAsked types (frame ∷ below ∷ rest) =
+    GotAsked types frame.node_type frame.blob frame.got × (is_eager frame.kind.0 ≡ true) × (next_in types below ≡ asks frame.kind frame.key) × FramesAsked types (below ∷ rest)
+
+-- What comes next where the first of the form's references were got: it is read, and all were got, or it asks for one more.
+data Ahead (types : Types) (t : ℕ) (blob : Blob) (refs got : List ArcRef) : Type 0 where
+  all-done : (own : Meaning ArcRef) → next_of types t blob got ≡ reads own → kinds_of got ≡ kinds_of refs → Ahead types t blob refs got
+  one-left : (done left : List ArcRef) (q : ArcRef) (key : ℕ) → refs ≡ done ++ q ∷ left → kinds_of got ≡ kinds_of done → slice_get blob.keys (length done) ≡ Some key
+      → next_of types t blob got ≡ asks q.kind key → Ahead types t blob refs got
+
+-- what it asks for next is one of the form's references, or it is read
+pub data NextOf (blob : Blob) (refs : List ArcRef) (next : Next) : Type 0 where
+  asks-known : (place : ℕ) (r : ArcRef) (key : ℕ) → slice_get refs place ≡ Some r → slice_get blob.keys place ≡ Some key → next ≡ asks r.kind key → NextOf blob refs next
+  all-read : (own : Meaning ArcRef) → next ≡ reads own → NextOf blob refs next
+
+module _ (types : Types) (t : ℕ) (blob : Blob) (refs : List ArcRef) (f : IsFormOf types t blob refs) where
+  ahead : (got done left : List ArcRef) → refs ≡ done ++ left → kinds_of got ≡ kinds_of done → Ahead types t blob refs got
+  ahead got done [] split same =
+      let all = same ∙ ap kinds_of (sym (split ∙ append-nil done)) in let w = reads-all types t blob refs f got all in all-done w.0 w.1 all
+  ahead got done (q ∷ left) split same = let a = asks-next types t blob refs f got done q left split same in one-left done left q a.0 split same a.1 a.2
+
+  comes-to : {got : List ArcRef} → GotAsked types t blob got → Ahead types t blob refs got
+  comes-to (none-got got is) = ahead got [] refs refl (ap kinds_of is)
+  comes-to (one-got got more r key h next is) = subst (Ahead types t blob refs) (sym is) (by (comes-to h))
+    where
+      by : Ahead types t blob refs got → Ahead types t blob refs (got ++ r ∷ [])
+      by (all-done own read all) = absurd (let e : reads own ≡ asks r.kind key = sym read ∙ next in cc)
+      by (one-left done left q k split same there asked) =
+          let e : asks q.kind k ≡ asks r.kind key = sym asked ∙ next in
+          let kinds : q.kind ≡ r.kind = cc in
+          ahead (got ++ r ∷ []) (done ++ q ∷ []) left (split ∙ sym (append_assoc done (q ∷ []) left))
+          (kinds-pushed got r ∙ ap (λ ks. ks ++ r.kind.0 ∷ []) same ∙ ap (λ (k : Kind). kinds_of done ++ k.0 ∷ []) (sym kinds) ∙ sym (kinds-pushed done q))
+
+  pub next-known : {got : List ArcRef} → GotAsked types t blob got → NextOf blob refs (next_of types t blob got)
+  next-known {got} h = elim (comes-to h) [
+    | all-done own read all ↦ all-read own read
+    | one-left done left q key split same there asked ↦ asks-known (length done) q key (ap (λ (rs : List ArcRef). slice_get rs (length done)) split ∙ at-place done q left) there asked
+  ]
+
+  -- where it is read, all were got
+  pub all-got : {got : List ArcRef} → GotAsked types t blob got → (own : Meaning ArcRef) → next_of types t blob got ≡ reads own → kinds_of got ≡ kinds_of refs
+  all-got {got} h own is = elim (comes-to h) [
+    | all-done own2 read all ↦ all
+    | one-left done left q key split same there asked ↦ absurd (let e : asks q.kind key ≡ reads own = sym asked ∙ is in cc)
+  ]
+
+-- ---- a value that was read of a form names no handle twice, where the handles that were got are apart. So nothing is to be said against its references, where each is good
 
 -- no handle was got twice
 abbrev pub AreApart : List ArcRef → Type 0
 AreApart got = (i j : ℕ) (r q : ArcRef) → slice_get got i ≡ Some r → slice_get got j ≡ Some q → r.handle.0 ≡ q.handle.0 → i ≡ j
-
--- no cause
-abbrev no_cause : Error → Type 0
-no_cause e = ⊥
 
 -- the one was got in the place of the other
 record InPlace (got refs : List ArcRef) (g r : ArcRef) : Type 0 where
@@ -77,19 +254,6 @@ module _ (types : Types) (t : ℕ) (blob : Blob) (refs got : List ArcRef) (f : I
 
   -- ---- references, one by one
 
-  refs-two : {m n : Meaning ArcRef} → Along ⊥ (InPlace got refs) m n → AllTwo (InPlace got refs) (references_in m) (references_in n)
-  unfolding references_in
-  refs-two (pair-along x y a b h g) = append-two (refs-two h) (refs-two g)
-  refs-two (variant-along n x a h) = refs-two h
-  refs-two (reference-along g r h) = more-two g r [] [] h no-two
-  refs-two (followed-along kind x a n h) = absurd n
-  refs-two _ = no-two
-
-  each-other : {xs ys : List ArcRef} → AllTwo (InPlace got refs) xs ys → (x : ArcRef) → Among xs x → (y : ArcRef) × InPlace got refs x y
-  each-other no-two x (i, e) = absurd (cc)
-  each-other (more-two a b xs ys h g) x (zero, e) = let same : a ≡ x = cc in (b, subst (λ z. InPlace got refs z b) same h)
-  each-other (more-two a b xs ys h g) x (suc i, e) = each-other g x (i, e)
-
   module _ (apart : AreApart got) where
     -- where a handle was got, all that is named by it was one reference
     no-more : (q : ℕ) (r : ArcRef) (g : ArcRef) → InPlace got refs g r → g.handle.0 ≡ q → {xs ys : List ArcRef} → AllTwo (InPlace got refs) xs ys
@@ -115,7 +279,7 @@ module _ (types : Types) (t : ℕ) (blob : Blob) (refs got : List ArcRef) (f : I
         at (suc n) e =
             let two = refs-two (in-place own is) in
             let some = counted (λ (r : ArcRef). one (r.handle.0 == q)) (references_in own) (omega (arith, e)) in
-            let r = each-other two some.0 some.1 in
+            let r = each-two two some.0 some.1 in
             let le = no-more q r.0 some.0 r.1 (same-number some.0.handle.0 q (one-true _ some.2)) two in
             let few = f.once r.0.handle.0 in
             omega (arith, le, few)

@@ -1,15 +1,86 @@
--- What trees feel of each call that doesn't close the storage, by the call and its reply.
-use Rattle.pagable_laws.proofs.Words.{nat_tests, ◌≡◌, ℕ, Bool, true, false, List, [], refl, ap, sym, subst, ◌∙◌, inl, inr, Option, Some, None, ◌⊎◌, Result, Ok, Err, Error, Kind, ArcRef, HandleNumber}
-use Rattle.pagable_laws.proofs.Words.{LoadNumber, NodeNumber, Owner, HandleRow, Mode, Call, Reply, Event, OptionalDataKey, find_row, is_loose, is_pinned, owner_value, Core, Seen, Values, Owns}
-use Rattle.pagable_laws.proofs.Words.{only_handle, with_mode, next_node, moved, is_named_by, BirthCall, UnpinCall, ReleaseCall, SetKeyCall, ScheduleCall, TakeCall, RecallCall, OfferCall}
-use Rattle.pagable_laws.proofs.Words.{IsRefused, ClearCall, AdoptCall, LazyCall, EndCall, Installs, HandOverCall, DropCall, with_pin, without_load, first_key, CallBrings, IsNewNode, KeepsOpen}
-use Rattle.pagable_laws.proofs.Words.{LeavesCache, Change, nothing_felt, sets_key, knows_node, bears_node, bears_known, CallFeels, feels-nothing, feels-birth, feels-away, feels-key, feels-known}
-use Rattle.pagable_laws.proofs.Goes.{parts, quiet-self, le-self, Quiet, Goes, NotLoads, rows-self, rows-mode, Changed, found-changed, quiet-then, alike, only-rows, fell, fell-anyhow, a-handle}
-use Rattle.pagable_laws.proofs.Goes.{quiet-goes}
-use Rattle.pagable_laws.proofs.Calling.{own-mode, made-handle, some-moved, closed-load, was-asked, stores, clones, pins, begins, begins-key, gets-known, asks, closes}
-use Rattle.pagable_laws.proofs.{Goes.goes-quiet, Goes.born, Goes.keyed, Goes.goes-known, Goes.adopts, Goes.KnowsNext, GoodReferences.good, GoodReferences.alike-away, GoodReferences.fell-away}
-use Rattle.pagable_laws.proofs.{Trees.same_some, Words.arith, Words.feels-adopted, Words.feels-lazy, Words.feels-end, Words.StaysAway}
+-- What trees feel of each call, by the call and its reply.
+use Rattle.pagable_laws.proofs.Words.{◌≡◌, ℕ, Bool, true, false, List, refl, Option, Some, Result, Ok, Err, Adds, Error, Kind, Blob, HandleNumber, LoadNumber, NodeNumber, Owner, HandleRow, Mode, Want}
+use Rattle.pagable_laws.proofs.Words.{Pinning, Beginning, OptionalDataKey, is_loose, Core, of_cell, type_at, key_at, Alike, Owns, with_handle, with_mode, moved, CloneCall, PinCall, Asked, StoreCall}
+use Rattle.pagable_laws.proofs.Words.{without_load, BeginCall, BeginKeyCall, Given, arith, nat_tests, AskCall, GetsKnown, LoadCloses, nothing_felt, BeginsWell, [], inl, inr, None, ◌⊎◌, ArcRef, Call}
+use Rattle.pagable_laws.proofs.Words.{Reply, Event, find_row, is_pinned, owner_value, Seen, Values, only_handle, next_node, is_named_by, BirthCall, UnpinCall, ReleaseCall, SetKeyCall, ScheduleCall}
+use Rattle.pagable_laws.proofs.Words.{TakeCall, RecallCall, OfferCall, IsRefused, ClearCall, AdoptCall, LazyCall, EndCall, Installs, HandOverCall, DropCall, with_pin, first_key, CallBrings, IsNewNode}
+use Rattle.pagable_laws.proofs.Words.{KeepsOpen, LeavesCache, Change, sets_key, knows_node, bears_node, bears_known, CallFeels, feels-nothing, feels-birth, feels-away, feels-key, feels-known}
+use Rattle.pagable_laws.proofs.{Words.{feels-adopted, feels-lazy, feels-end, StaysAway}, Goes.{parts, le-self, Quiet, Goes, NotLoads, rows-self, rows-mode, rows-moved, quiet-then, alike, only-rows}}
+use Rattle.pagable_laws.proofs.Goes.{fell, a-handle, quiet-goes, quiet-begins, goes-quiet, begun, quiet-self, found-changed, fell-anyhow, born, keyed, goes-known, adopts, KnowsNext}
+use Rattle.pagable_laws.proofs.{Sums.same-number, Trees.same_some, GoodReferences.{good, alike-away, fell-away}}
 use Rattle.pagable_world.specs.Events.{Does}
+
+-- ---- what is done to an own handle
+
+pub own-mode : (w : Core) (me : Owner) (h : HandleNumber) (fits : Mode → Bool) (row : HandleRow) (mode : Mode) → is_loose mode ≡ true → NotLoads me → Owns w me h fits row
+    → Quiet w (with_mode w h mode)
+own-mode w me h fits row mode is_so free owns = grind (arith, nat_tests, only-rows, rows-mode, same_some, le-self)
+
+pub made-handle : {w w' : Core} (node : NodeNumber) (mode : Mode) (owner : Owner) → Alike (with_handle w node mode owner) w' → Quiet w w'
+made-handle {w} {w'} node mode owner a = quiet-then (a-handle w node mode owner) (alike a)
+
+pub some-moved : (w : Core) (s : ℕ → Bool) (owner : Owner) (list : List HandleNumber) → NotLoads owner → Quiet w (record w { rows = moved s owner w.rows; list = list })
+some-moved w s owner list free = only-rows (rows-moved w.last.handle w.rows s owner free) (le-self _)
+
+-- the load isn't there any more
+pub closed-load : (w : Core) (l : LoadNumber) → Quiet w (without_load w l)
+closed-load w l = grind (arith, parts, le-self, rows-self)
+
+-- at most a failure of the storage was noted
+pub noted : {w w' : Core} (failures : ℕ) → Alike (record w { failures = failures }) w' → Quiet w w'
+noted failures a = grind (arith, nat_tests, same_some, alike)
+
+pub was-asked : {w w' : Core} → Asked w w' → Quiet w w'
+was-asked a = noted _ a.leaves
+
+was-stored : (key : ℕ) (blob : Blob) (old : ℕ → Option Blob) (new : ℕ → Option Blob) → Adds key blob old new → (q : ℕ) (b : Blob) → old q ≡ Some b → new q ≡ Some b
+was-stored key blob old new adds q b is = grind (arith, same-number)
+
+stays-open : {b : Bool} → b ≡ false → b ≡ true → ⊥
+stays-open still closed = cc
+
+pub stores : {digest : Blob → ℕ} {w w' : Core} {blob : Blob} → (r : Result ℕ Error) → StoreCall digest w blob r w' → Quiet w w'
+stores x0 c = grind (arith, nat_tests, same_some, alike, was-stored, stays-open, was-asked)
+
+pub clones : {w w' : Core} {me : Owner} {h : HandleNumber} (r : Result HandleNumber Error) → CloneCall w me h r w' → Quiet w w'
+clones x0 c = grind (arith, nat_tests, made-handle, alike)
+
+pub pins : {w w' : Core} {me : Owner} {h : HandleNumber} (free : NotLoads me) (r : Result Pinning Error) → PinCall w me h r w' → Quiet w w'
+pins {w} {w'} {me} {h} free (Ok (Pinning.Pinned k)) c = quiet-then (own-mode w me h is_loose c.pins.0 Mode.LoosePinned refl free c.pins.1) (made-handle _ _ _ c.pins.2.2)
+pins free x1 c = grind (arith, nat_tests, alike)
+
+node-is : {a b : NodeNumber} {t u : ℕ} {h k : HandleNumber} → of_cell a t h ≡ of_cell b u k → a ≡ b
+node-is is = cc
+
+type-is : {a b : NodeNumber} {t u : ℕ} {h k : HandleNumber} → of_cell a t h ≡ of_cell b u k → t ≡ u
+type-is is = cc
+
+begun-well : (w : Core) (me : Owner) (node : NodeNumber) (t : ℕ) (h : HandleNumber) (key : ℕ) → type_at w node.0 ≡ Some t → key_at w node.0 ≡ OptionalDataKey.Some key
+    → BeginsWell w (record { owner = me; key = key; root = of_cell node t h })
+begun-well w me node t h key typed own a u k root = grind (arith, node-is, type-is)
+
+pub begins : {w w' : Core} {me : Owner} {h : HandleNumber} (r : Result Beginning Error) → BeginCall w me h r w' → Goes nothing_felt w w'
+begins {w} {w'} {me} {h} (Ok (Beginning.Load l key)) c =
+    let row : HandleRow = c.begins.0 in
+    let a = c.begins.2 in
+    let made = with_handle w row.node Mode.LooseUnpinned (Owner.Load l) in
+    goes-quiet (quiet-begins (a-handle w row.node Mode.LooseUnpinned (Owner.Load l))
+    (begun nothing_felt made key (of_cell row.node a.4.0 h) me (begun-well made me row.node a.4.0 h key a.4.1 a.1))) (alike a.4.2)
+begins x0 c = grind (arith, nat_tests, quiet-goes, alike)
+
+pub begins-key : {w w' : Core} {me : Owner} {key : ℕ} (r : Result Beginning Error) → BeginKeyCall w me key r w' → Goes nothing_felt w w'
+begins-key x0 c = grind (arith, nat_tests, goes-quiet, begun, alike, quiet-goes)
+
+pub gets-known : {w w' : Core} {l : LoadNumber} {kind : Kind} {key : ℕ} {k : HandleNumber} → GetsKnown w l kind key k w' → Quiet w w'
+gets-known g = made-handle _ _ _ g.leaves
+
+pub asks : {w w' : Core} {me : Owner} {l : LoadNumber} {want : Want} (r : Result Given Error) → AskCall w me l want r w' → Quiet w w'
+asks x0 c = grind (arith, nat_tests, was-asked, gets-known, same_some, alike)
+
+pub closes : {w w' : Core} (l : LoadNumber) {r : Result (Unit {0}) Error} → LoadCloses w l r w' → Quiet w w'
+closes {w} {w'} l c = quiet-then (closed-load w l) (fell c)
+
+-- What trees feel of each call that doesn't close the storage, by the call and its reply.
 
 pub refused-call : {cause : Option Error} {w w' : Core} (r : Result (Unit {0}) Error) → IsRefused cause w r w' → Quiet w w'
 refused-call r c = alike c.stays
@@ -88,7 +159,7 @@ module _ {N B W : Type 0} (m : Seen N B W) (w : Core) (me : Owner) (free : NotLo
     | inr (row, owns, inr (loose, f)) ↦ record {
       change = sets_key row.node.0 key;
       goes = goes-quiet (keyed w row.node key) (fell f);
-      feels = feels-key h key row refl (record { live = owns.live; own = owns.own; as_asked = loose });
+      feels = feels-key h key row (record { live = owns.live; own = owns.own; as_asked = loose });
     }
   ]
 
@@ -99,7 +170,7 @@ module _ {N B W : Type 0} (m : Seen N B W) (w : Core) (me : Owner) (free : NotLo
       record {
         change = knows_node kind.0 key row.node.0;
         goes = goes-quiet (goes-known (quiet-goes (knows_node kind.0 key row.node.0) (quiet-self w)) kind key row.node (refl, refl, refl)) (alike c.answers.3.2);
-        feels = feels-known kind key h row refl refl (record { live = owns.live; own = owns.own; as_asked = refl }) c.answers.2;
+        feels = feels-known kind key h row (record { live = owns.live; own = owns.own; as_asked = refl }) c.answers.2;
       }
   offers kind key h (Ok (Some k)) c = elim c.answers.3 [
     | inl (closed, same, a) ↦ quiet (λ n x b. absurd b) (alike a)
@@ -114,7 +185,7 @@ module _ {N B W : Type 0} (m : Seen N B W) (w : Core) (me : Owner) (free : NotLo
     | inr (none, few, a) ↦ record {
       change = bears_known kind.0 key (first_key kind.0 key);
       goes = goes-quiet (adopts w l kind key (first_key kind.0 key) (m.values.references x)) (alike a);
-      feels = feels-adopted l kind key x k refl refl c.adopts.typed (good w (Owner.Load l) [] (m.values.references x) c.adopts.good);
+      feels = feels-adopted l kind key x k c.adopts.typed (good w (Owner.Load l) [] (m.values.references x) c.adopts.good);
     }
   ]
   adopting l kind key x (Err e) c = quiet (λ n y b. inl b.1) (alike c.refused.1.stays)
@@ -125,7 +196,7 @@ module _ {N B W : Type 0} (m : Seen N B W) (w : Core) (me : Owner) (free : NotLo
     | inr (none, few, next, a) ↦ record {
       change = bears_known kind.0 key (OptionalDataKey.Some key);
       goes = goes-quiet (adopts w l kind key (OptionalDataKey.Some key) []) (alike a);
-      feels = feels-lazy l kind key k refl refl;
+      feels = feels-lazy l kind key k;
     }
   ]
   lazily l kind key (Err e) c = quiet (λ n x b. absurd b) (alike c.refused.stays)
@@ -161,7 +232,7 @@ module _ {N B W : Type 0} (m : Seen N B W) (w : Core) (me : Owner) (free : NotLo
 
   ends-load : (l : LoadNumber) (x : N) (r : Result HandleNumber (Error × Option N)) → EndCall w me l x (m.values.node_type x) (m.values.references x) r w' → CG (Call.LoadEnd l x) (Reply.LoadEnded r)
   ends-load l x (Ok k) c =
-      record { change = nothing_felt; goes = quiet-goes nothing_felt (ends-quiet l x (Ok k) c); feels = feels-end l x k refl refl (good w (Owner.Load l) [] (m.values.references x) c.installs.2.good) }
+      record { change = nothing_felt; goes = quiet-goes nothing_felt (ends-quiet l x (Ok k) c); feels = feels-end l x k (good w (Owner.Load l) [] (m.values.references x) c.installs.2.good) }
   ends-load l x (Err (e, Some y)) c = quiet (λ n z b. inr (alike-away c.refused.1.stays n)) (alike c.refused.1.stays)
   ends-load l x (Err (e, None)) c = quiet (λ n z b. inr (fell-away c.refused.closes n)) (closes l c.refused.closes)
 
@@ -173,30 +244,20 @@ module _ {N B W : Type 0} (m : Seen N B W) (w : Core) (me : Owner) (free : NotLo
       record {
         change = bears_node t (OptionalDataKey.Some key);
         goes = goes-quiet (born (bears_node t (OptionalDataKey.Some key)) w t (OptionalDataKey.Some key) [] (refl, refl)) (made-handle (next_node w) Mode.LooseUnpinned me c.made.2);
-        feels = feels-away t key k refl refl;
+        feels = feels-away t key k;
       }
-  calls-go (Call.NewPagedOut t key) (Reply.Handle (Err e)) stays c = quiet (λ n x b. absurd b) (alike c.refused.stays)
   calls-go (Call.Clone h) (Reply.Handle r) stays c = quiet (λ n x b. absurd b) (clones r c)
   calls-go (Call.Pin h) (Reply.Pin r) stays c = quiet (λ n x b. absurd b) (pins free r c)
   calls-go (Call.Unpin h) (Reply.Done r) stays c = quiet (λ n x b. absurd b) (unpins free h r c)
   calls-go (Call.Release h) (Reply.Done r) stays c = quiet (λ n x b. absurd b) (releases free h r c)
   calls-go (Call.IntoPagable h) (Reply.Handle (Ok k)) stays c = quiet (λ n x b. absurd b) (quiet-then (own-mode w me h is_pinned c.turned.0 Mode.LoosePinned refl free c.turned.1) (alike c.turned.3))
-  calls-go (Call.IntoPagable h) (Reply.Handle (Err e)) stays c = quiet (λ n x b. absurd b) (alike c.refused.1)
   calls-go (Call.SetDataKey h key) (Reply.Done r) stays c = sets h key r c
-  calls-go (Call.Count h) (Reply.Count r) stays c = quiet (λ n x b. absurd b) (alike c.1)
-  calls-go (Call.Key h) (Reply.KeyFound r) stays c = quiet (λ n x b. absurd b) (alike c.1)
-  calls-go (Call.IsPagedOut h) (Reply.Away r) stays c = quiet (λ n x b. absurd b) (alike c.1)
-  calls-go (Call.NodeOf h) (Reply.Node r) stays c = quiet (λ n x b. absurd b) (alike c.1)
-  calls-go (Call.NodeLive k) (Reply.NodeType t) stays c = quiet (λ n x b. absurd b) (alike c.1)
   calls-go (Call.ScheduleForPaging h) (Reply.Done r) stays c = quiet (λ n x b. absurd b) (schedules free h r c)
-  calls-go Call.Pending (Reply.Length n) stays c = quiet (λ n x b. absurd b) (alike c.1)
   calls-go (Call.TakePending i) (Reply.Taken h) stays c = quiet (λ n x b. absurd b) (takes free i h c)
   calls-go (Call.CacheGet kind key) (Reply.FromCache r) stays c = quiet (λ n x b. absurd b) (recalls free kind key r c)
   calls-go (Call.OnArcDeserialized kind key h) (Reply.FromCache r) stays c = offers kind key h r c
   calls-go Call.CacheClear (Reply.Done r) stays c = quiet (λ n x b. absurd b) (cleared r c)
-  calls-go (Call.Fetch key) (Reply.Fetched r) stays c = quiet (λ n x b. absurd b) (was-asked c.asked)
   calls-go (Call.Store b) (Reply.Stored r) stays c = quiet (λ n x b. absurd b) (stores r c)
-  calls-go Call.Flush (Reply.Done r) stays c = quiet (λ n x b. absurd b) (was-asked c.asked)
   calls-go (Call.LoadBegin h) (Reply.Begun r) stays c = record { change = nothing_felt; goes = begins r c; feels = feels-nothing (λ n x b. absurd b) }
   calls-go (Call.LoadKey key) (Reply.Begun r) stays c = record { change = nothing_felt; goes = begins-key r c; feels = feels-nothing (λ n x b. absurd b) }
   calls-go (Call.LoadFetch l want) (Reply.LoadFound r) stays c = quiet (λ n x b. absurd b) (asks _ c)
@@ -205,10 +266,8 @@ module _ {N B W : Type 0} (m : Seen N B W) (w : Core) (me : Owner) (free : NotLo
   calls-go (Call.LoadEnd l x) (Reply.LoadEnded r) stays c = ends-load l x r c
   calls-go (Call.LoadTake l hs) (Reply.Done r) stays c = quiet (λ n x b. absurd b) (hands-over free l hs.items r c)
   calls-go (Call.LoadDrop l) (Reply.Done r) stays c = quiet (λ n x b. absurd b) (drops free l r c)
-  calls-go (Call.Reserve k) (Reply.Done r) stays c = quiet (λ n x b. absurd b) (alike c.stays)
-  calls-go Call.Room (Reply.Length n) stays c = quiet (λ n x b. absurd b) (alike c.1)
   calls-go Call.Close reply stays c = absurd stays
-  calls-go _ reply stays c = absurd c
+  calls-go _ reply stays c = grind (arith, nat_tests, quiet, alike, was-asked)
 
 -- the cache gets to know an old node only where the caller puts it there
 pub call-knows : (W : Type 0) {N B : Type 0} {v : Values N} {w w' : Core} {me : Owner} {call : Call N B} {reply : Reply N B} {c : Change} → CallFeels v w me call reply w' c

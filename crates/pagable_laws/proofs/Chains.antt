@@ -1,14 +1,82 @@
+-- Each event keeps trees: what it brings fits some trees afterwards, for which the machine stands then, with all that its loads read.
+use Rattle.pagable_laws.proofs.Words.{◌≡◌, ℕ, List, [], inl, inr, sym, subst, ◌⊎◌, Event, EventReply, Tree, Among, Reading, Frame, Values, Seen, IsLawful, MachineState, PagerState, world_of}
+use Rattle.pagable_laws.proofs.Words.{IsMachineWhole, StandsFor, FramesFit, ReadingFits, ReadingBrings, EventBrings, IsReadingOf, HoldsSettled, ReadsItsTypes, TakesWell, AsksWell, IsWellAsked}
+use Rattle.pagable_laws.proofs.Words.{FramesGiven, Change, CoreGoes, IsSteppedReading, EventFeels, by-call, by-reading, by-key, arith, nat_tests, by-nothing, KeysAreReady, IsFresh, ChangeFits}
+use Rattle.pagable_laws.proofs.Words.{ReadingsGiven, ◌+◌, ◌≤◌, Option, Some, None, refl, ◌∙◌, LoadAnswer, OpenLoad, gone_on, Moves, ReadingFeels, KeepsReadings, StepFeels, TreesAfterEvent, ◌∷◌}
+use Rattle.pagable_laws.proofs.Words.{HandleNumber, IsIdle, IsPremised, Moment, AreMoments, TreesAfter, TreesAlong, GivesTree, PinGives, IsRight, HasPin, PinHolds, WorkFits, KeysHeld, ReadingsHeld}
+use Rattle.pagable_laws.proofs.Words.{◌==◌, ◌&&◌, Bool, true, false, ap, Ok, is_some, if◌then◌else◌, sum_by-append, sum_by-cons, Identity, WorkerNumber, one, times, Took, WorkerReply, Shelf, Slot}
+use Rattle.pagable_laws.proofs.Words.{Todo, Walking, World, Site, Does, Happens, WorkerSteps, step_of, steps_of, is_claim_of, is_on_table, claims_made, ◌||◌, ◌++◌, append_assoc, is_none, WorkerAnswer}
+use Rattle.pagable_laws.proofs.Words.{HandleRow, Owner, owner_worker, is_owned_by, is_owner, is_workers_load, MayOwnLoad, state_after, events_of, replies_of, InOrder, TableMeets, HasLetGo}
+use Rattle.pagable_laws.proofs.{Words.{WorkerIsRight, LoadsHaveStepsLeft, WorkIsRight, HeadlineLaw}, Brought.reading-fits, Felt.{none-comes, fits-nothing, fits-key, call-fits}, Fitting.tree-stays}
+use Rattle.pagable_laws.proofs.{ReadingSteps.{is-reading-of, does-feels}, Trees.same_some, Answering.keys-right, Coming.{StandsIn, event-turns, turns-stand, idle-stands, updated-at, EventTurns, Went}}
+use Rattle.pagable_laws.proofs.{Coming.{HasGone, goes-on}, Naming.{held-at-first, held-on, keys-ready}, KnownSteps.{ReadingsAsked, event-asked}, Outlasting.pins-hold, Stepping.fits-at-first}
+use Rattle.pagable_laws.proofs.{Stepping.fits-on, ReadingStepsGive.{reads-give, event-held, loads-bounded}, Taking.{AtStep, fit-still, fit-after, pin_stands}, TreesGoing.trees-go-on}
+use Rattle.pagable_laws.proofs.{Standing.{ShelfGrows, is-same, puts-slot, grows, true-false, KeepsTask, Turned, keeps-task, WalkingStands, is_failing, is_open_in}, Once.{once_each, plus-none}}
+use Rattle.pagable_laws.proofs.Sums.{sum-zero}
+use Rattle.pagable_world.specs.Runs.{Does as DoesMoment}
+use Rattle.std.{proofs.Common.append-nil, proofs.lemmas.Bool.false_from_ne_true}
+
+module _ {N E : Type 0} {v : Values N} {c : Change} {s s' : PagerState N E} {trees trees' : ℕ → Tree} where
+  -- what comes is said in other words
+  comes-from : (comes other : ℕ → N → Type 0) → ((n : ℕ) (x : N) → other n x → comes n x) → ChangeFits v c comes s s' trees trees' → ChangeFits v c other s s' trees trees'
+  comes-from comes other from f = grind (arith, nat_tests)
+
+module _ {N E B W : Type 0} (m : Seen N B W) (s : MachineState N E) (trees : ℕ → Tree) where
+  -- the reading that makes the step is what brings values
+  reading-brings : (event : Event N B W) (reading : Reading) (n : ℕ) (x : N) → IsSteppedReading (world_of s) event reading → EventBrings m.values (world_of s) event n x
+      → ReadingBrings m.values s.pager.core reading n x
+  reading-brings x0 reading n x x4 x5 = grind (arith, nat_tests)
+
+  reading-takes : (event : Event N B W) (reply : EventReply N B W) (reading : Reading) → IsSteppedReading (world_of s) event reading → IsWellAsked m.values s trees event reply
+      → TakesWell m.values s.pager reading
+  reading-takes x0 reply reading x3 well = grind (arith, nat_tests)
+
+  pub nothing-yet : (reading : Reading) → reading.frames ≡ [] → ReadingFits m.values s.pager trees reading
+  unfolding FramesFit
+  nothing-yet reading none load is = subst (λ fs. FramesFit m.values.types s.pager.core.stored trees load.key reading.node_type fs) (sym none) tt
+
+  pub none-given : (last : ℕ) (frames : List Frame) → frames ≡ [] → FramesGiven last frames
+  none-given last frames none f r among got = let there = subst (λ fs. Among fs f) none among in absurd (let e = there.1 in cc)
+
+  module _ (stands : StandsFor m.values s trees) (given : ReadingsGiven s) where
+    pub fits-of : (reading : Reading) → IsReadingOf s.work reading ⊎ IsFresh s.pager.core reading → ReadingFits m.values s.pager trees reading
+    fits-of reading (inl is) = stands.readings reading is
+    fits-of reading (inr is) = nothing-yet reading is.0
+
+    pub given-of : (reading : Reading) → IsReadingOf s.work reading ⊎ IsFresh s.pager.core reading → FramesGiven s.pager.core.last.node reading.frames
+    given-of reading (inl is) = (given reading is).1
+    given-of reading (inr is) = none-given s.pager.core.last.node reading.frames is.0
+
+    pub event-fits : (lawful : IsLawful m.values) (readable : ReadsItsTypes m.values.types) (s' : MachineState N E) → HoldsSettled m.values s.pager → IsMachineWhole m.values s
+        → IsMachineWhole m.values s' → KeysAreReady m.values s trees
+        → (event : Event N B W) (reply : EventReply N B W) {c : Change} → CoreGoes c s.pager.core s'.pager.core → IsWellAsked m.values s trees event reply
+        → EventFeels m.values (world_of s) event reply (world_of s') c
+        → (trees' : ℕ → Tree) × ChangeFits m.values c (EventBrings m.values (world_of s) event) s.pager s'.pager trees trees'
+    event-fits lawful readable s' settled whole whole' ready event reply goes well (by-call c call answer called replied feels keeps) =
+        let P : Event N B W → EventReply N B W → Type 0 = λ e r. IsWellAsked m.values s trees e r in
+        let asked : AsksWell m.values s.pager trees call answer = subst (λ r. P (Event.Call call) r) replied (subst (λ e. P e reply) called well) in
+        let f = call-fits lawful settled whole.pager whole'.pager stands.pager c call answer goes asked feels in
+        (f.after, subst (λ e. ChangeFits m.values c (EventBrings m.values (world_of s) e) s.pager s'.pager trees f.after) (sym called) f.fits)
+    event-fits lawful readable s' settled whole whole' ready event reply goes well (by-reading c reading answer frames stepped opens feels steps) =
+        let is = is-reading-of (world_of s) event reading stepped in
+        let f = reading-fits lawful readable settled whole.pager whole'.pager stands.pager reading (fits-of reading is) (given-of reading is) goes
+        (reading-takes event reply reading stepped well) opens feels in
+        (f.0, comes-from _ _ (λ n x brings. reading-brings event reading n x stepped brings) f.1)
+    event-fits lawful readable s' settled whole whole' ready event reply goes well (by-key k key row is sets keeps) = (
+      trees,
+      fits-key lawful settled whole.pager whole'.pager stands.pager _ row.node.0 key (λ n x brings. no-value n x (subst (λ e. EventBrings m.values (world_of s) e n x) is brings))
+          (tree-stays goes.stored (ready k key row sets)),
+    )
+      where
+        no-value : (n : ℕ) (x : N) → EventBrings m.values (world_of s) (let e : Event N B W = Event.WorkerStep k in e) n x → ⊥
+        no-value n x (other, at, brings) = grind (arith, nat_tests, same_some)
+    event-fits lawful readable s' settled whole whole' ready event reply goes well (by-nothing stays keeps) = (
+      trees,
+      fits-nothing lawful settled whole.pager whole'.pager stands.pager _
+          (λ n x brings none is. absurd (none-comes lawful settled whole.pager whole'.pager stands.pager n x goes none is (stays n x brings))),
+    )
+
 -- Trees stay along chains, pins and reads give them, and keys are right.
-use Rattle.pagable_laws.proofs.Words.{nat_tests, ◌≡◌, ℕ, ◌+◌, ◌≤◌, List, [], Option, Some, None, ◌⊎◌, inl, inr, refl, sym, ◌∙◌, subst, arith, Event, EventReply, LoadAnswer, Tree, OpenLoad, Reading}
-use Rattle.pagable_laws.proofs.Words.{Frame, Seen, IsLawful, gone_on, MachineState, world_of, IsMachineWhole, StandsFor, FramesFit, ReadingFits, IsReadingOf, Moves, EventBrings, HoldsSettled}
-use Rattle.pagable_laws.proofs.Words.{ReadsItsTypes, IsWellAsked, FramesGiven, Change, CoreGoes, ReadingFeels, EventFeels, by-call, by-reading, by-key, by-nothing, KeepsReadings, KeysAreReady}
-use Rattle.pagable_laws.proofs.Words.{StepFeels, IsFresh, ChangeFits, ReadingsGiven, TreesAfterEvent, ◌∷◌, Ok, Call, Reply, Pinning, HandleNumber, Values, IsIdle, of_caller, of_worker, IsPremised}
-use Rattle.pagable_laws.proofs.{Words.{Moment, AreMoments, TreesAfter, TreesAlong, GivesTree, PinGives, IsRight, HasPin, PinHolds, WorkFits, KeysHeld, ReadingsHeld}, Answering.keys-right}
-use Rattle.pagable_laws.proofs.{Coming.{StandsIn, event-turns, turns-stand, idle-stands}, EventSteps.does-feels, KeysGoing.{held-at-first, held-on, keys-ready}, KnownSteps.ReadingsAsked}
-use Rattle.pagable_laws.proofs.{KnownSteps.event-asked, PinSteps.pins-hold, Publishing.{fits-at-first, fits-on}, ReadingStepsGive.reads-give, ReadingStepsHeld.event-held}
-use Rattle.pagable_laws.proofs.{ReadingStepsMachine.is-reading-of, Staying.{nothing-yet, none-given, fits-of, given-of, event-fits}, Taking.{AtStep, fit-still, fit-after, pin_stands}}
-use Rattle.pagable_laws.proofs.{Trees.same_some, TreesGoing.trees-go-on}
-use Rattle.pagable_world.specs.Runs.{Does}
 
 -- ---- a machine that stands for trees stands for them after each event, with all that its loads read
 
@@ -129,7 +197,7 @@ module _ {N E B W : Type 0} (m : Seen N B W) (lawful : IsLawful m.values) (reada
     pub after : TreesAfter m (IsRight m.values) s trees x.event x.reply x.after trees'
     pub on : IsGoingOn m.values x.after trees'
 
-  pub goes : (s : MachineState N E) (trees : ℕ → Tree) (x : Moment N E B W) → IsGoingOn m.values s trees → Does m s x.event x.reply x.after
+  pub goes : (s : MachineState N E) (trees : ℕ → Tree) (x : Moment N E B W) → IsGoingOn m.values s trees → DoesMoment m s x.event x.reply x.after
       → IsPremised m.values s trees x.event x.reply x.after → Goes s trees x
   goes s trees x on does premised =
       let feels = does-feels m s x.after trees x.event x.reply on.whole on.fits premised.stays_open does in
@@ -157,3 +225,236 @@ pub trees_stay : {N B W E : Type 0} (m : Seen N B W) → IsLawful m.values → R
     → IsMachineWhole m.values s → IsIdle s
     → HoldsSettled m.values s.pager → StandsFor m.values s trees → AreMoments m s moments → TreesAlong m (IsRight m.values) s trees moments
 trees_stay m lawful readable s trees moments whole idle settled stands does = stay m lawful readable s trees moments (idle-goes m lawful readable s trees whole idle settled stands) does
+
+-- What each chain comes to: claims, workers and loads; and with trees, the headline.
+
+-- ---- claims: each event claims on a table only what wasn't claimed there, and what one worker claimed is among its table's claims
+
+is-there-still : (a b : Option Slot) → ((slot : Slot) → a ≡ Some slot → (new : Slot) × (b ≡ Some new)) → one (is_some a) ≤ one (is_some b)
+is-there-still x0 b more = grind (arith, nat_tests)
+
+slots-stay : (shelf shelf' : Shelf) → ShelfGrows shelf shelf' → (i : Identity) → one (is_some (shelf.slots i)) ≤ one (is_some (shelf'.slots i))
+slots-stay shelf shelf' more i = is-there-still (shelf.slots i) (shelf'.slots i) (λ slot there. let a = more i slot there in (a.0, a.1))
+
+-- none more than there was
+none-more : (a b : ℕ) → a ≤ b → a + 0 ≤ b
+none-more a b le = omega arith
+
+-- a claim is made only where none was, and is there afterwards
+claim-comes : {N B W : Type 0} (m : Seen N B W) (v : ℕ) (s s' : Site) (i : Identity) (todo : List Todo) (step : Took W) → Does m v s todo step s'
+    → one (is_some (s.shelf.slots i)) ≤ one (is_some (s'.shelf.slots i))
+    → one (is_some (s.shelf.slots i)) + one (is_claim_of i step) ≤ one (is_some (s'.shelf.slots i))
+claim-comes m v s s' i x5 x6 x7 more = grind (arith, nat_tests, puts-slot, none-more, is-same)
+
+-- the claims of one event
+abbrev pub claim_made : {N B W : Type 0} → (ℕ → Option Walking) → ℕ → Identity → Event N B W → EventReply N B W → ℕ
+claim_made walkings t i (Event.WorkerStep v) (EventReply.WorkerMoved (Ok reply)) = one (is_on_table t (walkings v.0) && is_claim_of i reply.took)
+claim_made walkings t i event reply = 0
+
+module _ {N B W : Type 0} (walkings : ℕ → Option Walking) (t : ℕ) (i : Identity) where
+  pub claims-cons : (event : Event N B W) (reply : EventReply N B W) (more : List (Event N B W)) (rest : List (EventReply N B W))
+      → claims_made walkings t i (event ∷ more) (reply ∷ rest) ≡ claim_made walkings t i event reply + claims_made walkings t i more rest
+  unfolding claims_made
+  claims-cons x0 x1 more rest = grind (arith, nat_tests, plus-none)
+
+  -- what one worker of the table claimed is among them
+  pub own-claims : (n : ℕ) (w : Walking) → walkings n ≡ Some w → w.table ≡ t → (happened : List (Event N B W)) (replied : List (EventReply N B W))
+      → times (is_claim_of {W = W} i) (steps_of n happened replied) ≤ claims_made walkings t i happened replied
+  unfolding steps_of claims_made
+  own-claims n w there on (event ∷ more) (reply ∷ rest) =
+      sum _ _ _ _ _ _ (sum_by-append (λ s. one (is_claim_of {W = W} i s)) (step_of n event reply) (steps_of n more rest))
+      (claims-cons event reply more rest) (own event reply) (own-claims n w there on more rest)
+    where
+      sum : (a b c d x y : ℕ) → x ≡ a + b → y ≡ c + d → a ≤ c → b ≤ d → x ≤ y
+      sum a b c d x y e f le less = omega arith
+
+      one-at-once : (v : ℕ) (step : Took W) (b : Bool) → (v == n) ≡ b → times (is_claim_of {W = W} i) (if b then step ∷ [] else []) ≤ one (is_on_table t (walkings v) && is_claim_of {W = W} i step)
+      one-at-once v step false e = omega arith
+      one-at-once v step true e =
+          let is : v ≡ n = grind (arith, nat_tests) in
+          let self : (w.table == t) ≡ true = grind (arith, nat_tests) in
+          let on_it : is_on_table t (walkings v) ≡ true = ap (λ x. is_on_table t (walkings x)) is ∙ (ap (is_on_table t) there ∙ self) in
+          rw on_it (le-of (sum_by-cons (λ s. one (is_claim_of {W = W} i s)) step []))
+        where
+          le-of : {x y : ℕ} → x ≡ y + 0 → x ≤ y
+          le-of is = omega arith
+
+      own : (event : Event N B W) (reply : EventReply N B W) → times (is_claim_of {W = W} i) (step_of n event reply) ≤ claim_made walkings t i event reply
+      own (Event.WorkerStep v) (EventReply.WorkerMoved (Ok reply)) = one-at-once v.0 reply.took (v.0 == n) refl
+      own event reply = omega arith
+  own-claims n w there on x4 x5 = grind (arith, nat_tests)
+
+  -- each event claims what wasn't claimed, where workers keep their tables
+  module _ (m : Seen N B W) (u u' : World) (grow : (q : ℕ) → ShelfGrows (u.work.shelves q) (u'.work.shelves q))
+      (keeps : (v : ℕ) (w : Walking) → u.work.walkings v ≡ Some w → KeepsTask walkings v w) where
+    is-still : one (is_some ((u.work.shelves t).slots i)) ≤ one (is_some ((u'.work.shelves t).slots i))
+    is-still = slots-stay (u.work.shelves t) (u'.work.shelves t) (grow t) i
+
+    step-claims : {v : WorkerNumber} (reply : WorkerReply W) → WorkerSteps m u v reply u'
+        → one (is_some ((u.work.shelves t).slots i)) + one (is_on_table t (walkings v.0) && is_claim_of i reply.took) ≤ one (is_some ((u'.work.shelves t).slots i))
+    step-claims {v = v} reply s = by (s.walking.table == t) refl
+      where
+        w : Walking
+        w = s.walking
+
+        on : (b : Bool) → (w.table == t) ≡ b → is_on_table t (walkings v.0) ≡ b
+        on b e = let k = keeps v.0 w s.at in ap (is_on_table t) k.there ∙ (ap (λ q. q == t) k.table ∙ e)
+
+        after : (u'.work.shelves w.table).slots i ≡ s.after.shelf.slots i
+        after = (s.work.same_shelves w.table).slots i ∙ ap (λ (x : Shelf). x.slots i) (updated-at w.table s.after.shelf u.work.shelves)
+
+        by : (b : Bool) → (w.table == t) ≡ b
+            → one (is_some ((u.work.shelves t).slots i)) + one (is_on_table t (walkings v.0) && is_claim_of i reply.took) ≤ one (is_some ((u'.work.shelves t).slots i))
+        by false e = let f = on false e in rw f (none-more _ _ is-still)
+        by true e =
+            let is : w.table ≡ t = grind (arith, nat_tests) in
+            let site : Site = record { core = u.core; shelf = u.work.shelves w.table; todo = w.todo } in
+            let grown = subst (λ o. one (is_some ((u.work.shelves w.table).slots i)) ≤ one (is_some o)) after (slots-stay (u.work.shelves w.table) (u'.work.shelves w.table) (grow w.table) i) in
+            let come = subst (λ o. one (is_some ((u.work.shelves w.table).slots i)) + one (is_claim_of i reply.took) ≤ one (is_some o)) (sym after)
+            (claim-comes m v.0 site s.after i w.todo reply.took s.does.does grown) in
+            let f = on true e in
+            rw f (subst (λ q. one (is_some ((u.work.shelves q).slots i)) + one (is_claim_of i reply.took) ≤ one (is_some ((u'.work.shelves q).slots i))) is come)
+
+    pub event-claims : (event : Event N B W) (reply : EventReply N B W) → Happens m u event reply u'
+        → one (is_some ((u.work.shelves t).slots i)) + claim_made walkings t i event reply ≤ one (is_some ((u'.work.shelves t).slots i))
+    event-claims x0 x1 h = grind (arith, nat_tests, step-claims, none-more, is-still)
+
+-- ---- together
+
+first-then : (a b c d x y : ℕ) → x ≡ b + c → a + b ≤ d → d + c ≤ y → a + x ≤ y
+first-then a b c d x y is first more = omega arith
+
+module _ {N E B W : Type 0} (m : Seen N B W) where
+  -- what a chain of these events comes to
+  record Arrives (s s' : MachineState N E) (happened : List (Event N B W)) (replied : List (EventReply N B W)) : Type 0 where
+    work : StandsIn (world_of s')
+    whole : IsMachineWhole m.values s'
+    keeps : (v : ℕ) (w : Walking) → s.work.walkings v ≡ Some w → KeepsTask s'.work.walkings v w
+    gone : (n : ℕ) (past : List (Took W)) → HasGone m.written_of n s.work.shelves (s.work.walkings n) past
+        → HasGone m.written_of n s'.work.shelves (s'.work.walkings n) (past ++ steps_of n happened replied)
+    claims : (t : ℕ) (i : Identity) → one (is_some ((s.work.shelves t).slots i)) + claims_made s'.work.walkings t i happened replied ≤ one (is_some ((s'.work.shelves t).slots i))
+
+  arrives : (s : MachineState N E) (moments : List (Moment N E B W)) → AreMoments m s moments → IsMachineWhole m.values s → StandsIn (world_of s)
+      → Arrives s (state_after s moments) (events_of moments) (replies_of moments)
+  unfolding state_after steps_of claims_made
+  arrives s [] chain whole work =
+      record {
+        work = work;
+        whole = whole;
+        keeps = λ v w there. record { now = w; there = there; table = refl; task = refl };
+        gone = λ n past gone. subst (λ k. HasGone m.written_of n s.work.shelves (s.work.walkings n) k) (sym (append-nil past)) gone;
+        claims = λ t i. omega arith;
+      }
+  arrives s (x ∷ xs) (does, chain) whole work =
+      let turns : EventTurns m (world_of s) x.event x.reply (world_of x.after) =
+      event-turns m (world_of s) (world_of x.after) work (λ v w there. (whole.walkings v w there).table.1) x.event x.reply does.step.happens in
+      let t = turns.turned in
+      let rest = arrives x.after xs chain does.whole (turns-stand m turns work) in
+      let last = (state_after x.after xs).work.walkings in
+      record {
+        work = rest.work;
+        whole = rest.whole;
+        keeps = λ v w there. after turns.who t rest.keeps v w there;
+        gone = λ n past gone.
+            subst (λ k. HasGone m.written_of n (state_after x.after xs).work.shelves ((state_after x.after xs).work.walkings n) k)
+            (append_assoc past (step_of n x.event x.reply) (steps_of n (events_of xs) (replies_of xs)))
+            (rest.gone n (past ++ step_of n x.event x.reply) (goes-on m (world_of s) (world_of x.after) x.event x.reply work turns n past gone));
+        claims = λ q i.
+            first-then _ _ _ _ _ _ (claims-cons last q i x.event x.reply (events_of xs) (replies_of xs))
+            (event-claims last q i m (world_of s) (world_of x.after) (λ p. grows turns.who (s.work.shelves p) (x.after.work.shelves p) (t.changes p))
+            (λ v w there. after turns.who t rest.keeps v w there) x.event x.reply does.step.happens) (rest.claims q i);
+      }
+    where
+      after : (who : ℕ) → Turned who s.work.shelves x.after.work.shelves s.work.walkings x.after.work.walkings
+          → ((v : ℕ) (w : Walking) → x.after.work.walkings v ≡ Some w → KeepsTask (state_after x.after xs).work.walkings v w) → (v : ℕ) (w : Walking) → s.work.walkings v ≡ Some w
+          → KeepsTask (state_after x.after xs).work.walkings v w
+      after who t keeps v w there =
+          let k = keeps-task who s.work.shelves x.after.work.shelves s.work.walkings x.after.work.walkings t v w there in
+          let l = keeps v k.now k.there in
+          record { now = l.now; there = l.there; table = l.table ∙ k.table; task = l.task ∙ k.task }
+
+owner-is : (n : ℕ) (o : Owner) → is_owner (owner_worker n) o ≡ true → o ≡ owner_worker n
+owner-is n x1 is = grind (arith, nat_tests)
+
+module _ {N E B W : Type 0} (m : Seen N B W) (s : MachineState N E) (work : StandsIn (world_of s)) (whole : IsMachineWhole m.values s) where
+  is-met : (t : ℕ) (i : Identity) → is_some ((s.work.shelves t).slots i) ≡ true → TableMeets (world_of s) t i
+  is-met t i is = by ((s.work.shelves t).slots i) refl is
+    where
+      by : (o : Option Slot) → (s.work.shelves t).slots i ≡ o → is_some o ≡ true → TableMeets (world_of s) t i
+      by None e is = absurd (cc)
+      by (Some slot) e is = let a = work.slots t i slot e in record { n = slot.worker; walking = a.walking; there = a.there; on_table = a.on_table; meets = a.meets }
+
+  has-let-go : (n : ℕ) (walking : Walking) (answer : WorkerAnswer) → s.work.walkings n ≡ Some walking → walking.answer ≡ Some answer → HasLetGo (world_of s) n (s.work.shelves walking.table)
+  unfolding is_open_in
+  has-let-go n walking answer there is =
+      record {
+        results = λ i slot at own still. let a = stands.covers i slot at own still in let b = subst (λ todo. (is_failing todo || is_open_in i todo) ≡ true) (stands.done answer is) a in absurd (cc);
+        handles = sum-zero (λ h. one (is_owned_by (owner_worker n) h)) s.pager.core.rows (λ h among. own h among (is_owner (owner_worker n) h.owner) refl);
+        loads = λ l. load l (s.pager.core.loads l) refl;
+      }
+    where
+      stands : WalkingStands (s.work.shelves walking.table) n walking
+      stands = work.workers n walking there
+
+      rests : s.pager.core.workers n ≡ false
+      rests = (whole.walkings n walking there).at_work ∙ ap is_none is
+
+      own : (h : HandleRow) → Among s.pager.core.rows h → (b : Bool) → is_owner (owner_worker n) h.owner ≡ b → one (is_owner (owner_worker n) h.owner) ≡ 0
+      own h among true e = true-false (whole.pager.whole.owners_there.workers h n among (owner-is n h.owner e)) rests
+      own h among false e = ap one e
+
+      load : (l : ℕ) (o : Option OpenLoad) → s.pager.core.loads l ≡ o → is_workers_load n (s.pager.core.loads l) ≡ false
+      load l None e = ap (is_workers_load n) e
+      load l (Some q) e = ap (is_workers_load n) e ∙ false_from_ne_true (is_owner (owner_worker n) q.owner) (λ f.
+          true-false (subst (λ o. MayOwnLoad s.pager.core o) (owner-is n q.owner f) (whole.pager.whole.loads.owned l q e)) rests)
+
+-- all that steps have come to, where open loads have a step left
+work-right : {N E B W : Type 0} (m : Seen N B W) (s : MachineState N E) (moments : List (Moment N E B W)) → IsMachineWhole m.values s → IsIdle s → AreMoments m s moments
+    → LoadsHaveStepsLeft m.values (world_of (state_after s moments))
+    → WorkIsRight m (state_after s moments) (events_of moments) (replies_of moments)
+work-right {N} {E} {B} {W} m s moments whole idle chain loads = record { claims_right = record { distinct = distinct; met = is-met m end all.work all.whole }; workers = worker; loads = loads }
+  where
+    end : MachineState N E
+    end = state_after s moments
+
+    happened : List (Event N B W)
+    happened = events_of moments
+
+    replied : List (EventReply N B W)
+    replied = replies_of moments
+
+    all : Arrives m s end happened replied
+    all = arrives m s moments chain whole (idle-stands s idle)
+
+    one-at-most : (a c : ℕ) (b : Bool) → a + c ≤ one b → c ≤ 1
+    one-at-most a c true few = omega arith
+    one-at-most a c false few = omega arith
+
+    distinct : (t : ℕ) (i : Identity) → claims_made end.work.walkings t i happened replied ≤ 1
+    distinct t i = one-at-most _ _ _ (all.claims t i)
+
+    less-steps : (n d c : ℕ) → n + d ≤ c → n ≤ c
+    less-steps n d c le = omega arith
+
+    at-most : (a b : ℕ) → a ≤ b → b ≤ 1 → a ≤ 1
+    at-most a b le few = omega arith
+
+    worker : (n : ℕ) (walking : Walking) → end.work.walkings n ≡ Some walking → WorkerIsRight m.written_of (world_of end) n walking (steps_of n happened replied)
+    worker n walking there =
+        let nobody : HasGone m.written_of n s.work.shelves (s.work.walkings n) [] = subst (λ o. HasGone m.written_of n s.work.shelves o []) (sym (idle.walkings n)) refl in
+        let went : Went m.written_of n (end.work.shelves walking.table) walking (steps_of n happened replied) =
+        subst (λ o. HasGone m.written_of n end.work.shelves o (steps_of n happened replied)) there (all.gone n [] nobody) in
+        let order : InOrder m.written_of walking.task (steps_of n happened replied) = record { left = walking.todo; leads = went.leads } in
+        record {
+          order = order;
+          once = once_each m.written_of walking.task (steps_of n happened replied) order
+              (λ i. at-most _ _ (own-claims end.work.walkings walking.table i n walking there refl happened replied) (distinct walking.table i));
+          bounded = less-steps _ _ _ went.within;
+          met = went.met;
+          let_go = λ answer is. has-let-go m end all.work all.whole n walking answer there is;
+        }
+
+pub headline_law : {N B W : Type 0} (E : Type 0) (m : Seen N B W) → HeadlineLaw E m
+headline_law E m start moments whole idle chain =
+    let loads = loads-bounded m start moments whole idle chain in
+    grind (arith, nat_tests, loads-bounded, work-right, trees_stay)

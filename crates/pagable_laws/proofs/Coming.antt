@@ -1,13 +1,16 @@
 -- What each event does to workers and tables: it touches one worker, and claims of its own.
-use Rattle.pagable_laws.proofs.Words.{◌≡◌, ℕ, true, List, [], ◌∷◌, refl, ap, sym, subst, ◌∙◌, Ok, Err, Option, Some, None, is_some, ArcRef, Identity, WorkerAnswer, Claim, PinStep, Took, identity_of}
-use Rattle.pagable_laws.proofs.Words.{no_result, answer_of_fault, Written, Todo, to_start, to_pin, to_load, to_write, to_finish, to_item, to_set, to_publish, to_release, to_fail, arith, Task, Seen}
-use Rattle.pagable_laws.proofs.Words.{Site, Does, give, give_known, with_wait, answer_after, IsPublished, gone_on, ◌+◌, ◌<◌, ◌≤◌, ◌==◌, Bool, false, nat_eq, if◌then◌else◌, nat_tests, WorkerNumber}
-use Rattle.pagable_laws.proofs.Words.{updated, Call, Reply, Event, EventReply, TableNumber, WorkerReply, Owner, Core, Alike, Shelf, Slot, Walking, World, CallStep, Happens, Stays, WorkStays, WorkIs}
-use Rattle.pagable_laws.proofs.{Words.{Starts, no_shelf, new_walking, WorkerSteps, Ends, MachineState, world_of, IsIdle, step_of}, Changing.{puts-slot, SlotChanges, ShelfGrows, some-none, grows}}
-use Rattle.pagable_laws.proofs.{Changing.{same-slots, meets-grow}, Called.calls-go, Goes.NotLoads, Going.{CoversBy, Goes, plain, fails, swaps, gives, given-open, all-stay}, Holding.SameSlots}
-use Rattle.pagable_laws.proofs.{Holding.{Turned, work-stands, is-quiet, is-started, is-stepped}, ReadingSteps.reading-feels, Standing.{is_open_in, AllStand, Covers, HasNoFailed, HasClaim}}
-use Rattle.pagable_laws.proofs.{Standing.WorkStands, Turning.{claimed, written-goes, published-goes, failed-goes}, WalkSteps.walk-goes}
-use Rattle.pagable_laws.proofs.Calling as calling
+use Rattle.pagable_laws.proofs.Words.{◌≡◌, ℕ, inl, inr, true, List, [], ◌∷◌, refl, ap, sym, subst, ◌∙◌, Ok, Option, Some, None, ArcRef, Identity, WorkerAnswer, Claim, Took, identity_of, no_result}
+use Rattle.pagable_laws.proofs.Words.{answer_of_fault, Todo, to_start, to_write, to_item, to_publish, to_release, to_fail, arith, Task, Seen, Site, Does, give, give_known, with_wait, answer_after}
+use Rattle.pagable_laws.proofs.Words.{IsPublished, ◌+◌, ◌<◌, ◌≤◌, ◌==◌, Bool, false, nat_eq, if◌then◌else◌, nat_tests, WorkerNumber, updated, Call, Reply, Event, EventReply, TableNumber, WorkerReply}
+use Rattle.pagable_laws.proofs.Words.{Owner, Core, Alike, Shelf, Slot, Walking, World, CallStep, Happens, Stays, WorkStays, WorkIs, Starts, no_shelf, new_walking, WorkerSteps, Ends, MachineState}
+use Rattle.pagable_laws.proofs.Words.{world_of, IsIdle, step_of, ◌*◌, ◌-◌, ◌++◌, Err, drop, length, max, length-drop, sum_by-cons, sum_by-append, one, times, above, Open, to_pin, to_load, to_finish}
+use Rattle.pagable_laws.proofs.Words.{to_set, Written, next_start, first_todo, is_counted, Follows, is_claim, references_written, own_references, zero, suc, Error, Among, MetError, FailedElsewhere}
+use Rattle.pagable_laws.proofs.{Words.{IsMetFailure, steps_after, Leads}, Standing.{same-worker, puts-slot, SlotChanges, ShelfGrows, some-none, some-same, grows, same-slots, meets-grow, CoversBy}}
+use Rattle.pagable_laws.proofs.Standing.{Goes, plain, fails, swaps, gives, given-open, all-stay, SameSlots, Turned, work-stands, is-quiet, is-started, is-stepped, is_open_in, AllStand, Covers}
+use Rattle.pagable_laws.proofs.{Standing.{HasNoFailed, WorkStands, claimed, written-goes, published-goes, failed-goes, is_failed}, Called.calls-go, ReadingSteps.{caller-free, reading-feels}}
+use Rattle.pagable_laws.proofs.{ReadingSteps.walk-goes, Nexts.steps_follow}
+use Rattle.std.{proofs.Common.{length-append, append-nil}, specs.List.sum_by, proofs.lemmas.Bool.{false_from_ne_true, cases_Bool}}
+use Rattle.pagable_laws.proofs.Called as calling
 
 -- ---- whatever a worker does, what stands of its list and of its table stands afterwards
 
@@ -43,30 +46,14 @@ module _ {N B W : Type 0} (m : Seen N B W) (v : ℕ) (task : Task) (s s' : Site)
       (known r place key height below all covers c.finds.1.1 c.finds.1.2.table_is.slots)
   go (to_start r place ∷ below) e all covers (Took.Claim i (Ok Claim.Waiting)) (is, c) = to-list (c.finds.1.2.list_is ∙ e)
       (plain v task s.shelf s'.shelf c.finds.1.2.table_is.slots clean None (to_start r place ∷ below) (λ a is. absurd (cc)) all covers)
-  go (to_start r place ∷ below) e all covers (Took.Claim i (Ok Claim.AlreadyFailed)) (is, c) = to-list c.finds.1.2.list_is (fails v task s.shelf s'.shelf c.finds.1.2.table_is.slots clean _ _)
-  go (to_start r place ∷ below) e all covers (Took.Claim i (Err f)) (is, c) = to-list c.refused.1.list_is (fails v task s.shelf s'.shelf c.refused.1.table_is.slots clean _ _)
-  go (to_pin r place ∷ below) e all covers (Took.Pin i (Ok (PinStep.Held k))) (is, p) = grind (arith, nat_tests, to-list, swaps)
-  go (to_pin r place ∷ below) e all covers (Took.Pin i (Ok (PinStep.LoadBegun l))) (is, p) = grind (arith, nat_tests, to-list, swaps)
-  go (to_pin r place ∷ below) e all covers (Took.Pin i (Ok PinStep.LoadWent)) (is, p) = absurd p.pins
-  go (to_pin r place ∷ below) e all covers (Took.Pin i (Err f)) (is, p) = to-list p.refused.1.list_is (fails v task s.shelf s'.shelf p.refused.1.table_stays.slots clean _ _)
-  go (to_load r place through reading ∷ below) e all covers (Took.Pin i (Ok (PinStep.Held k))) (is, p) = grind (arith, nat_tests, to-list, swaps)
-  go (to_load r place through reading ∷ below) e all covers (Took.Pin i (Ok (PinStep.LoadBegun l))) (is, p) = absurd p.goes
-  go (to_load r place through reading ∷ below) e all covers (Took.Pin i (Ok PinStep.LoadWent)) (is, p) = grind (arith, nat_tests, to-list, swaps)
-  go (to_load r place through reading ∷ below) e all covers (Took.Pin i (Err f)) (is, p) = to-list p.refused.1.list_is (fails v task s.shelf s'.shelf p.refused.1.table_stays.slots clean _ _)
   go (to_write r place through ∷ below) e all covers (Took.Write i (Ok out)) (is, p) = to-list p.writes.list_is
       (written-goes v task s.shelf s'.shelf clean r place through (m.written_of out) below all covers p.writes.table_is)
-  go (to_write r place through ∷ below) e all covers (Took.Write i (Err f)) (is, p) = to-list p.refused.1.list_is (fails v task s.shelf s'.shelf p.refused.1.table_is.slots clean _ _)
-  go (to_finish o ∷ below) e all covers (Took.Store i (Ok key)) (is, p) = grind (arith, to-list, swaps)
-  go (to_finish o ∷ below) e all covers (Took.Store i (Err f)) (is, p) = to-list p.refused.list_is (fails v task s.shelf s'.shelf p.refused.table_stays.slots clean _ _)
   go (to_item written keys ∷ below) e ((is_of, last), apart, rest) covers (Took.Store i (Ok key)) (is, p) = grind (arith, nat_tests, to-list, plain)
-  go (to_item written keys ∷ below) e all covers (Took.Store i (Err f)) (is, p) = to-list p.refused.list_is (fails v task s.shelf s'.shelf p.refused.table_stays.slots clean _ _)
-  go (to_set r through key height ∷ below) e all covers (Took.SetKey i (Ok u)) (is, p) = grind (arith, nat_tests, to-list, swaps)
-  go (to_set r through key height ∷ below) e all covers (Took.SetKey i (Err f)) (is, p) = to-list p.refused.list_is (fails v task s.shelf s'.shelf p.refused.table_stays.slots clean _ _)
   go (to_publish r key height ∷ below) e all covers (Took.Publish i k h) (is, same_key, same_height, t) = to-list t.list_is
       (published-goes v task s.shelf s'.shelf clean r key height below all covers t.table_is)
   go (to_release r key height ∷ below) e all covers (Took.Release i) (is, falls, g) = to-list g.list_is (released r key height below all covers g.table_stays.slots (Took.Release i))
   go (to_fail fault back ∷ below) e all covers Took.Fail (back_is, table_is, list_is) = to-list list_is (failed-goes v task s.shelf s'.shelf clean (answer_of_fault fault) table_is)
-  go _ e all covers step does = absurd does
+  go _ e all covers step does = grind (arith, nat_tests, to-list, fails, swaps, plain)
 
   pub stands-on : AllStand s.shelf v task s.todo → Covers s.shelf v s.todo → (step : Took W) → Does m v s s.todo step s' → Goes v task s.shelf (answer_after s.todo step) s'.shelf s'.todo
   stands-on all covers step does = go s.todo refl all covers step does
@@ -181,9 +168,6 @@ module _ {N B W : Type 0} (m : Seen N B W) (u u' : World) (work : StandsIn u) wh
             ((w.same_shelves t.0).slots i ∙ (ap (λ (s : Shelf). s.slots i) (updated-at t.0 no_shelf u.work.shelves) ∙ nothing i ((u.work.shelves t.0).slots i) refl))
         same q i false e = (w.same_shelves q).slots i ∙ ap (λ (s : Shelf). s.slots i) (updated-off t.0 no_shelf u.work.shelves q e)
 
-  caller-free : NotLoads Owner.Caller
-  caller-free l is = absurd (cc)
-
   ends-last : (answer : Option WorkerAnswer) (v : ℕ) (w w' : Core) → Ends answer v w w' → w'.last.worker ≡ w.last.worker
   ends-last x0 v w w' e = grind (arith, nat_tests)
 
@@ -221,22 +205,364 @@ module _ {N B W : Type 0} (m : Seen N B W) (u u' : World) (work : StandsIn u) wh
   event-turns tables (Event.LoadStart q) (EventReply.Started r) h = by-work _ _ (λ n. refl) (calling.begins r h.step).workers_last h.work
   event-turns tables (Event.LoadKey key t) (EventReply.Started r) h = by-work _ _ (λ n. refl) (calling.begins-key r h.step).workers_last h.work
   event-turns tables (Event.LoadStep l) (EventReply.LoadMoved (Ok r)) h = grind (arith, nat_tests, by-work, reading-feels, caller-free)
-  event-turns tables (Event.LoadStep l) (EventReply.LoadMoved (Err e)) h = unchanged _ _ (λ n. refl) h.refused.1
   event-turns tables Event.TableNew (EventReply.TableMade (Ok t)) h = tabled _ _ (λ n. refl) tables t h.made.0 h.made.1 h.made.3
-  event-turns tables Event.TableNew (EventReply.TableMade (Err e)) h = unchanged _ _ (λ n. refl) h.refused.1
   event-turns tables (Event.WorkerItem t item) (EventReply.WorkerMade (Ok v)) h = starts _ _ (λ n. refl) t _ u.core v refl h.starts
-  event-turns tables (Event.WorkerItem t item) (EventReply.WorkerMade (Err e)) h = unchanged _ _ (λ n. refl) h.refused.1
   event-turns tables (Event.WorkerListed t i) (EventReply.WorkerMade (Ok v)) h = starts _ _ (λ n. refl) t _ _ v refl h.starts.5
-  event-turns tables (Event.WorkerListed t i) (EventReply.WorkerMade (Err e)) h = unchanged _ _ (λ n. refl) h.refused.1
   event-turns tables (Event.WorkerStep v) (EventReply.WorkerMoved (Ok reply)) h = stepped v reply h.moves
-  event-turns tables (Event.WorkerStep v) (EventReply.WorkerMoved (Err e)) h = unchanged _ _ (λ n. refl) h.refused.2
-  event-turns tables event reply h = absurd h
+  event-turns tables event reply h = grind (arith, nat_tests, unchanged)
 
 -- what stands goes on to stand
 pub turns-stand : {N B W : Type 0} (m : Seen N B W) {u u' : World} {event : Event N B W} {reply : EventReply N B W} → EventTurns m u event reply u' → StandsIn u → StandsIn u'
 turns-stand m {u} {u'} turns work =
     work-stands turns.who u.work.shelves u'.work.shelves u.work.walkings u'.work.walkings turns.turned u.core.last.worker u'.core.last.worker turns.last turns.small work
 
+-- one of two: at the number, or elsewhere
+at-number : {X : Type 0} (P : X → Type 0) (k : ℕ) (x : X) (f : ℕ → X) (q : ℕ) → P x → P (f q) → P (updated k x f q)
+at-number P k x f q here there = grind (arith, nat_tests)
+
+abbrev SameAs : Shelf → Shelf → Type 0
+SameAs a b = (i : Identity) → b.slots i ≡ a.slots i
+
+pub same-grow : (a b : Shelf) → SameAs a b → ShelfGrows a b
+same-grow a b same = grows 0 a b (same-slots 0 a b same)
+
+-- what holds of each table, and of each worker on its table
+pub record HoldsOfAll (u : World) (Slots : Shelf → Type 0) (Walk : ℕ → Shelf → Walking → Type 0) : Type 0 where
+  pub slots : (t : ℕ) → Slots (u.work.shelves t)
+  pub walks : (n : ℕ) (w : Walking) → u.work.walkings n ≡ Some w → Walk n (u.work.shelves w.table) w
+
+module _ {N B W : Type 0} (m : Seen N B W) {u u' : World} {event : Event N B W} {reply : EventReply N B W} (turns : EventTurns m u event reply u') where
+  pub turns-grow : (t : ℕ) → ShelfGrows (u.work.shelves t) (u'.work.shelves t)
+  turns-grow t = let turned = turns.turned in grows turns.who (u.work.shelves t) (u'.work.shelves t) (turned.changes t)
+
+  -- so it holds afterwards: of tables that stay, of workers that make no step, of one that begins, and of the table and the worker of a step
+  module _ (Slots : Shelf → Type 0) (Walk : ℕ → Shelf → Walking → Type 0) (alike : (a b : Shelf) → SameAs a b → Slots a → Slots b)
+      (onward : (a b : Shelf) → ShelfGrows a b → Slots a → (n : ℕ) (w : Walking) → Walk n a w → Walk n b w)
+      (stay : (t : ℕ) (shelf : Shelf) → ShelfGrows (u.work.shelves t) shelf → SameAs (u.work.shelves t) shelf → Slots shelf)
+      (rest : (n : ℕ) (w : Walking) → step_of n event reply ≡ [] → u.work.walkings n ≡ Some w → Walk n (u'.work.shelves w.table) w)
+      (begin : (n : ℕ) (shelf : Shelf) (t : TableNumber) (task : Task) → Walk n shelf (new_walking t task))
+      (step : (k : WorkerNumber) (r : WorkerReply W) (s : WorkerSteps m u k r u') → step_of turns.who event reply ≡ r.took ∷ [] → ShelfGrows (u.work.shelves s.walking.table) s.after.shelf
+      → Slots s.after.shelf × Walk k.0 s.after.shelf (record s.walking { todo = s.after.todo; steps = r.steps; answer = r.answer })) where
+    abbrev Of : ℕ → Walking → Type 0
+    Of n w = Walk n (u'.work.shelves w.table) w
+
+    stays-so : (t : ℕ) → SameAs (u.work.shelves t) (u'.work.shelves t) → Slots (u'.work.shelves t)
+    stays-so t same = stay t (u'.work.shelves t) (turns-grow t) same
+
+    all-hold : ((t : ℕ) → Slots (u'.work.shelves t)) → ((w : Walking) → u'.work.walkings turns.who ≡ Some w → Of turns.who w) → HoldsOfAll u' Slots Walk
+    all-hold slots own = record { slots = slots; walks = λ n w there. of n w there (nat_eq n turns.who) refl }
+      where
+        of : (n : ℕ) (w : Walking) → u'.work.walkings n ≡ Some w → (b : Bool) → nat_eq n turns.who ≡ b → Of n w
+        of n w there true e = let f : n ≡ turns.who = grind (arith, nat_tests) in subst (λ k. Of k w) (sym f) (own w (sym (ap u'.work.walkings f) ∙ there))
+        of n w there false e = let turned = turns.turned in rest n w (turns.others n e) (sym (turned.others n e) ∙ there)
+
+    pub turns-keep : HoldsOfAll u' Slots Walk
+    turns-keep = by turns.own
+      where
+        by : OwnTurn m u turns.who (step_of turns.who event reply) u' → HoldsOfAll u' Slots Walk
+        by (rests none same still) = all-hold (λ t. stays-so t (same t)) (λ w there. rest turns.who w none (sym still ∙ there))
+        by (begins t task none same nobody new) = all-hold (λ q. stays-so q (same q)) (λ w there. subst (Of turns.who) (some-same new there) (begin turns.who (u'.work.shelves t.0) t task))
+        by (steps k r at one s) =
+            let w = s.walking in
+            let now : Walking = record w { todo = s.after.todo; steps = r.steps; answer = r.answer } in
+            let at_now : u'.work.walkings turns.who ≡ Some now = sym (ap u'.work.walkings at) ∙ s.work.same_walkings k.0 ∙ updated-at k.0 (Some now) u.work.walkings in
+            let table : SameAs s.after.shelf (u'.work.shelves w.table) =
+            λ i. (s.work.same_shelves w.table).slots i ∙ ap (λ (z : Shelf). z.slots i) (updated-at w.table s.after.shelf u.work.shelves) in
+            let d = step k r s one (λ i slot there. let a = turns-grow w.table i slot there in (a.0, sym (table i) ∙ a.1, a.2)) in
+            all-hold
+            (λ t. at-number (λ shelf. SameAs shelf (u'.work.shelves t) → Slots (u'.work.shelves t)) w.table s.after.shelf u.work.shelves t (λ same. alike s.after.shelf (u'.work.shelves t) same d.0)
+            (stays-so t) (s.work.same_shelves t).slots)
+            (λ x there. subst (Of turns.who) (some-same at_now there)
+            (subst (λ n. Of n now) at (onward s.after.shelf (u'.work.shelves w.table) (same-grow s.after.shelf (u'.work.shelves w.table) table) d.0 k.0 now d.1)))
+
 -- and so it does where nobody works yet
 pub idle-stands : {N E : Type 0} (s : MachineState N E) → IsIdle s → StandsIn (world_of s)
 idle-stands s idle = grind (arith, some-none)
+
+-- A worker with all its steps so far: what an event adds to them keeps what they come to.
+
+-- ---- bounded steps: what a worker has counted, with what it still has to do, is at most what its claims and references allow
+
+-- how many counted steps are to be done for this at most, with those of references that aren't started yet
+abbrev due : Todo → List Todo → ℕ
+due (to_start r place) [] = 2
+due (to_start r place) (x ∷ below) = 1
+due (to_pin r place) below = 6
+due (to_load r place through reading) below = 5
+due (to_write r place through) below = 5
+due (to_finish o) below = 4 + (length o.written.references - (length o.keys + 1))
+due (to_item written keys) below = 2 + (length written.references - (length keys + 1))
+due (to_set r through key height) below = 3
+due (to_publish r key height) below = 2
+due (to_release r key height) below = 1
+due (to_fail fault back) below = 1
+
+unfoldable pub all-due : List Todo → ℕ
+all-due [] = 0
+all-due (x ∷ below) = due x below + all-due below
+
+-- something is to be done
+some-due : (x : Todo) (below : List Todo) → 1 ≤ all-due (x ∷ below)
+unfolding all-due
+some-due x0 x1 = grind (arith, nat_tests)
+
+-- what waits starts the first of the references that are left, if there is one
+started-due : (place : ℕ) (rs : List ArcRef) (x : Todo) (below : List Todo) → all-due (next_start place rs ++ x ∷ below) + (length rs - 1) ≤ length rs + all-due (x ∷ below)
+unfolding all-due
+started-due place x1 x below = grind (arith, nat_tests)
+
+settled-node : (o : Open) (k : ℕ) (below : List Todo) → length o.keys ≡ k
+    → all-due (next_start o.place (drop (length o.keys) o.written.references) ++ to_finish o ∷ below) ≤ 4 + (length o.written.references - k) + all-due below
+unfolding all-due
+settled-node o k below few = grind (arith, started-due, length-drop)
+
+settled-item : (written : Written) (keys : List ℕ) (k : ℕ) (below : List Todo) → length keys ≡ k
+    → all-due (next_start 0 (drop (length keys) written.references) ++ to_item written keys ∷ below) ≤ 2 + (length written.references - k) + all-due below
+unfolding all-due
+settled-item written keys k below few = grind (arith, started-due, length-drop)
+
+given-due : (r : ArcRef) (key height : ℕ) (below : List Todo) → all-due (give r key height below) ≤ all-due below
+unfolding all-due
+given-due r key height [] = omega arith
+given-due r key height (to_finish o ∷ below) =
+    settled-node (record o { keys = o.keys ++ key ∷ []; height = max o.height (above r.kind.0 height) }) (length o.keys + 1) below (length-append o.keys (key ∷ []))
+given-due r key height (to_item written keys ∷ below) = settled-item written (keys ++ key ∷ []) (length keys + 1) below (length-append keys (key ∷ []))
+given-due r key height (_ ∷ below) = omega arith
+
+module _ {W : Type 0} (f : W → Written) where
+  -- one step pays for itself: out of what was due, of its claim, or of the references that it wrote
+  abbrev pub Pays : List Todo → Took W → List Todo → Type 0
+  Pays todo step next = one (is_counted todo step) + all-due next ≤ 8 * one (is_claim step) + references_written f step + all-due todo
+
+  pays-known : (n d e : ℕ) → d ≤ e → 1 + d ≤ 8 * 0 + 0 + (1 + e)
+  pays-known n d e le = omega arith
+
+  ends : (d : ℕ) → 1 ≤ d → 1 + (1 + 0) ≤ 8 * 0 + 0 + (1 + d)
+  ends d some = omega arith
+
+  due-cons : (x : Todo) (below : List Todo) → all-due (x ∷ below) ≡ due x below + all-due below
+  unfolding all-due
+  due-cons x below = refl
+
+  pub pays : (todo : List Todo) (step : Took W) (next : List Todo) → Follows f todo step next → Pays todo step next
+  unfolding all-due
+  pays (to_start r place ∷ []) (Took.Claim j (Ok Claim.Claimed)) next (is, e) = rw e (omega arith)
+  pays (to_start r place ∷ []) (Took.Claim j (Ok (Claim.Known key height))) next (is, e) = rw e (omega arith)
+  pays (to_start r place ∷ []) (Took.Claim j (Ok Claim.Waiting)) next (is, e) = rw e (omega arith)
+  pays (to_start r place ∷ []) (Took.Claim j (Ok Claim.AlreadyFailed)) next (is, e) = rw e (omega arith)
+  pays (to_start r place ∷ []) (Took.Claim j (Err fault)) next (is, e) = rw e (omega arith)
+  pays (to_start r place ∷ x ∷ xs) (Took.Claim j (Ok Claim.Claimed)) next (is, e) = rw e (omega arith)
+  pays (to_start r place ∷ x ∷ xs) (Took.Claim j (Ok (Claim.Known key height))) next (is, e) = rw e (pays-known 0 _ _ (given-due r key height (x ∷ xs)))
+  pays (to_start r place ∷ x ∷ xs) (Took.Claim j (Ok Claim.Waiting)) next (is, e) = rw e (omega arith)
+  pays (to_start r place ∷ x ∷ xs) (Took.Claim j (Ok Claim.AlreadyFailed)) next (is, e) = rw e (ends _ (some-due x xs))
+  pays (to_start r place ∷ x ∷ xs) (Took.Claim j (Err fault)) next (is, e) = rw e (ends _ (some-due x xs))
+  pays (to_write r place through ∷ below) (Took.Write j (Ok out)) next (is, e) = grind (arith, settled-node)
+  pays (to_item written keys ∷ below) (Took.Store None (Ok key)) next e = rw e (omega arith)
+  pays (to_item written keys ∷ below) (Took.Store None (Err fault)) next e = rw e (omega arith)
+  pays (to_release r key height ∷ below) (Took.Release j) next (is, e) = rw e (pays-known 0 _ _ (given-due r key height below))
+  pays _ step next follows = grind (arith, nat_tests, due-cons, some-due, pays-known, given-due)
+
+  -- the steps that were counted, with those that are due, are within the bound
+  abbrev pub IsWithin : Task → List Todo → ℕ → List (Took W) → Type 0
+  IsWithin task todo n past = n + all-due todo ≤ 8 * times is_claim past + (own_references task + sum_by (references_written f) past) + 4
+
+  pub within-first : (task : Task) → IsWithin task (first_todo task) 0 []
+  unfolding all-due
+  within-first x0 = grind (arith, nat_tests, settled-item)
+
+  pub within-after : (task : Task) (todo next : List Todo) (n n' : ℕ) (past : List (Took W)) (step : Took W) → n' ≤ n + one (is_counted todo step) → Follows f todo step next
+      → IsWithin task todo n past → IsWithin task next n' (past ++ step ∷ [])
+  within-after task todo next n n' past step counted follows within = grind (arith, sum_by-append, sum_by-cons, pays)
+
+-- ---- what a worker fails with: a refusal that a step of its own met, or that another's claim has failed where its walk came
+
+among-left : {X : Type 0} (xs ys : List X) (x : X) → Among xs x → Among (xs ++ ys) x
+among-left (y ∷ xs) ys x (suc i, is) = let a = among-left xs ys x (i, is) in (suc a.0, a.1)
+among-left x0 ys x x3 = grind (arith, nat_tests)
+
+pub among-last : {X : Type 0} (xs : List X) (x : X) → Among (xs ++ x ∷ []) x
+among-last [] x = (zero, refl)
+among-last (y ∷ xs) x = let a = among-last xs x in (suc a.0, a.1)
+
+-- another's claim that has failed stays so
+pub failed-stays : (n : ℕ) (shelf shelf' : Shelf) (i : Identity) → ShelfGrows shelf shelf' → FailedElsewhere shelf n i → FailedElsewhere shelf' n i
+failed-stays n shelf shelf' i more was = grind arith
+
+module _ {W : Type 0} (n : ℕ) where
+  pub met-stays : (shelf shelf' : Shelf) (past more : List (Took W)) (answer : WorkerAnswer) → ShelfGrows shelf shelf' → IsMetFailure shelf n past answer → IsMetFailure shelf' n (past ++ more) answer
+  met-stays shelf shelf' past more x4 grown x6 = grind (arith, nat_tests, among-left, failed-stays)
+
+  -- ---- what is to be done
+
+  -- whatever fails was met
+  unfoldable pub FailsMet : Shelf → List (Took W) → List Todo → Type 0
+  FailsMet shelf past [] = Unit {0}
+  FailsMet shelf past (to_fail fault back ∷ below) = IsMetFailure shelf n past (answer_of_fault fault) × FailsMet shelf past below
+  FailsMet shelf past (x ∷ below) = FailsMet shelf past below
+
+  pub fails-stay : (shelf shelf' : Shelf) (past more : List (Took W)) (todo : List Todo) → ShelfGrows shelf shelf' → FailsMet shelf past todo → FailsMet shelf' (past ++ more) todo
+  unfolding FailsMet
+  fails-stay shelf shelf' past more [] grown met = tt
+  fails-stay shelf shelf' past more (to_fail fault back ∷ below) grown (met, rest) = grind (arith, nat_tests, met-stays, fails-stay shelf shelf' past more below grown rest)
+  fails-stay shelf shelf' past more (x ∷ below) grown met = fails-stay shelf shelf' past more below grown met
+
+  module _ (shelf : Shelf) (past : List (Took W)) where
+    started : (place : ℕ) (rs : List ArcRef) (todo : List Todo) → FailsMet shelf past todo → FailsMet shelf past (next_start place rs ++ todo)
+    unfolding FailsMet
+    started place x1 todo met = grind (arith, nat_tests)
+
+    given : (r : ArcRef) (key height : ℕ) (todo : List Todo) → FailsMet shelf past todo → FailsMet shelf past (give r key height todo)
+    unfolding FailsMet
+    given r key height x3 met = grind (arith, nat_tests, started)
+
+    pub first-met : (task : Task) → FailsMet shelf past (first_todo task)
+    unfolding FailsMet
+    first-met x0 = grind (arith, nat_tests, started)
+
+    -- the last step was refused
+    refused : (step : Took W) (e : Error) → Among past step → MetError step e → IsMetFailure shelf n past (WorkerAnswer.Failed e) × Unit {0}
+    refused step e among met = ((step, among, met), tt)
+
+    on : {next other : List Todo} → next ≡ other → FailsMet shelf past other → FailsMet shelf past next
+    on e met = subst (λ t. FailsMet shelf past t) (sym e) met
+
+    -- what follows a step, where the other's claim has failed if that is what was found
+    pub follows-met : (f : W → Written) (todo : List Todo) (step : Took W) (next : List Todo) → Follows f todo step next → Among past step
+        → ((i : Identity) → step ≡ Took.Claim i (Ok Claim.AlreadyFailed) → FailedElsewhere shelf n i) → FailsMet shelf past todo → FailsMet shelf past next
+    unfolding FailsMet
+    follows-met f (to_start r place ∷ x ∷ below) (Took.Claim j (Ok (Claim.Known key height))) next (is, e) among already met = rw e (given r key height (x ∷ below) met)
+    follows-met f (to_start r place ∷ below) (Took.Claim j (Ok Claim.AlreadyFailed)) next (is, e) among already met = rw e ((j, among, already j refl), tt)
+    follows-met f (to_start r place ∷ below) (Took.Claim j (Err fault)) next (is, e) among already met = rw e (refused _ fault among refl)
+    follows-met f (to_pin r place ∷ below) (Took.Pin j (Err fault)) next (is, e) among already met = rw e (refused _ fault among refl)
+    follows-met f (to_load r place through reading ∷ below) (Took.Pin j (Err fault)) next (is, e) among already met = rw e (refused _ fault among refl)
+    follows-met f (to_write r place through ∷ below) (Took.Write j (Ok out)) next (is, e) among already met = rw e (started place (drop 0 (f out).references) _ met)
+    follows-met f (to_write r place through ∷ below) (Took.Write j (Err fault)) next (is, e) among already met = rw e (refused _ fault among refl)
+    follows-met f (to_finish o ∷ below) (Took.Store (Some j) (Err fault)) next (is, e) among already met = rw e (refused _ fault among refl)
+    follows-met f (to_item written keys ∷ below) (Took.Store None (Err fault)) next e among already met = rw e (refused _ fault among refl)
+    follows-met f (to_set r through key height ∷ below) (Took.SetKey j (Err fault)) next (is, e) among already met = rw e (refused _ fault among refl)
+    follows-met f _ step next follows among already met = grind (arith, nat_tests, on, given)
+
+    -- the answer is what the list was about to fail with, or a key
+    pub answered : (todo : List Todo) (step : Took W) (answer : WorkerAnswer) → answer_after todo step ≡ Some answer → FailsMet shelf past todo → IsMetFailure shelf n past answer
+    unfolding FailsMet
+    answered x0 x1 answer is x4 = grind (arith, nat_tests)
+
+-- ---- together
+
+-- of a worker and its steps: they lead to its list, whatever it fails with was met, and they are within their bound
+pub record Went {W : Type 0} (f : W → Written) (n : ℕ) (shelf : Shelf) (w : Walking) (past : List (Took W)) : Type 0 where
+  pub leads : Leads f (first_todo w.task) past w.todo
+  pub fails : FailsMet n shelf past w.todo
+  pub met : (answer : WorkerAnswer) → w.answer ≡ Some answer → IsMetFailure shelf n past answer
+  pub within : IsWithin f w.task w.todo w.steps past
+
+-- a worker that hasn't begun has made no step
+abbrev pub HasGone : {W : Type 0} → (W → Written) → ℕ → (ℕ → Shelf) → Option Walking → List (Took W) → Type 0
+HasGone f n shelves None past = past ≡ []
+HasGone f n shelves (Some w) past = Went f n (shelves w.table) w past
+
+leads-more : {W : Type 0} (f : W → Written) (todo : List Todo) (past : List (Took W)) (mid : List Todo) (step : Took W) (last : List Todo) → Leads f todo past mid → Follows f mid step last
+    → Leads f todo (past ++ step ∷ []) last
+leads-more f todo [] mid step last is follows = (last, subst (λ t. Follows f t step last) is follows, refl)
+leads-more f todo (x ∷ past) mid step last (next, first, leads) follows = (next, first, leads-more f next past mid step last leads follows)
+
+counted : (n : ℕ) (b : Bool) → steps_after n b ≤ n + one b
+counted n x1 = grind (arith, nat_tests)
+
+-- where a claim finds one that has failed, it is another's
+failed-elsewhere : {N B W : Type 0} (m : Seen N B W) (v : ℕ) (s s' : Site) (todo : List Todo) (i : Identity) → Does m v s todo (Took.Claim i (Ok Claim.AlreadyFailed)) s'
+    → HasNoFailed s.shelf v → FailedElsewhere s.shelf v i
+failed-elsewhere m v s s' (to_start r place ∷ below) i (is, c) clean =
+    let found = c.finds.1.1 in
+    let claimed = ap s.shelf.slots is ∙ found.1 in
+    let other : (found.0.worker == v) ≡ false =
+    false_from_ne_true (found.0.worker == v) (λ e. let a = clean i found.0 claimed (same-worker found.0.worker v e) in let b = ap is_failed found.2 in cc) in
+    record { slot = found.0; claimed = claimed; of_another = other; is_failed = found.2 }
+failed-elsewhere m v s s' todo i does clean = absurd does
+
+module _ {N B W : Type 0} (m : Seen N B W) (u u' : World) (grow : (t : ℕ) → ShelfGrows (u.work.shelves t) (u'.work.shelves t)) where
+  abbrev f : W → Written
+  f = m.written_of
+
+  -- a worker that makes no step
+  stays : (n : ℕ) (o o' : Option Walking) (past taken : List (Took W)) → o' ≡ o → taken ≡ [] → HasGone f n u.work.shelves o past → HasGone f n u'.work.shelves o' (past ++ taken)
+  stays n o o' past taken same none gone =
+      subst (λ x. HasGone f n u'.work.shelves x (past ++ taken)) (sym same)
+      (subst (λ k. HasGone f n u'.work.shelves o k) (sym (ap (λ k. past ++ k) none ∙ append-nil past)) (by o gone))
+    where
+      by : (o : Option Walking) → HasGone f n u.work.shelves o past → HasGone f n u'.work.shelves o past
+      by None gone = gone
+      by (Some w) gone =
+          let more = grow w.table in
+          record {
+            leads = gone.leads;
+            fails = subst (λ k. FailsMet n (u'.work.shelves w.table) k w.todo) (append-nil past) (fails-stay n (u.work.shelves w.table) (u'.work.shelves w.table) past [] w.todo more gone.fails);
+            met = λ answer is. subst (λ k. IsMetFailure (u'.work.shelves w.table) n k answer) (append-nil past)
+                (met-stays n (u.work.shelves w.table) (u'.work.shelves w.table) past [] answer more (gone.met answer is));
+            within = gone.within;
+          }
+
+  begun : (n : ℕ) (t : TableNumber) (task : Task) (past taken : List (Took W)) → taken ≡ [] → u.work.walkings n ≡ None → u'.work.walkings n ≡ Some (new_walking t task)
+      → HasGone f n u.work.shelves (u.work.walkings n) past
+      → HasGone f n u'.work.shelves (u'.work.walkings n) (past ++ taken)
+  begun n t task past taken none nobody new gone =
+      let first : Went f n (u'.work.shelves t.0) (new_walking t task) [] =
+      record { leads = refl; fails = first-met n (u'.work.shelves t.0) [] task; met = λ answer is. absurd (cc); within = within-first f task } in
+      let no_past : past ≡ [] = subst (λ o. HasGone f n u.work.shelves o past) nobody gone in
+      let none_now : past ++ taken ≡ [] = ap (λ k. past ++ k) none ∙ (append-nil past ∙ no_past) in
+      subst (λ o. HasGone f n u'.work.shelves o (past ++ taken)) (sym new) (subst (λ k. Went f n (u'.work.shelves t.0) (new_walking t task) k) (sym none_now) first)
+
+  went-on : StandsIn u → (k : WorkerNumber) (reply : WorkerReply W) (past : List (Took W)) → WorkerSteps m u k reply u' → HasGone f k.0 u.work.shelves (u.work.walkings k.0) past
+      → HasGone f k.0 u'.work.shelves (u'.work.walkings k.0) (past ++ reply.took ∷ [])
+  went-on work k reply past s gone =
+      let w = s.walking in
+      let now : Walking = record w { todo = s.after.todo; steps = reply.steps; answer = reply.answer } in
+      let new : u'.work.walkings k.0 ≡ Some now = s.work.same_walkings k.0 ∙ updated-at k.0 (Some now) u.work.walkings in
+      subst (λ o. HasGone f k.0 u'.work.shelves o (past ++ reply.took ∷ [])) (sym new) (more (subst (λ o. HasGone f k.0 u.work.shelves o past) s.at gone))
+    where
+      w : Walking
+      w = s.walking
+
+      shelf : Shelf
+      shelf = u.work.shelves w.table
+
+      shelf' : Shelf
+      shelf' = u'.work.shelves w.table
+
+      site : Site
+      site = record { core = u.core; shelf = shelf; todo = w.todo }
+
+      follows : Follows f w.todo reply.took s.after.todo
+      follows = steps_follow m k.0 site s.after reply.took s.does
+
+      already : (i : Identity) → reply.took ≡ Took.Claim i (Ok Claim.AlreadyFailed) → FailedElsewhere shelf' k.0 i
+      already i is =
+          failed-stays k.0 shelf shelf' i (grow w.table)
+          (failed-elsewhere m k.0 site s.after w.todo i (subst (λ step. Does m k.0 site w.todo step s.after) is s.does.does) ((work.workers k.0 w s.at).unfailed s.at_work))
+
+      more : Went f k.0 shelf w past → Went f k.0 shelf' (record w { todo = s.after.todo; steps = reply.steps; answer = reply.answer }) (past ++ reply.took ∷ [])
+      more was =
+          let fails = fails-stay k.0 shelf shelf' past (reply.took ∷ []) w.todo (grow w.table) was.fails in
+          record {
+            leads = leads-more f (first_todo w.task) past w.todo reply.took s.after.todo was.leads follows;
+            fails = follows-met k.0 shelf' (past ++ reply.took ∷ []) f w.todo reply.took s.after.todo follows (among-last past reply.took) already fails;
+            met = λ answer is. answered k.0 shelf' (past ++ reply.took ∷ []) w.todo reply.took answer (sym s.answers ∙ is) fails;
+            within = within-after f w.task w.todo s.after.todo w.steps reply.steps past reply.took
+                (subst (λ n. n ≤ w.steps + one (is_counted w.todo reply.took)) (sym s.counts) (counted w.steps (is_counted w.todo reply.took))) follows was.within;
+          }
+
+  own-goes : StandsIn u → (v : ℕ) (past taken : List (Took W)) → OwnTurn m u v taken u' → HasGone f v u.work.shelves (u.work.walkings v) past
+      → HasGone f v u'.work.shelves (u'.work.walkings v) (past ++ taken)
+  own-goes work v past taken x4 gone = grind (arith, nat_tests, stays, begun, went-on)
+
+-- whatever an event does, its steps are added
+pub goes-on : {N B W : Type 0} (m : Seen N B W) (u u' : World) (event : Event N B W) (reply : EventReply N B W) → StandsIn u → EventTurns m u event reply u' → (n : ℕ) (past : List (Took W))
+    → HasGone m.written_of n u.work.shelves (u.work.walkings n) past
+    → HasGone m.written_of n u'.work.shelves (u'.work.walkings n) (past ++ step_of n event reply)
+goes-on {W = W} m u u' event reply work turns n past gone = elim (cases_Bool (nat_eq n turns.who)) [
+  | inl e ↦
+      let is : turns.who ≡ n = sym (same-worker n turns.who e) in
+      subst (λ x. HasGone m.written_of x u.work.shelves (u.work.walkings x) past → HasGone m.written_of x u'.work.shelves (u'.work.walkings x) (past ++ step_of x event reply)) is
+      (own-goes m u u' (turns-grow m turns) work turns.who past (step_of turns.who event reply) turns.own) gone
+  | inr e ↦ stays m u u' (turns-grow m turns) n (u.work.walkings n) (u'.work.walkings n) past (step_of n event reply) (turns.turned.others n e) (turns.others n e) gone
+]

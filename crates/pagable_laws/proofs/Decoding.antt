@@ -1,19 +1,15 @@
 -- A value that was read of a blob leads to what the blob's key reads as: reading the blob with the references that were got runs along the reading of
 -- its bare keys, and each of these reads as the tree of the node that was got for it.
-use Rattle.pagable_laws.proofs.Words.{nat_tests, ◌≡◌, ℕ, zero, suc, ◌+◌, ◌≤◌, ◌==◌, ◌&&◌, Bool, true, List, [], ◌∷◌, ◌++◌, Option, Some, None, Result, Ok, Err, ◌⊎◌, inl, inr}
-use Rattle.pagable_laws.proofs.Words.{refl, sym, ap, ◌∙◌, subst, arith, sum_by, slice_get, length, and_parts, Error, number, integer, text, pattern, none, pair, variant, reference, followed}
-use Rattle.pagable_laws.proofs.Words.{references_in, SameReferences, Rest, read_typed, Answer, answer_at, handles_at, KeyRef, key_ref, ReadsAs, blob_context, rest_of, IsFollowed, number-followed}
+use Rattle.pagable_laws.proofs.Words.{nat_tests, ◌≡◌, ℕ, zero, suc, ◌+◌, ◌≤◌, ◌==◌, ◌&&◌, Bool, true, List, [], ◌∷◌, ◌++◌, Option, Some, None, Result, Ok, Err, ◌⊎◌, inl, inr, refl, sym, ap, ◌∙◌}
+use Rattle.pagable_laws.proofs.Words.{subst, arith, sum_by, slice_get, length, and_parts, Error, number, integer, text, pattern, none, pair, variant, reference, followed, references_in}
+use Rattle.pagable_laws.proofs.Words.{SameReferences, Rest, read_typed, Answer, answer_at, handles_at, KeyRef, key_ref, ReadsAs, blob_context, rest_of, IsFollowed, number-followed}
 use Rattle.pagable_laws.proofs.Words.{integer-followed, text-followed, pattern-followed, none-followed, pair-followed, variant-followed, reference-followed, ArcRef, Kind, Blob, Shape, Types, Tree}
 use Rattle.pagable_laws.proofs.Words.{ReadsTree, tree, type_of, Meaning, Among, one, Frame, Values, IsLawful, answer_of, answers_from, reads, asks, next_by, next_in, IsDecoded, PagerState}
 use Rattle.pagable_laws.proofs.Words.{NodeStands, ValueStands, MeaningStands, number-stands, integer-stands, text-stands, pattern-stands, none-stands, pair-stands, variant-stands, followed-stands}
 use Rattle.pagable_laws.proofs.Words.{reference-stands, ReadsNodeTree, FrameFits, ReadsItsTypes, LeadsTo, number-leads, integer-leads, text-leads, pattern-leads, none-leads, pair-leads}
 use Rattle.pagable_laws.proofs.{Words.{variant-leads, followed-leads, reference-leads, Decoded}, Along.{Along, number-along, integer-along, text-along, pattern-along, none-along, pair-along}}
-use Rattle.pagable_laws.proofs.{Along.{variant-along, reference-along, followed-along, AllTwo, no-two, more-two}, Related.{Out, both-given, both-refused, OutLook, both-looked-up}}
-use Rattle.pagable_laws.proofs.{Related.{first-not, read_par}, Trees.{tree_is, one_tree}, Sums.{same-number, one-true, self-number, at-most-sum, counted}}
-
--- any cause: what comes of a refusal isn't asked
-abbrev any_cause : Error → Type 0
-any_cause e = Unit {0}
+use Rattle.pagable_laws.proofs.{Along.{variant-along, reference-along, followed-along, AllTwo, no-two, more-two, refs-two, each-two}, Related.{Out, both-given, both-refused, OutLook}}
+use Rattle.pagable_laws.proofs.{Related.{both-looked-up, any_cause, first-not, read_par}, Trees.{tree_is, one_tree}, Sums.{same-number, one-true, self-number, at-most-sum, counted}}
 
 -- ---- what is read or asked
 
@@ -97,20 +93,6 @@ module _ {types : Types} {stored : ℕ → Option Blob} {trees : ℕ → Tree} {
       (followed r.kind.0 t.meaning, reference-leads r t.meaning read.typed refl, subst (λ n. IsFollowed (ReadsAs stored types) (reference k) (followed n t.meaning)) f.kind led)
   leads-follows (followed-along kind x a n h) = absurd n
 
-  -- and each reference in it was got
-  all-got : {x : Meaning ArcRef} {m : Meaning KeyRef} → Along ⊥ (Found types stored trees got) x m → (r : ArcRef) → Among (references_in x) r → Among got r
-  unfolding references_in
-  all-got (number-along n) r (i, is) = absurd (cc)
-  all-got (integer-along z) r (i, is) = absurd (cc)
-  all-got (text-along t) r (i, is) = absurd (cc)
-  all-got (pattern-along t) r (i, is) = absurd (cc)
-  all-got none-along r (i, is) = absurd (cc)
-  all-got (pair-along x y a b h g) r (i, is) = elim (among-either (references_in x) (references_in y) i r is) [ inl among ↦ all-got h r among | inr among ↦ all-got g r among ]
-  all-got (variant-along n x a h) r among = all-got h r among
-  all-got (reference-along q k f) r (zero, is) = let same : q ≡ r = cc in subst (Among got) same f.among
-  all-got (reference-along q k f) r (suc i, is) = absurd (cc)
-  all-got (followed-along kind x a n h) r among = absurd n
-
 -- ---- a value's references are among those of its meaning
 
 is_ref : ArcRef → ArcRef → Bool
@@ -155,7 +137,7 @@ module _ {N : Type 0} {v : Values N} (lawful : IsLawful v) (readable : ReadsItsT
         typed = refl;
         reads = record { own = two.0; reads = record { blob = frame.blob; stored = fits.is; rest = two.1; reads = two.2 }; follows = led.2 };
         leads = record { own = decoded.own; typed = decoded.typed; means = decoded.means; leads = led.1 };
-        got = λ r among. all-got two.3 r (meant-refs _ _ (lawful.refers x decoded.own decoded.means) r among);
+        got = λ r among. (each-two (refs-two two.3) r (meant-refs _ _ (lawful.refers x decoded.own decoded.means) r among)).1.among;
       }
 
 -- ---- and stands for its tree
@@ -172,11 +154,6 @@ module _ {N E : Type 0} {v : Values N} {s : PagerState N E} {trees : ℕ → Tre
   -- a meaning that leads to a tree stands for it where the nodes that it refers to do
   pub leads-stands : {x : Meaning ArcRef} {a : Meaning ⊥} → LeadsTo trees x a → ((r : ArcRef) → Among (references_in x) r → NodeStands v s r.node.0 (trees r.node.0)) → MeaningStands v s x a
   unfolding references_in
-  leads-stands (number-leads i) h = number-stands i
-  leads-stands (integer-leads z) h = integer-stands z
-  leads-stands (text-leads t) h = text-stands t
-  leads-stands (pattern-leads t) h = pattern-stands t
-  leads-stands none-leads h = none-stands
   leads-stands (pair-leads x y a b f g) h =
       let left = leads-stands f (λ r among. h r (among-left (references_in x) (references_in y) among.0 r among.1)) in
       let right = leads-stands g (λ r among. h r (among-right (references_in x) (references_in y) among.0 r among.1)) in
@@ -184,6 +161,7 @@ module _ {N E : Type 0} {v : Values N} {s : PagerState N E} {trees : ℕ → Tre
   leads-stands (variant-leads i x a f) h = variant-stands i x a (leads-stands f h)
   leads-stands (followed-leads kind x a f) h = followed-stands kind x a (leads-stands f h)
   leads-stands (reference-leads r a typed meant) h = reference-stands r a (subst (λ (t : Tree). NodeStands v s r.node.0 t) (tree_is _ _ _ _ typed meant) (h r (zero, refl)))
+  leads-stands l h = search (number-stands, integer-stands, text-stands, pattern-stands, none-stands)
 
 -- a value that was read of a blob stands for each tree of its type that the key reads as, where the nodes of its references stand for theirs
 pub read_stands : {N E : Type 0} {v : Values N} → IsLawful v → ReadsItsTypes v.types → (s : PagerState N E) (trees : ℕ → Tree) (frame : Frame) (x : N) (t : Tree)

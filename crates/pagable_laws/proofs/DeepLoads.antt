@@ -2,10 +2,10 @@
 use Rattle.pagable_laws.proofs.Words.{nat_tests, ◌≡◌, ℕ, ◌+◌, ◌<◌, Bool, true, List, [], ◌∷◌, length, Option, Some, None, Ok, Err, inl, inr, refl, sym, ap, subst, ◌∙◌, arith, not, Error, Want}
 use Rattle.pagable_laws.proofs.Words.{Owner, Took, Event, EventReply, Kind, HandleNumber, LoadNumber, Blob, Tree, Types, type_of, is_eager, is_loose_kind, longest_path, if_there, any_mode}
 use Rattle.pagable_laws.proofs.Words.{owner_worker, Core, OpenLoad, Frame, Reading, Todo, Walking, Seen, IsLawful, earlier, refused_if, spent, load_fault, named_fault, Refused, AskCall}
-use Rattle.pagable_laws.proofs.Words.{node_fault, root_fault, cell_fault, Next, asks, is_faulty, next_in, need_at, need_of, needs_nested, is_broken, RefusesBlob, RefusesNested}
-use Rattle.pagable_laws.proofs.Words.{RefusesRoot, Fails, handles_of, Happens, after_kinds, LeadsDown, is-there, goes-down, ReadsTooDeep, MachineState, world_of, FramesFit, IsReadingOf, of_caller}
-use Rattle.pagable_laws.proofs.{Words.{of_worker, LoadIsDeep, DeepLoadLaw}, Trees.same_some, Fitting.asked, Chains.IsGoingOn, Deeply.along-first, ReadingStepsKinds.{kinds_of, asks-by-kinds}}
-use Rattle.pagable_laws.proofs.{ReadingStepsKinds.faulty-by-kinds, ReadingStepsMachine.reading-stands, Asking.FramesAsked, KnownSteps.eager-nested, Sound.either, Soundly.{by-all, by-handle-row}}
+use Rattle.pagable_laws.proofs.Words.{node_fault, root_fault, cell_fault, asks, next_in, need_of, needs_nested, is_broken, RefusesBlob, RefusesNested, RefusesRoot, Fails, handles_of, Happens}
+use Rattle.pagable_laws.proofs.Words.{after_kinds, LeadsDown, is-there, goes-down, ReadsTooDeep, MachineState, world_of, FramesFit, IsReadingOf, of_caller, of_worker, LoadIsDeep, DeepLoadLaw}
+use Rattle.pagable_laws.proofs.{Trees.same_some, Fitting.asked, Chains.IsGoingOn, Deeply.along-first, ReadingStepsKinds.{kinds_of, asks-by-kinds, faulty-by-kinds}}
+use Rattle.pagable_laws.proofs.{ReadingSteps.reading-stands, Apart.FramesAsked, Sound.{broken-is, either, by-all, by-handle-row}, KnownSteps.eager-nested}
 use Rattle.pagable_world.specs.Loads.{Does}
 use Rattle.pagable_world.specs.Workers as workers
 
@@ -78,9 +78,6 @@ module _ (types : Types) (stored : ℕ → Option Blob) where
               (length rest + 1) q frame.key) (sym of_type) d);
           is = fits.is;
         }
-
-    broken-is : (below : List Frame) (next : Next) (e : Error) → need_at below next ≡ is_broken e → next ≡ is_faulty e
-    broken-is x0 x1 e is = grind (arith, nat_tests)
 
     of-blob : (frames : List Frame) → FramesFit types stored trees root_key root_type frames → FramesAsked types frames → need_of types frames ≡ is_broken Error.TooDeep
         → ReadsTooDeep types stored root_type root_key
@@ -180,15 +177,7 @@ module _ {N B W E : Type 0} (m : Seen N B W) (lawful : IsLawful m.values) (s s' 
       let step = subst (λ (t : List Todo). workers.Does m n.0 (record { core = s.pager.core; shelf = s.work.shelves x.walking.table; todo = x.walking.todo }) t (Took.Pin i
       (Err Error.TooDeep)) x.after) front does in
       by-reading (owner_worker n.0) reading load (of_worker n.0 place walking r through below there todo) open_load x.after.core step.1.refused.0.does.0
-  load-deep (Event.LoadStep l) (EventReply.LoadMoved (Err e)) is = tt
-  load-deep (Event.WorkerStep n) (EventReply.WorkerMoved (Err e)) is = tt
-  load-deep (Event.Call call) reply is = tt
-  load-deep (Event.LoadStart h) reply is = tt
-  load-deep (Event.LoadKey key t) reply is = tt
-  load-deep Event.TableNew reply is = tt
-  load-deep (Event.WorkerItem t item) reply is = tt
-  load-deep (Event.WorkerListed t i) reply is = tt
-  load-deep _ reply is = absurd is
+  load-deep event reply is = tt
 
 pub deep_load_law : {N B W : Type 0} (E : Type 0) (m : Seen N B W) → DeepLoadLaw E m
 deep_load_law E m start moments trees whole idle chain stands lawful readable settled = grind (arith, along-first, load-deep)

@@ -1,10 +1,161 @@
 -- No key is answered of what leads down too long a path, or to a value that has no form; and why a claim is too deep.
-use Rattle.pagable_laws.proofs.Words.{nat_tests, ◌≡◌, ℕ, ◌⊎◌, inl, inr, List, [], ◌∷◌, Some, Ok, Err, sym, subst, ap, ◌∙◌, Identity, Tree, WorkerAnswer, Event, EventReply, Error, Took, Shelf, Todo}
-use Rattle.pagable_laws.proofs.Words.{to_start, Walking, Seen, IsLawful, Site, Does, Happens, IsMetFailure, MachineState, world_of, IsMachineWhole, IsIdle, StandsFor, ReadsItsTypes, HoldsSettled}
-use Rattle.pagable_laws.proofs.Words.{Moment, AreMoments, Fact, TreesAlong, IsTooDeepTask, IsFormlessTask, KeyIsShallow, ShallowLaw, MetDepthAlone, DepthIsTold, ToldDepthLaw, WaitsForAsker, arith}
-use Rattle.pagable_laws.proofs.{Words.{ClaimIsDeep, DeepClaimLaw, ground_of, Walks, WorkFits}, Trees.same_some, Coming.{StandsIn, event-turns, updated-at}, Answering.answered, Arriving.headline_law}
-use Rattle.pagable_laws.proofs.{Chains.{IsGoingOn, idle-goes, goes}, Standing.{AllStand, Covers}, Heights.TodoLow, Climbing.claim-deep, Formed.task-has-forms, HeightSteps.HeightsIn}
-use Rattle.pagable_laws.proofs.{HeightSteps.{heights-at-first, heights-on}, Shallow.{task-not-deep, answered-low}}
+use Rattle.pagable_laws.proofs.Words.{nat_tests, ◌≡◌, ℕ, ◌<◌, ◌≤◌, List, refl, sym, subst, ◌∙◌, arith, max, Some, pair, variant, reference, followed, longest_path, above, height, deepest_path}
+use Rattle.pagable_laws.proofs.Words.{ArcRef, Identity, Meaning, Tree, Took, WorkerAnswer, identity_of, Shelf, Todo, Task, of_item, of_entry, Values, Seen, Site, Does, IsPublished, answer_after}
+use Rattle.pagable_laws.proofs.Words.{MachineState, world_of, IsLongBelow, IsTooDeepTask, Ground, FollowsTo, pair-follows, variant-follows, reference-follows, Waits, Walks, WorkFits, Bool, true}
+use Rattle.pagable_laws.proofs.Words.{false, ap, inl, inr, TreeForm, tree, type_of, Among, Written, kids_of, Reaches, refers, refers-on, in-first, in-rest, in-part, HasNoForm, LeadsToNoForm}
+use Rattle.pagable_laws.proofs.Words.{IsFormlessTask, ground_of, WroteTree, IsDone, ◌⊎◌, [], ◌∷◌, Ok, Err, Event, EventReply, Error, to_start, Walking, IsLawful, Happens, IsMetFailure}
+use Rattle.pagable_laws.proofs.Words.{IsMachineWhole, IsIdle, StandsFor, ReadsItsTypes, HoldsSettled, Moment, AreMoments, Fact, TreesAlong, KeyIsShallow, ShallowLaw, MetDepthAlone, DepthIsTold}
+use Rattle.pagable_laws.proofs.{Words.{ToldDepthLaw, WaitsForAsker, ClaimIsDeep, DeepClaimLaw}, Heights.{IsLow, AllLow, WaitsLow, TodoLow, all-low, HeightsIn, heights-at-first}}
+use Rattle.pagable_laws.proofs.{Heights.heights-on, Trees.{same_some, tree_is}, Following.{known-of, tree-form}, Coming.{StandsIn, event-turns, updated-at}, Answering.answered}
+use Rattle.pagable_laws.proofs.{Chains.{headline_law, IsGoingOn, idle-goes, goes}, Standing.{AllStand, Covers}, Heights.claim-deep}
+
+-- ---- where heights are low, no path from a tree whose key is known is too long
+
+-- the height of the meaning is within this, and no path in it is too long
+record IsShallow (limit : ℕ) (m : Meaning ⊥) : Type 0 where
+  top : height m ≤ limit
+  deepest : deepest_path m ≤ longest_path
+
+-- the task refers to nothing that isn't low, or its entry's key is known
+abbrev pub TaskLow : Shelf → Task → Type 0
+TaskLow shelf (of_item written) = AllLow shelf longest_path written.references
+TaskLow shelf (of_entry h i) = (key : ℕ) × ((height : ℕ) × IsPublished shelf i key height)
+
+above-grows : (kind a b : ℕ) → a ≤ b → above kind a ≤ above kind b
+above-grows kind a b le = grind (arith, nat_tests)
+
+module _ {N E : Type 0} (v : Values N) (s : MachineState N E) (trees : ℕ → Tree) (fit : WorkFits v s trees) (low : HeightsIn (world_of s)) (t : ℕ) where
+  abbrev shelf : Shelf
+  shelf = s.work.shelves t
+
+  -- what a meaning's references lead to is low, so the meaning is
+  shallow : (limit : ℕ) (rs : List ArcRef) → limit ≤ longest_path → AllLow shelf limit rs → {own : Meaning ArcRef} {n : Meaning ⊥} → FollowsTo trees rs own n → (m : Meaning ⊥) → n ≡ m
+      → IsShallow limit m
+  unfolding height deepest_path
+  shallow limit rs le lows follows (reference a) e = absurd a
+  shallow limit rs le lows (pair-follows x y a b h g) (pair c d) e = grind (arith, nat_tests, shallow limit rs le lows h c (cc), shallow limit rs le lows g d (cc))
+  shallow limit rs le lows follows (pair c d) e = absurd (cc)
+  shallow limit rs le lows (variant-follows i x a h) (variant j c) e = grind (arith, nat_tests, shallow limit rs le lows h c (cc))
+  shallow limit rs le lows follows (variant j c) e = absurd (cc)
+  shallow limit rs le lows (reference-follows r a among is) (followed kind c) e =
+      let l = lows r among in
+      let f = fit.slots t (identity_of r) l.known.slot l.known.claimed in
+      let b = f.publishes l.key l.below l.known.known in
+      let w = f.writes b.0 b.1 in
+      let h = low.slots t (identity_of r) l.known.slot l.known.claimed l.key l.below l.known.known in
+      let kinds : kind ≡ r.kind.0 = cc in
+      let meanings : a ≡ c = cc in
+      let p = shallow l.below b.0.references h.0 (h.1 b.0 b.1).0 w.follows c (is ∙ meanings) in
+      let one : above kind (height c) ≤ limit = subst (λ k. above k (height c) ≤ limit) (sym kinds) (less (above-grows r.kind.0 (height c) l.below p.top) l.within) in
+      record { top = one; deepest = let u = p.deepest in omega arith }
+    where
+      less : {a b c : ℕ} → a ≤ b → b ≤ c → a ≤ c
+      less le more = omega arith
+  shallow limit rs le lows follows (followed kind c) e = absurd (cc)
+  shallow limit rs le lows follows _ e = record { top = omega arith; deepest = omega arith }
+
+  -- so is the tree of an identity whose key is known
+  shallow-tree : (i : Identity) (key h : ℕ) → IsPublished shelf i key h → IsShallow h (trees i.node.0).meaning
+  shallow-tree i key h p =
+      let f = fit.slots t i p.slot p.claimed in
+      let b = f.publishes key h p.known in
+      let w = f.writes b.0 b.1 in
+      let a = low.slots t i p.slot p.claimed key h p.known in
+      shallow h b.0.references a.0 (a.1 b.0 b.1).0 w.follows (trees i.node.0).meaning refl
+
+  less-than : {A : Type 0} {a b : ℕ} → a < b → b ≤ a → A
+  less-than lt le = absurd (omega arith)
+
+  within-both : (a b limit : ℕ) → a ≤ limit → b ≤ limit → max a b ≤ limit
+  within-both a b limit le few = omega arith
+
+  -- a reference that is low leads to no path that is too long
+  not-long : (r : ArcRef) → IsLow shelf longest_path r → IsLongBelow r.kind.0 (trees r.node.0).meaning → ⊥
+  not-long r l long =
+      let p = shallow-tree (identity_of r) l.key l.below l.known in
+      let u = above-grows r.kind.0 (height (trees r.node.0).meaning) l.below p.top in
+      let w = l.within in
+      less-than long (within-both _ _ _ (omega arith) p.deepest)
+
+  pub task-not-deep : (task : Task) → TaskLow shelf task → IsTooDeepTask trees task → ⊥
+  task-not-deep (of_item written) lows (r, among, long) = not-long r (lows r among) long
+  task-not-deep (of_entry h i) (key, (h2, p)) long = let a = shallow-tree i key h2 p in less-than long a.deepest
+
+-- ---- the answer of a key
+
+module _ {N B W : Type 0} (m : Seen N B W) (n : ℕ) (g : Ground) (task : Task) (s s' : Site) where
+  pub answered-low : (todo : List Todo) (step : Took W) → Does m n s todo step s' → Walks m.values g s.shelf task todo → TodoLow s.shelf todo → (key : ℕ)
+      → answer_after todo step ≡ Some (WorkerAnswer.Key key) → TaskLow s.shelf task
+  unfolding WaitsLow Waits
+  answered-low x0 x1 x2 x3 low key e = grind (arith, nat_tests, all-low, longest_path)
+
+-- ---- where a key is known, the tree has a form, and so has each that it reaches
+
+-- whether anything stands in the meaning that may refer
+abbrev holds_more : Meaning ⊥ → Bool
+holds_more (pair a b) = true
+holds_more (variant n a) = true
+holds_more (followed kind a) = true
+holds_more m = false
+
+more-held : {m n : Meaning ⊥} {u : Tree} → Reaches n u → n ≡ m → holds_more m ≡ false → ⊥
+more-held x0 e x2 = grind (arith, nat_tests)
+
+module _ {N E : Type 0} (v : Values N) (s : MachineState N E) (trees : ℕ → Tree) (fit : WorkFits v s trees) (t : ℕ) where
+  abbrev the_shelf : Shelf
+  the_shelf = s.work.shelves t
+
+  -- what was written of an identity whose key is known, and that the keys of its references are
+  pub record Known (i : Identity) : Type 0 where
+    pub written : Written
+    pub wrote : WroteTree v.types (ground_of s trees) i.node.0 written
+    pub typed : (trees i.node.0).type ≡ type_of i.kind.0
+    pub below : (r : ArcRef) → Among written.references r → (key : ℕ) × ((height : ℕ) × IsPublished the_shelf (identity_of r) key height)
+
+  pub known : (i : Identity) (key height : ℕ) → IsPublished the_shelf i key height → Known i
+  known i key height p =
+      let f = fit.slots t i p.slot p.claimed in
+      let b = f.publishes key height p.known in
+      record { written = b.0; wrote = f.writes b.0 b.1; typed = f.typed; below = known-of the_shelf b.0.references b.2.keys b.2.known }
+
+  -- its own value has a form
+  has-form : (i : Identity) → Known i → HasNoForm v.types (trees i.node.0) → ⊥
+  has-form i k formless =
+      let same : k.wrote.shape ≡ formless.shape = same_some _ _ (sym k.wrote.is ∙ formless.is) in
+      let kids = kids_of trees k.written.references in
+      formless.none_within k.written.bytes kids (subst (λ x. TreeForm v.types x (trees i.node.0).meaning k.written.bytes kids) same (tree-form k.wrote))
+
+  -- and so has each that it reaches
+  below-has-form : (rs : List ArcRef) → ((r : ArcRef) → Among rs r → (key : ℕ) × ((height : ℕ) × IsPublished the_shelf (identity_of r) key height))
+      → {own : Meaning ArcRef} {m n : Meaning ⊥} {u : Tree} → FollowsTo trees rs own m → Reaches n u → n ≡ m → HasNoForm v.types u → ⊥
+  below-has-form rs each (reference-follows r a among is) (refers kind b) e formless =
+      let p = each r among in
+      let k = known (identity_of r) p.0 p.1.0 p.1.1 in
+      let kinds : kind ≡ r.kind.0 = cc in
+      let meanings : b ≡ a = cc in
+      let same : tree (type_of kind) b ≡ trees r.node.0 = tree_is _ _ _ _ (ap type_of kinds ∙ sym k.typed) (meanings ∙ sym is) in
+      has-form (identity_of r) k (subst (λ x. HasNoForm v.types x) same formless)
+  below-has-form rs each (reference-follows r a among is) (refers-on kind b u reach) e formless =
+      let p = each r among in
+      let k = known (identity_of r) p.0 p.1.0 p.1.1 in
+      let meanings : b ≡ a = cc in
+      below-has-form k.written.references k.below k.wrote.follows reach (meanings ∙ sym is) formless
+  below-has-form rs each (pair-follows x y a b h g) (in-first c d u reach) e formless = below-has-form rs each h reach (cc) formless
+  below-has-form rs each (pair-follows x y a b h g) (in-rest c d u reach) e formless = below-has-form rs each g reach (cc) formless
+  below-has-form rs each (variant-follows i x a h) (in-part n c u reach) e formless = below-has-form rs each h reach (cc) formless
+  below-has-form rs each (reference-follows r a among is) reach e formless = absurd (cc)
+  below-has-form rs each (pair-follows x y a b h g) reach e formless = absurd (cc)
+  below-has-form rs each (variant-follows i x a h) reach e formless = absurd (cc)
+  below-has-form rs each follows reach e formless = more-held reach e refl
+
+  has-forms : (i : Identity) (key height : ℕ) → IsPublished the_shelf i key height → LeadsToNoForm v.types (trees i.node.0) → ⊥
+  has-forms i key height p (inl formless) = has-form i (known i key height p) formless
+  has-forms i key height p (inr (u, reach, formless)) = let k = known i key height p in below-has-form k.written.references k.below k.wrote.follows reach refl formless
+
+  -- a task that has come to a key is of no value that has no form
+  pub task-has-forms : (task : Task) (key : ℕ) → IsDone v the_shelf task key → IsFormlessTask v.types trees task → ⊥
+  task-has-forms (of_item written) key (keys, each, is) (r, among, formless) = let p = known-of the_shelf written.references keys each r among in has-forms (identity_of r) p.0 p.1.0 p.1.1 formless
+  task-has-forms (of_entry h i) key (height, p) formless = has-forms i key height p formless
 
 module _ {N B W E : Type 0} (m : Seen N B W) (s s' : MachineState N E) (trees trees' : ℕ → Tree) (fit : WorkFits m.values s trees) (low : HeightsIn (world_of s)) where
   key-is-shallow : (event : Event N B W) (reply : EventReply N B W) → Happens m (world_of s) event reply (world_of s') → KeyIsShallow m.values s trees event reply s' trees'
@@ -19,15 +170,7 @@ module _ {N B W E : Type 0} (m : Seen N B W) (s s' : MachineState N E) (trees tr
         task-not-deep m.values s trees fit low w.walking.table w.walking.task l,
         task-has-forms m.values s trees fit w.walking.table w.walking.task key a.done,
       )
-  key-is-shallow (Event.WorkerStep n) (EventReply.WorkerMoved (Err e)) is = tt
-  key-is-shallow (Event.WorkerStep n) reply is = absurd is
-  key-is-shallow (Event.Call call) reply is = tt
-  key-is-shallow (Event.LoadStart h) reply is = tt
-  key-is-shallow (Event.LoadKey key t) reply is = tt
-  key-is-shallow (Event.LoadStep l) reply is = tt
-  key-is-shallow Event.TableNew reply is = tt
-  key-is-shallow (Event.WorkerItem t item) reply is = tt
-  key-is-shallow (Event.WorkerListed t i) reply is = tt
+  key-is-shallow event reply is = tt
 
 -- what a worker answers that leads down so, and met no other refusal
 module _ {N B W E : Type 0} (m : Seen N B W) (s s' : MachineState N E) (trees trees' : ℕ → Tree) where
@@ -48,18 +191,10 @@ module _ {N B W E : Type 0} (m : Seen N B W) (s s' : MachineState N E) (trees tr
 
       of : (shelf : Shelf) (steps : List (Took W)) (answer : WorkerAnswer) → MetDepthAlone steps → reply.answer ≡ Some answer → IsMetFailure shelf n.0 steps answer
           → ((key : ℕ) → ¬ (reply.answer ≡ Some (WorkerAnswer.Key key))) → answer ≡ WorkerAnswer.Failed Error.TooDeep
-      of shelf steps (WorkerAnswer.Key key) alone e met none = absurd (none key e)
-      of shelf steps (WorkerAnswer.Failed f) alone e (step, among, is) none = ap WorkerAnswer.Failed (alone.0 step f among is)
-      of shelf steps WorkerAnswer.AlreadyFailed alone e (i, among, elsewhere) none = absurd (alone.1 i among)
-  depth-is-told (Event.WorkerStep n) (EventReply.WorkerMoved (Err e)) is shallow = tt
-  depth-is-told (Event.WorkerStep n) reply is shallow = absurd is
-  depth-is-told (Event.Call call) reply is shallow = tt
-  depth-is-told (Event.LoadStart h) reply is shallow = tt
-  depth-is-told (Event.LoadKey key t) reply is shallow = tt
-  depth-is-told (Event.LoadStep l) reply is shallow = tt
-  depth-is-told Event.TableNew reply is shallow = tt
-  depth-is-told (Event.WorkerItem t item) reply is shallow = tt
-  depth-is-told (Event.WorkerListed t i) reply is shallow = tt
+      of _ steps (WorkerAnswer.Key key) alone e met none = absurd (none key e)
+      of _ steps (WorkerAnswer.Failed f) alone e (step, among, is) none = ap WorkerAnswer.Failed (alone.0 step f among is)
+      of _ steps WorkerAnswer.AlreadyFailed alone e (i, among, elsewhere) none = absurd (alone.1 i among)
+  depth-is-told event reply is shallow = tt
 
 -- a claim that is refused as too deep
 module _ {N B W E : Type 0} (m : Seen N B W) (s s' : MachineState N E) (trees trees' : ℕ → Tree) (fit : WorkFits m.values s trees) (low : HeightsIn (world_of s)) (work : StandsIn (world_of s)) where
@@ -78,30 +213,32 @@ module _ {N B W E : Type 0} (m : Seen N B W) (s s' : MachineState N E) (trees tr
   claim-is-deep : (event : Event N B W) (reply : EventReply N B W) → Happens m (world_of s) event reply (world_of s') → ClaimIsDeep s trees event reply s' trees'
   claim-is-deep x0 x1 is = grind (arith, nat_tests, same_some, of-claim)
 
--- what follows of each moment where heights are low holds along each chain
+-- what follows of each moment where heights are low, and of what stays true of the machine and of the moments that are left, holds along each chain
+pub along-with : {N B W E : Type 0} (m : Seen N B W) (P : Fact N E B W) (I : MachineState N E → List (Moment N E B W) → Type 0) → IsLawful m.values → ReadsItsTypes m.values.types
+    → ((s : MachineState N E) (trees trees' : ℕ → Tree) (x : Moment N E B W) (xs : List (Moment N E B W)) → IsGoingOn m.values s trees → HeightsIn (world_of s) → I s (x ∷ xs)
+    → IsMachineWhole m.values x.after → Happens m (world_of s) x.event x.reply (world_of x.after) → P s trees x.event x.reply x.after trees' × I x.after xs)
+    → (s : MachineState N E) (trees : ℕ → Tree) (moments : List (Moment N E B W)) → IsGoingOn m.values s trees → HeightsIn (world_of s) → I s moments → AreMoments m s moments
+    → TreesAlong m P s trees moments
+along-with m P I lawful readable follows s trees [] on low so does = tt
+along-with m P I lawful readable follows s trees (x ∷ xs) on low so (does, more) = λ premised.
+    let g = goes m lawful readable s trees x on does premised in
+    let turns = event-turns m (world_of s) (world_of x.after) on.work (λ v w there. (on.whole.walkings v w there).table.1) x.event x.reply does.step.happens in
+    let a = g.after in
+    let f = follows s trees g.trees' x xs on low so does.whole does.step.happens in (
+      g.trees',
+      record { keeps = a.keeps; stands = a.stands; so = f.0 },
+      along-with m P I lawful readable follows x.after g.trees' xs g.on (heights-on m s x.after trees on.fits low on.work x.event x.reply turns) f.1 more,
+    )
+
 module _ {N B W E : Type 0} (m : Seen N B W) (lawful : IsLawful m.values) (readable : ReadsItsTypes m.values.types) (P : Fact N E B W) where
-  abbrev pub Follows : Type 0
-  Follows =
-      (s s' : MachineState N E) (trees trees' : ℕ → Tree) (event : Event N B W) (reply : EventReply N B W) → IsGoingOn m.values s trees → HeightsIn
-      (world_of s) → Happens m (world_of s) event reply (world_of s')
-      → P s trees event reply s' trees'
-
-  along : Follows → (s : MachineState N E) (trees : ℕ → Tree) (moments : List (Moment N E B W)) → IsGoingOn m.values s trees → HeightsIn (world_of s) → AreMoments m s moments
-      → TreesAlong m P s trees moments
-  along follows s trees [] on low does = tt
-  along follows s trees (x ∷ xs) on low (does, more) = λ premised.
-      let g = goes m lawful readable s trees x on does premised in
-      let turns = event-turns m (world_of s) (world_of x.after) on.work (λ v w there. (on.whole.walkings v w there).table.1) x.event x.reply does.step.happens in
-      let a = g.after in (
-        g.trees',
-        record { keeps = a.keeps; stands = a.stands; so = follows s x.after trees g.trees' x.event x.reply on low does.step.happens },
-        along follows x.after g.trees' xs g.on (heights-on m s x.after trees on.fits low on.work x.event x.reply turns) more,
-      )
-
-  pub along-first : Follows → (s : MachineState N E) (moments : List (Moment N E B W)) (trees : ℕ → Tree) → IsMachineWhole m.values s → IsIdle s → AreMoments m s moments
+  pub along-first : ((s s' : MachineState N E) (trees trees' : ℕ → Tree) (event : Event N B W) (reply : EventReply N B W) → IsGoingOn m.values s trees → HeightsIn (world_of s)
+      → Happens m (world_of s) event reply (world_of s') → P s trees event reply s' trees')
+      → (s : MachineState N E) (moments : List (Moment N E B W)) (trees : ℕ → Tree) → IsMachineWhole m.values s → IsIdle s → AreMoments m s moments
       → StandsFor m.values s trees → HoldsSettled m.values s.pager
       → TreesAlong m P s trees moments
-  along-first follows s moments trees whole idle chain stands settled = along follows s trees moments (idle-goes m lawful readable s trees whole idle settled stands) (heights-at-first s idle) chain
+  along-first follows s moments trees whole idle chain stands settled =
+      along-with m P (λ s xs. Unit {0}) lawful readable (λ s trees trees' x xs on low so whole happens. (follows s x.after trees trees' x.event x.reply on low happens, tt))
+      s trees moments (idle-goes m lawful readable s trees whole idle settled stands) (heights-at-first s idle) tt chain
 
 pub shallow_law : {N B W : Type 0} (E : Type 0) (m : Seen N B W) → ShallowLaw E m
 shallow_law E m start moments trees whole idle chain stands lawful readable settled = grind (arith, along-first, key-is-shallow)

@@ -1,15 +1,11 @@
 -- What each sort of step brings fits trees: which trees the nodes have afterwards, and that values, keys and what becomes known fit them.
-use Rattle.pagable_laws.proofs.Words.{◌≡◌, ℕ, ◌+◌, ◌≤◌, ◌==◌, Bool, true, false, Some, None, ◌⊎◌, refl, sym, ap, ◌∙◌, subst, arith, if◌then◌else◌, is_some, nat_tests, OptionalDataKey}
-use Rattle.pagable_laws.proofs.Words.{Owner, HandleRow, Call, Reply, ArcRef, Tree, tree, ReadsTree, type_of, Among, updated, is_pinned_kind, any_mode, is_loose, Values, IsLawful, is_here, Owns}
-use Rattle.pagable_laws.proofs.Words.{first_key, PagerState, WellFormed, Represents, ReadsNodeTree, SameTrees, CallBrings, IsNewNode, IsCellOf, ValueStands, HoldsSettled, AsksWell, ReadsAsType}
-use Rattle.pagable_laws.proofs.Words.{ReadsAsValue, ValueLeads, Change, nothing_felt, sets_key, knows_node, bears_node, bears_known, CoreGoes, StaysAway, AreGood, CallFeels, feels-nothing}
-use Rattle.pagable_laws.proofs.{Words.{feels-birth, feels-away, feels-key, feels-known, feels-adopted, feels-lazy, feels-end, ChangeFits}, Trees.same_some, Following.{given-of, cell-of}}
-use Rattle.pagable_laws.proofs.{Fitting.tree-stays, Leading.{leads-on, led, own-refs, value-leads}, TreesGoing.either-side}
+use Rattle.pagable_laws.proofs.Words.{◌≡◌, ℕ, ◌+◌, ◌≤◌, ◌==◌, Bool, true, false, Some, None, ◌⊎◌, refl, sym, ap, ◌∙◌, subst, arith, if◌then◌else◌, is_some, nat_tests, OptionalDataKey, Owner, Call}
+use Rattle.pagable_laws.proofs.Words.{Reply, ArcRef, Tree, tree, ReadsTree, type_of, Among, updated, is_pinned_kind, Values, IsLawful, is_here, first_key, PagerState, WellFormed, Represents}
+use Rattle.pagable_laws.proofs.Words.{ReadsNodeTree, SameTrees, CallBrings, IsNewNode, HoldsSettled, AsksWell, ValueLeads, Change, nothing_felt, sets_key, knows_node, bears_node, bears_known}
+use Rattle.pagable_laws.proofs.Words.{CoreGoes, StaysAway, AreGood, CallFeels, feels-nothing, feels-birth, feels-away, feels-key, feels-known, feels-adopted, feels-lazy, feels-end, ChangeFits}
+use Rattle.pagable_laws.proofs.{Trees.same_some, Following.{given-of, cell-of}, Fitting.tree-stays, Leading.{leads-on, led, own-refs, value-leads}, TreesGoing.either-side, Coming.updated-at}
 
 -- ---- trees with one more
-
-pub with-at : (n : ℕ) (t : Tree) (trees : ℕ → Tree) → updated n t trees n ≡ t
-with-at n t trees = let e : (n == n) ≡ true = grind (arith, nat_tests) in rw e refl
 
 pub with-below : (last : ℕ) (t : Tree) (trees : ℕ → Tree) → SameTrees last trees (updated (last + 1) t trees)
 with-below last t trees n within = let e : (n == last + 1) ≡ false = grind (arith, nat_tests) in rw e refl
@@ -59,7 +55,7 @@ module _ {N E : Type 0} {v : Values N} {s s' : PagerState N E} {trees : ℕ → 
     more = updated (last + 1) t0 trees
 
     more-at : more (last + 1) ≡ t0
-    more-at = with-at (last + 1) t0 trees
+    more-at = updated-at (last + 1) t0 trees
 
     -- a node is born of this type and key, of a tree as which the key reads if it has one
     pub fits-born : (comes : ℕ → N → Type 0) (own : OptionalDataKey) → ((key : ℕ) → own ≡ OptionalDataKey.Some key → ReadsTree s'.core.stored v.types key t0)
@@ -98,13 +94,10 @@ module _ {N E : Type 0} {v : Values N} {s s' : PagerState N E} {trees : ℕ → 
           let live = given-of well.whole.handles r.node.0 is in
           same_some _ _ (sym (stands.typed r.node.0 live.0) ∙ is)
 
-  nothing-brought : {B : Type 0} (call other : Call N B) (n : ℕ) (x : N) → call ≡ other → (CallBrings s.core other n x → ⊥) → CallBrings s.core call n x → ⊥
-  nothing-brought call other n x same none is = none (subst (λ z. CallBrings s.core z n x) same is)
-
   pub call-fits : {B : Type 0} (c : Change) (call : Call N B) (reply : Reply N B) → CoreGoes c s.core s'.core → AsksWell v s trees call reply
       → CallFeels v s.core Owner.Caller call reply s'.core c → Fits c (CallBrings s.core call)
-  call-fits {B} c call reply goes well_asked (feels-nothing stays) = record { after = trees; fits = fits-nothing _ (λ n x brings none is. absurd (none-comes n x goes none is (stays n x brings))) }
-  call-fits {B} c call reply goes well_asked (feels-birth x brought good) =
+  call-fits c call reply goes asked (feels-nothing stays) = record { after = trees; fits = fits-nothing _ (λ n x brings none is. absurd (none-comes n x goes none is (stays n x brings))) }
+  call-fits c call reply goes asked (feels-birth x brought good) =
       let born = birth-tree x Owner.Caller good in
       record {
         after = updated (last + 1) born.0 trees;
@@ -113,59 +106,37 @@ module _ {N E : Type 0} {v : Values N} {s s' : PagerState N E} {trees : ℕ → 
             (fits-born born.0 _ OptionalDataKey.None (λ key is. absurd (cc))
             (λ n y brings none is. value-born born.0 _ n y x goes is (brought n y brings).0 (brought n y brings).1 (good-given Owner.Caller x good) born.2));
       }
-  call-fits {B} c call reply goes well_asked (feels-away t key k called replied) =
-      let P : Call N B → Reply N B → Type 0 = λ a b. AsksWell v s trees a b in
-      let asked : ReadsAsType v s t key = subst (λ b. P (Call.NewPagedOut t key) b) replied (subst (λ a. P a reply) called well_asked) in
+  call-fits c call reply goes asked (feels-away t key k) =
       record {
         after = updated (last + 1) asked.read trees;
         fits =
-            subst (λ z. ChangeFits v (bears_node z (OptionalDataKey.Some key)) (CallBrings s.core call) s s' trees (updated (last + 1) asked.read trees)) asked.typed
+            subst (λ z. ChangeFits v (bears_node z (OptionalDataKey.Some key)) (λ n y. ⊥) s s' trees (updated (last + 1) asked.read trees)) asked.typed
             (fits-born asked.read _ (OptionalDataKey.Some key)
-            (λ q is. let e : key ≡ q = cc in subst (λ z. ReadsTree s'.core.stored v.types z asked.read) e (tree-stays goes.stored asked.reads))
-            (λ n y brings none is. absurd (nothing-brought call (Call.NewPagedOut t key) n y called (λ b. b) brings)));
+            (λ q is. let e : key ≡ q = cc in subst (λ z. ReadsTree s'.core.stored v.types z asked.read) e (tree-stays goes.stored asked.reads)) (λ n y brings none is. absurd brings));
       }
-  call-fits {B} c call reply goes well_asked (feels-key h key row called owns) =
-      let asked : (z : HandleRow) → Owns s.core Owner.Caller h is_loose z → ReadsTree s.core.stored v.types key (trees z.node.0) = subst (λ a. AsksWell v s trees a reply) called well_asked in
-      record { after = trees; fits = fits-key _ row.node.0 key (λ n y brings. nothing-brought call (Call.SetDataKey h key) n y called (λ b. b) brings) (tree-stays goes.stored (asked row owns)) }
-  call-fits {B} c call reply goes well_asked (feels-known kind key h row called replied owns typed) =
-      let P : Call N B → Reply N B → Type 0 = λ a b. AsksWell v s trees a b in
-      let asked : (z : HandleRow) → Owns s.core Owner.Caller h any_mode z
-      → ReadsTree s.core.stored v.types key (trees z.node.0) = subst (λ b. P (Call.OnArcDeserialized kind key h) b) replied (subst (λ a. P a reply) called well_asked) in
+  call-fits c call reply goes asked (feels-key h key row owns) = record { after = trees; fits = fits-key _ row.node.0 key (λ n y brings. brings) (tree-stays goes.stored (asked row owns)) }
+  call-fits c call reply goes asked (feels-known kind key h row owns typed) =
       let live = given-of well.whole.handles row.node.0 typed in
       let is_typed : (trees row.node.0).type ≡ type_of kind.0 = same_some _ _ (sym (stands.typed row.node.0 live.0) ∙ typed) in
-      record {
-        after = trees;
-        fits = fits-known _ kind.0 key row.node.0 (λ n y brings. nothing-brought call (Call.OnArcDeserialized kind key h) n y called (λ b. b) brings)
-            (record { typed = is_typed; reads = tree-stays goes.stored (asked row owns) });
-      }
-  call-fits {B} c call reply goes well_asked (feels-adopted l kind key x k called replied typed good) =
-      let P : Call N B → Reply N B → Type 0 = λ a b. AsksWell v s trees a b in
-      let asked : ReadsAsValue v s x key = subst (λ b. P (Call.LoadAdopt l kind key x) b) replied (subst (λ a. P a reply) called well_asked) in
+      record { after = trees; fits = fits-known _ kind.0 key row.node.0 (λ n y brings. brings) (record { typed = is_typed; reads = tree-stays goes.stored (asked row owns) }) }
+  call-fits c call reply goes asked (feels-adopted l kind key x k typed good) =
       let leads = value-leads lawful settled well stands x asked.stands.own asked.read (Owner.Load l) asked.stands.typed asked.stands.means asked.stands.stands good in
       record {
         after = updated (last + 1) asked.read trees;
         fits =
             fits-born-known asked.read _ kind.0 key (first_key kind.0 key) (sym asked.stands.typed ∙ typed) (λ q is. first-of (is_pinned_kind kind.0) key q is) (tree-stays goes.stored asked.reads)
-            (λ n y brings none is. let b : (y ≡ x) × IsNewNode s.core n = subst (λ a. CallBrings s.core a n y) called brings in
-            value-born asked.read _ n y x goes is b.0 b.1 (good-given (Owner.Load l) x good) leads);
+            (λ n y brings none is. value-born asked.read _ n y x goes is brings.0 brings.1 (good-given (Owner.Load l) x good) leads);
       }
-  call-fits {B} c call reply goes well_asked (feels-lazy l kind key k called replied) =
-      let P : Call N B → Reply N B → Type 0 = λ a b. AsksWell v s trees a b in
-      let asked : ReadsAsType v s (type_of kind.0) key = subst (λ b. P (Call.LoadLazy l kind key) b) replied (subst (λ a. P a reply) called well_asked) in
+  call-fits c call reply goes asked (feels-lazy l kind key k) =
       record {
         after = updated (last + 1) asked.read trees;
-        fits =
-            fits-born-known asked.read _ kind.0 key (OptionalDataKey.Some key) asked.typed (λ q is. cc) (tree-stays goes.stored asked.reads)
-            (λ n y brings none is. absurd (nothing-brought call (Call.LoadLazy l kind key) n y called (λ b. b) brings));
+        fits = fits-born-known asked.read _ kind.0 key (OptionalDataKey.Some key) asked.typed (λ q is. cc) (tree-stays goes.stored asked.reads) (λ n y brings none is. absurd brings);
       }
-  call-fits {B} c call reply goes well_asked (feels-end l x k called replied good) =
-      let P : Call N B → Reply N B → Type 0 = λ a b. AsksWell v s trees a b in
-      let asked : (n : ℕ) → IsCellOf s.core l n → ValueStands v s x (trees n) = subst (λ b. P (Call.LoadEnd l x) b) replied (subst (λ a. P a reply) called well_asked) in
+  call-fits c call reply goes asked (feels-end l x k good) =
       record {
         after = trees;
         fits = fits-nothing _ (λ n y brings none is.
-            let b : (y ≡ x) × IsCellOf s.core l n = subst (λ a. CallBrings s.core a n y) called brings in
-            let meant = asked n b.1 in
+            let meant = asked n brings.1 in
             let leads = value-leads lawful settled well stands x meant.own (trees n) (Owner.Load l) meant.typed meant.means meant.stands good in
-            subst (λ z. ValueLeads v trees z (trees n)) (sym b.0) leads);
+            subst (λ z. ValueLeads v trees z (trees n)) (sym brings.0) leads);
       }

@@ -28,14 +28,10 @@ module _ {stored stored' : ℕ → Option Blob} {types : Types} (kept : KeepsSto
   read-stays {t} {key} h = record { blob = h.blob; stored = kept key h.blob h.stored; rest = h.rest; reads = h.reads }
 
   follows-stays : {m : Meaning KeyRef} {a : Meaning ⊥} → IsFollowed (ReadsAs stored types) m a → IsFollowed (ReadsAs stored' types) m a
-  follows-stays (number-followed n) = number-followed n
-  follows-stays (integer-followed z) = integer-followed z
-  follows-stays (text-followed t) = text-followed t
-  follows-stays (pattern-followed t) = pattern-followed t
-  follows-stays none-followed = none-followed
   follows-stays (pair-followed x y a b f g) = pair-followed x y a b (follows-stays f) (follows-stays g)
   follows-stays (variant-followed n x a f) = variant-followed n x a (follows-stays f)
   follows-stays (reference-followed r x a o f) = reference-followed r x a (read-stays o) (follows-stays f)
+  follows-stays h = search (number-followed, integer-followed, text-followed, pattern-followed, none-followed)
 
   -- what a key reads as stays
   pub tree-stays : {key : ℕ} {t : Tree} → ReadsTree stored types key t → ReadsTree stored' types key t

@@ -1,22 +1,17 @@
 -- A form of a node's value is one of its tree: over its references it is followed to their nodes' trees, and with their keys it stands under the tree's own.
-use Rattle.pagable_laws.proofs.Words.{◌≡◌, ℕ, zero, suc, ◌+◌, ◌<◌, ◌≤◌, ◌==◌, ◌&&◌, Bool, true, false, List, [], ◌∷◌, map, Option, Some, None, Result, Ok, refl, sym, ap, subst, ◌∙◌, inr, arith}
-use Rattle.pagable_laws.proofs.Words.{is_some, nat_lt, slice_get, nat_tests, append-nil, sum_by-cons, get_or_from_slice_get, slice_get_within, Error, reference, rename, references_in, Rest}
-use Rattle.pagable_laws.proofs.Words.{deepest, Form, kind_of_arc, IsReadable, Throughout, Kid, kid, kind_of_kid, KeyRef, key_ref, IsFollowed, number-followed, integer-followed, text-followed}
-use Rattle.pagable_laws.proofs.Words.{pattern-followed, none-followed, pair-followed, variant-followed, reference-followed, unfolded, TreeForm, blob_of, KeyOf, key-of, KeysOf, no-keys, more-keys}
-use Rattle.pagable_laws.proofs.Words.{kind_of_ref, key_of_ref, StoredAs, ArcRef, Identity, Meaning, Shape, Tree, tree, Types, type_of, Among, if_there, one, times, HandleRow, identity_of, held}
-use Rattle.pagable_laws.proofs.Words.{is_handle, is_owned_by, owner_value, Core, Cell, Shelf, Slot, Outcome, published, Written, Values, IsLawful, digest, type_at, IsPublished, PagerState}
-use Rattle.pagable_laws.proofs.Words.{WellFormed, HandlesAreWhole, NodeStands, here, away, MeaningStands, number-stands, integer-stands, text-stands, pattern-stands, none-stands, pair-stands}
-use Rattle.pagable_laws.proofs.Words.{variant-stands, followed-stands, reference-stands, Represents, IsWrittenOf, kids_of, HoldsSettled, ReadsItsTypes, AreKeysOf, rest, LooksUp, no-references}
-use Rattle.pagable_laws.proofs.Words.{more-references, Ground, FollowsTo, number-follows, integer-follows, text-follows, pattern-follows, none-follows, pair-follows, variant-follows}
-use Rattle.pagable_laws.proofs.Along.{Along, pair-along, variant-along, reference-along, followed-along, AllTwo, no-two, more-two}
-use Rattle.pagable_laws.proofs.{Again.read_again, Natural.keeps_forms, Related.Out, Related.both-given, Related.both-refused, Related.first-refused, Related.both-looked-up, Related.read_par}
-use Rattle.pagable_laws.proofs.{Sums.same-number, Sums.sum-le, Sums.sum-zero, Trees.same_some, Trees.one_tree, Words.reference-follows, Words.WroteTree, Words.KeyStands}
+use Rattle.pagable_laws.proofs.Words.{◌≡◌, ℕ, suc, ◌+◌, ◌<◌, ◌≤◌, ◌==◌, ◌&&◌, Bool, true, false, List, [], ◌∷◌, map, Option, Some, Result, Ok, refl, sym, ap, subst, ◌∙◌, inr, arith, is_some}
+use Rattle.pagable_laws.proofs.Words.{nat_lt, slice_get, nat_tests, append-nil, sum_by-cons, get_or_from_slice_get, slice_get_within, Error, reference, rename, references_in, Rest, deepest, Form}
+use Rattle.pagable_laws.proofs.Words.{kind_of_arc, IsReadable, Throughout, Kid, kid, kind_of_kid, KeyRef, key_ref, IsFollowed, number-followed, integer-followed, text-followed, pattern-followed}
+use Rattle.pagable_laws.proofs.Words.{none-followed, pair-followed, variant-followed, reference-followed, unfolded, TreeForm, blob_of, KeyOf, key-of, KeysOf, no-keys, more-keys, kind_of_ref}
+use Rattle.pagable_laws.proofs.Words.{key_of_ref, StoredAs, ArcRef, Identity, Meaning, Shape, Tree, tree, Types, type_of, Among, if_there, one, times, HandleRow, identity_of, held, is_handle}
+use Rattle.pagable_laws.proofs.Words.{is_owned_by, owner_value, Core, Shelf, Slot, Outcome, published, Written, Values, IsLawful, digest, type_at, IsPublished, PagerState, WellFormed}
+use Rattle.pagable_laws.proofs.Words.{HandlesAreWhole, NodeStands, here, away, MeaningStands, number-stands, integer-stands, text-stands, pattern-stands, none-stands, pair-stands, variant-stands}
+use Rattle.pagable_laws.proofs.Words.{followed-stands, reference-stands, Represents, IsWrittenOf, kids_of, HoldsSettled, ReadsItsTypes, AreKeysOf, rest, LooksUp, no-references, more-references}
+use Rattle.pagable_laws.proofs.Words.{Ground, FollowsTo, number-follows, integer-follows, text-follows, pattern-follows, none-follows, pair-follows, variant-follows, reference-follows, WroteTree}
+use Rattle.pagable_laws.proofs.{Words.KeyStands, Along.{Along, pair-along, variant-along, reference-along, followed-along, AllTwo, no-two, more-two}, Again.read_again, Related.keeps_forms}
+use Rattle.pagable_laws.proofs.{Related.{no_cause, Out, both-looked-up, read_par}, Sums.{same-number, sum-le, sum-zero}, Trees.{same_some, one_tree}}
 
 -- ---- the references in a form's meaning are those of the form, and none is followed
-
--- no cause
-abbrev no_cause : Error → Type 0
-no_cause e = ⊥
 
 module _ {A : Type 0} where
   itself : (kind_of : A → ℕ) (k : List A) → LooksUp (λ kind (a : A). Ok a) kind_of k k
@@ -51,11 +46,6 @@ module _ {N E : Type 0} {v : Values N} {s : PagerState N E} (settled : HoldsSett
     one-node (away n key t none_there keyed fits) (here n2 y own2 u held2 typed2 means2 stands2 fits2) e = absurd (cc)
 
     one-meaning : {x y : Meaning ArcRef} {a b : Meaning ⊥} → MeaningStands v s x a → MeaningStands v s y b → x ≡ y → a ≡ b
-    one-meaning (number-stands i) (number-stands j) e = let same : i ≡ j = cc in rw same refl
-    one-meaning (integer-stands i) (integer-stands j) e = let same : i ≡ j = cc in rw same refl
-    one-meaning (text-stands i) (text-stands j) e = let same : i ≡ j = cc in rw same refl
-    one-meaning (pattern-stands i) (pattern-stands j) e = let same : i ≡ j = cc in rw same refl
-    one-meaning none-stands none-stands e = refl
     one-meaning (pair-stands x y a b h g) (pair-stands x2 y2 a2 b2 h2 g2) e = rw (one-meaning h h2 cc, one-meaning g g2 cc) refl
     one-meaning (variant-stands i x a h) (variant-stands j y b h2) e = let same : i ≡ j = cc in rw (same, one-meaning h h2 cc) refl
     one-meaning (followed-stands i x a h) (followed-stands j y b h2) e = let same : i ≡ j = cc in rw (same, one-meaning h h2 cc) refl
@@ -63,6 +53,11 @@ module _ {N E : Type 0} {v : Values N} {s : PagerState N E} (settled : HoldsSett
         let same : r2 ≡ r = cc in
         let moved = let P : ArcRef → Type 0 = λ q. NodeStands v s q.node.0 (tree (type_of q.kind.0) b) in subst P same h2 in
         rw (same, one-node h moved refl) refl
+    one-meaning (number-stands i) (number-stands j) e = let same : i ≡ j = cc in rw same refl
+    one-meaning (integer-stands i) (integer-stands j) e = let same : i ≡ j = cc in rw same refl
+    one-meaning (text-stands i) (text-stands j) e = let same : i ≡ j = cc in rw same refl
+    one-meaning (pattern-stands i) (pattern-stands j) e = let same : i ≡ j = cc in rw same refl
+    one-meaning none-stands none-stands e = refl
     one-meaning h g e = absurd (cc)
 
 -- ---- what is live
@@ -115,15 +110,11 @@ one-less x0 x1 = grind (arith, nat_tests)
 module _ {N E : Type 0} {v : Values N} {s : PagerState N E} {trees : ℕ → Tree} (rs : List ArcRef)
     (heads : (r : ArcRef) (b : Meaning ⊥) → Among rs r → NodeStands v s r.node.0 (tree (type_of r.kind.0) b) → (trees r.node.0).meaning ≡ b) where
   follows-to : {x n : Meaning ArcRef} {a : Meaning ⊥} → MeaningStands v s x a → Along ⊥ (λ r c. Among rs r) x n → FollowsTo trees rs x a
-  follows-to (number-stands i) h = number-follows i
-  follows-to (integer-stands i) h = integer-follows i
-  follows-to (text-stands i) h = text-follows i
-  follows-to (pattern-stands i) h = pattern-follows i
-  follows-to none-stands h = none-follows
   follows-to (pair-stands x y a b h g) (pair-along x2 y2 a2 b2 k l) = pair-follows x y a b (follows-to h k) (follows-to g l)
   follows-to (variant-stands i x a h) (variant-along j x2 a2 k) = variant-follows i x a (follows-to h k)
   follows-to (followed-stands i x a h) (followed-along j x2 a2 f k) = absurd f
   follows-to (reference-stands r a h) (reference-along r2 c among) = reference-follows r a among (heads r a among h)
+  follows-to f h = search (number-follows, integer-follows, text-follows, pattern-follows, none-follows)
 
 module _ {N E : Type 0} {v : Values N} {s : PagerState N E} {trees : ℕ → Tree} (represents : Represents v s trees) (whole : WellFormed v s) (settled : HoldsSettled v s)
     (reads : ReadsItsTypes v.types) (lawful : IsLawful v) where
@@ -212,11 +203,6 @@ module _ {N : Type 0} {v : Values N} {g : Ground} {shelf : Shelf} (right : (i : 
   follows-keys : (rs : List ArcRef) (keys : List ℕ) → AreKeysOf shelf rs keys → {x : Meaning ArcRef} {a : Meaning ⊥} → FollowsTo g.trees rs x a
       → IsFollowed (StoredAs g.stored v.types) (rename (keyed_by shelf) x) a
   unfolding rename
-  follows-keys rs keys known (number-follows i) = number-followed i
-  follows-keys rs keys known (integer-follows i) = integer-followed i
-  follows-keys rs keys known (text-follows i) = text-followed i
-  follows-keys rs keys known (pattern-follows i) = pattern-followed i
-  follows-keys rs keys known none-follows = none-followed
   follows-keys rs keys known (pair-follows x y a b h k) = pair-followed _ _ a b (follows-keys rs keys known h) (follows-keys rs keys known k)
   follows-keys rs keys known (variant-follows i x a h) = variant-followed i _ a (follows-keys rs keys known h)
   follows-keys rs keys known (reference-follows r a among is) =
@@ -226,6 +212,7 @@ module _ {N : Type 0} {v : Values N} {g : Ground} {shelf : Shelf} (right : (i : 
       reference-followed (keyed_by shelf r) stands.right.stands.own a
       (subst (λ k. P (type_of r.kind.0) k) (sym (known-key shelf r p.0 p.1.0 p.1.1)) (subst (λ t. P t p.0) stands.typed stands.right.stands.stands))
       (subst (λ m. IsFollowed (StoredAs g.stored v.types) stands.right.stands.own m) is stands.right.stands.follows)
+  follows-keys rs keys known h = search (number-followed, integer-followed, text-followed, pattern-followed, none-followed)
 
 renamed-kids : (trees : ℕ → Tree) (rs : List ArcRef) {x : Meaning ArcRef} {a : Meaning ⊥} → FollowsTo trees rs x a → rename (λ (r : ArcRef). kid r.kind.0 (trees r.node.0).meaning) x ≡ unfolded a
 unfolding rename unfolded

@@ -1,7 +1,7 @@
 -- What a step does to the plain world as far as trees feel it, with no premise: the parts of which the summary of each call is made.
 use Rattle.pagable_laws.proofs.Words.{◌≡◌, ℕ, ◌+◌, ◌<◌, ◌≤◌, ◌==◌, ◌&&◌, Bool, true, false, List, [], ◌∷◌, ◌++◌, refl, ap, sym, subst, ◌∙◌, inl, inr, arith, Option, Some, None, ◌⊎◌}
 use Rattle.pagable_laws.proofs.Words.{if◌then◌else◌, nat_tests, Blob, ArcRef, Kind, type_of, HandleNumber, LoadNumber, NodeNumber, OptionalDataKey, changed, updated, if_there, HandleRow, Owner}
-use Rattle.pagable_laws.proofs.Words.{Mode, find_row, is_handle, mode_of, is_loose, Core, Cell, OpenLoad, Root, Last, Alike, type_at, key_at, AreNewEntries, Falls, FallsAnyhow, fallen, left_rows}
+use Rattle.pagable_laws.proofs.Words.{Mode, find_row, is_handle, mode_of, is_loose, Core, Cell, OpenLoad, Root, Alike, type_at, key_at, AreNewEntries, Falls, FallsAnyhow, fallen, left_rows}
 use Rattle.pagable_laws.proofs.Words.{row_of, with_handle, with_node, with_key, with_cached, next_node, moved, with_load, adopted, Change, nothing_felt, sets_key, bears_known, Sets, Knows, Bears}
 use Rattle.pagable_laws.proofs.{Sums.same-number, Words.BeginsWell}
 

@@ -1,8 +1,8 @@
 -- References that nothing is to be said against name handles of their owner, as they should. A handle that is given up doesn't bring a value back.
+use Rattle.pagable_laws.proofs.Words.{◌≡◌, ℕ, suc, ◌+◌, ◌≤◌, Bool, true, false, List, [], ◌∷◌, ◌++◌, cond, refl, arith, Option, Some, None, not, nat_tests, sum_by-cons, ArcRef, or_else, one}
+use Rattle.pagable_laws.proofs.Words.{Owner, HandleRow, is_owner, pins, is_pin, Core, Alike, AreNewEntries, Falls, left_rows, is_type, reference_fault, references_fault, IsReference, AreGood}
+use Rattle.pagable_laws.proofs.{Words.StaysAway, Sums.same-number, Goes.{alike, fell}}
 use Rattle.std.proofs.Common.{rules}
-use Rattle.pagable_laws.proofs.Words.{◌≡◌, ℕ, suc, ◌+◌, ◌≤◌, Bool, true, false, List, [], ◌∷◌, ◌++◌, cond, refl, arith, Option, Some, None, not, nat_tests, sum_by-cons}
-use Rattle.pagable_laws.proofs.Words.{ArcRef, or_else, one, Owner, HandleRow, is_owner, pins, is_pin, Core, Alike, AreNewEntries, Falls, left_rows, is_type}
-use Rattle.pagable_laws.proofs.{Words.{reference_fault, references_fault, IsReference, AreGood, StaysAway}, Sums.same-number, Goes.{alike, fell}}
 
 pub or-none : {X : Type 0} (a b : Option X) → or_else a b ≡ None → (a ≡ None) × (b ≡ None)
 or-none x0 b is = grind (arith, nat_tests)

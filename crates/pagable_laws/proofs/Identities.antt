@@ -1,10 +1,10 @@
 -- Two kinds or keys never get one identity through one cache, and one kind and key gets the same for as long as its node is held.
 use Rattle.pagable_laws.proofs.Words.{◌≡◌, ℕ, zero, suc, ◌+◌, ◌≤◌, Bool, true, false, List, [], ◌∷◌, Some, None, inl, inr, refl, sym, ap, subst, ◌∙◌, if◌then◌else◌, arith, nat_tests, OptionalDataKey}
-use Rattle.pagable_laws.proofs.Words.{Event, Owner, Mode, Kind, ArcRef, LoadNumber, type_of, Among, is_pinned_kind, mode_of, fits_mode, is_pinning, Core, Last, Alike, Seen, usable, with_handle}
-use Rattle.pagable_laws.proofs.Words.{with_node, with_cached, next_node, GetsKnown, adopted, first_key, MachineState, world_of, IsWhole, IsMachineWhole, KeepsOpen, Moment, AreMoments, state_after}
+use Rattle.pagable_laws.proofs.Words.{Owner, Mode, Kind, ArcRef, LoadNumber, type_of, Among, is_pinned_kind, mode_of, fits_mode, is_pinning, Core, Last, Alike, Seen, usable, with_handle}
+use Rattle.pagable_laws.proofs.Words.{with_node, with_cached, next_node, GetsKnown, adopted, first_key, MachineState, world_of, IsWhole, IsMachineWhole, Moment, AreMoments, state_after}
 use Rattle.pagable_laws.proofs.{Words.{GetsReference, IsFilledByReading, LeavesCache, StaysAlive, OneIdentityLaw, Change, GetsRow}, Goes.{Quiet, Goes, KnowsNext, quiet-then, quiet-goes, goes-quiet}}
-use Rattle.pagable_laws.proofs.{Goes.{alike, a-handle, fell-anyhow, adopts}, Calling.gets-known, Outlasting.among-found, ReadingStepsRows.{cached-rows, got-known, got-fallen, got-born, is-cached}}
-use Rattle.pagable_laws.proofs.{EventSteps.event-goes, Sums.self-number, Usable.{IsEntered, IsHeldFor, can-use, entered-of, stays-alike, stays-fell}, SparingSteps.event-lasts}
+use Rattle.pagable_laws.proofs.{Goes.{alike, a-handle, fell-anyhow, adopts}, Called.gets-known, Outlasting.among-found, ReadingSteps.{cached-rows, got-known, got-fallen, got-born, is-cached}}
+use Rattle.pagable_laws.proofs.{ReadingSteps.event-goes, Sums.self-number, SparingSteps.{IsEntered, IsHeldFor, can-use, entered-of, stays-alike, stays-fell, keeps-open, event-lasts}}
 
 -- ---- what is got
 
@@ -100,9 +100,6 @@ entered-got {w} {w'} kind key n opened (got-new none next l own references a) h 
     entered : (b : Bool) → b ≡ false → let d = if b then made else with_cached made kind key (next_node w) in IsEntered kind.0 key n d.cache d.cells
     entered true is = absurd (cc)
     entered false is = grind (arith, nat_tests, self-number)
-
-keeps-open : {N B W : Type 0} (event : Event N B W) → LeavesCache event → KeepsOpen event
-keeps-open x0 leaves = grind (arith, nat_tests)
 
 -- ---- along a chain
 

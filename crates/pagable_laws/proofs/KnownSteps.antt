@@ -1,8 +1,8 @@
 -- What a load has got goes on to be what its blobs asked for, whatever happens.
-use Rattle.pagable_laws.proofs.Words.{nat_tests, ◌≡◌, ℕ, Bool, true, false, List, [], ◌∷◌, refl, sym, subst, inl, inr, if◌then◌else◌, Option, Some, None, Kind, Types, is_eager, HandleRow, Event}
-use Rattle.pagable_laws.proofs.Words.{EventReply, LoadAnswer, Core, Frame, Reading, World, Values, Next, reads, asks, is_faulty, next_in, need_at, need_of, needs_nested, needs_lazy, nested_frame}
-use Rattle.pagable_laws.proofs.Words.{with_got, IsReadingOf, Change, KeepsReadings, ReadingFeels, reads-root, reads-blob, gets-known, gets-lazy, makes-known, makes-node, reading-ends, EventFeels}
-use Rattle.pagable_laws.proofs.{Words.{by-call, arith, by-reading, by-key, by-nothing, Needs}, Asking.{none-got, one-got, FramesAsked}, Fitting.asked, ReadingStepsMachine.is-reading-of}
+use Rattle.pagable_laws.proofs.Words.{nat_tests, ◌≡◌, ℕ, true, List, [], ◌∷◌, refl, sym, subst, inl, inr, Option, Some, None, Kind, Types, is_eager, HandleRow, Event, EventReply, LoadAnswer, Core}
+use Rattle.pagable_laws.proofs.Words.{Frame, Reading, World, Values, Next, asks, next_in, need_at, need_of, needs_nested, nested_frame, with_got, IsReadingOf, Change, KeepsReadings, ReadingFeels}
+use Rattle.pagable_laws.proofs.Words.{reads-root, reads-blob, gets-known, gets-lazy, makes-known, makes-node, reading-ends, EventFeels, by-call, arith, by-reading, by-key, by-nothing, Needs}
+use Rattle.pagable_laws.proofs.{Apart.{none-got, one-got, FramesAsked}, Fitting.asked, ReadingSteps.is-reading-of}
 
 -- what is read together with a value is asked for through a reference that isn't loose
 pub eager-nested : (below : List Frame) (next : Next) (kind : Kind) (key : ℕ) → need_at below next ≡ needs_nested kind key → is_eager kind.0 ≡ true

@@ -1,22 +1,17 @@
 -- Where a pager stands for trees, each value and key leads to its node's tree by its own references alone; and from this it stands for them again. So
 -- that a node keeps its tree is shown at each node by itself.
-use Rattle.pagable_laws.proofs.Words.{nat_tests, ◌≡◌, ℕ, zero, ◌<◌, ◌&&◌, Bool, true, false, Option, Some, None, refl, sym, ap, ◌∙◌, subst, is_some, OptionalDataKey, number, integer}
-use Rattle.pagable_laws.proofs.Words.{text, pattern, none, pair, variant, reference, followed, references_in, ArcRef, Meaning, Tree, tree, type_of, ReadsTree, Among, held, is_in_memory, Core, Values}
+use Rattle.pagable_laws.proofs.Words.{nat_tests, ◌≡◌, ℕ, zero, ◌<◌, ◌&&◌, Bool, true, false, Option, Some, None, refl, sym, ap, ◌∙◌, subst, is_some, OptionalDataKey, number, integer, text}
+use Rattle.pagable_laws.proofs.Words.{pattern, none, pair, variant, reference, followed, references_in, ArcRef, Meaning, Tree, tree, type_of, ReadsTree, Among, held, is_in_memory, Core, Values}
 use Rattle.pagable_laws.proofs.Words.{IsLawful, key_at, IsReference, PagerState, WellFormed, NodeStands, here, away, MeaningStands, number-stands, integer-stands, text-stands, pattern-stands}
-use Rattle.pagable_laws.proofs.Words.{none-stands, pair-stands, variant-stands, followed-stands, reference-stands, Represents, HoldsSettled, LeadsTo, number-leads, integer-leads, text-leads, arith}
-use Rattle.pagable_laws.proofs.{Words.{pattern-leads, none-leads, pair-leads, variant-leads, followed-leads, reference-leads, ValueLeads, NodeLeads}, Trees.{same_some, tree_is}, Decoding.among-left}
-use Rattle.pagable_laws.proofs.{Decoding.{among-right, meant-refs}, Following.{one-node, given-of, cell-of}}
+use Rattle.pagable_laws.proofs.Words.{none-stands, pair-stands, variant-stands, followed-stands, reference-stands, Represents, HoldsSettled, LeadsTo, number-leads, integer-leads, text-leads}
+use Rattle.pagable_laws.proofs.{Words.{arith, pattern-leads, none-leads, pair-leads, variant-leads, followed-leads, reference-leads, ValueLeads, NodeLeads}, Trees.{same_some, tree_is}}
+use Rattle.pagable_laws.proofs.{Decoding.{among-left, among-right, meant-refs}, Following.{one-node, given-of, cell-of}}
 
 -- ---- other trees, the same at the nodes that are referred to
 
 module _ {trees trees' : ℕ → Tree} where
   pub leads-on : {x : Meaning ArcRef} {a : Meaning ⊥} → LeadsTo trees x a → ((r : ArcRef) → Among (references_in x) r → trees' r.node.0 ≡ trees r.node.0) → LeadsTo trees' x a
   unfolding references_in
-  leads-on (number-leads i) h = number-leads i
-  leads-on (integer-leads z) h = integer-leads z
-  leads-on (text-leads t) h = text-leads t
-  leads-on (pattern-leads t) h = pattern-leads t
-  leads-on none-leads h = none-leads
   leads-on (pair-leads x y a b f g) h =
       let left = leads-on f (λ r among. h r (among-left (references_in x) (references_in y) among.0 r among.1)) in
       let right = leads-on g (λ r among. h r (among-right (references_in x) (references_in y) among.0 r among.1)) in
@@ -24,6 +19,7 @@ module _ {trees trees' : ℕ → Tree} where
   leads-on (variant-leads i x a f) h = variant-leads i x a (leads-on f h)
   leads-on (followed-leads kind x a f) h = followed-leads kind x a (leads-on f h)
   leads-on (reference-leads r a typed meant) h = let same = h r (zero, refl) in reference-leads r a (ap (λ (t : Tree). t.type) same ∙ typed) (ap (λ (t : Tree). t.meaning) same ∙ meant)
+  leads-on l h = search (number-leads, integer-leads, text-leads, pattern-leads, none-leads)
 
 -- a meaning whose references' nodes have trees of their kinds' types leads to one
 pub led : {trees : ℕ → Tree} (x : Meaning ArcRef) → ((r : ArcRef) → Among (references_in x) r → (trees r.node.0).type ≡ type_of r.kind.0) → (a : Meaning ⊥) × LeadsTo trees x a
@@ -58,11 +54,6 @@ module _ {N E : Type 0} {v : Values N} {s : PagerState N E} {trees : ℕ → Tre
         → ((r : ArcRef) (b : Meaning ⊥) → Among (references_in x) r → NodeStands v s r.node.0 (tree (type_of r.kind.0) b)
         → ((trees r.node.0).type ≡ type_of r.kind.0) × ((trees r.node.0).meaning ≡ b)) → LeadsTo trees x a
     unfolding references_in
-    stands-leads (number-stands i) h = number-leads i
-    stands-leads (integer-stands i) h = integer-leads i
-    stands-leads (text-stands i) h = text-leads i
-    stands-leads (pattern-stands i) h = pattern-leads i
-    stands-leads none-stands h = none-leads
     stands-leads (pair-stands x y a b f g) h =
         let left = stands-leads f (λ r c among. h r c (among-left (references_in x) (references_in y) among.0 r among.1)) in
         let right = stands-leads g (λ r c among. h r c (among-right (references_in x) (references_in y) among.0 r among.1)) in
@@ -70,6 +61,7 @@ module _ {N E : Type 0} {v : Values N} {s : PagerState N E} {trees : ℕ → Tre
     stands-leads (variant-stands i x a f) h = variant-leads i x a (stands-leads f h)
     stands-leads (followed-stands kind x a f) h = followed-leads kind x a (stands-leads f h)
     stands-leads (reference-stands r a node) h = let is = h r a (zero, refl) node in reference-leads r a is.0 is.1
+    stands-leads l h = search (number-leads, integer-leads, text-leads, pattern-leads, none-leads)
 
     -- a value whose references are good, and which stands for a tree, leads to it
     pub value-leads : (x : N) (own : Meaning ArcRef) (t : Tree) (owner : _) → v.node_type x ≡ t.type → v.means x own → MeaningStands v s own t.meaning
@@ -120,11 +112,6 @@ module _ {N E : Type 0} {v : Values N} {s : PagerState N E} {trees : ℕ → Tre
 
   stand : (m : Meaning ⊥) {own : Meaning ArcRef} {a : Meaning ⊥} → LeadsTo trees own a → m ≡ a → AreLive s.core own → MeaningStands v s own a
   unfolding references_in
-  stand m (number-leads i) e h = number-stands i
-  stand m (integer-leads z) e h = integer-stands z
-  stand m (text-leads t) e h = text-stands t
-  stand m (pattern-leads t) e h = pattern-stands t
-  stand m none-leads e h = none-stands
   stand (pair c d) (pair-leads x y a b f g) e h =
       let first : AreLive s.core x = λ r among. h r (among-left (references_in x) (references_in y) among.0 r among.1) in
       let second : AreLive s.core y = λ r among. h r (among-right (references_in x) (references_in y) among.0 r among.1) in
@@ -136,6 +123,11 @@ module _ {N E : Type 0} {v : Values N} {s : PagerState N E} {trees : ℕ → Tre
   stand (followed j c) (reference-leads r a typed meant) e h =
       let same : c ≡ (trees r.node.0).meaning = (let f : c ≡ a = cc in f ∙ sym meant) in
       reference-stands r a (subst (λ (t : Tree). NodeStands v s r.node.0 t) (tree_is _ _ _ _ typed meant) (node-by r.node.0 (h r (zero, refl)) (λ z l k. stand c l same k)))
+  stand m (number-leads i) e h = number-stands i
+  stand m (integer-leads z) e h = integer-stands z
+  stand m (text-leads t) e h = text-stands t
+  stand m (pattern-leads t) e h = pattern-stands t
+  stand m none-leads e h = none-stands
   stand m l e h = absurd (cc)
 
   pub stands-again : (n : ℕ) → 0 < held n s.core.rows → NodeStands v s n (trees n)

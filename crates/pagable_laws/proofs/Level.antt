@@ -1,25 +1,861 @@
--- The chain of two levels is one of the machine, and meets the headline with all that it asks.
-use Rattle.pagable_laws.proofs.Words.{nat_tests, arith, ◌≡◌, ℕ, List, [], ◌∷◌, ◌++◌, refl, sym, subst, ◌∙◌, Some, none, references_in, SameReferences, IsReadable, LiesIn, Throughout, throughout-in}
-use Rattle.pagable_laws.proofs.Words.{none-followed, rest_of, Tree, tree, IsLawful, IsSettled, PagerState, MachineState, ReadsItsTypes, KeepsOpen, ReadsAsType, IsWellAsked, IsPremised, state_after}
-use Rattle.pagable_laws.proofs.{Words.{ArePremised, find_row, is_named_by, answers_from, inl, is_in, HandleRow, Owner, Mode, pins, row_of, AreMoments, TwoLevelsMeetTheHeadline}, States.only-at}
-use Rattle.pagable_laws.proofs.{States.{◌⨾◌, read-back-passes}, Walks.{paged_out, at_work, only-pager, bears, pages-out}, Tested.alike-self, Joining.new_whole, Arriving.headline_law}
-use Rattle.pagable_laws.proofs.Loaded.{done-whole, loads-parent, loads-child, loads-key}
+-- The chain of two levels is one of the machine, and meets the headline with all that it asks: its pagers are whole by closed facts, and so is each step.
+use Rattle.pagable_laws.proofs.Words.{◌≡◌, ℕ, zero, suc, ◌<◌, ◌≤◌, ◌==◌, ◌&&◌, Bool, true, false, List, [], ◌∷◌, refl, ap, sym, subst, arith, All, not, Ok, None, is_some, nat_lt, nat_le, nat_eq}
+use Rattle.pagable_laws.proofs.Words.{and_parts, agree_below, agree_below_at, nat_tests, AllPairs-cons, Among, times, one, updated, Owner, HandleRow, is_shared, is_loose, is_owner, type_of}
+use Rattle.pagable_laws.proofs.Words.{is_owned_by, owner_value, is_at, is_pin, is_share, held, pins, sharing, Core, OpenLoad, Root, of_cell, of_key, row_at, type_at, Alike, loses_value}
+use Rattle.pagable_laws.proofs.Words.{owned_outside, is_outside, is_keyed, IsLeast, MustList, Falls, fallen, IsHandleBefore, length, ◌∙◌, inl, Option, Some, ArcRef, sample_references, value_at}
+use Rattle.pagable_laws.proofs.Words.{is_shared_kind, is_handle, is_here, references_fault, WellFormed, MayOwnLoad, IsRootWhole, no_work, Sample, sample, sample_type, machine, ◌++◌, ◌+◌, inr}
+use Rattle.pagable_laws.proofs.Words.{is_none, if_there, blob_of, HandleNumber, NodeNumber, Blob, Took, Mode, Pinning, WorkerAnswer, PagerState, TodoTakesWell, ArePremised, find_row, is_named_by}
+use Rattle.pagable_laws.proofs.Words.{preimage, IsSettled, is_in, identity_of, Shelf, Written, Todo, Reading, to_start, to_pin, to_load, to_write, to_set, to_publish, to_release, to_finish}
+use Rattle.pagable_laws.proofs.Words.{to_item, digest, nobody, row_of, with_key, CloneCall, PinCall, StoreCall, WalkDoes, claim_fault, is_workers_at, nothing-form, reference-form, without_worker}
+use Rattle.pagable_laws.proofs.Words.{is_workers, AreMoments, Walking, Ends, is_counted, steps_after, TookWrites, SameShelf, no_shelf, IsMachineWhole, IsReadingWhole, IsWalkingWhole, owner_worker}
+use Rattle.pagable_laws.proofs.Words.{◌⊎◌, LoadAnswer, Frame, BeginCall, ReadingDoes, root_frame, IsClosed, IsWithin, with_mode, UnpinCall, named_fault, answers_from, ReadsRoot, IsCellOf, Event}
+use Rattle.pagable_laws.proofs.Words.{EventReply, one_more, load_fault, reading_at, reading_after, ReadingsAre, ReadingBrings, world_of, WorkStays, OnlyCore, Beginning, MachineState, fresh}
+use Rattle.pagable_laws.proofs.Words.{references_in, SameReferences, IsReadable, LiesIn, Throughout, throughout-in, none-followed, rest_of, Tree, tree, IsLawful, ReadsItsTypes, KeepsOpen}
+use Rattle.pagable_laws.proofs.{Words.{ReadsAsType, IsWellAsked, IsPremised, state_after, TwoLevelsMeetTheHeadline}, Sums.sum-zero, GoodReferences.good, Two.and-false, Joining.new_whole}
+use Rattle.pagable_laws.proofs.Chains.{headline_law}
+use Rattle.std.specs.List.{AllPairs}
+use Rattle.pagable_world.specs.{Workers.Site, World.HasForm}
+use Rattle.pagable_laws.specs.TwoLevels as two
+use Rattle.pagable_world.specs.{Runs.Does, Events.Happens, LoadCalls.IsNextLoad, Pager.EventBrings, Pager.ReplyWrites}
 use Rattle.pagable_model.specs.Reading as grammar
 use Rattle.pagable_model.specs.Shape as shapes
-use Rattle.pagable_laws.specs.TwoLevels as two
+use Rattle.pagable_model.specs.Meaning as meanings
+
+-- ---- lists, options and numbers
+
+-- P of each; and of what there is
+abbrev pub Each : {X : Type 0} → (X → Type 0) → List X → Type 0
+Each P [] = Unit {0}
+Each P (x ∷ xs) = P x × Each P xs
+
+abbrev pub OfSome : {X : Type 0} → (X → Type 0) → Option X → Type 0
+OfSome P None = Unit {0}
+OfSome P (Some x) = P x
+
+of-some : {X : Type 0} (P : X → Type 0) {x : Option X} {y : X} → OfSome P x → x ≡ Some y → P y
+of-some P {x} {y} h is = subst (λ o. OfSome P o) is h
+
+each-among : {X : Type 0} (P : X → Type 0) (xs : List X) (x : X) → Each P xs → Among xs x → P x
+each-among P [] x h (i, is) = absurd (cc)
+each-among P (y ∷ ys) x h (zero, is) = of-some P {x = Some y} h.0 is
+each-among P (y ∷ ys) x h (suc i, is) = each-among P ys x h.1 (i, is)
+
+none-pass : {X : Type 0} (P : X → Type 0) (q : X → Bool) (xs : List X) → Each P xs → ((x : X) → P x → q x ≡ false) → times q xs ≡ 0
+none-pass P q xs all h = sum-zero (λ x. one (q x)) xs (λ x among. ap one (h x (each-among P xs x all among)))
+
+-- what holds of the first numbers and past them holds of all
+by-four : (P : ℕ → Type 0) → P 0 × P 1 × P 2 × P 3 → ((n : ℕ) → 3 < n → P n) → (n : ℕ) → P n
+by-four P h past zero = h.0
+by-four P h past (suc zero) = h.1
+by-four P h past (suc (suc zero)) = h.2
+by-four P h past (suc (suc (suc zero))) = h.3
+by-four P h past (suc (suc (suc (suc n)))) = past (suc (suc (suc (suc n)))) (omega arith)
+
+by-number : (k : ℕ) (f g : ℕ → Bool) → agree_below f g (suc k) ≡ true → ((n : ℕ) → k < n → f n ≡ g n) → (n : ℕ) → f n ≡ g n
+by-number k f g ok past n = part (nat_le n k) refl
+  where
+    part : (b : Bool) → nat_le n k ≡ b → f n ≡ g n
+    part true e = agree_below_at f g (suc k) n ok (grind (arith, nat_tests))
+    part false e = past n (grind (arith, nat_tests))
+
+pub updated-past : {X : Type 0} (k m : ℕ) (x d : X) (f : ℕ → X) → m ≤ k → ((n : ℕ) → k < n → f n ≡ d) → (n : ℕ) → k < n → updated m x f n ≡ d
+updated-past k m x d f le past n lt = let a : (n == m) ≡ false = grind (arith, nat_tests) in rw a (past n lt)
+
+-- ---- rows
+
+-- of the nodes up to 3, not shared, and owned by the values of these or by one who isn't the list
+abbrev pub OwnerLow : Owner → Type 0
+OwnerLow (Owner.Value n) = nat_le n.0 3 ≡ true
+OwnerLow Owner.List = ⊥
+OwnerLow owner = Unit {0}
+
+abbrev pub RowLow : HandleRow → Type 0
+RowLow h = (nat_le h.node.0 3 ≡ true) × (is_shared h.mode ≡ false) × OwnerLow h.owner
+
+abbrev pub IsLow : Core → Type 0
+IsLow w = Each RowLow w.rows
+
+module _ (rows : List HandleRow) (low : Each RowLow rows) where
+  node-low : (n : ℕ) → 3 < n → (h : HandleRow) → RowLow h → is_at n h ≡ false
+  node-low n lt h ok = let a = ok.0 in grind (arith, nat_tests)
+
+  held-past : (n : ℕ) → 3 < n → held n rows ≡ 0
+  held-past n lt = none-pass RowLow (is_at n) rows low (node-low n lt)
+
+  pins-past : (n : ℕ) → 3 < n → pins n rows ≡ 0
+  pins-past n lt = none-pass RowLow (is_pin n) rows low (λ h ok. let a = node-low n lt h ok in rw a refl)
+
+  unshared : (n : ℕ) → sharing n rows ≡ 0
+  unshared n = none-pass RowLow (is_share n) rows low (λ h ok. and-false (is_at n h) (is_shared h.mode) ok.1)
+    where
+      and-false : (a b : Bool) → b ≡ false → (a && b) ≡ false
+      and-false a b is = grind (arith, nat_tests)
+
+  owner-past : (n : ℕ) → 3 < n → (o : Owner) → OwnerLow o → is_owner (owner_value n) o ≡ false
+  owner-past n lt x2 ok = grind (arith, nat_tests)
+
+  owned-past : (n : ℕ) → 3 < n → (more : HandleRow → Bool) → times (λ h. is_owned_by (owner_value n) h && more h) rows ≡ 0
+  owned-past n lt more = none-pass RowLow (λ h. is_owned_by (owner_value n) h && more h) rows low (λ h ok. let a = owner-past n lt h.owner ok.2 in rw a refl)
+
+  owns-past : (n : ℕ) → 3 < n → times (is_owned_by (owner_value n)) rows ≡ 0
+  owns-past n lt = none-pass RowLow (is_owned_by (owner_value n)) rows low (λ h ok. owner-past n lt h.owner ok.2)
+
+-- ---- what falls
+
+pub alike-self : (w : Core) → Alike w w
+alike-self w = grind (arith, nat_tests, and_parts)
+
+-- no cell without a key loses its last pin
+abbrev pub lists_none : Core → Core → (ℕ → Bool) → ℕ → Bool
+lists_none before w gone n = nat_lt 0 (pins n before.rows) && (nat_eq (pins n (fallen w gone []).rows) 0 && not (is_keyed w n))
+
+-- a value that goes owns a handle that isn't given
+abbrev pub takes_more : Core → (ℕ → Bool) → ℕ → Bool
+takes_more w given n = loses_value w.rows (is_keyed w) [] given n && nat_lt 0 (owned_outside w.rows given n)
+
+abbrev pub never : ℕ → Bool
+never n = false
+
+pub falls-so : (before w : Core) (given gone : ℕ → Bool) → IsLow before → nat_le w.last.handle 9 ≡ true → agree_below (lists_none before w gone) never 4 ≡ true
+    → IsLeast w.rows (is_keyed w) [] given gone → Falls before w given (Ok tt) (fallen w gone [])
+falls-so before w given gone low few none least =
+    record {
+      gone = gone;
+      entries = [];
+      set = least;
+      new = tt;
+      only = λ n some. absurd (omega arith);
+      each = λ n must. absurd (no-must n must);
+      tells = record { all = λ n must. absurd (no-must n must); not_all = tt };
+      within = let b : w.last.handle ≤ 9 = grind (arith, nat_tests) in omega arith;
+      leaves = alike-self (fallen w gone []);
+    }
+  where
+    no-must : (n : ℕ) → MustList before w (fallen w gone []) n → ⊥
+    no-must n must =
+        let is_none = by-number 3 (lists_none before w gone) never none (λ n lt. let a = pins-past before.rows low n lt in rw a refl) n in
+        let a = must.pinned in let b = must.unpinned in let c = must.unkeyed in grind (arith, nat_tests)
+
+-- the given handles fall alone, if no value that goes owns another
+abbrev pub AreAlone : Core → Core → (ℕ → Bool) → Type 0
+AreAlone before w given =
+    IsLow before × IsLow w × (nat_le w.last.handle 9 ≡ true) × (agree_below (lists_none before w given) never 4 ≡ true) × (agree_below (takes_more w given) never 4 ≡ true)
+
+pub falls-alone : (before w : Core) (given : ℕ → Bool) → AreAlone before w given → Falls before w given (Ok tt) (fallen w given [])
+falls-alone before w given (low_before, low, few, none, ok) =
+    falls-so before w given given low_before few none (record {
+      holds = sum-zero (λ h. one (given h.number.0 && not (given h.number.0))) w.rows (λ h among. self (given h.number.0));
+      closed = λ n goes. let a = by-number 3 (takes_more w given) never ok (λ n lt. past (loses_value w.rows (is_keyed w) [] given n) (owned-past w.rows low n lt (is_outside given))) n in
+          grind (arith, nat_tests);
+      least = λ t holds closed. holds;
+    })
+  where
+    self : (b : Bool) → one (b && not b) ≡ 0
+    self true = refl
+    self false = refl
+
+    past : {k : ℕ} (b : Bool) → k ≡ 0 → (b && nat_lt 0 k) ≡ false
+    past true e = rw e refl
+    past false e = refl
+
+-- ---- what is whole
+
+-- no cell past the node 3, no load past 3, no worker past 1; and the cache knows the node 3 at most, by the kind 4 and the key 8
+abbrev pub Few : Core → Type 0
+Few w =
+    ((n : ℕ) → 3 < n → w.cells n ≡ None) × ((l : ℕ) → 3 < l → w.loads l ≡ None) × ((v : ℕ) → 1 < v → w.workers v ≡ false)
+    × ((kind key n : ℕ) → w.cache kind key ≡ Some n → (kind ≡ 4) × (key ≡ 8) × (n ≡ 3))
+
+-- the handles stand in the order of their numbers, which are above this one
+abbrev pub Rises : ℕ → List HandleRow → Type 0
+Rises low [] = Unit {0}
+Rises low (h ∷ hs) = (nat_lt low h.number.0 ≡ true) × Rises h.number.0 hs
+
+ordered : (low : ℕ) (rows : List HandleRow) → Rises low rows → AllPairs IsHandleBefore rows × All (λ (h : HandleRow). low < h.number.0) rows
+ordered low [] ok = (λ i j d lt within. absurd (omega arith), λ j d within. absurd (omega arith))
+ordered low (h ∷ hs) (first, more) =
+    let rest = ordered h.number.0 hs more in (AllPairs-cons IsHandleBefore h hs rest.1 rest.0, at (grind (arith, nat_tests)) rest.1)
+  where
+    at : low < h.number.0 → All (λ (x : HandleRow). h.number.0 < x.number.0) hs → All (λ (x : HandleRow). low < x.number.0) (h ∷ hs)
+    at first others zero d within = first
+    at first others (suc j) d within = let a = others j d (omega arith) in omega arith
+
+-- a handle's number was given, and its owner is there
+abbrev pub OwnerThere : Core → Owner → Type 0
+OwnerThere w (Owner.Load l) = is_some (w.loads l.0) ≡ true
+OwnerThere w (Owner.Worker v) = w.workers v.0 ≡ true
+OwnerThere w owner = Unit {0}
+
+abbrev pub RowThere : Core → HandleRow → Type 0
+RowThere w h = (nat_lt 0 h.number.0 ≡ true) × (nat_le h.number.0 w.last.handle ≡ true) × OwnerThere w h.owner
+
+abbrev pub RootFits : Core → Root → Type 0
+RootFits w (of_cell node t h) =
+    OfSome (λ u. u ≡ t) (type_at w node.0) × OfSome (λ (row : HandleRow). (row.node ≡ node) × (is_loose row.mode ≡ true)) (row_at w h)
+    × (nat_le h.0 w.last.handle ≡ true) × (nat_le node.0 w.last.node ≡ true)
+RootFits w of_key = Unit {0}
+
+abbrev pub LoadFits : Core → ℕ → OpenLoad → Type 0
+LoadFits w l load = (nat_lt 0 l ≡ true) × (nat_le l w.last.load ≡ true) × (load.owner ≡ Owner.Caller) × RootFits w load.root
+
+-- how often a value refers to a handle, and the value of the node owns it; which is the same
+abbrev pub refers : Sample → ℕ → ℕ
+refers x q = times (λ (r : ArcRef). r.handle.0 == q) (sample_references x)
+
+abbrev pub owns : Core → ℕ → ℕ → ℕ
+owns w n q = times (λ h. is_handle q h && is_owned_by (owner_value n) h) w.rows
+
+abbrev pub ValueFits : Core → ℕ → Option Sample → Type 0
+ValueFits w n None = times (is_owned_by (owner_value n)) w.rows ≡ 0
+ValueFits w n (Some x) =
+    (type_at w n ≡ Some (sample_type x)) × (agree_below (λ q. nat_eq (refers x q) (owns w n q)) (λ q. true) 10 ≡ true)
+    × Each (λ (r : ArcRef). nat_le r.handle.0 9 ≡ true) (sample_references x) × (references_fault w (owner_value n) [] (sample_references x) ≡ None)
+
+-- what is asked of the node and of the load of this number
+abbrev pub NumberFits : Core → List (Option Sample) → ℕ → Type 0
+NumberFits w vs n =
+    ((is_some (w.cells n) && not (nat_lt 0 n && nat_le n w.last.node)) ≡ false) × (is_some (w.cells n) ≡ nat_lt 0 (held n w.rows))
+    × (is_some (value_at vs n) ≡ (is_some (w.cells n) && is_here w n)) × ValueFits w n (value_at vs n) × OfSome (LoadFits w n) (w.loads n)
+
+-- all that is asked of a pager with few of each: of its handles, of it as a whole, and of each number
+pub record HandlesFit (w : Core) : Type 0 where
+  pub low : IsLow w
+  pub rise : Rises 0 w.rows
+  pub there : Each (RowThere w) w.rows
+
+pub record Stands (w : Core) (vs : List (Option Sample)) : Type 0 where
+  pub short : nat_le (length vs) 4 ≡ true
+  pub list : w.list ≡ []
+  pub stands_open : w.closed ≡ false
+  pub room : (nat_le w.last.handle 9 ≡ true) × (nat_le w.last.node 3 ≡ true) × (nat_le w.last.load 3 ≡ true) × (nat_le (length w.rows) w.places.handles ≡ true)
+  pub workers : (w.workers 0 ≡ false) × ((w.workers 1 && not (nat_le 1 w.last.worker)) ≡ false)
+  pub third : OfSome (λ t. t ≡ 1) (type_at w 3) × OfSome (λ n. nat_le n w.last.node ≡ true) (w.cache 4 8)
+
+pub record Passes (w : Core) (vs : List (Option Sample)) : Type 0 where
+  pub handles : HandlesFit w
+  pub stands : Stands w vs
+  pub numbers : NumberFits w vs 0 × NumberFits w vs 1 × NumberFits w vs 2 × NumberFits w vs 3
+
+past-end : (vs : List (Option Sample)) (n : ℕ) → length vs ≤ n → value_at vs n ≡ None
+unfolding value_at
+past-end (x ∷ xs) (suc n) few = past-end xs n (omega arith)
+past-end x0 x1 few = grind (arith, nat_tests)
+
+module _ (w : Core) (vs : List (Option Sample)) (few : Few w) (p : Passes w vs) where
+  number : (n : ℕ) → NumberFits w vs n
+  number = by-four (NumberFits w vs) p.numbers past
+    where
+      past : (n : ℕ) → 3 < n → NumberFits w vs n
+      past n lt =
+          let short = p.stands.short in let none : value_at vs n ≡ None = past-end vs n (grind (arith, nat_tests)) in
+          let a = few.0 n lt in let b = few.1 n lt in let c = held-past w.rows p.handles.low n lt in rw (a, b, c, none) (refl, refl, refl, owns-past w.rows p.handles.low n lt, tt)
+
+  row : (h : HandleRow) → Among w.rows h → RowThere w h
+  row h among = each-among (RowThere w) w.rows h p.handles.there among
+
+  low : (h : HandleRow) → Among w.rows h → RowLow h
+  low h among = each-among RowLow w.rows h p.handles.low among
+
+  load : (l : ℕ) (load : OpenLoad) → w.loads l ≡ Some load → LoadFits w l load
+  load l x is = of-some (LoadFits w l) (number l).4 is
+
+  load-numbered : (l : ℕ) (found : Option OpenLoad) → OfSome (LoadFits w l) found → is_some found ≡ true → (0 < l) × (l ≤ w.last.load)
+  load-numbered l x1 fits some = grind (arith, nat_tests)
+
+  node-numbered : (n : ℕ) → is_some (w.cells n) ≡ true → (0 < n) × (n ≤ w.last.node)
+  node-numbered n some = let a = (number n).0 in grind (arith, nat_tests, and_parts)
+
+  root-whole : (node : _) (t : ℕ) (h : _) → RootFits w (of_cell node t h) → IsRootWhole w node t h
+  root-whole node t h (typed, begun, given, node_given) =
+      record { typed = λ type at. of-some (λ u. u ≡ t) typed at; begun = λ r at. of-some _ begun at; given = (grind (arith, nat_tests), grind (arith, nat_tests)) }
+
+  value : (n : ℕ) (x : Sample) → value_at vs n ≡ Some x → ValueFits w n (Some x)
+  value n x is = subst (λ o. ValueFits w n o) is (number n).3
+
+  inside : (n : ℕ) (x : Sample) (q : ℕ) → value_at vs n ≡ Some x → refers x q ≡ owns w n q
+  inside n x q is = let a = by-number 9 (λ q. nat_eq (refers x q) (owns w n q)) (λ q. true) (value n x is).1 past q in grind (arith, nat_tests)
+    where
+      past : (q : ℕ) → 9 < q → nat_eq (refers x q) (owns w n q) ≡ true
+      past q lt =
+          let few = p.stands.room.0 in
+          let a : refers x q ≡ 0 = none-pass (λ (r : ArcRef). nat_le r.handle.0 9 ≡ true) (λ r. r.handle.0 == q) (sample_references x) (value n x is).2 (λ r ok. grind (arith, nat_tests)) in
+          let b : owns w n q ≡ 0 = none-pass (RowThere w) (λ h. is_handle q h && is_owned_by (owner_value n) h) w.rows p.handles.there
+          (λ h ok. let c = ok.1 in let d : is_handle q h ≡ false = grind (arith, nat_tests) in rw d refl) in
+          rw (a, b) refl
+
+  list-owns-none : (q : ℕ) → times (λ h. is_handle q h && is_owned_by Owner.List h) w.rows ≡ 0
+  list-owns-none q = none-pass RowLow (λ h. is_handle q h && is_owned_by Owner.List h) w.rows p.handles.low (λ h ok. not-list (is_handle q h) h.owner ok.2)
+    where
+      not-list : (b : Bool) (o : Owner) → OwnerLow o → (b && is_owner Owner.List o) ≡ false
+      not-list x0 x1 ok = grind (arith, nat_tests)
+
+  worker-numbered : (v : ℕ) → w.workers v ≡ true → v ≤ w.last.worker
+  worker-numbered zero is = omega arith
+  worker-numbered (suc zero) is = let a = p.stands.workers.1 in grind (arith, nat_tests)
+  worker-numbered (suc (suc v)) is = let e = few.2 (suc (suc v)) (omega arith) in absurd (cc)
+
+  pub whole-so : WellFormed sample (machine w vs no_work).pager
+  whole-so =
+      let (few_handles, few_nodes, few_loads, enough) = p.stands.room in
+      record {
+        whole = record {
+          handles = record {
+            ordered = (ordered 0 w.rows p.handles.rise).0;
+            numbered = λ h among. let (a, b, c) = row h among in (grind (arith, nat_tests), grind (arith, nat_tests));
+            nodes_numbered = node-numbered;
+            within = let a : w.last.handle ≤ 9 = grind (arith, nat_tests) in let b : w.last.node ≤ 3 = grind (arith, nat_tests) in let c : w.last.load ≤ 3 = grind (arith, nat_tests) in
+                (omega arith, omega arith, omega arith);
+            live = λ n. (number n).1;
+            uniform = λ n. inl (unshared w.rows p.handles.low n);
+            unkeyed = λ n some. let a = unshared w.rows p.handles.low n in absurd (omega arith);
+            places = (grind (arith, nat_tests), let e : length w.list ≡ 0 = ap length p.stands.list in omega arith);
+          };
+          owners_there = record {
+            listed = λ q. subst (λ hs. times (λ h. h.0 == q) hs ≡ times (λ h. is_handle q h && is_owned_by Owner.List h) w.rows) (sym p.stands.list) (sym (list-owns-none q));
+            waiting = λ h among is. absurd (subst (λ o. OwnerLow o) is (low h among).2);
+            loads = λ h l among is. subst (λ o. OwnerThere w o) is (row h among).2;
+            workers = λ h v among is. subst (λ o. OwnerThere w o) is (row h among).2;
+          };
+          loads = record {
+            numbered = λ l some. load-numbered l (w.loads l) (number l).4 some;
+            owned = λ l x is. subst (λ o. MayOwnLoad w o) (sym (load l x is).2) tt;
+            roots = λ l x node t h is root. root-whole node t h (subst (λ r. RootFits w r) root (load l x is).3);
+          };
+          cache = λ kind key n is. let (four, eight, three) = few.3 kind key n is in
+              record {
+                given = let a : w.cache 4 8 ≡ Some n = cc in let b = of-some (λ n. nat_le n w.last.node ≡ true) p.stands.third.1 a in grind (arith, nat_tests);
+                typed = λ t at. of-some (λ t. t ≡ 1) p.stands.third.0 (subst (λ k. type_at w k ≡ Some t) three at) ∙ ap type_of (sym four);
+                shares = λ h among at. (low h among).1 ∙ ap is_shared_kind (sym four);
+              };
+          workers_numbered = worker-numbered;
+          shut = λ closed. let e = p.stands.stands_open in absurd (cc);
+        };
+        counted = λ n. refl;
+        valued = λ n. (number n).2;
+        typed = λ n x is. (value n x is).0;
+        inside = λ n x q is. inside n x q is;
+        bare = λ n is. subst (λ o. ValueFits w n o) is (number n).3;
+        references = λ n x r is among. good w (owner_value n) [] (sample_references x) (value n x is).3 r among;
+      }
+
+-- ---- the machine over a pager that passes
+
+-- the worker is at work exactly until it has answered; what is read is a load of the caller's
+abbrev pub FitsWalking : Core → Option Walking → Type 0
+FitsWalking w None = w.workers 1 ≡ false
+FitsWalking w (Some x) = (x.table ≡ 1) × (w.workers 1 ≡ is_none x.answer)
+
+abbrev pub FitsReading : Core → Option Reading → Type 0
+FitsReading w None = Unit {0}
+FitsReading w (Some r) = IsReadingWhole w r.load.0 r
+
+-- all that is asked of a pager with these values
+abbrev pub Good : Core → List (Option two.Sample) → Type 0
+Good w vs = Few w × Passes w vs
+
+pub whole-at : (w : Core) (vs : List (Option two.Sample)) (shelf : Shelf) (walking : Option Walking) (reading : Option Reading) → Good w vs → FitsWalking w walking → FitsReading w reading
+    → IsMachineWhole two.sample (two.machine w vs (two.work_of shelf walking reading))
+whole-at w vs shelf walking reading (few, p) walks reads = record { pager = whole-so w vs few p; readings = read-so reading reads; walkings = walk-so walking walks; all_there = there walking walks }
+  where
+    read-so : (reading : Option Reading) → FitsReading w reading → (l : ℕ) (r : Reading) → two.reads reading l ≡ Some r → IsReadingWhole w l r
+    read-so reading fits l r is = grind (arith, nat_tests)
+
+    walk-so : (walking : Option Walking) → FitsWalking w walking → (n : ℕ) (x : Walking) → updated 1 walking (λ v. None) n ≡ Some x → IsWalkingWhole w (two.work_of shelf walking reading) n x
+    walk-so walking fits n x is = grind (arith, nat_tests)
+
+    there : (walking : Option Walking) → FitsWalking w walking → (n : ℕ) → w.workers n ≡ true → is_some (updated 1 walking (λ v. None) n) ≡ true
+    there walking fits zero is = let e = p.stands.workers.0 in absurd (cc)
+    there None fits (suc zero) is = absurd (cc)
+    there (Some x) fits (suc zero) is = refl
+    there walking fits (suc (suc n)) is = let e = few.2 (suc (suc n)) (omega arith) in absurd (cc)
+
+-- what is few stays few
+pub few-key : (w : Core) (n : NodeNumber) (key : ℕ) → Few w → Few (with_key w n key)
+few-key w n key few = (keyed, few.1, few.2, few.3)
+  where
+    keyed : (m : ℕ) → 3 < m → (with_key w n key).cells m ≡ None
+    keyed m lt = let e = few.0 m lt in grind (arith, nat_tests)
+
+pub few-fallen : (w : Core) (gone : ℕ → Bool) → Few w → Few (fallen w gone [])
+few-fallen w gone few = (λ n lt. let e = few.0 n lt in grind (arith, nat_tests), few.1, few.2, few.3)
+
+few-ended : (answer : Option WorkerAnswer) (w : Core) → Few w → Few (two.ended answer w)
+few-ended None w few = few
+few-ended (Some answer) w few =
+    few-fallen (without_worker w 1) (is_workers w 1) (few.0, λ l lt. let e = few.1 l lt in grind (arith, nat_tests), updated-past 1 1 false false w.workers (omega arith) few.2, few.3)
+
+-- ---- each step
+
+pub same-shelf : (s : Shelf) → SameShelf s s
+same-shelf s = record { slots = λ i. refl; waits = λ v. refl }
+
+abbrev site : Core → Shelf → List Todo → Site
+site w s todo = record { core = w; shelf = s; todo = todo }
+
+-- a step of the worker at pager, table and list
+abbrev Walks : Core → Shelf → List Todo → Took Written → Core → Shelf → List Todo → Type 0
+Walks w s todo step w' s' todo' = WalkDoes two.sample_seen 1 (site w s todo) step (site w' s' todo')
+
+-- what a store asks; and what a step does
+abbrev CanStore : Core → Written → List ℕ → Type 0
+CanStore w written keys = (length keys ≡ length written.references) × (w.closed ≡ false) × (w.stored (digest two.sample (blob_of written.bytes keys)) ≡ None)
+
+abbrev owner_at : Core → HandleNumber → Owner
+owner_at w h = if_there (λ (row : HandleRow). row.owner) Owner.Caller (row_at w h)
+
+abbrev HasKind : two.Sample → Type 0
+HasKind two.leaf = Unit {0}
+HasKind (two.parent r) = r.kind.0 ≡ 4
+
+abbrev Asks : Core → Shelf → List Todo → Type 0
+Asks w s (to_start r place ∷ below) = (nat_le place 0 ≡ true) × (claim_fault w r ≡ None) × (s.slots (identity_of r) ≡ None)
+Asks w s (to_pin r place ∷ below) =
+    (row_at w r.handle ≡ Some (row_of r.handle.0 r.node Mode.LoosePinned (owner_at w r.handle)))
+    × (row_at (two.cloned w r.node) (two.handle (w.last.handle + 1)) ≡ Some (row_of (w.last.handle + 1) r.node Mode.LoosePinned (owner_worker 1)))
+    × (is_here (two.cloned w r.node) r.node.0 ≡ true)
+    × (nat_le w.last.handle 6 ≡ true)
+Asks w s (to_write r place through ∷ below) = (value_at two.two_values r.node.0 ≡ Some (two.value_of r.node)) × HasKind (two.value_of r.node)
+Asks w s (to_finish o ∷ below) = CanStore w o.written o.keys
+Asks w s (to_set r through key height ∷ below) = (row_at w through ≡ Some (row_of through.0 r.node Mode.LoosePinned (owner_worker 1))) × AreAlone w (with_key w r.node key) nobody
+Asks w s (to_publish r key height ∷ below) = Unit {0}
+Asks w s (to_release r key height ∷ below) = AreAlone w w (is_workers_at w 1 r.node.0)
+Asks w s (to_item written keys ∷ below) = CanStore w written keys
+Asks w s todo = ⊥
+
+claims-it : (w : Core) (s : Shelf) (r : _) (place : ℕ) (below : List Todo) → nat_le place 0 ≡ true → claim_fault w r ≡ None → s.slots (identity_of r) ≡ None
+    → let a = two.next_step w s (to_start r place ∷ below) in Walks w s (to_start r place ∷ below) a.0 a.1 a.2 a.3
+claims-it w s r place below first good free = grind (arith, nat_tests, alike-self, same-shelf)
+
+pinned-again : (w : Core) (n : NodeNumber) → let q = w.last.handle + 1 in row_at (two.cloned w n) (two.handle q) ≡ Some (row_of q n Mode.LoosePinned (owner_worker 1))
+    → is_here (two.cloned w n) n.0 ≡ true
+    → nat_le w.last.handle 6 ≡ true → PinCall (two.cloned w n) (owner_worker 1) (two.handle q) (Ok (Pinning.Pinned (two.handle (q + 1)))) (two.pinned_at w n)
+pinned-again w n live here few = grind (arith, nat_tests, alike-self)
+
+stored-so : (w : Core) (blob : Blob) → w.closed ≡ false → w.stored (digest two.sample blob) ≡ None → StoreCall (digest two.sample) w blob (Ok (digest two.sample blob)) (two.with_blob w blob)
+stored-so w blob is_open free = grind (arith, nat_tests, alike-self)
+
+does-so : (w : Core) (s : Shelf) (todo : List Todo) → Asks w s todo → let a = two.next_step w s todo in Walks w s todo a.0 a.1 a.2 a.3
+does-so w s (to_start r place ∷ below) (first, good, free) = claims-it w s r place below first good free
+does-so w s (to_pin r place ∷ below) (live, clone_live, here, few) =
+    let left : w.last.handle ≤ 6 = grind (arith, nat_tests) in
+    let row = row_of r.handle.0 r.node Mode.LoosePinned (owner_at w r.handle) in
+    let cloned : CloneCall w (owner_worker 1) r.handle (Ok (two.handle (w.last.handle + 1))) (two.cloned w r.node) =
+    record { made = (row, live, record { above = refl; is_left = omega arith }, alike-self (two.cloned w r.node)); refused = tt } in
+    record {
+      does = (
+        refl,
+        record {
+          pins = (
+            two.handle (w.last.handle + 1),
+            inr (record { row = row; live = live; sort = refl }, (two.cloned w r.node, cloned, pinned-again w r.node clone_live here few)),
+            record { table_stays = same-shelf s; list_is = refl },
+          );
+          refused = tt;
+        },
+      );
+    }
+does-so w s (to_write r place through ∷ below) ok = search (alike-self w, same-shelf)
+does-so w s (to_finish o ∷ below) (all, is_open, free) = search (stored-so w (blob_of o.written.bytes o.keys), same-shelf)
+does-so w s (to_set r through key height ∷ below) (live, alone) =
+    record {
+      does = (
+        refl,
+        record {
+          sets = record {
+            does = inr (row_of through.0 r.node Mode.LoosePinned (owner_worker 1), record { live = live; own = refl; as_asked = refl }, inr (refl, falls-alone w (with_key w r.node key) nobody alone));
+          };
+          goes = record { table_stays = same-shelf s; list_is = refl };
+          refused = tt;
+        },
+      );
+    }
+does-so w s (to_publish r key height ∷ below) ok = search (alike-self w, same-shelf)
+does-so w s (to_release r key height ∷ below) alone =
+    record { does = (refl, record { told = Ok tt; falls = falls-alone w w (is_workers_at w 1 r.node.0) alone }, record { table_stays = same-shelf s; list_is = refl }) }
+does-so w s (to_item written keys ∷ below) (all, is_open, free) = search (stored-so w (blob_of written.bytes keys), same-shelf)
+does-so w s todo ok = absurd ok
+
+few-next : (w : Core) (s : Shelf) (todo : List Todo) → Few w → let a = two.next_step w s todo in Few a.1
+few-next w s (to_set r through key height ∷ below) few = few-fallen (with_key w r.node key) nobody (few-key w r.node key few)
+few-next w s (to_release r key height ∷ below) few = few-fallen w (is_workers_at w 1 r.node.0) few
+few-next w s todo few = few
+
+-- what is written is a form of the value
+writes-so : (w : Core) (s : Shelf) (work : _) (todo : List Todo) → Asks w s todo → let a = two.next_step w s todo in TookWrites two.sample (λ w. w) (two.machine w two.two_values work).pager a.0
+writes-so w s work (to_write r place through ∷ below) (held, kind) = record { x = two.value_of r.node; held = held; form = form-of (two.value_of r.node) kind; listed = refl }
+  where
+    form-of : (x : two.Sample) → HasKind x → HasForm two.sample x (two.sample_written x)
+    form-of two.leaf ok = record { shape = _; own = _; is = refl; means = refl; form = nothing-form _ }
+    form-of (two.parent r) four = record { shape = _; own = _; is = refl; means = refl; form = reference-form _ 4 r four }
+writes-so w s work todo ok = tt
+
+-- with its answer the worker ends
+abbrev EndsSo : Option WorkerAnswer → Core → Type 0
+EndsSo None w = Unit {0}
+EndsSo (Some answer) w = AreAlone w (without_worker w 1) (is_workers w 1)
+
+ends-so : (answer : Option WorkerAnswer) (w : Core) → EndsSo answer w → Ends answer 1 w (two.ended answer w)
+ends-so None w ok = alike-self w
+ends-so (Some answer) w alone = record { told = Ok tt; falls = falls-alone w (without_worker w 1) (is_workers w 1) alone }
+
+takes-so : (s : Core) (shelf : Shelf) (pager : PagerState two.Sample (Unit {0})) (todo : List Todo) → Asks s shelf todo → TodoTakesWell two.sample pager todo
+takes-so w s pager (to_load r place through reading ∷ below) ok = absurd ok
+takes-so w s pager todo ok = tt
+
+-- ---- the page-out, step by step
+
+pub two-settled : (x : two.Sample) → IsSettled two.sample x
+two-settled x a b is other = other ∙ sym is
+
+-- what so many steps ask
+unfoldable pub AllAsk : ℕ → two.Working → Type 0
+AllAsk zero x = Unit {0}
+AllAsk (suc n) x =
+    let a = two.next_step x.core x.shelf x.todo in let y = two.next x in
+    (x.answer ≡ None) × Asks x.core x.shelf x.todo × (y.steps ≡ steps_after x.steps (is_counted x.todo a.0)) × EndsSo y.answer a.1 × Passes y.core two.two_values
+    × (y.core.workers 1 ≡ is_none y.answer) × AllAsk n y
+
+pub none-there : {X Y : Type 0} (found : Option Y) (x : Option X) → x ≡ None → x ≡ if_there (λ (y : Y). x) None found
+none-there x0 x is = grind (arith, nat_tests)
+
+pub again : {X : Type 0} (n : ℕ) (x y : X) (f : ℕ → X) (q : ℕ) → updated n y f q ≡ updated n y (updated n x f) q
+again n x y f q = grind (arith, nat_tests)
+
+pub few-walked : (n : ℕ) (x : two.Working) → Few x.core → let y = two.walked n x in Few y.core
+unfolding two.walked
+few-walked zero x few = few
+few-walked (suc n) x few = let a = two.next_step x.core x.shelf x.todo in let y = two.next x in few-walked n y (few-ended y.answer a.1 (few-next x.core x.shelf x.todo few))
+
+pub pages-out : (n : ℕ) (x : two.Working) (xs : List two.Happening) → Few x.core → AllAsk n x → AreMoments two.sample_seen (two.at_work (two.walked n x)) xs
+    → AreMoments two.sample_seen (two.at_work x) (two.page_out n x ++ xs)
+unfolding two.page_out two.walked AllAsk
+pages-out zero x xs few ok rest = rest
+pages-out (suc n) x xs few (works, asks, counts, ends, passes, at_work, ok) rest =
+    let a = two.next_step x.core x.shelf x.todo in let y = two.next x in let few_then = few-ended y.answer a.1 (few-next x.core x.shelf x.todo few) in (
+      record {
+        step = record {
+          happens = record {
+            moves = record {
+              walking = (two.walking x);
+              after = site a.1 a.2 a.3;
+              at = refl;
+              at_work = works;
+              does = does-so x.core x.shelf x.todo asks;
+              answers = refl;
+              counts = counts;
+              ends = ends-so y.answer a.1 ends;
+              readings = λ l. none-there (y.core.loads l) None refl;
+              work = record { same_shelves = λ t. shelf-again x.shelf y.shelf t; last_is = refl; same_walkings = again 1 (Some (two.walking x)) (Some (two.walking y)) (λ q. None) };
+            };
+            refused = tt;
+          };
+        };
+        moves = record { each = λ n x is. inl is; environment = refl };
+        writes = writes-so x.core x.shelf (two.work_after x None) x.todo asks;
+        whole = whole-at y.core two.two_values y.shelf (Some (two.walking y)) None (few_then, passes) (refl, at_work) tt;
+      },
+      pages-out n y xs few_then ok rest,
+    )
+  where
+    shelf-again : (x y : Shelf) (t : ℕ) → SameShelf (updated 1 y (updated 1 x (λ q. no_shelf)) t) (updated 1 y (λ q. no_shelf) t)
+    shelf-again x y t = grind (arith, nat_tests, same-shelf)
+
+some-is : {X : Type 0} (P : X → Type 0) (x y : X) → Some x ≡ Some y → P x → P y
+some-is P x y is holds = grind arith
+
+pub pages-asked : (n : ℕ) (x : two.Working) (xs : List two.Happening) → AllAsk n x → ArePremised (two.at_work (two.walked n x)) xs → ArePremised (two.at_work x) (two.page_out n x ++ xs)
+unfolding two.page_out two.walked AllAsk
+pages-asked zero x xs ok rest = rest
+pages-asked (suc n) x xs (works, asks, counts, ends, passes, at_work, ok) rest =
+    let y = two.next x in (
+      λ trees. record {
+        settled = λ n x is. two-settled x;
+        reads_settled = λ x is. two-settled x;
+        stays_open = tt;
+        well = λ w is. some-is (λ (w : Walking). TodoTakesWell two.sample (two.at_work x).pager w.todo) (two.walking x) w is (takes-so x.core x.shelf (two.at_work x).pager x.todo asks);
+      },
+      pages-asked n y xs ok rest,
+    )
+
+pub begun-asks : AllAsk 15 two.begun
+unfolding AllAsk value_at is_named_by find_row preimage references_fault is_in
+begun-asks = search arith
+
+-- ---- each pager is good
+
+pub births-good : Good two.new_core [] × Good two.child_born (None ∷ Some two.leaf ∷ []) × Good two.both_born two.two_values × Good two.begun.core two.two_values
+unfolding value_at is_named_by find_row references_fault is_in
+births-good =
+    let none : Few two.new_core = (λ n lt. refl, λ l lt. refl, λ v lt. refl, λ kind key n is. absurd (cc)) in
+    let child : Few two.child_born = (updated-past 3 1 _ None (λ n. None) (omega arith) (λ n lt. refl), none.1, none.2, none.3) in
+    let both : Few two.both_born = (updated-past 3 2 _ None two.child_born.cells (omega arith) child.0, none.1, none.2, none.3) in
+    let begun : Few two.begun.core = (both.0, none.1, updated-past 1 1 true false (λ v. false) (omega arith) none.2, none.3) in
+    ((none, search arith), (child, search arith), (both, search arith), (begun, search arith))
+
+loads-good : Good two.evicted [] × Good two.loading [] × Good two.child_got [] × Good two.loaded two.last_values × Good two.key_loading two.last_values × Good two.read_back two.last_values
+unfolding two.walked value_at is_named_by find_row preimage references_fault is_in
+loads-good =
+    let gone : Few two.evicted = few-fallen (with_mode two.answered.core (two.handle 2) Mode.LooseUnpinned) two.child_handle (few-walked 15 two.begun births-good.3.0) in
+    let begun : Few two.loading = (gone.0, updated-past 3 1 _ None two.evicted.loads (omega arith) gone.1, gone.2, gone.3) in
+    let got : Few two.child_got = (updated-past 3 3 _ None two.loading.cells (omega arith) begun.0, begun.1, gone.2, λ kind key n is. grind (arith, nat_tests)) in
+    let loaded : Few two.loaded = few-fallen (two.installed two.child_got) (two.given_up two.child_got) (got.0, updated-past 3 1 None None two.loading.loads (omega arith) begun.1, gone.2, got.3) in
+    let key : Few two.key_loading = (loaded.0, updated-past 3 2 _ None two.loaded.loads (omega arith) loaded.1, gone.2, loaded.3) in
+    let back : Few two.read_back =
+    few-fallen (two.handed two.key_loading) (two.not_handed two.key_loading) (key.0, updated-past 3 2 None None two.key_loading.loads (omega arith) key.1, gone.2, key.3) in (
+      (gone, search arith),
+      (begun, search arith),
+      (got, search arith),
+      (loaded, record { handles = search arith; stands = search arith; numbers = search arith }),
+      (key, record { handles = search arith; stands = search arith; numbers = search arith }),
+      (back, record { handles = search arith; stands = search arith; numbers = search arith }),
+    )
+
+-- ---- a moment of the machine
+
+infixr 3 ◌⨾◌
+-- one moment, and those after it
+◌⨾◌ : {A B : Type 0} → A → B → A × B
+a ⨾ b = (a, b)
+
+-- what happens, what values come, and that the machine is good afterwards
+does : (s : MachineState two.Sample (Unit {0})) (event : Event two.Sample Blob Written) (reply : EventReply two.Sample Blob Written) (w : Core) (vs : List (Option two.Sample)) (shelf : Shelf)
+    (walking : Option Walking) (reading : Option Reading) → let s' = two.machine w vs (two.work_of shelf walking reading) in Happens two.sample_seen (world_of s) event reply (world_of s')
+    → ((n : ℕ) (x : two.Sample) → value_at vs n ≡ Some x → (s.pager.values n ≡ Some x) ⊎ ((s.pager.values n ≡ None) × EventBrings two.sample (world_of s) event n x))
+    → ReplyWrites two.sample_seen s.pager reply → Good w vs → FitsWalking w walking → FitsReading w reading → Does two.sample_seen s event reply s'
+does s event reply w vs shelf walking reading happens come writes good walks reads = record {
+  step = record { happens = happens };
+  moves = record { each = come; environment = refl };
+  writes = writes;
+  whole = whole-at w vs shelf walking reading good walks reads;
+}
+
+same-work : (shelf : Shelf) (walking : Option Walking) (reading reading' : Option Reading) → WorkStays (two.work_of shelf walking reading) (two.work_of shelf walking reading')
+same-work shelf walking reading reading' = record { shelves = λ t. same-shelf _; last_table = refl; walkings = λ v. refl }
+
+-- what is done to the pager alone, while nothing is read
+only-core : (w w' : Core) (shelf : Shelf) (walking : Option Walking) (P : Core → Type 0) → P w'
+    → OnlyCore (record { core = w; work = two.work_of shelf walking None }) P (record { core = w'; work = two.work_of shelf walking None })
+only-core w w' shelf walking P step = record { step = step; readings = λ l. none-there (w'.loads l) None refl; work = same-work shelf walking None None }
+
+-- the one reading goes on, or is over
+reads-on : (w : Core) (r : Reading) (before : ℕ → Option Reading) → is_some (w.loads r.load.0) ≡ true → ((l : ℕ) → (l == r.load.0) ≡ false → before l ≡ None) → (l : ℕ)
+    → two.reads (Some r) l ≡ if_there (λ (load : OpenLoad). updated r.load.0 (Some r) before l) None (w.loads l)
+reads-on w r before there other l = grind (arith, nat_tests, some-there, none-there)
+  where
+    some-there : {X Y : Type 0} (found : Option Y) (x : Option X) → is_some found ≡ true → x ≡ if_there (λ (y : Y). x) None found
+    some-there x0 x is = grind (arith, nat_tests)
+
+reads-over : (w : Core) (r : Reading) (l : ℕ) → None ≡ if_there (λ (load : OpenLoad). updated r.load.0 None (two.reads (Some r)) l) None (w.loads l)
+reads-over w r l = grind (arith, nat_tests, none-there)
+
+pub births-do : (xs : List two.Happening) → AreMoments two.sample_seen (two.at_work two.begun) xs → AreMoments two.sample_seen two.new_one (two.births ++ xs)
+unfolding find_row is_named_by is_in references_fault value_at
+births-do xs rest =
+    does _ _ _ two.new_core [] no_shelf None None (record {
+      made = (refl, alike-self two.new_core, λ l. refl, record { same_shelves = λ t. same-shelf _; last_is = refl; same_walkings = none-walk });
+      refused = tt;
+    }) (λ n x is. inl is) tt births-good.0 refl tt
+    ⨾ does _ _ _ two.child_born _ no_shelf None None
+    (only-core _ two.child_born _ None _ (record { does = record { made = (refl, omega arith, record { above = refl; is_left = omega arith }, alike-self two.child_born); refused = tt } }))
+    leaf-comes tt births-good.1 refl tt
+    ⨾ does _ _ _ two.both_born _ no_shelf None None
+    (only-core _ two.both_born _ None _ (record { does = record { made = (refl, omega arith, record { above = refl; is_left = omega arith }, alike-self two.both_born); refused = tt } }))
+    parent-comes tt births-good.2 refl tt
+    ⨾ does _ _ _ two.begun.core _ no_shelf (Some (two.walking two.begun)) None (record {
+      starts = record {
+        table = (omega arith, omega arith);
+        next = refl;
+        pager = alike-self two.begun.core;
+        readings = λ l. none-there (two.begun.core.loads l) None refl;
+        work = record { same_shelves = λ t. same-shelf _; last_is = refl; same_walkings = again 1 None (Some (two.walking two.begun)) (λ v. None) };
+      };
+      refused = tt;
+    }) (λ n x is. inl is) tt births-good.3 (refl, refl) tt
+    ⨾ rest
+  where
+    none-walk : (v : ℕ) → let none : Option Walking = None in updated 1 none (λ q. none) v ≡ none
+    none-walk v = grind (arith, nat_tests)
+
+    leaf-comes : (n : ℕ) (x : two.Sample) → value_at (None ∷ Some two.leaf ∷ []) n ≡ Some x → (value_at [] n ≡ Some x) ⊎ ((value_at [] n ≡ None) × ((x ≡ two.leaf) × (0 < n)))
+    leaf-comes x0 x is = grind (arith, nat_tests)
+
+    parent-comes : (n : ℕ) (x : two.Sample) → value_at two.two_values n ≡ Some x
+        → (value_at (None ∷ Some two.leaf ∷ []) n ≡ Some x) ⊎ ((value_at (None ∷ Some two.leaf ∷ []) n ≡ None) × ((x ≡ two.parent two.to_child) × (1 < n)))
+    parent-comes x0 x is = grind (arith, nat_tests)
+
+-- ---- the eviction and the loads
+
+-- with the parent's last pin its value goes, and with this the child
+evicts : UnpinCall two.answered.core Owner.Caller (two.handle 2) (Ok tt) two.evicted
+unfolding two.walked value_at is_named_by find_row preimage
+evicts = record {
+  does = inr (
+    row_of 2 (two.node 2) Mode.LoosePinned Owner.Caller,
+    record { live = refl; own = refl; as_asked = refl },
+    inr (refl, falls-so two.answered.core unpinned nobody two.child_handle (search arith) refl refl (record { holds = refl; closed = closed; least = least })),
+  );
+}
+  where
+    unpinned : Core
+    unpinned = with_mode two.answered.core (two.handle 2) Mode.LooseUnpinned
+
+    closed : IsClosed unpinned.rows (is_keyed unpinned) [] two.child_handle
+    closed n goes = let a = and-false (2 == n) in omega arith
+
+    least : (t : ℕ → Bool) → IsWithin unpinned.rows nobody t → IsClosed unpinned.rows (is_keyed unpinned) [] t → IsWithin unpinned.rows two.child_handle t
+    least t holds closed = let fallen : owned_outside unpinned.rows t 2 ≡ 0 = closed 2 refl in omega arith
+
+begins : BeginCall two.evicted Owner.Caller (two.handle 2) (Ok (Beginning.Load (two.load_number 1) 24)) two.loading
+unfolding two.walked value_at is_named_by find_row preimage
+begins =
+    let row = row_of 2 (two.node 2) Mode.LooseUnpinned Owner.Caller in
+    let next : IsNextLoad (two.load_number 1) two.evicted = record { above = refl; is_left = omega arith } in
+    record { begins = (row, record { live = refl; own = refl; as_asked = refl }, (refl, refl, next, omega arith, (0, refl, alike-self two.loading))); refused = tt }
+
+-- a load fetches the blob of its own key
+fetches : (w : Core) (l t : ℕ) (load : OpenLoad) (blob : Blob) → w.loads l ≡ Some load → load.owner ≡ Owner.Caller → w.stored load.key ≡ Some blob
+    → ReadingDoes two.sample w Owner.Caller (fresh (two.load_number l) t) None (root_frame load.key t blob ∷ []) w
+fetches w l t load blob stands_open own stored = grind (arith, nat_tests, alike-self)
+
+cell_load : OpenLoad
+cell_load = record { owner = Owner.Caller; key = 24; root = of_cell (two.node 2) 0 (two.handle 2) }
+
+key_load : OpenLoad
+key_load = record { owner = Owner.Caller; key = 8; root = of_key }
+
+-- the child's cell is made with its key, and nothing is read of it
+gets-child : ReadingDoes two.sample two.loading Owner.Caller two.parent_fetched None two.parent_read.frames two.child_got
+unfolding two.walked value_at is_named_by find_row preimage grammar.read grammar.read_with answers_from cell_load
+gets-child =
+    record {
+      does = inr (inr (inr (inl (record {
+        kind = record { 0 = 4 };
+        key = 8;
+        k = two.handle 8;
+        row = row_of 8 (two.node 3) Mode.LooseUnpinned (Owner.Load (two.load_number 1));
+        needs = refl;
+        asked = record {
+          makes = (cell_load, record { stands_open = refl; own = refl }, refl, inr (refl, omega arith, record { above = refl; is_left = omega arith }, alike-self two.child_got));
+          refused = tt;
+        };
+        made = refl;
+        goes = refl;
+      }))));
+    }
+
+-- it ends with a pin, by the value that was read of its one blob
+reads-parent : ReadsRoot two.sample two.parent_read (two.parent (two.to_leaf 3 8))
+unfolding grammar.read grammar.read_with answers_from
+reads-parent = grind (arith, nat_tests)
+
+ends-pinned : ReadingDoes two.sample two.child_got Owner.Caller two.parent_read (Some (LoadAnswer.Pinned (two.handle 9))) [] two.loaded
+unfolding two.walked value_at is_named_by find_row preimage references_fault is_in cell_load
+ends-pinned = record {
+  does = (
+    record {
+      x = two.parent (two.to_leaf 3 8);
+      reads_root = reads-parent;
+      of_cell_load = record { load = cell_load; open_load = refl; sort = tt };
+      ended = record {
+        installs = (
+          two.node 2,
+          two.handle 2,
+          record { load = cell_load; owned = record { stands_open = refl; own = refl }; of_node = refl; good = refl },
+          record {
+            row = row_of 2 (two.node 2) Mode.LooseUnpinned Owner.Caller;
+            owned = record { live = refl; own = refl; as_asked = refl };
+            at = refl;
+            next = record { above = refl; is_left = omega arith };
+            falls = inl (refl, record { told = Ok tt; falls = falls-alone two.child_got (two.installed two.child_got) (two.given_up two.child_got) (search arith) });
+          },
+        );
+        refused = tt;
+      };
+    },
+    refl,
+  );
+}
+
+-- the caller gets the child's value
+reads-out : ReadingDoes two.sample two.key_loading Owner.Caller two.child_fetched (Some (LoadAnswer.Read two.leaf)) [] two.read_back
+unfolding two.walked value_at is_named_by find_row preimage is_in named_fault grammar.read grammar.read_with answers_from key_load
+reads-out = record {
+  does = (
+    record {
+      reads_root = record { root = root_frame 8 1 two.leaf_blob; frames = refl; decoded = record { own = two.sample_meaning two.leaf; read = refl; typed = refl; means = refl } };
+      of_key_load = record { load = key_load; open_load = refl; sort = tt };
+      handed = record { hands = (refl, record { told = Ok tt; falls = falls-alone two.key_loading (two.handed two.key_loading) (two.not_handed two.key_loading) (search arith) }); refused = tt };
+    },
+    refl,
+  );
+}
+
+-- a step of the caller's load, while the worker has answered
+reads-step : (w w' : Core) (vs vs' : List (Option two.Sample)) (before after : Option Reading) (l steps : ℕ) (reading : Reading) (frames : List Frame) (ended : Option (LoadAnswer two.Sample))
+    → let s = two.afterwards w vs before in let s' = two.afterwards w' vs' after in load_fault w Owner.Caller (two.load_number l) ≡ None
+    → reading_at (world_of s) (two.load_number l) ≡ Some reading → ReadingDoes two.sample w Owner.Caller reading ended frames w' → steps ≡ one_more reading.steps
+    → ReadingsAre (updated l (reading_after ended reading frames) (two.reads before)) (world_of s')
+    → ((n : ℕ) (x : two.Sample) → value_at vs' n ≡ Some x → (value_at vs n ≡ Some x) ⊎ ((value_at vs n ≡ None) × ReadingBrings two.sample w reading n x))
+    → Good w' vs' → FitsWalking w' (Some (two.walking two.answered)) → FitsReading w' after
+    → Does two.sample_seen s (Event.LoadStep (two.load_number l)) (EventReply.LoadMoved (Ok (record { ended = ended; steps = steps }))) s'
+reads-step w w' vs vs' before after l steps reading frames ended may at read counts readings come good walks reads =
+    does (two.afterwards w vs before) _ _ w' vs' _ _ after (record {
+      moves = record { reading = reading; frames = frames; may = may; at = at; does = read; counts = counts; readings = readings; work = same-work _ _ _ _ };
+      refused = tt;
+    }) (λ n x is. elim (come n x is) [ inl same ↦ inl same | inr (none, brings) ↦ inr (none, (reading, at, brings)) ]) tt good walks reads
+
+pub loads-do : AreMoments two.sample_seen (two.at_work two.answered) (two.loads ++ two.counts 2)
+unfolding two.walked value_at is_named_by find_row preimage is_in references_fault grammar.read grammar.read_with answers_from cell_load key_load
+loads-do =
+    let done = Some (two.walking two.answered) in
+    does _ _ _ two.evicted [] _ done None (only-core two.answered.core two.evicted _ done _ (record { does = evicts })) (λ n x is. absurd (cc)) tt loads-good.0 (refl, refl) tt
+    ⨾ does _ _ _ two.loading [] _ done None (only-core two.evicted two.loading _ done _ begins) (λ n x is. inl is) tt loads-good.1 (refl, refl) tt
+    ⨾ reads-step two.loading two.loading [] [] None (Some two.parent_fetched) 1 1 (fresh (two.load_number 1) 0) two.parent_fetched.frames None refl refl
+    (fetches two.loading 1 0 cell_load two.parent_blob refl refl refl) refl (reads-on two.loading two.parent_fetched (λ l. None) refl (λ l e. refl)) (λ n x is. inl is) loads-good.1 (refl, refl)
+    (record { number = refl; load = cell_load; open_load = refl; owned = refl; typed = refl })
+    ⨾ reads-step two.loading two.child_got [] [] (Some two.parent_fetched) (Some two.parent_read) 1 2 two.parent_fetched two.parent_read.frames None refl refl gets-child refl
+    (reads-on two.child_got two.parent_read (two.reads (Some two.parent_fetched)) refl (λ l e. rw e refl)) (λ n x is. inl is) loads-good.2 (refl, refl)
+    (record { number = refl; load = cell_load; open_load = refl; owned = refl; typed = refl })
+    ⨾ reads-step two.child_got two.loaded [] two.last_values (Some two.parent_read) None 1 3 two.parent_read [] (Some (LoadAnswer.Pinned (two.handle 9))) refl refl ends-pinned refl
+    (reads-over two.loaded two.parent_read) parent-comes loads-good.3 (refl, refl) tt
+    ⨾ does _ _ _ two.key_loading _ _ done (Some (fresh (two.load_number 2) 1)) (record {
+      step = record { begins = (refl, record { above = refl; is_left = omega arith }, alike-self two.key_loading); refused = tt };
+      begun = reads-on two.key_loading (fresh (two.load_number 2) 1) (λ l. None) refl (λ l e. refl);
+      refused = tt;
+      work = same-work _ _ None (Some (fresh (two.load_number 2) 1));
+    }) (λ n x is. inl is) tt loads-good.4 (refl, refl) (record { number = refl; load = key_load; open_load = refl; owned = refl; typed = tt })
+    ⨾ reads-step two.key_loading two.key_loading two.last_values two.last_values (Some (fresh (two.load_number 2) 1)) (Some two.child_fetched) 2 1 (fresh (two.load_number 2) 1)
+    two.child_fetched.frames None refl refl
+    (fetches two.key_loading 2 1 key_load two.leaf_blob refl refl refl) refl (reads-on two.key_loading two.child_fetched (two.reads (Some (fresh (two.load_number 2) 1))) refl (λ l e. rw e refl))
+    (λ n x is. inl is) loads-good.4 (refl, refl) (record { number = refl; load = key_load; open_load = refl; owned = refl; typed = tt })
+    ⨾ reads-step two.key_loading two.read_back two.last_values two.last_values (Some two.child_fetched) None 2 2 two.child_fetched [] (Some (LoadAnswer.Read two.leaf)) refl refl reads-out refl
+    (reads-over two.read_back two.child_fetched) (λ n x is. inl is) loads-good.5 (refl, refl) tt
+    ⨾ does _ _ _ two.read_back _ _ done None (only-core two.read_back two.read_back _ done _
+    (record { does = (record { found = (row_of 2 (two.node 2) Mode.LoosePinned Owner.Caller, refl, refl); refused = tt }, alike-self two.read_back) }))
+    (λ n x is. inl is) tt loads-good.5 (refl, refl) tt
+    ⨾ tt
+  where
+    back : (n : ℕ) (x : two.Sample) → value_at two.last_values n ≡ Some x → (n ≡ 2) × (x ≡ two.parent (two.to_leaf 3 8))
+    back x0 x is = grind (arith, nat_tests)
+
+    cell_of : (n : ℕ) → n ≡ 2 → IsCellOf two.child_got (two.load_number 1) n
+    cell_of n is = record { load = cell_load; node = two.node 2; t = 0; h = two.handle 2; open_load = refl; root = refl; is = sym is }
+
+    parent-comes : (n : ℕ) (x : two.Sample) → value_at two.last_values n ≡ Some x → (value_at [] n ≡ Some x) ⊎ ((value_at [] n ≡ None) × ReadingBrings two.sample two.child_got two.parent_read n x)
+    parent-comes n x is = let (at, read) = back n x is in inr (refl, inr (subst (λ y. ReadsRoot two.sample two.parent_read y) (sym read) reads-parent, cell_of n at))
 
 -- ---- values
 
-refers : (x : two.Sample) → SameReferences (two.sample_references x) (references_in (two.sample_meaning x))
+refers_same : (x : two.Sample) → SameReferences (two.sample_references x) (references_in (two.sample_meaning x))
 unfolding references_in
-refers x0 test = grind (arith, nat_tests)
+refers_same x0 test = grind (arith, nat_tests)
 
 shaped : (x : two.Sample) → (shape : shapes.Shape) × (two.sample_types.nodes (two.sample.node_type x) ≡ Some shape)
 shaped two.leaf = (shapes.nothing, refl)
 shaped (two.parent r) = (shapes.reference 4, refl)
 
 pub lawful : IsLawful two.sample
-lawful = grind (arith, nat_tests, refers, shaped)
+lawful = grind (arith, nat_tests, refers_same, shaped)
 
 nothing-readable : (s : shapes.Shape) → s ≡ shapes.nothing → Throughout IsReadable two.sample_types.parts s
 unfolding IsReadable LiesIn
@@ -33,98 +869,50 @@ reference-readable s is =
 pub reads-types : ReadsItsTypes two.sample_types
 reads-types x0 s is = grind (arith, nat_tests, reference-readable, nothing-readable)
 
-pub settled : (x : two.Sample) → IsSettled two.sample x
-settled x a b is other = other ∙ sym is
-
 -- ---- moments
 
-abbrev pub State : Type 0
-State = MachineState two.Sample (Unit {0})
-
-abbrev pub IsAsked : State → two.Happening → Type 0
-IsAsked s x = (trees : ℕ → Tree) → IsPremised two.sample s trees x.event x.reply x.after
-
-pub asked : (s : State) (x : two.Happening) → KeepsOpen x.event → ((trees : ℕ → Tree) → IsWellAsked two.sample s trees x.event x.reply) → IsAsked s x
-asked s x open_still well trees = record { settled = λ n x is. settled x; reads_settled = λ x is. settled x; stays_open = open_still; well = well trees }
+asked : (s : MachineState two.Sample (Unit {0})) (x : two.Happening) → KeepsOpen x.event → ((trees : ℕ → Tree) → IsWellAsked two.sample s trees x.event x.reply) → (trees : ℕ → Tree)
+    → IsPremised two.sample s trees x.event x.reply x.after
+asked s x open_still well trees = record { settled = λ n x is. two-settled x; reads_settled = λ x is. two-settled x; stays_open = open_still; well = well trees }
 
 -- the child's key reads as a leaf
 child-reads : (s : PagerState two.Sample (Unit {0})) → s.core.stored 8 ≡ Some two.leaf_blob → ReadsAsType two.sample s 1 8
 unfolding grammar.read grammar.read_with
 child-reads s stored = record {
-  read = tree 1 none;
+  read = tree 1 meanings.none;
   typed = refl;
-  reads = record { own = none; reads = record { blob = two.leaf_blob; stored = stored; rest = rest_of two.leaf_blob; reads = refl }; follows = none-followed };
+  reads = record { own = meanings.none; reads = record { blob = two.leaf_blob; stored = stored; rest = rest_of two.leaf_blob; reads = refl }; follows = none-followed };
 }
 
--- ---- what the headline asks of each moment of the chain of two levels is so
+loads-asked : ArePremised (two.at_work two.answered) (two.loads ++ two.counts 2)
+unfolding two.walked value_at preimage find_row is_named_by grammar.read grammar.read_with answers_from
+loads-asked = grind (arith, nat_tests, asked, child-reads)
 
-pub births-asked : (xs : List two.Happening) → ArePremised at_work xs → ArePremised two.new_one (two.births ++ xs)
-births-asked xs rest = asked _ _ tt (λ trees. tt) ⨾ asked _ _ tt (λ trees. tt) ⨾ asked _ _ tt (λ trees. tt) ⨾ asked _ _ tt (λ trees. tt) ⨾ rest
-
-pub steps-asked : (xs : List two.Happening) → ArePremised paged_out xs → ArePremised at_work (two.page_out ++ xs)
-steps-asked xs rest = grind (arith, nat_tests, asked, only-at)
-
-pub parent-asked : (xs : List two.Happening) → ArePremised (two.machine two.parent_loaded two.parent_value two.done_work) xs → ArePremised paged_out (two.parent_loads ++ xs)
-unfolding find_row is_named_by grammar.read grammar.read_with answers_from
-parent-asked xs rest = grind (arith, nat_tests, asked, child-reads)
-
-pub child-asked : (xs : List two.Happening) → ArePremised (two.machine two.child_loaded two.last_values two.done_work) xs → ArePremised
-    (two.machine two.parent_loaded two.parent_value two.done_work) (two.child_loads ++ xs)
-unfolding find_row is_named_by grammar.read grammar.read_with answers_from
-child-asked xs rest = grind (arith, nat_tests, asked)
-
-pub key-asked : (n : ℕ) → ArePremised (two.machine two.child_loaded two.last_values two.done_work) (two.key_loads ++ two.counts n)
-unfolding find_row is_named_by grammar.read grammar.read_with answers_from
-key-asked n = grind (arith, nat_tests, asked, child-reads)
-
--- ---- the chain of two levels is one of the machine, and meets the headline with all that it asks
-
-counts-two : AreMoments two.sample_seen (two.machine two.read_back two.last_values two.done_work) (two.counts 2)
-unfolding find_row is_named_by is_in two.value_at
-counts-two =
-    record {
-      step = record {
-        happens = only-pager two.read_back two.read_back two.done_work _
-            (record { does = (record { found = (row_of 10 (two.node 3) Mode.LoosePinned Owner.Caller, refl, refl); refused = tt }, alike-self two.read_back) });
-      };
-      moves = record { each = λ n x is. inl is; environment = refl };
-      writes = tt;
-      whole = done-whole two.read_back two.last_values read-back-passes refl refl;
-    }
-    ⨾ tt
-
--- what comes after the births, the page-out and the loads of each cell
-abbrev from_key : List two.Happening
-from_key = two.key_loads ++ two.counts 2
-
-abbrev from_child : List two.Happening
-from_child = two.child_loads ++ from_key
-
-abbrev from_parent : List two.Happening
-from_parent = two.parent_loads ++ from_child
+births-asked : (xs : List two.Happening) → ArePremised (two.at_work two.begun) xs → ArePremised two.new_one (two.births ++ xs)
+births-asked xs rest = (asked _ _ tt (λ trees. tt), (asked _ _ tt (λ trees. tt), (asked _ _ tt (λ trees. tt), (asked _ _ tt (λ trees. tt), rest))))
 
 runs : AreMoments two.sample_seen two.new_one (two.moments 2)
-runs = bears (two.page_out ++ from_parent) (pages-out from_parent (loads-parent from_child (loads-child from_key (loads-key (two.counts 2) counts-two))))
-
-all-asked : ArePremised two.new_one (two.moments 2)
-all-asked = births-asked (two.page_out ++ from_parent) (steps-asked from_parent (parent-asked from_child (child-asked from_key (key-asked 2))))
+runs = births-do _ (pages-out 15 two.begun (two.loads ++ two.counts 2) births-good.3.0 begun-asks loads-do)
 
 -- what comes later is a chain
-later : (s : State) (xs ys : List two.Happening) → AreMoments two.sample_seen s (xs ++ ys) → AreMoments two.sample_seen (state_after s xs) ys
+later : (s : MachineState two.Sample (Unit {0})) (xs ys : List two.Happening) → AreMoments two.sample_seen s (xs ++ ys) → AreMoments two.sample_seen (state_after s xs) ys
 unfolding state_after
 later s [] ys all = all
 later s (x ∷ xs) ys (does, rest) = later x.after xs ys rest
 
-pins-two : (n : ℕ) (row : HandleRow) → Some (row_of 10 (two.node 3) Mode.LoosePinned Owner.Caller) ≡ Some row → n ≡ pins row.node.0 two.read_back.rows → n ≡ 2
-unfolding find_row is_named_by is_in
+pins-two : (n : ℕ) (row : HandleRow) → Some (row_of 2 (two.node 2) Mode.LoosePinned Owner.Caller) ≡ Some row → n ≡ pins row.node.0 two.read_back.rows → n ≡ 2
+unfolding two.walked value_at preimage find_row is_named_by is_in
 pins-two n row is counted = grind (arith, nat_tests)
 
 no-other : (n : ℕ) → AreMoments two.sample_seen two.new_one (two.moments n) → n ≡ 2
-unfolding find_row is_named_by is_in state_after
-no-other n all = grind (arith, nat_tests, later, pins-two)
+unfolding two.walked two.page_out value_at preimage find_row is_named_by is_in state_after
+no-other n all =
+    let worked = later (two.at_work two.begun) (two.page_out 15 two.begun) (two.loads ++ two.counts n) (later two.new_one two.births (two.page_out 15 two.begun ++ (two.loads ++ two.counts n)) all) in
+    let counted = later (two.at_work two.answered) two.loads (two.counts n) worked in
+    let (row, is, told) = counted.0.step.happens.step.does.0.found in pins-two n row is told
 
 pub headline_met : TwoLevelsMeetTheHeadline
-unfolding two.value_at
+unfolding value_at
 headline_met =
     let new = new_whole (Unit {0}) two.sample in
     record {
@@ -133,8 +921,8 @@ headline_met =
       whole = new.whole _ _ tt;
       idle = new.idle _ _ tt;
       stands = λ trees. new.stands _ _ tt trees;
-      settled = λ n x is. settled x;
-      premised = all-asked;
+      settled = λ n x is. two-settled x;
+      premised = births-asked _ (pages-asked 15 two.begun (two.loads ++ two.counts 2) begun-asks loads-asked);
       headline = headline_law (Unit {0}) two.sample_seen two.new_one (two.moments 2) (new.whole _ _ tt) (new.idle _ _ tt) runs;
       no_other = no-other;
     }

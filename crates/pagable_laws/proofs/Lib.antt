@@ -1,24 +1,12 @@
 mod Words
-mod Wholes
-mod Basic
-mod Putting
-mod Within
 pub mod Again
-pub mod Prefix
-mod OneForm
-mod Preimages
 mod Along
 pub mod Trees
 mod Merkle
 mod Tame
-mod Local
-mod Related
-pub mod Natural
-mod Paths
+pub mod Related
 mod AnyOrder
 mod JsonNumbers
-mod Inside
-mod Computed
 pub mod Sums
 pub mod Existing
 mod Two
@@ -26,71 +14,34 @@ mod Joining
 mod Nexts
 pub mod Goes
 pub mod Outlasting
-pub mod PinSteps
 pub mod GoodReferences
-mod Calling
 mod Called
-mod ReadingStepsRows
-mod ReadingSteps
-mod ReadingStepsMachine
 mod ReadingStepsKinds
-mod ReadingStepsBound
-mod ReadingStepsWaiting
-mod ReadingStepsWithin
-pub mod ReadingStepsHanding
-mod ReadingStepsHeld
-mod ReadingStepsGive
-pub mod WalkSteps
-pub mod EventSteps
+pub mod ReadingStepsGive
+pub mod ReadingSteps
 mod Once
 mod Standing
-mod Changing
-mod Going
-mod Turning
-mod Holding
 mod Coming
-mod Histories
-pub mod Arriving
 mod Decoding
 mod Fitting
 mod Following
 pub mod Naming
-mod KeysGoing
-pub mod Sparing
-pub mod SparingSteps
-mod Shelves
 mod Stepping
-mod Publishing
 mod Leading
 mod TreesGoing
 pub mod Taking
 mod Felt
 mod Answering
 mod Brought
-mod Staying
-mod Stopping
-mod Asking
 mod KnownSteps
-mod Chains
-mod Tested
-mod States
-mod Walks
-mod Loaded
+pub mod Chains
 mod Level
-pub mod Lengths
 mod Heights
-mod HeightSteps
-mod Shallow
-mod Climbing
-mod Formed
 mod Deeply
-pub mod Usable
+pub mod SparingSteps
 mod Identities
-mod Known
 mod Sound
-mod Soundly
 mod Apart
-mod LoadsLive
 mod LoadsReady
 mod OnePiece
 mod DeepLoads

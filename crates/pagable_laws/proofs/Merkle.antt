@@ -1,12 +1,392 @@
 -- A tree of canonical types has one key, a stored tree has the key that it stands under, and keys tell trees apart.
-use Rattle.pagable_laws.proofs.Words.{arith, nat_tests, ◌≡◌, ℕ, List, [], ◌∷◌, map, Option, Ok, refl, sym, ap, ◌∙◌, subst, append-nil, Meaning, number, integer, text, pattern, none, pair, variant}
-use Rattle.pagable_laws.proofs.Words.{reference, followed, Shape, read, read_typed, Blob, key_of, Tree, KeyRef, Types, tree, key_ref, type_of, ReadsAs, IsFollowed, number-followed, integer-followed}
-use Rattle.pagable_laws.proofs.Words.{text-followed, pattern-followed, none-followed, pair-followed, variant-followed, reference-followed, blob_context, rest_of, Kid, kind_of_kid, tree_of_kid}
-use Rattle.pagable_laws.proofs.Words.{unfolded, TreeForm, blob_of, KeyOf, key-of, KeysOf, no-keys, more-keys, kind_of_ref, key_of_ref, StoredAs, HasOwnKeys, SharesNoKey, EachType, IsCanonicalType}
-use Rattle.pagable_laws.proofs.Words.{IsCanonicalTree, IsReadableType, rest, LooksUp, no-references, more-references, IsOneKey, IsOneItemKey, IsStoredKey, IsTreeReadable, IsKeyOfOneTree}
-use Rattle.pagable_laws.proofs.{Again.form-again, OneForm.one-form, Along.{Along, number-along, integer-along, text-along, pattern-along, none-along, pair-along, variant-along, reference-along}}
-use Rattle.pagable_laws.proofs.{Along.{AllTwo, no-two, more-two, form-along}, Trees.{same_some, same_result, tree_is}}
+use Rattle.pagable_laws.proofs.Words.{arith, nat_tests, ◌≡◌, ℕ, suc, Bool, List, [], ◌∷◌, ◌++◌, length, refl, sym, ap, ◌∙◌, subst, unsigned_form, signed_form, bool_form, length_form, text_form}
+use Rattle.pagable_laws.proofs.Words.{char_form, Meaning, sequence, Entry, of_entries, Shape, Form, Forms, Entries, nothing-form, unsigned-form, signed-form, flag-form, text-form, letter-form}
+use Rattle.pagable_laws.proofs.Words.{duration-form, pattern-form, none-form, some-form, err-form, ok-form, list-form, run-form, array-form, both-form, sorted-map-form, placed-map-form}
+use Rattle.pagable_laws.proofs.Words.{hash-map-form, sorted-set-form, placed-set-form, static-form, tagged-form, case-form, reference-form, nested-form, json-null-form, json-flag-form}
+use Rattle.pagable_laws.proofs.Words.{json-number-form, json-text-form, json-array-form, json-object-form, no-forms, more-forms, no-entries, more-entries, LiesIn, IsCanonical, Throughout}
+use Rattle.pagable_laws.proofs.Words.{CanonicalHasOneForm, true, false, pair, variant, reference, followed, lifted, rename, code_order, ordered, put_all, put_sorted, of_hash_map, Tree, Types}
+use Rattle.pagable_laws.proofs.Words.{type_of, Kid, unfolded, KeyOf, key-of, KeysOf, no-keys, more-keys, EachType, StaysInside, IsCanonicalInside, zero, ◌+◌, ◌*◌, ◌/◌, ◌%◌, ◌^◌, ◌<◌, ◌≤◌, add-mul}
+use Rattle.pagable_laws.proofs.Words.{add_assoc, div-add-mod', div-div-eq-div-mul, div-one, mod-eq_of_lt, mod-lt, mul-add-mod_self_right, mul-le-mul_right, mul_assoc, one-le-pow, pow-suc}
+use Rattle.pagable_laws.proofs.Words.{length-append, Blob, preimage, cut, HasOnePreimage, inl, inr, if◌then◌else◌, cases_lt, is_eager, height, HasPath, IsLongestPath, map, Option, Ok, append-nil}
+use Rattle.pagable_laws.proofs.Words.{read, read_typed, key_of, KeyRef, tree, key_ref, ReadsAs, IsFollowed, number-followed, integer-followed, text-followed, pattern-followed, none-followed}
+use Rattle.pagable_laws.proofs.Words.{pair-followed, variant-followed, reference-followed, blob_context, rest_of, kind_of_kid, tree_of_kid, TreeForm, blob_of, kind_of_ref, key_of_ref, StoredAs}
+use Rattle.pagable_laws.proofs.Words.{HasOwnKeys, SharesNoKey, IsCanonicalType, IsCanonicalTree, IsReadableType, rest, LooksUp, no-references, more-references, IsOneKey, IsOneItemKey, IsStoredKey}
+use Rattle.pagable_laws.proofs.{Words.{IsTreeReadable, IsKeyOfOneTree}, Again.{here, narrowed, part_of, of_json, of_text, lower, form-again}, Along.{Along, number-along, integer-along}}
+use Rattle.pagable_laws.proofs.{Along.{text-along, pattern-along, none-along, pair-along, variant-along, reference-along, AllTwo, no-two, more-two, form-along}, Trees.{same_some, same_result}}
+use Rattle.pagable_laws.proofs.Trees.{tree_is, one-followed}
+use Rattle.pagable_model.specs.Meaning as meanings
+use Rattle.pagable_model.specs.Canonical.{IsClosed}
+use Rattle.std.specs.{Int.{byte_at, bytes_low_first, to_le_bytes, w64, w128}, List.{flat_map, AllByRecursion}}
 use Rattle.std.proofs.Common.{rules}
+
+-- ---- a meaning of a canonical shape has at most one form
+
+pub same-items : {A : Type 0} (xs ys : List (Meaning A)) → sequence xs ≡ sequence ys → xs ≡ ys
+same-items [] [] e = refl
+same-items (x ∷ xs) (y ∷ ys) e = grind (arith, nat_tests, same-items xs ys)
+same-items _ _ e = cc
+
+pub same-entries : {A : Type 0} (es fs : List (Entry A)) → of_entries es ≡ of_entries fs → es ≡ fs
+same-entries [] [] e = refl
+same-entries {A} (x ∷ es) (f ∷ fs) e = grind (arith, nat_tests, same-entries es fs)
+same-entries _ _ e = cc
+
+same-flag : {A : Type 0} (b d : Bool) → (let m : Meaning A = meanings.flag b in m) ≡ meanings.flag d → b ≡ d
+same-flag x0 x1 e = grind (arith, nat_tests)
+
+-- parts that are the same, after a front that is the same
+grown : {A : Type 0} (a b c : List ℕ) (k l : List A) → (b ≡ c) × (k ≡ l) → (a ++ b ≡ a ++ c) × (k ≡ l)
+grown a b c k l h = (ap (λ (x : List ℕ). a ++ x) h.0, h.1)
+
+joined : {A : Type 0} (a b c d : List ℕ) (j k l i : List A) → (a ≡ b) × (j ≡ k) → (c ≡ d) × (l ≡ i) → (a ++ c ≡ b ++ d) × (j ++ l ≡ k ++ i)
+joined a b c d j k l i h g = (rw (h.0, g.0) refl, rw (h.1, g.1) refl)
+
+counted : {A X : Type 0} (xs ys : List X) (b c : List ℕ) (k l : List A) → xs ≡ ys → (b ≡ c) × (k ≡ l) → (length_form (length xs) ++ b ≡ length_form (length ys) ++ c) × (k ≡ l)
+counted xs ys b c k l e h = (rw (e, h.0) refl, h.1)
+
+abbrev pairing : {A : Type 0} → Meaning A → Meaning A → Entry A
+pairing m n = (m, n)
+
+-- one level further down is the same for both
+same_level : (left less less2 : ℕ) → left ≡ suc less → left ≡ suc less2 → less2 ≡ less
+same_level left less less2 p p2 = let e : suc less ≡ suc less2 = sym p ∙ p2 in cc
+
+module _ {A : Type 0} {kind_of : A → ℕ} {parts : ℕ → Shape} {left less less2 : ℕ} (p : left ≡ suc less) (p2 : left ≡ suc less2) where
+  lowered : {s : Shape} {m : Meaning A} {b : List ℕ} {k : List A} → Form A kind_of parts less2 s m b k → Form A kind_of parts less s m b k
+  lowered {s} {m} {b} {k} f = let P : ℕ → Type 0 = λ l. Form A kind_of parts l s m b k in subst P (same_level left less less2 p p2) f
+
+  lowered_items : {s : Shape} {ms : List (Meaning A)} {b : List ℕ} {k : List A} → Forms A kind_of parts less2 s ms b k → Forms A kind_of parts less s ms b k
+  lowered_items {s} {ms} {b} {k} f = let P : ℕ → Type 0 = λ l. Forms A kind_of parts l s ms b k in subst P (same_level left less less2 p p2) f
+
+  lowered_entries : {s t : Shape} {es : List (Entry A)} {b : List ℕ} {k : List A} → Entries A kind_of parts less2 s t es b k → Entries A kind_of parts less s t es b k
+  lowered_entries {s} {t} {es} {b} {k} f = let P : ℕ → Type 0 = λ l. Entries A kind_of parts l s t es b k in subst P (same_level left less less2 p p2) f
+
+module _ {A : Type 0} {kind_of : A → ℕ} {parts : ℕ → Shape} where
+  mutual
+    unfolding IsCanonical LiesIn
+
+    pub one-form : {left : ℕ} {s : Shape} {m n : Meaning A} {b c : List ℕ} {k l : List A} → Form A kind_of parts left s m b k → Form A kind_of parts left s n c l
+        → Throughout IsCanonical parts s → m ≡ n → (b ≡ c) × (k ≡ l)
+    one-form (nothing-form left) (nothing-form left2) r e = (refl, refl)
+    one-form (unsigned-form left w n h) (unsigned-form left2 w2 n2 h2) r e = let same : n ≡ n2 = cc in (ap (unsigned_form w) same, refl)
+    one-form (signed-form left w z h) (signed-form left2 w2 z2 h2) r e = let same : z ≡ z2 = cc in (ap (signed_form w) same, refl)
+    one-form (flag-form left b) (flag-form left2 b2) r e = (ap bool_form (same-flag b b2 e), refl)
+    one-form (text-form left t u h) (text-form left2 t2 u2 h2) r e = let same : t ≡ t2 = cc in (ap text_form same, refl)
+    one-form (letter-form left x u) (letter-form left2 x2 u2) r e = let same : x ≡ x2 = cc in (ap char_form same, refl)
+    one-form (duration-form left x y h g) (duration-form left2 x2 y2 h2 g2) r e = let seconds : x ≡ x2 = cc in let nanos : y ≡ y2 = cc in (rw (seconds, nanos) refl, refl)
+    one-form (pattern-form left t u h) (pattern-form left2 t2 u2 h2) r e = let same : t ≡ t2 = cc in (ap text_form same, refl)
+    one-form (none-form left s) (none-form left2 s2) r e = (refl, refl)
+    one-form (some-form left s m b k h) (some-form left2 s2 m2 b2 k2 h2) r e = grown (1 ∷ []) _ _ _ _ (one-form h h2 (narrowed r (λ p. p) (λ n d l. l)) cc)
+    one-form (err-form left s t m b k h) (err-form left2 s2 t2 m2 b2 k2 h2) r e = grown (0 ∷ []) _ _ _ _ (one-form h h2 (narrowed r (λ p. p.1) (λ n d l. l.1)) cc)
+    one-form (ok-form left s t m b k h) (ok-form left2 s2 t2 m2 b2 k2 h2) r e = grown (1 ∷ []) _ _ _ _ (one-form h h2 (narrowed r (λ p. p.0) (λ n d l. l.0)) cc)
+    one-form (list-form left s ms b k le h) (list-form left2 s2 ms2 b2 k2 le2 h2) r e =
+        let same = same-items ms ms2 e in counted _ _ _ _ _ _ same (one-forms h h2 (narrowed r (λ p. p) (λ n d l. l)) same)
+    one-form (run-form left s ms b k le h) (run-form left2 s2 ms2 b2 k2 le2 h2) r e = one-forms h h2 (narrowed r (λ p. p) (λ n d l. l)) (same-items ms ms2 e)
+    one-form (array-form left n s ms b k q h) (array-form left2 n2 s2 ms2 b2 k2 q2 h2) r e = one-forms h h2 (narrowed r (λ p. p) (λ n d l. l)) (same-items ms ms2 e)
+    one-form (both-form left s t m n b c k l h g) (both-form left2 s2 t2 m2 n2 b2 c2 k2 l2 h2 g2) r e =
+        joined _ _ _ _ _ _ _ _ (one-form h h2 (narrowed r (λ p. p.0) (λ n d l. l.0)) cc) (one-form g g2 (narrowed r (λ p. p.1) (λ n d l. l.1)) cc)
+    one-form (sorted-map-form left o s t es b k le up h) (sorted-map-form left2 o2 s2 t2 es2 b2 k2 le2 up2 h2) r e = let same = same-entries es es2 e in
+        counted _ _ _ _ _ _ same (one-entries h h2 (narrowed r (λ p. p.0) (λ n d l. l.0)) (narrowed r (λ p. p.1) (λ n d l. l.1)) same)
+    one-form (placed-map-form left s t es b k le up h) (placed-map-form left2 s2 t2 es2 b2 k2 le2 up2 h2) r e = let same = same-entries es es2 e in
+        counted _ _ _ _ _ _ same (one-entries h h2 (narrowed r (λ p. p.0) (λ n d l. l.0)) (narrowed r (λ p. p.1) (λ n d l. l.1)) same)
+    one-form (hash-map-form left s t es b k le up h) g r e = absurd (here r)
+    one-form (sorted-set-form left o s ms b k le up h) (sorted-set-form left2 o2 s2 ms2 b2 k2 le2 up2 h2) r e = let same = same-items ms ms2 e in
+        counted _ _ _ _ _ _ same (one-forms h h2 (narrowed r (λ p. p) (λ n d l. l)) same)
+    one-form (placed-set-form left s ms b k le up h) (placed-set-form left2 s2 ms2 b2 k2 le2 up2 h2) r e = let same = same-items ms ms2 e in
+        counted _ _ _ _ _ _ same (one-forms h h2 (narrowed r (λ p. p) (λ n d l. l)) same)
+    one-form (static-form left registry i m h q) g r e = absurd (here r)
+    one-form (tagged-form left written known body tag m b k u h f) (tagged-form left2 written2 known2 body2 tag2 m2 b2 k2 u2 h2 f2) r e =
+        let tags : tag ≡ tag2 = cc in
+        let f3 = let P : List ℕ → Type 0 = λ t. Form A kind_of parts left (written t) m2 b2 k2 in subst P (sym tags) f2 in
+        let rest = one-form f f3 (narrowed r (λ p. p.0 tag) (λ n d l. l.0 tag)) cc in
+        (rw (tags, rest.0) refl, rest.1)
+    one-form (case-form left w known part n m b k lt is f) (case-form left2 w2 known2 part2 n2 m2 b2 k2 lt2 is2 f2) r e =
+        let cases : n ≡ n2 = cc in
+        let f3 = let P : ℕ → Type 0 = λ x. Form A kind_of parts left (part x) m2 b2 k2 in subst P (sym cases) f2 in
+        let rest = one-form f f3 (narrowed r (λ p. p n is) (λ nodes d l. l n is)) cc in
+        (rw (cases, rest.0) refl, rest.1)
+    one-form (reference-form left kind a q) (reference-form left2 kind2 a2 q2) r e = let same : a ≡ a2 = cc in (refl, ap (λ (x : A). x ∷ []) same)
+    one-form (nested-form left less n m b k p h) (nested-form left2 less2 n2 m2 b2 k2 p2 h2) r e = one-form h (lowered p p2 h2) (part_of r) e
+    one-form (json-null-form left) (json-null-form left2) r e = (refl, refl)
+    one-form (json-flag-form left b) (json-flag-form left2 b2) r e = grind (arith, nat_tests, same-flag)
+    one-form (json-number-form left z h) (json-number-form left2 z2 h2) r e = let same : z ≡ z2 = cc in (rw same refl, refl)
+    one-form (json-text-form left t u h) (json-text-form left2 t2 u2 h2) r e = let same : t ≡ t2 = cc in (rw same refl, refl)
+    one-form (json-array-form left less ms b k p le h) (json-array-form left2 less2 ms2 b2 k2 p2 le2 h2) r e =
+        let part : sequence ms ≡ sequence ms2 = cc in
+        let same = same-items ms ms2 part in
+        grown (4 ∷ []) _ _ _ _ (counted _ _ _ _ _ _ same (one-forms h (lowered_items p p2 h2) (of_json tt) same))
+    one-form (json-object-form left less es b k p le up h) (json-object-form left2 less2 es2 b2 k2 p2 le2 up2 h2) r e =
+        let part : of_entries es ≡ of_entries es2 = cc in
+        let same = same-entries es es2 part in
+        grown (5 ∷ []) _ _ _ _ (counted _ _ _ _ _ _ same (one-entries h (lowered_entries p p2 h2) (of_text tt) (of_json tt) same))
+    one-form f g r e = absurd cc
+
+    pub one-forms : {left : ℕ} {s : Shape} {ms ns : List (Meaning A)} {b c : List ℕ} {k l : List A} → Forms A kind_of parts left s ms b k → Forms A kind_of parts left s ns c l
+        → Throughout IsCanonical parts s → ms ≡ ns → (b ≡ c) × (k ≡ l)
+    one-forms (no-forms left s) (no-forms left2 s2) r e = (refl, refl)
+    one-forms (no-forms left s) (more-forms left2 s2 m2 ms2 b2 c2 k2 l2 h2 g2) r e = absurd cc
+    one-forms (more-forms left s m ms b c k l h g) (no-forms left2 s2) r e = absurd cc
+    one-forms (more-forms left s m ms b c k l h g) (more-forms left2 s2 m2 ms2 b2 c2 k2 l2 h2 g2) r e = joined _ _ _ _ _ _ _ _ (one-form h h2 r cc) (one-forms g g2 r cc)
+
+    pub one-entries : {left : ℕ} {s t : Shape} {es fs : List (Entry A)} {b c : List ℕ} {k l : List A} → Entries A kind_of parts left s t es b k → Entries A kind_of parts left s t fs c l
+        → Throughout IsCanonical parts s → Throughout IsCanonical parts t → es ≡ fs → (b ≡ c) × (k ≡ l)
+    one-entries (no-entries left s t) (no-entries left2 s2 t2) r q e = (refl, refl)
+    one-entries (no-entries left s t) (more-entries left2 s2 t2 m2 n2 es2 b2 c2 d2 j2 k2 l2 h2 g2 f2) r q e = absurd cc
+    one-entries (more-entries left s t m n es b c d j k l h g f) (no-entries left2 s2 t2) r q e = absurd cc
+    one-entries (more-entries left s t m n es b c d j k l h g f) (more-entries left2 s2 t2 m2 n2 es2 b2 c2 d2 j2 k2 l2 h2 g2 f2) r q e =
+        let heads : pairing m n ≡ pairing m2 n2 = cc in
+        let keys : m ≡ m2 = ap (λ (x : Entry A). x.0) heads in
+        let values : n ≡ n2 = ap (λ (x : Entry A). x.1) heads in
+        let tails : es ≡ es2 = cc in
+        joined _ _ _ _ _ _ _ _ (one-form h h2 r keys) (joined _ _ _ _ _ _ _ _ (one-form g g2 q values) (one-entries f f2 r q tails))
+
+pub canonical_one : {A : Type 0} → CanonicalHasOneForm A
+canonical_one kind_of parts s r left m b c k l f g = one-form f g r refl
+
+-- ---- a tree of a closed set of types reaches types of the set alone
+
+-- P of each reference in the meaning
+EachRef : {A : Type 0} → (A → Type 0) → Meaning A → Type 0
+EachRef P (pair a b) = EachRef P a × EachRef P b
+EachRef P (variant n a) = EachRef P a
+EachRef P (reference a) = P a
+EachRef P (followed kind a) = EachRef P a
+EachRef P _ = Unit {0}
+
+-- P of each
+pub Each : {X : Type 0} → (X → Type 0) → List X → Type 0
+Each P [] = Unit {0}
+Each P (x ∷ xs) = P x × Each P xs
+
+pub each_front : {X : Type 0} (P : X → Type 0) (xs ys : List X) → Each P (xs ++ ys) → Each P xs
+unfolding Each
+each_front P [] ys h = tt
+each_front P (x ∷ xs) ys h = (h.0, each_front P xs ys h.1)
+
+each_back : {X : Type 0} (P : X → Type 0) (xs ys : List X) → Each P (xs ++ ys) → Each P ys
+unfolding Each
+each_back P [] ys h = h
+each_back P (x ∷ xs) ys h = each_back P xs ys h.1
+
+module _ {A : Type 0} (P : A → Type 0) where
+  abbrev EachEntry : Entry A → Type 0
+  EachEntry e = EachRef P e.0 × EachRef P e.1
+
+  lifted_refs : (m : Meaning ⊥) → EachRef P (lifted m)
+  unfolding EachRef rename
+  lifted_refs (pair a b) = (lifted_refs a, lifted_refs b)
+  lifted_refs (variant n a) = lifted_refs a
+  lifted_refs (followed kind a) = lifted_refs a
+  lifted_refs x0 = grind (arith, nat_tests)
+
+  sequence_refs : (ms : List (Meaning A)) → Each (EachRef P) ms → EachRef P (sequence ms)
+  unfolding EachRef Each
+  sequence_refs [] h = tt
+  sequence_refs (m ∷ ms) h = (h.0, sequence_refs ms h.1)
+
+  entries_refs : (es : List (Entry A)) → Each EachEntry es → EachRef P (of_entries es)
+  unfolding EachRef Each
+  entries_refs [] h = tt
+  entries_refs (e ∷ es) h = (h.0, entries_refs es h.1)
+
+  put_refs : (acc : List (Entry A)) (e : Entry A) → Each EachEntry acc → EachEntry e → Each EachEntry (put_sorted code_order acc e)
+  unfolding Each
+  put_refs [] e h g = (g, tt)
+  put_refs (x ∷ acc) e h g = grind (arith, nat_tests, ordered, put_refs acc e h.1 g)
+
+  put_all_refs : (es acc : List (Entry A)) → Each EachEntry acc → Each EachEntry es → Each EachEntry (put_all (put_sorted code_order) acc es)
+  unfolding Each put_all
+  put_all_refs [] acc h g = h
+  put_all_refs (e ∷ es) acc h g = put_all_refs es (put_sorted code_order acc e) (put_refs acc e h g.0) g.1
+
+  hash_refs : (es : List (Entry A)) → Each EachEntry es → EachRef P (of_hash_map es)
+  unfolding Each
+  hash_refs es h = entries_refs _ (put_all_refs es [] tt h)
+
+-- ---- forms
+
+-- all that the shape refers to is in the set
+abbrev Inside : (ℕ → Type 0) → (ℕ → Shape) → Shape → Type 0
+Inside nodes parts s = Throughout (LiesIn nodes (λ n. Unit {0})) parts s
+
+module _ {A : Type 0} {kind_of : A → ℕ} {parts : ℕ → Shape} (nodes : ℕ → Type 0) (P Q : A → Type 0) (both : (a : A) → nodes (type_of (kind_of a)) → P a → Q a) where
+  mutual
+    unfolding EachRef Each LiesIn
+
+    form-refs : {left : ℕ} {s : Shape} {m : Meaning A} {b : List ℕ} {k : List A} → Form A kind_of parts left s m b k → Inside nodes parts s → Each P k → EachRef Q m
+    form-refs (flag-form left true) t h = tt
+    form-refs (flag-form left false) t h = tt
+    form-refs (duration-form left x y l g) t h = (tt, tt)
+    form-refs (some-form left s m b k f) t h = form-refs f (lower nodes (λ n d l. l) t) h
+    form-refs (err-form left s s2 m b k f) t h = form-refs f (lower nodes (λ n d l. l.1) t) h
+    form-refs (ok-form left s s2 m b k f) t h = form-refs f (lower nodes (λ n d l. l.0) t) h
+    form-refs (list-form left s ms b k l f) t h = sequence_refs Q ms (forms-refs f (lower nodes (λ n d l. l) t) h)
+    form-refs (run-form left s ms b k l f) t h = sequence_refs Q ms (forms-refs f (lower nodes (λ n d l. l) t) h)
+    form-refs (array-form left n s ms b k e f) t h = sequence_refs Q ms (forms-refs f (lower nodes (λ n d l. l) t) h)
+    form-refs (both-form left s s2 m n b c k l f g) t h = (form-refs f (lower nodes (λ n d l. l.0) t) (each_front P k l h), form-refs g (lower nodes (λ n d l. l.1) t) (each_back P k l h))
+    form-refs (sorted-map-form left o s s2 es b k l up f) t h = entries_refs Q es (entries_form-refs f (lower nodes (λ n d l. l.0) t) (lower nodes (λ n d l. l.1) t) h)
+    form-refs (placed-map-form left s s2 es b k l up f) t h = entries_refs Q es (entries_form-refs f (lower nodes (λ n d l. l.0) t) (lower nodes (λ n d l. l.1) t) h)
+    form-refs (hash-map-form left s s2 es b k l up f) t h = hash_refs Q es (entries_form-refs f (lower nodes (λ n d l. l.0) t) (lower nodes (λ n d l. l.1) t) h)
+    form-refs (sorted-set-form left o s ms b k l up f) t h = sequence_refs Q ms (forms-refs f (lower nodes (λ n d l. l) t) h)
+    form-refs (placed-set-form left s ms b k l up f) t h = sequence_refs Q ms (forms-refs f (lower nodes (λ n d l. l) t) h)
+    form-refs (static-form left registry i m l e) t h = lifted_refs Q m
+    form-refs (tagged-form left written known body tag m b k u l f) t h = (tt, form-refs f (lower nodes (λ n d l. l.0 tag) t) h)
+    form-refs (case-form left w known part n m b k l is f) t h = form-refs f (lower nodes (λ nodes d l. l n is) t) h
+    form-refs (reference-form left kind a e) t h = both a (let here_is = here t in rw e here_is) h.0
+    form-refs (nested-form left less n m b k e f) t h = form-refs f (part_of t) h
+    form-refs (json-flag-form left true) t h = tt
+    form-refs (json-flag-form left false) t h = tt
+    form-refs (json-array-form left less ms b k e l f) t h = sequence_refs Q ms (forms-refs f (of_json tt) h)
+    form-refs (json-object-form left less es b k e l up f) t h = entries_refs Q es (entries_form-refs f (of_text tt) (of_json tt) h)
+    form-refs _ t h = tt
+
+    forms-refs : {left : ℕ} {s : Shape} {ms : List (Meaning A)} {b : List ℕ} {k : List A} → Forms A kind_of parts left s ms b k → Inside nodes parts s → Each P k → Each (EachRef Q) ms
+    forms-refs (no-forms left s) t h = tt
+    forms-refs (more-forms left s m ms b c k l f g) t h = (form-refs f t (each_front P k l h), forms-refs g t (each_back P k l h))
+
+    entries_form-refs : {left : ℕ} {s s2 : Shape} {es : List (Entry A)} {b : List ℕ} {k : List A} → Entries A kind_of parts left s s2 es b k → Inside nodes parts s
+        → Inside nodes parts s2 → Each P k → Each (EachEntry Q) es
+    entries_form-refs (no-entries left s s2) t u h = tt
+    entries_form-refs (more-entries left s s2 m n es b c d j k l f g e) t u h =
+        let rest = each_back P j (k ++ l) h in
+        ((form-refs f t (each_front P j (k ++ l) h), form-refs g u (each_front P k l rest)), entries_form-refs e t u (each_back P k l rest))
+
+-- ---- trees
+
+module _ (hash : List ℕ → List ℕ) (types : Types) (nodes : ℕ → Type 0) (closed : IsClosed types nodes) where
+  -- the kid reaches types of the set alone, if its own is one
+  abbrev Kept : Kid → Type 0
+  Kept k = nodes (type_of k.kind) → EachType nodes k.meaning
+
+  abbrev Found : Kid → Type 0
+  Found k = nodes (type_of k.kind) × EachType nodes k.meaning
+
+  types_of : (m : Meaning ⊥) → EachRef Found (unfolded m) → EachType nodes m
+  unfolding EachRef EachType unfolded
+  types_of (pair a b) h = (types_of a h.0, types_of b h.1)
+  types_of (variant n a) h = types_of a h
+  types_of x0 h = grind (arith, nat_tests)
+
+  mutual
+    unfolding Each
+
+    stays : {t : Tree} {key : ℕ} → KeyOf hash types t key → nodes t.type → EachType nodes t.meaning
+    stays (key-of t s bytes kids keys is f h) inside = types_of t.meaning (form-refs nodes Kept Found (λ k n g. (n, g n)) f (closed t.type s inside is) (all_stay h))
+
+    all_stay : {kids : List Kid} {keys : List ℕ} → KeysOf hash types kids keys → Each Kept kids
+    all_stay no-keys = tt
+    all_stay (more-keys k kids key keys h g) = (λ n. stays h n, all_stay g)
+
+pub stays_inside : StaysInside
+stays_inside hash types nodes t key closed inside h = stays hash types (λ n. nodes n ≡ true) closed h inside
+
+each_along : {N M : ℕ → Type 0} (f : (n : ℕ) → N n → M n) (m : Meaning ⊥) → EachType N m → EachType M m
+unfolding EachType
+each_along f (pair a b) h = (each_along f a h.0, each_along f b h.1)
+each_along f (variant n a) h = each_along f a h
+each_along f (followed kind a) h = (f (type_of kind) h.0, each_along f a h.1)
+each_along f x1 h = grind (arith, nat_tests)
+
+pub canonical_inside : IsCanonicalInside
+canonical_inside hash types nodes t key closed all inside h = (all t.type inside, each_along all t.meaning (stays_inside hash types nodes t key closed inside h))
+
+-- ---- different blobs have different preimages
+
+-- the two low digits of n, to the bases c and then m
+mod-split : (n : ℕ) {m c : ℕ} → zero < m → zero < c → n % (m * c) ≡ (n / c % m) * c + n % c
+mod-split n {m} {c} hm hc =
+    let a = mod-lt (n / c) hm in
+    let b = mod-lt n hc in
+    let top : (n / c % m + 1) * c ≤ m * c = mul-le-mul_right c (omega arith) in
+    let expand : (n / c % m + 1) * c ≡ n / c % m * c + 1 * c = add-mul (n / c % m) 1 c in
+    let split : n ≡ n / c / m * (m * c) + (n / c % m * c + n % c) =
+    sym (div-add-mod' n c)
+    ∙ ap (λ (x : ℕ). x * c + n % c) (sym (div-add-mod' (n / c) m))
+    ∙ ap (λ (x : ℕ). x + n % c) (add-mul (n / c / m * m) (n / c % m) c ∙ ap (λ (x : ℕ). x + n / c % m * c) (mul_assoc (n / c / m) m c))
+    ∙ add_assoc (n / c / m * (m * c)) (n / c % m * c) (n % c) in
+    ap (λ (x : ℕ). x % (m * c)) split ∙ mul-add-mod_self_right (n / c / m) (m * c) (n / c % m * c + n % c) ∙ mod-eq_of_lt (omega arith)
+
+-- the number of bytes, low first
+low : List ℕ → ℕ
+low [] = 0
+low (b ∷ bs) = b + 256 * low bs
+
+byte_at-pow : (k x : ℕ) → byte_at k x ≡ x / 256 ^ k % 256
+byte_at-pow x0 x = grind (arith, nat_tests)
+
+pow_pos256 : (n : ℕ) → zero < 256 ^ n
+pow_pos256 n = let h = one-le-pow n 256 (omega arith) in omega arith
+
+low-bytes : (k j x : ℕ) → low (bytes_low_first j k x) ≡ x / 256 ^ j % 256 ^ k
+unfolding low
+low-bytes zero j x = omega arith
+low-bytes (suc k) j x =
+    let ih = low-bytes k (suc j) x in
+    let shift : x / 256 ^ suc j ≡ x / 256 ^ j / 256 = ap (λ (p : ℕ). x / p) (pow-suc 256 j) ∙ sym (div-div-eq-div-mul x (256 ^ j) 256) in
+    let split = mod-split (x / 256 ^ j) {m = 256 ^ k} {c = 256} (pow_pos256 k) (omega arith) in
+    rw (ih, shift, byte_at-pow j x, pow-suc 256 k, split) (omega arith)
+
+low-again : (k x : ℕ) → x < 256 ^ k → low (bytes_low_first 0 k x) ≡ x
+low-again k x h = low-bytes k 0 x ∙ ap (λ (y : ℕ). y % 256 ^ k) (div-one x) ∙ mod-eq_of_lt h
+
+same-64 : (m n : ℕ) → m < 2 ^ 64 → n < 2 ^ 64 → to_le_bytes w64 m ≡ to_le_bytes w64 n → m ≡ n
+same-64 m n h g e = sym (low-again 8 m (omega arith)) ∙ ap low e ∙ low-again 8 n (omega arith)
+
+same-128 : (m n : ℕ) → m < 2 ^ 128 → n < 2 ^ 128 → to_le_bytes w128 m ≡ to_le_bytes w128 n → m ≡ n
+same-128 m n h g e = sym (low-again 16 m (omega arith)) ∙ ap low e ∙ low-again 16 n (omega arith)
+
+keys-length : (ks : List ℕ) → length (flat_map (to_le_bytes w128) ks) ≡ 16 * length ks
+keys-length [] = refl
+keys-length (k ∷ ks) = omega (arith, length-append (to_le_bytes w128 k) (flat_map (to_le_bytes w128) ks), keys-length ks)
+
+same-key-lists : (ks ls : List ℕ) → AllByRecursion (λ k. k < 2 ^ 128) ks → AllByRecursion (λ k. k < 2 ^ 128) ls → flat_map (to_le_bytes w128) ks ≡ flat_map (to_le_bytes w128) ls → ks ≡ ls
+same-key-lists [] [] h g e = refl
+same-key-lists [] (l ∷ ls) h g e = absurd (omega (arith, ap length e, keys-length (l ∷ ls)))
+same-key-lists (k ∷ ks) [] h g e = absurd (omega (arith, ap length e, keys-length (k ∷ ks)))
+same-key-lists (k ∷ ks) (l ∷ ls) h g e =
+    let parts = cut (to_le_bytes w128 k) (to_le_bytes w128 l) _ _ refl e in
+    rw (same-128 k l h.0 g.0 parts.0, same-key-lists ks ls h.1 g.1 parts.1) refl
+
+pub one_preimage : HasOnePreimage
+unfolding preimage
+one_preimage a b h g e =
+    let counts = cut (to_le_bytes w64 (length a.keys)) (to_le_bytes w64 (length b.keys)) _ _ refl e in
+    let count : length a.keys ≡ length b.keys = same-64 _ _ h.0 g.0 counts.0 in
+    let long = ap length counts.1 in
+    let size : length a.bytes ≡ length b.bytes = omega
+    (arith, long, count, length-append a.bytes (flat_map (to_le_bytes w128) a.keys), length-append b.bytes (flat_map (to_le_bytes w128) b.keys), keys-length a.keys, keys-length b.keys) in
+    let rest = cut a.bytes b.bytes _ _ size counts.1 in
+    let keys = same-key-lists a.keys b.keys h.1 g.1 rest.1 in
+    blob_is _ _ _ _ rest.0 keys
+  where
+    blob_is : (x y k l : List ℕ) → x ≡ y → k ≡ l → (let p : Blob = record { bytes = x; keys = k } in p) ≡ (let q : Blob = record { bytes = y; keys = l } in q)
+    blob_is x y k l e1 e2 = rw (e1, e2) refl
+
+-- ---- the height of a tree is the length of its longest path
+
+above-least : (b : Bool) (n h : ℕ) → b ≡ true → n ≤ h → suc n ≤ (if b then h + 1 else 0)
+above-least x0 n h is le = grind (arith, nat_tests)
+
+above-some : (b : Bool) (n h : ℕ) → suc n ≤ (if b then h + 1 else 0) → (b ≡ true) × (n ≤ h)
+above-some x0 n h le = grind (arith, nat_tests)
+
+path-to : (m : Meaning ⊥) (n : ℕ) → HasPath n m → n ≤ height m
+unfolding HasPath height
+path-to (pair a b) n (inl h) = let p = path-to a n h in omega arith
+path-to (pair a b) n (inr h) = let p = path-to b n h in omega arith
+path-to (variant x a) n h = path-to a n h
+path-to (followed kind a) (suc n) (eager, h) = above-least (is_eager kind) n (height a) eager (path-to a n h)
+path-to x0 x1 x2 = grind (arith, nat_tests)
+
+path-from : (m : Meaning ⊥) (n : ℕ) → n ≤ height m → HasPath n m
+unfolding HasPath height
+path-from (pair a b) n h = elim (cases_lt (height a) n) [ inl lt ↦ inr (path-from b n (omega arith)) | inr le ↦ inl (path-from a n le) ]
+path-from (variant x a) n h = path-from a n h
+path-from (followed kind a) (suc n) h = let p = above-some (is_eager kind) n (height a) h in (p.0, path-from a n p.1)
+path-from x0 x1 h = grind (arith, nat_tests)
+
+pub longest_path : IsLongestPath
+longest_path m n = (path-to m n, path-from m n)
 
 -- ---- what a tree's references are
 
@@ -18,15 +398,11 @@ record CanonicalKid (types : Types) (x y : Kid) : Type 0 where
 module _ {types : Types} where
   canonical-along : (m : Meaning ⊥) → EachType (IsCanonicalType types) m → Along ⊥ (CanonicalKid types) (unfolded m) (unfolded m)
   unfolding EachType unfolded
-  canonical-along (number n) h = number-along n
-  canonical-along (integer z) h = integer-along z
-  canonical-along (text t) h = text-along t
-  canonical-along (pattern t) h = pattern-along t
-  canonical-along none h = none-along
   canonical-along (pair a b) h = pair-along _ _ _ _ (canonical-along a h.0) (canonical-along b h.1)
   canonical-along (variant n a) h = variant-along _ _ _ (canonical-along a h)
   canonical-along (reference a) h = absurd a
   canonical-along (followed kind a) h = reference-along _ _ (record { same = refl; canonical = h })
+  canonical-along m h = search (number-along, integer-along, text-along, pattern-along, none-along)
 
   same_kind : (x y : Kid) → CanonicalKid types x y → kind_of_kid y ≡ kind_of_kid x
   same_kind x y h = ap kind_of_kid (sym h.same)
@@ -83,14 +459,10 @@ stored-reads store types type key m can h =
 module _ {store : ℕ → Option Blob} {types : Types} where
   followed-reads : {m : Meaning KeyRef} {a : Meaning ⊥} → EachType (IsReadableType types) a → IsFollowed (StoredAs store types) m a → IsFollowed (ReadsAs store types) m a
   unfolding EachType
-  followed-reads h (number-followed n) = number-followed n
-  followed-reads h (integer-followed z) = integer-followed z
-  followed-reads h (text-followed t) = text-followed t
-  followed-reads h (pattern-followed t) = pattern-followed t
-  followed-reads h none-followed = none-followed
   followed-reads h (pair-followed x y a b f g) = pair-followed x y a b (followed-reads h.0 f) (followed-reads h.1 g)
   followed-reads h (variant-followed n x a f) = variant-followed n x a (followed-reads h f)
   followed-reads h (reference-followed r x a o f) = reference-followed r x a (stored-reads store types (type_of r.kind) r.key x h.0 o) (followed-reads h.1 f)
+  followed-reads h f = search (number-followed, integer-followed, text-followed, pattern-followed, none-followed)
 
 pub tree_readable : IsTreeReadable
 tree_readable store types t key can h = grind (arith, nat_tests, stored-reads, followed-reads)
@@ -135,28 +507,13 @@ module _ {store other : ℕ → Option Blob} {types : Types} (shares : SharesNoK
       let moved = ap (λ (b : Blob). read_typed (blob_context types) (types.nodes type) (rest_of b)) blobs in
       same_result _ m n _ _ first.reads (moved ∙ second.reads)
 
-  same-trees : {m n : Meaning KeyRef} {a b : Meaning ⊥} → EachType (IsReadableType types) a → IsFollowed (StoredAs store types) m a → IsFollowed (StoredAs other types) n b → m ≡ n → a ≡ b
-  unfolding EachType
-  same-trees can (number-followed x) (number-followed y) e = let same : x ≡ y = cc in rw same refl
-  same-trees can (integer-followed x) (integer-followed y) e = let same : x ≡ y = cc in rw same refl
-  same-trees can (text-followed x) (text-followed y) e = let same : x ≡ y = cc in rw same refl
-  same-trees can (pattern-followed x) (pattern-followed y) e = let same : x ≡ y = cc in rw same refl
-  same-trees can none-followed none-followed e = refl
-  same-trees can (pair-followed x y a b h g) (pair-followed x2 y2 a2 b2 h2 g2) e = rw (same-trees can.0 h h2 cc, same-trees can.1 g g2 cc) refl
-  same-trees can (variant-followed x m a h) (variant-followed y n b h2) e = let same : x ≡ y = cc in rw (same, same-trees can h h2 cc) refl
-  same-trees can (reference-followed r x a p h) (reference-followed r2 x2 a2 p2 h2) e =
-      let same : r ≡ r2 = cc in
-      let p3 = let P : KeyRef → Type 0 = λ q. StoredAs other types (type_of q.kind) q.key x2 in subst P (sym same) p2 in
-      rw (same, same-trees can.1 h h2 (same-stored can.0 p p3)) refl
-  same-trees can h g e = absurd cc
-
 pub key_of_one_tree : IsKeyOfOneTree
 key_of_one_tree hash store other types t u k l first second shares type can readable h g = (to, from)
   where
     to : k ≡ l → t ≡ u
     to e =
         let stands = let P : ℕ → ℕ → Type 0 = λ n key. StoredAs other types n key g.own in subst (λ (n : ℕ). P n k) (sym type) (subst (λ (key : ℕ). P u.type key) (sym e) g.stands) in
-        tree_is _ _ _ _ type (same-trees shares readable.1 h.follows g.follows (same-stored shares readable.0 h.stands stands))
+        tree_is _ _ _ _ type (one-followed (IsReadableType types) (λ t key m n can p q. same-stored shares can p q) readable.1 h.follows g.follows (same-stored shares readable.0 h.stands stands))
 
     from : t ≡ u → k ≡ l
     from e =

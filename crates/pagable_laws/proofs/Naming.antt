@@ -1,9 +1,17 @@
 -- A handle that stands for a reference goes on to stand for it, and so does a clone of it; a key that was set stays.
-use Rattle.std.proofs.Common.{rules}
 use Rattle.pagable_laws.proofs.Words.{◌≡◌, ℕ, ◌+◌, ◌≤◌, true, List, [], ◌∷◌, ◌++◌, inl, inr, Some, None, Ok, refl, sym, ap, subst, ◌∙◌, arith, nat_tests, ArcRef, HandleNumber, type_of, is_loose_kind}
 use Rattle.pagable_laws.proofs.Words.{HandleRow, Owner, Mode, find_row, is_loose, fits_mode, has_key, Core, Cell, Todo, to_start, to_item, to_publish, to_release, to_fail, row_at, type_at, row_of}
-use Rattle.pagable_laws.proofs.{Words.{CloneCall, claim_fault, HandlesAreWhole, Change, StandsAt, KeyIsSet, Holds, AllHold}, Goes.{Goes, Kept, found-number}, Outlasting.{stands-new, among-found}}
-use Rattle.pagable_laws.proofs.Following.{given-of}
+use Rattle.pagable_laws.proofs.Words.{CloneCall, claim_fault, HandlesAreWhole, Change, StandsAt, KeyIsSet, Holds, AllHold, false, ◌⊎◌, Option, drop, length, OptionalDataKey, Pinning, Beginning, Claim}
+use Rattle.pagable_laws.proofs.Words.{PinStep, Took, Identity, NodeNumber, LoadNumber, above, if_there, any_mode, identity_of, owner_worker, Shelf, Slot, no_result, published, Written, Open, to_pin}
+use Rattle.pagable_laws.proofs.Words.{to_load, to_write, to_finish, to_set, Task, SameShelf, Seen, with_key, SetKeyCall, Site, GoesTo, first_todo, answer_after, Does, PinsAtOnce, PinsByLoad}
+use Rattle.pagable_laws.proofs.Words.{IsPublished, next_start, settle, give, give_known, with_wait, with_changed_slot, with_outcome, with_failed, Owns, WorkerAnswer, is_publishing, HasHandle}
+use Rattle.pagable_laws.proofs.Words.{nothing_felt, WorkerNumber, Tree, Event, EventReply, WorkerReply, Alike, Walking, World, Values, Ends, WorkerSteps, MachineState, world_of, IsMachineWhole}
+use Rattle.pagable_laws.proofs.{Words.{IsIdle, ReadsItsTypes, KeepsOpen, KeysAreReady, KeysHeld, WorkFits, new_walking, step_of, TableNumber}, Goes.{Goes, Kept, found-number, fell, goes-quiet}}
+use Rattle.pagable_laws.proofs.{Goes.quiet-goes, Outlasting.{stands-new, among-found, NotValues, Stands, stands-whole, stands-alike, stands-fell}, Following.given-of, Answering.sets-key, Called.pins}
+use Rattle.pagable_laws.proofs.{Called.begins, Standing.{PutsSlot, puts-slot, put-cases, is-same}, ReadingSteps.{ends-quiet, event-goes}, Stepping.keys-same, SparingSteps.{Spares, event-spares}}
+use Rattle.pagable_laws.proofs.{Trees.same_some, ReadingSteps.{works-free, walk-goes}, Coming.{updated-at, EventTurns, turns-keep}}
+use Rattle.pagable_world.specs.Runs.{Does as DoesMoment}
+use Rattle.std.proofs.Common.{rules}
 
 -- ---- what stays
 
@@ -87,3 +95,243 @@ module _ {w : Core} (whole : HandlesAreWhole w) where
             let new : x ≡ made = s_made.only x (among-found k.0 (w.rows ++ made ∷ []) x found) (found-number k.0 (w.rows ++ made ∷ []) x found ∙ above) in
             (ap (λ (y : HandleRow). y.node) new ∙ old.0, λ kind. ap (λ (y : HandleRow). is_loose y.mode) new ∙ old.1 kind);
       }
+
+-- Workers go on holding what they hold.
+
+-- ---- what workers hold they hold after each event, and each cell whose key was published by a loose reference has a key
+
+-- ---- lists
+
+module _ (w : Core) where
+  started : (place : ℕ) (rs : List ArcRef) (todo : List Todo) → is_publishing todo ≡ false → AllHold w todo → AllHold w (next_start place rs ++ todo)
+  unfolding AllHold
+  started place x1 todo quiet all = grind (arith, nat_tests)
+
+  settled : (o : Open) (below : List Todo) → AllHold w (to_finish o ∷ below) → AllHold w (settle (to_finish o ∷ below))
+  settled o below all = started o.place (drop (length o.keys) o.written.references) (to_finish o ∷ below) refl all
+
+  given : (r : ArcRef) (key height : ℕ) (todo : List Todo) → AllHold w todo → AllHold w (give r key height todo)
+  unfolding AllHold
+  given r key height x3 all = grind (arith, nat_tests, settled, above, started)
+
+  known : (r : ArcRef) (key height : ℕ) (todo : List Todo) → AllHold w todo → AllHold w (give_known r key height todo)
+  unfolding AllHold
+  known r key height x3 all = grind (arith, nat_tests, given)
+
+  pub item-started : (written : Written) → AllHold w (settle (to_item written [] ∷ []))
+  unfolding AllHold
+  item-started written = started 0 (drop 0 written.references) (to_item written [] ∷ []) refl (tt, refl, tt)
+
+started-quiet : (place : ℕ) (rs : List ArcRef) (todo : List Todo) → is_publishing todo ≡ false → is_publishing (next_start place rs ++ todo) ≡ false
+started-quiet place x1 todo quiet = grind (arith, nat_tests)
+
+given-quiet : (r : ArcRef) (key height : ℕ) (todo : List Todo) → is_publishing todo ≡ false → is_publishing (give r key height todo) ≡ false
+given-quiet r key height x3 quiet = grind (arith, nat_tests, started-quiet)
+
+known-quiet : (r : ArcRef) (key height : ℕ) (todo : List Todo) → is_publishing todo ≡ false → is_publishing (give_known r key height todo) ≡ false
+known-quiet r key height x3 quiet = grind (arith, nat_tests, given-quiet)
+
+pub first-quiet : (task : Task) → is_publishing (first_todo task) ≡ false
+first-quiet x0 = grind (arith, nat_tests, started-quiet)
+
+-- ---- keys that are set
+
+cell-keyed : (key : ℕ) (found : Option Cell) (cell : Cell) → if_there (λ (x : Cell). Some (record x { key = OptionalDataKey.Some key })) None found ≡ Some cell → has_key cell.key ≡ true
+cell-keyed key x1 cell is = grind (arith, nat_tests)
+
+key-set : {w w' : Core} (v : ℕ) (r : ArcRef) (through : HandleNumber) (key : ℕ) (u : Unit {0}) → StandsAt w r through → SetKeyCall w (owner_worker v) through key (Ok u) w'
+    → is_loose_kind r.kind.0 ≡ true → KeyIsSet w' r.node.0
+key-set {w} {w'} v r through key u s call kind = grind (arith, goes-quiet, fell, given, cell-keyed, updated-at)
+
+-- the worker has the handle still through which it has set a key
+still-held : {w w' : Core} (v : ℕ) (r : ArcRef) (through : HandleNumber) (key : ℕ) (u : Unit {0}) → HandlesAreWhole w → StandsAt w r through
+    → SetKeyCall w (owner_worker v) through key (Ok u) w' → HasHandle w' v r.node.0
+still-held {w} {w'} v r through key u whole s call = elim call.does [
+  | inl refused ↦ let f = refused.told in absurd (cc)
+  | inr (row, owns, inl (other, told, a)) ↦ held row owns (stands-alike a (stands-whole whole through.0 row owns.live))
+  | inr (row, owns, inr (loose, f)) ↦ let s : Stands (with_key w row.node key).last.handle (with_key w row.node key).rows through.0 row = stands-whole whole through.0 row owns.live in
+      held row owns (stands-fell f (no-value row owns.own) refl s)
+]
+  where
+    no-value : (row : HandleRow) → row.owner ≡ owner_worker v → NotValues row.owner
+    no-value row own n is = let f : owner_worker v ≡ Owner.Value n = sym own ∙ is in absurd (cc)
+
+    held : (row : HandleRow) → Owns w (owner_worker v) through any_mode row → Stands w'.last.handle w'.rows through.0 row → HasHandle w' v r.node.0
+    held row owns stands = record { h = through; row = row; live = stands.live; own = owns.own; at = ap (λ (n : NodeNumber). n.0) (s.is row owns.live).0 }
+
+-- ---- slots
+
+-- a key that is known afterwards was known, or P holds
+abbrev Reveals : Shelf → Shelf → (Identity → Type 0) → Type 0
+Reveals shelf shelf' P = (i : Identity) (key height : ℕ) → IsPublished shelf' i key height → IsPublished shelf i key height ⊎ P i
+
+module _ (shelf shelf' : Shelf) (P : Identity → Type 0) where
+  same-reveals : ((i : Identity) → shelf'.slots i ≡ shelf.slots i) → Reveals shelf shelf' P
+  same-reveals same i key height p = inl (keys-same (λ j. sym (same j)) i key height p)
+
+  -- a new slot has no key yet
+  new-reveals : (i : Identity) (new : Slot) → new.outcome ≡ no_result → PutsSlot shelf.slots shelf'.slots i new → Reveals shelf shelf' P
+  new-reveals i new none puts j key height p = grind (arith, put-cases, known)
+
+  of-some : (f : Slot → Slot) (o : Option Slot) (slot : Slot) → if_there (λ (z : Slot). Some (f z)) None o ≡ Some slot → (old : Slot) × (o ≡ Some old) × (f old ≡ slot)
+  of-some f x1 slot e = grind (arith, nat_tests, same_some)
+
+  -- one slot changes
+  changed-reveals : (i : Identity) (f : Slot → Slot) → SameShelf (with_changed_slot shelf i f) shelf'
+      → ((old : Slot) (key height : ℕ) → (f old).outcome ≡ published key height → (old.outcome ≡ published key height) ⊎ P i) → Reveals shelf shelf' P
+  changed-reveals i f same back j key height p = grind (arith, is-same, of-some, known)
+
+  -- claims fail
+  failed-reveals : (v : ℕ) → SameShelf (with_failed shelf v) shelf' → Reveals shelf shelf' P
+  failed-reveals v same j key height p = grind (arith, of-some, known)
+
+-- ---- a worker's step
+
+module _ {N B W : Type 0} (m : Seen N B W) (v : ℕ) (s s' : Site) (whole : HandlesAreWhole s.core) where
+  abbrev pub KeyThere : Identity → Type 0
+  KeyThere i = is_loose_kind i.kind.0 ≡ true → KeyIsSet s'.core i.node.0
+
+  -- what a step leaves to be held, of what node the worker has a handle where it publishes next, and which keys it makes known
+  pub record Leaves (step : Took W) : Type 0 where
+    pub all : AllHold s'.core s'.todo
+    pub front : (r : ArcRef) (key height : ℕ) (below : List Todo) → s'.todo ≡ to_publish r key height ∷ below → HasHandle s'.core v r.node.0 × (answer_after s.todo step ≡ None)
+    pub reveals : Reveals s.shelf s'.shelf KeyThere
+
+  leaves : {step : Took W} {next : List Todo} → s'.todo ≡ next → is_publishing next ≡ false → AllHold s'.core next → Reveals s.shelf s'.shelf KeyThere → Leaves step
+  leaves e quiet all reveals =
+      record { all = subst (λ t. AllHold s'.core t) (sym e) all; front = λ r key height below is. let f : true ≡ false = ap is_publishing (sym is ∙ e) ∙ quiet in absurd (cc); reveals = reveals }
+
+  -- the table stays
+  stays : {step : Took W} → ((i : Identity) → s'.shelf.slots i ≡ s.shelf.slots i) → {next : List Todo} → s'.todo ≡ next → is_publishing next ≡ false → AllHold s'.core next → Leaves step
+  stays same e quiet all = leaves e quiet all (same-reveals s.shelf s'.shelf KeyThere same)
+
+  -- a key is set, and is published next
+  sets : (i : Identity) (u : Unit {0}) (r : ArcRef) (through : HandleNumber) (key height : ℕ) (below : List Todo) → s.todo ≡ to_set r through key height ∷ below
+      → StandsAt s.core r through → SetKeyCall s.core (owner_worker v) through key (Ok u) s'.core
+      → GoesTo s (to_publish r key height ∷ below) s' → is_publishing below ≡ false → AllHold s'.core below → Leaves (Took.SetKey i (Ok u))
+  unfolding AllHold
+  sets i u r through key height below e stands call t quiet all =
+      record {
+        all = subst (λ x. AllHold s'.core x) (sym t.list_is) (key-set v r through key u stands call, quiet, all);
+        front = λ r2 k2 h2 b2 is. (
+          subst (λ n. HasHandle s'.core v n) (same-front (sym t.list_is ∙ is)) (still-held v r through key u whole stands call),
+          ap (λ x. let P : Took W → Option WorkerAnswer = answer_after x in P (Took.SetKey i (Ok u))) e,
+        );
+        reveals = same-reveals s.shelf s'.shelf KeyThere t.table_stays.slots;
+      }
+    where
+      same-front : {r2 : ArcRef} {k2 h2 : ℕ} {b2 : List Todo} → to_publish r key height ∷ below ≡ to_publish r2 k2 h2 ∷ b2 → r.node.0 ≡ r2.node.0
+      same-front {r2} is = let f : r ≡ r2 = cc in ap (λ (x : ArcRef). x.node.0) f
+
+  pinned-stands : (r : ArcRef) (through k : HandleNumber) → StandsAt s.core r r.handle → PinsAtOnce s.core (owner_worker v) r through k s'.core → StandsAt s'.core r through
+  pinned-stands r through k stands does = elim does [
+    | inl (row, same, clone) ↦ subst (λ h. StandsAt s'.core r h) (sym same) (clone-stands whole r k stands clone)
+    | inr (row, (mid, clone, pin)) ↦ stands-on (quiet-goes nothing_felt (pins (works-free v) (Ok (Pinning.Pinned k)) pin)) (clone-stands whole r through stands clone)
+  ]
+
+  begun-stands : (r : ArcRef) (through : HandleNumber) (l : LoadNumber) → StandsAt s.core r r.handle → PinsByLoad s.core (owner_worker v) r through l s'.core → StandsAt s'.core r through
+  begun-stands r through l stands (row, (mid, key, clone, begin)) = stands-on (begins (Ok (Beginning.Load l key)) begin) (clone-stands whole r through stands clone)
+
+  stepped : {c : Change} (todo : List Todo) (step : Took W) → s.todo ≡ todo → Does m v s todo step s' → Goes c s.core s'.core → AllHold s.core todo → Leaves step
+  unfolding AllHold
+  stepped (to_start r place ∷ below) (Took.Claim i (Ok Claim.Claimed)) e (is, c) f (h, quiet, all) =
+      let t = c.finds.1.2 in
+      let new : Slot = record { worker = v; written = None; outcome = no_result } in
+      leaves t.list_is refl (stands-on f (claimed-stands whole r c.finds.0), quiet, all-on f below all)
+      (new-reveals s.shelf s'.shelf KeyThere (identity_of r) new refl (puts-slot (with_wait s.shelf v None) s'.shelf (identity_of r) new t.table_is))
+  stepped (to_start r place ∷ below) (Took.Claim i (Ok (Claim.Known key height))) e (is, c) f (h, quiet, all) = let t = c.finds.1.2 in
+      stays t.table_is.slots t.list_is (known-quiet r key height below quiet) (known s'.core r key height below (all-on f below all))
+  stepped (to_start r place ∷ below) (Took.Claim i (Ok Claim.Waiting)) e (is, c) f (h, quiet, all) = let t = c.finds.1.2 in stays t.table_is.slots (t.list_is ∙ e) refl (tt, quiet, all-on f below all)
+  stepped (to_pin r place ∷ below) (Took.Pin i (Ok (PinStep.Held k))) e (is, p) f (h, quiet, all) = let t = p.pins.2 in
+      stays t.table_stays.slots t.list_is refl (pinned-stands r p.pins.0 k h p.pins.1, quiet, all-on f below all)
+  stepped (to_pin r place ∷ below) (Took.Pin i (Ok (PinStep.LoadBegun l))) e (is, p) f (h, quiet, all) = let t = p.pins.2 in
+      stays t.table_stays.slots t.list_is refl (begun-stands r p.pins.0 l h p.pins.1, quiet, all-on f below all)
+  stepped (to_load r place through reading ∷ below) (Took.Pin i (Ok (PinStep.Held k))) e (is, p) f (h, quiet, all) = let t = p.goes.1 in
+      stays t.table_stays.slots t.list_is refl (stands-on f h, quiet, all-on f below all)
+  stepped (to_load r place through reading ∷ below) (Took.Pin i (Ok PinStep.LoadWent)) e (is, p) f (h, quiet, all) = let t = p.goes.2 in
+      stays t.table_stays.slots t.list_is refl (stands-on f h, quiet, all-on f below all)
+  stepped (to_write r place through ∷ below) (Took.Write i (Ok out)) e (is, p) f (h, quiet, all) =
+      let t = p.writes in
+      leaves t.list_is (started-quiet place (m.written_of out).references _ refl)
+      (settled s'.core (record { reference = r; place = place; through = through; written = m.written_of out; keys = []; height = 0 }) below (stands-on f h, quiet, all-on f below all))
+      (changed-reveals s.shelf s'.shelf KeyThere (identity_of r) (λ slot. record slot { written = Some (m.written_of out) }) t.table_is (λ old key height is. inl is))
+  stepped (to_finish o ∷ below) (Took.Store i (Ok key)) e (is, p) f (h, quiet, all) = let t = p.goes in stays t.table_stays.slots t.list_is refl (stands-on f h, quiet, all-on f below all)
+  stepped (to_item written ks ∷ below) (Took.Store i (Ok key)) e (is, p) f all = let t = p.goes in stays t.table_stays.slots t.list_is refl tt
+  stepped (to_set r through key height ∷ below) (Took.SetKey i (Ok u)) e (is, p) f (h, quiet, all) = sets i u r through key height below e h p.sets p.goes quiet (all-on f below all)
+  stepped (to_publish r key height ∷ below) (Took.Publish i k q) e (is, same_key, same_height, t) f (h, quiet, all) =
+      leaves t.list_is refl (tt, quiet, all-on f below all) (changed-reveals s.shelf s'.shelf KeyThere (identity_of r) (with_outcome (published key height)) t.table_is (λ old k2 h2 known. inr (λ kind. key-on f (h kind))))
+  stepped (to_release r key height ∷ below) (Took.Release i) e (is, falls, t) f (h, quiet, all) = stays t.table_stays.slots t.list_is (given-quiet r key height below quiet)
+      (given s'.core r key height below (all-on f below all))
+  stepped (to_fail fault back ∷ below) Took.Fail e (gives, same, list_is) f all = leaves list_is refl tt (failed-reveals s.shelf s'.shelf KeyThere v same)
+  stepped _ step e does f all = grind (arith, nat_tests, stays)
+
+  pub walk-leaves : (step : Took W) → Does m v s s.todo step s' → AllHold s.core s.todo → Leaves step
+  walk-leaves step does all = stepped s.todo step refl does (walk-goes m v s s' s.todo step does).goes all
+
+-- ---- together
+
+-- ---- what workers hold
+
+-- it is so where nobody works yet
+pub held-at-first : {N E : Type 0} (s : MachineState N E) → IsIdle s → KeysHeld (world_of s)
+held-at-first s idle = record { walks = λ n walking is. let f = idle.walkings n in absurd (cc); publishing = λ n walking r key height below is front. let f = idle.walkings n in absurd (cc); slots = λ t i key height p kind. let f = p.claimed in let g = idle.shelves t i in absurd (cc) }
+
+-- a handle that a step spares is there still
+handle-on : {w w' : Core} {v n : ℕ} → HandlesAreWhole w → Spares (owner_worker v) w w' → HasHandle w v n → HasHandle w' v n
+handle-on whole spares h = let s = spares.each h.h.0 h.row h.own (stands-whole whole h.h.0 h.row h.live) in record { h = h.h; row = h.row; live = s.live; own = h.own; at = h.at }
+
+module _ {N B W : Type 0} (m : Seen N B W) (u u' : World) {c : Change} (goes : Goes c u.core u'.core) (held : KeysHeld u) (whole : HandlesAreWhole u.core) where
+  abbrev SlotsHeld : Shelf → Type 0
+  SlotsHeld shelf = (i : Identity) (key height : ℕ) → IsPublished shelf i key height → is_loose_kind i.kind.0 ≡ true → KeyIsSet u'.core i.node.0
+
+  abbrev WalkHolds : ℕ → Walking → Type 0
+  WalkHolds n w = AllHold u'.core w.todo × ((r : ArcRef) (key height : ℕ) (below : List Todo) → w.todo ≡ to_publish r key height ∷ below → HasHandle u'.core n r.node.0)
+
+  first-hold : (task : Task) → AllHold u'.core (first_todo task)
+  unfolding AllHold
+  first-hold x0 = grind (arith, nat_tests, item-started)
+
+  first-holds : (n : ℕ) (t : TableNumber) (task : Task) → WalkHolds n (new_walking t task)
+  first-holds n t task = (first-hold task, λ r key height below front. let f : true ≡ false = sym (ap is_publishing front) ∙ first-quiet task in absurd (cc))
+
+  a-step : (k : WorkerNumber) (r : WorkerReply W) (s : WorkerSteps m u k r u') → SlotsHeld s.after.shelf × WalkHolds k.0 (record s.walking { todo = s.after.todo; steps = r.steps; answer = r.answer })
+  a-step k r s =
+      let w : Walking = s.walking in
+      let site : Site = record { core = u.core; shelf = u.work.shelves w.table; todo = w.todo } in
+      let l = walk-leaves m k.0 site s.after whole r.took s.does.does (held.walks k.0 w s.at) in
+      let ends = quiet-goes nothing_felt (ends-quiet r.answer k.0 s.ends) in (
+        λ i key height p kind. elim (l.reveals i key height p) [
+          | inl was ↦ key-on goes (held.slots w.table i key height was kind)
+          | inr set ↦ key-on ends (set kind)
+        ],
+        (all-on ends s.after.todo l.all, λ q key height below is. mine (l.front q key height below is)),
+      )
+    where
+      -- its answer is none yet, so what it has stays
+      mine : {n : ℕ} → HasHandle s.after.core k.0 n × (answer_after s.walking.todo r.took ≡ None) → HasHandle u'.core k.0 n
+      mine f =
+          let a : Alike s.after.core u'.core = subst (λ z. Ends z k.0 s.after.core u'.core) (s.answers ∙ f.1) s.ends in
+          record { h = f.0.h; row = f.0.row; live = subst (λ rows. find_row f.0.h.0 rows ≡ Some f.0.row) (sym a.rows) f.0.live; own = f.0.own; at = f.0.at }
+
+  keys-hold : (event : Event N B W) (reply : EventReply N B W) → EventTurns m u event reply u' → ((n : ℕ) → step_of n event reply ≡ [] → Spares (owner_worker n) u.core u'.core) → KeysHeld u'
+  keys-hold event reply turns spares =
+      let h = turns-keep m turns SlotsHeld (λ n shelf w. WalkHolds n w) (λ a b same slots i key height p. slots i key height (keys-same (λ j. sym (same j)) i key height p))
+      (λ a b more slots n w all. all)
+      (λ t shelf more same i key height p kind. key-on goes (held.slots t i key height (keys-same (λ j. sym (same j)) i key height p) kind))
+      (λ n w none there. (all-on goes w.todo (held.walks n w there), λ r key height below front. handle-on whole (spares n none) (held.publishing n w r key height below there front)))
+      (λ n shelf t task. first-holds n t task) (λ k r s one more. a-step k r s) in
+      record { walks = λ n w there. (h.walks n w there).0; publishing = λ n w r key height below there. (h.walks n w there).1 r key height below; slots = h.slots }
+
+-- and after each event of a whole machine that doesn't close the storage
+pub held-on : {N B W E : Type 0} (m : Seen N B W) (s s' : MachineState N E) (event : Event N B W) (reply : EventReply N B W) → EventTurns m (world_of s) event reply (world_of s')
+    → IsMachineWhole m.values s → KeepsOpen event → DoesMoment m s event reply s' → KeysHeld (world_of s) → KeysHeld (world_of s')
+held-on m s s' event reply turns whole stays does held =
+    let happens = does.step.happens in
+    keys-hold m (world_of s) (world_of s') (event-goes m (world_of s) (world_of s') event reply stays happens).goes held whole.pager.whole.handles event reply turns
+    (λ n others. event-spares m n (world_of s) (world_of s') whole.pager.whole.owners_there event reply others stays happens)
+
+-- ---- what is set
+
+pub keys-ready : {N E : Type 0} (v : Values N) (s : MachineState N E) (trees : ℕ → Tree) → ReadsItsTypes v.types → WorkFits v s trees → KeysHeld (world_of s) → KeysAreReady v s trees
+unfolding AllHold
+keys-ready v s trees reads fit held k key row sets = grind (arith, sets-key)

@@ -1,7 +1,7 @@
 -- Each stage once: what is still to be done of it, with what was done, is at most what was claimed.
-use Rattle.pagable_laws.proofs.Words.{◌≡◌, ℕ, ◌+◌, ◌≤◌, ◌==◌, ◌&&◌, Bool, List, [], ◌∷◌, ◌++◌, refl, sym, subst, ◌∙◌, arith, Ok, Err, Some, None, nat_le, nat_tests, sum_by-cons, ArcRef}
-use Rattle.pagable_laws.proofs.Words.{Identity, one, times, Claim, PinStep, Took, identity_of, Open, Todo, to_start, to_pin, to_load, to_write, to_finish, to_item, to_set, to_publish, to_release}
-use Rattle.pagable_laws.proofs.Words.{to_fail, Task, Written, is_identity, next_start, give, first_todo, Follows, Leads, InOrder, OnceEach, is_claim_of, is_later_of}
+use Rattle.pagable_laws.proofs.Words.{◌≡◌, ℕ, ◌+◌, ◌≤◌, ◌==◌, ◌&&◌, Bool, List, [], ◌∷◌, ◌++◌, refl, sym, subst, ◌∙◌, arith, Ok, Err, Some, nat_le, nat_tests, sum_by-cons, ArcRef, Identity, one}
+use Rattle.pagable_laws.proofs.Words.{times, Claim, PinStep, Took, identity_of, Open, Todo, to_start, to_pin, to_load, to_write, to_finish, to_item, to_set, to_publish, to_release, to_fail, Fault}
+use Rattle.pagable_laws.proofs.Words.{Option, HandleNumber, false, Task, Written, is_identity, next_start, give, first_todo, Follows, Leads, InOrder, OnceEach, is_claim_of, is_later_of}
 
 -- ---- numbers
 
@@ -12,7 +12,7 @@ from k p b = one (nat_le p k && b)
 at-most : (x b : Bool) → one (x && b) ≤ one b
 at-most x0 x1 = grind (arith, nat_tests)
 
-plus-none : (n : ℕ) → 0 + n ≡ n
+pub plus-none : (n : ℕ) → 0 + n ≡ n
 plus-none n = omega arith
 
 -- ---- what is to be done
@@ -99,6 +99,14 @@ module _ (k : ℕ) (i : Identity) where
     less : one later + all-left next ≤ one claim + all-left todo
     way : IsWay next
 
+  failed : {next : List Todo} {fault : Fault} {back : Option HandleNumber} (todo : List Todo) → next ≡ to_fail fault back ∷ [] → Goes false false todo next
+  unfolding OnlyWaits all-left
+  failed todo e = rw e (record { less = fails _; way = tt })
+
+  emptied : {next : List Todo} (todo : List Todo) → next ≡ [] → Goes false false todo next
+  unfolding OnlyWaits all-left
+  emptied todo e = rw e (record { less = fails _; way = tt })
+
   module _ {W : Type 0} (f : W → Written) where
     goes : (todo : List Todo) (step : Took W) (next : List Todo) → IsWay todo → Follows f todo step next → Goes (is_later_of k i step) (is_claim_of i step) todo next
     unfolding OnlyWaits all-left
@@ -106,26 +114,19 @@ module _ (k : ℕ) (i : Identity) where
     goes (to_start r place ∷ x ∷ xs) (Took.Claim j (Ok Claim.Claimed)) next way (is, e) = rw (is, e) (record { less = claims-it r (all-left (x ∷ xs)); way = way })
     goes (to_start r place ∷ x ∷ xs) (Took.Claim j (Ok (Claim.Known key height))) next way (is, e) = let g = given r key height (x ∷ xs) way in rw e (record { less = gives _ _ g.same; way = g.way })
     goes (to_start r place ∷ x ∷ xs) (Took.Claim j (Ok Claim.Waiting)) next way (is, e) = rw e (record { less = stays (all-left (to_start r place ∷ x ∷ xs)); way = way })
-    goes (to_start r place ∷ x ∷ xs) (Took.Claim j (Ok Claim.AlreadyFailed)) next way (is, e) = rw e (record { less = fails _; way = tt })
-    goes (to_start r place ∷ x ∷ xs) (Took.Claim j (Err fault)) next way (is, e) = rw e (record { less = fails _; way = tt })
     goes (to_pin r place ∷ below) (Took.Pin j (Ok (PinStep.Held h))) next way (is, (through, e)) = rw (is, e) (record { less = skips r (all-left below); way = way })
     goes (to_pin r place ∷ below) (Took.Pin j (Ok (PinStep.LoadBegun l))) next way (is, (through, e)) = rw (is, e) (record { less = goes-up 0 r _ (all-left below) refl; way = way })
-    goes (to_pin r place ∷ below) (Took.Pin j (Err fault)) next way (is, e) = rw e (record { less = fails _; way = tt })
     goes (to_load r place through reading ∷ below) (Took.Pin j (Ok PinStep.LoadWent)) next way (is, (frames, e)) = grind (arith, nat_tests, stays)
     goes (to_load r place through reading ∷ below) (Took.Pin j (Ok (PinStep.Held h))) next way (is, e) = rw (is, e) (record { less = goes-up 1 r _ (all-left below) refl; way = way })
-    goes (to_load r place through reading ∷ below) (Took.Pin j (Err fault)) next way (is, e) = rw e (record { less = fails _; way = tt })
     goes (to_write r place through ∷ below) (Took.Write j (Ok out)) next way (is, e) = grind (arith, nat_tests, started-node, goes-up)
     goes (to_write r place through ∷ below) (Took.Write j (Err fault)) next way (is, e) = rw (is, e) (record { less = ends 2 r 0 (all-left below) (omega arith); way = tt })
     goes (to_finish o ∷ below) (Took.Store (Some j) (Ok key)) next way (is, e) = rw (is, e) (record { less = goes-up 3 o.reference _ (all-left below) refl; way = way })
     goes (to_finish o ∷ below) (Took.Store (Some j) (Err fault)) next way (is, e) = rw (is, e) (record { less = ends 3 o.reference 0 (all-left below) (omega arith); way = tt })
-    goes (to_item written keys ∷ below) (Took.Store None (Ok key)) next way e = rw e (record { less = fails _; way = tt })
-    goes (to_item written keys ∷ below) (Took.Store None (Err fault)) next way e = rw e (record { less = fails _; way = tt })
     goes (to_set r through key height ∷ below) (Took.SetKey j (Ok u)) next way (is, e) = rw (is, e) (record { less = goes-up 4 r _ (all-left below) refl; way = way })
     goes (to_set r through key height ∷ below) (Took.SetKey j (Err fault)) next way (is, e) = rw (is, e) (record { less = ends 4 r 0 (all-left below) (omega arith); way = tt })
     goes (to_publish r key height ∷ below) (Took.Publish j q h) next way (is, same_key, same_height, e) = rw (is, e) (record { less = goes-up 5 r _ (all-left below) refl; way = way })
     goes (to_release r key height ∷ below) (Took.Release j) next way (is, e) = grind (arith, nat_tests, given, ends)
-    goes (to_fail fault back ∷ below) Took.Fail next way e = rw e (record { less = fails _; way = tt })
-    goes _ step next way follows = absurd follows
+    goes _ step next way follows = grind (arith, nat_tests, failed, emptied)
 
     later-cons : (step : Took W) (steps : List (Took W)) → times (is_later_of k i) (step ∷ steps) ≡ one (is_later_of k i step) + times (is_later_of k i) steps
     later-cons step steps = sum_by-cons (λ s. one (is_later_of k i s)) step steps

@@ -1,13 +1,13 @@
 -- Where each load is done in one piece, one of a cell whose key a page-out set is refused by chance alone.
 use Rattle.pagable_laws.proofs.Words.{nat_tests, ◌≡◌, ℕ, zero, suc, ◌+◌, ◌<◌, ◌≤◌, ◌==◌, Bool, true, false, List, [], ◌∷◌, Option, Some, None, Ok, Err, ◌⊎◌, inl, inr, refl, sym, ap, subst, ◌∙◌}
 use Rattle.pagable_laws.proofs.Words.{arith, slice_get, is_some, Error, HandleRow, Owner, Mode, Beginning, Call, Reply, LoadAnswer, LoadReply, Event, EventReply, ArcRef, HandleNumber, LoadNumber}
-use Rattle.pagable_laws.proofs.Words.{NodeNumber, Tree, Among, if_there, is_in, times, updated, any_mode, held, find_row, Core, OpenLoad, of_cell, Frame, Reading, Seen, IsLawful, row_at, IsReference}
-use Rattle.pagable_laws.proofs.Words.{references_fault, handle_fault, BeginCall, BeginKeyCall, IsDecoded, gone_on, fresh, ReadingsAre, reading_at, reading_after, LoadSteps, Stays, Happens}
-use Rattle.pagable_laws.proofs.Words.{MachineState, world_of, IsMachineWhole, of_caller, FrameFits, FramesFit, ReadsItsTypes, Moment, AreMoments, TreesAlong, Turn, of_load, of_nobody, turn_of}
-use Rattle.pagable_laws.proofs.{Words.{StandTogether, IsOfChance, IsLoadOfPagedOut, LoadIsSound, IsBeginOf, HasBegun, SoundLaw, FramesHeld}, Trees.same_some, Sums.{self-number, same-number}}
-use Rattle.pagable_laws.proofs.{Coming.{event-turns, updated-at}, Chains.{IsGoingOn, idle-goes, goes}, Taking.row-held, Fitting.first-fits, Decoding.decodes, Outlasting.{stands-whole, stands-alike}}
-use Rattle.pagable_laws.proofs.{ReadingStepsMachine.reading-stands, ReadingStepsGive.got-typed, HeightSteps.{HeightsIn, heights-at-first, heights-on}, Sound.{by-chance, by-references, by-handle}}
-use Rattle.pagable_laws.proofs.{Known.IsForm, Soundly.load-cause, Apart.{fine, reads-once}, LoadsLive.{times_got, LoadReady, once-none, apart-once, got-cons, with-one}, LoadsReady.goes-ready}
+use Rattle.pagable_laws.proofs.Words.{NodeNumber, Tree, Among, if_there, is_in, times, updated, any_mode, held, find_row, Core, OpenLoad, of_cell, Frame, Reading, Seen, IsLawful, row_at}
+use Rattle.pagable_laws.proofs.Words.{IsReference, references_fault, handle_fault, BeginCall, BeginKeyCall, IsDecoded, gone_on, fresh, ReadingsAre, reading_at, reading_after, LoadSteps, Stays}
+use Rattle.pagable_laws.proofs.Words.{Happens, MachineState, world_of, IsMachineWhole, of_caller, FrameFits, FramesFit, ReadsItsTypes, Moment, Turn, of_load, of_nobody, turn_of, StandTogether}
+use Rattle.pagable_laws.proofs.{Words.{IsOfChance, IsLoadOfPagedOut, LoadIsSound, IsBeginOf, HasBegun, SoundLaw, FramesHeld}, Trees.same_some, Sums.{self-number, same-number}, Coming.updated-at}
+use Rattle.pagable_laws.proofs.{Chains.{IsGoingOn, idle-goes}, Taking.row-held, Fitting.first-fits, Decoding.decodes, Outlasting.{stands-whole, stands-alike}, ReadingSteps.reading-stands}
+use Rattle.pagable_laws.proofs.{ReadingStepsGive.got-typed, Heights.{HeightsIn, heights-at-first}, Sound.{by-chance, by-references, by-handle, IsForm, load-cause}, Apart.{fine, reads-once}}
+use Rattle.pagable_laws.proofs.{LoadsReady.{times_got, LoadReady, once-none, apart-once, got-cons, with-one, goes-ready}, Deeply.along-with}
 use Rattle.pagable_world.specs.{Loads.Does}
 
 -- ---- whose turn it is
@@ -305,32 +305,15 @@ module _ {N B W E : Type 0} (m : Seen N B W) where
           by load e open_load paged ended (going ready turns) = sound m lawful readable s x.after trees on whole' low l reply h.moves ready load e open_load paged ended
           by load e open_load paged ended (off none) = absurd (none 0 x refl (ap (λ (v : Event N B W). turn_of v x.reply) same))
           by load e open_load paged ended (ahead first) = absurd (let b = first 0 x refl same in let lt = b.before in omega (arith, lt))
-      load-sound low stage trees' (Event.LoadStep l) (EventReply.LoadMoved (Err e)) same h = tt
-      load-sound low stage trees' (Event.LoadStep l) reply same h = absurd h
-      load-sound low stage trees' (Event.Call call) reply same h = tt
-      load-sound low stage trees' (Event.LoadStart k) reply same h = tt
-      load-sound low stage trees' (Event.LoadKey key t) reply same h = tt
-      load-sound low stage trees' (Event.WorkerStep n) reply same h = tt
-      load-sound low stage trees' Event.TableNew reply same h = tt
-      load-sound low stage trees' (Event.WorkerItem t item) reply same h = tt
-      load-sound low stage trees' (Event.WorkerListed t i) reply same h = tt
-
-    sound-along : (s : MachineState N E) (trees : ℕ → Tree) (xs : List (Moment N E B W)) → IsGoingOn m.values s trees → HeightsIn (world_of s) → StandTogether xs
-        → ((l : LoadNumber) → Stage s l xs) → AreMoments m s xs
-        → TreesAlong m LoadIsSound s trees xs
-    sound-along s trees [] on low together stage chain = tt
-    sound-along s trees (x ∷ xs) on low together stage (does, more) = λ premised.
-        let g = goes m lawful readable s trees x on does premised in
-        let turns = event-turns m (world_of s) (world_of x.after) on.work (λ v w there. (on.whole.walkings v w there).table.1) x.event x.reply does.step.happens in
-        let a = g.after in (
-          g.trees',
-          record { keeps = a.keeps; stands = a.stands; so = load-sound s trees on x xs does.whole does.step.happens together low stage g.trees' x.event x.reply refl does.step.happens },
-          sound-along x.after g.trees' xs g.on (heights-on m s x.after trees on.fits low on.work x.event x.reply turns)
-              (λ i j k p q r lt lt2 at there here. together (suc i) (suc j) (suc k) p q r (omega (arith, lt)) (omega (arith, lt2)) at there here)
-              (λ l. next-stage s trees on x xs does.whole does.step.happens together l (stage l)) more,
-        )
+      load-sound low stage trees' event reply same h = tt
 
 pub sound_law : {N B W : Type 0} (E : Type 0) (m : Seen N B W) → SoundLaw E m
 sound_law E m start moments trees whole idle chain together begun stands lawful readable settled =
-    sound-along m lawful readable start trees moments (idle-goes m lawful readable start trees whole idle settled stands) (heights-at-first start idle) together
-    (λ l. ahead (λ k c at step. begun k c l at step)) chain
+    along-with m LoadIsSound (λ s xs. StandTogether xs × ((l : LoadNumber) → Stage m s l xs)) lawful readable (λ s trees trees' x xs on low so whole' is. (
+      load-sound m lawful readable s trees on x xs whole' is so.0 low so.1 trees' x.event x.reply refl is,
+      (
+        (λ i j k p q r lt lt2 at there here. so.0 (suc i) (suc j) (suc k) p q r (omega (arith, lt)) (omega (arith, lt2)) at there here),
+        λ l. next-stage m lawful readable s trees on x xs whole' is so.0 l (so.1 l),
+      ),
+    ))
+    start trees moments (idle-goes m lawful readable start trees whole idle settled stands) (heights-at-first start idle) (together, λ l. ahead (λ k c at step. begun k c l at step)) chain

@@ -1,12 +1,161 @@
--- A load's step, as trees feel it: one change, what it does to the plain world with it, and how the load's own blobs grow.
-use Rattle.pagable_laws.proofs.Words.{arith, nat_tests, ◌≡◌, List, [], refl, sym, subst, ◌∙◌, inl, inr, Option, Some, None, ◌⊎◌, Ok, Err, OptionalDataKey, Error, Owner, LoadAnswer, Core, OpenLoad}
-use Rattle.pagable_laws.proofs.Words.{Frame, Reading, Alike, Seen, Values, EndCall, HandOverCall, first_key, Fails, RefusesRoot, LoadIs, IsOfCell, IsOfKey, handles_of, GetsRoot, GetsCached, GetsBlob}
-use Rattle.pagable_laws.proofs.Words.{GetsLazy, MakesNode, ReadingDoes, HandlesAreWhole, Change, nothing_felt, bears_known, ReadingFeels, reads-root, reads-blob, gets-known, gets-lazy, makes-known}
-use Rattle.pagable_laws.proofs.{Words.{makes-node, reading-ends, ℕ, Want, AskCall, AsksInVain}, Goes.{Quiet, Goes, NotLoads, quiet-then, quiet-goes, goes-quiet, alike, a-handle, fell-anyhow, adopts}}
-use Rattle.pagable_laws.proofs.{Goes.KnowsNext, ReadingStepsRows.{got-known, got-fallen, got-born, gets-alike, is-cached}, Called.{hands-over, ends-quiet}, Trees.same_some}
+-- The row of a handle that a load has got: it is new, of its node, and its mode fits the kind.
+use Rattle.pagable_laws.proofs.Words.{◌≡◌, ℕ, ◌+◌, ◌<◌, ◌≤◌, Bool, true, List, [], ◌∷◌, ◌++◌, refl, ap, subst, ◌∙◌, inr, arith, Some, ◌⊎◌, nat_tests, ArcRef, Kind, HandleNumber, LoadNumber}
+use Rattle.pagable_laws.proofs.Words.{NodeNumber, OptionalDataKey, type_of, HandleRow, Owner, find_row, mode_of, fits_mode, owner_value, Core, Last, Alike, row_at, usable, FallsAnyhow, row_of}
+use Rattle.pagable_laws.proofs.Words.{with_handle, with_node, with_cached_if_open, with_known, next_node, is_named_by, moved, adopted, HandlesAreWhole, GetsRow, sym, inl, Option, None, Ok, Err}
+use Rattle.pagable_laws.proofs.Words.{is_some, WorkerNumber, LoadAnswer, LoadReply, WorkerReply, PinStep, Took, Event, owner_worker, Frame, Reading, Todo, to_load, to_write, Walking, World, Seen}
+use Rattle.pagable_laws.proofs.Words.{Values, ReadingDoes, gone_on, Site, ReadingsAre, reading_at, reading_after, LoadSteps, WorkerSteps, IsWhole, IsReadingOf, of_caller, of_worker, IsSteppedReading}
+use Rattle.pagable_laws.proofs.Words.{StepsReading, IsFresh, Error, OpenLoad, EndCall, HandOverCall, first_key, Fails, RefusesRoot, LoadIs, IsOfCell, IsOfKey, handles_of, GetsRoot, GetsCached}
+use Rattle.pagable_laws.proofs.Words.{GetsBlob, GetsLazy, MakesNode, Change, nothing_felt, bears_known, ReadingFeels, reads-root, reads-blob, gets-known, gets-lazy, makes-known, makes-node}
+use Rattle.pagable_laws.proofs.Words.{reading-ends, Want, AskCall, AsksInVain, Result, Pinning, Beginning, Claim, is_loose, to_start, to_pin, to_finish, to_item, to_set, to_release, to_fail}
+use Rattle.pagable_laws.proofs.Words.{SetKeyCall, Does, PinsAtOnce, PinsByLoad, PinRefused, GivesBack, next_start, give, give_known, fresh, TodoBrings, sets_key, false, if◌then◌else◌, Tree, updated}
+use Rattle.pagable_laws.proofs.Words.{if_there, EventReply, TableNumber, WorkerAnswer, only_handle, Cell, Shelf, Task, type_at, key_at, first_todo, without_worker, WorkerEnds, is_workers_load}
+use Rattle.pagable_laws.proofs.Words.{answer_after, BeginsKey, Stays, begun_readings, KeyStarted, Starts, new_walking, Ends, Happens, with_worker, MachineState, world_of, IsMachineWhole, IsNewNode}
+use Rattle.pagable_laws.proofs.Words.{EventBrings, KeepsOpen, LeavesCache, CoreGoes, SameNode, NewNode, StaysAway, KeepsReadings, EventFeels, by-call, by-reading, by-key, by-nothing, StepFeels}
+use Rattle.pagable_laws.proofs.{Words.{WorkFits, Waits, Walks, Ground}, Goes.{found-number, found-changed, found-left, none-in-new, at-updated, Quiet, Goes, NotLoads, quiet-then, quiet-goes}}
+use Rattle.pagable_laws.proofs.{Goes.{goes-quiet, alike, a-handle, fell-anyhow, adopts, KnowsNext, quiet-begins, fell, keyed, parts, le-self, Kept, rows-self}, Outlasting.among-found, Trees.same_some}
+use Rattle.pagable_laws.proofs.Called.{hands-over, ends-quiet as load-ends-quiet, noted, asks, closes, gets-known as was-known, schedules, clones, pins, begins, stores, calls-go, call-knows}
+use Rattle.pagable_laws.proofs.{Called.{some-moved, begins-key}, GoodReferences.alike-away}
+use Rattle.pagable_world.specs.{Loads.{Does as LoadDoes, Meets}, Runs.{Does as DoesMoment}}
 use Rattle.std.proofs.Common.{rules}
-use Rattle.pagable_world.specs.Loads.{Does, Meets}
-use Rattle.pagable_laws.proofs.Calling.{noted, asks, closes, gets-known as was-known}
+use Rattle.pagable_world.specs.Workers as workers
+
+pub fits-kind : (kind : ℕ) → fits_mode kind (mode_of kind) ≡ true
+fits-kind kind = grind (arith, nat_tests)
+
+-- ---- what is found at a new number
+
+pub found-append : (q : ℕ) (xs ys : List HandleRow) (row : HandleRow) → find_row q (xs ++ ys) ≡ Some row → (find_row q xs ≡ Some row) ⊎ (find_row q ys ≡ Some row)
+unfolding find_row
+found-append q [] ys row found = inr found
+found-append q (h ∷ hs) ys row found = grind (arith, nat_tests, found-append q hs ys row)
+
+found-alone : (q : ℕ) (h row : HandleRow) → find_row q (h ∷ []) ≡ Some row → h ≡ row
+unfolding find_row
+found-alone q h row found = grind (arith, nat_tests)
+
+-- no handle has a number above the last one given
+pub none-above : {w : Core} → HandlesAreWhole w → (q : ℕ) (row : HandleRow) → w.last.handle < q → find_row q w.rows ≡ Some row → ⊥
+none-above {w} whole q row above found =
+    let few = (whole.numbered row (among-found q w.rows row found)).1 in
+    let same = found-number q w.rows row found in
+    absurd (omega (arith, few, same, above))
+
+pub cached-rows : (w : Core) (kind : Kind) (key : ℕ) (n : NodeNumber) → ((with_cached_if_open w kind key n).rows ≡ w.rows) × ((with_cached_if_open w kind key n).last ≡ w.last)
+cached-rows w kind key n = grind (arith, nat_tests)
+
+-- ---- the row that was made
+
+next-above : (q last : ℕ) → q ≡ last + 1 → last < q
+next-above q last next = omega arith
+
+module _ {w w' : Core} (whole : HandlesAreWhole w) (kind : Kind) (k : HandleNumber) (row : HandleRow) (made : row_at w' k ≡ Some row) (next : k.0 ≡ w.last.handle + 1) where
+  gets : (rows : List HandleRow) (node : NodeNumber) (owner : Owner) → w.last.handle + 1 ≤ w'.last.handle → ((r : HandleRow) → find_row k.0 rows ≡ Some r → ⊥)
+      → find_row k.0 (rows ++ row_of (w.last.handle + 1) node (mode_of kind.0) owner ∷ []) ≡ Some row → GetsRow w w' kind node.0 row
+  gets rows node owner few unseen found = search (rules, found-append, found-alone, fits-kind)
+
+  -- of a node that there was
+  pub got-known : (n : ℕ) (owner : Owner) → Alike (with_known w kind n owner) w' → GetsRow w w' kind n row
+  got-known n owner a = grind (arith, nat_tests, gets, none-above, next-above)
+
+  -- of such a one, where others were given up then
+  pub got-fallen : (n : ℕ) (owner : Owner) {before : Core} {given : ℕ → Bool} → FallsAnyhow before (with_known w kind n owner) given w' → GetsRow w w' kind n row
+  got-fallen n owner f = grind (arith, nat_tests, found-append, gets, none-above, next-above, found-left, none-in-new)
+
+  -- of the next node
+  pub got-born : (l : LoadNumber) (key : ℕ) (own : OptionalDataKey) (references : List ArcRef) → Alike (adopted w l kind key own references) w' → GetsRow w w' kind (w.last.node + 1) row
+  got-born l key own references a =
+      let born = with_handle (with_node w (type_of kind.0) own references) (next_node w) (mode_of kind.0) (Owner.Load l) in
+      let rows = cached-rows born kind key (next_node w) in
+      let few = ap (λ (l : Last). l.handle) (a.last ∙ rows.1) in
+      gets (moved (is_named_by references) (owner_value (w.last.node + 1)) w.rows) (next_node w) (Owner.Load l) (omega (arith, few))
+      (λ r found. let c = found-changed (λ (h : HandleRow). is_named_by references h.number.0) (λ h. record h { owner = owner_value (w.last.node + 1) }) (λ h. refl) k.0 w.rows r found in
+      none-above whole k.0 c.was (next-above k.0 w.last.handle next) c.live)
+      (subst (λ rows. find_row k.0 rows ≡ Some row) (a.rows ∙ rows.0) made)
+
+-- it is so in a world that is alike
+pub gets-alike : {w m w' : Core} {kind : Kind} {n : ℕ} {row : HandleRow} → GetsRow w m kind n row → Alike m w' → GetsRow w w' kind n row
+gets-alike {row = row} g a = grind (arith, nat_tests)
+
+-- what can be used is in the cache
+pub is-cached : (w : Core) (kind key n : ℕ) → usable w kind key ≡ Some n → w.cache kind key ≡ Some n
+is-cached w kind key n is = grind (arith, nat_tests)
+
+-- A load's step in the machine: which reading makes it, and that no other goes on by it.
+
+-- what stands among the readings afterwards
+pub reading-was : (readings : ℕ → Option Reading) (u' : World) → ReadingsAre readings u' → (q : ℕ) (after : Reading) → u'.work.readings q ≡ Some after
+    → (readings q ≡ Some after) × (is_some (u'.core.loads q) ≡ true)
+reading-was readings u' are q after is = grind (arith, nat_tests)
+
+-- a reading that makes a step is the machine's, or has just begun at an open load
+pub reading-stands : (u : World) → IsWhole u.core → (l : LoadNumber) (reading : Reading) → reading_at u l ≡ Some reading
+    → (u.work.readings l.0 ≡ Some reading) ⊎ ((reading.frames ≡ []) × (reading.steps ≡ 0) × (reading.load ≡ l) × (l.0 ≤ u.core.last.load))
+reading-stands u whole l reading at = grind (arith, nat_tests)
+
+-- ---- a load of the caller's
+
+module _ {N : Type 0} {v : Values N} {u u' : World} {l : LoadNumber} {reply : LoadReply N} (s : LoadSteps v u l reply u') where
+  went : (answer : Option (LoadAnswer N)) (after : Reading) → reading_after answer s.reading s.frames ≡ Some after → (answer ≡ None) × (after ≡ gone_on s.reading s.frames)
+  went x0 after e = grind (arith, nat_tests, same_some)
+
+  -- a reading of the caller's was there, or is this one
+  pub caller-was : (q : ℕ) (after : Reading) → u'.work.readings q ≡ Some after → (u.work.readings q ≡ Some after) ⊎ ((q ≡ l.0) × (reply.ended ≡ None) × (after ≡ gone_on s.reading s.frames))
+  caller-was q after is = grind (arith, nat_tests, at-updated, reading-was, went)
+
+  pub steps-load : StepsReading u s.reading reply.ended s.frames u'
+  steps-load after (of_caller q is) = elim (caller-was q after is) [ inl old ↦ inl (of_caller q old) | inr new ↦ inr (new.1, new.2) ]
+  steps-load after (of_worker n place walking r through below there todo) = inl (of_worker n place walking r through below (sym (s.work.walkings n) ∙ there) todo)
+
+  pub stepped-load : {B W : Type 0} → IsWhole u.core → (event : Event N B W) → event ≡ Event.LoadStep l → IsSteppedReading u event s.reading
+  stepped-load {B} {W} whole event is =
+      let P : Event N B W → Type 0 = λ e. IsSteppedReading u e s.reading in
+      let stands = reading-stands u whole l s.reading s.at in
+      subst P (sym is) (s.at, elim stands [ inl there ↦ inl (of_caller l.0 there) | inr begun ↦ inr (begun.0, begun.1, subst (λ (z : LoadNumber). z.0 ≤ u.core.last.load) (sym begun.2) begun.3) ])
+
+-- ---- a load of a worker's
+
+-- what it answers and reads, and that it stands in the worker's list afterwards only where it goes on
+pub record LoadsTodo {N : Type 0} (v : Values N) (me : Owner) (s s' : Site) (reading : Reading) : Type 0 where
+  pub answer : Option (LoadAnswer N)
+  pub frames : List Frame
+  pub does : ReadingDoes v s.core me reading answer frames s'.core
+  pub next : (r : ArcRef) (place : ℕ) (through : HandleNumber) (after : Reading) (below : List Todo) → s'.todo ≡ to_load r place through after ∷ below
+      → (answer ≡ None) × (after ≡ gone_on reading frames)
+
+module _ {N B W : Type 0} (m : Seen N B W) (v : ℕ) (s s' : Site) where
+  pub loads-todo : (r : ArcRef) (place : ℕ) (through : HandleNumber) (reading : Reading) (below : List Todo) (step : Took W)
+      → workers.Does m v s (to_load r place through reading ∷ below) step s' → LoadsTodo m.values (owner_worker v) s s' reading
+  loads-todo r place through reading below (Took.Pin i (Ok (PinStep.Held k))) (is, p) =
+      record { answer = Some (LoadAnswer.Pinned k); frames = []; does = p.goes.0; next = λ q at h after rest e. let f : to_write r place through ∷ below ≡ to_load q at h after ∷ rest = sym p.goes.1.list_is ∙ e in absurd (cc) }
+  loads-todo r place through reading below (Took.Pin i (Ok (PinStep.LoadBegun l))) (is, p) = absurd p.goes
+  loads-todo r place through reading below (Took.Pin i (Ok PinStep.LoadWent)) (is, p) = grind (arith, nat_tests)
+  loads-todo r place through reading below (Took.Pin i (Err e)) (is, p) =
+      record { answer = Some (LoadAnswer.Refused e); frames = []; does = p.refused.0; next = λ q at h after rest f. let g : workers.failing_by e s.todo ≡ to_load q at h after ∷ rest = sym p.refused.1.list_is ∙ f in absurd (cc) }
+  loads-todo r place through reading below step does = absurd does
+
+module _ {N B W : Type 0} {m : Seen N B W} {u u' : World} {k : WorkerNumber} {reply : WorkerReply W} (s : WorkerSteps m u k reply u') where
+  abbrev before : Site
+  before = record { core = u.core; shelf = u.work.shelves s.walking.table; todo = s.walking.todo }
+
+  pub steps-worker : {me : Owner} {reading : Reading} (t : LoadsTodo m.values me before s.after reading) → StepsReading u reading t.answer t.frames u'
+  steps-worker t after (of_caller q is) = inl (of_caller q (reading-was u.work.readings u' s.readings q after is).0)
+  steps-worker t after (of_worker n place walking r through below there todo) = elim
+      (at-updated k.0 (Some (record s.walking { todo = s.after.todo; steps = reply.steps; answer = reply.answer })) u.work.walkings n walking (sym (s.work.same_walkings n) ∙ there)) [
+        | inl (here, e) ↦ inr (t.next r place through after below (ap (λ (w : Walking). w.todo) (same_some _ _ e) ∙ todo))
+        | inr old ↦ inl (of_worker n place walking r through below old todo)
+      ]
+
+  pub stepped-worker : (event : Event N B W) → event ≡ Event.WorkerStep k → (r : ArcRef) (place : ℕ) (through : HandleNumber) (reading : Reading) (below : List Todo)
+      → s.walking.todo ≡ to_load r place through reading ∷ below → IsSteppedReading u event reading
+  stepped-worker event is r place through reading below todo = grind (arith, nat_tests)
+
+-- the reading that makes the step is the machine's, or has just begun
+pub is-reading-of : {N B W : Type 0} (u : World) (event : Event N B W) (reading : Reading) → IsSteppedReading u event reading → IsReadingOf u.work reading ⊎ IsFresh u.core reading
+is-reading-of u (Event.LoadStep l) reading stepped = stepped.1
+is-reading-of u (Event.WorkerStep k) reading (walking, r, place, through, below, there, todo) = inl (of_worker k.0 place walking r through below there todo)
+is-reading-of u event reading stepped = absurd stepped
+
+-- A load's step, as trees feel it: one change, what it does to the plain world with it, and how the load's own blobs grow.
 
 -- some change, what the step does to the world with it, and how it is felt; a load that goes on is open
 pub record ReadingFelt {N : Type 0} (v : Values N) (w : Core) (reading : Reading) (answer : Option (LoadAnswer N)) (frames : List Frame) (w' : Core) : Type 0 where
@@ -111,13 +260,13 @@ module _ {N B W : Type 0} (m : Seen N B W) (w : Core) (me : Owner) (free : NotLo
   fails : (e : Error) → Fails m.values w me reading e w' → Quiet w w'
   fails e does = elim does [
     | inl gives ↦ let a = meets m.values w me reading gives.mid e gives.meets in quiet-then (noted a.0 a.1) (closes reading.load gives.closes)
-    | inr ended ↦ ends-quiet m w me free w' reading.load ended.x (Err (e, None)) ended.ended
+    | inr ended ↦ load-ends-quiet m w me free w' reading.load ended.x (Err (e, None)) ended.ended
   ]
 
   ended : (end : LoadAnswer N) (frames : List Frame) → frames ≡ [] → Quiet w w' → RF (Some end) frames
   ended end frames none q = record { change = nothing_felt; goes = quiet-goes nothing_felt q; opens = λ is. absurd (cc); feels = λ whole. reading-ends end refl none }
 
-  by-does : (answer : Option (LoadAnswer N)) (frames : List Frame) → Does m.values w me reading answer frames w' → RF answer frames
+  by-does : (answer : Option (LoadAnswer N)) (frames : List Frame) → LoadDoes m.values w me reading answer frames w' → RF answer frames
   by-does None frames does = elim does [
     | inl root ↦ gets-root frames root
     | inr (inl cached) ↦ gets-cached frames cached
@@ -125,7 +274,7 @@ module _ {N B W : Type 0} (m : Seen N B W) (w : Core) (me : Owner) (free : NotLo
     | inr (inr (inr (inl lazy))) ↦ gets-unread frames lazy
     | inr (inr (inr (inr made))) ↦ makes frames made
   ]
-  by-does (Some (LoadAnswer.Pinned k)) frames does = ended (LoadAnswer.Pinned k) frames does.1 (ends-quiet m w me free w' reading.load does.0.x (Ok k) does.0.ended)
+  by-does (Some (LoadAnswer.Pinned k)) frames does = ended (LoadAnswer.Pinned k) frames does.1 (load-ends-quiet m w me free w' reading.load does.0.x (Ok k) does.0.ended)
   by-does (Some (LoadAnswer.Read x)) frames does = ended (LoadAnswer.Read x) frames does.1 (hands-over free reading.load _ (Ok tt) does.0.handed)
   by-does (Some (LoadAnswer.Refused e)) frames does = ended (LoadAnswer.Refused e) frames does.1 (fails e does.0)
 
@@ -146,3 +295,352 @@ feels-alike (reading-ends end answer is) a = reading-ends end answer is
 pub reading-knows : {N : Type 0} {v : Values N} {w w' : Core} {reading : Reading} {answer : Option (LoadAnswer N)} {frames : List Frame} {c : Change}
     → ReadingFeels v w reading answer frames w' c → KnowsNext c w
 reading-knows x0 = grind (arith, nat_tests)
+
+-- What a worker's step does to the plain world, as trees feel it, and which loads it begins.
+
+pub works-free : (v : ℕ) → NotLoads (owner_worker v)
+works-free v l is = absurd (cc)
+
+-- ---- what stands at the front afterwards
+
+-- written nodes and an item wait, and nothing else
+unfoldable pub AllWait : List Todo → Type 0
+AllWait [] = Unit {0}
+AllWait (to_finish o ∷ below) = AllWait below
+AllWait (to_item written keys ∷ below) = Unit {0}
+AllWait (x ∷ below) = ⊥
+
+-- below what is done next they do, so that no load comes to the front when that is done
+abbrev pub WaitsWell : List Todo → Type 0
+WaitsWell [] = Unit {0}
+WaitsWell (to_item written keys ∷ below) = Unit {0}
+WaitsWell (to_fail fault back ∷ below) = Unit {0}
+WaitsWell (x ∷ below) = AllWait below
+
+-- the reading of a load at the front
+abbrev pub front_reading : List Todo → Option Reading
+front_reading (to_load r place through reading ∷ below) = Some reading
+front_reading todo = None
+
+abbrev pub LoadsAnew : Site → Type 0
+LoadsAnew s = (reading : Reading) → front_reading s.todo ≡ Some reading → IsFresh s.core reading
+
+no-load : (s : Site) (todo : List Todo) → s.todo ≡ todo → front_reading todo ≡ None → LoadsAnew s
+no-load s todo is none reading e = let f : front_reading todo ≡ Some reading = ap front_reading (sym is) ∙ e in absurd (cc)
+
+pub started : (place : ℕ) (rs : List ArcRef) (x : Todo) (below : List Todo) → front_reading (x ∷ below) ≡ None → front_reading (next_start place rs ++ x ∷ below) ≡ None
+started place x1 x below x4 = grind (arith, nat_tests)
+
+given : (r : ArcRef) (key height : ℕ) (below : List Todo) → AllWait below → front_reading (give r key height below) ≡ None
+unfolding AllWait
+given r key height x3 well = grind (arith, nat_tests, started)
+
+given-known : (r : ArcRef) (key height : ℕ) (below : List Todo) → AllWait below → front_reading (give_known r key height below) ≡ None
+given-known r key height [] well = refl
+given-known r key height (x ∷ below) well = given r key height (x ∷ below) well
+
+-- ---- the step
+
+-- A load makes its step; the key is set through the worker's own loose handle; or nothing is felt. But for the first, a load at the front afterwards has just begun.
+pub data WalkFeels {N B W : Type 0} (m : Seen N B W) (v : ℕ) (s s' : Site) (todo : List Todo) : Change → Type 0 where
+  walk-loads : (c : Change) (r : ArcRef) (place : ℕ) (through : HandleNumber) (reading : Reading) (below : List Todo) → todo ≡ to_load r place through reading ∷ below
+      → (t : LoadsTodo m.values (owner_worker v) s s' reading)
+      → (t.answer ≡ None → (load : OpenLoad) × (s.core.loads reading.load.0 ≡ Some load))
+      → (HandlesAreWhole s.core → ReadingFeels m.values s.core reading t.answer t.frames s'.core c) → WalkFeels m v s s' todo c
+  walk-sets : (r : ArcRef) (through : HandleNumber) (key height : ℕ) (below : List Todo) (row : HandleRow)
+      → todo ≡ to_set r through key height ∷ below → row_at s.core through ≡ Some row → row.owner ≡ owner_worker v → is_loose row.mode ≡ true
+      → LoadsAnew s' → WalkFeels m v s s' todo (sets_key row.node.0 key)
+  walk-rests : ((n : ℕ) (x : N) → TodoBrings m.values s.core todo n x → ⊥) → LoadsAnew s' → WalkFeels m v s s' todo nothing_felt
+
+-- some change, what the step does to the world with it, and how it is felt
+pub record WalkFelt {N B W : Type 0} (m : Seen N B W) (v : ℕ) (s s' : Site) (todo : List Todo) : Type 0 where
+  pub change : Change
+  pub goes : Goes change s.core s'.core
+  pub feels : s.todo ≡ todo → WaitsWell todo → WalkFeels m v s s' todo change
+  pub knows : HandlesAreWhole s.core → KnowsNext change s.core
+
+gives-back : {w w' : Core} (v : ℕ) (back : Option HandleNumber) → GivesBack w v back w' → Quiet w w'
+gives-back v x1 x2 = grind (arith, nat_tests, alike, schedules, works-free)
+
+module _ {w w' : Core} (v : ℕ) (r : ArcRef) where
+  at-once : (through k : HandleNumber) → PinsAtOnce w (owner_worker v) r through k w' → Quiet w w'
+  at-once through k does = elim does [
+    | inl (row, is, clone) ↦ clones (Ok k) clone
+    | inr (row, (mid, clone, pin)) ↦ quiet-then (clones (Ok through) clone) (pins (works-free v) (Ok (Pinning.Pinned k)) pin)
+  ]
+
+  by-load : (through : HandleNumber) (l : LoadNumber) → PinsByLoad w (owner_worker v) r through l w' → Goes nothing_felt w w'
+  by-load through l (row, (mid, key, clone, begin)) = quiet-begins (clones (Ok through) clone) (begins (Ok (Beginning.Load l key)) begin)
+
+  begun-number : (through : HandleNumber) (l : LoadNumber) → PinsByLoad w (owner_worker v) r through l w' → l.0 ≤ w'.last.load
+  begun-number through l (row, (mid, key, clone, begin)) = grind (arith, nat_tests)
+
+  pin-refused : (e : Error) → PinRefused w (owner_worker v) r e w' → Goes nothing_felt w w'
+  pin-refused e does = elim does [
+    | inl clone ↦ quiet-goes nothing_felt (clones (Err e) clone)
+    | inr (row, (mid, through, clone, inl pin)) ↦ quiet-goes nothing_felt (quiet-then (clones (Ok through) clone) (pins (works-free v) (Err e) pin))
+    | inr (row, (mid, through, clone, inr begin)) ↦ quiet-begins (clones (Ok through) clone) (begins (Err e) begin)
+  ]
+
+module _ {N B W : Type 0} (m : Seen N B W) (v : ℕ) (s s' : Site) where
+  abbrev WF : List Todo → Type 0
+  WF todo = WalkFelt m v s s' todo
+
+  -- nothing is felt, and this stands at the front afterwards
+  begun : {todo : List Todo} (next : List Todo) → ((n : ℕ) (x : N) → TodoBrings m.values s.core todo n x → ⊥)
+      → s'.todo ≡ next → (WaitsWell todo → front_reading next ≡ None) → Goes nothing_felt s.core s'.core → WF todo
+  begun next none is other g = record { change = nothing_felt; goes = g; feels = λ front well. walk-rests none (no-load s' next is (other well)); knows = λ whole k q n known. absurd known }
+
+  rests : {todo : List Todo} (next : List Todo) → ((n : ℕ) (x : N) → TodoBrings m.values s.core todo n x → ⊥)
+      → s'.todo ≡ next → (WaitsWell todo → front_reading next ≡ None) → Quiet s.core s'.core → WF todo
+  rests next none is other q = begun next none is other (quiet-goes nothing_felt q)
+
+  -- the load at the front makes its step
+  loads-on : (r : ArcRef) (place : ℕ) (through : HandleNumber) (reading : Reading) (below : List Todo) (step : Took W)
+      → Does m v s (to_load r place through reading ∷ below) step s' → WF (to_load r place through reading ∷ below)
+  loads-on r place through reading below step does =
+      let t = loads-todo m v s s' r place through reading below step does in
+      let f = reading-feels m s.core (owner_worker v) (works-free v) s'.core reading t.answer t.frames t.does in
+      record { change = f.change; goes = f.goes; feels = λ front well. walk-loads f.change r place through reading below refl t f.opens f.feels; knows = λ whole. reading-knows (f.feels whole) }
+
+  sets : (r : ArcRef) (through : HandleNumber) (key height : ℕ) (below next : List Todo) (told : Result (Unit {0}) Error)
+      → SetKeyCall s.core (owner_worker v) through key told s'.core → s'.todo ≡ next → front_reading next ≡ None → WF (to_set r through key height ∷ below)
+  sets r through key height below next told c is other = elim c.does [
+    | inl refused ↦ rests next (λ n x b. b) is (λ well. other) (alike refused.stays)
+    | inr (row, owns, inl (mode, done, a)) ↦ rests next (λ n x b. b) is (λ well. other) (alike a)
+    | inr (row, owns, inr (loose, f)) ↦ record {
+      change = sets_key row.node.0 key;
+      goes = goes-quiet (keyed s.core row.node key) (fell f);
+      feels = λ front well. walk-sets r through key height below row refl owns.live owns.own loose (no-load s' next is other);
+      knows = λ whole k q n known. absurd known;
+    }
+  ]
+
+  load-begins : (r : ArcRef) (place t : ℕ) (below : List Todo) (through : HandleNumber) (l : LoadNumber) → PinsByLoad s.core (owner_worker v) r through l s'.core
+      → s'.todo ≡ to_load r place through (fresh l t) ∷ below → WF (to_pin r place ∷ below)
+  load-begins r place t below through l does is =
+      record {
+        change = nothing_felt;
+        goes = by-load v r through l does;
+        feels = λ front well. walk-rests (λ n x b. b) (λ reading e.
+            let same : fresh l t ≡ reading = same_some _ _ (ap front_reading (sym is) ∙ e) in
+            subst (λ x. IsFresh s'.core x) same (refl, refl, begun-number v r through l does));
+        knows = λ whole k q n known. absurd known;
+      }
+
+  pub walk-goes : (todo : List Todo) (step : Took W) → Does m v s todo step s' → WF todo
+  walk-goes (to_start r place ∷ below) (Took.Claim i (Ok (Claim.Known key height))) (is, c) = grind (arith, nat_tests, rests, given-known, alike)
+  walk-goes (to_start r place ∷ below) (Took.Claim i (Ok Claim.Waiting)) (is, c) =
+      let t = c.finds.1.2 in
+      record { change = nothing_felt; goes = quiet-goes nothing_felt (alike t.pager_stays); feels = λ front well. walk-rests (λ n x b. b) (no-load s' _ (t.list_is ∙ front) refl); knows = λ whole k q n known. absurd known }
+  walk-goes (to_pin r place ∷ below) (Took.Pin i (Ok (PinStep.Held k))) (is, p) = rests _ (λ n x b. b) p.pins.2.list_is (λ well. refl) (at-once v r p.pins.0 k p.pins.1)
+  walk-goes (to_pin r place ∷ below) (Took.Pin i (Ok (PinStep.LoadBegun l))) (is, p) = load-begins r place _ below p.pins.0 l p.pins.1 p.pins.2.list_is
+  walk-goes (to_pin r place ∷ below) (Took.Pin i (Err f)) (is, p) = begun _ (λ n x b. b) p.refused.1.list_is (λ well. refl) (pin-refused v r f p.refused.0)
+  walk-goes (to_load r place through reading ∷ below) step does = loads-on r place through reading below step does
+  walk-goes (to_write r place through ∷ below) (Took.Write i (Ok out)) (is, p) = rests _ (λ n x b. b) p.writes.list_is (λ well. started place _ _ below refl) (alike p.writes.pager_stays)
+  walk-goes (to_set r through key height ∷ below) (Took.SetKey i (Ok u)) (is, p) = sets r through key height below _ (Ok u) p.sets p.goes.list_is refl
+  walk-goes (to_set r through key height ∷ below) (Took.SetKey i (Err f)) (is, p) = sets r through key height below _ (Err f) p.sets p.refused.list_is refl
+  walk-goes (to_release r key height ∷ below) (Took.Release i) (is, falls, g) = rests _ (λ n x b. b) g.list_is (given r key height below) (fell-anyhow falls)
+  walk-goes (to_fail fault back ∷ below) Took.Fail (gives, shelf, list_is) = rests _ (λ n x b. b) list_is (λ well. refl) (gives-back v back gives)
+  walk-goes _ step does = grind (arith, nat_tests, rests, alike, stores)
+
+-- What trees feel of each event that doesn't close the storage.
+
+-- ---- workers that come and go
+
+-- workers come and go, and loads go
+others-work : (w : Core) (loads : ℕ → Option OpenLoad) (workers : ℕ → Bool) (worker : ℕ) → w.last.worker ≤ worker → ((l : ℕ) (load : OpenLoad) → loads l ≡ Some load → w.loads l ≡ Some load)
+    → Quiet w (record w { loads = loads; workers = workers; last = record w.last { worker = worker } })
+others-work w loads workers worker more fewer = parts (le-self _) more (λ n cell is. is) fewer (λ kind key n is. is) (rows-self w.last.handle w.rows w.rows refl)
+
+worker-ends : {w w' : Core} (v : ℕ) → WorkerEnds w v w' → Quiet w w'
+worker-ends {w} {w'} v f = quiet-then (others-work w (without_worker w v).loads (without_worker w v).workers w.last.worker (omega arith) (λ l load is. left (is_workers_load v (w.loads l)) (w.loads l) load is)) (fell-anyhow f)
+  where
+    left : (b : Bool) (x : Option OpenLoad) (y : OpenLoad) → (if b then None else x) ≡ Some y → x ≡ Some y
+    left true x y is = absurd (cc)
+    left false x y is = is
+
+pub ends-quiet : {w w' : Core} (answer : Option WorkerAnswer) (v : ℕ) → Ends answer v w w' → Quiet w w'
+ends-quiet x0 v e = grind (arith, nat_tests, alike, worker-ends)
+
+starts-quiet : (u u' : World) (t : TableNumber) (task : Task) (core : Core) (v : WorkerNumber) → Quiet u.core core → Starts u t task core v u' → Quiet u.core u'.core
+starts-quiet u u' t task core v q s = quiet-then q (quiet-then (others-work core core.loads (with_worker core).workers (core.last.worker + 1) (omega arith) (λ l load is. is)) (alike s.pager))
+
+-- ---- readings
+
+module _ (u u' : World) where
+  callers-keep : ReadingsAre u.work.readings u' → (q : ℕ) (reading : Reading) → u'.work.readings q ≡ Some reading → IsReadingOf u.work reading
+  callers-keep are q reading is = of_caller q (reading-was u.work.readings u' are q reading is).0
+
+  keeps-all : ReadingsAre u.work.readings u' → ((n : ℕ) → u'.work.walkings n ≡ u.work.walkings n) → KeepsReadings u u'
+  keeps-all are same reading (of_caller q is) = inl (callers-keep are q reading is)
+  keeps-all are same reading (of_worker n place walking r through below there todo) = inl (of_worker n place walking r through below (sym (same n) ∙ there) todo)
+
+  -- one worker is another afterwards, and has at most begun a load
+  keeps-but : ReadingsAre u.work.readings u' → (k : ℕ) (now : Walking) → ((n : ℕ) → u'.work.walkings n ≡ updated k (Some now) u.work.walkings n)
+      → ((reading : Reading) → front_reading now.todo ≡ Some reading → IsFresh u'.core reading) → KeepsReadings u u'
+  keeps-but are k now same anew reading (of_caller q is) = inl (callers-keep are q reading is)
+  keeps-but are k now same anew reading (of_worker n place walking r through below there todo) = elim (at-updated k (Some now) u.work.walkings n walking (sym (same n) ∙ there)) [
+    | inl (here, e) ↦ inr (anew reading (ap front_reading (ap (λ (w : Walking). w.todo) (same_some _ _ e) ∙ todo)))
+    | inr old ↦ inl (of_worker n place walking r through below old todo)
+  ]
+
+  keeps-begun : (t : ℕ) (b : Beginning) → ReadingsAre (begun_readings b t u.work.readings) u' → ((l : LoadNumber) (k : ℕ) → b ≡ Beginning.Load l k → l.0 ≤ u'.core.last.load)
+      → ((n : ℕ) → u'.work.walkings n ≡ u.work.walkings n) → KeepsReadings u u'
+  keeps-begun t Beginning.InMemory are within same reading is = keeps-all are same reading is
+  keeps-begun t (Beginning.Load l k) are within same reading (of_worker n place walking r through below there todo) = inl (of_worker n place walking r through below (sym (same n) ∙ there) todo)
+  keeps-begun t (Beginning.Load l k) are within same reading (of_caller q is) = elim
+      (at-updated l.0 (Some (fresh l t)) u.work.readings q reading (reading-was (updated l.0 (Some (fresh l t)) u.work.readings) u' are q reading is).0) [
+        | inl (here, e) ↦ let f : fresh l t ≡ reading = same_some _ _ e in inr (subst (λ x. IsFresh u'.core x) f (refl, refl, within l k refl))
+        | inr old ↦ inl (of_caller q old)
+      ]
+
+-- a new worker has no load
+first-no-load : (task : Task) → front_reading (first_todo task) ≡ None
+first-no-load x0 = grind (arith, nat_tests, started)
+
+-- ---- events
+
+-- in no worker's list a load waits below what is done next
+abbrev pub AllWaitWell : World → Type 0
+AllWaitWell u = (n : ℕ) (walking : Walking) → u.work.walkings n ≡ Some walking → WaitsWell walking.todo
+
+-- some change, what the event does to the plain world with it, and how it is felt
+pub record EventGoes {N B W : Type 0} (m : Seen N B W) (u : World) (event : Event N B W) (reply : EventReply N B W) (u' : World) : Type 0 where
+  pub change : Change
+  pub goes : Goes change u.core u'.core
+  pub feels : IsWhole u.core → AllWaitWell u → EventFeels m.values u event reply u' change
+  pub knows : IsWhole u.core → LeavesCache event → KnowsNext change u.core
+
+module _ {N B W : Type 0} (m : Seen N B W) (u u' : World) where
+  abbrev EG : Event N B W → EventReply N B W → Type 0
+  EG event reply = EventGoes m u event reply u'
+
+  event-rests : {event : Event N B W} {reply : EventReply N B W} → ((n : ℕ) (x : N) → EventBrings m.values u event n x → IsNewNode u.core n ⊎ StaysAway u.core u'.core n)
+      → KeepsReadings u u' → Quiet u.core u'.core → EG event reply
+  event-rests brings keeps q = record { change = nothing_felt; goes = quiet-goes nothing_felt q; feels = λ whole well. by-nothing brings keeps; knows = λ whole leaves k q n known. absurd known }
+
+  stays : {event : Event N B W} {reply : EventReply N B W} → Stays u u' → EG event reply
+  stays s = event-rests (λ n x b. inr (alike-away s.core n)) (keeps-all u u' s.readings s.work.walkings) (alike s.core)
+
+  starts : {event : Event N B W} {reply : EventReply N B W} → ((n : ℕ) (x : N) → EventBrings m.values u event n x → ⊥)
+      → (t : TableNumber) (task : Task) (core : Core) (v : WorkerNumber) → Quiet u.core core → Starts u t task core v u' → EG event reply
+  starts none t task core v q s =
+      event-rests (λ n x b. absurd (none n x b)) (keeps-but u u' s.readings v.0 (new_walking t task) s.work.same_walkings (λ reading is. let first = first-no-load task in absurd (cc)))
+      (starts-quiet u u' t task core v q s)
+
+  load-starts : (h : HandleNumber) (r : Result Beginning Error) → Happens m u (Event.LoadStart h) (EventReply.Started r) u' → EG (Event.LoadStart h) (EventReply.Started r)
+  load-starts h r is = record { change = nothing_felt; goes = begins r is.step; feels = λ whole well. by-nothing (λ n x b. absurd b) (keeps-all u u' is.readings is.work.walkings); knows = λ whole leaves k q n known. absurd known }
+
+  key-starts : (key t : ℕ) (r : Result Beginning Error) → KeyStarted u key t r u' → EG (Event.LoadKey key t) (EventReply.Started r)
+  key-starts key t (Err e) is = record { change = nothing_felt; goes = begins-key (Err e) is.step; feels = λ whole well. by-nothing (λ n x b. absurd b) (keeps-all u u' is.refused is.work.walkings); knows = λ whole leaves k q n known. absurd known }
+  key-starts key t (Ok b) is = record { change = nothing_felt; goes = begins-key (Ok b) is.step; feels = λ whole well. by-nothing (λ n x b. absurd b) (keeps-begun u u' t b is.begun (within b is.step.begins) is.work.walkings); knows = λ whole leaves k q n known. absurd known }
+    where
+      within : (b : Beginning) → BeginsKey u.core Owner.Caller key b u'.core → (l : LoadNumber) (k : ℕ) → b ≡ Beginning.Load l k → l.0 ≤ u'.core.last.load
+      within Beginning.InMemory does l k is = absurd does
+      within (Beginning.Load l2 k2) does l k is = grind (arith, nat_tests)
+
+  load-steps : (l : LoadNumber) (reply : LoadReply N) → Happens m u (Event.LoadStep l) (EventReply.LoadMoved (Ok reply)) u' → EG (Event.LoadStep l) (EventReply.LoadMoved (Ok reply))
+  load-steps l reply is =
+      let x = is.moves in
+      let f = reading-feels m u.core Owner.Caller caller-free u'.core x.reading reply.ended x.frames x.does in
+      record {
+        change = f.change;
+        goes = f.goes;
+        feels = λ whole well. by-reading f.change x.reading reply.ended x.frames (stepped-load x {B = B} {W = W} whole (Event.LoadStep l) refl) f.opens (f.feels whole.handles) (steps-load x);
+        knows = λ whole leaves. reading-knows (f.feels whole.handles);
+      }
+
+  module _ (k : WorkerNumber) (reply : WorkerReply W) (s : WorkerSteps m u k reply u') where
+    abbrev site : Site
+    site = record { core = u.core; shelf = u.work.shelves s.walking.table; todo = s.walking.todo }
+
+    now : LoadsAnew s.after → KeepsReadings u u'
+    now anew =
+        let q = ends-quiet reply.answer k.0 s.ends in
+        let le = q.loads_last in
+        keeps-but u u' s.readings k.0 (record s.walking { todo = s.after.todo; steps = reply.steps; answer = reply.answer }) s.work.same_walkings
+        (λ reading is. let a = anew reading is in let b = a.2 in (a.0, a.1, omega (arith, b, le)))
+
+    worker-feels : (c : Change) → WalkFeels m k.0 site s.after s.walking.todo c → IsWhole u.core → EventFeels {B = B} m.values u (Event.WorkerStep k) (EventReply.WorkerMoved (Ok reply)) u' c
+    worker-feels c (walk-loads c2 r place through reading below todo t opens feels) whole =
+        let none : reply.answer ≡ None = s.answers ∙ ap (λ x. answer_after x reply.took) todo in
+        let last : Alike s.after.core u'.core = subst (λ a. Ends a k.0 s.after.core u'.core) none s.ends in
+        by-reading c reading t.answer t.frames (stepped-worker s (Event.WorkerStep k) refl r place through reading below todo) opens (feels-alike (feels whole.handles) last) (steps-worker s t)
+    worker-feels c (walk-sets r through key height below row todo live own loose anew) whole =
+        by-key k key row refl (record { walking = s.walking; r = r; through = through; height = height; below = below; there = s.at; sets = todo; live = live; own = own; loose = loose }) (now anew)
+    worker-feels c (walk-rests none anew) whole =
+        by-nothing (λ n x (walking, at, brings). absurd (none n x (subst (λ (z : Walking). TodoBrings m.values u.core z.todo n x) (same_some _ _ (sym at ∙ s.at)) brings))) (now anew)
+
+    worker-steps : EG (Event.WorkerStep k) (EventReply.WorkerMoved (Ok reply))
+    worker-steps =
+        let f = walk-goes m k.0 site s.after s.walking.todo reply.took s.does.does in
+        record { change = f.change; goes = goes-quiet f.goes (ends-quiet reply.answer k.0 s.ends); feels = λ whole well. worker-feels f.change (f.feels refl (well k.0 s.walking s.at)) whole; knows = λ whole leaves. f.knows whole.handles }
+
+  pub event-goes : (event : Event N B W) (reply : EventReply N B W) → KeepsOpen event → Happens m u event reply u' → EG event reply
+  event-goes (Event.Call call) (EventReply.CallReply r) open_still is =
+      let g = calls-go m u.core Owner.Caller caller-free u'.core call r open_still is.step.does in
+      record { change = g.change; goes = g.goes; feels = λ whole well. by-call g.change call r refl refl g.feels (keeps-all u u' is.readings is.work.walkings); knows = λ whole leaves. call-knows W g.feels leaves }
+  event-goes Event.TableNew (EventReply.TableMade (Ok t)) open_still is = let x = is.made in event-rests (λ n x b. absurd b) (keeps-all u u' x.2 x.3.same_walkings) (alike x.1)
+  event-goes (Event.WorkerItem t item) (EventReply.WorkerMade (Ok v)) open_still is = starts (λ n x b. b) t _ u.core v
+      (others-work u.core u.core.loads u.core.workers u.core.last.worker (omega arith) (λ l load is. is)) is.starts
+  event-goes (Event.WorkerListed t i) (EventReply.WorkerMade (Ok v)) open_still is = let x = is.starts in
+      starts (λ n x b. b) t _ _ v (some-moved u.core (only_handle x.0) (Owner.Worker v) _ (λ l is. absurd (cc))) x.5
+  event-goes event reply open_still is = grind (arith, nat_tests, stays, load-starts, key-starts, load-steps, worker-steps)
+
+-- ---- the plain world, as trees feel it
+
+pub core-goes : {w w' : Core} (c : Change) → HandlesAreWhole w → Goes c w w' → CoreGoes c w w'
+core-goes {w} {w'} c whole g =
+    record {
+      nodes = g.nodes;
+      handles = g.handles;
+      loads_last = g.loads_last;
+      old = λ n few there. was-there n (w'.cells n) refl there few;
+      new = λ n above there. comes n (w'.cells n) refl there above;
+      stored = g.stored;
+      loads = g.loads;
+      cache = g.cache;
+      rows = λ h row live few. let a = g.rows h.0 row live few in (a.was, a.live, a.at);
+      load_rows = λ h row l live mine few. let a = g.rows h.0 row live few in a.live ∙ ap Some (a.mine l mine);
+    }
+  where
+    type-is : (x : Core) (n : ℕ) (cell : Cell) → x.cells n ≡ Some cell → type_at x n ≡ Some cell.node_type
+    type-is x n cell is = ap (λ (y : Option Cell). if_there (λ (z : Cell). Some z.node_type) None y) is
+
+    key-is : (x : Core) (n : ℕ) (cell : Cell) → x.cells n ≡ Some cell → key_at x n ≡ cell.key
+    key-is x n cell is = ap (λ (y : Option Cell). if_there (λ (z : Cell). z.key) OptionalDataKey.None y) is
+
+    same : (n : ℕ) (cell : Cell) → w'.cells n ≡ Some cell → Kept c w n cell → SameNode c w w' n
+    same n cell is k = grind (arith, nat_tests, type-is, key-is, now)
+
+    was-there : (n : ℕ) (found : Option Cell) → w'.cells n ≡ found → is_some (w'.cells n) ≡ true → n ≤ w.last.node → SameNode c w w' n
+    was-there n None is there few = let e : is_some (w'.cells n) ≡ false = ap is_some is in absurd (cc)
+    was-there n (Some cell) is there few = elim (g.cells n cell is) [ inl kept ↦ same n cell is kept | inr (next, bears) ↦ absurd (omega (arith, next, few)) ]
+
+    comes : (n : ℕ) (found : Option Cell) → w'.cells n ≡ found → is_some (w'.cells n) ≡ true → w.last.node < n → NewNode c w w' n
+    comes n None is there above = let e : is_some (w'.cells n) ≡ false = ap is_some is in absurd (cc)
+    comes n (Some cell) is there above = elim (g.cells n cell is) [
+      | inl kept ↦ absurd (let few = (whole.nodes_numbered n (ap is_some kept.live)).1 in omega (arith, few, above))
+      | inr (next, bears) ↦ record { t = cell.node_type; own = cell.key; born = bears; next = next; typed = type-is w' n cell is; key = key-is w' n cell is }
+    ]
+
+-- where what workers do fits trees, no load waits below
+waits-well : (shelf : Shelf) (task : Task) (below : List Todo) → Waits shelf task below → AllWait below
+unfolding Waits AllWait
+waits-well shelf task (to_finish o ∷ below) (known, expects, waits) = waits-well shelf task below waits
+waits-well shelf task x2 waits = grind (arith, nat_tests)
+
+walks-well : {N : Type 0} (v : Values N) (g : Ground) (shelf : Shelf) (task : Task) (todo : List Todo) → Walks v g shelf task todo → WaitsWell todo
+unfolding Waits
+walks-well v g shelf task [] walks = tt
+walks-well v g shelf task (to_finish o ∷ below) (known, expects, waits) = waits-well shelf task below waits
+walks-well v g shelf task (x ∷ below) walks = grind (arith, nat_tests, waits-well)
+
+-- each event of a whole machine is felt
+pub does-feels : {N B W E : Type 0} (m : Seen N B W) (s s' : MachineState N E) (trees : ℕ → Tree) (event : Event N B W) (reply : EventReply N B W)
+    → IsMachineWhole m.values s → WorkFits m.values s trees → KeepsOpen event → DoesMoment m s event reply s' → StepFeels m.values (world_of s) event reply (world_of s')
+does-feels m s s' trees event reply whole fits open_still does =
+    let g = event-goes m (world_of s) (world_of s') event reply open_still does.step.happens in
+    let well : AllWaitWell (world_of s) = λ n walking is. walks-well m.values _ _ walking.task walking.todo (fits.walks n walking is) in
+    record { change = g.change; core = core-goes g.change whole.pager.whole.handles g.goes; feels = g.feels whole.pager.whole well }

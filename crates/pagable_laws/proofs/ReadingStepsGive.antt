@@ -1,10 +1,159 @@
+-- What loads got goes on naming nodes as it should, whatever happens.
+use Rattle.pagable_laws.proofs.Words.{◌≡◌, ℕ, zero, suc, List, [], ◌∷◌, ◌++◌, refl, sym, subst, ◌∙◌, inl, inr, arith, Option, Some, None, slice_get, ArcRef, Kind, LoadNumber, Among, HandleRow, Event}
+use Rattle.pagable_laws.proofs.Words.{EventReply, LoadAnswer, Core, Frame, Reading, World, Values, with_got, nested_frame, Change, CoreGoes, GetsRow, KeepsReadings, ReadingFeels, reads-root}
+use Rattle.pagable_laws.proofs.Words.{reads-blob, gets-known, gets-lazy, makes-known, makes-node, reading-ends, EventFeels, by-call, by-reading, by-key, nat_tests, by-nothing, GotStands, FramesHeld}
+use Rattle.pagable_laws.proofs.Words.{ReadingsHeld, ◌&&◌, ◌||◌, Bool, true, false, map, Ok, ap, not, Error, HandleNumber, is_in, if_there, Owner, is_owner, row_at, Seen, earlier, refused_if}
+use Rattle.pagable_laws.proofs.Words.{named_fault, moved, numbers_of, HandOverCall, hand_over_fault, is_owned_in, EndsRead, handles_of, Happens, HandlesAreWhole, HandsOver, ReadHolds, ◌<◌}
+use Rattle.pagable_laws.proofs.Words.{slice_get-get_or, Blob, NodeNumber, Tree, Types, type_of, LoadReply, held, OpenLoad, type_at, IsLawful, IsReference, ReadsRoot, reading_at, LoadSteps}
+use Rattle.pagable_laws.proofs.Words.{MachineState, world_of, IsMachineWhole, IsReadingOf, of_caller, StandsFor, SameTrees, FrameFits, FramesFit, ReadsItsTypes, ReadIsRight, ReadGives, ReadingsGiven}
+use Rattle.pagable_laws.proofs.Words.{◌+◌, ◌*◌, ◌≤◌, ◌⊎◌, is_eager, asks, next_in, need_of, needs_nested, needs_lazy, to_adopt, root_frame, after_kinds, Unfolds, unfolds, UnfoldsFrom, KeepsStored}
+use Rattle.pagable_laws.proofs.Words.{updated, above, Took, Written, Todo, Task, of_item, Walking, next_start, settle, give, first_todo, entry_task, new_walking, Follows, IsSome}
+use Rattle.pagable_laws.proofs.Words.{Call, Reply, one_more, gone_on, CloseCall, IsIdle, KeepsOpen, Moment, AreMoments, state_after, HasStepLeft, IsWithinBound, StepIsWithin, StepsAreWithin}
+use Rattle.pagable_laws.proofs.{Words.{LoadsHaveStepsLeft, IsFresh}, Fitting.{pushed, inside, first-fits, frames-stay, asked}, ReadingSteps.{is-reading-of, caller-free, reading-feels, reading-stands}}
+use Rattle.pagable_laws.proofs.{ReadingSteps.{AllWait, WaitsWell, AllWaitWell, EventGoes, event-goes}, Goes.{found-number, IsShut, Goes}, Outlasting.{Stands, stands-whole, stands-changed}}
+use Rattle.pagable_laws.proofs.{Outlasting.stands-fell, Sums.self-number, Decoding.decodes, Taking.{row-held, root-right, adopted-over}, KnownSteps.eager-nested, ReadingStepsKinds.kinds_of}
+use Rattle.pagable_laws.proofs.{ReadingStepsKinds.{asks-by-kinds, kinds-pushed}, Trees.same_some, Nexts.steps_follow}
+use Rattle.pagable_world.specs.{Loads.{Does as LoadDoes}, Runs.Does}
+use Rattle.std.proofs.Common.{rules}
+
+none-held : (w : Core) (l : LoadNumber) (frames : List Frame) → frames ≡ [] → FramesHeld w l frames
+none-held w l frames none frame r among got = let there = subst (λ fs. Among fs frame) none among in absurd (let e = there.1 in cc)
+
+new-held : {w : Core} {l : LoadNumber} (frame : Frame) (frames : List Frame) → frame.got ≡ [] → FramesHeld w l frames → FramesHeld w l (frame ∷ frames)
+new-held frame frames none held f r (zero, is) (place, there) = grind (arith, nat_tests)
+new-held frame frames none held f r (suc i, is) among = held f r (i, is) among
+
+module _ {c : Change} {w w' : Core} (goes : CoreGoes c w w') (l : LoadNumber) where
+  got-on : (r : ArcRef) → GotStands w l r → GotStands w' l r
+  got-on r g = record { given = let a = g.given in let b = goes.handles in omega (arith, a, b); is = λ row live own. g.is row (goes.load_rows r.handle row l live own g.given) own }
+
+  frames-on : (frames : List Frame) → FramesHeld w l frames → FramesHeld w' l frames
+  frames-on frames held frame r among got = got-on r (held frame r among got)
+
+  -- a reference that was got just now
+  got-new : (kind : Kind) (n : ℕ) (row : HandleRow) → GetsRow w w' kind n row → GotStands w' l (record { kind = kind; node = row.node; handle = row.number })
+  got-new kind n row g = grind (arith, nat_tests)
+
+  with-held : (frames : List Frame) (kind : Kind) (n : ℕ) (row : HandleRow) → FramesHeld w l frames → GetsRow w w' kind n row → FramesHeld w' l (with_got kind row frames)
+  with-held [] kind n row held g frame r (i, is) got = absurd (cc)
+  with-held (top ∷ below) kind n row held g frame r (zero, is) (place, there) =
+      let got_is : frame.got ≡ top.got ++ record { kind = kind; node = row.node; handle = row.number } ∷ [] = cc in
+      elim (pushed top.got _ place r (subst (λ (rs : List ArcRef). slice_get rs place ≡ Some r) got_is there)) [
+        | inl old ↦ got-on r (held top r (zero, refl) (place, old))
+        | inr new ↦ subst (λ (z : ArcRef). GotStands w' l z) new.1 (got-new kind n row g)
+      ]
+  with-held (top ∷ below) kind n row held g frame r (suc i, is) got = got-on r (held frame r (suc i, is) got)
+
+  under : (frames : List Frame) (top : Frame) (below : List Frame) → frames ≡ top ∷ below → FramesHeld w l frames → FramesHeld w l below
+  under frames top below is held = let h = subst (λ fs. FramesHeld w l fs) is held in λ frame r among got. h frame r (suc among.0, among.1) got
+
+no-end : {X : Type 0} {answer : Option X} {x : X} → answer ≡ None → answer ≡ Some x → ⊥
+no-end none is = let e = sym none ∙ is in cc
+
+-- what a load's step leaves
+pub held-after : {N : Type 0} {v : Values N} {w w' : Core} (reading : Reading) (answer : Option (LoadAnswer N)) (frames : List Frame) {c : Change} → CoreGoes c w w' → answer ≡ None
+    → FramesHeld w reading.load reading.frames → ReadingFeels v w reading answer frames w' c → FramesHeld w' reading.load frames
+held-after {w' = w'} reading answer frames goes none held (reads-root load blob none_read at stored a is) = grind (arith, nat_tests, new-held, none-held)
+held-after {w' = w'} reading answer frames goes none held (reads-blob kind key blob needs stored a is) =
+    subst (λ fs. FramesHeld w' reading.load fs) (sym is) (new-held (nested_frame kind key blob) reading.frames refl (frames-on goes reading.load reading.frames held))
+held-after {w' = w'} reading answer frames goes none held (gets-known kind key n row needs known got a is) =
+    subst (λ fs. FramesHeld w' reading.load fs) (sym is) (with-held goes reading.load reading.frames kind n row held got)
+held-after {w' = w'} reading answer frames goes none held (gets-lazy kind key row needs got a is) =
+    subst (λ fs. FramesHeld w' reading.load fs) (sym is) (with-held goes reading.load reading.frames kind _ row held got)
+held-after {w' = w'} reading answer frames goes none held (makes-known x r n row known got a is) =
+    subst (λ fs. FramesHeld w' reading.load fs) (sym is) (with-held goes reading.load r.below r.top.kind n row (under goes reading.load reading.frames r.top r.below r.frames held) got)
+held-after {w' = w'} reading answer frames goes none held (makes-node x r row got a is) =
+    subst (λ fs. FramesHeld w' reading.load fs) (sym is) (with-held goes reading.load r.below r.top.kind _ row (under goes reading.load reading.frames r.top r.below r.frames held) got)
+held-after reading answer frames goes none held (reading-ends end a is) = absurd (no-end none a)
+
+module _ {u u' : World} (held : ReadingsHeld u) where
+  kept : {c : Change} → CoreGoes c u.core u'.core → KeepsReadings u u' → ReadingsHeld u'
+  kept goes keeps reading is = elim (keeps reading is) [
+    | inl old ↦ frames-on goes reading.load reading.frames (held reading old)
+    | inr new ↦ none-held u'.core reading.load reading.frames new.0
+  ]
+
+module _ {N B W : Type 0} (v : Values N) {u u' : World} (held : ReadingsHeld u) where
+  pub event-held : (event : Event N B W) (reply : EventReply N B W) {c : Change} → CoreGoes c u.core u'.core → EventFeels v u event reply u' c → ReadingsHeld u'
+  event-held event reply goes (by-call c call answer called replied feels keeps) = kept held goes keeps
+  event-held event reply goes (by-key k key row is sets keeps) = kept held goes keeps
+  event-held event reply goes (by-nothing stays keeps) = kept held goes keeps
+  event-held event reply goes (by-reading c reading answer frames stepped opens feels steps) = λ after is. elim (steps after is) [
+    | inl old ↦ frames-on goes after.load after.frames (held after old)
+    | inr (none, same) ↦
+        let before : FramesHeld u.core reading.load reading.frames = elim
+        (is-reading-of u event reading stepped) [ inl there ↦ held reading there | inr begun ↦ none-held u.core reading.load reading.frames begun.0 ] in
+        subst (λ (r : Reading). FramesHeld u'.core r.load r.frames) (sym same) (held-after reading answer frames goes none before feels)
+  ]
+
+-- A load of a key that answers a value hands over the value's references: each was the load's, and is the caller's then.
+
+-- ---- nothing is said against the handles
+
+pub neither : (a b : Option Error) → earlier a b ≡ None → (a ≡ None) × (b ≡ None)
+neither x0 x1 is = grind (arith, nat_tests)
+
+-- the handle is live, and the owner's
+record IsNamed (w : Core) (owner : Owner) (h : HandleNumber) : Type 0 where
+  row : HandleRow
+  live : row_at w h ≡ Some row
+  own : row.owner ≡ owner
+
+module _ (w : Core) (owner : Owner) where
+  named-one : (seen : List ℕ) (h : HandleNumber)
+      → if_there (λ (row : HandleRow). refused_if (not (is_owner owner row.owner) || is_in seen h.0) Error.NotYours) (Some Error.NoSuchHandle) (row_at w h) ≡ None → IsNamed w owner h
+  named-one seen h none = grind (arith, nat_tests)
+
+  named : (seen : List ℕ) (hs : List HandleNumber) → named_fault w owner seen hs ≡ None → (h : HandleNumber) → Among hs h → IsNamed w owner h
+  unfolding named_fault
+  named seen [] none h (i, is) = absurd (cc)
+  named seen (x ∷ hs) none h (zero, is) = let same : x ≡ h = cc in subst (λ z. IsNamed w owner z) same (named-one seen x (neither _ _ none).0)
+  named seen (x ∷ hs) none h (suc i, is) = named (x.0 ∷ seen) hs (neither _ _ none).1 h (i, is)
+
+named-none : (w : Core) (l : LoadNumber) (hs : List HandleNumber) → hand_over_fault w Owner.Caller l hs ≡ None → named_fault w (Owner.Load l) [] hs ≡ None
+named-none w l hs none = grind (arith, nat_tests, neither)
+
+among-map : {X Y : Type 0} (f : X → Y) (xs : List X) (x : X) → Among xs x → Among (map f xs) (f x)
+among-map f (y ∷ ys) x (suc i, is) = let a = among-map f ys x (i, is) in (suc a.0, a.1)
+among-map f x1 x x3 = grind (arith, nat_tests)
+
+in-numbers : (hs : List HandleNumber) (h : HandleNumber) → Among hs h → is_in (numbers_of hs) h.0 ≡ true
+unfolding is_in
+in-numbers (x ∷ hs) h (suc i, is) = grind (arith, nat_tests, in-numbers hs h)
+in-numbers x0 h x2 = grind (arith, nat_tests, self-number)
+
+not-given : (a b : Bool) → b ≡ true → (a && not b) ≡ false
+not-given x0 b is = grind (arith, nat_tests)
+
+no-value-of-caller : (n : _) → Owner.Caller ≡ Owner.Value n → ⊥
+no-value-of-caller n is = cc
+
+-- ---- what is handed over
+
+pub hands : {w w' : Core} (l : LoadNumber) (references : List ArcRef) → HandlesAreWhole w → HandOverCall w Owner.Caller l (handles_of references) (Ok tt) w' → HandsOver w l references w'
+hands {w} {w'} l references whole c =
+    record {
+      each = λ r among.
+          let hs = handles_of references in
+          let there = among-map (λ (x : ArcRef). x.handle) references r among in
+          let n = named w (Owner.Load l) [] hs (named-none w l hs c.hands.0) r.handle there in
+          let numbered = in-numbers hs r.handle there in
+          let stood = stands-changed (λ (row : HandleRow). is_in (numbers_of hs) row.number.0) (λ row. record row { owner = Owner.Caller }) (λ h. refl) (stands-whole whole r.handle.0 n.row n.live) in
+          let moves : is_in (numbers_of hs) n.row.number.0 ≡ true = ap (is_in (numbers_of hs)) (found-number r.handle.0 w.rows n.row n.live) ∙ numbered in
+          let now : Stands w.last.handle (moved (is_in (numbers_of hs)) Owner.Caller w.rows) r.handle.0 (record n.row { owner = Owner.Caller }) = rw moves at stood in
+          let after = stands-fell c.hands.1.falls no-value-of-caller (not-given (is_owned_in w (Owner.Load l) r.handle.0) (is_in (numbers_of hs) r.handle.0) numbered) now in
+          (n.row, n.live, n.own, after.live);
+    }
+
+module _ {N B W : Type 0} (m : Seen N B W) (u u' : World) (whole : HandlesAreWhole u.core) where
+  read-ends : (reading : Reading) (answer : Option (LoadAnswer N)) (frames : _) → LoadDoes m.values u.core Owner.Caller reading answer frames u'.core → (x : N)
+      → answer ≡ Some (LoadAnswer.Read x) → EndsRead m.values u.core Owner.Caller reading x u'.core
+  read-ends reading answer frames does x is = (let P : Option (LoadAnswer N) → Type 0 = λ a. LoadDoes m.values u.core Owner.Caller reading a frames u'.core in subst P is does).0
+
+  pub reads-hold : (event : Event N B W) (reply : EventReply N B W) → Happens m u event reply u' → ReadHolds m.values u event reply u'
+  reads-hold x0 x1 h = grind (arith, nat_tests, read-ends, hands)
+
 -- A value that a load of a key answers stands for the tree that the key reads as, and the caller has its references.
-use Rattle.pagable_laws.proofs.Words.{◌≡◌, ℕ, zero, ◌<◌, [], Ok, refl, sym, ap, subst, ◌∙◌, inl, inr, arith, Option, Some, slice_get-get_or, ArcRef, Blob, LoadNumber, NodeNumber, Tree, Types}
-use Rattle.pagable_laws.proofs.Words.{Among, type_of, HandleRow, Owner, Event, EventReply, LoadReply, held, OpenLoad, Reading, Frame, type_at, Seen, IsLawful, IsReference, ReadsRoot, reading_at}
-use Rattle.pagable_laws.proofs.Words.{LoadSteps, MachineState, world_of, IsMachineWhole, IsReadingOf, of_caller, StandsFor, SameTrees, FrameFits, FramesFit, ReadsItsTypes, ReadIsRight, ReadGives}
-use Rattle.pagable_laws.proofs.{Decoding.decodes, Fitting.inside, Fitting.first-fits, Fitting.frames-stay, ReadingSteps.caller-free, ReadingSteps.reading-feels, ReadingStepsHanding.reads-hold}
-use Rattle.pagable_laws.proofs.{ReadingStepsMachine.reading-stands, Taking.row-held, Taking.root-right, Words.HandsOver, Words.ReadingsGiven, Words.ReadingsHeld}
-use Rattle.pagable_world.specs.Runs.{Does}
 
 -- the tree of each node that was got is of its kind's type
 pub got-typed : {types : Types} {stored : ℕ → Option Blob} {trees : ℕ → Tree} (frame : Frame) → FrameFits types stored trees frame → (r : ArcRef) → Among frame.got r
@@ -54,3 +203,338 @@ module _ {N E B W : Type 0} (m : Seen N B W) (lawful : IsLawful m.values) (reada
       let h = reads-hold m (world_of s) (world_of s') whole.pager.whole.handles (Event.LoadStep l) (EventReply.LoadMoved (Ok reply)) does.step.happens x ended in
       reading-right l reply does.step.happens.moves h.0 h.1 x h.2 h.3 load open_load
   reads-give event reply does = tt
+
+-- How many steps an open load still needs: at most two for each reference that its blobs still take, with all that it leads to, and one for each of its blobs.
+
+-- ---- what a blob still takes
+
+root-unfolds : {types : Types} {store : ℕ → Option Blob} {t key many longest : ℕ} → Unfolds types store t key many longest → (blob : Blob) → store key ≡ Some blob
+    → UnfoldsFrom types store t blob [] many longest
+root-unfolds {types} {store} (unfolds t key many longest other there from) blob is = subst (λ b. UnfoldsFrom types store t b [] many longest) (same_some _ _ (sym there ∙ is)) from
+
+-- it takes a reference of this kind under this key, and then the rest
+record Takes (types : Types) (store : ℕ → Option Blob) (t : ℕ) (blob : Blob) (kinds : List ℕ) (many : ℕ) (kind : Kind) (key : ℕ) : Type 0 where
+  rest : ℕ
+  longest : ℕ
+  from : UnfoldsFrom types store t blob (kinds ++ kind.0 ∷ []) rest longest
+  fewer : rest + 1 ≤ many
+  all : is_eager kind.0 ≡ true → (below deep : ℕ) × Unfolds types store (type_of kind.0) key below deep × (many ≡ 1 + below + rest)
+
+more-rest : (below rest : ℕ) → rest + 1 ≤ 1 + below + rest
+more-rest below rest = omega arith
+
+one-rest : (rest : ℕ) → rest + 1 ≤ 1 + rest
+one-rest rest = omega arith
+
+takes : {types : Types} {store : ℕ → Option Blob} {t many longest : ℕ} {blob : Blob} {kinds : List ℕ} → UnfoldsFrom types store t blob kinds many longest → (kind : Kind) (key : ℕ)
+    → after_kinds types t blob kinds ≡ asks kind key → Takes types store t blob kinds many kind key
+takes x0 kind key asked_is = grind (arith, nat_tests)
+
+-- ---- what the open blobs still need
+
+-- a blob of which references of these kinds were got, and what waits below it
+record Owing (types : Types) (store : ℕ → Option Blob) (frame : Frame) (kinds : List ℕ) (Below : ℕ → Type 0) (owed : ℕ) : Type 0 where
+  many : ℕ
+  longest : ℕ
+  more : ℕ
+  from : UnfoldsFrom types store frame.node_type frame.blob kinds many longest
+  below : Below more
+  sum : owed ≡ 2 * many + 1 + more
+
+-- blobs that wait for a reference of this kind, which is being read
+Waits : Types → (ℕ → Option Blob) → Kind → List Frame → ℕ → Type 0
+Waits types store kind [] owed = owed ≡ 0
+Waits types store kind (frame ∷ below) owed = Owing types store frame (kinds_of frame.got ++ kind.0 ∷ []) (λ more. Waits types store frame.kind below more) owed
+
+-- all of them; and where none is open yet, a root that takes so many references
+pub Owes : Types → (ℕ → Option Blob) → ℕ → List Frame → ℕ → Type 0
+Owes types store many [] owed = owed ≡ 2 * many + 2
+Owes types store many (frame ∷ below) owed = Owing types store frame (kinds_of frame.got) (λ more. Waits types store frame.kind below more) owed
+
+pub owes-first : (types : Types) (store : ℕ → Option Blob) (many : ℕ) (frames : List Frame) → frames ≡ [] → Owes types store many frames (2 * many + 2)
+unfolding Owes
+owes-first types store many frames none = subst (λ fs. Owes types store many fs (2 * many + 2)) (sym none) refl
+
+pub owes-some : (types : Types) (store : ℕ → Option Blob) (many : ℕ) (frames : List Frame) (owed : ℕ) → Owes types store many frames owed → 1 ≤ owed
+unfolding Owes
+owes-some types store many x3 owed x5 = grind (arith, nat_tests)
+
+-- it needs less afterwards
+pub record OwesLess (types : Types) (store : ℕ → Option Blob) (many : ℕ) (frames : List Frame) (owed : ℕ) : Type 0 where
+  pub now : ℕ
+  pub owes : Owes types store many frames now
+  pub less : now + 1 ≤ owed
+
+module _ (types : Types) (store : ℕ → Option Blob) (many : ℕ) where
+  owes-root : (t key longest owed : ℕ) (blob : Blob) → Unfolds types store t key many longest → store key ≡ Some blob → Owes types store many [] owed
+      → OwesLess types store many (root_frame key t blob ∷ []) owed
+  unfolding Owes Waits
+  owes-root t key longest owed blob under is o = record { now = 2 * many + 1 + 0; owes = record { many = many; longest = longest; more = 0; from = root-unfolds under blob is; below = refl; sum = refl }; less = omega arith }
+
+  owes-blob : (frames : List Frame) (kind : Kind) (key owed : ℕ) (blob : Blob) → need_of types frames ≡ needs_nested kind key → store key ≡ Some blob → Owes types store many frames owed
+      → OwesLess types store many (nested_frame kind key blob ∷ frames) owed
+  unfolding Owes Waits
+  owes-blob [] kind key owed blob needs is o = absurd (cc)
+  owes-blob (top ∷ below) kind key owed blob needs is o =
+      let t = takes o.from kind key (asks-by-kinds types top.node_type top.blob top.got kind key (asked below (next_in types top) kind key (inl needs))) in
+      let a = t.all (eager-nested below (next_in types top) kind key needs) in
+      let under : Waits types store kind (top ∷ below) (2 * t.rest + 1 + o.more) = record { many = t.rest; longest = t.longest; more = o.more; from = t.from; below = o.below; sum = refl } in
+      let s = o.sum in
+      let e = a.3 in
+      record { now = 2 * a.0 + 1 + (2 * t.rest + 1 + o.more); owes = record { many = a.0; longest = a.1; more = 2 * t.rest + 1 + o.more; from = root-unfolds a.2 blob is; below = under; sum = refl }; less = omega (arith, s, e) }
+
+  owes-got : (frames : List Frame) (kind : Kind) (key owed : ℕ) (row : HandleRow) → (need_of types frames ≡ needs_nested kind key) ⊎ (need_of types frames ≡ needs_lazy kind key)
+      → Owes types store many frames owed → OwesLess types store many (with_got kind row frames) owed
+  unfolding Owes Waits
+  owes-got [] kind key owed row (inl needs) o = absurd (cc)
+  owes-got [] kind key owed row (inr needs) o = absurd (cc)
+  owes-got (top ∷ below) kind key owed row needs o =
+      let t = takes o.from kind key (asks-by-kinds types top.node_type top.blob top.got kind key (asked below (next_in types top) kind key needs)) in
+      let s = o.sum in
+      let f = t.fewer in
+      record {
+        now = 2 * t.rest + 1 + o.more;
+        owes = record { many = t.rest; longest = t.longest; more = o.more; from = subst (λ ks. UnfoldsFrom types store top.node_type top.blob ks t.rest t.longest) (sym (kinds-pushed top.got (record { kind = kind; node = row.node; handle = row.number }))) t.from; below = o.below; sum = refl };
+        less = omega (arith, s, f);
+      }
+
+  owes-made : (top : Frame) (below : List Frame) (owed : ℕ) (row : HandleRow) → need_of types (top ∷ below) ≡ to_adopt → Owes types store many (top ∷ below) owed
+      → OwesLess types store many (with_got top.kind row below) owed
+  unfolding Owes Waits
+  owes-made top x1 owed row needs o = grind (arith, nat_tests, adopted-over, kinds-pushed)
+
+-- a load's step, where what was stored is still
+pub owes-less : {N : Type 0} {v : Values N} {w w' : Core} (store : ℕ → Option Blob) → KeepsStored w.stored store
+    → (reading : Reading) (load : OpenLoad) (frames : List Frame) (many longest owed : ℕ) {c : Change} → w.loads reading.load.0 ≡ Some load
+    → Unfolds v.types store reading.node_type load.key many longest → Owes v.types store many reading.frames owed → ReadingFeels v w reading None frames w' c → OwesLess v.types store many frames owed
+owes-less {v = v} {w} store kept reading load frames many longest owed open_load under o (reads-root l blob none_read at stored answer is) = search (rules, reads-root, owes-root)
+owes-less {v = v} store kept reading load frames many longest owed open_load under o (reads-blob kind key blob needs stored answer is) = grind (arith, nat_tests, owes-blob)
+owes-less {v = v} store kept reading load frames many longest owed open_load under o (gets-known kind key n row needs known got answer is) =
+    subst (λ fs. OwesLess v.types store many fs owed) (sym is) (owes-got v.types store many reading.frames kind key owed row needs o)
+owes-less {v = v} store kept reading load frames many longest owed open_load under o (gets-lazy kind key row needs got answer is) =
+    subst (λ fs. OwesLess v.types store many fs owed) (sym is) (owes-got v.types store many reading.frames kind key owed row (inr needs) o)
+owes-less {v = v} store kept reading load frames many longest owed open_load under o (makes-known x r n row known got answer is) = search (rules, makes-known, owes-made)
+owes-less {v = v} store kept reading load frames many longest owed open_load under o (makes-node x r row got answer is) = search (rules, makes-node, owes-made)
+owes-less store kept reading load frames many longest owed open_load under o (reading-ends end answer is) = absurd (cc)
+
+-- Below what a worker does next only written nodes and an item wait: no load.
+
+-- ---- a step of the list
+
+started-waits : (place : ℕ) (rs : List ArcRef) (x : Todo) (below : List Todo) → AllWait (x ∷ below) → WaitsWell (x ∷ below) → WaitsWell (next_start place rs ++ x ∷ below)
+started-waits place x1 x below whole rest = grind (arith, nat_tests)
+
+settle-waits : (todo : List Todo) → AllWait todo → WaitsWell (settle todo)
+unfolding AllWait
+settle-waits x0 waits = grind (arith, nat_tests, started-waits)
+
+give-waits : (r : ArcRef) (key height : ℕ) (todo : List Todo) → AllWait todo → WaitsWell (give r key height todo)
+unfolding AllWait
+give-waits r key height x3 waits = grind (arith, nat_tests, settle-waits, above)
+
+by-now : {next todo : List Todo} → next ≡ todo → WaitsWell todo → WaitsWell next
+by-now is waits = subst (λ t. WaitsWell t) (sym is) waits
+
+follows-waits : {W : Type 0} (f : W → Written) (todo : List Todo) (step : Took W) (next : List Todo) → Follows f todo step next → WaitsWell todo → WaitsWell next
+unfolding AllWait
+follows-waits f x1 x2 next x4 waits = grind (arith, nat_tests, by-now, give-waits, settle-waits)
+
+first-waits : (task : Task) → WaitsWell (first_todo task)
+unfolding AllWait
+first-waits x0 = grind (arith, nat_tests, settle-waits)
+
+-- ---- all workers
+
+module _ {N B W : Type 0} (m : Seen N B W) (u u' : World) (waits : AllWaitWell u) where
+  same : ((n : ℕ) → u'.work.walkings n ≡ u.work.walkings n) → AllWaitWell u'
+  same stay n walking is = waits n walking (sym (stay n) ∙ is)
+
+  but : (k : ℕ) (changed : Walking) → ((n : ℕ) → u'.work.walkings n ≡ updated k (Some changed) u.work.walkings n) → WaitsWell changed.todo → AllWaitWell u'
+  but k changed are new n walking is = grind (arith, nat_tests)
+
+  pub event-waits : (event : Event N B W) (reply : EventReply N B W) → Happens m u event reply u' → AllWaitWell u'
+  event-waits (Event.WorkerItem t item) (EventReply.WorkerMade (Ok v)) h = but v.0 (new_walking t _) h.starts.work.same_walkings (first-waits (of_item (m.written_of item)))
+  event-waits (Event.WorkerListed t i) (EventReply.WorkerMade (Ok v)) h = but v.0 (new_walking t _) h.starts.5.work.same_walkings (first-waits (entry_task h.starts.0 h.starts.1 h.starts.2))
+  event-waits (Event.WorkerStep v) (EventReply.WorkerMoved (Ok reply)) h =
+      let s = h.moves in
+      but v.0 (record s.walking { todo = s.after.todo; steps = reply.steps; answer = reply.answer }) s.work.same_walkings
+      (follows-waits m.written_of s.walking.todo reply.took s.after.todo
+      (steps_follow m v.0 (record { core = u.core; shelf = u.work.shelves s.walking.table; todo = s.walking.todo }) s.after reply.took s.does) (waits v.0 s.walking s.at))
+  event-waits event reply h = grind (arith, nat_tests, same)
+
+-- Each step of a load of the caller's is within its bound, and one that is open has a step left, along every chain.
+
+-- ---- one load
+
+-- its steps so far, with those that it still needs, are within the bound, whatever is stored yet
+abbrev pub Bounded : Types → (ℕ → Option Blob) → ℕ → Reading → Type 0
+Bounded types store key reading = (more : ℕ → Option Blob) → KeepsStored store more → (many longest : ℕ) → Unfolds types more reading.node_type key many longest
+    → (owed : ℕ) × Owes types more many reading.frames owed × (reading.steps + owed ≤ 2 * many + 2)
+
+bounded-on : {types : Types} {store later : ℕ → Option Blob} {key : ℕ} (reading : Reading) → KeepsStored store later → Bounded types store key reading → Bounded types later key reading
+bounded-on reading kept b more after many longest under = b more (λ q x is. after q x (kept q x is)) many longest under
+
+bounded-new : (types : Types) (store : ℕ → Option Blob) (key : ℕ) (reading : Reading) → reading.frames ≡ [] → reading.steps ≡ 0 → Bounded types store key reading
+bounded-new types store key reading none no_steps more kept many longest under = (2 * many + 2, owes-first types more many reading.frames none, omega (arith, no_steps))
+
+few-more : (n : ℕ) → one_more n ≤ n + 1
+few-more n = omega arith
+
+bounded-step : {N : Type 0} {v : Values N} {w w' : Core} {c : Change} (reading : Reading) (load : OpenLoad) (frames : List Frame) → w.loads reading.load.0 ≡ Some load
+    → Bounded v.types w.stored load.key reading → ReadingFeels v w reading None frames w' c → Bounded v.types w.stored load.key (gone_on reading frames)
+bounded-step reading load frames open_load b feels more kept many longest under = search (rules, owes-less, few-more)
+
+has-left : {types : Types} {store : ℕ → Option Blob} {key : ℕ} (reading : Reading) → Bounded types store key reading → HasStepLeft types store key reading
+has-left {types} {store} {key} reading b many longest under = search (rules, owes-some)
+
+ended-some : {X : Type 0} (answer : Option X) → (answer ≡ None → ⊥) → IsSome answer
+ended-some x0 x1 = grind (arith, nat_tests)
+
+is-within : {N : Type 0} {types : Types} {store : ℕ → Option Blob} {key : ℕ} (reading : Reading) (frames : List Frame) (reply : LoadReply N) → Bounded types store key reading
+    → (reply.ended ≡ None → Bounded types store key (gone_on reading frames)) → reply.steps ≡ one_more reading.steps
+    → IsWithinBound types store reading.node_type key reply
+is-within {types = types} {store} {key} reading frames reply b after counts many longest under = search (rules, owes-some, few-more, ended-some)
+
+-- ---- the machine's loads
+
+nothing-unfolds : {types : Types} {store : ℕ → Option Blob} {t key many longest : ℕ} → ((q : ℕ) → store q ≡ None) → Unfolds types store t key many longest → ⊥
+nothing-unfolds none (unfolds t key many longest blob there from) = let e = none key in absurd (cc)
+
+-- each load, of the caller's or of a worker's, was given its number and is bounded
+abbrev AllBounded : Types → World → Type 0
+AllBounded types u = (reading : Reading) → IsReadingOf u.work reading
+    → (reading.load.0 ≤ u.core.last.load) × ((load : OpenLoad) → u.core.loads reading.load.0 ≡ Some load → Bounded types u.core.stored load.key reading)
+
+-- so it is, or nothing is stored any more
+abbrev LoadsStand : Types → World → Type 0
+LoadsStand types u = AllWaitWell u × (IsShut u.core ⊎ AllBounded types u)
+
+closed-shut : {w w' : Core} {r : _} → CloseCall w r w' → IsShut w'
+closed-shut c = (c.falls.falls.leaves.closed, c.falls.falls.leaves.stored)
+
+keeps-open : {N B W : Type 0} (event : Event N B W) → KeepsOpen event ⊎ (event ≡ Event.Call Call.Close)
+keeps-open x0 = grind (arith, nat_tests)
+
+module _ {N E B W : Type 0} (m : Seen N B W) (s s' : MachineState N E) (whole : IsMachineWhole m.values s) where
+  abbrev u : World
+  u = world_of s
+
+  abbrev u' : World
+  u' = world_of s'
+
+  -- a load that is open afterwards was open before
+  were-open : {c : Change} → Goes c u.core u'.core → (q : ℕ) (load : OpenLoad) → q ≤ u.core.last.load → u'.core.loads q ≡ Some load → u.core.loads q ≡ Some load
+  were-open goes q load few is = elim (goes.loads q load is) [ inl same ↦ same | inr new ↦ absurd (let above = new.0 in omega (arith, few, above)) ]
+
+  module _ {c : Change} (goes : Goes c u.core u'.core) (all : AllBounded m.values.types u) where
+    old-bounded : (reading : Reading) → IsReadingOf u.work reading
+        → (reading.load.0 ≤ u'.core.last.load) × ((load : OpenLoad) → u'.core.loads reading.load.0 ≡ Some load → Bounded m.values.types u'.core.stored load.key reading)
+    old-bounded reading is =
+        let b = all reading is in
+        let few = b.0 in
+        let more = goes.loads_last in
+        (omega (arith, few, more), λ load is_open. bounded-on reading goes.stored (b.1 load (were-open goes reading.load.0 load b.0 is_open)))
+
+    kept-bounded : KeepsReadings u u' → AllBounded m.values.types u'
+    kept-bounded keeps reading is = elim (keeps reading is) [
+      | inl old ↦ old-bounded reading old
+      | inr new ↦ (new.2, λ load is_open. bounded-new m.values.types u'.core.stored load.key reading new.0 new.1)
+    ]
+
+    went-bounded : (reading : Reading) (frames : List Frame) → IsReadingOf u.work reading ⊎ IsFresh u.core reading → ReadingFeels m.values u.core reading None frames u'.core c
+        → (reading.load.0 ≤ u'.core.last.load) × ((load : OpenLoad) → u'.core.loads reading.load.0 ≡ Some load → Bounded m.values.types u'.core.stored load.key (gone_on reading frames))
+    went-bounded reading frames stands feels =
+        let before : (reading.load.0 ≤ u.core.last.load) × ((load : OpenLoad) → u.core.loads reading.load.0 ≡ Some load → Bounded m.values.types u.core.stored load.key reading) =
+        elim stands [ inl there ↦ all reading there | inr new ↦ (new.2, λ load is_open. bounded-new m.values.types u.core.stored load.key reading new.0 new.1) ]
+        in
+        let few = before.0 in
+        let more = goes.loads_last in (
+          omega (arith, few, more),
+          λ load is_open.
+              let was = were-open goes reading.load.0 load before.0 is_open in
+              bounded-on (gone_on reading frames) goes.stored (bounded-step reading load frames was (before.1 load was) feels),
+        )
+
+  -- all loads go on so
+  all-on : (event : Event N B W) (reply : EventReply N B W) {c : Change} → Goes c u.core u'.core → AllBounded m.values.types u → EventFeels m.values u event reply u' c → AllBounded m.values.types u'
+  all-on event reply goes all (by-call c call answer called replied feels keeps) = kept-bounded goes all keeps
+  all-on event reply goes all (by-key k key row is sets keeps) = kept-bounded goes all keeps
+  all-on event reply goes all (by-nothing stays keeps) = kept-bounded goes all keeps
+  all-on event reply goes all (by-reading c reading answer frames stepped opens feels steps) = λ after is. elim (steps after is) [
+    | inl old ↦ old-bounded goes all after old
+    | inr (none, same) ↦
+        let felt = subst (λ a. ReadingFeels m.values u.core reading a frames u'.core c) none feels in
+        subst (λ (r : Reading). (r.load.0 ≤ u'.core.last.load) × ((load : OpenLoad) → u'.core.loads r.load.0 ≡ Some load → Bounded m.values.types u'.core.stored load.key r)) (sym same)
+        (went-bounded goes all reading frames (is-reading-of u event reading stepped) felt)
+  ]
+
+  -- a load that makes a step was bounded, and is where it goes on
+  module _ (all : AllBounded m.values.types u) {l : LoadNumber} {reply : LoadReply N} (x : LoadSteps m.values u l reply u') (load : OpenLoad) (open_load : u.core.loads l.0 ≡ Some load) where
+    number-is : x.reading.load.0 ≡ l.0
+    number-is = elim (reading-stands u whole.pager.whole l x.reading x.at) [
+      | inl there ↦ (whole.readings l.0 x.reading there).number
+      | inr begun ↦ ap (λ (k : LoadNumber). k.0) begun.2
+    ]
+
+    was-bounded : Bounded m.values.types u.core.stored load.key x.reading
+    was-bounded = elim (reading-stands u whole.pager.whole l x.reading x.at) [
+      | inl there ↦ (all x.reading (of_caller l.0 there)).1 load (ap u.core.loads number-is ∙ open_load)
+      | inr begun ↦ bounded-new m.values.types u.core.stored load.key x.reading begun.0 begun.1
+    ]
+
+    now-bounded : reply.ended ≡ None → Bounded m.values.types u.core.stored load.key (gone_on x.reading x.frames)
+    now-bounded none = search (rules, reading-feels, caller-free, bounded-step, number-is, was-bounded)
+
+  event-on : (event : Event N B W) (reply : EventReply N B W) → Happens m u event reply u' → LoadsStand m.values.types u → LoadsStand m.values.types u'
+  event-on event reply h (waits, stands) = (
+    event-waits m u u' waits event reply h,
+    elim (keeps-open event) [
+      | inr closes ↦ inl (shut-by reply (subst (λ e. Happens m u e reply u') closes h))
+      | inl keeps ↦ on (event-goes m u u' event reply keeps h) stands
+    ],
+  )
+    where
+      shut-by : (r : EventReply N B W) → Happens m u (let e : Event N B W = Event.Call Call.Close in e) r u' → IsShut u'.core
+      shut-by (EventReply.CallReply (Reply.Done r)) c = closed-shut c.step.does
+      shut-by (EventReply.CallReply r) c = absurd c.step.does
+      shut-by r c = absurd c
+
+      on : EventGoes m u event reply u' → IsShut u.core ⊎ AllBounded m.values.types u → IsShut u'.core ⊎ AllBounded m.values.types u'
+      on g (inl shut) = inl (g.goes.shut shut)
+      on g (inr all) = inr (all-on event reply g.goes all (g.feels whole.pager.whole waits))
+
+  step-within : LoadsStand m.values.types u → (event : Event N B W) (reply : EventReply N B W) → Happens m u event reply u' → StepIsWithin m.values s event reply
+  step-within (waits, inl shut) (Event.LoadStep l) (EventReply.LoadMoved (Ok reply)) h = λ reading load at open_load many longest under. absurd (nothing-unfolds shut.1 under)
+  step-within (waits, inr all) (Event.LoadStep l) (EventReply.LoadMoved (Ok reply)) h = λ reading load at open_load.
+      let same : h.moves.reading ≡ reading = same_some _ _ (sym h.moves.at ∙ at) in
+      subst (λ (r : Reading). IsWithinBound m.values.types u.core.stored r.node_type load.key reply) same
+      (is-within h.moves.reading h.moves.frames reply (was-bounded all h.moves load open_load) (now-bounded all h.moves load open_load) h.moves.counts)
+  step-within stands event reply h = tt
+
+-- ---- chains
+
+module _ {N E B W : Type 0} (m : Seen N B W) where
+  -- what a chain ends at
+  record Ends (s : MachineState N E) : Type 0 where
+    whole : IsMachineWhole m.values s
+    stands : LoadsStand m.values.types (world_of s)
+
+  along : (s : MachineState N E) (moments : List (Moment N E B W)) → AreMoments m s moments → Ends s → StepsAreWithin m.values s moments × Ends (state_after s moments)
+  unfolding state_after
+  along s [] chain ends = (tt, ends)
+  along s (x ∷ xs) (does, chain) ends =
+      let rest = along x.after xs chain (record { whole = does.whole; stands = event-on m s x.after ends.whole x.event x.reply does.step.happens ends.stands }) in
+      ((step-within m s x.after ends.whole ends.stands x.event x.reply does.step.happens, rest.0), rest.1)
+
+  idle-stands : (s : MachineState N E) → IsIdle s → LoadsStand m.values.types (world_of s)
+  idle-stands s idle = grind (arith, nat_tests)
+
+  steps-left : (s : MachineState N E) → LoadsStand m.values.types (world_of s) → LoadsHaveStepsLeft m.values (world_of s)
+  steps-left s (waits, inl shut) reading load is is_open = λ many longest under. absurd (nothing-unfolds shut.1 under)
+  steps-left s (waits, inr all) reading load is is_open = has-left reading ((all reading is).1 load is_open)
+
+-- of a chain from where nobody works: each step of a load is within its bound, and an open load has a step left
+pub loads-bounded : {N E B W : Type 0} (m : Seen N B W) (start : MachineState N E) (moments : List (Moment N E B W)) → IsMachineWhole m.values start → IsIdle start → AreMoments m start moments
+    → StepsAreWithin m.values start moments × LoadsHaveStepsLeft m.values (world_of (state_after start moments))
+loads-bounded m start moments whole idle chain = let a = along m start moments chain (record { whole = whole; stands = idle-stands m start idle }) in
+    (a.0, steps-left m (state_after start moments) a.1.stands)

@@ -1,15 +1,19 @@
 -- Reading does the same whatever stands for references: two readers over related inputs give related meanings.
 use Rattle.pagable_laws.proofs.Words.{arith, nat_tests, ◌≡◌, ℕ, zero, suc, ◌-◌, Bool, true, false, List, [], ◌∷◌, Some, None, Result, Ok, Err, ◌⊎◌, inl, inr, refl, subst, Error, ◌>>=◌, Read}
-use Rattle.pagable_laws.proofs.Words.{unsigned_at, signed_at, length_at, text_at, bool_at, char_at, duration_at, Meaning, integer, none, variant, sequence, entry, absent, present, success, failure}
-use Rattle.pagable_laws.proofs.Words.{lifted, Entry, KeyOrder, code_order, text_order, put_all, put_sorted, put_placed, put_sorted_item, put_placed_item, of_entries, of_tagged, of_hash_map, Shape}
-use Rattle.pagable_laws.proofs.Words.{nothing, unsigned, signed, flag, letter, duration, json, optional, outcome, list, run, array, both, sorted_map, placed_map, hash_map, sorted_set, placed_set}
-use Rattle.pagable_laws.proofs.Words.{static_value, tagged, cases, nested, Rest, Look, Gets, bytes_of, reference_at, seen, two, choose, items, counted, registered, Deeper, enter, JsonCase, null_case}
-use Rattle.pagable_laws.proofs.Words.{flag_case, number_case, text_case, array_case, object_case, json_case, json_part, read_with, below, LiesIn, deepest, read, IsReadable, HasNoReference}
-use Rattle.pagable_laws.proofs.{Words.Throughout, Along.{Along, number-along, integer-along, text-along, pattern-along, none-along, pair-along, variant-along, reference-along, lifted-along}}
-use Rattle.pagable_laws.proofs.{Along.{plain-along, AllTwo, no-two, more-two, EntryAlong}, Within.{Under, here, narrowed, part_of, of_json, of_text}}
+use Rattle.pagable_laws.proofs.Words.{unsigned_at, signed_at, length_at, text_at, bool_at, char_at, duration_at, Meaning, none, variant, sequence, entry, absent, present, success}
+use Rattle.pagable_laws.proofs.Words.{failure, lifted, Entry, KeyOrder, code_order, text_order, put_all, put_sorted, put_placed, put_sorted_item, put_placed_item, of_entries, of_tagged}
+use Rattle.pagable_laws.proofs.Words.{of_hash_map, Shape, nothing, unsigned, signed, flag, letter, duration, json, optional, outcome, list, run, array, both, sorted_map, placed_map, hash_map}
+use Rattle.pagable_laws.proofs.Words.{sorted_set, placed_set, static_value, tagged, cases, nested, Rest, Look, Gets, bytes_of, reference_at, seen, two, choose, items, counted, registered, Deeper}
+use Rattle.pagable_laws.proofs.Words.{enter, JsonCase, null_case, flag_case, number_case, text_case, array_case, object_case, json_case, json_part, read_with, below, LiesIn, deepest, read}
+use Rattle.pagable_laws.proofs.Words.{IsReadable, HasNoReference, Throughout, ◌++◌, ap, ◌∙◌, append_assoc, Context, rest, with_more, IsLocal, IsUsed, IsLasting, map, sym, pair, followed, rename}
+use Rattle.pagable_laws.proofs.{Words.{Form, at, IsNatural, IsReadOver, IsRenamed, IsReadThrough, KeepsForms}, Along.{Along, number-along, integer-along, text-along, pattern-along, none-along}}
+use Rattle.pagable_laws.proofs.{Along.{pair-along, variant-along, reference-along, lifted-along, plain-along, AllTwo, no-two, more-two, EntryAlong, followed-along, form-along}, Again.Under}
+use Rattle.pagable_laws.proofs.{Again.{here, narrowed, part_of, of_json, of_text}, Tame.{Goes, Uses, Tame, Joins, gives, refuses, and_then, more_bytes, TameBytes, unsigned_tame, signed_tame}}
+use Rattle.pagable_laws.proofs.Tame.{bool_tame, length_tame, text_tame, char_tame, duration_tame}
 use Rattle.std.{proofs.Common.rules, specs.Int.{w32, w64}, specs.List.AllByRecursion}
 use Rattle.pagable_model.specs.Meaning as meanings
 use Rattle.pagable_model.specs.Shape as shapes
+use Rattle.std.specs.Int.{w32, w64}
 
 -- ---- what is put into maps and sets
 
@@ -66,6 +70,77 @@ module _ {A B : Type 0} {F : Type 0} {R : A → B → Type 0} where
 
 -- ---- readers
 
+-- no cause; and any, where what comes of a refusal isn't asked
+abbrev pub no_cause : Error → Type 0
+no_cause e = ⊥
+
+abbrev pub any_cause : Error → Type 0
+any_cause e = Unit {0}
+
+module _ {A : Type 0} where
+  abbrev pub more : Rest A → Rest A → Rest A
+  more a b = with_more a b.bytes b.refs
+
+  abbrev pub ended : Rest A
+  ended = rest [] []
+
+  abbrev pub TameGets : {X : Type 0} → Gets A X → Type 0
+  TameGets get = Tame more ended get
+
+  pub joins : Joins more ended
+  joins = record { assoc = λ a b c. rw (append_assoc a.bytes b.bytes c.bytes, append_assoc a.refs b.refs c.refs) refl; start = λ a. refl }
+
+-- a reader that does the same
+module _ {A X : Type 0} {get get2 : Gets A X} (h : TameGets get) (is : (i : Rest A) → get2 i ≡ get i) where
+  uses_of : (i : Rest A) (r : Result (X × Rest A) Error) → Uses more ended get i r → Uses more ended get2 i r
+  unfolding Uses
+  uses_of i (Ok p) u = record { used = u.used; whole = u.whole; alone = is u.used ∙ u.alone }
+  uses_of i (Err e) u = tt
+
+  pub likewise : TameGets get2
+  likewise = record { goes = λ i x. rw (is, is) (h.goes i x); uses = λ i. rw is (uses_of i (get i) (h.uses i)) }
+
+module _ {A X Y : Type 0} (read : List ℕ → Read X) (view : X → Y) (h : TameBytes read) where
+  bytes_go : (i x : Rest A) (first second : Read X) → Goes more_bytes x.bytes first second
+      → Goes more x (first >>= λ p. let z : Result (Y × Rest A) Error = Ok (view p.0, record i { bytes = p.1 }) in z)
+      (second >>= λ p. let z : Result (Y × Rest A) Error = Ok (view p.0, record (more i x) { bytes = p.1 }) in z)
+  unfolding Goes
+  bytes_go i x x2 second x4 = grind (arith, nat_tests)
+
+  bytes_use : (i : Rest A) (first : Read X) → Uses more_bytes [] read i.bytes first → Uses more ended (bytes_of read view) i
+      (first >>= λ p. let z : Result (Y × Rest A) Error = Ok (view p.0, record i { bytes = p.1 }) in z)
+  unfolding Uses
+  bytes_use i (Ok p) g = record { used = rest g.used []; whole = ap (λ (b : List ℕ). rest b i.refs) g.whole; alone = rw g.alone refl }
+  bytes_use i (Err e) g = tt
+
+  pub of_bytes : TameGets {A = A} (bytes_of read view)
+  of_bytes = record { goes = λ i x. bytes_go i x (read i.bytes) (read (i.bytes ++ x.bytes)) (h.goes i.bytes x.bytes); uses = λ i. bytes_use i (read i.bytes) (h.uses i.bytes) }
+
+module _ {A B : Type 0} (look : Look A B) where
+  look_goes : (kind : ℕ) (a : A) (bytes : List ℕ) (refs : List A) (x : Rest A) (r : Result B Error)
+      → Goes more x (r >>= λ b. let z : Result (Meaning B × Rest A) Error = Ok (meanings.reference b, rest bytes refs) in z)
+      (r >>= λ b. let z : Result (Meaning B × Rest A) Error = Ok (meanings.reference b, rest (bytes ++ x.bytes) (refs ++ x.refs)) in z)
+  unfolding Goes
+  look_goes kind a bytes refs x x5 = grind (arith, nat_tests)
+
+  reference_goes : (kind : ℕ) (bytes : List ℕ) (refs : List A) (x : Rest A)
+      → Goes more x (reference_at look kind refs (rest bytes refs)) (reference_at look kind (refs ++ x.refs) (more (rest bytes refs) x))
+  unfolding Goes
+  reference_goes kind bytes x2 x = grind (arith, nat_tests, look_goes)
+
+  reference_uses : (kind : ℕ) (bytes : List ℕ) (refs : List A) → Uses more ended (λ i. reference_at look kind i.refs i) (rest bytes refs) (reference_at look kind refs (rest bytes refs))
+  unfolding Uses
+  reference_uses kind bytes [] = tt
+  reference_uses kind bytes (a ∷ refs) = used (look kind a) refl
+    where
+      used : (r : Result B Error) → look kind a ≡ r
+          → Uses more ended (λ i. reference_at look kind i.refs i) (rest bytes (a ∷ refs)) (r >>= λ b. let z : Result (Meaning B × Rest A) Error = Ok (meanings.reference b, rest bytes refs) in z)
+      used (Ok b) e = record { used = rest [] (a ∷ []); whole = refl; alone = rw e refl }
+      used (Err f) e = tt
+
+  reference_tame : (kind : ℕ) → TameGets (λ i. reference_at look kind i.refs i)
+  reference_tame kind = record { goes = λ i x. reference_goes kind i.bytes i.refs x; uses = λ i. reference_uses kind i.bytes i.refs }
+
 -- as many bytes, and what stands for references as S says
 pub record SameRest {A B : Type 0} (S : A → B → Type 0) (r : Rest A) (q : Rest B) : Type 0 where
   pub bytes : q.bytes ≡ r.bytes
@@ -77,9 +152,10 @@ pub data Out {A B X Y : Type 0} (E : Error → Type 0) (S : A → B → Type 0) 
   both-refused : (e : Error) → Out E S V (Err e) (Err e)
   first-refused : (e : Error) (r : Result (Y × Rest B) Error) → E e → Out E S V (Err e) r
 
--- readers that do so on related inputs
+-- readers that do so on related inputs, the first of which is local: its faults stay, and what it reads of a front it reads of the whole
 pub record Par {A B X Y : Type 0} (E : Error → Type 0) (S : A → B → Type 0) (V : X → Y → Type 0) (get : Gets A X) (get2 : Gets B Y) : Type 0 where
   pub out : (r : Rest A) (q : Rest B) → SameRest S r q → Out E S V (get r) (get2 q)
+  pub tame : TameGets get
 
 module _ {A B : Type 0} {E : Error → Type 0} {S : A → B → Type 0} where
   bind-out : {X Y U W : Type 0} {V : X → Y → Type 0} {V2 : U → W → Type 0} {first : Result (X × Rest A) Error} {second : Result (Y × Rest B) Error} (f : X × Rest A → Result (U × Rest A) Error)
@@ -91,53 +167,64 @@ module _ {A B : Type 0} {E : Error → Type 0} {S : A → B → Type 0} where
 
   pub gives_par : {X Y : Type 0} {V : X → Y → Type 0} (v : X) (w : Y) → V v w
       → Par E S V (λ i. let r : Result (X × Rest A) Error = Ok (v, i) in r) (λ i. let r : Result (Y × Rest B) Error = Ok (w, i) in r)
-  gives_par v w h = record { out = λ r q s. both-given (v, r) (w, q) h s }
+  gives_par v w h = record { out = λ r q s. both-given (v, r) (w, q) h s; tame = gives joins v }
 
   pub refuses_par : {X Y : Type 0} (V : X → Y → Type 0) (e : Error) → Par E S V (λ i. let r : Result (X × Rest A) Error = Err e in r) (λ i. let r : Result (Y × Rest B) Error = Err e in r)
-  refuses_par V e = record { out = λ r q s. both-refused e }
+  refuses_par {X} V e = record { out = λ r q s. both-refused e; tame = refuses joins X e }
 
   -- one after the other
   module _ {X Y U W : Type 0} {V : X → Y → Type 0} {V2 : U → W → Type 0} {get : Gets A X} {get2 : Gets B Y} (f : X → Gets A U) (g : Y → Gets B W) (whole : Gets A U) (whole2 : Gets B W)
       (is : (i : Rest A) → whole i ≡ (get i >>= λ p. f p.0 p.1)) (is2 : (i : Rest B) → whole2 i ≡ (get2 i >>= λ p. g p.0 p.1)) (h : Par E S V get get2)
-      (k : (v : X) (w : Y) → V v w → Par E S V2 (f v) (g w)) where
+      (k : (v : X) (w : Y) → V v w → Par E S V2 (f v) (g w)) (t : (v : X) → TameGets (f v)) where
     pub then_par : Par E S V2 whole whole2
-    then_par = record { out = λ r q s. rw (is, is2) (bind-out _ _ (h.out r q s) (λ p o v t. (k p.0 o.0 v).out p.1 o.1 t)) }
+    then_par = record { out = λ r q s. rw (is, is2) (bind-out _ _ (h.out r q s) (λ p o v t. (k p.0 o.0 v).out p.1 o.1 t)); tame = and_then joins f whole is h.tame t }
 
   -- one after the other, where both give the same first
-  module _ {X U W : Type 0} {V2 : U → W → Type 0} {get : Gets A X} {get2 : Gets B X} (f : X → Gets A U) (g : X → Gets B W) (whole : Gets A U) (whole2 : Gets B W)
+  module _ {X U W : Type 0} {V2 : U → W → Type 0} {get : Gets A X} {get2 : Gets B X} {f : X → Gets A U} {g : X → Gets B W} {whole : Gets A U} {whole2 : Gets B W}
       (is : (i : Rest A) → whole i ≡ (get i >>= λ p. f p.0 p.1)) (is2 : (i : Rest B) → whole2 i ≡ (get2 i >>= λ p. g p.0 p.1)) (h : Par E S (λ (v w : X). v ≡ w) get get2)
       (k : (v : X) → Par E S V2 (f v) (g v)) where
     pub then_same : Par E S V2 whole whole2
-    then_same = then_par f g whole whole2 is is2 h (λ v w e. let P : X → Type 0 = λ z. Par E S V2 (f v) (g z) in subst P e (k v))
+    then_same = then_par f g whole whole2 is is2 h (λ v w e. let P : X → Type 0 = λ z. Par E S V2 (f v) (g z) in subst P e (k v)) (λ v. (k v).tame)
 
   pub likewise_par : {X Y : Type 0} {V : X → Y → Type 0} {get whole : Gets A X} {get2 whole2 : Gets B Y} → Par E S V get get2 → ((i : Rest A) → whole i ≡ get i)
       → ((i : Rest B) → whole2 i ≡ get2 i) → Par E S V whole whole2
-  likewise_par h is is2 = record { out = λ r q s. rw (is, is2) (h.out r q s) }
+  likewise_par h is is2 = record { out = λ r q s. rw (is, is2) (h.out r q s); tame = likewise h.tame is }
 
-  pub bytes_par : {X Y Z : Type 0} {V : X → Y → Type 0} (read : List ℕ → Read Z) (view : Z → X) (view2 : Z → Y) → ((z : Z) → V (view z) (view2 z))
+  pub bytes_par : {X Y Z : Type 0} {V : X → Y → Type 0} (read : List ℕ → Read Z) → TameBytes read → (view : Z → X) (view2 : Z → Y) → ((z : Z) → V (view z) (view2 z))
       → Par E S V (bytes_of read view) (bytes_of read view2)
-  bytes_par {X} {Y} {Z} {V} read view view2 h = search (rules, both-given, both-refused)
+  bytes_par {X} {Y} {Z} {V} read t view view2 h = record { out = search (rules, both-given, both-refused); tame = of_bytes read view t }
 
-  pub bytes_same : {Z : Type 0} (read : List ℕ → Read Z) → Par E S (λ (v w : Z). v ≡ w) (bytes_of read (λ z. z)) (bytes_of read (λ z. z))
-  bytes_same read = bytes_par read _ _ (λ z. refl)
+  pub bytes_same : {Z : Type 0} (read : List ℕ → Read Z) → TameBytes read → Par E S (λ (v w : Z). v ≡ w) (bytes_of read (λ z. z)) (bytes_of read (λ z. z))
+  bytes_same read t = bytes_par read t _ _ (λ z. refl)
 
   pub seen_par : {X Y U W : Type 0} {V : X → Y → Type 0} {V2 : U → W → Type 0} {get : Gets A X} {get2 : Gets B Y} (view : X → U) (view2 : Y → W)
       → ((v : X) (w : Y) → V v w → V2 (view v) (view2 w)) → Par E S V get get2 → Par E S V2 (seen view get) (seen view2 get2)
-  seen_par view view2 k h = then_par (λ v i. Ok (view v, i)) (λ w i. Ok (view2 w, i)) _ _ (λ i. refl) (λ i. refl) h (λ v w r. gives_par (view v) (view2 w) (k v w r))
+  seen_par view view2 k h = then_par (λ v i. Ok (view v, i)) (λ w i. Ok (view2 w, i)) _ _ (λ i. refl) (λ i. refl) h (λ v w r. gives_par (view v) (view2 w) (k v w r)) (λ v. gives joins (view v))
 
   pub choose_par : {X Y : Type 0} {V : X → Y → Type 0} (t : Bool) {get other : Gets A X} {get2 other2 : Gets B Y} → (t ≡ true → Par E S V get get2)
       → (t ≡ false → Par E S V other other2) → Par E S V (choose t get other) (choose t get2 other2)
   choose_par x0 h g = grind (arith, nat_tests, likewise_par)
+
+  -- what is read first says which of two is read then
+  known_par : {X Y Z : Type 0} {V : X → Y → Type 0} (read : List ℕ → Read Z) → TameBytes read → (known : Z → Bool) {get other : Z → Gets A X} {get2 other2 : Z → Gets B Y}
+      {whole : Gets A X} {whole2 : Gets B Y}
+      → ((i : Rest A) → whole i ≡ (bytes_of read (λ z. z) i >>= λ p. choose (known p.0) (get p.0) (other p.0) p.1))
+      → ((i : Rest B) → whole2 i ≡ (bytes_of read (λ z. z) i >>= λ p. choose (known p.0) (get2 p.0) (other2 p.0) p.1))
+      → ((z : Z) → known z ≡ true → Par E S V (get z) (get2 z)) → ((z : Z) → Par E S V (other z) (other2 z)) → Par E S V whole whole2
+  known_par read t known {get} {other} {get2} {other2} is is2 h g =
+      then_same {f = λ z. choose (known z) (get z) (other z)} {g = λ z. choose (known z) (get2 z) (other2 z)} is is2 (bytes_same read t) (λ z. choose_par (known z) (h z) (λ e. g z))
 
   pub items_par : {X Y : Type 0} {V : X → Y → Type 0} {get : Gets A X} {get2 : Gets B Y} → Par E S V get get2 → (n : ℕ) → Par E S (AllTwo V) (items get n) (items get2 n)
   unfolding items
   items_par h zero = gives_par [] [] no-two
   items_par {X} {Y} {V} {get} {get2} h (suc n) =
       then_par (λ v i. items get n i >>= λ others. Ok (v ∷ others.0, others.1)) (λ w i. items get2 n i >>= λ others. Ok (w ∷ others.0, others.1)) _ _ (λ i. refl) (λ i. refl) h
-      (λ v w r. then_par (λ vs i. Ok (v ∷ vs, i)) (λ ws i. Ok (w ∷ ws, i)) _ _ (λ i. refl) (λ i. refl) (items_par h n) (λ vs ws rs. gives_par (v ∷ vs) (w ∷ ws) (more-two v w vs ws r rs)))
+      (λ v w r. then_par (λ vs i. Ok (v ∷ vs, i)) (λ ws i. Ok (w ∷ ws, i)) _ _ (λ i. refl) (λ i. refl) (items_par h n)
+      (λ vs ws rs. gives_par (v ∷ vs) (w ∷ ws) (more-two v w vs ws r rs)) (λ vs. gives joins (v ∷ vs)))
+      (λ v. and_then joins (λ others i. Ok (v ∷ others, i)) _ (λ i. refl) (items_par h n).tame (λ others. gives joins (v ∷ others)))
 
   pub counted_par : {X Y : Type 0} {V : X → Y → Type 0} {get : Gets A X} {get2 : Gets B Y} → Par E S V get get2 → Par E S (AllTwo V) (counted get) (counted get2)
-  counted_par {X} {Y} {V} {get} {get2} h = then_same (λ n i. items get n i) (λ n i. items get2 n i) _ _ (λ i. refl) (λ i. refl) (bytes_same length_at) (λ n. items_par h n)
+  counted_par h = then_same (λ i. refl) (λ i. refl) (bytes_same length_at length_tame) (λ n. items_par h n)
 
 -- ---- values
 
@@ -182,7 +269,9 @@ module _ {A B C D : Type 0} {E : Error → Type 0} {F : Type 0} {S : A → B →
       → Par E S (EntryAlong F R) (two get other) (two get2 other2)
   entry_par {get} {get2} {other} {other2} h g =
       then_par (λ v i. other i >>= λ y. Ok ((v, y.0), y.1)) (λ v i. other2 i >>= λ y. Ok ((v, y.0), y.1)) _ _ (λ i. refl) (λ i. refl) h
-      (λ m n r. then_par (λ w i. Ok ((m, w), i)) (λ w i. Ok ((n, w), i)) _ _ (λ i. refl) (λ i. refl) g (λ x y q. gives_par (m, x) (n, y) (record { key = r; value = q })))
+      (λ m n r. then_par (λ w i. Ok ((m, w), i)) (λ w i. Ok ((n, w), i)) _ _ (λ i. refl) (λ i. refl) g (λ x y q. gives_par (m, x) (n, y) (record { key = r; value = q }))
+      (λ w. gives joins (m, w)))
+      (λ v. and_then joins (λ w i. Ok ((v, w), i)) _ (λ i. refl) g.tame (λ w. gives joins (v, w)))
 
   registered_par : (registry : List (Meaning ⊥)) → F ⊎ AllByRecursion HasNoReference registry → (n : ℕ) (c : Result (Meaning ⊥) Error) → registered registry n ≡ c
       → Par E S (Along F R) (λ (i : Rest A). c >>= λ m. let z : Result (Meaning C × Rest A) Error = Ok (lifted m, i) in z)
@@ -201,7 +290,7 @@ module _ {A B C D : Type 0} {E : Error → Type 0} {F : Type 0} {S : A → B →
     reference_out kind r q e (more-two a b k l s h) = look_par (record { bytes = e; refs = h }) (alike kind a b s)
 
     reference_par : (kind : ℕ) → Par E S (Along F R) (λ i. reference_at look kind i.refs i) (λ i. reference_at look2 kind i.refs i)
-    reference_par kind = record { out = λ r q s. reference_out kind r q s.bytes s.refs }
+    reference_par kind = record { out = λ r q s. reference_out kind r q s.bytes s.refs; tame = reference_tame look kind }
 
   module _ {parts : ℕ → Shape} where
     enter_par : {X Y : Type 0} {V : X → Y → Type 0} {d : Deeper A C} {d2 : Deeper B D} (part : (Shape → Gets A (Meaning C)) → Gets A X) (part2 : (Shape → Gets B (Meaning D)) → Gets B Y)
@@ -214,22 +303,19 @@ module _ {A B C D : Type 0} {E : Error → Type 0} {F : Type 0} {S : A → B →
     json_par : {d : Deeper A C} {d2 : Deeper B D} → DeeperPar E F S R parts d d2 → (case : JsonCase) → Par E S (Along F R) (json_part d case) (json_part d2 case)
     unfolding IsReadable
     json_par h null_case = likewise_par (gives_par _ _ (variant-along _ _ _ none-along)) (λ i. refl) (λ i. refl)
-    json_par h flag_case = likewise_par (bytes_par bool_at _ _ (λ b. variant-along _ _ _ (flag-same b))) (λ i. refl) (λ i. refl)
+    json_par h flag_case = likewise_par (bytes_par bool_at bool_tame _ _ (λ b. variant-along _ _ _ (flag-same b))) (λ i. refl) (λ i. refl)
     json_par h number_case =
-        then_same (λ float i. choose float (λ r. Err Error.JsonNumber) (bytes_of (signed_at w64) (λ z. variant 2 (integer z))) i)
-        (λ float i. choose float (λ r. Err Error.JsonNumber) (bytes_of (signed_at w64) (λ z. variant 2 (integer z))) i) _ _
-        (λ i. refl) (λ i. refl) (bytes_same bool_at)
-        (λ float. choose_par float (λ e. refuses_par (Along F R) Error.JsonNumber) (λ e. bytes_par (signed_at w64) _ _ (λ z. variant-along _ _ _ (integer-along z))))
-    json_par h text_case = likewise_par (bytes_par text_at _ _ (λ t. variant-along _ _ _ (text-along t))) (λ i. refl) (λ i. refl)
+        known_par bool_at bool_tame (λ float. float) (λ i. refl) (λ i. refl) (λ float e. refuses_par (Along F R) Error.JsonNumber)
+        (λ float. bytes_par (signed_at w64) (signed_tame w64) _ _ (λ z. variant-along _ _ _ (integer-along z)))
+    json_par h text_case = likewise_par (bytes_par text_at text_tame _ _ (λ t. variant-along _ _ _ (text-along t))) (λ i. refl) (λ i. refl)
     json_par {d} {d2} h array_case =
-        then_same (λ count i. enter d (λ get. seen (λ ms. variant 4 (sequence ms)) (items (get json) count)) i)
-        (λ count i. enter d2 (λ get. seen (λ ms. variant 4 (sequence ms)) (items (get json) count)) i) _ _
-        (λ i. refl) (λ i. refl) (bytes_same length_at)
+        then_same {f = λ count. enter d (λ get. seen (λ ms. variant 4 (sequence ms)) (items (get json) count))}
+        {g = λ count. enter d2 (λ get. seen (λ ms. variant 4 (sequence ms)) (items (get json) count))} (λ i. refl) (λ i. refl) (bytes_same length_at length_tame)
         (λ count. enter_par _ _ h (λ get get2 g. seen_par _ _ (λ ms ns r. variant-along _ _ _ (sequence-two r)) (items_par (g json (inr (of_json tt))) count)))
     json_par {d} {d2} h object_case =
-        then_same (λ count i. enter d (λ get. seen (λ es. variant 5 (of_entries (put_all (put_sorted text_order) [] es))) (items (two (get shapes.text) (get json)) count)) i)
-        (λ count i. enter d2 (λ get. seen (λ es. variant 5 (of_entries (put_all (put_sorted text_order) [] es))) (items (two (get shapes.text) (get json)) count)) i) _ _
-        (λ i. refl) (λ i. refl) (bytes_same length_at)
+        then_same {f = λ count. enter d (λ get. seen (λ es. variant 5 (of_entries (put_all (put_sorted text_order) [] es))) (items (two (get shapes.text) (get json)) count))}
+        {g = λ count. enter d2 (λ get. seen (λ es. variant 5 (of_entries (put_all (put_sorted text_order) [] es))) (items (two (get shapes.text) (get json)) count))} (λ i. refl)
+        (λ i. refl) (bytes_same length_at length_tame)
         (λ count. enter_par _ _ h
         (λ get get2 g. seen_par _ _ (λ es fs r. variant-along _ _ _ (sorted-two text_order r)) (items_par (entry_par (g shapes.text (inr (of_text tt))) (g json (inr (of_json tt)))) count)))
 
@@ -242,26 +328,21 @@ module _ {A B C D : Type 0} {E : Error → Type 0} {F : Type 0} {S : A → B →
       pub with_par : {d : Deeper A C} {d2 : Deeper B D} → DeeperPar E F S R parts d d2 → (s : Shape) → Covers F parts s → Par E S (Along F R) (read_with look parts d s) (read_with look2 parts d2 s)
       unfolding read_with IsReadable LiesIn
       with_par h nothing t = likewise_par (gives_par none none none-along) (λ i. refl) (λ i. refl)
-      with_par h (unsigned w) t = likewise_par (bytes_par (unsigned_at w) _ _ (λ n. number-along n)) (λ i. refl) (λ i. refl)
-      with_par h (signed w) t = likewise_par (bytes_par (signed_at w) _ _ (λ z. integer-along z)) (λ i. refl) (λ i. refl)
-      with_par h flag t = likewise_par (bytes_par bool_at _ _ flag-same) (λ i. refl) (λ i. refl)
-      with_par h shapes.text t = likewise_par (bytes_par text_at _ _ (λ b. text-along b)) (λ i. refl) (λ i. refl)
-      with_par h letter t = likewise_par (bytes_par char_at _ _ (λ c. number-along c)) (λ i. refl) (λ i. refl)
-      with_par h duration t = likewise_par (bytes_par duration_at _ _ (λ p. pair-along _ _ _ _ (number-along p.0) (number-along p.1))) (λ i. refl) (λ i. refl)
-      with_par h shapes.pattern t = likewise_par (bytes_par text_at _ _ (λ b. pattern-along b)) (λ i. refl) (λ i. refl)
+      with_par h (unsigned w) t = likewise_par (bytes_par (unsigned_at w) (unsigned_tame w) _ _ (λ n. number-along n)) (λ i. refl) (λ i. refl)
+      with_par h (signed w) t = likewise_par (bytes_par (signed_at w) (signed_tame w) _ _ (λ z. integer-along z)) (λ i. refl) (λ i. refl)
+      with_par h flag t = likewise_par (bytes_par bool_at bool_tame _ _ flag-same) (λ i. refl) (λ i. refl)
+      with_par h shapes.text t = likewise_par (bytes_par text_at text_tame _ _ (λ b. text-along b)) (λ i. refl) (λ i. refl)
+      with_par h letter t = likewise_par (bytes_par char_at char_tame _ _ (λ c. number-along c)) (λ i. refl) (λ i. refl)
+      with_par h duration t = likewise_par (bytes_par duration_at duration_tame _ _ (λ p. pair-along _ _ _ _ (number-along p.0) (number-along p.1))) (λ i. refl) (λ i. refl)
+      with_par h shapes.pattern t = likewise_par (bytes_par text_at text_tame _ _ (λ b. pattern-along b)) (λ i. refl) (λ i. refl)
       with_par {d} {d2} h json t =
-          then_same (λ n i. json_case n >>= λ case. json_part d case i) (λ n i. json_case n >>= λ case. json_part d2 case i) _ _ (λ i. refl) (λ i. refl) (bytes_same (unsigned_at w64))
-          (λ n. json_cases h (json_case n))
-      with_par {d} {d2} h (optional s) t =
-          then_same (λ some i. choose some (seen present (read_with look parts d s)) (λ r. Ok (absent, r)) i)
-          (λ some i. choose some (seen present (read_with look2 parts d2 s)) (λ r. Ok (absent, r)) i) _ _ (λ i. refl) (λ i. refl) (bytes_same bool_at)
-          (λ some. choose_par some (λ e. seen_par present present (λ m n r. variant-along _ _ _ r) (with_par h s (over (λ p. p) (λ n d l. l) t)))
-          (λ e. gives_par absent absent (variant-along _ _ _ none-along)))
-      with_par {d} {d2} h (outcome s s2) t =
-          then_same (λ ok i. choose ok (seen success (read_with look parts d s)) (seen failure (read_with look parts d s2)) i)
-          (λ ok i. choose ok (seen success (read_with look2 parts d2 s)) (seen failure (read_with look2 parts d2 s2)) i) _ _ (λ i. refl) (λ i. refl) (bytes_same bool_at)
-          (λ ok. choose_par ok (λ e. seen_par success success (λ m n r. variant-along _ _ _ r) (with_par h s (over (λ p. p.0) (λ n d l. l.0) t)))
-          (λ e. seen_par failure failure (λ m n r. variant-along _ _ _ r) (with_par h s2 (over (λ p. p.1) (λ n d l. l.1) t))))
+          then_same (λ i. refl) (λ i. refl) (bytes_same (unsigned_at w64) (unsigned_tame w64)) (λ n. json_cases h (json_case n))
+      with_par h (optional s) t =
+          known_par bool_at bool_tame (λ some. some) (λ i. refl) (λ i. refl) (λ some e. seen_par present present (λ m n r. variant-along _ _ _ r) (with_par h s (over (λ p. p) (λ n d l. l) t)))
+          (λ some. gives_par absent absent (variant-along _ _ _ none-along))
+      with_par h (outcome s s2) t =
+          known_par bool_at bool_tame (λ ok. ok) (λ i. refl) (λ i. refl) (λ ok e. seen_par success success (λ m n r. variant-along _ _ _ r) (with_par h s (over (λ p. p.0) (λ n d l. l.0) t)))
+          (λ ok. seen_par failure failure (λ m n r. variant-along _ _ _ r) (with_par h s2 (over (λ p. p.1) (λ n d l. l.1) t)))
       with_par h (list s) t = likewise_par (seen_par sequence sequence (λ ms ns r. sequence-two r) (counted_par (with_par h s (over (λ p. p) (λ n d l. l) t)))) (λ i. refl) (λ i. refl)
       with_par h (run s) t = likewise_par (refuses_par (Along F R) Error.WrongKind) (λ i. refl) (λ i. refl)
       with_par h (array n s) t = likewise_par (seen_par sequence sequence (λ ms ns r. sequence-two r) (items_par (with_par h s (over (λ p. p) (λ n d l. l) t)) n)) (λ i. refl) (λ i. refl)
@@ -281,21 +362,14 @@ module _ {A B C D : Type 0} {E : Error → Type 0} {F : Type 0} {S : A → B →
       with_par h (sorted_set order s) t = likewise_par (seen_par _ _ (λ ms ns r. sorted_items-two order r) (counted_par (with_par h s (over (λ p. p) (λ n d l. l) t)))) (λ i. refl) (λ i. refl)
       with_par h (placed_set s) t = likewise_par (seen_par _ _ (λ ms ns r. placed_items-two r) (counted_par (with_par h s (over (λ p. p) (λ n d l. l) t)))) (λ i. refl) (λ i. refl)
       with_par h (static_value registry) t =
-          then_same (λ n i. registered registry n >>= λ m. Ok (lifted m, i)) (λ n i. registered registry n >>= λ m. Ok (lifted m, i)) _ _ (λ i. refl) (λ i. refl) (bytes_same (unsigned_at w32))
-          (λ n. registered_par registry (static-covers registry t) n (registered registry n) refl)
-      with_par {d} {d2} h (tagged written known body) t =
-          then_same (λ tag i. choose (known tag) (seen (of_tagged tag) (read_with look parts d (body tag))) (λ r. Err Error.UnknownTag) i)
-          (λ tag i. choose (known tag) (seen (of_tagged tag) (read_with look2 parts d2 (body tag))) (λ r. Err Error.UnknownTag) i) _ _
-          (λ i. refl) (λ i. refl) (bytes_same text_at)
-          (λ tag. choose_par (known tag)
-          (λ e. seen_par (of_tagged tag) (of_tagged tag) (λ m n r. pair-along _ _ _ _ (text-along tag) r) (with_par h (body tag) (over (λ p. p.1 tag e) (λ n d l. l.1 tag e) t)))
-          (λ e. refuses_par (Along F R) Error.UnknownTag))
-      with_par {d} {d2} h (cases w known part) t =
-          then_same (λ n i. choose (known n) (seen (variant n) (read_with look parts d (part n))) (λ r. Err Error.UnknownTag) i)
-          (λ n i. choose (known n) (seen (variant n) (read_with look2 parts d2 (part n))) (λ r. Err Error.UnknownTag) i) _ _
-          (λ i. refl) (λ i. refl) (bytes_same (unsigned_at w))
-          (λ n. choose_par (known n) (λ e. seen_par (variant n) (variant n) (λ x y r. variant-along _ _ _ r) (with_par h (part n) (over (λ p. p n e) (λ nodes d l. l n e) t)))
-          (λ e. refuses_par (Along F R) Error.UnknownTag))
+          then_same (λ i. refl) (λ i. refl) (bytes_same (unsigned_at w32) (unsigned_tame w32)) (λ n. registered_par registry (static-covers registry t) n (registered registry n) refl)
+      with_par h (tagged written known body) t =
+          known_par text_at text_tame known (λ i. refl) (λ i. refl)
+          (λ tag e. seen_par (of_tagged tag) (of_tagged tag) (λ m n r. pair-along _ _ _ _ (text-along tag) r) (with_par h (body tag) (over (λ p. p.1 tag e) (λ n d l. l.1 tag e) t)))
+          (λ tag. refuses_par (Along F R) Error.UnknownTag)
+      with_par h (cases w known part) t =
+          known_par (unsigned_at w) (unsigned_tame w) known (λ i. refl) (λ i. refl)
+          (λ n e. seen_par (variant n) (variant n) (λ x y r. variant-along _ _ _ r) (with_par h (part n) (over (λ p. p n e) (λ nodes d l. l n e) t))) (λ n. refuses_par (Along F R) Error.UnknownTag)
       with_par h (shapes.reference kind) t = likewise_par (reference_par look look2 alike kind) (λ i. refl) (λ i. refl)
       with_par h (nested n) t = likewise_par (enter_par _ _ h (λ get get2 g. g (parts n) (covers-part t))) (λ i. refl) (λ i. refl)
 
@@ -308,3 +382,146 @@ module _ {A B C D : Type 0} {E : Error → Type 0} {F : Type 0} {S : A → B →
           → Par E S (Along F R) (read (record { levels = levels; look = look; parts = parts }) s) (read (record { levels = levels; look = look2; parts = parts }) s)
       unfolding read
       read_par levels s t = likewise_par (with_par (below_par (deepest - levels)) s t) (λ i. refl) (λ i. refl)
+
+-- ---- reading is local: what is read of a front is read of the whole, a fault stays, and what was used reads alone
+
+-- what is looked up stands for itself
+looked-same : {B : Type 0} (r : Result B Error) → OutLook any_cause (λ b c. Unit {0}) r r
+looked-same (Ok b) = both-looked-up b b tt
+looked-same (Err e) = both-not e
+
+read_tame : {A B : Type 0} (context : Context A B) (s : Shape) → TameGets (read context s)
+read_tame {A} {B} context s =
+    let alike : (kind : ℕ) (a b : A) → a ≡ b → OutLook any_cause (λ c d. Unit {0}) (context.look kind a) (context.look kind b) = λ kind a b is. rw is (looked-same (context.look kind b)) in
+    let par = read_par {E = any_cause} {F = Unit {0}} {S = λ a b. a ≡ b} {R = λ c d. Unit {0}} {parts = context.parts} context.look context.look alike context.levels s (inl tt) in par.tame
+
+pub local : {A B : Type 0} → IsLocal A B
+unfolding Goes
+local {A} {B} context s front after x y m e =
+    let goes = (read_tame context s).goes front (rest x y) in
+    let P : Result (Meaning B × Rest A) Error → Type 0 = λ r. Goes more (rest x y) r (read context s (with_more front x y)) in subst P e goes
+
+pub used : {A B : Type 0} → IsUsed A B
+unfolding Uses
+used {A} {B} context s input after m e =
+    let uses = (read_tame context s).uses input in
+    let P : Result (Meaning B × Rest A) Error → Type 0 = λ r. Uses more ended (read context s) input r in
+    let front = subst P e uses in
+    record { bytes = front.used.bytes; refs = front.used.refs; whole = front.whole; alone = front.alone }
+
+pub lasting : {A B : Type 0} → IsLasting A B
+unfolding Goes
+lasting {A} {B} context s front x y e is not_end not_keys =
+    let goes = (read_tame context s).goes front (rest x y) in
+    let P : Result (Meaning B × Rest A) Error → Type 0 = λ r. Goes more (rest x y) r (read context s (with_more front x y)) in
+    let or_end = subst P is goes in
+    grind (arith, nat_tests, read_tame)
+
+-- ---- reading is natural in what stands for references, and forms are
+
+-- f leads from one to the other
+abbrev Leads : {A C : Type 0} → (A → C) → A → C → Type 0
+Leads f a c = f a ≡ c
+
+module _ {A C : Type 0} (f : A → C) where
+  pub all-map : (k : List A) → AllTwo (Leads f) k (map f k)
+  all-map [] = no-two
+  all-map (a ∷ k) = more-two a (f a) k (map f k) refl (all-map k)
+
+  pub map-all : {k : List A} {l : List C} → AllTwo (Leads f) k l → l ≡ map f k
+  map-all no-two = refl
+  map-all (more-two a c k l e h) = rw (e, map-all h) refl
+
+  pub rename-along : {F : Type 0} {m : Meaning A} {n : Meaning C} → Along F (Leads f) m n → n ≡ rename f m
+  unfolding rename
+  rename-along (pair-along x y a b h g) = rw (rename-along h, rename-along g) refl
+  rename-along (variant-along n x a h) = rw (rename-along h) refl
+  rename-along (reference-along a b r) = rw r refl
+  rename-along (followed-along kind x a w h) = rw (rename-along h) refl
+  rename-along _ = refl
+
+  pub along-rename : (m : Meaning A) → Along (Unit {0}) (Leads f) m (rename f m)
+  unfolding rename
+  along-rename (pair a b) = pair-along _ _ _ _ (along-rename a) (along-rename b)
+  along-rename (variant n a) = variant-along _ _ _ (along-rename a)
+  along-rename (followed kind a) = followed-along _ _ _ tt (along-rename a)
+  along-rename x0 = grind (arith, nat_tests, number-along, integer-along, text-along, pattern-along, none-along, reference-along)
+
+given_is : {C D : Type 0} (m n : Meaning D) (q : Rest C) (bytes : List ℕ) (refs : List C) → m ≡ n → q.bytes ≡ bytes → q.refs ≡ refs
+    → (let r : Result (Meaning D × Rest C) Error = Ok (m, q) in r) ≡ Ok (n, rest bytes refs)
+given_is m n q bytes refs e h g = rw (e, ← h, ← g) refl
+
+natural-out : {A B C D : Type 0} (f : A → C) (g : B → D) {first : Result (Meaning B × Rest A) Error} {second : Result (Meaning D × Rest C) Error}
+    → Out no_cause (Leads f) (Along (Unit {0}) (Leads g)) first second
+    → second ≡ (first >>= λ x. Ok (rename g x.0, rest x.1.bytes (map f x.1.refs)))
+natural-out f g (both-given p q v s) = given_is q.0 _ q.1 _ _ (rename-along g v) s.bytes (map-all f s.refs)
+natural-out f g (both-refused e) = refl
+natural-out f g (first-refused e r h) = absurd h
+
+looked-up : {B D : Type 0} (g : B → D) (r : Result B Error) (q : Result D Error) → q ≡ (r >>= λ b. Ok (g b)) → OutLook no_cause (Leads g) r q
+looked-up g x1 q e = grind (arith, nat_tests, both-looked-up, both-not)
+
+pub natural : {A B C D : Type 0} → IsNatural A B C D
+natural {A} {B} {C} {D} f g look other levels parts s input h =
+    let alike : (kind : ℕ) (a : A) (c : C) → f a ≡ c → OutLook no_cause (Leads g) (look kind a) (other kind c) = λ kind a c e. looked-up g (look kind a) (other kind c) (rw (← e) (h kind a)) in
+    let par = read_par look other alike levels s (inl tt) in
+    natural-out f g (par.out input (rest input.bytes (map f input.refs)) (record { bytes = refl; refs = all-map f input.refs }))
+
+same : {B : Type 0} → B → B
+same b = b
+
+rename_same : {B : Type 0} (m : Meaning B) → rename same m ≡ m
+unfolding rename same
+rename_same (pair a b) = rw (rename_same a, rename_same b) refl
+rename_same (variant n a) = rw (rename_same a) refl
+rename_same (followed kind a) = rw (rename_same a) refl
+rename_same _ = refl
+
+map_same : {A : Type 0} (k : List A) → map same k ≡ k
+unfolding same
+map_same [] = refl
+map_same (a ∷ k) = rw (map_same k) refl
+
+unsame : {A B C : Type 0} (f : A → C) (r : Result (Meaning B × Rest A) Error)
+    → (r >>= λ x. let z : Result (Meaning B × Rest C) Error = Ok (rename same x.0, rest x.1.bytes (map f x.1.refs)) in z) ≡ (r >>= λ x. Ok (x.0, rest x.1.bytes (map f x.1.refs)))
+unsame f x1 = grind (arith, nat_tests, rename_same)
+
+unmapped : {A B D : Type 0} (g : B → D) (r : Result (Meaning B × Rest A) Error)
+    → (r >>= λ x. let z : Result (Meaning D × Rest A) Error = Ok (rename g x.0, rest x.1.bytes (map same x.1.refs)) in z) ≡ (r >>= λ x. Ok (rename g x.0, x.1))
+unmapped g x1 = grind (arith, nat_tests, map_same)
+
+found : {B : Type 0} (r : Result B Error) → r ≡ (r >>= λ b. Ok (same b))
+unfolding same
+found x0 = grind (arith, nat_tests)
+
+pub read_over : {A B C : Type 0} → IsReadOver A B C
+read_over f look levels parts s input =
+    natural f same (λ kind a. look kind (f a)) look levels parts s input (λ kind a. found (look kind (f a)))
+    ∙ unsame f _
+
+pub renamed : {A B D : Type 0} → IsRenamed A B D
+unfolding same
+renamed {A} {B} {D} g look levels parts s input =
+    let all = natural same g look (λ kind a. look kind a >>= λ b. Ok (g b)) levels parts s input (λ kind a. refl) in
+    ap (λ (k : List A). read (at levels (λ kind a. look kind a >>= λ b. Ok (g b)) parts) s (rest input.bytes k)) (sym (map_same input.refs)) ∙ all ∙ unmapped g _
+
+pub keeps_forms : {A B : Type 0} → KeepsForms A B
+keeps_forms {A} {B} f kind_of kind_of2 parts left s m b k kinds h =
+    let p = form-along {R = Leads f} (λ a c e. rw (← e) (kinds a)) h (along-rename f m) in
+    let P : List B → Type 0 = λ l. Form B kind_of2 parts left s (rename f m) b l in subst P (map-all f p.each) p.form
+
+through-out : {A B C D : Type 0} (f : A → C) (g : B → D) (m : Meaning B) (after : Rest A) {first : Result (Meaning B × Rest A) Error} {second : Result (Meaning D × Rest C) Error}
+    → Out any_cause (Leads f) (Along (Unit {0}) (Leads g)) first second
+    → first ≡ Ok (m, after) → second ≡ Ok (rename g m, rest after.bytes (map f after.refs))
+through-out f g m after x4 e = grind (arith, nat_tests, rename-along, map-all)
+
+found-through : {B D : Type 0} (g : B → D) (r : Result B Error) (q : Result D Error) → ((b : B) → r ≡ Ok b → q ≡ Ok (g b)) → OutLook any_cause (Leads g) r q
+found-through g (Ok b) q h = rw (h b refl) (both-looked-up b (g b) refl)
+found-through g (Err x) q h = first-not x q tt
+
+pub read_through : {A B C D : Type 0} → IsReadThrough A B C D
+read_through {A} {B} {C} {D} f g look other levels parts s input after m h e =
+    let alike : (kind : ℕ) (a : A) (c : C) → f a ≡ c → OutLook any_cause (Leads g) (look kind a) (other kind c) = λ kind a c i. found-through g (look kind a) (other kind c)
+    (λ b j. rw (← i) (h kind a b j)) in
+    let par = read_par look other alike levels s (inl tt) in
+    through-out f g m after (par.out input (rest input.bytes (map f input.refs)) (record { bytes = refl; refs = all-map f input.refs })) e

@@ -1,13 +1,181 @@
 -- Why a load is refused whose key a page-out has published: by chance, or by a handle.
-use Rattle.pagable_laws.proofs.Words.{nat_tests, ◌≡◌, ℕ, ◌≤◌, ◌==◌, Bool, true, false, List, [], ◌∷◌, length, ◌⊎◌, inl, inr, Option, Some, None, Err, refl, sym, ap, subst, ◌∙◌, arith, Result, not}
-use Rattle.pagable_laws.proofs.Words.{is_own_reading, RefusesFetch, Error, Want, Owner, Kind, HandleNumber, LoadNumber, NodeNumber, Blob, Tree, Types, type_of, is_eager, is_loose_kind}
-use Rattle.pagable_laws.proofs.Words.{longest_path, if_there, any_mode, Core, OpenLoad, of_cell, Frame, Reading, Seen, Values, IsLawful, earlier, where_so, refused_if, spent, handle_fault}
-use Rattle.pagable_laws.proofs.Words.{references_fault, load_fault, AreHandlesFull, Refused, FetchCall, birth_fault, AskCall, LazyCall, ask_fault, is_known, node_fault, root_fault}
-use Rattle.pagable_laws.proofs.Words.{need_of, needs_nested, needs_lazy, to_adopt, is_broken, IsDecoded, RefusesBlob, RefusesNested, RefusesNode}
-use Rattle.pagable_laws.proofs.Words.{RefusesRoot, IsOfKey, EndsClosed, Fails, reading_at, MachineState, world_of, IsMachineWhole, StandsFor, FitsRoot, FramesFit, of_caller}
-use Rattle.pagable_laws.proofs.{Words.{ReadsItsTypes, IsOfChance, IsPagedOutAs, IsLoadOfPagedOut, WorkFits}, Trees.same_some, Sums.self-number, Taking.adopted-over, Fitting.first-typed}
-use Rattle.pagable_laws.proofs.{HeightSteps.HeightsIn, Asking.FramesAsked, Known.{IsForm, root-there, needed, not-broken, formed}, KnownSteps.{ReadingsAsked, eager-nested}}
+use Rattle.pagable_laws.proofs.Words.{nat_tests, ◌≡◌, ℕ, suc, ◌+◌, ◌≤◌, true, List, [], ◌∷◌, length, Option, Some, sym, ap, subst, ◌∙◌, inl, inr, if◌then◌else◌, arith, slice_get, blob_of, Error}
+use Rattle.pagable_laws.proofs.Words.{ArcRef, Kind, Identity, Blob, Meaning, Tree, type_of, is_eager, above, longest_path, identity_of, Shelf, Written, Frame, Values, Next, reads, asks, is_faulty}
+use Rattle.pagable_laws.proofs.Words.{next_in, need_at, need_of, is_broken, IsPublished, MachineState, world_of, FramesFit, ReadsItsTypes, AreKeysOf, WorkFits, Needs, ◌==◌, Bool, false, ◌⊎◌, None}
+use Rattle.pagable_laws.proofs.Words.{Err, refl, Result, not, is_own_reading, RefusesFetch, Want, Owner, HandleNumber, LoadNumber, NodeNumber, Types, is_loose_kind, if_there, any_mode, Core}
+use Rattle.pagable_laws.proofs.Words.{OpenLoad, of_cell, Reading, Seen, IsLawful, earlier, where_so, refused_if, spent, handle_fault, references_fault, load_fault, AreHandlesFull, Refused}
+use Rattle.pagable_laws.proofs.Words.{FetchCall, birth_fault, AskCall, LazyCall, ask_fault, is_known, node_fault, root_fault, needs_nested, needs_lazy, to_adopt, IsDecoded, RefusesBlob}
+use Rattle.pagable_laws.proofs.Words.{RefusesNested, RefusesNode, RefusesRoot, IsOfKey, EndsClosed, Fails, reading_at, IsMachineWhole, StandsFor, FitsRoot, of_caller, IsOfChance, IsPagedOutAs}
+use Rattle.pagable_laws.proofs.Words.{IsLoadOfPagedOut, Ok, HandleRow, Mode, LoadAnswer, LoadReply, Event, EventReply, or_else, row_fault, reference_fault, LoadSteps, Happens, IsOfHandles}
+use Rattle.pagable_laws.proofs.{Words.{LoadIsFaultless, FaultlessLaw}, Trees.same_some, Fitting.{asked, first-typed}, Heights.{AllLow, HeightsIn}, Apart.{IsFormOf, GotAsked}}
+use Rattle.pagable_laws.proofs.{Apart.{FramesAsked, NextOf, asks-known, all-read, next-known, all-got}, ReadingStepsKinds.kinds_of, Sums.self-number, Taking.adopted-over, KnownSteps.ReadingsAsked}
+use Rattle.pagable_laws.proofs.{KnownSteps.eager-nested, Chains.IsGoingOn, Deeply.along-first}
 use Rattle.std.proofs.Common.{rules}
+use Rattle.pagable_world.specs.Loads.{Does}
+
+-- ---- what a load reads of a key that a page-out has published: each blob is a form of a tree, asks for references whose keys are known, and lies within the path's limit
+
+pub broken-is : (below : List Frame) (next : Next) (e : Error) → need_at below next ≡ is_broken e → next ≡ is_faulty e
+broken-is x0 x1 e is = grind (arith, nat_tests)
+
+-- the blob is a form of some value, and all of its references were got
+pub record IsForm {N : Type 0} (v : Values N) (frame : Frame) : Type 0 where
+  pub refs : List ArcRef
+  pub form : IsFormOf v.types frame.node_type frame.blob refs
+  pub kinds : kinds_of frame.got ≡ kinds_of refs
+
+as-many-keys : (shelf : Shelf) (rs : List ArcRef) (keys : List ℕ) → AreKeysOf shelf rs keys → length keys ≡ length rs
+as-many-keys shelf (r ∷ rs) (k ∷ ks) all = let a = as-many-keys shelf rs ks all.1 in omega (arith, a)
+as-many-keys shelf x1 x2 all = grind (arith, nat_tests)
+
+key-at : (shelf : Shelf) (rs : List ArcRef) (keys : List ℕ) → AreKeysOf shelf rs keys → (place : ℕ) (r : ArcRef) (key : ℕ) → slice_get rs place ≡ Some r → slice_get keys place ≡ Some key
+    → (height : ℕ) × IsPublished shelf (identity_of r) key height
+key-at shelf (q ∷ rs) (k ∷ ks) all (suc place) r key is at = key-at shelf rs ks all.1 place r key is at
+key-at shelf x1 x2 all x4 r key is at = grind (arith, nat_tests)
+
+-- an identity has one key and one height
+one-outcome : (shelf : Shelf) (i : Identity) (k key h height : ℕ) → IsPublished shelf i k h → IsPublished shelf i key height → h ≡ height
+one-outcome shelf i k key h height p q = grind (arith, same_some)
+
+above-eager : (kind h limit : ℕ) → is_eager kind ≡ true → above kind h ≤ limit → h + 1 ≤ limit
+above-eager kind h limit is le = let e : (if is_eager kind then h + 1 else 0) ≡ h + 1 = ap (λ b. if b then h + 1 else 0) is in omega (arith, e, le)
+
+module _ {N E : Type 0} (v : Values N) (s : MachineState N E) (trees : ℕ → Tree) (fit : WorkFits v s trees) (low : HeightsIn (world_of s)) (readable : ReadsItsTypes v.types) (table : ℕ) where
+  abbrev shelf : Shelf
+  shelf = s.work.shelves table
+
+  abbrev stored : ℕ → Option Blob
+  stored = s.pager.core.stored
+
+  -- the blob is a form of a tree over references whose keys are known, and whose heights are within this one
+  record IsKnown (frame : Frame) (height : ℕ) : Type 0 where
+    refs : List ArcRef
+    form : IsFormOf v.types frame.node_type frame.blob refs
+    keys : AreKeysOf shelf refs frame.blob.keys
+    lows : AllLow shelf height refs
+    small : height ≤ longest_path
+
+  known-frame : (frame : Frame) (i : Identity) (height : ℕ) → IsPublished shelf i frame.key height → frame.node_type ≡ (trees i.node.0).type → stored frame.key ≡ Some frame.blob
+      → IsKnown frame height
+  known-frame frame i height p typed is =
+      let f = fit.slots table i p.slot p.claimed in
+      let b = f.publishes frame.key height p.known in
+      let written : Written = b.0 in
+      let w = f.writes written b.1 in
+      let l = low.slots table i p.slot p.claimed frame.key height p.known in
+      let there : v.types.nodes frame.node_type ≡ Some w.shape = ap v.types.nodes typed ∙ w.is in
+      let same : blob_of written.bytes b.2.keys ≡ frame.blob = same_some _ _ (sym b.2.is_stored ∙ is) in
+      let form : IsFormOf v.types frame.node_type (blob_of written.bytes b.2.keys) written.references =
+      record {
+        shape = w.shape;
+        own = w.own;
+        is = there;
+        can = readable frame.node_type w.shape there;
+        form = w.form;
+        as_many = as-many-keys shelf written.references b.2.keys b.2.known;
+        once = w.once;
+      } in
+      record {
+        refs = written.references;
+        form = subst (λ (x : Blob). IsFormOf v.types frame.node_type x written.references) same form;
+        keys = subst (λ (x : Blob). AreKeysOf shelf written.references x.keys) same b.2.known;
+        lows = (l.1 written b.1).0;
+        small = l.0;
+      }
+
+  -- what is asked for has a key that is known
+  record IsAsked (kind : Kind) (key height : ℕ) : Type 0 where
+    r : ArcRef
+    below : ℕ
+    known : IsPublished shelf (identity_of r) key below
+    of_kind : r.kind ≡ kind
+    within : above kind.0 below ≤ height
+
+  asked-known : (frame : Frame) (height : ℕ) → IsKnown frame height → GotAsked v.types frame.node_type frame.blob frame.got → (kind : Kind) (key : ℕ) → next_in v.types frame ≡ asks kind key
+      → IsAsked kind key height
+  asked-known frame height k got kind key next = by (next-known v.types frame.node_type frame.blob k.refs k.form got)
+    where
+      by : NextOf frame.blob k.refs (next_in v.types frame) → IsAsked kind key height
+      by (all-read own is) = absurd (let e : reads own ≡ asks kind key = sym is ∙ next in cc)
+      by (asks-known place r q at there is) =
+          let e : asks r.kind q ≡ asks kind key = sym is ∙ next in
+          let kinds : r.kind ≡ kind = cc in
+          let keys : q ≡ key = cc in
+          let p = key-at shelf k.refs frame.blob.keys k.keys place r q at there in
+          let p2 = subst (λ x. IsPublished shelf (identity_of r) x p.0) keys p.1 in
+          let l = k.lows r (place, at) in
+          let h = one-outcome shelf (identity_of r) l.key key l.below p.0 l.known p2 in
+          record { r = r; below = p.0; known = p2; of_kind = kinds; within = subst (λ (x : Kind). above x.0 p.0 ≤ height) kinds (subst (λ x. above r.kind.0 x ≤ height) h l.within) }
+
+  -- the innermost blob is known, with its height within what the path leaves
+  record IsTopKnown (frame : Frame) (many limit : ℕ) : Type 0 where
+    height : ℕ
+    known : IsKnown frame height
+    left : height + many ≤ limit + 1
+
+  module _ (root_key root_type : ℕ) (i : Identity) (limit : ℕ) (p : IsPublished shelf i root_key limit) (typed : (trees i.node.0).type ≡ root_type) where
+    first-asked : (frame : Frame) (below : List Frame) → FramesAsked v.types (frame ∷ below) → GotAsked v.types frame.node_type frame.blob frame.got
+    unfolding FramesAsked
+    first-asked frame x1 h = grind (arith, nat_tests)
+
+    top-known : (frame : Frame) (below : List Frame) → FramesFit v.types stored trees root_key root_type (frame ∷ below) → FramesAsked v.types (frame ∷ below)
+        → IsTopKnown frame (length (frame ∷ below)) limit
+    unfolding FramesFit FramesAsked
+    top-known frame [] (fits, key, of_type) got =
+        let k = known-frame frame i limit (subst (λ q. IsPublished shelf i q limit) (sym key) p) (of_type ∙ sym typed) fits.is in
+        record { height = limit; known = k; left = omega arith }
+    top-known frame (under ∷ rest) (fits, of_type, next, more) (got, eager, next2, more_asked) =
+        let u = top-known under rest more more_asked in
+        let a = asked-known under u.height u.known (first-asked under rest more_asked) frame.kind frame.key next in
+        let f = fit.slots table (identity_of a.r) a.known.slot a.known.claimed in
+        let right : frame.node_type ≡ (trees a.r.node.0).type = of_type ∙ ap (λ (x : Kind). type_of x.0) (sym a.of_kind) ∙ sym f.typed in
+        let k = known-frame frame (identity_of a.r) a.below a.known right fits.is in
+        let le = above-eager frame.kind.0 a.below u.height eager a.within in
+        let le2 = u.left in
+        record { height = a.below; known = k; left = shorter a.below u.height (length rest) limit le le2 }
+      where
+        shorter : (b h n limit : ℕ) → b + 1 ≤ h → h + suc n ≤ limit + 1 → b + suc (suc n) ≤ limit + 1
+        shorter b h n limit le more = omega arith
+
+    -- what a load needs that reads it
+    pub record Needed (frames : List Frame) (kind : Kind) (key : ℕ) : Type 0 where
+      pub blob : Blob
+      pub is : stored key ≡ Some blob
+      pub short : is_eager kind.0 ≡ true → length frames ≤ longest_path
+
+    pub root-there : (blob : Blob) × (stored root_key ≡ Some blob)
+    root-there = let b = (fit.slots table i p.slot p.claimed).publishes root_key limit p.known in (_, b.2.is_stored)
+
+    pub needed : (frames : List Frame) → FramesFit v.types stored trees root_key root_type frames → FramesAsked v.types frames → (kind : Kind) (key : ℕ) → Needs v.types frames kind key
+        → Needed frames kind key
+    needed [] fits got kind key (inl is) = absurd (cc)
+    needed [] fits got kind key (inr is) = absurd (cc)
+    needed (frame ∷ below) fits got kind key needs =
+        let t = top-known frame below fits got in
+        let a = asked-known frame t.height t.known (first-asked frame below got) kind key (asked below (next_in v.types frame) kind key needs) in
+        let b = (fit.slots table (identity_of a.r) a.known.slot a.known.claimed).publishes key a.below a.known.known in
+        let small = (low.slots table i p.slot p.claimed root_key limit p.known).0 in
+        let left = t.left in
+        record { blob = _; is = b.2.is_stored; short = λ eager. let le = above-eager kind.0 a.below t.height eager a.within in within a.below t.height (length (frame ∷ below)) limit le left small }
+      where
+        within : (b h n limit : ℕ) → b + 1 ≤ h → h + n ≤ limit + 1 → limit ≤ longest_path → n ≤ longest_path
+        within b h n limit le few small = omega arith
+
+    -- the innermost blob is so, where it is read
+    pub formed : (frame : Frame) (below : List Frame) → FramesFit v.types stored trees root_key root_type (frame ∷ below) → FramesAsked v.types (frame ∷ below) → (own : Meaning ArcRef)
+        → next_in v.types frame ≡ reads own → IsForm v frame
+    formed frame below fits got own is = grind (arith, nat_tests, top-known, all-got, first-asked)
+
+    -- nothing of it is refused as faulty
+    pub not-broken : (frames : List Frame) → FramesFit v.types stored trees root_key root_type frames → FramesAsked v.types frames → (e : Error) → need_of v.types frames ≡ is_broken e → ⊥
+    not-broken [] fits got e is = cc
+    not-broken (frame ∷ below) fits got e is =
+        let t = top-known frame below fits got in
+        by (next-known v.types frame.node_type frame.blob t.known.refs t.known.form (first-asked frame below got))
+      where
+        by : {refs : List ArcRef} → NextOf frame.blob refs (next_in v.types frame) → ⊥
+        by (asks-known place r key at there same) = let f = broken-is below (next_in v.types frame) e is in cc
+        by (all-read own same) = let f = broken-is below (next_in v.types frame) e is in cc
 
 -- ---- refusals
 
@@ -15,6 +183,10 @@ pub either : (a b : Option Error) (e : Error) → earlier a b ≡ Some e → (a 
 either None b e is = inr is
 either (Some x) None e is = inl is
 either (Some x) (Some y) e is = grind (arith, nat_tests)
+
+-- the second, where the first isn't it
+past : (a b : Option Error) (e : Error) → (a ≡ Some e → ⊥) → earlier a b ≡ Some e → b ≡ Some e
+past a b e isnt is = elim (either a b e is) [ inl first ↦ absurd (isnt first) | inr second ↦ second ]
 
 chance-if : (b : Bool) (e : Error) → refused_if b Error.NumbersSpent ≡ Some e → IsOfChance e
 chance-if x0 e is = grind (arith, nat_tests)
@@ -153,11 +325,7 @@ module _ {N B W E : Type 0} (m : Seen N B W) (s : MachineState N E) (trees : ℕ
     ask-chance : (want : Want) (mid : Core) (e : Error)
         → Refused (ask_fault w Owner.Caller reading.load want) (ask_fault w Owner.Caller reading.load want) ((is_known w want ≡ true) × AreHandlesFull w) w e mid → IsOfChance e
     ask-chance want mid e r = elim r.why [
-      | inl is ↦ elim (either (load_fault w Owner.Caller reading.load) (where_so (is_known w want) (spent w.last.handle)) e is) [
-        | inl a ↦ absurd (no-load-fault e a)
-        | inr b ↦ where-chance
-            (is_known w want) w.last.handle e b
-      ]
+      | inl is ↦ where-chance (is_known w want) w.last.handle e (past (load_fault w Owner.Caller reading.load) _ e (no-load-fault e) is)
       | inr memory ↦ memory-chance e memory.0
     ]
 
@@ -184,13 +352,10 @@ module _ {N B W E : Type 0} (m : Seen N B W) (s : MachineState N E) (trees : ℕ
     of-lazy : (mid : Core) (e : Error) (kind : Kind) (key : ℕ) → need_of v.types reading.frames ≡ needs_lazy kind key → LazyCall w Owner.Caller reading.load kind key (Err e) mid → IsOfChance e
     of-lazy mid e kind key needs c = elim c.refused.why [
       | inr memory ↦ memory-chance e memory.0
-      | inl is ↦ elim (either (load_fault w Owner.Caller reading.load) _ e is) [
-        | inl a ↦ absurd (no-load-fault e a)
-        | inr b ↦ elim (either (refused_if (not (is_loose_kind kind.0)) Error.WrongKind) (node_fault w kind key) e b) [
-          | inl a ↦ absurd (never (not (is_loose_kind kind.0)) Error.WrongKind e (front-lazy reading.frames kind key needs) a)
-          | inr b ↦ node-chance w kind key e b
-        ]
-      ]
+      | inl is ↦
+          let kinds = past (load_fault w Owner.Caller reading.load) _ e (no-load-fault e) is in
+          node-chance w kind key e (past (refused_if (not (is_loose_kind kind.0)) Error.WrongKind) (node_fault w kind key) e
+          (never _ Error.WrongKind e (front-lazy reading.frames kind key needs)) kinds)
     ]
 
     -- the blob that becomes a node is read through a reference that isn't loose, and is of its kind's type
@@ -203,19 +368,15 @@ module _ {N B W E : Type 0} (m : Seen N B W) (s : MachineState N E) (trees : ℕ
         let right = node-right n.top n.below n.frames n.needs in
         elim r.adopted.refused.1.why [
           | inr memory ↦ by-chance (memory-chance e memory.0)
-          | inl is ↦ elim (either (load_fault w Owner.Caller reading.load) _ e is) [
-            | inl a ↦ absurd (no-load-fault e a)
-            | inr b ↦ elim (either (refused_if (is_loose_kind n.top.kind.0) Error.WrongMode) _ e b) [
-              | inl a ↦ absurd (never (is_loose_kind n.top.kind.0) Error.WrongMode e (loose-not n.top.kind.0 right.0) a)
-              | inr c ↦ elim (either (refused_if (not (v.node_type r.x == type_of n.top.kind.0)) Error.WrongKind) _ e c) [
-                | inl a ↦ absurd (never (not (v.node_type r.x == type_of n.top.kind.0)) Error.WrongKind e (same-type (v.node_type r.x) (type_of n.top.kind.0) (n.decoded.typed ∙ right.1)) a)
-                | inr d ↦ elim (either (references_fault w (Owner.Load reading.load) [] (v.references r.x)) (node_fault w n.top.kind n.top.key) e d) [
-                  | inl a ↦ by-references n.top n.below r.x n.frames n.decoded (form-of n.top n.below n.frames r.x n.decoded) a
-                  | inr f ↦ by-chance (node-chance w n.top.kind n.top.key e f)
-                ]
+          | inl is ↦
+              let modes = past (load_fault w Owner.Caller reading.load) _ e (no-load-fault e) is in
+              let kinds = past (refused_if (is_loose_kind n.top.kind.0) Error.WrongMode) _ e (never _ Error.WrongMode e (loose-not n.top.kind.0 right.0)) modes in
+              let rest = past (refused_if (not (v.node_type r.x == type_of n.top.kind.0)) Error.WrongKind) _ e (never _ Error.WrongKind e (same-type (v.node_type r.x)
+              (type_of n.top.kind.0) (n.decoded.typed ∙ right.1))) kinds in
+              elim (either (references_fault w (Owner.Load reading.load) [] (v.references r.x)) (node_fault w n.top.kind n.top.key) e rest) [
+                | inl a ↦ by-references n.top n.below r.x n.frames n.decoded (form-of n.top n.below n.frames r.x n.decoded) a
+                | inr f ↦ by-chance (node-chance w n.top.kind n.top.key e f)
               ]
-            ]
-          ]
         ]
 
     of-root : (mid : Core) (e : Error) → RefusesRoot v w Owner.Caller reading e mid → C e
@@ -225,14 +386,13 @@ module _ {N B W E : Type 0} (m : Seen N B W) (s : MachineState N E) (trees : ℕ
           absurd (subst IsOfKey (ap (λ (x : OpenLoad). x.root) same ∙ paged.3) is.sort)
       | inl (is, ended) ↦ elim ended.refused.1.why [
         | inr memory ↦ by-chance (memory-chance e memory.0)
-        | inl why ↦ elim (either (load_fault w Owner.Caller reading.load) _ e why) [
-          | inl a ↦ absurd (no-load-fault e a)
-          | inr b ↦ elim (either (if_there (λ (x : OpenLoad). root_fault w Owner.Caller (v.node_type r.x) x.root) None (w.loads reading.load.0)) (references_fault w
-              (Owner.Load reading.load) [] (v.references r.x)) e b) [
-                | inl a ↦ by-chance (root-chance r a)
-                | inr f ↦ by-references r.reads_root.root [] r.x r.reads_root.frames r.reads_root.decoded (form-of r.reads_root.root [] r.reads_root.frames r.x r.reads_root.decoded) f
-              ]
-        ]
+        | inl why ↦
+            let rest = past (load_fault w Owner.Caller reading.load) _ e (no-load-fault e) why in
+            elim (either (if_there (λ (x : OpenLoad). root_fault w Owner.Caller (v.node_type r.x) x.root) None (w.loads reading.load.0)) (references_fault w (Owner.Load reading.load) []
+            (v.references r.x)) e rest) [
+              | inl a ↦ by-chance (root-chance r a)
+              | inr f ↦ by-references r.reads_root.root [] r.x r.reads_root.frames r.reads_root.decoded (form-of r.reads_root.root [] r.reads_root.frames r.x r.reads_root.decoded) f
+            ]
       ]
     ]
       where
@@ -256,3 +416,49 @@ module _ {N B W E : Type 0} (m : Seen N B W) (s : MachineState N E) (trees : ℕ
       | inr (inr (inr (inr (inl node)))) ↦ of-node gives.mid e node
       | inr (inr (inr (inr (inr root)))) ↦ of-root gives.mid e root
     ]
+
+-- ---- what is told of handles
+
+of-handles : (f e : Error) → IsOfHandles f → Some f ≡ Some e → IsOfHandles e
+of-handles f e is same = let g : f ≡ e = cc in subst IsOfHandles g is
+
+by-row : (w : Core) (r : ArcRef) (b : Bool) (row : HandleRow) (e : Error) → row_fault w r (refused_if b Error.NotYours) row ≡ Some e → IsOfHandles e
+by-row w r b row e is = grind (arith, nat_tests)
+
+by-one : (w : Core) (owner : Owner) (seen : List ℕ) (r : ArcRef) (e : Error) → reference_fault w owner seen r ≡ Some e → IsOfHandles e
+by-one w owner seen r e is = search (rules, of-handles, by-row)
+
+pub by-all : (w : Core) (owner : Owner) (seen : List ℕ) (rs : List ArcRef) (e : Error) → references_fault w owner seen rs ≡ Some e → IsOfHandles e
+unfolding references_fault
+by-all w owner seen [] e is = absurd (cc)
+by-all w owner seen (r ∷ rs) e is = at (λ f. by-all w owner (r.handle.0 ∷ seen) rs e f) (reference_fault w owner seen r) refl is
+  where
+    at : (references_fault w owner (r.handle.0 ∷ seen) rs ≡ Some e → IsOfHandles e) → (found : Option Error) → reference_fault w owner seen r ≡ found
+        → or_else found (references_fault w owner (r.handle.0 ∷ seen) rs) ≡ Some e → IsOfHandles e
+    at later None first is = later is
+    at later (Some f) first is = by-one w owner seen r e (first ∙ is)
+
+pub by-handle-row : (w : Core) (me : Owner) (h : HandleNumber) (fits : Mode → Bool) (e : Error) → handle_fault w me h fits ≡ Some e → IsOfHandles e
+by-handle-row w me h fits e is = grind (arith, nat_tests)
+
+-- ---- a load's step
+
+module _ {N B W E : Type 0} (m : Seen N B W) (lawful : IsLawful m.values) (readable : ReadsItsTypes m.values.types) (s s' : MachineState N E) (trees trees' : ℕ → Tree)
+    (on : IsGoingOn m.values s trees) (low : HeightsIn (world_of s)) where
+  pub load-cause : (l : LoadNumber) (reply : LoadReply N) (x : LoadSteps m.values (world_of s) l reply (world_of s')) (load : OpenLoad) (e : Error) → s.pager.core.loads l.0 ≡ Some load
+      → IsLoadOfPagedOut s load → reply.ended ≡ Some (LoadAnswer.Refused e)
+      → Cause m.values s.pager.core load x.reading e
+  load-cause l reply x load e open_load paged is =
+      let fails = subst (λ a. Does m.values s.pager.core Owner.Caller x.reading a x.frames s'.pager.core) is x.does.does in
+      cause m s trees on.whole on.stands lawful readable on.fits low on.asked l x.reading load x.at x.may open_load paged s'.pager.core e fails.0
+
+  load-faultless : (event : Event N B W) (reply : EventReply N B W) → Happens m (world_of s) event reply (world_of s') → LoadIsFaultless s trees event reply s' trees'
+  load-faultless (Event.LoadStep l) (EventReply.LoadMoved (Ok reply)) is = λ load e open_load paged ended. elim (load-cause l reply is.moves load e open_load paged ended) [
+    | by-chance chance ↦ inl chance
+    | by-references frame below x frames decoded form fault ↦ inr (by-all s.pager.core _ [] (m.values.references x) e fault)
+    | by-handle n t h root fault ↦ inr (by-handle-row s.pager.core Owner.Caller h any_mode e fault)
+  ]
+  load-faultless event reply is = tt
+
+pub faultless_law : {N B W : Type 0} (E : Type 0) (m : Seen N B W) → FaultlessLaw E m
+faultless_law E m start moments trees whole idle chain stands lawful readable settled = search (rules, along-first, load-faultless)

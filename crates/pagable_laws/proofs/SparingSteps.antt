@@ -1,22 +1,246 @@
--- Each event leaves each handle of a worker as it is that doesn't make it, and what the cache gives for a kind and a key, where the node is held before and after. What a load's and
--- a worker's step do leaves the handles of the list too.
-use Rattle.pagable_laws.proofs.Words.{Falls, NodeNumber, AdoptCall, Alike, Among, ArcRef, AreGood, AskCall, Asked, AsksInVain, BeginCall, BeginKeyCall, Beginning, BirthCall, Blob, Bool, Call, Claim}
-use Rattle.pagable_laws.proofs.Words.{CloneCall, Core, DropCall, EndCall, Ends, Err, Error, Event, EventReply, Frame, Given, HandOverCall, HandleNumber, HandleRow, Happens, Installs, KeepsOpen, Kind}
-use Rattle.pagable_laws.proofs.Words.{LazyCall, LeavesCache, List, LoadAnswer, LoadCloses, LoadNumber, Mode, None, OfferCall, Ok, OpenLoad, Option, OptionalDataKey, Owner, OwnersAreThere, PinCall}
-use Rattle.pagable_laws.proofs.Words.{PinRefused, PinStep, Pinning, Reading, ReadingDoes, RecallCall, ReleaseCall, Reply, Result, ScheduleCall, Seen, SetKeyCall, Site, Some, Starts, StoreCall}
-use Rattle.pagable_laws.proofs.Words.{TableNumber, Task, Todo, Took, UnpinCall, Values, Want, WorkerAnswer, WorkerNumber, World, [], adopted, ap, arith, false, find_row, from_cache, from_store}
-use Rattle.pagable_laws.proofs.Words.{if_there, if◌then◌else◌, inl, inr, is_at, is_in, is_load_of, is_named_by, is_owned_by, is_owned_in, is_owner, is_workers, is_workers_at, mode_of, moved}
-use Rattle.pagable_laws.proofs.Words.{named_fault, nat_tests, next_node, not, numbers_of, owner_value, owner_worker, refl, refused_if, row_at, step_of, subst, sym, to_fail, to_finish, to_item}
-use Rattle.pagable_laws.proofs.Words.{to_load, to_pin, to_publish, to_release, to_set, to_start, to_write, true, type_of, usable, with_cached, with_handle, with_mode, with_node, with_pin}
-use Rattle.pagable_laws.proofs.Words.{without_load, ℕ, ◌&&◌, ◌+◌, ◌==◌, ◌||◌, ◌∙◌, ◌∷◌, ◌≡◌}
-use Rattle.pagable_laws.proofs.Sparing.{IsApart, worker-apart, list-apart, Spares, Free, spares-then, spares-alike, then-alike, then-fell, itself, spares-handle, moved-free, other-handle, mode-free}
-use Rattle.pagable_laws.proofs.Sparing.{spares-mode}
-use Rattle.pagable_laws.proofs.Usable.{IsEntered, IsHeldFor, Lasts, can-use, stays-alike, by-alike, by-fell, up-then, then-down, held-fell, born, keyed}
-use Rattle.pagable_laws.proofs.{Decoding.among-left, GoodReferences.good, GoodReferences.same-owner, Outlasting.Stands, ReadingSteps.meets, ReadingStepsHanding.neither, Sparing.named-free}
-use Rattle.pagable_laws.proofs.{Sparing.load-free, Sparing.both-free, Sparing.nobody-free, Sparing.listed-free, Sums.same-number, Sums.self-number}
+-- What the cache gives for a kind and a key it goes on to give, as long as the node is held as the kind asks: one part of an event after another.
+use Rattle.pagable_laws.proofs.Words.{◌≡◌, ℕ, ◌<◌, ◌≤◌, ◌==◌, ◌&&◌, Bool, true, List, ◌++◌, Option, Some, None, inl, inr, refl, ap, subst, ◌∙◌, if◌then◌else◌, arith, Result, not, nat_lt, is_some}
+use Rattle.pagable_laws.proofs.Words.{and_parts, nat_tests, OptionalDataKey, HandleRow, Error, Among, updated, if_there, one, is_pinned_kind, is_pinning, is_pin, is_at, is_in_memory, pins, held, Core}
+use Rattle.pagable_laws.proofs.Words.{Cell, Alike, usable, Falls, left_rows, fallen, suc, zero, ◌||◌, false, [], ◌∷◌, sym, slice_get, Owner, Mode, ArcRef, HandleNumber, LoadNumber, NodeNumber}
+use Rattle.pagable_laws.proofs.Words.{changed, find_row, is_handle, is_owner, is_owned_by, owner_worker, nobody, only_handle, Owns, with_handle, with_mode, moved, is_named_by, is_owned_in}
+use Rattle.pagable_laws.proofs.Words.{OwnersAreThere, AreGood, AdoptCall, AskCall, Asked, BeginCall, BeginKeyCall, Beginning, BirthCall, Blob, Call, CloneCall, DropCall, EndCall, Ends, Err, Event}
+use Rattle.pagable_laws.proofs.Words.{EventReply, Frame, Given, HandOverCall, Happens, Installs, KeepsOpen, Kind, LazyCall, LeavesCache, LoadAnswer, LoadCloses, OfferCall, Ok, PinCall, PinRefused}
+use Rattle.pagable_laws.proofs.Words.{PinStep, Pinning, Reading, ReadingDoes, RecallCall, ReleaseCall, Reply, ScheduleCall, Seen, SetKeyCall, Site, Starts, StoreCall, TableNumber, Task, Todo, Took}
+use Rattle.pagable_laws.proofs.Words.{UnpinCall, Values, Want, WorkerAnswer, WorkerNumber, World, adopted, is_in, is_load_of, is_workers, is_workers_at, mode_of, named_fault, next_node, numbers_of}
+use Rattle.pagable_laws.proofs.Words.{owner_value, refused_if, row_at, step_of, to_fail, to_load, to_pin, to_release, to_set, to_write, type_of, with_cached, with_node, with_pin, without_load, ◌+◌}
+use Rattle.pagable_laws.proofs.{Words.{length, sum_by-cons, times, HandlesAreWhole, IsWhole}, Sums.{same-number, self-number, at-most-sum, counted, one-true, sum-le}, Decoding.among-either}
+use Rattle.pagable_laws.proofs.{Decoding.among-left, Outlasting.{among-kept, NotValues, Stands, stands-alike, stands-changed, stands-fell, among-found, none-found, once, stands-whole}}
+use Rattle.pagable_laws.proofs.{Goes.found-number, LoadsReady.with-one, Trees.same_some, GoodReferences.{good, same-owner}, ReadingSteps.meets, ReadingStepsGive.neither, Following.handles-once}
 use Rattle.pagable_world.specs.Events.{Does}
 use Rattle.pagable_world.specs.Loads as loads
 use Rattle.pagable_world.specs.Workers as workers
+use Rattle.std.proofs.lemmas.Bool.{false_from_ne_true}
+
+module _ (kind key n : ℕ) where
+  -- the cache has the node under kind and key, and it is there
+  pub record IsEntered (cache : ℕ → ℕ → Option ℕ) (cells : ℕ → Option Cell) : Type 0 where
+    pub entry : cache kind key ≡ Some n
+    pub there : is_some (cells n) ≡ true
+
+  -- a handle of the node is there, which pins it if the kind is one of pins
+  pub record IsHeldFor (rows : List HandleRow) : Type 0 where
+    pub row : HandleRow
+    pub live : Among rows row
+    pub at : row.node.0 ≡ n
+    pub pins_it : is_pinned_kind kind ≡ true → is_pinning row.mode ≡ true
+
+  -- ---- what can be used
+
+  -- what the node's cell makes of the entry
+  abbrev of_node : Core → Option Cell → Option ℕ
+  of_node w c = if_there (λ (x : Cell). if is_pinned_kind kind && not (is_in_memory (pins n w.rows) x.key) then None else Some n) None c
+
+  at-node : (w : Core) → w.cache kind key ≡ Some n → usable w kind key ≡ of_node w (w.cells n)
+  at-node w entry = ap (λ o. if_there (λ m. if_there (λ (x : Cell). if is_pinned_kind kind && not (is_in_memory (pins m w.rows) x.key) then None else Some m) None (w.cells m)) None o) entry
+
+  at-row : (row : HandleRow) → row.node.0 ≡ n → (row.node.0 == n) ≡ true
+  at-row row at = ap (λ (x : ℕ). x == n) at ∙ self-number n
+
+  above-none : (a b : ℕ) (t : Bool) → t ≡ true → one t ≤ b → nat_lt 0 b ≡ true
+  above-none a b t is le = let e : one t ≡ 1 = ap one is in grind (arith, nat_tests)
+
+  pinned : (rows : List HandleRow) → IsHeldFor rows → is_pinned_kind kind ≡ true → nat_lt 0 (pins n rows) ≡ true
+  pinned rows h is =
+      let e = at-row h.row h.at in
+      let p = h.pins_it is in
+      above-none 0 (pins n rows) (is_pin n h.row) (rw (e, p) refl) (at-most-sum (λ x. one (is_pin n x)) rows h.row h.live)
+
+  pub can-use : (w : Core) → IsEntered w.cache w.cells → IsHeldFor w.rows → usable w kind key ≡ Some n
+  can-use w e h = grind (arith, nat_tests, at-node, pins, pinned)
+
+  pub entered-of : (w : Core) → usable w kind key ≡ Some n → IsEntered w.cache w.cells
+  entered-of w is = grind (arith, nat_tests)
+
+  -- ---- the end of a part
+
+  pub stays-alike : {w w' : Core} → Alike w w' → IsEntered w.cache w.cells → IsHeldFor w'.rows → IsEntered w'.cache w'.cells
+  stays-alike {w} {w'} a e h = entered-of w' (a.cache.gives kind key ∙ can-use w e (subst IsHeldFor a.rows h))
+
+  pub stays-fell : {before w w' : Core} {given : ℕ → Bool} {r : Result (Unit {0}) Error} → Falls before w given r w' → IsEntered w.cache w.cells → IsHeldFor w'.rows → IsEntered w'.cache w'.cells
+  stays-fell {before} {w} {w'} {given} {r} f e h = stays-alike {w = fallen w f.gone f.entries} f.leaves (record { entry = e.entry; there = there }) h
+    where
+      rows : List HandleRow
+      rows = left_rows f.gone w.rows ++ f.entries
+
+      some : nat_lt 0 (held n rows) ≡ true
+      some =
+          let g = subst IsHeldFor f.leaves.rows h in
+          above-none 0 (held n rows) (is_at n g.row) (at-row g.row g.at) (at-most-sum (λ x. one (is_at n x)) rows g.row g.live)
+
+      there : is_some (if nat_lt 0 (held n rows) then w.cells n else None) ≡ true
+      there = rw some e.there
+
+  -- ---- parts, one after another
+
+  -- the entry stays where the node is held before and after
+  pub record Lasts (w w' : Core) : Type 0 where
+    pub lasts : IsEntered w.cache w.cells → IsHeldFor w.rows → IsHeldFor w'.rows → IsEntered w'.cache w'.cells
+
+  pub by-alike : {w m w' : Core} → Alike m w' → (IsEntered w.cache w.cells → IsEntered m.cache m.cells) → Lasts w w'
+  by-alike a direct = record { lasts = λ e h h'. stays-alike a (direct e) h' }
+
+  pub by-fell : {before w m w' : Core} {given : ℕ → Bool} {r : Result (Unit {0}) Error} → Falls before m given r w' → (IsEntered w.cache w.cells → IsEntered m.cache m.cells) → Lasts w w'
+  by-fell f direct = record { lasts = λ e h h'. stays-fell f (direct e) h' }
+
+  -- the node is held in the middle since it was before, or since it is afterwards
+  pub up-then : {w m w' : Core} → (IsHeldFor w.rows → IsHeldFor m.rows) → Lasts w m → Lasts m w' → Lasts w w'
+  up-then up a b = record { lasts = λ e h h'. b.lasts (a.lasts e h (up h)) (up h) h' }
+
+  pub then-down : {w m w' : Core} → (IsHeldFor w'.rows → IsHeldFor m.rows) → Lasts w m → Lasts m w' → Lasts w w'
+  then-down down a b = record { lasts = λ e h h'. b.lasts (a.lasts e h (down h')) (down h') h' }
+
+  -- what is held after handles were given up was held before: an entry of the list comes for a node that was pinned
+  pub held-fell : {w m w' : Core} {given : ℕ → Bool} {r : Result (Unit {0}) Error} → m.rows ≡ w.rows → Falls w m given r w' → IsHeldFor w'.rows → IsHeldFor w.rows
+  held-fell {w} {m} {w'} same f h = elim (among-either (left_rows f.gone m.rows) f.entries g.live.0 g.row g.live.1) [
+    | inl left ↦ record { row = g.row; live = subst (λ rows. Among rows g.row) same (among-kept _ m.rows g.row left); at = g.at; pins_it = g.pins_it }
+    | inr new ↦ was-pinned new
+  ]
+    where
+      g : IsHeldFor (left_rows f.gone m.rows ++ f.entries)
+      g = subst IsHeldFor f.leaves.rows h
+
+      was-pinned : Among f.entries g.row → IsHeldFor w.rows
+      was-pinned new =
+          let le = at-most-sum (λ x. one (is_at n x)) f.entries g.row new in
+          let some : 0 < held n f.entries = let e : one (is_at n g.row) ≡ 1 = ap one (at-row g.row g.at) in omega (arith, e, le) in
+          let p = counted (λ x. one (is_pin n x)) w.rows (f.only n some).0.pinned in
+          let both = and_parts (p.0.node.0 == n) (is_pinning p.0.mode) (one-true _ p.2) in
+          record { row = p.0; live = p.1; at = same-number _ _ both.0; pins_it = λ is. both.1 }
+
+  -- ---- cells
+
+  pub born : {cache : ℕ → ℕ → Option ℕ} {cells : ℕ → Option Cell} (p : ℕ) (x : Cell) → IsEntered cache cells → IsEntered cache (updated p (Some x) cells)
+  born {cache} {cells} p x e = grind (arith, nat_tests)
+
+  pub keyed : {cache : ℕ → ℕ → Option ℕ} {cells : ℕ → Option Cell} (p k : ℕ) → IsEntered cache cells
+      → IsEntered cache (updated p (if_there (λ (x : Cell). Some (record x { key = OptionalDataKey.Some k })) None (cells p)) cells)
+  keyed {cache} {cells} p k e = grind (arith, nat_tests)
+
+-- A call leaves each handle of an owner as it is that doesn't ask: it is there afterwards, with its row. The owner is a worker, or the list.
+
+-- neither a value nor a load
+pub record IsApart (mine : Owner) : Type 0 where
+  pub no_value : NotValues mine
+  pub no_load : (l : LoadNumber) → is_owner (Owner.Load l) mine ≡ false
+
+pub worker-apart : (v : ℕ) → IsApart (owner_worker v)
+worker-apart v = record { no_value = λ n is. absurd (cc); no_load = λ l. refl }
+
+pub list-apart : IsApart Owner.List
+list-apart = record { no_value = λ n is. absurd (cc); no_load = λ l. refl }
+
+-- what references name is the handle of one of them
+pub named-among : (rs : List ArcRef) (q : ℕ) → is_named_by rs q ≡ true → (r : ArcRef) × Among rs r × (r.handle.0 ≡ q)
+unfolding is_named_by
+named-among [] q is = absurd (cc)
+named-among (r ∷ rs) q is = by (λ e. named-among rs q e) (r.handle.0 == q) refl is
+  where
+    by : (is_named_by rs q ≡ true → (x : ArcRef) × Among rs x × (x.handle.0 ≡ q)) → (b : Bool) → (r.handle.0 == q) ≡ b → (b || is_named_by rs q) ≡ true
+        → (x : ArcRef) × Among (r ∷ rs) x × (x.handle.0 ≡ q)
+    by rest true e is = let same : r.handle.0 ≡ q = grind (arith, nat_tests) in (r, (zero, refl), same)
+    by rest false e is = let a = rest is in (a.0, (suc a.1.0, a.1.1), a.2)
+
+module _ (mine : Owner) where
+  -- each handle of the owner's that stands before stands afterwards
+  pub record Spares (w w' : Core) : Type 0 where
+    pub each : (q : ℕ) (row : HandleRow) → row.owner ≡ mine → Stands w.last.handle w.rows q row → Stands w'.last.handle w'.rows q row
+
+  -- no handle of the owner's has such a number
+  pub record Free (w : Core) (test : ℕ → Bool) : Type 0 where
+    pub each : (q : ℕ) (row : HandleRow) → row.owner ≡ mine → Stands w.last.handle w.rows q row → test q ≡ false
+
+  pub spares-then : {w m w' : Core} → Spares w m → Spares m w' → Spares w w'
+  spares-then a b = record { each = λ q row own s. b.each q row own (a.each q row own s) }
+
+  pub spares-alike : {w w' : Core} → Alike w w' → Spares w w'
+  spares-alike a = record { each = λ q row own s. stands-alike a s }
+
+  -- with the same rows, the second core stays alike
+  pub then-alike : {w m w' : Core} → Alike m w' → Spares w m → Spares w w'
+  then-alike a b = spares-then b (spares-alike a)
+
+  pub then-fell : IsApart mine → {before w m w' : Core} {given : ℕ → Bool} {r : _} → Falls before m given r w' → Spares w m → Free w given → Spares w w'
+  then-fell apart f a free = record { each = λ q row own s. stands-fell f (λ n is. apart.no_value n (sym own ∙ is)) (free.each q row own s) (a.each q row own s) }
+
+  pub itself : {w : Core} → Spares w w
+  itself = record { each = λ q row own s. s }
+
+  pub spares-handle : (w : Core) (node : NodeNumber) (mode : Mode) (owner : Owner) → Spares w (with_handle w node mode owner)
+  spares-handle w node mode owner = record { each = λ q row own s. with-one w node mode owner s }
+
+  pub spares-made : {w w' : Core} (node : NodeNumber) (mode : Mode) (owner : Owner) → Alike (with_handle w node mode owner) w' → Spares w w'
+  spares-made {w} node mode owner a = then-alike a (spares-handle w node mode owner)
+
+  unchanged : {last : ℕ} {rows : List HandleRow} {q : ℕ} {row : HandleRow} (test : HandleRow → Bool) (f : HandleRow → HandleRow) → ((h : HandleRow) → (f h).number ≡ h.number)
+      → test row ≡ false → Stands last rows q row → Stands last (changed test f rows) q row
+  unchanged {last} {rows} {q} {row} test f same e s = subst (λ r. Stands last (changed test f rows) q r) (ap (λ b. if b then f row else row) e) (stands-changed test f same s)
+
+  row-number : {last : ℕ} {rows : List HandleRow} {q : ℕ} {row : HandleRow} → Stands last rows q row → row.number.0 ≡ q
+  row-number {rows = rows} {q} {row} s = found-number q rows row s.live
+
+  -- handles of a set move that aren't the owner's
+  pub moved-free : {w : Core} {set : ℕ → Bool} (owner : Owner) → Free w set → (q : ℕ) (row : HandleRow) → row.owner ≡ mine → Stands w.last.handle w.rows q row
+      → Stands w.last.handle (moved set owner w.rows) q row
+  moved-free {w} {set} owner free q row own s = unchanged (λ h. set h.number.0) (λ h. record h { owner = owner }) (λ h. refl) (ap set (row-number s) ∙ free.each q row own s) s
+
+  pub mode-free : {last : ℕ} {rows : List HandleRow} {q : ℕ} {row : HandleRow} (h : HandleNumber) (mode : Mode) → only_handle h q ≡ false → Stands last rows q row
+      → Stands last (changed (is_handle h.0) (λ x. record x { mode = mode }) rows) q row
+  mode-free h mode free s = unchanged (is_handle h.0) (λ x. record x { mode = mode }) (λ x. refl) (ap (λ n. n == h.0) (row-number s) ∙ free) s
+
+  -- two rows of one number
+  same-row : {last : ℕ} {rows : List HandleRow} {q n : ℕ} {row : HandleRow} (r : HandleRow) → Stands last rows q row → find_row n rows ≡ Some r → q ≡ n → row.owner ≡ r.owner
+  same-row {rows = rows} r s found same = ap (λ (x : HandleRow). x.owner) (same_some _ _ (sym s.live ∙ ap (λ n. find_row n rows) same ∙ found))
+
+  -- a handle of another's isn't the owner's
+  pub other-handle : {w : Core} {me : Owner} {fits : Mode → Bool} (h : HandleNumber) (r : HandleRow) → (me ≡ mine → ⊥) → Owns w me h fits r → Free w (only_handle h)
+  other-handle {w} {me} h r other owns = grind (arith, nat_tests)
+
+  pub spares-mode : {w : Core} {me : Owner} {fits : Mode → Bool} (h : HandleNumber) (r : HandleRow) (mode : Mode) → (me ≡ mine → ⊥) → Owns w me h fits r → Spares w (with_mode w h mode)
+  spares-mode h r mode other owns = let free = other-handle h r other owns in record { each = λ q row own s. mode-free h mode (free.each q row own s) s }
+
+  -- references of another's name none of the owner's handles
+  pub named-free : (w : Core) (owner : Owner) (rs : List ArcRef) → (owner ≡ mine → ⊥) → AreGood w owner rs → Free w (is_named_by rs)
+  named-free w owner rs other right = record {
+    each = λ q row own s. false_from_ne_true (is_named_by rs q) (λ e.
+        let a = named-among rs q e in
+        let is = right a.0 a.1 in
+        other (sym is.owned ∙ (sym (same-row is.row s is.live (sym a.2)) ∙ own)));
+  }
+
+  -- what a load owns isn't the owner's
+  pub load-free : IsApart mine → (w : Core) (l : LoadNumber) → Free w (is_owned_in w (Owner.Load l))
+  load-free apart w l = record { each = λ q row own s. ap (λ (f : Option HandleRow). if_there (is_owned_by (Owner.Load l)) false f) s.live ∙ (ap (is_owner (Owner.Load l)) own ∙ apart.no_load l) }
+
+  pub both-free : {w : Core} (f g : ℕ → Bool) → Free w f → Free w (λ q. f q && not (g q))
+  both-free f g free = record { each = λ q row own s. ap (λ b. b && not (g q)) (free.each q row own s) }
+
+  pub nobody-free : {w : Core} → Free w nobody
+  nobody-free = record { each = λ q row own s. refl }
+
+  -- an entry of the list isn't the owner's
+  pub listed-free : is_owner Owner.List mine ≡ false → {w : Core} → OwnersAreThere w → (i : ℕ) (h : HandleNumber) → slice_get w.list i ≡ Some h → Free w (only_handle h)
+  listed-free unlisted {w} there i h at = record {
+    each = λ q row own s. false_from_ne_true (q == h.0) (λ e.
+        let same : h.0 ≡ q = sym (same-number q h.0 e) in
+        let here : one (h.0 == q) ≡ 1 = ap (λ n. one (n == q)) same ∙ ap one (self-number q) in
+        let owned = counted (λ (x : HandleRow). one (is_handle q x && is_owned_by Owner.List x)) w.rows
+        (above _ _ _ here (at-most-sum (λ (x : HandleNumber). one (x.0 == q)) w.list h (i, at)) (there.listed q)) in
+        let both = and_parts (is_handle q owned.0) (is_owned_by Owner.List owned.0) (one-true _ owned.2) in
+        let it = s.only owned.0 owned.1 (same-number _ _ both.0) in
+        let f : is_owner Owner.List mine ≡ true = sym (ap (λ (x : HandleRow). is_owner Owner.List x.owner) it ∙ ap (is_owner Owner.List) own) ∙ both.1 in
+        cc);
+  }
+    where
+      above : (a b c : ℕ) → a ≡ 1 → a ≤ b → b ≡ c → 0 < c
+      above a b c e le same = omega arith
+
+-- Each event leaves each handle of a worker as it is that doesn't make it, and what the cache gives for a kind and a key, where the node is held before and after. What a load's and
+-- a worker's step do leaves the handles of the list too.
 
 module _ (mine : Owner) (apart : IsApart mine) (kind key n : ℕ) where
   -- the owner's handles stay where this is so of who makes the step, and what the cache gives does where that is
@@ -112,8 +336,7 @@ module _ (mine : Owner) (apart : IsApart mine) (kind key n : ℕ) where
 
     recalls : {w w' : Core} {me : Owner} {k : Kind} {q : ℕ} (r : Result (Option HandleNumber) Error) → RecallCall w me k q r w' → Leaves O C w w'
     recalls (Ok (Some h)) c = a-handle _ _ _ c.answers.3
-    recalls (Ok None) c = stays c.answers.1
-    recalls (Err e) c = stays c.refused.stays
+    recalls x0 c = grind (arith, nat_tests, stays)
 
     -- ---- handles and loads
 
@@ -125,14 +348,12 @@ module _ (mine : Owner) (apart : IsApart mine) (kind key n : ℕ) where
     then-clone {w} c rest = after (λ h. record { row = h.row; live = subst (λ rows. Among rows h.row) (sym c.made.3.rows) (among-left w.rows _ h.live.0 h.row h.live.1); at = h.at; pins_it = h.pins_it }) (clones _ c) rest
 
     begins : {w w' : Core} {me : Owner} {h : HandleNumber} (r : Result Beginning Error) → BeginCall w me h r w' → Leaves O C w w'
-    begins (Ok Beginning.InMemory) c = stays c.begins.2.1
     begins {w} (Ok (Beginning.Load l q)) c = made c.begins.2.4.2 (λ o. record { each = (spares-handle mine w c.begins.0.node Mode.LooseUnpinned (Owner.Load l)).each }) (λ e. e)
-    begins (Err e) c = stays c.refused.stays
+    begins x0 c = grind (arith, nat_tests, stays)
 
     begins-key : {w w' : Core} {me : Owner} {q : ℕ} (r : Result Beginning Error) → BeginKeyCall w me q r w' → Leaves O C w w'
-    begins-key (Ok Beginning.InMemory) c = absurd c.begins
     begins-key (Ok (Beginning.Load l k)) c = made c.begins.2 (λ o. record { each = λ q row own s. s }) (λ e. e)
-    begins-key (Err e) c = stays c.refused.stays
+    begins-key x0 c = grind (arith, nat_tests, stays)
 
     -- a node that a load adopts, which the cache may know: it gave none, and so not this one
     adopts : {w w' : Core} (l : LoadNumber) (k : Kind) (q : ℕ) (own : OptionalDataKey) (references : List ArcRef) → usable w k.0 q ≡ None → AreGood w (Owner.Load l) references
@@ -190,10 +411,9 @@ module _ (mine : Owner) (apart : IsApart mine) (kind key n : ℕ) where
           made c.made.3 (λ o. spares-then mine (node w t OptionalDataKey.None references me (other o) (good w me [] references c.made.0)) (spares-handle mine _ (next_node w) mode me)) (born kind key n _ _)
       births mode (Err e) c = stays c.refused.1.stays
 
-      pins : {w w' : Core} {h : HandleNumber} (r : Result Pinning Error) → PinCall w me h r w' → Leaves O C w w'
-      pins {h = h} (Ok (Pinning.Pinned k)) c = made c.pins.2.2 (λ o. spares-then mine (spares-mode mine h c.pins.0 Mode.LoosePinned (other o) c.pins.1) (spares-handle mine _ _ _ _)) (λ e. e)
-      pins (Ok (Pinning.NeedsLoad q)) c = stays c.pins.2.2
-      pins (Err e) c = stays c.refused.stays
+      pin-calls : {w w' : Core} {h : HandleNumber} (r : Result Pinning Error) → PinCall w me h r w' → Leaves O C w w'
+      pin-calls {h = h} (Ok (Pinning.Pinned k)) c = made c.pins.2.2 (λ o. spares-then mine (spares-mode mine h c.pins.0 Mode.LoosePinned (other o) c.pins.1) (spares-handle mine _ _ _ _)) (λ e. e)
+      pin-calls x0 c = grind (arith, nat_tests, stays)
 
       unpins : {w w' : Core} {h : HandleNumber} (r : Result (Unit {0}) Error) → UnpinCall w me h r w' → Leaves O C w w'
       unpins {h = h} r c = elim c.does [
@@ -286,7 +506,7 @@ module _ (mine : Owner) (apart : IsApart mine) (kind key n : ℕ) where
       pin-refused : {w w' : Core} (r : ArcRef) (e : Error) → PinRefused w (owner_worker u) r e w' → Leaves O C w w'
       pin-refused r e does = elim does [
         | inl clone ↦ clones _ clone
-        | inr (row, (mid, through, clone, inl pin)) ↦ then-clone clone (pins other _ pin)
+        | inr (row, (mid, through, clone, inl pin)) ↦ then-clone clone (pin-calls other _ pin)
         | inr (row, (mid, through, clone, inr begin)) ↦ then-clone clone (begins _ begin)
       ]
 
@@ -301,29 +521,21 @@ module _ (mine : Owner) (apart : IsApart mine) (kind key n : ℕ) where
 
       module _ {N B W : Type 0} (m : Seen N B W) (s s' : Site) where
         walks : (todo : List Todo) (step : Took W) → workers.Does m u s todo step s' → Leaves O C s.core s'.core
-        walks (to_start r place ∷ below) (Took.Claim i (Ok Claim.Claimed)) (is, c) = stays c.finds.1.2.pager_stays
-        walks (to_start r place ∷ below) (Took.Claim i (Ok (Claim.Known k h))) (is, c) = stays c.finds.1.2.pager_stays
-        walks (to_start r place ∷ below) (Took.Claim i (Ok Claim.Waiting)) (is, c) = stays c.finds.1.2.pager_stays
-        walks (to_start r place ∷ below) (Took.Claim i (Ok Claim.AlreadyFailed)) (is, c) = stays c.finds.1.2.pager_stays
-        walks (to_start r place ∷ below) (Took.Claim i (Err f)) (is, c) = stays c.refused.1.pager_stays
-        walks (to_pin r place ∷ below) (Took.Pin i (Ok (PinStep.Held k))) (is, p) = elim p.pins.1 [ inl (row, same, clone) ↦ clones _ clone | inr (row, (mid, clone, pin)) ↦ then-clone clone (pins other _ pin) ]
+        walks (to_pin r place ∷ below) (Took.Pin i (Ok (PinStep.Held k))) (is, p) = elim p.pins.1 [
+          | inl (row, same, clone) ↦ clones _ clone
+          | inr (row, (mid, clone, pin)) ↦ then-clone clone (pin-calls other _ pin)
+        ]
         walks (to_pin r place ∷ below) (Took.Pin i (Ok (PinStep.LoadBegun l))) (is, p) = let b = p.pins.1.1 in then-clone b.2 (begins _ b.3)
-        walks (to_pin r place ∷ below) (Took.Pin i (Ok PinStep.LoadWent)) (is, p) = absurd p.pins
         walks (to_pin r place ∷ below) (Took.Pin i (Err f)) (is, p) = pin-refused r f p.refused.0
         walks (to_load r place through reading ∷ below) (Took.Pin i (Ok (PinStep.Held k))) (is, p) = reads other m.values reading p.goes.0
-        walks (to_load r place through reading ∷ below) (Took.Pin i (Ok (PinStep.LoadBegun l))) (is, p) = absurd p.goes
         walks (to_load r place through reading ∷ below) (Took.Pin i (Ok PinStep.LoadWent)) (is, p) = reads other m.values reading p.goes.1
         walks (to_load r place through reading ∷ below) (Took.Pin i (Err f)) (is, p) = reads other m.values reading p.refused.0
         walks (to_write r place through ∷ below) (Took.Write i (Ok out)) (is, p) = stays p.writes.pager_stays
         walks (to_write r place through ∷ below) (Took.Write i (Err f)) (is, p) = stays p.refused.1.pager_stays
-        walks (to_finish o ∷ below) (Took.Store i k) (is, p) = stores k p.stored
-        walks (to_item written keys ∷ below) (Took.Store i k) (is, p) = stores k p.stored
         walks (to_set r through k h ∷ below) (Took.SetKey i done) (is, p) = sets other done p.sets
-        walks (to_publish r k h ∷ below) (Took.Publish i k2 h2) (is, same_key, same_height, t) = stays t.pager_stays
         walks (to_release r k h ∷ below) (Took.Release i) (is, f, g) = fell f.falls (λ o. itself mine) (λ o. released-free u (other o) s.core r.node.0) (λ e. e)
-        walks (to_fail fault None ∷ below) Took.Fail (a, shelf, list_is) = stays a
         walks (to_fail fault (Some h) ∷ below) Took.Fail ((told, scheduled), shelf, list_is) = schedules other told scheduled
-        walks todo step does = absurd does
+        walks todo step does = grind (arith, nat_tests, stays, stores)
 
   -- ---- calls
 
@@ -335,29 +547,16 @@ module _ (mine : Owner) (apart : IsApart mine) (kind key n : ℕ) where
     calls (Call.NewShared x) (Reply.Made r) open_still c = births (λ o. o.1) Mode.Shared r c
     calls (Call.NewPagedOut t q) (Reply.Handle (Ok k)) open_still c =
         made c.made.2 (λ o. spares-then mine (node w t (OptionalDataKey.Some q) [] me o.1 (none-named w me)) (spares-handle mine _ (next_node w) Mode.LooseUnpinned me)) (born kind key n _ _)
-    calls (Call.NewPagedOut t q) (Reply.Handle (Err e)) open_still c = stays c.refused.stays
     calls (Call.Clone h) (Reply.Handle r) open_still c = clones r c
-    calls (Call.Pin h) (Reply.Pin r) open_still c = pins (λ o. o.1) r c
+    calls (Call.Pin h) (Reply.Pin r) open_still c = pin-calls (λ o. o.1) r c
     calls (Call.Unpin h) (Reply.Done r) open_still c = unpins (λ o. o.1) r c
     calls (Call.Release h) (Reply.Done r) open_still c = releases (λ o. o.1) r c
     calls (Call.IntoPagable h) (Reply.Handle (Ok k)) open_still c = made c.turned.3 (λ o. spares-mode mine h c.turned.0 Mode.LoosePinned o.1 c.turned.1) (λ e. e)
-    calls (Call.IntoPagable h) (Reply.Handle (Err e)) open_still c = stays c.refused.1
     calls (Call.SetDataKey h q) (Reply.Done r) open_still c = sets (λ o. o.1) r c
-    calls (Call.Count h) (Reply.Count r) open_still c = stays c.1
-    calls (Call.Key h) (Reply.KeyFound r) open_still c = stays c.1
-    calls (Call.IsPagedOut h) (Reply.Away r) open_still c = stays c.1
-    calls (Call.NodeOf h) (Reply.Node r) open_still c = stays c.1
-    calls (Call.NodeLive k) (Reply.NodeType t) open_still c = stays c.1
     calls (Call.ScheduleForPaging h) (Reply.Done r) open_still c = schedules (λ o. o.1) r c
-    calls Call.Pending (Reply.Length k) open_still c = stays c.1
     calls (Call.TakePending i) (Reply.Taken (Some h)) open_still c = made c.1 (λ o. record { each = moved-free mine me (listed-free mine unlisted o.0 i h c.0) }) (λ e. e)
-    calls (Call.TakePending i) (Reply.Taken None) open_still c = stays c.1
-    calls (Call.CacheGet k q) (Reply.FromCache r) open_still c = recalls r c
     calls (Call.OnArcDeserialized k q h) (Reply.FromCache r) open_still c = record { spares = λ o. offers o.1 r c; lasts = λ leaves. absurd leaves }
     calls Call.CacheClear (Reply.Done r) open_still c = record { spares = λ o. then-alike mine c.leaves (record { each = λ q row own s. s }); lasts = λ leaves. absurd leaves }
-    calls (Call.Fetch q) (Reply.Fetched r) open_still c = asked c.asked
-    calls (Call.Store b) (Reply.Stored r) open_still c = stores r c
-    calls Call.Flush (Reply.Done r) open_still c = asked c.asked
     calls (Call.LoadBegin h) (Reply.Begun r) open_still c = begins r c
     calls (Call.LoadKey q) (Reply.Begun r) open_still c = begins-key r c
     calls (Call.LoadFetch l want) (Reply.LoadFound r) open_still c = asks _ c
@@ -366,10 +565,11 @@ module _ (mine : Owner) (apart : IsApart mine) (kind key n : ℕ) where
     calls (Call.LoadEnd l x) (Reply.LoadEnded r) open_still c = ends-load (λ o. o.1) l r c
     calls (Call.LoadTake l hs) (Reply.Done r) open_still c = hands-over (λ o. o.1) l hs.items r c
     calls (Call.LoadDrop l) (Reply.Done r) open_still c = drops (λ o. o.1) l r c
-    calls (Call.Reserve k) (Reply.Done r) open_still c = stays c.stays
-    calls Call.Room (Reply.Length k) open_still c = stays c.1
-    calls Call.Close reply open_still c = absurd open_still
-    calls call reply open_still c = absurd c
+    calls (Call.CacheGet k q) (Reply.FromCache r) open_still c = recalls r c
+    calls (Call.Fetch q) (Reply.Fetched r) open_still c = asked c.asked
+    calls (Call.Store b) (Reply.Stored r) open_still c = stores r c
+    calls Call.Flush (Reply.Done r) open_still c = asked c.asked
+    calls call reply open_still c = grind (arith, nat_tests, stays)
 
   -- ---- events
 
@@ -394,32 +594,27 @@ module _ (mine : Owner) (apart : IsApart mine) (kind key n : ℕ) where
       events (Event.LoadStart k) (EventReply.Started r) open_still h = begins r h.step
       events (Event.LoadKey k t) (EventReply.Started r) open_still h = begins-key r h.step
       events (Event.LoadStep l) (EventReply.LoadMoved (Ok reply)) open_still h = reads (λ o. callers) m.values h.moves.reading h.moves.does
-      events (Event.LoadStep l) (EventReply.LoadMoved (Err e)) open_still h = stays h.refused.1.core
       events Event.TableNew (EventReply.TableMade (Ok t)) open_still h = stays h.made.1
       events Event.TableNew (EventReply.TableMade (Err e)) open_still h = stays h.refused.1.core
       events (Event.WorkerItem t item) (EventReply.WorkerMade (Ok k)) open_still h = started t _ k (λ o. itself mine) (λ e. e) h.starts
-      events (Event.WorkerItem t item) (EventReply.WorkerMade (Err e)) open_still h = stays h.refused.1.core
       events (Event.WorkerListed t i) (EventReply.WorkerMade (Ok k)) open_still h =
           let x = h.starts in started t _ k (λ o. record { each = moved-free mine (Owner.Worker k) (listed-free mine unlisted o.0 i x.0 x.3.listed) }) (λ e. e) x.5
-      events (Event.WorkerListed t i) (EventReply.WorkerMade (Err e)) open_still h = stays h.refused.1.core
       events (Event.WorkerStep k) (EventReply.WorkerMoved (Ok reply)) open_still h =
           let x = h.moves in
           then-ends k.0 (λ o. isnt-own reply.took k.0 o.1) reply.answer
           (walks k.0 (λ o. isnt-own reply.took k.0 o.1) m (record { core = u.core; shelf = u.work.shelves x.walking.table; todo = x.walking.todo }) x.after x.walking.todo reply.took x.does.does) x.ends
-      events (Event.WorkerStep k) (EventReply.WorkerMoved (Err e)) open_still h = stays h.refused.2.core
-      events event reply open_still h = absurd h
+      events event reply open_still h = grind (arith, nat_tests, stays, begins, begins-key)
 
 pub event-spares : {N B W : Type 0} (m : Seen N B W) (v : ℕ) (u u' : World) → OwnersAreThere u.core → (event : Event N B W) (reply : EventReply N B W) → step_of v event reply ≡ [] → KeepsOpen event
     → Happens m u event reply u' → Spares (owner_worker v) u.core u'.core
 event-spares m v u u' there event reply others stays h = (events (owner_worker v) (worker-apart v) 0 0 0 v refl m u u' event reply stays h).spares (there, others)
 
+pub keeps-open : {N B W : Type 0} (event : Event N B W) → LeavesCache event → KeepsOpen event
+keeps-open x0 leaves = grind (arith, nat_tests)
+
 pub event-lasts : (kind key n : ℕ) {N B W : Type 0} (m : Seen N B W) (u u' : World) (event : Event N B W) (reply : EventReply N B W) → LeavesCache event → Happens m u event reply u'
     → Lasts kind key n u.core u'.core
-event-lasts kind key n {N} {B} {W} m u u' event reply leaves h = (events (owner_worker 0) (worker-apart 0) kind key n 0 refl m u u' event reply (open-still event leaves) h).lasts leaves
-  where
-    open-still : (event : Event N B W) → LeavesCache event → KeepsOpen event
-    open-still (Event.Call Call.Close) leaves = leaves
-    open-still event leaves = tt
+event-lasts kind key n {N} {B} {W} m u u' event reply leaves h = (events (owner_worker 0) (worker-apart 0) kind key n 0 refl m u u' event reply (keeps-open event leaves) h).lasts leaves
 
 -- ---- the list
 
@@ -432,3 +627,74 @@ walk-spares-list m u s s' w' step answer does ends =
 -- and so does a handle of the caller's that is released
 pub release-spares-list : {w w' : Core} {h : HandleNumber} (r : Result (Unit {0}) Error) → ReleaseCall w Owner.Caller h r w' → Spares Owner.List w w'
 release-spares-list r c = (releases Owner.List list-apart 0 0 0 {O = Unit {0}} {C = Unit {0}} (λ o is. absurd (cc)) r c).spares tt
+
+-- A list of whose handles none goes gets no shorter.
+
+abbrev has : ℕ → HandleNumber → Bool
+has q h = h.0 == q
+
+-- a list that has a number, without it once
+record Without (n : ℕ) (xs : List HandleNumber) : Type 0 where
+  pub rest : List HandleNumber
+  pub shorter : length xs ≡ length rest + 1
+  pub counts : (q : ℕ) → times (has q) xs ≡ one (n == q) + times (has q) rest
+
+without : (n : ℕ) (xs : List HandleNumber) → 0 < times (has n) xs → Without n xs
+without n [] some = absurd (omega arith)
+without n (x ∷ xs) some = by (λ more. without n xs more) (x.0 == n) refl
+  where
+    by : (0 < times (has n) xs → Without n xs) → (b : Bool) → (x.0 == n) ≡ b → Without n (x ∷ xs)
+    by later true e = record { rest = xs; shorter = omega arith; counts = λ q. sum_by-cons (λ h. one (has q h)) x xs ∙ ap (λ k. one (k == q) + times (has q) xs) (same-number _ _ e) }
+    by later false e =
+        let here : one (has n x) ≡ 0 = ap one e in
+        let sum = sum_by-cons (λ h. one (has n h)) x xs in
+        let w = later (omega (arith, some, here, sum)) in
+        record {
+          rest = x ∷ w.rest;
+          shorter = let s = w.shorter in omega arith;
+          counts = λ q. let a = w.counts q in let b = sum_by-cons (λ h. one (has q h)) x xs in let c = sum_by-cons (λ h. one (has q h)) x w.rest in omega arith;
+        }
+
+-- what has each number as often is as long
+fewer : (xs ys : List HandleNumber) → ((q : ℕ) → times (has q) xs ≤ times (has q) ys) → length xs ≤ length ys
+fewer [] ys le = omega arith
+fewer (x ∷ xs) ys le =
+    let first = le x.0 in
+    let sum = sum_by-cons (λ h. one (has x.0 h)) x xs in
+    let here : one (x.0 == x.0) ≡ 1 = ap one (self-number x.0) in
+    let w = without x.0 ys (omega (arith, first, sum, here)) in
+    let rest = fewer xs w.rest (λ q. let a = le q in let b = sum_by-cons (λ h. one (has q h)) x xs in let c = w.counts q in omega (arith, a, b, c)) in
+    let s = w.shorter in
+    omega (arith, rest, s)
+
+found : {w : Core} → HandlesAreWhole w → (q : ℕ) (x : HandleRow) → Among w.rows x → x.number.0 ≡ q → find_row q w.rows ≡ Some x
+found {w} whole q x among is = by (find_row q w.rows) refl
+  where
+    by : (f : Option HandleRow) → find_row q w.rows ≡ f → find_row q w.rows ≡ Some x
+    by None e = absurd (none-found q w.rows x e among is)
+    by (Some r) e = e ∙ ap (λ (y : HandleRow). Some y) (once w.rows whole.ordered r x (among-found q w.rows r e) among (found-number q w.rows r e ∙ sym is))
+
+pub none-shorter : {w w' : Core} → IsWhole w → IsWhole w' → Spares Owner.List w w' → length w.list ≤ length w'.list
+none-shorter {w} {w'} whole whole' spares = fewer w.list w'.list (λ q. each q (times (own q) w.rows) refl)
+  where
+    own : ℕ → HandleRow → Bool
+    own q h = is_handle q h && is_owned_by Owner.List h
+
+    less : (a b : Bool) → one (a && b) ≤ one a
+    less true b = grind (arith, nat_tests)
+    less false b = omega arith
+
+    each : (q n : ℕ) → times (own q) w.rows ≡ n → times (has q) w.list ≤ times (has q) w'.list
+    each q zero e = let a = whole.owners_there.listed q in omega (arith, a, e)
+    each q (suc n) e =
+        let x = counted (λ h. one (own q h)) w.rows (omega (arith, e)) in
+        let both = and_parts (is_handle q x.0) (is_owned_by Owner.List x.0) (one-true _ x.2) in
+        let mine : x.0.owner ≡ Owner.List = same-owner Owner.List x.0.owner both.1 in
+        let s = spares.each q x.0 mine (stands-whole whole.handles q x.0 (found whole.handles q x.0 x.1 (same-number _ _ both.0))) in
+        let there = at-most-sum (λ h. one (own q h)) w'.rows x.0 (among-found q w'.rows x.0 s.live) in
+        let few = handles-once whole.handles q in
+        let le = sum-le (λ h. one (own q h)) (λ h. one (is_handle q h)) w.rows (λ h among. less (is_handle q h) (is_owned_by Owner.List h)) in
+        let a = whole.owners_there.listed q in
+        let b = whole'.owners_there.listed q in
+        let c = x.2 in
+        omega (arith, there, few, le, a, b, c)

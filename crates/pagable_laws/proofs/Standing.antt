@@ -1,7 +1,133 @@
+-- What a worker's step does to the slots of its table: each grows, and only those of the worker change.
+use Rattle.pagable_laws.proofs.Words.{◌≡◌, ℕ, ◌==◌, ◌⊎◌, Bool, true, false, refl, ap, sym, subst, ◌∙◌, arith, Option, Some, None, nat_eq, if◌then◌else◌, nat_tests, and_parts, Identity, if_there}
+use Rattle.pagable_laws.proofs.Words.{Shelf, Slot, Outcome, failed, Written, Task, is_identity, SameShelf, with_slot, with_changed_slot, with_outcome, with_failed, is_open_outcome, IsPublished, Meets}
+use Rattle.pagable_laws.proofs.Words.{meets-of-item, meets-entry, meets-below, ◌≤◌, ◌||◌, List, [], ◌∷◌, is_some, WorkerAnswer, identity_of, no_result, Todo, to_start, to_pin, to_load, to_write}
+use Rattle.pagable_laws.proofs.Words.{to_finish, to_item, to_set, to_publish, to_release, to_fail, of_item, Walking, suc, ◌++◌, inl, inr, drop, length, max, ArcRef, HandleNumber, Among, above, Open}
+use Rattle.pagable_laws.proofs.{Words.{Fault, next_start, settle, give, published, open_node, ◌<◌, of_entry, first_todo}, Sums.same-number}
+use Rattle.std.proofs.lemmas.Bool.{or_cases, or_left, or_right, false_from_ne_true, cases_Bool}
+
+-- the slot has the same worker, and what was written and the result stay
+pub record SlotGrows (slot slot' : Slot) : Type 0 where
+  pub worker : slot'.worker ≡ slot.worker
+  pub written : (w : Written) → slot.written ≡ Some w → slot'.written ≡ Some w
+  pub outcome : is_open_outcome slot.outcome ≡ false → slot'.outcome ≡ slot.outcome
+
+-- what a step of the worker does to what stands at one identity
+pub data SlotChanges (v : ℕ) (a b : Option Slot) : Type 0 where
+  stays : b ≡ a → SlotChanges v a b
+  is-new : (slot : Slot) → a ≡ None → b ≡ Some slot → slot.worker ≡ v → SlotChanges v a b
+  is-changed : (slot slot' : Slot) → a ≡ Some slot → slot.worker ≡ v → b ≡ Some slot' → SlotGrows slot slot' → SlotChanges v a b
+
+abbrev pub Changes : ℕ → Shelf → Shelf → Type 0
+Changes v shelf shelf' = (i : Identity) → SlotChanges v (shelf.slots i) (shelf'.slots i)
+
+-- each slot is there afterwards, and grows
+abbrev pub ShelfGrows : Shelf → Shelf → Type 0
+ShelfGrows shelf shelf' = (i : Identity) (slot : Slot) → shelf.slots i ≡ Some slot → (slot' : Slot) × (shelf'.slots i ≡ Some slot') × SlotGrows slot slot'
+
+pub some-same : {X : Type 0} {x y : X} {a : Option X} → a ≡ Some x → a ≡ Some y → x ≡ y
+some-same is other = cc
+
+pub some-none : {X A : Type 0} {x : X} {a : Option X} → a ≡ Some x → a ≡ None → A
+some-none is other = absurd (cc)
+
+grows-self : (slot : Slot) → SlotGrows slot slot
+grows-self slot = record { worker = refl; written = λ w is. is; outcome = λ closed. refl }
+
+pub grows : (v : ℕ) (shelf shelf' : Shelf) → Changes v shelf shelf' → ShelfGrows shelf shelf'
+grows v shelf shelf' changes i slot there = grind (arith, grows-self, some-none, some-same)
+
+-- what another claimed stays as it is
+pub others-stay : (v u : ℕ) (shelf shelf' : Shelf) → Changes v shelf shelf' → nat_eq u v ≡ false → (i : Identity) (slot : Slot) → shelf.slots i ≡ Some slot → slot.worker ≡ u
+    → shelf'.slots i ≡ Some slot
+others-stay v u shelf shelf' changes other i slot there of_it = grind (arith, some-none, some-same)
+
+-- and what is another's was so
+pub others-were : (v u : ℕ) (shelf shelf' : Shelf) → Changes v shelf shelf' → nat_eq u v ≡ false → (i : Identity) (slot : Slot) → shelf'.slots i ≡ Some slot → slot.worker ≡ u
+    → shelf.slots i ≡ Some slot
+others-were v u shelf shelf' changes other i slot there of_it = grind (arith, some-same)
+
+pub meets-grow : (shelf shelf' : Shelf) (task : Task) (i : Identity) → ShelfGrows shelf shelf' → Meets shelf task i → Meets shelf' task i
+meets-grow shelf shelf' task i more (meets-of-item written r is among) = meets-of-item written r is among
+meets-grow shelf shelf' task i more (meets-entry h j is) = meets-entry h j is
+meets-grow shelf shelf' task i more (meets-below j slot written r meets there is among) =
+    let a = more j slot there in
+    meets-below j a.0 written r (meets-grow shelf shelf' task j more meets) a.1 (a.2.written written is) among
+
+pub published-stays : (shelf shelf' : Shelf) (i : Identity) (key height : ℕ) → ShelfGrows shelf shelf' → IsPublished shelf i key height → IsPublished shelf' i key height
+published-stays shelf shelf' i key height more p = grind arith
+
+-- ---- the ways in which a table changes
+
+pub same-slots : (v : ℕ) (shelf shelf' : Shelf) → ((i : Identity) → shelf'.slots i ≡ shelf.slots i) → Changes v shelf shelf'
+same-slots v shelf shelf' same i = stays (same i)
+
+pub is-self : (i : Identity) → is_identity i i ≡ true
+is-self i = let a : (i.kind.0 == i.kind.0) ≡ true = grind (arith, nat_tests) in let b : (i.node.0 == i.node.0) ≡ true = grind (arith, nat_tests) in rw (a, b) refl
+
+pub is-same : (i j : Identity) → is_identity i j ≡ true → j ≡ i
+is-same i j is = grind (arith, and_parts, same-number)
+
+-- one slot is put in
+pub record PutsSlot (slots slots' : Identity → Option Slot) (i : Identity) (slot : Slot) : Type 0 where
+  pub at : slots' i ≡ Some slot
+  pub elsewhere : (j : Identity) → is_identity i j ≡ false → slots' j ≡ slots j
+
+pub puts-slot : (shelf shelf' : Shelf) (i : Identity) (slot : Slot) → SameShelf (with_slot shelf i (Some slot)) shelf' → PutsSlot shelf.slots shelf'.slots i slot
+puts-slot shelf shelf' i slot same = grind (arith, is-self)
+
+pub changes-slot : (shelf shelf' : Shelf) (i : Identity) (slot : Slot) (f : Slot → Slot) → shelf.slots i ≡ Some slot → SameShelf (with_changed_slot shelf i f) shelf'
+    → PutsSlot shelf.slots shelf'.slots i (f slot)
+changes-slot shelf shelf' i slot f there same = grind (arith, puts-slot)
+
+-- what stands there afterwards is this, or stood there
+pub put-cases : (slots slots' : Identity → Option Slot) (i : Identity) (new : Slot) → PutsSlot slots slots' i new → (j : Identity) (slot : Slot) → slots' j ≡ Some slot
+    → ((j ≡ i) × (slot ≡ new)) ⊎ ((is_identity i j ≡ false) × (slots j ≡ Some slot))
+put-cases slots slots' i new puts j slot there = grind (arith, is-same, some-same)
+
+put-by : (v : ℕ) (shelf shelf' : Shelf) (i : Identity) (slot : Slot) → PutsSlot shelf.slots shelf'.slots i slot → SlotChanges v (shelf.slots i) (Some slot) → Changes v shelf shelf'
+put-by v shelf shelf' i slot puts at j = elim (cases_Bool (is_identity i j)) [
+  | inr e ↦ stays (puts.elsewhere j e)
+  | inl e ↦ subst (λ k. SlotChanges v (shelf.slots k) (shelf'.slots k)) (sym (is-same i j e)) (subst (λ o. SlotChanges v (shelf.slots i) o) (sym puts.at) at)
+]
+
+pub puts-new : (v : ℕ) (shelf shelf' : Shelf) (i : Identity) (slot : Slot) → PutsSlot shelf.slots shelf'.slots i slot → shelf.slots i ≡ None → slot.worker ≡ v → Changes v shelf shelf'
+puts-new v shelf shelf' i slot puts none of_it = put-by v shelf shelf' i slot puts (is-new slot none refl of_it)
+
+pub puts-own : (v : ℕ) (shelf shelf' : Shelf) (i : Identity) (old slot : Slot) → PutsSlot shelf.slots shelf'.slots i slot → shelf.slots i ≡ Some old → old.worker ≡ v
+    → SlotGrows old slot → Changes v shelf shelf'
+puts-own v shelf shelf' i old slot puts there of_it more = put-by v shelf shelf' i slot puts (is-changed old slot there of_it refl more)
+
+-- a first result stays
+pub outcome-grows : (outcome : Outcome) (slot : Slot) → SlotGrows slot (with_outcome outcome slot)
+outcome-grows outcome slot = grind (arith, grows-self)
+
+-- of the claims of a worker that fails each has a result
+failed-slot : (slot : Slot) → is_open_outcome (with_outcome failed slot).outcome ≡ false
+failed-slot slot = grind arith
+
+pub all-failed : (v : ℕ) (shelf shelf' : Shelf) → SameShelf (with_failed shelf v) shelf' → (i : Identity) (slot : Slot) → shelf'.slots i ≡ Some slot → slot.worker ≡ v
+    → is_open_outcome slot.outcome ≡ false
+all-failed v shelf shelf' same i slot there own = grind (arith, some-same, failed-slot)
+
+-- none comes by that
+pub none-fails : (v : ℕ) (shelf shelf' : Shelf) → SameShelf (with_failed shelf v) shelf' → (i : Identity) → shelf.slots i ≡ None → shelf'.slots i ≡ None
+none-fails v shelf shelf' same i none = same.slots i ∙ ap (λ o. if_there (λ (slot : Slot). Some (if nat_eq slot.worker v then with_outcome failed slot else slot)) None o) none
+
+pub fails-own : (v : ℕ) (shelf shelf' : Shelf) → SameShelf (with_failed shelf v) shelf' → Changes v shelf shelf'
+fails-own v shelf shelf' same i = by (shelf.slots i) refl (same.slots i)
+  where
+    of-slot : (slot : Slot) → shelf.slots i ≡ Some slot → (b : Bool) → nat_eq slot.worker v ≡ b → shelf'.slots i ≡ Some (if b then with_outcome failed slot else slot)
+        → SlotChanges v (shelf.slots i) (shelf'.slots i)
+    of-slot slot there true own is = is-changed slot (with_outcome failed slot) there (grind (arith, nat_tests)) is (outcome-grows failed slot)
+    of-slot slot there false own is = stays (is ∙ sym there)
+
+    by : (o : Option Slot) → shelf.slots i ≡ o → shelf'.slots i ≡ if_there (λ (slot : Slot). Some (if nat_eq slot.worker v then with_outcome failed slot else slot)) None o
+        → SlotChanges v (shelf.slots i) (shelf'.slots i)
+    by None none is = stays (is ∙ sym none)
+    by (Some slot) there is = of-slot slot there (nat_eq slot.worker v) refl is
+
 -- What stands of each worker's to-do list and of the slots of its table after each event, without trees: the invariant of chains.
-use Rattle.pagable_laws.proofs.Words.{◌≡◌, ℕ, ◌≤◌, ◌||◌, Bool, true, false, List, [], ◌∷◌, Option, Some, None, is_some, Identity, WorkerAnswer, identity_of, Shelf, Slot, Outcome, no_result}
-use Rattle.pagable_laws.proofs.Words.{failed, Written, Todo, to_start, to_pin, to_load, to_write, to_finish, to_item, to_set, to_publish, to_release, to_fail, Task, of_item, Walking, is_identity}
-use Rattle.pagable_laws.proofs.Words.{IsPublished, Meets}
 
 -- whether this is to be done about a claim of the identity that has no result yet
 abbrev pub is_open_of : Identity → Todo → Bool
@@ -83,3 +209,428 @@ pub record WorkStands (shelves : ℕ → Shelf) (walkings : ℕ → Option Walki
   pub slots : (t : ℕ) (i : Identity) (slot : Slot) → (shelves t).slots i ≡ Some slot → SlotStands (shelves t) walkings t i slot
   pub workers : (v : ℕ) (walking : Walking) → walkings v ≡ Some walking → WalkingStands (shelves walking.table) v walking
   pub numbered : (v : ℕ) (walking : Walking) → walkings v ≡ Some walking → v ≤ last
+
+-- A worker's step keeps what stands of its to-do list and of its table.
+
+pub true-false : {A : Type 0} {b : Bool} → b ≡ true → b ≡ false → A
+true-false is other = absurd (cc)
+
+-- ---- what stands goes on to stand
+
+module _ (u : ℕ) (task : Task) (shelf shelf' : Shelf) (more : ShelfGrows shelf shelf') where
+  claim-stays : (i : Identity) {so : Option Written → Type 0} → ((slot : Slot) → shelf.slots i ≡ Some slot → slot.worker ≡ u → shelf'.slots i ≡ Some slot) → IsMetClaim shelf u task i so
+      → IsMetClaim shelf' u task i so
+  claim-stays i keeps (meets, c) = grind (arith, meets-grow)
+
+  -- each claim that this is about is kept
+  abbrev pub KeepsOf : (Identity → Bool) → Type 0
+  KeepsOf test = (i : Identity) → test i ≡ true → (slot : Slot) → shelf.slots i ≡ Some slot → slot.worker ≡ u → shelf'.slots i ≡ Some slot
+
+  one-stays : (x : Todo) (below : List Todo) → KeepsOf (λ i. is_open_of i x) → Stands shelf u task x below → Stands shelf' u task x below
+  one-stays x0 below keeps x3 = grind (arith, nat_tests, meets-grow, claim-stays, is-self, published-stays)
+
+  pub all-stay : (todo : List Todo) → KeepsOf (λ i. is_open_in i todo) → AllStand shelf u task todo → AllStand shelf' u task todo
+  unfolding AllStand is_open_in
+  all-stay [] keeps all = tt
+  all-stay (x ∷ below) keeps (stands, apart, rest) = (
+    one-stays x below (λ i is. keeps i (or_left (is_open_of i x) (is_open_in i below) is)) stands,
+    apart,
+    all-stay below (λ i is. keeps i (or_right (is_open_of i x) (is_open_in i below) is)) rest,
+  )
+
+-- ---- one worker
+
+module _ (v : ℕ) (task : Task) where
+  module _ (shelf : Shelf) (i : Identity) where
+    abbrev pub IsSlot : Type 0
+    IsSlot = (slot : Slot) × (shelf.slots i ≡ Some slot)
+
+    of-claim : (j : Identity) {so : Option Written → Type 0} → HasClaim shelf v j so → is_identity i j ≡ true → IsSlot
+    of-claim j c is = (c.slot, sym (ap shelf.slots (is-same i j is)) ∙ c.claimed)
+
+    of-one : (x : Todo) (below : List Todo) → Stands shelf v task x below → is_open_of i x ≡ true → IsSlot
+    of-one x0 below stands is = grind (arith, nat_tests, of-claim)
+
+    -- what is open has a slot
+    pub open-slot : (todo : List Todo) → AllStand shelf v task todo → is_open_in i todo ≡ true → IsSlot
+    unfolding AllStand is_open_in
+    open-slot [] all is = absurd (cc)
+    open-slot (x ∷ below) (stands, apart, rest) is = elim (or_cases (is_open_of i x) (is_open_in i below) is) [ inl a ↦ of-one x below stands a | inr b ↦ open-slot below rest b ]
+
+  -- each claim without a result is worked at
+  abbrev pub CoversBy : Shelf → List Todo → Type 0
+  CoversBy shelf todo = (i : Identity) (slot : Slot) → shelf.slots i ≡ Some slot → slot.worker ≡ v → slot.outcome ≡ no_result → is_open_in i todo ≡ true
+
+  -- table and list after a step
+  pub record Goes (shelf : Shelf) (answer : Option WorkerAnswer) (shelf' : Shelf) (todo : List Todo) : Type 0 where
+    pub changes : Changes v shelf shelf'
+    pub all : AllStand shelf' v task todo
+    pub covers : Covers shelf' v todo
+    pub unfailed : answer ≡ None → HasNoFailed shelf' v
+    pub done : (a : WorkerAnswer) → answer ≡ Some a → todo ≡ []
+    pub met : (i : Identity) (slot : Slot) → shelf.slots i ≡ None → shelf'.slots i ≡ Some slot → Meets shelf' task i
+
+  -- the same slots
+  module _ (shelf shelf' : Shelf) (same : (i : Identity) → shelf'.slots i ≡ shelf.slots i) (clean : HasNoFailed shelf v) where
+    pub plain : (answer : Option WorkerAnswer) (todo : List Todo) → ((a : WorkerAnswer) → answer ≡ Some a → todo ≡ []) → AllStand shelf v task todo → CoversBy shelf todo
+        → Goes shelf answer shelf' todo
+    plain answer todo done all covers =
+        record {
+          changes = same-slots v shelf shelf' same;
+          all = all-stay v task shelf shelf' (grows v shelf shelf' (same-slots v shelf shelf' same)) todo (λ i is slot there own. same i ∙ there) all;
+          covers = λ i slot there own still. or_right (is_failing todo) (is_open_in i todo) (covers i slot (sym (same i) ∙ there) own still);
+          unfailed = λ none i slot there own. clean i slot (sym (same i) ∙ there) own;
+          done = done;
+          met = λ i slot none there. some-none (sym (same i) ∙ there) none;
+        }
+
+    pub fails : (fault : Fault) (back : Option HandleNumber) → Goes shelf None shelf' (to_fail fault back ∷ [])
+    unfolding AllStand is_open_in
+    fails fault back =
+        record {
+          changes = same-slots v shelf shelf' same;
+          all = (tt, (λ i is. absurd (cc)), tt);
+          covers = λ i slot there own still. refl;
+          unfailed = λ none i slot there own. clean i slot (sym (same i) ∙ there) own;
+          done = λ a is. absurd (cc);
+          met = λ i slot none there. some-none (sym (same i) ∙ there) none;
+        }
+
+    -- what stands at the front becomes something else about the same claim
+    pub swaps : (x y : Todo) (below : List Todo) → AllStand shelf v task (x ∷ below) → CoversBy shelf (x ∷ below) → ((i : Identity) → is_open_of i y ≡ is_open_of i x)
+        → (Stands shelf v task x below → Stands shelf v task y below) → Goes shelf None shelf' (y ∷ below)
+    unfolding AllStand is_open_in
+    swaps x y below (stands, apart, rest) covers about goes =
+        plain None (y ∷ below) (λ a is. absurd (cc)) (goes stands, (λ i is. apart i (sym (about i) ∙ is)), rest)
+        (λ i slot there own still. ap (λ b. b || is_open_in i below) (about i) ∙ covers i slot there own still)
+
+  -- ---- references are started
+
+  among-drop : (k : ℕ) (rs : List ArcRef) (r : ArcRef) → Among (drop k rs) r → Among rs r
+  among-drop (suc k) (x ∷ rs) r among = let a = among-drop k rs r among in (suc a.0, a.1)
+  among-drop x0 x1 r among = grind (arith, nat_tests)
+
+  module _ (shelf : Shelf) where
+    started : (place : ℕ) (rs : List ArcRef) (todo : List Todo) → ((r : ArcRef) → Among rs r → Meets shelf task (identity_of r)) → AllStand shelf v task todo
+        → AllStand shelf v task (next_start place rs ++ todo)
+    unfolding AllStand
+    started place x1 todo meets all = grind (arith, nat_tests)
+
+    pub started-open : (i : Identity) (place : ℕ) (rs : List ArcRef) (todo : List Todo) → is_open_in i (next_start place rs ++ todo) ≡ is_open_in i todo
+    unfolding is_open_in
+    started-open i place x2 todo = grind (arith, nat_tests)
+
+    pub settles : (o : Open) (below : List Todo) → AllStand shelf v task (to_finish o ∷ below) → AllStand shelf v task (settle (to_finish o ∷ below))
+    unfolding AllStand
+    settles o below ((meets, c), apart, rest) =
+        started o.place (drop (length o.keys) o.written.references) (to_finish o ∷ below)
+        (λ r among. meets-below (identity_of o.reference) c.slot o.written r meets c.claimed c.written_so (among-drop (length o.keys) o.written.references r among)) ((meets, c), apart, rest)
+
+    pub item-settles : (written : Written) (keys : List ℕ) (below : List Todo) → AllStand shelf v task (to_item written keys ∷ below) → AllStand shelf v task (settle (to_item written keys ∷ below))
+    unfolding AllStand
+    item-settles written keys below ((is, last), apart, rest) =
+        started 0 (drop (length keys) written.references) (to_item written keys ∷ below) (λ r among. meets-of-item written r is (among-drop (length keys) written.references r among))
+        ((is, last), apart, rest)
+
+    pub gives : (r : ArcRef) (key height : ℕ) (todo : List Todo) → AllStand shelf v task todo → AllStand shelf v task (give r key height todo)
+    unfolding AllStand
+    gives r key height [] all = all
+    gives r key height (to_finish o ∷ below) all = settles (record o { keys = o.keys ++ key ∷ []; height = max o.height (above r.kind.0 height) }) below all
+    gives r key height (to_item written keys ∷ below) all = item-settles written (keys ++ key ∷ []) below all
+    gives r key height (_ ∷ below) all = all
+
+    pub given-open : (i : Identity) (r : ArcRef) (key height : ℕ) (todo : List Todo) → is_open_in i (give r key height todo) ≡ is_open_in i todo
+    unfolding is_open_in
+    given-open i r key height x4 = grind (arith, nat_tests, above, started-open)
+
+-- Each kind of a worker's step: what it does to its list and to the slots.
+
+-- what is open about the identity itself
+open-self : (i j : Identity) (rest : Bool) → j ≡ i → (is_identity j i || rest) ≡ true
+open-self i j rest is = subst (λ k. (is_identity k i || rest) ≡ true) (sym is) (or_left (is_identity i i) rest (is-self i))
+
+module _ (v : ℕ) (task : Task) (shelf shelf' : Shelf) (clean : HasNoFailed shelf v) where
+  -- what is to be done below stands where the slot of another claim changes
+  below-stays : (i : Identity) (slot : Slot) (below : List Todo) → PutsSlot shelf.slots shelf'.slots i slot → Changes v shelf shelf' → is_open_in i below ≡ false
+      → AllStand shelf v task below → AllStand shelf' v task below
+  below-stays i slot below puts changes apart all = grind (arith, nat_tests, all-stay, false_from_ne_true, true-false, is-same)
+
+  -- an own slot changes, or comes, that hasn't failed
+  clean-still : (i : Identity) (new : Slot) → PutsSlot shelf.slots shelf'.slots i new → is_failed new.outcome ≡ false → HasNoFailed shelf' v
+  clean-still i new puts good j slot there own = elim (put-cases shelf.slots shelf'.slots i new puts j slot there) [ inl e ↦ ap (λ (s : Slot). is_failed s.outcome) e.1 ∙ good | inr e ↦ clean j slot e.1 own ]
+
+  abbrev new-slot : Slot
+  new-slot = record { worker = v; written = None; outcome = no_result }
+
+  -- the identity is claimed
+  pub claimed : (r : ArcRef) (place : ℕ) (below : List Todo) → AllStand shelf v task (to_start r place ∷ below) → CoversBy v task shelf (to_start r place ∷ below) → shelf.slots (identity_of r) ≡ None
+      → PutsSlot shelf.slots shelf'.slots (identity_of r) new-slot → Goes v task shelf None shelf' (to_pin r place ∷ below)
+  unfolding AllStand is_open_in
+  claimed r place below (meets, apart, rest) covers none puts =
+      let changes : Changes v shelf shelf' = puts-new v shelf shelf' (identity_of r) new-slot puts none refl in
+      let more : ShelfGrows shelf shelf' = grows v shelf shelf' changes in
+      let meets_now : Meets shelf' task (identity_of r) = meets-grow shelf shelf' task (identity_of r) more meets in
+      let free : is_open_in (identity_of r) below ≡ false =
+      false_from_ne_true (is_open_in (identity_of r) below) (λ is. let a = open-slot v task shelf (identity_of r) below rest is in some-none a.1 none) in
+      record {
+        changes = changes;
+        all = (
+          (meets_now, record { slot = new-slot; claimed = puts.at; own = refl; no_result_yet = refl; written_so = refl }),
+          (λ i is. subst (λ k. is_open_in k below ≡ false) (is-same i (identity_of r) is) free),
+          below-stays (identity_of r) new-slot below puts changes free rest,
+        );
+        covers = λ i slot there own still. elim (put-cases shelf.slots shelf'.slots (identity_of r) new-slot puts i slot there) [
+          | inl e ↦ open-self (identity_of r) i (is_open_in i below) e.0
+          | inr e ↦ or_right (is_identity i (identity_of r)) (is_open_in i below) (covers i slot e.1 own still)
+        ];
+        unfailed = λ nothing. clean-still (identity_of r) new-slot puts refl;
+        done = λ a is. absurd (cc);
+        met = λ i slot no there. elim (put-cases shelf.slots shelf'.slots (identity_of r) new-slot puts i slot there) [
+          | inl e ↦ subst (λ k. Meets shelf' task k) (sym e.0) meets_now
+          | inr e ↦ some-none e.1 no
+        ];
+      }
+
+  -- an own slot changes: nothing comes that isn't met
+  none-comes : (i : Identity) (old new : Slot) → PutsSlot shelf.slots shelf'.slots i new → shelf.slots i ≡ Some old → (j : Identity) (slot : Slot) → shelf.slots j ≡ None
+      → shelf'.slots j ≡ Some slot → Meets shelf' task j
+  none-comes i old new puts was j slot none there = grind (arith, nat_tests)
+
+  -- a worker's own open slot
+  abbrev wrote : Slot → Written → Slot
+  wrote slot written = record slot { written = Some written }
+
+  wrote-grows : (slot : Slot) (written : Written) → slot.written ≡ None → SlotGrows slot (wrote slot written)
+  wrote-grows slot written none = record { worker = refl; written = λ w is. some-none is none; outcome = λ closed. refl }
+
+  -- the value is written
+  pub written-goes : (r : ArcRef) (place : ℕ) (through : HandleNumber) (written : Written) (below : List Todo) → AllStand shelf v task (to_write r place through ∷ below)
+      → CoversBy v task shelf (to_write r place through ∷ below)
+      → SameShelf (with_changed_slot shelf (identity_of r) (λ slot. record slot { written = Some written })) shelf' → Goes v task shelf None shelf' (open_node r place through written below)
+  unfolding AllStand is_open_in
+  written-goes r place through written below ((meets, c), apart, rest) covers same =
+      let new : Slot = wrote c.slot written in
+      let puts : PutsSlot shelf.slots shelf'.slots (identity_of r) new = changes-slot shelf shelf' (identity_of r) c.slot (λ slot. record slot { written = Some written }) c.claimed same in
+      let changes : Changes v shelf shelf' = puts-own v shelf shelf' (identity_of r) c.slot new puts c.claimed c.own (wrote-grows c.slot written c.written_so) in
+      let more : ShelfGrows shelf shelf' = grows v shelf shelf' changes in
+      let free : is_open_in (identity_of r) below ≡ false = apart (identity_of r) (is-self (identity_of r)) in
+      let o : Open = record { reference = r; place = place; through = through; written = written; keys = []; height = 0 } in
+      record {
+        changes = changes;
+        all = settles v task shelf' o below (
+          (meets-grow shelf shelf' task (identity_of r) more meets, record { slot = new; claimed = puts.at; own = c.own; no_result_yet = c.no_result_yet; written_so = refl }),
+          apart,
+          below-stays (identity_of r) new below puts changes free rest,
+        );
+        covers = λ i slot there own still. or_right (is_failing (open_node r place through written below)) (is_open_in i (open_node r place through written below))
+            (started-open v task shelf' i place (drop 0 written.references) (to_finish o ∷ below) ∙ covered puts covers i slot there own still);
+        unfailed = λ nothing. clean-still (identity_of r) new puts (ap is_failed c.no_result_yet);
+        done = λ a is. absurd (cc);
+        met = none-comes (identity_of r) c.slot new puts c.claimed;
+      }
+    where
+      covered : {new : Slot} → PutsSlot shelf.slots shelf'.slots (identity_of r) new → CoversBy v task shelf (to_write r place through ∷ below) → (i : Identity) (slot : Slot)
+          → shelf'.slots i ≡ Some slot → slot.worker ≡ v → slot.outcome ≡ no_result
+          → (is_identity i (identity_of r) || is_open_in i below) ≡ true
+      covered {new = new} puts covers i slot there own still = grind (arith, nat_tests, put-cases, open-self)
+
+  -- key and height are published
+  pub published-goes : (r : ArcRef) (key height : ℕ) (below : List Todo) → AllStand shelf v task (to_publish r key height ∷ below) → CoversBy v task shelf (to_publish r key height ∷ below)
+      → SameShelf (with_changed_slot shelf (identity_of r) (with_outcome (published key height))) shelf' → Goes v task shelf None shelf' (to_release r key height ∷ below)
+  unfolding AllStand is_open_in
+  published-goes r key height below ((meets, c), apart, rest) covers same =
+      let new : Slot = with_outcome (published key height) c.slot in
+      let puts : PutsSlot shelf.slots shelf'.slots (identity_of r) new = changes-slot shelf shelf' (identity_of r) c.slot (with_outcome (published key height)) c.claimed same in
+      let changes : Changes v shelf shelf' = puts-own v shelf shelf' (identity_of r) c.slot new puts c.claimed c.own (outcome-grows (published key height) c.slot) in
+      let more : ShelfGrows shelf shelf' = grows v shelf shelf' changes in
+      let free : is_open_in (identity_of r) below ≡ false = apart (identity_of r) (is-self (identity_of r)) in
+      let known : new.outcome ≡ published key height = is-known c.slot c.no_result_yet in
+      record {
+        changes = changes;
+        all = (
+          (meets-grow shelf shelf' task (identity_of r) more meets, record { slot = new; claimed = puts.at; known = known }),
+          (λ i is. absurd (cc)),
+          below-stays (identity_of r) new below puts changes free rest,
+        );
+        covers = λ i slot there own still. elim (put-cases shelf.slots shelf'.slots (identity_of r) new puts i slot there) [
+          | inl e ↦ let f : published key height ≡ no_result = sym known ∙ (sym (ap (λ (s : Slot). s.outcome) e.1) ∙ still) in absurd (cc)
+          | inr e ↦ not-here i e.0 (covers i slot e.1 own still)
+        ];
+        unfailed = λ nothing. clean-still (identity_of r) new puts (ap is_failed known);
+        done = λ a is. absurd (cc);
+        met = none-comes (identity_of r) c.slot new puts c.claimed;
+      }
+    where
+      is-known : (slot : Slot) → slot.outcome ≡ no_result → (with_outcome (published key height) slot).outcome ≡ published key height
+      is-known slot still = rw still refl
+
+      not-here : (i : Identity) → is_identity (identity_of r) i ≡ false → (is_identity i (identity_of r) || is_open_in i below) ≡ true → is_open_in i below ≡ true
+      not-here i other is = elim (or_cases (is_identity i (identity_of r)) (is_open_in i below) is) [
+        | inl e ↦ true-false (subst (λ k. is_identity (identity_of r) k ≡ true) (is-same i (identity_of r) e) (is-self (identity_of r))) other
+        | inr e ↦ e
+      ]
+
+  -- all goes
+  pub failed-goes : (answer : WorkerAnswer) → SameShelf (with_failed shelf v) shelf' → Goes v task shelf (Some answer) shelf' []
+  unfolding AllStand is_open_in
+  failed-goes answer same =
+      record {
+        changes = fails-own v shelf shelf' same;
+        all = tt;
+        covers = λ i slot there own still. let a = all-failed v shelf shelf' same i slot there own in absurd (closed slot a still);
+        unfailed = λ nothing. absurd (cc);
+        done = λ a is. refl;
+        met = λ i slot none there. some-none there (none-fails v shelf shelf' same i none);
+      }
+    where
+      closed : (slot : Slot) → is_open_outcome slot.outcome ≡ false → slot.outcome ≡ no_result → ⊥
+      closed slot a still = let b = ap is_open_outcome still in true-false b a
+
+-- What stands of all workers and tables goes on to stand, by what an event does to them.
+
+pub same-worker : (a b : ℕ) → nat_eq a b ≡ true → a ≡ b
+same-worker a b e = grind (arith, nat_tests)
+
+-- one worker, where what it claimed stays as it was
+walking-stays : (v : ℕ) (w : Walking) (shelf shelf' : Shelf) → ShelfGrows shelf shelf'
+    → ((i : Identity) (slot : Slot) → shelf.slots i ≡ Some slot → slot.worker ≡ v → shelf'.slots i ≡ Some slot)
+    → ((i : Identity) (slot : Slot) → shelf'.slots i ≡ Some slot → slot.worker ≡ v → shelf.slots i ≡ Some slot)
+    → WalkingStands shelf v w → WalkingStands shelf' v w
+walking-stays v w shelf shelf' more stay were stands = grind (arith, all-stay)
+
+-- a worker that keeps its table and its task
+pub record KeepsTask (walkings' : ℕ → Option Walking) (u : ℕ) (w : Walking) : Type 0 where
+  pub now : Walking
+  pub there : walkings' u ≡ Some now
+  pub table : now.table ≡ w.table
+  pub task : now.task ≡ w.task
+
+-- the worker v of the table claims and meets it
+pub record IsMetBy (shelf : Shelf) (walkings : ℕ → Option Walking) (v t : ℕ) (i : Identity) : Type 0 where
+  pub walking : Walking
+  pub there : walkings v ≡ Some walking
+  pub on_table : walking.table ≡ t
+  pub meets : Meets shelf walking.task i
+
+-- what an event does to tables and workers: it touches one worker, and claims of its own
+pub record Turned (v : ℕ) (shelves shelves' : ℕ → Shelf) (walkings walkings' : ℕ → Option Walking) : Type 0 where
+  pub changes : (t : ℕ) → Changes v (shelves t) (shelves' t)
+  pub others : (u : ℕ) → nat_eq u v ≡ false → walkings' u ≡ walkings u
+  pub own : (w : Walking) → walkings v ≡ Some w → KeepsTask walkings' v w
+  pub met : (t : ℕ) (i : Identity) (slot : Slot) → (shelves t).slots i ≡ None → (shelves' t).slots i ≡ Some slot → IsMetBy (shelves' t) walkings' v t i
+  pub stands : (w : Walking) → walkings' v ≡ Some w → WalkingStands (shelves' w.table) v w
+
+module _ (v : ℕ) (shelves shelves' : ℕ → Shelf) (walkings walkings' : ℕ → Option Walking) (turned : Turned v shelves shelves' walkings walkings') where
+  pub keeps-task : (u : ℕ) (w : Walking) → walkings u ≡ Some w → KeepsTask walkings' u w
+  keeps-task u w there = grind (arith, same-worker)
+
+  slot-stays : (t : ℕ) (i : Identity) (old slot : Slot) → slot.worker ≡ old.worker → SlotStands (shelves t) walkings t i old → SlotStands (shelves' t) walkings' t i slot
+  slot-stays t i old slot same stands =
+      let k = keeps-task old.worker stands.walking stands.there in
+      grind (arith, nat_tests, keeps-task, meets-grow, grows)
+
+  pub work-stands : (last last' : ℕ) → last ≤ last' → v ≤ last' → WorkStands shelves walkings last → WorkStands shelves' walkings' last'
+  work-stands last last' few small work =
+      record {
+        slots = λ t i slot there. elim (turned.changes t i) [
+          | stays same ↦ slot-stays t i slot slot refl (work.slots t i slot (sym same ∙ there))
+          | is-new new none is of_it ↦ let m = turned.met t i slot none there in let e = ap (λ (s : Slot). s.worker) (some-same there is) ∙ of_it in
+              record { walking = m.walking; there = ap walkings' e ∙ m.there; on_table = m.on_table; meets = m.meets }
+          | is-changed old new was own is more ↦ slot-stays t i old slot (ap (λ (s : Slot). s.worker) (some-same there is) ∙ more.worker) (work.slots t i old was)
+        ];
+        workers = λ u w there. elim (cases_Bool (nat_eq u v)) [
+          | inl e ↦ let is = same-worker u v e in subst (λ n. WalkingStands (shelves' w.table) n w) (sym is) (turned.stands w (sym (ap walkings' is) ∙ there))
+          | inr e ↦
+              let c = turned.changes w.table in
+              walking-stays u w (shelves w.table) (shelves' w.table) (grows v (shelves w.table) (shelves' w.table) c) (others-stay v u (shelves w.table) (shelves' w.table) c e)
+              (others-were v u (shelves w.table) (shelves' w.table) c e) (work.workers u w (sym (turned.others u e) ∙ there))
+        ];
+        numbered = λ u w there. elim (cases_Bool (nat_eq u v)) [
+          | inl e ↦ let is = same-worker u v e in omega (arith, is, small)
+          | inr e ↦ let few_then = work.numbered u w (sym (turned.others u e) ∙ there) in omega (arith, few_then, few)
+        ];
+      }
+
+-- ---- the events
+
+-- the same claims on each table
+abbrev pub SameSlots : (ℕ → Shelf) → (ℕ → Shelf) → Type 0
+SameSlots shelves shelves' = (t : ℕ) (i : Identity) → (shelves' t).slots i ≡ (shelves t).slots i
+
+module _ (shelves shelves' : ℕ → Shelf) (walkings walkings' : ℕ → Option Walking) (last : ℕ) (work : WorkStands shelves walkings last) (same : SameSlots shelves shelves') where
+  -- nothing is done to workers, and no claim is made
+  pub is-quiet : ((u : ℕ) → walkings' u ≡ walkings u) → Turned 0 shelves shelves' walkings walkings'
+  is-quiet stay =
+      record {
+        changes = λ t. same-slots 0 (shelves t) (shelves' t) (same t);
+        others = λ u other. stay u;
+        own = λ w there. record { now = w; there = stay 0 ∙ there; table = refl; task = refl };
+        met = λ t i slot none there. some-none (sym (same t i) ∙ there) none;
+        stands = λ w there.
+            walking-stays 0 w (shelves w.table) (shelves' w.table) (grows 0 (shelves w.table) (shelves' w.table) (same-slots 0 (shelves w.table) (shelves' w.table) (same w.table)))
+            (λ i slot is own. same w.table i ∙ is) (λ i slot is own. sym (same w.table i) ∙ is) (work.workers 0 w (sym (stay 0) ∙ there));
+      }
+
+  -- a worker that has no number yet has claimed nothing
+  unclaimed : (v t : ℕ) (i : Identity) (slot : Slot) → last < v → (shelves' t).slots i ≡ Some slot → slot.worker ≡ v → ⊥
+  unclaimed v t i slot above there own =
+      let s = work.slots t i slot (sym (same t i) ∙ there) in
+      let few = work.numbered slot.worker s.walking s.there in
+      omega arith
+
+  first-stands : (shelf : Shelf) (v : ℕ) (task : Task) → AllStand shelf v task (first_todo task)
+  unfolding AllStand is_open_in
+  first-stands shelf v (of_item written) = item-settles v (of_item written) shelf written [] [] ((refl, refl), (λ i is. absurd (cc)), tt)
+  first-stands shelf v (of_entry h i) = (meets-entry h i refl, (λ j is. absurd (cc)), tt)
+
+  -- a worker starts
+  pub is-started : (v : ℕ) (new : Walking) → last < v → new.todo ≡ first_todo new.task → new.answer ≡ None → walkings' v ≡ Some new
+      → ((u : ℕ) → nat_eq u v ≡ false → walkings' u ≡ walkings u) → Turned v shelves shelves' walkings walkings'
+  is-started v new above first none at others =
+      record {
+        changes = λ t. same-slots v (shelves t) (shelves' t) (same t);
+        others = others;
+        own = λ w there. let few = work.numbered v w there in absurd (omega arith);
+        met = λ t i slot nothing there. some-none (sym (same t i) ∙ there) nothing;
+        stands = λ w there. subst (λ x. WalkingStands (shelves' x.table) v x) (some-same at there) (record {
+          all = subst (λ todo. AllStand (shelves' new.table) v new.task todo) (sym first) (first-stands (shelves' new.table) v new.task);
+          covers = λ i slot is own still. absurd (unclaimed v new.table i slot above is own);
+          unfailed = λ nothing i slot is own. absurd (unclaimed v new.table i slot above is own);
+          done = λ answer is. some-none is none;
+        });
+      }
+
+-- a worker makes a step
+pub is-stepped : (v : ℕ) (shelves shelves' : ℕ → Shelf) (walkings walkings' : ℕ → Option Walking) (w now : Walking) → walkings v ≡ Some w → walkings' v ≡ Some now → now.table ≡ w.table
+    → now.task ≡ w.task
+    → ((u : ℕ) → nat_eq u v ≡ false → walkings' u ≡ walkings u) → ((t : ℕ) → nat_eq t w.table ≡ false → (i : Identity) → (shelves' t).slots i ≡ (shelves t).slots i)
+    → Goes v w.task (shelves w.table) now.answer (shelves' w.table) now.todo → Turned v shelves shelves' walkings walkings'
+is-stepped v shelves shelves' walkings walkings' w now at at_now same_table same_task others elsewhere goes =
+    record {
+      changes = λ t. change t (nat_eq t w.table) refl;
+      others = others;
+      own = λ x there. let e = some-same at there in record { now = now; there = at_now; table = same_table ∙ ap (λ (y : Walking). y.table) e; task = same_task ∙ ap (λ (y : Walking). y.task) e };
+      met = λ t i slot none there. meet t i slot none there (nat_eq t w.table) refl;
+      stands = λ x there. subst (λ y. WalkingStands (shelves' y.table) v y) (some-same at_now there) (subst (λ t. WalkingStands (shelves' t) v now) (sym same_table) (record {
+        all = subst (λ task. AllStand (shelves' w.table) v task now.todo) (sym same_task) goes.all;
+        covers = goes.covers;
+        unfailed = goes.unfailed;
+        done = goes.done;
+      }));
+    }
+  where
+    change : (t : ℕ) (b : Bool) → nat_eq t w.table ≡ b → Changes v (shelves t) (shelves' t)
+    change t true e = subst (λ n. Changes v (shelves n) (shelves' n)) (sym (same-worker t w.table e)) goes.changes
+    change t false e = same-slots v (shelves t) (shelves' t) (elsewhere t e)
+
+    meet : (t : ℕ) (i : Identity) (slot : Slot) → (shelves t).slots i ≡ None → (shelves' t).slots i ≡ Some slot → (b : Bool) → nat_eq t w.table ≡ b → IsMetBy (shelves' t) walkings' v t i
+    meet t i slot none there true e =
+        let is = same-worker t w.table e in
+        let m = goes.met i slot (sym (ap (λ n. (shelves n).slots i) is) ∙ none) (sym (ap (λ n. (shelves' n).slots i) is) ∙ there) in
+        record {
+          walking = now;
+          there = at_now;
+          on_table = same_table ∙ sym is;
+          meets = subst (λ task. Meets (shelves' t) task i) (sym same_task) (subst (λ n. Meets (shelves' n) w.task i) (sym is) m);
+        }
+    meet t i slot none there false e = some-none (sym (elsewhere t e i) ∙ there) none

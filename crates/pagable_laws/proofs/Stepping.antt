@@ -1,11 +1,127 @@
+-- What tables and to-do lists hold of trees goes on as long as what is stored and each node's tree stay; and what a change of a table comes to.
+use Rattle.pagable_laws.proofs.Words.{nat_tests, ◌≡◌, ℕ, ◌≤◌, Bool, List, [], ◌∷◌, inl, inr, Option, Some, None, if◌then◌else◌, refl, sym, ap, subst, ◌∙◌, arith, nat_eq, KeyRef, IsFollowed}
+use Rattle.pagable_laws.proofs.Words.{number-followed, integer-followed, text-followed, pattern-followed, none-followed, pair-followed, variant-followed, reference-followed, ArcRef, Identity, Blob}
+use Rattle.pagable_laws.proofs.Words.{Meaning, Tree, Among, if_there, identity_of, Shelf, Slot, failed, Written, Todo, to_finish, Task, Values, IsPublished, is_open_outcome, with_outcome, with_failed}
+use Rattle.pagable_laws.proofs.Words.{AreKeysOf, Ground, FollowsTo, number-follows, integer-follows, text-follows, pattern-follows, none-follows, pair-follows, variant-follows, reference-follows}
+use Rattle.pagable_laws.proofs.Words.{WroteTree, KeyStands, BlobStands, SlotFits, KeysSoFar, Waits, Above, HasBlob, Walks, SlotsFit, ◌==◌, true, ◌++◌, length, Ok, drop, blob_of, HandleNumber, type_of}
+use Rattle.pagable_laws.proofs.Words.{Claim, Took, no_result, published, Open, Fault, to_start, to_pin, to_write, to_item, to_set, to_publish, to_release, to_fail, Seen, digest, Stores, Site, Does}
+use Rattle.pagable_laws.proofs.Words.{claim_fault, next_start, give, give_known, open_node, with_wait, answer_after, Expects, Event, EventReply, of_item, of_entry, IsLawful, first_todo, Ends, step_of}
+use Rattle.pagable_laws.proofs.Words.{PagerState, MachineState, world_of, IsMachineWhole, IsIdle, Represents, TookWrites, ReplyWrites, HoldsSettled, ReadsItsTypes, ground_of, WorkFits}
+use Rattle.pagable_laws.proofs.{Standing.{ShelfGrows, some-same, published-stays, PutsSlot, put-cases, puts-slot, changes-slot, HasClaim, AllStand}, Following.{IdentityStands, key-stands, wrote}}
+use Rattle.pagable_laws.proofs.Coming.{StandsIn, EventTurns, same-grow, turns-grow, turns-keep}
+use Rattle.std.proofs.Common.{rules}
+
+-- ---- what is stored stays, and each node keeps its tree
+
+pub record GroundGoes (g g' : Ground) : Type 0 where
+  pub kept : (key : ℕ) (b : Blob) → g.stored key ≡ Some b → g'.stored key ≡ Some b
+  pub last : g.last ≤ g'.last
+  pub trees : (n : ℕ) → n ≤ g.last → g'.trees n ≡ g.trees n
+
+-- keys that are known stay known
+abbrev pub KeepsKeys : Shelf → Shelf → Type 0
+KeepsKeys shelf shelf' = (i : Identity) (key height : ℕ) → IsPublished shelf i key height → IsPublished shelf' i key height
+
+followed-on : {P Q : ℕ → ℕ → Meaning KeyRef → Type 0} → ((t k : ℕ) (m : Meaning KeyRef) → P t k m → Q t k m) → {x : Meaning KeyRef} {a : Meaning ⊥} → IsFollowed P x a → IsFollowed Q x a
+followed-on to (pair-followed x y a b h g) = pair-followed x y a b (followed-on to h) (followed-on to g)
+followed-on to (variant-followed n x a h) = variant-followed n x a (followed-on to h)
+followed-on to (reference-followed r x a p h) = reference-followed r x a (to _ _ x p) (followed-on to h)
+followed-on to x0 = grind (arith, nat_tests, number-followed, integer-followed, text-followed, pattern-followed, none-followed)
+
+follows-on : {trees trees' : ℕ → Tree} {rs : List ArcRef} → ((r : ArcRef) → Among rs r → trees' r.node.0 ≡ trees r.node.0) → {x : Meaning ArcRef} {a : Meaning ⊥}
+    → FollowsTo trees rs x a → FollowsTo trees' rs x a
+follows-on same (pair-follows x y a b h g) = pair-follows x y a b (follows-on same h) (follows-on same g)
+follows-on same (variant-follows i x a h) = variant-follows i x a (follows-on same h)
+follows-on same (reference-follows r a among is) = reference-follows r a among (ap (λ (t : Tree). t.meaning) (same r among) ∙ is)
+follows-on same x0 = grind (arith, nat_tests, number-follows, integer-follows, text-follows, pattern-follows, none-follows)
+
+module _ {shelf shelf' : Shelf} (keys : KeepsKeys shelf shelf') where
+  pub keys-on : (rs : List ArcRef) (ks : List ℕ) → AreKeysOf shelf rs ks → AreKeysOf shelf' rs ks
+  keys-on (r ∷ rs) (k ∷ ks) ((h, p), known) = ((h, keys (identity_of r) k h p), keys-on rs ks known)
+  keys-on x0 x1 x2 = grind (arith, nat_tests)
+
+  pub so-far-on : (rs : List ArcRef) (ks : List ℕ) → KeysSoFar shelf rs ks → KeysSoFar shelf' rs ks
+  unfolding KeysSoFar
+  so-far-on rs [] known = tt
+  so-far-on [] (k ∷ ks) known = absurd known
+  so-far-on (r ∷ rs) (k ∷ ks) ((h, p), known) = ((h, keys (identity_of r) k h p), so-far-on rs ks known)
+
+module _ {N : Type 0} (v : Values N) {g g' : Ground} (goes : GroundGoes g g') where
+  stands-on : {t : Tree} {key : ℕ} → KeyStands v g.stored t key → KeyStands v g'.stored t key
+  stands-on {t} {key} h = search (rules, followed-on)
+
+  pub wrote-on : {n : ℕ} {written : Written} → n ≤ g.last → WroteTree v.types g n written → WroteTree v.types g' n written
+  wrote-on {n} {written} given w =
+      let same = goes.trees n given in
+      record {
+        shape = w.shape;
+        own = w.own;
+        is = ap (λ (t : Tree). v.types.nodes t.type) same ∙ w.is;
+        form = w.form;
+        follows = follows-on (λ r among. goes.trees r.node.0 (w.given r among)) (subst (λ (t : Tree). FollowsTo g.trees written.references w.own t.meaning) (sym same) w.follows);
+        given = λ r among. let le = w.given r among in let more = goes.last in omega arith;
+        once = w.once;
+      }
+
+  module _ {shelf shelf' : Shelf} (keys : KeepsKeys shelf shelf') where
+    pub blob-on : {n key : ℕ} {written : Written} → n ≤ g.last → BlobStands v g shelf n written key → BlobStands v g' shelf' n written key
+    blob-on {n} {key} {written} given b = grind (arith, nat_tests, keys-on, stands-on)
+
+    pub slot-on : {i : Identity} {slot : Slot} → SlotFits v g shelf i slot → SlotFits v g' shelf' i slot
+    slot-on {i} {slot} fits = search (rules, wrote-on, blob-on)
+
+pub keys-same : {shelf shelf' : Shelf} → ((i : Identity) → shelf'.slots i ≡ shelf.slots i) → KeepsKeys shelf shelf'
+keys-same same i key height p = record { slot = p.slot; claimed = same i ∙ p.claimed; known = p.known }
+
+-- ---- to-do lists, where a table grows
+
+module _ {shelf shelf' : Shelf} (more : ShelfGrows shelf shelf') where
+  pub keys-grow : KeepsKeys shelf shelf'
+  keys-grow i key height p = published-stays shelf shelf' i key height more p
+
+module _ (shelf shelf' : Shelf) (more : ShelfGrows shelf shelf') where
+  pub wait-on : (task : Task) (todo : List Todo) → Waits shelf task todo → Waits shelf' task todo
+  unfolding Waits
+  wait-on task (to_finish o ∷ below) (known, expects, waits) = (so-far-on (keys-grow more) _ _ known, expects, wait-on task below waits)
+  wait-on task x1 x2 = grind (arith, nat_tests, so-far-on, keys-grow)
+
+  pub above-on : (task : Task) (r : ArcRef) (below : List Todo) → Above shelf task r below → Above shelf' task r below
+  above-on task r below (expects, waits) = (expects, wait-on task below waits)
+
+module _ {N : Type 0} {v : Values N} {g g' : Ground} {shelf shelf' : Shelf} (goes : GroundGoes g g') (more : ShelfGrows shelf shelf') (fits : SlotsFit v g shelf) where
+  pub has-blob-on : {r : ArcRef} {key : ℕ} → HasBlob v g shelf r key → HasBlob v g' shelf' r key
+  has-blob-on {r} b = search (rules, blob-on, keys-grow)
+
+  -- ---- slots: all stay, one is put in, or the worker's claims without a result have failed
+
+  pub slots-on : ((i : Identity) → shelf'.slots i ≡ shelf.slots i) → SlotsFit v g' shelf'
+  slots-on same i slot is = slot-on v goes (keys-grow more) (fits i slot (sym (same i) ∙ is))
+
+  pub slots-but : {i : Identity} {new : Slot} → PutsSlot shelf.slots shelf'.slots i new → SlotFits v g' shelf' i new → SlotsFit v g' shelf'
+  slots-but {i} {new} puts fits_new j slot now = elim (put-cases shelf.slots shelf'.slots i new puts j slot now) [
+    | inl e ↦ subst (λ (z : Slot). SlotFits v g' shelf' j z) (sym e.1) (subst (λ (z : Identity). SlotFits v g' shelf' z new) (sym e.0) fits_new)
+    | inr e ↦ slot-on v goes (keys-grow more) (fits j slot e.1)
+  ]
+
+  module _ (n : ℕ) where
+    failed-fits : (i : Identity) (slot : Slot) (a b : Bool) → SlotFits v g' shelf' i slot → SlotFits v g' shelf' i (if a then (if b then record slot { outcome = failed } else slot) else slot)
+    failed-fits i slot x2 x3 fit = grind (arith, nat_tests)
+
+    pub slots-failed : ((i : Identity) → shelf'.slots i ≡ (with_failed shelf n).slots i) → SlotsFit v g' shelf'
+    slots-failed same i slot' now = of (shelf.slots i) refl (sym (same i) ∙ now)
+      where
+        of : (old : Option Slot) → shelf.slots i ≡ old → if_there (λ (slot : Slot). Some (if nat_eq slot.worker n then with_outcome failed slot else slot)) None old ≡ Some slot'
+            → SlotFits v g' shelf' i slot'
+        of None none is = absurd (cc)
+        of (Some slot) there is =
+            subst (λ (z : Slot). SlotFits v g' shelf' i z) (some-same refl is)
+            (failed-fits i slot (nat_eq slot.worker n) (is_open_outcome slot.outcome) (slot-on v goes (keys-grow more) (fits i slot there)))
+
+module _ {N : Type 0} {v : Values N} {g g' : Ground} {shelf : Shelf} (shelf' : Shelf) (goes : GroundGoes g g') (more : ShelfGrows shelf shelf') (fits : SlotsFit v g shelf) where
+  pub walks-on : (task : Task) (todo : List Todo) → Walks v g shelf task todo → Walks v g' shelf' task todo
+  walks-on task x1 x2 = grind (arith, nat_tests, above-on, wait-on, has-blob-on, keys-grow)
+
 -- A worker's step, case by case: its table and its to-do list fit afterwards.
-use Rattle.pagable_laws.proofs.Words.{◌≡◌, ℕ, ◌≤◌, ◌==◌, true, List, [], ◌∷◌, ◌++◌, length, Option, Some, None, Ok, Err, if◌then◌else◌, refl, sym, ap, subst, ◌∙◌, arith, drop, nat_tests, blob_of}
-use Rattle.pagable_laws.proofs.Words.{ArcRef, Identity, Blob, HandleNumber, Tree, type_of, Claim, PinStep, Took, identity_of, Shelf, Slot, no_result, published, Written, Open, Fault, Todo}
-use Rattle.pagable_laws.proofs.Words.{was_failed, was_refused, to_start, to_pin, to_load, to_write, to_finish, to_item, to_set, to_publish, to_release, to_fail, Task, Values, Seen, digest, Stores}
-use Rattle.pagable_laws.proofs.Words.{Site, Does, IsPublished, claim_fault, next_start, give, give_known, open_node, with_outcome, with_wait, answer_after, AreKeysOf, Ground, WroteTree, BlobStands}
-use Rattle.pagable_laws.proofs.{Words.{SlotFits, KeysSoFar, Expects, Waits, Above, HasBlob, Walks, SlotsFit}, Shelves.{GroundGoes, so-far-on, wrote-on, blob-on, slot-on, keys-grow, above-on}}
-use Rattle.pagable_laws.proofs.{Shelves.{has-blob-on, slots-on, slots-but, slots-failed}, Changing.{ShelfGrows, some-same, PutsSlot, puts-slot, changes-slot}, Following.{IdentityStands, key-stands}}
-use Rattle.pagable_laws.proofs.Standing.{HasClaim, AllStand}
 
 -- ---- lists
 
@@ -157,31 +273,14 @@ module _ {N B W : Type 0} (m : Seen N B W) (n : ℕ) {g g' : Ground} (task : Tas
     stepped (to_start r place ∷ below) e (Took.Claim i (Ok (Claim.Known key height))) st (is, c) all above =
         let t = c.finds.1.2 in let a = still r below above in
         did (kept (λ j. t.table_is.slots j)) t.list_is (given-known m.values g' s'.shelf task r key height (keys-grow more _ _ _ c.finds.1.1) below a.0 a.1)
-    stepped (to_start r place ∷ below) e (Took.Claim i (Ok Claim.Waiting)) st (is, c) all above = let t = c.finds.1.2 in did (kept (λ j. t.table_is.slots j)) (t.list_is ∙ e) (still r below above)
-    stepped (to_start r place ∷ below) e (Took.Claim i (Ok Claim.AlreadyFailed)) st (is, c) all walks = let t = c.finds.1.2 in fails (λ j. t.table_is.slots j) was_failed t.list_is
-    stepped (to_start r place ∷ below) e (Took.Claim i (Err f)) st (is, c) all walks = let t = c.refused.1 in fails (λ j. t.table_is.slots j) (was_refused f) t.list_is
-    stepped (to_pin r place ∷ below) e (Took.Pin i (Ok (PinStep.Held k))) st (is, p) all above = let t = p.pins.2 in did (kept t.table_stays.slots) t.list_is (still r below above)
-    stepped (to_pin r place ∷ below) e (Took.Pin i (Ok (PinStep.LoadBegun l))) st (is, p) all above = let t = p.pins.2 in did (kept t.table_stays.slots) t.list_is (still r below above)
-    stepped (to_pin r place ∷ below) e (Took.Pin i (Ok PinStep.LoadWent)) st (is, p) all walks = absurd p.pins
-    stepped (to_pin r place ∷ below) e (Took.Pin i (Err f)) st (is, p) all walks = let t = p.refused.1 in fails t.table_stays.slots (was_refused f) t.list_is
-    stepped (to_load r place through reading ∷ below) e (Took.Pin i (Ok (PinStep.Held k))) st (is, p) all above = let t = p.goes.1 in did (kept t.table_stays.slots) t.list_is (still r below above)
-    stepped (to_load r place through reading ∷ below) e (Took.Pin i (Ok (PinStep.LoadBegun l))) st (is, p) all walks = absurd p.goes
-    stepped (to_load r place through reading ∷ below) e (Took.Pin i (Ok PinStep.LoadWent)) st (is, p) all above = let t = p.goes.2 in did (kept t.table_stays.slots) t.list_is (still r below above)
-    stepped (to_load r place through reading ∷ below) e (Took.Pin i (Err f)) st (is, p) all walks = let t = p.refused.1 in fails t.table_stays.slots (was_refused f) t.list_is
     stepped (to_write r place through ∷ below) e (Took.Write i (Ok out)) st (is, p) (stands, apart, all) above =
         let t = p.writes in
         let w = subst (λ (j : Identity). WroteTree m.values.types g j.node.0 (m.written_of out)) is (wrote i out st) in
         let claim = stands.1 in
         writes r place through below (m.written_of out) claim w
         (changes-slot s.shelf s'.shelf (identity_of r) claim.slot (λ slot. record slot { written = Some (m.written_of out) }) claim.claimed t.table_is) above t.list_is
-    stepped (to_write r place through ∷ below) e (Took.Write i (Err f)) st (is, p) all walks = let t = p.refused.1 in fails t.table_is.slots (was_refused f) t.list_is
-    stepped (to_finish o ∷ below) e (Took.Store i (Ok key)) st (is, p) (stands, apart, all) waits = grind (arith, nat_tests, did, kept, finishes, stored-so)
-    stepped (to_finish o ∷ below) e (Took.Store i (Err f)) st (is, p) all walks = let t = p.refused in fails t.table_stays.slots (was_refused f) t.list_is
-    stepped (to_item written ks ∷ below) e (Took.Store i (Ok key)) st (is, p) all walks = let t = p.goes in did (kept t.table_stays.slots) t.list_is tt
-    stepped (to_item written ks ∷ below) e (Took.Store i (Err f)) st (is, p) all walks = let t = p.refused in fails t.table_stays.slots (was_refused f) t.list_is
     stepped (to_set r through key height ∷ below) e (Took.SetKey i (Ok u)) st (is, p) all (blob, above) =
         let t = p.goes in did (kept t.table_stays.slots) t.list_is (has-blob-on goes more fits blob, still r below above)
-    stepped (to_set r through key height ∷ below) e (Took.SetKey i (Err f)) st (is, p) all walks = let t = p.refused in fails t.table_stays.slots (was_refused f) t.list_is
     stepped (to_publish r key height ∷ below) e (Took.Publish i k h) st (is, same_key, same_height, t) (stands, apart, all) (blob, above) =
         let claim = stands.1 in
         let still : blob.slot.outcome ≡ no_result = ap (λ (z : Slot). z.outcome) (some-same blob.claimed claim.claimed) ∙ claim.no_result_yet in
@@ -191,9 +290,57 @@ module _ {N B W : Type 0} (m : Seen N B W) (n : ℕ) {g g' : Ground} (task : Tas
     stepped (to_release r key height ∷ below) e (Took.Release i) st (is, falls, t) all (p, above) =
         let a = still r below above in did (kept t.table_stays.slots) t.list_is (given m.values g' s'.shelf task r key height (keys-grow more _ _ _ p) below a.0 a.1)
     stepped (to_fail fault back ∷ below) e Took.Fail st (gives, same, list_is) all walks = did (slots-failed goes more fits n same.slots) list_is tt
-    stepped _ e step st does all walks = absurd does
+    stepped _ e step st does all walks = grind (arith, nat_tests, fails, did, kept, still, finishes, stored-so, given-known, given, keys-grow, has-blob-on, slots-failed)
 
   -- a step leaves what fits
   pub walk-steps : (step : Took W) → Does m n s s.todo step s' → ((i : Identity) (out : W) → step ≡ Took.Write i (Ok out) → WroteTree m.values.types g i.node.0 (m.written_of out))
       → (answer_after s.todo step ≡ None → (key : ℕ) (b : Blob) → s'.core.stored key ≡ Some b → g'.stored key ≡ Some b) → AllStand s.shelf n task s.todo → Walks m.values g s.shelf task s.todo → Fits
   walk-steps step does wrote ends all walks = stepped step wrote ends s.todo refl step refl does all walks
+
+-- Page-outs by trees: what tables and workers hold fits at first and after each event.
+
+-- it fits where nobody works yet
+pub fits-at-first : {N E : Type 0} (v : Values N) (s : MachineState N E) (trees : ℕ → Tree) → IsIdle s → WorkFits v s trees
+fits-at-first v s trees idle = record { slots = λ t i slot is. let f = idle.shelves t i in absurd (cc); walks = λ n walking is. let f = idle.walkings n in absurd (cc) }
+
+-- ---- an event
+
+-- what a worker wrote in its step is of the node
+took-writes : {N B W E : Type 0} (m : Seen N B W) (s : PagerState N E) (n : ℕ) (event : Event N B W) (reply : EventReply N B W) (taken : Took W) → step_of n event reply ≡ taken ∷ []
+    → ReplyWrites m s reply
+    → TookWrites m.values m.written_of s taken
+took-writes m s n x3 x4 taken is writes = grind (arith, nat_tests)
+
+module _ {N B W E : Type 0} (m : Seen N B W) (s s' : MachineState N E) (trees trees' : ℕ → Tree) (goes : GroundGoes (ground_of s trees) (ground_of s' trees')) (fit : WorkFits m.values s trees)
+    (whole : IsMachineWhole m.values s) (represents : Represents m.values s.pager trees) (settled : HoldsSettled m.values s.pager) (reads : ReadsItsTypes m.values.types)
+    (lawful : IsLawful m.values) where
+  abbrev g' : Ground
+  g' = ground_of s' trees'
+
+  claimable : (r : ArcRef) → claim_fault s.pager.core r ≡ None → (r.node.0 ≤ s.pager.core.last.node) × ((trees r.node.0).type ≡ type_of r.kind.0)
+  claimable r may = grind (arith, nat_tests)
+
+  wrote-it : (taken : Took W) → TookWrites m.values m.written_of s.pager taken → (i : Identity) (out : W) → taken ≡ Took.Write i (Ok out)
+      → WroteTree m.values.types (ground_of s trees) i.node.0 (m.written_of out)
+  wrote-it taken writes i out is = wrote represents whole.pager settled reads lawful i.node.0 (m.written_of out) (subst (λ (t : Took W). TookWrites m.values m.written_of s.pager t) is writes)
+
+  starts-well : (shelf : Shelf) (task : Task) → Walks m.values g' shelf task (first_todo task)
+  unfolding Waits KeysSoFar
+  starts-well shelf (of_item written) = started-item m.values g' shelf (of_item written) written [] [] _ refl (refl, tt)
+  starts-well shelf (of_entry h i) = (refl, tt)
+
+  -- each event keeps it
+  pub fits-on : StandsIn (world_of s) → (event : Event N B W) (reply : EventReply N B W) → EventTurns m (world_of s) event reply (world_of s') → ReplyWrites m s.pager reply
+      → WorkFits m.values s' trees'
+  fits-on work event reply turns writes =
+      let stay : GroundGoes g' g' = record { kept = λ key b e. e; last = omega arith; trees = λ n le. refl } in
+      let h = turns-keep m turns (SlotsFit m.values g') (λ n shelf w. Walks m.values g' shelf w.task w.todo) (λ a b same fits. slots-on stay (same-grow a b same) fits same)
+      (λ a b more fits n w. walks-on b stay more fits w.task w.todo) (λ t shelf more same. slots-on goes more (fit.slots t) same)
+      (λ n w none there. walks-on (s'.work.shelves w.table) goes (turns-grow m turns w.table) (fit.slots w.table) w.task w.todo (fit.walks n w there)) (λ n shelf t task. starts-well shelf task)
+      (λ k r w one more.
+      let ends : answer_after w.walking.todo r.took ≡ None → (key : ℕ) (b : Blob) → w.after.core.stored key ≡ Some b → s'.pager.core.stored key ≡ Some b =
+      λ none key b is. (let e = subst (λ a. Ends a k.0 w.after.core s'.pager.core) (w.answers ∙ none) w.ends in e.stored key ∙ is) in
+      let d = walk-steps m k.0 w.walking.task (record { core = s.pager.core; shelf = s.work.shelves w.walking.table; todo = w.walking.todo }) w.after goes more (fit.slots w.walking.table) claimable
+      r.took w.does.does (wrote-it r.took (took-writes m s.pager turns.who event reply r.took one writes)) ends (work.workers k.0 w.walking w.at).all (fit.walks k.0 w.walking w.at) in
+      (d.slots, d.walks)) in
+      record { slots = h.slots; walks = h.walks }

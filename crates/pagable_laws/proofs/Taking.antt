@@ -1,11 +1,11 @@
 -- What a load has read fits after its step; and a node whose value is in memory gives its tree, as does what a load of a key answers.
-use Rattle.pagable_laws.proofs.Words.{◌≡◌, ℕ, zero, suc, ◌+◌, ◌<◌, ◌≤◌, true, List, [], ◌∷◌, Option, Some, None, inr, refl, sym, ap, ◌∙◌, subst, arith, is_some, nat_lt, nat_tests, HandleRow, Owner}
-use Rattle.pagable_laws.proofs.Words.{OptionalDataKey, ArcRef, Kind, HandleNumber, Blob, Types, Tree, ReadsTree, type_of, Among, one, is_at, is_pin, is_pinning, held, pins, Core, OpenLoad, Frame}
-use Rattle.pagable_laws.proofs.Words.{Reading, row_at, Values, IsLawful, IsReference, Next, reads, asks, is_faulty, next_in, need_at, need_of, to_adopt, ReadsRoot, ReadsNode, root_frame}
-use Rattle.pagable_laws.proofs.Words.{nested_frame, with_got, PagerState, HandlesAreWhole, IsWhole, WellFormed, NodeStands, here, away, ValueStands, ReadsNodeTree, FramesFit, SameTrees, Represents}
-use Rattle.pagable_laws.proofs.Words.{ReadsItsTypes, GivesTree, ReadIsRight, Change, bears_known, CoreGoes, ReadingFeels, reads-root, reads-blob, gets-known, gets-lazy, makes-known, makes-node}
-use Rattle.pagable_laws.proofs.{Words.{reading-ends, Decoded, FramesGiven}, Fitting.{node-stays, first-fits, first-typed, frames-stay, got-given, made-fits, needed-fits, nested-fits, root-fits}}
-use Rattle.pagable_laws.proofs.{Decoding.{decodes, read_stands}, Following.{cell-of, given-of}, Outlasting.among-found, Sums.{at-most-sum, self-number}, Trees.same_some}
+use Rattle.pagable_laws.proofs.Words.{◌≡◌, ℕ, zero, suc, ◌+◌, ◌<◌, ◌≤◌, true, List, [], ◌∷◌, Option, Some, None, inr, refl, sym, ap, ◌∙◌, subst, arith, is_some, nat_lt, nat_tests, HandleRow}
+use Rattle.pagable_laws.proofs.Words.{Owner, OptionalDataKey, ArcRef, Kind, HandleNumber, Blob, Types, Tree, ReadsTree, type_of, Among, one, is_at, is_pin, is_pinning, held, pins, Core, OpenLoad}
+use Rattle.pagable_laws.proofs.Words.{Frame, Reading, row_at, Values, IsLawful, IsReference, Next, need_at, to_adopt, ReadsRoot, ReadsNode, root_frame, nested_frame, with_got, PagerState}
+use Rattle.pagable_laws.proofs.Words.{HandlesAreWhole, IsWhole, WellFormed, NodeStands, ValueStands, ReadsNodeTree, FramesFit, SameTrees, Represents, ReadsItsTypes, GivesTree, ReadIsRight, Change}
+use Rattle.pagable_laws.proofs.Words.{bears_known, CoreGoes, ReadingFeels, reads-root, reads-blob, gets-known, gets-lazy, makes-known, makes-node, reading-ends, Decoded, FramesGiven}
+use Rattle.pagable_laws.proofs.{Fitting.{node-stays, first-fits, first-typed, frames-stay, got-given, made-fits, needed-fits, nested-fits, root-fits}, Decoding.{decodes, read_stands}}
+use Rattle.pagable_laws.proofs.{Following.{cell-of, given-of}, Outlasting.among-found, Sums.{at-most-sum, self-number}, Trees.same_some}
 
 -- ---- a live handle's node
 

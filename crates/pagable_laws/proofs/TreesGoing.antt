@@ -1,9 +1,9 @@
 -- Each node keeps its tree in a step whose change fits.
-use Rattle.std.proofs.Common.{rules}
 use Rattle.pagable_laws.proofs.Words.{◌≡◌, ℕ, ◌<◌, ◌≤◌, Some, ◌⊎◌, inl, inr, sym, ap, ◌∙◌, subst, arith, nat_tests, OptionalDataKey, NodeNumber, HandleNumber, Tree, ReadsTree, type_of, held}
 use Rattle.pagable_laws.proofs.Words.{OpenLoad, of_cell, Values, IsLawful, type_at, PagerState, WellFormed, Moves, Represents, ReadsNodeTree, KeyFits, HoldsSettled, LeadsTo, ValueLeads, Change}
 use Rattle.pagable_laws.proofs.{Words.{CoreGoes, SameNode, NewNode, NodeLeads, ChangeFits}, Fitting.tree-stays, Following.{given-of, held-of, cell-of}, Leading.{leads-on, own-refs, leads-all}}
 use Rattle.pagable_laws.proofs.{Leading.stands-again, Trees.same_some}
+use Rattle.std.proofs.Common.{rules}
 
 pub either-side : (n last : ℕ) → (n ≤ last) ⊎ (last < n)
 either-side n last = grind (arith, nat_tests)

@@ -1,7 +1,7 @@
 -- What falls of a value of two levels; and a lone cell that is unpinned.
-use Rattle.pagable_laws.proofs.Words.{◌≡◌, ℕ, ◌+◌, ◌<◌, ◌≤◌, ◌==◌, ◌&&◌, Bool, true, false, List, [], ◌∷◌, length, refl, ap, inl, inr, arith, not, Option, Ok, sum_by-cons, nat_tests, Blob}
-use Rattle.pagable_laws.proofs.Words.{one, Owner, Mode, HandleRow, pins, held, is_at, find_row, Last, owned_outside, loses_value, IsClosed, IsWithin, IsLeast, MustList, Falls, fallen}
-use Rattle.pagable_laws.proofs.Words.{nobody, row_of, with_mode, UnpinCall, two_rows, are_two, outer, first, first_node, lone, lone_listed, lone_unlisted, OwnsNothing, TwoLevelsFall, LoneIsListed}
+use Rattle.pagable_laws.proofs.Words.{◌≡◌, ℕ, ◌+◌, ◌<◌, ◌≤◌, ◌==◌, ◌&&◌, Bool, true, false, List, [], ◌∷◌, length, refl, ap, inl, inr, arith, not, Option, Ok, sum_by-cons, nat_tests, Blob, one}
+use Rattle.pagable_laws.proofs.Words.{Owner, Mode, HandleRow, pins, held, is_at, find_row, Last, owned_outside, loses_value, IsClosed, IsWithin, IsLeast, MustList, Falls, fallen, nobody, row_of}
+use Rattle.pagable_laws.proofs.Words.{with_mode, UnpinCall, two_rows, are_two, outer, first, first_node, lone, lone_listed, lone_unlisted, OwnsNothing, TwoLevelsFall, LoneIsListed}
 use Rattle.pagable_laws.{specs.SmallWorlds.both, proofs.Existing.given-least, proofs.Sums.one-small}
 
 pub and-false : (b : Bool) → one (b && false) ≡ 0

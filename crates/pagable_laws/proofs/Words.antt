@@ -70,7 +70,7 @@ pub use Rattle.pagable_laws.specs.DeepLaws.{ShallowLaw, MetDepthAlone, DepthIsTo
 pub use Rattle.pagable_laws.specs.{DeepLaws.DeepLoadLaw, FallLaws.{PinsAreAFilter, OwnsNothing, IsGivenAlone, TwoLevelsFall, LoneIsListed}, FormLaws.{rest, at, IsNatural, IsReadOver, IsRenamed}}
 pub use Rattle.pagable_laws.specs.FormLaws.{IsReadThrough, KeepsForms, with_more, IsLocal, IsUsed, IsLasting, IsReadAgain, LooksUp, no-references, more-references, CanonicalHasOneForm}
 pub use Rattle.pagable_laws.specs.{FormLaws.{HasOnePreimage, IsPrefixFree}, JsonLaws.{FloatHasNoForm, WholeIsBounded}, KeyLaws.{IsOneKeyMeaning, IsAnyOrder}, KeyRuns.{StandsAt, KeyIsSet}}
-pub use Rattle.pagable_laws.specs.{KeyRuns.{is_publishing, HasHandle, KeysHeld, Holds, KeysAreRight}, LevelLaws.{ArePremised, TwoLevelsMeetTheHeadline}, LoadLaws.{IsBeginOf, HasBegun, SoundLaw}}
+pub use Rattle.pagable_laws.specs.{KeyRuns.{is_publishing, HasHandle, KeysHeld, Holds, KeysAreRight}, TwoLevels.{ArePremised, TwoLevelsMeetTheHeadline}, LoadLaws.{IsBeginOf, HasBegun, SoundLaw}}
 pub use Rattle.pagable_laws.specs.PageOutLaws.{ground_of, Walks, WorkFits, Ground, WroteTree, BlobStands, SlotFits, Expects, Above, HasBlob, SlotsFit, FollowsTo, number-follows, integer-follows}
 pub use Rattle.pagable_laws.specs.{PageOutLaws.{text-follows, pattern-follows, none-follows, pair-follows, variant-follows, reference-follows, KeyStands, IsOfEntry, IsDone}, ReadLaws.Needs}
 pub use Rattle.pagable_laws.specs.ReadLaws.{KeepsStored, FramesGiven, ValueLeads, LeadsTo, number-leads, integer-leads, text-leads, pattern-leads, none-leads, pair-leads, variant-leads}
@@ -83,5 +83,5 @@ pub use Rattle.pagable_laws.specs.TreeSteps.{Change, nothing_felt, bears_known, 
 pub use Rattle.pagable_laws.specs.TreeSteps.{CoreGoes, EventFeels, by-call, by-reading, by-key, by-nothing, KeepsReadings, KeysAreReady, StepFeels, knows_node, bears_node, StaysAway, AreGood}
 pub use Rattle.pagable_laws.specs.TreeSteps.{CallFeels, feels-nothing, feels-birth, feels-away, feels-key, feels-known, feels-adopted, feels-lazy, feels-end, HandsOver, ReadHolds, IsSteppedReading}
 pub use Rattle.pagable_laws.specs.{TreeSteps.{StepsReading, BeginsWell, GetsRow, HasPin, PinHolds, NodeLeads, Sets, Knows, Bears, SameNode, NewNode}, TwoLevels.{Sample, sample, sample_type}}
-pub use Rattle.pagable_laws.specs.TwoLevels.{sample_references, machine, ended, gives_up, sample_seen, two_values, walking, table_work, walk_work}
+pub use Rattle.pagable_laws.specs.TwoLevels.{sample_references, machine}
 unfoldable pub use Rattle.pagable_laws.specs.{KeyRuns.AllHold, PageOutLaws.{KeysSoFar, Waits}, TwoLevels.value_at}

@@ -13,6 +13,5 @@ pub mod ReadLaws
 pub mod PageOutLaws
 pub mod KeyRuns
 pub mod TwoLevels
-pub mod LevelLaws
 pub mod DeepLaws
 pub mod LoadLaws

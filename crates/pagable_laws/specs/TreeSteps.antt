@@ -82,20 +82,19 @@ abbrev pub StaysAway : Core → Core → ℕ → Type 0
 StaysAway w w' n = is_here w n ≡ false → is_some (w'.cells n) ≡ true → is_here w' n ≡ false
 
 -- What trees feel of a call. A value comes to a new node only where one is born, and to an old one only by the end of a load.
-pub data CallFeels {N B : Type 0} (v : Values N) (w : Core) (me : Owner) (call : Call N B) (reply : Reply N B) (w' : Core) : Change → Type 0 where
-  feels-nothing : ((n : ℕ) (x : N) → CallBrings w call n x → IsNewNode w n ⊎ StaysAway w w' n) → CallFeels v w me call reply w' nothing_felt
-  feels-birth : (x : N) → ((n : ℕ) (y : N) → CallBrings w call n y → (y ≡ x) × IsNewNode w n) → AreGood w me (v.references x)
+pub data CallFeels {N B : Type 0} (v : Values N) (w : Core) (me : Owner) : Call N B → Reply N B → Core → Change → Type 0 where
+  feels-nothing : {call : Call N B} {reply : Reply N B} {w' : Core} → ((n : ℕ) (x : N) → CallBrings w call n x → IsNewNode w n ⊎ StaysAway w w' n) → CallFeels v w me call reply w' nothing_felt
+  feels-birth : {call : Call N B} {reply : Reply N B} {w' : Core} (x : N) → ((n : ℕ) (y : N) → CallBrings w call n y → (y ≡ x) × IsNewNode w n) → AreGood w me (v.references x)
       → CallFeels v w me call reply w' (bears_node (v.node_type x) OptionalDataKey.None)
-  feels-away : (t key : ℕ) (k : HandleNumber) → call ≡ Call.NewPagedOut t key → reply ≡ Reply.Handle (Ok k) → CallFeels v w me call reply w' (bears_node t (OptionalDataKey.Some key))
-  feels-key : (h : HandleNumber) (key : ℕ) (row : HandleRow) → call ≡ Call.SetDataKey h key → Owns w me h is_loose row → CallFeels v w me call reply w' (sets_key row.node.0 key)
-  feels-known : (kind : Kind) (key : ℕ) (h : HandleNumber) (row : HandleRow) → call ≡ Call.OnArcDeserialized kind key h → reply ≡ Reply.FromCache (Ok None) → Owns w me h any_mode row
-      → type_at w row.node.0 ≡ Some (type_of kind.0) → CallFeels v w me call reply w' (knows_node kind.0 key row.node.0)
-  feels-adopted : (l : LoadNumber) (kind : Kind) (key : ℕ) (x : N) (k : HandleNumber) → call ≡ Call.LoadAdopt l kind key x → reply ≡ Reply.Made (Ok k) → v.node_type x ≡ type_of kind.0
-      → AreGood w (Owner.Load l) (v.references x) → CallFeels v w me call reply w' (bears_known kind.0 key (first_key kind.0 key))
-  feels-lazy : (l : LoadNumber) (kind : Kind) (key : ℕ) (k : HandleNumber) → call ≡ Call.LoadLazy l kind key → reply ≡ Reply.Handle (Ok k)
-      → CallFeels v w me call reply w' (bears_known kind.0 key (OptionalDataKey.Some key))
-  feels-end : (l : LoadNumber) (x : N) (k : HandleNumber) → call ≡ Call.LoadEnd l x → reply ≡ Reply.LoadEnded (Ok k) → AreGood w (Owner.Load l) (v.references x)
-      → CallFeels v w me call reply w' nothing_felt
+  feels-away : {w' : Core} (t key : ℕ) (k : HandleNumber) → CallFeels v w me (Call.NewPagedOut t key) (Reply.Handle (Ok k)) w' (bears_node t (OptionalDataKey.Some key))
+  feels-key : {reply : Reply N B} {w' : Core} (h : HandleNumber) (key : ℕ) (row : HandleRow) → Owns w me h is_loose row → CallFeels v w me (Call.SetDataKey h key) reply w' (sets_key row.node.0 key)
+  feels-known : {w' : Core} (kind : Kind) (key : ℕ) (h : HandleNumber) (row : HandleRow) → Owns w me h any_mode row → type_at w row.node.0 ≡ Some (type_of kind.0)
+      → CallFeels v w me (Call.OnArcDeserialized kind key h) (Reply.FromCache (Ok None)) w' (knows_node kind.0 key row.node.0)
+  feels-adopted : {w' : Core} (l : LoadNumber) (kind : Kind) (key : ℕ) (x : N) (k : HandleNumber) → v.node_type x ≡ type_of kind.0 → AreGood w (Owner.Load l) (v.references x)
+      → CallFeels v w me (Call.LoadAdopt l kind key x) (Reply.Made (Ok k)) w' (bears_known kind.0 key (first_key kind.0 key))
+  feels-lazy : {w' : Core} (l : LoadNumber) (kind : Kind) (key : ℕ) (k : HandleNumber)
+      → CallFeels v w me (Call.LoadLazy l kind key) (Reply.Handle (Ok k)) w' (bears_known kind.0 key (OptionalDataKey.Some key))
+  feels-end : {w' : Core} (l : LoadNumber) (x : N) (k : HandleNumber) → AreGood w (Owner.Load l) (v.references x) → CallFeels v w me (Call.LoadEnd l x) (Reply.LoadEnded (Ok k)) w' nothing_felt
 
 -- the row of a handle that a load has got now, of this node
 pub record GetsRow (w w' : Core) (kind : Kind) (n : ℕ) (row : HandleRow) : Type 0 where

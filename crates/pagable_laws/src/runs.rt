@@ -38,7 +38,7 @@ pub fn deep_loads_have_a_cause<N: SeenAs<B, W>, B, W, E>()
 {}
 
 /// A load of a cell whose key a page-out set is refused by chance or by a handle: never by a blob that it reads, by a key or by a path.
-#[tactic(auto, using(crate::proofs::Soundly::faultless_law))]
+#[tactic(auto, using(crate::proofs::Sound::faultless_law))]
 pub fn loads_are_faultless<N: SeenAs<B, W>, B, W, E>()
     ensures { FaultlessLaw E N.seen }
 {}

@@ -15,19 +15,19 @@ pub fn is_read_again<A, B>()
 {}
 
 /// No form of one meaning begins a form of another.
-#[tactic(auto, using(crate::proofs::Prefix::prefix_free))]
+#[tactic(auto, using(crate::proofs::Again::prefix_free))]
 pub fn is_prefix_free<A>()
     ensures { (parts : ℕ → Shape) (s : Shape) → Throughout IsReadable parts s → IsPrefixFree A parts s }
 {}
 
 /// A meaning of a canonical shape has at most one form.
-#[tactic(auto, using(crate::proofs::OneForm::canonical_one))]
+#[tactic(auto, using(crate::proofs::Merkle::canonical_one))]
 pub fn canonical_has_one_form<A>()
     ensures { CanonicalHasOneForm A }
 {}
 
 /// Different blobs have different preimages.
-#[tactic(auto, using(crate::proofs::Preimages::one_preimage))]
+#[tactic(auto, using(crate::proofs::Merkle::one_preimage))]
 pub fn has_one_preimage()
     ensures { HasOnePreimage }
 {}
@@ -65,55 +65,55 @@ pub fn is_key_of_one_tree()
 {}
 
 /// What is read of a front is read of the whole, whatever follows.
-#[tactic(auto, using(crate::proofs::Local::local))]
+#[tactic(auto, using(crate::proofs::Related::local))]
 pub fn is_local<A, B>()
     ensures { IsLocal A B }
 {}
 
 /// What was used reads alone, and leaves nothing.
-#[tactic(auto, using(crate::proofs::Local::used))]
+#[tactic(auto, using(crate::proofs::Related::used))]
 pub fn is_used<A, B>()
     ensures { IsUsed A B }
 {}
 
 /// A fault stays the first fault whatever follows, unless it is that the input ends.
-#[tactic(auto, using(crate::proofs::Local::lasting))]
+#[tactic(auto, using(crate::proofs::Related::lasting))]
 pub fn is_lasting<A, B>()
     ensures { IsLasting A B }
 {}
 
 /// Reading does the same whatever stands for references.
-#[tactic(auto, using(crate::proofs::Natural::natural))]
+#[tactic(auto, using(crate::proofs::Related::natural))]
 pub fn is_natural<A, B, C, D>()
     ensures { IsNatural A B C D }
 {}
 
 /// Reading over what stands for references is reading with what it stands for.
-#[tactic(auto, using(crate::proofs::Natural::read_over))]
+#[tactic(auto, using(crate::proofs::Related::read_over))]
 pub fn is_read_over<A, B, C>()
     ensures { IsReadOver A B C }
 {}
 
 /// Reading with what is looked up renamed is renaming what is read.
-#[tactic(auto, using(crate::proofs::Natural::renamed))]
+#[tactic(auto, using(crate::proofs::Related::renamed))]
 pub fn is_renamed<A, B, D>()
     ensures { IsRenamed A B D }
 {}
 
 /// What is read is read by whoever finds all that was found.
-#[tactic(auto, using(crate::proofs::Natural::read_through))]
+#[tactic(auto, using(crate::proofs::Related::read_through))]
 pub fn is_read_through<A, B, C, D>()
     ensures { IsReadThrough A B C D }
 {}
 
 /// A form of a value that holds references of one sort is one of the same value with references of another sort.
-#[tactic(auto, using(crate::proofs::Natural::keeps_forms))]
+#[tactic(auto, using(crate::proofs::Related::keeps_forms))]
 pub fn keeps_forms<A, B>()
     ensures { KeepsForms A B }
 {}
 
 /// The height of a tree is the length of its longest path.
-#[tactic(auto, using(crate::proofs::Paths::longest_path))]
+#[tactic(auto, using(crate::proofs::Merkle::longest_path))]
 pub fn is_longest_path()
     ensures { IsLongestPath }
 {}
@@ -148,7 +148,7 @@ pub fn whole_is_bounded<A>()
 {}
 
 /// A tree of a closed set of types that has a key reaches types of the set alone.
-#[tactic(auto, using(crate::proofs::Inside::stays_inside))]
+#[tactic(auto, using(crate::proofs::Merkle::stays_inside))]
 pub fn stays_inside()
     ensures { StaysInside }
 {}

@@ -2,7 +2,7 @@
 
 ghost use Rattle.pagable_world.specs.World.{Seen};
 ghost use Rattle.pagable_laws.specs.FallLaws.{IsThere, IsOne, IsGivenAlone, PinsAreAFilter, TwoLevelsFall, LoneIsListed};
-ghost use Rattle.pagable_laws.specs.LevelLaws.{TwoLevelsMeetTheHeadline};
+ghost use Rattle.pagable_laws.specs.TwoLevels.{TwoLevelsMeetTheHeadline};
 ghost use Rattle.pagable_laws.specs.RunLaws.{ChainsJoin, NewIsWhole, NextIsOneOf};
 
 /// How values of this type are seen, with blobs B and what is written W: any values, so that a law is one of all.
@@ -63,7 +63,7 @@ pub fn next_is_one()
     ensures { NextIsOneOf }
 {}
 
-/// The headline is met with all that it asks by a chain of two levels: births, a page-out, an eviction, and loads of cells and of a key.
+/// The headline is met with all that it asks by a chain of two levels: births, a page-out, an eviction, and loads of a cell and of a key.
 #[tactic(auto, using(crate::proofs::Level::headline_met))]
 pub fn two_levels_meet_the_headline()
     ensures { TwoLevelsMeetTheHeadline }

@@ -3,7 +3,8 @@ pub use Rattle.std.proofs.Common.{◌≡◌, ℕ, ◌+◌, List, ap, sym, subst,
 pub use Rattle.std.{proofs.{Common.{rules, ◌&&◌, ◌||◌, suc, zero, ◌++◌, ◌≤◌}, lemmas.{Bool.{cases_eq, Decides.nat_tests}, Option.slice_get_within}}, specs.Prelude.{◌≢◌, IfOk, IfErr, IfSome, IfNone}}
 pub use Rattle.{std.specs.{Prelude.{OnOk, OnErr, IsSome, is_some, ◌⊎◌, nat_lt, map, filter}, Arc.arc_value, HashMap.get, Option.{option_map, option_copied}}, pagable_core.specs.Data.blob_of}
 pub use Rattle.pagable_laws.proofs.{Outlasting.{NotValues, Stands, AreUpTo, stands-new, stands-alike, stands-fell, among-changed, among-found}, Goes.found-number, GoodReferences.good}
-pub use Rattle.{pagable_laws.proofs.{Sparing.named-among, Taking.{row-pins, row-held}, Trees.same_some, Usable.entered-of}, pagable_loads.{proofs.Pinned.begun_is, specs.Telling.AsksFor}}
+pub use Rattle.{pagable_laws.proofs.{Taking.{row-pins, row-held}, Trees.same_some}, pagable_loads.{proofs.Pinned.begun_is, specs.Telling.AsksFor}}
+pub use Rattle.pagable_laws.proofs.SparingSteps.{named-among, entered-of}
 pub use Rattle.pagable_loads.specs.{Telling.{TakesLazily, AdoptsValue, IsMade, values_at}, Starting.{StartsPin, is_unpinned_at}, Working.{StartsEntry, RefusesEntry, TakesReference, BeginsAt}}
 pub use Rattle.{pagable_loads.specs.declared.working.Taken.Taken, pagable_model.specs.{Stored.{Adds, RefusesFetch, RefusesStore}, Blob.key_of, declared.data_key.OptionalDataKey.OptionalDataKey}}
 pub use Rattle.pagable_model.specs.declared.numbers.{ArcRef.ArcRef, HandleNumber.HandleNumber, Kind.Kind, LoadNumber.LoadNumber, NodeNumber.NodeNumber, WorkerNumber.WorkerNumber}

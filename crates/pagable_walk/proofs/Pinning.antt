@@ -6,9 +6,12 @@ use Rattle.pagable_world.specs.World.{Core, Cell, Shelf, SameShelf, Todo, to_pin
 use Rattle.pagable_world.specs.{Calls.{with_handle, with_mode, moved, is_named_by, CloneCall, PinCall}, Access.{Called, ReadingStep}, Cascade.FallsAnyhow, LoadCalls.{with_pin, without_load}}
 use Rattle.pagable_world.specs.{LoadCalls.{is_owned_in, adopted}, Loads.{GoesOn, EndsPinned, IsOfKey, gone_on}, Pager.{PagerState, HandlesAreWhole, Moves}, Workers.{PinsAtOnce, RowIs, fresh}}
 use Rattle.pagable_world.specs.{Workers.{entry_left, Does}, declared.{events.{LoadAnswer.LoadAnswer, Took.Took, PinStep.PinStep}, handles.{HandleRow.HandleRow, Owner.Owner}, answers.Pinning.Pinning}}
-use Rattle.{pagable_world.specs.declared.rows.Mode.Mode, pagable_laws.{specs.{KeyRuns.StandsAt, TreeSteps.Change}, proofs.PinSteps.{AreLow, low-whole, low-changed, low-handle, new-handle}}}
-use Rattle.pagable_laws.proofs.{PinSteps.{clone-call, not-loose, owned-none}, Goes.Goes, Naming.clone-stands, Outlasting.{NotValues, Stands, stands-alike, stands-fell}, Trees.same_some}
-use Rattle.{pagable_laws.proofs.WalkSteps.walk-goes, pagable_loads.specs.{Frames.{IsLoadOf, frames_of, reading_of}, Stepping.Steps, Working.{TakesReference, BeginsAt}}}
+use Rattle.{pagable_world.specs.declared.rows.Mode.Mode, pagable_laws.specs.{KeyRuns.StandsAt, TreeSteps.Change}}
+use Rattle.pagable_laws.proofs.Outlasting.{AreLow, low-whole, low-changed, low-handle, new-handle}
+use Rattle.pagable_laws.proofs.{Goes.Goes, Naming.clone-stands, Outlasting.{NotValues, Stands, stands-alike, stands-fell}, Trees.same_some}
+use Rattle.pagable_laws.proofs.Outlasting.{clone-call, not-loose, owned-none}
+use Rattle.pagable_loads.specs.{Frames.{IsLoadOf, frames_of, reading_of}, Stepping.Steps, Working.{TakesReference, BeginsAt}}
+use Rattle.pagable_laws.proofs.ReadingSteps.{walk-goes}
 use Rattle.{pagable_loads.specs.declared.{reading.Reading.Reading as Own, working.Taken.Taken}, pagable_walk.specs.{Failing.{back_of, fails}, Tasks.IsPlain, declared.tasks.{Turn.Turn, Moved.Moved}}}
 use Rattle.pagable_walk.{specs.{declared.{tasks.Task.Task, results.Trees.Ghosts}, Turns.{IsLoading, IsOfKind, HoldsPin, Fits, TurnsTo, plain, site}}, proofs.Turning.plain-fits}
 

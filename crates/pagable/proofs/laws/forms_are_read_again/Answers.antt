@@ -1,4 +1,4 @@
-use Rattle.pagable_laws.proofs.{Again.read_again, Prefix.prefix_free}
+use Rattle.pagable_laws.proofs.Again.{read_again, prefix_free}
 use Rattle.pagable.proofs.laws.forms_are_read_again.Goals as goal
 
 pub returns-clause-again : goal.returns-clause-again

@@ -1,4 +1,4 @@
-use Rattle.pagable_laws.proofs.Arriving.{headline_law}
+use Rattle.pagable_laws.proofs.Chains.{headline_law}
 use Rattle.pagable_laws.proofs.runs.headline.Goals as goal
 
 pub returns : goal.returns

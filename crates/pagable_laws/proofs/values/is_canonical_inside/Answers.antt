@@ -1,4 +1,4 @@
-use Rattle.pagable_laws.proofs.Inside.{canonical_inside}
+use Rattle.pagable_laws.proofs.Merkle.{canonical_inside}
 use Rattle.pagable_laws.proofs.values.is_canonical_inside.Goals as goal
 
 pub returns : goal.returns
