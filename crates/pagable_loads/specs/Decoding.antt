@@ -1,5 +1,6 @@
 -- What decoding answers, in the words of loads.
-use Rattle.{std.specs.Prelude.{ℕ, ◌≡◌, ◌⊎◌, Bool, true, false, List, Option, Some, None, Result}, pagable_model.specs.{declared.{error.Error.Error, numbers.ArcRef.ArcRef}, Blob.Blob, Meaning.Meaning}}
+use Rattle.std.specs.Prelude.{ℕ, ◌≡◌, ◌⊎◌, Bool, true, false, List, Option, Some, None, Result}
+use Rattle.pagable_model.specs.{declared.{error.Error.Error, numbers.ArcRef.ArcRef}, Blob.Blob, Meaning.Meaning}
 use Rattle.{pagable_model.specs.{Reading.Rest, Standing.{Answer, GivesSome}}, pagable_world.specs.{World.Values, Loads.{reads, asks, is_faulty, next_of, read_with}}}
 use Rattle.pagable_loads.specs.declared.decoding.Decoded.{Decoded}
 

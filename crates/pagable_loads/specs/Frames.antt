@@ -1,5 +1,6 @@
 -- The blobs of a load, as the world knows them.
-use Rattle.{std.specs.{Prelude.{◌≡◌, Bool, true, false, List, [], ◌∷◌, Option, Some, None}, Arc.arc_value}, pagable_core.specs.Data.blob_of, pagable_world.specs.declared.handles.Owner.Owner}
+use Rattle.std.specs.{Prelude.{◌≡◌, Bool, true, false, List, [], ◌∷◌, Option, Some, None}, Arc.arc_value}
+use Rattle.{pagable_core.specs.Data.blob_of, pagable_world.specs.declared.handles.Owner.Owner}
 use Rattle.{pagable_world.specs.{World.{Core, Root, of_cell, of_key, OpenLoad, Frame, Reading}, Refusals.OwnsLoad}, pagable_loads.specs.declared.reading.{Frame.Frame as Held, Reading.Reading as Own}}
 
 abbrev pub frame_of : Held → Frame

@@ -1,6 +1,7 @@
 -- What those who answer from a list of got references stand for.
 use Rattle.std.specs.{Prelude.{◌≡◌, refl, ℕ, ◌==◌, Bool, true, false, if◌then◌else◌, List, Option, Some, None, Result, Ok, Err, option_and_then, slice_get}, Option.option_map}
-use Rattle.{std.{specs.declared.{alloc.Global.Global, sync.Arc.Arc}, proofs.Common.subst}, pagable_model.specs.{declared.{error.Error.Error, numbers.ArcRef.ArcRef}, Refusals.may_refuse_reference}}
+use Rattle.std.{specs.declared.{alloc.Global.Global, sync.Arc.Arc}, proofs.Common.subst}
+use Rattle.pagable_model.specs.{declared.{error.Error.Error, numbers.ArcRef.ArcRef}, Refusals.may_refuse_reference}
 use Rattle.{pagable_world.specs.Loads.answer_of, pagable_loads.specs.declared.got.GotReferences.GotReferences}
 
 abbrev pub environment_of : {E N H K V : Type 0} → GotReferences E N H K V → E

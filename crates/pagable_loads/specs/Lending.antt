@@ -1,5 +1,6 @@
 -- What a load lends to the reader of its innermost blob.
-use Rattle.{std.specs.Prelude.{ℕ, ◌≡◌, ◌⊎◌, true, false, List, Option, Some, None, Ok, IfSome, IfNone, IsSome, slice_get}, pagable_model.specs.{declared.numbers.ArcRef.ArcRef, Deep.is_eager}}
+use Rattle.std.specs.Prelude.{ℕ, ◌≡◌, ◌⊎◌, true, false, List, Option, Some, None, Ok, IfSome, IfNone, IsSome, slice_get}
+use Rattle.pagable_model.specs.{declared.numbers.ArcRef.ArcRef, Deep.is_eager}
 use Rattle.{pagable_world.specs.{World.row_at, Refusals.live_fault, Pager.{PagerState, ValueCall}}, pagable_loads.specs.Got.lent_at}
 
 -- The value that its handle pins, if it is read together with it; none where the handle pins none, or is gone.

@@ -1,5 +1,6 @@
 -- What a load needs next, in the words of the world.
-use Rattle.{std.specs.Prelude.{ℕ, ◌≡◌, ◌⊎◌, ◌<◌, Bool, true, false, if◌then◌else◌, List, [], length, Option, IsSome}, pagable_model.specs.{declared.numbers.Kind.Kind, Deep.is_eager}}
+use Rattle.std.specs.Prelude.{ℕ, ◌≡◌, ◌⊎◌, ◌<◌, Bool, true, false, if◌then◌else◌, List, [], length, Option, IsSome}
+use Rattle.pagable_model.specs.{declared.numbers.Kind.Kind, Deep.is_eager}
 use Rattle.{pagable_world.specs.{World.{Reading, Values}, Loads.{need_of, needs_nested, needs_lazy, ReadsNode, ReadsRoot, RefusesBlob}}, pagable_loads.specs.declared.reading.Frame.Frame as Held}
 use Rattle.pagable_loads.specs.declared.reading.Need.{Need}
 

@@ -1,5 +1,6 @@
 -- What those who answer with stand-ins stand for.
-use Rattle.{std.specs.Prelude.{ℕ, ◌≡◌, ◌||◌, Bool, true, false, nat_lt, Option, Result, Ok, Err}, pagable_model.specs.{declared.{error.Error.Error, numbers.ArcRef.ArcRef}, Deep.is_eager}}
+use Rattle.std.specs.Prelude.{ℕ, ◌≡◌, ◌||◌, Bool, true, false, nat_lt, Option, Result, Ok, Err}
+use Rattle.pagable_model.specs.{declared.{error.Error.Error, numbers.ArcRef.ArcRef}, Deep.is_eager}
 use Rattle.{pagable_model.specs.Refusals.may_refuse_reference, pagable_world.specs.Loads.answer_of, pagable_loads.specs.{declared.foreseeing.StandIns.StandIns, Got.{environment_of, got_of}}}
 use Rattle.pagable_loads.specs.Got.{answer_at, may_refuse}
 

@@ -1,5 +1,6 @@
 -- A pin that begins, and one that was begun and is taken back.
-use Rattle.{std.specs.{Prelude.{◌≡◌, ◌⊎◌, Bool, true, false, Option, Some, Result, Ok, Err, IfOk, IfErr}, Option.option_map}, pagable_model.specs.declared.error.Error.Error}
+use Rattle.std.specs.{Prelude.{◌≡◌, ◌⊎◌, Bool, true, false, Option, Some, Result, Ok, Err, IfOk, IfErr}, Option.option_map}
+use Rattle.pagable_model.specs.declared.error.Error.{Error}
 use Rattle.{pagable_model.specs.declared.numbers.HandleNumber.HandleNumber, pagable_world.specs.{World.{Core, Values, row_at}, declared.handles.{HandleRow.HandleRow, Owner.Owner}}}
 use Rattle.pagable_world.specs.{declared.answers.{Pinning.Pinning, Beginning.Beginning}, Plain.if_there, Kinds.is_unpinned, Refusals.live_fault, Calls.{PinCall, UnpinCall, ReleaseCall}}
 use Rattle.pagable_world.specs.{LoadCalls.BeginCall, Workers.fresh, Events.reading_of_load, Pager.{PagerState, ValueCall}, Access.{Called, PinRun}}

@@ -1,5 +1,6 @@
 -- What an access tells: for whom it acts and in which environment; and of its pager's state, where that is told, what each call does to it.
-use Rattle.{std.specs.Prelude.{ℕ, ◌≡◌, List, Option, Some, None, Result, Ok, Err, IfOk}, either.specs.declared.Either.Either, pagable_codec.specs.declared.env.Env.Ghosts as Environments}
+use Rattle.std.specs.Prelude.{ℕ, ◌≡◌, List, Option, Some, None, Result, Ok, Err, IfOk}
+use Rattle.{either.specs.declared.Either.Either, pagable_codec.specs.declared.env.Env.Ghosts as Environments}
 use Rattle.{pagable_codec.specs.declared.{hash.KeyHash.Ghosts as Hashes, nodes.NodeSet.Ghosts as Nodes}, pagable_model.specs.declared.{error.Error.Error, numbers.ArcRef.ArcRef}}
 use Rattle.{pagable_model.specs.{declared.numbers.{HandleNumber.HandleNumber, Kind.Kind, LoadNumber.LoadNumber}, Blob.Blob}, pagable_world.specs.declared.answers.Beginning.Beginning}
 use Rattle.pagable_world.specs.{declared.{handles.{HandleRow.HandleRow, Owner.Owner}, calls.Want.Want}, World.{Core, Values, row_at}, LoadCalls.{Given, from_cache, from_store, AskCall, AdoptCall}}

@@ -1,5 +1,6 @@
 -- What a worker's calls of an access do, in the words of the world.
-use Rattle.{std.specs.Prelude.{ℕ, ◌≡◌, ◌≤◌, ◌⊎◌, true, length, Option, Some, None, Result, Ok, Err, IfOk, IfErr}, pagable_model.specs.declared.{error.Error.Error, numbers.ArcRef.ArcRef}}
+use Rattle.std.specs.Prelude.{ℕ, ◌≡◌, ◌≤◌, ◌⊎◌, true, length, Option, Some, None, Result, Ok, Err, IfOk, IfErr}
+use Rattle.pagable_model.specs.declared.{error.Error.Error, numbers.ArcRef.ArcRef}
 use Rattle.{pagable_model.specs.declared.numbers.{HandleNumber.HandleNumber, LoadNumber.LoadNumber, WorkerNumber.WorkerNumber}, pagable_world.specs.Kinds.{loose_kind, HasKinds, HasNoKinds}}
 use Rattle.pagable_world.specs.{declared.handles.{HandleRow.HandleRow, Owner.Owner}, World.{Core, Values, Alike}, Workers.{RowIs, PinsAtOnce, PinRefused}, LoadCalls.BeginCall, Calls.CloneCall}
 use Rattle.pagable_world.specs.declared.answers.Beginning.{Beginning}

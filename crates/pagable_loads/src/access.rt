@@ -1,6 +1,7 @@
 //! An access to a pager: its calls, each one step, over a pager that is lent or behind a lock. Loads and page-out workers step over it.
 
-ghost use Rattle.{std.specs.{Prelude.{◌≡◌, ℕ, Option, IfOk}, Arc.arc_value}, pagable_core.specs.Data.blob_of, pagable_model.specs.Blob.key_of, pagable_world.specs.Pager.{PagerState, IsNewNode}};
+ghost use Rattle.std.specs.{Prelude.{◌≡◌, ℕ, Option, IfOk}, Arc.arc_value};
+ghost use Rattle.{pagable_core.specs.Data.blob_of, pagable_model.specs.Blob.key_of, pagable_world.specs.Pager.{PagerState, IsNewNode}};
 ghost use Rattle.pagable_world.specs.{Pager.IsCellOf, Calls.{CloneCall, PinCall, UnpinCall, ReleaseCall, SetKeyCall, StoreCall}, LoadCalls.{BeginCall, BeginKeyCall, AskCall, EndCall, HandOverCall}};
 ghost use Rattle.{pagable_world.specs.{LoadCalls.DropCall, Access.{Called, Told}, declared.calls.Want.Want}, pagable_loads.specs.Telling.{Acting, Tells, Brings, AsksFor, TakesLazily, AdoptsValue}};
 ghost use Rattle.pagable_loads.specs.{Telling.{values_at, begun_as, blob_as}, Starting.{Shares, StartsPin}};

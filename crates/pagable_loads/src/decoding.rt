@@ -1,6 +1,7 @@
 //! A blob is read from its front, with the references that were got so far.
 
-ghost use Rattle.{std.specs.Prelude.{◌≡◌, IfOk, IfSome, IfNone, false, length, slice_get}, pagable_core.specs.Data.blob_of, pagable_loads.specs.Decoding.{Decodes, ReadsWith, Asks, is_asking}};
+ghost use Rattle.std.specs.Prelude.{◌≡◌, IfOk, IfSome, IfNone, false, length, slice_get};
+ghost use Rattle.{pagable_core.specs.Data.blob_of, pagable_loads.specs.Decoding.{Decodes, ReadsWith, Asks, is_asking}};
 ghost use Rattle.pagable_loads.specs.Telling.{values_at};
 
 use crate::got::GotReferences;

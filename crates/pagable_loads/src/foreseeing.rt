@@ -1,7 +1,8 @@
 //! A row of references that the innermost blob asks for, one after the other, known before they are got. It is found by two readings with stand-ins for the references that are read later:
 //! one that notes what is asked for, and one that asks for the last of them with all that are before it.
 
-ghost use Rattle.{std.specs.Prelude.{◌≡◌, IfSome, IsSome, slice_get}, pagable_core.specs.Data.blob_of, pagable_world.specs.Plain.Types, pagable_loads.specs.Ahead.{IsAhead, AskedIf, RowTells, Kept}};
+ghost use Rattle.std.specs.Prelude.{◌≡◌, IfSome, IsSome, slice_get};
+ghost use Rattle.{pagable_core.specs.Data.blob_of, pagable_world.specs.Plain.Types, pagable_loads.specs.Ahead.{IsAhead, AskedIf, RowTells, Kept}};
 ghost use Rattle.pagable_loads.specs.{Frames.frames_of, Telling.values_at};
 
 use crate::access::Access;
@@ -25,7 +26,8 @@ pub struct StandIns<'g, E: Env> {
 }
 
 impl<'g, E: Env> References<E> for StandIns<'g, E> {
-    ghost use Rattle.{std.specs.{Prelude.{◌||◌, nat_lt, slice_get}, Arc.arc_value}, pagable_model.specs.Deep.is_eager, pagable_loads.specs.Got.{got_of, lent_of, lent_by}};
+    ghost use Rattle.std.specs.{Prelude.{◌||◌, nat_lt, slice_get}, Arc.arc_value};
+    ghost use Rattle.{pagable_model.specs.Deep.is_eager, pagable_loads.specs.Got.{got_of, lent_of, lent_by}};
     ghost use Rattle.pagable_loads.specs.StandIns.{lends_environment, answer_or_stand_in, or_may_refuse};
 
     ghost environment = { lends_environment };

@@ -1,6 +1,7 @@
 //! The references that were got so far.
 
-ghost use Rattle.{std.specs.Prelude.◌≡◌, pagable_loads.specs.Got.{environment_of, got_of, lent_of}};
+ghost use Rattle.std.specs.Prelude.{◌≡◌};
+ghost use Rattle.pagable_loads.specs.Got.{environment_of, got_of, lent_of};
 
 use pagable_codec::{ArcRef, Env, Kind, SessionContext};
 use pagable_core::References;
@@ -42,7 +43,8 @@ impl<'g, E: Env> GotReferences<'g, E> {
 }
 
 impl<'g, E: Env> References<E> for GotReferences<'g, E> {
-    ghost use Rattle.{std.specs.{Prelude.slice_get, Arc.arc_value}, pagable_loads.specs.Got.{environment_of, got_of, lent_of, answer_at, lent_by, may_refuse}};
+    ghost use Rattle.std.specs.{Prelude.slice_get, Arc.arc_value};
+    ghost use Rattle.pagable_loads.specs.Got.{environment_of, got_of, lent_of, answer_at, lent_by, may_refuse};
 
     ghost environment = { environment_of };
 

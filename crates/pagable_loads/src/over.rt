@@ -1,6 +1,7 @@
 //! Whole operations over an access: a pin, with the load that it may need, and the reading of a key.
 
-ghost use Rattle.{std.specs.{Prelude.{◌≡◌, Bool}, Arc.arc_value}, pagable_world.specs.{World.seen_as, Access.{Told, PinsOver, ReadsOver}, declared.handles.Owner.Owner}};
+ghost use Rattle.std.specs.{Prelude.{◌≡◌, Bool}, Arc.arc_value};
+ghost use Rattle.pagable_world.specs.{World.seen_as, Access.{Told, PinsOver, ReadsOver}, declared.handles.Owner.Owner};
 ghost use Rattle.pagable_loads.specs.{Starting.{PinsFirst, Unpins}, Telling.values_at};
 
 use crate::access::Access;

@@ -1,6 +1,7 @@
 //! How far a load is: the blobs that it reads, what it needs next, and the values of the references that were got, which it lends to the reader of its innermost blob.
 
-ghost use Rattle.{std.specs.{Prelude.{◌≡◌, ◌<◌, [], length, IsSome, true, false, ◌≢◌, None, IfOk, IfErr}, Arc.arc_value, List.list_any, Option.option_map}, pagable_model.specs.Deep.is_eager};
+ghost use Rattle.std.specs.{Prelude.{◌≡◌, ◌<◌, [], length, IsSome, true, false, ◌≢◌, None, IfOk, IfErr}, Arc.arc_value, List.list_any, Option.option_map};
+ghost use Rattle.pagable_model.specs.Deep.{is_eager};
 ghost use Rattle.pagable_loads.specs.{Frames.{reading_of, frames_of}, Needing.{Needs, HasFrames, IsRead, need_wanted}, Telling.{values_at, Tells}, Lending.{Lends, LendsEach}};
 
 use crate::access::Access;

@@ -1,6 +1,7 @@
 //! The blobs of a load, the innermost apart from those below it.
 
-ghost use Rattle.{std.specs.{Prelude.{◌≡◌, ◌<◌, ◌≤◌, ◌∷◌, ◌^◌, [], length, vec_len, vec_capacity, IsSome, IfOk, IfErr, OnOk}, Arc.arc_value}, pagable_core.specs.Data.blob_of};
+ghost use Rattle.std.specs.{Prelude.{◌≡◌, ◌<◌, ◌≤◌, ◌∷◌, ◌^◌, [], length, vec_len, vec_capacity, IsSome, IfOk, IfErr, OnOk}, Arc.arc_value};
+ghost use Rattle.pagable_core.specs.Data.{blob_of};
 ghost use Rattle.{pagable_model.specs.Deep.longest_path, pagable_world.specs.Loads.{root_frame, nested_frame, handles_of as all_handles}, pagable_loads.specs.Frames.{frame_of, frames_of, onto}};
 ghost use Rattle.pagable_loads.specs.Stepping.{IsSameLoad, TakenOff, TakenTwo, Gets};
 

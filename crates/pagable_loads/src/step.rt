@@ -1,6 +1,7 @@
 //! A load's steps, over an access to a pager, and a load that is driven to its end.
 
-ghost use Rattle.{std.specs.Prelude.{◌≡◌, ◌<◌, [], length, IsSome, IfOk, Some, Result, Ok, true, false}, pagable_world.specs.{World.one_more, Loads.{need_of, needs_nested, needs_lazy, ReadsNode}}};
+ghost use Rattle.std.specs.Prelude.{◌≡◌, ◌<◌, [], length, IsSome, IfOk, Some, Result, Ok, true, false};
+ghost use Rattle.pagable_world.specs.{World.one_more, Loads.{need_of, needs_nested, needs_lazy, ReadsNode}};
 ghost use Rattle.{pagable_world.specs.{Loads.ReadsRoot, Access.Told}, pagable_loads.specs.{Stepping.{IsSameLoad, Tries, Steps, Drops}, Ahead.{GotMore, goes_on_with, IsAhead, RowTells}}};
 ghost use Rattle.pagable_loads.specs.{Ending.{LeadsOn, EndsAs}, Frames.{reading_of, frames_of}, Needing.{Needs, HasFrames}, Telling.values_at, Running.Runs};
 

@@ -1,6 +1,7 @@
 //! What a page-out worker asks of an access besides: each call one step for the worker.
 
-ghost use Rattle.{std.specs.Prelude.{◌≡◌, ◌≤◌, length, IfOk, IfErr, IfSome, IfNone}, pagable_model.specs.declared.numbers.HandleNumber.HandleNumber as Handle, pagable_world.specs.Workers.claim_fault};
+ghost use Rattle.std.specs.Prelude.{◌≡◌, ◌≤◌, length, IfOk, IfErr, IfSome, IfNone};
+ghost use Rattle.{pagable_model.specs.declared.numbers.HandleNumber.HandleNumber as Handle, pagable_world.specs.Workers.claim_fault};
 ghost use Rattle.pagable_world.specs.{Workers.{is_workers_at, WorkerEnds}, World.Alike, Cascade.FallsAnyhow, Calls.{ScheduleCall, TakeCall}, Access.{Called, Told, WorkerStarts, EntryHas}};
 ghost use Rattle.pagable_loads.specs.{Telling.{Tells, values_at}, Working.{fault_in, TakesReference, StartsEntry, RefusesEntry, acting_after, as_caller}};
 

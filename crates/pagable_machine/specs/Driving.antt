@@ -1,6 +1,7 @@
 -- A machine over a pager, as a state of the plain world; and what its events and runs are.
 use Rattle.std.specs.{Prelude.{ℕ, ◌≡◌, ◌++◌, zero, suc, List, length, map, Option, nat_eq, slice_get}, declared.{sync.Arc.Arc, alloc.Global.Global, hash.FoldHasher.FoldHasher}}
-use Rattle.{std.specs.{declared.hash.BuildHasherDefault.BuildHasherDefault, HashMap.{HashMap, get}, Map.lookup}, pagable_core.specs.declared.context.writing.SerializedData.SerializedData}
+use Rattle.std.specs.{declared.hash.BuildHasherDefault.BuildHasherDefault, HashMap.{HashMap, get}, Map.lookup}
+use Rattle.pagable_core.specs.declared.context.writing.SerializedData.{SerializedData}
 use Rattle.{pagable_core.specs.declared.storage.data.PagableData.PagableData, pagable_world.specs.{Plain.{Blob, Identity, if_there}, declared.events.{Event.Event, EventReply.EventReply}, World.Shelf}}
 use Rattle.pagable_world.specs.{World.{Slot, Values, Walking, Written}, Events.no_shelf, Pager.{IsIdle, IsMachineWhole, MachineState}, Runs.{AreMoments, HasRun, Moment, state_after}}
 use Rattle.{pagable_world.specs.Headline.Headline, pagable_pager.specs.View.{PagerView, Telling, core_in, state_in}, pagable_walk.specs.declared.{results.Trees.Ghosts, table.SlotTable.SlotTable}}

@@ -1,5 +1,6 @@
 -- What a call does to a pager, by the definitions of the plain world. These see blobs as plain, so a call and its reply are seen so first.
-use Rattle.{std.specs.{Arc.arc_value, declared.{sync.Arc.Arc, alloc.Global.Global}}, pagable_core.specs.{Data.blob_of, declared.context.writing.SerializedData.SerializedData}}
+use Rattle.std.specs.{Arc.arc_value, declared.{sync.Arc.Arc, alloc.Global.Global}}
+use Rattle.pagable_core.specs.{Data.blob_of, declared.context.writing.SerializedData.SerializedData}
 use Rattle.{pagable_core.specs.declared.storage.data.PagableData.PagableData, pagable_world.specs.{Plain.Blob, declared.{calls.{Call.Call, Found.Found, Reply.Reply}, events.Event.Event}}}
 use Rattle.pagable_world.specs.{declared.{events.{EventReply.EventReply, WorkerReply.WorkerReply}, handles.Owner.Owner}, World.{Values, Written, seen_as}, Events.CallStep, Pager.{Moves, CallBrings}}
 use Rattle.{pagable_pager.specs.View.{PagerView, Telling, core_in, state_in}, pagable_walk.specs.{Slots.written_of, Turns.{plain, plain_took}}}

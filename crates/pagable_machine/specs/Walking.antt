@@ -1,6 +1,7 @@
 -- What a machine keeps of tables and workers, as the plain world knows it.
 use Rattle.std.specs.{Prelude.{ℕ, ◌≡◌, ◌≢◌, ◌<◌, ◌≤◌, ◌∷◌, [], zero, suc, ◌&&◌, Bool, false, true, nat_le, nat_lt, List, length, Option, Some, None, is_none, is_some, slice_get}, Arc.arc_value}
-use Rattle.{std.specs.declared.{alloc.Global.Global, sync.Arc.Arc}, pagable_core.specs.declared.context.writing.SerializedData.SerializedData}
+use Rattle.std.specs.declared.{alloc.Global.Global, sync.Arc.Arc}
+use Rattle.pagable_core.specs.declared.context.writing.SerializedData.{SerializedData}
 use Rattle.pagable_world.specs.{declared.events.{WorkerReply.WorkerReply, TableNumber.TableNumber}, Plain.if_there, Kinds.owner_worker, Pager.PagerState, World.{Core, Shelf, Todo, Values, Walking}}
 use Rattle.{pagable_world.specs.{World.{of_item, of_entry}, Events.{new_walking, no_shelf, steps_after}}, pagable_walk.specs.{Tasks.{IsPlain, IsWay, todo_of, todos}, declared.results.Trees.Ghosts}}
 use Rattle.pagable_walk.specs.{declared.{table.SlotTable.SlotTable, tasks.{Moved.Moved, Task.Task, Turn.Turn, Waiting.Waiting}}, Slots.written_of, Table.shelf_of, Turns.{StepsTo, TaskFits, answer_in}}

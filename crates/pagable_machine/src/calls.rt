@@ -1,6 +1,7 @@
 //! Each call of the pager as the machine makes it: a step of the plain world, with a reply of the call's type.
 
-ghost use Rattle.{std.specs.Prelude.◌≡◌, pagable_world.specs.{Events.given_of, World.seen_as}, pagable_loads.specs.Telling.values_at, pagable_pager.specs.View.{telling, given_as}};
+ghost use Rattle.std.specs.Prelude.{◌≡◌};
+ghost use Rattle.{pagable_world.specs.{Events.given_of, World.seen_as}, pagable_loads.specs.Telling.values_at, pagable_pager.specs.View.{telling, given_as}};
 ghost use Rattle.pagable_machine.specs.Serving.{Serves, plain_blob};
 
 use either::Either;

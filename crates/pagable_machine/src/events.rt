@@ -1,6 +1,7 @@
 //! Each event of the machine: a step of the plain world that leaves the machine whole.
 
-ghost use Rattle.{std.specs.{Prelude.{◌≡◌, ◌⊎◌, ◌<◌, ℕ, Ok, Err, IfErr, IfSome, IfNone, OnOk}, HashMap.spare}, pagable_model.specs.declared.error.Error.Error, pagable_loads.specs.Telling.values_at};
+ghost use Rattle.std.specs.{Prelude.{◌≡◌, ◌⊎◌, ◌<◌, ℕ, Ok, Err, IfErr, IfSome, IfNone, OnOk}, HashMap.spare};
+ghost use Rattle.{pagable_model.specs.declared.error.Error.Error, pagable_loads.specs.Telling.values_at};
 ghost use Rattle.{pagable_pager.specs.View.{core_in, telling}, pagable_machine.specs.{Keeping.{BeginsNoKey, Forgets}, Driving.{Drives, IsInStep, kept_at, over}}};
 
 use crate::calls;

@@ -1,6 +1,7 @@
 //! A pager that is driven by lists of events.
 
-ghost use Rattle.{std.specs.Prelude.{◌≡◌, IfOk, IfErr, OnErr}, pagable_world.specs.Pager.{IsIdle, IsNew}, pagable_loads.specs.Telling.values_at, pagable_pager.specs.View.{state_in, telling}};
+ghost use Rattle.std.specs.Prelude.{◌≡◌, IfOk, IfErr, OnErr};
+ghost use Rattle.{pagable_world.specs.Pager.{IsIdle, IsNew}, pagable_loads.specs.Telling.values_at, pagable_pager.specs.View.{state_in, telling}};
 ghost use Rattle.pagable_machine.specs.Driving.{Runs, machine_in};
 
 use crate::events;
@@ -33,7 +34,8 @@ impl<E: Env + Trees, S: PagableStorage<E>> Model for Machine<E, S>
 where
     E::Node: NodeSet<E>,
 {
-    ghost use Rattle.{pagable_pager.specs.View.telling, pagable_machine.specs.Driving.{IsInStep, MachineView, over, view_of}, std.specs.Coded.codes, indexmap.specs.Layout.hash_map_code};
+    ghost use Rattle.std.specs.Coded.{codes};
+    ghost use Rattle.{pagable_pager.specs.View.telling, pagable_machine.specs.Driving.{IsInStep, MachineView, over, view_of}, indexmap.specs.Layout.hash_map_code};
 
     ghost Value = { MachineView E.Node S E };
 

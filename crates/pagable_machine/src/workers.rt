@@ -1,6 +1,7 @@
 //! Tables of page-out, workers on them, and a worker's step.
 
-ghost use Rattle.{std.specs.{Prelude.{◌≡◌, ◌<◌, ◌⊎◌, ℕ, Some, IfOk, IfErr, OnOk, OnErr, true, false, ◌≤◌, ◌∷◌, length, is_some}, HashMap.spare}, pagable_world.specs.Kinds.{identity_of, owner_worker}};
+ghost use Rattle.std.specs.{Prelude.{◌≡◌, ◌<◌, ◌⊎◌, ℕ, Some, IfOk, IfErr, OnOk, OnErr, true, false, ◌≤◌, ◌∷◌, length, is_some}, HashMap.spare};
+ghost use Rattle.pagable_world.specs.Kinds.{identity_of, owner_worker};
 ghost use Rattle.pagable_world.specs.{World.{Alike, of_entry, of_item}, Access.{Called, WorkerStarts}, declared.events.{EventReply.EventReply, Event.Event}, Events.steps_after};
 ghost use Rattle.{pagable_loads.specs.{Telling.values_at, Working.{RefusesEntry, StartsEntry}}, pagable_pager.specs.View.{core_in, state_in, telling}, pagable_walk.specs.Slots.written_of};
 ghost use Rattle.{pagable_walk.specs.{Table.shelf_of, Tasks.{IsWay, todo_of, todos}, Turns.{StepsTo, answer_in, plan}}, pagable_machine.specs.Walking.{IsBegun, is_table, IsAfter, WalksOn, has_task}};

@@ -1,5 +1,6 @@
 -- The clone through which a worker takes a reference.
-use Rattle.{std.specs.Prelude.{◌≡◌, ◌⊎◌, Result, Ok, Err, IfOk, IfErr}, pagable_model.specs.declared.{error.Error.Error, numbers.HandleNumber.HandleNumber}}
+use Rattle.std.specs.Prelude.{◌≡◌, ◌⊎◌, Result, Ok, Err, IfOk, IfErr}
+use Rattle.pagable_model.specs.declared.{error.Error.Error, numbers.HandleNumber.HandleNumber}
 use Rattle.pagable_world.specs.{declared.{answers.{Pinning.Pinning, Beginning.Beginning}, handles.Owner.Owner}, World.Core, Calls.PinCall, LoadCalls.BeginCall}
 use Rattle.pagable_loads.specs.declared.working.Taken.{Taken}
 

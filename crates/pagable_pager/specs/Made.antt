@@ -1,5 +1,6 @@
 -- What a lent pager makes: the reference that stands for a handle, and a worker that an entry of the list moves to.
-use Rattle.{std.specs.Prelude.{ℕ, ◌≡◌, ◌+◌, Result, Ok, Err, IsSome}, pagable_model.specs.declared.{error.Error.Error, numbers.{ArcRef.ArcRef, HandleNumber.HandleNumber, Kind.Kind}}}
+use Rattle.std.specs.Prelude.{ℕ, ◌≡◌, ◌+◌, Result, Ok, Err, IsSome}
+use Rattle.pagable_model.specs.declared.{error.Error.Error, numbers.{ArcRef.ArcRef, HandleNumber.HandleNumber, Kind.Kind}}
 use Rattle.{pagable_model.specs.declared.numbers.WorkerNumber.WorkerNumber, pagable_world.specs.{World.{Core, Alike, row_at}, declared.handles.HandleRow.HandleRow, Kinds.{loose_kind, HasKinds}}}
 use Rattle.{pagable_world.specs.Events.{IsEntry, with_entry_taken, with_worker}, pagable_loads.specs.{Telling.IsMade, Working.EntryFault}}
 

@@ -1,5 +1,6 @@
 -- What an open load reads.
-use Rattle.{std.specs.Prelude.{ℕ, ◌≡◌, Option, Some, None}, pagable_model.specs.declared.numbers.LoadNumber.LoadNumber, pagable_world.specs.World.{Core, OpenLoad, Root, of_cell, of_key}}
+use Rattle.std.specs.Prelude.{ℕ, ◌≡◌, Option, Some, None}
+use Rattle.{pagable_model.specs.declared.numbers.LoadNumber.LoadNumber, pagable_world.specs.World.{Core, OpenLoad, Root, of_cell, of_key}}
 use Rattle.pagable_world.specs.{declared.handles.Owner.Owner, Refusals.OwnsLoad}
 
 -- the type of the value of the cell that a load is of

@@ -1,5 +1,6 @@
 -- A value comes to a cell that has none, or is dropped.
-use Rattle.{std.specs.Prelude.{ℕ, ◌≡◌, Bool, true, false, if◌then◌else◌, Option, Some, None, is_some}, pagable_world.specs.Plain.updated, pagable_tables.specs.declared.tables.Tables.Tables}
+use Rattle.std.specs.Prelude.{ℕ, ◌≡◌, Bool, true, false, if◌then◌else◌, Option, Some, None, is_some}
+use Rattle.{pagable_world.specs.Plain.updated, pagable_tables.specs.declared.tables.Tables.Tables}
 use Rattle.{pagable_tables.specs.{ByNumber.counts_at, Falling.has_value}, pagable_pager.specs.View.{ValuesByNode, value_in}}
 
 -- the values, with this one at its node if it comes

@@ -1,6 +1,7 @@
 -- What contracts see of a pager, and the plain state that it tells.
 use Rattle.std.specs.{Arc.arc_value, declared.{sync.Arc.Arc, hash.{FoldHasher.FoldHasher, BuildHasherDefault.BuildHasherDefault}}, Global.Global, HashMap.{HashMap, get}, Option.option_map, Prelude.ℕ}
-use Rattle.{std.specs.Prelude.{◌≡◌, Bool, true, false, List, Option, Some, nat_eq}, either.specs.declared.Either.Either, pagable_model.specs.declared.numbers.ArcRef.ArcRef}
+use Rattle.std.specs.Prelude.{◌≡◌, Bool, true, false, List, Option, Some, nat_eq}
+use Rattle.{either.specs.declared.Either.Either, pagable_model.specs.declared.numbers.ArcRef.ArcRef}
 use Rattle.{pagable_model.specs.declared.numbers.HandleNumber.HandleNumber, pagable_world.specs.{Plain.{Blob, Error, Meaning, Shape}, declared.handles.Owner.Owner, World.{Core, Values}}}
 use Rattle.{pagable_world.specs.{LoadCalls.{Given, from_cache, from_store}, Pager.{PagerState, WellFormed}}, pagable_tables.specs.{declared.tables.Tables.Tables, ByNumber.counts_at, Falling.pins_in}}
 use Rattle.pagable_tables.specs.{Core.core_of, Later.AreLater}

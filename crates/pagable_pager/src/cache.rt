@@ -1,7 +1,8 @@
 //! The cache of a lent pager.
 
 ghost use Rattle.pagable_world.specs.declared.handles.Owner.{Owner};
-ghost use Rattle.{std.specs.Prelude.{◌≡◌, IfOk}, pagable_world.specs.{World.seen_as, Calls.{ClearCall, OfferCall, RecallCall}}, pagable_pager.specs.View.{core_in, telling, OnlyLess, OnlyTables}};
+ghost use Rattle.std.specs.Prelude.{◌≡◌, IfOk};
+ghost use Rattle.{pagable_world.specs.{World.seen_as, Calls.{ClearCall, OfferCall, RecallCall}}, pagable_pager.specs.View.{core_in, telling, OnlyLess, OnlyTables}};
 
 use crate::pager::Pager;
 use pagable_codec::{Env, NodeSet};

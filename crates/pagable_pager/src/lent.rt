@@ -1,6 +1,7 @@
 //! A pager that is lent, as an access, and as that of a page-out worker.
 
-ghost use Rattle.{std.specs.Prelude.{◌≡◌, true}, pagable_pager.specs.View.{core_in, telling, is_at_work}};
+ghost use Rattle.std.specs.Prelude.{◌≡◌, true};
+ghost use Rattle.pagable_pager.specs.View.{core_in, telling, is_at_work};
 
 use crate::pager::Pager;
 use either::Either;
@@ -61,7 +62,8 @@ impl<'a, E: Env, S: PagableStorage<E>> Access<E> for Lent<'a, E, S>
 where
     E::Node: NodeSet<E>,
 {
-    ghost use Rattle.{std.specs.Prelude.Some, pagable_pager.specs.View.{state_in, telling}};
+    ghost use Rattle.std.specs.Prelude.{Some};
+    ghost use Rattle.pagable_pager.specs.View.{state_in, telling};
     ghost use Rattle.pagable_world.specs.declared.handles.Owner.TheVariants as owners;
 
     ghost told = { λ l. Some (state_in (telling S.stored S.is_closed S.failed) l.pager.now) };

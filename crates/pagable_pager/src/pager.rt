@@ -1,6 +1,7 @@
 //! The pager: values in memory, in step with tables of who holds them, over a storage of blobs.
 
-ghost use Rattle.{std.specs.{Prelude.◌≡◌, Arc.arc_value, Option.option_map}, pagable_world.specs.{World.seen_as, Pager.{IsNew, ValueCall, WellFormed}}, pagable_loads.specs.Starting.Shares};
+ghost use Rattle.std.specs.{Prelude.◌≡◌, Arc.arc_value, Option.option_map};
+ghost use Rattle.{pagable_world.specs.{World.seen_as, Pager.{IsNew, ValueCall, WellFormed}}, pagable_loads.specs.Starting.Shares};
 ghost use Rattle.pagable_pager.specs.View.{state_in, telling, spelling, values_of};
 
 pub mod births;
@@ -38,7 +39,8 @@ impl<E: Env, S: PagableStorage<E>> Model for Pager<E, S>
 where
     E::Node: NodeSet<E>,
 {
-    ghost use Rattle.{pagable_pager.specs.View.{PagerView, IsPager, telling, spelling}, std.specs.Coded.codes, indexmap.specs.Layout.hash_map_code};
+    ghost use Rattle.std.specs.Coded.{codes};
+    ghost use Rattle.{pagable_pager.specs.View.{PagerView, IsPager, telling, spelling}, indexmap.specs.Layout.hash_map_code};
 
     ghost Value = { PagerView E.Node S E };
 

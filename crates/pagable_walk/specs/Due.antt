@@ -1,5 +1,6 @@
 -- Why a walk comes to an end, whatever it meets: up to the next claim each step leaves less to do.
-use Rattle.{std.specs.Prelude.{ℕ, ◌+◌, ◌*◌, ◌^◌, ◌≤◌, ◌<◌, List, [], ◌∷◌, length}, pagable_world.specs.World.{Todo, to_start, to_pin, to_load, to_write, to_finish, to_item, to_set, to_publish}}
+use Rattle.std.specs.Prelude.{ℕ, ◌+◌, ◌*◌, ◌^◌, ◌≤◌, ◌<◌, List, [], ◌∷◌, length}
+use Rattle.pagable_world.specs.World.{Todo, to_start, to_pin, to_load, to_write, to_finish, to_item, to_set, to_publish}
 use Rattle.{pagable_world.specs.World.{to_release, to_fail}, pagable_loads.specs.Ending.to_do, pagable_walk.specs.declared.{results.Trees.Ghosts, tasks.Turn.Turn}}
 
 -- how much there is at most before a load has begun

@@ -1,5 +1,6 @@
 -- What a worker's turns at what it has written do.
-use Rattle.{std.specs.Prelude.{ℕ, Option, Some, None, Result}, pagable_model.specs.{Blob.key_of, declared.{error.Error.Error, numbers.HandleNumber.HandleNumber}}, pagable_world.specs.Calls.StoreCall}
+use Rattle.std.specs.Prelude.{ℕ, Option, Some, None, Result}
+use Rattle.{pagable_model.specs.{Blob.key_of, declared.{error.Error.Error, numbers.HandleNumber.HandleNumber}}, pagable_world.specs.Calls.StoreCall}
 use Rattle.pagable_world.specs.{Calls.ScheduleCall, Pager.{PagerState, WellFormed, Moves}, Plain.Blob, World.{Core, Values, Alike}, declared.handles.Owner.Owner}
 
 -- the blob is stored, or the call is refused

@@ -1,5 +1,6 @@
 -- A walk that fails.
-use Rattle.{std.specs.Prelude.{List, [], ◌∷◌, Option, None}, pagable_model.specs.declared.numbers.HandleNumber.HandleNumber, pagable_world.specs.World.{Fault, Todo, to_fail}}
+use Rattle.std.specs.Prelude.{List, [], ◌∷◌, Option, None}
+use Rattle.{pagable_model.specs.declared.numbers.HandleNumber.HandleNumber, pagable_world.specs.World.{Fault, Todo, to_fail}}
 
 -- the entry goes back where nothing waits
 abbrev pub back_of : Option HandleNumber → List Todo → Option HandleNumber

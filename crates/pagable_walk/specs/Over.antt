@@ -1,5 +1,6 @@
 -- Page-outs of an item and of the list, where the access tells its state.
-use Rattle.{std.specs.Prelude.{ℕ, ◌≡◌, ◌≤◌, ◌<◌, ◌+◌, length, Some, Result, Ok, Err, IfOk, IfErr, slice_get}, pagable_model.specs.declared.{error.Error.Error, numbers.HandleNumber.HandleNumber}}
+use Rattle.std.specs.Prelude.{ℕ, ◌≡◌, ◌≤◌, ◌<◌, ◌+◌, length, Some, Result, Ok, Err, IfOk, IfErr, slice_get}
+use Rattle.pagable_model.specs.declared.{error.Error.Error, numbers.HandleNumber.HandleNumber}
 use Rattle.pagable_world.specs.{Access.{AllHaveResults, Called, EntryRun, ListRun, PagesOutItemOver}, Calls.{ReleaseCall, TakeCall}, Pager.{PagerState, WellFormed}, World.{Shelf, Values, Written}}
 use Rattle.{pagable_world.specs.declared.{handles.Owner.Owner, events.WorkerAnswer.WorkerAnswer}, pagable_walk.specs.{Turns.plain, declared.table.PageOutError.PageOutError}}
 

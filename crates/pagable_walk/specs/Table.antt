@@ -1,5 +1,6 @@
 -- What a lent table tells.
-use Rattle.{std.specs.Prelude.{◌≡◌, Result, Ok, Err}, pagable_world.specs.{Plain.{Error, Identity}, World.Shelf, declared.events.Claim.Claim}, pagable_walk.specs.Slots.shelf_in}
+use Rattle.std.specs.Prelude.{◌≡◌, Result, Ok, Err}
+use Rattle.{pagable_world.specs.{Plain.{Error, Identity}, World.Shelf, declared.events.Claim.Claim}, pagable_walk.specs.Slots.shelf_in}
 use Rattle.pagable_walk.specs.declared.{results.Trees.Ghosts, table.{Found.Found, SlotTable.SlotTable}}
 
 module _ {E : Type 0} {g : Ghosts E} where

@@ -1,5 +1,6 @@
 -- A worker's task at hand and its path as plain data: what it has to do, what comes next first.
-use Rattle.{std.specs.{Prelude.{ℕ, ◌≡◌, ◌≤◌, ◌+◌, List, [], ◌∷◌, ◌++◌, length, max, Some, slice_get}, Arc.arc_value}, pagable_model.specs.declared.numbers.ArcRef.ArcRef}
+use Rattle.std.specs.{Prelude.{ℕ, ◌≡◌, ◌≤◌, ◌+◌, List, [], ◌∷◌, ◌++◌, length, max, Some, slice_get}, Arc.arc_value}
+use Rattle.pagable_model.specs.declared.numbers.ArcRef.{ArcRef}
 use Rattle.pagable_world.specs.{World.{Todo, to_start, to_pin, to_load, to_write, to_finish, to_item, to_set, to_publish, to_release, to_fail, Fault, was_refused, was_failed}, Plain.above}
 use Rattle.{pagable_world.specs.{Plain.longest_path, Workers.place_below}, pagable_loads.specs.Frames.reading_of, pagable_walk.specs.{Found.keys_of, Slots.written_of, declared.results.Trees.Ghosts}}
 use Rattle.pagable_walk.specs.declared.{table.PageOutError.PageOutError, tasks.{Item.Item, Open.Open, Task.Task, Waiting.Waiting}}

@@ -1,5 +1,6 @@
 -- A worker's walk from a task to its answer.
-use Rattle.{std.specs.Prelude.{ℕ, List, ◌∷◌}, pagable_world.specs.{Access.WorkerRun, Pager.PagerState, World.{Shelf, Todo, Values, Written}, declared.events.{Took.Took, WorkerAnswer.WorkerAnswer}}}
+use Rattle.std.specs.Prelude.{ℕ, List, ◌∷◌}
+use Rattle.pagable_world.specs.{Access.WorkerRun, Pager.PagerState, World.{Shelf, Todo, Values, Written}, declared.events.{Took.Took, WorkerAnswer.WorkerAnswer}}
 use Rattle.{pagable_world.specs.declared.handles.Owner.Owner, pagable_walk.specs.{Tasks.todo_of, Turns.{Fits, plain}, declared.{results.Trees.Ghosts, tasks.Task.Task}}}
 
 -- some steps from what is to be done to this answer

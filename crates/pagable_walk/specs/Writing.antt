@@ -1,5 +1,6 @@
 -- What a worker writes of a node that it has pinned.
-use Rattle.{std.specs.Prelude.{ℕ, ◌≡◌, ◌⊎◌, true, [], Some, Result, IfOk, IfErr}, pagable_model.specs.{Refusals.is_writing_fault, declared.{error.Error.Error, numbers.ArcRef.ArcRef}}}
+use Rattle.std.specs.Prelude.{ℕ, ◌≡◌, ◌⊎◌, true, [], Some, Result, IfOk, IfErr}
+use Rattle.pagable_model.specs.{Refusals.is_writing_fault, declared.{error.Error.Error, numbers.ArcRef.ArcRef}}
 use Rattle.{pagable_model.specs.declared.numbers.HandleNumber.HandleNumber, pagable_world.specs.{Pager.{PagerState, WellFormed, IsWrittenOf, IsFormless, RefusesWriting}, Plain.type_of, World.Open}}
 use Rattle.{pagable_world.specs.World.{Written, Values, HasForm}, pagable_walk.specs.Turns.{IsOfKind, PinsAt}}
 

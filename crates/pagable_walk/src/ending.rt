@@ -1,6 +1,7 @@
 //! A worker's turns at what it has written: its blob is stored, its key set and published, and its handles given up. How a result is made, and the end of a walk.
 
-ghost use Rattle.{std.specs.{Arc.arc_value, Prelude.{◌≡◌, ◌∷◌, [], ℕ, List, IfOk, IfErr, length, ◌≤◌, map}}, pagable_core.specs.Data.blob_of, pagable_model.specs.Merkle.blob_of as blob_over};
+ghost use Rattle.std.specs.{Arc.arc_value, Prelude.{◌≡◌, ◌∷◌, [], ℕ, List, IfOk, IfErr, length, ◌≤◌, map}};
+ghost use Rattle.{pagable_core.specs.Data.blob_of, pagable_model.specs.Merkle.blob_of as blob_over};
 ghost use Rattle.{pagable_model.specs.Blob.key_of, pagable_world.specs.{Access.Told, World.{Shelf, Todo, answer_of_fault, to_finish, to_release, to_set}, Kinds.identity_of, Plain.longest_path}};
 ghost use Rattle.{pagable_loads.specs.Telling.{Tells, values_at}, pagable_walk.specs.{Tasks.{Awaits, AwaitsLow, IsPlain, IsWay, fault_of, item_todo, open_of, todo_of, todos}, Due.LeadsOn}};
 ghost use Rattle.pagable_walk.specs.{Ending.{Stores, GoesBack}, Found.{keys_of, ids_of}, Slots.written_of, Table.shelf_of, Turns.{TurnsTo, plan}, Results.HasFormOf};

@@ -1,6 +1,7 @@
 //! Page-out of an item, and of the entries of the list, over an access, each by workers of its own.
 
-ghost use Rattle.{std.specs.{Arc.arc_value, Prelude.◌≡◌}, pagable_world.specs.{Access.Told, declared.handles.Owner.Owner}, pagable_loads.specs.Telling.values_at, pagable_walk.specs.Over.answer_of};
+ghost use Rattle.std.specs.{Arc.arc_value, Prelude.◌≡◌};
+ghost use Rattle.{pagable_world.specs.{Access.Told, declared.handles.Owner.Owner}, pagable_loads.specs.Telling.values_at, pagable_walk.specs.Over.answer_of};
 ghost use Rattle.pagable_walk.specs.{Over.{PagesAt, PagesEntry, PagesItem, PagesList, SkipsEntry}, Slots.written_of, Table.shelf_of};
 
 use crate::starting::{start_entry, start_item};

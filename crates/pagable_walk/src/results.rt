@@ -1,6 +1,7 @@
 //! What page-out found of a node, with a finite tree of such results below it.
 
-ghost use Rattle.{std.specs.Prelude.{◌≡◌, ◌≤◌, ℕ}, pagable_model.specs.declared.numbers.Identity.Identity as Named, pagable_world.specs.{Plain.longest_path, World.Written}};
+ghost use Rattle.std.specs.Prelude.{◌≡◌, ◌≤◌, ℕ};
+ghost use Rattle.{pagable_model.specs.declared.numbers.Identity.Identity as Named, pagable_world.specs.{Plain.longest_path, World.Written}};
 ghost use Rattle.{pagable_loads.specs.Telling.values_at, pagable_walk.specs.Results.{HasFormOf, ResultStands}};
 
 use pagable_codec::{Env, NodeSet};

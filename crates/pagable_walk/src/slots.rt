@@ -1,6 +1,7 @@
 //! The slots of claimed identities, and whom a waiting worker waits for; claims of a lent table, and what is known of them.
 
-ghost use Rattle.{std.specs.{Arc.arc_value, Option.option_map, Prelude.{◌≡◌, ℕ, Some, OnOk, OnErr, IfOk, cond, nat_eq, slice_get, None, IfErr}}, indexmap.specs.IndexMap.{get, keys}};
+ghost use Rattle.std.specs.{Arc.arc_value, Option.option_map, Prelude.{◌≡◌, ℕ, Some, OnOk, OnErr, IfOk, cond, nat_eq, slice_get, None, IfErr}};
+ghost use Rattle.indexmap.specs.IndexMap.{get, keys};
 ghost use Rattle.{pagable_model.specs.declared.numbers.Identity.Identity as Named, pagable_world.specs.Workers.{with_outcome, with_slot, with_wait, IsOpenSlot, ComesToEnd, with_changed_slot}};
 ghost use Rattle.{pagable_world.specs.{Workers.with_failed, World.{published, failed, Slot, SameShelf}}, pagable_walk.specs.Slots.{written_of, claimed_by, slot_of, IsOwn, slots_in, AreOwn, shelf_in}};
 ghost use Rattle.pagable_walk.specs.{Slots.{Stands, SlotIs, SameSlots, open_worker, EachEnds, Leads, Changes, failed_by, after_failure, with_written, no_claims, Judges, ClaimsThere}, Table.shelf_of};

@@ -1,6 +1,7 @@
 //! A worker's path: what was written and waits for the next of its references.
 
-ghost use Rattle.{std.specs.{Prelude.{◌≡◌, ◌≤◌, ◌<◌, ◌+◌, ◌*◌, ◌∷◌, ◌++◌, [], Some, max, length, slice_get, vec_len, vec_capacity}, Arc.arc_value}, pagable_world.specs.Plain.{above, longest_path}};
+ghost use Rattle.std.specs.{Prelude.{◌≡◌, ◌≤◌, ◌<◌, ◌+◌, ◌*◌, ◌∷◌, ◌++◌, [], Some, max, length, slice_get, vec_len, vec_capacity}, Arc.arc_value};
+ghost use Rattle.pagable_world.specs.Plain.{above, longest_path};
 ghost use Rattle.{pagable_world.specs.{Workers.{place_below, settle, give, give_known}, World.{to_finish, to_item, was_refused}}, pagable_walk.specs.Tasks.{AwaitsLow, IsPlain, fault_of, item_todo}};
 ghost use Rattle.pagable_walk.specs.{Tasks.{open_of, todo_of, todos, waiting_todo, with_child}, Due.due, Failing.{back_of, fails}, Found.keys_of, Slots.written_of};
 

@@ -1,6 +1,7 @@
 //! What a worker does first.
 
-ghost use Rattle.{std.specs.{Arc.arc_value, Prelude.{◌≡◌, ◌∷◌, [], IfOk, IfErr}}, pagable_world.specs.{Kinds.identity_of, Workers.first_todo, World.{of_item, of_entry, to_item}}};
+ghost use Rattle.std.specs.{Arc.arc_value, Prelude.{◌≡◌, ◌∷◌, [], IfOk, IfErr}};
+ghost use Rattle.pagable_world.specs.{Kinds.identity_of, Workers.first_todo, World.{of_item, of_entry, to_item}};
 ghost use Rattle.pagable_walk.specs.{Slots.written_of, Tasks.{IsPlain, IsWay, item_todo, todo_of, todos}};
 
 use crate::Trees;

@@ -1,6 +1,7 @@
 //! A worker's step: what is to be done next is done, and with its answer the worker ends. And its walk, from its first task to its answer.
 
-ghost use Rattle.{std.specs.Prelude.{◌≡◌, ◌∷◌, ◌<◌, ◌≤◌, ◌+◌, ◌*◌}, pagable_world.specs.{Access.Told, World.to_start}, pagable_loads.specs.{Telling.values_at, Working.as_caller}};
+ghost use Rattle.std.specs.Prelude.{◌≡◌, ◌∷◌, ◌<◌, ◌≤◌, ◌+◌, ◌*◌};
+ghost use Rattle.{pagable_world.specs.{Access.Told, World.to_start}, pagable_loads.specs.{Telling.values_at, Working.as_caller}};
 ghost use Rattle.pagable_walk.specs.{Due.{LeadsOn, IfGoes, due, far}, Table.shelf_of, Tasks.{IsWay, todo_of, todos, Awaits}, Turns.{Closes, TurnsTo, StepsTo, acting_then, plan}, Walking.RunsTo};
 ghost use Rattle.pagable_walk.specs.declared.tasks.Task.{Task};
 

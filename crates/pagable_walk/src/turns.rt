@@ -1,6 +1,7 @@
 //! A worker's turns at a reference that it has come to: it claims what the reference names, pins it, by a load where it is needed, and writes its value.
 
-ghost use Rattle.{std.specs.{Prelude.{◌≡◌, ◌≤◌, ◌+◌, ◌*◌, ◌∷◌, ℕ, List, length, ◌<◌, IfOk, IfErr, OnOk, vec_len, vec_capacity}, Arc.arc_value}, pagable_world.specs.{Access.Told, Plain.longest_path}};
+ghost use Rattle.std.specs.{Prelude.{◌≡◌, ◌≤◌, ◌+◌, ◌*◌, ◌∷◌, ℕ, List, length, ◌<◌, IfOk, IfErr, OnOk, vec_len, vec_capacity}, Arc.arc_value};
+ghost use Rattle.pagable_world.specs.{Access.Told, Plain.longest_path};
 ghost use Rattle.pagable_world.specs.{Plain.type_of, Workers.{claim_fault, is_counted_claim, Claims}, World.{Core, Shelf, Todo, to_start, to_pin, to_load, seen_as, to_write}, Kinds.identity_of};
 ghost use Rattle.{pagable_loads.specs.{Frames.reading_of, Telling.{Tells, values_at}, Working.fault_in}, pagable_walk.specs.{Due.{due, most, LeadsOn}, Table.{shelf_of, found_as}, Tasks.Awaits}};
 ghost use Rattle.pagable_walk.specs.{Tasks.{IsWay, todo_of, todos, open_of}, Turns.{site, claim_todo, ClaimFits, ClaimLeaves, TurnsTo, plan}, Results.HasFormOf, Slots.written_of, Writing.IsForm};

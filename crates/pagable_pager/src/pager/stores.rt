@@ -1,6 +1,7 @@
 //! What is asked of the storage, and its close.
 
-ghost use Rattle.{std.specs.{Prelude.◌≡◌, Arc.arc_value}, pagable_core.specs.Data.blob_of, pagable_model.specs.Blob.key_of, pagable_world.specs.{World.seen_as, Calls.{FetchCall, StoreCall}}};
+ghost use Rattle.std.specs.{Prelude.◌≡◌, Arc.arc_value};
+ghost use Rattle.{pagable_core.specs.Data.blob_of, pagable_model.specs.Blob.key_of, pagable_world.specs.{World.seen_as, Calls.{FetchCall, StoreCall}}};
 ghost use Rattle.{pagable_world.specs.Calls.{FlushCall, CloseCall}, pagable_pager.specs.View.{core_in, telling, OnlyStorage, FewerValues}};
 
 use crate::pager::Pager;
