@@ -25,9 +25,10 @@ fn count_of(row: &str) -> u32 {
     match row {
         "texts" => 200_000,
         "maps" => 400,
-        "ordered" | "cells" => 100_000,
+        "ordered" => 100_000,
+        "cells" => 10_000,
         "items" => 20_000,
-        "trees" | "cell_trees" => 300,
+        "trees" | "cell_trees" => 30,
         _ => 1_000_000,
     }
 }
