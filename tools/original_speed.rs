@@ -161,18 +161,18 @@ fn graph(row: &str) -> (Duration, Duration) {
     let handle = PagableStorageHandle::new(storage.handle());
     match row {
         "cells" => {
-            let cells: Vec<_> = (0..100_000).map(|number| PagableArc::new(format!("the text of cell number {number}"), handle.clone())).collect();
+            let cells: Vec<_> = (0..10_000).map(|number| PagableArc::new(format!("the text of cell number {number}"), handle.clone())).collect();
             cells.iter().for_each(PagableArc::unpin);
             out_and_in(storage, cells)
         }
         "items" => items(&storage, &handle, 20_000),
         "trees" => {
-            let roots: Vec<_> = (0..300).map(|number| PagableArc::new(tree(number), handle.clone())).collect();
+            let roots: Vec<_> = (0..30).map(|number| PagableArc::new(tree(number), handle.clone())).collect();
             roots.iter().for_each(PagableArc::unpin);
             out_and_in(storage, roots)
         }
         _ => {
-            let roots = (0..300).map(|number| cell_tree(number, &handle)).collect();
+            let roots = (0..30).map(|number| cell_tree(number, &handle)).collect();
             out_and_in(storage, roots)
         }
     }
