@@ -3,7 +3,7 @@ use Rattle.pagable_tables.proofs.Words.{nat_lt, ◌≡◌, ℕ, ◌<◌, ◌≤�
 use Rattle.pagable_tables.proofs.Words.{Owner, if_there, is_owner, find_row, Core, OpenLoad, nobody, Giving, Holdings, live, is_valued, SoFar, gives_row, passes_in, ◌+◌, if◌then◌else◌, List, ◌∷◌, suc}
 use Rattle.pagable_tables.proofs.Words.{length, get_or, slice_get, ◌⊎◌, AllPairs, slice_get-get_or, is_handle, Place, alive, IsBefore, ◌++◌, take, add-one, take-suc, ArcRef, LoadNumber, is_named_by}
 use Rattle.pagable_tables.proofs.{Words.is_owned_in, Regiven.{regiven, passes-so-far, passes-here, passes-none, and_owned}, Alive.{row-live, smaller-up, greater-from}, Named.named-push, Bits.had}
-use Rattle.pagable_tables.{proofs.Bits.and-left, specs.Giving.gives}
+use Rattle.pagable_tables.{proofs.{Bits.and-left, Words.{InReach, Reach}}, specs.Giving.gives}
 
 -- a world of these loads alone
 abbrev pub bare : (ℕ → Option OpenLoad) → Core
@@ -39,7 +39,7 @@ went g o e is = grind (arith, nat_tests)
 abbrev pub past_of : Core → Core → Giving → ℕ → ℕ → Bool
 past_of u w giving left q = nat_lt left q && passes_in (gives_row w giving) u.rows q
 
-module _ (before u w : Core) (lists : Bool) (giving : Giving) where
+module _ (before u w : Core) (lists : Bool) (giving : Giving) (reach : Reach) (within : (q : ℕ) → passes_in (gives_row w giving) u.rows q ≡ true → InReach reach q) where
   abbrev passes : ℕ → Bool
   passes q = passes_in (gives_row w giving) u.rows q
 
@@ -53,7 +53,7 @@ module _ (before u w : Core) (lists : Bool) (giving : Giving) where
       above r e = let p : passes r ≡ true = grind (arith, nat_tests) in let a = up r p in grind (arith, nat_tests)
 
   -- what is given of the numbers in between has gone
-  narrowed : (t : Holdings) (n left : ℕ) → n ≤ left → ((q : ℕ) → n < q → q ≤ left → passes_in (gives_row w giving) (live t.handles.places.items) q ≡ false) → SoFar before u (past left) lists t → SoFar before u (past n) lists t
+  narrowed : (t : Holdings) (n left : ℕ) → n ≤ left → ((q : ℕ) → InReach reach q → n < q → q ≤ left → passes_in (gives_row w giving) (live t.handles.places.items) q ≡ false) → SoFar before u (past left) lists t → SoFar before u (past n) lists t
   narrowed t n left le none f = regiven before u (past left) (past n) lists t f (λ r e. less r e (nat_lt left r) refl) (λ r e. grind (arith, nat_tests))
     where
       less : (r : ℕ) → past n r ≡ true → (b : Bool) → nat_lt left r ≡ b → (past left r || f.gone r) ≡ true
@@ -62,14 +62,14 @@ module _ (before u w : Core) (lists : Bool) (giving : Giving) where
           let p : passes r ≡ true = grind (arith, nat_tests) in
           let above : n < r = grind (arith, nat_tests) in
           let below : r ≤ left = grind (arith, nat_tests) in
-          let g : f.gone r ≡ true = went (f.gone r) (passes r) (sym (passes-so-far before u (past left) lists t f (gives_row w giving) (unlisting w giving) r) ∙ none r above below) p in
+          let g : f.gone r ≡ true = went (f.gone r) (passes r) (sym (passes-so-far before u (past left) lists t f (gives_row w giving) (unlisting w giving) r) ∙ none r (within r p) above below) p in
           grind (arith, nat_tests)
 
   -- one more is given, the last of those that are left
-  pub one-past : (t new : Holdings) (since left : ℕ) (x : HandleRow) → since < x.number.0 → x.number.0 ≤ left → find_row x.number.0 (live t.handles.places.items) ≡ Some x → gives_row w giving x ≡ true
-      → ((q : ℕ) → x.number.0 < q → q ≤ left → passes_in (gives_row w giving) (live t.handles.places.items) q ≡ false)
+  pub one-past : (t new : Holdings) (left : ℕ) (x : HandleRow) → 0 < x.number.0 → x.number.0 ≤ left → find_row x.number.0 (live t.handles.places.items) ≡ Some x → gives_row w giving x ≡ true
+      → ((q : ℕ) → InReach reach q → x.number.0 < q → q ≤ left → passes_in (gives_row w giving) (live t.handles.places.items) q ≡ false)
       → ((given : ℕ → Bool) → SoFar before u given lists t → SoFar before u (λ q. given q || q == x.number.0) lists new) → SoFar before u (past left) lists t → SoFar before u (past (x.number.0 - 1)) lists new
-  one-past t new since left x above below found is none gives f =
+  one-past t new left x above below found is none gives f =
       let n = x.number.0 in
       let g = gives (past n) (narrowed t n left below none f) in
       regiven before u (λ q. past n q || q == n) (past (n - 1)) lists new g (λ r e. grind (arith, nat_tests)) (λ r e. more r e (r == n) refl)
@@ -81,15 +81,15 @@ module _ (before u w : Core) (lists : Bool) (giving : Giving) where
       more r e true same = let m : r ≡ x.number.0 = grind (arith, nat_tests) in let p : passes r ≡ true = ap passes m ∙ here in grind (arith, nat_tests)
       more r e false same = grind (arith, nat_tests)
 
-  pub all-past : (t : Holdings) (since left : ℕ) → ((q : ℕ) → passes q ≡ true → since < q) → ((q : ℕ) → since < q → q ≤ left → passes_in (gives_row w giving) (live t.handles.places.items) q ≡ false)
+  pub all-past : (t : Holdings) (left : ℕ) → ((q : ℕ) → InReach reach q → q ≤ left → passes_in (gives_row w giving) (live t.handles.places.items) q ≡ false)
       → SoFar before u (past left) lists t → SoFar before u passes lists t
-  all-past t since left over none f = regiven before u (past left) passes lists t f (λ r e. less r e (nat_lt left r) refl) (λ r e. grind (arith, nat_tests))
+  all-past t left none f = regiven before u (past left) passes lists t f (λ r e. less r e (nat_lt left r) refl) (λ r e. grind (arith, nat_tests))
     where
       less : (r : ℕ) → passes r ≡ true → (b : Bool) → nat_lt left r ≡ b → (past left r || f.gone r) ≡ true
       less r p true is = grind (arith, nat_tests)
       less r p false is =
           let below : r ≤ left = grind (arith, nat_tests) in
-          let g : f.gone r ≡ true = went (f.gone r) (passes r) (sym (passes-so-far before u (past left) lists t f (gives_row w giving) (unlisting w giving) r) ∙ none r (over r p) below) p in
+          let g : f.gone r ≡ true = went (f.gone r) (passes r) (sym (passes-so-far before u (past left) lists t f (gives_row w giving) (unlisting w giving) r) ∙ none r (within r p) below) p in
           grind (arith, nat_tests)
 
 none-passes : (test : HandleRow → Bool) (q : ℕ) (ss : List Place) → ((k : ℕ) (d : Place) → k < length ss → (get_or ss k d).row.number.0 ≡ q → (get_or ss k d).is_live ≡ true → test (get_or ss k d).row ≡ false)

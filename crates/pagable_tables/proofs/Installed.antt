@@ -6,9 +6,9 @@ use Rattle.pagable_tables.proofs.Words.{IsNext, counts_at, refs_at, plain_of, En
 use Rattle.pagable_tables.proofs.Words.{sum_by_push, Mode, Blob, Among, one, times, changed, find_row, pins, sharing, is_handle, is_owner, is_owned_by, is_pin, is_share, owner_value, IsHandleBefore}
 use Rattle.pagable_tables.proofs.Words.{Last, Alike, Falls, nobody, moved, row_of, is_named_by, with_handle, with_mode, without_load, with_pin, Installs, Holdings, Counts, LoadRow, load_at, cell_in}
 use Rattle.pagable_tables.proofs.{Words.{has_value, is_valued, pins_in, with_tables, is_plain_pin, SoFar, core_of, load_in, MayHold, IsWider, has_come}, Coming.{rows-told, turned}, Worlds.alike}
-use Rattle.pagable_tables.proofs.{keeps.Told.alike-whole, keeps.Placed.whole-so, keeps.EndCalls.both-none, Newer.{OnlyNewer, loaded-mode, newer-then, newer-moved, newer-mode, newer-handle}}
-use Rattle.pagable_tables.proofs.{Newer.newer-falls, Begun.{begins, begun}, Taken.{load-closed, owned-given, moved-times, loaded-moved, no-load}, Joined.{moved-turned, turned-sum}, Named.moved-nobody}
-use Rattle.pagable_tables.proofs.{Named.named-none, Regiven.{loaded, passes-here, passes-none}, Stays.{seen-before, stays-pinned, not-named, same-value}, keeps.HandleCalls.named-unlisted}
+use Rattle.pagable_tables.proofs.{keeps.Told.alike-whole, keeps.Placed.whole-so, keeps.EndCalls.both-none, Newer.{OnlyNewer, owned-mode, newer-then, newer-moved, newer-mode, newer-handle}}
+use Rattle.pagable_tables.proofs.{Newer.newer-falls, Begun.{begins, begun}, Taken.{load-closed, owned-given, moved-times, owned-moved, no-load}, Joined.{moved-turned, turned-sum}, Named.moved-nobody}
+use Rattle.pagable_tables.proofs.{Named.named-none, Regiven.{owned, passes-here, passes-none}, Stays.{seen-before, stays-pinned, not-named, same-value}, keeps.HandleCalls.named-unlisted}
 use Rattle.pagable_tables.proofs.{keeps.HandleCalls.moved-to-value, keeps.Comes.{not-list, not-a-value}, keeps.LoadCalls.may-hold, keeps.Rows.{among-map, found-among, once, ordered-map, sum-map}}
 use Rattle.pagable_tables.{proofs.Bits.{and-zero, and-left, and-all}, specs.Core.IsWhole}
 
@@ -87,7 +87,7 @@ module _ (h : HandleNumber) (node : NodeNumber) (rows : List HandleRow) (of : (y
   pub other-shares : sharing n (changed (is_handle h.0) turned rows) ≡ sharing n rows
   other-shares = grind (arith, nat_tests, sum-map, of)
 
-loaded-beside : (l : LoadNumber) (q : ℕ) (rows : List HandleRow) (x : HandleRow) → is_owner (Owner.Load l) x.owner ≡ false → loaded l q (rows ++ x ∷ []) ≡ loaded l q rows
+loaded-beside : (l : LoadNumber) (q : ℕ) (rows : List HandleRow) (x : HandleRow) → is_owner (Owner.Load l) x.owner ≡ false → owned (Owner.Load l) q (rows ++ x ∷ []) ≡ owned (Owner.Load l) q rows
 loaded-beside l q [] x other = grind (arith, nat_tests, passes-here, passes-none)
 loaded-beside l q (y ∷ ys) x other = grind (arith, nat_tests, passes-here, loaded-beside l q ys x other)
 
@@ -191,7 +191,7 @@ module _ (t t1 : Tables) (stored : ℕ → Option Blob) (closed lists : Bool) (f
         (λ n must. let p = must.pinned in let z = must.unpinned in let r = ap (pins n) (rows ∙ come) in absurd (omega arith))
 
     owned-pinned : (q : ℕ) → is_owned_in u (Owner.Load l) q ≡ given q
-    owned-pinned q = loaded-beside l q mid x unloaded ∙ loaded-mode l q (is_handle h.0) Mode.LoosePinned rows0 ∙ loaded-moved s o l q w.rows refl
+    owned-pinned q = loaded-beside l q mid x unloaded ∙ owned-mode (Owner.Load l) q (is_handle h.0) Mode.LoosePinned rows0 ∙ owned-moved s o (Owner.Load l) q w.rows refl
 
     spared-pin : given (t.holdings.last_handle + 1) ≡ false
     spared-pin = by (given (t.holdings.last_handle + 1)) refl
@@ -272,7 +272,7 @@ none-moves w l row me r w' falls =
 pub install-newer : {w w' : Core} (me : Owner) (l : LoadNumber) (node : NodeNumber) (h k : HandleNumber) (refs : List ArcRef) → Installs w me l node h k refs w' → OnlyNewer w w'
 install-newer {w} {w'} me l node h k refs i = elim i.falls [
   | inl (away, f) ↦ (let v : Core = record (without_load w l) { rows = moved (is_named_by refs) (owner_value node.0) w.rows } in
-      newer-then (newer-moved w (is_named_by refs) (owner_value node.0) (λ l. refl)) (pinned v f.falls))
+      newer-then (newer-moved w (is_named_by refs) (owner_value node.0) refl) (pinned v f.falls))
   | inr (here, f) ↦ pinned (without_load w l) f.falls
 ]
   where

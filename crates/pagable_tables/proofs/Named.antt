@@ -1,4 +1,5 @@
 -- Handles that references name come to another owner.
+use Rattle.pagable_tables.proofs.Words.{Bool, SameAt}
 use Rattle.pagable_tables.proofs.Words.{◌≡◌, ℕ, ◌+◌, ◌<◌, ◌≤◌, ◌==◌, ◌||◌, true, false, List, [], ◌∷◌, ◌++◌, take, drop, drop-cons, get_or, length, add-one, refl, ap, sym, ◌∙◌, arith, Some, None}
 use Rattle.pagable_tables.proofs.Words.{nat_tests, ◌≢◌, drop_all, take-suc, Error, ArcRef, HandleNumber, HandleRow, Owner, is_in, or_else, find_row, Core, reference_fault, references_fault}
 use Rattle.pagable_tables.proofs.{Words.{only_handle, moved, is_named_by, Alike, HasRoom}, Coming.owned-by, Worlds.same-cache}
@@ -86,3 +87,19 @@ module _ (w : Core) (me : Owner) (seen : List ℕ) (rs : List ArcRef) (i : ℕ) 
 
 pub alike-listed : (w w' : Core) → w'.rows ≡ w.rows → w'.list ≡ w.list → HasRoom w.places w'.places → w' ≡ record w { rows = w'.rows; list = w'.list; places = w'.places } → Alike w w'
 alike-listed w w' rows list places same = grind (arith, nat_tests, same-cache)
+
+pub at-work-still : {w w' : Core} {workers : ℕ → Bool} → Alike w w' → SameAt w'.workers workers → Alike w (record w' { workers = workers })
+at-work-still {w} {w'} {workers} a still =
+    record {
+      rows = a.rows;
+      cells = a.cells;
+      list = a.list;
+      cache = record { gives = a.cache.gives; only = a.cache.only };
+      stored = a.stored;
+      closed = a.closed;
+      failures = a.failures;
+      loads = a.loads;
+      workers = λ v. still v ∙ a.workers v;
+      last = a.last;
+      places = a.places;
+    }

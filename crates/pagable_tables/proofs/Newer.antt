@@ -3,97 +3,193 @@ use Rattle.pagable_tables.proofs.Words.{◌≡◌, ℕ, ◌+◌, ◌<◌, ◌≤
 use Rattle.pagable_tables.proofs.Words.{option_map, cases_eq, Error, HandleNumber, LoadNumber, NodeNumber, HandleRow, Owner, Mode, Pinning, Kind, ArcRef, OptionalDataKey, if_there, is_in, type_of}
 use Rattle.pagable_tables.proofs.Words.{changed, is_handle, is_owner, is_owned_by, owner_value, find_row, mode_of, Core, Last, Alike, Falls, only_handle, with_handle, with_node, next_node}
 use Rattle.pagable_tables.proofs.Words.{with_cached_if_open, is_named_by, moved, with_mode, LoosenCall, PinCall, UnpinCall, ReleaseCall, SetKeyCall, ScheduleCall, TakeCall, OfferCall, CloseCall}
-use Rattle.pagable_tables.proofs.Words.{is_owned_in, numbers_of, adopted, first_key, Adopts, DropCall, HandOverCall, LazyCall, LoadRow, Tables, load_at, plain_of, load_in, Makes, AreLater, nat_tests}
-use Rattle.pagable_tables.proofs.{Regiven.{loaded, passes-here, passes-left, no-entry, unlisting}, Taken.loaded-moved, Bits.{and-left, had}, Worlds.owner-same, keeps.Rows.{found-among, found-push}}
+use Rattle.pagable_tables.proofs.Words.{is_owned_in, numbers_of, adopted, first_key, Adopts, DropCall, HandOverCall, LazyCall, LoadRow, Tables, load_at, plain_of, load_in, Makes, AreLater, nat_tests, Among, subst, owner_worker, reach_at, InReach, IsNoLess, Reach, IndexMap, worker_at, anywhere}
+use Rattle.std.specs.Option.{option_map_or}
+use Rattle.pagable_tables.proofs.{Regiven.{owned, passes-here, passes-left, no-entry, unlisting}, Taken.owned-moved, Bits.{and-left, had}, Worlds.owner-same, keeps.Rows.{found-among, found-push}}
 use Rattle.pagable_world.specs.Pager as pager
+
+-- loads and workers give up what they have together
+abbrev pub is_giver : Owner → Bool
+is_giver (Owner.Load l) = true
+is_giver (Owner.Worker v) = true
+is_giver _ = false
+
+not-giver : (a o : Owner) → is_giver a ≡ true → is_giver o ≡ false → is_owner a o ≡ false
+not-giver a o gives other = grind (arith, nat_tests)
 
 pub record IsNewer (rows rows' : List HandleRow) (given given' : ℕ) : Type 0 where
   pub last : given ≤ given'
-  pub owned : (l : LoadNumber) (q : ℕ) → loaded l q rows' ≡ true → (loaded l q rows ≡ true) ⊎ (given < q)
+  pub kept : (o : Owner) (q : ℕ) → is_giver o ≡ true → owned o q rows' ≡ true → (owned o q rows ≡ true) ⊎ (given < q)
 
 abbrev pub OnlyNewer : Core → Core → Type 0
 OnlyNewer w w' = IsNewer w.rows w'.rows w.last.handle w'.last.handle
 
 pub newer-alike : {w w' : Core} → Alike w w' → OnlyNewer w w'
-newer-alike {w} {w'} a = record { last = (let e = ap (λ (l : Last). l.handle) a.last in omega arith); owned = λ l q own. inl (sym (ap (loaded l q) a.rows) ∙ own) }
+newer-alike {w} {w'} a = record { last = (let e = ap (λ (l : Last). l.handle) a.last in omega arith); kept = λ o q gives own. inl (sym (ap (owned o q) a.rows) ∙ own) }
 
 pub newer-then : {r s t : List HandleRow} {i j k : ℕ} → IsNewer r s i j → IsNewer s t j k → IsNewer r t i k
 newer-then p q = record {
   last = (let x = p.last in let y = q.last in omega arith);
-  owned = λ l n own. elim (q.owned l n own) [ inl there ↦ p.owned l n there | inr past ↦ inr (let x = p.last in omega arith) ];
+  kept = λ o n gives own. elim (q.kept o n gives own) [ inl there ↦ p.kept o n gives there | inr past ↦ inr (let x = p.last in omega arith) ];
 }
 
-loaded-push : (l : LoadNumber) (q : ℕ) (rows : List HandleRow) (x : HandleRow) → loaded l q (rows ++ x ∷ []) ≡ true → (loaded l q rows ≡ true) ⊎ (x.number.0 ≡ q)
-loaded-push l q rows x own = grind (arith, nat_tests, found-push, found-among)
+owned-push : (o : Owner) (q : ℕ) (rows : List HandleRow) (x : HandleRow) → owned o q (rows ++ x ∷ []) ≡ true → (owned o q rows ≡ true) ⊎ (x.number.0 ≡ q)
+owned-push o q rows x own = grind (arith, nat_tests, found-push, found-among)
 
 pub newer-handle : (w : Core) (node : NodeNumber) (mode : Mode) (owner : Owner) → OnlyNewer w (with_handle w node mode owner)
-newer-handle w node mode owner = record { last = omega arith; owned = λ l q own. elim (loaded-push l q w.rows _ own) [ inl there ↦ inl there | inr is ↦ inr (omega arith) ] }
+newer-handle w node mode owner = record { last = omega arith; kept = λ o q gives own. elim (owned-push o q w.rows _ own) [ inl there ↦ inl there | inr is ↦ inr (omega arith) ] }
 
-pub newer-moved : (w : Core) (s : ℕ → Bool) (o : Owner) → ((l : LoadNumber) → is_owner (Owner.Load l) o ≡ false) → OnlyNewer w (record w { rows = moved s o w.rows })
-newer-moved w s o other = record { last = omega arith; owned = λ l q own. inl (and-left (loaded l q w.rows) (not (s q)) (sym (loaded-moved s o l q w.rows (other l)) ∙ own)) }
+pub newer-moved : (w : Core) (s : ℕ → Bool) (o : Owner) → is_giver o ≡ false → OnlyNewer w (record w { rows = moved s o w.rows })
+newer-moved w s o other =
+    record { last = omega arith; kept = λ a q gives own. inl (and-left (owned a q w.rows) (not (s q)) (sym (owned-moved s o a q w.rows (not-giver a o gives other)) ∙ own)) }
+
+-- a handle that doesn't move is owned as before
+owned-unmoved : (s : ℕ → Bool) (o a : Owner) (q : ℕ) (rows : List HandleRow) → s q ≡ false → owned a q (moved s o rows) ≡ owned a q rows
+unfolding find_row
+owned-unmoved s o a q [] stays = refl
+owned-unmoved s o a q (x ∷ xs) stays = grind (arith, nat_tests, owned-unmoved s o a q xs stays)
 
 -- a handle's mode says nothing of who owns it
-pub loaded-mode : (l : LoadNumber) (q : ℕ) (test : HandleRow → Bool) (mode : Mode) (rows : List HandleRow) → loaded l q (changed test (λ row. record row { mode = mode }) rows) ≡ loaded l q rows
-loaded-mode l q test mode [] = refl
-loaded-mode l q test mode (x ∷ xs) = grind (arith, nat_tests, passes-here, loaded-mode l q test mode xs)
+pub owned-mode : (o : Owner) (q : ℕ) (test : HandleRow → Bool) (mode : Mode) (rows : List HandleRow) → owned o q (changed test (λ row. record row { mode = mode }) rows) ≡ owned o q rows
+owned-mode o q test mode [] = refl
+owned-mode o q test mode (x ∷ xs) = grind (arith, nat_tests, passes-here, owned-mode o q test mode xs)
 
 pub newer-mode : (w : Core) (h : HandleNumber) (mode : Mode) → OnlyNewer w (with_mode w h mode)
-newer-mode w h mode = record { last = omega arith; owned = λ l q own. inl (sym (loaded-mode l q (is_handle h.0) mode w.rows) ∙ own) }
+newer-mode w h mode = record { last = omega arith; kept = λ o q gives own. inl (sym (owned-mode o q (is_handle h.0) mode w.rows) ∙ own) }
 
 pub newer-falls : {before u w' : Core} {given : ℕ → Bool} {r : Result (Unit {0}) Error} → Falls before u given r w' → OnlyNewer u w'
 newer-falls {before} {u} {w'} falls =
     record {
       last = (let e = ap (λ (l : Last). l.handle) falls.leaves.last in omega arith);
-      owned = λ l q own. inl (had (falls.gone q) (loaded l q u.rows) (sym (ap (loaded l q) falls.leaves.rows ∙ passes-left (is_owned_by (Owner.Load l)) q falls.gone falls.entries u.rows (no-entry (is_owned_by (Owner.Load l)) q (unlisting l) u.last.handle falls.entries falls.new)) ∙ own));
+      kept = λ o q gives own. inl (had (falls.gone q) (owned o q u.rows) (sym (ap (owned o q) falls.leaves.rows
+        ∙ passes-left (is_owned_by o) q falls.gone falls.entries u.rows (no-entry (is_owned_by o) q (unlisting o (not-giver o Owner.List gives refl)) u.last.handle falls.entries falls.new)) ∙ own));
     }
 
--- the open loads are ones that were open
-pub later-so : {t t' : Tables} → AreLater t → OnlyNewer (plain_of t) (plain_of t') → ((l : ℕ) (load : LoadRow) → load_at t'.loads l ≡ Some load → load_at t.loads l ≡ Some load) → AreLater t'
-later-so later newer loads = grind (arith, nat_tests)
+-- the open loads are ones that were open, and what a worker got besides is in its reach
+pub later-by : {t t' : Tables} → AreLater t → t.holdings.last_handle ≤ t'.holdings.last_handle → ((l : ℕ) (load : LoadRow) → load_at t'.loads l ≡ Some load → load_at t.loads l ≡ Some load) → IsNoLess t.workers t'.workers
+    → ((l q : ℕ) → owned (Owner.Load (record { 0 = l })) q (plain_of t').rows ≡ true → (owned (Owner.Load (record { 0 = l })) q (plain_of t).rows ≡ true) ⊎ (t.holdings.last_handle < q))
+    → ((v q : ℕ) → owned (owner_worker v) q (plain_of t').rows ≡ true → (owned (owner_worker v) q (plain_of t).rows ≡ true) ⊎ (t.holdings.last_handle < q) ⊎ InReach (reach_at t'.workers v) q) → AreLater t'
+later-by {t} {t'} later last loads less own work =
+    record {
+      given = λ l load is. let a = later.given l load (loads l load is) in omega arith;
+      since = λ l load q is has. elim (own l q has) [
+        | inl had ↦ later.since l load q (loads l load is) had
+        | inr past ↦ (let a = later.given l load (loads l load is) in omega arith)
+      ];
+      begun = λ v. let a = later.begun v in let b = less.before v in omega arith;
+      reach = λ v q has. elim (work v q has) [
+        | inl had ↦ less.wider v q (later.reach v q had)
+        | inr (inl past) ↦ (let a = later.begun v in let b = less.before v in (omega arith, inl (omega arith)))
+        | inr (inr in-reach) ↦ in-reach
+      ];
+      loads = λ v l load is owns. let a = later.loads v l load (loads l load is) owns in let b = less.before v in omega arith;
+    }
+
+still-reaches : {S : Type 0} {workers workers' : IndexMap ℕ Reach S} → workers' ≡ workers → IsNoLess workers workers'
+still-reaches {S} {workers} {workers'} same = subst (λ u. IsNoLess workers u) (sym same) (record { wider = λ v q in-reach. in-reach; before = λ v. omega arith })
+
+pub later-less : {t t' : Tables} → AreLater t → OnlyNewer (plain_of t) (plain_of t') → ((l : ℕ) (load : LoadRow) → load_at t'.loads l ≡ Some load → load_at t.loads l ≡ Some load) → IsNoLess t.workers t'.workers → AreLater t'
+later-less later newer loads less = later-by later newer.last loads less (λ l q has. newer.kept (Owner.Load (record { 0 = l })) q refl has)
+    (λ v q has. elim (newer.kept (owner_worker v) q refl has) [ inl had ↦ inl had | inr past ↦ inr (inl past) ])
+
+-- one worker less is at work
+pub less-one : {S : Type 0} (workers workers' : IndexMap ℕ Reach S) (v : ℕ) → worker_at workers' v ≡ None → ((q : ℕ) → q ≢ v → worker_at workers' q ≡ worker_at workers q) → IsNoLess workers workers'
+less-one {S} workers workers' v gone others =
+    record {
+      wider = λ u q in-reach. elim (one u) [ inl same ↦ subst (λ r. InReach r q) (sym same) in-reach | inr any ↦ subst (λ r. InReach r q) (sym any) (in-reach.0, inl in-reach.0) ];
+      before = λ u. elim (one u) [ inl same ↦ (let a = ap (λ (r : Reach). r.since) same in omega arith) | inr any ↦ (let a = ap (λ (r : Reach). r.since) any in omega arith) ];
+    }
+  where
+    one : (u : ℕ) → (reach_at workers' u ≡ reach_at workers u) ⊎ (reach_at workers' u ≡ anywhere)
+    one u = elim (cases_eq u v) [
+      | inl e ↦ inr (ap (λ k. reach_at workers' k) e ∙ ap (λ o. option_map_or (λ (r : Reach). r) o anywhere) gone)
+      | inr e ↦ inl (ap (λ o. option_map_or (λ (r : Reach). r) o anywhere) (others u e))
+    ]
+
+-- the same, where the workers are those that were
+pub later-so : {t t' : Tables} → AreLater t → OnlyNewer (plain_of t) (plain_of t') → ((l : ℕ) (load : LoadRow) → load_at t'.loads l ≡ Some load → load_at t.loads l ≡ Some load) → t'.workers ≡ t.workers → AreLater t'
+later-so later newer loads same = later-less later newer loads (still-reaches same)
+
+pub later-on : {t t' : Tables} → AreLater t → OnlyNewer (plain_of t) (plain_of t') → t'.loads ≡ t.loads → t'.workers ≡ t.workers → AreLater t'
+later-on later newer loads same = later-so later newer (λ l load is. ap (λ m. load_at m l) (sym loads) ∙ is) same
 
 -- a load is closed
 pub closed-still : (at at' : ℕ → Option LoadRow) (m : ℕ) → at' m ≡ None → ((q : ℕ) → q ≢ m → at' q ≡ at q) → (l : ℕ) (load : LoadRow) → at' l ≡ Some load → at l ≡ Some load
 closed-still at at' m gone others l load is = grind (arith, nat_tests)
 
--- a load that isn't open owns nothing
-none-owned : (w : Core) → pager.IsWhole w → (l : LoadNumber) (q : ℕ) → w.loads l.0 ≡ None → is_owned_in w (Owner.Load l) q ≡ true → ⊥
-none-owned w whole l q none own = split (find_row q w.rows) refl own
+-- one who isn't there owns nothing
+none-owned : (w : Core) (o : Owner) (q : ℕ) → ((h : HandleRow) → Among w.rows h → h.owner ≡ o → ⊥) → is_owned_in w o q ≡ true → ⊥
+none-owned w o q nobody own = split (find_row q w.rows) refl own
   where
-    split : (found : Option HandleRow) → find_row q w.rows ≡ found → if_there (is_owned_by (Owner.Load l)) false found ≡ true → ⊥
+    split : (found : Option HandleRow) → find_row q w.rows ≡ found → if_there (is_owned_by o) false found ≡ true → ⊥
     split None e own = absurd (cc)
-    split (Some row) e own =
-        let there = whole.owners_there.loads row l (found-among q w.rows row e).0 (owner-same (Owner.Load l) row.owner own) in
-        absurd (let a : is_some (w.loads l.0) ≡ false = ap is_some none in cc)
+    split (Some row) e own = nobody row (found-among q w.rows row e).0 (owner-same o row.owner own)
 
 -- one load more is open
-pub later-opened : {t t' : Tables} → pager.IsWhole (plain_of t) → AreLater t → OnlyNewer (plain_of t) (plain_of t') → (m : ℕ) (row : LoadRow) → load_at t.loads m ≡ None → load_at t'.loads m ≡ Some row → row.since ≡ t.holdings.last_handle → ((q : ℕ) → q ≢ m → load_at t'.loads q ≡ load_at t.loads q) → AreLater t'
-later-opened {t} {t'} whole later newer m row none here since others =
+pub later-opened : {t t' : Tables} → pager.IsWhole (plain_of t) → AreLater t → OnlyNewer (plain_of t) (plain_of t') → (m : ℕ) (row : LoadRow) → load_at t.loads m ≡ None → load_at t'.loads m ≡ Some row → row.since ≡ t.holdings.last_handle
+    → ((q : ℕ) → q ≢ m → load_at t'.loads q ≡ load_at t.loads q) → t'.workers ≡ t.workers → AreLater t'
+later-opened {t} {t'} whole later newer m row none here since others same =
     record {
-      given = λ l load is. grind (arith, nat_tests, cases_eq, fresh);
-      since = λ l load q is own. elim (newer.owned (record { 0 = l }) q own) [
+      given = λ l load is. let a = newer.last in elim (one l load is) [ inl now ↦ omega arith | inr was ↦ (let b = later.given l load was in omega arith) ];
+      since = λ l load q is own. elim (newer.kept (Owner.Load (record { 0 = l })) q refl own) [
         | inl there ↦ elim (cases_eq l m) [
-          | inl e ↦ absurd (none-owned (plain_of t) whole (record { 0 = l }) q (ap (λ k. option_map load_in (load_at t.loads k)) e ∙ ap (option_map load_in) none) there)
+          | inl e ↦ absurd (none-owned (plain_of t) (Owner.Load (record { 0 = l })) q (λ h among of. closed l e (whole.owners_there.loads h (record { 0 = l }) among of)) there)
           | inr e ↦ later.since l load q (sym (others l e) ∙ is) there
         ]
-        | inr past ↦ elim (cases_eq l m) [
-          | inl e ↦ (let a = fresh l load is e in omega arith)
-          | inr e ↦ (let a = later.given l load (sym (others l e) ∙ is) in omega arith)
-        ]
+        | inr past ↦ elim (one l load is) [ inl now ↦ omega arith | inr was ↦ (let a = later.given l load was in omega arith) ]
       ];
+      begun = λ v. let a = later.begun v in let b = newer.last in let c = reaches v in omega arith;
+      reach = λ v q own. elim (newer.kept (owner_worker v) q refl own) [
+        | inl there ↦ subst (λ u. InReach (reach_at u v) q) (sym same) (later.reach v q there)
+        | inr past ↦ (let a = later.begun v in let c = reaches v in (omega arith, inl (omega arith)))
+      ];
+      loads = λ v l load is owns. let c = reaches v in elim (one l load is) [ inl now ↦ (let a = later.begun v in omega arith) | inr was ↦ (let a = later.loads v l load was owns in omega arith) ];
     }
   where
-    fresh : (l : ℕ) (load : LoadRow) → load_at t'.loads l ≡ Some load → l ≡ m → load.since ≡ t.holdings.last_handle
-    fresh l load is e = let same : Some load ≡ Some row = sym is ∙ ap (load_at t'.loads) e ∙ here in ap (λ (o : Option LoadRow). if_there (λ (r : LoadRow). r.since) 0 o) same ∙ since
+    reaches : (v : ℕ) → (reach_at t'.workers v).since ≡ (reach_at t.workers v).since
+    reaches v = ap (λ u. (reach_at u v).since) same
+
+    closed : (l : ℕ) → l ≡ m → is_some ((plain_of t).loads l) ≡ true → ⊥
+    closed l e some = absurd (let a : is_some ((plain_of t).loads l) ≡ false = ap (λ k. is_some (option_map load_in (load_at t.loads k))) e ∙ ap (λ o. is_some (option_map load_in o)) none in cc)
+
+    one : (l : ℕ) (load : LoadRow) → load_at t'.loads l ≡ Some load → (load.since ≡ t.holdings.last_handle) ⊎ (load_at t.loads l ≡ Some load)
+    one l load is = elim (cases_eq l m) [
+      | inl e ↦ inl (let same : Some load ≡ Some row = sym is ∙ ap (load_at t'.loads) e ∙ here in ap (λ (o : Option LoadRow). if_there (λ (r : LoadRow). r.since) 0 o) same ∙ since)
+      | inr e ↦ inr (sym (others l e) ∙ is)
+    ]
+
+-- one worker more is at work
+pub later-begun : {t t' : Tables} → pager.IsWhole (plain_of t) → AreLater t → t' ≡ record t { workers = t'.workers; last_worker = t'.last_worker } → (v : ℕ) → v ≡ t.last_worker + 1
+    → reach_at t'.workers v ≡ record { since = t.holdings.last_handle; beside = 0 } → ((u : ℕ) → u ≢ v → reach_at t'.workers u ≡ reach_at t.workers u) → AreLater t'
+later-begun {t} {t'} whole later same v new here others =
+    let u : Tables = record t { workers = t'.workers; last_worker = t'.last_worker } in
+    subst AreLater (sym same) (record {
+      given = later.given;
+      since = later.since;
+      begun = λ m. elim (cases_eq m v) [ inl e ↦ (let a = now m e in omega arith) | inr e ↦ (let a = ap (λ (r : Reach). r.since) (others m e) in let b = later.begun m in omega arith) ];
+      reach = λ m q own. elim (cases_eq m v) [
+        | inl e ↦ absurd (none-owned (plain_of t) (owner_worker m) q (λ h among of. at-rest m e (whole.owners_there.workers h m among of)) own)
+        | inr e ↦ subst (λ r. InReach r q) (sym (others m e)) (later.reach m q own)
+      ];
+      loads = λ m l load is owns. elim (cases_eq m v) [
+        | inl e ↦ absurd (at-rest m e (working m load.owner owns (whole.loads.owned l (load_in load) (ap (option_map load_in) is))))
+        | inr e ↦ (let a = ap (λ (r : Reach). r.since) (others m e) in let b = later.loads m l load is owns in omega arith)
+      ];
+    })
+  where
+    now : (m : ℕ) → m ≡ v → (reach_at t'.workers m).since ≡ t.holdings.last_handle
+    now m e = ap (λ k. (reach_at t'.workers k).since) e ∙ ap (λ (r : Reach). r.since) here
+
+    at-rest : (m : ℕ) → m ≡ v → (plain_of t).workers m ≡ true → ⊥
+    at-rest m e is = let a = whole.workers_numbered m is in absurd (omega arith)
+
+    working : (m : ℕ) (o : Owner) → is_owner (owner_worker m) o ≡ true → pager.MayOwnLoad (plain_of t) o → (plain_of t).workers m ≡ true
+    working m o owns may = grind (arith, nat_tests)
 
 -- ---- calls
 
 pub drop-newer : {w w' : Core} (me : Owner) (l : LoadNumber) (r : Result (Unit {0}) Error) → DropCall w me l r w' → OnlyNewer w w'
 drop-newer me l r call = elim call.does [ inl refused ↦ newer-alike refused.stays | inr (load, own, falls) ↦ newer-falls falls ]
-
-pub take-newer : {w w' : Core} (me : Owner) (l : LoadNumber) (hs : List HandleNumber) (r : Result (Unit {0}) Error) → ((m : LoadNumber) → is_owner (Owner.Load m) me ≡ false) → HandOverCall w me l hs r w' → OnlyNewer w w'
-take-newer {w} me l hs (Ok u) other call =
-    newer-then (newer-moved w (is_in (numbers_of hs)) me other) (newer-falls call.hands.1.falls)
-take-newer me l hs (Err e) other call = newer-alike call.refused.1
 
 pub makes-newer : {w w' : Core} (node : NodeNumber) (mode : Mode) (owner : Owner) (r : Result HandleNumber Error) → Makes w node mode owner r w' → OnlyNewer w w'
 makes-newer {w} node mode owner (Ok k) m = newer-then (newer-handle w node mode owner) (newer-alike m.made.1)
@@ -105,7 +201,7 @@ newer-cached w kind key n = grind (arith, nat_tests)
 -- a node comes with its references and a handle
 pub newer-node : (w : Core) (node_type : ℕ) (own_key : OptionalDataKey) (references : List ArcRef) (mode : Mode) (owner : Owner) → OnlyNewer w (with_handle (with_node w node_type own_key references) (next_node w) mode owner)
 newer-node w node_type own_key references mode owner =
-    newer-then (newer-moved w (is_named_by references) (owner_value (w.last.node + 1)) (λ l. refl)) (newer-handle (with_node w node_type own_key references) (next_node w) mode owner)
+    newer-then (newer-moved w (is_named_by references) (owner_value (w.last.node + 1)) refl) (newer-handle (with_node w node_type own_key references) (next_node w) mode owner)
 
 pub newer-adopted : (w : Core) (l : LoadNumber) (kind : Kind) (key : ℕ) (own_key : OptionalDataKey) (references : List ArcRef) → OnlyNewer w (adopted w l kind key own_key references)
 newer-adopted w l kind key own_key references =
@@ -154,14 +250,10 @@ adopt-newer {w} me l kind key node_type refs k a = elim a.makes [
 
 pub schedule-newer : {w w' : Core} (me : Owner) (h : HandleNumber) (r : Result (Unit {0}) Error) → ScheduleCall w me h r w' → OnlyNewer w w'
 schedule-newer {w} me h (Ok u) call = elim call.moves.2 [
-  | inl (stands_open, leaves) ↦ newer-then (newer-moved w (only_handle h) Owner.List (λ l. refl)) (newer-alike leaves)
+  | inl (stands_open, leaves) ↦ newer-then (newer-moved w (only_handle h) Owner.List refl) (newer-alike leaves)
   | inr (shut, falls) ↦ newer-falls falls.falls
 ]
 schedule-newer me h (Err e) call = newer-alike call.refused.stays
-
-pub take-pending-newer : (w w' : Core) (me : Owner) (i : ℕ) (found : Option HandleNumber) → ((m : LoadNumber) → is_owner (Owner.Load m) me ≡ false) → TakeCall w me i found w' → OnlyNewer w w'
-take-pending-newer w w' me i (Some h) other call = newer-then (newer-moved w (only_handle h) me other) (newer-alike call.1)
-take-pending-newer w w' me i None other call = newer-alike call.1
 
 pub offer-newer : {w w' : Core} (me : Owner) (kind : Kind) (key : ℕ) (h : HandleNumber) (r : Result (Option HandleNumber) Error) → OfferCall w me kind key h r w' → OnlyNewer w w'
 offer-newer {w} me kind key h (Ok None) call = newer-alike call.answers.3.2
@@ -173,3 +265,40 @@ offer-newer me kind key h (Err e) call = newer-alike call.refused.stays
 
 pub close-newer : {w w' : Core} (r : Result (Unit {0}) Error) → CloseCall w r w' → OnlyNewer w w'
 close-newer r call = newer-falls call.falls.falls
+
+-- ---- handles that come to a worker
+
+module _ (t : Tables) (later : AreLater t) (s : ℕ → Bool) (me : Owner) (other : (l : LoadNumber) → is_owner (Owner.Load l) me ≡ false) (rows : List HandleRow) (are : rows ≡ moved s me (plain_of t).rows) where
+  abbrev now : Owner → ℕ → Bool
+  now o q = owned o q rows
+
+  pub load-kept : (l q : ℕ) → now (Owner.Load (record { 0 = l })) q ≡ true → owned (Owner.Load (record { 0 = l })) q (plain_of t).rows ≡ true
+  load-kept l q own = let o : Owner = Owner.Load (record { 0 = l }) in and-left (owned o q (plain_of t).rows) (not (s q)) (sym (ap (owned o q) are ∙ owned-moved s me o q (plain_of t).rows (other (record { 0 = l }))) ∙ own)
+
+  -- what a worker owns then it owned, or it has moved
+  pub worker-kept : (v q : ℕ) → now (owner_worker v) q ≡ true → (owned (owner_worker v) q (plain_of t).rows ≡ true) ⊎ ((is_owner (owner_worker v) me ≡ true) × (s q ≡ true))
+  worker-kept v q own = split (is_owner (owner_worker v) me) refl (s q) refl
+    where
+      split : (b : Bool) → is_owner (owner_worker v) me ≡ b → (c : Bool) → s q ≡ c → (owned (owner_worker v) q (plain_of t).rows ≡ true) ⊎ ((is_owner (owner_worker v) me ≡ true) × (s q ≡ true))
+      split true e true f = inr (e, f)
+      split false e c f = inl (and-left (owned (owner_worker v) q (plain_of t).rows) (not (s q)) (sym (ap (owned (owner_worker v) q) are ∙ owned-moved s me (owner_worker v) q (plain_of t).rows e) ∙ own))
+      split true e false f = inl (sym (owned-unmoved s me (owner_worker v) q (plain_of t).rows f) ∙ sym (ap (owned (owner_worker v) q) are) ∙ own)
+
+  -- a load of the same owner hands handles of its own to it and is closed: they came after the worker began
+  pub later-handed : {t' : Tables} (l : LoadNumber) (row : LoadRow) → load_at t.loads l.0 ≡ Some row → is_owner me row.owner ≡ true → ((q : ℕ) → s q ≡ true → is_owned_in (plain_of t) (Owner.Load l) q ≡ true)
+      → IsNewer rows (plain_of t').rows t.holdings.last_handle t'.holdings.last_handle → ((m : ℕ) (load : LoadRow) → load_at t'.loads m ≡ Some load → load_at t.loads m ≡ Some load) → t'.workers ≡ t.workers → AreLater t'
+  later-handed {t'} l row here mine its newer loads same =
+      later-by later newer.last loads (still-reaches same) (λ m q own. elim (newer.kept (Owner.Load (record { 0 = m })) q refl own) [ inl had ↦ inl (load-kept m q had) | inr past ↦ inr past ])
+      (λ v q own. elim (newer.kept (owner_worker v) q refl own) [
+        | inl had ↦ elim (worker-kept v q had) [ inl was ↦ inl was | inr (is, gone) ↦ inr (inr (subst (λ u. InReach (reach_at u v) q) (sym same) (after v q is gone))) ]
+        | inr past ↦ inr (inl past)
+      ])
+    where
+      after : (v q : ℕ) → is_owner (owner_worker v) me ≡ true → s q ≡ true → InReach (reach_at t.workers v) q
+      after v q is gone =
+          let a = later.since l.0 row q here (its q gone) in
+          let b = later.loads v l.0 row here (ap (is_owner (owner_worker v)) (owner-same me row.owner mine) ∙ is) in
+          (omega arith, inl (omega arith))
+
+pub handle-is : (h : HandleNumber) (q : ℕ) → only_handle h q ≡ true → h.0 ≡ q
+handle-is h q is = grind (arith, nat_tests)

@@ -1,13 +1,10 @@
 -- Tables of nothing are whole.
+use Rattle.pagable_tables.proofs.Words.{worker_at}
 use Rattle.pagable_tables.proofs.Words.{◌≡◌, ℕ, false, [], refl, ap, subst, arith, None, nat_eq, get, HandleRow, Among, is_in, nat_tests, Core, NodeRow, Tables, live, AreSound, counts_at, load_at}
 use Rattle.pagable_tables.{proofs.Words.{known_at, cell_in, IsFalling, owns_nothing, plain_of, option_map}, specs.Core.IsWhole}
 
-in-none : (v : ℕ) → is_in [] v ≡ false
-unfolding is_in
-in-none v = refl
-
 module _ (t : Tables) (sound : AreSound t.holdings.handles) (rows : t.holdings.handles.places.items ≡ []) (found : (n : ℕ) → get nat_eq t.holdings.nodes n ≡ None) (list : t.holdings.list.items ≡ [])
-    (cache : (kind key : ℕ) → known_at t.cache kind key ≡ None) (loads : (l : ℕ) → load_at t.loads l ≡ None) (workers : t.workers.items ≡ [])
+    (cache : (kind key : ℕ) → known_at t.cache kind key ≡ None) (loads : (l : ℕ) → load_at t.loads l ≡ None) (workers : (v : ℕ) → worker_at t.workers v ≡ None)
     (last : (t.holdings.top ≡ 0) × (t.holdings.last_handle ≡ 0) × (t.last_node ≡ 0) × (t.last_load ≡ 0)) where
   none : (n : ℕ) → counts_at t.holdings.nodes n ≡ None
   none n = ap (option_map (λ (r : NodeRow). r.counts)) (found n)
@@ -28,4 +25,4 @@ module _ (t : Tables) (sound : AreSound t.holdings.handles) (rows : t.holdings.h
   no-cell n = ap cell_in (none n)
 
   pub nothing-whole : IsWhole t
-  nothing-whole = grind (arith, nat_tests, steady, empty, nobody, none, in-none, no-cell)
+  nothing-whole = grind (arith, nat_tests, steady, empty, nobody, none, no-cell)

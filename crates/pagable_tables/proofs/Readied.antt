@@ -2,7 +2,7 @@
 use Rattle.pagable_tables.proofs.Words.{◌≡◌, ℕ, ◌+◌, ◌<◌, ◌≤◌, true, false, if◌then◌else◌, List, [], ◌∷◌, refl, ap, sym, ◌∙◌, subst, arith, Option, None, inl, inr, Bool, vec_capacity, nat_tests}
 use Rattle.pagable_tables.proofs.Words.{IndexMap, OptionalDataKey, Error, ArcRef, HandleNumber, Kind, LoadNumber, Owner, Mode, Blob, or_else, type_of, mode_of, Core, Places, Alike, HasRoom, greatest}
 use Rattle.pagable_tables.proofs.Words.{earlier, spent, reference_fault, references_fault, Refused, with_handle, with_node, with_cached, next_node, adopted, LoadRow, Holdings, Tables, OnlyRoom}
-use Rattle.pagable_tables.proofs.{Words.{counts_at, refs_at, load_at, known_at, Fits, owns_nothing, live, AreSound, core_of, plain_of, AreLater}, Newer.{newer-alike, later-so}, keeps.Told.alike-whole}
+use Rattle.pagable_tables.proofs.{Words.{counts_at, refs_at, load_at, known_at, Fits, owns_nothing, live, AreSound, core_of, plain_of, AreLater}, Newer.{newer-alike, later-on}, keeps.Told.alike-whole}
 use Rattle.pagable_tables.{proofs.keeps.Placed.whole-so, specs.Core.IsWhole}
 use Rattle.pagable_world.specs.Calls.{IsNext}
 use Rattle.pagable_tables.specs.Live as places
@@ -57,8 +57,8 @@ room-whole t t' whole sound next rows counts refs top room =
     fits : Fits (counts_at new.nodes) (refs_at new.nodes) (live new.handles.places.items) new.top [] owns_nothing
     fits = grind (arith, nat_tests, new, old)
 
-pub room-newer : {t t' : Tables} → OnlyRoom (plain_of t) (plain_of t') → t'.loads ≡ t.loads → AreLater t → AreLater t'
-room-newer {t} {t'} room loads later = later-so later (newer-alike (room-alike room)) (λ l load is. sym (ap (λ (m : IndexMap ℕ LoadRow _). load_at m l) loads) ∙ is)
+pub room-newer : {t t' : Tables} → OnlyRoom (plain_of t) (plain_of t') → t'.loads ≡ t.loads → t'.workers ≡ t.workers → AreLater t → AreLater t'
+room-newer {t} {t'} room loads workers later = later-on later (newer-alike (room-alike room)) loads workers
 
 -- a new node that the cache knows from now on
 pub adopted-past : {w w1 w' : Core} (l : LoadNumber) (kind : Kind) (key : ℕ) (own : OptionalDataKey) (rs : List ArcRef) → OnlyRoom w w1 → Alike (adopted w1 l kind key own rs) w' → Alike (adopted w l kind key own rs) w'

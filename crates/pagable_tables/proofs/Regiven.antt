@@ -31,12 +31,12 @@ regiven before w given given' lists t f less more =
       few = f.few;
     }
 
--- whether the load owns the handle of this number
-abbrev pub loaded : LoadNumber → ℕ → List HandleRow → Bool
-loaded l q rows = passes_in (is_owned_by (Owner.Load l)) rows q
+-- whether this one owns the handle of this number
+abbrev pub owned : Owner → ℕ → List HandleRow → Bool
+owned o q rows = passes_in (is_owned_by o) rows q
 
-pub unlisting : (l : LoadNumber) (h : HandleRow) → h.owner ≡ Owner.List → is_owned_by (Owner.Load l) h ≡ false
-unlisting l h is = ap (is_owner (Owner.Load l)) is
+pub unlisting : (o : Owner) → is_owner o Owner.List ≡ false → (h : HandleRow) → h.owner ≡ Owner.List → is_owned_by o h ≡ false
+unlisting o other h is = ap (is_owner o) is ∙ other
 
 module _ (test : HandleRow → Bool) (q : ℕ) where
   pub passes-here : (x : HandleRow) (xs : List HandleRow) → passes_in test (x ∷ xs) q ≡ (if is_handle q x then test x else passes_in test xs q)
@@ -89,7 +89,7 @@ abbrev pub and_owned : Core → LoadNumber → (ℕ → Bool) → ℕ → ℕ �
 and_owned w l given n q = given q || (q == n && is_owned_in w (Owner.Load l) q)
 
 -- the load doesn't have the handle now
-pub given-none : (before w : Core) (given : ℕ → Bool) (lists : Bool) (t : Holdings) (l : LoadNumber) (n : ℕ) → SoFar before w given lists t → loaded l n (live t.handles.places.items) ≡ false → SoFar before w (and_owned w l given n) lists t
+pub given-none : (before w : Core) (given : ℕ → Bool) (lists : Bool) (t : Holdings) (l : LoadNumber) (n : ℕ) → SoFar before w given lists t → owned (Owner.Load l) n (live t.handles.places.items) ≡ false → SoFar before w (and_owned w l given n) lists t
 given-none before w given lists t l n f none = regiven before w given (and_owned w l given n) lists t f less (λ r e. first (given r) _ e)
   where
     first : (a b : Bool) → a ≡ true → (a || b) ≡ true
@@ -104,15 +104,15 @@ given-none before w given lists t l n f none = regiven before w given (and_owned
         split : (b : Bool) → (r == n) ≡ b → (given r || f.gone r) ≡ true
         split true h =
             let m : n ≡ r = grind (arith, nat_tests) in
-            went (f.gone r) (is_owned_in w (Owner.Load l) r) (given r) (sym (passes-so-far before w given lists t f (is_owned_by (Owner.Load l)) (unlisting l) r) ∙ ap (λ q. loaded l q (live t.handles.places.items)) (sym m) ∙ none) (sym (ap (λ b. given r || (b && is_owned_in w (Owner.Load l) r)) h) ∙ e)
+            went (f.gone r) (is_owned_in w (Owner.Load l) r) (given r) (sym (passes-so-far before w given lists t f (is_owned_by (Owner.Load l)) (unlisting (Owner.Load l) refl) r) ∙ ap (λ q. owned (Owner.Load l) q (live t.handles.places.items)) (sym m) ∙ none) (sym (ap (λ b. given r || (b && is_owned_in w (Owner.Load l) r)) h) ∙ e)
         split false h = grind (arith, nat_tests)
 
 -- the load had the handle, and it was given
-pub given-one : (before w : Core) (given : ℕ → Bool) (lists : Bool) (t new : Holdings) (l : LoadNumber) (n : ℕ) → SoFar before w given lists t → loaded l n (live t.handles.places.items) ≡ true → SoFar before w (and_one given n) lists new → SoFar before w (and_owned w l given n) lists new
+pub given-one : (before w : Core) (given : ℕ → Bool) (lists : Bool) (t new : Holdings) (l : LoadNumber) (n : ℕ) → SoFar before w given lists t → owned (Owner.Load l) n (live t.handles.places.items) ≡ true → SoFar before w (and_one given n) lists new → SoFar before w (and_owned w l given n) lists new
 given-one before w given lists t new l n f some g = regiven before w (and_one given n) (and_owned w l given n) lists new g less more
   where
-    owned : is_owned_in w (Owner.Load l) n ≡ true
-    owned = had (f.gone n) _ (sym (passes-so-far before w given lists t f (is_owned_by (Owner.Load l)) (unlisting l) n) ∙ some)
+    mine : is_owned_in w (Owner.Load l) n ≡ true
+    mine = had (f.gone n) _ (sym (passes-so-far before w given lists t f (is_owned_by (Owner.Load l)) (unlisting (Owner.Load l) refl) n) ∙ some)
 
     less : (r : ℕ) → and_owned w l given n r ≡ true → (and_one given n r || g.gone r) ≡ true
     less r e = bits (given r) (r == n) (is_owned_in w (Owner.Load l) r) (g.gone r) e
@@ -124,5 +124,5 @@ given-one before w given lists t new l n f some g = regiven before w (and_one gi
     more r e = split (r == n) refl
       where
         split : (b : Bool) → (r == n) ≡ b → and_owned w l given n r ≡ true
-        split true h = let m : n ≡ r = grind (arith, nat_tests) in let o : is_owned_in w (Owner.Load l) r ≡ true = ap (is_owned_in w (Owner.Load l)) (sym m) ∙ owned in grind (arith, nat_tests)
+        split true h = let m : n ≡ r = grind (arith, nat_tests) in let o : is_owned_in w (Owner.Load l) r ≡ true = ap (is_owned_in w (Owner.Load l)) (sym m) ∙ mine in grind (arith, nat_tests)
         split false h = grind (arith, nat_tests)

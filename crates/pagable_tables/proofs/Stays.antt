@@ -4,7 +4,7 @@ use Rattle.pagable_tables.proofs.Words.{AllPairs, nat_tests, cases_eq, sum_by-le
 use Rattle.pagable_tables.proofs.Words.{is_at, is_pin, is_pinning, is_shared, is_owned_by, owner_value, held, pins, sharing, Core, Places, HasRoom, IsHandleBefore, HandlesAreWhole, references_fault}
 use Rattle.pagable_tables.proofs.Words.{is_owned_in, ArcRef, IsLeast, IsWithin, IsClosed, loses_value, pins_outside, held_outside, owned_outside, is_outside, is_keyed, left_rows, Falls, is_named_by}
 use Rattle.pagable_tables.proofs.Words.{is_valued, LoadNumber, Mode, Owner, ◌+◌, Option, NodeNumber, Blob, is_handle, HandleNumber, Last, Alike, nobody, row_of, with_handle, Counts, Tables, live}
-use Rattle.pagable_tables.proofs.{Words.{counts_at, ValueStays, cell_in, has_value, pins_in, SoFar, core_of, Some, changed, find_row, with_mode}, Coming.no-value, Regiven.{loaded, passes-here}}
+use Rattle.pagable_tables.proofs.{Words.{counts_at, ValueStays, cell_in, has_value, pins_in, SoFar, core_of, Some, changed, find_row, with_mode}, Coming.no-value, Regiven.{owned, passes-here}}
 use Rattle.pagable_tables.proofs.{Regiven.passes-none, Left.times-left, Taken.owned-given, keeps.HandleCalls.named-mine, keeps.Rows.{counted, at-most-sum, once, among-last}, Opened.owner-self}
 use Rattle.pagable_tables.{proofs.{Begun.{begins, begun}, Ended.none-falls-in, Worlds.same-cache}, specs.Core.IsWhole}
 
@@ -90,7 +90,7 @@ stays-pinned w u w' given r x rows ordered plain kept falls n none = split (is_p
 pub eager-pins : (kind : ℕ) → is_loose_kind kind ≡ false → is_pinning (mode_of kind) ≡ true
 eager-pins kind eager = grind (arith, nat_tests)
 
-pub loaded-append : (l : LoadNumber) (q : ℕ) (rows more : List HandleRow) → loaded l q rows ≡ true → loaded l q (rows ++ more) ≡ true
+pub loaded-append : (l : LoadNumber) (q : ℕ) (rows more : List HandleRow) → owned (Owner.Load l) q rows ≡ true → owned (Owner.Load l) q (rows ++ more) ≡ true
 loaded-append l q [] more own = absurd (let a = passes-none (is_owned_by (Owner.Load l)) q in cc)
 loaded-append l q (x ∷ xs) more own = grind (arith, nat_tests, passes-none, passes-here, loaded-append l q xs more)
 

@@ -3,7 +3,10 @@ use Rattle.pagable_tables.proofs.Words.{◌≡◌, ℕ, ◌<◌, ◌==◌, ◌&&
 use Rattle.pagable_tables.proofs.Words.{sum_by-cons, HandleNumber, LoadNumber, HandleRow, Owner, Blob, Among, one, times, is_in, is_handle, is_owner, is_owned_by, is_pin, is_share, find_row, pins}
 use Rattle.pagable_tables.proofs.Words.{Core, HasRoom, MayOwnLoad, load_fault, named_fault, nobody, moved, without_load, numbers_of, hand_over_fault, Tables, Holdings, live, is_valued, with_tables}
 use Rattle.pagable_tables.proofs.Words.{is_plain_pin, SoFar, core_of, named_at, IsNamed, ◌≤◌, Some, ◌≢◌, Result, option_map, Error, updated, if_there, OpenLoad, Falls, is_owned_in, LoadRow, passes_in}
-use Rattle.pagable_tables.proofs.{Words.{load_in, ◌+◌, ◌++◌, filter, Ok, TakeCall, is_workers_load, with_worker, left_load}, Begun.{begins, begun}, Handed.{seen-all, in-there}, Regiven.loaded}
+use Rattle.pagable_tables.proofs.{Words.{load_in, ◌+◌, ◌++◌, filter, Ok, TakeCall, is_workers_load, with_worker, left_load}, Begun.{begins, begun}, Handed.{seen-all, in-there}, Regiven.owned}
+use Rattle.pagable_tables.proofs.Words.{NodeNumber, Giving, gives_row, AreLater, InReach, Reach, reach_at, worker_at, is_some, plain_of, cases_Bool, inl, inr, ◌||◌}
+use Rattle.pagable_tables.proofs.{Bits.and-left, Opened.owner-self, Words.{load_at, refused_if}}
+use Rattle.pagable_world.specs.Workers.{is_load_of}
 use Rattle.pagable_tables.proofs.{keeps.Comes.not-list, keeps.EndCalls.{both-none, handed-mine, asker-owns}, keeps.LoadCalls.may-hold, keeps.HandleCalls.moved-to-holder, keeps.Rows.found-among}
 use Rattle.pagable_tables.{proofs.keeps.Rows.once, specs.{Core.IsWhole, Giving.TakesWorker}}
 use Rattle.pagable_model.specs.declared.numbers.WorkerNumber.{WorkerNumber}
@@ -23,11 +26,11 @@ moved-times f s o (x ∷ xs) same =
     split true = same x
     split false = refl
 
--- what a load owns once handles have moved from it
-pub loaded-moved : (s : ℕ → Bool) (o : Owner) (l : LoadNumber) (q : ℕ) (rows : List HandleRow) → is_owner (Owner.Load l) o ≡ false → loaded l q (moved s o rows) ≡ (loaded l q rows && not (s q))
+-- what one owns once handles have moved to another
+pub owned-moved : (s : ℕ → Bool) (o a : Owner) (q : ℕ) (rows : List HandleRow) → is_owner a o ≡ false → owned a q (moved s o rows) ≡ (owned a q rows && not (s q))
 unfolding find_row
-loaded-moved s o l q [] other = refl
-loaded-moved s o l q (x ∷ xs) other = grind (arith, nat_tests, loaded-moved s o l q xs other)
+owned-moved s o a q [] other = refl
+owned-moved s o a q (x ∷ xs) other = grind (arith, nat_tests, owned-moved s o a q xs other)
 
 -- who began a load isn't one, nor a value
 pub no-load : (w : Core) (o : Owner) (l : LoadNumber) → MayOwnLoad w o → is_owner (Owner.Load l) o ≡ false
@@ -73,6 +76,10 @@ named-there w l hs good place lt =
     let m = handed-mine w (Owner.Load l) [] hs good q (sym (seen-all hs q) ∙ in-there hs (length hs) place q lt refl) in
     record { row = m.row; found = m.live; plain = ap is_valued m.own }
 
+-- who may use a load began it
+pub yours : (found : Option LoadRow) (me : Owner) (row : LoadRow) → found ≡ Some row → if_there (λ (load : OpenLoad). refused_if (not (is_owner me load.owner)) Error.NotYours) (Some Error.NoSuchHandle) (option_map load_in found) ≡ None → is_owner me row.owner ≡ true
+yours found me row is none = grind (arith, nat_tests)
+
 -- the list has what it had
 pub still-listed : {w : Core} → pager.IsWhole w → (me : Owner) (l : LoadNumber) (hs : List HandleNumber) → MayHand w me l hs
     → (q : ℕ) → times (λ (h : HandleNumber). h.0 == q) w.list ≡ times (λ h. is_handle q h && is_owned_by Owner.List h) (moved (is_in (numbers_of hs)) me w.rows)
@@ -111,6 +118,36 @@ passes-given test w q whole passes = split (find_row q w.rows) refl passes
 pub owned-given : (w : Core) (o : Owner) (q : ℕ) → pager.HandlesAreWhole w → is_owned_in w o q ≡ true → q ≤ w.last.handle
 owned-given w o q whole own = (passes-given (is_owned_by o) w q whole own).1
 
+-- what a worker has at a node is its own
+pub at-node : (w : Core) (v : WorkerNumber) (n : NodeNumber) (q : ℕ) → passes_in (gives_row w (Giving.AtNode v n)) w.rows q ≡ true → is_owned_in w (Owner.Worker v) q ≡ true
+at-node w v n q is = split (find_row q w.rows) is
+  where
+    split : (found : Option HandleRow) → if_there (gives_row w (Giving.AtNode v n)) false found ≡ true → if_there (is_owned_by (Owner.Worker v)) false found ≡ true
+    split None is = absurd (cc)
+    split (Some row) is = and-left (is_owner (Owner.Worker v) row.owner) _ is
+
+-- all that a worker gives up when it ends is in its reach
+pub in-reach : (t : Tables) → IsWhole t → AreLater t → (v : WorkerNumber) (q : ℕ) → passes_in (gives_row (plain_of t) (Giving.Worker v)) (plain_of t).rows q ≡ true → InReach (reach_at t.workers v.0) q
+in-reach t whole later v q is = split (find_row q (plain_of t).rows) refl is
+  where
+    w : Core
+    w = plain_of t
+
+    lent : (l : LoadNumber) (load : Option LoadRow) → load_at t.loads l.0 ≡ load → is_owned_in w (Owner.Load l) q ≡ true → is_workers_load v.0 (option_map load_in load) ≡ true → InReach (reach_at t.workers v.0) q
+    lent l None e own of = absurd (cc)
+    lent l (Some load) e own of = let a = later.since l.0 load q e own in let b = later.loads v.0 l.0 load e of in (omega arith, inl (omega arith))
+
+    of-load : (o : Owner) → is_owned_in w o q ≡ true → is_load_of w v.0 o ≡ true → InReach (reach_at t.workers v.0) q
+    of-load (Owner.Load l) own of = lent l (load_at t.loads l.0) refl own of
+    of-load _ own of = absurd (cc)
+
+    split : (found : Option HandleRow) → find_row q w.rows ≡ found → if_there (gives_row w (Giving.Worker v)) false found ≡ true → InReach (reach_at t.workers v.0) q
+    split None e is = absurd (cc)
+    split (Some row) e is = elim (cases_Bool (is_owner (Owner.Worker v) row.owner)) [
+      | inl own ↦ later.reach v.0 q (ap (if_there (is_owned_by (Owner.Worker v)) false) e ∙ own)
+      | inr other ↦ of-load row.owner (ap (if_there (is_owned_by row.owner) false) e ∙ owner-self row.owner) (sym (ap (λ b. b || is_load_of w v.0 row.owner) other) ∙ is)
+    ]
+
 -- loads and workers are told anew
 pub loads-anew : (before u w' : Core) (given : ℕ → Bool) (r : Result (Unit {0}) Error) (loads : ℕ → Option OpenLoad) → ((q : ℕ) → w'.loads q ≡ loads q) → Falls before u given r w' → Falls before u given r (record w' { loads = loads })
 loads-anew before u w' given r loads same falls = subst (λ l. Falls before u given r (record w' { loads = l })) (λ i q. same q i) falls
@@ -118,19 +155,12 @@ loads-anew before u w' given r loads same falls = subst (λ l. Falls before u gi
 pub workers-anew : (before u w' : Core) (given : ℕ → Bool) (r : Result (Unit {0}) Error) (workers : ℕ → Bool) → ((v : ℕ) → w'.workers v ≡ workers v) → Falls before u given r w' → Falls before u given r (record w' { workers = workers })
 workers-anew before u w' given r workers same falls = subst (λ v. Falls before u given r (record w' { workers = v })) (λ i q. same q i) falls
 
-pushed : (vs : List ℕ) (n q : ℕ) → is_in (vs ++ n ∷ []) q ≡ (if q == n then true else is_in vs q)
-unfolding is_in
-pushed [] n q = grind (arith, nat_tests)
-pushed (x ∷ xs) n q = grind (arith, nat_tests, pushed xs n q)
+-- one more is at work, or one less
+pub one-more-works : (at at' : ℕ → Option Reach) (v : ℕ) (reach : Reach) → at' v ≡ Some reach → ((q : ℕ) → q ≢ v → at' q ≡ at q) → (q : ℕ) → is_some (at' q) ≡ updated v true (λ u. is_some (at u)) q
+one-more-works at at' v reach here others q = grind (arith, nat_tests)
 
-pub worker-comes : (vs vs' : List ℕ) (n : ℕ) → vs' ≡ vs ++ n ∷ [] → (q : ℕ) → is_in vs' q ≡ updated n true (is_in vs) q
-worker-comes vs vs' n is q = ap (λ l. is_in l q) is ∙ pushed vs n q
-
--- one leaves
-pub worker-leaves : (vs : List ℕ) (n q : ℕ) → is_in (filter (λ x. not (x == n)) vs) q ≡ updated n false (is_in vs) q
-unfolding is_in
-worker-leaves [] n q = grind (arith, nat_tests)
-worker-leaves (x ∷ xs) n q = grind (arith, nat_tests, worker-leaves xs n q)
+pub worker-gone : (at at' : ℕ → Option Reach) (v : ℕ) → at' v ≡ None → ((q : ℕ) → q ≢ v → at' q ≡ at q) → (q : ℕ) → updated v false (λ u. is_some (at u)) q ≡ is_some (at' q)
+worker-gone at at' v gone others q = grind (arith, nat_tests)
 
 -- what is told of loads once those of a worker are closed
 pub load-leaves : (v : ℕ) (row : Option LoadRow) → (if is_workers_load v (option_map load_in row) then None else option_map load_in row) ≡ option_map load_in (left_load v row)
@@ -142,7 +172,7 @@ left-was v row load is = grind (arith, nat_tests)
 
 -- the world of tables that have one worker more
 pub begun-core : (t t1 : Tables) (stored : ℕ → Option Blob) (closed : Bool) (failures : ℕ) → t1 ≡ record t { workers = t1.workers; last_worker = t1.last_worker } → t1.last_worker ≡ t.last_worker + 1
-    → ((q : ℕ) → is_in t1.workers.items q ≡ updated (t.last_worker + 1) true (is_in t.workers.items) q) → core_of t1 stored closed failures ≡ with_worker (core_of t stored closed failures)
+    → ((q : ℕ) → is_some (worker_at t1.workers q) ≡ updated (t.last_worker + 1) true (λ v. is_some (worker_at t.workers v)) q) → core_of t1 stored closed failures ≡ with_worker (core_of t stored closed failures)
 begun-core t t1 stored closed failures same last more = grind (arith, nat_tests)
 
 -- the entry moves to it

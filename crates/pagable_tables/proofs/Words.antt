@@ -34,5 +34,5 @@ pub use Rattle.pagable_tables.specs.{Lowering.{unpinned, Lowers}, Owning.{named_
 pub use Rattle.pagable_tables.specs.Ready.{IsWider}
 pub use Rattle.pagable_tables.specs.{Ready.has_come, declared.handles.Handles.Handles, declared.holdings.Holdings.Holdings, declared.installing.Ending.Ending, declared.rows.Counts.Counts}
 pub use Rattle.pagable_tables.specs.{declared.rows.LoadRow.LoadRow, declared.rows.NodeRow.NodeRow, declared.rows.Place.Place, declared.tables.Tables.Tables, Giving.{passes_in, left_load, gives_row}}
-pub use Rattle.pagable_tables.specs.{Giving.LoadsAre, declared.giving.Giving.Giving}
+pub use Rattle.pagable_tables.specs.{Giving.{InReach, IsNoLess, LoadsAre}, ByNumber.{anywhere, reach_at, worker_at}, declared.giving.Giving.Giving, declared.rows.Reach.Reach}
 unfoldable pub use Rattle.pagable_tables.specs.Owning.{seen}

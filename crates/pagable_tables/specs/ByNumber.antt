@@ -2,11 +2,15 @@
 use Rattle.std.specs.{Prelude.ℕ, Prelude.Bool, Prelude.◌&&◌, Prelude.List, Prelude.[], Prelude.Option, Prelude.nat_eq, Option.option_map, Option.option_map_or}
 use Rattle.indexmap.specs.IndexMap.{IndexMap, get}
 use Rattle.pagable_model.specs.{declared.numbers.ArcRef.ArcRef, declared.numbers.NodeNumber.NodeNumber}
-use Rattle.pagable_tables.specs.{declared.rows.NodeRow.NodeRow, declared.rows.Counts.Counts, declared.rows.LoadRow.LoadRow}
+use Rattle.pagable_tables.specs.{declared.rows.NodeRow.NodeRow, declared.rows.Counts.Counts, declared.rows.LoadRow.LoadRow, declared.rows.Reach.Reach}
 
 -- whether kind and key are the same
 abbrev pub is_same : ℕ × ℕ → ℕ × ℕ → Bool
 is_same x y = nat_eq x.0 y.0 && nat_eq x.1 y.1
+
+-- where any handle may be the worker's
+abbrev pub anywhere : Reach
+anywhere = record { since = 0; beside = 0 }
 
 module _ {S : Type 0} where
   abbrev pub counts_at : IndexMap ℕ NodeRow S → ℕ → Option Counts
@@ -20,3 +24,9 @@ module _ {S : Type 0} where
 
   abbrev pub known_at : IndexMap (ℕ × ℕ) NodeNumber S → ℕ → ℕ → Option NodeNumber
   known_at cache kind key = get is_same cache (kind, key)
+
+  abbrev pub worker_at : IndexMap ℕ Reach S → ℕ → Option Reach
+  worker_at workers v = get nat_eq workers v
+
+  abbrev pub reach_at : IndexMap ℕ Reach S → ℕ → Reach
+  reach_at workers v = option_map_or (λ reach. reach) (worker_at workers v) anywhere

@@ -1,9 +1,9 @@
 -- The plain world that the tables tell, and when they are whole.
 use Rattle.std.specs.{Prelude.{ℕ, ◌≡◌, ◌≤◌, Bool, true, false, [], length, Option, None, is_some, Result, IfOk, IfErr, vec_capacity}, Option.option_map}
 use Rattle.pagable_model.specs.{declared.error.Error.Error, declared.numbers.HandleNumber.HandleNumber, declared.numbers.NodeNumber.NodeNumber}
-use Rattle.pagable_world.specs.{Plain.{Blob, Among, is_in}, declared.handles.HandleRow.HandleRow, declared.handles.Owner.Owner, declared.rows.Mode.Mode, Kinds.is_shared, World.{Core, OpenLoad, Root}}
+use Rattle.pagable_world.specs.{Plain.{Blob, Among}, declared.handles.HandleRow.HandleRow, declared.handles.Owner.Owner, declared.rows.Mode.Mode, Kinds.is_shared, World.{Core, OpenLoad, Root}}
 use Rattle.pagable_world.specs.{World.{of_cell, of_key, Alike}, Calls.{with_handle, IsNext}, Refusals.{spent, Refused, AreHandlesFull}}
-use Rattle.pagable_tables.specs.{declared.rows.LoadRow.LoadRow, declared.rows.LoadRoot.LoadRoot, declared.tables.Tables.Tables, Live.live, ByNumber.{counts_at, load_at, known_at}, Falling.cell_in}
+use Rattle.pagable_tables.specs.{declared.rows.LoadRow.LoadRow, declared.rows.LoadRoot.LoadRoot, declared.tables.Tables.Tables, Live.live, ByNumber.{counts_at, load_at, known_at, worker_at}, Falling.cell_in}
 use Rattle.pagable_tables.specs.Falling.{IsFalling, owns_nothing}
 use Rattle.pagable_world.specs.declared.handles.Owner.TheVariants as owners
 use Rattle.pagable_world.specs.Pager as pager
@@ -28,7 +28,7 @@ core_of t stored closed failures =
       closed = closed;
       failures = failures;
       loads = λ l. option_map load_in (load_at t.loads l);
-      workers = λ v. is_in t.workers.items v;
+      workers = λ v. is_some (worker_at t.workers v);
       last = record { node = t.last_node; handle = t.holdings.last_handle; load = t.last_load; worker = t.last_worker };
       places = record { handles = vec_capacity t.holdings.handles.places; entries = vec_capacity t.holdings.list };
     }

@@ -1,10 +1,10 @@
 -- Handles that are given up together, and workers that begin.
-use Rattle.std.specs.{Prelude.{ℕ, ◌≡◌, ◌+◌, ◌==◌, ◌&&◌, ◌||◌, Bool, false, if◌then◌else◌, List, Option, Some, None, Result, IfOk, IfErr, slice_get}, Option.option_map}
+use Rattle.std.specs.{Prelude.{ℕ, ◌≡◌, ◌+◌, ◌<◌, ◌≤◌, ◌⊎◌, ◌==◌, ◌&&◌, ◌||◌, Bool, false, if◌then◌else◌, List, Option, Some, None, Result, IfOk, IfErr, slice_get}, Option.option_map}
 use Rattle.indexmap.specs.IndexMap.{IndexMap}
 use Rattle.pagable_model.specs.{declared.error.Error.Error, declared.numbers.HandleNumber.HandleNumber, declared.numbers.NodeNumber.NodeNumber, declared.numbers.WorkerNumber.WorkerNumber}
 use Rattle.pagable_world.specs.{declared.handles.HandleRow.HandleRow, declared.handles.Owner.Owner, Plain.if_there, Kinds.{is_owner, owner_worker, find_row}, World.{Core, Alike}, Workers.is_load_of}
 use Rattle.pagable_world.specs.Events.{with_worker, with_entry_taken}
-use Rattle.pagable_tables.specs.{declared.giving.Giving.Giving, declared.rows.LoadRow.LoadRow, ByNumber.load_at, Core.load_in}
+use Rattle.pagable_tables.specs.{declared.giving.Giving.Giving, declared.rows.{LoadRow.LoadRow, Reach.Reach}, ByNumber.{load_at, reach_at}, Core.load_in}
 use Rattle.pagable_model.specs.declared.error.Error.TheVariants as errors
 use Rattle.pagable_world.specs.declared.handles.Owner.TheVariants as owners
 use Rattle.pagable_tables.specs.declared.giving.Giving.TheVariants as givings
@@ -22,6 +22,10 @@ gives_row w giving row = gives w giving row.owner row.node
 abbrev pub passes_in : (HandleRow → Bool) → List HandleRow → ℕ → Bool
 passes_in test rows q = if_there test false (find_row q rows)
 
+-- whether a handle of this number may be one of those
+abbrev pub InReach : Reach → ℕ → Type 0
+InReach reach q = (0 < q) × ((reach.since < q) ⊎ (q ≡ reach.beside))
+
 -- the open loads of a world are these
 abbrev pub LoadsAre : {S : Type 0} → IndexMap ℕ LoadRow S → Core → Type 0
 LoadsAre loads w = (l : ℕ) → w.loads l ≡ option_map load_in (load_at loads l)
@@ -33,6 +37,11 @@ left_load v (Some row) = if is_owner (owner_worker v) row.owner then None else S
 
 abbrev pub LeavesOthers : ℕ → (ℕ → Option LoadRow) → (ℕ → Option LoadRow) → Type 0
 LeavesOthers v at at' = (l : ℕ) → at' l ≡ left_load v (at l)
+
+-- what was in a worker's reach still is, and so is what comes
+pub record IsNoLess {S : Type 0} (workers workers' : IndexMap ℕ Reach S) : Type 0 where
+  pub wider : (v q : ℕ) → InReach (reach_at workers v) q → InReach (reach_at workers' v) q
+  pub before : (v : ℕ) → (reach_at workers' v).since ≤ (reach_at workers v).since
 
 -- one worker more is at work; or memory is wanting
 pub record BeginsWorker (w : Core) (r : Result WorkerNumber Error) (w' : Core) : Type 0 where

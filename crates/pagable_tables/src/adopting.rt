@@ -35,6 +35,7 @@ pub fn make_ready_to_learn(t: &mut Tables) -> Result<(), Error>
     ensures refused { (stored : ℕ → Option Blob) (closed : Bool) (failures : ℕ) → IfErr result (λ e. Refused (birth_fault (core_of t.old stored closed failures)) (birth_fault (core_of t.old stored closed failures)) (Unit {0}) (core_of t.old stored closed failures) e (core_of t.new stored closed failures)) }
     ensures whole { IsWhole t.new }
     ensures loads { t.new.loads ≡ t.old.loads }
+    ensures workers { t.new.workers ≡ t.old.workers }
 {
     if let Err(e) = make_ready(t) {
         return Err(e);
@@ -65,6 +66,7 @@ fn learn_new(
     ensures adopted { (stored : ℕ → Option Blob) (closed : Bool) (failures : ℕ) → lists ≡ not closed → Alike (adopted (core_of t.old stored closed failures) load kind key (key_in own_key) references.items) (core_of t.new stored closed failures) }
     ensures steady { IsFalling t.new.holdings [] owns_nothing }
     ensures loads { t.new.loads ≡ t.old.loads }
+    ensures workers { t.new.workers ≡ t.old.workers }
 {
     let mode = mode_of(kind);
     let counts = first_counts(kind.0 / 3, own_key, mode);

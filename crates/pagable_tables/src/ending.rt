@@ -12,7 +12,7 @@ use crate::holdings::Holdings;
 use crate::loading::load_row;
 use crate::moving::{hand_each, named_fault};
 use crate::references::{cell_fault, earlier, load_fault};
-use crate::rows::LoadRow;
+use crate::rows::{LoadRow, Reach};
 use crate::tables::Tables;
 use crate::turning::is_owner;
 use crate::{handles, loads};
@@ -58,7 +58,8 @@ pub fn give_up_load<N: Drop>(
     ensures falls { (before w : Core) → SoFar before w nobody lists (record t.old { unlisted = None }) → length (live t.old.handles.places.items) ≤ length w.rows → ((q : ℕ) → is_owned_in w (owners.Load load) q ≡ true → (since < q) × (q ≤ t.old.last_handle)) → Falls before w (is_owned_in w (owners.Load load)) result (with_tables w t.new) }
     ensures sheds { Sheds (counts_at t.old.nodes) (get nat_eq values.old) (counts_at t.new.nodes) (get nat_eq values.new) }
 {
-    give_all(t, values, loads, Giving::Load(load), since, lists)
+    let reach = Reach { since, beside: 0 };
+    give_all(t, values, loads, Giving::Load(load), reach, lists)
 }
 
 /// An open load is given up, with all that it owns. NoSuchHandle where none is open, NotYours where another began it. NumbersSpent or OutOfMemory where a cell that

@@ -4,16 +4,17 @@ ghost use Rattle.std.specs.Prelude.{◌≡◌, ℕ, ◌<◌, ◌≤◌, [], leng
 ghost use Rattle.indexmap.specs.IndexMap.{get};
 ghost use Rattle.pagable_world.specs.{Kinds.find_row, World.Core, Cascade.{Falls, nobody}, Workers.is_load_of};
 ghost use Rattle.pagable_tables.specs.{declared.rows.Place.Place, Live.{live, alive, AreSound}, ByNumber.counts_at, Falling.{IsFalling, owns_nothing, Sheds}, Onward.{with_tables, SoFar}};
-ghost use Rattle.pagable_tables.specs.Giving.{gives_row, passes_in, LoadsAre};
+ghost use Rattle.pagable_tables.specs.Giving.{gives_row, passes_in, InReach, LoadsAre};
 
 use crate::cascade::{fall, shed};
+use crate::handles;
 use crate::handles::Handles;
 use crate::holdings::Holdings;
 use crate::loads;
-use crate::rows::{HandleAt, LoadRow, Place};
+use crate::rows::{HandleAt, LoadRow, Place, Reach};
 use crate::turning::is_owner;
 use indexmap::IndexMap;
-use pagable_model::{Error, LoadNumber, NodeNumber, WorkerNumber};
+use pagable_model::{Error, HandleNumber, LoadNumber, NodeNumber, WorkerNumber};
 use pagable_world::handles::{HandleRow, Owner};
 use std::sync::Arc;
 
@@ -91,7 +92,7 @@ fn is_given(loads: &IndexMap<u64, LoadRow>, giving: Giving, place: Place, left: 
 }
 
 /// The last handle that is given up, of a number above `since` and not above `left`.
-fn last_given(
+fn last_above(
     handles: &Handles,
     loads: &IndexMap<u64, LoadRow>,
     giving: Giving,
@@ -123,25 +124,71 @@ fn last_given(
     None
 }
 
-/// Handles are given up, from the last to the first, with all that goes with them: all of these whose numbers are above this one. NumbersSpent or OutOfMemory where a cell
+/// The handle of this number, if it is live, not above `left`, and given up.
+fn given_at(
+    handles: &Handles,
+    loads: &IndexMap<u64, LoadRow>,
+    giving: Giving,
+    number: u64,
+    left: u64,
+) -> Option<HandleAt>
+    requires { AreSound handles.now }
+    ensures place { IfSome result (λ at. slice_get handles.now.places.items at.place ≡ Some (alive at.row)) }
+    ensures found { IfSome result (λ at. find_row at.row.number.0 (live handles.now.places.items) ≡ Some at.row) }
+    ensures number { IfSome result (λ at. (0 < at.row.number.0) × (at.row.number.0 ≡ number) × (at.row.number.0 ≤ left)) }
+    ensures gives { IfSome result (λ at. (w : Core) → LoadsAre loads.now w → gives_row w giving at.row ≡ true) }
+    ensures none { IfNone result ((w : Core) → LoadsAre loads.now w → 0 < number → number ≤ left → passes_in (gives_row w giving) (live handles.now.places.items) number ≡ false) }
+{
+    if number == 0 || left < number {
+        return None;
+    }
+    match handles::look(handles, HandleNumber(number)) {
+        Some(at) if gives(loads, giving, at.row) => Some(at),
+        Some(_) | None => None,
+    }
+}
+
+/// The last handle in reach that is given up, of a number not above `left`.
+fn last_given(
+    handles: &Handles,
+    loads: &IndexMap<u64, LoadRow>,
+    giving: Giving,
+    reach: Reach,
+    left: u64,
+) -> Option<HandleAt>
+    requires { AreSound handles.now }
+    ensures place { IfSome result (λ at. slice_get handles.now.places.items at.place ≡ Some (alive at.row)) }
+    ensures found { IfSome result (λ at. find_row at.row.number.0 (live handles.now.places.items) ≡ Some at.row) }
+    ensures between { IfSome result (λ at. (0 < at.row.number.0) × (at.row.number.0 ≤ left)) }
+    ensures gives { IfSome result (λ at. (w : Core) → LoadsAre loads.now w → gives_row w giving at.row ≡ true) }
+    ensures last { IfSome result (λ at. (w : Core) (q : ℕ) → LoadsAre loads.now w → InReach reach q → at.row.number.0 < q → q ≤ left → passes_in (gives_row w giving) (live handles.now.places.items) q ≡ false) }
+    ensures none { IfNone result ((w : Core) (q : ℕ) → LoadsAre loads.now w → InReach reach q → q ≤ left → passes_in (gives_row w giving) (live handles.now.places.items) q ≡ false) }
+{
+    match last_above(handles, loads, giving, reach.since, left) {
+        Some(at) => Some(at),
+        None => given_at(handles, loads, giving, reach.beside, left),
+    }
+}
+
+/// Handles are given up, from the last to the first, with all that goes with them: all of these, which are in this reach. NumbersSpent or OutOfMemory where a cell
 /// that had to be listed isn't.
 pub fn give_all<N: Drop>(
     t: &mut Holdings,
     values: &mut IndexMap<u64, Arc<N>>,
     loads: &IndexMap<u64, LoadRow>,
     giving: Giving,
-    since: u64,
+    reach: Reach,
     lists: bool,
 ) -> Result<(), Error>
     requires { IsFalling t.old [] owns_nothing }
     ensures steady { IsFalling t.new [] owns_nothing }
     ensures falls { (before u w : Core) → LoadsAre loads.now w → SoFar before u nobody lists (record t.old { unlisted = None }) → length (live t.old.handles.places.items) ≤ length u.rows
-        → ((q : ℕ) → passes_in (gives_row w giving) u.rows q ≡ true → (since < q) × (q ≤ t.old.last_handle)) → Falls before u (passes_in (gives_row w giving) u.rows) result (with_tables u t.new) }
+        → ((q : ℕ) → passes_in (gives_row w giving) u.rows q ≡ true → InReach reach q × (q ≤ t.old.last_handle)) → Falls before u (passes_in (gives_row w giving) u.rows) result (with_tables u t.new) }
     ensures sheds { Sheds (counts_at t.old.nodes) (get nat_eq values.old) (counts_at t.new.nodes) (get nat_eq values.new) }
 {
     t.unlisted = None;
     let mut left = t.last_handle;
-    while let Some(at) = last_given(&t.handles, loads, giving, since, left) {
+    while let Some(at) = last_given(&t.handles, loads, giving, reach, left) {
         left = at.row.number.0 - 1;
         shed(t, values, at, lists);
     }

@@ -87,6 +87,7 @@ pub fn cache_put(
     ensures offered { (stored : ℕ → Option Blob) (failures : ℕ) → Offered (core_of t.old stored false failures) me kind key handle result (core_of t.new stored false failures) }
     ensures known { IfOk result (λ found. IfSome found (λ k. t.new ≡ record t.old { holdings = t.new.holdings })) }
     ensures loads { t.new.loads ≡ t.old.loads }
+    ensures workers { t.new.workers ≡ t.old.workers }
     ensures whole { IsWhole t.new }
 {
     let row = match offered(t, me, kind, handle) {

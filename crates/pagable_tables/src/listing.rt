@@ -1,9 +1,9 @@
 //! The list of cells that wait for page-out: entries come and are taken.
 
-ghost use Rattle.std.specs.Prelude.{◌≡◌, ℕ, Bool, Option, nat_eq, not, false, length};
-ghost use Rattle.pagable_world.specs.{Plain.Blob, Calls.{ScheduleCall, TakeCall}, Kinds.is_owner};
+ghost use Rattle.std.specs.Prelude.{◌≡◌, ◌<◌, ℕ, Bool, Option, is_some, nat_eq, not, true, false, length};
+ghost use Rattle.pagable_world.specs.{Plain.Blob, Calls.{ScheduleCall, TakeCall}, Kinds.{is_owner, owner_worker}};
 ghost use Rattle.indexmap.specs.IndexMap.{get};
-ghost use Rattle.pagable_tables.specs.{ByNumber.counts_at, Falling.Sheds, Later.AreLater, Core.{core_of, plain_of, IsWhole, MayHold}};
+ghost use Rattle.pagable_tables.specs.{ByNumber.{counts_at, reach_at, worker_at}, Falling.Sheds, Giving.{InReach, IsNoLess}, Later.AreLater, Core.{core_of, plain_of, IsWhole, MayHold}};
 ghost use Rattle.pagable_model.specs.declared.numbers.LoadNumber.{LoadNumber};
 ghost use Rattle.pagable_world.specs.declared.handles.Owner.TheVariants as owners;
 
@@ -12,6 +12,7 @@ use crate::holdings::make_place;
 use crate::kinds::is_unpinned;
 use crate::moving::hand_over;
 use crate::releases::give_back;
+use crate::rows::Reach;
 use crate::tables::Tables;
 use crate::turning::own;
 use indexmap::IndexMap;
@@ -55,6 +56,23 @@ pub fn schedule_for_paging<N: Drop>(
     Ok(())
 }
 
+/// A worker who asks may have this handle too: beside those that came since it began, or, where it got one so before, beside all.
+fn reach_to(workers: &mut IndexMap<u64, Reach>, me: Owner, handle: HandleNumber)
+    ensures at_work { (v : ℕ) → is_some (worker_at workers.new v) ≡ is_some (worker_at workers.old v) }
+    ensures less { IsNoLess workers.old workers.new }
+    ensures here { (v : ℕ) → 0 < handle.0 → is_owner (owner_worker v) me ≡ true → InReach (reach_at workers.new v) handle.0 }
+{
+    let Owner::Worker(worker) = me else {
+        return;
+    };
+    if let Some(reach) = workers.get_mut(&worker.0) {
+        if reach.beside != 0 {
+            reach.since = 0;
+        }
+        reach.beside = handle.0;
+    }
+}
+
 /// The entry at this place of the list moves to the one who asks. None past the end.
 pub fn take_pending(t: &mut Tables, me: Owner, place: usize) -> Option<HandleNumber>
     requires whole { IsWhole t.old }
@@ -71,5 +89,6 @@ pub fn take_pending(t: &mut Tables, me: Owner, place: usize) -> Option<HandleNum
         unreachable!();
     };
     hand_over(&mut t.holdings.handles, at, me);
+    reach_to(&mut t.workers, me, handle);
     Some(handle)
 }

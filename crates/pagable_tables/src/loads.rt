@@ -1,6 +1,7 @@
-//! The open loads by their numbers.
+//! Rows by their numbers: of open loads, and of workers at work.
 
-ghost use Rattle.std.specs.Prelude.{◌≡◌, ℕ, ◌≢◌, Some, None, OnOk, OnErr};
+ghost use Rattle.std.specs.Prelude.{◌≡◌, ℕ, ◌≢◌, Some, None, OnOk, OnErr, nat_eq};
+ghost use Rattle.indexmap.specs.IndexMap.{get};
 ghost use Rattle.pagable_tables.specs.ByNumber.{load_at};
 
 use crate::rows::LoadRow;
@@ -17,21 +18,21 @@ pub fn load_of(loads: &IndexMap<u64, LoadRow>, load: u64) -> Option<LoadRow>
     }
 }
 
-/// A load is open from now on.
-pub fn open(loads: &mut IndexMap<u64, LoadRow>, load: u64, row: LoadRow) -> Result<(), AllocError>
-    requires { load_at loads.old load ≡ None }
-    ensures here { OnOk result (load_at loads.new load ≡ Some row) }
-    ensures others { OnOk result ((q : ℕ) → q ≢ load → load_at loads.new q ≡ load_at loads.old q) }
-    ensures err { OnErr result ((q : ℕ) → load_at loads.new q ≡ load_at loads.old q) }
+/// A row comes, under a number that is free.
+pub fn open<R: Copy>(rows: &mut IndexMap<u64, R>, number: u64, row: R) -> Result<(), AllocError>
+    requires { get nat_eq rows.old number ≡ None }
+    ensures here { OnOk result (get nat_eq rows.new number ≡ Some row) }
+    ensures others { OnOk result ((q : ℕ) → q ≢ number → get nat_eq rows.new q ≡ get nat_eq rows.old q) }
+    ensures err { OnErr result ((q : ℕ) → get nat_eq rows.new q ≡ get nat_eq rows.old q) }
 {
-    loads.insert(load, row)?;
+    rows.insert(number, row)?;
     Ok(())
 }
 
-/// A load isn't open any more.
-pub fn close(loads: &mut IndexMap<u64, LoadRow>, load: u64)
-    ensures gone { load_at loads.new load ≡ None }
-    ensures others { (q : ℕ) → q ≢ load → load_at loads.new q ≡ load_at loads.old q }
+/// The row of this number goes.
+pub fn close<R: Copy>(rows: &mut IndexMap<u64, R>, number: u64)
+    ensures gone { get nat_eq rows.new number ≡ None }
+    ensures others { (q : ℕ) → q ≢ number → get nat_eq rows.new q ≡ get nat_eq rows.old q }
 {
-    loads.swap_remove(&load);
+    rows.swap_remove(&number);
 }

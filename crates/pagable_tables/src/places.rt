@@ -31,6 +31,7 @@ fn grow(t: &mut Tables, more: usize)
     ensures grown { (stored : ℕ → Option Blob) (closed : Bool) (failures : ℕ) → Alike (core_of t.old stored closed failures) (core_of t.new stored closed failures) }
     ensures whole { IsWhole t.new }
     ensures loads { t.new.loads ≡ t.old.loads }
+    ensures workers { t.new.workers ≡ t.old.workers }
 {
     let _ = handles::reserve(&mut t.holdings.handles, more);
     grow_list(&mut t.holdings.list, more);

@@ -59,3 +59,10 @@ pub struct LoadRow {
     /// The last handle that was given before it began: all that it owns have greater numbers.
     pub since: u64,
 }
+
+/// Which handles a worker may have: those of numbers above `since`, and that of number `beside`, 0 where it is none.
+#[derive(Clone, Copy)]
+pub struct Reach {
+    pub since: u64,
+    pub beside: u64,
+}

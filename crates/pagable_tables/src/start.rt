@@ -1,7 +1,7 @@
 //! Tables of nothing.
 
 ghost use Rattle.std.specs.Prelude.{◌≡◌, ℕ, [], None};
-ghost use Rattle.pagable_tables.specs.{ByNumber.{counts_at, load_at, known_at}, Core.IsWhole};
+ghost use Rattle.pagable_tables.specs.{ByNumber.{counts_at, load_at, known_at, worker_at}, Core.IsWhole};
 
 use crate::handles;
 use crate::holdings::Holdings;
@@ -16,7 +16,7 @@ pub fn new(alloc: Global) -> Tables
     ensures list { result.holdings.list.items ≡ [] }
     ensures cache { (kind key : ℕ) → known_at result.cache kind key ≡ None }
     ensures loads { (l : ℕ) → load_at result.loads l ≡ None }
-    ensures workers { result.workers.items ≡ [] }
+    ensures workers { (v : ℕ) → worker_at result.workers v ≡ None }
     ensures last { (result.last_node ≡ 0) × (result.holdings.last_handle ≡ 0) × (result.last_load ≡ 0) × (result.last_worker ≡ 0) }
     ensures whole { IsWhole result }
 {
@@ -31,7 +31,7 @@ pub fn new(alloc: Global) -> Tables
         },
         cache: IndexMap::new(alloc),
         loads: IndexMap::new(alloc),
-        workers: Vec::new(alloc),
+        workers: IndexMap::new(alloc),
         last_node: 0,
         last_load: 0,
         last_worker: 0,

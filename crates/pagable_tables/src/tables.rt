@@ -1,7 +1,7 @@
 //! The tables together.
 
 use crate::holdings::Holdings;
-use crate::rows::LoadRow;
+use crate::rows::{LoadRow, Reach};
 use indexmap::IndexMap;
 use pagable_model::{DataKey, NodeNumber};
 
@@ -12,8 +12,8 @@ pub struct Tables {
     /// Which node is known under a kind and a key.
     pub cache: IndexMap<(u32, DataKey), NodeNumber>,
     pub loads: IndexMap<u64, LoadRow>,
-    /// The numbers of the workers at work.
-    pub workers: Vec<u64>,
+    /// The workers at work, and which handles each may have.
+    pub workers: IndexMap<u64, Reach>,
     pub last_node: u64,
     pub last_load: u64,
     pub last_worker: u64,

@@ -1,13 +1,14 @@
 //! Page-out workers: they begin, give up what they have at a node, and end.
 
-ghost use Rattle.std.specs.Prelude.{◌≡◌, ◌==◌, ◌<◌, ◌+◌, ℕ, length, Bool, Option, IfOk, not, nat_eq, true, false};
-ghost use Rattle.pagable_world.specs.{Plain.{Blob, is_in, updated}, Kinds.{is_owner, owner_worker}, Cascade.FallsAnyhow, Workers.{WorkerEnds, is_workers_at}};
+ghost use Rattle.std.specs.Prelude.{◌≡◌, ◌==◌, ◌<◌, ◌+◌, ℕ, length, Bool, Option, IfOk, is_some, not, nat_eq, true, false};
+ghost use Rattle.pagable_world.specs.{Plain.{Blob, updated}, Kinds.{is_owner, owner_worker}, Cascade.FallsAnyhow, Workers.{WorkerEnds, is_workers_at}};
 ghost use Rattle.indexmap.specs.IndexMap.{get};
-ghost use Rattle.pagable_tables.specs.{ByNumber.{counts_at, load_at}, Falling.Sheds, Core.{core_of, IsWhole}, Giving.{BeginsWorker, TakesWorker, LeavesOthers}, Later.AreLater};
+ghost use Rattle.pagable_tables.specs.{ByNumber.{counts_at, load_at, reach_at, worker_at}, Falling.Sheds, Core.{core_of, IsWhole}, Giving.{BeginsWorker, TakesWorker, LeavesOthers}, Later.AreLater};
 
 use crate::giving::{Giving, give_all};
 use crate::listing::take_pending;
-use crate::rows::LoadRow;
+use crate::loads;
+use crate::rows::{LoadRow, Reach};
 use crate::tables::Tables;
 use crate::turning::is_owner;
 use indexmap::IndexMap;
@@ -20,7 +21,7 @@ pub fn worker_begin(t: &mut Tables) -> Result<WorkerNumber, Error>
     requires { IsWhole t.old }
     ensures begun { (stored : ℕ → Option Blob) (closed : Bool) (failures : ℕ) → BeginsWorker (core_of t.old stored closed failures) result (core_of t.new stored closed failures) }
     ensures number { IfOk result (λ v. (v.0 ≡ t.old.last_worker + 1) × (t.new.last_worker ≡ t.old.last_worker + 1)) }
-    ensures more { IfOk result (λ v. (q : ℕ) → is_in t.new.workers.items q ≡ updated (t.old.last_worker + 1) true (is_in t.old.workers.items) q) }
+    ensures more { IfOk result (λ v. (q : ℕ) → is_some (worker_at t.new.workers q) ≡ updated (t.old.last_worker + 1) true (λ u. is_some (worker_at t.old.workers u)) q) }
     ensures same { t.new ≡ record t.old { workers = t.new.workers; last_worker = t.new.last_worker } }
     ensures whole { IsWhole t.new }
     ensures later { AreLater t.old → AreLater t.new }
@@ -29,9 +30,13 @@ pub fn worker_begin(t: &mut Tables) -> Result<WorkerNumber, Error>
         return Err(Error::OutOfMemory);
     }
     let worker = t.last_worker + 1;
-    if t.workers.push(worker).is_err() {
+    let reach = Reach {
+        since: t.holdings.last_handle,
+        beside: 0,
+    };
+    let Ok(()) = loads::open(&mut t.workers, worker, reach) else {
         return Err(Error::OutOfMemory);
-    }
+    };
     t.last_worker = worker;
     Ok(WorkerNumber(worker))
 }
@@ -52,6 +57,19 @@ pub fn worker_take(t: &mut Tables, place: usize) -> Result<WorkerNumber, Error>
     Ok(worker)
 }
 
+/// Which handles this worker may have.
+fn reach_of(workers: &IndexMap<u64, Reach>, worker: WorkerNumber) -> Reach
+    ensures { result ≡ reach_at workers.now worker.0 }
+{
+    match workers.get(&worker.0) {
+        Some(reach) => *reach,
+        None => Reach {
+            since: 0,
+            beside: 0,
+        },
+    }
+}
+
 /// A worker gives up all handles that it has at a node, with all that goes with them.
 pub fn release_node<N: Drop>(
     t: &mut Tables,
@@ -60,15 +78,17 @@ pub fn release_node<N: Drop>(
     node: NodeNumber,
     lists: bool,
 )
-    requires { IsWhole t.old }
+    requires whole { IsWhole t.old }
+    requires later { AreLater t.old }
     ensures released { (stored : ℕ → Option Blob) (closed : Bool) (failures : ℕ) → lists ≡ not closed
         → FallsAnyhow (core_of t.old stored closed failures) (core_of t.old stored closed failures) (is_workers_at (core_of t.old stored closed failures) worker.0 node.0) (core_of t.new stored closed failures) }
     ensures whole { IsWhole t.new }
-    ensures later { AreLater t.old → AreLater t.new }
+    ensures later { AreLater t.new }
     ensures sheds { Sheds (counts_at t.old.holdings.nodes) (get nat_eq values.old) (counts_at t.new.holdings.nodes) (get nat_eq values.new) }
 {
     let giving = Giving::AtNode(worker, node);
-    let _ = give_all(&mut t.holdings, values, &t.loads, giving, 0, lists);
+    let reach = reach_of(&t.workers, worker);
+    let _ = give_all(&mut t.holdings, values, &t.loads, giving, reach, lists);
 }
 
 /// The worker's loads aren't open any more.
@@ -83,17 +103,6 @@ fn close_loads(loads: &mut IndexMap<u64, LoadRow>, worker: WorkerNumber)
     );
 }
 
-/// The worker isn't at work any more.
-fn leave(workers: &mut Vec<u64>, worker: u64)
-    ensures { (v : ℕ) → is_in workers.new.items v ≡ updated worker false (is_in workers.old.items) v }
-{
-    workers.retain(
-        |other: &u64| -> bool
-            ensures { result ≡ not (other.now == worker) }
-        { *other != worker },
-    );
-}
-
 /// A worker ends: its loads are closed, and it gives up whatever it and they still have, with all that goes with it.
 pub fn worker_end<N: Drop>(
     t: &mut Tables,
@@ -101,14 +110,16 @@ pub fn worker_end<N: Drop>(
     worker: WorkerNumber,
     lists: bool,
 )
-    requires { IsWhole t.old }
+    requires whole { IsWhole t.old }
+    requires later { AreLater t.old }
     ensures ended { (stored : ℕ → Option Blob) (closed : Bool) (failures : ℕ) → lists ≡ not closed → WorkerEnds (core_of t.old stored closed failures) worker.0 (core_of t.new stored closed failures) }
     ensures whole { IsWhole t.new }
-    ensures later { AreLater t.old → AreLater t.new }
+    ensures later { AreLater t.new }
     ensures sheds { Sheds (counts_at t.old.holdings.nodes) (get nat_eq values.old) (counts_at t.new.holdings.nodes) (get nat_eq values.new) }
 {
     let giving = Giving::Worker(worker);
-    let _ = give_all(&mut t.holdings, values, &t.loads, giving, 0, lists);
+    let reach = reach_of(&t.workers, worker);
+    let _ = give_all(&mut t.holdings, values, &t.loads, giving, reach, lists);
     close_loads(&mut t.loads, worker);
-    leave(&mut t.workers, worker.0);
+    loads::close(&mut t.workers, worker.0);
 }

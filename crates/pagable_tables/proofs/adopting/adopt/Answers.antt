@@ -1,5 +1,5 @@
 use Rattle.pagable_tables.proofs.{Words.{ℕ, ap, sym, ◌∙◌, not, None, IndexMap, Adopts, load_at, LoadRow, core_of, plain_of, arith, nat_tests}, Adoptions.{adopts-new, adopts-whole, fitting}}
-use Rattle.pagable_tables.proofs.{Adoptions.early-stored, Begun.not-closed, Newer.{adopt-newer, later-so}, keeps.Placed.whole-so}
+use Rattle.pagable_tables.proofs.{Adoptions.early-stored, Begun.not-closed, Newer.{adopt-newer, later-on}, keeps.Placed.whole-so}
 use Rattle.pagable_tables.proofs.adopting.adopt.Goals as goal
 
 pub learn_new-requires-clause-fit : goal.learn_new-requires-clause-fit
@@ -28,5 +28,5 @@ returns-clause-later c =
     let made : Adopts w a.0 c.args.load c.args.kind c.args.key a.1 rs c.learn_new.result w' =
     adopts-new w a.0 c.args.load c.args.kind c.args.key a.1 rs (early-stored c.args.t.now (λ key. None) (not c.args.lists) 0 a.0 c.args.load c.args.kind a.1 rs ∙ a.2) c.requires.unknown c.learn_new.result c.requires.ready.node_left
     (c.learn_new.ensures.next (λ key. None) (not c.args.lists) 0) (returns-clause-adopted c (λ key. None) (not c.args.lists) 0 (not-closed c.args.lists)) in
-    later-so c.requires.later (adopt-newer a.0 c.args.load c.args.kind c.args.key a.1 rs c.learn_new.result made)
-    (λ l load is. sym (ap (λ (m : IndexMap ℕ LoadRow _). load_at m l) c.learn_new.ensures.loads) ∙ is)
+    later-on c.requires.later (adopt-newer a.0 c.args.load c.args.kind c.args.key a.1 rs c.learn_new.result made)
+    c.learn_new.ensures.loads c.learn_new.ensures.workers

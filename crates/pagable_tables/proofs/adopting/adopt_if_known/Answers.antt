@@ -1,6 +1,6 @@
 use Rattle.pagable_tables.proofs.Words.{ap, sym, ◌∙◌, false, not, None, is_some, load_at, core_of, plain_of, subst, Suits, Owner, mode_of, with_handle, Alike, Mode, length, arith, ◌+◌, AllPairs}
 use Rattle.pagable_tables.proofs.{Words.{IsHandleBefore, refl, Falls, is_named_by, Tables, has_value, counts_at}, Adoptions.{not-adopted, adopts-known, adopts-whole, refused-known, fitting, eager}}
-use Rattle.pagable_tables.proofs.{Adoptions.owner-of, Begun.not-closed, Newer.{adopt-newer, later-so}, keeps.CacheCalls.known-suits, keeps.Placed.whole-so, Stays.{begun-made, swapped, loaded-append}}
+use Rattle.pagable_tables.proofs.{Adoptions.owner-of, Begun.not-closed, Newer.{adopt-newer, later-on}, keeps.CacheCalls.known-suits, keeps.Placed.whole-so, Stays.{begun-made, swapped, loaded-append}}
 use Rattle.pagable_tables.proofs.{Stays.{named-loaded, not-named}, Ended.{stays-first, sheds-still}}
 use Rattle.pagable_tables.proofs.adopting.adopt_if_known.Goals as goal
 
@@ -50,7 +50,7 @@ returns-in-Ok-clause-whole g c =
 pub returns-in-Ok-clause-later : goal.returns-in-Ok-clause-later
 returns-in-Ok-clause-later g c =
     let n = adopt-newer c.args.me c.args.load c.args.kind c.args.key c.args.node_type c.args.references.now c.in-Ok.handle (returns-in-Ok-clause-known g c (λ key. None) (not c.args.lists) 0 (not-closed c.args.lists)) in
-    later-so c.requires.later n (λ l load is. sym (ap (λ (u : Tables). load_at u.loads l) c.in-Ok.ensures.same) ∙ is)
+    later-on c.requires.later n (ap (λ (u : Tables). u.loads) c.in-Ok.ensures.same) (ap (λ (u : Tables). u.workers) c.in-Ok.ensures.same)
 
 pub returns-in-Err-clause-refused : goal.returns-in-Err-clause-refused
 returns-in-Err-clause-refused g c stored closed failures =

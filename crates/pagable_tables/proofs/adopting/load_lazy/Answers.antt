@@ -1,6 +1,6 @@
 use Rattle.pagable_tables.proofs.Words.{◌<◌, not, [], arith, ap, sym, ◌∙◌, subst, false, Ok, None, OptionalDataKey, Core, Alike, greatest, Owner, adopted, core_of, plain_of, load_in, nat_tests, Suits}
 use Rattle.pagable_tables.proofs.{Words.key_in, Adoptions.{lazy-not-own, lazy-not-loose, lazy-known, lazy-not-new, lazy-new, key-there}, NewNodes.none-named, Readied.{adopted-past, next-past}}
-use Rattle.pagable_tables.proofs.{Readied.room-newer, keeps.CacheCalls.known-suits, Begun.not-closed, Newer.{lazy-newer, later-so}, keeps.EndCalls.lazy-whole, keeps.Placed.whole-so}
+use Rattle.pagable_tables.proofs.{Readied.room-newer, keeps.CacheCalls.known-suits, Begun.not-closed, Newer.{lazy-newer, later-on}, keeps.EndCalls.lazy-whole, keeps.Placed.whole-so}
 use Rattle.pagable_tables.proofs.adopting.load_lazy.Goals as goal
 
 pub returns-in-Err-clause-lazily : goal.returns-in-Err-clause-lazily
@@ -48,7 +48,7 @@ returns-in-Ok-make_ready_to_learn-clause-whole c =
 pub returns-in-Ok-make_ready_to_learn-clause-later : goal.returns-in-Ok-make_ready_to_learn-clause-later
 returns-in-Ok-make_ready_to_learn-clause-later c =
     let n = lazy-newer c.args.me c.args.load c.args.kind c.args.key (Ok c.learn_new.result) (returns-in-Ok-make_ready_to_learn-clause-lazily c (λ key. None) (not c.args.lists) 0 (not-closed c.args.lists)) in
-    grind (arith, nat_tests, later-so, c.requires.later, c.learn_new.ensures.loads, c.make_ready_to_learn.ensures.loads)
+    later-on c.requires.later n (c.learn_new.ensures.loads ∙ c.make_ready_to_learn.ensures.loads) (c.learn_new.ensures.workers ∙ c.make_ready_to_learn.ensures.workers)
 
 pub returns-in-Err-make_ready_to_learn-clause-later : goal.returns-in-Err-make_ready_to_learn-clause-later
-returns-in-Err-make_ready_to_learn-clause-later c = room-newer (c.make_ready_to_learn.ensures.room (λ key. None) false 0) c.make_ready_to_learn.ensures.loads c.requires.later
+returns-in-Err-make_ready_to_learn-clause-later c = room-newer (c.make_ready_to_learn.ensures.room (λ key. None) false 0) c.make_ready_to_learn.ensures.loads c.make_ready_to_learn.ensures.workers c.requires.later

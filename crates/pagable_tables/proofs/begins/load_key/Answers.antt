@@ -17,5 +17,5 @@ returns-in_default-clause-whole c = whole-so c.requires.whole.steady
 pub returns-clause-later : goal.returns-clause-later
 returns-clause-later c =
     let t = c.args.t.now in
-    later-opened c.requires.whole.core c.requires.later (record { last = omega arith; owned = λ l q own. inl own }) (t.last_load + 1) _ (none-yet (load_at t.loads (t.last_load + 1)) t.last_load (λ some. (c.requires.whole.core.loads.numbered (t.last_load + 1) some).1))
-    c.in-Ok.ensures.here refl c.in-Ok.ensures.others
+    later-opened c.requires.whole.core c.requires.later (record { last = omega arith; kept = λ o q gives own. inl own }) (t.last_load + 1) _ (none-yet (load_at t.loads (t.last_load + 1)) t.last_load (λ some. (c.requires.whole.core.loads.numbered (t.last_load + 1) some).1))
+    c.in-Ok.ensures.here refl c.in-Ok.ensures.others refl

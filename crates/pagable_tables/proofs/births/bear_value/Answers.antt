@@ -1,4 +1,4 @@
-use Rattle.pagable_tables.proofs.{Words.{ap, sym, ◌∙◌, false, None, Counts, Tables, load_at, core_of}, NewNodes.{value-born, value-whole, bears-newer}, Newer.later-so, keeps.Placed.whole-so}
+use Rattle.pagable_tables.proofs.{Words.{ap, sym, ◌∙◌, false, None, Counts, Tables, load_at, core_of}, NewNodes.{value-born, value-whole, bears-newer}, Newer.later-on, keeps.Placed.whole-so}
 use Rattle.pagable_tables.proofs.births.bear_value.Goals as goal
 
 pub returns-clause-born : goal.returns-clause-born
@@ -15,5 +15,5 @@ returns-clause-whole c =
 
 pub returns-clause-later : goal.returns-clause-later
 returns-clause-later c later =
-    later-so later (bears-newer c.args.me c.first_counts.result c.args.references.items c.args.mode c.bear.result (c.bear.ensures.born (λ key. None) false 0))
-    (λ l load is. sym (ap (λ (t : Tables). load_at t.loads l) c.bear.ensures.same) ∙ is)
+    later-on later (bears-newer c.args.me c.first_counts.result c.args.references.items c.args.mode c.bear.result (c.bear.ensures.born (λ key. None) false 0))
+    (ap (λ (t : Tables). t.loads) c.bear.ensures.same) (ap (λ (t : Tables). t.workers) c.bear.ensures.same)

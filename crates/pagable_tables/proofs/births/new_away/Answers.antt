@@ -1,5 +1,5 @@
 use Rattle.pagable_tables.proofs.{Words.{ap, sym, subst, ◌∙◌, Ok, None, false, arith, Mode, Counts, Tables, Bears, load_at, core_of, plain_of}, NewNodes.{none-named, away-born, bears-newer}}
-use Rattle.pagable_tables.proofs.{Newer.later-so, Readied.{room-newer, weaker}, keeps.HandleCalls.away-birth-whole, keeps.Placed.whole-so}
+use Rattle.pagable_tables.proofs.{Newer.later-on, Readied.{room-newer, weaker}, keeps.HandleCalls.away-birth-whole, keeps.Placed.whole-so}
 use Rattle.pagable_tables.proofs.births.new_away.Goals as goal
 
 pub bear-requires-clause-fit : goal.bear-requires-clause-fit
@@ -23,9 +23,9 @@ returns-in-Ok-clause-whole c =
 
 pub returns-in-Ok-clause-later : goal.returns-in-Ok-clause-later
 returns-in-Ok-clause-later c later =
-    let between = room-newer {t = c.args.t.now} {t' = c.make_ready.new.t} (c.make_ready.ensures.room (λ key. None) false 0) (ap (λ (t : Tables). t.loads) c.make_ready.ensures.same) later in
-    later-so between (bears-newer c.args.me c.first_counts-counts.result c.new.result.items Mode.LooseUnpinned c.bear.result (c.bear.ensures.born (λ key. None) false 0))
-    (λ l load is. sym (ap (λ (t : Tables). load_at t.loads l) c.bear.ensures.same) ∙ is)
+    let between = room-newer {t = c.args.t.now} {t' = c.make_ready.new.t} (c.make_ready.ensures.room (λ key. None) false 0) (ap (λ (t : Tables). t.loads) c.make_ready.ensures.same) (ap (λ (t : Tables). t.workers) c.make_ready.ensures.same) later in
+    later-on between (bears-newer c.args.me c.first_counts-counts.result c.new.result.items Mode.LooseUnpinned c.bear.result (c.bear.ensures.born (λ key. None) false 0))
+    (ap (λ (t : Tables). t.loads) c.bear.ensures.same) (ap (λ (t : Tables). t.workers) c.bear.ensures.same)
 
 pub returns-in-Err-clause-later : goal.returns-in-Err-clause-later
-returns-in-Err-clause-later c later = room-newer (c.make_ready.ensures.room (λ key. None) false 0) (ap (λ (t : Tables). t.loads) c.make_ready.ensures.same) later
+returns-in-Err-clause-later c later = room-newer (c.make_ready.ensures.room (λ key. None) false 0) (ap (λ (t : Tables). t.loads) c.make_ready.ensures.same) (ap (λ (t : Tables). t.workers) c.make_ready.ensures.same) later

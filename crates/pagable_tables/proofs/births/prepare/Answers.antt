@@ -9,7 +9,7 @@ pub returns-in-Ok-clause-fit : goal.returns-in-Ok-clause-fit
 returns-in-Ok-clause-fit c = room-fault c.args.me c.args.references.now (c.make_ready.ensures.room (λ key. None) false 0) ∙ c.in_default.ensures.fit (λ key. None) false 0
 
 pub returns-in-Ok-clause-later : goal.returns-in-Ok-clause-later
-returns-in-Ok-clause-later c later = room-newer (c.make_ready.ensures.room (λ key. None) false 0) (ap (λ (t : Tables). t.loads) c.make_ready.ensures.same) later
+returns-in-Ok-clause-later c later = room-newer (c.make_ready.ensures.room (λ key. None) false 0) (ap (λ (t : Tables). t.loads) c.make_ready.ensures.same) (ap (λ (t : Tables). t.workers) c.make_ready.ensures.same) later
 
 pub returns-in-Err-make_ready-clause-refused : goal.returns-in-Err-make_ready-clause-refused
 returns-in-Err-make_ready-clause-refused c stored closed failures =
@@ -18,4 +18,4 @@ returns-in-Err-make_ready-clause-refused c stored closed failures =
     subst (λ f. Refused (earlier f (birth_fault w)) None (Unit {0}) w c.in-Err-make_ready.e w') (sym (c.in_default.ensures.fit stored closed failures)) (weaker (c.in-Err-make_ready.ensures.refused stored closed failures))
 
 pub returns-in-Err-make_ready-clause-later : goal.returns-in-Err-make_ready-clause-later
-returns-in-Err-make_ready-clause-later c later = room-newer (c.make_ready.ensures.room (λ key. None) false 0) (ap (λ (t : Tables). t.loads) c.make_ready.ensures.same) later
+returns-in-Err-make_ready-clause-later c later = room-newer (c.make_ready.ensures.room (λ key. None) false 0) (ap (λ (t : Tables). t.loads) c.make_ready.ensures.same) (ap (λ (t : Tables). t.workers) c.make_ready.ensures.same) later

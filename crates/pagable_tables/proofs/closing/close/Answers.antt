@@ -1,4 +1,5 @@
-use Rattle.pagable_tables.proofs.{Words.{None, false, Ok, arith, shut, core_of, nat_tests}, Entries.{are-entries, begun-shut, cache-anew}, Newer.{close-newer, later-so}, keeps.EndCalls.close-whole}
+use Rattle.pagable_tables.proofs.Words.{refl}
+use Rattle.pagable_tables.proofs.{Words.{None, false, Ok, arith, shut, core_of, nat_tests}, Entries.{are-entries, begun-shut, cache-anew}, Newer.{close-newer, later-on}, keeps.EndCalls.close-whole}
 use Rattle.pagable_tables.proofs.keeps.Placed.{whole-so}
 use Rattle.pagable_tables.proofs.closing.close.Goals as goal
 
@@ -16,4 +17,4 @@ returns-clause-whole g c = whole-so c.give_entries.ensures.steady (close-whole (
 
 pub returns-clause-later : goal.returns-clause-later
 returns-clause-later g c later =
-    later-so later (close-newer (Ok tt) (returns-clause-closed g c (λ key. None) false 0 0 (omega arith))) (λ l load is. is)
+    later-on later (close-newer (Ok tt) (returns-clause-closed g c (λ key. None) false 0 0 (omega arith))) refl refl

@@ -10,7 +10,7 @@ returns-clause-dropped g c stored closed failures e =
     let t = c.args.t.now in
     let l = c.args.load in
     let w = core_of t stored closed failures in
-    let w' = core_of (record t { holdings = c.give_up_load.new.t; loads = c.close.new.loads }) stored closed failures in
+    let w' = core_of (record t { holdings = c.give_up_load.new.t; loads = c.close.new.rows }) stored closed failures in
     let u = without_load w l in
     let falls = c.give_up_load.ensures.falls w u (begun-less t u.loads w.workers stored closed c.args.lists failures c.requires.whole e) (omega arith)
     (λ q own. (c.requires.later.since l.0 c.in-Ok.row q c.in-Ok.ensures.row own, owned-given (plain_of t) (Owner.Load l) q c.requires.whole.core.handles own)) in
@@ -18,7 +18,7 @@ returns-clause-dropped g c stored closed failures e =
       does = inr (
         load_in c.in-Ok.row,
         c.in-Ok.ensures.own stored closed failures,
-        loads-anew w u (with_tables u c.give_up_load.new.t) (is_owned_in w (Owner.Load l)) c.give_up_load.result w'.loads (load-closed (load_at t.loads) (load_at c.close.new.loads) l.0 c.close.ensures.gone c.close.ensures.others) falls,
+        loads-anew w u (with_tables u c.give_up_load.new.t) (is_owned_in w (Owner.Load l)) c.give_up_load.result w'.loads (load-closed (load_at t.loads) (load_at c.close.new.rows) l.0 c.close.ensures.gone c.close.ensures.others) falls,
       );
     }
 
@@ -29,4 +29,4 @@ pub returns-clause-later : goal.returns-clause-later
 returns-clause-later g c =
     let t = c.args.t.now in
     later-so c.requires.later (drop-newer c.args.me c.args.load c.give_up_load.result (returns-clause-dropped g c (λ key. None) (not c.args.lists) 0 (not-closed c.args.lists)))
-    (closed-still (load_at t.loads) (load_at c.close.new.loads) c.args.load.0 c.close.ensures.gone c.close.ensures.others)
+    (closed-still (load_at t.loads) (load_at c.close.new.rows) c.args.load.0 c.close.ensures.gone c.close.ensures.others) refl

@@ -1,9 +1,10 @@
-use Rattle.pagable_tables.proofs.{Words.{refl, arith, option_map, load_at, load_in, nat_tests, inl}, Begun.aside, GivenAll.{bare, given-plain, none-past, one-past, all-past}, Ended.sheds-still}
+use Rattle.pagable_tables.proofs.{Words.{refl, arith, option_map, load_at, load_in, inl, None, [], owns_nothing}, Begun.aside, GivenAll.{bare, given-plain, none-past, one-past, all-past}, Ended.sheds-still}
 use Rattle.pagable_tables.proofs.Ended.{sheds-then}
 use Rattle.pagable_tables.proofs.giving.give_all.Goals as goal
 
 pub loop-at-init : goal.loop-at-init
-loop-at-init g c = grind (arith, nat_tests, aside, none-past, sheds-still, c.requires)
+loop-at-init g c =
+    (aside c.args.t.now None [] owns_nothing c.requires, omega arith, λ before u w loads f few between. none-past before u w c.args.lists c.args.giving c.args.reach (λ q e. (between q e).0) _ c.args.t.now.last_handle (λ q e. (between q e).1) f, sheds-still (record c.args.t.now { unlisted = None }) _ (aside c.args.t.now None [] owns_nothing c.requires))
 
 pub shed-requires-clause-plain : goal.shed-requires-clause-plain
 shed-requires-clause-plain g c =
@@ -18,8 +19,8 @@ loop-at-preserved g c =
     let next = c.shed.ensures.fewer in (
       c.shed.ensures.steady,
       omega arith,
-      λ before u w loads f few between. one-past before u w c.args.lists c.args.giving c.loop-at.t c.shed.new.t c.args.since c.loop-at.left x b.0 b.1 c.in-Some.ensures.found (c.in-Some.ensures.gives w loads)
-          (λ q above below. c.in-Some.ensures.last w q loads above below)
+      λ before u w loads f few between. one-past before u w c.args.lists c.args.giving c.args.reach (λ q e. (between q e).0) c.loop-at.t c.shed.new.t c.loop-at.left x b.0 b.1 c.in-Some.ensures.found (c.in-Some.ensures.gives w loads)
+          (λ q in-reach above below. c.in-Some.ensures.last w q loads in-reach above below)
           (λ given s. c.shed.ensures.so_far before u given s (omega arith) (inl (given-plain w c.args.giving x.owner x.node (c.in-Some.ensures.gives w loads)).1)) (i.2 before u w loads f few between),
       sheds-then i.3 c.shed.ensures.sheds,
     )
@@ -27,7 +28,7 @@ loop-at-preserved g c =
 pub returns-clause-falls : goal.returns-clause-falls
 returns-clause-falls g c before u w loads f few between =
     let i = c.loop-at.invariant in
-    c.fall.ensures.falls before u _ (all-past before u w c.args.lists c.args.giving c.loop-at.t c.args.since c.loop-at.left (λ q e. (between q e).0) (λ q above below. c.in_default.ensures.none w q loads above below)
+    c.fall.ensures.falls before u _ (all-past before u w c.args.lists c.args.giving c.args.reach (λ q e. (between q e).0) c.loop-at.t c.loop-at.left (λ q in-reach below. c.in_default.ensures.none w q loads in-reach below)
     (i.2 before u w loads f few between))
 
 pub returns-clause-sheds : goal.returns-clause-sheds

@@ -1,4 +1,4 @@
-use Rattle.pagable_tables.proofs.Words.{◌≡◌, ℕ, nat_eq, ◌<◌, ◌≤◌, [], length, true, None, Core, nobody, get, live, counts_at, IsFalling, Sheds, owns_nothing, SoFar, gives_row, passes_in, LoadsAre}
+use Rattle.pagable_tables.proofs.Words.{◌≡◌, ℕ, nat_eq, ◌≤◌, [], length, true, None, Core, nobody, get, live, counts_at, IsFalling, Sheds, owns_nothing, SoFar, gives_row, passes_in, InReach, LoadsAre}
 use Rattle.pagable_tables.proofs.GivenAll.{past_of}
 use Rattle.pagable_tables.proofs.giving.give_all.Given as goal
 
@@ -7,7 +7,7 @@ invariant-loop-at g l =
     IsFalling l.t [] owns_nothing
     × (length (live l.t.handles.places.items) ≤ length (live l.fn.t.handles.places.items))
     × ((before u w : Core) → LoadsAre l.loads w → SoFar before u nobody l.lists (record l.fn.t { unlisted = None }) → length (live l.fn.t.handles.places.items) ≤ length u.rows
-    → ((q : ℕ) → passes_in (gives_row w l.giving) u.rows q ≡ true → (l.since < q) × (q ≤ l.fn.t.last_handle)) → SoFar before u (past_of u w l.giving l.left) l.lists l.t)
+    → ((q : ℕ) → passes_in (gives_row w l.giving) u.rows q ≡ true → InReach l.reach q × (q ≤ l.fn.t.last_handle)) → SoFar before u (past_of u w l.giving l.left) l.lists l.t)
     × Sheds (counts_at l.fn.t.nodes) (get nat_eq l.fn.values) (counts_at l.t.nodes) (get nat_eq l.values)
 
 abbrev pub decreases-loop-at : goal.decreases-loop-at

@@ -1,3 +1,4 @@
+use Rattle.pagable_tables.proofs.Words.{ap, Tables}
 use Rattle.pagable_tables.proofs.{Words.{refl, sym, ◌∙◌, false, not, inr, None, Ok, [], owner_value, is_here, live, load_at, core_of, plain_of, arith, nat_tests}, Begun.not-closed, Installed.ended}
 use Rattle.pagable_tables.proofs.{Installed.{has-come, install-newer, none-moves, so-then, ready-owner}, Named.moved-nobody, Newer.{closed-still, later-so}, keeps.HandleCalls.no-references}
 use Rattle.pagable_tables.proofs.{keeps.EndCalls.end-whole, keeps.LoadCalls.may-hold, keeps.Placed.whole-so}
@@ -37,7 +38,7 @@ returns-clause-installs g c stored closed failures e =
           falls = none-moves w l row me c.give_up_load.result _
               (ended t t1 stored closed c.args.lists failures c.requires.whole c.pin_ready-handle.ensures.whole e row p.owned.live me
               (ready-owner t me l c.args.node_type c.args.references.now c.args.ending c.requires.whole p) l [] (no-references _ _) (c.pin_ready-handle.ensures.pinned stored closed failures) c.pin_ready-handle.ensures.same
-              t1.holdings (sym (moved-nobody (owner_value row.node.0) (live t1.holdings.handles.places.items))) refl refl refl (λ m. refl) c.args.ending.load.since c.give_up_load.new.t (load_at c.close.new.loads)
+              t1.holdings (sym (moved-nobody (owner_value row.node.0) (live t1.holdings.handles.places.items))) refl refl refl (λ m. refl) c.args.ending.load.since c.give_up_load.new.t (load_at c.close.new.rows)
               c.give_up_load.result c.give_up_load.ensures.falls (λ q own. c.requires.later.since l.0 c.args.ending.load q c.requires.place.load own) c.close.ensures.gone c.close.ensures.others);
         },
       );
@@ -54,7 +55,8 @@ returns-clause-whole g c =
 pub returns-clause-later : goal.returns-clause-later
 returns-clause-later g c =
     let n = install-newer c.args.me c.args.load _ _ _ _ (returns-clause-installs g c (λ key. None) (not c.args.lists) 0 (not-closed c.args.lists)) in
-    grind (arith, nat_tests, later-so, closed-still, c.requires.later, c.close.ensures.gone, c.close.ensures.others, c.pin_ready-handle.ensures.same)
+    later-so c.requires.later n (λ l load is. closed-still (load_at c.args.t.now.loads) (load_at c.close.new.rows) c.args.load.0 c.close.ensures.gone
+    (λ q other. c.close.ensures.others q other ∙ ap (λ (u : Tables). load_at u.loads q) c.pin_ready-handle.ensures.same) l load is) (ap (λ (u : Tables). u.workers) c.pin_ready-handle.ensures.same)
 
 pub returns-clause-sheds : goal.returns-clause-sheds
 returns-clause-sheds g c =

@@ -1,5 +1,5 @@
 use Rattle.pagable_tables.proofs.Words.{◌≡◌, ◌<◌, ◌+◌, ◌++◌, ◌∷◌, [], sum_by, refl, ap, sym, ◌∙◌, arith, false, not, inl, None, Ok, Owner, Mode, changed, one, is_handle, is_pin, owner_value, is_here}
-use Rattle.pagable_tables.proofs.{Words.{moved, is_named_by, row_of, live, counts_at, refs_at, load_at, has_value, cell_in, core_of, plain_of, nat_tests}, Begun.not-closed, Coming.rows-told}
+use Rattle.pagable_tables.proofs.{Words.{Tables, moved, is_named_by, row_of, live, counts_at, refs_at, load_at, has_value, cell_in, core_of, plain_of, nat_tests}, Begun.not-closed, Coming.rows-told}
 use Rattle.pagable_tables.proofs.{Coming.{some-held, turned}, Fitting.{fits-same, pins-le-held}, Installed.{ended, has-come, install-newer, pins-here, not-so, ready-owner}, Joined.joined-fits}
 use Rattle.pagable_tables.proofs.{Joined.owns-none, Newer.{closed-still, later-so}, Stays.not-named, keeps.Comes.not-a-value, keeps.EndCalls.end-whole, keeps.LoadCalls.may-hold, keeps.Placed.whole-so}
 use Rattle.pagable_tables.proofs.installing.install.Goals as goal
@@ -84,7 +84,7 @@ returns-clause-installs g c stored closed failures e =
           told = c.give_up_load.result;
           falls = ended t t1 stored closed c.args.lists failures c.requires.whole c.pin_ready-handle.ensures.whole e row p.owned.live me
               (ready-owner t me l c.args.node_type rs c.args.ending c.requires.whole p) l rs p.may.good (c.pin_ready-handle.ensures.pinned stored closed failures) c.pin_ready-handle.ensures.same
-              k rows refl refl c.hand_over_all.ensures.capacity (λ m. ap cell_in (c.set_references.ensures.counts m)) c.args.ending.load.since c.give_up_load.new.t (load_at c.close.new.loads)
+              k rows refl refl c.hand_over_all.ensures.capacity (λ m. ap cell_in (c.set_references.ensures.counts m)) c.args.ending.load.since c.give_up_load.new.t (load_at c.close.new.rows)
               c.give_up_load.result c.give_up_load.ensures.falls (λ q own. c.requires.later.since l.0 c.args.ending.load q c.requires.place.load own) c.close.ensures.gone c.close.ensures.others;
         },
       );
@@ -101,7 +101,8 @@ returns-clause-whole g c =
 pub returns-clause-later : goal.returns-clause-later
 returns-clause-later g c =
     let n = install-newer c.args.me c.args.load _ _ _ _ (returns-clause-installs g c (λ key. None) (not c.args.lists) 0 (not-closed c.args.lists)) in
-    grind (arith, nat_tests, later-so, closed-still, c.requires.later, c.close.ensures.gone, c.close.ensures.others, c.pin_ready-handle.ensures.same)
+    later-so c.requires.later n (λ l load is. closed-still (load_at c.args.t.now.loads) (load_at c.close.new.rows) c.args.load.0 c.close.ensures.gone
+    (λ q other. c.close.ensures.others q other ∙ ap (λ (u : Tables). load_at u.loads q) c.pin_ready-handle.ensures.same) l load is) (ap (λ (u : Tables). u.workers) c.pin_ready-handle.ensures.same)
 
 pub returns-clause-sheds : goal.returns-clause-sheds
 returns-clause-sheds g c =

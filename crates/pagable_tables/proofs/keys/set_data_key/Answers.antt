@@ -1,5 +1,5 @@
 use Rattle.pagable_tables.proofs.{Words.{not, None, refl, sym, ◌∙◌, arith, inl, inr, any_mode, nat_tests, subst, GetsKey, counts_at, nobody, core_of}, Alive.row-le-live, Begun.not-closed}
-use Rattle.pagable_tables.proofs.{Coming.some-held, Fitting.held-here, Worlds.{still, owner-same}, keeps.ListCalls.set-key-whole, keeps.Placed.whole-so, Newer.{set-key-newer, later-so}}
+use Rattle.pagable_tables.proofs.{Coming.some-held, Fitting.held-here, Worlds.{still, owner-same}, keeps.ListCalls.set-key-whole, keeps.Placed.whole-so, Newer.{set-key-newer, later-on}}
 use Rattle.pagable_tables.proofs.{Ended.stays-first, KeyPut.keyed-on}
 use Rattle.pagable_tables.proofs.keys.set_data_key.Goals as goal
 
@@ -32,7 +32,7 @@ returns-clause-whole g c = whole-so c.fall.ensures.steady (set-key-whole c.args.
 
 pub returns-clause-later : goal.returns-clause-later
 returns-clause-later g c later =
-    later-so later (set-key-newer c.args.me c.args.handle c.args.key c.fall.result (returns-clause-set g c (λ key. None) (not c.args.lists) 0 (not-closed c.args.lists))) (λ l load is. is)
+    later-on later (set-key-newer c.args.me c.args.handle c.args.key c.fall.result (returns-clause-set g c (λ key. None) (not c.args.lists) 0 (not-closed c.args.lists))) refl refl
 
 pub returns-clause-sheds : goal.returns-clause-sheds
 returns-clause-sheds g c = stays-first c.put_key.ensures.values c.fall.ensures.sheds

@@ -1,6 +1,6 @@
 use Rattle.pagable_tables.proofs.Words.{◌∙◌, ap, refl, subst, false, inl, inr, arith, rules, Ok, None, not, is_unpinned, only_handle, Falls, is_valued, plain_of, core_of, nat_tests}
 use Rattle.pagable_tables.proofs.{keeps.Comes.not-a-value, keeps.Fallen.{may-fall, falls-opened}, keeps.Told.{stays-on, roomy-whole, alike-whole}, keeps.ListCalls.schedule-whole}
-use Rattle.pagable_tables.proofs.{keeps.Placed.whole-so, Begun.{begun-whole, not-closed, shut-then, open-then}, Named.alike-listed, Worlds.{still, owner-same}, Newer.{later-so, schedule-newer}}
+use Rattle.pagable_tables.proofs.{keeps.Placed.whole-so, Begun.{begun-whole, not-closed, shut-then, open-then}, Named.alike-listed, Worlds.{still, owner-same}, Newer.{later-on, schedule-newer}}
 use Rattle.pagable_tables.proofs.listing.schedule_for_paging.Goals as goal
 
 pub returns-in-Err-clause-scheduled : goal.returns-in-Err-clause-scheduled
@@ -47,8 +47,8 @@ returns-in_default-clause-whole g c =
 
 pub returns-then-not-lists-clause-later : goal.returns-then-not-lists-clause-later
 returns-then-not-lists-clause-later g c later =
-    later-so later (schedule-newer c.args.me c.args.handle (Ok tt) (returns-then-not-lists-clause-scheduled g c (λ key. None) (not c.args.lists) 0 (not-closed c.args.lists))) (λ l load is. is)
+    later-on later (schedule-newer c.args.me c.args.handle (Ok tt) (returns-then-not-lists-clause-scheduled g c (λ key. None) (not c.args.lists) 0 (not-closed c.args.lists))) refl refl
 
 pub returns-clause-later : goal.returns-clause-later
 returns-clause-later g c later =
-    later-so later (schedule-newer c.args.me c.args.handle (Ok tt) (returns-clause-scheduled g c (λ key. None) (not c.args.lists) 0 (not-closed c.args.lists))) (λ l load is. is)
+    later-on later (schedule-newer c.args.me c.args.handle (Ok tt) (returns-clause-scheduled g c (λ key. None) (not c.args.lists) 0 (not-closed c.args.lists))) refl refl

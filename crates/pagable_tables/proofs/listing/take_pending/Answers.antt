@@ -1,5 +1,5 @@
-use Rattle.pagable_tables.proofs.{Words.{None, Some, false, ◌∙◌, ap, refl, arith, rules, slice_get_read, moved, only_handle, live, plain_of}, keeps.Comes.not-a-value, keeps.ListCalls.take-whole}
-use Rattle.pagable_tables.proofs.{keeps.Placed.whole-so, Named.alike-listed, Coming.{entry-lives, entry-unvalued}, Newer.{later-so, take-pending-newer}}
+use Rattle.pagable_tables.proofs.{Words.{None, Some, false, inl, inr, ◌<◌, InReach, reach_at, core_of, ◌∙◌, ap, refl, arith, rules, subst, slice_get_read, moved, only_handle, live, plain_of}, keeps.Comes.not-a-value, keeps.ListCalls.take-whole}
+use Rattle.pagable_tables.proofs.{keeps.Placed.whole-so, Named.{alike-listed, at-work-still}, Coming.{entry-lives, entry-unvalued}, Newer.{later-by, load-kept, worker-kept, handle-is}, keeps.Rows.found-among}
 use Rattle.pagable_tables.proofs.listing.take_pending.Goals as goal
 
 pub unreachable-requires : goal.unreachable-requires
@@ -10,11 +10,13 @@ unreachable-requires c =
 
 pub returns-clause-taken : goal.returns-clause-taken
 returns-clause-taken c stored closed failures =
-    let list = c.args.t.now.holdings.list.items in
-    let rows = live c.args.t.now.holdings.handles.places.items in
-    let given = c.hand_over.ensures.rows ∙ ap (λ q. moved (only_handle q) c.args.me rows) c.in-Some.ensures.number in (
+    let t = c.args.t.now in
+    let list = t.holdings.list.items in
+    let rows = live t.holdings.handles.places.items in
+    let given = c.hand_over.ensures.rows ∙ ap (λ q. moved (only_handle q) c.args.me rows) c.in-Some.ensures.number in
+    let w' = core_of (record t { holdings = record t.holdings { handles = c.hand_over.new.handles; list = c.remove-handle.new.self } }) stored closed failures in (
       slice_get_read list _ c.args.place c.remove-handle.result refl (omega arith) c.remove-handle.ensures.value,
-      alike-listed _ _ given c.remove-handle.ensures.items (record { handles = omega arith; entries = omega arith }) refl,
+      at-work-still (alike-listed _ w' given c.remove-handle.ensures.items (record { handles = omega arith; entries = omega arith }) refl) c.reach_to.ensures.at_work,
     )
 
 pub returns-clause-whole : goal.returns-clause-whole
@@ -32,4 +34,13 @@ returns-clause-whole c =
 
 pub returns-clause-later : goal.returns-clause-later
 returns-clause-later c other later =
-    later-so later (take-pending-newer _ _ c.args.me c.args.place (Some c.remove-handle.result) other (returns-clause-taken c (λ key. None) false 0)) (λ l load is. is)
+    let t = c.args.t.now in
+    let h = c.remove-handle.result in
+    let given = c.hand_over.ensures.rows ∙ ap (λ q. moved (only_handle q) c.args.me (live t.holdings.handles.places.items)) c.in-Some.ensures.number in
+    let row = found-among h.0 (live t.holdings.handles.places.items) c.in-Some.at.row c.in-Some.ensures.found in
+    let numbered : 0 < h.0 = (let n = c.requires.whole.core.handles.numbered c.in-Some.at.row row.0 in let a = n.0 in let is = row.1 in omega arith) in
+    later-by later (omega arith) (λ l load is. is) c.reach_to.ensures.less (λ l q own. inl (load-kept t later (only_handle h) c.args.me other _ given l q own))
+    (λ v q own. elim (worker-kept t later (only_handle h) c.args.me other _ given v q own) [
+      | inl had ↦ inl had
+      | inr (mine, is) ↦ inr (inr (subst (λ n. InReach (reach_at c.reach_to.new.workers v) n) (handle-is h q is) (c.reach_to.ensures.here v numbered mine)))
+    ])

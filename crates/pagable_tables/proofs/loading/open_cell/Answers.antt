@@ -8,7 +8,7 @@ come-requires-clause-live c = grind (arith, nat_tests, row-le-live, held-here, s
 pub returns-in-Ok-come-clause-opened : goal.returns-in-Ok-come-clause-opened
 returns-in-Ok-come-clause-opened c stored closed failures =
     let t = c.args.t.now in
-    let a = (c.in-Ok-come.ensures.made (core_of (record t { holdings = c.come.new.t; loads = c.open.new.loads; last_load = t.last_load + 1 }) stored closed failures)).made.1 in
+    let a = (c.in-Ok-come.ensures.made (core_of (record t { holdings = c.come.new.t; loads = c.open.new.rows; last_load = t.last_load + 1 }) stored closed failures)).made.1 in
     grind (arith, nat_tests, load-comes, c.in-Ok.ensures.here, c.in-Ok.ensures.others)
 
 pub returns-in-Err-clause-refused : goal.returns-in-Err-clause-refused
@@ -18,7 +18,7 @@ pub returns-in-Err-clause-stays : goal.returns-in-Err-clause-stays
 returns-in-Err-clause-stays c stored closed failures =
     let t = c.args.t.now in
     let l = t.last_load + 1 in
-    let a = (c.in-Err.ensures.made (core_of (record t { holdings = c.come.new.t; loads = c.close.new.loads }) stored closed failures)).refused.stays in
+    let a = (c.in-Err.ensures.made (core_of (record t { holdings = c.come.new.t; loads = c.close.new.rows }) stored closed failures)).refused.stays in
     grind (arith, nat_tests, load-goes, none-yet, c.requires.whole.core.loads.numbered, c.in-Ok.ensures.others, c.close.ensures.gone, c.close.ensures.others)
 
 pub returns-in-Ok-come-clause-later : goal.returns-in-Ok-come-clause-later
@@ -27,9 +27,9 @@ returns-in-Ok-come-clause-later c =
     let l = t.last_load + 1 in
     let w = plain_of t in
     let n = newer-then (newer-handle w c.args.at.row.node Mode.LooseUnpinned (Owner.Load (record { 0 = l }))) (newer-alike (returns-in-Ok-come-clause-opened c (λ key. None) false 0)) in
-    later-opened c.requires.whole.core c.requires.later n l _ (none-yet (load_at t.loads l) t.last_load (λ some. (c.requires.whole.core.loads.numbered l some).1)) c.in-Ok.ensures.here refl c.in-Ok.ensures.others
+    later-opened c.requires.whole.core c.requires.later n l _ (none-yet (load_at t.loads l) t.last_load (λ some. (c.requires.whole.core.loads.numbered l some).1)) c.in-Ok.ensures.here refl c.in-Ok.ensures.others refl
 
 pub returns-in-Err-clause-later : goal.returns-in-Err-clause-later
 returns-in-Err-clause-later c =
     later-so c.requires.later (newer-alike (returns-in-Err-clause-stays c (λ key. None) false 0))
-    (closed-still (load_at c.args.t.now.loads) (load_at c.close.new.loads) (c.args.t.now.last_load + 1) c.close.ensures.gone (λ q other. c.close.ensures.others q other ∙ c.in-Ok.ensures.others q other))
+    (closed-still (load_at c.args.t.now.loads) (load_at c.close.new.rows) (c.args.t.now.last_load + 1) c.close.ensures.gone (λ q other. c.close.ensures.others q other ∙ c.in-Ok.ensures.others q other)) refl

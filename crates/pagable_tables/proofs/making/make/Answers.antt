@@ -1,4 +1,5 @@
-use Rattle.pagable_tables.proofs.{Words.{arith, counts_at, core_of, plain_of}, Coming.some-held, Newer.{makes-newer, later-so}, keeps.Comes.suits-held, keeps.HandleCalls.makes-whole}
+use Rattle.pagable_tables.proofs.Words.{refl}
+use Rattle.pagable_tables.proofs.{Words.{arith, counts_at, core_of, plain_of}, Coming.some-held, Newer.{makes-newer, later-on}, keeps.Comes.suits-held, keeps.HandleCalls.makes-whole}
 use Rattle.pagable_tables.proofs.keeps.Placed.{whole-so}
 use Rattle.pagable_tables.proofs.making.make.Goals as goal
 
@@ -18,4 +19,4 @@ returns-clause-whole c =
     whole-so c.come.ensures.steady (makes-whole c.args.node c.args.mode c.args.owner c.come.result c.requires.whole.core c.requires.suits c.requires.holder (c.come.ensures.made (plain_of c.args.t.now)))
 
 pub returns-clause-later : goal.returns-clause-later
-returns-clause-later c later = later-so later (makes-newer c.args.node c.args.mode c.args.owner c.come.result (c.come.ensures.made (plain_of c.args.t.now))) (λ l load is. is)
+returns-clause-later c later = later-on later (makes-newer c.args.node c.args.mode c.args.owner c.come.result (c.come.ensures.made (plain_of c.args.t.now))) refl refl

@@ -1,5 +1,5 @@
 use Rattle.pagable_tables.proofs.Words.{◌≡◌, ◌∙◌, ap, subst, false, true, inl, inr, arith, rules, sym, None, is_loose, if_there, Alike, is_here, with_handle, with_mode, is_handle_here, nat_tests}
-use Rattle.pagable_tables.proofs.{Words.{pin_fault, spent, Owns, HandleRow, Mode, Tables, core_of, load_at}, Opened.{handle-first, spent-late}, Worlds.{still, owner-same}, Newer.{pin-newer, later-so}}
+use Rattle.pagable_tables.proofs.{Words.{pin_fault, spent, Owns, HandleRow, Mode, Tables, core_of, load_at}, Opened.{handle-first, spent-late}, Worlds.{still, owner-same}, Newer.{pin-newer, later-on}}
 use Rattle.pagable_tables.proofs.pinning.pin.Goals as goal
 
 pub returns-in-Err-clause-pinned : goal.returns-in-Err-clause-pinned
@@ -32,8 +32,8 @@ returns-in-Err-pin_here-clause-pinned c stored closed failures =
 
 pub returns-in-Ok-pin_here-clause-later : goal.returns-in-Ok-pin_here-clause-later
 returns-in-Ok-pin_here-clause-later c later =
-    later-so later (pin-newer c.args.me c.args.handle _ (returns-in-Ok-pin_here-clause-pinned c (λ key. None) false 0)) (λ l load is. sym (ap (λ (u : Tables). load_at u.loads l) c.in-Ok-pin_here.ensures.same) ∙ is)
+    later-on later (pin-newer c.args.me c.args.handle _ (returns-in-Ok-pin_here-clause-pinned c (λ key. None) false 0)) (ap (λ (u : Tables). u.loads) c.in-Ok-pin_here.ensures.same) (ap (λ (u : Tables). u.workers) c.in-Ok-pin_here.ensures.same)
 
 pub returns-in-Err-pin_here-clause-later : goal.returns-in-Err-pin_here-clause-later
 returns-in-Err-pin_here-clause-later c later =
-    later-so later (pin-newer c.args.me c.args.handle _ (returns-in-Err-pin_here-clause-pinned c (λ key. None) false 0)) (λ l load is. sym (ap (λ (u : Tables). load_at u.loads l) c.in-Err-pin_here.ensures.same) ∙ is)
+    later-on later (pin-newer c.args.me c.args.handle _ (returns-in-Err-pin_here-clause-pinned c (λ key. None) false 0)) (ap (λ (u : Tables). u.loads) c.in-Err-pin_here.ensures.same) (ap (λ (u : Tables). u.workers) c.in-Err-pin_here.ensures.same)

@@ -1,4 +1,4 @@
-use Rattle.pagable_tables.proofs.{Words.{◌<◌, ◌≤◌, refl, subst, rules, ap, sym, None, false, ◌∙◌, load_at}, Newer.{newer-alike, later-so}}
+use Rattle.pagable_tables.proofs.{Words.{◌<◌, ◌≤◌, refl, subst, rules, ap, sym, None, false, ◌∙◌, load_at}, Newer.{newer-alike, later-on}}
 use Rattle.pagable_tables.proofs.places.reserve.Goals as goal
 
 pub returns-then-room-more-clause-reserved : goal.returns-then-room-more-clause-reserved
@@ -12,7 +12,7 @@ returns-clause-reserved c stored closed failures =
     record { stays = c.grow.ensures.grown stored closed failures; enough = subst (λ n. c.args.more ≤ n) (c.room.ensures stored closed failures) enough; wanting = tt }
 
 pub returns-then-room-more-clause-later : goal.returns-then-room-more-clause-later
-returns-then-room-more-clause-later c later = later-so later (newer-alike (c.grow.ensures.grown (λ key. None) false 0)) (λ l load is. sym (ap (λ loads. load_at loads l) c.grow.ensures.loads) ∙ is)
+returns-then-room-more-clause-later c later = later-on later (newer-alike (c.grow.ensures.grown (λ key. None) false 0)) c.grow.ensures.loads c.grow.ensures.workers
 
 pub returns-clause-later : goal.returns-clause-later
-returns-clause-later c later = later-so later (newer-alike (c.grow.ensures.grown (λ key. None) false 0)) (λ l load is. sym (ap (λ loads. load_at loads l) c.grow.ensures.loads) ∙ is)
+returns-clause-later c later = later-on later (newer-alike (c.grow.ensures.grown (λ key. None) false 0)) c.grow.ensures.loads c.grow.ensures.workers

@@ -1,5 +1,5 @@
 use Rattle.pagable_tables.proofs.{Words.{not, None, refl, subst, arith, inl, inr, any_mode, Falls, only_handle, core_of}, Begun.{begun-whole, not-closed}, keeps.ListCalls.release-whole}
-use Rattle.pagable_tables.proofs.{keeps.Placed.whole-so, Worlds.{still, owner-same}, Newer.{release-newer, later-so}}
+use Rattle.pagable_tables.proofs.{keeps.Placed.whole-so, Worlds.{still, owner-same}, Newer.{release-newer, later-on}}
 use Rattle.pagable_tables.proofs.releases.release.Goals as goal
 
 pub returns-in-Err-clause-released : goal.returns-in-Err-clause-released
@@ -26,4 +26,4 @@ returns-clause-whole g c =
 
 pub returns-clause-later : goal.returns-clause-later
 returns-clause-later g c later =
-    later-so later (release-newer c.args.me c.args.handle c.give_back.result (returns-clause-released g c (λ key. None) (not c.args.lists) 0 (not-closed c.args.lists))) (λ l load is. is)
+    later-on later (release-newer c.args.me c.args.handle c.give_back.result (returns-clause-released g c (λ key. None) (not c.args.lists) 0 (not-closed c.args.lists))) refl refl

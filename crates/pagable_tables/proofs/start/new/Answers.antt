@@ -2,4 +2,4 @@ use Rattle.pagable_tables.proofs.{Words.refl, Nothing.nothing-whole}
 use Rattle.pagable_tables.proofs.start.new.Goals as goal
 
 pub returns-clause-whole : goal.returns-clause-whole
-returns-clause-whole c = nothing-whole _ c.empty.ensures.sound c.empty.ensures.places (λ n. rw c.new.ensures.empty refl) c.new-2.ensures.items (λ kind key. rw c.new-3.ensures.empty refl) (λ l. rw c.new-4.ensures.empty refl) c.new-5.ensures.items (refl, refl, refl, refl)
+returns-clause-whole c = nothing-whole _ c.empty.ensures.sound c.empty.ensures.places (λ n. rw c.new.ensures.empty refl) c.new-2.ensures.items (λ kind key. rw c.new-3.ensures.empty refl) (λ l. rw c.new-4.ensures.empty refl) (λ v. rw c.new-5.ensures.empty refl) (refl, refl, refl, refl)

@@ -1,7 +1,7 @@
 use Rattle.pagable_tables.proofs.Words.{not, ◌≡◌, ◌+◌, ◌∙◌, false, None, Ok, Err, Some, inr, refl, ap, sym, subst, arith, IfSome, length, nat_tests, mode_of, OfferCall, with_known, Falls, only_handle}
 use Rattle.pagable_tables.proofs.{Words.{Tables, core_of, plain_of, Offered, load_at, AllPairs, IsHandleBefore, true}, Begun.{open-then, not-closed}, Stays.{found-again, begun-made, swapped}}
 use Rattle.pagable_tables.proofs.{Stays.{values-made, values-still}, Ended.{stays-first, sheds-still}, keeps.CacheCalls.offer-whole, keeps.Comes.{not-a-value, not-list}, keeps.Placed.whole-so}
-use Rattle.pagable_tables.proofs.{keeps.Rows.found-among, Newer.{later-so, offer-newer}}
+use Rattle.pagable_tables.proofs.{keeps.Rows.found-among, Newer.{later-on, offer-newer}}
 use Rattle.pagable_tables.proofs.swapping.offer.Goals as goal
 
 pub give_number-requires-clause-there : goal.give_number-requires-clause-there
@@ -58,15 +58,15 @@ returns-in-Err-cache_put-clause-offered g c stored closed failures e =
 
 pub returns-in-Ok-Some-clause-later : goal.returns-in-Ok-Some-clause-later
 returns-in-Ok-Some-clause-later g c later =
-    later-so later (offer-newer c.args.me c.args.kind c.args.key c.args.handle _ (returns-in-Ok-Some-clause-offered g c (λ key. None) (not c.args.lists) 0 (not-closed c.args.lists)))
-    (λ l load is. sym (ap (λ m. load_at m l) c.cache_put.ensures.loads) ∙ is)
+    later-on later (offer-newer c.args.me c.args.kind c.args.key c.args.handle _ (returns-in-Ok-Some-clause-offered g c (λ key. None) (not c.args.lists) 0 (not-closed c.args.lists)))
+    c.cache_put.ensures.loads c.cache_put.ensures.workers
 
 pub returns-in-Ok-None-clause-later : goal.returns-in-Ok-None-clause-later
 returns-in-Ok-None-clause-later g c later =
-    later-so later (offer-newer c.args.me c.args.kind c.args.key c.args.handle _ (returns-in-Ok-None-clause-offered g c (λ key. None) (not c.args.lists) 0 (not-closed c.args.lists)))
-    (λ l load is. sym (ap (λ m. load_at m l) c.cache_put.ensures.loads) ∙ is)
+    later-on later (offer-newer c.args.me c.args.kind c.args.key c.args.handle _ (returns-in-Ok-None-clause-offered g c (λ key. None) (not c.args.lists) 0 (not-closed c.args.lists)))
+    c.cache_put.ensures.loads c.cache_put.ensures.workers
 
 pub returns-in-Err-cache_put-clause-later : goal.returns-in-Err-cache_put-clause-later
 returns-in-Err-cache_put-clause-later g c later =
-    later-so later (offer-newer c.args.me c.args.kind c.args.key c.args.handle _ (returns-in-Err-cache_put-clause-offered g c (λ key. None) (not c.args.lists) 0 (not-closed c.args.lists)))
-    (λ l load is. sym (ap (λ m. load_at m l) c.cache_put.ensures.loads) ∙ is)
+    later-on later (offer-newer c.args.me c.args.kind c.args.key c.args.handle _ (returns-in-Err-cache_put-clause-offered g c (λ key. None) (not c.args.lists) 0 (not-closed c.args.lists)))
+    c.cache_put.ensures.loads c.cache_put.ensures.workers

@@ -1,5 +1,5 @@
 use Rattle.pagable_tables.proofs.{Words.{ap, subst, rules, sym, None, false, ◌∙◌, is_pinned, Alike, with_mode, Mode, core_of, Tables, load_at}, Worlds.{still, owner-same}}
-use Rattle.pagable_tables.proofs.{keeps.HandleCalls.pinned-unlisted, Newer.{loosen-newer, later-so}}
+use Rattle.pagable_tables.proofs.{keeps.HandleCalls.pinned-unlisted, Newer.{loosen-newer, later-on}}
 use Rattle.pagable_tables.proofs.turning.into_pagable.Goals as goal
 
 pub returns-in-Err-clause-loosened : goal.returns-in-Err-clause-loosened
@@ -24,4 +24,4 @@ turn-requires-clause-unlisted c = pinned-unlisted c.args.handle c.in-Ok.at.row c
 
 pub returns-clause-later : goal.returns-clause-later
 returns-clause-later c later =
-    later-so later (loosen-newer c.args.me c.args.handle _ (returns-clause-loosened c (λ key. None) false 0)) (λ l load is. sym (ap (λ (u : Tables). load_at u.loads l) c.turn.ensures.same) ∙ is)
+    later-on later (loosen-newer c.args.me c.args.handle _ (returns-clause-loosened c (λ key. None) false 0)) (ap (λ (u : Tables). u.loads) c.turn.ensures.same) (ap (λ (u : Tables). u.workers) c.turn.ensures.same)

@@ -1,5 +1,5 @@
 use Rattle.pagable_tables.proofs.{Words.{not, None, refl, inl, is_loose, core_of, with_mode, Mode, nobody, Owns, ap, inr, subst, Falls}, Begun.not-closed, Worlds.{still, owner-same}}
-use Rattle.pagable_tables.proofs.{keeps.ListCalls.unpin-whole, keeps.Placed.whole-so, Newer.{unpin-newer, later-so}, Unpinning.lowered-on, Ended.stays-first}
+use Rattle.pagable_tables.proofs.{keeps.ListCalls.unpin-whole, keeps.Placed.whole-so, Newer.{unpin-newer, later-on}, Unpinning.lowered-on, Ended.stays-first}
 use Rattle.pagable_tables.proofs.unpins.unpin.Goals as goal
 
 pub returns-in-Err-clause-unpinned : goal.returns-in-Err-clause-unpinned
@@ -24,7 +24,7 @@ returns-in-LoosePinned-clause-whole g c =
 
 pub returns-in-LoosePinned-clause-later : goal.returns-in-LoosePinned-clause-later
 returns-in-LoosePinned-clause-later g c later =
-    later-so later (unpin-newer c.args.me c.args.handle c.fall.result (returns-in-LoosePinned-clause-unpinned g c (λ key. None) (not c.args.lists) 0 (not-closed c.args.lists))) (λ l load is. is)
+    later-on later (unpin-newer c.args.me c.args.handle c.fall.result (returns-in-LoosePinned-clause-unpinned g c (λ key. None) (not c.args.lists) 0 (not-closed c.args.lists))) refl refl
 
 pub returns-in-LoosePinned-clause-sheds : goal.returns-in-LoosePinned-clause-sheds
 returns-in-LoosePinned-clause-sheds g c = stays-first c.lower.ensures.values c.fall.ensures.sheds

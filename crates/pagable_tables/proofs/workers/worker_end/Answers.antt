@@ -1,5 +1,5 @@
-use Rattle.pagable_tables.proofs.Words.{◌∙◌, ap, sym, not, refl, None, arith, option_map, without_worker, is_workers, load_at, core_of, plain_of, load_in, with_tables, gives_row, Giving}
-use Rattle.pagable_tables.proofs.{Begun.not-closed, Taken.{begun-less, passes-given, loads-anew, workers-anew, load-leaves, left-was}, Newer.{newer-falls, later-so}, keeps.Placed.whole-so}
+use Rattle.pagable_tables.proofs.Words.{◌∙◌, ap, sym, subst, not, refl, InReach, worker_at, None, arith, option_map, without_worker, is_workers, load_at, core_of, plain_of, load_in, with_tables, gives_row, Giving}
+use Rattle.pagable_tables.proofs.{Begun.not-closed, Taken.{begun-less, passes-given, in-reach, loads-anew, worker-gone, workers-anew, load-leaves, left-was}, Newer.{newer-falls, later-less, less-one}, keeps.Placed.whole-so}
 use Rattle.pagable_tables.proofs.keeps.WorkerCalls.{worker-end-whole}
 use Rattle.pagable_tables.proofs.workers.worker_end.Goals as goal
 
@@ -11,16 +11,16 @@ returns-clause-ended g c stored closed failures e =
     let u = without_worker w v in
     let h = c.give_all.new.t in
     let r = c.give_all.result in
-    let w' = core_of (record t { holdings = h; loads = c.close_loads.new.loads; workers = c.leave.new.workers }) stored closed failures in
-    let falls = c.give_all.ensures.falls w u w (λ l. refl) (begun-less t u.loads u.workers stored closed c.args.lists failures c.requires e) (omega arith)
-    (λ q is. passes-given (gives_row w (Giving.Worker c.args.worker)) (plain_of t) q c.requires.core.handles is) in
+    let w' = core_of (record t { holdings = h; loads = c.close_loads.new.loads; workers = c.close.new.rows }) stored closed failures in
+    let falls = c.give_all.ensures.falls w u w (λ l. refl) (begun-less t u.loads u.workers stored closed c.args.lists failures c.requires.whole e) (omega arith)
+    (λ q is. (subst (λ r. InReach r q) (sym c.reach_of-reach.ensures) (in-reach t c.requires.whole c.requires.later c.args.worker q is), (passes-given (gives_row w (Giving.Worker c.args.worker)) (plain_of t) q c.requires.whole.core.handles is).1)) in
     let loads = loads-anew w u (with_tables u h) (is_workers w v) r w'.loads (λ l. load-leaves v (load_at t.loads l) ∙ ap (option_map load_in) (sym (c.close_loads.ensures l))) falls in
-    record { told = r; falls = workers-anew w u (record (with_tables u h) { loads = w'.loads }) (is_workers w v) r w'.workers (λ q. sym (c.leave.ensures q)) loads }
+    record { told = r; falls = workers-anew w u (record (with_tables u h) { loads = w'.loads }) (is_workers w v) r w'.workers (worker-gone (worker_at t.workers) (worker_at c.close.new.rows) v c.close.ensures.gone c.close.ensures.others) loads }
 
 pub returns-clause-whole : goal.returns-clause-whole
-returns-clause-whole g c = whole-so c.give_all.ensures.steady (worker-end-whole c.args.worker.0 c.requires.core (returns-clause-ended g c (λ key. None) (not c.args.lists) 0 (not-closed c.args.lists)))
+returns-clause-whole g c = whole-so c.give_all.ensures.steady (worker-end-whole c.args.worker.0 c.requires.whole.core (returns-clause-ended g c (λ key. None) (not c.args.lists) 0 (not-closed c.args.lists)))
 
 pub returns-clause-later : goal.returns-clause-later
-returns-clause-later g c later =
-    later-so later (newer-falls (returns-clause-ended g c (λ key. None) (not c.args.lists) 0 (not-closed c.args.lists)).falls)
-    (λ l load is. left-was c.args.worker.0 (load_at c.args.t.now.loads l) load (sym (c.close_loads.ensures l) ∙ is))
+returns-clause-later g c =
+    later-less c.requires.later (newer-falls (returns-clause-ended g c (λ key. None) (not c.args.lists) 0 (not-closed c.args.lists)).falls)
+    (λ l load is. left-was c.args.worker.0 (load_at c.args.t.now.loads l) load (sym (c.close_loads.ensures l) ∙ is)) (less-one c.args.t.now.workers c.close.new.rows c.args.worker.0 c.close.ensures.gone c.close.ensures.others)

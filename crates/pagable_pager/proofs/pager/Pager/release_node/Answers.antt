@@ -5,7 +5,7 @@ pub invariant_of-self : goal.invariant_of-self
 invariant_of-self g c =
     let e = c.release_node.ensures in
     let step = e.released _ _ _ (told-open c.has_closed-lists.ensures) in
-    shed _ _ _ c.self.invariant c.release_node.new.t c.release_node.new.values e.whole (e.later c.self.invariant.later) e.sheds (λ shut. bare-fell step.falls shut (c.self.invariant.state.whole.shut shut)) (λ left. worker_released c.self.invariant.state left c.args.worker.0 c.args.node.0 step)
+    shed _ _ _ c.self.invariant c.release_node.new.t c.release_node.new.values e.whole e.later e.sheds (λ shut. bare-fell step.falls shut (c.self.invariant.state.whole.shut shut)) (λ left. worker_released c.self.invariant.state left c.args.worker.0 c.args.node.0 step)
 
 pub returns-clause-step : goal.returns-clause-step
 returns-clause-step g c = rw (← c.self.view_is) (c.release_node.ensures.released _ _ _ (told-open c.has_closed-lists.ensures))

@@ -1,5 +1,5 @@
 use Rattle.pagable_tables.proofs.{Words.{◌-◌, arith, gives_row}, GivenAll.{none-from, below-to, place-got, row-there}}
-use Rattle.pagable_tables.proofs.giving.last_given.Goals as goal
+use Rattle.pagable_tables.proofs.giving.last_above.Goals as goal
 
 pub returns-then-found-since-clause-none : goal.returns-then-found-since-clause-none
 returns-then-found-since-clause-none c w q loads above below =

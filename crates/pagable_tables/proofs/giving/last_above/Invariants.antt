@@ -1,5 +1,5 @@
 use Rattle.pagable_tables.proofs.Words.{◌≡◌, ℕ, ◌<◌, ◌≤◌, length, get_or, true, Core, Place, gives_row, LoadsAre}
-use Rattle.pagable_tables.proofs.giving.last_given.Given as goal
+use Rattle.pagable_tables.proofs.giving.last_above.Given as goal
 
 abbrev pub invariant-loop-place : goal.invariant-loop-place
 invariant-loop-place l =
