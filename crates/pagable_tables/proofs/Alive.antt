@@ -2,7 +2,8 @@
 use Rattle.pagable_tables.proofs.Words.{◌≡◌, ℕ, ◌+◌, ◌<◌, ◌≤◌, ◌==◌, Bool, true, false, if◌then◌else◌, List, [], ◌∷◌, ◌++◌, length, get_or, set, suc, zero, sum_by, All, filter, refl, ap, sym, subst}
 use Rattle.pagable_tables.proofs.Words.{◌∙◌, arith, Some, None, slice_get, nat_tests, sum_by-cons, All-tail, All-set, ◌≢◌, ◌⊎◌, cases_eq, get_or_default, get_or_from_slice_get, slice_get_within}
 use Rattle.pagable_tables.proofs.Words.{sum_by-set, get_or-le-sum_by, sum_by-le-sum_by, HandleRow, one, changed, find_row, is_handle, left_rows, IsNext, live, alive, is_live_place, IsBefore, Place}
-use Rattle.pagable_tables.proofs.{Words.{AllPairs, times, get_or-set_other, length-set, get_or-set_at}, Left.left-none}
+use Rattle.pagable_tables.proofs.{Words.{AllPairs, times, take, get_or-set_other, length-set, get_or-set_at}, Left.left-none}
+use Rattle.std.proofs.lemmas.List.{get_or-take, length-take-le}
 
 -- the rows but for one number
 abbrev without : ℕ → List HandleRow → List HandleRow
@@ -24,6 +25,20 @@ length-live-le (s ∷ ss) = grind (arith, nat_tests, length-live-le ss)
 pub live-push : (ss : List Place) (row : HandleRow) → live (ss ++ alive row ∷ []) ≡ live ss ++ row ∷ []
 live-push [] row = refl
 live-push (s ∷ ss) row = grind (arith, nat_tests, live-push ss row)
+
+-- a dead place more
+pub take-dead : (ss : List Place) (n : ℕ) (d : Place) → n < length ss → (get_or ss n d).is_live ≡ false → live (take (suc n) ss) ≡ live (take n ss)
+take-dead [] n d within dead = absurd (omega arith)
+take-dead (s ∷ ss) zero d within dead = grind (arith, nat_tests)
+take-dead (s ∷ ss) (suc n) d within dead = let rest = take-dead ss n d (omega arith) dead in grind (arith, nat_tests)
+
+pub pairs-take : (n : ℕ) (ss : List Place) → n ≤ length ss → AllPairs IsBefore ss → AllPairs IsBefore (take n ss)
+pairs-take n ss within ordered i j d less lt =
+    let e = length-take-le n ss within in
+    let a = ap (λ (p : Place). p.row.number.0) (get_or-take n ss i d (omega arith)) in
+    let b = ap (λ (p : Place). p.row.number.0) (get_or-take n ss j d (omega arith)) in
+    let o = ordered i j d less (omega arith) in
+    omega arith
 
 -- what a place weighs
 abbrev pub weigh : (HandleRow → ℕ) → Place → ℕ

@@ -1,9 +1,9 @@
 -- What loads own is what they owned, or has come since.
 use Rattle.pagable_tables.proofs.Words.{◌≡◌, ℕ, ◌+◌, ◌<◌, ◌≤◌, ◌++◌, ◌∷◌, [], Bool, true, false, not, List, refl, ap, sym, ◌∙◌, arith, Option, Some, None, inl, inr, ◌⊎◌, ◌≢◌, Result, Ok, Err, is_some}
-use Rattle.pagable_tables.proofs.Words.{option_map, cases_eq, Error, HandleNumber, LoadNumber, NodeNumber, HandleRow, Owner, Mode, Pinning, Kind, ArcRef, OptionalDataKey, if_there, is_in, type_of}
+use Rattle.pagable_tables.proofs.Words.{option_map, cases_eq, Error, HandleNumber, LoadNumber, NodeNumber, HandleRow, Owner, Mode, Pinning, Kind, ArcRef, OptionalDataKey, if_there, type_of}
 use Rattle.pagable_tables.proofs.Words.{changed, is_handle, is_owner, is_owned_by, owner_value, find_row, mode_of, Core, Last, Alike, Falls, only_handle, with_handle, with_node, next_node}
-use Rattle.pagable_tables.proofs.Words.{with_cached_if_open, is_named_by, moved, with_mode, LoosenCall, PinCall, UnpinCall, ReleaseCall, SetKeyCall, ScheduleCall, TakeCall, OfferCall, CloseCall}
-use Rattle.pagable_tables.proofs.Words.{is_owned_in, numbers_of, adopted, first_key, Adopts, DropCall, HandOverCall, LazyCall, LoadRow, Tables, load_at, plain_of, load_in, Makes, AreLater, nat_tests, Among, subst, owner_worker, reach_at, InReach, IsNoLess, Reach, IndexMap, worker_at, anywhere}
+use Rattle.pagable_tables.proofs.Words.{with_cached_if_open, is_named_by, moved, with_mode, LoosenCall, PinCall, UnpinCall, ReleaseCall, SetKeyCall, ScheduleCall, OfferCall, CloseCall}
+use Rattle.pagable_tables.proofs.Words.{is_owned_in, adopted, first_key, Adopts, DropCall, LazyCall, LoadRow, Tables, load_at, plain_of, load_in, Makes, AreLater, nat_tests, Among, subst, owner_worker, reach_at, InReach, IsNoLess, Reach, IndexMap, worker_at, anywhere}
 use Rattle.std.specs.Option.{option_map_or}
 use Rattle.pagable_tables.proofs.{Regiven.{owned, passes-here, passes-left, no-entry, unlisting}, Taken.owned-moved, Bits.{and-left, had}, Worlds.owner-same, keeps.Rows.{found-among, found-push}}
 use Rattle.pagable_world.specs.Pager as pager
@@ -62,7 +62,7 @@ newer-falls {before} {u} {w'} falls =
     record {
       last = (let e = ap (λ (l : Last). l.handle) falls.leaves.last in omega arith);
       kept = λ o q gives own. inl (had (falls.gone q) (owned o q u.rows) (sym (ap (owned o q) falls.leaves.rows
-        ∙ passes-left (is_owned_by o) q falls.gone falls.entries u.rows (no-entry (is_owned_by o) q (unlisting o (not-giver o Owner.List gives refl)) u.last.handle falls.entries falls.new)) ∙ own));
+          ∙ passes-left (is_owned_by o) q falls.gone falls.entries u.rows (no-entry (is_owned_by o) q (unlisting o (not-giver o Owner.List gives refl)) u.last.handle falls.entries falls.new)) ∙ own));
     }
 
 -- the open loads are ones that were open, and what a worker got besides is in its reach

@@ -3,7 +3,7 @@ use Rattle.pagable_tables.proofs.Words.{◌≡◌, ℕ, ◌<◌, ◌==◌, ◌&&
 use Rattle.pagable_tables.proofs.Words.{sum_by-cons, HandleNumber, LoadNumber, HandleRow, Owner, Blob, Among, one, times, is_in, is_handle, is_owner, is_owned_by, is_pin, is_share, find_row, pins}
 use Rattle.pagable_tables.proofs.Words.{Core, HasRoom, MayOwnLoad, load_fault, named_fault, nobody, moved, without_load, numbers_of, hand_over_fault, Tables, Holdings, live, is_valued, with_tables}
 use Rattle.pagable_tables.proofs.Words.{is_plain_pin, SoFar, core_of, named_at, IsNamed, ◌≤◌, Some, ◌≢◌, Result, option_map, Error, updated, if_there, OpenLoad, Falls, is_owned_in, LoadRow, passes_in}
-use Rattle.pagable_tables.proofs.{Words.{load_in, ◌+◌, ◌++◌, filter, Ok, TakeCall, is_workers_load, with_worker, left_load}, Begun.{begins, begun}, Handed.{seen-all, in-there}, Regiven.owned}
+use Rattle.pagable_tables.proofs.{Words.{load_in, ◌+◌, Ok, TakeCall, is_workers_load, with_worker, left_load}, Begun.{begins, begun}, Handed.{seen-all, in-there}, Regiven.owned}
 use Rattle.pagable_tables.proofs.Words.{NodeNumber, Giving, gives_row, AreLater, InReach, Reach, reach_at, worker_at, is_some, plain_of, cases_Bool, inl, inr, ◌||◌}
 use Rattle.pagable_tables.proofs.{Bits.and-left, Opened.owner-self, Words.{load_at, refused_if}}
 use Rattle.pagable_world.specs.Workers.{is_load_of}

@@ -7,12 +7,11 @@ ghost use Rattle.pagable_tables.specs.{declared.rows.Place.Place, Live.{live, al
 ghost use Rattle.pagable_tables.specs.Giving.{gives_row, passes_in, InReach, LoadsAre};
 
 use crate::cascade::{fall, shed};
-use crate::handles;
 use crate::handles::Handles;
 use crate::holdings::Holdings;
-use crate::loads;
 use crate::rows::{HandleAt, LoadRow, Place, Reach};
 use crate::turning::is_owner;
+use crate::{handles, loads};
 use indexmap::IndexMap;
 use pagable_model::{Error, HandleNumber, LoadNumber, NodeNumber, WorkerNumber};
 use pagable_world::handles::{HandleRow, Owner};

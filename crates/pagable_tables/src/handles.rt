@@ -1,6 +1,6 @@
-//! Live handles in the order of their numbers, found by halving. A dead row stays in its place until more than half are dead.
+//! Live handles in the order of their numbers, found by halving. A dead row stays in its place until none behind it lives, or more than half are dead.
 
-ghost use Rattle.std.specs.Prelude.{vec_len, vec_capacity, ◌≡◌, ℕ, ◌+◌, ◌-◌, ◌<◌, ◌≤◌, ◌++◌, ◌∷◌, [], length, sum_by, slice_get, Some, None, IfNone, IfSome, OnOk, OnErr, true, false, ◌*◌, Option};
+ghost use Rattle.std.specs.Prelude.{vec_len, vec_capacity, ◌≡◌, ℕ, ◌+◌, ◌-◌, ◌<◌, ◌≤◌, ◌++◌, ◌∷◌, [], length, sum_by, slice_get, Some, None, IfNone, IfSome, OnOk, OnErr, true, false, ◌*◌, Option, take};
 ghost use Rattle.std.specs.{Prelude.IsOk, List.AllPairs};
 ghost use Rattle.pagable_world.specs.{Plain.changed, Kinds.{find_row, is_handle}, Cascade.{left_rows, only_handle}, declared.handles.HandleRow.HandleRow};
 ghost use Rattle.pagable_tables.specs.Live.{IsBefore, AreSound, live, alive, room, IsNext};
@@ -60,7 +60,27 @@ fn find(places: &[Place], number: u64) -> Option<HandleAt>
     None
 }
 
-/// The same, if it stands where it would stand were no number missing.
+/// The same, if it stands at this place.
+fn at(places: &[Place], place: usize, number: u64) -> Option<HandleAt>
+    requires { AllPairs IsBefore places.now }
+    ensures place { IfSome result (λ at. slice_get places.now at.place ≡ Some (alive at.row)) }
+    ensures found { IfSome result (λ at. find_row number (live places.now) ≡ Some at.row) }
+    ensures number { IfSome result (λ at. at.row.number.0 ≡ number) }
+{
+    if place >= places.len() {
+        return None;
+    }
+    let found = places[place];
+    if found.row.number.0 == number && found.is_live {
+        return Some(HandleAt {
+            place,
+            row: found.row,
+        });
+    }
+    None
+}
+
+/// The same, if it stands where it would stand were no number missing from the first one to it, or from it to the last one.
 fn at_once(places: &[Place], number: u64) -> Option<HandleAt>
     requires { AllPairs IsBefore places.now }
     ensures place { IfSome result (λ at. slice_get places.now at.place ≡ Some (alive at.row)) }
@@ -70,21 +90,17 @@ fn at_once(places: &[Place], number: u64) -> Option<HandleAt>
     if places.is_empty() || number < places[0].row.number.0 {
         return None;
     }
-    let middle = (number - places[0].row.number.0) as usize;
-    if middle >= places.len() {
-        return None;
+    let end = places.len() - 1;
+    match at(places, (number - places[0].row.number.0) as usize, number) {
+        Some(at) => Some(at),
+        None => {
+            let back = places[end].row.number.0.saturating_sub(number) as usize;
+            at(places, end.saturating_sub(back), number)
+        }
     }
-    let place = places[middle];
-    if place.row.number.0 == number && place.is_live {
-        return Some(HandleAt {
-            place: middle,
-            row: place.row,
-        });
-    }
-    None
 }
 
-/// The live handle of this number, with its place. It costs a look where numbers are dense, and else the logarithm of their count.
+/// The live handle of this number, with its place. It costs a look where numbers before it are dense or those behind it, and else the logarithm of their count.
 pub fn look(handles: &Handles, number: HandleNumber) -> Option<HandleAt>
     requires { AreSound handles.now }
     ensures none { IfNone result (find_row number.0 (live handles.now.places.items) ≡ None) }
@@ -123,6 +139,38 @@ fn compact(handles: &mut Handles)
     handles.dead = 0;
 }
 
+/// How many places there are up to the last live one.
+fn live_end(places: &[Place]) -> usize
+    ensures within { result ≤ length places.now }
+    ensures rows { live (take result places.now) ≡ live places.now }
+{
+    let mut end = places.len();
+    while end > 0 {
+        let last = places[end - 1];
+        if last.is_live {
+            return end;
+        }
+        end -= 1;
+    }
+    0
+}
+
+/// Clears dead rows away: those at the end, so that who looks from there meets few of them, and all where more than half are dead.
+fn clear(handles: &mut Handles)
+    requires { AreSound handles.old }
+    ensures sound { AreSound handles.new }
+    ensures rows { live handles.new.places.items ≡ live handles.old.places.items }
+    ensures capacity { vec_capacity handles.new.places ≡ vec_capacity handles.old.places }
+    ensures next { (q : ℕ) → IsNext q handles.old.places.items → IsNext q handles.new.places.items }
+{
+    let end = live_end(&handles.places);
+    handles.dead -= handles.places.len() - end;
+    handles.places.truncate(end);
+    if handles.dead > handles.places.len() - handles.dead {
+        compact(handles);
+    }
+}
+
 /// The handle at this place dies.
 pub fn kill(handles: &mut Handles, at: HandleAt)
     requires sound { AreSound handles.old }
@@ -138,9 +186,7 @@ pub fn kill(handles: &mut Handles, at: HandleAt)
         is_live: false,
     };
     handles.dead += 1;
-    if handles.dead > handles.places.len() - handles.dead {
-        compact(handles);
-    }
+    clear(handles);
 }
 
 /// The handle at this place has another row from now on, of the same number.

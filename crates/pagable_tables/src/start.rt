@@ -1,7 +1,7 @@
 //! Tables of nothing.
 
 ghost use Rattle.std.specs.Prelude.{◌≡◌, ℕ, [], None};
-ghost use Rattle.pagable_tables.specs.{ByNumber.{counts_at, load_at, known_at, worker_at}, Core.IsWhole};
+ghost use Rattle.pagable_tables.specs.{ByNumber.{counts_at, load_at, known_at, worker_at}, Core.IsWhole, Later.AreLater};
 
 use crate::handles;
 use crate::holdings::Holdings;
@@ -19,6 +19,7 @@ pub fn new(alloc: Global) -> Tables
     ensures workers { (v : ℕ) → worker_at result.workers v ≡ None }
     ensures last { (result.last_node ≡ 0) × (result.holdings.last_handle ≡ 0) × (result.last_load ≡ 0) × (result.last_worker ≡ 0) }
     ensures whole { IsWhole result }
+    ensures later { AreLater result }
 {
     Tables {
         holdings: Holdings {

@@ -1,4 +1,4 @@
-use Rattle.pagable_tables.proofs.{Words.{ℕ, ap, sym, ◌∙◌, not, None, IndexMap, Adopts, load_at, LoadRow, core_of, plain_of, arith, nat_tests}, Adoptions.{adopts-new, adopts-whole, fitting}}
+use Rattle.pagable_tables.proofs.{Words.{◌∙◌, not, None, Adopts, core_of, plain_of, arith, nat_tests}, Adoptions.{adopts-new, adopts-whole, fitting}}
 use Rattle.pagable_tables.proofs.{Adoptions.early-stored, Begun.not-closed, Newer.{adopt-newer, later-on}, keeps.Placed.whole-so}
 use Rattle.pagable_tables.proofs.adopting.adopt.Goals as goal
 

@@ -1,4 +1,4 @@
-use Rattle.pagable_tables.proofs.Words.{ap, sym, ◌∙◌, false, not, None, is_some, load_at, core_of, plain_of, subst, Suits, Owner, mode_of, with_handle, Alike, Mode, length, arith, ◌+◌, AllPairs}
+use Rattle.pagable_tables.proofs.Words.{ap, sym, ◌∙◌, false, not, None, is_some, core_of, plain_of, subst, Suits, Owner, mode_of, with_handle, Alike, Mode, length, arith, ◌+◌, AllPairs}
 use Rattle.pagable_tables.proofs.{Words.{IsHandleBefore, refl, Falls, is_named_by, Tables, has_value, counts_at}, Adoptions.{not-adopted, adopts-known, adopts-whole, refused-known, fitting, eager}}
 use Rattle.pagable_tables.proofs.{Adoptions.owner-of, Begun.not-closed, Newer.{adopt-newer, later-on}, keeps.CacheCalls.known-suits, keeps.Placed.whole-so, Stays.{begun-made, swapped, loaded-append}}
 use Rattle.pagable_tables.proofs.{Stays.{named-loaded, not-named}, Ended.{stays-first, sheds-still}}

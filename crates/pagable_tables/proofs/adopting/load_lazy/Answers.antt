@@ -1,4 +1,4 @@
-use Rattle.pagable_tables.proofs.Words.{◌<◌, not, [], arith, ap, sym, ◌∙◌, subst, false, Ok, None, OptionalDataKey, Core, Alike, greatest, Owner, adopted, core_of, plain_of, load_in, nat_tests, Suits}
+use Rattle.pagable_tables.proofs.Words.{◌<◌, not, [], arith, ap, sym, ◌∙◌, subst, false, Ok, None, OptionalDataKey, Core, Alike, greatest, Owner, adopted, core_of, plain_of, load_in, Suits}
 use Rattle.pagable_tables.proofs.{Words.key_in, Adoptions.{lazy-not-own, lazy-not-loose, lazy-known, lazy-not-new, lazy-new, key-there}, NewNodes.none-named, Readied.{adopted-past, next-past}}
 use Rattle.pagable_tables.proofs.{Readied.room-newer, keeps.CacheCalls.known-suits, Begun.not-closed, Newer.{lazy-newer, later-on}, keeps.EndCalls.lazy-whole, keeps.Placed.whole-so}
 use Rattle.pagable_tables.proofs.adopting.load_lazy.Goals as goal

@@ -1,4 +1,4 @@
-use Rattle.pagable_tables.proofs.{Words.{ap, sym, ◌∙◌, false, None, Counts, Tables, load_at, core_of}, NewNodes.{value-born, value-whole, bears-newer}, Newer.later-on, keeps.Placed.whole-so}
+use Rattle.pagable_tables.proofs.{Words.{ap, false, None, Counts, Tables, core_of}, NewNodes.{value-born, value-whole, bears-newer}, Newer.later-on, keeps.Placed.whole-so}
 use Rattle.pagable_tables.proofs.births.bear_value.Goals as goal
 
 pub returns-clause-born : goal.returns-clause-born

@@ -1,4 +1,4 @@
-use Rattle.pagable_tables.proofs.{Words.{ap, sym, subst, ◌∙◌, Ok, None, false, arith, Mode, Counts, Tables, Bears, load_at, core_of, plain_of}, NewNodes.{none-named, away-born, bears-newer}}
+use Rattle.pagable_tables.proofs.{Words.{ap, subst, ◌∙◌, Ok, None, false, arith, Mode, Counts, Tables, Bears, core_of, plain_of}, NewNodes.{none-named, away-born, bears-newer}}
 use Rattle.pagable_tables.proofs.{Newer.later-on, Readied.{room-newer, weaker}, keeps.HandleCalls.away-birth-whole, keeps.Placed.whole-so}
 use Rattle.pagable_tables.proofs.births.new_away.Goals as goal
 

@@ -1,5 +1,5 @@
 use Rattle.pagable_tables.proofs.Words.{ap, Tables}
-use Rattle.pagable_tables.proofs.{Words.{refl, sym, ◌∙◌, false, not, inr, None, Ok, [], owner_value, is_here, live, load_at, core_of, plain_of, arith, nat_tests}, Begun.not-closed, Installed.ended}
+use Rattle.pagable_tables.proofs.{Words.{refl, sym, ◌∙◌, false, not, inr, None, Ok, [], owner_value, is_here, live, load_at, core_of, plain_of}, Begun.not-closed, Installed.ended}
 use Rattle.pagable_tables.proofs.{Installed.{has-come, install-newer, none-moves, so-then, ready-owner}, Named.moved-nobody, Newer.{closed-still, later-so}, keeps.HandleCalls.no-references}
 use Rattle.pagable_tables.proofs.{keeps.EndCalls.end-whole, keeps.LoadCalls.may-hold, keeps.Placed.whole-so}
 use Rattle.pagable_tables.proofs.installing.end_beside.Goals as goal

@@ -1,5 +1,5 @@
-use Rattle.pagable_tables.proofs.Words.{◌≡◌, ◌∙◌, ap, subst, false, true, inl, inr, arith, rules, sym, None, is_loose, if_there, Alike, is_here, with_handle, with_mode, is_handle_here, nat_tests}
-use Rattle.pagable_tables.proofs.{Words.{pin_fault, spent, Owns, HandleRow, Mode, Tables, core_of, load_at}, Opened.{handle-first, spent-late}, Worlds.{still, owner-same}, Newer.{pin-newer, later-on}}
+use Rattle.pagable_tables.proofs.Words.{◌≡◌, ◌∙◌, ap, subst, false, true, inl, inr, arith, rules, None, is_loose, if_there, Alike, is_here, with_handle, with_mode, is_handle_here, nat_tests}
+use Rattle.pagable_tables.proofs.{Words.{pin_fault, spent, Owns, HandleRow, Mode, Tables, core_of}, Opened.{handle-first, spent-late}, Worlds.{still, owner-same}, Newer.{pin-newer, later-on}}
 use Rattle.pagable_tables.proofs.pinning.pin.Goals as goal
 
 pub returns-in-Err-clause-pinned : goal.returns-in-Err-clause-pinned

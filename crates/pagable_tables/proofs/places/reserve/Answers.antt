@@ -1,4 +1,4 @@
-use Rattle.pagable_tables.proofs.{Words.{◌<◌, ◌≤◌, refl, subst, rules, ap, sym, None, false, ◌∙◌, load_at}, Newer.{newer-alike, later-on}}
+use Rattle.pagable_tables.proofs.{Words.{◌<◌, ◌≤◌, refl, subst, rules, None, false}, Newer.{newer-alike, later-on}}
 use Rattle.pagable_tables.proofs.places.reserve.Goals as goal
 
 pub returns-then-room-more-clause-reserved : goal.returns-then-room-more-clause-reserved

@@ -1,5 +1,5 @@
-use Rattle.pagable_tables.proofs.Words.{not, ◌≡◌, ◌+◌, ◌∙◌, false, None, Ok, Err, Some, inr, refl, ap, sym, subst, arith, IfSome, length, nat_tests, mode_of, OfferCall, with_known, Falls, only_handle}
-use Rattle.pagable_tables.proofs.{Words.{Tables, core_of, plain_of, Offered, load_at, AllPairs, IsHandleBefore, true}, Begun.{open-then, not-closed}, Stays.{found-again, begun-made, swapped}}
+use Rattle.pagable_tables.proofs.Words.{not, ◌≡◌, ◌+◌, false, None, Ok, Err, Some, inr, refl, ap, sym, subst, arith, IfSome, length, nat_tests, mode_of, OfferCall, with_known, Falls, only_handle}
+use Rattle.pagable_tables.proofs.{Words.{Tables, core_of, plain_of, Offered, AllPairs, IsHandleBefore, true}, Begun.{open-then, not-closed}, Stays.{found-again, begun-made, swapped}}
 use Rattle.pagable_tables.proofs.{Stays.{values-made, values-still}, Ended.{stays-first, sheds-still}, keeps.CacheCalls.offer-whole, keeps.Comes.{not-a-value, not-list}, keeps.Placed.whole-so}
 use Rattle.pagable_tables.proofs.{keeps.Rows.found-among, Newer.{later-on, offer-newer}}
 use Rattle.pagable_tables.proofs.swapping.offer.Goals as goal

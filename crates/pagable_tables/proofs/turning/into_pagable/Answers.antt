@@ -1,4 +1,4 @@
-use Rattle.pagable_tables.proofs.{Words.{ap, subst, rules, sym, None, false, ◌∙◌, is_pinned, Alike, with_mode, Mode, core_of, Tables, load_at}, Worlds.{still, owner-same}}
+use Rattle.pagable_tables.proofs.{Words.{ap, subst, rules, None, false, is_pinned, Alike, with_mode, Mode, core_of, Tables}, Worlds.{still, owner-same}}
 use Rattle.pagable_tables.proofs.{keeps.HandleCalls.pinned-unlisted, Newer.{loosen-newer, later-on}}
 use Rattle.pagable_tables.proofs.turning.into_pagable.Goals as goal
 

@@ -8,7 +8,7 @@ returns-in-Err-clause-refused g c stored closed failures =
     (c.in-Err.ensures.refused stored closed failures)
 
 pub returns-in-Err-clause-later : goal.returns-in-Err-clause-later
-returns-in-Err-clause-later g c = room-newer (c.make_ready_to_learn.ensures.room (λ key. None) false 0) c.make_ready_to_learn.ensures.loads c.requires.later
+returns-in-Err-clause-later g c = room-newer (c.make_ready_to_learn.ensures.room (λ key. None) false 0) c.make_ready_to_learn.ensures.loads c.make_ready_to_learn.ensures.workers c.requires.later
 
 pub returns-in-Err-share_with_room-clause-refused : goal.returns-in-Err-share_with_room-clause-refused
 returns-in-Err-share_with_room-clause-refused g c stored closed failures =
@@ -16,10 +16,10 @@ returns-in-Err-share_with_room-clause-refused g c stored closed failures =
     (c.make_ready_to_learn.ensures.room stored closed failures)
 
 pub returns-in-Err-share_with_room-clause-later : goal.returns-in-Err-share_with_room-clause-later
-returns-in-Err-share_with_room-clause-later g c = room-newer (c.make_ready_to_learn.ensures.room (λ key. None) false 0) c.make_ready_to_learn.ensures.loads c.requires.later
+returns-in-Err-share_with_room-clause-later g c = room-newer (c.make_ready_to_learn.ensures.room (λ key. None) false 0) c.make_ready_to_learn.ensures.loads c.make_ready_to_learn.ensures.workers c.requires.later
 
 pub adopt-handle-requires-clause-later : goal.adopt-handle-requires-clause-later
-adopt-handle-requires-clause-later g c = room-newer (c.make_ready_to_learn.ensures.room (λ key. None) false 0) c.make_ready_to_learn.ensures.loads c.requires.later
+adopt-handle-requires-clause-later g c = room-newer (c.make_ready_to_learn.ensures.room (λ key. None) false 0) c.make_ready_to_learn.ensures.loads c.make_ready_to_learn.ensures.workers c.requires.later
 
 pub adopt-handle-requires-clause-asked : goal.adopt-handle-requires-clause-asked
 adopt-handle-requires-clause-asked g c = (
