@@ -140,12 +140,10 @@ are-entries {w} whole =
     at q zero e = let a = whole.owners_there.listed q in omega arith
     at q (suc k) e =
         let (x, among, number, own) = row q (omega arith) in
-        omega (
-          arith,
-          only-row (λ h. one (lists q h)) w.rows x whole.handles.ordered among (λ y other. let o : (y.number.0 == q) ≡ false = grind (arith, nat_tests) in ap (λ b. one (b && is_owned_by Owner.List y)) o),
-          whole.owners_there.listed q,
-          one-le (lists q x),
-        )
+        let a = only-row (λ h. one (lists q h)) w.rows x whole.handles.ordered among (λ y other. let o : (y.number.0 == q) ≡ false = grind (arith, nat_tests) in ap (λ b. one (b && is_owned_by Owner.List y)) o) in
+        let b = whole.owners_there.listed q in
+        let c = one-le (lists q x) in
+        omega arith
 
 -- where nothing has gone of a whole world, nothing has of the one that is shut, while the list is still there
 pub begun-shut : (t : Tables) (stored : ℕ → Option Blob) (closed : Bool) (failures failures' : ℕ) → IsWhole t

@@ -53,7 +53,8 @@ module _ (before w : Core) (given : ℕ → Bool) (lists : Bool) (t : Holdings) 
       let none = closed n (lost final n (is_keyed w n) refl bare down) in
       let a = counted (λ h. is_owned_by (owner_value n) h && is_outside s h) in
       let b = entries-none (λ h. is_owned_by (owner_value n) h && is_outside s h) (λ h mode owner. grind (arith, nat_tests)) w.last.handle f.entries f.new in
-      let d = times-le (λ h. (is_owned_by (owner_value n) h && is_outside s h) && not (f.gone h.number.0)) (λ h. is_owned_by (owner_value n) h && is_outside s h) w.rows (λ h. grind (arith, nat_tests)) in
+      let d = times-le (λ h. (is_owned_by (owner_value n) h && is_outside s h) && not (f.gone h.number.0)) (λ h. is_owned_by (owner_value n) h && is_outside s h)
+      w.rows (λ h. grind (arith, nat_tests)) in
       omega arith
 
 -- what a listing handle is: the last pin of a cell without a key
