@@ -1,8 +1,8 @@
 -- What a load asks and reads: why it can't become a node, and what becomes of it.
-use Rattle.pagable_tables.proofs.Words.{◌≡◌, ℕ, ◌<◌, ◌≤◌, Bool, true, false, if◌then◌else◌, refl, ap, ◌∙◌, arith, Ok, Err, Some, None, inl, inr, not, is_some, Result, [], zero, suc, Error}
-use Rattle.pagable_tables.proofs.Words.{HandleNumber, LoadNumber, NodeNumber, Kind, Owner, Mode, is_loose_kind, mode_of, Core, OpenLoad, greatest, usable, Alike, rank, earlier, refused_if, spent}
-use Rattle.pagable_tables.proofs.Words.{load_fault, OwnsLoad, Refused, birth_fault, node_fault, lazy_fault, adopted, LazyCall, OptionalDataKey, key_in, Makes, nat_tests, ◌==◌, List, Option, ArcRef}
-use Rattle.pagable_tables.proofs.Words.{Blob, type_of, or_else, references_fault, AreHandlesFull, FallsAnyhow, with_handle, is_named_by, adopt_fault, first_key, Adopts, early_fault, OnlyRoom, Tables}
+use Rattle.pagable_tables.proofs.Words.{◌≡◌, ℕ, ◌<◌, ◌≤◌, Bool, true, false, if◌then◌else◌, refl, ap, ◌∙◌, arith, Ok, Err, Some, None, inl, inr, not, is_some, Result, [], Error, HandleNumber}
+use Rattle.pagable_tables.proofs.Words.{LoadNumber, NodeNumber, Kind, Owner, Mode, is_loose_kind, mode_of, Core, OpenLoad, greatest, usable, Alike, rank, earlier, refused_if, spent, load_fault}
+use Rattle.pagable_tables.proofs.Words.{OwnsLoad, Refused, birth_fault, node_fault, lazy_fault, adopted, LazyCall, OptionalDataKey, key_in, Makes, nat_tests, ◌==◌, List, Option, ArcRef, Blob}
+use Rattle.pagable_tables.proofs.Words.{type_of, or_else, references_fault, AreHandlesFull, FallsAnyhow, with_handle, is_named_by, adopt_fault, first_key, Adopts, early_fault, OnlyRoom, Tables}
 use Rattle.pagable_tables.proofs.{Words.{ArePlaced, core_of, plain_of, ◌&&◌, ◌≢◌, ◌⊎◌, with_cached, is_usable, recall_fault, RecallCall, AsksKnown}, Opened.{earlier-first, load-low, no-load-fault}}
 use Rattle.pagable_tables.proofs.{Opened.{late, kind-late, references-low, spent-late}, Worlds.{still, usable-same}, Readied.{fault-by, room-alike}, keeps.EndCalls.{adopt-whole, both-none}}
 use Rattle.pagable_tables.proofs.keeps.Fallen.{opened}
@@ -31,9 +31,7 @@ module _ (w : Core) (me : Owner) (l : LoadNumber) (load : OpenLoad) (kind : Kind
 
   module _ (loose : is_loose_kind kind.0 ≡ true) where
     lazy-cause : lazy_fault w me l kind key ≡ node_fault w kind key
-    lazy-cause =
-        ap (λ f. earlier f (earlier (refused_if (not (is_loose_kind kind.0)) Error.WrongKind) (node_fault w kind key))) (no-load-fault w me l load own)
-        ∙ ap (λ b. earlier (refused_if (not b) Error.WrongKind) (node_fault w kind key)) loose
+    lazy-cause = grind (arith, nat_tests, no-load-fault)
 
     -- a handle of the node that the cache gives
     pub lazy-known : (node : NodeNumber) (mode : Mode) (r : Result HandleNumber Error) (w' : Core) → usable w kind.0 key ≡ Some node.0 → mode ≡ mode_of kind.0 → Makes w node mode (Owner.Load l) r w' → LazyCall w me l kind key r w'
@@ -51,8 +49,7 @@ module _ (w : Core) (me : Owner) (l : LoadNumber) (load : OpenLoad) (kind : Kind
 
 -- the number of a key
 pub key-there : (n : ℕ) → 0 < n → key_in n ≡ OptionalDataKey.Some n
-key-there zero lt = absurd (omega arith)
-key-there (suc n) lt = refl
+key-there x0 lt = grind (arith, nat_tests)
 
 abbrev Early : Option Error → Type 0
 Early a = (e : Error) → a ≡ Some e → rank e ≤ 3
@@ -74,8 +71,7 @@ owns-then : (w : Core) (me : Owner) (l : LoadNumber) → load_fault w me l ≡ N
 owns-then w me l none = grind (arith, nat_tests)
 
 not-so : (b : Bool) (e : Error) → refused_if b e ≡ None → b ≡ false
-not-so true e is = absurd (cc)
-not-so false e is = refl
+not-so x0 e is = grind (arith, nat_tests)
 
 module _ (w : Core) (me : Owner) (l : LoadNumber) (kind : Kind) (key node_type : ℕ) (refs : List ArcRef) where
   abbrev early : Option Error
@@ -118,9 +114,7 @@ module _ (w : Core) (me : Owner) (l : LoadNumber) (kind : Kind) (key node_type :
 
     pub refused-known : (n : ℕ) {e : Error} {w' : Core} → usable w kind.0 key ≡ Some n → Refused (spent w.last.handle) (spent w.last.handle) (AreHandlesFull w) w e w'
         → Refused (adopt_fault w me l kind key node_type refs) (load_fault w me l) (Unit {0}) w e w'
-    refused-known n is refused =
-        let known : node_fault w kind key ≡ spent w.last.handle = ap (λ b. if b then spent w.last.handle else birth_fault w) (ap is_some is) in
-        record { why = elim refused.why [ inl a ↦ inl (left ∙ known ∙ a) | inr b ↦ inr (b.0, parts.0, tt) ]; stays = refused.stays }
+    refused-known n is refused = grind (arith, nat_tests, left, parts)
 
     -- it gives none
     module _ (none : usable w kind.0 key ≡ None) where
@@ -128,9 +122,7 @@ module _ (w : Core) (me : Owner) (l : LoadNumber) (kind : Kind) (key node_type :
       adopts-new k node_left next made = record { load = owner-of.0; owned = owner-of.1; eager = eager; typed = typed; good = fitting; next = next; makes = inr (none, node_left, made) }
 
       pub refused-new : {before : Option Error} {e : Error} {w' : Core} → Refused (birth_fault w) before (Unit {0}) w e w' → Refused (adopt_fault w me l kind key node_type refs) (load_fault w me l) (Unit {0}) w e w'
-      refused-new refused =
-          let fresh : node_fault w kind key ≡ birth_fault w = ap (λ b. if b then spent w.last.handle else birth_fault w) (ap is_some none) in
-          record { why = elim refused.why [ inl a ↦ inl (left ∙ fresh ∙ a) | inr b ↦ inr (b.0, parts.0, tt) ]; stays = refused.stays }
+      refused-new refused = grind (arith, nat_tests, fresh, left, parts)
 
 -- room is nothing to the causes that come first
 pub early-past : {w w' : Core} (me : Owner) (l : LoadNumber) (kind : Kind) (node_type : ℕ) (refs : List ArcRef) → OnlyRoom w w' → early_fault w' me l kind node_type refs ≡ early_fault w me l kind node_type refs
@@ -159,8 +151,7 @@ module _ (w w' : Core) (kind : Kind) (key : ℕ) (n : NodeNumber) (cache : ℕ �
   known-here k q e f = let h : (k == kind.0 && q == key) ≡ true = grind (arith, nat_tests) in rw h refl
 
   known-other : (k q : ℕ) → (k ≢ kind.0) ⊎ (q ≢ key) → known k q ≡ w.cache k q
-  known-other k q (inl e) = let h : (k == kind.0 && q == key) ≡ false = grind (arith, nat_tests) in rw h refl
-  known-other k q (inr e) = let h : (k == kind.0 && q == key) ≡ false = grind (arith, nat_tests) in rw h refl
+  known-other k q x2 = grind (arith, nat_tests)
 
   split : (k q : ℕ) → ((k ≡ kind.0) × (q ≡ key)) ⊎ ((k ≢ kind.0) ⊎ (q ≢ key))
   split k q = grind (arith, nat_tests)
@@ -173,8 +164,7 @@ module _ (w w' : Core) (kind : Kind) (key : ℕ) (n : NodeNumber) (cache : ℕ �
 
 -- the cache learns while the storage is open
 pub if-open : (closed : Bool) (w w' : Core) (kind : Kind) (key : ℕ) (n : NodeNumber) → (closed ≡ true → Alike w w') → (closed ≡ false → Alike (with_cached w kind key n) w') → Alike (if closed then w else with_cached w kind key n) w'
-if-open true w w' kind key n shut stands = shut refl
-if-open false w w' kind key n shut stands = stands refl
+if-open x0 w w' kind key n shut stands = grind (arith, nat_tests)
 
 pub recalls-asked : (w : Core) (me : Owner) (l : LoadNumber) (load : OpenLoad) (kind : Kind) (key : ℕ) (r : Result (Option HandleNumber) Error) (w' : Core) → OwnsLoad w me l load → RecallCall w (Owner.Load l) kind key r w' → AsksKnown w me l kind key r w'
 recalls-asked w me l load kind key r w' own call = grind (arith, nat_tests)

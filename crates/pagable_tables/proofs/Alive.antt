@@ -2,7 +2,7 @@
 use Rattle.pagable_tables.proofs.Words.{◌≡◌, ℕ, ◌+◌, ◌<◌, ◌≤◌, ◌==◌, Bool, true, false, if◌then◌else◌, List, [], ◌∷◌, ◌++◌, length, get_or, set, suc, zero, sum_by, All, filter, refl, ap, sym, subst}
 use Rattle.pagable_tables.proofs.Words.{◌∙◌, arith, Some, None, slice_get, nat_tests, sum_by-cons, All-tail, All-set, ◌≢◌, ◌⊎◌, cases_eq, get_or_default, get_or_from_slice_get, slice_get_within}
 use Rattle.pagable_tables.proofs.Words.{sum_by-set, get_or-le-sum_by, sum_by-le-sum_by, HandleRow, one, changed, find_row, is_handle, left_rows, IsNext, live, alive, is_live_place, IsBefore, Place}
-use Rattle.pagable_tables.proofs.{Words.{AllPairs, times, take, get_or-set_other, length-set, get_or-set_at}, Left.left-none}
+use Rattle.pagable_tables.proofs.{Words.{AllPairs, times, take, get_or-set_other, length-set, get_or-set_at}, Left.{left-none, ones}
 use Rattle.std.proofs.lemmas.List.{get_or-take, length-take-le}
 
 -- the rows but for one number
@@ -49,8 +49,7 @@ sum-live f [] = refl
 sum-live f (s ∷ ss) = by s.is_live (sum-live f ss) ∙ sym (sum_by-cons (weigh f) s ss)
   where
     by : (b : Bool) → sum_by f (live ss) ≡ sum_by (weigh f) ss → sum_by f (if b then s.row ∷ live ss else live ss) ≡ (if b then f s.row else 0) + sum_by (weigh f) ss
-    by true h = sum_by-cons f s.row (live ss) ∙ ap (λ n. f s.row + n) h
-    by false h = omega arith
+    by b0 h = grind (arith, nat_tests, sum_by-cons)
 
 later : (s : Place) (ss : List Place) → AllPairs IsBefore (s ∷ ss) → All (λ x. s.row.number.0 < x.row.number.0) ss
 later s ss ordered k d lt = ordered 0 (suc k) d (omega arith) (omega arith)
@@ -71,12 +70,10 @@ none-above : (q : ℕ) (ss : List Place) → All (λ s. q < s.row.number.0) ss �
 none-above q [] h = refl
 none-above q (s ∷ ss) h =
     let a : q < s.row.number.0 = h 0 s (omega arith) in
-    let rest = none-above q ss (All-tail (λ s. q < s.row.number.0) s ss h) in
-    grind (arith, nat_tests, sum_by-cons)
+    grind (arith, nat_tests, sum_by-cons, none-above q ss (All-tail (λ s. q < s.row.number.0) s ss h))
 
 put : (b : Bool) (x : HandleRow) (xs ys zs : List HandleRow) → xs ≡ ys ++ zs → (if b then x ∷ xs else xs) ≡ (if b then x ∷ ys else ys) ++ zs
-put true x xs ys zs e = ap (λ l. x ∷ l) e
-put false x xs ys zs e = e
+put x0 x xs ys zs e = grind (arith, nat_tests)
 
 stands : (ss : List Place) (i : ℕ) (row : HandleRow) → AllPairs IsBefore ss → slice_get ss i ≡ Some (alive row) → Stands ss i row
 stands [] i row ordered at = absurd (cc)
@@ -155,31 +152,17 @@ module _ (ss : List Place) (i : ℕ) (row : HandleRow) (ordered : AllPairs IsBef
 pub sum-live-set : (f : HandleRow → ℕ) (ss : List Place) (i : ℕ) (row : HandleRow) (new : Place) → slice_get ss i ≡ Some (alive row)
     → sum_by f (live (set ss i new)) + f row ≡ sum_by f (live ss) + weigh f new
 sum-live-set f ss i row new at =
-    let lt = slice_get_within ss i (alive row) at in
-    let e = sum_by-set (weigh f) ss i new (alive row) lt in
     let is : weigh f (get_or ss i (alive row)) ≡ weigh f (alive row) = ap (weigh f) (get_or_from_slice_get ss i (alive row) (alive row) at) in
-    let a = sum-live f ss in
-    let b = sum-live f (set ss i new) in
-    omega arith
+    omega (arith, sum_by-set (weigh f) ss i new (alive row) (slice_get_within ss i (alive row) at), sum-live f ss, sum-live f (set ss i new))
 
 pub row-le-live : (f : HandleRow → ℕ) (ss : List Place) (i : ℕ) (row : HandleRow) → slice_get ss i ≡ Some (alive row) → f row ≤ sum_by f (live ss)
 row-le-live f ss i row at =
-    let lt = slice_get_within ss i (alive row) at in
-    let a = get_or-le-sum_by (weigh f) ss i (alive row) lt in
     let is : weigh f (get_or ss i (alive row)) ≡ weigh f (alive row) = ap (weigh f) (get_or_from_slice_get ss i (alive row) (alive row) at) in
-    let b = sum-live f ss in
-    omega arith
-
-length-sum : (xs : List HandleRow) → sum_by (λ _. 1) xs ≡ length xs
-length-sum [] = refl
-length-sum (x ∷ xs) = let a = length-sum xs in let b = sum_by-cons (λ (_ : HandleRow). 1) x xs in omega arith
+    omega (arith, get_or-le-sum_by (weigh f) ss i (alive row) (slice_get_within ss i (alive row) at), sum-live f ss)
 
 pub length-live-set : (ss : List Place) (i : ℕ) (row : HandleRow) (new : Place) → slice_get ss i ≡ Some (alive row) → length (live (set ss i new)) + 1 ≡ length (live ss) + one new.is_live
 length-live-set ss i row new at =
-    let e = sum-live-set (λ _. 1) ss i row new at in
-    let a = length-sum (live ss) in
-    let b = length-sum (live (set ss i new)) in
-    omega arith
+    omega (arith, sum-live-set (λ _. 1) ss i row new at, ones (live ss), ones (live (set ss i new)))
 
 -- where each place of the number is dead, no live row has it
 pub none-live : (q : ℕ) (ss : List Place) → ((k : ℕ) (d : Place) → k < length ss → (get_or ss k d).row.number.0 ≡ q → (get_or ss k d).is_live ≡ false) → find_row q (live ss) ≡ None
@@ -268,7 +251,4 @@ number-set f xs i x y k d at same lt = grind (arith, nat_tests, cases_eq, get_or
 pub rises-set : {A : Type 0} (f : A → ℕ) (xs : List A) (i : ℕ) (x y : A) → AllPairs (λ a b. f a < f b) xs → slice_get xs i ≡ Some x → f y ≡ f x → AllPairs (λ a b. f a < f b) (set xs i y)
 rises-set f xs i x y ordered at same j k d less within =
     let lt : k < length xs = let n = length-set xs i y in omega arith in
-    let a = number-set f xs i x y j d at same (omega arith) in
-    let b = number-set f xs i x y k d at same lt in
-    let c = ordered j k d less lt in
-    omega arith
+    omega (arith, number-set f xs i x y j d at same (omega arith), number-set f xs i x y k d at same lt, ordered j k d less lt)

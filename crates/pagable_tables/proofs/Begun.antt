@@ -2,7 +2,7 @@
 use Rattle.pagable_tables.proofs.Words.{◌≡◌, ℕ, ◌+◌, ◌≤◌, ◌&&◌, Bool, false, not, List, [], ◌∷◌, length, refl, ap, sym, ◌∙◌, subst, arith, Option, None, true, nat_tests, append-nil, sum_by-cons}
 use Rattle.pagable_tables.proofs.Words.{Error, ArcRef, HandleRow, Blob, one, times, is_at, is_share, held, sharing, Core, greatest, HasRoom, IsWithin, MustList, TellsListing, nobody, Tables, Counts}
 use Rattle.pagable_tables.proofs.Words.{Holdings, live, counts_at, refs_at, Fits, IsFalling, cell_in, is_valued, owns, owns_nothing, with_tables, told_by, is_plain_pin, Begins, SoFar, core_of}
-use Rattle.pagable_tables.{specs.Core.IsWhole, proofs.Coming.owned-by-none, proofs.Left.{left-all, all-kept}}
+use Rattle.pagable_tables.{proofs.{Coming.owned-by-none, Left.all-kept}, specs.Core.IsWhole}
 
 -- why a cell isn't listed is told aside
 pub aside : (t : Holdings) (u : Option Error) (stack : List ℕ) (extra : ℕ → ℕ → ℕ) → IsFalling t stack extra → IsFalling (record t { unlisted = u }) stack extra
@@ -19,12 +19,8 @@ unowned t x stack plain w = record { sound = w.sound; next = w.next; fits = fits
 share-plain : (n : ℕ) (rows : List HandleRow) → sharing n rows + times (is_plain_pin n) rows ≤ held n rows
 share-plain n [] = omega arith
 share-plain n (x ∷ xs) =
-    let a = sum_by-cons (λ h. one (is_share n h)) x xs in
-    let b = sum_by-cons (λ h. one (is_plain_pin n h)) x xs in
-    let d = sum_by-cons (λ h. one (is_at n h)) x xs in
-    let rest = share-plain n xs in
     let here : one (is_share n x) + one (is_plain_pin n x) ≤ one (is_at n x) = grind (arith, nat_tests) in
-    omega arith
+    omega (arith, sum_by-cons (λ h. one (is_share n h)) x xs, sum_by-cons (λ h. one (is_plain_pin n h)) x xs, sum_by-cons (λ h. one (is_at n h)) x xs, share-plain n xs)
 
 -- a whole world before anything is given up
 pub begins : (t : Tables) (stored : ℕ → Option Blob) (closed lists : Bool) (failures : ℕ) → IsWhole t → lists ≡ not closed
@@ -51,7 +47,7 @@ begun before w lists t begins rows list last within places cells told none =
       begins = begins;
       gone = nobody;
       entries = [];
-      rows = rows ∙ sym (append-nil _ ∙ left-all w.rows);
+      rows = rows ∙ sym (append-nil _ ∙ all-kept w.rows);
       list = list ∙ sym (append-nil _ ∙ all-kept w.list);
       last = omega arith;
       within = within;
@@ -75,13 +71,10 @@ begun-whole t stored closed lists failures w e =
 
 -- the storage can be open or closed as it is listed or not
 pub not-closed : (lists : Bool) → lists ≡ not (not lists)
-not-closed true = refl
-not-closed false = refl
+not-closed x0 = grind (arith, nat_tests)
 
 pub shut-then : (lists closed : Bool) → lists ≡ false → lists ≡ not closed → closed ≡ true
-shut-then lists true a b = refl
-shut-then lists false a b = absurd (let e : true ≡ false = sym b ∙ a in cc)
+shut-then lists x1 a b = grind (arith, nat_tests)
 
 pub open-then : (lists closed : Bool) → lists ≡ true → lists ≡ not closed → closed ≡ false
-open-then lists false a b = refl
-open-then lists true a b = absurd (let e : true ≡ false = sym a ∙ b in cc)
+open-then lists x1 a b = grind (arith, nat_tests)

@@ -1,14 +1,10 @@
 -- A node comes, and the handles that its value refers to are the value's.
 use Rattle.pagable_tables.proofs.Words.{◌≡◌, ℕ, ◌+◌, ◌<◌, ◌≤◌, ◌==◌, ◌&&◌, ◌||◌, Bool, true, false, List, [], ◌∷◌, ◌++◌, map, sum_by, refl, ap, sym, ◌∙◌, subst, arith, Option, Some, None, inl, inr}
-use Rattle.pagable_tables.proofs.Words.{if◌then◌else◌, ◌≢◌, ◌⊎◌, is_some, cases_eq, nat_tests, sum_by_push, sum_by-cons, Error, ArcRef, HandleRow, Owner, Mode, Among, is_in, one, or_else, find_row}
-use Rattle.pagable_tables.proofs.Words.{held, pins, is_handle, is_pinning, owner_value, IsHandleBefore, Core, reference_fault, references_fault, moved, is_named_by, Counts, Fits, Right, is_right}
-use Rattle.pagable_tables.proofs.{Words.{is_bare, cell_in, pins_in, holds_in, falls_in, is_valued, named, owns_nothing, AllPairs}, Coming.{owned-by-none, owned-by}, Fitting.{pin_of, handle_of}}
-use Rattle.pagable_tables.proofs.{Fitting.{is_owned, pin-here, held-here, pin-other, held-other}, keeps.HandleCalls.named-mine, keeps.Rows.{found-so, found-among, sum-map, sum-none, at-most-sum}}
+use Rattle.pagable_tables.proofs.Words.{if◌then◌else◌, ◌≢◌, ◌⊎◌, is_some, cases_eq, nat_tests, sum_by_push, sum_by-cons, ArcRef, HandleRow, Owner, Mode, Among, is_in, one, find_row, held, pins}
+use Rattle.pagable_tables.proofs.Words.{is_handle, is_pinning, owner_value, IsHandleBefore, Core, reference_fault, references_fault, moved, is_named_by, Counts, Fits, Right, is_right, is_bare}
+use Rattle.pagable_tables.proofs.{Words.{cell_in, pins_in, holds_in, falls_in, is_valued, named, owns_nothing, AllPairs}, Coming.{owned-by-none, owned-by}, Fitting.{pin_of, handle_of, is_owned}}
+use Rattle.pagable_tables.proofs.{Fitting.{pin-here, held-here, pin-other, held-other}, keeps.HandleCalls.{named-mine, or-none}, keeps.Rows.{found-so, found-among, sum-map, sum-none, at-most-sum}}
 use Rattle.pagable_tables.proofs.{keeps.Rows.only-row, Bits.and-zero}
-
-or-none : (a b : Option Error) → or_else a b ≡ None → (a ≡ None) × (b ≡ None)
-or-none None b e = (refl, e)
-or-none (Some x) b e = absurd (cc)
 
 -- what is named wasn't named before
 unseen : (w : Core) (me : Owner) (seen : List ℕ) (rs : List ArcRef) → references_fault w me seen rs ≡ None → (q : ℕ) → is_named_by rs q ≡ true → is_in seen q ≡ false
@@ -137,11 +133,7 @@ module _ (w : Core) (me : Owner) (rs : List ArcRef) (ordered : AllPairs IsHandle
         owned = λ m q. elim (cases_eq m n) [
           | inl e ↦ subst (λ k. named q (refs' k) + owns_nothing k q ≡ sum_by (is_owned k q) rows') (sym e) (owned-here q)
           | inr e ↦
-              let l = sum_by_push (is_owned m q) given x in
-              let z = not-x m q in
-              let a = ap (named q) (same m e) in
-              let b = others-own w me n rs ordered fit unvalued m q e in
-              omega arith
+              omega (arith, sum_by_push (is_owned m q) given x, not-x m q, ap (named q) (same m e), others-own w me n rs ordered fit unvalued m q e)
         ];
         chain = fits.chain;
         marked = λ m. grind (arith, nat_tests, cases_eq, falls-here);
@@ -154,5 +146,4 @@ module _ (w : Core) (me : Owner) (rs : List ArcRef) (ordered : AllPairs IsHandle
 
 -- no node has a number that wasn't given yet
 pub no-node : (o : Option Counts) (last : ℕ) → (is_some (cell_in o) ≡ true → (0 < last + 1) × (last + 1 ≤ last)) → o ≡ None
-no-node None last h = refl
-no-node (Some c) last h = let a = (h refl).1 in absurd (omega arith)
+no-node x0 last h = grind (arith, nat_tests)

@@ -1,13 +1,12 @@
 -- A handle comes to a live node or to another owner, and nothing falls.
-use Rattle.pagable_tables.proofs.Words.{sum_by, ◌≡◌, ℕ, ◌+◌, ◌<◌, ◌≤◌, false, List, [], ◌∷◌, ◌++◌, length, refl, ap, sym, ◌∙◌, subst, arith, Option, Some, None, inl, inr, ◌≢◌, not, IsSome, nat_tests}
+use Rattle.pagable_tables.proofs.Words.{sum_by, ◌≡◌, ℕ, ◌+◌, ◌<◌, ◌≤◌, false, List, [], ◌∷◌, ◌++◌, length, ap, sym, ◌∙◌, subst, arith, Option, Some, None, inl, inr, ◌≢◌, not, IsSome, nat_tests}
 use Rattle.pagable_tables.proofs.Words.{cases_eq, sum_by_push, sum_by-cons, ArcRef, HandleRow, Owner, Mode, one, SameAt, held, is_pinning, is_owner, owner_value, Counts, holds_in, falls_in, Right}
 use Rattle.pagable_tables.proofs.Words.{Fits, owns_nothing, named, is_valued, cell_in, ◌==◌, ◌&&◌, true, get_or, slice_get, get_or-le-sum_by, sum_by-le-sum_by, HandleNumber, times, find_row}
 use Rattle.pagable_tables.proofs.{Words.{is_handle, is_owned_by, Place, live, alive, IsBefore, AllPairs}, Fitting.{pin_of, handle_of, is_owned, pin-here, held-here, pin-other, held-other}}
 use Rattle.pagable_tables.proofs.Alive.{none-found, only-row}
 
 pub no-value : (n : ℕ) (o : Owner) → is_valued o ≡ false → is_owner (owner_value n) o ≡ false
-no-value n (Owner.Value m) e = absurd (cc)
-no-value n _ e = refl
+no-value n x1 e = grind (arith, nat_tests)
 
 pub owned-by-none : (n q : ℕ) (x : HandleRow) → is_valued x.owner ≡ false → is_owned n q x ≡ 0
 owned-by-none n q x e = let a = no-value n x.owner e in grind (arith, nat_tests)
@@ -46,8 +45,7 @@ module _ (at at' : ℕ → Option Counts) (refs refs' : ℕ → List ArcRef) (ro
 
 -- a node that has a handle is there
 pub some-held : (o : Option Counts) → 0 < holds_in o → IsSome o
-some-held None h = absurd (omega arith)
-some-held (Some c) h = refl
+some-held x0 h = grind (arith, nat_tests)
 
 -- the rows are told anew
 pub rows-told : (at : ℕ → Option Counts) (refs : ℕ → List ArcRef) (rows rows' : List HandleRow) (top : ℕ) → rows' ≡ rows → Fits at refs rows top [] owns_nothing
@@ -91,8 +89,7 @@ owned-by owner x = record x { owner = owner }
 
 -- the list's owner is none, and what it has is there
 pub list-owner : (o : Owner) → is_owner Owner.List o ≡ true → is_valued o ≡ false
-list-owner (Owner.Value n) e = absurd (cc)
-list-owner _ e = refl
+list-owner x0 e = grind (arith, nat_tests)
 
 abbrev entry-at : ℕ → HandleRow → ℕ
 entry-at q h = one (is_handle q h && is_owned_by Owner.List h)
@@ -107,10 +104,7 @@ module _ (list : List HandleNumber) (ss : List Place) (i : ℕ) (h : HandleNumbe
 
   pub entry-lives : find_row h.0 (live ss) ≡ None → ⊥
   entry-lives none =
-      let a = none-found h.0 (live ss) none in
-      let b = sum_by-le-sum_by (entry-at h.0) (λ r. one (is_handle h.0 r)) (live ss) (entry-less h.0) in
-      let d = some-entry in
-      absurd (omega arith)
+      absurd (omega (arith, none-found h.0 (live ss) none, sum_by-le-sum_by (entry-at h.0) (λ r. one (is_handle h.0 r)) (live ss) (entry-less h.0), some-entry))
 
   pub entry-unvalued : (place : ℕ) (row : HandleRow) → AllPairs IsBefore ss → slice_get ss place ≡ Some (alive row) → row.number ≡ h → is_valued row.owner ≡ false
   entry-unvalued place row ordered at number = grind (arith, nat_tests, entry-less, only-row, some-entry, list-owner)

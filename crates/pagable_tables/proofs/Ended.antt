@@ -1,10 +1,10 @@
 -- Where no node falls any more, all has gone that had to go, and no more. Values that go as nodes fall.
 use Rattle.pagable_tables.proofs.Words.{◌≡◌, ℕ, ◌+◌, ◌≤◌, ◌&&◌, Bool, true, false, not, if◌then◌else◌, List, [], ◌∷◌, sum_by, refl, ap, sym, ◌∙◌, subst, arith, inl, inr, Option, Some, None, ◌⊎◌}
-use Rattle.pagable_tables.proofs.Words.{is_some, nat_lt, nat_eq, Result, Ok, Err, nat_tests, sum_by-cons, sum_by-append, Error, OptionalDataKey, ArcRef, HandleRow, one, times, if_there}
-use Rattle.pagable_tables.proofs.Words.{is_pinned_kind, is_at, is_pin, is_owned_by, owner_value, held, pins, has_key, is_in_memory, Core, Cell, greatest, Alike, left_rows, IsClosed, is_keyed}
-use Rattle.pagable_tables.proofs.Words.{MustList, TellsListing, CannotList, IsListRefusal, Falls, fallen, pins_outside, held_outside, Counts, Holdings, live, counts_at, refs_at, Fits, IsFalling}
-use Rattle.pagable_tables.proofs.Words.{Right, holds_in, falls_in, keyed_in, cell_in, HasFallen, owns, owns_nothing, with_tables, told_by, SoFar, length, is_valued, valued, ValueStays, Sheds}
-use Rattle.pagable_tables.proofs.{Words.has_value, Left.{times-left, entries-none}, Telling.keyed-cell, Fitting.first-waits, Bits.one-le}
+use Rattle.pagable_tables.proofs.Words.{is_some, nat_lt, nat_eq, Result, nat_tests, sum_by-cons, sum_by-append, Error, OptionalDataKey, ArcRef, HandleRow, one, times, if_there, is_pinned_kind, is_at}
+use Rattle.pagable_tables.proofs.Words.{is_pin, is_owned_by, owner_value, held, pins, has_key, is_in_memory, Core, Cell, greatest, Alike, left_rows, IsClosed, is_keyed, MustList, TellsListing}
+use Rattle.pagable_tables.proofs.Words.{CannotList, IsListRefusal, Falls, fallen, pins_outside, held_outside, Counts, Holdings, live, counts_at, refs_at, Fits, IsFalling, Right, holds_in, falls_in}
+use Rattle.pagable_tables.proofs.{Words.{keyed_in, cell_in, HasFallen, owns, owns_nothing, with_tables, told_by, SoFar, length, is_valued, valued, ValueStays, Sheds, has_value}, Left.times-left}
+use Rattle.pagable_tables.proofs.{Left.entries-none, Telling.keyed-cell, Fitting.first-waits, Bits.one-le}
 
 stands : (at : ℕ → Option Counts) (refs : ℕ → List ArcRef) (rows : List HandleRow) (top : ℕ) → Fits at refs rows top [] owns_nothing → (n : ℕ) → falls_in (at n) ≡ false
 stands at refs rows top fits n = let a = fits.marked n in grind (arith, nat_tests)
@@ -25,8 +25,7 @@ none-owned n (x ∷ xs) none =
 
 down-keyed : (o : Option Counts) (cell : Option Cell) → (is_some o ≡ true → cell_in o ≡ cell) → has_key (if_there (λ (c : Cell). c.key) OptionalDataKey.None cell) ≡ true
     → (holds_in o ≡ 0) ⊎ (keyed_in o ≡ true)
-down-keyed None cell same e = inl refl
-down-keyed (Some c) cell same e = inr (sym (keyed-cell c.key) ∙ ap (λ (o : Option Cell). has_key (if_there (λ (c : Cell). c.key) OptionalDataKey.None o)) (same refl) ∙ e)
+down-keyed x0 cell same e = grind (arith, nat_tests, keyed-cell)
 
 cell-kept : (o : Option Counts) (refs : List ArcRef) (h : ℕ) (cell : Option Cell) → falls_in o ≡ false → Right o refs → holds_in o ≡ h → (is_some o ≡ true → cell_in o ≡ cell)
     → cell_in o ≡ (if nat_lt 0 h then cell else None)
@@ -42,8 +41,7 @@ refusal w w' e r = grind (arith, nat_tests)
 
 each-listed : (before w w' : Core) (entries : List HandleRow) (r : Result (Unit {0}) Error) → TellsListing before w entries r w' → (n : ℕ) → MustList before w w' n
     → (held n entries ≡ 1) ⊎ CannotList w w'
-each-listed before w w' entries (Ok u) tells n must = inl (tells.all n must)
-each-listed before w w' entries (Err e) tells n must = let a = tells.not_all in inr (refusal w w' e a.3)
+each-listed before w w' entries x4 tells n must = grind (arith, nat_tests, refusal)
 
 module _ (before w : Core) (given : ℕ → Bool) (lists : Bool) (t : Holdings) (f : SoFar before w given lists t) (whole : IsFalling t [] owns_nothing) where
   counted : (p : HandleRow → Bool) → times p (live t.handles.places.items) ≡ times (λ h. p h && not (f.gone h.number.0)) w.rows + times p f.entries

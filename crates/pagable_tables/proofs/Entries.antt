@@ -1,9 +1,9 @@
 -- The entries of the list are given up one after the other, while no cell is listed.
 use Rattle.pagable_tables.proofs.Words.{◌≡◌, ℕ, ◌+◌, ◌<◌, ◌≤◌, ◌==◌, ◌&&◌, ◌||◌, Bool, true, false, not, if◌then◌else◌, List, [], ◌∷◌, ◌++◌, suc, zero, filter, length, map, None, refl, ap, sym, ◌∙◌}
-use Rattle.pagable_tables.proofs.Words.{subst, arith, Option, Result, Ok, Err, nat_lt, vec_capacity, nat_tests, append-nil, sum_by-cons, sum_by-append, sum_by_push, Error, HandleNumber, HandleRow}
-use Rattle.pagable_tables.proofs.Words.{Owner, Blob, Among, one, times, if_there, is_at, is_handle, is_owned_by, find_row, held, Core, FallsAnyhow, left_rows, nobody, TellsListing, is_owned_in}
-use Rattle.pagable_tables.proofs.{Words.{Holdings, Tables, core_of, live, told_by, SoFar, entered, with_list, AreEntries, IsApart}, keeps.Rows.{found-so, counted, only-row}, Begun.{begins, begun}}
-use Rattle.pagable_tables.{proofs.{Begun.shut-then, Left.{and_one, kept-more}, Regiven.regiven, Bits.one-le}, specs.Core.IsWhole}
+use Rattle.pagable_tables.proofs.Words.{subst, arith, Option, Result, nat_lt, vec_capacity, nat_tests, append-nil, sum_by-cons, sum_by-append, sum_by_push, Error, HandleNumber, HandleRow, Owner}
+use Rattle.pagable_tables.proofs.Words.{Blob, Among, one, times, if_there, is_at, is_handle, is_owned_by, find_row, held, Core, FallsAnyhow, left_rows, nobody, TellsListing, is_owned_in, Holdings}
+use Rattle.pagable_tables.proofs.{Words.{Tables, core_of, live, told_by, SoFar, entered, with_list, AreEntries, IsApart}, keeps.Rows.{found-so, counted, only-row}, Begun.{begins, begun, shut-then}}
+use Rattle.pagable_tables.{proofs.{Left.{and_one, kept-more}, Regiven.regiven, Bits.one-le}, specs.Core.IsWhole}
 use Rattle.pagable_world.specs.Calls.{shut as shut_world}
 use Rattle.pagable_world.specs.Pager as pager
 
@@ -42,11 +42,7 @@ module _ {before w : Core} {given : ℕ → Bool} {t : Holdings} (f : SoFar befo
   went q owned none = regiven before w given (and_one given q) false t f less (λ r e. grind (arith, nat_tests))
     where
       gone : f.gone q ≡ true
-      gone = at (f.gone q) refl
-        where
-          at : (b : Bool) → f.gone q ≡ b → f.gone q ≡ true
-          at true e = e
-          at false e = grind (arith, nat_tests, none-came, append-nil, find-kept)
+      gone = grind (arith, nat_tests, none-came, append-nil, find-kept)
 
       less : (r : ℕ) → and_one given q r ≡ true → (given r || f.gone r) ≡ true
       less r e = at (r == q) refl
@@ -61,8 +57,7 @@ module _ {before w : Core} {given : ℕ → Bool} {t : Holdings} (f : SoFar befo
 
 -- no cell must be listed once the storage is closed
 tells-shut : (before w w' u u' : Core) (entries : List HandleRow) (r : Result (Unit {0}) Error) → w.closed ≡ true → u.closed ≡ true → TellsListing before w entries r w' → TellsListing before u entries r u'
-tells-shut before w w' u u' entries (Ok v) a b tells = record { all = λ n must. let e : true ≡ false = sym b ∙ must.stands_open in absurd (cc); not_all = tt }
-tells-shut before w w' u u' entries (Err e) a b tells = record { all = tt; not_all = let (n, must, none, why) = tells.not_all in let e : true ≡ false = sym a ∙ must.stands_open in absurd (cc) }
+tells-shut before w w' u u' entries x6 a b tells = grind (arith, nat_tests)
 
 -- the last entries leave the list
 pub unlist : (before w : Core) (given : ℕ → Bool) (t t' : Holdings) (last : List HandleNumber) → SoFar before (with_list w t.list.items) given false t → t' ≡ record t { list = t'.list }
@@ -112,8 +107,7 @@ one-given-up before w t list left x le f = regiven before w (λ q. given_up list
     pushed r = sum_by_push (λ (h : HandleNumber). one (h.0 == r)) left x
 
     bits : (a b c : ℕ) (e : Bool) → b ≡ a + one e → b ≤ c → ((nat_lt b c || e) ≡ nat_lt a c)
-    bits a b c true is le = grind (arith, nat_tests)
-    bits a b c false is le = grind (arith, nat_tests)
+    bits a b c b3 is le = grind (arith, nat_tests)
 
     same : (r : ℕ) → (given_up list (left ++ x ∷ []) r || r == x.0) ≡ given_up list left r
     same r =
@@ -140,10 +134,7 @@ are-entries {w} whole =
     }
   where
     row : (q : ℕ) → 0 < times (lists q) w.rows → (x : HandleRow) × Among w.rows x × (x.number.0 ≡ q) × (is_owned_by Owner.List x ≡ true)
-    row q some = let (x, among, counts) = counted (λ h. one (lists q h)) w.rows some in let (a, b) = both (is_handle q x) (is_owned_by Owner.List x) counts in (x, among, grind (arith, nat_tests), b)
-      where
-        both : (a b : Bool) → 0 < one (a && b) → (a ≡ true) × (b ≡ true)
-        both a b p = grind (arith, nat_tests)
+    row q some = grind (arith, nat_tests, counted)
 
     at : (q k : ℕ) → times (lists q) w.rows ≡ k → entered q w.list ≤ 1
     at q zero e = let a = whole.owners_there.listed q in omega arith

@@ -1,8 +1,8 @@
 -- A handle is given up: handles and nodes fit again.
-use Rattle.pagable_tables.proofs.Words.{◌≡◌, ℕ, ◌+◌, ◌-◌, ◌<◌, ◌≤◌, ◌==◌, ◌&&◌, ◌||◌, Bool, true, false, if◌then◌else◌, List, [], ◌∷◌, ◌++◌, length, sum_by, refl, ap, sym, ◌∙◌, subst, arith}
-use Rattle.pagable_tables.proofs.Words.{Option, Some, None, inl, inr, ◌⊎◌, ◌≢◌, nat_lt, not, nat_tests, cases_eq, sum_by-cons, sum_by-le-sum_by, sum_by_push, ArcRef, HandleRow, Owner, one}
-use Rattle.pagable_tables.proofs.Words.{held, pins, is_pin, is_at, is_pinning, is_handle, is_owner, owner_value, Counts, pins_in, holds_in, falls_in, next_in, keyed_in, Chain, is_right}
-use Rattle.pagable_tables.proofs.Words.{Right, is_fallen_by, after, is_new, Fits, entry, owns, owns_nothing, named, often, CellsStay, HasFallen}
+use Rattle.pagable_tables.proofs.Words.{◌≡◌, ℕ, ◌+◌, ◌-◌, ◌<◌, ◌≤◌, ◌==◌, ◌&&◌, ◌||◌, Bool, true, false, if◌then◌else◌, List, [], ◌∷◌, ◌++◌, length, sum_by, ap, sym, ◌∙◌, subst, arith, Option, Some}
+use Rattle.pagable_tables.proofs.Words.{None, inl, inr, ◌⊎◌, ◌≢◌, not, nat_tests, cases_eq, sum_by-cons, sum_by-le-sum_by, sum_by_push, ArcRef, HandleRow, Owner, one, held, pins, is_pin, is_at}
+use Rattle.pagable_tables.proofs.Words.{is_pinning, is_handle, is_owner, owner_value, Counts, pins_in, holds_in, falls_in, next_in, keyed_in, Chain, is_right, Right, is_fallen_by, after, is_new}
+use Rattle.pagable_tables.proofs.Words.{Fits, entry, owns, owns_nothing, named, often, CellsStay, HasFallen}
 
 -- 1 for a handle that pins the node, for one of it, for the handle q that its value owns, and for the handle q
 abbrev pub pin_of : ℕ → HandleRow → ℕ
@@ -38,19 +38,16 @@ pub held-other : (n : ℕ) (x : HandleRow) → n ≢ x.node.0 → handle_of n x 
 held-other n x other = grind (arith, nat_tests)
 
 not-both : (w g : Bool) → (not w && g) ≡ true → w ≡ false
-not-both true g h = sym h
-not-both false g h = refl
+not-both x0 g h = grind (arith, nat_tests)
 
 is-new : (w g : Bool) → is_new w (w || (not w && g)) ≡ (not w && g)
 is-new w g = grind (arith, nat_tests)
 
 if-true : (b : Bool) (m n : ℕ) → b ≡ true → (if b then m else n) ≡ m
-if-true true m n h = refl
-if-true false m n h = absurd (cc)
+if-true x0 m n h = grind (arith, nat_tests)
 
 if-false : (b : Bool) (m n : ℕ) → b ≡ false → (if b then m else n) ≡ n
-if-false false m n h = refl
-if-false true m n h = absurd (cc)
+if-false x0 m n h = grind (arith, nat_tests)
 
 in-none : (n : ℕ) (stack : List ℕ) (m : ℕ) → often n stack ≡ 0 → 0 < often m stack → m ≢ n
 in-none n stack m none some e = let a = ap (λ k. often k stack) e in absurd (omega arith)
@@ -89,11 +86,7 @@ module _ (at at' : ℕ → Option Counts) (refs refs' : ℕ → List ArcRef) (ro
             subst (λ m. often m (x.node.0 ∷ stack) ≡ one (falls_in (at' m))) (sym same') goal
         | inr other ↦ let a = sum_by-cons (λ y. one (y == n)) x.node.0 stack in let b = fits.marked n in let d = ap (λ o. one (falls_in o)) (others n other) in grind (arith, nat_tests)
       ]
-  given-marked false e n =
-      elim (cases_eq n x.node.0) [
-        | inl same' ↦ grind (arith, nat_tests)
-        | inr other ↦ fits.marked n ∙ sym (ap (λ o. one (falls_in o)) (others n other))
-      ]
+  given-marked false e n = grind (arith, nat_tests, cases_eq)
 
   given-right : (n : ℕ) → Right (at' n) (refs' n)
   given-right n = grind (arith, nat_tests)
@@ -109,8 +102,7 @@ pub new-top : (c : Counts) (pinning listed : Bool) (top node : ℕ) → (b : Boo
 new-top c pinning listed top node b e = ap (λ (t : Bool). if t then node else top) (is-new c.is_falling _ ∙ e)
 
 pub long-if : (b : Bool) (n : ℕ) (stack : List ℕ) → length (if b then n ∷ stack else stack) ≤ length stack + 1
-long-if true n stack = omega arith
-long-if false n stack = omega arith
+long-if x0 n stack = grind (arith, nat_tests)
 
 -- the first node that waits is done: it is gone, or waits no more
 module _ (at at' : ℕ → Option Counts) (refs refs' : ℕ → List ArcRef) (rows : List HandleRow) (n : ℕ) (ns : List ℕ) (c : Counts)
@@ -119,8 +111,7 @@ module _ (at at' : ℕ → Option Counts) (refs refs' : ℕ → List ArcRef) (ro
     (others : (m : ℕ) → m ≢ n → at' m ≡ at m) (same : (m : ℕ) → refs' m ≡ refs m) (one' : n ≢ 0) where
   once : often n ns ≡ 0
   once =
-      let a = sum_by-cons (λ y. one (y == n)) n ns in
-      grind (arith, nat_tests)
+      grind (arith, nat_tests, sum_by-cons (λ y. one (y == n)) n ns)
 
   pub done-fits : Fits at' refs' rows c.next ns owns_nothing
   done-fits =
@@ -139,17 +130,14 @@ pub first-waits : (at : ℕ → Option Counts) (refs : ℕ → List ArcRef) (row
 first-waits at refs rows n ns extra fits = let a = sum_by-cons (λ y. one (y == n)) n ns in let b = fits.marked n in grind (arith, nat_tests)
 
 still-right : (w a b b' : Bool) → w ≡ true → (if w then a else b) ≡ true → (if w then a else b') ≡ true
-still-right true a b b' e h = h
-still-right false a b b' e h = absurd (cc)
+still-right x0 a b b' e h = grind (arith, nat_tests)
 
 owner-value : (n : ℕ) (o : Owner) → is_owner (owner_value n) o ≡ true → o ≡ owner_value n
-owner-value n (Owner.Value m) h = let same : m.0 ≡ n = grind (arith, nat_tests) in ap owner_value same
-owner-value n _ h = absurd (cc)
+owner-value n x1 h = grind (arith, nat_tests)
 
 -- what waits may lose references
 still : (o : Option Counts) (refs refs' : List ArcRef) → falls_in o ≡ true → Right o refs → Right o refs'
-still None refs refs' waits right = absurd (cc)
-still (Some c) refs refs' waits right = still-right c.is_falling (c.holds == 0 || (c.pins == 0 && nat_lt 0 c.key)) _ _ waits right
+still x0 refs refs' waits right = grind (arith, nat_tests, still-right)
 
 -- a node has no more pins than handles
 pub pins-le-held : (n : ℕ) (rows : List HandleRow) → pins n rows ≤ held n rows
@@ -197,8 +185,7 @@ fallen-plain : (w k : Bool) (p h : ℕ) (b : Bool) → w ≡ true → (if w then
 fallen-plain w k p h b e h' = grind (arith, nat_tests)
 
 fallen-at : (o : Option Counts) (refs : List ArcRef) → falls_in o ≡ true → Right o refs → (holds_in o ≡ 0) ⊎ ((keyed_in o ≡ true) × (pins_in o ≡ 0))
-fallen-at None refs w r = absurd (cc)
-fallen-at (Some c) refs w r = fallen-plain c.is_falling (nat_lt 0 c.key) c.pins c.holds _ w r
+fallen-at x0 refs w r = grind (arith, nat_tests, fallen-plain)
 
 pub fallen : (at : ℕ → Option Counts) (refs : ℕ → List ArcRef) (rows : List HandleRow) (n : ℕ) (ns : List ℕ) → Fits at refs rows n (n ∷ ns) owns_nothing → HasFallen at rows n
 fallen at refs rows n ns fits =

@@ -107,8 +107,7 @@ named-still hs p q o rows rows' is plain n =
 
 -- all that were seen
 or-none : (b : Bool) → (b || false) ≡ b
-or-none true = refl
-or-none false = refl
+or-none x0 = grind (arith, nat_tests)
 
 in-first : (q : ℕ) (h : HandleNumber) (xs : List HandleNumber) → is_in (numbers_of (h ∷ xs)) q ≡ (h.0 == q || is_in (numbers_of xs) q)
 unfolding is_in

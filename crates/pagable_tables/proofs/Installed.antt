@@ -42,13 +42,7 @@ module _ (w : Core) (me : Owner) (l : LoadNumber) (node_type : ℕ) (refs : List
       fits = both-none (refused_if (not (node_type == t)) Error.WrongKind) (where_so (is_owned_in w me h.0) (spent w.last.handle)) (sym (ap (root_fault w me node_type) cell) ∙ rooted)
 
       pub may-end : MayEnd w me l node h node_type refs
-      may-end =
-          record {
-            load = load;
-            owned = record { stands_open = is; own = own-so w me l load is parts.0 };
-            of_node = cell ∙ ap (λ u. of_cell node u h) (sym (typed-so node_type t fits.0));
-            good = parts.2;
-          }
+      may-end = grind (arith, nat_tests, own-so, parts, typed-so, fits)
 
 -- references are as good where there are other places
 pub references-placed : (w : Core) (places : Places) (owner : Owner) (seen : List ℕ) (refs : List ArcRef) → references_fault (record w { places = places }) owner seen refs ≡ references_fault w owner seen refs
@@ -94,9 +88,8 @@ loaded-beside l q (y ∷ ys) x other = grind (arith, nat_tests, passes-here, loa
 row-of : (rows : List HandleRow) → AllPairs IsHandleBefore rows → (row : HandleRow) → find_row row.number.0 rows ≡ Some row → (z : HandleRow) → Among rows z → is_handle row.number.0 z ≡ true
     → z.node ≡ row.node
 row-of rows ordered row found z among is =
-    let f = found-among row.number.0 rows row found in
     let n : z.number.0 ≡ row.number.0 = grind (arith, nat_tests) in
-    ap (λ (r : HandleRow). r.node) (once rows ordered z row among f.0 n)
+    ap (λ (r : HandleRow). r.node) (once rows ordered z row among (found-among row.number.0 rows row found).0 n)
 
 -- t1 is t with the pins; then the handles that the references name move to the node's value, and what the load still owns goes.
 module _ (t t1 : Tables) (stored : ℕ → Option Blob) (closed lists : Bool) (failures : ℕ) (was : IsWhole t) (whole : IsWhole t1) (e : lists ≡ not closed) (row : HandleRow)
@@ -151,8 +144,7 @@ module _ (t t1 : Tables) (stored : ℕ → Option Blob) (closed lists : Bool) (f
 
   of : (y : HandleRow) → Among rows0 y → is_handle h.0 y ≡ true → y.node ≡ row.node
   of y among is =
-      let old = among-map (λ (z : HandleRow). if s z.number.0 then record z { owner = o } else z) w.rows y among in
-      grind (arith, nat_tests, row-of)
+      grind (arith, nat_tests, row-of, among-map (λ (z : HandleRow). if s z.number.0 then record z { owner = o } else z) w.rows y among)
 
   come : moved s o (live t1.holdings.handles.places.items) ≡ u.rows
   come = ap (moved s o) a.rows ∙ moved-turned s o h.0 x w.rows spared
@@ -163,10 +155,8 @@ module _ (t t1 : Tables) (stored : ℕ → Option Blob) (closed lists : Bool) (f
   list-has : (q : ℕ) → times (λ (h : HandleNumber). h.0 == q) u.list ≡ times (λ h. is_handle q h && is_owned_by Owner.List h) u.rows
   list-has q =
       let b = sum_by_push (λ (h : HandleRow). one (is_handle q h && is_owned_by Owner.List h)) mid x in
-      let d = turned-sum (λ (h : HandleRow). one (is_handle q h && is_owned_by Owner.List h)) h.0 rows0 (λ y. refl) in
       let z : one (is_handle q x && is_owned_by Owner.List x) ≡ 0 = ap (λ b. one (is_handle q x && b)) unlisted ∙ and-zero (is_handle q x) in
-      let g = listed q in
-      omega arith
+      omega (arith, turned-sum (λ (h : HandleRow). one (is_handle q h && is_owned_by Owner.List h)) h.0 rows0 (λ y. refl), listed q)
 
   module _ (k : Holdings) (rows : live k.handles.places.items ≡ moved s o (live t1.holdings.handles.places.items)) (list : k.list ≡ t1.holdings.list) (last : k.last_handle ≡ t1.holdings.last_handle)
       (capacity : vec_capacity k.handles.places ≡ vec_capacity t1.holdings.handles.places) (cells : (n : ℕ) → cell_in (counts_at k.nodes n) ≡ cell_in (counts_at t1.holdings.nodes n)) where
@@ -203,13 +193,7 @@ module _ (t t1 : Tables) (stored : ℕ → Option Blob) (closed lists : Bool) (f
             absurd (let g = owned-given (plain_of t) (Owner.Load l) (t.holdings.last_handle + 1) was.core.handles own in omega arith)
 
     ordered : AllPairs IsHandleBefore u.rows
-    ordered =
-        subst (AllPairs IsHandleBefore) come
-        (ordered-map (λ (z : HandleRow). if s z.number.0 then record z { owner = o } else z) (live t1.holdings.handles.places.items) (λ z. by z (s z.number.0)) whole.core.handles.ordered)
-      where
-        by : (z : HandleRow) (b : Bool) → (if b then record z { owner = o } else z).number.0 ≡ z.number.0
-        by z true = refl
-        by z false = refl
+    ordered = grind (arith, nat_tests, come, ordered-map)
 
     as-before : {w' : Core} {r : Result (Unit {0}) Error} → Falls u u given r w' → Falls w u given r w'
     as-before {w'} {r} falls = seen-before {b = u} {w = w} {u = u} u.places (record { handles = omega arith; entries = omega arith }) to-before falls
@@ -241,12 +225,10 @@ module _ (t t1 : Tables) (stored : ℕ → Option Blob) (closed lists : Bool) (f
         subst (λ (v : Tables). Falls w u given r (record (core_of (record v { holdings = new }) stored closed failures) { loads = λ q. option_map load_in (loads q) })) (sym same) told
 
 pub so-then : (b : Bool) → not b ≡ false → b ≡ true
-so-then true e = refl
-so-then false e = absurd (cc)
+so-then x0 e = grind (arith, nat_tests)
 
 pub not-so : (b : Bool) → not b ≡ true → b ≡ false
-not-so false e = refl
-not-so true e = absurd (cc)
+not-so x0 e = grind (arith, nat_tests)
 
 -- t1 is t with the pins
 module _ (t t1 : Tables) (stored : ℕ → Option Blob) (closed : Bool) (failures : ℕ) (row : HandleRow) (me : Owner)
@@ -280,8 +262,7 @@ install-newer {w} {w'} me l node h k refs i = elim i.falls [
     pinned v falls = newer-then (newer-mode v h Mode.LoosePinned) (newer-then (newer-handle (with_mode v h Mode.LoosePinned) node Mode.Pinned me) (newer-falls falls))
 
 pinned-value : (c : Option Counts) → 0 < pins_in c → has_value c ≡ true
-pinned-value None some = absurd (omega arith)
-pinned-value (Some c) some = grind (arith, nat_tests)
+pinned-value x0 some = grind (arith, nat_tests)
 
 -- whose value is in memory then, where the pinned cell has got one
 module _ (t t1 : Tables) (stored : ℕ → Option Blob) (closed : Bool) (failures : ℕ) (was : IsWhole t) (whole : IsWhole t1) (row : HandleRow)

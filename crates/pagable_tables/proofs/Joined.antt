@@ -51,11 +51,7 @@ module _ (w : Core) (me : Owner) (n : ℕ) (rs : List ArcRef) (ordered : AllPair
           | inl e ↦ subst (λ k. named q (refs' k) + owns_nothing k q ≡ sum_by (is_owned k q) rows') (sym e)
               (let a = own-own w me n rs ordered fit unvalued q (none q) in let b = own-after n q in let d = ap (named q) refers in omega arith)
           | inr e ↦
-              let a = others-own w me n rs ordered fit unvalued m q e in
-              let b = own-after m q in
-              let d = own-before m q in
-              let g = ap (named q) (same m e) in
-              omega arith
+              omega (arith, others-own w me n rs ordered fit unvalued m q e, own-after m q, own-before m q, ap (named q) (same m e))
         ];
         chain = fits.chain;
         marked = fits.marked;

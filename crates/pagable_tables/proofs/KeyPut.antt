@@ -1,15 +1,14 @@
 -- A node gets a key: handles and nodes fit again, and nothing else has gone or come so far.
 use Rattle.pagable_tables.proofs.Words.{◌≡◌, ℕ, ◌<◌, ◌==◌, ◌&&◌, ◌||◌, Bool, true, false, if◌then◌else◌, List, [], ◌∷◌, refl, ap, sym, ◌∙◌, subst, arith, inl, inr, Option, Some, ◌≢◌, nat_lt, not}
-use Rattle.pagable_tables.proofs.Words.{cases_eq, nat_tests, ArcRef, HandleRow, one, Counts, Fits, Chain, Right, is_new, falls_in, next_in, often, named, owns_nothing, keyed, None, NodeNumber, Blob}
-use Rattle.pagable_tables.{proofs.{Words.{with_key, Core, nobody, Tables, Holdings, counts_at, GetsKey, Begins, SoFar, core_of}, Coming.is-free, Begun.{begins, begun}}, specs.Core.IsWhole}
+use Rattle.pagable_tables.proofs.Words.{cases_eq, nat_tests, ArcRef, HandleRow, one, Counts, Fits, Chain, Right, is_new, falls_in, often, named, owns_nothing, keyed, None, NodeNumber, Blob, with_key}
+use Rattle.pagable_tables.{proofs.{Words.{Core, nobody, Tables, Holdings, counts_at, GetsKey, Begins, SoFar, core_of}, Coming.is-free, Begun.{begins, begun}}, specs.Core.IsWhole}
 
 keyed-right : (w bare : Bool) (p h : ℕ) (k key : ℕ) → w ≡ false → 0 < key → (if w then h == 0 || (p == 0 && nat_lt 0 k) else nat_lt 0 h && (nat_lt 0 p || not (nat_lt 0 k) || bare)) ≡ true
     → (if p == 0 then h == 0 || (p == 0 && nat_lt 0 key) else nat_lt 0 h && (nat_lt 0 p || not (nat_lt 0 key) || bare)) ≡ true
 keyed-right w bare p h k key e some r = grind (arith, nat_tests)
 
 pub key-top : (b : Bool) (n top : ℕ) → (if is_new false b then n else top) ≡ (if b then n else top)
-key-top true n top = refl
-key-top false n top = refl
+key-top x0 n top = grind (arith, nat_tests)
 
 module _ (at at' : ℕ → Option Counts) (refs refs' : ℕ → List ArcRef) (rows : List HandleRow) (top n : ℕ) (c : Counts) (key : ℕ) (fits : Fits at refs rows top [] owns_nothing)
     (is : at n ≡ Some c) (some : 0 < key)
@@ -22,8 +21,7 @@ module _ (at at' : ℕ → Option Counts) (refs refs' : ℕ → List ArcRef) (ro
   real z = absurd (let a : at 0 ≡ Some c = ap at z ∙ is in cc (a, fits.from_one))
 
   key-chain : (b : Bool) → (c.pins == 0) ≡ b → Chain at' (if b then n else top) (if b then n ∷ [] else [])
-  key-chain true e = (refl, ap next_in here ∙ ap (λ b. if b then top else c.next) e ∙ fits.chain)
-  key-chain false e = fits.chain
+  key-chain x0 e = grind (arith, nat_tests)
 
   key-marked : (b : Bool) → (c.pins == 0) ≡ b → (m : ℕ) → often m (if b then n ∷ [] else []) ≡ one (falls_in (at' m))
   key-marked b e m = grind (arith, nat_tests)

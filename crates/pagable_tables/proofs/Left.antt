@@ -14,19 +14,13 @@ times-left f gone (x ∷ xs) = split (times-left f gone xs) (gone x.number.0) re
   where
     split : times f (left_rows gone xs) ≡ times (λ h. f h && not (gone h.number.0)) xs → (b : Bool) → gone x.number.0 ≡ b
         → times f (left_rows gone (x ∷ xs)) ≡ times (λ h. f h && not (gone h.number.0)) (x ∷ xs)
-    split rest true e =
-        let a = sum_by-cons (λ h. one (f h && not (gone h.number.0))) x xs in
-        let l : times f (left_rows gone (x ∷ xs)) ≡ times f (left_rows gone xs) = ap (λ b. times f (if not b then x ∷ left_rows gone xs else left_rows gone xs)) e in
-        let z : one (f x && not (gone x.number.0)) ≡ 0 = ap (λ b. one (f x && not b)) e ∙ and-zero (f x) in
-        omega arith
+    split rest true e = grind (arith, nat_tests, sum_by-cons, and-zero)
     split rest false e =
-        let a = sum_by-cons (λ h. one (f h && not (gone h.number.0))) x xs in
         let l : times f (left_rows gone (x ∷ xs)) ≡ times f (x ∷ left_rows gone xs) = ap (λ b. times f (if not b then x ∷ left_rows gone xs else left_rows gone xs)) e in
-        let c = sum_by-cons (λ h. one (f h)) x (left_rows gone xs) in
         let z : one (f x && not (gone x.number.0)) ≡ one (f x) = ap (λ b. one (f x && not b)) e ∙ ap one (and-all (f x)) in
-        omega arith
+        omega (arith, sum_by-cons (λ h. one (f h && not (gone h.number.0))) x xs, sum_by-cons (λ h. one (f h)) x (left_rows gone xs))
 
-times-le : (f g : HandleRow → Bool) (rows : List HandleRow) → ((h : HandleRow) → one (f h) ≤ one (g h)) → times f rows ≤ times g rows
+pub times-le : (f g : HandleRow → Bool) (rows : List HandleRow) → ((h : HandleRow) → one (f h) ≤ one (g h)) → times f rows ≤ times g rows
 times-le f g rows h = sum_by-le-sum_by (λ x. one (f x)) (λ x. one (g x)) rows h
 
 pub left-le : (f : HandleRow → Bool) (gone : ℕ → Bool) (rows : List HandleRow) → times f (left_rows gone rows) ≤ times f rows
@@ -43,15 +37,15 @@ left-none q [] none = refl
 left-none q (x ∷ xs) none =
     let a = sum_by-cons (λ h. one (is_handle q h)) x xs in
     let e : (x.number.0 == q) ≡ false = grind (arith, nat_tests) in
-    let rest = left-none q xs (omega arith) in
-    ap (λ b. if not b then x ∷ left_rows (λ r. r == q) xs else left_rows (λ r. r == q) xs) e ∙ ap (λ r. x ∷ r) rest
+    ap (λ b. if not b then x ∷ left_rows (λ r. r == q) xs else left_rows (λ r. r == q) xs) e ∙ ap (λ r. x ∷ r) (left-none q xs (omega arith))
+
+-- rows are as many as a sum of ones
+pub ones : (rows : List HandleRow) → sum_by (λ (h : HandleRow). 1) rows ≡ length rows
+ones [] = refl
+ones (x ∷ xs) = let a = sum_by-cons (λ (h : HandleRow). 1) x xs in let b = ones xs in omega arith
 
 -- nothing has gone
-pub left-all : (rows : List HandleRow) → left_rows (λ q. false) rows ≡ rows
-left-all [] = refl
-left-all (x ∷ xs) = ap (λ r. x ∷ r) (left-all xs)
-
-pub all-kept : (list : List HandleNumber) → filter (λ (q : HandleNumber). true) list ≡ list
+pub all-kept : {X : Type 0} (list : List X) → filter (λ (x : X). true) list ≡ list
 all-kept [] = refl
 all-kept (x ∷ xs) = ap (λ r. x ∷ r) (all-kept xs)
 
@@ -62,14 +56,12 @@ kept-more gone q [] none = refl
 kept-more gone q (x ∷ xs) none =
     let a = sum_by-cons (λ (h : HandleNumber). one (h.0 == q)) x xs in
     let e : (x.0 == q) ≡ false = grind (arith, nat_tests) in
-    let rest = kept-more gone q xs (omega arith) in
     let same : not (and_one gone q x.0) ≡ not (gone x.0) = ap (λ b. not (gone x.0 || b)) e ∙ ap not (or-false (gone x.0)) in
     ap (λ b. if b then x ∷ filter (λ (h : HandleNumber). not (and_one gone q h.0)) xs else filter (λ (h : HandleNumber). not (and_one gone q h.0)) xs) same
-    ∙ ap (λ r. if not (gone x.0) then x ∷ r else r) rest
+    ∙ ap (λ r. if not (gone x.0) then x ∷ r else r) (kept-more gone q xs (omega arith))
   where
     or-false : (b : Bool) → (b || false) ≡ b
-    or-false true = refl
-    or-false false = refl
+    or-false b0 = grind (arith, nat_tests)
 
 -- new entries pin nothing, and only the list owns them
 pub entries-none : (f : HandleRow → Bool) → ((h : HandleRow) → h.mode ≡ Mode.LooseUnpinned → h.owner ≡ Owner.List → f h ≡ false) → (last : ℕ) (entries : List HandleRow)
@@ -84,8 +76,7 @@ entries-more last (y ∷ ys) x e number mode owner = (e.0, e.1, e.2, entries-mor
 
 pub with-entry : (f : HandleRow → ℕ) (rows : List HandleRow) (listed : Bool) (k : ℕ) (node : NodeNumber)
     → sum_by f (rows ++ entries_of listed k node) ≡ sum_by f rows + (if listed then f (entry k node) else 0)
-with-entry f rows true k node = sum_by_push f rows (entry k node)
-with-entry f rows false k node = let a = ap (sum_by f) (append-nil rows) in omega arith
+with-entry f rows x2 k node = grind (arith, nat_tests, sum_by_push, append-nil)
 
 pub leaves-sums : (old new : Holdings) (x : HandleRow) (wanted listed : Bool) → Leaves old x wanted listed new → (f : HandleRow → ℕ)
     → sum_by f (live new.handles.places.items) + f x ≡ sum_by f (live old.handles.places.items) + (if listed then f (entry (old.last_handle + 1) x.node) else 0)
@@ -102,10 +93,7 @@ parts q [] = refl
 parts q (x ∷ xs) =
     let a = sum_by-cons (λ h. one (is_handle q h)) x xs in
     let b = sum_by-cons (λ h. one (of_list q h)) x xs in
-    let d = sum_by-cons (λ h. one (of_other q h)) x xs in
-    let rest = parts q xs in
-    let here = bits (is_handle q x) (is_owned_by Owner.List x) in
-    omega arith
+    omega (arith, sum_by-cons (λ h. one (of_other q h)) x xs, parts q xs, bits (is_handle q x) (is_owned_by Owner.List x))
   where
     bits : (a b : Bool) → one a ≡ one (a && b) + one (a && not b)
     bits a b = grind (arith, nat_tests)

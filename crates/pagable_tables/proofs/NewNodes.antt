@@ -1,20 +1,18 @@
 -- A birth, by what it is made of; and why references are refused before a number that is spent.
-use Rattle.pagable_tables.proofs.Words.{◌≡◌, ℕ, ◌<◌, true, List, [], refl, ap, ◌∙◌, subst, arith, Ok, Some, None, zero, suc, nat_tests, OptionalDataKey, Error, ArcRef, HandleNumber, Owner, Mode, Core}
-use Rattle.pagable_tables.proofs.Words.{Alike, greatest, earlier, references_fault, birth_fault, with_handle, with_node, next_node, AwayBirthCall, IsWhole, ArePlaced, MayHold, Counts, key_in, Bears}
-use Rattle.pagable_tables.proofs.{Words.{BearsValue, OnlyRoom}, keeps.HandleCalls.{birth-whole, no-references}, Newer.{OnlyNewer, newer-then, newer-alike, newer-node}, Readied.{next-past, born-past}}
+use Rattle.pagable_tables.proofs.Words.{◌≡◌, ℕ, ◌<◌, List, [], ap, ◌∙◌, subst, arith, Ok, Some, None, nat_tests, OptionalDataKey, Error, ArcRef, HandleNumber, Owner, Mode, Core, Alike, greatest}
+use Rattle.pagable_tables.proofs.Words.{earlier, references_fault, birth_fault, with_handle, with_node, next_node, AwayBirthCall, IsWhole, ArePlaced, MayHold, Counts, key_in, Bears}
 use Rattle.pagable_tables.proofs.Opened.{earlier-first, spent-late, late, references-low}
+use Rattle.pagable_tables.proofs.{Words.{BearsValue, OnlyRoom}, keeps.HandleCalls.{birth-whole, no-references}, Newer.{OnlyNewer, newer-then, newer-alike, newer-node}, Readied.{next-past, born-past}}
 
 -- a cause that tells of a reference comes before a number that is spent
 pub references-first : (w : Core) (me : Owner) (rs : List ArcRef) (e : Error) → references_fault w me [] rs ≡ Some e → earlier (references_fault w me [] rs) (birth_fault w) ≡ Some e
-references-first w me rs e is =
-    earlier-first _ (birth_fault w) e is (λ f so. let a = references-low w me [] rs e is in let b = late _ _ 4 (spent-late w.last.node true) (spent-late w.last.handle true) f so in omega arith)
+references-first w me rs e is = grind (arith, nat_tests, earlier-first, references-low, late, spent-late)
 
 pub none-named : (w : Core) (me : Owner) (rs : List ArcRef) → rs ≡ [] → references_fault w me [] rs ≡ None
 none-named w me rs is = ap (references_fault w me []) is ∙ no-references w me
 
 key-is : (k : ℕ) → 0 < k → key_in k ≡ OptionalDataKey.Some k
-key-is zero some = absurd (omega arith)
-key-is (suc k) some = refl
+key-is x0 some = grind (arith, nat_tests)
 
 module _ (w : Core) (me : Owner) (node_type : ℕ) (c : Counts) (rs : List ArcRef) (mode : Mode) (w' : Core) (typed : c.node_type ≡ node_type) where
   abbrev born : ℕ → OptionalDataKey → Core

@@ -3,8 +3,8 @@ use Rattle.pagable_tables.proofs.Words.{◌≡◌, ℕ, ◌+◌, ◌&&◌, Bool,
 use Rattle.pagable_tables.proofs.Words.{entries_of, is_listing, Leaves, GivesUp, SoFar, arith, nat_tests, ◌<◌, ◌≤◌, ◌==◌, true, false, not, if◌then◌else◌, [], ◌∷◌, length, filter, map, sum_by, refl}
 use Rattle.pagable_tables.proofs.Words.{sym, subst, is_some, vec_capacity, append-nil, map-append, length-append, sum_by-cons, sum_by-append, sum_by-le-sum_by, Error, HandleNumber, NodeNumber, Owner}
 use Rattle.pagable_tables.proofs.Words.{one, is_pin, is_owned_by, held, pins, greatest, IsWithin, IsClosed, AreNewEntries, TellsListing, IsListRefusal, is_keyed, counts_at, pins_in, entry, cell_in}
-use Rattle.pagable_tables.proofs.Words.{first_cause, IsUnlisted, HasPlaces, with_tables, told_by, IsApart, ◌≢◌, Result, Ok, Err, MustList, CellsStay, is_at, is_owner, owner_value, is_outside}
-use Rattle.pagable_tables.proofs.{Words.{HasFallen, FallsBy, ◌||◌, inl, inr, Option, IsFalling, Steps, owns_nothing, ◌⊎◌}, Left.{and_one, left-more, left-none, kept-more, times-left, entries-more}}
+use Rattle.pagable_tables.proofs.Words.{first_cause, IsUnlisted, HasPlaces, with_tables, told_by, IsApart, ◌≢◌, Result, MustList, CellsStay, is_at, is_owner, owner_value, is_outside, HasFallen}
+use Rattle.pagable_tables.proofs.{Words.{FallsBy, ◌||◌, inl, inr, Option, IsFalling, Steps, owns_nothing, ◌⊎◌}, Left.{and_one, left-more, left-none, kept-more, times-left, entries-more, ones}}
 use Rattle.pagable_tables.proofs.{Left.{leaves-sums, of_list, none-listed, none-entered}, Telling.{entry-pins, only-more, tells-more, refusal-now, forced}, Bits.one-le}
 
 rows-leaves : (rows entries : List HandleRow) (gone : ℕ → Bool) (old new : Holdings) (x : HandleRow) (wanted listed : Bool) → Leaves old x wanted listed new
@@ -40,25 +40,17 @@ list-kept : (gone : ℕ → Bool) (q : ℕ) (rows : List HandleRow) (list : List
 list-kept gone q rows list listed none = grind (arith, nat_tests, kept-gone, sum_by-le-sum_by, kept-more)
 
 pub entry-number : (listed : Bool) (k : ℕ) (node : NodeNumber) → map (λ (h : HandleRow). h.number) (entries_of listed k node) ≡ (if listed then record { 0 = k } ∷ [] else [])
-entry-number true k node = refl
-entry-number false k node = refl
+entry-number x0 k node = grind (arith, nat_tests)
 
 pub new-more : (last : ℕ) (entries : List HandleRow) (listed : Bool) (k : ℕ) (node : NodeNumber) → AreNewEntries last entries → k ≡ last + length entries + 1
     → AreNewEntries last (entries ++ entries_of listed k node)
-new-more last entries true k node new is = entries-more last entries (entry k node) new is refl refl
-new-more last entries false k node new is = subst (AreNewEntries last) (sym (append-nil entries)) new
+new-more last entries x2 k node new is = grind (arith, nat_tests, entries-more, append-nil)
 
 pub long-one : (listed : Bool) (k : ℕ) (node : NodeNumber) → length (entries_of listed k node) ≡ one listed
-long-one true k node = refl
-long-one false k node = refl
+long-one x0 k node = grind (arith, nat_tests)
 
 pub within-more : (listed : Bool) (last : ℕ) → last ≤ greatest → (listed ≡ true → last < greatest) → last + one listed ≤ greatest
-within-more true last within left = let a = left refl in omega arith
-within-more false last within left = omega arith
-
-pub ones : (rows : List HandleRow) → sum_by (λ (h : HandleRow). 1) rows ≡ length rows
-ones [] = refl
-ones (x ∷ xs) = let a = sum_by-cons (λ (h : HandleRow). 1) x xs in let b = ones xs in omega arith
+within-more x0 last within left = grind (arith, nat_tests)
 
 one-more : (listed : Bool) → (if listed then 1 else 0) ≤ 1
 one-more listed = one-le listed
@@ -185,8 +177,7 @@ refusal-same w t new e r = grind (arith, nat_tests)
 
 tells-same : (before w : Core) (entries : List HandleRow) (t new : Holdings) (r : Result (Unit {0}) Error) → TellsListing before w entries r (with_tables w t)
     → TellsListing before w entries r (with_tables w (record t { nodes = new.nodes; top = new.top }))
-tells-same before w entries t new (Ok u) tells = record { all = λ n m. tells.all n (must-back before w t new n m); not_all = tells.not_all }
-tells-same before w entries t new (Err e) tells = record { all = tells.all; not_all = let a = tells.not_all in (a.0, must-same before w t new a.0 a.1, a.2, refusal-same w t new e a.3) }
+tells-same before w entries t new x5 tells = grind (arith, nat_tests, must-back, must-same, refusal-same)
 
 -- nothing happened to the handles and the list
 same-handles : (before w : Core) (given : ℕ → Bool) (lists : Bool) (t new : Holdings) → SoFar before w given lists t → CellsStay (counts_at t.nodes) (counts_at new.nodes) → t.top ≢ 0
@@ -297,14 +288,11 @@ pub steps-fewer : (t new : Holdings) (stack : List ℕ) (lists : Bool) (r : Opti
 steps-fewer t new stack lists r s = elim s.what [
   | inl done ↦ let a = ap (λ (u : Holdings). length (live u.handles.places.items)) done.1 in omega arith
   | inr gone ↦
-      let a = ap (λ (u : Holdings). length (live u.handles.places.items)) gone.3.same in
-      let b = gives-fewer gone.3.popped new gone.3.stack gone.0 lists gone.3.gives in
-      omega arith
+      omega (arith, ap (λ (u : Holdings). length (live u.handles.places.items)) gone.3.same, gives-fewer gone.3.popped new gone.3.stack gone.0 lists gone.3.gives)
 ]
 
 none-came : (listed : Bool) (q : HandleNumber) → (listed ≡ true → false ≡ true) → (if listed then q ∷ [] else []) ≡ []
-none-came true q only = absurd (let e = only refl in cc)
-none-came false q only = refl
+none-came x0 q only = grind (arith, nat_tests)
 
 pub gives-unlisted : (t new : Holdings) (stack : List ℕ) (x : HandleRow) (lists : Bool) → lists ≡ false → GivesUp t stack x lists new → new.list.items ≡ t.list.items
 gives-unlisted t new stack x lists shut g = grind (arith, nat_tests, none-came, append-nil)

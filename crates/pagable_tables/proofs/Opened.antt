@@ -1,9 +1,9 @@
 -- Why calls are refused, and which of several causes is told. Loads that are opened and closed again, and what is offered to the cache.
-use Rattle.pagable_tables.proofs.Words.{◌≡◌, ℕ, ◌<◌, ◌≤◌, Bool, true, List, sym, ◌∙◌, arith, Option, Some, None, inl, inr, ◌≢◌, ◌⊎◌, nat_tests, Error, OptionalDataKey, HandleNumber, LoadNumber}
-use Rattle.pagable_tables.proofs.Words.{HandleRow, Owner, Mode, if_there, is_owner, is_loose, is_in_memory, pins, Core, Cell, OpenLoad, greatest, row_at, rank, earlier, where_so, refused_if, spent}
-use Rattle.pagable_tables.proofs.Words.{handle_fault, load_fault, closed_fault, OwnsLoad, Refused, Counts, LoadRow, pins_in, cell_in, key_in, load_in, option_map, or_else, not, if◌then◌else◌}
-use Rattle.pagable_tables.proofs.Words.{reference_fault, row_fault, references_fault, is_in, fits_mode, is_type, type_of, type_at, ArcRef, [], ◌∷◌, ◌||◌, ◌==◌, ◌+◌, refl, is_some, updated, ◌&&◌}
-use Rattle.pagable_tables.proofs.Words.{NodeNumber, Kind, is_usable, offer_fault, ap, subst, Ok, Err, mode_of, usable, Alike, with_handle, recall_fault, RecallCall, Makes}
+use Rattle.pagable_tables.proofs.Words.{◌≡◌, ℕ, ◌<◌, ◌≤◌, Bool, true, List, arith, Option, Some, None, ◌≢◌, ◌⊎◌, nat_tests, Error, OptionalDataKey, HandleNumber, LoadNumber, HandleRow, Owner, Mode}
+use Rattle.pagable_tables.proofs.Words.{if_there, is_owner, is_loose, is_in_memory, pins, Core, Cell, OpenLoad, greatest, row_at, rank, earlier, where_so, refused_if, spent, handle_fault, load_fault}
+use Rattle.pagable_tables.proofs.Words.{closed_fault, OwnsLoad, Refused, Counts, LoadRow, pins_in, cell_in, key_in, load_in, option_map, or_else, not, if◌then◌else◌, reference_fault, row_fault}
+use Rattle.pagable_tables.proofs.Words.{references_fault, is_in, fits_mode, is_type, type_of, type_at, ArcRef, [], ◌∷◌, ◌||◌, ◌==◌, ◌+◌, is_some, updated, ◌&&◌, NodeNumber, Kind, is_usable}
+use Rattle.pagable_tables.proofs.Words.{offer_fault, ap, subst, Ok, Err, mode_of, usable, Alike, with_handle, recall_fault, RecallCall, Makes}
 
 -- a load that wasn't open comes and goes
 pub load-goes : (at at' at'' : ℕ → Option LoadRow) (l : ℕ) → at l ≡ None → ((q : ℕ) → q ≢ l → at' q ≡ at q) → at'' l ≡ None → ((q : ℕ) → q ≢ l → at'' q ≡ at' q) → (q : ℕ) → option_map load_in (at'' q) ≡ option_map load_in (at q)
@@ -73,8 +73,7 @@ unspent last lt = grind (arith, nat_tests)
 
 -- while numbers are left only memory can be wanting
 pub only-memory : (last : ℕ) (e : Error) {A B : Type 0} → last < greatest → (spent last ≡ Some e) ⊎ ((e ≡ Error.OutOfMemory) × A × B) → e ≡ Error.OutOfMemory
-only-memory last e lt (inl is) = absurd (let a = sym (unspent last lt) ∙ is in cc)
-only-memory last e lt (inr is) = is.0
+only-memory last e lt x3 = grind (arith, nat_tests, unspent)
 
 pub no-begin-fault : (w : Core) (me : Owner) (h : HandleNumber) (so : Bool) → handle_fault w me h is_loose ≡ None → w.last.load < greatest → w.last.handle < greatest → earlier (handle_fault w me h is_loose) (where_so so (earlier (spent w.last.load) (spent w.last.handle))) ≡ None
 no-begin-fault w me h so none load handle = grind (arith, nat_tests)
@@ -104,8 +103,7 @@ load-comes at at' l row here others q = grind (arith, nat_tests)
 
 -- no load has a number that wasn't given yet
 pub none-yet : (o : Option LoadRow) (last : ℕ) → (is_some (option_map load_in o) ≡ true → last + 1 ≤ last) → o ≡ None
-none-yet None last h = refl
-none-yet (Some row) last h = let a = h refl in absurd (omega arith)
+none-yet x0 last h = grind (arith, nat_tests)
 
 module _ (w : Core) (me : Owner) (kind : Kind) (key : ℕ) (h : HandleNumber) where
   abbrev kind-fault : Option Error

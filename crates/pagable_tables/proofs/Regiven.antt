@@ -4,8 +4,7 @@ use Rattle.pagable_tables.proofs.{Words.{Owner, one, is_handle, is_owner, is_own
 use Rattle.pagable_tables.proofs.{Next.within-less, Bits.{and-false, had}}
 
 less-unless : (a g b : Bool) → (a ≡ true → (b || g) ≡ true) → one (a && not g) ≤ one (b && not g)
-less-unless true false false h = absurd (let e = h refl in cc)
-less-unless _ _ _ h = omega arith
+less-unless x0 x1 x2 h = grind (arith, nat_tests)
 
 less-where : (a b s : Bool) → (a ≡ true → b ≡ true) → one (a && not s) ≤ one (b && not s)
 less-where a b s h = grind (arith, nat_tests)
@@ -66,14 +65,7 @@ module _ (test : HandleRow → Bool) (q : ℕ) where
       left e = ap (λ b. passes_in test ((if not b then x ∷ left_rows gone xs else left_rows gone xs) ++ entries) q) e
 
       split-left : (a b : Bool) → gone x.number.0 ≡ a → is_handle q x ≡ b → passes_in test (left_rows gone (x ∷ xs) ++ entries) q ≡ (not (gone q) && passes_in test (x ∷ xs) q)
-      split-left false true e f =
-          kept e ∙ ap (λ b. if b then test x else passes_in test (left_rows gone xs ++ entries) q) f
-          ∙ sym (ap (λ b. not b && passes_in test (x ∷ xs) q) (same f ∙ e) ∙ there true f)
-      split-left false false e f =
-          kept e ∙ ap (λ b. if b then test x else passes_in test (left_rows gone xs ++ entries) q) f
-          ∙ rest ∙ sym (ap (λ b. not (gone q) && b) (there false f))
-      split-left true true e f = left e ∙ rest ∙ ap (λ b. not b && passes_in test xs q) (same f ∙ e) ∙ sym (ap (λ b. not b && passes_in test (x ∷ xs) q) (same f ∙ e))
-      split-left true false e f = left e ∙ rest ∙ sym (ap (λ b. not (gone q) && b) (there false f))
+      split-left x0 x1 e f = grind (arith, nat_tests, kept, same, there, left)
 
     pub passes-left : (rows : List HandleRow) → passes_in test entries q ≡ false → passes_in test (left_rows gone rows ++ entries) q ≡ (not (gone q) && passes_in test rows q)
     passes-left [] none = none ∙ sym (ap (λ b. not (gone q) && b) passes-none ∙ and-false (not (gone q)))
@@ -115,14 +107,7 @@ given-one before w given lists t new l n f some g = regiven before w (and_one gi
     mine = had (f.gone n) _ (sym (passes-so-far before w given lists t f (is_owned_by (Owner.Load l)) (unlisting (Owner.Load l) refl) n) ∙ some)
 
     less : (r : ℕ) → and_owned w l given n r ≡ true → (and_one given n r || g.gone r) ≡ true
-    less r e = bits (given r) (r == n) (is_owned_in w (Owner.Load l) r) (g.gone r) e
-      where
-        bits : (v b o g : Bool) → (v || (b && o)) ≡ true → ((v || b) || g) ≡ true
-        bits v b o g e = grind (arith, nat_tests)
+    less r e = grind (arith, nat_tests)
 
     more : (r : ℕ) → and_one given n r ≡ true → and_owned w l given n r ≡ true
-    more r e = split (r == n) refl
-      where
-        split : (b : Bool) → (r == n) ≡ b → and_owned w l given n r ≡ true
-        split true h = let m : n ≡ r = grind (arith, nat_tests) in let o : is_owned_in w (Owner.Load l) r ≡ true = ap (is_owned_in w (Owner.Load l)) (sym m) ∙ mine in grind (arith, nat_tests)
-        split false h = grind (arith, nat_tests)
+    more r e = grind (arith, nat_tests, mine)

@@ -1,12 +1,12 @@
 -- A handle that comes stays, while others that are given go with all that follows.
-use Rattle.pagable_tables.proofs.Words.{◌≡◌, ℕ, ◌<◌, ◌≤◌, ◌==◌, ◌&&◌, ◌++◌, Bool, true, false, not, if◌then◌else◌, List, [], ◌∷◌, refl, ap, sym, ◌∙◌, subst, arith, inl, inr, None, ◌⊎◌, nat_eq, Result}
-use Rattle.pagable_tables.proofs.Words.{AllPairs, nat_tests, cases_eq, sum_by-le-sum_by, sum_by_push, sum_by-append, Error, HandleRow, Among, if_there, one, times, is_loose_kind, is_owner, mode_of}
-use Rattle.pagable_tables.proofs.Words.{is_at, is_pin, is_pinning, is_shared, is_owned_by, owner_value, held, pins, sharing, Core, Places, HasRoom, IsHandleBefore, HandlesAreWhole, references_fault}
-use Rattle.pagable_tables.proofs.Words.{is_owned_in, ArcRef, IsLeast, IsWithin, IsClosed, loses_value, pins_outside, held_outside, owned_outside, is_outside, is_keyed, left_rows, Falls, is_named_by}
-use Rattle.pagable_tables.proofs.Words.{is_valued, LoadNumber, Mode, Owner, ◌+◌, Option, NodeNumber, Blob, is_handle, HandleNumber, Last, Alike, nobody, row_of, with_handle, Counts, Tables, live}
-use Rattle.pagable_tables.proofs.{Words.{counts_at, ValueStays, cell_in, has_value, pins_in, SoFar, core_of, Some, changed, find_row, with_mode}, Coming.no-value, Regiven.{owned, passes-here}}
-use Rattle.pagable_tables.proofs.{Regiven.passes-none, Left.times-left, Taken.owned-given, keeps.HandleCalls.named-mine, keeps.Rows.{counted, at-most-sum, once, among-last}, Opened.owner-self}
-use Rattle.pagable_tables.{proofs.{Begun.{begins, begun}, Ended.none-falls-in, Worlds.same-cache}, specs.Core.IsWhole}
+use Rattle.pagable_tables.proofs.Words.{◌≡◌, ℕ, ◌<◌, ◌≤◌, ◌==◌, ◌&&◌, ◌++◌, Bool, true, false, not, if◌then◌else◌, List, [], ◌∷◌, refl, ap, sym, ◌∙◌, subst, arith, inl, inr, None, ◌⊎◌, nat_eq}
+use Rattle.pagable_tables.proofs.Words.{Result, AllPairs, nat_tests, cases_eq, sum_by-le-sum_by, sum_by_push, sum_by-append, Error, HandleRow, Among, if_there, one, times, is_loose_kind, is_owner}
+use Rattle.pagable_tables.proofs.Words.{mode_of, is_at, is_pin, is_pinning, is_shared, is_owned_by, owner_value, held, pins, sharing, Core, Places, HasRoom, IsHandleBefore, HandlesAreWhole}
+use Rattle.pagable_tables.proofs.Words.{references_fault, is_owned_in, ArcRef, IsLeast, IsWithin, IsClosed, loses_value, pins_outside, held_outside, owned_outside, is_outside, is_keyed, left_rows}
+use Rattle.pagable_tables.proofs.Words.{Falls, is_named_by, is_valued, LoadNumber, Mode, Owner, ◌+◌, Option, NodeNumber, Blob, is_handle, HandleNumber, Last, Alike, nobody, row_of, with_handle}
+use Rattle.pagable_tables.proofs.{Words.{Counts, Tables, live, counts_at, ValueStays, cell_in, has_value, pins_in, SoFar, core_of, Some, changed, find_row, with_mode}, Coming.no-value}
+use Rattle.pagable_tables.proofs.{Regiven.{owned, passes-here, passes-none}, Left.times-left, Taken.owned-given, keeps.HandleCalls.named-mine, keeps.Rows.{counted, at-most-sum, once, among-last}}
+use Rattle.pagable_tables.{proofs.{Opened.owner-self, Begun.{begins, begun}, Ended.none-falls-in, Worlds.same-cache}, specs.Core.IsWhole}
 
 zero-or : (n : ℕ) → (n ≡ 0) ⊎ (0 < n)
 zero-or n = elim (cases_eq n 0) [ inl e ↦ inl e | inr e ↦ inr (omega arith) ]
@@ -49,10 +49,8 @@ module _ (rows : List HandleRow) (keyed : ℕ → Bool) (entries : List HandleRo
 
   pub not-least : s x.number.0 ≡ false
   not-least =
-      let a = least.least less given-less closed-less in
-      let l = at-most-sum (λ h. one (s h.number.0 && not (less h.number.0))) rows x there in
       let e : (x.number.0 == x.number.0) ≡ true = grind (arith, nat_tests) in
-      grind (arith, nat_tests)
+      grind (arith, nat_tests, least.least less given-less closed-less, at-most-sum (λ h. one (s h.number.0 && not (less h.number.0))) rows x there)
 
 -- why a cell must be listed, seen from another world before
 module _ {b w u w' : Core} {given : ℕ → Bool} {r : Result (Unit {0}) Error} (places : Places) (more : HasRoom u.places places)

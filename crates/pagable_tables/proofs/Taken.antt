@@ -1,14 +1,14 @@
 -- A load is closed or hands handles over, or a worker leaves, and what they still own is given up.
 use Rattle.pagable_tables.proofs.Words.{◌≡◌, ℕ, ◌<◌, ◌==◌, ◌&&◌, Bool, true, false, not, if◌then◌else◌, List, [], ◌∷◌, length, refl, ap, sym, ◌∙◌, subst, arith, Option, None, inl, inr, nat_tests}
-use Rattle.pagable_tables.proofs.Words.{sum_by-cons, HandleNumber, LoadNumber, HandleRow, Owner, Blob, Among, one, times, is_in, is_handle, is_owner, is_owned_by, is_pin, is_share, find_row, pins}
-use Rattle.pagable_tables.proofs.Words.{Core, HasRoom, MayOwnLoad, load_fault, named_fault, nobody, moved, without_load, numbers_of, hand_over_fault, Tables, Holdings, live, is_valued, with_tables}
-use Rattle.pagable_tables.proofs.Words.{is_plain_pin, SoFar, core_of, named_at, IsNamed, ◌≤◌, Some, ◌≢◌, Result, option_map, Error, updated, if_there, OpenLoad, Falls, is_owned_in, LoadRow, passes_in}
-use Rattle.pagable_tables.proofs.{Words.{load_in, ◌+◌, Ok, TakeCall, is_workers_load, with_worker, left_load}, Begun.{begins, begun}, Handed.{seen-all, in-there}, Regiven.owned}
+use Rattle.pagable_tables.proofs.Words.{sum_by-cons, HandleNumber, LoadNumber, HandleRow, Owner, Blob, one, times, is_in, is_handle, is_owner, is_owned_by, is_pin, is_share, find_row, pins, Core}
+use Rattle.pagable_tables.proofs.Words.{HasRoom, MayOwnLoad, load_fault, named_fault, nobody, moved, without_load, numbers_of, hand_over_fault, Tables, Holdings, live, is_valued, with_tables}
+use Rattle.pagable_tables.proofs.Words.{is_plain_pin, SoFar, core_of, named_at, IsNamed, ◌≤◌, Some, ◌≢◌, Result, option_map, Error, updated, if_there, OpenLoad, Falls, is_owned_in, LoadRow}
+use Rattle.pagable_tables.proofs.{Words.{passes_in, load_in, ◌+◌, Ok, TakeCall, is_workers_load, with_worker, left_load}, Begun.{begins, begun}, Handed.{seen-all, in-there}}
+use Rattle.pagable_tables.proofs.{Regiven.owned, keeps.Comes.not-list, keeps.EndCalls.{both-none, handed-mine, handed-unlisted, asker-owns}, keeps.LoadCalls.may-hold}
+use Rattle.pagable_tables.{proofs.{keeps.HandleCalls.moved-to-holder, keeps.Rows.found-among}, specs.Core.IsWhole, specs.Giving.TakesWorker}
 use Rattle.pagable_tables.proofs.Words.{NodeNumber, Giving, gives_row, AreLater, InReach, Reach, reach_at, worker_at, is_some, plain_of, cases_Bool, inl, inr, ◌||◌}
 use Rattle.pagable_tables.proofs.{Bits.and-left, Opened.owner-self, Words.{load_at, refused_if}}
 use Rattle.pagable_world.specs.Workers.{is_load_of}
-use Rattle.pagable_tables.proofs.{keeps.Comes.not-list, keeps.EndCalls.{both-none, handed-mine, asker-owns}, keeps.LoadCalls.may-hold, keeps.HandleCalls.moved-to-holder, keeps.Rows.found-among}
-use Rattle.pagable_tables.{proofs.keeps.Rows.once, specs.{Core.IsWhole, Giving.TakesWorker}}
 use Rattle.pagable_model.specs.declared.numbers.WorkerNumber.{WorkerNumber}
 use Rattle.pagable_world.specs.Pager as pager
 
@@ -16,15 +16,11 @@ use Rattle.pagable_world.specs.Pager as pager
 pub moved-times : (f : HandleRow → Bool) (s : ℕ → Bool) (o : Owner) (rows : List HandleRow) → ((x : HandleRow) → f (record x { owner = o }) ≡ f x) → times f (moved s o rows) ≡ times f rows
 moved-times f s o [] same = refl
 moved-times f s o (x ∷ xs) same =
-    let rest = moved-times f s o xs same in
-    let a = sum_by-cons (λ h. one (f h)) x xs in
     let b = sum_by-cons (λ h. one (f h)) (if s x.number.0 then record x { owner = o } else x) (moved s o xs) in
-    let d = ap one (split (s x.number.0)) in
-    omega arith
+    omega (arith, moved-times f s o xs same, sum_by-cons (λ h. one (f h)) x xs, ap one (split (s x.number.0)))
   where
     split : (b : Bool) → f (if b then record x { owner = o } else x) ≡ f x
-    split true = same x
-    split false = refl
+    split b0 = grind (arith, nat_tests)
 
 -- what one owns once handles have moved to another
 pub owned-moved : (s : ℕ → Bool) (o a : Owner) (q : ℕ) (rows : List HandleRow) → is_owner a o ≡ false → owned a q (moved s o rows) ≡ (owned a q rows && not (s q))
@@ -85,13 +81,7 @@ pub still-listed : {w : Core} → pager.IsWhole w → (me : Owner) (l : LoadNumb
     → (q : ℕ) → times (λ (h : HandleNumber). h.0 == q) w.list ≡ times (λ h. is_handle q h && is_owned_by Owner.List h) (moved (is_in (numbers_of hs)) me w.rows)
 still-listed {w} whole me l hs can =
     let holder = may-hold w me can.may in
-    (moved-to-holder whole (is_in (numbers_of hs)) unlisted me (not-list w me holder) holder).owners_there.listed
-  where
-    unlisted : (x : HandleRow) → Among w.rows x → is_in (numbers_of hs) x.number.0 ≡ true → is_owned_by Owner.List x ≡ false
-    unlisted x among named =
-        let m = handed-mine w (Owner.Load l) [] hs can.named x.number.0 named in
-        let a = found-among x.number.0 w.rows m.row m.live in
-        ap (is_owned_by Owner.List) (once w.rows whole.handles.ordered x m.row among a.0 (sym a.1)) ∙ ap (is_owner Owner.List) m.own
+    (moved-to-holder whole (is_in (numbers_of hs)) (handed-unlisted w whole.handles.ordered l hs can.named) me (not-list w me holder) holder).owners_there.listed
 
 -- a load isn't there any more
 pub load-closed : (at at' : ℕ → Option LoadRow) (l : ℕ) → at' l ≡ None → ((q : ℕ) → q ≢ l → at' q ≡ at q) → (q : ℕ) → updated l None (λ q. option_map load_in (at q)) q ≡ option_map load_in (at' q)

@@ -1,10 +1,10 @@
 -- A handle has gone and an entry may have come: which cells must be listed then, and what is told of it.
-use Rattle.pagable_tables.proofs.Words.{◌≡◌, ℕ, ◌+◌, ◌≤◌, ◌&&◌, Bool, true, false, not, if◌then◌else◌, List, [], ◌∷◌, refl, ap, sym, ◌∙◌, arith, Option, Some, None, inl, inr, zero, suc, is_some}
-use Rattle.pagable_tables.proofs.Words.{nat_lt, nat_eq, nat_tests, sum_by-cons, sum_by-append, sum_by-le-sum_by, OptionalDataKey, HandleRow, one, times, if_there, is_at, is_pin, is_owned_by}
-use Rattle.pagable_tables.proofs.Words.{owner_value, held, pins, has_key, Core, Cell, IsWithin, IsClosed, is_keyed, is_outside, left_rows, held_outside, pins_outside, Counts, Holdings, live}
-use Rattle.pagable_tables.proofs.Words.{counts_at, keyed_in, key_in, cell_in, HasFallen, SoFar, ◌⊎◌, cases_Bool, and_parts, NodeNumber, Owner, Mode, is_share, is_shared, is_pinning, MustList, pins_in}
-use Rattle.pagable_tables.proofs.Words.{entry, is_listing, with_tables, is_plain_pin, ◌<◌, ◌++◌, length, subst, vec_capacity, Error, TellsListing, IsListRefusal, entries_of, IsUnlisted, first_cause}
-use Rattle.pagable_tables.proofs.{Words.told_by, Left.{times-left, entries-none, left-le, with-entry}}
+use Rattle.pagable_tables.proofs.Words.{◌≡◌, ℕ, ◌+◌, ◌≤◌, ◌&&◌, Bool, true, false, not, if◌then◌else◌, List, [], ◌∷◌, refl, ap, sym, ◌∙◌, arith, Option, Some, None, inl, inr, is_some, nat_lt, nat_eq}
+use Rattle.pagable_tables.proofs.Words.{nat_tests, sum_by-cons, sum_by-append, OptionalDataKey, HandleRow, one, times, if_there, is_at, is_pin, is_owned_by, owner_value, held, pins, has_key, Core}
+use Rattle.pagable_tables.proofs.Words.{Cell, IsWithin, IsClosed, is_keyed, is_outside, left_rows, held_outside, pins_outside, Counts, Holdings, live, counts_at, keyed_in, key_in, cell_in, HasFallen}
+use Rattle.pagable_tables.proofs.Words.{SoFar, ◌⊎◌, cases_Bool, and_parts, NodeNumber, Owner, Mode, is_share, is_shared, is_pinning, MustList, pins_in, entry, is_listing, with_tables, is_plain_pin}
+use Rattle.pagable_tables.proofs.{Words.{◌<◌, ◌++◌, length, subst, vec_capacity, Error, TellsListing, IsListRefusal, entries_of, IsUnlisted, first_cause, told_by}, Left.{times-left, entries-none}}
+use Rattle.pagable_tables.proofs.{Left.{left-le, with-entry, times-le}, Begun.open-then}
 
 -- what is outside the one set is outside the other, or between them
 cut : (f : HandleRow → Bool) (gone s : ℕ → Bool) (rows : List HandleRow) → times (λ h. f h && not (s h.number.0)) rows
@@ -21,16 +21,11 @@ cut f gone s (x ∷ xs) =
     bits : (p g s : Bool) → one (p && not s) ≤ one (p && not g) + one (g && not s)
     bits p g s = grind (arith, nat_tests)
 
-le : (f g : HandleRow → Bool) (rows : List HandleRow) → ((h : HandleRow) → one (f h) ≤ one (g h)) → times f rows ≤ times g rows
-le f g rows h = sum_by-le-sum_by (λ x. one (f x)) (λ x. one (g x)) rows h
-
 pub keyed-cell : (k : ℕ) → has_key (key_in k) ≡ nat_lt 0 k
-keyed-cell zero = refl
-keyed-cell (suc n) = let some : nat_lt 0 (suc n) ≡ true = grind (arith, nat_tests) in sym some
+keyed-cell x0 = grind (arith, nat_tests)
 
 up-keyed : (o : Option Counts) (cell : Option Cell) → (is_some o ≡ true → cell_in o ≡ cell) → keyed_in o ≡ true → has_key (if_there (λ (c : Cell). c.key) OptionalDataKey.None cell) ≡ true
-up-keyed None cell same e = absurd (cc)
-up-keyed (Some c) cell same e = ap (λ (o : Option Cell). has_key (if_there (λ (c : Cell). c.key) OptionalDataKey.None o)) (sym (same refl)) ∙ keyed-cell c.key ∙ e
+up-keyed x0 cell same e = grind (arith, nat_tests, keyed-cell)
 
 module _ (before w : Core) (given : ℕ → Bool) (lists : Bool) (t : Holdings) (f : SoFar before w given lists t) (s : ℕ → Bool) (within : IsWithin w.rows f.gone s) where
   counted : (p : HandleRow → Bool) → times p (live t.handles.places.items) ≡ times (λ h. p h && not (f.gone h.number.0)) w.rows + times p f.entries
@@ -42,7 +37,7 @@ module _ (before w : Core) (given : ℕ → Bool) (lists : Bool) (t : Holdings) 
   lost final n true e bare down =
       let a = counted (is_pin n) in
       let b = cut (is_pin n) f.gone s w.rows in
-      let d : pins n (live t.handles.places.items) ≤ held n (live t.handles.places.items) = le (is_pin n) (is_at n) (live t.handles.places.items) (λ h. grind (arith, nat_tests)) in
+      let d : pins n (live t.handles.places.items) ≤ held n (live t.handles.places.items) = times-le (is_pin n) (is_at n) (live t.handles.places.items) (λ h. grind (arith, nat_tests)) in
       grind (arith, nat_tests)
   lost final n false e bare (inl none) =
       let a = counted (is_at n) in
@@ -58,7 +53,8 @@ module _ (before w : Core) (given : ℕ → Bool) (lists : Bool) (t : Holdings) 
       let none = closed n (lost final n (is_keyed w n) refl bare down) in
       let a = counted (λ h. is_owned_by (owner_value n) h && is_outside s h) in
       let b = entries-none (λ h. is_owned_by (owner_value n) h && is_outside s h) (λ h mode owner. grind (arith, nat_tests)) w.last.handle f.entries f.new in
-      let d = le (λ h. (is_owned_by (owner_value n) h && is_outside s h) && not (f.gone h.number.0)) (λ h. is_owned_by (owner_value n) h && is_outside s h) w.rows (λ h. grind (arith, nat_tests)) in
+      let d = times-le (λ h. (is_owned_by (owner_value n) h && is_outside s h) && not (f.gone h.number.0)) (λ h. is_owned_by (owner_value n) h && is_outside s h)
+      w.rows (λ h. grind (arith, nat_tests)) in
       omega arith
 
 -- what a listing handle is: the last pin of a cell without a key
@@ -70,23 +66,16 @@ is-listing c m p s one k = grind (arith, nat_tests)
 
 -- a new entry pins nothing
 pub entry-pins : (listed : Bool) (k n : ℕ) (node : NodeNumber) → (if listed then one (is_pin n (entry k node)) else 0) ≡ 0
-entry-pins true k n node = grind (arith, nat_tests)
-entry-pins false k n node = refl
+entry-pins x0 k n node = grind (arith, nat_tests)
 
 cell-keyed : (o : Option Counts) (c : Counts) (cell : Option Cell) → o ≡ Some c → (is_some o ≡ true → cell_in o ≡ cell) → has_key (if_there (λ (c : Cell). c.key) OptionalDataKey.None cell) ≡ nat_lt 0 c.key
 cell-keyed o c cell is same = grind (arith, nat_tests, keyed-cell)
 
-not-closed : (lists closed : Bool) → lists ≡ not closed → lists ≡ true → closed ≡ false
-not-closed lists true e l = absurd (cc)
-not-closed lists false e l = refl
-
 open-lists : (lists closed : Bool) → lists ≡ not closed → closed ≡ false → lists ≡ true
-open-lists lists true e c = absurd (cc)
-open-lists lists false e c = e
+open-lists lists x1 e c = grind (arith, nat_tests)
 
 both : (a b : Bool) → a ≡ true → b ≡ true → (a && b) ≡ true
-both true b e h = h
-both false b e h = absurd (cc)
+both x0 b e h = grind (arith, nat_tests)
 
 module _ (before w : Core) (given : ℕ → Bool) (lists : Bool) (t : Holdings) (f : SoFar before w given lists t) where
   -- what no new entry is, is in the tables no more often than at first
@@ -106,7 +95,7 @@ module _ (before w : Core) (given : ℕ → Bool) (lists : Bool) (t : Holdings) 
       let d = f.begins.fewer n in
       let p = no-more (is_plain_pin n) (λ h mode owner. grind (arith, nat_tests)) in
       let plain : one (is_plain_pin n x) ≡ 1 = grind (arith, nat_tests) in
-      grind (arith, nat_tests, cell-keyed, not-closed)
+      grind (arith, nat_tests, cell-keyed, open-then)
 
   -- a cell must be listed: its last pin had gone before, or it has gone now
   pub must-before : (x : HandleRow) (c : Counts) (new : Holdings) (n : ℕ) → counts_at t.nodes x.node.0 ≡ Some c
@@ -189,11 +178,9 @@ module _ (before w : Core) (given : ℕ → Bool) (lists : Bool) (t : Holdings) 
         | inr now ↦
             elim (cases_Bool listed) [
               | inl there ↦
-                  let l = ap (λ b. if b then one (is_at n (entry k x.node)) else 0) there in
-                  let eq = now.0 in
                   let e : one (is_at n (entry k x.node)) ≡ 1 = grind (arith, nat_tests) in
                   let z : held n f.entries ≡ 0 = ap (λ m. held m f.entries) now.0 ∙ none-held now.1 in
-                  omega arith
+                  omega (arith, ap (λ b. if b then one (is_at n (entry k x.node)) else 0) there, now.0)
               | inr none ↦ absurd (comes none now.1)
             ]
       ]
@@ -221,8 +208,4 @@ module _ (before w : Core) (given : ℕ → Bool) (lists : Bool) (t : Holdings) 
       ]
     where
       unlisted : listed ≡ false → (lists && is_listing c x.mode) ≡ true → held x.node.0 (f.entries ++ entries_of listed k x.node) ≡ 0
-      unlisted none wanted =
-          let more = with-entry (λ h. one (is_at x.node.0 h)) f.entries listed k x.node in
-          let l = ap (λ b. if b then one (is_at x.node.0 (entry k x.node)) else 0) none in
-          let z = none-held wanted in
-          omega arith
+      unlisted none wanted = grind (arith, nat_tests, with-entry, none-held)

@@ -4,8 +4,8 @@ use Rattle.pagable_tables.proofs.Words.{None, slice_get, ◌≢◌, Result, Ok, 
 use Rattle.pagable_tables.proofs.Words.{is_share, is_handle, is_owned_by, pins, sharing, Core, greatest, with_mode, left_rows, MustList, TellsListing, IsListRefusal, nobody, Tables, Holdings, live}
 use Rattle.pagable_tables.proofs.Words.{alive, entries_of, first_cause, IsUnlisted, unpinned, Lowers, with_tables, told_by, Begins, SoFar, core_of, ◌-◌, ◌==◌, sum_by, refl, nat_lt, sum_by_push}
 use Rattle.pagable_tables.proofs.{Words.{ArcRef, updated, is_pinning, Counts, Fits, entry, after, is_fallen_by, owns_nothing, is_valued, CellsStay}, Alive.row-le-live, Begun.begun-whole}
-use Rattle.pagable_tables.proofs.{Begun.{none-within, fits-unowned}, Next.{entry-number, new-more, long-one, within-more, ones}, Left.{left-all, all-kept, with-entry}, Telling.listing-is}
-use Rattle.pagable_tables.{proofs.{Telling.{entry-pins, only-more, tells-more, refusal-now}, Coming.come-fits, Fitting.given-fits}, specs.Core.IsWhole}
+use Rattle.pagable_tables.proofs.{Begun.{none-within, fits-unowned}, Next.{entry-number, new-more, long-one, within-more}, Left.{ones, all-kept, with-entry}, Telling.{listing-is, entry-pins}}
+use Rattle.pagable_tables.{proofs.{Telling.{only-more, tells-more, refusal-now}, Coming.come-fits, Fitting.given-fits}, specs.Core.IsWhole}
 
 -- what must be listed and what is told of it, where only a mode differs
 must-moded : (before w : Core) (h : HandleNumber) (new : Holdings) (n : ℕ) → MustList before w (with_tables w new) n
@@ -18,10 +18,7 @@ must-plain before w h new n m = record { pinned = m.pinned; unpinned = m.unpinne
 
 refusal-moded : (w : Core) (h : HandleNumber) (new : Holdings) (e : Error) → IsListRefusal w (with_tables w new) e
     → IsListRefusal (with_mode w h Mode.LooseUnpinned) (with_tables (with_mode w h Mode.LooseUnpinned) new) e
-refusal-moded w h new Error.NumbersSpent r = r
-refusal-moded w h new Error.OutOfMemory r =
-    (elim r.0 [ inl rows ↦ inl (let a = length-map w.rows (λ row. if is_handle h.0 row then record row { mode = Mode.LooseUnpinned } else row) in omega arith) | inr entries ↦ inr entries ], r.1)
-refusal-moded w h new _ r = absurd r
+refusal-moded w h new x3 r = grind (arith, nat_tests, length-map)
 
 tells-moded : (before w : Core) (h : HandleNumber) (entries : List HandleRow) (new : Holdings) (r : Result (Unit {0}) Error) → TellsListing before w entries r (with_tables w new)
     → TellsListing before (with_mode w h Mode.LooseUnpinned) entries r (with_tables (with_mode w h Mode.LooseUnpinned) new)
@@ -66,7 +63,7 @@ module _ (T : Tables) (stored : ℕ → Option Blob) (closed lists : Bool) (fail
   last = let a : new.last_handle ≡ l.between.last_handle = ap (λ (h : Holdings). h.last_handle) l.same in let b = l.comes.comes.last in let d = since in omega arith
 
   rows : live new.handles.places.items ≡ left_rows nobody now.rows ++ entries_of l.listed (t.last_handle + 1) x.node
-  rows = grind (arith, nat_tests, after-rows, since, left-all)
+  rows = let a : left_rows nobody now.rows ≡ now.rows = all-kept now.rows in grind (arith, nat_tests, after-rows, since)
 
   abbrev came : List HandleNumber
   came = if l.listed then record { 0 = t.last_handle + 1 } ∷ [] else []
@@ -131,8 +128,7 @@ updated-other n x f q other = let e : (q == n) ≡ false = grind (arith, nat_tes
 -- one that is pinned no more falls only if it has a key
 pub keyed-then : (c : Counts) (listed : Bool) → 1 ≤ c.holds → is_fallen_by (record c { holds = c.holds + 1 }) true (c.pins - 1) (if listed then c.holds + 1 else c.holds + 1 - 1)
     ≡ true → nat_lt 0 c.key ≡ true
-keyed-then c true some e = grind (arith, nat_tests)
-keyed-then c false some e = grind (arith, nat_tests)
+keyed-then c x1 some e = grind (arith, nat_tests)
 
 module _ (at at' : ℕ → Option Counts) (refs refs' : ℕ → List ArcRef) (rows rows' : List HandleRow) (top : ℕ) (x : HandleRow) (c : Counts) (listed : Bool) (k : ℕ)
     (fits : Fits at refs rows top [] owns_nothing) (is : at x.node.0 ≡ Some c)

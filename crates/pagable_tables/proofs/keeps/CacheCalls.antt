@@ -1,8 +1,8 @@
 -- Calls on the cache and on room keep the world whole.
-use Rattle.pagable_tables.proofs.Words.{◌≡◌, ℕ, ◌<◌, ◌==◌, ◌&&◌, Bool, true, false, if◌then◌else◌, Ok, Err, Option, Some, None, inl, inr, refl, ap, sym, subst, ◌∙◌, arith, Result, is_some, nat_tests}
-use Rattle.pagable_tables.proofs.Words.{Error, HandleNumber, Kind, NodeNumber, HandleRow, Owner, Mode, one, Among, is_shared_kind, sharing, is_share, is_shared, fits_mode, mode_of, Core, Cell}
-use Rattle.pagable_tables.proofs.Words.{greatest, usable, only_handle, ClearCall, ReserveCall, RecallCall, OfferCall, with_cached, with_known, IsWhole, IsEntryWhole, ArePlaced, MayHold, Suits}
-use Rattle.pagable_tables.proofs.{keeps.Rows.{at-most-sum, counted, found-among}, keeps.Told.{roomy, roomy-whole, settles, told-whole, alike-whole, may-own}, keeps.Comes.{type_in, beside, handle-on}}
+use Rattle.pagable_tables.proofs.Words.{◌≡◌, ℕ, ◌<◌, ◌==◌, ◌&&◌, Bool, true, false, if◌then◌else◌, Ok, Err, Option, Some, None, inl, inr, refl, ap, sym, ◌∙◌, arith, Result, is_some, nat_tests, Error}
+use Rattle.pagable_tables.proofs.Words.{HandleNumber, Kind, NodeNumber, HandleRow, Owner, Mode, one, Among, is_shared_kind, sharing, is_share, is_shared, fits_mode, mode_of, Core, Cell, greatest}
+use Rattle.pagable_tables.proofs.Words.{usable, only_handle, ClearCall, ReserveCall, RecallCall, OfferCall, with_cached, with_known, IsWhole, IsEntryWhole, ArePlaced, MayHold, Suits}
+use Rattle.pagable_tables.proofs.{keeps.Rows.{at-most-sum, counted, found-among}, keeps.Told.{roomy, roomy-whole, settles, told-whole, alike-whole, may-own, type_in}, keeps.Comes.{beside, handle-on}}
 use Rattle.pagable_tables.proofs.{keeps.Comes.unshared-node, keeps.Fallen.{may-fall, falls-whole}}
 
 pub clear-whole : {w w' : Core} (r : Result (Unit {0}) Error) → IsWhole w → ClearCall w r w' → ArePlaced w' → IsWhole w'
@@ -33,9 +33,7 @@ pub known-whole : {w : Core} (kind : Kind) (key n : ℕ) (owner : Owner) → IsW
 known-whole kind key n owner whole is holder left = beside whole (record { 0 = n }) (mode_of kind.0) (known-suits whole kind.0 key n is) owner holder left
 
 pub recall-whole : {w w' : Core} (me : Owner) (kind : Kind) (key : ℕ) (r : Result (Option HandleNumber) Error) → IsWhole w → MayHold w me → RecallCall w me kind key r w' → ArePlaced w' → IsWhole w'
-recall-whole me kind key (Ok (Some k)) whole holder call placed = let (n, is, next, leaves) = call.answers in settles (known-whole kind key n me whole is holder next.is_left) leaves placed
-recall-whole me kind key (Ok None) whole holder call placed = alike-whole whole call.answers.1 placed
-recall-whole me kind key (Err e) whole holder call placed = alike-whole whole call.refused.stays placed
+recall-whole me kind key x3 whole holder call placed = grind (arith, nat_tests, settles, known-whole, alike-whole)
 
 -- ---- what the cache learns
 
@@ -57,9 +55,7 @@ cached-whole {w} kind key n whole stands_open entry =
     }
   where
     at : (k q m : ℕ) (a b : Bool) → (k == kind.0) ≡ a → (if a && b then Some n.0 else w.cache k q) ≡ Some m → IsEntryWhole w k m
-    at k q m true true e is = let same : n.0 ≡ m = cc in let of_kind : k ≡ kind.0 = grind (arith, nat_tests) in subst (λ i. IsEntryWhole w i m) (sym of_kind) (subst (IsEntryWhole w kind.0) same entry)
-    at k q m true false e is = whole.cache k q m is
-    at k q m false b e is = whole.cache k q m is
+    at k q m b3 b4 e is = grind (arith, nat_tests)
 
 -- handles of one node are all Shared, or none is
 pub shared-alike : {w : Core} → IsWhole w → (x y : HandleRow) → Among w.rows x → Among w.rows y → x.node.0 ≡ y.node.0 → is_shared x.mode ≡ is_shared y.mode
@@ -73,10 +69,7 @@ shared-alike {w} whole x y there here same = at (is_shared x.mode) (is_shared y.
         omega arith
 
     at : (a b : Bool) → is_shared x.mode ≡ a → is_shared y.mode ≡ b → is_shared x.mode ≡ is_shared y.mode
-    at true true e f = e ∙ sym f
-    at false false e f = e ∙ sym f
-    at true false e f = let a = counts x there e in let b = unshared-node whole y here f in let c = ap (λ n. sharing n w.rows) same in absurd (omega arith)
-    at false true e f = let a = counts y here f in let b = unshared-node whole x there e in let c = ap (λ n. sharing n w.rows) same in absurd (omega arith)
+    at b0 b1 e f = grind (arith, nat_tests, unshared-node, counts)
 
 pub offer-whole : {w w' : Core} (me : Owner) (kind : Kind) (key : ℕ) (h : HandleNumber) (r : Result (Option HandleNumber) Error) → IsWhole w → MayHold w me → OfferCall w me kind key h r w'
     → ArePlaced w' → IsWhole w'

@@ -1,9 +1,9 @@
 -- A handle comes, under the next number.
-use Rattle.pagable_tables.proofs.Words.{◌≡◌, ℕ, ◌≤◌, ◌<◌, ◌+◌, ◌==◌, ◌&&◌, Bool, true, false, [], ◌∷◌, ◌++◌, Option, Some, None, inl, inr, refl, ap, sym, subst, ◌∙◌, arith, ◌⊎◌, ◌≢◌, is_some, nat_lt}
-use Rattle.pagable_tables.proofs.Words.{cases_eq, nat_tests, sum_by_push, OptionalDataKey, HandleNumber, NodeNumber, HandleRow, Owner, Mode, one, Among, if_there, is_shared_kind, held, sharing, is_at}
-use Rattle.pagable_tables.proofs.Words.{is_share, is_shared, is_handle, is_owner, is_owned_by, has_key, Core, Cell, greatest, with_handle, row_of, OwnersAreThere, IsRootWhole, IsEntryWhole, IsWhole}
-use Rattle.pagable_tables.proofs.{Words.{is_valued, MayHold, Suits}, keeps.Rows.{among-both, among-one, at-most-sum, sum-less, found-among, found-push, ordered-push}, keeps.Told.{roomy, may-own}}
-use Rattle.pagable_tables.proofs.{keeps.Told.GoesOn, Bits.and-zero}
+use Rattle.pagable_tables.proofs.Words.{◌≡◌, ℕ, ◌≤◌, ◌<◌, ◌+◌, ◌==◌, ◌&&◌, Bool, true, false, [], ◌∷◌, ◌++◌, Option, Some, inl, inr, refl, ap, sym, subst, ◌∙◌, arith, ◌⊎◌, ◌≢◌, is_some, nat_lt}
+use Rattle.pagable_tables.proofs.Words.{cases_eq, nat_tests, sum_by_push, HandleNumber, NodeNumber, HandleRow, Owner, Mode, one, Among, is_shared_kind, held, sharing, is_at, is_share, is_shared}
+use Rattle.pagable_tables.proofs.Words.{is_handle, is_owner, is_owned_by, Core, Cell, greatest, with_handle, row_of, OwnersAreThere, IsRootWhole, IsEntryWhole, IsWhole, is_valued, MayHold, Suits}
+use Rattle.pagable_tables.proofs.{keeps.Rows.{among-both, among-one, at-most-sum, sum-less, found-among, found-push, ordered-push}, keeps.Told.{roomy, may-own, keyed_in, type_in, GoesOn}}
+use Rattle.pagable_tables.proofs.Bits.{and-zero}
 
 -- who may hold is neither the list nor a value
 pub not-list : (w : Core) (o : Owner) → MayHold w o → is_owner Owner.List o ≡ false
@@ -14,13 +14,6 @@ not-a-value w o may = grind (arith, nat_tests)
 
 pub not-the-list : (w : Core) (o : Owner) → MayHold w o → o ≡ Owner.List → ⊥
 not-the-list w o may is = subst (MayHold w) is may
-
--- whether a cell has a key
-abbrev pub keyed_in : Option Cell → Bool
-keyed_in cell = has_key (if_there (λ (cell : Cell). cell.key) OptionalDataKey.None cell)
-
-abbrev pub type_in : Option Cell → Option ℕ
-type_in cell = if_there (λ (cell : Cell). Some cell.node_type) None cell
 
 -- Of a node that is there, or of a new one.
 module _ {w : Core} (whole : IsWhole w) (x : HandleRow) (cells : ℕ → Option Cell) (last : ℕ) (number : x.number.0 ≡ w.last.handle + 1) (left : w.last.handle < greatest)

@@ -1,15 +1,15 @@
 -- Calls by which a load goes on or ends, and the close of the storage, keep the world whole.
 use Rattle.pagable_tables.proofs.Words.{◌≡◌, ℕ, suc, zero, ◌<◌, ◌==◌, ◌&&◌, ◌||◌, Bool, true, false, not, if◌then◌else◌, List, [], ◌∷◌, Ok, Err, Option, Some, None, inl, inr, refl, ap, sym, subst}
 use Rattle.pagable_tables.proofs.Words.{◌∙◌, arith, ◌⊎◌, Result, is_some, nat_tests, Error, ArcRef, HandleNumber, LoadNumber, NodeNumber, HandleRow, Owner, Mode, Among, times, if_there, is_in}
-use Rattle.pagable_tables.proofs.Words.{updated, is_loose, is_handle, is_owner, is_owned_by, owner_value, Core, OpenLoad, greatest, row_at, Owns, references_fault, named_fault, load_fault, refused_if}
-use Rattle.pagable_tables.proofs.Words.{earlier, moved, with_mode, is_named_by, is_listed, shut, CloseCall, without_load, with_pin, is_owned_in, numbers_of, cell_fault, LoadCloses, EndCall}
-use Rattle.pagable_tables.proofs.Words.{HandOverCall, DropCall, IsWhole, MayOwnLoad, ArePlaced, ◌+◌, OptionalDataKey, Kind, type_of, is_loose_kind, is_shared, mode_of, has_key, OwnsLoad, row_of}
-use Rattle.pagable_tables.proofs.{Words.{next_node, with_handle, with_node, with_cached, GetsKnown, adopted, first_key, LazyCall, AdoptCall, IsEntryWhole, MayHold}, Worlds.owner-same}
-use Rattle.pagable_tables.proofs.{keeps.Rows.{among-both, among-one, among-map, among-to, found-among, once, ordered-map, among-last, found-so}, keeps.Told.{roomy, roomy-whole, roomy-loads}}
-use Rattle.pagable_tables.proofs.{keeps.Told.{alike-whole, may-own, settles, GoesOn, stays-on, then-on, on-listing}, keeps.Comes.{not-list, handle-on}, keeps.HandleCalls.{moved-number, moved-on}}
-use Rattle.pagable_tables.proofs.keeps.HandleCalls.{moved-to-value, moved-to-holder, pin-comes, pin-on, IsMine, named-mine, named-unlisted, born, born-whole, cell-new, no-references, moved-world}
-use Rattle.pagable_tables.proofs.{keeps.Fallen.{MayFall, may-fall, opened, alike-opened, falls-opened, references-opened}, keeps.LoadCalls.may-hold, keeps.CacheCalls.{mode-shared, known-whole}}
-use Rattle.pagable_tables.proofs.keeps.CacheCalls.{cached-whole, shared-alike}
+use Rattle.pagable_tables.proofs.Words.{AllPairs, IsHandleBefore, updated, is_loose, is_handle, is_owner, is_owned_by, owner_value, Core, OpenLoad, greatest, row_at, Owns, references_fault}
+use Rattle.pagable_tables.proofs.Words.{named_fault, load_fault, refused_if, earlier, moved, with_mode, is_named_by, is_listed, shut, CloseCall, without_load, with_pin, is_owned_in, numbers_of}
+use Rattle.pagable_tables.proofs.Words.{cell_fault, LoadCloses, EndCall, HandOverCall, DropCall, IsWhole, MayOwnLoad, ArePlaced, ◌+◌, OptionalDataKey, Kind, type_of, is_loose_kind, is_shared}
+use Rattle.pagable_tables.proofs.Words.{mode_of, has_key, OwnsLoad, row_of, next_node, with_handle, with_node, with_cached, GetsKnown, adopted, first_key, LazyCall, AdoptCall, IsEntryWhole, MayHold}
+use Rattle.pagable_tables.proofs.{Worlds.owner-same, keeps.Rows.{among-both, among-one, among-map, among-to, found-among, once, ordered-map, among-last, found-so}, keeps.Told.{roomy, roomy-whole}}
+use Rattle.pagable_tables.proofs.{keeps.Told.{roomy-loads, alike-whole, may-own, settles, GoesOn, stays-on, then-on, on-listing}, keeps.Comes.{not-list, handle-on}, keeps.HandleCalls.moved-number}
+use Rattle.pagable_tables.proofs.keeps.HandleCalls.{moved-on, moved-to-value, moved-to-holder, pin-comes, pin-on, IsMine, named-mine, named-unlisted, born, born-whole, cell-new, no-references}
+use Rattle.pagable_tables.proofs.{keeps.HandleCalls.moved-world, keeps.Fallen.{MayFall, may-fall, opened, alike-opened, falls-opened, references-opened}, keeps.LoadCalls.may-hold}
+use Rattle.pagable_tables.proofs.keeps.CacheCalls.{mode-shared, known-whole, cached-whole, shared-alike}
 
 -- ---- a load closes
 
@@ -45,18 +45,13 @@ closes {before} {u} l given was whole on gives =
     there x k among own false e = inl (whole.owners_there.loads x k among own)
 
     some-still : (k : ℕ) → is_some (updated l.0 None u.loads k) ≡ true → is_some (u.loads k) ≡ true
-    some-still k some = at (k == l.0) some
-      where
-        at : (b : Bool) → is_some (if b then None else u.loads k) ≡ true → is_some (u.loads k) ≡ true
-        at true some = absurd (cc)
-        at false some = some
+    some-still k some = grind (arith, nat_tests)
 
 -- what a load owns, it owns by its number too
 owned-in : {w : Core} → IsWhole w → (l : LoadNumber) (x : HandleRow) → Among w.rows x → x.owner ≡ Owner.Load l → is_owned_in w (Owner.Load l) x.number.0 ≡ true
 owned-in {w} whole l x among own =
-    let found = found-so x.number.0 w.rows x whole.handles.ordered among refl in
     let self : (l.0 == l.0) ≡ true = grind (arith, nat_tests) in
-    ap (if_there (is_owned_by (Owner.Load l)) false) found ∙ ap (is_owner (Owner.Load l)) own ∙ self
+    ap (if_there (is_owned_by (Owner.Load l)) false) (found-so x.number.0 w.rows x whole.handles.ordered among refl) ∙ ap (is_owner (Owner.Load l)) own ∙ self
 
 load-closes : {w w' : Core} (l : LoadNumber) (r : Result (Unit {0}) Error) → IsWhole (opened w) → LoadCloses w l r w' → ArePlaced (opened w') → IsWhole (opened w')
 load-closes {w} l r whole falls placed = falls-opened (closes l (is_owned_in w (Owner.Load l)) whole (roomy-whole whole) (stays-on (opened w)) (owned-in whole l)) falls placed
@@ -84,8 +79,7 @@ module _ {w m : Core} (was : IsWhole w) (whole : IsWhole (roomy m)) (on : GoesOn
   ]
     where
       of : (y : HandleRow) → Among m.rows y → (b : Bool) → x ≡ (if b then record y { mode = Mode.LoosePinned } else y) → given x.number.0 ≡ true
-      of y there true e = ap (λ (z : HandleRow). given z.number.0) e ∙ gives y there (ap (λ (z : HandleRow). z.owner) (sym e) ∙ own)
-      of y there false e = ap (λ (z : HandleRow). given z.number.0) e ∙ gives y there (ap (λ (z : HandleRow). z.owner) (sym e) ∙ own)
+      of y there b2 e = grind (arith, nat_tests)
 
   pins-on : GoesOn m (with_pin m h row.node me)
   pins-on = let p = pin-on {w = roomy m} h row me whole (may-hold m me may) owns-roomy in record { cells = p.cells; rows = p.rows }
@@ -172,8 +166,7 @@ handed-mine w owner seen (h ∷ hs) good q named =
     at (h.0 == q) refl named (of (row_at w h) refl parts.0) (λ n. handed-mine w owner (h.0 ∷ seen) hs parts.1 q n)
   where
     own : (b c : Bool) → refused_if (not b || c) Error.NotYours ≡ None → b ≡ true
-    own true c e = refl
-    own false c e = absurd (cc)
+    own b0 c e = grind (arith, nat_tests)
 
     of : (found : Option HandleRow) → row_at w h ≡ found → if_there (λ (row : HandleRow). refused_if (not (is_owner owner row.owner) || is_in seen h.0) Error.NotYours)
         (Some Error.NoSuchHandle) found ≡ None → IsMine w owner h.0
@@ -181,8 +174,15 @@ handed-mine w owner seen (h ∷ hs) good q named =
     of (Some row) e good = record { row = row; live = e; own = owner-same owner row.owner (own (is_owner owner row.owner) (is_in seen h.0) good) }
 
     at : (b : Bool) → (h.0 == q) ≡ b → (b || is_in (numbers_of hs) q) ≡ true → IsMine w owner h.0 → (is_in (numbers_of hs) q ≡ true → IsMine w owner q) → IsMine w owner q
-    at true e named mine rest = let same : h.0 ≡ q = grind (arith, nat_tests) in subst (IsMine w owner) same mine
-    at false e named mine rest = rest named
+    at b0 e named mine rest = grind (arith, nat_tests)
+
+-- what is handed over isn't the list's
+pub handed-unlisted : (w : Core) → AllPairs IsHandleBefore w.rows → (l : LoadNumber) (hs : List HandleNumber) → named_fault w (Owner.Load l) [] hs ≡ None → (x : HandleRow) → Among w.rows x
+    → is_in (numbers_of hs) x.number.0 ≡ true → is_owned_by Owner.List x ≡ false
+handed-unlisted w ordered l hs good x among named =
+    let m = handed-mine w (Owner.Load l) [] hs good x.number.0 named in
+    let a = found-among x.number.0 w.rows m.row m.live in
+    ap (is_owned_by Owner.List) (once w.rows ordered x m.row among a.0 (sym a.1)) ∙ ap (is_owner Owner.List) m.own
 
 -- who isn't refused owns the load
 pub asker-owns : {w : Core} → IsWhole w → (me : Owner) (l : LoadNumber) → load_fault w me l ≡ None → MayOwnLoad w me
@@ -198,15 +198,10 @@ hand-over-whole {w} {w'} me l hs (Ok u) whole call placed =
     let s = is_in (numbers_of hs) in
     let m : Core = record (opened w) { rows = moved s me w.rows } in
     let given = λ (q : ℕ). is_owned_in w (Owner.Load l) q && not (is_in (numbers_of hs) q) in
-    falls-opened (closes {u = m} l given whole (moved-to-holder whole s (unlisted second.1) me (not-list w me (may-hold w me may)) (may-hold w me may)) (moved-on whole s me)
+    falls-opened (closes {u = m} l given whole (moved-to-holder whole s (handed-unlisted w whole.handles.ordered l hs second.1) me (not-list w me (may-hold w me may)) (may-hold w me may))
+    (moved-on whole s me)
     (left-given may)) falls.falls placed
   where
-    unlisted : named_fault w (Owner.Load l) [] hs ≡ None → (x : HandleRow) → Among w.rows x → is_in (numbers_of hs) x.number.0 ≡ true → is_owned_by Owner.List x ≡ false
-    unlisted good x among named =
-        let m = handed-mine w (Owner.Load l) [] hs good x.number.0 named in
-        let a = found-among x.number.0 w.rows m.row m.live in
-        ap (is_owned_by Owner.List) (once w.rows whole.handles.ordered x m.row among a.0 (sym a.1)) ∙ ap (is_owner Owner.List) m.own
-
     left-given : MayOwnLoad w me → (y : HandleRow) → Among (moved (is_in (numbers_of hs)) me w.rows) y → y.owner ≡ Owner.Load l
         → (is_owned_in w (Owner.Load l) y.number.0 && not (is_in (numbers_of hs) y.number.0)) ≡ true
     left-given may y among own =
@@ -234,7 +229,6 @@ close-whole {w} {w'} r whole call placed = falls-opened fall call.falls.falls pl
     fall =
         let h = whole.handles in
         let o = whole.owners_there in
-        let after = opened (shut w w'.failures) in
         record {
           handles = record {
             ordered = h.ordered;
@@ -252,7 +246,7 @@ close-whole {w} {w'} r whole call placed = falls-opened fall call.falls.falls pl
           workers_there = λ x v among is. inl (o.workers x v among is);
           loads = record {
             numbered = whole.loads.numbered;
-            owned = λ l load is. may-own w after (λ v at. at) load.owner (whole.loads.owned l load is);
+            owned = λ l load is. may-own w (opened (shut w w'.failures)) (λ v at. at) load.owner (whole.loads.owned l load is);
             roots = λ l load node t q is root. let r = whole.loads.roots l load node t q is root in record { typed = r.typed; begun = r.begun; given = r.given };
           };
           cache = λ kind key n is. absurd (cc);

@@ -1,11 +1,11 @@
 -- The world is whole once handles have fallen, whether the storage was closed or not.
-use Rattle.pagable_tables.proofs.Words.{◌≡◌, ℕ, suc, zero, ◌+◌, ◌<◌, ◌≤◌, ◌==◌, ◌&&◌, Bool, true, false, not, List, [], ◌∷◌, length, filter, if◌then◌else◌, Option, Some, None, inl, inr, refl, ap, sym}
-use Rattle.pagable_tables.proofs.Words.{subst, ◌∙◌, arith, ◌⊎◌, map, is_some, nat_lt, Result, nat_tests, AllPairs-filter, sum_by-append, Error, HandleNumber, LoadNumber, NodeNumber, HandleRow, Owner}
-use Rattle.pagable_tables.proofs.Words.{Mode, one, Among, times, is_shared_kind, held, pins, sharing, is_at, is_share, is_shared, is_loose, is_handle, is_owned_by, Core, Cell, greatest, Falls, fallen}
-use Rattle.pagable_tables.proofs.Words.{left_rows, IsWithin, AreNewEntries, IsHandleBefore, HandlesAreWhole, OwnersAreThere, LoadsAreWhole, IsRootWhole, IsEntryWhole, IsWhole, ArePlaced, ArcRef}
-use Rattle.pagable_tables.proofs.{Words.{or_else, Alike, references_fault, reference_fault}, keeps.Rows.{found-so, same-left, one-left, within-goes, IsEntry, entry-is, entries-listed}}
+use Rattle.pagable_tables.proofs.Words.{◌≡◌, ℕ, suc, zero, ◌+◌, ◌<◌, ◌≤◌, ◌==◌, ◌&&◌, Bool, true, false, not, List, [], ◌∷◌, length, filter, if◌then◌else◌, Option, Some, None, inl, inr, refl, ap}
+use Rattle.pagable_tables.proofs.Words.{sym, subst, ◌∙◌, arith, ◌⊎◌, map, is_some, nat_lt, Result, nat_tests, AllPairs-filter, sum_by-append, Error, HandleNumber, LoadNumber, NodeNumber, HandleRow}
+use Rattle.pagable_tables.proofs.Words.{Owner, Mode, one, Among, times, is_shared_kind, held, pins, sharing, is_at, is_share, is_shared, is_loose, is_handle, is_owned_by, Core, Cell, greatest, Falls}
+use Rattle.pagable_tables.proofs.Words.{fallen, left_rows, IsWithin, AreNewEntries, IsHandleBefore, HandlesAreWhole, OwnersAreThere, LoadsAreWhole, IsRootWhole, IsEntryWhole, IsWhole, ArePlaced}
+use Rattle.pagable_tables.proofs.{Words.{ArcRef, or_else, Alike, references_fault, reference_fault}, keeps.Rows.{found-so, same-left, one-left, within-goes, IsEntry, entry-is, entries-listed}}
 use Rattle.pagable_tables.proofs.{keeps.Rows.{ordered-entries, among-both, among-left, at-most-sum, counted, found-among}, Left.{left-le, entries-none}, keeps.Told.{roomy, roomy-loads, may-own}}
-use Rattle.pagable_tables.proofs.{keeps.Told.{settles, GoesOn, on-listing}, keeps.Comes.{keyed_in, type_in}, Bits.{not-so, and-false, one-true}}
+use Rattle.pagable_tables.proofs.{keeps.Told.{settles, GoesOn, on-listing, keyed_in, type_in}, Bits.{not-so, and-false, one-true}}
 
 -- What is whole of a world before handles fall: all, but that owners of the given handles may have gone. And a cell that must be listed is there still, and unshared.
 pub record MayFall (before u : Core) (given : ℕ → Bool) : Type 0 where
@@ -106,8 +106,7 @@ module _ {before u : Core} {given : ℕ → Bool} (may : MayFall before u given)
       }
     where
       keyless : (n : ℕ) (b : Bool) → keyed_in (u.cells n) ≡ false → keyed_in (if b then u.cells n else None) ≡ false
-      keyless n true e = e
-      keyless n false e = refl
+      keyless n b1 e = grind (arith, nat_tests)
 
   -- the list's handles of one number
   abbrev lists : ℕ → HandleRow → Bool

@@ -4,8 +4,8 @@ use Rattle.pagable_tables.proofs.Words.{times, is_shared, is_loose, is_handle, i
 use Rattle.pagable_tables.proofs.Words.{NodeNumber, is_pinned, Pinning, Owns, with_pin, row_at, greatest, with_mode, CloneCall, LoosenCall, PinCall, ArePlaced, Suits, Makes, ◌+◌, ◌||◌, ◌∷◌, Option}
 use Rattle.pagable_tables.proofs.Words.{None, inl, inr, ◌⊎◌, ◌≢◌, OptionalDataKey, ArcRef, or_else, updated, held, sharing, find_row, has_key, Cell, references_fault, reference_fault, row_of}
 use Rattle.pagable_tables.proofs.{Words.{is_named_by, with_handle, with_node, next_node, BirthCall, AwayBirthCall}, keeps.Rows.{among-map, sum-map, found-among, once}, keeps.Told.{roomy, GoesOn}}
-use Rattle.pagable_tables.proofs.{keeps.Told.{changed-on, turned-whole, same-held, same-sharing, settles, alike-whole, then-on, moded-whole, moded-on, moded-among}, keeps.Comes.{beside, handle-on}}
-use Rattle.pagable_tables.proofs.keeps.Comes.{not-list, not-the-list, grown-whole, keyed_in}
+use Rattle.pagable_tables.proofs.{keeps.Told.{changed-on, turned-whole, same-held, same-sharing, settles, alike-whole, then-on, moded-whole, moded-on, moded-among, keyed_in}, keeps.Comes.beside}
+use Rattle.pagable_tables.proofs.keeps.Comes.{handle-on, not-list, not-the-list, grown-whole}
 
 -- the list's handles of one number
 abbrev pub lists : ℕ → HandleRow → Bool
@@ -100,8 +100,7 @@ pub pins-whole : {w : Core} (h : HandleNumber) (row : HandleRow) → IsWhole w �
 pins-whole h row whole live unshared other = moded-whole whole h row Mode.LoosePinned live (sym unshared) (λ loose. refl) (λ is. absurd (owned-by-list row other is))
 
 pub is-pinned : (mode : Mode) → is_pinned mode ≡ true → mode ≡ Mode.Pinned
-is-pinned Mode.Pinned is = refl
-is-pinned _ is = absurd (cc)
+is-pinned x0 is = grind (arith, nat_tests)
 
 -- a Pinned handle isn't the list's
 pub pinned-unlisted : {w : Core} (h : HandleNumber) (row : HandleRow) → IsWhole w → row_at w h ≡ Some row → is_pinned row.mode ≡ true → is_owned_by Owner.List row ≡ false
@@ -137,14 +136,11 @@ pin-comes {w} h row me whole holder owns left =
 
 pub pin-on : {w : Core} (h : HandleNumber) (row : HandleRow) (me : Owner) → IsWhole w → MayHold w me → Owns w me h is_loose row → GoesOn w (with_pin w h row.node me)
 pin-on {w} h row me whole holder owns =
-    let unshared = loose-unshared row.mode owns.as_asked in
-    then-on (moded-on whole h row Mode.LoosePinned owns.live (sym unshared) (λ loose. refl) (λ is. absurd (not-the-list w me holder (sym owns.own ∙ is))))
+    then-on (moded-on whole h row Mode.LoosePinned owns.live (sym (loose-unshared row.mode owns.as_asked)) (λ loose. refl) (λ is. absurd (not-the-list w me holder (sym owns.own ∙ is))))
     (handle-on (with_mode w h Mode.LoosePinned) row.node Mode.Pinned me)
 
 pub pin-whole : {w w' : Core} (me : Owner) (h : HandleNumber) (r : Result Pinning Error) → IsWhole w → MayHold w me → PinCall w me h r w' → ArePlaced w' → IsWhole w'
-pin-whole me h (Ok (Pinning.Pinned k)) whole holder call placed = let (row, owns, does) = call.pins in settles (pin-comes h row me whole holder owns does.1.is_left) does.2 placed
-pin-whole me h (Ok (Pinning.NeedsLoad key)) whole holder call placed = alike-whole whole call.pins.2.2 placed
-pin-whole me h (Err e) whole holder call placed = alike-whole whole call.refused.stays placed
+pin-whole me h x2 whole holder call placed = grind (arith, nat_tests, settles, pin-comes, alike-whole)
 
 -- ---- references that are good
 
@@ -157,9 +153,8 @@ pub record IsMine (w : Core) (owner : Owner) (q : ℕ) : Type 0 where
 good-one : (w : Core) (owner : Owner) (seen : List ℕ) (r : ArcRef) → reference_fault w owner seen r ≡ None → IsMine w owner r.handle.0
 good-one w owner seen r good = grind (arith, nat_tests)
 
-or-none : {X : Type 0} (a b : Option X) → or_else a b ≡ None → (a ≡ None) × (b ≡ None)
-or-none None b e = (refl, e)
-or-none (Some x) b e = absurd (cc)
+pub or-none : {X : Type 0} (a b : Option X) → or_else a b ≡ None → (a ≡ None) × (b ≡ None)
+or-none x0 b e = grind (arith, nat_tests)
 
 pub named-mine : (w : Core) (owner : Owner) (seen : List ℕ) (refs : List ArcRef) → references_fault w owner seen refs ≡ None → (q : ℕ) → is_named_by refs q ≡ true → IsMine w owner q
 unfolding references_fault is_named_by
@@ -169,8 +164,7 @@ named-mine w owner seen (r ∷ rs) good q named =
     at (r.handle.0 == q) refl named (good-one w owner seen r parts.0) (λ n. named-mine w owner (r.handle.0 ∷ seen) rs parts.1 q n)
   where
     at : (b : Bool) → (r.handle.0 == q) ≡ b → (b || is_named_by rs q) ≡ true → IsMine w owner r.handle.0 → (is_named_by rs q ≡ true → IsMine w owner q) → IsMine w owner q
-    at true e named mine rest = let same : r.handle.0 ≡ q = grind (arith, nat_tests) in subst (IsMine w owner) same mine
-    at false e named mine rest = rest named
+    at b0 e named mine rest = grind (arith, nat_tests)
 
 -- what is named isn't the list's
 pub named-unlisted : {w : Core} → IsWhole w → (owner : Owner) (refs : List ArcRef) → is_owner Owner.List owner ≡ false → references_fault w owner [] refs ≡ None → (x : HandleRow)
@@ -178,8 +172,7 @@ pub named-unlisted : {w : Core} → IsWhole w → (owner : Owner) (refs : List A
 named-unlisted {w} whole owner refs other good x among named =
     let m = named-mine w owner [] refs good x.number.0 named in
     let a = found-among x.number.0 w.rows m.row m.live in
-    let same = once w.rows whole.handles.ordered x m.row among a.0 (sym a.1) in
-    ap (is_owned_by Owner.List) same ∙ (ap (is_owner Owner.List) m.own ∙ other)
+    ap (is_owned_by Owner.List) (once w.rows whole.handles.ordered x m.row among a.0 (sym a.1)) ∙ (ap (is_owner Owner.List) m.own ∙ other)
 
 -- ---- the node
 
@@ -213,8 +206,7 @@ module _ {w : Core} (whole : IsWhole w) (node_type : ℕ) (key : OptionalDataKey
   uniform-by : (b : Bool) → is_shared mode ≡ b
       → (is_shared mode ≡ false) × (sharing (w.last.node + 1) moved-world.rows ≡ 0) ⊎ (is_shared mode ≡ true)
       × (sharing (w.last.node + 1) moved-world.rows ≡ held (w.last.node + 1) moved-world.rows) × (keyed_in (cells (w.last.node + 1)) ≡ false)
-  uniform-by false is = inl (is, none-shared)
-  uniform-by true is = inr (is, none-shared ∙ sym none-held, ap keyed_in cell-new ∙ unkeyed is)
+  uniform-by x0 is = grind (arith, nat_tests, none-shared, none-held, cell-new)
 
   pub born-whole : IsWhole (roomy born)
   born-whole =

@@ -3,8 +3,8 @@ use Rattle.pagable_tables.proofs.Words.{◌≡◌, ℕ, ◌+◌, ◌<◌, ◌==�
 use Rattle.pagable_tables.proofs.Words.{slice_get, get_or, Result, nat_tests, sum_by_push, sum_by-remove, get_or_from_slice_get, slice_get_within, Error, HandleNumber, HandleRow, Owner, Mode, one}
 use Rattle.pagable_tables.proofs.Words.{Among, times, is_owner, is_owned_by, is_unpinned, Core, only_handle, moved, ScheduleCall, TakeCall, IsWhole, ArePlaced, MayHold, is_some, OptionalDataKey}
 use Rattle.pagable_tables.proofs.{Words.{NodeNumber, if_there, is_shared, sharing, Cell, nobody, with_key, ReleaseCall, UnpinCall, SetKeyCall}, keeps.Rows.{among-to, counted, found-among, once}}
-use Rattle.pagable_tables.proofs.{keeps.Rows.{only-row, ordered-map, sum-map}, keeps.Told.{roomy, roomy-whole, settles, alike-whole, may-own, stays-on, GoesOn, moded-whole, moded-on}}
-use Rattle.pagable_tables.proofs.{keeps.Comes.{not-list, keyed_in, type_in, unshared-node}, keeps.HandleCalls.{lists, each-moved, moved-number, moved-so, loose-unshared}, keeps.Fallen.may-fall}
+use Rattle.pagable_tables.proofs.{keeps.Rows.{only-row, ordered-map, sum-map}, keeps.Told.{roomy, roomy-whole, settles, alike-whole, may-own, stays-on, GoesOn, moded-whole, moded-on, keyed_in}}
+use Rattle.pagable_tables.proofs.{keeps.Told.type_in, keeps.Comes.{not-list, unshared-node}, keeps.HandleCalls.{lists, each-moved, moved-number, moved-so, loose-unshared}, keeps.Fallen.may-fall}
 use Rattle.pagable_tables.proofs.keeps.Fallen.{falls-whole, opened, alike-opened, falls-opened}
 use Rattle.std.specs.List.{remove}
 
@@ -34,8 +34,7 @@ module _ {w : Core} (whole : IsWhole w) (h : HandleNumber) (row : HandleRow) (ow
   lists-others q other = grind (arith, nat_tests, sum-map, each-moved)
 
 is-unpinned : (mode : Mode) → is_unpinned mode ≡ true → mode ≡ Mode.LooseUnpinned
-is-unpinned Mode.LooseUnpinned is = refl
-is-unpinned _ is = absurd (cc)
+is-unpinned x0 is = grind (arith, nat_tests)
 
 same-number : (a b : ℕ) → (a == b) ≡ true → a ≡ b
 same-number a b is = grind (arith, nat_tests)
@@ -156,12 +155,10 @@ module _ {w : Core} (whole : IsWhole w) (node : NodeNumber) (key : ℕ) (unshare
   kept {X} f same n = grind (arith, nat_tests)
 
   same-there : (cell : Option Cell) → is_some (rekey cell) ≡ is_some cell
-  same-there None = refl
-  same-there (Some cell) = refl
+  same-there x0 = grind (arith, nat_tests)
 
   same-type : (cell : Option Cell) → type_in (rekey cell) ≡ type_in cell
-  same-type None = refl
-  same-type (Some cell) = refl
+  same-type x0 = grind (arith, nat_tests)
 
   keyless : (n : ℕ) → 0 < sharing n w.rows → keyed_in ((with_key w node key).cells n) ≡ false
   keyless n some = grind (arith, nat_tests)

@@ -1,8 +1,8 @@
 -- Calls on loads keep the world whole.
 use Rattle.pagable_tables.proofs.Words.{◌≡◌, ℕ, ◌<◌, ◌+◌, ◌==◌, true, Ok, Err, Option, Some, None, inl, inr, refl, ap, sym, subst, ◌∙◌, arith, ◌⊎◌, Result, is_some, nat_tests, Error, HandleNumber}
 use Rattle.pagable_tables.proofs.Words.{NodeNumber, Beginning, Owner, updated, HandleRow, Mode, is_loose, Core, Cell, OpenLoad, Root, of_cell, of_key, greatest, type_at, Owns, with_handle, with_load}
-use Rattle.pagable_tables.proofs.{Words.{IsNextLoad, BeginCall, BeginKeyCall, IsWhole, MayOwnLoad, IsRootWhole, ArePlaced, MayHold}, keeps.Rows.found-among, keeps.Comes.{type_in, beside}}
-use Rattle.pagable_tables.proofs.{keeps.HandleCalls.loose-unshared, keeps.Told.{roomy, roomy-whole, settles, alike-whole, may-own}}
+use Rattle.pagable_tables.proofs.{Words.{IsNextLoad, BeginCall, BeginKeyCall, IsWhole, MayOwnLoad, IsRootWhole, ArePlaced, MayHold}, keeps.Rows.found-among, keeps.Comes.beside}
+use Rattle.pagable_tables.proofs.{keeps.HandleCalls.loose-unshared, keeps.Told.{roomy, roomy-whole, settles, alike-whole, may-own, type_in}}
 
 -- ---- one load more
 
@@ -17,8 +17,7 @@ is-updated : {X : Type 0} (l : ℕ) (new : Option X) (f : ℕ → Option X) → 
 is-updated l new f = let e : (l == l) ≡ true = grind (arith, nat_tests) in rw e refl
 
 some-value : {X : Type 0} (o : Option X) → is_some o ≡ true → (x : X) × (o ≡ Some x)
-some-value (Some x) is = (x, refl)
-some-value None is = absurd (cc)
+some-value x0 is = grind (arith, nat_tests)
 
 pub loaded-whole : {w : Core} (key : ℕ) (root : Root) (me : Owner) → IsWhole w → MayOwnLoad w me → w.last.load < greatest
     → ((node : NodeNumber) (t : ℕ) (h : HandleNumber) → root ≡ of_cell node t h → IsRootWhole w node t h) → IsWhole (with_load w key root me)
@@ -70,9 +69,7 @@ begin-key-whole me key (Err e) whole may call placed = alike-whole whole call.re
 
 -- who may own a load may hold
 pub may-hold : (w : Core) (o : Owner) → MayOwnLoad w o → MayHold w o
-may-hold w Owner.Caller may = tt
-may-hold w (Owner.Worker v) may = may
-may-hold w _ may = absurd may
+may-hold w x1 may = grind (arith, nat_tests)
 
 pub begin-whole : {w w' : Core} (me : Owner) (h : HandleNumber) (r : Result Beginning Error) → IsWhole w → MayOwnLoad w me → BeginCall w me h r w' → ArePlaced w' → IsWhole w'
 begin-whole {w} {w'} me h (Ok (Beginning.Load l key)) whole may call placed =

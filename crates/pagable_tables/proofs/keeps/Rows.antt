@@ -1,8 +1,8 @@
 -- Rows, one by one and counted, as they come and change, and what is left as handles go.
 use Rattle.pagable_tables.proofs.Words.{◌≡◌, ℕ, suc, zero, ◌<◌, ◌≤◌, ◌==◌, Bool, true, false, List, [], ◌∷◌, ◌++◌, sum_by, filter, if◌then◌else◌, Some, get_or, inl, inr, refl, ap, sym, ◌∙◌, arith}
 use Rattle.pagable_tables.proofs.Words.{◌⊎◌, map, cases_order, nat_tests, get_or-map, length-map, sum_by-cons, sum_by-le-sum_by, all_pairs_push, get_or_from_slice_get, slice_get_within}
-use Rattle.pagable_tables.proofs.Words.{slice_get-get_or, HandleRow, Among, find_row, is_handle, IsHandleBefore, AllPairs, ◌+◌, ◌&&◌, not, length, Option, None, subst, append_assoc, HandleNumber}
-use Rattle.pagable_tables.proofs.{Words.{Owner, Mode, one, times, is_owned_by, AreNewEntries, IsWithin}, Alive.none-found, Bits.and-all}
+use Rattle.pagable_tables.proofs.Words.{slice_get-get_or, HandleRow, Among, find_row, is_handle, IsHandleBefore, AllPairs, ◌+◌, ◌&&◌, not, length, Option, None, subst, append_assoc, append-nil}
+use Rattle.pagable_tables.proofs.{Words.{HandleNumber, Owner, Mode, one, times, is_owned_by, AreNewEntries, IsWithin}, Alive.none-found, Bits.and-all}
 
 -- ---- one by one
 
@@ -12,8 +12,7 @@ among-both (x ∷ xs) ys z (zero, is) = inl (zero, is)
 among-both (x ∷ xs) ys z (suc i, is) = elim (among-both xs ys z (i, is)) [ inl a ↦ inl (suc a.0, a.1) | inr a ↦ inr a ]
 
 pub among-one : {X : Type 0} (x y : X) → Among (x ∷ []) y → y ≡ x
-among-one x y (zero, is) = let e : x ≡ y = cc in sym e
-among-one x y (suc i, is) = absurd (cc)
+among-one x y x2 = grind (arith, nat_tests)
 
 pub among-last : {X : Type 0} (xs : List X) (x : X) → Among (xs ++ x ∷ []) x
 among-last [] x = (zero, refl)
@@ -153,11 +152,9 @@ found-so q rows row ordered among number = at (find_row q rows) refl
     at : (found : Option HandleRow) → find_row q rows ≡ found → find_row q rows ≡ Some row
     at (Some y) e = let a = found-among q rows y e in e ∙ ap (λ (x : HandleRow). Some x) (once rows ordered y row a.0 among (a.1 ∙ sym number))
     at None e =
-        let a = none-found q rows e in
-        let b = at-most-sum (λ h. one (is_handle q h)) rows row among in
         let c : (row.number.0 == q) ≡ true = grind (arith, nat_tests) in
         let d : one (is_handle q row) ≡ 1 = ap one c in
-        absurd (omega arith)
+        absurd (omega (arith, none-found q rows e, at-most-sum (λ h. one (is_handle q h)) rows row among))
 
 -- ---- what is left
 
@@ -233,11 +230,7 @@ entries-listed q last (x ∷ xs) new =
 
 pub ordered-entries : (last : ℕ) (rows entries : List HandleRow) → ((h : HandleRow) → Among rows h → h.number.0 ≤ last) → AreNewEntries last entries → AllPairs IsHandleBefore rows
     → AllPairs IsHandleBefore (rows ++ entries)
-ordered-entries last rows [] few new ordered = subst (λ r. AllPairs IsHandleBefore r) (sym (append-none rows)) ordered
-  where
-    append-none : (xs : List HandleRow) → xs ++ [] ≡ xs
-    append-none [] = refl
-    append-none (x ∷ xs) = ap (λ r. x ∷ r) (append-none xs)
+ordered-entries last rows [] few new ordered = subst (λ r. AllPairs IsHandleBefore r) (sym (append-nil rows)) ordered
 ordered-entries last rows (x ∷ xs) few new ordered =
     subst (λ r. AllPairs IsHandleBefore r) (append_assoc rows (x ∷ []) xs)
     (ordered-entries (last + 1) (rows ++ x ∷ []) xs

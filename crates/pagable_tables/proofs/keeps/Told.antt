@@ -13,10 +13,10 @@ roomy w = record w { places = record { handles = length w.rows; entries = length
 pub may-own : (w w' : Core) → ((v : ℕ) → w.workers v ≡ true → w'.workers v ≡ true) → (o : Owner) → MayOwnLoad w o → MayOwnLoad w' o
 may-own w w' stay h may = grind (arith, nat_tests)
 
-abbrev type_in : Option Cell → Option ℕ
+abbrev pub type_in : Option Cell → Option ℕ
 type_in cell = if_there (λ (cell : Cell). Some cell.node_type) None cell
 
-abbrev keyed_in : Option Cell → Bool
+abbrev pub keyed_in : Option Cell → Bool
 keyed_in cell = has_key (if_there (λ (cell : Cell). cell.key) OptionalDataKey.None cell)
 
 module _ {m w' : Core} (whole : IsWhole m) (rows : w'.rows ≡ m.rows) (cells : SameAt m.cells w'.cells) (list : w'.list ≡ m.list)

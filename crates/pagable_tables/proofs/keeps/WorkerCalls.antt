@@ -27,8 +27,7 @@ worker-whole {w} whole =
     still v is = grind (arith, nat_tests)
 
     numbered : (v : ℕ) (b : Bool) → (v == w.last.worker + 1) ≡ b → (if b then true else w.workers v) ≡ true → v ≤ w.last.worker + 1
-    numbered v true e is = let same : v ≡ w.last.worker + 1 = grind (arith, nat_tests) in omega arith
-    numbered v false e is = let a = whole.workers_numbered v is in omega arith
+    numbered v b1 e is = grind (arith, nat_tests)
 
 -- ---- a worker ends
 

@@ -1,7 +1,7 @@
 use Rattle.pagable_tables.proofs.Words.{ap, sym, ◌∙◌, false, not, None, is_some, core_of, plain_of, subst, Suits, Owner, mode_of, with_handle, Alike, Mode, length, arith, ◌+◌, AllPairs}
 use Rattle.pagable_tables.proofs.{Words.{IsHandleBefore, refl, Falls, is_named_by, Tables, has_value, counts_at}, Adoptions.{not-adopted, adopts-known, adopts-whole, refused-known, fitting, eager}}
-use Rattle.pagable_tables.proofs.{Adoptions.owner-of, Begun.not-closed, Newer.{adopt-newer, later-on}, keeps.CacheCalls.known-suits, keeps.Placed.whole-so, Stays.{begun-made, swapped, loaded-append}}
 use Rattle.pagable_tables.proofs.{Stays.{named-loaded, not-named}, Ended.{stays-first, sheds-still}}
+use Rattle.pagable_tables.proofs.{Adoptions.owner-of, Begun.not-closed, Newer.{adopt-newer, later-on}, keeps.CacheCalls.known-suits, keeps.Placed.whole-so, Stays.{begun-made, swapped, loaded-append}}
 use Rattle.pagable_tables.proofs.adopting.adopt_if_known.Goals as goal
 
 pub returns-in-Some-clause-refused : goal.returns-in-Some-clause-refused
@@ -30,11 +30,10 @@ returns-in-Ok-clause-known g c stored closed failures e =
     let t1 = c.make.new.t in
     let u = with_handle w node mode owner in
     let good = sym (c.adopt_fault.ensures stored closed failures) ∙ c.in_default.is in
-    let fit = fitting w c.args.me l kind c.args.key c.args.node_type rs good in
     let m = (c.in-Ok.ensures.made stored closed failures).made in
     let a : Alike u (core_of t1 stored closed failures) = subst (λ (mode : Mode). Alike (with_handle w node mode owner) (core_of t1 stored closed failures)) c.mode_of.ensures m.1 in
     let some = c.give_named.ensures.falls u u (begun-made t t1 stored closed failures node mode owner c.in-Ok.ensures.whole a c.args.lists e) (let b = ap length a.rows in omega arith)
-    (λ q named. loaded-append l q w.rows _ (named-loaded w l rs fit q named)) in
+    (λ q named. loaded-append l q w.rows _ (named-loaded w l rs (fitting w c.args.me l kind c.args.key c.args.node_type rs good) q named)) in
     let kept = not-named (plain_of t) l rs c.requires.whole.core.handles
     (fitting (plain_of t) c.args.me l kind c.args.key c.args.node_type rs (sym (c.adopt_fault.ensures (λ key. None) false 0) ∙ c.in_default.is)) (t.holdings.last_handle + 1) (omega arith) in
     let falls = swapped w node mode owner (subst (AllPairs IsHandleBefore) a.rows c.in-Ok.ensures.whole.core.handles.ordered) refl some.falls kept in

@@ -10,8 +10,7 @@ pub returns-in_default-reserve-clause-refused : goal.returns-in_default-reserve-
 returns-in_default-reserve-clause-refused c stored closed failures =
     let ready = c.in_default.ensures.ready in
     let node : c.args.t.now.last_node < greatest = subst (λ (t : Tables). t.last_node < greatest) c.make_ready.ensures.same ready.node_left in
-    let last = ap (λ (u : Core). u.last.handle) (c.make_ready.ensures.room stored closed failures).same in
-    let handle : c.args.t.now.holdings.last_handle < greatest = omega (arith, ready.handle_left, last) in
+    let handle : c.args.t.now.holdings.last_handle < greatest = omega (arith, ready.handle_left, (ap (λ (u : Core). u.last.handle) (c.make_ready.ensures.room stored closed failures).same)) in
     record {
       why = inr (refl, not-spent c.args.t.now.last_node c.args.t.now.holdings.last_handle node handle, tt);
       stays = room-alike (returns-in_default-reserve-clause-room c stored closed failures);

@@ -16,8 +16,7 @@ returns-clause-steady c =
     let added = c.in-Ok-add.ensures in
     let free : at n ≡ None = no-node (at n) u.last_node (w.core.handles.nodes_numbered n) in
     let named = ap (λ l. moved (is_named_by l) (owner_value n) (live t.handles.places.items)) c.deref.ensures.value in
-    let given = c.hand_over_all.ensures.rows ∙ named in
-    let rows = c.in-Ok.ensures.rows ∙ ap (λ l. l ++ x ∷ []) given in
+    let rows = c.in-Ok.ensures.rows ∙ ap (λ l. l ++ x ∷ []) (c.hand_over_all.ensures.rows ∙ named) in
     let unvalued = not-a-value (plain_of u) me c.requires.holder in
     let fits = born-fits (plain_of u) me rs w.core.handles.ordered c.requires.fit unvalued at (counts_at c.add.new.nodes) refs (refs_at c.add.new.nodes) t.top x c.args.counts w.steady.fits refl
     c.requires.counts c.requires.bare (omega arith) free added.here added.others added.refs added.other_refs in

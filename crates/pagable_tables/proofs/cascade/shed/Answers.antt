@@ -16,8 +16,7 @@ cascade-requires g c =
 
 pub returns-clause-fewer : goal.returns-clause-fewer
 returns-clause-fewer g c =
-    let a = gives-fewer c.args.t.now c.give_up.new.t [] c.args.at.row c.args.lists (given _ _ _ _ c.requires.plain c.requires.steady c.give_up.ensures) in
-    omega arith
+    omega (arith, gives-fewer c.args.t.now c.give_up.new.t [] c.args.at.row c.args.lists (given _ _ _ _ c.requires.plain c.requires.steady c.give_up.ensures))
 
 pub returns-clause-so_far : goal.returns-clause-so_far
 returns-clause-so_far g c before w sofar f few free =

@@ -7,9 +7,8 @@ pub returns-clause-closed : goal.returns-clause-closed
 returns-clause-closed g c stored closed failures failures' le =
     let t = c.args.t.now in
     let w = core_of t stored closed failures in
-    let u = shut w failures' in
     let e = are-entries c.requires.whole.core in
-    let falls = c.give_entries.ensures.falls w u (begun-shut t stored closed failures failures' c.requires.whole) (omega arith) (record { once = e.once; owned = e.owned }) in
+    let falls = c.give_entries.ensures.falls w (shut w failures') (begun-shut t stored closed failures failures' c.requires.whole) (omega arith) (record { once = e.once; owned = e.owned }) in
     grind (arith, nat_tests, cache-anew, c.forget.ensures)
 
 pub returns-clause-whole : goal.returns-clause-whole

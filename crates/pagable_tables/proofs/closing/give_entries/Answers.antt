@@ -30,10 +30,8 @@ loop-entry-preserved g c =
           let there = pushed x.0 in
           let some = i.2 x.0 in
           let once = entries.once x.0 in
-          let so-far = i.3 before w f few entries in
-          let popped = unlist before w (given_up all t.list.items) t t' (x ∷ []) so-far refl c.in-Some.ensures.items c.pop.ensures.capacity in
-          let owned = entries.owned x.0 (grind (arith, nat_tests)) in
-          let gone = c.give_entry.ensures.so_far before (with_list w left) (given_up all t.list.items) popped (omega arith) owned (omega arith) in
+          let popped = unlist before w (given_up all t.list.items) t t' (x ∷ []) (i.3 before w f few entries) refl c.in-Some.ensures.items c.pop.ensures.capacity in
+          let gone = c.give_entry.ensures.so_far before (with_list w left) (given_up all t.list.items) popped (omega arith) (entries.owned x.0 (grind (arith, nat_tests))) (omega arith) in
           let given = one-given-up before (with_list w left) new all left x (λ q. let a = ap (entered q) c.in-Some.ensures.items in let b = i.2 q in omega arith)
           (subst (λ l. SoFar before (with_list w left) (λ q. given_up all l q || q == x.0) false new) c.in-Some.ensures.items gone) in
           subst (λ l. SoFar before (with_list w l) (given_up all l) false new) (sym list) given,
@@ -49,5 +47,4 @@ returns-clause-falls g c before w f few entries =
     let some = unlist before w (given_up all t.list.items) t t' _ (i.3 before w f few entries) refl c.pop.ensures.items c.pop.ensures.capacity in
     let was : t.list.items ≡ [] = empty t.list.items (search rules) in
     let none : t'.list.items ≡ [] = empty t'.list.items (search rules) in
-    let falls = ended before (with_list w t'.list.items) (given_up all t.list.items) false t' some (record { sound = i.0.sound; next = i.0.next; fits = i.0.fits }) in
-    grind (arith, nat_tests)
+    grind (arith, nat_tests, ended before (with_list w t'.list.items) (given_up all t.list.items) false t' some (record { sound = i.0.sound; next = i.0.next; fits = i.0.fits }))

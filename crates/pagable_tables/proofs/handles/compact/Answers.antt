@@ -6,11 +6,10 @@ pub returns-clause-sound : goal.returns-clause-sound
 returns-clause-sound c =
     let old = c.args.handles.now.places.items in
     let e : c.retain.new.self.items ≡ filter is_live_place old = filter_from_retain _ is_live_place (λ p x b q called. search rules) _ old c.retain.new.self.items c.retain.ensures.filtered in
-    let a = live-filter old in
     let b = length-live-filter old in
     let n = ap length e in
     let m = ap (λ l. length (live l)) e in
-    let k = ap length a in
+    let k = ap length (live-filter old) in
     record {
       ordered = subst (AllPairs IsBefore) (sym e) (AllPairs-filter IsBefore is_live_place old c.requires.ordered);
       counted = omega arith;

@@ -6,7 +6,6 @@ pub returns-clause-sound : goal.returns-clause-sound
 returns-clause-sound c =
     let slots = c.make_room.new.handles.places.items in
     let e : c.push.new.self.items ≡ slots ++ alive c.args.row ∷ [] = search rules in
-    let r = c.in_ok-make_room.ensures.sound in
     let next = c.make_room.ensures.next c.args.row.number.0 c.requires.next in
     let a = ap length e in
     let b = length-append slots (alive c.args.row ∷ []) in
@@ -14,7 +13,7 @@ returns-clause-sound c =
     let k = length-append (live slots) (c.args.row ∷ []) in
     let g = ap (λ x. length (live x)) e in
     record {
-      ordered = subst (AllPairs IsBefore) (sym e) (all_pairs_push IsBefore slots (alive c.args.row) r.ordered next);
+      ordered = subst (AllPairs IsBefore) (sym e) (all_pairs_push IsBefore slots (alive c.args.row) c.in_ok-make_room.ensures.sound.ordered next);
       counted = omega arith;
     }
 

@@ -1,6 +1,6 @@
-use Rattle.pagable_tables.proofs.Words.{nat_tests, ◌≡◌, ℕ, Bool, true, false, arith, refl, ap, sym, ◌∙◌, subst, Some, None, List, [], ◌∷◌, ◌≢◌, cases_eq, inl, inr, live, counts_at, refs_at, IsFalling}
-use Rattle.pagable_tables.proofs.{Words.{Fits, pins_in, holds_in, falls_in, has_value, is_right, is_bare, Right, owns_nothing, Counts, Holdings}, Fitting.{done-fits, first-waits, pins-le-held}}
-use Rattle.pagable_tables.proofs.Fitting.{settled-right}
+use Rattle.pagable_tables.proofs.Words.{nat_tests, ◌≡◌, ℕ, Bool, true, false, arith, refl, ap, sym, ◌∙◌, subst, Some, None, List, [], ◌∷◌, ◌≢◌, cases_eq, inl, inr, live, counts_at, refs_at}
+use Rattle.pagable_tables.proofs.{Words.{IsFalling, Fits, pins_in, holds_in, falls_in, has_value, is_right, is_bare, Right, owns_nothing, Counts, Holdings}, Fitting.{done-fits, first-waits}}
+use Rattle.pagable_tables.proofs.Fitting.{pins-le-held, settled-right}
 use Rattle.pagable_tables.proofs.holdings.settle.Goals as goal
 
 there : (t : Holdings) (stack : List ℕ) → IsFalling t stack owns_nothing → t.top ≢ 0 → counts_at t.nodes t.top ≡ None → ⊥
@@ -67,7 +67,6 @@ returns-else-counts-eq0 c (n ∷ ns) w =
     let at' = counts_at c.set_counts.new.nodes in
     let refs = refs_at old.nodes in
     let refs' = refs_at c.set_counts.new.nodes in
-    let rows = live old.handles.places.items in
     let e = c.set_counts.ensures in
     let is : at top ≡ Some counts = sym c.counts_of.ensures ∙ c.in-Some.is in
     let now : Counts = record counts { is_falling = false; next = 0 } in
@@ -80,7 +79,7 @@ returns-else-counts-eq0 c (n ∷ ns) w =
       falling = record {
         sound = w.sound;
         next = w.next;
-        fits = done-fits at at' refs refs' rows top ns counts v.fits is (ap pins_in here) (ap holds_in here) (ap falls_in here)
+        fits = done-fits at at' refs refs' (live old.handles.places.items) top ns counts v.fits is (ap pins_in here) (ap holds_in here) (ap falls_in here)
             (subst (λ o. Right o (refs' top)) (sym here) (subst (λ r. Right (Some now) r) (sym bare) right)) e.others e.refs c.requires.some;
       };
       shorter = omega arith;

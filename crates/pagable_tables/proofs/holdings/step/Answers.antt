@@ -57,8 +57,7 @@ unreachable-requires c =
     let e = c.in-Some.ensures in
     let a = taken-there (counts_at t.nodes) (counts_at c.pop_reference.new.nodes) (refs_at t.nodes) (refs_at c.pop_reference.new.nodes)
     (live t.handles.places.items) t.top s.0 c.in-Some.reference s.3.fits e.here e.others e.counts in
-    let n = none-found c.in-Some.reference.handle.0 (live t.handles.places.items) c.in-None-look.ensures.none in
-    absurd (omega arith)
+    absurd (omega (arith, none-found c.in-Some.reference.handle.0 (live t.handles.places.items) c.in-None-look.ensures.none))
 
 untouched : (t mid : Holdings) (stack : List ℕ) → IsFalling t stack owns_nothing → mid.handles ≡ t.handles → mid.top ≡ t.top → mid.last_handle ≡ t.last_handle
     → ((m : ℕ) → counts_at mid.nodes m ≡ counts_at t.nodes m) → ((m : ℕ) → refs_at mid.nodes m ≡ refs_at t.nodes m) → IsFalling mid stack owns_nothing
@@ -94,8 +93,7 @@ returns-in-Some-look c stack w =
     let i = c.in-Some-look.at.place in
     let mid : Holdings = record t { nodes = c.pop_reference.new.nodes } in
     let number : x.number.0 ≡ p.handle.0 = ap (λ (n : HandleNumber). n.0) f.number in
-    let ready = taken t mid s.0 p i x s.3 e.here e.others e.counts f.place number refl refl refl in
-    let g : GivesUp mid (t.top ∷ s.0) x c.args.lists c.give_up.new.t = c.give_up.ensures (t.top ∷ s.0) ready in
+    let g : GivesUp mid (t.top ∷ s.0) x c.args.lists c.give_up.new.t = c.give_up.ensures (t.top ∷ s.0) (taken t mid s.0 p i x s.3 e.here e.others e.counts f.place number refl refl refl) in
     let o = owner-is t.top p.handle.0 x (its-owner t mid s.0 p i x s.3 e.here e.others e.counts f.place number) in
     let v : of_value x ≡ 1 = ap (λ k. one (is_valued k)) o.0 in
     let kept : live c.give_up.new.t.handles.places.items ≡ live g.between.handles.places.items = ap (λ (h : Holdings). live h.handles.places.items) g.same in
@@ -133,8 +131,7 @@ returns-in-None c stack w =
     let mid : Holdings = record t { nodes = c.pop_reference.new.nodes } in
     let g : Settles mid stack c.settle.new.t = c.settle.ensures stack (untouched t mid stack w refl refl refl e.counts
     (λ m. elim (cases_eq m t.top) [ inl eq ↦ ap (refs_at c.pop_reference.new.nodes) eq ∙ sym (e.here ∙ append-nil _) ∙ sym (ap (refs_at t.nodes) eq) | inr ne ↦ e.others m ne ])) in
-    let rows = ap (λ (h : Holdings). live h.handles.places.items) g.same in
-    let v = ap valued rows in
+    let v = ap valued (ap (λ (h : Holdings). live h.handles.places.items) g.same) in
     record {
       rest = g.rest;
       falling = g.falling;

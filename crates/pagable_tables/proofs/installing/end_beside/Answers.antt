@@ -1,7 +1,7 @@
 use Rattle.pagable_tables.proofs.Words.{ap, Tables}
 use Rattle.pagable_tables.proofs.{Words.{refl, sym, ◌∙◌, false, not, inr, None, Ok, [], owner_value, is_here, live, load_at, core_of, plain_of}, Begun.not-closed, Installed.ended}
-use Rattle.pagable_tables.proofs.{Installed.{has-come, install-newer, none-moves, so-then, ready-owner}, Named.moved-nobody, Newer.{closed-still, later-so}, keeps.HandleCalls.no-references}
 use Rattle.pagable_tables.proofs.{keeps.EndCalls.end-whole, keeps.LoadCalls.may-hold, keeps.Placed.whole-so}
+use Rattle.pagable_tables.proofs.{Installed.{has-come, install-newer, none-moves, so-then, ready-owner}, Named.moved-nobody, Newer.{closed-still, later-so}, keeps.HandleCalls.no-references}
 use Rattle.pagable_tables.proofs.installing.end_beside.Goals as goal
 
 pub pin_ready-handle-requires-clause-holder : goal.pin_ready-handle-requires-clause-holder
@@ -46,11 +46,10 @@ returns-clause-installs g c stored closed failures e =
 
 pub returns-clause-whole : goal.returns-clause-whole
 returns-clause-whole g c =
-    let r = c.requires.ready (λ key. None) (not c.args.lists) 0 in
     let i = returns-clause-installs g c (λ key. None) (not c.args.lists) 0 (not-closed c.args.lists) in
     whole-so c.give_up_load.ensures.steady
     (end-whole {N = Unit {0}} c.args.me c.args.load tt c.args.node_type c.args.references.now (Ok c.pin_ready-handle.result) c.requires.whole.core
-    (record { installs = (c.args.ending.row.node, c.args.ending.row.number, r.may, i); refused = tt }))
+    (record { installs = (c.args.ending.row.node, c.args.ending.row.number, (c.requires.ready (λ key. None) (not c.args.lists) 0).may, i); refused = tt }))
 
 pub returns-clause-later : goal.returns-clause-later
 returns-clause-later g c =

@@ -19,10 +19,9 @@ pub set_references-requires : goal.set_references-requires
 set_references-requires g c =
     let t1 = c.pin_ready-handle.new.t in
     let n = c.args.ending.row.node.0 in
-    let rows = live t1.holdings.handles.places.items in
     let d = c.pin_ready-handle.ensures.whole.steady.fits.holding n in
     let p = pins-here c.args.t.now t1 (λ key. None) false 0 c.args.ending.row c.args.me (c.pin_ready-handle.ensures.pinned (λ key. None) false 0) in
-    let q = pins-le-held n rows in
+    let q = pins-le-held n (live t1.holdings.handles.places.items) in
     some-held (counts_at t1.holdings.nodes n) (omega arith)
 
 pub give_up_load-requires : goal.give_up_load-requires
@@ -67,7 +66,6 @@ returns-clause-installs g c stored closed failures e =
     let row = c.args.ending.row in
     let n = row.node.0 in
     let rs = c.args.references.items in
-    let w = core_of t stored closed failures in
     let p = c.requires.ready (λ key. None) false 0 in
     let r = c.requires.ready stored closed failures in
     let next = c.pin_ready-handle.ensures.next stored closed failures in
@@ -79,7 +77,7 @@ returns-clause-installs g c stored closed failures e =
       at = refl;
       next = record { above = next.above; is_left = next.is_left };
       falls = inl (
-        not-so (is_here w n) (sym r.away ∙ c.requires.away),
+        not-so (is_here (core_of t stored closed failures) n) (sym r.away ∙ c.requires.away),
         record {
           told = c.give_up_load.result;
           falls = ended t t1 stored closed c.args.lists failures c.requires.whole c.pin_ready-handle.ensures.whole e row p.owned.live me
@@ -92,11 +90,10 @@ returns-clause-installs g c stored closed failures e =
 
 pub returns-clause-whole : goal.returns-clause-whole
 returns-clause-whole g c =
-    let r = c.requires.ready (λ key. None) (not c.args.lists) 0 in
     let i = returns-clause-installs g c (λ key. None) (not c.args.lists) 0 (not-closed c.args.lists) in
     whole-so c.give_up_load.ensures.steady
     (end-whole {N = Unit {0}} c.args.me c.args.load tt c.args.node_type c.args.references.items (Ok c.pin_ready-handle.result) c.requires.whole.core
-    (record { installs = (c.args.ending.row.node, c.args.ending.row.number, r.may, i); refused = tt }))
+    (record { installs = (c.args.ending.row.node, c.args.ending.row.number, (c.requires.ready (λ key. None) (not c.args.lists) 0).may, i); refused = tt }))
 
 pub returns-clause-later : goal.returns-clause-later
 returns-clause-later g c =

@@ -3,8 +3,7 @@ use Rattle.pagable_tables.proofs.installing.prepare_end.Goals as goal
 
 pub returns-in_default-clause-unended : goal.returns-in_default-clause-unended
 returns-in_default-clause-unended c stored closed failures =
-    let may = (c.in-Ok.ensures.ready stored closed failures).may in
-    grind (arith, nat_tests, no-load-fault, alike, c.reserve.ensures.rows, c.reserve.ensures.capacity)
+    grind (arith, nat_tests, no-load-fault, alike, c.reserve.ensures.rows, c.reserve.ensures.capacity, (c.in-Ok.ensures.ready stored closed failures).may)
 
 pub returns-in_default-clause-whole : goal.returns-in_default-clause-whole
 returns-in_default-clause-whole c = placed-whole c.args.t.now c.reserve.new.handles c.requires c.reserve.ensures.sound c.reserve.ensures.next c.reserve.ensures.rows c.reserve.ensures.capacity

@@ -5,8 +5,7 @@ pub returns-clause-falling : goal.returns-clause-falling
 returns-clause-falling c =
     let t = c.args.t.now in
     let n = c.args.node in
-    let counts = c.in-Some.counts in
-    let b = counts.pins == 0 in
+    let b = c.in-Some.counts.pins == 0 in
     let e = c.set_counts.ensures in
     let top : c.top_after-t.result ≡ (if b then n else t.top) = c.top_after-t.ensures ∙ ap
     (λ (l : Counts). if is_new false l.is_falling then n else t.top) c.counts_keyed-with_key.ensures ∙ key-top b n t.top in (

@@ -1,6 +1,6 @@
 use Rattle.pagable_tables.proofs.{Words.{not, None, refl, sym, ◌∙◌, arith, inl, inr, any_mode, nat_tests, subst, GetsKey, counts_at, nobody, core_of}, Alive.row-le-live, Begun.not-closed}
-use Rattle.pagable_tables.proofs.{Coming.some-held, Fitting.held-here, Worlds.{still, owner-same}, keeps.ListCalls.set-key-whole, keeps.Placed.whole-so, Newer.{set-key-newer, later-on}}
 use Rattle.pagable_tables.proofs.{Ended.stays-first, KeyPut.keyed-on}
+use Rattle.pagable_tables.proofs.{Coming.some-held, Fitting.held-here, Worlds.{still, owner-same}, keeps.ListCalls.set-key-whole, keeps.Placed.whole-so, Newer.{set-key-newer, later-on}}
 use Rattle.pagable_tables.proofs.keys.set_data_key.Goals as goal
 
 pub put_key-requires-clause-live : goal.put_key-requires-clause-live
@@ -12,14 +12,13 @@ returns-in-Err-clause-set g c stored closed failures e = record { does = inl (re
 pub returns-clause-set : goal.returns-clause-set
 returns-clause-set g c stored closed failures e =
     let row = c.in-Ok.at.row in
-    let w = core_of c.args.t.now stored closed failures in
     record {
       does = inr (
         row,
         record { live = c.in-Ok.ensures.found; own = owner-same c.args.me row.owner c.in-Ok.ensures.owner; as_asked = refl },
         inr (
           sym c.is_loose.ensures ∙ c.if-not-is_loose.false,
-          c.fall.ensures.falls w _ nobody
+          c.fall.ensures.falls (core_of c.args.t.now stored closed failures) _ nobody
               (keyed-on c.args.t.now stored closed c.args.lists failures c.requires.whole e row.node c.args.key c.put_key.new.t c.put_key.ensures.same
               (subst (GetsKey (counts_at c.args.t.now.holdings.nodes) (counts_at c.put_key.new.t.nodes) row.node.0) c.get.ensures.value c.put_key.ensures.cells)),
         ),

@@ -40,13 +40,11 @@ returns-clause-steady c =
     let made : c.counts_more-more.result ≡ record y { pins = y.pins + one (is_pinning x.mode); holds = y.holds + 1 } =
     c.counts_more-more.ensures ∙ ap (λ p. record y { pins = y.pins + one p; holds = y.holds + 1 }) c.pins.ensures in
     let e = c.set_counts.ensures in
-    let at = counts_at t.nodes in
     let at' = counts_at c.set_counts.new.nodes in
     let refs = refs_at t.nodes in
     let refs' = refs_at c.set_counts.new.nodes in
     let rows = live t.handles.places.items in
-    let here = e.here ∙ ap Some made in
-    let g = come-fits at at' refs refs' rows t.top x y c.requires.steady.fits is here e.others e.refs c.requires.owner in
+    let g = come-fits (counts_at t.nodes) at' refs refs' rows t.top x y c.requires.steady.fits is (e.here ∙ ap Some made) e.others e.refs c.requires.owner in
     record { sound = c.push.ensures.sound; next = c.in-Ok.ensures.next; fits = rows-told at' refs' (rows ++ x ∷ []) (live c.push.new.handles.places.items) t.top c.in-Ok.ensures.rows g }
 
 -- a handle more takes no value, and brings none where it is

@@ -11,12 +11,11 @@ returns-in-Err-clause-pinned c stored closed failures =
 pub returns-in-Ok-pin_here-clause-pinned : goal.returns-in-Ok-pin_here-clause-pinned
 returns-in-Ok-pin_here-clause-pinned c stored closed failures =
     let w = core_of c.args.t.now stored closed failures in
-    let w' = core_of c.pin_here.new.t stored closed failures in
     let row = c.in-Ok.at.row in
     let here : is_here w row.node.0 ≡ true = search rules in
     let m = (c.in-Ok-pin_here.ensures.pinned stored closed failures).pinned in
     let owns : Owns w c.args.me c.args.handle is_loose row = record { live = c.in-Ok.ensures.found; own = owner-same c.args.me row.owner c.in-Ok.ensures.owner; as_asked = search rules } in
-    let alike = subst (λ q. Alike (with_handle (with_mode w q Mode.LoosePinned) row.node Mode.Pinned c.args.me) w') c.in-Ok.ensures.number m.1 in
+    let alike = subst (λ q. Alike (with_handle (with_mode w q Mode.LoosePinned) row.node Mode.Pinned c.args.me) (core_of c.pin_here.new.t stored closed failures)) c.in-Ok.ensures.number m.1 in
     record { pins = (row, owns, (here, m.0, alike)); refused = tt }
 
 pub returns-in-Err-pin_here-clause-pinned : goal.returns-in-Err-pin_here-clause-pinned

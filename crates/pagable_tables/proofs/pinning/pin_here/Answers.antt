@@ -10,21 +10,18 @@ returns-in-Err-clause-pinned c stored closed failures = let m = c.in-Err.ensures
 
 pub unreachable-requires : goal.unreachable-requires
 unreachable-requires c =
-    let came = (c.in-Ok.ensures.made (λ key. None) false 0).made.1.rows in
-    let again = found-again c.args.row.number.0 _ _ _ c.args.row None c.requires.owns.live came c.in_default.ensures.none in
+    let again = found-again c.args.row.number.0 _ _ _ c.args.row None c.requires.owns.live ((c.in-Ok.ensures.made (λ key. None) false 0).made.1.rows) c.in_default.ensures.none in
     absurd (cc)
 
 pub turn-requires-clause-unshared : goal.turn-requires-clause-unshared
 turn-requires-clause-unshared c =
-    let came = (c.in-Ok.ensures.made (λ key. None) false 0).made.1.rows in
-    let again = found-again c.args.row.number.0 _ _ _ c.args.row (Some c.in-Some.at.row) c.requires.owns.live came c.in-Some.ensures.found in
+    let again = found-again c.args.row.number.0 _ _ _ c.args.row (Some c.in-Some.at.row) c.requires.owns.live ((c.in-Ok.ensures.made (λ key. None) false 0).made.1.rows) c.in-Some.ensures.found in
     let same : c.in-Some.at.row ≡ c.args.row = cc in
     ap (λ (row : HandleRow). is_shared row.mode) same ∙ loose-unshared c.args.row.mode c.requires.owns.as_asked
 
 pub turn-requires-clause-unlisted : goal.turn-requires-clause-unlisted
 turn-requires-clause-unlisted c =
-    let came = (c.in-Ok.ensures.made (λ key. None) false 0).made.1.rows in
-    let again = found-again c.args.row.number.0 _ _ _ c.args.row (Some c.in-Some.at.row) c.requires.owns.live came c.in-Some.ensures.found in
+    let again = found-again c.args.row.number.0 _ _ _ c.args.row (Some c.in-Some.at.row) c.requires.owns.live ((c.in-Ok.ensures.made (λ key. None) false 0).made.1.rows) c.in-Some.ensures.found in
     let same : c.in-Some.at.row ≡ c.args.row = cc in
     ap (is_owned_by Owner.List) same ∙ ap (is_owner Owner.List) c.requires.owns.own ∙ not-list (plain_of c.args.t.now) c.args.me c.requires.holder
 

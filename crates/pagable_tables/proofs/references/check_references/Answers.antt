@@ -10,11 +10,9 @@ loop-i-init c = record { seen = []; same = seen-none; highest = λ q above. name
 
 pub returns-in-Some-clause-fault : goal.returns-in-Some-clause-fault
 returns-in-Some-clause-fault c stored closed failures =
-    let w = core_of c.args.t.now stored closed failures in
     let l = c.loop-i in
-    let named = l.invariant.same _ ∙ sym c.is_seen-is_seen.ensures in
-    let fault = sym (c.fault_of.ensures stored closed failures l.invariant.seen named) ∙ c.in-Some.is in
-    l.invariant.rest stored closed failures ∙ fault-some w c.args.me l.invariant.seen c.args.references.now l.i _ c.in-Some.e (omega arith) fault
+    let fault = sym (c.fault_of.ensures stored closed failures l.invariant.seen (l.invariant.same _ ∙ sym c.is_seen-is_seen.ensures)) ∙ c.in-Some.is in
+    l.invariant.rest stored closed failures ∙ fault-some (core_of c.args.t.now stored closed failures) c.args.me l.invariant.seen c.args.references.now l.i _ c.in-Some.e (omega arith) fault
 
 pub loop-i-preserved : goal.loop-i-preserved
 loop-i-preserved c =

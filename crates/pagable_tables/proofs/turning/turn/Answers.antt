@@ -35,18 +35,15 @@ returns-clause-whole c =
     c.counts_pinned-pinned.ensures ∙ ap (λ p. record y { pins = y.pins + one (not p) }) c.pins.ensures in
     let e = c.set_counts.ensures in
     let at = counts_at t.nodes in
-    let at' = counts_at c.set_counts.new.nodes in
     let refs = refs_at t.nodes in
-    let refs' = refs_at c.set_counts.new.nodes in
     let rows = live t.handles.places.items in
     let rows' = live c.set.new.handles.places.items in
     let w = c.requires.whole in
-    let here = e.here ∙ ap Some made in
     whole-so
     (record {
       sound = c.set.ensures.sound;
       next = c.set.ensures.next (t.last_handle + 1) w.steady.next;
-      fits = turn-fits at at' refs refs' rows rows' t.top x y w.steady.fits is c.set.ensures.sums here e.others e.refs;
+      fits = turn-fits at (counts_at c.set_counts.new.nodes) refs (refs_at c.set_counts.new.nodes) rows rows' t.top x y w.steady.fits is c.set.ensures.sums (e.here ∙ ap Some made) e.others e.refs;
     })
     (settles (pins-whole x.number x w.core (row-live t.handles.places.items c.args.at.place x w.steady.sound.ordered c.requires.place) c.requires.unshared c.requires.unlisted)
     (returns-clause-turned c (λ key. None) false 0))
