@@ -108,12 +108,6 @@ module _ {A B : Type 0} {F : Type 0} {R : A → B → Type 0} where
 abbrev pub apart : {A : Type 0} → Entry A → Entry A → Type 0
 apart e f = same_key e.0 f.0 ≡ false
 
-not_equal : {A : Type 0} (a b : Meaning A) → same_key a b ≡ false → ordered code_order a b ≡ Ordering.Equal → ⊥
-not_equal a b h e =
-    let test : eq_by_cmp code_order (plain a) (plain b) ≡ true = rw e refl in
-    let same = is_eq-slice_cmp (code (plain a)) (code (plain b)) in
-    cc
-
 -- what differs from all that is there, and from what is put in, differs from all that is there then
 after_put : {A : Type 0} (x e : Entry A) (acc : List (Entry A)) → After apart x acc → apart x e → After apart x (put_sorted code_order acc e)
 unfolding After
@@ -154,7 +148,7 @@ module _ {A B : Type 0} {F : Type 0} {R : A → B → Type 0} where
           → {fs : List (Entry B)} → AllTwo (EntryAlong F R) (match_ordering o (e ∷ x ∷ acc) ((x.0, e.1) ∷ acc) (x ∷ put_sorted code_order acc e)) fs → Unput F R (x ∷ acc) e fs
       at back Ordering.Less q (more-two u f us vs r (more-two w y ws ys s g)) =
           record { before = y ∷ ys; entry = f; each = more-two x y acc ys s g; one = r; put = rw (same_order r s q) refl }
-      at back Ordering.Equal q b = absurd (not_equal e.0 x.0 h.0 q)
+      at back Ordering.Equal q b = absurd ((let test : eq_by_cmp code_order (plain e.0) (plain x.0) ≡ true = rw q refl in let same = is_eq-slice_cmp (code (plain e.0)) (code (plain x.0)) in cc))
       at back Ordering.Greater q (more-two u y us ys s g) =
           let rest = back ys g in
           record {
@@ -212,9 +206,6 @@ module _ {A B : Type 0} {F : Type 0} {R : A → B → Type 0} where
   pub differ-two : {es : List (Entry A)} {fs : List (Entry B)} → AllTwo (EntryAlong F R) es fs → Differ es → Differ fs
   differ-two h a = apart-two _ _ (λ x x2 y y2 v w r. rw (← plain-along v.key, ← plain-along w.key) r) h a
 
-  pub items_ascend-two : (order : KeyOrder) {ms : List (Meaning A)} {ns : List (Meaning B)} → AllTwo (Along F R) ms ns → ItemsAscend order ms → ItemsAscend order ns
-  items_ascend-two order h a = apart-two {V = Along F R} _ _ (λ x x2 y y2 v w r. rw (← plain-along v, ← plain-along w) r) h a
-
   pub items_differ-two : {ms : List (Meaning A)} {ns : List (Meaning B)} → AllTwo (Along F R) ms ns → ItemsDiffer ms → ItemsDiffer ns
   items_differ-two h a = apart-two {V = Along F R} _ _ (λ x x2 y y2 v w r. rw (← plain-along v, ← plain-along w) r) h a
 
@@ -271,7 +262,7 @@ module _ {A B : Type 0} {F : Type 0} {R : A → B → Type 0} {kind_of : A → �
         rw (q.whole, long) (then_to (entries_form-along h q.each) (λ refs f. hash-map-form left s t q.items b refs (rw long at le) (differ-two q.each up) f))
     form-along (sorted-set-form left o s ms b k le up h) a =
         let q = sequence-along ms a in let long = length-two q.each in
-        rw (q.whole, long) (then_to (forms-along h q.each) (λ refs f. sorted-set-form left o s q.items b refs (rw long at le) (items_ascend-two o q.each up) f))
+        rw (q.whole, long) (then_to (forms-along h q.each) (λ refs f. sorted-set-form left o s q.items b refs (rw long at le) ((apart-two {V = Along F R} _ _ (λ x x2 y y2 v w r. rw (← plain-along v, ← plain-along w) r) q.each up)) f))
     form-along (placed-set-form left s ms b k le up h) a =
         let q = sequence-along ms a in let long = length-two q.each in
         rw (q.whole, long) (then_to (forms-along h q.each) (λ refs f. placed-set-form left s q.items b refs (rw long at le) (items_differ-two q.each up) f))

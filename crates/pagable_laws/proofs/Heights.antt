@@ -7,7 +7,7 @@ use Rattle.pagable_laws.proofs.Words.{open_node, with_wait, first_todo, MachineS
 use Rattle.pagable_laws.proofs.Words.{deepest_path, kind_of_arc, Error, Meaning, Types, Core, of_entry, Values, is_identity, Claims, IsTooDeep, claim_fault, IsTooDeepTask, WaitsForAsker, FollowsTo}
 use Rattle.pagable_laws.proofs.{Words.{pair-follows, variant-follows, reference-follows, WroteTree, Waits}, Standing.{ShelfGrows, some-same, PutsSlot, put-cases, puts-slot, changes-slot, is-same}}
 use Rattle.pagable_laws.proofs.{Standing.{AllStand, HasClaim, Covers, is_open_in}, Stepping.{KeepsKeys, keys-grow, keys-same}, Coming.{StandsIn, EventTurns, turns-grow, turns-keep}, Trees.same_some}
-use Rattle.pagable_laws.proofs.Along.{Along, number-along, integer-along, text-along, pattern-along, none-along, pair-along, variant-along, reference-along, AllTwo, no-two, more-two, form-along}
+use Rattle.pagable_laws.proofs.Along.{Along, number-along, integer-along, text-along, pattern-along, none-along, pair-along, variant-along, reference-along, each-two, form-along}
 use Rattle.std.proofs.lemmas.Bool.{or_cases}
 
 -- the reference's key is known, with a height to which it adds no more than this
@@ -96,8 +96,7 @@ module _ {shelf shelf' : Shelf} (keys : KeepsKeys shelf shelf') where
   low-on {height} {r} low = record { key = low.key; below = low.below; known = keys (identity_of r) low.key low.below low.known; within = low.within }
 
   pub attained-on : (height : ℕ) (rs : List ArcRef) → IsAttained shelf height rs → IsAttained shelf' height rs
-  attained-on height rs (inl none_there) = inl none_there
-  attained-on height rs (inr a) = inr (record { r = a.r; among = a.among; key = a.key; below = a.below; known = keys (identity_of a.r) a.key a.below a.known; least = a.least })
+  attained-on x0 rs x2 = grind (arith, nat_tests)
 
   slot-low-on : (slot : Slot) → SlotLow shelf slot → SlotLow shelf' slot
   slot-low-on slot low key height is = let a = low key height is in (
@@ -155,11 +154,8 @@ module _ (shelf shelf' : Shelf) (more : ShelfGrows shelf shelf') where
         attained = attained-on (keys-grow more) height w.written.references w.attained;
       }
 
-  still-low : (todo : List Todo) → WaitsLow shelf todo → WaitsLow shelf' todo
-  still-low todo low = waits-low-on (keys-grow more) todo low
-
   pub todo-low-on : (todo : List Todo) → TodoLow shelf todo → TodoLow shelf' todo
-  todo-low-on x0 x1 = grind (arith, nat_tests, still-low, wrote-low-on)
+  todo-low-on x0 x1 = grind (arith, nat_tests, waits-low-on (keys-grow {shelf = shelf} {shelf' = shelf'} more), wrote-low-on)
 
 -- ---- a key is given
 
@@ -386,11 +382,6 @@ module _ (trees : ℕ → Tree) (rs : List ArcRef) (whole : Meaning ⊥) where
   parts-along (variant-follows i x a f) h d s = variant-along _ _ _ (parts-along f h d s)
   parts-along (reference-follows r a among is) h d s = grind (arith, reference-along, size)
   parts-along x0 h d s = grind (arith, nat_tests, number-along, integer-along, text-along, pattern-along, none-along)
-
-each-two : {X Y : Type 0} {R : X → Y → Type 0} {xs : List X} {ys : List Y} → AllTwo R xs ys → (x : X) → Among xs x → (y : Y) × R x y
-each-two no-two x (i, e) = absurd (cc)
-each-two {R = R} (more-two a b xs ys h g) x (zero, e) = let same : a ≡ x = cc in (b, subst (λ z. R z b) same h)
-each-two (more-two a b xs ys h g) x (suc i, e) = each-two g x (i, e)
 
 part-of : {types : Types} {g : Ground} {n : ℕ} {written : Written} → WroteTree types g n written → (r : ArcRef) → Among written.references r → Part g.trees (g.trees n).meaning r
 part-of {g = g} {n} {written} w r among =

@@ -3,10 +3,8 @@ pub mod Again
 mod Along
 pub mod Trees
 mod Merkle
-mod Tame
 pub mod Related
 mod AnyOrder
-mod JsonNumbers
 pub mod Sums
 pub mod Existing
 mod Two

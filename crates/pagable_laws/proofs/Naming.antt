@@ -198,8 +198,7 @@ module _ {N B W : Type 0} (m : Seen N B W) (v : ℕ) (s s' : Site) (whole : Hand
     pub reveals : Reveals s.shelf s'.shelf KeyThere
 
   leaves : {step : Took W} {next : List Todo} → s'.todo ≡ next → is_publishing next ≡ false → AllHold s'.core next → Reveals s.shelf s'.shelf KeyThere → Leaves step
-  leaves e quiet all reveals =
-      record { all = subst (λ t. AllHold s'.core t) (sym e) all; front = λ r key height below is. let f : true ≡ false = ap is_publishing (sym is ∙ e) ∙ quiet in absurd (cc); reveals = reveals }
+  leaves e quiet all reveals = grind (arith, nat_tests, is_publishing)
 
   -- the table stays
   stays : {step : Took W} → ((i : Identity) → s'.shelf.slots i ≡ s.shelf.slots i) → {next : List Todo} → s'.todo ≡ next → is_publishing next ≡ false → AllHold s'.core next → Leaves step

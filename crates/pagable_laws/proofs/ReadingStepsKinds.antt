@@ -29,12 +29,9 @@ AnyTwo r q = Unit {0}
 abbrev AnswersAlike : Answer → Answer → Type 0
 AnswersAlike a b = (kind : ℕ) → OutLook no_cause AnyTwo (a kind) (b kind)
 
-as-kind : (t : Bool) (r q : ArcRef) → OutLook no_cause AnyTwo (if t then Ok r else Err Error.WrongKind) (if t then Ok q else Err Error.WrongKind)
-as-kind x0 r q = grind (arith, nat_tests, both-looked-up, both-not)
-
 got-alike : (got : List ArcRef) (place : ℕ) → AnswersAlike (answer_of (slice_get got place)) (answer_of (slice_get (some_of (kinds_of got)) place))
 got-alike (r ∷ rs) (suc place) kind = got-alike rs place kind
-got-alike x0 x1 kind = grind (arith, nat_tests, both-not, as-kind)
+got-alike x0 x1 kind = grind (arith, nat_tests, both-not, both-looked-up)
 
 answers-alike : (got : List ArcRef) (place : ℕ) (keys : List ℕ) → AllTwo AnswersAlike (answers_from got place keys) (answers_from (some_of (kinds_of got)) place keys)
 unfolding answers_from

@@ -184,9 +184,15 @@ either None b e is = inr is
 either (Some x) None e is = inl is
 either (Some x) (Some y) e is = grind (arith, nat_tests)
 
--- the second, where the first isn't it
-past : (a b : Option Error) (e : Error) → (a ≡ Some e → ⊥) → earlier a b ≡ Some e → b ≡ Some e
-past a b e isnt is = elim (either a b e is) [ inl first ↦ absurd (isnt first) | inr second ↦ second ]
+-- whatever is told is so
+abbrev Only : (Error → Type 0) → Option Error → Type 0
+Only P told = (e : Error) → told ≡ Some e → P e
+
+only-earlier : {P : Error → Type 0} (a b : Option Error) → Only P a → Only P b → Only P (earlier a b)
+only-earlier a b first second e is = elim (either a b e is) [ inl p ↦ first e p | inr q ↦ second e q ]
+
+only-refused : {P : Error → Type 0} {cause before : Option Error} {full : Type 0} {w w' : Core} (e : Error) → Refused cause before full w e w' → Only P cause → P Error.OutOfMemory → P e
+only-refused {P} e r by memory = elim r.why [ inl is ↦ by e is | inr wanting ↦ subst P (sym wanting.0) memory ]
 
 chance-if : (b : Bool) (e : Error) → refused_if b Error.NumbersSpent ≡ Some e → IsOfChance e
 chance-if x0 e is = grind (arith, nat_tests)
@@ -195,7 +201,7 @@ where-chance : (b : Bool) (n : ℕ) (e : Error) → where_so b (spent n) ≡ Som
 where-chance x0 n e is = grind (arith, nat_tests, chance-if)
 
 birth-chance : (w : Core) (e : Error) → birth_fault w ≡ Some e → IsOfChance e
-birth-chance w e is = elim (either (spent w.last.node) (spent w.last.handle) e is) [ inl a ↦ chance-if _ e a | inr b ↦ chance-if _ e b ]
+birth-chance w = only-earlier (spent w.last.node) (spent w.last.handle) (chance-if _) (chance-if _)
 
 node-chance : (w : Core) (kind : Kind) (key : ℕ) (e : Error) → node_fault w kind key ≡ Some e → IsOfChance e
 node-chance w kind key e is = search (rules, chance-if, birth-chance)
@@ -293,8 +299,8 @@ module _ {N B W E : Type 0} (m : Seen N B W) (s : MachineState N E) (trees : ℕ
     abbrev C : Error → Type 0
     C e = Cause v w load reading e
 
-    no-load-fault : (e : Error) → load_fault w Owner.Caller reading.load ≡ Some e → ⊥
-    no-load-fault e is = let f = ap (load_fault w Owner.Caller) is-read.number ∙ may in cc
+    no-load-fault : (P : Error → Type 0) → Only P (load_fault w Owner.Caller reading.load)
+    no-load-fault P e is = absurd (let f = ap (load_fault w Owner.Caller) is-read.number ∙ may in cc)
 
     not-faulty : (e : Error) → need_of v.types reading.frames ≡ is_broken e → ⊥
     not-faulty = not-broken v s trees fit low readable out.t load.key reading.node_type out.i out.height out.known typed reading.frames is-read.fits is-read.asked
@@ -324,10 +330,7 @@ module _ {N B W E : Type 0} (m : Seen N B W) (s : MachineState N E) (trees : ℕ
 
     ask-chance : (want : Want) (mid : Core) (e : Error)
         → Refused (ask_fault w Owner.Caller reading.load want) (ask_fault w Owner.Caller reading.load want) ((is_known w want ≡ true) × AreHandlesFull w) w e mid → IsOfChance e
-    ask-chance want mid e r = elim r.why [
-      | inl is ↦ where-chance (is_known w want) w.last.handle e (past (load_fault w Owner.Caller reading.load) _ e (no-load-fault e) is)
-      | inr memory ↦ memory-chance e memory.0
-    ]
+    ask-chance want mid e r = only-refused {P = IsOfChance} e r (only-earlier _ _ (no-load-fault _) (where-chance (is_known w want) w.last.handle)) tt
 
     root-asked : (mid : Core) (e : Error) → AskCall w Owner.Caller reading.load Want.Root (Err e) mid → IsOfChance e
     root-asked mid e c = grind (arith, nat_tests, ask-chance, same_some, is-read, vain-chance, found)
@@ -350,13 +353,8 @@ module _ {N B W E : Type 0} (m : Seen N B W) (s : MachineState N E) (trees : ℕ
     of-nested mid e (kind, key, needs, inr (blob, is, deep, asked)) = absurd (let n = (need-there kind key (inl needs)).2 (front reading.frames kind key needs) in omega arith)
 
     of-lazy : (mid : Core) (e : Error) (kind : Kind) (key : ℕ) → need_of v.types reading.frames ≡ needs_lazy kind key → LazyCall w Owner.Caller reading.load kind key (Err e) mid → IsOfChance e
-    of-lazy mid e kind key needs c = elim c.refused.why [
-      | inr memory ↦ memory-chance e memory.0
-      | inl is ↦
-          let kinds = past (load_fault w Owner.Caller reading.load) _ e (no-load-fault e) is in
-          node-chance w kind key e (past (refused_if (not (is_loose_kind kind.0)) Error.WrongKind) (node_fault w kind key) e
-          (never _ Error.WrongKind e (front-lazy reading.frames kind key needs)) kinds)
-    ]
+    of-lazy mid e kind key needs c = only-refused {P = IsOfChance} e c.refused
+        (only-earlier _ _ (no-load-fault _) (only-earlier _ _ (λ f so. absurd (never _ Error.WrongKind f (front-lazy reading.frames kind key needs) so)) (node-chance w kind key))) tt
 
     -- the blob that becomes a node is read through a reference that isn't loose, and is of its kind's type
     node-right : (top : Frame) (below : List Frame) → reading.frames ≡ top ∷ below → need_of v.types reading.frames ≡ to_adopt → (is_eager top.kind.0 ≡ true) × (top.node_type ≡ type_of top.kind.0)
@@ -366,39 +364,23 @@ module _ {N B W E : Type 0} (m : Seen N B W) (s : MachineState N E) (trees : ℕ
     of-node mid e r =
         let n = r.reads_node in
         let right = node-right n.top n.below n.frames n.needs in
-        elim r.adopted.refused.1.why [
-          | inr memory ↦ by-chance (memory-chance e memory.0)
-          | inl is ↦
-              let modes = past (load_fault w Owner.Caller reading.load) _ e (no-load-fault e) is in
-              let kinds = past (refused_if (is_loose_kind n.top.kind.0) Error.WrongMode) _ e (never _ Error.WrongMode e (loose-not n.top.kind.0 right.0)) modes in
-              let rest = past (refused_if (not (v.node_type r.x == type_of n.top.kind.0)) Error.WrongKind) _ e (never _ Error.WrongKind e (same-type (v.node_type r.x)
-              (type_of n.top.kind.0) (n.decoded.typed ∙ right.1))) kinds in
-              elim (either (references_fault w (Owner.Load reading.load) [] (v.references r.x)) (node_fault w n.top.kind n.top.key) e rest) [
-                | inl a ↦ by-references n.top n.below r.x n.frames n.decoded (form-of n.top n.below n.frames r.x n.decoded) a
-                | inr f ↦ by-chance (node-chance w n.top.kind n.top.key e f)
-              ]
-        ]
+        only-refused {P = C} e r.adopted.refused.1 (only-earlier _ _ (no-load-fault _) (only-earlier _ _ (λ f so. absurd (never _ Error.WrongMode f (loose-not n.top.kind.0 right.0) so))
+        (only-earlier _ _ (λ f so. absurd (never _ Error.WrongKind f (same-type (v.node_type r.x) (type_of n.top.kind.0) (n.decoded.typed ∙ right.1)) so))
+        (only-earlier _ _ (λ f a. by-references n.top n.below r.x n.frames n.decoded (form-of n.top n.below n.frames r.x n.decoded) a)
+        (λ f a. by-chance (node-chance w n.top.kind n.top.key f a)))))) (by-chance tt)
 
     of-root : (mid : Core) (e : Error) → RefusesRoot v w Owner.Caller reading e mid → C e
     of-root mid e r = elim r.refuses [
       | inr (is, handed) ↦
           let same : is.load ≡ load = same_some _ _ (sym is.open_load ∙ (ap (λ (x : LoadNumber). w.loads x.0) is-read.number ∙ open_load)) in
           absurd (subst IsOfKey (ap (λ (x : OpenLoad). x.root) same ∙ paged.3) is.sort)
-      | inl (is, ended) ↦ elim ended.refused.1.why [
-        | inr memory ↦ by-chance (memory-chance e memory.0)
-        | inl why ↦
-            let rest = past (load_fault w Owner.Caller reading.load) _ e (no-load-fault e) why in
-            elim (either (if_there (λ (x : OpenLoad). root_fault w Owner.Caller (v.node_type r.x) x.root) None (w.loads reading.load.0)) (references_fault w (Owner.Load reading.load) []
-            (v.references r.x)) e rest) [
-              | inl a ↦ by-chance (root-chance r a)
-              | inr f ↦ by-references r.reads_root.root [] r.x r.reads_root.frames r.reads_root.decoded (form-of r.reads_root.root [] r.reads_root.frames r.x r.reads_root.decoded) f
-            ]
-      ]
+      | inl (is, ended) ↦ only-refused {P = C} e ended.refused.1 (only-earlier _ _ (no-load-fault _) (only-earlier _ _ (λ f a. by-chance (root-chance r f a))
+          (λ f a. by-references r.reads_root.root [] r.x r.reads_root.frames r.reads_root.decoded (form-of r.reads_root.root [] r.reads_root.frames r.x r.reads_root.decoded) a)))
+          (by-chance tt)
     ]
       where
-        root-chance : (r : RefusesRoot v w Owner.Caller reading e mid) → if_there (λ (x : OpenLoad). root_fault w Owner.Caller (v.node_type r.x) x.root) None (w.loads reading.load.0) ≡ Some e
-            → IsOfChance e
-        root-chance r is = grind (arith, nat_tests, is-read, either, never, same-type, last-type, where-chance)
+        root-chance : (r : RefusesRoot v w Owner.Caller reading e mid) → Only IsOfChance (if_there (λ (x : OpenLoad). root_fault w Owner.Caller (v.node_type r.x) x.root) None (w.loads reading.load.0))
+        root-chance r f is = grind (arith, nat_tests, is-read, either, never, same-type, last-type, where-chance)
 
     of-end : (w' : Core) (e : Error) → EndsClosed v w Owner.Caller reading e w' → C e
     of-end w' e r =

@@ -197,16 +197,16 @@ pub record WalkingStands (shelf : Shelf) (v : ℕ) (walking : Walking) : Type 0 
   pub unfailed : walking.answer ≡ None → HasNoFailed shelf v
   pub done : (answer : WorkerAnswer) → walking.answer ≡ Some answer → walking.todo ≡ []
 
--- a slot of the table t: whoever claimed the identity is a worker of the table, and its task meets it
-pub record SlotStands (shelf : Shelf) (walkings : ℕ → Option Walking) (t : ℕ) (i : Identity) (slot : Slot) : Type 0 where
+-- the worker v is one of the table t, and its task meets the identity
+pub record IsMetBy (shelf : Shelf) (walkings : ℕ → Option Walking) (v t : ℕ) (i : Identity) : Type 0 where
   pub walking : Walking
-  pub there : walkings slot.worker ≡ Some walking
+  pub there : walkings v ≡ Some walking
   pub on_table : walking.table ≡ t
   pub meets : Meets shelf walking.task i
 
 -- all tables and workers, where this is the last number that a worker was given
 pub record WorkStands (shelves : ℕ → Shelf) (walkings : ℕ → Option Walking) (last : ℕ) : Type 0 where
-  pub slots : (t : ℕ) (i : Identity) (slot : Slot) → (shelves t).slots i ≡ Some slot → SlotStands (shelves t) walkings t i slot
+  pub slots : (t : ℕ) (i : Identity) (slot : Slot) → (shelves t).slots i ≡ Some slot → IsMetBy (shelves t) walkings slot.worker t i
   pub workers : (v : ℕ) (walking : Walking) → walkings v ≡ Some walking → WalkingStands (shelves walking.table) v walking
   pub numbered : (v : ℕ) (walking : Walking) → walkings v ≡ Some walking → v ≤ last
 
@@ -274,27 +274,11 @@ module _ (v : ℕ) (task : Task) where
   module _ (shelf shelf' : Shelf) (same : (i : Identity) → shelf'.slots i ≡ shelf.slots i) (clean : HasNoFailed shelf v) where
     pub plain : (answer : Option WorkerAnswer) (todo : List Todo) → ((a : WorkerAnswer) → answer ≡ Some a → todo ≡ []) → AllStand shelf v task todo → CoversBy shelf todo
         → Goes shelf answer shelf' todo
-    plain answer todo done all covers =
-        record {
-          changes = same-slots v shelf shelf' same;
-          all = all-stay v task shelf shelf' (grows v shelf shelf' (same-slots v shelf shelf' same)) todo (λ i is slot there own. same i ∙ there) all;
-          covers = λ i slot there own still. or_right (is_failing todo) (is_open_in i todo) (covers i slot (sym (same i) ∙ there) own still);
-          unfailed = λ none i slot there own. clean i slot (sym (same i) ∙ there) own;
-          done = done;
-          met = λ i slot none there. some-none (sym (same i) ∙ there) none;
-        }
+    plain answer todo done all covers = grind (arith, nat_tests, same-slots, all-stay, grows, or_right, is_failing, is_open_in, some-none)
 
     pub fails : (fault : Fault) (back : Option HandleNumber) → Goes shelf None shelf' (to_fail fault back ∷ [])
     unfolding AllStand is_open_in
-    fails fault back =
-        record {
-          changes = same-slots v shelf shelf' same;
-          all = (tt, (λ i is. absurd (cc)), tt);
-          covers = λ i slot there own still. refl;
-          unfailed = λ none i slot there own. clean i slot (sym (same i) ∙ there) own;
-          done = λ a is. absurd (cc);
-          met = λ i slot none there. some-none (sym (same i) ∙ there) none;
-        }
+    fails fault back = grind (arith, nat_tests, same-slots, some-none)
 
     -- what stands at the front becomes something else about the same claim
     pub swaps : (x y : Todo) (below : List Todo) → AllStand shelf v task (x ∷ below) → CoversBy shelf (x ∷ below) → ((i : Identity) → is_open_of i y ≡ is_open_of i x)
@@ -505,13 +489,6 @@ pub record KeepsTask (walkings' : ℕ → Option Walking) (u : ℕ) (w : Walking
   pub table : now.table ≡ w.table
   pub task : now.task ≡ w.task
 
--- the worker v of the table claims and meets it
-pub record IsMetBy (shelf : Shelf) (walkings : ℕ → Option Walking) (v t : ℕ) (i : Identity) : Type 0 where
-  pub walking : Walking
-  pub there : walkings v ≡ Some walking
-  pub on_table : walking.table ≡ t
-  pub meets : Meets shelf walking.task i
-
 -- what an event does to tables and workers: it touches one worker, and claims of its own
 pub record Turned (v : ℕ) (shelves shelves' : ℕ → Shelf) (walkings walkings' : ℕ → Option Walking) : Type 0 where
   pub changes : (t : ℕ) → Changes v (shelves t) (shelves' t)
@@ -524,19 +501,16 @@ module _ (v : ℕ) (shelves shelves' : ℕ → Shelf) (walkings walkings' : ℕ 
   pub keeps-task : (u : ℕ) (w : Walking) → walkings u ≡ Some w → KeepsTask walkings' u w
   keeps-task u w there = grind (arith, same-worker)
 
-  slot-stays : (t : ℕ) (i : Identity) (old slot : Slot) → slot.worker ≡ old.worker → SlotStands (shelves t) walkings t i old → SlotStands (shelves' t) walkings' t i slot
-  slot-stays t i old slot same stands =
-      let k = keeps-task old.worker stands.walking stands.there in
-      grind (arith, nat_tests, keeps-task, meets-grow, grows)
+  met-stays : (t : ℕ) (i : Identity) (u n : ℕ) → n ≡ u → IsMetBy (shelves t) walkings u t i → IsMetBy (shelves' t) walkings' n t i
+  met-stays t i u n same met = let k = keeps-task u met.walking met.there in grind (arith, nat_tests, keeps-task, meets-grow, grows)
 
   pub work-stands : (last last' : ℕ) → last ≤ last' → v ≤ last' → WorkStands shelves walkings last → WorkStands shelves' walkings' last'
   work-stands last last' few small work =
       record {
         slots = λ t i slot there. elim (turned.changes t i) [
-          | stays same ↦ slot-stays t i slot slot refl (work.slots t i slot (sym same ∙ there))
-          | is-new new none is of_it ↦ let m = turned.met t i slot none there in let e = ap (λ (s : Slot). s.worker) (some-same there is) ∙ of_it in
-              record { walking = m.walking; there = ap walkings' e ∙ m.there; on_table = m.on_table; meets = m.meets }
-          | is-changed old new was own is more ↦ slot-stays t i old slot (ap (λ (s : Slot). s.worker) (some-same there is) ∙ more.worker) (work.slots t i old was)
+          | stays same ↦ met-stays t i slot.worker slot.worker refl (work.slots t i slot (sym same ∙ there))
+          | is-new new none is of_it ↦ subst (λ n. IsMetBy (shelves' t) walkings' n t i) (sym (ap (λ (s : Slot). s.worker) (some-same there is) ∙ of_it)) (turned.met t i slot none there)
+          | is-changed old new was own is more ↦ met-stays t i old.worker slot.worker (ap (λ (s : Slot). s.worker) (some-same there is) ∙ more.worker) (work.slots t i old was)
         ];
         workers = λ u w there. elim (cases_Bool (nat_eq u v)) [
           | inl e ↦ let is = same-worker u v e in subst (λ n. WalkingStands (shelves' w.table) n w) (sym is) (turned.stands w (sym (ap walkings' is) ∙ there))

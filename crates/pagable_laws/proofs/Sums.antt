@@ -57,13 +57,10 @@ pub counted : {X : Type 0} (f : X → ℕ) (xs : List X) → 0 < sum_by f xs →
 counted f [] some = absurd (omega arith)
 counted f (x ∷ xs) some = pick f x xs (f x) refl (λ z. let c = sum_by-cons f x xs in counted f xs (omega arith))
 
-length-cond : {X : Type 0} (b : Bool) (x : X) (ys : List X) → one b + length ys ≡ length (cond b (x ∷ ys) ys)
-length-cond x0 x ys = grind (arith, nat_tests)
-
 -- how many pass is the length of what passes
 times-filter : {X : Type 0} (test : X → Bool) (xs : List X) → times test xs ≡ length (filter test xs)
 times-filter test [] = refl
-times-filter test (x ∷ xs) = sum_by-cons (λ y. one (test y)) x xs ∙ (ap (λ n. one (test x) + n) (times-filter test xs) ∙ length-cond (test x) x (filter test xs))
+times-filter test (x ∷ xs) = sum_by-cons (λ y. one (test y)) x xs ∙ (ap (λ n. one (test x) + n) (times-filter test xs) ∙ (grind (arith, nat_tests)))
 
 pub pins_filter : PinsAreAFilter
 pins_filter n rows = times-filter _ rows
