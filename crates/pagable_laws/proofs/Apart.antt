@@ -54,9 +54,7 @@ looked front (g ∷ back) (d ∷ done) left (key ∷ keys) same few =
     let moved = subst (λ gs. Looked look_kind own_kind (answers_from gs (length (front ++ g ∷ [])) keys) (map kind_of_arc (done ++ left)) (found-of left)) (append_assoc front (g ∷ []) back) tail in
     one-looked _ _ _ _ _ (answered g (slice_get (front ++ g ∷ back) (length front)) d.kind.0 (at-place front g back) both.0)
     (subst (λ n. Looked look_kind own_kind (answers_from (front ++ g ∷ back) n keys) (map kind_of_arc (done ++ left)) (found-of left)) (longer front g) moved)
-looked front [] (d ∷ done) left keys same few = absurd (cc)
-looked front (g ∷ back) [] left keys same few = absurd (cc)
-looked front _ _ _ _ same few = absurd (omega arith)
+looked front x1 x2 x3 x4 same few = grind (arith, nat_tests)
 
 -- ---- what comes next
 
@@ -210,18 +208,14 @@ module _ (types : Types) (t : ℕ) (blob : Blob) (refs got : List ArcRef) (f : I
   abbrev Answers : Answer → ArcRef → Type 0
   Answers a r = (kind : ℕ) → OutLook no_cause (InPlace got refs) (a kind) (own_look kind r)
 
-  answer-own : (g r : ArcRef) (place : ℕ) → slice_get got place ≡ Some g → slice_get refs place ≡ Some r → g.kind.0 ≡ r.kind.0 → Answers (answer_of (Some g)) r
-  unfolding own_look
-  answer-own g r place at there is kind = grind (arith, both-looked-up, both-not)
-
   all-answer : (place : ℕ) (rs : List ArcRef) (keys : List ℕ) → ((i : ℕ) → slice_get rs i ≡ slice_get refs (place + i)) → length keys ≡ length rs → AllTwo Answers (answers_from got place keys) rs
-  unfolding answers_from
+  unfolding answers_from own_look
   all-answer place [] [] at few = no-two
   all-answer place (r ∷ rs) (k ∷ ks) at few =
       let start : place + 0 ≡ place = omega arith in
       let there : slice_get refs place ≡ Some r = ap (slice_get refs) (sym start) ∙ sym (at 0) in
       let g = kind-at got refs same place r there in
-      let here = subst (λ o. Answers (λ kind. answer_of o kind) r) (sym g.1) (answer-own g.0 r place g.1 there g.2) in
+      let here = subst (λ o. Answers (λ kind. answer_of o kind) r) (sym g.1) (grind (arith, both-looked-up, both-not)) in
       more-two _ r _ rs here (all-answer (place + 1) rs ks (λ i. let next : place + suc i ≡ place + 1 + i = omega arith in at (suc i) ∙ ap (slice_get refs) next) (omega arith))
   all-answer place _ _ at few = absurd (omega arith)
 
@@ -242,8 +236,7 @@ module _ (types : Types) (t : ℕ) (blob : Blob) (refs got : List ArcRef) (f : I
       let first : read (handles_at 0 types.parts) f.shape (rest blob.bytes (answers_from got 0 blob.keys)) ≡ Ok (own, given.0) = sym shaped ∙ given.1 in
       both-own (par.out (rest blob.bytes (answers_from got 0 blob.keys)) (rest blob.bytes refs) (record {
         bytes = refl;
-        refs = all-answer 0 refs blob.keys
-            (λ i. let start : i ≡ 0 + i = omega arith in ap (slice_get refs) start) f.as_many;
+        refs = grind (arith, nat_tests, all-answer, slice_get);
       })) first whole
 
   -- ---- references, one by one

@@ -67,8 +67,7 @@ module _ (rows : List HandleRow) (keyed : ℕ → Bool) (entries : List HandleRo
       omega arith
     where
       part : (h : HandleRow) → Among rows h → (b : Bool) → is_owner (owner_value n) h.owner ≡ b → owned_out s n h + outside (more s) h ≤ outside s h
-      part h among true e = let c = comes s h n among e goes in grind (arith, nat_tests)
-      part h among false e = let c = shrinks s h in grind (arith, nat_tests)
+      part h among x2 e = grind (arith, nat_tests, comes, shrinks)
 
   -- what is in the one set is in the other
   pub inside : (s t : ℕ → Bool) (h : HandleRow) → IsWithin rows s t → Among rows h → s h.number.0 ≡ true → t h.number.0 ≡ true

@@ -201,13 +201,9 @@ module _ (shelf : Shelf) where
   adds : (b : Bool) (place height limit : ℕ) → (if b then place + 1 else 0) + height ≤ limit → place ≤ limit → place + (if b then height + 1 else 0) ≤ limit
   adds x0 place height limit le few = grind (arith, nat_tests)
 
-  within-max : (place a b limit : ℕ) → place + a ≤ limit → place + b ≤ limit → place + max a b ≤ limit
-  within-max place a b limit le few = omega arith
-
   pub given-low : (task : Task) (r : ArcRef) (key height : ℕ) → IsPublished shelf (identity_of r) key height → (below : List Todo) → Expects task r below → ReachesLow shelf r height below
       → TodoLow shelf (give r key height below)
   unfolding WaitsLow
-  given-low task r key height p [] expects low = tt
   given-low task r key height p (to_finish o ∷ below) (more, e) (reach, (first, attained, fits, place, low)) =
       let new : ℕ = max o.height (above r.kind.0 height) in
       let a = adds (is_eager r.kind.0) o.place height longest_path reach (omega arith) in
@@ -215,22 +211,17 @@ module _ (shelf : Shelf) where
         first-more o.height new o.written.references o.keys r more key (omega arith) e first (record { key = key; below = height; known = p; within = omega arith }),
         more-attained o.height (above r.kind.0 height) o.written.references attained (inr
             (record { r = r; among = next-among o.written.references o.keys r more e; key = key; below = height; known = p; least = omega arith })),
-        within-max o.place o.height (above r.kind.0 height) longest_path fits a,
+        (omega arith),
         place,
         low,
       )
   given-low task r key height p (to_item written ks ∷ below) (more, e) (reach, first) = grind (arith, adds, started-item-low, first-more)
-  given-low task r key height p (_ ∷ below) expects low = absurd expects
+  given-low task r key x3 p x5 x6 x7 = grind (arith, nat_tests)
 
   pub given-known-low : (task : Task) (r : ArcRef) (key height : ℕ) → IsPublished shelf (identity_of r) key height → (below : List Todo) → Expects task r below → ReachesLow shelf r height below
       → TodoLow shelf (give_known r key height below)
   given-known-low task r key height p [] expects low = low
   given-known-low task r key height p (x ∷ below) expects low = given-low task r key height p (x ∷ below) expects low
-
-  pub opened-low : (r : ArcRef) (place : ℕ) (o : Open) (below : List Todo) → o.keys ≡ [] → o.height ≡ 0 → o.place ≡ place → o.reference ≡ r → PlacedLow shelf r place below
-      → WaitsLow shelf (to_finish o ∷ below)
-  unfolding WaitsLow FirstLow
-  opened-low r place o below no_keys no_height at of_it (few, is, low) = grind (arith, nat_tests)
 
 -- A worker's step keeps heights low, and so does each event.
 
@@ -281,7 +272,7 @@ module _ {N B W : Type 0} (m : Seen N B W) (n : ℕ) (g : Ground) (task : Task) 
       ))
 
   stepped : (todo : List Todo) → s.todo ≡ todo → (step : Took W) → Does m n s todo step s' → AllStand s.shelf n task todo → Walks m.values g s.shelf task todo → TodoLow s.shelf todo → Low
-  unfolding AllStand
+  unfolding AllStand WaitsLow FirstLow
   stepped (to_start r place ∷ below) e (Took.Claim i (Ok Claim.Claimed)) (is, c) all walks (at, low) =
       let t = c.finds.1.2 in
       let puts = puts-slot (with_wait s.shelf n None) s'.shelf (identity_of r) (record { worker = n; written = None; outcome = no_result }) t.table_is in
@@ -306,7 +297,7 @@ module _ {N B W : Type 0} (m : Seen N B W) (n : ℕ) (g : Ground) (task : Task) 
       let puts = changes-slot s.shelf s'.shelf (identity_of r) claim.slot (λ slot. record slot { written = Some (m.written_of out) }) claim.claimed t.table_is in
       did (slots-low-but (keys-grow more) lows puts (no-key (record claim.slot { written = Some (m.written_of out) }) claim.no_result_yet)) (open_node r place through
       (m.written_of out) below) t.list_is
-      (started-low s.shelf o below _ (opened-low s.shelf r place o below refl refl refl refl low))
+      (started-low s.shelf o below _ (grind (arith, nat_tests)))
   stepped (to_finish o ∷ below) e (Took.Store i (Ok key)) (is, p) (stands, apart, all) walks low =
       let t = p.goes in did (kept t.table_stays.slots) _ t.list_is (finishes o below key stands.1 low p.all)
   stepped (to_item written ks ∷ below) e (Took.Store i (Ok key)) (is, p) all walks low = let t = p.goes in did (kept t.table_stays.slots) [] t.list_is tt
@@ -330,16 +321,13 @@ pub heights-at-first : {N E : Type 0} (s : MachineState N E) → IsIdle s → He
 heights-at-first s idle = record { slots = λ t i slot is. let f = idle.shelves t i in absurd (cc); todos = λ n walking is. let f = idle.walkings n in absurd (cc) }
 
 module _ {N B W E : Type 0} (m : Seen N B W) (s s' : MachineState N E) (trees : ℕ → Tree) (fit : WorkFits m.values s trees) (low : HeightsIn (world_of s)) where
-  starts-low : (shelf : Shelf) (task : Task) → TodoLow shelf (first_todo task)
-  unfolding WaitsLow FirstLow
-  starts-low shelf x1 = grind (arith, nat_tests, started-item-low)
-
   -- each event keeps it
   pub heights-on : StandsIn (world_of s) → (event : Event N B W) (reply : EventReply N B W) → EventTurns m (world_of s) event reply (world_of s') → HeightsIn (world_of s')
+  unfolding WaitsLow FirstLow
   heights-on work event reply turns =
       let h = turns-keep m turns SlotsLow (λ n shelf w. TodoLow shelf w.todo) (λ a b same lows. slots-low-on (keys-same same) lows same) (λ a b more lows n w. todo-low-on a b more w.todo)
       (λ t shelf more same. slots-low-on (keys-grow more) (low.slots t) same)
-      (λ n w none there. todo-low-on (s.work.shelves w.table) (s'.work.shelves w.table) (turns-grow m turns w.table) w.todo (low.todos n w there)) (λ n shelf t task. starts-low shelf task)
+      (λ n w none there. todo-low-on (s.work.shelves w.table) (s'.work.shelves w.table) (turns-grow m turns w.table) w.todo (low.todos n w there)) (λ n shelf t task. (grind (arith, nat_tests, started-item-low)))
       (λ k r w one more.
       let d = stepped m k.0 (ground_of s trees) w.walking.task (record { core = s.pager.core; shelf = s.work.shelves w.walking.table; todo = w.walking.todo }) w.after more
       (low.slots w.walking.table) w.walking.todo refl r.took w.does.does (work.workers k.0 w.walking w.at).all (fit.walks k.0 w.walking w.at) (low.todos k.0 w.walking w.at) in
@@ -402,13 +390,6 @@ climbs x0 place h d top deep le few within long = grind (arith, nat_tests)
 climbs-item : (e : Bool) (h d : ℕ) → h ≤ d → longest_path < max ((if e then 0 + 1 else 0) + h) d → longest_path < max (if e then h + 1 else 0) d
 climbs-item x0 h d within long = grind (arith, nat_tests)
 
-climbs-entry : (h d : ℕ) → h ≤ d → longest_path < max (0 + h) d → longest_path < d
-climbs-entry h d within long = omega arith
-
--- no reference is refused as too deep before its place is looked at
-no-claim-deep : (w : Core) (r : ArcRef) → claim_fault w r ≡ Some Error.TooDeep → ⊥
-no-claim-deep w r is = grind arith
-
 less-still : {a b c : ℕ} → suc a ≤ b → c ≤ a → b ≡ c → ⊥
 less-still lt le e = absurd (omega arith)
 
@@ -445,7 +426,6 @@ module _ {N E : Type 0} (v : Values N) (s : MachineState N E) (trees : ℕ → T
   leads-down : (n : ℕ) (task : Task) (r : ArcRef) (below : List Todo) → Expects task r below → Waits shelf task below → AllStand shelf n task below → WaitsLow shelf below
       → longest_path < max (place_over r below + height (trees r.node.0).meaning) (deepest_path (trees r.node.0).meaning) → IsTooDeepTask trees task
   unfolding Waits AllStand WaitsLow
-  leads-down n (of_entry q i) r [] expects waits all lows long = grind (arith, climbs-entry, height-within)
   leads-down n task r (to_finish o ∷ below) (more, e) (known, expects, waits) (stands, apart, all) (first, attained, fits, place, lows) long =
       let claim = stands.1 in
       let f = fit.slots t (identity_of o.reference) claim.slot claim.claimed in
@@ -457,7 +437,7 @@ module _ {N E : Type 0} (v : Values N) (s : MachineState N E) (trees : ℕ → T
   leads-down n task r (to_item written keys ∷ below) (more, e) (is, known) all lows long =
       let m = (trees r.node.0).meaning in
       subst (λ x. IsTooDeepTask trees x) (sym is) (r, next-among shelf written.references keys r more e, climbs-item (is_eager r.kind.0) (height m) (deepest_path m) (height-within m) long)
-  leads-down n _ r _ expects waits all lows long = absurd expects
+  leads-down n x1 r x3 x4 x5 x6 x7 long = grind (arith, nat_tests, height-within)
 
   -- a worker comes upon no claim of its own that it is at: a tree is no part of itself
   not-below : (n : ℕ) (task : Task) (q : Identity) (r : ArcRef) (below : List Todo) → size (trees q.node.0).meaning ≤ size (trees r.node.0).meaning → Expects task r below → Waits shelf task below
@@ -482,7 +462,7 @@ module _ {N E : Type 0} (v : Values N) (s : MachineState N E) (trees : ℕ → T
       → IsTooDeepTask trees task ⊎ WaitsForAsker shelf n (identity_of r)
   unfolding is_open_in
   claim-deep n task core todo r place below s' c expects waits all covers at lows = elim c.refused.0 [
-    | inl fault ↦ absurd (no-claim-deep core r fault)
+    | inl fault ↦ absurd (grind arith)
     | inr (inl (none_there, is, deep)) ↦ by deep
     | inr (inr memory) ↦ absurd (cc)
   ]

@@ -52,9 +52,6 @@ module _ {c : Change} {w w' : Core} (goes : Goes c w w') where
 
 -- ---- what is claimed
 
-loose-by : (kind : ℕ) (mode : Mode) → fits_mode kind mode ≡ true → is_loose_kind kind ≡ true → is_loose mode ≡ true
-loose-by kind x1 fits is = grind (arith, nat_tests)
-
 -- nothing is to be said against a claim: the reference's handle is of its node and fits its kind, and the node is there
 pub record IsClaimable (w : Core) (r : ArcRef) : Type 0 where
   pub row : HandleRow
@@ -74,7 +71,7 @@ module _ {w : Core} (whole : HandlesAreWhole w) where
       omega arith
 
   pub claimed-stands : (r : ArcRef) → claim_fault w r ≡ None → StandsAt w r r.handle
-  claimed-stands r may = search (rules, may-claim, given-of, handle-given, loose-by)
+  claimed-stands r may = search (rules, may-claim, given-of, handle-given, arith, nat_tests)
 
   -- a clone stands for what its handle stands for
   pub clone-stands : {w' : Core} {me : Owner} (r : ArcRef) (k : HandleNumber) → StandsAt w r r.handle → CloneCall w me r.handle (Ok k) w' → StandsAt w' r k
@@ -90,10 +87,7 @@ module _ {w : Core} (whole : HandlesAreWhole w) where
       record {
         node_given = let b = s.node_given in let c : w'.last.node ≡ w.last.node = ap (λ l. l.node) a.last in omega arith;
         given = omega arith;
-        is = λ x live.
-            let found : find_row k.0 (w.rows ++ made ∷ []) ≡ Some x = subst (λ rows. find_row k.0 rows ≡ Some x) a.rows live in
-            let new : x ≡ made = s_made.only x (among-found k.0 (w.rows ++ made ∷ []) x found) (found-number k.0 (w.rows ++ made ∷ []) x found ∙ above) in
-            (ap (λ (y : HandleRow). y.node) new ∙ old.0, λ kind. ap (λ (y : HandleRow). is_loose y.mode) new ∙ old.1 kind);
+        is = grind (arith, nat_tests, find_row, among-found, found-number, above, is_loose);
       }
 
 -- Workers go on holding what they hold.
@@ -131,10 +125,10 @@ given-quiet r key height x3 quiet = grind (arith, nat_tests, started-quiet)
 known-quiet : (r : ArcRef) (key height : ℕ) (todo : List Todo) → is_publishing todo ≡ false → is_publishing (give_known r key height todo) ≡ false
 known-quiet r key height x3 quiet = grind (arith, nat_tests, given-quiet)
 
+-- ---- keys that are set
+
 pub first-quiet : (task : Task) → is_publishing (first_todo task) ≡ false
 first-quiet x0 = grind (arith, nat_tests, started-quiet)
-
--- ---- keys that are set
 
 cell-keyed : (key : ℕ) (found : Option Cell) (cell : Cell) → if_there (λ (x : Cell). Some (record x { key = OptionalDataKey.Some key })) None found ≡ Some cell → has_key cell.key ≡ true
 cell-keyed key x1 cell is = grind (arith, nat_tests)
@@ -168,10 +162,6 @@ Reveals shelf shelf' P = (i : Identity) (key height : ℕ) → IsPublished shelf
 module _ (shelf shelf' : Shelf) (P : Identity → Type 0) where
   same-reveals : ((i : Identity) → shelf'.slots i ≡ shelf.slots i) → Reveals shelf shelf' P
   same-reveals same i key height p = inl (keys-same (λ j. sym (same j)) i key height p)
-
-  -- a new slot has no key yet
-  new-reveals : (i : Identity) (new : Slot) → new.outcome ≡ no_result → PutsSlot shelf.slots shelf'.slots i new → Reveals shelf shelf' P
-  new-reveals i new none puts j key height p = grind (arith, put-cases, known)
 
   of-some : (f : Slot → Slot) (o : Option Slot) (slot : Slot) → if_there (λ (z : Slot). Some (f z)) None o ≡ Some slot → (old : Slot) × (o ≡ Some old) × (f old ≡ slot)
   of-some f x1 slot e = grind (arith, nat_tests, same_some)
@@ -237,7 +227,7 @@ module _ {N B W : Type 0} (m : Seen N B W) (v : ℕ) (s s' : Site) (whole : Hand
       let t = c.finds.1.2 in
       let new : Slot = record { worker = v; written = None; outcome = no_result } in
       leaves t.list_is refl (stands-on f (claimed-stands whole r c.finds.0), quiet, all-on f below all)
-      (new-reveals s.shelf s'.shelf KeyThere (identity_of r) new refl (puts-slot (with_wait s.shelf v None) s'.shelf (identity_of r) new t.table_is))
+      (grind (arith, put-cases, known))
   stepped (to_start r place ∷ below) (Took.Claim i (Ok (Claim.Known key height))) e (is, c) f (h, quiet, all) = let t = c.finds.1.2 in
       stays t.table_is.slots t.list_is (known-quiet r key height below quiet) (known s'.core r key height below (all-on f below all))
   stepped (to_start r place ∷ below) (Took.Claim i (Ok Claim.Waiting)) e (is, c) f (h, quiet, all) = let t = c.finds.1.2 in stays t.table_is.slots (t.list_is ∙ e) refl (tt, quiet, all-on f below all)
@@ -308,9 +298,7 @@ module _ {N B W : Type 0} (m : Seen N B W) (u u' : World) {c : Change} (goes : G
     where
       -- its answer is none yet, so what it has stays
       mine : {n : ℕ} → HasHandle s.after.core k.0 n × (answer_after s.walking.todo r.took ≡ None) → HasHandle u'.core k.0 n
-      mine f =
-          let a : Alike s.after.core u'.core = subst (λ z. Ends z k.0 s.after.core u'.core) (s.answers ∙ f.1) s.ends in
-          record { h = f.0.h; row = f.0.row; live = subst (λ rows. find_row f.0.h.0 rows ≡ Some f.0.row) (sym a.rows) f.0.live; own = f.0.own; at = f.0.at }
+      mine f = grind (arith, nat_tests, find_row)
 
   keys-hold : (event : Event N B W) (reply : EventReply N B W) → EventTurns m u event reply u' → ((n : ℕ) → step_of n event reply ≡ [] → Spares (owner_worker n) u.core u'.core) → KeysHeld u'
   keys-hold event reply turns spares =

@@ -64,10 +64,9 @@ module _ (k : ℕ) (i : Identity) where
 
   given : (r : ArcRef) (key height : ℕ) (below : List Todo) → OnlyWaits below → Keeps (all-left below) (give r key height below)
   unfolding OnlyWaits all-left
-  given r key height [] waits = record { same = refl; way = tt }
   given r key height (to_finish o ∷ below) waits = started-node _ _ _ below waits
   given r key height (to_item written keys ∷ below) waits = grind (arith, nat_tests)
-  given r key height (_ ∷ below) waits = absurd waits
+  given r key height x3 waits = grind (arith, nat_tests)
 
   -- whether the reference is of the identity
   abbrev at : ArcRef → Bool
@@ -141,10 +140,9 @@ module _ (k : ℕ) (i : Identity) where
         sum l t m c s n d t' s' is_later is_claim first more = omega arith
 
     after-release : (r : ArcRef) (key height : ℕ) (steps : List (Took W)) (last : List Todo) → Leads f (to_release r key height ∷ []) steps last → times (is_later_of k i) steps ≤ 1
-    after-release r key height [] last leads = omega arith
     after-release r key height (Took.Release j ∷ []) last leads = grind (arith, nat_tests)
     after-release r key height (Took.Release j ∷ x ∷ more) last (mid, (is, e), (after, follows, leads)) = absurd (subst (λ m. Follows f m x after) e follows)
-    after-release r key height (step ∷ more) last (mid, follows, leads) = absurd follows
+    after-release r key height x3 last x5 = grind (arith, nat_tests)
 
     -- a step that neither claims nor is of the stage
     once-more : (step : Took W) (steps : List (Took W)) → one (is_later_of k i step) ≡ 0 → times (is_later_of k i) steps ≤ 1 → times (is_later_of k i) (step ∷ steps) ≤ 1

@@ -68,8 +68,7 @@ asks-by-kinds types t blob got kind key is = ask-alike kind key (next-alike type
 
 faulty-alike : {a b : Next} (e : Error) → SameNext a b → a ≡ is_faulty e → b ≡ is_faulty e
 faulty-alike e (both-read a b) is = absurd (cc)
-faulty-alike e (both-ask k q) is = absurd (cc)
-faulty-alike e (both-faulty f) is = is
+faulty-alike e x1 is = grind (arith, nat_tests)
 
 pub faulty-by-kinds : (types : Types) (t : ℕ) (blob : Blob) (got : List ArcRef) (e : Error) → next_of types t blob got ≡ is_faulty e → after_kinds types t blob (kinds_of got) ≡ is_faulty e
 faulty-by-kinds types t blob got e is = faulty-alike e (next-alike types t blob got) is

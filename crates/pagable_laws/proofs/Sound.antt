@@ -1,17 +1,22 @@
--- Why a load is refused whose key a page-out has published: by chance, or by a handle.
-use Rattle.pagable_laws.proofs.Words.{nat_tests, ◌≡◌, ℕ, suc, ◌+◌, ◌≤◌, true, List, [], ◌∷◌, length, Option, Some, sym, ap, subst, ◌∙◌, inl, inr, if◌then◌else◌, arith, slice_get, blob_of, Error}
-use Rattle.pagable_laws.proofs.Words.{ArcRef, Kind, Identity, Blob, Meaning, Tree, type_of, is_eager, above, longest_path, identity_of, Shelf, Written, Frame, Values, Next, reads, asks, is_faulty}
-use Rattle.pagable_laws.proofs.Words.{next_in, need_at, need_of, is_broken, IsPublished, MachineState, world_of, FramesFit, ReadsItsTypes, AreKeysOf, WorkFits, Needs, ◌==◌, Bool, false, ◌⊎◌, None}
-use Rattle.pagable_laws.proofs.Words.{Err, refl, Result, not, is_own_reading, RefusesFetch, Want, Owner, HandleNumber, LoadNumber, NodeNumber, Types, is_loose_kind, if_there, any_mode, Core}
-use Rattle.pagable_laws.proofs.Words.{OpenLoad, of_cell, Reading, Seen, IsLawful, earlier, where_so, refused_if, spent, handle_fault, references_fault, load_fault, AreHandlesFull, Refused}
-use Rattle.pagable_laws.proofs.Words.{FetchCall, birth_fault, AskCall, LazyCall, ask_fault, is_known, node_fault, root_fault, needs_nested, needs_lazy, to_adopt, IsDecoded, RefusesBlob}
-use Rattle.pagable_laws.proofs.Words.{RefusesNested, RefusesNode, RefusesRoot, IsOfKey, EndsClosed, Fails, reading_at, IsMachineWhole, StandsFor, FitsRoot, of_caller, IsOfChance, IsPagedOutAs}
-use Rattle.pagable_laws.proofs.Words.{IsLoadOfPagedOut, Ok, HandleRow, Mode, LoadAnswer, LoadReply, Event, EventReply, or_else, row_fault, reference_fault, LoadSteps, Happens, IsOfHandles}
-use Rattle.pagable_laws.proofs.{Words.{LoadIsFaultless, FaultlessLaw}, Trees.same_some, Fitting.{asked, first-typed}, Heights.{AllLow, HeightsIn}, Apart.{IsFormOf, GotAsked}}
-use Rattle.pagable_laws.proofs.{Apart.{FramesAsked, NextOf, asks-known, all-read, next-known, all-got}, ReadingStepsKinds.kinds_of, Sums.self-number, Taking.adopted-over, KnownSteps.ReadingsAsked}
-use Rattle.pagable_laws.proofs.{KnownSteps.eager-nested, Chains.IsGoingOn, Deeply.along-first}
-use Rattle.std.proofs.Common.{rules}
-use Rattle.pagable_world.specs.Loads.{Does}
+-- Why a load is refused whose key a page-out has published: by chance, or by a handle. And as too deep one is refused only where the reading of its key comes to a
+-- blob that lies too deep, or to one that enters a level too many.
+use Rattle.pagable_laws.proofs.Words.{nat_tests, ◌≡◌, ℕ, suc, ◌+◌, ◌≤◌, true, List, [], ◌∷◌, length, Option, Some, sym, ap, subst, ◌∙◌, inl, inr, if◌then◌else◌, arith, slice_get, blob_of}
+use Rattle.pagable_laws.proofs.Words.{Error, ArcRef, Kind, Identity, Blob, Meaning, Tree, type_of, is_eager, above, longest_path, identity_of, Shelf, Written, Frame, Values, Next, reads}
+use Rattle.pagable_laws.proofs.Words.{asks, is_faulty, next_in, need_at, need_of, is_broken, IsPublished, MachineState, world_of, FramesFit, ReadsItsTypes, AreKeysOf, WorkFits, Needs}
+use Rattle.pagable_laws.proofs.Words.{◌==◌, Bool, false, ◌⊎◌, None, Err, refl, Result, not, is_own_reading, RefusesFetch, Want, Owner, HandleNumber, LoadNumber, NodeNumber, Types}
+use Rattle.pagable_laws.proofs.Words.{is_loose_kind, if_there, any_mode, Core, OpenLoad, of_cell, Reading, Seen, IsLawful, earlier, where_so, refused_if, spent, handle_fault}
+use Rattle.pagable_laws.proofs.Words.{references_fault, load_fault, AreHandlesFull, Refused, FetchCall, birth_fault, AskCall, LazyCall, ask_fault, is_known, node_fault, root_fault}
+use Rattle.pagable_laws.proofs.Words.{needs_nested, needs_lazy, to_adopt, IsDecoded, RefusesBlob, RefusesNested, RefusesNode, RefusesRoot, IsOfKey, EndsClosed, Fails, reading_at}
+use Rattle.pagable_laws.proofs.Words.{IsMachineWhole, StandsFor, FitsRoot, of_caller, IsOfChance, IsPagedOutAs, IsLoadOfPagedOut, Ok, HandleRow, Mode, LoadAnswer, LoadReply, Event}
+use Rattle.pagable_laws.proofs.Words.{EventReply, or_else, row_fault, reference_fault, LoadSteps, Happens, IsOfHandles, LoadIsFaultless, FaultlessLaw, ◌<◌, Took, owner_worker, Todo}
+use Rattle.pagable_laws.proofs.Words.{Walking, named_fault, cell_fault, handles_of, after_kinds, LeadsDown, is-there, goes-down, ReadsTooDeep, IsReadingOf, of_worker, LoadIsDeep}
+use Rattle.pagable_laws.proofs.Words.{DeepLoadLaw}
+use Rattle.pagable_laws.proofs.{Trees.same_some, Fitting.{asked, first-typed}, Heights.{AllLow, HeightsIn}}
+use Rattle.pagable_laws.proofs.{Apart.{IsFormOf, GotAsked, FramesAsked, NextOf, asks-known, all-read, next-known, all-got}, ReadingStepsKinds.{kinds_of, asks-by-kinds, faulty-by-kinds}}
+use Rattle.pagable_laws.proofs.{Sums.self-number, Taking.adopted-over, KnownSteps.{ReadingsAsked, eager-nested}, Chains.IsGoingOn, Deeply.along-first, ReadingSteps.reading-stands}
+use Rattle.std.{proofs.Common.rules}
+use Rattle.pagable_world.specs.{Loads.Does}
+use Rattle.pagable_world.specs.Workers as workers
 
 -- ---- what a load reads of a key that a page-out has published: each blob is a form of a tree, asks for references whose keys are known, and lies within the path's limit
 
@@ -148,8 +153,6 @@ module _ {N E : Type 0} (v : Values N) (s : MachineState N E) (trees : ℕ → T
 
     pub needed : (frames : List Frame) → FramesFit v.types stored trees root_key root_type frames → FramesAsked v.types frames → (kind : Kind) (key : ℕ) → Needs v.types frames kind key
         → Needed frames kind key
-    needed [] fits got kind key (inl is) = absurd (cc)
-    needed [] fits got kind key (inr is) = absurd (cc)
     needed (frame ∷ below) fits got kind key needs =
         let t = top-known frame below fits got in
         let a = asked-known frame t.height t.known (first-asked frame below got) kind key (asked below (next_in v.types frame) kind key needs) in
@@ -160,6 +163,7 @@ module _ {N E : Type 0} (v : Values N) (s : MachineState N E) (trees : ℕ → T
       where
         within : (b h n limit : ℕ) → b + 1 ≤ h → h + n ≤ limit + 1 → limit ≤ longest_path → n ≤ longest_path
         within b h n limit le few small = omega arith
+    needed x0 fits got kind key x5 = grind (arith, nat_tests)
 
     -- the innermost blob is so, where it is read
     pub formed : (frame : Frame) (below : List Frame) → FramesFit v.types stored trees root_key root_type (frame ∷ below) → FramesAsked v.types (frame ∷ below) → (own : Meaning ArcRef)
@@ -174,8 +178,7 @@ module _ {N E : Type 0} (v : Values N) (s : MachineState N E) (trees : ℕ → T
         by (next-known v.types frame.node_type frame.blob t.known.refs t.known.form (first-asked frame below got))
       where
         by : {refs : List ArcRef} → NextOf frame.blob refs (next_in v.types frame) → ⊥
-        by (asks-known place r key at there same) = let f = broken-is below (next_in v.types frame) e is in cc
-        by (all-read own same) = let f = broken-is below (next_in v.types frame) e is in cc
+        by x0 = grind (arith, nat_tests, broken-is, next_in, v)
 
 -- ---- refusals
 
@@ -211,12 +214,6 @@ never _ f e is so = cc
 
 memory-chance : (e : Error) → e ≡ Error.OutOfMemory → IsOfChance e
 memory-chance e is = subst IsOfChance (sym is) tt
-
-reading-chance : (e : Error) → is_own_reading e ≡ true → IsOfChance e
-reading-chance x0 is = grind (arith, nat_tests)
-
-fetch-chance : (key : ℕ) (found : Option Blob) (blob : Blob) (before after : ℕ) (e : Error) → found ≡ Some blob → RefusesFetch key found before after e → IsOfChance e
-fetch-chance key found blob before after x5 is why = grind (arith, nat_tests)
 
 loose-not : (kind : ℕ) → is_eager kind ≡ true → is_loose_kind kind ≡ false
 loose-not kind is = grind (arith, nat_tests)
@@ -326,7 +323,7 @@ module _ {N B W E : Type 0} (m : Seen N B W) (s : MachineState N E) (trees : ℕ
     -- ---- asking
 
     vain-chance : (want : Want) (key : ℕ) (blob : Blob) (mid : Core) (e : Error) → w.stored key ≡ Some blob → (let r : Result Blob Error = Err e in FetchCall w key r mid) → IsOfChance e
-    vain-chance want key blob mid e is f = fetch-chance key (w.stored key) blob w.failures mid.failures e is f.refused
+    vain-chance want key blob mid e is f = (grind (arith, nat_tests))
 
     ask-chance : (want : Want) (mid : Core) (e : Error)
         → Refused (ask_fault w Owner.Caller reading.load want) (ask_fault w Owner.Caller reading.load want) ((is_known w want ≡ true) × AreHandlesFull w) w e mid → IsOfChance e
@@ -345,7 +342,7 @@ module _ {N B W E : Type 0} (m : Seen N B W) (s : MachineState N E) (trees : ℕ
 
     of-blob : (e : Error) → RefusesBlob v reading e → IsOfChance e
     of-blob e (inl is) = absurd (not-faulty e is)
-    of-blob e (inr (inl (top, below, is, causes))) = reading-chance e (lawful.own_reading top.node_type e causes)
+    of-blob e (inr (inl (top, below, is, causes))) = (grind (arith, nat_tests))
     of-blob e (inr (inr memory)) = memory-chance e memory
 
     of-nested : (mid : Core) (e : Error) → RefusesNested v.types w Owner.Caller reading e mid → IsOfChance e
@@ -407,9 +404,6 @@ of-handles f e is same = let g : f ≡ e = cc in subst IsOfHandles g is
 by-row : (w : Core) (r : ArcRef) (b : Bool) (row : HandleRow) (e : Error) → row_fault w r (refused_if b Error.NotYours) row ≡ Some e → IsOfHandles e
 by-row w r b row e is = grind (arith, nat_tests)
 
-by-one : (w : Core) (owner : Owner) (seen : List ℕ) (r : ArcRef) (e : Error) → reference_fault w owner seen r ≡ Some e → IsOfHandles e
-by-one w owner seen r e is = search (rules, of-handles, by-row)
-
 pub by-all : (w : Core) (owner : Owner) (seen : List ℕ) (rs : List ArcRef) (e : Error) → references_fault w owner seen rs ≡ Some e → IsOfHandles e
 unfolding references_fault
 by-all w owner seen [] e is = absurd (cc)
@@ -418,7 +412,7 @@ by-all w owner seen (r ∷ rs) e is = at (λ f. by-all w owner (r.handle.0 ∷ s
     at : (references_fault w owner (r.handle.0 ∷ seen) rs ≡ Some e → IsOfHandles e) → (found : Option Error) → reference_fault w owner seen r ≡ found
         → or_else found (references_fault w owner (r.handle.0 ∷ seen) rs) ≡ Some e → IsOfHandles e
     at later None first is = later is
-    at later (Some f) first is = by-one w owner seen r e (first ∙ is)
+    at later (Some f) first is = (search (rules, of-handles, by-row))
 
 pub by-handle-row : (w : Core) (me : Owner) (h : HandleNumber) (fits : Mode → Bool) (e : Error) → handle_fault w me h fits ≡ Some e → IsOfHandles e
 by-handle-row w me h fits e is = grind (arith, nat_tests)
@@ -444,3 +438,145 @@ module _ {N B W E : Type 0} (m : Seen N B W) (lawful : IsLawful m.values) (reada
 
 pub faultless_law : {N B W : Type 0} (E : Type 0) (m : Seen N B W) → FaultlessLaw E m
 faultless_law E m start moments trees whole idle chain stands lawful readable settled = search (rules, along-first, load-faultless)
+
+-- ---- what isn't refused as too deep
+
+abbrev No : Option Error → Type 0
+No c = c ≡ Some Error.TooDeep → ⊥
+
+no-earlier : (a b : Option Error) → No a → No b → No (earlier a b)
+no-earlier a b x y is = elim (either a b Error.TooDeep is) [ inl p ↦ x p | inr q ↦ y q ]
+
+no-test : (b : Bool) (f : Error) → (Some f ≡ Some Error.TooDeep → ⊥) → No (refused_if b f)
+no-test x0 f x is = grind (arith, nat_tests)
+
+no-spent : (n : ℕ) → No (spent n)
+no-spent n = no-test _ Error.NumbersSpent (λ e. cc)
+
+no-load : (w : Core) (me : Owner) (l : LoadNumber) → No (load_fault w me l)
+no-load w me l is = grind (arith, no-test)
+
+no-node : (w : Core) (kind : Kind) (key : ℕ) → No (node_fault w kind key)
+no-node w kind key is = grind (arith, no-spent, no-earlier)
+
+no-named : (w : Core) (owner : Owner) (seen : List ℕ) (hs : List HandleNumber) → No (named_fault w owner seen hs)
+unfolding named_fault
+no-named w owner seen [] is = cc
+no-named w owner seen (h ∷ hs) is = grind (arith, nat_tests, no-earlier, no-test, no-named w owner (h.0 ∷ seen) hs)
+
+no-cell : (found : Option OpenLoad) → No (if_there (λ (load : OpenLoad). cell_fault load.root) None found)
+no-cell x0 is = grind (arith, nat_tests)
+
+not-refused : {cause before : Option Error} {full : Type 0} {w w' : Core} → Refused cause before full w Error.TooDeep w' → No cause → ⊥
+not-refused r none = elim r.why [ inl is ↦ none is | inr memory ↦ absurd (let e = memory.0 in cc) ]
+
+-- ---- a path down
+
+module _ (types : Types) (stored : ℕ → Option Blob) where
+  -- a path goes on by one more reference
+  goes-further : {t key n u last : ℕ} (blob : Blob) (kinds : List ℕ) (kind : Kind) (child : ℕ) → LeadsDown types stored t key n u last → stored last ≡ Some blob
+      → after_kinds types u blob kinds ≡ asks kind child → is_eager kind.0 ≡ true
+      → LeadsDown types stored t key (n + 1) (type_of kind.0) child
+  goes-further blob kinds kind child (is-there t key) is next eager = goes-down t key child 0 (0 + 1) (type_of kind.0) child blob kinds kind refl is next eager (is-there (type_of kind.0) child)
+  goes-further blob kinds kind child (goes-down t key c n longer u last b ks k e at step own more) is next eager =
+      goes-down t key c (n + 1) (longer + 1) (type_of kind.0) child b ks k (omega (arith, e)) at step own (goes-further blob kinds kind child more is next eager)
+
+  module _ (trees : ℕ → Tree) (root_key root_type : ℕ) where
+    -- what a frame says of its blob
+    record IsDown (frame : Frame) (n : ℕ) : Type 0 where
+      down : LeadsDown types stored root_type root_key n frame.node_type frame.key
+      is : stored frame.key ≡ Some frame.blob
+
+    down-to : (frame : Frame) (below : List Frame) → FramesFit types stored trees root_key root_type (frame ∷ below) → FramesAsked types (frame ∷ below) → IsDown frame (length below)
+    unfolding FramesFit FramesAsked
+    down-to frame [] (fits, key, of_type) got = grind (arith, nat_tests, is-there)
+    down-to frame (under ∷ rest) (fits, of_type, next, more) (got, eager, next2, more_asked) =
+        let u = down-to under rest more more_asked in
+        let step = asks-by-kinds types under.node_type under.blob under.got frame.kind frame.key next in
+        let d = goes-further under.blob (kinds_of under.got) frame.kind frame.key u.down u.is step eager in
+        let long : length rest + 1 ≡ length (under ∷ rest) = omega arith in
+        grind (arith, nat_tests)
+
+    of-deep-blob : (frames : List Frame) → FramesFit types stored trees root_key root_type frames → FramesAsked types frames → need_of types frames ≡ is_broken Error.TooDeep
+        → ReadsTooDeep types stored root_type root_key
+    of-deep-blob x0 fits got is = grind (arith, nat_tests, down-to, kinds_of, faulty-by-kinds, broken-is, next_in)
+
+    of-path : (frames : List Frame) → FramesFit types stored trees root_key root_type frames → FramesAsked types frames → (kind : Kind) (key : ℕ) (blob : Blob)
+        → need_of types frames ≡ needs_nested kind key → stored key ≡ Some blob
+        → longest_path < length frames → ReadsTooDeep types stored root_type root_key
+    of-path [] fits got kind key blob needs is long = absurd (cc)
+    of-path (top ∷ below) fits got kind key blob needs is long =
+        let d = down-to top below fits got in
+        let step = asks-by-kinds types top.node_type top.blob top.got kind key (asked below (next_in types top) kind key (inl needs)) in
+        let further = goes-further top.blob (kinds_of top.got) kind key d.down d.is step (eager-nested below (next_in types top) kind key needs) in
+        record { n = length below + 1; last_type = type_of kind.0; last = key; blob = blob; down = further; is = is; deep = inl (omega (arith, long)) }
+
+-- ---- a load's step
+
+module _ {N B W : Type 0} (m : Seen N B W) (lawful : IsLawful m.values) (w : Core) (me : Owner) (reading : Reading) (trees : ℕ → Tree) (root_key root_type : ℕ)
+    (fits : FramesFit m.values.types w.stored trees root_key root_type reading.frames)
+    (got : FramesAsked m.values.types reading.frames) where
+  abbrev Deep : Type 0
+  Deep = ReadsTooDeep m.values.types w.stored root_type root_key
+
+  not-asked : (want : Want) (u : Core) → AskCall w me reading.load want (Err Error.TooDeep) u → ⊥
+  not-asked want u c = grind (arith, not-refused, no-earlier, no-load, no-spent)
+
+  nested-deep : (u : Core) → RefusesNested m.values.types w me reading Error.TooDeep u → Deep
+  nested-deep u x1 = grind (arith, nat_tests, not-asked, of-path)
+
+  root-not : (u : Core) → RefusesRoot m.values w me reading Error.TooDeep u → ⊥
+  root-not u r = elim r.refuses [
+    | inl (is, ended) ↦ not-refused ended.refused.1 (no-earlier _ _ (no-load w me reading.load) (no-earlier _ _ (grind (arith, nat_tests, no-earlier, no-test, no-spent)) (λ f. by-all w
+        (Owner.Load reading.load) [] (m.values.references r.x) Error.TooDeep f)))
+    | inr (is, handed) ↦ no-earlier _ _ (no-load w me reading.load) (no-earlier _ _ (no-cell (w.loads reading.load.0)) (no-named w (Owner.Load reading.load) [] (handles_of
+        (m.values.references r.x)))) handed.refused.0
+  ]
+
+  pub fails-deep : (w' : Core) → Fails m.values w me reading Error.TooDeep w' → Deep
+  fails-deep w' (inr ended) = absurd (by-handle-row w me ended.ended.refused.h any_mode Error.TooDeep ended.ended.refused.why)
+  fails-deep w' (inl gives) = elim gives.meets [
+    | inl (refuses, a) ↦ (grind (arith, nat_tests, of-deep-blob))
+    | inr (inl (first, c)) ↦ absurd (not-asked Want.Root gives.mid c)
+    | inr (inr (inl nested)) ↦ nested-deep gives.mid nested
+    | inr (inr (inr (inl (kind, key, needs, c)))) ↦
+        absurd (not-refused c.refused (no-earlier _ _ (no-load w me reading.load) (no-earlier _ _ (no-test (not (is_loose_kind kind.0)) Error.WrongKind (λ e. cc)) (no-node w kind key))))
+    | inr (inr (inr (inr (inl node)))) ↦
+        absurd (not-refused node.adopted.refused.1 (no-earlier _ _ (no-load w me reading.load) (no-earlier _ _ (no-test _ Error.WrongMode (λ e. cc))
+        (no-earlier _ _ (no-test _ Error.WrongKind (λ e. cc)) (no-earlier _ _ (λ f. by-all w (Owner.Load reading.load) [] (m.values.references node.x) Error.TooDeep f)
+        (no-node w node.reads_node.top.kind node.reads_node.top.key))))))
+    | inr (inr (inr (inr (inr root)))) ↦ absurd (root-not gives.mid root)
+  ]
+
+-- ---- an event
+
+module _ {N B W E : Type 0} (m : Seen N B W) (lawful : IsLawful m.values) (s s' : MachineState N E) (trees trees' : ℕ → Tree) (on : IsGoingOn m.values s trees) where
+  by-reading : (me : Owner) (reading : Reading) (load : OpenLoad) → IsReadingOf s.work reading → s.pager.core.loads reading.load.0 ≡ Some load → (w' : Core)
+      → Fails m.values s.pager.core me reading Error.TooDeep w'
+      → ReadsTooDeep m.values.types s.pager.core.stored reading.node_type load.key
+  by-reading me reading load is open_load w' fails =
+      fails-deep m lawful s.pager.core me reading trees load.key reading.node_type (on.stands.readings reading is load open_load) (on.asked reading is) w' fails
+
+  load-deep : (event : Event N B W) (reply : EventReply N B W) → Happens m (world_of s) event reply (world_of s') → LoadIsDeep m.values s trees event reply s' trees'
+  unfolding FramesFit FramesAsked
+  load-deep (Event.LoadStep l) (EventReply.LoadMoved (Ok reply)) is = λ reading load at open_load ended.
+      let x = is.moves in
+      let same : x.reading ≡ reading = same_some _ _ (sym x.at ∙ at) in
+      let fails = subst (λ a. Does m.values s.pager.core Owner.Caller x.reading a x.frames s'.pager.core) ended x.does.does in
+      subst (λ (r : Reading). ReadsTooDeep m.values.types s.pager.core.stored r.node_type load.key) same (elim (reading-stands (world_of s) on.whole.pager.whole l x.reading x.at) [
+        | inl there ↦ by-reading Owner.Caller x.reading load (of_caller l.0 there) (ap s.pager.core.loads (on.whole.readings l.0 x.reading there).number ∙ open_load) s'.pager.core fails.0
+        | inr begun ↦ (grind (arith, fails-deep))
+      ])
+  load-deep (Event.WorkerStep n) (EventReply.WorkerMoved (Ok reply)) is = λ walking r place through reading below load i there todo open_load taken.
+      let x = is.moves in
+      let same : x.walking ≡ walking = same_some _ _ (sym x.at ∙ there) in
+      let front = ap (λ (y : Walking). y.todo) same ∙ todo in
+      let does =
+      subst (λ (k : Took W). workers.Does m n.0 (record { core = s.pager.core; shelf = s.work.shelves x.walking.table; todo = x.walking.todo }) x.walking.todo k x.after) taken x.does.does in
+      let step = subst (λ (t : List Todo). workers.Does m n.0 (record { core = s.pager.core; shelf = s.work.shelves x.walking.table; todo = x.walking.todo }) t (Took.Pin i
+      (Err Error.TooDeep)) x.after) front does in
+      by-reading (owner_worker n.0) reading load (of_worker n.0 place walking r through below there todo) open_load x.after.core step.1.refused.0.does.0
+  load-deep event reply is = tt
+
+pub deep_load_law : {N B W : Type 0} (E : Type 0) (m : Seen N B W) → DeepLoadLaw E m
+deep_load_law E m start moments trees whole idle chain stands lawful readable settled = grind (arith, along-first, load-deep)

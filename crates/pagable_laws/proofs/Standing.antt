@@ -42,11 +42,6 @@ pub others-stay : (v u : ℕ) (shelf shelf' : Shelf) → Changes v shelf shelf' 
     → shelf'.slots i ≡ Some slot
 others-stay v u shelf shelf' changes other i slot there of_it = grind (arith, some-none, some-same)
 
--- and what is another's was so
-pub others-were : (v u : ℕ) (shelf shelf' : Shelf) → Changes v shelf shelf' → nat_eq u v ≡ false → (i : Identity) (slot : Slot) → shelf'.slots i ≡ Some slot → slot.worker ≡ u
-    → shelf.slots i ≡ Some slot
-others-were v u shelf shelf' changes other i slot there of_it = grind (arith, some-same)
-
 pub meets-grow : (shelf shelf' : Shelf) (task : Task) (i : Identity) → ShelfGrows shelf shelf' → Meets shelf task i → Meets shelf' task i
 meets-grow shelf shelf' task i more (meets-of-item written r is among) = meets-of-item written r is among
 meets-grow shelf shelf' task i more (meets-entry h j is) = meets-entry h j is
@@ -102,17 +97,9 @@ puts-own v shelf shelf' i old slot puts there of_it more = put-by v shelf shelf'
 pub outcome-grows : (outcome : Outcome) (slot : Slot) → SlotGrows slot (with_outcome outcome slot)
 outcome-grows outcome slot = grind (arith, grows-self)
 
--- of the claims of a worker that fails each has a result
-failed-slot : (slot : Slot) → is_open_outcome (with_outcome failed slot).outcome ≡ false
-failed-slot slot = grind arith
-
 pub all-failed : (v : ℕ) (shelf shelf' : Shelf) → SameShelf (with_failed shelf v) shelf' → (i : Identity) (slot : Slot) → shelf'.slots i ≡ Some slot → slot.worker ≡ v
     → is_open_outcome slot.outcome ≡ false
-all-failed v shelf shelf' same i slot there own = grind (arith, some-same, failed-slot)
-
--- none comes by that
-pub none-fails : (v : ℕ) (shelf shelf' : Shelf) → SameShelf (with_failed shelf v) shelf' → (i : Identity) → shelf.slots i ≡ None → shelf'.slots i ≡ None
-none-fails v shelf shelf' same i none = same.slots i ∙ ap (λ o. if_there (λ (slot : Slot). Some (if nat_eq slot.worker v then with_outcome failed slot else slot)) None o) none
+all-failed v shelf shelf' same i slot there own = grind (arith, some-same)
 
 pub fails-own : (v : ℕ) (shelf shelf' : Shelf) → SameShelf (with_failed shelf v) shelf' → Changes v shelf shelf'
 fails-own v shelf shelf' same i = by (shelf.slots i) refl (same.slots i)
@@ -318,10 +305,9 @@ module _ (v : ℕ) (task : Task) where
 
     pub gives : (r : ArcRef) (key height : ℕ) (todo : List Todo) → AllStand shelf v task todo → AllStand shelf v task (give r key height todo)
     unfolding AllStand
-    gives r key height [] all = all
     gives r key height (to_finish o ∷ below) all = settles (record o { keys = o.keys ++ key ∷ []; height = max o.height (above r.kind.0 height) }) below all
     gives r key height (to_item written keys ∷ below) all = item-settles written (keys ++ key ∷ []) below all
-    gives r key height (_ ∷ below) all = all
+    gives r key height x3 all = grind (arith, nat_tests)
 
     pub given-open : (i : Identity) (r : ArcRef) (key height : ℕ) (todo : List Todo) → is_open_in i (give r key height todo) ≡ is_open_in i todo
     unfolding is_open_in
@@ -363,16 +349,10 @@ module _ (v : ℕ) (task : Task) (shelf shelf' : Shelf) (clean : HasNoFailed she
           (λ i is. subst (λ k. is_open_in k below ≡ false) (is-same i (identity_of r) is) free),
           below-stays (identity_of r) new-slot below puts changes free rest,
         );
-        covers = λ i slot there own still. elim (put-cases shelf.slots shelf'.slots (identity_of r) new-slot puts i slot there) [
-          | inl e ↦ open-self (identity_of r) i (is_open_in i below) e.0
-          | inr e ↦ or_right (is_identity i (identity_of r)) (is_open_in i below) (covers i slot e.1 own still)
-        ];
+        covers = grind (arith, nat_tests, put-cases, identity_of, new-slot, open-self, is_open_in, or_right, is_identity);
         unfailed = λ nothing. clean-still (identity_of r) new-slot puts refl;
         done = λ a is. absurd (cc);
-        met = λ i slot no there. elim (put-cases shelf.slots shelf'.slots (identity_of r) new-slot puts i slot there) [
-          | inl e ↦ subst (λ k. Meets shelf' task k) (sym e.0) meets_now
-          | inr e ↦ some-none e.1 no
-        ];
+        met = grind (arith, nat_tests, put-cases, identity_of, new-slot, some-none);
       }
 
   -- an own slot changes: nothing comes that isn't met
@@ -406,8 +386,7 @@ module _ (v : ℕ) (task : Task) (shelf shelf' : Shelf) (clean : HasNoFailed she
           apart,
           below-stays (identity_of r) new below puts changes free rest,
         );
-        covers = λ i slot there own still. or_right (is_failing (open_node r place through written below)) (is_open_in i (open_node r place through written below))
-            (started-open v task shelf' i place (drop 0 written.references) (to_finish o ∷ below) ∙ covered puts covers i slot there own still);
+        covers = grind (arith, nat_tests, or_right, is_failing, open_node, is_open_in, started-open, drop, to_finish, covered);
         unfailed = λ nothing. clean-still (identity_of r) new puts (ap is_failed c.no_result_yet);
         done = λ a is. absurd (cc);
         met = none-comes (identity_of r) c.slot new puts c.claimed;
@@ -436,10 +415,7 @@ module _ (v : ℕ) (task : Task) (shelf shelf' : Shelf) (clean : HasNoFailed she
           (λ i is. absurd (cc)),
           below-stays (identity_of r) new below puts changes free rest,
         );
-        covers = λ i slot there own still. elim (put-cases shelf.slots shelf'.slots (identity_of r) new puts i slot there) [
-          | inl e ↦ let f : published key height ≡ no_result = sym known ∙ (sym (ap (λ (s : Slot). s.outcome) e.1) ∙ still) in absurd (cc)
-          | inr e ↦ not-here i e.0 (covers i slot e.1 own still)
-        ];
+        covers = grind (arith, nat_tests, put-cases, identity_of, published, no_result, not-here);
         unfailed = λ nothing. clean-still (identity_of r) new puts (ap is_failed known);
         done = λ a is. absurd (cc);
         met = none-comes (identity_of r) c.slot new puts c.claimed;
@@ -449,10 +425,7 @@ module _ (v : ℕ) (task : Task) (shelf shelf' : Shelf) (clean : HasNoFailed she
       is-known slot still = rw still refl
 
       not-here : (i : Identity) → is_identity (identity_of r) i ≡ false → (is_identity i (identity_of r) || is_open_in i below) ≡ true → is_open_in i below ≡ true
-      not-here i other is = elim (or_cases (is_identity i (identity_of r)) (is_open_in i below) is) [
-        | inl e ↦ true-false (subst (λ k. is_identity (identity_of r) k ≡ true) (is-same i (identity_of r) e) (is-self (identity_of r))) other
-        | inr e ↦ e
-      ]
+      not-here i other is = grind (arith, nat_tests, or_cases, is_identity, identity_of, is_open_in, true-false, is-same, is-self)
 
   -- all goes
   pub failed-goes : (answer : WorkerAnswer) → SameShelf (with_failed shelf v) shelf' → Goes v task shelf (Some answer) shelf' []
@@ -464,7 +437,7 @@ module _ (v : ℕ) (task : Task) (shelf shelf' : Shelf) (clean : HasNoFailed she
         covers = λ i slot there own still. let a = all-failed v shelf shelf' same i slot there own in absurd (closed slot a still);
         unfailed = λ nothing. absurd (cc);
         done = λ a is. refl;
-        met = λ i slot none there. some-none there (none-fails v shelf shelf' same i none);
+        met = λ i slot none there. some-none there ((same.slots i ∙ ap (λ o. if_there (λ (slot : Slot). Some (if nat_eq slot.worker v then with_outcome failed slot else slot)) None o) none));
       }
     where
       closed : (slot : Slot) → is_open_outcome slot.outcome ≡ false → slot.outcome ≡ no_result → ⊥
@@ -517,7 +490,7 @@ module _ (v : ℕ) (shelves shelves' : ℕ → Shelf) (walkings walkings' : ℕ 
           | inr e ↦
               let c = turned.changes w.table in
               walking-stays u w (shelves w.table) (shelves' w.table) (grows v (shelves w.table) (shelves' w.table) c) (others-stay v u (shelves w.table) (shelves' w.table) c e)
-              (others-were v u (shelves w.table) (shelves' w.table) c e) (work.workers u w (sym (turned.others u e) ∙ there))
+              (grind (arith, some-same)) (work.workers u w (sym (turned.others u e) ∙ there))
         ];
         numbered = λ u w there. elim (cases_Bool (nat_eq u v)) [
           | inl e ↦ let is = same-worker u v e in omega (arith, is, small)
@@ -585,12 +558,7 @@ is-stepped v shelves shelves' walkings walkings' w now at at_now same_table same
       others = others;
       own = λ x there. let e = some-same at there in record { now = now; there = at_now; table = same_table ∙ ap (λ (y : Walking). y.table) e; task = same_task ∙ ap (λ (y : Walking). y.task) e };
       met = λ t i slot none there. meet t i slot none there (nat_eq t w.table) refl;
-      stands = λ x there. subst (λ y. WalkingStands (shelves' y.table) v y) (some-same at_now there) (subst (λ t. WalkingStands (shelves' t) v now) (sym same_table) (record {
-        all = subst (λ task. AllStand (shelves' w.table) v task now.todo) (sym same_task) goes.all;
-        covers = goes.covers;
-        unfailed = goes.unfailed;
-        done = goes.done;
-      }));
+      stands = grind (arith, nat_tests, some-same);
     }
   where
     change : (t : ℕ) (b : Bool) → nat_eq t w.table ≡ b → Changes v (shelves t) (shelves' t)
@@ -598,13 +566,4 @@ is-stepped v shelves shelves' walkings walkings' w now at at_now same_table same
     change t false e = same-slots v (shelves t) (shelves' t) (elsewhere t e)
 
     meet : (t : ℕ) (i : Identity) (slot : Slot) → (shelves t).slots i ≡ None → (shelves' t).slots i ≡ Some slot → (b : Bool) → nat_eq t w.table ≡ b → IsMetBy (shelves' t) walkings' v t i
-    meet t i slot none there true e =
-        let is = same-worker t w.table e in
-        let m = goes.met i slot (sym (ap (λ n. (shelves n).slots i) is) ∙ none) (sym (ap (λ n. (shelves' n).slots i) is) ∙ there) in
-        record {
-          walking = now;
-          there = at_now;
-          on_table = same_table ∙ sym is;
-          meets = subst (λ task. Meets (shelves' t) task i) (sym same_task) (subst (λ n. Meets (shelves' n) w.task i) (sym is) m);
-        }
-    meet t i slot none there false e = some-none (sym (elsewhere t e i) ∙ there) none
+    meet t i slot none there x5 e = grind (arith, nat_tests, same-worker, some-none)

@@ -29,9 +29,8 @@ sum-le f g (x ∷ xs) h =
 
 -- each element is part of the sum
 pub at-most-sum : {X : Type 0} (f : X → ℕ) (xs : List X) (x : X) → Among xs x → f x ≤ sum_by f xs
-at-most-sum f [] x among = absurd (cc)
-at-most-sum f (y ∷ ys) x (zero, is) = search (rules, sum_by-cons)
 at-most-sum f (y ∷ ys) x (suc i, is) = grind (arith, nat_tests, sum_by-cons, at-most-sum f ys x)
+at-most-sum f x1 x x3 = grind (arith, nat_tests, sum_by-cons)
 
 -- a sum is the one of two functions
 pub sum-plus : {X : Type 0} (f g : X → ℕ) (xs : List X) → sum_by (λ x. f x + g x) xs ≡ sum_by f xs + sum_by g xs
