@@ -4,7 +4,7 @@ use Rattle.pagable_steps.proofs.Words.{◌≡◌, ℕ, ◌+◌, ◌<◌, ◌≤�
 use Rattle.pagable_steps.proofs.Words.{nat_tests, OptionalDataKey, Owner, Mode, ArcRef, Among, one, times, if_there, is_owned_by, is_pinning, is_pin, is_at, owner_value, pins, is_in_memory, Core}
 use Rattle.pagable_steps.proofs.Words.{Cell, Values, key_at, is_here, type_at, IsReference, is_named_by, PagerState, IsWhole, WellFormed, self-number, same-number, sum-le, same_some, NotValues}
 use Rattle.pagable_steps.proofs.Coming.{Comes, no-cell, new-cell, other-cell, typed-on, pins-now, other-here, count-now, other-owned, other-bare, other-refers, new-refers, new-inside}
-use Rattle.pagable_steps.proofs.{Spared.owns, Spared.owns_any, SparedHandles.pinned-here, SparedParts.and-false, SparedParts.sum-mapped, Words.not-owned}
+use Rattle.pagable_steps.proofs.{SparedParts.owns, SparedParts.owns_any, SparedHandles.pinned-here, SparedParts.and-false, SparedParts.sum-mapped, Words.not-owned}
 
 -- what is so of the new node and of each other one
 by-node : {next : ℕ} (P : ℕ → Type 0) → P next → ((n : ℕ) → (n == next) ≡ false → P n) → (n : ℕ) → P n
@@ -91,9 +91,7 @@ module _ {N E : Type 0} {v : Values N} {s : PagerState N E} (s' : PagerState N E
         (sym (is.whole.handles.live (next_of s.core)) ∙ ap is_some (no-cell is.whole free c))
       where
         fewer : (a b : Bool) → one (a && b) ≤ one a
-        fewer true true = omega arith
-        fewer true false = omega arith
-        fewer false b = omega arith
+        fewer a b = grind (arith, nat_tests)
 
         none : (p h : ℕ) → p ≤ h → nat_lt 0 h ≡ false → p ≡ 0
         none p h le e = grind (arith, nat_tests)

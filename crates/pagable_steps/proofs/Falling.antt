@@ -4,7 +4,7 @@ use Rattle.pagable_steps.proofs.Words.{among-found}
 use Rattle.pagable_steps.proofs.Words.{nat_tests, ArcRef, HandleRow, Owner, NodeNumber, Among, one, times, if_there, or_else, find_row, is_handle, is_owner, is_owned_by, owner_value, held, pins}
 use Rattle.pagable_steps.proofs.Words.{Core, Cell, Values, type_at, is_here, is_outside, owned_outside, loses_value, is_keyed, left_rows, Falls, IsReference, PagerState, IsWhole, WellFormed}
 use Rattle.pagable_steps.proofs.Words.{self-number, sum-le, counted, found-number, found-kept, find-both, row-held, fell-away}
-use Rattle.pagable_steps.proofs.{Spared.owns, Spared.owns_any, SparedParts.and-false, Staying.owned-some, Staying.keeps, Staying.sum-same, Staying.counts-left, Staying.loses}
+use Rattle.pagable_steps.proofs.{SparedParts.owns, SparedParts.owns_any, SparedParts.and-false, Staying.owned-some, Staying.keeps, Staying.sum-same, Staying.counts-left, Staying.loses}
 
 -- Values stand in the world: each node in memory has one, of its type, which owns the handles that it refers to; no two own one handle.
 pub record Sits {N : Type 0} (v : Values N) (w : Core) (values : ℕ → Option N) : Type 0 where
@@ -88,9 +88,7 @@ module _ {N E : Type 0} {v : Values N} {w : Core} {values : ℕ → Option N} (s
   bare-still n e = counts-left f (is_owned_by (owner_value n)) (λ h mode owner. entry-unowned n h owner) ∙ at (values n) refl (stays n) refl (sym (swept n) ∙ e)
     where
       less : (a b : Bool) → one (a && b) ≤ one a
-      less true true = omega arith
-      less true false = omega arith
-      less false b = omega arith
+      less a b = grind (arith, nat_tests)
 
       at : (o : Option N) → values n ≡ o → (b : Bool) → stays n ≡ b → (if b then values n else None) ≡ None → owned_outside w.rows f.gone n ≡ 0
       at None is b e none =

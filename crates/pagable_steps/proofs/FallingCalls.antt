@@ -5,7 +5,7 @@ use Rattle.pagable_steps.proofs.Words.{nat_tests, Error, HandleRow, Owner, ArcRe
 use Rattle.pagable_steps.proofs.Words.{owner_worker, is_at, Core, Values, Alike, row_at, usable, FallsAnyhow, refused_if, named_fault, is_listed, UnpinCall, ReleaseCall, SetKeyCall, ScheduleCall}
 use Rattle.pagable_steps.proofs.Words.{OfferCall, CloseCall, is_owned_in, numbers_of, Adopts, EndCall, HandOverCall, DropCall, LoadCloses, is_workers_at, is_load_of, WorkerEnds, PagerState, IsWhole}
 use Rattle.pagable_steps.proofs.{Words.{WellFormed, same-number, one-true, counted, same-owner, good, NotValues, neither}, Keeping.{AreFree, Leaves, found-whole, fell, stayed, spares-keeps}}
-use Rattle.pagable_steps.proofs.{Keeping.{unpin-keeps, keyed-keeps}, Naming.named-owner, Spared.Spares, SparedLists.{own-free, listed-free, schedules, offers, spares-known}, SparedLoads.not-load}
+use Rattle.pagable_steps.proofs.{Keeping.{unpin-keeps, keyed-keeps}, Naming.named-owner, SparedParts.Spares, SparedLists.{own-free, listed-free, schedules, offers, spares-known}, SparedLoads.not-load}
 use Rattle.pagable_steps.proofs.SparedParts.{spares-then, spares-same, spares-alike, spares-moved}
 
 -- ---- what no value owns
@@ -47,8 +47,7 @@ module _ {w : Core} (whole : IsWhole w) where
           not-loads l h.owner (same-owner (Owner.Load l) h.owner (owned (is_owner (Owner.Load l) h.owner) f))
         where
           owned : (b : Bool) → refused_if (not b || is_in seen x.0) Error.NotYours ≡ None → b ≡ true
-          owned true e = refl
-          owned false e = absurd (cc)
+          owned b e = grind (arith, nat_tests)
 
 -- ---- the calls
 

@@ -4,8 +4,8 @@ use Rattle.pagable_steps.proofs.Words.{not, nat_tests, sum_by-cons, get_or_from_
 use Rattle.pagable_steps.proofs.Words.{find_row, is_handle, is_owner, Core, row_at, refused_if, row_fault, reference_fault, references_fault, is_named_by, IsHandleBefore, self-number}
 use Rattle.pagable_steps.proofs.Words.{◌≤◌, ◌&&◌, sym, sum_by, pins, is_pin, is_owned_by, owner_value, moved, IsWhole, AreGood, good, named-among, NotValues, not-owned, found-after, stands-whole}
 use Rattle.pagable_steps.proofs.Words.{at-most-sum}
-use Rattle.pagable_steps.proofs.{Spared.owns, Spared.owns_any, SparedParts.sum-mapped, SparedParts.and-false, Words.same-number, Words.sum-zero, Words.or-none}
-use Rattle.std.specs.List.{AllPairs}
+use Rattle.pagable_steps.proofs.{SparedParts.owns, SparedParts.owns_any, SparedParts.sum-mapped, SparedParts.and-false, Words.same-number, Words.sum-zero, Words.or-none}
+use Rattle.std.{specs.List.AllPairs, proofs.lemmas.Bool.false_from_ne_true}
 
 -- a handle that is found has one row
 pub one-row : (q : ℕ) (rows : List HandleRow) (row : HandleRow) → AllPairs IsHandleBefore rows → find_row q rows ≡ Some row → times (is_handle q) rows ≡ 1
@@ -89,11 +89,7 @@ module _ {w : Core} (whole : IsWhole w) {me : Owner} (free : NotValues me) (refe
 
   -- none of it was a value's
   pub unnamed : (n : ℕ) (h : HandleRow) → Among w.rows h → h.owner ≡ owner_value n → named references h ≡ false
-  unnamed n h among own = at (named references h) refl
-    where
-      at : (b : Bool) → named references h ≡ b → named references h ≡ false
-      at false e = e
-      at true e = absurd (free (record { 0 = n }) (sym (named-owner whole me references (good w me [] references fine) h among e) ∙ own))
+  unnamed n h among own = false_from_ne_true (named references h) (λ e. free (record { 0 = n }) (sym (named-owner whole me references (good w me [] references fine) h among e) ∙ own))
 
   -- another value owns what it did
   same-test : (n : ℕ) → (p == n) ≡ false → (test : HandleRow → Bool) → ((x : HandleRow) → is_owned_by (owner_value n) x ≡ false → test x ≡ false) → (h : HandleRow) → Among w.rows h
@@ -115,8 +111,7 @@ module _ {w : Core} (whole : IsWhole w) {me : Owner} (free : NotValues me) (refe
   given-inside bare q = named-once w me [] references q fine ∙ sym (at (is_named_by references q) refl)
     where
       none : (b : Bool) (all : ℕ) → all ≡ 0 → one b ≤ all → b ≡ false
-      none false all e le = refl
-      none true all e le = absurd (omega arith)
+      none b all e le = grind (arith, nat_tests)
 
       unowned : (h : HandleRow) → Among w.rows h → is_owned_by (owner_value p) h ≡ false
       unowned h among = none (is_owned_by (owner_value p) h) (owns_any p w.rows) bare (at-most-sum (λ x. one (is_owned_by (owner_value p) x)) w.rows h among)
@@ -133,8 +128,7 @@ module _ {w : Core} (whole : IsWhole w) {me : Owner} (free : NotValues me) (refe
       counts f b e same = grind (arith, nat_tests, sum-mapped, its-now, named-by)
 
       and-true : (b : Bool) → one (b && true) ≡ one b
-      and-true true = refl
-      and-true false = refl
+      and-true b = grind (arith, nat_tests)
 
       at : (b : Bool) → is_named_by references q ≡ b → owns p q (given w references p) ≡ one b
       at true e =

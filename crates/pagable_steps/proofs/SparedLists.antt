@@ -4,7 +4,7 @@ use Rattle.pagable_steps.proofs.Words.{not, nat_lt, is_some, slice_get, and_part
 use Rattle.pagable_steps.proofs.Words.{if_there, is_shared_kind, is_loose_kind, is_pinned_kind, is_handle, is_at, is_owner, is_owned_by, is_pinning, is_shared, is_share, mode_of, held, pins}
 use Rattle.pagable_steps.proofs.Words.{is_in_memory, Core, Cell, Alike, usable, is_here, only_handle, Owns, with_known, ScheduleCall, TakeCall, ReserveCall, RecallCall, OfferCall, ClearCall, Asked}
 use Rattle.pagable_steps.proofs.Words.{FetchCall, StoreCall, with_worker, with_entry_taken, IsWhole, self-number, same-number, at-most-sum, counted, one-true, NotValues, stands-whole, once}
-use Rattle.pagable_steps.proofs.{Words.{IsEntered, entered-of}, Spared.Spares, SparedParts.{spares-then, spares-same, spares-alike, spares-handle, spares-moved}}
+use Rattle.pagable_steps.proofs.{Words.{IsEntered, entered-of}, SparedParts.Spares, SparedParts.{spares-then, spares-same, spares-alike, spares-handle, spares-moved}}
 
 not-list : NotValues Owner.List
 not-list n e = cc
@@ -92,15 +92,13 @@ module _ {w : Core} (whole : IsWhole w) where
           above a b e le = omega arith
 
           or-true : (b : Bool) → (b || true) ≡ true
-          or-true true = refl
-          or-true false = refl
+          or-true b = grind (arith, nat_tests)
 
       pinned : is_pinned_kind kind ≡ true → is_here w n ≡ true
       pinned is = cell (w.cells n) refl entered.there
         where
           in-memory : (b : Bool) → (if not b then None else Some n) ≡ Some n → b ≡ true
-          in-memory true e = refl
-          in-memory false e = absurd (cc)
+          in-memory b e = grind (arith, nat_tests)
 
           cell : (c : Option Cell) → w.cells n ≡ c → is_some (w.cells n) ≡ true → is_here w n ≡ true
           cell None e there = let f : false ≡ true = sym (ap is_some e) ∙ there in absurd (cc)
