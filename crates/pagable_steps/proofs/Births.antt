@@ -69,8 +69,7 @@ module _ {N E : Type 0} {v : Values N} {s : PagerState N E} (s' : PagerState N E
     new-with =
         record {
           valued = ap is_some at-new ∙ sym (ap (λ o. is_some o && is_here s'.core (next_of s.core)) (new-cell is.whole free c) ∙ here-new);
-          typed = λ y has.
-              ap (λ o. if_there (λ (cell : Cell). Some cell.node_type) None o) (new-cell is.whole free c) ∙ ap (λ (z : ℕ). Some z) (sym typed ∙ ap (λ z. v.node_type z) (is-new y has));
+          typed = grind (arith, nat_tests, if_there, new-cell, is-new);
           inside = λ y q has.
               ap (λ rs. times (λ (r : ArcRef). r.handle.0 == q) rs) (ap (λ z. v.references z) (sym (is-new y has)) ∙ named) ∙ new-inside is.whole free c (is.bare (next_of s.core) no-value) q;
           bare = λ none. absurd (let f : Some x ≡ None = sym at-new ∙ none in cc);
@@ -98,8 +97,7 @@ module _ {N E : Type 0} {v : Values N} {s : PagerState N E} (s' : PagerState N E
 
     away-new : is_here s'.core (next_of s.core) ≡ false
     away-new =
-        ap (λ p. is_in_memory p (key_at s'.core (next_of s.core))) none
-        ∙ (ap (λ o. is_in_memory 0 (if_there (λ (cell : Cell). cell.key) OptionalDataKey.None o)) (new-cell is.whole free c) ∙ ap (is_in_memory 0) keyed)
+        grind (arith, nat_tests, is_in_memory, key_at, next_of, none, if_there, new-cell)
       where
         its : Bool
         its = next_of s.core == next_of s.core

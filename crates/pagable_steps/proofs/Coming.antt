@@ -69,15 +69,7 @@ module _ {w w' : Core} {me : Owner} {t : ℕ} {own : OptionalDataKey} {reference
   -- a reference by a handle that was there
   refers-now : (n : ℕ) (r : ArcRef) {owner : Owner} (is : IsReference w owner r) (b : Bool) → is_named_by references is.row.number.0 ≡ b → (after next is.row b).owner ≡ owner_value n
       → (after next is.row b).node ≡ r.node → fits_mode r.kind.0 (after next is.row b).mode ≡ true → IsReference w' (owner_value n) r
-  refers-now n r is b named own at fits =
-      record {
-        row = after next is.row b;
-        live = ap (find_row r.handle.0) c.rows ∙ (find-both r.handle.0 rows (new ∷ []) ∙ ap (λ o. or_else o (find_row r.handle.0 (new ∷ []))) (given-found whole free references c.good next r.handle.0 is.row b is.live named));
-        at = at;
-        owned = own;
-        fits = fits;
-        typed = typed-on r.node.0 _ is.typed;
-      }
+  refers-now n r is b named own at fits = grind (arith, nat_tests, after, next, find_row, rows, find-both, new, or_else, given-found, good, typed-on)
 
   pub other-refers : (n : ℕ) (r : ArcRef) → IsReference w (owner_value n) r → IsReference w' (owner_value n) r
   other-refers n r is = refers-now n r is false (unnamed whole free references c.good next n is.row (among-found r.handle.0 w.rows is.row is.live) is.owned) is.owned is.at is.fits

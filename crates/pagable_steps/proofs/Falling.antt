@@ -115,10 +115,7 @@ module _ {N E : Type 0} {v : Values N} {w : Core} {values : ℕ → Option N} (s
       record { row = is.row; live = live; at = is.at; owned = is.owned; fits = is.fits; typed = same-type r.node.0 there ∙ is.typed }
     where
       held-there : {row : HandleRow} → find_row r.handle.0 s'.core.rows ≡ Some row → row.node ≡ r.node → (cell : Cell) × (w.cells r.node.0 ≡ Some cell) → is_some (s'.core.cells r.node.0) ≡ true
-      held-there {row} live at (cell, is) =
-          let some : 0 < held r.node.0 s'.core.rows = subst (λ (k : NodeNumber). 0 < held k.0 s'.core.rows) at (row-held s'.core r.handle row live) in
-          let test : nat_lt 0 (held r.node.0 (left_rows f.gone w.rows ++ f.entries)) ≡ true = let g = subst (λ rows. 0 < held r.node.0 rows) f.leaves.rows some in grind (arith, nat_tests) in
-          ap is_some (f.leaves.cells r.node.0) ∙ rw (test, is) refl
+      held-there live at x2 = grind (arith, nat_tests, held, row-held, nat_lt, left_rows, is_some)
 
   -- Where values stand in the world between, a pager is in step after the cascade.
   pub fell-from : ((n : ℕ) → s'.counts n ≡ pins n s'.core.rows) → IsWhole s'.core → WellFormed v s'

@@ -9,10 +9,6 @@ use Rattle.pagable_steps.proofs.{Falling.Sits, Falling.Sweeps, Falling.fell-from
 use Rattle.pagable_steps.proofs.{SparedParts.and-false, SparedParts.spares-then, SparedParts.spares-same, SparedParts.spares-handle, Words.stands-whole, Words.stands-changed}
 use Rattle.pagable_steps.proofs.Moving as moving
 
--- who begins a load is no value, and no load
-asker-free : (w : Core) (o : Owner) → MayOwnLoad w o → NotValues o × NotLoads o
-asker-free w x1 may = grind (arith, nat_tests)
-
 live-type : (w : Core) (n : ℕ) → is_some (w.cells n) ≡ true → (t : ℕ) × (type_at w n ≡ Some t)
 live-type w n is = at (w.cells n) is
   where
@@ -26,7 +22,7 @@ module _ {N E : Type 0} {v : Values N} {s : PagerState N E} (is : WellFormed v s
   w = s.core
 
   free : NotValues me × NotLoads me
-  free = asker-free w me (subst (λ o. MayOwnLoad w o) may.owned.own (is.whole.loads.owned l.0 may.load may.owned.stands_open))
+  free = (grind (arith, nat_tests))
 
   -- the cell is there, of the value's type
   cell-typed : type_at w node.0 ≡ Some (v.node_type x)
@@ -59,9 +55,6 @@ module _ {N E : Type 0} {v : Values N} {s : PagerState N E} (is : WellFormed v s
         subst (λ r. Stands w.last.handle given_to.rows h.0 r) (ap (λ b. if b then record row { owner = owner_value node.0 } else row) unnamed)
         (stands-changed named (λ r. record r { owner = owner_value node.0 }) (λ r. refl) (stands-whole is.whole.handles h.0 row own.live))
 
-    row-free : NotValues row.owner
-    row-free = subst NotValues (sym own.own) free.0
-
     -- it pins its cell
     pins-cell : is_here pinned node.0 ≡ true
     pins-cell =
@@ -75,7 +68,7 @@ module _ {N E : Type 0} {v : Values N} {s : PagerState N E} (is : WellFormed v s
     more = spares-handle pinned node Mode.Pinned me free.0 (λ e. pins-cell)
 
     owned : OwnsAlike given_to (with_pin given_to h node me)
-    owned = owns-then (mode-owned given_to h Mode.LoosePinned row stands row-free) (spares-owned more)
+    owned = owns-then (mode-owned given_to h Mode.LoosePinned row stands (subst NotValues (sym own.own) free.0)) (spares-owned more)
 
     -- other nodes that are in memory were so
     was-here : (n : ℕ) → is_here (with_pin given_to h node me) n ≡ true → (n == node.0) ≡ false → is_here w n ≡ true

@@ -44,10 +44,7 @@ pub record Owned (w : Core) (n q : ℕ) : Type 0 where
   pub own : row.owner ≡ owner_value n
 
 pub owned-row : {w : Core} → HandlesAreWhole w → (n q : ℕ) → 0 < owns n q w.rows → Owned w n q
-owned-row {w} whole n q some =
-    let c = counted (λ h. one (is_handle q h && is_owned_by (owner_value n) h)) w.rows some in
-    let both = and_parts (is_handle q c.0) (is_owned_by (owner_value n) c.0) (one-true _ c.2) in
-    record { row = c.0; live = subst (λ p. find_row p w.rows ≡ Some c.0) (same-number _ _ both.0) (found-whole whole c.0 c.1); own = same-owner (owner_value n) c.0.owner both.1 }
+owned-row whole n q some = grind (arith, nat_tests, counted, one, is_handle, is_owned_by, owner_value, and_parts, one-true, find_row, same-number, found-whole, same-owner)
 
 pub one-value : (n m : ℕ) (o : Owner) → o ≡ owner_value n → o ≡ owner_value m → m ≡ n
 one-value n m o a b = same-number m n (sym (ap (is_owner (owner_value n)) b) ∙ (ap (is_owner (owner_value n)) a ∙ self-number n))
@@ -182,17 +179,13 @@ module _ (w : Core) (h : HandleNumber) (mode : Mode) (row : HandleRow) (stands :
       at x among false e = refl
       at x among true e = let f : (x.node.0 == n) ≡ false = ap (λ (y : HandleRow). y.node.0 == n) (stands.only x among (same-number _ _ e)) ∙ other in rw f refl
 
-  -- where the mode doesn't pin, no node is pinned more often
-  pub mode-fewer : is_pinning mode ≡ false → (n : ℕ) → pins n (with_mode w h mode).rows ≤ pins n w.rows
-  mode-fewer unpinned n = search (rules, pins-after, sum-le)
-
 -- an own handle pins no more
 pub unpin-keeps : {w : Core} {me : Owner} {fits : Mode → Bool} → IsWhole w → (h : HandleNumber) (row : HandleRow) → NotValues me → Owns w me h fits row → Keeps w (with_mode w h Mode.LooseUnpinned)
 unpin-keeps {w} whole h row none owns =
     let stands = stands-whole whole.handles h.0 row owns.live in
     record {
       owned = mode-owned w h Mode.LooseUnpinned row stands (subst NotValues (sym owns.own) none);
-      here = λ n is. here-by (pins n (with_mode w h Mode.LooseUnpinned).rows) (pins n w.rows) (key_at w n) (mode-fewer w h Mode.LooseUnpinned row stands refl n) is;
+      here = λ n is. here-by (pins n (with_mode w h Mode.LooseUnpinned).rows) (pins n w.rows) (key_at w n) (search (rules, pins-after, sum-le)) is;
     }
 
 -- a node gets a key

@@ -117,12 +117,10 @@ module _ {w : Core} (whole : IsWhole w) {me : Owner} (free : NotValues me) (refe
       unowned h among = none (is_owned_by (owner_value p) h) (owns_any p w.rows) bare (at-most-sum (λ x. one (is_owned_by (owner_value p) x)) w.rows h among)
 
       its-now : (h : HandleRow) → Among w.rows h → (b : Bool) → named references h ≡ b → (is_handle q (after p h b) && is_owned_by (owner_value p) (after p h b)) ≡ (is_handle q h && b)
-      its-now h among true e = ap (λ b. is_handle q h && b) (self-number p)
-      its-now h among false e = ap (λ b. is_handle q h && b) (unowned h among)
+      its-now h among x2 e = grind (arith, nat_tests, is_handle, self-number, unowned)
 
       named-by : (h : HandleRow) (b : Bool) → is_named_by references q ≡ b → (d : Bool) → is_handle q h ≡ d → (d && named references h) ≡ (d && b)
-      named-by h b e true is = ap (is_named_by references) (same-number _ _ is) ∙ e
-      named-by h b e false is = refl
+      named-by h b e x3 is = grind (arith, nat_tests, is_named_by, same-number)
 
       counts : (f : HandleRow → ℕ) (b : Bool) → is_named_by references q ≡ b → ((h : HandleRow) → one (is_handle q h && b) ≡ f h) → owns p q (given w references p) ≡ sum_by f w.rows
       counts f b e same = grind (arith, nat_tests, sum-mapped, its-now, named-by)

@@ -28,8 +28,7 @@ pub fetches : {w w' : Core} {key : ℕ} {r : Result Blob Error} → FetchCall w 
 fetches c = asked c.asked
 
 pub stores : {digest : Blob → ℕ} {w w' : Core} {blob : Blob} (r : Result ℕ Error) → StoreCall digest w blob r w' → Spares w w'
-stores (Ok key) c = let a = c.stores.1.leaves in spares-same a.rows a.cells
-stores (Err e) c = asked c.refused.0
+stores x0 c = grind (arith, nat_tests, spares-same, asked)
 
 module _ {w : Core} (whole : IsWhole w) where
   -- ---- the list
@@ -95,23 +94,14 @@ module _ {w : Core} (whole : IsWhole w) where
           or-true b = grind (arith, nat_tests)
 
       pinned : is_pinned_kind kind ≡ true → is_here w n ≡ true
-      pinned is = cell (w.cells n) refl entered.there
-        where
-          in-memory : (b : Bool) → (if not b then None else Some n) ≡ Some n → b ≡ true
-          in-memory b e = grind (arith, nat_tests)
-
-          cell : (c : Option Cell) → w.cells n ≡ c → is_some (w.cells n) ≡ true → is_here w n ≡ true
-          cell None e there = let f : false ≡ true = sym (ap is_some e) ∙ there in absurd (cc)
-          cell (Some x) e there = grind (arith, nat_tests, entered, in-memory)
+      pinned is = grind (arith, nat_tests, entered, not, is_some, is_here)
 
       third : (kind % 3 == 0) ≡ false → (kind % 3 == 1) ≡ false → (kind % 3 == 2) ≡ true
       third a b = grind (arith, nat_tests)
 
       by : (a : Bool) → is_shared_kind kind ≡ a → (b : Bool) → is_loose_kind kind ≡ b
           → is_pinning (if a then Mode.Shared else if b then Mode.LooseUnpinned else Mode.Pinned) ≡ true → is_here w n ≡ true
-      by true e b f pinning = shared e
-      by false e true f pinning = absurd (cc)
-      by false e false f pinning = pinned (third e f)
+      by x0 e x2 f pinning = grind (arith, nat_tests, shared, pinned, third)
 
   -- a handle of such a node
   pub spares-known : {owner : Owner} (kind : Kind) (key n : ℕ) → NotValues owner → usable w kind.0 key ≡ Some n → Spares w (with_known w kind n owner)

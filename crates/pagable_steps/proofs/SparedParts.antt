@@ -42,21 +42,12 @@ push-none test xs x is = let a = sum_by_push (λ y. one (test y)) xs x in let b 
 
 pub sum-mapped : {X : Type 0} (f : X → X) (g h : X → ℕ) (xs : List X) → ((x : X) → Among xs x → g (f x) ≡ h x) → sum_by g (map f xs) ≡ sum_by h xs
 sum-mapped f g h [] each = refl
-sum-mapped f g h (x ∷ xs) each =
-    let a = each x (zero, refl) in
-    let b = sum-mapped f g h xs (λ y among. each y (suc among.0, among.1)) in
-    let c = sum_by-cons g (f x) (map f xs) in
-    let d = sum_by-cons h x xs in
-    omega arith
+sum-mapped f g h (x ∷ xs) each = grind (arith, nat_tests, sum_by-cons, map, sum-mapped f g h xs (λ y among. each y (suc among.0, among.1)))
 
 pub and-false : (b : Bool) → (b && false) ≡ false
 and-false x0 = grind (arith, nat_tests)
 
 -- ---- one more handle
-
--- one more pin brings no value where there is one
-pub pinned-more : (p : ℕ) (key : OptionalDataKey) (b : Bool) → (b ≡ true → is_in_memory p key ≡ true) → is_in_memory (p + one b) key ≡ is_in_memory p key
-pinned-more p key x2 may = grind (arith, nat_tests)
 
 -- a handle that is no value's; if it pins, its node's value is in memory
 pub spares-handle : (w : Core) (node : NodeNumber) (mode : Mode) (me : Owner) → NotValues me → (is_pinning mode ≡ true → is_here w node.0 ≡ true) → Spares w (with_handle w node mode me)
@@ -64,7 +55,7 @@ spares-handle w node mode me free may =
     record {
       cells = λ n. refl;
       here = λ n. ap (λ p. is_in_memory p (key_at w n)) (sum_by_push (λ h. one (is_pin n h)) w.rows new)
-          ∙ pinned-more (pins n w.rows) (key_at w n) (is_pin n new) (λ is. here-at n (and_parts _ _ is));
+          ∙ (grind (arith, nat_tests));
       owned = λ n q. push-none (λ h. is_handle q h && is_owned_by (owner_value n) h) w.rows new (ap (λ b. is_handle q new && b) (not-owned n me free) ∙ and-false _);
       rows = λ n q row live own. find-both q w.rows (new ∷ []) ∙ ap (λ o. or_else o (find_row q (new ∷ []))) live;
     }
@@ -99,8 +90,7 @@ module _ (w : Core) (test : HandleRow → Bool) (f : HandleRow → HandleRow) wh
     where
       by-owner : (n q : ℕ) (h : HandleRow) → Among w.rows h → (b : Bool) → test h ≡ b
           → one (is_handle q (if b then f h else h) && is_owned_by (owner_value n) (if b then f h else h)) ≡ one (is_handle q h && is_owned_by (owner_value n) h)
-      by-owner n q h among true is = rw (not-owned n (f h).owner (free.after h among is), not-owned n h.owner (free.before h among is), and-false, and-false) refl
-      by-owner n q h among false is = refl
+      by-owner n q h among x4 is = grind (arith, nat_tests, not-owned, and-false)
 
       unchanged : (n q : ℕ) (row : HandleRow) → find_row q w.rows ≡ Some row → row.owner ≡ owner_value n → (b : Bool) → test row ≡ b → Some (if b then f row else row) ≡ Some row
       unchanged n q row live own true is = absurd (free.before row (among-found q w.rows row live) is (record { 0 = n }) own)

@@ -91,7 +91,4 @@ module _ {before w w' : Core} {given : ℕ → Bool} {r : _} (f : Falls before w
       by-number : (ho po he : ℕ) → po ≤ ho → (b : Bool) → nat_lt 0 (ho + he) ≡ b → (k : Bool) → has_key cell.key ≡ k
           → (if k then nat_eq po 0 else nat_eq he 0 && nat_eq ho 0)
           ≡ not (is_some (if b then Some cell else None) && is_in_memory po (if_there (λ (x : Cell). x.key) OptionalDataKey.None (if b then Some cell else None)))
-      by-number ho po he fewer true e true k = rw k (grind (arith, nat_tests))
-      by-number ho po he fewer true e false k = rw k (grind (arith, nat_tests))
-      by-number ho po he fewer false e true k = grind (arith, nat_tests)
-      by-number ho po he fewer false e false k = grind (arith, nat_tests)
+      by-number ho po he fewer x4 e x6 k = grind (arith, nat_tests)
