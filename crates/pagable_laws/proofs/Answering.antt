@@ -11,10 +11,6 @@ use Rattle.pagable_laws.proofs.Stepping.{KeepsKeys, keys-on, keys-same, all-know
 -- ---- one step of a worker
 
 module _ {N B W : Type 0} (m : Seen N B W) (n : ℕ) (g : Ground) (task : Task) (s s' : Site) where
-  of-publish : (todo : List Todo) (i : Identity) (key height : ℕ) → Does m n s todo (Took.Publish i key height) s' → Walks m.values g s.shelf task todo
-      → KeyOf m.values.hash m.values.types (g.trees i.node.0) key
-  of-publish x0 i key height x4 x5 = grind (arith, nat_tests)
-
   -- what the answer of a key comes from
   pub record Answers (key : ℕ) : Type 0 where
     pub done : IsDone m.values s.shelf task key
@@ -144,7 +140,7 @@ module _ {N B W E : Type 0} (m : Seen N B W) (s s' : MachineState N E) (trees tr
       record {
         publishes = λ i key height e.
             let does = subst (λ (k : Took W). Does m n.0 (site n reply w) w.walking.todo k w.after) e w.does.does in (
-              of-publish m n.0 (ground_of s trees) w.walking.task (site n reply w) w.after w.walking.todo i key height does (before.walks n.0 w.walking w.at),
+              (grind (arith, nat_tests)),
               set-by-then m n.0 (site n reply w) w.after w.walking.todo i key height does (held_before.walks n.0 w.walking w.at)
                   (λ r k h below is. lives (held_before.publishing n.0 w.walking r k h below w.at is)),
             );

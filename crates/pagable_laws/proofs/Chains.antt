@@ -16,11 +16,6 @@ use Rattle.pagable_laws.proofs.Sums.{sum-zero}
 use Rattle.pagable_world.specs.Runs.{Does as DoesMoment}
 use Rattle.std.{proofs.Common.append-nil, proofs.lemmas.Bool.false_from_ne_true}
 
-module _ {N E : Type 0} {v : Values N} {c : Change} {s s' : PagerState N E} {trees trees' : ℕ → Tree} where
-  -- what comes is said in other words
-  comes-from : (comes other : ℕ → N → Type 0) → ((n : ℕ) (x : N) → other n x → comes n x) → ChangeFits v c comes s s' trees trees' → ChangeFits v c other s s' trees trees'
-  comes-from comes other from f = grind (arith, nat_tests)
-
 module _ {N E B W : Type 0} (m : Seen N B W) (s : MachineState N E) (trees : ℕ → Tree) where
   reading-takes : (event : Event N B W) (reply : EventReply N B W) (reading : Reading) → IsSteppedReading (world_of s) event reading → IsWellAsked m.values s trees event reply
       → TakesWell m.values s.pager reading
@@ -56,7 +51,7 @@ module _ {N E B W : Type 0} (m : Seen N B W) (s : MachineState N E) (trees : ℕ
         let is = is-reading-of (world_of s) event reading stepped in
         let f = reading-fits lawful readable settled whole.pager whole'.pager stands.pager reading (fits-of reading is) (given-of reading is) goes
         (reading-takes event reply reading stepped well) opens feels in
-        (f.0, comes-from _ _ (λ n x brings. (grind (arith, nat_tests))) f.1)
+        (f.0, (grind (arith, nat_tests)))
     event-fits lawful readable s' settled whole whole' ready event reply goes well (by-key k key row is sets keeps) = (
       trees,
       fits-key lawful settled whole.pager whole'.pager stands.pager _ row.node.0 key (λ n x brings. no-value n x (subst (λ e. EventBrings m.values (world_of s) e n x) is brings))
@@ -112,7 +107,11 @@ module _ {N E B W : Type 0} (m : Seen N B W) (s s' : MachineState N E) (trees tr
       (kept reading g.0 (stands.readings reading is) g.1, omega (arith, a, b), few-still reading.frames g.1)
 
   either-goes : KeepsReadings (world_of s) (world_of s') → (reading : Reading) → IsReadingOf s'.work reading → GoesOn reading
-  either-goes keeps reading is = elim (keeps reading is) [ inl was ↦ old-goes reading was | inr new ↦ ((nothing-yet m s' trees' reading new.0, new.2, none-given m s' trees' s'.pager.core.last.node reading.frames new.0)) ]
+  either-goes keeps reading is = elim (keeps reading is) [
+    | inl was ↦ old-goes reading was
+    | inr new ↦
+        ((nothing-yet m s' trees' reading new.0, new.2, none-given m s' trees' s'.pager.core.last.node reading.frames new.0))
+  ]
 
   stepped-goes : (reading : Reading) (frames : List Frame) → IsReadingOf s.work reading ⊎ IsFresh s.pager.core reading → (load : OpenLoad) → s.pager.core.loads reading.load.0 ≡ Some load
       → ReadingFeels m.values s.pager.core reading None frames s'.pager.core c → GoesOn (gone_on reading frames)
@@ -249,7 +248,21 @@ module _ {N B W : Type 0} (walkings : ℕ → Option Walking) (t : ℕ) (i : Ide
   pub own-claims : (n : ℕ) (w : Walking) → walkings n ≡ Some w → w.table ≡ t → (happened : List (Event N B W)) (replied : List (EventReply N B W))
       → times (is_claim_of {W = W} i) (steps_of n happened replied) ≤ claims_made walkings t i happened replied
   unfolding steps_of claims_made
-  own-claims n w there on (event ∷ more) (reply ∷ rest) = grind (arith, nat_tests, sum_by-append, one, is_claim_of, step_of, steps_of, claims-cons, times, is_on_table, sum_by-cons, claim_made, own-claims n w there on more rest)
+  own-claims n w there on (event ∷ more) (reply ∷ rest) = grind (
+    arith,
+    nat_tests,
+    sum_by-append,
+    one,
+    is_claim_of,
+    step_of,
+    steps_of,
+    claims-cons,
+    times,
+    is_on_table,
+    sum_by-cons,
+    claim_made,
+    own-claims n w there on more rest,
+  )
   own-claims n w there on x4 x5 = grind (arith, nat_tests)
 
   -- each event claims what wasn't claimed, where workers keep their tables

@@ -86,9 +86,6 @@ module _ (rows : List HandleRow) (keyed : ℕ → Bool) (entries : List HandleRo
     abbrev but : ℕ → Bool
     but q = gone q && not (stay q)
 
-    but-within : IsWithin rows but gone
-    but-within = sum-zero (only_in but gone) rows (λ h among. grind (arith, nat_tests))
-
     but-holds : IsWithin rows given but
     but-holds = sum-zero (only_in given but) rows (λ h among. part h among (given h.number.0) refl)
       where
@@ -98,7 +95,7 @@ module _ (rows : List HandleRow) (keyed : ℕ → Bool) (entries : List HandleRo
 
     but-closed : IsClosed rows keyed entries but
     but-closed n goes =
-        let lost_too = wider but gone n but-within goes in
+        let lost_too = wider but gone n (sum-zero (only_in but gone) rows (λ h among. grind (arith, nat_tests))) goes in
         sum-zero (owned_out but n) rows (λ h among. part n h among lost_too (least.closed n lost_too) (is_owner (owner_value n) h.owner) refl)
       where
         part : (n : ℕ) (h : HandleRow) → Among rows h → lost gone n ≡ true → sum_by (owned_out gone n) rows ≡ 0 → (b : Bool) → is_owner (owner_value n) h.owner ≡ b → owned_out but n h ≡ 0
@@ -147,7 +144,8 @@ module _ (rows : List HandleRow) (keyed : ℕ → Bool) (entries : List HandleRo
       → (s : ℕ → Bool) × IsLeast rows keyed entries given s
   grows given zero s few holds least = decide given s holds least (λ fewer. absurd (omega arith)) (nat_lt (sum_by (outside (more s)) rows) (sum_by (outside s) rows)) refl
   grows given (suc k) s few holds least =
-      decide given s holds least (λ fewer. grows given k (more s) (omega arith) ((sum-zero (only_in given (more s)) rows (λ h among. let a = at-most-sum (only_in given s) rows h among in grind (arith, nat_tests)))) (λ t h c. stays s t (least t h c) c))
+      decide given s holds least (λ fewer. grows given k (more s) (omega arith)
+      ((sum-zero (only_in given (more s)) rows (λ h among. let a = at-most-sum (only_in given s) rows h among in grind (arith, nat_tests)))) (λ t h c. stays s t (least t h c) c))
       (nat_lt (sum_by (outside (more s)) rows) (sum_by (outside s) rows)) refl
 
   within-self : (given : ℕ → Bool) → IsWithin rows given given

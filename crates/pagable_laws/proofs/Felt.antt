@@ -189,7 +189,8 @@ module _ {N E : Type 0} {v : Values N} {c : Change} {comes : ℕ → N → Type 
   ]
 
   cache-again : (kind key n : ℕ) → s'.core.cache kind key ≡ Some n → ReadsNodeTree v.types s'.core.stored trees' key (type_of kind) n
-  cache-again kind key n is = elim (goes.cache kind key n is) [ inl stays ↦ moved-node n (type_of kind) (well.whole.cache kind key n stays).given (stands.cache kind key n stays) | inr knows ↦ fits.knows kind key n knows ]
+  cache-again kind key n is = elim (goes.cache kind key n is)
+      [ inl stays ↦ moved-node n (type_of kind) (well.whole.cache kind key n stays).given (stands.cache kind key n stays) | inr knows ↦ fits.knows kind key n knows ]
 
   pub trees-go-on : Represents v s' trees'
   trees-go-on = record { stands = stands-again lawful well' leads-again; typed = typed-again; loads = loads-again; cache = cache-again }
@@ -329,9 +330,6 @@ module _ {N E : Type 0} {v : Values N} {s s' : PagerState N E} {trees : ℕ → 
             subst (λ z. ValueLeads v trees z (trees n)) (sym brings.0) leads);
       }
 
-same-top : (frames : List Frame) (a b : Frame) (xs ys : List Frame) → frames ≡ a ∷ xs → frames ≡ b ∷ ys → b ≡ a
-same-top frames a b xs ys e f = cc
-
 at-front : (frames : List Frame) (a : Frame) (xs : List Frame) → frames ≡ a ∷ xs → Among frames a
 at-front frames a xs e = subst (λ fs. Among fs a) (sym e) (zero, refl)
 
@@ -394,7 +392,7 @@ module _ {N E : Type 0} {v : Values N} {s s' : PagerState N E} {trees : ℕ → 
             (λ n y brings unset at. elim brings [
               | inl (reads2, new) ↦
                   let other = (node-decoded lawful readable s.core.stored trees load.0.key reading.node_type reading y reads2 fit).0 in
-                  let top : reads2.top ≡ reads.top = same-top reading.frames reads.top reads2.top reads.below reads2.below reads.frames reads2.frames in
+                  let top : reads2.top ≡ reads.top = (cc) in
                   let moved : ReadsTree s.core.stored v.types reads.top.key other.t = subst (λ (f : Frame). ReadsTree s.core.stored v.types f.key other.t) top other.reads in
                   let same : other.t ≡ t0 = one_tree s.core.stored v.types reads.top.key other.t t0 (other.typed ∙ ap (λ (f : Frame). f.node_type) top ∙ sym made.0.typed) moved made.0.reads in
                   let few = λ (r : ArcRef) (among : Among (v.references y) r). given reads2.top r (at-front reading.frames reads2.top reads2.below reads2.frames) (other.got r among) in

@@ -160,9 +160,6 @@ module _ (shelf shelf' : Shelf) (more : ShelfGrows shelf shelf') where
 -- ---- a key is given
 
 module _ (shelf : Shelf) where
-  higher : {h k : ℕ} {r : ArcRef} → h ≤ k → IsLow shelf h r → IsLow shelf k r
-  higher le low = record { key = low.key; below = low.below; known = low.known; within = let w = low.within in omega arith }
-
   -- one more is low, where the height grows
   first-more : (h k : ℕ) (rs : List ArcRef) (ks : List ℕ) (r : ArcRef) (more : List ArcRef) (key : ℕ) → h ≤ k → drop (length ks) rs ≡ r ∷ more → FirstLow shelf h rs ks → IsLow shelf k r
       → FirstLow shelf k rs (ks ++ key ∷ [])
@@ -170,7 +167,7 @@ module _ (shelf : Shelf) where
   first-more h k [] [] r more key le e low new = absurd (cc)
   first-more h k [] (x ∷ ks) r more key le e low new = absurd low
   first-more h k (y ∷ rs) [] r more key le e low new = let same : r ≡ y = cc in (subst (λ (z : ArcRef). IsLow shelf k z) same new, tt)
-  first-more h k (y ∷ rs) (x ∷ ks) r more key le e (one, low) new = (higher le one, first-more h k rs ks r more key le e low new)
+  first-more h k (y ∷ rs) (x ∷ ks) r more key le e (one, low) new = ((record { key = one.key; below = one.below; known = one.known; within = let w = one.within in omega arith }), first-more h k rs ks r more key le e low new)
 
   -- all are low, once all keys are there
   pub all-low : (h : ℕ) (rs : List ArcRef) (ks : List ℕ) → length ks ≡ length rs → FirstLow shelf h rs ks → AllLow shelf h rs
@@ -327,7 +324,8 @@ module _ {N B W E : Type 0} (m : Seen N B W) (s s' : MachineState N E) (trees : 
   heights-on work event reply turns =
       let h = turns-keep m turns SlotsLow (λ n shelf w. TodoLow shelf w.todo) (λ a b same lows. slots-low-on (keys-same same) lows same) (λ a b more lows n w. todo-low-on a b more w.todo)
       (λ t shelf more same. slots-low-on (keys-grow more) (low.slots t) same)
-      (λ n w none there. todo-low-on (s.work.shelves w.table) (s'.work.shelves w.table) (turns-grow m turns w.table) w.todo (low.todos n w there)) (λ n shelf t task. (grind (arith, nat_tests, started-item-low)))
+      (λ n w none there. todo-low-on (s.work.shelves w.table) (s'.work.shelves w.table) (turns-grow m turns w.table) w.todo (low.todos n w there))
+      (λ n shelf t task. (grind (arith, nat_tests, started-item-low)))
       (λ k r w one more.
       let d = stepped m k.0 (ground_of s trees) w.walking.task (record { core = s.pager.core; shelf = s.work.shelves w.walking.table; todo = w.walking.todo }) w.after more
       (low.slots w.walking.table) w.walking.todo refl r.took w.does.does (work.workers k.0 w.walking w.at).all (fit.walks k.0 w.walking w.at) (low.todos k.0 w.walking w.at) in

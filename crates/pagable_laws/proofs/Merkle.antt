@@ -11,7 +11,8 @@ use Rattle.pagable_laws.proofs.Words.{length-append, Blob, preimage, cut, HasOne
 use Rattle.pagable_laws.proofs.Words.{read, read_typed, key_of, KeyRef, tree, key_ref, ReadsAs, IsFollowed, number-followed, integer-followed, text-followed, pattern-followed, none-followed}
 use Rattle.pagable_laws.proofs.Words.{pair-followed, variant-followed, reference-followed, blob_context, rest_of, kind_of_kid, tree_of_kid, TreeForm, blob_of, kind_of_ref, key_of_ref, StoredAs}
 use Rattle.pagable_laws.proofs.Words.{HasOwnKeys, SharesNoKey, IsCanonicalType, IsCanonicalTree, IsReadableType, rest, IsOneKey, IsOneItemKey, IsStoredKey}
-use Rattle.pagable_laws.proofs.{Words.{IsTreeReadable, IsKeyOfOneTree}, Again.{here, narrowed, part_of, of_json, of_text, lower, form-again, Looked, all-looked, one-looked}, Along.{Along, number-along, integer-along}}
+use Rattle.pagable_laws.proofs.{Words.{IsTreeReadable, IsKeyOfOneTree}, Again.{here, narrowed, part_of, of_json, of_text, lower, form-again, Looked, all-looked, one-looked}}
+use Rattle.pagable_laws.proofs.Along.{Along, number-along, integer-along}
 use Rattle.pagable_laws.proofs.{Along.{text-along, pattern-along, none-along, pair-along, variant-along, reference-along, AllTwo, no-two, more-two, form-along}, Trees.{same_some, same_result}}
 use Rattle.pagable_laws.proofs.Trees.{tree_is, one-followed}
 use Rattle.pagable_model.specs.Meaning as meanings

@@ -127,9 +127,6 @@ known-quiet r key height x3 quiet = grind (arith, nat_tests, given-quiet)
 
 -- ---- keys that are set
 
-pub first-quiet : (task : Task) → is_publishing (first_todo task) ≡ false
-first-quiet x0 = grind (arith, nat_tests, started-quiet)
-
 cell-keyed : (key : ℕ) (found : Option Cell) (cell : Cell) → if_there (λ (x : Cell). Some (record x { key = OptionalDataKey.Some key })) None found ≡ Some cell → has_key cell.key ≡ true
 cell-keyed key x1 cell is = grind (arith, nat_tests)
 
@@ -170,10 +167,6 @@ module _ (shelf shelf' : Shelf) (P : Identity → Type 0) where
   changed-reveals : (i : Identity) (f : Slot → Slot) → SameShelf (with_changed_slot shelf i f) shelf'
       → ((old : Slot) (key height : ℕ) → (f old).outcome ≡ published key height → (old.outcome ≡ published key height) ⊎ P i) → Reveals shelf shelf' P
   changed-reveals i f same back j key height p = grind (arith, is-same, of-some, known)
-
-  -- claims fail
-  failed-reveals : (v : ℕ) → SameShelf (with_failed shelf v) shelf' → Reveals shelf shelf' P
-  failed-reveals v same j key height p = grind (arith, of-some, known)
 
 -- ---- a worker's step
 
@@ -251,7 +244,7 @@ module _ {N B W : Type 0} (m : Seen N B W) (v : ℕ) (s s' : Site) (whole : Hand
       leaves t.list_is refl (tt, quiet, all-on f below all) (changed-reveals s.shelf s'.shelf KeyThere (identity_of r) (with_outcome (published key height)) t.table_is (λ old k2 h2 known. inr (λ kind. key-on f (h kind))))
   stepped (to_release r key height ∷ below) (Took.Release i) e (is, falls, t) f (h, quiet, all) = stays t.table_stays.slots t.list_is (given-quiet r key height below quiet)
       (given s'.core r key height below (all-on f below all))
-  stepped (to_fail fault back ∷ below) Took.Fail e (gives, same, list_is) f all = leaves list_is refl tt (failed-reveals s.shelf s'.shelf KeyThere v same)
+  stepped (to_fail fault back ∷ below) Took.Fail e (gives, same, list_is) f all = leaves list_is refl tt (grind (arith, of-some, known))
   stepped _ step e does f all = grind (arith, nat_tests, stays)
 
   pub walk-leaves : (step : Took W) → Does m v s s.todo step s' → AllHold s.core s.todo → Leaves step
@@ -281,7 +274,7 @@ module _ {N B W : Type 0} (m : Seen N B W) (u u' : World) {c : Change} (goes : G
   first-hold x0 = grind (arith, nat_tests, item-started)
 
   first-holds : (n : ℕ) (t : TableNumber) (task : Task) → WalkHolds n (new_walking t task)
-  first-holds n t task = (first-hold task, λ r key height below front. let f : true ≡ false = sym (ap is_publishing front) ∙ first-quiet task in absurd (cc))
+  first-holds n t task = (first-hold task, λ r key height below front. let f : true ≡ false = sym (ap is_publishing front) ∙ (grind (arith, nat_tests, started-quiet)) in absurd (cc))
 
   a-step : (k : WorkerNumber) (r : WorkerReply W) (s : WorkerSteps m u k r u') → SlotsHeld s.after.shelf × WalkHolds k.0 (record s.walking { todo = s.after.todo; steps = r.steps; answer = r.answer })
   a-step k r s =

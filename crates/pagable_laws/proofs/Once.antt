@@ -170,7 +170,8 @@ module _ (k : ℕ) (i : Identity) where
         least : {a b : ℕ} → a ≤ b → a + 0 ≤ b
         least le = omega arith
     entry r place (Took.Claim j (Ok (Claim.Known key height)) ∷ steps) last (mid, (is, e), leads) few = grind (arith, nat_tests, once-more, after-release)
-    entry r place (Took.Claim j (Ok Claim.Waiting) ∷ steps) last (mid, (is, e), leads) few = grind (arith, nat_tests, once-more, fewer, few-claims, entry r place steps last (subst (λ m. Leads f m steps last) e leads) (fewer _ (few-claims (Took.Claim j (Ok Claim.Waiting)) steps few)))
+    entry r place (Took.Claim j (Ok Claim.Waiting) ∷ steps) last (mid, (is, e), leads) few =
+        grind (arith, nat_tests, once-more, fewer, few-claims, entry r place steps last (subst (λ m. Leads f m steps last) e leads) (fewer _ (few-claims (Took.Claim j (Ok Claim.Waiting)) steps few)))
     entry r place (Took.Claim j (Ok Claim.AlreadyFailed) ∷ steps) last (mid, (is, e), leads) few = grind (arith, nat_tests, once-more, bounded, along, few-claims)
     entry r place (Took.Claim j (Err fault) ∷ steps) last (mid, (is, e), leads) few = grind (arith, nat_tests, once-more, bounded, along, few-claims)
     entry r place (step ∷ steps) last (mid, follows, leads) few = absurd follows

@@ -107,10 +107,6 @@ byte_tame = record { goes = (grind (arith, nat_tests)); uses = byte_uses }
 bytes_alone : (n : ℕ) (u : List ℕ) → length u ≡ n → bytes_at n u ≡ Ok (u, [])
 bytes_alone n u e = rw (← e, le-ltb (length u) (length u) (omega arith), take-length u, drop-length u) refl
 
-bytes_goes : (n : ℕ) (bs x : List ℕ) → Goes more_bytes x (bytes_at n bs) (bytes_at n (bs ++ x))
-unfolding Goes
-bytes_goes n bs x = search (rules, lt-ltb, le-ltb, length-append, take-append-le, drop-append-le)
-
 bytes_uses : (n : ℕ) (bs : List ℕ) → Uses more_bytes [] (bytes_at n) bs (bytes_at n bs)
 unfolding Uses
 bytes_uses n bs = elim (cases_lt (length bs) n) [
@@ -119,7 +115,8 @@ bytes_uses n bs = elim (cases_lt (length bs) n) [
 ]
 
 pub bytes_tame : (n : ℕ) → TameBytes (bytes_at n)
-bytes_tame n = record { goes = bytes_goes n; uses = bytes_uses n }
+unfolding Goes
+bytes_tame n = record { goes = (search (rules, lt-ltb, le-ltb, length-append, take-append-le, drop-append-le)); uses = bytes_uses n }
 
 last_is : (last : ℕ) (bs : List ℕ) → varint_at zero last bs ≡ (byte_at bs >>= λ p. if nat_le p.0 last then Ok p else Err Error.BadVarint)
 unfolding varint_at
@@ -282,16 +279,10 @@ module _ {A X Y : Type 0} (read : List ℕ → Read X) (view : X → Y) (h : Tam
   of_bytes = record { goes = λ i x. (grind (arith, nat_tests)); uses = λ i. bytes_use i (read i.bytes) (h.uses i.bytes) }
 
 module _ {A B : Type 0} (look : Look A B) where
-  look_goes : (kind : ℕ) (a : A) (bytes : List ℕ) (refs : List A) (x : Rest A) (r : Result B Error)
-      → Goes more x (r >>= λ b. let z : Result (Meaning B × Rest A) Error = Ok (meanings.reference b, rest bytes refs) in z)
-      (r >>= λ b. let z : Result (Meaning B × Rest A) Error = Ok (meanings.reference b, rest (bytes ++ x.bytes) (refs ++ x.refs)) in z)
-  unfolding Goes
-  look_goes kind a bytes refs x x5 = grind (arith, nat_tests)
-
   reference_goes : (kind : ℕ) (bytes : List ℕ) (refs : List A) (x : Rest A)
       → Goes more x (reference_at look kind refs (rest bytes refs)) (reference_at look kind (refs ++ x.refs) (more (rest bytes refs) x))
   unfolding Goes
-  reference_goes kind bytes x2 x = grind (arith, nat_tests, look_goes)
+  reference_goes kind bytes x2 x = grind (arith, nat_tests)
 
   reference_uses : (kind : ℕ) (bytes : List ℕ) (refs : List A) → Uses more ended (λ i. reference_at look kind i.refs i) (rest bytes refs) (reference_at look kind refs (rest bytes refs))
   unfolding Uses
@@ -414,10 +405,6 @@ pub data DeeperPar {A B C D : Type 0} (E : Error → Type 0) (F : Type 0) (S : A
   one-deeper : (get : Shape → Gets A (Meaning C)) (get2 : Shape → Gets B (Meaning D)) → ((s : Shape) → Covers F parts s → Par E S (Along F R) (get s) (get2 s))
       → DeeperPar E F S R parts (Some get) (Some get2)
 
-static-covers : {F : Type 0} {parts : ℕ → Shape} (registry : List (Meaning ⊥)) → Covers F parts (static_value registry) → F ⊎ AllByRecursion HasNoReference registry
-unfolding IsReadable
-static-covers registry x1 = grind (arith, nat_tests, here)
-
 registered-one : {F : Type 0} (registry : List (Meaning ⊥)) → F ⊎ AllByRecursion HasNoReference registry → (i : ℕ) (m : Meaning ⊥) → registered registry i ≡ Ok m → F ⊎ HasNoReference m
 registered-one registry (inl f) i m e = inl f
 registered-one [] (inr h) i m e = cc
@@ -522,7 +509,7 @@ module _ {A B C D : Type 0} {E : Error → Type 0} {F : Type 0} {S : A → B →
       with_par h (sorted_set order s) t = likewise_par (seen_par _ _ (λ ms ns r. (sequence-two (put_all-two {V = Along F R} _ _ (λ acc acc2 e f g k. put_sorted_item-two order g k) [] [] no-two r))) (counted_par (with_par h s (over (λ p. p) (λ n d l. l) t)))) (λ i. refl) (λ i. refl)
       with_par h (placed_set s) t = likewise_par (seen_par _ _ (λ ms ns r. placed_items-two r) (counted_par (with_par h s (over (λ p. p) (λ n d l. l) t)))) (λ i. refl) (λ i. refl)
       with_par h (static_value registry) t =
-          then_same (λ i. refl) (λ i. refl) (bytes_same (unsigned_at w32) (unsigned_tame w32)) (λ n. registered_par registry (static-covers registry t) n (registered registry n) refl)
+          then_same (λ i. refl) (λ i. refl) (bytes_same (unsigned_at w32) (unsigned_tame w32)) (λ n. registered_par registry (grind (arith, nat_tests, here)) n (registered registry n) refl)
       with_par h (tagged written known body) t =
           known_par text_at text_tame known (λ i. refl) (λ i. refl)
           (λ tag e. seen_par (of_tagged tag) (of_tagged tag) (λ m n r. pair-along _ _ _ _ (text-along tag) r) (with_par h (body tag) (over (λ p. p.1 tag e) (λ n d l. l.1 tag e) t)))

@@ -212,12 +212,6 @@ node-chance w kind key e is = search (rules, chance-if, birth-chance)
 never : (b : Bool) (f e : Error) → b ≡ false → refused_if b f ≡ Some e → ⊥
 never _ f e is so = cc
 
-memory-chance : (e : Error) → e ≡ Error.OutOfMemory → IsOfChance e
-memory-chance e is = subst IsOfChance (sym is) tt
-
-loose-not : (kind : ℕ) → is_eager kind ≡ true → is_loose_kind kind ≡ false
-loose-not kind is = grind (arith, nat_tests)
-
 second-eager : (types : Types) (top under : Frame) (rest : List Frame) → FramesAsked types (top ∷ under ∷ rest) → is_eager top.kind.0 ≡ true
 unfolding FramesAsked
 second-eager types top under rest (a, eager, next, more) = eager
@@ -312,9 +306,6 @@ module _ {N B W E : Type 0} (m : Seen N B W) (s : MachineState N E) (trees : ℕ
     front : (frames : List Frame) (kind : Kind) (key : ℕ) → need_of v.types frames ≡ needs_nested kind key → is_eager kind.0 ≡ true
     front x0 kind key is = grind (arith, nat_tests, eager-nested)
 
-    front-lazy : (frames : List Frame) (kind : Kind) (key : ℕ) → need_of v.types frames ≡ needs_lazy kind key → not (is_loose_kind kind.0) ≡ false
-    front-lazy x0 kind key is = grind (arith, nat_tests)
-
     form-of : (frame : Frame) (below : List Frame) → reading.frames ≡ frame ∷ below → (x : N) → IsDecoded v frame x → IsForm v frame
     form-of frame below is x decoded =
         formed v s trees fit low readable out.t load.key reading.node_type out.i out.height out.known typed frame below
@@ -329,9 +320,6 @@ module _ {N B W E : Type 0} (m : Seen N B W) (s : MachineState N E) (trees : ℕ
         → Refused (ask_fault w Owner.Caller reading.load want) (ask_fault w Owner.Caller reading.load want) ((is_known w want ≡ true) × AreHandlesFull w) w e mid → IsOfChance e
     ask-chance want mid e r = only-refused {P = IsOfChance} e r (only-earlier _ _ (no-load-fault _) (where-chance (is_known w want) w.last.handle)) tt
 
-    root-asked : (mid : Core) (e : Error) → AskCall w Owner.Caller reading.load Want.Root (Err e) mid → IsOfChance e
-    root-asked mid e c = grind (arith, nat_tests, ask-chance, same_some, is-read, vain-chance, found)
-
     nested-asked : (kind : Kind) (key : ℕ) (blob : Blob) (mid : Core) (e : Error) → w.stored key ≡ Some blob → AskCall w Owner.Caller reading.load (Want.Nested kind key) (Err e) mid → IsOfChance e
     nested-asked kind key blob mid e is c = elim c.refused [
       | inl r ↦ ask-chance (Want.Nested kind key) mid e r
@@ -343,7 +331,7 @@ module _ {N B W E : Type 0} (m : Seen N B W) (s : MachineState N E) (trees : ℕ
     of-blob : (e : Error) → RefusesBlob v reading e → IsOfChance e
     of-blob e (inl is) = absurd (not-faulty e is)
     of-blob e (inr (inl (top, below, is, causes))) = (grind (arith, nat_tests))
-    of-blob e (inr (inr memory)) = memory-chance e memory
+    of-blob e (inr (inr memory)) = (subst IsOfChance (sym memory) tt)
 
     of-nested : (mid : Core) (e : Error) → RefusesNested v.types w Owner.Caller reading e mid → IsOfChance e
     of-nested mid e (kind, key, needs, inl asked) = let n = need-there kind key (inl needs) in nested-asked kind key n.0 mid e n.1 asked
@@ -351,7 +339,7 @@ module _ {N B W E : Type 0} (m : Seen N B W) (s : MachineState N E) (trees : ℕ
 
     of-lazy : (mid : Core) (e : Error) (kind : Kind) (key : ℕ) → need_of v.types reading.frames ≡ needs_lazy kind key → LazyCall w Owner.Caller reading.load kind key (Err e) mid → IsOfChance e
     of-lazy mid e kind key needs c = only-refused {P = IsOfChance} e c.refused
-        (only-earlier _ _ (no-load-fault _) (only-earlier _ _ (λ f so. absurd (never _ Error.WrongKind f (front-lazy reading.frames kind key needs) so)) (node-chance w kind key))) tt
+        (only-earlier _ _ (no-load-fault _) (only-earlier _ _ (λ f so. absurd (never _ Error.WrongKind f (grind (arith, nat_tests)) so)) (node-chance w kind key))) tt
 
     -- the blob that becomes a node is read through a reference that isn't loose, and is of its kind's type
     node-right : (top : Frame) (below : List Frame) → reading.frames ≡ top ∷ below → need_of v.types reading.frames ≡ to_adopt → (is_eager top.kind.0 ≡ true) × (top.node_type ≡ type_of top.kind.0)
@@ -361,7 +349,7 @@ module _ {N B W E : Type 0} (m : Seen N B W) (s : MachineState N E) (trees : ℕ
     of-node mid e r =
         let n = r.reads_node in
         let right = node-right n.top n.below n.frames n.needs in
-        only-refused {P = C} e r.adopted.refused.1 (only-earlier _ _ (no-load-fault _) (only-earlier _ _ (λ f so. absurd (never _ Error.WrongMode f (loose-not n.top.kind.0 right.0) so))
+        only-refused {P = C} e r.adopted.refused.1 (only-earlier _ _ (no-load-fault _) (only-earlier _ _ (λ f so. absurd (never _ Error.WrongMode f (grind (arith, nat_tests)) so))
         (only-earlier _ _ (λ f so. absurd (never _ Error.WrongKind f (same-type (v.node_type r.x) (type_of n.top.kind.0) (n.decoded.typed ∙ right.1)) so))
         (only-earlier _ _ (λ f a. by-references n.top n.below r.x n.frames n.decoded (form-of n.top n.below n.frames r.x n.decoded) a)
         (λ f a. by-chance (node-chance w n.top.kind n.top.key f a)))))) (by-chance tt)
@@ -389,7 +377,7 @@ module _ {N B W E : Type 0} (m : Seen N B W) (s : MachineState N E) (trees : ℕ
     cause w' e (inr ended) = of-end w' e ended
     cause w' e (inl gives) = elim gives.meets [
       | inl (refuses, a) ↦ by-chance (of-blob e refuses)
-      | inr (inl (first, asked)) ↦ by-chance (root-asked gives.mid e asked)
+      | inr (inl (first, asked)) ↦ by-chance (grind (arith, nat_tests, ask-chance, same_some, is-read, vain-chance, found))
       | inr (inr (inl nested)) ↦ by-chance (of-nested gives.mid e nested)
       | inr (inr (inr (inl (kind, key, needs, asked)))) ↦ by-chance (of-lazy gives.mid e kind key needs asked)
       | inr (inr (inr (inr (inl node)))) ↦ of-node gives.mid e node
@@ -497,10 +485,6 @@ module _ (types : Types) (stored : ℕ → Option Blob) where
         let long : length rest + 1 ≡ length (under ∷ rest) = omega arith in
         grind (arith, nat_tests)
 
-    of-deep-blob : (frames : List Frame) → FramesFit types stored trees root_key root_type frames → FramesAsked types frames → need_of types frames ≡ is_broken Error.TooDeep
-        → ReadsTooDeep types stored root_type root_key
-    of-deep-blob x0 fits got is = grind (arith, nat_tests, down-to, kinds_of, faulty-by-kinds, broken-is, next_in)
-
     of-path : (frames : List Frame) → FramesFit types stored trees root_key root_type frames → FramesAsked types frames → (kind : Kind) (key : ℕ) (blob : Blob)
         → need_of types frames ≡ needs_nested kind key → stored key ≡ Some blob
         → longest_path < length frames → ReadsTooDeep types stored root_type root_key
@@ -536,7 +520,7 @@ module _ {N B W : Type 0} (m : Seen N B W) (lawful : IsLawful m.values) (w : Cor
   pub fails-deep : (w' : Core) → Fails m.values w me reading Error.TooDeep w' → Deep
   fails-deep w' (inr ended) = absurd (by-handle-row w me ended.ended.refused.h any_mode Error.TooDeep ended.ended.refused.why)
   fails-deep w' (inl gives) = elim gives.meets [
-    | inl (refuses, a) ↦ (grind (arith, nat_tests, of-deep-blob))
+    | inl (refuses, a) ↦ (grind (arith, nat_tests, down-to, kinds_of, faulty-by-kinds, broken-is, next_in))
     | inr (inl (first, c)) ↦ absurd (not-asked Want.Root gives.mid c)
     | inr (inr (inl nested)) ↦ nested-deep gives.mid nested
     | inr (inr (inr (inl (kind, key, needs, c)))) ↦

@@ -86,9 +86,6 @@ put-by v shelf shelf' i slot puts at j = elim (cases_Bool (is_identity i j)) [
   | inl e ↦ subst (λ k. SlotChanges v (shelf.slots k) (shelf'.slots k)) (sym (is-same i j e)) (subst (λ o. SlotChanges v (shelf.slots i) o) (sym puts.at) at)
 ]
 
-pub puts-new : (v : ℕ) (shelf shelf' : Shelf) (i : Identity) (slot : Slot) → PutsSlot shelf.slots shelf'.slots i slot → shelf.slots i ≡ None → slot.worker ≡ v → Changes v shelf shelf'
-puts-new v shelf shelf' i slot puts none of_it = put-by v shelf shelf' i slot puts (is-new slot none refl of_it)
-
 pub puts-own : (v : ℕ) (shelf shelf' : Shelf) (i : Identity) (old slot : Slot) → PutsSlot shelf.slots shelf'.slots i slot → shelf.slots i ≡ Some old → old.worker ≡ v
     → SlotGrows old slot → Changes v shelf shelf'
 puts-own v shelf shelf' i old slot puts there of_it more = put-by v shelf shelf' i slot puts (is-changed old slot there of_it refl more)
@@ -205,16 +202,12 @@ true-false is other = absurd (cc)
 -- ---- what stands goes on to stand
 
 module _ (u : ℕ) (task : Task) (shelf shelf' : Shelf) (more : ShelfGrows shelf shelf') where
-  claim-stays : (i : Identity) {so : Option Written → Type 0} → ((slot : Slot) → shelf.slots i ≡ Some slot → slot.worker ≡ u → shelf'.slots i ≡ Some slot) → IsMetClaim shelf u task i so
-      → IsMetClaim shelf' u task i so
-  claim-stays i keeps (meets, c) = grind (arith, meets-grow)
-
   -- each claim that this is about is kept
   abbrev pub KeepsOf : (Identity → Bool) → Type 0
   KeepsOf test = (i : Identity) → test i ≡ true → (slot : Slot) → shelf.slots i ≡ Some slot → slot.worker ≡ u → shelf'.slots i ≡ Some slot
 
   one-stays : (x : Todo) (below : List Todo) → KeepsOf (λ i. is_open_of i x) → Stands shelf u task x below → Stands shelf' u task x below
-  one-stays x0 below keeps x3 = grind (arith, nat_tests, meets-grow, claim-stays, is-self, published-stays)
+  one-stays x0 below keeps x3 = grind (arith, nat_tests, meets-grow, is-self, published-stays)
 
   pub all-stay : (todo : List Todo) → KeepsOf (λ i. is_open_in i todo) → AllStand shelf u task todo → AllStand shelf' u task todo
   unfolding AllStand is_open_in
@@ -337,7 +330,7 @@ module _ (v : ℕ) (task : Task) (shelf shelf' : Shelf) (clean : HasNoFailed she
       → PutsSlot shelf.slots shelf'.slots (identity_of r) new-slot → Goes v task shelf None shelf' (to_pin r place ∷ below)
   unfolding AllStand is_open_in
   claimed r place below (meets, apart, rest) covers none puts =
-      let changes : Changes v shelf shelf' = puts-new v shelf shelf' (identity_of r) new-slot puts none refl in
+      let changes : Changes v shelf shelf' = (put-by v shelf shelf' (identity_of r) new-slot puts (is-new new-slot none refl refl)) in
       let more : ShelfGrows shelf shelf' = grows v shelf shelf' changes in
       let meets_now : Meets shelf' task (identity_of r) = meets-grow shelf shelf' task (identity_of r) more meets in
       let free : is_open_in (identity_of r) below ≡ false =
@@ -480,11 +473,7 @@ module _ (v : ℕ) (shelves shelves' : ℕ → Shelf) (walkings walkings' : ℕ 
   pub work-stands : (last last' : ℕ) → last ≤ last' → v ≤ last' → WorkStands shelves walkings last → WorkStands shelves' walkings' last'
   work-stands last last' few small work =
       record {
-        slots = λ t i slot there. elim (turned.changes t i) [
-          | stays same ↦ met-stays t i slot.worker slot.worker refl (work.slots t i slot (sym same ∙ there))
-          | is-new new none is of_it ↦ subst (λ n. IsMetBy (shelves' t) walkings' n t i) (sym (ap (λ (s : Slot). s.worker) (some-same there is) ∙ of_it)) (turned.met t i slot none there)
-          | is-changed old new was own is more ↦ met-stays t i old.worker slot.worker (ap (λ (s : Slot). s.worker) (some-same there is) ∙ more.worker) (work.slots t i old was)
-        ];
+        slots = grind (arith, nat_tests, met-stays, some-same);
         workers = λ u w there. elim (cases_Bool (nat_eq u v)) [
           | inl e ↦ let is = same-worker u v e in subst (λ n. WalkingStands (shelves' w.table) n w) (sym is) (turned.stands w (sym (ap walkings' is) ∙ there))
           | inr e ↦
@@ -492,10 +481,7 @@ module _ (v : ℕ) (shelves shelves' : ℕ → Shelf) (walkings walkings' : ℕ 
               walking-stays u w (shelves w.table) (shelves' w.table) (grows v (shelves w.table) (shelves' w.table) c) (others-stay v u (shelves w.table) (shelves' w.table) c e)
               (grind (arith, some-same)) (work.workers u w (sym (turned.others u e) ∙ there))
         ];
-        numbered = λ u w there. elim (cases_Bool (nat_eq u v)) [
-          | inl e ↦ let is = same-worker u v e in omega (arith, is, small)
-          | inr e ↦ let few_then = work.numbered u w (sym (turned.others u e) ∙ there) in omega (arith, few_then, few)
-        ];
+        numbered = grind (arith, nat_tests, cases_Bool, nat_eq, same-worker);
       }
 
 -- ---- the events

@@ -22,10 +22,7 @@ one-small x0 = grind (arith, nat_tests)
 -- smaller at each element, so in sum
 pub sum-le : {X : Type 0} (f g : X → ℕ) (xs : List X) → ((x : X) → Among xs x → f x ≤ g x) → sum_by f xs ≤ sum_by g xs
 sum-le f g [] h = omega arith
-sum-le f g (x ∷ xs) h =
-    let a : f x ≤ g x = h x (zero, refl) in
-    let b = sum-le f g xs (λ y among. h y (suc among.0, among.1)) in
-    let c = sum_by-cons f x xs in let d = sum_by-cons g x xs in omega arith
+sum-le f g (x ∷ xs) h = grind (arith, nat_tests, sum_by-cons, sum-le f g xs (λ y among. h y (suc among.0, among.1)))
 
 -- each element is part of the sum
 pub at-most-sum : {X : Type 0} (f : X → ℕ) (xs : List X) (x : X) → Among xs x → f x ≤ sum_by f xs
