@@ -24,8 +24,7 @@ module _ {w : Core} (whole : IsWhole w) {me : Owner} (free : NotValues me) where
       let row : HandleRow = c.pins.0 in
       let first = turned h row c.pins.1 c.pins.2.0 in
       spares-then first (spares-made row.node Mode.Pinned me free (λ is. first.here row.node.0 ∙ c.pins.2.0) c.pins.2.2)
-  pins-it (Ok (Pinning.NeedsLoad key)) c = spares-alike c.pins.2.2
-  pins-it (Err e) c = spares-alike c.refused.stays
+  pins-it x0 c = grind (arith, nat_tests, spares-alike, pins)
 
   pub loosens : {w' : Core} {h : HandleNumber} (r : Result HandleNumber Error) → LoosenCall w me h r w' → Spares w w'
   loosens {h = h} (Ok k) c =

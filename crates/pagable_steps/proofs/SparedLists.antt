@@ -109,13 +109,11 @@ module _ {w : Core} (whole : IsWhole w) where
 
   pub recalls : {w' : Core} {me : Owner} {kind : Kind} {key : ℕ} → NotValues me → (r : Result (Option HandleNumber) Error) → RecallCall w me kind key r w' → Spares w w'
   recalls {kind = kind} {key} free (Ok (Some k)) c = spares-then (spares-known kind key c.answers.0 free c.answers.1) (spares-alike c.answers.3)
-  recalls free (Ok None) c = spares-alike c.answers.1
-  recalls free (Err e) c = spares-alike c.refused.stays
+  recalls free x1 c = grind (arith, nat_tests, spares-alike)
 
   -- an offer by which no handle is given up: the cache learns the node, or the offered handle is answered itself
   pub offers : {w' : Core} {me : Owner} {kind : Kind} {key : ℕ} {h : HandleNumber} (r : Result (Option HandleNumber) Error)
       → ((k : HandleNumber) → r ≡ Ok (Some k) → k ≡ h) → OfferCall w me kind key h r w' → Spares w w'
-  offers (Ok None) back c = let a = c.answers.3.2 in spares-same a.rows a.cells
   offers {h = h} (Ok (Some k)) back c = elim c.answers.3 [
     | inl (closed, same, a) ↦ spares-alike a
     | inr (open_still, (n, known, next, f)) ↦
@@ -124,4 +122,4 @@ module _ {w : Core} (whole : IsWhole w) where
     where
       above-last : (a b last : ℕ) → a ≡ b → a ≡ last + 1 → b ≤ last → ⊥
       above-last a b last same next few = absurd (omega arith)
-  offers (Err e) back c = spares-alike c.refused.stays
+  offers x0 back c = grind (arith, nat_tests, spares-same, spares-alike)

@@ -23,8 +23,5 @@ module _ {w w' : Core} where
     gets-known {l} {kind} {key} g = spares-then (spares-known whole kind key g.n (not-load l) g.known) (spares-alike g.leaves)
 
     pub asks : {me : Owner} {l : LoadNumber} {want : Want} (r : Result Given Error) → AskCall w me l want r w' → Spares w w'
-    asks {want = Want.Root} (Ok (from_store blob)) c = asked c.gives.2.asked
-    asks {want = Want.Root} (Ok (from_cache k)) c = absurd c.gives.2
     asks {want = Want.Nested kind key} (Ok (from_cache k)) c = gets-known c.gives.2
-    asks {want = Want.Nested kind key} (Ok (from_store blob)) c = asked c.gives.2.1.asked
-    asks {me} {l} {want} (Err e) c = grind (arith, nat_tests)
+    asks x0 c = grind (arith, nat_tests, asked)
