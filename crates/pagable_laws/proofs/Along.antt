@@ -1,7 +1,7 @@
 -- A form goes along: where each reference is replaced by one of the same kind, the bytes are a form of what results.
 use Rattle.pagable_laws.proofs.Words.{nat_tests, ◌≡◌, ℕ, ℤ, Bool, true, false, List, [], ◌∷◌, ◌++◌, length, ◌⊎◌, inl, inr, refl, sym, ap, ◌∙◌, arith, Ordering, is_eq-slice_cmp, Meaning, number}
 use Rattle.pagable_laws.proofs.Words.{integer, text, pattern, none, pair, variant, reference, followed, sequence, plain, lifted, rename, Entry, KeyOrder, ordered, same_key, code, code_order}
-use Rattle.pagable_laws.proofs.Words.{text_order, put_all, put_sorted, Apart, AllAfter, Ascends, ItemsAscend, Differ, ItemsDiffer, of_entries, of_hash_map, Shape, Form, Forms, Entries}
+use Rattle.pagable_laws.proofs.Words.{text_order, put_all, put_sorted, Apart, AllAfter, Ascends, Differ, of_entries, of_hash_map, Shape, Form, Forms, Entries}
 use Rattle.pagable_laws.proofs.Words.{nothing-form, unsigned-form, signed-form, flag-form, text-form, letter-form, duration-form, pattern-form, none-form, some-form, err-form, ok-form, list-form}
 use Rattle.pagable_laws.proofs.Words.{run-form, array-form, both-form, sorted-map-form, placed-map-form, hash-map-form, sorted-set-form, placed-set-form, static-form, tagged-form, case-form}
 use Rattle.pagable_laws.proofs.Words.{reference-form, nested-form, json-null-form, json-flag-form, json-number-form, json-text-form, json-array-form, json-object-form, no-forms, more-forms}

@@ -1,9 +1,9 @@
 -- JSON numbers that have no form, and the entries of a hash map in whatever order they come.
-use Rattle.pagable_laws.proofs.Words.{arith, nat_tests, ◌≡◌, ℕ, ℤ, List, refl, IsSigned, Meaning, Shape, json, Form, whole, float, of_json, FloatHasNoForm, WholeIsBounded, Bool, cond, []}
-use Rattle.pagable_laws.proofs.Words.{◌∷◌, map, Option, Some, None, sym, ap, ◌∙◌, Ordering, T, bytes_eq-Decides, is_eq-slice_cmp, exact_bytes, pair, variant, reference, followed, plain}
+use Rattle.pagable_laws.proofs.Words.{arith, nat_tests, ◌≡◌, ℕ, ℤ, List, refl, IsSigned, Meaning, Shape, json, Form, whole, of_json, FloatHasNoForm, WholeIsBounded, cond, []}
+use Rattle.pagable_laws.proofs.Words.{◌∷◌, map, Option, None, sym, ap, ◌∙◌, Ordering, T, bytes_eq-Decides, is_eq-slice_cmp, exact_bytes, pair, variant, reference, followed, plain}
 use Rattle.pagable_laws.proofs.Words.{rename, lifted, Entry, code, code_order, put_all, put_sorted, last_value, one-meaning, of_entries, IsOneKeyMeaning, IsAnyOrder}
-use Rattle.std.{specs.Int.w64, specs.Float.Ieee.Float, specs.Option.option_or, specs.declared.cmp.Ordering.Ordering, specs.Ordering.{match_ordering, eq_by_cmp}, specs.Cmp.IsTotalOrder}
-use Rattle.std.{specs.Cmp.Lexicographic.on_texts, specs.FinMap.Entries.{by_order, put, find, is_sorted, is_sorted-put, find-put, same_entries}}
+use Rattle.std.{specs.Int.w64, specs.Option.option_or, specs.declared.cmp.Ordering.Ordering, specs.Ordering.{eq_by_cmp}, specs.Cmp.IsTotalOrder}
+use Rattle.std.{specs.Cmp.Lexicographic.on_texts, specs.FinMap.Entries.{put, find, is_sorted, is_sorted-put, find-put, same_entries}}
 
 module _ {A : Type 0} {kind_of : A → ℕ} {parts : ℕ → Shape} where
   bounded : (z : ℤ) {left : ℕ} {m : Meaning A} {b : List ℕ} {k : List A} → Form A kind_of parts left json m b k → m ≡ of_json (whole z) → IsSigned w64 z

@@ -1,12 +1,12 @@
 -- Each event keeps trees: what it brings fits some trees afterwards, for which the machine stands then, with all that its loads read.
-use Rattle.pagable_laws.proofs.Words.{◌≡◌, ℕ, List, [], inl, inr, sym, subst, ◌⊎◌, Event, EventReply, Tree, Among, Reading, Frame, Values, Seen, IsLawful, MachineState, PagerState, world_of}
-use Rattle.pagable_laws.proofs.Words.{IsMachineWhole, StandsFor, FramesFit, ReadingFits, ReadingBrings, EventBrings, IsReadingOf, HoldsSettled, ReadsItsTypes, TakesWell, AsksWell, IsWellAsked}
+use Rattle.pagable_laws.proofs.Words.{◌≡◌, ℕ, List, [], inl, inr, sym, subst, ◌⊎◌, Event, EventReply, Tree, Among, Reading, Frame, Values, Seen, IsLawful, MachineState, world_of}
+use Rattle.pagable_laws.proofs.Words.{IsMachineWhole, StandsFor, FramesFit, ReadingFits, EventBrings, IsReadingOf, HoldsSettled, ReadsItsTypes, TakesWell, AsksWell, IsWellAsked}
 use Rattle.pagable_laws.proofs.Words.{FramesGiven, Change, CoreGoes, IsSteppedReading, EventFeels, by-call, by-reading, by-key, arith, nat_tests, by-nothing, KeysAreReady, IsFresh, ChangeFits}
 use Rattle.pagable_laws.proofs.Words.{ReadingsGiven, ◌+◌, ◌≤◌, Option, Some, None, refl, ◌∙◌, LoadAnswer, OpenLoad, gone_on, Moves, ReadingFeels, KeepsReadings, StepFeels, TreesAfterEvent, ◌∷◌}
 use Rattle.pagable_laws.proofs.Words.{HandleNumber, IsIdle, IsPremised, Moment, AreMoments, TreesAfter, TreesAlong, GivesTree, PinGives, IsRight, HasPin, PinHolds, WorkFits, KeysHeld, ReadingsHeld}
-use Rattle.pagable_laws.proofs.Words.{◌==◌, ◌&&◌, Bool, true, false, ap, Ok, is_some, if◌then◌else◌, sum_by-append, sum_by-cons, Identity, WorkerNumber, one, times, Took, WorkerReply, Shelf, Slot}
-use Rattle.pagable_laws.proofs.Words.{Todo, Walking, World, Site, Does, Happens, WorkerSteps, step_of, steps_of, is_claim_of, is_on_table, claims_made, ◌||◌, ◌++◌, append_assoc, is_none, WorkerAnswer}
-use Rattle.pagable_laws.proofs.Words.{HandleRow, Owner, owner_worker, is_owned_by, is_owner, is_workers_load, MayOwnLoad, state_after, events_of, replies_of, InOrder, TableMeets, HasLetGo}
+use Rattle.pagable_laws.proofs.Words.{◌==◌, ◌&&◌, Bool, true, false, ap, Ok, is_some, sum_by-append, sum_by-cons, Identity, WorkerNumber, one, times, Took, WorkerReply, Shelf, Slot}
+use Rattle.pagable_laws.proofs.Words.{Todo, Walking, World, Site, Does, Happens, WorkerSteps, step_of, steps_of, is_claim_of, is_on_table, claims_made, ◌++◌, append_assoc, is_none, WorkerAnswer}
+use Rattle.pagable_laws.proofs.Words.{HandleRow, Owner, owner_worker, is_owned_by, is_owner, is_workers_load, state_after, events_of, replies_of, InOrder, TableMeets, HasLetGo}
 use Rattle.pagable_laws.proofs.{Words.{WorkerIsRight, LoadsHaveStepsLeft, WorkIsRight, HeadlineLaw}, Felt.reading-fits, Felt.{none-comes, fits-nothing, fits-key, call-fits}, Fitting.tree-stays}
 use Rattle.pagable_laws.proofs.{ReadingSteps.{is-reading-of, does-feels}, Trees.same_some, Answering.keys-right, Coming.{StandsIn, event-turns, turns-stand, idle-stands, updated-at, EventTurns, Went}}
 use Rattle.pagable_laws.proofs.{Coming.{HasGone, goes-on}, Naming.{held-at-first, held-on, keys-ready}, KnownSteps.{ReadingsAsked, event-asked}, Outlasting.pins-hold, Stepping.fits-at-first}

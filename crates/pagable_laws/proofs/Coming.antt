@@ -2,7 +2,7 @@
 use Rattle.pagable_laws.proofs.Words.{◌≡◌, ℕ, inl, inr, true, List, [], ◌∷◌, refl, ap, sym, subst, ◌∙◌, Ok, Option, Some, None, ArcRef, Identity, WorkerAnswer, Claim, Took, identity_of, no_result}
 use Rattle.pagable_laws.proofs.Words.{answer_of_fault, Todo, to_start, to_write, to_item, to_publish, to_release, to_fail, arith, Task, Seen, Site, Does, give, give_known, with_wait, answer_after}
 use Rattle.pagable_laws.proofs.Words.{IsPublished, ◌+◌, ◌<◌, ◌≤◌, ◌==◌, Bool, false, nat_eq, if◌then◌else◌, nat_tests, WorkerNumber, updated, Call, Reply, Event, EventReply, TableNumber, WorkerReply}
-use Rattle.pagable_laws.proofs.Words.{Owner, Core, Alike, Shelf, Slot, Walking, World, CallStep, Happens, Stays, WorkStays, WorkIs, Starts, no_shelf, new_walking, WorkerSteps, Ends, MachineState}
+use Rattle.pagable_laws.proofs.Words.{Owner, Core, Alike, Shelf, Slot, Walking, World, CallStep, Happens, Stays, WorkStays, WorkIs, Starts, no_shelf, new_walking, WorkerSteps, MachineState}
 use Rattle.pagable_laws.proofs.Words.{world_of, IsIdle, step_of, ◌*◌, ◌-◌, ◌++◌, Err, drop, length, max, length-drop, sum_by-cons, sum_by-append, one, times, above, Open, to_pin, to_load, to_finish}
 use Rattle.pagable_laws.proofs.Words.{to_set, Written, next_start, first_todo, is_counted, Follows, is_claim, references_written, own_references, zero, suc, Error, Among, MetError, FailedElsewhere}
 use Rattle.pagable_laws.proofs.{Words.{IsMetFailure, steps_after, Leads}, Standing.{same-worker, puts-slot, SlotChanges, ShelfGrows, some-none, some-same, grows, same-slots, meets-grow, CoversBy}}

@@ -9,7 +9,7 @@ use Rattle.pagable_laws.proofs.Words.{NodeStands, ValueStands, MeaningStands, nu
 use Rattle.pagable_laws.proofs.Words.{reference-stands, ReadsNodeTree, FrameFits, ReadsItsTypes, LeadsTo, number-leads, integer-leads, text-leads, pattern-leads, none-leads, pair-leads}
 use Rattle.pagable_laws.proofs.{Words.{variant-leads, followed-leads, reference-leads, Decoded}, Along.{Along, number-along, integer-along, text-along, pattern-along, none-along, pair-along}}
 use Rattle.pagable_laws.proofs.{Along.{variant-along, reference-along, followed-along, AllTwo, no-two, more-two, refs-two, each-two}, Related.{Out, both-given, both-refused, OutLook}}
-use Rattle.pagable_laws.proofs.{Related.{both-looked-up, any_cause, first-not, read_par}, Trees.{tree_is, one_tree}, Sums.{same-number, one-true, self-number, at-most-sum, counted}}
+use Rattle.pagable_laws.proofs.{Related.{both-looked-up, any_cause, first-not, read_par}, Trees.{tree_is, one_tree}, Sums.{same-number, self-number, at-most-sum, counted}}
 
 -- ---- what is read or asked
 

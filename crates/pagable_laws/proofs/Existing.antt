@@ -1,7 +1,7 @@
 -- The least set of handles that fall.
 use Rattle.std.proofs.lemmas.Bool.{false_from_ne_true}
-use Rattle.pagable_laws.proofs.Words.{◌≡◌, ℕ, suc, zero, ◌+◌, ◌<◌, ◌≤◌, ◌==◌, ◌&&◌, ◌||◌, Bool, true, false, List, sum_by, refl, ap, sym, ◌∙◌, arith, nat_lt, nat_eq, not, if◌then◌else◌, nat_tests}
-use Rattle.pagable_laws.proofs.Words.{and_parts, one, Among, Owner, HandleRow, is_owner, is_owned_by, owner_value, is_at, is_pin, held, is_outside, held_outside, pins_outside, loses_value}
+use Rattle.pagable_laws.proofs.Words.{◌≡◌, ℕ, suc, zero, ◌+◌, ◌<◌, ◌≤◌, ◌==◌, ◌&&◌, ◌||◌, Bool, true, false, List, sum_by, refl, ap, sym, ◌∙◌, arith, nat_lt, not, nat_tests}
+use Rattle.pagable_laws.proofs.Words.{and_parts, one, Among, Owner, HandleRow, is_owner, is_owned_by, owner_value, is_at, is_pin, is_outside, loses_value}
 use Rattle.pagable_laws.proofs.{Words.{IsClosed, IsWithin, IsLeast, OwnsNothing, IsGivenAlone}, Sums.{same-number, self-number, one-true, sum-le, at-most-sum, sum-plus, sum-zero, counted}}
 
 -- 1 for a handle outside the set; one of the node, one that pins it, one that its value owns; and one of the one set and not of the other

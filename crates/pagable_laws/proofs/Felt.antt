@@ -5,10 +5,10 @@ use Rattle.pagable_laws.proofs.Words.{pattern, none, pair, variant, reference, f
 use Rattle.pagable_laws.proofs.Words.{Values, IsLawful, key_at, IsReference, PagerState, WellFormed, NodeStands, here, away, MeaningStands, number-stands, integer-stands, text-stands}
 use Rattle.pagable_laws.proofs.Words.{pattern-stands, none-stands, pair-stands, variant-stands, followed-stands, reference-stands, Represents, HoldsSettled, LeadsTo, number-leads}
 use Rattle.pagable_laws.proofs.Words.{integer-leads, text-leads, arith, pattern-leads, none-leads, pair-leads, variant-leads, followed-leads, reference-leads, ValueLeads, NodeLeads, ◌≤◌}
-use Rattle.pagable_laws.proofs.Words.{◌⊎◌, inl, inr, NodeNumber, HandleNumber, OpenLoad, of_cell, type_at, Moves, ReadsNodeTree, KeyFits, Change, CoreGoes, SameNode, NewNode, ChangeFits}
+use Rattle.pagable_laws.proofs.Words.{◌⊎◌, inl, inr, NodeNumber, HandleNumber, OpenLoad, of_cell, type_at, Moves, ReadsNodeTree, KeyFits, Change, CoreGoes, SameNode, ChangeFits}
 use Rattle.pagable_laws.proofs.Words.{◌+◌, ◌==◌, if◌then◌else◌, Owner, Call, Reply, updated, is_pinned_kind, is_here, first_key, SameTrees, CallBrings, IsNewNode, AsksWell, nothing_felt}
 use Rattle.pagable_laws.proofs.Words.{sets_key, knows_node, bears_node, bears_known, StaysAway, AreGood, CallFeels, feels-nothing, feels-birth, feels-away, feels-key, feels-known}
-use Rattle.pagable_laws.proofs.Words.{feels-adopted, feels-lazy, feels-end, List, [], ◌∷◌, LoadAnswer, Kind, Reading, Frame, ReadsRoot, Need, to_adopt, needs_lazy, ReadingBrings, IsCellOf}
+use Rattle.pagable_laws.proofs.Words.{feels-adopted, feels-lazy, feels-end, List, [], ◌∷◌, LoadAnswer, Reading, Frame, ReadsRoot, ReadingBrings, IsCellOf}
 use Rattle.pagable_laws.proofs.Words.{FramesFit, ReadingFits, ReadsItsTypes, TakesWell, FramesGiven, ReadingFeels, gets-lazy, makes-node}
 use Rattle.pagable_laws.proofs.{Trees.{same_some, tree_is, one_tree}, Decoding.{among-left, among-right, meant-refs, decodes}, Following.{one-node, given-of, cell-of, held-of}}
 use Rattle.pagable_laws.proofs.{Fitting.{tree-stays, first-fits}, Coming.updated-at, Taking.{root-key, node-decoded}}

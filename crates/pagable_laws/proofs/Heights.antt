@@ -3,8 +3,8 @@ use Rattle.pagable_laws.proofs.Words.{nat_tests, ◌≡◌, ℕ, suc, ◌+◌, �
 use Rattle.pagable_laws.proofs.Words.{nat_eq, drop, max, ArcRef, Identity, Among, if_there, is_eager, above, longest_path, identity_of, Shelf, Slot, published, failed, Written, Open, Todo, to_start}
 use Rattle.pagable_laws.proofs.Words.{to_pin, to_load, to_write, to_finish, to_item, to_set, to_publish, to_release, Task, IsPublished, place_below, next_start, give, give_known, is_open_outcome}
 use Rattle.pagable_laws.proofs.Words.{with_outcome, with_failed, Expects, Ok, HandleNumber, Tree, Claim, PinStep, Took, Event, EventReply, no_result, Fault, to_fail, Walking, World, Seen, Site, Does}
-use Rattle.pagable_laws.proofs.Words.{open_node, with_wait, first_todo, MachineState, world_of, IsIdle, Ground, ground_of, Walks, WorkFits, zero, ◌<◌, Err, pair, variant, followed, height}
-use Rattle.pagable_laws.proofs.Words.{deepest_path, kind_of_arc, Error, Meaning, Types, Core, of_entry, Values, is_identity, Claims, IsTooDeep, claim_fault, IsTooDeepTask, WaitsForAsker, FollowsTo}
+use Rattle.pagable_laws.proofs.Words.{open_node, with_wait, MachineState, world_of, IsIdle, Ground, ground_of, Walks, WorkFits, zero, ◌<◌, Err, pair, variant, followed, height}
+use Rattle.pagable_laws.proofs.Words.{deepest_path, kind_of_arc, Error, Meaning, Types, Core, Values, is_identity, Claims, IsTooDeep, IsTooDeepTask, WaitsForAsker, FollowsTo}
 use Rattle.pagable_laws.proofs.{Words.{pair-follows, variant-follows, reference-follows, WroteTree, Waits}, Standing.{ShelfGrows, some-same, PutsSlot, put-cases, puts-slot, changes-slot, is-same}}
 use Rattle.pagable_laws.proofs.{Standing.{AllStand, HasClaim, Covers, is_open_in}, Stepping.{KeepsKeys, keys-grow, keys-same}, Coming.{StandsIn, EventTurns, turns-grow, turns-keep}, Trees.same_some}
 use Rattle.pagable_laws.proofs.Along.{Along, number-along, integer-along, text-along, pattern-along, none-along, pair-along, variant-along, reference-along, each-two, form-along}

@@ -1,24 +1,22 @@
 -- A tree of canonical types has one key, a stored tree has the key that it stands under, and keys tell trees apart.
-use Rattle.pagable_laws.proofs.Words.{arith, nat_tests, ◌≡◌, ℕ, suc, Bool, List, [], ◌∷◌, ◌++◌, length, refl, sym, ap, ◌∙◌, subst, unsigned_form, signed_form, bool_form, length_form, text_form}
-use Rattle.pagable_laws.proofs.Words.{char_form, Meaning, sequence, Entry, of_entries, Shape, Form, Forms, Entries, nothing-form, unsigned-form, signed-form, flag-form, text-form, letter-form}
-use Rattle.pagable_laws.proofs.Words.{duration-form, pattern-form, none-form, some-form, err-form, ok-form, list-form, run-form, array-form, both-form, sorted-map-form, placed-map-form}
-use Rattle.pagable_laws.proofs.Words.{hash-map-form, sorted-set-form, placed-set-form, static-form, tagged-form, case-form, reference-form, nested-form, json-null-form, json-flag-form}
-use Rattle.pagable_laws.proofs.Words.{json-number-form, json-text-form, json-array-form, json-object-form, no-forms, more-forms, no-entries, more-entries, LiesIn, IsCanonical, Throughout}
-use Rattle.pagable_laws.proofs.Words.{CanonicalHasOneForm, true, false, pair, variant, reference, followed, lifted, rename, code_order, ordered, put_all, put_sorted, of_hash_map, Tree, Types}
-use Rattle.pagable_laws.proofs.Words.{type_of, Kid, unfolded, KeyOf, key-of, KeysOf, no-keys, more-keys, EachType, StaysInside, IsCanonicalInside, zero, ◌+◌, ◌*◌, ◌/◌, ◌%◌, ◌^◌, ◌<◌, ◌≤◌, add-mul}
-use Rattle.pagable_laws.proofs.Words.{add_assoc, div-add-mod', div-div-eq-div-mul, div-one, mod-eq_of_lt, mod-lt, mul-add-mod_self_right, mul-le-mul_right, mul_assoc, one-le-pow, pow-suc}
-use Rattle.pagable_laws.proofs.Words.{length-append, Blob, preimage, cut, HasOnePreimage, inl, inr, if◌then◌else◌, cases_lt, is_eager, height, HasPath, IsLongestPath, map, Option, Ok, append-nil}
-use Rattle.pagable_laws.proofs.Words.{read, read_typed, key_of, KeyRef, tree, key_ref, ReadsAs, IsFollowed, number-followed, integer-followed, text-followed, pattern-followed, none-followed}
-use Rattle.pagable_laws.proofs.Words.{pair-followed, variant-followed, reference-followed, blob_context, rest_of, kind_of_kid, tree_of_kid, TreeForm, blob_of, kind_of_ref, key_of_ref, StoredAs}
-use Rattle.pagable_laws.proofs.Words.{HasOwnKeys, SharesNoKey, IsCanonicalType, IsCanonicalTree, IsReadableType, rest, IsOneKey, IsOneItemKey, IsStoredKey}
-use Rattle.pagable_laws.proofs.{Words.{IsTreeReadable, IsKeyOfOneTree}, Again.{here, narrowed, part_of, of_json, of_text, lower, form-again, Looked, all-looked, one-looked}}
-use Rattle.pagable_laws.proofs.Along.{Along, number-along, integer-along}
-use Rattle.pagable_laws.proofs.{Along.{text-along, pattern-along, none-along, pair-along, variant-along, reference-along, AllTwo, no-two, more-two, form-along}, Trees.{same_some, same_result}}
-use Rattle.pagable_laws.proofs.Trees.{tree_is, one-followed}
+use Rattle.pagable_laws.proofs.Words.{arith, nat_tests, ◌≡◌, ℕ, suc, Bool, List, [], ◌∷◌, ◌++◌, length, refl, sym, ap, ◌∙◌, subst, unsigned_form, signed_form, bool_form, length_form}
+use Rattle.pagable_laws.proofs.Words.{text_form, char_form, Meaning, sequence, Entry, of_entries, Shape, Form, Forms, Entries, nothing-form, unsigned-form, signed-form, flag-form}
+use Rattle.pagable_laws.proofs.Words.{text-form, letter-form, duration-form, pattern-form, none-form, some-form, err-form, ok-form, list-form, run-form, array-form, both-form}
+use Rattle.pagable_laws.proofs.Words.{sorted-map-form, placed-map-form, hash-map-form, sorted-set-form, placed-set-form, static-form, tagged-form, case-form, reference-form, nested-form}
+use Rattle.pagable_laws.proofs.Words.{json-null-form, json-flag-form, json-number-form, json-text-form, json-array-form, json-object-form, no-forms, more-forms, no-entries, more-entries}
+use Rattle.pagable_laws.proofs.Words.{LiesIn, IsCanonical, Throughout, CanonicalHasOneForm, true, false, pair, variant, reference, followed, lifted, rename, code_order, ordered, put_all}
+use Rattle.pagable_laws.proofs.Words.{put_sorted, of_hash_map, Tree, Types, type_of, Kid, unfolded, KeyOf, key-of, KeysOf, no-keys, more-keys, EachType, StaysInside, IsCanonicalInside}
+use Rattle.pagable_laws.proofs.Words.{zero, ◌+◌, ◌*◌, ◌/◌, ◌%◌, ◌^◌, ◌<◌, ◌≤◌, div-div-eq-div-mul, pow-suc, length-append, Blob, preimage, cut, HasOnePreimage, inl, inr, if◌then◌else◌}
+use Rattle.pagable_laws.proofs.Words.{cases_lt, is_eager, height, HasPath, IsLongestPath, map, Option, Ok, append-nil, read, read_typed, key_of, KeyRef, tree, key_ref, ReadsAs, IsFollowed}
+use Rattle.pagable_laws.proofs.Words.{number-followed, integer-followed, text-followed, pattern-followed, none-followed, pair-followed, variant-followed, reference-followed, blob_context}
+use Rattle.pagable_laws.proofs.Words.{rest_of, kind_of_kid, tree_of_kid, TreeForm, blob_of, kind_of_ref, key_of_ref, StoredAs, HasOwnKeys, SharesNoKey, IsCanonicalType, IsCanonicalTree}
+use Rattle.pagable_laws.proofs.Words.{IsReadableType, rest, IsOneKey, IsOneItemKey, IsStoredKey, IsTreeReadable, IsKeyOfOneTree}
+use Rattle.pagable_laws.proofs.{Again.{here, narrowed, part_of, of_json, of_text, lower, form-again, Looked, all-looked, one-looked}}
+use Rattle.pagable_laws.proofs.{Along.{Along, number-along, integer-along, text-along, pattern-along, none-along, pair-along, variant-along, reference-along, AllTwo, no-two}}
+use Rattle.pagable_laws.proofs.{Along.{more-two, form-along}, Trees.{same_some, same_result, tree_is, one-followed}}
+use Rattle.pagable_model.specs.{Canonical.IsClosed}
+use Rattle.std.{specs.Int.{byte_at, bytes_low_first, to_le_bytes, w64, w128}, specs.List.{flat_map, AllByRecursion}, proofs.Common.rules}
 use Rattle.pagable_model.specs.Meaning as meanings
-use Rattle.pagable_model.specs.Canonical.{IsClosed}
-use Rattle.std.specs.{Int.{byte_at, bytes_low_first, to_le_bytes, w64, w128}, List.{flat_map, AllByRecursion}}
-use Rattle.std.proofs.Common.{rules}
 
 -- ---- a meaning of a canonical shape has at most one form
 

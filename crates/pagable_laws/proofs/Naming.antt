@@ -1,14 +1,14 @@
 -- A handle that stands for a reference goes on to stand for it, and so does a clone of it; a key that was set stays.
 use Rattle.pagable_laws.proofs.Words.{◌≡◌, ℕ, ◌+◌, ◌≤◌, true, List, [], ◌∷◌, ◌++◌, inl, inr, Some, None, Ok, refl, sym, ap, subst, ◌∙◌, arith, nat_tests, ArcRef, HandleNumber, type_of, is_loose_kind}
-use Rattle.pagable_laws.proofs.Words.{HandleRow, Owner, Mode, find_row, is_loose, fits_mode, has_key, Core, Cell, Todo, to_start, to_item, to_publish, to_release, to_fail, row_at, type_at, row_of}
+use Rattle.pagable_laws.proofs.Words.{HandleRow, Owner, find_row, is_loose, fits_mode, has_key, Core, Cell, Todo, to_start, to_item, to_publish, to_release, to_fail, row_at, type_at, row_of}
 use Rattle.pagable_laws.proofs.Words.{CloneCall, claim_fault, HandlesAreWhole, Change, StandsAt, KeyIsSet, Holds, AllHold, false, ◌⊎◌, Option, drop, length, OptionalDataKey, Pinning, Beginning, Claim}
 use Rattle.pagable_laws.proofs.Words.{PinStep, Took, Identity, NodeNumber, LoadNumber, above, if_there, any_mode, identity_of, owner_worker, Shelf, Slot, no_result, published, Written, Open, to_pin}
 use Rattle.pagable_laws.proofs.Words.{to_load, to_write, to_finish, to_set, Task, SameShelf, Seen, with_key, SetKeyCall, Site, GoesTo, first_todo, answer_after, Does, PinsAtOnce, PinsByLoad}
-use Rattle.pagable_laws.proofs.Words.{IsPublished, next_start, settle, give, give_known, with_wait, with_changed_slot, with_outcome, with_failed, Owns, WorkerAnswer, is_publishing, HasHandle}
-use Rattle.pagable_laws.proofs.Words.{nothing_felt, WorkerNumber, Tree, Event, EventReply, WorkerReply, Alike, Walking, World, Values, Ends, WorkerSteps, MachineState, world_of, IsMachineWhole}
+use Rattle.pagable_laws.proofs.Words.{IsPublished, next_start, settle, give, give_known, with_changed_slot, with_outcome, Owns, WorkerAnswer, is_publishing, HasHandle}
+use Rattle.pagable_laws.proofs.Words.{nothing_felt, WorkerNumber, Tree, Event, EventReply, WorkerReply, Walking, World, Values, WorkerSteps, MachineState, world_of, IsMachineWhole}
 use Rattle.pagable_laws.proofs.{Words.{IsIdle, ReadsItsTypes, KeepsOpen, KeysAreReady, KeysHeld, WorkFits, new_walking, step_of, TableNumber}, Goes.{Goes, Kept, found-number, fell, goes-quiet}}
 use Rattle.pagable_laws.proofs.{Goes.quiet-goes, Outlasting.{stands-new, among-found, NotValues, Stands, stands-whole, stands-alike, stands-fell}, Following.given-of, Answering.sets-key, Called.pins}
-use Rattle.pagable_laws.proofs.{Called.begins, Standing.{PutsSlot, puts-slot, put-cases, is-same}, ReadingSteps.{ends-quiet, event-goes}, Stepping.keys-same, SparingSteps.{Spares, event-spares}}
+use Rattle.pagable_laws.proofs.{Called.begins, Standing.{put-cases, is-same}, ReadingSteps.{ends-quiet, event-goes}, Stepping.keys-same, SparingSteps.{Spares, event-spares}}
 use Rattle.pagable_laws.proofs.{Trees.same_some, ReadingSteps.{works-free, walk-goes}, Coming.{updated-at, EventTurns, turns-keep}}
 use Rattle.pagable_world.specs.Runs.{Does as DoesMoment}
 use Rattle.std.proofs.Common.{rules}

@@ -1,5 +1,5 @@
 -- What a blob asks for next depends on no more of the references that were got than their kinds.
-use Rattle.pagable_laws.proofs.Words.{nat_tests, ◌≡◌, ℕ, suc, ◌+◌, Bool, List, [], ◌∷◌, ◌++◌, map, length, Result, Ok, Err, refl, ap, inl, arith, if◌then◌else◌, Option, Some}
+use Rattle.pagable_laws.proofs.Words.{nat_tests, ◌≡◌, ℕ, suc, ◌+◌, List, [], ◌∷◌, ◌++◌, map, length, Result, refl, ap, inl, arith, Option, Some}
 use Rattle.pagable_laws.proofs.Words.{None, slice_get, Error, Rest, read_typed, Answer, answer_at, handles_at, ArcRef, Kind, Blob, Shape, Types, Meaning, answer_of, answers_from, Next, reads, asks}
 use Rattle.pagable_laws.proofs.{Words.{is_faulty, next_by, next_of, some_of, after_kinds}, Related.{Out, both-given, both-refused, first-refused, OutLook, both-looked-up, both-not, read_par}}
 use Rattle.pagable_laws.proofs.Along.{Along, AllTwo, no-two, more-two}

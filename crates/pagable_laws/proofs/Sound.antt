@@ -3,14 +3,13 @@
 use Rattle.pagable_laws.proofs.Words.{nat_tests, ◌≡◌, ℕ, suc, ◌+◌, ◌≤◌, true, List, [], ◌∷◌, length, Option, Some, sym, ap, subst, ◌∙◌, inl, inr, if◌then◌else◌, arith, slice_get, blob_of}
 use Rattle.pagable_laws.proofs.Words.{Error, ArcRef, Kind, Identity, Blob, Meaning, Tree, type_of, is_eager, above, longest_path, identity_of, Shelf, Written, Frame, Values, Next, reads}
 use Rattle.pagable_laws.proofs.Words.{asks, is_faulty, next_in, need_at, need_of, is_broken, IsPublished, MachineState, world_of, FramesFit, ReadsItsTypes, AreKeysOf, WorkFits, Needs}
-use Rattle.pagable_laws.proofs.Words.{◌==◌, Bool, false, ◌⊎◌, None, Err, refl, Result, not, is_own_reading, RefusesFetch, Want, Owner, HandleNumber, LoadNumber, NodeNumber, Types}
-use Rattle.pagable_laws.proofs.Words.{is_loose_kind, if_there, any_mode, Core, OpenLoad, of_cell, Reading, Seen, IsLawful, earlier, where_so, refused_if, spent, handle_fault}
-use Rattle.pagable_laws.proofs.Words.{references_fault, load_fault, AreHandlesFull, Refused, FetchCall, birth_fault, AskCall, LazyCall, ask_fault, is_known, node_fault, root_fault}
-use Rattle.pagable_laws.proofs.Words.{needs_nested, needs_lazy, to_adopt, IsDecoded, RefusesBlob, RefusesNested, RefusesNode, RefusesRoot, IsOfKey, EndsClosed, Fails, reading_at}
-use Rattle.pagable_laws.proofs.Words.{IsMachineWhole, StandsFor, FitsRoot, of_caller, IsOfChance, IsPagedOutAs, IsLoadOfPagedOut, Ok, HandleRow, Mode, LoadAnswer, LoadReply, Event}
-use Rattle.pagable_laws.proofs.Words.{EventReply, or_else, row_fault, reference_fault, LoadSteps, Happens, IsOfHandles, LoadIsFaultless, FaultlessLaw, ◌<◌, Took, owner_worker, Todo}
-use Rattle.pagable_laws.proofs.Words.{Walking, named_fault, cell_fault, handles_of, after_kinds, LeadsDown, is-there, goes-down, ReadsTooDeep, IsReadingOf, of_worker, LoadIsDeep}
-use Rattle.pagable_laws.proofs.Words.{DeepLoadLaw}
+use Rattle.pagable_laws.proofs.Words.{◌==◌, Bool, false, ◌⊎◌, None, Err, refl, Result, not, Want, Owner, HandleNumber, LoadNumber, NodeNumber, Types, is_loose_kind, if_there, any_mode}
+use Rattle.pagable_laws.proofs.Words.{Core, OpenLoad, of_cell, Reading, Seen, IsLawful, earlier, where_so, refused_if, spent, handle_fault, references_fault, load_fault, AreHandlesFull}
+use Rattle.pagable_laws.proofs.Words.{Refused, FetchCall, birth_fault, AskCall, LazyCall, ask_fault, is_known, node_fault, root_fault, needs_nested, needs_lazy, to_adopt, IsDecoded}
+use Rattle.pagable_laws.proofs.Words.{RefusesBlob, RefusesNested, RefusesNode, RefusesRoot, IsOfKey, EndsClosed, Fails, reading_at, IsMachineWhole, StandsFor, FitsRoot, of_caller}
+use Rattle.pagable_laws.proofs.Words.{IsOfChance, IsPagedOutAs, IsLoadOfPagedOut, Ok, HandleRow, Mode, LoadAnswer, LoadReply, Event, EventReply, or_else, row_fault, reference_fault}
+use Rattle.pagable_laws.proofs.Words.{LoadSteps, Happens, IsOfHandles, LoadIsFaultless, FaultlessLaw, ◌<◌, Took, owner_worker, Todo, Walking, named_fault, cell_fault, handles_of}
+use Rattle.pagable_laws.proofs.Words.{after_kinds, LeadsDown, is-there, goes-down, ReadsTooDeep, IsReadingOf, of_worker, LoadIsDeep, DeepLoadLaw}
 use Rattle.pagable_laws.proofs.{Trees.same_some, Fitting.{asked, first-typed}, Heights.{AllLow, HeightsIn}}
 use Rattle.pagable_laws.proofs.{Apart.{IsFormOf, GotAsked, FramesAsked, NextOf, asks-known, all-read, next-known, all-got}, ReadingStepsKinds.{kinds_of, asks-by-kinds, faulty-by-kinds}}
 use Rattle.pagable_laws.proofs.{Sums.self-number, Taking.adopted-over, KnownSteps.{ReadingsAsked, eager-nested}, Chains.IsGoingOn, Deeply.along-first, ReadingSteps.reading-stands}

@@ -1,7 +1,6 @@
 -- Sums over the elements of a list, and what they count.
-use Rattle.pagable_laws.proofs.Words.{◌≡◌, ℕ, suc, zero, ◌+◌, ◌<◌, ◌≤◌, ◌==◌, Bool, true, List, [], ◌∷◌, sum_by, cond, refl, ap, ◌∙◌, arith, filter, length, nat_tests, sum_by-cons, one, Among}
+use Rattle.pagable_laws.proofs.Words.{◌≡◌, ℕ, suc, zero, ◌+◌, ◌<◌, ◌≤◌, ◌==◌, Bool, true, List, [], ◌∷◌, sum_by, refl, ap, ◌∙◌, arith, filter, length, nat_tests, sum_by-cons, one, Among}
 use Rattle.pagable_laws.proofs.Words.{times, PinsAreAFilter}
-use Rattle.std.proofs.{Common.rules}
 
 -- a number is itself by the test too
 pub self-number : (a : ℕ) → (a == a) ≡ true

@@ -1,5 +1,5 @@
 -- What a load has read fits after its step; and a node whose value is in memory gives its tree, as does what a load of a key answers.
-use Rattle.pagable_laws.proofs.Words.{◌≡◌, ℕ, zero, suc, ◌+◌, ◌<◌, ◌≤◌, true, List, [], ◌∷◌, Option, Some, None, inr, refl, sym, ap, ◌∙◌, subst, arith, is_some, nat_lt, nat_tests, HandleRow}
+use Rattle.pagable_laws.proofs.Words.{◌≡◌, ℕ, zero, suc, ◌+◌, ◌<◌, ◌≤◌, true, List, [], ◌∷◌, Option, Some, None, inr, refl, sym, ◌∙◌, subst, arith, is_some, nat_lt, nat_tests, HandleRow}
 use Rattle.pagable_laws.proofs.Words.{Owner, OptionalDataKey, ArcRef, Kind, HandleNumber, Blob, Types, Tree, ReadsTree, type_of, Among, one, is_at, is_pin, is_pinning, held, pins, Core, OpenLoad}
 use Rattle.pagable_laws.proofs.Words.{Frame, Reading, row_at, Values, IsLawful, IsReference, Next, need_at, to_adopt, ReadsRoot, ReadsNode, root_frame, nested_frame, with_got, PagerState}
 use Rattle.pagable_laws.proofs.Words.{HandlesAreWhole, IsWhole, WellFormed, NodeStands, ValueStands, ReadsNodeTree, FramesFit, SameTrees, Represents, ReadsItsTypes, GivesTree, ReadIsRight, Change}

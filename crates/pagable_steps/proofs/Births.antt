@@ -1,8 +1,8 @@
 -- A node that comes, with its value or without one, leaves a pager in step.
 use Rattle.std.proofs.Common.{rules}
-use Rattle.pagable_steps.proofs.Words.{◌≡◌, ℕ, ◌+◌, ◌<◌, ◌≤◌, ◌==◌, ◌&&◌, Bool, true, false, List, [], Option, Some, None, refl, ap, sym, subst, ◌∙◌, if◌then◌else◌, arith, nat_lt, is_some}
+use Rattle.pagable_steps.proofs.Words.{◌≡◌, ℕ, ◌+◌, ◌<◌, ◌≤◌, ◌==◌, ◌&&◌, Bool, true, false, List, [], Some, None, ap, sym, subst, ◌∙◌, if◌then◌else◌, arith, nat_lt, is_some}
 use Rattle.pagable_steps.proofs.Words.{nat_tests, OptionalDataKey, Owner, Mode, ArcRef, Among, one, times, if_there, is_owned_by, is_pinning, is_pin, is_at, owner_value, pins, is_in_memory, Core}
-use Rattle.pagable_steps.proofs.Words.{Cell, Values, key_at, is_here, type_at, IsReference, is_named_by, PagerState, IsWhole, WellFormed, self-number, same-number, sum-le, same_some, NotValues}
+use Rattle.pagable_steps.proofs.Words.{Values, key_at, is_here, type_at, IsReference, is_named_by, PagerState, IsWhole, WellFormed, self-number, sum-le, same_some, NotValues}
 use Rattle.pagable_steps.proofs.Coming.{Comes, no-cell, new-cell, other-cell, typed-on, pins-now, other-here, count-now, other-owned, other-bare, other-refers, new-refers, new-inside}
 use Rattle.pagable_steps.proofs.{SparedParts.owns, SparedParts.owns_any, SparedHandles.pinned-here, SparedParts.and-false, SparedParts.sum-mapped, Words.not-owned}
 

@@ -1,9 +1,9 @@
 -- A node comes with a handle, and the handles that its value names move to it: what stays of other nodes.
 use Rattle.std.proofs.Common.{rules}
-use Rattle.pagable_steps.proofs.Words.{◌≡◌, ℕ, ◌+◌, ◌≤◌, ◌==◌, ◌&&◌, Bool, true, false, List, [], ◌∷◌, refl, ap, sym, ◌∙◌, if◌then◌else◌, arith, Option, Some, None, is_some, nat_tests, sum_by_push}
-use Rattle.pagable_steps.proofs.Words.{OptionalDataKey, HandleRow, Owner, Mode, ArcRef, SameAt, Among, one, times, if_there, or_else, find_row, is_handle, is_owned_by, owner_value, is_pin}
-use Rattle.pagable_steps.proofs.Words.{is_pinning, pins, is_in_memory, Core, Cell, type_at, key_at, is_here, references_fault, IsReference, row_of, is_named_by, with_node, next_node, with_handle}
-use Rattle.pagable_steps.proofs.{Words.{IsWhole, self-number, same-number, good, NotValues, not-owned, find-both, among-found, fits_mode, found-number}, Naming.{among-named, after, given}}
+use Rattle.pagable_steps.proofs.Words.{◌≡◌, ℕ, ◌+◌, ◌==◌, ◌&&◌, Bool, true, false, List, [], refl, ap, sym, ◌∙◌, if◌then◌else◌, arith, Some, None, nat_tests, sum_by_push}
+use Rattle.pagable_steps.proofs.Words.{OptionalDataKey, HandleRow, Owner, Mode, ArcRef, SameAt, Among, one, times, or_else, find_row, is_handle, is_owned_by, owner_value, is_pin}
+use Rattle.pagable_steps.proofs.Words.{is_pinning, pins, Core, type_at, is_here, references_fault, IsReference, row_of, is_named_by, with_node, next_node, with_handle}
+use Rattle.pagable_steps.proofs.{Words.{IsWhole, self-number, good, NotValues, not-owned, find-both, among-found, fits_mode, found-number}, Naming.{among-named, after, given}}
 use Rattle.pagable_steps.proofs.{Naming.{given-found, given-pins, unnamed, given-owned, given-bare, given-inside}, SparedParts.{owns, owns_any}, SparedParts.{push-none, and-false}}
 
 -- A node of this type and key came, with a handle of this mode, of the one who owns what its value names.

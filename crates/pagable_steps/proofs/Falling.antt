@@ -1,7 +1,7 @@
 -- Values go with a cascade: where they stand in the world that a call has made directly, those that are left stand afterwards.
-use Rattle.pagable_steps.proofs.Words.{◌≡◌, ℕ, ◌<◌, ◌≤◌, ◌==◌, ◌&&◌, Bool, true, false, ◌++◌, refl, ap, sym, subst, ◌∙◌, if◌then◌else◌, arith, Option, Some, None, is_some, not, nat_lt, and_parts}
+use Rattle.pagable_steps.proofs.Words.{◌≡◌, ℕ, ◌<◌, ◌≤◌, ◌==◌, ◌&&◌, Bool, true, false, refl, ap, sym, subst, ◌∙◌, if◌then◌else◌, arith, Option, Some, None, is_some, not, nat_lt, and_parts}
 use Rattle.pagable_steps.proofs.Words.{among-found}
-use Rattle.pagable_steps.proofs.Words.{nat_tests, ArcRef, HandleRow, Owner, NodeNumber, Among, one, times, if_there, or_else, find_row, is_handle, is_owner, is_owned_by, owner_value, held, pins}
+use Rattle.pagable_steps.proofs.Words.{nat_tests, ArcRef, HandleRow, Owner, Among, one, times, if_there, or_else, find_row, is_handle, is_owner, is_owned_by, owner_value, held, pins}
 use Rattle.pagable_steps.proofs.Words.{Core, Cell, Values, type_at, is_here, is_outside, owned_outside, loses_value, is_keyed, left_rows, Falls, IsReference, PagerState, IsWhole, WellFormed}
 use Rattle.pagable_steps.proofs.Words.{self-number, sum-le, counted, found-number, found-kept, find-both, row-held, fell-away}
 use Rattle.pagable_steps.proofs.{SparedParts.owns, SparedParts.owns_any, SparedParts.and-false, Staying.owned-some, Staying.keeps, Staying.sum-same, Staying.counts-left, Staying.loses}

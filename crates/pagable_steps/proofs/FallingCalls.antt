@@ -1,10 +1,10 @@
 -- Calls by which handles go, and values with them, leave a pager in step.
 use Rattle.std.proofs.Common.{rules}
-use Rattle.pagable_steps.proofs.Words.{◌≡◌, ℕ, ◌<◌, ◌==◌, ◌&&◌, ◌||◌, Bool, true, false, List, [], ◌∷◌, Option, Some, None, Ok, Err, inl, inr, refl, ap, sym, ◌∙◌, arith, Result, not, and_parts}
-use Rattle.pagable_steps.proofs.Words.{nat_tests, Error, HandleRow, Owner, ArcRef, Kind, HandleNumber, LoadNumber, NodeNumber, is_in, one, times, if_there, find_row, is_owner, is_owned_by}
-use Rattle.pagable_steps.proofs.Words.{owner_worker, is_at, Core, Values, Alike, row_at, usable, FallsAnyhow, refused_if, named_fault, is_listed, UnpinCall, ReleaseCall, SetKeyCall, ScheduleCall}
+use Rattle.pagable_steps.proofs.Words.{◌≡◌, ℕ, ◌==◌, ◌&&◌, ◌||◌, Bool, true, false, List, [], ◌∷◌, Option, Some, None, Ok, Err, inl, inr, refl, ap, sym, ◌∙◌, arith, Result, not, and_parts}
+use Rattle.pagable_steps.proofs.Words.{nat_tests, Error, HandleRow, Owner, ArcRef, Kind, HandleNumber, LoadNumber, NodeNumber, is_in, if_there, find_row, is_owner, is_owned_by}
+use Rattle.pagable_steps.proofs.Words.{owner_worker, is_at, Core, Values, Alike, row_at, usable, FallsAnyhow, refused_if, named_fault, UnpinCall, ReleaseCall, SetKeyCall, ScheduleCall}
 use Rattle.pagable_steps.proofs.Words.{OfferCall, CloseCall, is_owned_in, numbers_of, Adopts, EndCall, HandOverCall, DropCall, LoadCloses, is_workers_at, is_load_of, WorkerEnds, PagerState, IsWhole}
-use Rattle.pagable_steps.proofs.{Words.{WellFormed, same-number, one-true, counted, same-owner, good, NotValues, neither}, Keeping.{AreFree, Leaves, found-whole, fell, stayed, spares-keeps}}
+use Rattle.pagable_steps.proofs.{Words.{WellFormed, same-number, counted, same-owner, good, NotValues, neither}, Keeping.{AreFree, Leaves, found-whole, fell, stayed, spares-keeps}}
 use Rattle.pagable_steps.proofs.{Keeping.{unpin-keeps, keyed-keeps}, Naming.named-owner, SparedParts.Spares, SparedLists.{own-free, listed-free, schedules, offers, spares-known}, SparedLoads.not-load}
 use Rattle.pagable_steps.proofs.SparedParts.{spares-then, spares-same, spares-alike, spares-moved}
 

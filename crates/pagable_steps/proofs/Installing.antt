@@ -1,9 +1,9 @@
 -- A load of a cell ends with a pin: where the cell has no value, what was read comes into it; else it is dropped. What the load still owns goes.
 use Rattle.std.proofs.{Common.rules, lemmas.Bool.false_from_ne_true}
-use Rattle.pagable_steps.proofs.Words.{◌≡◌, ℕ, ◌<◌, ◌==◌, ◌&&◌, Bool, true, false, refl, ap, sym, subst, ◌∙◌, inl, inr, if◌then◌else◌, arith, Option, Some, None, is_some, not, nat_lt, nat_tests}
-use Rattle.pagable_steps.proofs.Words.{HandleRow, Owner, Mode, HandleNumber, LoadNumber, NodeNumber, if_there, updated, find_row, is_handle, is_owner, is_owned_by, owner_value, is_loose}
-use Rattle.pagable_steps.proofs.Words.{is_in_memory, held, pins, Core, Cell, Values, row_at, type_at, key_at, is_here, Owns, is_named_by, with_mode, without_load, is_owned_in, with_pin, MayEnd}
-use Rattle.pagable_steps.proofs.Words.{Installs, PagerState, MayOwnLoad, IsWhole, WellFormed, self-number, NotLoads, found-number, row-held, row-pins, NotValues, Stands, among-found, found-after}
+use Rattle.pagable_steps.proofs.Words.{◌≡◌, ℕ, ◌<◌, ◌==◌, ◌&&◌, Bool, true, false, refl, ap, sym, subst, ◌∙◌, inl, inr, if◌then◌else◌, arith, Option, Some, None, is_some, not, nat_tests}
+use Rattle.pagable_steps.proofs.Words.{HandleRow, Owner, Mode, HandleNumber, LoadNumber, NodeNumber, if_there, updated, find_row, is_handle, owner_value, is_loose}
+use Rattle.pagable_steps.proofs.Words.{is_in_memory, pins, Core, Cell, Values, row_at, type_at, key_at, is_here, Owns, is_named_by, with_mode, without_load, is_owned_in, with_pin, MayEnd}
+use Rattle.pagable_steps.proofs.Words.{Installs, PagerState, IsWhole, WellFormed, self-number, NotLoads, found-number, row-held, row-pins, NotValues, Stands, among-found, found-after}
 use Rattle.pagable_steps.proofs.Keeping.{OwnsAlike, Keeps, owns-then, spares-owned, sits-on, fell, spares-keeps, mode-owned, mode-others}
 use Rattle.pagable_steps.proofs.{Falling.Sits, Falling.Sweeps, Falling.fell-from, FallingCalls.load-free, SparedParts.owns, SparedParts.Spares, SparedHandles.pinned-here, SparedHandles.turned}
 use Rattle.pagable_steps.proofs.{SparedParts.and-false, SparedParts.spares-then, SparedParts.spares-same, SparedParts.spares-handle, Words.stands-whole, Words.stands-changed}

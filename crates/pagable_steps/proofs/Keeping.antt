@@ -1,8 +1,8 @@
 -- What a call does directly before handles go: nodes and values stay as they are, but that a node may get a key and lose a pin.
 use Rattle.std.proofs.{Common.rules, lemmas.Bool.false_from_ne_true}
-use Rattle.pagable_steps.proofs.Words.{◌≡◌, ℕ, suc, zero, ◌<◌, ◌≤◌, ◌==◌, ◌&&◌, ◌||◌, Bool, true, false, List, refl, ap, sym, subst, ◌∙◌, if◌then◌else◌, arith, Option, Some, None, is_some, not}
-use Rattle.pagable_steps.proofs.Words.{nat_lt, sum_by, and_parts, OptionalDataKey, HandleRow, Owner, Mode, HandleNumber, NodeNumber, Among, one, if_there, find_row, is_handle, is_owner}
-use Rattle.pagable_steps.proofs.Words.{is_owned_by, owner_value, is_pin, is_pinning, pins, is_in_memory, has_key, Core, Cell, Values, type_at, key_at, is_here, Falls, Owns, with_mode, with_key}
+use Rattle.pagable_steps.proofs.Words.{◌≡◌, ℕ, suc, zero, ◌<◌, ◌≤◌, ◌==◌, ◌&&◌, Bool, true, false, List, refl, ap, sym, subst, ◌∙◌, if◌then◌else◌, arith, Option, Some, None, is_some}
+use Rattle.pagable_steps.proofs.Words.{sum_by, and_parts, HandleRow, Owner, Mode, HandleNumber, NodeNumber, Among, one, if_there, find_row, is_handle, is_owner}
+use Rattle.pagable_steps.proofs.Words.{is_owned_by, owner_value, is_pin, pins, Core, Cell, Values, type_at, key_at, is_here, Falls, Owns, with_mode, with_key}
 use Rattle.pagable_steps.proofs.Words.{PagerState, HandlesAreWhole, IsWhole, WellFormed, same_some, same-number, self-number, one-true, sum-le, counted, found-number, same-owner, NotValues}
 use Rattle.pagable_steps.proofs.{Falling.Sits, Falling.Sweeps, Falling.fell-from, SparedParts.owns, SparedParts.owns_any, SparedParts.Spares, SparedParts.sum-mapped, SparedParts.here-by}
 use Rattle.pagable_steps.proofs.{Staying.owned-some, Words.nat_tests, Words.Stands, Words.among-found, Words.none-found, Words.once, Words.found-after, Words.stands-whole}

@@ -3,8 +3,7 @@ use Rattle.pagable_steps.proofs.Words.{◌≡◌, ℕ, ◌<◌, ◌==◌, ◌&&�
 use Rattle.pagable_steps.proofs.Words.{Owner, ArcRef, LoadNumber, NodeNumber, Among, one, times, updated, find_row, is_handle, is_owned_by, owner_value, pins, is_in_memory, Core, Values, type_at}
 use Rattle.pagable_steps.proofs.Words.{key_at, is_here, references_fault, IsReference, moved, is_named_by, without_load, PagerState, WellFormed, same_some, same-number, one-true, counted}
 use Rattle.pagable_steps.proofs.{Words.{found-number, same-owner, good, among-found, among-changed, after-number}, Naming.{among-named, named-owner, given-found, given-pins, unnamed, given-owned}}
-use Rattle.pagable_steps.proofs.{Naming.{given-bare, given-inside}, Falling.Sits, Keeping.{found-whole, one-value, valued-there}, SparedParts.{owns, owns_any}, SparedLoads.not-load}
-use Rattle.pagable_steps.proofs.SparedParts.{and-false}
+use Rattle.pagable_steps.proofs.{Naming.{given-bare, given-inside}, Falling.Sits, Keeping.{found-whole, one-value}, SparedParts.{owns, owns_any}, SparedLoads.not-load}
 
 module _ {N E : Type 0} {v : Values N} {s : PagerState N E} (is : WellFormed v s) (l : LoadNumber) (node : NodeNumber) (x : N)
     (fine : references_fault s.core (Owner.Load l) [] (v.references x) ≡ None) (typed : type_at s.core node.0 ≡ Some (v.node_type x)) (away : is_here s.core node.0 ≡ false) where

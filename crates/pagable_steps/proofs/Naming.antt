@@ -1,8 +1,8 @@
 -- References that nothing is to be said against name each handle once, and a value to which these move owns them so.
-use Rattle.pagable_steps.proofs.Words.{◌≡◌, ℕ, suc, zero, ◌+◌, ◌<◌, ◌==◌, ◌||◌, Bool, true, false, List, [], ◌∷◌, get_or, length, refl, ap, subst, ◌∙◌, if◌then◌else◌, arith, Option, Some, None}
-use Rattle.pagable_steps.proofs.Words.{not, nat_tests, sum_by-cons, get_or_from_slice_get, slice_get_within, Error, HandleRow, Owner, ArcRef, Among, is_in, one, times, if_there, or_else}
-use Rattle.pagable_steps.proofs.Words.{find_row, is_handle, is_owner, Core, row_at, refused_if, row_fault, reference_fault, references_fault, is_named_by, IsHandleBefore, self-number}
-use Rattle.pagable_steps.proofs.Words.{◌≤◌, ◌&&◌, sym, sum_by, pins, is_pin, is_owned_by, owner_value, moved, IsWhole, AreGood, good, named-among, NotValues, not-owned, found-after, stands-whole}
+use Rattle.pagable_steps.proofs.Words.{◌≡◌, ℕ, suc, ◌+◌, ◌<◌, ◌==◌, ◌||◌, Bool, true, false, List, [], ◌∷◌, get_or, length, refl, ap, subst, ◌∙◌, if◌then◌else◌, arith, Some, None}
+use Rattle.pagable_steps.proofs.Words.{nat_tests, sum_by-cons, get_or_from_slice_get, slice_get_within, HandleRow, Owner, ArcRef, Among, is_in, one, times}
+use Rattle.pagable_steps.proofs.Words.{find_row, is_handle, Core, reference_fault, references_fault, is_named_by, IsHandleBefore, self-number}
+use Rattle.pagable_steps.proofs.Words.{◌≤◌, ◌&&◌, sym, sum_by, pins, is_owned_by, owner_value, moved, IsWhole, AreGood, good, named-among, NotValues, not-owned, found-after, stands-whole}
 use Rattle.pagable_steps.proofs.Words.{at-most-sum}
 use Rattle.pagable_steps.proofs.{SparedParts.owns, SparedParts.owns_any, SparedParts.sum-mapped, SparedParts.and-false, Words.same-number, Words.sum-zero, Words.or-none}
 use Rattle.std.{specs.List.AllPairs, proofs.lemmas.Bool.false_from_ne_true}

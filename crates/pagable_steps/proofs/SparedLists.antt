@@ -1,8 +1,8 @@
 -- Calls on the list, the cache and the storage, by which no value comes or goes.
 use Rattle.pagable_steps.proofs.Words.{◌≡◌, ℕ, ◌+◌, ◌<◌, ◌≤◌, ◌==◌, ◌&&◌, ◌||◌, ◌%◌, Bool, true, false, Option, Some, None, Ok, Err, inl, inr, refl, ap, sym, subst, ◌∙◌, if◌then◌else◌, arith, Result}
-use Rattle.pagable_steps.proofs.Words.{not, nat_lt, is_some, slice_get, and_parts, nat_tests, OptionalDataKey, HandleRow, Owner, Mode, Error, Blob, Kind, HandleNumber, WorkerNumber, Among, one}
-use Rattle.pagable_steps.proofs.Words.{if_there, is_shared_kind, is_loose_kind, is_pinned_kind, is_handle, is_at, is_owner, is_owned_by, is_pinning, is_shared, is_share, mode_of, held, pins}
-use Rattle.pagable_steps.proofs.Words.{is_in_memory, Core, Cell, Alike, usable, is_here, only_handle, Owns, with_known, ScheduleCall, TakeCall, ReserveCall, RecallCall, OfferCall, ClearCall, Asked}
+use Rattle.pagable_steps.proofs.Words.{not, nat_lt, is_some, slice_get, and_parts, nat_tests, HandleRow, Owner, Mode, Error, Blob, Kind, HandleNumber, WorkerNumber, Among, one}
+use Rattle.pagable_steps.proofs.Words.{is_shared_kind, is_loose_kind, is_pinned_kind, is_handle, is_at, is_owner, is_owned_by, is_pinning, is_shared, is_share, mode_of, held, pins}
+use Rattle.pagable_steps.proofs.Words.{Core, Alike, usable, is_here, only_handle, Owns, with_known, ScheduleCall, TakeCall, ReserveCall, RecallCall, OfferCall, ClearCall, Asked}
 use Rattle.pagable_steps.proofs.Words.{FetchCall, StoreCall, with_worker, with_entry_taken, IsWhole, self-number, same-number, at-most-sum, counted, one-true, NotValues, stands-whole, once}
 use Rattle.pagable_steps.proofs.{Words.{IsEntered, entered-of}, SparedParts.Spares, SparedParts.{spares-then, spares-same, spares-alike, spares-handle, spares-moved}}
 

@@ -1,6 +1,6 @@
 -- Calls on loads, by which no value comes or goes.
-use Rattle.pagable_steps.proofs.Words.{◌≡◌, ℕ, true, false, Ok, Err, inl, inr, Result, Beginning, Want, HandleRow, Owner, Mode, Error, Kind, HandleNumber, LoadNumber, Core, OpenLoad, BeginCall}
-use Rattle.pagable_steps.proofs.{Words.{BeginKeyCall, GetsKnown, Given, from_cache, from_store, AskCall, AsksInVain, IsWhole, NotValues, arith, nat_tests}, SparedParts.Spares, SparedLists.asked}
+use Rattle.pagable_steps.proofs.Words.{◌≡◌, ℕ, true, false, Ok, Err, Result, Beginning, Want, HandleRow, Owner, Mode, Error, Kind, HandleNumber, LoadNumber, Core, BeginCall}
+use Rattle.pagable_steps.proofs.{Words.{BeginKeyCall, GetsKnown, Given, from_cache, AskCall, IsWhole, NotValues, arith, nat_tests}, SparedParts.Spares, SparedLists.asked}
 use Rattle.pagable_steps.proofs.{SparedLists.spares-known, SparedParts.{spares-then, spares-same, spares-alike, spares-handle}}
 
 pub not-load : (l : LoadNumber) → NotValues (Owner.Load l)

@@ -1,7 +1,7 @@
 -- Steps by which no value comes or goes, and their parts: one more handle, a handle in another mode, handles that move.
-use Rattle.pagable_steps.proofs.Words.{◌≡◌, ℕ, suc, zero, ◌+◌, ◌≤◌, ◌==◌, ◌&&◌, ◌||◌, Bool, true, false, List, [], ◌∷◌, ◌++◌, sum_by, map, refl, ap, sym, subst, ◌∙◌, if◌then◌else◌, arith, Some, not}
-use Rattle.pagable_steps.proofs.Words.{nat_lt, and_parts, nat_tests, sum_by-cons, sum_by_push, OptionalDataKey, HandleRow, Owner, Mode, HandleNumber, NodeNumber, SameAt, Among, changed, one}
-use Rattle.pagable_steps.proofs.Words.{if_there, or_else, find_row, is_handle, is_owned_by, owner_value, is_pin, is_pinning, pins, is_in_memory, has_key, Core, Cell, Alike, key_at, is_here, row_of}
+use Rattle.pagable_steps.proofs.Words.{◌≡◌, ℕ, suc, ◌+◌, ◌≤◌, ◌==◌, ◌&&◌, Bool, true, false, List, [], ◌∷◌, ◌++◌, sum_by, map, refl, ap, sym, subst, ◌∙◌, if◌then◌else◌, arith, Some}
+use Rattle.pagable_steps.proofs.Words.{nat_tests, sum_by-cons, sum_by_push, OptionalDataKey, HandleRow, Owner, Mode, HandleNumber, NodeNumber, SameAt, Among, changed, one}
+use Rattle.pagable_steps.proofs.Words.{or_else, find_row, is_handle, is_owned_by, owner_value, is_pin, is_pinning, pins, is_in_memory, Core, Alike, key_at, is_here, row_of}
 use Rattle.pagable_steps.proofs.{Words.{with_handle, with_mode, moved, same-number, sum-le, NotValues, not-owned, find-both, found-after, among-found, times}}
 
 -- how often the value of the node owns the handle, and how many it owns

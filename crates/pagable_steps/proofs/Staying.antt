@@ -2,8 +2,8 @@
 use Rattle.std.proofs.{Common.rules, lemmas.Bool.false_from_ne_true}
 use Rattle.pagable_steps.proofs.Words.{◌≡◌, ℕ, ◌+◌, ◌<◌, ◌≤◌, ◌==◌, ◌&&◌, Bool, true, false, List, [], ◌∷◌, refl, ap, sym, subst, ◌∙◌, if◌then◌else◌, arith, Some, None, is_some, not, nat_lt}
 use Rattle.pagable_steps.proofs.Words.{nat_eq, cond, sum_by, and_parts, nat_tests, sum_by-cons, sum_by-append, OptionalDataKey, HandleRow, Owner, Mode, Among, one, times, if_there, is_handle}
-use Rattle.pagable_steps.proofs.Words.{is_at, is_pin, is_owned_by, owner_value, held, has_key, is_in_memory, Core, Cell, is_here, is_outside, held_outside, pins_outside, owned_outside}
-use Rattle.pagable_steps.proofs.Words.{loses_value, IsClosed, IsWithin, IsLeast, AreNewEntries, is_keyed, left_rows, Falls, same-number, self-number, one-true, sum-le, sum-zero, at-most-sum}
+use Rattle.pagable_steps.proofs.Words.{is_at, is_pin, is_owned_by, owner_value, held, has_key, is_in_memory, Core, Cell, is_here, is_outside, held_outside, pins_outside}
+use Rattle.pagable_steps.proofs.Words.{loses_value, IsLeast, AreNewEntries, is_keyed, left_rows, Falls, same-number, self-number, one-true, sum-le, at-most-sum}
 use Rattle.pagable_steps.proofs.{SparedParts.owns, SparedParts.and-false, Words.counted, Words.outlast}
 
 above : (n : ℕ) → nat_lt 0 n ≡ true → 0 < n
