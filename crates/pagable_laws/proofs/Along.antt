@@ -259,10 +259,12 @@ module _ {A B : Type 0} {F : Type 0} {R : A → B → Type 0} {kind_of : A → �
         rw (q.whole, long) (then_to (entries_form-along h q.each) (λ refs f. hash-map-form left s t q.items b refs (rw long at le) (differ-two q.each up) f))
     form-along (sorted-set-form left o s ms b k le up h) a =
         let q = sequence-along ms a in let long = length-two q.each in
-        rw (q.whole, long) (then_to (forms-along h q.each) (λ refs f. sorted-set-form left o s q.items b refs (rw long at le) ((apart-two {V = Along F R} _ _ (λ x x2 y y2 v w r. rw (← plain-along v, ← plain-along w) r) q.each up)) f))
+        rw (q.whole, long) (then_to (forms-along h q.each) (λ refs f. sorted-set-form left o s q.items b refs (rw long at le)
+        ((apart-two {V = Along F R} _ _ (λ x x2 y y2 v w r. rw (← plain-along v, ← plain-along w) r) q.each up)) f))
     form-along (placed-set-form left s ms b k le up h) a =
         let q = sequence-along ms a in let long = length-two q.each in
-        rw (q.whole, long) (then_to (forms-along h q.each) (λ refs f. placed-set-form left s q.items b refs (rw long at le) ((apart-two {V = Along F R} _ _ (λ x x2 y y2 v w r. rw (← plain-along v, ← plain-along w) r) q.each up)) f))
+        rw (q.whole, long) (then_to (forms-along h q.each) (λ refs f. placed-set-form left s q.items b refs (rw long at le)
+        ((apart-two {V = Along F R} _ _ (λ x x2 y y2 v w r. rw (← plain-along v, ← plain-along w) r) q.each up)) f))
     form-along (static-form left registry i m lt e) a = rw (lifted-same m a) (to_nothing (static-form left registry i m lt e))
     form-along (tagged-form left written known body tag m b k u le h) (pair-along x y c d (text-along t) a) =
         then_to (form-along h a) (λ refs f. tagged-form left written known body tag d b refs u le f)

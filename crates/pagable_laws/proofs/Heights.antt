@@ -167,7 +167,8 @@ module _ (shelf : Shelf) where
   first-more h k [] [] r more key le e low new = absurd (cc)
   first-more h k [] (x ∷ ks) r more key le e low new = absurd low
   first-more h k (y ∷ rs) [] r more key le e low new = let same : r ≡ y = cc in (subst (λ (z : ArcRef). IsLow shelf k z) same new, tt)
-  first-more h k (y ∷ rs) (x ∷ ks) r more key le e (one, low) new = ((record { key = one.key; below = one.below; known = one.known; within = let w = one.within in omega arith }), first-more h k rs ks r more key le e low new)
+  first-more h k (y ∷ rs) (x ∷ ks) r more key le e (one, low) new =
+      ((record { key = one.key; below = one.below; known = one.known; within = let w = one.within in omega arith }), first-more h k rs ks r more key le e low new)
 
   -- all are low, once all keys are there
   pub all-low : (h : ℕ) (rs : List ArcRef) (ks : List ℕ) → length ks ≡ length rs → FirstLow shelf h rs ks → AllLow shelf h rs

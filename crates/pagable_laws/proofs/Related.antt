@@ -506,7 +506,9 @@ module _ {A B C D : Type 0} {E : Error → Type 0} {F : Type 0} {S : A → B →
       with_par h (hash_map s s2) t =
           likewise_par (seen_par of_hash_map of_hash_map (λ es fs r. sorted-two code_order r)
           (counted_par (entry_par (with_par h s (over (λ p. p.0) (λ n d l. l.0) t)) (with_par h s2 (over (λ p. p.1) (λ n d l. l.1) t))))) (λ i. refl) (λ i. refl)
-      with_par h (sorted_set order s) t = likewise_par (seen_par _ _ (λ ms ns r. (sequence-two (put_all-two {V = Along F R} _ _ (λ acc acc2 e f g k. put_sorted_item-two order g k) [] [] no-two r))) (counted_par (with_par h s (over (λ p. p) (λ n d l. l) t)))) (λ i. refl) (λ i. refl)
+      with_par h (sorted_set order s) t = likewise_par (seen_par _ _
+          (λ ms ns r. (sequence-two (put_all-two {V = Along F R} _ _ (λ acc acc2 e f g k. put_sorted_item-two order g k) [] [] no-two r)))
+          (counted_par (with_par h s (over (λ p. p) (λ n d l. l) t)))) (λ i. refl) (λ i. refl)
       with_par h (placed_set s) t = likewise_par (seen_par _ _ (λ ms ns r. placed_items-two r) (counted_par (with_par h s (over (λ p. p) (λ n d l. l) t)))) (λ i. refl) (λ i. refl)
       with_par h (static_value registry) t =
           then_same (λ i. refl) (λ i. refl) (bytes_same (unsigned_at w32) (unsigned_tame w32)) (λ n. registered_par registry (grind (arith, nat_tests, here)) n (registered registry n) refl)
