@@ -1,7 +1,7 @@
 -- A form goes along: where each reference is replaced by one of the same kind, the bytes are a form of what results.
 use Rattle.pagable_laws.proofs.Words.{nat_tests, ◌≡◌, ℕ, ℤ, Bool, true, false, List, [], ◌∷◌, ◌++◌, length, ◌⊎◌, inl, inr, refl, sym, ap, ◌∙◌, arith, Ordering, is_eq-slice_cmp, Meaning, number}
 use Rattle.pagable_laws.proofs.Words.{integer, text, pattern, none, pair, variant, reference, followed, sequence, plain, lifted, rename, Entry, KeyOrder, ordered, same_key, code, code_order}
-use Rattle.pagable_laws.proofs.Words.{text_order, put_all, put_sorted, Apart, AllAfter, Ascends, ItemsAscend, Differ, ItemsDiffer, of_entries, of_hash_map, Shape, Form, Forms, Entries}
+use Rattle.pagable_laws.proofs.Words.{text_order, put_all, put_sorted, Apart, AllAfter, Ascends, Differ, of_entries, of_hash_map, Shape, Form, Forms, Entries}
 use Rattle.pagable_laws.proofs.Words.{nothing-form, unsigned-form, signed-form, flag-form, text-form, letter-form, duration-form, pattern-form, none-form, some-form, err-form, ok-form, list-form}
 use Rattle.pagable_laws.proofs.Words.{run-form, array-form, both-form, sorted-map-form, placed-map-form, hash-map-form, sorted-set-form, placed-set-form, static-form, tagged-form, case-form}
 use Rattle.pagable_laws.proofs.Words.{reference-form, nested-form, json-null-form, json-flag-form, json-number-form, json-text-form, json-array-form, json-object-form, no-forms, more-forms}
@@ -108,12 +108,6 @@ module _ {A B : Type 0} {F : Type 0} {R : A → B → Type 0} where
 abbrev pub apart : {A : Type 0} → Entry A → Entry A → Type 0
 apart e f = same_key e.0 f.0 ≡ false
 
-not_equal : {A : Type 0} (a b : Meaning A) → same_key a b ≡ false → ordered code_order a b ≡ Ordering.Equal → ⊥
-not_equal a b h e =
-    let test : eq_by_cmp code_order (plain a) (plain b) ≡ true = rw e refl in
-    let same = is_eq-slice_cmp (code (plain a)) (code (plain b)) in
-    cc
-
 -- what differs from all that is there, and from what is put in, differs from all that is there then
 after_put : {A : Type 0} (x e : Entry A) (acc : List (Entry A)) → After apart x acc → apart x e → After apart x (put_sorted code_order acc e)
 unfolding After
@@ -154,7 +148,7 @@ module _ {A B : Type 0} {F : Type 0} {R : A → B → Type 0} where
           → {fs : List (Entry B)} → AllTwo (EntryAlong F R) (match_ordering o (e ∷ x ∷ acc) ((x.0, e.1) ∷ acc) (x ∷ put_sorted code_order acc e)) fs → Unput F R (x ∷ acc) e fs
       at back Ordering.Less q (more-two u f us vs r (more-two w y ws ys s g)) =
           record { before = y ∷ ys; entry = f; each = more-two x y acc ys s g; one = r; put = rw (same_order r s q) refl }
-      at back Ordering.Equal q b = absurd (not_equal e.0 x.0 h.0 q)
+      at back Ordering.Equal q b = absurd ((let test : eq_by_cmp code_order (plain e.0) (plain x.0) ≡ true = rw q refl in let same = is_eq-slice_cmp (code (plain e.0)) (code (plain x.0)) in cc))
       at back Ordering.Greater q (more-two u y us ys s g) =
           let rest = back ys g in
           record {
@@ -212,12 +206,6 @@ module _ {A B : Type 0} {F : Type 0} {R : A → B → Type 0} where
   pub differ-two : {es : List (Entry A)} {fs : List (Entry B)} → AllTwo (EntryAlong F R) es fs → Differ es → Differ fs
   differ-two h a = apart-two _ _ (λ x x2 y y2 v w r. rw (← plain-along v.key, ← plain-along w.key) r) h a
 
-  pub items_ascend-two : (order : KeyOrder) {ms : List (Meaning A)} {ns : List (Meaning B)} → AllTwo (Along F R) ms ns → ItemsAscend order ms → ItemsAscend order ns
-  items_ascend-two order h a = apart-two {V = Along F R} _ _ (λ x x2 y y2 v w r. rw (← plain-along v, ← plain-along w) r) h a
-
-  pub items_differ-two : {ms : List (Meaning A)} {ns : List (Meaning B)} → AllTwo (Along F R) ms ns → ItemsDiffer ms → ItemsDiffer ns
-  items_differ-two h a = apart-two {V = Along F R} _ _ (λ x x2 y y2 v w r. rw (← plain-along v, ← plain-along w) r) h a
-
   flag-along : (b : Bool) {n : Meaning B} → Along F R (meanings.flag b) n → n ≡ meanings.flag b
   flag-along x0 x1 = grind (arith, nat_tests)
 
@@ -271,10 +259,12 @@ module _ {A B : Type 0} {F : Type 0} {R : A → B → Type 0} {kind_of : A → �
         rw (q.whole, long) (then_to (entries_form-along h q.each) (λ refs f. hash-map-form left s t q.items b refs (rw long at le) (differ-two q.each up) f))
     form-along (sorted-set-form left o s ms b k le up h) a =
         let q = sequence-along ms a in let long = length-two q.each in
-        rw (q.whole, long) (then_to (forms-along h q.each) (λ refs f. sorted-set-form left o s q.items b refs (rw long at le) (items_ascend-two o q.each up) f))
+        rw (q.whole, long) (then_to (forms-along h q.each) (λ refs f. sorted-set-form left o s q.items b refs (rw long at le)
+        ((apart-two {V = Along F R} _ _ (λ x x2 y y2 v w r. rw (← plain-along v, ← plain-along w) r) q.each up)) f))
     form-along (placed-set-form left s ms b k le up h) a =
         let q = sequence-along ms a in let long = length-two q.each in
-        rw (q.whole, long) (then_to (forms-along h q.each) (λ refs f. placed-set-form left s q.items b refs (rw long at le) (items_differ-two q.each up) f))
+        rw (q.whole, long) (then_to (forms-along h q.each) (λ refs f. placed-set-form left s q.items b refs (rw long at le)
+        ((apart-two {V = Along F R} _ _ (λ x x2 y y2 v w r. rw (← plain-along v, ← plain-along w) r) q.each up)) f))
     form-along (static-form left registry i m lt e) a = rw (lifted-same m a) (to_nothing (static-form left registry i m lt e))
     form-along (tagged-form left written known body tag m b k u le h) (pair-along x y c d (text-along t) a) =
         then_to (form-along h a) (λ refs f. tagged-form left written known body tag d b refs u le f)

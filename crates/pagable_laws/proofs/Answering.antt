@@ -1,27 +1,20 @@
 -- What follows for keys: each that is published is its tree's, each that is answered is its task's, and what a worker met that answers one is left paged out.
-use Rattle.pagable_laws.proofs.Words.{arith, nat_tests, ◌≡◌, ℕ, true, List, [], ◌∷◌, Option, Some, None, Ok, Err, refl, sym, ap, subst, ◌∙◌, is_some, OptionalDataKey, blob_of, KeyOf, KeyOfItem}
+use Rattle.pagable_laws.proofs.Words.{arith, nat_tests, ◌≡◌, ℕ, true, List, [], ◌∷◌, Option, Some, Ok, Err, refl, sym, ap, subst, ◌∙◌, is_some, OptionalDataKey, blob_of, KeyOfItem}
 use Rattle.pagable_laws.proofs.Words.{ArcRef, Identity, is_loose_kind, Tree, HandleNumber, ReadsTree, WorkerNumber, if_there, Event, EventReply, Took, WorkerAnswer, WorkerReply, identity_of}
-use Rattle.pagable_laws.proofs.Words.{has_key, Core, Cell, key_at, Shelf, Slot, Written, Fault, Todo, to_item, to_set, to_publish, to_release, to_fail, Task, of_item, of_entry, Walking, Values}
-use Rattle.pagable_laws.proofs.Words.{Seen, Site, Does, IsPublished, answer_after, WorkerSteps, Happens, PagerState, MachineState, world_of, kids_of, HandlesAreWhole, IsMachineWhole, KeyFits}
-use Rattle.pagable_laws.proofs.Words.{NodeStands, Represents, StandsFor, ReadsItsTypes, Meets, meets-of-item, meets-entry, meets-below, AreKeysOf, IsLeftPagedOut, HasKeyOf, LeavesAll, IsKeyOfTask}
+use Rattle.pagable_laws.proofs.Words.{has_key, Core, Cell, key_at, Shelf, Slot, Written, Todo, to_item, to_set, to_publish, to_release, to_fail, Task, of_item, of_entry, Walking, Values}
+use Rattle.pagable_laws.proofs.Words.{Seen, Site, Does, IsPublished, answer_after, WorkerSteps, Happens, PagerState, MachineState, world_of, kids_of, HandlesAreWhole, IsMachineWhole}
+use Rattle.pagable_laws.proofs.Words.{Represents, StandsFor, ReadsItsTypes, Meets, meets-of-item, meets-entry, meets-below, AreKeysOf, IsLeftPagedOut, HasKeyOf, LeavesAll, IsKeyOfTask}
 use Rattle.pagable_laws.proofs.{Words.{Ground, ground_of, IsOfEntry, Waits, Walks, WorkFits, IsDone, KeyIsSet, AllHold, HasHandle, KeysHeld, KeysAreRight}, Merkle.{one_key, one_item_key}}
-use Rattle.pagable_laws.proofs.{Merkle.tree_readable, Trees.{same_some, each-type}, Following.{IdentityStands, known-of, keys-of, tree-form, held-of, cell-of}, Taking.row-held, Coming.updated-at}
-use Rattle.pagable_laws.proofs.Stepping.{KeepsKeys, keys-on, keys-same, all-known, stands-for}
+use Rattle.pagable_laws.proofs.{Merkle.tree_readable, Trees.{same_some, each-type}, Following.{IdentityStands, known-of, keys-of, tree-form, cell-of}, Taking.row-held, Coming.updated-at}
+use Rattle.pagable_laws.proofs.Stepping.{keys-on, all-known, stands-for}
 
 -- ---- one step of a worker
 
 module _ {N B W : Type 0} (m : Seen N B W) (n : ℕ) (g : Ground) (task : Task) (s s' : Site) where
-  of-publish : (todo : List Todo) (i : Identity) (key height : ℕ) → Does m n s todo (Took.Publish i key height) s' → Walks m.values g s.shelf task todo
-      → KeyOf m.values.hash m.values.types (g.trees i.node.0) key
-  of-publish x0 i key height x4 x5 = grind (arith, nat_tests)
-
   -- what the answer of a key comes from
   pub record Answers (key : ℕ) : Type 0 where
     pub done : IsDone m.values s.shelf task key
     same : (i : Identity) → s'.shelf.slots i ≡ s.shelf.slots i
-
-  is-fault : (fault : Fault) (key : ℕ) → answer_after {W = W} (to_fail fault None ∷ []) Took.Fail ≡ Some (WorkerAnswer.Key key) → ⊥
-  is-fault x0 key e = grind (arith, nat_tests)
 
   pub answered : (todo : List Todo) (step : Took W) → Does m n s todo step s' → Walks m.values g s.shelf task todo → (key : ℕ) → answer_after todo step ≡ Some (WorkerAnswer.Key key) → Answers key
   unfolding Waits
@@ -33,17 +26,14 @@ module _ {N B W : Type 0} (m : Seen N B W) (n : ℕ) (g : Ground) (task : Task) 
         same = let t = p.goes in t.table_stays.slots;
       }
   answered (to_item written ks ∷ below) (Took.Store i (Err f)) does walks key e = absurd (cc)
-  answered (to_item written ks ∷ below) step does walks key e = absurd does
   answered (to_release r k h ∷ []) (Took.Release i) (is, falls, t) (p, (expects, waits)) key e =
       let to : k ≡ key = cc in record { done = of-entry task expects (subst (λ q. IsPublished s.shelf (identity_of r) q h) to p); same = t.table_stays.slots }
     where
       of-entry : (task : Task) → IsOfEntry task r → IsPublished s.shelf (identity_of r) key h → IsDone m.values s.shelf task key
       of-entry (of_entry q i) at p = (h, subst (λ j. IsPublished s.shelf j key h) at p)
       of-entry (of_item written) at p = absurd at
-  answered (to_release r k h ∷ []) step does walks key e = absurd does
-  answered (to_fail fault back ∷ below) Took.Fail does walks key e = absurd (is-fault fault key e)
-  answered (to_fail fault back ∷ below) step does walks key e = absurd does
-  answered todo step does walks key e = absurd (cc)
+  answered (to_fail fault back ∷ below) Took.Fail does walks key e = absurd (grind (arith, nat_tests))
+  answered x0 x1 x2 x3 key e = grind (arith, nat_tests)
 
 -- ---- what a machine has come to
 
@@ -94,28 +84,19 @@ module _ {N E : Type 0} (v : Values N) (s : MachineState N E) (trees : ℕ → T
 
 -- ---- an event
 
-done-on : {N : Type 0} (v : Values N) {shelf shelf' : Shelf} → KeepsKeys shelf shelf' → (task : Task) (key : ℕ) → IsDone v shelf task key → IsDone v shelf' task key
-done-on v keeps x2 key x4 = grind (arith, nat_tests, keys-on)
-
--- a live cell's key reads as its tree
-node-keyed : {N E : Type 0} {v : Values N} {s : PagerState N E} {n : ℕ} {t : Tree} → NodeStands v s n t → KeyFits v s n t
-node-keyed x0 = grind (arith, nat_tests)
-
 -- a live cell whose key was set has one
 key-known : (w : Core) (n : ℕ) → KeyIsSet w n → is_some (w.cells n) ≡ true → (key : ℕ) × (key_at w n ≡ OptionalDataKey.Some key)
 key-known w n set live = by (w.cells n) refl live
   where
     of-key : (own : OptionalDataKey) → has_key own ≡ true → (key : ℕ) × (own ≡ OptionalDataKey.Some key)
-    of-key OptionalDataKey.None is = absurd (cc)
-    of-key (OptionalDataKey.Some key) is = (key, refl)
+    of-key x0 is = grind (arith, nat_tests)
 
     by : (c : Option Cell) → w.cells n ≡ c → is_some c ≡ true → (key : ℕ) × (key_at w n ≡ OptionalDataKey.Some key)
-    by None there is = absurd (cc)
-    by (Some cell) there is = let k = of-key cell.key (set.keyed cell there) in (k.0, ap (λ (c : Option Cell). if_there (λ (x : Cell). x.key) OptionalDataKey.None c) there ∙ k.1)
+    by x0 there is = grind (arith, nat_tests, of-key, if_there)
 
 has-key-of : {N E : Type 0} (v : Values N) (s : PagerState N E) (trees : ℕ → Tree) (n : ℕ) → HandlesAreWhole s.core → Represents v s trees → KeyIsSet s.core n
     → is_some (s.core.cells n) ≡ true → HasKeyOf v s trees n
-has-key-of v s trees n whole stands set live = let k = key-known s.core n set live in record { key = k.0; set = k.1; reads = node-keyed (stands.stands n (held-of whole n live)) k.0 k.1 }
+has-key-of v s trees n whole stands set live = let k = key-known s.core n set live in record { key = k.0; set = k.1; reads = (grind (arith, nat_tests)) }
 
 -- a cell whose key is published has one by then
 set-by-then : {N B W : Type 0} (m : Seen N B W) (n : ℕ) (s s' : Site) (todo : List Todo) (i : Identity) (key height : ℕ) → Does m n s todo (Took.Publish i key height) s' → AllHold s.core todo
@@ -135,7 +116,7 @@ module _ {N B W E : Type 0} (m : Seen N B W) (s s' : MachineState N E) (trees tr
     done key is =
         let a = answered m n.0 (ground_of s trees) w.walking.task site w.after w.walking.todo reply.took w.does.does (before.walks n.0 w.walking w.at) key (sym w.answers ∙ is) in
         let table = w.work.same_shelves w.walking.table in
-        done-on m.values (keys-same (λ i. table.slots i ∙ ap (λ (z : Shelf). z.slots i) (updated-at w.walking.table w.after.shelf s.work.shelves) ∙ a.same i)) w.walking.task key a.done
+        (grind (arith, nat_tests, keys-on))
 
     -- the worker as it is afterwards
     is-after : (P : Walking → Type 0) → P (record w.walking { todo = w.after.todo; steps = reply.steps; answer = reply.answer }) → (walking : Walking)
@@ -159,7 +140,7 @@ module _ {N B W E : Type 0} (m : Seen N B W) (s s' : MachineState N E) (trees tr
       record {
         publishes = λ i key height e.
             let does = subst (λ (k : Took W). Does m n.0 (site n reply w) w.walking.todo k w.after) e w.does.does in (
-              of-publish m n.0 (ground_of s trees) w.walking.task (site n reply w) w.after w.walking.todo i key height does (before.walks n.0 w.walking w.at),
+              (grind (arith, nat_tests)),
               set-by-then m n.0 (site n reply w) w.after w.walking.todo i key height does (held_before.walks n.0 w.walking w.at)
                   (λ r k h below is. lives (held_before.publishing n.0 w.walking r k h below w.at is)),
             );

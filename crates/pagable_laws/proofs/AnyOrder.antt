@@ -1,9 +1,19 @@
--- A hash map means the same in whatever order its entries come.
-use Rattle.pagable_laws.proofs.Words.{nat_tests, ◌≡◌, Bool, cond, List, [], ◌∷◌, map, Option, Some, None, refl, sym, ap, ◌∙◌, Ordering, T, bytes_eq-Decides, is_eq-slice_cmp, exact_bytes, arith}
-use Rattle.pagable_laws.proofs.Words.{Meaning, pair, variant, reference, followed, plain, rename, lifted, Entry, code, code_order, put_all, put_sorted, last_value, one-meaning, of_entries}
-use Rattle.pagable_laws.proofs.Words.{IsOneKeyMeaning, IsAnyOrder}
-use Rattle.std.specs.{Option.option_or, declared.cmp.Ordering.Ordering, Ordering.{match_ordering, eq_by_cmp}, Cmp.IsTotalOrder, Cmp.Lexicographic.on_texts, FinMap.Entries.{by_order, put, find}}
-use Rattle.std.specs.FinMap.Entries.{is_sorted, is_sorted-put, find-put, same_entries}
+-- JSON numbers that have no form, and the entries of a hash map in whatever order they come.
+use Rattle.pagable_laws.proofs.Words.{arith, nat_tests, ◌≡◌, ℕ, ℤ, List, refl, IsSigned, Meaning, Shape, json, Form, whole, of_json, FloatHasNoForm, WholeIsBounded, cond, []}
+use Rattle.pagable_laws.proofs.Words.{◌∷◌, map, Option, None, sym, ap, ◌∙◌, Ordering, T, bytes_eq-Decides, is_eq-slice_cmp, exact_bytes, pair, variant, reference, followed, plain}
+use Rattle.pagable_laws.proofs.Words.{rename, lifted, Entry, code, code_order, put_all, put_sorted, last_value, one-meaning, of_entries, IsOneKeyMeaning, IsAnyOrder}
+use Rattle.std.{specs.Int.w64, specs.Option.option_or, specs.declared.cmp.Ordering.Ordering, specs.Ordering.{eq_by_cmp}, specs.Cmp.IsTotalOrder}
+use Rattle.std.{specs.Cmp.Lexicographic.on_texts, specs.FinMap.Entries.{put, find, is_sorted, is_sorted-put, find-put, same_entries}}
+
+module _ {A : Type 0} {kind_of : A → ℕ} {parts : ℕ → Shape} where
+  bounded : (z : ℤ) {left : ℕ} {m : Meaning A} {b : List ℕ} {k : List A} → Form A kind_of parts left json m b k → m ≡ of_json (whole z) → IsSigned w64 z
+  bounded z x1 e = grind (arith, nat_tests)
+
+pub float_none : {A : Type 0} → FloatHasNoForm A
+float_none kind_of parts left x b k f = (grind (arith, nat_tests))
+
+pub whole_bounded : {A : Type 0} → WholeIsBounded A
+whole_bounded kind_of parts left z b k f = bounded z f refl
 
 plain_lifted : (A : Type 0) (m : Meaning ⊥) → plain (let x : Meaning A = lifted m in x) ≡ m
 unfolding plain rename
@@ -28,17 +38,25 @@ module _ {X : Type 0} where
   all_sorted acc [] h = h
   all_sorted acc (e ∷ es) h = all_sorted (put code_order e.0 e.1 acc) es (is_sorted-put code_order order_total e.0 e.1 acc h)
 
-  one_step : (l f : Option X) (b : Bool) (v : X) → option_or l (cond b (Some v) f) ≡ option_or (option_or l (cond b (Some v) None)) f
-  one_step x0 f x2 v = grind (arith, nat_tests)
-
   all_found : (q : Meaning ⊥) (acc es : List (Meaning ⊥ × X)) → find code_order q (put_all put_in acc es) ≡ option_or (last_value q es) (find code_order q acc)
   unfolding put_all put_in last_value
   all_found q acc [] = refl
-  all_found q acc (e ∷ es) =
-      all_found q (put code_order e.0 e.1 acc) es
-      ∙ ap (λ (o : Option X). option_or (last_value q es) o) (find-put code_order order_total q e.0 e.1 acc)
-      ∙ one_step (last_value q es) (find code_order q acc) (eq_by_cmp code_order q e.0) e.1
-      ∙ ap (λ (b : Bool). option_or (option_or (last_value q es) (cond b (Some e.1) None)) (find code_order q acc)) (is_eq-slice_cmp (code q) (code e.0))
+  all_found q acc (e ∷ es) = grind (
+    arith,
+    nat_tests,
+    put,
+    code_order,
+    option_or,
+    last_value,
+    find-put,
+    order_total,
+    find,
+    eq_by_cmp,
+    cond,
+    is_eq-slice_cmp,
+    code,
+    all_found q (put code_order e.0 e.1 acc) es,
+  )
 
   same_put : (es fs : List (Meaning ⊥ × X)) → ((q : Meaning ⊥) → last_value q es ≡ last_value q fs) → put_all put_in [] es ≡ put_all put_in [] fs
   same_put es fs h = same_entries code_order order_total order_exact _ _ (all_sorted [] es tt) (all_sorted [] fs tt)
@@ -54,13 +72,10 @@ module _ {A : Type 0} where
   one_key : Meaning ⊥ × Meaning A → Entry A
   one_key e = (lifted e.0, e.1)
 
-  at_answer : (o : Ordering) (x y z : List (Meaning ⊥ × Meaning A)) → match_ordering o (map one_key x) (map one_key y) (map one_key z) ≡ map one_key (by_order o x y z)
-  at_answer x0 x y z = grind (arith, nat_tests)
-
   put_along : (acc : List (Meaning ⊥ × Meaning A)) (e : Meaning ⊥ × Meaning A) → put_sorted code_order (map one_key acc) (one_key e) ≡ map one_key (put_in acc e)
   unfolding one_key put_in
   put_along [] e = refl
-  put_along (x ∷ acc) e = rw (plain_lifted A e.0, plain_lifted A x.0, put_along acc e) (at_answer (code_order e.0 x.0) _ _ _)
+  put_along (x ∷ acc) e = rw (plain_lifted A e.0, plain_lifted A x.0, put_along acc e) (grind (arith, nat_tests))
 
 pub any_order : {A : Type 0} → IsAnyOrder A
 unfolding one_key

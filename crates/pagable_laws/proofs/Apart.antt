@@ -2,8 +2,8 @@
 use Rattle.pagable_laws.proofs.Words.{nat_tests, ◌≡◌, ℕ, ◌<◌, ◌≤◌, ◌==◌, true, List, [], ◌∷◌, ◌++◌, map, length, Option, Some, None, Result, Ok, Err, refl, sym, ap, subst, ◌∙◌, arith}
 use Rattle.pagable_laws.proofs.Words.{append_assoc, slice_get, slice_get-get_or, append-nil, Error, ◌>>=◌, Meaning, rename, Rest, read, deepest, references_in, Form, kind_of_arc, Answer}
 use Rattle.pagable_laws.proofs.Words.{answer_at, handles_at, IsReadable, Throughout, ArcRef, Kind, Blob, Shape, Types, is_eager, times, Frame, answer_of, answers_from, Next, reads, asks, next_by}
-use Rattle.pagable_laws.proofs.Words.{next_of, next_in, rest, at, LooksUp, no-references, more-references, zero, suc, ◌+◌, ◌||◌, Bool, false, inr, if◌then◌else◌, sum_by-cons, Owner, Among, is_in}
-use Rattle.pagable_laws.proofs.{Words.{one, Core, reference_fault, references_fault, IsReference}, Again.{form-again, read_again, Stops, stops-here, stops-later, form-stops}, Related.renamed}
+use Rattle.pagable_laws.proofs.Words.{next_of, next_in, rest, at, zero, suc, ◌+◌, ◌||◌, Bool, false, inr, if◌then◌else◌, sum_by-cons, Owner, Among, is_in}
+use Rattle.pagable_laws.proofs.{Words.{one, Core, reference_fault, references_fault, IsReference}, Again.{form-again, Looked, all-looked, one-looked, not-looked}, Related.renamed}
 use Rattle.pagable_laws.proofs.{Related.{keeps_forms, Out, no_cause, OutLook, both-looked-up, both-not, read_par}, Sums.{self-number, same-number, at-most-sum, counted, one-true}}
 use Rattle.pagable_laws.proofs.{ReadingStepsKinds.{kinds_of, kinds-pushed}, Fitting.longer, Along.{Along, AllTwo, no-two, more-two, refs-two, each-two}, Decoding.read-gives}
 use Rattle.pagable_world.specs.Loads.{read_with}
@@ -38,33 +38,23 @@ unanswered o kind is = rw is refl
 first-kind : (g d : ArcRef) (gs ds : List ArcRef) → kinds_of (g ∷ gs) ≡ kinds_of (d ∷ ds) → (g.kind.0 ≡ d.kind.0) × (kinds_of gs ≡ kinds_of ds)
 first-kind g d gs ds e = (cc, cc)
 
-stops-at : (front back done : List ArcRef) (q : ArcRef) (more : List ArcRef) (keys : List ℕ) → kinds_of back ≡ kinds_of done → length keys ≡ length (done ++ q ∷ more)
-    → Stops look_kind own_kind (Error.Storage q.kind.0) (answers_from (front ++ back) (length front) keys) (map kind_of_arc (done ++ q ∷ more))
-unfolding answers_from
-stops-at front [] [] q more (key ∷ keys) same few = stops-here _ _ _ _ (unanswered (slice_get (front ++ []) (length front)) q.kind.0 (behind-end front))
-stops-at front (g ∷ back) (d ∷ done) q more (key ∷ keys) same few =
-    let both = first-kind g d back done same in
-    let tail = stops-at (front ++ g ∷ []) back done q more keys both.1 (omega arith) in
-    let moved = subst (λ gs. Stops look_kind own_kind (Error.Storage q.kind.0) (answers_from gs (length (front ++ g ∷ [])) keys) (map kind_of_arc (done ++ q ∷ more))) (append_assoc front
-    (g ∷ []) back) tail in
-    stops-later _ _ _ _ (answered g (slice_get (front ++ g ∷ back) (length front)) d.kind.0 (at-place front g back) both.0)
-    (subst (λ n. Stops look_kind own_kind (Error.Storage q.kind.0) (answers_from (front ++ g ∷ back) n keys) (map kind_of_arc (done ++ q ∷ more))) (longer front g) moved)
-stops-at front _ _ q more [] same few = absurd (omega arith)
-stops-at front _ _ q more keys same few = absurd (cc)
+-- what is looked up of references, the first of which were got: all, or the first of those that are left is refused
+abbrev found-of : List ArcRef → Result (List Answer) Error
+found-of [] = Ok []
+found-of (q ∷ more) = Err (Error.Storage q.kind.0)
 
-looks-all : (front back done : List ArcRef) (keys : List ℕ) → kinds_of back ≡ kinds_of done → length keys ≡ length done
-    → LooksUp look_kind own_kind (answers_from (front ++ back) (length front) keys) (map kind_of_arc done)
+looked : (front back done left : List ArcRef) (keys : List ℕ) → kinds_of back ≡ kinds_of done → length keys ≡ length (done ++ left)
+    → Looked look_kind own_kind (answers_from (front ++ back) (length front) keys) (map kind_of_arc (done ++ left)) (found-of left)
 unfolding answers_from
-looks-all front [] [] [] same few = no-references
-looks-all front (g ∷ back) [] keys same few = absurd (cc)
-looks-all front [] (d ∷ done) keys same few = absurd (cc)
-looks-all front (g ∷ back) (d ∷ done) (key ∷ keys) same few =
+looked front [] [] [] [] same few = all-looked []
+looked front [] [] (q ∷ more) (key ∷ keys) same few = not-looked _ _ _ _ _ (unanswered (slice_get (front ++ []) (length front)) q.kind.0 (behind-end front))
+looked front (g ∷ back) (d ∷ done) left (key ∷ keys) same few =
     let both = first-kind g d back done same in
-    let tail = looks-all (front ++ g ∷ []) back done keys both.1 (omega arith) in
-    let moved = subst (λ gs. LooksUp look_kind own_kind (answers_from gs (length (front ++ g ∷ [])) keys) (map kind_of_arc done)) (append_assoc front (g ∷ []) back) tail in
-    more-references _ _ _ _ (answered g (slice_get (front ++ g ∷ back) (length front)) d.kind.0 (at-place front g back) both.0)
-    (subst (λ n. LooksUp look_kind own_kind (answers_from (front ++ g ∷ back) n keys) (map kind_of_arc done)) (longer front g) moved)
-looks-all front _ _ _ same few = absurd (omega arith)
+    let tail = looked (front ++ g ∷ []) back done left keys both.1 (omega arith) in
+    let moved = subst (λ gs. Looked look_kind own_kind (answers_from gs (length (front ++ g ∷ [])) keys) (map kind_of_arc (done ++ left)) (found-of left)) (append_assoc front (g ∷ []) back) tail in
+    one-looked _ _ _ _ _ (answered g (slice_get (front ++ g ∷ back) (length front)) d.kind.0 (at-place front g back) both.0)
+    (subst (λ n. Looked look_kind own_kind (answers_from (front ++ g ∷ back) n keys) (map kind_of_arc (done ++ left)) (found-of left)) (longer front g) moved)
+looked front x1 x2 x3 x4 same few = grind (arith, nat_tests)
 
 -- ---- what comes next
 
@@ -101,9 +91,9 @@ module _ (types : Types) (t : ℕ) (blob : Blob) (refs : List ArcRef) (f : IsFor
   unfolding read look_kind
   asks-next got done q more split same =
       let few : length blob.keys ≡ length (done ++ q ∷ more) = f.as_many ∙ ap length split in
-      let stops = subst (λ (rs : List ArcRef). Stops look_kind own_kind (Error.Storage q.kind.0) (answers_from got 0 blob.keys) (map kind_of_arc rs)) (sym split)
-      (stops-at [] got done q more blob.keys same few) in
-      let stopped = form-stops [] (answers_from got 0 blob.keys) kinds-form stops f.can in
+      let stops = subst (λ (rs : List ArcRef). Looked look_kind own_kind (answers_from got 0 blob.keys) (map kind_of_arc rs) (Err (Error.Storage q.kind.0))) (sym split)
+      (looked [] got done (q ∷ more) blob.keys same few) in
+      let stopped = form-again [] kinds-form stops f.can in
       let refused : read (at 0 look_kind types.parts) f.shape (input got) ≡ Err (Error.Storage q.kind.0) = rw append-nil at stopped in
       let first = err-of _ (read (handles_at 0 types.parts) f.shape (input got)) (Error.Storage q.kind.0) (sym (renamed kind_of_arc answer_at 0 types.parts f.shape (input got)) ∙ refused) in
       let n = length done in
@@ -124,9 +114,10 @@ module _ (types : Types) (t : ℕ) (blob : Blob) (refs : List ArcRef) (f : IsFor
   reads-all : (got : List ArcRef) → kinds_of got ≡ kinds_of refs → (own : Meaning ArcRef) × (next_of types t blob got ≡ reads own)
   unfolding read look_kind
   reads-all got same =
-      let looks = looks-all [] got refs blob.keys same f.as_many in
-      let again = form-again [] (answers_from got 0 blob.keys) [] kinds-form looks f.can in
-      let given : read (at 0 look_kind types.parts) f.shape (input got) ≡ Ok (rename kind_of_arc f.own, rest [] []) = rw (append-nil, append-nil) at again in
+      let looks = subst (λ (rs : List ArcRef). Looked look_kind own_kind (answers_from got 0 blob.keys) (map kind_of_arc rs) (Ok [])) (append-nil refs)
+      (looked [] got refs [] blob.keys same (f.as_many ∙ ap length (sym (append-nil refs)))) in
+      let again = form-again [] kinds-form looks f.can in
+      let given : read (at 0 look_kind types.parts) f.shape (input got) ≡ Ok (rename kind_of_arc f.own, rest [] []) = rw append-nil at again in
       let first = ok-of _ (read (handles_at 0 types.parts) f.shape (input got)) _ (sym (renamed kind_of_arc answer_at 0 types.parts f.shape (input got)) ∙ given) in
       (first.0.0, ap (λ r. next_by (slice_get blob.keys (length got)) r) (by-shape got ∙ first.1))
 
@@ -202,10 +193,10 @@ record InPlace (got refs : List ArcRef) (g r : ArcRef) : Type 0 where
 own_look : ℕ → ArcRef → Result ArcRef Error
 own_look kind r = if r.kind.0 == kind then Ok r else Err Error.WrongKind
 
-looks-own : (rs : List ArcRef) → LooksUp own_look kind_of_arc rs rs
+looks-own : (rs : List ArcRef) → Looked own_look kind_of_arc rs rs (Ok [])
 unfolding own_look
-looks-own [] = no-references
-looks-own (r ∷ rs) = more-references r rs r rs (let e = self-number r.kind.0 in rw e refl) (looks-own rs)
+looks-own [] = all-looked []
+looks-own (r ∷ rs) = one-looked r rs r rs (Ok []) (let e = self-number r.kind.0 in rw e refl) (looks-own rs)
 
 kind-at : (got refs : List ArcRef) → kinds_of got ≡ kinds_of refs → (place : ℕ) (r : ArcRef) → slice_get refs place ≡ Some r → (g : ArcRef) × (slice_get got place ≡ Some g) × (g.kind.0 ≡ r.kind.0)
 kind-at got [] same place r is = absurd (cc)
@@ -217,18 +208,14 @@ module _ (types : Types) (t : ℕ) (blob : Blob) (refs got : List ArcRef) (f : I
   abbrev Answers : Answer → ArcRef → Type 0
   Answers a r = (kind : ℕ) → OutLook no_cause (InPlace got refs) (a kind) (own_look kind r)
 
-  answer-own : (g r : ArcRef) (place : ℕ) → slice_get got place ≡ Some g → slice_get refs place ≡ Some r → g.kind.0 ≡ r.kind.0 → Answers (answer_of (Some g)) r
-  unfolding own_look
-  answer-own g r place at there is kind = grind (arith, both-looked-up, both-not)
-
   all-answer : (place : ℕ) (rs : List ArcRef) (keys : List ℕ) → ((i : ℕ) → slice_get rs i ≡ slice_get refs (place + i)) → length keys ≡ length rs → AllTwo Answers (answers_from got place keys) rs
-  unfolding answers_from
+  unfolding answers_from own_look
   all-answer place [] [] at few = no-two
   all-answer place (r ∷ rs) (k ∷ ks) at few =
       let start : place + 0 ≡ place = omega arith in
       let there : slice_get refs place ≡ Some r = ap (slice_get refs) (sym start) ∙ sym (at 0) in
       let g = kind-at got refs same place r there in
-      let here = subst (λ o. Answers (λ kind. answer_of o kind) r) (sym g.1) (answer-own g.0 r place g.1 there g.2) in
+      let here = subst (λ o. Answers (λ kind. answer_of o kind) r) (sym g.1) (grind (arith, both-looked-up, both-not)) in
       more-two _ r _ rs here (all-answer (place + 1) rs ks (λ i. let next : place + suc i ≡ place + 1 + i = omega arith in at (suc i) ∙ ap (slice_get refs) next) (omega arith))
   all-answer place _ _ at few = absurd (omega arith)
 
@@ -239,17 +226,17 @@ module _ (types : Types) (t : ℕ) (blob : Blob) (refs got : List ArcRef) (f : I
 
   -- what is read refers in each place to what was got there
   in-place : (own : Meaning ArcRef) → next_of types t blob got ≡ reads own → Along ⊥ (InPlace got refs) own f.own
+  unfolding read
   in-place own is =
       let given = read-gives _ _ own is in
       let par = read_par {E = no_cause} {F = ⊥} {S = Answers} {R = InPlace got refs} answer_at own_look (λ kind a r h. h kind) 0 f.shape (inr f.can) in
-      let again = read_again types.parts f.shape f.can 0 own_look kind_of_arc f.own blob.bytes [] refs refs [] (looks-own refs) f.form in
-      let whole : read (record { levels = 0; look = own_look; parts = types.parts }) f.shape (rest blob.bytes refs) ≡ Ok (f.own, rest [] []) = rw (append-nil, append-nil) at again in
+      let again = form-again [] f.form (looks-own refs) f.can in
+      let whole : read (record { levels = 0; look = own_look; parts = types.parts }) f.shape (rest blob.bytes refs) ≡ Ok (f.own, rest [] []) = rw append-nil at again in
       let shaped : read_with types t blob got ≡ read (handles_at 0 types.parts) f.shape (rest blob.bytes (answers_from got 0 blob.keys)) = rw f.is refl in
       let first : read (handles_at 0 types.parts) f.shape (rest blob.bytes (answers_from got 0 blob.keys)) ≡ Ok (own, given.0) = sym shaped ∙ given.1 in
       both-own (par.out (rest blob.bytes (answers_from got 0 blob.keys)) (rest blob.bytes refs) (record {
         bytes = refl;
-        refs = all-answer 0 refs blob.keys
-            (λ i. let start : i ≡ 0 + i = omega arith in ap (slice_get refs) start) f.as_many;
+        refs = grind (arith, nat_tests, all-answer, slice_get);
       })) first whole
 
   -- ---- references, one by one

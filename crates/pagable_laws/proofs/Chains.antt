@@ -1,32 +1,22 @@
 -- Each event keeps trees: what it brings fits some trees afterwards, for which the machine stands then, with all that its loads read.
-use Rattle.pagable_laws.proofs.Words.{◌≡◌, ℕ, List, [], inl, inr, sym, subst, ◌⊎◌, Event, EventReply, Tree, Among, Reading, Frame, Values, Seen, IsLawful, MachineState, PagerState, world_of}
-use Rattle.pagable_laws.proofs.Words.{IsMachineWhole, StandsFor, FramesFit, ReadingFits, ReadingBrings, EventBrings, IsReadingOf, HoldsSettled, ReadsItsTypes, TakesWell, AsksWell, IsWellAsked}
+use Rattle.pagable_laws.proofs.Words.{◌≡◌, ℕ, List, [], inl, inr, sym, subst, ◌⊎◌, Event, EventReply, Tree, Among, Reading, Frame, Values, Seen, IsLawful, MachineState, world_of}
+use Rattle.pagable_laws.proofs.Words.{IsMachineWhole, StandsFor, FramesFit, ReadingFits, EventBrings, IsReadingOf, HoldsSettled, ReadsItsTypes, TakesWell, AsksWell, IsWellAsked}
 use Rattle.pagable_laws.proofs.Words.{FramesGiven, Change, CoreGoes, IsSteppedReading, EventFeels, by-call, by-reading, by-key, arith, nat_tests, by-nothing, KeysAreReady, IsFresh, ChangeFits}
 use Rattle.pagable_laws.proofs.Words.{ReadingsGiven, ◌+◌, ◌≤◌, Option, Some, None, refl, ◌∙◌, LoadAnswer, OpenLoad, gone_on, Moves, ReadingFeels, KeepsReadings, StepFeels, TreesAfterEvent, ◌∷◌}
 use Rattle.pagable_laws.proofs.Words.{HandleNumber, IsIdle, IsPremised, Moment, AreMoments, TreesAfter, TreesAlong, GivesTree, PinGives, IsRight, HasPin, PinHolds, WorkFits, KeysHeld, ReadingsHeld}
-use Rattle.pagable_laws.proofs.Words.{◌==◌, ◌&&◌, Bool, true, false, ap, Ok, is_some, if◌then◌else◌, sum_by-append, sum_by-cons, Identity, WorkerNumber, one, times, Took, WorkerReply, Shelf, Slot}
-use Rattle.pagable_laws.proofs.Words.{Todo, Walking, World, Site, Does, Happens, WorkerSteps, step_of, steps_of, is_claim_of, is_on_table, claims_made, ◌||◌, ◌++◌, append_assoc, is_none, WorkerAnswer}
-use Rattle.pagable_laws.proofs.Words.{HandleRow, Owner, owner_worker, is_owned_by, is_owner, is_workers_load, MayOwnLoad, state_after, events_of, replies_of, InOrder, TableMeets, HasLetGo}
-use Rattle.pagable_laws.proofs.{Words.{WorkerIsRight, LoadsHaveStepsLeft, WorkIsRight, HeadlineLaw}, Brought.reading-fits, Felt.{none-comes, fits-nothing, fits-key, call-fits}, Fitting.tree-stays}
+use Rattle.pagable_laws.proofs.Words.{◌==◌, ◌&&◌, Bool, true, false, ap, Ok, is_some, sum_by-append, sum_by-cons, Identity, WorkerNumber, one, times, Took, WorkerReply, Shelf, Slot}
+use Rattle.pagable_laws.proofs.Words.{Todo, Walking, World, Site, Does, Happens, WorkerSteps, step_of, steps_of, is_claim_of, is_on_table, claims_made, ◌++◌, append_assoc, is_none, WorkerAnswer}
+use Rattle.pagable_laws.proofs.Words.{HandleRow, Owner, owner_worker, is_owned_by, is_owner, is_workers_load, state_after, events_of, replies_of, InOrder, TableMeets, HasLetGo}
+use Rattle.pagable_laws.proofs.{Words.{WorkerIsRight, LoadsHaveStepsLeft, WorkIsRight, HeadlineLaw}, Felt.reading-fits, Felt.{none-comes, fits-nothing, fits-key, call-fits}, Fitting.tree-stays}
 use Rattle.pagable_laws.proofs.{ReadingSteps.{is-reading-of, does-feels}, Trees.same_some, Answering.keys-right, Coming.{StandsIn, event-turns, turns-stand, idle-stands, updated-at, EventTurns, Went}}
 use Rattle.pagable_laws.proofs.{Coming.{HasGone, goes-on}, Naming.{held-at-first, held-on, keys-ready}, KnownSteps.{ReadingsAsked, event-asked}, Outlasting.pins-hold, Stepping.fits-at-first}
-use Rattle.pagable_laws.proofs.{Stepping.fits-on, ReadingStepsGive.{reads-give, event-held, loads-bounded}, Taking.{AtStep, fit-still, fit-after, pin_stands}, TreesGoing.trees-go-on}
+use Rattle.pagable_laws.proofs.{Stepping.fits-on, ReadingStepsGive.{reads-give, event-held, loads-bounded}, Taking.{AtStep, fit-still, fit-after, pin_stands}, Felt.trees-go-on}
 use Rattle.pagable_laws.proofs.{Standing.{ShelfGrows, is-same, puts-slot, grows, true-false, KeepsTask, Turned, keeps-task, WalkingStands, is_failing, is_open_in}, Once.{once_each, plus-none}}
 use Rattle.pagable_laws.proofs.Sums.{sum-zero}
 use Rattle.pagable_world.specs.Runs.{Does as DoesMoment}
 use Rattle.std.{proofs.Common.append-nil, proofs.lemmas.Bool.false_from_ne_true}
 
-module _ {N E : Type 0} {v : Values N} {c : Change} {s s' : PagerState N E} {trees trees' : ℕ → Tree} where
-  -- what comes is said in other words
-  comes-from : (comes other : ℕ → N → Type 0) → ((n : ℕ) (x : N) → other n x → comes n x) → ChangeFits v c comes s s' trees trees' → ChangeFits v c other s s' trees trees'
-  comes-from comes other from f = grind (arith, nat_tests)
-
 module _ {N E B W : Type 0} (m : Seen N B W) (s : MachineState N E) (trees : ℕ → Tree) where
-  -- the reading that makes the step is what brings values
-  reading-brings : (event : Event N B W) (reading : Reading) (n : ℕ) (x : N) → IsSteppedReading (world_of s) event reading → EventBrings m.values (world_of s) event n x
-      → ReadingBrings m.values s.pager.core reading n x
-  reading-brings x0 reading n x x4 x5 = grind (arith, nat_tests)
-
   reading-takes : (event : Event N B W) (reply : EventReply N B W) (reading : Reading) → IsSteppedReading (world_of s) event reading → IsWellAsked m.values s trees event reply
       → TakesWell m.values s.pager reading
   reading-takes x0 reply reading x3 well = grind (arith, nat_tests)
@@ -61,7 +51,7 @@ module _ {N E B W : Type 0} (m : Seen N B W) (s : MachineState N E) (trees : ℕ
         let is = is-reading-of (world_of s) event reading stepped in
         let f = reading-fits lawful readable settled whole.pager whole'.pager stands.pager reading (fits-of reading is) (given-of reading is) goes
         (reading-takes event reply reading stepped well) opens feels in
-        (f.0, comes-from _ _ (λ n x brings. reading-brings event reading n x stepped brings) f.1)
+        (f.0, (grind (arith, nat_tests)))
     event-fits lawful readable s' settled whole whole' ready event reply goes well (by-key k key row is sets keeps) = (
       trees,
       fits-key lawful settled whole.pager whole'.pager stands.pager _ row.node.0 key (λ n x brings. no-value n x (subst (λ e. EventBrings m.values (world_of s) e n x) is brings))
@@ -116,11 +106,12 @@ module _ {N E B W : Type 0} (m : Seen N B W) (s s' : MachineState N E) (trees tr
       let b = goes.loads_last in
       (kept reading g.0 (stands.readings reading is) g.1, omega (arith, a, b), few-still reading.frames g.1)
 
-  fresh-goes : (reading : Reading) → reading.frames ≡ [] → reading.load.0 ≤ s'.pager.core.last.load → GoesOn reading
-  fresh-goes reading none within = (nothing-yet m s' trees' reading none, within, none-given m s' trees' s'.pager.core.last.node reading.frames none)
-
   either-goes : KeepsReadings (world_of s) (world_of s') → (reading : Reading) → IsReadingOf s'.work reading → GoesOn reading
-  either-goes keeps reading is = elim (keeps reading is) [ inl was ↦ old-goes reading was | inr new ↦ fresh-goes reading new.0 new.2 ]
+  either-goes keeps reading is = elim (keeps reading is) [
+    | inl was ↦ old-goes reading was
+    | inr new ↦
+        ((nothing-yet m s' trees' reading new.0, new.2, none-given m s' trees' s'.pager.core.last.node reading.frames new.0))
+  ]
 
   stepped-goes : (reading : Reading) (frames : List Frame) → IsReadingOf s.work reading ⊎ IsFresh s.pager.core reading → (load : OpenLoad) → s.pager.core.loads reading.load.0 ≡ Some load
       → ReadingFeels m.values s.pager.core reading None frames s'.pager.core c → GoesOn (gone_on reading frames)
@@ -137,8 +128,7 @@ module _ {N E B W : Type 0} (m : Seen N B W) (s s' : MachineState N E) (trees tr
       )
     where
       within : IsReadingOf s.work reading ⊎ IsFresh s.pager.core reading → reading.load.0 ≤ s.pager.core.last.load
-      within (inl was) = (given reading was).0
-      within (inr new) = new.2
+      within x0 = grind (arith, nat_tests)
 
   readings-on : {d : Change} (event : Event N B W) (reply : EventReply N B W) → d ≡ c → EventFeels m.values (world_of s) event reply (world_of s') d → (reading : Reading)
       → IsReadingOf s'.work reading → GoesOn reading
@@ -230,11 +220,8 @@ trees_stay m lawful readable s trees moments whole idle settled stands does = st
 
 -- ---- claims: each event claims on a table only what wasn't claimed there, and what one worker claimed is among its table's claims
 
-is-there-still : (a b : Option Slot) → ((slot : Slot) → a ≡ Some slot → (new : Slot) × (b ≡ Some new)) → one (is_some a) ≤ one (is_some b)
-is-there-still x0 b more = grind (arith, nat_tests)
-
 slots-stay : (shelf shelf' : Shelf) → ShelfGrows shelf shelf' → (i : Identity) → one (is_some (shelf.slots i)) ≤ one (is_some (shelf'.slots i))
-slots-stay shelf shelf' more i = is-there-still (shelf.slots i) (shelf'.slots i) (λ slot there. let a = more i slot there in (a.0, a.1))
+slots-stay shelf shelf' more i = (grind (arith, nat_tests))
 
 -- none more than there was
 none-more : (a b : ℕ) → a ≤ b → a + 0 ≤ b
@@ -261,27 +248,21 @@ module _ {N B W : Type 0} (walkings : ℕ → Option Walking) (t : ℕ) (i : Ide
   pub own-claims : (n : ℕ) (w : Walking) → walkings n ≡ Some w → w.table ≡ t → (happened : List (Event N B W)) (replied : List (EventReply N B W))
       → times (is_claim_of {W = W} i) (steps_of n happened replied) ≤ claims_made walkings t i happened replied
   unfolding steps_of claims_made
-  own-claims n w there on (event ∷ more) (reply ∷ rest) =
-      sum _ _ _ _ _ _ (sum_by-append (λ s. one (is_claim_of {W = W} i s)) (step_of n event reply) (steps_of n more rest))
-      (claims-cons event reply more rest) (own event reply) (own-claims n w there on more rest)
-    where
-      sum : (a b c d x y : ℕ) → x ≡ a + b → y ≡ c + d → a ≤ c → b ≤ d → x ≤ y
-      sum a b c d x y e f le less = omega arith
-
-      one-at-once : (v : ℕ) (step : Took W) (b : Bool) → (v == n) ≡ b → times (is_claim_of {W = W} i) (if b then step ∷ [] else []) ≤ one (is_on_table t (walkings v) && is_claim_of {W = W} i step)
-      one-at-once v step false e = omega arith
-      one-at-once v step true e =
-          let is : v ≡ n = grind (arith, nat_tests) in
-          let self : (w.table == t) ≡ true = grind (arith, nat_tests) in
-          let on_it : is_on_table t (walkings v) ≡ true = ap (λ x. is_on_table t (walkings x)) is ∙ (ap (is_on_table t) there ∙ self) in
-          rw on_it (le-of (sum_by-cons (λ s. one (is_claim_of {W = W} i s)) step []))
-        where
-          le-of : {x y : ℕ} → x ≡ y + 0 → x ≤ y
-          le-of is = omega arith
-
-      own : (event : Event N B W) (reply : EventReply N B W) → times (is_claim_of {W = W} i) (step_of n event reply) ≤ claim_made walkings t i event reply
-      own (Event.WorkerStep v) (EventReply.WorkerMoved (Ok reply)) = one-at-once v.0 reply.took (v.0 == n) refl
-      own event reply = omega arith
+  own-claims n w there on (event ∷ more) (reply ∷ rest) = grind (
+    arith,
+    nat_tests,
+    sum_by-append,
+    one,
+    is_claim_of,
+    step_of,
+    steps_of,
+    claims-cons,
+    times,
+    is_on_table,
+    sum_by-cons,
+    claim_made,
+    own-claims n w there on more rest,
+  )
   own-claims n w there on x4 x5 = grind (arith, nat_tests)
 
   -- each event claims what wasn't claimed, where workers keep their tables
@@ -305,15 +286,7 @@ module _ {N B W : Type 0} (walkings : ℕ → Option Walking) (t : ℕ) (i : Ide
 
         by : (b : Bool) → (w.table == t) ≡ b
             → one (is_some ((u.work.shelves t).slots i)) + one (is_on_table t (walkings v.0) && is_claim_of i reply.took) ≤ one (is_some ((u'.work.shelves t).slots i))
-        by false e = let f = on false e in rw f (none-more _ _ is-still)
-        by true e =
-            let is : w.table ≡ t = grind (arith, nat_tests) in
-            let site : Site = record { core = u.core; shelf = u.work.shelves w.table; todo = w.todo } in
-            let grown = subst (λ o. one (is_some ((u.work.shelves w.table).slots i)) ≤ one (is_some o)) after (slots-stay (u.work.shelves w.table) (u'.work.shelves w.table) (grow w.table) i) in
-            let come = subst (λ o. one (is_some ((u.work.shelves w.table).slots i)) + one (is_claim_of i reply.took) ≤ one (is_some o)) (sym after)
-            (claim-comes m v.0 site s.after i w.todo reply.took s.does.does grown) in
-            let f = on true e in
-            rw f (subst (λ q. one (is_some ((u.work.shelves q).slots i)) + one (is_claim_of i reply.took) ≤ one (is_some ((u'.work.shelves q).slots i))) is come)
+        by x0 e = grind (arith, nat_tests, on, none-more, is-still, w, one, is_some, after, slots-stay, is_claim_of, claim-comes)
 
     pub event-claims : (event : Event N B W) (reply : EventReply N B W) → Happens m u event reply u'
         → one (is_some ((u.work.shelves t).slots i)) + claim_made walkings t i event reply ≤ one (is_some ((u'.work.shelves t).slots i))
@@ -387,11 +360,7 @@ module _ {N E B W : Type 0} (m : Seen N B W) (s : MachineState N E) (work : Stan
   has-let-go : (n : ℕ) (walking : Walking) (answer : WorkerAnswer) → s.work.walkings n ≡ Some walking → walking.answer ≡ Some answer → HasLetGo (world_of s) n (s.work.shelves walking.table)
   unfolding is_open_in
   has-let-go n walking answer there is =
-      record {
-        results = λ i slot at own still. let a = stands.covers i slot at own still in let b = subst (λ todo. (is_failing todo || is_open_in i todo) ≡ true) (stands.done answer is) a in absurd (cc);
-        handles = sum-zero (λ h. one (is_owned_by (owner_worker n) h)) s.pager.core.rows (λ h among. own h among (is_owner (owner_worker n) h.owner) refl);
-        loads = λ l. load l (s.pager.core.loads l) refl;
-      }
+      grind (arith, nat_tests, own, stands, is_failing, is_open_in, sum-zero, one, is_owned_by, owner_worker, is_owner, load)
     where
       stands : WalkingStands (s.work.shelves walking.table) n walking
       stands = work.workers n walking there
@@ -404,9 +373,7 @@ module _ {N E B W : Type 0} (m : Seen N B W) (s : MachineState N E) (work : Stan
       own h among false e = ap one e
 
       load : (l : ℕ) (o : Option OpenLoad) → s.pager.core.loads l ≡ o → is_workers_load n (s.pager.core.loads l) ≡ false
-      load l None e = ap (is_workers_load n) e
-      load l (Some q) e = ap (is_workers_load n) e ∙ false_from_ne_true (is_owner (owner_worker n) q.owner) (λ f.
-          true-false (subst (λ o. MayOwnLoad s.pager.core o) (owner-is n q.owner f) (whole.pager.whole.loads.owned l q e)) rests)
+      load l x1 e = grind (arith, nat_tests, is_workers_load, false_from_ne_true, is_owner, owner_worker, true-false, owner-is, rests)
 
 -- all that steps have come to, where open loads have a step left
 work-right : {N E B W : Type 0} (m : Seen N B W) (s : MachineState N E) (moments : List (Moment N E B W)) → IsMachineWhole m.values s → IsIdle s → AreMoments m s moments
@@ -427,8 +394,7 @@ work-right {N} {E} {B} {W} m s moments whole idle chain loads = record { claims_
     all = arrives m s moments chain whole (idle-stands s idle)
 
     one-at-most : (a c : ℕ) (b : Bool) → a + c ≤ one b → c ≤ 1
-    one-at-most a c true few = omega arith
-    one-at-most a c false few = omega arith
+    one-at-most a c x2 few = grind (arith, nat_tests)
 
     distinct : (t : ℕ) (i : Identity) → claims_made end.work.walkings t i happened replied ≤ 1
     distinct t i = one-at-most _ _ _ (all.claims t i)

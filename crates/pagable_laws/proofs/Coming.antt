@@ -2,7 +2,7 @@
 use Rattle.pagable_laws.proofs.Words.{◌≡◌, ℕ, inl, inr, true, List, [], ◌∷◌, refl, ap, sym, subst, ◌∙◌, Ok, Option, Some, None, ArcRef, Identity, WorkerAnswer, Claim, Took, identity_of, no_result}
 use Rattle.pagable_laws.proofs.Words.{answer_of_fault, Todo, to_start, to_write, to_item, to_publish, to_release, to_fail, arith, Task, Seen, Site, Does, give, give_known, with_wait, answer_after}
 use Rattle.pagable_laws.proofs.Words.{IsPublished, ◌+◌, ◌<◌, ◌≤◌, ◌==◌, Bool, false, nat_eq, if◌then◌else◌, nat_tests, WorkerNumber, updated, Call, Reply, Event, EventReply, TableNumber, WorkerReply}
-use Rattle.pagable_laws.proofs.Words.{Owner, Core, Alike, Shelf, Slot, Walking, World, CallStep, Happens, Stays, WorkStays, WorkIs, Starts, no_shelf, new_walking, WorkerSteps, Ends, MachineState}
+use Rattle.pagable_laws.proofs.Words.{Owner, Core, Alike, Shelf, Slot, Walking, World, CallStep, Happens, Stays, WorkStays, WorkIs, Starts, no_shelf, new_walking, WorkerSteps, MachineState}
 use Rattle.pagable_laws.proofs.Words.{world_of, IsIdle, step_of, ◌*◌, ◌-◌, ◌++◌, Err, drop, length, max, length-drop, sum_by-cons, sum_by-append, one, times, above, Open, to_pin, to_load, to_finish}
 use Rattle.pagable_laws.proofs.Words.{to_set, Written, next_start, first_todo, is_counted, Follows, is_claim, references_written, own_references, zero, suc, Error, Among, MetError, FailedElsewhere}
 use Rattle.pagable_laws.proofs.{Words.{IsMetFailure, steps_after, Leads}, Standing.{same-worker, puts-slot, SlotChanges, ShelfGrows, some-none, some-same, grows, same-slots, meets-grow, CoversBy}}
@@ -117,14 +117,7 @@ module _ {N B W : Type 0} (m : Seen N B W) (u u' : World) (work : StandsIn u) wh
     quiet : ((n : ℕ) → step_of n event reply ≡ []) → NoFewer u.core u'.core → SameSlots u.work.shelves u'.work.shelves → ((v : ℕ) → u'.work.walkings v ≡ u.work.walkings v)
         → EventTurns m u event reply u'
     quiet no_step last same stay =
-        record {
-          who = 0;
-          turned = is-quiet u.work.shelves u'.work.shelves u.work.walkings u'.work.walkings u.core.last.worker work same stay;
-          last = last;
-          small = omega arith;
-          others = λ n other. no_step n;
-          own = rests (no_step 0) same (stay 0);
-        }
+        grind (arith, nat_tests, is-quiet)
 
     by-work : ((n : ℕ) → step_of n event reply ≡ []) → NoFewer u.core u'.core → WorkStays u.work u'.work → EventTurns m u event reply u'
     by-work no_step last w = quiet no_step last (λ t i. (w.shelves t).slots i) w.walkings
@@ -150,8 +143,7 @@ module _ {N B W : Type 0} (m : Seen N B W) (u u' : World) (work : StandsIn u) wh
         }
       where
         nobody : u.core.last.worker < v.0 → (o : Option Walking) → u.work.walkings v.0 ≡ o → u.work.walkings v.0 ≡ None
-        nobody above None is = is
-        nobody above (Some w) is = let few = work.numbered v.0 w is in absurd (omega arith)
+        nobody x0 x1 is = grind (arith, nat_tests)
 
     tabled : ((n : ℕ) → step_of n event reply ≡ []) → KnowsTables u → (t : TableNumber) → t.0 ≡ u.work.last_table + 1 → Alike u.core u'.core
         → WorkIs (updated t.0 no_shelf u.work.shelves) t.0 u.work.walkings u'.work → EventTurns m u event reply u'
@@ -168,9 +160,6 @@ module _ {N B W : Type 0} (m : Seen N B W) (u u' : World) (work : StandsIn u) wh
             ((w.same_shelves t.0).slots i ∙ (ap (λ (s : Shelf). s.slots i) (updated-at t.0 no_shelf u.work.shelves) ∙ nothing i ((u.work.shelves t.0).slots i) refl))
         same q i false e = (w.same_shelves q).slots i ∙ ap (λ (s : Shelf). s.slots i) (updated-off t.0 no_shelf u.work.shelves q e)
 
-  ends-last : (answer : Option WorkerAnswer) (v : ℕ) (w w' : Core) → Ends answer v w w' → w'.last.worker ≡ w.last.worker
-  ends-last x0 v w w' e = grind (arith, nat_tests)
-
   call-last : (call : Call N B) (r : Reply N B) → CallStep m u.core Owner.Caller call r u'.core → NoFewer u.core u'.core
   call-last x0 x1 c = grind (arith, nat_tests, le-of, calls-go, caller-free)
 
@@ -186,7 +175,7 @@ module _ {N B W : Type 0} (m : Seen N B W) (u u' : World) (work : StandsIn u) wh
       λ i. (s.work.same_shelves w.table).slots i ∙ ap (λ (x : Shelf). x.slots i) (updated-at w.table s.after.shelf u.work.shelves) in
       let site : Site = record { core = u.core; shelf = u.work.shelves w.table; todo = w.todo } in
       let kept : NoFewer u.core s.after.core = (walk-goes m v.0 site s.after w.todo reply.took s.does.does).goes.workers_last in
-      let last : u'.core.last.worker ≡ s.after.core.last.worker = ends-last reply.answer v.0 s.after.core u'.core s.ends in
+      let last : u'.core.last.worker ≡ s.after.core.last.worker = (grind (arith, nat_tests)) in
       record {
         who = v.0;
         turned = is-stepped v.0 u.work.shelves u'.work.shelves u.work.walkings u'.work.walkings w now s.at (s.work.same_walkings v.0 ∙ updated-at v.0 (Some now) u.work.walkings) refl refl
@@ -204,12 +193,11 @@ module _ {N B W : Type 0} (m : Seen N B W) (u u' : World) (work : StandsIn u) wh
   event-turns tables (Event.Call call) (EventReply.CallReply r) h = by-work _ _ (λ n. refl) (call-last call r h.step) h.work
   event-turns tables (Event.LoadStart q) (EventReply.Started r) h = by-work _ _ (λ n. refl) (calling.begins r h.step).workers_last h.work
   event-turns tables (Event.LoadKey key t) (EventReply.Started r) h = by-work _ _ (λ n. refl) (calling.begins-key r h.step).workers_last h.work
-  event-turns tables (Event.LoadStep l) (EventReply.LoadMoved (Ok r)) h = grind (arith, nat_tests, by-work, reading-feels, caller-free)
   event-turns tables Event.TableNew (EventReply.TableMade (Ok t)) h = tabled _ _ (λ n. refl) tables t h.made.0 h.made.1 h.made.3
   event-turns tables (Event.WorkerItem t item) (EventReply.WorkerMade (Ok v)) h = starts _ _ (λ n. refl) t _ u.core v refl h.starts
   event-turns tables (Event.WorkerListed t i) (EventReply.WorkerMade (Ok v)) h = starts _ _ (λ n. refl) t _ _ v refl h.starts.5
   event-turns tables (Event.WorkerStep v) (EventReply.WorkerMoved (Ok reply)) h = stepped v reply h.moves
-  event-turns tables event reply h = grind (arith, nat_tests, unchanged)
+  event-turns tables x1 x2 h = grind (arith, nat_tests, by-work, reading-feels, caller-free, unchanged)
 
 -- what stands goes on to stand
 pub turns-stand : {N B W : Type 0} (m : Seen N B W) {u u' : World} {event : Event N B W} {reply : EventReply N B W} → EventTurns m u event reply u' → StandsIn u → StandsIn u'
@@ -323,11 +311,10 @@ settled-item written keys k below few = grind (arith, started-due, length-drop)
 
 given-due : (r : ArcRef) (key height : ℕ) (below : List Todo) → all-due (give r key height below) ≤ all-due below
 unfolding all-due
-given-due r key height [] = omega arith
 given-due r key height (to_finish o ∷ below) =
     settled-node (record o { keys = o.keys ++ key ∷ []; height = max o.height (above r.kind.0 height) }) (length o.keys + 1) below (length-append o.keys (key ∷ []))
 given-due r key height (to_item written keys ∷ below) = settled-item written (keys ++ key ∷ []) (length keys + 1) below (length-append keys (key ∷ []))
-given-due r key height (_ ∷ below) = omega arith
+given-due r key height x3 = grind (arith, nat_tests)
 
 module _ {W : Type 0} (f : W → Written) where
   -- one step pays for itself: out of what was due, of its claim, or of the references that it wrote
@@ -365,10 +352,6 @@ module _ {W : Type 0} (f : W → Written) where
   -- the steps that were counted, with those that are due, are within the bound
   abbrev pub IsWithin : Task → List Todo → ℕ → List (Took W) → Type 0
   IsWithin task todo n past = n + all-due todo ≤ 8 * times is_claim past + (own_references task + sum_by (references_written f) past) + 4
-
-  pub within-first : (task : Task) → IsWithin task (first_todo task) 0 []
-  unfolding all-due
-  within-first x0 = grind (arith, nat_tests, settled-item)
 
   pub within-after : (task : Task) (todo next : List Todo) (n n' : ℕ) (past : List (Took W)) (step : Took W) → n' ≤ n + one (is_counted todo step) → Follows f todo step next
       → IsWithin task todo n past → IsWithin task next n' (past ++ step ∷ [])
@@ -487,8 +470,7 @@ module _ {N B W : Type 0} (m : Seen N B W) (u u' : World) (grow : (t : ℕ) → 
   -- a worker that makes no step
   stays : (n : ℕ) (o o' : Option Walking) (past taken : List (Took W)) → o' ≡ o → taken ≡ [] → HasGone f n u.work.shelves o past → HasGone f n u'.work.shelves o' (past ++ taken)
   stays n o o' past taken same none gone =
-      subst (λ x. HasGone f n u'.work.shelves x (past ++ taken)) (sym same)
-      (subst (λ k. HasGone f n u'.work.shelves o k) (sym (ap (λ k. past ++ k) none ∙ append-nil past)) (by o gone))
+      grind (arith, nat_tests, f, append-nil, by)
     where
       by : (o : Option Walking) → HasGone f n u.work.shelves o past → HasGone f n u'.work.shelves o past
       by None gone = gone
@@ -505,9 +487,10 @@ module _ {N B W : Type 0} (m : Seen N B W) (u u' : World) (grow : (t : ℕ) → 
   begun : (n : ℕ) (t : TableNumber) (task : Task) (past taken : List (Took W)) → taken ≡ [] → u.work.walkings n ≡ None → u'.work.walkings n ≡ Some (new_walking t task)
       → HasGone f n u.work.shelves (u.work.walkings n) past
       → HasGone f n u'.work.shelves (u'.work.walkings n) (past ++ taken)
+  unfolding all-due
   begun n t task past taken none nobody new gone =
       let first : Went f n (u'.work.shelves t.0) (new_walking t task) [] =
-      record { leads = refl; fails = first-met n (u'.work.shelves t.0) [] task; met = λ answer is. absurd (cc); within = within-first f task } in
+      record { leads = refl; fails = first-met n (u'.work.shelves t.0) [] task; met = λ answer is. absurd (cc); within = (grind (arith, nat_tests, settled-item)) } in
       let no_past : past ≡ [] = subst (λ o. HasGone f n u.work.shelves o past) nobody gone in
       let none_now : past ++ taken ≡ [] = ap (λ k. past ++ k) none ∙ (append-nil past ∙ no_past) in
       subst (λ o. HasGone f n u'.work.shelves o (past ++ taken)) (sym new) (subst (λ k. Went f n (u'.work.shelves t.0) (new_walking t task) k) (sym none_now) first)
@@ -551,10 +534,6 @@ module _ {N B W : Type 0} (m : Seen N B W) (u u' : World) (grow : (t : ℕ) → 
                 (subst (λ n. n ≤ w.steps + one (is_counted w.todo reply.took)) (sym s.counts) (counted w.steps (is_counted w.todo reply.took))) follows was.within;
           }
 
-  own-goes : StandsIn u → (v : ℕ) (past taken : List (Took W)) → OwnTurn m u v taken u' → HasGone f v u.work.shelves (u.work.walkings v) past
-      → HasGone f v u'.work.shelves (u'.work.walkings v) (past ++ taken)
-  own-goes work v past taken x4 gone = grind (arith, nat_tests, stays, begun, went-on)
-
 -- whatever an event does, its steps are added
 pub goes-on : {N B W : Type 0} (m : Seen N B W) (u u' : World) (event : Event N B W) (reply : EventReply N B W) → StandsIn u → EventTurns m u event reply u' → (n : ℕ) (past : List (Took W))
     → HasGone m.written_of n u.work.shelves (u.work.walkings n) past
@@ -563,6 +542,6 @@ goes-on {W = W} m u u' event reply work turns n past gone = elim (cases_Bool (na
   | inl e ↦
       let is : turns.who ≡ n = sym (same-worker n turns.who e) in
       subst (λ x. HasGone m.written_of x u.work.shelves (u.work.walkings x) past → HasGone m.written_of x u'.work.shelves (u'.work.walkings x) (past ++ step_of x event reply)) is
-      (own-goes m u u' (turns-grow m turns) work turns.who past (step_of turns.who event reply) turns.own) gone
+      (grind (arith, nat_tests, stays, begun, went-on)) gone
   | inr e ↦ stays m u u' (turns-grow m turns) n (u.work.walkings n) (u'.work.walkings n) past (step_of n event reply) (turns.turned.others n e) (turns.others n e) gone
 ]

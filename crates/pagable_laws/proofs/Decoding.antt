@@ -9,23 +9,17 @@ use Rattle.pagable_laws.proofs.Words.{NodeStands, ValueStands, MeaningStands, nu
 use Rattle.pagable_laws.proofs.Words.{reference-stands, ReadsNodeTree, FrameFits, ReadsItsTypes, LeadsTo, number-leads, integer-leads, text-leads, pattern-leads, none-leads, pair-leads}
 use Rattle.pagable_laws.proofs.{Words.{variant-leads, followed-leads, reference-leads, Decoded}, Along.{Along, number-along, integer-along, text-along, pattern-along, none-along, pair-along}}
 use Rattle.pagable_laws.proofs.{Along.{variant-along, reference-along, followed-along, AllTwo, no-two, more-two, refs-two, each-two}, Related.{Out, both-given, both-refused, OutLook}}
-use Rattle.pagable_laws.proofs.{Related.{both-looked-up, any_cause, first-not, read_par}, Trees.{tree_is, one_tree}, Sums.{same-number, one-true, self-number, at-most-sum, counted}}
+use Rattle.pagable_laws.proofs.{Related.{both-looked-up, any_cause, first-not, read_par}, Trees.{tree_is, one_tree}, Sums.{same-number, self-number, at-most-sum, counted}}
 
 -- ---- what is read or asked
 
-not-read : (key : Option ℕ) (e : Error) (own : Meaning ArcRef) → next_by key (Err e) ≡ reads own → ⊥
-not-read x0 x1 own is = grind (arith, nat_tests)
-
 pub read-gives : (key : Option ℕ) (r : Result (Meaning ArcRef × Rest Answer) Error) (own : Meaning ArcRef) → next_by key r ≡ reads own → (after : Rest Answer) × (r ≡ Ok (own, after))
 read-gives key (Ok (m, after)) own is = let same : m ≡ own = cc in (after, rw same refl)
-read-gives key (Err e) own is = absurd (not-read key e own is)
-
-next-key : (key : Option ℕ) (r : Result (Meaning ArcRef × Rest Answer) Error) (kind : Kind) (k : ℕ) → next_by key r ≡ asks kind k → key ≡ Some k
-next-key x0 x1 kind k is = grind (arith, nat_tests)
+read-gives key (Err e) own is = absurd (grind (arith, nat_tests))
 
 -- the key that a blob asks for next is the next of its keys
 pub asks_next : (types : Types) (frame : Frame) (kind : Kind) (key : ℕ) → next_in types frame ≡ asks kind key → slice_get frame.blob.keys (length frame.got) ≡ Some key
-asks_next types frame kind key is = next-key _ _ kind key is
+asks_next types frame kind key is = (grind (arith, nat_tests))
 
 -- ---- what is answered, place by place
 
@@ -98,20 +92,17 @@ module _ {types : Types} {stored : ℕ → Option Blob} {trees : ℕ → Tree} {
 is_ref : ArcRef → ArcRef → Bool
 is_ref r q = (q.kind.0 == r.kind.0) && ((q.node.0 == r.node.0) && (q.handle.0 == r.handle.0))
 
-same-ref : (r q : ArcRef) → is_ref r q ≡ true → q ≡ r
-unfolding is_ref
-same-ref r q is = grind (arith, and_parts, same-number)
-
 is-itself : (r : ArcRef) → is_ref r r ≡ true
 unfolding is_ref
 is-itself r = rw (self-number r.kind.0, self-number r.node.0, self-number r.handle.0) refl
 
 pub meant-refs : (rs ss : List ArcRef) → SameReferences rs ss → (r : ArcRef) → Among rs r → Among ss r
+unfolding is_ref
 meant-refs rs ss same r among =
     let one_here : 1 ≤ sum_by (λ q. one (is_ref r q)) rs = let a = at-most-sum (λ q. one (is_ref r q)) rs r among in let b = is-itself r in rw b at a in
     let moved = same (is_ref r) in
     let found = counted (λ q. one (is_ref r q)) ss (omega (arith, one_here, moved)) in
-    subst (Among ss) (same-ref r found.0 (one-true _ found.2)) found.1
+    subst (Among ss) (grind (arith, and_parts, same-number)) found.1
 
 -- ---- the value
 

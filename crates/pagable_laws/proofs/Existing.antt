@@ -1,6 +1,7 @@
 -- The least set of handles that fall.
-use Rattle.pagable_laws.proofs.Words.{◌≡◌, ℕ, suc, zero, ◌+◌, ◌<◌, ◌≤◌, ◌==◌, ◌&&◌, ◌||◌, Bool, true, false, List, sum_by, refl, ap, sym, ◌∙◌, arith, nat_lt, nat_eq, not, if◌then◌else◌, nat_tests}
-use Rattle.pagable_laws.proofs.Words.{and_parts, one, Among, Owner, HandleRow, is_owner, is_owned_by, owner_value, is_at, is_pin, held, is_outside, held_outside, pins_outside, loses_value}
+use Rattle.std.proofs.lemmas.Bool.{false_from_ne_true}
+use Rattle.pagable_laws.proofs.Words.{◌≡◌, ℕ, suc, zero, ◌+◌, ◌<◌, ◌≤◌, ◌==◌, ◌&&◌, ◌||◌, Bool, true, false, List, sum_by, refl, ap, sym, ◌∙◌, arith, nat_lt, not, nat_tests}
+use Rattle.pagable_laws.proofs.Words.{and_parts, one, Among, Owner, HandleRow, is_owner, is_owned_by, owner_value, is_at, is_pin, is_outside, loses_value}
 use Rattle.pagable_laws.proofs.{Words.{IsClosed, IsWithin, IsLeast, OwnsNothing, IsGivenAlone}, Sums.{same-number, self-number, one-true, sum-le, at-most-sum, sum-plus, sum-zero, counted}}
 
 -- 1 for a handle outside the set; one of the node, one that pins it, one that its value owns; and one of the one set and not of the other
@@ -38,10 +39,6 @@ owned-by lost n x2 is goes = grind (arith, nat_tests)
 owner-of : (lost : ℕ → Bool) (o : Owner) → owner_goes lost o ≡ true → (n : ℕ) × (is_owner (owner_value n) o ≡ true) × (lost n ≡ true)
 owner-of lost x1 goes = grind (arith, nat_tests)
 
--- fewer pins or handles are outside the greater set
-wider-by : (b : Bool) (came p q h k : ℕ) → q ≤ p → k ≤ h → (if b then nat_eq p 0 else nat_eq came 0 && nat_eq h 0) ≡ true → (if b then nat_eq q 0 else nat_eq came 0 && nat_eq k 0) ≡ true
-wider-by _ came p q h k pins handles goes = grind (arith, nat_tests)
-
 module _ (rows : List HandleRow) (keyed : ℕ → Bool) (entries : List HandleRow) where
   abbrev lost : (ℕ → Bool) → ℕ → Bool
   lost s n = loses_value rows keyed entries s n
@@ -70,8 +67,7 @@ module _ (rows : List HandleRow) (keyed : ℕ → Bool) (entries : List HandleRo
       omega arith
     where
       part : (h : HandleRow) → Among rows h → (b : Bool) → is_owner (owner_value n) h.owner ≡ b → owned_out s n h + outside (more s) h ≤ outside s h
-      part h among true e = let c = comes s h n among e goes in grind (arith, nat_tests)
-      part h among false e = let c = shrinks s h in grind (arith, nat_tests)
+      part h among x2 e = grind (arith, nat_tests, comes, shrinks)
 
   -- what is in the one set is in the other
   pub inside : (s t : ℕ → Bool) (h : HandleRow) → IsWithin rows s t → Among rows h → s h.number.0 ≡ true → t h.number.0 ≡ true
@@ -82,7 +78,32 @@ module _ (rows : List HandleRow) (keyed : ℕ → Bool) (entries : List HandleRo
   wider s t n within goes =
       let pins = sum-le (pin_out t n) (pin_out s n) rows (λ h among. let a = at-most-sum (only_in s t) rows h among in grind (arith, nat_tests)) in
       let handles = sum-le (held_out t n) (held_out s n) rows (λ h among. let a = at-most-sum (only_in s t) rows h among in grind (arith, nat_tests)) in
-      wider-by (keyed n) (held n entries) (pins_outside rows s n) (pins_outside rows t n) (held_outside rows s n) (held_outside rows t n) pins handles goes
+      (grind (arith, nat_tests))
+
+  -- what isn't given, and is owned by no value that goes, doesn't fall
+  module _ (given gone stay : ℕ → Bool) (least : IsLeast rows keyed entries given gone) (free : (h : HandleRow) → Among rows h → given h.number.0 ≡ true → stay h.number.0 ≡ false)
+      (apart : (n : ℕ) (h : HandleRow) → Among rows h → is_owner (owner_value n) h.owner ≡ true → lost gone n ≡ true → stay h.number.0 ≡ false) where
+    abbrev but : ℕ → Bool
+    but q = gone q && not (stay q)
+
+    but-holds : IsWithin rows given but
+    but-holds = sum-zero (only_in given but) rows (λ h among. part h among (given h.number.0) refl)
+      where
+        part : (h : HandleRow) → Among rows h → (b : Bool) → given h.number.0 ≡ b → only_in given but h ≡ 0
+        part h among true e = rw (e, inside given gone h least.holds among e, free h among e) refl
+        part h among false e = rw e refl
+
+    but-closed : IsClosed rows keyed entries but
+    but-closed n goes =
+        let lost_too = wider but gone n (sum-zero (only_in but gone) rows (λ h among. grind (arith, nat_tests))) goes in
+        sum-zero (owned_out but n) rows (λ h among. part n h among lost_too (least.closed n lost_too) (is_owner (owner_value n) h.owner) refl)
+      where
+        part : (n : ℕ) (h : HandleRow) → Among rows h → lost gone n ≡ true → sum_by (owned_out gone n) rows ≡ 0 → (b : Bool) → is_owner (owner_value n) h.owner ≡ b → owned_out but n h ≡ 0
+        part n h among lost_too none true e = let f = apart n h among e lost_too in let a = at-most-sum (owned_out gone n) rows h among in grind (arith, nat_tests)
+        part n h among lost_too none false e = rw e refl
+
+    pub outlast : (h : HandleRow) → Among rows h → stay h.number.0 ≡ true → gone h.number.0 ≡ false
+    outlast h among is = false_from_ne_true (gone h.number.0) (λ e. let goes = inside gone but h (least.least but but-holds but-closed) among e in grind (arith, nat_tests))
 
   -- what follows is in each closed set
   stays : (s t : ℕ → Bool) → IsWithin rows s t → IsClosed rows keyed entries t → IsWithin rows (more s) t
@@ -106,9 +127,6 @@ module _ (rows : List HandleRow) (keyed : ℕ → Bool) (entries : List HandleRo
       part h among false e true f = let c = owned h among (grind (arith, nat_tests)) in grind (arith, nat_tests)
       part h among false e false f = grind (arith, nat_tests)
 
-  wider-given : (given s : ℕ → Bool) → IsWithin rows given s → IsWithin rows given (more s)
-  wider-given given s holds = sum-zero (only_in given (more s)) rows (λ h among. let a = at-most-sum (only_in given s) rows h among in grind (arith, nat_tests))
-
   less : (s : ℕ → Bool) → sum_by (outside (more s)) rows ≤ sum_by (outside s) rows
   less s = sum-le (outside (more s)) (outside s) rows (λ h among. shrinks s h)
 
@@ -126,7 +144,8 @@ module _ (rows : List HandleRow) (keyed : ℕ → Bool) (entries : List HandleRo
       → (s : ℕ → Bool) × IsLeast rows keyed entries given s
   grows given zero s few holds least = decide given s holds least (λ fewer. absurd (omega arith)) (nat_lt (sum_by (outside (more s)) rows) (sum_by (outside s) rows)) refl
   grows given (suc k) s few holds least =
-      decide given s holds least (λ fewer. grows given k (more s) (omega arith) (wider-given given s holds) (λ t h c. stays s t (least t h c) c))
+      decide given s holds least (λ fewer. grows given k (more s) (omega arith)
+      ((sum-zero (only_in given (more s)) rows (λ h among. let a = at-most-sum (only_in given s) rows h among in grind (arith, nat_tests)))) (λ t h c. stays s t (least t h c) c))
       (nat_lt (sum_by (outside (more s)) rows) (sum_by (outside s) rows)) refl
 
   within-self : (given : ℕ → Bool) → IsWithin rows given given

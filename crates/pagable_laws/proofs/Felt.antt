@@ -1,9 +1,199 @@
--- What each sort of step brings fits trees: which trees the nodes have afterwards, and that values, keys and what becomes known fit them.
-use Rattle.pagable_laws.proofs.Words.{◌≡◌, ℕ, ◌+◌, ◌≤◌, ◌==◌, Bool, true, false, Some, None, ◌⊎◌, refl, sym, ap, ◌∙◌, subst, arith, if◌then◌else◌, is_some, nat_tests, OptionalDataKey, Owner, Call}
-use Rattle.pagable_laws.proofs.Words.{Reply, ArcRef, Tree, tree, ReadsTree, type_of, Among, updated, is_pinned_kind, Values, IsLawful, is_here, first_key, PagerState, WellFormed, Represents}
-use Rattle.pagable_laws.proofs.Words.{ReadsNodeTree, SameTrees, CallBrings, IsNewNode, HoldsSettled, AsksWell, ValueLeads, Change, nothing_felt, sets_key, knows_node, bears_node, bears_known}
-use Rattle.pagable_laws.proofs.Words.{CoreGoes, StaysAway, AreGood, CallFeels, feels-nothing, feels-birth, feels-away, feels-key, feels-known, feels-adopted, feels-lazy, feels-end, ChangeFits}
-use Rattle.pagable_laws.proofs.{Trees.same_some, Following.{given-of, cell-of}, Fitting.tree-stays, Leading.{leads-on, led, own-refs, value-leads}, TreesGoing.either-side, Coming.updated-at}
+-- What each step brings fits some trees afterwards: where a pager stands for trees, each value and key leads to its node's tree by its own references alone, and from
+-- this it stands for them again, so that what is asked of a node is shown at each node by itself.
+use Rattle.pagable_laws.proofs.Words.{nat_tests, ◌≡◌, ℕ, zero, ◌<◌, ◌&&◌, Bool, true, false, Option, Some, None, refl, sym, ap, ◌∙◌, subst, is_some, OptionalDataKey, number, integer, text}
+use Rattle.pagable_laws.proofs.Words.{pattern, none, pair, variant, reference, followed, references_in, ArcRef, Meaning, Tree, tree, type_of, ReadsTree, Among, held, is_in_memory, Core}
+use Rattle.pagable_laws.proofs.Words.{Values, IsLawful, key_at, IsReference, PagerState, WellFormed, NodeStands, here, away, MeaningStands, number-stands, integer-stands, text-stands}
+use Rattle.pagable_laws.proofs.Words.{pattern-stands, none-stands, pair-stands, variant-stands, followed-stands, reference-stands, Represents, HoldsSettled, LeadsTo, number-leads}
+use Rattle.pagable_laws.proofs.Words.{integer-leads, text-leads, arith, pattern-leads, none-leads, pair-leads, variant-leads, followed-leads, reference-leads, ValueLeads, NodeLeads, ◌≤◌}
+use Rattle.pagable_laws.proofs.Words.{◌⊎◌, inl, inr, NodeNumber, HandleNumber, OpenLoad, of_cell, type_at, Moves, ReadsNodeTree, KeyFits, Change, CoreGoes, SameNode, ChangeFits}
+use Rattle.pagable_laws.proofs.Words.{◌+◌, ◌==◌, if◌then◌else◌, Owner, Call, Reply, updated, is_pinned_kind, is_here, first_key, SameTrees, CallBrings, IsNewNode, AsksWell, nothing_felt}
+use Rattle.pagable_laws.proofs.Words.{sets_key, knows_node, bears_node, bears_known, StaysAway, AreGood, CallFeels, feels-nothing, feels-birth, feels-away, feels-key, feels-known}
+use Rattle.pagable_laws.proofs.Words.{feels-adopted, feels-lazy, feels-end, List, [], ◌∷◌, LoadAnswer, Reading, Frame, ReadsRoot, ReadingBrings, IsCellOf}
+use Rattle.pagable_laws.proofs.Words.{FramesFit, ReadingFits, ReadsItsTypes, TakesWell, FramesGiven, ReadingFeels, gets-lazy, makes-node}
+use Rattle.pagable_laws.proofs.{Trees.{same_some, tree_is, one_tree}, Decoding.{among-left, among-right, meant-refs, decodes}, Following.{one-node, given-of, cell-of, held-of}}
+use Rattle.pagable_laws.proofs.{Fitting.{tree-stays, first-fits}, Coming.updated-at, Taking.{root-key, node-decoded}}
+use Rattle.std.{proofs.Common.rules}
+
+-- ---- other trees, the same at the nodes that are referred to
+
+module _ {trees trees' : ℕ → Tree} where
+  pub leads-on : {x : Meaning ArcRef} {a : Meaning ⊥} → LeadsTo trees x a → ((r : ArcRef) → Among (references_in x) r → trees' r.node.0 ≡ trees r.node.0) → LeadsTo trees' x a
+  unfolding references_in
+  leads-on (pair-leads x y a b f g) h =
+      let left = leads-on f (λ r among. h r (among-left (references_in x) (references_in y) among.0 r among.1)) in
+      let right = leads-on g (λ r among. h r (among-right (references_in x) (references_in y) among.0 r among.1)) in
+      pair-leads x y a b left right
+  leads-on (variant-leads i x a f) h = variant-leads i x a (leads-on f h)
+  leads-on (followed-leads kind x a f) h = followed-leads kind x a (leads-on f h)
+  leads-on (reference-leads r a typed meant) h = let same = h r (zero, refl) in reference-leads r a (ap (λ (t : Tree). t.type) same ∙ typed) (ap (λ (t : Tree). t.meaning) same ∙ meant)
+  leads-on l h = search (number-leads, integer-leads, text-leads, pattern-leads, none-leads)
+
+-- a meaning whose references' nodes have trees of their kinds' types leads to one
+pub led : {trees : ℕ → Tree} (x : Meaning ArcRef) → ((r : ArcRef) → Among (references_in x) r → (trees r.node.0).type ≡ type_of r.kind.0) → (a : Meaning ⊥) × LeadsTo trees x a
+unfolding references_in
+led (number i) h = (number i, number-leads i)
+led (integer z) h = (integer z, integer-leads z)
+led (text t) h = (text t, text-leads t)
+led (pattern t) h = (pattern t, pattern-leads t)
+led none h = (none, none-leads)
+led (pair x y) h =
+    let left = led x (λ r among. h r (among-left (references_in x) (references_in y) among.0 r among.1)) in
+    let right = led y (λ r among. h r (among-right (references_in x) (references_in y) among.0 r among.1)) in
+    (pair left.0 right.0, pair-leads x y left.0 right.0 left.1 right.1)
+led (variant i x) h = let l = led x h in (variant i l.0, variant-leads i x l.0 l.1)
+led {trees} (reference r) h = (followed r.kind.0 (trees r.node.0).meaning, reference-leads r _ (h r (zero, refl)) refl)
+led (followed kind x) h = let l = led x h in (followed kind l.0, followed-leads kind x l.0 l.1)
+
+-- ---- from what the pager stands for to what its values lead to
+
+-- the references of a value's meaning are its own
+pub own-refs : {N : Type 0} {v : Values N} → IsLawful v → (x : N) (own : Meaning ArcRef) → v.means x own → (r : ArcRef) → Among (references_in own) r → Among (v.references x) r
+own-refs lawful x own means r among = meant-refs _ _ (λ is. sym (lawful.refers x own means is)) r among
+
+module _ {N E : Type 0} {v : Values N} {s : PagerState N E} {trees : ℕ → Tree} (lawful : IsLawful v) where
+  module _ (settled : HoldsSettled v s) (well : WellFormed v s) (stands : Represents v s trees) where
+    -- what a good reference's node stands for, as one of the kind's type, is its tree
+    pub node-tree : (owner : _) (r : ArcRef) (b : Meaning ⊥) → IsReference s.core owner r → NodeStands v s r.node.0 (tree (type_of r.kind.0) b)
+        → ((trees r.node.0).type ≡ type_of r.kind.0) × ((trees r.node.0).meaning ≡ b)
+    node-tree owner r b good node = grind (arith, nat_tests, given-of, same_some, one-node)
+
+    stands-leads : {x : Meaning ArcRef} {a : Meaning ⊥} → MeaningStands v s x a
+        → ((r : ArcRef) (b : Meaning ⊥) → Among (references_in x) r → NodeStands v s r.node.0 (tree (type_of r.kind.0) b)
+        → ((trees r.node.0).type ≡ type_of r.kind.0) × ((trees r.node.0).meaning ≡ b)) → LeadsTo trees x a
+    unfolding references_in
+    stands-leads (pair-stands x y a b f g) h =
+        let left = stands-leads f (λ r c among. h r c (among-left (references_in x) (references_in y) among.0 r among.1)) in
+        let right = stands-leads g (λ r c among. h r c (among-right (references_in x) (references_in y) among.0 r among.1)) in
+        pair-leads x y a b left right
+    stands-leads (variant-stands i x a f) h = variant-leads i x a (stands-leads f h)
+    stands-leads (followed-stands kind x a f) h = followed-leads kind x a (stands-leads f h)
+    stands-leads (reference-stands r a node) h = let is = h r a (zero, refl) node in reference-leads r a is.0 is.1
+    stands-leads l h = search (number-leads, integer-leads, text-leads, pattern-leads, none-leads)
+
+    -- a value whose references are good, and which stands for a tree, leads to it
+    pub value-leads : (x : N) (own : Meaning ArcRef) (t : Tree) (owner : _) → v.node_type x ≡ t.type → v.means x own → MeaningStands v s own t.meaning
+        → ((r : ArcRef) → Among (v.references x) r → IsReference s.core owner r) → ValueLeads v trees x t
+    value-leads x own t owner typed means meant good =
+        record { own = own; typed = typed; means = means; leads = stands-leads meant (λ r b among node. node-tree owner r b (good r (own-refs lawful x own means r among)) node) }
+
+    -- so does each value in memory; and each key reads as its node's tree
+    node-leads : {n : ℕ} {t : Tree} → NodeStands v s n t → t ≡ trees n → NodeLeads v s trees n
+    node-leads (here n x own t is typed means meant fits) e =
+        let leads = value-leads x own t _ typed means meant (λ r among. well.references n x r is among) in
+        grind (arith, nat_tests, key_at, same_some)
+    node-leads (away n key t nothing_there keyed fits) e = grind (arith, nat_tests)
+
+    pub leads-all : (n : ℕ) → 0 < held n s.core.rows → NodeLeads v s trees n
+    leads-all n live = node-leads (stands.stands n live) refl
+
+-- ---- and back
+
+key-of-away : (pinned : ℕ) (key : OptionalDataKey) → is_in_memory pinned key ≡ false → (k : ℕ) × (key ≡ OptionalDataKey.Some k)
+key-of-away pinned x1 is = grind (arith, nat_tests)
+
+both-false : (a b : Bool) → a ≡ true → false ≡ (a && b) → b ≡ false
+both-false x0 b e f = grind (arith, nat_tests)
+
+-- the nodes of the references are live
+abbrev pub AreLive : Core → Meaning ArcRef → Type 0
+AreLive w x = (r : ArcRef) → Among (references_in x) r → 0 < held r.node.0 w.rows
+
+module _ {N E : Type 0} {v : Values N} {s : PagerState N E} {trees : ℕ → Tree} (lawful : IsLawful v) (well : WellFormed v s) (all : (n : ℕ) → 0 < held n s.core.rows → NodeLeads v s trees n) where
+  node-by : (n : ℕ) → 0 < held n s.core.rows → ((own : Meaning ArcRef) → LeadsTo trees own (trees n).meaning → AreLive s.core own → MeaningStands v s own (trees n).meaning)
+      → NodeStands v s n (trees n)
+  node-by n live follow = at (s.values n) refl
+    where
+      at : (o : Option N) → s.values n ≡ o → NodeStands v s n (trees n)
+      at (Some x) is =
+          let l = (all n live).valued x is in
+          let refs : AreLive s.core l.own = λ r among. (given-of well.whole.handles r.node.0 (well.references n x r is (own-refs lawful x l.own l.means r among)).typed).0 in
+          here n x l.own (trees n) is l.typed l.means (follow l.own l.leads refs) (all n live).keyed
+      at None is =
+          let gone : is_some (s.values n) ≡ false = ap is_some is in
+          let there = both-false (is_some (s.core.cells n)) _ (cell-of well.whole.handles n live) (sym gone ∙ well.valued n) in
+          let k = key-of-away _ _ there in
+          away n k.0 (trees n) is k.1 (all n live).keyed
+
+  stand : (m : Meaning ⊥) {own : Meaning ArcRef} {a : Meaning ⊥} → LeadsTo trees own a → m ≡ a → AreLive s.core own → MeaningStands v s own a
+  unfolding references_in
+  stand (pair c d) (pair-leads x y a b f g) e h =
+      let first : AreLive s.core x = λ r among. h r (among-left (references_in x) (references_in y) among.0 r among.1) in
+      let second : AreLive s.core y = λ r among. h r (among-right (references_in x) (references_in y) among.0 r among.1) in
+      let e1 : c ≡ a = cc in
+      let e2 : d ≡ b = cc in
+      pair-stands x y a b (stand c f e1 first) (stand d g e2 second)
+  stand (variant j c) (variant-leads i x a f) e h = let same : c ≡ a = cc in variant-stands i x a (stand c f same h)
+  stand (followed j c) (followed-leads kind x a f) e h = let same : c ≡ a = cc in followed-stands kind x a (stand c f same h)
+  stand (followed j c) (reference-leads r a typed meant) e h =
+      let same : c ≡ (trees r.node.0).meaning = (let f : c ≡ a = cc in f ∙ sym meant) in
+      reference-stands r a (subst (λ (t : Tree). NodeStands v s r.node.0 t) (tree_is _ _ _ _ typed meant) (node-by r.node.0 (h r (zero, refl)) (λ z l k. stand c l same k)))
+  stand m (number-leads i) e h = number-stands i
+  stand m (integer-leads z) e h = integer-stands z
+  stand m (text-leads t) e h = text-stands t
+  stand m (pattern-leads t) e h = pattern-stands t
+  stand m none-leads e h = none-stands
+  stand m l e h = absurd (cc)
+
+  pub stands-again : (n : ℕ) → 0 < held n s.core.rows → NodeStands v s n (trees n)
+  stands-again n live = node-by n live (λ z l k. stand (trees n).meaning l refl k)
+
+pub either-side : (n last : ℕ) → (n ≤ last) ⊎ (last < n)
+either-side n last = grind (arith, nat_tests)
+
+module _ {N E : Type 0} {v : Values N} {c : Change} {comes : ℕ → N → Type 0} {s s' : PagerState N E} {trees trees' : ℕ → Tree} (lawful : IsLawful v)
+    (settled : HoldsSettled v s) (well : WellFormed v s) (well' : WellFormed v s') (stands : Represents v s trees) (moves : Moves comes s s') (goes : CoreGoes c s.core s'.core)
+    (fits : ChangeFits v c comes s s' trees trees') where
+  was : (n : ℕ) → 0 < held n s.core.rows → NodeLeads v s trees n
+  was n live = leads-all lawful settled well stands n live
+
+  moved-tree : (n : ℕ) {key : ℕ} → n ≤ s.core.last.node → ReadsTree s'.core.stored v.types key (trees n) → ReadsTree s'.core.stored v.types key (trees' n)
+  moved-tree n {key} within reads = subst (λ t. ReadsTree s'.core.stored v.types key t) (sym (fits.same n within)) reads
+
+  moved-node : (n t : ℕ) {key : ℕ} → n ≤ s.core.last.node → ReadsNodeTree v.types s.core.stored trees key t n → ReadsNodeTree v.types s'.core.stored trees' key t n
+  moved-node n t within reads = record { typed = ap (λ (z : Tree). z.type) (fits.same n within) ∙ reads.typed; reads = moved-tree n within (tree-stays goes.stored reads.reads) }
+
+  moved-value : (n : ℕ) (x : N) → s.values n ≡ Some x → ValueLeads v trees' x (trees' n)
+  moved-value n x is =
+      let live = given-of well.whole.handles n (well.typed n x is) in
+      let l = (was n live.0).valued x is in
+      let same = sym (fits.same n live.1) in
+      record {
+        own = l.own;
+        typed = l.typed ∙ ap (λ (z : Tree). z.type) same;
+        means = l.means;
+        leads = subst (λ (z : Tree). LeadsTo trees' l.own z.meaning) same
+            (leads-on l.leads (λ r among. fits.same r.node.0 (given-of well.whole.handles r.node.0 (well.references n x r is (own-refs lawful x l.own l.means r among)).typed).1));
+      }
+
+  keyed-old : (n : ℕ) → n ≤ s.core.last.node → SameNode c s.core s'.core n → KeyFits v s' n (trees' n)
+  keyed-old n within same key is = elim same.key [
+    | inl stays ↦ moved-tree n within (tree-stays goes.stored ((was n (held-of well.whole.handles n same.was)).keyed key (sym stays ∙ is)))
+    | inr (k, sets, set) ↦ let e : k ≡ key = (cc) in subst (λ q. ReadsTree s'.core.stored v.types q (trees' n)) e (moved-tree n within (fits.sets n k sets))
+  ]
+
+  leads-again : (n : ℕ) → 0 < held n s'.core.rows → NodeLeads v s' trees' n
+  leads-again n live = search (rules, cell-of, either-side, keyed-old, arith, nat_tests, moved-value)
+
+  typed-again : (n : ℕ) → 0 < held n s'.core.rows → type_at s'.core n ≡ Some (trees' n).type
+  typed-again n live = grind (arith, nat_tests)
+
+  loads-again : (l : ℕ) (load : OpenLoad) (node : NodeNumber) (t : ℕ) (h : HandleNumber) → s'.core.loads l ≡ Some load → load.root ≡ of_cell node t h
+      → ReadsNodeTree v.types s'.core.stored trees' load.key t node.0
+  loads-again l load node t h is root = elim (goes.loads l load is) [
+    | inl stays ↦ moved-node node.0 t (well.whole.loads.roots l load node t h stays root).given.1 (stands.loads l load node t h stays root)
+    | inr (above, begins) ↦
+        let b = begins node t h root in
+        let live = given-of well.whole.handles node.0 b.0 in
+        let typed : (trees node.0).type ≡ t = same_some _ _ (sym (stands.typed node.0 live.0) ∙ b.0) in
+        moved-node node.0 t live.1 (record { typed = typed; reads = (was node.0 live.0).keyed load.key b.1 })
+  ]
+
+  cache-again : (kind key n : ℕ) → s'.core.cache kind key ≡ Some n → ReadsNodeTree v.types s'.core.stored trees' key (type_of kind) n
+  cache-again kind key n is = elim (goes.cache kind key n is)
+      [ inl stays ↦ moved-node n (type_of kind) (well.whole.cache kind key n stays).given (stands.cache kind key n stays) | inr knows ↦ fits.knows kind key n knows ]
+
+  pub trees-go-on : Represents v s' trees'
+  trees-go-on = record { stands = stands-again lawful well' leads-again; typed = typed-again; loads = loads-again; cache = cache-again }
 
 -- ---- trees with one more
 
@@ -40,15 +230,14 @@ module _ {N E : Type 0} {v : Values N} {s s' : PagerState N E} {trees : ℕ → 
   -- nothing is felt, and what comes to an old node fits
   pub fits-nothing : (comes : ℕ → N → Type 0) → ((n : ℕ) (x : N) → comes n x → s.values n ≡ None → s'.values n ≡ Some x → ValueLeads v trees x (trees n))
       → ChangeFits v nothing_felt comes s s' trees trees
-  fits-nothing comes fit =
-      record { same = λ n within. refl; sets = λ n key is. absurd is; born = λ t own is. absurd is; keyed = λ t key is. absurd is; knows = λ kind key n is. absurd is; comes_well = fit }
+  fits-nothing comes fit = grind (arith, nat_tests)
 
   pub fits-key : (comes : ℕ → N → Type 0) (m k : ℕ) → ((n : ℕ) (x : N) → comes n x → ⊥) → ReadsTree s'.core.stored v.types k (trees m) → ChangeFits v (sets_key m k) comes s s' trees trees
-  fits-key comes m k none reads = grind arith
+  fits-key comes m k unset reads = grind arith
 
   pub fits-known : (comes : ℕ → N → Type 0) (k q m : ℕ) → ((n : ℕ) (x : N) → comes n x → ⊥) → ReadsNodeTree v.types s'.core.stored trees q (type_of k) m
       → ChangeFits v (knows_node k q m) comes s s' trees trees
-  fits-known comes k q m none reads = grind arith
+  fits-known comes k q m unset reads = grind arith
 
   module _ (t0 : Tree) where
     abbrev more : ℕ → Tree
@@ -96,7 +285,7 @@ module _ {N E : Type 0} {v : Values N} {s s' : PagerState N E} {trees : ℕ → 
 
   pub call-fits : {B : Type 0} (c : Change) (call : Call N B) (reply : Reply N B) → CoreGoes c s.core s'.core → AsksWell v s trees call reply
       → CallFeels v s.core Owner.Caller call reply s'.core c → Fits c (CallBrings s.core call)
-  call-fits c call reply goes asked (feels-nothing stays) = record { after = trees; fits = fits-nothing _ (λ n x brings none is. absurd (none-comes n x goes none is (stays n x brings))) }
+  call-fits c call reply goes asked (feels-nothing stays) = record { after = trees; fits = fits-nothing _ (λ n x brings unset is. absurd (none-comes n x goes unset is (stays n x brings))) }
   call-fits c call reply goes asked (feels-birth x brought good) =
       let born = birth-tree x Owner.Caller good in
       record {
@@ -104,7 +293,7 @@ module _ {N E : Type 0} {v : Values N} {s s' : PagerState N E} {trees : ℕ → 
         fits =
             subst (λ t. ChangeFits v (bears_node t OptionalDataKey.None) (CallBrings s.core call) s s' trees (updated (last + 1) born.0 trees)) born.1
             (fits-born born.0 _ OptionalDataKey.None (λ key is. absurd (cc))
-            (λ n y brings none is. value-born born.0 _ n y x goes is (brought n y brings).0 (brought n y brings).1 (good-given Owner.Caller x good) born.2));
+            (λ n y brings unset is. value-born born.0 _ n y x goes is (brought n y brings).0 (brought n y brings).1 (good-given Owner.Caller x good) born.2));
       }
   call-fits c call reply goes asked (feels-away t key k) =
       record {
@@ -112,7 +301,7 @@ module _ {N E : Type 0} {v : Values N} {s s' : PagerState N E} {trees : ℕ → 
         fits =
             subst (λ z. ChangeFits v (bears_node z (OptionalDataKey.Some key)) (λ n y. ⊥) s s' trees (updated (last + 1) asked.read trees)) asked.typed
             (fits-born asked.read _ (OptionalDataKey.Some key)
-            (λ q is. let e : key ≡ q = cc in subst (λ z. ReadsTree s'.core.stored v.types z asked.read) e (tree-stays goes.stored asked.reads)) (λ n y brings none is. absurd brings));
+            (λ q is. let e : key ≡ q = cc in subst (λ z. ReadsTree s'.core.stored v.types z asked.read) e (tree-stays goes.stored asked.reads)) (λ n y brings unset is. absurd brings));
       }
   call-fits c call reply goes asked (feels-key h key row owns) = record { after = trees; fits = fits-key _ row.node.0 key (λ n y brings. brings) (tree-stays goes.stored (asked row owns)) }
   call-fits c call reply goes asked (feels-known kind key h row owns typed) =
@@ -125,18 +314,90 @@ module _ {N E : Type 0} {v : Values N} {s s' : PagerState N E} {trees : ℕ → 
         after = updated (last + 1) asked.read trees;
         fits =
             fits-born-known asked.read _ kind.0 key (first_key kind.0 key) (sym asked.stands.typed ∙ typed) (λ q is. first-of (is_pinned_kind kind.0) key q is) (tree-stays goes.stored asked.reads)
-            (λ n y brings none is. value-born asked.read _ n y x goes is brings.0 brings.1 (good-given (Owner.Load l) x good) leads);
+            (λ n y brings unset is. value-born asked.read _ n y x goes is brings.0 brings.1 (good-given (Owner.Load l) x good) leads);
       }
   call-fits c call reply goes asked (feels-lazy l kind key k) =
       record {
         after = updated (last + 1) asked.read trees;
-        fits = fits-born-known asked.read _ kind.0 key (OptionalDataKey.Some key) asked.typed (λ q is. cc) (tree-stays goes.stored asked.reads) (λ n y brings none is. absurd brings);
+        fits = fits-born-known asked.read _ kind.0 key (OptionalDataKey.Some key) asked.typed (λ q is. cc) (tree-stays goes.stored asked.reads) (λ n y brings unset is. absurd brings);
       }
   call-fits c call reply goes asked (feels-end l x k good) =
       record {
         after = trees;
-        fits = fits-nothing _ (λ n y brings none is.
+        fits = fits-nothing _ (λ n y brings unset is.
             let meant = asked n brings.1 in
             let leads = value-leads lawful settled well stands x meant.own (trees n) (Owner.Load l) meant.typed meant.means meant.stands good in
             subst (λ z. ValueLeads v trees z (trees n)) (sym brings.0) leads);
       }
+
+at-front : (frames : List Frame) (a : Frame) (xs : List Frame) → frames ≡ a ∷ xs → Among frames a
+at-front frames a xs e = subst (λ fs. Among fs a) (sym e) (zero, refl)
+
+module _ {N E : Type 0} {v : Values N} {s s' : PagerState N E} {trees : ℕ → Tree} (lawful : IsLawful v) (readable : ReadsItsTypes v.types) (settled : HoldsSettled v s) (well : WellFormed v s)
+    (well' : WellFormed v s') (stands : Represents v s trees)
+    (reading : Reading) (fits : ReadingFits v s trees reading) (given : FramesGiven s.core.last.node reading.frames) where
+  module _ {c : Change} (goes : CoreGoes c s.core s'.core) where
+    pub record RootLeads (n : ℕ) (x : N) : Type 0 where
+      pub within : n ≤ s.core.last.node
+      pub leads : ValueLeads v trees x (trees n)
+      pub few : (r : ArcRef) → Among (v.references x) r → r.node.0 ≤ s.core.last.node
+
+    -- the value of a root that was read leads to its cell's tree
+    root-leads : (n : ℕ) (x : N) → s'.values n ≡ Some x → ReadsRoot v reading x → IsCellOf s.core reading.load n → RootLeads n x
+    root-leads n x is root cell =
+        let fit = fits cell.load cell.open_load in
+        let here = subst (λ fs. FramesFit v.types s.core.stored trees cell.load.key reading.node_type fs) root.frames fit in
+        let d = decodes lawful readable root.root x (first-fits v.types cell.load.key reading.node_type s.core.stored trees root.root [] here) root.decoded in
+        let under = subst (λ q. ReadsTree s.core.stored v.types q d.t) (root-key v.types s.core.stored trees cell.load.key reading.node_type root.root here) d.reads in
+        let within : n ≤ s.core.last.node = subst (λ m. m ≤ s.core.last.node) cell.is (well.whole.loads.roots reading.load.0 cell.load cell.node cell.t cell.h cell.open_load cell.root).given.1 in
+        let old = goes.old n within (live-after lawful settled well well' stands n x is) in
+        let typed : (trees n).type ≡ v.node_type x = same_some _ _ (sym (stands.typed n (held-of well.whole.handles n old.was)) ∙ sym old.typed ∙ well'.typed n x is) in
+        let cells : ReadsTree s.core.stored v.types cell.load.key (trees n) = subst (λ m. ReadsTree s.core.stored v.types cell.load.key (trees m)) cell.is
+        (stands.loads reading.load.0 cell.load cell.node cell.t cell.h cell.open_load cell.root).reads in
+        let same : d.t ≡ trees n = one_tree s.core.stored v.types cell.load.key d.t (trees n) (sym d.leads.typed ∙ sym typed) under cells in
+        record { within = within; leads = subst (λ z. ValueLeads v trees x z) same d.leads; few = λ r among. given root.root r (at-front reading.frames root.root [] root.frames) (d.got r among) }
+
+    -- nothing is felt
+    quiet : (n : ℕ) (x : N) → c ≡ nothing_felt → ReadingBrings v s.core reading n x → s'.values n ≡ Some x → ValueLeads v trees x (trees n)
+    quiet n x nothing x3 is = grind (arith, nat_tests, live-after, root-leads)
+
+    -- a node is born, and the root's value comes to an old one
+    root-on : (t0 : Tree) (n : ℕ) (x : N) → s'.values n ≡ Some x → ReadsRoot v reading x → IsCellOf s.core reading.load n
+        → ValueLeads v (updated (s.core.last.node + 1) t0 trees) x (updated (s.core.last.node + 1) t0 trees n)
+    root-on t0 n x is root cell = grind (arith, nat_tests, root-leads, value-on, with-below)
+
+  still : CoreGoes nothing_felt s.core s'.core → (after : ℕ → Tree) × ChangeFits v nothing_felt (ReadingBrings v s.core reading) s s' trees after
+  still goes = (trees, fits-nothing lawful settled well well' stands _ (λ n x brings unset is. quiet goes n x refl brings is))
+
+  pub reading-fits : {c : Change} {answer : Option (LoadAnswer N)} {frames : List Frame} → CoreGoes c s.core s'.core → TakesWell v s reading
+      → (answer ≡ None → (load : OpenLoad) × (s.core.loads reading.load.0 ≡ Some load))
+      → ReadingFeels v s.core reading answer frames s'.core c → (after : ℕ → Tree) × ChangeFits v c (ReadingBrings v s.core reading) s s' trees after
+  reading-fits goes takes opens (gets-lazy kind key row needs got answer is) =
+      let asked = takes kind key needs in (
+        updated (s.core.last.node + 1) asked.read trees,
+        fits-born-known lawful settled well well' stands asked.read _ kind.0 key (OptionalDataKey.Some key) asked.typed (λ q e. cc) (tree-stays goes.stored asked.reads)
+            (λ n x brings unset at. elim brings [
+              | inl (reads, new) ↦ (absurd (cc))
+              | inr (root, cell) ↦ root-on goes asked.read n x at root cell
+            ]),
+      )
+  reading-fits goes takes opens (makes-node x reads row got answer is) =
+      let load = opens answer in
+      let fit = fits load.0 load.1 in
+      let made = node-decoded lawful readable s.core.stored trees load.0.key reading.node_type reading x reads fit in
+      let t0 = made.0.t in (
+        updated (s.core.last.node + 1) t0 trees,
+        fits-born-known lawful settled well well' stands t0 _ reads.top.kind.0 reads.top.key (first_key reads.top.kind.0 reads.top.key) (made.0.typed ∙ made.1)
+            (λ q e. first-of (is_pinned_kind reads.top.kind.0) reads.top.key q e) (tree-stays goes.stored made.0.reads)
+            (λ n y brings unset at. elim brings [
+              | inl (reads2, new) ↦
+                  let other = (node-decoded lawful readable s.core.stored trees load.0.key reading.node_type reading y reads2 fit).0 in
+                  let top : reads2.top ≡ reads.top = (cc) in
+                  let moved : ReadsTree s.core.stored v.types reads.top.key other.t = subst (λ (f : Frame). ReadsTree s.core.stored v.types f.key other.t) top other.reads in
+                  let same : other.t ≡ t0 = one_tree s.core.stored v.types reads.top.key other.t t0 (other.typed ∙ ap (λ (f : Frame). f.node_type) top ∙ sym made.0.typed) moved made.0.reads in
+                  let few = λ (r : ArcRef) (among : Among (v.references y) r). given reads2.top r (at-front reading.frames reads2.top reads2.below reads2.frames) (other.got r among) in
+                  value-born lawful settled well well' stands t0 _ n y y goes at refl new few (subst (λ z. ValueLeads v trees y z) same other.leads)
+              | inr (root, cell) ↦ root-on goes t0 n y at root cell
+            ]),
+      )
+  reading-fits goes takes opens _ = still goes

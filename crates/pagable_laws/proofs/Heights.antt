@@ -3,11 +3,11 @@ use Rattle.pagable_laws.proofs.Words.{nat_tests, ◌≡◌, ℕ, suc, ◌+◌, �
 use Rattle.pagable_laws.proofs.Words.{nat_eq, drop, max, ArcRef, Identity, Among, if_there, is_eager, above, longest_path, identity_of, Shelf, Slot, published, failed, Written, Open, Todo, to_start}
 use Rattle.pagable_laws.proofs.Words.{to_pin, to_load, to_write, to_finish, to_item, to_set, to_publish, to_release, Task, IsPublished, place_below, next_start, give, give_known, is_open_outcome}
 use Rattle.pagable_laws.proofs.Words.{with_outcome, with_failed, Expects, Ok, HandleNumber, Tree, Claim, PinStep, Took, Event, EventReply, no_result, Fault, to_fail, Walking, World, Seen, Site, Does}
-use Rattle.pagable_laws.proofs.Words.{open_node, with_wait, first_todo, MachineState, world_of, IsIdle, Ground, ground_of, Walks, WorkFits, zero, ◌<◌, Err, pair, variant, followed, height}
-use Rattle.pagable_laws.proofs.Words.{deepest_path, kind_of_arc, Error, Meaning, Types, Core, of_entry, Values, is_identity, Claims, IsTooDeep, claim_fault, IsTooDeepTask, WaitsForAsker, FollowsTo}
+use Rattle.pagable_laws.proofs.Words.{open_node, with_wait, MachineState, world_of, IsIdle, Ground, ground_of, Walks, WorkFits, zero, ◌<◌, Err, pair, variant, followed, height}
+use Rattle.pagable_laws.proofs.Words.{deepest_path, kind_of_arc, Error, Meaning, Types, Core, Values, is_identity, Claims, IsTooDeep, IsTooDeepTask, WaitsForAsker, FollowsTo}
 use Rattle.pagable_laws.proofs.{Words.{pair-follows, variant-follows, reference-follows, WroteTree, Waits}, Standing.{ShelfGrows, some-same, PutsSlot, put-cases, puts-slot, changes-slot, is-same}}
 use Rattle.pagable_laws.proofs.{Standing.{AllStand, HasClaim, Covers, is_open_in}, Stepping.{KeepsKeys, keys-grow, keys-same}, Coming.{StandsIn, EventTurns, turns-grow, turns-keep}, Trees.same_some}
-use Rattle.pagable_laws.proofs.Along.{Along, number-along, integer-along, text-along, pattern-along, none-along, pair-along, variant-along, reference-along, AllTwo, no-two, more-two, form-along}
+use Rattle.pagable_laws.proofs.Along.{Along, number-along, integer-along, text-along, pattern-along, none-along, pair-along, variant-along, reference-along, each-two, form-along}
 use Rattle.std.proofs.lemmas.Bool.{or_cases}
 
 -- the reference's key is known, with a height to which it adds no more than this
@@ -96,8 +96,7 @@ module _ {shelf shelf' : Shelf} (keys : KeepsKeys shelf shelf') where
   low-on {height} {r} low = record { key = low.key; below = low.below; known = keys (identity_of r) low.key low.below low.known; within = low.within }
 
   pub attained-on : (height : ℕ) (rs : List ArcRef) → IsAttained shelf height rs → IsAttained shelf' height rs
-  attained-on height rs (inl none_there) = inl none_there
-  attained-on height rs (inr a) = inr (record { r = a.r; among = a.among; key = a.key; below = a.below; known = keys (identity_of a.r) a.key a.below a.known; least = a.least })
+  attained-on x0 rs x2 = grind (arith, nat_tests)
 
   slot-low-on : (slot : Slot) → SlotLow shelf slot → SlotLow shelf' slot
   slot-low-on slot low key height is = let a = low key height is in (
@@ -155,18 +154,12 @@ module _ (shelf shelf' : Shelf) (more : ShelfGrows shelf shelf') where
         attained = attained-on (keys-grow more) height w.written.references w.attained;
       }
 
-  still-low : (todo : List Todo) → WaitsLow shelf todo → WaitsLow shelf' todo
-  still-low todo low = waits-low-on (keys-grow more) todo low
-
   pub todo-low-on : (todo : List Todo) → TodoLow shelf todo → TodoLow shelf' todo
-  todo-low-on x0 x1 = grind (arith, nat_tests, still-low, wrote-low-on)
+  todo-low-on x0 x1 = grind (arith, nat_tests, waits-low-on (keys-grow {shelf = shelf} {shelf' = shelf'} more), wrote-low-on)
 
 -- ---- a key is given
 
 module _ (shelf : Shelf) where
-  higher : {h k : ℕ} {r : ArcRef} → h ≤ k → IsLow shelf h r → IsLow shelf k r
-  higher le low = record { key = low.key; below = low.below; known = low.known; within = let w = low.within in omega arith }
-
   -- one more is low, where the height grows
   first-more : (h k : ℕ) (rs : List ArcRef) (ks : List ℕ) (r : ArcRef) (more : List ArcRef) (key : ℕ) → h ≤ k → drop (length ks) rs ≡ r ∷ more → FirstLow shelf h rs ks → IsLow shelf k r
       → FirstLow shelf k rs (ks ++ key ∷ [])
@@ -174,7 +167,8 @@ module _ (shelf : Shelf) where
   first-more h k [] [] r more key le e low new = absurd (cc)
   first-more h k [] (x ∷ ks) r more key le e low new = absurd low
   first-more h k (y ∷ rs) [] r more key le e low new = let same : r ≡ y = cc in (subst (λ (z : ArcRef). IsLow shelf k z) same new, tt)
-  first-more h k (y ∷ rs) (x ∷ ks) r more key le e (one, low) new = (higher le one, first-more h k rs ks r more key le e low new)
+  first-more h k (y ∷ rs) (x ∷ ks) r more key le e (one, low) new =
+      ((record { key = one.key; below = one.below; known = one.known; within = let w = one.within in omega arith }), first-more h k rs ks r more key le e low new)
 
   -- all are low, once all keys are there
   pub all-low : (h : ℕ) (rs : List ArcRef) (ks : List ℕ) → length ks ≡ length rs → FirstLow shelf h rs ks → AllLow shelf h rs
@@ -205,13 +199,9 @@ module _ (shelf : Shelf) where
   adds : (b : Bool) (place height limit : ℕ) → (if b then place + 1 else 0) + height ≤ limit → place ≤ limit → place + (if b then height + 1 else 0) ≤ limit
   adds x0 place height limit le few = grind (arith, nat_tests)
 
-  within-max : (place a b limit : ℕ) → place + a ≤ limit → place + b ≤ limit → place + max a b ≤ limit
-  within-max place a b limit le few = omega arith
-
   pub given-low : (task : Task) (r : ArcRef) (key height : ℕ) → IsPublished shelf (identity_of r) key height → (below : List Todo) → Expects task r below → ReachesLow shelf r height below
       → TodoLow shelf (give r key height below)
   unfolding WaitsLow
-  given-low task r key height p [] expects low = tt
   given-low task r key height p (to_finish o ∷ below) (more, e) (reach, (first, attained, fits, place, low)) =
       let new : ℕ = max o.height (above r.kind.0 height) in
       let a = adds (is_eager r.kind.0) o.place height longest_path reach (omega arith) in
@@ -219,22 +209,17 @@ module _ (shelf : Shelf) where
         first-more o.height new o.written.references o.keys r more key (omega arith) e first (record { key = key; below = height; known = p; within = omega arith }),
         more-attained o.height (above r.kind.0 height) o.written.references attained (inr
             (record { r = r; among = next-among o.written.references o.keys r more e; key = key; below = height; known = p; least = omega arith })),
-        within-max o.place o.height (above r.kind.0 height) longest_path fits a,
+        (omega arith),
         place,
         low,
       )
   given-low task r key height p (to_item written ks ∷ below) (more, e) (reach, first) = grind (arith, adds, started-item-low, first-more)
-  given-low task r key height p (_ ∷ below) expects low = absurd expects
+  given-low task r key x3 p x5 x6 x7 = grind (arith, nat_tests)
 
   pub given-known-low : (task : Task) (r : ArcRef) (key height : ℕ) → IsPublished shelf (identity_of r) key height → (below : List Todo) → Expects task r below → ReachesLow shelf r height below
       → TodoLow shelf (give_known r key height below)
   given-known-low task r key height p [] expects low = low
   given-known-low task r key height p (x ∷ below) expects low = given-low task r key height p (x ∷ below) expects low
-
-  pub opened-low : (r : ArcRef) (place : ℕ) (o : Open) (below : List Todo) → o.keys ≡ [] → o.height ≡ 0 → o.place ≡ place → o.reference ≡ r → PlacedLow shelf r place below
-      → WaitsLow shelf (to_finish o ∷ below)
-  unfolding WaitsLow FirstLow
-  opened-low r place o below no_keys no_height at of_it (few, is, low) = grind (arith, nat_tests)
 
 -- A worker's step keeps heights low, and so does each event.
 
@@ -285,7 +270,7 @@ module _ {N B W : Type 0} (m : Seen N B W) (n : ℕ) (g : Ground) (task : Task) 
       ))
 
   stepped : (todo : List Todo) → s.todo ≡ todo → (step : Took W) → Does m n s todo step s' → AllStand s.shelf n task todo → Walks m.values g s.shelf task todo → TodoLow s.shelf todo → Low
-  unfolding AllStand
+  unfolding AllStand WaitsLow FirstLow
   stepped (to_start r place ∷ below) e (Took.Claim i (Ok Claim.Claimed)) (is, c) all walks (at, low) =
       let t = c.finds.1.2 in
       let puts = puts-slot (with_wait s.shelf n None) s'.shelf (identity_of r) (record { worker = n; written = None; outcome = no_result }) t.table_is in
@@ -310,7 +295,7 @@ module _ {N B W : Type 0} (m : Seen N B W) (n : ℕ) (g : Ground) (task : Task) 
       let puts = changes-slot s.shelf s'.shelf (identity_of r) claim.slot (λ slot. record slot { written = Some (m.written_of out) }) claim.claimed t.table_is in
       did (slots-low-but (keys-grow more) lows puts (no-key (record claim.slot { written = Some (m.written_of out) }) claim.no_result_yet)) (open_node r place through
       (m.written_of out) below) t.list_is
-      (started-low s.shelf o below _ (opened-low s.shelf r place o below refl refl refl refl low))
+      (started-low s.shelf o below _ (grind (arith, nat_tests)))
   stepped (to_finish o ∷ below) e (Took.Store i (Ok key)) (is, p) (stands, apart, all) walks low =
       let t = p.goes in did (kept t.table_stays.slots) _ t.list_is (finishes o below key stands.1 low p.all)
   stepped (to_item written ks ∷ below) e (Took.Store i (Ok key)) (is, p) all walks low = let t = p.goes in did (kept t.table_stays.slots) [] t.list_is tt
@@ -334,16 +319,14 @@ pub heights-at-first : {N E : Type 0} (s : MachineState N E) → IsIdle s → He
 heights-at-first s idle = record { slots = λ t i slot is. let f = idle.shelves t i in absurd (cc); todos = λ n walking is. let f = idle.walkings n in absurd (cc) }
 
 module _ {N B W E : Type 0} (m : Seen N B W) (s s' : MachineState N E) (trees : ℕ → Tree) (fit : WorkFits m.values s trees) (low : HeightsIn (world_of s)) where
-  starts-low : (shelf : Shelf) (task : Task) → TodoLow shelf (first_todo task)
-  unfolding WaitsLow FirstLow
-  starts-low shelf x1 = grind (arith, nat_tests, started-item-low)
-
   -- each event keeps it
   pub heights-on : StandsIn (world_of s) → (event : Event N B W) (reply : EventReply N B W) → EventTurns m (world_of s) event reply (world_of s') → HeightsIn (world_of s')
+  unfolding WaitsLow FirstLow
   heights-on work event reply turns =
       let h = turns-keep m turns SlotsLow (λ n shelf w. TodoLow shelf w.todo) (λ a b same lows. slots-low-on (keys-same same) lows same) (λ a b more lows n w. todo-low-on a b more w.todo)
       (λ t shelf more same. slots-low-on (keys-grow more) (low.slots t) same)
-      (λ n w none there. todo-low-on (s.work.shelves w.table) (s'.work.shelves w.table) (turns-grow m turns w.table) w.todo (low.todos n w there)) (λ n shelf t task. starts-low shelf task)
+      (λ n w none there. todo-low-on (s.work.shelves w.table) (s'.work.shelves w.table) (turns-grow m turns w.table) w.todo (low.todos n w there))
+      (λ n shelf t task. (grind (arith, nat_tests, started-item-low)))
       (λ k r w one more.
       let d = stepped m k.0 (ground_of s trees) w.walking.task (record { core = s.pager.core; shelf = s.work.shelves w.walking.table; todo = w.walking.todo }) w.after more
       (low.slots w.walking.table) w.walking.todo refl r.took w.does.does (work.workers k.0 w.walking w.at).all (fit.walks k.0 w.walking w.at) (low.todos k.0 w.walking w.at) in
@@ -387,11 +370,6 @@ module _ (trees : ℕ → Tree) (rs : List ArcRef) (whole : Meaning ⊥) where
   parts-along (reference-follows r a among is) h d s = grind (arith, reference-along, size)
   parts-along x0 h d s = grind (arith, nat_tests, number-along, integer-along, text-along, pattern-along, none-along)
 
-each-two : {X Y : Type 0} {R : X → Y → Type 0} {xs : List X} {ys : List Y} → AllTwo R xs ys → (x : X) → Among xs x → (y : Y) × R x y
-each-two no-two x (i, e) = absurd (cc)
-each-two {R = R} (more-two a b xs ys h g) x (zero, e) = let same : a ≡ x = cc in (b, subst (λ z. R z b) same h)
-each-two (more-two a b xs ys h g) x (suc i, e) = each-two g x (i, e)
-
 part-of : {types : Types} {g : Ground} {n : ℕ} {written : Written} → WroteTree types g n written → (r : ArcRef) → Among written.references r → Part g.trees (g.trees n).meaning r
 part-of {g = g} {n} {written} w r among =
     let p = form-along (λ x y h. ap kind_of_arc h.same) w.form (parts-along g.trees written.references (g.trees n).meaning w.follows (omega arith) (omega arith) (omega arith)) in
@@ -410,13 +388,6 @@ climbs x0 place h d top deep le few within long = grind (arith, nat_tests)
 
 climbs-item : (e : Bool) (h d : ℕ) → h ≤ d → longest_path < max ((if e then 0 + 1 else 0) + h) d → longest_path < max (if e then h + 1 else 0) d
 climbs-item x0 h d within long = grind (arith, nat_tests)
-
-climbs-entry : (h d : ℕ) → h ≤ d → longest_path < max (0 + h) d → longest_path < d
-climbs-entry h d within long = omega arith
-
--- no reference is refused as too deep before its place is looked at
-no-claim-deep : (w : Core) (r : ArcRef) → claim_fault w r ≡ Some Error.TooDeep → ⊥
-no-claim-deep w r is = grind arith
 
 less-still : {a b c : ℕ} → suc a ≤ b → c ≤ a → b ≡ c → ⊥
 less-still lt le e = absurd (omega arith)
@@ -454,7 +425,6 @@ module _ {N E : Type 0} (v : Values N) (s : MachineState N E) (trees : ℕ → T
   leads-down : (n : ℕ) (task : Task) (r : ArcRef) (below : List Todo) → Expects task r below → Waits shelf task below → AllStand shelf n task below → WaitsLow shelf below
       → longest_path < max (place_over r below + height (trees r.node.0).meaning) (deepest_path (trees r.node.0).meaning) → IsTooDeepTask trees task
   unfolding Waits AllStand WaitsLow
-  leads-down n (of_entry q i) r [] expects waits all lows long = grind (arith, climbs-entry, height-within)
   leads-down n task r (to_finish o ∷ below) (more, e) (known, expects, waits) (stands, apart, all) (first, attained, fits, place, lows) long =
       let claim = stands.1 in
       let f = fit.slots t (identity_of o.reference) claim.slot claim.claimed in
@@ -466,7 +436,7 @@ module _ {N E : Type 0} (v : Values N) (s : MachineState N E) (trees : ℕ → T
   leads-down n task r (to_item written keys ∷ below) (more, e) (is, known) all lows long =
       let m = (trees r.node.0).meaning in
       subst (λ x. IsTooDeepTask trees x) (sym is) (r, next-among shelf written.references keys r more e, climbs-item (is_eager r.kind.0) (height m) (deepest_path m) (height-within m) long)
-  leads-down n _ r _ expects waits all lows long = absurd expects
+  leads-down n x1 r x3 x4 x5 x6 x7 long = grind (arith, nat_tests, height-within)
 
   -- a worker comes upon no claim of its own that it is at: a tree is no part of itself
   not-below : (n : ℕ) (task : Task) (q : Identity) (r : ArcRef) (below : List Todo) → size (trees q.node.0).meaning ≤ size (trees r.node.0).meaning → Expects task r below → Waits shelf task below
@@ -491,7 +461,7 @@ module _ {N E : Type 0} (v : Values N) (s : MachineState N E) (trees : ℕ → T
       → IsTooDeepTask trees task ⊎ WaitsForAsker shelf n (identity_of r)
   unfolding is_open_in
   claim-deep n task core todo r place below s' c expects waits all covers at lows = elim c.refused.0 [
-    | inl fault ↦ absurd (no-claim-deep core r fault)
+    | inl fault ↦ absurd (grind arith)
     | inr (inl (none_there, is, deep)) ↦ by deep
     | inr (inr memory) ↦ absurd (cc)
   ]

@@ -98,8 +98,7 @@ entered-got {w} {w'} kind key n opened (got-new none next l own references a) h 
     made = with_handle (with_node w (type_of kind.0) own references) (next_node w) (mode_of kind.0) (Owner.Load l)
 
     entered : (b : Bool) → b ≡ false → let d = if b then made else with_cached made kind key (next_node w) in IsEntered kind.0 key n d.cache d.cells
-    entered true is = absurd (cc)
-    entered false is = grind (arith, nat_tests, self-number)
+    entered x0 is = grind (arith, nat_tests, self-number)
 
 -- ---- along a chain
 

@@ -3,10 +3,8 @@ pub mod Again
 mod Along
 pub mod Trees
 mod Merkle
-mod Tame
 pub mod Related
 mod AnyOrder
-mod JsonNumbers
 pub mod Sums
 pub mod Existing
 mod Two
@@ -27,12 +25,9 @@ mod Fitting
 mod Following
 pub mod Naming
 mod Stepping
-mod Leading
-mod TreesGoing
-pub mod Taking
 mod Felt
+pub mod Taking
 mod Answering
-mod Brought
 mod KnownSteps
 pub mod Chains
 mod Level
@@ -44,5 +39,4 @@ mod Sound
 mod Apart
 mod LoadsReady
 mod OnePiece
-mod DeepLoads
 mod LoadRuns

@@ -1,7 +1,7 @@
 -- A load from its begin to its end keeps trees: what it pins stands for its node's tree, and what it reads for the tree that its key reads as.
-use Rattle.pagable_laws.proofs.{Brought.reading-fits, Called.begins, Called.begins-key, Decoding.decodes, ReadingSteps.core-goes, Felt.fits-nothing, Fitting.{first-fits, frames-stay}, Goes.Goes}
+use Rattle.pagable_laws.proofs.{Felt.reading-fits, Called.begins, Called.begins-key, Decoding.decodes, ReadingSteps.core-goes, Felt.fits-nothing, Fitting.{first-fits, frames-stay}, Goes.Goes}
 use Rattle.pagable_laws.proofs.{ReadingSteps.{ReadingFelt, caller-free, reading-feels}, ReadingStepsGive.{got-typed, hands, held-after}, Taking.AtStep}
-use Rattle.pagable_laws.proofs.{Taking.{FitAfter, fit-after, row-held, root-right, stands-here}, Trees.same_some, TreesGoing.trees-go-on}
+use Rattle.pagable_laws.proofs.{Taking.{FitAfter, fit-after, row-held, root-right, stands-here}, Trees.same_some, Felt.trees-go-on}
 use Rattle.std.proofs.{Common.{◌≡◌, ℕ, zero, ◌+◌, ◌<◌, ◌≤◌, ◌==◌, true, List, [], Option, Some, None, if◌then◌else◌, inl, inr, refl, sym, ap, subst, ◌∙◌, arith}, lemmas.Bool.Decides.nat_tests}
 use Rattle.pagable_world.specs.{World.{Core, Last, Alike, Root, of_cell, of_key, OpenLoad, Frame, Reading, Written, Values, Seen, IsLawful, type_at}, Pager.{PagerState, WellFormed, Moves}}
 use Rattle.pagable_world.specs.{Pager.{ReadingBrings, Represents, ReadingFits, FramesFit, SameTrees}, Access.{ReadingStep, LoadRun, load-ends, load-goes-on, LoadAsksWell, PinLaw, ReadLaw}}

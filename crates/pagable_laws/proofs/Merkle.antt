@@ -1,23 +1,22 @@
 -- A tree of canonical types has one key, a stored tree has the key that it stands under, and keys tell trees apart.
-use Rattle.pagable_laws.proofs.Words.{arith, nat_tests, ◌≡◌, ℕ, suc, Bool, List, [], ◌∷◌, ◌++◌, length, refl, sym, ap, ◌∙◌, subst, unsigned_form, signed_form, bool_form, length_form, text_form}
-use Rattle.pagable_laws.proofs.Words.{char_form, Meaning, sequence, Entry, of_entries, Shape, Form, Forms, Entries, nothing-form, unsigned-form, signed-form, flag-form, text-form, letter-form}
-use Rattle.pagable_laws.proofs.Words.{duration-form, pattern-form, none-form, some-form, err-form, ok-form, list-form, run-form, array-form, both-form, sorted-map-form, placed-map-form}
-use Rattle.pagable_laws.proofs.Words.{hash-map-form, sorted-set-form, placed-set-form, static-form, tagged-form, case-form, reference-form, nested-form, json-null-form, json-flag-form}
-use Rattle.pagable_laws.proofs.Words.{json-number-form, json-text-form, json-array-form, json-object-form, no-forms, more-forms, no-entries, more-entries, LiesIn, IsCanonical, Throughout}
-use Rattle.pagable_laws.proofs.Words.{CanonicalHasOneForm, true, false, pair, variant, reference, followed, lifted, rename, code_order, ordered, put_all, put_sorted, of_hash_map, Tree, Types}
-use Rattle.pagable_laws.proofs.Words.{type_of, Kid, unfolded, KeyOf, key-of, KeysOf, no-keys, more-keys, EachType, StaysInside, IsCanonicalInside, zero, ◌+◌, ◌*◌, ◌/◌, ◌%◌, ◌^◌, ◌<◌, ◌≤◌, add-mul}
-use Rattle.pagable_laws.proofs.Words.{add_assoc, div-add-mod', div-div-eq-div-mul, div-one, mod-eq_of_lt, mod-lt, mul-add-mod_self_right, mul-le-mul_right, mul_assoc, one-le-pow, pow-suc}
-use Rattle.pagable_laws.proofs.Words.{length-append, Blob, preimage, cut, HasOnePreimage, inl, inr, if◌then◌else◌, cases_lt, is_eager, height, HasPath, IsLongestPath, map, Option, Ok, append-nil}
-use Rattle.pagable_laws.proofs.Words.{read, read_typed, key_of, KeyRef, tree, key_ref, ReadsAs, IsFollowed, number-followed, integer-followed, text-followed, pattern-followed, none-followed}
-use Rattle.pagable_laws.proofs.Words.{pair-followed, variant-followed, reference-followed, blob_context, rest_of, kind_of_kid, tree_of_kid, TreeForm, blob_of, kind_of_ref, key_of_ref, StoredAs}
-use Rattle.pagable_laws.proofs.Words.{HasOwnKeys, SharesNoKey, IsCanonicalType, IsCanonicalTree, IsReadableType, rest, LooksUp, no-references, more-references, IsOneKey, IsOneItemKey, IsStoredKey}
-use Rattle.pagable_laws.proofs.{Words.{IsTreeReadable, IsKeyOfOneTree}, Again.{here, narrowed, part_of, of_json, of_text, lower, form-again}, Along.{Along, number-along, integer-along}}
-use Rattle.pagable_laws.proofs.{Along.{text-along, pattern-along, none-along, pair-along, variant-along, reference-along, AllTwo, no-two, more-two, form-along}, Trees.{same_some, same_result}}
-use Rattle.pagable_laws.proofs.Trees.{tree_is, one-followed}
+use Rattle.pagable_laws.proofs.Words.{arith, nat_tests, ◌≡◌, ℕ, suc, Bool, List, [], ◌∷◌, ◌++◌, length, refl, sym, ap, ◌∙◌, subst, unsigned_form, signed_form, bool_form, length_form}
+use Rattle.pagable_laws.proofs.Words.{text_form, char_form, Meaning, sequence, Entry, of_entries, Shape, Form, Forms, Entries, nothing-form, unsigned-form, signed-form, flag-form}
+use Rattle.pagable_laws.proofs.Words.{text-form, letter-form, duration-form, pattern-form, none-form, some-form, err-form, ok-form, list-form, run-form, array-form, both-form}
+use Rattle.pagable_laws.proofs.Words.{sorted-map-form, placed-map-form, hash-map-form, sorted-set-form, placed-set-form, static-form, tagged-form, case-form, reference-form, nested-form}
+use Rattle.pagable_laws.proofs.Words.{json-null-form, json-flag-form, json-number-form, json-text-form, json-array-form, json-object-form, no-forms, more-forms, no-entries, more-entries}
+use Rattle.pagable_laws.proofs.Words.{LiesIn, IsCanonical, Throughout, CanonicalHasOneForm, true, false, pair, variant, reference, followed, lifted, rename, code_order, ordered, put_all}
+use Rattle.pagable_laws.proofs.Words.{put_sorted, of_hash_map, Tree, Types, type_of, Kid, unfolded, KeyOf, key-of, KeysOf, no-keys, more-keys, EachType, StaysInside, IsCanonicalInside}
+use Rattle.pagable_laws.proofs.Words.{zero, ◌+◌, ◌*◌, ◌/◌, ◌%◌, ◌^◌, ◌<◌, ◌≤◌, div-div-eq-div-mul, pow-suc, length-append, Blob, preimage, cut, HasOnePreimage, inl, inr, if◌then◌else◌}
+use Rattle.pagable_laws.proofs.Words.{cases_lt, is_eager, height, HasPath, IsLongestPath, map, Option, Ok, append-nil, read, read_typed, key_of, KeyRef, tree, key_ref, ReadsAs, IsFollowed}
+use Rattle.pagable_laws.proofs.Words.{number-followed, integer-followed, text-followed, pattern-followed, none-followed, pair-followed, variant-followed, reference-followed, blob_context}
+use Rattle.pagable_laws.proofs.Words.{rest_of, kind_of_kid, tree_of_kid, TreeForm, blob_of, kind_of_ref, key_of_ref, StoredAs, HasOwnKeys, SharesNoKey, IsCanonicalType, IsCanonicalTree}
+use Rattle.pagable_laws.proofs.Words.{IsReadableType, rest, IsOneKey, IsOneItemKey, IsStoredKey, IsTreeReadable, IsKeyOfOneTree}
+use Rattle.pagable_laws.proofs.{Again.{here, narrowed, part_of, of_json, of_text, lower, form-again, Looked, all-looked, one-looked}}
+use Rattle.pagable_laws.proofs.{Along.{Along, number-along, integer-along, text-along, pattern-along, none-along, pair-along, variant-along, reference-along, AllTwo, no-two}}
+use Rattle.pagable_laws.proofs.{Along.{more-two, form-along}, Trees.{same_some, same_result, tree_is, one-followed}}
+use Rattle.pagable_model.specs.{Canonical.IsClosed}
+use Rattle.std.{specs.Int.{byte_at, bytes_low_first, to_le_bytes, w64, w128}, specs.List.{flat_map, AllByRecursion}, proofs.Common.rules}
 use Rattle.pagable_model.specs.Meaning as meanings
-use Rattle.pagable_model.specs.Canonical.{IsClosed}
-use Rattle.std.specs.{Int.{byte_at, bytes_low_first, to_le_bytes, w64, w128}, List.{flat_map, AllByRecursion}}
-use Rattle.std.proofs.Common.{rules}
 
 -- ---- a meaning of a canonical shape has at most one form
 
@@ -47,25 +46,11 @@ counted xs ys b c k l e h = (rw (e, h.0) refl, h.1)
 abbrev pairing : {A : Type 0} → Meaning A → Meaning A → Entry A
 pairing m n = (m, n)
 
--- one level further down is the same for both
-same_level : (left less less2 : ℕ) → left ≡ suc less → left ≡ suc less2 → less2 ≡ less
-same_level left less less2 p p2 = let e : suc less ≡ suc less2 = sym p ∙ p2 in cc
-
-module _ {A : Type 0} {kind_of : A → ℕ} {parts : ℕ → Shape} {left less less2 : ℕ} (p : left ≡ suc less) (p2 : left ≡ suc less2) where
-  lowered : {s : Shape} {m : Meaning A} {b : List ℕ} {k : List A} → Form A kind_of parts less2 s m b k → Form A kind_of parts less s m b k
-  lowered {s} {m} {b} {k} f = let P : ℕ → Type 0 = λ l. Form A kind_of parts l s m b k in subst P (same_level left less less2 p p2) f
-
-  lowered_items : {s : Shape} {ms : List (Meaning A)} {b : List ℕ} {k : List A} → Forms A kind_of parts less2 s ms b k → Forms A kind_of parts less s ms b k
-  lowered_items {s} {ms} {b} {k} f = let P : ℕ → Type 0 = λ l. Forms A kind_of parts l s ms b k in subst P (same_level left less less2 p p2) f
-
-  lowered_entries : {s t : Shape} {es : List (Entry A)} {b : List ℕ} {k : List A} → Entries A kind_of parts less2 s t es b k → Entries A kind_of parts less s t es b k
-  lowered_entries {s} {t} {es} {b} {k} f = let P : ℕ → Type 0 = λ l. Entries A kind_of parts l s t es b k in subst P (same_level left less less2 p p2) f
-
 module _ {A : Type 0} {kind_of : A → ℕ} {parts : ℕ → Shape} where
   mutual
     unfolding IsCanonical LiesIn
 
-    pub one-form : {left : ℕ} {s : Shape} {m n : Meaning A} {b c : List ℕ} {k l : List A} → Form A kind_of parts left s m b k → Form A kind_of parts left s n c l
+    pub one-form : {left left2 : ℕ} {s : Shape} {m n : Meaning A} {b c : List ℕ} {k l : List A} → Form A kind_of parts left s m b k → Form A kind_of parts left2 s n c l
         → Throughout IsCanonical parts s → m ≡ n → (b ≡ c) × (k ≡ l)
     one-form (nothing-form left) (nothing-form left2) r e = (refl, refl)
     one-form (unsigned-form left w n h) (unsigned-form left2 w2 n2 h2) r e = let same : n ≡ n2 = cc in (ap (unsigned_form w) same, refl)
@@ -89,24 +74,22 @@ module _ {A : Type 0} {kind_of : A → ℕ} {parts : ℕ → Shape} where
         counted _ _ _ _ _ _ same (one-entries h h2 (narrowed r (λ p. p.0) (λ n d l. l.0)) (narrowed r (λ p. p.1) (λ n d l. l.1)) same)
     one-form (placed-map-form left s t es b k le up h) (placed-map-form left2 s2 t2 es2 b2 k2 le2 up2 h2) r e = let same = same-entries es es2 e in
         counted _ _ _ _ _ _ same (one-entries h h2 (narrowed r (λ p. p.0) (λ n d l. l.0)) (narrowed r (λ p. p.1) (λ n d l. l.1)) same)
-    one-form (hash-map-form left s t es b k le up h) g r e = absurd (here r)
     one-form (sorted-set-form left o s ms b k le up h) (sorted-set-form left2 o2 s2 ms2 b2 k2 le2 up2 h2) r e = let same = same-items ms ms2 e in
         counted _ _ _ _ _ _ same (one-forms h h2 (narrowed r (λ p. p) (λ n d l. l)) same)
     one-form (placed-set-form left s ms b k le up h) (placed-set-form left2 s2 ms2 b2 k2 le2 up2 h2) r e = let same = same-items ms ms2 e in
         counted _ _ _ _ _ _ same (one-forms h h2 (narrowed r (λ p. p) (λ n d l. l)) same)
-    one-form (static-form left registry i m h q) g r e = absurd (here r)
     one-form (tagged-form left written known body tag m b k u h f) (tagged-form left2 written2 known2 body2 tag2 m2 b2 k2 u2 h2 f2) r e =
         let tags : tag ≡ tag2 = cc in
-        let f3 = let P : List ℕ → Type 0 = λ t. Form A kind_of parts left (written t) m2 b2 k2 in subst P (sym tags) f2 in
+        let f3 = let P : List ℕ → Type 0 = λ t. Form A kind_of parts left2 (written t) m2 b2 k2 in subst P (sym tags) f2 in
         let rest = one-form f f3 (narrowed r (λ p. p.0 tag) (λ n d l. l.0 tag)) cc in
         (rw (tags, rest.0) refl, rest.1)
     one-form (case-form left w known part n m b k lt is f) (case-form left2 w2 known2 part2 n2 m2 b2 k2 lt2 is2 f2) r e =
         let cases : n ≡ n2 = cc in
-        let f3 = let P : ℕ → Type 0 = λ x. Form A kind_of parts left (part x) m2 b2 k2 in subst P (sym cases) f2 in
+        let f3 = let P : ℕ → Type 0 = λ x. Form A kind_of parts left2 (part x) m2 b2 k2 in subst P (sym cases) f2 in
         let rest = one-form f f3 (narrowed r (λ p. p n is) (λ nodes d l. l n is)) cc in
         (rw (cases, rest.0) refl, rest.1)
     one-form (reference-form left kind a q) (reference-form left2 kind2 a2 q2) r e = let same : a ≡ a2 = cc in (refl, ap (λ (x : A). x ∷ []) same)
-    one-form (nested-form left less n m b k p h) (nested-form left2 less2 n2 m2 b2 k2 p2 h2) r e = one-form h (lowered p p2 h2) (part_of r) e
+    one-form (nested-form left less n m b k p h) (nested-form left2 less2 n2 m2 b2 k2 p2 h2) r e = one-form h h2 (part_of r) e
     one-form (json-null-form left) (json-null-form left2) r e = (refl, refl)
     one-form (json-flag-form left b) (json-flag-form left2 b2) r e = grind (arith, nat_tests, same-flag)
     one-form (json-number-form left z h) (json-number-form left2 z2 h2) r e = let same : z ≡ z2 = cc in (rw same refl, refl)
@@ -114,31 +97,29 @@ module _ {A : Type 0} {kind_of : A → ℕ} {parts : ℕ → Shape} where
     one-form (json-array-form left less ms b k p le h) (json-array-form left2 less2 ms2 b2 k2 p2 le2 h2) r e =
         let part : sequence ms ≡ sequence ms2 = cc in
         let same = same-items ms ms2 part in
-        grown (4 ∷ []) _ _ _ _ (counted _ _ _ _ _ _ same (one-forms h (lowered_items p p2 h2) (of_json tt) same))
+        grown (4 ∷ []) _ _ _ _ (counted _ _ _ _ _ _ same (one-forms h h2 (of_json tt) same))
     one-form (json-object-form left less es b k p le up h) (json-object-form left2 less2 es2 b2 k2 p2 le2 up2 h2) r e =
         let part : of_entries es ≡ of_entries es2 = cc in
         let same = same-entries es es2 part in
-        grown (5 ∷ []) _ _ _ _ (counted _ _ _ _ _ _ same (one-entries h (lowered_entries p p2 h2) (of_text tt) (of_json tt) same))
-    one-form f g r e = absurd cc
+        grown (5 ∷ []) _ _ _ _ (counted _ _ _ _ _ _ same (one-entries h h2 (of_text tt) (of_json tt) same))
+    one-form x0 x1 r e = grind (arith, nat_tests, here)
 
-    pub one-forms : {left : ℕ} {s : Shape} {ms ns : List (Meaning A)} {b c : List ℕ} {k l : List A} → Forms A kind_of parts left s ms b k → Forms A kind_of parts left s ns c l
+    pub one-forms : {left left2 : ℕ} {s : Shape} {ms ns : List (Meaning A)} {b c : List ℕ} {k l : List A} → Forms A kind_of parts left s ms b k → Forms A kind_of parts left2 s ns c l
         → Throughout IsCanonical parts s → ms ≡ ns → (b ≡ c) × (k ≡ l)
     one-forms (no-forms left s) (no-forms left2 s2) r e = (refl, refl)
-    one-forms (no-forms left s) (more-forms left2 s2 m2 ms2 b2 c2 k2 l2 h2 g2) r e = absurd cc
-    one-forms (more-forms left s m ms b c k l h g) (no-forms left2 s2) r e = absurd cc
     one-forms (more-forms left s m ms b c k l h g) (more-forms left2 s2 m2 ms2 b2 c2 k2 l2 h2 g2) r e = joined _ _ _ _ _ _ _ _ (one-form h h2 r cc) (one-forms g g2 r cc)
+    one-forms f g r e = absurd cc
 
-    pub one-entries : {left : ℕ} {s t : Shape} {es fs : List (Entry A)} {b c : List ℕ} {k l : List A} → Entries A kind_of parts left s t es b k → Entries A kind_of parts left s t fs c l
+    pub one-entries : {left left2 : ℕ} {s t : Shape} {es fs : List (Entry A)} {b c : List ℕ} {k l : List A} → Entries A kind_of parts left s t es b k → Entries A kind_of parts left2 s t fs c l
         → Throughout IsCanonical parts s → Throughout IsCanonical parts t → es ≡ fs → (b ≡ c) × (k ≡ l)
     one-entries (no-entries left s t) (no-entries left2 s2 t2) r q e = (refl, refl)
-    one-entries (no-entries left s t) (more-entries left2 s2 t2 m2 n2 es2 b2 c2 d2 j2 k2 l2 h2 g2 f2) r q e = absurd cc
-    one-entries (more-entries left s t m n es b c d j k l h g f) (no-entries left2 s2 t2) r q e = absurd cc
     one-entries (more-entries left s t m n es b c d j k l h g f) (more-entries left2 s2 t2 m2 n2 es2 b2 c2 d2 j2 k2 l2 h2 g2 f2) r q e =
         let heads : pairing m n ≡ pairing m2 n2 = cc in
         let keys : m ≡ m2 = ap (λ (x : Entry A). x.0) heads in
         let values : n ≡ n2 = ap (λ (x : Entry A). x.1) heads in
         let tails : es ≡ es2 = cc in
         joined _ _ _ _ _ _ _ _ (one-form h h2 r keys) (joined _ _ _ _ _ _ _ _ (one-form g g2 q values) (one-entries f f2 r q tails))
+    one-entries f g r q e = absurd cc
 
 pub canonical_one : {A : Type 0} → CanonicalHasOneForm A
 canonical_one kind_of parts s r left m b c k l f g = one-form f g r refl
@@ -158,15 +139,10 @@ pub Each : {X : Type 0} → (X → Type 0) → List X → Type 0
 Each P [] = Unit {0}
 Each P (x ∷ xs) = P x × Each P xs
 
-pub each_front : {X : Type 0} (P : X → Type 0) (xs ys : List X) → Each P (xs ++ ys) → Each P xs
+each_split : {X : Type 0} (P : X → Type 0) (xs ys : List X) → Each P (xs ++ ys) → Each P xs × Each P ys
 unfolding Each
-each_front P [] ys h = tt
-each_front P (x ∷ xs) ys h = (h.0, each_front P xs ys h.1)
-
-each_back : {X : Type 0} (P : X → Type 0) (xs ys : List X) → Each P (xs ++ ys) → Each P ys
-unfolding Each
-each_back P [] ys h = h
-each_back P (x ∷ xs) ys h = each_back P xs ys h.1
+each_split P [] ys h = (tt, h)
+each_split P (x ∷ xs) ys h = let s = each_split P xs ys h.1 in ((h.0, s.0), s.1)
 
 module _ {A : Type 0} (P : A → Type 0) where
   abbrev EachEntry : Entry A → Type 0
@@ -223,7 +199,7 @@ module _ {A : Type 0} {kind_of : A → ℕ} {parts : ℕ → Shape} (nodes : ℕ
     form-refs (list-form left s ms b k l f) t h = sequence_refs Q ms (forms-refs f (lower nodes (λ n d l. l) t) h)
     form-refs (run-form left s ms b k l f) t h = sequence_refs Q ms (forms-refs f (lower nodes (λ n d l. l) t) h)
     form-refs (array-form left n s ms b k e f) t h = sequence_refs Q ms (forms-refs f (lower nodes (λ n d l. l) t) h)
-    form-refs (both-form left s s2 m n b c k l f g) t h = (form-refs f (lower nodes (λ n d l. l.0) t) (each_front P k l h), form-refs g (lower nodes (λ n d l. l.1) t) (each_back P k l h))
+    form-refs (both-form left s s2 m n b c k l f g) t h = (form-refs f (lower nodes (λ n d l. l.0) t) (each_split P k l h).0, form-refs g (lower nodes (λ n d l. l.1) t) (each_split P k l h).1)
     form-refs (sorted-map-form left o s s2 es b k l up f) t h = entries_refs Q es (entries_form-refs f (lower nodes (λ n d l. l.0) t) (lower nodes (λ n d l. l.1) t) h)
     form-refs (placed-map-form left s s2 es b k l up f) t h = entries_refs Q es (entries_form-refs f (lower nodes (λ n d l. l.0) t) (lower nodes (λ n d l. l.1) t) h)
     form-refs (hash-map-form left s s2 es b k l up f) t h = hash_refs Q es (entries_form-refs f (lower nodes (λ n d l. l.0) t) (lower nodes (λ n d l. l.1) t) h)
@@ -242,14 +218,14 @@ module _ {A : Type 0} {kind_of : A → ℕ} {parts : ℕ → Shape} (nodes : ℕ
 
     forms-refs : {left : ℕ} {s : Shape} {ms : List (Meaning A)} {b : List ℕ} {k : List A} → Forms A kind_of parts left s ms b k → Inside nodes parts s → Each P k → Each (EachRef Q) ms
     forms-refs (no-forms left s) t h = tt
-    forms-refs (more-forms left s m ms b c k l f g) t h = (form-refs f t (each_front P k l h), forms-refs g t (each_back P k l h))
+    forms-refs (more-forms left s m ms b c k l f g) t h = (form-refs f t (each_split P k l h).0, forms-refs g t (each_split P k l h).1)
 
     entries_form-refs : {left : ℕ} {s s2 : Shape} {es : List (Entry A)} {b : List ℕ} {k : List A} → Entries A kind_of parts left s s2 es b k → Inside nodes parts s
         → Inside nodes parts s2 → Each P k → Each (EachEntry Q) es
     entries_form-refs (no-entries left s s2) t u h = tt
     entries_form-refs (more-entries left s s2 m n es b c d j k l f g e) t u h =
-        let rest = each_back P j (k ++ l) h in
-        ((form-refs f t (each_front P j (k ++ l) h), form-refs g u (each_front P k l rest)), entries_form-refs e t u (each_back P k l rest))
+        let rest = (each_split P j (k ++ l) h).1 in
+        ((form-refs f t (each_split P j (k ++ l) h).0, form-refs g u (each_split P k l rest).0), entries_form-refs e t u (each_split P k l rest).1)
 
 -- ---- trees
 
@@ -292,48 +268,23 @@ canonical_inside hash types nodes t key closed all inside h = (all t.type inside
 
 -- ---- different blobs have different preimages
 
--- the two low digits of n, to the bases c and then m
-mod-split : (n : ℕ) {m c : ℕ} → zero < m → zero < c → n % (m * c) ≡ (n / c % m) * c + n % c
-mod-split n {m} {c} hm hc =
-    let a = mod-lt (n / c) hm in
-    let b = mod-lt n hc in
-    let top : (n / c % m + 1) * c ≤ m * c = mul-le-mul_right c (omega arith) in
-    let expand : (n / c % m + 1) * c ≡ n / c % m * c + 1 * c = add-mul (n / c % m) 1 c in
-    let split : n ≡ n / c / m * (m * c) + (n / c % m * c + n % c) =
-    sym (div-add-mod' n c)
-    ∙ ap (λ (x : ℕ). x * c + n % c) (sym (div-add-mod' (n / c) m))
-    ∙ ap (λ (x : ℕ). x + n % c) (add-mul (n / c / m * m) (n / c % m) c ∙ ap (λ (x : ℕ). x + n / c % m * c) (mul_assoc (n / c / m) m c))
-    ∙ add_assoc (n / c / m * (m * c)) (n / c % m * c) (n % c) in
-    ap (λ (x : ℕ). x % (m * c)) split ∙ mul-add-mod_self_right (n / c / m) (m * c) (n / c % m * c + n % c) ∙ mod-eq_of_lt (omega arith)
-
--- the number of bytes, low first
-low : List ℕ → ℕ
-low [] = 0
-low (b ∷ bs) = b + 256 * low bs
-
 byte_at-pow : (k x : ℕ) → byte_at k x ≡ x / 256 ^ k % 256
 byte_at-pow x0 x = grind (arith, nat_tests)
 
-pow_pos256 : (n : ℕ) → zero < 256 ^ n
-pow_pos256 n = let h = one-le-pow n 256 (omega arith) in omega arith
+shifted : (j x : ℕ) → x / 256 ^ suc j ≡ x / 256 ^ j / 256
+shifted j x = ap (λ (p : ℕ). x / p) (pow-suc 256 j) ∙ sym (div-div-eq-div-mul x (256 ^ j) 256)
 
-low-bytes : (k j x : ℕ) → low (bytes_low_first j k x) ≡ x / 256 ^ j % 256 ^ k
-unfolding low
-low-bytes zero j x = omega arith
-low-bytes (suc k) j x =
-    let ih = low-bytes k (suc j) x in
-    let shift : x / 256 ^ suc j ≡ x / 256 ^ j / 256 = ap (λ (p : ℕ). x / p) (pow-suc 256 j) ∙ sym (div-div-eq-div-mul x (256 ^ j) 256) in
-    let split = mod-split (x / 256 ^ j) {m = 256 ^ k} {c = 256} (pow_pos256 k) (omega arith) in
-    rw (ih, shift, byte_at-pow j x, pow-suc 256 k, split) (omega arith)
+same-from : (k j m n : ℕ) → m / 256 ^ j < 256 ^ k → n / 256 ^ j < 256 ^ k → bytes_low_first j k m ≡ bytes_low_first j k n → m / 256 ^ j ≡ n / 256 ^ j
+same-from zero j m n h g e = omega arith
+same-from (suc k) j m n h g e =
+    let heads : byte_at j m ≡ byte_at j n = cc in
+    let first : m / 256 ^ j % 256 ≡ n / 256 ^ j % 256 = sym (byte_at-pow j m) ∙ heads ∙ byte_at-pow j n in
+    let few : m / 256 ^ suc j < 256 ^ k = omega (arith, pow-suc 256 k, shifted j m) in
+    let rest = same-from k (suc j) m n few (omega (arith, pow-suc 256 k, shifted j n)) cc in
+    omega (arith, first, rest, shifted j m, shifted j n)
 
-low-again : (k x : ℕ) → x < 256 ^ k → low (bytes_low_first 0 k x) ≡ x
-low-again k x h = low-bytes k 0 x ∙ ap (λ (y : ℕ). y % 256 ^ k) (div-one x) ∙ mod-eq_of_lt h
-
-same-64 : (m n : ℕ) → m < 2 ^ 64 → n < 2 ^ 64 → to_le_bytes w64 m ≡ to_le_bytes w64 n → m ≡ n
-same-64 m n h g e = sym (low-again 8 m (omega arith)) ∙ ap low e ∙ low-again 8 n (omega arith)
-
-same-128 : (m n : ℕ) → m < 2 ^ 128 → n < 2 ^ 128 → to_le_bytes w128 m ≡ to_le_bytes w128 n → m ≡ n
-same-128 m n h g e = sym (low-again 16 m (omega arith)) ∙ ap low e ∙ low-again 16 n (omega arith)
+same-bytes : (k m n : ℕ) → m < 256 ^ k → n < 256 ^ k → bytes_low_first 0 k m ≡ bytes_low_first 0 k n → m ≡ n
+same-bytes k m n h g e = omega (arith, same-from k 0 m n (omega arith) (omega arith) e)
 
 keys-length : (ks : List ℕ) → length (flat_map (to_le_bytes w128) ks) ≡ 16 * length ks
 keys-length [] = refl
@@ -341,17 +292,16 @@ keys-length (k ∷ ks) = omega (arith, length-append (to_le_bytes w128 k) (flat_
 
 same-key-lists : (ks ls : List ℕ) → AllByRecursion (λ k. k < 2 ^ 128) ks → AllByRecursion (λ k. k < 2 ^ 128) ls → flat_map (to_le_bytes w128) ks ≡ flat_map (to_le_bytes w128) ls → ks ≡ ls
 same-key-lists [] [] h g e = refl
-same-key-lists [] (l ∷ ls) h g e = absurd (omega (arith, ap length e, keys-length (l ∷ ls)))
-same-key-lists (k ∷ ks) [] h g e = absurd (omega (arith, ap length e, keys-length (k ∷ ks)))
 same-key-lists (k ∷ ks) (l ∷ ls) h g e =
     let parts = cut (to_le_bytes w128 k) (to_le_bytes w128 l) _ _ refl e in
-    rw (same-128 k l h.0 g.0 parts.0, same-key-lists ks ls h.1 g.1 parts.1) refl
+    rw (same-bytes 16 k l (omega (arith, h)) (omega (arith, g)) parts.0, same-key-lists ks ls h.1 g.1 parts.1) refl
+same-key-lists x0 x1 h g e = grind (arith, nat_tests, keys-length)
 
 pub one_preimage : HasOnePreimage
 unfolding preimage
 one_preimage a b h g e =
     let counts = cut (to_le_bytes w64 (length a.keys)) (to_le_bytes w64 (length b.keys)) _ _ refl e in
-    let count : length a.keys ≡ length b.keys = same-64 _ _ h.0 g.0 counts.0 in
+    let count : length a.keys ≡ length b.keys = same-bytes 8 _ _ (omega (arith, h)) (omega (arith, g)) counts.0 in
     let long = ap length counts.1 in
     let size : length a.bytes ≡ length b.bytes = omega
     (arith, long, count, length-append a.bytes (flat_map (to_le_bytes w128) a.keys), length-append b.bytes (flat_map (to_le_bytes w128) b.keys), keys-length a.keys, keys-length b.keys) in
@@ -400,9 +350,7 @@ module _ {types : Types} where
   unfolding EachType unfolded
   canonical-along (pair a b) h = pair-along _ _ _ _ (canonical-along a h.0) (canonical-along b h.1)
   canonical-along (variant n a) h = variant-along _ _ _ (canonical-along a h)
-  canonical-along (reference a) h = absurd a
-  canonical-along (followed kind a) h = reference-along _ _ (record { same = refl; canonical = h })
-  canonical-along m h = search (number-along, integer-along, text-along, pattern-along, none-along)
+  canonical-along x0 h = grind (arith, nat_tests, reference-along, number-along, integer-along, text-along, pattern-along, none-along)
 
   same_kind : (x y : Kid) → CanonicalKid types x y → kind_of_kid y ≡ kind_of_kid x
   same_kind x y h = ap kind_of_kid (sym h.same)
@@ -444,16 +392,16 @@ one_item_key hash types bytes kids k l item h g = search (rules, canonical-kids,
 
 -- ---- what is stored
 
-looks_up-keys : (refs : List KeyRef) → LooksUp (λ kind key. Ok (key_ref kind key)) kind_of_ref (map key_of_ref refs) refs
-looks_up-keys [] = no-references
-looks_up-keys (r ∷ refs) = more-references r.key (map key_of_ref refs) r refs refl (looks_up-keys refs)
+looked-keys : (refs : List KeyRef) → Looked (λ kind key. Ok (key_ref kind key)) kind_of_ref (map key_of_ref refs) refs (Ok [])
+looked-keys [] = all-looked []
+looked-keys (r ∷ refs) = one-looked r.key (map key_of_ref refs) r refs (Ok []) refl (looked-keys refs)
 
 -- what is stored as a form reads as its meaning
 pub stored-reads : (store : ℕ → Option Blob) (types : Types) (type key : ℕ) (m : Meaning KeyRef) → IsReadableType types type → StoredAs store types type key m → ReadsAs store types type key m
 unfolding read
 stored-reads store types type key m can h =
-    let whole = form-again [] (map key_of_ref h.refs) [] h.form (looks_up-keys h.refs) (can h.shape h.is) in
-    let whole2 = rw (append-nil, append-nil) at whole in
+    let whole = form-again [] h.form (looked-keys h.refs) (can h.shape h.is) in
+    let whole2 = rw append-nil at whole in
     record { blob = blob_of h.bytes (map key_of_ref h.refs); stored = h.stored; rest = rest [] []; reads = rw h.is whole2 }
 
 module _ {store : ℕ → Option Blob} {types : Types} where

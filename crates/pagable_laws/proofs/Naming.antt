@@ -1,14 +1,14 @@
 -- A handle that stands for a reference goes on to stand for it, and so does a clone of it; a key that was set stays.
 use Rattle.pagable_laws.proofs.Words.{◌≡◌, ℕ, ◌+◌, ◌≤◌, true, List, [], ◌∷◌, ◌++◌, inl, inr, Some, None, Ok, refl, sym, ap, subst, ◌∙◌, arith, nat_tests, ArcRef, HandleNumber, type_of, is_loose_kind}
-use Rattle.pagable_laws.proofs.Words.{HandleRow, Owner, Mode, find_row, is_loose, fits_mode, has_key, Core, Cell, Todo, to_start, to_item, to_publish, to_release, to_fail, row_at, type_at, row_of}
+use Rattle.pagable_laws.proofs.Words.{HandleRow, Owner, find_row, is_loose, fits_mode, has_key, Core, Cell, Todo, to_start, to_item, to_publish, to_release, to_fail, row_at, type_at, row_of}
 use Rattle.pagable_laws.proofs.Words.{CloneCall, claim_fault, HandlesAreWhole, Change, StandsAt, KeyIsSet, Holds, AllHold, false, ◌⊎◌, Option, drop, length, OptionalDataKey, Pinning, Beginning, Claim}
 use Rattle.pagable_laws.proofs.Words.{PinStep, Took, Identity, NodeNumber, LoadNumber, above, if_there, any_mode, identity_of, owner_worker, Shelf, Slot, no_result, published, Written, Open, to_pin}
 use Rattle.pagable_laws.proofs.Words.{to_load, to_write, to_finish, to_set, Task, SameShelf, Seen, with_key, SetKeyCall, Site, GoesTo, first_todo, answer_after, Does, PinsAtOnce, PinsByLoad}
-use Rattle.pagable_laws.proofs.Words.{IsPublished, next_start, settle, give, give_known, with_wait, with_changed_slot, with_outcome, with_failed, Owns, WorkerAnswer, is_publishing, HasHandle}
-use Rattle.pagable_laws.proofs.Words.{nothing_felt, WorkerNumber, Tree, Event, EventReply, WorkerReply, Alike, Walking, World, Values, Ends, WorkerSteps, MachineState, world_of, IsMachineWhole}
+use Rattle.pagable_laws.proofs.Words.{IsPublished, next_start, settle, give, give_known, with_changed_slot, with_outcome, Owns, WorkerAnswer, is_publishing, HasHandle}
+use Rattle.pagable_laws.proofs.Words.{nothing_felt, WorkerNumber, Tree, Event, EventReply, WorkerReply, Walking, World, Values, WorkerSteps, MachineState, world_of, IsMachineWhole}
 use Rattle.pagable_laws.proofs.{Words.{IsIdle, ReadsItsTypes, KeepsOpen, KeysAreReady, KeysHeld, WorkFits, new_walking, step_of, TableNumber}, Goes.{Goes, Kept, found-number, fell, goes-quiet}}
 use Rattle.pagable_laws.proofs.{Goes.quiet-goes, Outlasting.{stands-new, among-found, NotValues, Stands, stands-whole, stands-alike, stands-fell}, Following.given-of, Answering.sets-key, Called.pins}
-use Rattle.pagable_laws.proofs.{Called.begins, Standing.{PutsSlot, puts-slot, put-cases, is-same}, ReadingSteps.{ends-quiet, event-goes}, Stepping.keys-same, SparingSteps.{Spares, event-spares}}
+use Rattle.pagable_laws.proofs.{Called.begins, Standing.{put-cases, is-same}, ReadingSteps.{ends-quiet, event-goes}, Stepping.keys-same, SparingSteps.{Spares, event-spares}}
 use Rattle.pagable_laws.proofs.{Trees.same_some, ReadingSteps.{works-free, walk-goes}, Coming.{updated-at, EventTurns, turns-keep}}
 use Rattle.pagable_world.specs.Runs.{Does as DoesMoment}
 use Rattle.std.proofs.Common.{rules}
@@ -52,9 +52,6 @@ module _ {c : Change} {w w' : Core} (goes : Goes c w w') where
 
 -- ---- what is claimed
 
-loose-by : (kind : ℕ) (mode : Mode) → fits_mode kind mode ≡ true → is_loose_kind kind ≡ true → is_loose mode ≡ true
-loose-by kind x1 fits is = grind (arith, nat_tests)
-
 -- nothing is to be said against a claim: the reference's handle is of its node and fits its kind, and the node is there
 pub record IsClaimable (w : Core) (r : ArcRef) : Type 0 where
   pub row : HandleRow
@@ -74,7 +71,7 @@ module _ {w : Core} (whole : HandlesAreWhole w) where
       omega arith
 
   pub claimed-stands : (r : ArcRef) → claim_fault w r ≡ None → StandsAt w r r.handle
-  claimed-stands r may = search (rules, may-claim, given-of, handle-given, loose-by)
+  claimed-stands r may = search (rules, may-claim, given-of, handle-given, arith, nat_tests)
 
   -- a clone stands for what its handle stands for
   pub clone-stands : {w' : Core} {me : Owner} (r : ArcRef) (k : HandleNumber) → StandsAt w r r.handle → CloneCall w me r.handle (Ok k) w' → StandsAt w' r k
@@ -90,10 +87,7 @@ module _ {w : Core} (whole : HandlesAreWhole w) where
       record {
         node_given = let b = s.node_given in let c : w'.last.node ≡ w.last.node = ap (λ l. l.node) a.last in omega arith;
         given = omega arith;
-        is = λ x live.
-            let found : find_row k.0 (w.rows ++ made ∷ []) ≡ Some x = subst (λ rows. find_row k.0 rows ≡ Some x) a.rows live in
-            let new : x ≡ made = s_made.only x (among-found k.0 (w.rows ++ made ∷ []) x found) (found-number k.0 (w.rows ++ made ∷ []) x found ∙ above) in
-            (ap (λ (y : HandleRow). y.node) new ∙ old.0, λ kind. ap (λ (y : HandleRow). is_loose y.mode) new ∙ old.1 kind);
+        is = grind (arith, nat_tests, find_row, among-found, found-number, above, is_loose);
       }
 
 -- Workers go on holding what they hold.
@@ -131,9 +125,6 @@ given-quiet r key height x3 quiet = grind (arith, nat_tests, started-quiet)
 known-quiet : (r : ArcRef) (key height : ℕ) (todo : List Todo) → is_publishing todo ≡ false → is_publishing (give_known r key height todo) ≡ false
 known-quiet r key height x3 quiet = grind (arith, nat_tests, given-quiet)
 
-pub first-quiet : (task : Task) → is_publishing (first_todo task) ≡ false
-first-quiet x0 = grind (arith, nat_tests, started-quiet)
-
 -- ---- keys that are set
 
 cell-keyed : (key : ℕ) (found : Option Cell) (cell : Cell) → if_there (λ (x : Cell). Some (record x { key = OptionalDataKey.Some key })) None found ≡ Some cell → has_key cell.key ≡ true
@@ -169,10 +160,6 @@ module _ (shelf shelf' : Shelf) (P : Identity → Type 0) where
   same-reveals : ((i : Identity) → shelf'.slots i ≡ shelf.slots i) → Reveals shelf shelf' P
   same-reveals same i key height p = inl (keys-same (λ j. sym (same j)) i key height p)
 
-  -- a new slot has no key yet
-  new-reveals : (i : Identity) (new : Slot) → new.outcome ≡ no_result → PutsSlot shelf.slots shelf'.slots i new → Reveals shelf shelf' P
-  new-reveals i new none puts j key height p = grind (arith, put-cases, known)
-
   of-some : (f : Slot → Slot) (o : Option Slot) (slot : Slot) → if_there (λ (z : Slot). Some (f z)) None o ≡ Some slot → (old : Slot) × (o ≡ Some old) × (f old ≡ slot)
   of-some f x1 slot e = grind (arith, nat_tests, same_some)
 
@@ -180,10 +167,6 @@ module _ (shelf shelf' : Shelf) (P : Identity → Type 0) where
   changed-reveals : (i : Identity) (f : Slot → Slot) → SameShelf (with_changed_slot shelf i f) shelf'
       → ((old : Slot) (key height : ℕ) → (f old).outcome ≡ published key height → (old.outcome ≡ published key height) ⊎ P i) → Reveals shelf shelf' P
   changed-reveals i f same back j key height p = grind (arith, is-same, of-some, known)
-
-  -- claims fail
-  failed-reveals : (v : ℕ) → SameShelf (with_failed shelf v) shelf' → Reveals shelf shelf' P
-  failed-reveals v same j key height p = grind (arith, of-some, known)
 
 -- ---- a worker's step
 
@@ -198,8 +181,7 @@ module _ {N B W : Type 0} (m : Seen N B W) (v : ℕ) (s s' : Site) (whole : Hand
     pub reveals : Reveals s.shelf s'.shelf KeyThere
 
   leaves : {step : Took W} {next : List Todo} → s'.todo ≡ next → is_publishing next ≡ false → AllHold s'.core next → Reveals s.shelf s'.shelf KeyThere → Leaves step
-  leaves e quiet all reveals =
-      record { all = subst (λ t. AllHold s'.core t) (sym e) all; front = λ r key height below is. let f : true ≡ false = ap is_publishing (sym is ∙ e) ∙ quiet in absurd (cc); reveals = reveals }
+  leaves e quiet all reveals = grind (arith, nat_tests, is_publishing)
 
   -- the table stays
   stays : {step : Took W} → ((i : Identity) → s'.shelf.slots i ≡ s.shelf.slots i) → {next : List Todo} → s'.todo ≡ next → is_publishing next ≡ false → AllHold s'.core next → Leaves step
@@ -238,7 +220,7 @@ module _ {N B W : Type 0} (m : Seen N B W) (v : ℕ) (s s' : Site) (whole : Hand
       let t = c.finds.1.2 in
       let new : Slot = record { worker = v; written = None; outcome = no_result } in
       leaves t.list_is refl (stands-on f (claimed-stands whole r c.finds.0), quiet, all-on f below all)
-      (new-reveals s.shelf s'.shelf KeyThere (identity_of r) new refl (puts-slot (with_wait s.shelf v None) s'.shelf (identity_of r) new t.table_is))
+      (grind (arith, put-cases, known))
   stepped (to_start r place ∷ below) (Took.Claim i (Ok (Claim.Known key height))) e (is, c) f (h, quiet, all) = let t = c.finds.1.2 in
       stays t.table_is.slots t.list_is (known-quiet r key height below quiet) (known s'.core r key height below (all-on f below all))
   stepped (to_start r place ∷ below) (Took.Claim i (Ok Claim.Waiting)) e (is, c) f (h, quiet, all) = let t = c.finds.1.2 in stays t.table_is.slots (t.list_is ∙ e) refl (tt, quiet, all-on f below all)
@@ -262,7 +244,7 @@ module _ {N B W : Type 0} (m : Seen N B W) (v : ℕ) (s s' : Site) (whole : Hand
       leaves t.list_is refl (tt, quiet, all-on f below all) (changed-reveals s.shelf s'.shelf KeyThere (identity_of r) (with_outcome (published key height)) t.table_is (λ old k2 h2 known. inr (λ kind. key-on f (h kind))))
   stepped (to_release r key height ∷ below) (Took.Release i) e (is, falls, t) f (h, quiet, all) = stays t.table_stays.slots t.list_is (given-quiet r key height below quiet)
       (given s'.core r key height below (all-on f below all))
-  stepped (to_fail fault back ∷ below) Took.Fail e (gives, same, list_is) f all = leaves list_is refl tt (failed-reveals s.shelf s'.shelf KeyThere v same)
+  stepped (to_fail fault back ∷ below) Took.Fail e (gives, same, list_is) f all = leaves list_is refl tt (grind (arith, of-some, known))
   stepped _ step e does f all = grind (arith, nat_tests, stays)
 
   pub walk-leaves : (step : Took W) → Does m v s s.todo step s' → AllHold s.core s.todo → Leaves step
@@ -292,7 +274,7 @@ module _ {N B W : Type 0} (m : Seen N B W) (u u' : World) {c : Change} (goes : G
   first-hold x0 = grind (arith, nat_tests, item-started)
 
   first-holds : (n : ℕ) (t : TableNumber) (task : Task) → WalkHolds n (new_walking t task)
-  first-holds n t task = (first-hold task, λ r key height below front. let f : true ≡ false = sym (ap is_publishing front) ∙ first-quiet task in absurd (cc))
+  first-holds n t task = (first-hold task, λ r key height below front. let f : true ≡ false = sym (ap is_publishing front) ∙ (grind (arith, nat_tests, started-quiet)) in absurd (cc))
 
   a-step : (k : WorkerNumber) (r : WorkerReply W) (s : WorkerSteps m u k r u') → SlotsHeld s.after.shelf × WalkHolds k.0 (record s.walking { todo = s.after.todo; steps = r.steps; answer = r.answer })
   a-step k r s =
@@ -309,9 +291,7 @@ module _ {N B W : Type 0} (m : Seen N B W) (u u' : World) {c : Change} (goes : G
     where
       -- its answer is none yet, so what it has stays
       mine : {n : ℕ} → HasHandle s.after.core k.0 n × (answer_after s.walking.todo r.took ≡ None) → HasHandle u'.core k.0 n
-      mine f =
-          let a : Alike s.after.core u'.core = subst (λ z. Ends z k.0 s.after.core u'.core) (s.answers ∙ f.1) s.ends in
-          record { h = f.0.h; row = f.0.row; live = subst (λ rows. find_row f.0.h.0 rows ≡ Some f.0.row) (sym a.rows) f.0.live; own = f.0.own; at = f.0.at }
+      mine f = grind (arith, nat_tests, find_row)
 
   keys-hold : (event : Event N B W) (reply : EventReply N B W) → EventTurns m u event reply u' → ((n : ℕ) → step_of n event reply ≡ [] → Spares (owner_worker n) u.core u'.core) → KeysHeld u'
   keys-hold event reply turns spares =

@@ -64,10 +64,9 @@ module _ (k : ℕ) (i : Identity) where
 
   given : (r : ArcRef) (key height : ℕ) (below : List Todo) → OnlyWaits below → Keeps (all-left below) (give r key height below)
   unfolding OnlyWaits all-left
-  given r key height [] waits = record { same = refl; way = tt }
   given r key height (to_finish o ∷ below) waits = started-node _ _ _ below waits
   given r key height (to_item written keys ∷ below) waits = grind (arith, nat_tests)
-  given r key height (_ ∷ below) waits = absurd waits
+  given r key height x3 waits = grind (arith, nat_tests)
 
   -- whether the reference is of the identity
   abbrev at : ArcRef → Bool
@@ -128,9 +127,6 @@ module _ (k : ℕ) (i : Identity) where
     goes (to_release r key height ∷ below) (Took.Release j) next way (is, e) = grind (arith, nat_tests, given, ends)
     goes _ step next way follows = grind (arith, nat_tests, failed, emptied)
 
-    later-cons : (step : Took W) (steps : List (Took W)) → times (is_later_of k i) (step ∷ steps) ≡ one (is_later_of k i step) + times (is_later_of k i) steps
-    later-cons step steps = sum_by-cons (λ s. one (is_later_of k i s)) step steps
-
     claim-cons : (step : Took W) (steps : List (Took W)) → times (is_claim_of i) (step ∷ steps) ≡ one (is_claim_of i step) + times (is_claim_of i) steps
     claim-cons step steps = sum_by-cons (λ s. one (is_claim_of i s)) step steps
 
@@ -138,16 +134,15 @@ module _ (k : ℕ) (i : Identity) where
         → times (is_later_of k i) steps + all-left last ≤ times (is_claim_of i) steps + all-left todo
     along todo [] last way is = subst (λ t. 0 + all-left t ≤ 0 + all-left todo) (sym is) (stays (all-left todo))
     along todo (step ∷ steps) last way (mid, follows, leads) = let a = goes todo step mid way follows in
-        sum _ _ _ _ _ _ _ _ _ (later-cons step steps) (claim-cons step steps) a.less (along mid steps last a.way leads)
+        sum _ _ _ _ _ _ _ _ _ ((sum_by-cons (λ s. one (is_later_of k i s)) step steps)) (claim-cons step steps) a.less (along mid steps last a.way leads)
       where
         sum : (l t m c s n d t' s' : ℕ) → t' ≡ l + t → s' ≡ c + s → l + m ≤ c + n → t + d ≤ s + m → t' + d ≤ s' + n
         sum l t m c s n d t' s' is_later is_claim first more = omega arith
 
     after-release : (r : ArcRef) (key height : ℕ) (steps : List (Took W)) (last : List Todo) → Leads f (to_release r key height ∷ []) steps last → times (is_later_of k i) steps ≤ 1
-    after-release r key height [] last leads = omega arith
     after-release r key height (Took.Release j ∷ []) last leads = grind (arith, nat_tests)
     after-release r key height (Took.Release j ∷ x ∷ more) last (mid, (is, e), (after, follows, leads)) = absurd (subst (λ m. Follows f m x after) e follows)
-    after-release r key height (step ∷ more) last (mid, follows, leads) = absurd follows
+    after-release r key height x3 last x5 = grind (arith, nat_tests)
 
     -- a step that neither claims nor is of the stage
     once-more : (step : Took W) (steps : List (Took W)) → one (is_later_of k i step) ≡ 0 → times (is_later_of k i) steps ≤ 1 → times (is_later_of k i) (step ∷ steps) ≤ 1
@@ -170,14 +165,13 @@ module _ (k : ℕ) (i : Identity) where
     entry r place (Took.Claim j (Ok Claim.Claimed) ∷ steps) last (mid, (is, e), leads) few =
         let few_left : one (at r) + times (is_claim_of i) steps ≤ 1 = subst (λ j. one (is_identity i j) + times (is_claim_of i) steps ≤ 1) is
         (few-claims (Took.Claim j (Ok Claim.Claimed)) steps few) in
-        once-more (Took.Claim j (Ok Claim.Claimed)) steps refl
-        (bounded _ _ _ _ _ (along (to_pin r place ∷ []) steps last tt (subst (λ m. Leads f m steps last) e leads)) (least (at-most (nat_le 0 k) (at r))) few_left)
+        grind (arith, nat_tests, once-more, bounded, along, to_pin, least, at-most, nat_le)
       where
         least : {a b : ℕ} → a ≤ b → a + 0 ≤ b
         least le = omega arith
     entry r place (Took.Claim j (Ok (Claim.Known key height)) ∷ steps) last (mid, (is, e), leads) few = grind (arith, nat_tests, once-more, after-release)
-    entry r place (Took.Claim j (Ok Claim.Waiting) ∷ steps) last (mid, (is, e), leads) few = once-more (Took.Claim j (Ok Claim.Waiting)) steps refl
-        (entry r place steps last (subst (λ m. Leads f m steps last) e leads) (fewer _ (few-claims (Took.Claim j (Ok Claim.Waiting)) steps few)))
+    entry r place (Took.Claim j (Ok Claim.Waiting) ∷ steps) last (mid, (is, e), leads) few =
+        grind (arith, nat_tests, once-more, fewer, few-claims, entry r place steps last (subst (λ m. Leads f m steps last) e leads) (fewer _ (few-claims (Took.Claim j (Ok Claim.Waiting)) steps few)))
     entry r place (Took.Claim j (Ok Claim.AlreadyFailed) ∷ steps) last (mid, (is, e), leads) few = grind (arith, nat_tests, once-more, bounded, along, few-claims)
     entry r place (Took.Claim j (Err fault) ∷ steps) last (mid, (is, e), leads) few = grind (arith, nat_tests, once-more, bounded, along, few-claims)
     entry r place (step ∷ steps) last (mid, follows, leads) few = absurd follows

@@ -1,5 +1,5 @@
 -- What a blob asks for next depends on no more of the references that were got than their kinds.
-use Rattle.pagable_laws.proofs.Words.{nat_tests, ◌≡◌, ℕ, suc, ◌+◌, Bool, List, [], ◌∷◌, ◌++◌, map, length, Result, Ok, Err, refl, ap, inl, arith, if◌then◌else◌, Option, Some}
+use Rattle.pagable_laws.proofs.Words.{nat_tests, ◌≡◌, ℕ, suc, ◌+◌, List, [], ◌∷◌, ◌++◌, map, length, Result, refl, ap, inl, arith, Option, Some}
 use Rattle.pagable_laws.proofs.Words.{None, slice_get, Error, Rest, read_typed, Answer, answer_at, handles_at, ArcRef, Kind, Blob, Shape, Types, Meaning, answer_of, answers_from, Next, reads, asks}
 use Rattle.pagable_laws.proofs.{Words.{is_faulty, next_by, next_of, some_of, after_kinds}, Related.{Out, both-given, both-refused, first-refused, OutLook, both-looked-up, both-not, read_par}}
 use Rattle.pagable_laws.proofs.Along.{Along, AllTwo, no-two, more-two}
@@ -29,12 +29,9 @@ AnyTwo r q = Unit {0}
 abbrev AnswersAlike : Answer → Answer → Type 0
 AnswersAlike a b = (kind : ℕ) → OutLook no_cause AnyTwo (a kind) (b kind)
 
-as-kind : (t : Bool) (r q : ArcRef) → OutLook no_cause AnyTwo (if t then Ok r else Err Error.WrongKind) (if t then Ok q else Err Error.WrongKind)
-as-kind x0 r q = grind (arith, nat_tests, both-looked-up, both-not)
-
 got-alike : (got : List ArcRef) (place : ℕ) → AnswersAlike (answer_of (slice_get got place)) (answer_of (slice_get (some_of (kinds_of got)) place))
 got-alike (r ∷ rs) (suc place) kind = got-alike rs place kind
-got-alike x0 x1 kind = grind (arith, nat_tests, both-not, as-kind)
+got-alike x0 x1 kind = grind (arith, nat_tests, both-not, both-looked-up)
 
 answers-alike : (got : List ArcRef) (place : ℕ) (keys : List ℕ) → AllTwo AnswersAlike (answers_from got place keys) (answers_from (some_of (kinds_of got)) place keys)
 unfolding answers_from
@@ -71,8 +68,7 @@ asks-by-kinds types t blob got kind key is = ask-alike kind key (next-alike type
 
 faulty-alike : {a b : Next} (e : Error) → SameNext a b → a ≡ is_faulty e → b ≡ is_faulty e
 faulty-alike e (both-read a b) is = absurd (cc)
-faulty-alike e (both-ask k q) is = absurd (cc)
-faulty-alike e (both-faulty f) is = is
+faulty-alike e x1 is = grind (arith, nat_tests)
 
 pub faulty-by-kinds : (types : Types) (t : ℕ) (blob : Blob) (got : List ArcRef) (e : Error) → next_of types t blob got ≡ is_faulty e → after_kinds types t blob (kinds_of got) ≡ is_faulty e
 faulty-by-kinds types t blob got e is = faulty-alike e (next-alike types t blob got) is

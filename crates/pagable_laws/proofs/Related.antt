@@ -1,19 +1,190 @@
--- Reading does the same whatever stands for references: two readers over related inputs give related meanings.
-use Rattle.pagable_laws.proofs.Words.{arith, nat_tests, ◌≡◌, ℕ, zero, suc, ◌-◌, Bool, true, false, List, [], ◌∷◌, Some, None, Result, Ok, Err, ◌⊎◌, inl, inr, refl, subst, Error, ◌>>=◌, Read}
-use Rattle.pagable_laws.proofs.Words.{unsigned_at, signed_at, length_at, text_at, bool_at, char_at, duration_at, Meaning, none, variant, sequence, entry, absent, present, success}
-use Rattle.pagable_laws.proofs.Words.{failure, lifted, Entry, KeyOrder, code_order, text_order, put_all, put_sorted, put_placed, put_sorted_item, put_placed_item, of_entries, of_tagged}
-use Rattle.pagable_laws.proofs.Words.{of_hash_map, Shape, nothing, unsigned, signed, flag, letter, duration, json, optional, outcome, list, run, array, both, sorted_map, placed_map, hash_map}
-use Rattle.pagable_laws.proofs.Words.{sorted_set, placed_set, static_value, tagged, cases, nested, Rest, Look, Gets, bytes_of, reference_at, seen, two, choose, items, counted, registered, Deeper}
-use Rattle.pagable_laws.proofs.Words.{enter, JsonCase, null_case, flag_case, number_case, text_case, array_case, object_case, json_case, json_part, read_with, below, LiesIn, deepest, read}
-use Rattle.pagable_laws.proofs.Words.{IsReadable, HasNoReference, Throughout, ◌++◌, ap, ◌∙◌, append_assoc, Context, rest, with_more, IsLocal, IsUsed, IsLasting, map, sym, pair, followed, rename}
-use Rattle.pagable_laws.proofs.{Words.{Form, at, IsNatural, IsReadOver, IsRenamed, IsReadThrough, KeepsForms}, Along.{Along, number-along, integer-along, text-along, pattern-along, none-along}}
-use Rattle.pagable_laws.proofs.{Along.{pair-along, variant-along, reference-along, lifted-along, plain-along, AllTwo, no-two, more-two, EntryAlong, followed-along, form-along}, Again.Under}
-use Rattle.pagable_laws.proofs.{Again.{here, narrowed, part_of, of_json, of_text}, Tame.{Goes, Uses, Tame, Joins, gives, refuses, and_then, more_bytes, TameBytes, unsigned_tame, signed_tame}}
-use Rattle.pagable_laws.proofs.Tame.{bool_tame, length_tame, text_tame, char_tame, duration_tame}
-use Rattle.std.{proofs.Common.rules, specs.Int.{w32, w64}, specs.List.AllByRecursion}
+-- Reading does the same whatever stands for references: two readers over related inputs give related meanings. And readers of which a fault stays whatever follows, what is
+-- read of a front is read of the whole, and what was used reads alone.
+use Rattle.pagable_laws.proofs.Words.{nat_tests, ◌≡◌, ℕ, zero, suc, ◌+◌, ◌-◌, ◌*◌, ◌/◌, ◌%◌, ◌^◌, Bool, true, false, List, [], ◌∷◌, ◌++◌, length, take, Result, Ok, Err, ◌⊎◌, if◌then◌else◌}
+use Rattle.pagable_laws.proofs.Words.{inl, inr, refl, sym, arith, append_assoc, cases_lt, le-ltb, lt-ltb, take-append-le, drop-append-le, length-append, take-append-drop, length-take-le}
+use Rattle.pagable_laws.proofs.Words.{take-length, drop-length, nat_le, nat_lt, Error, ◌>>=◌, Read, byte_at, varint_at, unsigned_at, signed_from, signed_at, longest, length_at, bytes_at}
+use Rattle.pagable_laws.proofs.Words.{text_at, bool_at, one_char, char_at, carried, duration_at, nanos_of_second, Some, None, subst, Meaning, none, variant, sequence, entry, absent}
+use Rattle.pagable_laws.proofs.Words.{present, success, failure, lifted, Entry, KeyOrder, code_order, text_order, put_all, put_sorted, put_placed, put_sorted_item, put_placed_item}
+use Rattle.pagable_laws.proofs.Words.{of_entries, of_tagged, of_hash_map, Shape, nothing, unsigned, signed, flag, letter, duration, json, optional, outcome, list, run, array, both}
+use Rattle.pagable_laws.proofs.Words.{sorted_map, placed_map, hash_map, sorted_set, placed_set, static_value, tagged, cases, nested, Rest, Look, Gets, bytes_of, reference_at, seen, two}
+use Rattle.pagable_laws.proofs.Words.{choose, items, counted, registered, Deeper, enter, JsonCase, null_case, flag_case, number_case, text_case, array_case, object_case, json_case}
+use Rattle.pagable_laws.proofs.Words.{json_part, read_with, below, LiesIn, deepest, read, IsReadable, HasNoReference, Throughout, ap, ◌∙◌, Context, rest, with_more, IsLocal, IsUsed}
+use Rattle.pagable_laws.proofs.Words.{IsLasting, map, pair, followed, rename, Form, at, IsNatural, IsReadOver, IsRenamed, IsReadThrough, KeepsForms}
+use Rattle.std.{proofs.Common.rules, specs.Int.{Width, w8, w16, w32, w64, w128}, specs.Str.{is_utf8, chars}, specs.List.AllByRecursion}
+use Rattle.pagable_laws.proofs.{Along.{Along, number-along, integer-along, text-along, pattern-along, none-along, pair-along, variant-along, reference-along, lifted-along}}
+use Rattle.pagable_laws.proofs.{Along.{plain-along, AllTwo, no-two, more-two, EntryAlong, followed-along, form-along}, Again.{Under, here, narrowed, part_of, of_json, of_text}}
 use Rattle.pagable_model.specs.Meaning as meanings
 use Rattle.pagable_model.specs.Shape as shapes
-use Rattle.std.specs.Int.{w32, w64}
+
+-- the input ends
+abbrev pub IsEnd : Error → Type 0
+IsEnd e = (e ≡ Error.UnexpectedEnd) ⊎ (e ≡ Error.NoMoreKeys)
+
+-- where the first reads something, the second reads it with x after it; where the first is refused for another cause
+-- than the end, so is the second
+unfoldable pub Goes : {I A : Type 0} → (I → I → I) → I → Result (A × I) Error → Result (A × I) Error → Type 0
+Goes plus x (Ok p) second = second ≡ Ok (p.0, plus p.1 x)
+Goes plus x (Err e) second = IsEnd e ⊎ (second ≡ Err e)
+
+-- the front of i that was read as v, which reads alone
+pub record Front {I A : Type 0} (plus : I → I → I) (end : I) (get : I → Result (A × I) Error) (i : I) (v : A) (after : I) : Type 0 where
+  pub used : I
+  pub whole : i ≡ plus used after
+  pub alone : get used ≡ Ok (v, end)
+
+unfoldable pub Uses : {I A : Type 0} → (I → I → I) → I → (I → Result (A × I) Error) → I → Result (A × I) Error → Type 0
+Uses plus end get i (Ok p) = Front plus end get i p.0 p.1
+Uses plus end get i (Err e) = Unit {0}
+
+-- a reader with these three properties, of inputs that plus joins
+pub record Tame {I A : Type 0} (plus : I → I → I) (end : I) (get : I → Result (A × I) Error) : Type 0 where
+  pub goes : (i x : I) → Goes plus x (get i) (get (plus i x))
+  pub uses : (i : I) → Uses plus end get i (get i)
+
+-- inputs that are joined
+pub record Joins {I : Type 0} (plus : I → I → I) (end : I) : Type 0 where
+  pub assoc : (a b c : I) → plus (plus a b) c ≡ plus a (plus b c)
+  pub start : (a : I) → plus end a ≡ a
+
+module _ {I : Type 0} {plus : I → I → I} {end : I} (joins : Joins plus end) where
+  pub gives : {A : Type 0} (v : A) → Tame plus end (λ i. let r : Result (A × I) Error = Ok (v, i) in r)
+  unfolding Goes Uses
+  gives v = record { goes = λ i x. refl; uses = λ i. record { used = end; whole = sym (joins.start i); alone = refl } }
+
+  pub refuses : (A : Type 0) (e : Error) → Tame plus end (λ (i : I). let r : Result (A × I) Error = Err e in r)
+  unfolding Goes Uses
+  refuses A e = record { goes = λ i x. inr refl; uses = λ i. tt }
+
+  -- one of two
+  pub either : {A : Type 0} (t : Bool) {get other : I → Result (A × I) Error} → Tame plus end get → Tame plus end other → Tame plus end (λ i. if t then get i else other i)
+  either true h g = record { goes = λ i x. h.goes i x; uses = λ i. h.uses i }
+  either false h g = record { goes = λ i x. g.goes i x; uses = λ i. g.uses i }
+
+  -- one after the other
+  module _ {A B : Type 0} {get : I → Result (A × I) Error} (f : A → I → Result (B × I) Error) (whole : I → Result (B × I) Error) (is : (i : I) → whole i ≡ (get i >>= λ p. f p.0 p.1))
+      (h : Tame plus end get) (g : (v : A) → Tame plus end (f v)) where
+    goes_on : (x : I) (first second : Result (A × I) Error) → Goes plus x first second → Goes plus x (first >>= λ p. f p.0 p.1) (second >>= λ p. f p.0 p.1)
+    unfolding Goes
+    goes_on x x1 second x3 = grind (arith, nat_tests)
+
+    front_on : (i : I) (p : A × I) (q : B × I) → Front plus end get i p.0 p.1 → Front plus end (f p.0) p.1 q.0 q.1 → Front plus end whole i q.0 q.1
+    unfolding Goes
+    front_on i p q a b = grind (arith, nat_tests)
+
+    uses_after : (i : I) (p : A × I) → Front plus end get i p.0 p.1 → (r : Result (B × I) Error) → Uses plus end (f p.0) p.1 r → Uses plus end whole i r
+    unfolding Uses
+    uses_after i p a x3 u = grind (arith, nat_tests, front_on)
+
+    uses_on : (i : I) (first : Result (A × I) Error) → Uses plus end get i first → Uses plus end whole i (first >>= λ p. f p.0 p.1)
+    unfolding Uses
+    uses_on i (Ok p) u = uses_after i p u (f p.0 p.1) ((g p.0).uses p.1)
+    uses_on i (Err e) u = tt
+
+    pub and_then : Tame plus end whole
+    and_then = grind (arith, nat_tests, goes_on, uses_on)
+
+-- ---- bytes
+
+abbrev pub more_bytes : List ℕ → List ℕ → List ℕ
+more_bytes a b = a ++ b
+
+abbrev pub TameBytes : {A : Type 0} → (List ℕ → Read A) → Type 0
+TameBytes read = Tame more_bytes [] read
+
+pub bytes_join : Joins more_bytes []
+bytes_join = record { assoc = append_assoc; start = λ a. refl }
+
+byte_uses : (bs : List ℕ) → Uses more_bytes [] byte_at bs (byte_at bs)
+unfolding Uses
+byte_uses [] = tt
+byte_uses (b ∷ bs) = record { used = b ∷ []; whole = refl; alone = refl }
+
+pub byte_tame : TameBytes byte_at
+unfolding Goes
+byte_tame = record { goes = (grind (arith, nat_tests)); uses = byte_uses }
+
+-- so many bytes
+bytes_alone : (n : ℕ) (u : List ℕ) → length u ≡ n → bytes_at n u ≡ Ok (u, [])
+bytes_alone n u e = rw (← e, le-ltb (length u) (length u) (omega arith), take-length u, drop-length u) refl
+
+bytes_uses : (n : ℕ) (bs : List ℕ) → Uses more_bytes [] (bytes_at n) bs (bytes_at n bs)
+unfolding Uses
+bytes_uses n bs = elim (cases_lt (length bs) n) [
+  | inl lt ↦ rw (lt-ltb (length bs) n lt) tt
+  | inr le ↦ rw (le-ltb (length bs) n le) (record { used = take n bs; whole = sym (take-append-drop n bs); alone = bytes_alone n (take n bs) (length-take-le n bs le) })
+]
+
+pub bytes_tame : (n : ℕ) → TameBytes (bytes_at n)
+unfolding Goes
+bytes_tame n = record { goes = (search (rules, lt-ltb, le-ltb, length-append, take-append-le, drop-append-le)); uses = bytes_uses n }
+
+last_is : (last : ℕ) (bs : List ℕ) → varint_at zero last bs ≡ (byte_at bs >>= λ p. if nat_le p.0 last then Ok p else Err Error.BadVarint)
+unfolding varint_at
+last_is last x1 = grind (arith, nat_tests)
+
+varint_tame : (more last : ℕ) → TameBytes (varint_at more last)
+unfolding varint_at
+varint_tame zero last = and_then bytes_join (λ b bs. if nat_le b last then Ok (b, bs) else Err Error.BadVarint) _ (last_is last) byte_tame
+    (λ b. either bytes_join (nat_le b last) (gives bytes_join b) (refuses bytes_join ℕ Error.BadVarint))
+varint_tame (suc more) last =
+    and_then bytes_join (λ b bs. if nat_lt b 128 then Ok (b, bs) else (varint_at more last bs >>= λ high. Ok (b - 128 + 128 * high.0, high.1))) _ (grind (arith, nat_tests)) byte_tame
+    (λ b. either bytes_join (nat_lt b 128) (gives bytes_join b)
+    (and_then bytes_join (λ high bs. Ok (b - 128 + 128 * high, bs)) _ (λ bs. refl) (varint_tame more last) (λ high. gives bytes_join (b - 128 + 128 * high))))
+
+pub unsigned_tame : (w : Width) → TameBytes (unsigned_at w)
+unsigned_tame w8 = byte_tame
+unsigned_tame w16 = varint_tame 2 3
+unsigned_tame w32 = varint_tame 4 15
+unsigned_tame w64 = varint_tame 9 1
+unsigned_tame w128 = varint_tame 18 3
+
+pub signed_tame : (w : Width) → TameBytes (signed_at w)
+signed_tame w = and_then bytes_join (λ n bs. Ok (signed_from w n, bs)) _ (λ bs. refl) (unsigned_tame w) (λ n. gives bytes_join (signed_from w n))
+
+flag_of : ℕ → List ℕ → Read Bool
+flag_of zero bs = Ok (false, bs)
+flag_of (suc zero) bs = Ok (true, bs)
+flag_of (suc (suc n)) bs = Err Error.BadBool
+
+bool_is : (bs : List ℕ) → bool_at bs ≡ (byte_at bs >>= λ p. flag_of p.0 p.1)
+unfolding bool_at flag_of
+bool_is x0 = grind (arith, nat_tests)
+
+flag_tame : (n : ℕ) → TameBytes (flag_of n)
+unfolding flag_of
+flag_tame zero = gives bytes_join false
+flag_tame (suc zero) = gives bytes_join true
+flag_tame (suc (suc n)) = refuses bytes_join Bool Error.BadBool
+
+pub bool_tame : TameBytes bool_at
+bool_tame = and_then bytes_join flag_of _ bool_is byte_tame flag_tame
+
+pub length_tame : TameBytes length_at
+unfolding length_at
+length_tame = and_then bytes_join (λ n bs. if nat_le n longest then Ok (n, bs) else Err Error.TooLong) _ (λ bs. refl) (unsigned_tame w64)
+    (λ n. either bytes_join (nat_le n longest) (gives bytes_join n) (refuses bytes_join ℕ Error.TooLong))
+
+pub text_tame : TameBytes text_at
+unfolding text_at
+text_tame =
+    and_then bytes_join (λ n bs. bytes_at n bs >>= λ t. if is_utf8 t.0 then Ok t else Err Error.BadUtf8) _ (λ bs. refl) length_tame
+    (λ n. and_then bytes_join (λ t bs. if is_utf8 t then Ok (t, bs) else Err Error.BadUtf8) _ (λ bs. refl) (bytes_tame n)
+    (λ t. either bytes_join (is_utf8 t) (gives bytes_join t) (refuses bytes_join (List ℕ) Error.BadUtf8)))
+
+one_tame : (cs : List ℕ) → TameBytes (one_char cs)
+one_tame (c ∷ []) = gives bytes_join c
+one_tame _ = refuses bytes_join ℕ Error.BadChar
+
+pub char_tame : TameBytes char_at
+unfolding char_at
+char_tame = and_then bytes_join (λ t bs. one_char (chars t) bs) _ (λ bs. refl) text_tame (λ t. one_tame (chars t))
+
+pub duration_tame : TameBytes duration_at
+unfolding duration_at
+duration_tame =
+    and_then bytes_join (λ s bs. unsigned_at w32 bs >>= λ n. carried s n.0 n.1) _ (λ bs. refl) (unsigned_tame w64)
+    (λ s. and_then bytes_join (λ n bs. carried s n bs) _ (λ bs. refl) (unsigned_tame w32)
+    (λ n. either bytes_join (nat_lt (s + n / nanos_of_second) (2 ^ 64)) (gives bytes_join (s + n / nanos_of_second, n % nanos_of_second)) (refuses bytes_join (ℕ × ℕ) Error.BadDuration)))
 
 -- ---- what is put into maps and sets
 
@@ -61,10 +232,6 @@ module _ {A B : Type 0} {F : Type 0} {R : A → B → Type 0} where
   placed-two : {es : List (Entry A)} {fs : List (Entry B)} → AllTwo (EntryAlong F R) es fs → Along F R (of_entries (put_all put_placed [] es)) (of_entries (put_all put_placed [] fs))
   placed-two h = entries-two (put_all-two _ _ (λ acc acc2 e f g k. put_placed-two g k) [] [] no-two h)
 
-  sorted_items-two : (order : KeyOrder) {ms : List (Meaning A)} {ns : List (Meaning B)} → AllTwo (Along F R) ms ns
-      → Along F R (sequence (put_all (put_sorted_item order) [] ms)) (sequence (put_all (put_sorted_item order) [] ns))
-  sorted_items-two order h = sequence-two (put_all-two {V = Along F R} _ _ (λ acc acc2 e f g k. put_sorted_item-two order g k) [] [] no-two h)
-
   placed_items-two : {ms : List (Meaning A)} {ns : List (Meaning B)} → AllTwo (Along F R) ms ns → Along F R (sequence (put_all put_placed_item [] ms)) (sequence (put_all put_placed_item [] ns))
   placed_items-two h = sequence-two (put_all-two {V = Along F R} _ _ (λ acc acc2 e f g k. put_placed_item-two g k) [] [] no-two h)
 
@@ -101,12 +268,6 @@ module _ {A X : Type 0} {get get2 : Gets A X} (h : TameGets get) (is : (i : Rest
   likewise = record { goes = λ i x. rw (is, is) (h.goes i x); uses = λ i. rw is (uses_of i (get i) (h.uses i)) }
 
 module _ {A X Y : Type 0} (read : List ℕ → Read X) (view : X → Y) (h : TameBytes read) where
-  bytes_go : (i x : Rest A) (first second : Read X) → Goes more_bytes x.bytes first second
-      → Goes more x (first >>= λ p. let z : Result (Y × Rest A) Error = Ok (view p.0, record i { bytes = p.1 }) in z)
-      (second >>= λ p. let z : Result (Y × Rest A) Error = Ok (view p.0, record (more i x) { bytes = p.1 }) in z)
-  unfolding Goes
-  bytes_go i x x2 second x4 = grind (arith, nat_tests)
-
   bytes_use : (i : Rest A) (first : Read X) → Uses more_bytes [] read i.bytes first → Uses more ended (bytes_of read view) i
       (first >>= λ p. let z : Result (Y × Rest A) Error = Ok (view p.0, record i { bytes = p.1 }) in z)
   unfolding Uses
@@ -114,19 +275,14 @@ module _ {A X Y : Type 0} (read : List ℕ → Read X) (view : X → Y) (h : Tam
   bytes_use i (Err e) g = tt
 
   pub of_bytes : TameGets {A = A} (bytes_of read view)
-  of_bytes = record { goes = λ i x. bytes_go i x (read i.bytes) (read (i.bytes ++ x.bytes)) (h.goes i.bytes x.bytes); uses = λ i. bytes_use i (read i.bytes) (h.uses i.bytes) }
+  unfolding Goes
+  of_bytes = record { goes = λ i x. (grind (arith, nat_tests)); uses = λ i. bytes_use i (read i.bytes) (h.uses i.bytes) }
 
 module _ {A B : Type 0} (look : Look A B) where
-  look_goes : (kind : ℕ) (a : A) (bytes : List ℕ) (refs : List A) (x : Rest A) (r : Result B Error)
-      → Goes more x (r >>= λ b. let z : Result (Meaning B × Rest A) Error = Ok (meanings.reference b, rest bytes refs) in z)
-      (r >>= λ b. let z : Result (Meaning B × Rest A) Error = Ok (meanings.reference b, rest (bytes ++ x.bytes) (refs ++ x.refs)) in z)
-  unfolding Goes
-  look_goes kind a bytes refs x x5 = grind (arith, nat_tests)
-
   reference_goes : (kind : ℕ) (bytes : List ℕ) (refs : List A) (x : Rest A)
       → Goes more x (reference_at look kind refs (rest bytes refs)) (reference_at look kind (refs ++ x.refs) (more (rest bytes refs) x))
   unfolding Goes
-  reference_goes kind bytes x2 x = grind (arith, nat_tests, look_goes)
+  reference_goes kind bytes x2 x = grind (arith, nat_tests)
 
   reference_uses : (kind : ℕ) (bytes : List ℕ) (refs : List A) → Uses more ended (λ i. reference_at look kind i.refs i) (rest bytes refs) (reference_at look kind refs (rest bytes refs))
   unfolding Uses
@@ -201,10 +357,6 @@ module _ {A B : Type 0} {E : Error → Type 0} {S : A → B → Type 0} where
       → ((v : X) (w : Y) → V v w → V2 (view v) (view2 w)) → Par E S V get get2 → Par E S V2 (seen view get) (seen view2 get2)
   seen_par view view2 k h = then_par (λ v i. Ok (view v, i)) (λ w i. Ok (view2 w, i)) _ _ (λ i. refl) (λ i. refl) h (λ v w r. gives_par (view v) (view2 w) (k v w r)) (λ v. gives joins (view v))
 
-  pub choose_par : {X Y : Type 0} {V : X → Y → Type 0} (t : Bool) {get other : Gets A X} {get2 other2 : Gets B Y} → (t ≡ true → Par E S V get get2)
-      → (t ≡ false → Par E S V other other2) → Par E S V (choose t get other) (choose t get2 other2)
-  choose_par x0 h g = grind (arith, nat_tests, likewise_par)
-
   -- what is read first says which of two is read then
   known_par : {X Y Z : Type 0} {V : X → Y → Type 0} (read : List ℕ → Read Z) → TameBytes read → (known : Z → Bool) {get other : Z → Gets A X} {get2 other2 : Z → Gets B Y}
       {whole : Gets A X} {whole2 : Gets B Y}
@@ -212,7 +364,7 @@ module _ {A B : Type 0} {E : Error → Type 0} {S : A → B → Type 0} where
       → ((i : Rest B) → whole2 i ≡ (bytes_of read (λ z. z) i >>= λ p. choose (known p.0) (get2 p.0) (other2 p.0) p.1))
       → ((z : Z) → known z ≡ true → Par E S V (get z) (get2 z)) → ((z : Z) → Par E S V (other z) (other2 z)) → Par E S V whole whole2
   known_par read t known {get} {other} {get2} {other2} is is2 h g =
-      then_same {f = λ z. choose (known z) (get z) (other z)} {g = λ z. choose (known z) (get2 z) (other2 z)} is is2 (bytes_same read t) (λ z. choose_par (known z) (h z) (λ e. g z))
+      then_same {f = λ z. choose (known z) (get z) (other z)} {g = λ z. choose (known z) (get2 z) (other2 z)} is is2 (bytes_same read t) (λ z. (grind (arith, nat_tests, likewise_par)))
 
   pub items_par : {X Y : Type 0} {V : X → Y → Type 0} {get : Gets A X} {get2 : Gets B Y} → Par E S V get get2 → (n : ℕ) → Par E S (AllTwo V) (items get n) (items get2 n)
   unfolding items
@@ -252,11 +404,6 @@ pub data DeeperPar {A B C D : Type 0} (E : Error → Type 0) (F : Type 0) (S : A
   no-deeper : DeeperPar E F S R parts None None
   one-deeper : (get : Shape → Gets A (Meaning C)) (get2 : Shape → Gets B (Meaning D)) → ((s : Shape) → Covers F parts s → Par E S (Along F R) (get s) (get2 s))
       → DeeperPar E F S R parts (Some get) (Some get2)
-
-static-covers : {F : Type 0} {parts : ℕ → Shape} (registry : List (Meaning ⊥)) → Covers F parts (static_value registry) → F ⊎ AllByRecursion HasNoReference registry
-unfolding IsReadable
-static-covers registry (inl f) = inl f
-static-covers registry (inr t) = inr (here t)
 
 registered-one : {F : Type 0} (registry : List (Meaning ⊥)) → F ⊎ AllByRecursion HasNoReference registry → (i : ℕ) (m : Meaning ⊥) → registered registry i ≡ Ok m → F ⊎ HasNoReference m
 registered-one registry (inl f) i m e = inl f
@@ -359,10 +506,12 @@ module _ {A B C D : Type 0} {E : Error → Type 0} {F : Type 0} {S : A → B →
       with_par h (hash_map s s2) t =
           likewise_par (seen_par of_hash_map of_hash_map (λ es fs r. sorted-two code_order r)
           (counted_par (entry_par (with_par h s (over (λ p. p.0) (λ n d l. l.0) t)) (with_par h s2 (over (λ p. p.1) (λ n d l. l.1) t))))) (λ i. refl) (λ i. refl)
-      with_par h (sorted_set order s) t = likewise_par (seen_par _ _ (λ ms ns r. sorted_items-two order r) (counted_par (with_par h s (over (λ p. p) (λ n d l. l) t)))) (λ i. refl) (λ i. refl)
+      with_par h (sorted_set order s) t = likewise_par (seen_par _ _
+          (λ ms ns r. (sequence-two (put_all-two {V = Along F R} _ _ (λ acc acc2 e f g k. put_sorted_item-two order g k) [] [] no-two r)))
+          (counted_par (with_par h s (over (λ p. p) (λ n d l. l) t)))) (λ i. refl) (λ i. refl)
       with_par h (placed_set s) t = likewise_par (seen_par _ _ (λ ms ns r. placed_items-two r) (counted_par (with_par h s (over (λ p. p) (λ n d l. l) t)))) (λ i. refl) (λ i. refl)
       with_par h (static_value registry) t =
-          then_same (λ i. refl) (λ i. refl) (bytes_same (unsigned_at w32) (unsigned_tame w32)) (λ n. registered_par registry (static-covers registry t) n (registered registry n) refl)
+          then_same (λ i. refl) (λ i. refl) (bytes_same (unsigned_at w32) (unsigned_tame w32)) (λ n. registered_par registry (grind (arith, nat_tests, here)) n (registered registry n) refl)
       with_par h (tagged written known body) t =
           known_par text_at text_tame known (λ i. refl) (λ i. refl)
           (λ tag e. seen_par (of_tagged tag) (of_tagged tag) (λ m n r. pair-along _ _ _ _ (text-along tag) r) (with_par h (body tag) (over (λ p. p.1 tag e) (λ n d l. l.1 tag e) t)))
@@ -447,23 +596,16 @@ module _ {A C : Type 0} (f : A → C) where
   along-rename (followed kind a) = followed-along _ _ _ tt (along-rename a)
   along-rename x0 = grind (arith, nat_tests, number-along, integer-along, text-along, pattern-along, none-along, reference-along)
 
-given_is : {C D : Type 0} (m n : Meaning D) (q : Rest C) (bytes : List ℕ) (refs : List C) → m ≡ n → q.bytes ≡ bytes → q.refs ≡ refs
-    → (let r : Result (Meaning D × Rest C) Error = Ok (m, q) in r) ≡ Ok (n, rest bytes refs)
-given_is m n q bytes refs e h g = rw (e, ← h, ← g) refl
-
 natural-out : {A B C D : Type 0} (f : A → C) (g : B → D) {first : Result (Meaning B × Rest A) Error} {second : Result (Meaning D × Rest C) Error}
     → Out no_cause (Leads f) (Along (Unit {0}) (Leads g)) first second
     → second ≡ (first >>= λ x. Ok (rename g x.0, rest x.1.bytes (map f x.1.refs)))
-natural-out f g (both-given p q v s) = given_is q.0 _ q.1 _ _ (rename-along g v) s.bytes (map-all f s.refs)
+natural-out f g (both-given p q v s) = (rw ((rename-along g v), ← s.bytes, ← (map-all f s.refs)) refl)
 natural-out f g (both-refused e) = refl
 natural-out f g (first-refused e r h) = absurd h
 
-looked-up : {B D : Type 0} (g : B → D) (r : Result B Error) (q : Result D Error) → q ≡ (r >>= λ b. Ok (g b)) → OutLook no_cause (Leads g) r q
-looked-up g x1 q e = grind (arith, nat_tests, both-looked-up, both-not)
-
 pub natural : {A B C D : Type 0} → IsNatural A B C D
 natural {A} {B} {C} {D} f g look other levels parts s input h =
-    let alike : (kind : ℕ) (a : A) (c : C) → f a ≡ c → OutLook no_cause (Leads g) (look kind a) (other kind c) = λ kind a c e. looked-up g (look kind a) (other kind c) (rw (← e) (h kind a)) in
+    let alike : (kind : ℕ) (a : A) (c : C) → f a ≡ c → OutLook no_cause (Leads g) (look kind a) (other kind c) = λ kind a c e. (grind (arith, nat_tests, both-looked-up, both-not)) in
     let par = read_par look other alike levels s (inl tt) in
     natural-out f g (par.out input (rest input.bytes (map f input.refs)) (record { bytes = refl; refs = all-map f input.refs }))
 
@@ -482,14 +624,6 @@ unfolding same
 map_same [] = refl
 map_same (a ∷ k) = rw (map_same k) refl
 
-unsame : {A B C : Type 0} (f : A → C) (r : Result (Meaning B × Rest A) Error)
-    → (r >>= λ x. let z : Result (Meaning B × Rest C) Error = Ok (rename same x.0, rest x.1.bytes (map f x.1.refs)) in z) ≡ (r >>= λ x. Ok (x.0, rest x.1.bytes (map f x.1.refs)))
-unsame f x1 = grind (arith, nat_tests, rename_same)
-
-unmapped : {A B D : Type 0} (g : B → D) (r : Result (Meaning B × Rest A) Error)
-    → (r >>= λ x. let z : Result (Meaning D × Rest A) Error = Ok (rename g x.0, rest x.1.bytes (map same x.1.refs)) in z) ≡ (r >>= λ x. Ok (rename g x.0, x.1))
-unmapped g x1 = grind (arith, nat_tests, map_same)
-
 found : {B : Type 0} (r : Result B Error) → r ≡ (r >>= λ b. Ok (same b))
 unfolding same
 found x0 = grind (arith, nat_tests)
@@ -497,13 +631,13 @@ found x0 = grind (arith, nat_tests)
 pub read_over : {A B C : Type 0} → IsReadOver A B C
 read_over f look levels parts s input =
     natural f same (λ kind a. look kind (f a)) look levels parts s input (λ kind a. found (look kind (f a)))
-    ∙ unsame f _
+    ∙ (grind (arith, nat_tests, rename_same))
 
 pub renamed : {A B D : Type 0} → IsRenamed A B D
 unfolding same
 renamed {A} {B} {D} g look levels parts s input =
     let all = natural same g look (λ kind a. look kind a >>= λ b. Ok (g b)) levels parts s input (λ kind a. refl) in
-    ap (λ (k : List A). read (at levels (λ kind a. look kind a >>= λ b. Ok (g b)) parts) s (rest input.bytes k)) (sym (map_same input.refs)) ∙ all ∙ unmapped g _
+    ap (λ (k : List A). read (at levels (λ kind a. look kind a >>= λ b. Ok (g b)) parts) s (rest input.bytes k)) (sym (map_same input.refs)) ∙ all ∙ (grind (arith, nat_tests, map_same))
 
 pub keeps_forms : {A B : Type 0} → KeepsForms A B
 keeps_forms {A} {B} f kind_of kind_of2 parts left s m b k kinds h =

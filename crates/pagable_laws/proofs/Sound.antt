@@ -1,17 +1,21 @@
--- Why a load is refused whose key a page-out has published: by chance, or by a handle.
-use Rattle.pagable_laws.proofs.Words.{nat_tests, ◌≡◌, ℕ, suc, ◌+◌, ◌≤◌, true, List, [], ◌∷◌, length, Option, Some, sym, ap, subst, ◌∙◌, inl, inr, if◌then◌else◌, arith, slice_get, blob_of, Error}
-use Rattle.pagable_laws.proofs.Words.{ArcRef, Kind, Identity, Blob, Meaning, Tree, type_of, is_eager, above, longest_path, identity_of, Shelf, Written, Frame, Values, Next, reads, asks, is_faulty}
-use Rattle.pagable_laws.proofs.Words.{next_in, need_at, need_of, is_broken, IsPublished, MachineState, world_of, FramesFit, ReadsItsTypes, AreKeysOf, WorkFits, Needs, ◌==◌, Bool, false, ◌⊎◌, None}
-use Rattle.pagable_laws.proofs.Words.{Err, refl, Result, not, is_own_reading, RefusesFetch, Want, Owner, HandleNumber, LoadNumber, NodeNumber, Types, is_loose_kind, if_there, any_mode, Core}
-use Rattle.pagable_laws.proofs.Words.{OpenLoad, of_cell, Reading, Seen, IsLawful, earlier, where_so, refused_if, spent, handle_fault, references_fault, load_fault, AreHandlesFull, Refused}
-use Rattle.pagable_laws.proofs.Words.{FetchCall, birth_fault, AskCall, LazyCall, ask_fault, is_known, node_fault, root_fault, needs_nested, needs_lazy, to_adopt, IsDecoded, RefusesBlob}
-use Rattle.pagable_laws.proofs.Words.{RefusesNested, RefusesNode, RefusesRoot, IsOfKey, EndsClosed, Fails, reading_at, IsMachineWhole, StandsFor, FitsRoot, of_caller, IsOfChance, IsPagedOutAs}
-use Rattle.pagable_laws.proofs.Words.{IsLoadOfPagedOut, Ok, HandleRow, Mode, LoadAnswer, LoadReply, Event, EventReply, or_else, row_fault, reference_fault, LoadSteps, Happens, IsOfHandles}
-use Rattle.pagable_laws.proofs.{Words.{LoadIsFaultless, FaultlessLaw}, Trees.same_some, Fitting.{asked, first-typed}, Heights.{AllLow, HeightsIn}, Apart.{IsFormOf, GotAsked}}
-use Rattle.pagable_laws.proofs.{Apart.{FramesAsked, NextOf, asks-known, all-read, next-known, all-got}, ReadingStepsKinds.kinds_of, Sums.self-number, Taking.adopted-over, KnownSteps.ReadingsAsked}
-use Rattle.pagable_laws.proofs.{KnownSteps.eager-nested, Chains.IsGoingOn, Deeply.along-first}
-use Rattle.std.proofs.Common.{rules}
-use Rattle.pagable_world.specs.Loads.{Does}
+-- Why a load is refused whose key a page-out has published: by chance, or by a handle. And as too deep one is refused only where the reading of its key comes to a
+-- blob that lies too deep, or to one that enters a level too many.
+use Rattle.pagable_laws.proofs.Words.{nat_tests, ◌≡◌, ℕ, suc, ◌+◌, ◌≤◌, true, List, [], ◌∷◌, length, Option, Some, sym, ap, subst, ◌∙◌, inl, inr, if◌then◌else◌, arith, slice_get, blob_of}
+use Rattle.pagable_laws.proofs.Words.{Error, ArcRef, Kind, Identity, Blob, Meaning, Tree, type_of, is_eager, above, longest_path, identity_of, Shelf, Written, Frame, Values, Next, reads}
+use Rattle.pagable_laws.proofs.Words.{asks, is_faulty, next_in, need_at, need_of, is_broken, IsPublished, MachineState, world_of, FramesFit, ReadsItsTypes, AreKeysOf, WorkFits, Needs}
+use Rattle.pagable_laws.proofs.Words.{◌==◌, Bool, false, ◌⊎◌, None, Err, refl, Result, not, Want, Owner, HandleNumber, LoadNumber, NodeNumber, Types, is_loose_kind, if_there, any_mode}
+use Rattle.pagable_laws.proofs.Words.{Core, OpenLoad, of_cell, Reading, Seen, IsLawful, earlier, where_so, refused_if, spent, handle_fault, references_fault, load_fault, AreHandlesFull}
+use Rattle.pagable_laws.proofs.Words.{Refused, FetchCall, birth_fault, AskCall, LazyCall, ask_fault, is_known, node_fault, root_fault, needs_nested, needs_lazy, to_adopt, IsDecoded}
+use Rattle.pagable_laws.proofs.Words.{RefusesBlob, RefusesNested, RefusesNode, RefusesRoot, IsOfKey, EndsClosed, Fails, reading_at, IsMachineWhole, StandsFor, FitsRoot, of_caller}
+use Rattle.pagable_laws.proofs.Words.{IsOfChance, IsPagedOutAs, IsLoadOfPagedOut, Ok, HandleRow, Mode, LoadAnswer, LoadReply, Event, EventReply, or_else, row_fault, reference_fault}
+use Rattle.pagable_laws.proofs.Words.{LoadSteps, Happens, IsOfHandles, LoadIsFaultless, FaultlessLaw, ◌<◌, Took, owner_worker, Todo, Walking, named_fault, cell_fault, handles_of}
+use Rattle.pagable_laws.proofs.Words.{after_kinds, LeadsDown, is-there, goes-down, ReadsTooDeep, IsReadingOf, of_worker, LoadIsDeep, DeepLoadLaw}
+use Rattle.pagable_laws.proofs.{Trees.same_some, Fitting.{asked, first-typed}, Heights.{AllLow, HeightsIn}}
+use Rattle.pagable_laws.proofs.{Apart.{IsFormOf, GotAsked, FramesAsked, NextOf, asks-known, all-read, next-known, all-got}, ReadingStepsKinds.{kinds_of, asks-by-kinds, faulty-by-kinds}}
+use Rattle.pagable_laws.proofs.{Sums.self-number, Taking.adopted-over, KnownSteps.{ReadingsAsked, eager-nested}, Chains.IsGoingOn, Deeply.along-first, ReadingSteps.reading-stands}
+use Rattle.std.{proofs.Common.rules}
+use Rattle.pagable_world.specs.{Loads.Does}
+use Rattle.pagable_world.specs.Workers as workers
 
 -- ---- what a load reads of a key that a page-out has published: each blob is a form of a tree, asks for references whose keys are known, and lies within the path's limit
 
@@ -148,8 +152,6 @@ module _ {N E : Type 0} (v : Values N) (s : MachineState N E) (trees : ℕ → T
 
     pub needed : (frames : List Frame) → FramesFit v.types stored trees root_key root_type frames → FramesAsked v.types frames → (kind : Kind) (key : ℕ) → Needs v.types frames kind key
         → Needed frames kind key
-    needed [] fits got kind key (inl is) = absurd (cc)
-    needed [] fits got kind key (inr is) = absurd (cc)
     needed (frame ∷ below) fits got kind key needs =
         let t = top-known frame below fits got in
         let a = asked-known frame t.height t.known (first-asked frame below got) kind key (asked below (next_in v.types frame) kind key needs) in
@@ -160,6 +162,7 @@ module _ {N E : Type 0} (v : Values N) (s : MachineState N E) (trees : ℕ → T
       where
         within : (b h n limit : ℕ) → b + 1 ≤ h → h + n ≤ limit + 1 → limit ≤ longest_path → n ≤ longest_path
         within b h n limit le few small = omega arith
+    needed x0 fits got kind key x5 = grind (arith, nat_tests)
 
     -- the innermost blob is so, where it is read
     pub formed : (frame : Frame) (below : List Frame) → FramesFit v.types stored trees root_key root_type (frame ∷ below) → FramesAsked v.types (frame ∷ below) → (own : Meaning ArcRef)
@@ -174,8 +177,7 @@ module _ {N E : Type 0} (v : Values N) (s : MachineState N E) (trees : ℕ → T
         by (next-known v.types frame.node_type frame.blob t.known.refs t.known.form (first-asked frame below got))
       where
         by : {refs : List ArcRef} → NextOf frame.blob refs (next_in v.types frame) → ⊥
-        by (asks-known place r key at there same) = let f = broken-is below (next_in v.types frame) e is in cc
-        by (all-read own same) = let f = broken-is below (next_in v.types frame) e is in cc
+        by x0 = grind (arith, nat_tests, broken-is, next_in, v)
 
 -- ---- refusals
 
@@ -184,9 +186,15 @@ either None b e is = inr is
 either (Some x) None e is = inl is
 either (Some x) (Some y) e is = grind (arith, nat_tests)
 
--- the second, where the first isn't it
-past : (a b : Option Error) (e : Error) → (a ≡ Some e → ⊥) → earlier a b ≡ Some e → b ≡ Some e
-past a b e isnt is = elim (either a b e is) [ inl first ↦ absurd (isnt first) | inr second ↦ second ]
+-- whatever is told is so
+abbrev Only : (Error → Type 0) → Option Error → Type 0
+Only P told = (e : Error) → told ≡ Some e → P e
+
+only-earlier : {P : Error → Type 0} (a b : Option Error) → Only P a → Only P b → Only P (earlier a b)
+only-earlier a b first second e is = elim (either a b e is) [ inl p ↦ first e p | inr q ↦ second e q ]
+
+only-refused : {P : Error → Type 0} {cause before : Option Error} {full : Type 0} {w w' : Core} (e : Error) → Refused cause before full w e w' → Only P cause → P Error.OutOfMemory → P e
+only-refused {P} e r by memory = elim r.why [ inl is ↦ by e is | inr wanting ↦ subst P (sym wanting.0) memory ]
 
 chance-if : (b : Bool) (e : Error) → refused_if b Error.NumbersSpent ≡ Some e → IsOfChance e
 chance-if x0 e is = grind (arith, nat_tests)
@@ -195,25 +203,13 @@ where-chance : (b : Bool) (n : ℕ) (e : Error) → where_so b (spent n) ≡ Som
 where-chance x0 n e is = grind (arith, nat_tests, chance-if)
 
 birth-chance : (w : Core) (e : Error) → birth_fault w ≡ Some e → IsOfChance e
-birth-chance w e is = elim (either (spent w.last.node) (spent w.last.handle) e is) [ inl a ↦ chance-if _ e a | inr b ↦ chance-if _ e b ]
+birth-chance w = only-earlier (spent w.last.node) (spent w.last.handle) (chance-if _) (chance-if _)
 
 node-chance : (w : Core) (kind : Kind) (key : ℕ) (e : Error) → node_fault w kind key ≡ Some e → IsOfChance e
 node-chance w kind key e is = search (rules, chance-if, birth-chance)
 
 never : (b : Bool) (f e : Error) → b ≡ false → refused_if b f ≡ Some e → ⊥
 never _ f e is so = cc
-
-memory-chance : (e : Error) → e ≡ Error.OutOfMemory → IsOfChance e
-memory-chance e is = subst IsOfChance (sym is) tt
-
-reading-chance : (e : Error) → is_own_reading e ≡ true → IsOfChance e
-reading-chance x0 is = grind (arith, nat_tests)
-
-fetch-chance : (key : ℕ) (found : Option Blob) (blob : Blob) (before after : ℕ) (e : Error) → found ≡ Some blob → RefusesFetch key found before after e → IsOfChance e
-fetch-chance key found blob before after x5 is why = grind (arith, nat_tests)
-
-loose-not : (kind : ℕ) → is_eager kind ≡ true → is_loose_kind kind ≡ false
-loose-not kind is = grind (arith, nat_tests)
 
 second-eager : (types : Types) (top under : Frame) (rest : List Frame) → FramesAsked types (top ∷ under ∷ rest) → is_eager top.kind.0 ≡ true
 unfolding FramesAsked
@@ -293,8 +289,8 @@ module _ {N B W E : Type 0} (m : Seen N B W) (s : MachineState N E) (trees : ℕ
     abbrev C : Error → Type 0
     C e = Cause v w load reading e
 
-    no-load-fault : (e : Error) → load_fault w Owner.Caller reading.load ≡ Some e → ⊥
-    no-load-fault e is = let f = ap (load_fault w Owner.Caller) is-read.number ∙ may in cc
+    no-load-fault : (P : Error → Type 0) → Only P (load_fault w Owner.Caller reading.load)
+    no-load-fault P e is = absurd (let f = ap (load_fault w Owner.Caller) is-read.number ∙ may in cc)
 
     not-faulty : (e : Error) → need_of v.types reading.frames ≡ is_broken e → ⊥
     not-faulty = not-broken v s trees fit low readable out.t load.key reading.node_type out.i out.height out.known typed reading.frames is-read.fits is-read.asked
@@ -309,9 +305,6 @@ module _ {N B W E : Type 0} (m : Seen N B W) (s : MachineState N E) (trees : ℕ
     front : (frames : List Frame) (kind : Kind) (key : ℕ) → need_of v.types frames ≡ needs_nested kind key → is_eager kind.0 ≡ true
     front x0 kind key is = grind (arith, nat_tests, eager-nested)
 
-    front-lazy : (frames : List Frame) (kind : Kind) (key : ℕ) → need_of v.types frames ≡ needs_lazy kind key → not (is_loose_kind kind.0) ≡ false
-    front-lazy x0 kind key is = grind (arith, nat_tests)
-
     form-of : (frame : Frame) (below : List Frame) → reading.frames ≡ frame ∷ below → (x : N) → IsDecoded v frame x → IsForm v frame
     form-of frame below is x decoded =
         formed v s trees fit low readable out.t load.key reading.node_type out.i out.height out.known typed frame below
@@ -320,17 +313,11 @@ module _ {N B W E : Type 0} (m : Seen N B W) (s : MachineState N E) (trees : ℕ
     -- ---- asking
 
     vain-chance : (want : Want) (key : ℕ) (blob : Blob) (mid : Core) (e : Error) → w.stored key ≡ Some blob → (let r : Result Blob Error = Err e in FetchCall w key r mid) → IsOfChance e
-    vain-chance want key blob mid e is f = fetch-chance key (w.stored key) blob w.failures mid.failures e is f.refused
+    vain-chance want key blob mid e is f = (grind (arith, nat_tests))
 
     ask-chance : (want : Want) (mid : Core) (e : Error)
         → Refused (ask_fault w Owner.Caller reading.load want) (ask_fault w Owner.Caller reading.load want) ((is_known w want ≡ true) × AreHandlesFull w) w e mid → IsOfChance e
-    ask-chance want mid e r = elim r.why [
-      | inl is ↦ where-chance (is_known w want) w.last.handle e (past (load_fault w Owner.Caller reading.load) _ e (no-load-fault e) is)
-      | inr memory ↦ memory-chance e memory.0
-    ]
-
-    root-asked : (mid : Core) (e : Error) → AskCall w Owner.Caller reading.load Want.Root (Err e) mid → IsOfChance e
-    root-asked mid e c = grind (arith, nat_tests, ask-chance, same_some, is-read, vain-chance, found)
+    ask-chance want mid e r = only-refused {P = IsOfChance} e r (only-earlier _ _ (no-load-fault _) (where-chance (is_known w want) w.last.handle)) tt
 
     nested-asked : (kind : Kind) (key : ℕ) (blob : Blob) (mid : Core) (e : Error) → w.stored key ≡ Some blob → AskCall w Owner.Caller reading.load (Want.Nested kind key) (Err e) mid → IsOfChance e
     nested-asked kind key blob mid e is c = elim c.refused [
@@ -342,21 +329,16 @@ module _ {N B W E : Type 0} (m : Seen N B W) (s : MachineState N E) (trees : ℕ
 
     of-blob : (e : Error) → RefusesBlob v reading e → IsOfChance e
     of-blob e (inl is) = absurd (not-faulty e is)
-    of-blob e (inr (inl (top, below, is, causes))) = reading-chance e (lawful.own_reading top.node_type e causes)
-    of-blob e (inr (inr memory)) = memory-chance e memory
+    of-blob e (inr (inl (top, below, is, causes))) = (grind (arith, nat_tests))
+    of-blob e (inr (inr memory)) = (subst IsOfChance (sym memory) tt)
 
     of-nested : (mid : Core) (e : Error) → RefusesNested v.types w Owner.Caller reading e mid → IsOfChance e
     of-nested mid e (kind, key, needs, inl asked) = let n = need-there kind key (inl needs) in nested-asked kind key n.0 mid e n.1 asked
     of-nested mid e (kind, key, needs, inr (blob, is, deep, asked)) = absurd (let n = (need-there kind key (inl needs)).2 (front reading.frames kind key needs) in omega arith)
 
     of-lazy : (mid : Core) (e : Error) (kind : Kind) (key : ℕ) → need_of v.types reading.frames ≡ needs_lazy kind key → LazyCall w Owner.Caller reading.load kind key (Err e) mid → IsOfChance e
-    of-lazy mid e kind key needs c = elim c.refused.why [
-      | inr memory ↦ memory-chance e memory.0
-      | inl is ↦
-          let kinds = past (load_fault w Owner.Caller reading.load) _ e (no-load-fault e) is in
-          node-chance w kind key e (past (refused_if (not (is_loose_kind kind.0)) Error.WrongKind) (node_fault w kind key) e
-          (never _ Error.WrongKind e (front-lazy reading.frames kind key needs)) kinds)
-    ]
+    of-lazy mid e kind key needs c = only-refused {P = IsOfChance} e c.refused
+        (only-earlier _ _ (no-load-fault _) (only-earlier _ _ (λ f so. absurd (never _ Error.WrongKind f (grind (arith, nat_tests)) so)) (node-chance w kind key))) tt
 
     -- the blob that becomes a node is read through a reference that isn't loose, and is of its kind's type
     node-right : (top : Frame) (below : List Frame) → reading.frames ≡ top ∷ below → need_of v.types reading.frames ≡ to_adopt → (is_eager top.kind.0 ≡ true) × (top.node_type ≡ type_of top.kind.0)
@@ -366,39 +348,23 @@ module _ {N B W E : Type 0} (m : Seen N B W) (s : MachineState N E) (trees : ℕ
     of-node mid e r =
         let n = r.reads_node in
         let right = node-right n.top n.below n.frames n.needs in
-        elim r.adopted.refused.1.why [
-          | inr memory ↦ by-chance (memory-chance e memory.0)
-          | inl is ↦
-              let modes = past (load_fault w Owner.Caller reading.load) _ e (no-load-fault e) is in
-              let kinds = past (refused_if (is_loose_kind n.top.kind.0) Error.WrongMode) _ e (never _ Error.WrongMode e (loose-not n.top.kind.0 right.0)) modes in
-              let rest = past (refused_if (not (v.node_type r.x == type_of n.top.kind.0)) Error.WrongKind) _ e (never _ Error.WrongKind e (same-type (v.node_type r.x)
-              (type_of n.top.kind.0) (n.decoded.typed ∙ right.1))) kinds in
-              elim (either (references_fault w (Owner.Load reading.load) [] (v.references r.x)) (node_fault w n.top.kind n.top.key) e rest) [
-                | inl a ↦ by-references n.top n.below r.x n.frames n.decoded (form-of n.top n.below n.frames r.x n.decoded) a
-                | inr f ↦ by-chance (node-chance w n.top.kind n.top.key e f)
-              ]
-        ]
+        only-refused {P = C} e r.adopted.refused.1 (only-earlier _ _ (no-load-fault _) (only-earlier _ _ (λ f so. absurd (never _ Error.WrongMode f (grind (arith, nat_tests)) so))
+        (only-earlier _ _ (λ f so. absurd (never _ Error.WrongKind f (same-type (v.node_type r.x) (type_of n.top.kind.0) (n.decoded.typed ∙ right.1)) so))
+        (only-earlier _ _ (λ f a. by-references n.top n.below r.x n.frames n.decoded (form-of n.top n.below n.frames r.x n.decoded) a)
+        (λ f a. by-chance (node-chance w n.top.kind n.top.key f a)))))) (by-chance tt)
 
     of-root : (mid : Core) (e : Error) → RefusesRoot v w Owner.Caller reading e mid → C e
     of-root mid e r = elim r.refuses [
       | inr (is, handed) ↦
           let same : is.load ≡ load = same_some _ _ (sym is.open_load ∙ (ap (λ (x : LoadNumber). w.loads x.0) is-read.number ∙ open_load)) in
           absurd (subst IsOfKey (ap (λ (x : OpenLoad). x.root) same ∙ paged.3) is.sort)
-      | inl (is, ended) ↦ elim ended.refused.1.why [
-        | inr memory ↦ by-chance (memory-chance e memory.0)
-        | inl why ↦
-            let rest = past (load_fault w Owner.Caller reading.load) _ e (no-load-fault e) why in
-            elim (either (if_there (λ (x : OpenLoad). root_fault w Owner.Caller (v.node_type r.x) x.root) None (w.loads reading.load.0)) (references_fault w (Owner.Load reading.load) []
-            (v.references r.x)) e rest) [
-              | inl a ↦ by-chance (root-chance r a)
-              | inr f ↦ by-references r.reads_root.root [] r.x r.reads_root.frames r.reads_root.decoded (form-of r.reads_root.root [] r.reads_root.frames r.x r.reads_root.decoded) f
-            ]
-      ]
+      | inl (is, ended) ↦ only-refused {P = C} e ended.refused.1 (only-earlier _ _ (no-load-fault _) (only-earlier _ _ (λ f a. by-chance (root-chance r f a))
+          (λ f a. by-references r.reads_root.root [] r.x r.reads_root.frames r.reads_root.decoded (form-of r.reads_root.root [] r.reads_root.frames r.x r.reads_root.decoded) a)))
+          (by-chance tt)
     ]
       where
-        root-chance : (r : RefusesRoot v w Owner.Caller reading e mid) → if_there (λ (x : OpenLoad). root_fault w Owner.Caller (v.node_type r.x) x.root) None (w.loads reading.load.0) ≡ Some e
-            → IsOfChance e
-        root-chance r is = grind (arith, nat_tests, is-read, either, never, same-type, last-type, where-chance)
+        root-chance : (r : RefusesRoot v w Owner.Caller reading e mid) → Only IsOfChance (if_there (λ (x : OpenLoad). root_fault w Owner.Caller (v.node_type r.x) x.root) None (w.loads reading.load.0))
+        root-chance r f is = grind (arith, nat_tests, is-read, either, never, same-type, last-type, where-chance)
 
     of-end : (w' : Core) (e : Error) → EndsClosed v w Owner.Caller reading e w' → C e
     of-end w' e r =
@@ -410,7 +376,7 @@ module _ {N B W E : Type 0} (m : Seen N B W) (s : MachineState N E) (trees : ℕ
     cause w' e (inr ended) = of-end w' e ended
     cause w' e (inl gives) = elim gives.meets [
       | inl (refuses, a) ↦ by-chance (of-blob e refuses)
-      | inr (inl (first, asked)) ↦ by-chance (root-asked gives.mid e asked)
+      | inr (inl (first, asked)) ↦ by-chance (grind (arith, nat_tests, ask-chance, same_some, is-read, vain-chance, found))
       | inr (inr (inl nested)) ↦ by-chance (of-nested gives.mid e nested)
       | inr (inr (inr (inl (kind, key, needs, asked)))) ↦ by-chance (of-lazy gives.mid e kind key needs asked)
       | inr (inr (inr (inr (inl node)))) ↦ of-node gives.mid e node
@@ -425,9 +391,6 @@ of-handles f e is same = let g : f ≡ e = cc in subst IsOfHandles g is
 by-row : (w : Core) (r : ArcRef) (b : Bool) (row : HandleRow) (e : Error) → row_fault w r (refused_if b Error.NotYours) row ≡ Some e → IsOfHandles e
 by-row w r b row e is = grind (arith, nat_tests)
 
-by-one : (w : Core) (owner : Owner) (seen : List ℕ) (r : ArcRef) (e : Error) → reference_fault w owner seen r ≡ Some e → IsOfHandles e
-by-one w owner seen r e is = search (rules, of-handles, by-row)
-
 pub by-all : (w : Core) (owner : Owner) (seen : List ℕ) (rs : List ArcRef) (e : Error) → references_fault w owner seen rs ≡ Some e → IsOfHandles e
 unfolding references_fault
 by-all w owner seen [] e is = absurd (cc)
@@ -436,7 +399,7 @@ by-all w owner seen (r ∷ rs) e is = at (λ f. by-all w owner (r.handle.0 ∷ s
     at : (references_fault w owner (r.handle.0 ∷ seen) rs ≡ Some e → IsOfHandles e) → (found : Option Error) → reference_fault w owner seen r ≡ found
         → or_else found (references_fault w owner (r.handle.0 ∷ seen) rs) ≡ Some e → IsOfHandles e
     at later None first is = later is
-    at later (Some f) first is = by-one w owner seen r e (first ∙ is)
+    at later (Some f) first is = (search (rules, of-handles, by-row))
 
 pub by-handle-row : (w : Core) (me : Owner) (h : HandleNumber) (fits : Mode → Bool) (e : Error) → handle_fault w me h fits ≡ Some e → IsOfHandles e
 by-handle-row w me h fits e is = grind (arith, nat_tests)
@@ -462,3 +425,141 @@ module _ {N B W E : Type 0} (m : Seen N B W) (lawful : IsLawful m.values) (reada
 
 pub faultless_law : {N B W : Type 0} (E : Type 0) (m : Seen N B W) → FaultlessLaw E m
 faultless_law E m start moments trees whole idle chain stands lawful readable settled = search (rules, along-first, load-faultless)
+
+-- ---- what isn't refused as too deep
+
+abbrev No : Option Error → Type 0
+No c = c ≡ Some Error.TooDeep → ⊥
+
+no-earlier : (a b : Option Error) → No a → No b → No (earlier a b)
+no-earlier a b x y is = elim (either a b Error.TooDeep is) [ inl p ↦ x p | inr q ↦ y q ]
+
+no-test : (b : Bool) (f : Error) → (Some f ≡ Some Error.TooDeep → ⊥) → No (refused_if b f)
+no-test x0 f x is = grind (arith, nat_tests)
+
+no-spent : (n : ℕ) → No (spent n)
+no-spent n = no-test _ Error.NumbersSpent (λ e. cc)
+
+no-load : (w : Core) (me : Owner) (l : LoadNumber) → No (load_fault w me l)
+no-load w me l is = grind (arith, no-test)
+
+no-node : (w : Core) (kind : Kind) (key : ℕ) → No (node_fault w kind key)
+no-node w kind key is = grind (arith, no-spent, no-earlier)
+
+no-named : (w : Core) (owner : Owner) (seen : List ℕ) (hs : List HandleNumber) → No (named_fault w owner seen hs)
+unfolding named_fault
+no-named w owner seen [] is = cc
+no-named w owner seen (h ∷ hs) is = grind (arith, nat_tests, no-earlier, no-test, no-named w owner (h.0 ∷ seen) hs)
+
+no-cell : (found : Option OpenLoad) → No (if_there (λ (load : OpenLoad). cell_fault load.root) None found)
+no-cell x0 is = grind (arith, nat_tests)
+
+not-refused : {cause before : Option Error} {full : Type 0} {w w' : Core} → Refused cause before full w Error.TooDeep w' → No cause → ⊥
+not-refused r none = elim r.why [ inl is ↦ none is | inr memory ↦ absurd (let e = memory.0 in cc) ]
+
+-- ---- a path down
+
+module _ (types : Types) (stored : ℕ → Option Blob) where
+  -- a path goes on by one more reference
+  goes-further : {t key n u last : ℕ} (blob : Blob) (kinds : List ℕ) (kind : Kind) (child : ℕ) → LeadsDown types stored t key n u last → stored last ≡ Some blob
+      → after_kinds types u blob kinds ≡ asks kind child → is_eager kind.0 ≡ true
+      → LeadsDown types stored t key (n + 1) (type_of kind.0) child
+  goes-further blob kinds kind child (is-there t key) is next eager = goes-down t key child 0 (0 + 1) (type_of kind.0) child blob kinds kind refl is next eager (is-there (type_of kind.0) child)
+  goes-further blob kinds kind child (goes-down t key c n longer u last b ks k e at step own more) is next eager =
+      goes-down t key c (n + 1) (longer + 1) (type_of kind.0) child b ks k (omega (arith, e)) at step own (goes-further blob kinds kind child more is next eager)
+
+  module _ (trees : ℕ → Tree) (root_key root_type : ℕ) where
+    -- what a frame says of its blob
+    record IsDown (frame : Frame) (n : ℕ) : Type 0 where
+      down : LeadsDown types stored root_type root_key n frame.node_type frame.key
+      is : stored frame.key ≡ Some frame.blob
+
+    down-to : (frame : Frame) (below : List Frame) → FramesFit types stored trees root_key root_type (frame ∷ below) → FramesAsked types (frame ∷ below) → IsDown frame (length below)
+    unfolding FramesFit FramesAsked
+    down-to frame [] (fits, key, of_type) got = grind (arith, nat_tests, is-there)
+    down-to frame (under ∷ rest) (fits, of_type, next, more) (got, eager, next2, more_asked) =
+        let u = down-to under rest more more_asked in
+        let step = asks-by-kinds types under.node_type under.blob under.got frame.kind frame.key next in
+        let d = goes-further under.blob (kinds_of under.got) frame.kind frame.key u.down u.is step eager in
+        let long : length rest + 1 ≡ length (under ∷ rest) = omega arith in
+        grind (arith, nat_tests)
+
+    of-path : (frames : List Frame) → FramesFit types stored trees root_key root_type frames → FramesAsked types frames → (kind : Kind) (key : ℕ) (blob : Blob)
+        → need_of types frames ≡ needs_nested kind key → stored key ≡ Some blob
+        → longest_path < length frames → ReadsTooDeep types stored root_type root_key
+    of-path [] fits got kind key blob needs is long = absurd (cc)
+    of-path (top ∷ below) fits got kind key blob needs is long =
+        let d = down-to top below fits got in
+        let step = asks-by-kinds types top.node_type top.blob top.got kind key (asked below (next_in types top) kind key (inl needs)) in
+        let further = goes-further top.blob (kinds_of top.got) kind key d.down d.is step (eager-nested below (next_in types top) kind key needs) in
+        record { n = length below + 1; last_type = type_of kind.0; last = key; blob = blob; down = further; is = is; deep = inl (omega (arith, long)) }
+
+-- ---- a load's step
+
+module _ {N B W : Type 0} (m : Seen N B W) (lawful : IsLawful m.values) (w : Core) (me : Owner) (reading : Reading) (trees : ℕ → Tree) (root_key root_type : ℕ)
+    (fits : FramesFit m.values.types w.stored trees root_key root_type reading.frames)
+    (got : FramesAsked m.values.types reading.frames) where
+  abbrev Deep : Type 0
+  Deep = ReadsTooDeep m.values.types w.stored root_type root_key
+
+  not-asked : (want : Want) (u : Core) → AskCall w me reading.load want (Err Error.TooDeep) u → ⊥
+  not-asked want u c = grind (arith, not-refused, no-earlier, no-load, no-spent)
+
+  nested-deep : (u : Core) → RefusesNested m.values.types w me reading Error.TooDeep u → Deep
+  nested-deep u x1 = grind (arith, nat_tests, not-asked, of-path)
+
+  root-not : (u : Core) → RefusesRoot m.values w me reading Error.TooDeep u → ⊥
+  root-not u r = elim r.refuses [
+    | inl (is, ended) ↦ not-refused ended.refused.1 (no-earlier _ _ (no-load w me reading.load) (no-earlier _ _ (grind (arith, nat_tests, no-earlier, no-test, no-spent)) (λ f. by-all w
+        (Owner.Load reading.load) [] (m.values.references r.x) Error.TooDeep f)))
+    | inr (is, handed) ↦ no-earlier _ _ (no-load w me reading.load) (no-earlier _ _ (no-cell (w.loads reading.load.0)) (no-named w (Owner.Load reading.load) [] (handles_of
+        (m.values.references r.x)))) handed.refused.0
+  ]
+
+  pub fails-deep : (w' : Core) → Fails m.values w me reading Error.TooDeep w' → Deep
+  fails-deep w' (inr ended) = absurd (by-handle-row w me ended.ended.refused.h any_mode Error.TooDeep ended.ended.refused.why)
+  fails-deep w' (inl gives) = elim gives.meets [
+    | inl (refuses, a) ↦ (grind (arith, nat_tests, down-to, kinds_of, faulty-by-kinds, broken-is, next_in))
+    | inr (inl (first, c)) ↦ absurd (not-asked Want.Root gives.mid c)
+    | inr (inr (inl nested)) ↦ nested-deep gives.mid nested
+    | inr (inr (inr (inl (kind, key, needs, c)))) ↦
+        absurd (not-refused c.refused (no-earlier _ _ (no-load w me reading.load) (no-earlier _ _ (no-test (not (is_loose_kind kind.0)) Error.WrongKind (λ e. cc)) (no-node w kind key))))
+    | inr (inr (inr (inr (inl node)))) ↦
+        absurd (not-refused node.adopted.refused.1 (no-earlier _ _ (no-load w me reading.load) (no-earlier _ _ (no-test _ Error.WrongMode (λ e. cc))
+        (no-earlier _ _ (no-test _ Error.WrongKind (λ e. cc)) (no-earlier _ _ (λ f. by-all w (Owner.Load reading.load) [] (m.values.references node.x) Error.TooDeep f)
+        (no-node w node.reads_node.top.kind node.reads_node.top.key))))))
+    | inr (inr (inr (inr (inr root)))) ↦ absurd (root-not gives.mid root)
+  ]
+
+-- ---- an event
+
+module _ {N B W E : Type 0} (m : Seen N B W) (lawful : IsLawful m.values) (s s' : MachineState N E) (trees trees' : ℕ → Tree) (on : IsGoingOn m.values s trees) where
+  by-reading : (me : Owner) (reading : Reading) (load : OpenLoad) → IsReadingOf s.work reading → s.pager.core.loads reading.load.0 ≡ Some load → (w' : Core)
+      → Fails m.values s.pager.core me reading Error.TooDeep w'
+      → ReadsTooDeep m.values.types s.pager.core.stored reading.node_type load.key
+  by-reading me reading load is open_load w' fails =
+      fails-deep m lawful s.pager.core me reading trees load.key reading.node_type (on.stands.readings reading is load open_load) (on.asked reading is) w' fails
+
+  load-deep : (event : Event N B W) (reply : EventReply N B W) → Happens m (world_of s) event reply (world_of s') → LoadIsDeep m.values s trees event reply s' trees'
+  unfolding FramesFit FramesAsked
+  load-deep (Event.LoadStep l) (EventReply.LoadMoved (Ok reply)) is = λ reading load at open_load ended.
+      let x = is.moves in
+      let same : x.reading ≡ reading = same_some _ _ (sym x.at ∙ at) in
+      let fails = subst (λ a. Does m.values s.pager.core Owner.Caller x.reading a x.frames s'.pager.core) ended x.does.does in
+      subst (λ (r : Reading). ReadsTooDeep m.values.types s.pager.core.stored r.node_type load.key) same (elim (reading-stands (world_of s) on.whole.pager.whole l x.reading x.at) [
+        | inl there ↦ by-reading Owner.Caller x.reading load (of_caller l.0 there) (ap s.pager.core.loads (on.whole.readings l.0 x.reading there).number ∙ open_load) s'.pager.core fails.0
+        | inr begun ↦ (grind (arith, fails-deep))
+      ])
+  load-deep (Event.WorkerStep n) (EventReply.WorkerMoved (Ok reply)) is = λ walking r place through reading below load i there todo open_load taken.
+      let x = is.moves in
+      let same : x.walking ≡ walking = same_some _ _ (sym x.at ∙ there) in
+      let front = ap (λ (y : Walking). y.todo) same ∙ todo in
+      let does =
+      subst (λ (k : Took W). workers.Does m n.0 (record { core = s.pager.core; shelf = s.work.shelves x.walking.table; todo = x.walking.todo }) x.walking.todo k x.after) taken x.does.does in
+      let step = subst (λ (t : List Todo). workers.Does m n.0 (record { core = s.pager.core; shelf = s.work.shelves x.walking.table; todo = x.walking.todo }) t (Took.Pin i
+      (Err Error.TooDeep)) x.after) front does in
+      by-reading (owner_worker n.0) reading load (of_worker n.0 place walking r through below there todo) open_load x.after.core step.1.refused.0.does.0
+  load-deep event reply is = tt
+
+pub deep_load_law : {N B W : Type 0} (E : Type 0) (m : Seen N B W) → DeepLoadLaw E m
+deep_load_law E m start moments trees whole idle chain stands lawful readable settled = grind (arith, along-first, load-deep)

@@ -42,11 +42,6 @@ pub others-stay : (v u : ℕ) (shelf shelf' : Shelf) → Changes v shelf shelf' 
     → shelf'.slots i ≡ Some slot
 others-stay v u shelf shelf' changes other i slot there of_it = grind (arith, some-none, some-same)
 
--- and what is another's was so
-pub others-were : (v u : ℕ) (shelf shelf' : Shelf) → Changes v shelf shelf' → nat_eq u v ≡ false → (i : Identity) (slot : Slot) → shelf'.slots i ≡ Some slot → slot.worker ≡ u
-    → shelf.slots i ≡ Some slot
-others-were v u shelf shelf' changes other i slot there of_it = grind (arith, some-same)
-
 pub meets-grow : (shelf shelf' : Shelf) (task : Task) (i : Identity) → ShelfGrows shelf shelf' → Meets shelf task i → Meets shelf' task i
 meets-grow shelf shelf' task i more (meets-of-item written r is among) = meets-of-item written r is among
 meets-grow shelf shelf' task i more (meets-entry h j is) = meets-entry h j is
@@ -91,9 +86,6 @@ put-by v shelf shelf' i slot puts at j = elim (cases_Bool (is_identity i j)) [
   | inl e ↦ subst (λ k. SlotChanges v (shelf.slots k) (shelf'.slots k)) (sym (is-same i j e)) (subst (λ o. SlotChanges v (shelf.slots i) o) (sym puts.at) at)
 ]
 
-pub puts-new : (v : ℕ) (shelf shelf' : Shelf) (i : Identity) (slot : Slot) → PutsSlot shelf.slots shelf'.slots i slot → shelf.slots i ≡ None → slot.worker ≡ v → Changes v shelf shelf'
-puts-new v shelf shelf' i slot puts none of_it = put-by v shelf shelf' i slot puts (is-new slot none refl of_it)
-
 pub puts-own : (v : ℕ) (shelf shelf' : Shelf) (i : Identity) (old slot : Slot) → PutsSlot shelf.slots shelf'.slots i slot → shelf.slots i ≡ Some old → old.worker ≡ v
     → SlotGrows old slot → Changes v shelf shelf'
 puts-own v shelf shelf' i old slot puts there of_it more = put-by v shelf shelf' i slot puts (is-changed old slot there of_it refl more)
@@ -102,17 +94,9 @@ puts-own v shelf shelf' i old slot puts there of_it more = put-by v shelf shelf'
 pub outcome-grows : (outcome : Outcome) (slot : Slot) → SlotGrows slot (with_outcome outcome slot)
 outcome-grows outcome slot = grind (arith, grows-self)
 
--- of the claims of a worker that fails each has a result
-failed-slot : (slot : Slot) → is_open_outcome (with_outcome failed slot).outcome ≡ false
-failed-slot slot = grind arith
-
 pub all-failed : (v : ℕ) (shelf shelf' : Shelf) → SameShelf (with_failed shelf v) shelf' → (i : Identity) (slot : Slot) → shelf'.slots i ≡ Some slot → slot.worker ≡ v
     → is_open_outcome slot.outcome ≡ false
-all-failed v shelf shelf' same i slot there own = grind (arith, some-same, failed-slot)
-
--- none comes by that
-pub none-fails : (v : ℕ) (shelf shelf' : Shelf) → SameShelf (with_failed shelf v) shelf' → (i : Identity) → shelf.slots i ≡ None → shelf'.slots i ≡ None
-none-fails v shelf shelf' same i none = same.slots i ∙ ap (λ o. if_there (λ (slot : Slot). Some (if nat_eq slot.worker v then with_outcome failed slot else slot)) None o) none
+all-failed v shelf shelf' same i slot there own = grind (arith, some-same)
 
 pub fails-own : (v : ℕ) (shelf shelf' : Shelf) → SameShelf (with_failed shelf v) shelf' → Changes v shelf shelf'
 fails-own v shelf shelf' same i = by (shelf.slots i) refl (same.slots i)
@@ -197,16 +181,16 @@ pub record WalkingStands (shelf : Shelf) (v : ℕ) (walking : Walking) : Type 0 
   pub unfailed : walking.answer ≡ None → HasNoFailed shelf v
   pub done : (answer : WorkerAnswer) → walking.answer ≡ Some answer → walking.todo ≡ []
 
--- a slot of the table t: whoever claimed the identity is a worker of the table, and its task meets it
-pub record SlotStands (shelf : Shelf) (walkings : ℕ → Option Walking) (t : ℕ) (i : Identity) (slot : Slot) : Type 0 where
+-- the worker v is one of the table t, and its task meets the identity
+pub record IsMetBy (shelf : Shelf) (walkings : ℕ → Option Walking) (v t : ℕ) (i : Identity) : Type 0 where
   pub walking : Walking
-  pub there : walkings slot.worker ≡ Some walking
+  pub there : walkings v ≡ Some walking
   pub on_table : walking.table ≡ t
   pub meets : Meets shelf walking.task i
 
 -- all tables and workers, where this is the last number that a worker was given
 pub record WorkStands (shelves : ℕ → Shelf) (walkings : ℕ → Option Walking) (last : ℕ) : Type 0 where
-  pub slots : (t : ℕ) (i : Identity) (slot : Slot) → (shelves t).slots i ≡ Some slot → SlotStands (shelves t) walkings t i slot
+  pub slots : (t : ℕ) (i : Identity) (slot : Slot) → (shelves t).slots i ≡ Some slot → IsMetBy (shelves t) walkings slot.worker t i
   pub workers : (v : ℕ) (walking : Walking) → walkings v ≡ Some walking → WalkingStands (shelves walking.table) v walking
   pub numbered : (v : ℕ) (walking : Walking) → walkings v ≡ Some walking → v ≤ last
 
@@ -218,16 +202,12 @@ true-false is other = absurd (cc)
 -- ---- what stands goes on to stand
 
 module _ (u : ℕ) (task : Task) (shelf shelf' : Shelf) (more : ShelfGrows shelf shelf') where
-  claim-stays : (i : Identity) {so : Option Written → Type 0} → ((slot : Slot) → shelf.slots i ≡ Some slot → slot.worker ≡ u → shelf'.slots i ≡ Some slot) → IsMetClaim shelf u task i so
-      → IsMetClaim shelf' u task i so
-  claim-stays i keeps (meets, c) = grind (arith, meets-grow)
-
   -- each claim that this is about is kept
   abbrev pub KeepsOf : (Identity → Bool) → Type 0
   KeepsOf test = (i : Identity) → test i ≡ true → (slot : Slot) → shelf.slots i ≡ Some slot → slot.worker ≡ u → shelf'.slots i ≡ Some slot
 
   one-stays : (x : Todo) (below : List Todo) → KeepsOf (λ i. is_open_of i x) → Stands shelf u task x below → Stands shelf' u task x below
-  one-stays x0 below keeps x3 = grind (arith, nat_tests, meets-grow, claim-stays, is-self, published-stays)
+  one-stays x0 below keeps x3 = grind (arith, nat_tests, meets-grow, is-self, published-stays)
 
   pub all-stay : (todo : List Todo) → KeepsOf (λ i. is_open_in i todo) → AllStand shelf u task todo → AllStand shelf' u task todo
   unfolding AllStand is_open_in
@@ -274,27 +254,11 @@ module _ (v : ℕ) (task : Task) where
   module _ (shelf shelf' : Shelf) (same : (i : Identity) → shelf'.slots i ≡ shelf.slots i) (clean : HasNoFailed shelf v) where
     pub plain : (answer : Option WorkerAnswer) (todo : List Todo) → ((a : WorkerAnswer) → answer ≡ Some a → todo ≡ []) → AllStand shelf v task todo → CoversBy shelf todo
         → Goes shelf answer shelf' todo
-    plain answer todo done all covers =
-        record {
-          changes = same-slots v shelf shelf' same;
-          all = all-stay v task shelf shelf' (grows v shelf shelf' (same-slots v shelf shelf' same)) todo (λ i is slot there own. same i ∙ there) all;
-          covers = λ i slot there own still. or_right (is_failing todo) (is_open_in i todo) (covers i slot (sym (same i) ∙ there) own still);
-          unfailed = λ none i slot there own. clean i slot (sym (same i) ∙ there) own;
-          done = done;
-          met = λ i slot none there. some-none (sym (same i) ∙ there) none;
-        }
+    plain answer todo done all covers = grind (arith, nat_tests, same-slots, all-stay, grows, or_right, is_failing, is_open_in, some-none)
 
     pub fails : (fault : Fault) (back : Option HandleNumber) → Goes shelf None shelf' (to_fail fault back ∷ [])
     unfolding AllStand is_open_in
-    fails fault back =
-        record {
-          changes = same-slots v shelf shelf' same;
-          all = (tt, (λ i is. absurd (cc)), tt);
-          covers = λ i slot there own still. refl;
-          unfailed = λ none i slot there own. clean i slot (sym (same i) ∙ there) own;
-          done = λ a is. absurd (cc);
-          met = λ i slot none there. some-none (sym (same i) ∙ there) none;
-        }
+    fails fault back = grind (arith, nat_tests, same-slots, some-none)
 
     -- what stands at the front becomes something else about the same claim
     pub swaps : (x y : Todo) (below : List Todo) → AllStand shelf v task (x ∷ below) → CoversBy shelf (x ∷ below) → ((i : Identity) → is_open_of i y ≡ is_open_of i x)
@@ -334,10 +298,9 @@ module _ (v : ℕ) (task : Task) where
 
     pub gives : (r : ArcRef) (key height : ℕ) (todo : List Todo) → AllStand shelf v task todo → AllStand shelf v task (give r key height todo)
     unfolding AllStand
-    gives r key height [] all = all
     gives r key height (to_finish o ∷ below) all = settles (record o { keys = o.keys ++ key ∷ []; height = max o.height (above r.kind.0 height) }) below all
     gives r key height (to_item written keys ∷ below) all = item-settles written (keys ++ key ∷ []) below all
-    gives r key height (_ ∷ below) all = all
+    gives r key height x3 all = grind (arith, nat_tests)
 
     pub given-open : (i : Identity) (r : ArcRef) (key height : ℕ) (todo : List Todo) → is_open_in i (give r key height todo) ≡ is_open_in i todo
     unfolding is_open_in
@@ -367,7 +330,7 @@ module _ (v : ℕ) (task : Task) (shelf shelf' : Shelf) (clean : HasNoFailed she
       → PutsSlot shelf.slots shelf'.slots (identity_of r) new-slot → Goes v task shelf None shelf' (to_pin r place ∷ below)
   unfolding AllStand is_open_in
   claimed r place below (meets, apart, rest) covers none puts =
-      let changes : Changes v shelf shelf' = puts-new v shelf shelf' (identity_of r) new-slot puts none refl in
+      let changes : Changes v shelf shelf' = (put-by v shelf shelf' (identity_of r) new-slot puts (is-new new-slot none refl refl)) in
       let more : ShelfGrows shelf shelf' = grows v shelf shelf' changes in
       let meets_now : Meets shelf' task (identity_of r) = meets-grow shelf shelf' task (identity_of r) more meets in
       let free : is_open_in (identity_of r) below ≡ false =
@@ -379,16 +342,10 @@ module _ (v : ℕ) (task : Task) (shelf shelf' : Shelf) (clean : HasNoFailed she
           (λ i is. subst (λ k. is_open_in k below ≡ false) (is-same i (identity_of r) is) free),
           below-stays (identity_of r) new-slot below puts changes free rest,
         );
-        covers = λ i slot there own still. elim (put-cases shelf.slots shelf'.slots (identity_of r) new-slot puts i slot there) [
-          | inl e ↦ open-self (identity_of r) i (is_open_in i below) e.0
-          | inr e ↦ or_right (is_identity i (identity_of r)) (is_open_in i below) (covers i slot e.1 own still)
-        ];
+        covers = grind (arith, nat_tests, put-cases, identity_of, new-slot, open-self, is_open_in, or_right, is_identity);
         unfailed = λ nothing. clean-still (identity_of r) new-slot puts refl;
         done = λ a is. absurd (cc);
-        met = λ i slot no there. elim (put-cases shelf.slots shelf'.slots (identity_of r) new-slot puts i slot there) [
-          | inl e ↦ subst (λ k. Meets shelf' task k) (sym e.0) meets_now
-          | inr e ↦ some-none e.1 no
-        ];
+        met = grind (arith, nat_tests, put-cases, identity_of, new-slot, some-none);
       }
 
   -- an own slot changes: nothing comes that isn't met
@@ -422,8 +379,7 @@ module _ (v : ℕ) (task : Task) (shelf shelf' : Shelf) (clean : HasNoFailed she
           apart,
           below-stays (identity_of r) new below puts changes free rest,
         );
-        covers = λ i slot there own still. or_right (is_failing (open_node r place through written below)) (is_open_in i (open_node r place through written below))
-            (started-open v task shelf' i place (drop 0 written.references) (to_finish o ∷ below) ∙ covered puts covers i slot there own still);
+        covers = grind (arith, nat_tests, or_right, is_failing, open_node, is_open_in, started-open, drop, to_finish, covered);
         unfailed = λ nothing. clean-still (identity_of r) new puts (ap is_failed c.no_result_yet);
         done = λ a is. absurd (cc);
         met = none-comes (identity_of r) c.slot new puts c.claimed;
@@ -452,10 +408,7 @@ module _ (v : ℕ) (task : Task) (shelf shelf' : Shelf) (clean : HasNoFailed she
           (λ i is. absurd (cc)),
           below-stays (identity_of r) new below puts changes free rest,
         );
-        covers = λ i slot there own still. elim (put-cases shelf.slots shelf'.slots (identity_of r) new puts i slot there) [
-          | inl e ↦ let f : published key height ≡ no_result = sym known ∙ (sym (ap (λ (s : Slot). s.outcome) e.1) ∙ still) in absurd (cc)
-          | inr e ↦ not-here i e.0 (covers i slot e.1 own still)
-        ];
+        covers = grind (arith, nat_tests, put-cases, identity_of, published, no_result, not-here);
         unfailed = λ nothing. clean-still (identity_of r) new puts (ap is_failed known);
         done = λ a is. absurd (cc);
         met = none-comes (identity_of r) c.slot new puts c.claimed;
@@ -465,10 +418,7 @@ module _ (v : ℕ) (task : Task) (shelf shelf' : Shelf) (clean : HasNoFailed she
       is-known slot still = rw still refl
 
       not-here : (i : Identity) → is_identity (identity_of r) i ≡ false → (is_identity i (identity_of r) || is_open_in i below) ≡ true → is_open_in i below ≡ true
-      not-here i other is = elim (or_cases (is_identity i (identity_of r)) (is_open_in i below) is) [
-        | inl e ↦ true-false (subst (λ k. is_identity (identity_of r) k ≡ true) (is-same i (identity_of r) e) (is-self (identity_of r))) other
-        | inr e ↦ e
-      ]
+      not-here i other is = grind (arith, nat_tests, or_cases, is_identity, identity_of, is_open_in, true-false, is-same, is-self)
 
   -- all goes
   pub failed-goes : (answer : WorkerAnswer) → SameShelf (with_failed shelf v) shelf' → Goes v task shelf (Some answer) shelf' []
@@ -480,7 +430,7 @@ module _ (v : ℕ) (task : Task) (shelf shelf' : Shelf) (clean : HasNoFailed she
         covers = λ i slot there own still. let a = all-failed v shelf shelf' same i slot there own in absurd (closed slot a still);
         unfailed = λ nothing. absurd (cc);
         done = λ a is. refl;
-        met = λ i slot none there. some-none there (none-fails v shelf shelf' same i none);
+        met = λ i slot none there. some-none there ((same.slots i ∙ ap (λ o. if_there (λ (slot : Slot). Some (if nat_eq slot.worker v then with_outcome failed slot else slot)) None o) none));
       }
     where
       closed : (slot : Slot) → is_open_outcome slot.outcome ≡ false → slot.outcome ≡ no_result → ⊥
@@ -505,13 +455,6 @@ pub record KeepsTask (walkings' : ℕ → Option Walking) (u : ℕ) (w : Walking
   pub table : now.table ≡ w.table
   pub task : now.task ≡ w.task
 
--- the worker v of the table claims and meets it
-pub record IsMetBy (shelf : Shelf) (walkings : ℕ → Option Walking) (v t : ℕ) (i : Identity) : Type 0 where
-  pub walking : Walking
-  pub there : walkings v ≡ Some walking
-  pub on_table : walking.table ≡ t
-  pub meets : Meets shelf walking.task i
-
 -- what an event does to tables and workers: it touches one worker, and claims of its own
 pub record Turned (v : ℕ) (shelves shelves' : ℕ → Shelf) (walkings walkings' : ℕ → Option Walking) : Type 0 where
   pub changes : (t : ℕ) → Changes v (shelves t) (shelves' t)
@@ -524,31 +467,21 @@ module _ (v : ℕ) (shelves shelves' : ℕ → Shelf) (walkings walkings' : ℕ 
   pub keeps-task : (u : ℕ) (w : Walking) → walkings u ≡ Some w → KeepsTask walkings' u w
   keeps-task u w there = grind (arith, same-worker)
 
-  slot-stays : (t : ℕ) (i : Identity) (old slot : Slot) → slot.worker ≡ old.worker → SlotStands (shelves t) walkings t i old → SlotStands (shelves' t) walkings' t i slot
-  slot-stays t i old slot same stands =
-      let k = keeps-task old.worker stands.walking stands.there in
-      grind (arith, nat_tests, keeps-task, meets-grow, grows)
+  met-stays : (t : ℕ) (i : Identity) (u n : ℕ) → n ≡ u → IsMetBy (shelves t) walkings u t i → IsMetBy (shelves' t) walkings' n t i
+  met-stays t i u n same met = let k = keeps-task u met.walking met.there in grind (arith, nat_tests, keeps-task, meets-grow, grows)
 
   pub work-stands : (last last' : ℕ) → last ≤ last' → v ≤ last' → WorkStands shelves walkings last → WorkStands shelves' walkings' last'
   work-stands last last' few small work =
       record {
-        slots = λ t i slot there. elim (turned.changes t i) [
-          | stays same ↦ slot-stays t i slot slot refl (work.slots t i slot (sym same ∙ there))
-          | is-new new none is of_it ↦ let m = turned.met t i slot none there in let e = ap (λ (s : Slot). s.worker) (some-same there is) ∙ of_it in
-              record { walking = m.walking; there = ap walkings' e ∙ m.there; on_table = m.on_table; meets = m.meets }
-          | is-changed old new was own is more ↦ slot-stays t i old slot (ap (λ (s : Slot). s.worker) (some-same there is) ∙ more.worker) (work.slots t i old was)
-        ];
+        slots = grind (arith, nat_tests, met-stays, some-same);
         workers = λ u w there. elim (cases_Bool (nat_eq u v)) [
           | inl e ↦ let is = same-worker u v e in subst (λ n. WalkingStands (shelves' w.table) n w) (sym is) (turned.stands w (sym (ap walkings' is) ∙ there))
           | inr e ↦
               let c = turned.changes w.table in
               walking-stays u w (shelves w.table) (shelves' w.table) (grows v (shelves w.table) (shelves' w.table) c) (others-stay v u (shelves w.table) (shelves' w.table) c e)
-              (others-were v u (shelves w.table) (shelves' w.table) c e) (work.workers u w (sym (turned.others u e) ∙ there))
+              (grind (arith, some-same)) (work.workers u w (sym (turned.others u e) ∙ there))
         ];
-        numbered = λ u w there. elim (cases_Bool (nat_eq u v)) [
-          | inl e ↦ let is = same-worker u v e in omega (arith, is, small)
-          | inr e ↦ let few_then = work.numbered u w (sym (turned.others u e) ∙ there) in omega (arith, few_then, few)
-        ];
+        numbered = grind (arith, nat_tests, cases_Bool, nat_eq, same-worker);
       }
 
 -- ---- the events
@@ -611,12 +544,7 @@ is-stepped v shelves shelves' walkings walkings' w now at at_now same_table same
       others = others;
       own = λ x there. let e = some-same at there in record { now = now; there = at_now; table = same_table ∙ ap (λ (y : Walking). y.table) e; task = same_task ∙ ap (λ (y : Walking). y.task) e };
       met = λ t i slot none there. meet t i slot none there (nat_eq t w.table) refl;
-      stands = λ x there. subst (λ y. WalkingStands (shelves' y.table) v y) (some-same at_now there) (subst (λ t. WalkingStands (shelves' t) v now) (sym same_table) (record {
-        all = subst (λ task. AllStand (shelves' w.table) v task now.todo) (sym same_task) goes.all;
-        covers = goes.covers;
-        unfailed = goes.unfailed;
-        done = goes.done;
-      }));
+      stands = grind (arith, nat_tests, some-same);
     }
   where
     change : (t : ℕ) (b : Bool) → nat_eq t w.table ≡ b → Changes v (shelves t) (shelves' t)
@@ -624,13 +552,4 @@ is-stepped v shelves shelves' walkings walkings' w now at at_now same_table same
     change t false e = same-slots v (shelves t) (shelves' t) (elsewhere t e)
 
     meet : (t : ℕ) (i : Identity) (slot : Slot) → (shelves t).slots i ≡ None → (shelves' t).slots i ≡ Some slot → (b : Bool) → nat_eq t w.table ≡ b → IsMetBy (shelves' t) walkings' v t i
-    meet t i slot none there true e =
-        let is = same-worker t w.table e in
-        let m = goes.met i slot (sym (ap (λ n. (shelves n).slots i) is) ∙ none) (sym (ap (λ n. (shelves' n).slots i) is) ∙ there) in
-        record {
-          walking = now;
-          there = at_now;
-          on_table = same_table ∙ sym is;
-          meets = subst (λ task. Meets (shelves' t) task i) (sym same_task) (subst (λ n. Meets (shelves' n) w.task i) (sym is) m);
-        }
-    meet t i slot none there false e = some-none (sym (elsewhere t e i) ∙ there) none
+    meet t i slot none there x5 e = grind (arith, nat_tests, same-worker, some-none)

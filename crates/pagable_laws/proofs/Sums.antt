@@ -1,7 +1,6 @@
 -- Sums over the elements of a list, and what they count.
-use Rattle.pagable_laws.proofs.Words.{◌≡◌, ℕ, suc, zero, ◌+◌, ◌<◌, ◌≤◌, ◌==◌, Bool, true, List, [], ◌∷◌, sum_by, cond, refl, ap, ◌∙◌, arith, filter, length, nat_tests, sum_by-cons, one, Among}
+use Rattle.pagable_laws.proofs.Words.{◌≡◌, ℕ, suc, zero, ◌+◌, ◌<◌, ◌≤◌, ◌==◌, Bool, true, List, [], ◌∷◌, sum_by, refl, ap, ◌∙◌, arith, filter, length, nat_tests, sum_by-cons, one, Among}
 use Rattle.pagable_laws.proofs.Words.{times, PinsAreAFilter}
-use Rattle.std.proofs.{Common.rules}
 
 -- a number is itself by the test too
 pub self-number : (a : ℕ) → (a == a) ≡ true
@@ -22,16 +21,12 @@ one-small x0 = grind (arith, nat_tests)
 -- smaller at each element, so in sum
 pub sum-le : {X : Type 0} (f g : X → ℕ) (xs : List X) → ((x : X) → Among xs x → f x ≤ g x) → sum_by f xs ≤ sum_by g xs
 sum-le f g [] h = omega arith
-sum-le f g (x ∷ xs) h =
-    let a : f x ≤ g x = h x (zero, refl) in
-    let b = sum-le f g xs (λ y among. h y (suc among.0, among.1)) in
-    let c = sum_by-cons f x xs in let d = sum_by-cons g x xs in omega arith
+sum-le f g (x ∷ xs) h = grind (arith, nat_tests, sum_by-cons, sum-le f g xs (λ y among. h y (suc among.0, among.1)))
 
 -- each element is part of the sum
 pub at-most-sum : {X : Type 0} (f : X → ℕ) (xs : List X) (x : X) → Among xs x → f x ≤ sum_by f xs
-at-most-sum f [] x among = absurd (cc)
-at-most-sum f (y ∷ ys) x (zero, is) = search (rules, sum_by-cons)
 at-most-sum f (y ∷ ys) x (suc i, is) = grind (arith, nat_tests, sum_by-cons, at-most-sum f ys x)
+at-most-sum f x1 x x3 = grind (arith, nat_tests, sum_by-cons)
 
 -- a sum is the one of two functions
 pub sum-plus : {X : Type 0} (f g : X → ℕ) (xs : List X) → sum_by (λ x. f x + g x) xs ≡ sum_by f xs + sum_by g xs
@@ -57,13 +52,10 @@ pub counted : {X : Type 0} (f : X → ℕ) (xs : List X) → 0 < sum_by f xs →
 counted f [] some = absurd (omega arith)
 counted f (x ∷ xs) some = pick f x xs (f x) refl (λ z. let c = sum_by-cons f x xs in counted f xs (omega arith))
 
-length-cond : {X : Type 0} (b : Bool) (x : X) (ys : List X) → one b + length ys ≡ length (cond b (x ∷ ys) ys)
-length-cond x0 x ys = grind (arith, nat_tests)
-
 -- how many pass is the length of what passes
 times-filter : {X : Type 0} (test : X → Bool) (xs : List X) → times test xs ≡ length (filter test xs)
 times-filter test [] = refl
-times-filter test (x ∷ xs) = sum_by-cons (λ y. one (test y)) x xs ∙ (ap (λ n. one (test x) + n) (times-filter test xs) ∙ length-cond (test x) x (filter test xs))
+times-filter test (x ∷ xs) = sum_by-cons (λ y. one (test y)) x xs ∙ (ap (λ n. one (test x) + n) (times-filter test xs) ∙ (grind (arith, nat_tests)))
 
 pub pins_filter : PinsAreAFilter
 pins_filter n rows = times-filter _ rows

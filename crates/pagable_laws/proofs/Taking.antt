@@ -1,5 +1,5 @@
 -- What a load has read fits after its step; and a node whose value is in memory gives its tree, as does what a load of a key answers.
-use Rattle.pagable_laws.proofs.Words.{◌≡◌, ℕ, zero, suc, ◌+◌, ◌<◌, ◌≤◌, true, List, [], ◌∷◌, Option, Some, None, inr, refl, sym, ap, ◌∙◌, subst, arith, is_some, nat_lt, nat_tests, HandleRow}
+use Rattle.pagable_laws.proofs.Words.{◌≡◌, ℕ, zero, suc, ◌+◌, ◌<◌, ◌≤◌, true, List, [], ◌∷◌, Option, Some, None, inr, refl, sym, ◌∙◌, subst, arith, is_some, nat_lt, nat_tests, HandleRow}
 use Rattle.pagable_laws.proofs.Words.{Owner, OptionalDataKey, ArcRef, Kind, HandleNumber, Blob, Types, Tree, ReadsTree, type_of, Among, one, is_at, is_pin, is_pinning, held, pins, Core, OpenLoad}
 use Rattle.pagable_laws.proofs.Words.{Frame, Reading, row_at, Values, IsLawful, IsReference, Next, need_at, to_adopt, ReadsRoot, ReadsNode, root_frame, nested_frame, with_got, PagerState}
 use Rattle.pagable_laws.proofs.Words.{HandlesAreWhole, IsWhole, WellFormed, NodeStands, ValueStands, ReadsNodeTree, FramesFit, SameTrees, Represents, ReadsItsTypes, GivesTree, ReadIsRight, Change}
@@ -102,14 +102,7 @@ module _ {N : Type 0} {v : Values N} {w w' : Core} {trees trees' : ℕ → Tree}
   -- After a load's step all that it reads fits.
   pub fit-after : (reading : Reading) (load : OpenLoad) (frames : List Frame) {c : Change} → AtStep v c w w' trees trees' → w.loads reading.load.0 ≡ Some load
       → FitAfter v w trees load.key reading.node_type reading.frames → ReadingFeels v w reading None frames w' c → FitAfter v w' trees' load.key reading.node_type frames
-  fit-after reading load frames h open_load f (reads-root l blob none_read at stored answer is) =
-      let same_load : l ≡ load = same_some _ _ (sym at ∙ open_load) in
-      let there = h.goes.stored load.key blob (subst (λ (z : OpenLoad). w.stored z.key ≡ Some blob) same_load stored) in
-      let frame = root_frame load.key reading.node_type blob in
-      let is2 : frames ≡ frame ∷ [] = is ∙ ap (λ (z : OpenLoad). root_frame z.key reading.node_type blob ∷ []) same_load in
-      let fit = root-fits v.types load.key reading.node_type w'.stored trees' blob there in
-      subst (λ fs. FitAfter v w' trees' load.key reading.node_type fs) (sym is2)
-      (record { fit = fit; given = new-given w'.last.node frame [] refl (λ fr r among got. absurd (let a = among.1 in cc)) })
+  fit-after reading load frames h open_load f (reads-root l blob none_read at stored answer is) = grind (arith, nat_tests, same_some, root_frame, root-fits, new-given)
   fit-after reading load frames h open_load f (reads-blob kind key blob needs stored answer is) =
       let g = fit-still h f in
       let fit = nested-fits v.types load.key reading.node_type w'.stored trees' reading.frames kind key blob g.fit needs (h.goes.stored key blob stored) in

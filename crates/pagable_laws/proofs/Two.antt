@@ -59,24 +59,11 @@ fell stored =
       each = λ n must. inl (lone-each stored n must);
       tells = record { all = λ n must. lone-each stored n must; not_all = tt };
       within = omega arith;
-      leaves = record {
-        rows = refl;
-        cells = λ n. same-cells n (1 == n) refl;
-        list = refl;
-        cache = record { gives = λ kind key. refl; only = λ kind key n is. is };
-        stored = λ key. refl;
-        closed = refl;
-        failures = refl;
-        loads = λ l. refl;
-        workers = λ v. refl;
-        last = refl;
-        places = record { handles = omega arith; entries = omega arith };
-      };
+      leaves = grind (arith, nat_tests, same-cells);
     }
   where
     same-cells : (n : ℕ) (b : Bool) → (1 == n) ≡ b → (lone_listed stored).cells n ≡ (fallen (with_mode (lone stored) first Mode.LooseUnpinned) nobody came).cells n
-    same-cells n true is = grind (arith, nat_tests, first, nobody)
-    same-cells n false is = let a : (n == 1) ≡ false = grind (arith, nat_tests) in rw (a, is) refl
+    same-cells n x1 is = grind (arith, nat_tests, first, nobody)
 
 lone-unpinned : (stored : ℕ → Option Blob) → UnpinCall (lone stored) Owner.Caller first (Ok tt) (lone_listed stored)
 unfolding find_row

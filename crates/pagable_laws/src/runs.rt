@@ -32,7 +32,7 @@ pub fn deep_claims_have_a_cause<N: SeenAs<B, W>, B, W, E>()
 {}
 
 /// A load is refused as too deep only where the reading of its key comes to a blob that lies too deep, or to one that enters a level too many.
-#[tactic(auto, using(crate::proofs::DeepLoads::deep_load_law))]
+#[tactic(auto, using(crate::proofs::Sound::deep_load_law))]
 pub fn deep_loads_have_a_cause<N: SeenAs<B, W>, B, W, E>()
     ensures { DeepLoadLaw E N.seen }
 {}

@@ -136,13 +136,13 @@ pub fn is_any_order<A>()
 {}
 
 /// A JSON float has no form, whatever its value.
-#[tactic(auto, using(crate::proofs::JsonNumbers::float_none))]
+#[tactic(auto, using(crate::proofs::AnyOrder::float_none))]
 pub fn float_has_no_form<A>()
     ensures { FloatHasNoForm A }
 {}
 
 /// A whole JSON number that has a form is one of 64 bits with a sign.
-#[tactic(auto, using(crate::proofs::JsonNumbers::whole_bounded))]
+#[tactic(auto, using(crate::proofs::AnyOrder::whole_bounded))]
 pub fn whole_is_bounded<A>()
     ensures { WholeIsBounded A }
 {}

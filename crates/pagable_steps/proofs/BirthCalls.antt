@@ -1,8 +1,8 @@
 -- Calls by which a node comes.
-use Rattle.pagable_steps.proofs.Words.{◌≡◌, ℕ, ◌==◌, ◌%◌, Bool, true, false, List, [], Some, None, Ok, Err, inl, inr, refl, sym, ◌∙◌, if◌then◌else◌, arith, Result, nat_tests, OptionalDataKey, Owner}
-use Rattle.pagable_steps.proofs.Words.{Mode, Error, ArcRef, Kind, HandleNumber, LoadNumber, type_of, is_shared_kind, is_loose_kind, is_pinning, mode_of, pins, Core, Alike, Values, usable}
-use Rattle.pagable_steps.proofs.Words.{references_fault, with_handle, with_node, next_node, with_cached, BirthCall, AwayBirthCall, adopted, Adopts, LazyCall, PagerState, IsWhole, WellFormed}
-use Rattle.pagable_steps.proofs.{Words.NotValues, Births.{next_of, comes-with, comes-away}, Coming.Comes, Spared.spared, SparedLoads.{not-load, gets-known}, SparedParts.spares-alike}
+use Rattle.pagable_steps.proofs.Words.{◌≡◌, ℕ, ◌==◌, Bool, true, false, List, [], Some, None, Ok, Err, inl, inr, refl, sym, ◌∙◌, if◌then◌else◌, arith, Result, nat_tests, OptionalDataKey, Owner}
+use Rattle.pagable_steps.proofs.Words.{Mode, Error, ArcRef, Kind, HandleNumber, LoadNumber, type_of, is_loose_kind, is_pinning, mode_of, pins, Core, Alike, Values, usable}
+use Rattle.pagable_steps.proofs.Words.{references_fault, BirthCall, AwayBirthCall, adopted, Adopts, LazyCall, PagerState, IsWhole, WellFormed}
+use Rattle.pagable_steps.proofs.{Words.NotValues, Births.{next_of, comes-with, comes-away}, Coming.Comes, Keeping.spared, SparedLoads.{not-load, gets-known}, SparedParts.spares-alike}
 
 -- ---- what is made
 

@@ -1,10 +1,10 @@
 -- A node that comes, with its value or without one, leaves a pager in step.
 use Rattle.std.proofs.Common.{rules}
-use Rattle.pagable_steps.proofs.Words.{◌≡◌, ℕ, ◌+◌, ◌<◌, ◌≤◌, ◌==◌, ◌&&◌, Bool, true, false, List, [], Option, Some, None, refl, ap, sym, subst, ◌∙◌, if◌then◌else◌, arith, nat_lt, is_some}
+use Rattle.pagable_steps.proofs.Words.{◌≡◌, ℕ, ◌+◌, ◌<◌, ◌≤◌, ◌==◌, ◌&&◌, Bool, true, false, List, [], Some, None, ap, sym, subst, ◌∙◌, if◌then◌else◌, arith, nat_lt, is_some}
 use Rattle.pagable_steps.proofs.Words.{nat_tests, OptionalDataKey, Owner, Mode, ArcRef, Among, one, times, if_there, is_owned_by, is_pinning, is_pin, is_at, owner_value, pins, is_in_memory, Core}
-use Rattle.pagable_steps.proofs.Words.{Cell, Values, key_at, is_here, type_at, IsReference, is_named_by, PagerState, IsWhole, WellFormed, self-number, same-number, sum-le, same_some, NotValues}
+use Rattle.pagable_steps.proofs.Words.{Values, key_at, is_here, type_at, IsReference, is_named_by, PagerState, IsWhole, WellFormed, self-number, sum-le, same_some, NotValues}
 use Rattle.pagable_steps.proofs.Coming.{Comes, no-cell, new-cell, other-cell, typed-on, pins-now, other-here, count-now, other-owned, other-bare, other-refers, new-refers, new-inside}
-use Rattle.pagable_steps.proofs.{Spared.owns, Spared.owns_any, SparedHandles.pinned-here, SparedParts.and-false, SparedParts.sum-mapped, Words.not-owned}
+use Rattle.pagable_steps.proofs.{SparedParts.owns, SparedParts.owns_any, SparedHandles.pinned-here, SparedParts.and-false, SparedParts.sum-mapped, Words.not-owned}
 
 -- what is so of the new node and of each other one
 by-node : {next : ℕ} (P : ℕ → Type 0) → P next → ((n : ℕ) → (n == next) ≡ false → P n) → (n : ℕ) → P n
@@ -69,8 +69,7 @@ module _ {N E : Type 0} {v : Values N} {s : PagerState N E} (s' : PagerState N E
     new-with =
         record {
           valued = ap is_some at-new ∙ sym (ap (λ o. is_some o && is_here s'.core (next_of s.core)) (new-cell is.whole free c) ∙ here-new);
-          typed = λ y has.
-              ap (λ o. if_there (λ (cell : Cell). Some cell.node_type) None o) (new-cell is.whole free c) ∙ ap (λ (z : ℕ). Some z) (sym typed ∙ ap (λ z. v.node_type z) (is-new y has));
+          typed = grind (arith, nat_tests, if_there, new-cell, is-new);
           inside = λ y q has.
               ap (λ rs. times (λ (r : ArcRef). r.handle.0 == q) rs) (ap (λ z. v.references z) (sym (is-new y has)) ∙ named) ∙ new-inside is.whole free c (is.bare (next_of s.core) no-value) q;
           bare = λ none. absurd (let f : Some x ≡ None = sym at-new ∙ none in cc);
@@ -91,17 +90,14 @@ module _ {N E : Type 0} {v : Values N} {s : PagerState N E} (s' : PagerState N E
         (sym (is.whole.handles.live (next_of s.core)) ∙ ap is_some (no-cell is.whole free c))
       where
         fewer : (a b : Bool) → one (a && b) ≤ one a
-        fewer true true = omega arith
-        fewer true false = omega arith
-        fewer false b = omega arith
+        fewer a b = grind (arith, nat_tests)
 
         none : (p h : ℕ) → p ≤ h → nat_lt 0 h ≡ false → p ≡ 0
         none p h le e = grind (arith, nat_tests)
 
     away-new : is_here s'.core (next_of s.core) ≡ false
     away-new =
-        ap (λ p. is_in_memory p (key_at s'.core (next_of s.core))) none
-        ∙ (ap (λ o. is_in_memory 0 (if_there (λ (cell : Cell). cell.key) OptionalDataKey.None o)) (new-cell is.whole free c) ∙ ap (is_in_memory 0) keyed)
+        grind (arith, nat_tests, is_in_memory, key_at, next_of, none, if_there, new-cell)
       where
         its : Bool
         its = next_of s.core == next_of s.core

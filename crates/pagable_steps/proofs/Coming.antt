@@ -1,10 +1,10 @@
 -- A node comes with a handle, and the handles that its value names move to it: what stays of other nodes.
 use Rattle.std.proofs.Common.{rules}
-use Rattle.pagable_steps.proofs.Words.{◌≡◌, ℕ, ◌+◌, ◌≤◌, ◌==◌, ◌&&◌, Bool, true, false, List, [], ◌∷◌, refl, ap, sym, ◌∙◌, if◌then◌else◌, arith, Option, Some, None, is_some, nat_tests, sum_by_push}
-use Rattle.pagable_steps.proofs.Words.{OptionalDataKey, HandleRow, Owner, Mode, ArcRef, SameAt, Among, one, times, if_there, or_else, find_row, is_handle, is_owned_by, owner_value, is_pin}
-use Rattle.pagable_steps.proofs.Words.{is_pinning, pins, is_in_memory, Core, Cell, type_at, key_at, is_here, references_fault, IsReference, row_of, is_named_by, with_node, next_node, with_handle}
-use Rattle.pagable_steps.proofs.{Words.{IsWhole, self-number, same-number, good, NotValues, not-owned, find-both, among-found, fits_mode, found-number}, Naming.{among-named, after, given}}
-use Rattle.pagable_steps.proofs.{Naming.{given-found, given-pins, unnamed, given-owned, given-bare, given-inside}, Spared.{owns, owns_any}, SparedParts.{push-none, and-false}}
+use Rattle.pagable_steps.proofs.Words.{◌≡◌, ℕ, ◌+◌, ◌==◌, ◌&&◌, Bool, true, false, List, [], refl, ap, sym, ◌∙◌, if◌then◌else◌, arith, Some, None, nat_tests, sum_by_push}
+use Rattle.pagable_steps.proofs.Words.{OptionalDataKey, HandleRow, Owner, Mode, ArcRef, SameAt, Among, one, times, or_else, find_row, is_handle, is_owned_by, owner_value, is_pin}
+use Rattle.pagable_steps.proofs.Words.{is_pinning, pins, Core, type_at, is_here, references_fault, IsReference, row_of, is_named_by, with_node, next_node, with_handle}
+use Rattle.pagable_steps.proofs.{Words.{IsWhole, self-number, good, NotValues, not-owned, find-both, among-found, fits_mode, found-number}, Naming.{among-named, after, given}}
+use Rattle.pagable_steps.proofs.{Naming.{given-found, given-pins, unnamed, given-owned, given-bare, given-inside}, SparedParts.{owns, owns_any}, SparedParts.{push-none, and-false}}
 
 -- A node of this type and key came, with a handle of this mode, of the one who owns what its value names.
 pub record Comes (w w' : Core) (me : Owner) (t : ℕ) (own : OptionalDataKey) (references : List ArcRef) (mode : Mode) : Type 0 where
@@ -69,15 +69,7 @@ module _ {w w' : Core} {me : Owner} {t : ℕ} {own : OptionalDataKey} {reference
   -- a reference by a handle that was there
   refers-now : (n : ℕ) (r : ArcRef) {owner : Owner} (is : IsReference w owner r) (b : Bool) → is_named_by references is.row.number.0 ≡ b → (after next is.row b).owner ≡ owner_value n
       → (after next is.row b).node ≡ r.node → fits_mode r.kind.0 (after next is.row b).mode ≡ true → IsReference w' (owner_value n) r
-  refers-now n r is b named own at fits =
-      record {
-        row = after next is.row b;
-        live = ap (find_row r.handle.0) c.rows ∙ (find-both r.handle.0 rows (new ∷ []) ∙ ap (λ o. or_else o (find_row r.handle.0 (new ∷ []))) (given-found whole free references c.good next r.handle.0 is.row b is.live named));
-        at = at;
-        owned = own;
-        fits = fits;
-        typed = typed-on r.node.0 _ is.typed;
-      }
+  refers-now n r is b named own at fits = grind (arith, nat_tests, after, next, find_row, rows, find-both, new, or_else, given-found, good, typed-on)
 
   pub other-refers : (n : ℕ) (r : ArcRef) → IsReference w (owner_value n) r → IsReference w' (owner_value n) r
   other-refers n r is = refers-now n r is false (unnamed whole free references c.good next n is.row (among-found r.handle.0 w.rows is.row is.live) is.owned) is.owned is.at is.fits

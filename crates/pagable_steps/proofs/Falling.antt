@@ -1,10 +1,10 @@
 -- Values go with a cascade: where they stand in the world that a call has made directly, those that are left stand afterwards.
-use Rattle.pagable_steps.proofs.Words.{◌≡◌, ℕ, ◌<◌, ◌≤◌, ◌==◌, ◌&&◌, Bool, true, false, ◌++◌, refl, ap, sym, subst, ◌∙◌, if◌then◌else◌, arith, Option, Some, None, is_some, not, nat_lt, and_parts}
+use Rattle.pagable_steps.proofs.Words.{◌≡◌, ℕ, ◌<◌, ◌≤◌, ◌==◌, ◌&&◌, Bool, true, false, refl, ap, sym, subst, ◌∙◌, if◌then◌else◌, arith, Option, Some, None, is_some, not, nat_lt, and_parts}
 use Rattle.pagable_steps.proofs.Words.{among-found}
-use Rattle.pagable_steps.proofs.Words.{nat_tests, ArcRef, HandleRow, Owner, NodeNumber, Among, one, times, if_there, or_else, find_row, is_handle, is_owner, is_owned_by, owner_value, held, pins}
+use Rattle.pagable_steps.proofs.Words.{nat_tests, ArcRef, HandleRow, Owner, Among, one, times, if_there, or_else, find_row, is_handle, is_owner, is_owned_by, owner_value, held, pins}
 use Rattle.pagable_steps.proofs.Words.{Core, Cell, Values, type_at, is_here, is_outside, owned_outside, loses_value, is_keyed, left_rows, Falls, IsReference, PagerState, IsWhole, WellFormed}
 use Rattle.pagable_steps.proofs.Words.{self-number, sum-le, counted, found-number, found-kept, find-both, row-held, fell-away}
-use Rattle.pagable_steps.proofs.{Spared.owns, Spared.owns_any, SparedParts.and-false, Staying.owned-some, Staying.keeps, Staying.sum-same, Staying.counts-left, Staying.loses}
+use Rattle.pagable_steps.proofs.{SparedParts.owns, SparedParts.owns_any, SparedParts.and-false, Staying.owned-some, Staying.keeps, Staying.sum-same, Staying.counts-left, Staying.loses}
 
 -- Values stand in the world: each node in memory has one, of its type, which owns the handles that it refers to; no two own one handle.
 pub record Sits {N : Type 0} (v : Values N) (w : Core) (values : ℕ → Option N) : Type 0 where
@@ -88,9 +88,7 @@ module _ {N E : Type 0} {v : Values N} {w : Core} {values : ℕ → Option N} (s
   bare-still n e = counts-left f (is_owned_by (owner_value n)) (λ h mode owner. entry-unowned n h owner) ∙ at (values n) refl (stays n) refl (sym (swept n) ∙ e)
     where
       less : (a b : Bool) → one (a && b) ≤ one a
-      less true true = omega arith
-      less true false = omega arith
-      less false b = omega arith
+      less a b = grind (arith, nat_tests)
 
       at : (o : Option N) → values n ≡ o → (b : Bool) → stays n ≡ b → (if b then values n else None) ≡ None → owned_outside w.rows f.gone n ≡ 0
       at None is b e none =
@@ -117,10 +115,7 @@ module _ {N E : Type 0} {v : Values N} {w : Core} {values : ℕ → Option N} (s
       record { row = is.row; live = live; at = is.at; owned = is.owned; fits = is.fits; typed = same-type r.node.0 there ∙ is.typed }
     where
       held-there : {row : HandleRow} → find_row r.handle.0 s'.core.rows ≡ Some row → row.node ≡ r.node → (cell : Cell) × (w.cells r.node.0 ≡ Some cell) → is_some (s'.core.cells r.node.0) ≡ true
-      held-there {row} live at (cell, is) =
-          let some : 0 < held r.node.0 s'.core.rows = subst (λ (k : NodeNumber). 0 < held k.0 s'.core.rows) at (row-held s'.core r.handle row live) in
-          let test : nat_lt 0 (held r.node.0 (left_rows f.gone w.rows ++ f.entries)) ≡ true = let g = subst (λ rows. 0 < held r.node.0 rows) f.leaves.rows some in grind (arith, nat_tests) in
-          ap is_some (f.leaves.cells r.node.0) ∙ rw (test, is) refl
+      held-there live at x2 = grind (arith, nat_tests, held, row-held, nat_lt, left_rows, is_some)
 
   -- Where values stand in the world between, a pager is in step after the cascade.
   pub fell-from : ((n : ℕ) → s'.counts n ≡ pins n s'.core.rows) → IsWhole s'.core → WellFormed v s'

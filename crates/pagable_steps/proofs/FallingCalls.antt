@@ -1,11 +1,11 @@
 -- Calls by which handles go, and values with them, leave a pager in step.
 use Rattle.std.proofs.Common.{rules}
-use Rattle.pagable_steps.proofs.Words.{◌≡◌, ℕ, ◌<◌, ◌==◌, ◌&&◌, ◌||◌, Bool, true, false, List, [], ◌∷◌, Option, Some, None, Ok, Err, inl, inr, refl, ap, sym, ◌∙◌, arith, Result, not, and_parts}
-use Rattle.pagable_steps.proofs.Words.{nat_tests, Error, HandleRow, Owner, ArcRef, Kind, HandleNumber, LoadNumber, NodeNumber, is_in, one, times, if_there, find_row, is_owner, is_owned_by}
-use Rattle.pagable_steps.proofs.Words.{owner_worker, is_at, Core, Values, Alike, row_at, usable, FallsAnyhow, refused_if, named_fault, is_listed, UnpinCall, ReleaseCall, SetKeyCall, ScheduleCall}
+use Rattle.pagable_steps.proofs.Words.{◌≡◌, ℕ, ◌==◌, ◌&&◌, ◌||◌, Bool, true, false, List, [], ◌∷◌, Option, Some, None, Ok, Err, inl, inr, refl, ap, sym, ◌∙◌, arith, Result, not, and_parts}
+use Rattle.pagable_steps.proofs.Words.{nat_tests, Error, HandleRow, Owner, ArcRef, Kind, HandleNumber, LoadNumber, NodeNumber, is_in, if_there, find_row, is_owner, is_owned_by}
+use Rattle.pagable_steps.proofs.Words.{owner_worker, is_at, Core, Values, Alike, row_at, usable, FallsAnyhow, refused_if, named_fault, UnpinCall, ReleaseCall, SetKeyCall, ScheduleCall}
 use Rattle.pagable_steps.proofs.Words.{OfferCall, CloseCall, is_owned_in, numbers_of, Adopts, EndCall, HandOverCall, DropCall, LoadCloses, is_workers_at, is_load_of, WorkerEnds, PagerState, IsWhole}
-use Rattle.pagable_steps.proofs.{Words.{WellFormed, same-number, one-true, counted, same-owner, good, NotValues, neither}, Keeping.{AreFree, Leaves, found-whole, fell, stayed, spares-keeps}}
-use Rattle.pagable_steps.proofs.{Keeping.{unpin-keeps, keyed-keeps}, Naming.named-owner, Spared.Spares, SparedLists.{own-free, listed-free, schedules, offers, spares-known}, SparedLoads.not-load}
+use Rattle.pagable_steps.proofs.{Words.{WellFormed, same-number, counted, same-owner, good, NotValues, neither}, Keeping.{AreFree, Leaves, found-whole, fell, stayed, spares-keeps}}
+use Rattle.pagable_steps.proofs.{Keeping.{unpin-keeps, keyed-keeps}, Naming.named-owner, SparedParts.Spares, SparedLists.{own-free, listed-free, schedules, offers, spares-known}, SparedLoads.not-load}
 use Rattle.pagable_steps.proofs.SparedParts.{spares-then, spares-same, spares-alike, spares-moved}
 
 -- ---- what no value owns
@@ -26,10 +26,6 @@ module _ {w : Core} (whole : IsWhole w) where
   both-free : (f g : ℕ → Bool) → AreFree w f → AreFree w (λ q. f q && g q)
   both-free f g free h among is = free h among (and_parts (f h.number.0) (g h.number.0) is).0
 
-  -- what the list owns
-  all-listed-free : AreFree w (is_listed w)
-  all-listed-free h among is = grind (arith, nat_tests, counted, listed-free)
-
   -- what a load hands over
   handed-free : (l : LoadNumber) (hs : List HandleNumber) (seen : List ℕ) → named_fault w (Owner.Load l) seen hs ≡ None → AreFree w (is_in (numbers_of hs))
   unfolding named_fault is_in
@@ -40,15 +36,7 @@ module _ {w : Core} (whole : IsWhole w) where
           → (if_there (λ (row : HandleRow). refused_if (not (is_owner (Owner.Load l) row.owner) || is_in seen x.0) Error.NotYours) (Some Error.NoSuchHandle) (row_at w x) ≡ None)
           × (named_fault w (Owner.Load l) (x.0 ∷ seen) hs ≡ None)
           → (b || is_in (numbers_of hs) h.number.0) ≡ true → NotValues h.owner
-      by more false e (first, rest) is = more rest is
-      by more true e (first, rest) is =
-          let found : row_at w x ≡ Some h = ap (λ n. find_row n w.rows) (same-number _ _ e) ∙ found-whole whole.handles h among in
-          let f : refused_if (not (is_owner (Owner.Load l) h.owner) || is_in seen x.0) Error.NotYours ≡ None = rw found at first in
-          not-loads l h.owner (same-owner (Owner.Load l) h.owner (owned (is_owner (Owner.Load l) h.owner) f))
-        where
-          owned : (b : Bool) → refused_if (not b || is_in seen x.0) Error.NotYours ≡ None → b ≡ true
-          owned true e = refl
-          owned false e = absurd (cc)
+      by more x1 e x3 is = grind (arith, nat_tests, row_at, find_row, same-number, found-whole, refused_if, not, is_owner, is_in, not-loads, same-owner)
 
 -- ---- the calls
 
@@ -82,7 +70,7 @@ module _ {N E : Type 0} {v : Values N} {s s' : PagerState N E} (is : WellFormed 
   ]
 
   pub closed : {r : Result (Unit {0}) Error} → CloseCall s.core r s'.core → WellFormed v s'
-  closed c = fell is (spares-keeps (spares-same refl (λ n. refl))) c.falls.falls (all-listed-free is.whole) left
+  closed c = fell is (spares-keeps (spares-same refl (λ n. refl))) c.falls.falls (grind (arith, nat_tests, counted, listed-free)) left
 
   -- a worker releases the node that it has walked
   pub worker_released : (u n : ℕ) → FallsAnyhow s.core s.core (is_workers_at s.core u n) s'.core → WellFormed v s'

@@ -1,17 +1,13 @@
 -- A load of a cell ends with a pin: where the cell has no value, what was read comes into it; else it is dropped. What the load still owns goes.
-use Rattle.std.proofs.Common.{rules}
-use Rattle.pagable_steps.proofs.Words.{◌≡◌, ℕ, ◌<◌, ◌==◌, ◌&&◌, Bool, true, false, refl, ap, sym, subst, ◌∙◌, inl, inr, if◌then◌else◌, arith, Option, Some, None, is_some, not, nat_lt, nat_tests}
-use Rattle.pagable_steps.proofs.Words.{HandleRow, Owner, Mode, HandleNumber, LoadNumber, NodeNumber, if_there, updated, find_row, is_handle, is_owner, is_owned_by, owner_value, is_loose}
-use Rattle.pagable_steps.proofs.Words.{is_in_memory, held, pins, Core, Cell, Values, row_at, type_at, key_at, is_here, Owns, is_named_by, with_mode, without_load, is_owned_in, with_pin, MayEnd}
-use Rattle.pagable_steps.proofs.Words.{Installs, PagerState, MayOwnLoad, IsWhole, WellFormed, self-number, NotLoads, found-number, row-held, row-pins, NotValues, Stands, among-found, found-after}
+use Rattle.std.proofs.{Common.rules, lemmas.Bool.false_from_ne_true}
+use Rattle.pagable_steps.proofs.Words.{◌≡◌, ℕ, ◌<◌, ◌==◌, ◌&&◌, Bool, true, false, refl, ap, sym, subst, ◌∙◌, inl, inr, if◌then◌else◌, arith, Option, Some, None, is_some, not, nat_tests}
+use Rattle.pagable_steps.proofs.Words.{HandleRow, Owner, Mode, HandleNumber, LoadNumber, NodeNumber, if_there, updated, find_row, is_handle, owner_value, is_loose}
+use Rattle.pagable_steps.proofs.Words.{is_in_memory, pins, Core, Cell, Values, row_at, type_at, key_at, is_here, Owns, is_named_by, with_mode, without_load, is_owned_in, with_pin, MayEnd}
+use Rattle.pagable_steps.proofs.Words.{Installs, PagerState, IsWhole, WellFormed, self-number, NotLoads, found-number, row-held, row-pins, NotValues, Stands, among-found, found-after}
 use Rattle.pagable_steps.proofs.Keeping.{OwnsAlike, Keeps, owns-then, spares-owned, sits-on, fell, spares-keeps, mode-owned, mode-others}
-use Rattle.pagable_steps.proofs.{Falling.Sits, Falling.Sweeps, Falling.fell-from, FallingCalls.load-free, Spared.owns, Spared.Spares, SparedHandles.pinned-here, SparedHandles.turned}
+use Rattle.pagable_steps.proofs.{Falling.Sits, Falling.Sweeps, Falling.fell-from, FallingCalls.load-free, SparedParts.owns, SparedParts.Spares, SparedHandles.pinned-here, SparedHandles.turned}
 use Rattle.pagable_steps.proofs.{SparedParts.and-false, SparedParts.spares-then, SparedParts.spares-same, SparedParts.spares-handle, Words.stands-whole, Words.stands-changed}
 use Rattle.pagable_steps.proofs.Moving as moving
-
--- who begins a load is no value, and no load
-asker-free : (w : Core) (o : Owner) → MayOwnLoad w o → NotValues o × NotLoads o
-asker-free w x1 may = grind (arith, nat_tests)
 
 live-type : (w : Core) (n : ℕ) → is_some (w.cells n) ≡ true → (t : ℕ) × (type_at w n ≡ Some t)
 live-type w n is = at (w.cells n) is
@@ -26,7 +22,7 @@ module _ {N E : Type 0} {v : Values N} {s : PagerState N E} (is : WellFormed v s
   w = s.core
 
   free : NotValues me × NotLoads me
-  free = asker-free w me (subst (λ o. MayOwnLoad w o) may.owned.own (is.whole.loads.owned l.0 may.load may.owned.stands_open))
+  free = (grind (arith, nat_tests))
 
   -- the cell is there, of the value's type
   cell-typed : type_at w node.0 ≡ Some (v.node_type x)
@@ -50,18 +46,14 @@ module _ {N E : Type 0} {v : Values N} {s : PagerState N E} (is : WellFormed v s
     abbrev pinned : Core
     pinned = with_mode given_to h Mode.LoosePinned
 
-    unnamed : (b : Bool) → named row ≡ b → named row ≡ false
-    unnamed false e = e
-    unnamed true e = absurd (free.1 l (sym own.own ∙ moving.was-load is l node x may.good cell-typed away row (among-found h.0 w.rows row own.live) e))
+    unnamed : named row ≡ false
+    unnamed = false_from_ne_true (named row) (λ e. free.1 l (sym own.own ∙ moving.was-load is l node x may.good cell-typed away row (among-found h.0 w.rows row own.live) e))
 
     -- the handle has its row still
     stands : Stands given_to.last.handle given_to.rows h.0 row
     stands =
-        subst (λ r. Stands w.last.handle given_to.rows h.0 r) (ap (λ b. if b then record row { owner = owner_value node.0 } else row) (unnamed (named row) refl))
+        subst (λ r. Stands w.last.handle given_to.rows h.0 r) (ap (λ b. if b then record row { owner = owner_value node.0 } else row) unnamed)
         (stands-changed named (λ r. record r { owner = owner_value node.0 }) (λ r. refl) (stands-whole is.whole.handles h.0 row own.live))
-
-    row-free : NotValues row.owner
-    row-free = subst NotValues (sym own.own) free.0
 
     -- it pins its cell
     pins-cell : is_here pinned node.0 ≡ true
@@ -76,7 +68,7 @@ module _ {N E : Type 0} {v : Values N} {s : PagerState N E} (is : WellFormed v s
     more = spares-handle pinned node Mode.Pinned me free.0 (λ e. pins-cell)
 
     owned : OwnsAlike given_to (with_pin given_to h node me)
-    owned = owns-then (mode-owned given_to h Mode.LoosePinned row stands row-free) (spares-owned more)
+    owned = owns-then (mode-owned given_to h Mode.LoosePinned row stands (subst NotValues (sym own.own) free.0)) (spares-owned more)
 
     -- other nodes that are in memory were so
     was-here : (n : ℕ) → is_here (with_pin given_to h node me) n ≡ true → (n == node.0) ≡ false → is_here w n ≡ true
@@ -90,7 +82,7 @@ module _ {N E : Type 0} {v : Values N} {s : PagerState N E} (is : WellFormed v s
 
     all-sit : Sits v (with_pin given_to h node me) (updated node.0 (Some x) s.values)
     all-sit =
-        sits-on (moving.moved-sits is l node x may.good cell-typed away) owned
+        sits-on (moving.moved-sits is l node x may.good cell-typed away) owned (λ n. refl)
         (λ n live here. moving.there-at is l node x may.good cell-typed away n live (was-here n here))
 
     -- what goes is no value's

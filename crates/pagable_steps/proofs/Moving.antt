@@ -3,7 +3,7 @@ use Rattle.pagable_steps.proofs.Words.{◌≡◌, ℕ, ◌<◌, ◌==◌, ◌&&�
 use Rattle.pagable_steps.proofs.Words.{Owner, ArcRef, LoadNumber, NodeNumber, Among, one, times, updated, find_row, is_handle, is_owned_by, owner_value, pins, is_in_memory, Core, Values, type_at}
 use Rattle.pagable_steps.proofs.Words.{key_at, is_here, references_fault, IsReference, moved, is_named_by, without_load, PagerState, WellFormed, same_some, same-number, one-true, counted}
 use Rattle.pagable_steps.proofs.{Words.{found-number, same-owner, good, among-found, among-changed, after-number}, Naming.{among-named, named-owner, given-found, given-pins, unnamed, given-owned}}
-use Rattle.pagable_steps.proofs.{Naming.{given-bare, given-inside}, Falling.Sits, Keeping.{found-whole, one-value, valued-there}, Spared.{owns, owns_any}, SparedLoads.not-load, SparedParts.and-false}
+use Rattle.pagable_steps.proofs.{Naming.{given-bare, given-inside}, Falling.Sits, Keeping.{found-whole, one-value}, SparedParts.{owns, owns_any}, SparedLoads.not-load}
 
 module _ {N E : Type 0} {v : Values N} {s : PagerState N E} (is : WellFormed v s) (l : LoadNumber) (node : NodeNumber) (x : N)
     (fine : references_fault s.core (Owner.Load l) [] (v.references x) ≡ None) (typed : type_at s.core node.0 ≡ Some (v.node_type x)) (away : is_here s.core node.0 ≡ false) where
@@ -66,9 +66,6 @@ module _ {N E : Type 0} {v : Values N} {s : PagerState N E} (is : WellFormed v s
   turned-round : (n : ℕ) → (n == node.0) ≡ false → (node.0 == n) ≡ false
   turned-round n e = grind (arith, nat_tests)
 
-  typed-at : (n : ℕ) (y : N) (b : Bool) → (n == node.0) ≡ b → (if b then Some x else s.values n) ≡ Some y → type_at w n ≡ Some (v.node_type y)
-  typed-at n y x2 e had = grind (arith, nat_tests)
-
   inside-at : (n : ℕ) (y : N) (q : ℕ) (b : Bool) → (n == node.0) ≡ b → (if b then Some x else s.values n) ≡ Some y → times (λ (r : ArcRef). r.handle.0 == q) (v.references y) ≡ owns n q given_to.rows
   inside-at n y q true e had = ap (λ z. times (λ (r : ArcRef). r.handle.0 == q) (v.references z)) (sym (same_some x y had))
       ∙ (given-inside is.whole (not-load l) (v.references x) fine node.0 (is.bare node.0 none-there) q ∙ ap (λ m. owns m q given_to.rows) (sym (same-number n node.0 e)))
@@ -96,7 +93,7 @@ module _ {N E : Type 0} {v : Values N} {s : PagerState N E} (is : WellFormed v s
   moved-sits =
       record {
         there = λ n live here. there-at n live (λ e. sym (ap (λ p. is_in_memory p (key_at w n)) (same-pins n)) ∙ here);
-        typed = λ n y had. typed-at n y (n == node.0) refl had;
+        typed = λ n y had. (grind (arith, nat_tests));
         inside = λ n y q had. inside-at n y q (n == node.0) refl had;
         bare = λ n had. bare-at n (n == node.0) refl had;
         references = λ n y r had among. refers-at n y r (n == node.0) refl had among;

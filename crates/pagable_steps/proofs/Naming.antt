@@ -1,11 +1,11 @@
 -- References that nothing is to be said against name each handle once, and a value to which these move owns them so.
-use Rattle.pagable_steps.proofs.Words.{◌≡◌, ℕ, suc, zero, ◌+◌, ◌<◌, ◌==◌, ◌||◌, Bool, true, false, List, [], ◌∷◌, get_or, length, refl, ap, subst, ◌∙◌, if◌then◌else◌, arith, Option, Some, None}
-use Rattle.pagable_steps.proofs.Words.{not, nat_tests, sum_by-cons, get_or_from_slice_get, slice_get_within, Error, HandleRow, Owner, ArcRef, Among, is_in, one, times, if_there, or_else}
-use Rattle.pagable_steps.proofs.Words.{find_row, is_handle, is_owner, Core, row_at, refused_if, row_fault, reference_fault, references_fault, is_named_by, IsHandleBefore, self-number}
-use Rattle.pagable_steps.proofs.Words.{◌≤◌, ◌&&◌, sym, sum_by, pins, is_pin, is_owned_by, owner_value, moved, IsWhole, AreGood, good, named-among, NotValues, not-owned, found-after, stands-whole}
+use Rattle.pagable_steps.proofs.Words.{◌≡◌, ℕ, suc, ◌+◌, ◌<◌, ◌==◌, ◌||◌, Bool, true, false, List, [], ◌∷◌, get_or, length, refl, ap, subst, ◌∙◌, if◌then◌else◌, arith, Some, None}
+use Rattle.pagable_steps.proofs.Words.{nat_tests, sum_by-cons, get_or_from_slice_get, slice_get_within, HandleRow, Owner, ArcRef, Among, is_in, one, times}
+use Rattle.pagable_steps.proofs.Words.{find_row, is_handle, Core, reference_fault, references_fault, is_named_by, IsHandleBefore, self-number}
+use Rattle.pagable_steps.proofs.Words.{◌≤◌, ◌&&◌, sym, sum_by, pins, is_owned_by, owner_value, moved, IsWhole, AreGood, good, named-among, NotValues, not-owned, found-after, stands-whole}
 use Rattle.pagable_steps.proofs.Words.{at-most-sum}
-use Rattle.pagable_steps.proofs.{Spared.owns, Spared.owns_any, SparedParts.sum-mapped, SparedParts.and-false, Words.same-number, Words.sum-zero, Words.or-none}
-use Rattle.std.specs.List.{AllPairs}
+use Rattle.pagable_steps.proofs.{SparedParts.owns, SparedParts.owns_any, SparedParts.sum-mapped, SparedParts.and-false, Words.same-number, Words.sum-zero, Words.or-none}
+use Rattle.std.{specs.List.AllPairs, proofs.lemmas.Bool.false_from_ne_true}
 
 -- a handle that is found has one row
 pub one-row : (q : ℕ) (rows : List HandleRow) (row : HandleRow) → AllPairs IsHandleBefore rows → find_row q rows ≡ Some row → times (is_handle q) rows ≡ 1
@@ -89,11 +89,7 @@ module _ {w : Core} (whole : IsWhole w) {me : Owner} (free : NotValues me) (refe
 
   -- none of it was a value's
   pub unnamed : (n : ℕ) (h : HandleRow) → Among w.rows h → h.owner ≡ owner_value n → named references h ≡ false
-  unnamed n h among own = at (named references h) refl
-    where
-      at : (b : Bool) → named references h ≡ b → named references h ≡ false
-      at false e = e
-      at true e = absurd (free (record { 0 = n }) (sym (named-owner whole me references (good w me [] references fine) h among e) ∙ own))
+  unnamed n h among own = false_from_ne_true (named references h) (λ e. free (record { 0 = n }) (sym (named-owner whole me references (good w me [] references fine) h among e) ∙ own))
 
   -- another value owns what it did
   same-test : (n : ℕ) → (p == n) ≡ false → (test : HandleRow → Bool) → ((x : HandleRow) → is_owned_by (owner_value n) x ≡ false → test x ≡ false) → (h : HandleRow) → Among w.rows h
@@ -115,26 +111,22 @@ module _ {w : Core} (whole : IsWhole w) {me : Owner} (free : NotValues me) (refe
   given-inside bare q = named-once w me [] references q fine ∙ sym (at (is_named_by references q) refl)
     where
       none : (b : Bool) (all : ℕ) → all ≡ 0 → one b ≤ all → b ≡ false
-      none false all e le = refl
-      none true all e le = absurd (omega arith)
+      none b all e le = grind (arith, nat_tests)
 
       unowned : (h : HandleRow) → Among w.rows h → is_owned_by (owner_value p) h ≡ false
       unowned h among = none (is_owned_by (owner_value p) h) (owns_any p w.rows) bare (at-most-sum (λ x. one (is_owned_by (owner_value p) x)) w.rows h among)
 
       its-now : (h : HandleRow) → Among w.rows h → (b : Bool) → named references h ≡ b → (is_handle q (after p h b) && is_owned_by (owner_value p) (after p h b)) ≡ (is_handle q h && b)
-      its-now h among true e = ap (λ b. is_handle q h && b) (self-number p)
-      its-now h among false e = ap (λ b. is_handle q h && b) (unowned h among)
+      its-now h among x2 e = grind (arith, nat_tests, is_handle, self-number, unowned)
 
       named-by : (h : HandleRow) (b : Bool) → is_named_by references q ≡ b → (d : Bool) → is_handle q h ≡ d → (d && named references h) ≡ (d && b)
-      named-by h b e true is = ap (is_named_by references) (same-number _ _ is) ∙ e
-      named-by h b e false is = refl
+      named-by h b e x3 is = grind (arith, nat_tests, is_named_by, same-number)
 
       counts : (f : HandleRow → ℕ) (b : Bool) → is_named_by references q ≡ b → ((h : HandleRow) → one (is_handle q h && b) ≡ f h) → owns p q (given w references p) ≡ sum_by f w.rows
       counts f b e same = grind (arith, nat_tests, sum-mapped, its-now, named-by)
 
       and-true : (b : Bool) → one (b && true) ≡ one b
-      and-true true = refl
-      and-true false = refl
+      and-true b = grind (arith, nat_tests)
 
       at : (b : Bool) → is_named_by references q ≡ b → owns p q (given w references p) ≡ one b
       at true e =

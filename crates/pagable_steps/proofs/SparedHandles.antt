@@ -1,7 +1,7 @@
 -- Calls on handles, by which no value comes or goes.
 use Rattle.pagable_steps.proofs.Words.{◌≡◌, ℕ, ◌<◌, Bool, true, Some, Ok, Err, refl, sym, subst, ◌∙◌, arith, Result, nat_lt, nat_tests, Pinning, HandleRow, Owner, Mode, Error, HandleNumber}
 use Rattle.pagable_steps.proofs.Words.{is_pinning, is_pinned, pins, Core, row_at, is_here, Owns, with_mode, CloneCall, PinCall, LoosenCall, IsWhole, row-pins, NotValues, stands-whole}
-use Rattle.pagable_steps.proofs.{Spared.Spares, SparedParts.spares-then, SparedParts.spares-alike, SparedParts.spares-made, SparedParts.spares-mode}
+use Rattle.pagable_steps.proofs.{SparedParts.Spares, SparedParts.spares-then, SparedParts.spares-alike, SparedParts.spares-made, SparedParts.spares-mode}
 
 -- a node that is pinned has its value in memory
 pub pinned-here : (w : Core) (n : ℕ) → 0 < pins n w.rows → is_here w n ≡ true
@@ -24,8 +24,7 @@ module _ {w : Core} (whole : IsWhole w) {me : Owner} (free : NotValues me) where
       let row : HandleRow = c.pins.0 in
       let first = turned h row c.pins.1 c.pins.2.0 in
       spares-then first (spares-made row.node Mode.Pinned me free (λ is. first.here row.node.0 ∙ c.pins.2.0) c.pins.2.2)
-  pins-it (Ok (Pinning.NeedsLoad key)) c = spares-alike c.pins.2.2
-  pins-it (Err e) c = spares-alike c.refused.stays
+  pins-it x0 c = grind (arith, nat_tests, spares-alike, pins)
 
   pub loosens : {w' : Core} {h : HandleNumber} (r : Result HandleNumber Error) → LoosenCall w me h r w' → Spares w w'
   loosens {h = h} (Ok k) c =
@@ -34,6 +33,5 @@ module _ {w : Core} (whole : IsWhole w) {me : Owner} (free : NotValues me) where
       spares-then (turned h row owns (row-here w h row owns.live (pins-mode row.mode owns.as_asked))) (spares-alike c.turned.3)
     where
       pins-mode : (mode : Mode) → is_pinned mode ≡ true → is_pinning mode ≡ true
-      pins-mode Mode.LooseUnpinned is = is
-      pins-mode _ is = refl
+      pins-mode mode is = grind (arith, nat_tests)
   loosens (Err e) c = spares-alike c.refused.1

@@ -1,10 +1,10 @@
 -- Calls on the list, the cache and the storage, by which no value comes or goes.
 use Rattle.pagable_steps.proofs.Words.{◌≡◌, ℕ, ◌+◌, ◌<◌, ◌≤◌, ◌==◌, ◌&&◌, ◌||◌, ◌%◌, Bool, true, false, Option, Some, None, Ok, Err, inl, inr, refl, ap, sym, subst, ◌∙◌, if◌then◌else◌, arith, Result}
-use Rattle.pagable_steps.proofs.Words.{not, nat_lt, is_some, slice_get, and_parts, nat_tests, OptionalDataKey, HandleRow, Owner, Mode, Error, Blob, Kind, HandleNumber, WorkerNumber, Among, one}
-use Rattle.pagable_steps.proofs.Words.{if_there, is_shared_kind, is_loose_kind, is_pinned_kind, is_handle, is_at, is_owner, is_owned_by, is_pinning, is_shared, is_share, mode_of, held, pins}
-use Rattle.pagable_steps.proofs.Words.{is_in_memory, Core, Cell, Alike, usable, is_here, only_handle, Owns, with_known, ScheduleCall, TakeCall, ReserveCall, RecallCall, OfferCall, ClearCall, Asked}
+use Rattle.pagable_steps.proofs.Words.{not, nat_lt, is_some, slice_get, and_parts, nat_tests, HandleRow, Owner, Mode, Error, Blob, Kind, HandleNumber, WorkerNumber, Among, one}
+use Rattle.pagable_steps.proofs.Words.{is_shared_kind, is_loose_kind, is_pinned_kind, is_handle, is_at, is_owner, is_owned_by, is_pinning, is_shared, is_share, mode_of, held, pins}
+use Rattle.pagable_steps.proofs.Words.{Core, Alike, usable, is_here, only_handle, Owns, with_known, ScheduleCall, TakeCall, ReserveCall, RecallCall, OfferCall, ClearCall, Asked}
 use Rattle.pagable_steps.proofs.Words.{FetchCall, StoreCall, with_worker, with_entry_taken, IsWhole, self-number, same-number, at-most-sum, counted, one-true, NotValues, stands-whole, once}
-use Rattle.pagable_steps.proofs.{Words.{IsEntered, entered-of}, Spared.Spares, SparedParts.{spares-then, spares-same, spares-alike, spares-handle, spares-moved}}
+use Rattle.pagable_steps.proofs.{Words.{IsEntered, entered-of}, SparedParts.Spares, SparedParts.{spares-then, spares-same, spares-alike, spares-handle, spares-moved}}
 
 not-list : NotValues Owner.List
 not-list n e = cc
@@ -28,8 +28,7 @@ pub fetches : {w w' : Core} {key : ℕ} {r : Result Blob Error} → FetchCall w 
 fetches c = asked c.asked
 
 pub stores : {digest : Blob → ℕ} {w w' : Core} {blob : Blob} (r : Result ℕ Error) → StoreCall digest w blob r w' → Spares w w'
-stores (Ok key) c = let a = c.stores.1.leaves in spares-same a.rows a.cells
-stores (Err e) c = asked c.refused.0
+stores x0 c = grind (arith, nat_tests, spares-same, asked)
 
 module _ {w : Core} (whole : IsWhole w) where
   -- ---- the list
@@ -92,28 +91,17 @@ module _ {w : Core} (whole : IsWhole w) where
           above a b e le = omega arith
 
           or-true : (b : Bool) → (b || true) ≡ true
-          or-true true = refl
-          or-true false = refl
+          or-true b = grind (arith, nat_tests)
 
       pinned : is_pinned_kind kind ≡ true → is_here w n ≡ true
-      pinned is = cell (w.cells n) refl entered.there
-        where
-          in-memory : (b : Bool) → (if not b then None else Some n) ≡ Some n → b ≡ true
-          in-memory true e = refl
-          in-memory false e = absurd (cc)
-
-          cell : (c : Option Cell) → w.cells n ≡ c → is_some (w.cells n) ≡ true → is_here w n ≡ true
-          cell None e there = let f : false ≡ true = sym (ap is_some e) ∙ there in absurd (cc)
-          cell (Some x) e there = grind (arith, nat_tests, entered, in-memory)
+      pinned is = grind (arith, nat_tests, entered, not, is_some, is_here)
 
       third : (kind % 3 == 0) ≡ false → (kind % 3 == 1) ≡ false → (kind % 3 == 2) ≡ true
       third a b = grind (arith, nat_tests)
 
       by : (a : Bool) → is_shared_kind kind ≡ a → (b : Bool) → is_loose_kind kind ≡ b
           → is_pinning (if a then Mode.Shared else if b then Mode.LooseUnpinned else Mode.Pinned) ≡ true → is_here w n ≡ true
-      by true e b f pinning = shared e
-      by false e true f pinning = absurd (cc)
-      by false e false f pinning = pinned (third e f)
+      by x0 e x2 f pinning = grind (arith, nat_tests, shared, pinned, third)
 
   -- a handle of such a node
   pub spares-known : {owner : Owner} (kind : Kind) (key n : ℕ) → NotValues owner → usable w kind.0 key ≡ Some n → Spares w (with_known w kind n owner)
@@ -121,13 +109,11 @@ module _ {w : Core} (whole : IsWhole w) where
 
   pub recalls : {w' : Core} {me : Owner} {kind : Kind} {key : ℕ} → NotValues me → (r : Result (Option HandleNumber) Error) → RecallCall w me kind key r w' → Spares w w'
   recalls {kind = kind} {key} free (Ok (Some k)) c = spares-then (spares-known kind key c.answers.0 free c.answers.1) (spares-alike c.answers.3)
-  recalls free (Ok None) c = spares-alike c.answers.1
-  recalls free (Err e) c = spares-alike c.refused.stays
+  recalls free x1 c = grind (arith, nat_tests, spares-alike)
 
   -- an offer by which no handle is given up: the cache learns the node, or the offered handle is answered itself
   pub offers : {w' : Core} {me : Owner} {kind : Kind} {key : ℕ} {h : HandleNumber} (r : Result (Option HandleNumber) Error)
       → ((k : HandleNumber) → r ≡ Ok (Some k) → k ≡ h) → OfferCall w me kind key h r w' → Spares w w'
-  offers (Ok None) back c = let a = c.answers.3.2 in spares-same a.rows a.cells
   offers {h = h} (Ok (Some k)) back c = elim c.answers.3 [
     | inl (closed, same, a) ↦ spares-alike a
     | inr (open_still, (n, known, next, f)) ↦
@@ -136,4 +122,4 @@ module _ {w : Core} (whole : IsWhole w) where
     where
       above-last : (a b last : ℕ) → a ≡ b → a ≡ last + 1 → b ≤ last → ⊥
       above-last a b last same next few = absurd (omega arith)
-  offers (Err e) back c = spares-alike c.refused.stays
+  offers x0 back c = grind (arith, nat_tests, spares-same, spares-alike)

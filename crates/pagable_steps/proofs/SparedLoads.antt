@@ -1,6 +1,6 @@
 -- Calls on loads, by which no value comes or goes.
-use Rattle.pagable_steps.proofs.Words.{◌≡◌, ℕ, true, false, Ok, Err, inl, inr, Result, Beginning, Want, HandleRow, Owner, Mode, Error, Kind, HandleNumber, LoadNumber, Core, OpenLoad, BeginCall}
-use Rattle.pagable_steps.proofs.{Words.{BeginKeyCall, GetsKnown, Given, from_cache, from_store, AskCall, AsksInVain, IsWhole, NotValues, arith, nat_tests}, Spared.Spares, SparedLists.asked}
+use Rattle.pagable_steps.proofs.Words.{◌≡◌, ℕ, true, false, Ok, Err, Result, Beginning, Want, HandleRow, Owner, Mode, Error, Kind, HandleNumber, LoadNumber, Core, BeginCall}
+use Rattle.pagable_steps.proofs.{Words.{BeginKeyCall, GetsKnown, Given, from_cache, AskCall, IsWhole, NotValues, arith, nat_tests}, SparedParts.Spares, SparedLists.asked}
 use Rattle.pagable_steps.proofs.{SparedLists.spares-known, SparedParts.{spares-then, spares-same, spares-alike, spares-handle}}
 
 pub not-load : (l : LoadNumber) → NotValues (Owner.Load l)
@@ -23,8 +23,5 @@ module _ {w w' : Core} where
     gets-known {l} {kind} {key} g = spares-then (spares-known whole kind key g.n (not-load l) g.known) (spares-alike g.leaves)
 
     pub asks : {me : Owner} {l : LoadNumber} {want : Want} (r : Result Given Error) → AskCall w me l want r w' → Spares w w'
-    asks {want = Want.Root} (Ok (from_store blob)) c = asked c.gives.2.asked
-    asks {want = Want.Root} (Ok (from_cache k)) c = absurd c.gives.2
     asks {want = Want.Nested kind key} (Ok (from_cache k)) c = gets-known c.gives.2
-    asks {want = Want.Nested kind key} (Ok (from_store blob)) c = asked c.gives.2.1.asked
-    asks {me} {l} {want} (Err e) c = grind (arith, nat_tests)
+    asks x0 c = grind (arith, nat_tests, asked)

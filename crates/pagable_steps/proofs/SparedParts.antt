@@ -1,8 +1,22 @@
--- Parts of steps by which no value comes or goes: one more handle, a handle in another mode, handles that move.
-use Rattle.pagable_steps.proofs.Words.{◌≡◌, ℕ, suc, zero, ◌+◌, ◌≤◌, ◌==◌, ◌&&◌, ◌||◌, Bool, true, false, List, [], ◌∷◌, ◌++◌, sum_by, map, refl, ap, sym, subst, ◌∙◌, if◌then◌else◌, arith, Some, not}
-use Rattle.pagable_steps.proofs.Words.{nat_lt, and_parts, nat_tests, sum_by-cons, sum_by_push, OptionalDataKey, HandleRow, Owner, Mode, HandleNumber, NodeNumber, SameAt, Among, changed, one}
-use Rattle.pagable_steps.proofs.Words.{if_there, or_else, find_row, is_handle, is_owned_by, owner_value, is_pin, is_pinning, pins, is_in_memory, has_key, Core, Cell, Alike, key_at, is_here, row_of}
-use Rattle.pagable_steps.proofs.{Words.{with_handle, with_mode, moved, same-number, sum-le, NotValues, not-owned, find-both, found-after, among-found}, Spared.{owns, owns_any, Spares}}
+-- Steps by which no value comes or goes, and their parts: one more handle, a handle in another mode, handles that move.
+use Rattle.pagable_steps.proofs.Words.{◌≡◌, ℕ, suc, ◌+◌, ◌≤◌, ◌==◌, ◌&&◌, Bool, true, false, List, [], ◌∷◌, ◌++◌, sum_by, map, refl, ap, sym, subst, ◌∙◌, if◌then◌else◌, arith, Some}
+use Rattle.pagable_steps.proofs.Words.{nat_tests, sum_by-cons, sum_by_push, OptionalDataKey, HandleRow, Owner, Mode, HandleNumber, NodeNumber, SameAt, Among, changed, one}
+use Rattle.pagable_steps.proofs.Words.{or_else, find_row, is_handle, is_owned_by, owner_value, is_pin, is_pinning, pins, is_in_memory, Core, Alike, key_at, is_here, row_of}
+use Rattle.pagable_steps.proofs.{Words.{with_handle, with_mode, moved, same-number, sum-le, NotValues, not-owned, find-both, found-after, among-found, times}}
+
+-- how often the value of the node owns the handle, and how many it owns
+abbrev pub owns : ℕ → ℕ → List HandleRow → ℕ
+owns n q rows = times (λ h. is_handle q h && is_owned_by (owner_value n) h) rows
+
+abbrev pub owns_any : ℕ → List HandleRow → ℕ
+owns_any n rows = times (is_owned_by (owner_value n)) rows
+
+-- nodes are the same, each has its value as before, and values own what they did
+pub record Spares (w w' : Core) : Type 0 where
+  pub cells : SameAt w.cells w'.cells
+  pub here : (n : ℕ) → is_here w' n ≡ is_here w n
+  pub owned : (n q : ℕ) → owns n q w'.rows ≡ owns n q w.rows
+  pub rows : (n q : ℕ) (row : HandleRow) → find_row q w.rows ≡ Some row → row.owner ≡ owner_value n → find_row q w'.rows ≡ Some row
 
 pub spares-then : {w m w' : Core} → Spares w m → Spares m w' → Spares w w'
 spares-then a b =
@@ -10,7 +24,6 @@ spares-then a b =
       cells = λ n. b.cells n ∙ a.cells n;
       here = λ n. b.here n ∙ a.here n;
       owned = λ n q. b.owned n q ∙ a.owned n q;
-      bare = λ n. b.bare n ∙ a.bare n;
       rows = λ n q row live own. b.rows n q row (a.rows n q row live own) own;
     }
 
@@ -29,21 +42,12 @@ push-none test xs x is = let a = sum_by_push (λ y. one (test y)) xs x in let b 
 
 pub sum-mapped : {X : Type 0} (f : X → X) (g h : X → ℕ) (xs : List X) → ((x : X) → Among xs x → g (f x) ≡ h x) → sum_by g (map f xs) ≡ sum_by h xs
 sum-mapped f g h [] each = refl
-sum-mapped f g h (x ∷ xs) each =
-    let a = each x (zero, refl) in
-    let b = sum-mapped f g h xs (λ y among. each y (suc among.0, among.1)) in
-    let c = sum_by-cons g (f x) (map f xs) in
-    let d = sum_by-cons h x xs in
-    omega arith
+sum-mapped f g h (x ∷ xs) each = grind (arith, nat_tests, sum_by-cons, map, sum-mapped f g h xs (λ y among. each y (suc among.0, among.1)))
 
 pub and-false : (b : Bool) → (b && false) ≡ false
 and-false x0 = grind (arith, nat_tests)
 
 -- ---- one more handle
-
--- one more pin brings no value where there is one
-pub pinned-more : (p : ℕ) (key : OptionalDataKey) (b : Bool) → (b ≡ true → is_in_memory p key ≡ true) → is_in_memory (p + one b) key ≡ is_in_memory p key
-pinned-more p key x2 may = grind (arith, nat_tests)
 
 -- a handle that is no value's; if it pins, its node's value is in memory
 pub spares-handle : (w : Core) (node : NodeNumber) (mode : Mode) (me : Owner) → NotValues me → (is_pinning mode ≡ true → is_here w node.0 ≡ true) → Spares w (with_handle w node mode me)
@@ -51,9 +55,8 @@ spares-handle w node mode me free may =
     record {
       cells = λ n. refl;
       here = λ n. ap (λ p. is_in_memory p (key_at w n)) (sum_by_push (λ h. one (is_pin n h)) w.rows new)
-          ∙ pinned-more (pins n w.rows) (key_at w n) (is_pin n new) (λ is. here-at n (and_parts _ _ is));
+          ∙ (grind (arith, nat_tests));
       owned = λ n q. push-none (λ h. is_handle q h && is_owned_by (owner_value n) h) w.rows new (ap (λ b. is_handle q new && b) (not-owned n me free) ∙ and-false _);
-      bare = λ n. push-none (λ h. is_owned_by (owner_value n) h) w.rows new (not-owned n me free);
       rows = λ n q row live own. find-both q w.rows (new ∷ []) ∙ ap (λ o. or_else o (find_row q (new ∷ []))) live;
     }
   where
@@ -81,16 +84,13 @@ module _ (w : Core) (test : HandleRow → Bool) (f : HandleRow → HandleRow) wh
       record {
         cells = λ n. refl;
         here = here;
-        owned = λ n q. sum-mapped _ _ _ w.rows
-            (λ h among. ap (λ b. one b) (by-owner n h among (λ x. is_handle q x && is_owned_by (owner_value n) x) (λ x is. ap (λ b. is_handle q x && b) is ∙ and-false _) (test h) refl));
-        bare = λ n. sum-mapped _ _ _ w.rows (λ h among. ap (λ b. one b) (by-owner n h among (λ x. is_owned_by (owner_value n) x) (λ x is. is) (test h) refl));
+        owned = λ n q. sum-mapped _ _ _ w.rows (λ h among. by-owner n q h among (test h) refl);
         rows = λ n q row live own. found-after test f free.numbers q w.rows row live ∙ unchanged n q row live own (test row) refl;
       }
     where
-      by-owner : (n : ℕ) (h : HandleRow) → Among w.rows h → (c : HandleRow → Bool) → ((x : HandleRow) → is_owned_by (owner_value n) x ≡ false → c x ≡ false)
-          → (b : Bool) → test h ≡ b → c (if b then f h else h) ≡ c h
-      by-owner n h among c none true is = none (f h) (not-owned n (f h).owner (free.after h among is)) ∙ sym (none h (not-owned n h.owner (free.before h among is)))
-      by-owner n h among c none false is = refl
+      by-owner : (n q : ℕ) (h : HandleRow) → Among w.rows h → (b : Bool) → test h ≡ b
+          → one (is_handle q (if b then f h else h) && is_owned_by (owner_value n) (if b then f h else h)) ≡ one (is_handle q h && is_owned_by (owner_value n) h)
+      by-owner n q h among x4 is = grind (arith, nat_tests, not-owned, and-false)
 
       unchanged : (n q : ℕ) (row : HandleRow) → find_row q w.rows ≡ Some row → row.owner ≡ owner_value n → (b : Bool) → test row ≡ b → Some (if b then f row else row) ≡ Some row
       unchanged n q row live own true is = absurd (free.before row (among-found q w.rows row live) is (record { 0 = n }) own)
@@ -104,8 +104,7 @@ spares-moved w set owner free before =
     (λ n. ap (λ p. is_in_memory p (key_at w n)) (sum-mapped _ _ _ w.rows (λ h among. same-pin n h (set h.number.0))))
   where
     same-pin : (n : ℕ) (h : HandleRow) (b : Bool) → one (is_pin n (if b then record h { owner = owner } else h)) ≡ one (is_pin n h)
-    same-pin n h true = refl
-    same-pin n h false = refl
+    same-pin n h b = grind (arith, nat_tests)
 
 -- more pins keep a value in memory
 pub here-by : (p q : ℕ) (key : OptionalDataKey) → p ≤ q → is_in_memory p key ≡ true → is_in_memory q key ≡ true
@@ -127,16 +126,7 @@ spares-mode w h mode row free only pinning may =
     pin-to n x = one (is_pin n (if is_handle h.0 x then to x else x))
 
     more : (n : ℕ) (x : HandleRow) (b : Bool) → one (is_pin n x) ≤ one (is_pin n (if b then to x else x))
-    more n x true = rw pinning (le-with (x.node.0 == n) (is_pinning x.mode))
-      where
-        le-with : (a b : Bool) → one (a && b) ≤ one (a && true)
-        le-with true true = omega arith
-        le-with true false = omega arith
-        le-with false b = omega arith
-    more n x false = le-self (one (is_pin n x))
-      where
-        le-self : (k : ℕ) → k ≤ k
-        le-self k = omega arith
+    more n x b = grind (arith, nat_tests)
 
     other : (n : ℕ) (x : HandleRow) → Among w.rows x → (row.node.0 == n) ≡ false → (b : Bool) → is_handle h.0 x ≡ b → one (is_pin n (if b then to x else x)) ≡ one (is_pin n x)
     other n x among away true is = let e : (x.node.0 == n) ≡ false = ap (λ (y : HandleRow). y.node.0 == n) (only x among (same-number _ _ is)) ∙ away in rw e refl

@@ -1,10 +1,10 @@
 -- A cascade takes no handle of a value that stays, and a value stays exactly where its node is in memory afterwards.
-use Rattle.std.proofs.Common.{rules}
+use Rattle.std.proofs.{Common.rules, lemmas.Bool.false_from_ne_true}
 use Rattle.pagable_steps.proofs.Words.{◌≡◌, ℕ, ◌+◌, ◌<◌, ◌≤◌, ◌==◌, ◌&&◌, Bool, true, false, List, [], ◌∷◌, refl, ap, sym, subst, ◌∙◌, if◌then◌else◌, arith, Some, None, is_some, not, nat_lt}
 use Rattle.pagable_steps.proofs.Words.{nat_eq, cond, sum_by, and_parts, nat_tests, sum_by-cons, sum_by-append, OptionalDataKey, HandleRow, Owner, Mode, Among, one, times, if_there, is_handle}
-use Rattle.pagable_steps.proofs.Words.{is_at, is_pin, is_owned_by, owner_value, held, has_key, is_in_memory, Core, Cell, is_here, is_outside, held_outside, pins_outside, owned_outside}
-use Rattle.pagable_steps.proofs.Words.{loses_value, IsClosed, IsWithin, IsLeast, AreNewEntries, is_keyed, left_rows, Falls, same-number, self-number, one-true, sum-le, sum-zero, at-most-sum}
-use Rattle.pagable_steps.proofs.{Spared.owns, SparedParts.and-false, Words.counted, Words.inside, Words.wider}
+use Rattle.pagable_steps.proofs.Words.{is_at, is_pin, is_owned_by, owner_value, held, has_key, is_in_memory, Core, Cell, is_here, is_outside, held_outside, pins_outside}
+use Rattle.pagable_steps.proofs.Words.{loses_value, IsLeast, AreNewEntries, is_keyed, left_rows, Falls, same-number, self-number, one-true, sum-le, at-most-sum}
+use Rattle.pagable_steps.proofs.{SparedParts.owns, SparedParts.and-false, Words.counted, Words.outlast}
 
 above : (n : ℕ) → nat_lt 0 n ≡ true → 0 < n
 above n e = grind (arith, nat_tests)
@@ -16,61 +16,19 @@ owned-some n rows h among is =
     let b : one (is_handle h.number.0 h && is_owned_by (owner_value n) h) ≡ 1 = rw (self-number h.number.0, is) refl in
     omega (arith, a, b)
 
--- ---- what a value owns that stays
-
-module _ (rows : List HandleRow) (keyed : ℕ → Bool) (entries : List HandleRow) (given gone : ℕ → Bool) (least : IsLeast rows keyed entries given gone)
-    (free : (n q : ℕ) → 0 < owns n q rows → given q ≡ false) (single : (n m q : ℕ) → 0 < owns n q rows → 0 < owns m q rows → m ≡ n)
-    (n : ℕ) (stays : loses_value rows keyed entries gone n ≡ false) where
-  -- what falls but for the handles of the node's value
-  abbrev less : ℕ → Bool
-  less p = gone p && not (nat_lt 0 (owns n p rows))
-
-  less-within : IsWithin rows less gone
-  less-within = search (rules, sum-zero)
-
-  less-holds : IsWithin rows given less
-  less-holds = sum-zero (λ h. one (given h.number.0 && not (less h.number.0))) rows (λ h among. part h among (given h.number.0) refl (nat_lt 0 (owns n h.number.0 rows)) refl)
-    where
-      part : (h : HandleRow) → Among rows h → (b : Bool) → given h.number.0 ≡ b → (d : Bool) → nat_lt 0 (owns n h.number.0 rows) ≡ d → one (given h.number.0 && not (less h.number.0)) ≡ 0
-      part h among true e true f = let g = free n h.number.0 (above _ f) in absurd (cc)
-      part h among true e false f = let g = inside rows keyed entries given gone h least.holds among e in rw (e, f, g) refl
-      part h among false e d f = rw e refl
-
-  less-closed : IsClosed rows keyed entries less
-  less-closed m goes =
-      let lost = wider rows keyed entries less gone m less-within goes in
-      let none = least.closed m lost in
-      sum-zero (λ h. one (is_owned_by (owner_value m) h && not (less h.number.0))) rows
-      (λ h among. part h among lost none (is_owned_by (owner_value m) h) refl (nat_lt 0 (owns n h.number.0 rows)) refl)
-    where
-      part : (h : HandleRow) → Among rows h → loses_value rows keyed entries gone m ≡ true → owned_outside rows gone m ≡ 0 → (b : Bool) → is_owned_by (owner_value m) h ≡ b
-          → (d : Bool) → nat_lt 0 (owns n h.number.0 rows) ≡ d → one (is_owned_by (owner_value m) h && not (less h.number.0)) ≡ 0
-      part h among lost none false e d f = rw e refl
-      part h among lost none true e true f =
-          let same = single n m h.number.0 (above _ f) (owned-some m rows h among e) in
-          let g : loses_value rows keyed entries gone n ≡ true = ap (loses_value rows keyed entries gone) (sym same) ∙ lost in
-          absurd (cc)
-      part h among lost none true e false f =
-          let a = at-most-sum (λ x. one (is_owned_by (owner_value m) x && is_outside gone x)) rows h among in
-          let g = falls (gone h.number.0) (is_owned_by (owner_value m) h) e a none in
-          rw (e, f, g) refl
-        where
-          falls : {k : ℕ} (b c : Bool) → c ≡ true → one (c && not b) ≤ k → k ≡ 0 → b ≡ true
-          falls true c is le e = refl
-          falls false true is le e = absurd (omega arith)
-          falls false false is le e = absurd (cc)
-
-  pub keeps : (q : ℕ) → 0 < owns n q rows → gone q ≡ false
-  keeps q some = at (gone q) refl (counted (λ h. one (is_handle q h && is_owned_by (owner_value n) h)) rows some)
-    where
-      at : (b : Bool) → gone q ≡ b → (h : HandleRow) × Among rows h × (0 < one (is_handle q h && is_owned_by (owner_value n) h)) → gone q ≡ false
-      at false e own = e
-      at true e (h, among, own) =
-          let number : h.number.0 ≡ q = same-number _ _ (and_parts (is_handle q h) (is_owned_by (owner_value n) h) (one-true _ own)).0 in
-          let a : less h.number.0 ≡ true = inside rows keyed entries gone less h (least.least less less-holds less-closed) among (ap gone number ∙ e) in
-          let b : nat_lt 0 (owns n h.number.0 rows) ≡ true = let c = subst (λ p. 0 < owns n p rows) (sym number) some in grind (arith, nat_tests) in
-          let c : less h.number.0 ≡ false = rw b (and-false (gone h.number.0)) in
-          absurd (cc)
+-- what a value owns that stays doesn't fall
+pub keeps : (rows : List HandleRow) (keyed : ℕ → Bool) (entries : List HandleRow) (given gone : ℕ → Bool) → IsLeast rows keyed entries given gone → ((n q : ℕ) → 0 < owns n q rows → given q ≡ false)
+    → ((n m q : ℕ) → 0 < owns n q rows → 0 < owns m q rows → m ≡ n) → (n : ℕ) → loses_value rows keyed entries gone n ≡ false → (q : ℕ) → 0 < owns n q rows → gone q ≡ false
+keeps rows keyed entries given gone least free single n stays q some =
+    let own = counted (λ h. one (is_handle q h && is_owned_by (owner_value n) h)) rows some in
+    let number : own.0.number.0 ≡ q = same-number _ _ (and_parts (is_handle q own.0) (is_owned_by (owner_value n) own.0) (one-true _ own.2)).0 in
+    let out = outlast rows keyed entries given gone (λ p. nat_lt 0 (owns n p rows)) least
+    (λ h among e. false_from_ne_true (nat_lt 0 (owns n h.number.0 rows)) (λ f. let g = free n h.number.0 (above _ f) in absurd (cc)))
+    (λ m h among e lost. false_from_ne_true (nat_lt 0 (owns n h.number.0 rows)) (λ f.
+    let same = single n m h.number.0 (above _ f) (owned-some m rows h among e) in
+    let g : loses_value rows keyed entries gone n ≡ true = ap (loses_value rows keyed entries gone) (sym same) ∙ lost in
+    absurd (cc))) in
+    sym (ap gone number) ∙ out own.0 own.1 (let c = subst (λ p. 0 < owns n p rows) (sym number) some in grind (arith, nat_tests))
 
 -- ---- what is counted afterwards
 
@@ -83,8 +41,7 @@ times-left t gone [] = refl
 times-left t gone (x ∷ xs) = at (gone x.number.0) (times-left t gone xs) ∙ sym (sum_by-cons (λ h. one (t h && is_outside gone h)) x xs)
   where
     and-true : (b : Bool) → one (b && true) ≡ one b
-    and-true true = refl
-    and-true false = refl
+    and-true b = grind (arith, nat_tests)
 
     rest : ℕ
     rest = times (λ h. t h && is_outside gone h) xs
@@ -129,15 +86,9 @@ module _ {before w w' : Core} {given : ℕ → Bool} {r : _} (f : Falls before w
       rw (keyed, cells, p) (by-number ho po he fewer (nat_lt 0 (ho + he)) refl (has_key cell.key) refl)
     where
       pin-at : (a b c : Bool) → one ((a && b) && c) ≤ one (a && c)
-      pin-at false b c = omega arith
-      pin-at true false true = omega arith
-      pin-at true false false = omega arith
-      pin-at true true c = omega arith
+      pin-at a b c = grind (arith, nat_tests)
 
       by-number : (ho po he : ℕ) → po ≤ ho → (b : Bool) → nat_lt 0 (ho + he) ≡ b → (k : Bool) → has_key cell.key ≡ k
           → (if k then nat_eq po 0 else nat_eq he 0 && nat_eq ho 0)
           ≡ not (is_some (if b then Some cell else None) && is_in_memory po (if_there (λ (x : Cell). x.key) OptionalDataKey.None (if b then Some cell else None)))
-      by-number ho po he fewer true e true k = rw k (grind (arith, nat_tests))
-      by-number ho po he fewer true e false k = rw k (grind (arith, nat_tests))
-      by-number ho po he fewer false e true k = grind (arith, nat_tests)
-      by-number ho po he fewer false e false k = grind (arith, nat_tests)
+      by-number ho po he fewer x4 e x6 k = grind (arith, nat_tests)

@@ -16,7 +16,7 @@ pub use Rattle.pagable_world.specs.{Workers.{is_workers_at, is_load_of, WorkerEn
 pub use Rattle.pagable_world.specs.{declared.answers.Beginning.Beginning, declared.answers.Pinning.Pinning, declared.calls.Want.Want, declared.handles.HandleRow.HandleRow}
 pub use Rattle.pagable_world.specs.{declared.handles.Owner.Owner, declared.rows.Mode.Mode}
 unfoldable pub use Rattle.pagable_world.specs.{Calls.is_named_by, Kinds.find_row, Plain.is_in, Refusals.{references_fault, named_fault}}
-pub use Rattle.pagable_laws.{proofs.Existing.{inside, wider}, proofs.Goes.{found-number, NotLoads}, proofs.GoodReferences.{good, fell-away, same-owner, or-none}, proofs.Outlasting.NotValues}
+pub use Rattle.pagable_laws.{proofs.Existing.outlast, proofs.Goes.{found-number, NotLoads}, proofs.GoodReferences.{good, fell-away, same-owner, or-none}, proofs.Outlasting.NotValues}
 pub use Rattle.pagable_laws.proofs.Outlasting.{not-owned, find-both, found-after, among-found, stands-whole, found-kept, Stands, none-found, once, stands-changed, among-changed, after-number}
 pub use Rattle.pagable_laws.{proofs.ReadingStepsGive.neither, proofs.SparingSteps.{named-among, IsEntered, entered-of}, proofs.Sums.{self-number, same-number, sum-le, counted, one-true, at-most-sum}}
 pub use Rattle.pagable_laws.{proofs.Sums.sum-zero, proofs.Taking.{row-held, row-pins}, proofs.Trees.same_some, specs.TreeSteps.AreGood}
