@@ -5,17 +5,9 @@ use Rattle.pagable_world.specs.{declared.{events.LoadAnswer.LoadAnswer, handles.
 use Rattle.{pagable_world.specs.{Pager.PagerState, Access.{Told, LoadRun, load-ends, load-goes-on}}, pagable_loads.specs.{Frames.{IsLoadOf, frames_of, reading_of}, Stepping.Steps, Running.Runs}}
 use Rattle.pagable_loads.specs.{Running.HasGone, declared.reading.Reading.Reading as Own}
 
-pub told_same : {S : Type 0} {o : Option S} {R : S → S → Type 0} → ((s : S) → R s s) → Told o o R
-told_same {o = None} f = record { holds = tt }
-told_same {o = Some s} f = record { holds = f s }
-
-cached_loads : (b : Bool) (w : Core) (kind : Kind) (key : ℕ) (n : NodeNumber) (l : ℕ) → (if b then w else with_cached w kind key n).loads l ≡ w.loads l
-cached_loads true w kind key n l = refl
-cached_loads false w kind key n l = refl
-
 module _ {N : Type 0} (v : Values N) (me : Owner) where
   -- while there is more the load stays open
-  goes_open : (w w' : Core) (reading : Reading) (frames : List Frame) → GoesOn v w me reading frames w' → w'.loads reading.load.0 ≡ w.loads reading.load.0
+  pub goes_open : (w w' : Core) (reading : Reading) (frames : List Frame) → GoesOn v w me reading frames w' → w'.loads reading.load.0 ≡ w.loads reading.load.0
   goes_open w w' reading frames (inl g) = g.asked.gives.2.asked.leaves.loads reading.load.0
   goes_open w w' reading frames (inr (inl g)) = g.asked.gives.2.leaves.loads reading.load.0
   goes_open w w' reading frames (inr (inr (inl g))) = g.asked.gives.2.1.asked.leaves.loads reading.load.0
@@ -29,9 +21,6 @@ module _ {N : Type 0} (v : Values N) (me : Owner) where
   ended w w' reading (LoadAnswer.Refused e) frames d = d.1
 
 module _ {N E : Type 0} (v : Values N) (me : Owner) where
-  pub not_yet : (own : Own) (s : PagerState N E) → HasGone v me own own s s
-  not_yet own s = record { open_still = λ o. o; then = λ o answer u run. run }
-
   module _ (own now : Own) (s m t : PagerState N E) (gone : HasGone v me own now s m) where
     pub went_on : (next : Own) (frames : List Frame) → next.load ≡ now.load → next.key ≡ now.key → next.node_type ≡ now.node_type → next.for_cell ≡ now.for_cell → next.steps ≡ one_more now.steps
         → frames ≡ frames_of next.top next.below.items → Steps v me now m None frames t → HasGone v me own next s t

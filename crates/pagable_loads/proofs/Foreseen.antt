@@ -111,19 +111,12 @@ module _ (types : Types) (t : ℕ) (blob : Blob) where
           omega (arith, many, within, a, b, c, d)
 
 -- a row that was found by stand-ins, the last of which is asked for after all others
-pub foreseen : (types : Types) (f : Frame) (fs : List Frame) (frames : List Frame) (row xs noted : List ArcRef) (last : ArcRef) (kind : Kind) (key : ℕ) → frames ≡ f ∷ fs
-    → row ≡ xs ++ last ∷ [] → xs ++ last ∷ [] ≡ f.got ++ noted → last.kind.0 ≡ kind.0 → next_of types f.node_type f.blob xs ≡ asks kind key → IsAhead types frames row
-foreseen types f fs frames row xs noted last kind key there is split same next =
-    record { is = inr (f, fs, there, record { ahead = kinds_of noted; split = ap kinds_of (is ∙ split) ∙ kinds_joined f.got noted; each = λ got k more e. row_asked types f.node_type f.blob xs kind key next got k more (sym of_row ∙ e) }) }
-  where
-    of_row : kinds_of row ≡ kinds_of xs ++ kind.0 ∷ []
-    of_row = ap kinds_of is ∙ kinds_joined xs (last ∷ []) ∙ ap (λ k. kinds_of xs ++ k ∷ []) same
-
 pub row_found : (types : Types) (f : Frame) (fs frames : List Frame) (row xs noted : List ArcRef) (last : ArcRef) (b : Bool) → frames ≡ f ∷ fs
     → row ≡ xs ++ last ∷ [] → xs ++ last ∷ [] ≡ f.got ++ noted → b ≡ true → AskedIf types f.node_type f.blob xs last.kind.0 b → IsAhead types frames row
 row_found types f fs frames row xs noted last b there is split found asked =
     let told : AskedIf types f.node_type f.blob xs last.kind.0 true = subst (AskedIf types f.node_type f.blob xs last.kind.0) found asked in
-    foreseen types f fs frames row xs noted last last.kind told.0 there is split refl told.1
+    let of_row : kinds_of row ≡ kinds_of xs ++ last.kind.0 ∷ [] = ap kinds_of is ∙ kinds_joined xs (last ∷ []) in
+    record { is = inr (f, fs, there, record { ahead = kinds_of noted; split = ap kinds_of (is ∙ split) ∙ kinds_joined f.got noted; each = λ got k more e. row_asked types f.node_type f.blob xs last.kind told.0 told.1 got k more (sym of_row ∙ e) }) }
 
 pub none_ahead : (types : Types) (frames : List Frame) (row : List ArcRef) → row ≡ [] → IsAhead types frames row
 none_ahead types frames row is = record { is = inl is }

@@ -3,17 +3,6 @@ use Rattle.std.proofs.{lemmas.{Bool.Decides.nat_tests, Grind.common_steps, List.
 use Rattle.std.proofs.Common.{ℕ, ◌+◌, ◌<◌, ◌≤◌, List, [], ◌∷◌, ◌++◌, length, false, Option, Some, None, Result, Ok, Err, IfOk, ◌⊎◌, inl, inr, ap, sym, subst, ◌∙◌, arith, slice_get}
 use Rattle.{std.{proofs.Math.{ListN.get_or-append, Seq.get_or-append_seam}, specs.{List.list_any, Option.option_map, Prelude.option_and_then}}, pagable_model.specs.declared.error.Error.Error}
 use Rattle.{pagable_model.specs.{declared.numbers.ArcRef.ArcRef, Deep.is_eager}, pagable_world.specs.Pager.PagerState, pagable_loads.specs.{Got.lent_at, Lending.{Lends, LendsEach}, Starting.Shares}}
-use Rattle.pagable_loads.specs.Telling.{Tells}
-
-module _ {S : Type 0} where
-  pub tells_all : {o : Option S} {P : S → Type 0} → ((s : S) → P s) → Tells o P
-  tells_all {o} {P} f = first_of (grind (arith, common_steps, nat_tests), search (rules))
-
-  pub tells_both : {o : Option S} {P Q R : S → Type 0} → ((s : S) → P s → Q s → R s) → Tells o P → Tells o Q → Tells o R
-  tells_both {o} f h k = first_of (grind (arith, common_steps, nat_tests), search (rules))
-
-  pub tells_map : {o : Option S} {P Q : S → Type 0} → ((s : S) → P s → Q s) → Tells o P → Tells o Q
-  tells_map f h = tells_both (λ s p q. f s p) h h
 
 module _ {A N E : Type 0} (see : A → N) (s : PagerState N E) where
   -- a share is refused

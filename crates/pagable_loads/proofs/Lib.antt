@@ -5,5 +5,5 @@ mod Lent
 mod Needed
 pub mod Stepped
 mod Lowering
-mod Driven
+pub mod Driven
 pub mod Pinned

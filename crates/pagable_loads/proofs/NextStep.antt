@@ -22,36 +22,11 @@ reads_with own means nodes parts t env other levels got found bytes keys blob st
     let there : P (context.answers_from (answer_at got) 0 blob.keys) = rw (s, l, e, g, b, k) at h in
     subst P (same_answers got 0 blob.keys) there
 
--- each other refusal is a fault
-faulty : (key : Option ℕ) (e : Error) → is_asking e ≡ false → next_by key (Err e) ≡ is_faulty e
-faulty key (Error.Storage k) other = absurd (cc)
-faulty key e other = refl
-
 -- a refusal that is none of Storage asks for nothing
 pub asks_nothing : (e : Error) → ((kind : ℕ) → e ≡ Error.Storage kind → ⊥) → is_asking e ≡ false
 asks_nothing (Error.Storage k) other = absurd (other k refl)
 asks_nothing e other = refl
 
 module _ {N : Type 0} (v : Values N) (t : ℕ) (blob : Blob) (got : List ArcRef) where
-  abbrev pub key : Option ℕ
-  key = slice_get blob.keys (length got)
-
   pub is_read : (x : N) → v.node_type x ≡ t → ReadsWith v t blob got (Ok x) → Decodes v t blob got (Decoded.Read x)
-  is_read x typed h = record { answers = record { own = h.gives.m; read = ap (next_by key) h.gives.gave; typed = typed; means = h.gives.is } }
-
-  wanted : (kind : ℕ) → ((e : Error) → v.read_causes t e → is_own_reading e ≡ true) → ReadsWith v t blob got (Err (Error.Storage kind)) → read_with v.types t blob got ≡ Err (Error.Storage kind)
-  wanted kind law r = elim r.gives [ inl h ↦ h | inr h ↦ absurd (let f = law (Error.Storage kind) h in cc) ]
-
-  asked : (kind : ℕ) (o : Option ℕ) (d : Decoded N) → next_of v.types t blob got ≡ asks_for kind o → Asks kind o d → Answers v t blob got d
-  asked kind None d next a = subst (Answers v t blob got) (sym a.asks_from) (inl next)
-  asked kind (Some k) d next a = subst (Answers v t blob got) (sym a.asks_from) next
-
-  pub is_wanted : (kind : ℕ) (e : Error) (d : Decoded N) → e ≡ Error.Storage kind → ((f : Error) → v.read_causes t f → is_own_reading f ≡ true) → Asks kind key d → ReadsWith v t blob got (Err e) → Decodes v t blob got d
-  is_wanted kind e d is law a h = first_of (grind (arith, common_steps, nat_tests), search (rules))
-
-  refused : (e : Error) → is_asking e ≡ false → (read_with v.types t blob got ≡ Err e) ⊎ v.read_causes t e → Answers v t blob got (Decoded.Refused e)
-  refused e other (inl h) = inl (ap (next_by key) h ∙ faulty key e other)
-  refused e other (inr h) = inr h
-
-  pub is_refused : (e : Error) → is_asking e ≡ false → ReadsWith v t blob got (Err e) → Decodes v t blob got (Decoded.Refused e)
-  is_refused e other h = record { answers = refused e other h.gives }
+  is_read x typed h = record { answers = record { own = h.gives.m; read = ap (next_by (slice_get blob.keys (length got))) h.gives.gave; typed = typed; means = h.gives.is } }

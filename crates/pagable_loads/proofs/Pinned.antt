@@ -7,10 +7,6 @@ use Rattle.pagable_world.specs.{Pager.{PagerState, WellFormed}, Access.{Told, Ca
 use Rattle.{pagable_world.specs.Access.{reading-is-refused, load-reads, reading-fails, IsUnpinnedBack, PinsOver, ReadsOver}, pagable_loads.specs.{Frames.{IsLoadOf, reading_of, is_cell}, Running.Runs}}
 use Rattle.pagable_loads.specs.{Starting.{StartsPin, Shares, PinsFirst, Unpins, TakesBack}, Telling.{Tells, begun_as}, declared.{starting.PinStart.PinStart, reading.Reading.Reading as Own}}
 
--- what is told of a state, beside what led to it
-pub told_with : {S : Type 0} {o n : Option S} {R Q : S → S → Type 0} {P : S → Type 0} → ((s t : S) → R s t → P t → Q s t) → Told o n R → Tells n P → Told o n Q
-told_with {S} {o} {n} f h k = first_of (grind (arith, common_steps, nat_tests), search (rules))
-
 still : (w : Core) → Alike w w
 still w = first_of (grind (arith, common_steps, nat_tests), search (rules))
 
@@ -114,12 +110,6 @@ module _ {N E : Type 0} (v : Values N) (h : HandleNumber) where
   back s mid low false row live loose is whole u = inr (row, live, pinned_so row.mode loose (sym is), nothing_goes mid low whole u)
 
   -- ---- its answer
-
-  pub first_refused : (e : Error) (s t : PagerState N E) → PinsFirst v s h (Err e) t → PinsOver v s h (Err e) t
-  first_refused e s t p = record { pins = tt; refused = inl p.refused }
-
-  pub shares_it : {X : Type 0} (see : X → N) (k : HandleNumber) (was : Bool) (x : X) (s t : PagerState N E) → PinsFirst v s h (Ok (k, was)) t → Shares see t k (Ok (Some x)) → PinsOver v s h (Ok (k, see x)) t
-  shares_it see k was x s t p shares = let f = shares.given.found in record { pins = (p.pinned.0, record { row = f.0; live = f.1; held = f.2.1 }); refused = tt }
 
   pub taken_back : (k : HandleNumber) (was : Bool) (s mid t : PagerState N E) → PinsFirst v s h (Ok (k, was)) mid → TakesBack v was h k mid t → PinsOver v s h (Err Error.OutOfMemory) t
   taken_back k was s mid t p b =

@@ -1,12 +1,14 @@
 -- What a step's call did is what the step is said to do.
 use Rattle.std.proofs.Common.{◌≡◌, ℕ, ◌+◌, ◌<◌, ◌≤◌, List, [], ◌∷◌, ◌++◌, length, true, false, Option, Some, None, Result, Ok, Err, inl, inr, refl, ap, sym, subst, ◌∙◌, arith}
-use Rattle.{std.{proofs.lemmas.Bool.Decides.nat_tests, specs.Prelude.not}, pagable_model.specs.{declared.{error.Error.Error, numbers.{ArcRef.ArcRef, HandleNumber.HandleNumber, Kind.Kind}}, Blob.Blob}}
+use Rattle.{std.{proofs.lemmas.{Bool.Decides.nat_tests, Grind.common_steps}, specs.Prelude.not}, pagable_model.specs.{declared.{error.Error.Error, numbers.{ArcRef.ArcRef, HandleNumber.HandleNumber, Kind.Kind}}, Blob.Blob}}
 use Rattle.{pagable_model.specs.Deep.longest_path, pagable_world.specs.{declared.{events.LoadAnswer.LoadAnswer, handles.Owner.Owner, calls.Want.Want}, Kinds.is_owner, Plain.if_there, World.Core}}
 use Rattle.pagable_world.specs.{World.{Root, of_cell, of_key, OpenLoad, Frame, Reading, Values}, Refusals.{OwnsLoad, refused_if, load_fault}, LoadCalls.{from_store, AskCall, AdoptCall, EndCall}}
 use Rattle.pagable_world.specs.{LoadCalls.{HandOverCall, DropCall, LoadCloses}, Loads.{need_of, needs_nested, needs_lazy, root_frame, nested_frame, with_got, handles_of, MakesNode, ReadsNode}}
 use Rattle.pagable_world.specs.{Loads.{ReadsRoot, LoadIs, IsOfCell, IsOfKey, Meets, Does}, Pager.{PagerState, Moves, ReadingBrings, IsNewNode, IsCellOf}, Access.{Told, Called, ReadingStep}}
-use Rattle.pagable_loads.specs.{Telling.{Brings, IsMade, AsksFor, TakesLazily, AdoptsValue}, Frames.{frame_of, frames_of, onto, reading_of, is_cell, IsLoadOf}, Stepping.{Met, Tries, Steps, Drops}}
+use Rattle.pagable_loads.specs.{Telling.{Tells, Brings, IsMade, AsksFor, TakesLazily, AdoptsValue}, Frames.{frame_of, frames_of, onto, reading_of, is_cell, IsLoadOf}, Stepping.{Met, Tries, Steps, Drops}}
 use Rattle.{pagable_loads.{specs.declared.reading.{Frame.Frame as Held, Reading.Reading as Own}, proofs.Needed.length_onto}, either.specs.declared.Either.Either}
+
+-- ---- what is told
 
 module _ {S : Type 0} where
   pub told_map : {o n : Option S} {R Q : S → S → Type 0} → ((s t : S) → R s t → Q s t) → Told o n R → Told o n Q
@@ -15,12 +17,37 @@ module _ {S : Type 0} where
   pub told_then : {o n m : Option S} {R T Q : S → S → Type 0} → ((s mid t : S) → R s mid → T mid t → Q s t) → Told o n R → Told n m T → Told o m Q
   told_then {o} {n} {m} f h k = grind (arith, nat_tests)
 
+  pub tells_both : {o : Option S} {P Q R : S → Type 0} → ((s : S) → P s → Q s → R s) → Tells o P → Tells o Q → Tells o R
+  tells_both {o} f h k = grind (arith, nat_tests, common_steps)
+
+  pub tells_map : {o : Option S} {P Q : S → Type 0} → ((s : S) → P s → Q s) → Tells o P → Tells o Q
+  tells_map f h = tells_both (λ s p q. f s p) h h
+
+  pub tells_all : {o : Option S} {P : S → Type 0} → ((s : S) → P s) → Tells o P
+  tells_all {o} {P} f = grind (arith, nat_tests, common_steps)
+
+  -- of one state that stays
+  pub told_same : {o : Option S} {R : S → S → Type 0} → Tells o (λ s. R s s) → Told o o R
+  told_same {o} {R} h = grind (arith, nat_tests, common_steps)
+
+  pub told_all : {o : Option S} {R : S → S → Type 0} → ((s : S) → R s s) → Told o o R
+  told_all f = told_same (tells_all f)
+
+  -- beside the first of two states
+  pub told_from : {o n : Option S} {P : S → Type 0} {R Q : S → S → Type 0} → ((s t : S) → P s → R s t → Q s t) → Tells o P → Told o n R → Told o n Q
+  told_from {o} {n} {P} {R} {Q} f h k = grind (arith, nat_tests, common_steps)
+
+-- ---- which values come
+
+pub none_comes : {N E : Type 0} {comes : ℕ → N → Type 0} {s t : PagerState N E} → Moves (λ n x. ⊥) s t → Moves comes s t
+none_comes m = record { each = λ n x is. elim (m.each n x is) [ inl was ↦ inl was | inr came ↦ absurd came.1 ]; environment = m.environment }
+
+pub moves_then : {N E : Type 0} {comes : ℕ → N → Type 0} {s mid t : PagerState N E} → Moves comes s mid → Moves (λ n x. ⊥) mid t → Moves comes s t
+moves_then m k = record { each = λ n x is. elim (k.each n x is) [ inl was ↦ m.each n x was | inr came ↦ absurd came.1 ]; environment = k.environment ∙ m.environment }
+
 module _ {N : Type 0} (E : Type 0) (v : Values N) (me : Owner) (own : Own) where
   abbrev reading : Reading
   reading = reading_of own
-
-  none_comes : {comes : ℕ → N → Type 0} {s t : PagerState N E} → Moves (λ n x. ⊥) s t → Moves comes s t
-  none_comes {s = s} m = record { each = λ n x is. elim (m.each n x is) [ inl was ↦ inl was | inr came ↦ absurd came.1 ]; environment = m.environment }
 
   comes_as : {comes other : ℕ → N → Type 0} {s t : PagerState N E} → ((n : ℕ) (x : N) → comes n x → other n x) → Moves comes s t → Moves other s t
   comes_as f m = record { each = λ n x is. elim (m.each n x is) [ inl was ↦ inl was | inr (none, came) ↦ inr (none, f n x came) ]; environment = m.environment }
@@ -178,9 +205,6 @@ module _ {N : Type 0} (E : Type 0) (v : Values N) (me : Owner) (own : Own) where
   stays_open w w' e (inr (inr (inr (inr (inl r))))) = r.adopted.refused.1.stays.loads own.load.0
   stays_open w w' e (inr (inr (inr (inr (inr r))))) = elim r.refuses [ inl (is, ended) ↦ ended.refused.1.stays.loads own.load.0 | inr (is, handed) ↦ handed.refused.1.loads own.load.0 ]
 
-  no_moves : {comes : ℕ → N → Type 0} {s mid t : PagerState N E} → Moves comes s mid → Moves (λ n x. ⊥) mid t → Moves comes s t
-  no_moves m k = record { each = λ n x is. elim (k.each n x is) [ inl was ↦ m.each n x was | inr came ↦ absurd came.1 ]; environment = k.environment ∙ m.environment }
-
   closes : (mid t : Core) (told : Result (Unit {0}) Error) (load : OpenLoad) → OwnsLoad mid me own.load load → DropCall mid me own.load told t → LoadCloses mid own.load told t
   closes mid t told load o d = grind (arith, nat_tests, usable_load)
 
@@ -191,7 +215,7 @@ module _ {N : Type 0} (E : Type 0) (v : Values N) (me : Owner) (own : Own) where
         let open_load : OwnsLoad mid.core me own.load o.load = record { stands_open = stays_open s.core mid.core e m.meets ∙ o.owned.stands_open; own = o.owned.own } in
         record {
           does = record { does = (inl (record { mid = mid.core; meets = m.meets; told = d.told; closes = closes mid.core t.core d.told o.load open_load d.call.step }), is) };
-          moves = no_moves m.moves d.call.moves;
+          moves = moves_then m.moves d.call.moves;
           whole = d.call.whole;
         };
   }

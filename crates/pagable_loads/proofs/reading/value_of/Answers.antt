@@ -1,4 +1,4 @@
-use Rattle.{pagable_loads.proofs.Lent.{tells_map, not_shared}, std.specs.Arc.arc_value}
+use Rattle.{pagable_loads.proofs.{Lent.not_shared, Stepped.tells_map}, std.specs.Arc.arc_value}
 use Rattle.pagable_loads.proofs.reading.value_of.Goals as goal
 
 pub returns-in-Err-clause-lends : goal.returns-in-Err-clause-lends
