@@ -25,7 +25,6 @@ VECTORS = TOP / "crates" / "vectors" / "out" / "vectors"
 PAGE = TOP / "docs" / "PROOFS.md"
 BEGIN, END = "<!-- table -->", "<!-- end of the table -->"
 ROWS = ["numbers", "bytes", "texts", "maps", "ordered", "cells", "items", "trees", "cell_trees"]
-TIMES = re.compile(r"(\w+) (\d+) bytes write ([\d.]+) s \d+ MiB/s(?: read ([\d.]+) s \d+ MiB/s)?")
 TUNED = {"CARGO_PROFILE_RELEASE_LTO": "fat", "CARGO_PROFILE_RELEASE_CODEGEN_UNITS": "1", "RUSTFLAGS": "-C target-cpu=x86-64-v2"}
 
 
@@ -56,14 +55,6 @@ def words_of(program, forms, row, runs):
     return [program, "time", row, str(runs)] if program == VECTORS else [program, row, forms / row, str(runs)]
 
 
-def timed(words, best):
-    """Runs a row, and keeps the least times of writing and of reading."""
-    found = TIMES.match(output(words))
-    best["bytes"] = int(found[2])
-    best["write"] = min(best.get("write", float("inf")), float(found[3]))
-    best["read"] = min(best.get("read", float("inf")), float(found[4]))
-
-
 def peak(words):
     """The peak of memory in KiB. GNU time stands between, since a child's peak counts the memory of whoever forked it."""
     ran = subprocess.run(["env", "time", "-f", "%M", *words], check=True, text=True, capture_output=True)
@@ -71,22 +62,22 @@ def peak(words):
 
 
 def measured(programs, forms, row, rounds):
-    best = [{} for _ in programs]
+    """The least times of each program's writing and reading, and the peaks here and of the original."""
+    times = [[] for _ in programs]
     for _ in range(rounds):
-        for program, mine in zip(programs, best):
-            timed(words_of(program, forms, row, 5), mine)
-    for program, mine in zip(programs, best):
-        mine["peak"] = peak(words_of(program, forms, row, 1))
-    return best
+        for program, mine in zip(programs, times):
+            _, _, write, _, _, read, _ = output(words_of(program, forms, row, 5)).split()
+            mine.append((float(write), float(read)))
+    best = [[min(those) for those in zip(*mine)] for mine in times]
+    return best, [peak(words_of(program, forms, row, 1)) for program in programs[:2]]
 
 
 def lines(rows):
     yield "| Row | Write, here | Original | With LTO | Read, here | Original | With LTO | Peak of memory, here | Original |"
     yield "|---|---|---|---|---|---|---|---|---|"
-    for row, best in rows.items():
-        times = [f"{one[what] * 1000:.2f} ms" for what in ("write", "read") for one in best]
-        peaks = [f"{one['peak'] / 1024:.1f} MiB" for one in best[:2]]
-        yield f"| `{row}` | {' | '.join(times + peaks)} |"
+    for row, (best, peaks) in rows.items():
+        cells = [f"{one[what] * 1000:.2f} ms" for what in (0, 1) for one in best] + [f"{one / 1024:.1f} MiB" for one in peaks]
+        yield f"| `{row}` | {' | '.join(cells)} |"
 
 
 def machine():

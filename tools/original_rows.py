@@ -12,7 +12,11 @@ The original's own bytes check `form`: a line that it wrote and `form` doesn't g
 """
 import itertools
 import json
+import re
 import sys
+
+sys.dont_write_bytecode = True
+from plain_pager import varint
 
 # The types whose lines are replayed, all of which `vectors` knows.
 CARRIED = [
@@ -64,36 +68,13 @@ def split(text):
 
 def inside(name, *outer):
     """The type parameters of `outer<..>`, or None where the name is another type's."""
-    for word in outer:
-        if name.startswith(word + "<") and name.endswith(">"):
-            return split(name[len(word) + 1:-1])
-    return None
+    word, _, rest = name.partition("<")
+    return split(rest[:-1]) if word in outer else None
 
 
-def varint(number):
-    out = b""
-    while number >= 128:
-        out += bytes([128 + number % 128])
-        number //= 128
-    return out + bytes([number])
-
-
-def item_of(name):
-    """The type of a list's items, or None where the name is no list's."""
-    if part := inside(name, "Vec", "BTreeSet", "IndexSet"):
-        return part[0]
-    if name.startswith("SmallVec<["):
-        return name[len("SmallVec<["):].rsplit(";", 1)[0]
-    if name.startswith("Box<["):
-        return name[len("Box<["):-2]
-    return name[1:-1] if name == "[i32]" else None
-
-
-def items_of(name):
-    """The type of the items of an array or a lent slice, which have no count; None where the name is neither's."""
-    if name.startswith("&["):
-        return name[2:-1]
-    return name[1:-1].rsplit(";", 1)[0] if name.startswith("[") else None
+# The type of the items of a list; of an array or a lent slice, which have no count.
+LIST = re.compile(r"(?:Vec|BTreeSet|IndexSet)<(.*)>$|SmallVec<\[(.*);\d+\]>$|Box<\[(.*)\]>$|\[(i32)\]$")
+ARRAY = re.compile(r"&\[(.*)\]$|\[(.*);\d+\]$")
 
 
 def json_form(value):
@@ -132,10 +113,9 @@ def form(name, value):
         return b"\x00" if value is None else b"\x01" + form(part[0], value["some"])
     if parts := inside(name, "Result"):
         return b"\x01" + form(parts[0], value["ok"]) if "ok" in value else b"\x00" + form(parts[1], value["err"])
-    if part := item_of(name):
-        return varint(len(value)) + b"".join(form(part, item) for item in value)
-    if part := items_of(name):
-        return b"".join(form(part, item) for item in value)
+    if found := LIST.match(name) or ARRAY.match(name):
+        count = varint(len(value)) if found.re is LIST else b""
+        return count + b"".join(form(found[found.lastindex], item) for item in value)
     if part := inside(name, "Box"):
         return form(part[0], value)
     if name.startswith("("):
@@ -153,29 +133,21 @@ def forms(name, value):
     return [form("Index" + name[4:], list(order)) for order in itertools.permutations(value)]
 
 
+def value_of(data):
+    return sum((byte % 128) << 7 * place for place, byte in enumerate(data))
+
+
 def may_be_too_long(data):
     """Whether a number above the greatest length begins anywhere in the input."""
-    for start in range(len(data)):
-        number = 0
-        for place, byte in enumerate(data[start:start + 10]):
-            number += (byte % 128) << (7 * place)
-            if byte < 128:
-                break
-        if number > LONGEST:
-            return True
-    return False
-
-
-def has_length(name):
-    """Whether a length is read anywhere in values of the type."""
-    return any(word in name for word in ("String", "Vec", "str", "char", "Map", "Set", "Path", "Regex", "Json", "Box<["))
+    return any(value_of(number) > LONGEST for number in re.findall(rb"(?=([\x80-\xff]{0,9}[\0-\xff]?))", data))
 
 
 def is_compared(name, line):
     """Whether what the original makes of an input is to be compared: its JSON numbers are others, its char takes the first of
     several, and it knows no length that is too long."""
     data = bytes.fromhex(line["input_hex"])
-    if line["result"] not in ("ok", "err") or ("Json" in name and 2 in data) or (has_length(name) and may_be_too_long(data)):
+    has_length = any(word in name for word in ("String", "Vec", "str", "char", "Map", "Set", "Path", "Regex", "Json", "Box<["))
+    if line["result"] not in ("ok", "err") or ("Json" in name and 2 in data) or (has_length and may_be_too_long(data)):
         return False
     if line["result"] == "err":
         return line["class"] in REFUSALS and ("char" not in name or name == "char")
@@ -240,10 +212,6 @@ def bounds(name, rows):
     return list(dict.fromkeys(pair[1:] for (length, _), pairs in best.items() if length < 4 or length == longest for pair in pairs))
 
 
-def value_of(data):
-    return sum((byte % 128) << 7 * place for place, byte in enumerate(data))
-
-
 def rows_of(name, lines):
     """The picked rows of a type."""
     made = {"enc": {}, "dec": {}}
@@ -275,17 +243,14 @@ def print_lines(word, start, rows):
             print("; ".join(answer for _data, answer in line))
 
 
-def blob_row(blob):
-    return (blob["data_hex"] or "-") + (":" + ",".join(blob["arcs"]) if blob["arcs"] else ""), blob["key"]
-
-
 def main():
     word, path = sys.argv[1:]
     lines, blobs = {}, {}
     with open(path, encoding="utf-8") as texts:
         for line in map(json.loads, texts):
             if line["op"] == "blob" and line["hash"] == "weigh":
-                blobs.update(dict.fromkeys(map(blob_row, line["blobs"])))
+                for blob in line["blobs"]:
+                    blobs[(blob["data_hex"] or "-") + ":" * bool(blob["arcs"]) + ",".join(blob["arcs"]), blob["key"]] = None
             elif line.get("type") in CARRIED and not line.get("differs"):
                 lines.setdefault(line["type"], []).append(line)
     if word == "data":

@@ -1,6 +1,6 @@
 //! The rows of `vectors time` on the Rust crate `pagable`: `speed ROW FILE RUNS` reads the value that stands in FILE and writes it again, by that
-//! crate's own calls, or pages out what a row of cells or of items makes and reads it back, and prints the shortest times as `vectors time` does. `tools/compare_speed.py` puts this file among the examples of a copy
-//! of that crate, builds it there, and makes the files.
+//! crate's own calls, or pages out what a row of cells or of items makes and reads it back, and prints the shortest times as `vectors time` does.
+//! `tools/compare_speed.py` puts this file among the examples of a copy of that crate, builds it there, and makes the files.
 
 use std::collections::BTreeMap;
 use std::hint::black_box;
@@ -16,26 +16,8 @@ use pagable::storage::in_memory::InMemoryPagableStorage;
 use pagable::storage::support::SerializerForPaging;
 use pagable::traits::{PagableDeserialize, PagableSerialize};
 
-/// How many bytes were written, and the shortest times.
-struct Outcome {
-    bytes: usize,
-    write_time: Duration,
-    read_time: Duration,
-}
-
-/// What a call gave at its last run, and its shortest time.
-fn timed<T>(runs: u64, mut call: impl FnMut() -> T) -> (T, Duration) {
-    let start = Instant::now();
-    let mut last = black_box(call());
-    let mut best = start.elapsed();
-    for _ in 1..runs {
-        let start = Instant::now();
-        let made = black_box(call());
-        best = best.min(start.elapsed());
-        last = made;
-    }
-    (last, best)
-}
+/// How long writing took, and reading.
+type Times = (Duration, Duration);
 
 fn read<T: for<'a> PagableDeserialize<'a>>(form: &[u8]) -> T {
     let storage = InMemoryPagableStorage::new();
@@ -44,22 +26,22 @@ fn read<T: for<'a> PagableDeserialize<'a>>(form: &[u8]) -> T {
     T::pagable_deserialize(&mut source).unwrap()
 }
 
-fn codec<T>(form: &[u8], runs: u64) -> Outcome
-where
-    T: PagableSerialize + for<'a> PagableDeserialize<'a>,
-{
-    let (value, read_time) = timed(runs, || read::<T>(form));
-    let (bytes, write_time) = timed(runs, || {
-        let mut out = PagableSerializerImpl::testing_new();
-        value.pagable_serialize(&mut out).unwrap();
-        out.finish().unwrap().data
-    });
+/// The value that is read has to be written alike.
+fn codec<T: PagableSerialize + for<'a> PagableDeserialize<'a>>(form: &[u8]) -> Times {
+    let start = Instant::now();
+    let value = black_box(read::<T>(form));
+    let read_time = start.elapsed();
+    let start = Instant::now();
+    let mut out = PagableSerializerImpl::testing_new();
+    value.pagable_serialize(&mut out).unwrap();
+    let bytes = black_box(out.finish().unwrap().data);
+    let write_time = start.elapsed();
     assert!(bytes == form, "another form is written");
-    Outcome { bytes: bytes.len(), write_time, read_time }
+    (write_time, read_time)
 }
 
 /// A node of a tree, written as `vectors` writes its own: a byte, references to values of its own type, and to texts.
-#[derive(pagable::Pagable)]
+#[derive(Default, pagable::Pagable)]
 struct Node {
     tag: u8,
     shared: Vec<Arc<Node>>,
@@ -69,45 +51,27 @@ struct Node {
     names: Vec<Arc<String>>,
 }
 
-impl Node {
-    fn new(shared: Vec<Arc<Node>>, loose: Vec<PagableArc<Node>>, name: String) -> Node {
-        Node { tag: 0, shared, loose, pinned: vec![], loose_names: vec![], names: vec![Arc::new(name)] }
-    }
-}
-
-/// How many nodes each level of a tree has, from its root on.
-const WIDTHS: [usize; 10] = [1, 2, 4, 8, 16, 32, 64, 64, 64, 64];
-
-/// The two nodes below the one of this place.
-fn kids<T: Clone>(below: &[T], place: usize) -> Vec<T> {
-    (0..2).filter_map(|next| below.get((2 * place + next) % below.len().max(1)).cloned()).collect()
-}
-
-fn name(tree: usize, level: usize, place: usize) -> String {
-    format!("tree {tree} level {level} node {place}")
-}
-
-fn tree(tree: usize) -> Node {
-    let mut below = Vec::new();
-    for level in (1..WIDTHS.len()).rev() {
-        let node = |place| Arc::new(Node::new(kids(&below, place), vec![], name(tree, level, place)));
-        below = (0..WIDTHS[level]).map(node).collect::<Vec<_>>();
-    }
-    Node::new(kids(&below, 0), vec![], name(tree, 0, 0))
-}
-
-fn cell_tree(tree: usize, handle: &PagableStorageHandle) -> PagableArc<Node> {
-    let mut below = Vec::new();
-    for level in (0..WIDTHS.len()).rev() {
-        let node = |place| PagableArc::new(Node::new(vec![], kids(&below, place), name(tree, level, place)), handle.clone());
-        below = (0..WIDTHS[level]).map(node).collect::<Vec<_>>();
-        below.iter().for_each(PagableArc::unpin);
+/// The root of a tree of ten levels: each node gets the two below it, from its place on, and a text of its own.
+fn tree<T: Clone>(tree: usize, mut node: impl FnMut(Vec<T>, Arc<String>) -> T) -> T {
+    let mut below: Vec<T> = Vec::new();
+    for level in (0..10).rev() {
+        let lower: &Vec<T> = &below;
+        let kids = |place: usize| (0..2).filter_map(move |next| lower.get((2 * place + next) % lower.len().max(1)).cloned()).collect();
+        let name = |place| Arc::new(format!("tree {tree} level {level} node {place}"));
+        below = (0..1 << usize::min(level, 6)).map(|place| node(kids(place), name(place))).collect();
     }
     below.remove(0)
 }
 
+/// A cell that waits for its page-out.
+fn cell<T: pagable::Pagable>(handle: &PagableStorageHandle, value: T) -> PagableArc<T> {
+    let cell = PagableArc::new(value, handle.clone());
+    cell.unpin();
+    cell
+}
+
 /// Page-out of the cells that wait, and the time of their loads.
-fn out_and_in<T: pagable::Pagable>(mut storage: InMemoryPagableStorage, cells: Vec<PagableArc<T>>) -> (Duration, Duration) {
+fn out_and_in<T: pagable::Pagable>(mut storage: InMemoryPagableStorage, cells: Vec<PagableArc<T>>) -> Times {
     let start = Instant::now();
     storage.page_out_pending();
     let write_time = start.elapsed();
@@ -119,7 +83,7 @@ fn out_and_in<T: pagable::Pagable>(mut storage: InMemoryPagableStorage, cells: V
 }
 
 /// Page-out of lists of eight references to 2,000 texts, on one table, and the time in which their keys are read.
-fn items(storage: &InMemoryPagableStorage, handle: &PagableStorageHandle, count: usize) -> (Duration, Duration) {
+fn items(storage: &InMemoryPagableStorage, handle: &PagableStorageHandle, count: usize) -> Times {
     let texts: Vec<Arc<String>> = (0..2_000).map(|number| Arc::new(format!("shared text number {number}"))).collect();
     let mut state = 8u64;
     let mut draw = || {
@@ -156,40 +120,33 @@ fn items(storage: &InMemoryPagableStorage, handle: &PagableStorageHandle, count:
 }
 
 /// A row of values that refer to others, or of lone texts, in a new storage.
-fn graph(row: &str) -> (Duration, Duration) {
+fn graph(row: &str) -> Times {
     let storage = InMemoryPagableStorage::new();
     let handle = PagableStorageHandle::new(storage.handle());
     match row {
-        "cells" => {
-            let cells: Vec<_> = (0..10_000).map(|number| PagableArc::new(format!("the text of cell number {number}"), handle.clone())).collect();
-            cells.iter().for_each(PagableArc::unpin);
-            out_and_in(storage, cells)
-        }
+        "cells" => out_and_in(storage, (0..10_000).map(|number| cell(&handle, format!("the text of cell number {number}"))).collect()),
         "items" => items(&storage, &handle, 20_000),
         "trees" => {
-            let roots: Vec<_> = (0..30).map(|number| PagableArc::new(tree(number), handle.clone())).collect();
-            roots.iter().for_each(PagableArc::unpin);
-            out_and_in(storage, roots)
+            let shared = |number| tree(number, |shared, name| Arc::new(Node { shared, names: vec![name], ..Node::default() }));
+            out_and_in(storage, (0..30).map(|number| cell(&handle, Arc::into_inner(shared(number)).unwrap())).collect())
         }
-        _ => {
-            let roots = (0..30).map(|number| cell_tree(number, &handle)).collect();
-            out_and_in(storage, roots)
+        "cell_trees" => {
+            let loose = |number| tree(number, |loose, name| cell(&handle, Node { loose, names: vec![name], ..Node::default() }));
+            out_and_in(storage, (0..30).map(loose).collect())
         }
+        _ => panic!("no such row: {row}"),
     }
 }
 
-fn graphs(row: &str, runs: u64) -> Outcome {
-    let (mut write_time, mut read_time) = graph(row);
-    for _ in 1..runs {
-        let again = graph(row);
-        (write_time, read_time) = (write_time.min(again.0), read_time.min(again.1));
+fn once(row: &str, form: &[u8]) -> Times {
+    match row {
+        "numbers" => codec::<Vec<u64>>(form),
+        "bytes" => codec::<Vec<u8>>(form),
+        "texts" => codec::<Vec<String>>(form),
+        "maps" => codec::<BTreeMap<u64, BTreeMap<u64, u64>>>(form),
+        "ordered" => codec::<IndexMap<String, u32>>(form),
+        _ => graph(row),
     }
-    Outcome { bytes: 0, write_time, read_time }
-}
-
-fn speed(bytes: usize, took: Duration) -> String {
-    let speed = bytes as u128 * 1_000_000_000 / took.as_nanos().max(1) / 1_048_576;
-    format!("{}.{:06} s {speed} MiB/s", took.as_secs(), took.subsec_micros())
 }
 
 fn main() {
@@ -200,17 +157,8 @@ fn main() {
         eprintln!("usage: speed ROW FILE RUNS");
         std::process::exit(2);
     };
-    let runs = runs.parse().unwrap();
     let form = std::fs::read(file).unwrap_or_default();
-    let made = match row.as_str() {
-        "numbers" => codec::<Vec<u64>>(&form, runs),
-        "bytes" => codec::<Vec<u8>>(&form, runs),
-        "texts" => codec::<Vec<String>>(&form, runs),
-        "maps" => codec::<BTreeMap<u64, BTreeMap<u64, u64>>>(&form, runs),
-        "ordered" => codec::<IndexMap<String, u32>>(&form, runs),
-        "cells" | "items" | "trees" | "cell_trees" => graphs(row, runs),
-        _ => panic!("no such row: {row}"),
-    };
-    let write = speed(made.bytes, made.write_time);
-    println!("{row} {} bytes write {write} read {}", made.bytes, speed(made.bytes, made.read_time));
+    let runs = (0..runs.parse::<u64>().unwrap()).map(|_| once(row, &form));
+    let (write, read) = runs.reduce(|best, again| (best.0.min(again.0), best.1.min(again.1))).unwrap();
+    println!("{row} write {:.6} s read {:.6} s", write.as_secs_f64(), read.as_secs_f64());
 }

@@ -3,6 +3,7 @@ them by plain_rows.py. What can be counted or looked up is counted and looked up
 
 import hashlib
 from dataclasses import dataclass, field
+from functools import partialmethod
 
 UNEXPECTED_END, BAD_VARINT, BAD_BOOL, BAD_UTF8, TOO_LONG, TOO_DEEP = 1, 2, 3, 4, 6, 7
 NO_MORE_KEYS, NO_DATA, WRONG_KIND, NO_SUCH_HANDLE, WRONG_MODE, NOT_YOURS = 15, 16, 17, 18, 19, 20
@@ -42,14 +43,14 @@ def is_lazy(kind):
     return kind % 3 == 1
 
 
-def mode_of(kind):
-    """The mode of the handles that a reading makes for references of a kind."""
-    return (SHARED, LOOSE_UNPINNED, PINNED)[kind % 3]
-
-
 def modes_of(kind):
     """The modes that a handle may have where a reference of the kind names it."""
     return ((SHARED,), LOOSE, (PINNED,))[kind % 3]
+
+
+def mode_of(kind):
+    """The mode of the handles that a reading makes for references of a kind."""
+    return modes_of(kind)[-1]
 
 
 @dataclass
@@ -84,7 +85,11 @@ class Value:
 
 
 def varint(number):
-    return bytes([number]) if number < 128 else bytes([number % 128 + 128]) + varint(number >> 7)
+    out = bytearray()
+    while number >= 128:
+        out.append(number % 128 + 128)
+        number //= 128
+    return bytes([*out, number])
 
 
 class Bytes:
@@ -209,7 +214,6 @@ class Cell:
     node_type: int
     key: int
     value: Value
-    shared: bool = False
 
 
 @dataclass
@@ -245,28 +249,12 @@ class Slot:
         return self.key is None and not self.failed
 
 
-@dataclass
-class Begun:
-    load: int
-    key: int
-
-    def text(self):
-        return f"load {self.load} {self.key}"
-
-
-@dataclass
-class Needs:
-    key: int
-
-    def text(self):
-        return f"needs {self.key}"
-
-
 class Tables:
     """Cells, handles, the list, the cache and open loads by their numbers, and the steps that calls share."""
 
     def __init__(self, storage):
         self.storage, self.closed = storage, storage.closed
+        self.fetch, self.store, self.flush = storage.fetch, storage.store, storage.called
         self.cells, self.handles, self.loads, self.cache, self.list = {}, {}, {}, {}, []
         self.last_node = self.last_handle = self.last_load = 0
         # Who calls: the caller, or a worker in its steps.
@@ -385,8 +373,8 @@ class Tables:
             self.fall(handle)
 
 
-class Loads(Tables):
-    """The calls on loads."""
+class Pager(Tables):
+    """The calls, a method for each: first those on loads."""
 
     def load_begin(self, number):
         handle = self.own(number, *LOOSE)
@@ -396,13 +384,13 @@ class Loads(Tables):
         self.last_load += 1
         self.give(handle.node, LOOSE_UNPINNED, ("load", self.last_load))
         self.loads[self.last_load] = Load(self.me, number, handle.node, cell.key, cell.node_type)
-        return Begun(self.last_load, cell.key)
+        return "load", self.last_load, cell.key
 
     def load_key(self, key, node_type=None):
         """The type of the root is known to a machine alone."""
         self.last_load += 1
         self.loads[self.last_load] = Load(self.me, None, None, key, node_type)
-        return Begun(self.last_load, key)
+        return "load", self.last_load, key
 
     def load_fetch(self, load, kind=None, key=None):
         """The root's blob, if no kind is told. Else a handle of what the cache has, or the blob under the key."""
@@ -424,8 +412,7 @@ class Loads(Tables):
             number = self.give(node, mode_of(kind), owner)
             self.drop(value)
             return number
-        shared = mode_of(kind) == SHARED
-        number = self.bear(Cell(value.node_type, None if shared else key, value, shared), mode_of(kind), owner)
+        number = self.bear(Cell(value.node_type, None if mode_of(kind) == SHARED else key, value), mode_of(kind), owner)
         self.record(kind, key, number)
         return number
 
@@ -473,22 +460,15 @@ class Loads(Tables):
         self.open(load)
         self.close_load(load)
 
-
-class Pager(Loads):
-    """The other calls, a method for each."""
+    # ---- the other calls
 
     def birth(self, value, mode):
         refuse_first([self.cause_of_references(CALLER, value.references)], back=True)
-        return self.bear(Cell(value.node_type, None, value, mode == SHARED), mode)
+        return self.bear(Cell(value.node_type, None, value), mode)
 
-    def new_loose(self, value):
-        return self.birth(value, LOOSE_PINNED)
-
-    def new_pinned(self, value):
-        return self.birth(value, PINNED)
-
-    def new_shared(self, value):
-        return self.birth(value, SHARED)
+    new_loose = partialmethod(birth, mode=LOOSE_PINNED)
+    new_pinned = partialmethod(birth, mode=PINNED)
+    new_shared = partialmethod(birth, mode=SHARED)
 
     def new_paged_out(self, node_type, key):
         return self.bear(Cell(node_type, key, None), LOOSE_UNPINNED)
@@ -500,7 +480,7 @@ class Pager(Loads):
     def pin(self, number):
         handle = self.own(number, *LOOSE)
         if self.is_away(handle.node):
-            return Needs(self.cells[handle.node].key)
+            return "needs", self.cells[handle.node].key
         return self.pin_through(handle)
 
     def unpin(self, number):
@@ -582,16 +562,6 @@ class Pager(Loads):
     def cache_clear(self):
         self.cache = {}
 
-    def fetch(self, key):
-        return self.storage.fetch(key)
-
-    def store(self, blob):
-        return self.storage.store(blob)
-
-    def flush(self):
-        """The storage has nothing to do, but it is called."""
-        self.storage.called()
-
     def reserve(self, count):
         """There is room for any number."""
 
@@ -618,22 +588,6 @@ class Frame:
             return end.value
 
 
-@dataclass
-class Took:
-    """What a worker's step answers: its kind, whom it was about, what its call answered, and how the worker ended if it did. Waiting and the
-    steps of a load aren't counted."""
-
-    kind: str
-    identity: object
-    told: object = ""
-    end: object = None
-    counts: bool = True
-
-    def text(self):
-        identity = ":".join(map(str, self.identity or ()))
-        return " ".join(filter(None, [self.kind, identity, str(self.told)])) + ("" if self.end is None else f" -> {'ok ' if isinstance(self.end, int) else ''}{self.end}")
-
-
 class Stopped(Exception):
     """A worker stops, by its own refusal or another worker's failure: what it will answer."""
 
@@ -652,11 +606,17 @@ class Worker:
 
     def step(self):
         self.pager.me = self.me
-        took = next(self.walk)
+        text, counts, self.is_done = next(self.walk)
         self.pager.me = CALLER
-        self.steps += took.counts
-        self.is_done = took.end is not None
-        return f"{self.steps} {took.text()}"
+        self.steps += counts
+        return f"{self.steps} {text}"
+
+    @staticmethod
+    def took(kind, identity, told="", end=None, counts=True):
+        """A step: in words its kind, whom it was about, what its call answered, and how the worker ended if it did; whether it counts, as waiting and
+        the steps of a load don't; and whether it was the last."""
+        words = " ".join(filter(None, [kind, ":".join(map(str, identity or ())), str(told)]))
+        return words + ("" if end is None else f" -> {'ok ' if isinstance(end, int) else ''}{end}"), counts, end is not None
 
     def guarded(self, walk):
         """After a step that was refused, or a claim that met a failure, comes one that fails what this worker claimed and holds."""
@@ -664,16 +624,16 @@ class Worker:
             yield from walk
         except Stopped as stopped:
             self.fail()
-            yield Took("fail", None, end=stopped)
+            yield self.took("fail", None, end=stopped)
 
     def do(self, kind, identity, call, counts=True, is_last=False):
         """One step, which makes a call and tells what it answers; what the walk uses of that comes back. A walk answers what its last step gives."""
         try:
             result, told = call()
         except Refused as refusal:
-            yield Took(kind, identity, f"refused {refusal.number}", counts=counts)
+            yield self.took(kind, identity, f"refused {refusal.number}", counts=counts)
             raise Stopped(f"failed {refusal.number}") from None
-        yield Took(kind, identity, told, result if is_last else None, counts and told != "waiting")
+        yield self.took(kind, identity, told, result if is_last else None, counts and told != "waiting")
         return result
 
     # ---- the order of steps
@@ -716,7 +676,7 @@ class Worker:
         """All steps of a claimed identity but the last: key and height."""
         identity = (kind, node)
         held = yield from self.do("pin", identity, lambda: self.pin(kind, node, number))
-        while isinstance(held, Begun):
+        while isinstance(held, tuple):
             held = yield from self.do("pin", identity, lambda: self.load_on(held), False)
         if number == self.entry:
             self.entry = None
@@ -758,13 +718,13 @@ class Worker:
         """A clone of the reference, or of the entry, and for a lazy one a pin of the clone, or the begin of its load."""
         own = self.clones[kind, node] = self.pager.clone(number)
         pinned = self.pager.pin(own) if is_lazy(kind) else own
-        if not isinstance(pinned, Needs):
+        if isinstance(pinned, int):
             return pinned, f"held {pinned}"
         begun = self.pager.load_begin(own)
-        return begun, f"load {begun.load}"
+        return begun, f"load {begun[1]}"
 
     def load_on(self, begun):
-        end = self.machine.load_step(begun.load).end
+        _, end = self.machine.load_step(begun[1])
         if isinstance(end, Refused):
             raise end
         return (begun, "went") if end is None else (end, f"held {end}")
@@ -804,22 +764,6 @@ class Worker:
             self.pager.schedule_for_paging(self.entry)
 
 
-@dataclass
-class Step:
-    """What a load's step answers: its count, and a handle, a value or a refusal if it ended the load."""
-
-    count: int
-    end: object = None
-
-    def text(self, spelled):
-        """In words; `spelled` tells a value."""
-        if self.end is None:
-            return f"more {self.count}"
-        if isinstance(self.end, int):
-            return f"pinned {self.count} {self.end}"
-        return f"refused {self.count} {self.end.number}" if isinstance(self.end, Refused) else f"read {self.count} = {spelled(self.end)}"
-
-
 class Machine:
     """A pager that is driven by events: a call, the begin of a load, a load's next step, a table of page-out, a worker on it, or a
     worker's next step."""
@@ -852,24 +796,19 @@ class Machine:
             raise Refused(NO_SUCH_HANDLE)
         return self.workers[number - 1].step()
 
-    def load_start(self, number):
-        return self.pager.load_begin(number)
-
-    def load_key(self, key, node_type):
-        return self.pager.load_key(key, node_type)
-
     def load_step(self, load):
-        """Every refusal of a step closes the load. The steps of a load that has no type for its root aren't counted."""
+        """How many steps there were, and a handle, a value or a refusal if this one ended the load, as each refusal does. A load that has no type for its
+        root makes none."""
         row = self.pager.open(load)
         if row.node_type is None:
             raise Refused(WRONG_MODE)
         row.steps += 1
         try:
-            return Step(row.steps, self.step(load, row))
+            return row.steps, self.step(load, row)
         except Refused as refusal:
             if load in self.pager.loads:
                 self.pager.close_load(load)
-            return Step(row.steps, Refused(refusal.number, refusal.told))
+            return row.steps, refusal
 
     def step(self, load, row):
         """Reads as far as the next fetch or adoption and does that one, or ends the load."""
@@ -902,12 +841,3 @@ class Machine:
             raise Refused(TOO_DEEP)
         else:
             row.frames.append(Frame(self.types.read(type_of(kind), found), kind, key))
-
-    def finish(self, load):
-        """Steps to the end of a load: what ended it."""
-        end = None
-        while end is None:
-            end = self.load_step(load).end
-        if isinstance(end, Refused):
-            raise end
-        return end

@@ -12,13 +12,19 @@ import random
 import sys
 
 sys.dont_write_bytecode = True
-from plain_pager import CALLER, LOOSE_PINNED, Begun, Blob, Machine, Needs, Pager, Refused, RowTypes, Step, Storage, Value, modes_of, type_of
+from plain_pager import CALLER, LOOSE_PINNED, Blob, Machine, Pager, Refused, RowTypes, Storage, Value, modes_of, type_of
+
+
+def references(words):
+    """References as they are spelled, each by kind, node and handle."""
+    return [tuple(map(int, word.split(":"))) for word in words.split(",") if word]
 
 
 class Rows:
     """Answers rows, over the machine that stands."""
 
-    EVENTS = {"start": "load_start", "read": "load_key", "step": "load_step", "table": "table_new", "listed": "worker_listed", "work": "worker_step"}
+    EVENTS = {"start": "load_begin", "read": "load_key", "step": "load_step", "table": "table_new", "item": "worker_item",
+              "listed": "worker_listed", "work": "worker_step"}
 
     def __init__(self):
         self.start("")
@@ -51,39 +57,40 @@ class Rows:
 
     def call(self, call):
         name, _, rest = call.partition(" ")
+        method = self.EVENTS.get(name, name)
         try:
-            if name == "item":
-                answer = self.machine.worker_item(*self.item(*rest.split(" ")))
-            elif name in self.EVENTS:
-                answer = getattr(self.machine, self.EVENTS[name])(*map(int, rest.split()))
-            else:
-                answer = getattr(self.pager, name)(*self.arguments(name, rest))
+            answer = getattr(self.machine if hasattr(self.machine, method) else self.pager, method)(*self.arguments(name, rest))
         except Refused as refusal:
             return refusal.text()
+        if name == "step":
+            return self.stepped(*answer)
         if isinstance(answer, Blob):
             return "0x" + answer.data.hex()
-        if isinstance(answer, Step):
-            return answer.text(self.spelled)
-        if isinstance(answer, (Begun, Needs)):
-            return answer.text()
+        if isinstance(answer, tuple):
+            return " ".join(map(str, answer))
         return "ok" if answer is None else f"ok {answer}" if isinstance(answer, int) else answer
 
+    def stepped(self, steps, end):
+        """A load's step, with what ended the load."""
+        if isinstance(end, Refused):
+            return f"refused {steps} {end.number}"
+        if isinstance(end, Value):
+            return f"read {steps} = {self.spelled(end)}"
+        return f"more {steps}" if end is None else f"pinned {steps} {end}"
+
     def arguments(self, name, rest):
-        """The numbers of a call, and the value or blob that stands last. A text may be empty and may hold spaces."""
-        if name == "store":
-            data, _, arcs = rest.partition(":")
-            return [Blob(bytes.fromhex(data.strip("-")), tuple(map(int, filter(None, arcs.split(",")))))]
+        """The numbers of a call, and the value, blob or item that stands last. A text may be empty and may hold spaces."""
+        if name in ("store", "item"):
+            *numbers, blob = rest.split(" ")
+            data, _, behind = blob.partition(":")
+            data = bytes.fromhex(data.strip("-"))
+            return [int(*numbers), data, references(behind)] if numbers else [Blob(data, tuple(map(int, filter(None, behind.split(",")))))]
         numbers = {"new_loose": 1, "new_pinned": 1, "new_shared": 1, "load_end": 2, "load_adopt": 4}.get(name)
         if numbers is None:
             return list(map(int, rest.split()))
         words = rest.split(" ", numbers) + [""]
         *others, node_type = map(int, words[:numbers])
         return others + [self.value(node_type, words[numbers])]
-
-    def item(self, table, spelled):
-        """Data and references, each by kind, node and handle."""
-        data, _, references = spelled.partition(":")
-        return int(table), bytes.fromhex(data.strip("-")), [tuple(map(int, word.split(":"))) for word in references.split(",") if word]
 
     def value(self, node_type, content):
         """A text, two bytes in hex, or references as `7:1:2,8:3:4`; before those of lists stand a byte and a stroke, if it isn't 0."""
@@ -92,8 +99,8 @@ class Rows:
         if node_type == RowTypes.BYTES:
             return Value(node_type, bytes.fromhex(content))
         tag, _, words = content.rpartition("/")
-        references = [self.reference(*map(int, word.split(":"))) for word in words.split(",") if word]
-        return Value(node_type, int(tag or 0) if node_type == RowTypes.MIXED else None, references)
+        found = [self.reference(*reference) for reference in references(words)]
+        return Value(node_type, int(tag or 0) if node_type == RowTypes.MIXED else None, found)
 
     def reference(self, kind, node, number):
         """A handle that isn't of the node that is told counts as none."""
@@ -128,6 +135,8 @@ class Draw:
     BLOBS = ["0261", "01ff", "017800", "0178:5", "0009", "0a00", "-"]
     STORAGES = ["", "", "", "", " 0", " 4", " 9", " closed"]
     TYPES = [RowTypes.NAME, RowTypes.NAME, RowTypes.NOTE, RowTypes.MIXED, RowTypes.MIXED, RowTypes.MIXED, *range(RowTypes.LINK, RowTypes.END)]
+    # How many plans are under way at most, how often one begins where there are fewer, and how often a call is of none.
+    MOST, BEGINS, ALONE = 3, 0.25, 0.4
     OF_HANDLE = ["clone", "into_pagable", "pin", "pin", "unpin", "unpin", "release", "release", "schedule_for_paging", "count", "key", "is_paged_out", "node_of"]
 
     def __init__(self, seed):
@@ -150,11 +159,12 @@ class Draw:
         return f"look {self.plain.pager.last_handle + 1}"
 
     def next(self):
-        """The next call of one of at most three plans that are under way, or a single one. It is made."""
-        if len(self.plans) < 3 and self.random.random() < 0.25:
-            plan = self.random.choice([self.page_out, self.load, self.load, self.reading, self.reading])()
-            self.plans.append([plan, next(plan)])
-        if not self.plans or self.random.random() < 0.4:
+        """The next call of one of the plans that are under way, or a single one. It is made."""
+        if len(self.plans) < self.MOST and self.random.random() < self.BEGINS:
+            plan = self.random.choice(self.PLANS)(self)
+            first = next(plan, None)
+            self.plans += [] if first is None else [[plan, first]]
+        if not self.plans or self.random.random() < self.ALONE:
             return self.make(self.single())[0]
         plan = self.random.choice(self.plans)
         call, answer = self.make(plan[1])
@@ -198,6 +208,8 @@ class Draw:
             for _ in range(self.random.randrange(5)):
                 yield self.asking(load)
             yield f"load_take {load} {' '.join(map(str, self.own(('load', int(load)))[:self.random.randrange(4)]))}".strip()
+
+    PLANS = [page_out, load, load, reading, reading]
 
     def asking(self, load):
         """A load asks for a reference, or makes a node of one."""
@@ -281,6 +293,7 @@ class DrawEvents(Draw):
     tables, which take turns."""
 
     STORAGES = ["", "", "", "", " 5", " 11", " 23", " 41"]
+    MOST, BEGINS, ALONE = 4, 0.5, 0.3
 
     def __init__(self, seed):
         super().__init__(seed)
@@ -290,27 +303,6 @@ class DrawEvents(Draw):
         """A second word `read` would make a row one of values."""
         for row in super().rows(count, looks):
             yield "reserve 0; " + row if row.split(" ")[1:2] == ["read"] else row
-
-    def next(self):
-        """The next event of one of at most four plans that are under way, or a single one."""
-        if len(self.plans) < 4 and self.random.random() < 0.5:
-            plan = self.random.choice(self.PLANS)(self)
-            self.start(plan)
-        if not self.plans or self.random.random() < 0.3:
-            return self.make(self.single())[0]
-        plan = self.random.choice(self.plans)
-        event, answer = self.make(plan[1])
-        try:
-            plan[1] = plan[0].send(answer)
-        except StopIteration:
-            self.plans.remove(plan)
-        return event
-
-    def start(self, plan):
-        try:
-            self.plans.append([plan, next(plan)])
-        except StopIteration:
-            pass
 
     def make(self, event):
         """Steps are as many as it takes to the end, if these are fewer."""
@@ -393,12 +385,15 @@ class DrawEvents(Draw):
         away = [number for number in self.own(CALLER) if pager.is_away(pager.node_of(number))]
         if away and self.random.random() < 0.6:
             return f"start {away[0]}"
-        key = self.key()
-        return f"new_paged_out {self.types.get(key, 2) if self.random.random() < 0.95 else self.random.choice([0, 2, 3, 300])} {key}"
+        return "new_paged_out {1} {0}".format(*self.typed())
 
     def start_of_key(self):
+        return "read {} {}".format(*self.typed())
+
+    def typed(self):
+        """A key and a type, mostly that as which it can be read."""
         key = self.key()
-        return f"read {key} {self.types.get(key, 2) if self.random.random() < 0.95 else self.random.choice([0, 2, 3, 300])}"
+        return key, self.types.get(key, 2) if self.random.random() < 0.95 else self.random.choice([0, 2, 3, 300])
 
     def meddling(self, number):
         """A call on a load that goes by steps, or on the handle by which it was begun."""

@@ -36,12 +36,8 @@ class Run:
 
     def __init__(self):
         self.rows, self.numbers, self.row = Rows(), {}, []
-        self.ask("machine sha256")
-        self.row = []
-
-    @property
-    def pager(self):
-        return self.rows.pager
+        self.rows.answer("machine sha256")
+        self.pager = self.rows.pager
 
     def ask(self, event):
         self.row.append(event)
@@ -110,20 +106,19 @@ class Run:
         answer = self.ask(" ".join(map(str, [op, *words])))
         return None if op == "into_pagable" and answer.startswith("ok") else self.reply(answer, names)
 
-    def load(self, begun):
-        """Steps to the end of a load: what ended it."""
-        number, steps = begun.split()[1], 0
-        answer = "more"
-        while answer.startswith("more"):
-            answer, steps = self.rows.answer(f"step {number}"), steps + 1
-        self.row.append(f"step {number} {steps}")
+    def to_end(self, name, made):
+        """Steps of a load or of a worker to its end: what the last one answers."""
+        number, steps = int(made.split()[1]), 0
+        while number in self.pager.loads if name == "step" else not self.rows.machine.workers[number - 1].is_done:
+            answer, steps = self.rows.answer(f"{name} {number}"), steps + 1
+        self.row.append(f"{name} {number} {steps}")
         return answer
 
     def do_pin_sync(self, step, names):
         handle = self.numbers[step["handle"]]
         answer = self.ask(f"pin {handle}")
         if answer.startswith("needs"):
-            word, _, last, *_ = self.load(self.ask(f"start {handle}")).split(" ")
+            word, _, last, *_ = self.to_end("step", self.ask(f"start {handle}")).split(" ")
             answer = f"{'ok' if word == 'pinned' else word} {last}"
         return self.reply(answer, names)
 
@@ -133,7 +128,7 @@ class Run:
 
     def do_read(self, step, names):
         node_type = TYPES[step["type"]]
-        answer, _, spelled = self.load(self.ask(f"read {step['key']} {node_type}")).partition(" = ")
+        answer, _, spelled = self.to_end("step", self.ask(f"read {step['key']} {node_type}")).partition(" = ")
         if answer.startswith("refused"):
             return {"refused": int(answer.split()[2])}
         given = [int(word.split(":")[2]) for word in spelled.rpartition("/")[2].split(",") if word] if node_type != RowTypes.NAME else []
@@ -141,12 +136,8 @@ class Run:
         return {"value": self.told(node_type, spelled), "as": names if len(names or []) == len(given) else given}
 
     def work(self, made):
-        """Steps of a worker to its answer."""
-        number, steps = int(made.split()[1]), 0
-        while not self.rows.machine.workers[number - 1].is_done:
-            answer, steps = self.rows.answer(f"work {number}"), steps + 1
-        self.row.append(f"work {number} {steps}")
-        word, *key = answer.partition(" -> ")[2].split(" ")
+        """A worker's steps to its answer."""
+        word, *key = self.to_end("work", made).partition(" -> ")[2].split(" ")
         return {"key": key[0]} if word == "ok" else {"failed": int(key[0])} if word == "failed" else "already failed"
 
     def do_page_out_item(self, step, _):
@@ -171,8 +162,10 @@ class Run:
     # ---- what they leave
 
     def compare(self, step):
-        """Raises at the first thing that isn't as the run tells it."""
-        answer, wanted = self.answer(step), plain(step["reply"])
+        """Raises at the first thing that isn't as the run tells it, refusals by their numbers alone."""
+        answer, wanted = self.answer(step), step["reply"]
+        if isinstance(wanted, dict):
+            wanted = {word: told["no"] if word in ("refused", "failed") else told for word, told in wanted.items()}
         if answer != wanted:
             raise Differs(f"{answer}, and not {wanted}")
         self.compare_state(step["state"])
@@ -188,13 +181,6 @@ class Run:
         left = {"pending": pager.pending(), "same": sorted(map(sorted, nodes.values())), "handles": handles}
         if left != dict(state, same=sorted(map(sorted, state["same"]))):
             raise Differs(f"it leaves {left}, and not {state}")
-
-
-def plain(reply):
-    """A reply with the number of its refusal alone."""
-    if not isinstance(reply, dict):
-        return reply
-    return {word: told["no"] if word in ("refused", "failed") else told for word, told in reply.items()}
 
 
 def first_difference(steps, alike):

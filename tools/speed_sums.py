@@ -8,6 +8,9 @@
 import pathlib
 import sys
 
+sys.dont_write_bytecode = True
+from plain_pager import varint
+
 WORD = (1 << 64) - 1
 
 
@@ -34,15 +37,6 @@ def sum_of(numbers):
     for number in numbers:
         state = (state ^ number) * 0x100000001B3 & WORD
     return state
-
-
-def varint(number):
-    out = bytearray()
-    while number >= 128:
-        out.append(number % 128 + 128)
-        number //= 128
-    out.append(number)
-    return bytes(out)
 
 
 def text_form(text):

@@ -21,30 +21,32 @@ EDITS = f"{TOP}/tools/wrong_bodies"
 UNREAD = re.compile(r"is not in scope|has no field|is no name|operand is missing|expected the end|cannot continue")
 
 
+def read(path):
+    with open(path, encoding="utf-8") as it:
+        return it.read()
+
+
 class Edit:
     """A wrong body: its name, and in the order of its lines the file, the old text and the new one."""
 
     def __init__(self, path):
         self.name = os.path.basename(path)[: -len(".edit")]
         self.pairs, file, old = [], None, None
-        with open(path, encoding="utf-8") as lines:
-            for line in lines:
-                word, _, text = line.rstrip("\n").partition(": ")
-                if word == "file":
-                    file = text
-                elif word == "old":
-                    old = text
-                elif word == "new" and file and old:
-                    self.pairs.append((file, old, text))
+        for line in read(path).split("\n"):
+            word, _, text = line.partition(": ")
+            if word == "file":
+                file = text
+            elif word == "old":
+                old = text
+            elif word == "new" and file and old:
+                self.pairs.append((file, old, text))
         self.functions = set()
 
     def apply(self, texts, folder):
         """Makes the edit in texts, a map from files to what stands in them; answers why it can't, or None."""
         made = dict(texts)
         for file, old, new in self.pairs:
-            if file not in made:
-                with open(f"{folder}/{file}", encoding="utf-8") as it:
-                    made[file] = it.read()
+            made.setdefault(file, read(f"{folder}/{file}"))
             if made[file].count(old) != 1:
                 return f"an old text stands {made[file].count(old)} times in {file}"
             self.functions.add(function_at(made[file], made[file].index(old), file))
@@ -110,18 +112,17 @@ class Copy:
             left_out = [f"{own}/{it}" for it in (("must-fail",) if name == crate else ("must-fail", "out/incremental", "data"))]
             shutil.copytree(own, f"{room}/crates/{name}", ignore=lambda at, names: [it for it in names if f"{at}/{it}" in left_out])
 
+    def write(self, texts):
+        for file, text in texts.items():
+            with open(f"{self.folder}/{file}", "w", encoding="utf-8") as it:
+                it.write(text)
+
     def check(self, texts):
         """The output of a check with these texts in place of the crate's own."""
-        own = {}
-        for file, text in texts.items():
-            with open(f"{self.folder}/{file}", encoding="utf-8") as it:
-                own[file] = it.read()
-            with open(f"{self.folder}/{file}", "w", encoding="utf-8") as it:
-                it.write(text)
+        own = {file: read(f"{self.folder}/{file}") for file in texts}
+        self.write(texts)
         ran = subprocess.run(["rt", "check", "--jobs", os.environ.get("RT_JOBS", "1")], cwd=self.folder, stdout=subprocess.PIPE, stderr=subprocess.STDOUT, text=True)
-        for file, text in own.items():
-            with open(f"{self.folder}/{file}", "w", encoding="utf-8") as it:
-                it.write(text)
+        self.write(own)
         return ran.stdout
 
 
@@ -143,9 +144,7 @@ def bad_text(output):
 def tried_alone(copy, edit):
     """Why an edit by itself isn't refused, or None."""
     texts = {}
-    why = edit.apply(texts, copy.folder)
-    if why:
-        return why
+    edit.apply(texts, copy.folder)
     output = copy.check(texts)
     bad = bad_text(output)
     if bad:
@@ -163,14 +162,11 @@ def rounds_of(edits, folder):
         if why:
             bad.append((edit, why))
             continue
-        for texts, held in rounds:
+        for texts, held in [*rounds, ({}, [])]:
             if not any(edit.functions & it.functions for it in held) and edit.apply(texts, folder) is None:
                 held.append(edit)
+                rounds += [(texts, held)] if len(held) == 1 else []
                 break
-        else:
-            texts = {}
-            edit.apply(texts, folder)
-            rounds.append((texts, [edit]))
     return [held for _, held in rounds], bad
 
 

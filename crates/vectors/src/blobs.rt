@@ -4,16 +4,6 @@ use anyhow::Context;
 use pagable::{DataKey, PagableData, WeighHash};
 use std::alloc::Global;
 
-/// These bytes so often.
-fn repeated(alloc: Global, hex: &str, times: &str) -> anyhow::Result<Vec<u8>> {
-    let once = hex::decode(alloc, hex)?;
-    let mut bytes = Vec::new(alloc);
-    for _ in 0..times.parse::<u32>()? {
-        bytes.extend_from_slice(once.as_slice())?;
-    }
-    Ok(bytes)
-}
-
 /// The bytes of an input: parts in hex, each perhaps with how often it stands, as `0401*127+0400`. `-` is none.
 pub fn bytes_of(alloc: Global, input: &str) -> anyhow::Result<Vec<u8>> {
     let mut bytes = Vec::new(alloc);
@@ -22,8 +12,10 @@ pub fn bytes_of(alloc: Global, input: &str) -> anyhow::Result<Vec<u8>> {
     }
     for part in input.split('+') {
         let (hex, times) = part.split_once('*').unwrap_or((part, "1"));
-        let part = repeated(alloc, hex, times)?;
-        bytes.extend_from_slice(part.as_slice())?;
+        let once = hex::decode(alloc, hex)?;
+        for _ in 0..times.parse::<u32>()? {
+            bytes.extend_from_slice(once.as_slice())?;
+        }
     }
     Ok(bytes)
 }

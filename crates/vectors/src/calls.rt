@@ -90,28 +90,24 @@ fn answer<H: KeyHash>(
     let (word, rest) = split(line);
     match word {
         "look" => look(alloc, machine.pager(), rest.parse::<u64>()?),
-        "last" => run(alloc, machine, rest, true),
-        _ => run(alloc, machine, line, false),
+        "last" => {
+            let all = run(alloc, machine, rest)?;
+            let last = all.as_str().rsplit(';').next().unwrap_or_default();
+            Ok(String::from_str(alloc, last.trim_start())?)
+        }
+        _ => run(alloc, machine, line),
     }
 }
 
-/// The answers to a row's events, which the machine gets as one list, or the last of them.
+/// The answers to a row's events, which the machine gets as one list.
 fn run<H: KeyHash>(
     alloc: Global,
     machine: &mut CellMachine<H>,
     line: &str,
-    is_last: bool,
 ) -> anyhow::Result<String> {
     let events = events(alloc, line)?;
     match machine.run(alloc, events) {
-        Ok(replies) => {
-            let first = if is_last {
-                replies.len().saturating_sub(1)
-            } else {
-                0
-            };
-            answers::replies(alloc, &replies.as_slice()[first..])
-        }
+        Ok(replies) => answers::replies(alloc, replies.as_slice()),
         Err(_) => bail!("no memory for the replies"),
     }
 }

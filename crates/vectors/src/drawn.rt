@@ -19,21 +19,15 @@ fn sum_of(bytes: &[u8]) -> u64 {
     sum
 }
 
-/// How many bytes are written of an input of the type of this name, and their check sum.
-fn written(alloc: Global, name_of_type: &str, input: &[u8]) -> (usize, u64) {
-    let outcome = types::answer(alloc, name_of_type, input);
-    let bytes = outcome
-        .as_ref()
-        .and_then(Outcome::bytes)
-        .unwrap_or_default();
-    (bytes.len(), sum_of(bytes))
-}
-
 /// What comes of so many drawn values: `NAME N bytes wrote SUM`.
 pub fn answer(alloc: Global, name: &str, count: u32) -> anyhow::Result<String> {
     let Some((name_of_type, input)) = input_of(alloc, name, count)? else {
         return Ok(String::from_str(alloc, "no such values")?);
     };
-    let (length, sum) = written(alloc, name_of_type, input.as_slice());
-    Ok(format!(in alloc; "{name} {length} bytes wrote {sum:016x}")?)
+    let outcome = types::answer(alloc, name_of_type, input.as_slice());
+    let bytes = outcome
+        .as_ref()
+        .and_then(Outcome::bytes)
+        .unwrap_or_default();
+    Ok(format!(in alloc; "{name} {} bytes wrote {:016x}", bytes.len(), sum_of(bytes))?)
 }

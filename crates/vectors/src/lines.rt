@@ -30,27 +30,14 @@ fn cut(alloc: Global, name: &str, input: &str) -> anyhow::Result<String> {
     Ok(common)
 }
 
-/// What the JSON value of a text is written as, or the number of the refusal; None for a text of none.
-fn json_bytes(alloc: Global, text: &str) -> Option<Result<Vec<u8>, u32>> {
-    let value = Value::from_str(alloc, text).ok()?;
-    Some(written(alloc, &AnyEnv, &value))
-}
-
 /// What the JSON value of a text is written as.
 fn json(alloc: Global, text: &str) -> Result<String, AllocError> {
-    match json_bytes(alloc, text) {
-        None => String::from_str(alloc, "no JSON"),
-        Some(Ok(bytes)) => hex::encode(alloc, bytes.as_slice()),
-        Some(Err(number)) => format!(in alloc; "refused {number}"),
-    }
-}
-
-/// The answer to an input of a line.
-fn answer_input(alloc: Global, name: &str, verb: &str, input: &str) -> anyhow::Result<String> {
-    match verb {
-        "read" => Ok(read_bytes(alloc, name, bytes_of(alloc, input)?.as_slice())?),
-        "cut" => cut(alloc, name, input),
-        _ => blobs::answer(alloc, input),
+    let Ok(value) = Value::from_str(alloc, text) else {
+        return String::from_str(alloc, "no JSON");
+    };
+    match written(alloc, &AnyEnv, &value) {
+        Ok(bytes) => hex::encode(alloc, bytes.as_slice()),
+        Err(number) => format!(in alloc; "refused {number}"),
     }
 }
 
@@ -61,7 +48,11 @@ fn answer_all(alloc: Global, name: &str, verb: &str, inputs: &str) -> anyhow::Re
         if !answers.is_empty() {
             answers.push_str("; ")?;
         }
-        let answer = answer_input(alloc, name, verb, input)?;
+        let answer = match verb {
+            "read" => read_bytes(alloc, name, bytes_of(alloc, input)?.as_slice())?,
+            "cut" => cut(alloc, name, input)?,
+            _ => blobs::answer(alloc, input)?,
+        };
         answers.push_str(answer.as_str())?;
     }
     Ok(answers)

@@ -35,27 +35,22 @@ fn answer(rt: &HostRuntime, calls: &mut Calls, word: &str) -> anyhow::Result<()>
     Ok(())
 }
 
-/// Answers the lines of each word's file. The rows of calls of one file go on where those of the file before have ended.
-fn answer_words(rt: &HostRuntime, calls: &mut Calls, words: &[String]) -> anyhow::Result<()> {
-    for word in words {
-        answer(rt, calls, word.as_str())?;
-    }
-    Ok(())
-}
-
 /// Times the row of the first word, or every row, as often as the second one tells, or five times.
 fn time(rt: &HostRuntime, words: &[String]) -> anyhow::Result<()> {
     let runs = words.get(1).map_or("5", String::as_str);
     times::run(rt, words.first().map(String::as_str), runs.parse::<u64>()?)
 }
 
-/// Does what the words after the program's name ask for.
+/// Does what the words after the program's name ask for. The rows of calls of one file go on where those of the file before have ended.
 fn run(rt: &HostRuntime, words: &[String]) -> anyhow::Result<()> {
     match words {
         [first, rest @ ..] if first.as_str() == "time" => time(rt, rest),
         _ => {
             let mut calls = Calls::new(rt.alloc());
-            answer_words(rt, &mut calls, words)
+            for word in words {
+                answer(rt, &mut calls, word.as_str())?;
+            }
+            Ok(())
         }
     }
 }

@@ -34,17 +34,6 @@ fn zoo(alloc: Global, readers: &[AnimalReader]) -> Option<Zoo> {
     Zoo::new(alloc, &words, &blobs, readers).ok()
 }
 
-/// What comes of a static value or a tagged one; None for another name.
-fn registered(alloc: Global, zoo: &Zoo, name: &str, input: &[u8]) -> Option<Outcome> {
-    match name {
-        "StaticStr" => static_text(alloc, zoo, input),
-        "StaticBytes" => static_bytes(alloc, zoo, input),
-        "Animal" => replay_in::<Zoo, Animal>(alloc, zoo, input),
-        "Sighting" => replay_in::<Zoo, Sighting>(alloc, zoo, input),
-        _ => None,
-    }
-}
-
 /// The readers that a name tells behind a colon, in their order: a tag's later registration counts.
 fn readers(names: &str) -> &'static [AnimalReader] {
     use AnimalReader::{Cat, Dog, OldCat};
@@ -62,11 +51,15 @@ pub fn answer(alloc: Global, name: &str, input: &[u8]) -> Option<Outcome> {
     if let Some(outcome) = types::answer(alloc, name, input) {
         return Some(outcome);
     }
-    match name {
-        "Expression" => return replay_in::<Sheet, Expression>(alloc, &Sheet, input),
-        "Ticket" => return replay_eagerly::<AnyEnv, Ticket>(alloc, &AnyEnv, input),
-        _ => {}
-    }
     let (name, names) = name.split_once(':').unwrap_or((name, ""));
-    registered(alloc, &zoo(alloc, readers(names))?, name, input)
+    let zoo = zoo(alloc, readers(names))?;
+    match name {
+        "Expression" => replay_in::<Sheet, Expression>(alloc, &Sheet, input),
+        "Ticket" => replay_eagerly::<AnyEnv, Ticket>(alloc, &AnyEnv, input),
+        "StaticStr" => static_text(alloc, &zoo, input),
+        "StaticBytes" => static_bytes(alloc, &zoo, input),
+        "Animal" => replay_in::<Zoo, Animal>(alloc, &zoo, input),
+        "Sighting" => replay_in::<Zoo, Sighting>(alloc, &zoo, input),
+        _ => None,
+    }
 }

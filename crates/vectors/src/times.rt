@@ -1,10 +1,7 @@
 //! How long it takes to write and to read values. What is written and read of the same values is checked by rows of data.
 
 mod graphs;
-mod outcome;
 
-use crate::times::graphs::graphs;
-use crate::times::outcome::Outcome;
 use anyhow::{bail, ensure};
 use indexmap::IndexMap;
 use pagable::{
@@ -15,22 +12,17 @@ use pagable_examples::input_of;
 use row_values::carried::{AnyEnv, written};
 use std::alloc::Global;
 use std::collections::BTreeMap;
-use std::time::{Clock, Instant};
+use std::time::{Clock, Duration, Instant};
 
-/// All rows in their order.
-const ROWS: &'static str = "numbers bytes texts maps ordered cells items trees cell_trees";
+/// All rows in their order, and how many values each has.
+const ROWS: &'static str =
+    "numbers 1000000;bytes 1000000;texts 200000;maps 400;ordered 100000;cells 10000;items 20000;trees 30;cell_trees 30";
 
-/// How many values a row has.
-fn count_of(row: &str) -> u32 {
-    match row {
-        "texts" => 200_000,
-        "maps" => 400,
-        "ordered" => 100_000,
-        "cells" => 10_000,
-        "items" => 20_000,
-        "trees" | "cell_trees" => 30,
-        _ => 1_000_000,
-    }
+/// The shortest times that writing and reading took.
+#[derive(Clone, Copy)]
+struct Outcome {
+    write: Duration,
+    read: Duration,
 }
 
 /// The `T` at the front of these bytes.
@@ -60,8 +52,7 @@ where
         bail!("a value isn't written");
     };
     let write = start.elapsed(clock)?;
-    let bytes = written.len();
-    Ok((written, Outcome { bytes, write, read }))
+    Ok((written, Outcome { write, read }))
 }
 
 /// As `once`, of the type of this name.
@@ -80,44 +71,55 @@ fn once_of(
     }
 }
 
-/// Reads what was written, which has to be written alike.
-fn again(
+/// As `once_of`, of drawn bytes as they are first written: a map is drawn in another order. What is read has to be written alike.
+fn codec(
     clock: &impl Clock,
     alloc: Global,
     name_of_type: &str,
-    bytes: &[u8],
+    drawn: Vec<u8>,
 ) -> anyhow::Result<Outcome> {
-    let (written, outcome) = once_of(clock, alloc, name_of_type, bytes)?;
-    ensure!(written.as_slice() == bytes, "another value was read");
+    let (first, _) = once_of(clock, alloc, name_of_type, drawn.as_slice())?;
+    drop(drawn);
+    let (again, outcome) = once_of(clock, alloc, name_of_type, first.as_slice())?;
+    ensure!(again == first, "another value was read");
     Ok(outcome)
 }
 
-/// Runs a row so often, and tells its shortest times.
-fn run_row(
-    clock: &impl Clock,
-    alloc: Global,
-    name: &str,
-    count: u32,
-    runs: u64,
-) -> anyhow::Result<Outcome> {
-    let Some((name_of_type, mut bytes)) = input_of(alloc, name, count)? else {
-        return graphs(clock, alloc, name, count, runs);
-    };
-    // A map is drawn in another order than it is written in, so the bytes that are timed are those of a first writing.
-    let (written, _) = once_of(clock, alloc, name_of_type, bytes.as_slice())?;
-    bytes = written;
-    let mut outcome = again(clock, alloc, name_of_type, bytes.as_slice())?;
-    for _ in 1..runs {
-        outcome = outcome.with_shorter(again(clock, alloc, name_of_type, bytes.as_slice())?);
+/// Runs a row once.
+fn run_row(clock: &impl Clock, alloc: Global, name: &str, count: u32) -> anyhow::Result<Outcome> {
+    match input_of(alloc, name, count)? {
+        Some((name_of_type, drawn)) => codec(clock, alloc, name_of_type, drawn),
+        None => graphs::once(clock, alloc, name, count),
     }
-    Ok(outcome)
+}
+
+/// Runs a row so often, and prints its shortest times, as `NAME write T s read T s`.
+fn print_row(rt: &HostRuntime, name: &str, count: u32, runs: u64) -> anyhow::Result<()> {
+    let Outcome {
+        mut write,
+        mut read,
+    } = run_row(rt, rt.alloc(), name, count)?;
+    for _ in 1..runs {
+        let again = run_row(rt, rt.alloc(), name, count)?;
+        write = write.min(again.write);
+        read = read.min(again.read);
+    }
+    println!(rt;
+        "{name} write {}.{:06} s read {}.{:06} s",
+        write.as_secs(),
+        write.subsec_micros(),
+        read.as_secs(),
+        read.subsec_micros()
+    )?;
+    Ok(())
 }
 
 /// Runs the row of this name, or every one, so often, and prints the shortest times.
 pub fn run(rt: &HostRuntime, wanted: Option<&str>, runs: u64) -> anyhow::Result<()> {
-    for name in ROWS.split(' ') {
+    for row in ROWS.split(';') {
+        let (name, count) = row.split_once(' ').unwrap_or((row, ""));
         if wanted.is_none() || wanted == Some(name) {
-            run_row(rt, rt.alloc(), name, count_of(name), runs)?.print(rt, name)?;
+            print_row(rt, name, count.parse::<u32>()?, runs)?;
         }
     }
     Ok(())

@@ -6,7 +6,7 @@ use crate::calls::asked::item;
 use crate::calls::nodes::node;
 use crate::calls::{Calls, CellPager, pager_over};
 use crate::lines;
-use anyhow::{Context, bail, ensure};
+use anyhow::{Context, ensure};
 use pagable::paging::{page_out_item, page_out_pending, pin};
 use pagable::{
     DataKey, Error, PagableSerialize, PagableVecFlavor, PageOutError, SlotTable, WeighHash,
@@ -20,30 +20,16 @@ use std::time::Duration;
 /// The number of the last row.
 const LAST: u32 = 24;
 
-/// The number of a line's row, what is asked of it, and what has to be answered.
-fn parts(line: &str) -> Option<(&str, &str, &str)> {
-    let (number, rest) = line.split_once(": ")?;
-    let (asked, wanted) = rest.split_once(" ->")?;
-    Some((number, asked, wanted.trim_start()))
-}
-
-/// Whether a line is of another row or a comment, or is answered as it has to be.
-fn line_holds(alloc: Global, calls: &mut Calls, row: u32, line: &str) -> anyhow::Result<bool> {
-    if line.starts_with('#') {
-        return Ok(true);
-    }
-    let (number, asked, wanted) = parts(line).context("no line of a row")?;
-    if number.parse::<u32>()? != row {
-        return Ok(true);
-    }
-    Ok(lines::answer(alloc, calls, asked)?.as_str() == wanted)
-}
-
-/// Whether a row's lines are answered as they have to be, one after the other.
+/// Whether a row's lines are answered as they have to be, one after the other. Each has the row's number, what is asked of it, and what has to
+/// be answered.
 fn lines_hold(alloc: Global, calls: &mut Calls, text: &str, row: u32) -> anyhow::Result<bool> {
     for line in text.lines() {
-        if !line_holds(alloc, calls, row, line)? {
-            return Ok(false);
+        let (number, rest) = line.split_once(": ").context("no line of a row")?;
+        if number.parse::<u32>().ok() == Some(row) {
+            let (asked, wanted) = rest.split_once(" ->").context("no answer")?;
+            if lines::answer(alloc, calls, asked)?.as_str() != wanted.trim_start() {
+                return Ok(false);
+            }
         }
     }
     Ok(true)
@@ -59,22 +45,13 @@ fn is_written<T: PagableSerialize<AnyEnv>>(
     Ok(written(alloc, &AnyEnv, value) == Ok(wanted))
 }
 
-/// An empty array in so many others.
-fn arrays(alloc: Global, others: u32) -> Result<Value, Error> {
+/// Whether the writing of 129 arrays in one another is refused.
+fn are_too_deep(alloc: Global) -> anyhow::Result<bool> {
     let mut value = Value::Array(Vec::new(alloc));
-    for _ in 0..others {
+    for _ in 0..128 {
         value = Value::Array(vec![in alloc; value]?);
     }
-    Ok(value)
-}
-
-/// Whether 128 arrays in one another are written, and 129 refused.
-fn arrays_hold(alloc: Global) -> anyhow::Result<bool> {
-    let deeper = written(alloc, &AnyEnv, &arrays(alloc, 128)?);
-    Ok(
-        is_written(alloc, &arrays(alloc, 127)?, "0401*127+0400")?
-            && deeper == Err(Error::TooDeep.number()),
-    )
+    Ok(written(alloc, &AnyEnv, &value) == Err(Error::TooDeep.number()))
 }
 
 /// Whether the first of two bytes can be written over.
@@ -88,12 +65,8 @@ fn write_over(alloc: Global) -> Result<bool, Error> {
 
 /// Whether an item that refers to a shared text comes to its key by one call.
 fn is_item_paged_out(alloc: Global, pager: &mut CellPager<WeighHash>) -> anyhow::Result<bool> {
-    if pager
-        .new_shared(alloc, node(alloc, "0 hello world")?)
-        .is_err()
-    {
-        bail!("a node is refused");
-    }
+    let shared = pager.new_shared(alloc, node(alloc, "0 hello world")?);
+    shared.ok().context("a node is refused")?;
     let item = Arc::new(alloc, item(alloc, "2a:0:1:1")?)?;
     let mut table = SlotTable::new(alloc);
     Ok(page_out_item(alloc, pager, &mut table, item).ok() == DataKey::new(3484))
@@ -101,9 +74,8 @@ fn is_item_paged_out(alloc: Global, pager: &mut CellPager<WeighHash>) -> anyhow:
 
 /// Makes a cell that is listed twice.
 fn list_twice(alloc: Global, pager: &mut CellPager<WeighHash>) -> anyhow::Result<()> {
-    let Ok(cell) = pager.new_loose(alloc, node(alloc, "0 x")?) else {
-        bail!("a cell is refused");
-    };
+    let cell = pager.new_loose(alloc, node(alloc, "0 x")?);
+    let cell = cell.ok().context("a cell is refused")?;
     pager.unpin(cell)?;
     let (pinned, _) = pin(alloc, pager, cell)?;
     pager.release(pinned)?;
@@ -130,7 +102,7 @@ fn others_hold(alloc: Global, number: u32) -> anyhow::Result<bool> {
                 && is_written(alloc, &Duration::new(1, 500_000_000), "0180cab5ee01")?,
         ),
         4 => is_written(alloc, &vec![in alloc; -1i32, 1]?, "020102"),
-        6 => arrays_hold(alloc),
+        6 => are_too_deep(alloc),
         10 => is_item_paged_out(alloc, &mut pager_over(alloc, "")),
         14 => is_stored_once(alloc, &mut pager_over(alloc, "1")),
         21 => is_written(alloc, &'é', "02c3a9"),

@@ -6,14 +6,12 @@ use pagable::{
     Beginning, Claim, Error, EventReply, Found, Identity, LoadAnswer, LoadReply, OptionalDataKey,
     PagableData, PinStep, Pinning, Reply, SerializedData, Took, WorkerAnswer, WorkerReply,
 };
-use std::alloc::Global;
+use std::alloc::{AllocError, Global};
 use std::sync::Arc;
 
 type CellReply = Reply<CellNode, Arc<PagableData>>;
 
 type CellAnswer = EventReply<CellNode, Arc<PagableData>, Arc<SerializedData>>;
-
-type CellTook = Took<Arc<SerializedData>>;
 
 /// A word, which may be empty, and at most two numbers behind it.
 type Told = (&'static str, Option<u128>, Option<u128>);
@@ -44,28 +42,8 @@ fn begun(begun: &Beginning) -> Told {
     }
 }
 
-/// Why a call is refused, if it is.
-fn refusal(reply: &CellReply) -> Option<&Error> {
-    match reply {
-        Reply::Made(Err((e, _))) | Reply::LoadEnded(Err((e, _))) => Some(e),
-        Reply::Handle(Err(e))
-        | Reply::Pin(Err(e))
-        | Reply::Done(Err(e))
-        | Reply::Count(Err(e))
-        | Reply::KeyFound(Err(e))
-        | Reply::Away(Err(e))
-        | Reply::Node(Err(e))
-        | Reply::FromCache(Err(e))
-        | Reply::Fetched(Err(e))
-        | Reply::Stored(Err(e))
-        | Reply::Begun(Err(e))
-        | Reply::LoadFound(Err(e)) => Some(e),
-        _ => None,
-    }
-}
-
-/// What a call answers that isn't refused, but for a blob.
-fn given(reply: &CellReply) -> Told {
+/// What a call answers, but for a blob, and for a value that comes back.
+fn told(reply: &CellReply) -> Told {
     let number = match reply {
         Reply::Made(Ok(handle))
         | Reply::Handle(Ok(handle))
@@ -82,7 +60,20 @@ fn given(reply: &CellReply) -> Told {
         Reply::Begun(Ok(beginning)) => return begun(beginning),
         Reply::Away(Ok(false)) => return ("no", None, None),
         Reply::Away(Ok(true)) => return ("yes", None, None),
-        Reply::Done(_) => return ("ok", None, None),
+        Reply::Done(Ok(_)) => return ("ok", None, None),
+        Reply::LoadEnded(Err((e, None)))
+        | Reply::Handle(Err(e))
+        | Reply::Pin(Err(e))
+        | Reply::Done(Err(e))
+        | Reply::Count(Err(e))
+        | Reply::KeyFound(Err(e))
+        | Reply::Away(Err(e))
+        | Reply::Node(Err(e))
+        | Reply::FromCache(Err(e))
+        | Reply::Fetched(Err(e))
+        | Reply::Stored(Err(e))
+        | Reply::Begun(Err(e))
+        | Reply::LoadFound(Err(e)) => return refused("refused", e),
         _ => return ("none", None, None),
     };
     ("ok", Some(number), None)
@@ -92,42 +83,33 @@ fn given(reply: &CellReply) -> Told {
 fn push_words(alloc: Global, text: &mut String, told: Told) -> anyhow::Result<()> {
     let (word, first, second) = told;
     text.push_str(word)?;
-    push_number(alloc, text, first)?;
-    push_number(alloc, text, second)
-}
-
-/// Adds a number, if there is one.
-fn push_number(alloc: Global, text: &mut String, number: Option<u128>) -> anyhow::Result<()> {
-    if let Some(number) = number {
+    if let Some(number) = first {
+        text.push_str(format!(in alloc; " {number}")?.as_str())?;
+    }
+    if let Some(number) = second {
         text.push_str(format!(in alloc; " {number}")?.as_str())?;
     }
     Ok(())
 }
 
-/// Adds the bytes of a blob in hex.
-fn push_blob(alloc: Global, text: &mut String, blob: &PagableData) -> anyhow::Result<()> {
+/// Adds bytes in hex.
+fn push_bytes(alloc: Global, text: &mut String, bytes: &[u8]) -> Result<(), AllocError> {
     text.push_str("0x")?;
-    text.push_str(hex::encode(alloc, blob.bytes.as_slice())?.as_str())?;
-    Ok(())
+    text.push_str(hex::encode(alloc, bytes)?.as_str())
 }
 
 /// Adds what a call answers. That a value comes back is told too.
 fn push_call(alloc: Global, text: &mut String, reply: &CellReply) -> anyhow::Result<()> {
     match reply {
         Reply::Fetched(Ok(blob)) | Reply::LoadFound(Ok(Found::Blob(blob))) => {
-            return push_blob(alloc, text, blob.as_ref());
+            Ok(push_bytes(alloc, text, blob.as_ref().bytes.as_slice())?)
         }
-        _ => {}
+        Reply::Made(Err((e, _))) | Reply::LoadEnded(Err((e, Some(_)))) => {
+            push_words(alloc, text, refused("refused", e))?;
+            Ok(text.push_str(" back")?)
+        }
+        _ => push_words(alloc, text, told(reply)),
     }
-    let told = match refusal(reply) {
-        Some(e) => refused("refused", e),
-        None => given(reply),
-    };
-    push_words(alloc, text, told)?;
-    if let Reply::Made(Err(_)) | Reply::LoadEnded(Err((_, Some(_)))) = reply {
-        text.push_str(" back")?;
-    }
-    Ok(())
 }
 
 /// What a step of a load answers, and how many it has made, but for a value that was read.
@@ -142,7 +124,7 @@ fn moved(moved: &LoadReply<CellNode>) -> Told {
 }
 
 /// What a step of a worker was: its kind, whom it was about, and what its call answered, but for what was written.
-fn took(took: &CellTook) -> (&'static str, Option<Identity>, Told) {
+fn took(took: &Took<Arc<SerializedData>>) -> (&'static str, Option<Identity>, Told) {
     match took {
         Took::Claim(identity, found) => (" claim", Some(*identity), claimed(found)),
         Took::Pin(identity, step) => (" pin", Some(*identity), pinned(step)),
@@ -218,11 +200,10 @@ fn push_work(
 
 /// Adds what was written of a value, as an item is spelled.
 fn push_written(alloc: Global, text: &mut String, written: &SerializedData) -> anyhow::Result<()> {
-    text.push_str(" 0x")?;
-    text.push_str(hex::encode(alloc, written.bytes.as_slice())?.as_str())?;
+    text.push_str(" ")?;
+    push_bytes(alloc, text, written.bytes.as_slice())?;
     text.push_str(":")?;
-    push_references(alloc, text, written.arcs.as_slice())?;
-    Ok(())
+    Ok(push_references(alloc, text, written.arcs.as_slice())?)
 }
 
 /// Adds what a step of a load answers, with a value that was read.

@@ -71,13 +71,13 @@ fn event(alloc: Global, part: &str) -> anyhow::Result<CellEvent> {
         "step" => Ok(Event::LoadStep(LoadNumber(number))),
         "read" => {
             let key = key_of(first).context("no key")?;
-            Ok(Event::LoadKey(key, behind.parse::<u32>().unwrap_or_default()))
+            Ok(Event::LoadKey(key, kind_of(behind)))
         }
         "table" => Ok(Event::TableNew),
         "item" => Ok(Event::WorkerItem(TableNumber(number), item(alloc, behind)?)),
         "listed" => Ok(Event::WorkerListed(TableNumber(number), number_of(behind))),
         "work" => Ok(Event::WorkerStep(WorkerNumber(number))),
-        _ => Ok(Event::Call(call(alloc, part)?)),
+        _ => Ok(Event::Call(call(alloc, name, rest)?)),
     }
 }
 
@@ -90,32 +90,14 @@ pub fn item(alloc: Global, spelled: &str) -> anyhow::Result<SerializedData> {
     })
 }
 
-/// One call: its name, and what it is about. A number that isn't there is 0, which nothing has.
-fn call(alloc: Global, part: &str) -> anyhow::Result<CellCall> {
-    let (name, rest) = split(part);
-    let (first, behind) = split(rest);
-    let number = number_of(first);
-    if let Some(call) = of_handle(name, HandleNumber(number)) {
-        return Ok(call);
-    }
-    if let Some(call) = of_reference(name, number, behind) {
-        return Ok(call);
-    }
-    if let Some(call) = of_number(name, number) {
-        return Ok(call);
-    }
-    if let Some(call) = of_key(name, first, behind) {
-        return Ok(call);
-    }
-    match name {
-        "load_take" => taken(alloc, LoadNumber(number), behind),
-        _ => of_value(alloc, name, number, rest),
-    }
-}
-
 /// A number that a word spells.
 fn number_of(word: &str) -> u64 {
     word.parse::<u64>().unwrap_or_default()
+}
+
+/// A kind of references, or a type, that a word spells.
+fn kind_of(word: &str) -> u32 {
+    word.parse::<u32>().unwrap_or_default()
 }
 
 /// A key that a word spells.
@@ -123,75 +105,74 @@ fn key_of(word: &str) -> Option<DataKey> {
     DataKey::new(word.parse::<u128>().unwrap_or_default())
 }
 
+/// One call: its name, and what it is about. A number that isn't there is 0, which nothing has.
+fn call(alloc: Global, name: &str, rest: &str) -> anyhow::Result<CellCall> {
+    let (first, behind) = split(rest);
+    if let Some(call) = of_handle(name, HandleNumber(number_of(first))) {
+        return Ok(call);
+    }
+    if let Some(call) = of_numbers(name, first, behind) {
+        return Ok(call);
+    }
+    let load = LoadNumber(number_of(first));
+    match name {
+        "new_loose" => Ok(Call::NewLoose(node(alloc, rest)?)),
+        "new_pinned" => Ok(Call::NewPinned(node(alloc, rest)?)),
+        "new_shared" => Ok(Call::NewShared(node(alloc, rest)?)),
+        "load_end" => Ok(Call::LoadEnd(load, node(alloc, behind)?)),
+        "load_adopt" => adopted(alloc, load, behind),
+        "load_take" => taken(alloc, load, behind),
+        "store" => Ok(Call::Store(blob(alloc, rest)?)),
+        _ => bail!("no such call"),
+    }
+}
+
 /// A call that is about a handle and no more.
 fn of_handle(name: &str, handle: HandleNumber) -> Option<CellCall> {
-    match name {
-        "clone" => Some(Call::Clone(handle)),
-        "pin" => Some(Call::Pin(handle)),
-        "unpin" => Some(Call::Unpin(handle)),
-        "release" => Some(Call::Release(handle)),
-        "into_pagable" => Some(Call::IntoPagable(handle)),
-        "schedule_for_paging" => Some(Call::ScheduleForPaging(handle)),
-        "load_begin" => Some(Call::LoadBegin(handle)),
-        "count" => Some(Call::Count(handle)),
-        "key" => Some(Call::Key(handle)),
-        "is_paged_out" => Some(Call::IsPagedOut(handle)),
-        "node_of" => Some(Call::NodeOf(handle)),
-        _ => None,
-    }
+    Some(match name {
+        "clone" => Call::Clone(handle),
+        "pin" => Call::Pin(handle),
+        "unpin" => Call::Unpin(handle),
+        "release" => Call::Release(handle),
+        "into_pagable" => Call::IntoPagable(handle),
+        "schedule_for_paging" => Call::ScheduleForPaging(handle),
+        "load_begin" => Call::LoadBegin(handle),
+        "count" => Call::Count(handle),
+        "key" => Call::Key(handle),
+        "is_paged_out" => Call::IsPagedOut(handle),
+        "node_of" => Call::NodeOf(handle),
+        _ => return None,
+    })
 }
 
-/// A call about a reference, by its kind and key: of the cache, whose number is the kind, or of a load.
-fn of_reference(name: &str, number: u64, behind: &str) -> Option<CellCall> {
+/// A call of other numbers, or of none.
+fn of_numbers(name: &str, first: &str, behind: &str) -> Option<CellCall> {
     let (second, third) = split(behind);
-    match name {
-        "cache_get" => Some(Call::CacheGet(kind_of(number)?, key_of(second)?)),
+    let (number, kind) = (number_of(first), Kind(kind_of(second)));
+    let load = LoadNumber(number);
+    Some(match name {
+        "node_live" => Call::NodeLive(NodeNumber(number)),
+        "take_pending" => Call::TakePending(number),
+        "reserve" => Call::Reserve(number),
+        "pending" => Call::Pending,
+        "cache_clear" => Call::CacheClear,
+        "flush" => Call::Flush,
+        "close" => Call::Close,
+        "fetch" => Call::Fetch(key_of(first)?),
+        "load_key" => Call::LoadKey(key_of(first)?),
+        "set_data_key" => Call::SetDataKey(HandleNumber(number), key_of(second)?),
+        "new_paged_out" => Call::NewPagedOut(kind_of(first), key_of(second)?),
+        "cache_get" => Call::CacheGet(Kind(kind_of(first)), key_of(second)?),
         "on_arc_deserialized" => {
             let handle = HandleNumber(number_of(third));
-            Some(Call::OnArcDeserialized(kind_of(number)?, key_of(second)?, handle))
+            Call::OnArcDeserialized(Kind(kind_of(first)), key_of(second)?, handle)
         }
-        "load_fetch" => {
-            let want = Want::Nested(kind_of(number_of(second))?, key_of(third)?);
-            Some(Call::LoadFetch(LoadNumber(number), want))
-        }
-        "load_lazy" => {
-            let kind = kind_of(number_of(second))?;
-            Some(Call::LoadLazy(LoadNumber(number), kind, key_of(third)?))
-        }
-        _ => None,
-    }
-}
-
-/// A kind of references.
-fn kind_of(number: u64) -> Option<Kind> {
-    Some(Kind(u32::try_from(number).ok()?))
-}
-
-/// A call of another number, or of none.
-fn of_number(name: &str, number: u64) -> Option<CellCall> {
-    match name {
-        "node_live" => Some(Call::NodeLive(NodeNumber(number))),
-        "take_pending" => Some(Call::TakePending(number)),
-        "load_fetch" => Some(Call::LoadFetch(LoadNumber(number), Want::Root)),
-        "load_drop" => Some(Call::LoadDrop(LoadNumber(number))),
-        "reserve" => Some(Call::Reserve(number)),
-        "pending" => Some(Call::Pending),
-        "cache_clear" => Some(Call::CacheClear),
-        "flush" => Some(Call::Flush),
-        "close" => Some(Call::Close),
-        _ => None,
-    }
-}
-
-/// A call with a key.
-fn of_key(name: &str, first: &str, behind: &str) -> Option<CellCall> {
-    match name {
-        "fetch" => Some(Call::Fetch(key_of(first)?)),
-        "load_key" => Some(Call::LoadKey(key_of(first)?)),
-        "set_data_key" => Some(Call::SetDataKey(HandleNumber(number_of(first)), key_of(behind)?)),
-        "new_paged_out" => Some(Call::NewPagedOut(first.parse::<u32>().ok()?, key_of(behind)?)),
-        _ => None,
-    }
+        "load_drop" => Call::LoadDrop(load),
+        "load_fetch" if behind.is_empty() => Call::LoadFetch(load, Want::Root),
+        "load_fetch" => Call::LoadFetch(load, Want::Nested(kind, key_of(third)?)),
+        "load_lazy" => Call::LoadLazy(load, kind, key_of(third)?),
+        _ => return None,
+    })
 }
 
 /// The handles that a load of a key hands over.
@@ -205,26 +186,10 @@ fn taken(alloc: Global, load: LoadNumber, words: &str) -> anyhow::Result<CellCal
     Ok(Call::LoadTake(load, handles))
 }
 
-/// A call with a value or a blob.
-fn of_value(alloc: Global, name: &str, number: u64, rest: &str) -> anyhow::Result<CellCall> {
-    let (_, behind) = split(rest);
-    let load = LoadNumber(number);
-    match name {
-        "new_loose" => Ok(Call::NewLoose(node(alloc, rest)?)),
-        "new_pinned" => Ok(Call::NewPinned(node(alloc, rest)?)),
-        "new_shared" => Ok(Call::NewShared(node(alloc, rest)?)),
-        "load_end" => Ok(Call::LoadEnd(load, node(alloc, behind)?)),
-        "load_adopt" => adopted(alloc, load, behind),
-        "store" => Ok(Call::Store(blob(alloc, rest)?)),
-        _ => bail!("no such call"),
-    }
-}
-
 /// What a load read under a kind and a key becomes a node.
 fn adopted(alloc: Global, load: LoadNumber, behind: &str) -> anyhow::Result<CellCall> {
     let (kind, rest) = split(behind);
     let (key, spelled) = split(rest);
-    let kind = kind_of(number_of(kind)).context("no kind")?;
     let key = key_of(key).context("no key")?;
-    Ok(Call::LoadAdopt(load, kind, key, node(alloc, spelled)?))
+    Ok(Call::LoadAdopt(load, Kind(kind_of(kind)), key, node(alloc, spelled)?))
 }

@@ -4,34 +4,24 @@ use crate::calls::CellPager;
 use pagable::{Error, HandleNumber, KeyHash, OptionalDataKey};
 use std::alloc::Global;
 
-/// The number of a key, or 0 for none.
-fn number(key: OptionalDataKey) -> u128 {
-    match key {
-        OptionalDataKey::None => 0,
-        OptionalDataKey::Some(key) => key.get(),
-    }
-}
-
-/// A handle's node, the node's count and key, and whether the value is out of memory.
-fn seen<H: KeyHash>(
-    pager: &CellPager<H>,
-    handle: HandleNumber,
-) -> Result<(u64, u64, u128, bool), Error> {
-    let node = pager.node_of(handle)?.0;
-    let count = pager.count(handle)?;
-    let key = number(pager.key(handle)?);
-    Ok((node, count, key, pager.is_paged_out(handle)?))
-}
-
-/// Adds a live handle: its number, its node, the node's count and key, whether the value is in memory, and the value.
+/// Adds a live handle: its number, its node, the node's count and key, or 0 for none, whether the value is in memory, and the value.
 fn push<H: KeyHash>(
     alloc: Global,
     text: &mut String,
     pager: &CellPager<H>,
     handle: HandleNumber,
 ) -> Result<(), Error> {
-    let (node, count, key, is_away) = seen(pager, handle)?;
-    let place = if is_away { "away" } else { "here" };
+    let node = pager.node_of(handle)?.0;
+    let count = pager.count(handle)?;
+    let key = match pager.key(handle)? {
+        OptionalDataKey::None => 0,
+        OptionalDataKey::Some(key) => key.get(),
+    };
+    let place = if pager.is_paged_out(handle)? {
+        "away"
+    } else {
+        "here"
+    };
     text.push_str(format!(in alloc; "; {}: {node} {count} {key} {place}", handle.0)?.as_str())?;
     if let Some(value) = pager.value(handle)? {
         text.push_str(" = ")?;

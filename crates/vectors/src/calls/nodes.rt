@@ -74,7 +74,7 @@ pub enum CellNode {
 }
 
 impl CellNode {
-    /// Adds the value as rows spell it, but for its type.
+    /// Adds the value as rows spell it, but for its type. The byte before lists is left out if it is 0.
     pub fn push(&self, alloc: Global, text: &mut String) -> Result<(), Error> {
         match self {
             CellNode::Name(name) | CellNode::Note(name) => text.push_str(name.as_ref().as_str())?,
@@ -82,20 +82,14 @@ impl CellNode {
                 text.push_str(hex::encode(alloc, &[*first, *second])?.as_str())?;
             }
             _ => {
+                if let CellNode::Mixed(mixed) = self {
+                    let tag = mixed.as_ref().0;
+                    if tag != 0 {
+                        text.push_str(format!(in alloc; "{tag}/")?.as_str())?;
+                    }
+                }
                 let references = NodeSet::<CellEnv<WeighHash>>::refs(self, alloc)?;
-                self.push_tag(alloc, text)?;
                 push_references(alloc, text, references.as_slice())?;
-            }
-        }
-        Ok(())
-    }
-
-    /// Adds the byte before lists, if it isn't 0.
-    fn push_tag(&self, alloc: Global, text: &mut String) -> Result<(), Error> {
-        if let CellNode::Mixed(mixed) = self {
-            let tag = mixed.as_ref().0;
-            if tag != 0 {
-                text.push_str(format!(in alloc; "{tag}/")?.as_str())?;
             }
         }
         Ok(())
@@ -111,8 +105,7 @@ pub fn node(alloc: Global, spelled: &str) -> anyhow::Result<CellNode> {
         "1" => Ok(CellNode::Note(text(alloc, rest)?)),
         "2" => mixed(alloc, rest),
         "7" => bytes(alloc, rest),
-        "5" => names(alloc, rest),
-        _ => referring(node_type, references(alloc, rest)?.as_slice()),
+        _ => referring(alloc, node_type, references(alloc, rest)?.as_slice()),
     }
 }
 
@@ -139,12 +132,6 @@ fn mixed(alloc: Global, spelled: &str) -> anyhow::Result<CellNode> {
     Ok(CellNode::Mixed(Arc::new(alloc, (tag.parse::<u8>()?, lists))?))
 }
 
-/// Shared references to texts.
-fn names(alloc: Global, spelled: &str) -> anyhow::Result<CellNode> {
-    let names = of_kinds(alloc, references(alloc, spelled)?.as_slice())?;
-    Ok(CellNode::Names(Arc::new(alloc, names)?))
-}
-
 /// Two bytes.
 fn bytes(alloc: Global, spelled: &str) -> anyhow::Result<CellNode> {
     match bytes_of(alloc, spelled)?.as_slice() {
@@ -153,9 +140,10 @@ fn bytes(alloc: Global, spelled: &str) -> anyhow::Result<CellNode> {
     }
 }
 
-/// A value of at most one reference, of one kind.
-fn referring(node_type: &str, references: &[ArcRef]) -> anyhow::Result<CellNode> {
+/// A value of references of one kind.
+fn referring(alloc: Global, node_type: &str, references: &[ArcRef]) -> anyhow::Result<CellNode> {
     match (node_type, references) {
+        ("5", names) => Ok(CellNode::Names(Arc::new(alloc, of_kinds(alloc, names)?)?)),
         ("3", []) => Ok(CellNode::Link(None)),
         ("3", [next]) => Ok(CellNode::Link(Some(of_kind(*next)?))),
         ("4", []) => Ok(CellNode::ArcLink(None)),

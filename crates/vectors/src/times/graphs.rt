@@ -1,18 +1,17 @@
 //! Texts, and values that refer to others, which are paged out and pinned again. Keys are made by SHA-256.
 
-use crate::calls::nodes::CellNode;
-use crate::calls::references::of_kind;
+use crate::calls::asked::item;
+use crate::calls::nodes::node;
 use crate::calls::{CellPager, pager_over};
-use crate::times::outcome::Outcome;
-use anyhow::{Context, bail};
+use crate::times::Outcome;
+use anyhow::Context;
 use pagable::{
-    ArcRef, DataKey, Error, HandleNumber, Kind, OfKind, PageOutError, SerializedData, Sha256Key,
-    SlotTable, paging,
+    DataKey, Error, HandleNumber, PageOutError, SerializedData, Sha256Key, SlotTable, paging,
 };
 use pagable_examples::Draws;
 use std::alloc::Global;
 use std::sync::Arc;
-use std::time::{Clock, Duration, Instant};
+use std::time::{Clock, Instant};
 
 type HashedPager = CellPager<Sha256Key>;
 
@@ -21,162 +20,94 @@ type Item = Arc<SerializedData>;
 /// How many texts the values of `items` share.
 const SHARED: u64 = 2_000;
 
-/// A pager, of which it is counted how many bytes its texts have.
+/// A pager that is filled.
 #[derive(Drop)]
 struct Filling<'a> {
     alloc: Global,
     pager: &'a mut HashedPager,
-    bytes: usize,
 }
 
 impl Filling<'_> {
-    /// A text as a value.
-    fn name(&mut self, text: String) -> anyhow::Result<CellNode> {
-        self.bytes = self.bytes.wrapping_add(text.len());
-        Ok(CellNode::Name(Arc::new(self.alloc, text)?))
-    }
-
-    /// A new cell that waits for its page-out.
-    fn listed(&mut self, node: CellNode) -> anyhow::Result<HandleNumber> {
-        let cell = self
-            .pager
-            .new_loose(self.alloc, node)
-            .map_err(|refused| refused.0)?;
-        self.pager.unpin(cell)?;
-        Ok(cell)
-    }
-
-    /// A new node that values share.
-    fn shared_node(&mut self, node: CellNode) -> anyhow::Result<HandleNumber> {
-        Ok(
-            self.pager
-                .new_shared(self.alloc, node)
-                .map_err(|refused| refused.0)?,
-        )
-    }
-
-    /// A new text that values share.
-    fn shared(&mut self, text: String) -> anyhow::Result<HandleNumber> {
-        let node = self.name(text)?;
-        self.shared_node(node)
-    }
-
-    /// A reference of this kind by this handle.
-    fn reference(&self, handle: HandleNumber, kind: u32) -> Result<ArcRef, Error> {
-        Ok(ArcRef {
-            kind: Kind(kind),
-            node: self.pager.node_of(handle)?,
-            handle,
-        })
-    }
-
-    /// The same by a copy of this handle.
-    fn copied<const KIND: u32>(&mut self, handle: HandleNumber) -> anyhow::Result<OfKind<KIND>> {
-        let copy = self.pager.clone(handle)?;
-        of_kind(self.reference(copy, KIND)?)
-    }
-
-    /// So many texts.
-    fn texts(&mut self, count: u32) -> anyhow::Result<Vec<HandleNumber>> {
-        let mut cells = Vec::with_capacity(self.alloc, count as usize)?;
-        for number in 0..count {
-            let text = format!(in self.alloc; "the text of cell number {number}")?;
-            let node = self.name(text)?;
-            cells.push(self.listed(node)?)?;
+    /// A new node of a value as rows spell it: a cell that waits for its page-out, or one that values share.
+    fn made(&mut self, spelled: &str, is_cell: bool) -> anyhow::Result<HandleNumber> {
+        let value = node(self.alloc, spelled)?;
+        let born = if is_cell {
+            self.pager.new_loose(self.alloc, value)
+        } else {
+            self.pager.new_shared(self.alloc, value)
+        };
+        let handle = born.map_err(|refused| refused.0)?;
+        if is_cell {
+            self.pager.unpin(handle)?;
         }
-        Ok(cells)
+        Ok(handle)
     }
 
-    /// Texts that are shared.
-    fn shared_texts(&mut self) -> anyhow::Result<Vec<HandleNumber>> {
-        let mut texts = Vec::new(self.alloc);
-        for number in 0..SHARED {
-            let text = format!(in self.alloc; "shared text number {number}")?;
-            texts.push(self.shared(text)?)?;
-        }
-        Ok(texts)
+    /// Adds a reference of this kind by this handle, as rows spell it.
+    fn refer(&self, spelled: &mut String, kind: u32, handle: HandleNumber) -> Result<(), Error> {
+        let node = self.pager.node_of(handle)?.0;
+        Ok(spelled.push_str(format!(in self.alloc; "{kind}:{node}:{},", handle.0)?.as_str())?)
     }
 
-    /// A list of eight references to drawn texts, as it is written.
-    fn item(&mut self, texts: &[HandleNumber], draws: &mut Draws) -> anyhow::Result<Item> {
-        let mut arcs = Vec::new(self.alloc);
+    /// A list of eight references to drawn ones of these texts, as it is written.
+    fn list(&self, texts: &[HandleNumber], draws: &mut Draws) -> anyhow::Result<Item> {
+        let mut spelled = String::from_str(self.alloc, "08:")?;
         for _ in 0..8 {
-            let place = (draws.number() % SHARED) as usize;
-            arcs.push(self.reference(*texts.get(place).context("no text")?, 0)?)?;
+            let text = texts
+                .get((draws.number() % SHARED) as usize)
+                .context("no text")?;
+            self.refer(&mut spelled, 0, *text)?;
         }
-        let bytes = vec![in self.alloc; 8u8]?;
-        Ok(Arc::new(self.alloc, SerializedData { bytes, arcs })?)
+        Ok(Arc::new(self.alloc, item(self.alloc, spelled.as_str())?)?)
     }
 
     /// So many lists of eight references each.
-    fn items(&mut self, count: u32) -> anyhow::Result<Vec<Item>> {
-        let texts = self.shared_texts()?;
+    fn lists(&mut self, count: u32) -> anyhow::Result<Vec<Item>> {
+        let mut texts = Vec::new(self.alloc);
+        for number in 0..SHARED {
+            let text = format!(in self.alloc; "0 shared text number {number}")?;
+            texts.push(self.made(text.as_str(), false)?)?;
+        }
         let mut draws = Draws::new(8);
-        let mut items = Vec::with_capacity(self.alloc, count as usize)?;
+        let mut lists = Vec::new(self.alloc);
         for _ in 0..count {
-            items.push(self.item(texts.as_slice(), &mut draws)?)?;
+            lists.push(self.list(texts.as_slice(), &mut draws)?)?;
         }
-        Ok(items)
+        Ok(lists)
     }
 
-    /// A node of a tree: it refers to two of those below it, by this kind, and to a text of its own.
-    fn branch(
-        &mut self,
-        below: &[HandleNumber],
-        place: usize,
-        is_loose: bool,
-        text: String,
-    ) -> anyhow::Result<CellNode> {
-        let (mut shared, mut loose, mut names) = (
-            Vec::new(self.alloc),
-            Vec::new(self.alloc),
-            Vec::new(self.alloc),
-        );
-        for next in 0..2 {
-            if let Some(kid) = below.get(
-                place.wrapping_mul(2).wrapping_add(next) % below.len().max(1),
-            ) {
-                if is_loose {
-                    loose.push(self.copied(*kid)?)?;
-                } else {
-                    shared.push(self.copied(*kid)?)?;
-                }
-            }
-        }
-        let name = self.shared(text)?;
-        names.push(of_kind(self.reference(name, 0)?)?)?;
-        let none = Vec::new(self.alloc);
-        let lists = (shared, (loose, (Vec::new(self.alloc), (none, names))));
-        Ok(CellNode::Mixed(Arc::new(self.alloc, (0, lists))?))
-    }
-
-    /// The nodes of one level of a tree, over those of the level below: twice as many as of the level above, and at most 64.
+    /// The nodes of one level of a tree, over those of the level below: twice as many as of the level above, and at most 64. Each
+    /// refers to two of those below it, by this kind, and to a text of its own.
     fn level(
         &mut self,
+        kind: u32,
         tree: u32,
         level: usize,
         below: &[HandleNumber],
-        is_loose: bool,
     ) -> anyhow::Result<Vec<HandleNumber>> {
         let mut nodes = Vec::new(self.alloc);
         for place in 0..1usize << level.min(6) {
-            let text = format!(in self.alloc; "tree {tree} level {level} node {place}")?;
-            let node = self.branch(below, place, is_loose, text)?;
-            let handle = if is_loose || level == 0 {
-                self.listed(node)?
-            } else {
-                self.shared_node(node)?
-            };
-            nodes.push(handle)?;
+            let mut spelled = String::from_str(self.alloc, "2 ")?;
+            for next in 0..2 {
+                let kid = place.wrapping_mul(2).wrapping_add(next) % below.len().max(1);
+                if let Some(kid) = below.get(kid) {
+                    let copy = self.pager.clone(*kid)?;
+                    self.refer(&mut spelled, kind, copy)?;
+                }
+            }
+            let text = format!(in self.alloc; "0 tree {tree} level {level} node {place}")?;
+            let text = self.made(text.as_str(), false)?;
+            self.refer(&mut spelled, 0, text)?;
+            nodes.push(self.made(spelled.as_str(), kind == 7 || level == 0)?)?;
         }
         Ok(nodes)
     }
 
     /// The root of a tree of 319 nodes in ten levels.
-    fn tree(&mut self, tree: u32, is_loose: bool) -> anyhow::Result<HandleNumber> {
+    fn tree(&mut self, kind: u32, tree: u32) -> anyhow::Result<HandleNumber> {
         let mut below = Vec::new(self.alloc);
-        for level in (0..10).rev() {
-            let nodes = self.level(tree, level, below.as_slice(), is_loose)?;
+        for place in (0..10).rev() {
+            let nodes = self.level(kind, tree, place, below.as_slice())?;
             for handle in &below {
                 self.pager.release(*handle)?;
             }
@@ -185,120 +116,75 @@ impl Filling<'_> {
         below.pop().context("no root")
     }
 
-    /// So many trees, whose nodes refer to each other by loose references or by shared ones.
-    fn trees(&mut self, count: u32, is_loose: bool) -> anyhow::Result<Vec<HandleNumber>> {
-        let mut roots = Vec::with_capacity(self.alloc, count as usize)?;
-        for tree in 0..count {
-            roots.push(self.tree(tree, is_loose)?)?;
-        }
-        Ok(roots)
-    }
-
-    /// The cells of this row.
+    /// The cells of a row: texts, or roots of trees whose nodes refer to each other by shared references or by loose ones.
     fn cells(&mut self, row: &str, count: u32) -> anyhow::Result<Vec<HandleNumber>> {
-        match row {
-            "cells" => self.texts(count),
-            _ => self.trees(count, row == "cell_trees"),
+        let mut cells = Vec::new(self.alloc);
+        for number in 0..count {
+            let text = format!(in self.alloc; "0 the text of cell number {number}")?;
+            cells.push(match row {
+                "cells" => self.made(text.as_str(), true)?,
+                "trees" => self.tree(6, number)?,
+                _ => self.tree(7, number)?,
+            })?;
         }
+        Ok(cells)
     }
-}
 
-/// Pages out the cells that wait, and pins each of these.
-fn out_and_in(
-    clock: &impl Clock,
-    alloc: Global,
-    pager: &mut HashedPager,
-    cells: &[HandleNumber],
-) -> anyhow::Result<(Duration, Duration)> {
-    let start = Instant::now(clock)?;
-    if let Err(PageOutError::Failed(e)) = paging::page_out_pending(alloc, pager) {
-        return Err(e.into());
-    }
-    let write = start.elapsed(clock)?;
-    let start = Instant::now(clock)?;
-    for cell in cells {
-        paging::pin(alloc, pager, *cell)?;
-    }
-    Ok((write, start.elapsed(clock)?))
-}
-
-/// Pages out each item, on one table: their keys.
-fn keys_of(
-    alloc: Global,
-    pager: &mut HashedPager,
-    items: Vec<Item>,
-) -> anyhow::Result<Vec<DataKey>> {
-    let mut table = SlotTable::new(alloc);
-    let mut keys = Vec::with_capacity(alloc, items.len())?;
-    for item in items {
-        match paging::page_out_item(alloc, pager, &mut table, item) {
-            Ok(key) => keys.push(key)?,
-            Err(_) => bail!("an item isn't paged out"),
+    /// Pages out the cells of a row, and pins each.
+    fn cells_out_and_in(
+        &mut self,
+        clock: &impl Clock,
+        row: &str,
+        count: u32,
+    ) -> anyhow::Result<Outcome> {
+        let cells = self.cells(row, count)?;
+        let start = Instant::now(clock)?;
+        if let Err(PageOutError::Failed(e)) = paging::page_out_pending(self.alloc, self.pager) {
+            return Err(e.into());
         }
+        let write = start.elapsed(clock)?;
+        let start = Instant::now(clock)?;
+        for cell in &cells {
+            paging::pin(self.alloc, self.pager, *cell)?;
+        }
+        let read = start.elapsed(clock)?;
+        Ok(Outcome { write, read })
     }
-    Ok(keys)
-}
 
-/// Pages out items, and reads each key.
-fn items_out_and_in(
-    clock: &impl Clock,
-    alloc: Global,
-    pager: &mut HashedPager,
-    items: Vec<Item>,
-) -> anyhow::Result<(Duration, Duration)> {
-    let start = Instant::now(clock)?;
-    let keys = keys_of(alloc, pager, items)?;
-    let write = start.elapsed(clock)?;
-    let start = Instant::now(clock)?;
-    for key in keys {
-        paging::read(alloc, pager, key, 5)?;
+    /// Pages out items on one table: their keys.
+    fn keys_of(&mut self, items: Vec<Item>) -> anyhow::Result<Vec<DataKey>> {
+        let mut table = SlotTable::new(self.alloc);
+        let mut keys = Vec::with_capacity(self.alloc, items.len())?;
+        for item in items {
+            let key = paging::page_out_item(self.alloc, self.pager, &mut table, item);
+            keys.push(key.ok().context("an item isn't paged out")?)?;
+        }
+        Ok(keys)
     }
-    Ok((write, start.elapsed(clock)?))
+
+    /// Pages out lists, and reads each key.
+    fn lists_out_and_in(&mut self, clock: &impl Clock, count: u32) -> anyhow::Result<Outcome> {
+        let lists = self.lists(count)?;
+        let start = Instant::now(clock)?;
+        let keys = self.keys_of(lists)?;
+        let write = start.elapsed(clock)?;
+        let start = Instant::now(clock)?;
+        for key in keys {
+            paging::read(self.alloc, self.pager, key, 5)?;
+        }
+        let read = start.elapsed(clock)?;
+        Ok(Outcome { write, read })
+    }
 }
 
-/// Makes what a row pages out, pages it out, and reads it back.
-fn run_row(
-    clock: &impl Clock,
-    alloc: Global,
-    pager: &mut HashedPager,
-    row: &str,
-    count: u32,
-) -> anyhow::Result<Outcome> {
-    let mut filling = Filling {
-        alloc,
-        pager: &mut *pager,
-        bytes: 0,
-    };
-    let (bytes, (write, read)) = if row == "items" {
-        let items = filling.items(count)?;
-        (filling.bytes, items_out_and_in(clock, alloc, pager, items)?)
-    } else {
-        let cells = filling.cells(row, count)?;
-        (
-            filling.bytes,
-            out_and_in(clock, alloc, pager, cells.as_slice())?,
-        )
-    };
-    Ok(Outcome { bytes, write, read })
-}
-
-/// The same in a new pager.
-fn once(clock: &impl Clock, alloc: Global, row: &str, count: u32) -> anyhow::Result<Outcome> {
+/// Makes what a row pages out in a new pager, pages it out, and reads it back.
+pub fn once(clock: &impl Clock, alloc: Global, row: &str, count: u32) -> anyhow::Result<Outcome> {
     let mut pager = pager_over(alloc, "");
-    run_row(clock, alloc, &mut pager, row, count)
-}
-
-/// Runs a row of so many cells or trees so often, and tells its shortest times.
-pub fn graphs(
-    clock: &impl Clock,
-    alloc: Global,
-    row: &str,
-    count: u32,
-    runs: u64,
-) -> anyhow::Result<Outcome> {
-    let mut outcome = once(clock, alloc, row, count)?;
-    for _ in 1..runs {
-        outcome = outcome.with_shorter(once(clock, alloc, row, count)?);
+    let pager = &mut pager;
+    let mut filling = Filling { alloc, pager };
+    if row == "items" {
+        filling.lists_out_and_in(clock, count)
+    } else {
+        filling.cells_out_and_in(clock, row, count)
     }
-    Ok(outcome)
 }
