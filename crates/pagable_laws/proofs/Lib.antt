@@ -15,6 +15,7 @@ mod Nexts
 pub mod Goes
 pub mod Outlasting
 pub mod GoodReferences
+pub mod Effects
 mod Called
 mod ReadingStepsKinds
 pub mod ReadingStepsGive

@@ -6,9 +6,8 @@ pub use Rattle.std.{proofs.{lemmas.Map.Made.lookup-map_values, Math.{ListN.set, 
 pub use Rattle.std.specs.{Map.lookup, Option.option_map, Vec.vec_capacity, declared.{alloc.Global.Global, sync.Arc.Arc, vec.Vec.Vec}}
 pub use Rattle.{pagable_core.specs.declared.{context.writing.SerializedData.SerializedData, storage.data.PagableData.PagableData}, pagable_laws.proofs.Goes.{at-updated, Goes, RowsGo, fell-anyhow}}
 pub use Rattle.pagable_laws.proofs.{Goes.quiet-goes, Outlasting.{stands-whole, Stands}}
-pub use Rattle.pagable_laws.proofs.{Chains.headline_law, ReadingSteps.event-goes, ReadingStepsGive.neither, SparingSteps.{Free, Spares, then-fell}}
+pub use Rattle.pagable_laws.proofs.{Chains.headline_law, ReadingSteps.event-goes, ReadingStepsGive.neither, Effects.{Free, Spares, then-fell, worker-apart}}
 pub use Rattle.pagable_laws.{proofs.{SparingSteps.event-spares, Sums.{same-number, self-number, counted, one-true}, Trees.same_some}, specs.{KeyRuns.StandsAt, TreeSteps.Change}}
-pub use Rattle.pagable_laws.proofs.SparingSteps.{worker-apart}
 pub use Rattle.{pagable_laws.specs.TreeSteps.nothing_felt, pagable_loads.specs.{Frames.{reading_of, IsLoadOf, is_cell}, Telling.values_at, Working.{RefusesEntry, StartsEntry}}}
 pub use Rattle.pagable_machine.specs.Driving.{Answer, ByNumber, Drives, Given, IsInStep, holding, kept_at, over, Readings, MachineView, Over, Runs, machine_in, view_of, claims_at, claims_of}
 pub use Rattle.pagable_machine.specs.{Driving.table_view, Keeping.{Holding, IsServing, KeepsOne, Makes, machine_of, readings_in, BeginsNoKey, Forgets, IsPrepared, IsTaken, Kept, Stepped, CountsStep}}
