@@ -191,8 +191,8 @@ module _ {N B W : Type 0} (m : Seen N B W) (u u' : World) (work : StandsIn u) wh
 
   pub event-turns : KnowsTables u → (event : Event N B W) (reply : EventReply N B W) → Happens m u event reply u' → EventTurns m u event reply u'
   event-turns tables (Event.Call call) (EventReply.CallReply r) h = by-work _ _ (λ n. refl) (call-last call r h.step) h.work
-  event-turns tables (Event.LoadStart q) (EventReply.Started r) h = by-work _ _ (λ n. refl) (calling.begins r h.step).workers_last h.work
-  event-turns tables (Event.LoadKey key t) (EventReply.Started r) h = by-work _ _ (λ n. refl) (calling.begins-key r h.step).workers_last h.work
+  event-turns tables (Event.LoadStart q) (EventReply.Started r) h = by-work _ _ (λ n. refl) (calling.begin-goes r h.step).workers_last h.work
+  event-turns tables (Event.LoadKey key t) (EventReply.Started r) h = by-work _ _ (λ n. refl) (calling.key-goes r h.step).workers_last h.work
   event-turns tables Event.TableNew (EventReply.TableMade (Ok t)) h = tabled _ _ (λ n. refl) tables t h.made.0 h.made.1 h.made.3
   event-turns tables (Event.WorkerItem t item) (EventReply.WorkerMade (Ok v)) h = starts _ _ (λ n. refl) t _ u.core v refl h.starts
   event-turns tables (Event.WorkerListed t i) (EventReply.WorkerMade (Ok v)) h = starts _ _ (λ n. refl) t _ _ v refl h.starts.5

@@ -294,40 +294,37 @@ begun c w key root me well =
     next-above : (l last : ℕ) → l ≡ last + 1 → last < l
     next-above l last is = omega arith
 
--- the cells that a quiet step leaves are the ones that a load that begins then is of
-pub quiet-begins : {w m w' : Core} → Quiet w m → Goes nothing_felt m w' → Goes nothing_felt w w'
-quiet-begins {w} {m} {w'} a b =
+-- two steps of which nothing is felt: the cells that the first leaves are those that a load that the second begins is of
+pub goes-then : {w m w' : Core} → Goes nothing_felt w m → Goes nothing_felt m w' → Goes nothing_felt w w'
+goes-then {w} {m} {w'} a b =
     record {
       nodes = let c = a.nodes in let d = b.nodes in omega arith;
       handles = let c = a.handles in let d = b.handles in omega arith;
       loads_last = let c = a.loads_last in let d = b.loads_last in omega arith;
       workers_last = let c = a.workers_last in let d = b.workers_last in omega arith;
-      cells = λ n cell is. elim (b.cells n cell is) [
-        | inl k ↦ inl (record { was = k.was; live = a.cells n k.was k.live; typed = k.typed; key = kept-key k })
-        | inr (next, bears) ↦ absurd bears
-      ];
+      cells = λ n cell is. elim (b.cells n cell is) [ inl k ↦ inl (kept n cell k (was n k.was k.live)) | inr (next, bears) ↦ absurd bears ];
       stored = λ q blob is. b.stored q blob (a.stored q blob is);
       loads = λ l load is. elim (b.loads l load is) [
-        | inl there ↦ inl (a.loads l load there)
+        | inl there ↦ a.loads l load there
         | inr (above, well) ↦ inr (let c = a.loads_last in omega arith, λ node t h root. let k = well node t h root in both node.0 t load.key (m.cells node.0) refl k.0 k.1)
       ];
-      cache = λ kind key n is. elim (b.cache kind key n is) [
-        | inl there ↦ inl (a.cache kind key n there)
-        | inr known ↦ absurd known
-      ];
+      cache = λ kind key n is. elim (b.cache kind key n is) [ inl there ↦ a.cache kind key n there | inr known ↦ absurd known ];
       rows = rows-then w.last.handle m.last.handle w.rows m.rows w'.rows a.handles a.rows b.rows;
       shut = λ is. b.shut (a.shut is);
     }
   where
-    kept-key : {n : ℕ} {cell : Cell} → (k : Kept nothing_felt m n cell) → (cell.key ≡ k.was.key) ⊎ ((key : ℕ) × Sets nothing_felt n key × (cell.key ≡ OptionalDataKey.Some key))
-    kept-key k = elim k.key [
-      | inl same ↦ inl same
-      | inr (key, none, is) ↦ absurd none
-    ]
+    same-key : {u : Core} {n : ℕ} {cell : Cell} → (k : Kept nothing_felt u n cell) → cell.key ≡ k.was.key
+    same-key k = elim k.key [ inl same ↦ same | inr (key, none, is) ↦ absurd none ]
+
+    was : (n : ℕ) (cell : Cell) → m.cells n ≡ Some cell → Kept nothing_felt w n cell
+    was n cell is = elim (a.cells n cell is) [ inl k ↦ k | inr (next, bears) ↦ absurd bears ]
+
+    kept : (n : ℕ) (cell : Cell) → (k : Kept nothing_felt m n cell) → Kept nothing_felt w n k.was → Kept nothing_felt w n cell
+    kept n cell k j = record { was = j.was; live = j.live; typed = k.typed ∙ j.typed; key = inl (same-key k ∙ same-key j) }
 
     both : (n t key : ℕ) (found : Option Cell) → m.cells n ≡ found → type_at m n ≡ Some t → key_at m n ≡ OptionalDataKey.Some key → (type_at w n ≡ Some t) × (key_at w n ≡ OptionalDataKey.Some key)
     both n t key None there typed own = let e : type_at m n ≡ None = rw there refl in absurd (cc)
-    both n t key (Some cell) there typed own = grind (arith, nat_tests)
+    both n t key (Some cell) there typed own = let k = was n cell there in let e = same-key k in grind (arith, nat_tests)
 
 at-cached : (k q m kind key n : ℕ) (old : Option ℕ) (b d : Bool) → (kind == k) ≡ b → (key == q) ≡ d → (if b && d then Some m else old) ≡ Some n → ((kind ≡ k) × (key ≡ q) × (n ≡ m)) ⊎ (old ≡ Some n)
 at-cached k q m kind key n old x7 x8 e f is = grind (arith, nat_tests, same-number)

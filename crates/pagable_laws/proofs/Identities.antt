@@ -2,9 +2,9 @@
 use Rattle.pagable_laws.proofs.Words.{◌≡◌, ℕ, zero, suc, ◌+◌, ◌≤◌, Bool, true, false, List, [], ◌∷◌, Some, None, inl, inr, refl, sym, ap, subst, ◌∙◌, if◌then◌else◌, arith, nat_tests, OptionalDataKey}
 use Rattle.pagable_laws.proofs.Words.{Owner, Mode, Kind, ArcRef, LoadNumber, type_of, Among, is_pinned_kind, mode_of, fits_mode, is_pinning, Core, Last, Alike, Seen, usable, with_handle}
 use Rattle.pagable_laws.proofs.Words.{with_node, with_cached, next_node, GetsKnown, adopted, first_key, MachineState, world_of, IsWhole, IsMachineWhole, Moment, AreMoments, state_after}
-use Rattle.pagable_laws.proofs.{Words.{GetsReference, IsFilledByReading, LeavesCache, StaysAlive, OneIdentityLaw, Change, GetsRow}, Goes.{Quiet, Goes, KnowsNext, quiet-then, quiet-goes, goes-quiet}}
+use Rattle.pagable_laws.proofs.{Words.{GetsReference, IsFilledByReading, LeavesCache, StaysAlive, OneIdentityLaw, Change, nothing_felt, GetsRow}, Goes.{Goes, KnowsNext, quiet-then, quiet-goes, goes-quiet}}
 use Rattle.pagable_laws.proofs.{Goes.{alike, a-handle, fell-anyhow, adopts}, Called.gets-known, Outlasting.among-found, ReadingSteps.{cached-rows, got-known, got-fallen, got-born, is-cached}}
-use Rattle.pagable_laws.proofs.{ReadingSteps.event-goes, Sums.self-number, SparingSteps.{IsEntered, IsHeldFor, can-use, entered-of, stays-alike, stays-fell, keeps-open, event-lasts}}
+use Rattle.pagable_laws.proofs.{ReadingSteps.event-goes, Sums.self-number, Effects.{IsEntered, IsHeldFor, can-use, entered-of, stays-alike, stays-fell}, SparingSteps.{keeps-open, event-lasts}}
 
 -- ---- what is got
 
@@ -14,7 +14,7 @@ HeldEnters w kind key n = IsHeldFor kind.0 key n w.rows → IsEntered kind.0 key
 
 -- a reference that is got is of the node that the cache gives, or of the next one where it gives none
 data Got (w : Core) (kind : Kind) (key n : ℕ) (w' : Core) : Type 0 where
-  got-old : usable w kind.0 key ≡ Some n → Quiet w w' → HeldEnters w' kind key n → Got w kind key n w'
+  got-old : usable w kind.0 key ≡ Some n → Goes nothing_felt w w' → HeldEnters w' kind key n → Got w kind key n w'
   got-new : usable w kind.0 key ≡ None → n ≡ w.last.node + 1 → (l : LoadNumber) (own : OptionalDataKey) (references : List ArcRef) → Alike (adopted w l kind key own references) w'
       → Got w kind key n w'
 
@@ -31,11 +31,11 @@ record Gotten (w : Core) (kind : Kind) (key n : ℕ) (w' : Core) : Type 0 where
   from : Got w kind key n w'
 
 module _ {w w' : Core} (whole : IsWhole w) (kind : Kind) (key n : ℕ) (g : GetsReference w kind key n w') where
-  old : (m : ℕ) → usable w kind.0 key ≡ Some m → GetsRow w w' kind m g.row → Quiet w w' → (IsEntered kind.0 key m w.cache w.cells → HeldEnters w' kind key m) → Gotten w kind key n w'
+  old : (m : ℕ) → usable w kind.0 key ≡ Some m → GetsRow w w' kind m g.row → Goes nothing_felt w w' → (IsEntered kind.0 key m w.cache w.cells → HeldEnters w' kind key m) → Gotten w kind key n w'
   old m is gets q enters = subst (λ x. Gotten w kind key x w') (sym gets.at ∙ g.at) (record { held = held-by kind key gets; from = got-old is q (enters (entered-of kind.0 key m w is)) })
 
   known : GetsKnown w g.l kind key g.k w' → Gotten w kind key n w'
-  known c = old c.n c.known (got-known whole.handles kind g.k g.row g.made c.next.above c.n (Owner.Load g.l) c.leaves) (gets-known c) (λ e h. stays-alike kind.0 key c.n c.leaves e h)
+  known c = old c.n c.known (got-known whole.handles kind g.k g.row g.made c.next.above c.n (Owner.Load g.l) c.leaves) (gets-known {me = Owner.Caller} {lists = false} {Asks = Unit {0}} {Leaves = Unit {0}} c).goes (λ e h. stays-alike kind.0 key c.n c.leaves e h)
 
   new : (own : OptionalDataKey) (references : List ArcRef) → g.k.0 ≡ w.last.handle + 1 → usable w kind.0 key ≡ None → Alike (adopted w g.l kind key own references) w' → Gotten w kind key n w'
   new own references above none a =
@@ -50,7 +50,7 @@ module _ {w w' : Core} (whole : IsWhole w) (kind : Kind) (key n : ℕ) (g : Gets
     | inr (inr (t, references, c)) ↦ elim c.makes [
       | inl (m, is, f) ↦
           let gets = got-fallen whole.handles kind g.k g.row g.made c.next.above m (Owner.Load g.l) f in
-          old m is gets (quiet-then (a-handle w _ _ (Owner.Load g.l)) (fell-anyhow f)) (λ e h. stays-fell kind.0 key m f.falls e h)
+          old m is gets (quiet-goes nothing_felt (quiet-then (a-handle w _ _ (Owner.Load g.l)) (fell-anyhow f))) (λ e h. stays-fell kind.0 key m f.falls e h)
       | inr (none, few, a) ↦ new (first_key kind.0 key) references c.next.above none a
     ]
   ]
@@ -75,7 +75,7 @@ once-goes kind key n {w = w} g next once =
     }
 
 once-got : {w w' : Core} (kind : Kind) (key n : ℕ) → IsWhole w → IsFilledByReading w → Got w kind key n w' → IsKnownOnce kind.0 key n w'
-once-got {w} kind key n whole filled (got-old is q enters) = grind (arith, is-cached, once-goes, quiet-goes, known)
+once-got {w} kind key n whole filled (got-old is q enters) = grind (arith, is-cached, once-goes, known)
 once-got {w} {w'} kind key n whole filled (got-new none next l own references a) =
     let g = goes-quiet (adopts w l kind key own references) (alike a) in
     let made = with_handle (with_node w (type_of kind.0) own references) (next_node w) (mode_of kind.0) (Owner.Load l) in

@@ -13,6 +13,7 @@ mod Nexts
 pub mod Goes
 pub mod Outlasting
 pub mod GoodReferences
+pub mod Effects
 mod Called
 mod ReadingStepsKinds
 pub mod ReadingStepsGive

@@ -1,5 +1,5 @@
 -- A load from its begin to its end keeps trees: what it pins stands for its node's tree, and what it reads for the tree that its key reads as.
-use Rattle.pagable_laws.proofs.{Felt.reading-fits, Called.begins, Called.begins-key, Decoding.decodes, ReadingSteps.core-goes, Felt.fits-nothing, Fitting.{first-fits, frames-stay}, Goes.Goes}
+use Rattle.pagable_laws.proofs.{Felt.reading-fits, Called.{begin-goes, key-goes}, Decoding.decodes, ReadingSteps.core-goes, Felt.fits-nothing, Fitting.{first-fits, frames-stay}, Goes.Goes}
 use Rattle.pagable_laws.proofs.{ReadingSteps.{ReadingFelt, caller-free, reading-feels}, ReadingStepsGive.{got-typed, hands, held-after}, Taking.AtStep}
 use Rattle.pagable_laws.proofs.{Taking.{FitAfter, fit-after, row-held, root-right, stands-here}, Trees.same_some, Felt.trees-go-on}
 use Rattle.std.proofs.{Common.{◌≡◌, ℕ, zero, ◌+◌, ◌<◌, ◌≤◌, ◌==◌, true, List, [], Option, Some, None, if◌then◌else◌, inl, inr, refl, sym, ap, subst, ◌∙◌, arith}, lemmas.Bool.Decides.nat_tests}
@@ -39,11 +39,11 @@ after-then a b = record { same = λ n within. b.same n (let c = a.nodes in omega
 module _ {N E : Type 0} {v : Values N} (lawful : IsLawful v) (readable : ReadsItsTypes v.types) where
   module _ (s s' : PagerState N E) (trees : ℕ → Tree) (key : ℕ) (reading : Reading) (answer : Option (LoadAnswer N)) (frames : List Frame) (u : Under v s trees key reading) (settled' : HoldsSettled v s') (takes : TakesWell v s reading)
       (step : ReadingStep v owners.Caller reading s answer frames s') where
-    felt : ReadingFelt v s.core reading answer frames s'.core
+    felt : ReadingFelt v s.core owners.Caller reading answer frames s'.core
     felt = reading-feels (seen v) s.core owners.Caller caller-free s'.core reading answer frames step.does
 
     goes : CoreGoes felt.change s.core s'.core
-    goes = core-goes felt.change u.well.whole.handles felt.goes
+    goes = core-goes felt.change u.well.whole.handles felt.does.goes
 
     feels : ReadingFeels v s.core reading answer frames s'.core felt.change
     feels = felt.feels u.well.whole.handles
@@ -187,9 +187,9 @@ pub pin_law : {N E : Type 0} (v : Values N) → PinLaw E v
 pin_law v s mid s' h k reading x row run well starts asks live held lawful readable settled trees stands =
     let c = starts.begins in
     let b = c.step.begins.2 in
-    let first = begun lawful readable s mid trees well settled stands (begins _ c.step) c.moves c.whole in
+    let first = begun lawful readable s mid trees well settled stands (begin-goes _ c.step) c.moves c.whole in
     let f = is-fresh reading.load (mid.core.loads reading.load.0) reading starts.is in
-    let u = under lawful readable s mid trees well settled stands (begins _ c.step) c.moves c.whole (with_handle s.core c.step.begins.0.node modes.LooseUnpinned (owners.Load reading.load)) reading.load f.0 starts.key (of_cell c.step.begins.0.node b.4.0 h) b.2.above b.4.2 in
+    let u = under lawful readable s mid trees well settled stands (begin-goes _ c.step) c.moves c.whole (with_handle s.core c.step.begins.0.node modes.LooseUnpinned (owners.Load reading.load)) reading.load f.0 starts.key (of_cell c.step.begins.0.node b.4.0 h) b.2.above b.4.2 in
     let r = comes lawful readable run asks trees starts.key (subst (λ z. Under v mid trees starts.key z) (sym f.1) u) in
     let after = after-then first r.after in
     (r.trees', after.same, after.stands, stands-here (after.stands.stands row.node.0 (row-held s'.core k row live)) held)
@@ -197,8 +197,8 @@ pin_law v s mid s' h k reading x row run well starts asks live held lawful reada
 pub read_law : {N E : Type 0} (v : Values N) → ReadLaw E v
 read_law v s mid s' key t l x run well starts asks settled_value lawful readable settled trees stands =
     let b = starts.step.begins in
-    let first = begun lawful readable s mid trees well settled stands (begins-key _ starts.step) starts.moves starts.whole in
-    let u = under lawful readable s mid trees well settled stands (begins-key _ starts.step) starts.moves starts.whole s.core l t key of_key b.1.above b.2 in
+    let first = begun lawful readable s mid trees well settled stands (key-goes _ starts.step) starts.moves starts.whole in
+    let u = under lawful readable s mid trees well settled stands (key-goes _ starts.step) starts.moves starts.whole s.core l t key of_key b.1.above b.2 in
     let r = comes lawful readable run asks trees key u in
     let after = after-then first r.after in
     (r.trees', after.same, after.stands, r.right x refl)

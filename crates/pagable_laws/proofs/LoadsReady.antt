@@ -1,11 +1,11 @@
 -- What a load has got stays live and the load's own, each handle once, as long as the load makes its own steps; and so does the handle that began it.
 use Rattle.pagable_laws.proofs.Words.{nat_tests, ◌≡◌, ℕ, zero, suc, ◌+◌, ◌<◌, ◌≤◌, ◌==◌, ◌||◌, Bool, true, false, List, [], ◌∷◌, ◌++◌, Some, inl, inr, refl, sym, ap, subst, ◌∙◌, if◌then◌else◌, arith}
-use Rattle.pagable_laws.proofs.Words.{slice_get, sum_by, sum_by-cons, sum_by_push, HandleRow, Owner, Mode, ArcRef, Kind, HandleNumber, LoadNumber, NodeNumber, OptionalDataKey, Among, type_of, one}
+use Rattle.pagable_laws.proofs.Words.{slice_get, sum_by, sum_by-cons, sum_by_push, HandleRow, Owner, ArcRef, Kind, HandleNumber, LoadNumber, NodeNumber, OptionalDataKey, Among, type_of, one}
 use Rattle.pagable_laws.proofs.Words.{times, mode_of, Core, OpenLoad, of_cell, Frame, Alike, row_at, row_of, with_handle, with_node, next_node, is_named_by, Asked, adopted, GetsKnown, with_got}
 use Rattle.pagable_laws.proofs.{Words.{HandlesAreWhole, Tree, find_row, Reading, Values, IsLawful, nested_frame, GoesOn, GetsLazy, MakesNode, FramesFit, ReadsItsTypes, FramesHeld}, Outlasting.Stands}
-use Rattle.pagable_laws.proofs.{Outlasting.{AreUpTo, stands-alike, stands-changed, stands-more, stands-new, among-changed, NotValues, stands-whole, stands-fell}, Apart.AreApart, Fitting.pushed}
-use Rattle.pagable_laws.proofs.{Fitting.first-fits, Goes.{found-number, le-more, none-in-next}, ReadingSteps.cached-rows, Sums.{self-number, same-number, at-most-sum, sum-zero}}
-use Rattle.pagable_laws.proofs.{Outlasting.{new-handle, low-whole}, Decoding.decodes, GoodReferences.good, Trees.same_some}
+use Rattle.pagable_laws.proofs.{Outlasting.{AreUpTo, stands-alike, stands-changed, stands-new, among-changed, NotValues, stands-whole, stands-fell}, Apart.AreApart, Fitting.pushed}
+use Rattle.pagable_laws.proofs.{Fitting.first-fits, Goes.{found-number}, ReadingSteps.cached-rows, Sums.{self-number, same-number, at-most-sum, sum-zero}}
+use Rattle.pagable_laws.proofs.{Effects.with-one, Outlasting.{new-handle, low-whole}, Decoding.decodes, GoodReferences.good, Trees.same_some}
 use Rattle.std.proofs.lemmas.Bool.{cases_Bool}
 
 -- ---- each handle once
@@ -76,11 +76,6 @@ apart-once (x ∷ xs) once (suc i) (suc j) r q is at same =
 -- ---- rows
 
 -- a row stays where a handle comes
-pub with-one : (w : Core) {q : ℕ} {row : HandleRow} (node : NodeNumber) (mode : Mode) (owner : Owner) → Stands w.last.handle w.rows q row
-    → Stands (with_handle w node mode owner).last.handle (with_handle w node mode owner).rows q row
-with-one w {q} {row} node mode owner s =
-    stands-more (row_of (w.last.handle + 1) node mode owner ∷ []) (le-more _ _) (none-in-next w.last.handle q (row_of (w.last.handle + 1) node mode owner) refl s.given) s
-
 module _ (w w' : Core) where
   pub asked-keeps : {q : ℕ} {row : HandleRow} → Asked w w' → Stands w.last.handle w.rows q row → Stands w'.last.handle w'.rows q row
   asked-keeps a s = stands-alike {w = record w { failures = w'.failures }} a.leaves s

@@ -8,7 +8,7 @@ use Rattle.pagable_laws.proofs.Words.{IsPublished, next_start, settle, give, giv
 use Rattle.pagable_laws.proofs.Words.{nothing_felt, WorkerNumber, Tree, Event, EventReply, WorkerReply, Walking, World, Values, WorkerSteps, MachineState, world_of, IsMachineWhole}
 use Rattle.pagable_laws.proofs.{Words.{IsIdle, ReadsItsTypes, KeepsOpen, KeysAreReady, KeysHeld, WorkFits, new_walking, step_of, TableNumber}, Goes.{Goes, Kept, found-number, fell, goes-quiet}}
 use Rattle.pagable_laws.proofs.{Goes.quiet-goes, Outlasting.{stands-new, among-found, NotValues, Stands, stands-whole, stands-alike, stands-fell}, Following.given-of, Answering.sets-key, Called.pins}
-use Rattle.pagable_laws.proofs.{Called.begins, Standing.{put-cases, is-same}, ReadingSteps.{ends-quiet, event-goes}, Stepping.keys-same, SparingSteps.{Spares, event-spares}}
+use Rattle.pagable_laws.proofs.{Called.begin-goes, Standing.{put-cases, is-same}, ReadingSteps.{ends-quiet, event-goes}, Stepping.keys-same, SparingSteps.{Spares, event-spares}}
 use Rattle.pagable_laws.proofs.{Trees.same_some, ReadingSteps.{works-free, walk-goes}, Coming.{updated-at, EventTurns, turns-keep}}
 use Rattle.pagable_world.specs.Runs.{Does as DoesMoment}
 use Rattle.std.proofs.Common.{rules}
@@ -208,11 +208,11 @@ module _ {N B W : Type 0} (m : Seen N B W) (v : ℕ) (s s' : Site) (whole : Hand
   pinned-stands : (r : ArcRef) (through k : HandleNumber) → StandsAt s.core r r.handle → PinsAtOnce s.core (owner_worker v) r through k s'.core → StandsAt s'.core r through
   pinned-stands r through k stands does = elim does [
     | inl (row, same, clone) ↦ subst (λ h. StandsAt s'.core r h) (sym same) (clone-stands whole r k stands clone)
-    | inr (row, (mid, clone, pin)) ↦ stands-on (quiet-goes nothing_felt (pins (works-free v) (Ok (Pinning.Pinned k)) pin)) (clone-stands whole r through stands clone)
+    | inr (row, (mid, clone, pin)) ↦ stands-on (pins {lists = false} {Asks = Unit {0}} {Leaves = Unit {0}} {c = nothing_felt} (works-free v) (Ok (Pinning.Pinned k)) pin).goes (clone-stands whole r through stands clone)
   ]
 
   begun-stands : (r : ArcRef) (through : HandleNumber) (l : LoadNumber) → StandsAt s.core r r.handle → PinsByLoad s.core (owner_worker v) r through l s'.core → StandsAt s'.core r through
-  begun-stands r through l stands (row, (mid, key, clone, begin)) = stands-on (begins (Ok (Beginning.Load l key)) begin) (clone-stands whole r through stands clone)
+  begun-stands r through l stands (row, (mid, key, clone, begin)) = stands-on (begin-goes (Ok (Beginning.Load l key)) begin) (clone-stands whole r through stands clone)
 
   stepped : {c : Change} (todo : List Todo) (step : Took W) → s.todo ≡ todo → Does m v s todo step s' → Goes c s.core s'.core → AllHold s.core todo → Leaves step
   unfolding AllHold

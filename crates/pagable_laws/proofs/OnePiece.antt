@@ -7,7 +7,7 @@ use Rattle.pagable_laws.proofs.Words.{Happens, MachineState, world_of, IsMachine
 use Rattle.pagable_laws.proofs.{Words.{IsOfChance, IsLoadOfPagedOut, LoadIsSound, IsBeginOf, HasBegun, SoundLaw, FramesHeld}, Trees.same_some, Sums.{self-number, same-number}, Coming.updated-at}
 use Rattle.pagable_laws.proofs.{Chains.{IsGoingOn, idle-goes}, Taking.row-held, Fitting.first-fits, Decoding.decodes, Outlasting.{stands-whole, stands-alike}, ReadingSteps.reading-stands}
 use Rattle.pagable_laws.proofs.{ReadingStepsGive.got-typed, Heights.{HeightsIn, heights-at-first}, Sound.{by-chance, by-references, by-handle, IsForm, load-cause}, Apart.{fine, reads-once}}
-use Rattle.pagable_laws.proofs.{LoadsReady.{times_got, LoadReady, once-none, apart-once, got-cons, with-one, goes-ready}, Deeply.along-with}
+use Rattle.pagable_laws.proofs.{LoadsReady.{times_got, LoadReady, once-none, apart-once, got-cons, goes-ready}, Effects.with-one, Deeply.along-with}
 use Rattle.pagable_world.specs.{Loads.Does}
 
 -- ---- whose turn it is

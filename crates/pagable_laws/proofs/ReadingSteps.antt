@@ -11,10 +11,12 @@ use Rattle.pagable_laws.proofs.Words.{SetKeyCall, Does, PinsAtOnce, PinsByLoad, 
 use Rattle.pagable_laws.proofs.Words.{if_there, EventReply, TableNumber, WorkerAnswer, only_handle, Cell, Shelf, Task, type_at, key_at, first_todo, without_worker, WorkerEnds, is_workers_load}
 use Rattle.pagable_laws.proofs.Words.{answer_after, BeginsKey, Stays, begun_readings, KeyStarted, Starts, new_walking, Ends, Happens, with_worker, MachineState, world_of, IsMachineWhole, IsNewNode}
 use Rattle.pagable_laws.proofs.Words.{EventBrings, KeepsOpen, LeavesCache, CoreGoes, SameNode, NewNode, StaysAway, KeepsReadings, EventFeels, by-call, by-reading, by-key, by-nothing, StepFeels}
-use Rattle.pagable_laws.proofs.{Words.{WorkFits, Waits, Walks, Ground}, Goes.{found-number, found-changed, found-left, none-in-new, at-updated, Quiet, Goes, NotLoads, quiet-then, quiet-goes}}
-use Rattle.pagable_laws.proofs.{Goes.{goes-quiet, alike, a-handle, fell-anyhow, adopts, KnowsNext, quiet-begins, fell, keyed, parts, le-self, Kept, rows-self}, Outlasting.among-found, Trees.same_some}
-use Rattle.pagable_laws.proofs.Called.{hands-over, ends-quiet as load-ends-quiet, noted, asks, closes, gets-known as was-known, schedules, clones, pins, begins, stores, calls-go, call-knows}
-use Rattle.pagable_laws.proofs.{Called.{some-moved, begins-key}, GoodReferences.alike-away}
+use Rattle.pagable_laws.proofs.Words.{Blob, StoreCall, digest, WorkFits, Waits, Walks, Ground, AreGood, OwnersAreThere, step_of, Among, ◌==◌, IsWhole, CloneCall}
+use Rattle.pagable_laws.proofs.Goes.{found-number, found-changed, found-left, none-in-new, at-updated, Quiet, Goes, NotLoads, quiet-then, goes-quiet, alike, fell-anyhow, KnowsNext, parts, le-self, Kept, rows-self}
+use Rattle.pagable_laws.proofs.Effects.{Effect, IsMine, IsApart, IsHeldFor, Lasts, Spares, none, moves, fell, with-key, stays, one-then, entry, no-one, none-named, released-free, ended-free, worker-apart}
+use Rattle.pagable_laws.proofs.Effects.{stays-alike, spares-then, then-alike, then-fell, by-alike, by-fell, then-down, held-fell}
+use Rattle.pagable_laws.proofs.Called.{hands-over, ends-load, noted, asks, closes, gets-known as was-known, adopts, adopts-known, schedules, clones, pins, begins, begins-key, stores, calls-go, call-knows}
+use Rattle.pagable_laws.proofs.{Decoding.among-left, GoodReferences.{good, alike-away}, Outlasting.among-found, Sums.self-number, Trees.same_some}
 use Rattle.pagable_world.specs.{Loads.{Does as LoadDoes, Meets}, Runs.{Does as DoesMoment}}
 use Rattle.std.proofs.Common.{rules}
 use Rattle.pagable_world.specs.Workers as workers
@@ -158,9 +160,9 @@ is-reading-of u event reading stepped = absurd stepped
 -- A load's step, as trees feel it: one change, what it does to the plain world with it, and how the load's own blobs grow.
 
 -- some change, what the step does to the world with it, and how it is felt; a load that goes on is open
-pub record ReadingFelt {N : Type 0} (v : Values N) (w : Core) (reading : Reading) (answer : Option (LoadAnswer N)) (frames : List Frame) (w' : Core) : Type 0 where
+pub record ReadingFelt {N : Type 0} (v : Values N) (w : Core) (me : Owner) (reading : Reading) (answer : Option (LoadAnswer N)) (frames : List Frame) (w' : Core) : Type 0 where
   pub change : Change
-  pub goes : Goes change w w'
+  pub does : Effect me false (IsMine w me reading.load) (Unit {0}) false change w w'
   pub opens : answer ≡ None → (load : OpenLoad) × (w.loads reading.load.0 ≡ Some load)
   pub feels : HandlesAreWhole w → ReadingFeels v w reading answer frames w' change
 
@@ -188,7 +190,7 @@ module _ {N : Type 0} (v : Values N) (w : Core) (me : Owner) (reading : Reading)
 
 module _ {N B W : Type 0} (m : Seen N B W) (w : Core) (me : Owner) (free : NotLoads me) (w' : Core) (reading : Reading) where
   abbrev RF : Option (LoadAnswer N) → List Frame → Type 0
-  RF answer frames = ReadingFelt m.values w reading answer frames w'
+  RF answer frames = ReadingFelt m.values w me reading answer frames w'
 
   gets-root : (frames : List Frame) → GetsRoot w me reading frames w' → RF None frames
   gets-root frames g =
@@ -196,7 +198,7 @@ module _ {N B W : Type 0} (m : Seen N B W) (w : Core) (me : Owner) (free : NotLo
       let same : load ≡ g.load = same_some _ _ (sym g.asked.gives.1.stands_open ∙ g.open_load) in
       record {
         change = nothing_felt;
-        goes = quiet-goes nothing_felt (asks _ g.asked);
+        does = asks _ g.asked;
         opens = λ none. (g.load, g.open_load);
         feels = λ whole. reads-root g.load g.blob g.first g.open_load (subst (λ (x : OpenLoad). w.stored x.key ≡ Some g.blob) same g.asked.gives.2.found) refl g.goes;
       }
@@ -206,7 +208,7 @@ module _ {N B W : Type 0} (m : Seen N B W) (w : Core) (me : Owner) (free : NotLo
       let k = g.asked.gives.2 in
       record {
         change = nothing_felt;
-        goes = quiet-goes nothing_felt (asks _ g.asked);
+        does = asks _ g.asked;
         opens = λ none. (g.asked.gives.0, g.asked.gives.1.stands_open);
         feels = λ whole. gets-known g.kind g.key k.n g.row (inl g.needs) (is-cached w g.kind.0 g.key k.n k.known)
             (got-known whole g.kind g.k g.row g.made k.next.above k.n (Owner.Load reading.load) k.leaves) refl g.goes;
@@ -216,7 +218,7 @@ module _ {N B W : Type 0} (m : Seen N B W) (w : Core) (me : Owner) (free : NotLo
   gets-blob frames g =
       record {
         change = nothing_felt;
-        goes = quiet-goes nothing_felt (asks _ g.asked);
+        does = asks _ g.asked;
         opens = λ none. (g.asked.gives.0, g.asked.gives.1.stands_open);
         feels = λ whole. reads-blob g.kind g.key g.blob g.needs g.asked.gives.2.1.found refl g.goes;
       }
@@ -225,14 +227,14 @@ module _ {N B W : Type 0} (m : Seen N B W) (w : Core) (me : Owner) (free : NotLo
   gets-unread frames g = elim g.asked.makes.3 [
     | inl k ↦ record {
       change = nothing_felt;
-      goes = quiet-goes nothing_felt (was-known k);
+      does = was-known k;
       opens = λ none. (g.asked.makes.0, g.asked.makes.1.stands_open);
       feels = λ whole. gets-known g.kind g.key k.n g.row (inr g.needs) (is-cached w g.kind.0 g.key k.n k.known)
           (got-known whole g.kind g.k g.row g.made k.next.above k.n (Owner.Load reading.load) k.leaves) refl g.goes;
     }
-    | inr (none, few, next, a) ↦ record {
+    | inr (unknown, few, next, a) ↦ record {
       change = bears_known g.kind.0 g.key (OptionalDataKey.Some g.key);
-      goes = goes-quiet (adopts w reading.load g.kind g.key (OptionalDataKey.Some g.key) []) (alike a);
+      does = adopts reading.load g.kind g.key (OptionalDataKey.Some g.key) [] unknown (none-named w (Owner.Load reading.load)) a;
       opens = λ none. (g.asked.makes.0, g.asked.makes.1.stands_open);
       feels = λ whole. gets-lazy g.kind g.key g.row g.needs (got-born whole g.kind g.k g.row g.made next.above reading.load g.key (OptionalDataKey.Some g.key) [] a) refl g.goes;
     }
@@ -242,13 +244,13 @@ module _ {N B W : Type 0} (m : Seen N B W) (w : Core) (me : Owner) (free : NotLo
   makes frames g = elim c.makes [
     | inl (n, usable, f) ↦ record {
       change = nothing_felt;
-      goes = quiet-goes nothing_felt (quiet-then (a-handle w _ _ (Owner.Load reading.load)) (fell-anyhow f));
+      does = adopts-known reading.load r.top.kind n (m.values.references g.x) right f;
       opens = λ none. (c.load, c.owned.stands_open);
       feels = λ whole. makes-known g.x r n g.row (is-cached w r.top.kind.0 r.top.key n usable) (got-fallen whole r.top.kind g.k g.row g.made c.next.above n (Owner.Load reading.load) f) refl g.goes;
     }
-    | inr (none, few, a) ↦ record {
+    | inr (unknown, few, a) ↦ record {
       change = bears_known r.top.kind.0 r.top.key (first_key r.top.kind.0 r.top.key);
-      goes = goes-quiet (adopts w reading.load r.top.kind r.top.key (first_key r.top.kind.0 r.top.key) (m.values.references g.x)) (alike a);
+      does = adopts reading.load r.top.kind r.top.key (first_key r.top.kind.0 r.top.key) (m.values.references g.x) unknown right a;
       opens = λ none. (c.load, c.owned.stands_open);
       feels = λ whole. makes-node g.x r g.row (got-born whole r.top.kind g.k g.row g.made c.next.above reading.load r.top.key (first_key r.top.kind.0 r.top.key) (m.values.references g.x) a) refl g.goes;
     }
@@ -257,14 +259,23 @@ module _ {N B W : Type 0} (m : Seen N B W) (w : Core) (me : Owner) (free : NotLo
       open g use {reads_node as r}
       open g.adopted use {adopts as c}
 
-  fails : (e : Error) → Fails m.values w me reading e w' → Quiet w w'
+      right : AreGood w (Owner.Load reading.load) (m.values.references g.x)
+      right = good w (Owner.Load reading.load) [] (m.values.references g.x) c.good
+
+  abbrev Over : Type 0
+  Over = Effect me false (IsMine w me reading.load) (Unit {0}) false nothing_felt w w'
+
+  fails : (e : Error) → Fails m.values w me reading e w' → Over
   fails e does = elim does [
-    | inl gives ↦ let a = meets m.values w me reading gives.mid e gives.meets in quiet-then (noted a.0 a.1) (closes reading.load gives.closes)
-    | inr ended ↦ load-ends-quiet m w me free w' reading.load ended.x (Err (e, None)) ended.ended
+    | inl gives ↦
+        let a = meets m.values w me reading gives.mid e gives.meets in
+        one-then (λ kind key n h. subst (IsHeldFor kind key n) (sym a.1.rows) h) (λ mine load is. mine load (sym (a.1.loads reading.load.0) ∙ is)) (noted a.0 a.1)
+        (closes reading.load (λ mine. mine) gives.closes)
+    | inr ended ↦ ends-load free reading.load (Err (e, None)) ended.ended
   ]
 
-  ended : (end : LoadAnswer N) (frames : List Frame) → frames ≡ [] → Quiet w w' → RF (Some end) frames
-  ended end frames none q = record { change = nothing_felt; goes = quiet-goes nothing_felt q; opens = λ is. absurd (cc); feels = λ whole. reading-ends end refl none }
+  ended : (end : LoadAnswer N) (frames : List Frame) → frames ≡ [] → Over → RF (Some end) frames
+  ended end frames none e = record { change = nothing_felt; does = e; opens = λ is. absurd (cc); feels = λ whole. reading-ends end refl none }
 
   by-does : (answer : Option (LoadAnswer N)) (frames : List Frame) → LoadDoes m.values w me reading answer frames w' → RF answer frames
   by-does None frames does = elim does [
@@ -274,7 +285,7 @@ module _ {N B W : Type 0} (m : Seen N B W) (w : Core) (me : Owner) (free : NotLo
     | inr (inr (inr (inl lazy))) ↦ gets-unread frames lazy
     | inr (inr (inr (inr made))) ↦ makes frames made
   ]
-  by-does (Some (LoadAnswer.Pinned k)) frames does = ended (LoadAnswer.Pinned k) frames does.1 (load-ends-quiet m w me free w' reading.load does.0.x (Ok k) does.0.ended)
+  by-does (Some (LoadAnswer.Pinned k)) frames does = ended (LoadAnswer.Pinned k) frames does.1 (ends-load free reading.load (Ok k) does.0.ended)
   by-does (Some (LoadAnswer.Read x)) frames does = ended (LoadAnswer.Read x) frames does.1 (hands-over free reading.load _ (Ok tt) does.0.handed)
   by-does (Some (LoadAnswer.Refused e)) frames does = ended (LoadAnswer.Refused e) frames does.1 (fails e does.0)
 
@@ -352,48 +363,63 @@ pub data WalkFeels {N B W : Type 0} (m : Seen N B W) (v : ℕ) (s s' : Site) (to
       → LoadsAnew s' → WalkFeels m v s s' todo (sets_key row.node.0 key)
   walk-rests : ((n : ℕ) (x : N) → TodoBrings m.values s.core todo n x → ⊥) → LoadsAnew s' → WalkFeels m v s s' todo nothing_felt
 
+-- the load that stands at the front is the worker's own
+abbrev pub FrontMine : Core → Owner → List Todo → Type 0
+FrontMine w me (to_load r place through reading ∷ below) = IsMine w me reading.load
+FrontMine w me todo = Unit {0}
+
 -- some change, what the step does to the world with it, and how it is felt
 pub record WalkFelt {N B W : Type 0} (m : Seen N B W) (v : ℕ) (s s' : Site) (todo : List Todo) : Type 0 where
   pub change : Change
+  pub does : Effect (owner_worker v) false (FrontMine s.core (owner_worker v) todo) (Unit {0}) false change s.core s'.core
   pub goes : Goes change s.core s'.core
   pub feels : s.todo ≡ todo → WaitsWell todo → WalkFeels m v s s' todo change
   pub knows : HandlesAreWhole s.core → KnowsNext change s.core
 
-gives-back : {w w' : Core} (v : ℕ) (back : Option HandleNumber) → GivesBack w v back w' → Quiet w w'
-gives-back v x1 x2 = grind (arith, nat_tests, alike, schedules, works-free)
+module _ {Asks : Type 0} {w w' : Core} (v : ℕ) where
+  gives-back : (back : Option HandleNumber) → GivesBack w v back w' → Effect (owner_worker v) false Asks (Unit {0}) false nothing_felt w w'
+  gives-back None a = stays a
+  gives-back (Some h) (told, c) = schedules (works-free v) h told c
 
-module _ {w w' : Core} (v : ℕ) (r : ArcRef) where
-  at-once : (through k : HandleNumber) → PinsAtOnce w (owner_worker v) r through k w' → Quiet w w'
-  at-once through k does = elim does [
-    | inl (row, is, clone) ↦ clones (Ok k) clone
-    | inr (row, (mid, clone, pin)) ↦ quiet-then (clones (Ok through) clone) (pins (works-free v) (Ok (Pinning.Pinned k)) pin)
-  ]
+  -- a handle is cloned, and something is done then
+  then-clone : {m : Core} {h k : HandleNumber} → CloneCall w (owner_worker v) h (Ok k) m → Effect (owner_worker v) false Asks (Unit {0}) false nothing_felt m w' → Effect (owner_worker v) false Asks (Unit {0}) false nothing_felt w w'
+  then-clone {m} c rest = one-then (λ kind key n h. record { row = h.row; live = subst (λ rows. Among rows h.row) (sym c.made.3.rows) (among-left w.rows _ h.live.0 h.row h.live.1); at = h.at; pins_it = h.pins_it })
+      (λ a. a) (clones (Ok _) c) rest
 
-  by-load : (through : HandleNumber) (l : LoadNumber) → PinsByLoad w (owner_worker v) r through l w' → Goes nothing_felt w w'
-  by-load through l (row, (mid, key, clone, begin)) = quiet-begins (clones (Ok through) clone) (begins (Ok (Beginning.Load l key)) begin)
+  module _ (r : ArcRef) where
+    at-once : (through k : HandleNumber) → PinsAtOnce w (owner_worker v) r through k w' → Effect (owner_worker v) false Asks (Unit {0}) false nothing_felt w w'
+    at-once through k does = elim does [ inl (row, is, clone) ↦ clones (Ok k) clone | inr (row, (mid, clone, pin)) ↦ then-clone clone (pins (works-free v) (Ok (Pinning.Pinned k)) pin) ]
 
-  begun-number : (through : HandleNumber) (l : LoadNumber) → PinsByLoad w (owner_worker v) r through l w' → l.0 ≤ w'.last.load
-  begun-number through l (row, (mid, key, clone, begin)) = grind (arith, nat_tests)
+    by-load : (through : HandleNumber) (l : LoadNumber) → PinsByLoad w (owner_worker v) r through l w' → Effect (owner_worker v) false Asks (Unit {0}) false nothing_felt w w'
+    by-load through l (row, (mid, key, clone, begin)) = then-clone clone (begins (Ok (Beginning.Load l key)) begin)
 
-  pin-refused : (e : Error) → PinRefused w (owner_worker v) r e w' → Goes nothing_felt w w'
-  pin-refused e does = elim does [
-    | inl clone ↦ quiet-goes nothing_felt (clones (Err e) clone)
-    | inr (row, (mid, through, clone, inl pin)) ↦ quiet-goes nothing_felt (quiet-then (clones (Ok through) clone) (pins (works-free v) (Err e) pin))
-    | inr (row, (mid, through, clone, inr begin)) ↦ quiet-begins (clones (Ok through) clone) (begins (Err e) begin)
-  ]
+    pin-refused : (e : Error) → PinRefused w (owner_worker v) r e w' → Effect (owner_worker v) false Asks (Unit {0}) false nothing_felt w w'
+    pin-refused e does = elim does [
+      | inl clone ↦ clones (Err e) clone
+      | inr (row, (mid, through, clone, inl pin)) ↦ then-clone clone (pins (works-free v) (Err e) pin)
+      | inr (row, (mid, through, clone, inr begin)) ↦ then-clone clone (begins (Err e) begin)
+    ]
+
+begun-number : {w w' : Core} (v : ℕ) (r : ArcRef) (through : HandleNumber) (l : LoadNumber) → PinsByLoad w (owner_worker v) r through l w' → l.0 ≤ w'.last.load
+begun-number v r through l (row, (mid, key, clone, begin)) = grind (arith, nat_tests)
 
 module _ {N B W : Type 0} (m : Seen N B W) (v : ℕ) (s s' : Site) where
   abbrev WF : List Todo → Type 0
   WF todo = WalkFelt m v s s' todo
 
-  -- nothing is felt, and this stands at the front afterwards
-  begun : {todo : List Todo} (next : List Todo) → ((n : ℕ) (x : N) → TodoBrings m.values s.core todo n x → ⊥)
-      → s'.todo ≡ next → (WaitsWell todo → front_reading next ≡ None) → Goes nothing_felt s.core s'.core → WF todo
-  begun next none is other g = record { change = nothing_felt; goes = g; feels = λ front well. walk-rests none (no-load s' next is (other well)); knows = λ whole k q n known. absurd known }
+  abbrev WE : List Todo → Change → Type 0
+  WE todo c = Effect (owner_worker v) false (FrontMine s.core (owner_worker v) todo) (Unit {0}) false c s.core s'.core
 
+  unmoved : Alike s.core s'.core → Effect (owner_worker v) false (Unit {0}) (Unit {0}) false nothing_felt s.core s'.core
+  unmoved a = stays a
+
+  stored : {blob : Blob} (r : Result ℕ Error) → StoreCall (digest m.values) s.core blob r s'.core → Effect (owner_worker v) false (Unit {0}) (Unit {0}) false nothing_felt s.core s'.core
+  stored r c = stores r c
+
+  -- nothing is felt, and this stands at the front afterwards
   rests : {todo : List Todo} (next : List Todo) → ((n : ℕ) (x : N) → TodoBrings m.values s.core todo n x → ⊥)
-      → s'.todo ≡ next → (WaitsWell todo → front_reading next ≡ None) → Quiet s.core s'.core → WF todo
-  rests next none is other q = begun next none is other (quiet-goes nothing_felt q)
+      → s'.todo ≡ next → (WaitsWell todo → front_reading next ≡ None) → WE todo nothing_felt → WF todo
+  rests next none is other e = record { change = nothing_felt; does = e; goes = e.goes; feels = λ front well. walk-rests none (no-load s' next is (other well)); knows = λ whole k q n known. absurd known }
 
   -- the load at the front makes its step
   loads-on : (r : ArcRef) (place : ℕ) (through : HandleNumber) (reading : Reading) (below : List Todo) (step : Took W)
@@ -401,16 +427,17 @@ module _ {N B W : Type 0} (m : Seen N B W) (v : ℕ) (s s' : Site) where
   loads-on r place through reading below step does =
       let t = loads-todo m v s s' r place through reading below step does in
       let f = reading-feels m s.core (owner_worker v) (works-free v) s'.core reading t.answer t.frames t.does in
-      record { change = f.change; goes = f.goes; feels = λ front well. walk-loads f.change r place through reading below refl t f.opens f.feels; knows = λ whole. reading-knows (f.feels whole) }
+      record { change = f.change; does = f.does; goes = f.does.goes; feels = λ front well. walk-loads f.change r place through reading below refl t f.opens f.feels; knows = λ whole. reading-knows (f.feels whole) }
 
   sets : (r : ArcRef) (through : HandleNumber) (key height : ℕ) (below next : List Todo) (told : Result (Unit {0}) Error)
       → SetKeyCall s.core (owner_worker v) through key told s'.core → s'.todo ≡ next → front_reading next ≡ None → WF (to_set r through key height ∷ below)
   sets r through key height below next told c is other = elim c.does [
-    | inl refused ↦ rests next (λ n x b. b) is (λ well. other) (alike refused.stays)
-    | inr (row, owns, inl (mode, done, a)) ↦ rests next (λ n x b. b) is (λ well. other) (alike a)
-    | inr (row, owns, inr (loose, f)) ↦ record {
+    | inl refused ↦ rests next (λ n x b. b) is (λ well. other) (stays refused.stays)
+    | inr (row, owns, inl (mode, done, a)) ↦ rests next (λ n x b. b) is (λ well. other) (stays a)
+    | inr (row, owns, inr (loose, f)) ↦ let e : WE (to_set r through key height ∷ below) (sets_key row.node.0 key) = fell (with-key s.core row.node key) f no-one in record {
       change = sets_key row.node.0 key;
-      goes = goes-quiet (keyed s.core row.node key) (fell f);
+      does = e;
+      goes = e.goes;
       feels = λ front well. walk-sets r through key height below row refl owns.live owns.own loose (no-load s' next is other);
       knows = λ whole k q n known. absurd known;
     }
@@ -419,9 +446,11 @@ module _ {N B W : Type 0} (m : Seen N B W) (v : ℕ) (s s' : Site) where
   load-begins : (r : ArcRef) (place t : ℕ) (below : List Todo) (through : HandleNumber) (l : LoadNumber) → PinsByLoad s.core (owner_worker v) r through l s'.core
       → s'.todo ≡ to_load r place through (fresh l t) ∷ below → WF (to_pin r place ∷ below)
   load-begins r place t below through l does is =
+      let e : WE (to_pin r place ∷ below) nothing_felt = by-load v r through l does in
       record {
         change = nothing_felt;
-        goes = by-load v r through l does;
+        does = e;
+        goes = e.goes;
         feels = λ front well. walk-rests (λ n x b. b) (λ reading e.
             let same : fresh l t ≡ reading = same_some _ _ (ap front_reading (sym is) ∙ e) in
             subst (λ x. IsFresh s'.core x) same (refl, refl, begun-number v r through l does));
@@ -429,20 +458,21 @@ module _ {N B W : Type 0} (m : Seen N B W) (v : ℕ) (s s' : Site) where
       }
 
   pub walk-goes : (todo : List Todo) (step : Took W) → Does m v s todo step s' → WF todo
-  walk-goes (to_start r place ∷ below) (Took.Claim i (Ok (Claim.Known key height))) (is, c) = grind (arith, nat_tests, rests, given-known, alike)
+  walk-goes (to_start r place ∷ below) (Took.Claim i (Ok (Claim.Known key height))) (is, c) = grind (arith, nat_tests, rests, given-known, unmoved)
   walk-goes (to_start r place ∷ below) (Took.Claim i (Ok Claim.Waiting)) (is, c) =
       let t = c.finds.1.2 in
-      record { change = nothing_felt; goes = quiet-goes nothing_felt (alike t.pager_stays); feels = λ front well. walk-rests (λ n x b. b) (no-load s' _ (t.list_is ∙ front) refl); knows = λ whole k q n known. absurd known }
+      let e : WE (to_start r place ∷ below) nothing_felt = stays t.pager_stays in
+      record { change = nothing_felt; does = e; goes = e.goes; feels = λ front well. walk-rests (λ n x b. b) (no-load s' _ (t.list_is ∙ front) refl); knows = λ whole k q n known. absurd known }
   walk-goes (to_pin r place ∷ below) (Took.Pin i (Ok (PinStep.Held k))) (is, p) = rests _ (λ n x b. b) p.pins.2.list_is (λ well. refl) (at-once v r p.pins.0 k p.pins.1)
   walk-goes (to_pin r place ∷ below) (Took.Pin i (Ok (PinStep.LoadBegun l))) (is, p) = load-begins r place _ below p.pins.0 l p.pins.1 p.pins.2.list_is
-  walk-goes (to_pin r place ∷ below) (Took.Pin i (Err f)) (is, p) = begun _ (λ n x b. b) p.refused.1.list_is (λ well. refl) (pin-refused v r f p.refused.0)
+  walk-goes (to_pin r place ∷ below) (Took.Pin i (Err f)) (is, p) = rests _ (λ n x b. b) p.refused.1.list_is (λ well. refl) (pin-refused v r f p.refused.0)
   walk-goes (to_load r place through reading ∷ below) step does = loads-on r place through reading below step does
-  walk-goes (to_write r place through ∷ below) (Took.Write i (Ok out)) (is, p) = rests _ (λ n x b. b) p.writes.list_is (λ well. started place _ _ below refl) (alike p.writes.pager_stays)
+  walk-goes (to_write r place through ∷ below) (Took.Write i (Ok out)) (is, p) = rests _ (λ n x b. b) p.writes.list_is (λ well. started place _ _ below refl) (stays p.writes.pager_stays)
   walk-goes (to_set r through key height ∷ below) (Took.SetKey i (Ok u)) (is, p) = sets r through key height below _ (Ok u) p.sets p.goes.list_is refl
   walk-goes (to_set r through key height ∷ below) (Took.SetKey i (Err f)) (is, p) = sets r through key height below _ (Err f) p.sets p.refused.list_is refl
-  walk-goes (to_release r key height ∷ below) (Took.Release i) (is, falls, g) = rests _ (λ n x b. b) g.list_is (given r key height below) (fell-anyhow falls)
+  walk-goes (to_release r key height ∷ below) (Took.Release i) (is, falls, g) = rests _ (λ n x b. b) g.list_is (given r key height below) (fell (none s.core) falls.falls (λ mine o. released-free mine o.apart v o.other s.core r.node.0))
   walk-goes (to_fail fault back ∷ below) Took.Fail (gives, shelf, list_is) = rests _ (λ n x b. b) list_is (λ well. refl) (gives-back v back gives)
-  walk-goes _ step does = grind (arith, nat_tests, rests, alike, stores)
+  walk-goes _ step does = grind (arith, nat_tests, rests, unmoved, stored)
 
 -- What trees feel of each event that doesn't close the storage.
 
@@ -463,8 +493,14 @@ worker-ends {w} {w'} v f = quiet-then (others-work w (without_worker w v).loads 
 pub ends-quiet : {w w' : Core} (answer : Option WorkerAnswer) (v : ℕ) → Ends answer v w w' → Quiet w w'
 ends-quiet x0 v e = grind (arith, nat_tests, alike, worker-ends)
 
-starts-quiet : (u u' : World) (t : TableNumber) (task : Task) (core : Core) (v : WorkerNumber) → Quiet u.core core → Starts u t task core v u' → Quiet u.core u'.core
-starts-quiet u u' t task core v q s = quiet-then q (quiet-then (others-work core core.loads (with_worker core).workers (core.last.worker + 1) (omega arith) (λ l load is. is)) (alike s.pager))
+-- it gives up what it has: what others own stays, and what is held then was held before
+pub ends-spare : (mine : Owner) → IsApart mine → (v : ℕ) → (owner_worker v ≡ mine → ⊥) → (answer : Option WorkerAnswer) {w m w' : Core} → Ends answer v m w' → Spares mine w m → Spares mine w w'
+ends-spare mine apart v other None e a = then-alike mine e a
+ends-spare mine apart v other (Some answer) {m = m} f a = spares-then mine a (then-fell mine apart f.falls (record { each = λ q row own s. s }) (ended-free mine apart v other m))
+
+ends-last : (kind key n : ℕ) (answer : Option WorkerAnswer) (v : ℕ) {w m w' : Core} → Ends answer v m w' → Lasts kind key n w m → Lasts kind key n w w'
+ends-last kind key n None v e a = then-down kind key n (λ h. subst (IsHeldFor kind key n) e.rows h) a (by-alike kind key n e (λ i. i))
+ends-last kind key n (Some answer) v f a = then-down kind key n (held-fell kind key n refl f.falls) a (by-fell kind key n f.falls (λ i. i))
 
 -- ---- readings
 
@@ -509,6 +545,8 @@ AllWaitWell u = (n : ℕ) (walking : Walking) → u.work.walkings n ≡ Some wal
 pub record EventGoes {N B W : Type 0} (m : Seen N B W) (u : World) (event : Event N B W) (reply : EventReply N B W) (u' : World) : Type 0 where
   pub change : Change
   pub goes : Goes change u.core u'.core
+  pub spares : (v : ℕ) → OwnersAreThere u.core → step_of v event reply ≡ [] → Spares (owner_worker v) u.core u'.core
+  pub lasts : LeavesCache event → (kind key n : ℕ) → Lasts kind key n u.core u'.core
   pub feels : IsWhole u.core → AllWaitWell u → EventFeels m.values u event reply u' change
   pub knows : IsWhole u.core → LeavesCache event → KnowsNext change u.core
 
@@ -516,25 +554,47 @@ module _ {N B W : Type 0} (m : Seen N B W) (u u' : World) where
   abbrev EG : Event N B W → EventReply N B W → Type 0
   EG event reply = EventGoes m u event reply u'
 
+  callers : (v : ℕ) → Owner.Caller ≡ owner_worker v → ⊥
+  callers v e = absurd (cc)
+
+  -- a step of the caller's, as it is felt
+  felt : {event : Event N B W} {reply : EventReply N B W} {lists : Bool} {Asks Leaves : Type 0} {c : Change} → Effect Owner.Caller lists Asks Leaves false c u.core u'.core → (LeavesCache event → Leaves)
+      → (IsWhole u.core → AllWaitWell u → EventFeels m.values u event reply u' c) → (IsWhole u.core → LeavesCache event → KnowsNext c u.core) → EG event reply
+  felt {c = c} e leaves feels knows = record {
+    change = c;
+    goes = e.goes;
+    spares = λ v there others. e.spares (owner_worker v) (record { apart = worker-apart v; other = callers v; unlisted = λ yes. (refl, there) });
+    lasts = λ left kind key n. record { lasts = λ i h h'. e.lasts (leaves left) kind key n i h (λ f. h') };
+    feels = feels;
+    knows = knows;
+  }
+
   event-rests : {event : Event N B W} {reply : EventReply N B W} → ((n : ℕ) (x : N) → EventBrings m.values u event n x → IsNewNode u.core n ⊎ StaysAway u.core u'.core n)
-      → KeepsReadings u u' → Quiet u.core u'.core → EG event reply
-  event-rests brings keeps q = record { change = nothing_felt; goes = quiet-goes nothing_felt q; feels = λ whole well. by-nothing brings keeps; knows = λ whole leaves k q n known. absurd known }
+      → KeepsReadings u u' → Effect Owner.Caller true (Unit {0}) (Unit {0}) false nothing_felt u.core u'.core → EG event reply
+  event-rests brings keeps e = felt e (λ left. tt) (λ whole well. by-nothing brings keeps) (λ whole leaves k q n known. absurd known)
 
-  stays : {event : Event N B W} {reply : EventReply N B W} → Stays u u' → EG event reply
-  stays s = event-rests (λ n x b. inr (alike-away s.core n)) (keeps-all u u' s.readings s.work.walkings) (alike s.core)
+  same : {event : Event N B W} {reply : EventReply N B W} → Stays u u' → EG event reply
+  same s = event-rests (λ n x b. inr (alike-away s.core n)) (keeps-all u u' s.readings s.work.walkings) (stays s.core)
 
+  -- a worker begins, after this was done
   starts : {event : Event N B W} {reply : EventReply N B W} → ((n : ℕ) (x : N) → EventBrings m.values u event n x → ⊥)
-      → (t : TableNumber) (task : Task) (core : Core) (v : WorkerNumber) → Quiet u.core core → Starts u t task core v u' → EG event reply
-  starts none t task core v q s =
-      event-rests (λ n x b. absurd (none n x b)) (keeps-but u u' s.readings v.0 (new_walking t task) s.work.same_walkings (λ reading is. let first = first-no-load task in absurd (cc)))
-      (starts-quiet u u' t task core v q s)
+      → (t : TableNumber) (task : Task) (core : Core) (v : WorkerNumber) → Effect Owner.Caller true (Unit {0}) (Unit {0}) true nothing_felt u.core core → Starts u t task core v u' → EG event reply
+  starts brings t task core v e s = record {
+    change = nothing_felt;
+    goes = goes-quiet e.goes (quiet-then (others-work core core.loads (with_worker core).workers (core.last.worker + 1) (omega arith) (λ l load is. is)) (alike s.pager));
+    spares = λ q there others.
+        let a = e.spares (owner_worker q) (record { apart = worker-apart q; other = callers q; unlisted = λ yes. (refl, there) }) in then-alike (owner_worker q) s.pager (record { each = a.each });
+    lasts = λ left kind key n. record { lasts = λ i h h'. stays-alike kind key n s.pager (e.lasts tt kind key n i h (λ f. absurd (cc))) h' };
+    feels = λ whole well. by-nothing (λ n x b. absurd (brings n x b)) (keeps-but u u' s.readings v.0 (new_walking t task) s.work.same_walkings (λ reading is. let first = first-no-load task in absurd (cc)));
+    knows = λ whole leaves k q n known. absurd known;
+  }
 
   load-starts : (h : HandleNumber) (r : Result Beginning Error) → Happens m u (Event.LoadStart h) (EventReply.Started r) u' → EG (Event.LoadStart h) (EventReply.Started r)
-  load-starts h r is = record { change = nothing_felt; goes = begins r is.step; feels = λ whole well. by-nothing (λ n x b. absurd b) (keeps-all u u' is.readings is.work.walkings); knows = λ whole leaves k q n known. absurd known }
+  load-starts h r is = event-rests (λ n x b. absurd b) (keeps-all u u' is.readings is.work.walkings) (begins r is.step)
 
   key-starts : (key t : ℕ) (r : Result Beginning Error) → KeyStarted u key t r u' → EG (Event.LoadKey key t) (EventReply.Started r)
-  key-starts key t (Err e) is = record { change = nothing_felt; goes = begins-key (Err e) is.step; feels = λ whole well. by-nothing (λ n x b. absurd b) (keeps-all u u' is.refused is.work.walkings); knows = λ whole leaves k q n known. absurd known }
-  key-starts key t (Ok b) is = record { change = nothing_felt; goes = begins-key (Ok b) is.step; feels = λ whole well. by-nothing (λ n x b. absurd b) (keeps-begun u u' t b is.begun (within b is.step.begins) is.work.walkings); knows = λ whole leaves k q n known. absurd known }
+  key-starts key t (Err e) is = event-rests (λ n x b. absurd b) (keeps-all u u' is.refused is.work.walkings) (begins-key (Err e) is.step)
+  key-starts key t (Ok b) is = event-rests (λ n x b. absurd b) (keeps-begun u u' t b is.begun (within b is.step.begins) is.work.walkings) (begins-key (Ok b) is.step)
     where
       within : (b : Beginning) → BeginsKey u.core Owner.Caller key b u'.core → (l : LoadNumber) (k : ℕ) → b ≡ Beginning.Load l k → l.0 ≤ u'.core.last.load
       within Beginning.InMemory does l k is = absurd does
@@ -544,12 +604,9 @@ module _ {N B W : Type 0} (m : Seen N B W) (u u' : World) where
   load-steps l reply is =
       let x = is.moves in
       let f = reading-feels m u.core Owner.Caller caller-free u'.core x.reading reply.ended x.frames x.does in
-      record {
-        change = f.change;
-        goes = f.goes;
-        feels = λ whole well. by-reading f.change x.reading reply.ended x.frames (stepped-load x {B = B} {W = W} whole (Event.LoadStep l) refl) f.opens (f.feels whole.handles) (steps-load x);
-        knows = λ whole leaves. reading-knows (f.feels whole.handles);
-      }
+      felt f.does (λ left. tt)
+      (λ whole well. by-reading f.change x.reading reply.ended x.frames (stepped-load x {B = B} {W = W} whole (Event.LoadStep l) refl) f.opens (f.feels whole.handles) (steps-load x))
+      (λ whole leaves. reading-knows (f.feels whole.handles))
 
   module _ (k : WorkerNumber) (reply : WorkerReply W) (s : WorkerSteps m u k reply u') where
     abbrev site : Site
@@ -572,21 +629,34 @@ module _ {N B W : Type 0} (m : Seen N B W) (u u' : World) where
     worker-feels c (walk-rests none anew) whole =
         by-nothing (λ n x (walking, at, brings). absurd (none n x (subst (λ (z : Walking). TodoBrings m.values u.core z.todo n x) (same_some _ _ (sym at ∙ s.at)) brings))) (now anew)
 
+    -- who makes no step isn't the one that makes this
+    isnt-own : {X : Type 0} (x : X) (v : ℕ) → (if k.0 == v then x ∷ [] else []) ≡ [] → owner_worker k.0 ≡ owner_worker v → ⊥
+    isnt-own x v none is = grind (arith, nat_tests, self-number)
+
     worker-steps : EG (Event.WorkerStep k) (EventReply.WorkerMoved (Ok reply))
     worker-steps =
         let f = walk-goes m k.0 site s.after s.walking.todo reply.took s.does.does in
-        record { change = f.change; goes = goes-quiet f.goes (ends-quiet reply.answer k.0 s.ends); feels = λ whole well. worker-feels f.change (f.feels refl (well k.0 s.walking s.at)) whole; knows = λ whole leaves. f.knows whole.handles }
+        record {
+          change = f.change;
+          goes = goes-quiet f.goes (ends-quiet reply.answer k.0 s.ends);
+          spares = λ v there others.
+              let other = isnt-own reply.took v others in
+              ends-spare (owner_worker v) (worker-apart v) k.0 other reply.answer s.ends
+              (f.does.spares (owner_worker v) (record { apart = worker-apart v; other = other; unlisted = λ yes. absurd (cc) }));
+          lasts = λ left kind key n. ends-last kind key n reply.answer k.0 s.ends (record { lasts = λ i h h'. f.does.lasts tt kind key n i h (λ g. h') });
+          feels = λ whole well. worker-feels f.change (f.feels refl (well k.0 s.walking s.at)) whole;
+          knows = λ whole leaves. f.knows whole.handles;
+        }
 
   pub event-goes : (event : Event N B W) (reply : EventReply N B W) → KeepsOpen event → Happens m u event reply u' → EG event reply
   event-goes (Event.Call call) (EventReply.CallReply r) open_still is =
       let g = calls-go m u.core Owner.Caller caller-free u'.core call r open_still is.step.does in
-      record { change = g.change; goes = g.goes; feels = λ whole well. by-call g.change call r refl refl g.feels (keeps-all u u' is.readings is.work.walkings); knows = λ whole leaves. call-knows W g.feels leaves }
-  event-goes Event.TableNew (EventReply.TableMade (Ok t)) open_still is = let x = is.made in event-rests (λ n x b. absurd b) (keeps-all u u' x.2 x.3.same_walkings) (alike x.1)
-  event-goes (Event.WorkerItem t item) (EventReply.WorkerMade (Ok v)) open_still is = starts (λ n x b. b) t _ u.core v
-      (others-work u.core u.core.loads u.core.workers u.core.last.worker (omega arith) (λ l load is. is)) is.starts
+      felt g.does (λ left. left) (λ whole well. by-call g.change call r refl refl g.feels (keeps-all u u' is.readings is.work.walkings)) (λ whole leaves. call-knows W g.feels leaves)
+  event-goes Event.TableNew (EventReply.TableMade (Ok t)) open_still is = let x = is.made in event-rests (λ n x b. absurd b) (keeps-all u u' x.2 x.3.same_walkings) (stays x.1)
+  event-goes (Event.WorkerItem t item) (EventReply.WorkerMade (Ok v)) open_still is = starts (λ n x b. b) t _ u.core v (none u.core) is.starts
   event-goes (Event.WorkerListed t i) (EventReply.WorkerMade (Ok v)) open_still is = let x = is.starts in
-      starts (λ n x b. b) t _ _ v (some-moved u.core (only_handle x.0) (Owner.Worker v) _ (λ l is. absurd (cc))) x.5
-  event-goes event reply open_still is = grind (arith, nat_tests, stays, load-starts, key-starts, load-steps, worker-steps)
+      starts (λ n x b. b) t _ _ v (moves (none u.core) (only_handle x.0) (Owner.Worker v) _ (λ l is. absurd (cc)) (entry refl i x.0 x.3.listed)) x.5
+  event-goes event reply open_still is = grind (arith, nat_tests, same, load-starts, key-starts, load-steps, worker-steps)
 
 -- ---- the plain world, as trees feel it
 

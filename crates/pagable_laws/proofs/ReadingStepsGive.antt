@@ -192,7 +192,7 @@ module _ {N E B W : Type 0} (m : Seen N B W) (lawful : IsLawful m.values) (reada
         let is = of_caller l.0 there in
         let number : reading.load.0 ≡ l.0 = (whole.readings l.0 reading there).number in
         let fit = stands.readings reading is load (ap s.pager.core.loads number ∙ open_load) in
-        let stored = (reading-feels m s.pager.core Owner.Caller caller-free s'.pager.core h.reading reply.ended h.frames h.does).goes.stored in
+        let stored = (reading-feels m s.pager.core Owner.Caller caller-free s'.pager.core h.reading reply.ended h.frames h.does).does.goes.stored in
         let after = frames-stay m.values.types load.key reading.node_type s.pager.core.stored s'.pager.core.stored trees trees' s.pager.core.last.node reading.frames stored same
         (given reading is).1 fit in
         root-right lawful readable s'.pager trees' reading x load.key whole'.pager stands'.pager after root (owned reading is load.key fit x root hands)
@@ -483,7 +483,9 @@ module _ {N E B W : Type 0} (m : Seen N B W) (s s' : MachineState N E) (whole : 
     ]
 
     now-bounded : reply.ended ≡ None → Bounded m.values.types u.core.stored load.key (gone_on x.reading x.frames)
-    now-bounded none = search (rules, reading-feels, caller-free, bounded-step, number-is, was-bounded)
+    now-bounded none =
+        let f = reading-feels m u.core Owner.Caller caller-free u'.core x.reading reply.ended x.frames x.does in
+        bounded-step x.reading load x.frames (ap u.core.loads number-is ∙ open_load) was-bounded (subst (λ a. ReadingFeels m.values u.core x.reading a x.frames u'.core f.change) none (f.feels whole.pager.whole.handles))
 
   event-on : (event : Event N B W) (reply : EventReply N B W) → Happens m u event reply u' → LoadsStand m.values.types u → LoadsStand m.values.types u'
   event-on event reply h (waits, stands) = (

@@ -5,7 +5,7 @@ use Rattle.pagable_machine.proofs.Words.{WorkerAnswer, WorkerReply, HandleRow, B
 use Rattle.pagable_machine.proofs.Words.{WorkerStarts, IsEntry, IsNoTable, IsTable, entry_task, no_shelf, with_entry_taken, PagerState, WellFormed, world_of, RefusesEntry, StartsEntry, PagerView}
 use Rattle.pagable_machine.proofs.Words.{Telling, state_in, Ghosts, SlotTable, written_of, shelf_of, plain, Held, Walk, Holding, KeepsOne, Makes, machine_of, IsBegun, WalksOn, has_task, is_table}
 use Rattle.pagable_machine.proofs.{Words.{walking_of, Answer, ByNumber, Drives, Given, IsInStep, holding, kept_at, over}, Keeping.{KeepsAll, refuses, stays}, Happening.keeps-after}
-use Rattle.pagable_machine.proofs.{Beginning.{starts-so, table-made, worker-made}, Stepping.worker-moved, Working.{entry-leaves, item-leaves}}
+use Rattle.pagable_machine.proofs.{Beginning.{starts-so, table-made, worker-made}, Stepping.worker-moved, Leaving.{entry-leaves, item-leaves}}
 use Rattle.pagable_world.specs.declared.events.{EventReply.EventReply, Event.Event}
 use Rattle.pagable_world.specs.World as world
 

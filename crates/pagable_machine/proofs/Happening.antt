@@ -3,7 +3,7 @@ use Rattle.pagable_machine.proofs.Words.{Does, CallBrings, OnlyLess, core_in, pl
 use Rattle.pagable_machine.proofs.Words.{inl, inr, refl, sym, ap, subst, ◌∙◌, Result, is_some, Arc, Global, PagableData, Error, HandleNumber, LoadNumber, Beginning, Call, Reply, LoadReply, Blob, Core}
 use Rattle.pagable_machine.proofs.Words.{Seen, Values, Written, load_fault, DropCall, fresh, Moves, PagerState, WellFormed, same-number, same_some, reading_of, PagerView, Telling, state_in, ReadsAs}
 use Rattle.pagable_machine.proofs.Words.{Ghosts, plain, Held, Serves, BeginsNoKey, Forgets, Holding, IsPrepared, IsTaken, KeepsOne, Kept, Makes, Stepped, CountsStep, rest_after, Answer, Drives, Given}
-use Rattle.pagable_machine.proofs.{Words.{IsInStep, Readings, holding, kept_at, over}, Keeping.{call-made, key-refused, key-starts, starts}, Loading.{faulty, never-typed, no-place, own-steps}}
+use Rattle.pagable_machine.proofs.{Words.{IsInStep, Readings, holding, kept_at, over}, Keeping.{by-call, key-refused, key-starts, same-work}, Loading.{faulty, never-typed, no-place, own-steps}}
 use Rattle.{pagable_machine.proofs.Loading.refuses-step, pagable_world.specs.declared.{handles.Owner.Owner, events.{LoadAnswer.LoadAnswer, EventReply.EventReply, Event.Event}}}
 use Rattle.pagable_loads.specs.declared.reading.Reading.{Reading as Own}
 
@@ -74,12 +74,21 @@ module _ {X : Type 0} {g : Ghosts X} {N S E : Type 0} (v : E → Values N) (tell
 
   pub call-drives : (call : Call N PagableData) (reply : Reply N (Arc PagableData Global)) → Serves (v old.environment) tells old call reply new → WellFormed (v new.environment) s'
       → Forgets s'.core (kept_at kept) (kept_at kept') → Happens (Event.Call call) (EventReply.CallReply reply) new kept'
-  call-drives call reply serves formed f = record { makes = call-made m s s' h (kept_at kept') serving was (whole-still serves.moves formed) _ _ serves.step serves.moves f }
+  call-drives call reply serves formed f =
+      let w = whole-still serves.moves formed in
+      record {
+        makes = by-call m s s' h (kept_at kept') serving was w _ _ serves.step f (Event.Call (plain_call call)) (EventReply.CallReply (plain_reply reply)) (λ q. refl)
+            (λ readings. record { step = serves.step; readings = readings; work = same-work m s s' h (kept_at kept') serving was w }) serves.moves tt;
+      }
 
   pub start-drives : (through : HandleNumber) (r : Result Beginning Error) → Serves (v old.environment) tells old (Call.LoadBegin through) (Reply.Begun r) new → WellFormed (v new.environment) s'
       → Happens (Event.LoadStart through) (EventReply.Started r) new kept
-  start-drives through r serves formed = record
-      { makes = starts m s s' h h.readings serving was (whole-still serves.moves formed) through r serves.step serves.moves (forgets-none s'.core (λ q. refl)) }
+  start-drives through r serves formed =
+      let w = whole-still serves.moves formed in
+      record {
+        makes = by-call m s s' h h.readings serving was w _ _ serves.step (forgets-none s'.core (λ q. refl)) (Event.LoadStart through) (EventReply.Started r) (λ q. refl)
+            (λ readings. record { step = serves.step.does; readings = readings; work = same-work m s s' h h.readings serving was w }) serves.moves tt;
+      }
 
   -- a load of a key is refused before it begins
   pub key-full-drives : (key t : ℕ) (e : Error) → BeginsNoKey s.core e → ((q : ℕ) → kept_at kept' q ≡ kept_at kept q)

@@ -6,6 +6,7 @@ use Rattle.pagable_machine.proofs.Words.{EventBrings, HandlesAreWhole, IsMachine
 use Rattle.pagable_machine.proofs.Words.{self-number, reading_of, Ghosts, Walk, AllKept, Forgets, Holding, IsKept, IsServing, KeepsOne, Kept, Makes, ReadsFor, machine_of, readings_in, work_of}
 use Rattle.pagable_machine.proofs.{Words.{IsWalkKept, walking_of}, Leaving.{Leaves, call-leaves, like}, Passing.{Passes, event-passes}, Fitting.walk-on}
 use Rattle.pagable_loads.specs.declared.reading.Reading.{Reading as Own}
+use Rattle.pagable_world.specs.Events.{ReadingsAre}
 
 -- ---- what is kept
 
@@ -150,50 +151,29 @@ module _ {X : Type 0} {g : Ghosts X} {N B W E : Type 0} (m : Seen N B W) (s s' :
       → AllKept s'.core kept' → Makes m s h event reply s' after
   quiet on = makes m s s' {h' = after} serving was formed (le-self _) (λ v. refl) on
 
-  -- a call
-  pub call-made : (call : Call N B) (reply : Reply N B) → CallStep m s.core Owner.Caller call reply s'.core → Moves (CallBrings s.core call) s s' → Forgets s'.core h.readings kept'
-      → Makes m s h (Event.Call call) (EventReply.CallReply reply) s' after
-  call-made call reply step moves f =
-      let on = call-leaves s.core s'.core Owner.Caller m call reply step.does in
-      quiet on (Event.Call call) (EventReply.CallReply reply) (λ v. refl)
-      (record {
-        step = step;
-        readings = are-these s'.core kept' (readings_in h.readings s.core) (λ l load is. ap (option_map reading_of) (f.still l load is) ∙ as-before serving.readings on l load is);
-        work = same-work;
-      }) moves tt (kept-on serving.readings on (λ l own is. inl (f.only l own is)))
-
-  -- a load of a cell begins: of it nothing is kept yet
-  pub starts : (through : HandleNumber) (r : Result Beginning Error) → CallStep m s.core Owner.Caller (Call.LoadBegin through) (Reply.Begun r) s'.core → Moves (λ n x. ⊥) s s'
-      → Forgets s'.core h.readings kept'
-      → Makes m s h (Event.LoadStart through) (EventReply.Started r) s' after
-  starts through r step moves f =
-      let on = call-leaves s.core s'.core Owner.Caller m (Call.LoadBegin through) (Reply.Begun r) step.does in
-      quiet on (Event.LoadStart through) (EventReply.Started r) (λ v. refl)
-      (record {
-        step = step.does;
-        readings = are-these s'.core kept' (readings_in h.readings s.core) (λ l load is. ap (option_map reading_of) (f.still l load is) ∙ as-before serving.readings on l load is);
-        work = same-work;
-      }) moves tt (kept-on serving.readings on (λ l own is. inl (f.only l own is)))
+  -- what a call does, of which no more is kept than there was
+  pub by-call : (call : Call N B) (answer : Reply N B) → CallStep m s.core Owner.Caller call answer s'.core → Forgets s'.core h.readings kept' → (event : Event N B W) (reply : EventReply N B W)
+      → ((v : ℕ) → step_of v event reply ≡ [])
+      → (ReadingsAre (readings_in h.readings s.core) (world_of (machine_of s' after)) → Happens m (world_of (machine_of s h)) event reply (world_of (machine_of s' after)))
+      → Moves (EventBrings m.values (world_of (machine_of s h)) event) s s' → ReplyWrites m s reply → Makes m s h event reply s' after
+  by-call call answer step f event reply none happens moves writes =
+      let on = call-leaves s.core s'.core m call answer step.does in
+      quiet on event reply none
+      (happens (are-these s'.core kept' (readings_in h.readings s.core) (λ l load is. ap (option_map reading_of) (f.still l load is) ∙ as-before serving.readings on l load is)))
+      moves writes (kept-on serving.readings on (λ l own is. inl (f.only l own is)))
 
   -- a load of a key is refused
   pub key-refused : (key t : ℕ) (e : Error) → CallStep m s.core Owner.Caller (Call.LoadKey key) (Reply.Begun (Err e)) s'.core → Moves (λ n x. ⊥) s s' → Forgets s'.core h.readings kept'
       → Makes m s h (Event.LoadKey key t) (EventReply.Started (Err e)) s' after
-  key-refused key t e step moves f =
-      let on = call-leaves s.core s'.core Owner.Caller m (Call.LoadKey key) (Reply.Begun (Err e)) step.does in
-      quiet on (Event.LoadKey key t) (EventReply.Started (Err e)) (λ v. refl)
-      (record {
-        step = step.does;
-        begun = tt;
-        refused = are-these s'.core kept' (readings_in h.readings s.core) (λ l load is. ap (option_map reading_of) (f.still l load is) ∙ as-before serving.readings on l load is);
-        work = same-work;
-      }) moves tt (kept-on serving.readings on (λ l own is. inl (f.only l own is)))
+  key-refused key t e step moves f = by-call _ _ step f (Event.LoadKey key t) (EventReply.Started (Err e)) (λ v. refl)
+      (λ readings. record { step = step.does; begun = tt; refused = readings; work = same-work }) moves tt
 
   -- it begins, and is kept
   pub key-starts : (key t : ℕ) (l : LoadNumber) (k : ℕ) (own : Own) → CallStep m s.core Owner.Caller (Call.LoadKey key) (Reply.Begun (Ok (Beginning.Load l k))) s'.core → Moves (λ n x. ⊥) s s'
       → reading_of own ≡ fresh l t → own.key ≡ key → own.for_cell ≡ false → KeepsOne h.readings l.0 (Some own) kept'
       → Makes m s h (Event.LoadKey key t) (EventReply.Started (Ok (Beginning.Load l k))) s' after
   key-starts key t l k own step moves is key_is sort keeps =
-      let on = call-leaves s.core s'.core Owner.Caller m (Call.LoadKey key) (Reply.Begun (Ok (Beginning.Load l k))) step.does in
+      let on = call-leaves s.core s'.core m (Call.LoadKey key) (Reply.Begun (Ok (Beginning.Load l k))) step.does in
       let next = step.does.begins.1.above in
       let a = step.does.begins.2 in
       let last : s'.core.last.load ≡ s.core.last.load + 1 = ap (λ (x : Last). x.load) a.last in

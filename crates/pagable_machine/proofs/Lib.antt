@@ -1,7 +1,6 @@
 mod Words
 pub mod Leaving
 pub mod Passing
-pub mod Working
 pub mod Fitting
 pub mod Keeping
 pub mod Loading

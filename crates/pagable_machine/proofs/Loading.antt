@@ -4,7 +4,8 @@ use Rattle.pagable_machine.proofs.Words.{arith, Result, is_none, is_some, not, o
 use Rattle.pagable_machine.proofs.Words.{Root, of_cell, of_key, Seen, one_more, OwnsLoad, earlier, load_fault, refused_if, DropCall, LoadCloses, gone_on, fresh, reading_after, reading_at}
 use Rattle.pagable_machine.proofs.Words.{reading_of_root, step_fault, FitsRoot, Moves, PagerState, WellFormed, world_of, ReadingStep, same_some, IsLoadOf, is_cell, reading_of, type_of_root, Ghosts}
 use Rattle.pagable_machine.proofs.{Words.{Holding, IsKept, IsSameLoad, IsServing, IsTaken, KeepsOne, Kept, Makes, ReadsFor, Stepped, machine_of, readings_in, rest_after}, Keeping.KeepsAll}
-use Rattle.pagable_machine.proofs.{Keeping.{are-these, as-before, at-one, kept-on, one-or-old, quiet, refuses, same-work, stays}, Leaving.{IsMine, owned-mine, step-leaves}}
+use Rattle.pagable_machine.proofs.{Keeping.{are-these, as-before, at-one, kept-on, one-or-old, quiet, refuses, same-work, stays}, Leaving.leaves-so}
+use Rattle.pagable_laws.proofs.{Effects.{IsMine, owned-mine}, ReadingSteps.{caller-free, reading-feels}}
 use Rattle.{pagable_world.specs.declared.{events.{EventReply.EventReply, Event.Event}, handles.Owner.Owner}, pagable_loads.specs.declared.reading.Reading.Reading as Own}
 
 fits : (root : Root) (a b : Reading) → b.node_type ≡ a.node_type → FitsRoot root a → FitsRoot root b
@@ -69,7 +70,7 @@ module _ {X : Type 0} {g : Ghosts X} {N B W E : Type 0} (m : Seen N B W) (s s' :
       → KeepsOne h.readings l.0 x kept' → option_map reading_of x ≡ reading_after reply.ended reading frames → ((now : Own) → x ≡ Some now → (now.load ≡ l) × ReadsFor load now)
       → Makes m s h (Event.LoadStep l) (EventReply.LoadMoved (Ok reply)) s' left
   steps l load reading x reply frames o at step counts mine keeps goes again =
-      let on = step-leaves s.core s'.core Owner.Caller m.values reading mine reply.ended frames step.does in
+      let on = leaves-so (reading-feels m s.core Owner.Caller caller-free s'.core reading reply.ended frames step.does).does mine in
       let given = (was.whole.loads.numbered l.0 (ap is_some o.stands_open)).1 in
       let more = on.last in
       let new : (now : Own) → x ≡ Some now → IsKept s'.core l.0 now =

@@ -4,8 +4,8 @@ use Rattle.pagable_machine.proofs.Words.{sym, ap, subst, ◌∙◌, length, arit
 use Rattle.pagable_machine.proofs.Words.{updated, is_owner, owner_worker, Core, SameShelf, Seen, Shelf, Todo, Values, Written, Site, WalkDoes, answer_after, is_counted, Ends, Happens, WorkerSteps}
 use Rattle.pagable_machine.proofs.Words.{no_shelf, steps_after, PagerState, TodoBrings, WellFormed, world_of, same-number, Ghosts, SlotTable, Task, Turn, Waiting, shelf_of, todo_of, todos, LeavesFit}
 use Rattle.pagable_machine.proofs.Words.{TaskFits, answer_in, plain, plain_took, plan, Walk, Holding, IsServing, KeepsOne, Makes, machine_of, readings_in, plain_moved, IsWalkKept, SetsTable, WalksOn}
-use Rattle.pagable_machine.proofs.{Words.{shelf_at, task_in, todo_left, walking_of}, Keeping.{are-these, as-before, at-one, kept-on, makes-with, not-same, one-serves, updated-at}, Leaving.Leaves}
-use Rattle.pagable_machine.proofs.{Leaving.owned-mine, Passing.{Passes, event-passes}, Working.{FrontMine, end-leaves, walk-leaves, works_after}}
+use Rattle.pagable_machine.proofs.{Words.{shelf_at, task_in, todo_left, walking_of}, Keeping.{are-these, as-before, at-one, kept-on, makes-with, not-same, one-serves, updated-at}}
+use Rattle.{pagable_machine.proofs.{Leaving.{Leaves, leaves-so, end-leaves, works_after}, Passing.{Passes, event-passes}}, pagable_laws.proofs.{Effects.owned-mine, ReadingSteps.{FrontMine, walk-goes}}}
 use Rattle.{pagable_world.specs.declared.events.{EventReply.EventReply, Event.Event}, pagable_walk.specs.Turns.Stepped}
 
 -- the load that it goes on with is its own
@@ -87,7 +87,7 @@ module _ {X : Type 0} {g : Ghosts X} {N E : Type 0} (v : Values N) (s s' : Pager
   ends = subst (λ a. Ends a n.0 done.does.after.core s'.core) done.answers done.does.ends
 
   leaves : Leaves (owner_worker n.0) (works_after (answer_in turn) n.0 s.core.workers) s.core s'.core
-  leaves = end-leaves (answer_in turn) n.0 (walk-leaves m n.0 site done.does.after todo step (front-mine n.0 s.core on.task (todos k.path.items) fits) done.does.does.does) ends
+  leaves = end-leaves (answer_in turn) n.0 (leaves-so (walk-goes m n.0 site done.does.after todo step done.does.does.does).does (front-mine n.0 s.core on.task (todos k.path.items) fits)) ends
 
   -- its list and table are those that the machine knows
   todo-is : todo_left k.task k.path.items ≡ todo

@@ -1,0 +1,494 @@
+-- What a step does: how it is felt, which handles and loads it leaves to others, and that the cache goes on to give for a kind and a key what it gave, as long as the node is held as the
+-- kind asks. The parts of which each call is made.
+use Rattle.pagable_laws.proofs.Words.{◌≡◌, ℕ, ◌<◌, ◌≤◌, ◌==◌, ◌&&◌, Bool, true, List, ◌++◌, Option, Some, None, inl, inr, refl, ap, subst, ◌∙◌, if◌then◌else◌, arith, Result, not, nat_lt, is_some}
+use Rattle.pagable_laws.proofs.Words.{and_parts, nat_tests, OptionalDataKey, HandleRow, Error, Among, updated, if_there, one, is_pinned_kind, is_pinning, is_pin, is_at, is_in_memory, pins, held, Core}
+use Rattle.pagable_laws.proofs.Words.{Cell, Alike, usable, Falls, left_rows, fallen, suc, zero, ◌||◌, false, [], ◌∷◌, sym, slice_get, Owner, Mode, ArcRef, HandleNumber, LoadNumber, NodeNumber}
+use Rattle.pagable_laws.proofs.Words.{changed, find_row, is_handle, is_owner, is_owned_by, owner_worker, nobody, only_handle, Owns, with_handle, with_mode, moved, is_named_by, is_owned_in}
+use Rattle.pagable_laws.proofs.Words.{OwnersAreThere, AreGood, Blob, Kind, is_in, named_fault, numbers_of, owner_value, refused_if, row_at, with_cached, with_node, without_load, ◌+◌, row_of}
+use Rattle.pagable_laws.proofs.Words.{is_load_of, is_workers, is_workers_at, OpenLoad, load_fault, earlier, Change, nothing_felt, sets_key, Knows, Bears, Root, with_load, with_key, is_loose}
+use Rattle.pagable_laws.proofs.{Sums.{same-number, self-number, at-most-sum, counted, one-true}, Decoding.{among-either}, Trees.same_some, GoodReferences.same-owner}
+use Rattle.pagable_laws.proofs.Outlasting.{among-kept, NotValues, Stands, stands-alike, stands-changed, stands-fell, stands-more}
+use Rattle.pagable_laws.proofs.Goes.{found-number, le-more, none-in-next, Goes, Quiet, IsShut, NotLoads, rows-self, rows-mode, rows-moved, alike, parts, quiet-self, only-rows, a-handle, quiet-goes, goes-quiet, born, keyed}
+use Rattle.pagable_laws.proofs.Goes.{goes-then, goes-known, le-self, fell as quiet-fell}
+use Rattle.pagable_world.specs.Refusals.{OwnsLoad}
+use Rattle.std.proofs.lemmas.Bool.{false_from_ne_true}
+
+module _ (kind key n : ℕ) where
+  -- the cache has the node under kind and key, and it is there
+  pub record IsEntered (cache : ℕ → ℕ → Option ℕ) (cells : ℕ → Option Cell) : Type 0 where
+    pub entry : cache kind key ≡ Some n
+    pub there : is_some (cells n) ≡ true
+
+  -- a handle of the node is there, which pins it if the kind is one of pins
+  pub record IsHeldFor (rows : List HandleRow) : Type 0 where
+    pub row : HandleRow
+    pub live : Among rows row
+    pub at : row.node.0 ≡ n
+    pub pins_it : is_pinned_kind kind ≡ true → is_pinning row.mode ≡ true
+
+  -- ---- what can be used
+
+  -- what the node's cell makes of the entry
+  abbrev of_node : Core → Option Cell → Option ℕ
+  of_node w c = if_there (λ (x : Cell). if is_pinned_kind kind && not (is_in_memory (pins n w.rows) x.key) then None else Some n) None c
+
+  at-node : (w : Core) → w.cache kind key ≡ Some n → usable w kind key ≡ of_node w (w.cells n)
+  at-node w entry = ap (λ o. if_there (λ m. if_there (λ (x : Cell). if is_pinned_kind kind && not (is_in_memory (pins m w.rows) x.key) then None else Some m) None (w.cells m)) None o) entry
+
+  at-row : (row : HandleRow) → row.node.0 ≡ n → (row.node.0 == n) ≡ true
+  at-row row at = ap (λ (x : ℕ). x == n) at ∙ self-number n
+
+  above-none : (a b : ℕ) (t : Bool) → t ≡ true → one t ≤ b → nat_lt 0 b ≡ true
+  above-none a b t is le = let e : one t ≡ 1 = ap one is in grind (arith, nat_tests)
+
+  pinned : (rows : List HandleRow) → IsHeldFor rows → is_pinned_kind kind ≡ true → nat_lt 0 (pins n rows) ≡ true
+  pinned rows h is =
+      let e = at-row h.row h.at in
+      let p = h.pins_it is in
+      above-none 0 (pins n rows) (is_pin n h.row) (rw (e, p) refl) (at-most-sum (λ x. one (is_pin n x)) rows h.row h.live)
+
+  pub can-use : (w : Core) → IsEntered w.cache w.cells → IsHeldFor w.rows → usable w kind key ≡ Some n
+  can-use w e h = grind (arith, nat_tests, at-node, pins, pinned)
+
+  pub entered-of : (w : Core) → usable w kind key ≡ Some n → IsEntered w.cache w.cells
+  entered-of w is = grind (arith, nat_tests)
+
+  -- ---- the end of a part
+
+  pub stays-alike : {w w' : Core} → Alike w w' → IsEntered w.cache w.cells → IsHeldFor w'.rows → IsEntered w'.cache w'.cells
+  stays-alike {w} {w'} a e h = entered-of w' (a.cache.gives kind key ∙ can-use w e (subst IsHeldFor a.rows h))
+
+  pub stays-fell : {before w w' : Core} {given : ℕ → Bool} {r : Result (Unit {0}) Error} → Falls before w given r w' → IsEntered w.cache w.cells → IsHeldFor w'.rows → IsEntered w'.cache w'.cells
+  stays-fell {before} {w} {w'} {given} {r} f e h = stays-alike {w = fallen w f.gone f.entries} f.leaves (record { entry = e.entry; there = there }) h
+    where
+      rows : List HandleRow
+      rows = left_rows f.gone w.rows ++ f.entries
+
+      some : nat_lt 0 (held n rows) ≡ true
+      some =
+          let g = subst IsHeldFor f.leaves.rows h in
+          above-none 0 (held n rows) (is_at n g.row) (at-row g.row g.at) (at-most-sum (λ x. one (is_at n x)) rows g.row g.live)
+
+      there : is_some (if nat_lt 0 (held n rows) then w.cells n else None) ≡ true
+      there = rw some e.there
+
+  -- ---- parts, one after another
+
+  -- the entry stays where the node is held before and after
+  pub record Lasts (w w' : Core) : Type 0 where
+    pub lasts : IsEntered w.cache w.cells → IsHeldFor w.rows → IsHeldFor w'.rows → IsEntered w'.cache w'.cells
+
+  pub by-alike : {w m w' : Core} → Alike m w' → (IsEntered w.cache w.cells → IsEntered m.cache m.cells) → Lasts w w'
+  by-alike a direct = record { lasts = λ e h h'. stays-alike a (direct e) h' }
+
+  pub by-fell : {before w m w' : Core} {given : ℕ → Bool} {r : Result (Unit {0}) Error} → Falls before m given r w' → (IsEntered w.cache w.cells → IsEntered m.cache m.cells) → Lasts w w'
+  by-fell f direct = record { lasts = λ e h h'. stays-fell f (direct e) h' }
+
+  -- the node is held in the middle since it is afterwards
+  pub then-down : {w m w' : Core} → (IsHeldFor w'.rows → IsHeldFor m.rows) → Lasts w m → Lasts m w' → Lasts w w'
+  then-down down a b = record { lasts = λ e h h'. b.lasts (a.lasts e h (down h')) (down h') h' }
+
+  -- what is held after handles were given up was held before: an entry of the list comes for a node that was pinned
+  pub held-fell : {w m w' : Core} {given : ℕ → Bool} {r : Result (Unit {0}) Error} → m.rows ≡ w.rows → Falls w m given r w' → IsHeldFor w'.rows → IsHeldFor w.rows
+  held-fell {w} {m} {w'} same f h = elim (among-either (left_rows f.gone m.rows) f.entries g.live.0 g.row g.live.1) [
+    | inl left ↦ record { row = g.row; live = subst (λ rows. Among rows g.row) same (among-kept _ m.rows g.row left); at = g.at; pins_it = g.pins_it }
+    | inr new ↦ was-pinned new
+  ]
+    where
+      g : IsHeldFor (left_rows f.gone m.rows ++ f.entries)
+      g = subst IsHeldFor f.leaves.rows h
+
+      was-pinned : Among f.entries g.row → IsHeldFor w.rows
+      was-pinned new =
+          let le = at-most-sum (λ x. one (is_at n x)) f.entries g.row new in
+          let some : 0 < held n f.entries = let e : one (is_at n g.row) ≡ 1 = ap one (at-row g.row g.at) in omega (arith, e, le) in
+          let p = counted (λ x. one (is_pin n x)) w.rows (f.only n some).0.pinned in
+          let both = and_parts (p.0.node.0 == n) (is_pinning p.0.mode) (one-true _ p.2) in
+          record { row = p.0; live = p.1; at = same-number _ _ both.0; pins_it = λ is. both.1 }
+
+  -- ---- cells
+
+  pub entered-born : {cache : ℕ → ℕ → Option ℕ} {cells : ℕ → Option Cell} (p : ℕ) (x : Cell) → IsEntered cache cells → IsEntered cache (updated p (Some x) cells)
+  entered-born {cache} {cells} p x e = grind (arith, nat_tests)
+
+  pub entered-keyed : {cache : ℕ → ℕ → Option ℕ} {cells : ℕ → Option Cell} (p k : ℕ) → IsEntered cache cells
+      → IsEntered cache (updated p (if_there (λ (x : Cell). Some (record x { key = OptionalDataKey.Some k })) None (cells p)) cells)
+  entered-keyed {cache} {cells} p k e = grind (arith, nat_tests)
+
+-- A call leaves each handle of an owner as it is that doesn't ask: it is there afterwards, with its row. The owner is a worker, or the list.
+
+-- neither a value nor a load
+pub record IsApart (mine : Owner) : Type 0 where
+  pub no_value : NotValues mine
+  pub no_load : (l : LoadNumber) → is_owner (Owner.Load l) mine ≡ false
+
+pub worker-apart : (v : ℕ) → IsApart (owner_worker v)
+worker-apart v = record { no_value = λ n is. absurd (cc); no_load = λ l. refl }
+
+pub list-apart : IsApart Owner.List
+list-apart = record { no_value = λ n is. absurd (cc); no_load = λ l. refl }
+
+-- what references name is the handle of one of them
+pub named-among : (rs : List ArcRef) (q : ℕ) → is_named_by rs q ≡ true → (r : ArcRef) × Among rs r × (r.handle.0 ≡ q)
+unfolding is_named_by
+named-among [] q is = absurd (cc)
+named-among (r ∷ rs) q is = by (λ e. named-among rs q e) (r.handle.0 == q) refl is
+  where
+    by : (is_named_by rs q ≡ true → (x : ArcRef) × Among rs x × (x.handle.0 ≡ q)) → (b : Bool) → (r.handle.0 == q) ≡ b → (b || is_named_by rs q) ≡ true
+        → (x : ArcRef) × Among (r ∷ rs) x × (x.handle.0 ≡ q)
+    by rest true e is = let same : r.handle.0 ≡ q = grind (arith, nat_tests) in (r, (zero, refl), same)
+    by rest false e is = let a = rest is in (a.0, (suc a.1.0, a.1.1), a.2)
+
+pub with-one : (w : Core) {q : ℕ} {row : HandleRow} (node : NodeNumber) (mode : Mode) (owner : Owner) → Stands w.last.handle w.rows q row
+    → Stands (with_handle w node mode owner).last.handle (with_handle w node mode owner).rows q row
+with-one w {q} {row} node mode owner s =
+    stands-more (row_of (w.last.handle + 1) node mode owner ∷ []) (le-more _ _) (none-in-next w.last.handle q (row_of (w.last.handle + 1) node mode owner) refl s.given) s
+
+pub both-none : (a b : Option Error) → earlier a b ≡ None → (a ≡ None) × (b ≡ None)
+both-none x0 x1 is = grind (arith, nat_tests)
+
+module _ (mine : Owner) where
+  -- each handle of the owner's that stands before stands afterwards
+  pub record Spares (w w' : Core) : Type 0 where
+    pub each : (q : ℕ) (row : HandleRow) → row.owner ≡ mine → Stands w.last.handle w.rows q row → Stands w'.last.handle w'.rows q row
+
+  -- no handle of the owner's has such a number
+  pub record Free (w : Core) (test : ℕ → Bool) : Type 0 where
+    pub each : (q : ℕ) (row : HandleRow) → row.owner ≡ mine → Stands w.last.handle w.rows q row → test q ≡ false
+
+  pub spares-then : {w m w' : Core} → Spares w m → Spares m w' → Spares w w'
+  spares-then a b = record { each = λ q row own s. b.each q row own (a.each q row own s) }
+
+  pub spares-alike : {w w' : Core} → Alike w w' → Spares w w'
+  spares-alike a = record { each = λ q row own s. stands-alike a s }
+
+  -- with the same rows, the second core stays alike
+  pub then-alike : {w m w' : Core} → Alike m w' → Spares w m → Spares w w'
+  then-alike a b = spares-then b (spares-alike a)
+
+  pub then-fell : IsApart mine → {before w m w' : Core} {given : ℕ → Bool} {r : _} → Falls before m given r w' → Spares w m → Free w given → Spares w w'
+  then-fell apart f a free = record { each = λ q row own s. stands-fell f (λ n is. apart.no_value n (sym own ∙ is)) (free.each q row own s) (a.each q row own s) }
+
+  pub itself : {w : Core} → Spares w w
+  itself = record { each = λ q row own s. s }
+
+  pub spares-handle : (w : Core) (node : NodeNumber) (mode : Mode) (owner : Owner) → Spares w (with_handle w node mode owner)
+  spares-handle w node mode owner = record { each = λ q row own s. with-one w node mode owner s }
+
+  unchanged : {last : ℕ} {rows : List HandleRow} {q : ℕ} {row : HandleRow} (test : HandleRow → Bool) (f : HandleRow → HandleRow) → ((h : HandleRow) → (f h).number ≡ h.number)
+      → test row ≡ false → Stands last rows q row → Stands last (changed test f rows) q row
+  unchanged {last} {rows} {q} {row} test f same e s = subst (λ r. Stands last (changed test f rows) q r) (ap (λ b. if b then f row else row) e) (stands-changed test f same s)
+
+  row-number : {last : ℕ} {rows : List HandleRow} {q : ℕ} {row : HandleRow} → Stands last rows q row → row.number.0 ≡ q
+  row-number {rows = rows} {q} {row} s = found-number q rows row s.live
+
+  -- handles of a set move that aren't the owner's
+  pub moved-free : {last : ℕ} {rows : List HandleRow} {q : ℕ} {row : HandleRow} (set : ℕ → Bool) (owner : Owner) → set q ≡ false → Stands last rows q row → Stands last (moved set owner rows) q row
+  moved-free set owner free s = unchanged (λ h. set h.number.0) (λ h. record h { owner = owner }) (λ h. refl) (ap set (row-number s) ∙ free) s
+
+  pub mode-free : {last : ℕ} {rows : List HandleRow} {q : ℕ} {row : HandleRow} (h : HandleNumber) (mode : Mode) → only_handle h q ≡ false → Stands last rows q row
+      → Stands last (changed (is_handle h.0) (λ x. record x { mode = mode }) rows) q row
+  mode-free h mode free s = unchanged (is_handle h.0) (λ x. record x { mode = mode }) (λ x. refl) (ap (λ n. n == h.0) (row-number s) ∙ free) s
+
+  -- two rows of one number
+  same-row : {last : ℕ} {rows : List HandleRow} {q n : ℕ} {row : HandleRow} (r : HandleRow) → Stands last rows q row → find_row n rows ≡ Some r → q ≡ n → row.owner ≡ r.owner
+  same-row {rows = rows} r s found same = ap (λ (x : HandleRow). x.owner) (same_some _ _ (sym s.live ∙ ap (λ n. find_row n rows) same ∙ found))
+
+  -- a handle of another's isn't the owner's
+  pub other-handle : {w : Core} {me : Owner} {fits : Mode → Bool} (h : HandleNumber) (r : HandleRow) → (me ≡ mine → ⊥) → Owns w me h fits r → Free w (only_handle h)
+  other-handle {w} {me} h r other owns = grind (arith, nat_tests)
+
+  -- references of another's name none of the owner's handles
+  pub named-free : (w : Core) (owner : Owner) (rs : List ArcRef) → (owner ≡ mine → ⊥) → AreGood w owner rs → Free w (is_named_by rs)
+  named-free w owner rs other right = record {
+    each = λ q row own s. false_from_ne_true (is_named_by rs q) (λ e.
+        let a = named-among rs q e in
+        let is = right a.0 a.1 in
+        other (sym is.owned ∙ (sym (same-row is.row s is.live (sym a.2)) ∙ own)));
+  }
+
+  -- what a load owns isn't the owner's
+  pub load-free : IsApart mine → (w : Core) (l : LoadNumber) → Free w (is_owned_in w (Owner.Load l))
+  load-free apart w l = record { each = λ q row own s. ap (λ (f : Option HandleRow). if_there (is_owned_by (Owner.Load l)) false f) s.live ∙ (ap (is_owner (Owner.Load l)) own ∙ apart.no_load l) }
+
+  pub both-free : {w : Core} (f g : ℕ → Bool) → Free w f → Free w (λ q. f q && not (g q))
+  both-free f g free = record { each = λ q row own s. ap (λ b. b && not (g q)) (free.each q row own s) }
+
+  pub nobody-free : {w : Core} → Free w nobody
+  nobody-free = record { each = λ q row own s. refl }
+
+  -- an entry of the list isn't the owner's
+  pub listed-free : is_owner Owner.List mine ≡ false → {w : Core} → OwnersAreThere w → (i : ℕ) (h : HandleNumber) → slice_get w.list i ≡ Some h → Free w (only_handle h)
+  listed-free unlisted {w} there i h at = record {
+    each = λ q row own s. false_from_ne_true (q == h.0) (λ e.
+        let same : h.0 ≡ q = sym (same-number q h.0 e) in
+        let here : one (h.0 == q) ≡ 1 = ap (λ n. one (n == q)) same ∙ ap one (self-number q) in
+        let owned = counted (λ (x : HandleRow). one (is_handle q x && is_owned_by Owner.List x)) w.rows
+        (above _ _ _ here (at-most-sum (λ (x : HandleNumber). one (x.0 == q)) w.list h (i, at)) (there.listed q)) in
+        let both = and_parts (is_handle q owned.0) (is_owned_by Owner.List owned.0) (one-true _ owned.2) in
+        let it = s.only owned.0 owned.1 (same-number _ _ both.0) in
+        let f : is_owner Owner.List mine ≡ true = sym (ap (λ (x : HandleRow). is_owner Owner.List x.owner) it ∙ ap (is_owner Owner.List) own) ∙ both.1 in
+        cc);
+  }
+    where
+      above : (a b c : ℕ) → a ≡ 1 → a ≤ b → b ≡ c → 0 < c
+      above a b c e le same = omega arith
+
+  -- handles that a load hands over aren't the owner's
+  pub handed-free : IsApart mine → (w : Core) (l : LoadNumber) (hs : List HandleNumber) (seen : List ℕ) → named_fault w (Owner.Load l) seen hs ≡ None → (q : ℕ) (row : HandleRow) → row.owner ≡ mine
+      → Stands w.last.handle w.rows q row → is_in (numbers_of hs) q ≡ false
+  unfolding named_fault is_in
+  handed-free apart w l [] seen none q row own s = refl
+  handed-free apart w l (h ∷ hs) seen none q row own s = by (λ rest. handed-free apart w l hs (h.0 ∷ seen) rest q row own s) (h.0 == q) refl (both-none _ _ none)
+    where
+      by : (named_fault w (Owner.Load l) (h.0 ∷ seen) hs ≡ None → is_in (numbers_of hs) q ≡ false) → (b : Bool) → (h.0 == q) ≡ b
+          → (if_there (λ (x : HandleRow). refused_if (not (is_owner (Owner.Load l) x.owner) || is_in seen h.0) Error.NotYours) (Some Error.NoSuchHandle) (row_at w h) ≡ None)
+          × (named_fault w (Owner.Load l) (h.0 ∷ seen) hs ≡ None)
+          → (b || is_in (numbers_of hs) q) ≡ false
+      by more false e (first, rest) = more rest
+      by more true e (first, rest) = grind (arith, nat_tests, same-number, apart)
+
+-- ---- what a step does
+
+-- an owner of whom nothing is taken: not the asker, no value and no load; and not the list, where its entries may be taken
+pub record IsOther (me : Owner) (lists : Bool) (w : Core) (mine : Owner) : Type 0 where
+  pub apart : IsApart mine
+  pub other : me ≡ mine → ⊥
+  pub unlisted : lists ≡ true → (is_owner Owner.List mine ≡ false) × OwnersAreThere w
+
+-- the load is the asker's, if it is open
+abbrev pub IsMine : Core → Owner → LoadNumber → Type 0
+IsMine w me l = (load : OpenLoad) → w.loads l.0 ≡ Some load → is_owner me load.owner ≡ true
+
+own-self : (o : Owner) → is_owner o o ≡ true
+own-self x0 = grind (arith, nat_tests, self-number)
+
+pub owned-mine : {w : Core} {me : Owner} {l : LoadNumber} {load : OpenLoad} → OwnsLoad w me l load → IsMine w me l
+owned-mine {me = me} o load is = ap (is_owner me) (ap (λ (x : OpenLoad). x.owner) (same_some _ _ (sym is ∙ o.stands_open)) ∙ o.own) ∙ own-self me
+
+pub unfaulty-mine : (w : Core) (me : Owner) (l : LoadNumber) → load_fault w me l ≡ None → IsMine w me l
+unfaulty-mine w me l none load is = grind (arith, nat_tests)
+
+-- What a step of the asker's does: up to what falls then, or to its end. It is felt as this change; each handle stays that isn't the asker's; where the cache is left to
+-- itself it goes on to give what it gave, as long as the node is held; the same work, and loads that aren't the asker's stay, where what it asks is so.
+pub record Effect (me : Owner) (lists : Bool) (Asks Leaves : Type 0) (direct : Bool) (c : Change) (w w' : Core) : Type 0 where
+  pub goes : Goes c w w'
+  pub spares : (mine : Owner) → IsOther me lists w mine → Spares mine w w'
+  pub lasts : Leaves → (kind key n : ℕ) → IsEntered kind key n w.cache w.cells → IsHeldFor kind key n w.rows → (direct ≡ false → IsHeldFor kind key n w'.rows) → IsEntered kind key n w'.cache w'.cells
+  pub workers : (v : ℕ) → w'.workers v ≡ w.workers v
+  pub others : Asks → (l : ℕ) (load : OpenLoad) → w.loads l ≡ Some load → l ≤ w.last.load → is_owner me load.owner ≡ false → w'.loads l ≡ Some load
+
+-- the load isn't there any more
+closed-load : (w : Core) (l : LoadNumber) → Quiet w (without_load w l)
+closed-load w l = grind (arith, parts, le-self, rows-self)
+
+-- whoever else is concerned has no handle of these numbers
+abbrev pub Ours : Owner → Bool → Core → (ℕ → Bool) → Type 0
+Ours me lists w set = (mine : Owner) → IsOther me lists w mine → Free mine w set
+
+pub none-named : (w : Core) (owner : Owner) → AreGood w owner []
+none-named w owner r among = absurd (let e = among.1 in cc)
+
+not-load : {mine : Owner} (l : LoadNumber) → IsApart mine → Owner.Load l ≡ mine → ⊥
+not-load l apart e = let f : is_owner (Owner.Load l) (Owner.Load l) ≡ false = ap (is_owner (Owner.Load l)) e ∙ apart.no_load l in let g = self-number l.0 in absurd (cc)
+
+-- what a worker gives up isn't another's
+module _ (mine : Owner) (apart : IsApart mine) (u : ℕ) (other : owner_worker u ≡ mine → ⊥) where
+  not-mine : is_owner (owner_worker u) mine ≡ false
+  not-mine = grind (arith, nat_tests, same-owner)
+
+  no-load : (w : Core) (o : Owner) → IsApart o → is_load_of w u o ≡ false
+  no-load w (Owner.Load l) a = let f = a.no_load l in let g = self-number l.0 in absurd (cc)
+  no-load w o a = refl
+
+  pub ended-free : (w : Core) → Free mine w (is_workers w u)
+  ended-free w = grind (arith, nat_tests, not-mine, no-load)
+
+  pub released-free : (w : Core) (p : ℕ) → Free mine w (is_workers_at w u p)
+  released-free w p = grind (arith, nat_tests, not-mine)
+
+module _ {me : Owner} {lists : Bool} where
+  pub own-handle : {w : Core} {fits : Mode → Bool} (h : HandleNumber) (row : HandleRow) → Owns w me h fits row → Ours me lists w (only_handle h)
+  own-handle h row owns mine o = other-handle mine h row o.other owns
+
+  pub load-named : (w : Core) (l : LoadNumber) (references : List ArcRef) → AreGood w (Owner.Load l) references → Ours me lists w (is_named_by references)
+  load-named w l references right mine o = named-free mine w (Owner.Load l) references (not-load l o.apart) right
+
+  pub own-named : (w : Core) (references : List ArcRef) → AreGood w me references → Ours me lists w (is_named_by references)
+  own-named w references right mine o = named-free mine w me references o.other right
+
+  pub load-owns : (w : Core) (l : LoadNumber) → Ours me lists w (is_owned_in w (Owner.Load l))
+  load-owns w l mine o = load-free mine o.apart w l
+
+  pub but : {w : Core} (f g : ℕ → Bool) → Ours me lists w f → Ours me lists w (λ q. f q && not (g q))
+  but f g free mine o = both-free mine f g (free mine o)
+
+  pub no-one : {w : Core} → Ours me lists w nobody
+  no-one mine o = nobody-free mine
+
+  pub entry : lists ≡ true → {w : Core} (i : ℕ) (h : HandleNumber) → slice_get w.list i ≡ Some h → Ours me lists w (only_handle h)
+  entry taken i h at mine o = listed-free mine (o.unlisted taken).0 (o.unlisted taken).1 i h at
+
+  -- handles that a load hands over
+  pub handed : (w : Core) (l : LoadNumber) (hs : List HandleNumber) → named_fault w (Owner.Load l) [] hs ≡ None → Ours me lists w (is_in (numbers_of hs))
+  handed w l hs none mine o = record { each = handed-free mine o.apart w l hs [] none }
+
+module _ {me : Owner} {lists : Bool} {Asks Leaves : Type 0} where
+  -- ---- what is done directly
+
+  pub none : {c : Change} (w : Core) → Effect me lists Asks Leaves true c w w
+  none {c} w = record { goes = quiet-goes c (quiet-self w); spares = λ mine o. itself mine; lasts = λ k kind key n e h still. e; workers = λ v. refl; others = λ own l load is few other. is }
+
+  module _ {c : Change} {w m : Core} (d : Effect me lists Asks Leaves true c w m) where
+    -- handles alone
+    rowed : {rows : List HandleRow} {list : List HandleNumber} {last : ℕ} → let x = record m { rows = rows; list = list; last = record m.last { handle = last } } in
+        Quiet m x → ((mine : Owner) → IsOther me lists w mine → Spares mine w x) → Effect me lists Asks Leaves true c w x
+    rowed q spares = record {
+      goes = goes-quiet d.goes q;
+      spares = spares;
+      lasts = λ k kind key n e h still. d.lasts k kind key n e h (λ f. absurd (cc));
+      workers = d.workers;
+      others = d.others;
+    }
+
+    pub handle : (node : NodeNumber) (mode : Mode) (owner : Owner) → Effect me lists Asks Leaves true c w (with_handle m node mode owner)
+    handle node mode owner = rowed (a-handle m node mode owner) (λ mine o. spares-then mine (d.spares mine o) (spares-handle mine m node mode owner))
+
+    pub turned : (h : HandleNumber) (mode : Mode) → is_loose mode ≡ true → Ours me lists w (only_handle h) → ((r : HandleRow) → find_row h.0 m.rows ≡ Some r → NotLoads r.owner) → Effect me lists Asks Leaves true c w (with_mode m h mode)
+    turned h mode is free safe = rowed (only-rows (rows-mode m.last.handle m.rows h mode is safe) (le-self _))
+        (λ mine o. record { each = λ q row own s. mode-free mine h mode ((free mine o).each q row own s) ((d.spares mine o).each q row own s) })
+
+    pub moves : (set : ℕ → Bool) (owner : Owner) (list : List HandleNumber) → NotLoads owner → Ours me lists w set → Effect me lists Asks Leaves true c w (record m { rows = moved set owner m.rows; list = list })
+    moves set owner list safe free = rowed (only-rows (rows-moved m.last.handle m.rows set owner safe) (le-self _))
+        (λ mine o. record { each = λ q row own s. moved-free mine set owner ((free mine o).each q row own s) ((d.spares mine o).each q row own s) })
+
+    -- the cache learns a node where it gave none
+    pub cached : (kind : Kind) (key : ℕ) (n : NodeNumber) → Knows c w kind.0 key n.0 → usable w kind.0 key ≡ None → Effect me lists Asks Leaves true c w (with_cached m kind key n)
+    cached kind key n knows unknown = record {
+      goes = goes-known d.goes kind key n knows;
+      spares = λ mine o. record { each = (d.spares mine o).each };
+      lasts = λ k k' q p e h still.
+          let was = d.lasts k k' q p e h (λ f. absurd (cc)) in record { entry = other k' q p e h was.entry (k' == kind.0) (q == key) refl refl; there = was.there };
+      workers = d.workers;
+      others = d.others;
+    }
+      where
+        other : (k q p : ℕ) → IsEntered k q p w.cache w.cells → IsHeldFor k q p w.rows → m.cache k q ≡ Some p → (a b : Bool) → (k == kind.0) ≡ a → (q == key) ≡ b
+            → (if a && b then Some n.0 else m.cache k q) ≡ Some p
+        other k q p e h was true true x y =
+            let f = subst (λ a. usable w a q ≡ Some p) (same-number _ _ x) (can-use k q p w e h) in
+            let g = subst (λ a. usable w kind.0 a ≡ Some p) (same-number _ _ y) f in
+            absurd (cc)
+        other k q p e h was true false x y = was
+        other k q p e h was false b x y = was
+
+    pub cached-if : (b : Bool) (kind : Kind) (key : ℕ) (n : NodeNumber) → Knows c w kind.0 key n.0 → usable w kind.0 key ≡ None → Effect me lists Asks Leaves true c w (if b then m else with_cached m kind key n)
+    cached-if true kind key n knows unknown = d
+    cached-if false kind key n knows unknown = cached kind key n knows unknown
+
+    -- a load comes, or goes
+    pub opens : (key : ℕ) (root : Root) → Goes c w (with_load m key root me) → Effect me lists Asks Leaves true c w (with_load m key root me)
+    opens key root goes = record {
+      goes = goes;
+      spares = λ mine o. record { each = (d.spares mine o).each };
+      lasts = d.lasts;
+      workers = d.workers;
+      others = λ own l load is few other. let more = d.goes.loads_last in let a = d.others own l load is few other in grind (arith, nat_tests);
+    }
+
+    pub shuts : (l : LoadNumber) → (Asks → IsMine w me l) → Effect me lists Asks Leaves true c w (without_load m l)
+    shuts l mine = record {
+      goes = goes-quiet d.goes (closed-load m l);
+      spares = λ mine o. record { each = (d.spares mine o).each };
+      lasts = d.lasts;
+      workers = d.workers;
+      others = λ own l load is few other. let a = d.others own l load is few other in let b = mine own in grind (arith, nat_tests, same-number);
+    }
+
+    -- ---- the end of a step
+
+    pub like : {w' : Core} → Alike m w' → Effect me lists Asks Leaves false c w w'
+    like a = record {
+      goes = goes-quiet d.goes (alike a);
+      spares = λ mine o. then-alike mine a (d.spares mine o);
+      lasts = λ k kind key n e h still. stays-alike kind key n a (d.lasts k kind key n e h (λ f. absurd (cc))) (still refl);
+      workers = λ v. a.workers v ∙ d.workers v;
+      others = λ own l load is few other. a.loads l ∙ d.others own l load is few other;
+    }
+
+    pub fell : {before w' : Core} {given : ℕ → Bool} {r : Result (Unit {0}) Error} → Falls before m given r w' → Ours me lists w given → Effect me lists Asks Leaves false c w w'
+    fell f free = record {
+      goes = goes-quiet d.goes (quiet-fell f);
+      spares = λ mine o. then-fell mine o.apart f (d.spares mine o) (free mine o);
+      lasts = λ k kind key n e h still. stays-fell kind key n f (d.lasts k kind key n e h (λ f. absurd (cc))) (still refl);
+      workers = λ v. f.leaves.workers v ∙ d.workers v;
+      others = λ own l load is few other. f.leaves.loads l ∙ d.others own l load is few other;
+    }
+
+  pub own-mode : NotLoads me → {c : Change} (w : Core) {fits : Mode → Bool} (h : HandleNumber) (row : HandleRow) → Owns w me h fits row → (mode : Mode) → is_loose mode ≡ true → Effect me lists Asks Leaves true c w (with_mode w h mode)
+  own-mode free w h row owns mode is = turned (none w) h mode is (own-handle h row owns)
+      (λ r found. subst NotLoads (sym (ap (λ (x : HandleRow). x.owner) (same_some _ _ (sym found ∙ owns.live)) ∙ owns.own)) free)
+
+  pub node : {c : Change} (w : Core) (t : ℕ) (own : OptionalDataKey) (references : List ArcRef) → Bears c t own → Ours me lists w (is_named_by references) → Effect me lists Asks Leaves true c w (with_node w t own references)
+  node {c} w t own references bears free = record {
+    goes = born c w t own references bears;
+    spares = λ mine o. record { each = λ q row mine_is s. moved-free mine (is_named_by references) (owner_value (w.last.node + 1)) ((free mine o).each q row mine_is s) s };
+    lasts = λ k kind key n e h still. entered-born kind key n _ _ e;
+    workers = λ v. refl;
+    others = λ own l load is few other. is;
+  }
+
+  pub with-key : (w : Core) (n : NodeNumber) (key : ℕ) → Effect me lists Asks Leaves true (sets_key n.0 key) w (with_key w n key)
+  with-key w n key = record {
+    goes = keyed w n key;
+    spares = λ mine o. record { each = λ q row own s. s };
+    lasts = λ k kind q p e h still. entered-keyed kind q p n.0 key e;
+    workers = λ v. refl;
+    others = λ own l load is few other. is;
+  }
+
+  -- what is stored may grow, and the storage may fail
+  pub beside : {c : Change} (w : Core) (stored : ℕ → Option Blob) (failures : ℕ) → ((q : ℕ) (b : Blob) → w.stored q ≡ Some b → stored q ≡ Some b) → (IsShut w → (q : ℕ) → stored q ≡ None)
+      → Effect me lists Asks Leaves true c w (record w { stored = stored; failures = failures })
+  beside {c} w stored failures keeps shut = let q = quiet-self w in record {
+    goes = quiet-goes c (record {
+      nodes = q.nodes;
+      handles = q.handles;
+      loads_last = q.loads_last;
+      workers_last = q.workers_last;
+      cells = q.cells;
+      stored = keeps;
+      loads = q.loads;
+      cache = q.cache;
+      rows = q.rows;
+      shut = λ is. (is.0, shut is);
+    });
+    spares = λ mine o. record { each = λ q row own s. s };
+    lasts = λ k kind key n e h still. e;
+    workers = λ v. refl;
+    others = λ own l load is few other. is;
+  }
+
+  -- the cache forgets all
+  pub forgets : {c : Change} (w : Core) → (Leaves → ⊥) → Effect me lists Asks Leaves true c w (record w { cache = λ kind key. None })
+  forgets {c} w none = record {
+    goes = quiet-goes c (parts (le-self _) (le-self _) (λ n cell is. is) (λ l load is. is) (λ kind key n is. absurd (cc)) (rows-self w.last.handle w.rows w.rows refl));
+    spares = λ mine o. record { each = λ q row own s. s };
+    lasts = λ k. absurd (none k);
+    workers = λ v. refl;
+    others = λ own l load is few other. is;
+  }
+
+  pub stays : {c : Change} {w w' : Core} → Alike w w' → Effect me lists Asks Leaves false c w w'
+  stays {w = w} a = like (none w) a
+
+-- one step of the asker's and then another, where the node is held in the middle if it was before
+pub one-then : {me : Owner} {Asks Asks' Leaves : Type 0} {w m w' : Core} → ((kind key n : ℕ) → IsHeldFor kind key n w.rows → IsHeldFor kind key n m.rows) → (Asks → Asks')
+    → Effect me false Asks Leaves false nothing_felt w m → Effect me false Asks' Leaves false nothing_felt m w' → Effect me false Asks Leaves false nothing_felt w w'
+one-then up asks a b = record {
+  goes = goes-then a.goes b.goes;
+  spares = λ mine o. spares-then mine (a.spares mine o) (b.spares mine (record { apart = o.apart; other = o.other; unlisted = λ f. absurd (cc) }));
+  lasts = λ k kind key n e h still. b.lasts k kind key n (a.lasts k kind key n e h (λ f. up kind key n h)) (up kind key n h) still;
+  workers = λ v. b.workers v ∙ a.workers v;
+  others = λ own l load is few other. let more = a.goes.loads_last in b.others (asks own) l load (a.others own l load is few other) (omega (arith, few, more)) other;
+}
