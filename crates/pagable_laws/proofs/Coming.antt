@@ -193,11 +193,13 @@ module _ {N B W : Type 0} (m : Seen N B W) (u u' : World) (work : StandsIn u) wh
   event-turns tables (Event.Call call) (EventReply.CallReply r) h = by-work _ _ (λ n. refl) (call-last call r h.step) h.work
   event-turns tables (Event.LoadStart q) (EventReply.Started r) h = by-work _ _ (λ n. refl) (calling.begin-goes r h.step).workers_last h.work
   event-turns tables (Event.LoadKey key t) (EventReply.Started r) h = by-work _ _ (λ n. refl) (calling.key-goes r h.step).workers_last h.work
+  event-turns tables (Event.LoadStep l) (EventReply.LoadMoved (Ok r)) h = let x = h.moves in
+      by-work _ _ (λ n. refl) (reading-feels m u.core Owner.Caller caller-free u'.core x.reading r.ended x.frames x.does).does.goes.workers_last x.work
   event-turns tables Event.TableNew (EventReply.TableMade (Ok t)) h = tabled _ _ (λ n. refl) tables t h.made.0 h.made.1 h.made.3
   event-turns tables (Event.WorkerItem t item) (EventReply.WorkerMade (Ok v)) h = starts _ _ (λ n. refl) t _ u.core v refl h.starts
   event-turns tables (Event.WorkerListed t i) (EventReply.WorkerMade (Ok v)) h = starts _ _ (λ n. refl) t _ _ v refl h.starts.5
   event-turns tables (Event.WorkerStep v) (EventReply.WorkerMoved (Ok reply)) h = stepped v reply h.moves
-  event-turns tables x1 x2 h = grind (arith, nat_tests, by-work, reading-feels, caller-free, unchanged)
+  event-turns tables x1 x2 h = grind (arith, nat_tests, by-work, unchanged)
 
 -- what stands goes on to stand
 pub turns-stand : {N B W : Type 0} (m : Seen N B W) {u u' : World} {event : Event N B W} {reply : EventReply N B W} → EventTurns m u event reply u' → StandsIn u → StandsIn u'
