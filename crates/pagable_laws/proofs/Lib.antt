@@ -14,7 +14,7 @@ pub mod Goes
 pub mod Outlasting
 pub mod GoodReferences
 pub mod Effects
-mod Called
+pub mod Called
 mod ReadingStepsKinds
 pub mod ReadingStepsGive
 pub mod ReadingSteps
