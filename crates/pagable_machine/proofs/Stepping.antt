@@ -6,11 +6,17 @@ use Rattle.pagable_machine.proofs.Words.{no_shelf, steps_after, PagerState, Todo
 use Rattle.pagable_machine.proofs.Words.{TaskFits, answer_in, plain, plain_took, plan, Walk, Holding, IsServing, KeepsOne, Makes, machine_of, readings_in, plain_moved, IsWalkKept, SetsTable, WalksOn}
 use Rattle.pagable_machine.proofs.{Words.{shelf_at, task_in, todo_left, walking_of}, Keeping.{are-these, as-before, at-one, kept-on, makes-with, not-same, one-serves, updated-at}}
 use Rattle.{pagable_machine.proofs.{Leaving.{Leaves, leaves-so, end-leaves, works_after}, Passing.{Passes, event-passes}}, pagable_laws.proofs.{Effects.owned-mine, ReadingSteps.{FrontMine, walk-goes}}}
-use Rattle.{pagable_world.specs.declared.events.{EventReply.EventReply, Event.Event}, pagable_walk.specs.Turns.Stepped}
+use Rattle.{pagable_world.specs.declared.events.{EventReply.EventReply, Event.Event}, pagable_walk.specs.{Found.keys_of, Slots.written_of, Tasks.waits_as, Turns.Stepped, declared.tasks.Node.Node}}
+use Rattle.std.specs.Arc.{arc_value}
 
 -- the load that it goes on with is its own
 front-mine : {X : Type 0} {g : Ghosts X} (n : ℕ) (w : Core) (task : Task X g) (below : List Todo) → TaskFits n w task → FrontMine w (owner_worker n) (todo_of task ∷ below)
 front-mine n w (Task.Load r place through own) below (kind, loading) = owned-mine loading.is.owned
+front-mine n w (Task.Finish k) below fits = by k.node
+  where
+    by : (node : Option Node) → FrontMine w (owner_worker n) (waits_as node (written_of (arc_value k.written)) (keys_of k.children.items) ∷ below)
+    by None = tt
+    by (Some q) = tt
 front-mine n w task below fits = tt
 
 module _ {X : Type 0} {g : Ghosts X} where

@@ -1,9 +1,14 @@
 -- The number that falls with each step of a walk.
 use Rattle.{std.proofs.{Common.{ℕ, ◌≡◌, ◌≤◌, ◌<◌, ◌+◌, ◌*◌, ◌^◌, List, ◌∷◌, length, refl, arith}, Math.Nat.mul-le-mul_right}, pagable_model.specs.declared.numbers.ArcRef.ArcRef}
-use Rattle.{pagable_world.specs.World.{Todo, to_start}, pagable_walk.specs.{Due.{IfGoes, LeadsOn, due, far}, Tasks.todo_of, declared.{results.Trees.Ghosts, tasks.{Task.Task, Turn.Turn}}}}
+use Rattle.{pagable_world.specs.World.{Todo, Written, to_start}, pagable_walk.specs.{Due.{IfGoes, Leads, LeadsOn, due, far}, Tasks.{todo_of, waits_as}, declared.{results.Trees.Ghosts, tasks.{Node.Node, Task.Task, Turn.Turn}}}}
+use Rattle.{std.specs.{Arc.arc_value, Prelude.{Option, Some, None}}, pagable_walk.specs.{Found.keys_of, Slots.written_of}}
 
 falls-by : (l l' d d' b : ℕ) → l' + 1 ≤ l → d' < b → l' * b + d' < l * b + d
 falls-by l l' d d' b less low = let a : (l' + 1) * b ≤ l * b = mul-le-mul_right b less in omega (arith, a)
+
+waits-leads : (node : Option Node) (written : Written) (keys : List ℕ) (below after : List Todo) → Leads (waits_as node written keys ∷ below) after → due after < due (waits_as node written keys ∷ below)
+waits-leads None written keys below after leads = leads
+waits-leads (Some n) written keys below after leads = leads
 
 module _ {X : Type 0} {g : Ghosts X} where
   pub start-falls : (turn : Turn X g) (l l' : ℕ) (r : ArcRef) (place : ℕ) (below after : List Todo) → l' + 1 ≤ l → length below < 2 ^ 64 → LeadsOn (to_start r place ∷ below) turn after
@@ -18,6 +23,8 @@ module _ {X : Type 0} {g : Ghosts X} where
   other-leads : (task : Task X g) → ((r : ArcRef) (place : ℕ) → task ≡ Task.Start r place → ⊥) → (turn : Turn X g) (below after : List Todo) → LeadsOn (todo_of task ∷ below) turn after
       → IfGoes turn (due after < due (todo_of task ∷ below))
   other-leads (Task.Start r place) other turn below after leads = absurd (other r place refl)
+  other-leads (Task.Finish w) other (Turn.Goes t) below after leads = waits-leads w.node (written_of (arc_value w.written)) (keys_of w.children.items) below after leads
+  other-leads (Task.Finish w) other (Turn.Answers a) below after leads = tt
   other-leads task other turn below after leads = leads
 
   pub other-falls : (task : Task X g) → ((r : ArcRef) (place : ℕ) → task ≡ Task.Start r place → ⊥) → (turn : Turn X g) (l : ℕ) (below after : List Todo) → LeadsOn (todo_of task ∷ below) turn after

@@ -1,23 +1,11 @@
 -- What was written is a form of the node's value.
-use Rattle.std.proofs.{Common.{ℕ, ◌≡◌, ◌++◌, List, [], ◌∷◌, true, false, Some, None, Result, Ok, Err, inl, inr, refl, sym, ap, subst, ◌∙◌, arith}, lemmas.{Bool.Decides.nat_tests, Grind.common_steps}}
-use Rattle.{std.specs.{Arc.arc_value, Prelude.{IfOk, IfErr}, declared.{alloc.Global.Global, sync.Arc.Arc}}, pagable_core.specs.Context.nothing}
-use Rattle.{pagable_core.specs.declared.context.writing.SerializedData.SerializedData, pagable_model.specs.{Refusals.is_writing_fault, Writing.{Out, WritesSome, nesting, Refused}}}
-use Rattle.{pagable_model.specs.declared.{error.Error.Error, numbers.{ArcRef.ArcRef, HandleNumber.HandleNumber, NodeNumber.NodeNumber}}, pagable_world.specs.{Kinds.identity_of, Pager.PagerState}}
-use Rattle.pagable_world.specs.{Pager.{ValueCall, RefusesWriting}, Plain.type_of, Refusals.live_fault, Workers.{with_changed_slot, open_node}, World.{Values, Written, Shelf, Todo, SameShelf, seen_as}}
-use Rattle.{pagable_world.specs.{World.{was_refused, row_at}, declared.{handles.{HandleRow.HandleRow, Owner.Owner}, events.Took.Took}}, pagable_laws.proofs.Trees.same_some}
-use Rattle.{pagable_loads.specs.{Starting.Shares, Telling.values_at}, pagable_walk.specs.{Failing.{back_of, fails}, Slots.{with_written, written_of}, Tasks.IsPlain, Turns.{Fits, TurnsTo}}}
-use Rattle.pagable_walk.{specs.{Writing.{IsForm, WriteRefused, IsPinned, Finds, Forms}, declared.{results.Trees.Ghosts, tasks.{Task.Task, Turn.Turn}}}, proofs.Turning.{alike, plain-fits}}
-use Rattle.pagable_codec.specs.declared.{env.Env.Ghosts as Environments, hash.KeyHash.Ghosts as Hashes, nodes.NodeSet.Ghosts as Nodes}
-
-module _ {N E H K V : Type 0} (n : Nodes N E N H K V) (e : Environments E N H K V) (h : Hashes H) (env : E) (x : N) (shaped : n.shape_of env (n.type_of x) ≡ Some (n.own_shape env x)) where
-  pub is-form : (env' : E) (levels : ℕ) (old new : Out) (w : Written) → env' ≡ env → levels ≡ 0 → old ≡ nothing
-      → WritesSome (n.means x) (nesting levels (e.parts env')) (n.own_shape env' x) old new → new.refs ≡ old.refs ++ n.refs_of x
-      → record { bytes = w.bytes; refs = w.references } ≡ new → IsForm (values_at n e h env) x w
-  is-form env' levels old new w at zero start wrote listed is = grind (arith, nat_tests, common_steps)
-
-  pub write-refused : (env' : E) (levels : ℕ) (err : Error) → env' ≡ env → levels ≡ 0 → Refused (n.means x) (nesting levels (e.parts env')) (n.own_shape env' x) err
-      → n.write_causes (n.type_of x) err → WriteRefused (values_at n e h env) x err
-  write-refused env' levels err at zero refused cause = grind (arith, nat_tests, common_steps)
+use Rattle.std.proofs.{Common.{ℕ, ◌≡◌, List, [], ◌∷◌, true, false, Some, None, Result, Ok, Err, inr, refl, sym, ap, subst, ◌∙◌, arith}, lemmas.{Bool.Decides.nat_tests, Grind.common_steps}}
+use Rattle.{std.specs.{Arc.arc_value, Prelude.{IfOk, IfErr}, declared.{alloc.Global.Global, sync.Arc.Arc}}, pagable_core.specs.declared.context.writing.SerializedData.SerializedData}
+use Rattle.pagable_model.specs.{Refusals.is_writing_fault, declared.{error.Error.Error, numbers.{ArcRef.ArcRef, HandleNumber.HandleNumber, NodeNumber.NodeNumber}}}
+use Rattle.pagable_world.specs.{Kinds.identity_of, Pager.{PagerState, ValueCall, RefusesWriting}, Plain.type_of, Workers.{with_changed_slot, open_node}, World.{Values, Written, Shelf, Todo}}
+use Rattle.{pagable_world.specs.{World.{SameShelf, seen_as, was_refused}, declared.{handles.{HandleRow.HandleRow, Owner.Owner}, events.Took.Took}}, pagable_laws.proofs.Trees.same_some}
+use Rattle.{pagable_loads.specs.Starting.Shares, pagable_walk.{specs.declared.{results.Trees.Ghosts, tasks.{Task.Task, Turn.Turn}}, proofs.Turning.{alike, plain-fits}}}
+use Rattle.pagable_walk.specs.{Failing.{back_of, fails}, Slots.{with_written, written_of}, Tasks.IsPlain, Turns.{Fits, TurnsTo}, Writing.{IsForm, WriteRefused, IsPinned, Finds, Forms}}
 
 -- ---- what a handle pins
 
@@ -30,48 +18,24 @@ module _ {N E : Type 0} (v : Values N) (s : PagerState N E) (r : ArcRef) (pin : 
       let held = subst (λ q. s.values q ≡ Some x) at call.found.2.1 in
       (held, p.kind.typed (v.node_type x) (p.whole.typed r.node.0 x held))
 
-  shared-none : {A : Type 0} → ValueCall s pin (Ok None) → IsPinned v s r pin → A
-  shared-none call p = grind (arith, nat_tests, common_steps, same_some)
-
-  shared-refused : {A : Type 0} (e : Error) → live_fault (row_at s.core pin) ≡ Some e → IsPinned v s r pin → A
-  shared-refused e why p = let no : None ≡ Some e = sym (ap live_fault p.pins.live) ∙ why in absurd (cc)
-
   module _ {X : Type 0} (see : X → N) where
-    pub finds-some : (y : X) → Shares see s pin (Ok (Some y)) → Finds v s r pin (Ok (see y))
-    finds-some y shared = record { found = λ p. shared-some (see y) shared.given p; refused = λ p. tt }
-
     pub finds-other : (y : X) (e : Error) (t : ℕ) → t ≡ v.node_type (see y) → (t ≡ type_of r.kind.0 → ⊥) → Shares see s pin (Ok (Some y)) → Finds v s r pin (Err e)
     finds-other y e t is differs shared = record { found = λ p. tt; refused = λ p. absurd (differs (is ∙ (shared-some (see y) shared.given p).1)) }
 
-    pub finds-none : (e : Error) → Shares see s pin (Ok None) → Finds v s r pin (Err e)
-    finds-none e shared = record { found = λ p. tt; refused = λ p. shared-none shared.given p }
-
-    pub finds-refused : (e : Error) → Shares see s pin (Err e) → Finds v s r pin (Err e)
-    finds-refused e shared = record { found = λ p. tt; refused = λ p. elim shared.refused [ inl why ↦ shared-refused e why p | inr oom ↦ oom ] }
-
-  pub pinned-forms : (x : N) (w : Written) → Finds v s r pin (Ok x) → IsForm v x w → Forms v s r pin (Ok w)
-  pinned-forms x w finds is = record { written = λ p. record { x = x; held = (finds.found p).0; form = is.form; listed = is.listed }; refused = λ p. tt }
-
-  pub pinned-refuses : (x : N) (e : Error) → Finds v s r pin (Ok x) → WriteRefused v x e → Forms v s r pin (Err e)
-  pinned-refuses x e finds why = grind (arith, nat_tests, common_steps)
-
   none-written : (e : Error) → e ≡ Error.OutOfMemory → RefusesWriting v s r.node.0 e
   none-written e oom is = let no : false ≡ true = sym (ap is_writing_fault oom) ∙ is in absurd (cc)
-
-  pub memory-refuses : (e : Error) → e ≡ Error.OutOfMemory → Forms v s r pin (Err e)
-  memory-refuses e oom = record { written = λ p. tt; refused = λ p. (inr oom, none-written e oom) }
 
   pub unfound-refuses : (e : Error) → Finds v s r pin (Err e) → Forms v s r pin (Err e)
   unfound-refuses e finds = record { written = λ p. tt; refused = λ p. (inr (finds.refused p), none-written e (finds.refused p)) }
 
 module _ {N E : Type 0} (v : Values N) (s : PagerState N E) (r : ArcRef) (pin : HandleNumber) {W : Type 0} (see : W → Written) where
   pub forms-from : (x : N) (result : Result W Error) → IfOk result (λ d. IsForm v x (see d)) → IfErr result (λ e. WriteRefused v x e) → Finds v s r pin (Ok x) → Forms v s r pin (seen_as see result)
-  forms-from x (Ok d) is why finds = pinned-forms v s r pin x (see d) finds is
-  forms-from x (Err e) is why finds = pinned-refuses v s r pin x e finds why
+  forms-from x (Ok d) is why finds = record { written = λ p. record { x = x; held = (finds.found p).0; form = is.form; listed = is.listed }; refused = λ p. tt }
+  forms-from x (Err e) is why finds = grind (arith, nat_tests, common_steps)
 
   pub kept-forms : (w : Written) (result : Result W Error) → IfOk result (λ p. see p ≡ w) → IfErr result (λ e. e ≡ Error.OutOfMemory) → Forms v s r pin (Ok w) → Forms v s r pin (seen_as see result)
   kept-forms w (Ok p) same only forms = subst (λ x. Forms v s r pin (Ok x)) (sym same) forms
-  kept-forms w (Err e) same only forms = memory-refuses v s r pin e only
+  kept-forms w (Err e) same only forms = record { written = λ p. tt; refused = λ p. (inr only, none-written v s r pin e only) }
 
 -- ---- the turn
 

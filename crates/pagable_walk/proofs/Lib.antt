@@ -6,7 +6,6 @@ pub mod Failing
 pub mod Stacks
 pub mod Ways
 pub mod Below
-pub mod Telling
 pub mod Turning
 pub mod Forming
 pub mod Pinning

@@ -1,19 +1,17 @@
 -- A turn that pins what was claimed, or loads it, is the worker's.
 use Rattle.std.proofs.{Common.{ℕ, ◌≡◌, ◌+◌, ◌==◌, Bool, true, false, List, [], ◌∷◌, Some, None, Ok, Err, inl, inr, refl, sym, ap, subst, ◌∙◌, arith}, lemmas.Bool.Decides.nat_tests}
-use Rattle.{std.{proofs.lemmas.Grind.common_steps, specs.Prelude.{Option, if◌then◌else◌, not, ◌&&◌}}, pagable_model.specs.declared.error.Error.Error, pagable_world.specs.Plain.{ArcRef, HandleNumber}}
-use Rattle.pagable_world.specs.{Plain.{Kind, LoadNumber, NodeNumber, OptionalDataKey, type_of, if_there}, Kinds.{identity_of, is_loose, is_pinning, owner_worker, owner_value, find_row, is_handle}}
+use Rattle.{std.{proofs.lemmas.Grind.common_steps, specs.Prelude.{Option, if◌then◌else◌, not, ◌&&◌}}, pagable_model.specs.declared.error.Error.Error}
+use Rattle.pagable_world.specs.{Plain.{ArcRef, HandleNumber, LoadNumber, NodeNumber, type_of, if_there}, Kinds.{identity_of, is_loose, is_pinning, owner_worker, owner_value, find_row, is_handle}}
 use Rattle.pagable_world.specs.World.{Core, Cell, Shelf, SameShelf, Todo, to_pin, to_load, to_write, Frame, OpenLoad, Reading, Root, of_cell, of_key, Values, was_refused, type_at, one_more}
 use Rattle.pagable_world.specs.{Calls.{with_handle, with_mode, moved, is_named_by, CloneCall, PinCall}, Access.{Called, ReadingStep}, Cascade.FallsAnyhow, LoadCalls.{with_pin, without_load}}
-use Rattle.pagable_world.specs.{LoadCalls.{is_owned_in, adopted}, Loads.{GoesOn, EndsPinned, IsOfKey, gone_on}, Pager.{PagerState, HandlesAreWhole, Moves}, Workers.{PinsAtOnce, RowIs, fresh}}
-use Rattle.pagable_world.specs.{Workers.{entry_left, Does}, declared.{events.{LoadAnswer.LoadAnswer, Took.Took, PinStep.PinStep}, handles.{HandleRow.HandleRow, Owner.Owner}, answers.Pinning.Pinning}}
-use Rattle.{pagable_world.specs.declared.rows.Mode.Mode, pagable_laws.specs.{KeyRuns.StandsAt, TreeSteps.Change}}
-use Rattle.pagable_laws.proofs.Outlasting.{AreLow, low-whole, low-changed, low-handle, new-handle}
-use Rattle.pagable_laws.proofs.{Goes.Goes, Naming.clone-stands, Outlasting.{NotValues, Stands, stands-alike, stands-fell}, Trees.same_some}
-use Rattle.pagable_laws.proofs.Outlasting.{clone-call, not-loose, owned-none}
-use Rattle.pagable_loads.specs.{Frames.{IsLoadOf, frames_of, reading_of}, Stepping.Steps, Working.{TakesReference, BeginsAt}}
-use Rattle.pagable_laws.proofs.ReadingSteps.{walk-goes}
-use Rattle.{pagable_loads.specs.declared.{reading.Reading.Reading as Own, working.Taken.Taken}, pagable_walk.specs.{Failing.{back_of, fails}, Tasks.IsPlain, declared.tasks.{Turn.Turn, Moved.Moved}}}
-use Rattle.pagable_walk.{specs.{declared.{tasks.Task.Task, results.Trees.Ghosts}, Turns.{IsLoading, IsOfKind, HoldsPin, Fits, TurnsTo, plain, site}}, proofs.Turning.plain-fits}
+use Rattle.pagable_world.specs.{LoadCalls.is_owned_in, Loads.{EndsPinned, IsOfKey, gone_on}, Pager.{PagerState, HandlesAreWhole, Moves, TodoBrings, TookWrites, WellFormed}, Workers.PinsAtOnce}
+use Rattle.pagable_world.specs.{Workers.{RowIs, answer_after, fresh, entry_left, Does}, declared.{events.{LoadAnswer.LoadAnswer, Took.Took, PinStep.PinStep}, handles.HandleRow.HandleRow}}
+use Rattle.{pagable_world.specs.declared.{handles.Owner.Owner, answers.Pinning.Pinning, rows.Mode.Mode}, pagable_loads.specs.declared.{reading.Reading.Reading as Own, working.Taken.Taken}}
+use Rattle.pagable_loads.{proofs.{Stepped.none_comes, Driven.goes_open}, specs.{Frames.{IsLoadOf, frames_of, reading_of}, Stepping.Steps, Working.{TakesReference, BeginsAt}}}
+use Rattle.pagable_laws.{specs.{KeyRuns.StandsAt, TreeSteps.Change}, proofs.{Outlasting.{AreLow, low-whole, low-changed, low-handle, new-handle, NotValues, Stands}, Goes.Goes, Naming.clone-stands}}
+use Rattle.pagable_laws.proofs.{Outlasting.{stands-alike, stands-fell, clone-call, not-loose, owned-none}, Trees.same_some, ReadingSteps.walk-goes}
+use Rattle.pagable_walk.specs.{Failing.{back_of, fails}, Tasks.IsPlain, declared.{tasks.{Turn.Turn, Moved.Moved, Task.Task}, results.Trees.Ghosts}, Turns.{IsLoading, IsOfKind, HoldsPin, Fits}}
+use Rattle.pagable_walk.{specs.Turns.{LeavesFit, Turned, TurnsTo, answer_in, plain, plain_took, site}, proofs.Turning.plain-fits}
 
 -- ---- what stays
 
@@ -87,13 +85,6 @@ begun-loads w w' n r through l key own whole stands (is, (mid, clone, begin)) sa
 
 -- ---- a load that goes on, and one that ends with the pin
 
-adopted-loads : (w : Core) (l : LoadNumber) (kind : Kind) (key : ℕ) (own : OptionalDataKey) (references : List ArcRef) (q : ℕ) → (adopted w l kind key own references).loads q ≡ w.loads q
-adopted-loads w l kind key own references q = grind (arith, nat_tests, common_steps)
-
-goes-open : {N : Type 0} (v : Values N) (w w' : Core) (me : Owner) (reading : Reading) (frames : List Frame) (l : ℕ) → GoesOn v w me reading frames w' → w'.loads l ≡ w.loads l
-goes-open v w w' me reading frames l (inl g) = grind (arith, nat_tests, common_steps)
-goes-open v w w' me reading frames l (inr g) = grind (arith, nat_tests, common_steps, adopted-loads)
-
 worker-free : (n : ℕ) → NotValues (owner_worker n)
 worker-free n m is = absurd (cc)
 
@@ -135,9 +126,6 @@ no-key : (root : Root) (node : NodeNumber) (t : ℕ) (h : HandleNumber) → root
 no-key (of_cell m u k) node t h is key = key
 no-key of_key node t h is key = absurd (cc)
 
-pub comes-none : {N E : Type 0} {comes : ℕ → N → Type 0} {s t : PagerState N E} → Moves (λ n x. ⊥) s t → Moves comes s t
-comes-none m = record { each = λ n x is. elim (m.each n x is) [ inl was ↦ inl was | inr came ↦ absurd came.1 ]; environment = m.environment }
-
 pub same-shelf : (shelf : Shelf) → SameShelf shelf shelf
 same-shelf shelf = record { slots = λ i. refl; waits = λ q. refl }
 
@@ -149,6 +137,14 @@ pub load-back : (r : ArcRef) (place : ℕ) (through : HandleNumber) (reading : R
 load-back r place through reading [] = refl
 load-back r place through reading (x ∷ below) = refl
 
+-- a step of the worker that leaves the table, from what it does
+module _ {X : Type 0} {g : Ghosts X} {N E : Type 0} (v : Values N) (n : ℕ) (shelf : Shelf) (todo : List Todo) (moved : Moved X g) (after : List Todo) (s t : PagerState N E) where
+  by-does : Does (plain v) n (site s.core shelf todo) todo (plain_took moved.took) (site t.core shelf after) → answer_after todo (plain_took moved.took) ≡ answer_in moved.turn → Moves (TodoBrings v s.core todo) s t
+      → TookWrites v (λ w. w) s (plain_took moved.took) → WellFormed v t → ((c : Change) → Goes c s.core t.core → LeavesFit n t.core moved.turn) → Turned v n shelf todo s shelf moved after t
+  by-does does answers moves writes whole fits =
+      let goes = walk-goes (plain v) n (site s.core shelf todo) (site t.core shelf after) todo (plain_took moved.took) does in
+      record { does = record { does = does }; answers = answers; moves = moves; writes = writes; whole = whole; fits = fits goes.change goes.goes }
+
 module _ {X : Type 0} {g : Ghosts X} {N E : Type 0} (v : Values N) (me : Owner) (n : ℕ) (shelf : Shelf) (r : ArcRef) (place : ℕ) (below : List Todo) where
   pub pin-holds : (through k : HandleNumber) (s t : PagerState N E) → Called v (λ w'. TakesReference s.core me r (Ok (Taken.Held through k)) w') s t
       → TurnsTo {g = g} v me n shelf (Task.Pin r place) below shelf (record { took = Took.Pin (identity_of r) (Ok (PinStep.Held k)); turn = Turn.Goes (Task.Write r place through k); counted = true }) (to_write r place through ∷ below) s t
@@ -156,17 +152,8 @@ module _ {X : Type 0} {g : Ghosts X} {N E : Type 0} (v : Values N) (me : Owner) 
     counts = refl;
     turns = λ f.
         let takes = subst (λ o. PinsAtOnce s.core o r through k t.core) f.me_is call.step.takes in
-        let does : Does (plain v) n (site s.core shelf (to_pin r place ∷ below)) (to_pin r place ∷ below) (Took.Pin (identity_of r) (Ok (PinStep.Held k))) (site t.core shelf (to_write r place through ∷ below)) =
-        (refl, record { pins = (through, takes, record { table_stays = same-shelf shelf; list_is = refl }); refused = tt }) in
-        let goes = walk-goes (plain v) n (site s.core shelf (to_pin r place ∷ below)) (site t.core shelf (to_write r place through ∷ below)) (to_pin r place ∷ below) (Took.Pin (identity_of r) (Ok (PinStep.Held k))) does in
-        record {
-          does = record { does = does };
-          answers = refl;
-          moves = comes-none call.moves;
-          writes = tt;
-          whole = call.whole;
-          fits = (kind-on goes.goes f.task_fits.1, at-once-pins s.core t.core (owner_worker n) r through k f.whole.whole.handles f.task_fits.0 takes);
-        };
+        by-does v n shelf (to_pin r place ∷ below) _ (to_write r place through ∷ below) s t (refl, record { pins = (through, takes, record { table_stays = same-shelf shelf; list_is = refl }); refused = tt }) refl (none_comes call.moves) tt call.whole
+        (λ c goes. (kind-on goes f.task_fits.1, at-once-pins s.core t.core (owner_worker n) r through k f.whole.whole.handles f.task_fits.0 takes));
   }
 
   pub pin-begins : (through : HandleNumber) (l : LoadNumber) (key : ℕ) (own : Own) → reading_of own ≡ fresh l (type_of r.kind.0) → own.key ≡ key → own.for_cell ≡ true → (s t : PagerState N E)
@@ -175,23 +162,15 @@ module _ {X : Type 0} {g : Ghosts X} {N E : Type 0} (v : Values N) (me : Owner) 
     counts = refl;
     turns = λ f.
         let takes = subst (λ o. BeginsAt s.core o r through l key t.core) f.me_is call.step.takes in
-        let does : Does (plain v) n (site s.core shelf (to_pin r place ∷ below)) (to_pin r place ∷ below) (Took.Pin (identity_of r) (Ok (PinStep.LoadBegun l))) (site t.core shelf (to_load r place through (reading_of own) ∷ below)) =
-        (refl, record { pins = (through, (takes.0, (takes.1.0, key, takes.1.1, takes.1.2)), record { table_stays = same-shelf shelf; list_is = ap (λ x. to_load r place through x ∷ below) is }); refused = tt }) in
-        let goes = walk-goes (plain v) n (site s.core shelf (to_pin r place ∷ below)) (site t.core shelf (to_load r place through (reading_of own) ∷ below)) (to_pin r place ∷ below) (Took.Pin (identity_of r) (Ok (PinStep.LoadBegun l))) does in
-        record {
-          does = record { does = does };
-          answers = refl;
-          moves = comes-none call.moves;
-          writes = tt;
-          whole = call.whole;
-          fits = (kind-on goes.goes f.task_fits.1, begun-loads s.core t.core n r through l key own f.whole.whole.handles f.task_fits.0 takes (ap (λ (x : Reading). x.load) is) same_key cell);
-        };
+        by-does v n shelf (to_pin r place ∷ below) _ (to_load r place through (reading_of own) ∷ below) s t
+        (refl, record { pins = (through, (takes.0, (takes.1.0, key, takes.1.1, takes.1.2)), record { table_stays = same-shelf shelf; list_is = ap (λ x. to_load r place through x ∷ below) is }); refused = tt }) refl (none_comes call.moves) tt call.whole
+        (λ c goes. (kind-on goes f.task_fits.1, begun-loads s.core t.core n r through l key own f.whole.whole.handles f.task_fits.0 takes (ap (λ (x : Reading). x.load) is) same_key cell));
   }
 
   pub pin-fails : (e : Error) (task : Task X g) (after : List Todo) → IsPlain task → after ≡ fails (was_refused e) (back_of (Some r.handle) below) → (s t : PagerState N E)
       → Called v (λ w'. TakesReference s.core me r (Err e) w') s t
       → TurnsTo v me n shelf (Task.Pin r place) below shelf (record { took = Took.Pin (identity_of r) (Err e); turn = Turn.Goes task; counted = true }) after s t
-  pin-fails e task after plain-task is s t call = grind (arith, nat_tests, common_steps, same-shelf, pin-back, comes-none, plain-fits)
+  pin-fails e task after plain-task is s t call = grind (arith, nat_tests, common_steps, same-shelf, pin-back, none_comes, plain-fits)
 
   module _ (through : HandleNumber) (own : Own) where
     stepped : {s t : PagerState N E} {answer : Option (LoadAnswer N)} {frames : List Frame} → Fits {g = g} v me n (Task.Load r place through own) s → Steps v me own s answer frames t
@@ -206,27 +185,19 @@ module _ {X : Type 0} {g : Ghosts X} {N E : Type 0} (v : Values N) (me : Owner) 
       turns = λ f.
           let step = stepped f call in
           let same : reading_of new ≡ gone_on (reading_of own) frames = λ i. record { load = load i; node_type = node_type i; frames = sym at i; steps = steps i } in
-          let does : Does (plain v) n (site s.core shelf (to_load r place through (reading_of own) ∷ below)) (to_load r place through (reading_of own) ∷ below) (Took.Pin (identity_of r) (Ok PinStep.LoadWent)) (site t.core shelf (to_load r place through (reading_of new) ∷ below)) =
-          (refl, record { goes = (frames, step.does, record { table_stays = same-shelf shelf; list_is = ap (λ x. to_load r place through x ∷ below) same }); refused = tt }) in
-          let goes = walk-goes (plain v) n (site s.core shelf (to_load r place through (reading_of own) ∷ below)) (site t.core shelf (to_load r place through (reading_of new) ∷ below)) (to_load r place through (reading_of own) ∷ below) (Took.Pin (identity_of r) (Ok PinStep.LoadWent)) does in
           let old = f.task_fits.1 in
-          let open_load : t.core.loads new.load.0 ≡ Some old.is.load = ap (λ (x : LoadNumber). t.core.loads x.0) load ∙ goes-open v s.core t.core (owner_worker n) (reading_of own) frames own.load.0 step.does.does ∙ old.is.owned.stands_open in
-          record {
-            does = record { does = does };
-            answers = refl;
-            moves = step.moves;
-            writes = tt;
-            whole = step.whole;
-            fits = (
-              kind-on goes.goes f.task_fits.0,
-              record {
-                is = record { load = old.is.load; owned = record { stands_open = open_load; own = old.is.owned.own }; key = old.is.key ∙ sym key; sort = old.is.sort ∙ sym cell };
-                for_cell = cell ∙ old.for_cell;
-                t = old.t;
-                root = old.root;
-              },
-            );
-          };
+          let open_load : t.core.loads new.load.0 ≡ Some old.is.load = ap (λ (x : LoadNumber). t.core.loads x.0) load ∙ goes_open v (owner_worker n) s.core t.core (reading_of own) frames step.does.does ∙ old.is.owned.stands_open in
+          by-does v n shelf (to_load r place through (reading_of own) ∷ below) _ (to_load r place through (reading_of new) ∷ below) s t
+          (refl, record { goes = (frames, step.does, record { table_stays = same-shelf shelf; list_is = ap (λ x. to_load r place through x ∷ below) same }); refused = tt }) refl step.moves tt step.whole
+          (λ c goes. (
+            kind-on goes f.task_fits.0,
+            record {
+              is = record { load = old.is.load; owned = record { stands_open = open_load; own = old.is.owned.own }; key = old.is.key ∙ sym key; sort = old.is.sort ∙ sym cell };
+              for_cell = cell ∙ old.for_cell;
+              t = old.t;
+              root = old.root;
+            },
+          ));
     }
 
     pub load-pins : (k : HandleNumber) (frames : List Frame) (s t : PagerState N E) → Steps v me own s (Some (LoadAnswer.Pinned k)) frames t
@@ -236,17 +207,9 @@ module _ {X : Type 0} {g : Ghosts X} {N E : Type 0} (v : Values N) (me : Owner) 
       turns = λ f.
           let step = stepped f call in
           let end = step.does.does in
-          let does : Does (plain v) n (site s.core shelf (to_load r place through (reading_of own) ∷ below)) (to_load r place through (reading_of own) ∷ below) (Took.Pin (identity_of r) (Ok (PinStep.Held k))) (site t.core shelf (to_write r place through ∷ below)) =
-          (refl, record { goes = (record { does = (end.0, refl) }, record { table_stays = same-shelf shelf; list_is = refl }); refused = tt }) in
-          let goes = walk-goes (plain v) n (site s.core shelf (to_load r place through (reading_of own) ∷ below)) (site t.core shelf (to_write r place through ∷ below)) (to_load r place through (reading_of own) ∷ below) (Took.Pin (identity_of r) (Ok (PinStep.Held k))) does in
-          record {
-            does = record { does = does };
-            answers = refl;
-            moves = step.moves;
-            writes = tt;
-            whole = step.whole;
-            fits = (kind-on goes.goes f.task_fits.0, end-pins s.core t.core n r f.whole.whole.handles v through own k f.task_fits.1 end.0);
-          };
+          by-does v n shelf (to_load r place through (reading_of own) ∷ below) _ (to_write r place through ∷ below) s t
+          (refl, record { goes = (record { does = (end.0, refl) }, record { table_stays = same-shelf shelf; list_is = refl }); refused = tt }) refl step.moves tt step.whole
+          (λ c goes. (kind-on goes f.task_fits.0, end-pins s.core t.core n r f.whole.whole.handles v through own k f.task_fits.1 end.0));
     }
 
     pub load-fails : (e : Error) (frames : List Frame) (task : Task X g) (after : List Todo) → IsPlain task → after ≡ fails (was_refused e) (back_of (Some r.handle) below)

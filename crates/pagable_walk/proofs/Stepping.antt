@@ -1,11 +1,8 @@
 -- A turn with the worker's end is its step.
-use Rattle.{std.proofs.Common.{ℕ, ◌≡◌, List, inl, inr, refl, sym, subst, ◌∙◌}, pagable_world.specs.{Access.Called, Events.Ends, Pager.{PagerState, WellFormed, Moves}, Workers.WorkerEnds, World.Shelf}}
-use Rattle.{pagable_world.specs.{World.{Todo, Values}, declared.{events.WorkerAnswer.WorkerAnswer, handles.Owner.Owner}}, pagable_walk.specs.Turns.{Closes, LeavesFit, StepsTo, TurnsTo, acting_then}}
-use Rattle.pagable_walk.{specs.{Turns.{answer_in, site}, declared.{results.Trees.Ghosts, tasks.{Moved.Moved, Task.Task, Turn.Turn}}}, proofs.{Pinning.same-shelf, Turning.alike}}
-use Rattle.pagable_loads.specs.Telling.{Acting}
-
-moves-then : {N E : Type 0} {comes : ℕ → N → Type 0} {s mid t : PagerState N E} → Moves comes s mid → Moves (λ n x. ⊥) mid t → Moves comes s t
-moves-then m k = record { each = λ n x is. elim (k.each n x is) [ inl was ↦ m.each n x was | inr came ↦ absurd came.1 ]; environment = k.environment ∙ m.environment }
+use Rattle.{std.proofs.Common.{ℕ, ◌≡◌, List, inl, refl, sym, subst}, pagable_world.specs.declared.events.WorkerAnswer.WorkerAnswer, pagable_loads.{specs.Telling.Acting, proofs.Stepped.moves_then}}
+use Rattle.pagable_world.specs.{declared.handles.Owner.Owner, Access.Called, Events.Ends, Pager.{PagerState, WellFormed, Moves}, Workers.WorkerEnds, World.{Shelf, Todo, Values}}
+use Rattle.pagable_walk.{proofs.{Pinning.same-shelf, Turning.alike}, specs.{Turns.{Closes, LeavesFit, StepsTo, TurnsTo, acting_then, answer_in, site}, declared.results.Trees.Ghosts}}
+use Rattle.pagable_walk.specs.declared.tasks.{Moved.Moved, Task.Task, Turn.Turn}
 
 -- what the end after a turn does
 record Closed {X : Type 0} {g : Ghosts X} {N E : Type 0} (v : Values N) (n : ℕ) (turn : Turn X g) (s t : PagerState N E) : Type 0 where
@@ -38,7 +35,7 @@ module _ {X : Type 0} {g : Ghosts X} {N E : Type 0} (v : Values N) (n : ℕ) whe
             goes_on = refl;
             shelf_is = same-shelf shelf';
             ends = subst (λ a. Ends a n mid.core t.core) (sym turned.answers) end.ends;
-            moves = moves-then turned.moves end.moves;
+            moves = moves_then turned.moves end.moves;
             writes = turned.writes;
             whole = end.whole turned.whole;
           };

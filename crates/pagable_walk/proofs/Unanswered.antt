@@ -4,8 +4,8 @@ use Rattle.{std.{proofs.lemmas.{Bool.Decides.nat_tests, Grind.common_steps}, spe
 use Rattle.pagable_world.specs.World.{Core, Shelf, Slot, Outcome, no_result, published, failed, Written, of_item, of_entry, Fault, was_refused, was_failed, Todo, to_start, to_pin, to_load, to_write}
 use Rattle.pagable_world.specs.{World.{to_finish, to_item, to_set, to_publish, to_release, to_fail, Seen, SameShelf, is_identity}, Workers.{Site, Does, answer_after, first_todo, is_open_outcome}}
 use Rattle.pagable_world.specs.{Workers.{next_start, settle, give, give_known, failing, with_outcome, with_changed_slot, with_failed}, Access.{AccessState, AllHaveResults, WorkerRun, worker-ends}}
-use Rattle.pagable_world.specs.{Access.worker-goes-on, Kinds.identity_of, Plain.{Identity, if_there}, declared.events.{Took.Took, WorkerAnswer.WorkerAnswer, PinStep.PinStep, Claim.Claim}}
-use Rattle.pagable_walk.{specs.{Tasks.with_child, Writing.just_open}, proofs.Held.{same-as, same-identity, same-key}}
+use Rattle.pagable_world.specs.{Access.worker-goes-on, Kinds.identity_of, Plain.{Identity, if_there}, declared.events.{Took.Took, WorkerAnswer.WorkerAnswer, PinStep.PinStep, Claim.Claim}, World.Open}
+use Rattle.pagable_walk.{specs.Writing.just_open, proofs.{Held.{same-as, same-identity, same-key}, Ways.with_child}}
 
 -- something is to be done about a claim of the identity that has no result yet; or all of it fails
 unfoldable IsHeld : Identity → List Todo → Type 0
@@ -55,54 +55,42 @@ answered-so failed e = is-failed tt
 settled : {F H K : Type 0} (slot : Slot) (outcome : Outcome) → ByOutcome F K outcome → ByOutcome F H slot.outcome → ByOutcome F K (with_outcome outcome slot).outcome
 settled {F} {H} {K} slot outcome new h = grind (arith, nat_tests, common_steps, is-open, new, is-known, is-failed)
 
-starts-held : (i : Identity) (place : ℕ) (rs : List ArcRef) (todo : List Todo) → IsHeld i todo → IsHeld i (next_start place rs ++ todo)
-unfolding IsHeld
-starts-held i place [] todo h = h
-starts-held i place (r ∷ rs) todo h = h
+-- what holds of a list holds of it after a result has come
+record Kept (P : List Todo → Type 0) : Type 0 where
+  pub start : (r : ArcRef) (place : ℕ) (todo : List Todo) → P todo → P (to_start r place ∷ todo)
+  pub node : (r : ArcRef) (key height : ℕ) (o : Open) (below : List Todo) → P (to_finish o ∷ below) → P (to_finish (with_child r key height o) ∷ below)
+  pub item : (written : Written) (keys more : List ℕ) (below : List Todo) → P (to_item written keys ∷ below) → P (to_item written more ∷ below)
+  pub none : (r : ArcRef) (key height : ℕ) → P [] → P (to_release r key height ∷ [])
 
-settle-held : (i : Identity) (todo : List Todo) → IsHeld i todo → IsHeld i (settle todo)
-unfolding IsHeld
-settle-held i [] h = h
-settle-held i (to_finish o ∷ below) h = starts-held i o.place _ (to_finish o ∷ below) h
-settle-held i (to_item written keys ∷ below) h = absurd h
-settle-held i (_ ∷ below) h = h
+module _ {P : List Todo → Type 0} (k : Kept P) where
+  starts-kept : (place : ℕ) (rs : List ArcRef) (todo : List Todo) → P todo → P (next_start place rs ++ todo)
+  starts-kept place [] todo h = h
+  starts-kept place (r ∷ rs) todo h = k.start r _ todo h
 
-give-held : (i : Identity) (r : ArcRef) (key height : ℕ) (todo : List Todo) → IsHeld i todo → IsHeld i (give r key height todo)
-unfolding IsHeld
-give-held i r key height [] h = h
-give-held i r key height (to_finish o ∷ below) h = settle-held i (to_finish (with_child r key height o) ∷ below) h
-give-held i r key height (to_item written keys ∷ below) h = absurd h
-give-held i r key height (_ ∷ below) h = h
+  settle-kept : (todo : List Todo) → P todo → P (settle todo)
+  settle-kept [] h = h
+  settle-kept (to_finish o ∷ below) h = starts-kept o.place _ (to_finish o ∷ below) h
+  settle-kept (to_item written keys ∷ below) h = starts-kept 0 _ (to_item written keys ∷ below) h
+  settle-kept (_ ∷ below) h = h
 
-known-held : (i : Identity) (r : ArcRef) (key height : ℕ) (todo : List Todo) → IsHeld i todo → IsHeld i (give_known r key height todo)
+  give-kept : (r : ArcRef) (key height : ℕ) (todo : List Todo) → P todo → P (give r key height todo)
+  give-kept r key height [] h = h
+  give-kept r key height (to_finish o ∷ below) h = settle-kept (to_finish (with_child r key height o) ∷ below) (k.node r key height o below h)
+  give-kept r key height (to_item written keys ∷ below) h = settle-kept (to_item written (keys ++ key ∷ []) ∷ below) (k.item written keys (keys ++ key ∷ []) below h)
+  give-kept r key height (_ ∷ below) h = h
+
+  known-kept : (r : ArcRef) (key height : ℕ) (todo : List Todo) → P todo → P (give_known r key height todo)
+  known-kept r key height [] h = k.none r key height h
+  known-kept r key height (x ∷ below) h = give-kept r key height (x ∷ below) h
+
+held : (i : Identity) → Kept (IsHeld i)
 unfolding IsHeld
-known-held i r key height [] h = absurd h
-known-held i r key height (x ∷ below) h = give-held i r key height (x ∷ below) h
+held i = record { start = λ r place todo h. h; node = λ r key height o below h. h; item = λ written keys more below h. h; none = λ r key height h. h }
 
 module _ (F : Type 0) where
-  starts-blamed : (place : ℕ) (rs : List ArcRef) (todo : List Todo) → IsBlamed F todo → IsBlamed F (next_start place rs ++ todo)
+  blame : Kept (IsBlamed F)
   unfolding IsBlamed
-  starts-blamed place [] todo h = h
-  starts-blamed place (r ∷ rs) todo h = h
-
-  settle-blamed : (todo : List Todo) → IsBlamed F todo → IsBlamed F (settle todo)
-  unfolding IsBlamed
-  settle-blamed [] h = h
-  settle-blamed (to_finish o ∷ below) h = starts-blamed o.place _ (to_finish o ∷ below) h
-  settle-blamed (to_item written keys ∷ below) h = starts-blamed 0 _ (to_item written keys ∷ below) h
-  settle-blamed (_ ∷ below) h = h
-
-  give-blamed : (r : ArcRef) (key height : ℕ) (todo : List Todo) → IsBlamed F todo → IsBlamed F (give r key height todo)
-  unfolding IsBlamed
-  give-blamed r key height [] h = h
-  give-blamed r key height (to_finish o ∷ below) h = settle-blamed (to_finish (with_child r key height o) ∷ below) h
-  give-blamed r key height (to_item written keys ∷ below) h = settle-blamed (to_item written (keys ++ key ∷ []) ∷ below) h
-  give-blamed r key height (_ ∷ below) h = h
-
-  known-blamed : (r : ArcRef) (key height : ℕ) (todo : List Todo) → IsBlamed F todo → IsBlamed F (give_known r key height todo)
-  unfolding IsBlamed
-  known-blamed r key height [] h = h
-  known-blamed r key height (x ∷ below) h = give-blamed r key height (x ∷ below) h
+  blame = record { start = λ r place todo h. h; node = λ r key height o below h. h; item = λ written keys more below h. h; none = λ r key height h. h }
 
   -- each claim without a result is the worker's, who has still to do with it; and none has failed but where F
   record Good (n : ℕ) (todo : List Todo) (shelf : Shelf) : Type 0 where
@@ -170,7 +158,7 @@ module _ (F : Type 0) where
         new slot is = let e : (let x : Slot = record { worker = n; written = None; outcome = no_result } in x) ≡ slot = cc in
             subst (λ (s : Slot). ByOutcome F ((s.worker ≡ n) × IsHeld (identity_of r) (to_pin r place ∷ below)) s.outcome) e (is-open (refl, inl refl))
     goes (to_start r place ∷ below) (Took.Claim i (Ok (Claim.Known key height))) (is, c) none good =
-        let t = c.finds.1.2 in to-list t.list_is (stays n _ (give_known r key height below) shelf s'.shelf good (known-blamed r key height below) t.table_is.slots (λ i. known-held i r key height below))
+        let t = c.finds.1.2 in to-list t.list_is (stays n _ (give_known r key height below) shelf s'.shelf good (known-kept blame r key height below) t.table_is.slots (λ i. known-kept (held i) r key height below))
     goes (to_start r place ∷ below) (Took.Claim i (Ok Claim.Waiting)) (is, c) none good =
         let t = c.finds.1.2 in to-list t.list_is (stays n _ _ shelf s'.shelf good (λ b. b) t.table_is.slots (λ i h. h))
     goes (to_start r place ∷ below) (Took.Claim i (Ok Claim.AlreadyFailed)) (is, c) none good =
@@ -188,8 +176,8 @@ module _ (F : Type 0) where
     goes (to_load r place through reading ∷ below) (Took.Pin i (Err e)) (is, p) none good = to-list p.refused.1.list_is (fails n _ shelf s'.shelf (was_refused e) good tt p.refused.1.table_stays.slots)
     goes (to_write r place through ∷ below) (Took.Write i (Ok out)) (is, p) none good =
         let opened = to_finish (just_open r place through (m.written_of out)) ∷ below in
-        to-list p.writes.list_is (changes n _ _ shelf s'.shelf good (settle-blamed opened) (identity_of r) _ p.writes.table_is
-        (λ slot. by-more (λ h. (h.0, settle-held (identity_of r) opened h.1))) (λ i no. settle-held i opened))
+        to-list p.writes.list_is (changes n _ _ shelf s'.shelf good (settle-kept blame opened) (identity_of r) _ p.writes.table_is
+        (λ slot. by-more (λ h. (h.0, settle-kept (held (identity_of r)) opened h.1))) (λ i no. settle-kept (held i) opened))
     goes (to_write r place through ∷ below) (Took.Write i (Err e)) (is, p) none good = to-list p.refused.1.list_is (fails n _ shelf s'.shelf (was_refused e) good tt p.refused.1.table_is.slots)
     goes (to_finish o ∷ below) (Took.Store i (Ok key)) (is, p) none good = to-list p.goes.list_is (stays n _ _ shelf s'.shelf good (λ b. b) p.goes.table_stays.slots (λ i h. h))
     goes (to_finish o ∷ below) (Took.Store i (Err e)) (is, p) none good = to-list p.refused.list_is (fails n _ shelf s'.shelf (was_refused e) good tt p.refused.table_stays.slots)
@@ -203,7 +191,7 @@ module _ (F : Type 0) where
       where
         not-itself : (i : Identity) → is_identity (identity_of r) i ≡ false → i ≡ identity_of r → ⊥
         not-itself i other e = let at : is_identity (identity_of r) i ≡ true = ap (is_identity (identity_of r)) e ∙ same-key (identity_of r) in absurd (cc)
-    goes (to_release r key height ∷ below) (Took.Release i) (is, falls, g) none good = to-list g.list_is (stays n _ _ shelf s'.shelf good (give-blamed r key height below) g.table_stays.slots (λ i. give-held i r key height below))
+    goes (to_release r key height ∷ below) (Took.Release i) (is, falls, g) none good = to-list g.list_is (stays n _ _ shelf s'.shelf good (give-kept blame r key height below) g.table_stays.slots (λ i. give-kept (held i) r key height below))
     goes (to_fail fault back ∷ below) Took.Fail does none good = absurd (cc)
     goes todo step does none good = absurd does
 
@@ -236,7 +224,7 @@ pub item-answered : {N E B W : Type 0} (m : Seen N B W) (n : ℕ) (item : Writte
     → WorkerRun m n (first_todo (of_item item)) s steps answer s' → AllHaveResults s.shelf → AllHaveResults s'.shelf
 unfolding IsBlamed
 item-answered m n item run all =
-    let all_blamed = settle-blamed (Unit {0}) (to_item item [] ∷ []) tt in
+    let all_blamed = settle-kept (blame (Unit {0})) (to_item item [] ∷ []) tt in
     (at-answer (Unit {0}) m n run (record { fits = λ i slot there. answered-so slot.outcome (all i slot there); blamed = all_blamed })).0
 
 -- of an entry, on a table of no claims

@@ -1,8 +1,8 @@
 -- A path that leads to what is done next goes on so.
 use Rattle.std.proofs.Common.{ℕ, zero, suc, ◌≡◌, ◌≤◌, ◌+◌, Bool, true, false, List, [], ◌∷◌, ◌++◌, length, drop, refl, sym, ap, subst, arith, Some, slice_get, if◌then◌else◌}
-use Rattle.{std.{proofs.lemmas.{List.length-append, Option.slice_get_within}, specs.Prelude.max}, pagable_model.specs.declared.numbers.ArcRef.ArcRef, pagable_world.specs.World.{Open, Todo, to_start}}
+use Rattle.{std.{proofs.lemmas.{List.length-append, Option.{none-some, slice_get_within}}, specs.Prelude.{max, None, Option}}, pagable_model.specs.declared.numbers.ArcRef.ArcRef, pagable_world.specs.World.{Open, Todo, to_start}}
 use Rattle.{pagable_world.specs.{World.{to_finish, to_item, Written}, Plain.{above, is_eager, longest_path}, Workers.{give, give_known, next_start, settle}}, pagable_walk.specs.Tasks.Awaits}
-use Rattle.pagable_walk.specs.Tasks.{AwaitsLow, IsWay, with_child}
+use Rattle.pagable_walk.{specs.{Tasks.{AwaitsLow, IsWay, TakesNext, waits_as}, declared.tasks.Node.Node}, proofs.Waits.some-same}
 
 -- what is left of references after so many, in both cases
 left-by : (Q : List ArcRef → Type 0) (n : ℕ) (refs : List ArcRef) → n ≤ length refs → (n ≡ length refs → Q []) → ((r : ArcRef) (rest : List ArcRef) → slice_get refs n ≡ Some r → Q (r ∷ rest))
@@ -33,18 +33,29 @@ near-by : (place height p h kind : ℕ) (b : Bool) → is_eager kind ≡ b → p
 near-by place height p h kind true is at near low = let a : above kind h ≡ h + 1 = ap (λ c. if c then h + 1 else 0) is in omega (arith, a)
 near-by place height p h kind false is at near low = let a : above kind h ≡ 0 = ap (λ c. if c then h + 1 else 0) is in omega (arith, a)
 
-pub node-awaits : (o : Open) (below : List Todo) (r : ArcRef) (h : ℕ) → AwaitsLow (to_finish o ∷ below) r h
+node-awaits : (o : Open) (below : List Todo) (r : ArcRef) (h : ℕ) → AwaitsLow (to_finish o ∷ below) r h
     → (slice_get o.written.references (length o.keys) ≡ Some r) × (o.place + max o.height (above r.kind.0 h) ≤ longest_path) × Awaits below o.reference o.place
 unfolding Awaits
 node-awaits o below r h (p, (at, is, near, up), low) = (at, near-by o.place o.height p h r.kind.0 (is_eager r.kind.0) refl is near low, up)
 
-pub item-awaits : (written : Written) (keys : List ℕ) (below : List Todo) (r : ArcRef) (h : ℕ) → AwaitsLow (to_item written keys ∷ below) r h
+item-awaits : (written : Written) (keys : List ℕ) (below : List Todo) (r : ArcRef) (h : ℕ) → AwaitsLow (to_item written keys ∷ below) r h
     → (slice_get written.references (length keys) ≡ Some r) × (below ≡ [])
 unfolding Awaits
 item-awaits written keys below r h (p, (at, is, none), low) = (at, none)
 
 one-more : {A : Type 0} (refs : List ArcRef) (xs : List A) (x : A) (r : ArcRef) → slice_get refs (length xs) ≡ Some r → length (xs ++ x ∷ []) ≤ length refs
 one-more refs xs x r at = let a = length-append xs (x ∷ []) in let b = slice_get_within refs (length xs) r at in omega (arith, a, b)
+
+-- what waits for a reference takes its result
+pub takes-next : (node : Option Node) (written : Written) (keys : List ℕ) (below : List Todo) (r : ArcRef) (h : ℕ) → AwaitsLow (waits_as node written keys ∷ below) r h → TakesNext node written keys r h
+takes-next None written keys below r h up = record { next = (item-awaits written keys below r h up).0; near = λ n is. absurd (none-some n is) }
+takes-next (Some m) written keys below r h up =
+    let a = node-awaits (record { reference = m.reference; place = m.place; through = m.through; written = written; keys = keys; height = m.height }) below r h up in
+    record { next = a.0; near = λ n is. subst (λ (k : Node). k.place + max k.height (above r.kind.0 h) ≤ longest_path) (some-same is) a.1 }
+
+-- a written node with one result more
+abbrev pub with_child : ArcRef → ℕ → ℕ → Open → Open
+with_child r key height o = record o { keys = o.keys ++ key ∷ []; height = max o.height (above r.kind.0 height) }
 
 -- a reference is done
 pub give-way : (below : List Todo) (r : ArcRef) (key h : ℕ) → AwaitsLow below r h → IsWay (give r key h below)

@@ -1,5 +1,5 @@
 -- The plain claims that a lent table tells; whom each waiting worker waits for; and what a claim finds.
-use Rattle.std.specs.{Prelude.{ℕ, ◌≡◌, ◌≤◌, ◌+◌, ◌⊎◌, ◌&&◌, Bool, true, false, if◌then◌else◌, Option, Some, None, Result, IfOk, IfErr, nat_eq}, Arc.arc_value, Option.option_map}
+use Rattle.std.specs.{Prelude.{ℕ, zero, suc, List, [], ◌∷◌, ◌≡◌, ◌≤◌, ◌+◌, ◌⊎◌, ◌&&◌, Bool, true, false, if◌then◌else◌, Option, Some, None, Result, IfOk, IfErr, nat_eq}, Arc.arc_value, Option.option_map}
 use Rattle.{indexmap.specs.IndexMap.{IndexMap, get}, pagable_core.specs.declared.context.writing.SerializedData.SerializedData, pagable_world.specs.Workers.{with_slot, with_wait, with_outcome}}
 use Rattle.pagable_world.specs.{Workers.{is_open_outcome, IsOpenSlot, IsPublished, ComesBack, ComesToEnd, IsTooDeep}, Plain.{Error, Identity, if_there, longest_path}, World.{Written, Slot, Shelf}}
 use Rattle.{pagable_world.specs.{World.{no_result, published, failed, SameShelf, is_identity}, declared.events.Claim.Claim}, pagable_walk.specs.declared.results.{SlotResult.SlotResult, Trees.Ghosts}}
@@ -29,6 +29,10 @@ after_failure v slot = if_there (λ (s : Slot). Some (failed_by v s)) None slot
 abbrev pub claimed_by : ℕ → Slot
 claimed_by v = record { worker = v; written = None; outcome = no_result }
 
+-- there is no result yet, and this is the worker
+abbrev pub IsOpenOf : Option Slot → ℕ → Type 0
+IsOpenOf slot w = (x : Slot) × (slot ≡ Some x) × (x.outcome ≡ no_result) × (x.worker ≡ w)
+
 module _ {E : Type 0} {g : Ghosts E} where
   abbrev pub outcome_of : Outcome E g → world.Outcome
   outcome_of Outcome.Open = no_result
@@ -38,33 +42,41 @@ module _ {E : Type 0} {g : Ghosts E} where
   abbrev pub slot_of : ArcSerSlot E g → Slot
   slot_of s = record { worker = s.worker.0; written = option_map (λ d. written_of (arc_value d)) s.written; outcome = outcome_of s.outcome }
 
-  -- a result that stands is of this identity
-  abbrev pub IsOwnOutcome : Identity → Outcome E g → Type 0
-  IsOwnOutcome i (Outcome.Published r) = r.identity ≡ i
-  IsOwnOutcome i _ = Unit {0}
-
-  abbrev pub IsOwn : Identity → Option (ArcSerSlot E g) → Type 0
-  IsOwn i None = Unit {0}
-  IsOwn i (Some s) = IsOwnOutcome i s.outcome
+  -- a result that stands is of this identity, by its numbers
+  abbrev pub IsNamed : Identity → ArcSerSlot E g → Type 0
+  IsNamed i s = (r : SlotResult E g) → s.outcome ≡ Outcome.Published r → (r.identity.kind.0 ≡ i.kind.0) × (r.identity.node.0 ≡ i.node.0)
 
   module _ {S : Type 0} where
     abbrev pub slots_in : IndexMap (ℕ × ℕ) (ArcSerSlot E g) S → Identity → Option Slot
     slots_in slots i = option_map slot_of (get is_same slots (i.kind.0, i.node.0))
 
-    abbrev pub AreOwn : IndexMap (ℕ × ℕ) (ArcSerSlot E g) S → Type 0
-    AreOwn slots = (i : Identity) → IsOwn i (get is_same slots (i.kind.0, i.node.0))
-
-    -- the same in numbers, as a table keeps it
     abbrev pub AreNamed : IndexMap (ℕ × ℕ) (ArcSerSlot E g) S → Type 0
-    AreNamed slots = (i : Identity) (s : ArcSerSlot E g) (r : SlotResult E g) → get is_same slots (i.kind.0, i.node.0) ≡ Some s → s.outcome ≡ Outcome.Published r → (r.identity.kind.0 ≡ i.kind.0) × (r.identity.node.0 ≡ i.node.0)
+    AreNamed slots = (i : Identity) (s : ArcSerSlot E g) → get is_same slots (i.kind.0, i.node.0) ≡ Some s → IsNamed i s
 
     abbrev pub shelf_in : {T : Type 0} → IndexMap (ℕ × ℕ) (ArcSerSlot E g) S → IndexMap ℕ Identity T → Shelf
     shelf_in slots waits = record { slots = slots_in slots; waits = λ v. get nat_eq waits v }
 
+  -- a row after the worker has failed
+  pub record FailedRow (v : ℕ) (old new : (ℕ × ℕ) × ArcSerSlot E g) : Type 0 where
+    pub key : new.0 ≡ old.0
+    pub slot : slot_of new.1 ≡ failed_by v (slot_of old.1)
+    pub own : (i : Identity) → IsNamed i old.1 → IsNamed i new.1
+
+  -- so many of the first rows are failed so
+  abbrev pub FailedTo : ℕ → ℕ → List ((ℕ × ℕ) × ArcSerSlot E g) → List ((ℕ × ℕ) × ArcSerSlot E g) → Type 0
+  FailedTo v zero old new = new ≡ old
+  FailedTo v (suc n) [] new = new ≡ []
+  FailedTo v (suc n) (e ∷ es) [] = ⊥
+  FailedTo v (suc n) (e ∷ es) (f ∷ fs) = FailedRow v e f × FailedTo v n es fs
+
+  -- the row of this place is failed besides
+  pub record FailsAt (v place : ℕ) (old new : List ((ℕ × ℕ) × ArcSerSlot E g)) : Type 0 where
+    pub more : (first : List ((ℕ × ℕ) × ArcSerSlot E g)) → FailedTo v place first old → FailedTo v (suc place) first new
+
   -- what stands at an identity, whose slot is this
   abbrev pub Stands : Identity → Option Slot → Standing E g → Type 0
   Stands i slot Standing.Free = slot ≡ None
-  Stands i slot (Standing.Open w) = (x : Slot) × (slot ≡ Some x) × (x.outcome ≡ no_result) × (x.worker ≡ w)
+  Stands i slot (Standing.Open w) = IsOpenOf slot w
   Stands i slot (Standing.Known r) = (r.identity ≡ i) × ((x : Slot) × (slot ≡ Some x) × (x.outcome ≡ published r.key r.height))
   Stands i slot Standing.Failed = (x : Slot) × (slot ≡ Some x) × (x.outcome ≡ failed)
 
@@ -89,12 +101,14 @@ abbrev pub no_claims : Shelf
 no_claims = record { slots = λ i. None; waits = λ v. None }
 
 -- whom the worker waits for
-abbrev pub next : Shelf → ℕ → Option ℕ
-next s u = if_there (λ i. open_worker (s.slots i)) None (s.waits u)
+pub record WaitsFor (s : Shelf) (u w : ℕ) : Type 0 where
+  pub i : Identity
+  pub waits : s.waits u ≡ Some i
+  pub still : open_worker (s.slots i) ≡ Some w
 
 -- who waits for one that waits, and so on, comes to an end
 pub data Ends (s : Shelf) : ℕ → Type 0 where
-  ends-at : (u : ℕ) → ((w : ℕ) → next s u ≡ Some w → Ends s w) → Ends s u
+  ends-at : (u : ℕ) → ((w : ℕ) → WaitsFor s u w → Ends s w) → Ends s u
 
 -- no workers wait in a ring
 abbrev pub EachEnds : Shelf → Type 0

@@ -1,33 +1,38 @@
 -- A worker's task at hand and its path as plain data: what it has to do, what comes next first.
-use Rattle.std.specs.{Prelude.{ℕ, ◌≡◌, ◌≤◌, ◌+◌, List, [], ◌∷◌, ◌++◌, length, max, Some, slice_get}, Arc.arc_value}
+use Rattle.std.specs.{Prelude.{ℕ, ◌≡◌, ◌≤◌, ◌+◌, List, [], ◌∷◌, length, max, Option, None, Some, slice_get}, Arc.arc_value}
 use Rattle.pagable_model.specs.declared.numbers.ArcRef.{ArcRef}
-use Rattle.pagable_world.specs.{World.{Todo, to_start, to_pin, to_load, to_write, to_finish, to_item, to_set, to_publish, to_release, to_fail, Fault, was_refused, was_failed}, Plain.above}
-use Rattle.{pagable_world.specs.{Plain.longest_path, Workers.place_below}, pagable_loads.specs.Frames.reading_of, pagable_walk.specs.{Found.keys_of, Slots.written_of, declared.results.Trees.Ghosts}}
-use Rattle.pagable_walk.specs.declared.{table.PageOutError.PageOutError, tasks.{Item.Item, Open.Open, Task.Task, Waiting.Waiting}}
-use Rattle.pagable_world.specs.World as world
+use Rattle.pagable_world.specs.{World.{Todo, to_start, to_pin, to_load, to_write, to_finish, to_item, to_set, to_publish, to_release, to_fail, Fault, was_refused, was_failed, Written}, Plain.above}
+use Rattle.{pagable_world.specs.{Plain.longest_path, Workers.{give, place_below}}, pagable_loads.specs.Frames.reading_of, pagable_walk.specs.{Found.keys_of, Slots.written_of, declared.results.Trees.Ghosts}}
+use Rattle.pagable_walk.specs.declared.{table.PageOutError.PageOutError, tasks.{Node.Node, Task.Task, Waiting.Waiting}}
 
 abbrev pub fault_of : PageOutError → Fault
 fault_of (PageOutError.Failed e) = was_refused e
 fault_of PageOutError.AlreadyFailed = was_failed
 
--- a written node with one result more
-abbrev pub with_child : ArcRef → ℕ → ℕ → world.Open → world.Open
-with_child r key height o = record o { keys = o.keys ++ key ∷ []; height = max o.height (above r.kind.0 height) }
+-- what waits for its references: a written node, or else the item
+abbrev pub waits_as : Option Node → Written → List ℕ → Todo
+waits_as None written keys = to_item written keys
+waits_as (Some n) written keys = to_finish (record { reference = n.reference; place = n.place; through = n.through; written = written; keys = keys; height = n.height })
+
+abbrev pub place_of : Option Node → ℕ
+place_of None = 0
+place_of (Some n) = n.place
+
+-- with the height by a reference of this kind too
+abbrev pub raised : ℕ → ℕ → Option Node → Option Node
+raised kind height None = None
+raised kind height (Some n) = Some (record n { height = max n.height (above kind height) })
 
 module _ {E : Type 0} {g : Ghosts E} where
-  abbrev pub open_of : Open E g → world.Open
-  open_of o = record { reference = o.reference; place = o.place; through = o.through; written = written_of (arc_value o.written); keys = keys_of o.children.items; height = o.height }
-
-  abbrev pub item_todo : Item E g → Todo
-  item_todo i = to_item (written_of (arc_value i.written)) (keys_of i.children.items)
+  abbrev pub waiting_todo : Waiting E g → Todo
+  waiting_todo w = waits_as w.node (written_of (arc_value w.written)) (keys_of w.children.items)
 
   abbrev pub todo_of : Task E g → Todo
   todo_of (Task.Start r place) = to_start r place
   todo_of (Task.Pin r place) = to_pin r place
   todo_of (Task.Load r place through reading) = to_load r place through (reading_of reading)
   todo_of (Task.Write r place through pin) = to_write r place through
-  todo_of (Task.Finish o) = to_finish (open_of o)
-  todo_of (Task.Item i) = item_todo i
+  todo_of (Task.Finish w) = waiting_todo w
   todo_of (Task.SetKey d through) = to_set d.reference through d.found.key d.found.height
   todo_of (Task.Publish d) = to_publish d.reference d.found.key d.found.height
   todo_of (Task.Release d) = to_release d.reference d.found.key d.found.height
@@ -39,10 +44,6 @@ module _ {E : Type 0} {g : Ghosts E} where
   IsPlain (Task.Load r place through reading) = ⊥
   IsPlain (Task.Write r place through pin) = ⊥
   IsPlain task = Unit {0}
-
-  abbrev pub waiting_todo : Waiting E g → Todo
-  waiting_todo (Waiting.Node o) = to_finish (open_of o)
-  waiting_todo (Waiting.Item i) = item_todo i
 
   -- what waits on a path, the last first, and then these
   unfoldable pub todos_onto : List (Waiting E g) → List Todo → List Todo
@@ -77,3 +78,15 @@ IsWay (to_set r through key height ∷ below) = AwaitsLow below r height
 IsWay (to_publish r key height ∷ below) = AwaitsLow below r height
 IsWay (to_release r key height ∷ below) = AwaitsLow below r height
 IsWay (to_fail fault back ∷ below) = below ≡ []
+
+-- the reference is the next of what waits, and the height by it fits
+pub record TakesNext (node : Option Node) (written : Written) (keys : List ℕ) (r : ArcRef) (height : ℕ) : Type 0 where
+  pub next : slice_get written.references (length keys) ≡ Some r
+  pub near : (n : Node) → node ≡ Some n → n.place + max n.height (above r.kind.0 height) ≤ longest_path
+
+-- what stands in front gets the result of its next reference, and goes on
+pub record Gives (r : ArcRef) (key height : ℕ) (old new : List Todo) : Type 0 where
+  pub x : Todo
+  pub rest : List Todo
+  pub was : old ≡ x ∷ rest
+  pub is : new ≡ give r key height (x ∷ rest)

@@ -2,12 +2,12 @@
 
 ghost use Rattle.std.specs.{Arc.arc_value, Prelude.{◌≡◌, ◌∷◌, [], ℕ, List, IfOk, IfErr, length, ◌≤◌, map}};
 ghost use Rattle.{pagable_core.specs.Data.blob_of, pagable_model.specs.Merkle.blob_of as blob_over};
-ghost use Rattle.{pagable_model.specs.Blob.key_of, pagable_world.specs.{Access.Told, World.{Shelf, Todo, answer_of_fault, to_finish, to_release, to_set}, Kinds.identity_of, Plain.longest_path}};
-ghost use Rattle.{pagable_loads.specs.Telling.{Tells, values_at}, pagable_walk.specs.{Tasks.{Awaits, AwaitsLow, IsPlain, IsWay, fault_of, item_todo, open_of, todo_of, todos}, Due.LeadsOn}};
-ghost use Rattle.pagable_walk.specs.{Ending.{Stores, GoesBack}, Found.{keys_of, ids_of}, Slots.written_of, Table.shelf_of, Turns.{TurnsTo, plan}, Results.HasFormOf};
+ghost use Rattle.{pagable_model.specs.Blob.key_of, pagable_world.specs.{Access.Told, World.{Shelf, Todo, answer_of_fault, to_release, to_set}, Kinds.identity_of, Plain.longest_path}};
+ghost use Rattle.{pagable_loads.specs.Telling.{Tells, values_at}, pagable_walk.specs.{Tasks.{AwaitsLow, IsWay, fault_of, todos, waiting_todo}, Due.LeadsOn}};
+ghost use Rattle.pagable_walk.specs.{Ending.{Stores, IsStored, named_by, GoesBack}, Found.{keys_of, ids_of}, Slots.written_of, Table.shelf_of, Turns.{TurnsTo, plan}, Results.HasFormOf};
 
-use crate::stack::{give, refuse};
-use crate::tasks::{Done, Item, Moved, Open, Task, Turn, Waiting, named};
+use crate::stack::{fail, give};
+use crate::tasks::{Done, Moved, Node, Task, Turn, Waiting, named};
 use crate::{PageOutError, SlotResult, SlotTable, Trees};
 use pagable_codec::{Env, NodeSet};
 use pagable_core::{PagableData, SerializedData};
@@ -16,14 +16,6 @@ use pagable_model::{DataKey, Error, HandleNumber, Identity, WorkerNumber};
 use pagable_world::{Took, WorkerAnswer};
 use std::alloc::Global;
 use std::marker::PhantomData;
-
-// The keys of results, in their order.
-fn keys<E: Trees>(alloc: Global, children: &[SlotResult<E>]) -> Result<Vec<DataKey>, Error>
-    ensures keys { IfOk result (λ keys. keys.items ≡ keys_of children.now) }
-    ensures only { IfErr result (λ e. e ≡ Error.OutOfMemory) }
-{
-    Ok(children.iter().map(|found| found.key).collect(alloc)?)
-}
 
 // The blob of what was written over the results of its references. Refused by want of memory alone.
 fn blob<E: Trees>(
@@ -34,7 +26,7 @@ fn blob<E: Trees>(
     ensures blob { IfOk result (λ blob. blob_of blob ≡ blob_over (written_of written.now).bytes (keys_of children.now)) }
     ensures only { IfErr result (λ e. e ≡ Error.OutOfMemory) }
 {
-    let arcs = keys(alloc, children)?;
+    let arcs: Vec<DataKey> = children.iter().map(|found| found.key).collect(alloc)?;
     let bytes = Vec::from_slice(alloc, written.bytes.as_slice())?;
     Ok(PagableData { bytes, arcs })
 }
@@ -57,95 +49,69 @@ where
     access.store(alloc, blob)
 }
 
-// The result of a node whose blob was stored is known: its key is set next.
-fn stored<E: Env>(node: Open<E>, key: DataKey) -> Task<E>
+// What a node's blob names.
+fn named_by(node: &Option<Node>) -> Option<Identity>
+    ensures { result ≡ named_by node.now }
+{
+    match node {
+        Some(node) => Some(named(node.reference)),
+        None => None,
+    }
+}
+
+// The result of a node whose blob was stored is known: its key is set next. That of an item is answered.
+fn stored<E: Env>(waiting: Waiting<E>, key: DataKey) -> Turn<E>
 where
     E::Node: NodeSet<E>,
-    requires all { length node.children.items ≡ length (written_of (arc_value node.written)).references }
-    requires key { key ≡ key_of E.Hash.digest (blob_over (written_of (arc_value node.written)).bytes (keys_of node.children.items)) }
-    ensures todo { todo_of result ≡ to_set node.reference node.through key node.height }
-    ensures plain { IsPlain result }
+    requires all { length (keys_of waiting.children.items) ≡ length (written_of (arc_value waiting.written)).references }
+    requires key { key ≡ key_of E.Hash.digest (blob_over (written_of (arc_value waiting.written)).bytes (keys_of waiting.children.items)) }
+    ensures { IsStored waiting.node key result }
 {
+    let Some(node) = waiting.node else {
+        return Turn::Answers(WorkerAnswer::Key(key));
+    };
+    let reference = node.reference;
     let found = SlotResult::of_node(
-        named(node.reference),
-        node.written.as_ref(),
-        node.children.as_slice(),
+        named(reference),
+        waiting.written.as_ref(),
+        waiting.children.as_slice(),
         key,
         node.height,
     );
-    let reference = node.reference;
-    let through = node.through;
-    Task::SetKey(Done { reference, found }, through)
+    Turn::Goes(Task::SetKey(Done { reference, found }, node.through))
 }
 
-/// Stores the blob of a node whose references are all done.
+/// Stores the blob of a node or an item whose references are all done.
 pub fn finish<E: Env, A: WorkerAccess<E>>(
     access: &mut A,
     alloc: Global,
     path: &mut Vec<Waiting<E>>,
-    node: Open<E>,
+    waiting: Waiting<E>,
 ) -> Moved<E>
 where
     E::Node: NodeSet<E>,
-    requires all { length node.children.items ≡ length (written_of (arc_value node.written)).references }
-    requires way { Awaits (todos path.old.items) node.reference node.place }
+    requires { IsWay (waiting_todo waiting ∷ todos path.old.items) }
     ensures way { IsWay (plan result.turn path.new.items) }
-    ensures leads { LeadsOn (to_finish (open_of node) ∷ todos path.old.items) result.turn (plan result.turn path.new.items) }
-    ensures step { (n : ℕ) (shelf : Shelf) → Told (A.told access.old) (A.told access.new) (TurnsTo (values_at E.Node.NodeSet E.Env E.Hash.KeyHash (A.acting access.old).environment) (A.acting access.old).me n shelf (Task.Finish node) (todos path.old.items) shelf result (plan result.turn path.new.items)) }
+    ensures leads { LeadsOn (waiting_todo waiting ∷ todos path.old.items) result.turn (plan result.turn path.new.items) }
+    ensures step { (n : ℕ) (shelf : Shelf) → Told (A.told access.old) (A.told access.new) (TurnsTo (values_at E.Node.NodeSet E.Env E.Hash.KeyHash (A.acting access.old).environment) (A.acting access.old).me n shelf (Task.Finish waiting) (todos path.old.items) shelf result (plan result.turn path.new.items)) }
     ensures acting { A.acting access.new ≡ A.acting access.old }
     ensures lender { A.lender access.new ≡ A.lender access.old }
 {
-    let identity = named(node.reference);
+    let identity = named_by(&waiting.node);
     match store(
         access,
         alloc,
-        node.written.as_ref(),
-        node.children.as_slice(),
+        waiting.written.as_ref(),
+        waiting.children.as_slice(),
     ) {
         Ok(key) => Moved {
-            took: Took::Store(Some(identity), Ok(key)),
-            turn: Turn::Goes(stored(node, key)),
+            took: Took::Store(identity, Ok(key)),
+            turn: stored(waiting, key),
             counted: true,
         },
         Err(e) => Moved {
-            turn: Turn::Goes(refuse(path, &e, None)),
-            took: Took::Store(Some(identity), Err(e)),
-            counted: true,
-        },
-    }
-}
-
-/// Stores the blob of an item whose references are all done, and answers its key.
-pub fn finish_item<E: Env, A: WorkerAccess<E>>(
-    access: &mut A,
-    alloc: Global,
-    path: &mut Vec<Waiting<E>>,
-    item: Item<E>,
-) -> Moved<E>
-where
-    E::Node: NodeSet<E>,
-    requires all { length item.children.items ≡ length (written_of (arc_value item.written)).references }
-    requires none { todos path.old.items ≡ [] }
-    ensures way { IsWay (plan result.turn path.new.items) }
-    ensures leads { LeadsOn (item_todo item ∷ todos path.old.items) result.turn (plan result.turn path.new.items) }
-    ensures step { (n : ℕ) (shelf : Shelf) → Told (A.told access.old) (A.told access.new) (TurnsTo (values_at E.Node.NodeSet E.Env E.Hash.KeyHash (A.acting access.old).environment) (A.acting access.old).me n shelf (Task.Item item) (todos path.old.items) shelf result (plan result.turn path.new.items)) }
-    ensures acting { A.acting access.new ≡ A.acting access.old }
-    ensures lender { A.lender access.new ≡ A.lender access.old }
-{
-    match store(
-        access,
-        alloc,
-        item.written.as_ref(),
-        item.children.as_slice(),
-    ) {
-        Ok(key) => Moved {
-            took: Took::Store(None, Ok(key)),
-            turn: Turn::Answers(WorkerAnswer::Key(key)),
-            counted: true,
-        },
-        Err(e) => Moved {
-            turn: Turn::Goes(refuse(path, &e, None)),
-            took: Took::Store(None, Err(e)),
+            turn: Turn::Goes(fail(path, PageOutError::Failed(e), None)),
+            took: Took::Store(identity, Err(e)),
             counted: true,
         },
     }
@@ -175,7 +141,7 @@ where
             counted: true,
         },
         Err(e) => Moved {
-            turn: Turn::Goes(refuse(path, &e, None)),
+            turn: Turn::Goes(fail(path, PageOutError::Failed(e), None)),
             took: Took::SetKey(identity, Err(e)),
             counted: true,
         },
@@ -219,17 +185,17 @@ where
 {
     let identity = named(done.reference);
     access.give_up(worker, identity.node);
-    let Some(waiting) = path.pop() else {
-        return Moved {
+    match give(path, done) {
+        Ok(task) => Moved {
+            took: Took::Release(identity),
+            turn: Turn::Goes(task),
+            counted: true,
+        },
+        Err(done) => Moved {
             took: Took::Release(identity),
             turn: Turn::Answers(WorkerAnswer::Key(done.key())),
             counted: true,
-        };
-    };
-    Moved {
-        took: Took::Release(identity),
-        turn: Turn::Goes(give(path, waiting, done)),
-        counted: true,
+        },
     }
 }
 

@@ -16,4 +16,4 @@ pub use over::{page_out_item_over, page_out_pending_over};
 pub use results::{SlotResult, Trees};
 pub use slots::{ArcSerSlot, Outcome, Standing};
 pub use table::{Found, PageOutError, SlotTable};
-pub use tasks::{Done, Item, Moved, Open, Task, Turn, Waiting};
+pub use tasks::{Done, Moved, Node, Task, Turn, Waiting};

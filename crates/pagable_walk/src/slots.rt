@@ -1,16 +1,15 @@
 //! The slots of claimed identities, and whom a waiting worker waits for; claims of a lent table, and what is known of them.
 
-ghost use Rattle.std.specs.{Arc.arc_value, Option.option_map, Prelude.{◌≡◌, ℕ, Some, OnOk, OnErr, IfOk, cond, nat_eq, slice_get, None, IfErr}};
-ghost use Rattle.indexmap.specs.IndexMap.{get, keys};
+ghost use Rattle.std.specs.{Arc.arc_value, Prelude.{◌≡◌, ℕ, Some, OnOk, OnErr, IfOk, None, IfErr}};
 ghost use Rattle.{pagable_model.specs.declared.numbers.Identity.Identity as Named, pagable_world.specs.Workers.{with_outcome, with_slot, with_wait, IsOpenSlot, ComesToEnd, with_changed_slot}};
-ghost use Rattle.{pagable_world.specs.{Workers.with_failed, World.{published, failed, Slot, SameShelf}}, pagable_walk.specs.Slots.{written_of, claimed_by, slot_of, IsOwn, slots_in, AreOwn, shelf_in}};
-ghost use Rattle.pagable_walk.specs.{Slots.{Stands, SlotIs, SameSlots, open_worker, EachEnds, Leads, Changes, failed_by, after_failure, with_written, no_claims, Judges, ClaimsThere}, Table.shelf_of};
+ghost use Rattle.{pagable_world.specs.{Workers.with_failed, World.{published, failed, Slot, SameShelf}}, pagable_walk.specs.Slots.{written_of, claimed_by, slot_of, IsNamed, slots_in, AreNamed, shelf_in}};
+ghost use Rattle.pagable_walk.specs.{Slots.{Stands, SlotIs, SameSlots, EachEnds, Leads, Changes, FailsAt, failed_by, after_failure, with_written, no_claims, Judges, ClaimsThere}, Table.shelf_of};
 ghost use Rattle.pagable_walk.specs.Table.{found_as, IsFoundOf};
 
 use crate::{Found, SlotResult, SlotTable, Trees};
 use indexmap::IndexMap;
 use pagable_core::SerializedData;
-use pagable_model::{Error, Identity, Kind, NodeNumber, WorkerNumber};
+use pagable_model::{Error, Identity, WorkerNumber};
 use std::alloc::{AllocError, Global};
 use std::sync::Arc;
 
@@ -50,7 +49,7 @@ impl<E: Trees> ArcSerSlot<E> {
     /// A slot that was just claimed.
     pub fn new(worker: WorkerNumber) -> ArcSerSlot<E>
         ensures slot { slot_of result ≡ claimed_by worker.0 }
-        ensures own { (i : Named) → IsOwn i (Some result) }
+        ensures own { (i : Named) → IsNamed i result }
     {
         ArcSerSlot {
             worker,
@@ -62,7 +61,7 @@ impl<E: Trees> ArcSerSlot<E> {
     // What was written of its node.
     fn set_written(&mut self, written: Arc<SerializedData>)
         ensures slot { slot_of self.new ≡ with_written (written_of (arc_value written)) (slot_of self.old) }
-        ensures own { (i : Named) → IsOwn i (Some self.old) → IsOwn i (Some self.new) }
+        ensures own { (i : Named) → IsNamed i self.old → IsNamed i self.new }
     {
         self.written = Some(written);
     }
@@ -70,7 +69,7 @@ impl<E: Trees> ArcSerSlot<E> {
     /// Publishes a result, where there is none yet. It takes no memory.
     pub fn set_success(&mut self, found: SlotResult<E>)
         ensures slot { slot_of self.new ≡ with_outcome (published found.key found.height) (slot_of self.old) }
-        ensures own { IsOwn found.identity (Some self.old) → IsOwn found.identity (Some self.new) }
+        ensures own { IsNamed found.identity self.old → IsNamed found.identity self.new }
     {
         if matches!(&self.outcome, Outcome::Open) {
             self.outcome = Outcome::Published(found);
@@ -80,7 +79,7 @@ impl<E: Trees> ArcSerSlot<E> {
     /// Marks it failed, where there is no result yet. It takes no memory.
     pub fn set_failed(&mut self)
         ensures slot { slot_of self.new ≡ with_outcome failed (slot_of self.old) }
-        ensures own { (i : Named) → IsOwn i (Some self.old) → IsOwn i (Some self.new) }
+        ensures own { (i : Named) → IsNamed i self.old → IsNamed i self.new }
     {
         if matches!(&self.outcome, Outcome::Open) {
             self.outcome = Outcome::Failed;
@@ -90,7 +89,7 @@ impl<E: Trees> ArcSerSlot<E> {
     // Marks it failed, if it is this worker's and has no result yet.
     fn fail_of(&mut self, worker: u64)
         ensures slot { slot_of self.new ≡ failed_by worker (slot_of self.old) }
-        ensures own { (i : Named) → IsOwn i (Some self.old) → IsOwn i (Some self.new) }
+        ensures own { (i : Named) → IsNamed i self.old → IsNamed i self.new }
     {
         if self.worker.0 == worker {
             self.set_failed();
@@ -103,7 +102,7 @@ pub fn look_up<E: Trees>(
     slots: &IndexMap<(u32, u64), ArcSerSlot<E>>,
     identity: Identity,
 ) -> Standing<E>
-    requires { AreOwn slots.now }
+    requires { AreNamed slots.now }
     ensures { Stands identity (slots_in slots.now identity) result }
 {
     match slots.get(&(identity.kind.0, identity.node.0)) {
@@ -116,48 +115,18 @@ pub fn look_up<E: Trees>(
     }
 }
 
-/// The worker that has an identity and no result there yet.
-pub fn open_worker<E: Trees>(
-    slots: &IndexMap<(u32, u64), ArcSerSlot<E>>,
-    identity: Identity,
-) -> Option<u64>
-    ensures { result ≡ open_worker (slots_in slots.now identity) }
-{
-    match slots.get(&(identity.kind.0, identity.node.0)) {
-        None => None,
-        Some(slot) => match &slot.outcome {
-            Outcome::Open => Some(slot.worker.0),
-            Outcome::Published(_) => None,
-            Outcome::Failed => None,
-        },
-    }
-}
-
 /// A free identity is claimed by a worker.
 pub fn add<E: Trees>(
     slots: &mut IndexMap<(u32, u64), ArcSerSlot<E>>,
     identity: Identity,
     worker: WorkerNumber,
 ) -> Result<(), AllocError>
-    requires { AreOwn slots.old }
+    requires { AreNamed slots.old }
     ensures ok { OnOk result (SlotIs (slots_in slots.old) identity (Some (claimed_by worker.0)) (slots_in slots.new)) }
     ensures err { OnErr result (SameSlots (slots_in slots.old) (slots_in slots.new)) }
-    ensures own { AreOwn slots.new }
+    ensures own { AreNamed slots.new }
 {
     slots.insert((identity.kind.0, identity.node.0), ArcSerSlot::new(worker))?;
-    Ok(())
-}
-
-/// A worker waits for an identity from now on.
-pub fn add_wait(
-    waits: &mut IndexMap<u64, Identity>,
-    worker: u64,
-    identity: Identity,
-) -> Result<(), AllocError>
-    ensures ok { OnOk result ((q : ℕ) → get nat_eq waits.new q ≡ cond (nat_eq worker q) (Some identity) (get nat_eq waits.old q)) }
-    ensures err { OnErr result ((q : ℕ) → get nat_eq waits.new q ≡ get nat_eq waits.old q) }
-{
-    waits.insert(worker, identity)?;
     Ok(())
 }
 
@@ -167,9 +136,9 @@ pub fn write<E: Trees>(
     identity: Identity,
     written: Arc<SerializedData>,
 )
-    requires { AreOwn slots.old }
+    requires { AreNamed slots.old }
     ensures slots { Changes (with_written (written_of (arc_value written))) (slots_in slots.old) identity (slots_in slots.new) }
-    ensures own { AreOwn slots.new }
+    ensures own { AreNamed slots.new }
 {
     match slots.get_mut(&(identity.kind.0, identity.node.0)) {
         Some(slot) => slot.set_written(written),
@@ -179,9 +148,9 @@ pub fn write<E: Trees>(
 
 /// A result is put where others see it, unless one stands there.
 pub fn publish<E: Trees>(slots: &mut IndexMap<(u32, u64), ArcSerSlot<E>>, found: SlotResult<E>)
-    requires { AreOwn slots.old }
+    requires { AreNamed slots.old }
     ensures slots { Changes (with_outcome (published found.key found.height)) (slots_in slots.old) found.identity (slots_in slots.new) }
-    ensures own { AreOwn slots.new }
+    ensures own { AreNamed slots.new }
 {
     match slots.get_mut(&(found.identity.kind.0, found.identity.node.0)) {
         Some(slot) => slot.set_success(found),
@@ -189,59 +158,21 @@ pub fn publish<E: Trees>(slots: &mut IndexMap<(u32, u64), ArcSerSlot<E>>, found:
     }
 }
 
-// The identity that was claimed as the one of this place, counted from 0.
-fn identity_at<E: Trees>(
-    slots: &IndexMap<(u32, u64), ArcSerSlot<E>>,
-    place: usize,
-) -> Option<Identity>
-    ensures { option_map (λ i. (i.kind.0, i.node.0)) result ≡ slice_get (keys slots.now) place }
-{
-    match slots.get_index(place) {
-        Some((key, _)) => Some(Identity {
-            kind: Kind(key.0),
-            node: NodeNumber(key.1),
-        }),
-        None => None,
-    }
-}
-
-// The claim of an identity is failed, if it is this worker's and has no result yet.
-fn fail_identity<E: Trees>(
-    slots: &mut IndexMap<(u32, u64), ArcSerSlot<E>>,
-    identity: Identity,
-    worker: u64,
-)
-    requires { AreOwn slots.old }
-    ensures slots { Changes (failed_by worker) (slots_in slots.old) identity (slots_in slots.new) }
-    ensures own { AreOwn slots.new }
-    ensures keys { keys slots.new ≡ keys slots.old }
-{
-    match slots.get_mut(&(identity.kind.0, identity.node.0)) {
-        Some(slot) => slot.fail_of(worker),
-        None => {}
-    }
-}
-
 // The claim of this place is failed, if it is this worker's and has no result yet.
 fn fail_at<E: Trees>(slots: &mut IndexMap<(u32, u64), ArcSerSlot<E>>, place: usize, worker: u64)
-    requires { AreOwn slots.old }
-    ensures own { AreOwn slots.new }
-    ensures keys { keys slots.new ≡ keys slots.old }
-    ensures each { (j : Named) → after_failure worker (slots_in slots.new j) ≡ after_failure worker (slots_in slots.old j) }
-    ensures still { (j : Named) → after_failure worker (slots_in slots.old j) ≡ slots_in slots.old j → after_failure worker (slots_in slots.new j) ≡ slots_in slots.new j }
-    ensures here { (j : Named) → slice_get (keys slots.old) place ≡ Some (j.kind.0, j.node.0) → after_failure worker (slots_in slots.new j) ≡ slots_in slots.new j }
+    ensures { FailsAt worker place slots.old.entries slots.new.entries }
 {
-    match identity_at(slots, place) {
-        Some(identity) => fail_identity(slots, identity, worker),
+    match slots.get_index_mut(place) {
+        Some(slot) => slot.fail_of(worker),
         None => {}
     }
 }
 
 /// A worker's claims without a result are failed. It takes no memory.
 pub fn fail_all<E: Trees>(slots: &mut IndexMap<(u32, u64), ArcSerSlot<E>>, worker: u64)
-    requires { AreOwn slots.old }
+    requires { AreNamed slots.old }
     ensures slots { (j : Named) → slots_in slots.new j ≡ after_failure worker (slots_in slots.old j) }
-    ensures own { AreOwn slots.new }
+    ensures own { AreNamed slots.new }
 {
     for place in 0..slots.len() {
         fail_at(slots, place, worker);
@@ -255,7 +186,8 @@ pub fn comes_back<E: Trees>(
     asker: u64,
     start: u64,
 ) -> Result<bool, AllocError>
-    requires { EachEnds (shelf_in slots.now waits.now) }
+    requires own { AreNamed slots.now }
+    requires ends { EachEnds (shelf_in slots.now waits.now) }
     ensures { IfOk result (Leads (shelf_in slots.now waits.now) asker start) }
 {
     let mut left = waits.clone()?;
@@ -267,7 +199,7 @@ pub fn comes_back<E: Trees>(
         let Some(identity) = left.swap_remove(&worker) else {
             return Ok(false);
         };
-        let Some(next) = open_worker(slots, identity) else {
+        let Standing::Open(next) = look_up(slots, identity) else {
             return Ok(false);
         };
         worker = next;
@@ -327,7 +259,7 @@ impl<E: Trees> SlotTable<E> {
         ensures err { OnErr result (SameShelf (shelf_of self.old) (shelf_of self.new)) }
         ensures only { IfErr result (λ e. e ≡ Error.OutOfMemory) }
     {
-        add_wait(&mut self.waits, worker.0, identity)?;
+        self.waits.insert(worker.0, identity)?;
         Ok(())
     }
 

@@ -1,13 +1,13 @@
 //! A worker's path: what was written and waits for the next of its references.
 
-ghost use Rattle.std.specs.{Prelude.{◌≡◌, ◌≤◌, ◌<◌, ◌+◌, ◌*◌, ◌∷◌, ◌++◌, [], Some, max, length, slice_get, vec_len, vec_capacity}, Arc.arc_value};
+ghost use Rattle.std.specs.{Prelude.{◌≡◌, ◌≤◌, ◌<◌, ◌+◌, ◌*◌, ◌∷◌, ◌++◌, [], IfOk, IfErr, OnErr, max, length, vec_len, vec_capacity}, Arc.arc_value};
 ghost use Rattle.pagable_world.specs.Plain.{above, longest_path};
-ghost use Rattle.{pagable_world.specs.{Workers.{place_below, settle, give, give_known}, World.{to_finish, to_item, was_refused}}, pagable_walk.specs.Tasks.{AwaitsLow, IsPlain, fault_of, item_todo}};
-ghost use Rattle.pagable_walk.specs.{Tasks.{open_of, todo_of, todos, waiting_todo, with_child}, Due.due, Failing.{back_of, fails}, Found.keys_of, Slots.written_of};
+ghost use Rattle.{pagable_world.specs.Workers.{place_below, settle, give_known}, pagable_walk.specs.Tasks.{AwaitsLow, Gives, IsPlain, TakesNext, fault_of, place_of, raised}};
+ghost use Rattle.pagable_walk.specs.{Tasks.{todo_of, todos, waiting_todo, waits_as}, Due.due, Failing.{back_of, fails}, Found.keys_of, Slots.written_of};
 
-use crate::tasks::{Done, Item, Open, Task, Waiting};
+use crate::tasks::{Done, Node, Task, Waiting};
 use crate::{PageOutError, Trees};
-use pagable_model::{Error, HandleNumber, Kind};
+use pagable_model::{HandleNumber, Kind};
 
 /// The place of a reference of this kind on the path below a node at this place. A path ends at a reference through a loose handle.
 pub fn place_below(place: u64, kind: Kind) -> u64
@@ -17,8 +17,35 @@ pub fn place_below(place: u64, kind: Kind) -> u64
     if kind.0 % 3 == 1 { 0 } else { place + 1 }
 }
 
+// The place of what waits for references.
+fn place_of(node: &Option<Node>) -> u64
+    ensures { result ≡ place_of node.now }
+{
+    match node {
+        Some(node) => node.place,
+        None => 0,
+    }
+}
+
+/// What waits goes on: its next reference is started, for which it waits on a path that has room; or it is finished.
+pub fn settle<E: Trees>(path: &mut Vec<Waiting<E>>, waiting: Waiting<E>) -> Task<E>
+    requires { vec_len path.old < vec_capacity path.old }
+    ensures todo { todo_of result ∷ todos path.new.items ≡ settle (waiting_todo waiting ∷ todos path.old.items) }
+    ensures plain { IsPlain result }
+    ensures less { due (todo_of result ∷ todos path.new.items) ≤ 8 + 6 * length (todos path.old.items) }
+{
+    let done = waiting.children.len();
+    if done >= waiting.written.arcs.len() {
+        return Task::Finish(waiting);
+    }
+    let next = waiting.written.arcs[done];
+    let place = place_below(place_of(&waiting.node), next.kind);
+    path.push_reserved(waiting);
+    Task::Start(next, place)
+}
+
 // The height by a reference of this kind too, to what is so high.
-fn raised(height: u64, kind: Kind, below: u64) -> u64
+fn height_with(height: u64, kind: Kind, below: u64) -> u64
     requires { below ≤ longest_path }
     ensures { result ≡ max height (above kind.0 below) }
 {
@@ -26,97 +53,54 @@ fn raised(height: u64, kind: Kind, below: u64) -> u64
     height.max(own)
 }
 
-/// A written node goes on: its next reference is started, for which it waits on a path that has room; or it is finished.
-pub fn settle_open<E: Trees>(path: &mut Vec<Waiting<E>>, node: Open<E>) -> Task<E>
-    requires { vec_len path.old < vec_capacity path.old }
-    ensures todo { todo_of result ∷ todos path.new.items ≡ settle (to_finish (open_of node) ∷ todos path.old.items) }
-    ensures plain { IsPlain result }
-    ensures less { due (todo_of result ∷ todos path.new.items) ≤ 8 + 6 * length (todos path.old.items) }
+// The same of a node.
+fn raised(node: Option<Node>, kind: Kind, below: u64) -> Option<Node>
+    requires { below ≤ longest_path }
+    ensures { result ≡ raised kind.0 below node }
 {
-    let done = node.children.len();
-    if done >= node.written.arcs.len() {
-        return Task::Finish(node);
-    }
-    let next = node.written.arcs[done];
-    let place = place_below(node.place, next.kind);
-    path.push_reserved(Waiting::Node(node));
-    Task::Start(next, place)
+    let Some(node) = node else {
+        return None;
+    };
+    Some(Node {
+        reference: node.reference,
+        place: node.place,
+        through: node.through,
+        height: height_with(node.height, kind, below),
+    })
 }
 
-/// The same of an item, at which a path begins.
-pub fn settle_item<E: Trees>(path: &mut Vec<Waiting<E>>, item: Item<E>) -> Task<E>
-    requires { vec_len path.old < vec_capacity path.old }
-    ensures todo { todo_of result ∷ todos path.new.items ≡ settle (item_todo item ∷ todos path.old.items) }
-    ensures plain { IsPlain result }
-    ensures less { due (todo_of result ∷ todos path.new.items) ≤ 8 + 6 * length (todos path.old.items) }
+// What waits, with the result of its next reference.
+fn with_result<E: Trees>(waiting: Waiting<E>, done: Done<E>) -> Waiting<E>
+    requires { TakesNext waiting.node (written_of (arc_value waiting.written)) (keys_of waiting.children.items) done.reference done.found.height }
+    ensures { waiting_todo result ≡ waits_as (raised done.reference.kind.0 done.found.height waiting.node) (written_of (arc_value waiting.written)) (keys_of waiting.children.items ++ done.found.key ∷ []) }
 {
-    let done = item.children.len();
-    if done >= item.written.arcs.len() {
-        return Task::Item(item);
-    }
-    let next = item.written.arcs[done];
-    let place = place_below(0, next.kind);
-    path.push_reserved(Waiting::Item(item));
-    Task::Start(next, place)
-}
-
-// A written node with the result of its next reference.
-fn with_result<E: Trees>(node: Open<E>, done: Done<E>) -> Open<E>
-    requires next { slice_get (arc_value node.written).arcs.items (length node.children.items) ≡ Some done.reference }
-    requires near { node.place + max node.height (above done.reference.kind.0 done.found.height) ≤ longest_path }
-    ensures { open_of result ≡ with_child done.reference done.found.key done.found.height (open_of node) }
-{
-    let height = raised(node.height, done.reference.kind, done.found.height);
-    let Open {
-        reference,
-        place,
-        through,
+    let Waiting {
+        node,
         written,
         mut children,
-        height: _,
-    } = node;
+    } = waiting;
+    let node = raised(node, done.reference.kind, done.found.height);
     children.push_reserved(done.found);
-    Open {
-        reference,
-        place,
-        through,
+    Waiting {
+        node,
         written,
         children,
-        height,
     }
 }
 
-// The same of an item.
-fn item_with_result<E: Trees>(item: Item<E>, done: Done<E>) -> Item<E>
-    requires { slice_get (arc_value item.written).arcs.items (length item.children.items) ≡ Some done.reference }
-    ensures { item_todo result ≡ to_item (written_of (arc_value item.written)) (keys_of item.children.items ++ done.found.key ∷ []) }
+/// A result goes to what waits for it, and that goes on. Where nothing waits, it comes back.
+pub fn give<E: Trees>(path: &mut Vec<Waiting<E>>, done: Done<E>) -> Result<Task<E>, Done<E>>
+    requires { AwaitsLow (todos path.old.items) done.reference done.found.height }
+    ensures gives { IfOk result (λ task. Gives done.reference done.found.key done.found.height (todos path.old.items) (todo_of task ∷ todos path.new.items)) }
+    ensures plain { IfOk result (λ task. IsPlain task) }
+    ensures less { IfOk result (λ task. due (todo_of task ∷ todos path.new.items) ≤ 2 + 6 * length (todos path.old.items)) }
+    ensures back { IfErr result (λ back. back ≡ done) }
+    ensures none { OnErr result ((todos path.old.items ≡ []) × (todos path.new.items ≡ [])) }
 {
-    let Item {
-        written,
-        mut children,
-    } = item;
-    children.push_reserved(done.found);
-    Item { written, children }
-}
-
-/// A result goes to what waits for it and was taken from its path, and that goes on.
-pub fn give<E: Trees>(path: &mut Vec<Waiting<E>>, waiting: Waiting<E>, done: Done<E>) -> Task<E>
-    requires room { vec_len path.old < vec_capacity path.old }
-    requires way { AwaitsLow (waiting_todo waiting ∷ todos path.old.items) done.reference done.found.height }
-    ensures todo { todo_of result ∷ todos path.new.items ≡ give done.reference done.found.key done.found.height (waiting_todo waiting ∷ todos path.old.items) }
-    ensures plain { IsPlain result }
-    ensures less { due (todo_of result ∷ todos path.new.items) ≤ 8 + 6 * length (todos path.old.items) }
-{
-    match waiting {
-        Waiting::Node(node) => {
-            let node = with_result(node, done);
-            settle_open(path, node)
-        }
-        Waiting::Item(item) => {
-            let item = item_with_result(item, done);
-            settle_item(path, item)
-        }
-    }
+    let Some(waiting) = path.pop() else {
+        return Err(done);
+    };
+    Ok(settle(path, with_result(waiting, done)))
 }
 
 /// A result that was known already goes to what waits for it; where nothing does, the handle of the listed cell is released.
@@ -126,9 +110,9 @@ pub fn give_known<E: Trees>(path: &mut Vec<Waiting<E>>, done: Done<E>) -> Task<E
     ensures plain { IsPlain result }
     ensures less { due (todo_of result ∷ todos path.new.items) ≤ 3 + 6 * length (todos path.old.items) }
 {
-    match path.pop() {
-        None => Task::Release(done),
-        Some(waiting) => give(path, waiting, done),
+    match give(path, done) {
+        Ok(task) => task,
+        Err(done) => Task::Release(done),
     }
 }
 
@@ -148,18 +132,4 @@ pub fn fail<E: Trees>(
     }
     path.clear();
     Task::Fail(why, None)
-}
-
-/// The walk fails by a step of its own that was refused.
-pub fn refuse<E: Trees>(
-    path: &mut Vec<Waiting<E>>,
-    e: &Error,
-    entry: Option<HandleNumber>,
-) -> Task<E>
-    ensures todo { todo_of result ∷ todos path.new.items ≡ fails (was_refused e.now) (back_of entry (todos path.old.items)) }
-    ensures plain { IsPlain result }
-    ensures less { due (todo_of result ∷ todos path.new.items) ≡ 1 }
-    ensures none { todos path.new.items ≡ [] }
-{
-    fail(path, PageOutError::Failed(*e), entry)
 }

@@ -1,25 +1,16 @@
 //! What a worker does first.
 
-ghost use Rattle.std.specs.{Arc.arc_value, Prelude.{◌≡◌, ◌∷◌, [], IfOk, IfErr}};
-ghost use Rattle.pagable_world.specs.{Kinds.identity_of, Workers.first_todo, World.{of_item, of_entry, to_item}};
-ghost use Rattle.pagable_walk.specs.{Slots.written_of, Tasks.{IsPlain, IsWay, item_todo, todo_of, todos}};
+ghost use Rattle.std.specs.{Arc.arc_value, Prelude.{◌≡◌, ◌∷◌, IfOk, IfErr}};
+ghost use Rattle.pagable_world.specs.{Kinds.identity_of, Workers.first_todo, World.{of_item, of_entry}};
+ghost use Rattle.pagable_walk.specs.{Slots.written_of, Tasks.{IsPlain, IsWay, todo_of, todos}};
 
 use crate::Trees;
-use crate::stack::settle_item;
-use crate::tasks::{Item, Task, Waiting};
+use crate::stack::settle;
+use crate::tasks::{Task, Waiting};
 use pagable_core::SerializedData;
 use pagable_model::{ArcRef, Error};
 use std::alloc::Global;
 use std::sync::Arc;
-
-// An item before its references are walked, with places for their results.
-fn item<E: Trees>(alloc: Global, written: Arc<SerializedData>) -> Result<Item<E>, Error>
-    ensures item { IfOk result (λ i. item_todo i ≡ to_item (written_of (arc_value written)) []) }
-    ensures only { IfErr result (λ e. e ≡ Error.OutOfMemory) }
-{
-    let children = Vec::with_capacity(alloc, written.arcs.len())?;
-    Ok(Item { written, children })
-}
 
 /// The first task for an item, and a path with places for it. Refused by want of memory alone.
 pub fn start_item<E: Trees>(
@@ -32,8 +23,13 @@ pub fn start_item<E: Trees>(
     ensures only { IfErr result (λ e. e ≡ Error.OutOfMemory) }
 {
     let mut path = Vec::with_capacity(alloc, 1)?;
-    let item = item(alloc, written)?;
-    Ok((settle_item(&mut path, item), path))
+    let children = Vec::with_capacity(alloc, written.arcs.len())?;
+    let item = Waiting {
+        node: None,
+        written,
+        children,
+    };
+    Ok((settle(&mut path, item), path))
 }
 
 /// The first task for an entry of the list, which this reference names, and an empty path. It takes no memory.

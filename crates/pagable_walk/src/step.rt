@@ -1,19 +1,18 @@
 //! A worker's step: what is to be done next is done, and with its answer the worker ends. And its walk, from its first task to its answer.
 
 ghost use Rattle.std.specs.Prelude.{◌≡◌, ◌∷◌, ◌<◌, ◌≤◌, ◌+◌, ◌*◌};
-ghost use Rattle.{pagable_world.specs.{Access.Told, World.to_start}, pagable_loads.specs.{Telling.values_at, Working.as_caller}};
-ghost use Rattle.pagable_walk.specs.{Due.{LeadsOn, IfGoes, due, far}, Table.shelf_of, Tasks.{IsWay, todo_of, todos, Awaits}, Turns.{Closes, TurnsTo, StepsTo, acting_then, plan}, Walking.RunsTo};
-ghost use Rattle.pagable_walk.specs.declared.tasks.Task.{Task};
+ghost use Rattle.{pagable_world.specs.Access.Told, pagable_loads.specs.{Telling.values_at, Working.as_caller}};
+ghost use Rattle.pagable_walk.specs.{Due.{LeadsOn, IfGoes, due, far}, Table.shelf_of, Tasks.{IsWay, todo_of, todos}, Turns.{Closes, TurnsTo, StepsTo, acting_then, plan}, Walking.RunsTo};
 
-use crate::SlotTable;
-use crate::ending::{end, finish, finish_item, publish, release, set_key};
-use crate::stack::refuse;
+use crate::ending::{end, finish, publish, release, set_key};
+use crate::stack::fail;
 use crate::tasks::{Moved, Task, Turn, Waiting, named};
 use crate::turns::{load, pin, start, write};
+use crate::{PageOutError, SlotTable};
 use pagable_codec::{Env, NodeSet};
 use pagable_core::SerializedData;
 use pagable_loads::WorkerAccess;
-use pagable_model::{ArcRef, Error, WorkerNumber};
+use pagable_model::{Error, WorkerNumber};
 use pagable_world::{Claim, Took, WorkerAnswer};
 use std::alloc::Global;
 use std::sync::Arc;
@@ -45,8 +44,7 @@ where
         Task::Write(reference, place, through, pin) => {
             write(access, alloc, table, path, reference, place, through, pin)
         }
-        Task::Finish(node) => finish(access, alloc, path, node),
-        Task::Item(item) => finish_item(access, alloc, path, item),
+        Task::Finish(waiting) => finish(access, alloc, path, waiting),
         Task::SetKey(done, through) => set_key(access, path, done, through),
         Task::Publish(done) => publish(access, table, done),
         Task::Release(done) => release(access, worker, path, done),
@@ -103,43 +101,7 @@ fn left_after(left: u64, took: &Took<Arc<SerializedData>>) -> u64
     }
 }
 
-// Claims what a reference names, if a claim is left. Where none is, it is refused as one for which memory is wanting.
-fn start_within<E: Env, A: WorkerAccess<E>>(
-    access: &mut A,
-    alloc: Global,
-    table: &mut SlotTable<E>,
-    worker: WorkerNumber,
-    path: &mut Vec<Waiting<E>>,
-    left: &mut u64,
-    reference: ArcRef,
-    place: u64,
-) -> Moved<E>
-where
-    E::Node: NodeSet<E>,
-    requires { Awaits (todos path.old.items) reference place }
-    ensures way { IsWay (plan result.turn path.new.items) }
-    ensures falls { IfGoes result.turn (left.new * far + due (plan result.turn path.new.items) < left.old * far + due (to_start reference place ∷ todos path.old.items)) }
-    ensures step { Told (A.told access.old) (A.told access.new) (StepsTo (values_at E.Node.NodeSet E.Env E.Hash.KeyHash (A.acting access.old).environment) (A.acting access.old).me worker.0 (shelf_of table.old) (Task.Start reference place) (todos path.old.items) (shelf_of table.new) result (plan result.turn path.new.items)) }
-    ensures acting { A.acting access.new ≡ acting_then result.turn (A.acting access.old) }
-    ensures lender { A.lender access.new ≡ A.lender access.old }
-{
-    if *left == 0 {
-        table.stop_waiting(worker);
-        return Moved {
-            took: Took::Claim(named(reference), Err(Error::OutOfMemory)),
-            turn: Turn::Goes(refuse(path, &Error::OutOfMemory, Some(reference.handle))),
-            counted: true,
-        };
-    }
-    // (by its count the path is known to be no longer than numbers go)
-    let _entries = path.len();
-    let start = Task::Start(reference, place);
-    let moved = step(access, alloc, table, worker, path, start);
-    *left = left_after(*left, &moved.took);
-    moved
-}
-
-// A step of a walk to which so many claims are left.
+// A step of a walk to which so many claims are left. Where none is, a claim is refused as one for which memory is wanting.
 fn step_within<E: Env, A: WorkerAccess<E>>(
     access: &mut A,
     alloc: Global,
@@ -160,7 +122,24 @@ where
 {
     match task {
         Task::Start(reference, place) => {
-            start_within(access, alloc, table, worker, path, left, reference, place)
+            if *left == 0 {
+                table.stop_waiting(worker);
+                return Moved {
+                    took: Took::Claim(named(reference), Err(Error::OutOfMemory)),
+                    turn: Turn::Goes(fail(
+                        path,
+                        PageOutError::Failed(Error::OutOfMemory),
+                        Some(reference.handle),
+                    )),
+                    counted: true,
+                };
+            }
+            // (by its count the path is known to be no longer than numbers go)
+            let _entries = path.len();
+            let start = Task::Start(reference, place);
+            let moved = step(access, alloc, table, worker, path, start);
+            *left = left_after(*left, &moved.took);
+            moved
         }
         other => step(access, alloc, table, worker, path, other),
     }

@@ -1,8 +1,8 @@
 //! What a page-out worker has still to do: the task at hand, and the path of what waits below it.
 
-ghost use Rattle.std.specs.{Arc.arc_value, Prelude.{◌≡◌, ◌≤◌, ◌+◌, length, map, take, vec_capacity}};
+ghost use Rattle.std.specs.{Arc.arc_value, Prelude.{◌≡◌, ◌≤◌, ◌+◌, Some, length, map, take, vec_capacity}};
 ghost use Rattle.{pagable_world.specs.{Kinds.identity_of, Plain.longest_path}, pagable_walk.specs.Found.ids_of};
-ghost use Rattle.pagable_walk.specs.Slots.{written_of};
+ghost use Rattle.pagable_walk.specs.{Slots.written_of, declared.tasks.Node.Node as OfNode};
 
 use crate::{PageOutError, SlotResult, Trees};
 use pagable_core::SerializedData;
@@ -11,27 +11,23 @@ use pagable_model::{ArcRef, DataKey, HandleNumber, Identity};
 use pagable_world::{Took, WorkerAnswer};
 use std::sync::Arc;
 
-/// A node that was written and whose references are walked: the reference by which it was claimed, its place on the path, the worker's handle of the
-/// reference's mode, and what was written; and of the references done so far their results, and the height by them. There are places for all results.
-#[derive(Drop)]
-pub struct Open<E: Trees> {
+/// A written node: the reference by which it was claimed, its place on the path, the worker's handle of the reference's mode, and the height by those of its references that are done.
+#[derive(Clone, Copy)]
+pub struct Node {
     pub reference: ArcRef,
     pub place: u64,
     pub through: HandleNumber,
-    pub written: Arc<SerializedData>,
-    pub children: Vec<SlotResult<E>>,
     pub height: u64,
-    pub ghost near: { place + height ≤ longest_path },
-    pub ghost places: { length (written_of (arc_value written)).references ≤ vec_capacity children },
-    pub ghost form: { ∥ E.has_form (identity_of reference) (written_of (arc_value written)) ∥₁ },
-    pub ghost each: { ids_of children.items ≡ map identity_of (take (length children.items) (written_of (arc_value written)).references) },
 }
 
-/// An item whose references are walked, with the results of those done so far. There are places for all results.
+/// What was written and waits for its references: a node, or else the item. Of the references done so far there are the results, and places for all others.
 #[derive(Drop)]
-pub struct Item<E: Trees> {
+pub struct Waiting<E: Trees> {
+    pub node: Option<Node>,
     pub written: Arc<SerializedData>,
     pub children: Vec<SlotResult<E>>,
+    pub ghost near: { (n : OfNode) → node ≡ Some n → n.place + n.height ≤ longest_path },
+    pub ghost form: { (n : OfNode) → node ≡ Some n → ∥ E.has_form (identity_of n.reference) (written_of (arc_value written)) ∥₁ },
     pub ghost places: { length (written_of (arc_value written)).references ≤ vec_capacity children },
     pub ghost each: { ids_of children.items ≡ map identity_of (take (length children.items) (written_of (arc_value written)).references) },
 }
@@ -53,15 +49,6 @@ impl<E: Trees> Done<E> {
     }
 }
 
-/// What waits for one of its references.
-#[derive(Drop)]
-pub enum Waiting<E: Trees> {
-    /// A written node.
-    Node(Open<E>),
-    /// The item.
-    Item(Item<E>),
-}
-
 /// What is to be done next.
 #[derive(Drop)]
 pub enum Task<E: Trees> {
@@ -74,9 +61,7 @@ pub enum Task<E: Trees> {
     /// Writes the value: the first handle has the reference's mode, the second pins it.
     Write(ArcRef, u64, HandleNumber, HandleNumber),
     /// Stores its blob, once its references are done.
-    Finish(Open<E>),
-    /// Stores the item's blob, once its references are done.
-    Item(Item<E>),
+    Finish(Waiting<E>),
     /// Sets its key through this handle.
     SetKey(Done<E>, HandleNumber),
     /// Puts its result where others see it.

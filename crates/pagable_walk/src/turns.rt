@@ -2,13 +2,13 @@
 
 ghost use Rattle.std.specs.{Prelude.{◌≡◌, ◌≤◌, ◌+◌, ◌*◌, ◌∷◌, ℕ, List, length, ◌<◌, IfOk, IfErr, OnOk, vec_len, vec_capacity}, Arc.arc_value};
 ghost use Rattle.pagable_world.specs.{Access.Told, Plain.longest_path};
-ghost use Rattle.pagable_world.specs.{Plain.type_of, Workers.{claim_fault, is_counted_claim, Claims}, World.{Core, Shelf, Todo, to_start, to_pin, to_load, seen_as, to_write}, Kinds.identity_of};
+ghost use Rattle.pagable_world.specs.{Plain.type_of, Workers.{claim_fault, is_counted_claim, Claims}, World.{Core, Shelf, Todo, to_start, to_pin, to_load, seen_as, to_write, to_finish}, Kinds.identity_of};
 ghost use Rattle.{pagable_loads.specs.{Frames.reading_of, Telling.{Tells, values_at}, Working.fault_in}, pagable_walk.specs.{Due.{due, most, LeadsOn}, Table.{shelf_of, found_as}, Tasks.Awaits}};
-ghost use Rattle.pagable_walk.specs.{Tasks.{IsWay, todo_of, todos, open_of}, Turns.{site, claim_todo, ClaimFits, ClaimLeaves, TurnsTo, plan}, Results.HasFormOf, Slots.written_of, Writing.IsForm};
+ghost use Rattle.pagable_walk.specs.{Tasks.{IsWay, todo_of, todos, waiting_todo}, Turns.{site, claim_todo, ClaimFits, ClaimLeaves, TurnsTo, plan}, Results.HasFormOf, Slots.written_of, Writing.IsForm};
 ghost use Rattle.pagable_walk.specs.Writing.{WriteRefused, Finds, Forms, just_open};
 
-use crate::stack::{fail, give_known, refuse, settle_open};
-use crate::tasks::{Done, Moved, Open, Task, Turn, Waiting, named};
+use crate::stack::{fail, give_known, settle};
+use crate::tasks::{Done, Moved, Node, Task, Turn, Waiting, named};
 use crate::{Found, PageOutError, SlotTable, Trees};
 use pagable_codec::{Env, NodeSet, SessionContext};
 use pagable_core::{SerializedData, SerializerForPaging};
@@ -83,7 +83,7 @@ fn after_claim<E: Trees>(
         Ok(Found::Known(found)) => give_known(path, Done { reference, found }),
         Ok(Found::Waiting) => Task::Start(reference, place),
         Ok(Found::AlreadyFailed) => fail(path, PageOutError::AlreadyFailed, Some(reference.handle)),
-        Err(e) => refuse(path, &e, Some(reference.handle)),
+        Err(e) => fail(path, PageOutError::Failed(e), Some(reference.handle)),
     }
 }
 
@@ -136,7 +136,7 @@ where
         Ok(taken) => taken,
         Err(e) => {
             return Moved {
-                turn: Turn::Goes(refuse(path, &e, Some(reference.handle))),
+                turn: Turn::Goes(fail(path, PageOutError::Failed(e), Some(reference.handle))),
                 took: Took::Pin(identity, Err(e)),
                 counted: true,
             };
@@ -192,13 +192,17 @@ where
             counted: false,
         },
         Some(LoadAnswer::Refused(e)) => Moved {
-            turn: Turn::Goes(refuse(path, &e, Some(reference.handle))),
+            turn: Turn::Goes(fail(path, PageOutError::Failed(e), Some(reference.handle))),
             took: Took::Pin(identity, Err(e)),
             counted: false,
         },
         Some(LoadAnswer::Read(_value)) => Moved {
             took: Took::Pin(identity, Err(Error::WrongMode)),
-            turn: Turn::Goes(refuse(path, &Error::WrongMode, Some(reference.handle))),
+            turn: Turn::Goes(fail(
+                path,
+                PageOutError::Failed(Error::WrongMode),
+                Some(reference.handle),
+            )),
             counted: false,
         },
     }
@@ -270,10 +274,10 @@ fn kept<E: Trees>(
     place: u64,
     through: HandleNumber,
     once: SerializedData,
-) -> Result<(Open<E>, Arc<SerializedData>, Arc<SerializedData>), Error>
+) -> Result<(Waiting<E>, Arc<SerializedData>, Arc<SerializedData>), Error>
     requires near { place ≤ longest_path }
     requires form { ∥ E.has_form (identity_of reference) (written_of once) ∥₁ }
-    ensures open { IfOk result (λ p. open_of p.0 ≡ just_open reference place through (written_of once)) }
+    ensures open { IfOk result (λ p. waiting_todo p.0 ≡ to_finish (just_open reference place through (written_of once))) }
     ensures shared { IfOk result (λ p. arc_value p.1 ≡ arc_value p.2) }
     ensures told { IfOk result (λ p. written_of (arc_value p.2) ≡ written_of once) }
     ensures only { IfErr result (λ e. e ≡ Error.OutOfMemory) }
@@ -284,15 +288,18 @@ fn kept<E: Trees>(
     };
     let shared = Arc::try_clone(&written)?;
     let told = Arc::try_clone(&written)?;
-    let node = Open {
+    let node = Some(Node {
         reference,
         place,
         through,
+        height: 0,
+    });
+    let waiting = Waiting {
+        node,
         written,
         children,
-        height: 0,
     };
-    Ok((node, shared, told))
+    Ok((waiting, shared, told))
 }
 
 // The written node with what was written of it, twice, for a path that has room for it then.
@@ -304,13 +311,13 @@ fn prepare<E: Env, A: WorkerAccess<E>>(
     place: u64,
     through: HandleNumber,
     pin: HandleNumber,
-) -> Result<(Open<E>, Arc<SerializedData>, Arc<SerializedData>), Error>
+) -> Result<(Waiting<E>, Arc<SerializedData>, Arc<SerializedData>), Error>
 where
     E::Node: NodeSet<E>,
     requires near { place ≤ longest_path }
     ensures path { path.new.items ≡ path.old.items }
     ensures room { OnOk result (vec_len path.new < vec_capacity path.new) }
-    ensures open { IfOk result (λ p. open_of p.0 ≡ just_open reference place through (written_of (arc_value p.2))) }
+    ensures open { IfOk result (λ p. waiting_todo p.0 ≡ to_finish (just_open reference place through (written_of (arc_value p.2)))) }
     ensures shared { IfOk result (λ p. arc_value p.1 ≡ arc_value p.2) }
     ensures step { Tells (A.told access.now) (λ s. Forms (values_at E.Node.NodeSet E.Env E.Hash.KeyHash (A.acting access.now).environment) s reference pin (seen_as (λ p. written_of (arc_value p.2)) result)) }
 {
@@ -344,16 +351,16 @@ where
 {
     let identity = named(reference);
     match prepare(access, alloc, path, reference, place, through, pin) {
-        Ok((node, shared, told)) => {
+        Ok((waiting, shared, told)) => {
             table.set_written(identity, shared);
             Moved {
                 took: Took::Write(identity, Ok(told)),
-                turn: Turn::Goes(settle_open(path, node)),
+                turn: Turn::Goes(settle(path, waiting)),
                 counted: true,
             }
         }
         Err(e) => Moved {
-            turn: Turn::Goes(refuse(path, &e, None)),
+            turn: Turn::Goes(fail(path, PageOutError::Failed(e), None)),
             took: Took::Write(identity, Err(e)),
             counted: true,
         },

@@ -1,30 +1,22 @@
-use Rattle.{std.proofs.Common.{ap, ◌∙◌, rules, subst, sym, length, arith}, pagable_loads.proofs.Stepped.told_map, pagable_walk.specs.Tasks.{todos, AwaitsLow, IsWay, waiting_todo}}
-use Rattle.{pagable_walk.proofs.{Closing.{release-ends, release-gives}, Stacks.{todos-more, todos-none}, Ways.give-way}, pagable_world.specs.Workers.give}
+use Rattle.{std.proofs.Common.{ap, ◌∙◌, subst, sym, arith}, pagable_loads.proofs.Stepped.told_map, pagable_world.specs.Workers.give}
+use Rattle.pagable_walk.{specs.Tasks.{todos, IsWay}, proofs.{Closing.{release-ends, release-gives}, Ways.give-way}}
 use Rattle.pagable_walk.proofs.ending.release.Goals as goal
 
-pub give-requires-clause-way : goal.give-requires-clause-way
-give-requires-clause-way g c =
+pub returns-in-Ok-clause-way : goal.returns-in-Ok-clause-way
+returns-in-Ok-clause-way g c =
     let d = c.args.done in
-    let e = ap todos c.in-Some.ensures.items ∙ todos-more c.pop.new.self.items c.in-Some.waiting in
-    subst (λ ts. AwaitsLow ts d.reference d.found.height) e c.requires
+    let gives = c.in-Ok.ensures.gives in
+    subst IsWay (ap (give d.reference d.found.key d.found.height) gives.was ∙ sym gives.is) (give-way (todos c.args.path.now.items) d.reference d.found.key d.found.height c.requires)
 
-pub returns-in_default-clause-step : goal.returns-in_default-clause-step
-returns-in_default-clause-step g c shelf =
+pub returns-in-Ok-clause-leads : goal.returns-in-Ok-clause-leads
+returns-in-Ok-clause-leads g c = let less = c.in-Ok.ensures.less in omega (arith, less)
+
+pub returns-in-Ok-clause-step : goal.returns-in-Ok-clause-step
+returns-in-Ok-clause-step g c shelf =
     let call = rw c.named-identity.ensures at c.give_up.ensures.step in
-    rw (c.named-identity.ensures, c.key.ensures) (told_map (release-ends _ _ c.args.worker.0 shelf c.args.done (todos c.args.path.now.items) (todos-none c.args.path.now.items (search rules))) call)
+    rw c.named-identity.ensures (told_map (release-gives _ _ c.args.worker.0 shelf c.args.done (todos c.args.path.now.items) c.in-Ok.task _ c.in-Ok.ensures.gives c.in-Ok.ensures.plain) call)
 
-pub returns-clause-way : goal.returns-clause-way
-returns-clause-way g c =
-    let d = c.args.done in
-    let e = ap todos c.in-Some.ensures.items ∙ todos-more c.pop.new.self.items c.in-Some.waiting in
-    let way = subst (λ ts. IsWay (give d.reference d.found.key d.found.height ts)) e (give-way (todos c.args.path.now.items) d.reference d.found.key d.found.height c.requires) in
-    subst IsWay (sym c.give.ensures.todo) way
-
-pub returns-clause-step : goal.returns-clause-step
-returns-clause-step g c shelf =
-    let e = ap todos c.in-Some.ensures.items ∙ todos-more c.pop.new.self.items c.in-Some.waiting in
+pub returns-in-Err-clause-step : goal.returns-in-Err-clause-step
+returns-in-Err-clause-step g c shelf =
     let call = rw c.named-identity.ensures at c.give_up.ensures.step in
-    rw c.named-identity.ensures (told_map (release-gives _ _ c.args.worker.0 shelf c.args.done (todos c.args.path.now.items) (waiting_todo c.in-Some.waiting) (todos c.pop.new.self.items) c.give.result _ e c.give.ensures.plain c.give.ensures.todo) call)
-
-pub returns-clause-leads : goal.returns-clause-leads
-returns-clause-leads g c = let e = ap length (ap todos c.in-Some.ensures.items ∙ todos-more c.pop.new.self.items c.in-Some.waiting) in let less = c.give.ensures.less in omega (arith, e, less)
+    rw (c.named-identity.ensures, c.key.ensures, c.in-Err.ensures.back) (told_map (release-ends _ _ c.args.worker.0 shelf c.args.done (todos c.args.path.now.items) c.in-Err.ensures.none.0) call)

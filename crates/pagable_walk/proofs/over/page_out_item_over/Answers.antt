@@ -1,9 +1,9 @@
-use Rattle.{std.{proofs.Common.{refl, ap, ◌∙◌}, specs.Arc.arc_value}, pagable_loads.{specs.Working.as_caller, proofs.Stepped.{told_map, told_then}}, pagable_walk.specs.Slots.written_of}
-use Rattle.pagable_walk.{specs.{Table.shelf_of, Tasks.todos}, proofs.{Pages.{item-unstarted, item-unbegun, item-walked, is-caller}, Telling.told-all}}
+use Rattle.{std.{proofs.Common.{refl, ap, ◌∙◌}, specs.Arc.arc_value}, pagable_loads.{specs.Working.as_caller, proofs.Stepped.{told_map, told_then, told_all}}}
+use Rattle.pagable_walk.{specs.{Slots.written_of, Table.shelf_of, Tasks.todos}, proofs.Pages.{item-unstarted, item-unbegun, item-walked, is-caller}}
 use Rattle.pagable_walk.proofs.over.page_out_item_over.Goals as goal
 
 pub returns-in-Err-clause-over : goal.returns-in-Err-clause-over
-returns-in-Err-clause-over g c = told-all (item-unstarted _ (shelf_of c.args.table.now) (written_of (arc_value c.args.item)) c.in-Err.e c.in-Err.ensures.only)
+returns-in-Err-clause-over g c = told_all (item-unstarted _ (shelf_of c.args.table.now) (written_of (arc_value c.args.item)) c.in-Err.e c.in-Err.ensures.only)
 
 pub returns-in-Ok-worker_begin-clause-over : goal.returns-in-Ok-worker_begin-clause-over
 returns-in-Ok-worker_begin-clause-over g c =

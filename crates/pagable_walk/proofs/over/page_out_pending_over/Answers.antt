@@ -1,9 +1,9 @@
-use Rattle.{std.proofs.Common.{◌≡◌, ◌+◌, ◌-◌, refl, ◌∙◌, arith}, pagable_loads.proofs.Stepped.{told_map, told_then}, pagable_walk.proofs.Pages.{all-paged, ends-paged, more-paged, none-paged}}
-use Rattle.pagable_walk.proofs.Telling.{tells-map, told-same}
+use Rattle.{std.proofs.Common.{◌≡◌, ◌+◌, ◌-◌, refl, ◌∙◌, arith}, pagable_loads.proofs.Stepped.{told_map, told_then, tells_map, told_same}}
+use Rattle.pagable_walk.proofs.Pages.{all-paged, ends-paged, more-paged, none-paged}
 use Rattle.pagable_walk.proofs.over.page_out_pending_over.Goals as goal
 
 pub loop-left-init : goal.loop-left-init
-loop-left-init g c = record { acting = refl; lender = refl; paged = told-same (tells-map (none-paged _ c.pending-left.result) c.pending-left.ensures) }
+loop-left-init g c = record { acting = refl; lender = refl; paged = told_same (tells_map (none-paged _ c.pending-left.result) c.pending-left.ensures) }
 
 pub loop-left-preserved : goal.loop-left-preserved
 loop-left-preserved g c =

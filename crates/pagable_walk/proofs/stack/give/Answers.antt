@@ -1,36 +1,31 @@
-use Rattle.{std.{proofs.{Common.{◌≡◌, ◌∷◌, ap, ◌∙◌, subst, sym}, lemmas.List.length-map}, specs.{Arc.arc_value, Prelude.{Some, slice_get}}}, pagable_world.specs.Workers.{give, settle}}
-use Rattle.{pagable_world.specs.World.to_finish, pagable_walk.{specs.{Found.keys_of, Slots.written_of, Tasks.{AwaitsLow, open_of, todos, waiting_todo}}, proofs.Ways.{node-awaits, item-awaits}}}
+use Rattle.{std.{proofs.Common.{◌∷◌, length, rules, ap, ◌∙◌, subst, sym, arith}, specs.Arc.arc_value}, pagable_world.specs.Workers.settle, pagable_walk.specs.{Found.keys_of, Slots.written_of}}
+use Rattle.pagable_walk.{specs.Tasks.{AwaitsLow, todos, waiting_todo}, proofs.{Stacks.{give-is, todos-more, todos-none}, Ways.takes-next}}
 use Rattle.pagable_walk.proofs.stack.give.Goals as goal
 
-pub with_result-node-requires : goal.with_result-node-requires
-with_result-node-requires g c =
-    let node = c.in-Node.node in
+pub with_result-requires : goal.with_result-requires
+with_result-requires g c =
+    let w = c.in-Some.waiting in
     let d = c.args.done in
-    let below = todos c.args.path.now.items in
-    let up = subst (λ w. AwaitsLow (waiting_todo w ∷ below) d.reference d.found.height) c.in-Node.is c.requires.way in
-    let a = node-awaits (open_of node) below d.reference d.found.height up in
+    let e = ap todos c.in-Some.ensures.items ∙ todos-more c.pop.new.self.items w in
+    takes-next w.node (written_of (arc_value w.written)) (keys_of w.children.items) (todos c.pop.new.self.items) d.reference d.found.height (subst (λ ts. AwaitsLow ts d.reference d.found.height) e c.requires)
+
+pub returns-in_default-clause-none : goal.returns-in_default-clause-none
+returns-in_default-clause-none g c = (todos-none c.args.path.now.items (search rules), todos-none c.pop.new.self.items (search rules))
+
+pub returns-clause-gives : goal.returns-clause-gives
+returns-clause-gives g c =
+    let w = c.in-Some.waiting in
+    let d = c.args.done in
+    let rest = todos c.pop.new.self.items in
     record {
-      next = subst (λ n. slice_get (arc_value node.written).arcs.items n ≡ Some d.reference) (length-map node.children.items (λ r. r.key)) a.0;
-      near = a.1;
+      x = waiting_todo w;
+      rest = rest;
+      was = ap todos c.in-Some.ensures.items ∙ todos-more c.pop.new.self.items w;
+      is = c.settle.ensures.todo ∙ ap (λ t. settle (t ∷ rest)) c.with_result.ensures ∙ sym (give-is w.node (written_of (arc_value w.written)) (keys_of w.children.items) rest d.reference d.found.key d.found.height);
     }
 
-pub returns-in-Node-clause-todo : goal.returns-in-Node-clause-todo
-returns-in-Node-clause-todo g c =
-    let d = c.args.done in
-    let below = todos c.args.path.now.items in
-    c.settle_open.ensures.todo ∙ ap (λ o. settle (to_finish o ∷ below)) c.with_result-node.ensures ∙ ap (λ w. give d.reference d.found.key d.found.height (waiting_todo w ∷ below)) (sym c.in-Node.is)
-
-pub item_with_result-item-requires : goal.item_with_result-item-requires
-item_with_result-item-requires g c =
-    let item = c.in-Item.item in
-    let d = c.args.done in
-    let below = todos c.args.path.now.items in
-    let up = subst (λ w. AwaitsLow (waiting_todo w ∷ below) d.reference d.found.height) c.in-Item.is c.requires.way in
-    let a = item-awaits (written_of (arc_value item.written)) (keys_of item.children.items) below d.reference d.found.height up in
-    subst (λ n. slice_get (arc_value item.written).arcs.items n ≡ Some d.reference) (length-map item.children.items (λ r. r.key)) a.0
-
-pub returns-in-Item-clause-todo : goal.returns-in-Item-clause-todo
-returns-in-Item-clause-todo g c =
-    let d = c.args.done in
-    let below = todos c.args.path.now.items in
-    c.settle_item.ensures.todo ∙ ap (λ t. settle (t ∷ below)) c.item_with_result-item.ensures ∙ ap (λ w. give d.reference d.found.key d.found.height (waiting_todo w ∷ below)) (sym c.in-Item.is)
+pub returns-clause-less : goal.returns-clause-less
+returns-clause-less g c =
+    let e = ap length (ap todos c.in-Some.ensures.items ∙ todos-more c.pop.new.self.items c.in-Some.waiting) in
+    let less = c.settle.ensures.less in
+    omega (arith, e, less)

@@ -1,10 +1,10 @@
-use Rattle.{std.proofs.Common.{refl, ap, ◌∙◌}, pagable_loads.{specs.Working.as_caller, proofs.Stepped.told_then}, pagable_walk.specs.{Table.shelf_of, Tasks.todos, Turns.{acting_then, plan}}}
-use Rattle.pagable_walk.proofs.{Joined.{none-walked, goes-walked, ends-walked}, Telling.told-all}
+use Rattle.{std.proofs.Common.{refl, ap, ◌∙◌}, pagable_loads.{specs.Working.as_caller, proofs.Stepped.{told_then, told_all}}}
+use Rattle.pagable_walk.{specs.{Table.shelf_of, Tasks.todos, Turns.{acting_then, plan}}, proofs.Joined.{none-walked, goes-walked, ends-walked}}
 use Rattle.pagable_walk.proofs.step.run.Goals as goal
 
 pub loop-next-init : goal.loop-next-init
 loop-next-init g c =
-    record { way = c.requires; acting = refl; lender = refl; walked = told-all (none-walked _ _ c.args.worker.0 (shelf_of c.args.table.now) c.args.first (todos c.args.path.now.items)) }
+    record { way = c.requires; acting = refl; lender = refl; walked = told_all (none-walked _ _ c.args.worker.0 (shelf_of c.args.table.now) c.args.first (todos c.args.path.now.items)) }
 
 pub loop-next-preserved : goal.loop-next-preserved
 loop-next-preserved g c =

@@ -1,4 +1,4 @@
-use Rattle.{std.proofs.Common.{refl, sym, ap, ◌∙◌}, pagable_walk.{specs.{Slots.{shelf_in, slots_in, open_worker}, Table.shelf_of}, proofs.{Ends.less-open, Failing.failure-less, Held.from-own}}}
+use Rattle.{std.proofs.Common.{refl, sym, ap, ◌∙◌}, pagable_walk.{specs.{Slots.{shelf_in, slots_in, open_worker}, Table.shelf_of}, proofs.{Ends.less-open, Failing.failure-less}}}
 use Rattle.pagable_walk.proofs.table.SlotTable.fail.Goals as goal
 
 pub invariant_of-self : goal.invariant_of-self
@@ -6,6 +6,6 @@ invariant_of-self g c =
     let old = c.args.self.now in
     let new = c.fail_all.new.slots in
     record {
-      own = from-own new c.fail_all.ensures.own;
+      own = c.fail_all.ensures.own;
       ends = less-open (shelf_of old) (shelf_in new old.waits) (λ j w e. failure-less c.args.worker.0 (slots_in old.slots j) w (sym (ap open_worker (c.fail_all.ensures.slots j)) ∙ e)) (λ v. refl) old.ends;
     }
