@@ -6,7 +6,7 @@ ghost use Rattle.{pagable_model.specs.Blob.key_of, pagable_world.specs.{Access.T
 ghost use Rattle.{pagable_loads.specs.Telling.{Tells, values_at}, pagable_walk.specs.{Tasks.{AwaitsLow, IsWay, fault_of, todos, waiting_todo}, Due.LeadsOn}};
 ghost use Rattle.pagable_walk.specs.{Ending.{Stores, IsStored, named_by, GoesBack}, Found.{keys_of, ids_of}, Slots.written_of, Table.shelf_of, Turns.{TurnsTo, plan}, Results.HasFormOf};
 
-use crate::stack::{fail, give};
+use crate::stack::{fail, give, refuse};
 use crate::tasks::{Done, Moved, Node, Task, Turn, Waiting, named};
 use crate::{PageOutError, SlotResult, SlotTable, Trees};
 use pagable_codec::{Env, NodeSet};
@@ -110,7 +110,7 @@ where
             counted: true,
         },
         Err(e) => Moved {
-            turn: Turn::Goes(fail(path, PageOutError::Failed(e), None)),
+            turn: Turn::Goes(refuse(path, &e, None)),
             took: Took::Store(identity, Err(e)),
             counted: true,
         },
@@ -141,7 +141,7 @@ where
             counted: true,
         },
         Err(e) => Moved {
-            turn: Turn::Goes(fail(path, PageOutError::Failed(e), None)),
+            turn: Turn::Goes(refuse(path, &e, None)),
             took: Took::SetKey(identity, Err(e)),
             counted: true,
         },

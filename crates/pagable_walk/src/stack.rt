@@ -2,12 +2,12 @@
 
 ghost use Rattle.std.specs.{Prelude.{◌≡◌, ◌≤◌, ◌<◌, ◌+◌, ◌*◌, ◌∷◌, ◌++◌, [], IfOk, IfErr, OnErr, max, length, vec_len, vec_capacity}, Arc.arc_value};
 ghost use Rattle.pagable_world.specs.Plain.{above, longest_path};
-ghost use Rattle.{pagable_world.specs.Workers.{place_below, settle, give_known}, pagable_walk.specs.Tasks.{AwaitsLow, Gives, IsPlain, TakesNext, fault_of, place_of, raised}};
+ghost use Rattle.{pagable_world.specs.{Workers.{place_below, settle, give_known}, World.was_refused}, pagable_walk.specs.Tasks.{AwaitsLow, Gives, IsPlain, TakesNext, fault_of, place_of, raised}};
 ghost use Rattle.pagable_walk.specs.{Tasks.{todo_of, todos, waiting_todo, waits_as}, Due.due, Failing.{back_of, fails}, Found.keys_of, Slots.written_of};
 
 use crate::tasks::{Done, Node, Task, Waiting};
 use crate::{PageOutError, Trees};
-use pagable_model::{HandleNumber, Kind};
+use pagable_model::{Error, HandleNumber, Kind};
 
 /// The place of a reference of this kind on the path below a node at this place. A path ends at a reference through a loose handle.
 pub fn place_below(place: u64, kind: Kind) -> u64
@@ -132,4 +132,18 @@ pub fn fail<E: Trees>(
     }
     path.clear();
     Task::Fail(why, None)
+}
+
+/// The walk fails by a step of its own that was refused.
+pub fn refuse<E: Trees>(
+    path: &mut Vec<Waiting<E>>,
+    e: &Error,
+    entry: Option<HandleNumber>,
+) -> Task<E>
+    ensures todo { todo_of result ∷ todos path.new.items ≡ fails (was_refused e.now) (back_of entry (todos path.old.items)) }
+    ensures plain { IsPlain result }
+    ensures less { due (todo_of result ∷ todos path.new.items) ≡ 1 }
+    ensures none { todos path.new.items ≡ [] }
+{
+    fail(path, PageOutError::Failed(*e), entry)
 }

@@ -7,7 +7,7 @@ ghost use Rattle.{pagable_loads.specs.{Frames.reading_of, Telling.{Tells, values
 ghost use Rattle.pagable_walk.specs.{Tasks.{IsWay, todo_of, todos, waiting_todo}, Turns.{site, claim_todo, ClaimFits, ClaimLeaves, TurnsTo, plan}, Results.HasFormOf, Slots.written_of, Writing.IsForm};
 ghost use Rattle.pagable_walk.specs.Writing.{WriteRefused, Finds, Forms, just_open};
 
-use crate::stack::{fail, give_known, settle};
+use crate::stack::{fail, give_known, refuse, settle};
 use crate::tasks::{Done, Moved, Node, Task, Turn, Waiting, named};
 use crate::{Found, PageOutError, SlotTable, Trees};
 use pagable_codec::{Env, NodeSet, SessionContext};
@@ -83,7 +83,7 @@ fn after_claim<E: Trees>(
         Ok(Found::Known(found)) => give_known(path, Done { reference, found }),
         Ok(Found::Waiting) => Task::Start(reference, place),
         Ok(Found::AlreadyFailed) => fail(path, PageOutError::AlreadyFailed, Some(reference.handle)),
-        Err(e) => fail(path, PageOutError::Failed(e), Some(reference.handle)),
+        Err(e) => refuse(path, &e, Some(reference.handle)),
     }
 }
 
@@ -136,7 +136,7 @@ where
         Ok(taken) => taken,
         Err(e) => {
             return Moved {
-                turn: Turn::Goes(fail(path, PageOutError::Failed(e), Some(reference.handle))),
+                turn: Turn::Goes(refuse(path, &e, Some(reference.handle))),
                 took: Took::Pin(identity, Err(e)),
                 counted: true,
             };
@@ -192,7 +192,7 @@ where
             counted: false,
         },
         Some(LoadAnswer::Refused(e)) => Moved {
-            turn: Turn::Goes(fail(path, PageOutError::Failed(e), Some(reference.handle))),
+            turn: Turn::Goes(refuse(path, &e, Some(reference.handle))),
             took: Took::Pin(identity, Err(e)),
             counted: false,
         },
@@ -360,7 +360,7 @@ where
             }
         }
         Err(e) => Moved {
-            turn: Turn::Goes(fail(path, PageOutError::Failed(e), None)),
+            turn: Turn::Goes(refuse(path, &e, None)),
             took: Took::Write(identity, Err(e)),
             counted: true,
         },

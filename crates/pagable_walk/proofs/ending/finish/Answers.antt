@@ -23,7 +23,7 @@ returns-in-Ok-clause-leads g c =
 pub returns-in-Err-clause-leads : goal.returns-in-Err-clause-leads
 returns-in-Err-clause-leads g c =
     let w = c.args.waiting in
-    failed-leads w.node (written_of (arc_value w.written)) (keys_of w.children.items) (todos c.args.path.now.items) (todo_of c.fail.result ∷ todos c.fail.new.path.items) c.fail.result c.fail.ensures.less
+    failed-leads w.node (written_of (arc_value w.written)) (keys_of w.children.items) (todos c.args.path.now.items) (todo_of c.refuse.result ∷ todos c.refuse.new.path.items) c.refuse.result c.refuse.ensures.less
 
 pub returns-in-Ok-clause-step : goal.returns-in-Ok-clause-step
 returns-in-Ok-clause-step g c n shelf =
@@ -31,4 +31,4 @@ returns-in-Ok-clause-step g c n shelf =
 
 pub returns-in-Err-clause-step : goal.returns-in-Err-clause-step
 returns-in-Err-clause-step g c n shelf =
-    rw c.named_by-identity.ensures (told_map (finish-fails _ _ n shelf (todos c.args.path.now.items) c.args.waiting c.requires c.in-Err.e c.fail.result _ c.fail.ensures.plain c.fail.ensures.todo) (rw (c.as_ref.ensures, c.as_slice.ensures.value) at c.in-Err.ensures.step))
+    rw c.named_by-identity.ensures (told_map (finish-fails _ _ n shelf (todos c.args.path.now.items) c.args.waiting c.requires c.in-Err.e c.refuse.result _ c.refuse.ensures.plain c.refuse.ensures.todo) (rw (c.as_ref.ensures, c.as_slice.ensures.value) at c.in-Err.ensures.step))

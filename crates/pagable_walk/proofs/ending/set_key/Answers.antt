@@ -7,4 +7,4 @@ returns-in-Ok-clause-step g c n shelf =
 
 pub returns-in-Err-clause-step : goal.returns-in-Err-clause-step
 returns-in-Err-clause-step g c n shelf =
-    rw c.named-identity.ensures (told_map (set-fails _ _ n shelf (todos c.args.path.now.items) c.args.done c.args.through c.in-Err.e c.fail.result _ c.fail.ensures.plain c.fail.ensures.todo) (rw c.key.ensures at c.in-Err.ensures.step))
+    rw c.named-identity.ensures (told_map (set-fails _ _ n shelf (todos c.args.path.now.items) c.args.done c.args.through c.in-Err.e c.refuse.result _ c.refuse.ensures.plain c.refuse.ensures.todo) (rw c.key.ensures at c.in-Err.ensures.step))

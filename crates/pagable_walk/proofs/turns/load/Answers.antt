@@ -12,7 +12,7 @@ returns-in-Some-Pinned-clause-step g c n shelf =
 
 pub returns-in-Some-Refused-clause-step : goal.returns-in-Some-Refused-clause-step
 returns-in-Some-Refused-clause-step g c n shelf =
-    rw c.named-identity.ensures (told_map (load-fails _ _ n shelf c.args.reference c.args.place (todos c.args.path.now.items) c.args.through c.args.reading c.in-Some-Refused.e _ c.fail.result _ c.fail.ensures.plain c.fail.ensures.todo) (rw c.in-Some-Refused.field-0-is at c.in-Some-Refused.ensures.step))
+    rw c.named-identity.ensures (told_map (load-fails _ _ n shelf c.args.reference c.args.place (todos c.args.path.now.items) c.args.through c.args.reading c.in-Some-Refused.e _ c.refuse.result _ c.refuse.ensures.plain c.refuse.ensures.todo) (rw c.in-Some-Refused.field-0-is at c.in-Some-Refused.ensures.step))
 
 pub returns-clause-step : goal.returns-clause-step
 returns-clause-step g c n shelf =

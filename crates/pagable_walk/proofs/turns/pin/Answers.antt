@@ -13,7 +13,7 @@ returns-in-Begun-clause-step g c n shelf =
 
 pub returns-in-Err-clause-step : goal.returns-in-Err-clause-step
 returns-in-Err-clause-step g c n shelf =
-    rw c.named-identity.ensures (told_map (pin-fails _ _ n shelf c.args.reference c.args.place (todos c.args.path.now.items) c.in-Err.e c.fail.result _ c.fail.ensures.plain c.fail.ensures.todo) c.in-Err.ensures.step)
+    rw c.named-identity.ensures (told_map (pin-fails _ _ n shelf c.args.reference c.args.place (todos c.args.path.now.items) c.in-Err.e c.refuse.result _ c.refuse.ensures.plain c.refuse.ensures.todo) c.in-Err.ensures.step)
 
 pub returns-in-Begun-clause-leads : goal.returns-in-Begun-clause-leads
 returns-in-Begun-clause-leads g c = let e = ap (λ (x : Reading). to_do x.frames) c.new-reading.ensures.reading in omega (arith, e)

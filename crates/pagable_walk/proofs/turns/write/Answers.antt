@@ -23,8 +23,8 @@ returns-in-Ok-clause-step g c n =
 
 pub returns-in-Err-clause-step : goal.returns-in-Err-clause-step
 returns-in-Err-clause-step g c n =
-    let e = c.fail.ensures.todo ∙ ap (λ ps. fails (was_refused c.in-Err.e) (back_of None (todos ps))) c.in-Err.ensures.path in
-    rw c.named-identity.ensures (tells_map (λ s forms. write-fails _ _ n (shelf_of c.args.table.now) (shelf_of c.args.table.now) c.args.reference c.args.place c.args.through c.args.pin (todos c.args.path.now.items) _ c.fail.result c.fail.ensures.plain s c.in-Err.e forms (same-shelf (shelf_of c.args.table.now)) e)
+    let e = c.refuse.ensures.todo ∙ ap (λ ps. fails (was_refused c.in-Err.e) (back_of None (todos ps))) c.in-Err.ensures.path in
+    rw c.named-identity.ensures (tells_map (λ s forms. write-fails _ _ n (shelf_of c.args.table.now) (shelf_of c.args.table.now) c.args.reference c.args.place c.args.through c.args.pin (todos c.args.path.now.items) _ c.refuse.result c.refuse.ensures.plain s c.in-Err.e forms (same-shelf (shelf_of c.args.table.now)) e)
     c.in-Err.ensures.step)
 
 pub returns-in-Ok-clause-leads : goal.returns-in-Ok-clause-leads
