@@ -2,7 +2,8 @@
 use Rattle.std.{proofs.Common.{◌≡◌, ℕ, ◌+◌, ◌-◌, ◌<◌, ◌≤◌, Bool, true, false, [], ◌∷◌, ◌++◌, ◌∙◌, arith, refl, Result, Ok, Err, inl, inr}, specs.Int.w64, specs.Prelude.{List, OnOk, IfErr, ◌⊎◌}}
 use Rattle.pagable.proofs.{Parts.{refused_second, refuses_first, where_ok, writes_pair}, Reading.{moves_trans, moves_refl}, Writing.{grows_trans, grows_same, then}}
 use Rattle.pagable.specs.{ArcRef.ArcRef, Basic.{bool_at, bool_form}, Error.Error, Form.{ok-form, err-form}, Gives.{never, memory, deep_or}, Lifted.MeansPair, Meaning.{Meaning, number, pair, success}}
-use Rattle.pagable.specs.{Meaning.failure, Reading.{Rest, deepest, read, read_with, bytes_of}, Shape.{Shape, both, unsigned, nested}, Standing.{Answer, Standing, MovesOn, GivesSome, Gave, Is, SomeMeaning, handles_at}}
+use Rattle.pagable.specs.{Meaning.failure, Reading.{Rest, deepest, read, read_with, bytes_of}, Shape.{Shape, both, unsigned, nested}}
+use Rattle.pagable.specs.Standing.{Answer, Standing, MovesOn, GivesSome, Gave, Is, SomeMeaning, handles_at}
 use Rattle.pagable.specs.Writing.{FormAt, Out, Nesting, nesting, Writes, WritesSome, Grows, added, NoForm, Refused}
 use Rattle.pagable_examples.proofs.Levels.{writes-down, refused-down, refused-deep, only-deep, reads-deep, reads-down}
 use Rattle.pagable_examples.specs.{declared.expression.Expression.{Expression, Number}, Expressions.{node, nodes, of_expression, IsWritten, IsRead, IsSum}}
@@ -80,13 +81,26 @@ no-node true n m none b k (ok-form l s t m' b' k' f) = none b' k' f
 no-node false n m none b k (err-form l s t m' b' k' f) = none b' k' f
 
 -- what the writer of the part owes, the writer of the node owes
-flagged : {X E : Type 0} (r : Result X Error) (P Q : Meaning ArcRef → Type 0) (flag : Bool) {levels between after : ℕ} {old mid new : Out} {env env_mid env_after : E} → ((m : Meaning ArcRef) → P m → Q (whole flag m))
+flagged : {X E : Type 0} (r : Result X Error) (P Q : Meaning ArcRef → Type 0) (flag : Bool) {levels between after : ℕ} {old mid new : Out} {env env_mid env_after : E}
+    → ((m : Meaning ArcRef) → P m → Q (whole flag m))
     → record { ok : mid ≡ added old (bool_form flag) []; only : Unit {0}; err : Grows old mid; same_env : env_mid ≡ env; same_levels : between ≡ levels }
     → IsWritten P (part flag) r between after mid new env_mid env_after → IsWritten Q node r levels after old new env env_after
 flagged (Ok y) P Q flag {levels = levels} {old = old} {mid = mid} {new = new} means f w =
     let v : WritesSome P (nesting levels nodes) (part flag) mid new = rw f.same_levels at w.ok in
-    let wrote : Writes (nesting levels nodes) node (whole flag v.m) old new = record { bytes = bool_form flag ++ v.wrote.bytes; refs = v.wrote.refs; form = node-form flag _ v.m _ _ v.wrote.form; grown = then old mid new _ _ _ _ f.ok v.wrote.grown } in
-    record { ok = record { m = whole flag v.m; is = means v.m v.is; wrote = wrote }; refused = tt; only = tt; err = grows_trans _ _ _ f.err w.err; same_env = w.same_env ∙ f.same_env; same_levels = w.same_levels ∙ f.same_levels }
+    let wrote : Writes (nesting levels nodes) node (whole flag v.m) old new = record {
+      bytes = bool_form flag ++ v.wrote.bytes;
+      refs = v.wrote.refs;
+      form = node-form flag _ v.m _ _ v.wrote.form;
+      grown = then old mid new _ _ _ _ f.ok v.wrote.grown;
+    } in
+    record {
+      ok = record { m = whole flag v.m; is = means v.m v.is; wrote = wrote };
+      refused = tt;
+      only = tt;
+      err = grows_trans _ _ _ f.err w.err;
+      same_env = w.same_env ∙ f.same_env;
+      same_levels = w.same_levels ∙ f.same_levels;
+    }
 flagged (Err e) P Q flag {levels = levels} means f w =
     let lacks : Refused P (nesting levels nodes) (part flag) e = rw f.same_levels at w.refused in
     let refused : Refused Q (nesting levels nodes) node e = λ fault. let no = lacks fault in record { m = whole flag no.m; is = means no.m no.is; no_form = no-node flag _ no.m no.no_form } in
@@ -147,37 +161,46 @@ unfolding read read_with
 flag_refused levels rest e (inl h) = inl (rw h refl)
 flag_refused levels rest e (inr h) = absurd h
 
-pub number_refused : (levels : ℕ) (rest mid : Rest Answer) (e : Error) → bytes_of bool_at (λ b. b) rest ≡ Ok (true, mid) → (read (handles_at levels nodes) (unsigned w64) mid ≡ Err e) ⊎ never e → (read (handles_at levels nodes) node rest ≡ Err e) ⊎ memory e
+pub number_refused : (levels : ℕ) (rest mid : Rest Answer) (e : Error) → bytes_of bool_at (λ b. b) rest ≡ Ok (true, mid) → (read (handles_at levels nodes) (unsigned w64) mid ≡ Err e) ⊎ never e
+    → (read (handles_at levels nodes) node rest ≡ Err e) ⊎ memory e
 unfolding read read_with
 number_refused levels rest mid e h (inl f) = inl (rw (h, f) refl)
 number_refused levels rest mid e h (inr own) = absurd own
 
-pub gave_number : (x levels : ℕ) (rest mid after : Rest Answer) → bytes_of bool_at (λ b. b) rest ≡ Ok (true, mid) → Gave (Is number x) after (read (handles_at levels nodes) (unsigned w64) mid) → Gave (Is of_expression (Number x)) after (read (handles_at levels nodes) node rest)
+pub gave_number : (x levels : ℕ) (rest mid after : Rest Answer) → bytes_of bool_at (λ b. b) rest ≡ Ok (true, mid) → Gave (Is number x) after (read (handles_at levels nodes) (unsigned w64) mid)
+    → Gave (Is of_expression (Number x)) after (read (handles_at levels nodes) node rest)
 unfolding read read_with
 gave_number x levels rest mid after h g = record { m = success g.m; is = rw g.is refl; gave = rw (h, g.gave) refl }
 
-pub left_refused : (levels : ℕ) (rest mid : Rest Answer) (e : Error) → bytes_of bool_at (λ b. b) rest ≡ Ok (false, mid) → (read (handles_at levels nodes) (nested 0) mid ≡ Err e) ⊎ memory e → (read (handles_at levels nodes) node rest ≡ Err e) ⊎ memory e
+pub left_refused : (levels : ℕ) (rest mid : Rest Answer) (e : Error) → bytes_of bool_at (λ b. b) rest ≡ Ok (false, mid) → (read (handles_at levels nodes) (nested 0) mid ≡ Err e) ⊎ memory e
+    → (read (handles_at levels nodes) node rest ≡ Err e) ⊎ memory e
 unfolding read read_with
 left_refused levels rest mid e h (inl f) = inl (rw (h, f) refl)
 left_refused levels rest mid e h (inr own) = inr own
 
-pub right_refused : (x : Expression) (levels : ℕ) (rest mid last : Rest Answer) (e : Error) → bytes_of bool_at (λ b. b) rest ≡ Ok (false, mid) → Gave (Is of_expression x) last (read (handles_at levels nodes) (nested 0) mid) → (read (handles_at levels nodes) (nested 0) last ≡ Err e) ⊎ memory e → (read (handles_at levels nodes) node rest ≡ Err e) ⊎ memory e
+pub right_refused : (x : Expression) (levels : ℕ) (rest mid last : Rest Answer) (e : Error) → bytes_of bool_at (λ b. b) rest ≡ Ok (false, mid)
+    → Gave (Is of_expression x) last (read (handles_at levels nodes) (nested 0) mid) → (read (handles_at levels nodes) (nested 0) last ≡ Err e) ⊎ memory e
+    → (read (handles_at levels nodes) node rest ≡ Err e) ⊎ memory e
 unfolding read read_with
 right_refused x levels rest mid last e h g (inl f) = inl (rw (h, g.gave, f) refl)
 right_refused x levels rest mid last e h g (inr own) = inr own
 
-gave_sum : (x y whole : Expression) (levels : ℕ) (rest mid last after : Rest Answer) → of_expression whole ≡ failure (pair (of_expression x) (of_expression y)) → bytes_of bool_at (λ b. b) rest ≡ Ok (false, mid) → Gave (Is of_expression x) last (read (handles_at levels nodes) (nested 0) mid)
+gave_sum : (x y whole : Expression) (levels : ℕ) (rest mid last after : Rest Answer) → of_expression whole ≡ failure (pair (of_expression x) (of_expression y))
+    → bytes_of bool_at (λ b. b) rest ≡ Ok (false, mid) → Gave (Is of_expression x) last (read (handles_at levels nodes) (nested 0) mid)
     → Gave (Is of_expression y) after (read (handles_at levels nodes) (nested 0) last) → Gave (Is of_expression whole) after (read (handles_at levels nodes) node rest)
 unfolding read read_with
 gave_sum x y whole levels rest mid last after same h g i = record { m = failure (pair g.m i.m); is = rw (g.is, i.is, same) refl; gave = rw (h, g.gave, i.gave) refl }
 
 -- the sum of what was read, or no memory for it
-pub sum_gives : (x y : Expression) (r : Result Expression Error) (levels : ℕ) (rest mid half last : Rest Answer) → bytes_of bool_at (λ b. b) rest ≡ Ok (false, mid) → Gave (Is of_expression x) half (read (handles_at levels nodes) (nested 0) mid)
+pub sum_gives : (x y : Expression) (r : Result Expression Error) (levels : ℕ) (rest mid half last : Rest Answer) → bytes_of bool_at (λ b. b) rest ≡ Ok (false, mid)
+    → Gave (Is of_expression x) half (read (handles_at levels nodes) (nested 0) mid)
     → Gave (Is of_expression y) last (read (handles_at levels nodes) (nested 0) half) → IsSum x y r → GivesSome memory (Is of_expression) last r (read (handles_at levels nodes) node rest)
 sum_gives x y (Ok sum) levels rest mid half last h g i is = gave_sum x y sum levels rest mid half last is h g i
 sum_gives x y (Err e) levels rest mid half last h g i is = inr is
 
 -- one part after another
-pub then_read : {E : Type 0} {r : Result Expression Error} {levels between after : ℕ} {rest last : Rest Answer} {old a new : Standing} {env env_a env_after : E} → MovesOn old a → env_a ≡ env → between ≡ levels → MovesOn a new → env_after ≡ env_a → after ≡ between
+pub then_read : {E : Type 0} {r : Result Expression Error} {levels between after : ℕ} {rest last : Rest Answer} {old a new : Standing} {env env_a env_after : E}
+    → MovesOn old a → env_a ≡ env → between ≡ levels → MovesOn a new → env_after ≡ env_a → after ≡ between
     → GivesSome memory (Is of_expression) last r (read (handles_at levels nodes) node rest) → IsRead node r levels after rest last old new env env_after
-then_read moves same_env same_levels moves' same_env' same_levels' gives = record { gives = gives; moves = moves_trans _ _ _ moves moves'; same_env = same_env' ∙ same_env; same_levels = same_levels' ∙ same_levels }
+then_read moves same_env same_levels moves' same_env' same_levels' gives =
+    record { gives = gives; moves = moves_trans _ _ _ moves moves'; same_env = same_env' ∙ same_env; same_levels = same_levels' ∙ same_levels }

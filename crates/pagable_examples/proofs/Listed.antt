@@ -7,7 +7,8 @@ use Rattle.pagable_model.specs.{References.references_in, Shape.{optional, refer
 
 pub chain_listed : {X : Type 0} (kind : ℕ) (r : Result X Error) (v : Chain kind) (levels : ℕ) (old new : Out)
     → OnOk r (WritesSome (chain_means kind v) (nesting levels no_parts) (optional (reference kind)) old new) → OnOk r (new.refs ≡ old.refs ++ references_in (chain_meaning kind v))
-chain_listed kind r v levels old new = written_listed r (chain_means kind v) (chain_meaning kind v) (nesting levels no_parts) (optional (reference kind)) old new (chain_single kind v) (one_in_order kind)
+chain_listed kind r v levels old new =
+    written_listed r (chain_means kind v) (chain_meaning kind v) (nesting levels no_parts) (optional (reference kind)) old new (chain_single kind v) (one_in_order kind)
 
 pub bundle_listed : {X : Type 0} (r : Result X Error) (v : Bundle) (levels : ℕ) (old new : Out)
     → OnOk r (WritesSome (bundle_means v) (nesting levels no_parts) bundle_shape old new) → OnOk r (new.refs ≡ old.refs ++ references_in (bundle_meaning v))

@@ -20,14 +20,16 @@ passed-on failed before after (inl lt) = cut (before + own_failures failed) (aft
 passed-on failed before after (inr h) = inr (omega (arith, h.0, h.1), omega (arith, h.0, h.1))
 
 module _ {X : Type 0} (failed : Bool) (before after : ℕ) where
-  pub fetch_refused : (r : Result X Error) (key : ℕ) (found : Option Blob) → IfErr r (RefusesFetch key found before after) → IfErr r (RefusesFetch key found (failures_of failed before) (failures_of failed after))
+  pub fetch_refused : (r : Result X Error) (key : ℕ) (found : Option Blob) → IfErr r (RefusesFetch key found before after)
+      → IfErr r (RefusesFetch key found (failures_of failed before) (failures_of failed after))
   fetch_refused (Err (errors.NoData k)) key found h = h
   fetch_refused (Err errors.OutOfMemory) key found h = h
   fetch_refused (Err (errors.Storage code)) key found h = passed-on failed before after h
   fetch_refused (Err _) key found h = absurd h
   fetch_refused (Ok x) key found h = tt
 
-  pub store_refused : (r : Result X Error) (blob : Blob) (found : Option Blob) (closed : Bool) → IfErr r (RefusesStore blob found closed before after) → IfErr r (RefusesStore blob found closed (failures_of failed before) (failures_of failed after))
+  pub store_refused : (r : Result X Error) (blob : Blob) (found : Option Blob) (closed : Bool) → IfErr r (RefusesStore blob found closed before after)
+      → IfErr r (RefusesStore blob found closed (failures_of failed before) (failures_of failed after))
   store_refused (Err errors.KeyTaken) blob found closed h = h
   store_refused (Err errors.Closed) blob found closed h = h
   store_refused (Err errors.OutOfMemory) blob found closed h = h

@@ -4,8 +4,8 @@ use Rattle.pagable_examples.specs.{declared.linked.LinkedNode.LinkedNode, declar
 use Rattle.pagable_arcs.specs.{References.{holding_means, loose_means, unlent, unlent_is_own}, Plain.plain_means, Refers.{ListsInOrder, both_in_order, optional_in_order, reference_in_order}}
 use Rattle.pagable_model.specs.Causes.{either_is_own_reading, either_may_refuse_writing, memory_may_refuse_writing, memory_or_is_own_reading, memory_or_may_refuse_writing, never_is_own_reading}
 use Rattle.pagable_model.specs.{Carried.of_option, Gives.{either, memory, memory_or, never}, Lifted.{MeansOption, MeansPair, option_is_meaning, option_single}, Meaning.{Meaning, pair}}
-use Rattle.pagable_model.specs.{References.{references_in, SameReferences}, Refusals.{is_own_reading, may_refuse_writing}, Shape.{Shape, both, nothing, optional, reference}, Standing.{Is, SomeMeaning}}
-use Rattle.pagable_model.specs.{declared.error.Error.Error, declared.numbers.ArcRef.ArcRef}
+use Rattle.pagable_model.specs.{References.{references_in, SameReferences}, Refusals.{is_own_reading, may_refuse_writing}, Shape.{Shape, both, nothing, optional, reference}}
+use Rattle.pagable_model.specs.{Standing.{Is, SomeMeaning}, declared.error.Error.Error, declared.numbers.ArcRef.ArcRef}
 use Rattle.pagable_examples.specs.declared.linked.LinkedNode.TheVariants as nodes
 
 -- the environment has no part with a number

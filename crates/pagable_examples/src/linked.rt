@@ -40,7 +40,8 @@ pub enum LinkedNode {
 }
 
 impl NodeSet<Linked> for LinkedNode {
-    ghost use Rattle.pagable_examples.specs.Linked.{has_meaning, has_shape, means, own_shape, read_causes, read_causes_are_own, refers, refs_of, shape_of, type_of, write_causes, write_causes_may_refuse};
+    ghost use Rattle.pagable_examples.specs.Linked.{has_meaning, has_shape, means, own_shape, read_causes, read_causes_are_own, refers, refs_of, shape_of, type_of};
+    ghost use Rattle.pagable_examples.specs.Linked.{write_causes, write_causes_may_refuse};
 
     ghost type_of = { type_of };
 

@@ -36,7 +36,8 @@ impl ReadAs for Sighting {
 impl PagableSerialize<Zoo> for Sighting {
     ghost write_causes = { either (long_or (memory_or (memory_or unregistered))) (either (memory_or unregistered) memory) };
 
-    ghost write_causes_may_refuse = { either_may_refuse_writing _ _ (long_or_may_refuse_writing _ (memory_or_may_refuse_writing _ (memory_or_may_refuse_writing _ unregistered_may_refuse_writing))) (either_may_refuse_writing _ _ (memory_or_may_refuse_writing _ unregistered_may_refuse_writing) memory_may_refuse_writing) };
+    ghost write_causes_may_refuse = { either_may_refuse_writing _ _ (long_or_may_refuse_writing _ (memory_or_may_refuse_writing _ (memory_or_may_refuse_writing _ unregistered_may_refuse_writing)))
+        (either_may_refuse_writing _ _ (memory_or_may_refuse_writing _ unregistered_may_refuse_writing) memory_may_refuse_writing) };
 
     fn pagable_serialize<S: PagableSerializer<Zoo>>(
         &self,

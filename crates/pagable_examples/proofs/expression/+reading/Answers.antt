@@ -47,7 +47,8 @@ read_node-returns-in_err-right g t c =
     let v = c.in_ok-left.ensures in
     let n = c.in_err-right.ensures in
     let levels = v.same_levels ∙ f.same_levels in
-    rw (p.1, p.2) (then_read (moves_trans _ _ _ f.moves v.moves) (v.same_env ∙ f.same_env) levels n.moves n.same_env n.same_levels (right_refused _ _ _ _ _ _ (rw c.if-branch.false at f.gives) (rw f.same_levels at v.gives) (rw levels at n.gives)))
+    rw (p.1, p.2) (then_read (moves_trans _ _ _ f.moves v.moves) (v.same_env ∙ f.same_env) levels n.moves n.same_env n.same_levels
+    (right_refused _ _ _ _ _ _ (rw c.if-branch.false at f.gives) (rw f.same_levels at v.gives) (rw levels at n.gives)))
 
 pub read_node-returns : goal.read_node-returns
 read_node-returns g t c =

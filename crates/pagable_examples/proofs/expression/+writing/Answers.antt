@@ -22,4 +22,5 @@ write_node-returns-in_err-write_below-in-Sum g t c =
 
 pub write_node-returns-in_ok-write_below-in-Sum : goal.write_node-returns-in_ok-write_below-in-Sum
 write_node-returns-in_ok-write_below-in-Sum g t c =
-    sum_written c.in-Sum.left.value c.in-Sum.right.value _ (rw c.in-Sum.is refl) _ c.write_below-in-Sum.result c.in_ok-write_flag-in-Sum.ensures (rw c.deref.ensures at c.in_ok-write_below-in-Sum.ensures) (rw c.deref-in-Sum.ensures at c.write_below-in-Sum.ensures)
+    sum_written c.in-Sum.left.value c.in-Sum.right.value _ (rw c.in-Sum.is refl) _ c.write_below-in-Sum.result c.in_ok-write_flag-in-Sum.ensures
+    (rw c.deref.ensures at c.in_ok-write_below-in-Sum.ensures) (rw c.deref-in-Sum.ensures at c.write_below-in-Sum.ensures)
