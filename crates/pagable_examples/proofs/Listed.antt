@@ -19,4 +19,4 @@ pub or_memory : {A B C : Type 0} → A ⊎ C → A ⊎ (B ⊎ C)
 or_memory (inl a) = inl a
 or_memory (inr c) = inr (inr c)
 
-pub ruleset writing = (chain_listed)
+pub ruleset writing = (chain_listed, bundle_listed)

@@ -1,11 +1,14 @@
 -- What links and bundles mean and refer to, and what the nodes that hold them do.
-use Rattle.std.{proofs.Common.arith, specs.Prelude.{◌≡◌, ◌≢◌, ◌<◌, ◌^◌, refl, true, false, ℕ, zero, suc, List, Option, Some, None}, specs.Arc.arc_value}
+use Rattle.std.{proofs.Common.arith, specs.Prelude.{◌≡◌, ◌≢◌, ◌<◌, ◌^◌, refl, true, false, ℕ, zero, suc, List, Option, Some, None}, specs.Arc.arc_value, specs.Global.Vec}
 use Rattle.pagable_examples.specs.{declared.linked.LinkedNode.LinkedNode, declared.linked.bundle.Bundle.Bundle, declared.linked.chain.Chain.Chain}
-use Rattle.pagable_arcs.specs.{References.{holding_means, loose_means, unlent, unlent_is_own}, Plain.plain_means, Refers.{ListsInOrder, both_in_order, optional_in_order, reference_in_order}}
-use Rattle.pagable_model.specs.Causes.{either_is_own_reading, either_may_refuse_writing, memory_may_refuse_writing, memory_or_is_own_reading, memory_or_may_refuse_writing, never_is_own_reading}
-use Rattle.pagable_model.specs.{Carried.of_option, Gives.{either, memory, memory_or, never}, Lifted.{MeansOption, MeansPair, option_is_meaning, option_single}, Meaning.{Meaning, pair}}
-use Rattle.pagable_model.specs.{References.{references_in, SameReferences}, Refusals.{is_own_reading, may_refuse_writing}, Shape.{Shape, both, nothing, optional, reference}}
+use Rattle.pagable_arcs.specs.{References.{holding_means, loose_means, reference_has_one_form, reference_is_read, unlent, unlent_is_own}, Plain.plain_means}
+use Rattle.pagable_arcs.specs.Refers.{ListsInOrder, both_in_order, list_in_order, optional_in_order, reference_in_order}
+use Rattle.pagable_model.specs.Causes.{either_is_own_reading, either_may_refuse_writing, long_or_may_refuse_writing, memory_may_refuse_writing, memory_or_is_own_reading, memory_or_may_refuse_writing}
+use Rattle.pagable_model.specs.{Causes.never_is_own_reading, Lifted.{MeansList, MeansOption, MeansPair, list_is_meaning, list_single, option_is_meaning, option_single}, Carried.{of_list, of_option}}
+use Rattle.pagable_model.specs.{Gives.{either, long_or, memory, memory_or, never}, Meaning.{Meaning, pair}, OneForm.{HasOneFormThroughout, both_has_one_form, list_has_one_form}}
+use Rattle.pagable_model.specs.{References.{references_in, SameReferences}, Refusals.{is_own_reading, may_refuse_writing}, Shape.{Shape, both, list, nothing, optional, reference}}
 use Rattle.pagable_model.specs.{Standing.{Is, SomeMeaning}, declared.error.Error.Error, declared.numbers.ArcRef.ArcRef}
+use Rattle.pagable.specs.ReadBack.{IsReadThroughout, both_is_read, list_is_read}
 use Rattle.pagable_examples.specs.declared.linked.LinkedNode.TheVariants as nodes
 
 -- the environment has no part with a number
@@ -43,36 +46,57 @@ chain_single kind c = one-single (plain_means kind) c.next
 -- ---- bundles
 
 abbrev pub bundle_shape : Shape
-bundle_shape = both (optional (reference 3)) (both (optional (reference 1)) (optional (reference 2)))
+bundle_shape = both (list (reference 3)) (both (list (reference 1)) (list (reference 2)))
+
+abbrev many_means : {T : Type 0} → (T → Meaning ArcRef) → Vec T → Meaning ArcRef → Type 0
+many_means meaning v = MeansList (Is meaning) v.items
 
 abbrev pub bundle_means : Bundle → Meaning ArcRef → Type 0
-bundle_means b = MeansPair (one_means (holding_means 1 false)) (MeansPair (one_means (loose_means 0)) (one_means (holding_means 0 true))) (b.shared, (b.loose, b.pinned))
+bundle_means b = MeansPair (many_means (holding_means 1 false)) (MeansPair (many_means (loose_means 0)) (many_means (holding_means 0 true))) (b.shared, (b.loose, b.pinned))
 
 abbrev pub bundle_meaning : Bundle → Meaning ArcRef
-bundle_meaning b = pair (of_option (holding_means 1 false) b.shared) (pair (of_option (loose_means 0) b.loose) (of_option (holding_means 0 true) b.pinned))
+bundle_meaning b = pair (of_list (holding_means 1 false) b.shared.items) (pair (of_list (loose_means 0) b.loose.items) (of_list (holding_means 0 true) b.pinned.items))
 
-bundle-is : (b : Bundle) → bundle_means b (bundle_meaning b)
-bundle-is b = record {
+many-are : {T : Type 0} (meaning : T → Meaning ArcRef) (xs : List T) → MeansList (Is meaning) xs (of_list meaning xs)
+many-are meaning = list_is_meaning (Is meaning) meaning (λ a. refl)
+
+many-single : {T : Type 0} (meaning : T → Meaning ArcRef) (xs : List T) (m : Meaning ArcRef) → MeansList (Is meaning) xs m → m ≡ of_list meaning xs
+many-single meaning = list_single (Is meaning) meaning (λ a m is. is)
+
+pub bundle_is_meaning : (b : Bundle) → bundle_means b (bundle_meaning b)
+bundle_is_meaning b = record {
   first = _;
   second = _;
-  is_first = one-is (holding_means 1 false) b.shared;
-  is_second = record { first = _; second = _; is_first = one-is (loose_means 0) b.loose; is_second = one-is (holding_means 0 true) b.pinned; is = refl };
+  is_first = many-are (holding_means 1 false) b.shared.items;
+  is_second = record { first = _; second = _; is_first = many-are (loose_means 0) b.loose.items; is_second = many-are (holding_means 0 true) b.pinned.items; is = refl };
   is = refl;
 }
 
+pub bundle_has_meaning : (b : Bundle) → SomeMeaning (bundle_means b)
+bundle_has_meaning b = (bundle_meaning b, bundle_is_meaning b)
+
 pub bundle_single : (b : Bundle) (m : Meaning ArcRef) → bundle_means b m → m ≡ bundle_meaning b
 bundle_single b m h =
-    let shared = one-single (holding_means 1 false) b.shared h.first h.is_first in
-    let loose = one-single (loose_means 0) b.loose h.is_second.first h.is_second.is_first in
-    let pinned = one-single (holding_means 0 true) b.pinned h.is_second.second h.is_second.is_second in
+    let shared = many-single (holding_means 1 false) b.shared.items h.first h.is_first in
+    let loose = many-single (loose_means 0) b.loose.items h.is_second.first h.is_second.is_first in
+    let pinned = many-single (holding_means 0 true) b.pinned.items h.is_second.second h.is_second.is_second in
     rw (h.is, shared, h.is_second.is, loose, pinned) refl
 
-pub bundle_in_order : ListsInOrder no_parts bundle_shape
-bundle_in_order =
-    both_in_order no_parts (optional (reference 3)) (both (optional (reference 1)) (optional (reference 2))) (one_in_order 3)
-    (both_in_order no_parts (optional (reference 1)) (optional (reference 2)) (one_in_order 1) (one_in_order 2))
+-- what holds of a list of references of any kind, and of a pair if of its parts, holds of a bundle
+in-bundle : (P : Shape → Type 0) → ((s t : Shape) → P s → P t → P (both s t)) → ((kind : ℕ) → P (list (reference kind))) → P bundle_shape
+in-bundle P pairs lists = pairs (list (reference 3)) (both (list (reference 1)) (list (reference 2))) (lists 3) (pairs (list (reference 1)) (list (reference 2)) (lists 1) (lists 2))
 
--- all refusals of the writing of at most one reference, of which a bundle has three; and of a bundle's reading, beside the faults of the input and of references
+pub bundle_has_one_form : HasOneFormThroughout no_parts bundle_shape
+bundle_has_one_form =
+    in-bundle (HasOneFormThroughout no_parts) (both_has_one_form no_parts) (λ kind. list_has_one_form no_parts (reference kind) (reference_has_one_form no_parts kind))
+
+pub bundle_is_read : IsReadThroughout no_parts bundle_shape
+bundle_is_read = in-bundle (IsReadThroughout no_parts) (both_is_read no_parts) (λ kind. list_is_read no_parts (reference kind) (reference_is_read no_parts kind))
+
+pub bundle_in_order : ListsInOrder no_parts bundle_shape
+bundle_in_order = in-bundle (ListsInOrder no_parts) (both_in_order no_parts) (λ kind. list_in_order no_parts (reference kind) (reference_in_order no_parts kind))
+
+-- all refusals of the writing of at most one reference, and of a list of them, of which a bundle has three; and of a bundle's reading, beside the faults of the input and of references
 abbrev pub one_causes : Error → Type 0
 one_causes = memory_or memory
 
@@ -80,16 +104,26 @@ pub one_may_refuse : (e : Error) → one_causes e → may_refuse_writing e ≡ t
 one_may_refuse = memory_or_may_refuse_writing memory memory_may_refuse_writing
 
 abbrev pub bundle_write_causes : Error → Type 0
-bundle_write_causes = either one_causes (either one_causes one_causes)
+bundle_write_causes = either (long_or one_causes) (either (long_or one_causes) (long_or one_causes))
+
+list-may : (e : Error) → long_or one_causes e → may_refuse_writing e ≡ true
+list-may = long_or_may_refuse_writing one_causes one_may_refuse
 
 pub bundle_may_refuse : (e : Error) → bundle_write_causes e → may_refuse_writing e ≡ true
-bundle_may_refuse = either_may_refuse_writing one_causes (either one_causes one_causes) one_may_refuse (either_may_refuse_writing one_causes one_causes one_may_refuse one_may_refuse)
+bundle_may_refuse =
+    either_may_refuse_writing (long_or one_causes) (either (long_or one_causes) (long_or one_causes)) list-may
+    (either_may_refuse_writing (long_or one_causes) (long_or one_causes) list-may list-may)
 
 abbrev pub bundle_read_causes : Error → Type 0
-bundle_read_causes = either unlent (either never unlent)
+bundle_read_causes = either (memory_or unlent) (either (memory_or never) (memory_or unlent))
 
-bundle-is-own : (e : Error) → bundle_read_causes e → is_own_reading e ≡ true
-bundle-is-own = either_is_own_reading unlent (either never unlent) unlent_is_own (either_is_own_reading never unlent never_is_own_reading unlent_is_own)
+held-own : (e : Error) → memory_or unlent e → is_own_reading e ≡ true
+held-own = memory_or_is_own_reading unlent unlent_is_own
+
+pub bundle_is_own : (e : Error) → bundle_read_causes e → is_own_reading e ≡ true
+bundle_is_own =
+    either_is_own_reading (memory_or unlent) (either (memory_or never) (memory_or unlent)) held-own
+    (either_is_own_reading (memory_or never) (memory_or unlent) (memory_or_is_own_reading never never_is_own_reading) held-own)
 
 -- ---- nodes
 
@@ -139,12 +173,12 @@ read_causes (suc (suc t)) = memory_or bundle_read_causes
 pub read_causes_are_own : (t : ℕ) (e : Error) → read_causes t e → is_own_reading e ≡ true
 read_causes_are_own zero e h = memory_or_is_own_reading never never_is_own_reading e h
 read_causes_are_own (suc zero) e h = memory_or_is_own_reading never never_is_own_reading e h
-read_causes_are_own (suc (suc t)) e h = memory_or_is_own_reading bundle_read_causes bundle-is-own e h
+read_causes_are_own (suc (suc t)) e h = memory_or_is_own_reading bundle_read_causes bundle_is_own e h
 
 pub has_meaning : (n : LinkedNode) → SomeMeaning (means n)
 has_meaning (nodes.Link c) = (chain_meaning 1 (arc_value c), one-is (plain_means 1) (arc_value c).next)
 has_meaning (nodes.ArcLink c) = (chain_meaning 3 (arc_value c), one-is (plain_means 3) (arc_value c).next)
-has_meaning (nodes.Bundle b) = (bundle_meaning (arc_value b), bundle-is (arc_value b))
+has_meaning (nodes.Bundle b) = bundle_has_meaning (arc_value b)
 
 pub has_shape : (n : LinkedNode) → shape_of (type_of n) ≡ Some (own_shape n)
 has_shape (nodes.Link c) = refl

@@ -1,43 +1,52 @@
 //! Bundles: references of each sort to values of other types.
 
-ghost use Rattle.pagable_examples.specs.Linked.{bundle_in_order, bundle_may_refuse, bundle_write_causes};
+ghost use Rattle.pagable_examples.specs.Linked.{bundle_has_meaning, bundle_is_meaning, bundle_meaning, bundle_means, bundle_shape, bundle_single};
+ghost use Rattle.pagable_examples.specs.Linked.{bundle_has_one_form, bundle_in_order, bundle_is_own, bundle_is_read, bundle_may_refuse, bundle_read_causes, bundle_write_causes};
 
 use crate::linked::Linked;
 use crate::linked::chain::{ArcLink, Link};
 use pagable::{
-    Arc, ArcRef, CarriedAs, Error, PagableArc, PagableSerialize, PagableSerializer,
-    PinnedPagableArc, ReadAs, Refers,
+    Arc, ArcRef, Canonical, Carried, Error, OneMeaning, PagableArc, PagableDeserialize,
+    PagableDeserializer, PagableSerialize, PagableSerializer, PinnedPagableArc, ReadBack, Refers,
 };
+use std::alloc::Global;
 
-/// Links, each of which may be absent: by a shared reference, by a loose one and by a pin.
+/// Links by shared references, by loose ones and by pins.
 #[derive(Drop)]
 pub struct Bundle {
-    pub shared: Option<Arc<ArcLink>>,
-    pub loose: Option<PagableArc<Link>>,
-    pub pinned: Option<PinnedPagableArc<Link>>,
+    pub shared: Vec<Arc<ArcLink>>,
+    pub loose: Vec<PagableArc<Link>>,
+    pub pinned: Vec<PinnedPagableArc<Link>>,
 }
 
-/// The fields, as a bundle is carried: the first, and the pair of the others.
+/// The fields, as a bundle is read: the first, and the pair of the others.
 type Fields = (
-    Option<Arc<ArcLink>>,
-    (Option<PagableArc<Link>>, Option<PinnedPagableArc<Link>>),
+    Vec<Arc<ArcLink>>,
+    (Vec<PagableArc<Link>>, Vec<PinnedPagableArc<Link>>),
 );
 
-impl CarriedAs for Bundle {
-    type Other = Fields;
+impl Carried<Linked> for Bundle {
+    ghost shape = { λ e. bundle_shape };
 
-    ghost other = { λ b. (b.shared, (b.loose, b.pinned)) };
+    ghost means = { bundle_means };
+
+    ghost has_meaning = { bundle_has_meaning };
 }
 
-impl ReadAs for Bundle {
-    fn of_other(value: Fields) -> Self {
-        let (shared, (loose, pinned)) = value;
-        Bundle {
-            shared,
-            loose,
-            pinned,
-        }
-    }
+impl OneMeaning<Linked> for Bundle {
+    ghost meaning = { bundle_meaning };
+
+    ghost is_meaning = { bundle_is_meaning };
+
+    ghost single = { bundle_single };
+}
+
+impl Canonical<Linked> for Bundle {
+    ghost one_form = { λ e. bundle_has_one_form };
+}
+
+impl ReadBack<Linked> for Bundle {
+    ghost is_read = { λ e. bundle_is_read };
 }
 
 impl Refers<Linked> for Bundle {
@@ -60,5 +69,24 @@ impl PagableSerialize<Linked> for Bundle {
     ) -> Result<(), Error> {
         let fields = (&self.shared, (&self.loose, &self.pinned));
         fields.pagable_serialize(serializer)
+    }
+}
+
+impl<'de> PagableDeserialize<'de, Linked> for Bundle {
+    ghost read_causes = { bundle_read_causes };
+
+    ghost read_causes_are_own = { bundle_is_own };
+
+    fn pagable_deserialize<D: PagableDeserializer<Linked>>(
+        alloc: Global,
+        deserializer: &mut D,
+    ) -> Result<Self, Error> {
+        let fields: Fields = PagableDeserialize::pagable_deserialize(alloc, deserializer)?;
+        let (shared, (loose, pinned)) = fields;
+        Ok(Bundle {
+            shared,
+            loose,
+            pinned,
+        })
     }
 }

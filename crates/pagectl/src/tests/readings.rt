@@ -79,7 +79,7 @@ fn next_in(pager: &LinkPager, handle: HandleNumber) -> Option<ArcRef> {
 /// Whether a bundle holds the very links that stand in the pager: each time that a link's blob is decoded, its reference gets a
 /// handle of its own.
 fn holds_what_stands(pager: &LinkPager, bundle: &Bundle) -> bool {
-    let (Some(shared), Some(pinned)) = (bundle.shared.as_ref(), bundle.pinned.as_ref()) else {
+    let (Some(shared), Some(pinned)) = (bundle.shared.first(), bundle.pinned.first()) else {
         return false;
     };
     let held = (next(shared.get()), next(pinned.get()));
