@@ -1,17 +1,14 @@
 -- What writing a link or a bundle lists, and why reading a bundle is refused.
 use Rattle.std.{proofs.Common.{◌≡◌, ◌⊎◌, ◌++◌, inl, inr, ℕ, Result}, specs.Prelude.OnOk}
-use Rattle.pagable_examples.specs.Linked.{bundle_in_order, bundle_meaning, bundle_means, bundle_shape, bundle_single, chain_in_order, chain_meaning, chain_means, chain_single, no_parts}
+use Rattle.pagable_examples.specs.Linked.{bundle_in_order, bundle_meaning, bundle_means, bundle_shape, bundle_single, chain_meaning, chain_means, chain_single, no_parts, one_in_order}
 use Rattle.pagable_examples.specs.{declared.linked.bundle.Bundle.Bundle, declared.linked.chain.Chain.Chain}
 use Rattle.pagable_arcs.proofs.Listed.{written_listed}
 use Rattle.pagable_model.specs.{References.references_in, Shape.{optional, reference}, Writing.{Out, WritesSome, nesting}, declared.error.Error.Error}
 
-pub link_listed : {X : Type 0} (r : Result X Error) (v : Chain 1) (levels : ℕ) (old new : Out)
-    → OnOk r (WritesSome (chain_means 1 v) (nesting levels no_parts) (optional (reference 1)) old new) → OnOk r (new.refs ≡ old.refs ++ references_in (chain_meaning 1 v))
-link_listed r v levels old new = written_listed r (chain_means 1 v) (chain_meaning 1 v) (nesting levels no_parts) (optional (reference 1)) old new (chain_single 1 v) (chain_in_order 1)
-
-pub arc_link_listed : {X : Type 0} (r : Result X Error) (v : Chain 3) (levels : ℕ) (old new : Out)
-    → OnOk r (WritesSome (chain_means 3 v) (nesting levels no_parts) (optional (reference 3)) old new) → OnOk r (new.refs ≡ old.refs ++ references_in (chain_meaning 3 v))
-arc_link_listed r v levels old new = written_listed r (chain_means 3 v) (chain_meaning 3 v) (nesting levels no_parts) (optional (reference 3)) old new (chain_single 3 v) (chain_in_order 3)
+pub chain_listed : {X : Type 0} (kind : ℕ) (r : Result X Error) (v : Chain kind) (levels : ℕ) (old new : Out)
+    → OnOk r (WritesSome (chain_means kind v) (nesting levels no_parts) (optional (reference kind)) old new) → OnOk r (new.refs ≡ old.refs ++ references_in (chain_meaning kind v))
+chain_listed kind r v levels old new =
+    written_listed r (chain_means kind v) (chain_meaning kind v) (nesting levels no_parts) (optional (reference kind)) old new (chain_single kind v) (one_in_order kind)
 
 pub bundle_listed : {X : Type 0} (r : Result X Error) (v : Bundle) (levels : ℕ) (old new : Out)
     → OnOk r (WritesSome (bundle_means v) (nesting levels no_parts) bundle_shape old new) → OnOk r (new.refs ≡ old.refs ++ references_in (bundle_meaning v))
@@ -22,4 +19,4 @@ pub or_memory : {A B C : Type 0} → A ⊎ C → A ⊎ (B ⊎ C)
 or_memory (inl a) = inl a
 or_memory (inr c) = inr (inr c)
 
-pub ruleset writing = (link_listed, arc_link_listed, bundle_listed)
+pub ruleset writing = (chain_listed, bundle_listed)

@@ -19,35 +19,29 @@ passed-on : (failed : Bool) (before after : ℕ) → HasFailed before after → 
 passed-on failed before after (inl lt) = cut (before + own_failures failed) (after + own_failures failed) (omega arith)
 passed-on failed before after (inr h) = inr (omega (arith, h.0, h.1), omega (arith, h.0, h.1))
 
-fetch-refused : (e : Error) (key : ℕ) (found : Option Blob) (failed : Bool) (before after : ℕ) → RefusesFetch key found before after e → RefusesFetch key found (failures_of failed before) (failures_of failed after) e
-fetch-refused (errors.NoData k) key found failed before after h = h
-fetch-refused errors.OutOfMemory key found failed before after h = h
-fetch-refused (errors.Storage code) key found failed before after h = passed-on failed before after h
-fetch-refused _ key found failed before after h = absurd h
+module _ {X : Type 0} (failed : Bool) (before after : ℕ) where
+  pub fetch_refused : (r : Result X Error) (key : ℕ) (found : Option Blob) → IfErr r (RefusesFetch key found before after)
+      → IfErr r (RefusesFetch key found (failures_of failed before) (failures_of failed after))
+  fetch_refused (Err (errors.NoData k)) key found h = h
+  fetch_refused (Err errors.OutOfMemory) key found h = h
+  fetch_refused (Err (errors.Storage code)) key found h = passed-on failed before after h
+  fetch_refused (Err _) key found h = absurd h
+  fetch_refused (Ok x) key found h = tt
 
-pub fetch_refused : {X : Type 0} (r : Result X Error) (key : ℕ) (found : Option Blob) (failed : Bool) (before after : ℕ) → IfErr r (RefusesFetch key found before after) → IfErr r (RefusesFetch key found (failures_of failed before) (failures_of failed after))
-fetch_refused (Ok x) key found failed before after h = tt
-fetch_refused (Err e) key found failed before after h = fetch-refused e key found failed before after h
+  pub store_refused : (r : Result X Error) (blob : Blob) (found : Option Blob) (closed : Bool) → IfErr r (RefusesStore blob found closed before after)
+      → IfErr r (RefusesStore blob found closed (failures_of failed before) (failures_of failed after))
+  store_refused (Err errors.KeyTaken) blob found closed h = h
+  store_refused (Err errors.Closed) blob found closed h = h
+  store_refused (Err errors.OutOfMemory) blob found closed h = h
+  store_refused (Err (errors.Storage code)) blob found closed h = passed-on failed before after h
+  store_refused (Err _) blob found closed h = absurd h
+  store_refused (Ok x) blob found closed h = tt
 
-store-refused : (e : Error) (blob : Blob) (found : Option Blob) (closed : Bool) (failed : Bool) (before after : ℕ) → RefusesStore blob found closed before after e → RefusesStore blob found closed (failures_of failed before) (failures_of failed after) e
-store-refused errors.KeyTaken blob found closed failed before after h = h
-store-refused errors.Closed blob found closed failed before after h = h
-store-refused errors.OutOfMemory blob found closed failed before after h = h
-store-refused (errors.Storage code) blob found closed failed before after h = passed-on failed before after h
-store-refused _ blob found closed failed before after h = absurd h
-
-pub store_refused : {X : Type 0} (r : Result X Error) (blob : Blob) (found : Option Blob) (closed : Bool) (failed : Bool) (before after : ℕ) → IfErr r (RefusesStore blob found closed before after) → IfErr r (RefusesStore blob found closed (failures_of failed before) (failures_of failed after))
-store_refused (Ok x) blob found closed failed before after h = tt
-store_refused (Err e) blob found closed failed before after h = store-refused e blob found closed failed before after h
-
-flush-refused : (e : Error) (failed : Bool) (before after : ℕ) → RefusesFlush before after e → RefusesFlush (failures_of failed before) (failures_of failed after) e
-flush-refused errors.OutOfMemory failed before after h = h
-flush-refused (errors.Storage code) failed before after h = passed-on failed before after h
-flush-refused _ failed before after h = absurd h
-
-pub flush_refused : {X : Type 0} (r : Result X Error) (failed : Bool) (before after : ℕ) → IfErr r (RefusesFlush before after) → IfErr r (RefusesFlush (failures_of failed before) (failures_of failed after))
-flush_refused (Ok x) failed before after h = tt
-flush_refused (Err e) failed before after h = flush-refused e failed before after h
+  pub flush_refused : (r : Result X Error) → IfErr r (RefusesFlush before after) → IfErr r (RefusesFlush (failures_of failed before) (failures_of failed after))
+  flush_refused (Err errors.OutOfMemory) h = h
+  flush_refused (Err (errors.Storage code)) h = passed-on failed before after h
+  flush_refused (Err _) h = absurd h
+  flush_refused (Ok x) h = tt
 
 pub own_later : (inner : ℕ) (before after : Bool) → before ≡ false → after ≡ true → failures_of before inner ≤ failures_of after inner
 own_later inner before after is_not is = rw (is_not, is) (omega arith)

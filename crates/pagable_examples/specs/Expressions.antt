@@ -16,16 +16,16 @@ abbrev pub of_expression : Expression → Meaning ArcRef
 of_expression (Number n) = success (number n)
 of_expression (Sum' p left q right) = failure (pair (of_expression left) (of_expression right))
 
--- what writing an expression in a shape owes, by its answer and what it changed
-pub record IsWritten {X E : Type 0} (x : Expression) (s : Shape) (r : Result X Error) (levels after : ℕ) (old new : Out) (env env_after : E) : Type 0 where
-  pub ok : OnOk r (WritesSome (Is of_expression x) (nesting levels nodes) s old new)
-  pub refused : IfErr r (Refused (Is of_expression x) (nesting levels nodes) s)
+-- what writing what means this in a shape owes, by its answer and what it changed
+pub record IsWritten {X E : Type 0} (M : Meaning ArcRef → Type 0) (s : Shape) (r : Result X Error) (levels after : ℕ) (old new : Out) (env env_after : E) : Type 0 where
+  pub ok : OnOk r (WritesSome M (nesting levels nodes) s old new)
+  pub refused : IfErr r (Refused M (nesting levels nodes) s)
   pub only : IfErr r (deep_or memory)
   pub err : Grows old new
   pub same_env : env_after ≡ env
   pub same_levels : after ≡ levels
 
--- what reading one owes
+-- what reading an expression owes
 pub record IsRead {E : Type 0} (s : Shape) (r : Result Expression Error) (levels after : ℕ) (rest last : Rest Answer) (old new : Standing) (env env_after : E) : Type 0 where
   pub gives : GivesSome memory (Is of_expression) last r (read (handles_at levels nodes) s rest)
   pub moves : MovesOn old new

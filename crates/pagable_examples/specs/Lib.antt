@@ -3,7 +3,6 @@ pub mod Dishes
 pub mod Expressions
 pub mod Failing
 pub mod Linked
-pub mod Sightings
 pub mod Sizes
 pub mod Texts
 pub mod Words

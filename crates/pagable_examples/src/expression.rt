@@ -1,6 +1,6 @@
 //! A type that holds values of its own type, each one level further down: sums inside sums.
 
-ghost use Rattle.pagable.specs.Shape.{nested};
+ghost use Rattle.pagable.specs.{Shape.nested, Standing.Is};
 ghost use Rattle.pagable_examples.specs.Expressions.{node, nodes, of_expression, IsWritten, IsRead, IsSum};
 
 use pagable::parts::{read_flag, write_flag};
@@ -46,7 +46,8 @@ fn write_below<S: PagableSerializer<Sheet>>(
     value: &Expression,
     serializer: &mut S,
 ) -> Result<(), Error>
-    ensures { IsWritten value.now (nested 0) result (S.levels serializer.old) (S.levels serializer.new) (S.out serializer.old) (S.out serializer.new) (S.environment serializer.old) (S.environment serializer.new) }
+    ensures { IsWritten (Is of_expression value.now) (nested 0) result
+        (S.levels serializer.old) (S.levels serializer.new) (S.out serializer.old) (S.out serializer.new) (S.environment serializer.old) (S.environment serializer.new) }
 {
     serializer.enter()?;
     let done = write_node(value, serializer);
@@ -60,7 +61,8 @@ fn write_node<S: PagableSerializer<Sheet>>(
     value: &Expression,
     serializer: &mut S,
 ) -> Result<(), Error>
-    ensures { IsWritten value.now node result (S.levels serializer.old) (S.levels serializer.new) (S.out serializer.old) (S.out serializer.new) (S.environment serializer.old) (S.environment serializer.new) }
+    ensures { IsWritten (Is of_expression value.now) node result
+        (S.levels serializer.old) (S.levels serializer.new) (S.out serializer.old) (S.out serializer.new) (S.environment serializer.old) (S.environment serializer.new) }
 {
     match value {
         Expression::Number(number) => {

@@ -40,7 +40,8 @@ pub enum LinkedNode {
 }
 
 impl NodeSet<Linked> for LinkedNode {
-    ghost use Rattle.pagable_examples.specs.Linked.{type_of, shape_of, own_shape, means, refs_of, write_causes, write_causes_may_refuse, read_causes, read_causes_are_own, has_meaning, refers, has_shape};
+    ghost use Rattle.pagable_examples.specs.Linked.{has_meaning, has_shape, means, own_shape, read_causes, read_causes_are_own, refers, refs_of, shape_of, type_of};
+    ghost use Rattle.pagable_examples.specs.Linked.{write_causes, write_causes_may_refuse};
 
     ghost type_of = { type_of };
 
@@ -117,7 +118,7 @@ impl NodeSet<Linked> for LinkedNode {
 impl OfNode<Linked> for Link {
     ghost use Rattle.std.specs.Prelude.{◌≡◌, Some};
     ghost use Rattle.std.specs.Arc.{arc_value};
-    ghost use Rattle.pagable_examples.specs.Linked.{link_in, link_number_is_small};
+    ghost use Rattle.pagable_examples.specs.Linked.{link_in, numbers_are_small};
 
     ghost TYPE = { 0 };
 
@@ -134,38 +135,36 @@ impl OfNode<Linked> for Link {
     fn from_node(alloc: Global, node: &LinkedNode) -> Result<Option<Arc<Link>>, Error> {
         match node {
             LinkedNode::Link(value) => Ok(Some(value.clone()?)),
-            LinkedNode::ArcLink(_) => Ok(None),
-            LinkedNode::Bundle(_) => Ok(None),
+            LinkedNode::ArcLink(_) | LinkedNode::Bundle(_) => Ok(None),
         }
     }
 
-    ghost small = { link_number_is_small };
+    ghost small = { numbers_are_small.0 };
 }
 
 impl InNode<Linked> for Link {
     ghost use Rattle.std.specs.Prelude.{refl};
-    ghost use Rattle.std.proofs.Common.{inr};
-    ghost use Rattle.pagable_examples.specs.Linked.{no_link_type, link_back, link_there, link_type};
+    ghost use Rattle.pagable_examples.specs.Linked.{held_means, held_type, holds_link, means_held, other_type};
 
-    ghost in_type = { link_type };
+    ghost in_type = { λ n. held_type n (holds_link n) };
 
-    ghost other_type = { no_link_type };
+    ghost other_type = { λ n. other_type n (holds_link n) };
 
     ghost shape_is = { λ e. refl };
 
-    ghost same_meaning = { link_there };
+    ghost same_meaning = { λ n. held_means n (holds_link n) };
 
     ghost writes_as = { λ e h. h };
 
     ghost reads_as = { λ e h. h };
 
-    ghost meaning_back = { link_back };
+    ghost meaning_back = { λ n. means_held n (holds_link n) };
 }
 
 impl OfNode<Linked> for ArcLink {
     ghost use Rattle.std.specs.Prelude.{◌≡◌, Some};
     ghost use Rattle.std.specs.Arc.{arc_value};
-    ghost use Rattle.pagable_examples.specs.Linked.{arc_link_in, arc_link_number_is_small};
+    ghost use Rattle.pagable_examples.specs.Linked.{arc_link_in, numbers_are_small};
 
     ghost TYPE = { 1 };
 
@@ -181,39 +180,37 @@ impl OfNode<Linked> for ArcLink {
 
     fn from_node(alloc: Global, node: &LinkedNode) -> Result<Option<Arc<ArcLink>>, Error> {
         match node {
-            LinkedNode::Link(_) => Ok(None),
             LinkedNode::ArcLink(value) => Ok(Some(value.clone()?)),
-            LinkedNode::Bundle(_) => Ok(None),
+            LinkedNode::Link(_) | LinkedNode::Bundle(_) => Ok(None),
         }
     }
 
-    ghost small = { arc_link_number_is_small };
+    ghost small = { numbers_are_small.1.0 };
 }
 
 impl InNode<Linked> for ArcLink {
     ghost use Rattle.std.specs.Prelude.{refl};
-    ghost use Rattle.std.proofs.Common.{inr};
-    ghost use Rattle.pagable_examples.specs.Linked.{no_arc_link_type, arc_link_back, arc_link_there, arc_link_type};
+    ghost use Rattle.pagable_examples.specs.Linked.{held_means, held_type, holds_arc_link, means_held, other_type};
 
-    ghost in_type = { arc_link_type };
+    ghost in_type = { λ n. held_type n (holds_arc_link n) };
 
-    ghost other_type = { no_arc_link_type };
+    ghost other_type = { λ n. other_type n (holds_arc_link n) };
 
     ghost shape_is = { λ e. refl };
 
-    ghost same_meaning = { arc_link_there };
+    ghost same_meaning = { λ n. held_means n (holds_arc_link n) };
 
     ghost writes_as = { λ e h. h };
 
     ghost reads_as = { λ e h. h };
 
-    ghost meaning_back = { arc_link_back };
+    ghost meaning_back = { λ n. means_held n (holds_arc_link n) };
 }
 
 impl OfNode<Linked> for Bundle {
     ghost use Rattle.std.specs.Prelude.{◌≡◌, Some};
     ghost use Rattle.std.specs.Arc.{arc_value};
-    ghost use Rattle.pagable_examples.specs.Linked.{bundle_in, bundle_number_is_small};
+    ghost use Rattle.pagable_examples.specs.Linked.{bundle_in, numbers_are_small};
 
     ghost TYPE = { 2 };
 
@@ -229,31 +226,29 @@ impl OfNode<Linked> for Bundle {
 
     fn from_node(alloc: Global, node: &LinkedNode) -> Result<Option<Arc<Bundle>>, Error> {
         match node {
-            LinkedNode::Link(_) => Ok(None),
-            LinkedNode::ArcLink(_) => Ok(None),
             LinkedNode::Bundle(value) => Ok(Some(value.clone()?)),
+            LinkedNode::Link(_) | LinkedNode::ArcLink(_) => Ok(None),
         }
     }
 
-    ghost small = { bundle_number_is_small };
+    ghost small = { numbers_are_small.1.1 };
 }
 
 impl InNode<Linked> for Bundle {
     ghost use Rattle.std.specs.Prelude.{refl};
-    ghost use Rattle.std.proofs.Common.{inr};
-    ghost use Rattle.pagable_examples.specs.Linked.{no_bundle_type, bundle_back, bundle_there, bundle_type};
+    ghost use Rattle.pagable_examples.specs.Linked.{held_means, held_type, holds_bundle, means_held, other_type};
 
-    ghost in_type = { bundle_type };
+    ghost in_type = { λ n. held_type n (holds_bundle n) };
 
-    ghost other_type = { no_bundle_type };
+    ghost other_type = { λ n. other_type n (holds_bundle n) };
 
     ghost shape_is = { λ e. refl };
 
-    ghost same_meaning = { bundle_there };
+    ghost same_meaning = { λ n. held_means n (holds_bundle n) };
 
     ghost writes_as = { λ e h. h };
 
     ghost reads_as = { λ e h. h };
 
-    ghost meaning_back = { bundle_back };
+    ghost meaning_back = { λ n. means_held n (holds_bundle n) };
 }

@@ -1,14 +1,10 @@
 //! An enum of two cases that is carried as an `Option`: the shortest way where one of them has no part.
 
 ghost use Rattle.std.specs.Prelude.{◌≡◌};
-ghost use Rattle.pagable.specs.{Causes.memory_may_refuse_writing, Causes.memory_or_may_refuse_writing, Causes.never_is_own_reading, Gives.memory};
+ghost use Rattle.pagable.specs.{Causes.memory_may_refuse_writing, Causes.memory_or_may_refuse_writing, Gives.memory};
 ghost use Rattle.pagable_examples.specs.Sizes.{tenths_of};
 
-use pagable::{
-    Carried, Env, Error, PagableDeserialize, PagableDeserializer, PagableSerialize,
-    PagableSerializer,
-};
-use std::alloc::Global;
+use pagable::{CarriedAs, Env, Error, PagableSerialize, PagableSerializer, ReadAs};
 
 /// The size of a glass.
 #[derive(Clone, Copy, PartialEq)]
@@ -28,24 +24,21 @@ impl Size {
             Size::Large(tenths) => Some(tenths),
         }
     }
+}
 
-    /// The size of a glass that holds so many tenths of a litre.
-    pub fn of_tenths(tenths: Option<u8>) -> Size
-        ensures { tenths_of result ≡ tenths }
-    {
-        match tenths {
+impl CarriedAs for Size {
+    type Other = Option<u8>;
+
+    ghost other = { tenths_of };
+}
+
+impl ReadAs for Size {
+    fn of_other(value: Option<u8>) -> Self {
+        match value {
             None => Size::Small,
             Some(tenths) => Size::Large(tenths),
         }
     }
-}
-
-impl<E: Env> Carried<E> for Size {
-    ghost shape = { ⟦<Option<u8> as Carried<E>>⟧.shape };
-
-    ghost means = { λ s. ⟦<Option<u8> as Carried<E>>⟧.means (tenths_of s) };
-
-    ghost has_meaning = { λ s. ⟦<Option<u8> as Carried<E>>⟧.has_meaning (tenths_of s) };
 }
 
 impl<E: Env> PagableSerialize<E> for Size {
@@ -55,19 +48,5 @@ impl<E: Env> PagableSerialize<E> for Size {
 
     fn pagable_serialize<S: PagableSerializer<E>>(&self, serializer: &mut S) -> Result<(), Error> {
         self.tenths().pagable_serialize(serializer)
-    }
-}
-
-impl<'de, E: Env> PagableDeserialize<'de, E> for Size {
-    ghost read_causes = { ⟦<Option<u8> as PagableDeserialize<'de, E>>⟧.read_causes };
-
-    ghost read_causes_are_own = { never_is_own_reading };
-
-    fn pagable_deserialize<D: PagableDeserializer<E>>(
-        alloc: Global,
-        deserializer: &mut D,
-    ) -> Result<Self, Error> {
-        let tenths: Option<u8> = PagableDeserialize::pagable_deserialize(alloc, deserializer)?;
-        Ok(Size::of_tenths(tenths))
     }
 }

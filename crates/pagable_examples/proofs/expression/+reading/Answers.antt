@@ -1,5 +1,6 @@
-use Rattle.std.proofs.lemmas.Result.{err_from_is_err_and}
-use Rattle.pagable_examples.proofs.Expressions.{deep_unread, read_down, flag_unread, number_unread, number_read, left_unread, right_unread, sum_read}
+use Rattle.std.proofs.{Common.◌∙◌, lemmas.Result.err_from_is_err_and}
+use Rattle.pagable.proofs.Reading.{moves_trans}
+use Rattle.pagable_examples.proofs.Expressions.{deep_unread, read_down, flag_refused, gave_number, left_refused, number_refused, right_refused, sum_gives, then_read}
 use Rattle.pagable_examples.proofs.expression.+reading.Goals as goal
 
 pub read_below-returns-in_err-enter : goal.read_below-returns-in_err-enter
@@ -16,25 +17,44 @@ read_below-returns g t c =
 pub read_node-returns-in_err-read_flag : goal.read_node-returns-in_err-read_flag
 read_node-returns-in_err-read_flag g t c =
     let p = err_from_is_err_and c.from_residual.result c.from_residual.ensures.1 in
-    rw (p.1, p.2) (flag_unread _ _ _ _ _ _ _ _ _ c.in_err-read_flag.ensures)
+    let f = c.in_err-read_flag.ensures in
+    rw (p.1, p.2) (record { gives = flag_refused _ _ _ f.gives; moves = f.moves; same_env = f.same_env; same_levels = f.same_levels })
 
 pub read_node-returns-in_err-number : goal.read_node-returns-in_err-number
 read_node-returns-in_err-number g t c =
     let p = err_from_is_err_and c.from_residual-in_err-number.result c.from_residual-in_err-number.ensures.1 in
-    rw (p.1, p.2) (number_unread _ _ _ _ _ _ _ _ _ c.in_ok-read_flag.ensures _ _ _ _ _ c.if-branch.true c.in_err-number.ensures)
+    let f = c.in_ok-read_flag.ensures in
+    let n = c.in_err-number.ensures in
+    rw (p.1, p.2) (then_read f.moves f.same_env f.same_levels n.moves n.same_env n.same_levels (number_refused _ _ _ _ (rw c.if-branch.true at f.gives) (rw f.same_levels at n.gives)))
 
 pub read_node-returns-then-branch : goal.read_node-returns-then-branch
-read_node-returns-then-branch g t c = number_read _ _ _ _ _ _ _ _ _ c.in_ok-read_flag.ensures _ _ _ _ _ c.if-branch.true c.in_ok-number.ensures
+read_node-returns-then-branch g t c =
+    let f = c.in_ok-read_flag.ensures in
+    let n = c.in_ok-number.ensures in
+    then_read f.moves f.same_env f.same_levels n.moves n.same_env n.same_levels (gave_number _ _ _ _ _ (rw c.if-branch.true at f.gives) (rw f.same_levels at n.gives))
 
 pub read_node-returns-in_err-left : goal.read_node-returns-in_err-left
 read_node-returns-in_err-left g t c =
     let p = err_from_is_err_and c.from_residual-in_err-left.result c.from_residual-in_err-left.ensures.1 in
-    rw (p.1, p.2) (left_unread _ _ _ _ _ _ _ _ _ c.in_ok-read_flag.ensures _ _ _ _ _ c.if-branch.false c.in_err-left.ensures)
+    let f = c.in_ok-read_flag.ensures in
+    let n = c.in_err-left.ensures in
+    rw (p.1, p.2) (then_read f.moves f.same_env f.same_levels n.moves n.same_env n.same_levels (left_refused _ _ _ _ (rw c.if-branch.false at f.gives) (rw f.same_levels at n.gives)))
 
 pub read_node-returns-in_err-right : goal.read_node-returns-in_err-right
 read_node-returns-in_err-right g t c =
     let p = err_from_is_err_and c.from_residual-in_err-right.result c.from_residual-in_err-right.ensures.1 in
-    rw (p.1, p.2) (right_unread _ _ _ _ _ _ _ _ _ c.in_ok-read_flag.ensures _ _ _ _ _ c.if-branch.false c.in_ok-left.ensures _ _ _ _ _ c.in_err-right.ensures)
+    let f = c.in_ok-read_flag.ensures in
+    let v = c.in_ok-left.ensures in
+    let n = c.in_err-right.ensures in
+    let levels = v.same_levels ∙ f.same_levels in
+    rw (p.1, p.2) (then_read (moves_trans _ _ _ f.moves v.moves) (v.same_env ∙ f.same_env) levels n.moves n.same_env n.same_levels
+    (right_refused _ _ _ _ _ _ (rw c.if-branch.false at f.gives) (rw f.same_levels at v.gives) (rw levels at n.gives)))
 
 pub read_node-returns : goal.read_node-returns
-read_node-returns g t c = sum_read _ _ _ _ _ _ _ _ _ c.in_ok-read_flag.ensures _ _ _ _ _ c.if-branch.false c.in_ok-left.ensures _ c.sum_of.result _ _ _ _ c.in_ok-right.ensures c.sum_of.ensures
+read_node-returns g t c =
+    let f = c.in_ok-read_flag.ensures in
+    let v = c.in_ok-left.ensures in
+    let n = c.in_ok-right.ensures in
+    let levels = v.same_levels ∙ f.same_levels in
+    then_read (moves_trans _ _ _ f.moves v.moves) (v.same_env ∙ f.same_env) levels n.moves n.same_env n.same_levels
+    (sum_gives _ _ c.sum_of.result _ _ _ _ _ (rw c.if-branch.false at f.gives) (rw f.same_levels at v.gives) (rw levels at n.gives) c.sum_of.ensures)

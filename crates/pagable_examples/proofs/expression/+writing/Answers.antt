@@ -13,13 +13,14 @@ write_below-returns g t c =
     written_down _ c.write_node-done.result _ _ _ _ _ _ _ _ _ _ _ _ entered.ok entered.same_out entered.same_env c.write_node-done.ensures c.leave.ensures.up c.leave.ensures.same_out c.leave.ensures.same_env
 
 pub write_node-returns-in_ok-write_flag-in-Number : goal.write_node-returns-in_ok-write_flag-in-Number
-write_node-returns-in_ok-write_flag-in-Number g t c = number_written _ _ c.pagable_serialize.result _ _ _ _ _ _ _ _ _ c.in-Number.is c.in_ok-write_flag-in-Number.ensures c.pagable_serialize.ensures
+write_node-returns-in_ok-write_flag-in-Number g t c = number_written _ _ c.pagable_serialize.result c.in-Number.is c.in_ok-write_flag-in-Number.ensures c.pagable_serialize.ensures
 
 pub write_node-returns-in_err-write_below-in-Sum : goal.write_node-returns-in_err-write_below-in-Sum
 write_node-returns-in_err-write_below-in-Sum g t c =
     let p = err_from_is_err_and c.from_residual-in_err-write_below-in-Sum.result c.from_residual-in_err-write_below-in-Sum.ensures.1 in
-    rw (p.1, p.2) (left_unwritten c.in-Sum.left.value c.in-Sum.right.value _ _ _ _ _ _ _ _ _ _ _ (rw c.in-Sum.is refl) c.in_ok-write_flag-in-Sum.ensures (rw c.deref.ensures at c.in_err-write_below-in-Sum.ensures))
+    rw (p.1, p.2) (left_unwritten c.in-Sum.left.value c.in-Sum.right.value _ (rw c.in-Sum.is refl) _ c.in_ok-write_flag-in-Sum.ensures (rw c.deref.ensures at c.in_err-write_below-in-Sum.ensures))
 
 pub write_node-returns-in_ok-write_below-in-Sum : goal.write_node-returns-in_ok-write_below-in-Sum
 write_node-returns-in_ok-write_below-in-Sum g t c =
-    sum_written c.in-Sum.left.value c.in-Sum.right.value _ _ c.write_below-in-Sum.result _ _ _ _ _ _ _ _ _ _ _ _ (rw c.in-Sum.is refl) c.in_ok-write_flag-in-Sum.ensures (rw c.deref.ensures at c.in_ok-write_below-in-Sum.ensures) (rw c.deref-in-Sum.ensures at c.write_below-in-Sum.ensures)
+    sum_written c.in-Sum.left.value c.in-Sum.right.value _ (rw c.in-Sum.is refl) _ c.write_below-in-Sum.result c.in_ok-write_flag-in-Sum.ensures
+    (rw c.deref.ensures at c.in_ok-write_below-in-Sum.ensures) (rw c.deref-in-Sum.ensures at c.write_below-in-Sum.ensures)
