@@ -4,7 +4,7 @@ use crate::calls::asked::item;
 use crate::calls::nodes::node;
 use crate::calls::{CellPager, pager_over};
 use crate::times::Outcome;
-use anyhow::Context;
+use anyhow::{Context, bail};
 use pagable::{
     DataKey, Error, HandleNumber, PageOutError, SerializedData, Sha256Key, SlotTable, paging,
 };
@@ -151,22 +151,11 @@ impl Filling<'_> {
         Ok(Outcome { write, read })
     }
 
-    /// Pages out items on one table: their keys.
-    fn keys_of(&mut self, items: Vec<Item>) -> anyhow::Result<Vec<DataKey>> {
-        let mut table = SlotTable::new(self.alloc);
-        let mut keys = Vec::with_capacity(self.alloc, items.len())?;
-        for item in items {
-            let key = paging::page_out_item(self.alloc, self.pager, &mut table, item);
-            keys.push(key.ok().context("an item isn't paged out")?)?;
-        }
-        Ok(keys)
-    }
-
     /// Pages out lists, and reads each key.
     fn lists_out_and_in(&mut self, clock: &impl Clock, count: u32) -> anyhow::Result<Outcome> {
         let lists = self.lists(count)?;
         let start = Instant::now(clock)?;
-        let keys = self.keys_of(lists)?;
+        let keys = keys_of(self.alloc, self.pager, lists)?;
         let write = start.elapsed(clock)?;
         let start = Instant::now(clock)?;
         for key in keys {
@@ -175,6 +164,23 @@ impl Filling<'_> {
         let read = start.elapsed(clock)?;
         Ok(Outcome { write, read })
     }
+}
+
+/// Pages out items on one table: their keys.
+fn keys_of(
+    alloc: Global,
+    pager: &mut HashedPager,
+    items: Vec<Item>,
+) -> anyhow::Result<Vec<DataKey>> {
+    let mut table = SlotTable::new(alloc);
+    let mut keys = Vec::with_capacity(alloc, items.len())?;
+    for item in items {
+        match paging::page_out_item(alloc, pager, &mut table, item) {
+            Ok(key) => keys.push(key)?,
+            Err(_) => bail!("an item isn't paged out"),
+        }
+    }
+    Ok(keys)
 }
 
 /// Makes what a row pages out in a new pager, pages it out, and reads it back.
