@@ -104,7 +104,8 @@ module _ {me : Owner} {lists : Bool} {Asks Leaves : Type 0} {c : Change} where
     pub ends-load : {N : Type 0} {w w' : Core} {x : N} {t : ℕ} {references : List ArcRef} (l : LoadNumber) (r : Result HandleNumber (Error × Option N)) → EndCall w me l x t references r w'
         → Effect me lists Asks Leaves false c w w'
     ends-load {w = w} {w'} {references = references} l (Ok k) e = elim i.falls [
-      | inl (away, f) ↦ fell (handle (turned (moves closed (is_named_by references) (owner_value p.0) w.list (λ l is. absurd (cc)) named) h Mode.LoosePinned refl ours pinned-free) p Mode.Pinned me) f.falls
+      | inl (away, f) ↦
+          fell (handle (turned (moves closed (is_named_by references) (owner_value p.0) w.list (λ l is. absurd (cc)) named) h Mode.LoosePinned refl ours pinned-free) p Mode.Pinned me) f.falls
           (but (is_owned_in w (Owner.Load l)) (is_named_by references) (load-owns w l))
       | inr (there, f) ↦ fell (handle (turned closed h Mode.LoosePinned refl ours own-free) p Mode.Pinned me) f.falls (load-owns w l)
     ]

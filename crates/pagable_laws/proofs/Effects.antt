@@ -1,14 +1,16 @@
 -- What a step does: how it is felt, which handles and loads it leaves to others, and that the cache goes on to give for a kind and a key what it gave, as long as the node is held as the
 -- kind asks. The parts of which each call is made.
 use Rattle.pagable_laws.proofs.Words.{◌≡◌, ℕ, ◌<◌, ◌≤◌, ◌==◌, ◌&&◌, Bool, true, List, ◌++◌, Option, Some, None, inl, inr, refl, ap, subst, ◌∙◌, if◌then◌else◌, arith, Result, not, nat_lt, is_some}
-use Rattle.pagable_laws.proofs.Words.{and_parts, nat_tests, OptionalDataKey, HandleRow, Error, Among, updated, if_there, one, is_pinned_kind, is_pinning, is_pin, is_at, is_in_memory, pins, held, Core}
+use Rattle.pagable_laws.proofs.Words.{and_parts, nat_tests, OptionalDataKey, HandleRow, Error, Among, updated, if_there, one, is_pinned_kind, is_pinning, is_pin, is_at, is_in_memory, pins, held}
+use Rattle.pagable_laws.proofs.Words.{Core}
 use Rattle.pagable_laws.proofs.Words.{Cell, Alike, usable, Falls, left_rows, fallen, suc, zero, ◌||◌, false, [], ◌∷◌, sym, slice_get, Owner, Mode, ArcRef, HandleNumber, LoadNumber, NodeNumber}
 use Rattle.pagable_laws.proofs.Words.{changed, find_row, is_handle, is_owner, is_owned_by, owner_worker, nobody, only_handle, Owns, with_handle, with_mode, moved, is_named_by, is_owned_in}
 use Rattle.pagable_laws.proofs.Words.{OwnersAreThere, AreGood, Blob, Kind, is_in, named_fault, numbers_of, owner_value, refused_if, row_at, with_cached, with_node, without_load, ◌+◌, row_of}
 use Rattle.pagable_laws.proofs.Words.{is_load_of, is_workers, is_workers_at, OpenLoad, load_fault, earlier, Change, nothing_felt, sets_key, Knows, Bears, Root, with_load, with_key, is_loose}
 use Rattle.pagable_laws.proofs.{Sums.{same-number, self-number, at-most-sum, counted, one-true}, Decoding.{among-either}, Trees.same_some, GoodReferences.same-owner}
 use Rattle.pagable_laws.proofs.Outlasting.{among-kept, NotValues, Stands, stands-alike, stands-changed, stands-fell, stands-more}
-use Rattle.pagable_laws.proofs.Goes.{found-number, le-more, none-in-next, Goes, Quiet, IsShut, NotLoads, rows-self, rows-mode, rows-moved, alike, parts, quiet-self, only-rows, a-handle, quiet-goes, goes-quiet, born, keyed}
+use Rattle.pagable_laws.proofs.Goes.{found-number, le-more, none-in-next, Goes, Quiet, IsShut, NotLoads, rows-self, rows-mode, rows-moved, alike, parts, quiet-self, only-rows, a-handle}
+use Rattle.pagable_laws.proofs.Goes.{quiet-goes, goes-quiet, born, keyed}
 use Rattle.pagable_laws.proofs.Goes.{goes-then, goes-known, le-self, fell as quiet-fell}
 use Rattle.pagable_world.specs.Refusals.{OwnsLoad}
 use Rattle.std.proofs.lemmas.Bool.{false_from_ne_true}
@@ -159,18 +161,12 @@ module _ (mine : Owner) where
   pub spares-then : {w m w' : Core} → Spares w m → Spares m w' → Spares w w'
   spares-then a b = record { each = λ q row own s. b.each q row own (a.each q row own s) }
 
-  pub spares-alike : {w w' : Core} → Alike w w' → Spares w w'
-  spares-alike a = record { each = λ q row own s. stands-alike a s }
-
   -- with the same rows, the second core stays alike
   pub then-alike : {w m w' : Core} → Alike m w' → Spares w m → Spares w w'
-  then-alike a b = spares-then b (spares-alike a)
+  then-alike a b = record { each = λ q row own s. stands-alike a (b.each q row own s) }
 
   pub then-fell : IsApart mine → {before w m w' : Core} {given : ℕ → Bool} {r : _} → Falls before m given r w' → Spares w m → Free w given → Spares w w'
   then-fell apart f a free = record { each = λ q row own s. stands-fell f (λ n is. apart.no_value n (sym own ∙ is)) (free.each q row own s) (a.each q row own s) }
-
-  pub itself : {w : Core} → Spares w w
-  itself = record { each = λ q row own s. s }
 
   pub spares-handle : (w : Core) (node : NodeNumber) (mode : Mode) (owner : Owner) → Spares w (with_handle w node mode owner)
   spares-handle w node mode owner = record { each = λ q row own s. with-one w node mode owner s }
@@ -194,10 +190,6 @@ module _ (mine : Owner) where
   same-row : {last : ℕ} {rows : List HandleRow} {q n : ℕ} {row : HandleRow} (r : HandleRow) → Stands last rows q row → find_row n rows ≡ Some r → q ≡ n → row.owner ≡ r.owner
   same-row {rows = rows} r s found same = ap (λ (x : HandleRow). x.owner) (same_some _ _ (sym s.live ∙ ap (λ n. find_row n rows) same ∙ found))
 
-  -- a handle of another's isn't the owner's
-  pub other-handle : {w : Core} {me : Owner} {fits : Mode → Bool} (h : HandleNumber) (r : HandleRow) → (me ≡ mine → ⊥) → Owns w me h fits r → Free w (only_handle h)
-  other-handle {w} {me} h r other owns = grind (arith, nat_tests)
-
   -- references of another's name none of the owner's handles
   pub named-free : (w : Core) (owner : Owner) (rs : List ArcRef) → (owner ≡ mine → ⊥) → AreGood w owner rs → Free w (is_named_by rs)
   named-free w owner rs other right = record {
@@ -206,16 +198,6 @@ module _ (mine : Owner) where
         let is = right a.0 a.1 in
         other (sym is.owned ∙ (sym (same-row is.row s is.live (sym a.2)) ∙ own)));
   }
-
-  -- what a load owns isn't the owner's
-  pub load-free : IsApart mine → (w : Core) (l : LoadNumber) → Free w (is_owned_in w (Owner.Load l))
-  load-free apart w l = record { each = λ q row own s. ap (λ (f : Option HandleRow). if_there (is_owned_by (Owner.Load l)) false f) s.live ∙ (ap (is_owner (Owner.Load l)) own ∙ apart.no_load l) }
-
-  pub both-free : {w : Core} (f g : ℕ → Bool) → Free w f → Free w (λ q. f q && not (g q))
-  both-free f g free = record { each = λ q row own s. ap (λ b. b && not (g q)) (free.each q row own s) }
-
-  pub nobody-free : {w : Core} → Free w nobody
-  nobody-free = record { each = λ q row own s. refl }
 
   -- an entry of the list isn't the owner's
   pub listed-free : is_owner Owner.List mine ≡ false → {w : Core} → OwnersAreThere w → (i : ℕ) (h : HandleNumber) → slice_get w.list i ≡ Some h → Free w (only_handle h)
@@ -309,7 +291,7 @@ module _ (mine : Owner) (apart : IsApart mine) (u : ℕ) (other : owner_worker u
 
 module _ {me : Owner} {lists : Bool} where
   pub own-handle : {w : Core} {fits : Mode → Bool} (h : HandleNumber) (row : HandleRow) → Owns w me h fits row → Ours me lists w (only_handle h)
-  own-handle h row owns mine o = other-handle mine h row o.other owns
+  own-handle {w} h row owns mine o = let other = o.other in grind (arith, nat_tests)
 
   pub load-named : (w : Core) (l : LoadNumber) (references : List ArcRef) → AreGood w (Owner.Load l) references → Ours me lists w (is_named_by references)
   load-named w l references right mine o = named-free mine w (Owner.Load l) references (not-load l o.apart) right
@@ -318,13 +300,14 @@ module _ {me : Owner} {lists : Bool} where
   own-named w references right mine o = named-free mine w me references o.other right
 
   pub load-owns : (w : Core) (l : LoadNumber) → Ours me lists w (is_owned_in w (Owner.Load l))
-  load-owns w l mine o = load-free mine o.apart w l
+  load-owns w l mine o = record
+      { each = λ q row own s. ap (λ (f : Option HandleRow). if_there (is_owned_by (Owner.Load l)) false f) s.live ∙ (ap (is_owner (Owner.Load l)) own ∙ o.apart.no_load l) }
 
   pub but : {w : Core} (f g : ℕ → Bool) → Ours me lists w f → Ours me lists w (λ q. f q && not (g q))
-  but f g free mine o = both-free mine f g (free mine o)
+  but f g free mine o = record { each = λ q row own s. ap (λ b. b && not (g q)) ((free mine o).each q row own s) }
 
   pub no-one : {w : Core} → Ours me lists w nobody
-  no-one mine o = nobody-free mine
+  no-one mine o = record { each = λ q row own s. refl }
 
   pub entry : lists ≡ true → {w : Core} (i : ℕ) (h : HandleNumber) → slice_get w.list i ≡ Some h → Ours me lists w (only_handle h)
   entry taken i h at mine o = listed-free mine (o.unlisted taken).0 (o.unlisted taken).1 i h at
@@ -336,8 +319,19 @@ module _ {me : Owner} {lists : Bool} where
 module _ {me : Owner} {lists : Bool} {Asks Leaves : Type 0} where
   -- ---- what is done directly
 
+  -- loads and workers stay
+  at-rest : {c : Change} {w x : Core} → x.workers ≡ w.workers → x.loads ≡ w.loads → Goes c w x → ((mine : Owner) → IsOther me lists w mine → Spares mine w x)
+      → (Leaves → (kind key n : ℕ) → IsEntered kind key n w.cache w.cells → IsEntered kind key n x.cache x.cells) → Effect me lists Asks Leaves true c w x
+  at-rest works loads goes spares enters = record {
+    goes = goes;
+    spares = spares;
+    lasts = λ k kind key n e h still. enters k kind key n e;
+    workers = λ v. ap (λ (f : ℕ → Bool). f v) works;
+    others = λ own l load is few other. ap (λ (f : ℕ → Option OpenLoad). f l) loads ∙ is;
+  }
+
   pub none : {c : Change} (w : Core) → Effect me lists Asks Leaves true c w w
-  none {c} w = record { goes = quiet-goes c (quiet-self w); spares = λ mine o. itself mine; lasts = λ k kind key n e h still. e; workers = λ v. refl; others = λ own l load is few other. is }
+  none {c} w = at-rest refl refl (quiet-goes c (quiet-self w)) (λ mine o. record { each = λ q row own s. s }) (λ k kind key n e. e)
 
   module _ {c : Change} {w m : Core} (d : Effect me lists Asks Leaves true c w m) where
     -- handles alone
@@ -354,11 +348,13 @@ module _ {me : Owner} {lists : Bool} {Asks Leaves : Type 0} where
     pub handle : (node : NodeNumber) (mode : Mode) (owner : Owner) → Effect me lists Asks Leaves true c w (with_handle m node mode owner)
     handle node mode owner = rowed (a-handle m node mode owner) (λ mine o. spares-then mine (d.spares mine o) (spares-handle mine m node mode owner))
 
-    pub turned : (h : HandleNumber) (mode : Mode) → is_loose mode ≡ true → Ours me lists w (only_handle h) → ((r : HandleRow) → find_row h.0 m.rows ≡ Some r → NotLoads r.owner) → Effect me lists Asks Leaves true c w (with_mode m h mode)
+    pub turned : (h : HandleNumber) (mode : Mode) → is_loose mode ≡ true → Ours me lists w (only_handle h) → ((r : HandleRow) → find_row h.0 m.rows ≡ Some r → NotLoads r.owner)
+        → Effect me lists Asks Leaves true c w (with_mode m h mode)
     turned h mode is free safe = rowed (only-rows (rows-mode m.last.handle m.rows h mode is safe) (le-self _))
         (λ mine o. record { each = λ q row own s. mode-free mine h mode ((free mine o).each q row own s) ((d.spares mine o).each q row own s) })
 
-    pub moves : (set : ℕ → Bool) (owner : Owner) (list : List HandleNumber) → NotLoads owner → Ours me lists w set → Effect me lists Asks Leaves true c w (record m { rows = moved set owner m.rows; list = list })
+    pub moves : (set : ℕ → Bool) (owner : Owner) (list : List HandleNumber) → NotLoads owner → Ours me lists w set
+        → Effect me lists Asks Leaves true c w (record m { rows = moved set owner m.rows; list = list })
     moves set owner list safe free = rowed (only-rows (rows-moved m.last.handle m.rows set owner safe) (le-self _))
         (λ mine o. record { each = λ q row own s. moved-free mine set owner ((free mine o).each q row own s) ((d.spares mine o).each q row own s) })
 
@@ -382,7 +378,8 @@ module _ {me : Owner} {lists : Bool} {Asks Leaves : Type 0} where
         other k q p e h was true false x y = was
         other k q p e h was false b x y = was
 
-    pub cached-if : (b : Bool) (kind : Kind) (key : ℕ) (n : NodeNumber) → Knows c w kind.0 key n.0 → usable w kind.0 key ≡ None → Effect me lists Asks Leaves true c w (if b then m else with_cached m kind key n)
+    pub cached-if : (b : Bool) (kind : Kind) (key : ℕ) (n : NodeNumber) → Knows c w kind.0 key n.0 → usable w kind.0 key ≡ None
+        → Effect me lists Asks Leaves true c w (if b then m else with_cached m kind key n)
     cached-if true kind key n knows unknown = d
     cached-if false kind key n knows unknown = cached kind key n knows unknown
 
@@ -425,59 +422,33 @@ module _ {me : Owner} {lists : Bool} {Asks Leaves : Type 0} where
       others = λ own l load is few other. f.leaves.loads l ∙ d.others own l load is few other;
     }
 
-  pub own-mode : NotLoads me → {c : Change} (w : Core) {fits : Mode → Bool} (h : HandleNumber) (row : HandleRow) → Owns w me h fits row → (mode : Mode) → is_loose mode ≡ true → Effect me lists Asks Leaves true c w (with_mode w h mode)
+  pub own-mode : NotLoads me → {c : Change} (w : Core) {fits : Mode → Bool} (h : HandleNumber) (row : HandleRow) → Owns w me h fits row → (mode : Mode) → is_loose mode ≡ true
+      → Effect me lists Asks Leaves true c w (with_mode w h mode)
   own-mode free w h row owns mode is = turned (none w) h mode is (own-handle h row owns)
       (λ r found. subst NotLoads (sym (ap (λ (x : HandleRow). x.owner) (same_some _ _ (sym found ∙ owns.live)) ∙ owns.own)) free)
 
-  pub node : {c : Change} (w : Core) (t : ℕ) (own : OptionalDataKey) (references : List ArcRef) → Bears c t own → Ours me lists w (is_named_by references) → Effect me lists Asks Leaves true c w (with_node w t own references)
-  node {c} w t own references bears free = record {
-    goes = born c w t own references bears;
-    spares = λ mine o. record { each = λ q row mine_is s. moved-free mine (is_named_by references) (owner_value (w.last.node + 1)) ((free mine o).each q row mine_is s) s };
-    lasts = λ k kind key n e h still. entered-born kind key n _ _ e;
-    workers = λ v. refl;
-    others = λ own l load is few other. is;
-  }
+  pub node : {c : Change} (w : Core) (t : ℕ) (own : OptionalDataKey) (references : List ArcRef) → Bears c t own → Ours me lists w (is_named_by references)
+      → Effect me lists Asks Leaves true c w (with_node w t own references)
+  node {c} w t own references bears free = at-rest refl refl (born c w t own references bears)
+      (λ mine o. record { each = λ q row mine_is s. moved-free mine (is_named_by references) (owner_value (w.last.node + 1)) ((free mine o).each q row mine_is s) s })
+      (λ k kind key n e. entered-born kind key n _ _ e)
 
   pub with-key : (w : Core) (n : NodeNumber) (key : ℕ) → Effect me lists Asks Leaves true (sets_key n.0 key) w (with_key w n key)
-  with-key w n key = record {
-    goes = keyed w n key;
-    spares = λ mine o. record { each = λ q row own s. s };
-    lasts = λ k kind q p e h still. entered-keyed kind q p n.0 key e;
-    workers = λ v. refl;
-    others = λ own l load is few other. is;
-  }
+  with-key w n key = at-rest refl refl (keyed w n key) (λ mine o. record { each = λ q row own s. s }) (λ k kind q p e. entered-keyed kind q p n.0 key e)
 
   -- what is stored may grow, and the storage may fail
   pub beside : {c : Change} (w : Core) (stored : ℕ → Option Blob) (failures : ℕ) → ((q : ℕ) (b : Blob) → w.stored q ≡ Some b → stored q ≡ Some b) → (IsShut w → (q : ℕ) → stored q ≡ None)
       → Effect me lists Asks Leaves true c w (record w { stored = stored; failures = failures })
-  beside {c} w stored failures keeps shut = let q = quiet-self w in record {
-    goes = quiet-goes c (record {
-      nodes = q.nodes;
-      handles = q.handles;
-      loads_last = q.loads_last;
-      workers_last = q.workers_last;
-      cells = q.cells;
-      stored = keeps;
-      loads = q.loads;
-      cache = q.cache;
-      rows = q.rows;
-      shut = λ is. (is.0, shut is);
-    });
-    spares = λ mine o. record { each = λ q row own s. s };
-    lasts = λ k kind key n e h still. e;
-    workers = λ v. refl;
-    others = λ own l load is few other. is;
-  }
+  beside {c} w stored failures keeps shut = at-rest refl refl (grow (quiet-self w)) (λ mine o. record { each = λ q row own s. s }) (λ k kind key n e. e)
+    where
+      grow : Quiet w w → Goes c w (record w { stored = stored; failures = failures })
+      grow q = grind (arith, le-self)
 
   -- the cache forgets all
   pub forgets : {c : Change} (w : Core) → (Leaves → ⊥) → Effect me lists Asks Leaves true c w (record w { cache = λ kind key. None })
-  forgets {c} w none = record {
-    goes = quiet-goes c (parts (le-self _) (le-self _) (λ n cell is. is) (λ l load is. is) (λ kind key n is. absurd (cc)) (rows-self w.last.handle w.rows w.rows refl));
-    spares = λ mine o. record { each = λ q row own s. s };
-    lasts = λ k. absurd (none k);
-    workers = λ v. refl;
-    others = λ own l load is few other. is;
-  }
+  forgets {c} w none = at-rest refl refl
+      (quiet-goes c (parts (le-self _) (le-self _) (λ n cell is. is) (λ l load is. is) (λ kind key n is. absurd (cc)) (rows-self w.last.handle w.rows w.rows refl)))
+      (λ mine o. record { each = λ q row own s. s }) (λ k. absurd (none k))
 
   pub stays : {c : Change} {w w' : Core} → Alike w w' → Effect me lists Asks Leaves false c w w'
   stays {w = w} a = like (none w) a

@@ -117,14 +117,28 @@ module _ (types : Types) (root_key root_type : ℕ) where
     unfolding FramesFit
     first-typed top frame below h = h.1
 
--- where the node of each handle that is got was given, all stay given
-pub got-given : (last last' : ℕ) (frames : List Frame) (kind : Kind) (row : HandleRow) → FramesGiven last frames → last ≤ last' → row.node.0 ≤ last' → FramesGiven last' (with_got kind row frames)
-got-given last last' [] kind row given le node frame r (i, is) among = absurd (cc)
-got-given last last' (top ∷ below) kind row given le node frame r (zero, is) (place, there) =
-    let got_is : frame.got ≡ top.got ++ record { kind = kind; node = row.node; handle = row.number } ∷ [] = cc in
-    of (pushed top.got _ place r (subst (λ (rs : List ArcRef). slice_get rs place ≡ Some r) got_is there))
-  where
-    of : (slice_get top.got place ≡ Some r) ⊎ ((place ≡ length top.got) × (record { kind = kind; node = row.node; handle = row.number } ≡ r)) → r.node.0 ≤ last'
-    of (inl old) = let a = given top r (zero, refl) (place, old) in omega (arith, a, le)
-    of (inr new) = subst (λ (z : ArcRef). z.node.0 ≤ last') new.1 node
-got-given last last' (top ∷ below) kind row given le node frame r (suc i, is) among = let a = given frame r (suc i, is) among in omega (arith, a, le)
+-- ---- what is so of each reference that was got
+
+abbrev pub AllGot : (ArcRef → Type 0) → List Frame → Type 0
+AllGot P frames = (frame : Frame) (r : ArcRef) → Among frames frame → Among frame.got r → P r
+
+module _ (P : ArcRef → Type 0) where
+  pub all-none : (frames : List Frame) → frames ≡ [] → AllGot P frames
+  all-none frames none frame r among got = let there = subst (λ fs. Among fs frame) none among in absurd (let e = there.1 in cc)
+
+  pub all-new : (frame : Frame) (frames : List Frame) → frame.got ≡ [] → AllGot P frames → AllGot P (frame ∷ frames)
+  all-new frame frames none all f r (zero, is) (place, there) = grind (arith, nat_tests)
+  all-new frame frames none all f r (suc i, is) among = all f r (i, is) among
+
+  pub all-below : (frames : List Frame) (top : Frame) (below : List Frame) → frames ≡ top ∷ below → AllGot P frames → AllGot P below
+  all-below frames top below is all = let a = subst (λ fs. AllGot P fs) is all in λ frame r among got. a frame r (suc among.0, among.1) got
+
+  pub all-got : (frames : List Frame) (kind : Kind) (row : HandleRow) → AllGot P frames → P (record { kind = kind; node = row.node; handle = row.number }) → AllGot P (with_got kind row frames)
+  all-got [] kind row all new frame r (i, is) got = absurd (cc)
+  all-got (top ∷ below) kind row all new frame r (zero, is) (place, there) =
+      let got_is : frame.got ≡ top.got ++ record { kind = kind; node = row.node; handle = row.number } ∷ [] = cc in
+      elim (pushed top.got _ place r (subst (λ (rs : List ArcRef). slice_get rs place ≡ Some r) got_is there)) [
+        | inl old ↦ all top r (zero, refl) (place, old)
+        | inr last ↦ subst P last.1 new
+      ]
+  all-got (top ∷ below) kind row all new frame r (suc i, is) got = all frame r (suc i, is) got

@@ -78,11 +78,7 @@ rows-then last more rows mid rows' le first second q row found few =
 pub found-number : (q : ℕ) (rows : List HandleRow) (row : HandleRow) → find_row q rows ≡ Some row → row.number.0 ≡ q
 unfolding find_row
 found-number q [] row found = absurd (cc)
-found-number q (h ∷ hs) row found = at (λ f. found-number q hs row f) (is_handle q h) refl found
-  where
-    at : (find_row q hs ≡ Some row → row.number.0 ≡ q) → (b : Bool) → is_handle q h ≡ b → (if b then Some h else find_row q hs) ≡ Some row → row.number.0 ≡ q
-    at rest true is found = let e : h ≡ row = cc in sym (ap (λ (r : HandleRow). r.number.0) e) ∙ same-number _ _ is
-    at rest false is found = rest found
+found-number q (h ∷ hs) row found = grind (arith, nat_tests, same-number, found-number q hs row)
 
 -- a handle that is found in a changed row was found before
 pub record Changed (test : HandleRow → Bool) (f : HandleRow → HandleRow) (rows : List HandleRow) (q : ℕ) (row : HandleRow) : Type 0 where
@@ -116,27 +112,32 @@ found-changed test f same q (h ∷ hs) row found = at (λ e. found-changed test 
 abbrev pub NotLoads : Owner → Type 0
 NotLoads o = (l : LoadNumber) → o ≡ Owner.Load l → ⊥
 
+-- where rows are changed, of which none is a load's then, each at its node and none tighter than it was
+pub rows-changed : (last : ℕ) (rows : List HandleRow) (test : HandleRow → Bool) (f : HandleRow → HandleRow) → ((h : HandleRow) → ((f h).number ≡ h.number) × ((f h).node ≡ h.node))
+    → ((h : HandleRow) → find_row h.number.0 rows ≡ Some h → test h ≡ true → NotLoads (f h).owner × (is_loose h.mode ≡ true → is_loose (f h).mode ≡ true)) → RowsGo last rows (changed test f rows)
+rows-changed last rows test f same safe q row found few = let c = found-changed test f (λ h. (same h).0) q rows row found in at c (test c.was) refl
+  where
+    at : (c : Changed test f rows q row) → (b : Bool) → test c.was ≡ b → Was rows q row
+    at c true is =
+        let e : row ≡ f c.was = rw is at c.is in
+        let s = safe c.was (ap (λ n. find_row n rows) (found-number q rows c.was c.live) ∙ c.live) is in
+        record {
+          was = c.was;
+          live = c.live;
+          at = sym (ap (λ (r : HandleRow). r.node) e ∙ (same c.was).1);
+          mine = λ l mine. absurd (s.0 l (sym (ap (λ (r : HandleRow). r.owner) e) ∙ mine));
+          loose = λ was. ap is_loose (ap (λ (r : HandleRow). r.mode) e) ∙ s.1 was;
+        }
+    at c false is = let e : c.was ≡ row = sym (rw is at c.is) in
+        record { was = c.was; live = c.live; at = ap (λ (r : HandleRow). r.node) e; mine = λ l mine. e; loose = λ was. ap is_loose (sym (ap (λ (r : HandleRow). r.mode) e)) ∙ was }
+
 pub rows-mode : (last : ℕ) (rows : List HandleRow) (h : HandleNumber) (mode : Mode) → is_loose mode ≡ true → ((r : HandleRow) → find_row h.0 rows ≡ Some r → NotLoads r.owner)
     → RowsGo last rows (changed (is_handle h.0) (λ row. record row { mode = mode }) rows)
-rows-mode last rows h mode is_so free q row found few = let c = found-changed (is_handle h.0) (λ row. record row { mode = mode }) (λ r. refl) q rows row found in at c (is_handle h.0 c.was) refl
-  where
-    at : (c : Changed (is_handle h.0) (λ row. record row { mode = mode }) rows q row) → (b : Bool) → is_handle h.0 c.was ≡ b → Was rows q row
-    at c true is =
-        let e : row ≡ record c.was { mode = mode } = rw is at c.is in
-        let n : q ≡ h.0 = sym (found-number q rows c.was c.live) ∙ same-number _ _ is in
-        let o : row.owner ≡ c.was.owner = ap (λ (r : HandleRow). r.owner) e in
-        record { was = c.was; live = c.live; at = sym (ap (λ (r : HandleRow). r.node) e); mine = λ l mine. absurd (free c.was (subst (λ k. find_row k rows ≡ Some c.was) n c.live) l (sym o ∙ mine)); loose = λ was. ap is_loose (ap (λ (r : HandleRow). r.mode) e) ∙ is_so }
-    at c false is = let e : row ≡ c.was = rw is at c.is in record { was = c.was; live = c.live; at = sym (ap (λ (r : HandleRow). r.node) e); mine = λ l mine. sym e; loose = λ was. ap is_loose (ap (λ (r : HandleRow). r.mode) e) ∙ was }
+rows-mode last rows h mode is_so free = rows-changed last rows (is_handle h.0) (λ row. record row { mode = mode }) (λ r. (refl, refl))
+    (λ r found is. (free r (ap (λ n. find_row n rows) (sym (same-number _ _ is)) ∙ found), λ was. is_so))
 
 pub rows-moved : (last : ℕ) (rows : List HandleRow) (s : ℕ → Bool) (owner : Owner) → NotLoads owner → RowsGo last rows (moved s owner rows)
-rows-moved last rows s owner free q row found few = let c = found-changed (λ (r : HandleRow). s r.number.0) (λ row. record row { owner = owner }) (λ r. refl) q rows row found in
-    at c (s c.was.number.0) refl
-  where
-    at : (c : Changed (λ (r : HandleRow). s r.number.0) (λ row. record row { owner = owner }) rows q row) → (b : Bool) → s c.was.number.0 ≡ b → Was rows q row
-    at c true is =
-        let e : row ≡ record c.was { owner = owner } = rw is at c.is in
-        record { was = c.was; live = c.live; at = sym (ap (λ (r : HandleRow). r.node) e); mine = λ l mine. absurd (free l (sym (ap (λ (r : HandleRow). r.owner) e) ∙ mine)); loose = λ was. ap is_loose (ap (λ (r : HandleRow). r.mode) e) ∙ was }
-    at c false is = let e : row ≡ c.was = rw is at c.is in record { was = c.was; live = c.live; at = sym (ap (λ (r : HandleRow). r.node) e); mine = λ l mine. sym e; loose = λ was. ap is_loose (ap (λ (r : HandleRow). r.mode) e) ∙ was }
+rows-moved last rows s owner free = rows-changed last rows (λ r. s r.number.0) (λ row. record row { owner = owner }) (λ r. (refl, refl)) (λ r found is. (free, λ was. was))
 
 other-number : (q n last : ℕ) → q ≤ last → n ≡ last + 1 → (n == q) ≡ false
 other-number q n last few next = grind (arith, nat_tests)
@@ -164,20 +165,7 @@ none-in-next last q h next few = let a : is_handle q h ≡ false = other-number 
 pub found-left : (gone : ℕ → Bool) (q : ℕ) (rows : List HandleRow) (row : HandleRow) → find_row q (left_rows gone rows) ≡ Some row → (find_row q rows ≡ Some row) × (gone q ≡ false)
 unfolding find_row
 found-left gone q [] row found = absurd (cc)
-found-left gone q (h ∷ hs) row found = at (λ f. found-left gone q hs row f) (gone h.number.0) refl (is_handle q h) refl
-  where
-    at : (find_row q (left_rows gone hs) ≡ Some row → (find_row q hs ≡ Some row) × (gone q ≡ false)) → (b : Bool) → gone h.number.0 ≡ b → (d : Bool) → is_handle q h ≡ d
-        → (find_row q (h ∷ hs) ≡ Some row) × (gone q ≡ false)
-    at back true goes true is =
-        let f : find_row q (left_rows gone hs) ≡ Some row = rw goes at found in
-        let b = back f in
-        let e : gone q ≡ true = sym (ap gone (same-number _ _ is)) ∙ goes in
-        absurd (cc)
-    at back true goes false is = let f : find_row q (left_rows gone hs) ≡ Some row = rw goes at found in let b = back f in (rw is b.0, b.1)
-    at back false goes true is = let f : find_row q (h ∷ left_rows gone hs) ≡ Some row = rw goes at found in let g : Some h ≡ Some row = rw is at f in
-        (rw is g, sym (ap gone (same-number _ _ is)) ∙ goes)
-    at back false goes false is = let f : find_row q (h ∷ left_rows gone hs) ≡ Some row = rw goes at found in let g : find_row q (left_rows gone hs) ≡ Some row = rw is at f in let b = back g in
-        (rw is b.0, b.1)
+found-left gone q (h ∷ hs) row found = grind (arith, nat_tests, same-number, found-left gone q hs row)
 
 pub rows-left : (last : ℕ) (rows : List HandleRow) (gone : ℕ → Bool) → RowsGo last rows (left_rows gone rows)
 rows-left last rows gone q row found few = record { was = row; live = (found-left gone q rows row found).0; at = refl; mine = λ l is. refl; loose = λ is. is }
@@ -185,19 +173,7 @@ rows-left last rows gone q row found few = record { was = row; live = (found-lef
 -- ---- quiet steps
 
 pub quiet-then : {w m w' : Core} → Quiet w m → Quiet m w' → Quiet w w'
-quiet-then {w} {m} {w'} a b =
-    record {
-      nodes = let c = a.nodes in let d = b.nodes in omega arith;
-      handles = let c = a.handles in let d = b.handles in omega arith;
-      loads_last = let c = a.loads_last in let d = b.loads_last in omega arith;
-      workers_last = let c = a.workers_last in let d = b.workers_last in omega arith;
-      cells = λ n cell is. a.cells n cell (b.cells n cell is);
-      stored = λ q blob is. b.stored q blob (a.stored q blob is);
-      loads = λ l load is. a.loads l load (b.loads l load is);
-      cache = λ kind key n is. a.cache kind key n (b.cache kind key n is);
-      rows = rows-then w.last.handle m.last.handle w.rows m.rows w'.rows a.handles a.rows b.rows;
-      shut = λ is. b.shut (a.shut is);
-    }
+quiet-then {w} {m} {w'} a b = grind (arith, rows-then)
 
 le-of : (a b : ℕ) → b ≡ a → a ≤ b
 le-of a b is = omega arith
@@ -243,19 +219,7 @@ pub quiet-goes : (c : Change) {w w' : Core} → Quiet w w' → Goes c w w'
 quiet-goes c q = grind arith
 
 pub goes-quiet : {c : Change} {w m w' : Core} → Goes c w m → Quiet m w' → Goes c w w'
-goes-quiet {c} {w} {m} {w'} a b =
-    record {
-      nodes = let c = a.nodes in let d = b.nodes in omega arith;
-      handles = let c = a.handles in let d = b.handles in omega arith;
-      loads_last = let c = a.loads_last in let d = b.loads_last in omega arith;
-      workers_last = let c = a.workers_last in let d = b.workers_last in omega arith;
-      cells = λ n cell is. a.cells n cell (b.cells n cell is);
-      stored = λ q blob is. b.stored q blob (a.stored q blob is);
-      loads = λ l load is. a.loads l load (b.loads l load is);
-      cache = λ kind key n is. a.cache kind key n (b.cache kind key n is);
-      rows = rows-then w.last.handle m.last.handle w.rows m.rows w'.rows a.handles a.rows b.rows;
-      shut = λ is. b.shut (a.shut is);
-    }
+goes-quiet {c} {w} {m} {w'} a b = grind (arith, rows-then)
 
 -- at a number, or elsewhere
 pub at-updated : {X : Type 0} (m : ℕ) (x : Option X) (f : ℕ → Option X) (n : ℕ) (y : X) → updated m x f n ≡ Some y → ((n ≡ m) × (x ≡ Some y)) ⊎ (f n ≡ Some y)

@@ -35,7 +35,8 @@ module _ {w w' : Core} (whole : IsWhole w) (kind : Kind) (key n : ℕ) (g : Gets
   old m is gets q enters = subst (λ x. Gotten w kind key x w') (sym gets.at ∙ g.at) (record { held = held-by kind key gets; from = got-old is q (enters (entered-of kind.0 key m w is)) })
 
   known : GetsKnown w g.l kind key g.k w' → Gotten w kind key n w'
-  known c = old c.n c.known (got-known whole.handles kind g.k g.row g.made c.next.above c.n (Owner.Load g.l) c.leaves) (gets-known {me = Owner.Caller} {lists = false} {Asks = Unit {0}} {Leaves = Unit {0}} c).goes (λ e h. stays-alike kind.0 key c.n c.leaves e h)
+  known c = old c.n c.known (got-known whole.handles kind g.k g.row g.made c.next.above c.n (Owner.Load g.l) c.leaves)
+      (gets-known {me = Owner.Caller} {lists = false} {Asks = Unit {0}} {Leaves = Unit {0}} c).goes (λ e h. stays-alike kind.0 key c.n c.leaves e h)
 
   new : (own : OptionalDataKey) (references : List ArcRef) → g.k.0 ≡ w.last.handle + 1 → usable w kind.0 key ≡ None → Alike (adopted w g.l kind key own references) w' → Gotten w kind key n w'
   new own references above none a =

@@ -36,6 +36,7 @@ mod Answering
 mod Brought
 mod KnownSteps
 pub mod Chains
+mod FewOfEach
 mod Level
 mod Heights
 mod Deeply

@@ -3,10 +3,10 @@ use Rattle.pagable_laws.proofs.Words.{nat_tests, ◌≡◌, ℕ, zero, suc, ◌+
 use Rattle.pagable_laws.proofs.Words.{slice_get, sum_by, sum_by-cons, sum_by_push, HandleRow, Owner, ArcRef, Kind, HandleNumber, LoadNumber, NodeNumber, OptionalDataKey, Among, type_of, one}
 use Rattle.pagable_laws.proofs.Words.{times, mode_of, Core, OpenLoad, of_cell, Frame, Alike, row_at, row_of, with_handle, with_node, next_node, is_named_by, Asked, adopted, GetsKnown, with_got}
 use Rattle.pagable_laws.proofs.{Words.{HandlesAreWhole, Tree, find_row, Reading, Values, IsLawful, nested_frame, GoesOn, GetsLazy, MakesNode, FramesFit, ReadsItsTypes, FramesHeld}, Outlasting.Stands}
-use Rattle.pagable_laws.proofs.{Outlasting.{AreUpTo, stands-alike, stands-changed, stands-new, among-changed, NotValues, stands-whole, stands-fell}, Apart.AreApart, Fitting.pushed}
+use Rattle.pagable_laws.proofs.{Outlasting.{AreUpTo, stands-alike, stands-changed, stands-new, among-changed, NotValues, stands-whole, stands-fell}, Apart.AreApart, Fitting.{all-new, all-got}
 use Rattle.pagable_laws.proofs.{Fitting.first-fits, Goes.{found-number}, ReadingSteps.cached-rows, Sums.{self-number, same-number, at-most-sum, sum-zero}}
-use Rattle.pagable_laws.proofs.{Effects.with-one, Outlasting.{new-handle, low-whole}, Decoding.decodes, GoodReferences.good, Trees.same_some}
-use Rattle.std.proofs.lemmas.Bool.{cases_Bool}
+use Rattle.pagable_laws.proofs.{Effects.{with-one, moved-free, named-among}, Outlasting.{new-handle, low-whole, low-changed}, Decoding.decodes, GoodReferences.good, Trees.same_some}
+use Rattle.std.proofs.lemmas.Bool.{cases_Bool, false_from_ne_true}
 
 -- ---- each handle once
 
@@ -99,37 +99,18 @@ module _ (w w' : Core) where
     to-known {q} {row} s = grind (arith, nat_tests, cached-rows)
 
     pub adopted-keeps : {q : ℕ} {row : HandleRow} → Alike known w' → is_named_by references q ≡ false → Stands w.last.handle w.rows q row → Stands w'.last.handle w'.rows q row
-    adopted-keeps {q} {row} a free s =
-        let number = found-number q w.rows row s.live in
-        let turned = stands-changed (λ h. is_named_by references h.number.0) (λ h. record h { owner = Owner.Value (next_node w) }) (λ h. refl) s in
-        let off : is_named_by references row.number.0 ≡ false = ap (is_named_by references) number ∙ free in
-        let still : Stands w.last.handle born.rows q row =
-        subst (λ r. Stands w.last.handle born.rows q r) (ap (λ (b : Bool). if b then record row { owner = Owner.Value (next_node w) } else row) off) turned in
-        stands-alike a (to-known (with-one born (next_node w) (mode_of kind.0) (Owner.Load l) still))
+    adopted-keeps a free s =
+        stands-alike a (to-known (with-one born (next_node w) (mode_of kind.0) (Owner.Load l) (moved-free (Owner.Load l) (is_named_by references) (Owner.Value (next_node w)) free s)))
 
     pub adopted-new : HandlesAreWhole w → Alike known w' → Stands w'.last.handle w'.rows (w.last.handle + 1) (row_of (w.last.handle + 1) (next_node w) (mode_of kind.0) (Owner.Load l))
     adopted-new whole a =
         stands-alike a (to-known (stands-new w.last.handle born.rows (row_of (w.last.handle + 1) (next_node w) (mode_of kind.0) (Owner.Load l)) few refl))
       where
         few : AreUpTo w.last.handle born.rows
-        few h among =
-            let a = among-changed (λ (x : HandleRow). if is_named_by references x.number.0 then record x { owner = Owner.Value (next_node w) } else x) w.rows h among in
-            let n : h.number.0 ≡ a.0.number.0 = ap (λ (x : HandleRow). x.number.0) a.2 ∙ number a.0 (is_named_by references a.0.number.0) in
-            let le = (whole.numbered a.0 a.1).1 in
-            omega (arith, n, le)
-          where
-            number : (x : HandleRow) (b : Bool) → (if b then record x { owner = Owner.Value (next_node w) } else x).number.0 ≡ x.number.0
-            number x true = refl
-            number x false = refl
+        few = low-changed w.last.handle w.rows (λ h. is_named_by references h.number.0) (λ h. record h { owner = Owner.Value (next_node w) }) (λ h. refl) (low-whole whole)
 
 pub not-named : (rs : List ArcRef) (q : ℕ) → ((g : ArcRef) → Among rs g → g.handle.0 ≡ q → ⊥) → is_named_by rs q ≡ false
-unfolding is_named_by
-not-named [] q none = refl
-not-named (r ∷ rs) q none = at (r.handle.0 == q) refl (not-named rs q (λ g among. none g (suc among.0, among.1)))
-  where
-    at : (b : Bool) → (r.handle.0 == q) ≡ b → is_named_by rs q ≡ false → ((r.handle.0 == q) || is_named_by rs q) ≡ false
-    at false e rest = rw (e, rest) refl
-    at true e rest = absurd (none r (0, refl) (same-number r.handle.0 q e))
+not-named rs q none = false_from_ne_true (is_named_by rs q) (λ e. let a = named-among rs q e in none a.0 a.1 a.2)
 
 -- ---- a step
 
@@ -144,19 +125,11 @@ pub record LoadReady (w : Core) (l : LoadNumber) (load : OpenLoad) (frames : Lis
   pub once : GotOnce frames
 
 pub live-new : (w : Core) (l : LoadNumber) (frame : Frame) (frames : List Frame) → frame.got ≡ [] → Live w l frames → Live w l (frame ∷ frames)
-live-new w l frame frames none live f r (zero, is) (place, there) = grind arith
-live-new w l frame frames none live f r (suc i, is) among = live f r (i, is) among
+live-new w l frame frames none live = all-new (λ r. (row : HandleRow) × (row_at w r.handle ≡ Some row) × (row.owner ≡ Owner.Load l)) frame frames none live
 
 pub live-got : (w : Core) (l : LoadNumber) (frames : List Frame) (kind : Kind) (row : HandleRow) → row_at w row.number ≡ Some row → row.owner ≡ Owner.Load l → Live w l frames
     → Live w l (with_got kind row frames)
-live-got w l [] kind row there own live f r (i, is) among = absurd (cc)
-live-got w l (top ∷ below) kind row there own live f r (zero, is) (place, at) =
-    let got_is : f.got ≡ top.got ++ record { kind = kind; node = row.node; handle = row.number } ∷ [] = cc in
-    elim (pushed top.got _ place r (subst (λ (rs : List ArcRef). slice_get rs place ≡ Some r) got_is at)) [
-      | inl old ↦ live top r (zero, refl) (place, old)
-      | inr new ↦ (row, ap (λ (x : ArcRef). row_at w x.handle) (sym new.1) ∙ there, own)
-    ]
-live-got w l (top ∷ below) kind row there own live f r (suc i, is) among = live f r (suc i, is) among
+live-got w l frames kind row there own live = all-got (λ r. (row : HandleRow) × (row_at w r.handle ≡ Some row) × (row.owner ≡ Owner.Load l)) frames kind row live (row, there, own)
 
 -- A load's own step leaves it ready: what it has got is its own, and the caller has the handle that began it.
 

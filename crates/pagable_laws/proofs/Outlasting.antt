@@ -84,12 +84,8 @@ among-found q rows row found = found-by q row (λ xs. Among xs row) (λ h hs is 
 pub none-found : (q : ℕ) (rows : List HandleRow) (h : HandleRow) → find_row q rows ≡ None → Among rows h → h.number.0 ≡ q → ⊥
 unfolding find_row
 none-found q [] h none among is = absurd (cc)
-none-found q (x ∷ xs) h none among is = at (λ none a. none-found q xs h none a is) (is_handle q x) refl none among
-  where
-    at : (find_row q xs ≡ None → Among xs h → ⊥) → (b : Bool) → is_handle q x ≡ b → (if b then Some x else find_row q xs) ≡ None → Among (x ∷ xs) h → ⊥
-    at rest true e none among = absurd (cc)
-    at rest false e none (suc i, a) = rest none (i, a)
-    at rest false e none (zero, a) = grind (arith, nat_tests, self-number)
+none-found q (x ∷ xs) h none (zero, a) is = grind (arith, nat_tests, self-number)
+none-found q (x ∷ xs) h none (suc i, a) is = grind (arith, nat_tests, none-found q xs h)
 
 -- no number of a row is above this one
 abbrev pub AreUpTo : ℕ → List HandleRow → Type 0

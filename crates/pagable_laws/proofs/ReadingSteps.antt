@@ -3,7 +3,8 @@ use Rattle.pagable_laws.proofs.Words.{◌≡◌, ℕ, ◌+◌, ◌<◌, ◌≤�
 use Rattle.pagable_laws.proofs.Words.{NodeNumber, OptionalDataKey, type_of, HandleRow, Owner, find_row, mode_of, fits_mode, owner_value, Core, Last, Alike, row_at, usable, FallsAnyhow, row_of}
 use Rattle.pagable_laws.proofs.Words.{with_handle, with_node, with_cached_if_open, with_known, next_node, is_named_by, moved, adopted, HandlesAreWhole, GetsRow, sym, inl, Option, None, Ok, Err}
 use Rattle.pagable_laws.proofs.Words.{is_some, WorkerNumber, LoadAnswer, LoadReply, WorkerReply, PinStep, Took, Event, owner_worker, Frame, Reading, Todo, to_load, to_write, Walking, World, Seen}
-use Rattle.pagable_laws.proofs.Words.{Values, ReadingDoes, gone_on, Site, ReadingsAre, reading_at, reading_after, LoadSteps, WorkerSteps, IsWhole, IsReadingOf, of_caller, of_worker, IsSteppedReading}
+use Rattle.pagable_laws.proofs.Words.{Values, ReadingDoes, gone_on, Site, ReadingsAre, reading_at, reading_after, LoadSteps, WorkerSteps, IsWhole, IsReadingOf, of_caller, of_worker}
+use Rattle.pagable_laws.proofs.Words.{IsSteppedReading}
 use Rattle.pagable_laws.proofs.Words.{StepsReading, IsFresh, Error, OpenLoad, EndCall, HandOverCall, first_key, Fails, RefusesRoot, LoadIs, IsOfCell, IsOfKey, handles_of, GetsRoot, GetsCached}
 use Rattle.pagable_laws.proofs.Words.{GetsBlob, GetsLazy, MakesNode, Change, nothing_felt, bears_known, ReadingFeels, reads-root, reads-blob, gets-known, gets-lazy, makes-known, makes-node}
 use Rattle.pagable_laws.proofs.Words.{reading-ends, Want, AskCall, AsksInVain, Result, Pinning, Beginning, Claim, is_loose, to_start, to_pin, to_finish, to_item, to_set, to_release, to_fail}
@@ -12,10 +13,13 @@ use Rattle.pagable_laws.proofs.Words.{if_there, EventReply, TableNumber, WorkerA
 use Rattle.pagable_laws.proofs.Words.{answer_after, BeginsKey, Stays, begun_readings, KeyStarted, Starts, new_walking, Ends, Happens, with_worker, MachineState, world_of, IsMachineWhole, IsNewNode}
 use Rattle.pagable_laws.proofs.Words.{EventBrings, KeepsOpen, LeavesCache, CoreGoes, SameNode, NewNode, StaysAway, KeepsReadings, EventFeels, by-call, by-reading, by-key, by-nothing, StepFeels}
 use Rattle.pagable_laws.proofs.Words.{Blob, StoreCall, digest, WorkFits, Waits, Walks, Ground, AreGood, OwnersAreThere, step_of, Among, ◌==◌, IsWhole, CloneCall}
-use Rattle.pagable_laws.proofs.Goes.{found-number, found-changed, found-left, none-in-new, at-updated, Quiet, Goes, NotLoads, quiet-then, goes-quiet, alike, fell-anyhow, KnowsNext, parts, le-self, Kept, rows-self}
-use Rattle.pagable_laws.proofs.Effects.{Effect, IsMine, IsApart, IsHeldFor, Lasts, Spares, none, moves, fell, with-key, stays, one-then, entry, no-one, none-named, released-free, ended-free, worker-apart}
+use Rattle.pagable_laws.proofs.Goes.{found-number, found-changed, found-left, none-in-new, at-updated, Quiet, Goes, NotLoads, quiet-then, goes-quiet, alike, fell-anyhow, KnowsNext, parts, le-self}
+use Rattle.pagable_laws.proofs.Goes.{Kept, rows-self}
+use Rattle.pagable_laws.proofs.Effects.{Effect, IsMine, IsApart, IsHeldFor, Lasts, Spares, none, moves, fell, with-key, stays, one-then, entry, no-one, none-named, released-free, ended-free}
+use Rattle.pagable_laws.proofs.Effects.{worker-apart}
 use Rattle.pagable_laws.proofs.Effects.{stays-alike, spares-then, then-alike, then-fell, by-alike, by-fell, then-down, held-fell}
-use Rattle.pagable_laws.proofs.Called.{hands-over, ends-load, noted, asks, closes, gets-known as was-known, adopts, adopts-known, schedules, clones, pins, begins, begins-key, stores, calls-go, call-knows}
+use Rattle.pagable_laws.proofs.Called.{hands-over, ends-load, noted, asks, closes, gets-known as was-known, adopts, adopts-known, schedules, clones, pins, begins, begins-key, stores, calls-go}
+use Rattle.pagable_laws.proofs.Called.{call-knows}
 use Rattle.pagable_laws.proofs.{Decoding.among-left, GoodReferences.{good, alike-away}, Outlasting.among-found, Sums.self-number, Trees.same_some}
 use Rattle.pagable_world.specs.{Loads.{Does as LoadDoes, Meets}, Runs.{Does as DoesMoment}}
 use Rattle.std.proofs.Common.{rules}
@@ -192,68 +196,43 @@ module _ {N B W : Type 0} (m : Seen N B W) (w : Core) (me : Owner) (free : NotLo
   abbrev RF : Option (LoadAnswer N) → List Frame → Type 0
   RF answer frames = ReadingFelt m.values w me reading answer frames w'
 
+  goes-on : {frames : List Frame} {c : Change} → Effect me false (IsMine w me reading.load) (Unit {0}) false c w w' → (load : OpenLoad) → w.loads reading.load.0 ≡ Some load
+      → (HandlesAreWhole w → ReadingFeels m.values w reading None frames w' c) → RF None frames
+  goes-on {c = c} e load open_load feels = record { change = c; does = e; opens = λ none. (load, open_load); feels = feels }
+
   gets-root : (frames : List Frame) → GetsRoot w me reading frames w' → RF None frames
   gets-root frames g =
       let load : OpenLoad = g.asked.gives.0 in
       let same : load ≡ g.load = same_some _ _ (sym g.asked.gives.1.stands_open ∙ g.open_load) in
-      record {
-        change = nothing_felt;
-        does = asks _ g.asked;
-        opens = λ none. (g.load, g.open_load);
-        feels = λ whole. reads-root g.load g.blob g.first g.open_load (subst (λ (x : OpenLoad). w.stored x.key ≡ Some g.blob) same g.asked.gives.2.found) refl g.goes;
-      }
+      goes-on (asks _ g.asked) g.load g.open_load
+      (λ whole. reads-root g.load g.blob g.first g.open_load (subst (λ (x : OpenLoad). w.stored x.key ≡ Some g.blob) same g.asked.gives.2.found) refl g.goes)
 
   gets-cached : (frames : List Frame) → GetsCached m.values.types w me reading frames w' → RF None frames
   gets-cached frames g =
       let k = g.asked.gives.2 in
-      record {
-        change = nothing_felt;
-        does = asks _ g.asked;
-        opens = λ none. (g.asked.gives.0, g.asked.gives.1.stands_open);
-        feels = λ whole. gets-known g.kind g.key k.n g.row (inl g.needs) (is-cached w g.kind.0 g.key k.n k.known)
-            (got-known whole g.kind g.k g.row g.made k.next.above k.n (Owner.Load reading.load) k.leaves) refl g.goes;
-      }
+      goes-on (asks _ g.asked) g.asked.gives.0 g.asked.gives.1.stands_open (λ whole. gets-known g.kind g.key k.n g.row (inl g.needs) (is-cached w g.kind.0 g.key k.n k.known)
+      (got-known whole g.kind g.k g.row g.made k.next.above k.n (Owner.Load reading.load) k.leaves) refl g.goes)
 
   gets-blob : (frames : List Frame) → GetsBlob m.values.types w me reading frames w' → RF None frames
   gets-blob frames g =
-      record {
-        change = nothing_felt;
-        does = asks _ g.asked;
-        opens = λ none. (g.asked.gives.0, g.asked.gives.1.stands_open);
-        feels = λ whole. reads-blob g.kind g.key g.blob g.needs g.asked.gives.2.1.found refl g.goes;
-      }
+      goes-on (asks _ g.asked) g.asked.gives.0 g.asked.gives.1.stands_open (λ whole. reads-blob g.kind g.key g.blob g.needs g.asked.gives.2.1.found refl g.goes)
 
   gets-unread : (frames : List Frame) → GetsLazy m.values.types w me reading frames w' → RF None frames
   gets-unread frames g = elim g.asked.makes.3 [
-    | inl k ↦ record {
-      change = nothing_felt;
-      does = was-known k;
-      opens = λ none. (g.asked.makes.0, g.asked.makes.1.stands_open);
-      feels = λ whole. gets-known g.kind g.key k.n g.row (inr g.needs) (is-cached w g.kind.0 g.key k.n k.known)
-          (got-known whole g.kind g.k g.row g.made k.next.above k.n (Owner.Load reading.load) k.leaves) refl g.goes;
-    }
-    | inr (unknown, few, next, a) ↦ record {
-      change = bears_known g.kind.0 g.key (OptionalDataKey.Some g.key);
-      does = adopts reading.load g.kind g.key (OptionalDataKey.Some g.key) [] unknown (none-named w (Owner.Load reading.load)) a;
-      opens = λ none. (g.asked.makes.0, g.asked.makes.1.stands_open);
-      feels = λ whole. gets-lazy g.kind g.key g.row g.needs (got-born whole g.kind g.k g.row g.made next.above reading.load g.key (OptionalDataKey.Some g.key) [] a) refl g.goes;
-    }
+    | inl k ↦ goes-on (was-known k) g.asked.makes.0 g.asked.makes.1.stands_open (λ whole. gets-known g.kind g.key k.n g.row (inr g.needs) (is-cached w g.kind.0 g.key k.n k.known)
+        (got-known whole g.kind g.k g.row g.made k.next.above k.n (Owner.Load reading.load) k.leaves) refl g.goes)
+    | inr (unknown, few, next, a) ↦
+        goes-on (adopts reading.load g.kind g.key (OptionalDataKey.Some g.key) [] unknown (none-named w (Owner.Load reading.load)) a) g.asked.makes.0 g.asked.makes.1.stands_open
+        (λ whole. gets-lazy g.kind g.key g.row g.needs (got-born whole g.kind g.k g.row g.made next.above reading.load g.key (OptionalDataKey.Some g.key) [] a) refl g.goes)
   ]
 
   makes : (frames : List Frame) → MakesNode m.values w me reading frames w' → RF None frames
   makes frames g = elim c.makes [
-    | inl (n, usable, f) ↦ record {
-      change = nothing_felt;
-      does = adopts-known reading.load r.top.kind n (m.values.references g.x) right f;
-      opens = λ none. (c.load, c.owned.stands_open);
-      feels = λ whole. makes-known g.x r n g.row (is-cached w r.top.kind.0 r.top.key n usable) (got-fallen whole r.top.kind g.k g.row g.made c.next.above n (Owner.Load reading.load) f) refl g.goes;
-    }
-    | inr (unknown, few, a) ↦ record {
-      change = bears_known r.top.kind.0 r.top.key (first_key r.top.kind.0 r.top.key);
-      does = adopts reading.load r.top.kind r.top.key (first_key r.top.kind.0 r.top.key) (m.values.references g.x) unknown right a;
-      opens = λ none. (c.load, c.owned.stands_open);
-      feels = λ whole. makes-node g.x r g.row (got-born whole r.top.kind g.k g.row g.made c.next.above reading.load r.top.key (first_key r.top.kind.0 r.top.key) (m.values.references g.x) a) refl g.goes;
-    }
+    | inl (n, usable, f) ↦ goes-on (adopts-known reading.load r.top.kind n (m.values.references g.x) right f) c.load c.owned.stands_open
+        (λ whole. makes-known g.x r n g.row (is-cached w r.top.kind.0 r.top.key n usable) (got-fallen whole r.top.kind g.k g.row g.made c.next.above n (Owner.Load reading.load) f) refl g.goes)
+    | inr (unknown, few, a) ↦
+        goes-on (adopts reading.load r.top.kind r.top.key (first_key r.top.kind.0 r.top.key) (m.values.references g.x) unknown right a) c.load c.owned.stands_open
+        (λ whole. makes-node g.x r g.row (got-born whole r.top.kind g.k g.row g.made c.next.above reading.load r.top.key (first_key r.top.kind.0 r.top.key) (m.values.references g.x) a) refl g.goes)
   ]
     where
       open g use {reads_node as r}
@@ -295,13 +274,7 @@ module _ {N B W : Type 0} (m : Seen N B W) (w : Core) (me : Owner) (free : NotLo
 -- it is felt so in a world that is alike
 pub feels-alike : {N : Type 0} {v : Values N} {w u w' : Core} {reading : Reading} {answer : Option (LoadAnswer N)} {frames : List Frame} {c : Change}
     → ReadingFeels v w reading answer frames u c → Alike u w' → ReadingFeels v w reading answer frames w' c
-feels-alike (reads-root load blob none_read at stored answer is) a = reads-root load blob none_read at stored answer is
-feels-alike (reads-blob kind key blob needs stored answer is) a = reads-blob kind key blob needs stored answer is
-feels-alike (gets-known kind key n row needs known got answer is) a = gets-known kind key n row needs known (gets-alike got a) answer is
-feels-alike (gets-lazy kind key row needs got answer is) a = gets-lazy kind key row needs (gets-alike got a) answer is
-feels-alike (makes-known x reads n row known got answer is) a = makes-known x reads n row known (gets-alike got a) answer is
-feels-alike (makes-node x reads row got answer is) a = makes-node x reads row (gets-alike got a) answer is
-feels-alike (reading-ends end answer is) a = reading-ends end answer is
+feels-alike x0 a = grind (arith, nat_tests, gets-alike, reads-root, reads-blob, gets-known, gets-lazy, makes-known, makes-node, reading-ends)
 
 pub reading-knows : {N : Type 0} {v : Values N} {w w' : Core} {reading : Reading} {answer : Option (LoadAnswer N)} {frames : List Frame} {c : Change}
     → ReadingFeels v w reading answer frames w' c → KnowsNext c w
@@ -382,8 +355,10 @@ module _ {Asks : Type 0} {w w' : Core} (v : ℕ) where
   gives-back (Some h) (told, c) = schedules (works-free v) h told c
 
   -- a handle is cloned, and something is done then
-  then-clone : {m : Core} {h k : HandleNumber} → CloneCall w (owner_worker v) h (Ok k) m → Effect (owner_worker v) false Asks (Unit {0}) false nothing_felt m w' → Effect (owner_worker v) false Asks (Unit {0}) false nothing_felt w w'
-  then-clone {m} c rest = one-then (λ kind key n h. record { row = h.row; live = subst (λ rows. Among rows h.row) (sym c.made.3.rows) (among-left w.rows _ h.live.0 h.row h.live.1); at = h.at; pins_it = h.pins_it })
+  then-clone : {m : Core} {h k : HandleNumber} → CloneCall w (owner_worker v) h (Ok k) m → Effect (owner_worker v) false Asks (Unit {0}) false nothing_felt m w'
+      → Effect (owner_worker v) false Asks (Unit {0}) false nothing_felt w w'
+  then-clone {m} c rest = one-then
+      (λ kind key n h. record { row = h.row; live = subst (λ rows. Among rows h.row) (sym c.made.3.rows) (among-left w.rows _ h.live.0 h.row h.live.1); at = h.at; pins_it = h.pins_it })
       (λ a. a) (clones (Ok _) c) rest
 
   module _ (r : ArcRef) where
@@ -416,10 +391,13 @@ module _ {N B W : Type 0} (m : Seen N B W) (v : ℕ) (s s' : Site) where
   stored : {blob : Blob} (r : Result ℕ Error) → StoreCall (digest m.values) s.core blob r s'.core → Effect (owner_worker v) false (Unit {0}) (Unit {0}) false nothing_felt s.core s'.core
   stored r c = stores r c
 
+  felt : {todo : List Todo} {c : Change} → WE todo c → (s.todo ≡ todo → WaitsWell todo → WalkFeels m v s s' todo c) → (HandlesAreWhole s.core → KnowsNext c s.core) → WF todo
+  felt {c = c} e feels knows = record { change = c; does = e; goes = e.goes; feels = feels; knows = knows }
+
   -- nothing is felt, and this stands at the front afterwards
   rests : {todo : List Todo} (next : List Todo) → ((n : ℕ) (x : N) → TodoBrings m.values s.core todo n x → ⊥)
-      → s'.todo ≡ next → (WaitsWell todo → front_reading next ≡ None) → WE todo nothing_felt → WF todo
-  rests next none is other e = record { change = nothing_felt; does = e; goes = e.goes; feels = λ front well. walk-rests none (no-load s' next is (other well)); knows = λ whole k q n known. absurd known }
+      → s'.todo ≡ next → (s.todo ≡ todo → WaitsWell todo → front_reading next ≡ None) → WE todo nothing_felt → WF todo
+  rests next brings is other e = felt e (λ front well. walk-rests brings (no-load s' next is (other front well))) (λ whole k q n known. absurd known)
 
   -- the load at the front makes its step
   loads-on : (r : ArcRef) (place : ℕ) (through : HandleNumber) (reading : Reading) (below : List Todo) (step : Took W)
@@ -427,51 +405,39 @@ module _ {N B W : Type 0} (m : Seen N B W) (v : ℕ) (s s' : Site) where
   loads-on r place through reading below step does =
       let t = loads-todo m v s s' r place through reading below step does in
       let f = reading-feels m s.core (owner_worker v) (works-free v) s'.core reading t.answer t.frames t.does in
-      record { change = f.change; does = f.does; goes = f.does.goes; feels = λ front well. walk-loads f.change r place through reading below refl t f.opens f.feels; knows = λ whole. reading-knows (f.feels whole) }
+      felt f.does (λ front well. walk-loads f.change r place through reading below refl t f.opens f.feels) (λ whole. reading-knows (f.feels whole))
 
   sets : (r : ArcRef) (through : HandleNumber) (key height : ℕ) (below next : List Todo) (told : Result (Unit {0}) Error)
       → SetKeyCall s.core (owner_worker v) through key told s'.core → s'.todo ≡ next → front_reading next ≡ None → WF (to_set r through key height ∷ below)
   sets r through key height below next told c is other = elim c.does [
-    | inl refused ↦ rests next (λ n x b. b) is (λ well. other) (stays refused.stays)
-    | inr (row, owns, inl (mode, done, a)) ↦ rests next (λ n x b. b) is (λ well. other) (stays a)
-    | inr (row, owns, inr (loose, f)) ↦ let e : WE (to_set r through key height ∷ below) (sets_key row.node.0 key) = fell (with-key s.core row.node key) f no-one in record {
-      change = sets_key row.node.0 key;
-      does = e;
-      goes = e.goes;
-      feels = λ front well. walk-sets r through key height below row refl owns.live owns.own loose (no-load s' next is other);
-      knows = λ whole k q n known. absurd known;
-    }
+    | inl refused ↦ rests next (λ n x b. b) is (λ front well. other) (stays refused.stays)
+    | inr (row, owns, inl (mode, done, a)) ↦ rests next (λ n x b. b) is (λ front well. other) (stays a)
+    | inr (row, owns, inr (loose, f)) ↦ felt (fell (with-key s.core row.node key) f no-one)
+        (λ front well. walk-sets r through key height below row refl owns.live owns.own loose (no-load s' next is other)) (λ whole k q n known. absurd known)
   ]
 
   load-begins : (r : ArcRef) (place t : ℕ) (below : List Todo) (through : HandleNumber) (l : LoadNumber) → PinsByLoad s.core (owner_worker v) r through l s'.core
       → s'.todo ≡ to_load r place through (fresh l t) ∷ below → WF (to_pin r place ∷ below)
   load-begins r place t below through l does is =
-      let e : WE (to_pin r place ∷ below) nothing_felt = by-load v r through l does in
-      record {
-        change = nothing_felt;
-        does = e;
-        goes = e.goes;
-        feels = λ front well. walk-rests (λ n x b. b) (λ reading e.
-            let same : fresh l t ≡ reading = same_some _ _ (ap front_reading (sym is) ∙ e) in
-            subst (λ x. IsFresh s'.core x) same (refl, refl, begun-number v r through l does));
-        knows = λ whole k q n known. absurd known;
-      }
+      felt (by-load v r through l does)
+      (λ front well. walk-rests (λ n x b. b) (λ reading e.
+      let same : fresh l t ≡ reading = same_some _ _ (ap front_reading (sym is) ∙ e) in
+      subst (λ x. IsFresh s'.core x) same (refl, refl, begun-number v r through l does))) (λ whole k q n known. absurd known)
 
   pub walk-goes : (todo : List Todo) (step : Took W) → Does m v s todo step s' → WF todo
   walk-goes (to_start r place ∷ below) (Took.Claim i (Ok (Claim.Known key height))) (is, c) = grind (arith, nat_tests, rests, given-known, unmoved)
   walk-goes (to_start r place ∷ below) (Took.Claim i (Ok Claim.Waiting)) (is, c) =
-      let t = c.finds.1.2 in
-      let e : WE (to_start r place ∷ below) nothing_felt = stays t.pager_stays in
-      record { change = nothing_felt; does = e; goes = e.goes; feels = λ front well. walk-rests (λ n x b. b) (no-load s' _ (t.list_is ∙ front) refl); knows = λ whole k q n known. absurd known }
-  walk-goes (to_pin r place ∷ below) (Took.Pin i (Ok (PinStep.Held k))) (is, p) = rests _ (λ n x b. b) p.pins.2.list_is (λ well. refl) (at-once v r p.pins.0 k p.pins.1)
+      let t = c.finds.1.2 in rests s.todo (λ n x b. b) t.list_is (λ front well. ap front_reading front) (stays t.pager_stays)
+  walk-goes (to_pin r place ∷ below) (Took.Pin i (Ok (PinStep.Held k))) (is, p) = rests _ (λ n x b. b) p.pins.2.list_is (λ front well. refl) (at-once v r p.pins.0 k p.pins.1)
   walk-goes (to_pin r place ∷ below) (Took.Pin i (Ok (PinStep.LoadBegun l))) (is, p) = load-begins r place _ below p.pins.0 l p.pins.1 p.pins.2.list_is
-  walk-goes (to_pin r place ∷ below) (Took.Pin i (Err f)) (is, p) = rests _ (λ n x b. b) p.refused.1.list_is (λ well. refl) (pin-refused v r f p.refused.0)
+  walk-goes (to_pin r place ∷ below) (Took.Pin i (Err f)) (is, p) = rests _ (λ n x b. b) p.refused.1.list_is (λ front well. refl) (pin-refused v r f p.refused.0)
   walk-goes (to_load r place through reading ∷ below) step does = loads-on r place through reading below step does
-  walk-goes (to_write r place through ∷ below) (Took.Write i (Ok out)) (is, p) = rests _ (λ n x b. b) p.writes.list_is (λ well. started place _ _ below refl) (stays p.writes.pager_stays)
+  walk-goes (to_write r place through ∷ below) (Took.Write i (Ok out)) (is, p) = rests _ (λ n x b. b) p.writes.list_is (λ front well. started place _ _ below refl) (stays p.writes.pager_stays)
   walk-goes (to_set r through key height ∷ below) (Took.SetKey i (Ok u)) (is, p) = sets r through key height below _ (Ok u) p.sets p.goes.list_is refl
   walk-goes (to_set r through key height ∷ below) (Took.SetKey i (Err f)) (is, p) = sets r through key height below _ (Err f) p.sets p.refused.list_is refl
-  walk-goes (to_release r key height ∷ below) (Took.Release i) (is, falls, g) = rests _ (λ n x b. b) g.list_is (given r key height below) (fell (none s.core) falls.falls (λ mine o. released-free mine o.apart v o.other s.core r.node.0))
-  walk-goes (to_fail fault back ∷ below) Took.Fail (gives, shelf, list_is) = rests _ (λ n x b. b) list_is (λ well. refl) (gives-back v back gives)
+  walk-goes (to_release r key height ∷ below) (Took.Release i) (is, falls, g) =
+      rests _ (λ n x b. b) g.list_is (λ front well. given r key height below well) (fell (none s.core) falls.falls (λ mine o. released-free mine o.apart v o.other s.core r.node.0))
+  walk-goes (to_fail fault back ∷ below) Took.Fail (gives, shelf, list_is) = rests _ (λ n x b. b) list_is (λ front well. refl) (gives-back v back gives)
   walk-goes _ step does = grind (arith, nat_tests, rests, unmoved, stored)
 
 -- What trees feel of each event that doesn't close the storage.
@@ -484,11 +450,11 @@ others-work : (w : Core) (loads : ℕ → Option OpenLoad) (workers : ℕ → Bo
 others-work w loads workers worker more fewer = parts (le-self _) more (λ n cell is. is) fewer (λ kind key n is. is) (rows-self w.last.handle w.rows w.rows refl)
 
 worker-ends : {w w' : Core} (v : ℕ) → WorkerEnds w v w' → Quiet w w'
-worker-ends {w} {w'} v f = quiet-then (others-work w (without_worker w v).loads (without_worker w v).workers w.last.worker (omega arith) (λ l load is. left (is_workers_load v (w.loads l)) (w.loads l) load is)) (fell-anyhow f)
+worker-ends {w} {w'} v f =
+    quiet-then (others-work w (without_worker w v).loads (without_worker w v).workers w.last.worker (omega arith) (λ l load is. left (is_workers_load v (w.loads l)) (w.loads l) load is)) (fell-anyhow f)
   where
     left : (b : Bool) (x : Option OpenLoad) (y : OpenLoad) → (if b then None else x) ≡ Some y → x ≡ Some y
-    left true x y is = absurd (cc)
-    left false x y is = is
+    left x0 x y is = grind (arith, nat_tests)
 
 pub ends-quiet : {w w' : Core} (answer : Option WorkerAnswer) (v : ℕ) → Ends answer v w w' → Quiet w w'
 ends-quiet x0 v e = grind (arith, nat_tests, alike, worker-ends)
@@ -558,9 +524,10 @@ module _ {N B W : Type 0} (m : Seen N B W) (u u' : World) where
   callers v e = absurd (cc)
 
   -- a step of the caller's, as it is felt
-  felt : {event : Event N B W} {reply : EventReply N B W} {lists : Bool} {Asks Leaves : Type 0} {c : Change} → Effect Owner.Caller lists Asks Leaves false c u.core u'.core → (LeavesCache event → Leaves)
+  event-felt : {event : Event N B W} {reply : EventReply N B W} {lists : Bool} {Asks Leaves : Type 0} {c : Change} → Effect Owner.Caller lists Asks Leaves false c u.core u'.core
+      → (LeavesCache event → Leaves)
       → (IsWhole u.core → AllWaitWell u → EventFeels m.values u event reply u' c) → (IsWhole u.core → LeavesCache event → KnowsNext c u.core) → EG event reply
-  felt {c = c} e leaves feels knows = record {
+  event-felt {c = c} e leaves feels knows = record {
     change = c;
     goes = e.goes;
     spares = λ v there others. e.spares (owner_worker v) (record { apart = worker-apart v; other = callers v; unlisted = λ yes. (refl, there) });
@@ -571,7 +538,7 @@ module _ {N B W : Type 0} (m : Seen N B W) (u u' : World) where
 
   event-rests : {event : Event N B W} {reply : EventReply N B W} → ((n : ℕ) (x : N) → EventBrings m.values u event n x → IsNewNode u.core n ⊎ StaysAway u.core u'.core n)
       → KeepsReadings u u' → Effect Owner.Caller true (Unit {0}) (Unit {0}) false nothing_felt u.core u'.core → EG event reply
-  event-rests brings keeps e = felt e (λ left. tt) (λ whole well. by-nothing brings keeps) (λ whole leaves k q n known. absurd known)
+  event-rests brings keeps e = event-felt e (λ left. tt) (λ whole well. by-nothing brings keeps) (λ whole leaves k q n known. absurd known)
 
   same : {event : Event N B W} {reply : EventReply N B W} → Stays u u' → EG event reply
   same s = event-rests (λ n x b. inr (alike-away s.core n)) (keeps-all u u' s.readings s.work.walkings) (stays s.core)
@@ -585,7 +552,8 @@ module _ {N B W : Type 0} (m : Seen N B W) (u u' : World) where
     spares = λ q there others.
         let a = e.spares (owner_worker q) (record { apart = worker-apart q; other = callers q; unlisted = λ yes. (refl, there) }) in then-alike (owner_worker q) s.pager (record { each = a.each });
     lasts = λ left kind key n. record { lasts = λ i h h'. stays-alike kind key n s.pager (e.lasts tt kind key n i h (λ f. absurd (cc))) h' };
-    feels = λ whole well. by-nothing (λ n x b. absurd (brings n x b)) (keeps-but u u' s.readings v.0 (new_walking t task) s.work.same_walkings (λ reading is. let first = first-no-load task in absurd (cc)));
+    feels = λ whole well. by-nothing (λ n x b. absurd (brings n x b))
+        (keeps-but u u' s.readings v.0 (new_walking t task) s.work.same_walkings (λ reading is. let first = first-no-load task in absurd (cc)));
     knows = λ whole leaves k q n known. absurd known;
   }
 
@@ -604,7 +572,7 @@ module _ {N B W : Type 0} (m : Seen N B W) (u u' : World) where
   load-steps l reply is =
       let x = is.moves in
       let f = reading-feels m u.core Owner.Caller caller-free u'.core x.reading reply.ended x.frames x.does in
-      felt f.does (λ left. tt)
+      event-felt f.does (λ left. tt)
       (λ whole well. by-reading f.change x.reading reply.ended x.frames (stepped-load x {B = B} {W = W} whole (Event.LoadStep l) refl) f.opens (f.feels whole.handles) (steps-load x))
       (λ whole leaves. reading-knows (f.feels whole.handles))
 
@@ -651,7 +619,7 @@ module _ {N B W : Type 0} (m : Seen N B W) (u u' : World) where
   pub event-goes : (event : Event N B W) (reply : EventReply N B W) → KeepsOpen event → Happens m u event reply u' → EG event reply
   event-goes (Event.Call call) (EventReply.CallReply r) open_still is =
       let g = calls-go m u.core Owner.Caller caller-free u'.core call r open_still is.step.does in
-      felt g.does (λ left. left) (λ whole well. by-call g.change call r refl refl g.feels (keeps-all u u' is.readings is.work.walkings)) (λ whole leaves. call-knows W g.feels leaves)
+      event-felt g.does (λ left. left) (λ whole well. by-call g.change call r refl refl g.feels (keeps-all u u' is.readings is.work.walkings)) (λ whole leaves. call-knows W g.feels leaves)
   event-goes Event.TableNew (EventReply.TableMade (Ok t)) open_still is = let x = is.made in event-rests (λ n x b. absurd b) (keeps-all u u' x.2 x.3.same_walkings) (stays x.1)
   event-goes (Event.WorkerItem t item) (EventReply.WorkerMade (Ok v)) open_still is = starts (λ n x b. b) t _ u.core v (none u.core) is.starts
   event-goes (Event.WorkerListed t i) (EventReply.WorkerMade (Ok v)) open_still is = let x = is.starts in

@@ -9,19 +9,13 @@ use Rattle.pagable_laws.proofs.Words.{MachineState, world_of, IsMachineWhole, Is
 use Rattle.pagable_laws.proofs.Words.{◌+◌, ◌*◌, ◌≤◌, ◌⊎◌, is_eager, asks, next_in, need_of, needs_nested, needs_lazy, to_adopt, root_frame, after_kinds, Unfolds, unfolds, UnfoldsFrom, KeepsStored}
 use Rattle.pagable_laws.proofs.Words.{updated, above, Took, Written, Todo, Task, of_item, Walking, next_start, settle, give, first_todo, entry_task, new_walking, Follows, IsSome}
 use Rattle.pagable_laws.proofs.Words.{Call, Reply, one_more, gone_on, CloseCall, IsIdle, KeepsOpen, Moment, AreMoments, state_after, HasStepLeft, IsWithinBound, StepIsWithin, StepsAreWithin}
-use Rattle.pagable_laws.proofs.{Words.{LoadsHaveStepsLeft, IsFresh}, Fitting.{pushed, inside, first-fits, frames-stay, asked}, ReadingSteps.{is-reading-of, caller-free, reading-feels, reading-stands}}
+use Rattle.pagable_laws.proofs.{Words.{LoadsHaveStepsLeft, IsFresh}, Fitting.{all-none, all-new, all-below, all-got, inside, first-fits, frames-stay, asked}}
+use Rattle.pagable_laws.proofs.ReadingSteps.{is-reading-of, caller-free, reading-feels, reading-stands}
 use Rattle.pagable_laws.proofs.{ReadingSteps.{AllWait, WaitsWell, AllWaitWell, EventGoes, event-goes}, Goes.{found-number, IsShut, Goes}, Outlasting.{Stands, stands-whole, stands-changed}}
 use Rattle.pagable_laws.proofs.{Outlasting.stands-fell, Sums.self-number, Decoding.decodes, Taking.{row-held, root-right, adopted-over}, KnownSteps.eager-nested, ReadingStepsKinds.kinds_of}
 use Rattle.pagable_laws.proofs.{ReadingStepsKinds.{asks-by-kinds, kinds-pushed}, Trees.same_some, Nexts.steps_follow}
 use Rattle.pagable_world.specs.{Loads.{Does as LoadDoes}, Runs.Does}
 use Rattle.std.proofs.Common.{rules}
-
-none-held : (w : Core) (l : LoadNumber) (frames : List Frame) → frames ≡ [] → FramesHeld w l frames
-none-held w l frames none frame r among got = let there = subst (λ fs. Among fs frame) none among in absurd (let e = there.1 in cc)
-
-new-held : {w : Core} {l : LoadNumber} (frame : Frame) (frames : List Frame) → frame.got ≡ [] → FramesHeld w l frames → FramesHeld w l (frame ∷ frames)
-new-held frame frames none held f r (zero, is) (place, there) = grind (arith, nat_tests)
-new-held frame frames none held f r (suc i, is) among = held f r (i, is) among
 
 module _ {c : Change} {w w' : Core} (goes : CoreGoes c w w') (l : LoadNumber) where
   got-on : (r : ArcRef) → GotStands w l r → GotStands w' l r
@@ -35,17 +29,7 @@ module _ {c : Change} {w w' : Core} (goes : CoreGoes c w w') (l : LoadNumber) wh
   got-new kind n row g = grind (arith, nat_tests)
 
   with-held : (frames : List Frame) (kind : Kind) (n : ℕ) (row : HandleRow) → FramesHeld w l frames → GetsRow w w' kind n row → FramesHeld w' l (with_got kind row frames)
-  with-held [] kind n row held g frame r (i, is) got = absurd (cc)
-  with-held (top ∷ below) kind n row held g frame r (zero, is) (place, there) =
-      let got_is : frame.got ≡ top.got ++ record { kind = kind; node = row.node; handle = row.number } ∷ [] = cc in
-      elim (pushed top.got _ place r (subst (λ (rs : List ArcRef). slice_get rs place ≡ Some r) got_is there)) [
-        | inl old ↦ got-on r (held top r (zero, refl) (place, old))
-        | inr new ↦ subst (λ (z : ArcRef). GotStands w' l z) new.1 (got-new kind n row g)
-      ]
-  with-held (top ∷ below) kind n row held g frame r (suc i, is) got = got-on r (held frame r (suc i, is) got)
-
-  under : (frames : List Frame) (top : Frame) (below : List Frame) → frames ≡ top ∷ below → FramesHeld w l frames → FramesHeld w l below
-  under frames top below is held = let h = subst (λ fs. FramesHeld w l fs) is held in λ frame r among got. h frame r (suc among.0, among.1) got
+  with-held frames kind n row held g = all-got (GotStands w' l) frames kind row (frames-on frames held) (got-new kind n row g)
 
 no-end : {X : Type 0} {answer : Option X} {x : X} → answer ≡ None → answer ≡ Some x → ⊥
 no-end none is = let e = sym none ∙ is in cc
@@ -53,24 +37,25 @@ no-end none is = let e = sym none ∙ is in cc
 -- what a load's step leaves
 pub held-after : {N : Type 0} {v : Values N} {w w' : Core} (reading : Reading) (answer : Option (LoadAnswer N)) (frames : List Frame) {c : Change} → CoreGoes c w w' → answer ≡ None
     → FramesHeld w reading.load reading.frames → ReadingFeels v w reading answer frames w' c → FramesHeld w' reading.load frames
-held-after {w' = w'} reading answer frames goes none held (reads-root load blob none_read at stored a is) = grind (arith, nat_tests, new-held, none-held)
+held-after {w' = w'} reading answer frames goes none held (reads-root load blob none_read at stored a is) =
+    subst (λ fs. FramesHeld w' reading.load fs) (sym is) (all-new (GotStands w' reading.load) _ [] refl (all-none (GotStands w' reading.load) [] refl))
 held-after {w' = w'} reading answer frames goes none held (reads-blob kind key blob needs stored a is) =
-    subst (λ fs. FramesHeld w' reading.load fs) (sym is) (new-held (nested_frame kind key blob) reading.frames refl (frames-on goes reading.load reading.frames held))
+    subst (λ fs. FramesHeld w' reading.load fs) (sym is) (all-new (GotStands w' reading.load) (nested_frame kind key blob) reading.frames refl (frames-on goes reading.load reading.frames held))
 held-after {w' = w'} reading answer frames goes none held (gets-known kind key n row needs known got a is) =
     subst (λ fs. FramesHeld w' reading.load fs) (sym is) (with-held goes reading.load reading.frames kind n row held got)
 held-after {w' = w'} reading answer frames goes none held (gets-lazy kind key row needs got a is) =
     subst (λ fs. FramesHeld w' reading.load fs) (sym is) (with-held goes reading.load reading.frames kind _ row held got)
-held-after {w' = w'} reading answer frames goes none held (makes-known x r n row known got a is) =
-    subst (λ fs. FramesHeld w' reading.load fs) (sym is) (with-held goes reading.load r.below r.top.kind n row (under goes reading.load reading.frames r.top r.below r.frames held) got)
-held-after {w' = w'} reading answer frames goes none held (makes-node x r row got a is) =
-    subst (λ fs. FramesHeld w' reading.load fs) (sym is) (with-held goes reading.load r.below r.top.kind _ row (under goes reading.load reading.frames r.top r.below r.frames held) got)
+held-after {w = w} {w'} reading answer frames goes none held (makes-known x r n row known got a is) =
+    subst (λ fs. FramesHeld w' reading.load fs) (sym is) (with-held goes reading.load r.below r.top.kind n row (all-below (GotStands w reading.load) reading.frames r.top r.below r.frames held) got)
+held-after {w = w} {w'} reading answer frames goes none held (makes-node x r row got a is) =
+    subst (λ fs. FramesHeld w' reading.load fs) (sym is) (with-held goes reading.load r.below r.top.kind _ row (all-below (GotStands w reading.load) reading.frames r.top r.below r.frames held) got)
 held-after reading answer frames goes none held (reading-ends end a is) = absurd (no-end none a)
 
 module _ {u u' : World} (held : ReadingsHeld u) where
   kept : {c : Change} → CoreGoes c u.core u'.core → KeepsReadings u u' → ReadingsHeld u'
   kept goes keeps reading is = elim (keeps reading is) [
     | inl old ↦ frames-on goes reading.load reading.frames (held reading old)
-    | inr new ↦ none-held u'.core reading.load reading.frames new.0
+    | inr new ↦ all-none (GotStands u'.core reading.load) reading.frames new.0
   ]
 
 module _ {N B W : Type 0} (v : Values N) {u u' : World} (held : ReadingsHeld u) where
@@ -82,7 +67,7 @@ module _ {N B W : Type 0} (v : Values N) {u u' : World} (held : ReadingsHeld u) 
     | inl old ↦ frames-on goes after.load after.frames (held after old)
     | inr (none, same) ↦
         let before : FramesHeld u.core reading.load reading.frames = elim
-        (is-reading-of u event reading stepped) [ inl there ↦ held reading there | inr begun ↦ none-held u.core reading.load reading.frames begun.0 ] in
+        (is-reading-of u event reading stepped) [ inl there ↦ held reading there | inr begun ↦ all-none (GotStands u.core reading.load) reading.frames begun.0 ] in
         subst (λ (r : Reading). FramesHeld u'.core r.load r.frames) (sym same) (held-after reading answer frames goes none before feels)
   ]
 
@@ -485,7 +470,8 @@ module _ {N E B W : Type 0} (m : Seen N B W) (s s' : MachineState N E) (whole : 
     now-bounded : reply.ended ≡ None → Bounded m.values.types u.core.stored load.key (gone_on x.reading x.frames)
     now-bounded none =
         let f = reading-feels m u.core Owner.Caller caller-free u'.core x.reading reply.ended x.frames x.does in
-        bounded-step x.reading load x.frames (ap u.core.loads number-is ∙ open_load) was-bounded (subst (λ a. ReadingFeels m.values u.core x.reading a x.frames u'.core f.change) none (f.feels whole.pager.whole.handles))
+        bounded-step x.reading load x.frames (ap u.core.loads number-is ∙ open_load) was-bounded
+        (subst (λ a. ReadingFeels m.values u.core x.reading a x.frames u'.core f.change) none (f.feels whole.pager.whole.handles))
 
   event-on : (event : Event N B W) (reply : EventReply N B W) → Happens m u event reply u' → LoadsStand m.values.types u → LoadsStand m.values.types u'
   event-on event reply h (waits, stands) = (

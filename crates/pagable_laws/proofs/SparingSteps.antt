@@ -1,8 +1,10 @@
 -- An event leaves each handle of a worker as it is that doesn't make it, and what the cache gives for a kind and a key, where the node is held before and after. What a worker's step
 -- does leaves the handles of the list too, so that this gets no shorter.
 pub use Rattle.pagable_laws.proofs.Effects.{named-among, IsEntered, entered-of, Spares, spares-then}
-use Rattle.pagable_laws.proofs.Words.{◌≡◌, ℕ, ◌<◌, ◌≤◌, ◌==◌, ◌&&◌, Bool, true, false, List, [], ◌∷◌, Option, Some, None, refl, ap, sym, ◌∙◌, arith, Result, length, sum_by-cons, times, and_parts, nat_tests}
-use Rattle.pagable_laws.proofs.Words.{Error, Among, one, zero, suc, ◌+◌, Owner, HandleNumber, HandleRow, Core, find_row, is_handle, is_owned_by, owner_worker, OwnersAreThere, Event, EventReply, Happens}
+use Rattle.pagable_laws.proofs.Words.{◌≡◌, ℕ, ◌<◌, ◌≤◌, ◌==◌, ◌&&◌, Bool, true, false, List, [], ◌∷◌, Option, Some, None, refl, ap, sym, ◌∙◌, arith, Result, length, sum_by-cons, times, and_parts}
+use Rattle.pagable_laws.proofs.Words.{nat_tests}
+use Rattle.pagable_laws.proofs.Words.{Error, Among, one, zero, suc, ◌+◌, Owner, HandleNumber, HandleRow, Core, find_row, is_handle, is_owned_by, owner_worker, OwnersAreThere, Event, EventReply}
+use Rattle.pagable_laws.proofs.Words.{Happens}
 use Rattle.pagable_laws.proofs.Words.{KeepsOpen, LeavesCache, nothing_felt, ReleaseCall, Seen, Site, Took, WorkerAnswer, World, step_of, HandlesAreWhole, IsWhole, Ends}
 use Rattle.pagable_laws.proofs.{Effects.{Effect, IsOther, list-apart, Lasts}, ReadingSteps.{event-goes, walk-goes, ends-spare}, Called.releases, GoodReferences.same-owner, Goes.found-number}
 use Rattle.pagable_laws.proofs.{Outlasting.{stands-whole, among-found, none-found, once}, Following.handles-once, Sums.{same-number, self-number, at-most-sum, counted, one-true, sum-le}}

@@ -4,7 +4,7 @@ use Rattle.pagable_laws.proofs.Words.{Owner, OptionalDataKey, ArcRef, Kind, Hand
 use Rattle.pagable_laws.proofs.Words.{Frame, Reading, row_at, Values, IsLawful, IsReference, Next, need_at, to_adopt, ReadsRoot, ReadsNode, root_frame, nested_frame, with_got, PagerState}
 use Rattle.pagable_laws.proofs.Words.{HandlesAreWhole, IsWhole, WellFormed, NodeStands, ValueStands, ReadsNodeTree, FramesFit, SameTrees, Represents, ReadsItsTypes, GivesTree, ReadIsRight, Change}
 use Rattle.pagable_laws.proofs.Words.{bears_known, CoreGoes, ReadingFeels, reads-root, reads-blob, gets-known, gets-lazy, makes-known, makes-node, reading-ends, Decoded, FramesGiven}
-use Rattle.pagable_laws.proofs.{Fitting.{node-stays, first-fits, first-typed, frames-stay, got-given, made-fits, needed-fits, nested-fits, root-fits}, Decoding.{decodes, read_stands}}
+use Rattle.pagable_laws.proofs.{Fitting.{node-stays, first-fits, first-typed, frames-stay, all-got, all-new, made-fits, needed-fits, nested-fits, root-fits}, Decoding.{decodes, read_stands}}
 use Rattle.pagable_laws.proofs.{Following.{cell-of, given-of}, Outlasting.among-found, Sums.{at-most-sum, self-number}, Trees.same_some}
 
 -- ---- a live handle's node
@@ -61,15 +61,11 @@ pub record FitAfter {N : Type 0} (v : Values N) (w : Core) (trees : ℕ → Tree
   pub fit : FramesFit v.types w.stored trees root_key root_type frames
   pub given : FramesGiven w.last.node frames
 
-new-given : (last : ℕ) (frame : Frame) (frames : List Frame) → frame.got ≡ [] → FramesGiven last frames → FramesGiven last (frame ∷ frames)
-new-given last frame frames none_got given f r (zero, is) (place, there) = grind (arith, nat_tests)
-new-given last frame frames none_got given f r (suc i, is) among = given f r (i, is) among
-
 module _ {N : Type 0} {v : Values N} {w' : Core} {trees' : ℕ → Tree} (k t : ℕ) where
   fit-got : (frames : List Frame) (kind : Kind) (row : HandleRow) → HandlesAreWhole w' → row_at w' row.number ≡ Some row → FramesGiven w'.last.node frames
       → FramesFit v.types w'.stored trees' k t (with_got kind row frames)
       → FitAfter v w' trees' k t (with_got kind row frames)
-  fit-got frames kind row whole live given fit = record { fit = fit; given = got-given w'.last.node w'.last.node frames kind row given (omega arith) (row-given whole row.number row live) }
+  fit-got frames kind row whole live given fit = record { fit = fit; given = all-got (λ r. r.node.0 ≤ w'.last.node) frames kind row given (row-given whole row.number row live) }
 
 module _ {N : Type 0} {v : Values N} {w w' : Core} {trees trees' : ℕ → Tree} where
   known-reads : {c : Change} → AtStep v c w w' trees trees' → (kind : Kind) (key n : ℕ) (row : HandleRow) → w.cache kind.0 key ≡ Some n → row.node.0 ≡ n
@@ -109,11 +105,12 @@ module _ {N : Type 0} {v : Values N} {w w' : Core} {trees trees' : ℕ → Tree}
       let is2 : frames ≡ frame ∷ [] = is ∙ ap (λ (z : OpenLoad). root_frame z.key reading.node_type blob ∷ []) same_load in
       let fit = root-fits v.types load.key reading.node_type w'.stored trees' blob there in
       subst (λ fs. FitAfter v w' trees' load.key reading.node_type fs) (sym is2)
-      (record { fit = fit; given = new-given w'.last.node frame [] refl (λ fr r among got. absurd (let a = among.1 in cc)) })
+      (record { fit = fit; given = all-new (λ r. r.node.0 ≤ w'.last.node) frame [] refl (λ fr r among got. absurd (let a = among.1 in cc)) })
   fit-after reading load frames h open_load f (reads-blob kind key blob needs stored answer is) =
       let g = fit-still h f in
       let fit = nested-fits v.types load.key reading.node_type w'.stored trees' reading.frames kind key blob g.fit needs (h.goes.stored key blob stored) in
-      subst (λ fs. FitAfter v w' trees' load.key reading.node_type fs) (sym is) (record { fit = fit; given = new-given w'.last.node (nested_frame kind key blob) reading.frames refl g.given })
+      subst (λ fs. FitAfter v w' trees' load.key reading.node_type fs) (sym is)
+      (record { fit = fit; given = all-new (λ r. r.node.0 ≤ w'.last.node) (nested_frame kind key blob) reading.frames refl g.given })
   fit-after reading load frames h open_load f (gets-known kind key n row needs known got answer is) =
       let g = fit-still h f in
       let fit = needed-fits v.types load.key reading.node_type w'.stored trees' reading.frames kind key row g.fit needs (known-reads h kind key n row known got.at) in
